@@ -1,0 +1,85 @@
+// The fields of a head (RFC 2616, section 4.2), each a name and a value of one text.
+ghost use Rattle.std.specs.Prelude.{◌≡◌, ◌<◌, ◌↔◌, IsTrue, [], length, map, All};
+ghost use Rattle.pp_text.specs.Fields.{field_at, field_in, IsFieldWithin};
+
+use std::marker::Model;
+
+/// Where a field's name and value stand in a text: half-open spans of byte offsets.
+#[derive(Clone, Copy, Debug, PartialEq, Eq)]
+pub struct FieldSpan {
+    pub name_from: u32,
+    pub name_to: u32,
+    pub value_from: u32,
+    /// The value has no spaces and tabs at its ends where a reader of heads made the span.
+    pub value_to: u32,
+}
+
+impl FieldSpan {
+    /// A span of nothing, to fill an array with.
+    pub const EMPTY: FieldSpan = FieldSpan {
+        name_from: 0,
+        name_to: 0,
+        value_from: 0,
+        value_to: 0,
+    };
+}
+
+/// The fields of a head, in their order. Contracts see the list of their names and values.
+#[derive(Drop)]
+pub struct Fields<'a, 's> {
+    text: &'a [u8],
+    spans: &'s [FieldSpan],
+}
+
+impl<'a, 's> Model for Fields<'a, 's> {
+    ghost use Rattle.std.specs.Prelude.{ℕ, List, map, length, All};
+    ghost use Rattle.pp_text.specs.Fields.{field_in, IsFieldWithin};
+
+    ghost Value = { List (List ℕ × List ℕ) };
+
+    ghost view = { λ f. map (field_in f.text.now) f.spans.now };
+
+    ghost invariant = { λ f. All (IsFieldWithin (length f.text.now)) f.spans.now };
+}
+
+impl<'a, 's> Fields<'a, 's> {
+    /// The fields that stand at these spans of the text.
+    pub fn new(text: &'a [u8], spans: &'s [FieldSpan]) -> Fields<'a, 's>
+        requires { All (IsFieldWithin (length text.now)) spans.now }
+        ensures { result ≡ map (field_in text.now) spans.now }
+    {
+        Fields { text, spans }
+    }
+
+    pub fn len(&self) -> usize
+        ensures { result ≡ length self.now }
+    {
+        self.spans.len()
+    }
+
+    pub fn is_empty(&self) -> bool
+        ensures { IsTrue result ↔ (self.now ≡ []) }
+    {
+        self.spans.is_empty()
+    }
+
+    /// The name of the field at this place.
+    pub fn name(&self, index: usize) -> &'a [u8]
+        requires { index < length self.now }
+        ensures { result.now ≡ (field_at self.now index).0 }
+    {
+        let spans = self.spans;
+        let span = spans[index];
+        &self.text[span.name_from as usize..span.name_to as usize]
+    }
+
+    /// The value of the field at this place.
+    pub fn value(&self, index: usize) -> &'a [u8]
+        requires { index < length self.now }
+        ensures { result.now ≡ (field_at self.now index).1 }
+    {
+        let spans = self.spans;
+        let span = spans[index];
+        &self.text[span.value_from as usize..span.value_to as usize]
+    }
+}
