@@ -1,5 +1,5 @@
 -- Octets, and their comparison but for ASCII case (RFC 2616, sections 2.1 and 2.2).
-use Rattle.std.specs.Prelude.{ℕ, Bool, true, false, cond, ◌==◌, ◌||◌, List, [], ◌∷◌, map, reverse, bytes_eq}
+use Rattle.std.specs.Prelude.{ℕ, Bool, true, false, ◌==◌, ◌||◌, List, [], ◌∷◌, map, reverse, bytes_eq}
 use Rattle.std.specs.Char.{to_ascii_lowercase}
 
 -- SP and HT, the blanks of LWS

@@ -1,5 +1,5 @@
 -- The fields of a head, and what they say together (RFC 2616, section 4.2).
-use Rattle.std.specs.Prelude.{ℕ, ◌≤◌, Bool, List, map, filter, flat_map, slice_range, get_or, []}
+use Rattle.std.specs.Prelude.{ℕ, ◌≤◌, Bool, List, map, filter, flat_map, slice_get, slice_range, get_or, [], Option}
 use Rattle.std.specs.List.{list_any}
 use Rattle.pp_text.specs.Bytes.{is_same}
 use Rattle.pp_text.specs.Lists.{items_of}
@@ -30,6 +30,10 @@ is_named name field = is_same name field.0
 -- the values of the fields of this name, in their order
 abbrev pub values_of : List ℕ → List Field → List (List ℕ)
 values_of name fields = map (λ f. f.1) (filter (is_named name) fields)
+
+-- the first of them
+abbrev pub first_value : List ℕ → List Field → Option (List ℕ)
+first_value name fields = slice_get (values_of name fields) 0
 
 abbrev pub has_field : List ℕ → List Field → Bool
 has_field name fields = list_any (is_named name) fields

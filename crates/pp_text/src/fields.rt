@@ -1,7 +1,8 @@
 // The fields of a head (RFC 2616, section 4.2), each a name and a value of one text.
-ghost use Rattle.std.specs.Prelude.{◌≡◌, ◌<◌, ◌↔◌, IsTrue, [], length, map, All};
-ghost use Rattle.pp_text.specs.Fields.{field_at, field_in, IsFieldWithin};
+ghost use Rattle.std.specs.Prelude.{◌≡◌, ◌<◌, ◌↔◌, IsTrue, [], length, map, All, option_copied};
+ghost use Rattle.pp_text.specs.Fields.{field_at, field_in, first_value, has_field, values_of, IsFieldWithin};
 
+use crate::ascii::same;
 use std::marker::Model;
 
 /// Where a field's name and value stand in a text: half-open spans of byte offsets.
@@ -81,5 +82,42 @@ impl<'a, 's> Fields<'a, 's> {
         let spans = self.spans;
         let span = spans[index];
         &self.text[span.value_from as usize..span.value_to as usize]
+    }
+
+    /// The value of the first field of this name, which is compared but for ASCII case.
+    pub fn first(&self, name: &[u8]) -> Option<&'a [u8]>
+        ensures { option_copied result ≡ first_value name.now self.now }
+    {
+        for index in 0..self.len() {
+            if same(name, self.name(index)) {
+                return Some(self.value(index));
+            }
+        }
+        None
+    }
+
+    /// How many fields have this name.
+    pub fn count(&self, name: &[u8]) -> usize
+        ensures { result ≡ length (values_of name.now self.now) }
+    {
+        let mut count = 0;
+        for index in 0..self.len() {
+            if same(name, self.name(index)) {
+                count += 1;
+            }
+        }
+        count
+    }
+
+    /// Whether a field has this name.
+    pub fn has(&self, name: &[u8]) -> bool
+        ensures { result ≡ has_field name.now self.now }
+    {
+        for index in 0..self.len() {
+            if same(name, self.name(index)) {
+                return true;
+            }
+        }
+        false
     }
 }

@@ -9,8 +9,12 @@
 //! Only an `Octets` takes memory. Which fields there are, and what they mean, is for others.
 #![tactic(auto)]
 
+mod ascii; // texts but for ASCII case
 mod fields; // the fields of a head, over its text
+mod numbers; // numbers as text
 mod octets; // owned bytes
 
+pub use ascii::same;
 pub use fields::{FieldSpan, Fields};
+pub use numbers::{read_hex, read_u64};
 pub use octets::{Octets, OutOfMemory};
