@@ -1,0 +1,5 @@
+pub mod Connections
+pub mod Life
+pub mod Log
+pub mod Streams
+pub mod Wire
