@@ -3,9 +3,9 @@ use Rattle.std.specs.Prelude.{ℕ, List, ◌++◌, []}
 
 -- where a text that begins a body stands
 pub data Outcome : Type 0 where
-  Done : List ℕ → Outcome    -- the body ends within the text, and this follows it
-  Going : Outcome            -- more has to come
-  Bad : Outcome              -- no continuation of the text begins with a body
+  Done : List ℕ → Outcome  -- the body ends within the text, and this follows it
+  Going : Outcome  -- more has to come
+  Bad : Outcome  -- no continuation of the text begins with a body
 
 pub record Body : Type 0 where
   pub payload : List ℕ

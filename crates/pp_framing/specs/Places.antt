@@ -1,8 +1,7 @@
 -- Where in a body a reader is, and how each byte moves it: the same bodies as those of Body, read byte by byte.
 use Rattle.std.specs.Prelude.{ℕ, zero, ◌+◌, ◌-◌, ◌*◌, ◌≤◌, Bool, true, false, cond, ◌==◌, nat_lt, nat_le, List, [], ◌∷◌, Option, Some, None}
-use Rattle.std.specs.Char.{is_ascii_hexdigit}
+use Rattle.std.specs.Char.{digit_value, is_digit}
 use Rattle.pp_text.specs.Bytes.{is_blank}
-use Rattle.pp_text.specs.Numbers.{hex_digit_value}
 use Rattle.pp_framing.specs.Body.{Body, Done as DoneWith, Going as GoingOn, Bad as NoBody, no_data, behind}
 use Rattle.pp_framing.specs.declared.body.BodyRule.{BodyRule}
 use Rattle.pp_framing.specs.declared.body.BodyRule.TheVariants.{Empty, Length, Chunked, ToEnd}
@@ -20,7 +19,7 @@ first_place Chunked = ChunkStart
 first_place ToEnd = Unbounded
 
 abbrev pub hex_digit : ℕ → Option ℕ
-hex_digit b = elim (is_ascii_hexdigit b) [ true ↦ Some (hex_digit_value b) | false ↦ None ]
+hex_digit b = elim (is_digit b 16) [ true ↦ Some (digit_value b) | false ↦ None ]
 
 -- behind a chunk's line: its data, or behind the last one the trailer
 abbrev pub data_of : ℕ → Place
@@ -80,7 +79,7 @@ step (Blanks size) b = chunk_line size b
 step (Extension len size) b = extension len size b
 step (SizeReturn size) b = feed_of b (data_of size)
 step (Chunk left) b = one_less left Chunk ChunkEnd
-step ChunkEnd b = elim (b == 13) [ true ↦ ChunkReturn | false ↦ feed_of b ChunkStart ]
+step ChunkEnd b = elim (b == 10) [ true ↦ ChunkStart | false ↦ elim (b == 13) [ true ↦ ChunkReturn | false ↦ Wrong ] ]
 step ChunkReturn b = feed_of b ChunkStart
 step (TrailerStart len) b = elim (b == 10) [
   | true ↦ Over

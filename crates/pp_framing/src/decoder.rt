@@ -5,10 +5,9 @@ ghost use Rattle.pp_framing.specs.Places.{first_place, state_of, ending_of, is_f
 ghost use Rattle.pp_framing.specs.Sound.{IsSound};
 ghost use Rattle.pp_framing.specs.declared.body.BodyState.TheVariants.{Going};
 
-use std::marker::Model;
-
 use crate::body::{BodyRule, BodyState, Ending, Fed};
 use crate::place::Place;
+use std::marker::Model;
 
 /// A reader of one body. Contracts see where in the body it is.
 #[derive(Drop)]
@@ -154,5 +153,9 @@ fn data_run(start: Place, there: usize) -> Stretch
 fn least(left: u64, there: usize) -> usize
     ensures { result ≡ min left there }
 {
-    if left < there as u64 { left as usize } else { there }
+    if left < there as u64 {
+        left as usize
+    } else {
+        there
+    }
 }

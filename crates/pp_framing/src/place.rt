@@ -227,7 +227,11 @@ fn trailer_byte(len: u16, next: Place) -> Place
     ensures place { result ≡ place_of_trailer_byte len next }
     ensures sound { IsSound result }
 {
-    if len + 2 <= TRAILER_LEN { next } else { Place::Wrong }
+    if len + 2 <= TRAILER_LEN {
+        next
+    } else {
+        Place::Wrong
+    }
 }
 
 fn trailer(len: u16, byte: u8) -> Place

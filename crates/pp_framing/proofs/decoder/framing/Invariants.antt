@@ -8,5 +8,5 @@ invariant-loop-used l = record {
   sound : IsSound l.place;
   reads : (more : List ℕ) → read_from l.fn.start (l.bytes ++ more) ≡ read_from l.place (drop l.used l.bytes ++ more);
   same : is_framing l.fn.start ≡ false → l.place ≡ l.fn.start;
-  front : l.used ≡ 0 → l.place ≡ l.fn.start
+  front : l.used ≡ 0 → l.place ≡ l.fn.start;
 }
