@@ -1,0 +1,5 @@
+pub mod Numbers
+pub mod Order
+pub mod Views
+pub mod Sound
+pub mod Oldest
