@@ -1,0 +1,10 @@
+pub mod Agreement
+pub mod Limits
+pub mod Lines
+pub mod Part
+pub mod Read
+pub mod Request
+pub mod Response
+pub mod Section
+pub mod Shown
+pub mod Step
