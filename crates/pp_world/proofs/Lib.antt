@@ -1,2 +1,4 @@
 pub mod CallLemmas
+mod Examples
+pub mod FileLemmas
 pub mod LogLemmas

@@ -1,12 +1,10 @@
 -- Whose the connections of a log are. A connection belongs to the life in which it was accepted or dialled.
 use Rattle.std.specs.Prelude.{ℕ, Bool, true, false, IsTrue, ◌==◌, if◌then◌else◌, max, fold, Option, Some, None, is_some}
+use Rattle.pp_world.specs.declared.event.Side.{Side}
+use Rattle.pp_world.specs.declared.event.Side.TheVariants.{Client, Origin}
 use Rattle.pp_world.specs.declared.happening.Happening.{Happening}
 use Rattle.pp_world.specs.declared.happening.Happening.TheVariants.{Woke, Opened, Dialled, Shut, Dropped}
 use Rattle.pp_world.specs.Log.{Log}
-
--- a client was accepted, an origin was dialled
-pub data Side : Type 0 where
-  Client Origin : Side
 
 -- what a happening changes for the connection of this number
 abbrev pub side_after : ℕ → Option Side → Happening → Option Side

@@ -1,4 +1,5 @@
 pub mod Connections
+pub mod Files
 pub mod Life
 pub mod Log
 pub mod Streams

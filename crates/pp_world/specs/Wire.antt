@@ -5,6 +5,8 @@ use Rattle.pp_world.specs.declared.event.Event.{Event}
 use Rattle.pp_world.specs.declared.event.Event.TheVariants.{Stop, Tick, Accepted, Readable, Writable, Reached as NowReached, Broken}
 use Rattle.pp_world.specs.declared.event.Got.{Got as Found}
 use Rattle.pp_world.specs.declared.event.Got.TheVariants.{Bytes, End, NotYet}
+use Rattle.pp_world.specs.declared.event.Side.{Side}
+use Rattle.pp_world.specs.declared.event.Side.TheVariants.{Client, Origin}
 use Rattle.pp_world.specs.declared.event.Wants.{Wants}
 use Rattle.pp_world.specs.declared.happening.Happening.{Happening}
 use Rattle.pp_world.specs.declared.happening.Happening.TheVariants.{Waits, Clock, Opened, CanRead, CanWrite, Heard, HungUp, Said, Shut, Dialled, Undialled, Reached, Ended, Broke, Asked, Got, Dropped, NoneYet, Noted, Listens, Configured, Printed, Stopped}
@@ -15,7 +17,7 @@ use Rattle.pp_world.specs.declared.note.Remark.TheVariants.{Taken as WasTaken, C
 use Rattle.pp_world.specs.declared.wire.ConfigFault.{ConfigFault}
 use Rattle.pp_world.specs.declared.wire.ConfigFault.TheVariants.{Unreadable, OutOfMemory}
 use Rattle.pp_world.specs.declared.wire.WireFault.{WireFault}
-use Rattle.pp_world.specs.Connections.{Side, Client, Origin, side_of, is_dialled}
+use Rattle.pp_world.specs.Connections.{side_of, is_dialled}
 use Rattle.pp_world.specs.Log.{Log, Rises}
 
 -- by whose connection it is; a call is made on open ones alone

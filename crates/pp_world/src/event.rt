@@ -22,6 +22,15 @@ pub enum Event {
     Broken(u64),
 }
 
+/// Who is at the other end of a connection.
+#[derive(Clone, Copy, Debug, PartialEq, Eq)]
+pub enum Side {
+    /// A client, which was accepted.
+    Client,
+    /// An origin, which was dialled.
+    Origin,
+}
+
 /// The interest set of one wait.
 #[derive(Drop)]
 pub struct Wants {

@@ -17,9 +17,11 @@ mod event; // what the poller reports, and what it is asked for
 mod happening; // an entry of the log
 mod image; // the files of a folder, by name
 mod note; // what the proxy itself puts on record
+#[cfg(test)]
+mod tests;
 mod wire; // connections, the clock and the console
 
-pub use event::{Event, Got, Wants};
+pub use event::{Event, Got, Side, Wants};
 pub use happening::Happening;
 pub use image::{Image, Name};
 pub use note::{Cause, Decision, Note, Remark};

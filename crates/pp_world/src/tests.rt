@@ -1,0 +1,179 @@
+// A wire that tells nothing, what a caller knows of any wire, and the files of a folder.
+ghost use Rattle.std.specs.Prelude.{◌≡◌, ◌<◌, ◌≤◌, ℕ, None, length, IfOk};
+ghost use Rattle.pp_world.specs.Connections.{IsOpen};
+ghost use Rattle.pp_world.specs.Log.{Told};
+
+use crate::{
+    Cause, ConfigFault, Event, Got, Image, Logged, Name, Note, Wants, Wire, WireFault, World,
+};
+use arrayvec::ArrayVec;
+use pp_text::Octets;
+use std::alloc::Global;
+use std::test::Fail;
+
+/// Nobody connects, every dial is refused, and nothing is told.
+#[derive(Drop)]
+struct Silent {
+    faults: u64,
+    ticks: u64,
+}
+
+impl Logged for Silent {
+    ghost log = { λ w. None };
+
+    ghost faults = { λ w. w.faults };
+
+    ghost top = { λ w. 0 };
+}
+
+impl Wire for Silent {
+    fn next(&mut self, _wants: &Wants) -> Event {
+        if self.ticks == 0 {
+            return Event::Stop;
+        }
+        self.ticks -= 1;
+        Event::Tick(784_111_777)
+    }
+
+    fn read(&mut self, _id: u64, _buf: &mut [u8]) -> Result<Got, WireFault> {
+        Ok(Got::NotYet)
+    }
+
+    fn write(&mut self, _id: u64, _bytes: &[u8]) -> Result<usize, WireFault> {
+        Ok(0)
+    }
+
+    fn listen(&mut self, _port: u16) -> Result<(), WireFault> {
+        Ok(())
+    }
+
+    fn dial(&mut self, _host: &[u8], _port: u16) -> Result<u64, WireFault> {
+        self.faults = self.faults.saturating_add(1);
+        Err(WireFault)
+    }
+
+    fn close(&mut self, _id: u64) {}
+
+    fn note(&mut self, _note: &Note<'_>) {}
+
+    fn print(&mut self, _bytes: &[u8]) {}
+
+    fn config(&mut self, alloc: Global, _name: &str) -> Result<Octets, ConfigFault> {
+        Octets::copy(alloc, b"proxyPort = 8123\n").map_err(|_| ConfigFault::OutOfMemory)
+    }
+}
+
+/// How many bytes came, over any wire.
+fn count_read<W: World>(world: &mut W, id: u64, buf: &mut [u8]) -> Result<usize, WireFault>
+    requires room { 0 < length buf.old }
+    requires is_there { Told (W.log world.old) (IsOpen id) }
+    ensures within { IfOk result (λ n. n ≤ length buf.new) }
+    ensures top { W.top world.new ≡ W.top world.old }
+{
+    match world.read(id, buf)? {
+        Got::Bytes(n) => {
+            prove!(n <= buf.len());
+            Ok(n)
+        }
+        Got::End | Got::NotYet => Ok(0),
+    }
+}
+
+/// How many ticks came before the end, or before 1,000 of them.
+fn count_ticks<W: World>(world: &mut W, wants: &Wants) -> u64 {
+    let mut ticks: u64 = 0;
+    for _ in 0..1_000 {
+        match world.next(wants) {
+            Event::Stop => return ticks,
+            Event::Tick(_) => ticks = ticks.saturating_add(1),
+            Event::Accepted(_)
+            | Event::Readable(_)
+            | Event::Writable(_)
+            | Event::Reached(_)
+            | Event::Broken(_) => {}
+        }
+    }
+    ticks
+}
+
+#[test]
+fn a_wire_that_tells_nothing_serves_any_caller(rt: HostRuntime) -> Result<(), Fail> {
+    let wants = Wants {
+        accept: true,
+        read: ArrayVec::new(),
+        write: ArrayVec::new(),
+    };
+    let mut silent = Silent {
+        faults: 0,
+        ticks: 3,
+    };
+    assert_eq!(rt; count_ticks(&mut silent, &wants.copy()), 3);
+    let mut buf = [0; 4];
+    assert_eq!(rt; count_read(&mut silent, 1, &mut buf), Ok(0));
+    assert_eq!(rt; silent.write(1, b"GET"), Ok(0));
+    assert_eq!(rt; silent.listen(8123), Ok(()));
+    assert_eq!(rt; silent.dial(b"h", 80), Err(WireFault));
+    silent.note(&Note::Cut(1, Cause::Stop));
+    silent.print(b"polipo: out of memory\n");
+    silent.close(1);
+    assert_eq!(rt; silent.faults, 1);
+    let text = silent
+        .config(rt.alloc(), "polipo.conf")
+        .ok()
+        .ok_or("configuration")?;
+    assert_eq!(rt; text.as_slice(), b"proxyPort = 8123\n".as_slice());
+    Ok(())
+}
+
+fn name_of(last: u8) -> Name {
+    let mut name = [b'0'; 32];
+    name[31] = last;
+    name
+}
+
+fn is_file(image: &Image, name: u8, wanted: Option<&[u8]>) -> bool {
+    match (image.get(&name_of(name)), wanted) {
+        (Some(file), Some(bytes)) => file.as_slice() == bytes,
+        (None, None) => true,
+        (Some(_), None) | (None, Some(_)) => false,
+    }
+}
+
+#[test]
+fn an_image_is_a_finite_map_in_the_order_of_names(rt: HostRuntime) -> Result<(), Fail> {
+    let alloc = rt.alloc();
+    let mut image = Image::new(alloc);
+    assert!(rt; image.next_name(None).is_none());
+    for (name, file) in [(b'c', b"3"), (b'a', b"1"), (b'b', b"2"), (b'a', b"4")] {
+        image
+            .put(
+                name_of(name),
+                Octets::copy(alloc, file).ok().ok_or("memory")?,
+            )
+            .ok()
+            .ok_or("memory")?;
+    }
+    let files: [(u8, Option<&[u8]>); 5] = [
+        (b'a', Some(b"4")),
+        (b'b', Some(b"2")),
+        (b'c', Some(b"3")),
+        (b'd', None),
+        (b'A', None),
+    ];
+    for (name, wanted) in files {
+        assert!(rt; is_file(&image, name, wanted));
+    }
+    let steps: [(u8, Option<u8>); 5] = [
+        (b'A', Some(b'a')),
+        (b'a', Some(b'b')),
+        (b'b', Some(b'c')),
+        (b'c', None),
+        (b'z', None),
+    ];
+    for (after, wanted) in steps {
+        let found = image.next_name(Some(&name_of(after))).map(|name| name[31]);
+        assert_eq!(rt; found, wanted);
+    }
+    assert_eq!(rt; image.next_name(None).map(|name| name[31]), Some(b'a'));
+    Ok(())
+}
