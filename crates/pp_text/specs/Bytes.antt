@@ -1,5 +1,5 @@
 -- Octets, and their comparison but for ASCII case (RFC 2616, sections 2.1 and 2.2).
-use Rattle.std.specs.Prelude.{ℕ, Bool, true, false, ◌==◌, ◌||◌, List, [], ◌∷◌, map, reverse, bytes_eq}
+use Rattle.std.specs.Prelude.{ℕ, Bool, true, false, cond, ◌==◌, ◌||◌, List, [], ◌∷◌, map, reverse, bytes_eq}
 use Rattle.std.specs.Char.{to_ascii_lowercase}
 
 -- SP and HT, the blanks of LWS
@@ -19,7 +19,7 @@ is_empty (x ∷ xs) = false
 
 abbrev pub skip_blanks : List ℕ → List ℕ
 skip_blanks [] = []
-skip_blanks (b ∷ text) = elim (is_blank b) [ true ↦ skip_blanks text | false ↦ b ∷ text ]
+skip_blanks (b ∷ text) = cond (is_blank b) (skip_blanks text) (b ∷ text)
 
 -- leading and trailing LWS "may be removed without changing the semantics" (section 4.2)
 abbrev pub trim : List ℕ → List ℕ

@@ -3,3 +3,4 @@ pub mod Fields
 pub mod Forwarding
 pub mod Lists
 pub mod Numbers
+pub mod Quoting

@@ -1,8 +1,10 @@
 // The fields of a head (RFC 2616, section 4.2), each a name and a value of one text.
 ghost use Rattle.std.specs.Prelude.{◌≡◌, ◌<◌, ◌↔◌, IsTrue, [], length, map, All, option_copied};
-ghost use Rattle.pp_text.specs.Fields.{field_at, field_in, first_value, has_field, values_of, IsFieldWithin};
+ghost use Rattle.pp_text.specs.Fields.{field_at, field_in, first_value, has_field, has_item, list_items, values_of, IsFieldWithin};
 
 use crate::ascii::same;
+use crate::field_items::FieldItems;
+use crate::field_values::FieldValues;
 use std::marker::Model;
 
 /// Where a field's name and value stand in a text: half-open spans of byte offsets.
@@ -23,6 +25,22 @@ impl FieldSpan {
         value_from: 0,
         value_to: 0,
     };
+
+    /// The name that stands here in this text.
+    pub(crate) fn name<'a>(&self, text: &'a [u8]) -> &'a [u8]
+        requires { IsFieldWithin (length text.now) self.now }
+        ensures { result.now ≡ (field_in text.now self.now).0 }
+    {
+        &text[self.name_from as usize..self.name_to as usize]
+    }
+
+    /// The value that stands here in this text.
+    pub(crate) fn value<'a>(&self, text: &'a [u8]) -> &'a [u8]
+        requires { IsFieldWithin (length text.now) self.now }
+        ensures { result.now ≡ (field_in text.now self.now).1 }
+    {
+        &text[self.value_from as usize..self.value_to as usize]
+    }
 }
 
 /// The fields of a head, in their order. Contracts see the list of their names and values.
@@ -70,8 +88,7 @@ impl<'a, 's> Fields<'a, 's> {
         ensures { result.now ≡ (field_at self.now index).0 }
     {
         let spans = self.spans;
-        let span = spans[index];
-        &self.text[span.name_from as usize..span.name_to as usize]
+        spans[index].name(self.text)
     }
 
     /// The value of the field at this place.
@@ -80,20 +97,27 @@ impl<'a, 's> Fields<'a, 's> {
         ensures { result.now ≡ (field_at self.now index).1 }
     {
         let spans = self.spans;
-        let span = spans[index];
-        &self.text[span.value_from as usize..span.value_to as usize]
+        spans[index].value(self.text)
     }
 
-    /// The value of the first field of this name, which is compared but for ASCII case.
+    /// The values of the fields of this name, in their order. Names are compared but for ASCII case.
+    pub fn values<'n>(&self, name: &'n [u8]) -> FieldValues<'a, 's, 'n>
+        ensures { result ≡ values_of name.now self.now }
+    {
+        FieldValues::new(
+            name,
+            Fields {
+                text: self.text,
+                spans: self.spans,
+            },
+        )
+    }
+
+    /// The value of the first field of this name.
     pub fn first(&self, name: &[u8]) -> Option<&'a [u8]>
         ensures { option_copied result ≡ first_value name.now self.now }
     {
-        for index in 0..self.len() {
-            if same(name, self.name(index)) {
-                return Some(self.value(index));
-            }
-        }
-        None
+        self.values(name).next()
     }
 
     /// How many fields have this name.
@@ -113,11 +137,21 @@ impl<'a, 's> Fields<'a, 's> {
     pub fn has(&self, name: &[u8]) -> bool
         ensures { result ≡ has_field name.now self.now }
     {
-        for index in 0..self.len() {
-            if same(name, self.name(index)) {
-                return true;
-            }
-        }
-        false
+        self.first(name).is_some()
+    }
+
+    /// The items of the comma lists of all fields of this name, in the order of the fields: one
+    /// list may be spread over several of them (section 4.2).
+    pub fn items<'n>(&self, name: &'n [u8]) -> FieldItems<'a, 's, 'n>
+        ensures { result ≡ list_items name.now self.now }
+    {
+        FieldItems::new(self.values(name))
+    }
+
+    /// Whether the comma list over all fields of this name has the item, but for ASCII case.
+    pub fn has_item(&self, name: &[u8], item: &[u8]) -> bool
+        ensures { result ≡ has_item name.now item.now self.now }
+    {
+        self.items(name).any(|other| same(item, other))
     }
 }

@@ -10,11 +10,22 @@
 #![tactic(auto)]
 
 mod ascii; // texts but for ASCII case
+mod blanks; // the blanks at the ends of a text
+mod decimal; // numbers written as text
+mod field_items; // the items of the comma lists of all fields of a name
+mod field_values; // the values of the fields of a name
 mod fields; // the fields of a head, over its text
-mod numbers; // numbers as text
+mod items; // the items of a comma list
+mod numbers; // numbers read from text
 mod octets; // owned bytes
+mod quoting; // where quoted strings open and close
 
 pub use ascii::same;
+pub use blanks::trim;
+pub use decimal::put_u64;
+pub use field_items::FieldItems;
+pub use field_values::FieldValues;
 pub use fields::{FieldSpan, Fields};
+pub use items::Items;
 pub use numbers::{read_hex, read_u64};
 pub use octets::{Octets, OutOfMemory};
