@@ -1,8 +1,8 @@
 -- What a run of data is from its place on.
-use Rattle.std.proofs.Common.{◌≡◌, ◌≢◌, ℕ, zero, suc, ◌+◌, ◌-◌, ◌<◌, ◌≤◌, ◌==◌, Bool, true, false, List, [], ◌∷◌, ◌++◌, length, arith, ap, sym, ◌∙◌, refl, take, drop, slice_range, append_assoc, length-take, length-drop, drop-drop, min}
+use Rattle.std.proofs.Common.{◌≡◌, ℕ, ◌+◌, ◌-◌, ◌<◌, ◌≤◌, ◌==◌, true, false, List, [], ◌∷◌, ◌++◌, length, arith, ap, sym, ◌∙◌, refl, take, drop, slice_range, append_assoc, length-take, length-drop, drop-drop}
 use Rattle.std.proofs.lemmas.Bool.{ne_eqb}
 use Rattle.std.proofs.lemmas.List.{take-append-drop}
-use Rattle.pp_framing.specs.Body.{Body, behind}
+use Rattle.pp_framing.specs.Body.{behind}
 use Rattle.pp_framing.specs.Places.{read_from}
 use Rattle.pp_framing.specs.declared.place.Place.{Place}
 use Rattle.pp_framing.specs.declared.place.Place.TheVariants.{Chunk, Counted, ChunkEnd, Unbounded, Over}

@@ -1,2 +1,5 @@
-pub mod SizeLemmas
+pub mod BodiesExact
+pub mod BodyLemmas
 pub mod DecoderLemmas
+pub mod SizeLemmas
+pub mod TrailerLemmas

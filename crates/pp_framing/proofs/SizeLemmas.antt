@@ -1,5 +1,5 @@
 -- Sixteen hexadecimal digits fit 64 bits.
-use Rattle.std.proofs.Common.{◌≡◌, ℕ, zero, suc, ◌+◌, ◌-◌, ◌*◌, ◌<◌, ◌≤◌, ◌^◌, arith, ap, sym, ◌∙◌, subst, refl}
+use Rattle.std.proofs.Common.{◌≡◌, ℕ, zero, suc, ◌+◌, ◌-◌, ◌*◌, ◌<◌, ◌≤◌, ◌^◌, arith, ap, ◌∙◌, refl}
 use Rattle.std.proofs.Math.Nat.{pow-suc}
 
 pow-grows : (more k j : ℕ) → j ≡ k + more → 16 ^ k ≤ 16 ^ j

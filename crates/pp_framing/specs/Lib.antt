@@ -1,3 +1,5 @@
 pub mod Body
+pub mod Chunked
 pub mod Places
+pub mod Rules
 pub mod Sound

@@ -1,5 +1,5 @@
 -- Where in a body a reader is, and how each byte moves it: the same bodies as those of Body, read byte by byte.
-use Rattle.std.specs.Prelude.{ℕ, zero, ◌+◌, ◌-◌, ◌*◌, ◌≤◌, Bool, true, false, cond, ◌==◌, nat_lt, nat_le, List, [], ◌∷◌, Option, Some, None}
+use Rattle.std.specs.Prelude.{ℕ, ◌+◌, ◌-◌, ◌*◌, Bool, true, false, ◌==◌, nat_lt, nat_le, List, [], ◌∷◌, Option, Some, None}
 use Rattle.std.specs.Char.{digit_value, is_digit}
 use Rattle.pp_text.specs.Bytes.{is_blank}
 use Rattle.pp_framing.specs.Body.{Body, Done as DoneWith, Going as GoingOn, Bad as NoBody, no_data, behind}

@@ -1,5 +1,5 @@
 -- The numbers of a place that a decoder can be at.
-use Rattle.std.specs.Prelude.{ℕ, ◌<◌, ◌≤◌, ◌^◌, ◌*◌}
+use Rattle.std.specs.Prelude.{◌<◌, ◌≤◌, ◌^◌}
 use Rattle.pp_framing.specs.declared.place.Place.{Place}
 use Rattle.pp_framing.specs.declared.place.Place.TheVariants.{ChunkStart, Size, Blanks, Extension, SizeReturn, Chunk, ChunkEnd, ChunkReturn, TrailerStart, Trailer, TrailerReturn, LastReturn, Counted, Unbounded, Over, Wrong}
 

@@ -2,6 +2,7 @@
 ghost use Rattle.std.specs.Prelude.{◌≡◌, ℕ, ◌+◌, ◌-◌, ◌<◌, ◌≤◌, true, false, List, ◌++◌, length, drop, slice_range, min, IsTrue};
 ghost use Rattle.pp_framing.specs.Body.{behind};
 ghost use Rattle.pp_framing.specs.Places.{first_place, state_of, ending_of, is_framing, is_pause, read_from};
+ghost use Rattle.pp_framing.specs.Rules.{body_of};
 ghost use Rattle.pp_framing.specs.Sound.{IsSound};
 ghost use Rattle.pp_framing.specs.declared.body.BodyState.TheVariants.{Going};
 
@@ -27,9 +28,11 @@ impl Model for Decoder {
 }
 
 impl Decoder {
-    /// A decoder at the front of a body that is delimited so.
+    /// A decoder at the front of a body that is delimited so: it reads the bodies of the grammar.
+    #[tactic(auto, using(crate::proofs::BodiesExact::bodies_exact))]
     pub fn new(rule: BodyRule) -> Decoder
-        ensures { result ≡ first_place rule }
+        ensures place { result ≡ first_place rule }
+        ensures exact { (text : List ℕ) → read_from result text ≡ body_of rule text }
     {
         Decoder {
             place: Place::first(rule),

@@ -1,8 +1,5 @@
 -- The run of data, whole or in part.
-use Rattle.std.proofs.Common.{◌≡◌, ◌-◌, ◌<◌, ◌++◌, length, arith, ap, ◌∙◌}
-use Rattle.pp_framing.specs.Body.{behind}
-use Rattle.pp_framing.specs.Places.{read_from}
-use Rattle.pp_framing.specs.declared.place.Place.TheVariants.{Chunk, Counted}
+use Rattle.std.proofs.Common.{arith}
 use Rattle.pp_framing.proofs.DecoderLemmas.{read_from-Chunk, read_from-Chunk-part, read_from-Counted, read_from-Counted-part, read_from-Unbounded}
 use Rattle.pp_framing.proofs.decoder.data_run.Goals as goal
 

@@ -1,4 +1,4 @@
-use Rattle.std.proofs.Common.{◌≡◌, ℕ, ◌<◌, List, ◌++◌, length, drop, true, false}
+use Rattle.std.proofs.Common.{◌≡◌, ℕ, List, ◌++◌, drop, false}
 use Rattle.pp_framing.specs.Places.{read_from, is_framing}
 use Rattle.pp_framing.specs.Sound.{IsSound}
 use Rattle.pp_framing.proofs.decoder.framing.Given as goal

@@ -1,5 +1,5 @@
 -- The size fits, since it has at most sixteen digits.
-use Rattle.std.proofs.Common.{◌+◌, ◌*◌, ◌^◌, ◌<◌, rules, arith}
+use Rattle.std.proofs.Common.{◌+◌, ◌*◌, ◌^◌, ◌<◌, arith}
 use Rattle.pp_framing.proofs.SizeLemmas.{size_fits}
 use Rattle.pp_framing.proofs.place.next_digit.Goals as goal
 

@@ -1,5 +1,4 @@
 -- Framing, and a run of data behind it.
-use Rattle.std.proofs.Common.{arith}
 use Rattle.pp_framing.proofs.DecoderLemmas.{reads_both}
 use Rattle.pp_framing.proofs.decoder.Decoder.feed.Goals as goal
 
