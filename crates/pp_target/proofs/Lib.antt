@@ -1,0 +1,2 @@
+pub mod UriGrammar
+pub mod KeyLemmas

@@ -1,0 +1,4 @@
+pub mod Absolute
+pub mod Key
+pub mod Name
+pub mod Parsed
