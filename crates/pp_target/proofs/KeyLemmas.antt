@@ -84,7 +84,7 @@ placed host path port some short nonzero fits =
       path_within = longer (text_of k) k.path (place_of k).path (path_in-text_of k) (has_byte k.path slash);
       slash_first = first_at (text_of k) k.path (place_of k).path (path_in-text_of k) ∙ slash;
       short = fits;
-      port_nonzero = nonzero
+      port_nonzero = nonzero;
     }
 
 nonempty : (text : List ℕ) → is_empty text ≡ false → 0 < length text
@@ -104,6 +104,7 @@ port_nonzero authority port is = by (split_once_back 58 authority) is
     in_range : (found : Option ℕ) → ◌≡◌ {A = Option ℕ} (elim found [ None ↦ None | Some n ↦ cond (nat_le 1 n && nat_le n 65535) (Some n) None ]) (Some port) → 0 < port
     in_range None is = absurd (cc)
     in_range (Some n) is = grind (arith, nat_tests)
+
     by : (text : Option (List ℕ)) → port_or_default text ≡ Some port → 0 < port
     by None is = grind arith
     by (Some text) is = either (is_empty text) is
@@ -134,7 +135,7 @@ due scheme authority path text port http host is (Ok place) ok err =
     let sized = host_sized authority host in
     rw (ok.0, ok.1) (
       due_is scheme authority path port http host is ∙ fits k short ∙ ap Ok (sym (key_in-text_of k)),
-      placed (host_in authority) path port sized.0 sized.1 (port_nonzero authority port is) short
+      placed (host_in authority) path port sized.0 sized.1 (port_nonzero authority port is) short,
     )
 due scheme authority path text port http host is (Err fault) ok err = due_is scheme authority path port http host is ∙ err
 
@@ -167,10 +168,14 @@ parts_due (Some scheme) (Some authority) s a p d is_s is_a is_p =
     rw (es, ea, ed) (sym (key_slash s a p))
 
 -- the text and the place of a key whose parts were written one behind the other
-pub spelled : (host path text : List ℕ) (port from to at : ℕ)
-    → text ≡ ((codes "http://" ++ lower host) ++ port_text port) ++ with_slash path
-    → from ≡ 7 → to ≡ 7 + length host → at ≡ 7 + length host + length (port_text port) → length text ≤ 8192
+pub spelled : (host path text a b : List ℕ) (port from to at : ℕ)
+    → a ≡ codes "http://" ++ lower host → b ≡ a ++ port_text port → text ≡ b ++ with_slash path
+    → from ≡ 7 → to ≡ length a → at ≡ length b → length b + length (with_slash path) ≤ 8192
     → IsSpelled (key_of host port path) text (record { host = (from, to); port = port; path = at })
-spelled host path text port from to at is is_from is_to is_at short =
-    let sized : length (lower host) ≡ length host = length-lower host in
-    (is ∙ simp append_assoc, rw (is_from, is_to, is_at, sized) refl, short)
+spelled host path text a b port from to at is_a is_b is_text is_from is_to is_at short =
+    let h = lower host in
+    let p = port_text port in
+    let to_is : to ≡ 7 + length h = omega (arith, is_to, ap length is_a) in
+    let at_is : at ≡ 7 + length h + length p = omega (arith, is_at, ap length is_b, length-append a p, ap length is_a) in
+    let whole : text ≡ ((codes "http://" ++ h) ++ p) ++ with_slash path = is_text ∙ ap (λ (t : List ℕ). t ++ with_slash path) (is_b ∙ ap (λ (t : List ℕ). t ++ p) is_a) in
+    (whole ∙ simp append_assoc, rw (is_from, to_is, at_is) refl, omega (arith, ap length is_text, length-append b (with_slash path)))

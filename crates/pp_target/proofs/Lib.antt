@@ -1,2 +1,3 @@
 pub mod UriGrammar
 pub mod KeyLemmas
+pub mod OnLiterals

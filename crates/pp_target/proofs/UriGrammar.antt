@@ -38,9 +38,9 @@ follow_tells front b = Decides-like (may_follow front b)
     (λ p. record { byte = p.0.0.0; colons = p.0.0.1; opening = p.0.1; closing = p.1 })
     (λ m. (((m.byte, m.colons), m.opening), m.closing))
     (Decides-and _ _ (Decides-and _ _ (Decides-and _ _ (decides_true (is_authority_byte b))
-        (decides_if (b == 58) _ (Decides-eqb b 58) (Decides-ltb (count_of 58 (last_piece front)) 8)))
-        (decides_if (b == 91) _ (Decides-eqb b 91) (Decides-and _ _ (Decides-eqb (count_of 91 front) 0) (Decides-eqb (count_of 37 (last_piece front)) 0))))
-        (decides_if (b == 93) _ (Decides-eqb b 93) (Decides-and _ _ (Decides-ltb 0 (count_of 91 front)) (Decides-eqb (count_of 93 front) 0))))
+    (decides_if (b == 58) _ (Decides-eqb b 58) (Decides-ltb (count_of 58 (last_piece front)) 8)))
+    (decides_if (b == 91) _ (Decides-eqb b 91) (Decides-and _ _ (Decides-eqb (count_of 91 front) 0) (Decides-eqb (count_of 37 (last_piece front)) 0))))
+    (decides_if (b == 93) _ (Decides-eqb b 93) (Decides-and _ _ (Decides-ltb 0 (count_of 91 front)) (Decides-eqb (count_of 93 front) 0))))
 
 all_tell : (text : List ℕ) (n : ℕ) → Decides (all_follow text n) ((i : ℕ) → i < n → MayFollow (take i text) (slice_index text i))
 all_tell text n = Decides-below_and (λ i. may_follow (take i text) (slice_index text i)) (λ i. MayFollow (take i text) (slice_index text i)) (all_follow text)
@@ -121,9 +121,12 @@ complete text s a k u =
     let rest : after_scheme text ≡ a ++ h.tail = cut_rest text s a k h in
     let authority : authority_in text ≡ a = ap (λ (t : List ℕ). take (authority_len t) t) rest ∙ cut_authority text s a k h in
     let tail : tail_in text ≡ h.tail = ap (λ (t : List ℕ). drop (authority_len t) t) rest ∙ cut_tail text s a k h in
-    let t = tail_to (tail_in text) k (subst (λ (x : List ℕ). IsTail x k) (sym tail) h.is_tail) in
-    ((absolute_tells text).1 (u.0, ((cut_scheme text s a k h).1, (subst IsScheme (sym name) h.is_scheme, (subst IsAuthority (sym authority) h.is_authority, t.0)))),
-      h.normal ∙ ap normal_scheme (sym name), sym authority, t.1)
+    let t = tail_to (tail_in text) k (subst (λ (x : List ℕ). IsTail x k) (sym tail) h.is_tail) in (
+      (absolute_tells text).1 (u.0, ((cut_scheme text s a k h).1, (subst IsScheme (sym name) h.is_scheme, (subst IsAuthority (sym authority) h.is_authority, t.0)))),
+      h.normal ∙ ap normal_scheme (sym name),
+      sym authority,
+      t.1,
+    )
 
 -- the other two forms are not absolute
 not_both : (text : List ℕ) (authority : Option (List ℕ)) (k s a k₂ : List ℕ) → IsForm text None authority k → IsAbsoluteForm text s a k₂ → ⊥

@@ -83,9 +83,9 @@ kept_of [] = codes "/"
 kept_of (b ∷ text) = without_fragment (b ∷ text)
 
 pub record Absolute : Type 0 where
-  pub scheme : List ℕ       -- `http` and `https` in lower case
+  pub scheme : List ℕ  -- `http` and `https` in lower case
   pub authority : List ℕ
-  pub path : List ℕ         -- path and query, without a fragment
+  pub path : List ℕ  -- path and query, without a fragment
 
 -- the parts of an absolute target
 unfoldable pub absolute_at : List ℕ → Option Absolute

@@ -11,9 +11,9 @@ use Rattle.pp_target.specs.declared.target.Place.{Place}
 use Rattle.pp_target.specs.Absolute.{Absolute, absolute_at}
 
 pub record Key : Type 0 where
-  pub host : List ℕ       -- in lower case
+  pub host : List ℕ  -- in lower case
   pub port : ℕ
-  pub path : List ℕ       -- path and query
+  pub path : List ℕ  -- path and query
 
 -- "A port that is empty or not given is equivalent to the default port" (section 3.2.3)
 abbrev pub port_text : ℕ → List ℕ

@@ -12,8 +12,10 @@
 
 mod absolute; // the parts of an absolute target
 mod target; // the key of a target, and where its parts stand
-mod stub;
 mod name; // the file name of a key
 
-pub use target::{Place, TargetFault, key};
 pub use name::file_name;
+pub use target::{Place, TargetFault, key};
+
+#[cfg(test)]
+mod tests;

@@ -10,7 +10,7 @@ use crate::absolute::parse;
 use arrayvec::ArrayVec;
 use http_uri::Uri;
 use itoa::Buffer;
-use crate::stub::read_u64;
+use pp_text::read_u64;
 use std::alloc::Global;
 
 /// Where the parts of a key stand in it, as byte offsets.
@@ -43,11 +43,7 @@ pub enum TargetFault {
 
 /// Writes the key of a target into `out`, and answers where its parts stand (RFC 2616, sections
 /// 3.2.2, 3.2.3 and 5.1.2). What `out` held is gone; after a fault it is empty.
-pub fn key(
-    alloc: Global,
-    target: &[u8],
-    out: &mut ArrayVec<u8, 8192>,
-) -> Result<Place, TargetFault>
+pub fn key(alloc: Global, target: &[u8], out: &mut ArrayVec<u8, 8192>) -> Result<Place, TargetFault>
     ensures key { IfOk result (λ place. key_at target.now ≡ Ok (key_in out.new.items place)) }
     ensures place { IfOk result (IsPlaceIn out.new.items) }
     ensures fault { IfErr result (λ fault. (fault ≡ TargetFault.OutOfMemory) ⊎ (key_at target.now ≡ Err fault)) }
@@ -67,9 +63,11 @@ fn write_uri(uri: &Uri, out: &mut ArrayVec<u8, 8192>) -> Result<Place, TargetFau
     requires { out.old.items ≡ [] }
     ensures { IsDue (key_from (parts_of uri.now)) result out.new.items }
 {
-    let (Some(scheme), Some(authority), Some(path)) =
-        (uri.scheme_str(), uri.authority(), uri.path_and_query())
-    else {
+    let (Some(scheme), Some(authority), Some(path)) = (
+        uri.scheme_str(),
+        uri.authority(),
+        uri.path_and_query(),
+    ) else {
         return Err(TargetFault::NotAbsolute);
     };
     write_key(scheme, authority.as_str(), path.as_str(), out)
@@ -177,6 +175,7 @@ fn append_port(port: u16, out: &mut ArrayVec<u8, 8192>) -> Result<(), TargetFaul
 
 fn append_path(path: &[u8], out: &mut ArrayVec<u8, 8192>) -> Result<(), TargetFault>
     ensures ok { OnOk result (out.new.items ≡ out.old.items ++ with_slash path.now) }
+    ensures room { OnOk result (array_vec_len out.old + length (with_slash path.now) ≤ 8192) }
     ensures err { IfErr result (λ f. (f ≡ TargetFault.TooLong) × (8192 < array_vec_len out.old + length (with_slash path.now))) }
 {
     if path.first() != Some(&b'/') {
@@ -200,6 +199,7 @@ fn append_lower(text: &[u8], out: &mut ArrayVec<u8, 8192>) -> Result<(), TargetF
 
 fn append(text: &[u8], out: &mut ArrayVec<u8, 8192>) -> Result<(), TargetFault>
     ensures ok { OnOk result (out.new.items ≡ out.old.items ++ text.now) }
+    ensures room { OnOk result (array_vec_len out.old + length text.now ≤ 8192) }
     ensures err { IfErr result (λ f. (f ≡ TargetFault.TooLong) × (8192 < array_vec_len out.old + length text.now)) }
 {
     match out.try_extend_from_slice(text) {

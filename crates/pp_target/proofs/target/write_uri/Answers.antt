@@ -12,5 +12,8 @@ returns c =
     let scheme : uri_scheme c.args.uri.now ≡ Some s = sym c.scheme_str.ensures.value ∙ ap option_copied c.in-Some-Some-Some.is-0 in
     let authority : uri_authority c.args.uri.now ≡ Some a = sym c.authority.ensures ∙ ap option_copied c.in-Some-Some-Some.is-1 in
     let path : uri_path_and_query c.args.uri.now ≡ Some p = sym c.path_and_query.ensures ∙ ap option_copied c.in-Some-Some-Some.is-2 in
-    rw (parts_due (uri_scheme c.args.uri.now) (uri_authority c.args.uri.now) s a p (uri_data c.args.uri.now) scheme authority path,
-      ← c.as_str.ensures.value, ← c.as_str-2.ensures.value) c.write_key.ensures
+    rw (
+      parts_due (uri_scheme c.args.uri.now) (uri_authority c.args.uri.now) s a p (uri_data c.args.uri.now) scheme authority path,
+      ← c.as_str.ensures.value,
+      ← c.as_str-2.ensures.value,
+    ) c.write_key.ensures
