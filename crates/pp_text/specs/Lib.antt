@@ -3,4 +3,5 @@ pub mod Fields
 pub mod Forwarding
 pub mod Lists
 pub mod Numbers
+pub mod Parts
 pub mod Quoting

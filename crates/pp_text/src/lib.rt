@@ -18,6 +18,7 @@ mod fields; // the fields of a head, over its text
 mod items; // the items of a comma list
 mod numbers; // numbers read from text
 mod octets; // owned bytes
+mod parts; // parts of a text, and the one field of a name
 mod quoting; // where quoted strings open and close
 
 pub use ascii::same;
@@ -29,3 +30,4 @@ pub use fields::{FieldSpan, Fields};
 pub use items::Items;
 pub use numbers::{read_hex, read_u64};
 pub use octets::{Octets, OutOfMemory};
+pub use parts::{cut, sole_value};
