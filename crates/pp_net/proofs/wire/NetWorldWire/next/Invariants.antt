@@ -1,0 +1,9 @@
+use Rattle.std.proofs.Common.{◌≡◌, ◌≤◌}
+use Rattle.pp_net.proofs.wire.NetWorldWire.next.Given as goal
+
+-- a wait gives no number
+abbrev pub invariant-loop : goal.invariant-loop
+invariant-loop g l = record {
+  top : l.self.top ≡ l.initial.self.top;
+  faults : l.initial.self.faults ≤ l.self.faults;
+}

@@ -1,0 +1,177 @@
+// One connection: its socket, whose it is and how far it came, and what the system told of it.
+ghost use Rattle.std.specs.Prelude.{◌≡◌, ◌<◌, ◌≤◌, length, IfOk};
+ghost use Rattle.pp_world.specs.Wire.{IsWithin};
+
+use crate::readiness::Readiness;
+use mio::event::Event as Report;
+use mio::net::TcpStream;
+use pp_world::Got;
+use std::io;
+use std::io::{ErrorKind, Read, Write};
+use std::net::Shutdown;
+
+/// How many bytes one read of a drain takes at most.
+const DRAIN_LEN: usize = 4096;
+
+/// How many reads one drain makes at most, so that nobody holds up the others.
+const DRAIN_READS: u32 = 64;
+
+/// Whose connection it is, and how far it came.
+///
+/// ```text
+/// Accepted -> Lingering   it is closed, and the client may still send       [linger]
+/// Dialled  -> Answered    the system tells how the dial went                [hear]
+/// Answered -> Reached     it went well                                      [reach]
+/// ```
+#[derive(Clone, Copy, Debug, PartialEq, Eq)]
+pub enum Phase {
+    /// A client.
+    Accepted,
+    /// A closed client, up to this second. What it sends is thrown away.
+    Lingering(u64),
+    /// An origin that is not reached yet.
+    Dialled,
+    /// An origin whose dial has ended, and nobody looked yet how.
+    Answered,
+    /// An origin.
+    Reached,
+}
+
+/// The two ways of a connection.
+#[derive(Clone, Copy, Debug, PartialEq, Eq)]
+pub enum Direction {
+    Read,
+    Write,
+}
+
+#[derive(Drop)]
+pub struct Connection {
+    id: u64,
+    stream: TcpStream,
+    phase: Phase,
+    readiness: Readiness,
+}
+
+impl Connection {
+    /// A client may have sent something already. Of an origin nothing is known before the system tells it.
+    pub fn new(id: u64, stream: TcpStream, phase: Phase) -> Connection {
+        let readiness = match phase {
+            Phase::Accepted => Readiness::UNTRIED,
+            Phase::Lingering(_) | Phase::Dialled | Phase::Answered | Phase::Reached =>
+                Readiness::NONE,
+        };
+        Connection {
+            id,
+            stream,
+            phase,
+            readiness,
+        }
+    }
+
+    pub fn id(&self) -> u64 {
+        self.id
+    }
+
+    pub fn phase(&self) -> Phase {
+        self.phase
+    }
+
+    /// It has this number, and is not closed.
+    pub fn is_open(&self, id: u64) -> bool {
+        self.id == id && !matches!(self.phase, Phase::Lingering(_))
+    }
+
+    pub fn is_ready(&self, direction: Direction) -> bool {
+        match direction {
+            Direction::Read => self.readiness.read,
+            Direction::Write => self.readiness.write,
+        }
+    }
+
+    /// Keeps what the system tells. The first report of a dial that it can take bytes, failed or ended says that the dial is over.
+    pub fn hear(&mut self, report: &Report) {
+        self.readiness.hear(report);
+        if self.phase == Phase::Dialled && self.readiness.write {
+            self.phase = Phase::Answered;
+        }
+    }
+
+    /// How the dial went.
+    pub fn reach(&mut self) -> io::Result<()> {
+        self.phase = Phase::Reached;
+        match self.stream.take_error()? {
+            Some(error) => Err(error),
+            None => Ok(()),
+        }
+    }
+
+    pub fn read(&mut self, buf: &mut [u8]) -> io::Result<Got>
+        requires { 0 < length buf.old }
+        ensures { IfOk result (IsWithin (length buf.new)) }
+    {
+        match self.stream.read(buf) {
+            Ok(0) => Ok(Got::End),
+            Ok(taken) => {
+                self.readiness.after_read(taken, buf.len());
+                Ok(Got::Bytes(taken))
+            }
+            Err(e) if e.kind() == ErrorKind::WouldBlock => {
+                self.readiness.read = false;
+                Ok(Got::NotYet)
+            }
+            Err(e) if e.kind() == ErrorKind::Interrupted => Ok(Got::NotYet),
+            Err(e) => Err(e),
+        }
+    }
+
+    pub fn write(&mut self, bytes: &[u8]) -> io::Result<usize>
+        ensures { IfOk result (λ taken. taken ≤ length bytes.now) }
+    {
+        match self.stream.write(bytes) {
+            Ok(taken) => {
+                self.readiness.after_write(taken, bytes.len());
+                Ok(taken)
+            }
+            Err(e) if e.kind() == ErrorKind::WouldBlock => {
+                self.readiness.write = false;
+                Ok(0)
+            }
+            Err(e) if e.kind() == ErrorKind::Interrupted => Ok(0),
+            Err(e) => Err(e),
+        }
+    }
+
+    /// Closes this side. True where the socket has to stay until the second `until`, at most: a client that
+    /// sends into a closed socket is answered with a reset, and loses what it has not read yet
+    /// (RFC 7230, section 6.6). Nobody waits for what an origin still sends.
+    pub fn linger(&mut self, until: u64) -> bool {
+        if self.phase != Phase::Accepted || self.stream.shutdown(Shutdown::Write).is_err() {
+            return false;
+        }
+        self.phase = Phase::Lingering(until);
+        !self.drain()
+    }
+
+    /// It has lingered up to this second, or its peer has ended.
+    pub fn is_gone(&mut self, now: u64) -> bool {
+        match self.phase {
+            Phase::Lingering(until) => until <= now || self.drain(),
+            Phase::Accepted | Phase::Dialled | Phase::Answered | Phase::Reached => false,
+        }
+    }
+
+    /// Throws away what the peer has sent. True where no more can come.
+    pub fn drain(&mut self) -> bool {
+        let mut scratch = [0u8; DRAIN_LEN];
+        for _ in 0..DRAIN_READS {
+            if !self.readiness.read {
+                break;
+            }
+            match self.read(&mut scratch) {
+                Ok(Got::Bytes(_)) | Ok(Got::NotYet) => {}
+                Ok(Got::End) | Err(_) => return true,
+            }
+        }
+        false
+    }
+}

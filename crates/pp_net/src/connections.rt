@@ -1,0 +1,176 @@
+// The connections that are there, each in the place that its number names.
+ghost use Rattle.std.specs.Prelude.{◌≡◌, ◌<◌, ◌≤◌, ◌-◌, ◌*◌, ◌%◌, ◌^◌, IsTrue, IfSome, IfNone};
+ghost use Rattle.pp_world.specs.Wire.{IsNewNumber, has_number};
+
+use crate::connection::{Connection, Direction, Phase};
+use mio::event::Event as Report;
+use std::alloc::{AllocError, Global};
+
+/// How many connections there may be: clients, origins, and closed clients that linger.
+pub const PLACES: u64 = 512;
+
+/// The least number above `top` that names this place, if 64 bits hold one.
+pub fn next_number(top: u64, place: u64) -> Option<u64>
+    requires { place < PLACES }
+    ensures new { IfSome result (IsNewNumber top) }
+    ensures place { IfSome result (λ id. id % PLACES ≡ place) }
+    ensures none { IfNone result (2 ^ 64 - 2 * PLACES < top) }
+{
+    (top / PLACES + 1).checked_mul(PLACES)?.checked_add(place)
+}
+
+fn place_of(id: u64) -> u64
+    ensures { result < PLACES }
+{
+    id % PLACES
+}
+
+/// How many places stand between the place of the connection that was served last and this one's, round
+/// all places: it is that one's own turn last.
+fn distance(last: u64, id: u64) -> u64 {
+    (place_of(id) + (PLACES - 1) - place_of(last)) % PLACES
+}
+
+#[derive(Drop)]
+pub struct Connections {
+    places: Vec<Option<Connection>>,
+    // A dial may have ended that nobody looked at yet.
+    has_answer: bool,
+}
+
+impl Connections {
+    pub fn new(alloc: Global) -> Result<Connections, AllocError> {
+        let mut places = Vec::with_capacity(alloc, PLACES as usize)?;
+        for _ in 0..PLACES {
+            places.push(None)?;
+        }
+        Ok(Connections {
+            places,
+            has_answer: false,
+        })
+    }
+
+    /// A place for one more connection. A client that lingers gives way, the one that lingers longest first.
+    pub fn make_place(&mut self) -> Option<u64>
+        ensures { IfSome result (λ place. place < PLACES) }
+    {
+        match self.places.iter().position(|place| place.is_none()) {
+            Some(place) => Some(place_of(place as u64)),
+            None => {
+                let id = self.longest_lingering()?;
+                self.empty(id);
+                Some(place_of(id))
+            }
+        }
+    }
+
+    fn longest_lingering(&self) -> Option<u64> {
+        let mut longest = None;
+        for connection in self.places.iter().flatten() {
+            if let Phase::Lingering(until) = connection.phase()
+                && longest.is_none_or(|(least, _)| until < least)
+            {
+                longest = Some((until, connection.id()));
+            }
+        }
+        longest.map(|(_, id)| id)
+    }
+
+    /// Puts a connection into the place of its number.
+    pub fn put(&mut self, connection: Connection) {
+        if let Some(place) = self.places.get_mut(place_of(connection.id()) as usize) {
+            *place = Some(connection);
+        }
+    }
+
+    /// The connection of this number, unless it is closed.
+    pub fn get_mut(&mut self, id: u64) -> Option<&mut Connection> {
+        let connection = self.places.get_mut(place_of(id) as usize)?.as_mut()?;
+        if connection.is_open(id) {
+            Some(connection)
+        } else {
+            None
+        }
+    }
+
+    fn get(&self, id: u64) -> Option<&Connection> {
+        let connection = self.places.get(place_of(id) as usize)?.as_ref()?;
+        if connection.is_open(id) {
+            Some(connection)
+        } else {
+            None
+        }
+    }
+
+    /// Closes the connection of this number. A client may linger until this second.
+    pub fn close(&mut self, id: u64, until: u64) {
+        if let Some(connection) = self.get_mut(id)
+            && !connection.linger(until)
+        {
+            self.empty(id);
+        }
+    }
+
+    fn empty(&mut self, id: u64) {
+        if let Some(place) = self.places.get_mut(place_of(id) as usize) {
+            *place = None;
+        }
+    }
+
+    /// Keeps what the system tells of a connection, whose number is the token.
+    pub fn hear(&mut self, report: &Report) {
+        let id = report.token().0 as u64;
+        let Some(place) = self.places.get_mut(place_of(id) as usize) else {
+            return;
+        };
+        let Some(connection) = place.as_mut() else {
+            return;
+        };
+        connection.hear(report);
+        match connection.phase() {
+            Phase::Answered => self.has_answer = true,
+            Phase::Lingering(_) if connection.drain() => *place = None,
+            _ => {}
+        }
+    }
+
+    /// A dialled connection whose dial has ended, and that nobody looked at yet.
+    pub fn answered(&mut self) -> Option<&mut Connection> {
+        if !self.has_answer {
+            return None;
+        }
+        let found = self
+            .places
+            .iter_mut()
+            .flatten()
+            .find(|connection| connection.phase() == Phase::Answered);
+        self.has_answer = found.is_some();
+        found
+    }
+
+    /// Drops the clients that have lingered long enough, or that have nothing more to send.
+    pub fn end_lingering(&mut self, now: u64) {
+        for place in self.places.iter_mut() {
+            if let Some(connection) = place.as_mut()
+                && connection.is_gone(now)
+            {
+                *place = None;
+            }
+        }
+    }
+
+    /// Of these connections the one that is ready, and whose place comes first after that of `last`.
+    pub fn next_ready(&self, ids: &[u64], direction: Direction, last: u64) -> Option<u64>
+        ensures { IfSome result (λ id. IsTrue (has_number id ids.now)) }
+    {
+        ids.iter()
+            .copied()
+            .filter(|id| self.is_ready(*id, direction))
+            .min_by_key(|id| distance(last, *id))
+    }
+
+    fn is_ready(&self, id: u64, direction: Direction) -> bool {
+        self.get(id)
+            .is_some_and(|connection| connection.is_ready(direction))
+    }
+}

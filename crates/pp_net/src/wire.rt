@@ -1,0 +1,207 @@
+// The calls of `Wire` over real sockets.
+ghost use Rattle.std.specs.Prelude.{◌≡◌, ◌≤◌, IfSome};
+ghost use Rattle.pp_world.specs.declared.event.Event.TheVariants.{Tick};
+ghost use Rattle.pp_world.specs.declared.event.Wants.{Wants};
+ghost use Rattle.pp_net.specs.Found.{Finds, IsFoundFor};
+
+use crate::connection::Direction;
+use crate::net_world::NetWorld;
+use crate::rotation::Turn;
+use crate::{console, files};
+use pp_text::Octets;
+use pp_world::{ConfigFault, Event, Got, Note, Wants, Wire, WireFault};
+use std::alloc::Global;
+use std::net::Net;
+use std::rt::Runtime;
+use std::time::Duration;
+
+/// After so many events the system is asked again, though more are known.
+const MOST_FOUND: u32 = 256;
+
+/// How long a closed client may linger, in seconds.
+const LINGER_SECONDS: u64 = 5;
+
+/// What is left of the second that has begun.
+fn rest_of_second(now: Duration) -> Duration {
+    Duration::from_millis(1000 - u64::from(now.subsec_millis()).min(1000))
+}
+
+impl<R: Runtime + AllocGlobal + Net> NetWorld<R> {
+    // A second that was not told yet.
+    fn find_tick(&mut self, now: u64) -> Option<Event>
+        ensures tick { IfSome result (λ event. event ≡ Tick now) }
+        ensures faults { self.new.faults ≡ self.old.faults }
+        ensures top { self.new.top ≡ self.old.top }
+    {
+        if self.second == Some(now) {
+            return None;
+        }
+        self.second = Some(now);
+        self.connections.end_lingering(now);
+        if let Some(door) = self.door.as_mut() {
+            door.knock();
+        }
+        Some(Event::Tick(now))
+    }
+
+    // What is known without asking the system.
+    fn find(&mut self, wants: &Wants) -> Option<Event>
+        ensures found { Finds wants.now self.old.top self.new.top result }
+        ensures faults { self.old.faults ≤ self.new.faults }
+    {
+        if let Some(event) = self.find_answered() {
+            return Some(event);
+        }
+        for _ in 0..3 {
+            let turn = self.rotation.pass();
+            if let Some(event) = self.find_in(turn, wants) {
+                return Some(event);
+            }
+        }
+        None
+    }
+
+    // How a dial went.
+    fn find_answered(&mut self) -> Option<Event>
+        ensures found { (wants : Wants) → IfSome result (IsFoundFor wants self.old.top self.new.top) }
+        ensures faults { self.old.faults ≤ self.new.faults }
+        ensures top { self.new.top ≡ self.old.top }
+    {
+        let connection = self.connections.answered()?;
+        let id = connection.id();
+        match connection.reach() {
+            Ok(()) => Some(Event::Reached(id)),
+            Err(_) => {
+                self.fault();
+                Some(Event::Broken(id))
+            }
+        }
+    }
+
+    fn find_in(&mut self, turn: Turn, wants: &Wants) -> Option<Event>
+        ensures found { Finds wants.now self.old.top self.new.top result }
+        ensures faults { self.old.faults ≤ self.new.faults }
+    {
+        match turn {
+            Turn::Write => self.find_writable(wants),
+            Turn::Read => self.find_readable(wants),
+            Turn::Accept => self.find_client(wants),
+        }
+    }
+
+    fn find_writable(&mut self, wants: &Wants) -> Option<Event>
+        ensures found { Finds wants.now self.old.top self.new.top result }
+        ensures faults { self.new.faults ≡ self.old.faults }
+    {
+        let ids = wants.write.as_slice();
+        let last = self.rotation.last_written;
+        let id = self.connections.next_ready(ids, Direction::Write, last)?;
+        self.rotation.last_written = id;
+        Some(Event::Writable(id))
+    }
+
+    fn find_readable(&mut self, wants: &Wants) -> Option<Event>
+        ensures found { Finds wants.now self.old.top self.new.top result }
+        ensures faults { self.new.faults ≡ self.old.faults }
+    {
+        let ids = wants.read.as_slice();
+        let last = self.rotation.last_read;
+        let id = self.connections.next_ready(ids, Direction::Read, last)?;
+        self.rotation.last_read = id;
+        Some(Event::Readable(id))
+    }
+
+    fn find_client(&mut self, wants: &Wants) -> Option<Event>
+        ensures found { Finds wants.now self.old.top self.new.top result }
+        ensures faults { self.old.faults ≤ self.new.faults }
+    {
+        if !wants.accept {
+            return None;
+        }
+        match self.accept() {
+            Ok(Some(id)) => Some(Event::Accepted(id)),
+            Ok(None) => None,
+            Err(_) => {
+                self.fault();
+                None
+            }
+        }
+    }
+}
+
+impl<R: Runtime + AllocGlobal + Net> Wire for NetWorld<R> {
+    fn next(&mut self, wants: &Wants) -> Event {
+        for _ in 0..u64::MAX {
+            let now = self.clock();
+            if let Some(tick) = self.find_tick(now.as_secs()) {
+                return tick;
+            }
+            if self.found >= MOST_FOUND {
+                self.ask(Duration::ZERO);
+            }
+            if let Some(event) = self.find(wants) {
+                self.found = self.found.saturating_add(1);
+                return event;
+            }
+            self.ask(rest_of_second(now));
+        }
+        Event::Stop
+    }
+
+    fn read(&mut self, id: u64, buf: &mut [u8]) -> Result<Got, WireFault> {
+        let Some(connection) = self.connections.get_mut(id) else {
+            return Err(self.fault());
+        };
+        match connection.read(buf) {
+            Ok(got) => Ok(got),
+            Err(_) => Err(self.fault()),
+        }
+    }
+
+    fn write(&mut self, id: u64, bytes: &[u8]) -> Result<usize, WireFault> {
+        let Some(connection) = self.connections.get_mut(id) else {
+            return Err(self.fault());
+        };
+        match connection.write(bytes) {
+            Ok(taken) => Ok(taken),
+            Err(_) => Err(self.fault()),
+        }
+    }
+
+    fn listen(&mut self, port: u16) -> Result<(), WireFault> {
+        match self.open_door(port) {
+            Ok(()) => Ok(()),
+            Err(_) => Err(self.fault()),
+        }
+    }
+
+    /// Waits for the system where the host is a name that was not looked up lately.
+    fn dial(&mut self, host: &[u8], port: u16) -> Result<u64, WireFault> {
+        match self.connect(host, port) {
+            Ok(id) => Ok(id),
+            Err(_) => Err(self.fault()),
+        }
+    }
+
+    fn close(&mut self, id: u64) {
+        let until = self.second.unwrap_or(0).saturating_add(LINGER_SECONDS);
+        self.connections.close(id, until);
+    }
+
+    /// Puts nothing on record: no log is told.
+    fn note(&mut self, _note: &Note<'_>) {}
+
+    fn print(&mut self, bytes: &[u8]) {
+        if console::print(&self.rt, bytes).is_err() {
+            self.fault();
+        }
+    }
+
+    fn config(&mut self, alloc: Global, name: &str) -> Result<Octets, ConfigFault> {
+        let front = files::read_front(&self.rt, alloc, name);
+        if let Err(ConfigFault::Unreadable) = front {
+            self.fault();
+        }
+        front
+    }
+}

@@ -1,0 +1,92 @@
+"""Tests with a time limit each, and what they print where they fail."""
+
+import shutil
+import signal
+import time
+import traceback
+
+CASE_SECONDS = 20
+SHOWN_BYTES = 600
+
+_cases = []
+
+
+class Failed(Exception):
+    """What was wanted did not come."""
+
+
+class Skipped(Exception):
+    """A tool is missing."""
+
+
+def case(function):
+    """Registers a test. Its name is its sentence."""
+    _cases.append(function)
+    return function
+
+
+def need(tool):
+    """Skips the test where the tool is missing."""
+    if shutil.which(tool) is None:
+        raise Skipped(tool)
+
+
+def shown(value):
+    """A value as a failure prints it, shortened in the middle."""
+    text = repr(value)
+    if len(text) <= SHOWN_BYTES:
+        return text
+    half = SHOWN_BYTES // 2
+    return f"{text[:half]} .. {text[-half:]} (of {len(value)} bytes)"
+
+
+def equal(came, wanted, of_what="the bytes"):
+    if came != wanted:
+        raise Failed(f"{of_what}\n    wanted {shown(wanted)}\n    came   {shown(came)}")
+
+
+def holds(condition, sentence):
+    if not condition:
+        raise Failed(f"    wanted: {sentence}")
+
+
+def _out_of_time(signum, frame):
+    raise Failed(f"    wanted: an end within {CASE_SECONDS} seconds")
+
+
+def _run(function, world):
+    """Runs one test, and then sees that everyone else is still served."""
+    signal.alarm(CASE_SECONDS)
+    try:
+        function(world)
+        world.check_still_served()
+    finally:
+        signal.alarm(0)
+
+
+def run_all(world):
+    """Runs all tests over one program. Answers how many passed, and how many failed."""
+    signal.signal(signal.SIGALRM, _out_of_time)
+    passed, failed, skipped = 0, 0, []
+    for function in _cases:
+        name = function.__name__.replace("_", " ")
+        start = time.monotonic()
+        try:
+            _run(function, world)
+        except Skipped as missing:
+            skipped.append(str(missing))
+            print(f"skipped: {name}: {missing} is missing", flush=True)
+        except Failed as failure:
+            failed += 1
+            print(f"FAILED: {name}: {failure}", flush=True)
+            world.restart()
+        except Exception:
+            failed += 1
+            print(f"FAILED: {name}:\n{traceback.format_exc()}", flush=True)
+            world.restart()
+        else:
+            passed += 1
+            print(f"passed: {name} ({time.monotonic() - start:.1f} s)", flush=True)
+    if skipped:
+        print(f"{len(skipped)} skipped, for want of {', '.join(sorted(set(skipped)))}")
+    return passed, failed

@@ -1,0 +1,81 @@
+"""Clients that send garbage, stop anywhere, or hang up anywhere. Each test ends with another that is served."""
+
+import random
+import time
+
+from harness import case, holds
+from origin import Answer, noise, plain
+from world import Client, request
+
+
+@case
+def a_client_may_hang_up_at_any_byte_of_its_request(world):
+    world.origin.on("/a", Answer(plain(b"hello")))
+    text = request("/a")
+    for count in range(len(text) + 1):
+        for hang_up in (Client.reset, Client.end):
+            client = Client()
+            client.say(text[:count])
+            hang_up(client)
+            client.socket.close()
+    world.check_still_served()
+
+
+@case
+def a_client_may_hang_up_anywhere_in_its_reply(world):
+    world.origin.on("/large", Answer(plain(noise(3_000_000))))
+    for count in [0, 1, 100, 200, 8_192, 50_000, 200_000]:
+        for hang_up in (Client.reset, Client.end):
+            client = Client()
+            client.say(request("/large"))
+            client.hear(count)
+            hang_up(client)
+            client.socket.close()
+        world.check_still_served()
+
+
+@case
+def garbage_harms_nobody_else(world):
+    generator = random.Random(1)
+    for size in [1, 2, 10, 100, 1_000, 10_000, 100_000, 1_000_000]:
+        for _ in range(5):
+            with Client() as client:
+                try:
+                    client.say(generator.randbytes(size))
+                except OSError:
+                    pass  # the proxy may close before it took all
+        world.check_still_served()
+
+
+@case
+def a_client_that_never_ends_its_head_harms_nobody_else(world):
+    waiting = []
+    for count in range(50):
+        client = Client()
+        client.say(request("/a")[:-2] + b"A: " + b"a" * count)
+        waiting.append(client)
+    world.check_still_served()
+    for client in waiting:
+        client.socket.close()
+
+
+@case
+def clients_that_say_nothing_harm_nobody_else(world):
+    silent = [Client() for _ in range(240)]
+    start = time.monotonic()
+    world.check_still_served()
+    holds(time.monotonic() - start < 3, "another client is served within 3 seconds")
+    for client in silent:
+        client.socket.close()
+
+
+@case
+def more_clients_than_there_are_places_wait_for_one(world):
+    silent = [Client() for _ in range(300)]
+    late = Client()
+    world.origin.on("/late", Answer(plain(b"at last")))
+    late.say(request("/late"))
+    for client in silent:
+        client.socket.close()
+    holds(late.hear(5) == b"HTTP/", "a client that waited is served once others left")
+    late.socket.close()

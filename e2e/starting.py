@@ -1,0 +1,28 @@
+"""What the program prints, and how it ends."""
+
+import subprocess
+
+from harness import case, equal
+
+USAGE = b"usage: polipo [-c FILE] [-g SEED] [name=value ...]\n"
+
+
+def run(program, *words):
+    done = subprocess.run([program, *words], capture_output=True, timeout=15, stdin=subprocess.DEVNULL)
+    return done.returncode, done.stdout, done.stderr
+
+
+@case
+def a_word_is_refused_as_usage(world):
+    equal(run(world.program, "--help"), (2, b"", USAGE), "status, output and complaint")
+
+
+@case
+def a_port_that_is_taken_is_complained_of(world):
+    wanted = (5, b"", b"polipo: cannot listen on port 8123\n")
+    equal(run(world.program), wanted, "status, output and complaint")
+
+
+@case
+def nothing_was_printed_in_all_this(world):
+    equal(world.printed(), b"", "output and complaints")
