@@ -12,3 +12,5 @@ pub mod RequestAgrees
 pub mod RequestSpansLemmas
 pub mod ResponseAgrees
 pub mod ResponseSpansLemmas
+pub mod OnLiterals
+pub mod Computed

@@ -97,3 +97,6 @@ fn show<'a, 's>(
         HeadState::More => HeadState::More,
     }
 }
+
+#[cfg(test)]
+mod tests;
