@@ -3,14 +3,17 @@ use Rattle.std.proofs.Common.{◌≡◌, ℕ, zero, suc, ◌<◌, ◌≤◌, ◌
 use Rattle.std.proofs.lemmas.Bool.{le-leb}
 use Rattle.std.proofs.lemmas.Bool.Decides.{eqb_tells, leb_tells}
 use Rattle.std.proofs.lemmas.List.{take_all, drop_all, append-nil, take-append-drop}
-use Rattle.pp_text.specs.Bytes.{is_blank, skip_blanks}
+use Rattle.pp_text.specs.Bytes.{is_blank}
 use Rattle.pp_framing.specs.Body.{Body, Outcome, Done, Going, behind, no_data}
 use Rattle.pp_framing.specs.Chunked.{Found, Absent, then, front, past, is_hex, is_text, line_end, extension_end, size_end, chunk_line, chunk_size, trailer, chunks}
-use Rattle.pp_framing.specs.Places.{read_from, first_place, data_of}
+use Rattle.std.proofs.Common.{◌++◌}
+use Rattle.pp_framing.specs.Body.{Bad}
+use Rattle.pp_framing.specs.declared.place.Place.{Place}
+use Rattle.pp_framing.specs.Places.{read_from, first_place, data_of, step}
 use Rattle.pp_framing.specs.Rules.{body_of}
 use Rattle.pp_framing.specs.declared.body.BodyRule.{BodyRule}
 use Rattle.pp_framing.specs.declared.body.BodyRule.TheVariants.{Empty, Length, Chunked, ToEnd}
-use Rattle.pp_framing.specs.declared.place.Place.TheVariants.{ChunkStart, Chunk, TrailerStart, Counted, Unbounded, Over}
+use Rattle.pp_framing.specs.declared.place.Place.TheVariants.{ChunkStart, Chunk, TrailerStart, Counted, Unbounded, Over, Wrong}
 use Rattle.pp_framing.proofs.BodyLemmas.{behind_line, read_from-ChunkStart, read_from-ChunkEnd}
 use Rattle.pp_framing.proofs.TrailerLemmas.{line_end-shorter, length-past, then-same, read_from-TrailerStart}
 use Rattle.pp_framing.proofs.DecoderLemmas.{read_from-Chunk, read_from-Chunk-part, read_from-Counted, read_from-Counted-part, read_from-Unbounded}
@@ -29,14 +32,6 @@ read_from-data size rest some =
           ∙ ap (λ x. behind x (no_data Going)) (sym (take_all size rest (omega (arith, part.1))))
           ∙ sym (ap (λ x. behind (take size rest) (then (line_end x) (read_from ChunkStart))) (drop_all size rest (omega (arith, part.1))))
     ]
-
-length-skip_blanks : (text : List ℕ) → length (skip_blanks text) ≤ length text
-length-skip_blanks [] = omega arith
-length-skip_blanks (b ∷ text) = by_test (length-skip_blanks text) (is_blank b)
-  where
-    by_test : length (skip_blanks text) ≤ length text → (t : Bool) → length {A = ℕ} (elim t [ true ↦ skip_blanks text | false ↦ b ∷ text ]) ≤ suc (length text)
-    by_test less true = omega arith
-    by_test less false = omega arith
 
 extension_end-shorter : (text rest : List ℕ) → extension_end text ≡ Found rest → length rest < length text
 extension_end-shorter text rest found = by_test (nat_le (length (front is_text text)) 4096) found
@@ -57,9 +52,9 @@ chunk_line-shorter : (text rest : List ℕ) → chunk_line text ≡ Found rest �
 chunk_line-shorter [] rest found = cc
 chunk_line-shorter (b ∷ text) rest found = by_test (is_hex b && nat_le (length (front is_hex (b ∷ text))) 16) found
   where
-    by_test : (t : Bool) → elim t [ true ↦ size_end (skip_blanks (past is_hex (b ∷ text))) | false ↦ Absent ] ≡ Found rest → length rest < suc (length text)
+    by_test : (t : Bool) → elim t [ true ↦ size_end (past is_blank (past is_hex (b ∷ text))) | false ↦ Absent ] ≡ Found rest → length rest < suc (length text)
     by_test true found =
-        omega (arith, size_end-shorter (skip_blanks (past is_hex (b ∷ text))) rest found, length-skip_blanks (past is_hex (b ∷ text)), length-past is_hex (b ∷ text))
+        omega (arith, size_end-shorter (past is_blank (past is_hex (b ∷ text))) rest found, length-past is_blank (past is_hex (b ∷ text)), length-past is_hex (b ∷ text))
     by_test false found = cc
 
 -- what the chunks of the grammar have behind a chunk's line
@@ -123,4 +118,16 @@ read_from-first_place (Length n) text =
       | inr some ↦ ap (λ t. read_from (elim t [ true ↦ Over | false ↦ Counted n ]) text) some.0 ∙ read_from-length n text (omega (arith, some.1))
     ]
 
-pub ruleset bodies_exact = (read_from-first_place)
+-- what begins no body begins none, whatever follows
+read_from-bad : (place : Place) (text more : List ℕ) → (read_from place text).outcome ≡ Bad → (read_from place (text ++ more)).outcome ≡ Bad
+read_from-bad Over text more bad = cc
+read_from-bad Wrong text more bad = refl
+read_from-bad place [] more bad = cc
+read_from-bad place (b ∷ text) more bad = read_from-bad (step place b) text more bad
+
+pub body_of-bad : (rule : BodyRule) (text more : List ℕ) → (body_of rule text).outcome ≡ Bad → (body_of rule (text ++ more)).outcome ≡ Bad
+body_of-bad rule text more bad =
+    ap (λ body. body.outcome) (sym (read_from-first_place rule (text ++ more)))
+    ∙ read_from-bad (first_place rule) text more (ap (λ body. body.outcome) (read_from-first_place rule text) ∙ bad)
+
+pub ruleset bodies_exact = (read_from-first_place, body_of-bad)

@@ -3,7 +3,7 @@ use Rattle.std.proofs.Common.{◌≡◌, ℕ, suc, ◌+◌, ◌*◌, ◌≤◌, 
 use Rattle.std.proofs.lemmas.Bool.{le-leb, lt-leb}
 use Rattle.std.proofs.lemmas.Bool.Decides.{eqb_tells, leb_tells}
 use Rattle.std.specs.Char.{is_digit, digit_value}
-use Rattle.pp_text.specs.Bytes.{is_blank, skip_blanks}
+use Rattle.pp_text.specs.Bytes.{is_blank}
 use Rattle.pp_text.specs.Numbers.{value_of}
 use Rattle.pp_framing.specs.Body.{Body, behind}
 use Rattle.pp_framing.specs.Chunked.{Piece, Found, Unfinished, Absent, then, front, past, is_hex, is_text, line_feed, line_end, extension_end, size_end, chunk_size, chunk_line}
@@ -114,16 +114,16 @@ line_end-other b text no_lf no_cr =
     ap (λ t. elim t [ true ↦ Found text | false ↦ elim (b == 13) [ true ↦ line_feed text | false ↦ Absent ] ]) no_lf
     ∙ ap (λ t. elim t [ true ↦ line_feed text | false ↦ Absent ]) no_cr
 
-size_end-other : (b : ℕ) (text : List ℕ) → (b == 10) ≡ false → (b == 13) ≡ false → (b == 59) ≡ false → is_blank b ≡ false → size_end (skip_blanks (b ∷ text)) ≡ Absent
+size_end-other : (b : ℕ) (text : List ℕ) → (b == 10) ≡ false → (b == 13) ≡ false → (b == 59) ≡ false → is_blank b ≡ false → size_end (past is_blank (b ∷ text)) ≡ Absent
 size_end-other b text no_lf no_cr no_semicolon no_blank =
-    ap (λ t. size_end (elim t [ true ↦ skip_blanks text | false ↦ b ∷ text ])) no_blank
+    ap (λ t. size_end (elim t [ true ↦ past is_blank text | false ↦ b ∷ text ])) no_blank
     ∙ ap (λ t. elim t [ true ↦ extension_end text | false ↦ line_end (b ∷ text) ]) no_semicolon
     ∙ line_end-other b text no_lf no_cr
 
-read_from-Blanks : (size : ℕ) (text : List ℕ) → read_from (Blanks size) text ≡ then (size_end (skip_blanks text)) (behind_line size)
+read_from-Blanks : (size : ℕ) (text : List ℕ) → read_from (Blanks size) text ≡ then (size_end (past is_blank text)) (behind_line size)
 read_from-Blanks size [] = refl
 read_from-Blanks size (b ∷ text) =
-    let P : ℕ → Type 0 = λ b. read_from (Blanks size) (b ∷ text) ≡ then (size_end (skip_blanks (b ∷ text))) (behind_line size) in
+    let P : ℕ → Type 0 = λ b. read_from (Blanks size) (b ∷ text) ≡ then (size_end (past is_blank (b ∷ text))) (behind_line size) in
     elim (eqb_tells b 10) [
       | inl lf ↦ subst P (sym lf.1) refl
       | inr no_lf ↦ elim (eqb_tells b 13) [
@@ -149,7 +149,7 @@ abbrev and_digit : ℕ → ℕ → ℕ
 and_digit size b = size * 16 + digit_value b
 
 abbrev line_by : ℕ → List ℕ → List ℕ → Piece
-line_by digits line rest = elim (nat_le (digits + length line) 16) [ true ↦ size_end (skip_blanks rest) | false ↦ Absent ]
+line_by digits line rest = elim (nat_le (digits + length line) 16) [ true ↦ size_end (past is_blank rest) | false ↦ Absent ]
 
 abbrev line_from : ℕ → List ℕ → Piece
 line_from digits text = line_by digits (front is_hex text) (past is_hex text)
@@ -159,7 +159,7 @@ line_from-cons digits b text passes =
     let sum : digits + length (b ∷ front is_hex text) ≡ digits + 1 + length (front is_hex text) = omega arith in
     ap (λ line. line_by digits line (past is_hex (b ∷ text))) (front-cons is_hex b text passes)
     ∙ ap (λ rest. line_by digits (b ∷ front is_hex text) rest) (past-cons is_hex b text passes)
-    ∙ ap (λ n. elim (nat_le n 16) [ true ↦ size_end (skip_blanks (past is_hex text)) | false ↦ Absent ]) sum
+    ∙ ap (λ n. elim (nat_le n 16) [ true ↦ size_end (past is_blank (past is_hex text)) | false ↦ Absent ]) sum
 
 -- a digit, where the test says so
 abbrev digit_by : Bool → ℕ → Option ℕ
@@ -188,7 +188,7 @@ read_from-Size digits size (b ∷ text) few = by_test (λ more. read_from-Size (
         ∙ read_from-Blanks size (b ∷ text)
         ∙ sym (ap (λ line. then (line_by digits line (past is_hex (b ∷ text))) (behind_line (fold and_digit size line))) (front-stop is_hex b text stops)
         ∙ ap (λ rest. then (line_by digits [] rest) (behind_line size)) (past-stop is_hex b text stops)
-        ∙ ap (λ t. then (elim t [ true ↦ size_end (skip_blanks (b ∷ text)) | false ↦ Absent ]) (behind_line size)) none)
+        ∙ ap (λ t. then (elim t [ true ↦ size_end (past is_blank (b ∷ text)) | false ↦ Absent ]) (behind_line size)) none)
     by_test again true passes =
         let rest = ap (λ line. then (line_from digits (b ∷ text)) (behind_line (fold and_digit size line))) (front-cons is_hex b text passes)
         ∙ ap (λ p. then p (behind_line (fold and_digit (and_digit size b) (front is_hex text)))) (line_from-cons digits b text passes) in
@@ -199,12 +199,12 @@ read_from-Size digits size (b ∷ text) few = by_test (λ more. read_from-Size (
           | inr full ↦
               let over : nat_le (digits + 1 + length (front is_hex text)) 16 ≡ false = lt-leb (digits + 1 + length (front is_hex text)) 16 (omega (arith, full.1)) in
               ap (λ p. behind [] (read_from p text)) (digit_step digits size b passes ∙ ap (λ t. elim t [ true ↦ Size (digits + 1) (and_digit size b) | false ↦ Wrong ]) full.0)
-              ∙ sym (rest ∙ ap (λ t. then (elim t [ true ↦ size_end (skip_blanks (past is_hex text)) | false ↦ Absent ]) (behind_line (fold and_digit (and_digit size b) (front is_hex text)))) over)
+              ∙ sym (rest ∙ ap (λ t. then (elim t [ true ↦ size_end (past is_blank (past is_hex text)) | false ↦ Absent ]) (behind_line (fold and_digit (and_digit size b) (front is_hex text)))) over)
         ]
 
 -- a chunk's line
 abbrev line_of : ℕ → List ℕ → Piece
-line_of digits rest = elim (nat_le digits 16) [ true ↦ size_end (skip_blanks rest) | false ↦ Absent ]
+line_of digits rest = elim (nat_le digits 16) [ true ↦ size_end (past is_blank rest) | false ↦ Absent ]
 
 pub read_from-ChunkStart : (text : List ℕ) → read_from ChunkStart text ≡ then (chunk_line text) (behind_line (chunk_size text))
 read_from-ChunkStart [] = refl
@@ -213,14 +213,14 @@ read_from-ChunkStart (b ∷ text) = by_test (is_hex b) refl
     by_test : (t : Bool) → is_hex b ≡ t → read_from ChunkStart (b ∷ text) ≡ then (chunk_line (b ∷ text)) (behind_line (chunk_size (b ∷ text)))
     by_test false stops =
         ap (λ t. behind [] (read_from (elim (digit_by t b) [ Some d ↦ Size 1 d | None ↦ Wrong ]) text)) stops
-        ∙ sym (ap (λ t. then (elim (t && nat_le (length (front is_hex (b ∷ text))) 16) [ true ↦ size_end (skip_blanks (past is_hex (b ∷ text))) | false ↦ Absent ]) (behind_line (chunk_size (b ∷ text)))) stops)
+        ∙ sym (ap (λ t. then (elim (t && nat_le (length (front is_hex (b ∷ text))) 16) [ true ↦ size_end (past is_blank (past is_hex (b ∷ text))) | false ↦ Absent ]) (behind_line (chunk_size (b ∷ text)))) stops)
     by_test true passes =
         let first : 0 * 16 + digit_value b ≡ digit_value b = omega arith in
         let sum : 1 + length (front is_hex text) ≡ length (b ∷ front is_hex text) = omega arith in
         ap (λ t. behind [] (read_from (elim (digit_by t b) [ Some d ↦ Size 1 d | None ↦ Wrong ]) text)) passes
         ∙ read_from-Size 1 (digit_value b) text (omega arith)
         ∙ ap (λ n. then (line_of n (past is_hex text)) (behind_line (fold and_digit (digit_value b) (front is_hex text)))) sum
-        ∙ sym (ap (λ t. then (elim (t && nat_le (length (front is_hex (b ∷ text))) 16) [ true ↦ size_end (skip_blanks (past is_hex (b ∷ text))) | false ↦ Absent ]) (behind_line (chunk_size (b ∷ text)))) passes
+        ∙ sym (ap (λ t. then (elim (t && nat_le (length (front is_hex (b ∷ text))) 16) [ true ↦ size_end (past is_blank (past is_hex (b ∷ text))) | false ↦ Absent ]) (behind_line (chunk_size (b ∷ text)))) passes
         ∙ ap (λ line. then (line_of (length line) (past is_hex (b ∷ text))) (behind_line (value_of 16 line))) (front-cons is_hex b text passes)
         ∙ ap (λ rest. then (line_of (length (b ∷ front is_hex text)) rest) (behind_line (value_of 16 (b ∷ front is_hex text)))) (past-cons is_hex b text passes)
         ∙ ap (λ d. then (line_of (length (b ∷ front is_hex text)) (past is_hex text)) (behind_line (fold and_digit d (front is_hex text)))) first)

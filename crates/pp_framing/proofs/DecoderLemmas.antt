@@ -3,9 +3,11 @@ use Rattle.std.proofs.Common.{◌≡◌, ℕ, ◌+◌, ◌-◌, ◌<◌, ◌≤�
 use Rattle.std.proofs.lemmas.Bool.{ne_eqb}
 use Rattle.std.proofs.lemmas.List.{take-append-drop}
 use Rattle.pp_framing.specs.Body.{behind}
-use Rattle.pp_framing.specs.Places.{read_from}
+use Rattle.std.proofs.Common.{Bool, true, false, ◌*◌, nat_lt, nat_le, Option, Some, None}
+use Rattle.pp_text.specs.Bytes.{is_blank}
+use Rattle.pp_framing.specs.Places.{read_from, step, is_unbounded, data_of, chunk_line, hex_digit, trailer_byte}
 use Rattle.pp_framing.specs.declared.place.Place.{Place}
-use Rattle.pp_framing.specs.declared.place.Place.TheVariants.{Chunk, Counted, ChunkEnd, Unbounded, Over}
+use Rattle.pp_framing.specs.declared.place.Place.TheVariants.{ChunkStart, Size, Blanks, Extension, SizeReturn, Chunk, ChunkEnd, ChunkReturn, TrailerStart, Trailer, TrailerReturn, LastReturn, Counted, Unbounded, Over, Wrong}
 
 -- one byte, and not the last
 read_from-Chunk-cons : (left b : ℕ) (text : List ℕ) → 1 < left → read_from (Chunk left) (b ∷ text) ≡ behind (b ∷ []) (read_from (Chunk (left - 1)) text)
@@ -63,3 +65,51 @@ reads_both start mid last bytes h r within room head run more =
     head more ∙ ap (read_from mid) parts ∙ run (take r rest) (drop r rest ++ more) taken
     ∙ ap (λ x. behind x (read_from last (drop r rest ++ more))) range
     ∙ ap (λ x. behind (slice_range bytes h (h + r)) (read_from last (x ++ more))) behind_run
+
+-- no byte makes a body one that the end of the connection ends
+bounded : (t : Bool) (p q : Place) → is_unbounded p ≡ false → is_unbounded q ≡ false → is_unbounded (elim t [ true ↦ p | false ↦ q ]) ≡ false
+bounded true p q first second = first
+bounded false p q first second = second
+
+bounded_data : (size : ℕ) → is_unbounded (data_of size) ≡ false
+bounded_data size = bounded (size == 0) (TrailerStart 0) (Chunk size) refl refl
+
+bounded_line : (size b : ℕ) → is_unbounded (chunk_line size b) ≡ false
+bounded_line size b =
+    bounded (b == 10) (data_of size) (elim (b == 13) [ true ↦ SizeReturn size | false ↦ elim (b == 59) [ true ↦ Extension 0 size | false ↦ elim (is_blank b) [ true ↦ Blanks size | false ↦ Wrong ] ] ]) (bounded_data size)
+    (bounded (b == 13) (SizeReturn size) (elim (b == 59) [ true ↦ Extension 0 size | false ↦ elim (is_blank b) [ true ↦ Blanks size | false ↦ Wrong ] ]) refl
+    (bounded (b == 59) (Extension 0 size) (elim (is_blank b) [ true ↦ Blanks size | false ↦ Wrong ]) refl (bounded (is_blank b) (Blanks size) Wrong refl refl)))
+
+bounded_digit : (digit : Option ℕ) (found : ℕ → Place) (none : Place) → ((d : ℕ) → is_unbounded (found d) ≡ false) → is_unbounded none ≡ false → is_unbounded (elim digit [ Some d ↦ found d | None ↦ none ]) ≡ false
+bounded_digit (Some d) found none first second = first d
+bounded_digit None found none first second = second
+
+bounded_trailer : (len b : ℕ) (at_feed at_return : Place) → is_unbounded at_feed ≡ false → is_unbounded at_return ≡ false
+    → is_unbounded (elim (b == 10) [ true ↦ at_feed | false ↦ elim (b == 13) [ true ↦ at_return | false ↦ trailer_byte len (Trailer (len + 1)) ] ]) ≡ false
+bounded_trailer len b at_feed at_return first second =
+    bounded (b == 10) at_feed (elim (b == 13) [ true ↦ at_return | false ↦ trailer_byte len (Trailer (len + 1)) ]) first
+    (bounded (b == 13) at_return (trailer_byte len (Trailer (len + 1))) second (bounded (nat_le (len + 2) 16384) (Trailer (len + 1)) Wrong refl refl))
+
+pub is_unbounded-step : (place : Place) (b : ℕ) → is_unbounded (step place b) ≡ is_unbounded place
+is_unbounded-step ChunkStart b = bounded_digit (hex_digit b) (λ d. Size 1 d) Wrong (λ d. refl) refl
+is_unbounded-step (Size digits size) b =
+    bounded_digit (hex_digit b) (λ d. elim (nat_lt digits 16) [ true ↦ Size (digits + 1) (size * 16 + d) | false ↦ Wrong ]) (chunk_line size b)
+    (λ d. bounded (nat_lt digits 16) (Size (digits + 1) (size * 16 + d)) Wrong refl refl) (bounded_line size b)
+is_unbounded-step (Blanks size) b = bounded_line size b
+is_unbounded-step (Extension len size) b =
+    bounded (b == 10) (data_of size) (elim (b == 13) [ true ↦ SizeReturn size | false ↦ elim (nat_lt len 4096) [ true ↦ Extension (len + 1) size | false ↦ Wrong ] ]) (bounded_data size)
+    (bounded (b == 13) (SizeReturn size) (elim (nat_lt len 4096) [ true ↦ Extension (len + 1) size | false ↦ Wrong ]) refl (bounded (nat_lt len 4096) (Extension (len + 1) size) Wrong refl refl))
+is_unbounded-step (SizeReturn size) b = bounded (b == 10) (data_of size) Wrong (bounded_data size) refl
+is_unbounded-step (Chunk left) b = bounded (left == 1) ChunkEnd (Chunk (left - 1)) refl refl
+is_unbounded-step ChunkEnd b = bounded (b == 10) ChunkStart (elim (b == 13) [ true ↦ ChunkReturn | false ↦ Wrong ]) refl (bounded (b == 13) ChunkReturn Wrong refl refl)
+is_unbounded-step ChunkReturn b = bounded (b == 10) ChunkStart Wrong refl refl
+is_unbounded-step (TrailerStart len) b = bounded_trailer len b Over LastReturn refl refl
+is_unbounded-step (Trailer len) b = bounded_trailer len b (TrailerStart (len + 1)) (trailer_byte len (TrailerReturn (len + 1))) refl (bounded (nat_le (len + 2) 16384) (TrailerReturn (len + 1)) Wrong refl refl)
+is_unbounded-step (TrailerReturn len) b = bounded (b == 10) (TrailerStart (len + 1)) Wrong refl refl
+is_unbounded-step LastReturn b = bounded (b == 10) Over Wrong refl refl
+is_unbounded-step (Counted left) b = bounded (left == 1) Over (Counted (left - 1)) refl refl
+is_unbounded-step Unbounded b = refl
+is_unbounded-step Over b = refl
+is_unbounded-step Wrong b = refl
+
+pub ruleset kinds = (is_unbounded-step)

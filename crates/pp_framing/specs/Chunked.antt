@@ -1,7 +1,7 @@
 -- The chunked coding, on whole texts (RFC 2616, section 3.6.1).
 use Rattle.std.specs.Prelude.{ℕ, zero, suc, ◌+◌, ◌-◌, Bool, true, false, ◌==◌, ◌&&◌, ◌||◌, not, nat_lt, nat_le, List, [], ◌∷◌, length, take, drop}
 use Rattle.std.specs.Char.{is_digit}
-use Rattle.pp_text.specs.Bytes.{skip_blanks}
+use Rattle.pp_text.specs.Bytes.{is_blank}
 use Rattle.pp_text.specs.Numbers.{value_of}
 use Rattle.pp_framing.specs.Body.{Body, Done, Going, Bad, no_data, behind}
 
@@ -60,7 +60,7 @@ chunk_size text = value_of 16 (front is_hex text)
 abbrev pub chunk_line : List ℕ → Piece
 chunk_line [] = Unfinished
 chunk_line (b ∷ text) = elim (is_hex b && nat_le (length (front is_hex (b ∷ text))) 16) [
-  | true ↦ size_end (skip_blanks (past is_hex (b ∷ text)))
+  | true ↦ size_end (past is_blank (past is_hex (b ∷ text)))
   | false ↦ Absent
 ]
 

@@ -132,6 +132,11 @@ ending_of Over = Whole
 ending_of Unbounded = Whole
 ending_of place = Short
 
+-- the end of the connection ends the body
+abbrev pub is_unbounded : Place → Bool
+is_unbounded Unbounded = true
+is_unbounded place = false
+
 -- a run of data is over, or the body is
 abbrev pub is_pause : Place → Bool
 is_pause ChunkEnd = true

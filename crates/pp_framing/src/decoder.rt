@@ -1,7 +1,7 @@
 // One body under its rule, fed in pieces of any size.
 ghost use Rattle.std.specs.Prelude.{◌≡◌, ℕ, ◌+◌, ◌-◌, ◌<◌, ◌≤◌, true, false, List, ◌++◌, length, drop, slice_range, min, IsTrue};
-ghost use Rattle.pp_framing.specs.Body.{behind};
-ghost use Rattle.pp_framing.specs.Places.{first_place, state_of, ending_of, is_framing, is_pause, read_from};
+ghost use Rattle.pp_framing.specs.Body.{behind, Bad};
+ghost use Rattle.pp_framing.specs.Places.{first_place, state_of, ending_of, is_framing, is_pause, is_unbounded, read_from};
 ghost use Rattle.pp_framing.specs.Rules.{body_of};
 ghost use Rattle.pp_framing.specs.Sound.{IsSound};
 ghost use Rattle.pp_framing.specs.declared.body.BodyState.TheVariants.{Going};
@@ -33,6 +33,7 @@ impl Decoder {
     pub fn new(rule: BodyRule) -> Decoder
         ensures place { result ≡ first_place rule }
         ensures exact { (text : List ℕ) → read_from result text ≡ body_of rule text }
+        ensures bad { (text more : List ℕ) → (body_of rule text).outcome ≡ Bad → (body_of rule (text ++ more)).outcome ≡ Bad }
     {
         Decoder {
             place: Place::first(rule),
@@ -56,6 +57,9 @@ impl Decoder {
 
         // Whatever comes behind these bytes: the body is the data that were taken and what the rest gives.
         ensures reads { (more : List ℕ) → read_from self.old (bytes.now ++ more) ≡ behind (slice_range bytes.now result.body.0 result.body.1) (read_from self.new (drop result.used bytes.now ++ more)) }
+
+        // Whether the end of the connection ends the body stays as it was.
+        ensures kind { is_unbounded self.new ≡ is_unbounded self.old }
 
         // It goes on, and stops before the end of the bytes only where a run of data or the body is over.
         ensures goes_on { state_of self.old ≡ Going → 0 < length bytes.now → 0 < result.used }
@@ -87,6 +91,7 @@ struct Stretch {
 }
 
 /// The bytes of framing at the front.
+#[tactic(auto, using(crate::proofs::DecoderLemmas::kinds))]
 fn framing(start: Place, bytes: &[u8]) -> Stretch
     requires { IsSound start }
     ensures within { result.used ≤ length bytes.now }
@@ -94,6 +99,7 @@ fn framing(start: Place, bytes: &[u8]) -> Stretch
     ensures reads { (more : List ℕ) → read_from start (bytes.now ++ more) ≡ read_from result.place (drop result.used bytes.now ++ more) }
     ensures goes_on { is_framing start ≡ true → 0 < length bytes.now → 0 < result.used }
     ensures same { is_framing start ≡ false → result.place ≡ start }
+    ensures kind { is_unbounded result.place ≡ is_unbounded start }
     ensures ends { result.used < length bytes.now → is_framing result.place ≡ false }
 {
     let mut place = start;
@@ -117,6 +123,7 @@ fn data_run(start: Place, there: usize) -> Stretch
     ensures reads { (run more : List ℕ) → length run ≡ result.used → read_from start (run ++ more) ≡ behind run (read_from result.place more) }
     ensures goes_on { is_framing start ≡ false → state_of start ≡ Going → 0 < there → 0 < result.used }
     ensures pauses { is_framing start ≡ false → result.used < there → IsTrue (is_pause result.place) }
+    ensures kind { is_unbounded result.place ≡ is_unbounded start }
     ensures framing { is_framing start ≡ true → (result.used ≡ 0) × (result.place ≡ start) }
 {
     match start {

@@ -11,7 +11,9 @@
 
 mod body; // what a decoder answers
 mod decoder; // one body under its rule
+mod framing; // from a head to its rule
 mod place; // where in a body a decoder is, byte by byte
 
 pub use body::{BodyRule, BodyState, Ending, Fed};
 pub use decoder::Decoder;
+pub use framing::{FramingFault, request_rule, rule};
