@@ -1,0 +1,9 @@
+pub mod Owned
+pub mod Changes
+pub mod Joins
+pub mod Agreement
+pub mod Runs
+pub mod Foreign
+pub mod Map
+pub mod Pieces
+pub mod AddingSteps

@@ -1,0 +1,4 @@
+pub mod Adding
+pub mod Cells
+pub mod Holes
+pub mod Places
