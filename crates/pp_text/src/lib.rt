@@ -31,3 +31,6 @@ pub use items::Items;
 pub use numbers::{read_hex, read_u64};
 pub use octets::{Octets, OutOfMemory};
 pub use parts::{cut, sole_value};
+
+#[cfg(test)]
+mod tests; // worked examples
