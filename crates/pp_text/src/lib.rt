@@ -15,6 +15,7 @@ mod decimal; // numbers written as text
 mod field_items; // the items of the comma lists of all fields of a name
 mod field_values; // the values of the fields of a name
 mod fields; // the fields of a head, over its text
+mod forwarding; // fields that a proxy does not forward
 mod items; // the items of a comma list
 mod numbers; // numbers read from text
 mod octets; // owned bytes
@@ -27,10 +28,11 @@ pub use decimal::put_u64;
 pub use field_items::FieldItems;
 pub use field_values::FieldValues;
 pub use fields::{FieldSpan, Fields};
+pub use forwarding::is_forwarded;
 pub use items::Items;
 pub use numbers::{read_hex, read_u64};
 pub use octets::{Octets, OutOfMemory};
-pub use parts::{cut, sole_value};
+pub use parts::{cut, sole_item, sole_value};
 
 #[cfg(test)]
 mod tests; // worked examples
