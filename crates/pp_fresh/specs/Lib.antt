@@ -1,0 +1,6 @@
+pub mod Age
+pub mod Dates
+pub mod Directives
+pub mod Joining
+pub mod Lifetime
+pub mod Ready
