@@ -1,5 +1,5 @@
 -- The fields of a head of the grammar, as names and values.
-use Rattle.std.proofs.Common.{◌≡◌, ℕ, ◌+◌, ◌≤◌, Bool, true, false, cond, List, [], ◌∷◌, ◌++◌, length, map, reverse, refl, sym, ap, ◌∙◌, subst, arith, length-append, flat_map}
+use Rattle.std.proofs.Common.{◌≡◌, ℕ, ◌+◌, ◌≤◌, Bool, true, false, List, [], ◌∷◌, ◌++◌, length, map, reverse, refl, sym, ap, ◌∙◌, subst, arith, length-append, flat_map}
 use Rattle.std.specs.Prelude.{All, sum_by}
 use Rattle.std.proofs.lemmas.List.{reverse-append, reverse-reverse, length-reverse}
 use Rattle.std.proofs.lemmas.List.Sums.{sum_by-cons}
@@ -39,9 +39,9 @@ skip_is : (xs : List ℕ) → IsSkip xs (skip_blanks xs)
 skip_is [] = record { front = []; whole = refl; again = refl }
 skip_is (b ∷ xs) = by (is_blank b) refl (skip_is xs)
   where
-    by : (v : Bool) → is_blank b ≡ v → IsSkip xs (skip_blanks xs) → IsSkip (b ∷ xs) (cond v (skip_blanks xs) (b ∷ xs))
-    by true is s = record { front = b ∷ s.front; whole = ap (λ (t : List ℕ). b ∷ t) s.whole; again = s.again }
-    by false is s = record { front = []; whole = refl; again = skip_blanks-other b xs is }
+    by : (v : Bool) → is_blank b ≡ v → IsSkip xs (skip_blanks xs) → IsSkip (b ∷ xs) (skip_blanks (b ∷ xs))
+    by true is s = subst (IsSkip (b ∷ xs)) (sym (skip_blanks-first b xs is)) (record { front = b ∷ s.front; whole = ap (λ (t : List ℕ). b ∷ t) s.whole; again = s.again })
+    by false is s = subst (IsSkip (b ∷ xs)) (sym (skip_blanks-other b xs is)) (record { front = []; whole = refl; again = skip_blanks-other b xs is })
 
 -- a front of what begins with no blank begins with none
 skip_front : (xs ys : List ℕ) → skip_blanks (xs ++ ys) ≡ xs ++ ys → skip_blanks xs ≡ xs

@@ -81,7 +81,7 @@ response_lines text h rest reads =
     (after_start (print_blank h.blank ++ (print_version h.minor ++ 32 ∷ (h.digits ++ print_reason h.reason))) h.line_end h.last h.fields rest)
   where
     start_of : (a b c d e : List ℕ) → a ++ (b ++ 32 ∷ (c ++ (d ++ e))) ≡ (a ++ (b ++ 32 ∷ (c ++ d))) ++ e
-    start_of a b c d e = simp (append_assoc, cons-append)
+    start_of a b c d e = simp append_assoc
 
 -- ---- what reaches a limit
 

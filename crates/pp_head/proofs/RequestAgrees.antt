@@ -1,11 +1,11 @@
 -- `request_at` is the grammar's answer and the only one, and more bytes leave it.
-use Rattle.std.proofs.Common.{◌≡◌, ℕ, ◌+◌, ◌≤◌, ◌⊎◌, Bool, true, false, List, [], ◌∷◌, ◌++◌, length, refl, sym, ap, ◌∙◌, subst, arith, append_assoc, append-nil, length-append, inl, inr, flat_map}
+use Rattle.std.proofs.Common.{◌≡◌, ◌<◌, ℕ, ◌+◌, ◌≤◌, ◌⊎◌, Bool, true, false, List, [], ◌∷◌, ◌++◌, length, refl, sym, ap, ◌∙◌, subst, arith, append_assoc, append-nil, length-append, inl, inr, flat_map, take, drop}
 use Rattle.std.specs.Prelude.{IsUtf8}
 use Rattle.std.specs.Str.{is_utf8, chars}
 use lib.Utf8.{encode}
 use Rattle.std.proofs.lemmas.Str.{IsUtf8-from_is_utf8}
 use Rattle.std.proofs.lemmas.Bool.{both_ways}
-use Rattle.std.proofs.lemmas.List.{length-map}
+use Rattle.std.proofs.lemmas.List.{length-map, length-take, take-append-drop}
 use Rattle.std.proofs.lemmas.List.Elements.{All-nil, All-cons, All-head, All-tail}
 use Rattle.httparse.specs.Grammar.{is_uri_byte, AllPass, IsToken, LineEnd, lf, print_end, print_blank, print_version, print_section, print_field, RequestHead as Head, print_request, ReadsRequest, NeverHasRequest, EndsInTarget}
 use Rattle.httparse.specs.Spans.{name_and_value}
@@ -13,9 +13,10 @@ use Rattle.httparse.proofs.PieceLemmas.{Never_elim, NotYet_elim}
 use Rattle.httparse.proofs.GrammarLemmas.{request_unique, ReadsRequest-append, print_request-append, cons-append}
 use Rattle.pp_head.specs.Limits.{is_limit_reached, IsLimitReached}
 use Rattle.pp_head.specs.Step.{Step, Done, Short, Wrong}
-use Rattle.pp_head.specs.Read.{Read, Whole, TooLong, Bad, More, read_by, Stays}
+use Rattle.pp_head.specs.Read.{Read, Whole, TooLong, Bad, More, read_by, Stays, IsCutAt}
 use Rattle.pp_head.specs.Request.{Request, find_request, is_within, request_of, request_at}
 use Rattle.pp_head.specs.Agreement.{BeginsWithRequest, IsRequestRead, IsRequestExact, IsRequestWithin}
+use Rattle.pp_head.proofs.SpanLemmas.{take_front}
 use Rattle.pp_head.proofs.LimitLemmas.{within_limits, is_within-true, limit_reached, is_limit_reached-true, request_lines, reached_by, request_ends, seam, ends_before, reached-append}
 use Rattle.pp_head.proofs.FieldLemmas.{fields_text, fields_len-le}
 use Rattle.pp_head.proofs.RequestLemmas.{RequestTells, find_request_tells, in_target_short}
@@ -197,3 +198,31 @@ stays_by bytes More read = tt
 
 pub request_stays : (bytes : List ℕ) → Stays request_at bytes (request_at bytes)
 request_stays bytes = stays_by bytes (request_at bytes) (request_holds bytes)
+
+-- ---- where a whole head is cut
+
+request_enough : (bytes : List ℕ) (r : Request) → IsRequestRead bytes (Whole r) → request_at (take r.length bytes) ≡ Whole r
+request_enough bytes r (h, begins, e) =
+    let own = take_front bytes (print_request h) begins.rest r.length begins.reads.1 (ap (λ (q : Request). q.length) e) in
+    sym (request_only (take r.length bytes) (Whole r) (h, record { rest = []; reads = (begins.reads.0, own ∙ sym (append-nil (print_request h))); limits = begins.limits }, e))
+
+fewer_by : (bytes : List ℕ) (r : Request) (n : ℕ) → n < r.length → request_at bytes ≡ Whole r → (a : Read Request) → request_at (take n bytes) ≡ a
+    → Stays request_at (take n bytes) a → a ≡ More
+fewer_by bytes r n less is (Whole q) before stays =
+    let more : request_at bytes ≡ Whole q = ap request_at (sym (take-append-drop n bytes)) ∙ stays (drop n bytes) in
+    let same : q ≡ r = cc (more, is) in
+    absurd (omega (arith, less, (request_within (take n bytes) q before).within, length-take n bytes, ap (λ (p : Request). p.length) same))
+fewer_by bytes r n less is TooLong before stays =
+    let more : request_at bytes ≡ TooLong = ap request_at (sym (take-append-drop n bytes)) ∙ stays (drop n bytes) in absurd (cc (more, is))
+fewer_by bytes r n less is Bad before stays = by (is_limit_reached (take n bytes ++ drop n bytes)) (ap request_at (sym (take-append-drop n bytes)) ∙ stays (drop n bytes))
+  where
+    by : (v : Bool) → request_at bytes ≡ elim v as (λ _. Read Request) [ true ↦ TooLong | false ↦ Bad ] → ◌≡◌ {A = Read Request} Bad More
+    by true more = absurd (cc (more, is))
+    by false more = absurd (cc (more, is))
+fewer_by bytes r n less is More before stays = refl
+
+pub request_cut : (bytes : List ℕ) (r : Request) → request_at bytes ≡ Whole r → IsCutAt request_at bytes r.length r
+request_cut bytes r is = record {
+  enough = request_enough bytes r (subst (IsRequestRead bytes) is (request_holds bytes));
+  fewer = λ n less. fewer_by bytes r n less is (request_at (take n bytes)) refl (request_stays (take n bytes));
+}

@@ -7,7 +7,7 @@ use Rattle.httparse.specs.declared.spans.HeaderSpan.{HeaderSpan}
 use Rattle.httparse.specs.declared.spans.RequestSpans.{RequestSpans}
 use Rattle.pp_text.specs.declared.fields.FieldSpan.{FieldSpan}
 use Rattle.pp_head.specs.Limits.{is_within_limits, is_limit_reached, IsLimitReached}
-use Rattle.pp_head.specs.Read.{Whole, TooLong, Bad, More}
+use Rattle.pp_head.specs.Read.{Whole, TooLong, Bad, More, IsCutAt}
 use Rattle.pp_head.specs.Request.{request_of, request_at}
 use Rattle.pp_head.specs.Agreement.{IsRequestWithin}
 use Rattle.pp_head.specs.Shown.{state_of, IfWhole, shown_request, field_span, spanned_request, AreRequestSpans}
@@ -15,7 +15,7 @@ use Rattle.pp_head.specs.declared.state.HeadState.{HeadState}
 use Rattle.pp_head.specs.declared.state.HeadState.TheVariants.{Whole as IsWhole, TooLong as IsTooLong, Bad as IsBad, More as IsMore}
 use Rattle.pp_head.specs.declared.request.RequestHead.{RequestHead}
 use Rattle.pp_head.proofs.LimitLemmas.{within_limits, limit_reached, is_limit_reached-true}
-use Rattle.pp_head.proofs.RequestAgrees.{request_only, request_too_long, never_has, request_within}
+use Rattle.pp_head.proofs.RequestAgrees.{request_only, request_too_long, never_has, request_within, request_cut}
 use Rattle.pp_head.proofs.SpanLemmas.{take_front, fields_count, spans_cover, fields_within, within_len}
 
 -- the test of the limits is that of the head
@@ -73,3 +73,10 @@ shown_within bytes (IsWhole head) is = request_within bytes (shown_request head)
 shown_within bytes IsTooLong is = tt
 shown_within bytes IsBad is = tt
 shown_within bytes IsMore is = tt
+
+pub shown_cut : (bytes : List ℕ) (state : HeadState RequestHead) → state_of shown_request state ≡ request_at bytes
+    → IfWhole state (λ head. IsCutAt request_at bytes head.length (shown_request head))
+shown_cut bytes (IsWhole head) is = request_cut bytes (shown_request head) (sym is)
+shown_cut bytes IsTooLong is = tt
+shown_cut bytes IsBad is = tt
+shown_cut bytes IsMore is = tt

@@ -1,21 +1,22 @@
 -- `response_at` is the grammar's answer and the only one, and more bytes leave it.
-use Rattle.std.proofs.Common.{◌≡◌, ℕ, ◌+◌, ◌<◌, ◌≤◌, Bool, true, false, List, [], ◌∷◌, ◌++◌, length, refl, sym, ap, ◌∙◌, subst, arith, append_assoc, append-nil, length-append, flat_map}
+use Rattle.std.proofs.Common.{◌≡◌, ℕ, ◌+◌, ◌<◌, ◌≤◌, Bool, true, false, List, [], ◌∷◌, ◌++◌, length, refl, sym, ap, ◌∙◌, subst, arith, append_assoc, append-nil, length-append, flat_map, take, drop}
 use Rattle.std.proofs.Common.{Option, Some, None}
 use Rattle.std.specs.Char.{is_ascii_digit, digit_value}
 use Rattle.std.proofs.lemmas.Str.{digit_value_digit}
 use Rattle.std.proofs.lemmas.Bool.Decides.{nat_tests}
 use Rattle.std.specs.Str.Parse.{digits_value}
 use Rattle.std.proofs.lemmas.Bool.{both_ways}
-use Rattle.std.proofs.lemmas.List.{length-map}
+use Rattle.std.proofs.lemmas.List.{length-map, length-take, take-append-drop}
 use Rattle.httparse.specs.Grammar.{AllPass, print_end, print_blank, print_version, print_reason, reason_phrase, print_section, print_field, ResponseHead as Head, print_response, ReadsResponse, NeverHasResponse}
 use Rattle.httparse.specs.Spans.{name_and_value}
 use Rattle.httparse.proofs.PieceLemmas.{Never_elim, NotYet_elim}
 use Rattle.httparse.proofs.GrammarLemmas.{response_unique, ReadsResponse-append, print_response-append}
 use Rattle.pp_head.specs.Limits.{is_limit_reached, IsLimitReached}
 use Rattle.pp_head.specs.Step.{Step, Done, Short, Wrong}
-use Rattle.pp_head.specs.Read.{Read, Whole, TooLong, Bad, More, read_by, Stays}
+use Rattle.pp_head.specs.Read.{Read, Whole, TooLong, Bad, More, read_by, Stays, IsCutAt}
 use Rattle.pp_head.specs.Response.{Response, find_response, is_within, response_of, response_at}
 use Rattle.pp_head.specs.Agreement.{BeginsWithResponse, IsResponseRead, IsResponseExact, IsResponseWithin}
+use Rattle.pp_head.proofs.SpanLemmas.{take_front}
 use Rattle.pp_head.proofs.LimitLemmas.{within_limits, is_within-true, limit_reached, is_limit_reached-true, response_lines, reached_by, response_ends, ends_before, reached-append}
 use Rattle.pp_head.proofs.FieldLemmas.{fields_text, fields_len-le, some_end}
 use Rattle.pp_head.proofs.ResponseLemmas.{ResponseTells, find_response_tells}
@@ -170,3 +171,31 @@ stays_by bytes More read = tt
 
 pub response_stays : (bytes : List ℕ) → Stays response_at bytes (response_at bytes)
 response_stays bytes = stays_by bytes (response_at bytes) (response_holds bytes)
+
+-- ---- where a whole head is cut
+
+response_enough : (bytes : List ℕ) (r : Response) → IsResponseRead bytes (Whole r) → response_at (take r.length bytes) ≡ Whole r
+response_enough bytes r (h, begins, e) =
+    let own = take_front bytes (print_response h) begins.rest r.length begins.reads.1 (ap (λ (q : Response). q.length) e) in
+    sym (response_only (take r.length bytes) (Whole r) (h, record { rest = []; reads = (begins.reads.0, own ∙ sym (append-nil (print_response h))); limits = begins.limits }, e))
+
+fewer_by : (bytes : List ℕ) (r : Response) (n : ℕ) → n < r.length → response_at bytes ≡ Whole r → (a : Read Response) → response_at (take n bytes) ≡ a
+    → Stays response_at (take n bytes) a → a ≡ More
+fewer_by bytes r n less is (Whole q) before stays =
+    let more : response_at bytes ≡ Whole q = ap response_at (sym (take-append-drop n bytes)) ∙ stays (drop n bytes) in
+    let same : q ≡ r = cc (more, is) in
+    absurd (omega (arith, less, (response_within (take n bytes) q before).within, length-take n bytes, ap (λ (p : Response). p.length) same))
+fewer_by bytes r n less is TooLong before stays =
+    let more : response_at bytes ≡ TooLong = ap response_at (sym (take-append-drop n bytes)) ∙ stays (drop n bytes) in absurd (cc (more, is))
+fewer_by bytes r n less is Bad before stays = by (is_limit_reached (take n bytes ++ drop n bytes)) (ap response_at (sym (take-append-drop n bytes)) ∙ stays (drop n bytes))
+  where
+    by : (v : Bool) → response_at bytes ≡ elim v as (λ _. Read Response) [ true ↦ TooLong | false ↦ Bad ] → ◌≡◌ {A = Read Response} Bad More
+    by true more = absurd (cc (more, is))
+    by false more = absurd (cc (more, is))
+fewer_by bytes r n less is More before stays = refl
+
+pub response_cut : (bytes : List ℕ) (r : Response) → response_at bytes ≡ Whole r → IsCutAt response_at bytes r.length r
+response_cut bytes r is = record {
+  enough = response_enough bytes r (subst (IsResponseRead bytes) is (response_holds bytes));
+  fewer = λ n less. fewer_by bytes r n less is (response_at (take n bytes)) refl (response_stays (take n bytes));
+}

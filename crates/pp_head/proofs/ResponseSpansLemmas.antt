@@ -7,7 +7,7 @@ use Rattle.httparse.specs.declared.spans.HeaderSpan.{HeaderSpan}
 use Rattle.httparse.specs.declared.spans.ResponseSpans.{ResponseSpans}
 use Rattle.pp_text.specs.declared.fields.FieldSpan.{FieldSpan}
 use Rattle.pp_head.specs.Limits.{is_within_limits, is_limit_reached, IsLimitReached}
-use Rattle.pp_head.specs.Read.{Whole, TooLong, Bad, More}
+use Rattle.pp_head.specs.Read.{Whole, TooLong, Bad, More, IsCutAt}
 use Rattle.pp_head.specs.Response.{response_of, response_at}
 use Rattle.pp_head.specs.Agreement.{IsResponseWithin}
 use Rattle.pp_head.specs.Shown.{state_of, IfWhole, shown_response, field_span, spanned_response, AreResponseSpans}
@@ -15,7 +15,7 @@ use Rattle.pp_head.specs.declared.state.HeadState.{HeadState}
 use Rattle.pp_head.specs.declared.state.HeadState.TheVariants.{Whole as IsWhole, TooLong as IsTooLong, Bad as IsBad, More as IsMore}
 use Rattle.pp_head.specs.declared.response.ResponseHead.{ResponseHead}
 use Rattle.pp_head.proofs.LimitLemmas.{within_limits, limit_reached, is_limit_reached-true}
-use Rattle.pp_head.proofs.ResponseAgrees.{response_only, response_too_long, response_within}
+use Rattle.pp_head.proofs.ResponseAgrees.{response_only, response_too_long, response_within, response_cut}
 use Rattle.pp_head.proofs.SpanLemmas.{take_front, fields_count, spans_cover, fields_within, within_len}
 
 -- the test of the limits is that of the head
@@ -69,3 +69,10 @@ shown_within bytes (IsWhole head) is = response_within bytes (shown_response hea
 shown_within bytes IsTooLong is = tt
 shown_within bytes IsBad is = tt
 shown_within bytes IsMore is = tt
+
+pub shown_cut : (bytes : List ℕ) (state : HeadState ResponseHead) → state_of shown_response state ≡ response_at bytes
+    → IfWhole state (λ head. IsCutAt response_at bytes head.length (shown_response head))
+shown_cut bytes (IsWhole head) is = response_cut bytes (shown_response head) (sym is)
+shown_cut bytes IsTooLong is = tt
+shown_cut bytes IsBad is = tt
+shown_cut bytes IsMore is = tt

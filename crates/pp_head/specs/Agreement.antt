@@ -25,6 +25,7 @@ pub record IsRequestExact (bytes : List ℕ) : Type 0 where
   pub holds : IsRequestRead bytes (request_at bytes)
   pub only : (answer : Read Request) → IsRequestRead bytes answer → answer ≡ request_at bytes
 
+-- the same of a response, in which no part waits for its end
 pub record BeginsWithResponse (bytes : List ℕ) (head : Answer) : Type 0 where
   pub rest : List ℕ
   pub reads : ReadsResponse bytes head rest
@@ -40,7 +41,7 @@ pub record IsResponseExact (bytes : List ℕ) : Type 0 where
   pub holds : IsResponseRead bytes (response_at bytes)
   pub only : (answer : Read Response) → IsResponseRead bytes answer → answer ≡ response_at bytes
 
--- what follows for a whole head
+-- ---- what follows for a whole head
 
 -- a name is a token; a value has no control byte but the tab, and no blanks at its ends
 pub record IsFieldText (field : List ℕ × List ℕ) : Type 0 where
@@ -52,6 +53,7 @@ pub record IsFieldText (field : List ℕ × List ℕ) : Type 0 where
 abbrev pub field_len : List ℕ × List ℕ → ℕ
 field_len field = length field.0 + length field.1 + 2
 
+-- within the bytes and the limits, its parts together no longer than it
 pub record IsRequestWithin (bytes : List ℕ) (request : Request) : Type 0 where
   pub some : 0 < request.length
   pub within : request.length ≤ length bytes
@@ -63,6 +65,7 @@ pub record IsRequestWithin (bytes : List ℕ) (request : Request) : Type 0 where
   pub fields : All IsFieldText request.fields
   pub texts : length request.method + length request.target + sum_by field_len request.fields ≤ request.length
 
+-- the same of a response
 pub record IsResponseWithin (bytes : List ℕ) (response : Response) : Type 0 where
   pub some : 0 < response.length
   pub within : response.length ≤ length bytes

@@ -13,11 +13,12 @@ read_end (b ∷ text) = elim (b == 10) [
   | false ↦ elim (b == 13) [ true ↦ map_step (λ _. crlf) (read_bytes (10 ∷ []) text) | false ↦ Wrong ]
 ]
 
--- "servers SHOULD ignore any empty line(s) received where a Request-Line is expected": all of them,
--- of which there are fewer than so many
+-- an empty line before others
 abbrev pub push_end : LineEnd × List LineEnd → List LineEnd
 push_end p = p.0 ∷ p.1
 
+-- "servers SHOULD ignore any empty line(s) received where a Request-Line is expected": all that are
+-- there, which are fewer than so many
 abbrev pub read_blank_within : ℕ → List ℕ → Step (List LineEnd)
 read_blank_within zero text = Short
 read_blank_within (suc n) [] = Short

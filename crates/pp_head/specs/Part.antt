@@ -1,4 +1,4 @@
--- In which part of a request line some bytes end, where each byte can be one of the grammar's.
+-- In which part of a request some bytes end (RFC 2616, section 5.1), byte by byte up to its target.
 use Rattle.std.specs.Prelude.{ℕ, Bool, true, false, ◌==◌, List, fold}
 use Rattle.httparse.specs.Grammar.{is_token_byte, is_uri_byte}
 use Rattle.pp_head.specs.declared.part.Part.{Part}

@@ -1,5 +1,5 @@
 -- What stands at the front of some bytes: a head, or why none does.
-use Rattle.std.specs.Prelude.{◌≡◌, Bool, true, false, ℕ, List, ◌++◌, ⊤}
+use Rattle.std.specs.Prelude.{◌≡◌, ◌<◌, take, Bool, true, false, ℕ, List, ◌++◌, ⊤}
 use Rattle.pp_head.specs.Limits.{is_limit_reached}
 use Rattle.pp_head.specs.Step.{Step, Done, Short, Wrong}
 
@@ -21,3 +21,8 @@ Stays reader bytes (Whole a) = (more : List ℕ) → reader (bytes ++ more) ≡ 
 Stays reader bytes TooLong = (more : List ℕ) → reader (bytes ++ more) ≡ TooLong
 Stays {A} reader bytes Bad = (more : List ℕ) → reader (bytes ++ more) ≡ elim (is_limit_reached (bytes ++ more)) as (λ _. Read A) [ true ↦ TooLong | false ↦ Bad ]
 Stays reader bytes More = ⊤
+
+-- a whole head takes so many bytes: they are enough, and no fewer are
+pub record IsCutAt {A : Type 0} (reader : List ℕ → Read A) (bytes : List ℕ) (len : ℕ) (head : A) : Type 0 where
+  pub enough : reader (take len bytes) ≡ Whole head
+  pub fewer : (n : ℕ) → n < len → reader (take n bytes) ≡ More

@@ -35,6 +35,7 @@ abbrev pub read_request_line : List ℕ → Step (List LineEnd × (List ℕ × (
 read_request_line text =
     and_then (read_blank text) (λ t. and_then (read_method t) (λ u. and_then (read_target u) (λ v. and_then (read_version v) read_end)))
 
+-- its pieces, as a head of the grammar
 abbrev pub head_from : (List LineEnd × (List ℕ × (List ℕ × (ℕ × LineEnd)))) × (List Field × LineEnd) → Head
 head_from t = record {
   blank = t.0.0;
@@ -50,6 +51,7 @@ head_from t = record {
 unfoldable pub find_request : List ℕ → Step Head
 find_request text = map_step head_from (and_then (read_request_line text) read_section)
 
+-- ours: the limits count the empty lines before it
 abbrev pub is_within : Head → Bool
 is_within h = is_within_limits (print_request h) (length h.fields)
 

@@ -38,6 +38,7 @@ abbrev pub read_status_line : List ℕ → Step (List LineEnd × (ℕ × (⊤ ×
 read_status_line text =
     and_then (read_blank text) (λ t. and_then (read_version t) (λ u. and_then (read_bytes (32 ∷ []) u) (λ v. and_then (read_code v) read_reason)))
 
+-- its pieces, as a head of the grammar
 abbrev pub head_from : (List LineEnd × (ℕ × (⊤ × ((ℕ × (ℕ × ℕ)) × (Option (List ℕ) × LineEnd))))) × (List Field × LineEnd) → Head
 head_from t = record {
   blank = t.0.0;
@@ -53,6 +54,7 @@ head_from t = record {
 unfoldable pub find_response : List ℕ → Step Head
 find_response text = map_step head_from (and_then (read_status_line text) read_section)
 
+-- ours: the limits count the empty lines before it
 abbrev pub is_within : Head → Bool
 is_within h = is_within_limits (print_response h) (length h.fields)
 

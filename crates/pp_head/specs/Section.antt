@@ -1,5 +1,5 @@
--- The fields of a head (RFC 2616, section 4.2). A line that begins with a blank is no field: ours, as
--- in RFC 7230, section 3.2.4, a head with folded lines is refused.
+-- The fields of a head (RFC 2616, section 4.2).
+-- ours: a folded line, which begins with a blank, is refused (RFC 7230, section 3.2.4, permits it).
 use Rattle.std.specs.Prelude.{ℕ, zero, suc, true, false, List, [], ◌∷◌, length}
 use Rattle.httparse.specs.Grammar.{is_token_byte, LineEnd, Field}
 use Rattle.httparse.specs.Pieces.{is_newline}
@@ -13,10 +13,11 @@ field_from p = record { name = p.0; raw = p.1.0; end = p.1.1 }
 abbrev pub read_field : List ℕ → Step Field
 read_field text = map_step field_from (and_then (read_word is_token_byte 58 text) read_text)
 
--- *( message-header CRLF ) CRLF: fewer than so many lines
+-- a field before others
 abbrev pub push_field : Field × (List Field × LineEnd) → List Field × LineEnd
 push_field p = (p.0 ∷ p.1.0, p.1.1)
 
+-- *( message-header CRLF ) CRLF, of fewer lines than so many
 abbrev pub read_fields_within : ℕ → List ℕ → Step (List Field × LineEnd)
 read_fields_within zero text = Short
 read_fields_within (suc n) [] = Short

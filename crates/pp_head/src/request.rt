@@ -1,7 +1,7 @@
 // The head of a request (RFC 2616, section 5).
 ghost use Rattle.std.specs.Prelude.{◌≡◌, length};
 ghost use Rattle.pp_head.specs.Agreement.{IsRequestExact, IsRequestWithin};
-ghost use Rattle.pp_head.specs.Read.{Stays};
+ghost use Rattle.pp_head.specs.Read.{IsCutAt, Stays};
 ghost use Rattle.pp_head.specs.Request.{request_at};
 ghost use Rattle.pp_head.specs.Shown.{state_of, IfWhole, shown_request, spanned_request, AreRequestSpans};
 
@@ -33,6 +33,7 @@ pub fn read_request<'a, 's>(
 ) -> HeadState<RequestHead<'a, 's>>
     ensures value { state_of shown_request result ≡ request_at bytes.now }
     ensures within { IfWhole result (λ head. IsRequestWithin bytes.now (shown_request head)) }
+    ensures cut { IfWhole result (λ head. IsCutAt request_at bytes.now head.length (shown_request head)) }
 
     // Of `request_at`: it is the grammar's answer, and more bytes leave it.
     ensures exact { IsRequestExact bytes.now }

@@ -1,7 +1,7 @@
 // The head of a response (RFC 2616, section 6).
 ghost use Rattle.std.specs.Prelude.{◌≡◌, length};
 ghost use Rattle.pp_head.specs.Agreement.{IsResponseExact, IsResponseWithin};
-ghost use Rattle.pp_head.specs.Read.{Stays};
+ghost use Rattle.pp_head.specs.Read.{IsCutAt, Stays};
 ghost use Rattle.pp_head.specs.Response.{response_at};
 ghost use Rattle.pp_head.specs.Shown.{state_of, IfWhole, shown_response, spanned_response, AreResponseSpans};
 
@@ -33,6 +33,7 @@ pub fn read_response<'a, 's>(
 ) -> HeadState<ResponseHead<'a, 's>>
     ensures value { state_of shown_response result ≡ response_at bytes.now }
     ensures within { IfWhole result (λ head. IsResponseWithin bytes.now (shown_response head)) }
+    ensures cut { IfWhole result (λ head. IsCutAt response_at bytes.now head.length (shown_response head)) }
 
     // Of `response_at`: it is the grammar's answer, and more bytes leave it.
     ensures exact { IsResponseExact bytes.now }

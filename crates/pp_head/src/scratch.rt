@@ -7,7 +7,8 @@ use crate::limits::MAX_FIELDS;
 use httparse::spans::{EMPTY_HEADER_SPAN, HeaderSpan};
 use pp_text::FieldSpan;
 
-/// Room for the spans of one head's fields. Each call of a reader writes over it.
+/// Room for the spans of one head's fields. Each call of a reader writes over it, and none asks what
+/// it held before.
 #[derive(Drop)]
 pub struct Scratch {
     pub(crate) headers: [HeaderSpan; MAX_FIELDS],

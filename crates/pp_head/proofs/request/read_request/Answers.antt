@@ -1,10 +1,13 @@
 use Rattle.std.proofs.Common.{◌∙◌}
 use Rattle.pp_head.proofs.RequestAgrees.{request_exact, request_stays}
-use Rattle.pp_head.proofs.RequestSpansLemmas.{shown_within}
+use Rattle.pp_head.proofs.RequestSpansLemmas.{shown_within, shown_cut}
 use Rattle.pp_head.proofs.request.read_request.Goals as goal
 
 pub returns-clause-within : goal.returns-clause-within
 returns-clause-within c = shown_within c.args.bytes.now c.show.result (c.show.ensures ∙ c.locate-located.ensures.value)
+
+pub returns-clause-cut : goal.returns-clause-cut
+returns-clause-cut c = shown_cut c.args.bytes.now c.show.result (c.show.ensures ∙ c.locate-located.ensures.value)
 
 pub returns-clause-exact : goal.returns-clause-exact
 returns-clause-exact c = request_exact c.args.bytes.now
