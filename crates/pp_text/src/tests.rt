@@ -3,7 +3,8 @@ ghost use Rattle.std.specs.Prelude.{◌≡◌, fold, length, max};
 ghost use Rattle.pp_text.specs.Fields.{list_items};
 
 use crate::{
-    FieldSpan, Fields, Items, Octets, cut, put_u64, read_hex, read_u64, same, sole_value, trim,
+    FieldSpan, Fields, Items, Octets, cut, put_u64, read_hex, read_u64, same, sole_item,
+    sole_value, trim,
 };
 use arrayvec::ArrayVec;
 use std::test::Fail;
@@ -97,6 +98,19 @@ fn a_text_is_cut_at_the_first_such_byte(rt: HostRuntime) {
     ];
     for (text, wanted) in cases {
         assert!(rt; cut(text, b'=') == wanted);
+    }
+}
+
+#[test]
+fn a_sole_item_has_no_other_beside_it(rt: HostRuntime) {
+    let cases: [(&[u8], Option<&[u8]>); 4] = [
+        (b" , 0-1,", Some(b"0-1")),
+        (b"\"a,b\"", Some(b"\"a,b\"")),
+        (b"0-1, 3-4", None),
+        (b" ,", None),
+    ];
+    for (text, wanted) in cases {
+        assert!(rt; sole_item(text) == wanted);
     }
 }
 
