@@ -23,3 +23,6 @@ pub use dates::date_of;
 pub use directives::Directives;
 pub use freshness::{is_fresh, lifetime};
 pub use reuse::{may_store, ready};
+
+#[cfg(test)]
+mod tests; // worked responses
