@@ -1,0 +1,24 @@
+//! A world in memory: it plays a script of clients, origins and the clock, and tells what happened.
+//!
+//! A `Script` is a list of cues, as that a client connects or that an origin answers, and a site of
+//! pages whose origins answer by themselves. `MemWorld` is a `Wire` over it: the same script and the
+//! same calls give the same events, so every run can be told again.
+//!
+//! To the layer above: the log that it tells is exactly what its calls did; numbers are given once;
+//! a call fails only where it was told to by its number, where a cue breaks its connection, or where
+//! a dial finds that all numbers were given. It stops telling its log only for want of memory.
+//!
+//! What a whole script leads to is for whoever writes it; nothing here knows of requests, but for
+//! the pages of the site.
+#![tactic(auto)]
+
+mod calls; // which calls fail, by their numbers
+mod memworld; // the world, as a Wire
+mod peer; // the other end of one connection
+mod record; // the log, and the connections that are open by it
+mod script; // cues and pages
+mod site; // what the origin of a page answers to an ask
+mod traffic; // all other ends, and what the cues bring to them
+
+pub use memworld::MemWorld;
+pub use script::{Cue, Page, Script};

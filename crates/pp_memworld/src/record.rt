@@ -1,0 +1,411 @@
+// The log of a world in memory, and the connections that are open by it.
+ghost use Rattle.std.specs.Prelude.{◌≡◌, ◌<◌, ◌≤◌, ◌+◌, ◌-◌, ◌^◌, ℕ, true, false, [], ◌∷◌, ◌++◌, length, take, vec_len, if◌then◌else◌, ◌==◌, ◌↔◌, IsTrue, IfOk, Some, None};
+ghost use Rattle.std.specs.Option.{option_copied};
+ghost use Rattle.pp_world.specs.Connections.{side_of};
+ghost use Rattle.pp_world.specs.Log.{Appends, Rises};
+ghost use Rattle.pp_world.specs.Wire.{by_side, close_happening, note_happening, remark_of};
+ghost use Rattle.pp_memworld.specs.Sides.{IsTied, KeepsConnections, side_at};
+
+use pp_text::{Octets, OutOfMemory};
+use pp_world::{Happening, Image, Note, Remark, Side};
+use std::alloc::Global;
+use std::collections::BTreeMap;
+
+/// The log, the sides of its open connections, and its counts.
+#[derive(Drop)]
+pub(crate) struct Record {
+    alloc: Global,
+    told: bool,
+    log: Vec<Happening>,
+    sides: BTreeMap<u64, Side>,
+    top: u64,
+    faults: u64,
+    ghost tied: { IsTied told log.items sides top faults },
+}
+
+impl Record {
+    ghost use Rattle.pp_memworld.specs.Record.{SameNumbers, Stays, Tells, one_more, record_log};
+
+    /// The record of a life that begins.
+    pub(crate) fn new(alloc: Global, image: Image) -> Result<Record, OutOfMemory>
+        ensures log { IfOk result (λ r. r.log.items ≡ Happening.Woke image ∷ []) }
+        ensures told { IfOk result (λ r. r.told ≡ true) }
+        ensures top { IfOk result (λ r. r.top ≡ 0) }
+        ensures faults { IfOk result (λ r. r.faults ≡ 0) }
+    {
+        let mut log = Vec::new(alloc);
+        match log.push(Happening::Woke(image)) {
+            Ok(()) => Ok(Record {
+                alloc,
+                told: true,
+                log,
+                sides: BTreeMap::new(alloc),
+                top: 0,
+                faults: 0,
+            }),
+            Err(_) => Err(OutOfMemory),
+        }
+    }
+
+    /// Whose this connection is, while it is open.
+    pub(crate) fn side(&self, id: u64) -> Option<Side>
+        ensures side { result ≡ side_at self.now.sides id }
+        ensures tied { self.now.told ≡ true → result ≡ side_of id self.now.log.items }
+    {
+        self.sides.get(&id).copied()
+    }
+
+    /// Something happened by which no connection came or went.
+    pub(crate) fn tell(&mut self, happening: Happening)
+        requires { KeepsConnections happening }
+        ensures tells { Tells self.old self.new happening }
+        ensures same { SameNumbers self.old self.new }
+    {
+        self.told = push(self.told, &mut self.log, happening);
+    }
+
+    /// A fault happened.
+    pub(crate) fn fail(&mut self, happening: Happening)
+        requires { KeepsConnections happening }
+        ensures tells { Tells self.old self.new happening }
+        ensures faults { self.new.faults ≡ one_more self.old.faults }
+        ensures rises { Rises (record_log self.new) self.old.faults self.new.faults }
+        ensures never_falls { self.old.faults ≤ self.new.faults }
+        ensures sides { self.new.sides ≡ self.old.sides }
+        ensures top { self.new.top ≡ self.old.top }
+    {
+        self.told = push(self.told, &mut self.log, happening);
+        self.faults = self.faults.saturating_add(1);
+    }
+
+    /// A fault happened that is not told, for want of memory.
+    fn fail_untold(&mut self)
+        ensures untold { self.new.told ≡ false }
+        ensures faults { self.new.faults ≡ one_more self.old.faults }
+        ensures rises { Rises (record_log self.new) self.old.faults self.new.faults }
+        ensures never_falls { self.old.faults ≤ self.new.faults }
+        ensures sides { self.new.sides ≡ self.old.sides }
+        ensures top { self.new.top ≡ self.old.top }
+    {
+        self.told = false;
+        self.faults = self.faults.saturating_add(1);
+    }
+
+    /// What goes on was kept; or else the log is told no more.
+    pub(crate) fn keep(&mut self, kept: Result<(), OutOfMemory>)
+        ensures { Stays self.old self.new }
+    {
+        if kept.is_err() {
+            self.told = false;
+        }
+    }
+
+    /// The log is told no more: memory for it, or for what goes on, was refused.
+    pub(crate) fn untell(&mut self)
+        ensures untold { self.new.told ≡ false }
+        ensures stays { Stays self.old self.new }
+    {
+        self.told = false;
+    }
+
+    /// The log, where it is told.
+    pub(crate) fn log(&self) -> Option<&[Happening]>
+        ensures { option_copied result ≡ record_log self.now }
+    {
+        if self.told {
+            Some(self.log.as_slice())
+        } else {
+            None
+        }
+    }
+
+    pub(crate) fn top(&self) -> u64
+        ensures { result ≡ self.now.top }
+    {
+        self.top
+    }
+
+    /// Whether this connection was dialled and is not closed.
+    pub(crate) fn is_dialled(&self, id: u64) -> bool
+        ensures { IsTrue result ↔ (side_at self.now.sides id ≡ Some Side.Origin) }
+    {
+        match self.side(id) {
+            Some(Side::Origin) => true,
+            Some(Side::Client) | None => false,
+        }
+    }
+
+    /// These bytes came.
+    pub(crate) fn hear(&mut self, id: u64, bytes: &[u8])
+        ensures told { Appends (record_log self.old) (record_log self.new) (λ l. by_side (side_of id l) (Happening.Heard id bytes.now) (Happening.Got id bytes.now)) }
+        ensures same { SameNumbers self.old self.new }
+    {
+        match Octets::copy(self.alloc, bytes) {
+            Ok(copy) => {
+                let side = self.side(id);
+                self.tell(heard(side, id, copy));
+            }
+            Err(_) => self.untell(),
+        }
+    }
+
+    /// The other side will send no more.
+    pub(crate) fn end(&mut self, id: u64)
+        ensures told { Appends (record_log self.old) (record_log self.new) (λ l. by_side (side_of id l) (Happening.HungUp id) (Happening.Ended id)) }
+        ensures same { SameNumbers self.old self.new }
+    {
+        let side = self.side(id);
+        self.tell(ended(side, id));
+    }
+
+    /// So many of these bytes were taken.
+    pub(crate) fn say(&mut self, id: u64, bytes: &[u8], count: usize)
+        requires { count ≤ length bytes.now }
+        ensures told { Appends (record_log self.old) (record_log self.new) (λ l. by_side (side_of id l) (Happening.Said id (length bytes.now) (take count bytes.now)) (Happening.Asked id (take count bytes.now))) }
+        ensures same { SameNumbers self.old self.new }
+    {
+        match Octets::copy(self.alloc, &bytes[..count]) {
+            Ok(copy) => {
+                let side = self.side(id);
+                self.tell(said(side, id, bytes.len() as u64, copy));
+            }
+            Err(_) => self.untell(),
+        }
+    }
+
+    /// A connection is lost.
+    pub(crate) fn lose(&mut self, id: u64)
+        ensures told { Appends (record_log self.old) (record_log self.new) (λ l. by_side (side_of id l) (Happening.HungUp id) (Happening.Broke id)) }
+        ensures faults { self.new.faults ≡ one_more self.old.faults }
+        ensures rises { Rises (record_log self.new) self.old.faults self.new.faults }
+        ensures never_falls { self.old.faults ≤ self.new.faults }
+        ensures top { self.new.top ≡ self.old.top }
+    {
+        let side = self.side(id);
+        self.fail(lost(side, id));
+    }
+
+    /// A dial was refused at once.
+    pub(crate) fn refuse(&mut self, host: &[u8], port: u16)
+        ensures tells { Tells self.old self.new (Happening.Undialled host.now port) }
+        ensures faults { self.new.faults ≡ one_more self.old.faults }
+        ensures rises { Rises (record_log self.new) self.old.faults self.new.faults }
+        ensures never_falls { self.old.faults ≤ self.new.faults }
+        ensures top { self.new.top ≡ self.old.top }
+    {
+        match Octets::copy(self.alloc, host) {
+            Ok(copy) => self.fail(Happening::Undialled(copy, port)),
+            Err(_) => self.fail_untold(),
+        }
+    }
+
+    /// A configuration file was read.
+    pub(crate) fn configure(&mut self, name: &[u8], text: &[u8])
+        ensures tells { Tells self.old self.new (Happening.Configured name.now (Some text.now)) }
+        ensures same { SameNumbers self.old self.new }
+    {
+        match (
+            Octets::copy(self.alloc, name),
+            Octets::copy(self.alloc, text),
+        ) {
+            (Ok(name), Ok(text)) => self.tell(Happening::Configured(name, Some(text))),
+            (Ok(_), Err(_)) | (Err(_), _) => self.untell(),
+        }
+    }
+
+    /// A configuration file could not be read.
+    pub(crate) fn misread(&mut self, name: &[u8])
+        ensures tells { Tells self.old self.new (Happening.Configured name.now None) }
+        ensures faults { self.new.faults ≡ one_more self.old.faults }
+        ensures rises { Rises (record_log self.new) self.old.faults self.new.faults }
+        ensures never_falls { self.old.faults ≤ self.new.faults }
+        ensures top { self.new.top ≡ self.old.top }
+    {
+        match Octets::copy(self.alloc, name) {
+            Ok(copy) => self.fail(Happening::Configured(copy, None)),
+            Err(_) => self.fail_untold(),
+        }
+    }
+
+    pub(crate) fn print(&mut self, bytes: &[u8])
+        ensures tells { Tells self.old self.new (Happening.Printed bytes.now) }
+        ensures same { SameNumbers self.old self.new }
+    {
+        match Octets::copy(self.alloc, bytes) {
+            Ok(copy) => self.tell(Happening::Printed(copy)),
+            Err(_) => self.untell(),
+        }
+    }
+
+    pub(crate) fn note(&mut self, note: &Note<'_>)
+        ensures tells { Tells self.old self.new (note_happening note.now) }
+        ensures same { SameNumbers self.old self.new }
+    {
+        match remark(self.alloc, note) {
+            Ok(remark) => self.tell(Happening::Noted(remark)),
+            Err(_) => self.untell(),
+        }
+    }
+
+    /// A client is accepted, and has the next number.
+    pub(crate) fn accept(&mut self) -> u64
+        requires { self.old.top < 2 ^ 64 - 1 }
+        ensures number { result ≡ self.old.top + 1 }
+        ensures tells { Tells self.old self.new (Happening.Opened result) }
+        ensures top { self.new.top ≡ result }
+        ensures faults { self.new.faults ≡ self.old.faults }
+    {
+        let id = self.top + 1;
+        let placed = place(self.told, &mut self.sides, id, Side::Client);
+        self.told = push(placed, &mut self.log, Happening::Opened(id));
+        self.top = id;
+        id
+    }
+
+    /// An origin is dialled, and has the next number.
+    pub(crate) fn dial(&mut self, host: &[u8], port: u16) -> u64
+        requires { self.old.top < 2 ^ 64 - 1 }
+        ensures number { result ≡ self.old.top + 1 }
+        ensures tells { Tells self.old self.new (Happening.Dialled result host.now port) }
+        ensures top { self.new.top ≡ result }
+        ensures faults { self.new.faults ≡ self.old.faults }
+    {
+        let id = self.top + 1;
+        let placed = place(self.told, &mut self.sides, id, Side::Origin);
+        self.told = push_dialled(placed, &mut self.log, self.alloc, id, host, port);
+        self.top = id;
+        id
+    }
+
+    /// A connection is closed.
+    pub(crate) fn close(&mut self, id: u64)
+        ensures told { Appends (record_log self.old) (record_log self.new) (close_happening id) }
+        ensures top { self.new.top ≡ self.old.top }
+        ensures faults { self.new.faults ≡ self.old.faults }
+    {
+        let side = displace(&mut self.sides, id);
+        self.told = push(self.told, &mut self.log, closed(side, id));
+    }
+}
+
+/// Whether the log is told still, after one happening more.
+fn push(told: bool, log: &mut Vec<Happening>, happening: Happening) -> bool
+    ensures told { result ≡ true → told ≡ true }
+    ensures pushed { result ≡ true → log.new.items ≡ log.old.items ++ happening ∷ [] }
+    ensures fits { vec_len log.new < 2 ^ 63 }
+{
+    let kept = log.push(happening).is_ok();
+    told && kept
+}
+
+fn push_dialled(
+    told: bool,
+    log: &mut Vec<Happening>,
+    alloc: Global,
+    id: u64,
+    host: &[u8],
+    port: u16,
+) -> bool
+    ensures told { result ≡ true → told ≡ true }
+    ensures pushed { result ≡ true → log.new.items ≡ log.old.items ++ Happening.Dialled id host.now port ∷ [] }
+{
+    match Octets::copy(alloc, host) {
+        Ok(copy) => push(told, log, Happening::Dialled(id, copy, port)),
+        Err(_) => false,
+    }
+}
+
+/// Whether the log is told still, after a connection more.
+fn place(told: bool, sides: &mut BTreeMap<u64, Side>, id: u64, side: Side) -> bool
+    ensures told { result ≡ true → told ≡ true }
+    ensures placed { result ≡ true → (q : ℕ) → side_at sides.new q ≡ (if id == q then Some side else side_at sides.old q) }
+{
+    let placed = sides.insert(id, side).is_ok();
+    told && placed
+}
+
+/// Whose the connection was, which is open no more.
+fn displace(sides: &mut BTreeMap<u64, Side>, id: u64) -> Option<Side>
+    ensures was { result ≡ side_at sides.old id }
+    ensures removed { (q : ℕ) → side_at sides.new q ≡ (if id == q then None else side_at sides.old q) }
+{
+    sides.remove(&id)
+}
+
+fn heard(side: Option<Side>, id: u64, bytes: Octets) -> Happening
+    ensures is { result ≡ by_side side (Happening.Heard id bytes) (Happening.Got id bytes) }
+    ensures keeps { KeepsConnections result }
+{
+    match side {
+        Some(Side::Client) => Happening::Heard(id, bytes),
+        Some(Side::Origin) | None => Happening::Got(id, bytes),
+    }
+}
+
+fn ended(side: Option<Side>, id: u64) -> Happening
+    ensures is { result ≡ by_side side (Happening.HungUp id) (Happening.Ended id) }
+    ensures keeps { KeepsConnections result }
+{
+    match side {
+        Some(Side::Client) => Happening::HungUp(id),
+        Some(Side::Origin) | None => Happening::Ended(id),
+    }
+}
+
+fn said(side: Option<Side>, id: u64, offered: u64, bytes: Octets) -> Happening
+    ensures is { result ≡ by_side side (Happening.Said id offered bytes) (Happening.Asked id bytes) }
+    ensures keeps { KeepsConnections result }
+{
+    match side {
+        Some(Side::Client) => Happening::Said(id, offered, bytes),
+        Some(Side::Origin) | None => Happening::Asked(id, bytes),
+    }
+}
+
+fn lost(side: Option<Side>, id: u64) -> Happening
+    ensures is { result ≡ by_side side (Happening.HungUp id) (Happening.Broke id) }
+    ensures keeps { KeepsConnections result }
+{
+    match side {
+        Some(Side::Client) => Happening::HungUp(id),
+        Some(Side::Origin) | None => Happening::Broke(id),
+    }
+}
+
+fn remark(alloc: Global, note: &Note<'_>) -> Result<Remark, OutOfMemory>
+    ensures { IfOk result (λ r. r ≡ remark_of note.now) }
+{
+    match *note {
+        Note::Taken(client, request, decision) => Ok(Remark::Taken(client, request, decision)),
+        Note::Cut(client, cause) => Ok(Remark::Cut(client, cause)),
+        Note::Kept(key, tag, len, extent) => Ok(Remark::Kept(
+            Octets::copy(alloc, key)?,
+            Octets::copy(alloc, tag)?,
+            len,
+            extent,
+        )),
+        Note::Gone(key) => Ok(Remark::Gone(Octets::copy(alloc, key)?)),
+        Note::Forgotten(key) => Ok(Remark::Forgotten(Octets::copy(alloc, key)?)),
+        Note::Evicted(key, tag, len, chunk) => Ok(Remark::Evicted(
+            Octets::copy(alloc, key)?,
+            Octets::copy(alloc, tag)?,
+            len,
+            chunk,
+        )),
+        Note::Loaded(key, tag, len, chunk) => Ok(Remark::Loaded(
+            Octets::copy(alloc, key)?,
+            Octets::copy(alloc, tag)?,
+            len,
+            chunk,
+        )),
+    }
+}
+
+fn closed(side: Option<Side>, id: u64) -> Happening
+    ensures { result ≡ by_side side (Happening.Shut id) (Happening.Dropped id) }
+{
+    match side {
+        Some(Side::Client) => Happening::Shut(id),
+        Some(Side::Origin) | None => Happening::Dropped(id),
+    }
+}
