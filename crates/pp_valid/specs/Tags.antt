@@ -26,3 +26,7 @@ is_weak_tag text = starts_with nat_eq text (codes "W/") && is_opaque_tag (drop 2
 -- the strong tag that a text is
 abbrev pub strong_tag : List ℕ → Option (List ℕ)
 strong_tag text = if is_strong_tag text then Some text else None
+
+-- opaque-tag of an entity-tag = [ weak ] opaque-tag
+abbrev pub opaque_part : List ℕ → List ℕ
+opaque_part text = if starts_with nat_eq text (codes "W/") then drop 2 text else text

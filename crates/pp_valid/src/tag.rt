@@ -1,7 +1,7 @@
 // Strong entity tags (RFC 7232, section 2.3).
 ghost use Rattle.std.specs.Prelude.{◌≡◌, ◌≤◌, ◌-◌, ◌++◌, IsTrue, length, replicate};
 ghost use Rattle.std.specs.List.{list_all};
-ghost use Rattle.pp_valid.specs.Tags.{is_tag_byte, is_opaque_tag, is_strong_tag, strong_tag};
+ghost use Rattle.pp_valid.specs.Tags.{is_tag_byte, is_opaque_tag, is_strong_tag, is_weak_tag, opaque_part, strong_tag};
 
 use std::marker::Model;
 
@@ -75,4 +75,21 @@ fn are_tag_bytes(text: &[u8]) -> bool
     ensures { result ≡ list_all is_tag_byte text.now }
 {
     text.iter().all(|b| *b == b'!' || (*b >= b'#' && *b != 127))
+}
+
+pub(crate) fn is_weak_tag(text: &[u8]) -> bool
+    ensures { result ≡ is_weak_tag text.now }
+{
+    text.starts_with(b"W/") && is_opaque_tag(&text[2..])
+}
+
+/// The text without the mark of a weak tag.
+pub(crate) fn opaque_part(text: &[u8]) -> &[u8]
+    ensures { result.now ≡ opaque_part text.now }
+{
+    if text.starts_with(b"W/") {
+        &text[2..]
+    } else {
+        text
+    }
 }
