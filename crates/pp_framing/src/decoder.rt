@@ -1,5 +1,5 @@
 // One body under its rule, fed in pieces of any size.
-ghost use Rattle.std.specs.Prelude.{◌≡◌, ℕ, ◌+◌, ◌-◌, ◌<◌, ◌≤◌, true, false, List, ◌++◌, length, drop, slice_range, min, IsTrue};
+ghost use Rattle.std.specs.Prelude.{◌≡◌, ◌≢◌, ℕ, ◌+◌, ◌-◌, ◌<◌, ◌≤◌, true, false, List, ◌++◌, length, drop, slice_range, min, IsTrue};
 ghost use Rattle.pp_framing.specs.Body.{behind, Bad};
 ghost use Rattle.pp_framing.specs.Places.{first_place, state_of, ending_of, is_framing, is_pause, is_unbounded, read_from};
 ghost use Rattle.pp_framing.specs.Rules.{body_of};
@@ -61,6 +61,9 @@ impl Decoder {
         // Whether the end of the connection ends the body stays as it was.
         ensures kind { is_unbounded self.new ≡ is_unbounded self.old }
 
+        // Behind the end of a body, and behind what begins none, nothing is taken.
+        ensures over { state_of self.old ≢ Going → result.used ≡ 0 }
+
         // It goes on, and stops before the end of the bytes only where a run of data or the body is over.
         ensures goes_on { state_of self.old ≡ Going → 0 < length bytes.now → 0 < result.used }
         ensures pauses { result.used < length bytes.now → IsTrue (is_pause self.new) }
@@ -98,7 +101,7 @@ fn framing(start: Place, bytes: &[u8]) -> Stretch
     ensures sound { IsSound result.place }
     ensures reads { (more : List ℕ) → read_from start (bytes.now ++ more) ≡ read_from result.place (drop result.used bytes.now ++ more) }
     ensures goes_on { is_framing start ≡ true → 0 < length bytes.now → 0 < result.used }
-    ensures same { is_framing start ≡ false → result.place ≡ start }
+    ensures same { is_framing start ≡ false → (result.place ≡ start) × (result.used ≡ 0) }
     ensures kind { is_unbounded result.place ≡ is_unbounded start }
     ensures ends { result.used < length bytes.now → is_framing result.place ≡ false }
 {
@@ -122,6 +125,7 @@ fn data_run(start: Place, there: usize) -> Stretch
     ensures sound { IsSound result.place }
     ensures reads { (run more : List ℕ) → length run ≡ result.used → read_from start (run ++ more) ≡ behind run (read_from result.place more) }
     ensures goes_on { is_framing start ≡ false → state_of start ≡ Going → 0 < there → 0 < result.used }
+    ensures over { state_of start ≢ Going → result.used ≡ 0 }
     ensures pauses { is_framing start ≡ false → result.used < there → IsTrue (is_pause result.place) }
     ensures kind { is_unbounded result.place ≡ is_unbounded start }
     ensures framing { is_framing start ≡ true → (result.used ≡ 0) × (result.place ≡ start) }

@@ -18,3 +18,6 @@ mod reply; // the kinds of replies
 pub use keeping::{CONTINUE, is_end_known, is_kept_open, wants_interim};
 pub use lines::TEXT_LEN;
 pub use reply::{ReplyKind, write_reply};
+
+#[cfg(test)]
+mod tests; // worked replies
