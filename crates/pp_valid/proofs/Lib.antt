@@ -1,1 +1,2 @@
 pub mod TagRoom
+pub mod LineLemmas

@@ -1,4 +1,4 @@
-// The version of a response.
+// Versions: which bytes a URL had.
 use crate::tag::Tag;
 
 /// Which bytes a URL had: two responses of one version carry parts of the same bytes (RFC 7232,

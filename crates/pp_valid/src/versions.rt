@@ -1,0 +1,126 @@
+// From the head of a response to its version (RFC 2616, section 13.5.4; RFC 7233, section 4.1).
+ghost use Rattle.std.specs.Prelude.{◌≡◌, not};
+ghost use Rattle.std.specs.List.{list_all};
+ghost use Rattle.pp_text.specs.Bytes.{is_empty};
+ghost use Rattle.pp_text.specs.Numbers.{number_of};
+ghost use Rattle.pp_valid.specs.EndToEnd.{end_to_end_values};
+ghost use Rattle.pp_valid.specs.Versions.{body_length, complete_length, forbids_storing, is_number, is_particular, length_in, total_of, version_of};
+
+use crate::content_range::{ContentRange, read_content_range};
+use crate::end_to_end::is_dropped;
+use crate::kept::has_room_for;
+use crate::tag_state::{TagState, tag_of};
+use crate::version::Version;
+use pp_fresh::Directives;
+use pp_text::{FieldValues, Fields, read_u64};
+
+/// The most bytes of a body that has a version.
+const MAX_LENGTH: u64 = 1 << 30;
+
+/// The version of a response with these fields. None where one of these does not hold, of the
+/// fields that Connection does not name:
+///
+/// - there is one ETag, and it is strong, of at most 1,024 bytes;
+/// - the status is 200 with a Content-Length, or 206 with a Content-Range `a-b/n` and the
+///   Content-Length `b - a + 1`; there is no Transfer-Encoding, and equal lengths count as one;
+/// - the whole body has at most 2^30 bytes;
+/// - Cache-Control has neither `no-store` nor `private`, and there is no Vary and no Set-Cookie;
+/// - the lines of Date, Expires and Cache-Control have at most 2,048 bytes, a Date that is missing
+///   or unreadable counting as a line of 37, and the other lines that are kept at most 16,384.
+pub fn version_of(head: &Fields<'_, '_>, status: u16) -> Option<Version>
+    ensures { result ≡ version_of head.now status }
+{
+    let TagState::Strong(tag) = tag_of(head) else {
+        return None;
+    };
+    let length = total_of(head, status)?;
+    let forbidden = forbids_storing(head) || is_particular(head);
+    if length <= MAX_LENGTH && !forbidden && has_room_for(head) {
+        Some(Version { tag, length })
+    } else {
+        None
+    }
+}
+
+fn total_of(fields: &Fields<'_, '_>, status: u16) -> Option<u64>
+    ensures { result ≡ total_of fields.now status }
+{
+    let len = body_length(fields)?;
+    match status {
+        200 => Some(len),
+        206 => complete_length(read_content_range(fields), len),
+        _ => None,
+    }
+}
+
+fn complete_length(range: Option<ContentRange>, len: u64) -> Option<u64>
+    ensures { result ≡ complete_length range len }
+{
+    match range {
+        Some(ContentRange::Span(first, last, n)) => {
+            if len > 0 && len - 1 == last.saturating_sub(first) {
+                Some(n)
+            } else {
+                None
+            }
+        }
+        Some(ContentRange::Unsatisfied(_)) | None => None,
+    }
+}
+
+fn body_length(fields: &Fields<'_, '_>) -> Option<u64>
+    ensures { result ≡ body_length fields.now }
+{
+    if fields.has(b"transfer-encoding") || is_dropped(fields, b"content-length") {
+        return None;
+    }
+    length_in(fields.values(b"content-length"))
+}
+
+fn length_in(mut values: FieldValues<'_, '_, '_>) -> Option<u64>
+    ensures { result ≡ length_in values.entry }
+{
+    let length = read_u64(values.next()?)?;
+    if are_number(values, length) {
+        Some(length)
+    } else {
+        None
+    }
+}
+
+fn are_number(mut values: FieldValues<'_, '_, '_>, n: u64) -> bool
+    ensures { result ≡ list_all (λ value. is_number n (number_of value)) values.entry }
+{
+    values.all(|value| is_number(value, n))
+}
+
+fn is_number(value: &[u8], n: u64) -> bool
+    ensures { result ≡ is_number n (number_of value.now) }
+{
+    match read_u64(value) {
+        Some(m) => m == n,
+        None => false,
+    }
+}
+
+fn forbids_storing(fields: &Fields<'_, '_>) -> bool
+    ensures { result ≡ forbids_storing fields.now }
+{
+    if is_dropped(fields, b"cache-control") {
+        return false;
+    }
+    let directives = Directives::read(fields);
+    directives.no_store || directives.private
+}
+
+fn is_particular(fields: &Fields<'_, '_>) -> bool
+    ensures { result ≡ is_particular fields.now }
+{
+    is_there(fields, b"vary") || is_there(fields, b"set-cookie")
+}
+
+fn is_there(fields: &Fields<'_, '_>, name: &[u8]) -> bool
+    ensures { result ≡ not (is_empty (end_to_end_values name.now fields.now)) }
+{
+    !is_dropped(fields, name) && fields.first(name).is_some()
+}
