@@ -11,7 +11,7 @@ use Rattle.pp_fresh.specs.declared.aging.Times.{Times}
 abbrev pub longest_guess : ℕ
 longest_guess = 1209600
 
--- "The heuristic expiration value should be no more than some fraction of the interval since that time. A
+-- "the heuristic expiration value SHOULD be no more than some fraction of the interval since that time. A
 -- typical setting of this fraction might be 10%."
 -- ours: that tenth, the most that is guessed, and 0 without a readable Last-Modified
 abbrev pub lifetime_guessed : Option ℕ → ℕ → ℕ
@@ -19,7 +19,8 @@ lifetime_guessed None date = 0
 lifetime_guessed (Some modified) date = min ((date - modified) / 10) longest_guess
 
 -- freshness_lifetime = expires_value - date_value
--- ours: 0 where the first Expires is no date, as clients "MUST treat [it] as in the past" (section 14.21)
+-- "caches MUST treat other invalid date formats, especially including the value "0", as in the past"
+-- (section 14.21); ours: of several Expires fields the first counts
 abbrev pub lifetime_by_dates : List Field → ℕ → ℕ
 lifetime_by_dates fields date = by_expires (first_value (codes "expires") fields)
   where
@@ -27,8 +28,8 @@ lifetime_by_dates fields date = by_expires (first_value (codes "expires") fields
     by_expires None = lifetime_guessed (date_of (codes "last-modified") fields) date
     by_expires (Some expires) = unwrap_or (parse_secs expires) 0 - date
 
--- "the max-age directive takes priority over Expires" (section 14.9.3), and for a shared cache s-maxage
--- over both
+-- "The max-age directive takes priority over Expires", and "for a shared cache .. the maximum age specified
+-- by this directive [s-maxage] overrides the maximum age specified by either" (section 14.9.3)
 abbrev pub lifetime_of : List Field → Times → ℕ
 lifetime_of fields times =
     let directives = directives_of fields in

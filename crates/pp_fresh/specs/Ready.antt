@@ -1,6 +1,6 @@
 -- Whether a response may be kept, and whether it may be used for a request without asking its origin
 -- (RFC 2616, sections 13.1.3, 13.4, 14.9 and 14.32).
-use Rattle.std.specs.Prelude.{ℕ, ◌-◌, Bool, false, ◌==◌, ◌&&◌, ◌||◌, not, nat_lt, List, codes, Option, Some, None}
+use Rattle.std.specs.Prelude.{ℕ, ◌+◌, Bool, false, ◌==◌, ◌&&◌, ◌||◌, not, nat_lt, List, codes, Option, Some, None}
 use Rattle.pp_text.specs.Fields.{Field, has_field, has_item}
 use Rattle.pp_fresh.specs.Age.{age_of}
 use Rattle.pp_fresh.specs.Directives.{directives_of}
@@ -23,7 +23,7 @@ is_older_than_wanted (Some most) age = nat_lt most age || (most == 0)
 -- the specified time in seconds"
 abbrev pub is_staler_than_wanted : Option ℕ → ℕ → ℕ → Bool
 is_staler_than_wanted None lifetime age = false
-is_staler_than_wanted (Some least) lifetime age = nat_lt (lifetime - age) least
+is_staler_than_wanted (Some least) lifetime age = nat_lt lifetime (age + least)
 
 -- the request wants the origin asked, of a response with this lifetime and this age
 abbrev pub asks_validation : List Field → ℕ → ℕ → Bool

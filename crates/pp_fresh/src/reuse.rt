@@ -51,5 +51,8 @@ fn is_older_than_wanted(most: Option<u64>, age: u64) -> bool
 fn is_staler_than_wanted(least: Option<u64>, lifetime: u64, age: u64) -> bool
     ensures { result ≡ is_staler_than_wanted least lifetime age }
 {
-    least.is_some_and(|least| lifetime.saturating_sub(age) < least)
+    match least {
+        Some(least) => lifetime < age || lifetime - age < least,
+        None => false,
+    }
 }
