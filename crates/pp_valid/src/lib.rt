@@ -27,3 +27,6 @@ pub use tag::Tag;
 pub use tag_state::{TagState, tag_of};
 pub use version::Version;
 pub use versions::version_of;
+
+#[cfg(test)]
+mod tests;
