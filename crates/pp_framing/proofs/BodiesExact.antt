@@ -9,8 +9,8 @@ use Rattle.pp_framing.specs.Chunked.{Found, Absent, then, front, past, is_hex, i
 use Rattle.std.proofs.Common.{◌++◌}
 use Rattle.pp_framing.specs.Body.{Bad}
 use Rattle.pp_framing.specs.declared.place.Place.{Place}
-use Rattle.pp_framing.specs.Places.{read_from, first_place, data_of, step}
-use Rattle.pp_framing.specs.Rules.{body_of}
+use Rattle.pp_framing.specs.Places.{ending_of, is_unbounded, read_from, first_place, data_of, step}
+use Rattle.pp_framing.specs.Rules.{body_of, ending_in}
 use Rattle.pp_framing.specs.declared.body.BodyRule.{BodyRule}
 use Rattle.pp_framing.specs.declared.body.BodyRule.TheVariants.{Empty, Length, Chunked, ToEnd}
 use Rattle.pp_framing.specs.declared.place.Place.TheVariants.{ChunkStart, Chunk, TrailerStart, Counted, Unbounded, Over, Wrong}
@@ -131,3 +131,27 @@ body_of-bad rule text more bad =
     ∙ read_from-bad (first_place rule) text more (ap (λ body. body.outcome) (read_from-first_place rule text) ∙ bad)
 
 pub ruleset bodies_exact = (read_from-first_place, body_of-bad)
+
+-- the end of the connection, at each place of a body by each rule
+bounded_first : (n : ℕ) → is_unbounded (first_place (Length n)) ≡ false
+bounded_first n = by_test (n == 0)
+  where
+    by_test : (t : Bool) → is_unbounded (elim t [ true ↦ Over | false ↦ Counted n ]) ≡ false
+    by_test true = refl
+    by_test false = refl
+
+pub ending_of-exact : (rule : BodyRule) (place : Place) → is_unbounded place ≡ is_unbounded (first_place rule) → ending_of place ≡ ending_in rule (read_from place []).outcome
+ending_of-exact Empty Over kind = refl
+ending_of-exact Empty Unbounded kind = cc
+ending_of-exact Empty place kind = refl
+ending_of-exact (Length n) Over kind = refl
+ending_of-exact (Length n) Unbounded kind = let no : true ≡ false = kind ∙ bounded_first n in cc
+ending_of-exact (Length n) place kind = refl
+ending_of-exact Chunked Over kind = refl
+ending_of-exact Chunked Unbounded kind = cc
+ending_of-exact Chunked place kind = refl
+ending_of-exact ToEnd Over kind = refl
+ending_of-exact ToEnd Unbounded kind = refl
+ending_of-exact ToEnd place kind = cc
+
+pub ruleset endings_exact = (ending_of-exact)

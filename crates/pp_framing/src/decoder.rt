@@ -1,9 +1,10 @@
 // One body under its rule, fed in pieces of any size.
-ghost use Rattle.std.specs.Prelude.{◌≡◌, ◌≢◌, ℕ, ◌+◌, ◌-◌, ◌<◌, ◌≤◌, true, false, List, ◌++◌, length, drop, slice_range, min, IsTrue};
+ghost use Rattle.std.specs.Prelude.{◌≡◌, ◌≢◌, ℕ, ◌+◌, ◌-◌, ◌<◌, ◌≤◌, true, false, List, [], ◌++◌, length, drop, slice_range, min, IsTrue};
 ghost use Rattle.pp_framing.specs.Body.{behind, Bad};
 ghost use Rattle.pp_framing.specs.Places.{first_place, state_of, ending_of, is_framing, is_pause, is_unbounded, read_from};
-ghost use Rattle.pp_framing.specs.Rules.{body_of};
+ghost use Rattle.pp_framing.specs.Rules.{body_of, ending_in};
 ghost use Rattle.pp_framing.specs.Sound.{IsSound};
+ghost use Rattle.pp_framing.specs.declared.body.BodyRule.{BodyRule};
 ghost use Rattle.pp_framing.specs.declared.body.BodyState.TheVariants.{Going};
 
 use crate::body::{BodyRule, BodyState, Ending, Fed};
@@ -79,8 +80,12 @@ impl Decoder {
     }
 
     /// What the end of the connection makes of the bytes so far.
+    #[tactic(auto, using(crate::proofs::BodiesExact::endings_exact))]
     pub fn end(&self) -> Ending
-        ensures { result ≡ ending_of self.now }
+        ensures place { result ≡ ending_of self.now }
+
+        // In a body by this rule: what the end makes of a text that stands as these bytes do.
+        ensures exact { (rule : BodyRule) → is_unbounded self.now ≡ is_unbounded (first_place rule) → result ≡ ending_in rule (read_from self.now []).outcome }
     {
         self.place.ending()
     }

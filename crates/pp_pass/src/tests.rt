@@ -8,6 +8,7 @@ fn each_put_is_a_chunk_and_what_is_taken_is_the_front(rt: HostRuntime) -> Result
     pass.start(true);
     assert_eq!(rt; pass.room(), 16_371);
     pass.put(b"hello");
+    assert_eq!(rt; pass.room(), 16_361);
     pass.put(b"0123456789abcdef");
     pass.finish();
     assert!(rt; pass.finished());
