@@ -1,11 +1,22 @@
 // Worked versions (RFC 2616, section 13.5.4; RFC 7233, section 4.1).
 use super::lines::{fields_at, filled, spans_of};
-use crate::{Tag, version_of};
+use crate::version_of;
+use pp_text::Fields;
 use std::test::Fail;
 
 const WHOLE: u16 = 200;
 
 const PART: u16 = 206;
+
+/// The length of the version, if its tag is this one.
+fn length_under(tag: &[u8], fields: &Fields<'_, '_>, status: u16) -> Option<u64> {
+    let version = version_of(fields, status)?;
+    if version.tag.as_slice() == tag {
+        Some(version.length)
+    } else {
+        None
+    }
+}
 
 #[test]
 fn a_version_is_a_strong_tag_and_a_known_length(rt: HostRuntime) -> Result<(), Fail> {
@@ -84,18 +95,12 @@ fn a_version_is_a_strong_tag_and_a_known_length(rt: HostRuntime) -> Result<(), F
         (304, "Content-Length: 5\n", None),
         (404, "Content-Length: 5\n", None),
     ];
-    let tag = Tag::read(b"\"x\"");
     for (status, text, wanted) in cases {
         let text = filled(rt.alloc(), "ETag: \"x\"\n", 0, text)?;
         let text = text.as_str();
         let spans = spans_of(rt.alloc(), text)?;
-        let version = version_of(&fields_at(&rt, text, &spans), status);
-        assert_eq!(rt; version.map(|version| version.length), wanted, "{text}");
-        assert_eq!(rt;
-            version.map_or(tag, |version| Some(version.tag)),
-            tag,
-            "{text}"
-        );
+        let length = length_under(b"\"x\"", &fields_at(&rt, text, &spans), status);
+        assert_eq!(rt; length, wanted, "{text}");
     }
     Ok(())
 }
