@@ -1,2 +1,4 @@
+pub mod Connection
 pub mod Found
+pub mod NetWorld
 pub mod Readiness

@@ -1,6 +1,9 @@
 // One connection: its socket, whose it is and how far it came, and what the system told of it.
-ghost use Rattle.std.specs.Prelude.{◌≡◌, ◌<◌, ◌≤◌, length, IfOk};
+ghost use Rattle.std.specs.Prelude.{◌≡◌, ◌<◌, ◌≤◌, ◌&&◌, ◌||◌, ◌==◌, false, length, IfOk};
 ghost use Rattle.pp_world.specs.Wire.{IsWithin};
+ghost use Rattle.pp_net.specs.Connection.{is_open_in, phase_heard};
+ghost use Rattle.std.specs.Bool.{OnTrue};
+ghost use Rattle.pp_net.specs.Readiness.{wakes_writer};
 
 use crate::readiness::Readiness;
 use mio::event::Event as Report;
@@ -9,6 +12,9 @@ use pp_world::Got;
 use std::io;
 use std::io::{ErrorKind, Read, Write};
 use std::net::Shutdown;
+
+/// How long a closed client may linger, in seconds.
+const LINGER_SECONDS: u64 = 5;
 
 /// How many bytes one read of a drain takes at most.
 const DRAIN_LEN: usize = 4096;
@@ -27,7 +33,7 @@ const DRAIN_READS: u32 = 64;
 pub enum Phase {
     /// A client.
     Accepted,
-    /// A closed client, up to this second. What it sends is thrown away.
+    /// A client that was closed in this second. What it sends is thrown away.
     Lingering(u64),
     /// An origin that is not reached yet.
     Dialled,
@@ -54,7 +60,10 @@ pub struct Connection {
 
 impl Connection {
     /// A client may have sent something already. Of an origin nothing is known before the system tells it.
-    pub fn new(id: u64, stream: TcpStream, phase: Phase) -> Connection {
+    pub fn new(id: u64, stream: TcpStream, phase: Phase) -> Connection
+        ensures id { result.id ≡ id }
+        ensures phase { result.phase ≡ phase }
+    {
         let readiness = match phase {
             Phase::Accepted => Readiness::UNTRIED,
             Phase::Lingering(_) | Phase::Dialled | Phase::Answered | Phase::Reached =>
@@ -68,28 +77,40 @@ impl Connection {
         }
     }
 
-    pub fn id(&self) -> u64 {
+    pub fn id(&self) -> u64
+        ensures { result ≡ self.now.id }
+    {
         self.id
     }
 
-    pub fn phase(&self) -> Phase {
+    pub fn phase(&self) -> Phase
+        ensures { result ≡ self.now.phase }
+    {
         self.phase
     }
 
     /// It has this number, and is not closed.
-    pub fn is_open(&self, id: u64) -> bool {
+    pub fn is_open(&self, id: u64) -> bool
+        ensures { result ≡ (self.now.id == id && is_open_in self.now.phase) }
+    {
         self.id == id && !matches!(self.phase, Phase::Lingering(_))
     }
 
-    pub fn is_ready(&self, direction: Direction) -> bool {
+    pub fn is_ready(&self, direction: Direction) -> bool
+        ensures read { direction ≡ Direction.Read → result ≡ self.now.readiness.read }
+        ensures write { direction ≡ Direction.Write → result ≡ self.now.readiness.write }
+    {
         match direction {
             Direction::Read => self.readiness.read,
             Direction::Write => self.readiness.write,
         }
     }
 
-    /// Keeps what the system tells. The first report of a dial that it can take bytes, failed or ended says that the dial is over.
-    pub fn hear(&mut self, report: &Report) {
+    /// Keeps what the system tells. A dial is over once the socket can take bytes, has failed or has ended.
+    pub fn hear(&mut self, report: &Report)
+        ensures phase { self.new.phase ≡ phase_heard (self.old.readiness.write || wakes_writer report.now) self.old.phase }
+        ensures id { self.new.id ≡ self.old.id }
+    {
         self.readiness.hear(report);
         if self.phase == Phase::Dialled && self.readiness.write {
             self.phase = Phase::Answered;
@@ -97,7 +118,10 @@ impl Connection {
     }
 
     /// How the dial went.
-    pub fn reach(&mut self) -> io::Result<()> {
+    pub fn reach(&mut self) -> io::Result<()>
+        ensures phase { self.new.phase ≡ Phase.Reached }
+        ensures id { self.new.id ≡ self.old.id }
+    {
         self.phase = Phase::Reached;
         match self.stream.take_error()? {
             Some(error) => Err(error),
@@ -107,7 +131,9 @@ impl Connection {
 
     pub fn read(&mut self, buf: &mut [u8]) -> io::Result<Got>
         requires { 0 < length buf.old }
-        ensures { IfOk result (IsWithin (length buf.new)) }
+        ensures within { IfOk result (IsWithin (length buf.new)) }
+        ensures phase { self.new.phase ≡ self.old.phase }
+        ensures id { self.new.id ≡ self.old.id }
     {
         match self.stream.read(buf) {
             Ok(0) => Ok(Got::End),
@@ -125,7 +151,9 @@ impl Connection {
     }
 
     pub fn write(&mut self, bytes: &[u8]) -> io::Result<usize>
-        ensures { IfOk result (λ taken. taken ≤ length bytes.now) }
+        ensures within { IfOk result (λ taken. taken ≤ length bytes.now) }
+        ensures phase { self.new.phase ≡ self.old.phase }
+        ensures id { self.new.id ≡ self.old.id }
     {
         match self.stream.write(bytes) {
             Ok(taken) => {
@@ -141,27 +169,34 @@ impl Connection {
         }
     }
 
-    /// Closes this side. True where the socket has to stay until the second `until`, at most: a client that
+    /// Closes this side, in the second `now`. True where the socket has to stay for a while: a client that
     /// sends into a closed socket is answered with a reset, and loses what it has not read yet
     /// (RFC 7230, section 6.6). Nobody waits for what an origin still sends.
-    pub fn linger(&mut self, until: u64) -> bool {
+    pub fn linger(&mut self, now: u64) -> bool
+        ensures { OnTrue result (self.new.phase ≡ Phase.Lingering now) }
+    {
         if self.phase != Phase::Accepted || self.stream.shutdown(Shutdown::Write).is_err() {
             return false;
         }
-        self.phase = Phase::Lingering(until);
+        self.phase = Phase::Lingering(now);
         !self.drain()
     }
 
-    /// It has lingered up to this second, or its peer has ended.
-    pub fn is_gone(&mut self, now: u64) -> bool {
+    /// It has lingered long enough, or its peer has ended.
+    pub fn is_gone(&mut self, now: u64) -> bool
+        ensures { OnTrue (is_open_in self.old.phase) (result ≡ false) }
+    {
         match self.phase {
-            Phase::Lingering(until) => until <= now || self.drain(),
+            Phase::Lingering(since) => now.abs_diff(since) >= LINGER_SECONDS || self.drain(),
             Phase::Accepted | Phase::Dialled | Phase::Answered | Phase::Reached => false,
         }
     }
 
     /// Throws away what the peer has sent. True where no more can come.
-    pub fn drain(&mut self) -> bool {
+    pub fn drain(&mut self) -> bool
+        ensures phase { self.new.phase ≡ self.old.phase }
+        ensures id { self.new.id ≡ self.old.id }
+    {
         let mut scratch = [0u8; DRAIN_LEN];
         for _ in 0..DRAIN_READS {
             if !self.readiness.read {

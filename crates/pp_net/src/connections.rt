@@ -67,10 +67,10 @@ impl Connections {
     fn longest_lingering(&self) -> Option<u64> {
         let mut longest = None;
         for connection in self.places.iter().flatten() {
-            if let Phase::Lingering(until) = connection.phase()
-                && longest.is_none_or(|(least, _)| until < least)
+            if let Phase::Lingering(since) = connection.phase()
+                && longest.is_none_or(|(least, _)| since < least)
             {
-                longest = Some((until, connection.id()));
+                longest = Some((since, connection.id()));
             }
         }
         longest.map(|(_, id)| id)
@@ -102,10 +102,10 @@ impl Connections {
         }
     }
 
-    /// Closes the connection of this number. A client may linger until this second.
-    pub fn close(&mut self, id: u64, until: u64) {
+    /// Closes the connection of this number, in the second `now`. A client may linger.
+    pub fn close(&mut self, id: u64, now: u64) {
         if let Some(connection) = self.get_mut(id)
-            && !connection.linger(until)
+            && !connection.linger(now)
         {
             self.empty(id);
         }

@@ -1,4 +1,7 @@
 // What is printed, and where: complaints go to standard error.
+ghost use Rattle.std.specs.Prelude.{◌≡◌, ◌||◌, nat_eq, codes};
+ghost use Rattle.std.specs.List.{starts_with};
+
 use std::io;
 
 /// Complaints begin with the program's name or with `usage:`, and go to standard error. All else goes to
@@ -11,6 +14,8 @@ pub fn print<R: Print + Eprint>(rt: &R, bytes: &[u8]) -> io::Result<()> {
     }
 }
 
-fn is_complaint(bytes: &[u8]) -> bool {
+fn is_complaint(bytes: &[u8]) -> bool
+    ensures { result ≡ (starts_with nat_eq bytes.now (codes "polipo:") || starts_with nat_eq bytes.now (codes "usage:")) }
+{
     bytes.starts_with(b"polipo:") || bytes.starts_with(b"usage:")
 }

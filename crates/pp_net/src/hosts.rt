@@ -22,8 +22,8 @@ const NAME_LEN: usize = 255;
 struct Host {
     name: ArrayString<NAME_LEN>,
     address: Option<IpAddr>,
-    /// The second from which on the answer counts no more.
-    until: u64,
+    /// The second in which it was answered.
+    since: u64,
 }
 
 #[derive(Drop)]
@@ -52,9 +52,8 @@ impl Hosts {
     }
 
     fn find(&self, name: &str, now: u64) -> Option<&Host> {
-        self.hosts
-            .iter()
-            .find(|host| now < host.until && host.name.as_str() == name)
+        self.hosts.iter().find(|host| host.name.as_str() == name
+            && now.abs_diff(host.since) < KEPT_SECONDS)
     }
 
     // In the place of the oldest answer, where all places are taken. A name that is too long is not kept.
@@ -65,11 +64,11 @@ impl Hosts {
         let host = Host {
             name,
             address,
-            until: now.saturating_add(KEPT_SECONDS),
+            since: now,
         };
         if self.hosts.len() < HOSTS {
             let _ = self.hosts.push(host);
-        } else if let Some(oldest) = self.hosts.iter_mut().min_by_key(|host| host.until) {
+        } else if let Some(oldest) = self.hosts.iter_mut().min_by_key(|host| host.since) {
             *oldest = host;
         }
     }

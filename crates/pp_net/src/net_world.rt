@@ -61,8 +61,12 @@ impl<R: Drop> Logged for NetWorld<R> {
 }
 
 impl<R: Runtime + AllocGlobal + Net> NetWorld<R> {
+    ghost use Rattle.pp_net.specs.NetWorld.{IsNew};
+
     /// A world without connections. `NoPoller` comes only where the system refused one.
-    pub fn new(rt: R) -> Result<NetWorld<R>, NetFault> {
+    pub fn new(rt: R) -> Result<NetWorld<R>, NetFault>
+        ensures { IfOk result IsNew }
+    {
         let Ok(poll) = Poll::new(&rt) else {
             return Err(NetFault::NoPoller);
         };

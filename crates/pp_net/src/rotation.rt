@@ -2,6 +2,7 @@
 //
 // Writing, reading and accepting come in turn. In each direction the connection in the place after the one
 // that was served last comes first, in whatever order the wanted connections are named.
+ghost use Rattle.std.specs.Prelude.{◌≡◌};
 
 /// What is tried first.
 #[derive(Clone, Copy, Debug, PartialEq, Eq)]
@@ -38,7 +39,10 @@ impl Rotation {
     };
 
     /// Whose turn it is, and with the next call that of the next.
-    pub fn pass(&mut self) -> Turn {
+    pub fn pass(&mut self) -> Turn
+        ensures turn { result ≡ self.old.turn }
+        ensures places { self.new ≡ record self.old { turn = self.new.turn } }
+    {
         let turn = self.turn;
         self.turn = turn.next();
         turn

@@ -18,9 +18,6 @@ use std::time::Duration;
 /// After so many events the system is asked again, though more are known.
 const MOST_FOUND: u32 = 256;
 
-/// How long a closed client may linger, in seconds.
-const LINGER_SECONDS: u64 = 5;
-
 /// What is left of the second that has begun.
 fn rest_of_second(now: Duration) -> Duration {
     Duration::from_millis(1000 - u64::from(now.subsec_millis()).min(1000))
@@ -184,8 +181,7 @@ impl<R: Runtime + AllocGlobal + Net> Wire for NetWorld<R> {
     }
 
     fn close(&mut self, id: u64) {
-        let until = self.second.unwrap_or(0).saturating_add(LINGER_SECONDS);
-        self.connections.close(id, until);
+        self.connections.close(id, self.second.unwrap_or(0));
     }
 
     /// Puts nothing on record: no log is told.
