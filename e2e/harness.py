@@ -64,29 +64,30 @@ def _run(function, world):
         signal.alarm(0)
 
 
+def _judge(function, world):
+    """Runs one test. Answers its verdict, and what it says beside."""
+    start = time.monotonic()
+    try:
+        _run(function, world)
+    except Skipped as missing:
+        return "skipped", f"{missing} is missing"
+    except Failed as failure:
+        return "FAILED", str(failure)
+    except Exception:
+        return "FAILED", "\n" + traceback.format_exc()
+    return "passed", f"{time.monotonic() - start:.1f} s"
+
+
 def run_all(world):
     """Runs all tests over one program. Answers how many passed, and how many failed."""
     signal.signal(signal.SIGALRM, _out_of_time)
-    passed, failed, skipped = 0, 0, []
+    counts = {"passed": 0, "FAILED": 0, "skipped": 0}
     for function in _cases:
-        name = function.__name__.replace("_", " ")
-        start = time.monotonic()
-        try:
-            _run(function, world)
-        except Skipped as missing:
-            skipped.append(str(missing))
-            print(f"skipped: {name}: {missing} is missing", flush=True)
-        except Failed as failure:
-            failed += 1
-            print(f"FAILED: {name}: {failure}", flush=True)
+        verdict, beside = _judge(function, world)
+        counts[verdict] += 1
+        print(f"{verdict}: {function.__name__.replace('_', ' ')}: {beside}", flush=True)
+        if verdict == "FAILED":
             world.restart()
-        except Exception:
-            failed += 1
-            print(f"FAILED: {name}:\n{traceback.format_exc()}", flush=True)
-            world.restart()
-        else:
-            passed += 1
-            print(f"passed: {name} ({time.monotonic() - start:.1f} s)", flush=True)
-    if skipped:
-        print(f"{len(skipped)} skipped, for want of {', '.join(sorted(set(skipped)))}")
-    return passed, failed
+    if counts["skipped"]:
+        print(f"{counts['skipped']} skipped")
+    return counts["passed"], counts["FAILED"]

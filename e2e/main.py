@@ -34,8 +34,13 @@ def main():
         return int(is_failure)
     for subject in SUBJECTS:
         importlib.import_module(subject)
-    passed, failed = harness.run_all(world)
-    world.stop()
+    try:
+        passed, failed = harness.run_all(world)
+    except harness.Failed as failure:
+        print(f"FAILED: the program cannot be started again: {failure}")
+        passed, failed = 0, 1
+    finally:
+        world.stop()
     print(f"{passed} passed, {failed} failed")
     return int(failed > 0)
 

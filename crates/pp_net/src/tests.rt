@@ -2,6 +2,7 @@
 use crate::NetWorld;
 use crate::hosts::Hosts;
 use arrayvec::ArrayVec;
+use pp_text::Octets;
 use pp_world::{CONFIG_READ_LEN, ConfigFault, Event, Got, Logged, Wants, Wire, WireFault};
 use std::cell::Cell;
 use std::io::{ErrorKind, Read, Write};
@@ -236,27 +237,24 @@ fn the_last_page_arrives_whole_though_the_client_sends_on(rt: HostRuntime) -> Re
     Ok(())
 }
 
+// What is read of a configuration file with this text.
+fn read_back(rt: &HostRuntime, text: &[u8]) -> Result<Octets, Fail> {
+    let mut world = NetWorld::new(*rt)?;
+    fs::write(rt, "polipo.conf", text)?;
+    let found = world.config(rt.alloc(), "polipo.conf");
+    fs::remove_file(rt, "polipo.conf")?;
+    Ok(found?)
+}
+
 #[test]
 fn a_configuration_is_read_up_to_its_limit(rt: HostRuntime) -> Result<(), Fail> {
-    let long = vec![in rt.alloc(); b'#'; 70_000]?;
-    fs::write(&rt, "long.conf", long.as_slice())?;
-    fs::write(&rt, "short.conf", b"proxyPort = 8124\n".as_slice())?;
+    let short = read_back(&rt, b"proxyPort = 8124\n")?;
+    assert_eq!(rt; short.as_slice(), b"proxyPort = 8124\n".as_slice());
+    let long = read_back(&rt, &[b'#'; 70_000])?;
+    assert_eq!(rt; long.as_slice().len(), CONFIG_READ_LEN);
     let mut world = NetWorld::new(rt)?;
-    match world.config(rt.alloc(), "long.conf") {
-        Ok(text) => assert_eq!(rt; text.as_slice().len(), CONFIG_READ_LEN),
-        Err(_) => panic!(rt; "not read"),
-    }
-    match world.config(rt.alloc(), "short.conf") {
-        Ok(text) => assert_eq!(rt; text.as_slice(), b"proxyPort = 8124\n".as_slice()),
-        Err(_) => panic!(rt; "not read"),
-    }
-    assert_eq!(rt; world.faults, 0);
-    assert!(rt;
-        matches!(
-            world.config(rt.alloc(), "none.conf"),
-            Err(ConfigFault::Unreadable)
-        )
-    );
+    let missing = world.config(rt.alloc(), "no.conf");
+    assert!(rt; matches!(missing, Err(ConfigFault::Unreadable)));
     assert_eq!(rt; world.faults, 1);
     Ok(())
 }
