@@ -18,6 +18,8 @@ mod peer; // the other end of one connection
 mod record; // the log, and the connections that are open by it
 mod script; // cues and pages
 mod site; // what the origin of a page answers to an ask
+#[cfg(test)]
+mod tests;
 mod traffic; // all other ends, and what the cues bring to them
 
 pub use memworld::MemWorld;

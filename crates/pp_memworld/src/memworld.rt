@@ -68,6 +68,13 @@ impl MemWorld {
         self.record.log()
     }
 
+    /// Whether a connection of this number was accepted or dialled in this life and is not closed.
+    pub fn is_open(&self, id: u64) -> bool
+        ensures { IsTrue result → Told (told_log self.now) (IsOpen id) }
+    {
+        self.record.side(id).is_some()
+    }
+
     /// Sets the text of the configuration file. Without it, it is empty.
     pub fn set_config(&mut self, text: Octets)
         ensures configuration { configuration self.new ≡ text }

@@ -71,7 +71,7 @@ impl Peer {
     }
 
     pub(crate) fn is_writable(&self) -> bool {
-        self.is_broken || self.window != Some(0)
+        self.window != Some(0)
     }
 
     pub(crate) fn apply(&mut self, change: &Change<'_>) -> Result<(), OutOfMemory> {
