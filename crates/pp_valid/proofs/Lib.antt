@@ -1,2 +1,3 @@
 pub mod TagRoom
 pub mod LineLemmas
+pub mod OnLiterals
