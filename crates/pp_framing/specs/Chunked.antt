@@ -52,11 +52,12 @@ abbrev pub size_end : List ℕ → Piece
 size_end [] = Unfinished
 size_end (b ∷ text) = elim (b == 59) [ true ↦ extension_end text | false ↦ line_end (b ∷ text) ]
 
--- chunk-size = 1*HEX; ours: at most 16 digits, so that 64 bits hold it, and blanks behind them
--- chunk-size [ chunk-extension ] CRLF
+-- chunk-size = 1*HEX
 abbrev pub chunk_size : List ℕ → ℕ
 chunk_size text = value_of 16 (front is_hex text)
 
+-- chunk-size [ chunk-extension ] CRLF; ours: at most 16 digits, so that 64 bits hold the size, and blanks
+-- behind them
 abbrev pub chunk_line : List ℕ → Piece
 chunk_line [] = Unfinished
 chunk_line (b ∷ text) = elim (is_hex b && nat_le (length (front is_hex (b ∷ text))) 16) [

@@ -1,4 +1,4 @@
--- Where in a body a reader is, and how each byte moves it: the same bodies as those of Body, read byte by byte.
+-- Where in a body a reader is, and how each byte moves it: the bodies of Rules, read byte by byte.
 use Rattle.std.specs.Prelude.{ℕ, ◌+◌, ◌-◌, ◌*◌, Bool, true, false, ◌==◌, nat_lt, nat_le, List, [], ◌∷◌, Option, Some, None}
 use Rattle.std.specs.Char.{digit_value, is_digit}
 use Rattle.pp_text.specs.Bytes.{is_blank}

@@ -3,7 +3,7 @@
 //! `rule` reads a head and says how the body is delimited. A `Decoder` for that rule is fed what
 //! follows, in pieces of any size, and answers spans of them: nothing is copied.
 //!
-//! To the layer above: however the bytes are cut, the data are those of `specs/Body.antt` on the
+//! To the layer above: however the bytes are cut, the data are those of `specs/Rules.antt` on the
 //! joined bytes, and `Bad` means that no continuation is a body.
 //!
 //! Takes no memory. Which request a body answers is for others.
