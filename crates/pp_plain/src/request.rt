@@ -1,10 +1,10 @@
 // Which requests are plain.
-ghost use Rattle.std.specs.Prelude.{◌≡◌, ◌≤◌, codes, length, option_map};
+ghost use Rattle.std.specs.Prelude.{◌≡◌, ◌≤◌, codes, length, option_map, IfSome};
 ghost use Rattle.std.specs.List.{list_all, prefix_len};
 ghost use Rattle.pp_text.specs.Fields.{is_named};
 ghost use Rattle.pp_head.specs.Shown.{shown_request};
 ghost use Rattle.pp_plain.specs.Plain.{is_host_byte, is_path, place_at, place_in, plain_request};
-ghost use Rattle.pp_plain.specs.Shown.{shown_place};
+ghost use Rattle.pp_plain.specs.Shown.{shown_place, IsShort};
 
 use pp_head::RequestHead;
 use pp_text::{Fields, same};
@@ -43,7 +43,8 @@ fn host_len(text: &[u8]) -> usize
 
 /// The host at the front, and the path behind it.
 fn split_place(text: &[u8]) -> Option<Place<'_>>
-    ensures { option_map shown_place result ≡ place_at text.now }
+    ensures value { option_map shown_place result ≡ place_at text.now }
+    ensures short { IfSome result (IsShort (length text.now)) }
 {
     let (host, path) = text.split_at(host_len(text));
     if 1 <= host.len() && (host.len() <= MAX_HOST && is_path_text(path)) {
@@ -54,7 +55,8 @@ fn split_place(text: &[u8]) -> Option<Place<'_>>
 }
 
 fn read_place(target: &[u8]) -> Option<Place<'_>>
-    ensures { option_map shown_place result ≡ place_in target.now }
+    ensures value { option_map shown_place result ≡ place_in target.now }
+    ensures short { IfSome result (IsShort (length target.now)) }
 {
     if target.starts_with(b"http://") {
         split_place(&target[7..])
@@ -77,7 +79,8 @@ fn are_hosts(fields: &Fields<'_, '_>) -> bool
 /// Where the request goes; None exactly where it is not plain: a GET of HTTP/1.1 whose only fields
 /// are Host, and whose target is `http://`, a host's name in lower case without a port, and a path.
 pub fn plain_request<'a>(request: &RequestHead<'a, '_>) -> Option<Place<'a>>
-    ensures { option_map shown_place result ≡ plain_request (shown_request request.now) }
+    ensures value { option_map shown_place result ≡ plain_request (shown_request request.now) }
+    ensures short { IfSome result (IsShort (length request.now.target.now)) }
 {
     let is_get = request.method == b"GET".as_slice();
     if is_get && (request.minor == 1 && are_hosts(&request.fields)) {

@@ -1,0 +1,5 @@
+pub mod Clients
+pub mod Keeps
+pub mod Links
+pub mod Quiet
+pub mod Stages

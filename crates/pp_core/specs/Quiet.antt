@@ -1,0 +1,17 @@
+-- What a turn adds to the log: nothing printed, and nothing of the opening.
+use Rattle.std.specs.Prelude.{◌≡◌, Bool, true, false, ◌++◌, Option, Some}
+use Rattle.std.specs.List.{list_all}
+use Rattle.pp_world.specs.declared.happening.Happening.{Happening}
+use Rattle.pp_world.specs.declared.happening.Happening.TheVariants.{Woke, Listens, Configured, Printed}
+use Rattle.pp_world.specs.Log.{Log}
+
+abbrev pub is_quiet : Happening → Bool
+is_quiet (Woke image) = false
+is_quiet (Listens port ok) = false
+is_quiet (Configured name text) = false
+is_quiet (Printed text) = false
+is_quiet happening = true
+
+-- the log that was told before is the front of the one that is told now, and only this came behind it
+pub record GrowsQuietly (old new : Option Log) : Type 0 where
+  pub was : (l : Log) → new ≡ Some l → (before : Log) × (old ≡ Some before) × ((added : Log) × (l ≡ before ++ added) × (list_all is_quiet added ≡ true))

@@ -1,0 +1,90 @@
+// Step 5: exchanges that wait for a connection, in the order in which they began.
+ghost use Rattle.std.specs.Prelude.{◌≡◌, ◌<◌, length, IfSome};
+ghost use Rattle.pp_core.specs.Links.{holds, IsLinked};
+ghost use Rattle.pp_core.specs.Quiet.{GrowsQuietly};
+
+use crate::Proxy;
+use crate::client::Client;
+use crate::stage::Stage;
+use pp_world::Wire;
+
+/// The most connections to origins at once.
+const MAX_ORIGINS: usize = 64;
+
+/// The most connections to one host at once.
+const MAX_PER_HOST: usize = 4;
+
+/// Where every origin is dialled.
+const HTTP_PORT: u16 = 80;
+
+impl Proxy {
+    /// Dials for each exchange that may have a connection.
+    #[tactic(auto, using(crate::proofs::Holding::quiet_then))]
+    pub(crate) fn place<W: Wire>(&mut self, world: &mut W)
+        requires { IsLinked (W.log world.old) (W.top world.old) (holds self.old.clients.items) }
+        ensures linked { IsLinked (W.log world.new) (W.top world.new) (holds self.new.clients.items) }
+        ensures quiet { GrowsQuietly (W.log world.old) (W.log world.new) }
+        ensures count { length self.new.clients.items ≡ length self.old.clients.items }
+    {
+        for _round in 0..self.clients.len() {
+            let Some(i) = self.next_to_place() else {
+                break;
+            };
+            self.dial(world, i);
+        }
+    }
+
+    /// The place of the client whose exchange comes first of those that may have a connection.
+    fn next_to_place(&self) -> Option<usize>
+        ensures { IfSome result (λ i. i < length self.now.clients.items) }
+    {
+        if self.origins() >= MAX_ORIGINS {
+            return None;
+        }
+        let mut first: Option<usize> = None;
+        let mut earliest = u64::MAX;
+        for (i, client) in self.clients.iter().enumerate() {
+            if let Stage::Waiting(exchange) = client.stage() {
+                let is_earlier = first.is_none() || exchange < earliest;
+                if is_earlier && self.origins_of(client.host()) < MAX_PER_HOST {
+                    first = Some(i);
+                    earliest = exchange;
+                }
+            }
+        }
+        first
+    }
+
+    fn origins(&self) -> usize {
+        self.clients
+            .iter()
+            .filter(|client| client.stage().origin().is_some())
+            .count()
+    }
+
+    fn origins_of(&self, host: &[u8]) -> usize {
+        self.clients
+            .iter()
+            .filter(|client| client.stage().origin().is_some() && client.host() == host)
+            .count()
+    }
+
+    fn dial<W: Wire>(&mut self, world: &mut W, i: usize)
+        requires place { i < length self.old.clients.items }
+        requires linked { IsLinked (W.log world.old) (W.top world.old) (holds self.old.clients.items) }
+        ensures linked { IsLinked (W.log world.new) (W.top world.new) (holds self.new.clients.items) }
+        ensures quiet { GrowsQuietly (W.log world.old) (W.log world.new) }
+        ensures count { length self.new.clients.items ≡ length self.old.clients.items }
+    {
+        match world.dial(self.clients[i].host(), HTTP_PORT) {
+            Ok(k) => {
+                let client = &mut self.clients[i];
+                client.dialled(k);
+            }
+            Err(_) => {
+                let client = &mut self.clients[i];
+                client.fail();
+            }
+        }
+    }
+}

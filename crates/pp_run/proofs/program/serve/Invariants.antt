@@ -1,0 +1,9 @@
+use Rattle.pp_core.specs.Links.{holds, IsLinked}
+use Rattle.pp_core.specs.Quiet.{GrowsQuietly}
+use Rattle.pp_run.proofs.program.serve.Given as goal
+
+abbrev pub invariant-loop-turn : goal.invariant-loop-turn
+invariant-loop-turn g l = record {
+  linked : IsLinked (g.W.Logged.log l.world) (g.W.Logged.top l.world) (holds l.proxy.clients.items);
+  quiet : GrowsQuietly (g.W.Logged.log l.fn.world) (g.W.Logged.log l.world);
+}
