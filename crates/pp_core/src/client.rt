@@ -34,6 +34,14 @@ pub(crate) enum Found {
     Plain(usize),
 }
 
+/// Whether a client may send more.
+#[derive(Clone, Copy, Debug, PartialEq, Eq)]
+enum Sending {
+    Open,
+    /// It closed its half of the connection. What it sent before is answered still.
+    Ended,
+}
+
 /// A client: its stage, and the bytes on their way in both directions.
 #[derive(Drop)]
 pub(crate) struct Client {
@@ -41,6 +49,7 @@ pub(crate) struct Client {
     // The number of the current request, from 0.
     request: u64,
     stage: Stage,
+    sending: Sending,
     // What the client sent, from the current head on.
     heard: Box<ArrayVec<u8, HEARD_LEN>>,
     // Where the current request goes.
@@ -60,6 +69,7 @@ impl Client {
             id,
             request: 0,
             stage: Stage::Reading,
+            sending: Sending::Open,
             heard: Box::new(alloc, ArrayVec::new()).map_err(AllocError::from)?,
             host: Box::new(alloc, ArrayVec::new()).map_err(AllocError::from)?,
             text: Box::new(alloc, ArrayVec::new()).map_err(AllocError::from)?,
@@ -87,6 +97,14 @@ impl Client {
         self.host.as_slice()
     }
 
+    /// Whether the client is to be read: it may send more, there is room, and it is not refused.
+    pub(crate) fn is_heard(&self) -> bool {
+        match (self.sending, self.stage) {
+            (Sending::Ended, _) | (Sending::Open, Stage::Refusing(_)) => false,
+            (Sending::Open, _) => self.room() > 0,
+        }
+    }
+
     /// How many more bytes of the client there is room for.
     pub(crate) fn room(&self) -> usize
         ensures { result + length self.now.heard.value.items ≡ HEARD_LEN }
@@ -106,8 +124,18 @@ impl Client {
         }
     }
 
+    /// The client sends no more. It is to be shut where no request waits for its reply.
+    pub(crate) fn hang_up(&mut self)
+        ensures { hold_of self.new ≡ hold_of self.old }
+    {
+        self.sending = Sending::Ended;
+        if let Stage::Reading = self.stage {
+            self.stage = Stage::Closing(None);
+        }
+    }
+
     /// What is heard begins with; of a plain request its host and its ask are kept, and where no
-    /// whole head is there the client reads on.
+    /// whole head is there the client reads on, or is to be shut where it sends no more.
     pub(crate) fn look(&mut self, scratch: &mut Scratch) -> Found
         ensures held { hold_of self.new ≡ hold_of self.old }
     {
@@ -118,7 +146,10 @@ impl Client {
             &mut self.text,
         );
         if let (Stage::Heard, Found::More) = (self.stage, found) {
-            self.stage = Stage::Reading;
+            self.stage = match self.sending {
+                Sending::Open => Stage::Reading,
+                Sending::Ended => Stage::Closing(None),
+            };
         }
         found
     }

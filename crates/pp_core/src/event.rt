@@ -137,7 +137,7 @@ impl Proxy {
             Ok(Got::NotYet) => {}
             Ok(Got::End) => {
                 let client = &mut self.clients[i];
-                client.end();
+                client.hang_up();
             }
             Err(_) => {
                 let client = &mut self.clients[i];

@@ -29,15 +29,10 @@ impl Proxy {
 }
 
 fn reads_client(client: &Client) -> Option<u64> {
-    match client.stage() {
-        Stage::Refusing(_) => None,
-        _ => {
-            if client.room() > 0 {
-                Some(client.id())
-            } else {
-                None
-            }
-        }
+    if client.is_heard() {
+        Some(client.id())
+    } else {
+        None
     }
 }
 

@@ -7,21 +7,23 @@ ghost use Rattle.pp_core.specs.Stages.{dropped_from, origin_of};
 ///
 /// ```text
 /// Reading   -> Heard      bytes came                                              [hear]
-/// Heard     -> Reading    no whole head is there                                  [read_on]
+/// Heard     -> Reading    no whole head is there                                  [look]
 /// Heard     -> Waiting    a plain request: its exchange begins                    [begin]
 /// Heard     -> Refusing   another one, or no request                              [refuse]
 /// Waiting   -> Dialled    a connection to its host was begun                      [dialled]
 /// Waiting   -> Failed     none could be begun                                     [fail]
 /// Dialled   -> Asking     the connection was reached                              [reached]
 /// Asking    -> Awaiting   the origin took the whole ask                           [asked]
-/// Awaiting  -> Passing    the head of a plain response came                       [pass]
-/// Passing   -> Finishing  and the last byte of its body                           [gain]
+/// Awaiting  -> Passing    the head of a plain response came                       [answer]
+/// Passing   -> Finishing  and the last byte of its body                           [take_got]
 /// Finishing -> Heard      all of it was said: the next request is current         [said]
 /// Dialled, Asking, Awaiting -> Failed   the connection is gone, or the response is not plain  [fail]
 /// Failed    -> Refusing   the page is begun                                       [refuse]
 /// Passing   -> Short      the connection is gone before the body was whole        [fail]
 /// Refusing  -> Closing    the page was said whole                                 [said]
-/// any       -> Closing    the client hung up, or its reply is cut                 [end]
+/// Reading   -> Closing    the client sends no more                                [hang_up]
+/// Heard     -> Closing    no whole head is there, and it sends no more            [look]
+/// any       -> Closing    the client is lost, or its reply is cut                 [end]
 /// ```
 #[derive(Clone, Copy, Debug, PartialEq, Eq)]
 pub(crate) enum Stage {
