@@ -1,0 +1,8 @@
+// Which instance is meant.
+
+/// An instance: the slot in which it stands, and its life, which no other instance ever has.
+#[derive(Clone, Copy, Debug, PartialEq, Eq)]
+pub struct ObjectId {
+    pub slot: u32,
+    pub life: u64,
+}
