@@ -1,5 +1,5 @@
 // Step 6: what the next event may be.
-ghost use Rattle.std.specs.Prelude.{◌≡◌};
+ghost use Rattle.std.specs.Prelude.{◌≡◌, length, nat_lt};
 
 use crate::Proxy;
 use crate::client::Client;
@@ -9,9 +9,9 @@ use crate::stage::Stage;
 impl Proxy {
     /// Writes down what is waited for.
     pub(crate) fn note_interests(&mut self)
-        ensures { self.new.clients.items ≡ self.old.clients.items }
+        ensures clients { self.new.clients.items ≡ self.old.clients.items }
+        ensures accept { self.new.wants.accept ≡ nat_lt (length self.old.clients.items) MAX_CLIENTS }
     {
-        self.wants.accept = self.clients.len() < MAX_CLIENTS;
         self.wants.read.clear();
         self.wants.write.clear();
         for client in &self.clients {
@@ -25,6 +25,7 @@ impl Proxy {
                 let _ = self.wants.write.try_push(id);
             }
         }
+        self.wants.accept = self.clients.len() < MAX_CLIENTS;
     }
 }
 
