@@ -1,0 +1,131 @@
+// Words, the listener, and the end.
+use crate::course::Step;
+use crate::play::{Act, Pace, Played, play, play_failing, play_with};
+use crate::texts::{GET, REPLY, RESPONSE};
+use pp_memworld::Script;
+use pp_run::Exit;
+use pp_world::{Cause, Decision, Happening};
+use std::alloc::Global;
+use std::test::Fail;
+
+#[test]
+fn without_words_and_events_it_listens_and_waits(rt: HostRuntime) -> Result<(), Fail> {
+    let played = play(rt.alloc(), Pace::Whole, &[])?;
+    assert_eq!(rt; played.exit, Exit::Served);
+    assert_eq!(rt; played.exit.status(), 0);
+    let is_told = match played.log() {
+        [
+            Happening::Woke(image),
+            Happening::Listens(8123, true),
+            Happening::Waits(wants),
+            Happening::Stopped,
+        ] => {
+            image.next_name(None).is_none()
+                && wants.accept
+                && wants.read.is_empty()
+                && wants.write.is_empty()
+        }
+        _ => false,
+    };
+    assert!(rt; is_told);
+    Ok(())
+}
+
+/// What is printed by a run that woke, printed and did nothing else.
+fn printed_alone(played: &Played) -> &[u8] {
+    match played.log() {
+        [Happening::Woke(_), Happening::Printed(text)] => text.as_slice(),
+        _ => b"",
+    }
+}
+
+fn no_script(alloc: Global) -> Script {
+    Script {
+        cues: Vec::new(alloc),
+        site: Vec::new(alloc),
+    }
+}
+
+#[test]
+fn any_word_is_refused(rt: HostRuntime) -> Result<(), Fail> {
+    let alloc = rt.alloc();
+    for word in ["proxyPort=8123", "-c", "--help", ""] {
+        let words = vec![in alloc; String::from_str(alloc, word)?]?;
+        let played = play_with(alloc, words.as_slice(), no_script(alloc), &[])?;
+        assert_eq!(rt; played.exit, Exit::Usage, "{word}");
+        assert_eq!(rt; played.exit.status(), 2, "{word}");
+        let line = b"usage: polipo [-c FILE] [-g SEED] [name=value ...]\n";
+        assert_eq!(rt; printed_alone(&played), line.as_slice(), "{word}");
+    }
+    Ok(())
+}
+
+#[test]
+fn without_its_port_it_ends(rt: HostRuntime) -> Result<(), Fail> {
+    let played = play_failing(rt.alloc(), Pace::Whole, &[Act::Connect], &[1])?;
+    assert_eq!(rt; played.exit, Exit::NoListener);
+    assert_eq!(rt; played.exit.status(), 5);
+    let printed: &[u8] = match played.log() {
+        [
+            Happening::Woke(_),
+            Happening::Listens(8123, false),
+            Happening::Printed(text),
+        ] => text.as_slice(),
+        _ => b"",
+    };
+    assert_eq!(rt; printed, b"polipo: cannot listen on port 8123\n".as_slice());
+    Ok(())
+}
+
+#[test]
+fn the_end_cuts_each_reply_that_was_begun(rt: HostRuntime) -> Result<(), Fail> {
+    let acts = [
+        Act::Connect,
+        Act::Say(1, GET),
+        Act::Window(1, 10),
+        Act::Reach(2),
+        Act::Answer(2, RESPONSE),
+        Act::Connect,
+        Act::Say(3, GET),
+        Act::Reach(4),
+        Act::Connect,
+        Act::Say(5, b"GET http"),
+        Act::Connect,
+        Act::Say(6, GET),
+        Act::Stop,
+        Act::Reach(7),
+    ];
+    let played = play(rt.alloc(), Pace::Whole, &acts)?;
+    assert_eq!(rt; played.exit, Exit::Served);
+    assert_eq!(rt; played.said(1)?.as_slice(), &REPLY[..10]);
+    let cut = [
+        Step::Opened,
+        Step::Taken(0, Decision::Pass),
+        Step::Said(10),
+        Step::Stopped,
+        Step::Cut(Cause::Stop),
+        Step::Shut,
+    ];
+    assert_eq!(rt; played.course(1)?.as_slice(), cut.as_slice());
+    assert_eq!(rt; played.count(Step::Cut(Cause::Stop)), 1);
+    assert_eq!(rt; played.count(Step::Opened), 4);
+    assert_eq!(rt; played.count(Step::Shut), 4);
+    assert_eq!(rt; played.count(Step::Dialled(80)), 3);
+    assert_eq!(rt; played.count(Step::Dropped), 3);
+    assert!(rt; is_shut_last(played.log()));
+    Ok(())
+}
+
+/// Whether closings and cuts are all that comes behind Stopped.
+fn is_shut_last(log: &[Happening]) -> bool {
+    let mut is_stopped = false;
+    let mut is_shut_last = true;
+    for happening in log {
+        match happening {
+            Happening::Stopped => is_stopped = true,
+            Happening::Shut(_) | Happening::Dropped(_) | Happening::Noted(_) => {}
+            _ => is_shut_last = is_shut_last && !is_stopped,
+        }
+    }
+    is_stopped && is_shut_last
+}

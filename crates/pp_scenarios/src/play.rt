@@ -1,0 +1,181 @@
+// What clients and origins do, and the program played against it.
+use pp_memworld::{Cue, MemWorld, Script};
+use pp_run::{Exit, run};
+use pp_text::{Octets, OutOfMemory};
+use pp_world::{Happening, Image};
+use std::alloc::{AllocError, Global};
+
+/// What happens next outside of the program. Connections have the numbers of one series from 1, in
+/// the order in which they are accepted and dialled; 0 is the client that connected last.
+#[derive(Clone, Copy, Debug)]
+pub(crate) enum Act<'a> {
+    /// A client connects.
+    Connect,
+    /// A client sends this text.
+    Say(u64, &'a [u8]),
+    /// A client will send no more.
+    HangUp(u64),
+    /// The connection takes so many bytes more, and then none.
+    Window(u64, u64),
+    /// A dialled connection is reached.
+    Reach(u64),
+    /// A dialled connection is refused.
+    Refuse(u64),
+    /// An origin sends this text.
+    Answer(u64, &'a [u8]),
+    /// An origin will send no more.
+    End(u64),
+    /// The next read or write of this connection fails.
+    Break(u64),
+    /// The program is to end.
+    Stop,
+}
+
+/// How texts come.
+#[derive(Clone, Copy, Debug, PartialEq, Eq)]
+pub(crate) enum Pace {
+    /// Each in one piece.
+    Whole,
+    /// Every byte alone.
+    Bytewise,
+}
+
+pub(crate) const PACES: [Pace; 2] = [Pace::Whole, Pace::Bytewise];
+
+/// A run of the program that ended.
+#[derive(Drop)]
+pub(crate) struct Played {
+    pub(crate) exit: Exit,
+    world: MemWorld,
+    alloc: Global,
+}
+
+/// Plays these acts, without words and without a call that fails.
+pub(crate) fn play(alloc: Global, pace: Pace, acts: &[Act<'_>]) -> Result<Played, OutOfMemory> {
+    play_failing(alloc, pace, acts, &[])
+}
+
+/// The same, where the calls of these numbers fail: reads, writes, listening and dials, from 1.
+pub(crate) fn play_failing(
+    alloc: Global,
+    pace: Pace,
+    acts: &[Act<'_>],
+    failing: &[u64],
+) -> Result<Played, OutOfMemory> {
+    play_with(alloc, &[], script_of(alloc, pace, acts)?, failing)
+}
+
+/// Runs the program with these words over this script.
+pub(crate) fn play_with(
+    alloc: Global,
+    words: &[String],
+    script: Script,
+    failing: &[u64],
+) -> Result<Played, OutOfMemory> {
+    let failing = Vec::from_slice(alloc, failing)?;
+    let mut world = MemWorld::new(alloc, script, Image::new(alloc), failing)?;
+    let exit = run(alloc, words, &mut world);
+    Ok(Played { exit, world, alloc })
+}
+
+impl Played {
+    /// What happened; nothing where the world stopped telling, so that every comparison fails.
+    pub(crate) fn log(&self) -> &[Happening] {
+        self.world.log().unwrap_or(&[])
+    }
+
+    pub(crate) fn alloc(&self) -> Global {
+        self.alloc
+    }
+
+    /// All that this client was said.
+    pub(crate) fn said(&self, c: u64) -> Result<Vec<u8>, OutOfMemory> {
+        let mut text = Vec::new(self.alloc);
+        for happening in self.log() {
+            if let Happening::Said(client, _, bytes) = happening {
+                if *client == c {
+                    text.extend_from_slice(bytes.as_slice())?;
+                }
+            }
+        }
+        Ok(text)
+    }
+
+    /// All that this origin was asked.
+    pub(crate) fn asked(&self, k: u64) -> Result<Vec<u8>, OutOfMemory> {
+        let mut text = Vec::new(self.alloc);
+        for happening in self.log() {
+            if let Happening::Asked(origin, bytes) = happening {
+                if *origin == k {
+                    text.extend_from_slice(bytes.as_slice())?;
+                }
+            }
+        }
+        Ok(text)
+    }
+}
+
+fn script_of(alloc: Global, pace: Pace, acts: &[Act<'_>]) -> Result<Script, OutOfMemory> {
+    let mut cues = Vec::new(alloc);
+    for act in acts {
+        put_cues(alloc, pace, *act, &mut cues)?;
+    }
+    Ok(Script {
+        cues,
+        site: Vec::new(alloc),
+    })
+}
+
+/// Adds the cues of an act: one, or one for each byte of its text.
+fn put_cues(
+    alloc: Global,
+    pace: Pace,
+    act: Act<'_>,
+    cues: &mut Vec<Cue>,
+) -> Result<(), OutOfMemory> {
+    match act {
+        Act::Say(c, text) => {
+            for piece in pieces(alloc, pace, text)? {
+                put(Cue::Say(c, piece), cues)?;
+            }
+            Ok(())
+        }
+        Act::Answer(k, text) => {
+            for piece in pieces(alloc, pace, text)? {
+                put(Cue::Answer(k, piece), cues)?;
+            }
+            Ok(())
+        }
+        Act::Connect => put(Cue::Connect, cues),
+        Act::HangUp(c) => put(Cue::HangUp(c), cues),
+        Act::Window(id, room) => put(Cue::Window(id, room), cues),
+        Act::Reach(k) => put(Cue::Reach(k), cues),
+        Act::Refuse(k) => put(Cue::Refuse(k), cues),
+        Act::End(k) => put(Cue::End(k), cues),
+        Act::Break(id) => put(Cue::Break(id), cues),
+        Act::Stop => put(Cue::Stop, cues),
+    }
+}
+
+fn put(cue: Cue, cues: &mut Vec<Cue>) -> Result<(), OutOfMemory> {
+    cues.push(cue).map_err(AllocError::from)?;
+    Ok(())
+}
+
+/// The pieces in which a text comes.
+fn pieces(alloc: Global, pace: Pace, text: &[u8]) -> Result<Vec<Octets>, OutOfMemory> {
+    let mut pieces = Vec::new(alloc);
+    match pace {
+        Pace::Whole => {
+            let whole = Octets::copy(alloc, text)?;
+            pieces.push(whole).map_err(AllocError::from)?;
+        }
+        Pace::Bytewise => {
+            for byte in text {
+                let piece = Octets::copy(alloc, &[*byte])?;
+                pieces.push(piece).map_err(AllocError::from)?;
+            }
+        }
+    }
+    Ok(pieces)
+}
