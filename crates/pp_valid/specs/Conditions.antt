@@ -1,5 +1,5 @@
 -- Conditions of a request (RFC 7232, sections 2.3.2, 3.2 and 3.3; RFC 7233, section 3.2).
-use Rattle.std.specs.Prelude.{ℕ, Bool, true, false, ◌&&◌, ◌||◌, not, nat_le, bytes_eq, if◌then◌else◌, List, [], ◌∷◌, codes, Option, Some, None}
+use Rattle.std.specs.Prelude.{ℕ, Bool, true, false, ◌&&◌, ◌||◌, nat_le, bytes_eq, if◌then◌else◌, List, [], ◌∷◌, codes, Option, Some, None}
 use Rattle.std.specs.List.{list_any}
 use Rattle.pp_text.specs.Fields.{Field, values_of, has_field, list_items}
 use Rattle.pp_fresh.specs.Dates.{date_of}

@@ -1,8 +1,7 @@
 -- Content-Range (RFC 7233, section 4.2).
-use Rattle.std.specs.Prelude.{ℕ, ◌&&◌, nat_lt, nat_le, nat_eq, bytes_eq, if◌then◌else◌, List, codes, length, drop, Option, Some, None, option_and_then}
-use Rattle.std.specs.List.{starts_with}
+use Rattle.std.specs.Prelude.{ℕ, ◌&&◌, nat_lt, nat_le, bytes_eq, if◌then◌else◌, List, codes, Option, Some, None, option_and_then}
 use Rattle.pp_text.specs.Bytes.{is_same}
-use Rattle.pp_text.specs.Fields.{Field, values_of}
+use Rattle.pp_text.specs.Fields.{Field}
 use Rattle.pp_text.specs.Numbers.{number_of}
 use Rattle.pp_text.specs.Parts.{cut_at, sole}
 use Rattle.pp_valid.specs.declared.content_range.ContentRange.{ContentRange}

@@ -1,7 +1,6 @@
 -- Fields that are of the message, and not of the connection that it came on (RFC 2616, section 14.10).
-use Rattle.std.specs.Prelude.{ℕ, Bool, if◌then◌else◌, List, [], codes, flat_map}
+use Rattle.std.specs.Prelude.{ℕ, Bool, if◌then◌else◌, List, [], codes}
 use Rattle.pp_text.specs.Fields.{Field, values_of, has_item}
-use Rattle.pp_text.specs.Lists.{items_of}
 
 -- Connection names the field: it counts as absent, as it goes no further
 abbrev pub is_dropped : List ℕ → List Field → Bool
@@ -9,6 +8,3 @@ is_dropped name fields = has_item (codes "connection") name fields
 
 abbrev pub end_to_end_values : List ℕ → List Field → List (List ℕ)
 end_to_end_values name fields = if is_dropped name fields then [] else values_of name fields
-
-abbrev pub end_to_end_items : List ℕ → List Field → List (List ℕ)
-end_to_end_items name fields = flat_map items_of (end_to_end_values name fields)

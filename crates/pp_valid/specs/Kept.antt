@@ -1,6 +1,5 @@
 -- Which fields of a response are kept with its body, and how many bytes their lines have.
-use Rattle.std.specs.Prelude.{ℕ, ◌+◌, Bool, ◌&&◌, ◌||◌, not, nat_le, List, [], ◌∷◌, filter, flat_map, length, slice_get, codes, is_some, Option, Some, None, option_and_then, if◌then◌else◌}
-use Rattle.std.specs.List.{list_any}
+use Rattle.std.specs.Prelude.{ℕ, ◌+◌, Bool, ◌&&◌, ◌||◌, not, nat_le, List, filter, length, slice_get, codes, is_some, Option, Some, None, option_and_then, if◌then◌else◌}
 use Rattle.httpdate.specs.Date.{parse_secs}
 use Rattle.pp_text.specs.Fields.{Field, is_named}
 use Rattle.pp_text.specs.Forwarding.{is_hop_by_hop}

@@ -1,5 +1,5 @@
 -- The entity tag of a response (RFC 7232, section 2.3): ETag = entity-tag.
-use Rattle.std.specs.Prelude.{ℕ, if◌then◌else◌, List, [], ◌∷◌, codes, Option}
+use Rattle.std.specs.Prelude.{ℕ, if◌then◌else◌, List, [], ◌∷◌, codes}
 use Rattle.pp_text.specs.Fields.{Field}
 use Rattle.pp_valid.specs.declared.tag_state.TagState.{TagState}
 use Rattle.pp_valid.specs.declared.tag_state.TagState.TheVariants.{None as Untagged, Weak, Strong, Several, Bad}

@@ -1,5 +1,5 @@
 -- Entity tags (RFC 7232, section 2.3).
-use Rattle.std.specs.Prelude.{ℕ, ◌-◌, Bool, ◌==◌, ◌&&◌, ◌||◌, not, nat_lt, nat_le, nat_eq, List, length, drop, slice_index, slice_range, codes, Option, Some, None, if◌then◌else◌}
+use Rattle.std.specs.Prelude.{ℕ, ◌-◌, Bool, ◌==◌, ◌&&◌, ◌||◌, not, nat_le, nat_eq, List, length, drop, slice_index, slice_range, codes, Option, Some, None, if◌then◌else◌}
 use Rattle.std.specs.List.{list_all, starts_with}
 use Rattle.pp_text.specs.Quoting.{quotation_mark}
 

@@ -1,17 +1,16 @@
 -- The version of a response: its strong tag and the length of the whole body (RFC 2616, section 13.5.4;
 -- RFC 7233, sections 4.1 and 4.3).
-use Rattle.std.specs.Prelude.{ℕ, ◌+◌, ◌-◌, ◌^◌, Bool, false, ◌==◌, ◌&&◌, ◌||◌, not, nat_le, List, [], ◌∷◌, codes, Option, Some, None, option_and_then, if◌then◌else◌}
+use Rattle.std.specs.Prelude.{ℕ, ◌+◌, ◌-◌, ◌^◌, Bool, false, ◌==◌, ◌&&◌, nat_le, List, [], ◌∷◌, codes, Option, Some, None, option_and_then, if◌then◌else◌}
 use Rattle.std.specs.List.{list_all}
-use Rattle.pp_text.specs.Bytes.{is_empty}
 use Rattle.pp_text.specs.Fields.{Field, has_field}
 use Rattle.pp_text.specs.Numbers.{number_of}
-use Rattle.pp_fresh.specs.Directives.{has_directive}
+use Rattle.pp_fresh.specs.Ready.{may_store}
 use Rattle.pp_valid.specs.declared.version.Version.{Version}
 use Rattle.pp_valid.specs.declared.content_range.ContentRange.{ContentRange}
 use Rattle.pp_valid.specs.declared.content_range.ContentRange.TheVariants.{Span, Unsatisfied}
 use Rattle.pp_valid.specs.declared.tag_state.TagState.{TagState}
 use Rattle.pp_valid.specs.declared.tag_state.TagState.TheVariants.{None as Untagged, Weak, Strong, Several, Bad}
-use Rattle.pp_valid.specs.EndToEnd.{end_to_end_values, end_to_end_items}
+use Rattle.pp_valid.specs.EndToEnd.{end_to_end_values}
 use Rattle.pp_valid.specs.ContentRanges.{content_range_of}
 use Rattle.pp_valid.specs.TagStates.{tag_of}
 use Rattle.pp_valid.specs.Kept.{has_room_for}
@@ -48,19 +47,9 @@ total_by status fields len =
 abbrev pub total_of : List Field → ℕ → Option ℕ
 total_of fields status = option_and_then (total_by status fields) (body_length fields)
 
-abbrev pub forbids_storing : List Field → Bool
-forbids_storing fields =
-    let directives = end_to_end_items (codes "cache-control") fields in
-    has_directive (codes "no-store") directives || has_directive (codes "private") directives
-
--- the response is for one user or one kind of request
-abbrev pub is_particular : List Field → Bool
-is_particular fields =
-    not (is_empty (end_to_end_values (codes "vary") fields)) || not (is_empty (end_to_end_values (codes "set-cookie") fields))
-
--- ours: at most 2^30 bytes
+-- ours: at most 2^30 bytes; and what forbids storing does so also where Connection names it
 abbrev pub can_keep : List Field → ℕ → Bool
-can_keep fields n = nat_le n (2 ^ 30) && (not (forbids_storing fields) && (not (is_particular fields) && has_room_for fields))
+can_keep fields n = nat_le n (2 ^ 30) && (may_store fields && has_room_for fields)
 
 abbrev pub version_with : List Field → List ℕ → ℕ → Option Version
 version_with fields tag n = if can_keep fields n then Some (record { tag = tag; length = n }) else None

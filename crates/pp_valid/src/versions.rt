@@ -1,24 +1,22 @@
 // From the head of a response to its version (RFC 2616, section 13.5.4; RFC 7233, section 4.1).
-ghost use Rattle.std.specs.Prelude.{◌≡◌, not};
+ghost use Rattle.std.specs.Prelude.{◌≡◌};
 ghost use Rattle.std.specs.List.{list_all};
-ghost use Rattle.pp_text.specs.Bytes.{is_empty};
 ghost use Rattle.pp_text.specs.Numbers.{number_of};
-ghost use Rattle.pp_valid.specs.EndToEnd.{end_to_end_values};
-ghost use Rattle.pp_valid.specs.Versions.{body_length, complete_length, forbids_storing, is_number, is_particular, length_in, total_of, version_of};
+ghost use Rattle.pp_valid.specs.Versions.{body_length, complete_length, is_number, length_in, total_of, version_of};
 
 use crate::content_range::{ContentRange, read_content_range};
 use crate::end_to_end::is_dropped;
 use crate::kept::has_room_for;
 use crate::tag_state::{TagState, tag_of};
 use crate::version::Version;
-use pp_fresh::Directives;
+use pp_fresh::may_store;
 use pp_text::{FieldValues, Fields, read_u64};
 
 /// The most bytes of a body that has a version.
 const MAX_LENGTH: u64 = 1 << 30;
 
-/// The version of a response with these fields. None where one of these does not hold, of the
-/// fields that Connection does not name:
+/// The version of a response with these fields. None where one of these does not hold. A field that
+/// Connection names counts as absent, but for what forbids storing, which holds all the same:
 ///
 /// - there is one ETag, and it is strong, of at most 1,024 bytes;
 /// - the status is 200 with a Content-Length, or 206 with a Content-Range `a-b/n` and the
@@ -34,8 +32,7 @@ pub fn version_of(head: &Fields<'_, '_>, status: u16) -> Option<Version>
         return None;
     };
     let length = total_of(head, status)?;
-    let forbidden = forbids_storing(head) || is_particular(head);
-    if length <= MAX_LENGTH && !forbidden && has_room_for(head) {
+    if length <= MAX_LENGTH && (may_store(head) && has_room_for(head)) {
         Some(Version { tag, length })
     } else {
         None
@@ -101,26 +98,4 @@ fn is_number(value: &[u8], n: u64) -> bool
         Some(m) => m == n,
         None => false,
     }
-}
-
-fn forbids_storing(fields: &Fields<'_, '_>) -> bool
-    ensures { result ≡ forbids_storing fields.now }
-{
-    if is_dropped(fields, b"cache-control") {
-        return false;
-    }
-    let directives = Directives::read(fields);
-    directives.no_store || directives.private
-}
-
-fn is_particular(fields: &Fields<'_, '_>) -> bool
-    ensures { result ≡ is_particular fields.now }
-{
-    is_there(fields, b"vary") || is_there(fields, b"set-cookie")
-}
-
-fn is_there(fields: &Fields<'_, '_>, name: &[u8]) -> bool
-    ensures { result ≡ not (is_empty (end_to_end_values name.now fields.now)) }
-{
-    !is_dropped(fields, name) && fields.first(name).is_some()
 }

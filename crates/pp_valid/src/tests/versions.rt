@@ -18,84 +18,91 @@ fn length_under(tag: &[u8], fields: &Fields<'_, '_>, status: u16) -> Option<u64>
     }
 }
 
+/// A status, fields behind `ETag: "x"`, and the length of the version that they make.
+const LENGTHS: [(u16, &str, Option<u64>); 30] = [
+    (WHOLE, "Content-Length: 5\n", Some(5)),
+    (WHOLE, "Content-Length: 0\n", Some(0)),
+    (WHOLE, "Content-Length: 5\nContent-Length: 05\n", Some(5)),
+    (WHOLE, "Content-Length: 5\nContent-Length: 6\n", None),
+    (WHOLE, "Content-Length: five\n", None),
+    (WHOLE, "Content-Range: bytes 0-4/9\n", None),
+    (
+        WHOLE,
+        "Content-Length: 5\nContent-Range: bytes 0-4/9\n",
+        Some(5),
+    ),
+    (
+        WHOLE,
+        "Content-Length: 5\nTransfer-Encoding: identity\n",
+        None,
+    ),
+    (
+        WHOLE,
+        "Content-Length: 5\nConnection: content-length\n",
+        None,
+    ),
+    (WHOLE, "Content-Length: 5\nConnection: etag\n", None),
+    (WHOLE, "Content-Length: 5\nETag: \"x\"\n", None),
+    (WHOLE, "Content-Length: 1073741824\n", Some(1 << 30)),
+    (WHOLE, "Content-Length: 1073741825\n", None),
+    (
+        WHOLE,
+        "Content-Length: 5\nCache-Control: max-age=60, no-cache\n",
+        Some(5),
+    ),
+    (
+        WHOLE,
+        "Content-Length: 5\nCache-Control: max-age=60, No-Store\n",
+        None,
+    ),
+    (WHOLE, "Content-Length: 5\nCache-Control: private\n", None),
+    (
+        WHOLE,
+        "Content-Length: 5\nCache-Control: private=\"set-cookie\"\n",
+        None,
+    ),
+    (WHOLE, "Content-Length: 5\nVary: accept-encoding\n", None),
+    (WHOLE, "Content-Length: 5\nSet-Cookie: a=b\n", None),
+    (
+        WHOLE,
+        "Content-Length: 5\nConnection: vary\nVary: accept-encoding\n",
+        None,
+    ),
+    (
+        WHOLE,
+        "Content-Length: 5\nConnection: cache-control\nCache-Control: no-store\n",
+        None,
+    ),
+    (
+        PART,
+        "Content-Length: 5\nContent-Range: bytes 2-6/9\n",
+        Some(9),
+    ),
+    (
+        PART,
+        "Content-Length: 5\nContent-Range: bytes 2-6/7\n",
+        Some(7),
+    ),
+    (
+        PART,
+        "Content-Length: 4\nContent-Range: bytes 2-6/9\n",
+        None,
+    ),
+    (
+        PART,
+        "Content-Length: 5\nContent-Range: bytes 2-6/*\n",
+        None,
+    ),
+    (PART, "Content-Length: 5\nContent-Range: bytes */9\n", None),
+    (PART, "Content-Length: 5\n", None),
+    (PART, "Content-Range: bytes 2-6/9\n", None),
+    (304, "Content-Length: 5\n", None),
+    (404, "Content-Length: 5\n", None),
+];
+
 #[test]
 fn a_version_is_a_strong_tag_and_a_known_length(rt: HostRuntime) -> Result<(), Fail> {
-    let cases: [(u16, &str, Option<u64>); 29] = [
-        (WHOLE, "Content-Length: 5\n", Some(5)),
-        (WHOLE, "Content-Length: 0\n", Some(0)),
-        (WHOLE, "Content-Length: 5\nContent-Length: 05\n", Some(5)),
-        (WHOLE, "Content-Length: 5\nContent-Length: 6\n", None),
-        (WHOLE, "Content-Length: five\n", None),
-        (WHOLE, "Content-Range: bytes 0-4/9\n", None),
-        (
-            WHOLE,
-            "Content-Length: 5\nContent-Range: bytes 0-4/9\n",
-            Some(5),
-        ),
-        (
-            WHOLE,
-            "Content-Length: 5\nTransfer-Encoding: identity\n",
-            None,
-        ),
-        (
-            WHOLE,
-            "Content-Length: 5\nConnection: content-length\n",
-            None,
-        ),
-        (WHOLE, "Content-Length: 5\nConnection: etag\n", None),
-        (WHOLE, "Content-Length: 5\nETag: \"x\"\n", None),
-        (WHOLE, "Content-Length: 1073741824\n", Some(1 << 30)),
-        (WHOLE, "Content-Length: 1073741825\n", None),
-        (
-            WHOLE,
-            "Content-Length: 5\nCache-Control: max-age=60, no-cache\n",
-            Some(5),
-        ),
-        (
-            WHOLE,
-            "Content-Length: 5\nCache-Control: max-age=60, No-Store\n",
-            None,
-        ),
-        (WHOLE, "Content-Length: 5\nCache-Control: private\n", None),
-        (
-            WHOLE,
-            "Content-Length: 5\nCache-Control: private=\"set-cookie\"\n",
-            None,
-        ),
-        (WHOLE, "Content-Length: 5\nVary: accept-encoding\n", None),
-        (WHOLE, "Content-Length: 5\nSet-Cookie: a=b\n", None),
-        (
-            WHOLE,
-            "Content-Length: 5\nConnection: vary\nVary: accept-encoding\n",
-            Some(5),
-        ),
-        (
-            PART,
-            "Content-Length: 5\nContent-Range: bytes 2-6/9\n",
-            Some(9),
-        ),
-        (
-            PART,
-            "Content-Length: 5\nContent-Range: bytes 2-6/7\n",
-            Some(7),
-        ),
-        (
-            PART,
-            "Content-Length: 4\nContent-Range: bytes 2-6/9\n",
-            None,
-        ),
-        (
-            PART,
-            "Content-Length: 5\nContent-Range: bytes 2-6/*\n",
-            None,
-        ),
-        (PART, "Content-Length: 5\nContent-Range: bytes */9\n", None),
-        (PART, "Content-Length: 5\n", None),
-        (PART, "Content-Range: bytes 2-6/9\n", None),
-        (304, "Content-Length: 5\n", None),
-        (404, "Content-Length: 5\n", None),
-    ];
-    for (status, text, wanted) in cases {
+    for (status, text, wanted) in LENGTHS {
         let text = filled(rt.alloc(), "ETag: \"x\"\n", 0, text)?;
         let text = text.as_str();
         let spans = spans_of(rt.alloc(), text)?;
