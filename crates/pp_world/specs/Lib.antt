@@ -1,4 +1,5 @@
 pub mod Connections
+pub mod Disk
 pub mod Files
 pub mod Life
 pub mod Log

@@ -1,5 +1,5 @@
 // An entry of the log.
-use crate::{Image, Remark, Wants};
+use crate::{DiskOp, Image, Name, Remark, Wants};
 use pp_text::Octets;
 
 /// What happened: one entry of the log. A life begins with `Woke`, a turn with `Waits`.
@@ -41,8 +41,18 @@ pub enum Happening {
     Dropped(u64),
     /// A read found nothing.
     NoneYet(u64),
+    /// An operation that changes the disk was begun.
+    Began(DiskOp),
+    /// It was done, or failed.
+    Did(DiskOp, bool),
+    /// The length or the bytes of the file of this name could not be read.
+    Unread(Name),
     /// A note of the proxy's own.
     Noted(Remark),
+    /// The proxy uses this folder.
+    Rooted(Octets),
+    /// The folder was listed, or could not be.
+    Listed(bool),
     /// The proxy asked to listen on this port, and whether it may.
     Listens(u16, bool),
     /// The file of this name was read as configuration, or could not be read.

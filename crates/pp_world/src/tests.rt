@@ -1,10 +1,11 @@
-// A wire that tells nothing, what a caller knows of any wire, and the files of a folder.
+// An outside that tells nothing, what a caller knows of any wire and disk, and the files of a folder.
 ghost use Rattle.std.specs.Prelude.{◌≡◌, ◌<◌, ◌≤◌, ℕ, None, length, IfOk};
 ghost use Rattle.pp_world.specs.Connections.{IsOpen};
 ghost use Rattle.pp_world.specs.Log.{Told};
 
 use crate::{
-    Cause, ConfigFault, Event, Got, Image, Logged, Name, Note, Wants, Wire, WireFault, World,
+    Cause, ConfigFault, Disk, DiskFault, Event, Got, Image, Logged, Name, NamesFault, Note, Wants,
+    Wire, WireFault, World,
 };
 use arrayvec::ArrayVec;
 use pp_text::Octets;
@@ -63,6 +64,64 @@ impl Wire for Silent {
     }
 }
 
+/// No file can be changed, and none is there.
+impl Disk for Silent {
+    fn root(&mut self, _folder: &[u8]) {}
+
+    fn names(&mut self, alloc: Global) -> Result<Vec<Name>, NamesFault> {
+        Ok(Vec::new(alloc))
+    }
+
+    fn length(&mut self, _name: &Name) -> Result<u64, DiskFault> {
+        Ok(0)
+    }
+
+    fn read(&mut self, _name: &Name, _at: u64, _buf: &mut [u8]) -> Result<usize, DiskFault> {
+        Ok(0)
+    }
+
+    fn draft(&mut self, _bytes: &[u8]) -> Result<(), DiskFault> {
+        self.faults = self.faults.saturating_add(1);
+        Err(DiskFault)
+    }
+
+    fn sync_draft(&mut self) -> Result<(), DiskFault> {
+        self.faults = self.faults.saturating_add(1);
+        Err(DiskFault)
+    }
+
+    fn publish(&mut self, _name: &Name) -> Result<(), DiskFault> {
+        self.faults = self.faults.saturating_add(1);
+        Err(DiskFault)
+    }
+
+    fn write(&mut self, _name: &Name, _at: u64, _bytes: &[u8]) -> Result<(), DiskFault> {
+        self.faults = self.faults.saturating_add(1);
+        Err(DiskFault)
+    }
+
+    fn sync(&mut self, _name: &Name) -> Result<(), DiskFault> {
+        self.faults = self.faults.saturating_add(1);
+        Err(DiskFault)
+    }
+
+    fn remove(&mut self, _name: &Name) -> Result<(), DiskFault> {
+        self.faults = self.faults.saturating_add(1);
+        Err(DiskFault)
+    }
+}
+
+/// How many bytes the file of this name has, on any disk, as far as they can be read.
+fn count_held<D: Disk>(disk: &mut D, name: &Name, buf: &mut [u8]) -> Result<usize, DiskFault>
+    ensures within { IfOk result (λ n. n ≤ length buf.new) }
+    ensures top { D.top disk.new ≡ D.top disk.old }
+{
+    if disk.length(name)? == 0 {
+        return Ok(0);
+    }
+    disk.read(name, 0, buf)
+}
+
 /// How many bytes came, over any wire.
 fn count_read<W: World>(world: &mut W, id: u64, buf: &mut [u8]) -> Result<usize, WireFault>
     requires room { 0 < length buf.old }
@@ -110,7 +169,7 @@ fn a_wire_that_tells_nothing_serves_any_caller(rt: HostRuntime) -> Result<(), Fa
     assert_eq!(rt; count_ticks(&mut silent, &wants.copy()), 3);
     let mut buf = [0; 4];
     assert_eq!(rt; count_read(&mut silent, 1, &mut buf), Ok(0));
-    assert_eq!(rt; silent.write(1, b"GET"), Ok(0));
+    assert_eq!(rt; Wire::write(&mut silent, 1, b"GET"), Ok(0));
     assert_eq!(rt; silent.listen(8123), Ok(()));
     assert_eq!(rt; silent.dial(b"h", 80), Err(WireFault));
     silent.note(&Note::Cut(1, Cause::Stop));
@@ -122,6 +181,31 @@ fn a_wire_that_tells_nothing_serves_any_caller(rt: HostRuntime) -> Result<(), Fa
         .ok()
         .ok_or("configuration")?;
     assert_eq!(rt; text.as_slice(), b"proxyPort = 8123\n".as_slice());
+    Ok(())
+}
+
+#[test]
+fn a_disk_that_tells_nothing_serves_any_caller(rt: HostRuntime) -> Result<(), Fail> {
+    let mut silent = Silent {
+        faults: 0,
+        ticks: 0,
+    };
+    let name = name_of(b'a');
+    let mut buf = [0; 4];
+    silent.root(b"polipo-cache");
+    let names = silent.names(rt.alloc()).ok().ok_or("names")?;
+    assert_eq!(rt; names.len(), 0);
+    assert_eq!(rt; count_held(&mut silent, &name, &mut buf), Ok(0));
+    assert_eq!(rt; silent.draft(b"HTTP/1.1 200 OK\r\n"), Err(DiskFault));
+    assert_eq!(rt; silent.sync_draft(), Err(DiskFault));
+    assert_eq!(rt; silent.publish(&name), Err(DiskFault));
+    assert_eq!(rt;
+        Disk::write(&mut silent, &name, 8192, b"\x01"),
+        Err(DiskFault)
+    );
+    assert_eq!(rt; silent.sync(&name), Err(DiskFault));
+    assert_eq!(rt; silent.remove(&name), Err(DiskFault));
+    assert_eq!(rt; silent.faults, 6);
     Ok(())
 }
 
