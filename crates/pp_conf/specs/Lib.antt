@@ -1,0 +1,5 @@
+pub mod Settings
+pub mod Conf
+pub mod Text
+pub mod Words
+pub mod Shown

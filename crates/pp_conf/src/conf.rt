@@ -1,0 +1,120 @@
+// The settings in force, and how assignments change them.
+ghost use Rattle.std.specs.Prelude.{◌≡◌, ◌≤◌, IfOk, IfErr, true, length};
+ghost use Rattle.pp_conf.specs.Settings.{accepts};
+ghost use Rattle.pp_conf.specs.Conf.{defaults, with_value, out_of_order};
+ghost use Rattle.pp_conf.specs.Shown.{shown_draft, shown_conf};
+ghost use Rattle.pp_conf.specs.declared.fault.ConfFault.TheVariants.{OutOfMemory};
+
+use crate::fault::ConfFault;
+use crate::setting::Setting;
+use arrayvec::ArrayVec;
+use pp_text::Octets;
+use std::alloc::Global;
+
+/// The settings in force; `Setting` has their units and ranges.
+#[derive(Drop)]
+pub struct Conf {
+    pub port: u16,
+    pub name: ArrayVec<u8, 64>,
+    pub root: Octets,
+    pub low: u32,
+    pub high: u32,
+    pub critical: u32,
+    pub disk_run: u32,
+    pub max_turns: u64,
+    pub share_fetches: bool,
+}
+
+/// The settings while assignments are applied; texts still stand where they came from.
+#[derive(Drop)]
+pub(crate) struct Draft<'a> {
+    pub port: u16,
+    pub name: ArrayVec<u8, 64>,
+    pub root: &'a [u8],
+    pub low: u32,
+    pub high: u32,
+    pub critical: u32,
+    pub disk_run: u32,
+    pub max_turns: u64,
+    pub share_fetches: bool,
+}
+
+impl<'a> Draft<'a> {
+    pub fn new() -> Draft<'a>
+        ensures { shown_draft result ≡ defaults }
+    {
+        Draft {
+            port: 8123,
+            name: name_from(b"polipo"),
+            root: b"polipo-cache",
+            low: 2560,
+            high: 3072,
+            critical: 4096,
+            disk_run: 1,
+            max_turns: 140_737_488_355_327,
+            share_fetches: true,
+        }
+    }
+
+    /// Puts this value in the place of an earlier one.
+    pub fn set(&mut self, setting: Setting, value: &'a [u8])
+        requires { accepts setting value.now ≡ true }
+        ensures { shown_draft self.new ≡ with_value (shown_draft self.old) setting value.entry.now }
+    {
+        let number = setting.number(value).unwrap_or(0);
+        match setting {
+            Setting::ProxyPort => self.port = number as u16,
+            Setting::ProxyName => self.name = name_from(value),
+            Setting::DiskCacheRoot => self.root = value,
+            Setting::ChunkLowMark => self.low = number as u32,
+            Setting::ChunkHighMark => self.high = number as u32,
+            Setting::ChunkCriticalMark => self.critical = number as u32,
+            Setting::DiskRun => self.disk_run = number as u32,
+            Setting::MaxTurns => self.max_turns = number,
+            Setting::ShareFetches => self.share_fetches = number == 1,
+        }
+    }
+
+    /// The settings, with texts of their own.
+    pub fn keep(self, alloc: Global) -> Result<Conf, ConfFault>
+        ensures kept { IfOk result (λ c. shown_conf c ≡ shown_draft self.entry) }
+        ensures memory { IfErr result (λ e. e ≡ OutOfMemory) }
+    {
+        let Ok(root) = Octets::copy(alloc, self.root) else {
+            return Err(ConfFault::OutOfMemory);
+        };
+        Ok(Conf {
+            port: self.port,
+            name: self.name,
+            root,
+            low: self.low,
+            high: self.high,
+            critical: self.critical,
+            disk_run: self.disk_run,
+            max_turns: self.max_turns,
+            share_fetches: self.share_fetches,
+        })
+    }
+
+    /// The first mark that breaks their order: low, high, critical.
+    pub fn out_of_order(&self) -> Option<Setting>
+        ensures { result ≡ out_of_order (shown_draft self.now) }
+    {
+        if self.high < self.low {
+            Some(Setting::ChunkHighMark)
+        } else if self.critical < self.high {
+            Some(Setting::ChunkCriticalMark)
+        } else {
+            None
+        }
+    }
+}
+
+fn name_from(text: &[u8]) -> ArrayVec<u8, 64>
+    requires { length text.now ≤ 64 }
+    ensures { result.items ≡ text.now }
+{
+    let mut name = ArrayVec::new();
+    let _ = name.try_extend_from_slice(text);
+    name
+}

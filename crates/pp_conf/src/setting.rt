@@ -1,0 +1,179 @@
+// The table of settings.
+ghost use Rattle.std.specs.Prelude.{◌≡◌, ◌==◌, not};
+ghost use Rattle.std.specs.List.{list_all};
+ghost use Rattle.std.specs.Str.{is_utf8};
+ghost use Rattle.pp_conf.specs.Settings.{accepts, is_name_byte, is_padded, is_path, is_proxy_name, is_root, least_of, most_of, name_of, number_for, number_in, setting_named};
+
+use pp_text::read_u64;
+
+/// A setting of the program.
+#[derive(Clone, Copy, Debug, PartialEq, Eq)]
+pub enum Setting {
+    /// The TCP port to listen on: 1 to 65,535.
+    ProxyPort,
+    /// The proxy's name in Via: 1 to 64 letters, digits, `.`, `-` and `_`.
+    ProxyName,
+    /// The folder of the cache: 1 to 255 bytes of UTF-8 without NUL.
+    DiskCacheRoot,
+    /// Eviction goes on down to this mark, in chunks of 4,096 bytes: 512 to the high mark.
+    ChunkLowMark,
+    /// Eviction begins at this mark, in chunks: from the low mark to the critical mark.
+    ChunkHighMark,
+    /// The pool's size in chunks: from the high mark to 65,536.
+    ChunkCriticalMark,
+    /// How many whole chunks are kept on disk at a time: 1.
+    DiskRun,
+    /// After so many turns the program ends: 1 to 2^47 - 1.
+    MaxTurns,
+    /// Whether readers of one new object wait for one fetch: 0 or 1.
+    ShareFetches,
+}
+
+impl Setting {
+    pub const ALL: [Setting; 9] = [
+        Setting::ProxyPort,
+        Setting::ProxyName,
+        Setting::DiskCacheRoot,
+        Setting::ChunkLowMark,
+        Setting::ChunkHighMark,
+        Setting::ChunkCriticalMark,
+        Setting::DiskRun,
+        Setting::MaxTurns,
+        Setting::ShareFetches,
+    ];
+
+    /// The name that words and text use.
+    pub fn name(self) -> &'static str
+        ensures { result.now ≡ name_of self }
+    {
+        match self {
+            Setting::ProxyPort => "proxyPort",
+            Setting::ProxyName => "proxyName",
+            Setting::DiskCacheRoot => "diskCacheRoot",
+            Setting::ChunkLowMark => "chunkLowMark",
+            Setting::ChunkHighMark => "chunkHighMark",
+            Setting::ChunkCriticalMark => "chunkCriticalMark",
+            Setting::DiskRun => "diskRun",
+            Setting::MaxTurns => "maxTurns",
+            Setting::ShareFetches => "shareFetches",
+        }
+    }
+
+    /// The setting of that name, letter for letter.
+    pub fn named(name: &[u8]) -> Option<Setting>
+        ensures { result ≡ setting_named name.now }
+    {
+        Setting::ALL
+            .iter()
+            .copied()
+            .find(|s| s.name().as_bytes() == name)
+    }
+
+    /// The least and the greatest number that the setting takes by itself.
+    fn range(self) -> (u64, u64)
+        ensures least { result.0 ≡ least_of self }
+        ensures most { result.1 ≡ most_of self }
+    {
+        match self {
+            Setting::ProxyPort => (1, 65_535),
+            Setting::ProxyName | Setting::DiskCacheRoot => (0, 0),
+            Setting::ChunkLowMark | Setting::ChunkHighMark | Setting::ChunkCriticalMark => {
+                (512, 65_536)
+            }
+            Setting::DiskRun => (1, 1),
+            Setting::MaxTurns => (1, 140_737_488_355_327),
+            Setting::ShareFetches => (0, 1),
+        }
+    }
+
+    /// The number that the text gives to the setting, if it is in its range.
+    pub(crate) fn number(self, text: &[u8]) -> Option<u64>
+        ensures { result ≡ number_for self text.now }
+    {
+        let (low, high) = self.range();
+        number_between(low, high, text)
+    }
+
+    /// Whether the value is in the setting's own range.
+    pub(crate) fn accepts(self, text: &[u8]) -> bool
+        ensures { result ≡ accepts self text.now }
+    {
+        match self {
+            Setting::ProxyName => is_proxy_name(text),
+            Setting::DiskCacheRoot => is_root(text),
+            Setting::ProxyPort
+            | Setting::ChunkLowMark
+            | Setting::ChunkHighMark
+            | Setting::ChunkCriticalMark
+            | Setting::DiskRun
+            | Setting::MaxTurns
+            | Setting::ShareFetches => self.number(text).is_some(),
+        }
+    }
+}
+
+fn number_between(low: u64, high: u64, text: &[u8]) -> Option<u64>
+    ensures { result ≡ number_in low high text.now }
+{
+    if is_padded(text) {
+        return None;
+    }
+    match read_u64(text) {
+        Some(n) => { if low <= n && n <= high { Some(n) } else { None } }
+        None => None,
+    }
+}
+
+/// Whether the text begins with a zero that a number does not have.
+fn is_padded(text: &[u8]) -> bool
+    ensures { result ≡ is_padded text.now }
+{
+    1 < text.len() && text[0] == b'0'
+}
+
+fn is_name_byte(b: u8) -> bool
+    ensures { result ≡ is_name_byte b }
+{
+    b.is_ascii_alphanumeric() || b == b'.' || b == b'-' || b == b'_'
+}
+
+fn is_proxy_name(text: &[u8]) -> bool
+    ensures { result ≡ is_proxy_name text.now }
+{
+    let fits = 1 <= text.len() && text.len() <= 64;
+    fits && has_name_bytes(text)
+}
+
+fn is_root(text: &[u8]) -> bool
+    ensures { result ≡ is_root text.now }
+{
+    let fits = 1 <= text.len() && text.len() <= 255;
+    fits && is_path(text)
+}
+
+fn is_path(text: &[u8]) -> bool
+    ensures { result ≡ is_path text.now }
+{
+    is_utf8(text) && has_no_nul(text)
+}
+
+fn is_utf8(text: &[u8]) -> bool
+    ensures { result ≡ is_utf8 text.now }
+{
+    match str::from_utf8(text) {
+        Ok(_) => true,
+        Err(_) => false,
+    }
+}
+
+fn has_name_bytes(text: &[u8]) -> bool
+    ensures { result ≡ list_all is_name_byte text.now }
+{
+    text.iter().all(|b| is_name_byte(*b))
+}
+
+fn has_no_nul(text: &[u8]) -> bool
+    ensures { result ≡ list_all (λ b. not (b == 0)) text.now }
+{
+    text.iter().all(|b| !(*b == 0))
+}
