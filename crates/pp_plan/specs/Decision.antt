@@ -1,0 +1,93 @@
+-- What a request gets: the first line that applies (RFC 2616, sections 13 and 14; RFC 7232, section 6; RFC 7233,
+-- section 3).
+use Rattle.std.specs.Prelude.{ℕ, Bool, true, false, ◌&&◌, ◌||◌, not, if◌then◌else◌, Option, Some, None}
+use Rattle.pp_head.specs.Request.{Request}
+use Rattle.pp_fresh.specs.Directives.{directives_of}
+use Rattle.pp_fresh.specs.Ready.{is_ready}
+use Rattle.pp_ranges.specs.declared.range.Resolved.{Resolved}
+use Rattle.pp_ranges.specs.declared.range.Resolved.TheVariants.{Whole as OfAll, Part as OfPart, Unsatisfiable as OfNone}
+use Rattle.pp_valid.specs.Conditions.{matches_none, not_modified_since}
+use Rattle.pp_world.specs.declared.note.Decision.{Decision}
+use Rattle.pp_world.specs.declared.note.Decision.TheVariants.{Refuse, Hit, Part, Head, NotModified, Unsatisfiable, Relay, Validate, Fetch, Pass}
+use Rattle.pp_plan.specs.Requests.{is_conditional, is_get, is_head, never_uses}
+use Rattle.pp_plan.specs.Row.{Row}
+use Rattle.pp_plan.specs.Spans.{resolved}
+use Rattle.pp_plan.specs.declared.table.Begun.{Begun}
+use Rattle.pp_plan.specs.declared.table.Begun.TheVariants.{Nothing, Settled, Other, Widened}
+
+abbrev pub either : Option Bool → Bool → Bool
+either None other = other
+either (Some this) other = this
+
+-- "A recipient MUST ignore If-Modified-Since if the request contains an If-None-Match header field" (RFC 7232,
+-- section 3.3)
+abbrev pub is_not_modified : Request → Row → Bool
+is_not_modified request row = either (matches_none request.fields row.version.tag) (not_modified_since request.fields row.fields)
+
+-- of a row that answers: the part that is asked for, and else all; whether the bytes are held or have to be asked for
+abbrev pub by_range : Bool → ℕ → Resolved → Decision
+by_range held length OfNone = Unsatisfiable
+by_range held length (OfPart from to) = if held then Hit from to else Part from to
+by_range held length OfAll = if held then Hit 0 length else Part 0 length
+
+-- the row is ready
+abbrev pub of_known : Request → Row → Decision
+of_known request row =
+    if is_not_modified request row then NotModified
+    else (if is_head request.method then Head
+    else by_range row.held row.version.length (resolved request.fields row.version))
+
+-- there is no row; ours: what HEAD would show is not kept, and what may be less than a whole is not shared
+abbrev pub of_unknown : Request → Decision
+of_unknown request =
+    if is_head request.method then Pass
+    else (if is_conditional request.fields then Pass
+    else Fetch)
+
+abbrev pub is_settled : Begun → Bool
+is_settled Nothing = false
+is_settled Settled = true
+is_settled Other = false
+is_settled Widened = false
+
+abbrev pub by_row : Request → Option Row → Begun → ℕ → Decision
+by_row request None begun now = of_unknown request
+by_row request (Some row) begun now =
+    if is_settled begun || is_ready request.fields row.fields row.times now then of_known request row
+    else (if is_head request.method then Pass
+    else Validate)
+
+abbrev pub by_begun : Request → Option Row → Begun → ℕ → Decision
+by_begun request row Other now = Relay
+by_begun request row Widened now = Pass
+by_begun request row Nothing now = by_row request row Nothing now
+by_begun request row Settled now = by_row request row Settled now
+
+abbrev pub first_line : Request → Option Row → Begun → ℕ → Decision
+first_line request row begun now =
+    if not (is_get request.method || is_head request.method) then Pass
+    else (if never_uses request.fields then Pass
+    else by_begun request row begun now)
+
+abbrev pub asks_origin : Decision → Bool
+asks_origin (Refuse status) = false
+asks_origin (Hit from to) = false
+asks_origin (Part from to) = true
+asks_origin Head = false
+asks_origin NotModified = false
+asks_origin Unsatisfiable = false
+asks_origin Relay = false
+asks_origin Validate = true
+asks_origin Fetch = true
+asks_origin Pass = true
+
+abbrev pub is_only_cached : Request → Bool
+is_only_cached request =
+    (is_get request.method || is_head request.method) && (directives_of request.fields).only_if_cached
+
+-- "it SHOULD either respond using a cached entry that is consistent with the other constraints of the request, or
+-- respond with a 504 (Gateway Timeout) status" (RFC 2616, section 14.9.4)
+abbrev pub decision : Request → Option Row → Begun → ℕ → Decision
+decision request row begun now =
+    let line = first_line request row begun now in
+    if is_only_cached request && asks_origin line then Refuse 504 else line
