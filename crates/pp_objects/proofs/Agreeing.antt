@@ -1,16 +1,16 @@
 -- The instances agree with the pool after a change of one of them.
-use Rattle.std.proofs.Common.{ℕ, ◌≡◌, Bool, true, false, ◌==◌, ◌&&◌, not, cond, List, [], ◌∷◌, map, set, arith, refl, sym, ◌∙◌, ap, subst, Option, Some, None, ◌⊎◌, inl, inr}
+use Rattle.std.proofs.Common.{ℕ, ◌≡◌, Bool, true, false, ◌==◌, not, cond, List, [], ◌∷◌, map, set, arith, refl, sym, ◌∙◌, ap, subst, Option, Some, None, ◌⊎◌, inl, inr}
 use Rattle.std.specs.List.{filter}
 use Rattle.std.specs.Prelude.{option_map, IsSomeAnd}
 use Rattle.std.proofs.lemmas.Grind.{common_steps}
 use Rattle.std.proofs.lemmas.Bool.{cases_eq}
 use Rattle.pp_pool.specs.Chunks.{Used, is_place, numbers, AreDistinct}
 use Rattle.pp_holes.specs.declared.cell.Cell.{Cell}
-use Rattle.pp_holes.specs.Cells.{Agrees, OwnsItsChunks, is_foreign, foreign, cell_of, mark, marks}
+use Rattle.pp_holes.specs.Cells.{Agrees, is_foreign, foreign, mark}
 use Rattle.pp_holes.proofs.Foreign.{others_own}
 use Rattle.pp_objects.specs.declared.row.Row.{Row}
 use Rattle.pp_objects.specs.declared.objects.Objects.TheInside.{Inside}
-use Rattle.pp_objects.specs.Instances.{Instance, Rows, in_slot, cells_at, cells_of}
+use Rattle.pp_objects.specs.Instances.{Instance, Rows, cells_at, cells_of}
 use Rattle.pp_objects.specs.Inside.{row_at, rows_in, IsSound}
 use Rattle.pp_holes.specs.Places.{Chunk, show, shown, without_owner}
 use Rattle.pp_objects.specs.Changes.{retired_from, without_slot, changed_in, retired, given_back_by, given_back, is_last, left, left_from}

@@ -2,12 +2,12 @@
 use Rattle.std.proofs.Common.{ℕ, ◌+◌, ◌-◌, ◌<◌, ◌≤◌, ◌≡◌, List, [], ◌∷◌, ◌++◌, length, map, get_or, take, drop, arith, refl, sym, ◌∙◌, ap, append_assoc, length-append}
 use Rattle.std.specs.Prelude.{slice_range}
 use Rattle.std.specs.List.{All}
-use Rattle.std.proofs.lemmas.List.{append-nil, take_more, take-append-le, drop-append-le, length-drop, map-append, drop_all, take_all}
-use Rattle.std.proofs.lemmas.List.Elements.{All-head, All-tail, All-push, All-weaker}
+use Rattle.std.proofs.lemmas.List.{append-nil, take_more, take-append-le, drop-append-le, length-drop, map-append, drop_all}
+use Rattle.std.proofs.lemmas.List.Elements.{All-head, All-tail, All-push}
 use Rattle.std.proofs.Math.Seq.{take-append_seam}
 use Rattle.pp_text.specs.declared.fields.FieldSpan.{FieldSpan}
 use Rattle.pp_text.specs.Fields.{Field, field_in, IsFieldWithin}
-use Rattle.pp_objects.specs.Kept.{AppendsField}
+use Rattle.pp_objects.specs.Texts.{AppendsField}
 
 range_kept : (old more : List ℕ) (i j : ℕ) → i ≤ j → j ≤ length old → slice_range (old ++ more) i j ≡ slice_range old i j
 range_kept old more i j le within =

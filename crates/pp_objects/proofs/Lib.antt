@@ -1,6 +1,10 @@
-pub mod Slots
-pub mod Search
 pub mod Agreeing
-pub mod Sound
+pub mod DateLemmas
 pub mod KeptLemmas
+pub mod Refreshing
+pub mod Search
 pub mod Settling
+pub mod Slots
+pub mod Sound
+pub mod Staying
+pub mod TextLemmas

@@ -1,24 +1,23 @@
 -- A new row joins, and the former one of its key is retired.
-use Rattle.std.proofs.Common.{ℕ, ◌+◌, ◌<◌, ◌≡◌, Bool, true, false, ◌==◌, cond, List, [], ◌∷◌, ◌++◌, length, map, replicate, arith, refl, sym, ◌∙◌, ap, subst, Option, Some, None}
+use Rattle.std.proofs.Common.{ℕ, ◌≡◌, Bool, true, false, ◌==◌, cond, List, [], ◌∷◌, ◌++◌, replicate, refl, sym, ◌∙◌, ap, subst, Option, Some, None}
 use Rattle.std.specs.Prelude.{option_map}
 use Rattle.std.specs.List.{find}
-use Rattle.std.proofs.lemmas.List.{length-map}
 use Rattle.pp_text.specs.Fields.{Field}
 use Rattle.pp_valid.specs.declared.version.Version.{Version}
 use Rattle.pp_fresh.specs.declared.aging.Times.{Times}
 use Rattle.pp_pool.specs.Chunks.{Used}
 use Rattle.pp_holes.specs.declared.cell.Cell.{Cell}
-use Rattle.pp_holes.specs.Cells.{Agrees, Table, chunks_of, empty_table}
+use Rattle.pp_holes.specs.Cells.{Agrees, Table}
 use Rattle.pp_holes.proofs.Owned.{none_at}
 use Rattle.pp_holes.proofs.Agreement.{agrees_new}
 use Rattle.pp_objects.specs.declared.id.ObjectId.{ObjectId}
 use Rattle.pp_objects.specs.declared.row.Row.{Row}
 use Rattle.pp_objects.specs.declared.objects.Objects.TheInside.{Inside}
-use Rattle.pp_objects.specs.Instances.{Instance, Rows, id_of, in_slot, is_there, is_life, cells_of, cells_at, row_of}
-use Rattle.pp_objects.specs.Changes.{new_row, settled, retired_from}
-use Rattle.pp_objects.specs.Inside.{row_at, instance_as, instance_at, rows_in, IsSound, IsOwned, IsNew}
+use Rattle.pp_objects.specs.Instances.{Instance, Rows, id_of, in_slot, is_there, is_life, cells_of}
+use Rattle.pp_objects.specs.Changes.{new_row}
+use Rattle.pp_objects.specs.Inside.{row_at, instance_as, rows_in, IsSound, IsOwned, IsNew}
 use Rattle.pp_objects.specs.Agreement.{AllAgree}
-use Rattle.pp_objects.proofs.Slots.{in_slot-seen, shown_as, cells_seen, seen_row}
+use Rattle.pp_objects.proofs.Slots.{cells_seen, seen_row}
 use Rattle.pp_objects.proofs.Agreeing.{all_agree, same_cells, same_test}
 
 -- what a new row shows

@@ -1,5 +1,5 @@
 -- What stands in a slot, as the list of instances shows it.
-use Rattle.std.proofs.Common.{ℕ, ◌+◌, ◌<◌, ◌≤◌, ◌≡◌, Bool, true, false, ◌==◌, not, cond, List, [], ◌∷◌, length, map, get_or, set, arith, refl, sym, ◌∙◌, ap, subst, zero, suc, Option, Some, None}
+use Rattle.std.proofs.Common.{ℕ, ◌<◌, ◌≡◌, true, false, ◌==◌, List, [], ◌∷◌, length, map, get_or, set, arith, refl, sym, ◌∙◌, ap, zero, suc, Option, Some, None}
 use Rattle.std.specs.Prelude.{is_some, option_map}
 use Rattle.std.specs.List.{find}
 use Rattle.std.proofs.lemmas.Grind.{common_steps}

@@ -1,21 +1,21 @@
 -- Each change keeps the slab and the order together, and does to the instances what its clause says.
-use Rattle.std.proofs.Common.{ℕ, ◌+◌, ◌<◌, ◌≤◌, ◌≡◌, Bool, true, false, ◌==◌, ◌||◌, not, cond, List, [], ◌∷◌, ◌++◌, length, map, get_or, set, arith, refl, sym, ◌∙◌, ap, subst, zero, suc, Option, Some, None, ◌⊎◌, inl, inr, vec_capacity}
-use Rattle.std.specs.Prelude.{is_some, count_by, sum_by}
+use Rattle.std.proofs.Common.{ℕ, ◌+◌, ◌<◌, ◌≡◌, Bool, true, false, cond, List, [], ◌∷◌, ◌++◌, length, map, set, arith, refl, sym, ◌∙◌, ap, subst, zero, suc, Option, Some, None, ◌⊎◌, inl, inr, vec_capacity}
+use Rattle.std.specs.Prelude.{is_some, count_by}
 use Rattle.std.specs.List.{filter}
 use Rattle.std.proofs.lemmas.Grind.{common_steps}
 use Rattle.std.proofs.lemmas.Bool.{cases_eq}
 use Rattle.std.proofs.lemmas.List.{length_push}
 use Rattle.slab.specs.Slab.{Slab, slab_len, with_value}
-use Rattle.pp_pool.specs.Chunks.{is_in, is_not, AreDistinct}
+use Rattle.pp_pool.specs.Chunks.{is_in, is_not}
 use Rattle.pp_pool.proofs.Numbers.{is_in_filter_same, is_in_filter_other, AreDistinct-filter, AreDistinct-push, is_in-push, length-filter_present, length-filter_distinct}
 use Rattle.pp_pool.proofs.Order.{seen-left, seen-changed, seen-joined, seen-moved}
 use Rattle.pp_holes.specs.declared.cell.Cell.{Cell}
 use Rattle.pp_objects.specs.declared.row.Row.{Row}
 use Rattle.pp_objects.specs.declared.objects.Objects.TheInside.{Inside}
-use Rattle.pp_objects.specs.Instances.{Instance, Rows, in_slot, is_in_slot, is_row}
+use Rattle.pp_objects.specs.Instances.{Instance, Rows, is_in_slot, is_row}
 use Rattle.pp_objects.specs.Changes.{changed_in, without_slot, marked, face, faces}
 use Rattle.pp_objects.specs.Inside.{row_at, instance_as, instance_at, rows_in, IsSound, IsOwned}
-use Rattle.pp_objects.proofs.Slots.{number_of, slot_shown, set_same, set_other, in_slots}
+use Rattle.pp_objects.proofs.Slots.{number_of, slot_shown, set_same, set_other}
 
 count_set : (rs : List (Option Row)) (k : ℕ) (r s : Row) → row_at rs k ≡ Some r → count_by is_some (set rs k (Some s)) ≡ count_by is_some rs
 count_set [] k r s e = absurd cc

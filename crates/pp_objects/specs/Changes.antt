@@ -7,6 +7,7 @@ use Rattle.pp_fresh.specs.declared.aging.Times.{Times}
 use Rattle.pp_valid.specs.declared.version.Version.{Version}
 use Rattle.pp_holes.specs.Cells.{chunks_of}
 use Rattle.pp_objects.specs.declared.id.ObjectId.{ObjectId}
+use Rattle.pp_objects.specs.Kept.{refreshed_of}
 use Rattle.pp_objects.specs.Instances.{Instance, is_in_slot, row_of}
 
 abbrev pub is_elsewhere : ℕ → Instance → Bool
@@ -33,8 +34,9 @@ left i = record i { followers = i.followers - 1 }
 abbrev pub retired : Instance → Instance
 retired i = record i { is_retired = true }
 
+-- a response of the instance's version renews what it says anew
 abbrev pub refreshed : List Field → Times → Instance → Instance
-refreshed fields times i = record i { fields = fields; times = times }
+refreshed fields times i = record i { fields = refreshed_of i.fields fields times; times = times }
 
 -- "two versions are never mixed": a row whose version is replaced stays as a retired instance while
 -- somebody follows it, and is out at once where nobody does

@@ -1,5 +1,5 @@
 -- How the instances are kept: a slab of rows by slot, and the slots in the order of use.
-use Rattle.std.specs.Prelude.{ℕ, ◌≤◌, ◌<◌, ◌≡◌, true, false, List, [], length, map, get_or, vec_capacity, Option, Some, None, is_some}
+use Rattle.std.specs.Prelude.{ℕ, ◌≤◌, ◌≡◌, true, false, List, [], length, map, get_or, vec_capacity, Option, Some, None, is_some}
 use Rattle.slab.specs.Slab.{slab_len}
 use Rattle.pp_pool.specs.Chunks.{is_in, AreDistinct}
 use Rattle.pp_objects.specs.declared.row.Row.{Row}

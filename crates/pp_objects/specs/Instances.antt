@@ -1,5 +1,5 @@
 -- The instances in memory: for each key at most one row, and retired versions that somebody still follows.
-use Rattle.std.specs.Prelude.{ℕ, Bool, false, ◌==◌, ◌&&◌, not, List, [], Option, Some, None, bytes_eq, count_by}
+use Rattle.std.specs.Prelude.{ℕ, Bool, false, ◌==◌, ◌&&◌, not, List, [], Option, Some, None, bytes_eq}
 use Rattle.std.specs.List.{find, list_any}
 use Rattle.pp_text.specs.Fields.{Field}
 use Rattle.pp_valid.specs.declared.version.Version.{Version}
@@ -76,6 +76,14 @@ cells_of (Some i) = i.cells
 abbrev pub total_of : Option Instance → ℕ
 total_of None = 0
 total_of (Some i) = i.version.length
+
+abbrev pub fields_of : Option Instance → List Field
+fields_of None = []
+fields_of (Some i) = i.fields
+
+-- the fields that are kept with the instance in a slot
+abbrev pub fields_at : ℕ → List Instance → List Field
+fields_at slot is = fields_of (in_slot slot is)
 
 -- what the instance in a slot has in memory
 abbrev pub cells_at : ℕ → List Instance → List (Option Cell)

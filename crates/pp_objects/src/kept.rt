@@ -1,76 +1,80 @@
-// The fields of a row, owned: one text and the spans of the fields in it.
-ghost use Rattle.std.specs.Prelude.{◌≡◌, IfOk, length, All};
-ghost use Rattle.pp_text.specs.Fields.{IsFieldWithin};
-ghost use Rattle.pp_objects.specs.Kept.{AppendsField};
+// The fields of a row, and the room for a refresh of them.
+ghost use Rattle.std.specs.Prelude.{◌≡◌, ◌≤◌, IfOk, length, true};
+ghost use Rattle.pp_objects.specs.Kept.{has_room, kept_of, refreshed_of};
 
-use pp_text::{FieldSpan, Fields, OutOfMemory};
+use crate::choice::Choice;
+use crate::renewal::{put_chosen, put_refreshed, put_renewal};
+use crate::text::KeptText;
+use pp_fresh::Times;
+use pp_text::{Fields, OutOfMemory};
 use std::alloc::Global;
 use std::marker::Model;
+use std::mem;
 
-/// Owned fields. Contracts see the list of their names and values.
+/// The room for the bytes of the fields that a later response renews.
+const RENEWED_ROOM: usize = 2048;
+
+/// The room for these fields: each has a line of at least 8 bytes.
+const RENEWED_PLACES: usize = 256;
+
+/// The fields that are kept of the responses of a version, and a second text of the same room, into which a
+/// refresh is written. Contracts see the fields.
 #[derive(Drop)]
 pub(crate) struct KeptFields {
-    text: Vec<u8>,
-    spans: Vec<FieldSpan>,
+    shown: KeptText,
+    spare: KeptText,
 }
 
 impl Model for KeptFields {
-    ghost use Rattle.std.specs.Prelude.{ℕ, List, map, length, All};
-    ghost use Rattle.pp_text.specs.Fields.{Field, field_in, IsFieldWithin};
+    ghost use Rattle.std.specs.Prelude.{List};
+    ghost use Rattle.pp_text.specs.Fields.{Field};
+    ghost use Rattle.pp_objects.specs.Texts.{HoldsRefresh};
 
     ghost Value = { List Field };
 
-    ghost view = { λ k. map (field_in k.text.items) k.spans.items };
+    ghost view = { λ k. k.shown.fields };
 
-    ghost invariant = { λ k. All (IsFieldWithin (length k.text.items)) k.spans.items };
+    ghost invariant = { λ k. HoldsRefresh k.shown.fields k.shown × HoldsRefresh k.shown.fields k.spare };
 }
 
 impl KeptFields {
-    /// A copy of these fields.
-    pub(crate) fn copy(alloc: Global, fields: &Fields<'_, '_>) -> Result<KeptFields, OutOfMemory>
-        ensures { IfOk result (λ k. k ≡ fields.now) }
+    /// What is kept of the response that makes a row, and the room for a refresh.
+    pub(crate) fn of(
+        alloc: Global,
+        fields: &Fields<'_, '_>,
+        times: Times,
+    ) -> Result<KeptFields, OutOfMemory>
+        ensures { IfOk result (λ k. k ≡ kept_of fields.now times) }
     {
-        let mut text = Vec::new(alloc);
-        let mut spans = Vec::with_capacity(alloc, fields.len())?;
-        for index in 0..fields.len() {
-            let span = append(&mut text, fields.name(index), fields.value(index))?;
-            spans.push_reserved(span);
+        let mut shown = KeptText::with_room(alloc, 0, 0)?;
+        put_chosen(&mut shown, Choice::Lasting, fields)?;
+        let (used, count) = (shown.used(), shown.len());
+        if used > u32::MAX as usize - RENEWED_ROOM {
+            return Err(OutOfMemory);
         }
-        Ok(KeptFields { text, spans })
+        shown.reserve(RENEWED_ROOM, RENEWED_PLACES)?;
+        let spare = KeptText::with_room(alloc, used + RENEWED_ROOM, count + RENEWED_PLACES)?;
+        let none = Fields::new(&[], &[]);
+        put_renewal(&mut shown, &none, fields, times)?;
+        Ok(KeptFields { shown, spare })
     }
 
     /// The fields, over the text in which they are kept.
     pub(crate) fn fields(&self) -> Fields<'_, '_>
         ensures { result ≡ self.now }
     {
-        Fields::new(&self.text, &self.spans)
+        self.shown.fields()
     }
-}
 
-/// Puts name and value behind a text, and tells where.
-fn append(text: &mut Vec<u8>, name: &[u8], value: &[u8]) -> Result<FieldSpan, OutOfMemory>
-    ensures { IfOk result (λ span. AppendsField text.old.items text.new.items name.now value.now span) }
-{
-    let name_from = offset(text.len())?;
-    text.extend_from_slice(name)?;
-    let value_from = offset(text.len())?;
-    text.extend_from_slice(value)?;
-    let value_to = offset(text.len())?;
-    Ok(FieldSpan {
-        name_from,
-        name_to: value_from,
-        value_from,
-        value_to,
-    })
-}
-
-/// A text of 4 GiB finds no memory.
-fn offset(len: usize) -> Result<u32, OutOfMemory>
-    ensures { IfOk result (λ at. at ≡ len) }
-{
-    if len <= u32::MAX as usize {
-        Ok(len as u32)
-    } else {
-        Err(OutOfMemory)
+    /// Renews what a later response of the version says anew, in the room that is there.
+    pub(crate) fn refresh(&mut self, fields: &Fields<'_, '_>, times: Times)
+        requires { has_room self.old fields.now times ≡ true }
+        ensures { self.new ≡ refreshed_of self.old fields.now times }
+    {
+        self.spare.clear();
+        if put_refreshed(&mut self.spare, &self.shown.fields(), fields, times).is_err() {
+            return;
+        }
+        mem::swap(&mut self.shown, &mut self.spare);
     }
 }

@@ -14,10 +14,13 @@
 //! for `pp_evict`.
 #![tactic(auto)]
 
+mod choice; // which fields are kept, and which are renewed
 mod id; // which instance is meant
-mod kept; // the fields of a row
+mod kept; // the fields of a row, and the room for a refresh
 mod objects; // the instances, and the order of their use
+mod renewal; // what a response renews
 mod row; // one instance
+mod text; // fields in one text, with room for more
 
 pub use id::ObjectId;
 pub use objects::{Objects, RowView};

@@ -1,5 +1,5 @@
 // The instances by slot, and the slots in the order of use.
-ghost use Rattle.std.specs.Prelude.{◌≡◌, ◌<◌, ◌≤◌, ◌+◌, ◌/◌, ◌%◌, ◌++◌, ◌∷◌, ◌↔◌, [], length, None, Some, IfOk, OnOk, OnErr, IfSome, IsNone, IsSome, IsSomeAnd, ℕ, true, false, drop, option_map, count_by, vec_capacity};
+ghost use Rattle.std.specs.Prelude.{◌≡◌, ◌<◌, ◌≤◌, ◌+◌, ◌/◌, ◌%◌, ◌++◌, ◌∷◌, ◌↔◌, [], length, None, Some, IfOk, OnOk, OnErr, IfSome, IsNone, IsSome, IsSomeAnd, ℕ, true, false, drop, nat_le, option_map, count_by, vec_capacity};
 ghost use Rattle.std.specs.List.{filter, find, list_any};
 ghost use Rattle.pp_pool.specs.Chunks.{is_not};
 ghost use Rattle.pp_holes.specs.Places.{shown, bytes_at, without, touched, without_owner};
@@ -7,9 +7,10 @@ ghost use Rattle.pp_holes.specs.Adding.{added};
 ghost use Rattle.pp_holes.specs.Cells.{cell_of, filled_of, is_in_memory};
 ghost use Rattle.pp_holes.specs.Holes.{IsFirstHole};
 ghost use Rattle.pp_objects.specs.Inside.{instance_at, IsNew};
-ghost use Rattle.pp_objects.specs.Instances.{id_of, in_slot, is_there, is_row, is_row_of, row_of, is_idle, is_same_id, followers_of, cells_at, total_at, table_at};
-ghost use Rattle.pp_objects.specs.Changes.{changed_in, without_slot, marked, followed, left, retired, settled, retired_from, is_last, left_from, given_back, given_back_by, faces};
+ghost use Rattle.pp_objects.specs.Instances.{id_of, in_slot, is_there, is_row, is_row_of, row_of, is_idle, is_same_id, followers_of, cells_at, total_at, table_at, fields_at};
+ghost use Rattle.pp_objects.specs.Changes.{changed_in, without_slot, marked, refreshed, followed, left, retired, settled, retired_from, is_last, left_from, given_back, given_back_by, faces};
 ghost use Rattle.pp_objects.specs.Agreement.{AllAgree};
+ghost use Rattle.pp_objects.specs.Kept.{has_room, kept_of};
 ghost use Rattle.pp_objects.specs.Views.{ShowsRow};
 
 use crate::id::ObjectId;
@@ -88,6 +89,13 @@ impl Objects {
         count_rows(&self.rows, &self.order) as u32
     }
 
+    /// Whether there is no room for another instance.
+    pub fn is_full(&self) -> bool
+        ensures { result ≡ nat_le 1345 (length self.now.instances) }
+    {
+        self.order.len() >= INSTANCES
+    }
+
     /// The row of a key. `None` exactly where the key has no row.
     pub fn current(&self, key: &[u8]) -> Option<ObjectId>
         ensures current { result ≡ option_map id_of (row_of key.now self.now.instances) }
@@ -150,7 +158,8 @@ impl Objects {
     /// Makes the instance the most recently used.
     pub fn mark(&mut self, id: ObjectId)
         requires { is_there id self.old.instances ≡ true }
-        ensures { self.new ≡ record self.old { instances = marked id.slot self.old.instances } }
+        ensures marked { self.new ≡ record self.old { instances = marked id.slot self.old.instances } }
+        ensures cells { (slot : ℕ) → cells_at slot self.new.instances ≡ cells_at slot self.old.instances }
     {
         leave_order(&mut self.order, id.slot);
         self.order.push_reserved(id.slot);
@@ -160,7 +169,8 @@ impl Objects {
     pub fn follow(&mut self, id: ObjectId)
         requires there { is_there id self.old.instances ≡ true }
         requires few { followers_of (in_slot id.slot self.old.instances) < 256 }
-        ensures { self.new ≡ record self.old { instances = changed_in id.slot followed self.old.instances } }
+        ensures followed { self.new ≡ record self.old { instances = changed_in id.slot followed self.old.instances } }
+        ensures cells { (slot : ℕ) → cells_at slot self.new.instances ≡ cells_at slot self.old.instances }
     {
         let Some(row) = self.rows.get_mut(id.slot as usize) else {
             return;
@@ -168,8 +178,20 @@ impl Objects {
         row.add_follower();
     }
 
+    /// Renews what a later response of the instance's version says anew, in the room that `settle` took, and
+    /// makes the instance the most recently used.
+    pub fn refresh(&mut self, id: ObjectId, fields: &Fields<'_, '_>, times: Times)
+        requires there { is_there id self.old.instances ≡ true }
+        requires room { has_room (fields_at id.slot self.old.instances) fields.now times ≡ true }
+        ensures refreshed { self.new ≡ record self.old { instances = marked id.slot (changed_in id.slot (refreshed fields.now times) self.old.instances) } }
+        ensures cells { (slot : ℕ) → cells_at slot self.new.instances ≡ cells_at slot self.old.instances }
+    {
+        self.renew(id, fields, times);
+        self.mark(id);
+    }
+
     /// Makes a new row of a key, with nothing in memory, as the most recently used. A former row of the key is
-    /// retired. All memory is taken before anything changes.
+    /// retired. All memory is taken before anything changes. After 2^64 - 1 lives there is no memory for a row.
     pub fn settle(
         &mut self,
         alloc: Global,
@@ -180,7 +202,6 @@ impl Objects {
         times: Times,
     ) -> Result<ObjectId, OutOfMemory>
         requires few { length self.old.instances < 1345 }
-        requires lives { self.old.lives < 18446744073709551615 }
         requires long { version.now.length ≤ 1073741824 }
         requires agrees { AllAgree self.old.instances pool.old.used }
         ensures agrees { AllAgree self.new.instances pool.new.used }
@@ -189,12 +210,16 @@ impl Objects {
         ensures vacant { IfOk result (λ id. in_slot id.slot self.old.instances ≡ None) }
         ensures life { IfOk result (λ id. id.life ≡ self.old.lives) }
         ensures lives { OnOk result (self.new.lives ≡ self.old.lives + 1) }
-        ensures settled { IfOk result (λ id. self.new.instances ≡ settled id key.now version.now fields.now times self.old.instances) }
+        ensures there { IfOk result (λ id. is_there id self.new.instances ≡ true) }
+        ensures settled { IfOk result (λ id. self.new.instances ≡ settled id key.now version.now (kept_of fields.now times) times self.old.instances) }
         ensures size { pool.new.size ≡ pool.old.size }
         ensures given { OnOk result (shown pool.new.used ≡ given_back_by (row_of key.now self.old.instances) (shown pool.old.used)) }
     {
         let former = self.current(key);
         let life = self.lives;
+        if life == u64::MAX {
+            return Err(OutOfMemory);
+        }
         let slot = slot_of(self.rows.vacant_key())?;
         let row = new_row(alloc, slot, life, key, version, fields, times)?;
         self.rows.insert_reserved(row);
@@ -349,6 +374,19 @@ impl Objects {
         }
     }
 
+    fn renew(&mut self, id: ObjectId, fields: &Fields<'_, '_>, times: Times)
+        requires there { is_there id self.old.instances ≡ true }
+        requires room { has_room (fields_at id.slot self.old.instances) fields.now times ≡ true }
+        ensures refreshed { self.new ≡ record self.old { instances = changed_in id.slot (refreshed fields.now times) self.old.instances } }
+        ensures cells { (slot : ℕ) → cells_at slot self.new.instances ≡ cells_at slot self.old.instances }
+        ensures there { is_there id self.new.instances ≡ true }
+    {
+        let Some(row) = self.rows.get_mut(id.slot as usize) else {
+            return;
+        };
+        row.refresh(fields, times);
+    }
+
     fn set_retired(&mut self, id: ObjectId)
         requires { is_there id self.old.instances ≡ true }
         ensures retired { self.new ≡ record self.old { instances = changed_in id.slot retired self.old.instances } }
@@ -400,13 +438,13 @@ fn new_row(
     times: Times,
 ) -> Result<Row, OutOfMemory>
     requires { version.now.length ≤ 1073741824 }
-    ensures { IfOk result (λ row. IsNew row slot life key.now version.now fields.now times) }
+    ensures { IfOk result (λ row. IsNew row slot life key.now version.now (kept_of fields.now times) times) }
 {
     Ok(Row {
         life,
         key: Octets::copy(alloc, key)?,
         version: *version,
-        fields: KeptFields::copy(alloc, fields)?,
+        fields: KeptFields::of(alloc, fields, times)?,
         times,
         is_retired: false,
         followers: 0,

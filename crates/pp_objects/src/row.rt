@@ -1,10 +1,11 @@
 // One instance, as it is kept in its slot.
 ghost use Rattle.std.specs.Prelude.{◌≡◌, ◌<◌, ◌+◌, ◌-◌, true};
+ghost use Rattle.pp_objects.specs.Kept.{has_room, refreshed_of};
 
 use crate::kept::KeptFields;
 use pp_fresh::Times;
 use pp_holes::Cells;
-use pp_text::Octets;
+use pp_text::{Fields, Octets};
 use pp_valid::Version;
 
 #[derive(Drop)]
@@ -32,6 +33,14 @@ impl Row {
         ensures { self.new ≡ record self.old { followers = self.old.followers - 1 } }
     {
         self.followers -= 1;
+    }
+
+    pub(crate) fn refresh(&mut self, fields: &Fields<'_, '_>, times: Times)
+        requires { has_room self.old.fields fields.now times ≡ true }
+        ensures { self.new ≡ record self.old { fields = refreshed_of self.old.fields fields.now times; times = times } }
+    {
+        self.fields.refresh(fields, times);
+        self.times = times;
     }
 
     pub(crate) fn retire(&mut self)

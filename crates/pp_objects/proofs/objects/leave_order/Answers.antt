@@ -1,4 +1,4 @@
-use Rattle.std.proofs.Common.{rules, ◌==◌, not}
+use Rattle.std.proofs.Common.{rules}
 use Rattle.std.proofs.lemmas.Fn.{filter_same}
 use Rattle.pp_pool.specs.Chunks.{is_not}
 use Rattle.pp_objects.proofs.objects.leave_order.Goals as goal

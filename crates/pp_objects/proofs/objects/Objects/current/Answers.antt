@@ -1,7 +1,7 @@
-use Rattle.std.proofs.Common.{◌≡◌, ◌<◌, length, get_or, true, map, drop, refl, sym, ◌∙◌, ap}
+use Rattle.std.proofs.Common.{◌≡◌, ◌<◌, length, get_or, true, sym, ◌∙◌, ap}
 use Rattle.std.specs.List.{find}
 use Rattle.pp_objects.specs.declared.id.ObjectId.{ObjectId}
-use Rattle.pp_objects.specs.Instances.{Rows, in_slot, is_row_of, is_idle}
+use Rattle.pp_objects.specs.Instances.{Rows, in_slot, is_row_of}
 use Rattle.pp_objects.specs.Inside.{instance_at}
 use Rattle.pp_objects.proofs.Slots.{found_at}
 use Rattle.pp_objects.proofs.Search.{found}

@@ -1,14 +1,11 @@
-use Rattle.std.proofs.Common.{arith, ◌≡◌, ◌≤◌, ◌+◌, length, ℕ, List, None, Some, refl, sym, ◌∙◌, ap, subst}
+use Rattle.std.proofs.Common.{◌≡◌, ℕ, refl, sym, ◌∙◌, ap, subst}
 use Rattle.std.specs.Option.{option_copied_mut}
 use Rattle.slab.specs.Slab.{with_value}
 use Rattle.pp_holes.specs.Places.{shown, without}
-use Rattle.pp_holes.specs.Adding.{added}
 use Rattle.pp_holes.specs.Cells.{foreign}
-use Rattle.pp_objects.specs.declared.row.Row.{Row}
 use Rattle.pp_objects.specs.Instances.{Rows}
 use Rattle.pp_objects.specs.Changes.{faces}
-use Rattle.pp_objects.specs.Inside.{instance_as, IsOwned}
-use Rattle.pp_objects.proofs.Slots.{none_there, total_seen, set_same, set_other}
+use Rattle.pp_objects.proofs.Slots.{none_there, set_same, set_other}
 use Rattle.pp_objects.proofs.Sound.{sound-set, view-set, faces_changed}
 use Rattle.pp_objects.proofs.Agreeing.{row_agrees, agree_set}
 use Rattle.pp_objects.proofs.objects.Objects.drop_chunk.Goals as goal

@@ -1,6 +1,6 @@
 use Rattle.std.proofs.Common.{◌≡◌, map, drop}
 use Rattle.std.specs.List.{find}
-use Rattle.pp_objects.specs.Instances.{is_row_of, is_idle}
+use Rattle.pp_objects.specs.Instances.{is_idle}
 use Rattle.pp_objects.specs.Inside.{instance_at}
 use Rattle.pp_objects.proofs.objects.Objects.idle_row.Given as goal
 

@@ -1,4 +1,4 @@
-use Rattle.std.proofs.Common.{◌≡◌, true, false, refl, sym, ◌∙◌, ap, subst}
+use Rattle.std.proofs.Common.{true, false, sym, ◌∙◌, ap}
 use Rattle.pp_holes.specs.Places.{shown}
 use Rattle.pp_objects.specs.Instances.{Rows, in_slot}
 use Rattle.pp_objects.specs.Changes.{is_last}

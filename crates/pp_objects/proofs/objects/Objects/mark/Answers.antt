@@ -1,8 +1,8 @@
-use Rattle.std.proofs.Common.{arith, ◌≡◌, ◌++◌, ◌∷◌, [], length, true, refl, sym, ◌∙◌, ap}
-use Rattle.pp_pool.specs.Chunks.{is_in}
+use Rattle.std.proofs.Common.{arith, ◌++◌, ◌∷◌, [], length, refl, ◌∙◌, ap}
 use Rattle.pp_pool.proofs.Numbers.{length-filter_present}
 use Rattle.pp_objects.proofs.Slots.{in_order}
 use Rattle.pp_objects.proofs.Sound.{sound-moved, view-moved}
+use Rattle.pp_objects.proofs.Agreeing.{same_cells}
 use Rattle.pp_objects.proofs.objects.Objects.mark.Goals as goal
 
 pub push_reserved-requires : goal.push_reserved-requires
@@ -21,7 +21,14 @@ invariant_of-self c =
     sound-moved c.self.inside _ c.args.id.slot c.self.invariant (in_order c.self.inside c.args.self.now c.args.id c.self.invariant c.self.view_is c.requires)
     refl (c.push_reserved.ensures.items ∙ ap (λ ns. ns ++ c.args.id.slot ∷ []) c.leave_order.ensures.items) (c.push_reserved.ensures.capacity ∙ c.leave_order.ensures.capacity)
 
-pub returns : goal.returns
-returns c =
+pub returns-clause-marked : goal.returns-clause-marked
+returns-clause-marked c =
     view-moved c.self.inside (record { rows = c.self.inside.rows; order = c.push_reserved.new.self; lives = c.self.inside.lives }) c.args.self.now c.args.id.slot c.self.invariant c.self.view_is (in_order c.self.inside c.args.self.now c.args.id c.self.invariant c.self.view_is c.requires)
     refl (c.push_reserved.ensures.items ∙ ap (λ ns. ns ++ c.args.id.slot ∷ []) c.leave_order.ensures.items) refl
+
+pub returns-clause-cells : goal.returns-clause-cells
+returns-clause-cells c slot =
+    let sound =
+    sound-moved c.self.inside (record { rows = c.self.inside.rows; order = c.push_reserved.new.self; lives = c.self.inside.lives }) c.args.id.slot c.self.invariant (in_order c.self.inside c.args.self.now c.args.id c.self.invariant c.self.view_is c.requires)
+    refl (c.push_reserved.ensures.items ∙ ap (λ ns. ns ++ c.args.id.slot ∷ []) c.leave_order.ensures.items) (c.push_reserved.ensures.capacity ∙ c.leave_order.ensures.capacity) in
+    same_cells c.self.inside (record { rows = c.self.inside.rows; order = c.push_reserved.new.self; lives = c.self.inside.lives }) c.args.self.now _ c.args.id.slot slot c.self.invariant sound c.self.view_is refl refl

@@ -1,8 +1,6 @@
-use Rattle.std.proofs.Common.{◌≡◌, None, Some, ℕ, List, Option, refl, sym, ◌∙◌, ap, subst}
-use Rattle.pp_holes.specs.declared.cell.Cell.{Cell}
+use Rattle.std.proofs.Common.{sym, subst}
 use Rattle.pp_holes.specs.Cells.{Table}
 use Rattle.pp_holes.specs.Holes.{IsFirstHole}
-use Rattle.pp_objects.specs.Instances.{table_at}
 use Rattle.pp_objects.proofs.Slots.{none_there, table_seen}
 use Rattle.pp_objects.proofs.objects.Objects.next_hole.Goals as goal
 

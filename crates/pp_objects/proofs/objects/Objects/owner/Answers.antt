@@ -1,4 +1,4 @@
-use Rattle.std.proofs.Common.{◌≡◌, None, Some, refl, sym, ◌∙◌, ap}
+use Rattle.std.proofs.Common.{None, Some, refl, sym, ◌∙◌, ap}
 use Rattle.std.specs.Prelude.{option_map}
 use Rattle.pp_objects.specs.Instances.{id_of, is_life}
 use Rattle.pp_objects.proofs.Slots.{seen_row}

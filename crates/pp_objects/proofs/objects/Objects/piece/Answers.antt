@@ -1,9 +1,8 @@
-use Rattle.std.proofs.Common.{◌≡◌, None, Some, ℕ, List, [], Option, ◌/◌, ◌%◌, drop, false, refl, sym, ◌∙◌, ap, subst}
+use Rattle.std.proofs.Common.{◌≡◌, ℕ, List, [], Option, ◌/◌, ◌%◌, drop, false, sym, subst}
 use Rattle.std.specs.Prelude.{◌↔◌}
 use Rattle.pp_holes.specs.declared.cell.Cell.{Cell}
 use Rattle.pp_holes.specs.Cells.{is_in_memory}
 use Rattle.pp_holes.specs.Places.{bytes_at, shown}
-use Rattle.pp_objects.specs.Instances.{cells_at}
 use Rattle.pp_objects.proofs.Slots.{none_there, cells_seen}
 use Rattle.pp_objects.proofs.Agreeing.{row_agrees}
 use Rattle.pp_objects.proofs.objects.Objects.piece.Goals as goal

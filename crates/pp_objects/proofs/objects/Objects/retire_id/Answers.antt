@@ -1,10 +1,7 @@
-use Rattle.std.proofs.Common.{arith, ◌≡◌, ◌==◌, true, false, refl, sym, ◌∙◌, ap, subst}
-use Rattle.pp_pool.specs.Chunks.{Chunks}
+use Rattle.std.proofs.Common.{sym, ◌∙◌, ap}
 use Rattle.pp_holes.specs.Places.{shown}
-use Rattle.pp_holes.specs.Cells.{Agrees}
 use Rattle.pp_objects.specs.Instances.{Rows}
 use Rattle.pp_objects.specs.Inside.{instance_at}
-use Rattle.pp_objects.specs.Agreement.{AllAgree}
 use Rattle.pp_objects.proofs.Slots.{there_at, slot_shown}
 use Rattle.pp_objects.proofs.Agreeing.{agree_same, retired_gone, retired_kept, given_gone, given_kept, zero_test, other_test}
 use Rattle.pp_objects.proofs.objects.Objects.retire_id.Goals as goal

@@ -1,7 +1,6 @@
-use Rattle.std.proofs.Common.{arith, ◌≡◌, None, Some, true, false, refl, sym, ◌∙◌, ap, subst, Option}
-use Rattle.std.specs.Prelude.{is_some, IsSomeAnd}
-use Rattle.pp_objects.specs.Instances.{Instance, is_life}
-use Rattle.pp_objects.specs.Views.{ShowsRow}
+use Rattle.std.proofs.Common.{None, Some, refl, sym, ◌∙◌, ap}
+use Rattle.std.specs.Prelude.{is_some}
+use Rattle.pp_objects.specs.Instances.{is_life}
 use Rattle.pp_objects.proofs.Slots.{seen_row}
 use Rattle.pp_objects.proofs.Agreeing.{other_test, same_test, true_false, shown_in}
 use Rattle.pp_objects.proofs.objects.Objects.row.Goals as goal

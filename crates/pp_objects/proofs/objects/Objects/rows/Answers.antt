@@ -1,4 +1,4 @@
-use Rattle.std.proofs.Common.{arith, length, ◌≡◌, refl, sym, ◌∙◌, ap}
+use Rattle.std.proofs.Common.{arith, length, ◌∙◌, ap}
 use Rattle.std.specs.Prelude.{count_by}
 use Rattle.pp_objects.specs.Instances.{Rows, is_row}
 use Rattle.pp_objects.specs.Inside.{instance_at}

@@ -1,9 +1,8 @@
-use Rattle.std.proofs.Common.{arith, ◌≡◌, ◌<◌, ℕ, List, Option, None, Some, refl, sym, ◌∙◌, ap, subst}
+use Rattle.std.proofs.Common.{◌≡◌, ◌<◌, ℕ, List, Option, refl, sym, ◌∙◌, ap, subst}
 use Rattle.std.specs.Option.{option_copied}
 use Rattle.pp_holes.specs.declared.cell.Cell.{Cell}
 use Rattle.pp_holes.specs.Places.{shown, touched}
 use Rattle.pp_holes.specs.Cells.{Agrees, foreign, cell_of, filled_of}
-use Rattle.pp_objects.specs.Instances.{cells_at}
 use Rattle.pp_objects.proofs.Slots.{none_there, cells_seen}
 use Rattle.pp_objects.proofs.Agreeing.{row_agrees, all_agree}
 use Rattle.pp_objects.proofs.objects.Objects.touch.Goals as goal

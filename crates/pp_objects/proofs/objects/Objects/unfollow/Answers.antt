@@ -1,9 +1,9 @@
-use Rattle.std.proofs.Common.{arith, ◌≡◌, ◌<◌, None, Some, refl, sym, ◌∙◌, ap, subst}
+use Rattle.std.proofs.Common.{arith, Some, refl, sym, ◌∙◌, ap, subst}
 use Rattle.std.specs.Option.{option_copied_mut}
 use Rattle.slab.specs.Slab.{with_value}
 use Rattle.pp_objects.specs.declared.row.Row.{Row}
-use Rattle.pp_objects.specs.Instances.{followers_of, cells_of}
-use Rattle.pp_objects.specs.Changes.{followed, left, retired}
+use Rattle.pp_objects.specs.Instances.{followers_of}
+use Rattle.pp_objects.specs.Changes.{left}
 use Rattle.pp_objects.specs.Inside.{instance_as, IsOwned}
 use Rattle.pp_objects.proofs.Slots.{none_there, seen_row}
 use Rattle.pp_objects.proofs.Sound.{sound-set, view-set}
