@@ -2,11 +2,13 @@
 use Rattle.std.specs.Prelude.{◌≡◌, Bool, true, false, ◌++◌, Option, Some}
 use Rattle.std.specs.List.{list_all}
 use Rattle.pp_world.specs.declared.happening.Happening.{Happening}
-use Rattle.pp_world.specs.declared.happening.Happening.TheVariants.{Woke, Listens, Configured, Printed}
+use Rattle.pp_world.specs.declared.happening.Happening.TheVariants.{Woke, Rooted, Listed, Listens, Configured, Printed}
 use Rattle.pp_world.specs.Log.{Log}
 
 abbrev pub is_quiet : Happening → Bool
 is_quiet (Woke image) = false
+is_quiet (Rooted folder) = false
+is_quiet (Listed ok) = false
 is_quiet (Listens port ok) = false
 is_quiet (Configured name text) = false
 is_quiet (Printed text) = false

@@ -1,7 +1,7 @@
 -- The connection to an origin that a stage has.
 use Rattle.std.specs.Prelude.{ℕ, Option, Some, None}
 use Rattle.pp_core.specs.declared.stage.Stage.{Stage}
-use Rattle.pp_core.specs.declared.stage.Stage.TheVariants.{Reading, Heard, Waiting, Dialled, Asking, Awaiting, Passing, Finishing, Failed, Refusing, Short, Closing}
+use Rattle.pp_core.specs.declared.stage.Stage.TheVariants.{Reading, Heard, Waiting, Dialled, Asking, Passing, Finishing, Failed, Refusing, Short, Closing}
 
 abbrev pub origin_of : Stage → Option ℕ
 origin_of Reading = None
@@ -9,8 +9,7 @@ origin_of Heard = None
 origin_of (Waiting exchange) = None
 origin_of (Dialled k) = Some k
 origin_of (Asking k) = Some k
-origin_of (Awaiting k) = Some k
-origin_of (Passing k left) = Some k
+origin_of (Passing k) = Some k
 origin_of (Finishing origin) = origin
 origin_of (Failed origin) = origin
 origin_of (Refusing origin) = origin
@@ -24,8 +23,7 @@ dropped_from Heard = Closing None
 dropped_from (Waiting exchange) = Closing None
 dropped_from (Dialled k) = Closing None
 dropped_from (Asking k) = Closing None
-dropped_from (Awaiting k) = Closing None
-dropped_from (Passing k left) = Closing None
+dropped_from (Passing k) = Closing None
 dropped_from (Finishing origin) = Finishing None
 dropped_from (Failed origin) = Closing None
 dropped_from (Refusing origin) = Refusing None

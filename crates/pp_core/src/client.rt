@@ -1,42 +1,37 @@
-// A client, and what is read from it and written to it.
-ghost use Rattle.std.specs.Prelude.{◌≡◌, ◌+◌, ◌≤◌, ◌++◌, None, Some, length, drop, IfOk};
-ghost use Rattle.pp_core.specs.Clients.{left_of, IsAnswerIn, IsFoundIn};
+// A client, and how its request comes and goes.
+ghost use Rattle.std.specs.Prelude.{◌≡◌, ◌+◌, ◌≤◌, None, Some, length, min, IfOk};
 ghost use Rattle.pp_core.specs.Links.{hold_of};
-ghost use Rattle.pp_core.specs.Stages.{dropped_from, origin_of};
 
 use crate::buffer::drop_front;
+use crate::page::Page;
+use crate::relay::Relay;
+use crate::request::{Due, Errand, Front, Request, Wish, look_at_request};
 use crate::stage::Stage;
+use crate::workspace::Workspace;
 use arrayvec::ArrayVec;
-use pp_head::{HeadState, Scratch, read_request, read_response};
-use pp_plain::{
-    Page, TEXT_LEN, plain_request, plain_response, write_ask, write_page, write_reply_head,
-};
+use pp_framing::BodyRule;
+use pp_reply::{CONTINUE, ReplyKind, TEXT_LEN, write_reply};
 use pp_text::OutOfMemory;
 use std::alloc::{AllocError, Global};
 
 /// The longest head, and so the most that is kept of what a client or an origin sent, in bytes.
-const HEARD_LEN: usize = 16384;
+pub(crate) const HEARD_LEN: usize = 16384;
 
-/// Room for a body on its way, in bytes.
-pub(crate) const PASS_LEN: usize = 8192;
+/// Room for the interim answer, in bytes.
+pub(crate) const INTERIM_LEN: usize = 32;
 
-/// The longest host, in bytes.
-const HOST_LEN: usize = 255;
-
-/// What the bytes of a client or an origin begin with.
+/// What is to be done with what was heard.
 #[derive(Clone, Copy, Debug)]
 pub(crate) enum Found {
-    /// No whole head yet.
-    More,
-    /// Nothing that is passed.
-    Other(Page),
-    /// A plain head of so many bytes.
-    Plain(usize),
+    /// Nothing yet.
+    Nothing,
+    /// A request has come.
+    Due(Due),
 }
 
 /// Whether a client may send more.
 #[derive(Clone, Copy, Debug, PartialEq, Eq)]
-enum Sending {
+pub(crate) enum Sending {
     Open,
     /// It closed its half of the connection. What it sent before is answered still.
     Ended,
@@ -48,16 +43,24 @@ pub(crate) struct Client {
     id: u64,
     // The number of the current request, from 0.
     request: u64,
-    stage: Stage,
+    pub(crate) stage: Stage,
     sending: Sending,
-    // What the client sent, from the current head on.
-    heard: Box<ArrayVec<u8, HEARD_LEN>>,
+    // What the reply to the current request depends on.
+    pub(crate) wish: Wish,
+    // How many bytes of the current request's body are not read by anybody yet.
+    pub(crate) body_left: u64,
+    // What the client sent: the rest of the current request's body, and the requests behind it.
+    pub(crate) heard: Box<ArrayVec<u8, HEARD_LEN>>,
     // Where the current request goes.
-    host: Box<ArrayVec<u8, HOST_LEN>>,
-    // What the origin is to take of the ask, or the client of a head or page.
-    text: Box<ArrayVec<u8, TEXT_LEN>>,
-    // What the origin sent: a head that is not whole, or the body on its way.
-    got: Box<ArrayVec<u8, HEARD_LEN>>,
+    pub(crate) errand: Errand,
+    // What the client is to take of the interim answer.
+    pub(crate) interim: ArrayVec<u8, INTERIM_LEN>,
+    // What the client is to take of a head or page.
+    pub(crate) text: Box<ArrayVec<u8, TEXT_LEN>>,
+    // What the origin sent of a head that is not whole.
+    pub(crate) got: Box<ArrayVec<u8, HEARD_LEN>>,
+    // The body on its way.
+    pub(crate) relay: Relay,
 }
 
 impl Client {
@@ -70,10 +73,14 @@ impl Client {
             request: 0,
             stage: Stage::Reading,
             sending: Sending::Open,
+            wish: Wish::NONE,
+            body_left: 0,
             heard: Box::new(alloc, ArrayVec::new()).map_err(AllocError::from)?,
-            host: Box::new(alloc, ArrayVec::new()).map_err(AllocError::from)?,
+            errand: Errand::new(alloc)?,
+            interim: ArrayVec::new(),
             text: Box::new(alloc, ArrayVec::new()).map_err(AllocError::from)?,
             got: Box::new(alloc, ArrayVec::new()).map_err(AllocError::from)?,
+            relay: Relay::new(alloc)?,
         })
     }
 
@@ -93,14 +100,21 @@ impl Client {
         self.stage
     }
 
+    /// The host where the current request goes.
     pub(crate) fn host(&self) -> &[u8] {
-        self.host.as_slice()
+        self.errand.host.as_slice()
     }
 
-    /// Whether the client is to be read: it may send more, there is room, and it is not refused.
+    /// The port there.
+    pub(crate) fn port(&self) -> u16 {
+        self.errand.port
+    }
+
+    /// Whether the client is to be read: it may send more, there is room, and somebody cares.
     pub(crate) fn is_heard(&self) -> bool {
         match (self.sending, self.stage) {
-            (Sending::Ended, _) | (Sending::Open, Stage::Refusing(_)) => false,
+            (Sending::Ended, _) => false,
+            (Sending::Open, Stage::Refusing(_)) => self.wish.keep && self.room() > 0,
             (Sending::Open, _) => self.room() > 0,
         }
     }
@@ -112,66 +126,131 @@ impl Client {
         HEARD_LEN - self.heard.len()
     }
 
-    /// Takes what the client sent.
+    /// Takes what the client sent. Of a body that nobody reads nothing is kept.
     pub(crate) fn hear(&mut self, bytes: &[u8])
         requires { length self.old.heard.value.items + length bytes.now ≤ HEARD_LEN }
-        ensures heard { self.new.heard.value.items ≡ self.old.heard.value.items ++ bytes.now }
         ensures held { hold_of self.new ≡ hold_of self.old }
     {
         let _ = self.heard.try_extend_from_slice(bytes);
+        if !self.stage.reads_body() {
+            self.skip_body();
+        }
         if let Stage::Reading = self.stage {
             self.stage = Stage::Heard;
         }
     }
 
-    /// The client sends no more. It is to be shut where no request waits for its reply.
+    /// Drops what is there of the current request's body.
+    pub(crate) fn skip_body(&mut self)
+        ensures { hold_of self.new ≡ hold_of self.old }
+    {
+        let len = self.body_there();
+        drop_front(&mut self.heard, len);
+        self.body_left = self.body_left.saturating_sub(len as u64);
+    }
+
+    /// How many bytes of the current request's body are there.
+    pub(crate) fn body_there(&self) -> usize
+        ensures { result ≡ min self.now.body_left (length self.now.heard.value.items) }
+    {
+        let len = self.heard.len();
+        if self.body_left < len as u64 {
+            self.body_left as usize
+        } else {
+            len
+        }
+    }
+
+    /// Whether so much of a body, behind the first bytes that are there, is not to come any more.
+    fn misses(&self, len: u64) -> bool {
+        self.sending == Sending::Ended && (self.heard.len() as u64) < len
+    }
+
+    /// The client sends no more. It is to be shut where no request waits for its reply, and where the
+    /// body of one stays short.
     pub(crate) fn hang_up(&mut self)
         ensures { hold_of self.new ≡ hold_of self.old }
     {
         self.sending = Sending::Ended;
-        if let Stage::Reading = self.stage {
-            self.stage = Stage::Closing(None);
+        let is_short = self.stage.reads_body() && self.misses(self.body_left);
+        if is_short || self.stage == Stage::Reading {
+            self.end();
         }
     }
 
-    /// What is heard begins with; of a plain request its host and its ask are kept, and where no
-    /// whole head is there the client reads on, or is to be shut where it sends no more.
-    pub(crate) fn look(&mut self, scratch: &mut Scratch) -> Found
+    /// Looks at what was heard, behind the rest of a body that nobody read. Of a request its head is
+    /// taken; where no whole head is there the client reads on, or is to be shut where it sends no more.
+    pub(crate) fn look(&mut self, work: &mut Workspace) -> Found
         ensures held { hold_of self.new ≡ hold_of self.old }
     {
-        let found = look_at_request(
-            self.heard.as_slice(),
-            scratch,
-            &mut self.host,
-            &mut self.text,
-        );
-        if let (Stage::Heard, Found::More) = (self.stage, found) {
+        self.skip_body();
+        if self.body_left > 0 {
+            self.wait();
+            return Found::Nothing;
+        }
+        match look_at_request(self.heard.as_slice(), work, &mut self.errand) {
+            Front::More => {
+                self.wait();
+                Found::Nothing
+            }
+            Front::NoHead(page) => {
+                self.wish = Wish::NONE;
+                Found::Due(Due::Refuse(page))
+            }
+            Front::Request(request) => self.take_request(request),
+        }
+    }
+
+    /// What is heard is no whole request.
+    fn wait(&mut self)
+        ensures { hold_of self.new ≡ hold_of self.old }
+    {
+        if let Stage::Heard = self.stage {
             self.stage = match self.sending {
                 Sending::Open => Stage::Reading,
                 Sending::Ended => Stage::Closing(None),
             };
         }
-        found
     }
 
-    /// The exchange of this number begins; the head of so many bytes is done with.
-    pub(crate) fn begin(&mut self, exchange: u64, head_len: usize)
+    /// The request becomes current.
+    fn take_request(&mut self, request: Request) -> Found
+        requires { request.head_len ≤ length self.old.heard.value.items }
+        ensures held { hold_of self.new ≡ hold_of self.old }
+    {
+        drop_front(&mut self.heard, request.head_len);
+        self.wish = request.wish;
+        self.body_left = request.body_len;
+        if self.misses(request.body_len) {
+            self.wait();
+            return Found::Nothing;
+        }
+        if request.waits {
+            let _ = self.interim.try_extend_from_slice(CONTINUE);
+        }
+        Found::Due(request.due)
+    }
+
+    /// The exchange of this number begins.
+    pub(crate) fn begin(&mut self, exchange: u64)
         ensures { hold_of self.new ≡ hold_of self.old }
     {
         if let Stage::Heard = self.stage {
-            let len = head_len.min(self.heard.len());
-            drop_front(&mut self.heard, len);
             self.got.clear();
             self.stage = Stage::Waiting(exchange);
         }
     }
 
     /// A page is begun.
-    pub(crate) fn refuse(&mut self, page: Page)
+    pub(crate) fn refuse(&mut self, page: Page, work: &Workspace)
         ensures held { hold_of self.new ≡ hold_of self.old }
     {
-        self.got.clear();
-        write_page(page, &mut self.text);
+        let kind = ReplyKind::Refusal(page.status(), self.wish.head_asked);
+        let name = work.name.as_slice();
+        write_reply(&kind, None, name, self.wish.keep, &mut self.text);
+        self.wish.keep = self.wish.keep && page.goes_on();
+        self.relay.begin(BodyRule::Empty, false);
+        self.skip_body();
         self.stage = Stage::Refusing(self.stage.origin());
     }
 
@@ -191,150 +270,36 @@ impl Client {
         }
     }
 
-    /// The origin took so many bytes of the ask.
-    pub(crate) fn asked(&mut self, n: usize)
-        requires { n ≤ length self.old.text.value.items }
-        ensures text { self.new.text.value.items ≡ drop n self.old.text.value.items }
-        ensures held { hold_of self.new ≡ hold_of self.old }
-    {
-        drop_front(&mut self.text, n);
-        if let (Stage::Asking(k), true) = (self.stage, self.text.is_empty()) {
-            self.stage = Stage::Awaiting(k);
-        }
-    }
-
-    /// The exchange comes to no more: its connection is gone, or the response is not plain.
+    /// The exchange comes to no more: its connection is gone, or the response is none that is passed.
     pub(crate) fn fail(&mut self)
         ensures held { hold_of self.new ≡ hold_of self.old }
     {
         self.stage = match self.stage {
-            Stage::Passing(k, _) => Stage::Short(k),
+            Stage::Passing(k) => Stage::Short(k),
             stage => Stage::Failed(stage.origin()),
         };
-    }
-
-    /// What of the ask is left for the origin.
-    pub(crate) fn ask(&self) -> &[u8]
-        ensures { result.now ≡ self.now.text.value.items }
-    {
-        self.text.as_slice()
-    }
-
-    /// How many more bytes of the origin there is room for, and are to come.
-    pub(crate) fn got_room(&self) -> usize
-        ensures { result + length self.now.got.value.items ≤ HEARD_LEN }
-    {
-        let len = self.got.len();
-        match self.stage {
-            Stage::Awaiting(_) => HEARD_LEN - len,
-            Stage::Passing(_, left) => (left as usize).min(PASS_LEN.saturating_sub(len)),
-            _ => 0,
-        }
-    }
-
-    /// Takes what the origin sent.
-    fn gain(&mut self, bytes: &[u8])
-        requires { length self.old.got.value.items + length bytes.now ≤ HEARD_LEN }
-        ensures got { self.new.got.value.items ≡ self.old.got.value.items ++ bytes.now }
-        ensures held { hold_of self.new ≡ hold_of self.old }
-    {
-        let _ = self.got.try_extend_from_slice(bytes);
-        if let Stage::Passing(k, left) = self.stage {
-            self.stage = passing(k, left.saturating_sub(bytes.len() as u64));
-        }
-    }
-
-    /// Takes what the origin sent, and looks at it where no head was there yet.
-    pub(crate) fn take_got(&mut self, bytes: &[u8], scratch: &mut Scratch)
-        requires { length self.old.got.value.items + length bytes.now ≤ HEARD_LEN }
-        ensures { hold_of self.new ≡ hold_of self.old }
-    {
-        self.gain(bytes);
-        self.answer(scratch);
-    }
-
-    /// What the origin sent begins with; of a plain response the head of the reply is kept, and the
-    /// head of so many bytes is done with.
-    fn answer(&mut self, scratch: &mut Scratch)
-        ensures held { hold_of self.new ≡ hold_of self.old }
-    {
-        let Stage::Awaiting(k) = self.stage else {
-            return;
-        };
-        match look_at_response(self.got.as_slice(), scratch, &mut self.text) {
-            Answer::More => {}
-            Answer::Other => self.fail(),
-            Answer::Plain(head_len, body_len) => {
-                drop_front(&mut self.got, head_len);
-                self.got.truncate(body_len as usize);
-                self.stage = passing(k, body_len.saturating_sub(self.got.len() as u64));
-            }
-        }
-    }
-
-    /// What is left to be said.
-    fn left(&self) -> &[u8]
-        ensures { result.now ≡ left_of self.now }
-    {
-        if self.text.is_empty() {
-            self.got.as_slice()
-        } else {
-            self.text.as_slice()
-        }
-    }
-
-    /// What the client may be said next.
-    pub(crate) fn offer(&self) -> &[u8]
-        ensures { length result.now ≤ length (left_of self.now) }
-    {
-        match self.stage {
-            Stage::Passing(_, _) | Stage::Finishing(_) | Stage::Refusing(_) => self.left(),
-            _ => &[],
-        }
-    }
-
-    fn take_said(&mut self, n: usize)
-        requires { n ≤ length (left_of self.old) }
-        ensures { hold_of self.new ≡ hold_of self.old }
-    {
-        if self.text.is_empty() {
-            drop_front(&mut self.got, n);
-        } else {
-            drop_front(&mut self.text, n);
-        }
-    }
-
-    /// The client took so many bytes of the offer.
-    pub(crate) fn said(&mut self, n: usize)
-        requires { n ≤ length (left_of self.old) }
-        ensures { hold_of self.new ≡ hold_of self.old }
-    {
-        self.take_said(n);
-        if self.text.is_empty() && self.got.is_empty() {
-            self.finish();
-        }
-    }
-
-    /// All of the reply was said.
-    fn finish(&mut self)
-        ensures { hold_of self.new ≡ hold_of self.old }
-    {
-        match self.stage {
-            Stage::Finishing(None) => {
-                self.request = self.request.saturating_add(1);
-                self.stage = Stage::Heard;
-            }
-            Stage::Refusing(None) => self.stage = Stage::Closing(None),
-            _ => {}
-        }
     }
 
     /// Whether a reply was begun and not said whole.
     pub(crate) fn is_in_reply(&self) -> bool {
         matches!(
             self.stage,
-            Stage::Passing(_, _) | Stage::Finishing(_) | Stage::Refusing(_) | Stage::Short(_)
+            Stage::Passing(_) | Stage::Finishing(_) | Stage::Refusing(_) | Stage::Short(_)
         )
+    }
+
+    /// The next request becomes current, where one may follow.
+    pub(crate) fn go_on(&mut self)
+        ensures { hold_of self.new ≡ hold_of self.old }
+    {
+        if let Stage::Finishing(None) | Stage::Refusing(None) = self.stage {
+            if self.wish.keep {
+                self.request = self.request.saturating_add(1);
+                self.stage = Stage::Heard;
+            } else {
+                self.stage = Stage::Closing(None);
+            }
+        }
     }
 
     /// The client is to be shut.
@@ -349,64 +314,8 @@ impl Client {
         ensures { hold_of self.new ≡ record { client = self.old.id; origin = None } }
     {
         self.stage = self.stage.dropped();
-    }
-}
-
-fn passing(origin: u64, left: u64) -> Stage
-    ensures { origin_of result ≡ Some origin }
-{
-    if left == 0 {
-        Stage::Finishing(Some(origin))
-    } else {
-        Stage::Passing(origin, left)
-    }
-}
-
-fn look_at_request(
-    heard: &[u8],
-    scratch: &mut Scratch,
-    host: &mut ArrayVec<u8, HOST_LEN>,
-    text: &mut ArrayVec<u8, TEXT_LEN>,
-) -> Found
-    ensures { IsFoundIn (length heard.now) result }
-{
-    match read_request(heard, scratch) {
-        HeadState::More => Found::More,
-        HeadState::TooLong => Found::Other(Page::HeadTooLarge),
-        HeadState::Bad => Found::Other(Page::BadRequest),
-        HeadState::Whole(head) => match plain_request(&head) {
-            Some(place) => {
-                host.clear();
-                let _ = host.try_extend_from_slice(place.host);
-                write_ask(&place, text);
-                Found::Plain(head.length)
-            }
-            None => Found::Other(Page::BadGateway),
-        },
-    }
-}
-
-/// What the bytes of an origin begin with.
-#[derive(Clone, Copy, Debug)]
-enum Answer {
-    More,
-    Other,
-    /// A plain head of so many bytes, before a body of so many.
-    Plain(usize, u64),
-}
-
-fn look_at_response(got: &[u8], scratch: &mut Scratch, text: &mut ArrayVec<u8, TEXT_LEN>) -> Answer
-    ensures { IsAnswerIn (length got.now) result }
-{
-    match read_response(got, scratch) {
-        HeadState::More => Answer::More,
-        HeadState::TooLong | HeadState::Bad => Answer::Other,
-        HeadState::Whole(head) => match plain_response(&head) {
-            Some(body_len) => {
-                write_reply_head(&head, body_len, text);
-                Answer::Plain(head.length, body_len)
-            }
-            None => Answer::Other,
-        },
+        if self.is_said() {
+            self.go_on();
+        }
     }
 }

@@ -18,10 +18,10 @@ impl Proxy {
     {
         let mut i = 0;
         while i < self.clients.len() {
+            self.drop_over(world, i);
             if self.is_closing(i) {
                 self.shut(world, i);
             } else {
-                self.drop_over(world, i);
                 i += 1;
             }
         }

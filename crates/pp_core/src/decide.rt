@@ -6,9 +6,10 @@ ghost use Rattle.pp_core.specs.Stages.{origin_of};
 
 use crate::Proxy;
 use crate::client::Found;
+use crate::page::Page;
+use crate::request::Due;
 use crate::stage::Stage;
 use crate::wire::note;
-use pp_plain::Page;
 use pp_world::{Cause, Decision, Note, Wire};
 
 impl Proxy {
@@ -49,24 +50,24 @@ impl Proxy {
         ensures count { length self.new.clients.items ≡ length self.old.clients.items }
     {
         match self.found(i) {
-            Found::More => {}
-            Found::Other(page) => self.refuse(world, i, page),
-            Found::Plain(head_len) => self.begin(world, i, head_len),
+            Found::Nothing => {}
+            Found::Due(Due::Refuse(page)) => self.refuse(world, i, page),
+            Found::Due(Due::Pass) => self.begin(world, i),
         }
     }
 
-    /// What was heard begins with; the client reads on where no whole head is there.
+    /// What is due by what was heard; the client reads on where no whole head is there.
     fn found(&mut self, i: usize) -> Found
         requires { i < length self.old.clients.items }
         ensures held { holds self.new.clients.items ≡ holds self.old.clients.items }
         ensures count { length self.new.clients.items ≡ length self.old.clients.items }
     {
         let client = &mut self.clients[i];
-        client.look(&mut self.scratch)
+        client.look(&mut self.work)
     }
 
-    /// Begins the exchange for a plain request, whose head has so many bytes.
-    fn begin<W: Wire>(&mut self, world: &mut W, i: usize, head_len: usize)
+    /// Begins the exchange for a request that is passed.
+    fn begin<W: Wire>(&mut self, world: &mut W, i: usize)
         requires place { i < length self.old.clients.items }
         requires linked { IsLinked (W.log world.old) (W.top world.old) (holds self.old.clients.items) }
         ensures linked { IsLinked (W.log world.new) (W.top world.new) (holds self.new.clients.items) }
@@ -81,7 +82,7 @@ impl Proxy {
         let exchange = self.exchanges;
         self.exchanges = exchange.saturating_add(1);
         let client = &mut self.clients[i];
-        client.begin(exchange, head_len);
+        client.begin(exchange);
     }
 
     /// Begins a page.
@@ -96,7 +97,7 @@ impl Proxy {
         let decision = Decision::Refuse(page.status());
         note(world, &Note::Taken(client.id(), client.request(), decision));
         let client = &mut self.clients[i];
-        client.refuse(page);
+        client.refuse(page, &self.work);
     }
 
     /// Cuts the reply.

@@ -5,7 +5,6 @@ ghost use Rattle.pp_core.specs.Quiet.{GrowsQuietly};
 
 use crate::Proxy;
 use crate::client::Client;
-use crate::stage::Stage;
 use crate::wire::{close, note, read, write};
 use pp_world::{Cause, Event, Got, Note, Wire};
 
@@ -170,14 +169,14 @@ impl Proxy {
         }
     }
 
-    /// Offers the origin of the client at this place what is left of the ask.
+    /// Offers the origin of the client at this place what is left of the ask and the request's body.
     fn ask<W: Wire>(&mut self, world: &mut W, i: usize)
         requires place { i < length self.old.clients.items }
         requires linked { IsLinked (W.log world.old) (W.top world.old) (holds self.old.clients.items) }
         ensures linked { IsLinked (W.log world.new) (W.top world.new) (holds self.new.clients.items) }
         ensures quiet { GrowsQuietly (W.log world.old) (W.log world.new) }
     {
-        let Stage::Asking(k) = self.clients[i].stage() else {
+        let Some(k) = self.clients[i].stage().origin() else {
             return;
         };
         let ask = self.clients[i].ask();

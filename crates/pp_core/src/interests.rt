@@ -4,7 +4,6 @@ ghost use Rattle.std.specs.Prelude.{◌≡◌, length, nat_lt};
 use crate::Proxy;
 use crate::client::Client;
 use crate::proxy::MAX_CLIENTS;
-use crate::stage::Stage;
 
 impl Proxy {
     /// Writes down what is waited for.
@@ -21,7 +20,10 @@ impl Proxy {
             if let Some(id) = reads_origin(client) {
                 let _ = self.wants.read.try_push(id);
             }
-            if let Some(id) = writes(client) {
+            if let Some(id) = writes_client(client) {
+                let _ = self.wants.write.try_push(id);
+            }
+            if let Some(id) = writes_origin(client) {
                 let _ = self.wants.write.try_push(id);
             }
         }
@@ -45,15 +47,18 @@ fn reads_origin(client: &Client) -> Option<u64> {
     }
 }
 
-fn writes(client: &Client) -> Option<u64> {
-    match client.stage() {
-        Stage::Asking(k) => Some(k),
-        _ => {
-            if client.offer().is_empty() {
-                None
-            } else {
-                Some(client.id())
-            }
-        }
+fn writes_client(client: &Client) -> Option<u64> {
+    if client.offer().is_empty() {
+        None
+    } else {
+        Some(client.id())
+    }
+}
+
+fn writes_origin(client: &Client) -> Option<u64> {
+    if client.ask().is_empty() {
+        None
+    } else {
+        client.stage().origin()
     }
 }

@@ -11,11 +11,8 @@ use pp_world::Wire;
 /// The most connections to origins at once.
 const MAX_ORIGINS: usize = 64;
 
-/// The most connections to one host at once.
+/// The most connections to one origin at once.
 const MAX_PER_HOST: usize = 4;
-
-/// Where every origin is dialled.
-const HTTP_PORT: u16 = 80;
 
 impl Proxy {
     /// Dials for each exchange that may have a connection.
@@ -46,7 +43,7 @@ impl Proxy {
         for (i, client) in self.clients.iter().enumerate() {
             if let Stage::Waiting(exchange) = client.stage() {
                 let is_earlier = first.is_none() || exchange < earliest;
-                if is_earlier && self.origins_of(client.host()) < MAX_PER_HOST {
+                if is_earlier && self.origins_at(client.host(), client.port()) < MAX_PER_HOST {
                     first = Some(i);
                     earliest = exchange;
                 }
@@ -62,10 +59,10 @@ impl Proxy {
             .count()
     }
 
-    fn origins_of(&self, host: &[u8]) -> usize {
+    fn origins_at(&self, host: &[u8], port: u16) -> usize {
         self.clients
             .iter()
-            .filter(|client| client.stage().origin().is_some() && client.host() == host)
+            .filter(|client| client.stage().origin().is_some() && goes_to(client, host, port))
             .count()
     }
 
@@ -76,7 +73,7 @@ impl Proxy {
         ensures quiet { GrowsQuietly (W.log world.old) (W.log world.new) }
         ensures count { length self.new.clients.items ≡ length self.old.clients.items }
     {
-        match world.dial(self.clients[i].host(), HTTP_PORT) {
+        match world.dial(self.clients[i].host(), self.clients[i].port()) {
             Ok(k) => {
                 let client = &mut self.clients[i];
                 client.dialled(k);
@@ -87,4 +84,8 @@ impl Proxy {
             }
         }
     }
+}
+
+fn goes_to(client: &Client, host: &[u8], port: u16) -> bool {
+    client.port() == port && client.host() == host
 }

@@ -1,12 +1,12 @@
 // The proxy, and a turn.
-ghost use Rattle.std.specs.Prelude.{◌≡◌, [], IfOk};
+ghost use Rattle.std.specs.Prelude.{◌≡◌, ◌≤◌, [], length, IfOk};
 
 use crate::client::Client;
+use crate::workspace::Workspace;
 use arrayvec::ArrayVec;
-use pp_head::Scratch;
 use pp_text::OutOfMemory;
 use pp_world::{Event, Wants, Wire};
-use std::alloc::{AllocError, Global};
+use std::alloc::Global;
 
 /// The most clients at once.
 pub(crate) const MAX_CLIENTS: usize = 256;
@@ -23,7 +23,7 @@ pub struct Proxy {
     pub(crate) exchanges: u64,
     pub(crate) wants: Wants,
     pub(crate) buffer: Vec<u8>,
-    pub(crate) scratch: Scratch,
+    pub(crate) work: Workspace,
 }
 
 /// What became of a turn.
@@ -38,8 +38,9 @@ impl Proxy {
     ghost use Rattle.pp_core.specs.Links.{holds, IsLinked};
     ghost use Rattle.pp_core.specs.Quiet.{GrowsQuietly};
 
-    /// A proxy without a client, with the memory for all that is not a client's own.
-    pub fn open(alloc: Global) -> Result<Proxy, OutOfMemory>
+    /// A proxy of this name without a client, with the memory for all that is not a client's own.
+    pub fn open(alloc: Global, name: &[u8]) -> Result<Proxy, OutOfMemory>
+        requires { length name.now ≤ 64 }
         ensures { IfOk result (λ p. p.clients.items ≡ []) }
     {
         Ok(Proxy {
@@ -52,7 +53,7 @@ impl Proxy {
                 write: ArrayVec::new(),
             },
             buffer: vec![in alloc; 0; READ_LEN]?,
-            scratch: Scratch::new(),
+            work: Workspace::new(alloc, name)?,
         })
     }
 

@@ -1,4 +1,4 @@
-// Step 2: what an origin sent.
+// Step 2: a read from an origin.
 ghost use Rattle.std.specs.Prelude.{◌≡◌, ◌<◌, length};
 ghost use Rattle.pp_core.specs.Links.{holds, IsLinked};
 ghost use Rattle.pp_core.specs.Quiet.{GrowsQuietly};
@@ -26,12 +26,12 @@ impl Proxy {
         match read(world, k, front) {
             Ok(Got::Bytes(n)) => {
                 let client = &mut self.clients[i];
-                client.take_got(&front[..n], &mut self.scratch);
+                client.take_got(&mut front[..n], &mut self.work);
             }
             Ok(Got::NotYet) => {}
             Ok(Got::End) => {
                 let client = &mut self.clients[i];
-                client.fail();
+                client.origin_ended();
             }
             Err(_) => {
                 let client = &mut self.clients[i];

@@ -8,21 +8,24 @@ ghost use Rattle.pp_core.specs.Stages.{dropped_from, origin_of};
 /// ```text
 /// Reading   -> Heard      bytes came                                              [hear]
 /// Heard     -> Reading    no whole head is there                                  [look]
-/// Heard     -> Waiting    a plain request: its exchange begins                    [begin]
+/// Heard     -> Waiting    a request that is passed: its exchange begins           [begin]
 /// Heard     -> Refusing   another one, or no request                              [refuse]
-/// Waiting   -> Dialled    a connection to its host was begun                      [dialled]
+/// Waiting   -> Dialled    a connection to its origin was begun                    [dialled]
 /// Waiting   -> Failed     none could be begun                                     [fail]
 /// Dialled   -> Asking     the connection was reached                              [reached]
-/// Asking    -> Awaiting   the origin took the whole ask                           [asked]
-/// Awaiting  -> Passing    the head of a plain response came                       [answer]
-/// Passing   -> Finishing  and the last byte of its body                           [take_got]
+/// Asking    -> Passing    the head of the response came                           [take_head]
+/// Asking    -> Finishing  and the whole of its body with it                       [take_head]
+/// Passing   -> Finishing  the response is there whole                             [take_body, origin_ended]
 /// Finishing -> Heard      all of it was said: the next request is current         [said]
-/// Dialled, Asking, Awaiting -> Failed   the connection is gone, or the response is not plain  [fail]
+/// Finishing -> Closing    all of it was said, and no request follows              [said]
+/// Dialled, Asking -> Failed   the connection is gone, or what came is not passed  [fail]
 /// Failed    -> Refusing   the page is begun                                       [refuse]
-/// Passing   -> Short      the connection is gone before the body was whole        [fail]
-/// Refusing  -> Closing    the page was said whole                                 [said]
+/// Refusing  -> Heard      the page was said whole: the next request is current    [said]
+/// Refusing  -> Closing    the page was said whole, and no request follows         [said]
+/// Passing   -> Short      the response ended early, or is none any more           [fail]
 /// Reading   -> Closing    the client sends no more                                [hang_up]
-/// Heard     -> Closing    no whole head is there, and it sends no more            [look]
+/// Heard     -> Closing    no whole request is there, and it sends no more         [look]
+/// Waiting, Dialled, Asking, Passing -> Closing   it sends no more of the body     [hang_up]
 /// any       -> Closing    the client is lost, or its reply is cut                 [end]
 /// ```
 #[derive(Clone, Copy, Debug, PartialEq, Eq)]
@@ -35,12 +38,11 @@ pub(crate) enum Stage {
     Waiting(u64),
     /// Its connection is dialled, and not reached.
     Dialled(u64),
-    /// The ask is written on this connection.
+    /// The ask and the request's body go to this connection, which may answer before it took them.
     Asking(u64),
-    /// The ask was written whole, and the head of the response is not there.
-    Awaiting(u64),
-    /// The response is passed from this connection; so many bytes of its body are to come.
-    Passing(u64, u64),
+    /// The head of the response came from this connection, and its body is passed. What is left of the
+    /// ask and the request's body still goes there.
+    Passing(u64),
     /// The response is there whole; its connection, until that is dropped.
     Finishing(Option<u64>),
     /// The exchange ended without a response to pass; its connection, where one was dialled.
@@ -60,15 +62,25 @@ impl Stage {
     {
         match self {
             Stage::Reading | Stage::Heard | Stage::Waiting(_) => None,
-            Stage::Dialled(k)
-            | Stage::Asking(k)
-            | Stage::Awaiting(k)
-            | Stage::Passing(k, _)
-            | Stage::Short(k) => Some(k),
+            Stage::Dialled(k) | Stage::Asking(k) | Stage::Passing(k) | Stage::Short(k) => Some(k),
             Stage::Finishing(origin)
             | Stage::Failed(origin)
             | Stage::Refusing(origin)
             | Stage::Closing(origin) => origin,
+        }
+    }
+
+    /// Whether the request's body is for the origin: in other stages nobody reads it.
+    pub(crate) fn reads_body(self) -> bool {
+        match self {
+            Stage::Waiting(_) | Stage::Dialled(_) | Stage::Asking(_) | Stage::Passing(_) => true,
+            Stage::Reading
+            | Stage::Heard
+            | Stage::Finishing(_)
+            | Stage::Failed(_)
+            | Stage::Refusing(_)
+            | Stage::Short(_)
+            | Stage::Closing(_) => false,
         }
     }
 
@@ -84,8 +96,7 @@ impl Stage {
             | Stage::Waiting(_)
             | Stage::Dialled(_)
             | Stage::Asking(_)
-            | Stage::Awaiting(_)
-            | Stage::Passing(_, _)
+            | Stage::Passing(_)
             | Stage::Failed(_)
             | Stage::Short(_)
             | Stage::Closing(_) => Stage::Closing(None),

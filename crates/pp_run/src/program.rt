@@ -13,6 +13,9 @@ use std::alloc::Global;
 /// Where clients are listened for.
 pub const PORT: u16 = 8123;
 
+/// The name of this proxy in Via.
+const NAME: &[u8] = b"polipo";
+
 /// The most turns of a run.
 const MAX_TURNS: u64 = 140_737_488_355_327;
 
@@ -27,7 +30,7 @@ pub fn run<W: World>(alloc: Global, words: &[String], world: &mut W) -> Exit
         world.print(b"usage: polipo [-c FILE] [-g SEED] [name=value ...]\n");
         return Exit::Usage;
     }
-    match Proxy::open(alloc) {
+    match Proxy::open(alloc, NAME) {
         Ok(proxy) => listen(proxy, world),
         Err(_) => {
             world.print(b"polipo: out of memory\n");

@@ -10,7 +10,7 @@ pub returns-in-Ok-Bytes-clause-linked : goal.returns-in-Ok-Bytes-clause-linked
 returns-in-Ok-Bytes-clause-linked g c = kept_set _ _ _ _ _ c.index_mut-client.result.now c.read.ensures.keeps c.requires.linked c.take_got.ensures c.index_mut-client.ensures.value
 
 pub returns-in-Ok-End-clause-linked : goal.returns-in-Ok-End-clause-linked
-returns-in-Ok-End-clause-linked g c = kept_set _ _ _ _ _ c.index_mut-client-in-Ok-End.result.now c.read.ensures.keeps c.requires.linked c.fail.ensures.held c.index_mut-client-in-Ok-End.ensures.value
+returns-in-Ok-End-clause-linked g c = kept_set _ _ _ _ _ c.index_mut-client-in-Ok-End.result.now c.read.ensures.keeps c.requires.linked c.origin_ended.ensures.held c.index_mut-client-in-Ok-End.ensures.value
 
 pub returns-in-Err-clause-linked : goal.returns-in-Err-clause-linked
-returns-in-Err-clause-linked g c = kept_set _ _ _ _ _ c.index_mut-client-in-Err.result.now c.read.ensures.keeps c.requires.linked c.fail-in-Err.ensures.held c.index_mut-client-in-Err.ensures.value
+returns-in-Err-clause-linked g c = kept_set _ _ _ _ _ c.index_mut-client-in-Err.result.now c.read.ensures.keeps c.requires.linked c.fail.ensures.held c.index_mut-client-in-Err.ensures.value
