@@ -1,5 +1,5 @@
 -- What a client holds of bytes on their way.
-use Rattle.std.specs.Prelude.{◌≤◌, ℕ, cond, ⊤, List, length, take, ◌-◌}
+use Rattle.std.specs.Prelude.{◌≤◌, ℕ, cond, ⊤, List, ◌++◌, drop, length, take, ◌-◌}
 use Rattle.pp_text.specs.Bytes.{is_empty}
 use Rattle.pp_pass.specs.Pipe.{room_of}
 use Rattle.pp_core.specs.declared.client.Client.{Client}
@@ -12,11 +12,27 @@ use Rattle.pp_core.specs.declared.stage.Stage.TheVariants.{Reading, Heard, Waiti
 
 -- what is left to be said: the interim answer, then the head of the reply or a page, and then the body
 abbrev pub left_of : Client → List ℕ
-left_of c = cond (is_empty c.interim.items) (cond (is_empty c.text.value.items) c.relay.pipe.bytes c.text.value.items) c.interim.items
+left_of c = c.interim.items ++ (c.text.value.items ++ c.relay.pipe.bytes)
 
--- what is left for the origin: the head of the ask, and then what is there of the request's body
+-- the part of it that is said next
+abbrev pub said_next : Client → List ℕ
+said_next c = cond (is_empty c.interim.items) (cond (is_empty c.text.value.items) c.relay.pipe.bytes c.text.value.items) c.interim.items
+
+-- what is there of the body of the current request
+abbrev pub body_of : Client → List ℕ
+body_of c = take c.body_left c.heard.value.items
+
+-- what is there behind that body: the requests that follow
+abbrev pub behind_body : Client → List ℕ
+behind_body c = drop c.body_left c.heard.value.items
+
+-- what is left for the origin: the head of the ask, and then the body
 abbrev pub ask_of : Client → List ℕ
-ask_of c = cond (is_empty c.errand.ask.value.items) (take c.body_left c.heard.value.items) c.errand.ask.value.items
+ask_of c = c.errand.ask.value.items ++ body_of c
+
+-- the part of it that is sent next
+abbrev pub asked_next : Client → List ℕ
+asked_next c = cond (is_empty c.errand.ask.value.items) (body_of c) c.errand.ask.value.items
 
 -- ours: the longest head, and one read
 abbrev pub heard_len : ℕ

@@ -84,7 +84,7 @@ impl Client {
         self.wish.keep = self.wish.keep && is_end_known(rule, self.wish.minor);
     }
 
-    /// Takes what came behind the head.
+    /// Takes what came behind the head. One read never brings more than an empty pipe has room for.
     fn take_rest(&mut self) -> BodyState
         ensures held { hold_of self.new ≡ hold_of self.old }
     {

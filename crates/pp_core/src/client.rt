@@ -1,5 +1,6 @@
 // A client, and how its request comes and goes.
-ghost use Rattle.std.specs.Prelude.{◌≡◌, ◌+◌, ◌≤◌, None, Some, length, min, IfOk};
+ghost use Rattle.std.specs.Prelude.{◌≡◌, ◌+◌, ◌≤◌, ◌++◌, [], None, Some, drop, length, min, IfOk};
+ghost use Rattle.pp_core.specs.Clients.{behind_body, body_of, left_of};
 ghost use Rattle.pp_core.specs.Links.{hold_of};
 
 use crate::buffer::drop_front;
@@ -19,15 +20,6 @@ pub(crate) const HEARD_LEN: usize = 16384;
 
 /// Room for the interim answer, in bytes.
 pub(crate) const INTERIM_LEN: usize = 32;
-
-/// What is to be done with what was heard.
-#[derive(Clone, Copy, Debug)]
-pub(crate) enum Found {
-    /// Nothing yet.
-    Nothing,
-    /// A request has come.
-    Due(Due),
-}
 
 /// Whether a client may send more.
 #[derive(Clone, Copy, Debug, PartialEq, Eq)]
@@ -130,6 +122,7 @@ impl Client {
     pub(crate) fn hear(&mut self, bytes: &[u8])
         requires { length self.old.heard.value.items + length bytes.now ≤ HEARD_LEN }
         ensures held { hold_of self.new ≡ hold_of self.old }
+        ensures behind { behind_body self.new ≡ drop self.old.body_left (self.old.heard.value.items ++ bytes.now) }
     {
         let _ = self.heard.try_extend_from_slice(bytes);
         if !self.stage.reads_body() {
@@ -142,7 +135,9 @@ impl Client {
 
     /// Drops what is there of the current request's body.
     pub(crate) fn skip_body(&mut self)
-        ensures { hold_of self.new ≡ hold_of self.old }
+        ensures held { hold_of self.new ≡ hold_of self.old }
+        ensures body { body_of self.new ≡ [] }
+        ensures behind { behind_body self.new ≡ behind_body self.old }
     {
         let len = self.body_there();
         drop_front(&mut self.heard, len);
@@ -178,24 +173,24 @@ impl Client {
         }
     }
 
-    /// Looks at what was heard, behind the rest of a body that nobody read. Of a request its head is
-    /// taken; where no whole head is there the client reads on, or is to be shut where it sends no more.
-    pub(crate) fn look(&mut self, work: &mut Workspace) -> Found
+    /// What is due by what was heard, behind the rest of a body that nobody read. The head of a request is
+    /// taken; where none is there the client reads on, or is to be shut where it sends no more.
+    pub(crate) fn look(&mut self, work: &mut Workspace) -> Option<Due>
         ensures held { hold_of self.new ≡ hold_of self.old }
     {
         self.skip_body();
         if self.body_left > 0 {
             self.wait();
-            return Found::Nothing;
+            return None;
         }
         match look_at_request(self.heard.as_slice(), work, &mut self.errand) {
             Front::More => {
                 self.wait();
-                Found::Nothing
+                None
             }
             Front::NoHead(page) => {
                 self.wish = Wish::NONE;
-                Found::Due(Due::Refuse(page))
+                Some(Due::Refuse(page))
             }
             Front::Request(request) => self.take_request(request),
         }
@@ -203,7 +198,8 @@ impl Client {
 
     /// What is heard is no whole request.
     fn wait(&mut self)
-        ensures { hold_of self.new ≡ hold_of self.old }
+        ensures held { hold_of self.new ≡ hold_of self.old }
+        ensures only { self.new ≡ record self.old { stage = self.new.stage } }
     {
         if let Stage::Heard = self.stage {
             self.stage = match self.sending {
@@ -214,21 +210,23 @@ impl Client {
     }
 
     /// The request becomes current.
-    fn take_request(&mut self, request: Request) -> Found
+    fn take_request(&mut self, request: Request) -> Option<Due>
         requires { request.head_len ≤ length self.old.heard.value.items }
         ensures held { hold_of self.new ≡ hold_of self.old }
+        ensures heard { self.new.heard.value.items ≡ drop request.head_len self.old.heard.value.items }
+        ensures body { self.new.body_left ≡ request.body_len }
     {
         drop_front(&mut self.heard, request.head_len);
         self.wish = request.wish;
         self.body_left = request.body_len;
         if self.misses(request.body_len) {
             self.wait();
-            return Found::Nothing;
+            return None;
         }
         if request.waits {
             let _ = self.interim.try_extend_from_slice(CONTINUE);
         }
-        Found::Due(request.due)
+        Some(request.due)
     }
 
     /// The exchange of this number begins.
@@ -290,7 +288,8 @@ impl Client {
 
     /// The next request becomes current, where one may follow.
     pub(crate) fn go_on(&mut self)
-        ensures { hold_of self.new ≡ hold_of self.old }
+        ensures held { hold_of self.new ≡ hold_of self.old }
+        ensures left { left_of self.new ≡ left_of self.old }
     {
         if let Stage::Finishing(None) | Stage::Refusing(None) = self.stage {
             if self.wish.keep {

@@ -5,7 +5,6 @@ ghost use Rattle.pp_core.specs.Quiet.{GrowsQuietly};
 ghost use Rattle.pp_core.specs.Stages.{origin_of};
 
 use crate::Proxy;
-use crate::client::Found;
 use crate::page::Page;
 use crate::request::Due;
 use crate::stage::Stage;
@@ -50,14 +49,14 @@ impl Proxy {
         ensures count { length self.new.clients.items ≡ length self.old.clients.items }
     {
         match self.found(i) {
-            Found::Nothing => {}
-            Found::Due(Due::Refuse(page)) => self.refuse(world, i, page),
-            Found::Due(Due::Pass) => self.begin(world, i),
+            None => {}
+            Some(Due::Refuse(page)) => self.refuse(world, i, page),
+            Some(Due::Pass) => self.begin(world, i),
         }
     }
 
     /// What is due by what was heard; the client reads on where no whole head is there.
-    fn found(&mut self, i: usize) -> Found
+    fn found(&mut self, i: usize) -> Option<Due>
         requires { i < length self.old.clients.items }
         ensures held { holds self.new.clients.items ≡ holds self.old.clients.items }
         ensures count { length self.new.clients.items ≡ length self.old.clients.items }

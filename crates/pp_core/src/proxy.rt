@@ -41,7 +41,8 @@ impl Proxy {
     /// A proxy of this name without a client, with the memory for all that is not a client's own.
     pub fn open(alloc: Global, name: &[u8]) -> Result<Proxy, OutOfMemory>
         requires { length name.now ≤ 64 }
-        ensures { IfOk result (λ p. p.clients.items ≡ []) }
+        ensures clients { IfOk result (λ p. p.clients.items ≡ []) }
+        ensures name { IfOk result (λ p. p.work.name.items ≡ name.now) }
     {
         Ok(Proxy {
             alloc,

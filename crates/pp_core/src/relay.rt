@@ -1,6 +1,6 @@
 // The body of a response on its way: what delimits it, and the pipe that it goes through.
-ghost use Rattle.std.specs.Prelude.{◌≡◌, ◌↔◌, [], ◌≤◌, length};
-ghost use Rattle.pp_pass.specs.Pipe.{room_of};
+ghost use Rattle.std.specs.Prelude.{◌≡◌, ◌↔◌, [], ◌≤◌, length, take};
+ghost use Rattle.pp_pass.specs.Pipe.{room_of, without_first};
 
 use pp_framing::{BodyRule, BodyState, Decoder, Ending};
 use pp_pass::Pass;
@@ -65,7 +65,8 @@ impl Relay {
 
     /// What may be taken next.
     pub(crate) fn offer(&self) -> &[u8]
-        ensures front { length result.now ≤ length self.now.pipe.bytes }
+        ensures within { length result.now ≤ length self.now.pipe.bytes }
+        ensures front { result.now ≡ take (length result.now) self.now.pipe.bytes }
         ensures empty { (result.now ≡ []) ↔ (self.now.pipe.bytes ≡ []) }
     {
         self.pipe.offer()
@@ -74,6 +75,7 @@ impl Relay {
     /// The client took so many bytes.
     pub(crate) fn took(&mut self, n: usize)
         requires { n ≤ length self.old.pipe.bytes }
+        ensures { self.new.pipe ≡ without_first n self.old.pipe }
     {
         self.pipe.took(n);
     }

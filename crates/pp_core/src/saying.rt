@@ -1,6 +1,6 @@
 // What a client is said: the interim answer, the head of the reply or a page, and the body.
-ghost use Rattle.std.specs.Prelude.{◌≡◌, ◌≤◌, [], length};
-ghost use Rattle.pp_core.specs.Clients.{left_of};
+ghost use Rattle.std.specs.Prelude.{◌≡◌, ◌≤◌, [], drop, length, take};
+ghost use Rattle.pp_core.specs.Clients.{left_of, said_next};
 ghost use Rattle.pp_core.specs.Links.{hold_of};
 
 use crate::buffer::drop_front;
@@ -10,7 +10,8 @@ use crate::stage::Stage;
 impl Client {
     /// What the client may be said next.
     pub(crate) fn offer(&self) -> &[u8]
-        ensures { length result.now ≤ length (left_of self.now) }
+        ensures within { length result.now ≤ length (said_next self.now) }
+        ensures front { result.now ≡ take (length result.now) (left_of self.now) }
     {
         if !self.interim.is_empty() {
             return self.interim.as_slice();
@@ -24,7 +25,8 @@ impl Client {
     /// What of the reply may be said next.
     fn reply_left(&self) -> &[u8]
         requires { self.now.interim.items ≡ [] }
-        ensures { length result.now ≤ length (left_of self.now) }
+        ensures within { length result.now ≤ length (said_next self.now) }
+        ensures front { result.now ≡ take (length result.now) (left_of self.now) }
     {
         if self.text.is_empty() {
             self.relay.offer()
@@ -35,8 +37,9 @@ impl Client {
 
     /// The client took so many bytes of the offer.
     pub(crate) fn said(&mut self, n: usize)
-        requires { n ≤ length (left_of self.old) }
-        ensures { hold_of self.new ≡ hold_of self.old }
+        requires { n ≤ length (said_next self.old) }
+        ensures held { hold_of self.new ≡ hold_of self.old }
+        ensures left { left_of self.new ≡ drop n (left_of self.old) }
     {
         self.take_said(n);
         if self.is_said() {
@@ -45,8 +48,9 @@ impl Client {
     }
 
     fn take_said(&mut self, n: usize)
-        requires { n ≤ length (left_of self.old) }
-        ensures { hold_of self.new ≡ hold_of self.old }
+        requires { n ≤ length (said_next self.old) }
+        ensures held { hold_of self.new ≡ hold_of self.old }
+        ensures left { left_of self.new ≡ drop n (left_of self.old) }
     {
         if !self.interim.is_empty() {
             drop_front(&mut self.interim, n);

@@ -1,4 +1,6 @@
 // What reading and writing heads takes, once for all clients.
+ghost use Rattle.std.specs.Prelude.{◌≡◌, ◌≤◌, length, IfOk};
+
 use arrayvec::ArrayVec;
 use pp_head::Scratch;
 use pp_text::OutOfMemory;
@@ -23,8 +25,11 @@ pub(crate) struct Workspace {
 }
 
 impl Workspace {
-    /// The name has at most 64 bytes.
-    pub(crate) fn new(alloc: Global, name: &[u8]) -> Result<Workspace, OutOfMemory> {
+    /// A workspace of a proxy of this name.
+    pub(crate) fn new(alloc: Global, name: &[u8]) -> Result<Workspace, OutOfMemory>
+        requires { length name.now ≤ NAME_LEN }
+        ensures { IfOk result (λ w. w.name.items ≡ name.now) }
+    {
         let mut own = ArrayVec::new();
         let _ = own.try_extend_from_slice(name);
         Ok(Workspace {
