@@ -1,0 +1,4 @@
+pub mod Attempts
+pub mod Peers
+pub mod Placing
+pub mod Searches

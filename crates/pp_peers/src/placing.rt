@@ -1,0 +1,82 @@
+// Where an ask goes.
+ghost use Rattle.std.specs.Prelude.{◌≡◌, ◌≤◌, length};
+ghost use Rattle.pp_peers.specs.Placing.{giving_way, new_place, place, shared_place};
+ghost use Rattle.pp_peers.specs.Searches.{is_among};
+
+use crate::peers::{PEERS, Peer};
+use crate::searches::{Among, count_of, lightest, lowest_idle};
+
+/// Connections that a host may have (RFC 2616, section 8.1.4: "SHOULD limit the number").
+const HOST_PEERS: usize = 4;
+
+/// Where an ask goes.
+#[derive(Clone, Copy, Debug, PartialEq, Eq)]
+pub enum Placed {
+    /// To the connection with this number.
+    On(u64),
+    /// To a connection that is to be dialled.
+    Dial,
+    /// To one that is to be dialled when the connection with this number was closed.
+    CloseThenDial(u64),
+    /// It waits.
+    Wait,
+}
+
+/// Where an ask goes among these connections. The first that there is counts: an idle connection of
+/// the host; a new one, where the host has fewer than 4, and where fewer than 64 are there or an idle
+/// one gives way; the connection of the host with the fewest outstanding asks that takes one more.
+/// An ask that goes alone takes only a new one.
+pub fn place_among(peers: &[Peer], host: &[u8], port: u16, alone: bool) -> Placed
+    requires { length peers.now ≤ 64 }
+    ensures { result ≡ place host.now port alone peers.now }
+{
+    if alone {
+        return match new_place(peers, host, port) {
+            Some(placed) => placed,
+            None => Placed::Wait,
+        };
+    }
+    shared_place(peers, host, port)
+}
+
+fn shared_place(peers: &[Peer], host: &[u8], port: u16) -> Placed
+    requires { length peers.now ≤ 64 }
+    ensures { result ≡ shared_place host.now port peers.now }
+{
+    if let Some(number) = lowest_idle(peers, Among::Host(host, port)) {
+        return Placed::On(number);
+    }
+    if let Some(placed) = new_place(peers, host, port) {
+        return placed;
+    }
+    match lightest(peers, Among::Host(host, port)) {
+        Some(number) => Placed::On(number),
+        None => Placed::Wait,
+    }
+}
+
+/// A new connection, where one may be dialled.
+fn new_place(peers: &[Peer], host: &[u8], port: u16) -> Option<Placed>
+    requires { length peers.now ≤ 64 }
+    ensures { result ≡ new_place host.now port peers.now }
+{
+    if count_of(peers, Among::Host(host, port)) < HOST_PEERS {
+        if peers.len() < PEERS {
+            Some(Placed::Dial)
+        } else {
+            giving_way(peers, Among::All)
+        }
+    } else {
+        giving_way(peers, Among::Host(host, port))
+    }
+}
+
+/// A new connection in the place of an idle one.
+fn giving_way(peers: &[Peer], among: Among<'_>) -> Option<Placed>
+    ensures { result ≡ giving_way (is_among among.entry) peers.now }
+{
+    match lowest_idle(peers, among) {
+        Some(number) => Some(Placed::CloseThenDial(number)),
+        None => None,
+    }
+}
