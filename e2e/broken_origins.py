@@ -4,34 +4,11 @@ import threading
 import time
 
 from harness import case, equal, holds
-from origin import DATE, Answer, lines, noise, plain, response
-from world import BAD_GATEWAY, Client, passed, request
+from origin import Answer, lines, noise, plain
+from world import LAST_BAD_GATEWAY, Client, passed
 
 TAG = b'ETag: "x"'
-LENGTH = b"Content-Length: 5"
 OK = b"HTTP/1.1 200 OK"
-
-
-@case
-def a_response_that_is_not_plain_is_502(world):
-    refused = {
-        "another status": lines(b"HTTP/1.1 404 Not Found", TAG, LENGTH) + b"hello",
-        "an older version": lines(b"HTTP/1.0 200 OK", TAG, LENGTH) + b"hello",
-        "no length": lines(OK, TAG) + b"hello",
-        "two lengths": lines(OK, TAG, LENGTH, b"Content-Length: 6") + b"hello",
-        "a length that is no number": lines(OK, TAG, b"Content-Length: five") + b"hello",
-        "no tag": lines(OK, LENGTH) + b"hello",
-        "a weak tag": lines(OK, b'ETag: W/"x"', LENGTH) + b"hello",
-        "two tags": lines(OK, TAG, b'ETag: "y"', LENGTH) + b"hello",
-        "a coding": lines(OK, TAG, b"Transfer-Encoding: chunked") + b"5\r\nhello\r\n0\r\n\r\n",
-        "a Connection": lines(OK, TAG, LENGTH, b"Connection: close") + b"hello",
-        "an interim status": lines(b"HTTP/1.1 101 Switching Protocols"),
-    }
-    for number, (name, text) in enumerate(refused.items()):
-        world.origin.on(f"/not-plain/{number}", Answer(text, then="end"))
-        with Client() as client:
-            client.say(request(f"/not-plain/{number}"))
-            client.expect_last(BAD_GATEWAY, f"the reply to {name}")
 
 
 @case
@@ -42,28 +19,29 @@ def a_response_that_is_no_head_is_502(world):
         "part of a line": Answer(b"HTTP/1.1 20", then="end"),
         "part of a head": Answer(OK + b"\r\nETag: ", then="end"),
         "part of a head, and a reset": Answer(OK + b"\r\nETag: ", then="break"),
+        "an interim response alone": Answer(lines(b"HTTP/1.1 100 Continue"), then="end"),
         "garbage": Answer(bytes(range(256)) * 10, then="end"),
         "garbage, and no end": Answer(bytes(range(256)) * 10),
         "another protocol": Answer(b"SSH-2.0-OpenSSH_9.6\r\n"),
         "a head of 20,000 bytes": Answer(lines(OK, b"A: " + b"a" * 20_000)),
         "a head of 101 fields": Answer(lines(OK, *[b"a: b"] * 101)),
+        "a folded line": Answer(lines(OK, b"A: b", b" c", b"Content-Length: 0")),
     }
     for number, (name, answer) in enumerate(refused.items()):
         world.origin.on(f"/no-head/{number}", answer)
-        with Client() as client:
-            client.say(request(f"/no-head/{number}"))
-            client.expect_last(BAD_GATEWAY, f"the reply to {name}")
+        world.expect_answer(world.last_request(f"/no-head/{number}"), LAST_BAD_GATEWAY, f"the reply to {name}")
+    world.check_all_dropped()
 
 
 @case
 def an_end_in_mid_body_cuts_its_client_alone(world):
     body = noise(400_000)
-    world.origin.on("/whole", Answer(plain(body), piece=10_000, pause=0.01))
+    world.origin.on("/whole", Answer(plain(body), piece=10_000, pause=0.005))
     for then in ["end", "break"]:
-        world.origin.on("/cut", Answer(plain(body)[:150_000], piece=10_000, pause=0.01, then=then))
+        world.origin.on("/cut", Answer(plain(body)[:150_000], piece=10_000, pause=0.005, then=then))
         with Client() as other, Client() as client:
-            other.say(request("/whole"))
-            client.say(request("/cut"))
+            other.say(world.request("/whole"))
+            client.say(world.request("/cut"))
             heard = client.hear_all()
             wanted = passed(body)
             holds(len(heard) < len(wanted), "the reply is cut")
@@ -82,12 +60,12 @@ def an_end_at_any_byte_of_the_head_is_502_and_behind_it_a_cut(world):
     for count in range(0, len(text), 7):
         world.origin.on("/any", Answer(text[:count], then="end"))
         with Client() as client:
-            client.say(request("/any"))
+            client.say(world.last_request("/any"))
             heard = client.hear_all()
         if count < head:
-            equal(heard, BAD_GATEWAY, f"the reply where the origin ends after {count} bytes")
+            equal(heard, LAST_BAD_GATEWAY, f"the reply where the origin ends after {count} bytes")
         else:
-            wanted = passed(b"hello")[: count - len(text)]
+            wanted = passed(b"hello", b"close")[: count - len(text)]
             equal(heard, wanted, f"the reply where the origin ends after {count} bytes")
 
 
@@ -95,7 +73,7 @@ def an_end_at_any_byte_of_the_head_is_502_and_behind_it_a_cut(world):
 def an_origin_that_sends_nothing_holds_up_its_own_client_alone(world):
     world.origin.on("/silent", Answer(b""))
     with Client() as waiting:
-        waiting.say(request("/silent"))
+        waiting.say(world.request("/silent"))
         start = time.monotonic()
         for _ in range(20):
             world.check_still_served()
@@ -103,15 +81,24 @@ def an_origin_that_sends_nothing_holds_up_its_own_client_alone(world):
 
 
 @case
-def more_than_the_length_is_not_passed(world):
-    world.origin.on("/more", Answer(response(b"hello", DATE, TAG) + b"HTTP/1.1 200 OK\r\n\r\n"))
-    world.origin.on("/next", Answer(plain(b"next")))
+def an_origin_that_reads_nothing_holds_up_its_own_client_alone(world):
+    world.origin.on("/deaf", Answer(b"", reads_body=False))
+    body = noise(400_000)
+    with Client() as waiting:
+        waiting.say(world.request("/deaf", b"Content-Length: 100000000", method="POST") + body)
+        start = time.monotonic()
+        for _ in range(20):
+            world.check_still_served()
+        holds(time.monotonic() - start < 5, "twenty others are served within 5 seconds")
+
+
+@case
+def an_origin_that_leaves_in_the_requests_body_is_502(world):
+    world.origin.on("/leaves", Answer(b"", then="break", reads_body=False))
     with Client() as client:
-        client.say(request("/more"))
-        heard = client.hear(len(lines(OK, DATE, TAG, b"via: 1.1 polipo", LENGTH, b"connection: keep-alive")) + 5)
-        equal(heard[-9:], b"\r\n\r\nhello", "the end of the reply")
-        client.say(request("/next"))
-        client.expect(passed(b"next"), "the reply to the next request")
+        text = world.last_request("/leaves", b"Content-Length: 3000000", method="POST")
+        client.say(text + noise(3_000_000))
+        client.expect_last(LAST_BAD_GATEWAY)
 
 
 @case
@@ -121,7 +108,7 @@ def a_slow_origin_holds_up_nobody_else(world):
 
     def listen():
         with Client() as client:
-            client.say(request("/drip"))
+            client.say(world.request("/drip"))
             client.expect(passed(noise(100)), "the reply of the slow origin")
             done.append(True)
 

@@ -5,7 +5,7 @@ import signal
 import time
 import traceback
 
-CASE_SECONDS = 20
+CASE_SECONDS = 30
 SHOWN_BYTES = 600
 
 _cases = []
@@ -20,7 +20,7 @@ class Skipped(Exception):
 
 
 def case(function):
-    """Registers a test. Its name is its sentence."""
+    """Registers a test. Its name is its sentence; what it answers is printed beside."""
     _cases.append(function)
     return function
 
@@ -37,7 +37,7 @@ def shown(value):
     if len(text) <= SHOWN_BYTES:
         return text
     half = SHOWN_BYTES // 2
-    return f"{text[:half]} .. {text[-half:]} (of {len(value)} bytes)"
+    return f"{text[:half]} .. {text[-half:]} (of {len(value)})"
 
 
 def equal(came, wanted, of_what="the bytes"):
@@ -51,15 +51,16 @@ def holds(condition, sentence):
 
 
 def _out_of_time(signum, frame):
-    raise Failed(f"    wanted: an end within {CASE_SECONDS} seconds")
+    raise Failed(f"    wanted: an end within {CASE_SECONDS} seconds, at {frame.f_code.co_name}:{frame.f_lineno}")
 
 
 def _run(function, world):
     """Runs one test, and then sees that everyone else is still served."""
     signal.alarm(CASE_SECONDS)
     try:
-        function(world)
+        said = function(world)
         world.check_still_served()
+        return said
     finally:
         signal.alarm(0)
 
@@ -68,24 +69,28 @@ def _judge(function, world):
     """Runs one test. Answers its verdict, and what it says beside."""
     start = time.monotonic()
     try:
-        _run(function, world)
+        said = _run(function, world)
     except Skipped as missing:
         return "skipped", f"{missing} is missing"
     except Failed as failure:
         return "FAILED", str(failure)
     except Exception:
         return "FAILED", "\n" + traceback.format_exc()
-    return "passed", f"{time.monotonic() - start:.1f} s"
+    seconds = f"{time.monotonic() - start:.1f} s"
+    return "passed", f"{seconds}, {said}" if said else seconds
 
 
-def run_all(world):
-    """Runs all tests over one program. Answers how many passed, and how many failed."""
+def run_all(world, wanted=""):
+    """Runs the tests whose sentence has this in it. Answers how many passed, and how many failed."""
     signal.signal(signal.SIGALRM, _out_of_time)
     counts = {"passed": 0, "FAILED": 0, "skipped": 0}
     for function in _cases:
+        sentence = function.__name__.replace("_", " ")
+        if wanted not in sentence:
+            continue
         verdict, beside = _judge(function, world)
         counts[verdict] += 1
-        print(f"{verdict}: {function.__name__.replace('_', ' ')}: {beside}", flush=True)
+        print(f"{verdict}: {sentence}: {beside}", flush=True)
         if verdict == "FAILED":
             world.restart()
     if counts["skipped"]:

@@ -1,5 +1,6 @@
-"""A web server on 127.0.0.1:80 that answers every GET with one plain response: the origin of the README's transcript."""
+"""hello.py [PORT]: a web server on 127.0.0.1, port 8000, that answers every GET: the origin of the README's transcript."""
 
+import sys
 from http.server import BaseHTTPRequestHandler, ThreadingHTTPServer
 
 
@@ -17,4 +18,5 @@ class Hello(BaseHTTPRequestHandler):
         self.wfile.write(b"hello")
 
 
-ThreadingHTTPServer(("127.0.0.1", 80), Hello).serve_forever()
+port = int(sys.argv[1]) if len(sys.argv) > 1 else 8000
+ThreadingHTTPServer(("127.0.0.1", port), Hello).serve_forever()

@@ -5,7 +5,7 @@ import time
 
 from harness import Failed, case, equal, holds
 from origin import Answer, noise, plain
-from world import Client, passed, request
+from world import Client, passed
 
 CLIENTS = 50
 BODY = noise(200_000)
@@ -36,13 +36,13 @@ def fifty_clients_are_served_at_once_though_one_is_slow_and_one_hangs_up(world):
 
     def whole():
         with Client(seconds=15) as client:
-            client.say(request("/many"))
+            client.say(world.request("/many"))
             client.expect(passed(BODY))
 
     def slow():
         wanted = passed(BODY)
         with Client(seconds=15) as client:
-            client.say(request("/many"))
+            client.say(world.request("/many"))
             heard = b""
             while len(heard) < len(wanted):
                 piece = client.hear(min(10_000, len(wanted) - len(heard)))
@@ -54,7 +54,7 @@ def fifty_clients_are_served_at_once_though_one_is_slow_and_one_hangs_up(world):
 
     def gone():
         client = Client(seconds=15)
-        client.say(request("/many"))
+        client.say(world.request("/many"))
         client.hear(60_000)
         client.reset()
 
@@ -72,7 +72,7 @@ def each_of_fifty_clients_gets_its_own_reply(world):
         def own():
             with Client(seconds=15) as client:
                 for _ in range(5):
-                    client.say(request(f"/own/{number}"))
+                    client.say(world.request(f"/own/{number}"))
                     client.expect(passed(bodies[number]), f"the reply to client {number}")
 
         return own
@@ -88,7 +88,7 @@ def a_client_with_endless_requests_does_not_hold_up_the_others(world):
     def hurry():
         with Client(seconds=15) as client:
             while not stop.is_set():
-                client.say(request("/busy"))
+                client.say(world.request("/busy"))
                 client.hear(len(passed(noise(100_000))))
 
     threads = [threading.Thread(target=hurry, daemon=True) for _ in range(3)]

@@ -1,12 +1,15 @@
-"""An origin server whose every answer is scripted by the path that it is asked for."""
+"""Origin servers whose every answer is scripted by the path that they are asked for."""
 
+import hashlib
+import select
 import socket
 import struct
 import threading
 import time
 
-ADDRESS = ("127.0.0.1", 80)
 DATE = b"Date: Sun, 06 Nov 1994 08:49:37 GMT"
+KEPT_BYTES = 100_000
+GONE = select.POLLRDHUP | select.POLLHUP | select.POLLERR
 
 
 def lines(*parts):
@@ -14,14 +17,20 @@ def lines(*parts):
     return b"\r\n".join(parts) + b"\r\n\r\n"
 
 
-def response(body, *fields):
-    """A plain response, with these fields beside its length."""
+def response(body, *fields, status=b"200 OK"):
+    """A response of this length, with these fields beside it."""
     length = b"Content-Length: %d" % len(body)
-    return lines(b"HTTP/1.1 200 OK", *fields, length) + body
+    return lines(b"HTTP/1.1 " + status, *fields, length) + body
 
 
 def plain(body):
+    """The response that most tests are made of."""
     return response(body, DATE, b'ETag: "x"', b"Cache-Control: max-age=60")
+
+
+def chunked(*pieces):
+    """A chunked body of these pieces."""
+    return b"".join(b"%x\r\n%b\r\n" % (len(piece), piece) for piece in pieces) + b"0\r\n\r\n"
 
 
 def noise(count):
@@ -30,38 +39,89 @@ def noise(count):
     return (unit * (count // len(unit) + 1))[:count]
 
 
-class Answer:
-    """What the origin does on a path: it sends bytes, in pieces, and then keeps, ends or breaks."""
+def abort(connection):
+    """From now on a close of the socket sends a reset in place of an end."""
+    connection.setsockopt(socket.SOL_SOCKET, socket.SO_LINGER, struct.pack("ii", 1, 0))
 
-    def __init__(self, text, piece=None, pause=0.0, then="keep"):
+
+class Answer:
+    """What an origin does on a path.
+
+    It sends a text, whole or in pieces of one size or cut at these places; then it keeps the
+    connection, ends or breaks it. A request's body is read before that, or not at all.
+    """
+
+    def __init__(self, text, piece=None, cuts=(), pause=0.0, then="keep", reads_body=True):
         self.text = text
-        self.piece = piece or max(1, len(text))
+        self.cuts = list(cuts) or list(range(piece or max(1, len(text)), len(text), piece or max(1, len(text))))
         self.pause = pause
         self.then = then
+        self.reads_body = reads_body
 
     def give(self, connection):
-        for at in range(0, len(self.text), self.piece):
-            connection.sendall(self.text[at : at + self.piece])
+        for start, end in zip([0] + self.cuts, self.cuts + [len(self.text)]):
+            connection.sendall(self.text[start:end])
             if self.pause:
                 time.sleep(self.pause)
 
 
-def reset(connection):
-    """Closes with a reset in place of an end."""
-    connection.setsockopt(socket.SOL_SOCKET, socket.SO_LINGER, struct.pack("ii", 1, 0))
-    connection.close()
+class Ask:
+    """What an origin was asked: the head, and the body by its length and digest, whole where it is short."""
+
+    def __init__(self, head):
+        self.head = head
+        self.path = head.split(b" ")[1].decode()
+        self.length = 0
+        self.body = b""
+        self._digest = hashlib.sha256()
+
+    def declared_length(self):
+        for line in self.head.lower().split(b"\r\n"):
+            if line.startswith(b"content-length:"):
+                return int(line[15:])
+        return 0
+
+    def field(self, name):
+        """The value of the first field of this name, in lower case; None without one."""
+        for line in self.head.split(b"\r\n"):
+            if line.startswith(name + b": "):
+                return line[len(name) + 2 :]
+        return None
+
+    def add(self, piece):
+        self.length += len(piece)
+        self._digest.update(piece)
+        if self.length <= KEPT_BYTES:
+            self.body += piece
+
+    def digest(self):
+        return self._digest.hexdigest()
+
+    def text(self):
+        return self.head + self.body
 
 
 class Origin:
-    def __init__(self):
+    """An origin on 127.0.0.1, on a port of its own where none is given."""
+
+    def __init__(self, port=0):
         self.answers = {}
         self.asked = []
         self.connections = 0
+        self.most_open = 0
+        self._open = set()
         self._lock = threading.Lock()
-        self._listener = socket.create_server(ADDRESS, backlog=512)
+        self._listener = socket.create_server(("127.0.0.1", port), backlog=512)
+        self.port = self._listener.getsockname()[1]
         threading.Thread(target=self._accept, daemon=True).start()
 
+    @property
+    def authority(self):
+        """Its host, and its port where that is not the one of http."""
+        return "127.0.0.1" if self.port == 80 else f"127.0.0.1:{self.port}"
+
     def on(self, path, answer):
+        """On this path it gives this answer, or the one that a function of the Ask gives."""
         self.answers[path] = answer
 
     def clear(self):
@@ -69,12 +129,26 @@ class Origin:
         with self._lock:
             self.asked = []
             self.connections = 0
+            self.most_open = 0
+
+    def count_open(self):
+        """How many connections the other side has not closed."""
+        poll = select.poll()
+        with self._lock:
+            for connection in self._open:
+                poll.register(connection, GONE)
+            return len(self._open) - len(poll.poll(0))
+
+    def asked_texts(self):
+        return [ask.text() for ask in self.asked]
 
     def _accept(self):
         while True:
             connection, _ = self._listener.accept()
             with self._lock:
                 self.connections += 1
+                self._open.add(connection)
+            self.most_open = max(self.most_open, self.count_open())
             threading.Thread(target=self._serve, args=(connection,), daemon=True).start()
 
     def _serve(self, connection):
@@ -84,6 +158,8 @@ class Origin:
         except OSError:
             pass
         finally:
+            with self._lock:
+                self._open.discard(connection)
             connection.close()
 
     def _answer_all(self, connection):
@@ -94,14 +170,43 @@ class Origin:
                 if not more:
                     return
                 waiting += more
-            ask, _, waiting = waiting.partition(b"\r\n\r\n")
-            ask += b"\r\n\r\n"
+            head, _, waiting = waiting.partition(b"\r\n\r\n")
+            ask = Ask(head + b"\r\n\r\n")
+            answer = self.answers.get(ask.path, NOT_FOUND)
+            if callable(answer):
+                answer = answer(ask)
+            if answer.reads_body:
+                waiting = read_body(connection, ask, waiting)
             with self._lock:
                 self.asked.append(ask)
-            answer = self.answers[ask.split(b" ")[1].decode()]
             answer.give(connection)
-            if answer.then == "end":
-                return
             if answer.then == "break":
-                reset(connection)
+                abort(connection)
+            if answer.then != "keep":
                 return
+            if not answer.reads_body:
+                wait_until_gone(connection)
+                return
+
+
+NOT_FOUND = Answer(response(b"", status=b"404 Not Found"))
+
+
+def read_body(connection, ask, waiting):
+    """Reads an ask's body, of which this came already. Answers what came behind it."""
+    length = ask.declared_length()
+    ask.add(waiting[:length])
+    waiting = waiting[length:]
+    while ask.length < length:
+        piece = connection.recv(min(1 << 18, length - ask.length))
+        if not piece:
+            raise ConnectionError("the body ends early")
+        ask.add(piece)
+    return waiting
+
+
+def wait_until_gone(connection):
+    """Leaves all that comes unread until the other side closes."""
+    poll = select.poll()
+    poll.register(connection, GONE)
+    poll.poll(10_000)

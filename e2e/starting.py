@@ -3,6 +3,7 @@
 import subprocess
 
 from harness import case, equal
+from world import PORT, WORDS
 
 USAGE = b"usage: polipo [-c FILE] [-g SEED] [name=value ...]\n"
 
@@ -19,8 +20,8 @@ def a_word_is_refused_as_usage(world):
 
 @case
 def a_port_that_is_taken_is_complained_of(world):
-    wanted = (5, b"", b"polipo: cannot listen on port 8123\n")
-    equal(run(world.program), wanted, "status, output and complaint")
+    wanted = (5, b"", f"polipo: cannot listen on port {PORT}\n".encode())
+    equal(run(world.program, *WORDS), wanted, "status, output and complaint")
 
 
 @case

@@ -1,52 +1,51 @@
 """The program under test, the origin beside it, and clients."""
 
+import re
 import socket
 import subprocess
 import tempfile
 import time
 
-from harness import Failed, equal
-from origin import Answer, Origin, lines, plain, reset
+from harness import Failed, equal, holds
+from origin import Answer, Origin, abort, lines, plain
 
-PROXY = ("127.0.0.1", 8123)
-HOST = "127.0.0.1"
+# The proxy's port, and the words that make it listen there.
+PORT = 8123
+WORDS = []
+PROXY = ("127.0.0.1", PORT)
 START_SECONDS = 10
+VIA = b"via: 1.1 polipo"
 
 
-def request(path, host=HOST):
-    """A plain request."""
-    return lines(f"GET http://{host}{path} HTTP/1.1".encode(), f"Host: {host}".encode())
-
-
-def passed(body):
+def passed(body, connection=b"keep-alive"):
     """What a client is told of a plain response."""
-    head = lines(
-        b"HTTP/1.1 200 OK",
-        b"date: Sun, 06 Nov 1994 08:49:37 GMT",
-        b'etag: "x"',
-        b"cache-control: max-age=60",
-        b"via: 1.1 polipo",
-        b"content-length: %d" % len(body),
-        b"connection: keep-alive",
-    )
-    return head + body
+    fields = [b"date: Sun, 06 Nov 1994 08:49:37 GMT", b'etag: "x"', b"cache-control: max-age=60"]
+    return reply(body, *fields, connection=connection)
 
 
-def page(status, reason):
+def reply(body, *fields, status=b"200 OK", connection=b"keep-alive"):
+    """What a client is told of a response of this length, with these fields before its Via."""
+    return reply_head(*fields, VIA, b"content-length: %d" % len(body), status=status, connection=connection) + body
+
+
+def reply_head(*fields, status=b"200 OK", connection=b"keep-alive"):
+    """The head of a reply with exactly these fields before how its connection goes on."""
+    return lines(b"HTTP/1.1 " + status, *fields, b"connection: " + connection)
+
+
+def page(status, connection=b"close"):
     """A refusal page."""
-    text = f"{status} {reason}\n".encode()
-    head = lines(
-        f"HTTP/1.1 {status} {reason}".encode(),
-        b"content-type: text/plain",
-        b"content-length: %d" % len(text),
-        b"connection: close",
-    )
-    return head + text
+    text = status + b"\n"
+    fields = [b"content-type: text/plain", b"content-length: %d" % len(text)]
+    return reply_head(*fields, status=status, connection=connection) + text
 
 
-BAD_REQUEST = page(400, "Bad Request")
-TOO_LONG = page(431, "Request Header Fields Too Large")
-BAD_GATEWAY = page(502, "Bad Gateway")
+BAD_REQUEST = page(b"400 Bad Request")
+LENGTH_REQUIRED = page(b"411 Length Required")
+TOO_LONG = page(b"431 Request Header Fields Too Large")
+BAD_GATEWAY = page(b"502 Bad Gateway", b"keep-alive")
+LAST_BAD_GATEWAY = page(b"502 Bad Gateway")
+CONTINUE = lines(b"HTTP/1.1 100 Continue")
 
 
 class Client:
@@ -55,6 +54,7 @@ class Client:
     def __init__(self, seconds=10):
         self.socket = socket.create_connection(PROXY, timeout=seconds)
         self.socket.setsockopt(socket.IPPROTO_TCP, socket.TCP_NODELAY, 1)
+        self._unread = b""
 
     def __enter__(self):
         return self
@@ -74,13 +74,16 @@ class Client:
         self.socket.shutdown(socket.SHUT_WR)
 
     def reset(self):
-        reset(self.socket)
+        """Closes with a reset in place of an end."""
+        abort(self.socket)
+        self.socket.close()
 
     def hear(self, count):
         """So many bytes, or fewer where the proxy ends before."""
-        heard = bytearray()
+        heard = bytearray(self._unread[:count])
+        self._unread = self._unread[count:]
         while len(heard) < count:
-            piece = self.socket.recv(min(65536, count - len(heard)))
+            piece = self.socket.recv(min(1 << 18, count - len(heard)))
             if not piece:
                 break
             heard += piece
@@ -88,10 +91,35 @@ class Client:
 
     def hear_all(self):
         """All bytes up to the proxy's end."""
-        heard = bytearray()
-        while piece := self.socket.recv(65536):
+        heard = bytearray(self._unread)
+        self._unread = b""
+        while piece := self.socket.recv(1 << 18):
             heard += piece
         return bytes(heard)
+
+    def hear_until(self, mark):
+        """The bytes up to this mark, with it, or all where the proxy ends before."""
+        while mark not in self._unread:
+            piece = self.socket.recv(65536)
+            if not piece:
+                break
+            self._unread += piece
+        text, found, self._unread = self._unread.partition(mark)
+        return text + found
+
+    def hear_chunks(self):
+        """The data of a chunked body, to its last chunk; each chunk as the proxy spells it."""
+        data = bytearray()
+        while True:
+            line = self.hear_until(b"\r\n")
+            holds(re.fullmatch(rb"(0|[1-9a-f][0-9a-f]*)\r\n", line), f"a chunk's size in place of {line!r}")
+            size = int(line, 16)
+            chunk = self.hear(size + 2)
+            holds(len(chunk) == size + 2, "a whole chunk")
+            equal(chunk[size:], b"\r\n", "the end of a chunk")
+            if size == 0:
+                return bytes(data)
+            data += chunk[:size]
 
     def expect(self, wanted, of_what="the reply"):
         """Exactly these bytes come next."""
@@ -100,6 +128,15 @@ class Client:
     def expect_last(self, wanted, of_what="the reply, up to the end"):
         """Exactly these bytes come, and then the end."""
         equal(self.hear_all(), wanted, of_what)
+
+    def expect_silence(self, seconds):
+        """Nothing comes for so long."""
+        self.socket.settimeout(seconds)
+        try:
+            came = self._unread or self.socket.recv(1)
+            raise Failed(f"    wanted: silence for {seconds} seconds, and {came!r} came")
+        except TimeoutError:
+            self.socket.settimeout(10)
 
 
 class World:
@@ -113,7 +150,7 @@ class World:
 
     def start(self):
         self.process = subprocess.Popen(
-            [self.program], stdin=subprocess.DEVNULL, stdout=self.output, stderr=self.output
+            [self.program, *WORDS], stdin=subprocess.DEVNULL, stdout=self.output, stderr=self.output
         )
         deadline = time.monotonic() + START_SECONDS
         while time.monotonic() < deadline:
@@ -140,18 +177,56 @@ class World:
         self.output.seek(0)
         return self.output.read()
 
+    def most_memory(self):
+        """How much memory the program had in its life at most, in bytes."""
+        with open(f"/proc/{self.process.pid}/status") as file:
+            for line in file:
+                if line.startswith("VmHWM:"):
+                    return int(line.split()[1]) * 1024
+        raise Failed("    wanted: VmHWM in the program's status")
+
+    def url(self, path):
+        return f"http://{self.origin.authority}{path}"
+
+    def request(self, path, *fields, method="GET", version="1.1"):
+        """A request to the origin, with these fields behind Host."""
+        line = f"{method} {self.url(path)} HTTP/{version}".encode()
+        return lines(line, b"Host: " + self.origin.authority.encode(), *fields)
+
+    def last_request(self, path, *fields, method="GET"):
+        """A request behind which the client wants the connection closed."""
+        return self.request(path, *fields, b"Connection: close", method=method)
+
+    def ask(self, path, *fields, method="GET"):
+        """What the origin is asked, with these fields between host and Via."""
+        host = b"host: " + self.origin.authority.encode()
+        return lines(f"{method} {path} HTTP/1.1".encode(), host, *fields, VIA)
+
     def check_still_served(self):
         """Another client gets its reply, within a few seconds."""
         if self.process.poll() is not None:
             raise Failed(f"    the program ended with {self.process.returncode}")
         with Client(seconds=5) as client:
-            client.say(request("/probe"))
+            client.say(self.request("/probe"))
             client.expect(passed(b"still here"), "the reply to another client, afterwards")
 
-    def expect_answer(self, text, wanted, answer=None, path=None):
+    def check_all_dropped(self):
+        """No connection to the origin is left open, within a second."""
+        deadline = time.monotonic() + 1
+        while self.origin.count_open() and time.monotonic() < deadline:
+            time.sleep(0.01)
+        equal(self.origin.count_open(), 0, "connections to the origin that are left open")
+
+    def expect_answer(self, text, wanted, of_what="the reply, up to the end"):
         """A client that sends this hears exactly that, and then the end."""
-        if answer is not None:
-            self.origin.on(path, answer)
         with Client() as client:
             client.say(text)
-            client.expect_last(wanted)
+            client.expect_last(wanted, of_what)
+
+    def expect_ask(self, text, wanted, of_what="the ask"):
+        """A client that sends this has the origin asked exactly that, head and body."""
+        self.origin.clear()
+        with Client() as client:
+            client.say(text)
+            client.hear_until(b"\r\n\r\n")
+        equal(self.origin.asked_texts(), [wanted], of_what)
