@@ -1,4 +1,5 @@
 pub mod Closing
+pub mod Gathering
 pub mod Holding
 pub mod Linking
 pub mod Opening

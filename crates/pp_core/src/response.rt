@@ -1,6 +1,8 @@
 // What the bytes of an origin begin with, and what is made of it.
-ghost use Rattle.std.specs.Prelude.{◌≤◌, length};
+ghost use Rattle.std.specs.Prelude.{◌≡◌, ◌≤◌, length};
+ghost use Rattle.pp_core.specs.Answers.{answer_in, answer_of, is_interim as interim};
 ghost use Rattle.pp_core.specs.Clients.{IsAnswerIn};
+ghost use Rattle.pp_head.specs.Response.{response_at};
 ghost use Rattle.pp_head.specs.Shown.{shown_response};
 ghost use Rattle.pp_reply.specs.Texts.{KeepsHeadLimits};
 
@@ -34,7 +36,8 @@ pub(crate) fn look_at_response(
     work: &mut Workspace,
     text: &mut ArrayVec<u8, TEXT_LEN>,
 ) -> Answer
-    ensures { IsAnswerIn (length got.now) result }
+    ensures answer { result ≡ answer_of wish.head_asked (response_at got.now) }
+    ensures within { IsAnswerIn (length got.now) result }
 {
     match read_response(got, &mut work.scratch) {
         HeadState::More => Answer::More,
@@ -51,7 +54,8 @@ fn judge(
 ) -> Answer
     requires limits { KeepsHeadLimits (shown_response head.now) }
     requires name { length name.now ≤ 64 }
-    ensures { IsAnswerIn head.now.length result }
+    ensures answer { result ≡ answer_in wish.head_asked (shown_response head.now) }
+    ensures within { IsAnswerIn head.now.length result }
 {
     if is_interim(head.status) {
         return Answer::Interim(head.length);
@@ -69,6 +73,8 @@ fn judge(
     }
 }
 
-fn is_interim(status: u16) -> bool {
-    100 <= status && status < 200 && status != SWITCHING
+fn is_interim(status: u16) -> bool
+    ensures { result ≡ interim status }
+{
+    100 <= status && (status < 200 && status != SWITCHING)
 }
