@@ -1,4 +1,4 @@
-"""Measures an origin on 127.0.0.1:80 direct and through proxies: pass.py PROGRAM."""
+"""Measures an origin on 127.0.0.1 direct and through proxies: pass.py PROGRAM."""
 
 import multiprocessing
 import os
@@ -15,14 +15,17 @@ import time
 sys.path.insert(0, os.path.join(os.path.dirname(os.path.abspath(__file__)), "..", "e2e"))
 
 from network import raise_loopback  # noqa: E402
-from origin import ADDRESS, noise, plain  # noqa: E402
+from origin import noise, plain  # noqa: E402
+from world import PORT, WORDS  # noqa: E402
 
 ROUNDS = 5
 SECONDS = 2.0
 CLIENTS = 8
 ORIGINS = 48
-SMALL, LARGE = noise(1024), noise(64 * 1024 * 1024)
+LARGE_LEN = 200_000_000
 START_SECONDS = 15
+# What the origin answers; made before its processes are, which share it.
+SMALL, LARGE = plain(noise(1024)), plain(noise(LARGE_LEN))
 
 TINYPROXY = """Port 8888
 Listen 127.0.0.1
@@ -44,13 +47,12 @@ server_persistent_connections on
 
 def serve(listener):
     """One origin process: it serves one connection after the other."""
-    small, large = plain(SMALL), plain(LARGE)
     while True:
         connection, _ = listener.accept()
         connection.setsockopt(socket.IPPROTO_TCP, socket.TCP_NODELAY, 1)
         try:
             while head := connection.recv(65536):
-                connection.sendall(large if b"/large " in head else small)
+                connection.sendall(LARGE if b"/large " in head else SMALL)
         except OSError:
             pass
         connection.close()
@@ -59,15 +61,15 @@ def serve(listener):
 class Way:
     """How the origin is reached: direct, or through a proxy that was started."""
 
-    def __init__(self, name, address, process=None):
+    def __init__(self, name, address, authority, process=None):
         self.name = name
         self.address = address
+        self.authority = authority
         self.process = process
-        target = "" if process is None else "http://127.0.0.1"
-        self.target = target
+        self.target = "" if process is None else f"http://{authority}"
 
     def request(self, path):
-        return f"GET {self.target}{path} HTTP/1.1\r\nHost: 127.0.0.1\r\n\r\n".encode()
+        return f"GET {self.target}{path} HTTP/1.1\r\nHost: {self.authority}\r\n\r\n".encode()
 
     def stop(self):
         if self.process is not None:
@@ -179,14 +181,15 @@ def wait_for(address):
     return False
 
 
-def start(name, command, address, ways):
+def start(name, command, port, ways):
     """Starts a proxy, where it is there."""
     if shutil.which(command[0]) is None:
         print(f"skipped: {name} is missing")
         return
     process = subprocess.Popen(command, stdin=subprocess.DEVNULL, stdout=subprocess.DEVNULL, stderr=subprocess.DEVNULL)
+    address = ("127.0.0.1", port)
     if wait_for(address):
-        ways.append(Way(name, address, process))
+        ways.append(Way(name, address, ways[0].authority, process))
     else:
         process.kill()
         print(f"skipped: {name} does not listen")
@@ -228,22 +231,23 @@ def compare(ways, title, unit, path, clients, which):
 
 def main():
     raise_loopback()
-    listener = socket.create_server(ADDRESS, backlog=1024)
+    listener = socket.create_server(("127.0.0.1", 0), backlog=1024)
     origins = [multiprocessing.Process(target=serve, args=(listener,), daemon=True) for _ in range(ORIGINS)]
     for process in origins:
         process.start()
     describe_machine()
-    ways = [Way("direct", ADDRESS)]
+    address = listener.getsockname()
+    ways = [Way("direct", address, f"127.0.0.1:{address[1]}")]
     folder = tempfile.mkdtemp()
     for name, text in (("tinyproxy", TINYPROXY), ("squid", SQUID)):
         with open(f"{folder}/{name}.conf", "w") as file:
             file.write(text)
-    start("polipo", [os.path.abspath(sys.argv[1])], ("127.0.0.1", 8123), ways)
-    start("tinyproxy", ["tinyproxy", "-d", "-c", f"{folder}/tinyproxy.conf"], ("127.0.0.1", 8888), ways)
-    start("squid", ["squid", "-N", "-f", f"{folder}/squid.conf"], ("127.0.0.1", 3128), ways)
+    start("polipo", [os.path.abspath(sys.argv[1]), *WORDS], PORT, ways)
+    start("tinyproxy", ["tinyproxy", "-d", "-c", f"{folder}/tinyproxy.conf"], 8888, ways)
+    start("squid", ["squid", "-N", "-f", f"{folder}/squid.conf"], 3128, ways)
     try:
         compare(ways, f"replies of 1 KiB, {CLIENTS} clients", "/s", "/small", CLIENTS, 0)
-        compare(ways, "a body of 64 MiB, one client", "MB/s", "/large", 1, 1)
+        compare(ways, f"a body of {LARGE_LEN // 1_000_000} MB, one client", "MB/s", "/large", 1, 1)
     finally:
         for way in ways:
             way.stop()

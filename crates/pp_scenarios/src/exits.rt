@@ -1,7 +1,5 @@
 // Words, the listener, and the end.
-use crate::course::Step;
-use crate::play::{Act, Pace, Played, play, play_failing, play_with};
-use crate::texts::{GET, REPLY, RESPONSE};
+use pp_play::{Act, Exchange, GET, Pace, Part, Played, RESPONSE, Step, Wanted, play, play_failing, play_with, unlike_at};
 use pp_memworld::Script;
 use pp_run::Exit;
 use pp_world::{Cause, Decision, Happening};
@@ -12,23 +10,21 @@ use std::test::Fail;
 fn without_words_and_events_it_listens_and_waits(rt: HostRuntime) -> Result<(), Fail> {
     let played = play(rt.alloc(), Pace::Whole, &[])?;
     assert_eq!(rt; played.exit, Exit::Served);
-    assert_eq!(rt; played.exit.status(), 0);
-    let is_told = match played.log() {
+    assert!(rt; is_listening(played.log()));
+    Ok(())
+}
+
+/// Whether this is all: it listens, waits for clients alone, and is stopped.
+fn is_listening(log: &[Happening]) -> bool {
+    match log {
         [
             Happening::Woke(image),
             Happening::Listens(8123, true),
             Happening::Waits(wants),
             Happening::Stopped,
-        ] => {
-            image.next_name(None).is_none()
-                && wants.accept
-                && wants.read.is_empty()
-                && wants.write.is_empty()
-        }
+        ] => image.next_name(None).is_none() && wants.accept && wants.read.is_empty() && wants.write.is_empty(),
         _ => false,
-    };
-    assert!(rt; is_told);
-    Ok(())
+    }
 }
 
 /// What is printed by a run that woke, printed and did nothing else.
@@ -53,66 +49,79 @@ fn any_word_is_refused(rt: HostRuntime) -> Result<(), Fail> {
         let words = vec![in alloc; String::from_str(alloc, word)?]?;
         let played = play_with(alloc, words.as_slice(), no_script(alloc), &[])?;
         assert_eq!(rt; played.exit, Exit::Usage, "{word}");
-        assert_eq!(rt; played.exit.status(), 2, "{word}");
         let line = b"usage: polipo [-c FILE] [-g SEED] [name=value ...]\n";
         assert_eq!(rt; printed_alone(&played), line.as_slice(), "{word}");
     }
     Ok(())
 }
 
-#[test]
-fn without_its_port_it_ends(rt: HostRuntime) -> Result<(), Fail> {
-    let played = play_failing(rt.alloc(), Pace::Whole, &[Act::Connect], &[1])?;
-    assert_eq!(rt; played.exit, Exit::NoListener);
-    assert_eq!(rt; played.exit.status(), 5);
-    let printed: &[u8] = match played.log() {
+/// What is printed by a run that woke, could not listen, printed and did nothing else.
+fn printed_without_port(played: &Played) -> &[u8] {
+    match played.log() {
         [
             Happening::Woke(_),
             Happening::Listens(8123, false),
             Happening::Printed(text),
         ] => text.as_slice(),
         _ => b"",
-    };
-    assert_eq!(rt; printed, b"polipo: cannot listen on port 8123\n".as_slice());
-    Ok(())
+    }
 }
 
 #[test]
+fn without_its_port_it_ends(rt: HostRuntime) -> Result<(), Fail> {
+    let played = play_failing(rt.alloc(), Pace::Whole, &[Act::Connect], &[1])?;
+    assert_eq!(rt; played.exit, Exit::NoListener);
+    let line = b"polipo: cannot listen on port 8123\n";
+    assert_eq!(rt; printed_without_port(&played), line.as_slice());
+    Ok(())
+}
+
+const STOPPED: &[Act<'static>] = &[
+    Act::Connect,
+    Act::Say(1, GET),
+    Act::Window(1, 10),
+    Act::Reach(2),
+    Act::Answer(2, RESPONSE),
+    Act::Connect,
+    Act::Say(3, GET),
+    Act::Reach(4),
+    Act::Connect,
+    Act::Say(5, b"GET http"),
+    Act::Connect,
+    Act::Say(6, GET),
+    Act::Stop,
+    Act::Reach(7),
+];
+
+const ALL_CLOSED: &[Exchange<'static>] = &[Exchange {
+    name: "a reply that was begun is cut, and all is closed",
+    acts: STOPPED,
+    wanted: &[
+        Wanted::Exit(Exit::Served),
+        Wanted::Said(1, &[Part::Text(b"HTTP/1.1 2")]),
+        Wanted::Course(
+            1,
+            &[
+                Step::Opened,
+                Step::Taken(0, Decision::Pass),
+                Step::Said(10),
+                Step::Stopped,
+                Step::Cut(Cause::Stop),
+                Step::Shut,
+            ],
+        ),
+        Wanted::Count(Step::Cut(Cause::Stop), 1),
+        Wanted::Count(Step::Opened, 4),
+        Wanted::Count(Step::Shut, 4),
+        Wanted::Count(Step::Dialled(80), 3),
+        Wanted::Count(Step::Dropped, 3),
+    ],
+}];
+
+#[test]
 fn the_end_cuts_each_reply_that_was_begun(rt: HostRuntime) -> Result<(), Fail> {
-    let acts = [
-        Act::Connect,
-        Act::Say(1, GET),
-        Act::Window(1, 10),
-        Act::Reach(2),
-        Act::Answer(2, RESPONSE),
-        Act::Connect,
-        Act::Say(3, GET),
-        Act::Reach(4),
-        Act::Connect,
-        Act::Say(5, b"GET http"),
-        Act::Connect,
-        Act::Say(6, GET),
-        Act::Stop,
-        Act::Reach(7),
-    ];
-    let played = play(rt.alloc(), Pace::Whole, &acts)?;
-    assert_eq!(rt; played.exit, Exit::Served);
-    assert_eq!(rt; played.said(1)?.as_slice(), &REPLY[..10]);
-    let cut = [
-        Step::Opened,
-        Step::Taken(0, Decision::Pass),
-        Step::Said(10),
-        Step::Stopped,
-        Step::Cut(Cause::Stop),
-        Step::Shut,
-    ];
-    assert_eq!(rt; played.course(1)?.as_slice(), cut.as_slice());
-    assert_eq!(rt; played.count(Step::Cut(Cause::Stop)), 1);
-    assert_eq!(rt; played.count(Step::Opened), 4);
-    assert_eq!(rt; played.count(Step::Shut), 4);
-    assert_eq!(rt; played.count(Step::Dialled(80)), 3);
-    assert_eq!(rt; played.count(Step::Dropped), 3);
-    assert!(rt; is_shut_last(played.log()));
+    assert_eq!(rt; unlike_at(rt.alloc(), Pace::Whole, ALL_CLOSED)?.as_str(), "");
+    assert!(rt; is_shut_last(play(rt.alloc(), Pace::Whole, STOPPED)?.log()));
     Ok(())
 }
 

@@ -1,193 +1,227 @@
 // Plain requests, passed whole.
-use crate::course::Step;
-use crate::play::{Act, PACES, play};
-use crate::texts::{ASK, ASK_B, GET, GET_B, REPLY, REPLY_B, RESPONSE, RESPONSE_B, joined};
+use pp_play::{
+    ASK, ASK_B, Act, Exchange, GET, GET_B, Part, REPLY, REPLY_B, RESPONSE, RESPONSE_B, Step, Wanted, unlike,
+};
 use pp_run::Exit;
-use pp_world::{Decision, Happening};
+use pp_world::Decision;
 use std::test::Fail;
+
+const PLAIN: &[Exchange<'static>] = &[Exchange {
+    name: "a plain GET",
+    acts: &[Act::Connect, Act::Say(1, GET), Act::Reach(2), Act::Answer(2, RESPONSE)],
+    wanted: &[
+        Wanted::Exit(Exit::Served),
+        Wanted::Dialled(2, b"h", 80),
+        Wanted::Asked(2, ASK),
+        Wanted::Said(1, &[Part::Text(REPLY)]),
+        Wanted::Course(
+            1,
+            &[Step::Opened, Step::Taken(0, Decision::Pass), Step::Said(159), Step::Stopped, Step::Shut],
+        ),
+        Wanted::Course(2, &[Step::Dialled(80), Step::Reached, Step::Asked(45), Step::Dropped, Step::Stopped]),
+    ],
+}];
 
 #[test]
 fn a_plain_get_is_passed_whole(rt: HostRuntime) -> Result<(), Fail> {
-    let client = [
-        Step::Opened,
-        Step::Taken(0, Decision::Pass),
-        Step::Said(159),
-        Step::Stopped,
-        Step::Shut,
-    ];
-    let origin = [
-        Step::Dialled(80),
-        Step::Reached,
-        Step::Asked(45),
-        Step::Dropped,
-        Step::Stopped,
-    ];
-    for pace in PACES {
-        let acts = [
-            Act::Connect,
-            Act::Say(1, GET),
-            Act::Reach(2),
-            Act::Answer(2, RESPONSE),
-        ];
-        let played = play(rt.alloc(), pace, &acts)?;
-        assert_eq!(rt; played.exit, Exit::Served);
-        assert_eq!(rt; played.asked(2)?.as_slice(), ASK, "{pace:?}");
-        assert_eq!(rt; played.said(1)?.as_slice(), REPLY, "{pace:?}");
-        assert_eq!(rt; played.course(1)?.as_slice(), client.as_slice(), "{pace:?}");
-        assert_eq!(rt; played.course(2)?.as_slice(), origin.as_slice(), "{pace:?}");
-    }
+    assert_eq!(rt; unlike(rt.alloc(), PLAIN)?.as_str(), "");
     Ok(())
 }
+
+const TARGETS: &[Exchange<'static>] = &[
+    Exchange {
+        name: "a path alone",
+        acts: &[Act::Connect, Act::Say(1, b"GET http://h/ HTTP/1.1\r\nHost: h\r\n\r\n"), Act::Reach(2)],
+        wanted: &[
+            Wanted::Dialled(2, b"h", 80),
+            Wanted::Asked(2, b"GET / HTTP/1.1\r\nhost: h\r\nvia: 1.1 polipo\r\n\r\n"),
+            Wanted::Said(1, &[]),
+        ],
+    },
+    Exchange {
+        name: "a host in capitals, a port, no path and a query (RFC 2616, sections 3.2.2 and 3.2.3)",
+        acts: &[Act::Connect, Act::Say(1, b"GET http://A-1.Example:8080?q=/1 HTTP/1.1\r\n\r\n"), Act::Reach(2)],
+        wanted: &[
+            Wanted::Dialled(2, b"a-1.example", 8080),
+            Wanted::Asked(2, b"GET /?q=/1 HTTP/1.1\r\nhost: a-1.example:8080\r\nvia: 1.1 polipo\r\n\r\n"),
+        ],
+    },
+    Exchange {
+        name: "the port 80, and a fragment",
+        acts: &[Act::Connect, Act::Say(1, b"GET http://h:80/b/../c?d=/e?f#g HTTP/1.1\r\n\r\n"), Act::Reach(2)],
+        wanted: &[
+            Wanted::Dialled(2, b"h", 80),
+            Wanted::Asked(2, b"GET /b/../c?d=/e?f HTTP/1.1\r\nhost: h\r\nvia: 1.1 polipo\r\n\r\n"),
+        ],
+    },
+    Exchange {
+        name: "the host of the target counts, whatever the Host field says (RFC 2616, section 5.2)",
+        acts: &[Act::Connect, Act::Say(1, b"GET http://h/a HTTP/1.1\r\nhOST:other:1\r\n\r\n"), Act::Reach(2)],
+        wanted: &[Wanted::Dialled(2, b"h", 80), Wanted::Asked(2, ASK)],
+    },
+    Exchange {
+        name: "an empty line before a request is passed over (RFC 2616, section 4.1)",
+        acts: &[Act::Connect, Act::Say(1, b"\r\nGET http://h/a HTTP/1.1\r\nHost: h\r\n\r\n"), Act::Reach(2)],
+        wanted: &[Wanted::Asked(2, ASK)],
+    },
+    Exchange {
+        name: "a line may end with LF alone (RFC 2616, section 19.3)",
+        acts: &[Act::Connect, Act::Say(1, b"GET http://h/a HTTP/1.1\nHost: h\n\n"), Act::Reach(2)],
+        wanted: &[Wanted::Asked(2, ASK)],
+    },
+    Exchange {
+        name: "fields of one connection stay behind, all others go on (RFC 2616, sections 13.5.1 and 14.10)",
+        acts: &[
+            Act::Connect,
+            Act::Say(
+                1,
+                b"GET http://h/a HTTP/1.1\r\nProxy-Connection: keep-alive\r\nA:  b  c \r\nConnection: X, te\r\nx: y\r\nTE: z\r\nCookie: d\r\nUpgrade: e\r\nVia: 1.0 f\r\nX-Polipo-Date: 1\r\nProxy-Authorization: g\r\nA:\r\n\r\n",
+            ),
+            Act::Reach(2),
+        ],
+        wanted: &[Wanted::Asked(
+            2,
+            b"GET /a HTTP/1.1\r\nhost: h\r\na: b  c\r\ncookie: d\r\nvia: 1.0 f\r\na: \r\nvia: 1.1 polipo\r\n\r\n",
+        )],
+    },
+];
 
 #[test]
 fn the_origin_is_asked_for_the_path_of_the_target(rt: HostRuntime) -> Result<(), Fail> {
-    let asks: [(&[u8], &[u8], &[u8]); 5] = [
-        (
-            b"GET http://h/ HTTP/1.1\r\nHost: h\r\n\r\n",
-            b"h",
-            b"GET / HTTP/1.1\r\nhost: h\r\nvia: 1.1 polipo\r\n\r\n",
-        ),
-        (
-            b"GET http://a-1.example/b/../c?d=/e?f HTTP/1.1\r\nHost: a-1.example\r\n\r\n",
-            b"a-1.example",
-            b"GET /b/../c?d=/e?f HTTP/1.1\r\nhost: a-1.example\r\nvia: 1.1 polipo\r\n\r\n",
-        ),
-        // the host of the target counts, whatever the Host field says (RFC 2616, section 5.2)
-        (b"GET http://h/a HTTP/1.1\r\nhOST:other\r\n\r\n", b"h", ASK),
-        // an empty line before a request is passed over (RFC 2616, section 4.1)
-        (b"\r\nGET http://h/a HTTP/1.1\r\nHost: h\r\n\r\n", b"h", ASK),
-        // a line may end with LF alone (RFC 2616, section 19.3)
-        (b"GET http://h/a HTTP/1.1\nHost: h\n\n", b"h", ASK),
-    ];
-    for pace in PACES {
-        for (request, host, ask) in asks {
-            let acts = [Act::Connect, Act::Say(1, request), Act::Reach(2)];
-            let played = play(rt.alloc(), pace, &acts)?;
-            assert!(rt; is_dialled(played.log(), host));
-            assert_eq!(rt; played.asked(2)?.as_slice(), ask, "{pace:?}");
-            assert_eq!(rt; played.said(1)?.as_slice(), b"".as_slice(), "{pace:?}");
-        }
-    }
+    assert_eq!(rt; unlike(rt.alloc(), TARGETS)?.as_str(), "");
     Ok(())
 }
 
-/// Whether connection 2, and no other, was dialled, to this host on port 80.
-fn is_dialled(log: &[Happening], host: &[u8]) -> bool {
-    let mut count: u64 = 0;
-    let mut is_right = false;
-    for happening in log {
-        if let Happening::Dialled(number, name, port) = happening {
-            count = count.saturating_add(1);
-            is_right = *number == 2 && *port == 80 && name.as_slice() == host;
-        }
-    }
-    count == 1 && is_right
-}
+const REPLIES: &[Exchange<'static>] = &[
+    Exchange {
+        name: "an empty body",
+        acts: &[
+            Act::Connect,
+            Act::Say(1, GET),
+            Act::Reach(2),
+            Act::Answer(2, b"HTTP/1.1 200 OK\r\nContent-Length: 0\r\nETag: \"\"\r\n\r\n"),
+        ],
+        wanted: &[
+            Wanted::Said(
+                1,
+                &[Part::Text(
+                    b"HTTP/1.1 200 OK\r\netag: \"\"\r\nvia: 1.1 polipo\r\ncontent-length: 0\r\nconnection: keep-alive\r\n\r\n",
+                )],
+            ),
+            Wanted::Count(Step::Dropped, 1),
+        ],
+    },
+    Exchange {
+        name: "any status and reason, and fields in their order",
+        acts: &[
+            Act::Connect,
+            Act::Say(1, GET),
+            Act::Reach(2),
+            Act::Answer(2, b"HTTP/1.1 404 Not Quite Here\r\nA:  b  c \r\nETag: W/\"x\"\r\nA:\r\nContent-Length: 1\r\n\r\nz"),
+        ],
+        wanted: &[Wanted::Said(
+            1,
+            &[Part::Text(
+                b"HTTP/1.1 404 Not Quite Here\r\na: b  c\r\netag: W/\"x\"\r\na: \r\nvia: 1.1 polipo\r\ncontent-length: 1\r\nconnection: keep-alive\r\n\r\nz",
+            )],
+        )],
+    },
+    Exchange {
+        name: "fields of one connection stay behind, and those that Connection names",
+        acts: &[
+            Act::Connect,
+            Act::Say(1, GET),
+            Act::Reach(2),
+            Act::Answer(
+                2,
+                b"HTTP/1.1 200 \r\nKeep-Alive: timeout=5\r\nX-Polipo-Date: 1\r\nTE: x\r\nTrailer: y\r\nUpgrade: z\r\nProxy-Connection: x\r\nProxy-Authenticate: x\r\nVia: 1.0 a\r\nConnection: close, B\r\nb: c\r\nContent-Length: 0\r\n\r\n",
+            ),
+        ],
+        wanted: &[Wanted::Said(
+            1,
+            &[Part::Text(
+                b"HTTP/1.1 200 \r\nvia: 1.0 a\r\nvia: 1.1 polipo\r\ncontent-length: 0\r\nconnection: keep-alive\r\n\r\n",
+            )],
+        )],
+    },
+    Exchange {
+        name: "what comes after the body is no part of the response",
+        acts: &[
+            Act::Connect,
+            Act::Say(1, GET),
+            Act::Reach(2),
+            Act::Answer(2, b"HTTP/1.1 200 OK\r\nContent-Length: 2\r\n\r\nabHTTP/1.1 200 OK\r\n\r\n"),
+        ],
+        wanted: &[
+            Wanted::Said(
+                1,
+                &[Part::Text(
+                    b"HTTP/1.1 200 OK\r\nvia: 1.1 polipo\r\ncontent-length: 2\r\nconnection: keep-alive\r\n\r\nab",
+                )],
+            ),
+            Wanted::Count(Step::Dropped, 1),
+        ],
+    },
+];
 
 #[test]
 fn the_reply_has_the_fields_that_are_forwarded(rt: HostRuntime) -> Result<(), Fail> {
-    let replies: [(&[u8], &[u8]); 5] = [
-        (
-            b"HTTP/1.1 200 OK\r\nContent-Length: 0\r\nETag: \"\"\r\n\r\n",
-            b"HTTP/1.1 200 OK\r\netag: \"\"\r\nvia: 1.1 polipo\r\ncontent-length: 0\r\nconnection: keep-alive\r\n\r\n",
-        ),
-        (
-            b"HTTP/1.1 200 Very Well Done\r\nETag: \"x\"\r\nA:  b  c \r\nA:\r\nContent-Length: 1\r\n\r\nz",
-            b"HTTP/1.1 200 Very Well Done\r\netag: \"x\"\r\na: b  c\r\na: \r\nvia: 1.1 polipo\r\ncontent-length: 1\r\nconnection: keep-alive\r\n\r\nz",
-        ),
-        (
-            b"HTTP/1.1 200 \r\nKeep-Alive: timeout=5\r\nX-Polipo-Date: 1\r\nTE: x\r\nTrailer: y\r\nUpgrade: z\r\nETag: \"x\"\r\nContent-Length: 0\r\n\r\n",
-            b"HTTP/1.1 200 \r\netag: \"x\"\r\nvia: 1.1 polipo\r\ncontent-length: 0\r\nconnection: keep-alive\r\n\r\n",
-        ),
-        (
-            b"HTTP/1.1 200 OK\r\nProxy-Connection: x\r\nProxy-Authenticate: x\r\nVia: 1.0 a\r\nETag: \"x\"\r\nContent-Length: 0\r\n\r\n",
-            b"HTTP/1.1 200 OK\r\nvia: 1.0 a\r\netag: \"x\"\r\nvia: 1.1 polipo\r\ncontent-length: 0\r\nconnection: keep-alive\r\n\r\n",
-        ),
-        // what comes after the body is no part of the response
-        (
-            b"HTTP/1.1 200 OK\r\nETag: \"x\"\r\nContent-Length: 2\r\n\r\nabHTTP/1.1 200 OK\r\n\r\n",
-            b"HTTP/1.1 200 OK\r\netag: \"x\"\r\nvia: 1.1 polipo\r\ncontent-length: 2\r\nconnection: keep-alive\r\n\r\nab",
-        ),
-    ];
-    for pace in PACES {
-        for (response, reply) in replies {
-            let acts = [
-                Act::Connect,
-                Act::Say(1, GET),
-                Act::Reach(2),
-                Act::Answer(2, response),
-            ];
-            let played = play(rt.alloc(), pace, &acts)?;
-            assert_eq!(rt; played.said(1)?.as_slice(), reply, "{pace:?}");
-            assert_eq!(rt; played.count(Step::Dropped), 1, "{pace:?}");
-        }
-    }
+    assert_eq!(rt; unlike(rt.alloc(), REPLIES)?.as_str(), "");
     Ok(())
 }
 
 /// Two requests in one piece.
-const GET_BOTH: &[u8] =
-    b"GET http://h/a HTTP/1.1\r\nHost: h\r\n\r\nGET http://h/b HTTP/1.1\r\nHost: h\r\n\r\n";
+const GET_BOTH: &[u8] = b"GET http://h/a HTTP/1.1\r\nHost: h\r\n\r\nGET http://h/b HTTP/1.1\r\nHost: h\r\n\r\n";
+
+const BOTH_ANSWERED: &[Wanted<'static>] = &[
+    Wanted::Said(1, &[Part::Text(REPLY), Part::Text(REPLY_B)]),
+    Wanted::Asked(2, ASK),
+    Wanted::Asked(3, ASK_B),
+    Wanted::Course(
+        1,
+        &[
+            Step::Opened,
+            Step::Taken(0, Decision::Pass),
+            Step::Said(159),
+            Step::Taken(1, Decision::Pass),
+            Step::Said(93),
+            Step::Stopped,
+            Step::Shut,
+        ],
+    ),
+    Wanted::Count(Step::Dropped, 2),
+];
+
+const TWO_REQUESTS: &[Exchange<'static>] = &[
+    Exchange {
+        name: "one behind the other's reply",
+        acts: &[
+            Act::Connect,
+            Act::Say(1, GET),
+            Act::Reach(2),
+            Act::Answer(2, RESPONSE),
+            Act::Say(1, GET_B),
+            Act::Reach(3),
+            Act::Answer(3, RESPONSE_B),
+        ],
+        wanted: BOTH_ANSWERED,
+    },
+    Exchange {
+        name: "both at once",
+        acts: &[
+            Act::Connect,
+            Act::Say(1, GET_BOTH),
+            Act::Reach(2),
+            Act::Answer(2, RESPONSE),
+            Act::Reach(3),
+            Act::Answer(3, RESPONSE_B),
+        ],
+        wanted: BOTH_ANSWERED,
+    },
+];
 
 #[test]
 fn requests_of_one_client_are_answered_one_after_the_other(rt: HostRuntime) -> Result<(), Fail> {
-    let asked_apart = [
-        Act::Connect,
-        Act::Say(1, GET),
-        Act::Reach(2),
-        Act::Answer(2, RESPONSE),
-        Act::Say(1, GET_B),
-        Act::Reach(3),
-        Act::Answer(3, RESPONSE_B),
-    ];
-    let asked_at_once = [
-        Act::Connect,
-        Act::Say(1, GET_BOTH),
-        Act::Reach(2),
-        Act::Answer(2, RESPONSE),
-        Act::Reach(3),
-        Act::Answer(3, RESPONSE_B),
-    ];
-    let replies = joined(rt.alloc(), &[REPLY, REPLY_B])?;
-    for pace in PACES {
-        for acts in [asked_apart.as_slice(), asked_at_once.as_slice()] {
-            let played = play(rt.alloc(), pace, acts)?;
-            assert_eq!(rt; played.said(1)?.as_slice(), replies.as_slice(), "{pace:?}");
-            assert_eq!(rt; played.asked(2)?.as_slice(), ASK, "{pace:?}");
-            assert_eq!(rt; played.asked(3)?.as_slice(), ASK_B, "{pace:?}");
-            assert_eq!(rt;
-                played.course(1)?.as_slice(),
-                TWO_ANSWERED.as_slice(),
-                "{pace:?}"
-            );
-            assert!(rt; is_one_after_the_other(played.log()));
-        }
-    }
+    assert_eq!(rt; unlike(rt.alloc(), TWO_REQUESTS)?.as_str(), "");
     Ok(())
-}
-
-const TWO_ANSWERED: [Step; 7] = [
-    Step::Opened,
-    Step::Taken(0, Decision::Pass),
-    Step::Said(159),
-    Step::Taken(1, Decision::Pass),
-    Step::Said(93),
-    Step::Stopped,
-    Step::Shut,
-];
-
-/// Whether connection 2 was dropped before 3 was dialled, and that too was dropped.
-fn is_one_after_the_other(log: &[Happening]) -> bool {
-    let mut seen: u64 = 0;
-    for happening in log {
-        seen = match (seen, happening) {
-            (0, Happening::Dialled(2, _, _)) => 1,
-            (1, Happening::Dropped(2)) => 2,
-            (2, Happening::Dialled(3, _, _)) => 3,
-            (3, Happening::Dropped(3)) => 4,
-            (_, Happening::Dialled(_, _, _) | Happening::Dropped(_)) => 9,
-            (_, _) => seen,
-        };
-    }
-    seen == 4
 }

@@ -1,5 +1,5 @@
 // What the log tells of one connection.
-use crate::play::Played;
+use crate::playing::Played;
 use pp_text::OutOfMemory;
 use pp_world::{Cause, Decision, Happening, Remark};
 use std::alloc::AllocError;
@@ -7,7 +7,7 @@ use std::alloc::AllocError;
 /// A step in the course of a connection. What is said or asked in one go counts as one step, however
 /// it was cut, with the sum of its bytes; what is read is left out.
 #[derive(Clone, Copy, Debug, PartialEq, Eq)]
-pub(crate) enum Step {
+pub enum Step {
     Opened,
     HungUp,
     Taken(u64, Decision),
@@ -26,7 +26,7 @@ pub(crate) enum Step {
 
 impl Played {
     /// The course of this connection.
-    pub(crate) fn course(&self, id: u64) -> Result<Vec<Step>, OutOfMemory> {
+    pub fn course(&self, id: u64) -> Result<Vec<Step>, OutOfMemory> {
         let mut course = Vec::new(self.alloc());
         for happening in self.log() {
             if let Some(step) = step_of(happening, id) {
@@ -37,7 +37,7 @@ impl Played {
     }
 
     /// How often this step happened, of all connections.
-    pub(crate) fn count(&self, wanted: Step) -> u64 {
+    pub fn count(&self, wanted: Step) -> u64 {
         let mut count: u64 = 0;
         for happening in self.log() {
             if let Some((_, step)) = named_step(happening) {
@@ -47,6 +47,43 @@ impl Played {
             }
         }
         count
+    }
+}
+
+impl Played {
+    /// How many connections at most had this step, and not yet that other one.
+    pub fn most_open(&self, opens: Step, closes: Step) -> u64 {
+        let mut count: u64 = 0;
+        let mut most: u64 = 0;
+        for happening in self.log() {
+            match named_step(happening) {
+                Some((_, step)) if step == opens => count = count.saturating_add(1),
+                Some((_, step)) if step == closes => count = count.saturating_sub(1),
+                Some(_) | None => {}
+            }
+            most = most.max(count);
+        }
+        most
+    }
+
+    /// How many bytes at most were read, and not yet written.
+    pub fn most_held(&self) -> usize {
+        let mut held: usize = 0;
+        let mut most: usize = 0;
+        for happening in self.log() {
+            held = held_behind(held, happening);
+            most = most.max(held);
+        }
+        most
+    }
+}
+
+/// How many bytes are held behind this, where so many were before.
+fn held_behind(held: usize, happening: &Happening) -> usize {
+    match happening {
+        Happening::Got(_, bytes) | Happening::Heard(_, bytes) => held.saturating_add(bytes.as_slice().len()),
+        Happening::Said(_, _, bytes) | Happening::Asked(_, bytes) => held.saturating_sub(bytes.as_slice().len()),
+        _ => held,
     }
 }
 
@@ -78,7 +115,7 @@ fn step_of(happening: &Happening, id: u64) -> Option<Step> {
 }
 
 /// The step that this is, and the number of its connection.
-pub(crate) fn named_step(happening: &Happening) -> Option<(u64, Step)> {
+pub fn named_step(happening: &Happening) -> Option<(u64, Step)> {
     match happening {
         Happening::Opened(c) => Some((*c, Step::Opened)),
         Happening::HungUp(c) => Some((*c, Step::HungUp)),

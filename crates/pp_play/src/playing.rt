@@ -8,7 +8,7 @@ use std::alloc::{AllocError, Global};
 /// What happens next outside of the program. Connections have the numbers of one series from 1, in
 /// the order in which they are accepted and dialled; 0 is the client that connected last.
 #[derive(Clone, Copy, Debug)]
-pub(crate) enum Act<'a> {
+pub enum Act<'a> {
     /// A client connects.
     Connect,
     /// A client sends this text.
@@ -33,30 +33,30 @@ pub(crate) enum Act<'a> {
 
 /// How texts come.
 #[derive(Clone, Copy, Debug, PartialEq, Eq)]
-pub(crate) enum Pace {
+pub enum Pace {
     /// Each in one piece.
     Whole,
     /// Every byte alone.
     Bytewise,
 }
 
-pub(crate) const PACES: [Pace; 2] = [Pace::Whole, Pace::Bytewise];
+pub const PACES: [Pace; 2] = [Pace::Whole, Pace::Bytewise];
 
 /// A run of the program that ended.
 #[derive(Drop)]
-pub(crate) struct Played {
-    pub(crate) exit: Exit,
+pub struct Played {
+    pub exit: Exit,
     world: MemWorld,
     alloc: Global,
 }
 
 /// Plays these acts, without words and without a call that fails.
-pub(crate) fn play(alloc: Global, pace: Pace, acts: &[Act<'_>]) -> Result<Played, OutOfMemory> {
+pub fn play(alloc: Global, pace: Pace, acts: &[Act<'_>]) -> Result<Played, OutOfMemory> {
     play_failing(alloc, pace, acts, &[])
 }
 
 /// The same, where the calls of these numbers fail: reads, writes, listening and dials, from 1.
-pub(crate) fn play_failing(
+pub fn play_failing(
     alloc: Global,
     pace: Pace,
     acts: &[Act<'_>],
@@ -66,7 +66,7 @@ pub(crate) fn play_failing(
 }
 
 /// Runs the program with these words over this script.
-pub(crate) fn play_with(
+pub fn play_with(
     alloc: Global,
     words: &[String],
     script: Script,
@@ -80,16 +80,16 @@ pub(crate) fn play_with(
 
 impl Played {
     /// What happened; nothing where the world stopped telling, so that every comparison fails.
-    pub(crate) fn log(&self) -> &[Happening] {
+    pub fn log(&self) -> &[Happening] {
         self.world.log().unwrap_or(&[])
     }
 
-    pub(crate) fn alloc(&self) -> Global {
+    pub fn alloc(&self) -> Global {
         self.alloc
     }
 
     /// All that this client was said.
-    pub(crate) fn said(&self, c: u64) -> Result<Vec<u8>, OutOfMemory> {
+    pub fn said(&self, c: u64) -> Result<Vec<u8>, OutOfMemory> {
         let mut text = Vec::new(self.alloc);
         for happening in self.log() {
             if let Happening::Said(client, _, bytes) = happening {
@@ -102,7 +102,7 @@ impl Played {
     }
 
     /// All that this origin was asked.
-    pub(crate) fn asked(&self, k: u64) -> Result<Vec<u8>, OutOfMemory> {
+    pub fn asked(&self, k: u64) -> Result<Vec<u8>, OutOfMemory> {
         let mut text = Vec::new(self.alloc);
         for happening in self.log() {
             if let Happening::Asked(origin, bytes) = happening {

@@ -1,0 +1,109 @@
+// What is played, and what is wanted of it.
+use crate::course::Step;
+use crate::fitting::{Fit, Part, fit_of};
+use crate::playing::{Act, PACES, Pace, Played, play};
+use pp_run::Exit;
+use pp_text::OutOfMemory;
+use pp_world::Happening;
+use std::alloc::Global;
+
+/// What clients and origins do, and what the program is to do.
+#[derive(Clone, Copy, Debug)]
+pub struct Exchange<'a> {
+    /// What it shows.
+    pub name: &'a str,
+    pub acts: &'a [Act<'a>],
+    pub wanted: &'a [Wanted<'a>],
+}
+
+/// What is wanted of the program.
+#[derive(Clone, Copy, Debug)]
+pub enum Wanted<'a> {
+    /// This client is said these parts, and nothing more.
+    Said(u64, &'a [Part<'a>]),
+    /// This origin is asked just that.
+    Asked(u64, &'a [u8]),
+    /// The connection of this number is one to this host and port.
+    Dialled(u64, &'a [u8], u16),
+    /// The course of this connection.
+    Course(u64, &'a [Step]),
+    /// This step comes so often, of all connections.
+    Count(Step, u64),
+    /// So many connections at most had the first step, and not yet the second.
+    MostOpen(Step, Step, u64),
+    /// So many bytes at most were read from some connections, and not yet written to others.
+    MostHeld(usize),
+    /// The program ends so.
+    Exit(Exit),
+}
+
+/// Where these exchanges go otherwise than wanted, at either pace: nothing is said where none does.
+pub fn unlike(alloc: Global, exchanges: &[Exchange<'_>]) -> Result<String, OutOfMemory> {
+    for pace in PACES {
+        let said = unlike_at(alloc, pace, exchanges)?;
+        if !said.is_empty() {
+            return Ok(said);
+        }
+    }
+    Ok(String::new(alloc))
+}
+
+/// The same at one pace.
+pub fn unlike_at(alloc: Global, pace: Pace, exchanges: &[Exchange<'_>]) -> Result<String, OutOfMemory> {
+    for exchange in exchanges {
+        let played = play(alloc, pace, exchange.acts)?;
+        for wanted in exchange.wanted {
+            if !is_met(&played, *wanted)? {
+                return tell(alloc, &played, exchange.name, *wanted);
+            }
+        }
+    }
+    Ok(String::new(alloc))
+}
+
+/// Whether the program did what is wanted.
+fn is_met(played: &Played, wanted: Wanted<'_>) -> Result<bool, OutOfMemory> {
+    match wanted {
+        Wanted::Said(c, parts) => Ok(fit_of(played.said(c)?.as_slice(), parts) == Fit::Whole),
+        Wanted::Asked(k, text) => Ok(played.asked(k)?.as_slice() == text),
+        Wanted::Dialled(k, host, port) => Ok(is_dialled(played.log(), k, host, port)),
+        Wanted::Course(id, steps) => Ok(played.course(id)?.as_slice() == steps),
+        Wanted::Count(step, count) => Ok(played.count(step) == count),
+        Wanted::MostOpen(opens, closes, count) => Ok(played.most_open(opens, closes) == count),
+        Wanted::MostHeld(bytes) => Ok(played.most_held() <= bytes),
+        Wanted::Exit(exit) => Ok(played.exit == exit),
+    }
+}
+
+/// Whether connection `k` is one to this host and port.
+fn is_dialled(log: &[Happening], k: u64, host: &[u8], port: u16) -> bool {
+    for happening in log {
+        if let Happening::Dialled(number, name, dialled) = happening {
+            if *number == k {
+                return name.as_slice() == host && *dialled == port;
+            }
+        }
+    }
+    false
+}
+
+/// What was wanted, and what came in its place.
+fn tell(alloc: Global, played: &Played, name: &str, wanted: Wanted<'_>) -> Result<String, OutOfMemory> {
+    let text = match wanted {
+        Wanted::Said(c, _) => lossy(alloc, played.said(c)?.as_slice())?,
+        Wanted::Asked(k, _) => lossy(alloc, played.asked(k)?.as_slice())?,
+        Wanted::Course(id, _) => format!(in alloc; "{:?}", played.course(id)?.as_slice())?,
+        Wanted::Count(step, _) => format!(in alloc; "{}", played.count(step))?,
+        Wanted::MostOpen(opens, closes, _) => format!(in alloc; "{}", played.most_open(opens, closes))?,
+        Wanted::MostHeld(_) => format!(in alloc; "{}", played.most_held())?,
+        Wanted::Exit(_) => format!(in alloc; "{:?}", played.exit)?,
+        Wanted::Dialled(_, _, _) => String::new(alloc),
+    };
+    Ok(format!(in alloc; "{name}: wanted {wanted:?}, and came {text}")?)
+}
+
+/// A text as it is printed.
+fn lossy(alloc: Global, text: &[u8]) -> Result<String, OutOfMemory> {
+    let text = String::from_utf8_lossy(alloc, text)?;
+    Ok(format!(in alloc; "{text:?}")?)
+}
