@@ -1,7 +1,7 @@
 // Origins that answer wrongly, or not at all. The client gets a page, and its connection goes on.
 use pp_play::{
-    Act, Cut, Exchange, GET, PAGE_502, Pace, Part, Step, Wanted, play_failing, unlike, unlike_at, unlike_when_cut,
-    with_repeated,
+    Act, Cut, Exchange, GET, PAGE_502, Pace, Part, Step, Wanted, play_failing, unlike, unlike_at,
+    unlike_when_cut, with_repeated,
 };
 use pp_world::{Cause, Decision};
 use std::test::Fail;
@@ -35,18 +35,45 @@ macro_rules! answers {
 }
 
 const NOT_PASSED: &[Exchange<'static>] = &[
-    answers!("another coding", b"HTTP/1.1 200 OK\r\nTransfer-Encoding: gzip, chunked\r\n\r\n5\r\nhello\r\n0\r\n\r\n"),
-    answers!("a coding behind chunks", b"HTTP/1.1 200 OK\r\nTransfer-Encoding: chunked, gzip\r\n\r\n"),
-    answers!("chunks of chunks", b"HTTP/1.1 200 OK\r\nTransfer-Encoding: chunked\r\nTransfer-Encoding: chunked\r\n\r\n"),
-    answers!("two lengths", b"HTTP/1.1 200 OK\r\nContent-Length: 5\r\nContent-Length: 6\r\n\r\nhello"),
-    answers!("a length with a sign", b"HTTP/1.1 200 OK\r\nContent-Length: +5\r\n\r\nhello"),
-    answers!("an empty length", b"HTTP/1.1 200 OK\r\nContent-Length:\r\n\r\nhello"),
-    answers!("two lengths beside chunks", b"HTTP/1.1 200 OK\r\nContent-Length: 5\r\nContent-Length: 6\r\nTransfer-Encoding: chunked\r\n\r\n"),
-    answers!("a length of 65 bits", b"HTTP/1.1 200 OK\r\nContent-Length: 18446744073709551616\r\n\r\nhello"),
+    answers!(
+        "another coding",
+        b"HTTP/1.1 200 OK\r\nTransfer-Encoding: gzip, chunked\r\n\r\n5\r\nhello\r\n0\r\n\r\n"
+    ),
+    answers!(
+        "a coding behind chunks",
+        b"HTTP/1.1 200 OK\r\nTransfer-Encoding: chunked, gzip\r\n\r\n"
+    ),
+    answers!(
+        "chunks of chunks",
+        b"HTTP/1.1 200 OK\r\nTransfer-Encoding: chunked\r\nTransfer-Encoding: chunked\r\n\r\n"
+    ),
+    answers!(
+        "two lengths",
+        b"HTTP/1.1 200 OK\r\nContent-Length: 5\r\nContent-Length: 6\r\n\r\nhello"
+    ),
+    answers!(
+        "a length with a sign",
+        b"HTTP/1.1 200 OK\r\nContent-Length: +5\r\n\r\nhello"
+    ),
+    answers!(
+        "an empty length",
+        b"HTTP/1.1 200 OK\r\nContent-Length:\r\n\r\nhello"
+    ),
+    answers!(
+        "two lengths beside chunks",
+        b"HTTP/1.1 200 OK\r\nContent-Length: 5\r\nContent-Length: 6\r\nTransfer-Encoding: chunked\r\n\r\n"
+    ),
+    answers!(
+        "a length of 65 bits",
+        b"HTTP/1.1 200 OK\r\nContent-Length: 18446744073709551616\r\n\r\nhello"
+    ),
     answers!("another protocol", b"SSH-2.0-OpenSSH_9.6\r\n"),
     answers!("zeros", b"\0\0\0\0"),
     answers!("a folded line", b"HTTP/1.1 200 OK\r\nA: b\r\n c\r\n\r\n"),
-    answers!("a fault behind an interim response", b"HTTP/1.1 100 Continue\r\n\r\nHTTP/2 200\r\n\r\n"),
+    answers!(
+        "a fault behind an interim response",
+        b"HTTP/1.1 100 Continue\r\n\r\nHTTP/2 200\r\n\r\n"
+    ),
 ];
 
 #[test]
@@ -60,11 +87,29 @@ fn a_response_head_that_does_not_end_gets_a_page(rt: HostRuntime) -> Result<(), 
     let alloc = rt.alloc();
     let many_fields = with_repeated(alloc, b"HTTP/1.1 200 OK\r\n", 101, b"a: b\r\n")?;
     let long_field = with_repeated(alloc, b"HTTP/1.1 200 OK\r\na: ", 2048, b"bbbbbbbb")?;
-    let many = [Act::Connect, Act::Say(1, GET), Act::Reach(2), Act::Answer(2, many_fields.as_slice())];
-    let long = [Act::Connect, Act::Say(1, GET), Act::Reach(2), Act::Answer(2, long_field.as_slice())];
+    let many = [
+        Act::Connect,
+        Act::Say(1, GET),
+        Act::Reach(2),
+        Act::Answer(2, many_fields.as_slice()),
+    ];
+    let long = [
+        Act::Connect,
+        Act::Say(1, GET),
+        Act::Reach(2),
+        Act::Answer(2, long_field.as_slice()),
+    ];
     let heads = [
-        Exchange { name: "101 fields", acts: &many, wanted: FAILED },
-        Exchange { name: "a long field", acts: &long, wanted: FAILED },
+        Exchange {
+            name: "101 fields",
+            acts: &many,
+            wanted: FAILED,
+        },
+        Exchange {
+            name: "a long field",
+            acts: &long,
+            wanted: FAILED,
+        },
     ];
     assert_eq!(rt; unlike_at(alloc, Pace::Whole, &heads)?.as_str(), "");
     assert_eq!(rt; unlike_at(alloc, Pace::Bytewise, &heads[..1])?.as_str(), "");
@@ -72,22 +117,40 @@ fn a_response_head_that_does_not_end_gets_a_page(rt: HostRuntime) -> Result<(), 
 }
 
 const NOT_REACHED: &[Exchange<'static>] = &[
-    Exchange { name: "refused", acts: &[Act::Connect, Act::Say(1, GET), Act::Refuse(2)], wanted: FAILED },
+    Exchange {
+        name: "refused",
+        acts: &[Act::Connect, Act::Say(1, GET), Act::Refuse(2)],
+        wanted: FAILED,
+    },
     Exchange {
         name: "lost once reached",
-        acts: &[Act::Connect, Act::Say(1, GET), Act::Reach(2), Act::Refuse(2)],
+        acts: &[
+            Act::Connect,
+            Act::Say(1, GET),
+            Act::Reach(2),
+            Act::Refuse(2),
+        ],
         wanted: FAILED,
     },
     Exchange {
         name: "lost within its interim response",
-        acts: &[Act::Connect, Act::Say(1, GET), Act::Reach(2), Act::Answer(2, b"HTTP/1.1 100 Continue\r\n\r\n"), Act::End(2)],
+        acts: &[
+            Act::Connect,
+            Act::Say(1, GET),
+            Act::Reach(2),
+            Act::Answer(2, b"HTTP/1.1 100 Continue\r\n\r\n"),
+            Act::End(2),
+        ],
         wanted: FAILED,
     },
     Exchange {
         name: "lost while the request's body is asked",
         acts: &[
             Act::Connect,
-            Act::Say(1, b"POST http://h/a HTTP/1.1\r\nContent-Length: 5\r\n\r\nab"),
+            Act::Say(
+                1,
+                b"POST http://h/a HTTP/1.1\r\nContent-Length: 5\r\n\r\nab",
+            ),
             Act::Reach(2),
             Act::Break(2),
             Act::Say(1, b"cde"),
@@ -100,7 +163,12 @@ const NOT_REACHED: &[Exchange<'static>] = &[
 fn an_origin_that_is_lost_gives_a_page(rt: HostRuntime) -> Result<(), Fail> {
     assert_eq!(rt; unlike(rt.alloc(), NOT_REACHED)?.as_str(), "");
     // calls: listen, read, dial
-    let played = play_failing(rt.alloc(), Pace::Whole, &[Act::Connect, Act::Say(1, GET)], &[3])?;
+    let played = play_failing(
+        rt.alloc(),
+        Pace::Whole,
+        &[Act::Connect, Act::Say(1, GET)],
+        &[3],
+    )?;
     assert_eq!(rt; played.said(1)?.as_slice(), PAGE_502);
     assert_eq!(rt; played.count(Step::Dialled(80)), 0);
     Ok(())

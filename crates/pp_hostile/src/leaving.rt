@@ -25,8 +25,16 @@ fn a_client_that_leaves_in_its_request_is_shut(rt: HostRuntime) -> Result<(), Fa
                 Act::Reach(3),
                 Act::Answer(3, RESPONSE),
             ];
-            let exchange = [Exchange { name: "", acts: &acts, wanted: LOST_EARLY }];
-            assert_eq!(rt; unlike_at(rt.alloc(), Pace::Whole, &exchange)?.as_str(), "", "at {len}");
+            let exchange = [Exchange {
+                name: "",
+                acts: &acts,
+                wanted: LOST_EARLY,
+            }];
+            assert_eq!(rt;
+                unlike_at(rt.alloc(), Pace::Whole, &exchange)?.as_str(),
+                "",
+                "at {len}"
+            );
         }
     }
     Ok(())
@@ -54,8 +62,16 @@ fn a_client_that_is_lost_in_its_reply_is_shut(rt: HostRuntime) -> Result<(), Fai
             Wanted::Count(Step::Shut, 2),
             Wanted::Said(3, &[Part::Text(REPLY)]),
         ];
-        let exchange = [Exchange { name: "", acts: &acts, wanted: &wanted }];
-        assert_eq!(rt; unlike_at(rt.alloc(), Pace::Whole, &exchange)?.as_str(), "", "at {len}");
+        let exchange = [Exchange {
+            name: "",
+            acts: &acts,
+            wanted: &wanted,
+        }];
+        assert_eq!(rt;
+            unlike_at(rt.alloc(), Pace::Whole, &exchange)?.as_str(),
+            "",
+            "at {len}"
+        );
     }
     Ok(())
 }
@@ -64,7 +80,13 @@ fn a_client_that_is_lost_in_its_reply_is_shut(rt: HostRuntime) -> Result<(), Fai
 const LOST_LATE: &[Wanted<'static>] = &[
     Wanted::Course(
         1,
-        &[Step::Opened, Step::Taken(0, Decision::Pass), Step::HungUp, Step::Shut, Step::Stopped],
+        &[
+            Step::Opened,
+            Step::Taken(0, Decision::Pass),
+            Step::HungUp,
+            Step::Shut,
+            Step::Stopped,
+        ],
     ),
     Wanted::Count(Step::Dropped, 1),
 ];
@@ -82,28 +104,53 @@ const WAITING: &[Exchange<'static>] = &[
     },
     Exchange {
         name: "while its response's head comes",
-        acts: &[Act::Connect, Act::Say(1, GET), Act::Reach(2), Act::Answer(2, b"HTTP/1.1 200"), Act::Break(1)],
+        acts: &[
+            Act::Connect,
+            Act::Say(1, GET),
+            Act::Reach(2),
+            Act::Answer(2, b"HTTP/1.1 200"),
+            Act::Break(1),
+        ],
         wanted: LOST_LATE,
     },
     Exchange {
         name: "within its body, before the origin is reached",
-        acts: &[Act::Connect, Act::Say(1, PUT), Act::Say(1, b"ab"), Act::Break(1)],
+        acts: &[
+            Act::Connect,
+            Act::Say(1, PUT),
+            Act::Say(1, b"ab"),
+            Act::Break(1),
+        ],
         wanted: LOST_LATE,
     },
     Exchange {
         name: "within its body",
-        acts: &[Act::Connect, Act::Say(1, PUT), Act::Reach(2), Act::Say(1, b"ab"), Act::Break(1)],
+        acts: &[
+            Act::Connect,
+            Act::Say(1, PUT),
+            Act::Reach(2),
+            Act::Say(1, b"ab"),
+            Act::Break(1),
+        ],
         wanted: LOST_LATE,
     },
     Exchange {
         name: "within its body, where it will send no more",
-        acts: &[Act::Connect, Act::Say(1, PUT), Act::Reach(2), Act::Say(1, b"ab"), Act::HangUp(1)],
+        acts: &[
+            Act::Connect,
+            Act::Say(1, PUT),
+            Act::Reach(2),
+            Act::Say(1, b"ab"),
+            Act::HangUp(1),
+        ],
         wanted: LOST_LATE,
     },
 ];
 
 #[test]
-fn a_client_that_is_lost_while_it_waits_gives_its_connection_up(rt: HostRuntime) -> Result<(), Fail> {
+fn a_client_that_is_lost_while_it_waits_gives_its_connection_up(
+    rt: HostRuntime,
+) -> Result<(), Fail> {
     assert_eq!(rt; unlike(rt.alloc(), WAITING)?.as_str(), "");
     Ok(())
 }

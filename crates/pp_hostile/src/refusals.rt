@@ -1,6 +1,7 @@
 // Requests that are refused with a page.
 use pp_play::{
-    Act, Exchange, GET, PAGE_400, PAGE_411, PAGE_431, Pace, Part, Step, Wanted, unlike, unlike_at, with_repeated,
+    Act, Exchange, GET, PAGE_400, PAGE_411, PAGE_431, Pace, Part, Step, Wanted, unlike, unlike_at,
+    with_repeated,
 };
 use pp_world::Decision;
 use std::test::Fail;
@@ -44,8 +45,16 @@ const NO_HEADS: &[Exchange<'static>] = &[
     says!("a blank first", b" GET http://h/a HTTP/1.1\r\n\r\n", BAD),
     says!("a later version", b"GET http://h/a HTTP/2.0\r\n\r\n", BAD),
     says!("no version", b"GET http://h/a\r\n\r\n", BAD),
-    says!("no colon", b"GET http://h/a HTTP/1.1\r\nHost h\r\n\r\n", BAD),
-    says!("a blank before a colon", b"GET http://h/a HTTP/1.1\r\nHost : h\r\n\r\n", BAD),
+    says!(
+        "no colon",
+        b"GET http://h/a HTTP/1.1\r\nHost h\r\n\r\n",
+        BAD
+    ),
+    says!(
+        "a blank before a colon",
+        b"GET http://h/a HTTP/1.1\r\nHost : h\r\n\r\n",
+        BAD
+    ),
 ];
 
 #[test]
@@ -57,14 +66,42 @@ fn bytes_that_are_no_request_get_a_page(rt: HostRuntime) -> Result<(), Fail> {
 const NO_TARGETS: &[Exchange<'static>] = &[
     says!("a path", b"GET /a HTTP/1.1\r\nHost: h\r\n\r\n", BAD),
     says!("a star", b"OPTIONS * HTTP/1.1\r\nHost: h\r\n\r\n", BAD),
-    says!("a host and port", b"CONNECT h:443 HTTP/1.1\r\nHost: h\r\n\r\n", BAD),
-    says!("another scheme", b"GET https://h/a HTTP/1.1\r\nHost: h\r\n\r\n", BAD),
+    says!(
+        "a host and port",
+        b"CONNECT h:443 HTTP/1.1\r\nHost: h\r\n\r\n",
+        BAD
+    ),
+    says!(
+        "another scheme",
+        b"GET https://h/a HTTP/1.1\r\nHost: h\r\n\r\n",
+        BAD
+    ),
     says!("no host", b"GET http:///a HTTP/1.1\r\nHost: h\r\n\r\n", BAD),
-    says!("the port 0", b"GET http://h:0/a HTTP/1.1\r\nHost: h\r\n\r\n", BAD),
-    says!("a port above 65535", b"GET http://h:65536/a HTTP/1.1\r\nHost: h\r\n\r\n", BAD),
-    says!("user information", b"GET http://u@h/a HTTP/1.1\r\nHost: h\r\n\r\n", BAD),
-    says!("an IPv6 literal", b"GET http://[::1]/a HTTP/1.1\r\nHost: h\r\n\r\n", BAD),
-    says!("a target before a coding", b"PUT /a HTTP/1.1\r\nTransfer-Encoding: chunked\r\n\r\n", BAD),
+    says!(
+        "the port 0",
+        b"GET http://h:0/a HTTP/1.1\r\nHost: h\r\n\r\n",
+        BAD
+    ),
+    says!(
+        "a port above 65535",
+        b"GET http://h:65536/a HTTP/1.1\r\nHost: h\r\n\r\n",
+        BAD
+    ),
+    says!(
+        "user information",
+        b"GET http://u@h/a HTTP/1.1\r\nHost: h\r\n\r\n",
+        BAD
+    ),
+    says!(
+        "an IPv6 literal",
+        b"GET http://[::1]/a HTTP/1.1\r\nHost: h\r\n\r\n",
+        BAD
+    ),
+    says!(
+        "a target before a coding",
+        b"PUT /a HTTP/1.1\r\nTransfer-Encoding: chunked\r\n\r\n",
+        BAD
+    ),
 ];
 
 #[test]
@@ -75,7 +112,13 @@ fn a_target_that_is_no_http_url_gets_a_page(rt: HostRuntime) -> Result<(), Fail>
 
 const HEAD_PAGES: &[Exchange<'static>] = &[Exchange {
     name: "a page to HEAD has no body (RFC 2616, section 9.4)",
-    acts: &[Act::Connect, Act::Say(1, b"HEAD http://h/a HTTP/1.1\r\nTransfer-Encoding: chunked\r\n\r\n")],
+    acts: &[
+        Act::Connect,
+        Act::Say(
+            1,
+            b"HEAD http://h/a HTTP/1.1\r\nTransfer-Encoding: chunked\r\n\r\n",
+        ),
+    ],
     wanted: &[
         Wanted::Said(
             1,
@@ -88,7 +131,11 @@ const HEAD_PAGES: &[Exchange<'static>] = &[Exchange {
 }];
 
 const BODIES: &[Exchange<'static>] = &[
-    says!("a coding, though GET needs no body", b"GET http://h/a HTTP/1.1\r\nTransfer-Encoding: chunked\r\n\r\n", NO_LENGTH),
+    says!(
+        "a coding, though GET needs no body",
+        b"GET http://h/a HTTP/1.1\r\nTransfer-Encoding: chunked\r\n\r\n",
+        NO_LENGTH
+    ),
     says!(
         "a coding and a length, with a request behind it",
         b"POST http://h/a HTTP/1.1\r\nContent-Length: 4\r\nTransfer-Encoding: chunked\r\n\r\n0\r\n\r\nGET http://h/b HTTP/1.1\r\n\r\n",
@@ -104,12 +151,36 @@ const BODIES: &[Exchange<'static>] = &[
         b"POST http://h/a HTTP/1.1\r\nExpect: 100-continue\r\nTransfer-Encoding: chunked\r\n\r\n",
         NO_LENGTH
     ),
-    says!("lengths that differ", b"POST http://h/a HTTP/1.1\r\nContent-Length: 4\r\nA: b\r\ncontent-length: 5\r\n\r\nabcde", BAD),
-    says!("a length with a sign", b"POST http://h/a HTTP/1.1\r\nContent-Length: +1\r\n\r\na", BAD),
-    says!("an empty length", b"POST http://h/a HTTP/1.1\r\nContent-Length: \r\n\r\na", BAD),
-    says!("a list of lengths", b"POST http://h/a HTTP/1.1\r\nContent-Length: 1, 1\r\n\r\na", BAD),
-    says!("a length of 65 bits", b"GET http://h/a HTTP/1.1\r\nContent-Length: 18446744073709551616\r\n\r\n", BAD),
-    says!("a folded line", b"POST http://h/a HTTP/1.1\r\nA: b\r\n Content-Length: 5\r\n\r\nabcde", BAD),
+    says!(
+        "lengths that differ",
+        b"POST http://h/a HTTP/1.1\r\nContent-Length: 4\r\nA: b\r\ncontent-length: 5\r\n\r\nabcde",
+        BAD
+    ),
+    says!(
+        "a length with a sign",
+        b"POST http://h/a HTTP/1.1\r\nContent-Length: +1\r\n\r\na",
+        BAD
+    ),
+    says!(
+        "an empty length",
+        b"POST http://h/a HTTP/1.1\r\nContent-Length: \r\n\r\na",
+        BAD
+    ),
+    says!(
+        "a list of lengths",
+        b"POST http://h/a HTTP/1.1\r\nContent-Length: 1, 1\r\n\r\na",
+        BAD
+    ),
+    says!(
+        "a length of 65 bits",
+        b"GET http://h/a HTTP/1.1\r\nContent-Length: 18446744073709551616\r\n\r\n",
+        BAD
+    ),
+    says!(
+        "a folded line",
+        b"POST http://h/a HTTP/1.1\r\nA: b\r\n Content-Length: 5\r\n\r\nabcde",
+        BAD
+    ),
 ];
 
 #[test]
@@ -126,9 +197,21 @@ fn a_head_that_does_not_end_gets_a_page(rt: HostRuntime) -> Result<(), Fail> {
     let long_field = with_repeated(alloc, b"GET http://h/a HTTP/1.1\r\na: ", 2048, b"bbbbbbbb")?;
     let long_target = with_repeated(alloc, b"GET http://h/", 2048, b"aaaaaaaa")?;
     let heads = [
-        Exchange { name: "101 fields", acts: &[Act::Connect, Act::Say(1, many_fields.as_slice())], wanted: TOO_LONG },
-        Exchange { name: "a long field", acts: &[Act::Connect, Act::Say(1, long_field.as_slice())], wanted: TOO_LONG },
-        Exchange { name: "a long target", acts: &[Act::Connect, Act::Say(1, long_target.as_slice())], wanted: TOO_LONG },
+        Exchange {
+            name: "101 fields",
+            acts: &[Act::Connect, Act::Say(1, many_fields.as_slice())],
+            wanted: TOO_LONG,
+        },
+        Exchange {
+            name: "a long field",
+            acts: &[Act::Connect, Act::Say(1, long_field.as_slice())],
+            wanted: TOO_LONG,
+        },
+        Exchange {
+            name: "a long target",
+            acts: &[Act::Connect, Act::Say(1, long_target.as_slice())],
+            wanted: TOO_LONG,
+        },
     ];
     assert_eq!(rt; unlike_at(alloc, Pace::Whole, &heads)?.as_str(), "");
     assert_eq!(rt; unlike_at(alloc, Pace::Bytewise, &heads[..1])?.as_str(), "");

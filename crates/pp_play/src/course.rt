@@ -81,8 +81,12 @@ impl Played {
 /// How many bytes are held behind this, where so many were before.
 fn held_behind(held: usize, happening: &Happening) -> usize {
     match happening {
-        Happening::Got(_, bytes) | Happening::Heard(_, bytes) => held.saturating_add(bytes.as_slice().len()),
-        Happening::Said(_, _, bytes) | Happening::Asked(_, bytes) => held.saturating_sub(bytes.as_slice().len()),
+        Happening::Got(_, bytes) | Happening::Heard(_, bytes) => held.saturating_add(
+            bytes.as_slice().len(),
+        ),
+        Happening::Said(_, _, bytes) | Happening::Asked(_, bytes) => held.saturating_sub(
+            bytes.as_slice().len(),
+        ),
         _ => held,
     }
 }

@@ -49,7 +49,12 @@ pub fn unlike_when_cut(alloc: Global, cut: &Cut<'_>) -> Result<String, OutOfMemo
 }
 
 /// All that the client is said where the origin is lost behind this.
-fn said_when_cut<'x>(alloc: Global, request: &'x [u8], front: &'x [u8], loss: Loss) -> Result<Vec<u8>, OutOfMemory> {
+fn said_when_cut<'x>(
+    alloc: Global,
+    request: &'x [u8],
+    front: &'x [u8],
+    loss: Loss,
+) -> Result<Vec<u8>, OutOfMemory> {
     let lost = match loss {
         Loss::Ends => Act::End(2),
         Loss::Breaks => Act::Break(2),

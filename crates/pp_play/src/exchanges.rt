@@ -49,7 +49,11 @@ pub fn unlike(alloc: Global, exchanges: &[Exchange<'_>]) -> Result<String, OutOf
 }
 
 /// The same at one pace.
-pub fn unlike_at(alloc: Global, pace: Pace, exchanges: &[Exchange<'_>]) -> Result<String, OutOfMemory> {
+pub fn unlike_at(
+    alloc: Global,
+    pace: Pace,
+    exchanges: &[Exchange<'_>],
+) -> Result<String, OutOfMemory> {
     for exchange in exchanges {
         let played = play(alloc, pace, exchange.acts)?;
         for wanted in exchange.wanted {
@@ -88,13 +92,21 @@ fn is_dialled(log: &[Happening], k: u64, host: &[u8], port: u16) -> bool {
 }
 
 /// What was wanted, and what came in its place.
-fn tell(alloc: Global, played: &Played, name: &str, wanted: Wanted<'_>) -> Result<String, OutOfMemory> {
+fn tell(
+    alloc: Global,
+    played: &Played,
+    name: &str,
+    wanted: Wanted<'_>,
+) -> Result<String, OutOfMemory> {
     let text = match wanted {
         Wanted::Said(c, _) => lossy(alloc, played.said(c)?.as_slice())?,
         Wanted::Asked(k, _) => lossy(alloc, played.asked(k)?.as_slice())?,
         Wanted::Course(id, _) => format!(in alloc; "{:?}", played.course(id)?.as_slice())?,
         Wanted::Count(step, _) => format!(in alloc; "{}", played.count(step))?,
-        Wanted::MostOpen(opens, closes, _) => format!(in alloc; "{}", played.most_open(opens, closes))?,
+        Wanted::MostOpen(opens, closes, _) => format!(in alloc;
+            "{}",
+            played.most_open(opens, closes)
+        )?,
         Wanted::MostHeld(_) => format!(in alloc; "{}", played.most_held())?,
         Wanted::Exit(_) => format!(in alloc; "{:?}", played.exit)?,
         Wanted::Dialled(_, _, _) => String::new(alloc),

@@ -52,7 +52,11 @@ pub fn fit_of(text: &[u8], parts: &[Part<'_>]) -> Fit {
             Rest::Unlike => return Fit::Unlike,
         }
     }
-    if left.is_empty() { Fit::Whole } else { Fit::Unlike }
+    if left.is_empty() {
+        Fit::Whole
+    } else {
+        Fit::Unlike
+    }
 }
 
 fn behind_text<'a>(text: &'a [u8], wanted: &[u8]) -> Rest<'a> {
@@ -69,7 +73,11 @@ fn behind_chunks<'a>(text: &'a [u8], data: &[u8]) -> Rest<'a> {
     let mut left = data;
     for (at, byte) in text.iter().enumerate() {
         if place == Place::End {
-            return if left.is_empty() { Rest::Behind(text.get(at..).unwrap_or(&[])) } else { Rest::Unlike };
+            return if left.is_empty() {
+                Rest::Behind(text.get(at..).unwrap_or(&[]))
+            } else {
+                Rest::Unlike
+            };
         }
         if let Place::Data(_) = place {
             match left.split_first() {
@@ -82,5 +90,9 @@ fn behind_chunks<'a>(text: &'a [u8], data: &[u8]) -> Rest<'a> {
             None => return Rest::Unlike,
         }
     }
-    if place == Place::End && left.is_empty() { Rest::Behind(&[]) } else { Rest::Ends }
+    if place == Place::End && left.is_empty() {
+        Rest::Behind(&[])
+    } else {
+        Rest::Ends
+    }
 }

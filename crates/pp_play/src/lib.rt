@@ -25,6 +25,6 @@ pub use exchanges::{Exchange, Wanted, unlike, unlike_at};
 pub use fitting::{Fit, Part, fit_of};
 pub use playing::{Act, PACES, Pace, Played, play, play_failing, play_with};
 pub use texts::{
-    ASK, ASK_B, GET, GET_B, PAGE_400, PAGE_411, PAGE_431, PAGE_502, REPLY, REPLY_B, RESPONSE, RESPONSE_B, asking, joined,
-    with_repeated,
+    ASK, ASK_B, GET, GET_B, PAGE_400, PAGE_411, PAGE_431, PAGE_502, REPLY, REPLY_B, RESPONSE,
+    RESPONSE_B, asking, joined, with_repeated,
 };

@@ -22,8 +22,7 @@ pub const GET_B: &[u8] = b"GET http://h/b HTTP/1.1\r\nHost: h\r\n\r\n";
 
 pub const ASK_B: &[u8] = b"GET /b HTTP/1.1\r\nhost: h\r\nvia: 1.1 polipo\r\n\r\n";
 
-pub const RESPONSE_B: &[u8] =
-    b"HTTP/1.1 200 OK\r\nETag: \"y\"\r\nContent-Length: 3\r\n\r\nbye";
+pub const RESPONSE_B: &[u8] = b"HTTP/1.1 200 OK\r\nETag: \"y\"\r\nContent-Length: 3\r\n\r\nbye";
 
 pub const REPLY_B: &[u8] =
     b"HTTP/1.1 200 OK\r\netag: \"y\"\r\nvia: 1.1 polipo\r\ncontent-length: 3\r\nconnection: keep-alive\r\n\r\nbye";

@@ -1,14 +1,19 @@
 // Responses however they are delimited, to clients of either version (RFC 2616, sections 3.6.1 and 4.4).
-use pp_play::{Act, Cut, Exchange, GET, PAGE_502, Part, REPLY, RESPONSE, Step, Wanted, unlike, unlike_when_cut};
+use pp_play::{
+    Act, Cut, Exchange, GET, PAGE_502, Part, REPLY, RESPONSE, Step, Wanted, unlike, unlike_when_cut,
+};
 use pp_world::Decision;
 use std::test::Fail;
 
 const OLD_GET: &[u8] = b"GET http://h/c HTTP/1.0\r\n\r\n";
 
-const CHUNKED_REPLY: Part<'static> =
-    Part::Text(b"HTTP/1.1 200 OK\r\nvia: 1.1 polipo\r\ntransfer-encoding: chunked\r\nconnection: keep-alive\r\n\r\n");
+const CHUNKED_REPLY: Part<'static> = Part::Text(
+    b"HTTP/1.1 200 OK\r\nvia: 1.1 polipo\r\ntransfer-encoding: chunked\r\nconnection: keep-alive\r\n\r\n",
+);
 
-const CLOSED_REPLY: Part<'static> = Part::Text(b"HTTP/1.1 200 OK\r\nvia: 1.1 polipo\r\nconnection: close\r\n\r\n");
+const CLOSED_REPLY: Part<'static> = Part::Text(
+    b"HTTP/1.1 200 OK\r\nvia: 1.1 polipo\r\nconnection: close\r\n\r\n",
+);
 
 const CHUNKED: &[Exchange<'static>] = &[
     Exchange {
@@ -17,14 +22,23 @@ const CHUNKED: &[Exchange<'static>] = &[
             Act::Connect,
             Act::Say(1, OLD_GET),
             Act::Reach(2),
-            Act::Answer(2, b"HTTP/1.1 200 OK\r\nTransfer-Encoding: chunked\r\n\r\n5\r\nhello\r\n0\r\n\r\n"),
+            Act::Answer(
+                2,
+                b"HTTP/1.1 200 OK\r\nTransfer-Encoding: chunked\r\n\r\n5\r\nhello\r\n0\r\n\r\n",
+            ),
         ],
         wanted: &[
             Wanted::Asked(2, b"GET /c HTTP/1.1\r\nhost: h\r\nvia: 1.1 polipo\r\n\r\n"),
             Wanted::Said(1, &[CLOSED_REPLY, Part::Text(b"hello")]),
             Wanted::Course(
                 1,
-                &[Step::Opened, Step::Taken(0, Decision::Pass), Step::Said(60), Step::Shut, Step::Stopped],
+                &[
+                    Step::Opened,
+                    Step::Taken(0, Decision::Pass),
+                    Step::Said(60),
+                    Step::Shut,
+                    Step::Stopped,
+                ],
             ),
             Wanted::Count(Step::Dropped, 1),
         ],
@@ -33,10 +47,16 @@ const CHUNKED: &[Exchange<'static>] = &[
         name: "the same though the client asks to go on, since its end is not known",
         acts: &[
             Act::Connect,
-            Act::Say(1, b"GET http://h/c HTTP/1.0\r\nConnection: keep-alive\r\n\r\n"),
+            Act::Say(
+                1,
+                b"GET http://h/c HTTP/1.0\r\nConnection: keep-alive\r\n\r\n",
+            ),
             Act::Say(1, GET),
             Act::Reach(2),
-            Act::Answer(2, b"HTTP/1.1 200 OK\r\nTransfer-Encoding: chunked\r\n\r\n5\r\nhello\r\n0\r\n\r\n"),
+            Act::Answer(
+                2,
+                b"HTTP/1.1 200 OK\r\nTransfer-Encoding: chunked\r\n\r\n5\r\nhello\r\n0\r\n\r\n",
+            ),
         ],
         wanted: &[
             Wanted::Said(1, &[CLOSED_REPLY, Part::Text(b"hello")]),
@@ -59,7 +79,14 @@ const CHUNKED: &[Exchange<'static>] = &[
             Act::Answer(3, RESPONSE),
         ],
         wanted: &[
-            Wanted::Said(1, &[CHUNKED_REPLY, Part::Coded(b"hello world"), Part::Text(REPLY)]),
+            Wanted::Said(
+                1,
+                &[
+                    CHUNKED_REPLY,
+                    Part::Coded(b"hello world"),
+                    Part::Text(REPLY),
+                ],
+            ),
             Wanted::Count(Step::Dropped, 2),
         ],
     },
@@ -69,7 +96,10 @@ const CHUNKED: &[Exchange<'static>] = &[
             Act::Connect,
             Act::Say(1, GET),
             Act::Reach(2),
-            Act::Answer(2, b"HTTP/1.1 200 OK\r\nTransfer-Encoding: Identity, Chunked\r\n\r\n0\r\n\r\n"),
+            Act::Answer(
+                2,
+                b"HTTP/1.1 200 OK\r\nTransfer-Encoding: Identity, Chunked\r\n\r\n0\r\n\r\n",
+            ),
         ],
         wanted: &[Wanted::Said(1, &[CHUNKED_REPLY, Part::Coded(b"")])],
     },
@@ -106,7 +136,17 @@ const TO_THE_END: &[Exchange<'static>] = &[
         ],
         wanted: &[
             Wanted::Said(1, &[CHUNKED_REPLY, Part::Coded(b"hello")]),
-            Wanted::Course(2, &[Step::Dialled(80), Step::Reached, Step::Asked(45), Step::Ended, Step::Dropped, Step::Stopped]),
+            Wanted::Course(
+                2,
+                &[
+                    Step::Dialled(80),
+                    Step::Reached,
+                    Step::Asked(45),
+                    Step::Ended,
+                    Step::Dropped,
+                    Step::Stopped,
+                ],
+            ),
         ],
     },
     Exchange {
@@ -140,7 +180,10 @@ const TO_THE_END: &[Exchange<'static>] = &[
             Act::Connect,
             Act::Say(1, GET),
             Act::Reach(2),
-            Act::Answer(2, b"HTTP/1.0 200 OK\r\nConnection: close\r\nContent-Length: 5\r\n\r\nhello"),
+            Act::Answer(
+                2,
+                b"HTTP/1.0 200 OK\r\nConnection: close\r\nContent-Length: 5\r\n\r\nhello",
+            ),
             Act::End(2),
         ],
         wanted: &[Wanted::Said(
@@ -206,10 +249,16 @@ const INTERIM: &[Exchange<'static>] = &[
             Act::Connect,
             Act::Say(1, GET),
             Act::Reach(2),
-            Act::Answer(2, b"HTTP/1.1 100 Continue\r\n\r\nHTTP/1.1 103 Early Hints\r\nContent-Length: 9\r\n\r\n"),
+            Act::Answer(
+                2,
+                b"HTTP/1.1 100 Continue\r\n\r\nHTTP/1.1 103 Early Hints\r\nContent-Length: 9\r\n\r\n",
+            ),
             Act::Answer(2, RESPONSE),
         ],
-        wanted: &[Wanted::Said(1, &[Part::Text(REPLY)]), Wanted::Count(Step::Dropped, 1)],
+        wanted: &[
+            Wanted::Said(1, &[Part::Text(REPLY)]),
+            Wanted::Count(Step::Dropped, 1),
+        ],
     },
     Exchange {
         name: "no protocol is switched",
@@ -221,7 +270,16 @@ const INTERIM: &[Exchange<'static>] = &[
         ],
         wanted: &[
             Wanted::Said(1, &[Part::Text(PAGE_502)]),
-            Wanted::Course(2, &[Step::Dialled(80), Step::Reached, Step::Asked(45), Step::Dropped, Step::Stopped]),
+            Wanted::Course(
+                2,
+                &[
+                    Step::Dialled(80),
+                    Step::Reached,
+                    Step::Asked(45),
+                    Step::Dropped,
+                    Step::Stopped,
+                ],
+            ),
         ],
     },
 ];

@@ -33,7 +33,11 @@ macro_rules! behind {
 }
 
 const GOES_ON: &[Exchange<'static>] = &[
-    Exchange { name: "1.1", acts: behind!(b"GET http://h/a HTTP/1.1\r\n\r\n"), wanted: BOTH },
+    Exchange {
+        name: "1.1",
+        acts: behind!(b"GET http://h/a HTTP/1.1\r\n\r\n"),
+        wanted: BOTH,
+    },
     Exchange {
         name: "1.1, close",
         acts: behind!(b"GET http://h/a HTTP/1.1\r\nConnection: x, Close\r\n\r\n"),
@@ -44,7 +48,11 @@ const GOES_ON: &[Exchange<'static>] = &[
         acts: behind!(b"GET http://h/a HTTP/1.1\r\nProxy-Connection: close\r\n\r\n"),
         wanted: BOTH,
     },
-    Exchange { name: "1.0", acts: behind!(b"GET http://h/a HTTP/1.0\r\n\r\n"), wanted: LAST_REPLY },
+    Exchange {
+        name: "1.0",
+        acts: behind!(b"GET http://h/a HTTP/1.0\r\n\r\n"),
+        wanted: LAST_REPLY,
+    },
     Exchange {
         name: "1.0, keep-alive",
         acts: behind!(b"GET http://h/a HTTP/1.0\r\nConnection: Keep-Alive\r\n\r\n"),

@@ -1,6 +1,9 @@
 // Words, the listener, and the end.
-use pp_play::{Act, Exchange, GET, Pace, Part, Played, RESPONSE, Step, Wanted, play, play_failing, play_with, unlike_at};
 use pp_memworld::Script;
+use pp_play::{
+    Act, Exchange, GET, Pace, Part, Played, RESPONSE, Step, Wanted, play, play_failing, play_with,
+    unlike_at,
+};
 use pp_run::Exit;
 use pp_world::{Cause, Decision, Happening};
 use std::alloc::Global;
@@ -22,7 +25,10 @@ fn is_listening(log: &[Happening]) -> bool {
             Happening::Listens(8123, true),
             Happening::Waits(wants),
             Happening::Stopped,
-        ] => image.next_name(None).is_none() && wants.accept && wants.read.is_empty() && wants.write.is_empty(),
+        ] => image.next_name(None).is_none()
+            && wants.accept
+            && wants.read.is_empty()
+            && wants.write.is_empty(),
         _ => false,
     }
 }
@@ -120,7 +126,10 @@ const ALL_CLOSED: &[Exchange<'static>] = &[Exchange {
 
 #[test]
 fn the_end_cuts_each_reply_that_was_begun(rt: HostRuntime) -> Result<(), Fail> {
-    assert_eq!(rt; unlike_at(rt.alloc(), Pace::Whole, ALL_CLOSED)?.as_str(), "");
+    assert_eq!(rt;
+        unlike_at(rt.alloc(), Pace::Whole, ALL_CLOSED)?.as_str(),
+        ""
+    );
     assert!(rt; is_shut_last(play(rt.alloc(), Pace::Whole, STOPPED)?.log()));
     Ok(())
 }

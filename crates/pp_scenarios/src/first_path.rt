@@ -1,6 +1,7 @@
 // Plain requests, passed whole.
 use pp_play::{
-    ASK, ASK_B, Act, Exchange, GET, GET_B, Part, REPLY, REPLY_B, RESPONSE, RESPONSE_B, Step, Wanted, unlike,
+    ASK, ASK_B, Act, Exchange, GET, GET_B, Part, REPLY, REPLY_B, RESPONSE, RESPONSE_B, Step,
+    Wanted, unlike,
 };
 use pp_run::Exit;
 use pp_world::Decision;
@@ -8,7 +9,12 @@ use std::test::Fail;
 
 const PLAIN: &[Exchange<'static>] = &[Exchange {
     name: "a plain GET",
-    acts: &[Act::Connect, Act::Say(1, GET), Act::Reach(2), Act::Answer(2, RESPONSE)],
+    acts: &[
+        Act::Connect,
+        Act::Say(1, GET),
+        Act::Reach(2),
+        Act::Answer(2, RESPONSE),
+    ],
     wanted: &[
         Wanted::Exit(Exit::Served),
         Wanted::Dialled(2, b"h", 80),
@@ -16,9 +22,24 @@ const PLAIN: &[Exchange<'static>] = &[Exchange {
         Wanted::Said(1, &[Part::Text(REPLY)]),
         Wanted::Course(
             1,
-            &[Step::Opened, Step::Taken(0, Decision::Pass), Step::Said(159), Step::Stopped, Step::Shut],
+            &[
+                Step::Opened,
+                Step::Taken(0, Decision::Pass),
+                Step::Said(159),
+                Step::Stopped,
+                Step::Shut,
+            ],
         ),
-        Wanted::Course(2, &[Step::Dialled(80), Step::Reached, Step::Asked(45), Step::Dropped, Step::Stopped]),
+        Wanted::Course(
+            2,
+            &[
+                Step::Dialled(80),
+                Step::Reached,
+                Step::Asked(45),
+                Step::Dropped,
+                Step::Stopped,
+            ],
+        ),
     ],
 }];
 
@@ -31,7 +52,11 @@ fn a_plain_get_is_passed_whole(rt: HostRuntime) -> Result<(), Fail> {
 const TARGETS: &[Exchange<'static>] = &[
     Exchange {
         name: "a path alone",
-        acts: &[Act::Connect, Act::Say(1, b"GET http://h/ HTTP/1.1\r\nHost: h\r\n\r\n"), Act::Reach(2)],
+        acts: &[
+            Act::Connect,
+            Act::Say(1, b"GET http://h/ HTTP/1.1\r\nHost: h\r\n\r\n"),
+            Act::Reach(2),
+        ],
         wanted: &[
             Wanted::Dialled(2, b"h", 80),
             Wanted::Asked(2, b"GET / HTTP/1.1\r\nhost: h\r\nvia: 1.1 polipo\r\n\r\n"),
@@ -40,33 +65,59 @@ const TARGETS: &[Exchange<'static>] = &[
     },
     Exchange {
         name: "a host in capitals, a port, no path and a query (RFC 2616, sections 3.2.2 and 3.2.3)",
-        acts: &[Act::Connect, Act::Say(1, b"GET http://A-1.Example:8080?q=/1 HTTP/1.1\r\n\r\n"), Act::Reach(2)],
+        acts: &[
+            Act::Connect,
+            Act::Say(1, b"GET http://A-1.Example:8080?q=/1 HTTP/1.1\r\n\r\n"),
+            Act::Reach(2),
+        ],
         wanted: &[
             Wanted::Dialled(2, b"a-1.example", 8080),
-            Wanted::Asked(2, b"GET /?q=/1 HTTP/1.1\r\nhost: a-1.example:8080\r\nvia: 1.1 polipo\r\n\r\n"),
+            Wanted::Asked(
+                2,
+                b"GET /?q=/1 HTTP/1.1\r\nhost: a-1.example:8080\r\nvia: 1.1 polipo\r\n\r\n",
+            ),
         ],
     },
     Exchange {
         name: "the port 80, and a fragment",
-        acts: &[Act::Connect, Act::Say(1, b"GET http://h:80/b/../c?d=/e?f#g HTTP/1.1\r\n\r\n"), Act::Reach(2)],
+        acts: &[
+            Act::Connect,
+            Act::Say(1, b"GET http://h:80/b/../c?d=/e?f#g HTTP/1.1\r\n\r\n"),
+            Act::Reach(2),
+        ],
         wanted: &[
             Wanted::Dialled(2, b"h", 80),
-            Wanted::Asked(2, b"GET /b/../c?d=/e?f HTTP/1.1\r\nhost: h\r\nvia: 1.1 polipo\r\n\r\n"),
+            Wanted::Asked(
+                2,
+                b"GET /b/../c?d=/e?f HTTP/1.1\r\nhost: h\r\nvia: 1.1 polipo\r\n\r\n",
+            ),
         ],
     },
     Exchange {
         name: "the host of the target counts, whatever the Host field says (RFC 2616, section 5.2)",
-        acts: &[Act::Connect, Act::Say(1, b"GET http://h/a HTTP/1.1\r\nhOST:other:1\r\n\r\n"), Act::Reach(2)],
+        acts: &[
+            Act::Connect,
+            Act::Say(1, b"GET http://h/a HTTP/1.1\r\nhOST:other:1\r\n\r\n"),
+            Act::Reach(2),
+        ],
         wanted: &[Wanted::Dialled(2, b"h", 80), Wanted::Asked(2, ASK)],
     },
     Exchange {
         name: "an empty line before a request is passed over (RFC 2616, section 4.1)",
-        acts: &[Act::Connect, Act::Say(1, b"\r\nGET http://h/a HTTP/1.1\r\nHost: h\r\n\r\n"), Act::Reach(2)],
+        acts: &[
+            Act::Connect,
+            Act::Say(1, b"\r\nGET http://h/a HTTP/1.1\r\nHost: h\r\n\r\n"),
+            Act::Reach(2),
+        ],
         wanted: &[Wanted::Asked(2, ASK)],
     },
     Exchange {
         name: "a line may end with LF alone (RFC 2616, section 19.3)",
-        acts: &[Act::Connect, Act::Say(1, b"GET http://h/a HTTP/1.1\nHost: h\n\n"), Act::Reach(2)],
+        acts: &[
+            Act::Connect,
+            Act::Say(1, b"GET http://h/a HTTP/1.1\nHost: h\n\n"),
+            Act::Reach(2),
+        ],
         wanted: &[Wanted::Asked(2, ASK)],
     },
     Exchange {
@@ -99,7 +150,10 @@ const REPLIES: &[Exchange<'static>] = &[
             Act::Connect,
             Act::Say(1, GET),
             Act::Reach(2),
-            Act::Answer(2, b"HTTP/1.1 200 OK\r\nContent-Length: 0\r\nETag: \"\"\r\n\r\n"),
+            Act::Answer(
+                2,
+                b"HTTP/1.1 200 OK\r\nContent-Length: 0\r\nETag: \"\"\r\n\r\n",
+            ),
         ],
         wanted: &[
             Wanted::Said(
@@ -117,7 +171,10 @@ const REPLIES: &[Exchange<'static>] = &[
             Act::Connect,
             Act::Say(1, GET),
             Act::Reach(2),
-            Act::Answer(2, b"HTTP/1.1 404 Not Quite Here\r\nA:  b  c \r\nETag: W/\"x\"\r\nA:\r\nContent-Length: 1\r\n\r\nz"),
+            Act::Answer(
+                2,
+                b"HTTP/1.1 404 Not Quite Here\r\nA:  b  c \r\nETag: W/\"x\"\r\nA:\r\nContent-Length: 1\r\n\r\nz",
+            ),
         ],
         wanted: &[Wanted::Said(
             1,
@@ -150,7 +207,10 @@ const REPLIES: &[Exchange<'static>] = &[
             Act::Connect,
             Act::Say(1, GET),
             Act::Reach(2),
-            Act::Answer(2, b"HTTP/1.1 200 OK\r\nContent-Length: 2\r\n\r\nabHTTP/1.1 200 OK\r\n\r\n"),
+            Act::Answer(
+                2,
+                b"HTTP/1.1 200 OK\r\nContent-Length: 2\r\n\r\nabHTTP/1.1 200 OK\r\n\r\n",
+            ),
         ],
         wanted: &[
             Wanted::Said(
@@ -171,7 +231,8 @@ fn the_reply_has_the_fields_that_are_forwarded(rt: HostRuntime) -> Result<(), Fa
 }
 
 /// Two requests in one piece.
-const GET_BOTH: &[u8] = b"GET http://h/a HTTP/1.1\r\nHost: h\r\n\r\nGET http://h/b HTTP/1.1\r\nHost: h\r\n\r\n";
+const GET_BOTH: &[u8] =
+    b"GET http://h/a HTTP/1.1\r\nHost: h\r\n\r\nGET http://h/b HTTP/1.1\r\nHost: h\r\n\r\n";
 
 const BOTH_ANSWERED: &[Wanted<'static>] = &[
     Wanted::Said(1, &[Part::Text(REPLY), Part::Text(REPLY_B)]),

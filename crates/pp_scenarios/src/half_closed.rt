@@ -1,5 +1,8 @@
 // Clients that close their writing half and wait for their replies (RFC 7230, section 6.6).
-use pp_play::{Act, Exchange, GET, Pace, Part, REPLY, REPLY_B, RESPONSE, RESPONSE_B, Step, Wanted, unlike, unlike_at};
+use pp_play::{
+    Act, Exchange, GET, Pace, Part, REPLY, REPLY_B, RESPONSE, RESPONSE_B, Step, Wanted, unlike,
+    unlike_at,
+};
 use pp_world::Decision;
 use std::test::Fail;
 
@@ -64,13 +67,19 @@ const ENDED: &[Exchange<'static>] = &[
         name: "behind the body of its request",
         acts: &[
             Act::Connect,
-            Act::Say(1, b"PUT http://h/a HTTP/1.1\r\nContent-Length: 3\r\n\r\nabc"),
+            Act::Say(
+                1,
+                b"PUT http://h/a HTTP/1.1\r\nContent-Length: 3\r\n\r\nabc",
+            ),
             Act::HangUp(1),
             Act::Reach(2),
             Act::Answer(2, RESPONSE),
         ],
         wanted: &[
-            Wanted::Asked(2, b"PUT /a HTTP/1.1\r\nhost: h\r\ncontent-length: 3\r\nvia: 1.1 polipo\r\n\r\nabc"),
+            Wanted::Asked(
+                2,
+                b"PUT /a HTTP/1.1\r\nhost: h\r\ncontent-length: 3\r\nvia: 1.1 polipo\r\n\r\nabc",
+            ),
             Wanted::Said(1, &[Part::Text(REPLY)]),
             Wanted::Count(Step::Shut, 1),
         ],
@@ -134,6 +143,9 @@ const ENDED_IN_REPLY: &[Exchange<'static>] = &[
 
 #[test]
 fn a_client_that_ends_in_its_reply_gets_the_rest(rt: HostRuntime) -> Result<(), Fail> {
-    assert_eq!(rt; unlike_at(rt.alloc(), Pace::Whole, ENDED_IN_REPLY)?.as_str(), "");
+    assert_eq!(rt;
+        unlike_at(rt.alloc(), Pace::Whole, ENDED_IN_REPLY)?.as_str(),
+        ""
+    );
     Ok(())
 }

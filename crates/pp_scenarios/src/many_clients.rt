@@ -1,6 +1,7 @@
 // Many clients and connections at once, slow clients, and long bodies.
 use pp_play::{
-    Act, Exchange, GET, PAGE_400, PAGE_502, Pace, Part, REPLY, RESPONSE, Step, Wanted, asking, unlike, unlike_at, with_repeated,
+    Act, Exchange, GET, PAGE_400, PAGE_502, Pace, Part, REPLY, RESPONSE, Step, Wanted, asking,
+    unlike, unlike_at, with_repeated,
 };
 use pp_run::Exit;
 use std::test::Fail;
@@ -26,7 +27,10 @@ const SLOW: &[Exchange<'static>] = &[
         name: "an origin takes few bytes at a time",
         acts: &[
             Act::Connect,
-            Act::Say(1, b"PUT http://h/a HTTP/1.1\r\nContent-Length: 5\r\n\r\nabcde"),
+            Act::Say(
+                1,
+                b"PUT http://h/a HTTP/1.1\r\nContent-Length: 5\r\n\r\nabcde",
+            ),
             Act::Window(2, 0),
             Act::Reach(2),
             Act::Window(2, 1),
@@ -37,7 +41,10 @@ const SLOW: &[Exchange<'static>] = &[
             Act::Answer(2, RESPONSE),
         ],
         wanted: &[
-            Wanted::Asked(2, b"PUT /a HTTP/1.1\r\nhost: h\r\ncontent-length: 5\r\nvia: 1.1 polipo\r\n\r\nabcde"),
+            Wanted::Asked(
+                2,
+                b"PUT /a HTTP/1.1\r\nhost: h\r\ncontent-length: 5\r\nvia: 1.1 polipo\r\n\r\nabcde",
+            ),
             Wanted::Said(1, &[Part::Text(REPLY)]),
         ],
     },
@@ -81,7 +88,8 @@ fn who_is_slow_holds_up_nobody_else(rt: HostRuntime) -> Result<(), Fail> {
 /// 61 bytes that differ: no buffer's length is a multiple of theirs.
 const ALL_DIFFER: &[u8] = b"0123456789abcdefghijklmnopqrstuvwxyzABCDEFGHIJKLMNOPQRSTUVWXY";
 
-const LONG_RESPONSE_HEAD: &[u8] = b"HTTP/1.1 200 OK\r\nETag: \"x\"\r\nContent-Length: 1999580\r\n\r\n";
+const LONG_RESPONSE_HEAD: &[u8] =
+    b"HTTP/1.1 200 OK\r\nETag: \"x\"\r\nContent-Length: 1999580\r\n\r\n";
 
 const LONG_REPLY_HEAD: &[u8] =
     b"HTTP/1.1 200 OK\r\netag: \"x\"\r\nvia: 1.1 polipo\r\ncontent-length: 1999580\r\nconnection: keep-alive\r\n\r\n";
@@ -104,7 +112,11 @@ fn a_long_reply_streams_through_a_small_buffer(rt: HostRuntime) -> Result<(), Fa
     let said = [Part::Text(reply.as_slice())];
     // the pipe of a reply, and the response's head
     let wanted = [Wanted::Said(1, &said), Wanted::MostHeld(16_440)];
-    let exchange = [Exchange { name: "a long reply", acts: &acts, wanted: &wanted }];
+    let exchange = [Exchange {
+        name: "a long reply",
+        acts: &acts,
+        wanted: &wanted,
+    }];
     assert_eq!(rt; unlike_at(alloc, Pace::Whole, &exchange)?.as_str(), "");
     Ok(())
 }
@@ -112,7 +124,12 @@ fn a_long_reply_streams_through_a_small_buffer(rt: HostRuntime) -> Result<(), Fa
 #[test]
 fn a_long_request_streams_through_a_small_buffer(rt: HostRuntime) -> Result<(), Fail> {
     let alloc = rt.alloc();
-    let request = with_repeated(alloc, b"PUT http://h/a HTTP/1.1\r\nContent-Length: 1999580\r\n\r\n", 32_780, ALL_DIFFER)?;
+    let request = with_repeated(
+        alloc,
+        b"PUT http://h/a HTTP/1.1\r\nContent-Length: 1999580\r\n\r\n",
+        32_780,
+        ALL_DIFFER,
+    )?;
     let head = b"PUT /a HTTP/1.1\r\nhost: h\r\ncontent-length: 1999580\r\nvia: 1.1 polipo\r\n\r\n";
     let ask = with_repeated(alloc, head, 32_780, ALL_DIFFER)?;
     let acts = [
@@ -131,13 +148,26 @@ fn a_long_request_streams_through_a_small_buffer(rt: HostRuntime) -> Result<(), 
         // what may be read ahead of a client, and a part of its body
         Wanted::MostHeld(24_576),
     ];
-    let exchange = [Exchange { name: "a long request", acts: &acts, wanted: &wanted }];
+    let exchange = [Exchange {
+        name: "a long request",
+        acts: &acts,
+        wanted: &wanted,
+    }];
     assert_eq!(rt; unlike_at(alloc, Pace::Whole, &exchange)?.as_str(), "");
     Ok(())
 }
 
 /// Seven clients ask one host, and one another.
-const HOSTS: &[&[u8]] = &[GET, GET, GET, GET, GET, GET, GET, b"GET http://i:81/a HTTP/1.1\r\n\r\n"];
+const HOSTS: &[&[u8]] = &[
+    GET,
+    GET,
+    GET,
+    GET,
+    GET,
+    GET,
+    GET,
+    b"GET http://i:81/a HTTP/1.1\r\n\r\n",
+];
 
 #[test]
 fn a_host_has_at_most_four_connections(rt: HostRuntime) -> Result<(), Fail> {
@@ -162,7 +192,11 @@ fn a_host_has_at_most_four_connections(rt: HostRuntime) -> Result<(), Fail> {
         Wanted::Said(1, &[Part::Text(PAGE_502)]),
         Wanted::Said(9, &[Part::Text(REPLY)]),
     ];
-    let exchange = [Exchange { name: "", acts: acts.as_slice(), wanted: &wanted }];
+    let exchange = [Exchange {
+        name: "",
+        acts: acts.as_slice(),
+        wanted: &wanted,
+    }];
     assert_eq!(rt; unlike_at(rt.alloc(), Pace::Whole, &exchange)?.as_str(), "");
     Ok(())
 }
@@ -206,7 +240,11 @@ fn there_are_at_most_64_connections_to_origins(rt: HostRuntime) -> Result<(), Fa
         Wanted::Said(9, &[Part::Text(REPLY)]),
         Wanted::Said(129, &[Part::Text(REPLY)]),
     ];
-    let exchange = [Exchange { name: "", acts: acts.as_slice(), wanted: &wanted }];
+    let exchange = [Exchange {
+        name: "",
+        acts: acts.as_slice(),
+        wanted: &wanted,
+    }];
     assert_eq!(rt; unlike_at(rt.alloc(), Pace::Whole, &exchange)?.as_str(), "");
     Ok(())
 }
@@ -222,7 +260,11 @@ fn there_are_at_most_256_clients(rt: HostRuntime) -> Result<(), Fail> {
         Wanted::Count(Step::Shut, 258),
         Wanted::Said(257, &[Part::Text(PAGE_400)]),
     ];
-    let exchange = [Exchange { name: "", acts: acts.as_slice(), wanted: &wanted }];
+    let exchange = [Exchange {
+        name: "",
+        acts: acts.as_slice(),
+        wanted: &wanted,
+    }];
     assert_eq!(rt; unlike_at(rt.alloc(), Pace::Whole, &exchange)?.as_str(), "");
     Ok(())
 }

@@ -1,17 +1,23 @@
 // Requests of any method, with bodies (RFC 2616, sections 4.3, 8.2.3 and 9).
-use pp_play::{ASK, Act, Cut, Exchange, GET, PAGE_502, Part, REPLY, RESPONSE, Step, Wanted, unlike, unlike_when_cut};
+use pp_play::{
+    ASK, Act, Cut, Exchange, GET, PAGE_502, Part, REPLY, RESPONSE, Step, Wanted, unlike,
+    unlike_when_cut,
+};
 use pp_world::Decision;
 use std::test::Fail;
 
-const POST: &[u8] = b"POST http://h/p HTTP/1.1\r\nHost: h\r\nContent-Length: 3\r\nExpect: 100-continue\r\n\r\n";
+const POST: &[u8] =
+    b"POST http://h/p HTTP/1.1\r\nHost: h\r\nContent-Length: 3\r\nExpect: 100-continue\r\n\r\n";
 
-const POST_ASK: &[u8] = b"POST /p HTTP/1.1\r\nhost: h\r\ncontent-length: 3\r\nvia: 1.1 polipo\r\n\r\nabc";
+const POST_ASK: &[u8] =
+    b"POST /p HTTP/1.1\r\nhost: h\r\ncontent-length: 3\r\nvia: 1.1 polipo\r\n\r\nabc";
 
 const CONTINUE: &[u8] = b"HTTP/1.1 100 Continue\r\n\r\n";
 
 const NO_CONTENT: &[u8] = b"HTTP/1.1 204 No Content\r\n\r\n";
 
-const NO_CONTENT_PASSED: &[u8] = b"HTTP/1.1 204 No Content\r\nvia: 1.1 polipo\r\nconnection: keep-alive\r\n\r\n";
+const NO_CONTENT_PASSED: &[u8] =
+    b"HTTP/1.1 204 No Content\r\nvia: 1.1 polipo\r\nconnection: keep-alive\r\n\r\n";
 
 const EXPECTING: &[Exchange<'static>] = &[
     Exchange {
@@ -42,13 +48,19 @@ const EXPECTING: &[Exchange<'static>] = &[
     Exchange {
         name: "nothing but the interim answer comes before the origin is reached",
         acts: &[Act::Connect, Act::Say(1, POST)],
-        wanted: &[Wanted::Dialled(2, b"h", 80), Wanted::Said(1, &[Part::Text(CONTINUE)])],
+        wanted: &[
+            Wanted::Dialled(2, b"h", 80),
+            Wanted::Said(1, &[Part::Text(CONTINUE)]),
+        ],
     },
     Exchange {
         name: "the body came with the request",
         acts: &[
             Act::Connect,
-            Act::Say(1, b"POST http://h/p HTTP/1.1\r\nExpect: 100-Continue\r\nContent-Length: 3\r\n\r\nabc"),
+            Act::Say(
+                1,
+                b"POST http://h/p HTTP/1.1\r\nExpect: 100-Continue\r\nContent-Length: 3\r\n\r\nabc",
+            ),
             Act::Reach(2),
             Act::Answer(2, NO_CONTENT),
         ],
@@ -70,14 +82,24 @@ const EXPECTING: &[Exchange<'static>] = &[
         ],
         wanted: &[
             Wanted::Asked(3, ASK),
-            Wanted::Said(1, &[Part::Text(CONTINUE), Part::Text(PAGE_502), Part::Text(REPLY)]),
+            Wanted::Said(
+                1,
+                &[
+                    Part::Text(CONTINUE),
+                    Part::Text(PAGE_502),
+                    Part::Text(REPLY),
+                ],
+            ),
         ],
     },
     Exchange {
         name: "without a body nobody waits for it",
         acts: &[
             Act::Connect,
-            Act::Say(1, b"GET http://h/a HTTP/1.1\r\nExpect: 100-continue\r\n\r\n"),
+            Act::Say(
+                1,
+                b"GET http://h/a HTTP/1.1\r\nExpect: 100-continue\r\n\r\n",
+            ),
             Act::Reach(2),
             Act::Answer(2, RESPONSE),
         ],
@@ -144,7 +166,9 @@ const METHODS: &[Exchange<'static>] = &[
         wanted: &[
             Wanted::Said(
                 1,
-                &[Part::Text(b"HTTP/1.1 200 OK\r\nvia: 1.1 polipo\r\nconnection: keep-alive\r\n\r\n")],
+                &[Part::Text(
+                    b"HTTP/1.1 200 OK\r\nvia: 1.1 polipo\r\nconnection: keep-alive\r\n\r\n",
+                )],
             ),
             Wanted::Count(Step::Dropped, 1),
         ],
@@ -153,12 +177,21 @@ const METHODS: &[Exchange<'static>] = &[
         name: "a 304 describes a length and has no body (RFC 2616, section 10.3.5)",
         acts: &[
             Act::Connect,
-            Act::Say(1, b"GET http://h/a HTTP/1.1\r\nIf-None-Match: \"x\"\r\n\r\n"),
+            Act::Say(
+                1,
+                b"GET http://h/a HTTP/1.1\r\nIf-None-Match: \"x\"\r\n\r\n",
+            ),
             Act::Reach(2),
-            Act::Answer(2, b"HTTP/1.1 304 Not Modified\r\nETag: \"x\"\r\nContent-Length: 5\r\n\r\n"),
+            Act::Answer(
+                2,
+                b"HTTP/1.1 304 Not Modified\r\nETag: \"x\"\r\nContent-Length: 5\r\n\r\n",
+            ),
         ],
         wanted: &[
-            Wanted::Asked(2, b"GET /a HTTP/1.1\r\nhost: h\r\nif-none-match: \"x\"\r\nvia: 1.1 polipo\r\n\r\n"),
+            Wanted::Asked(
+                2,
+                b"GET /a HTTP/1.1\r\nhost: h\r\nif-none-match: \"x\"\r\nvia: 1.1 polipo\r\n\r\n",
+            ),
             Wanted::Said(
                 1,
                 &[Part::Text(
@@ -171,7 +204,10 @@ const METHODS: &[Exchange<'static>] = &[
         name: "any method with a body, and a request in the body",
         acts: &[
             Act::Connect,
-            Act::Say(1, b"M-SEARCH http://h/p HTTP/1.1\r\nContent-Length: 36\r\n\r\n"),
+            Act::Say(
+                1,
+                b"M-SEARCH http://h/p HTTP/1.1\r\nContent-Length: 36\r\n\r\n",
+            ),
             Act::Say(1, GET),
             Act::Say(1, GET),
             Act::Reach(2),
@@ -204,7 +240,10 @@ const METHODS: &[Exchange<'static>] = &[
         name: "a reply may come before the body was asked, whose rest is no request",
         acts: &[
             Act::Connect,
-            Act::Say(1, b"POST http://h/p HTTP/1.1\r\nContent-Length: 41\r\n\r\nabcde"),
+            Act::Say(
+                1,
+                b"POST http://h/p HTTP/1.1\r\nContent-Length: 41\r\n\r\nabcde",
+            ),
             Act::Reach(2),
             Act::Answer(2, NO_CONTENT),
             Act::Say(1, GET),
