@@ -1,0 +1,4 @@
+pub mod LineLemmas
+pub mod Parts
+pub mod PlaceLemmas
+pub mod SpellingLemmas

@@ -1,0 +1,10 @@
+-- How much of a body is kept.
+use Rattle.std.specs.Prelude.{ℕ, ◌*◌, ◌==◌, List, length, take_while, min}
+
+-- the gates that are open before the first that is not; ours: a gate is open where it is 1
+abbrev pub leading_open : List ℕ → ℕ
+leading_open gates = length (take_while (λ gate. gate == 1) gates)
+
+-- ours: a chunk of 4,096 bytes counts where its gate and each before it is open
+abbrev pub extent_of : List ℕ → ℕ → ℕ
+extent_of gates n = min n (4096 * leading_open gates)

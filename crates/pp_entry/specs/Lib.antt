@@ -1,0 +1,6 @@
+pub mod Entries
+pub mod Fields
+pub mod Gates
+pub mod Places
+pub mod Puts
+pub mod Texts

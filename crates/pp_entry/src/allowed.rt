@@ -1,0 +1,64 @@
+// Which fields an entry may have.
+ghost use Rattle.std.specs.Prelude.{◌≡◌, ◌-◌, ◌^◌, ◌<◌, [], filter, length, min, nat_le};
+ghost use Rattle.std.specs.List.{list_all};
+ghost use Rattle.pp_text.specs.Fields.{field_at};
+ghost use Rattle.pp_text.specs.Lines.{line_of, lines_of};
+ghost use Rattle.pp_entry.specs.Fields.{are_allowed, is_end_to_end, is_passing};
+
+use pp_text::{Fields, is_forwarded, same};
+
+/// The bytes that another response of the version may renew.
+const RENEWED_ROOM: usize = 2048;
+
+/// Whether an entry may have these fields.
+pub(crate) fn are_allowed(fields: &Fields<'_, '_>) -> bool
+    ensures { result ≡ are_allowed fields.now }
+{
+    are_end_to_end(fields) && has_room(fields)
+}
+
+fn are_end_to_end(fields: &Fields<'_, '_>) -> bool
+    ensures { result ≡ list_all (is_end_to_end fields.now) fields.now }
+{
+    for index in 0..fields.len() {
+        if !is_forwarded(fields, index) {
+            return false;
+        }
+    }
+    true
+}
+
+/// Whether the lines of the fields that may be renewed fit the room for them.
+fn has_room(fields: &Fields<'_, '_>) -> bool
+    ensures { result ≡ nat_le (length (lines_of (filter is_passing fields.now))) 2048 }
+{
+    let mut left = RENEWED_ROOM;
+    for index in 0..fields.len() {
+        if is_passing(fields.name(index)) {
+            let len = line_len(fields, index);
+            if len > left {
+                return false;
+            }
+            left -= len;
+        }
+    }
+    true
+}
+
+fn line_len(fields: &Fields<'_, '_>, index: usize) -> usize
+    requires { index < length fields.now }
+    ensures { result ≡ min (length (line_of (field_at fields.now index))) (2 ^ 64 - 1) }
+{
+    let text_len = fields
+        .name(index)
+        .len()
+        .saturating_add(fields.value(index).len());
+    text_len.saturating_add(4)
+}
+
+fn is_passing(name: &[u8]) -> bool
+    ensures { result ≡ is_passing (name.now, []) }
+{
+    let is_renewed = same(b"expires", name) || same(b"cache-control", name);
+    same(b"date", name) || is_renewed
+}
