@@ -18,6 +18,7 @@ SUBJECTS = [
     "broken_origins",
     "hostile_clients",
     "many_clients",
+    "random_exchanges",
     "tools",
     "packages",
     "starting",

@@ -9,6 +9,7 @@ import time
 
 DATE = b"Date: Sun, 06 Nov 1994 08:49:37 GMT"
 KEPT_BYTES = 100_000
+NOISE = bytes((31 * i + i // 251) % 256 for i in range(65521))
 GONE = select.POLLRDHUP | select.POLLHUP | select.POLLERR
 
 
@@ -35,8 +36,7 @@ def chunked(*pieces):
 
 def noise(count):
     """Bytes that repeat late, so that a byte in a wrong place shows."""
-    unit = bytes((31 * i + i // 251) % 256 for i in range(65521))
-    return (unit * (count // len(unit) + 1))[:count]
+    return (NOISE * (count // len(NOISE) + 1))[:count]
 
 
 def abort(connection):
@@ -133,11 +133,19 @@ class Origin:
 
     def count_open(self):
         """How many connections the other side has not closed."""
-        poll = select.poll()
         with self._lock:
-            for connection in self._open:
-                poll.register(connection, GONE)
-            return len(self._open) - len(poll.poll(0))
+            return count_open(self._open)
+
+    def _count_settled(self, connections):
+        """How many of these the other side has not closed. A count above all before is made again a moment later, since the
+        news of a close may come behind that of an opening."""
+        for seconds in (0, 0.01):
+            time.sleep(seconds)
+            with self._lock:
+                count = count_open(connections & self._open)
+            if count <= self.most_open:
+                break
+        return count
 
     def asked_texts(self):
         return [ask.text() for ask in self.asked]
@@ -148,7 +156,8 @@ class Origin:
             with self._lock:
                 self.connections += 1
                 self._open.add(connection)
-            self.most_open = max(self.most_open, self.count_open())
+                others = set(self._open)
+            self.most_open = max(self.most_open, self._count_settled(others))
             threading.Thread(target=self._serve, args=(connection,), daemon=True).start()
 
     def _serve(self, connection):
@@ -190,6 +199,14 @@ class Origin:
 
 
 NOT_FOUND = Answer(response(b"", status=b"404 Not Found"))
+
+
+def count_open(connections):
+    """How many of these the other side has not closed."""
+    poll = select.poll()
+    for connection in connections:
+        poll.register(connection, GONE)
+    return len(connections) - len(poll.poll(0))
 
 
 def read_body(connection, ask, waiting):

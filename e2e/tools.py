@@ -153,7 +153,7 @@ def a_browser_loads_a_page(world):
         if number % 2:
             whole = lines(b"HTTP/1.1 200 OK", *fields, b"Transfer-Encoding: chunked")
             whole += chunked(text[:10], text[10:100], text[100:]) if len(text) > 100 else chunked(text)
-        world.origin.on(f"/part/{number}", Answer(whole, piece=1_000, pause=0.001))
+        world.origin.on(f"/part/{number}", Answer(whole, piece=1_000, pause=0.02))
     world.origin.on("/form", Answer(response(b"thanks")))
     world.origin.clear()
     failures = []
