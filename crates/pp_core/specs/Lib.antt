@@ -2,6 +2,8 @@ pub mod Answers
 pub mod Clients
 pub mod Keeps
 pub mod Links
+pub mod Pages
 pub mod Quiet
 pub mod Relays
+pub mod Requests
 pub mod Stages

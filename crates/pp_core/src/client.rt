@@ -1,7 +1,10 @@
 // A client, and how its request comes and goes.
-ghost use Rattle.std.specs.Prelude.{◌≡◌, ◌+◌, ◌≤◌, ◌++◌, [], None, Some, drop, length, min, IfOk};
+ghost use Rattle.std.specs.Prelude.{◌≡◌, ◌+◌, ◌≤◌, ◌++◌, ◌&&◌, false, [], None, Some, drop, length, min, IfOk};
 ghost use Rattle.pp_core.specs.Clients.{behind_body, body_of, left_of};
 ghost use Rattle.pp_core.specs.Links.{hold_of};
+ghost use Rattle.pp_core.specs.Pages.{goes_on as page_goes_on, status_of};
+ghost use Rattle.pp_pass.specs.Pipe.{started};
+ghost use Rattle.pp_reply.specs.Texts.{reply_text};
 
 use crate::buffer::drop_front;
 use crate::page::Page;
@@ -137,6 +140,7 @@ impl Client {
     pub(crate) fn skip_body(&mut self)
         ensures held { hold_of self.new ≡ hold_of self.old }
         ensures body { body_of self.new ≡ [] }
+        ensures only { self.new ≡ record self.old { heard = self.new.heard; body_left = self.new.body_left } }
         ensures behind { behind_body self.new ≡ behind_body self.old }
     {
         let len = self.body_there();
@@ -242,11 +246,15 @@ impl Client {
     /// A page is begun.
     pub(crate) fn refuse(&mut self, page: Page, work: &Workspace)
         ensures held { hold_of self.new ≡ hold_of self.old }
+        ensures text { self.new.text.value.items ≡ reply_text (ReplyKind.Refusal (status_of page) self.old.wish.head_asked) None work.now.name.items self.old.wish.keep }
+        ensures keep { self.new.wish.keep ≡ (self.old.wish.keep && page_goes_on page) }
+        ensures pipe { self.new.relay.pipe ≡ started false }
+        ensures behind { behind_body self.new ≡ behind_body self.old }
     {
         let kind = ReplyKind::Refusal(page.status(), self.wish.head_asked);
         let name = work.name.as_slice();
         write_reply(&kind, None, name, self.wish.keep, &mut self.text);
-        self.wish.keep = self.wish.keep && page.goes_on();
+        self.wish.keep = page.keeps(self.wish.keep);
         self.relay.begin(BodyRule::Empty, false);
         self.skip_body();
         self.stage = Stage::Refusing(self.stage.origin());

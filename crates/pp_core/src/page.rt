@@ -1,5 +1,6 @@
 // The pages that a client is refused with.
-ghost use Rattle.std.specs.Prelude.{IsTrue};
+ghost use Rattle.std.specs.Prelude.{◌≡◌, ◌&&◌, IsTrue};
+ghost use Rattle.pp_core.specs.Pages.{goes_on, status_of};
 ghost use Rattle.pp_reply.specs.Texts.{has_page};
 
 /// Why a request is refused.
@@ -20,7 +21,8 @@ pub(crate) enum Page {
 impl Page {
     /// The number of its status line.
     pub(crate) fn status(self) -> u16
-        ensures { IsTrue (has_page result) }
+        ensures value { result ≡ status_of self }
+        ensures page { IsTrue (has_page result) }
     {
         match self {
             Page::BadRequest => 400,
@@ -31,11 +33,14 @@ impl Page {
         }
     }
 
-    /// Whether a request may follow it: it tells nothing against where this one ends.
-    pub(crate) fn goes_on(self) -> bool {
+    /// Whether a request may follow it, on a connection that may go on: not where it tells that the end
+    /// of this one is in doubt.
+    pub(crate) fn keeps(self, keep: bool) -> bool
+        ensures { result ≡ (keep && goes_on self) }
+    {
         match self {
             Page::BadRequest | Page::LengthRequired | Page::HeadTooLarge => false,
-            Page::OutOfMemory | Page::BadGateway => true,
+            Page::OutOfMemory | Page::BadGateway => keep,
         }
     }
 }

@@ -1,7 +1,12 @@
 // What the bytes of a client begin with, and what is made of it.
 ghost use Rattle.std.specs.Prelude.{◌≡◌, ◌≤◌, length};
+ghost use Rattle.pp_ask.specs.Texts.{ask_text};
 ghost use Rattle.pp_core.specs.Clients.{IsFrontIn};
-ghost use Rattle.pp_target.specs.Key.{IsPlaceIn};
+ghost use Rattle.pp_core.specs.Requests.{HasErrand, IsDueTo, IsErrandOf, IsFrontOf, IsMadeOf, body_len_of, fits, is_read as is_understood, passed_where, waits_by};
+ghost use Rattle.pp_framing.specs.Framing.{request_rule_of};
+ghost use Rattle.pp_head.specs.Request.{request_at};
+ghost use Rattle.pp_head.specs.Shown.{shown_request};
+ghost use Rattle.pp_target.specs.Key.{IsPlaceIn, key_in};
 
 use crate::page::Page;
 use crate::workspace::{KEY_LEN, Workspace};
@@ -92,7 +97,9 @@ pub(crate) enum Front {
 
 /// Reads the head at the front. Of a request that is to be passed the errand is written.
 pub(crate) fn look_at_request(heard: &[u8], work: &mut Workspace, errand: &mut Errand) -> Front
-    ensures { IsFrontIn (length heard.now) result }
+    ensures front { IsFrontOf work.old.name.items errand.new (request_at heard.now) result }
+    ensures within { IsFrontIn (length heard.now) result }
+    ensures name { work.new.name ≡ work.old.name }
 {
     match read_request(heard, &mut work.scratch) {
         HeadState::More => Front::More,
@@ -116,7 +123,7 @@ fn judge(
     name: &[u8],
     errand: &mut Errand,
 ) -> Request
-    ensures { result.head_len ≡ head.now.length }
+    ensures { IsMadeOf name.now (shown_request head.now) errand.new result }
 {
     let rule = request_rule(&head.fields);
     let due = decide(head, rule, alloc, key, name, errand);
@@ -133,7 +140,9 @@ fn judge(
     }
 }
 
-fn body_len(rule: Result<BodyRule, FramingFault>) -> u64 {
+fn body_len(rule: Result<BodyRule, FramingFault>) -> u64
+    ensures { result ≡ body_len_of rule }
+{
     match rule {
         Ok(BodyRule::Length(n)) => n,
         Ok(BodyRule::Empty | BodyRule::Chunked | BodyRule::ToEnd) | Err(_) => 0,
@@ -141,14 +150,20 @@ fn body_len(rule: Result<BodyRule, FramingFault>) -> u64 {
 }
 
 /// Whether target and framing of a request were understood.
-fn is_read(due: Due) -> bool {
+fn is_read(due: Due) -> bool
+    ensures { result ≡ is_understood due }
+{
     match due {
         Due::Pass | Due::Refuse(Page::HeadTooLarge) => true,
-        Due::Refuse(_) => false,
+        Due::Refuse(
+            Page::BadRequest | Page::LengthRequired | Page::OutOfMemory | Page::BadGateway,
+        ) => false,
     }
 }
 
-fn waits(head: &RequestHead<'_, '_>, rule: Result<BodyRule, FramingFault>) -> bool {
+fn waits(head: &RequestHead<'_, '_>, rule: Result<BodyRule, FramingFault>) -> bool
+    ensures { result ≡ waits_by (shown_request head.now) rule }
+{
     match rule {
         Ok(rule) => wants_interim(head.minor, rule, &head.fields),
         Err(_) => false,
@@ -163,7 +178,11 @@ fn decide(
     text: &mut ArrayVec<u8, KEY_LEN>,
     name: &[u8],
     errand: &mut Errand,
-) -> Due {
+) -> Due
+    requires { rule ≡ request_rule_of head.now.fields }
+    ensures due { IsDueTo name.now (shown_request head.now) result }
+    ensures errand { IsErrandOf name.now (shown_request head.now) errand.new result }
+{
     match key(alloc, head.target, text) {
         Err(TargetFault::OutOfMemory) => Due::Refuse(Page::OutOfMemory),
         Err(_) => Due::Refuse(Page::BadRequest),
@@ -186,6 +205,8 @@ fn pass(
     errand: &mut Errand,
 ) -> Due
     requires { IsPlaceIn key.now place.now }
+    ensures due { result ≡ passed_where (fits (ask_text AskKind.Pass (shown_request head.now) (key_in key.now place.now) name.now)) }
+    ensures errand { result ≡ Due.Pass → HasErrand errand.new (shown_request head.now) (key_in key.now place.now) name.now }
 {
     if write_ask(&AskKind::Pass, head, key, place, name, &mut errand.ask).is_err() {
         return Due::Refuse(Page::HeadTooLarge);

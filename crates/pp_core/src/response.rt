@@ -1,6 +1,6 @@
 // What the bytes of an origin begin with, and what is made of it.
 ghost use Rattle.std.specs.Prelude.{◌≡◌, ◌≤◌, length};
-ghost use Rattle.pp_core.specs.Answers.{answer_in, answer_of, is_interim as interim};
+ghost use Rattle.pp_core.specs.Answers.{answer_in, answer_of, is_interim as interim, text_in, text_of};
 ghost use Rattle.pp_core.specs.Clients.{IsAnswerIn};
 ghost use Rattle.pp_head.specs.Response.{response_at};
 ghost use Rattle.pp_head.specs.Shown.{shown_response};
@@ -37,6 +37,8 @@ pub(crate) fn look_at_response(
     text: &mut ArrayVec<u8, TEXT_LEN>,
 ) -> Answer
     ensures answer { result ≡ answer_of wish.head_asked (response_at got.now) }
+    ensures text { text.new.items ≡ text_of wish work.old.name.items (response_at got.now) text.old.items }
+    ensures name { work.new.name ≡ work.old.name }
     ensures within { IsAnswerIn (length got.now) result }
 {
     match read_response(got, &mut work.scratch) {
@@ -55,6 +57,7 @@ fn judge(
     requires limits { KeepsHeadLimits (shown_response head.now) }
     requires name { length name.now ≤ 64 }
     ensures answer { result ≡ answer_in wish.head_asked (shown_response head.now) }
+    ensures text { text.new.items ≡ text_in wish name.now (shown_response head.now) result text.old.items }
     ensures within { IsAnswerIn head.now.length result }
 {
     if is_interim(head.status) {
