@@ -21,6 +21,7 @@ SUBJECTS = [
     "random_exchanges",
     "tools",
     "packages",
+    "words",
     "starting",
 ]
 

@@ -1,4 +1,4 @@
-"""The loopback of a network of our own, which begins down."""
+"""The loopback of a network of our own, which begins down, and its ports."""
 
 import fcntl
 import socket
@@ -13,3 +13,10 @@ def raise_loopback():
         flags = struct.unpack("16sh14x", fcntl.ioctl(any_socket, SIOCGIFFLAGS, asked))[1]
         if not flags & IFF_UP:
             fcntl.ioctl(any_socket, SIOCSIFFLAGS, struct.pack("16sh14x", b"lo", flags | IFF_UP))
+
+
+def free_port():
+    """A TCP port of 127.0.0.1 that nobody listens on."""
+    with socket.socket() as any_socket:
+        any_socket.bind(("127.0.0.1", 0))
+        return any_socket.getsockname()[1]

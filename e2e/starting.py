@@ -5,17 +5,10 @@ import subprocess
 from harness import case, equal
 from world import PORT, WORDS
 
-USAGE = b"usage: polipo [-c FILE] [-g SEED] [name=value ...]\n"
-
 
 def run(program, *words):
     done = subprocess.run([program, *words], capture_output=True, timeout=15, stdin=subprocess.DEVNULL)
     return done.returncode, done.stdout, done.stderr
-
-
-@case
-def a_word_is_refused_as_usage(world):
-    equal(run(world.program, "--help"), (2, b"", USAGE), "status, output and complaint")
 
 
 @case

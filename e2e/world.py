@@ -7,11 +7,12 @@ import tempfile
 import time
 
 from harness import Failed, equal, holds
+from network import free_port
 from origin import Answer, Origin, abort, lines, plain
 
 # The proxy's port, and the words that make it listen there.
-PORT = 8123
-WORDS = []
+PORT = free_port()
+WORDS = [f"proxyPort={PORT}"]
 PROXY = ("127.0.0.1", PORT)
 START_SECONDS = 10
 VIA = b"via: 1.1 polipo"

@@ -1,1 +1,3 @@
-pub mod Serving
+pub mod Judging
+pub mod Starting
+pub mod LineLemmas

@@ -1,9 +1,15 @@
 -- When each exit comes, and what a told log gained by then.
-use Rattle.std.specs.Prelude.{◌≡◌, true, false, ℕ, [], ◌∷◌, ◌++◌, Option, Some, codes}
+use Rattle.std.specs.Prelude.{◌≡◌, ◌⊎◌, ⊤, true, false, ℕ, Bool, ◌&&◌, not, List, [], ◌∷◌, ◌++◌, Option, Some, None, is_some, Ok, Err}
 use Rattle.std.specs.List.{list_all}
-use Rattle.pp_world.specs.declared.happening.Happening.TheVariants.{Listens, Printed}
-use Rattle.pp_world.specs.Log.{Log, AppendsAll}
+use Rattle.pp_world.specs.declared.happening.Happening.TheVariants.{Configured, Listens, Printed}
+use Rattle.pp_world.specs.Log.{Log, AppendsAll, Rises}
+use Rattle.pp_conf.specs.declared.fault.ConfFault.{ConfFault}
+use Rattle.pp_conf.specs.declared.fault.ConfFault.TheVariants.{Usage as IsUsage, TooLong, BadLine, BadValue, OutOfMemory}
+use Rattle.pp_conf.specs.Conf.{Settings}
+use Rattle.pp_conf.specs.Words.{Serves, file_of, has_reading, reading_of, seed_of}
+use Rattle.pp_conf.specs.Shown.{Answers}
 use Rattle.pp_core.specs.Quiet.{is_quiet}
+use Rattle.pp_run.specs.Lines.{fault_line, no_listener_line, no_memory_line, unread_line, usage_line}
 use Rattle.pp_run.specs.declared.ending.Exit.{Exit}
 use Rattle.pp_run.specs.declared.ending.Exit.TheVariants.{Served, Usage, NoMemory, NoDisk, NoListener, NoConfig}
 
@@ -16,19 +22,80 @@ status_of NoDisk = 4
 status_of NoListener = 5
 status_of NoConfig = 6
 
--- ours: where clients are listened for
-abbrev pub port : ℕ
-port = 8123
+-- which exit a fault of words and text is
+abbrev pub exit_of : ConfFault → Exit
+exit_of IsUsage = Usage
+exit_of TooLong = NoConfig
+exit_of (BadLine k) = NoConfig
+exit_of (BadValue s) = NoConfig
+exit_of OutOfMemory = NoMemory
 
--- it listened, and then nothing was printed
-pub record Serves (old new : Option Log) : Type 0 where
-  pub was : (l : Log) → new ≡ Some l → (before : Log) × (old ≡ Some before) × ((added : Log) × (l ≡ before ++ (Listens port true ∷ []) ++ added) × (list_all is_quiet added ≡ true))
+-- the words have a reading, and not with a seed: the demo is not there yet
+abbrev pub asks_to_serve : List (List ℕ) → Bool
+asks_to_serve words = has_reading words && not (is_some (seed_of words))
+
+-- Usage exactly where the words do not ask to serve, want of memory aside
+abbrev pub JudgesWords : List (List ℕ) → Exit → Type 0
+JudgesWords words Usage = asks_to_serve words ≡ false
+JudgesWords words NoMemory = ⊤
+JudgesWords words Served = asks_to_serve words ≡ true
+JudgesWords words NoDisk = asks_to_serve words ≡ true
+JudgesWords words NoListener = asks_to_serve words ≡ true
+JudgesWords words NoConfig = asks_to_serve words ≡ true
+
+-- FILE is asked for where the words name one; None: it could not be read
+abbrev pub asked_for : Option (List ℕ) → Option (List ℕ) → Log
+asked_for None text = []
+asked_for (Some file) text = Configured file text ∷ []
+
+-- it listened on this port, and then nothing was printed
+pub record ServesOn (asked : Log) (port : ℕ) (old new : Option Log) : Type 0 where
+  pub was : (l : Log) → new ≡ Some l → (before : Log) × (old ≡ Some before) × ((added : Log) × (l ≡ before ++ (asked ++ Listens port true ∷ []) ++ added) × (list_all is_quiet added ≡ true))
+
+-- it may not listen on this port, and nothing follows but the line
+pub record MayNotListen (asked : Log) (port : ℕ) (old new : Option Log) (before now : ℕ) : Type 0 where
+  pub rises : Rises new before now
+  pub told : AppendsAll old new (λ l. asked ++ Listens port false ∷ Printed (no_listener_line port) ∷ [])
+
+-- how a run ends that has its settings
+abbrev pub OpensOn : ℕ → Exit → Option Log → Option Log → ℕ → ℕ → Type 0
+OpensOn port Served old new before now = ServesOn [] port old new
+OpensOn port NoListener old new before now = MayNotListen [] port old new before now
+OpensOn port NoMemory old new before now = AppendsAll old new (λ l. Printed no_memory_line ∷ [])
+OpensOn port Usage old new before now = ⊥
+OpensOn port NoDisk old new before now = ⊥
+OpensOn port NoConfig old new before now = ⊥
+
+-- words and text have this fault, and nothing follows but its line
+pub record IsRefused (asked : Log) (words : List (List ℕ)) (text : Option (List ℕ)) (fault : ConfFault) (old new : Option Log) : Type 0 where
+  pub says : Answers (Err fault) (reading_of words text)
+  pub told : AppendsAll old new (λ l. asked ++ Printed (fault_line fault) ∷ [])
+
+-- FILE could not be read, and nothing follows but the line
+pub record IsUnread (words : List (List ℕ)) (old new : Option Log) (before now : ℕ) : Type 0 where
+  pub named : is_some (file_of words) ≡ true
+  pub rises : Rises new before now
+  pub told : AppendsAll old new (λ l. asked_for (file_of words) None ++ Printed unread_line ∷ [])
+
+-- how a run ends whose settings are read with this text
+abbrev pub StartsAs : Log → List (List ℕ) → Option (List ℕ) → Exit → Option Log → Option Log → ℕ → ℕ → Type 0
+StartsAs asked words text Served old new before now = (c : Settings) × (reading_of words text ≡ Ok (Serves c)) × ServesOn asked c.port old new
+StartsAs asked words text NoListener old new before now = (c : Settings) × (reading_of words text ≡ Ok (Serves c)) × MayNotListen asked c.port old new before now
+StartsAs asked words text NoConfig old new before now = (fault : ConfFault) × (exit_of fault ≡ NoConfig) × IsRefused asked words text fault old new
+StartsAs asked words text NoMemory old new before now = AppendsAll old new (λ l. asked ++ Printed no_memory_line ∷ [])
+StartsAs asked words text Usage old new before now = AppendsAll old new (λ l. asked ++ Printed usage_line ∷ [])
+StartsAs asked words text NoDisk old new before now = ⊥
+
+-- the same with the text of FILE, or with none where the words name none
+abbrev pub StartsWith : List (List ℕ) → Exit → Option Log → Option Log → ℕ → ℕ → Type 0
+StartsWith words exit old new before now =
+    (text : Option (List ℕ)) × (is_some text ≡ is_some (file_of words)) × StartsAs (asked_for (file_of words) text) words text exit old new before now
 
 -- ours: each exit but Served prints its one line, and nothing happens behind it
-abbrev pub EndsAs : Exit → Option Log → Option Log → Type 0
-EndsAs Served old new = Serves old new
-EndsAs Usage old new = AppendsAll old new (λ l. Printed (codes "usage: polipo [-c FILE] [-g SEED] [name=value ...]\n") ∷ [])
-EndsAs NoMemory old new = AppendsAll old new (λ l. Printed (codes "polipo: out of memory\n") ∷ [])
-EndsAs NoListener old new = AppendsAll old new (λ l. Listens port false ∷ Printed (codes "polipo: cannot listen on port 8123\n") ∷ [])
-EndsAs NoDisk old new = ⊥
-EndsAs NoConfig old new = ⊥
+abbrev pub EndsAs : List (List ℕ) → Exit → Option Log → Option Log → ℕ → ℕ → Type 0
+EndsAs words Served old new before now = StartsWith words Served old new before now
+EndsAs words NoListener old new before now = StartsWith words NoListener old new before now
+EndsAs words NoConfig old new before now = IsUnread words old new before now ⊎ StartsWith words NoConfig old new before now
+EndsAs words NoMemory old new before now = AppendsAll old new (λ l. Printed no_memory_line ∷ []) ⊎ StartsWith words NoMemory old new before now
+EndsAs words Usage old new before now = AppendsAll old new (λ l. Printed usage_line ∷ [])
+EndsAs words NoDisk old new before now = ⊥

@@ -1,16 +1,20 @@
 //! The program over a world: from its words to its exit.
 //!
-//! `run` refuses words, takes memory, listens, and makes turns until the world stops it. What it
-//! runs over is the caller's choice: real sockets, or a world in memory.
+//! `run` reads words, the file that they name and the settings of both, takes memory, listens, and makes
+//! turns until the world stops it. What it runs over is the caller's choice: real sockets, or a world in
+//! memory.
 //!
 //! To the layer above: each exit but `Served` prints its one line and nothing else is ever printed;
 //! `specs/Exits.antt` says of each exit when it comes and what a told log gained by it.
 //!
-//! Takes memory for the proxy alone. What a turn does is for `pp_core`.
+//! What words and text say is for `pp_conf`, and what a turn does is for `pp_core`.
 #![tactic(auto)]
 
 mod ending; // how the program ends
+mod lines; // what it prints
 mod program; // from words to exit
+mod serving; // from settings to the end of serving
 
 pub use ending::Exit;
-pub use program::{PORT, run};
+pub use lines::{NO_MEMORY_LINE, USAGE_LINE};
+pub use program::run;

@@ -1,72 +1,73 @@
 // From words to exit.
-ghost use Rattle.std.specs.Prelude.{◌≡◌, ◌≢◌, ◌↔◌, []};
-ghost use Rattle.pp_world.specs.Log.{Rises};
-ghost use Rattle.pp_run.specs.declared.ending.Exit.TheVariants.{NoListener, Usage};
-ghost use Rattle.pp_core.specs.Quiet.{GrowsQuietly};
-ghost use Rattle.pp_run.specs.Exits.{EndsAs};
+ghost use Rattle.std.specs.Prelude.{◌≡◌, ◌∷◌, [], true, Some, map, string_bytes};
+ghost use Rattle.pp_world.specs.declared.happening.Happening.TheVariants.{Printed};
+ghost use Rattle.pp_world.specs.Log.{AppendsAll};
+ghost use Rattle.pp_conf.specs.Shown.{shown_text};
+ghost use Rattle.pp_conf.specs.Words.{file_of, has_reading};
+ghost use Rattle.pp_run.specs.Lines.{fault_line};
+ghost use Rattle.pp_run.specs.Exits.{exit_of, EndsAs, JudgesWords, StartsAs};
 
 use crate::Exit;
-use pp_core::{Proxy, Turn};
-use pp_world::World;
+use crate::lines::{NO_MEMORY_LINE, UNREAD_LINE, fault_line};
+use crate::serving::open;
+use pp_conf::{Command, Conf, ConfFault, config_name};
+use pp_world::{ConfigFault, World};
 use std::alloc::Global;
 
-/// Where clients are listened for.
-pub const PORT: u16 = 8123;
-
-/// The name of this proxy in Via.
-const NAME: &[u8] = b"polipo";
-
-/// The most turns of a run.
-const MAX_TURNS: u64 = 140_737_488_355_327;
-
-/// Serves until the world stops it, or for the most turns that there may be. `words` are those after
-/// the program's name; none is understood yet.
+/// Reads words, the file that they name, and the settings of both, and serves with them until the world
+/// stops it, or for the most turns that they allow. `words` are those after the program's name.
 pub fn run<W: World>(alloc: Global, words: &[String], world: &mut W) -> Exit
-    ensures usage { (result ≡ Usage) ↔ (words.now ≢ []) }
-    ensures cause { result ≡ NoListener → Rises (W.log world.new) (W.faults world.old) (W.faults world.new) }
-    ensures told { EndsAs result (W.log world.old) (W.log world.new) }
+    ensures words { JudgesWords (map string_bytes words.now) result }
+    ensures told { EndsAs (map string_bytes words.now) result (W.log world.old) (W.log world.new) (W.faults world.old) (W.faults world.new) }
 {
-    if !words.is_empty() {
-        world.print(b"usage: polipo [-c FILE] [-g SEED] [name=value ...]\n");
-        return Exit::Usage;
+    match config_name(alloc, words) {
+        Ok(None) => start(alloc, words, None, world),
+        Ok(Some(name)) => read_file(alloc, words, name.as_str(), world),
+        Err(fault) => refuse(fault, world),
     }
-    match Proxy::open(alloc, NAME) {
-        Ok(proxy) => listen(proxy, world),
-        Err(_) => {
-            world.print(b"polipo: out of memory\n");
+}
+
+/// Reads the file that the words name, and starts with its text.
+fn read_file<W: World>(alloc: Global, words: &[String], name: &str, world: &mut W) -> Exit
+    requires reads { has_reading (map string_bytes words.now) ≡ true }
+    requires named { file_of (map string_bytes words.now) ≡ Some name.now }
+    ensures words { JudgesWords (map string_bytes words.now) result }
+    ensures told { EndsAs (map string_bytes words.now) result (W.log world.old) (W.log world.new) (W.faults world.old) (W.faults world.new) }
+{
+    match world.config(alloc, name) {
+        Ok(text) => start(alloc, words, Some(text.as_slice()), world),
+        Err(ConfigFault::Unreadable) => {
+            world.print(UNREAD_LINE.as_bytes());
+            Exit::NoConfig
+        }
+        Err(ConfigFault::OutOfMemory) => {
+            world.print(NO_MEMORY_LINE.as_bytes());
             Exit::NoMemory
         }
     }
 }
 
-/// Listens, and serves where it may.
-fn listen<W: World>(proxy: Proxy, world: &mut W) -> Exit
-    requires { proxy.clients.items ≡ [] }
-    ensures usage { result ≢ Usage }
-    ensures cause { result ≡ NoListener → Rises (W.log world.new) (W.faults world.old) (W.faults world.new) }
-    ensures told { EndsAs result (W.log world.old) (W.log world.new) }
+/// Reads the settings of words and text, and starts with them.
+fn start<W: World>(alloc: Global, words: &[String], text: Option<&[u8]>, world: &mut W) -> Exit
+    ensures words { JudgesWords (map string_bytes words.now) result }
+    ensures told { StartsAs [] (map string_bytes words.now) (shown_text text.entry) result (W.log world.old) (W.log world.new) (W.faults world.old) (W.faults world.new) }
 {
-    match world.listen(PORT) {
-        Ok(()) => {
-            serve(proxy, world);
-            Exit::Served
-        }
-        Err(_) => {
-            world.print(b"polipo: cannot listen on port 8123\n");
-            Exit::NoListener
-        }
+    match Conf::read(alloc, words, text) {
+        Ok(Command::Serve(conf)) => open(alloc, &conf, world),
+        Ok(Command::Demo(_)) => refuse(ConfFault::Usage, world),
+        Err(fault) => refuse(fault, world),
     }
 }
 
-/// Makes turns until the world stops it, or for the most turns that there may be.
-#[tactic(auto, using(pp_core::proofs::Holding::quiet_then))]
-fn serve<W: World>(mut proxy: Proxy, world: &mut W)
-    requires { proxy.clients.items ≡ [] }
-    ensures { GrowsQuietly (W.log world.old) (W.log world.new) }
+/// Prints why there are no settings.
+fn refuse<W: World>(fault: ConfFault, world: &mut W) -> Exit
+    ensures exit { result ≡ exit_of fault }
+    ensures told { AppendsAll (W.log world.old) (W.log world.new) (λ l. Printed (fault_line fault) ∷ []) }
 {
-    for _turn in 0..MAX_TURNS {
-        if let Turn::Stopped = proxy.turn(world) {
-            break;
-        }
+    world.print(fault_line(fault).as_slice());
+    match fault {
+        ConfFault::Usage => Exit::Usage,
+        ConfFault::TooLong | ConfFault::BadLine(_) | ConfFault::BadValue(_) => Exit::NoConfig,
+        ConfFault::OutOfMemory => Exit::NoMemory,
     }
 }

@@ -1,6 +1,6 @@
 use Rattle.pp_core.specs.Links.{holds, IsLinked}
 use Rattle.pp_core.specs.Quiet.{GrowsQuietly}
-use Rattle.pp_run.proofs.program.serve.Given as goal
+use Rattle.pp_run.proofs.serving.serve.Given as goal
 
 abbrev pub invariant-loop-turn : goal.invariant-loop-turn
 invariant-loop-turn g l = record {

@@ -1,0 +1,74 @@
+-- The parts of a run, put together.
+use Rattle.std.proofs.Common.{◌≡◌, ◌≤◌, ◌∙◌, ap, sym, subst, ℕ, List, [], ◌∷◌, ◌++◌, Option, Some, None, true, false, append_assoc, is_some, inr}
+use Rattle.pp_world.specs.declared.happening.Happening.TheVariants.{Configured, Listens, Printed}
+use Rattle.pp_world.specs.Log.{Log, AppendsAll, Rises}
+use Rattle.pp_world.proofs.CallLemmas.{appends_then, rises_earlier, rises_later}
+use Rattle.pp_core.specs.Quiet.{GrowsQuietly}
+use Rattle.pp_run.specs.Lines.{unread_line}
+use Rattle.pp_conf.specs.Words.{file_of, has_reading}
+use Rattle.pp_run.specs.Exits.{EndsAs, IsUnread, JudgesWords, ServesOn, StartsAs, asked_for, asks_to_serve}
+use Rattle.pp_run.proofs.Judging.{file_serves}
+use Rattle.pp_run.specs.declared.ending.Exit.{Exit}
+use Rattle.pp_run.specs.declared.ending.Exit.TheVariants.{Served, Usage, NoMemory, NoDisk, NoListener, NoConfig}
+
+-- it listened, and then served
+pub serves : {old mid new : Option Log} (port : ℕ) → AppendsAll old mid (λ l. Listens port true ∷ []) → GrowsQuietly mid new → ServesOn [] port old new
+serves port listened quiet = record {
+  was = λ l is.
+      let later = quiet.was l is in
+      let earlier = listened.was later.0 later.1 in
+      (earlier.0, earlier.1, (later.2.0, later.2.1 ∙ ap (λ (b : Log). b ++ later.2.0) earlier.2, later.2.2));
+}
+
+-- it asked for FILE, and then served
+serves_later : {old mid new : Option Log} (asked : Log) (port : ℕ) → AppendsAll old mid (λ l. asked) → ServesOn [] port mid new → ServesOn asked port old new
+serves_later asked port first rest = record {
+  was = λ l is.
+      let later = rest.was l is in
+      let earlier = first.was later.0 later.1 in
+      let there : l ≡ (earlier.0 ++ asked) ++ (Listens port true ∷ []) ++ later.2.0
+      = later.2.1 ∙ ap (λ (b : Log). b ++ (Listens port true ∷ []) ++ later.2.0) earlier.2 in
+      (earlier.0, earlier.1, (later.2.0, there ∙ ap (λ (b : Log). b ++ later.2.0) (append_assoc earlier.0 asked (Listens port true ∷ [])), later.2.2));
+}
+
+-- what a start with this text came to, behind the asking for FILE
+starts_later : {old mid : Option Log} (new : Option Log) (asked : Log) (words : List (List ℕ)) (text : Option (List ℕ)) (exit : Exit) (before between now : ℕ)
+    → AppendsAll old mid (λ l. asked) → before ≤ between → StartsAs [] words text exit mid new between now → StartsAs asked words text exit old new before now
+starts_later new asked words text Served before between now first more start = (start.0, start.1, serves_later asked _ first start.2)
+starts_later new asked words text Usage before between now first more start = appends_then (λ l. asked) _ first start
+starts_later new asked words text NoMemory before between now first more start = appends_then (λ l. asked) _ first start
+starts_later new asked words text NoDisk before between now first more start = start
+starts_later new asked words text NoListener before between now first more start =
+    (start.0, start.1, record { rises = rises_later before between now more start.2.rises; told = appends_then (λ l. asked) _ first start.2.told })
+starts_later new asked words text NoConfig before between now first more start =
+    (start.0, start.1, record { says = start.2.says; told = appends_then (λ l. asked) _ first start.2.told })
+
+ends_by : (old new : Option Log) (words : List (List ℕ)) (text : List ℕ) (exit : Exit) (before now : ℕ)
+    → asks_to_serve words ≡ true → true ≡ is_some (file_of words) → JudgesWords words exit
+    → StartsAs (asked_for (file_of words) (Some text)) words (Some text) exit old new before now → EndsAs words exit old new before now
+ends_by old new words text Served before now asks named judges start = (Some text, named, start)
+ends_by old new words text NoListener before now asks named judges start = (Some text, named, start)
+ends_by old new words text NoConfig before now asks named judges start = inr (Some text, named, start)
+ends_by old new words text NoMemory before now asks named judges start = inr (Some text, named, start)
+ends_by old new words text NoDisk before now asks named judges start = start
+ends_by old new words text Usage before now asks named judges start = let bad : false ≡ true = sym judges ∙ asks in absurd (cc)
+
+-- FILE was asked for, and what came of its text
+pub ends_later : {old mid : Option Log} (new : Option Log) (words : List (List ℕ)) (file text : List ℕ) (exit : Exit) (before between now : ℕ)
+    → has_reading words ≡ true → file_of words ≡ Some file → AppendsAll old mid (λ l. Configured file (Some text) ∷ []) → before ≤ between
+    → JudgesWords words exit → StartsAs [] words (Some text) exit mid new between now → EndsAs words exit old new before now
+ends_later {old} {mid} new words file text exit before between now reads named first more judges start =
+    let asked : AppendsAll old mid (λ l. asked_for (file_of words) (Some text))
+    = subst (λ (f : Option (List ℕ)). AppendsAll old mid (λ l. asked_for f (Some text))) (sym named) first in
+    let whole : StartsAs (asked_for (file_of words) (Some text)) words (Some text) exit old new before now
+    = starts_later new (asked_for (file_of words) (Some text)) words (Some text) exit before between now asked more start in
+    ends_by old new words text exit before now (file_serves words file reads named) (sym (ap is_some named)) judges whole
+
+-- FILE was asked for and could not be read
+pub unread : {old mid new : Option Log} (words : List (List ℕ)) (file : List ℕ) (before between now : ℕ) → file_of words ≡ Some file
+    → AppendsAll old mid (λ l. Configured file None ∷ []) → Rises mid before between → AppendsAll mid new (λ l. Printed unread_line ∷ []) → between ≤ now → IsUnread words old new before now
+unread {old} {mid} words file before between now named first rose printed more = record {
+  named = ap is_some named;
+  rises = rises_earlier _ before between now printed rose more;
+  told = appends_then (λ l. asked_for (file_of words) None) _ (subst (λ (f : Option (List ℕ)). AppendsAll old mid (λ l. asked_for f None)) (sym named) first) printed;
+}

@@ -1,0 +1,15 @@
+use Rattle.std.proofs.Common.{map, string_bytes, inl}
+use Rattle.pp_run.proofs.Starting.{ends_later, unread}
+use Rattle.pp_run.proofs.program.read_file.Goals as goal
+
+pub returns-in-Ok-clause-told : goal.returns-in-Ok-clause-told
+returns-in-Ok-clause-told g c =
+    ends_later _ (map string_bytes c.args.words.now) c.args.name.now _ c.start.result _ _ _ c.requires.reads c.requires.named
+    c.in-Ok.ensures.told c.in-Ok.ensures.faults c.start.ensures.words (rw c.as_slice.ensures at (c.start.ensures.told))
+
+pub returns-in-Err-Unreadable-clause-told : goal.returns-in-Err-Unreadable-clause-told
+returns-in-Err-Unreadable-clause-told g c =
+    let unreadable = c.in-Err-Unreadable in
+    inl (unread (map string_bytes c.args.words.now) c.args.name.now _ _ _ c.requires.named
+    (rw unreadable.field-0-is at (unreadable.ensures.told)) (rw unreadable.field-0-is at (unreadable.ensures.cause))
+    (rw c.as_bytes.ensures.value at (c.print.ensures.told)) c.print.ensures.faults)

@@ -1,0 +1,4 @@
+use Rattle.pp_run.proofs.serving.open.Goals as goal
+
+pub returns-in-Err : goal.returns-in-Err
+returns-in-Err g c = record { told = rw c.as_bytes.ensures.value at (c.print.ensures.told) }

@@ -1,0 +1,122 @@
+"""Words, the file of settings, and how the program ends. Each program listens on a free port of its own."""
+
+import contextlib
+import os
+import signal
+import socket
+import subprocess
+import tempfile
+import time
+
+from harness import Failed, case, equal, holds
+from network import free_port
+from origin import Answer, plain
+
+USAGE = b"usage: polipo [-c FILE] [-g SEED] [name=value ...]\n"
+START_SECONDS = 10
+
+# The words, the text of the file f, the status and the line on standard error.
+ENDS = [
+    (["nonsense"], b"", 2, USAGE),
+    (["-c", "f", "-c", "f"], b"", 2, USAGE),
+    (["-c"], b"", 2, USAGE),
+    (["-g", "7"], b"", 2, USAGE),
+    (["--help"], b"", 2, USAGE),
+    ([""], b"", 2, USAGE),
+    ([b"proxyName=\xff"], b"", 2, USAGE),
+    (["-c", "g"], b"", 6, b"polipo: cannot read the configuration\n"),
+    (["-c", "."], b"", 6, b"polipo: cannot read the configuration\n"),
+    (["-c", "f"], b"#" * 65_537, 6, b"polipo: the configuration is too long\n"),
+    (["-c", "f"], b"# x\r\n\r\nproxyPort 9\r\n", 6, b"polipo: configuration line 3 is not understood\n"),
+    (["-c", "f"], b"proxyPort = 65536", 6, b"polipo: bad value for proxyPort\n"),
+    (["-c", "f"], b"diskCacheRoot=\xff\n", 6, b"polipo: bad value for diskCacheRoot\n"),
+    (["-c", "f", "proxyPort=0"], b"diskRun=2\n", 6, b"polipo: bad value for diskRun\n"),
+    (["proxyPort=0"], b"", 6, b"polipo: bad value for proxyPort\n"),
+    (["chunkHighMark=3000", "chunkLowMark=3001"], b"", 6, b"polipo: bad value for chunkHighMark\n"),
+]
+
+
+def end_of(world, words, text=b""):
+    """Runs the program in a folder with this file f. Answers its status, output and complaint."""
+    with tempfile.TemporaryDirectory() as folder:
+        with open(os.path.join(folder, "f"), "wb") as file:
+            file.write(text)
+        program = os.path.abspath(world.program)
+        done = subprocess.run([program, *words], cwd=folder, capture_output=True, timeout=15, stdin=subprocess.DEVNULL)
+        return done.returncode, done.stdout, done.stderr
+
+
+@contextlib.contextmanager
+def started(world, port, words, text=b""):
+    """The program while it listens on that port."""
+    with tempfile.NamedTemporaryFile() as file:
+        file.write(text)
+        file.flush()
+        words = [file.name if word == "f" else word for word in words]
+        pipe = subprocess.PIPE
+        process = subprocess.Popen([world.program, *words], stdin=subprocess.DEVNULL, stdout=pipe, stderr=pipe)
+        try:
+            wait_for(process, port)
+            yield process
+        finally:
+            process.kill()
+            process.communicate()
+
+
+def wait_for(process, port):
+    deadline = time.monotonic() + START_SECONDS
+    while time.monotonic() < deadline:
+        if process.poll() is not None:
+            raise Failed(f"    the program ended with {process.returncode}")
+        try:
+            socket.create_connection(("127.0.0.1", port), timeout=1).close()
+            return
+        except OSError:
+            time.sleep(0.02)
+    raise Failed(f"    the program does not listen within {START_SECONDS} seconds")
+
+
+def hear_end(client):
+    """What comes before the connection ends, or breaks."""
+    try:
+        return client.recv(1)
+    except ConnectionResetError:
+        return b""
+
+
+@case
+def each_end_has_its_status_and_its_line(world):
+    for words, text, status, line in ENDS:
+        equal(end_of(world, words, text), (status, b"", line), f"status, output and complaint of {words}")
+
+
+@case
+def after_the_most_turns_it_ends_in_silence(world):
+    words = [f"proxyPort={free_port()}", "maxTurns=1"]
+    equal(end_of(world, words), (0, b"", b""), "status, output and complaint")
+
+
+@case
+def it_listens_where_words_and_file_say_and_tells_its_name(world):
+    world.origin.on("/named", Answer(plain(b"hello")))
+    port, other = free_port(), free_port()
+    text = b"proxyPort = %d\nproxyName = \"house-1.local\"\n" % other
+    with started(world, port, ["-c", "f", f"proxyPort={port}"], text):
+        with socket.create_connection(("127.0.0.1", port), timeout=10) as client:
+            client.sendall(world.last_request("/named"))
+            heard = b""
+            while piece := client.recv(65536):
+                heard += piece
+        holds(b"\r\nvia: 1.1 house-1.local\r\n" in heard.lower(), "its name in Via")
+        holds(heard.endswith(b"\r\n\r\nhello"), "the body")
+
+
+@case
+def a_signal_ends_it_at_once_and_in_silence(world):
+    port = free_port()
+    with started(world, port, [f"proxyPort={port}"]) as process:
+        with socket.create_connection(("127.0.0.1", port), timeout=10) as client:
+            process.send_signal(signal.SIGTERM)
+            output, complaint = process.communicate(timeout=5)
+            equal((process.returncode, output, complaint), (-signal.SIGTERM, b"", b""), "status, output and complaint")
+            equal(hear_end(client), b"", "what the client hears")
