@@ -7,6 +7,7 @@ ghost use Rattle.pp_world.specs.Wire.{IsNewNumber};
 use crate::connection::{Connection, Phase};
 use crate::connections::{Connections, next_number};
 use crate::door::Door;
+use crate::folder::Folder;
 use crate::hosts::Hosts;
 use crate::rotation::Rotation;
 use mio::net::TcpStream;
@@ -44,6 +45,7 @@ pub struct NetWorld<R: Drop> {
     pub(crate) connections: Connections,
     pub(crate) rotation: Rotation,
     hosts: Hosts,
+    pub(crate) folder: Folder,
     // The second that was told last.
     pub(crate) second: Option<u64>,
     // How many events were found since the system was asked.
@@ -81,6 +83,7 @@ impl<R: Runtime + AllocGlobal + Net> NetWorld<R> {
             connections,
             rotation: Rotation::START,
             hosts,
+            folder: Folder::Closed,
             second: None,
             found: 0,
             faults: 0,
