@@ -1,0 +1,58 @@
+-- An exchange with an origin: a request of this proxy, and its response (RFC 2616, section 8.1.2.2).
+use Rattle.std.specs.Prelude.{ℕ, ◌+◌, ◌-◌, ◌≤◌, Bool, true, false, ◌==◌, nat_le, if◌then◌else◌, List, Option, Some, None}
+use Rattle.pp_objects.specs.declared.id.ObjectId.{ObjectId}
+use Rattle.pp_flow.specs.declared.entry.Aim.{Aim}
+use Rattle.pp_flow.specs.declared.entry.Entry.{Entry}
+
+-- the instance that the body belongs to, and the half-open span that is still to come
+abbrev pub Span : Type 0
+Span = ObjectId × ℕ × ℕ
+
+abbrev pub is_number : ℕ → Entry → Bool
+is_number number entry = entry.exchange.number == number
+
+-- it waits for a place
+abbrev pub begun_with : ℕ → ℕ → ℕ → List ℕ → Aim → Entry
+begun_with number client request key aim = record {
+  exchange = record {
+    number = number;
+    client = client;
+    request = request;
+    aim = aim;
+    place = None;
+    headed = false;
+    bound = None;
+  };
+  key = record { items = key };
+}
+
+abbrev pub with_place : Option ℕ → Entry → Entry
+with_place place entry = record entry { exchange = record entry.exchange { place = place } }
+
+-- its final head came, and its body belongs there
+abbrev pub bound_to : Option Span → Entry → Entry
+bound_to to entry = record entry { exchange = record entry.exchange { headed = true; bound = to } }
+
+-- the front of what is still to come
+abbrev pub moved : ℕ → Option Span → Option Span
+moved n None = None
+moved n (Some span) = Some (span.0, span.1 + n, span.2)
+
+abbrev pub moved_by : ℕ → Entry → Entry
+moved_by n entry = record entry { exchange = record entry.exchange { bound = moved n entry.exchange.bound } }
+
+-- how many bytes of it are still to come
+abbrev pub left_of : Option Span → Option ℕ
+left_of None = None
+left_of (Some span) = if nat_le span.1 span.2 then Some (span.2 - span.1) else None
+
+abbrev pub to_come : Entry → Option ℕ
+to_come entry = left_of entry.exchange.bound
+
+-- so many bytes of it are still to come
+abbrev pub IsInSpan : ℕ → Option Span → Type 0
+IsInSpan n None = ⊥
+IsInSpan n (Some span) = span.1 + n ≤ span.2
+
+abbrev pub IsToCome : ℕ → Entry → Type 0
+IsToCome n entry = IsInSpan n entry.exchange.bound

@@ -1,0 +1,120 @@
+// An exchange and its key.
+ghost use Rattle.std.specs.Prelude.{◌≡◌, ◌≤◌, length};
+ghost use Rattle.pp_flow.specs.Entries.{begun_with, bound_to, moved, moved_by, to_come, with_place, IsInSpan, IsToCome};
+
+use arrayvec::ArrayVec;
+use pp_objects::ObjectId;
+use pp_valid::Version;
+
+/// Bytes that a key may have.
+pub const KEY_ROOM: usize = 8192;
+
+/// What an exchange is for.
+#[derive(Clone, Copy, Debug, PartialEq, Eq)]
+pub enum Aim {
+    /// To fetch or validate for the cache.
+    Own,
+    /// To fill a hole of this version: a half-open span of offsets.
+    Hole(Version, u64, u64),
+    /// To pass a request and its response.
+    Pass,
+}
+
+/// A request of this proxy to an origin, and its response.
+#[derive(Clone, Copy, Debug, PartialEq, Eq)]
+pub struct Exchange {
+    /// Rises with each exchange.
+    pub number: u64,
+    /// The client that it was begun for.
+    pub client: u64,
+    /// The number of that client's request.
+    pub request: u64,
+    pub aim: Aim,
+    /// Its connection.
+    pub place: Option<u64>,
+    /// Whether its final head came.
+    pub headed: bool,
+    /// The instance that its body belongs to, and the half-open span that is still to come.
+    pub bound: Option<(ObjectId, u64, u64)>,
+}
+
+#[derive(Drop)]
+pub(crate) struct Entry {
+    pub(crate) exchange: Exchange,
+    pub(crate) key: ArrayVec<u8, KEY_ROOM>,
+}
+
+impl Entry {
+    /// Room for an exchange.
+    pub(crate) fn empty() -> Entry {
+        Entry {
+            exchange: Exchange {
+                number: 0,
+                client: 0,
+                request: 0,
+                aim: Aim::Own,
+                place: None,
+                headed: false,
+                bound: None,
+            },
+            key: ArrayVec::new(),
+        }
+    }
+
+    /// An exchange begins here.
+    pub(crate) fn begin(&mut self, number: u64, client: u64, request: u64, key: &[u8], aim: Aim)
+        requires { length key.now ≤ 8192 }
+        ensures { self.new ≡ begun_with number client request key.now aim }
+    {
+        self.exchange = Exchange {
+            number,
+            client,
+            request,
+            aim,
+            place: None,
+            headed: false,
+            bound: None,
+        };
+        self.key.clear();
+        let _ = self.key.try_extend_from_slice(key);
+    }
+
+    pub(crate) fn set_place(&mut self, place: Option<u64>)
+        ensures { self.new ≡ with_place place self.old }
+    {
+        self.exchange.place = place;
+    }
+
+    /// Its final head came, and its body belongs there.
+    pub(crate) fn bind(&mut self, to: Option<(ObjectId, u64, u64)>)
+        ensures { self.new ≡ bound_to to self.old }
+    {
+        self.exchange.headed = true;
+        self.exchange.bound = to;
+    }
+
+    /// The bytes of its span that are still to come.
+    pub(crate) fn to_come(&self) -> Option<u64>
+        ensures { result ≡ to_come self.now }
+    {
+        let (_, from, to) = self.exchange.bound?;
+        to.checked_sub(from)
+    }
+
+    /// So many bytes of its span came.
+    pub(crate) fn came(&mut self, n: u64)
+        requires { IsToCome n self.old }
+        ensures { self.new ≡ moved_by n self.old }
+    {
+        self.exchange.bound = moved(self.exchange.bound, n);
+    }
+}
+
+/// What is still to come of a span, when so many bytes of it came.
+fn moved(bound: Option<(ObjectId, u64, u64)>, n: u64) -> Option<(ObjectId, u64, u64)>
+    requires { IsInSpan n bound }
+    ensures { result ≡ moved n bound }
+{
+    let (id, from, to) = bound?;
+    Some((id, from + n, to))
+}

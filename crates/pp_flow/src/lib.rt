@@ -1,0 +1,23 @@
+//! The exchanges with origins that are under way, and what each is bound to (RFC 2616, section 8.1.2.2).
+//!
+//! An exchange is a request of this proxy to an origin and its response. It waits for a place, then
+//! stands in the line of a connection, whose responses come in the order of the line. Once its final
+//! head has come it may be bound to an instance, and then its body's bytes belong there.
+//!
+//! To the layer above: two lists of exchanges, those without a place in the order of their beginnings,
+//! and those with one in the order in which they got it, and how many were begun. Each call does to
+//! them what `specs/Changes.antt` says.
+//!
+//! Only `Flow::new` takes memory: the room for all exchanges that there may be, and their keys. Which
+//! place an exchange gets is for `pp_peers`, what its bytes are for `pp_objects`.
+#![tactic(auto)]
+
+mod entry; // an exchange and its key
+mod flow; // the exchanges that are there
+mod lists; // a list of exchanges
+
+pub use entry::{Aim, Exchange, KEY_ROOM};
+pub use flow::{EXCHANGES, Flow};
+
+#[cfg(test)]
+mod tests; // worked lines

@@ -1,0 +1,130 @@
+// Worked lines: which exchange waits, and which response of a connection comes next (RFC 2616, section
+// 8.1.2.2: "A server MUST send its responses to those requests in the same order that the requests were
+// received").
+use crate::{Aim, EXCHANGES, Flow};
+use pp_objects::ObjectId;
+use pp_text::OutOfMemory;
+
+/// Begins an exchange, where there is room.
+fn begin(flow: &mut Flow, client: u64, key: &[u8], aim: Aim) -> Option<u64> {
+    if flow.len() < EXCHANGES && key.len() <= 8192 && flow.begun() < u64::MAX {
+        Some(flow.begin(client, 0, key, aim))
+    } else {
+        None
+    }
+}
+
+/// Gives it a place, where it waits for one.
+fn place(flow: &mut Flow, number: u64, connection: u64) {
+    if flow.waits(number) {
+        flow.set_place(number, connection);
+    }
+}
+
+/// Takes its place away, where it has one.
+fn unplace(flow: &mut Flow, number: u64) {
+    if flow.has_place(number) {
+        flow.unplace(number);
+    }
+}
+
+/// The first three of a connection's line.
+fn line(flow: &Flow, connection: u64) -> [Option<u64>; 3] {
+    [
+        flow.line(connection, 0),
+        flow.line(connection, 1),
+        flow.line(connection, 2),
+    ]
+}
+
+#[test]
+fn a_line_has_the_order_in_which_places_were_got(rt: HostRuntime) -> Result<(), OutOfMemory> {
+    let mut flow = Flow::new(rt.alloc())?;
+    for number in 0u64..4 {
+        assert_eq!(rt; begin(&mut flow, 7, b"http://h/a", Aim::Own), Some(number));
+    }
+    assert_eq!(rt;
+        (flow.waiting(None), flow.waiting(Some(0))),
+        (Some(0), Some(1))
+    );
+    place(&mut flow, 1, 50);
+    place(&mut flow, 0, 50);
+    place(&mut flow, 3, 51);
+    assert_eq!(rt; line(&flow, 50), [Some(1), Some(0), None]);
+    assert_eq!(rt; line(&flow, 51), [Some(3), None, None]);
+    assert_eq!(rt; line(&flow, 52), [None, None, None]);
+    assert_eq!(rt;
+        (flow.waiting(None), flow.waiting(Some(2))),
+        (Some(2), None)
+    );
+    // The connection is gone: its exchanges wait again, in the order of their beginnings.
+    unplace(&mut flow, 1);
+    unplace(&mut flow, 0);
+    assert_eq!(rt;
+        (flow.waiting(None), flow.waiting(Some(0))),
+        (Some(0), Some(1))
+    );
+    assert_eq!(rt;
+        (flow.waiting(Some(1)), flow.waiting(Some(2))),
+        (Some(2), None)
+    );
+    place(&mut flow, 0, 51);
+    assert_eq!(rt; line(&flow, 51), [Some(3), Some(0), None]);
+    flow.over(3);
+    flow.over(2);
+    assert_eq!(rt; line(&flow, 51), [Some(0), None, None]);
+    assert_eq!(rt; (flow.len(), flow.waiting(None)), (2, Some(1)));
+    assert_eq!(rt; begin(&mut flow, 8, b"http://h/b", Aim::Pass), Some(4));
+    Ok(())
+}
+
+#[test]
+fn a_body_is_bound_and_comes(rt: HostRuntime) -> Result<(), OutOfMemory> {
+    let mut flow = Flow::new(rt.alloc())?;
+    let id = ObjectId { slot: 3, life: 9 };
+    assert_eq!(rt; begin(&mut flow, 7, b"http://h/a", Aim::Own), Some(0));
+    assert_eq!(rt; begin(&mut flow, 8, b"http://h/b", Aim::Pass), Some(1));
+    place(&mut flow, 0, 50);
+    place(&mut flow, 1, 50);
+    flow.bind(0, Some((id, 0, 12)));
+    assert_eq!(rt; flow.to_come(0), Some(12));
+    come(&mut flow, 0, 5);
+    come(&mut flow, 0, 8);
+    match flow.get(0) {
+        Some(exchange) => {
+            assert_eq!(rt; exchange.bound, Some((id, 5, 12)));
+            assert_eq!(rt; (exchange.client, exchange.place), (7, Some(50)));
+            assert!(rt; exchange.headed);
+        }
+        None => panic!(rt; "it is there"),
+    }
+    flow.bind(1, None);
+    assert_eq!(rt; flow.to_come(1), None);
+    assert_eq!(rt; flow.key(1), Some(b"http://h/b".as_slice()));
+    flow.over(1);
+    assert_eq!(rt; flow.key(1), None);
+    assert!(rt; flow.get(1).is_none());
+    Ok(())
+}
+
+/// So many bytes come, where as many are still to come.
+fn come(flow: &mut Flow, number: u64, n: u64) {
+    if let Some(left) = flow.to_come(number) {
+        if n <= left {
+            flow.came(number, n);
+        }
+    }
+}
+
+#[test]
+fn there_is_room_for_1024_exchanges(rt: HostRuntime) -> Result<(), OutOfMemory> {
+    let mut flow = Flow::new(rt.alloc())?;
+    for number in 0u64..1024 {
+        assert_eq!(rt; begin(&mut flow, 1, b"http://h/", Aim::Own), Some(number));
+    }
+    assert_eq!(rt; begin(&mut flow, 1, b"http://h/", Aim::Own), None);
+    flow.over(500);
+    assert_eq!(rt; begin(&mut flow, 1, b"http://h/", Aim::Own), Some(1024));
+    assert_eq!(rt; flow.waiting(Some(499)), Some(501));
+    Ok(())
+}
