@@ -1,6 +1,7 @@
 pub mod Agreeing
 pub mod DateLemmas
 pub mod KeptLemmas
+pub mod OneRow
 pub mod Refreshing
 pub mod Search
 pub mod Settling

@@ -98,7 +98,7 @@ line_size f =
       length-map f.0 to_ascii_lowercase,
     )
 
-lines_size : (fs : List Field) → length (lines_of fs) ≡ size_of fs + 4 * length fs
+pub lines_size : (fs : List Field) → length (lines_of fs) ≡ size_of fs + 4 * length fs
 lines_size [] = omega arith
 lines_size (f ∷ fs) = omega (arith, length-append (line_of f) (lines_of fs), line_size f, lines_size fs)
 
@@ -219,3 +219,10 @@ kept_holds fields times a b c d e none zero first small same bytes places second
         places = omega (arith, count, spare_places);
       },
     )
+
+-- the lines of what is renewed, part by part
+pub lines-append : (xs ys : List Field) → length (lines_of (xs ++ ys)) ≡ length (lines_of xs) + length (lines_of ys)
+lines-append xs ys = omega (arith, lines_size (xs ++ ys), lines_size xs, lines_size ys, size_of-append xs ys, length-append xs ys)
+
+pub lines_none : (xs : List Field) → length (lines_of xs) ≡ 0 → length xs ≡ 0
+lines_none xs e = omega (arith, lines_size xs, e)

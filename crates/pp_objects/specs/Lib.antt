@@ -4,5 +4,6 @@ pub mod Dates
 pub mod Inside
 pub mod Instances
 pub mod Kept
+pub mod OneRow
 pub mod Texts
 pub mod Views

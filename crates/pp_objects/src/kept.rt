@@ -4,6 +4,7 @@ ghost use Rattle.pp_objects.specs.Kept.{has_room, kept_of, refreshed_of};
 
 use crate::choice::Choice;
 use crate::renewal::{put_chosen, put_refreshed, put_renewal};
+use crate::room::RENEWED_ROOM;
 use crate::text::KeptText;
 use pp_fresh::Times;
 use pp_text::{Fields, OutOfMemory};
@@ -11,10 +12,7 @@ use std::alloc::Global;
 use std::marker::Model;
 use std::mem;
 
-/// The room for the bytes of the fields that a later response renews.
-const RENEWED_ROOM: usize = 2048;
-
-/// The room for these fields: each has a line of at least 8 bytes.
+/// The fields of so many lines: each has at least 8 bytes.
 const RENEWED_PLACES: usize = 256;
 
 /// The fields that are kept of the responses of a version, and a second text of the same room, into which a

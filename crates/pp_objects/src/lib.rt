@@ -19,6 +19,7 @@ mod id; // which instance is meant
 mod kept; // the fields of a row, and the room for a refresh
 mod objects; // the instances, and the order of their use
 mod renewal; // what a response renews
+mod room; // how many bytes are renewed
 mod row; // one instance
 mod text; // fields in one text, with room for more
 

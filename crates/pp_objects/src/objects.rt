@@ -15,6 +15,7 @@ ghost use Rattle.pp_objects.specs.Views.{ShowsRow};
 
 use crate::id::ObjectId;
 use crate::kept::KeptFields;
+use crate::room::has_room;
 use crate::row::Row;
 use arrayvec::ArrayVec;
 use pp_fresh::Times;
@@ -153,6 +154,17 @@ impl Objects {
             retired: row.is_retired,
             followers: row.followers,
         })
+    }
+
+    /// Whether what a response renews fits the 2,048 bytes of room for it.
+    pub fn has_room(&self, id: ObjectId, fields: &Fields<'_, '_>, times: Times) -> bool
+        requires { is_there id self.now.instances ≡ true }
+        ensures { result ≡ has_room (fields_at id.slot self.now.instances) fields.now times }
+    {
+        match self.rows.get(id.slot as usize) {
+            Some(row) => has_room(&row.fields.fields(), fields, times),
+            None => false,
+        }
     }
 
     /// Makes the instance the most recently used.

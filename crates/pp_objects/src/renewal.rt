@@ -103,7 +103,7 @@ fn put_second(text: &mut KeptText, came: u64) -> Result<(), OutOfMemory>
 }
 
 /// The date as it was sent. `None` exactly where there is none that can be read.
-fn date_value<'a>(fields: &Fields<'a, '_>) -> Option<&'a [u8]>
+pub(crate) fn date_value<'a>(fields: &Fields<'a, '_>) -> Option<&'a [u8]>
     ensures { option_copied result ≡ date_value fields.now }
 {
     if fields.has_item(b"connection", b"date") {
