@@ -9,7 +9,7 @@ abbrev pub chunks_of : ℕ → ℕ
 chunks_of n = (n + 4095) / 4096
 
 -- where the body stands: behind the head block and the gates, one byte a chunk, rounded up to a multiple of 4,096
-abbrev pub body_at : ℕ → ℕ
+unfoldable pub body_at : ℕ → ℕ
 body_at n = 8192 + (chunks_of n + 4095) / 4096 * 4096
 
 -- a line of this proxy's own

@@ -24,6 +24,7 @@ pub use entry::{Entry, Scratch};
 pub use gates::extent;
 pub use lines::{HEAD_LEN, TooLong};
 pub use read::read_head;
+pub use text::body_at;
 pub use write::write_head;
 
 #[cfg(test)]

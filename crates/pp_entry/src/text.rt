@@ -90,8 +90,9 @@ fn put_own(
     put_number_line(b"X-Polipo-Body-Offset", body_at(n), out)
 }
 
-/// Where the body of this length stands in the file.
-pub(crate) fn body_at(n: u64) -> u64
+/// Where a body of so many bytes stands in its file, as an offset in bytes.
+#[tactic(auto, unfolding(crate::specs::Texts::body_at))]
+pub fn body_at(n: u64) -> u64
     requires { n ≤ 2 ^ 26 }
     ensures { result ≡ body_at n }
 {
