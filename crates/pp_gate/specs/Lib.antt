@@ -1,0 +1,4 @@
+pub mod Files
+pub mod Gate
+pub mod Runs
+pub mod Seal
