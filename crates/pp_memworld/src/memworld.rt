@@ -2,7 +2,7 @@
 ghost use Rattle.std.specs.Prelude.{◌≡◌, ◌<◌, ◌≤◌, ◌+◌, ◌-◌, ◌^◌, [], ◌∷◌, ◌||◌, if◌then◌else◌, IsTrue, length, take, is_err, IfOk, IfSome, OnErr, Ok, Some};
 ghost use Rattle.std.specs.Option.{option_copied};
 ghost use Rattle.std.specs.Result.{result_unwrap_or};
-ghost use Rattle.pp_world.specs.Connections.{IsOpen, side_of};
+ghost use Rattle.pp_world.specs.Connections.{IsOpen, is_open, side_of};
 ghost use Rattle.pp_world.specs.Log.{Appends, AppendsAll, Rises, Told};
 ghost use Rattle.pp_world.specs.Wire.{ConfigCause, IsNewNumber, IsNumbered, IsOnDialled, IsWithin, by_side, close_happening, config_happenings, dial_happening, event_happening, is_wanted, listen_happening, note_happening, print_happening, read_happening, top_after, wait_happenings, write_happening};
 ghost use Rattle.pp_memworld.specs.Calls.{call_number};
@@ -70,7 +70,7 @@ impl MemWorld {
 
     /// Whether a connection of this number was accepted or dialled in this life and is not closed.
     pub fn is_open(&self, id: u64) -> bool
-        ensures { IsTrue result → Told (told_log self.now) (IsOpen id) }
+        ensures { Told (told_log self.now) (λ l. result ≡ is_open id l) }
     {
         self.record.side(id).is_some()
     }
