@@ -1,7 +1,7 @@
 // Origins that answer wrongly, or not at all. The client gets a page, and its connection goes on.
 use pp_play::{
-    Act, Cut, Exchange, GET, PAGE_502, Pace, Part, Step, Wanted, play_failing, unlike, unlike_at,
-    unlike_when_cut, with_repeated,
+    Act, Cut, Exchange, GET, PAGE_502, Pace, Part, Step, Wanted, play, play_failing, unlike,
+    unlike_at, unlike_when_cut, with_repeated,
 };
 use pp_world::{Cause, Decision};
 use std::test::Fail;
@@ -87,32 +87,22 @@ fn a_response_head_that_does_not_end_gets_a_page(rt: HostRuntime) -> Result<(), 
     let alloc = rt.alloc();
     let many_fields = with_repeated(alloc, b"HTTP/1.1 200 OK\r\n", 101, b"a: b\r\n")?;
     let long_field = with_repeated(alloc, b"HTTP/1.1 200 OK\r\na: ", 2048, b"bbbbbbbb")?;
-    let many = [
-        Act::Connect,
-        Act::Say(1, GET),
-        Act::Reach(2),
-        Act::Answer(2, many_fields.as_slice()),
-    ];
-    let long = [
-        Act::Connect,
-        Act::Say(1, GET),
-        Act::Reach(2),
-        Act::Answer(2, long_field.as_slice()),
-    ];
     let heads = [
-        Exchange {
-            name: "101 fields",
-            acts: &many,
-            wanted: FAILED,
-        },
-        Exchange {
-            name: "a long field",
-            acts: &long,
-            wanted: FAILED,
-        },
+        (Pace::Whole, many_fields.as_slice()),
+        (Pace::Bytewise, many_fields.as_slice()),
+        (Pace::Whole, long_field.as_slice()),
     ];
-    assert_eq!(rt; unlike_at(alloc, Pace::Whole, &heads)?.as_str(), "");
-    assert_eq!(rt; unlike_at(alloc, Pace::Bytewise, &heads[..1])?.as_str(), "");
+    for (pace, head) in heads {
+        let acts = [
+            Act::Connect,
+            Act::Say(1, GET),
+            Act::Reach(2),
+            Act::Answer(2, head),
+        ];
+        let played = play(alloc, pace, &acts)?;
+        assert_eq!(rt; played.said(1)?.as_slice(), PAGE_502, "{pace:?}");
+        assert_eq!(rt; played.count(Step::Dropped), 1, "{pace:?}");
+    }
     Ok(())
 }
 

@@ -1,21 +1,15 @@
 // Clients that are lost, within a request, within a reply, or while they wait. Others are served as ever.
-use pp_play::{Act, Exchange, GET, Pace, Part, REPLY, RESPONSE, Step, Wanted, unlike, unlike_at};
+use pp_play::{Act, Exchange, GET, Pace, REPLY, RESPONSE, Step, Wanted, play, unlike};
 use pp_world::Decision;
 use std::test::Fail;
 
 /// A request with a body.
 const PUT: &[u8] = b"PUT http://h/a HTTP/1.1\r\nContent-Length: 3\r\n\r\n";
 
-/// A client that was lost before it asked for anything, and another one that is served.
-const LOST_EARLY: &[Wanted<'static>] = &[
-    Wanted::Course(1, &[Step::Opened, Step::HungUp, Step::Shut, Step::Stopped]),
-    Wanted::Said(2, &[Part::Text(REPLY)]),
-];
-
 #[test]
 fn a_client_that_leaves_in_its_request_is_shut(rt: HostRuntime) -> Result<(), Fail> {
-    for len in 0..PUT.len() {
-        for leave in [Act::HangUp(1), Act::Break(1)] {
+    for leave in [Act::HangUp(1), Act::Break(1)] {
+        for len in 0..PUT.len() {
             let acts = [
                 Act::Connect,
                 Act::Say(1, &PUT[..len]),
@@ -25,16 +19,10 @@ fn a_client_that_leaves_in_its_request_is_shut(rt: HostRuntime) -> Result<(), Fa
                 Act::Reach(3),
                 Act::Answer(3, RESPONSE),
             ];
-            let exchange = [Exchange {
-                name: "",
-                acts: &acts,
-                wanted: LOST_EARLY,
-            }];
-            assert_eq!(rt;
-                unlike_at(rt.alloc(), Pace::Whole, &exchange)?.as_str(),
-                "",
-                "at {len}"
-            );
+            let played = play(rt.alloc(), Pace::Whole, &acts)?;
+            let course = [Step::Opened, Step::HungUp, Step::Shut, Step::Stopped];
+            assert_eq!(rt; played.course(1)?.as_slice(), course.as_slice(), "at {len}");
+            assert_eq!(rt; played.said(2)?.as_slice(), REPLY, "at {len}");
         }
     }
     Ok(())
@@ -55,23 +43,10 @@ fn a_client_that_is_lost_in_its_reply_is_shut(rt: HostRuntime) -> Result<(), Fai
             Act::Reach(4),
             Act::Answer(4, RESPONSE),
         ];
-        let front = [Part::Text(&REPLY[..len])];
-        let wanted = [
-            Wanted::Said(1, &front),
-            Wanted::Count(Step::HungUp, 1),
-            Wanted::Count(Step::Shut, 2),
-            Wanted::Said(3, &[Part::Text(REPLY)]),
-        ];
-        let exchange = [Exchange {
-            name: "",
-            acts: &acts,
-            wanted: &wanted,
-        }];
-        assert_eq!(rt;
-            unlike_at(rt.alloc(), Pace::Whole, &exchange)?.as_str(),
-            "",
-            "at {len}"
-        );
+        let played = play(rt.alloc(), Pace::Whole, &acts)?;
+        assert_eq!(rt; played.said(1)?.as_slice(), &REPLY[..len], "at {len}");
+        assert_eq!(rt; played.count(Step::HungUp), 1, "at {len}");
+        assert_eq!(rt; played.said(3)?.as_slice(), REPLY, "at {len}");
     }
     Ok(())
 }

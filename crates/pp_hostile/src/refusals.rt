@@ -1,6 +1,6 @@
 // Requests that are refused with a page.
 use pp_play::{
-    Act, Exchange, GET, PAGE_400, PAGE_411, PAGE_431, Pace, Part, Step, Wanted, unlike, unlike_at,
+    Act, Exchange, GET, PAGE_400, PAGE_411, PAGE_431, Pace, Part, Step, Wanted, play, unlike,
     with_repeated,
 };
 use pp_world::Decision;
@@ -29,8 +29,6 @@ macro_rules! refused {
 const BAD: &[Wanted<'static>] = refused!(400, PAGE_400, 109);
 
 const NO_LENGTH: &[Wanted<'static>] = refused!(411, PAGE_411, 117);
-
-const TOO_LONG: &[Wanted<'static>] = refused!(431, PAGE_431, 149);
 
 /// A client that says this.
 macro_rules! says {
@@ -197,24 +195,16 @@ fn a_head_that_does_not_end_gets_a_page(rt: HostRuntime) -> Result<(), Fail> {
     let long_field = with_repeated(alloc, b"GET http://h/a HTTP/1.1\r\na: ", 2048, b"bbbbbbbb")?;
     let long_target = with_repeated(alloc, b"GET http://h/", 2048, b"aaaaaaaa")?;
     let heads = [
-        Exchange {
-            name: "101 fields",
-            acts: &[Act::Connect, Act::Say(1, many_fields.as_slice())],
-            wanted: TOO_LONG,
-        },
-        Exchange {
-            name: "a long field",
-            acts: &[Act::Connect, Act::Say(1, long_field.as_slice())],
-            wanted: TOO_LONG,
-        },
-        Exchange {
-            name: "a long target",
-            acts: &[Act::Connect, Act::Say(1, long_target.as_slice())],
-            wanted: TOO_LONG,
-        },
+        (Pace::Whole, many_fields.as_slice()),
+        (Pace::Bytewise, many_fields.as_slice()),
+        (Pace::Whole, long_field.as_slice()),
+        (Pace::Whole, long_target.as_slice()),
     ];
-    assert_eq!(rt; unlike_at(alloc, Pace::Whole, &heads)?.as_str(), "");
-    assert_eq!(rt; unlike_at(alloc, Pace::Bytewise, &heads[..1])?.as_str(), "");
+    for (pace, head) in heads {
+        let played = play(alloc, pace, &[Act::Connect, Act::Say(1, head)])?;
+        assert_eq!(rt; played.said(1)?.as_slice(), PAGE_431, "{pace:?}");
+        assert_eq!(rt; played.count(Step::Shut), 1, "{pace:?}");
+    }
     Ok(())
 }
 

@@ -1,7 +1,7 @@
 // Many clients and connections at once, slow clients, and long bodies.
 use pp_play::{
     Act, Exchange, GET, PAGE_400, PAGE_502, Pace, Part, REPLY, RESPONSE, Step, Wanted, asking,
-    unlike, unlike_at, with_repeated,
+    play, unlike, unlike_at, with_repeated,
 };
 use pp_run::Exit;
 use std::test::Fail;
@@ -109,15 +109,10 @@ fn a_long_reply_streams_through_a_small_buffer(rt: HostRuntime) -> Result<(), Fa
         Act::Window(1, 1_000_000),
         Act::Window(1, 3_000_000),
     ];
-    let said = [Part::Text(reply.as_slice())];
+    let played = play(alloc, Pace::Whole, &acts)?;
+    assert!(rt; played.said(1)?.as_slice() == reply.as_slice());
     // the pipe of a reply, and the response's head
-    let wanted = [Wanted::Said(1, &said), Wanted::MostHeld(16_440)];
-    let exchange = [Exchange {
-        name: "a long reply",
-        acts: &acts,
-        wanted: &wanted,
-    }];
-    assert_eq!(rt; unlike_at(alloc, Pace::Whole, &exchange)?.as_str(), "");
+    assert!(rt; played.most_held() <= 16_440);
     Ok(())
 }
 
@@ -142,18 +137,11 @@ fn a_long_request_streams_through_a_small_buffer(rt: HostRuntime) -> Result<(), 
         Act::Window(2, 3_000_000),
         Act::Answer(2, RESPONSE),
     ];
-    let wanted = [
-        Wanted::Asked(2, ask.as_slice()),
-        Wanted::Said(1, &[Part::Text(REPLY)]),
-        // what may be read ahead of a client, and a part of its body
-        Wanted::MostHeld(24_576),
-    ];
-    let exchange = [Exchange {
-        name: "a long request",
-        acts: &acts,
-        wanted: &wanted,
-    }];
-    assert_eq!(rt; unlike_at(alloc, Pace::Whole, &exchange)?.as_str(), "");
+    let played = play(alloc, Pace::Whole, &acts)?;
+    assert!(rt; played.asked(2)?.as_slice() == ask.as_slice());
+    assert_eq!(rt; played.said(1)?.as_slice(), REPLY);
+    // what may be read ahead of a client, and a part of its body
+    assert!(rt; played.most_held() <= 24_576);
     Ok(())
 }
 
