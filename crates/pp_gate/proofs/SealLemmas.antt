@@ -12,7 +12,7 @@ use Rattle.pp_world.specs.Log.{Log, Told, AppendsAll}
 use Rattle.pp_world.specs.Disk.{Bytes, View, Stored, settled, splice, view_of, Reaches, op_happenings}
 use Rattle.pp_entry.specs.Texts.{body_at, chunks_of}
 use Rattle.pp_gate.specs.Files.{gate, body}
-use Rattle.pp_gate.specs.Gate.{fresh_file}
+use Rattle.pp_gate.specs.Gate.{HoldsJust, fresh_file}
 use Rattle.pp_gate.specs.Runs.{During, RunsOps, EachMoment}
 use Rattle.pp_gate.specs.Seal.{IsKept, KeepsIn, Keeps, IsRun, IsHonest, StaysHonest, seal_ops}
 use Rattle.pp_gate.proofs.Views.{done_view, told_after, told_map, moments, runs_none, runs_more, runs_failed, runs_last}
@@ -274,3 +274,8 @@ fresh_kept block n len le = record {
 
     size : length (take (body_at n) (block ++ replicate 16384 0)) ≡ body_at n
     size = length-take-le (body_at n) (block ++ replicate 16384 0) (omega (arith, body_within n le, length-append block (replicate {A = ℕ} 16384 0), len, length-replicate {A = ℕ} 16384 0))
+
+-- and is what sealing asks for
+pub new_keeps : (log : Option Log) (sent : Bytes → ℕ → ℕ → Bool) (name : Bytes) (block : Bytes) (n : ℕ) → IsKept block n 0 (fresh_file block n) → Told log (HoldsJust name (fresh_file block n)) → Told log (Keeps sent name block n 0)
+new_keeps log sent name block n kept told = told_map log (HoldsJust name (fresh_file block n)) (Keeps sent name block n 0) told
+    (λ l slot. record { bytes = fresh_file block n; slot = slot; kept = kept; holds = λ o lt. absurd (omega (arith, lt)) })

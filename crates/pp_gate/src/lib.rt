@@ -17,3 +17,6 @@ mod sealing; // chunks behind those that are kept
 pub use publishing::publish;
 pub use removing::remove;
 pub use sealing::seal;
+
+#[cfg(test)]
+mod tests; // the operations of each call
