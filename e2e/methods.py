@@ -185,6 +185,21 @@ def what_nobody_reads_of_a_body_is_no_request(world):
 
 
 @case
+def an_origin_that_answers_and_closes_is_heard(world):
+    """It closes with most of the body unread, which makes the system send a reset behind the reply."""
+    world.origin.on("/large", Answer(response(b"too large", status=b"413 Payload Too Large"), then="end", reads_body=False))
+    body = noise(3_000_000)
+    for _ in range(20):
+        with Client() as client:
+            sender = threading.Thread(
+                target=client.say, args=(world.request("/large", length(len(body)), method="POST") + body,), daemon=True
+            )
+            sender.start()
+            client.expect(reply(b"too large", status=b"413 Payload Too Large"), "the refusal")
+            sender.join(10)
+
+
+@case
 def a_client_that_hangs_up_in_its_body_harms_nobody_else(world):
     world.origin.on("/p", Answer(plain(b"hello")))
     world.origin.clear()

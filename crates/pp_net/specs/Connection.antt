@@ -1,7 +1,7 @@
 -- How far a connection comes.
 use Rattle.std.specs.Prelude.{Bool, true, false, cond}
 use Rattle.pp_net.specs.declared.connection.Phase.{Phase}
-use Rattle.pp_net.specs.declared.connection.Phase.TheVariants.{Accepted, Lingering, Dialled, Answered, Reached}
+use Rattle.pp_net.specs.declared.connection.Phase.TheVariants.{Accepted, Lingering, Dialled, Answered, Reached, Broken}
 
 -- it is not closed
 abbrev pub is_open_in : Phase → Bool
@@ -10,6 +10,7 @@ is_open_in (Lingering since) = false
 is_open_in Dialled = true
 is_open_in Answered = true
 is_open_in Reached = true
+is_open_in Broken = true
 
 -- what a report changes that tells, or does not, that the dial is over
 abbrev pub phase_heard : Bool → Phase → Phase
@@ -18,3 +19,4 @@ phase_heard is_told (Lingering since) = Lingering since
 phase_heard is_told Dialled = cond is_told Answered Dialled
 phase_heard is_told Answered = Answered
 phase_heard is_told Reached = Reached
+phase_heard is_told Broken = Broken

@@ -1,5 +1,5 @@
 // One connection: its socket, whose it is and how far it came, and what the system told of it.
-ghost use Rattle.std.specs.Prelude.{◌≡◌, ◌<◌, ◌≤◌, ◌&&◌, ◌||◌, ◌==◌, false, length, IfOk};
+ghost use Rattle.std.specs.Prelude.{◌≡◌, ◌⊎◌, ◌<◌, ◌≤◌, ◌&&◌, ◌||◌, ◌==◌, false, length, IfOk};
 ghost use Rattle.pp_world.specs.Wire.{IsWithin};
 ghost use Rattle.pp_net.specs.Connection.{is_open_in, phase_heard};
 ghost use Rattle.std.specs.Bool.{OnTrue};
@@ -28,6 +28,7 @@ const DRAIN_READS: u32 = 64;
 /// Accepted -> Lingering   it is closed, and the client may still send       [linger]
 /// Dialled  -> Answered    the system tells how the dial went                [hear]
 /// Answered -> Reached     it went well                                      [reach]
+/// Reached  -> Broken      a write failed                                    [write]
 /// ```
 #[derive(Clone, Copy, Debug, PartialEq, Eq)]
 pub enum Phase {
@@ -41,6 +42,8 @@ pub enum Phase {
     Answered,
     /// An origin.
     Reached,
+    /// An origin that takes no more. What it sent before can still be read, and its end is a fault.
+    Broken,
 }
 
 /// The two ways of a connection.
@@ -66,8 +69,11 @@ impl Connection {
     {
         let readiness = match phase {
             Phase::Accepted => Readiness::UNTRIED,
-            Phase::Lingering(_) | Phase::Dialled | Phase::Answered | Phase::Reached =>
-                Readiness::NONE,
+            Phase::Lingering(_)
+            | Phase::Dialled
+            | Phase::Answered
+            | Phase::Reached
+            | Phase::Broken => Readiness::NONE,
         };
         Connection {
             id,
@@ -136,6 +142,9 @@ impl Connection {
         ensures id { self.new.id ≡ self.old.id }
     {
         match self.stream.read(buf) {
+            Ok(0) if self.phase == Phase::Broken => Err(io::Error::from(
+                ErrorKind::ConnectionReset,
+            )),
             Ok(0) => Ok(Got::End),
             Ok(taken) => {
                 self.readiness.after_read(taken, buf.len());
@@ -150,9 +159,11 @@ impl Connection {
         }
     }
 
+    /// An origin may answer and close before it took the whole ask: a write that fails takes nothing, and
+    /// what came before is read first.
     pub fn write(&mut self, bytes: &[u8]) -> io::Result<usize>
         ensures within { IfOk result (λ taken. taken ≤ length bytes.now) }
-        ensures phase { self.new.phase ≡ self.old.phase }
+        ensures phase { (self.new.phase ≡ self.old.phase) ⊎ (self.new.phase ≡ Phase.Broken) }
         ensures id { self.new.id ≡ self.old.id }
     {
         match self.stream.write(bytes) {
@@ -165,6 +176,11 @@ impl Connection {
                 Ok(0)
             }
             Err(e) if e.kind() == ErrorKind::Interrupted => Ok(0),
+            Err(_) if matches!(self.phase, Phase::Reached | Phase::Broken) => {
+                self.phase = Phase::Broken;
+                self.readiness.write = false;
+                Ok(0)
+            }
             Err(e) => Err(e),
         }
     }
@@ -188,7 +204,8 @@ impl Connection {
     {
         match self.phase {
             Phase::Lingering(since) => now.abs_diff(since) >= LINGER_SECONDS || self.drain(),
-            Phase::Accepted | Phase::Dialled | Phase::Answered | Phase::Reached => false,
+            Phase::Accepted | Phase::Dialled | Phase::Answered | Phase::Reached | Phase::Broken =>
+                false,
         }
     }
 
