@@ -1,5 +1,5 @@
 -- Whatever is called, a key has at most one row.
-use Rattle.std.proofs.Common.{ℕ, ◌+◌, ◌≤◌, ◌≡◌, Bool, true, false, ◌==◌, ◌&&◌, not, cond, List, [], ◌∷◌, ◌++◌, filter, map, arith, refl, sym, ◌∙◌, ap, subst, Option, Some, None, ◌⊎◌, inl, inr}
+use Rattle.std.proofs.Common.{ℕ, ◌+◌, ◌≤◌, ◌≡◌, Bool, true, false, ◌==◌, not, cond, List, [], ◌∷◌, ◌++◌, filter, arith, refl, sym, ◌∙◌, ap, subst, Option, Some, None}
 use Rattle.std.specs.Prelude.{count_by, bytes_eq}
 use Rattle.std.specs.List.{find}
 use Rattle.std.proofs.lemmas.Grind.{common_steps}
@@ -9,7 +9,7 @@ use Rattle.pp_valid.specs.declared.version.Version.{Version}
 use Rattle.pp_fresh.specs.declared.aging.Times.{Times}
 use Rattle.pp_objects.specs.declared.id.ObjectId.{ObjectId}
 use Rattle.pp_objects.specs.Instances.{Instance, is_in_slot, is_row_of, row_of}
-use Rattle.pp_objects.specs.Changes.{changed_in, without_slot, is_elsewhere, marked, followed, left, left_from, is_last, refreshed, retired, retired_from, settled, new_row, face, faces}
+use Rattle.pp_objects.specs.Changes.{changed_in, without_slot, is_elsewhere, marked, left, left_from, is_last, retired, retired_from, settled, new_row, face, faces}
 use Rattle.pp_objects.specs.OneRow.{HasOneRow}
 
 abbrev rows : List ℕ → List Instance → ℕ

@@ -1,4 +1,4 @@
-use Rattle.std.proofs.Common.{◌≡◌, ◌+◌, ◌*◌, ◌∷◌, [], ℕ, List, length, codes, arith, refl, sym, ◌∙◌, ap}
+use Rattle.std.proofs.Common.{◌≡◌, ◌+◌, ◌∷◌, [], ℕ, List, length, codes, arith, refl, ◌∙◌, ap}
 use Rattle.pp_text.specs.Fields.{Field}
 use Rattle.pp_text.specs.Lines.{lines_of}
 use Rattle.pp_objects.proofs.DateLemmas.{date_line}

@@ -1,4 +1,4 @@
-use Rattle.std.proofs.Common.{◌≡◌, List, None, Some, refl, sym, ◌∙◌, ap}
+use Rattle.std.proofs.Common.{List, Some, sym, ◌∙◌, ap}
 use Rattle.pp_text.specs.Fields.{Field}
 use Rattle.pp_objects.specs.Instances.{fields_of}
 use Rattle.pp_objects.specs.Kept.{has_room}
