@@ -12,3 +12,6 @@
 mod room; // one victim
 
 pub use room::{Victim, make_room};
+
+#[cfg(test)]
+mod tests; // worked evictions
