@@ -175,9 +175,23 @@ const CUT_LENGTH: &Cut<'static> = &Cut {
     page: PAGE_502,
 };
 
+/// All of it counts as the head: wherever it is lost, the page is said.
+const CUT_CODING: &Cut<'static> = &Cut {
+    request: GET,
+    interim: b"",
+    head: b"HTTP/1.1 200 OK\r\nTransfer-Encoding: gzip, chunked\r\n\r\n5\r\nhello\r\n0\r\n\r\n",
+    body: b"",
+    reply_head: b"",
+    data: Part::Text(b""),
+    is_ended_by_end: false,
+    page: PAGE_502,
+};
+
 #[test]
 fn an_origin_may_be_lost_behind_each_byte(rt: HostRuntime) -> Result<(), Fail> {
-    assert_eq!(rt; unlike_when_cut(rt.alloc(), CUT_LENGTH)?.as_str(), "");
+    for cut in [CUT_LENGTH, CUT_CODING] {
+        assert_eq!(rt; unlike_when_cut(rt.alloc(), cut)?.as_str(), "");
+    }
     Ok(())
 }
 
