@@ -129,7 +129,7 @@ fn count_read<W: World>(world: &mut W, id: u64, buf: &mut [u8]) -> Result<usize,
     ensures within { IfOk result (λ n. n ≤ length buf.new) }
     ensures top { W.top world.new ≡ W.top world.old }
 {
-    match world.read(id, buf)? {
+    match Wire::read(world, id, buf)? {
         Got::Bytes(n) => {
             prove!(n <= buf.len());
             Ok(n)

@@ -6,7 +6,7 @@ ghost use Rattle.pp_world.specs.Connections.{IsOpen};
 ghost use Rattle.pp_world.specs.Log.{Appends, AppendsAll, Rises, Told};
 ghost use Rattle.pp_world.specs.Wire.{ConfigCause, IsNewNumber, IsNumbered, IsOnDialled, IsWithin, close_happening, config_happenings, dial_happening, is_wanted, listen_happening, note_happening, print_happening, read_happening, top_after, wait_happenings, write_happening};
 
-use crate::{Event, Got, Note, Wants};
+use crate::{Disk, Event, Got, Note, Wants};
 use pp_text::Octets;
 use std::alloc::Global;
 
@@ -117,8 +117,8 @@ pub trait Wire: Logged {
         ensures top { Self.top self.new ≡ Self.top self.old };
 }
 
-/// All that the proxy runs over. It is a `Wire` alone; once the proxy keeps files it is `Wire` and
-/// `Disk` together, here and in the blanket `impl`, and whoever asks for a `World` stays as it is.
-pub trait World: Wire {}
+/// All that the proxy runs over: connections, the clock, the console, and a folder of files. Both
+/// have a `read` and a `write`, which a caller over a `World` names by its trait.
+pub trait World: Wire + Disk {}
 
-impl<W: Wire> World for W {}
+impl<W: Wire + Disk> World for W {}
