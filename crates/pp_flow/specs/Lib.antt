@@ -1,3 +1,4 @@
 pub mod Changes
+pub mod Coming
 pub mod Entries
 pub mod Inside

@@ -12,6 +12,7 @@
 //! place an exchange gets is for `pp_peers`, what its bytes are for `pp_objects`.
 #![tactic(auto)]
 
+mod coming; // what the exchanges bring to an instance
 mod entry; // an exchange and its key
 mod flow; // the exchanges that are there
 mod lists; // a list of exchanges
