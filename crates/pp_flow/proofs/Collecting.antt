@@ -1,5 +1,5 @@
 -- What the exchanges bring, list by list.
-use Rattle.std.proofs.Common.{◌≡◌, ◌<◌, ◌≤◌, ◌+◌, ◌-◌, ℕ, zero, suc, Bool, true, false, cond, List, [], ◌∷◌, ◌++◌, insert, drop, length, get_or, refl, sym, ◌∙◌, ap, arith, Option, Some, None, nat_lt, if◌then◌else◌}
+use Rattle.std.proofs.Common.{◌≡◌, ◌<◌, ◌+◌, ℕ, zero, suc, Bool, true, false, cond, List, [], ◌∷◌, ◌++◌, insert, drop, length, get_or, refl, sym, ◌∙◌, ap, arith, Option, Some, None, nat_lt, if◌then◌else◌}
 use Rattle.std.specs.Prelude.{◌==◌, map, IsSomeAnd}
 use Rattle.std.specs.List.{cons_option, filter_map}
 use Rattle.std.specs.Option.{option_to_list}

@@ -1,5 +1,5 @@
 -- What the exchanges bring to an instance (ours: no rule of the standards).
-use Rattle.std.specs.Prelude.{ℕ, suc, ◌+◌, ◌-◌, ◌%◌, ◌/◌, ◌≡◌, ◌≤◌, ◌<◌, Bool, true, false, ◌==◌, ◌&&◌, ◌||◌, nat_lt, if◌then◌else◌, List, [], ◌∷◌, ◌++◌, map, bytes_eq, Option, Some, None, option_map}
+use Rattle.std.specs.Prelude.{ℕ, suc, ◌+◌, ◌-◌, ◌%◌, Bool, true, false, ◌==◌, ◌&&◌, ◌||◌, nat_lt, if◌then◌else◌, List, [], ◌∷◌, ◌++◌, map, bytes_eq, Option, Some, None, option_map}
 use Rattle.std.specs.List.{filter_map}
 use Rattle.pp_holes.specs.Cells.{Table, is_in_memory}
 use Rattle.pp_objects.specs.declared.id.ObjectId.{ObjectId}

@@ -97,20 +97,30 @@ fn version(rt: &impl Abort, tag: &[u8], length: u64) -> Version {
 
 const NONE: (u64, u64) = (0, 0);
 
+/// To ask for a hole of the version with this tag and length.
+fn hole(rt: &impl Abort, tag: &[u8], length: u64, from: u64, to: u64) -> Aim {
+    Aim::Hole(version(rt, tag, length), from, to)
+}
+
 #[test]
 fn a_hole_that_is_asked_for_comes_to_the_instance_of_its_key_and_tag(rt: HostRuntime) {
     let mut cache = Cache::new(&rt, rt.alloc());
     let id = cache.settle(&rt, rt.alloc());
-    let x = version(&rt, b"\"x\"", LENGTH);
-    let y = version(&rt, b"\"y\"", LENGTH);
-    let longer = version(&rt, b"\"x\"", LENGTH + 1);
     let cases: [(&[u8], Aim, (u64, u64)); 7] = [
-        (b"http://h/b", Aim::Hole(x, 4096, 8192), (4096, 8192)),
+        (
+            b"http://h/b",
+            hole(&rt, b"\"x\"", LENGTH, 4096, 8192),
+            (4096, 8192),
+        ),
         // The ask names the tag alone (RFC 7233, section 3.2).
-        (b"http://h/b", Aim::Hole(longer, 4096, 8192), (4096, 8192)),
-        (b"http://h/b", Aim::Hole(y, 4096, 8192), NONE),
-        (b"http://h/c", Aim::Hole(x, 4096, 8192), NONE),
-        (b"http://h/b", Aim::Hole(x, 8192, 8192), NONE),
+        (
+            b"http://h/b",
+            hole(&rt, b"\"x\"", LENGTH + 1, 4096, 8192),
+            (4096, 8192),
+        ),
+        (b"http://h/b", hole(&rt, b"\"y\"", LENGTH, 4096, 8192), NONE),
+        (b"http://h/c", hole(&rt, b"\"x\"", LENGTH, 4096, 8192), NONE),
+        (b"http://h/b", hole(&rt, b"\"x\"", LENGTH, 8192, 8192), NONE),
         (b"http://h/b", Aim::Own, NONE),
         (b"http://h/b", Aim::Pass, NONE),
     ];
@@ -165,14 +175,13 @@ fn what_is_still_to_come_of_a_body_comes_where_it_can_join(rt: HostRuntime) {
 fn spans_come_in_the_order_of_the_beginnings(rt: HostRuntime) {
     let mut cache = Cache::new(&rt, rt.alloc());
     let id = cache.settle(&rt, rt.alloc());
-    let x = version(&rt, b"\"x\"", LENGTH);
     let mut flow = Flow::new(rt.alloc()).expect(&rt, "no memory");
     let aims: [Aim; 5] = [
-        Aim::Hole(x, 100, 101),
+        hole(&rt, b"\"x\"", LENGTH, 100, 101),
         Aim::Own,
-        Aim::Hole(x, 102, 103),
+        hole(&rt, b"\"x\"", LENGTH, 102, 103),
         Aim::Pass,
-        Aim::Hole(x, 104, 105),
+        hole(&rt, b"\"x\"", LENGTH, 104, 105),
     ];
     for aim in aims {
         let _ = begin(&mut flow, 7, b"http://h/b", aim);
