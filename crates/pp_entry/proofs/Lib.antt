@@ -1,4 +1,5 @@
 pub mod LineLemmas
 pub mod Parts
 pub mod PlaceLemmas
+pub mod RoundTrip
 pub mod SpellingLemmas
