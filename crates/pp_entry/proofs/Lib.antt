@@ -1,3 +1,4 @@
+pub mod AnyCase
 pub mod LineLemmas
 pub mod Parts
 pub mod PlaceLemmas

@@ -81,7 +81,7 @@ slot-found : (s : ℕ) (is : List Instance) (i : Instance) → in_slot s is ≡ 
 slot-found s [] i found = absurd (cc found)
 slot-found s (x ∷ is) i found = slot-by (x.slot == s) s x i (in_slot s is) refl found (slot-found s is i)
 
-id-same : (a b : ObjectId) → a.slot ≡ b.slot → a.life ≡ b.life → a ≡ b
+pub id-same : (a b : ObjectId) → a.slot ≡ b.slot → a.life ≡ b.life → a ≡ b
 id-same a b slot life =
     let id : ℕ → ℕ → ObjectId = λ s l. record { slot = s; life = l } in
     ap (λ (s : ℕ). id s a.life) slot ∙ ap (id b.slot) life

@@ -23,12 +23,12 @@ abbrev pub target_of : Instance → Target
 target_of i = record { id = id_of i; key = i.key; tag = i.version.tag; table = table_of i }
 
 -- an offset of the instance that is in memory
-abbrev pub is_there : Table → ℕ → Bool
-is_there t o = nat_lt o t.total && is_in_memory t.cells o
+abbrev pub has_offset : Table → ℕ → Bool
+has_offset t o = nat_lt o t.total && is_in_memory t.cells o
 
 -- a byte joins the instance where it begins a chunk, or follows an offset in memory
 abbrev pub joins_at : Table → ℕ → Bool
-joins_at t o = (o % 4096 == 0) || is_there t (o - 1)
+joins_at t o = (o % 4096 == 0) || has_offset t (o - 1)
 
 abbrev pub next_chunk : ℕ → ℕ
 next_chunk o = o - o % 4096 + 4096

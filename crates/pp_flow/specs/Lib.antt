@@ -1,3 +1,4 @@
+pub mod Brings
 pub mod Changes
 pub mod Coming
 pub mod Entries

@@ -1,7 +1,8 @@
 // The exchanges that are there.
-ghost use Rattle.std.specs.Prelude.{◌≡◌, ◌+◌, ◌<◌, ◌≤◌, ◌++◌, ◌∷◌, [], length, option_map, option_copied, slice_get, true, is_some, option_and_then, vec_capacity, IfOk, IsSomeAnd};
-ghost use Rattle.std.specs.List.{find};
+ghost use Rattle.std.specs.Prelude.{◌≡◌, ◌+◌, ◌<◌, ◌≤◌, ◌++◌, ◌∷◌, [], length, option_map, option_copied, slice_get, true, is_some, option_and_then, vec_capacity, ◌↔◌, ℕ, IfOk, IsSomeAnd, IsTrue};
+ghost use Rattle.std.specs.List.{find, list_any};
 ghost use Rattle.pp_objects.specs.Instances.{in_slot, is_there};
+ghost use Rattle.pp_flow.specs.Brings.{IsBrought, covers};
 ghost use Rattle.pp_flow.specs.Coming.{coming, target_of};
 ghost use Rattle.pp_flow.specs.Entries.{begun_with, bound_to, is_number, moved_by, to_come};
 ghost use Rattle.pp_flow.specs.Changes.{changed, entry_of, is_after, line_of, placed_on, unplaced, without};
@@ -207,13 +208,14 @@ impl Flow {
         first_after(&self.waiting, after)
     }
 
-    /// The spans of offsets that the exchanges bring to an instance, in the order of their beginnings; one
-    /// that brings nothing has none. What is still to come for it comes where it can join: not in a chunk
-    /// of which bytes before it are missing. Walks the exchanges, and for each span those before it.
+    /// The spans of offsets that the exchanges bring to an instance, in the order of their beginnings. One that
+    /// is bound to it brings what will join of what is still to come; before its final head came, one that asks
+    /// for a hole of its key and tag brings that hole. Walks the exchanges, and the spans that it finds.
     pub fn coming(&self, objects: &Objects, id: ObjectId, out: &mut ArrayVec<(u64, u64), 1024>)
         requires there { is_there id objects.now.instances ≡ true }
         requires empty { out.old.items ≡ [] }
-        ensures { IsSomeAnd (in_slot id.slot objects.now.instances) (λ i. out.new.items ≡ coming (target_of i) self.now) }
+        ensures spans { IsSomeAnd (in_slot id.slot objects.now.instances) (λ i. out.new.items ≡ coming (target_of i) self.now) }
+        ensures brings { IsSomeAnd (in_slot id.slot objects.now.instances) (λ i. (o : ℕ) → IsTrue (list_any (covers o) out.new.items) ↔ IsBrought (target_of i) self.now o) }
     {
         let Some(row) = objects.row(id) else {
             return;
