@@ -5,6 +5,7 @@ use Rattle.std.specs.List.{cons_option, filter_map}
 use Rattle.std.specs.Option.{option_to_list}
 use Rattle.std.specs.Global.{Box}
 use Rattle.std.proofs.lemmas.Bool.{eqb-true}
+use Rattle.std.proofs.lemmas.List.Elements.{filter_map-append}
 use Rattle.pp_valid.specs.declared.version.Version.{Version}
 use Rattle.pp_holes.specs.Cells.{Table}
 use Rattle.pp_objects.specs.declared.id.ObjectId.{ObjectId}
@@ -50,15 +51,6 @@ pub all-entered-both : (xs ys done : List Brought) → all_entered (xs ++ ys) do
 all-entered-both [] ys done = refl
 all-entered-both (x ∷ xs) ys done = all-entered-both xs ys (entered x done)
 
-filter_map-append : (t : Target) (es fs : List Entry) → filter_map (brought t) (es ++ fs) ≡ filter_map (brought t) es ++ filter_map (brought t) fs
-filter_map-append t [] fs = refl
-filter_map-append t (e ∷ es) fs = first (brought t e) (filter_map-append t es fs)
-  where
-    first : (o : Option Brought) → filter_map (brought t) (es ++ fs) ≡ filter_map (brought t) es ++ filter_map (brought t) fs
-        → cons_option o (filter_map (brought t) (es ++ fs)) ≡ cons_option o (filter_map (brought t) es) ++ filter_map (brought t) fs
-    first None is = is
-    first (Some b) is = ap (λ (bs : List Brought). b ∷ bs) is
-
 -- what was found in one list, and then in the other, is what comes
 pub found-in-both : (t : Target) (f : Exchanges) (ws ps : List Entry) (none first both : List Brought) → ws ≡ f.waiting → ps ≡ f.placed
     → none ≡ [] → first ≡ all_entered (filter_map (brought t) ws) none → both ≡ all_entered (filter_map (brought t) ps) first
@@ -71,7 +63,7 @@ found-in-both t f ws ps none first both is_ws is_ps is_none is_first is_both =
     ∙ ap (λ (es : List Entry). all es (all ws [])) is_ps
     ∙ ap (λ (es : List Entry). all f.placed (all es [])) is_ws
     ∙ sym (all-entered-both (filter_map (brought t) f.waiting) (filter_map (brought t) f.placed) [])
-    ∙ ap (λ (bs : List Brought). all_entered bs []) (sym (filter_map-append t f.waiting f.placed)))
+    ∙ ap (λ (bs : List Brought). all_entered bs []) (sym (filter_map-append (brought t) f.waiting f.placed)))
 
 slot-by : (v : Bool) (s : ℕ) (x i : Instance) (later : Option Instance) → (x.slot == s) ≡ v → cond v (Some x) later ≡ Some i → (later ≡ Some i → i.slot ≡ s) → i.slot ≡ s
 slot-by true s x i later same found more = let e : x ≡ i = cc found in ap (λ (j : Instance). j.slot) (sym e) ∙ eqb-true x.slot s same
