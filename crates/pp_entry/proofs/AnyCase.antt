@@ -5,9 +5,10 @@ use Rattle.std.specs.Char.{to_ascii_lowercase, is_ascii_alphanumeric}
 use Rattle.std.specs.List.{list_all, list_any, starts_with}
 use Rattle.std.proofs.lemmas.Bool.Decides.{nat_tests}
 use Rattle.std.proofs.lemmas.List.{length-map}
-use Rattle.std.proofs.lemmas.List.Elements.{All-nil, All-cons, All-head, All-tail}
+use Rattle.std.proofs.lemmas.List.Elements.{All-nil, All-cons, All-head, All-tail, All-weaker}
+use Rattle.std.proofs.lemmas.List.Sums.{AllPass-from_list_all}
 use Rattle.std.proofs.lemmas.Str.Ascii.{lowercase-lowercase}
-use Rattle.httparse.specs.Grammar.{AllPass, is_token_byte, is_value_byte}
+use Rattle.httparse.specs.Grammar.{AllPass, is_token_byte, is_uri_byte, is_value_byte}
 use Rattle.pp_text.specs.Bytes.{lower, trim}
 use Rattle.pp_text.specs.Fields.{Field, is_named, list_items, values_of}
 use Rattle.pp_text.specs.Forwarding.{hop_names, is_connection_token, is_hop_by_hop, is_private}
@@ -21,7 +22,7 @@ use Rattle.pp_entry.specs.Entries.{Row, is_sized, row_at}
 use Rattle.pp_entry.specs.Fields.{are_allowed, is_end_to_end, is_passing, lowered}
 use Rattle.pp_entry.specs.Texts.{fits, head_text, own_lines, padded}
 use Rattle.pp_entry.proofs.LineLemmas.{lines-lowered}
-use Rattle.pp_entry.proofs.RoundTrip.{CanStand, round-trip}
+use Rattle.pp_entry.proofs.RoundTrip.{CanStand, is_solid, round-trip, solid-trimmed}
 use Rattle.pp_entry.proofs.SpellingLemmas.{text-lowered}
 
 lower-lower : (text : List ℕ) → lower (lower text) ≡ lower text
@@ -142,9 +143,8 @@ pub record CanBeKept (row : Row) : Type 0 where
   pub allowed : are_allowed row.fields ≡ true
   -- the tag of a version is the one of its fields (pp_valid), which last
   pub tag : strong_part (tag_of row.fields) ≡ Some row.version.tag
-  -- a key is an absolute URI (pp_target): no control byte, and no blank
-  pub key : AllPass is_value_byte row.key
-  pub key_ends : trim row.key ≡ row.key
+  -- a key of pp_target has the bytes of a target (IsRequestWithin of pp_head), in lower case or not, and a port
+  pub key : AllPass is_uri_byte row.key
   -- the caller tests the length: no other body has an entry
   pub sized : is_sized row.version.length ≡ true
   -- seconds, as the code counts them
@@ -160,14 +160,21 @@ as_kept row = record {
   times = record { request = row.times.response; response = row.times.response; initial = row.times.initial };
 }
 
+uri-value : (b : ℕ) → is_uri_byte b ≡ true → is_value_byte b ≡ true
+uri-value b is = grind (arith, nat_tests)
+
+uri-solid : (b : ℕ) → is_uri_byte b ≡ true → is_solid b ≡ true
+unfolding is_solid
+uri-solid b is = grind (arith, nat_tests)
+
 can-stand : (row : Row) → CanBeKept row → CanStand (as_kept row)
 can-stand row can = record {
   fields = texts-lower row.fields can.fields;
   in_lower_case = lowered-lowered row.fields;
   allowed = allowed-lower row.fields ∙ can.allowed;
   tag = ap strong_part (tag-lower row.fields) ∙ can.tag;
-  key = can.key;
-  key_ends = can.key_ends;
+  key = All-weaker (λ b. is_uri_byte b ≡ true) (λ b. is_value_byte b ≡ true) uri-value row.key can.key;
+  key_ends = solid-trimmed row.key (All-weaker (λ b. is_uri_byte b ≡ true) (λ b. is_solid b ≡ true) uri-solid row.key can.key);
   sized = can.sized;
   response = can.response;
   initial = can.initial;
@@ -188,3 +195,39 @@ pub kept-round-trip : (row : Row) → CanBeKept row → fits row.fields (head_te
 kept-round-trip row can fit =
     ap (λ (t : List ℕ). row_at (padded t)) (sym (kept-text row))
     ∙ round-trip (as_kept row) (can-stand row can) (fits-lower row.fields _ _ (kept-text row) fit)
+
+-- there are such rows
+an_etag : Field
+an_etag = (codes "ETag", codes "\"x\"")
+
+a_lifetime : Field
+a_lifetime = (codes "Cache-Control", codes "max-age=60")
+
+pub a_row : Row
+a_row = record {
+  key = codes "http://h/a";
+  version = record { tag = codes "\"x\""; length = 5 };
+  fields = an_etag ∷ a_lifetime ∷ [];
+  times = record { request = 784111776; response = 784111777; initial = 0 };
+}
+
+literal-text : (f : Field) → 0 < length f.0 → list_all is_token_byte f.0 ≡ true → list_all is_value_byte f.1 ≡ true → trim f.1 ≡ f.1 → IsFieldText f
+literal-text f some name value ends = record {
+  name = (some, AllPass-from_list_all is_token_byte f.0 name);
+  value = AllPass-from_list_all is_value_byte f.1 value;
+  trimmed = ends;
+}
+
+pub a_row-can : CanBeKept a_row
+unfolding a_row an_etag a_lifetime is_token_byte
+a_row-can = record {
+  fields =
+      All-cons IsFieldText an_etag (a_lifetime ∷ []) (literal-text an_etag (omega arith) refl refl refl)
+      (All-cons IsFieldText a_lifetime [] (literal-text a_lifetime (omega arith) refl refl refl) (All-nil IsFieldText));
+  allowed = refl;
+  tag = refl;
+  key = AllPass-from_list_all is_uri_byte (codes "http://h/a") refl;
+  sized = refl;
+  response = omega arith;
+  initial = omega arith;
+}

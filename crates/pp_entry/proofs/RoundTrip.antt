@@ -76,7 +76,8 @@ value-back v is = let ends = trimmed v is in trim_ows_space v ends.front ends.ba
 
 -- ---- numbers
 
-is_solid : ℕ → Bool
+-- not a blank
+unfoldable pub is_solid : ℕ → Bool
 is_solid b = not (is_ows b)
 
 digit-range : (c : ℕ) → digit_value c < 10 → (48 ≤ c) × (c ≤ 57)
@@ -104,8 +105,8 @@ solid-stays (b ∷ v) all = by (is_ows b) (All-head (λ c. is_solid c ≡ true) 
     by true solid = absurd (cc solid)
     by false solid = refl
 
--- digits have no blanks at their ends
-solid-trimmed : (v : List ℕ) → AllPass is_solid v → trim v ≡ v
+-- what has no blanks has none at its ends
+pub solid-trimmed : (v : List ℕ) → AllPass is_solid v → trim v ≡ v
 unfolding trim_ows
 solid-trimmed v all =
     let front : skip_ows v ≡ v = solid-stays v all in
@@ -425,13 +426,13 @@ pub record CanStand (row : Row) : Type 0 where
   -- tokens, and values without blanks at their ends: a head is read with no others (IsResponseWithin of pp_head), and
   -- what pp_objects keeps is of a head, or its own date (RFC 2616, section 14.18)
   pub fields : All IsFieldText row.fields
-  -- `lowered` of what pp_objects keeps, which has the same text
+  -- of a row whose names are in any case, the row that is read back (AnyCase)
   pub in_lower_case : map lowered row.fields ≡ row.fields
   -- pp_valid gives no version to a response whose fields exceed the room, and keeps only what is end-to-end
   pub allowed : are_allowed row.fields ≡ true
   -- the tag of a version is that of its fields, in pp_valid
   pub tag : strong_part (tag_of row.fields) ≡ Some row.version.tag
-  -- a key of pp_target is an absolute URI, which has no blanks
+  -- a key of pp_target has the bytes of a target, none of which is a control byte or a blank
   pub key : AllPass is_value_byte row.key
   pub key_ends : trim row.key ≡ row.key
   -- a body of 1 to 2^26 bytes: the caller tests it, since no other has an entry
