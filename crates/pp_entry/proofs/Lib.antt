@@ -1,4 +1,6 @@
+pub mod AnyCase
 pub mod LineLemmas
 pub mod Parts
 pub mod PlaceLemmas
+pub mod RoundTrip
 pub mod SpellingLemmas

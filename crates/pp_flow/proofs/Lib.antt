@@ -1,2 +1,4 @@
+pub mod Bringing
+pub mod Collecting
 pub mod Entering
 pub mod First

@@ -6,12 +6,14 @@
 //!
 //! To the layer above: two lists of exchanges, those without a place in the order of their beginnings,
 //! and those with one in the order in which they got it, and how many were begun. Each call does to
-//! them what `specs/Changes.antt` says.
+//! them what `specs/Changes.antt` says. `coming` answers which offsets of an instance they bring
+//! (`specs/Brings.antt`).
 //!
 //! Only `Flow::new` takes memory: the room for all exchanges that there may be, and their keys. Which
 //! place an exchange gets is for `pp_peers`, what its bytes are for `pp_objects`.
 #![tactic(auto)]
 
+mod coming; // what the exchanges bring to an instance
 mod entry; // an exchange and its key
 mod flow; // the exchanges that are there
 mod lists; // a list of exchanges

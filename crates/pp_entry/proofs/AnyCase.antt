@@ -1,0 +1,233 @@
+-- What an entry says of a row whose names are in any case: the same row, with its names in lower case.
+use Rattle.std.proofs.Common.{◌≡◌, ◌<◌, ◌+◌, ◌^◌, ℕ, Bool, true, false, cond, ◌&&◌, ◌||◌, not, if◌then◌else◌, List, [], ◌∷◌, length, map, filter, flat_map, codes, refl, sym, ◌∙◌, ap, arith, Some}
+use Rattle.std.specs.Prelude.{nat_lt, nat_le, nat_eq, bytes_eq, All}
+use Rattle.std.specs.Char.{to_ascii_lowercase, is_ascii_alphanumeric}
+use Rattle.std.specs.List.{list_all, list_any, starts_with}
+use Rattle.std.proofs.lemmas.Bool.Decides.{nat_tests}
+use Rattle.std.proofs.lemmas.List.{length-map}
+use Rattle.std.proofs.lemmas.List.Elements.{All-nil, All-cons, All-head, All-tail, All-weaker}
+use Rattle.std.proofs.lemmas.List.Sums.{AllPass-from_list_all}
+use Rattle.std.proofs.lemmas.Str.Ascii.{lowercase-lowercase}
+use Rattle.httparse.specs.Grammar.{AllPass, is_token_byte, is_uri_byte, is_value_byte}
+use Rattle.pp_text.specs.Bytes.{lower, trim}
+use Rattle.pp_text.specs.Fields.{Field, is_named, list_items, values_of}
+use Rattle.pp_text.specs.Forwarding.{hop_names, is_connection_token, is_hop_by_hop, is_private}
+use Rattle.pp_text.specs.Lines.{lines_of}
+use Rattle.pp_text.specs.Lists.{items_of}
+use Rattle.pp_head.specs.Agreement.{IsFieldText}
+use Rattle.pp_valid.specs.EndToEnd.{is_dropped}
+use Rattle.pp_valid.specs.TagStates.{state_in, tag_of}
+use Rattle.pp_valid.specs.Versions.{strong_part}
+use Rattle.pp_entry.specs.Entries.{Row, is_sized, row_at}
+use Rattle.pp_entry.specs.Fields.{are_allowed, is_end_to_end, is_passing, lowered}
+use Rattle.pp_entry.specs.Texts.{fits, head_text, own_lines, padded}
+use Rattle.pp_entry.proofs.LineLemmas.{lines-lowered}
+use Rattle.pp_entry.proofs.RoundTrip.{CanStand, is_solid, round-trip, solid-trimmed}
+use Rattle.pp_entry.proofs.SpellingLemmas.{text-lowered}
+
+lower-lower : (text : List ℕ) → lower (lower text) ≡ lower text
+lower-lower [] = refl
+lower-lower (b ∷ text) = ap (λ (c : ℕ). c ∷ lower (lower text)) (lowercase-lowercase b) ∙ ap (λ (t : List ℕ). to_ascii_lowercase b ∷ t) (lower-lower text)
+
+lowered-lowered : (fs : List Field) → map lowered (map lowered fs) ≡ map lowered fs
+lowered-lowered [] = refl
+lowered-lowered (f ∷ fs) =
+    ap (λ (n : List ℕ). let g : Field = (n, f.1) in g ∷ map lowered (map lowered fs)) (lower-lower f.0)
+    ∙ ap (λ (gs : List Field). lowered f ∷ gs) (lowered-lowered fs)
+
+-- ---- a name in lower case is a token
+
+token-lower : (b : ℕ) → is_token_byte b ≡ true → is_token_byte (to_ascii_lowercase b) ≡ true
+unfolding is_token_byte
+token-lower b token = by (nat_lt b 65) refl (nat_lt b 91) refl
+  where
+    letter : (c : ℕ) → nat_lt c 65 ≡ false → nat_lt c 91 ≡ true → is_ascii_alphanumeric (c + 32) ≡ true
+    letter c low high = grind (arith, nat_tests)
+
+    by : (v : Bool) → nat_lt b 65 ≡ v → (u : Bool) → nat_lt b 91 ≡ u → is_token_byte (cond v b (cond u (b + 32) b)) ≡ true
+    by true low u high = token
+    by false low true high = ap (λ (t : Bool). t || list_any (λ c. nat_eq c (b + 32)) (codes "!#$%&'*+-.^_`|~")) (letter b low high)
+    by false low false high = token
+
+tokens-lower : (name : List ℕ) → AllPass is_token_byte name → AllPass is_token_byte (lower name)
+tokens-lower [] all = All-nil _
+tokens-lower (b ∷ name) all =
+    All-cons (λ c. is_token_byte c ≡ true) (to_ascii_lowercase b) (lower name) (token-lower b (All-head (λ c. is_token_byte c ≡ true) b name all))
+    (tokens-lower name (All-tail (λ c. is_token_byte c ≡ true) b name all))
+
+text-lower : (f : Field) → IsFieldText f → IsFieldText (lowered f)
+text-lower f text = record {
+  name = (omega (arith, text.name.0, length-map f.0 to_ascii_lowercase), tokens-lower f.0 text.name.1);
+  value = text.value;
+  trimmed = text.trimmed;
+}
+
+texts-lower : (fs : List Field) → All IsFieldText fs → All IsFieldText (map lowered fs)
+texts-lower [] all = All-nil _
+texts-lower (f ∷ fs) all =
+    All-cons IsFieldText (lowered f) (map lowered fs) (text-lower f (All-head IsFieldText f fs all)) (texts-lower fs (All-tail IsFieldText f fs all))
+
+-- ---- names are compared but for case
+
+named-lower : (name : List ℕ) (f : Field) → is_named name (lowered f) ≡ is_named name f
+named-lower name f = ap (bytes_eq (lower name)) (lower-lower f.0)
+
+values-lower : (name : List ℕ) (fs : List Field) → values_of name (map lowered fs) ≡ values_of name fs
+values-lower name [] = refl
+values-lower name (f ∷ fs) =
+    ap (λ (b : Bool). map (λ (g : Field). g.1) (if b then lowered f ∷ filter (is_named name) (map lowered fs) else filter (is_named name) (map lowered fs))) (named-lower name f)
+    ∙ by (is_named name f) (values-lower name fs)
+  where
+    by : (b : Bool) → values_of name (map lowered fs) ≡ values_of name fs
+        → map (λ (g : Field). g.1) (if b then lowered f ∷ filter (is_named name) (map lowered fs) else filter (is_named name) (map lowered fs))
+        ≡ map (λ (g : Field). g.1) (if b then f ∷ filter (is_named name) fs else filter (is_named name) fs)
+    by true more = ap (λ (vs : List (List ℕ)). f.1 ∷ vs) more
+    by false more = more
+
+items-lower : (name : List ℕ) (fs : List Field) → list_items name (map lowered fs) ≡ list_items name fs
+items-lower name fs = ap (flat_map items_of) (values-lower name fs)
+
+token-same : (fs : List Field) (f : Field) → is_connection_token (map lowered fs) (lowered f) ≡ is_connection_token fs f
+token-same fs f =
+    ap (λ (t : List ℕ). list_any (λ item. bytes_eq t (lower item)) (list_items (codes "connection") (map lowered fs))) (lower-lower f.0)
+    ∙ ap (list_any (λ item. bytes_eq (lower f.0) (lower item))) (items-lower (codes "connection") fs)
+
+hop-lower : (fs : List Field) (f : Field) → is_hop_by_hop (map lowered fs) (lowered f) ≡ is_hop_by_hop fs f
+hop-lower fs f =
+    ap (λ (t : List ℕ). list_any (λ name. bytes_eq (lower name) t) hop_names || is_connection_token (map lowered fs) (lowered f) || starts_with nat_eq t (codes "x-polipo-")) (lower-lower f.0)
+    ∙ ap (λ (b : Bool). list_any (λ name. is_named name f) hop_names || b || is_private f) (token-same fs f)
+
+all-lower : (all fs : List Field) → list_all (is_end_to_end (map lowered all)) (map lowered fs) ≡ list_all (is_end_to_end all) fs
+all-lower all [] = refl
+all-lower all (f ∷ fs) =
+    ap (λ (b : Bool). not b && list_all (is_end_to_end (map lowered all)) (map lowered fs)) (hop-lower all f)
+    ∙ ap (λ (b : Bool). is_end_to_end all f && b) (all-lower all fs)
+
+passing-lower : (f : Field) → is_passing (lowered f) ≡ is_passing f
+passing-lower f =
+    ap (λ (t : List ℕ). bytes_eq (lower (codes "date")) t || (bytes_eq (lower (codes "expires")) t || bytes_eq (lower (codes "cache-control")) t)) (lower-lower f.0)
+
+lines-same : (fs : List Field) → lines_of (filter is_passing (map lowered fs)) ≡ lines_of (filter is_passing fs)
+lines-same fs = ap lines_of (filtered fs) ∙ lines-lowered (filter is_passing fs)
+  where
+    by : (f : Field) (fs : List Field) (b : Bool) → filter is_passing (map lowered fs) ≡ map lowered (filter is_passing fs)
+        → (if b then lowered f ∷ filter is_passing (map lowered fs) else filter is_passing (map lowered fs)) ≡ map lowered (if b then f ∷ filter is_passing fs else filter is_passing fs)
+    by f fs true more = ap (λ (gs : List Field). lowered f ∷ gs) more
+    by f fs false more = more
+
+    filtered : (fs : List Field) → filter is_passing (map lowered fs) ≡ map lowered (filter is_passing fs)
+    filtered [] = refl
+    filtered (f ∷ fs) =
+        ap (λ (b : Bool). if b then lowered f ∷ filter is_passing (map lowered fs) else filter is_passing (map lowered fs)) (passing-lower f)
+        ∙ by f fs (is_passing f) (filtered fs)
+
+allowed-lower : (fs : List Field) → are_allowed (map lowered fs) ≡ are_allowed fs
+allowed-lower fs =
+    ap (λ (b : Bool). b && nat_le (length (lines_of (filter is_passing (map lowered fs)))) 2048) (all-lower fs fs)
+    ∙ ap (λ (t : List ℕ). list_all (is_end_to_end fs) fs && nat_le (length t) 2048) (lines-same fs)
+
+tag-lower : (fs : List Field) → tag_of (map lowered fs) ≡ tag_of fs
+tag-lower fs =
+    ap (λ (items : List (List ℕ)). state_in (if list_any (λ item. bytes_eq (lower (codes "etag")) (lower item)) items then [] else values_of (codes "etag") (map lowered fs))) (items-lower (codes "connection") fs)
+    ∙ ap (λ (vs : List (List ℕ)). state_in (if is_dropped (codes "etag") fs then [] else vs)) (values-lower (codes "etag") fs)
+
+-- ---- the row
+
+-- a row that an entry can be written of
+pub record CanBeKept (row : Row) : Type 0 where
+  -- tokens, and values without blanks at their ends: pp_head reads no others (its IsResponseWithin), and what
+  -- pp_objects keeps is of a head, or a date of its own (RFC 2616, section 14.18)
+  pub fields : All IsFieldText row.fields
+  -- what is kept of a response that has a version (pp_valid) is end-to-end, and what it renews has at most 2,048
+  -- bytes, at a refresh too (`has_room` of pp_objects)
+  pub allowed : are_allowed row.fields ≡ true
+  -- the tag of a version is the one of its fields (pp_valid), which last
+  pub tag : strong_part (tag_of row.fields) ≡ Some row.version.tag
+  -- a key of pp_target has the bytes of a target (IsRequestWithin of pp_head), in lower case or not, and a port
+  pub key : AllPass is_uri_byte row.key
+  -- the caller tests the length: no other body has an entry
+  pub sized : is_sized row.version.length ≡ true
+  -- seconds, as the code counts them
+  pub response : row.times.response < 2 ^ 64
+  pub initial : row.times.initial < 2 ^ 64
+
+-- as it is read back: its names in lower case, and asked for when the response came
+abbrev pub as_kept : Row → Row
+as_kept row = record {
+  key = row.key;
+  version = row.version;
+  fields = map lowered row.fields;
+  times = record { request = row.times.response; response = row.times.response; initial = row.times.initial };
+}
+
+uri-value : (b : ℕ) → is_uri_byte b ≡ true → is_value_byte b ≡ true
+uri-value b is = grind (arith, nat_tests)
+
+uri-solid : (b : ℕ) → is_uri_byte b ≡ true → is_solid b ≡ true
+unfolding is_solid
+uri-solid b is = grind (arith, nat_tests)
+
+can-stand : (row : Row) → CanBeKept row → CanStand (as_kept row)
+can-stand row can = record {
+  fields = texts-lower row.fields can.fields;
+  in_lower_case = lowered-lowered row.fields;
+  allowed = allowed-lower row.fields ∙ can.allowed;
+  tag = ap strong_part (tag-lower row.fields) ∙ can.tag;
+  key = All-weaker (λ b. is_uri_byte b ≡ true) (λ b. is_value_byte b ≡ true) uri-value row.key can.key;
+  key_ends = solid-trimmed row.key (All-weaker (λ b. is_uri_byte b ≡ true) (λ b. is_solid b ≡ true) uri-solid row.key can.key);
+  sized = can.sized;
+  response = can.response;
+  initial = can.initial;
+  request = refl;
+}
+
+kept-text : (row : Row) → head_text row.key row.version.length (map lowered row.fields) (as_kept row).times ≡ head_text row.key row.version.length row.fields row.times
+unfolding head_text own_lines
+kept-text row = text-lowered row.key row.version.length row.fields row.times
+
+fits-lower : (fs : List Field) (a b : List ℕ) → a ≡ b → fits fs b ≡ true → fits (map lowered fs) a ≡ true
+fits-lower fs a b same fit =
+    ap (fits (map lowered fs)) same ∙ ap (λ (n : ℕ). nat_le n 95 && nat_le (length b) 8192) (length-map fs lowered) ∙ fit
+
+-- what an entry writes of a row is read back as that row, its names in lower case
+pub kept-round-trip : (row : Row) → CanBeKept row → fits row.fields (head_text row.key row.version.length row.fields row.times) ≡ true
+    → row_at (padded (head_text row.key row.version.length row.fields row.times)) ≡ Some (as_kept row)
+kept-round-trip row can fit =
+    ap (λ (t : List ℕ). row_at (padded t)) (sym (kept-text row))
+    ∙ round-trip (as_kept row) (can-stand row can) (fits-lower row.fields _ _ (kept-text row) fit)
+
+-- there are such rows
+an_etag : Field
+an_etag = (codes "ETag", codes "\"x\"")
+
+a_lifetime : Field
+a_lifetime = (codes "Cache-Control", codes "max-age=60")
+
+pub a_row : Row
+a_row = record {
+  key = codes "http://h/a";
+  version = record { tag = codes "\"x\""; length = 5 };
+  fields = an_etag ∷ a_lifetime ∷ [];
+  times = record { request = 784111776; response = 784111777; initial = 0 };
+}
+
+literal-text : (f : Field) → 0 < length f.0 → list_all is_token_byte f.0 ≡ true → list_all is_value_byte f.1 ≡ true → trim f.1 ≡ f.1 → IsFieldText f
+literal-text f some name value ends = record {
+  name = (some, AllPass-from_list_all is_token_byte f.0 name);
+  value = AllPass-from_list_all is_value_byte f.1 value;
+  trimmed = ends;
+}
+
+pub a_row-can : CanBeKept a_row
+unfolding a_row an_etag a_lifetime is_token_byte
+a_row-can = record {
+  fields =
+      All-cons IsFieldText an_etag (a_lifetime ∷ []) (literal-text an_etag (omega arith) refl refl refl)
+      (All-cons IsFieldText a_lifetime [] (literal-text a_lifetime (omega arith) refl refl refl) (All-nil IsFieldText));
+  allowed = refl;
+  tag = refl;
+  key = AllPass-from_list_all is_uri_byte (codes "http://h/a") refl;
+  sized = refl;
+  response = omega arith;
+  initial = omega arith;
+}
