@@ -42,6 +42,10 @@ with_interim r = record r { interim = Left 25 }
 abbrev pub with_begun : Begin → Reply → Reply
 with_begun reply r = record r { stage = Begun reply }
 
+abbrev pub has_begun : Stage → Bool
+has_begun Due = false
+has_begun (Begun reply) = true
+
 -- the first offset is not above the second
 abbrev pub IsBeginning : Begin → Type 0
 IsBeginning Page = ⊤
@@ -141,19 +145,7 @@ is_said r = is_stage_said r.stage r
 
 -- ---- the instance that is read
 
-abbrev pub followed_by : Begin → Option ObjectId
-followed_by Page = None
-followed_by (Instance id next to) = Some id
-followed_by Passed = None
-
-abbrev pub followed_in : Stage → Option ObjectId
-followed_in Due = None
-followed_in (Begun reply) = followed_by reply
-
-abbrev pub followed : Reply → Option ObjectId
-followed r = followed_in r.stage
-
--- "the first of its span that was not said"
+-- the first offset of its span that was not said
 abbrev pub next_in : Begin → Option (ObjectId × ℕ)
 next_in Page = None
 next_in (Instance id next to) = if nat_lt next to then Some (id, next) else None

@@ -6,7 +6,7 @@ ghost use Rattle.pp_objects.specs.Agreement.{AllAgree};
 ghost use Rattle.pp_objects.specs.Instances.{is_there};
 ghost use Rattle.pp_client.specs.Clients.{IsAnswerable, new_client, said_by};
 ghost use Rattle.pp_client.specs.ClientLending.{LendsPass, LendsText};
-ghost use Rattle.pp_client.specs.Replies.{IsBeginning, at_hand, followed, is_piped, left_next, next_byte, with_begun, with_interim};
+ghost use Rattle.pp_client.specs.Replies.{IsBeginning, at_hand, has_begun, is_piped, left_next, next_byte, with_begun, with_interim};
 ghost use Rattle.pp_client.specs.Requests.{body_dropped, body_in, body_taken, current_of, heard_in, room_of};
 ghost use Rattle.pp_client.specs.Shown.{shown};
 
@@ -158,11 +158,19 @@ impl Client {
         self.reply.begin(reply);
     }
 
+    /// Whether the reply to what is current has begun.
+    pub fn has_begun(&self) -> bool
+        ensures { result ≡ has_begun self.now.reply.stage }
+    {
+        self.reply.has_begun()
+    }
+
     /// What is left to be said and at hand, from its front, lent without a copy: the interim answer,
     /// else the head, else what the pool or the pass pipe holds of the body.
     pub fn offer<'a>(&'a self, objects: &'a Objects, pool: &'a Pool) -> &'a [u8]
         requires agrees { AllAgree objects.now.instances pool.now.used }
-        requires there { IfSome (followed self.now.reply) (λ id. is_there id objects.now.instances ≡ true) }
+        requires there { IfSome (next_byte self.now.reply) (λ at. is_there at.0 objects.now.instances ≡ true) }
+        ensures within { length result.now ≤ left_next self.now.reply }
         ensures front { result.now ≡ take (length result.now) (at_hand self.now.reply (chunks_in pool.now.used)) }
         ensures empty { (result.now ≡ []) ↔ (at_hand self.now.reply (chunks_in pool.now.used) ≡ []) }
 

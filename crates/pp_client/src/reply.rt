@@ -4,7 +4,7 @@ ghost use Rattle.std.specs.Borrow.{sem};
 ghost use Rattle.pp_holes.specs.Places.{shown as chunks_in};
 ghost use Rattle.pp_objects.specs.Agreement.{AllAgree};
 ghost use Rattle.pp_objects.specs.Instances.{is_there};
-ghost use Rattle.pp_client.specs.Replies.{IsBeginning, at_hand, body_left, body_said, ended, followed, is_piped, is_said, left_next, next_byte, no_reply, said, with_begun, with_interim};
+ghost use Rattle.pp_client.specs.Replies.{IsBeginning, at_hand, body_left, body_said, ended, has_begun, is_piped, is_said, left_next, next_byte, no_reply, said, with_begun, with_interim};
 ghost use Rattle.pp_client.specs.ReplyLending.{LendsPass, LendsText};
 
 use crate::buffer::Buffer;
@@ -114,7 +114,8 @@ impl Reply {
     /// What is at hand of what stands next.
     pub(crate) fn offer<'a>(&'a self, objects: &'a Objects, pool: &'a Pool) -> &'a [u8]
         requires agrees { AllAgree objects.now.instances pool.now.used }
-        requires there { IfSome (followed self.now) (λ id. is_there id objects.now.instances ≡ true) }
+        requires there { IfSome (next_byte self.now) (λ at. is_there at.0 objects.now.instances ≡ true) }
+        ensures within { length result.now ≤ left_next self.now }
         ensures front { result.now ≡ take (length result.now) (at_hand self.now (chunks_in pool.now.used)) }
         ensures empty { (result.now ≡ []) ↔ (at_hand self.now (chunks_in pool.now.used) ≡ []) }
         ensures all { is_piped self.now ≡ false → result.now ≡ at_hand self.now (chunks_in pool.now.used) }
@@ -176,6 +177,16 @@ impl Reply {
         match self.stage {
             Stage::Begun(Begin::Instance(id, next, to)) if next < to => Some((id, next)),
             _ => None,
+        }
+    }
+
+    /// Whether a reply has begun.
+    pub(crate) fn has_begun(&self) -> bool
+        ensures { result ≡ has_begun self.now.stage }
+    {
+        match self.stage {
+            Stage::Due => false,
+            Stage::Begun(_) => true,
         }
     }
 
