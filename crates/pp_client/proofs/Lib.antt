@@ -1,1 +1,3 @@
+pub mod DroppedLemmas
+pub mod FoundLemmas
 pub mod HeadLemmas

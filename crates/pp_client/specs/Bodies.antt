@@ -1,5 +1,5 @@
 -- What the bytes behind the head of a request are (RFC 2616, section 4.4).
-use Rattle.std.specs.Prelude.{ℕ, ◌-◌, min, List, length, drop, Result, Ok, Err}
+use Rattle.std.specs.Prelude.{ℕ, ◌≡◌, ◌-◌, List, [], ◌∷◌, drop, Result, Ok, Err, ⊤}
 use Rattle.pp_framing.specs.declared.body.BodyRule.{BodyRule}
 use Rattle.pp_framing.specs.declared.body.BodyRule.TheVariants.{Empty, Length, Chunked, ToEnd}
 use Rattle.pp_framing.specs.declared.framing.FramingFault.{FramingFault}
@@ -14,15 +14,11 @@ body_by (Ok Chunked) = Unread 0
 body_by (Ok ToEnd) = Unread 0
 body_by (Err fault) = Over
 
--- how many of the next bytes are dropped, where so many come
-abbrev pub lost : Body → ℕ → ℕ
-lost (Unread n) len = 0
-lost (Dropped n) len = min n len
-lost Over len = len
-
 -- what is kept of the bytes that come
 abbrev pub kept : Body → List ℕ → List ℕ
-kept body bytes = drop (lost body (length bytes)) bytes
+kept (Unread n) bytes = bytes
+kept (Dropped n) bytes = drop n bytes
+kept Over bytes = []
 
 -- once so many bytes came
 abbrev pub later : Body → ℕ → Body
@@ -47,3 +43,17 @@ abbrev pub unwanted : Body → ℕ → Body
 unwanted (Unread n) len = Dropped (n - len)
 unwanted (Dropped n) len = Dropped n
 unwanted Over len = Over
+
+-- nothing is kept before the rest of a body that is dropped, or where no request follows
+abbrev pub IsKept : List ℕ → Body → Type 0
+IsKept [] body = ⊤
+IsKept (b ∷ rest) (Unread n) = ⊤
+IsKept (b ∷ rest) (Dropped n) = n ≡ 0
+IsKept (b ∷ rest) Over = ⊥
+
+-- a body is read only behind a head
+abbrev pub IsIdle : List ℕ → Body → Type 0
+IsIdle [] (Unread n) = ⊥
+IsIdle [] (Dropped n) = ⊤
+IsIdle [] Over = ⊤
+IsIdle (b ∷ head) body = ⊤

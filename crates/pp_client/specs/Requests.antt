@@ -8,7 +8,7 @@ use Rattle.pp_head.specs.Read.{Read, Whole, TooLong, Bad, More}
 use Rattle.pp_head.specs.Request.{Request, request_at}
 use Rattle.pp_client.specs.declared.body.Body.{Body}
 use Rattle.pp_client.specs.declared.body.Body.TheVariants.{Dropped, Over}
-use Rattle.pp_client.specs.Bodies.{body_by, kept, later, shortened, unread, unwanted}
+use Rattle.pp_client.specs.Bodies.{IsIdle, IsKept, body_by, kept, later, shortened, unread, unwanted}
 
 -- what stands at the front of some bytes: nothing; what may become the head of a request; a request, and the
 -- status that its framing is refused with; or no request, and the status of the page
@@ -108,3 +108,9 @@ is_answerable (Refused status) = true
 abbrev pub IsHead : List ℕ → Type 0
 IsHead [] = ⊤
 IsHead (b ∷ head) = (more : List ℕ) → request_at ((b ∷ head) ++ more) ≡ request_at (b ∷ head)
+
+-- what holds of all that is heard
+pub record IsInStep (h : Heard) : Type 0 where
+  pub head : IsHead h.head
+  pub kept : IsKept h.rest h.body
+  pub idle : IsIdle h.head h.body

@@ -1,6 +1,6 @@
 // What the bytes behind the head of the current request are.
-ghost use Rattle.std.specs.Prelude.{◌≡◌, ◌≤◌, min};
-ghost use Rattle.pp_client.specs.Bodies.{body_by, later, lost, shortened, unread, unwanted};
+ghost use Rattle.std.specs.Prelude.{◌≡◌, ◌≤◌, ℕ, List, drop, length, min};
+ghost use Rattle.pp_client.specs.Bodies.{body_by, kept, later, shortened, unread, unwanted};
 
 use pp_framing::{BodyRule, FramingFault};
 
@@ -36,7 +36,7 @@ impl Body {
 
     /// How many of the next bytes are dropped, where so many come.
     pub(crate) fn lost(self, len: usize) -> usize
-        ensures lost { result ≡ lost self len }
+        ensures kept { (bytes : List ℕ) → length bytes ≡ len → drop result bytes ≡ kept self bytes }
         ensures within { result ≤ len }
     {
         match self {

@@ -160,6 +160,7 @@ struct Found {
 /// The request at the front of the bytes, if its head is whole.
 fn find(bytes: &[u8], scratch: &mut Scratch) -> Option<Found>
     ensures found { result ≡ found_in (request_at bytes.now) }
+    ensures some { IfSome result (λ found. 0 < found.len) }
     ensures within { IfSome result (λ found. found.len ≤ length bytes.now) }
     ensures short { IfSome result (λ found. found.len ≤ MAX_BYTES) }
     ensures head { IfSome result (λ found. IsHead (take found.len bytes.now)) }
