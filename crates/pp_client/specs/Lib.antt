@@ -2,6 +2,7 @@ pub mod Bodies
 pub mod ClientLending
 pub mod Clients
 pub mod Found
+pub mod InOrder
 pub mod Inside
 pub mod InsideReply
 pub mod Lending

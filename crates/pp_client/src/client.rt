@@ -1,13 +1,14 @@
 // One client: the calls.
-ghost use Rattle.std.specs.Prelude.{◌≡◌, ◌↔◌, ◌≤◌, [], length, take, true, false, IfOk, IfSome};
+ghost use Rattle.std.specs.Prelude.{◌≡◌, ◌↔◌, ◌≤◌, ◌<◌, ◌++◌, ℕ, List, [], length, take, true, false, IfOk, IfSome};
 ghost use Rattle.std.specs.Borrow.{sem};
 ghost use Rattle.pp_holes.specs.Places.{shown as chunks_in};
 ghost use Rattle.pp_objects.specs.Agreement.{AllAgree};
 ghost use Rattle.pp_objects.specs.Instances.{is_there};
 ghost use Rattle.pp_client.specs.Clients.{IsAnswerable, new_client, said_by};
+ghost use Rattle.pp_client.specs.InOrder.{IsReadInOrder};
 ghost use Rattle.pp_client.specs.ClientLending.{LendsPass, LendsText};
 ghost use Rattle.pp_client.specs.Replies.{IsBeginning, at_hand, has_begun, is_piped, left_next, next_byte, with_begun, with_interim};
-ghost use Rattle.pp_client.specs.Requests.{body_dropped, body_in, body_taken, current_of, heard_in, room_of};
+ghost use Rattle.pp_client.specs.Requests.{answered, body_dropped, body_in, body_taken, current_of, heard_in, room_of};
 ghost use Rattle.pp_client.specs.Shown.{shown};
 
 use crate::current::Current;
@@ -97,14 +98,20 @@ impl Client {
     /// The client sent these bytes.
     pub fn hear(&mut self, bytes: &[u8])
         requires { length bytes.now ≤ room_of self.old.heard }
-        ensures { self.new ≡ record self.old { heard = heard_in bytes.now self.old.heard } }
+        ensures heard { self.new ≡ record self.old { heard = heard_in bytes.now self.old.heard } }
+
+        // What comes in two pieces is heard as what comes at once.
+        ensures pieces { (more : List ℕ) → heard_in (bytes.now ++ more) self.old.heard ≡ heard_in more self.new.heard }
     {
         self.heard.hear(bytes);
     }
 
     /// The current request, or why there is none. Its head is read anew.
     pub fn current<'a, 's>(&'a self, scratch: &'s mut Scratch) -> Current<'a, 's>
-        ensures { shown result ≡ current_of self.now.heard }
+        ensures value { shown result ≡ current_of self.now.heard }
+
+        // Of `heard_in`, `current_of` and `answered`: the requests are those that were sent, in their order.
+        ensures order { (n : ℕ) (sent : List ℕ) → IsReadInOrder n sent }
     {
         self.heard.current(scratch)
     }
@@ -119,7 +126,12 @@ impl Client {
     /// Takes the first of them.
     pub fn body_took(&mut self, n: usize)
         requires { n ≤ length (body_in self.old.heard) }
-        ensures { self.new ≡ record self.old { heard = body_taken n self.old.heard } }
+        ensures taken { self.new ≡ record self.old { heard = body_taken n self.old.heard } }
+
+        // The request stays current, the next one is the same, and what comes later is heard as before.
+        ensures current { current_of self.new.heard ≡ current_of self.old.heard }
+        ensures next { answered self.new.heard ≡ answered self.old.heard }
+        ensures later { (more : List ℕ) → heard_in more self.new.heard ≡ body_taken n (heard_in more self.old.heard) }
     {
         self.heard.body_took(n);
     }
@@ -127,7 +139,12 @@ impl Client {
     /// Nobody reads the rest of the current request's body: what was heard of it is dropped, and what
     /// comes of it will be.
     pub fn drop_body(&mut self)
-        ensures { self.new ≡ record self.old { heard = body_dropped self.old.heard } }
+        ensures dropped { self.new ≡ record self.old { heard = body_dropped self.old.heard } }
+
+        // The request stays current, the next one is the same, and what comes of the body later is dropped.
+        ensures current { current_of self.new.heard ≡ current_of self.old.heard }
+        ensures next { answered self.new.heard ≡ answered self.old.heard }
+        ensures later { (more : List ℕ) → 0 < length self.old.heard.head → heard_in more self.new.heard ≡ body_dropped (heard_in more self.old.heard) }
     {
         self.heard.drop_body();
     }

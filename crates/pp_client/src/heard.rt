@@ -1,5 +1,5 @@
 // The bytes that were heard: the head of the current request, and what stands behind it.
-ghost use Rattle.std.specs.Prelude.{◌≡◌, ◌≤◌, ◌<◌, [], length, take, IfOk, IfSome};
+ghost use Rattle.std.specs.Prelude.{◌≡◌, ◌≤◌, ◌<◌, ◌++◌, ℕ, List, [], length, take, IfOk, IfSome};
 ghost use Rattle.pp_head.specs.Request.{request_at};
 ghost use Rattle.pp_client.specs.Requests.{IsHead, answered, body_dropped, body_in, body_taken, current_of, heard_in, room_of, silent, split_by, with_next};
 ghost use Rattle.pp_client.specs.Found.{found_in};
@@ -66,7 +66,8 @@ impl Heard {
     /// More bytes came.
     pub(crate) fn hear(&mut self, bytes: &[u8])
         requires { length bytes.now ≤ room_of self.old }
-        ensures { self.new ≡ heard_in bytes.now self.old }
+        ensures heard { self.new ≡ heard_in bytes.now self.old }
+        ensures pieces { (more : List ℕ) → heard_in (bytes.now ++ more) self.old ≡ heard_in more self.new }
     {
         let lost = self.body.lost(bytes.len());
         self.rest.put(&bytes[lost..]);
@@ -96,7 +97,10 @@ impl Heard {
     /// The first bytes of it were taken.
     pub(crate) fn body_took(&mut self, n: usize)
         requires { n ≤ length (body_in self.old) }
-        ensures { self.new ≡ body_taken n self.old }
+        ensures taken { self.new ≡ body_taken n self.old }
+        ensures current { current_of self.new ≡ current_of self.old }
+        ensures next { answered self.new ≡ answered self.old }
+        ensures later { (more : List ℕ) → heard_in more self.new ≡ body_taken n (heard_in more self.old) }
     {
         self.rest.took(n);
         self.body = self.body.shortened(n);
@@ -104,7 +108,10 @@ impl Heard {
 
     /// Nobody reads the rest of the current request's body.
     pub(crate) fn drop_body(&mut self)
-        ensures { self.new ≡ body_dropped self.old }
+        ensures dropped { self.new ≡ body_dropped self.old }
+        ensures current { current_of self.new ≡ current_of self.old }
+        ensures next { answered self.new ≡ answered self.old }
+        ensures later { (more : List ℕ) → 0 < length self.old.head → heard_in more self.new ≡ body_dropped (heard_in more self.old) }
     {
         let len = self.rest.len();
         self.rest.took(self.body.here(len));
