@@ -92,8 +92,8 @@ found_first (y ∷ x) (Dropped n) b r is idle whole =
     ∙ ap (λ v. split_by v (of [] ((y ∷ x) ++ b) (Dropped (n - length b)))) (whole_stays (y ∷ x) r whole b)
     ∙ ap (λ h. of h (kept (body_by rule) (drop r.length ((y ∷ x) ++ b))) (body_by rule)) (take-append-le r.length (y ∷ x) b within.within)
     ∙ same_parts (take r.length (y ∷ x))
-        (ap (kept (body_by rule)) (drop-append-le r.length (y ∷ x) b within.within) ∙ kept_more rule (drop r.length (y ∷ x)) b)
-        (sym (later_same rule (length b)))
+    (ap (kept (body_by rule)) (drop-append-le r.length (y ∷ x) b within.within) ∙ kept_more rule (drop r.length (y ∷ x)) b)
+    (sym (later_same rule (length b)))
     ∙ sym (with_next-some (take r.length (y ∷ x)) (kept (body_by rule) (drop r.length (y ∷ x)) ++ kept (body_by rule) b) (later (body_by rule) (length b)) (head_some (y ∷ x) r whole))
 
 read_both : (x : List ℕ) (body : Body) (b : List ℕ) → IsKept x body → IsIdle [] body → (v : Read Request) → request_at x ≡ v

@@ -27,3 +27,6 @@ pub use client::Client;
 pub use current::Current;
 pub use heard::HEARD_LEN;
 pub use reply::Begin;
+
+#[cfg(test)]
+mod tests; // worked exchanges with one client

@@ -9,6 +9,6 @@ pub returns-clause-pieces : goal.returns-clause-pieces
 returns-clause-pieces c =
     let heard : c.find_next.new.self ≡ heard_in c.args.bytes.now c.args.self.now = grind (arith, common_steps) in
     λ more.
-        subst (λ h. heard_in (c.args.bytes.now ++ more) h ≡ heard_in more (heard_in c.args.bytes.now h)) c.self.view_is
-            (heard_in_pieces (heard_as c.self.inside) c.args.bytes.now more c.self.invariant.step)
-        ∙ ap (heard_in more) (sym heard)
+    subst (λ h. heard_in (c.args.bytes.now ++ more) h ≡ heard_in more (heard_in c.args.bytes.now h)) c.self.view_is
+    (heard_in_pieces (heard_as c.self.inside) c.args.bytes.now more c.self.invariant.step)
+    ∙ ap (heard_in more) (sym heard)

@@ -16,10 +16,10 @@ invariant_of-self-2 c =
         head = subst IsHead (ap (take c.in-Some.found.len) c.as_slice.ensures ∙ sym head) c.in-Some.ensures.head;
         kept = subst (λ xs. IsKept xs c.in-Some.found.body) (sym rest)
             (found_kept (request_at c.self.inside.rest) c.in-Some.found (drop c.in-Some.found.len c.self.inside.rest)
-                (c.in-Some.ensures.found ∙ ap (λ xs. found_in (request_at xs)) c.as_slice.ensures));
+            (c.in-Some.ensures.found ∙ ap (λ xs. found_in (request_at xs)) c.as_slice.ensures));
         idle = subst (λ xs. IsIdle xs c.in-Some.found.body) (sym head)
             (some_idle (take c.in-Some.found.len c.self.inside.rest) c.in-Some.found.body
-                (taken_some c.in-Some.found.len c.self.inside.rest c.in-Some.ensures.some (grind (arith, common_steps))));
+            (taken_some c.in-Some.found.len c.self.inside.rest c.in-Some.ensures.some (grind (arith, common_steps))));
       };
       room = grind (arith, common_steps);
     }
