@@ -7,10 +7,10 @@ use pp_framing::{BodyRule, FramingFault};
 /// What comes next of the client.
 ///
 /// ```text
-/// Dropped -> Unread    the head of a request was heard whole                   [of]
-/// Dropped -> Over      the same of one whose body has no length                [of]
-/// Unread  -> Dropped   nobody reads the rest of the body                       [drop_body, took]
-/// Dropped -> Over      what stands is no request, and its page was said        [took]
+/// Dropped -> Unread    the head of a request was heard whole              [hear, took]
+/// Dropped -> Over      the same of one whose body has no length           [hear, took]
+/// Unread  -> Dropped   nobody reads the rest of the body                  [drop_body, took]
+/// Dropped -> Over      what stands is no request, and its page was said   [took]
 /// ```
 #[derive(Clone, Copy, Debug, PartialEq, Eq)]
 pub(crate) enum Body {
