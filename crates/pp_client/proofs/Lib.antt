@@ -1,0 +1,5 @@
+pub mod BodyTaken
+pub mod DroppedLemmas
+pub mod FoundLemmas
+pub mod HeadLemmas
+pub mod ReadInOrder

@@ -1,0 +1,12 @@
+pub mod Bodies
+pub mod ClientLending
+pub mod Clients
+pub mod Found
+pub mod InOrder
+pub mod Inside
+pub mod InsideReply
+pub mod Lending
+pub mod Replies
+pub mod ReplyLending
+pub mod Requests
+pub mod Shown

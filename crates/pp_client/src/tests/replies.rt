@@ -1,0 +1,170 @@
+// What is said: the interim answer, the head, and the body.
+use crate::tests::cache::Cache;
+use crate::tests::talk::{Said, Talk};
+use crate::{Begin, Client};
+use std::test::Fail;
+
+const HEAD: &[u8] = b"HTTP/1.1 200 OK\r\n\r\n";
+
+/// The bytes of an instance from one offset up to another: each tells where it stands.
+fn part(from: u64, to: u64) -> Said {
+    let mut bytes = Said::new();
+    for at in from..to {
+        let _ = bytes.try_push((at % 251) as u8);
+    }
+    bytes
+}
+
+/// The head, and these bytes.
+fn reply(body: &[u8]) -> Said {
+    let mut bytes = Said::new();
+    let _ = bytes.try_extend_from_slice(HEAD);
+    let _ = bytes.try_extend_from_slice(body);
+    bytes
+}
+
+#[test]
+fn the_interim_answer_comes_before_the_reply_and_begins_none(rt: HostRuntime) -> Result<(), Fail> {
+    let request =
+        b"POST /a HTTP/1.1\r\nContent-Length: 3\r\nExpect: 100-continue\r\n\r\n".as_slice();
+    let cache = Cache::new(&rt, rt.alloc());
+    let mut client = Client::new(rt.alloc(), 1, 0)?;
+    let room = client.room();
+    assert!(rt; request.len() <= room);
+    client.hear(request);
+    client.interim();
+    let mut talk = Talk::with(client);
+    let mut said = Said::new();
+    assert_eq!(rt; talk.say(&rt, &cache, 12, &mut said), 12);
+    assert!(rt; !talk.client.has_begun());
+    talk.begin(&rt, HEAD, Begin::Page);
+    // What is offered does not reach past the interim answer.
+    assert_eq!(rt; talk.say(&rt, &cache, 100, &mut said), 13);
+    assert_eq!(rt; talk.say(&rt, &cache, 100, &mut said), 19);
+    assert_eq!(rt;
+        said.as_slice(),
+        b"HTTP/1.1 100 Continue\r\n\r\nHTTP/1.1 200 OK\r\n\r\n".as_slice()
+    );
+    assert_eq!(rt; talk.status(), 0);
+    Ok(())
+}
+
+#[test]
+fn a_page_is_said_in_odd_pieces(rt: HostRuntime) {
+    let cache = Cache::new(&rt, rt.alloc());
+    for most in [1, 2, 3, 7, 19, 100] {
+        let mut talk = Talk::new(&rt, rt.alloc());
+        talk.hear(&rt, b"GET /a HTTP/1.1\r\n\r\nGET /b HTTP/1.1\r\n\r\n");
+        talk.begin(&rt, HEAD, Begin::Page);
+        assert!(rt; talk.client.has_begun());
+        assert_eq!(rt; talk.client.next_byte(), None);
+        let said = talk.say_all(&rt, &cache, most);
+        assert_eq!(rt; said.as_slice(), HEAD);
+        assert!(rt; !talk.client.has_begun());
+        assert!(rt; talk.is_at(b"/b"));
+    }
+}
+
+#[test]
+fn a_span_is_lent_over_the_borders_of_chunks(rt: HostRuntime) {
+    let mut cache = Cache::new(&rt, rt.alloc());
+    let id = cache.settle(&rt, 9000);
+    cache.add(&rt, id, 0, part(0, 9000).as_slice());
+    for most in [1000, 4096, 7, 20000] {
+        let mut talk = Talk::new(&rt, rt.alloc());
+        talk.hear(&rt, b"GET /a HTTP/1.1\r\nRange: bytes=4090-8199\r\n\r\n");
+        talk.begin(&rt, HEAD, Begin::Instance(id, 4090, 8200));
+        assert_eq!(rt; talk.client.next_byte(), Some((id, 4090)));
+        let said = talk.say_all(&rt, &cache, most);
+        assert_eq!(rt;
+            said.as_slice(),
+            reply(part(4090, 8200).as_slice()).as_slice()
+        );
+        assert_eq!(rt; talk.client.next_byte(), None);
+        assert_eq!(rt; talk.status(), 0);
+    }
+}
+
+#[test]
+fn each_offer_of_a_span_ends_with_its_chunk_or_with_the_span(rt: HostRuntime) {
+    let mut cache = Cache::new(&rt, rt.alloc());
+    let id = cache.settle(&rt, 9000);
+    cache.add(&rt, id, 0, part(0, 9000).as_slice());
+    let mut talk = Talk::new(&rt, rt.alloc());
+    talk.hear(&rt, b"GET /a HTTP/1.1\r\nRange: bytes=4090-8199\r\n\r\n");
+    talk.begin(&rt, HEAD, Begin::Instance(id, 4090, 8200));
+    let mut said = Said::new();
+    let steps: [(usize, Option<u64>); 4] = [
+        (19, Some(4090)),
+        (6, Some(4096)),
+        (4096, Some(8192)),
+        (8, None),
+    ];
+    for (n, next) in steps {
+        assert_eq!(rt; talk.say(&rt, &cache, 20000, &mut said), n);
+        assert_eq!(rt; talk.client.next_byte().map(|(_, at)| at), next);
+    }
+}
+
+#[test]
+fn a_span_waits_where_its_next_byte_is_not_in_memory(rt: HostRuntime) {
+    let mut cache = Cache::new(&rt, rt.alloc());
+    let id = cache.settle(&rt, 9000);
+    cache.add(&rt, id, 0, part(0, 100).as_slice());
+    let mut talk = Talk::new(&rt, rt.alloc());
+    talk.hear(&rt, b"GET /a HTTP/1.1\r\n\r\n");
+    talk.begin(&rt, HEAD, Begin::Instance(id, 0, 9000));
+    let said = talk.say_all(&rt, &cache, 64);
+    assert_eq!(rt; said.as_slice(), reply(part(0, 100).as_slice()).as_slice());
+    assert_eq!(rt; talk.client.next_byte(), Some((id, 100)));
+    cache.add(&rt, id, 100, part(100, 9000).as_slice());
+    let said = talk.say_all(&rt, &cache, 1000);
+    assert_eq!(rt; said.as_slice(), part(100, 9000).as_slice());
+    assert_eq!(rt; talk.client.next_byte(), None);
+}
+
+#[test]
+fn a_head_without_a_body_ends_the_reply(rt: HostRuntime) {
+    let mut cache = Cache::new(&rt, rt.alloc());
+    let id = cache.settle(&rt, 9000);
+    let mut talk = Talk::new(&rt, rt.alloc());
+    talk.hear(&rt, b"HEAD /a HTTP/1.1\r\n\r\nGET /b HTTP/1.1\r\n\r\n");
+    talk.begin(&rt, HEAD, Begin::Instance(id, 0, 0));
+    assert_eq!(rt; talk.client.next_byte(), None);
+    let said = talk.say_all(&rt, &cache, 5);
+    assert_eq!(rt; said.as_slice(), HEAD);
+    assert!(rt; talk.is_at(b"/b"));
+}
+
+#[test]
+fn a_passed_reply_is_what_its_pipe_brings(rt: HostRuntime) {
+    let cache = Cache::new(&rt, rt.alloc());
+    let mut talk = Talk::new(&rt, rt.alloc());
+    talk.hear(&rt, b"GET /a HTTP/1.1\r\n\r\nGET /b HTTP/1.1\r\n\r\n");
+    talk.client.pass().start(true);
+    talk.put(&rt, b"hello");
+    talk.begin(&rt, HEAD, Begin::Passed);
+    let said = talk.say_all(&rt, &cache, 7);
+    assert_eq!(rt; said.as_slice(), reply(b"5\r\nhello\r\n").as_slice());
+    assert!(rt; talk.is_at(b"/a"));
+    talk.put(&rt, b"you");
+    talk.finish(&rt);
+    let said = talk.say_all(&rt, &cache, 7);
+    assert_eq!(rt; said.as_slice(), b"3\r\nyou\r\n0\r\n\r\n".as_slice());
+    assert!(rt; talk.is_at(b"/b"));
+}
+
+#[test]
+fn a_pipe_that_is_finished_empty_ends_its_reply_at_the_next_call(rt: HostRuntime) {
+    let cache = Cache::new(&rt, rt.alloc());
+    let mut talk = Talk::new(&rt, rt.alloc());
+    talk.hear(&rt, b"GET /a HTTP/1.0\r\n\r\n");
+    talk.client.pass().start(false);
+    talk.begin(&rt, HEAD, Begin::Passed);
+    let said = talk.say_all(&rt, &cache, 100);
+    assert_eq!(rt; said.as_slice(), HEAD);
+    talk.finish(&rt);
+    assert!(rt; talk.is_at(b"/a"));
+    talk.client.took(0);
+    assert_eq!(rt; talk.status(), 0);
+}
