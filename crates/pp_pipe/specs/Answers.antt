@@ -1,6 +1,7 @@
 -- The fields of a response that comes, and what the steps of its reader say of them.
-use Rattle.std.specs.Prelude.{◌≡◌, ℕ, ◌<◌, ◌≤◌, Bool, List, [], ◌++◌, length, drop, vec_capacity, Option, Vec, ⊤}
+use Rattle.std.specs.Prelude.{◌≡◌, ℕ, ◌<◌, ◌≤◌, Bool, List, [], ◌++◌, length, drop, Option, ⊤}
 use Rattle.pp_head.specs.Agreement.{IsResponseWithin}
+use Rattle.pp_head.specs.Limits.{max_bytes}
 use Rattle.pp_head.specs.Read.{Read, Whole, TooLong, Bad, More}
 use Rattle.pp_head.specs.Response.{Response, response_at}
 use Rattle.pp_pipe.specs.Feeding.{IsBodyFed, IsFrontTold, IsHeadFed}
@@ -36,10 +37,11 @@ IsKept text (Body decoder fate) = (response : Response) × (response_at text ≡
 IsKept text Closed = ⊤
 IsKept text Broken = ⊤
 
-pub record IsSound (head : Vec ℕ) (stage : Stage) : Type 0 where
-  pub room : 16384 ≤ vec_capacity head
-  pub short : length head.items ≤ 16384
-  pub kept : IsKept head.items stage
+-- ours: a head has at most 16,384 bytes, for which there is room
+pub record IsSound (head : List ℕ) (capacity : ℕ) (stage : Stage) : Type 0 where
+  pub room : max_bytes ≤ capacity
+  pub short : length head ≤ max_bytes
+  pub kept : IsKept head stage
 
 -- one head more was read
 abbrev pub IsNextTo : Bool → List ℕ → List ℕ → Next → Reading → Type 0

@@ -12,18 +12,18 @@ use Rattle.pp_pipe.specs.declared.step.Step.TheVariants.{Head, Body, End, Bad, I
 
 -- the step, how many bytes it uses, and where it leaves
 pub record IsTold (wanted_step : Step) (wanted_used : ℕ) (wanted_left : Reading) (used : ℕ) (step : Step) (left : Reading) : Type 0 where
-  pub step : step ≡ wanted_step
-  pub used : used ≡ wanted_used
-  pub left : left ≡ wanted_left
+  pub tells : step ≡ wanted_step
+  pub uses : used ≡ wanted_used
+  pub leaves : left ≡ wanted_left
 
 -- ---- in a head
 
 -- the head of a final response came: the bytes through its end are used
 pub record IsHeadTold (response : Response) (place : Place) (rest bytes : List ℕ) (used : ℕ) (step : Step) (left : Reading) : Type 0 where
-  pub step : step ≡ Head
+  pub tells : step ≡ Head
   pub some : 0 < used
-  pub rest : drop used bytes ≡ rest
-  pub left : left ≡ Within response place
+  pub behind : drop used bytes ≡ rest
+  pub leaves : left ≡ Within response place
 
 abbrev pub IsFrontTold : Front → List ℕ → ℕ → Step → Reading → Type 0
 IsFrontTold (Final response rule rest) bytes = IsHeadTold response (first_place rule) rest bytes
@@ -48,7 +48,7 @@ pub record IsRunTold (response : Response) (place : Place) (bytes : List ℕ) (u
   pub some : from < to
   pub within : to ≤ used
   pub body : Continues place bytes (slice_range bytes from to) used next
-  pub left : left ≡ Within response next
+  pub leaves : left ≡ Within response next
 
 -- no data came, and the body goes on
 pub record IsPauseTold (response : Response) (place : Place) (bytes : List ℕ) (used : ℕ) (left : Reading) : Type 0 where
@@ -56,18 +56,18 @@ pub record IsPauseTold (response : Response) (place : Place) (bytes : List ℕ) 
   pub going : state_of next ≡ Going
   pub all : used ≡ length bytes
   pub body : Continues place bytes [] used next
-  pub left : left ≡ Within response next
+  pub leaves : left ≡ Within response next
 
 -- no data came before the body's end
 pub record IsEndTold (response : Response) (place : Place) (bytes : List ℕ) (used : ℕ) (left : Reading) : Type 0 where
   pub body : (more : List ℕ) → read_from place (bytes ++ more) ≡ no_data (Done (drop used bytes ++ more))
-  pub left : left ≡ behind_it (fate_of response)
+  pub leaves : left ≡ behind_it (fate_of response)
 
 -- whatever comes behind these bytes, they are no body
 pub record IsFaultTold (place : Place) (bytes : List ℕ) (used : ℕ) (left : Reading) : Type 0 where
   pub body : (more : List ℕ) → read_from place (bytes ++ more) ≡ no_data NoBody
-  pub used : used ≡ length bytes
-  pub left : left ≡ Broken
+  pub all : used ≡ length bytes
+  pub leaves : left ≡ Broken
 
 abbrev pub IsBodyFed : Response → Place → List ℕ → ℕ → Step → Reading → Type 0
 IsBodyFed response place bytes used Head left = ⊥

@@ -55,6 +55,7 @@ pub(crate) struct Answer {
 }
 
 impl Model for Answer {
+    ghost use Rattle.std.specs.Prelude.{vec_capacity};
     ghost use Rattle.pp_pipe.specs.Reading.{Reading};
     ghost use Rattle.pp_pipe.specs.Answers.{IsSound, reading_of};
 
@@ -62,7 +63,7 @@ impl Model for Answer {
 
     ghost view = { λ a. reading_of a.head.items a.stage };
 
-    ghost invariant = { λ a. IsSound a.head a.stage };
+    ghost invariant = { λ a. IsSound a.head.items (vec_capacity a.head) a.stage };
 }
 
 impl Answer {
