@@ -1,16 +1,19 @@
 -- The fields of a response that comes, and what the steps of its reader say of them.
 use Rattle.std.specs.Prelude.{◌≡◌, ℕ, ◌<◌, ◌≤◌, Bool, List, [], ◌++◌, length, drop, Option, ⊤}
+use Rattle.pp_framing.specs.declared.body.BodyRule.{BodyRule}
 use Rattle.pp_head.specs.Agreement.{IsResponseWithin}
-use Rattle.pp_head.specs.Limits.{max_bytes}
 use Rattle.pp_head.specs.Read.{Read, Whole, TooLong, Bad, More}
 use Rattle.pp_head.specs.Response.{Response, response_at}
-use Rattle.pp_pipe.specs.Feeding.{IsBodyFed, IsFrontTold, IsHeadFed}
-use Rattle.pp_pipe.specs.Front.{fate_of, front_of}
+use Rattle.pp_pipe.specs.Feeding.{IsBodyFed, IsHeadFed}
+use Rattle.pp_pipe.specs.Front.{Front, Unfinished, NoResponse as IsNoResponse, Final as IsFinal, fate_of, front_of}
 use Rattle.pp_pipe.specs.Reading.{Reading, Before, Within, Closed as IsClosed, Broken as IsBroken}
-use Rattle.pp_pipe.specs.declared.answer.Next.{Next}
-use Rattle.pp_pipe.specs.declared.answer.Next.TheVariants.{Interim, Told}
 use Rattle.pp_pipe.specs.declared.answer.Stage.{Stage}
 use Rattle.pp_pipe.specs.declared.answer.Stage.TheVariants.{Head, Body, Closed, Broken}
+use Rattle.pp_pipe.specs.declared.fate.Fate.{Fate}
+use Rattle.pp_pipe.specs.declared.front.Found.{Found}
+use Rattle.pp_pipe.specs.declared.front.Found.TheVariants.{More as FoundMore, Other, Interim, Final}
+use Rattle.pp_pipe.specs.declared.heading.Opening.{Opening}
+use Rattle.pp_pipe.specs.declared.heading.Opening.TheVariants.{More as OpeningMore, NoResponse, Response as OpeningResponse}
 use Rattle.pp_pipe.specs.declared.step.Step.{Step}
 
 -- a head that was read
@@ -37,30 +40,48 @@ IsKept text (Body decoder fate) = (response : Response) × (response_at text ≡
 IsKept text Closed = ⊤
 IsKept text Broken = ⊤
 
--- ours: a head has at most 16,384 bytes, for which there is room
-pub record IsSound (head : List ℕ) (capacity : ℕ) (stage : Stage) : Type 0 where
-  pub room : max_bytes ≤ capacity
-  pub short : length head ≤ max_bytes
-  pub kept : IsKept head stage
+-- ---- heads
 
--- one head more was read
-abbrev pub IsNextTo : Bool → List ℕ → List ℕ → Next → Reading → Type 0
-IsNextTo head_request text bytes (Interim n) left =
-    (0 < n) × (n ≤ length bytes) × (left ≡ Before []) × (front_of head_request (text ++ bytes) ≡ front_of head_request (drop n bytes))
-IsNextTo head_request text bytes (Told used step) left =
-    (used ≤ length bytes) × IsFrontTold (front_of head_request (text ++ bytes)) bytes used step left
+-- the head of a final response ends so many bytes behind what was kept, and is kept now
+pub record IsOpened (head_request : Bool) (text bytes : List ℕ) (used : ℕ) (rule : BodyRule) (fate : Fate) (kept : List ℕ) : Type 0 where
+  pub response : Response
+  pub front : front_of head_request (text ++ bytes) ≡ IsFinal response rule (drop used bytes)
+  pub some : 0 < used
+  pub within : used ≤ length bytes
+  pub head : response_at kept ≡ Whole response
+  pub follows : fate ≡ fate_of response
 
-abbrev pub IsNext : Bool → Reading → List ℕ → Next → Reading → Type 0
-IsNext head_request (Before text) bytes next left = IsNextTo head_request text bytes next left
-IsNext head_request (Within response place) bytes next left = ⊤
-IsNext head_request IsClosed bytes next left = ⊤
-IsNext head_request IsBroken bytes next left = ⊤
+-- a head is not whole, and is kept now
+pub record IsWaiting (head_request : Bool) (text bytes kept : List ℕ) : Type 0 where
+  pub front : front_of head_request (text ++ bytes) ≡ Unfinished kept
+  pub head : response_at kept ≡ More
 
-abbrev pub IsBeforeTold : Bool → Reading → List ℕ → ℕ → Step → Reading → Type 0
-IsBeforeTold head_request (Before text) bytes used step left = IsFrontTold (front_of head_request (text ++ bytes)) bytes used step left
-IsBeforeTold head_request (Within response place) bytes used step left = ⊤
-IsBeforeTold head_request IsClosed bytes used step left = ⊤
-IsBeforeTold head_request IsBroken bytes used step left = ⊤
+-- the head of an interim response ends so many bytes behind what was kept, and nothing is kept now
+pub record IsPassedOver (head_request : Bool) (text bytes : List ℕ) (used : ℕ) (kept : List ℕ) : Type 0 where
+  pub front : front_of head_request (text ++ bytes) ≡ front_of head_request (drop used bytes)
+  pub some : 0 < used
+  pub within : used ≤ length bytes
+  pub none : kept ≡ []
+
+abbrev pub IsFoundIn : Bool → List ℕ → List ℕ → Found → List ℕ → Type 0
+IsFoundIn head_request text bytes FoundMore kept = IsWaiting head_request text bytes kept
+IsFoundIn head_request text bytes Other kept = front_of head_request (text ++ bytes) ≡ IsNoResponse
+IsFoundIn head_request text bytes (Interim used) kept = IsPassedOver head_request text bytes used kept
+IsFoundIn head_request text bytes (Final used rule fate) kept = IsOpened head_request text bytes used rule fate kept
+
+-- the same of the first final response
+abbrev pub IsOpening : Bool → List ℕ → List ℕ → Opening → List ℕ → Type 0
+IsOpening head_request text bytes OpeningMore kept = IsWaiting head_request text bytes kept
+IsOpening head_request text bytes NoResponse kept = front_of head_request (text ++ bytes) ≡ IsNoResponse
+IsOpening head_request text bytes (OpeningResponse used rule fate) kept = IsOpened head_request text bytes used rule fate kept
+
+-- ---- either
+
+abbrev pub IsBefore : Reading → Type 0
+IsBefore (Before text) = ⊤
+IsBefore (Within response place) = ⊥
+IsBefore IsClosed = ⊥
+IsBefore IsBroken = ⊥
 
 abbrev pub IsBeforeFed : Option Bool → Reading → List ℕ → ℕ → Step → Reading → Type 0
 IsBeforeFed awaited (Before text) bytes used step left = IsHeadFed awaited text bytes used step left

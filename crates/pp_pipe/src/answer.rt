@@ -1,16 +1,16 @@
 // Where in a response the bytes stand.
 ghost use Rattle.std.specs.Prelude.{◌≡◌, ◌≤◌, true, [], length, IfOk, IfSome, option_map};
 ghost use Rattle.pp_head.specs.Shown.{shown_response};
-ghost use Rattle.pp_pipe.specs.Answers.{IsBeforeFed, IsBeforeTold, IsNext, IsWithinFed, WasRead};
+ghost use Rattle.pp_pipe.specs.Answers.{IsBefore, IsBeforeFed, IsWithinFed, WasRead};
 ghost use Rattle.pp_pipe.specs.Feeding.{IsFed};
 ghost use Rattle.pp_pipe.specs.Reading.{Before, Closed, behind_it, ending_at, fate_in, head_in};
 
 use crate::fate::Fate;
-use crate::front::{Found, look};
+use crate::heading::{Heading, Opening};
 use crate::run::next_run;
 use crate::step::Step;
 use pp_framing::{BodyState, Decoder, Ending};
-use pp_head::{HeadState, MAX_BYTES, ResponseHead, Scratch, read_response};
+use pp_head::{ResponseHead, Scratch};
 use pp_text::OutOfMemory;
 use std::alloc::Global;
 use std::marker::Model;
@@ -18,10 +18,10 @@ use std::marker::Model;
 /// What is read.
 ///
 /// ```text
-/// Head -> Body           the head of a final response came
-/// Body -> Head, Closed   the response is whole
-/// Body -> Closed         the connection ended
-/// Head, Body -> Broken   what came is no response
+/// Head       -> Body           the head of a response came
+/// Body       -> Head, Closed   the response is whole
+/// Head, Body -> Broken         what came is no response
+/// any        -> Closed         the connection ended
 /// ```
 #[derive(Drop)]
 pub(crate) enum Stage {
@@ -35,35 +35,23 @@ pub(crate) enum Stage {
     Broken,
 }
 
-/// What a head is to the response that comes.
-#[derive(Clone, Copy, Debug, PartialEq, Eq)]
-enum Next {
-    /// So many bytes were used by a head before that of the response.
-    Interim(usize),
-    /// So many bytes were used, and this is the step.
-    Told(usize, Step),
-}
-
 /// The response that comes.
 #[derive(Drop)]
 pub(crate) struct Answer {
-    /// What came of its head.
-    head: Vec<u8>,
-    /// Where the fields of that head are.
-    scratch: Scratch,
+    /// What came of its head, or the whole of it while its body is read.
+    heading: Heading,
     stage: Stage,
 }
 
 impl Model for Answer {
-    ghost use Rattle.std.specs.Prelude.{vec_capacity};
     ghost use Rattle.pp_pipe.specs.Reading.{Reading};
-    ghost use Rattle.pp_pipe.specs.Answers.{IsSound, reading_of};
+    ghost use Rattle.pp_pipe.specs.Answers.{IsKept, reading_of};
 
     ghost Value = { Reading };
 
-    ghost view = { λ a. reading_of a.head.items a.stage };
+    ghost view = { λ a. reading_of a.heading a.stage };
 
-    ghost invariant = { λ a. IsSound a.head.items (vec_capacity a.head) a.stage };
+    ghost invariant = { λ a. IsKept a.heading a.stage };
 }
 
 impl Answer {
@@ -72,8 +60,7 @@ impl Answer {
         ensures { IfOk result (λ a. a ≡ Before []) }
     {
         Ok(Answer {
-            head: Vec::with_capacity(alloc, MAX_BYTES)?,
-            scratch: Scratch::new(),
+            heading: Heading::new(alloc)?,
             stage: Stage::Head,
         })
     }
@@ -82,7 +69,7 @@ impl Answer {
     pub(crate) fn restart(&mut self)
         ensures { self.new ≡ Before [] }
     {
-        self.head.clear();
+        self.heading.clear();
         self.stage = Stage::Head;
     }
 
@@ -102,12 +89,8 @@ impl Answer {
         ensures within { IfSome result (λ head. WasRead (shown_response head)) }
     {
         match &self.stage {
-            Stage::Body { .. } => {}
-            Stage::Head | Stage::Closed | Stage::Broken => return None,
-        }
-        match read_response(&self.head, scratch) {
-            HeadState::Whole(head) => Some(head),
-            HeadState::TooLong | HeadState::Bad | HeadState::More => None,
+            Stage::Body { .. } => self.heading.show(scratch),
+            Stage::Head | Stage::Closed | Stage::Broken => None,
         }
     }
 
@@ -126,59 +109,29 @@ impl Answer {
     }
 
     fn feed_head(&mut self, bytes: &[u8], awaited: Option<bool>) -> (usize, Step)
+        requires { IsBefore self.old }
         ensures within { result.0 ≤ length bytes.now }
         ensures fed { IsBeforeFed awaited self.old bytes.now result.0 result.1 self.new }
     {
         if bytes.is_empty() {
             return (0, Step::Idle);
         }
-        match awaited {
-            Some(head_request) => self.read_heads(bytes, head_request),
-            None => {
+        let Some(head_request) = awaited else {
+            self.stage = Stage::Broken;
+            return (bytes.len(), Step::Bad);
+        };
+        match self.heading.read(bytes, head_request) {
+            Opening::More => (bytes.len(), Step::Idle),
+            Opening::NoResponse => {
                 self.stage = Stage::Broken;
                 (bytes.len(), Step::Bad)
             }
-        }
-    }
-
-    /// Reads heads, up to that of a final response.
-    fn read_heads(&mut self, bytes: &[u8], head_request: bool) -> (usize, Step)
-        ensures within { result.0 ≤ length bytes.now }
-        ensures told { IsBeforeTold head_request self.old bytes.now result.0 result.1 self.new }
-    {
-        let mut used = 0;
-        loop {
-            match self.read_head(&bytes[used..], head_request) {
-                Next::Interim(n) => used += n,
-                Next::Told(n, step) => return (used + n, step),
-            }
-        }
-    }
-
-    /// Reads one head.
-    fn read_head(&mut self, bytes: &[u8], head_request: bool) -> Next
-        ensures { IsNext head_request self.old bytes.now result self.new }
-    {
-        let before = self.head.len();
-        let taken = bytes.len().min(MAX_BYTES - before);
-        let _ = self.head.extend_from_slice(&bytes[..taken]);
-        match look(&self.head, &mut self.scratch, head_request) {
-            Found::More => Next::Told(bytes.len(), Step::Idle),
-            Found::Other => {
-                self.stage = Stage::Broken;
-                Next::Told(bytes.len(), Step::Bad)
-            }
-            Found::Interim(len) => {
-                self.head.clear();
-                Next::Interim(len - before)
-            }
-            Found::Final(len, rule, fate) => {
-                self.head.truncate(len);
+            Opening::Response(used, rule, fate) => {
                 self.stage = Stage::Body {
                     decoder: Decoder::new(rule),
                     fate,
                 };
-                Next::Told(len - before, Step::Head)
+                (used, Step::Head)
             }
         }
     }
@@ -212,7 +165,7 @@ impl Answer {
     fn leave(&mut self, fate: Fate)
         ensures { self.new ≡ behind_it fate }
     {
-        self.head.clear();
+        self.heading.clear();
         self.stage = match fate {
             Fate::Closes => Stage::Closed,
             Fate::Stays | Fate::Pipelines => Stage::Head,

@@ -18,6 +18,7 @@ mod answer; // where in a response the bytes stand
 mod asks; // the asks that are not answered whole
 mod fate; // what becomes of the connection behind a response
 mod front; // the head at the front of what came
+mod heading; // the heads of responses, in pieces
 mod outgoing; // the bytes that are to be written
 mod pipe; // a connection
 mod run; // the next run of data of a body

@@ -1,5 +1,5 @@
 // The bytes that are to be written.
-ghost use Rattle.std.specs.Prelude.{◌≡◌, ◌+◌, ◌≤◌, [], ◌++◌, length, drop, IfOk};
+ghost use Rattle.std.specs.Prelude.{◌≡◌, ◌+◌, ◌≤◌, [], ◌++◌, length, drop, vec_capacity, IfOk};
 ghost use Rattle.pp_pipe.specs.Asks.{out_room};
 ghost use Rattle.pp_pipe.specs.Line.{without_span};
 
@@ -60,20 +60,11 @@ impl Outgoing {
         requires { length self.old + length bytes.now ≤ out_room }
         ensures { self.new ≡ self.old ++ bytes.now }
     {
-        if self.bytes.len() + bytes.len() > OUT_ROOM {
-            self.move_to_front();
+        if bytes.len() > OUT_ROOM - self.bytes.len() {
+            remove_span(&mut self.bytes, 0, self.front);
+            self.front = 0;
         }
         let _ = self.bytes.extend_from_slice(bytes);
-    }
-
-    /// Moves what is left to the front of the block.
-    fn move_to_front(&mut self)
-        ensures same { self.new ≡ self.old }
-    {
-        let kept = self.bytes.len() - self.front;
-        self.bytes.as_mut_slice().copy_within(self.front.., 0);
-        self.bytes.truncate(kept);
-        self.front = 0;
     }
 
     /// The first so many were written.
@@ -93,10 +84,18 @@ impl Outgoing {
         requires within { to ≤ length self.old }
         ensures { self.new ≡ without_span from to self.old }
     {
-        let kept = self.bytes.len() - (to - from);
-        self.bytes
-            .as_mut_slice()
-            .copy_within(self.front + to.., self.front + from);
-        self.bytes.truncate(kept);
+        remove_span(&mut self.bytes, self.front + from, self.front + to);
     }
+}
+
+/// Takes the bytes between two offsets out.
+fn remove_span(bytes: &mut Vec<u8>, from: usize, to: usize)
+    requires order { from ≤ to }
+    requires within { to ≤ length bytes.old.items }
+    ensures items { bytes.new.items ≡ without_span from to bytes.old.items }
+    ensures capacity { vec_capacity bytes.new ≡ vec_capacity bytes.old }
+{
+    let kept = bytes.len() - (to - from);
+    bytes.copy_within(to.., from);
+    bytes.truncate(kept);
 }

@@ -37,15 +37,15 @@ pub struct Pipe {
 }
 
 impl Model for Pipe {
-    ghost use Rattle.std.specs.Prelude.{◌≡◌, ◌+◌, length};
-    ghost use Rattle.pp_pipe.specs.Asks.{total};
+    ghost use Rattle.std.specs.Prelude.{◌≡◌, ◌+◌, ◌≤◌, length};
+    ghost use Rattle.pp_pipe.specs.Asks.{out_room, total};
     ghost use Rattle.pp_pipe.specs.Line.{Line};
 
     ghost Value = { Line };
 
     ghost view = { λ p. record { id = p.id; out = p.out; stray = p.stray; asks = p.asks.items; reading = p.answer; has_answered = p.has_answered; may_pipeline = p.may_pipeline } };
 
-    ghost invariant = { λ p. p.stray + total p.asks.items ≡ length p.out };
+    ghost invariant = { λ p. (p.stray + total p.asks.items ≡ length p.out) × (length p.out ≤ out_room) };
 }
 
 impl Pipe {
