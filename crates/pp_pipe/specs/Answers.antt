@@ -1,10 +1,11 @@
 -- The fields of a response that comes, and what the steps of its reader say of them.
-use Rattle.std.specs.Prelude.{◌≡◌, ℕ, ◌<◌, ◌≤◌, Bool, List, [], ◌++◌, length, drop, Option, ⊤}
+use Rattle.std.specs.Prelude.{◌≡◌, ℕ, ◌-◌, ◌<◌, ◌≤◌, Bool, List, [], ◌++◌, length, take, drop, min, Option, ⊤}
 use Rattle.pp_framing.specs.declared.body.BodyRule.{BodyRule}
 use Rattle.pp_head.specs.Agreement.{IsResponseWithin}
+use Rattle.pp_head.specs.Limits.{max_bytes}
 use Rattle.pp_head.specs.Read.{Read, Whole, TooLong, Bad, More}
 use Rattle.pp_head.specs.Response.{Response, response_at}
-use Rattle.pp_pipe.specs.Feeding.{IsBodyFed, IsHeadFed}
+use Rattle.pp_pipe.specs.Feeding.{IsBodyFed, IsFrontTold, IsHeadFed}
 use Rattle.pp_pipe.specs.Front.{Front, Unfinished, NoResponse as IsNoResponse, Final as IsFinal, fate_of, front_of}
 use Rattle.pp_pipe.specs.Reading.{Reading, Before, Within, Closed as IsClosed, Broken as IsBroken}
 use Rattle.pp_pipe.specs.declared.answer.Stage.{Stage}
@@ -41,6 +42,10 @@ IsKept text Closed = ⊤
 IsKept text Broken = ⊤
 
 -- ---- heads
+
+-- the front of some bytes that there is room for behind a text
+abbrev pub piece : List ℕ → List ℕ → List ℕ
+piece text bytes = take (min (length bytes) (max_bytes - length text)) bytes
 
 -- the head of a final response ends so many bytes behind what was kept, and is kept now
 pub record IsOpened (head_request : Bool) (text bytes : List ℕ) (used : ℕ) (rule : BodyRule) (fate : Fate) (kept : List ℕ) : Type 0 where
@@ -82,6 +87,12 @@ IsBefore (Before text) = ⊤
 IsBefore (Within response place) = ⊥
 IsBefore IsClosed = ⊥
 IsBefore IsBroken = ⊥
+
+abbrev pub IsBeforeTold : Bool → Reading → List ℕ → ℕ → Step → Reading → Type 0
+IsBeforeTold head_request (Before text) bytes used step left = IsFrontTold (front_of head_request (text ++ bytes)) bytes used step left
+IsBeforeTold head_request (Within response place) bytes used step left = ⊤
+IsBeforeTold head_request IsClosed bytes used step left = ⊤
+IsBeforeTold head_request IsBroken bytes used step left = ⊤
 
 abbrev pub IsBeforeFed : Option Bool → Reading → List ℕ → ℕ → Step → Reading → Type 0
 IsBeforeFed awaited (Before text) bytes used step left = IsHeadFed awaited text bytes used step left

@@ -1,7 +1,7 @@
 // Where in a response the bytes stand.
 ghost use Rattle.std.specs.Prelude.{◌≡◌, ◌≤◌, true, [], length, IfOk, IfSome, option_map};
 ghost use Rattle.pp_head.specs.Shown.{shown_response};
-ghost use Rattle.pp_pipe.specs.Answers.{IsBefore, IsBeforeFed, IsWithinFed, WasRead};
+ghost use Rattle.pp_pipe.specs.Answers.{IsBefore, IsBeforeFed, IsBeforeTold, IsWithinFed, WasRead};
 ghost use Rattle.pp_pipe.specs.Feeding.{IsFed};
 ghost use Rattle.pp_pipe.specs.Reading.{Before, Closed, behind_it, ending_at, fate_in, head_in};
 
@@ -56,6 +56,7 @@ impl Model for Answer {
 
 impl Answer {
     /// None yet, and the room for any head.
+    #[tactic(auto, using(crate::proofs::Fronts::none_read))]
     pub(crate) fn new(alloc: Global) -> Result<Answer, OutOfMemory>
         ensures { IfOk result (λ a. a ≡ Before []) }
     {
@@ -66,6 +67,7 @@ impl Answer {
     }
 
     /// None yet.
+    #[tactic(auto, using(crate::proofs::Fronts::none_read))]
     pub(crate) fn restart(&mut self)
         ensures { self.new ≡ Before [] }
     {
@@ -116,10 +118,21 @@ impl Answer {
         if bytes.is_empty() {
             return (0, Step::Idle);
         }
-        let Some(head_request) = awaited else {
-            self.stage = Stage::Broken;
-            return (bytes.len(), Step::Bad);
-        };
+        match awaited {
+            Some(head_request) => self.open(bytes, head_request),
+            None => {
+                self.stage = Stage::Broken;
+                (bytes.len(), Step::Bad)
+            }
+        }
+    }
+
+    /// Reads on in the heads up to that of a response.
+    fn open(&mut self, bytes: &[u8], head_request: bool) -> (usize, Step)
+        requires { IsBefore self.old }
+        ensures within { result.0 ≤ length bytes.now }
+        ensures told { IsBeforeTold head_request self.old bytes.now result.0 result.1 self.new }
+    {
         match self.heading.read(bytes, head_request) {
             Opening::More => (bytes.len(), Step::Idle),
             Opening::NoResponse => {
@@ -162,6 +175,7 @@ impl Answer {
     }
 
     /// The response is whole.
+    #[tactic(auto, using(crate::proofs::Fronts::none_read))]
     fn leave(&mut self, fate: Fate)
         ensures { self.new ≡ behind_it fate }
     {

@@ -1,9 +1,10 @@
 // The heads of responses, in pieces.
-ghost use Rattle.std.specs.Prelude.{◌≡◌, [], Some, IfOk, IfSome, option_map};
+ghost use Rattle.std.specs.Prelude.{◌≡◌, ◌≤◌, [], ◌++◌, length, Some, IfOk, IfSome, option_map};
+ghost use Rattle.pp_head.specs.Limits.{max_bytes};
 ghost use Rattle.pp_head.specs.Read.{More, Whole};
 ghost use Rattle.pp_head.specs.Response.{Response, response_at};
 ghost use Rattle.pp_head.specs.Shown.{shown_response};
-ghost use Rattle.pp_pipe.specs.Answers.{IsFoundIn, IsOpening, WasRead};
+ghost use Rattle.pp_pipe.specs.Answers.{IsFoundIn, IsOpening, WasRead, piece};
 
 use crate::fate::Fate;
 use crate::front::{Found, look};
@@ -94,8 +95,7 @@ impl Heading {
         ensures { IsFoundIn head_request self.old bytes.now result self.new }
     {
         let before = self.text.len();
-        let taken = bytes.len().min(MAX_BYTES - before);
-        let _ = self.text.extend_from_slice(&bytes[..taken]);
+        self.keep(bytes);
         match look(&self.text, &mut self.scratch, head_request) {
             Found::More => Found::More,
             Found::Other => Found::Other,
@@ -108,5 +108,14 @@ impl Heading {
                 Found::Final(len - before, rule, fate)
             }
         }
+    }
+
+    /// Keeps as many of the bytes as a head may have.
+    fn keep(&mut self, bytes: &[u8])
+        ensures kept { self.new ≡ self.old ++ piece self.old bytes.now }
+        ensures short { length self.old ≤ max_bytes }
+    {
+        let taken = bytes.len().min(MAX_BYTES - self.text.len());
+        let _ = self.text.extend_from_slice(&bytes[..taken]);
     }
 }

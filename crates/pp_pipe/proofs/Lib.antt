@@ -1,0 +1,5 @@
+mod Fronts
+mod Opening
+mod Pieces
+mod Runs
+mod Taking
