@@ -23,8 +23,9 @@ is_head text Closed now view before = absurd (subst IsBefore (sym view) before)
 is_head text Broken now view before = absurd (subst IsBefore (sym view) before)
 
 -- nothing came
-pub none_came : (awaited : Option Bool) (now : Reading) (bytes : List ℕ) → bytes ≡ [] → IsBeforeFed awaited now bytes 0 Idle now
-none_came awaited now bytes none = subst (λ (t : List ℕ). IsBeforeFed awaited now t 0 Idle now) (sym none) (by awaited now)
+pub none_came : (awaited : Option Bool) (now : Reading) (bytes : List ℕ) → length bytes ≡ 0 → IsBeforeFed awaited now bytes 0 Idle now
+none_came awaited now (b ∷ bytes) none = absurd (omega (arith, none))
+none_came awaited now [] none = by awaited now
   where
     by : (a : Option Bool) (s : Reading) → IsBeforeFed a s [] 0 Idle s
     by None (Before text) = record { tells = refl; uses = refl; leaves = refl }

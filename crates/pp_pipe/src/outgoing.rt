@@ -79,7 +79,6 @@ impl Outgoing {
     }
 
     /// Takes those between two offsets out.
-    #[tactic(auto, using(crate::proofs::Taking::cut_behind))]
     pub(crate) fn cut(&mut self, from: usize, to: usize)
         requires order { from ≤ to }
         requires within { to ≤ length self.old }

@@ -144,7 +144,6 @@ impl Pipe {
     }
 
     /// The first so many bytes of that were written.
-    #[tactic(auto, using(crate::proofs::Taking::total_taken, crate::proofs::Taking::length_taken))]
     pub fn took(&mut self, n: usize)
         requires { n ≤ length self.old.out }
         ensures { self.new ≡ taken n self.old }
