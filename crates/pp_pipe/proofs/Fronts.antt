@@ -54,7 +54,7 @@ enough zero n head_request text few less = absurd (omega (arith, few))
 enough (suc m) zero head_request text few less = absurd (omega (arith, less))
 enough (suc m) (suc n) head_request text few less =
     same_by m n head_request text (λ r is. enough m n head_request (drop r.length text) (omega (arith, shorter text r is, few)) (omega (arith, shorter text r is, less)))
-        (response_at text) refl
+    (response_at text) refl
 
 -- ---- by the answer of the one head
 

@@ -3,3 +3,4 @@ mod Opening
 mod Pieces
 mod Runs
 mod Taking
+mod Using

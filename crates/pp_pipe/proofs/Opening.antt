@@ -62,14 +62,14 @@ pub told_waiting : (head_request : Bool) (text : List ℕ) (stage : Stage) (now 
 told_waiting head_request text stage now bytes kept view before waits =
     let head = is_head text stage now view before in
     at head_request text now bytes (length bytes) Idle (reading_of kept stage) head.1
-        (subst (λ f. IsFrontTold f bytes (length bytes) Idle (reading_of kept stage)) (sym waits.front) (record { tells = refl; uses = refl; leaves = ap (reading_of kept) head.0 }))
+    (subst (λ f. IsFrontTold f bytes (length bytes) Idle (reading_of kept stage)) (sym waits.front) (record { tells = refl; uses = refl; leaves = ap (reading_of kept) head.0 }))
 
 pub told_refused : (head_request : Bool) (text : List ℕ) (stage : Stage) (now : Reading) (bytes : List ℕ) → reading_of text stage ≡ now → IsBefore now
     → front_of head_request (text ++ bytes) ≡ NoResponse → IsBeforeTold head_request now bytes (length bytes) Bad IsBroken
 told_refused head_request text stage now bytes view before front =
     let head = is_head text stage now view before in
     at head_request text now bytes (length bytes) Bad IsBroken head.1
-        (subst (λ f. IsFrontTold f bytes (length bytes) Bad IsBroken) (sym front) (record { tells = refl; uses = refl; leaves = refl }))
+    (subst (λ f. IsFrontTold f bytes (length bytes) Bad IsBroken) (sym front) (record { tells = refl; uses = refl; leaves = refl }))
 
 pub told_opened : (head_request : Bool) (text : List ℕ) (stage : Stage) (now : Reading) (bytes : List ℕ) (used : ℕ) (rule : BodyRule) (fate : Fate) (kept : List ℕ) (place : Place)
     → reading_of text stage ≡ now → IsBefore now → IsOpened head_request text bytes used rule fate kept → place ≡ first_place rule
@@ -78,9 +78,9 @@ told_opened head_request text stage now bytes used rule fate kept place view bef
     let head = is_head text stage now view before in
     let left : Reading = Within (response_in (response_at kept)) place in
     at head_request text now bytes used AtHead left head.1
-        (subst (λ f. IsFrontTold f bytes used AtHead left) (sym opened.front) (record {
-          tells = refl;
-          some = opened.some;
-          behind = refl;
-          leaves = ap (λ (a : Response). Within a place) (ap response_in opened.head) ∙ ap (Within opened.response) first;
-        }))
+    (subst (λ f. IsFrontTold f bytes used AtHead left) (sym opened.front) (record {
+      tells = refl;
+      some = opened.some;
+      behind = refl;
+      leaves = ap (λ (a : Response). Within a place) (ap response_in opened.head) ∙ ap (Within opened.response) first;
+    }))

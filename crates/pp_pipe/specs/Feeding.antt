@@ -1,5 +1,5 @@
 -- What the bytes that a connection brings tell, step by step (RFC 2616, sections 4.4, 6 and 8.1.2.2).
-use Rattle.std.specs.Prelude.{◌≡◌, ℕ, ◌<◌, ◌≤◌, Bool, List, [], ◌∷◌, ◌++◌, length, drop, slice_range, Option, Some, None}
+use Rattle.std.specs.Prelude.{◌≡◌, ℕ, ◌<◌, ◌≤◌, Bool, List, [], ◌∷◌, ◌++◌, length, drop, slice_range, Option, Some, None, ⊤}
 use Rattle.pp_head.specs.Response.{Response}
 use Rattle.pp_framing.specs.Body.{behind, no_data, Done, Bad as NoBody}
 use Rattle.pp_framing.specs.Places.{first_place, is_unbounded, read_from, state_of}
@@ -83,3 +83,12 @@ IsFed awaited (Before text) bytes used step left = IsHeadFed awaited text bytes 
 IsFed awaited (Within response place) bytes used step left = IsBodyFed response place bytes used step left
 IsFed awaited Closed bytes used step left = IsTold Idle (length bytes) Closed used step left
 IsFed awaited Broken bytes used step left = IsTold Bad (length bytes) Broken used step left
+
+-- ---- how many of so many bytes a step uses
+
+abbrev pub IsUsed : Step → ℕ → ℕ → Type 0
+IsUsed Head most used = 0 < used
+IsUsed (Body from to) most used = (from < to) × (to ≤ used)
+IsUsed End most used = ⊤
+IsUsed Bad most used = used ≡ most
+IsUsed Idle most used = used ≡ most

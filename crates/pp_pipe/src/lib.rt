@@ -28,3 +28,6 @@ pub use asks::MAX_ASKS;
 pub use outgoing::OUT_ROOM;
 pub use pipe::{Full, Pipe};
 pub use step::Step;
+
+#[cfg(test)]
+mod tests; // worked exchanges

@@ -3,7 +3,7 @@ ghost use Rattle.std.specs.Prelude.{◌≡◌, ◌↔◌, ◌≤◌, ◌<◌, le
 ghost use Rattle.pp_head.specs.Shown.{shown_response};
 ghost use Rattle.pp_pipe.specs.Answers.{WasRead};
 ghost use Rattle.pp_pipe.specs.Asks.{awaited, is_outstanding, max_asks};
-ghost use Rattle.pp_pipe.specs.Feeding.{IsFed};
+ghost use Rattle.pp_pipe.specs.Feeding.{IsFed, IsUsed};
 ghost use Rattle.pp_pipe.specs.Line.{answered, appended, ended_with, is_begun_at, pushed_where, room_of, started, stepped, taken, withdrawn_where};
 ghost use Rattle.pp_pipe.specs.Reading.{ending_at, head_in};
 
@@ -194,8 +194,10 @@ impl Pipe {
     /// What a step leaves of the bytes is to be fed again, up to `Idle`. Behind `Bad` all is `Bad`;
     /// behind a response that was the last on its connection, or behind its end, what comes is
     /// dropped.
+    #[tactic(auto, using(crate::proofs::Using::uses))]
     pub fn feed(&mut self, bytes: &[u8]) -> (usize, Step)
         ensures within { result.0 ≤ length bytes.now }
+        ensures uses { IsUsed result.1 (length bytes.now) result.0 }
         ensures fed { IsFed (awaited self.old.asks) self.old.reading bytes.now result.0 result.1 self.new.reading }
         ensures line { self.new ≡ stepped result.1 self.new.reading self.old }
     {

@@ -11,4 +11,4 @@ returns-then-is_empty-clause-fed c = none_came c.args.awaited c.args.self.now c.
 pub returns-in-None-clause-fed : goal.returns-in-None-clause-fed
 returns-in-None-clause-fed c =
     subst (λ a. IsBeforeFed a c.args.self.now c.args.bytes.now (length c.args.bytes.now) Bad Broken) (sym c.in-None.is)
-        (none_awaited c.args.self.now c.args.bytes.now (search rules))
+    (none_awaited c.args.self.now c.args.bytes.now (search rules))

@@ -12,4 +12,4 @@ returns-in-NoResponse-clause-told c =
 pub returns-in-Response-clause-told : goal.returns-in-Response-clause-told
 returns-in-Response-clause-told c =
     told_opened c.args.head_request c.self.inside.heading c.self.inside.stage c.args.self.now c.args.bytes.now c.in-Response.used c.in-Response.rule c.in-Response.fate c.read.new.self c.new.result
-        c.self.view_is c.requires c.in-Response.ensures c.new.ensures.place
+    c.self.view_is c.requires c.in-Response.ensures c.new.ensures.place

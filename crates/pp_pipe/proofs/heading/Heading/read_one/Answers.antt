@@ -40,8 +40,8 @@ returns-in-Interim c =
     let is : Interim c.in-Interim.len ≡ found_of c.args.head_request (response_at (text ++ piece text c.args.bytes.now)) = cc (c.in-Interim.ensures.found, c.deref.ensures.value, c.self-2.view_is, c.keep.ensures.kept) in
     let before : length text ≡ c.len-before.result = cc (c.len-before.ensures, c.self.view_is) in
     subst (λ (n : ℕ). IsPassedOver c.args.head_request text c.args.bytes.now (c.in-Interim.len - n) c.clear.new.self.items) before
-        (subst (IsPassedOver c.args.head_request text c.args.bytes.now (c.in-Interim.len - length text)) (sym c.clear.ensures.items)
-            (passed_over c.args.head_request text c.args.bytes.now c.in-Interim.len c.keep.ensures.short c.requires is))
+    (subst (IsPassedOver c.args.head_request text c.args.bytes.now (c.in-Interim.len - length text)) (sym c.clear.ensures.items)
+    (passed_over c.args.head_request text c.args.bytes.now c.in-Interim.len c.keep.ensures.short c.requires is))
 
 pub returns-in-Final : goal.returns-in-Final
 returns-in-Final c =
@@ -50,5 +50,5 @@ returns-in-Final c =
     let before : length text ≡ c.len-before.result = cc (c.len-before.ensures, c.self.view_is) in
     let kept : take c.in-Final.len (text ++ piece text c.args.bytes.now) ≡ c.truncate.new.self.items = cc (c.truncate.ensures.items, c.self-2.view_is, c.keep.ensures.kept) in
     subst (λ (n : ℕ). IsOpened c.args.head_request text c.args.bytes.now (c.in-Final.len - n) c.in-Final.rule c.in-Final.fate c.truncate.new.self.items) before
-        (subst (IsOpened c.args.head_request text c.args.bytes.now (c.in-Final.len - length text) c.in-Final.rule c.in-Final.fate) kept
-            (opened c.args.head_request text c.args.bytes.now c.in-Final.len c.in-Final.rule c.in-Final.fate c.keep.ensures.short c.requires is))
+    (subst (IsOpened c.args.head_request text c.args.bytes.now (c.in-Final.len - length text) c.in-Final.rule c.in-Final.fate) kept
+    (opened c.args.head_request text c.args.bytes.now c.in-Final.len c.in-Final.rule c.in-Final.fate c.keep.ensures.short c.requires is))
