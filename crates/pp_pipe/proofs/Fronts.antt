@@ -20,13 +20,13 @@ none_read = refl
 
 -- ---- any number of interim responses that is large enough
 
-abbrev over_interim : ℕ → Bool → Response → List ℕ → Bool → Front
+abbrev pub over_interim : ℕ → Bool → Response → List ℕ → Bool → Front
 over_interim most head_request r text v = elim v [
   | true ↦ front_within most head_request (drop r.length text)
   | false ↦ final_of head_request r (drop r.length text)
 ]
 
-abbrev front_by : ℕ → Bool → List ℕ → Read Response → Front
+abbrev pub front_by : ℕ → Bool → List ℕ → Read Response → Front
 front_by most head_request text a = elim a [
   | Whole r ↦ over_interim most head_request r text (is_interim r.status)
   | TooLong ↦ NoResponse
@@ -34,7 +34,7 @@ front_by most head_request text a = elim a [
   | More ↦ Unfinished text
 ]
 
-shorter : (text : List ℕ) (r : Response) → response_at text ≡ Whole r → length (drop r.length text) < length text
+pub shorter : (text : List ℕ) (r : Response) → response_at text ≡ Whole r → length (drop r.length text) < length text
 shorter text r is = let w = response_within text r is in omega (arith, length-drop r.length text, w.some, w.within)
 
 same_by : (m n : ℕ) (head_request : Bool) (text : List ℕ)
@@ -58,17 +58,17 @@ enough (suc m) (suc n) head_request text few less =
 
 -- ---- by the answer of the one head
 
-front_is : (head_request : Bool) (text : List ℕ) (a : Read Response) → response_at text ≡ a → front_of head_request text ≡ front_by (length text) head_request text a
+pub front_is : (head_request : Bool) (text : List ℕ) (a : Read Response) → response_at text ≡ a → front_of head_request text ≡ front_by (length text) head_request text a
 unfolding front_of
 front_is head_request text a is = ap (front_by (length text) head_request text) is
 
-front_interim : (head_request : Bool) (text : List ℕ) (r : Response) → response_at text ≡ Whole r → is_interim r.status ≡ true → front_of head_request text ≡ front_of head_request (drop r.length text)
+pub front_interim : (head_request : Bool) (text : List ℕ) (r : Response) → response_at text ≡ Whole r → is_interim r.status ≡ true → front_of head_request text ≡ front_of head_request (drop r.length text)
 unfolding front_of
 front_interim head_request text r is interim =
     ap (front_by (length text) head_request text) is ∙ ap (over_interim (length text) head_request r text) interim
     ∙ enough (length text) (suc (length (drop r.length text))) head_request (drop r.length text) (shorter text r is) (omega arith)
 
-front_final : (head_request : Bool) (text : List ℕ) (r : Response) → response_at text ≡ Whole r → is_interim r.status ≡ false → front_of head_request text ≡ final_of head_request r (drop r.length text)
+pub front_final : (head_request : Bool) (text : List ℕ) (r : Response) → response_at text ≡ Whole r → is_interim r.status ≡ false → front_of head_request text ≡ final_of head_request r (drop r.length text)
 front_final head_request text r is final = front_is head_request text (Whole r) is ∙ ap (over_interim (length text) head_request r text) final
 
 -- what was found there

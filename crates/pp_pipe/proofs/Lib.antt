@@ -2,5 +2,7 @@ mod Fronts
 mod Opening
 mod Pieces
 mod Runs
+mod Staying
 mod Taking
+mod Tales
 mod Using

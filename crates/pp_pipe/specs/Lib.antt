@@ -5,3 +5,4 @@ pub mod Front
 pub mod Line
 pub mod Looks
 pub mod Reading
+pub mod Tale

@@ -310,11 +310,13 @@ fn the_body_of_an_ask_follows_its_text(rt: HostRuntime) -> Result<(), Fail> {
     }
     assert_eq!(rt; pipe.out(), b"POSThell".as_slice());
     write(&mut pipe, 5);
-    assert_eq!(rt; (pipe.outstanding(), pipe.out()), (1, b"ell".as_slice()));
+    assert_eq!(rt; pipe.outstanding(), 1);
+    assert_eq!(rt; pipe.out(), b"ell".as_slice());
     // The response may be whole before the body was written.
     let mut told = Told::new();
     hear(&mut pipe, b"HTTP/1.1 204 No Content\r\n\r\n", &mut told);
-    assert_eq!(rt; (pipe.asks(), pipe.out()), (0, b"ell".as_slice()));
+    assert_eq!(rt; pipe.asks(), 0);
+    assert_eq!(rt; pipe.out(), b"ell".as_slice());
     let _ = push(&mut pipe, b"GET", false);
     assert_eq!(rt; withdraw(&mut pipe, 0), Some(true));
     assert_eq!(rt; pipe.out(), b"ell".as_slice());
