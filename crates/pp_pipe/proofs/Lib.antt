@@ -1,6 +1,7 @@
 mod Fronts
 mod Opening
 mod Pieces
+mod Quiet
 mod Runs
 mod Staying
 mod Taking

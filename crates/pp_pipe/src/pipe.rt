@@ -1,5 +1,5 @@
 // A connection to an origin.
-ghost use Rattle.std.specs.Prelude.{◌≡◌, ◌↔◌, ◌≤◌, ◌<◌, ℕ, List, ◌++◌, drop, length, count_by, option_map, IfOk, IfSome, IsErr, is_ok, not};
+ghost use Rattle.std.specs.Prelude.{◌≡◌, ◌↔◌, ◌≤◌, ◌<◌, ℕ, List, [], ◌++◌, drop, length, count_by, option_map, IfOk, IfSome, IsErr, is_ok, not};
 ghost use Rattle.pp_head.specs.Shown.{shown_response};
 ghost use Rattle.pp_pipe.specs.Answers.{WasRead};
 ghost use Rattle.pp_pipe.specs.Asks.{awaited, is_outstanding, max_asks};
@@ -195,7 +195,7 @@ impl Pipe {
     /// What a step leaves of the bytes is to be fed again, up to `Idle`. Behind `Bad` all is `Bad`;
     /// behind a response that was the last on its connection, or behind its end, what comes is
     /// dropped.
-    #[tactic(auto, using(crate::proofs::Using::uses, crate::proofs::Tales::tells))]
+    #[tactic(auto, using(crate::proofs::Using::uses, crate::proofs::Tales::tells, crate::proofs::Quiet::quiet))]
     pub fn feed(&mut self, bytes: &[u8]) -> (usize, Step)
         ensures within { result.0 ≤ length bytes.now }
         ensures uses { IsUsed result.1 (length bytes.now) result.0 }
@@ -204,6 +204,7 @@ impl Pipe {
 
         // However the bytes are cut: this step, and what the rest tells, is what they tell together.
         ensures tells { (more : List ℕ) → tale self.old.asks self.old.reading (bytes.now ++ more) ≡ told result.1 self.new.reading bytes.now (tale (asks_behind result.1 self.old.asks) self.new.reading (drop result.0 bytes.now ++ more)) }
+        ensures quiet { result.1 ≡ Step.Idle → tale self.new.asks self.new.reading [] ≡ [] }
     {
         let fate = self.answer.fate();
         let (used, step) = self.answer.feed(bytes, awaited(&self.asks));
