@@ -9,8 +9,7 @@ use Rattle.pp_head.proofs.ResponseAgrees.{response_within}
 use Rattle.pp_head.specs.Read.{Read, Whole, TooLong, Bad, More}
 use Rattle.pp_head.specs.Response.{Response, response_at}
 use Rattle.pp_pipe.specs.Front.{Front, Final as IsFinal, Unfinished, NoResponse, by_rule, fate_of, final_of, front_of, front_within, is_interim}
-use Rattle.pp_pipe.specs.Looks.{found_by, found_in, found_of}
-use Rattle.pp_pipe.specs.declared.fate.Fate.{Fate}
+use Rattle.pp_pipe.specs.Looks.{found_by, found_of}
 use Rattle.pp_pipe.specs.declared.front.Found.{Found}
 use Rattle.pp_pipe.specs.declared.front.Found.TheVariants.{More as FoundMore, Other, Interim, Final}
 

@@ -1,12 +1,11 @@
 -- What a reader of heads answers, as the step of a connection.
-use Rattle.std.proofs.Common.{◌≡◌, ℕ, ◌<◌, Bool, List, [], ◌∷◌, ◌++◌, length, drop, Option, Some, None, refl, sym, subst, ap, ◌∙◌, arith}
+use Rattle.std.proofs.Common.{◌≡◌, ℕ, ◌<◌, Bool, List, [], ◌∷◌, ◌++◌, length, Option, Some, None, refl, sym, subst, ap, ◌∙◌, arith}
 use Rattle.pp_framing.specs.Places.{first_place}
 use Rattle.pp_framing.specs.declared.body.BodyRule.{BodyRule}
 use Rattle.pp_framing.specs.declared.place.Place.{Place}
-use Rattle.pp_head.specs.Read.{Whole}
 use Rattle.pp_head.specs.Response.{Response, response_at}
 use Rattle.pp_pipe.specs.Answers.{IsBefore, IsBeforeFed, IsBeforeTold, IsOpened, IsWaiting, reading_of, response_in}
-use Rattle.pp_pipe.specs.Feeding.{IsFrontTold, IsHeadFed}
+use Rattle.pp_pipe.specs.Feeding.{IsFrontTold}
 use Rattle.pp_pipe.specs.Front.{NoResponse, front_of}
 use Rattle.pp_pipe.specs.Reading.{Reading, Before, Within, Closed as IsClosed, Broken as IsBroken}
 use Rattle.pp_pipe.specs.declared.answer.Stage.{Stage}

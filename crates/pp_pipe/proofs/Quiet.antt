@@ -1,5 +1,5 @@
 -- Where nothing is told yet, nothing is left to be told.
-use Rattle.std.proofs.Common.{◌≡◌, ℕ, Bool, List, [], ◌∷◌, ◌++◌, map, drop, Option, Some, None, refl, sym, ap, subst, ◌∙◌}
+use Rattle.std.proofs.Common.{◌≡◌, ℕ, Bool, List, [], ◌∷◌, ◌++◌, drop, Option, Some, None, refl, sym, ap, subst}
 use Rattle.pp_framing.specs.Body.{no_data, Going as GoingOn}
 use Rattle.pp_framing.specs.Places.{read_from, state_of}
 use Rattle.pp_framing.specs.declared.body.BodyState.TheVariants.{Going}

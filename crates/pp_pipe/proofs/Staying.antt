@@ -1,5 +1,5 @@
 -- More bytes leave what stands at the front.
-use Rattle.std.proofs.Common.{◌≡◌, ℕ, zero, suc, ◌<◌, Bool, true, false, ◌==◌, List, [], ◌++◌, length, drop, Result, Ok, Err, refl, sym, ap, subst, ◌∙◌, arith}
+use Rattle.std.proofs.Common.{◌≡◌, ℕ, zero, suc, ◌<◌, Bool, true, false, ◌==◌, List, ◌++◌, length, drop, Result, Ok, Err, refl, sym, ap, subst, ◌∙◌, arith}
 use Rattle.std.proofs.lemmas.List.{drop-append-le}
 use Rattle.pp_framing.specs.Framing.{rule_of}
 use Rattle.pp_framing.specs.declared.body.BodyRule.{BodyRule}
@@ -42,6 +42,7 @@ stays_by head_request text more below (Whole r) is stays = by (is_interim r.stat
   where
     rest : drop r.length (text ++ more) ≡ drop r.length text ++ more
     rest = drop-append-le r.length text more (response_within text r is).within
+
     by : (v : Bool) → is_interim r.status ≡ v → FrontStays head_request (front_of head_request (text ++ more)) more (front_of head_request text)
     by true e = moved head_request (front_of head_request (text ++ more)) (front_of head_request (drop r.length text ++ more)) more (front_of head_request text) (front_of head_request (drop r.length text))
         (front_interim head_request (text ++ more) r (stays more) e ∙ ap (front_of head_request) rest) (front_interim head_request text r is e)
@@ -53,7 +54,7 @@ stays_by head_request text more below TooLong is stays =
     moved head_request (front_of head_request (text ++ more)) NoResponse more (front_of head_request text) NoResponse (no_response head_request (text ++ more) true (stays more)) (no_response head_request text true is) refl
 stays_by head_request text more below Bad is stays =
     moved head_request (front_of head_request (text ++ more)) NoResponse more (front_of head_request text) NoResponse
-        (no_response head_request (text ++ more) (is_limit_reached (text ++ more)) (stays more)) (no_response head_request text false is) refl
+    (no_response head_request (text ++ more) (is_limit_reached (text ++ more)) (stays more)) (no_response head_request text false is) refl
 stays_by head_request text more below More is stays =
     moved head_request (front_of head_request (text ++ more)) (front_of head_request (text ++ more)) more (front_of head_request text) (Unfinished text) refl (front_is head_request text More is) refl
 

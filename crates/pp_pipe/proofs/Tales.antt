@@ -4,18 +4,15 @@ use Rattle.std.proofs.Math.Seq.{drop-length}
 use Rattle.std.proofs.lemmas.List.{map-append}
 use Rattle.pp_framing.proofs.BodiesExact.{read_from-first_place}
 use Rattle.pp_framing.specs.Body.{Body as BodyText, behind}
-use Rattle.pp_framing.specs.Places.{first_place, read_from, state_of}
-use Rattle.pp_framing.specs.Rules.{body_of}
-use Rattle.pp_framing.specs.declared.body.BodyState.TheVariants.{Going}
+use Rattle.pp_framing.specs.Places.{first_place, read_from}
 use Rattle.pp_framing.specs.declared.place.Place.{Place}
-use Rattle.pp_framing.specs.declared.place.Place.TheVariants.{Over, Wrong}
 use Rattle.pp_head.specs.Response.{Response}
 use Rattle.pp_pipe.proofs.Staying.{FrontStays, front_stays}
 use Rattle.pp_pipe.specs.Asks.{awaited}
 use Rattle.pp_pipe.specs.Feeding.{IsBodyFed, IsFed, IsFrontTold, IsHeadFed, IsTold}
 use Rattle.pp_pipe.specs.Front.{Front, Final, Unfinished, NoResponse, fate_of, front_of}
 use Rattle.pp_pipe.specs.Reading.{Reading, Before, Within, Closed, Broken, behind_it}
-use Rattle.pp_pipe.specs.Tale.{Event, Began, Byte, Ended, Failed, asks_behind, behind_end, body_tale, front_tale, head_tale, outcome_tale, tale, tale_of, told}
+use Rattle.pp_pipe.specs.Tale.{Event, Began, Byte, Ended, asks_behind, behind_end, body_tale, front_tale, head_tale, outcome_tale, tale, tale_of, told}
 use Rattle.pp_pipe.specs.declared.asks.Ask.{Ask}
 use Rattle.pp_pipe.specs.declared.fate.Fate.{Fate}
 use Rattle.pp_pipe.specs.declared.fate.Fate.TheVariants.{Closes, Stays, Pipelines}
@@ -37,7 +34,7 @@ at_told : (asks : List Ask) (reading : Reading) (bytes : List ℕ) (wanted : Ste
     → Tells asks reading bytes n wanted is → Tells asks reading bytes used step left
 at_told asks reading bytes wanted n is used step left t shown =
     subst (λ (u : ℕ). Tells asks reading bytes u step left) (sym t.uses)
-        (subst (λ (l : Reading). Tells asks reading bytes n step l) (sym t.leaves) (subst (λ (s : Step). Tells asks reading bytes n s is) (sym t.tells) shown))
+    (subst (λ (l : Reading). Tells asks reading bytes n step l) (sym t.leaves) (subst (λ (s : Step). Tells asks reading bytes n s is) (sym t.tells) shown))
 
 none_more : (bytes more : List ℕ) → drop (length bytes) bytes ++ more ≡ more
 none_more bytes more = ap (λ (t : List ℕ). t ++ more) (drop-length bytes)
@@ -55,26 +52,29 @@ fronts asks head_request text b bytes used step left asked f front fed = by f fr
   where
     next : List ℕ → List Event
     next = tale_of (drop 1 asks) []
+
     opened : (more : List ℕ) → tale_of asks text (b ∷ bytes ++ more) ≡ front_tale next (front_of head_request ((text ++ b ∷ bytes) ++ more))
     opened more =
         by_head asks text (b ∷ bytes ++ more) ∙ ap (λ (a : Option Bool). head_tale a next text (b ∷ bytes ++ more)) asked
         ∙ ap (λ (t : List ℕ). front_tale next (front_of head_request t)) (sym (append_assoc text (b ∷ bytes) more))
+
     stays : (g : Front) → front_of head_request (text ++ b ∷ bytes) ≡ g → (more : List ℕ) → FrontStays head_request (front_of head_request ((text ++ b ∷ bytes) ++ more)) more g
     stays g e more = subst (λ (h : Front). FrontStays head_request (front_of head_request ((text ++ b ∷ bytes) ++ more)) more h) e (front_stays head_request (text ++ b ∷ bytes) more)
+
     by : (g : Front) → front_of head_request (text ++ b ∷ bytes) ≡ g → IsFrontTold g (b ∷ bytes) used step left → Tells asks (Before text) (b ∷ bytes) used step left
     by (Final r rule rest) e t =
         subst (λ (s : Step). Tells asks (Before text) (b ∷ bytes) used s left) (sym t.tells)
-            (subst (λ (l : Reading). Tells asks (Before text) (b ∷ bytes) used Head l) (sym t.leaves)
-                (λ more.
-                    opened more ∙ ap (front_tale next) (stays (Final r rule rest) e more)
-                    ∙ ap (λ (x : BodyText). Began r ∷ body_tale next (fate_of r) x)
-                        (sym (read_from-first_place rule (rest ++ more)) ∙ ap (λ (t : List ℕ). read_from (first_place rule) (t ++ more)) (sym t.behind))))
+        (subst (λ (l : Reading). Tells asks (Before text) (b ∷ bytes) used Head l) (sym t.leaves)
+        (λ more.
+        opened more ∙ ap (front_tale next) (stays (Final r rule rest) e more)
+        ∙ ap (λ (x : BodyText). Began r ∷ body_tale next (fate_of r) x)
+        (sym (read_from-first_place rule (rest ++ more)) ∙ ap (λ (t : List ℕ). read_from (first_place rule) (t ++ more)) (sym t.behind))))
     by (Unfinished kept) e t =
         at_told asks (Before text) (b ∷ bytes) Idle (length (b ∷ bytes)) (Before kept) used step left t
-            (λ more.
-                opened more ∙ waits asks head_request next (text ++ b ∷ bytes) kept e more
-                ∙ ap (λ (a : Option Bool). head_tale a next kept more) (sym asked) ∙ sym (by_head asks kept more)
-                ∙ ap (tale_of asks kept) (sym (none_more (b ∷ bytes) more)))
+        (λ more.
+        opened more ∙ waits asks head_request next (text ++ b ∷ bytes) kept e more
+        ∙ ap (λ (a : Option Bool). head_tale a next kept more) (sym asked) ∙ sym (by_head asks kept more)
+        ∙ ap (tale_of asks kept) (sym (none_more (b ∷ bytes) more)))
     by NoResponse e t =
         at_told asks (Before text) (b ∷ bytes) Bad (length (b ∷ bytes)) Broken used step left t (λ more. opened more ∙ ap (front_tale next) (stays NoResponse e more))
 
@@ -84,7 +84,7 @@ heads asks text [] used step left None asked fed = at_told asks (Before text) []
 heads asks text [] used step left (Some head_request) asked fed = at_told asks (Before text) [] Idle 0 (Before text) used step left fed (λ more. refl)
 heads asks text (b ∷ bytes) used step left None asked fed =
     at_told asks (Before text) (b ∷ bytes) Bad (length (b ∷ bytes)) Broken used step left fed
-        (λ more. by_head asks text (b ∷ bytes ++ more) ∙ ap (λ (a : Option Bool). head_tale a (tale_of (drop 1 asks) []) text (b ∷ bytes ++ more)) asked)
+    (λ more. by_head asks text (b ∷ bytes ++ more) ∙ ap (λ (a : Option Bool). head_tale a (tale_of (drop 1 asks) []) text (b ∷ bytes ++ more)) asked)
 heads asks text (b ∷ bytes) used step left (Some head_request) asked fed =
     fronts asks head_request text b bytes used step left asked (front_of head_request (text ++ b ∷ bytes)) refl fed
 
@@ -106,16 +106,16 @@ bodies asks r place bytes used Head left fed = absurd fed
 bodies asks r place bytes used (Body from to) left fed =
     let next : List ℕ → List Event = tale_of (drop 1 asks) [] in
     subst (λ (l : Reading). Tells asks (Within r place) bytes used (Body from to) l) (sym fed.leaves)
-        (λ more. ap (body_tale next (fate_of r)) (fed.body.reads more) ∙ run_first next (fate_of r) (slice_range bytes from to) (read_from fed.next (drop used bytes ++ more)))
+    (λ more. ap (body_tale next (fate_of r)) (fed.body.reads more) ∙ run_first next (fate_of r) (slice_range bytes from to) (read_from fed.next (drop used bytes ++ more)))
 bodies asks r place bytes used End left fed =
     let next : List ℕ → List Event = tale_of (drop 1 asks) [] in
     subst (λ (l : Reading). Tells asks (Within r place) bytes used End l) (sym fed.leaves)
-        (λ more. ap (body_tale next (fate_of r)) (fed.body more) ∙ ap (λ (es : List Event). Ended ∷ es) (behind_tale (drop 1 asks) (fate_of r) (drop used bytes ++ more)))
+    (λ more. ap (body_tale next (fate_of r)) (fed.body more) ∙ ap (λ (es : List Event). Ended ∷ es) (behind_tale (drop 1 asks) (fate_of r) (drop used bytes ++ more)))
 bodies asks r place bytes used Bad left fed = λ more. ap (body_tale (tale_of (drop 1 asks) []) (fate_of r)) (fed.body more)
 bodies asks r place bytes used Idle left fed =
     let next : List ℕ → List Event = tale_of (drop 1 asks) [] in
     subst (λ (l : Reading). Tells asks (Within r place) bytes used Idle l) (sym fed.leaves)
-        (λ more. ap (body_tale next (fate_of r)) (fed.body.reads more) ∙ run_first next (fate_of r) [] (read_from fed.next (drop used bytes ++ more)))
+    (λ more. ap (body_tale next (fate_of r)) (fed.body.reads more) ∙ run_first next (fate_of r) [] (read_from fed.next (drop used bytes ++ more)))
 
 -- ---- both
 

@@ -1,5 +1,5 @@
 -- How many bytes each step uses.
-use Rattle.std.proofs.Common.{◌≡◌, ℕ, ◌<◌, ◌≤◌, Bool, List, [], ◌∷◌, ◌++◌, length, Option, Some, None, refl, sym, subst, ◌∙◌}
+use Rattle.std.proofs.Common.{ℕ, Bool, List, [], ◌∷◌, ◌++◌, length, Option, Some, None, sym, subst}
 use Rattle.pp_pipe.specs.Feeding.{IsFed, IsFrontTold, IsTold, IsUsed}
 use Rattle.pp_pipe.specs.Front.{Front, Final, Unfinished, NoResponse, front_of}
 use Rattle.pp_pipe.specs.Reading.{Reading, Before, Within, Closed, Broken}

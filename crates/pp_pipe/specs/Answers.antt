@@ -6,7 +6,7 @@ use Rattle.pp_head.specs.Limits.{max_bytes}
 use Rattle.pp_head.specs.Read.{Read, Whole, TooLong, Bad, More}
 use Rattle.pp_head.specs.Response.{Response, response_at}
 use Rattle.pp_pipe.specs.Feeding.{IsBodyFed, IsFrontTold, IsHeadFed}
-use Rattle.pp_pipe.specs.Front.{Front, Unfinished, NoResponse as IsNoResponse, Final as IsFinal, fate_of, front_of}
+use Rattle.pp_pipe.specs.Front.{Unfinished, NoResponse as IsNoResponse, Final as IsFinal, fate_of, front_of}
 use Rattle.pp_pipe.specs.Reading.{Reading, Before, Within, Closed as IsClosed, Broken as IsBroken}
 use Rattle.pp_pipe.specs.declared.answer.Stage.{Stage}
 use Rattle.pp_pipe.specs.declared.answer.Stage.TheVariants.{Head, Body, Closed, Broken}

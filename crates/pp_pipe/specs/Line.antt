@@ -1,8 +1,8 @@
 -- A connection to an origin: what is asked there, and what comes (RFC 2616, section 8.1.2.2).
-use Rattle.std.specs.Prelude.{ℕ, ◌+◌, ◌-◌, Bool, true, false, ◌||◌, not, List, [], ◌∷◌, ◌++◌, length, map, take, drop, remove, slice_get, Option, Some, None}
+use Rattle.std.specs.Prelude.{ℕ, ◌+◌, ◌-◌, Bool, true, false, ◌||◌, List, [], ◌∷◌, ◌++◌, length, map, take, drop, remove, slice_get, Option, Some, None}
 use Rattle.pp_framing.specs.declared.body.Ending.{Ending}
 use Rattle.pp_framing.specs.declared.body.Ending.TheVariants.{Whole, Short}
-use Rattle.pp_pipe.specs.Asks.{all_taken, fresh, out_room, size_of, total, with_body}
+use Rattle.pp_pipe.specs.Asks.{all_taken, fresh, out_room, total, with_body}
 use Rattle.pp_pipe.specs.Reading.{Reading, Before, Closed, fate_in}
 use Rattle.pp_pipe.specs.declared.asks.Ask.{Ask}
 use Rattle.pp_pipe.specs.declared.fate.Fate.{Fate}

@@ -1,4 +1,4 @@
-use Rattle.std.proofs.Common.{◌≡◌, ◌≤◌, ◌-◌, length, []}
+use Rattle.std.proofs.Common.{◌≤◌, ◌-◌, length, []}
 use Rattle.pp_pipe.specs.Feeding.{Continues}
 use Rattle.pp_pipe.proofs.run.next_run.Given as goal
 

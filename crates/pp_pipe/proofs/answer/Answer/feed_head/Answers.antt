@@ -1,4 +1,4 @@
-use Rattle.std.proofs.Common.{◌≡◌, ◌<◌, length, subst, sym, rules}
+use Rattle.std.proofs.Common.{length, subst, sym, rules}
 use Rattle.pp_pipe.proofs.Opening.{none_awaited, none_came}
 use Rattle.pp_pipe.specs.Answers.{IsBeforeFed}
 use Rattle.pp_pipe.specs.Reading.{Broken}

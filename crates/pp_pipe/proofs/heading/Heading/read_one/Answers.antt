@@ -1,5 +1,4 @@
-use Rattle.std.proofs.Common.{◌≡◌, ◌≤◌, ◌-◌, ℕ, List, ◌++◌, length, take, sym, subst, ap, ◌∙◌, arith}
-use Rattle.pp_head.specs.Limits.{max_bytes}
+use Rattle.std.proofs.Common.{◌≡◌, ◌-◌, ℕ, List, ◌++◌, length, take, sym, subst, arith}
 use Rattle.pp_head.specs.Response.{response_at}
 use Rattle.pp_pipe.proofs.Pieces.{interim_past, final_past, waiting, no_response, passed_over, opened}
 use Rattle.pp_pipe.specs.Answers.{IsOpened, IsPassedOver, IsWaiting, piece}

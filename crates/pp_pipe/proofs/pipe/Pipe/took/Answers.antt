@@ -1,4 +1,4 @@
-use Rattle.std.proofs.Common.{◌≡◌, ◌+◌, ◌-◌, ◌≤◌, ℕ, List, length, drop, min, sym, subst, ap, ◌∙◌, arith}
+use Rattle.std.proofs.Common.{◌≡◌, ◌+◌, ◌-◌, ◌≤◌, ℕ, List, length, sym, subst, ap, ◌∙◌}
 use Rattle.std.specs.List.{refill}
 use Rattle.pp_pipe.specs.Asks.{all_taken, out_room, total}
 use Rattle.pp_pipe.specs.declared.asks.Ask.{Ask}
