@@ -1,0 +1,9 @@
+mod Fronts
+mod Opening
+mod Pieces
+mod Quiet
+mod Runs
+mod Staying
+mod Taking
+mod Tales
+mod Using
