@@ -1,6 +1,6 @@
 -- Where a connection stands, and what is left when it is changed or taken out there.
-use Rattle.std.proofs.Common.{◌≡◌, ◌<◌, ◌≤◌, ◌+◌, ◌==◌, ◌⊎◌, inl, ℕ, zero, suc, Bool, true, false, cond, List, [], ◌∷◌, get_or, set, drop, length, refl, sym, ◌∙◌, ap, arith, add-one, drop-cons}
-use Rattle.std.specs.List.{remove}
+use Rattle.std.proofs.Common.{◌≡◌, ◌<◌, ◌≤◌, ◌+◌, ◌==◌, ◌⊎◌, inl, ℕ, zero, suc, Bool, true, false, cond, List, [], ◌∷◌, get_or, set, drop, length, refl, sym, ◌∙◌, ap, arith, add-one, drop-cons, Option, Some, None}
+use Rattle.std.specs.List.{find, remove}
 use Rattle.std.proofs.lemmas.List.{drop_all}
 use Rattle.pp_pipe.specs.Line.{Line}
 use Rattle.pp_peers.specs.Peers.{is_number, place_in, with_pipe, without}
@@ -79,3 +79,30 @@ none_removed number (q ∷ ps) past = by (is_number number q) refl (λ few. none
     by : (v : Bool) → is_number number q ≡ v → (length ps ≤ place_in number ps → without number ps ≡ ps) → without number (q ∷ ps) ≡ q ∷ ps
     by true e below = absurd (omega (arith, past, first number q ps (place_in number (q ∷ ps)) refl e))
     by false e below = ap (λ b. cond b ps (q ∷ without number ps)) e ∙ ap (λ (rs : List Peer). q ∷ rs) (below (omega (arith, past, later number q ps (place_in number (q ∷ ps)) refl e)))
+
+-- ---- it is the first that has its number
+
+find_first : (q p : Peer) (ps : List Peer) (i : ℕ) → i ≡ 0 → p ≡ get_or (q ∷ ps) i p → ◌≡◌ {A = Option Peer} (Some q) (Some p)
+find_first q p ps zero at is = ap Some (sym is)
+find_first q p ps (suc i) at is = absurd (omega (arith, at))
+
+find_later : (number : ℕ) (q p : Peer) (ps : List Peer) (i : ℕ) → ((j : ℕ) → j ≡ place_in number ps → j < length ps → p ≡ get_or ps j p → find (is_number number) ps ≡ Some p)
+    → i ≡ place_in number ps + 1 → i < length (q ∷ ps) → p ≡ get_or (q ∷ ps) i p → find (is_number number) ps ≡ Some p
+find_later number q p ps zero below at within is = absurd (omega (arith, at))
+find_later number q p ps (suc i) below at within is = below i (omega (arith, at)) (omega (arith, within)) is
+
+pub find_at : (number : ℕ) (ps : List Peer) (i : ℕ) (p : Peer) → i ≡ place_in number ps → i < length ps → p ≡ get_or ps i p → find (is_number number) ps ≡ Some p
+find_at number [] i p at within is = absurd (omega (arith, within))
+find_at number (q ∷ ps) i p at within is = by (is_number number q) refl (λ e. find_later number q p ps i (λ j a w s. find_at number ps j p a w s) (later number q ps i at e) within is)
+  where
+    by : (v : Bool) → is_number number q ≡ v → (is_number number q ≡ false → find (is_number number) ps ≡ Some p) → find (is_number number) (q ∷ ps) ≡ Some p
+    by true e below = ap (λ b. cond b (Some q) (find (is_number number) ps)) e ∙ find_first q p ps i (first number q ps i at e) is
+    by false e below = ap (λ b. cond b (Some q) (find (is_number number) ps)) e ∙ below e
+
+pub none_found : (number : ℕ) (ps : List Peer) → length ps ≤ place_in number ps → find (is_number number) ps ≡ None
+none_found number [] past = refl
+none_found number (q ∷ ps) past = by (is_number number q) refl (λ few. none_found number ps few)
+  where
+    by : (v : Bool) → is_number number q ≡ v → (length ps ≤ place_in number ps → find (is_number number) ps ≡ None) → find (is_number number) (q ∷ ps) ≡ None
+    by true e below = absurd (omega (arith, past, first number q ps (place_in number (q ∷ ps)) refl e))
+    by false e below = ap (λ b. cond b (Some q) (find (is_number number) ps)) e ∙ below (omega (arith, past, later number q ps (place_in number (q ∷ ps)) refl e))

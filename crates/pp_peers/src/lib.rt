@@ -20,3 +20,6 @@ mod searches; // the best of some connections
 pub use attempts::{Attempts, Lost};
 pub use peers::{HOST_ROOM, Load, PEERS, Peers};
 pub use placing::Placed;
+
+#[cfg(test)]
+mod tests; // worked placings

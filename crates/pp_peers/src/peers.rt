@@ -1,6 +1,6 @@
 // The connections that are there.
 ghost use Rattle.std.specs.Borrow.{sem};
-ghost use Rattle.std.specs.Prelude.{◌≡◌, ◌↔◌, ◌≤◌, ◌<◌, ◌++◌, ◌∷◌, [], length, option_map, true, false, IsSome, IfOk, IfSome};
+ghost use Rattle.std.specs.Prelude.{◌≡◌, ◌≤◌, ◌<◌, ◌++◌, ◌∷◌, [], length, option_map, false, IfOk};
 ghost use Rattle.std.specs.List.{find, list_any};
 ghost use Rattle.pp_peers.specs.Lending.{LendsPipe};
 ghost use Rattle.pp_peers.specs.Peers.{is_number, load_of as load_in, place_in, unused, without};
@@ -140,10 +140,11 @@ impl Peers {
         None
     }
 
-    /// The pipe of the connection with this number. `None` exactly where it is not there.
+    /// The pipe of the connection with this number, lent. `None` exactly where it is not there.
+    #[tactic(auto, using(crate::proofs::Finding::none_found))]
     pub fn pipe(&mut self, number: u64) -> Option<&mut Pipe>
         ensures* writes_back { sem 𝓛 (LendsPipe self.entry number result) }
-        ensures some { IsSome result ↔ (place_in number self.old < length self.old) }
+        ensures value { option_map (λ p. p.now) result ≡ option_map (λ p. p.pipe) (find (is_number number) self.old) }
     {
         let index = place_of(&self.peers, number);
         let peer = self.peers.get_mut(index)?;
