@@ -1,2 +1,2 @@
-pub mod Loading
-pub mod Searching
+mod Finding
+mod Searching

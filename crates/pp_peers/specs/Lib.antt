@@ -1,4 +1,5 @@
 pub mod Attempts
+pub mod Lending
 pub mod Peers
 pub mod Placing
 pub mod Searches

@@ -1,23 +1,36 @@
 -- The connections to origins (RFC 2616, section 8.1).
-use Rattle.std.specs.Prelude.{ℕ, Bool, false, ◌==◌, not, if◌then◌else◌, List}
+use Rattle.std.specs.Prelude.{ℕ, ◌+◌, Bool, ◌==◌, if◌then◌else◌, List, [], ◌∷◌, length, count_by}
+use Rattle.pp_pipe.specs.Asks.{is_outstanding}
+use Rattle.pp_pipe.specs.Line.{Line, started}
 use Rattle.pp_peers.specs.declared.peers.Load.{Load}
 use Rattle.pp_peers.specs.declared.peers.Peer.{Peer}
 
 abbrev pub is_number : ℕ → Peer → Bool
 is_number number peer = peer.number == number
 
-abbrev pub is_other : ℕ → Peer → Bool
-is_other number peer = not (is_number number peer)
-
--- a new connection carries nothing
+-- to a new connection nothing was asked
 abbrev pub unused : ℕ → List ℕ → ℕ → Peer
-unused number host port = record {
-  number = number;
-  host = record { items = host };
-  port = port;
-  load = record { asks = 0; outstanding = 0; may_pipeline = false };
+unused number host port = record { number = number; host = record { items = host }; port = port; pipe = started number }
+
+-- what a connection carries
+abbrev pub load_of : Peer → Load
+load_of peer = record {
+  asks = length peer.pipe.asks;
+  outstanding = count_by is_outstanding peer.pipe.asks;
+  may_pipeline = peer.pipe.may_pipeline;
 }
 
--- the connection with this number carries this
-abbrev pub loaded : ℕ → Load → Peer → Peer
-loaded number load peer = if is_number number peer then record peer { load = load } else peer
+-- where the connection with this number stands, behind the last where it is not there
+abbrev pub place_in : ℕ → List Peer → ℕ
+place_in number [] = 0
+place_in number (peer ∷ peers) = if is_number number peer then 0 else place_in number peers + 1
+
+-- without the connection with this number
+abbrev pub without : ℕ → List Peer → List Peer
+without number [] = []
+without number (peer ∷ peers) = if is_number number peer then peers else peer ∷ without number peers
+
+-- the pipe of the connection with this number is such
+abbrev pub with_pipe : ℕ → Line → List Peer → List Peer
+with_pipe number line [] = []
+with_pipe number line (peer ∷ peers) = if is_number number peer then (record peer { pipe = line }) ∷ peers else peer ∷ with_pipe number line peers

@@ -1,5 +1,6 @@
 -- The best of some connections.
 use Rattle.std.specs.Prelude.{ℕ, Bool, true, ◌==◌, ◌&&◌, ◌||◌, nat_lt, if◌then◌else◌, min, List, [], ◌∷◌, map, filter, fold, length, bytes_eq, Option, Some, None}
+use Rattle.pp_peers.specs.Peers.{load_of}
 use Rattle.pp_peers.specs.declared.peers.Peer.{Peer}
 use Rattle.pp_peers.specs.declared.searches.Among.{Among}
 use Rattle.pp_peers.specs.declared.searches.Among.TheVariants.{All, Host}
@@ -20,12 +21,12 @@ count_of among peers = length (filter among peers)
 
 -- it carries nothing
 abbrev pub is_idle : (Peer → Bool) → Peer → Bool
-is_idle among peer = among peer && (peer.load.asks == 0)
+is_idle among peer = among peer && ((load_of peer).asks == 0)
 
 -- "Clients which assume persistent connections and pipeline immediately after connection establishment SHOULD be
 -- prepared to retry" (section 8.1.2.2); ours: only after a response that shows that it may, and 8 asks
 abbrev pub takes_more : (Peer → Bool) → Peer → Bool
-takes_more among peer = among peer && (peer.load.may_pipeline && nat_lt peer.load.asks 8)
+takes_more among peer = among peer && ((load_of peer).may_pipeline && nat_lt (load_of peer).asks 8)
 
 abbrev pub lower : Option ℕ → ℕ → ℕ
 lower None number = number
@@ -61,7 +62,7 @@ lightest_of [] = None
 lightest_of (weight ∷ weights) = Some (fold lighter_of weight weights)
 
 abbrev pub weights : (Peer → Bool) → List Peer → List Weight
-weights test peers = map (λ p. (p.load.outstanding, p.number)) (filter test peers)
+weights test peers = map (λ p. ((load_of p).outstanding, p.number)) (filter test peers)
 
 abbrev pub lightest : (Peer → Bool) → List Peer → Option Weight
 lightest among peers = lightest_of (weights (takes_more among) peers)

@@ -1,15 +1,15 @@
 //! Which connection an ask goes to, and how often it may be lost (RFC 2616, sections 8.1.2.2 and
 //! 8.1.4).
 //!
-//! `Peers` are the connections to origins that are there, each with what it carries. `place` says
-//! where the next ask for a host goes: to a connection that carries nothing, to a new one while the
-//! host has few, else behind the asks of one that may be pipelined. `Attempts` count what was lost
-//! for a request.
+//! `Peers` are the connections to origins that are there, each with its pipe. `place` says where the
+//! next ask for a host goes: to a connection that carries nothing, to a new one while the host has
+//! few, else behind the asks of one that may be pipelined. `Attempts` count what was lost for a
+//! request.
 //!
-//! To the layer above: a list of connections in the order in which they were added, and the place is
-//! that of `specs/Placing.antt`.
+//! To the layer above: a list of connections in the order in which they were added, each with the
+//! line of its pipe, and the place is that of `specs/Placing.antt`.
 //!
-//! Only `Peers::new` takes memory. What a connection carries is told by whoever writes and reads it.
+//! Only `Peers::new` takes memory, that of all 64 pipes. What goes through a pipe is for `pp_pipe`.
 #![tactic(auto)]
 
 mod attempts; // how often an ask may be lost

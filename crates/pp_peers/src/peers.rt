@@ -1,11 +1,14 @@
 // The connections that are there.
-ghost use Rattle.std.specs.Prelude.{◌≡◌, ◌≤◌, ◌<◌, ◌++◌, ◌∷◌, [], length, map, filter, option_map, false, IfOk};
+ghost use Rattle.std.specs.Borrow.{sem};
+ghost use Rattle.std.specs.Prelude.{◌≡◌, ◌≤◌, ◌<◌, ◌++◌, ◌∷◌, [], length, option_map, false, IfOk};
 ghost use Rattle.std.specs.List.{find, list_any};
-ghost use Rattle.pp_peers.specs.Peers.{is_number, is_other, loaded, unused};
+ghost use Rattle.pp_peers.specs.Lending.{LendsPipe};
+ghost use Rattle.pp_peers.specs.Peers.{is_number, load_of as load_in, place_in, unused, without};
 ghost use Rattle.pp_peers.specs.Placing.{place};
 
 use crate::placing::{Placed, place_among};
 use arrayvec::ArrayVec;
+use pp_pipe::Pipe;
 use pp_text::OutOfMemory;
 use std::alloc::Global;
 use std::marker::Model;
@@ -16,24 +19,15 @@ pub const PEERS: usize = 64;
 /// Bytes that the name of a host may have.
 pub const HOST_ROOM: usize = 255;
 
-/// What a connection carries.
+/// What a connection carries, as its pipe tells.
 #[derive(Clone, Copy, Debug, PartialEq, Eq)]
 pub struct Load {
-    /// The asks that were given to it and not answered whole.
-    pub asks: u8,
-    /// Those of them whose head was sent.
-    pub outstanding: u8,
+    /// The asks that were pushed and neither withdrawn nor answered whole.
+    pub asks: usize,
+    /// Those of them whose text was sent.
+    pub outstanding: usize,
     /// Whether it brought a whole HTTP/1.1 response that did not say `close`.
     pub may_pipeline: bool,
-}
-
-impl Load {
-    /// What a new connection carries.
-    pub const NONE: Load = Load {
-        asks: 0,
-        outstanding: 0,
-        may_pipeline: false,
-    };
 }
 
 /// A connection to an origin.
@@ -43,33 +37,40 @@ pub(crate) struct Peer {
     /// In lower case.
     pub(crate) host: ArrayVec<u8, HOST_ROOM>,
     pub(crate) port: u16,
-    pub(crate) load: Load,
+    pub(crate) pipe: Pipe,
 }
 
 /// The connections that are there, in the order in which they were added.
 #[derive(Drop)]
 pub struct Peers {
     peers: Vec<Peer>,
+    /// The pipes that no connection has.
+    spare: Vec<Pipe>,
 }
 
 impl Model for Peers {
-    ghost use Rattle.std.specs.Prelude.{◌≤◌, List, length, vec_capacity};
+    ghost use Rattle.std.specs.Prelude.{◌≡◌, ◌≤◌, ◌+◌, List, length, vec_capacity};
     ghost use Rattle.pp_peers.specs.declared.peers.Peer.{Peer as Connection};
 
     ghost Value = { List Connection };
 
     ghost view = { λ p. p.peers.items };
 
-    ghost invariant = { λ p. (length p.peers.items ≤ 64) × (64 ≤ vec_capacity p.peers) };
+    ghost invariant = { λ p. (length p.peers.items + length p.spare.items ≡ 64) × (64 ≤ vec_capacity p.peers) × (64 ≤ vec_capacity p.spare) };
 }
 
 impl Peers {
-    /// No connections, and the room for all that there may be.
+    /// No connections, and the memory of all that there may be.
     pub fn new(alloc: Global) -> Result<Peers, OutOfMemory>
         ensures { IfOk result (λ p. p ≡ []) }
     {
         let peers = Vec::with_capacity(alloc, PEERS)?;
-        Ok(Peers { peers })
+        let mut spare = Vec::with_capacity(alloc, PEERS)?;
+        for number in 0..PEERS {
+            let pipe = Pipe::new(alloc, number as u64)?;
+            spare.push_reserved(pipe);
+        }
+        Ok(Peers { peers, spare })
     }
 
     /// How many connections there are.
@@ -89,7 +90,7 @@ impl Peers {
         place_among(&self.peers, host, port, alone)
     }
 
-    /// A connection with this number was dialled, to this host and port.
+    /// A connection with this number was dialled, to this host and port: nothing was asked there.
     pub fn add(&mut self, number: u64, host: &[u8], port: u16)
         requires few { length self.old < 64 }
         requires short { length host.now ≤ 255 }
@@ -98,11 +99,13 @@ impl Peers {
     {
         let mut name = ArrayVec::new();
         let _ = name.try_extend_from_slice(host);
+        let mut pipe = self.spare.take_last();
+        pipe.restart(number);
         self.peers.push_reserved(Peer {
             number,
             host: name,
             port,
-            load: Load::NONE,
+            pipe,
         });
     }
 
@@ -114,39 +117,63 @@ impl Peers {
     }
 
     /// The connection with this number is gone. Nothing changes where it is not there.
+    #[tactic(auto, using(crate::proofs::Finding::removed_at, crate::proofs::Finding::none_removed))]
     pub fn gone(&mut self, number: u64)
-        ensures { self.new ≡ filter (is_other number) self.old }
+        ensures { self.new ≡ without number self.old }
     {
-        self.peers.retain(|peer| peer.number != number);
+        let index = place_of(&self.peers, number);
+        if index < self.peers.len() {
+            let Peer { pipe, .. } = self.peers.remove(index);
+            self.spare.push_reserved(pipe);
+        }
     }
 
     /// What the connection with this number carries. `None` exactly where it is not there.
     pub fn load(&self, number: u64) -> Option<Load>
-        ensures { result ≡ option_map (λ p. p.load) (find (is_number number) self.now) }
+        ensures { result ≡ option_map load_in (find (is_number number) self.now) }
     {
         for peer in &self.peers {
             if peer.number == number {
-                return Some(peer.load);
+                return Some(load_of(peer));
             }
         }
         None
     }
 
-    /// The connection with this number now carries this. Nothing changes where it is not there.
-    pub fn set_load(&mut self, number: u64, load: Load)
-        ensures { self.new ≡ map (loaded number load) self.old }
+    /// The pipe of the connection with this number, lent. `None` exactly where it is not there.
+    #[tactic(auto, using(crate::proofs::Finding::none_found))]
+    pub fn pipe(&mut self, number: u64) -> Option<&mut Pipe>
+        ensures* writes_back { sem 𝓛 (LendsPipe self.entry number result) }
+        ensures value { option_map (λ p. p.now) result ≡ option_map (λ p. p.pipe) (find (is_number number) self.old) }
     {
-        for index in 0..self.peers.len() {
-            set_load_of(&mut self.peers[index], number, load);
-        }
+        let index = place_of(&self.peers, number);
+        let peer = self.peers.get_mut(index)?;
+        Some(&mut peer.pipe)
     }
 }
 
-/// The connection carries this, where it has this number.
-fn set_load_of(peer: &mut Peer, number: u64, load: Load)
-    ensures { peer.new ≡ loaded number load peer.old }
+/// What a connection carries.
+pub(crate) fn load_of(peer: &Peer) -> Load
+    ensures { result ≡ load_in peer.now }
 {
-    if peer.number == number {
-        peer.load = load;
+    Load {
+        asks: peer.pipe.asks(),
+        outstanding: peer.pipe.outstanding(),
+        may_pipeline: peer.pipe.may_pipeline(),
     }
+}
+
+/// Where the connection with this number stands; behind the last where it is not there.
+#[tactic(auto, using(crate::proofs::Finding::found, crate::proofs::Finding::passed, crate::proofs::Finding::not_found))]
+fn place_of(peers: &[Peer], number: u64) -> usize
+    ensures { result ≡ place_in number peers.now }
+{
+    let mut place = 0;
+    for peer in peers {
+        if peer.number == number {
+            return place;
+        }
+        place += 1;
+    }
+    place
 }

@@ -2,10 +2,8 @@
 ghost use Rattle.std.specs.Prelude.{◌≡◌, ◌≤◌, length, option_map};
 ghost use Rattle.pp_peers.specs.Searches.{count_of, is_among, is_idle, is_lighter, lighter, lightest, lower, lowest_idle, takes_more};
 
-use crate::peers::Peer;
-
-/// Asks that a connection may have.
-const LINE: u8 = 8;
+use crate::peers::{Peer, load_of};
+use pp_pipe::MAX_ASKS;
 
 /// Which connections are meant.
 #[derive(Clone, Copy)]
@@ -58,7 +56,7 @@ pub fn lightest(peers: &[Peer], among: Among<'_>) -> Option<u64>
     let mut lightest = None;
     for peer in peers {
         if takes_more(peer, among) {
-            lightest = Some(lighter(lightest, (peer.load.outstanding, peer.number)));
+            lightest = Some(lighter(lightest, (load_of(peer).outstanding, peer.number)));
         }
     }
     match lightest {
@@ -68,7 +66,7 @@ pub fn lightest(peers: &[Peer], among: Among<'_>) -> Option<u64>
 }
 
 /// Outstanding asks, and the number.
-type Weight = (u8, u64);
+type Weight = (usize, u64);
 
 fn lighter(lightest: Option<Weight>, weight: Weight) -> Weight
     ensures { result ≡ lighter lightest weight }
@@ -97,12 +95,13 @@ fn is_among(peer: &Peer, among: Among<'_>) -> bool
 fn is_idle(peer: &Peer, among: Among<'_>) -> bool
     ensures { result ≡ is_idle (is_among among.entry) peer.now }
 {
-    is_among(peer, among) && peer.load.asks == 0
+    is_among(peer, among) && load_of(peer).asks == 0
 }
 
 fn takes_more(peer: &Peer, among: Among<'_>) -> bool
     ensures { result ≡ takes_more (is_among among.entry) peer.now }
 {
-    let takes = peer.load.may_pipeline && peer.load.asks < LINE;
+    let load = load_of(peer);
+    let takes = load.may_pipeline && load.asks < MAX_ASKS;
     is_among(peer, among) && takes
 }

@@ -1,0 +1,11 @@
+-- What is left when a pipe that was lent is given back.
+use Rattle.std.specs.Borrow.{Fml, LendsIf, MutBor}
+use Rattle.std.specs.Prelude.{ℕ, List, Option}
+use Rattle.pp_pipe.specs.Line.{Line}
+use Rattle.pp_pipe.specs.contracts.pipe.Pipe.{the_row as pipe_row}
+use Rattle.pp_peers.specs.Peers.{with_pipe}
+use Rattle.pp_peers.specs.contracts.peers.Peers.{the_row as peers_row}
+use Rattle.pp_peers.specs.declared.peers.Peer.{Peer}
+
+abbrev pub LendsPipe : MutBor (List Peer) → ℕ → Option (MutBor Line) → Fml
+LendsPipe peers number result = LendsIf peers_row pipe_row peers result (λ line. with_pipe number line peers.now) peers.now
