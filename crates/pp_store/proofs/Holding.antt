@@ -94,7 +94,7 @@ or_right false true e = absurd cc
 or_right false false e = refl
 
 pub open-before : (name other : Bytes) (store : KeptMap) → is_closed other (with_closed name store) ≡ false → is_closed other store ≡ false
-open-before name other store no = or_left (list_any (is_name other) store.closed) (is_name other name) (sym (list_any-append (is_name other) store.closed (name ∷ [])) ∙ no)
+open-before name other store free = or_left (list_any (is_name other) store.closed) (is_name other name) (sym (list_any-append (is_name other) store.closed (name ∷ [])) ∙ free)
 
 -- where all was done, no name more failed
 failed-none : (name : Bytes) (k l : Log) (store : KeptMap) → After name true k l → ((n : Bytes) → (view_of n k).failed ≡ true → is_closed n store ≡ true)

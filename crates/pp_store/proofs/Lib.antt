@@ -1,6 +1,10 @@
+pub mod Calls
 pub mod FieldLemmas
 pub mod Holding
 pub mod Lists
 pub mod Names
+pub mod PlaceLemmas
+pub mod Quiet
 pub mod Running
+pub mod Sealing
 pub mod Sound
