@@ -1,5 +1,7 @@
 pub mod Calls
+pub mod ChunkLemmas
 pub mod FieldLemmas
+pub mod HeldByImages
 pub mod Holding
 pub mod Lists
 pub mod Names

@@ -1,8 +1,6 @@
 -- A call that did nothing on the disk, and a name that was published.
 use Rattle.std.proofs.Common.{◌≡◌, ℕ, ◌+◌, ◌<◌, ◌≤◌, Bool, true, false, List, [], ◌∷◌, ◌++◌, length, Option, Some, None, inl, arith, length-append, refl, sym, ◌∙◌, ap, subst}
-use Rattle.std.specs.Prelude.{nat_le}
 use Rattle.std.proofs.lemmas.List.{append-nil}
-use Rattle.std.proofs.lemmas.Bool.Decides.{nat_tests}
 use Rattle.pp_world.specs.Log.{Log, Told}
 use Rattle.pp_world.specs.Disk.{Bytes}
 use Rattle.pp_entry.specs.Texts.{chunks_of}
@@ -11,9 +9,8 @@ use Rattle.pp_gate.specs.Runs.{EachMoment, AtEach}
 use Rattle.pp_gate.specs.Seal.{IsKept, Keeps}
 use Rattle.pp_gate.proofs.SealLemmas.{new_keeps}
 use Rattle.pp_store.specs.declared.row.Site.{Site}
-use Rattle.pp_store.specs.Kept.{Kept, KeptMap, name_at, block_of}
+use Rattle.pp_store.specs.Kept.{Kept, name_at, block_of}
 use Rattle.pp_store.specs.Views.{site_of}
-use Rattle.pp_store.specs.Answers.{is_full}
 use Rattle.pp_store.specs.Held.{Sent, IsHeld}
 use Rattle.pp_store.proofs.Sealing.{moved}
 
@@ -43,12 +40,6 @@ quiet_old log name new = quiet log (OldOr name new) (λ k file left. inl left)
 
 pub quiet_others : (log : Option Log) (name : Bytes) → EachMoment log log (OthersSame name)
 quiet_others log name = quiet log (OthersSame name) (λ k other differ. refl)
-
-pub not_full : (w : KeptMap) → is_full w ≡ false → length w.rows + length w.closed < 10000
-not_full w no = below (length w.rows + length w.closed) no
-  where
-    below : (m : ℕ) → nat_le 10000 m ≡ false → m < 10000
-    below m e = grind (arith, nat_tests)
 
 -- a file that was just published is held
 pub published_held : (new : Option Log) (sent : Sent) (row : Kept) (site : Site) (block : Bytes) → site ≡ site_of row → block ≡ block_of row.entry → row.extent ≡ 0
