@@ -18,7 +18,7 @@ use Rattle.pp_store.proofs.Holding.{holds-without, holds-lost, holds-extended, h
 
 -- after a run of operations on the name of a key that is kept
 module _ (old new : Option Log) (ops : List DiskOp) (sent : Sent) (store : KeptMap) (key : List ℕ)
-  (own : HasOwnNames store) (kept : IsSome (kept_of key store)) (on : AllOn (name_of key) ops) (others : EachMoment old new (OthersSame (name_of key))) where
+    (own : HasOwnNames store) (kept : IsSome (kept_of key store)) (on : AllOn (name_of key) ops) (others : EachMoment old new (OthersSame (name_of key))) where
   pub lost_holds : (ok : Bool) → RunsOps old new ops ok → Told old (Holds sent store) → Told new (Holds sent (lost key store))
   lost_holds ok runs told = after_runs old new ops ok (name_of key) (Holds sent store) (Holds sent (lost key store)) on runs others told
       (λ k l was is held after. holds-lost sent store key (row_of key store) ok k l own (found_row key store kept) held after)
@@ -37,7 +37,7 @@ module _ (old new : Option Log) (ops : List DiskOp) (sent : Sent) (store : KeptM
 
 -- after the removal of its file
 module _ (old new : Option Log) (sent : Sent) (store : KeptMap) (key : List ℕ)
-  (own : HasOwnNames store) (kept : IsSome (kept_of key store)) (runs : RunsOps old new (Remove (name_of key) ∷ []) true) (others : EachMoment old new (OthersSame (name_of key))) where
+    (own : HasOwnNames store) (kept : IsSome (kept_of key store)) (runs : RunsOps old new (Remove (name_of key) ∷ []) true) (others : EachMoment old new (OthersSame (name_of key))) where
   pub withdrawn_holds : Told old (Holds sent store) → Told new (Holds sent (without key store))
   withdrawn_holds told = after_runs old new (Remove (name_of key) ∷ []) true (name_of key) (Holds sent store) (Holds sent (without key store)) (refl, tt) runs others told
       (λ k l was is held after. holds-without sent store key (row_of key store) k l own (found_row key store kept) held after)
@@ -48,7 +48,7 @@ module _ (old new : Option Log) (sent : Sent) (store : KeptMap) (key : List ℕ)
 
 -- after a read of its file that failed
 module _ (old new : Option Log) (sent : Sent) (store : KeptMap) (key : List ℕ)
-  (own : HasOwnNames store) (kept : IsSome (kept_of key store)) where
+    (own : HasOwnNames store) (kept : IsSome (kept_of key store)) where
   pub unread_holds : AppendsAll old new (λ l. Unread (name_of key) ∷ []) → Told old (Holds sent store) → Told new (Holds sent (lost key store))
   unread_holds call told = after_appends old new (Unread (name_of key) ∷ []) false (name_of key) (Holds sent store) (Holds sent (lost key store)) call (after_unread (name_of key)) told
       (λ k l held after. holds-lost sent store key (row_of key store) false k l own (found_row key store kept) held after)
@@ -59,7 +59,7 @@ module _ (old new : Option Log) (sent : Sent) (store : KeptMap) (key : List ℕ)
 
 -- after a run of operations on a name that is neither kept nor closed
 module _ (old new : Option Log) (ops : List DiskOp) (sent : Sent) (store : KeptMap) (row : Kept)
-  (absent : kept_under (name_at row) store ≡ None) (on : AllOn (name_at row) ops) (others : EachMoment old new (OthersSame (name_at row))) where
+    (absent : kept_under (name_at row) store ≡ None) (on : AllOn (name_at row) ops) (others : EachMoment old new (OthersSame (name_at row))) where
   pub kept_holds : RunsOps old new ops true → Told old (Holds sent store) → Told new (λ l. IsHeld sent l row) → Told new (Holds sent (with_row row.entry row.extent store))
   kept_holds runs told done = after_runs old new ops true (name_at row) (Holds sent store) (Holds sent (with_row row.entry row.extent store)) on runs others told
       (λ k l was is held after. holds-with_row sent store row k l absent held after (done.at l is))

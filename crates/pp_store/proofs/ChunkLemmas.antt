@@ -105,7 +105,7 @@ never_short sent store key index wanted got out l own kept holds held whole belo
     let n = (row_of key store).entry.version.length in
     let at : ℕ = body_at n + 4096 * index in
     let read : length (take (chunk_len n index) (drop at held.bytes)) ≡ got =
-        ap (λ (b : Bytes). length (take (chunk_len n index) (drop at b))) (sym (settled_bytes held.bytes)) ∙ gives (Some (settled held.bytes)) (record { alone = held.slot; sound = kept_sound sent store key l own kept holds }) in
+    ap (λ (b : Bytes). length (take (chunk_len n index) (drop at b))) (sym (settled_bytes held.bytes)) ∙ gives (Some (settled held.bytes)) (record { alone = held.slot; sound = kept_sound sent store key l own kept holds }) in
     let there : at + chunk_len n index ≤ length held.bytes = omega (arith, held.kept.long, whole, ends_within n (row_of key store).extent index whole below) in
     omega (arith, read, long_enough at (chunk_len n index) held.bytes there, all, less)
 

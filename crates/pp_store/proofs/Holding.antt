@@ -34,7 +34,7 @@ wrong e = absurd cc
 
 -- what is known of an entry of the store: it is the one of the key, or it is under another name and held as before
 module _ (sent : Sent) (store : KeptMap) (key : List ℕ) (row : Kept) (ok : Bool) (k l : Log)
-  (own : HasOwnNames store) (found : find (is_of key) store.rows ≡ Some row) (held : All (IsHeld sent k) store.rows) (after : After (name_of key) ok k l) where
+    (own : HasOwnNames store) (found : find (is_of key) store.rows ≡ Some row) (held : All (IsHeld sent k) store.rows) (after : After (name_of key) ok k l) where
   one_there : count_by (is_under (name_of key)) store.rows ≤ 1
   one_there = omega (arith, own.once (name_of key))
 

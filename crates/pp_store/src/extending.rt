@@ -54,12 +54,7 @@ impl Store {
     }
 
     /// Writes the chunks into the file of the entry.
-    fn seal_behind<D: Disk>(
-        &self,
-        disk: &mut D,
-        key: &[u8],
-        bytes: &[u8],
-    ) -> Result<u64, DiskFault>
+    fn seal_behind<D: Disk>(&self, disk: &mut D, key: &[u8], bytes: &[u8]) -> Result<u64, DiskFault>
         ghost claim: { Claim }
         requires kept { IsSome (kept_of key.now self.now) }
         requires block { claim.block ≡ block_of (row_of key.now self.now).entry }

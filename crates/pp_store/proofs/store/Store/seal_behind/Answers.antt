@@ -24,14 +24,14 @@ seal-requires g c κs within =
         c.site-site.ensures.sized,
         (
           moved (λ name block n m. Told (g.D.Logged.log c.args.disk.now) (Keeps g.claim'.sent name block n m))
-          (name_at row) c.site-site.result.name (block_of row.entry) g.claim'.block row.entry.version.length c.site-site.result.length (chunks_of row.extent) (c.site-site.result.extent / 4096)
-          (sym (ap (λ (s : Site). s.name) is)) (sym c.requires.1.1.0) (sym (ap (λ (s : Site). s.length) is))
-          (sym (ap (λ (s : Site). s.extent / 4096) is ∙ first-is row.entry.version.length row.extent (length c.args.bytes.now) whole more.whole more.some))
-          (row_held (g.D.Logged.log c.args.disk.now) g.claim'.sent c.args.self.now c.args.key.now c.requires.1.0 c.requires.1.1.1.1),
+              (name_at row) c.site-site.result.name (block_of row.entry) g.claim'.block row.entry.version.length c.site-site.result.length (chunks_of row.extent) (c.site-site.result.extent / 4096)
+              (sym (ap (λ (s : Site). s.name) is)) (sym c.requires.1.1.0) (sym (ap (λ (s : Site). s.length) is))
+              (sym (ap (λ (s : Site). s.extent / 4096) is ∙ first-is row.entry.version.length row.extent (length c.args.bytes.now) whole more.whole more.some))
+              (row_held (g.D.Logged.log c.args.disk.now) g.claim'.sent c.args.self.now c.args.key.now c.requires.1.0 c.requires.1.1.1.1),
           moved (λ name block n m. IsRun g.claim'.sent block n m (chunks_of (length c.args.bytes.now)) c.args.bytes.now)
-          (name_at row) c.site-site.result.name (block_of row.entry) g.claim'.block row.entry.version.length c.site-site.result.length (row.extent / 4096) (c.site-site.result.extent / 4096)
-          (sym (ap (λ (s : Site). s.name) is)) (sym c.requires.1.1.0) (sym (ap (λ (s : Site). s.length) is)) (sym (ap (λ (s : Site). s.extent / 4096) is))
-          (run-is g.claim'.sent row c.args.bytes.now whole more),
+              (name_at row) c.site-site.result.name (block_of row.entry) g.claim'.block row.entry.version.length c.site-site.result.length (row.extent / 4096) (c.site-site.result.extent / 4096)
+              (sym (ap (λ (s : Site). s.name) is)) (sym c.requires.1.1.0) (sym (ap (λ (s : Site). s.length) is)) (sym (ap (λ (s : Site). s.extent / 4096) is))
+              (run-is g.claim'.sent row c.args.bytes.now whole more),
         ),
       ),
     )
