@@ -1,5 +1,6 @@
 // Entries on a small disk.
-ghost use Rattle.std.specs.Prelude.{◌≡◌, ◌≤◌, ◌^◌, None};
+ghost use Rattle.std.specs.Prelude.{◌≡◌, IfSome, None, true};
+ghost use Rattle.pp_store.specs.Kept.{kept_under};
 
 mod folder; // a small disk
 
@@ -10,7 +11,7 @@ use pp_fresh::Times;
 use pp_target::file_name;
 use pp_text::{FieldSpan, Fields, OutOfMemory};
 use pp_valid::{Tag, Version};
-use pp_world::DiskFault;
+use pp_world::{DiskFault, Name};
 use std::alloc::Global;
 
 /// The kept fields of a response, one behind the other, and where they stand.
@@ -48,9 +49,29 @@ fn fields() -> Fields<'static, 'static> {
 }
 
 /// The version `"x"` of a body of so many bytes, at most 2^26.
-fn version(length: u64) -> Option<Version> {
+fn version(length: u64) -> Option<Version>
+    ensures { IfSome result (λ version. version.length ≡ length) }
+{
     let tag = Tag::read(b"\"x\"")?;
     Some(Version { tag, length })
+}
+
+/// Whether no entry is kept under a name.
+fn is_free(store: &Store, name: &Name) -> bool
+    ensures { result ≡ true → kept_under name.now store.now ≡ None }
+{
+    match store.under(name) {
+        Some(_) => false,
+        None => true,
+    }
+}
+
+/// Closes a name. `None` where an entry is kept under it.
+fn close(store: &mut Store, name: &Name) -> Option<Result<(), OutOfMemory>> {
+    if !is_free(store, name) {
+        return None;
+    }
+    Some(store.close(name))
 }
 
 /// Keeps the entry of a key with a body of so many bytes. `None` where it may not be asked for.
@@ -62,7 +83,7 @@ fn keep(
     length: u64,
 ) -> Option<Result<(), KeepFault>> {
     let version = version(length)?;
-    if length > 67_108_864 || store.under(&file_name(key)).is_some() {
+    if length > 67_108_864 || !is_free(store, &file_name(key)) {
         return None;
     }
     Some(store.keep(alloc, disk, key, &version, &fields(), &TIMES))
@@ -147,23 +168,40 @@ fn an_entry_is_kept_extended_loaded_and_withdrawn(rt: HostRuntime) -> Result<(),
     Ok(())
 }
 
+/// The version, the times and the extent of the entry of a key.
+fn facts_of(store: &Store, key: &[u8]) -> Option<(Version, Times, u64)> {
+    let row = store.kept(key)?;
+    Some((*row.version, row.times, row.extent))
+}
+
+/// Whether a field of the entry under a name has this place, name and value.
+fn has_field(store: &Store, name: &Name, index: usize, field: (&[u8], &[u8])) -> bool {
+    match store.under(name) {
+        Some(row) => {
+            index < row.fields.len()
+                && row.fields.name(index) == field.0
+                && row.fields.value(index) == field.1
+        }
+        None => false,
+    }
+}
+
 #[test]
 fn what_is_kept_is_what_was_given(rt: HostRuntime) -> Result<(), &'static str> {
     let mut store = Store::new(rt.alloc()).map_err(|_| "a store")?;
     let mut disk = Folder::new(rt.alloc());
     assert_eq!(rt; keep(&mut store, rt.alloc(), &mut disk, A, 5), Some(Ok(())));
-    let row = store.under(&file_name(A)).ok_or("a row")?;
-    assert_eq!(rt; row.key, A);
-    assert_eq!(rt; row.version.tag.as_slice(), b"\"x\"".as_slice());
-    assert_eq!(rt; row.version.length, 5);
-    assert_eq!(rt; row.fields.len(), 3);
-    assert_eq!(rt;
-        row.fields.first(b"cache-control"),
-        Some(&b"max-age=60"[..])
-    );
-    assert_eq!(rt; row.fields.name(0), b"etag".as_slice());
-    assert!(rt; row.times == TIMES);
-    assert!(rt; store.under(&file_name(B)).is_none());
+    let given = version(5).ok_or("a version")?;
+    assert!(rt; facts_of(&store, A) == Some((given, TIMES, 0)));
+    let fields: [(&[u8], &[u8]); 3] = [
+        (b"etag", b"\"x\""),
+        (b"date", b"Sun, 06 Nov 1994 08:49:37 GMT"),
+        (b"cache-control", b"max-age=60"),
+    ];
+    for (index, field) in fields.into_iter().enumerate() {
+        assert!(rt; has_field(&store, &file_name(A), index, field), "{index}");
+    }
+    assert!(rt; facts_of(&store, B).is_none());
     Ok(())
 }
 
@@ -294,7 +332,7 @@ fn a_chunk_that_is_not_read_whole_loses_its_entry(rt: HostRuntime) -> Result<(),
 }
 
 /// The name of this number.
-fn numbered(number: u16) -> [u8; 32] {
+fn numbered(number: u16) -> Name {
     let mut name = [b'0'; 32];
     let [high, low] = number.to_be_bytes();
     name[0] = high;
@@ -306,7 +344,7 @@ fn numbered(number: u16) -> [u8; 32] {
 fn close_many(store: &mut Store, count: u16) -> Option<()> {
     for number in 0..count {
         let name = numbered(number);
-        if store.under(&name).is_some() || store.close(&name).is_err() {
+        if close(store, &name) != Some(Ok(())) {
             return None;
         }
     }
@@ -331,7 +369,7 @@ fn at_10000_names_no_entry_is_made(rt: HostRuntime) -> Result<(), &'static str> 
             Some(wanted)
         );
     }
-    assert_eq!(rt; store.close(&file_name(B)), Ok(()));
+    assert_eq!(rt; close(&mut store, &file_name(B)), Some(Ok(())));
     assert_eq!(rt;
         keep(&mut store, rt.alloc(), &mut disk, B, 5),
         Some(Err(KeepFault::Closed))
@@ -343,7 +381,7 @@ fn at_10000_names_no_entry_is_made(rt: HostRuntime) -> Result<(), &'static str> 
 /// Keeps an entry that an earlier life left. `None` where it may not be asked for.
 fn found(store: &mut Store, alloc: Global, key: &[u8]) -> Option<Result<(), OutOfMemory>> {
     let name = file_name(key);
-    if store.under(&name).is_some() || store.is_closed(&name) {
+    if !is_free(store, &name) || store.is_closed(&name) {
         return None;
     }
     let entry = Entry {
@@ -361,7 +399,7 @@ fn an_entry_of_an_earlier_life_is_kept(rt: HostRuntime) -> Result<(), &'static s
     let mut store = Store::new(rt.alloc()).map_err(|_| "a store")?;
     assert_eq!(rt; found(&mut store, rt.alloc(), A), Some(Ok(())));
     assert_eq!(rt; extent_of(&store, A), Some(4096));
-    assert_eq!(rt; store.close(&file_name(B)), Ok(()));
+    assert_eq!(rt; close(&mut store, &file_name(B)), Some(Ok(())));
     assert_eq!(rt; found(&mut store, rt.alloc(), B), None);
     assert_eq!(rt; store.entries(), 1);
     Ok(())
