@@ -1,6 +1,6 @@
 -- A folder keeps what the log says as the log goes on.
 use Rattle.std.proofs.Common.{◌≡◌, ◌∙◌, ap, sym, refl, subst, ℕ, Bool, true, false, List, [], ◌∷◌, ◌++◌, map, filter, take, fold, Option, Some, None}
-use Rattle.std.specs.Prelude.{◌&&◌}
+use Rattle.std.specs.Prelude.{◌&&◌, is_some}
 use Rattle.std.specs.List.{list_all}
 use Rattle.std.proofs.lemmas.List.Sums.{fold-append}
 use Rattle.pp_world.specs.declared.event.Side.{Side}
@@ -8,7 +8,7 @@ use Rattle.pp_world.specs.declared.event.Side.TheVariants.{Client, Origin}
 use Rattle.pp_world.specs.declared.happening.Happening.{Happening}
 use Rattle.pp_world.specs.declared.happening.Happening.TheVariants.{Woke, Began, Did, Shut, Dropped}
 use Rattle.pp_world.specs.declared.op.DiskOp.{DiskOp}
-use Rattle.pp_world.specs.Disk.{Bytes, View, image_after, image_of, is_name, names_in, view_after, view_of, woken}
+use Rattle.pp_world.specs.Disk.{Bytes, HasDraft, Stored, View, image_after, image_of, is_name, names_in, view_after, view_of, woken}
 use Rattle.pp_world.specs.Files.{Files}
 use Rattle.pp_world.specs.Log.{Log, Told}
 use Rattle.pp_world.specs.Wire.{by_side}
@@ -103,3 +103,11 @@ told_names true log folder names kept is = record {
       let same : log ≡ l = cc in
       is ∙ ap listed_in (kept.rests refl files (ap image_of same ∙ image)) ∙ ap (λ (ns : List Bytes). take 65536 (filter is_name ns)) (standing_rested files);
 }
+
+pub told_draft : (told : Bool) (log : Log) (folder : Folder) (b : Bool) → Keeps told log folder → b ≡ is_some folder.draft → Told (log_if told log) (λ l. b ≡ true → HasDraft l)
+told_draft false log folder b kept is = record { at = λ l some. absurd (cc) }
+told_draft true log folder b kept is = record { at = λ l some there. let same : log ≡ l = cc in subst HasDraft same (by folder.draft refl (sym is ∙ there)) }
+  where
+    by : (draft : Option Stored) → folder.draft ≡ draft → is_some draft ≡ true → HasDraft log
+    by None none there = absurd (cc)
+    by (Some f) some there = (f, ((kept.follows refl).shown []).draft ∙ some)

@@ -1,6 +1,6 @@
 -- Lists of files in the order of their names: what stands behind a name, what is found, where one more goes.
 use Rattle.std.proofs.Common.{◌≡◌, ◌⊎◌, inl, inr, ⊎_elim, ℕ, Bool, true, false, List, [], ◌∷◌, ◌++◌, map, filter, cond, Option, Some, None, refl, sym, ◌∙◌, ap, subst, append_assoc, append-nil, length, ◌<◌, arith}
-use Rattle.std.specs.Prelude.{◌&&◌, IsTrue}
+use Rattle.std.specs.Prelude.{◌&&◌, IsTrue, Result, Ok, Err, OnOk, OnErr}
 use Rattle.std.specs.declared.cmp.Ordering.{Ordering}
 use Rattle.std.specs.declared.cmp.Ordering.TheVariants.{Less, Equal, Greater}
 use Rattle.std.specs.Ordering.{is_eq, is_lt, ordering_reverse, match_ordering, nat_cmp}
@@ -228,3 +228,7 @@ rested_at test (f ∷ files) = by (test f.0) (rested_at test files)
     by : (b : Bool) → files_in (lookup test (map rested files)) ≡ at_rest (lookup test files) ∷ [] → files_in (cond b (Some (Some (settled f.1) ∷ [])) (lookup test (map rested files))) ≡ at_rest (cond b (Some f.1) (lookup test files)) ∷ []
     by true rest = refl
     by false rest = rest
+
+pub put_listed : {A E : Type 0} (result : Result A E) (name file : Bytes) (image image' : Files) → AreListed image → OnOk result (image' ≡ with_file name file image) → OnErr result (image' ≡ image) → AreListed image'
+put_listed (Ok a) name file image image' listed ok err = subst AreListed (sym ok) (listed_put name file image listed)
+put_listed (Err e) name file image image' listed ok err = subst AreListed (sym err) listed

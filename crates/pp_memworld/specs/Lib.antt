@@ -1,4 +1,5 @@
 pub mod Calls
+pub mod Crash
 pub mod Draft
 pub mod Edit
 pub mod File

@@ -1,6 +1,7 @@
 // What a crash leaves where it may leave one thing or another.
 
 /// How a crash settles what is loose or in doubt.
+#[derive(Clone, Copy)]
 pub(crate) enum Choice {
     /// What stood before.
     Old,

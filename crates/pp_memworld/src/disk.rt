@@ -16,6 +16,20 @@ use pp_world::{Disk, DiskFault, Happening, Name, NamesFault};
 use std::alloc::Global;
 
 impl MemWorld {
+    /// Whether a draft is there, which can be published.
+    pub fn has_draft(&self) -> bool
+        ensures { Told (told_log self.now) (λ l. result ≡ true → HasDraft l) }
+    {
+        self.record.has_draft()
+    }
+
+    /// Whether one file stands under the name, and a write may begin at this offset.
+    pub fn reaches(&self, name: &Name, at: u64) -> bool
+        ensures { Told (told_log self.now) (λ l. result ≡ true → Reaches name.now at l) }
+    {
+        self.record.reaches(name, at)
+    }
+
     /// Does an operation, or fails it by its number.
     fn operate(&mut self, operation: Operation<'_>) -> Result<(), DiskFault>
         ensures told { AppendsAll (told_log self.old) (told_log self.new) (λ l. op_happenings (op_of operation.entry) result) }

@@ -1,8 +1,8 @@
 // The files of a folder as the happenings of a log leave them.
-ghost use Rattle.std.specs.Prelude.{◌≡◌, ◌∷◌, [], ◌++◌, false, true, IsTrue, ◌≢◌, ℕ, List, map, None, IfOk, OnOk};
+ghost use Rattle.std.specs.Prelude.{◌≡◌, ◌≤◌, ◌∷◌, [], ◌++◌, false, true, IsTrue, ◌≢◌, ℕ, List, length, map, is_some, None, Some, IfOk, OnOk};
 ghost use Rattle.std.specs.List.{list_all};
 ghost use Rattle.pp_world.specs.declared.happening.Happening.TheVariants.{Woke, Began, Did};
-ghost use Rattle.pp_world.specs.Disk.{AreNames, LeavesOne, bytes_in, is_name, is_name_byte, on_file, synced};
+ghost use Rattle.pp_world.specs.Disk.{AreNames, LeavesOne, Stored, bytes_in, is_name, is_name_byte, on_file, synced};
 ghost use Rattle.pp_world.specs.Files.{file_of};
 ghost use Rattle.pp_memworld.specs.Edit.{edited};
 ghost use Rattle.pp_memworld.specs.Folder.{Follows, Hears, is_sound, listed_in, listed_one};
@@ -174,6 +174,22 @@ impl Folder {
         let mut slot = take(&mut self.slots, alloc, name);
         slot.edit(alloc, edit)?;
         put(&mut self.slots, name, slot)
+    }
+
+    pub(crate) fn has_draft(&self) -> bool
+        ensures { result ≡ is_some self.now.draft }
+    {
+        self.draft.is_some()
+    }
+
+    /// Whether one file alone may stand under the name, and is so long at least.
+    pub(crate) fn reaches(&self, name: &Name, at: u64) -> bool
+        ensures { result ≡ true → (f : Stored) × (files_at name.now self.now.slots ≡ Some f ∷ []) × (at ≤ length f.bytes) }
+    {
+        match self.slots.get(name) {
+            Some(slot) => slot.reaches(at),
+            None => false,
+        }
     }
 
     /// The bytes of the file that stands under the name, as reads give it.

@@ -1,7 +1,7 @@
 // The files that a life woke to, one after another.
-ghost use Rattle.std.specs.Prelude.{◌≡◌, filter, map, IfOk};
+ghost use Rattle.std.specs.Prelude.{◌≡◌, filter, map, IfOk, OnErr, OnOk};
 ghost use Rattle.std.specs.Option.{option_copied, option_map};
-ghost use Rattle.pp_world.specs.Files.{is_above};
+ghost use Rattle.pp_world.specs.Files.{is_above, with_file};
 ghost use Rattle.pp_memworld.specs.Images.{first_file};
 ghost use Rattle.pp_memworld.specs.Slots.{AreListed, rested};
 
@@ -12,6 +12,16 @@ use pp_text::{Octets, OutOfMemory};
 use pp_world::{Image, Name};
 use std::alloc::Global;
 use std::collections::BTreeMap;
+
+/// Sets the file of one name, in a folder that lists its names in order.
+pub fn put_file(image: &mut Image, name: Name, file: Octets) -> Result<(), OutOfMemory>
+    requires listed { AreListed image.old }
+    ensures ok { OnOk result (image.new ≡ with_file name file image.old) }
+    ensures err { OnErr result (image.new ≡ image.old) }
+    ensures listed { AreListed image.new }
+{
+    image.put(name, file)
+}
 
 /// The first file with a name above `after`, or the first of all without one.
 fn next_file<'a>(image: &'a Image, after: Option<&Name>) -> Option<(&'a Name, &'a Octets)>

@@ -14,6 +14,8 @@
 
 mod calls; // which calls fail, by their numbers
 mod choice; // what a crash leaves of what is loose or in doubt
+mod copies; // a log again
+mod crash; // a crash, and the life that follows it
 mod disk; // the world, as a Disk
 mod draft; // the one draft
 mod file; // one file, and what a crash may leave of it
@@ -32,5 +34,6 @@ mod slot; // the files one of which stands under a name
 mod slots; // what stands under each name
 mod traffic; // all other ends, and what the cues bring to them
 
+pub use image::put_file;
 pub use memworld::MemWorld;
 pub use script::{Cue, Page, Script};

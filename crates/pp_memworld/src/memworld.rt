@@ -33,7 +33,7 @@ pub struct MemWorld {
     script: Script,
     /// The place of the next cue.
     cue: usize,
-    config: Octets,
+    pub(crate) config: Octets,
 }
 
 impl MemWorld {
@@ -54,14 +54,32 @@ impl MemWorld {
         ensures calls { IfOk result (λ w. w.calls.made ≡ 0) }
         ensures configuration { IfOk result (λ w. configuration w ≡ []) }
     {
-        Ok(MemWorld {
-            record: Record::new(alloc, Vec::new(alloc), 0, image)?,
+        let life = Record::new(alloc, Vec::new(alloc), 0, image)?;
+        let config = Octets::empty(alloc);
+        Ok(MemWorld::begin(alloc, life, script, failing, config))
+    }
+
+    /// A world at the begin of its script, with this record of its life.
+    pub(crate) fn begin(
+        alloc: Global,
+        life: Record,
+        script: Script,
+        failing: Vec<u64>,
+        config: Octets,
+    ) -> MemWorld
+        ensures life { result.record ≡ life }
+        ensures failing { result.calls.failing.items ≡ failing.items }
+        ensures calls { result.calls.made ≡ 0 }
+        ensures configuration { configuration result ≡ config }
+    {
+        MemWorld {
+            record: life,
             traffic: Traffic::new(alloc),
             calls: Calls::new(failing),
             script,
             cue: 0,
-            config: Octets::empty(alloc),
-        })
+            config,
+        }
     }
 
     /// What happened so far, where it is told still.

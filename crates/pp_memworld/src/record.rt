@@ -1,9 +1,9 @@
 // The log of a world in memory, and the connections and files that it leads to.
-ghost use Rattle.std.specs.Prelude.{◌≡◌, ◌<◌, ◌≤◌, ◌+◌, ◌-◌, ◌^◌, ℕ, true, false, [], ◌∷◌, ◌++◌, length, take, vec_len, if◌then◌else◌, ◌==◌, ◌↔◌, IsTrue, IfOk, Option, Some, None};
+ghost use Rattle.std.specs.Prelude.{◌≡◌, ◌<◌, ◌≤◌, ◌+◌, ◌-◌, ◌^◌, ℕ, true, false, [], ◌∷◌, ◌++◌, length, take, vec_len, if◌then◌else◌, ◌==◌, ◌↔◌, IsTrue, IfOk, IfSome, Option, Some, None};
 ghost use Rattle.std.specs.List.{list_all};
 ghost use Rattle.std.specs.Option.{option_copied};
 ghost use Rattle.pp_world.specs.Connections.{side_of, top_of};
-ghost use Rattle.pp_world.specs.Disk.{AreNames, Stands, Stored, bytes_in, image_of, names_in};
+ghost use Rattle.pp_world.specs.Disk.{AreNames, HasDraft, Reaches, Stands, Stored, bytes_in, image_of, names_in};
 ghost use Rattle.pp_world.specs.Files.{Files};
 ghost use Rattle.pp_world.specs.Log.{Appends, Rises, Told};
 ghost use Rattle.pp_world.specs.Wire.{by_side, close_happening, note_happening, remark_of};
@@ -131,7 +131,8 @@ impl Record {
 
     /// The log, where it is told.
     pub(crate) fn log(&self) -> Option<&[Happening]>
-        ensures { option_copied result ≡ record_log self.now }
+        ensures log { option_copied result ≡ record_log self.now }
+        ensures sound { IfSome result (λ log. IsTrue (list_all is_sound log.now)) }
     {
         if self.told {
             Some(self.log.as_slice())
@@ -357,6 +358,20 @@ impl Record {
             &mut self.folder,
             Happening::Did(did, is_done),
         );
+    }
+
+    /// Whether a draft is there.
+    pub(crate) fn has_draft(&self) -> bool
+        ensures { Told (record_log self.now) (λ l. result ≡ true → HasDraft l) }
+    {
+        self.folder.has_draft()
+    }
+
+    /// Whether one file stands under the name, and is so long at least.
+    pub(crate) fn reaches(&self, name: &Name, at: u64) -> bool
+        ensures { Told (record_log self.now) (λ l. result ≡ true → Reaches name.now at l) }
+    {
+        self.folder.reaches(name, at)
     }
 
     /// What reads give of the file of this name: nothing, where there is none.

@@ -1,6 +1,6 @@
 // The files one of which stands under a name.
-ghost use Rattle.std.specs.Prelude.{◌≡◌, [], ◌∷◌, ◌++◌, map, IfOk, OnOk};
-ghost use Rattle.pp_world.specs.Disk.{LeavesOne, bytes_in, on_file};
+ghost use Rattle.std.specs.Prelude.{◌≡◌, ◌≤◌, true, [], ◌∷◌, ◌++◌, length, map, Some, IfOk, OnOk};
+ghost use Rattle.pp_world.specs.Disk.{LeavesOne, Stored, bytes_in, on_file};
 ghost use Rattle.pp_memworld.specs.Edit.{edited};
 ghost use Rattle.pp_memworld.specs.Slots.{first_of, is_file};
 
@@ -59,6 +59,16 @@ impl Slot {
         ensures { result ≡ is_file (first_of self.now) }
     {
         self.file.is_some()
+    }
+
+    /// Whether one file alone may stand here, and is so long at least.
+    pub(crate) fn reaches(&self, at: u64) -> bool
+        ensures { result ≡ true → (f : Stored) × (self.now ≡ Some f ∷ []) × (at ≤ length f.bytes) }
+    {
+        match &self.file {
+            Some(file) => self.doubts.is_empty() && at <= file.bytes().len() as u64,
+            None => false,
+        }
     }
 
     /// The bytes that reads give.
