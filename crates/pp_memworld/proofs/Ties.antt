@@ -16,11 +16,10 @@ use Rattle.pp_world.proofs.LogLemmas.{side_of-push, top_of-push}
 use Rattle.pp_memworld.specs.Sides.{IsTied, KeepsConnections, side_at}
 
 -- a life that begins
-pub tied_new : {log : Log} {sides : BTreeMap ℕ Side} (image : List (List ℕ × List ℕ)) → log ≡ Woke image ∷ [] → sides.entries ≡ [] → IsTied true log sides 0 0
-unfolding side_of top_of
-tied_new {log = log} image begins empty = record {
-  same_sides = λ is id. ap (lookup (λ k. is_eq (nat_cmp id k))) empty ∙ sym (ap (side_of id) begins);
-  no_number_above = λ is. let none : top_of log ≡ 0 = ap top_of begins in omega (arith, none);
+pub tied_new : {log' : Log} {sides : BTreeMap ℕ Side} {top : ℕ} (log : Log) (image : List (List ℕ × List ℕ)) → top_of log ≤ top → log' ≡ log ++ Woke image ∷ [] → sides.entries ≡ [] → IsTied true log' sides top 0
+tied_new log image below begins empty = record {
+  same_sides = λ is id. ap (lookup (λ k. is_eq (nat_cmp id k))) empty ∙ sym (ap (side_of id) begins ∙ side_of-push id log (Woke image));
+  no_number_above = λ is. let same : top_of _ ≡ top_of log = ap top_of begins ∙ top_of-push log (Woke image) in omega (arith, same, below);
   faults_stand = λ is. omega arith;
 }
 

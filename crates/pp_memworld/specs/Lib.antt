@@ -1,6 +1,16 @@
 pub mod Calls
+pub mod Crash
+pub mod Draft
+pub mod Edit
+pub mod File
+pub mod Folder
+pub mod Images
+pub mod Keeping
+pub mod Listing
 pub mod MemWorld
+pub mod Operation
 pub mod Peer
 pub mod Record
 pub mod Sides
+pub mod Slots
 pub mod Traffic

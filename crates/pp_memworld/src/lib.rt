@@ -13,14 +13,27 @@
 #![tactic(auto)]
 
 mod calls; // which calls fail, by their numbers
+mod choice; // what a crash leaves of what is loose or in doubt
+mod copies; // a log again
+mod crash; // a crash, and the life that follows it
+mod disk; // the world, as a Disk
+mod draft; // the one draft
+mod file; // one file, and what a crash may leave of it
+mod folder; // the files of a folder, as the log leaves them
+mod image; // the files that a life woke to
 mod memworld; // the world, as a Wire
+mod operation; // an operation on the disk
+mod parts; // parts of a slice
 mod peer; // the other end of one connection
 mod record; // the log, and the connections that are open by it
 mod script; // cues and pages
 mod site; // what the origin of a page answers to an ask
 #[cfg(test)]
 mod tests;
+mod slot; // the files one of which stands under a name
+mod slots; // what stands under each name
 mod traffic; // all other ends, and what the cues bring to them
 
+pub use image::put_file;
 pub use memworld::MemWorld;
 pub use script::{Cue, Page, Script};

@@ -8,8 +8,10 @@ ghost use Rattle.pp_world.specs.Wire.{ConfigCause, IsNewNumber, IsNumbered, IsOn
 ghost use Rattle.pp_memworld.specs.Calls.{call_number};
 ghost use Rattle.pp_memworld.specs.MemWorld.{IsChosen, Made, OneMoreCall, SameCalls, cannot_dial, configuration, fails, faults_after, faults_of, is_refused, is_unreadable, loses, told_log, top_number};
 ghost use Rattle.pp_memworld.specs.Record.{SameNumbers, Stays, Tells, one_more};
+ghost use Rattle.pp_memworld.specs.Slots.{AreListed};
 
 use crate::calls::Calls;
+use crate::parts::front_of;
 use crate::peer::Change;
 use crate::record::Record;
 use crate::traffic::{Interest, News, Traffic};
@@ -25,13 +27,13 @@ use std::alloc::Global;
 /// refused.
 #[derive(Drop)]
 pub struct MemWorld {
-    record: Record,
+    pub(crate) record: Record,
     traffic: Traffic,
-    calls: Calls,
+    pub(crate) calls: Calls,
     script: Script,
     /// The place of the next cue.
     cue: usize,
-    config: Octets,
+    pub(crate) config: Octets,
 }
 
 impl MemWorld {
@@ -44,6 +46,7 @@ impl MemWorld {
         image: Image,
         failing: Vec<u64>,
     ) -> Result<MemWorld, OutOfMemory>
+        requires listed { AreListed image }
         ensures told { IfOk result (λ w. told_log w ≡ Some (Happening.Woke image ∷ [])) }
         ensures faults { IfOk result (λ w. faults_of w ≡ 0) }
         ensures top { IfOk result (λ w. top_number w ≡ 0) }
@@ -51,14 +54,32 @@ impl MemWorld {
         ensures calls { IfOk result (λ w. w.calls.made ≡ 0) }
         ensures configuration { IfOk result (λ w. configuration w ≡ []) }
     {
-        Ok(MemWorld {
-            record: Record::new(alloc, image)?,
+        let life = Record::new(alloc, Vec::new(alloc), 0, image)?;
+        let config = Octets::empty(alloc);
+        Ok(MemWorld::begin(alloc, life, script, failing, config))
+    }
+
+    /// A world at the begin of its script, with this record of its life.
+    pub(crate) fn begin(
+        alloc: Global,
+        life: Record,
+        script: Script,
+        failing: Vec<u64>,
+        config: Octets,
+    ) -> MemWorld
+        ensures life { result.record ≡ life }
+        ensures failing { result.calls.failing.items ≡ failing.items }
+        ensures calls { result.calls.made ≡ 0 }
+        ensures configuration { configuration result ≡ config }
+    {
+        MemWorld {
+            record: life,
             traffic: Traffic::new(alloc),
             calls: Calls::new(failing),
             script,
             cue: 0,
-            config: Octets::empty(alloc),
-        })
+            config,
+        }
     }
 
     /// What happened so far, where it is told still.
@@ -416,14 +437,6 @@ fn copy_front(alloc: Global, text: &[u8]) -> Result<Octets, OutOfMemory>
     ensures within { IfOk result (λ o. length o ≤ CONFIG_READ_LEN) }
 {
     Octets::copy(alloc, front_of(text, CONFIG_READ_LEN))
-}
-
-/// The front of so many bytes, or all.
-fn front_of(text: &[u8], len: usize) -> &[u8]
-    ensures front { result.now ≡ take len text.now }
-    ensures within { length result.now ≤ len }
-{
-    if len < text.len() { &text[..len] } else { text }
 }
 
 /// What a cue brings to the connections.

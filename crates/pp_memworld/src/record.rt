@@ -1,17 +1,26 @@
-// The log of a world in memory, and the connections that are open by it.
-ghost use Rattle.std.specs.Prelude.{◌≡◌, ◌<◌, ◌≤◌, ◌+◌, ◌-◌, ◌^◌, ℕ, true, false, [], ◌∷◌, ◌++◌, length, take, vec_len, if◌then◌else◌, ◌==◌, ◌↔◌, IsTrue, IfOk, Some, None};
+// The log of a world in memory, and the connections and files that it leads to.
+ghost use Rattle.std.specs.Prelude.{◌≡◌, ◌<◌, ◌≤◌, ◌+◌, ◌-◌, ◌^◌, ℕ, true, false, [], ◌∷◌, ◌++◌, length, take, vec_len, if◌then◌else◌, ◌==◌, ◌↔◌, IsTrue, IfOk, IfSome, Option, Some, None};
+ghost use Rattle.std.specs.List.{list_all};
 ghost use Rattle.std.specs.Option.{option_copied};
-ghost use Rattle.pp_world.specs.Connections.{side_of};
-ghost use Rattle.pp_world.specs.Log.{Appends, Rises};
+ghost use Rattle.pp_world.specs.Connections.{side_of, top_of};
+ghost use Rattle.pp_world.specs.Disk.{AreNames, HasDraft, Reaches, Stands, Stored, bytes_in, image_of, names_in};
+ghost use Rattle.pp_world.specs.Files.{Files};
+ghost use Rattle.pp_world.specs.Log.{Appends, Rises, Told};
 ghost use Rattle.pp_world.specs.Wire.{by_side, close_happening, note_happening, remark_of};
+ghost use Rattle.pp_memworld.specs.Folder.{Hears, is_sound};
+ghost use Rattle.pp_memworld.specs.Keeping.{Keeps, KeepsFiles};
+ghost use Rattle.pp_memworld.specs.Operation.{op_of};
 ghost use Rattle.pp_memworld.specs.Sides.{IsTied, KeepsConnections, side_at};
+ghost use Rattle.pp_memworld.specs.Slots.{AreListed};
 
+use crate::folder::Folder;
+use crate::operation::{Operation, kept};
 use pp_text::{Octets, OutOfMemory};
-use pp_world::{Happening, Image, Note, Remark, Side};
+use pp_world::{DiskOp, Happening, Image, Name, Note, Remark, Side};
 use std::alloc::Global;
 use std::collections::BTreeMap;
 
-/// The log, the sides of its open connections, and its counts.
+/// The log, the sides of its open connections, its counts, and the files of the folder.
 #[derive(Drop)]
 pub(crate) struct Record {
     alloc: Global,
@@ -20,31 +29,41 @@ pub(crate) struct Record {
     sides: BTreeMap<u64, Side>,
     top: u64,
     faults: u64,
+    folder: Folder,
     ghost tied: { IsTied told log.items sides top faults },
+    ghost kept: { Keeps told log.items folder },
 }
 
 impl Record {
     ghost use Rattle.pp_memworld.specs.Record.{SameNumbers, Stays, Tells, one_more, record_log};
 
-    /// The record of a life that begins.
-    pub(crate) fn new(alloc: Global, image: Image) -> Result<Record, OutOfMemory>
-        ensures log { IfOk result (λ r. r.log.items ≡ Happening.Woke image ∷ []) }
+    /// The record of a life that begins after this log, over these files.
+    pub(crate) fn new(
+        alloc: Global,
+        log: Vec<Happening>,
+        top: u64,
+        image: Image,
+    ) -> Result<Record, OutOfMemory>
+        requires sound { IsTrue (list_all is_sound log.items) }
+        requires listed { AreListed image }
+        requires top { top_of log.items ≤ top }
+        ensures log { IfOk result (λ r. r.log.items ≡ log.items ++ Happening.Woke image ∷ []) }
         ensures told { IfOk result (λ r. r.told ≡ true) }
-        ensures top { IfOk result (λ r. r.top ≡ 0) }
+        ensures top { IfOk result (λ r. r.top ≡ top) }
         ensures faults { IfOk result (λ r. r.faults ≡ 0) }
     {
-        let mut log = Vec::new(alloc);
-        match log.push(Happening::Woke(image)) {
-            Ok(()) => Ok(Record {
-                alloc,
-                told: true,
-                log,
-                sides: BTreeMap::new(alloc),
-                top: 0,
-                faults: 0,
-            }),
-            Err(_) => Err(OutOfMemory),
-        }
+        let mut folder = Folder::new(alloc);
+        folder.wake(alloc, &image)?;
+        let log = begun(log, image)?;
+        Ok(Record {
+            alloc,
+            told: true,
+            log,
+            sides: BTreeMap::new(alloc),
+            top,
+            faults: 0,
+            folder,
+        })
     }
 
     /// Whose this connection is, while it is open.
@@ -55,9 +74,10 @@ impl Record {
         self.sides.get(&id).copied()
     }
 
-    /// Something happened by which no connection came or went.
+    /// Something happened by which no connection came or went, and no file changed.
     pub(crate) fn tell(&mut self, happening: Happening)
-        requires { KeepsConnections happening }
+        requires connections { KeepsConnections happening }
+        requires files { KeepsFiles happening }
         ensures tells { Tells self.old self.new happening }
         ensures same { SameNumbers self.old self.new }
     {
@@ -66,7 +86,8 @@ impl Record {
 
     /// A fault happened.
     pub(crate) fn fail(&mut self, happening: Happening)
-        requires { KeepsConnections happening }
+        requires connections { KeepsConnections happening }
+        requires files { KeepsFiles happening }
         ensures tells { Tells self.old self.new happening }
         ensures faults { self.new.faults ≡ one_more self.old.faults }
         ensures rises { Rises (record_log self.new) self.old.faults self.new.faults }
@@ -110,7 +131,8 @@ impl Record {
 
     /// The log, where it is told.
     pub(crate) fn log(&self) -> Option<&[Happening]>
-        ensures { option_copied result ≡ record_log self.now }
+        ensures log { option_copied result ≡ record_log self.now }
+        ensures sound { IfSome result (λ log. IsTrue (list_all is_sound log.now)) }
     {
         if self.told {
             Some(self.log.as_slice())
@@ -286,6 +308,113 @@ impl Record {
         let side = displace(&mut self.sides, id);
         self.told = push(self.told, &mut self.log, closed(side, id));
     }
+
+    /// The proxy uses this folder.
+    pub(crate) fn root(&mut self, folder: &[u8])
+        ensures tells { Tells self.old self.new (Happening.Rooted folder.now) }
+        ensures same { SameNumbers self.old self.new }
+    {
+        match Octets::copy(self.alloc, folder) {
+            Ok(copy) => self.tell(Happening::Rooted(copy)),
+            Err(_) => self.untell(),
+        }
+    }
+
+    /// An operation on the disk was begun, and was done or failed.
+    pub(crate) fn operate(&mut self, operation: Operation<'_>, is_done: bool)
+        ensures told { self.new.told ≡ true → self.old.told ≡ true }
+        ensures log { self.new.told ≡ true → self.new.log.items ≡ self.old.log.items ++ Happening.Began (op_of operation.entry) ∷ Happening.Did (op_of operation.entry) is_done ∷ [] }
+        ensures faults { self.new.faults ≡ (if is_done then self.old.faults else one_more self.old.faults) }
+        ensures rises { is_done ≡ false → Rises (record_log self.new) self.old.faults self.new.faults }
+        ensures never_falls { self.old.faults ≤ self.new.faults }
+        ensures top { self.new.top ≡ self.old.top }
+    {
+        match (kept(self.alloc, operation), kept(self.alloc, operation)) {
+            (Ok(begun), Ok(did)) => self.follow_both(begun, did, is_done),
+            (Ok(_), Err(_)) | (Err(_), _) => self.untell(),
+        }
+        if !is_done {
+            self.faults = self.faults.saturating_add(1);
+        }
+    }
+
+    fn follow_both(&mut self, begun: DiskOp, did: DiskOp, is_done: bool)
+        requires { did ≡ begun }
+        ensures told { self.new.told ≡ true → self.old.told ≡ true }
+        ensures log { self.new.told ≡ true → self.new.log.items ≡ self.old.log.items ++ Happening.Began begun ∷ Happening.Did begun is_done ∷ [] }
+        ensures same { SameNumbers self.old self.new }
+    {
+        let first = follow(
+            self.told,
+            self.alloc,
+            &mut self.log,
+            &mut self.folder,
+            Happening::Began(begun),
+        );
+        self.told = follow(
+            first,
+            self.alloc,
+            &mut self.log,
+            &mut self.folder,
+            Happening::Did(did, is_done),
+        );
+    }
+
+    /// Whether a draft is there.
+    pub(crate) fn has_draft(&self) -> bool
+        ensures { Told (record_log self.now) (λ l. result ≡ true → HasDraft l) }
+    {
+        self.folder.has_draft()
+    }
+
+    /// Whether one file stands under the name, and is so long at least.
+    pub(crate) fn reaches(&self, name: &Name, at: u64) -> bool
+        ensures { Told (record_log self.now) (λ l. result ≡ true → Reaches name.now at l) }
+    {
+        self.folder.reaches(name, at)
+    }
+
+    /// What reads give of the file of this name: nothing, where there is none.
+    pub(crate) fn bytes(&self, name: &Name) -> &[u8]
+        ensures { Told (record_log self.now) (λ l. (file : Option Stored) → Stands name.now l file → result.now ≡ bytes_in file) }
+    {
+        self.folder.bytes(name)
+    }
+
+    /// The names that a listing gives.
+    pub(crate) fn names(&self, alloc: Global) -> Result<Vec<Name>, OutOfMemory>
+        ensures form { IfOk result (λ names. AreNames names.items) }
+        ensures names { IfOk result (λ names. Told (record_log self.now) (λ l. (files : Files) → image_of l ≡ Some files → names.items ≡ names_in files)) }
+    {
+        self.folder.names(alloc)
+    }
+}
+
+/// The log of a life that begins after this one.
+fn begun(mut log: Vec<Happening>, image: Image) -> Result<Vec<Happening>, OutOfMemory>
+    ensures { IfOk result (λ l. l.items ≡ log.items ++ Happening.Woke image ∷ []) }
+{
+    match log.push(Happening::Woke(image)) {
+        Ok(()) => Ok(log),
+        Err(_) => Err(OutOfMemory),
+    }
+}
+
+/// Whether the log is told still, after a happening that the folder follows.
+fn follow(
+    told: bool,
+    alloc: Global,
+    log: &mut Vec<Happening>,
+    folder: &mut Folder,
+    happening: Happening,
+) -> bool
+    requires { IsTrue (is_sound happening) }
+    ensures told { result ≡ true → told ≡ true }
+    ensures pushed { result ≡ true → log.new.items ≡ log.old.items ++ happening ∷ [] }
+    ensures hears { result ≡ true → Hears happening folder.old folder.new }
+{
+    let heard = folder.hear(alloc, &happening).is_ok();
+    push(told && heard, log, happening)
 }
 
 /// Whether the log is told still, after one happening more.
@@ -335,6 +464,7 @@ fn displace(sides: &mut BTreeMap<u64, Side>, id: u64) -> Option<Side>
 fn heard(side: Option<Side>, id: u64, bytes: Octets) -> Happening
     ensures is { result ≡ by_side side (Happening.Heard id bytes) (Happening.Got id bytes) }
     ensures keeps { KeepsConnections result }
+    ensures files { KeepsFiles result }
 {
     match side {
         Some(Side::Client) => Happening::Heard(id, bytes),
@@ -345,6 +475,7 @@ fn heard(side: Option<Side>, id: u64, bytes: Octets) -> Happening
 fn ended(side: Option<Side>, id: u64) -> Happening
     ensures is { result ≡ by_side side (Happening.HungUp id) (Happening.Ended id) }
     ensures keeps { KeepsConnections result }
+    ensures files { KeepsFiles result }
 {
     match side {
         Some(Side::Client) => Happening::HungUp(id),
@@ -355,6 +486,7 @@ fn ended(side: Option<Side>, id: u64) -> Happening
 fn said(side: Option<Side>, id: u64, offered: u64, bytes: Octets) -> Happening
     ensures is { result ≡ by_side side (Happening.Said id offered bytes) (Happening.Asked id bytes) }
     ensures keeps { KeepsConnections result }
+    ensures files { KeepsFiles result }
 {
     match side {
         Some(Side::Client) => Happening::Said(id, offered, bytes),
@@ -365,6 +497,7 @@ fn said(side: Option<Side>, id: u64, offered: u64, bytes: Octets) -> Happening
 fn lost(side: Option<Side>, id: u64) -> Happening
     ensures is { result ≡ by_side side (Happening.HungUp id) (Happening.Broke id) }
     ensures keeps { KeepsConnections result }
+    ensures files { KeepsFiles result }
 {
     match side {
         Some(Side::Client) => Happening::HungUp(id),

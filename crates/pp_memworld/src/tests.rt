@@ -1,4 +1,7 @@
 // Scripts played step by step: what is reported, what is read and written, and what is told of it.
+mod crash; // what a crash leaves, and the life after it
+mod disk; // the disk, call by call
+
 use crate::{Cue, MemWorld, Page, Script};
 use arrayvec::ArrayVec;
 use pp_text::{Octets, OutOfMemory};
