@@ -3,3 +3,4 @@ pub mod DroppedLemmas
 pub mod FoundLemmas
 pub mod HeadLemmas
 pub mod ReadInOrder
+pub mod SaidInOrder
