@@ -18,12 +18,7 @@ use Rattle.pp_client.specs.InOrder.{IsReadInOrder, sent_behind, sent_next, unrea
 use Rattle.pp_client.proofs.DroppedLemmas.{dropped_both, kept_both, later_both}
 use Rattle.pp_client.proofs.FoundLemmas.{taken_some}
 use Rattle.pp_client.proofs.HeadLemmas.{whole_stays}
-
-abbrev of : List ℕ → List ℕ → Body → Heard
-of head rest body = record { head = head; rest = rest; body = body }
-
-same_parts : (head : List ℕ) {rest rest' : List ℕ} {body body' : Body} → rest ≡ rest' → body ≡ body' → of head rest body ≡ of head rest' body'
-same_parts head {rest' = rest'} {body = body} same alike = ap (λ r. of head r body) same ∙ ap (of head rest') alike
+use Rattle.pp_client.proofs.HeardParts.{of, same_parts}
 
 -- ---- a head that stands
 
