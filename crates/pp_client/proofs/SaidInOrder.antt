@@ -14,7 +14,7 @@ use Rattle.pp_client.specs.declared.reply.Begin.{Begin}
 use Rattle.pp_client.specs.declared.reply.Begin.TheVariants.{Page, Instance, Passed}
 use Rattle.pp_client.specs.declared.reply.Stage.{Stage}
 use Rattle.pp_client.specs.declared.reply.Stage.TheVariants.{Due, Begun}
-use Rattle.pp_client.specs.Replies.{Reply, at_hand, body_at_hand, body_left, continue_text, interim_left, left_next, reply_at_hand, reply_left, reply_said, said, span_at_hand, stage_at_hand, stage_left, stage_said}
+use Rattle.pp_client.specs.Replies.{Reply, at_hand, body_at_hand, body_left, continue_text, interim_left, left_next, reply_said, said, span_at_hand, stage_at_hand, stage_left, stage_said}
 use Rattle.pp_client.specs.Saying.{IsFrontOfLeft, IsHeldOf, IsReadFrom, IsSaidFirst, body_from, left_from, reply_from}
 
 abbrev of : Interim → Stage → List ℕ → Pipe → Reply
@@ -107,9 +107,9 @@ chunk_front k m held bytes is = by (cases_lt (length held) m)
         subst (λ xs. take k xs ≡ take (length (take k xs)) (take k (drop m bytes))) (sym (drop_all m held (omega (arith, past)))) (none_front k (take k (drop m bytes)))
     by (inr within) =
         let left : drop m held ≡ take (length held - m) (drop m bytes) =
-            ap (drop m) is
-            ∙ ap (λ n. drop m (take n bytes)) (let e : length held ≡ m + (length held - m) = omega (arith, within) in e)
-            ∙ drop-take m (length held - m) bytes in
+        ap (drop m) is
+        ∙ ap (λ n. drop m (take n bytes)) (let e : length held ≡ m + (length held - m) = omega (arith, within) in e)
+        ∙ drop-take m (length held - m) bytes in
         subst (λ xs. take k xs ≡ take (length (take k xs)) (take k (drop m bytes))) (sym left) (taken_front k (length held - m) (drop m bytes))
 
 span_front : (content : List ℕ) (id : ObjectId) (next to : ℕ) (cs : List Chunk) → IsHeldOf content (Instance id next to) cs
@@ -136,7 +136,7 @@ front_by content (Left zero) stage text pipe cs held = stage_front content stage
 front_by content (Left (suc k)) stage text pipe cs held =
     let front : List ℕ = drop (25 - suc k) continue_text in
     subst (λ b. cond b front (stage_at_hand stage text pipe cs) ≡ take (length (cond b front (stage_at_hand stage text pipe cs))) (front ++ reply_from content stage text pipe)) (sym (some_left k))
-        (sym (take-append_seam front (reply_from content stage text pipe)))
+    (sym (take-append_seam front (reply_from content stage text pipe)))
 
 pub front_of_left : (r : Reply) (cs : List Chunk) → IsFrontOfLeft r cs
 front_of_left r cs = λ content held. front_by content r.interim r.stage r.text r.pipe cs held
