@@ -1,8 +1,8 @@
 -- Bytes that are dropped in pieces.
-use Rattle.std.proofs.Common.{◌≡◌, ◌<◌, ◌≤◌, ◌+◌, ◌-◌, ◌⊎◌, inl, inr, ℕ, List, [], ◌∷◌, ◌++◌, length, drop, refl, sym, ◌∙◌, ap, arith, append_assoc, length-append}
+use Rattle.std.proofs.Common.{◌≡◌, ◌<◌, ◌≤◌, ◌+◌, ◌-◌, ◌⊎◌, inl, inr, ℕ, List, [], ◌++◌, length, drop, refl, sym, ◌∙◌, ap, arith, length-append}
 use Rattle.std.proofs.Math.Seq.{drop-append-add}
 use Rattle.std.proofs.lemmas.Bool.{cases_lt}
-use Rattle.std.proofs.lemmas.List.{drop-append-le, drop_all, drop-drop}
+use Rattle.std.proofs.lemmas.List.{drop-append-le, drop_all}
 use Rattle.pp_client.specs.declared.body.Body.{Body}
 use Rattle.pp_client.specs.declared.body.Body.TheVariants.{Unread, Dropped, Over}
 use Rattle.pp_client.specs.Bodies.{kept, later}

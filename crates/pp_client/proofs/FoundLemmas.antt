@@ -1,6 +1,6 @@
 -- A request that was found: its head, and what is kept behind it.
 use Rattle.std.proofs.Common.{◌≡◌, ◌<◌, ◌≤◌, ℕ, List, [], ◌∷◌, length, take, sym, subst, arith, length-take}
-use Rattle.std.specs.Prelude.{Option, Some, None, Result, Ok, Err}
+use Rattle.std.specs.Prelude.{Some, Result, Ok, Err}
 use Rattle.pp_framing.specs.Framing.{request_rule_of}
 use Rattle.pp_framing.specs.declared.body.BodyRule.{BodyRule}
 use Rattle.pp_framing.specs.declared.body.BodyRule.TheVariants.{Empty, Length, Chunked, ToEnd}
@@ -8,7 +8,7 @@ use Rattle.pp_framing.specs.declared.framing.FramingFault.{FramingFault}
 use Rattle.pp_head.specs.Read.{Read, Whole, TooLong, Bad, More}
 use Rattle.pp_head.specs.Request.{Request}
 use Rattle.pp_client.specs.declared.body.Body.{Body}
-use Rattle.pp_client.specs.declared.body.Body.TheVariants.{Unread, Dropped, Over}
+use Rattle.pp_client.specs.declared.body.Body.TheVariants.{Unread}
 use Rattle.pp_client.specs.declared.heard.Found.{Found}
 use Rattle.pp_client.specs.Bodies.{IsIdle, IsKept, body_by, kept}
 use Rattle.pp_client.specs.Found.{found_in}

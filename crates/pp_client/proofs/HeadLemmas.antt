@@ -1,6 +1,6 @@
 -- A head that is whole is read the same, whatever follows it.
 use Rattle.std.proofs.Common.{◌≡◌, ℕ, List, [], ◌∷◌, ◌++◌, sym, ◌∙◌, subst}
-use Rattle.pp_head.specs.Read.{Read, Whole, Stays}
+use Rattle.pp_head.specs.Read.{Whole, Stays}
 use Rattle.pp_head.specs.Request.{Request, request_at}
 use Rattle.pp_head.proofs.RequestAgrees.{request_stays}
 use Rattle.pp_client.specs.Requests.{IsHead}

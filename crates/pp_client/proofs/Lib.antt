@@ -1,5 +1,7 @@
-pub mod BodyTaken
+pub mod BodyDropped
 pub mod DroppedLemmas
 pub mod FoundLemmas
 pub mod HeadLemmas
+pub mod HeardParts
 pub mod ReadInOrder
+pub mod SaidInOrder

@@ -1,29 +1,24 @@
 -- Requests are read in the order in which they were sent, however the bytes are cut.
-use Rattle.std.proofs.Common.{◌≡◌, ◌<◌, ◌≤◌, ◌+◌, ◌-◌, ◌⊎◌, inl, inr, ℕ, List, [], ◌∷◌, ◌++◌, length, take, drop, refl, sym, ◌∙◌, ap, subst, arith, append_assoc, length-append, length-take, length-drop}
+use Rattle.std.proofs.Common.{◌≡◌, ◌<◌, ◌≤◌, ◌-◌, ◌⊎◌, inl, inr, ℕ, List, [], ◌∷◌, ◌++◌, length, take, drop, refl, sym, ◌∙◌, ap, subst, arith, append_assoc}
 use Rattle.std.specs.Prelude.{Result, Ok, Err}
 use Rattle.std.proofs.lemmas.Bool.{cases_lt}
-use Rattle.std.proofs.lemmas.List.{drop-append-le, take-append-le, drop_all, drop-drop}
+use Rattle.std.proofs.lemmas.List.{drop-append-le, take-append-le, drop_all}
 use Rattle.pp_framing.specs.Framing.{request_rule_of}
 use Rattle.pp_framing.specs.declared.body.BodyRule.{BodyRule}
 use Rattle.pp_framing.specs.declared.body.BodyRule.TheVariants.{Empty, Length, Chunked, ToEnd}
 use Rattle.pp_framing.specs.declared.framing.FramingFault.{FramingFault}
-use Rattle.pp_head.specs.Read.{Read, Whole, TooLong, Bad, More, Stays}
+use Rattle.pp_head.specs.Read.{Read, Whole, TooLong, Bad, More}
 use Rattle.pp_head.specs.Request.{Request, request_at}
-use Rattle.pp_head.proofs.RequestAgrees.{request_stays, request_cut, request_within}
+use Rattle.pp_head.proofs.RequestAgrees.{request_cut, request_within}
 use Rattle.pp_client.specs.declared.body.Body.{Body}
 use Rattle.pp_client.specs.declared.body.Body.TheVariants.{Unread, Dropped, Over}
-use Rattle.pp_client.specs.Bodies.{IsIdle, IsKept, body_by, kept, later, shortened, unread, unwanted}
-use Rattle.pp_client.specs.Requests.{Heard, IsHead, IsInStep, answered, body_dropped, body_in, body_taken, current_of, front_in, front_of, heard_in, split_at, split_by, with_next}
-use Rattle.pp_client.specs.InOrder.{IsReadInOrder, sent_behind, sent_next, unread_body}
-use Rattle.pp_client.proofs.DroppedLemmas.{dropped_both, kept_both, later_both}
+use Rattle.pp_client.specs.Bodies.{IsIdle, IsKept, body_by, kept, later, unread, unwanted}
+use Rattle.pp_client.specs.Requests.{Heard, IsInStep, answered, current_of, front_in, front_of, heard_in, split_by, with_next}
+use Rattle.pp_client.specs.InOrder.{IsReadInOrder, sent_next, unread_body}
+use Rattle.pp_client.proofs.DroppedLemmas.{kept_both, later_both}
 use Rattle.pp_client.proofs.FoundLemmas.{taken_some}
 use Rattle.pp_client.proofs.HeadLemmas.{whole_stays}
-
-abbrev of : List ℕ → List ℕ → Body → Heard
-of head rest body = record { head = head; rest = rest; body = body }
-
-same_parts : (head : List ℕ) {rest rest' : List ℕ} {body body' : Body} → rest ≡ rest' → body ≡ body' → of head rest body ≡ of head rest' body'
-same_parts head {rest' = rest'} {body = body} same alike = ap (λ r. of head r body) same ∙ ap (of head rest') alike
+use Rattle.pp_client.proofs.HeardParts.{of, same_parts}
 
 -- ---- a head that stands
 

@@ -1,5 +1,5 @@
 -- One client: what it sent, and what is left to be said to it.
-use Rattle.std.specs.Prelude.{◌≡◌, ℕ, Bool, true, false}
+use Rattle.std.specs.Prelude.{◌≡◌, ℕ, true, false}
 use Rattle.pp_client.specs.Requests.{Heard, silent, current_of, is_answerable, answered}
 use Rattle.pp_client.specs.Replies.{Reply, no_reply, ended, is_said, said}
 use Rattle.pp_client.specs.declared.reply.Stage.TheVariants.{Due}

@@ -9,4 +9,5 @@ pub mod Lending
 pub mod Replies
 pub mod ReplyLending
 pub mod Requests
+pub mod Saying
 pub mod Shown

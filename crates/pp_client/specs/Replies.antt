@@ -1,6 +1,6 @@
 -- What is left to be said to a request: the interim answer, the head or page, and the body (RFC 2616, sections 6
 -- and 8.2.3).
-use Rattle.std.specs.Prelude.{ℕ, suc, ◌+◌, ◌-◌, ◌/◌, ◌%◌, ◌≤◌, Bool, true, false, ◌==◌, ◌&&◌, nat_lt, nat_le, if◌then◌else◌, cond, List, [], ◌∷◌, ◌++◌, length, take, drop, codes, Option, Some, None, ⊤}
+use Rattle.std.specs.Prelude.{ℕ, ◌+◌, ◌-◌, ◌/◌, ◌%◌, ◌≤◌, Bool, true, false, ◌==◌, ◌&&◌, nat_lt, nat_le, if◌then◌else◌, cond, List, [], ◌∷◌, ◌++◌, length, take, drop, codes, Option, Some, None, ⊤}
 use Rattle.pp_text.specs.Bytes.{is_empty}
 use Rattle.pp_holes.specs.Places.{Chunk, bytes_at}
 use Rattle.pp_objects.specs.declared.id.ObjectId.{ObjectId}

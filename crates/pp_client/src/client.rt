@@ -6,6 +6,7 @@ ghost use Rattle.pp_objects.specs.Agreement.{AllAgree};
 ghost use Rattle.pp_objects.specs.Instances.{is_there};
 ghost use Rattle.pp_client.specs.Clients.{IsAnswerable, new_client, said_by};
 ghost use Rattle.pp_client.specs.InOrder.{IsReadInOrder};
+ghost use Rattle.pp_client.specs.Saying.{IsFrontOfLeft, IsSaidFirst};
 ghost use Rattle.pp_client.specs.ClientLending.{LendsPass, LendsText};
 ghost use Rattle.pp_client.specs.Replies.{IsBeginning, at_hand, has_begun, is_piped, left_next, next_byte, with_begun, with_interim};
 ghost use Rattle.pp_client.specs.Requests.{answered, body_dropped, body_in, body_taken, current_of, heard_in, room_of};
@@ -191,6 +192,9 @@ impl Client {
         ensures front { result.now ≡ take (length result.now) (at_hand self.now.reply (chunks_in pool.now.used)) }
         ensures empty { (result.now ≡ []) ↔ (at_hand self.now.reply (chunks_in pool.now.used) ≡ []) }
 
+        // It is the front of what is left, where the chunks hold bytes of the instance.
+        ensures left { IsFrontOfLeft self.now.reply (chunks_in pool.now.used) }
+
         // Only what the pipe holds may come in two pieces.
         ensures all { is_piped self.now.reply ≡ false → result.now ≡ at_hand self.now.reply (chunks_in pool.now.used) }
     {
@@ -201,7 +205,10 @@ impl Client {
     /// of the body. Where the reply was begun and all of it was said, its request is answered.
     pub fn took(&mut self, n: usize)
         requires { n ≤ left_next self.old.reply }
-        ensures { self.new ≡ said_by n self.old }
+        ensures said { self.new ≡ said_by n self.old }
+
+        // What was said is the front of what was left: the interim answer, then head and body.
+        ensures first { IsSaidFirst n self.old.reply }
     {
         self.reply.took(n);
         if self.reply.is_said() {

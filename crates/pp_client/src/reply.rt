@@ -5,6 +5,7 @@ ghost use Rattle.pp_holes.specs.Places.{shown as chunks_in};
 ghost use Rattle.pp_objects.specs.Agreement.{AllAgree};
 ghost use Rattle.pp_objects.specs.Instances.{is_there};
 ghost use Rattle.pp_client.specs.Replies.{IsBeginning, at_hand, body_left, body_said, ended, has_begun, is_piped, is_said, left_next, next_byte, no_reply, said, with_begun, with_interim};
+ghost use Rattle.pp_client.specs.Saying.{IsSaidFirst};
 ghost use Rattle.pp_client.specs.ReplyLending.{LendsPass, LendsText};
 
 use crate::buffer::Buffer;
@@ -139,7 +140,8 @@ impl Reply {
     /// So many bytes of what stands next were said.
     pub(crate) fn took(&mut self, n: usize)
         requires { n ≤ left_next self.old }
-        ensures { self.new ≡ said n self.old }
+        ensures said { self.new ≡ said n self.old }
+        ensures first { IsSaidFirst n self.old }
     {
         let left = self.interim.left();
         if left > 0 {

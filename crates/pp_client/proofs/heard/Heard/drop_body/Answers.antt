@@ -1,7 +1,7 @@
 use Rattle.std.proofs.Common.{◌≡◌, ◌∙◌, ap, arith}
 use Rattle.std.proofs.lemmas.Grind.{common_steps}
 use Rattle.pp_client.specs.Requests.{Heard, answered, body_dropped, heard_in}
-use Rattle.pp_client.proofs.BodyTaken.{dropped_answered, dropped_heard}
+use Rattle.pp_client.proofs.BodyDropped.{dropped_answered, dropped_heard}
 use Rattle.pp_client.proofs.heard.Heard.drop_body.Goals as goal
 
 pub returns-clause-next : goal.returns-clause-next
