@@ -16,10 +16,10 @@ use Rattle.pp_store.proofs.Lists.{none_pass, find_none, found_passes, only, All-
 use Rattle.pp_store.proofs.Names.{of_key, same_key}
 use Rattle.pp_store.proofs.Running.{After}
 
-same_slot : (sent : Sent) (k l : Log) (row : Kept) → (view_of (name_at row) l).slot ≡ (view_of (name_at row) k).slot → IsHeld sent k row → IsHeld sent l row
+pub same_slot : (sent : Sent) (k l : Log) (row : Kept) → (view_of (name_at row) l).slot ≡ (view_of (name_at row) k).slot → IsHeld sent k row → IsHeld sent l row
 same_slot sent k l row is held = record { bytes = held.bytes; slot = is ∙ held.slot; kept = held.kept; holds = held.holds }
 
-under_it : (name : Bytes) (row : Kept) → is_under name row ≡ false → name ≡ name_at row → ⊥
+pub under_it : (name : Bytes) (row : Kept) → is_under name row ≡ false → name ≡ name_at row → ⊥
 under_it name row off is = wrong (sym ((bytes_eq-Decides (name_at row) name).1 (sym is)) ∙ off)
   where
     wrong : true ≡ false → ⊥
