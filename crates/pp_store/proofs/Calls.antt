@@ -1,11 +1,11 @@
 -- What the disk holds after each call, and that an entry stands under a kept or a closed name alone.
-use Rattle.std.proofs.Common.{◌≡◌, ℕ, ◌+◌, Bool, true, false, cond, List, [], ◌∷◌, Option, Some, None, refl, sym, ◌∙◌, ap, subst}
+use Rattle.std.proofs.Common.{◌≡◌, ℕ, Bool, true, false, cond, List, [], ◌∷◌, Option, None, refl}
 use Rattle.std.specs.Prelude.{IsSome}
 use Rattle.pp_world.specs.declared.happening.Happening.TheVariants.{Unread}
 use Rattle.pp_world.specs.declared.op.DiskOp.{DiskOp}
 use Rattle.pp_world.specs.declared.op.DiskOp.TheVariants.{Remove}
 use Rattle.pp_world.specs.Log.{Log, AppendsAll, Told}
-use Rattle.pp_world.specs.Disk.{Bytes, view_of}
+use Rattle.pp_world.specs.Disk.{Bytes}
 use Rattle.pp_target.specs.Name.{name_of}
 use Rattle.pp_gate.specs.Gate.{OthersSame}
 use Rattle.pp_gate.specs.Runs.{AllOn, RunsOps, EachMoment}
@@ -13,7 +13,7 @@ use Rattle.pp_store.specs.Kept.{Kept, KeptMap, HasOwnNames, name_at, is_closed, 
 use Rattle.pp_store.specs.Changes.{closed_once, with_row, with_closed, without, lost, extended, extended_to}
 use Rattle.pp_store.specs.Held.{Sent, IsHeld, Holds, Covers}
 use Rattle.pp_store.proofs.Names.{found_row, name-kept}
-use Rattle.pp_store.proofs.Running.{After, after_runs, after_appends, after_unread, after_none, removed_slot, told_both, told_map}
+use Rattle.pp_store.proofs.Running.{after_runs, after_appends, after_unread, after_none, removed_slot, told_both, told_map}
 use Rattle.pp_store.proofs.Holding.{holds-without, holds-lost, holds-extended, holds-with_row, holds-with_closed, covers-without, covers-lost, covers-extended, covers-with_row, covers-with_closed}
 
 -- after a run of operations on the name of a key that is kept

@@ -1,14 +1,14 @@
 -- Whatever a crash leaves holds each entry that is kept: with its head block, its bytes, and no gate open behind them.
-use Rattle.std.proofs.Common.{◌≡◌, ℕ, ◌+◌, ◌*◌, ◌<◌, ◌≤◌, Bool, true, false, List, [], ◌∷◌, ◌++◌, length, get_or, Option, Some, None, inl, inr, arith, refl, sym, ◌∙◌, ap, subst}
+use Rattle.std.proofs.Common.{◌≡◌, ℕ, ◌*◌, ◌<◌, true, false, List, [], ◌∷◌, ◌++◌, get_or, Option, Some, None, inl, inr, arith, sym, ap, subst}
 use Rattle.std.specs.Prelude.{min}
 use Rattle.std.specs.List.{All}
 use Rattle.pp_world.specs.Log.{Log, Told}
 use Rattle.pp_world.specs.Files.{Files, file_of}
-use Rattle.pp_world.specs.Disk.{Bytes, Stored, settled, view_of, IsLeftOf, LeavesOne, IsLeftBehind}
+use Rattle.pp_world.specs.Disk.{Bytes, Stored, settled, view_of, LeavesOne, IsLeftBehind}
 use Rattle.pp_entry.specs.Texts.{chunks_of}
 use Rattle.pp_gate.specs.Files.{body}
 use Rattle.pp_gate.specs.Gate.{OthersSame}
-use Rattle.pp_gate.specs.Runs.{EachMoment, AtEach}
+use Rattle.pp_gate.specs.Runs.{EachMoment}
 use Rattle.pp_gate.specs.Seal.{IsKept, IsHonest}
 use Rattle.pp_gate.proofs.GateLemmas.{honest_between}
 use Rattle.pp_gate.proofs.Images.{settled_leaves}
