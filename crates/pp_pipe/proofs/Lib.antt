@@ -3,6 +3,7 @@ mod Opening
 mod Pieces
 mod Quiet
 mod Runs
+mod Splitting
 mod Staying
 mod Taking
 mod Tales

@@ -6,3 +6,4 @@ pub mod Line
 pub mod Looks
 pub mod Reading
 pub mod Tale
+pub mod Texts

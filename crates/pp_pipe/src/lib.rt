@@ -8,7 +8,7 @@
 //! To the layer above: a pipe is a `Line` of `specs/Line.antt`. What is written is the texts of the
 //! asks in their order, without the withdrawn ones. A step is that of `specs/Feeding.antt`: `Bad`
 //! means that no continuation is a response, or that none was asked for, and `Idle` that all bytes
-//! are used.
+//! are used. However the bytes are cut, the steps tell the `tale` of the joined bytes.
 //!
 //! Only `new` takes memory. A head is kept until its response is whole, and read anew from its front
 //! with each piece that comes of it. Which connection an ask goes to is for others.

@@ -1,5 +1,6 @@
 // A connection to an origin.
-ghost use Rattle.std.specs.Prelude.{◌≡◌, ◌↔◌, ◌≤◌, ◌<◌, ℕ, List, [], ◌++◌, drop, length, count_by, option_map, IfOk, IfSome, IsErr, is_ok, not};
+ghost use Rattle.std.specs.Prelude.{◌≡◌, ◌↔◌, ◌≤◌, ◌<◌, ℕ, true, List, [], ◌∷◌, ◌++◌, map, drop, length, count_by, option_map, IfOk, IfSome, IsErr, is_ok, not};
+ghost use Rattle.std.specs.List.{concat, remove};
 ghost use Rattle.pp_head.specs.Shown.{shown_response};
 ghost use Rattle.pp_pipe.specs.Answers.{WasRead};
 ghost use Rattle.pp_pipe.specs.Asks.{awaited, is_outstanding, max_asks};
@@ -7,6 +8,7 @@ ghost use Rattle.pp_pipe.specs.Feeding.{IsFed, IsUsed};
 ghost use Rattle.pp_pipe.specs.Line.{answered, appended, ended_with, is_begun_at, pushed_where, room_of, started, stepped, taken, withdrawn_where};
 ghost use Rattle.pp_pipe.specs.Reading.{ending_at, head_in};
 ghost use Rattle.pp_pipe.specs.Tale.{asks_behind, tale, told};
+ghost use Rattle.pp_pipe.specs.Texts.{stray_of, texts_of};
 
 use crate::answer::Answer;
 use crate::asks::{Ask, MAX_ASKS, awaited, outstanding, take, total};
@@ -78,6 +80,7 @@ impl Pipe {
         self.may_pipeline = false;
     }
 
+    /// The number of the connection.
     pub fn id(&self) -> u64
         ensures { result ≡ self.now.id }
     {
@@ -118,10 +121,12 @@ impl Pipe {
 
     /// Puts an ask behind the others, whose response is one to HEAD or to another method. `Full`
     /// exactly where 8 are there; then nothing changed.
+    #[tactic(auto, using(crate::proofs::Splitting::push_texts))]
     pub fn push(&mut self, ask: &[u8], head_request: bool) -> Result<(), Full>
         requires { length ask.now ≤ room_of self.old }
         ensures full { IsErr result ↔ (length self.old.asks ≡ max_asks) }
         ensures line { self.new ≡ pushed_where (is_ok result) ask.now head_request self.old }
+        ensures texts { IfOk result (λ _. texts_of self.new ≡ texts_of self.old ++ ask.now ∷ []) }
     {
         if self.asks.is_full() {
             return Err(Full);
@@ -138,8 +143,10 @@ impl Pipe {
 
     /// What is to be written: the texts of the asks, and what was appended to them, that was not
     /// taken.
+    #[tactic(auto, using(crate::proofs::Splitting::out_texts))]
     pub fn out(&self) -> &[u8]
-        ensures { result.now ≡ self.now.out }
+        ensures line { result.now ≡ self.now.out }
+        ensures texts { result.now ≡ stray_of self.now ++ concat (texts_of self.now) }
     {
         self.out.as_slice()
     }
@@ -163,10 +170,12 @@ impl Pipe {
     }
 
     /// Puts bytes of the body of the one ask behind it.
+    #[tactic(auto, using(crate::proofs::Splitting::append_texts))]
     pub fn append(&mut self, bytes: &[u8])
         requires one { length self.old.asks ≡ 1 }
         requires room { length bytes.now ≤ room_of self.old }
-        ensures { self.new ≡ appended bytes.now self.old }
+        ensures line { self.new ≡ appended bytes.now self.old }
+        ensures texts { texts_of self.new ≡ map (λ t. t ++ bytes.now) (texts_of self.old) }
     {
         self.asks[0].body_left += bytes.len();
         self.out.push(bytes);
@@ -174,10 +183,12 @@ impl Pipe {
 
     /// Takes an ask out, with what of it was to be written; `place` counts from the first that is not
     /// answered. False exactly where a byte of it was taken; then nothing changed.
+    #[tactic(auto, using(crate::proofs::Splitting::withdraw_texts))]
     pub fn withdraw(&mut self, place: usize) -> bool
         requires { place < length self.old.asks }
         ensures answer { is_begun_at place self.old.asks ≡ Some (not result) }
         ensures line { self.new ≡ withdrawn_where result place self.old }
+        ensures texts { result ≡ true → texts_of self.new ≡ remove (texts_of self.old) place }
     {
         if self.asks[place].is_begun {
             return false;
