@@ -1,0 +1,4 @@
+pub mod Closing
+pub mod Image
+pub mod Looks
+pub mod Shown
