@@ -1,2 +1,5 @@
+pub mod EntryLemmas
+pub mod LookLemmas
+pub mod RowLemmas
 pub mod RunLemmas
 pub mod StrayLemmas
