@@ -1,0 +1,6 @@
+pub mod FieldLemmas
+pub mod Holding
+pub mod Lists
+pub mod Names
+pub mod Running
+pub mod Sound

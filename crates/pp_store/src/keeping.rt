@@ -1,0 +1,122 @@
+// A new entry.
+ghost use Rattle.std.specs.Prelude.{◌≡◌, ◌≤◌, ◌^◌, None, Some, false};
+ghost use Rattle.pp_world.specs.Log.{Told};
+ghost use Rattle.pp_target.specs.Name.{name_of};
+ghost use Rattle.pp_gate.specs.Gate.{OldOr, OthersSame, fresh_file};
+ghost use Rattle.pp_gate.specs.Runs.{EachMoment, RunsOps};
+ghost use Rattle.pp_store.specs.Answers.{Answers, IsDue, IsLate, KeepCause, is_full, keep_ops, ran_all, refusal_of};
+ghost use Rattle.pp_store.specs.Changes.{entry_with, kept_after};
+ghost use Rattle.pp_store.specs.Held.{Covers, Holds, Sent};
+ghost use Rattle.pp_store.specs.Kept.{block_of, is_closed, kept_under, name_at};
+
+use crate::faults::KeepFault;
+use crate::row::KeptRow;
+use crate::store::Store;
+use pp_entry::{HEAD_LEN, write_head};
+use pp_fresh::Times;
+use pp_gate::publish;
+use pp_target::file_name;
+use pp_text::Fields;
+use pp_valid::Version;
+use pp_world::{Disk, Name};
+use std::alloc::Global;
+
+impl Store {
+    /// Puts the entry of a key on the disk, with no byte of its body yet. What stands in the way is told
+    /// before memory is asked for, and that before the disk is touched. Where the disk fails, the name is
+    /// closed.
+    pub fn keep<D: Disk>(
+        &mut self,
+        alloc: Global,
+        disk: &mut D,
+        key: &[u8],
+        version: &Version,
+        fields: &Fields<'_, '_>,
+        times: &Times,
+    ) -> Result<(), KeepFault>
+        ghost sent: { Sent }
+        requires sized { version.now.length ≤ 2 ^ 26 }
+        requires absent { kept_under (name_of key.now) self.old ≡ None }
+        requires holds { Told (D.log disk.old) (Holds sent self.old) }
+        ensures answer { Answers (refusal_of (entry_with key.now version.now fields.now times.now) self.old) result }
+        ensures map { self.new ≡ kept_after result (entry_with key.now version.now fields.now times.now) self.old }
+        ensures holds { Told (D.log disk.new) (Holds sent self.new) }
+        ensures covers { Told (D.log disk.old) (Covers self.old) → Told (D.log disk.new) (Covers self.new) }
+        ensures ops { RunsOps (D.log disk.old) (D.log disk.new) (keep_ops result (entry_with key.now version.now fields.now times.now)) (ran_all result) }
+        ensures old_or_new { EachMoment (D.log disk.old) (D.log disk.new) (OldOr (name_of key.now) (Some (fresh_file (block_of (entry_with key.now version.now fields.now times.now)) version.now.length))) }
+        ensures others { EachMoment (D.log disk.old) (D.log disk.new) (OthersSame (name_of key.now)) }
+        ensures faults { D.faults disk.old ≤ D.faults disk.new }
+        ensures cause { KeepCause (D.log disk.new) (D.faults disk.old) (D.faults disk.new) result }
+        ensures top { D.top disk.new ≡ D.top disk.old }
+    {
+        let name = file_name(key);
+        let block = self.block_for(&name, key, version, fields, times)?;
+        let row = KeptRow::new(alloc, &name, key, version, fields, times, 0)?;
+        self.publish_row(disk, &block, row)
+    }
+}
+
+impl Store {
+    /// The head block of the entry of a key, if nothing stands in the way of it.
+    fn block_for(
+        &self,
+        name: &Name,
+        key: &[u8],
+        version: &Version,
+        fields: &Fields<'_, '_>,
+        times: &Times,
+    ) -> Result<[u8; HEAD_LEN], KeepFault>
+        requires sized { version.now.length ≤ 2 ^ 26 }
+        requires named { name.now ≡ name_of key.now }
+        ensures { IsDue (entry_with key.now version.now fields.now times.now) self.now result }
+    {
+        if self.is_closed(name) {
+            return Err(KeepFault::Closed);
+        }
+        if self.is_full() {
+            return Err(KeepFault::Full);
+        }
+        let mut block = [0; HEAD_LEN];
+        write_head(key, version, fields, times, &mut block)?;
+        Ok(block)
+    }
+
+    /// Publishes a row, and keeps it. All memory is taken before the disk is touched.
+    fn publish_row<D: Disk>(
+        &mut self,
+        disk: &mut D,
+        block: &[u8; HEAD_LEN],
+        row: KeptRow,
+    ) -> Result<(), KeepFault>
+        ghost sent: { Sent }
+        requires block { block.now ≡ block_of row.entry }
+        requires fresh { row.extent ≡ 0 }
+        requires absent { kept_under (name_at row) self.old ≡ None }
+        requires free { is_closed (name_at row) self.old ≡ false }
+        requires few { is_full self.old ≡ false }
+        requires holds { Told (D.log disk.old) (Holds sent self.old) }
+        ensures answer { IsLate result }
+        ensures map { self.new ≡ kept_after result row.entry self.old }
+        ensures holds { Told (D.log disk.new) (Holds sent self.new) }
+        ensures covers { Told (D.log disk.old) (Covers self.old) → Told (D.log disk.new) (Covers self.new) }
+        ensures ops { RunsOps (D.log disk.old) (D.log disk.new) (keep_ops result row.entry) (ran_all result) }
+        ensures old_or_new { EachMoment (D.log disk.old) (D.log disk.new) (OldOr (name_at row) (Some (fresh_file (block_of row.entry) row.entry.version.length))) }
+        ensures others { EachMoment (D.log disk.old) (D.log disk.new) (OthersSame (name_at row)) }
+        ensures faults { D.faults disk.old ≤ D.faults disk.new }
+        ensures cause { KeepCause (D.log disk.new) (D.faults disk.old) (D.faults disk.new) result }
+        ensures top { D.top disk.new ≡ D.top disk.old }
+    {
+        self.rows.reserve(1)?;
+        let site = row.site();
+        match publish(disk, &site.name, block, site.length) {
+            Ok(()) => {
+                self.rows.push_reserved(row);
+                Ok(())
+            }
+            Err(_) => {
+                self.closed.push_reserved(site.name);
+                Err(KeepFault::DiskFault)
+            }
+        }
+    }
+}

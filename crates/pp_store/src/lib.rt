@@ -1,0 +1,32 @@
+//! Which entries are kept on the disk, and the names that are closed after a fault.
+//!
+//! An entry is kept under the file name of its key. It is published without a body, and then extended
+//! by whole chunks, from the first on. After an operation that failed, nothing is known of what stands
+//! under the name: it is closed for the rest of the life, and its key is not kept.
+//!
+//! To the layer above: a list of kept entries and a list of closed names, in which each name stands at
+//! most once. Where the log is told, each kept entry is on the disk (`Holds` of `specs/Held.antt`): one
+//! file stands under its name, through a crash too, with its head block, its first gates open as far as
+//! the extent goes and no others, and only bytes that were sent. Each call says which operations it ran,
+//! and what a crash in the midst of it leaves.
+//!
+//! `new`, `keep`, `found` and `close` take memory, before they touch the disk. Each call searches the
+//! entries one by one, so it takes time in their number. Which responses are kept is for the core, what
+//! an earlier life left is for `pp_recover`.
+#![tactic(auto)]
+
+mod extending; // more of a body
+mod faults; // why an entry is not kept, or not read
+mod keeping; // a new entry
+mod loading; // a chunk of a body
+mod row; // one entry in memory
+mod store; // the entries and the closed names
+mod text; // a key and fields in one text
+mod withdrawing; // an entry that is kept no more
+
+pub use faults::{KeepFault, LoadFault};
+pub use row::KeptView;
+pub use store::Store;
+
+#[cfg(test)]
+mod tests; // entries on a small disk
