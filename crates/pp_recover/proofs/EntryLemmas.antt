@@ -12,7 +12,8 @@ use Rattle.pp_entry.specs.Texts.{body_at}
 use Rattle.pp_gate.specs.Files.{extent_in}
 use Rattle.pp_gate.proofs.PlaceLemmas.{gates_below}
 use Rattle.pp_target.specs.Name.{name_of}
-use Rattle.pp_recover.specs.Image.{Kept, IsRowOf, named_for, head_in, extent_if, kept_with, entry_in, entry_of, bytes_of}
+use Rattle.pp_store.specs.Kept.{Kept}
+use Rattle.pp_recover.specs.Image.{IsRowOf, named_for, head_in, extent_if, kept_with, entry_in, entry_of, bytes_of}
 use Rattle.pp_recover.specs.Closing.{gates_in, closing, closing_if, closing_of}
 use Rattle.pp_recover.proofs.RowLemmas.{if_some, map_some, none_or, row_short}
 

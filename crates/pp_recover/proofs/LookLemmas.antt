@@ -14,7 +14,8 @@ use Rattle.pp_gate.specs.Runs.{Ran, RunsOps}
 use Rattle.pp_gate.proofs.PlaceLemmas.{gates_below}
 use Rattle.pp_gate.proofs.SealLemmas.{settled_bytes}
 use Rattle.pp_recover.specs.declared.examine.Front.{Front}
-use Rattle.pp_recover.specs.Image.{Kept, named_for, head_in, extent_if, entry_of, bytes_of}
+use Rattle.pp_store.specs.Kept.{Kept}
+use Rattle.pp_recover.specs.Image.{named_for, head_in, extent_if, entry_of, bytes_of}
 use Rattle.pp_recover.specs.Closing.{RestsTo, Tends, gates_in, closing, closing_of}
 use Rattle.pp_recover.specs.Looks.{Extends, Looks, looked, GivesHead, GivesGates, GivesFront, GivesEntry, Examines, front_in}
 use Rattle.pp_recover.proofs.RowLemmas.{row_short}

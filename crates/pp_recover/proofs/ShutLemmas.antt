@@ -21,7 +21,8 @@ use Rattle.pp_gate.proofs.Ops.{AllLeft, write_then_sync, write_sync_slot, all_se
 use Rattle.pp_gate.proofs.PlaceLemmas.{gates_below}
 use Rattle.pp_gate.proofs.GateLemmas.{opens_at_least, opens_at_most}
 use Rattle.pp_gate.proofs.SealLemmas.{same_head, gate_same, gate_new, body_same}
-use Rattle.pp_recover.specs.Image.{Kept, named_for, head_in, extent_if, entry_in, entry_of}
+use Rattle.pp_store.specs.Kept.{Kept}
+use Rattle.pp_recover.specs.Image.{named_for, head_in, extent_if, entry_in, entry_of}
 use Rattle.pp_recover.specs.Closing.{gates_in, begins, open_from, close_from, close_at, closing}
 use Rattle.pp_recover.proofs.EntryLemmas.{IsEntryOf, entry_told, entry_some, room_told, extent_same, head_told}
 use Rattle.pp_recover.proofs.RowLemmas.{both_true}

@@ -9,7 +9,8 @@ use Rattle.pp_world.specs.Disk.{Bytes, settled, view_of}
 use Rattle.pp_entry.specs.Gates.{leading_open}
 use Rattle.pp_entry.specs.Texts.{chunks_of}
 use Rattle.pp_gate.specs.Runs.{Ran}
-use Rattle.pp_recover.specs.Image.{Kept, entry_in}
+use Rattle.pp_store.specs.Kept.{Kept}
+use Rattle.pp_recover.specs.Image.{entry_in}
 
 -- the gates of a body of this length
 abbrev pub gates_in : ℕ → Bytes → Bytes

@@ -1,18 +1,14 @@
 -- Which entries the files of a folder are.
-use Rattle.std.specs.Prelude.{◌≡◌, ℕ, ◌+◌, ◌*◌, min, Bool, nat_le, List, [], length, take, bytes_eq, if◌then◌else◌, Option, Some, None, option_map}
+use Rattle.std.specs.Prelude.{◌≡◌, ℕ, ◌+◌, Bool, nat_le, List, [], length, take, bytes_eq, if◌then◌else◌, Option, Some, None, option_map}
 use Rattle.std.specs.List.{filter_map}
 use Rattle.std.specs.Option.{option_and_then}
 use Rattle.pp_world.specs.Files.{Files, file_of}
 use Rattle.pp_world.specs.Disk.{Bytes, names_in}
 use Rattle.pp_entry.specs.Entries.{Row, row_at}
-use Rattle.pp_entry.specs.Texts.{body_at, chunks_of}
+use Rattle.pp_entry.specs.Texts.{body_at}
 use Rattle.pp_gate.specs.Files.{extent_in}
+use Rattle.pp_store.specs.Kept.{Kept}
 use Rattle.pp_target.specs.Name.{name_of}
-
--- an entry, and how many bytes of its body are kept, from the first on
-pub record Kept : Type 0 where
-  pub entry : Row
-  pub extent : ℕ
 
 -- ours: a file is named for the key of its entry
 abbrev pub named_for : Bytes → Row → Option Row
@@ -23,10 +19,6 @@ pub record IsRowOf (name : Bytes) (row : Row) : Type 0 where
   pub block : Bytes
   pub is : row_at block ≡ Some row
   pub own : name_of row.key ≡ name
-
--- ours: the chunks that are kept have 4,096 bytes, or end the body
-abbrev pub IsExtent : ℕ → ℕ → Type 0
-IsExtent n extent = min n (4096 * chunks_of extent) ≡ extent
 
 -- the row whose head block a file of this name begins with
 unfoldable pub head_in : Bytes → Bytes → Option Row

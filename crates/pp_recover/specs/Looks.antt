@@ -9,7 +9,8 @@ use Rattle.pp_entry.specs.Gates.{extent_of}
 use Rattle.pp_entry.specs.Texts.{body_at}
 use Rattle.pp_recover.specs.declared.examine.Front.{Front}
 use Rattle.pp_recover.specs.Closing.{gates_in, Tends}
-use Rattle.pp_recover.specs.Image.{Kept, bytes_of, entry_of, extent_if, head_in}
+use Rattle.pp_store.specs.Kept.{Kept}
+use Rattle.pp_recover.specs.Image.{bytes_of, entry_of, extent_if, head_in}
 
 -- a log that is told was told before, and what was added has P of what it was
 pub record Extends (old new : Option Log) (P : Log → Log → Type 0) : Type 0 where

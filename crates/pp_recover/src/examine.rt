@@ -4,7 +4,8 @@ ghost use Rattle.std.specs.Option.{option_and_then};
 ghost use Rattle.pp_world.specs.Disk.{Bytes, Stands, at_rest};
 ghost use Rattle.pp_world.specs.Log.{Rises, Told};
 ghost use Rattle.pp_entry.specs.Entries.{row_at, shown_entry};
-ghost use Rattle.pp_recover.specs.Image.{IsExtent, IsRowOf, named_for};
+ghost use Rattle.pp_store.specs.Kept.{IsExtent};
+ghost use Rattle.pp_recover.specs.Image.{IsRowOf, named_for};
 ghost use Rattle.pp_recover.specs.Looks.{Examines, Extends, GivesFront, GivesGates, GivesHead, Looks, front_in};
 ghost use Rattle.pp_recover.specs.Shown.{shown_found};
 

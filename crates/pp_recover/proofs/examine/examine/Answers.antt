@@ -5,7 +5,8 @@ use Rattle.pp_world.specs.Log.{Log}
 use Rattle.pp_world.specs.declared.disk.DiskFault.{DiskFault}
 use Rattle.pp_entry.specs.Entries.{shown_entry}
 use Rattle.pp_gate.proofs.SealLemmas.{err_not_ok}
-use Rattle.pp_recover.specs.Image.{Kept, IsRowOf, entry_of}
+use Rattle.pp_store.specs.Kept.{Kept}
+use Rattle.pp_recover.specs.Image.{IsRowOf, entry_of}
 use Rattle.pp_recover.specs.Closing.{Tends}
 use Rattle.pp_recover.specs.Looks.{Extends, Examines, GivesEntry, GivesFront, GivesHead, Looks}
 use Rattle.pp_recover.specs.Shown.{shown_found}
