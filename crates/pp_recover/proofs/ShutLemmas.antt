@@ -434,3 +434,7 @@ module _ (name file : Bytes) (kept : Kept) (is : entry_in name file ≡ Some kep
           same = shut_entry (reached (chunks_of n)) ends.now ends.shut;
         },
       )
+
+pub same_is : (name file : Bytes) (kept : Kept) (is : entry_in name file ≡ Some kept) (v : View) (ops : List DiskOp) → During name v ops (AllLeft (Same name file kept is)) → During name v ops (AllLeft (λ c. entry_of name c ≡ Some kept))
+unfolding Same
+same_is name file kept is v ops during = during

@@ -15,6 +15,7 @@ use pp_target::file_name;
 use pp_world::{Disk, DiskFault, Name};
 
 /// An entry, and how many bytes of its body are kept.
+#[derive(Drop)]
 pub(crate) struct Found<'a, 's> {
     pub(crate) entry: Entry<'a, 's>,
     pub(crate) extent: u64,

@@ -12,4 +12,9 @@
 #![tactic(auto)]
 
 mod examine; // the file of one name
+mod faults; // why a folder was not opened
+mod opening; // the names of a folder, one after another
 mod strays; // gates that are open behind one that is not
+
+pub use faults::RecoverFault;
+pub use opening::open;
