@@ -34,7 +34,7 @@ wrong e = absurd cc
 
 -- what is known of an entry of the store: it is the one of the key, or it is under another name and held as before
 module _ (sent : Sent) (store : KeptMap) (key : List ℕ) (row : Kept) (ok : Bool) (k l : Log)
-  (own : HasOwnNames store) (found : find (is_of key) store.rows ≡ Some row) (held : All (IsHeld sent k) store.rows) (after : After (name_of key) ok k l) where
+    (own : HasOwnNames store) (found : find (is_of key) store.rows ≡ Some row) (held : All (IsHeld sent k) store.rows) (after : After (name_of key) ok k l) where
   one_there : count_by (is_under (name_of key)) store.rows ≤ 1
   one_there = omega (arith, own.once (name_of key))
 
@@ -94,7 +94,7 @@ or_right false true e = absurd cc
 or_right false false e = refl
 
 pub open-before : (name other : Bytes) (store : KeptMap) → is_closed other (with_closed name store) ≡ false → is_closed other store ≡ false
-open-before name other store no = or_left (list_any (is_name other) store.closed) (is_name other name) (sym (list_any-append (is_name other) store.closed (name ∷ [])) ∙ no)
+open-before name other store free = or_left (list_any (is_name other) store.closed) (is_name other name) (sym (list_any-append (is_name other) store.closed (name ∷ [])) ∙ free)
 
 -- where all was done, no name more failed
 failed-none : (name : Bytes) (k l : Log) (store : KeptMap) → After name true k l → ((n : Bytes) → (view_of n k).failed ≡ true → is_closed n store ≡ true)

@@ -1,6 +1,12 @@
+pub mod Calls
+pub mod ChunkLemmas
 pub mod FieldLemmas
+pub mod HeldByImages
 pub mod Holding
 pub mod Lists
 pub mod Names
+pub mod PlaceLemmas
+pub mod Quiet
 pub mod Running
+pub mod Sealing
 pub mod Sound

@@ -222,3 +222,23 @@ module _ {X : Type 0} where
   -- a place that is nowhere
   pub nowhere : (p : X → Bool) (xs : List X) → position p xs ≡ None → find p xs ≡ None
   nowhere p xs e = nowhere_from p xs 0 (sym (position_from-zero p xs) ∙ e)
+
+  pub any_counts : (p : X → Bool) (xs : List X) → list_any p xs ≡ true → 1 ≤ count_by p xs
+  any_counts p [] e = absurd cc
+  any_counts p (x ∷ xs) e = by (p x) refl e (any_counts p xs)
+    where
+      by : (b : Bool) → p x ≡ b → (b || list_any p xs) ≡ true → (list_any p xs ≡ true → 1 ≤ count_by p xs) → 1 ≤ count_by p (x ∷ xs)
+      by true is e ih = omega (arith, count-cons p x xs, ap one is)
+      by false is e ih = omega (arith, count-cons p x xs, ih e)
+
+  -- what all have, what is found has
+  pub All-found : (q : X → Bool) (P : X → Type 0) (xs : List X) (y : X) → All P xs → find q xs ≡ Some y → P y
+  All-found q P [] y all e = absurd cc
+  All-found q P (x ∷ xs) y all e = by (q x) e (All-found q P xs y (All-tail P x xs all))
+    where
+      same : Some x ≡ Some y → x ≡ y
+      same is = cc
+
+      by : (b : Bool) → cond b (Some x) (find q xs) ≡ Some y → (find q xs ≡ Some y → P y) → P y
+      by true e ih = subst P (same e) (All-head P x xs all)
+      by false e ih = ih e

@@ -5,9 +5,11 @@ use Rattle.std.specs.List.{find, list_any, position}
 use Rattle.std.proofs.lemmas.List.Quantifiers.{position-Some}
 use Rattle.std.proofs.lemmas.Slice.Eq.{bytes_eq-Decides}
 use Rattle.pp_target.specs.Name.{name_of}
+use Rattle.pp_store.specs.declared.row.Site.{Site}
+use Rattle.pp_store.specs.Views.{site_of}
 use Rattle.pp_store.specs.Kept.{Kept, KeptMap, HasOwnNames, name_at, is_of, is_under, is_name, is_closed, kept_of, kept_under, row_of, no_row}
 use Rattle.pp_store.specs.Changes.{with_row, with_closed, without, lost, extended, extended_to, is_other}
-use Rattle.pp_store.proofs.Lists.{one, count-push, count-filter, count-same, count-weaker, find_none, any_none, one_out, first_at, changed_at, nowhere}
+use Rattle.pp_store.proofs.Lists.{one, count-push, count-filter, count-same, count-weaker, find_none, any_none, one_out, first_at, changed_at, nowhere, found_passes, found_counts, any_counts}
 
 -- a key has one name
 pub of_key : (key : List ℕ) (row : Kept) → is_of key row ≡ true → is_under (name_of key) row ≡ true
@@ -92,3 +94,23 @@ never_nowhere store key kept e = no (kept_of key store) (nowhere (is_of key) sto
     no : (o : Option Kept) → o ≡ None → is_some o ≡ true → ⊥
     no None e is = absurd cc
     no (Some row) e is = absurd cc
+
+pub site-name : (key : List ℕ) (store : KeptMap) (site : Site) → IsSome (kept_of key store) → site ≡ site_of (row_of key store) → site.name ≡ name_of key
+site-name key store site kept is =
+    ap (λ (s : Site). s.name) is ∙ ap name_of (same_key key (row_of key store) (found_passes (is_of key) store.rows (row_of key store) (found_row key store kept)))
+
+-- the name of a key that is kept is kept
+pub name-kept : (key : List ℕ) (store : KeptMap) → IsSome (kept_of key store) → is_some (kept_under (name_of key) store) ≡ true
+name-kept key store kept = by (kept_under (name_of key) store) refl
+  where
+    by : (o : Option Kept) → kept_under (name_of key) store ≡ o → is_some o ≡ true
+    by (Some row) e = refl
+    by None e = absurd (omega (arith, find_none (is_under (name_of key)) store.rows e, found_counts (is_under (name_of key)) (is_of key) store.rows (row_of key store) (of_key key) (found_row key store kept)))
+
+-- and not closed
+pub not-closed : (key : List ℕ) (store : KeptMap) → HasOwnNames store → IsSome (kept_of key store) → is_closed (name_of key) store ≡ true → ⊥
+not-closed key store own kept is =
+    absurd (omega (arith, own.once (name_of key), any_counts (is_name (name_of key)) store.closed is, found_counts (is_under (name_of key)) (is_of key) store.rows (row_of key store) (of_key key) (found_row key store kept)))
+
+pub row-name : (key : List ℕ) (store : KeptMap) → IsSome (kept_of key store) → name_at (row_of key store) ≡ name_of key
+row-name key store kept = ap name_of (same_key key (row_of key store) (found_passes (is_of key) store.rows (row_of key store) (found_row key store kept)))

@@ -8,10 +8,10 @@ use Rattle.pp_world.specs.declared.happening.Happening.TheVariants.{Unread}
 use Rattle.pp_world.specs.declared.op.DiskOp.{DiskOp}
 use Rattle.pp_world.specs.declared.op.DiskOp.TheVariants.{Draft, SyncDraft, Publish, Write, Sync, Remove}
 use Rattle.pp_world.specs.Log.{Log, AppendsAll, Told}
-use Rattle.pp_world.specs.Disk.{Bytes, View, view_of, view_after, began, done, undone}
+use Rattle.pp_world.specs.Disk.{Bytes, View, view_of, view_after, where_on, began, done, undone}
 use Rattle.pp_gate.specs.Gate.{OthersSame}
-use Rattle.pp_gate.specs.Runs.{During, IsOn, AllOn, RunsOps, EachMoment}
-use Rattle.pp_gate.proofs.Views.{at_each, done_view, ran_to, view_of-append, runs_at}
+use Rattle.pp_gate.specs.Runs.{Ran, During, IsOn, AllOn, RunsOps, EachMoment}
+use Rattle.pp_gate.proofs.Views.{at_each, done_view, ran_to, view_of-append, told_after}
 
 -- after operations on one name: no other was touched, and where all were done, none failed
 pub record After (name : Bytes) (ok : Bool) (k l : Log) : Type 0 where
@@ -27,8 +27,8 @@ other_name n m differ = by (bytes_eq n m) refl
     by false is = refl
 
 or_not : (a b : Bool) → b ≡ false → (a || b) ≡ a
-or_not true b no = refl
-or_not false b no = no
+or_not true b is = refl
+or_not false b is = is
 
 began_fails : (name : Bytes) (op : DiskOp) (v : View) → (began name op v).failed ≡ v.failed
 began_fails name (Draft b) v = refl
@@ -83,9 +83,31 @@ after_runs old new ops ok name P Q on runs others told step = record {
       step w.0 l w.2 is (told.at w.0 w.2) (subst (After name ok w.0) (sym w.3) there);
 }
   where
-    own : (name : Bytes) (ops : List DiskOp) (ok : Bool) (k hs : Log) → Rattle.pp_gate.specs.Runs.Ran ops ok hs → ok ≡ true → (view_of name (k ++ hs)).failed ≡ (view_of name k).failed
+    own : (name : Bytes) (ops : List DiskOp) (ok : Bool) (k hs : Log) → Ran ops ok hs → ok ≡ true → (view_of name (k ++ hs)).failed ≡ (view_of name k).failed
     own name ops ok k hs ran all =
-        ap (λ (v : View). v.failed) (view_of-append name k hs ∙ ran_to name (view_of name k) ops hs (subst (λ (b : Bool). Rattle.pp_gate.specs.Runs.Ran ops b hs) all ran)) ∙ own_fails name ops (view_of name k)
+        ap (λ (v : View). v.failed) (view_of-append name k hs ∙ ran_to name (view_of name k) ops hs (subst (λ (b : Bool). Ran ops b hs) all ran)) ∙ own_fails name ops (view_of name k)
+
+-- the same, of a call that appended these happenings
+pub after_appends : (old new : Option Log) (hs : Log) (ok : Bool) (name : Bytes) (P Q : Log → Type 0) → AppendsAll old new (λ l. hs) → ((k : Log) → After name ok k (k ++ hs))
+    → Told old P → ((k l : Log) → P k → After name ok k l → Q l) → Told new Q
+after_appends old new hs ok name P Q call after told step = record {
+  at = λ l is.
+      let w = call.was l is in
+      step w.0 l (told.at w.0 w.1) (subst (After name ok w.0) (sym w.2) (after w.0));
+}
+
+-- a file that was removed
+pub removed_slot : (old new : Option Log) (name : Bytes) → RunsOps old new (Remove name ∷ []) true → Told new (λ l. (view_of name l).slot ≡ None ∷ [])
+removed_slot old new name runs =
+    told_after old new (Remove name ∷ []) name (λ (v : View). Unit {0}) (λ (v : View). v.slot ≡ None ∷ []) (record { at = λ l is. tt }) runs
+    (λ v u. ap (λ (b : Bool). where_on b (None ∷ []) (began name (Remove name) v).slot) ((bytes_eq-Decides name name).1 refl))
+
+-- two facts of one log
+pub told_both : (log : Option Log) (P Q R : Log → Type 0) → Told log P → Told log Q → ((l : Log) → P l → Q l → R l) → Told log R
+told_both log P Q R one two step = record { at = λ l is. step l (one.at l is) (two.at l is) }
+
+pub told_map : (log : Option Log) (P Q : Log → Type 0) → Told log P → ((l : Log) → P l → Q l) → Told log Q
+told_map log P Q told step = record { at = λ l is. step l (told.at l is) }
 
 -- nothing happened
 pub after_none : (name : Bytes) (k : Log) → After name true k k

@@ -1,7 +1,9 @@
 -- The entries and the closed names as they stand in memory, after each change.
 use Rattle.std.proofs.Common.{ℕ, zero, suc, ◌+◌, ◌<◌, ◌≤◌, ◌≡◌, Bool, true, false, not, List, [], ◌∷◌, ◌++◌, length, filter, get_or, set, arith, length-append, refl, sym, ◌∙◌, ap, subst, Option, Some, None}
-use Rattle.std.specs.Prelude.{count_by, is_some, IsSome, vec_capacity}
+use Rattle.std.specs.Prelude.{count_by, is_some, IsSome, nat_le, vec_capacity}
 use Rattle.std.specs.List.{position}
+use Rattle.std.proofs.lemmas.Bool.Decides.{nat_tests}
+use Rattle.pp_store.specs.Answers.{is_full}
 use Rattle.std.proofs.lemmas.List.{length-map}
 use Rattle.std.proofs.lemmas.List.Quantifiers.{position-Some}
 use Rattle.pp_target.specs.Name.{name_of}
@@ -91,3 +93,20 @@ pub set-extended : (o : Inside) (w : KeptMap) (key : List ℕ) (place extent : �
 set-extended o w key place extent row new sound is at found changed =
     ap (set o.rows.items place) (changed ∙ ap (extended_to extent) (place-is o key place row at found))
     ∙ changed_row (map_in o) key place extent sound.names at
+
+not_full : (w : KeptMap) → is_full w ≡ false → length w.rows + length w.closed < 10000
+not_full w is = below (length w.rows + length w.closed) is
+  where
+    below : (m : ℕ) → nat_le 10000 m ≡ false → m < 10000
+    below m e = grind (arith, nat_tests)
+
+-- where the store is not full, a name may be closed for one entry more
+pub room-left : (o : Inside) (w : KeptMap) → IsSound o → map_in o ≡ w → is_full w ≡ false → length o.rows.items + 1 + length o.closed.items ≤ vec_capacity o.closed
+room-left o w sound is few =
+    omega (arith, not_full w few, sound.many, ap (λ (v : KeptMap). length v.rows) is, ap (λ (v : KeptMap). length v.closed) is)
+
+pub view-with_row : (o p : Inside) (w : KeptMap) (row : Kept) → map_in o ≡ w → p.rows.items ≡ o.rows.items ++ row ∷ [] → p.closed.items ≡ o.closed.items → map_in p ≡ with_row row.entry row.extent w
+view-with_row o p w row is rows closed = map-is p (with_row row.entry row.extent (map_in o)) rows closed ∙ ap (with_row row.entry row.extent) is
+
+pub view-with_closed : (o p : Inside) (w : KeptMap) (name : List ℕ) → map_in o ≡ w → p.rows.items ≡ o.rows.items → p.closed.items ≡ o.closed.items ++ name ∷ [] → map_in p ≡ with_closed name w
+view-with_closed o p w name is rows closed = map-is p (with_closed name (map_in o)) rows closed ∙ ap (with_closed name) is

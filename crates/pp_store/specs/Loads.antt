@@ -2,7 +2,7 @@
 use Rattle.std.specs.Prelude.{◌≡◌, ◌<◌, ⊤, ℕ, ◌+◌, ◌-◌, ◌*◌, true, min, List, [], ◌∷◌, length, take, drop, Option, Some, Result, Ok, Err, slice_index}
 use Rattle.pp_world.specs.declared.happening.Happening.TheVariants.{Unread}
 use Rattle.pp_world.specs.Log.{Log, Rises, Told}
-use Rattle.pp_world.specs.Disk.{Bytes, settled, view_of}
+use Rattle.pp_world.specs.Disk.{Bytes, Stored, Stands, bytes_in}
 use Rattle.pp_entry.specs.Texts.{body_at}
 use Rattle.pp_gate.specs.Gate.{HoldsJust}
 use Rattle.pp_store.specs.declared.faults.LoadFault.{LoadFault}
@@ -18,6 +18,17 @@ abbrev pub load_happenings : Bytes → Result ℕ LoadFault → Log
 load_happenings name (Ok count) = []
 load_happenings name (Err DiskFault) = Unread name ∷ []
 load_happenings name (Err (Short wanted got)) = []
+
+-- so many bytes of the file that stands under a name, from an offset on, or fewer where the file ends
+abbrev pub GivesRead : Bytes → ℕ → ℕ → Bytes → Result ℕ LoadFault → Log → Type 0
+GivesRead name at len out (Ok count) log = (file : Option Stored) → Stands name log file → take count out ≡ take len (drop at (bytes_in file))
+GivesRead name at len out (Err DiskFault) log = ⊤
+GivesRead name at len out (Err (Short wanted got)) log = (file : Option Stored) → Stands name log file → length (take len (drop at (bytes_in file))) ≡ got
+
+abbrev pub ReadCause : Option Log → ℕ → ℕ → ℕ → Result ℕ LoadFault → Type 0
+ReadCause log before now len (Ok count) = count ≡ len
+ReadCause log before now len (Err DiskFault) = Rises log before now
+ReadCause log before now len (Err (Short wanted got)) = (wanted ≡ len) × (got < wanted)
 
 -- the bytes of the chunk in the file that stands under the entry's name
 abbrev pub GivesChunk : Kept → ℕ → Bytes → Result ℕ LoadFault → Log → Type 0

@@ -1,13 +1,15 @@
 // A chunk of a body.
-ghost use Rattle.std.specs.Prelude.{◌≡◌, ◌<◌, ◌≤◌, ◌*◌, IsSome, IfOk};
+ghost use Rattle.std.specs.Prelude.{◌≡◌, ◌<◌, ◌≤◌, ◌+◌, ◌*◌, ◌^◌, IsSome};
 ghost use Rattle.pp_world.specs.Log.{AppendsAll, Told};
 ghost use Rattle.pp_target.specs.Name.{name_of};
+ghost use Rattle.pp_entry.specs.Texts.{body_at};
 ghost use Rattle.pp_store.specs.Changes.{loaded_after};
 ghost use Rattle.pp_store.specs.Held.{Covers, Holds, Sent};
 ghost use Rattle.pp_store.specs.Kept.{kept_of, row_of};
-ghost use Rattle.pp_store.specs.Loads.{GivesChunk, GivesSent, LoadCause, chunk_len, load_happenings};
+ghost use Rattle.pp_store.specs.Loads.{GivesChunk, GivesRead, GivesSent, LoadCause, ReadCause, chunk_len, load_happenings};
 
 use crate::faults::LoadFault;
+use crate::row::Site;
 use crate::store::Store;
 use pp_entry::body_at;
 use pp_world::{Disk, DiskFault};
@@ -41,19 +43,40 @@ impl Store {
         ensures top { D.top disk.new ≡ D.top disk.old }
     {
         let site = self.site(key);
-        let at = CHUNK_LEN * u64::from(index);
-        let wanted = CHUNK_LEN.min(site.length - at);
-        let front = &mut out[..wanted as usize];
-        match disk.read(&site.name, body_at(site.length) + at, front) {
-            Ok(got) if got as u64 == wanted => Ok(got),
-            Ok(got) => {
-                self.lose(key, &site.name);
-                Err(LoadFault::Short { wanted, got: got as u64 })
-            }
-            Err(DiskFault) => {
-                self.lose(key, &site.name);
-                Err(LoadFault::DiskFault)
+        match read_chunk(disk, &site, index, out) {
+            Ok(count) => Ok(count),
+            Err(fault) => {
+                self.lose(key);
+                Err(fault)
             }
         }
+    }
+}
+
+/// Reads a chunk of the body that stands there.
+fn read_chunk<D: Disk>(
+    disk: &mut D,
+    site: &Site,
+    index: u32,
+    out: &mut [u8; 4096],
+) -> Result<usize, LoadFault>
+    requires sized { site.now.length ≤ 2 ^ 26 }
+    requires below { 4096 * index < site.now.length }
+    ensures bytes { Told (D.log disk.old) (GivesRead site.now.name (body_at site.now.length + 4096 * index) (chunk_len site.now.length index) out.new result) }
+    ensures told { AppendsAll (D.log disk.old) (D.log disk.new) (λ l. load_happenings site.now.name result) }
+    ensures faults { D.faults disk.old ≤ D.faults disk.new }
+    ensures cause { ReadCause (D.log disk.new) (D.faults disk.old) (D.faults disk.new) (chunk_len site.now.length index) result }
+    ensures top { D.top disk.new ≡ D.top disk.old }
+{
+    let at = CHUNK_LEN * u64::from(index);
+    let wanted = CHUNK_LEN.min(site.length - at);
+    let front = &mut out[..wanted as usize];
+    match disk.read(&site.name, body_at(site.length) + at, front) {
+        Ok(got) if got as u64 == wanted => Ok(got),
+        Ok(got) => Err(LoadFault::Short {
+            wanted,
+            got: got as u64,
+        }),
+        Err(DiskFault) => Err(LoadFault::DiskFault),
     }
 }

@@ -174,13 +174,12 @@ impl Store {
     }
 
     /// Keeps the entry of a key no more, and closes its name.
-    pub(crate) fn lose(&mut self, key: &[u8], name: &Name)
-        requires kept { IsSome (kept_of key.now self.old) }
-        requires named { name.now ≡ name_of key.now }
+    pub(crate) fn lose(&mut self, key: &[u8])
+        requires { IsSome (kept_of key.now self.old) }
         ensures { self.new ≡ lost key.now self.old }
     {
         forget(&mut self.rows, key);
-        self.closed.push_reserved(*name);
+        self.closed.push_reserved(file_name(key));
     }
 
     fn add(&mut self, row: KeptRow) -> Result<(), OutOfMemory>

@@ -37,7 +37,7 @@ impl Store {
                 Ok(())
             }
             Err(fault) => {
-                self.lose(key, &site.name);
+                self.lose(key);
                 Err(fault)
             }
         }
