@@ -137,7 +137,7 @@ SoFarAll names store before hs = (files : Files) → IsFresh files before → So
 pub still_stands : (files : Files) (name : Bytes) (names : List Bytes) (store : KeptMap) (k hs : Log) → IsFresh files k → NotIn name names → SoFar files names store hs → Stands name (k ++ hs) (at_rest (file_of name files))
 still_stands files name names store k hs fresh not_in so_far =
     let same : view_of name (k ++ hs) ≡ woken name files =
-        view_of-append name k hs ∙ whole_other files name so_far.0 (view_of name k) hs (subst (NotIn name) (sym so_far.1) not_in) so_far.2 ∙ fresh.views name in
+    view_of-append name k hs ∙ whole_other files name so_far.0 (view_of name k) hs (subst (NotIn name) (sym so_far.1) not_in) so_far.2 ∙ fresh.views name in
     record { alone = ap (λ (v : View). v.slot) same; sound = ap (λ (v : View). v.failed) same }
 
 pub stands_now : (old mid : Option Log) (name : Bytes) (names : List Bytes) (store : KeptMap) → NotIn name names → Told old (λ l. (files : Files) × IsFresh files l) → Extends old mid (SoFarAll names store) → Told mid (λ l. (file : Option Bytes) × Stands name l (at_rest file))
@@ -151,13 +151,13 @@ stands_now old mid name names store not_in told so_far = record {
 pub one_more : (old mid new : Option Log) (names : List Bytes) (name : Bytes) (before after : KeptMap) → NotIn name names → Extends old mid (SoFarAll names before) → Extends mid new (TendsOne name before after true) → Extends old new (SoFarAll (names ++ name ∷ []) after)
 one_more old mid new names name before after not_in so_far one = extends_then old mid new (SoFarAll names before) (TendsOne name before after true) (SoFarAll (names ++ name ∷ []) after) so_far one
     (λ k a b first second files fresh.
-      let had = first files fresh in
-      let got = second (file_of name files) (still_stands files name names before k a fresh not_in had) in (
-        had.0 ++ record { name = name; sound = got.0 } ∷ [],
-        map-append name_in had.0 (record { name = name; sound = got.0 } ∷ []) ∙ ap (λ (ns : List Bytes). ns ++ name ∷ []) had.1,
-        each_more files had.0 (record { name = name; sound = got.0 }) a b had.2 got.1,
-        got.2 refl ∙ ap (with_tended name (file_of name files) got.0) had.3 ∙ sym (store_more files had.0 (record { name = name; sound = got.0 })),
-      ))
+    let had = first files fresh in
+    let got = second (file_of name files) (still_stands files name names before k a fresh not_in had) in (
+      had.0 ++ record { name = name; sound = got.0 } ∷ [],
+      map-append name_in had.0 (record { name = name; sound = got.0 } ∷ []) ∙ ap (λ (ns : List Bytes). ns ++ name ∷ []) had.1,
+      each_more files had.0 (record { name = name; sound = got.0 }) a b had.2 got.1,
+      got.2 refl ∙ ap (with_tended name (file_of name files) got.0) had.3 ∙ sym (store_more files had.0 (record { name = name; sound = got.0 })),
+    ))
 
 pub none_yet : (log : Option Log) (store : KeptMap) → store ≡ no_entries → Extends log log (SoFarAll [] store)
 none_yet log store is = record { was = λ l told. (l, [], told, sym (append-nil l), λ files fresh. ([], refl, refl, is)) }
@@ -175,11 +175,11 @@ pub some_names : (old mid new : Option Log) (names : List Bytes) (i : ℕ) (befo
     → Extends old new (λ was hs. (files : Files) → IsFresh files was → TendsNames files names done after hs)
 some_names old mid new names i before after done not_done lt not_in so_far one = extends_then old mid new (SoFarAll (take i names) before) (TendsOne (get_or names i []) before after false) _ so_far one
     (λ k a b first second files fresh.
-      let had = first files fresh in
-      let got = second (file_of (get_or names i []) files) (still_stands files (get_or names i []) (take i names) before k a fresh not_in had) in (
-        i + 1,
-        had.0 ++ record { name = get_or names i []; sound = got.0 } ∷ [],
-        map-append name_in had.0 (record { name = get_or names i []; sound = got.0 } ∷ []) ∙ ap (λ (ns : List Bytes). ns ++ get_or names i [] ∷ []) had.1 ∙ sym (take_more names i lt),
-        each_more files had.0 (record { name = get_or names i []; sound = got.0 }) a b had.2 got.1,
-        λ is. absurd (let bad : true ≡ false = sym is ∙ not_done in cc),
-      ))
+    let had = first files fresh in
+    let got = second (file_of (get_or names i []) files) (still_stands files (get_or names i []) (take i names) before k a fresh not_in had) in (
+      i + 1,
+      had.0 ++ record { name = get_or names i []; sound = got.0 } ∷ [],
+      map-append name_in had.0 (record { name = get_or names i []; sound = got.0 } ∷ []) ∙ ap (λ (ns : List Bytes). ns ++ get_or names i [] ∷ []) had.1 ∙ sym (take_more names i lt),
+      each_more files had.0 (record { name = get_or names i []; sound = got.0 }) a b had.2 got.1,
+      λ is. absurd (let bad : true ≡ false = sym is ∙ not_done in cc),
+    ))

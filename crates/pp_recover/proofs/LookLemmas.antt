@@ -139,9 +139,9 @@ module _ {A B : Type 0} (shown_head : A → Row) (shown : B → Kept) (old mid :
   no_room_found new entry n buffer same head front = extends_map old new (Looks name true (λ file. GivesHead shown_head name (Ok (Some entry)) file × GivesFront n buffer (Ok None) file)) (Examines shown name (Ok None))
       (looks_then old mid new name true (GivesHead shown_head name (Ok (Some entry))) (GivesFront n buffer (Ok None)) head front)
       (λ k hs w file stands.
-        let both = w.1 file stands in
-        let none : entry_of name file ≡ None = no_room_there name file (shown_head entry) (sym both.0) (ap (λ (m : ℕ). extent_if m (bytes_of file)) (sym same) ∙ both.1) in
-        (sym none, inr (subst (λ (ops : _). Ran ops true hs) (sym (closes_none name file none)) (refl, w.0))))
+      let both = w.1 file stands in
+      let none : entry_of name file ≡ None = no_room_there name file (shown_head entry) (sym both.0) (ap (λ (m : ℕ). extent_if m (bytes_of file)) (sym same) ∙ both.1) in
+      (sym none, inr (subst (λ (ops : _). Ran ops true hs) (sym (closes_none name file none)) (refl, w.0))))
 
   module _ (last : Option Log) (entry : A) (n : ℕ) (buffer : Bytes) (front : Front) (same : n ≡ (shown_head entry).version.length)
       (head : Extends old mid (Looks name true (GivesHead shown_head name (Ok (Some entry))))) (room : Extends mid last (Looks name true (GivesFront n buffer (Ok (Some front))))) where

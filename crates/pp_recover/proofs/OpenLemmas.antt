@@ -6,7 +6,7 @@ use Rattle.std.proofs.lemmas.List.Sums.{fold-append}
 use Rattle.pp_world.specs.declared.disk.NamesFault.{NamesFault}
 use Rattle.pp_world.specs.declared.disk.NamesFault.TheVariants.{Disk as FolderFault, OutOfMemory as NoNames}
 use Rattle.pp_world.specs.declared.happening.Happening.{Happening}
-use Rattle.pp_world.specs.declared.happening.Happening.TheVariants.{Listed}
+use Rattle.pp_world.specs.declared.happening.Happening.TheVariants.{Listed, Rooted, Woke}
 use Rattle.pp_world.specs.Files.{Files, file_of}
 use Rattle.pp_world.specs.Log.{Log, Told, AppendsAll}
 use Rattle.pp_world.specs.Disk.{Bytes, View, at_rest, image_of, image_after, names_in, names_happenings, view_of, is_rising}
@@ -31,6 +31,14 @@ unfolding image_of
 fresh_listed files k b fresh = record {
   image = fold-append image_after (Some []) k (Listed b ∷ []) ∙ fresh.image;
   views = λ name. view_of-append name k (Listed b ∷ []) ∙ fresh.views name;
+}
+
+-- a life that has begun, and chose its folder, has changed nothing
+pub fresh_woken : (k : Log) (files : Files) (folder : Bytes) → IsFresh files (k ++ Woke files ∷ Rooted folder ∷ [])
+unfolding image_of
+fresh_woken k files folder = record {
+  image = fold-append image_after (Some []) k (Woke files ∷ Rooted folder ∷ []);
+  views = λ name. view_of-append name k (Woke files ∷ Rooted folder ∷ []);
 }
 
 pub fresh_mid : (old mid : Option Log) → AppendsAll old mid (λ l. Listed true ∷ []) → Told old (λ l. (files : Files) × IsFresh files l) → Told mid (λ l. (files : Files) × IsFresh files l)
@@ -68,14 +76,14 @@ went old mid new names done store call gives tends = extends_then old mid new Li
     (record { was = λ l is. let w = call.was l is in (w.0, Listed true ∷ [], w.1, w.2, (refl, λ files fresh. (gives.at w.0 w.1) files fresh.image)) })
     tends
     (λ k a b first second files fresh.
-      let mid_fresh = fresh_listed files k true fresh in
-      record {
-        rest = b;
-        listed = ap (λ (l : Log). l ++ b) first.0;
-        fresh = mid_fresh;
-        names_are = first.1 files fresh;
-        tended = second files (subst (λ (l : Log). IsFresh files (k ++ l)) (sym first.0) mid_fresh);
-      })
+    let mid_fresh = fresh_listed files k true fresh in
+    record {
+      rest = b;
+      listed = ap (λ (l : Log). l ++ b) first.0;
+      fresh = mid_fresh;
+      names_are = first.1 files fresh;
+      tended = second files (subst (λ (l : Log). IsFresh files (k ++ l)) (sym first.0) mid_fresh);
+    })
   where
     Lists : Log → Log → Type 0
     Lists k hs = (hs ≡ Listed true ∷ []) × ((files : Files) → IsFresh files k → names ≡ names_in files)
@@ -87,24 +95,24 @@ pub opens_ok : (old new : Option Log) (names : List Bytes) (store : KeptMap) →
     → Extends old new (λ before hs. (files : Files) → IsFresh files before → ListsAnd (TendsFirst files (length (names_in files))) hs × (store ≡ store_in files (before ++ hs)))
 opens_ok old new names store rising all = extends_map old new (WentAll names true store) _ all
     (λ k hs w files fresh.
-      let had = w files fresh in
-      let t = had.tended in
-      let whole = t.4 refl in
-      let apart : Distinct (map name_in t.1) = subst Distinct (sym whole.0) (distinct names rising) in (
-        (had.rest, had.listed, (t.1, whole.0 ∙ had.names_are ∙ sym (take_all (length (names_in files)) (names_in files) (omega arith)), t.3)),
-        whole.1 ∙ store_is files (k ++ Listed true ∷ []) t.1 had.rest (names_in files) had.fresh apart t.3 (whole.0 ∙ had.names_are) ∙ ap (store_in files) (log_is k hs had.rest had.listed),
-      ))
+    let had = w files fresh in
+    let t = had.tended in
+    let whole = t.4 refl in
+    let apart : Distinct (map name_in t.1) = subst Distinct (sym whole.0) (distinct names rising) in (
+      (had.rest, had.listed, (t.1, whole.0 ∙ had.names_are ∙ sym (take_all (length (names_in files)) (names_in files) (omega arith)), t.3)),
+      whole.1 ∙ store_is files (k ++ Listed true ∷ []) t.1 had.rest (names_in files) had.fresh apart t.3 (whole.0 ∙ had.names_are) ∙ ap (store_in files) (log_is k hs had.rest had.listed),
+    ))
 
 pub holds_ok : (old new : Option Log) (names : List Bytes) (store : KeptMap) → IsTrue (is_rising names) → Extends old new (WentAll names true store)
     → Extends old new (λ before hs. (files : Files) → IsFresh files before → (sent : Sent) → AllSent sent files → Holds sent store (before ++ hs))
 holds_ok old new names store rising all = extends_map old new (WentAll names true store) _ all
     (λ k hs w files fresh sent was_sent.
-      let had = w files fresh in
-      let t = had.tended in
-      let whole = t.4 refl in
-      let apart : Distinct (map name_in t.1) = subst Distinct (sym whole.0) (distinct names rising) in
-      subst (λ (l : Log). Holds sent store l) (log_is k hs had.rest had.listed)
-      (subst (λ (s : KeptMap). Holds sent s ((k ++ Listed true ∷ []) ++ had.rest)) (sym whole.1) (store_holds files sent (k ++ Listed true ∷ []) t.1 had.rest had.fresh apart t.3 was_sent)))
+    let had = w files fresh in
+    let t = had.tended in
+    let whole = t.4 refl in
+    let apart : Distinct (map name_in t.1) = subst Distinct (sym whole.0) (distinct names rising) in
+    subst (λ (l : Log). Holds sent store l) (log_is k hs had.rest had.listed)
+    (subst (λ (s : KeptMap). Holds sent s ((k ++ Listed true ∷ []) ++ had.rest)) (sym whole.1) (store_holds files sent (k ++ Listed true ∷ []) t.1 had.rest had.fresh apart t.3 was_sent)))
 
 pub opens_front : (old new : Option Log) (names : List Bytes) (store : KeptMap) (done : Bool) (r : Result KeptMap RecoverFault) → IsErrAnd r (λ f. f ≡ OutOfMemory) → Extends old new (WentAll names done store)
     → Extends old new (λ before hs. (files : Files) → IsFresh files before → Opens r files before hs)
@@ -112,9 +120,9 @@ opens_front old new names store done (Ok s) failed all = absurd failed
 opens_front old new names store done (Err f) failed all = subst (λ (e : RecoverFault). Extends old new (λ before hs. (files : Files) → IsFresh files before → Opens (Err e) files before hs)) (sym failed)
     (extends_map old new (WentAll names done store) _ all
     (λ k hs w files fresh.
-      let had = w files fresh in
-      let t = had.tended in
-      inr (had.rest, had.listed, (t.0, (t.1, t.2 ∙ ap (take t.0) had.names_are, t.3)))))
+    let had = w files fresh in
+    let t = had.tended in
+    inr (had.rest, had.listed, (t.0, (t.1, t.2 ∙ ap (take t.0) had.names_are, t.3)))))
 
 -- ---- at each moment
 pub data Happens (files : Files) (hs : Log) : Type 0 where
@@ -155,9 +163,9 @@ same_entries old new all = record {
 pub went_moments : (old new : Option Log) (names : List Bytes) (done : Bool) (store : KeptMap) → IsTrue (is_rising names) → Extends old new (WentAll names done store) → EachMoment old new SameEntries
 went_moments old new names done store rising all = same_entries old new (extends_map old new (WentAll names done store) _ all
     (λ k hs w files fresh.
-      let had = w files fresh in
-      let t = had.tended in
-      names_too had.rest t.1 had.listed (subst Distinct (sym t.2) (distinct_take names t.0 (distinct names rising))) t.3))
+    let had = w files fresh in
+    let t = had.tended in
+    names_too had.rest t.1 had.listed (subst Distinct (sym t.2) (distinct_take names t.0 (distinct names rising))) t.3))
 
 pub none_moments : (log : Option Log) → EachMoment log log SameEntries
 none_moments log = same_entries log log (record { was = λ l is. (l, [], is, sym (append-nil l), λ files fresh. nothing refl) })

@@ -218,7 +218,7 @@ module _ (name file : Bytes) (kept : Kept) (is : entry_in name file ≡ Some kep
           (λ (before : i < end). λ one. shut.closed i from before there (sym (gate_same next_file now i (torn.before (8192 + i) (omega (arith, there, shut.size, long, gates_below n)) (omega (arith, before)))) ∙ one))
           (λ (inside : end ≤ i). λ one. zero_one (gate next_file i)
           (gate_new next_file (replicate run 0) i (i - end) (
-            splice_in (8192 + end) (replicate run 0) now reach (8192 + i) (omega (arith, inside)) (omega (arith, below, length-replicate {A = ℕ} run 0)) ∙ ap (λ (k : ℕ). get_or (replicate run 0) k 0) (index i inside))
+          splice_in (8192 + end) (replicate run 0) now reach (8192 + i) (omega (arith, inside)) (omega (arith, below, length-replicate {A = ℕ} run 0)) ∙ ap (λ (k : ℕ). get_or (replicate run 0) k 0) (index i inside))
           ∙ get_or-replicate run (i - end) 0 0 (omega (arith, inside, below))) one)
           (split i end);
       as_read = λ i from there. gate_same next_file now i (torn.after (8192 + i) (omega (arith, there, shut.size, long, gates_below n)) (omega (arith, from, length-replicate {A = ℕ} run 0))) ∙ shut.as_read i (omega (arith, from)) there;
@@ -423,7 +423,7 @@ module _ (name file : Bytes) (kept : Kept) (is : entry_in name file ≡ Some kep
   unfolding closing
   all_done v slot =
       let ends = subst (λ (k : ℕ). Ends (reached (chunks_of n)) (done_view name v (from_place 0 k))) (sym whole)
-          (closing_done (chunks_of n) 0 v (omega arith) (subst (λ (k : ℕ). Ends k v) (sym reached_first) (record { now = file; slot = slot; shut = shut_start }))) in (
+      (closing_done (chunks_of n) 0 v (omega arith) (subst (λ (k : ℕ). Ends k v) (sym reached_first) (record { now = file; slot = slot; shut = shut_start }))) in (
         ends.now,
         ends.slot,
         record {

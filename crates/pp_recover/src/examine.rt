@@ -51,7 +51,10 @@ pub(crate) fn examine<'a, 's, D: Disk>(
     match front_of(disk, name, entry.version.length, gates) {
         Ok(Some(front)) => {
             close_strays(disk, name, &gates[..front.gates])?;
-            Ok(Some(Found { entry, extent: front.extent }))
+            Ok(Some(Found {
+                entry,
+                extent: front.extent,
+            }))
         }
         Ok(None) => Ok(None),
         Err(fault) => Err(fault),
@@ -122,7 +125,10 @@ fn front_in(length: u64, n: u64, gates: &[u8]) -> Option<Front>
     if length < body_at(n) + extent {
         return None;
     }
-    Some(Front { gates: gates.len(), extent })
+    Some(Front {
+        gates: gates.len(),
+        extent,
+    })
 }
 
 /// Reads the gates of a body of `n` bytes, and answers how many came.

@@ -18,3 +18,6 @@ mod strays; // gates that are open behind one that is not
 
 pub use faults::RecoverFault;
 pub use opening::open;
+
+#[cfg(test)]
+mod tests; // files of all kinds on a small disk

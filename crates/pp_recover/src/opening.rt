@@ -91,7 +91,13 @@ fn tend<D: Disk>(
     ensures faults { D.faults disk.old ≤ D.faults disk.new }
     ensures top { D.top disk.new ≡ D.top disk.old }
 {
-    match examine(disk, name, &mut room.block, &mut room.gates, &mut room.scratch) {
+    match examine(
+        disk,
+        name,
+        &mut room.block,
+        &mut room.gates,
+        &mut room.scratch,
+    ) {
         Ok(Some(found)) => store.found(alloc, &found.entry, found.extent),
         Ok(None) => Ok(()),
         Err(_) => store.close(name),

@@ -46,12 +46,7 @@ fn begins(gates: &[u8], i: usize) -> bool
 }
 
 /// Closes the gates that are open from here on.
-fn close_from<D: Disk>(
-    disk: &mut D,
-    name: &Name,
-    gates: &[u8],
-    i: usize,
-) -> Result<(), DiskFault>
+fn close_from<D: Disk>(disk: &mut D, name: &Name, gates: &[u8], i: usize) -> Result<(), DiskFault>
     requires few { length gates.now ≤ 16384 }
     requires within { i < length gates.now }
     requires stands { Told (D.log disk.old) (RestsTo name.now (8192 + length gates.now)) }

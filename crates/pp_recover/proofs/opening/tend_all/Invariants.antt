@@ -9,5 +9,5 @@ invariant-loop-name g l = record {
   tended : Extends (g.D.Logged.log l.fn.disk) (g.D.Logged.log l.disk) (SoFarAll (take l.name-index l.names) l.store);
   free : (j : ℕ) → l.name-index ≤ j → j < length l.names → IsFree (get_or l.names j []) l.store;
   faults : g.D.Logged.faults l.fn.disk ≤ g.D.Logged.faults l.disk;
-  top : g.D.Logged.top l.disk ≡ g.D.Logged.top l.fn.disk
+  top : g.D.Logged.top l.disk ≡ g.D.Logged.top l.fn.disk;
 }

@@ -14,13 +14,13 @@ loop-i-init g c = record {
 pub loop-i-preserved : goal.loop-i-preserved
 loop-i-preserved g c =
     elim c.if-begins.branch [
-      then-begins+in_ok-close_from w ↦ rw w.disk-is (record {
+      | then-begins+in_ok-close_from w ↦ rw w.disk-is (record {
         runs = closed_more _ _ _ c.args.name.now c.args.gates.now c.loop-i.i _ c.loop-i.invariant.runs (sym c.begins.ensures ∙ w.if-begins.true) w.in_ok-close_from.ensures.ops;
         stands = w.in_ok-close_from.ensures.stands;
         faults = omega (arith, w.in_ok-close_from.ensures.faults);
         top = w.in_ok-close_from.ensures.top ∙ c.loop-i.invariant.top;
       })
-    | else-begins w ↦ rw w.disk-is (record {
+      | else-begins w ↦ rw w.disk-is (record {
         runs = closed_same _ _ c.args.name.now c.args.gates.now c.loop-i.i c.loop-i.invariant.runs (sym c.begins.ensures ∙ w.if-begins.false);
         stands = c.loop-i.invariant.stands;
         faults = c.loop-i.invariant.faults;

@@ -10,5 +10,5 @@ invariant-loop-i g l = record {
   runs : RunsOps (g.D.Logged.log l.fn.disk) (g.D.Logged.log l.disk) (close_below l.name l.gates l.i) true;
   stands : Told (g.D.Logged.log l.disk) (RestsTo l.name (8192 + length l.gates));
   faults : g.D.Logged.faults l.fn.disk ≤ g.D.Logged.faults l.disk;
-  top : g.D.Logged.top l.disk ≡ g.D.Logged.top l.fn.disk
+  top : g.D.Logged.top l.disk ≡ g.D.Logged.top l.fn.disk;
 }
