@@ -1,5 +1,5 @@
 -- Names that were attended to, one after another.
-use Rattle.std.proofs.Common.{◌≡◌, ◌⊎◌, inl, inr, ℕ, zero, suc, ◌+◌, ◌<◌, ◌≤◌, Bool, true, false, List, [], ◌∷◌, ◌++◌, length, take, get_or, Option, Some, None, refl, sym, ◌∙◌, ap, subst, arith, append_assoc}
+use Rattle.std.proofs.Common.{◌≡◌, ℕ, suc, ◌+◌, ◌<◌, ◌≤◌, Bool, true, false, List, [], ◌∷◌, ◌++◌, length, take, get_or, Option, Some, None, refl, sym, ◌∙◌, ap, subst, arith, append_assoc}
 use Rattle.std.specs.Prelude.{not, cond, bytes_eq, map, filter}
 use Rattle.std.specs.List.{filter_map}
 use Rattle.std.proofs.lemmas.List.{append-nil, map-append}
@@ -10,19 +10,18 @@ use Rattle.std.proofs.Math.Seq.{take-suc}
 use Rattle.pp_world.specs.declared.happening.Happening.{Happening}
 use Rattle.pp_world.specs.Files.{Files, file_of}
 use Rattle.pp_world.specs.Log.{Log, Told}
-use Rattle.pp_world.specs.Disk.{Bytes, View, settled, at_rest, woken, view_of, view_after, Stands}
+use Rattle.pp_world.specs.Disk.{Bytes, View, at_rest, woken, view_of, view_after, Stands}
 use Rattle.pp_gate.proofs.Views.{view_from, view_of-append}
 use Rattle.pp_gate.proofs.Ops.{AllLeft}
 use Rattle.pp_store.specs.Changes.{no_entries}
 use Rattle.pp_store.specs.Kept.{Kept, KeptMap}
-use Rattle.pp_recover.specs.Image.{entry_in, entry_of}
+use Rattle.pp_recover.specs.Image.{entry_of}
 use Rattle.pp_recover.specs.Closing.{Tends}
 use Rattle.pp_recover.specs.Looks.{Extends}
-use Rattle.pp_recover.specs.Opening.{IsFresh, IsFree, Tended, name_in, TendsEach, TendsOne, TendsNames, with_tended, with_entry, entry_if, is_lost, store_of}
+use Rattle.pp_recover.specs.Opening.{IsFresh, Tended, name_in, TendsEach, TendsOne, TendsNames, with_tended, with_entry, entry_if, is_lost, store_of}
 use Rattle.pp_recover.proofs.LookLemmas.{extends_then, extends_map}
-use Rattle.pp_recover.proofs.NameLemmas.{NotIn, Distinct, distinct_front}
-use Rattle.pp_recover.proofs.ShutLemmas.{IsTidy}
-use Rattle.pp_recover.proofs.TendLemmas.{tends_other, tends_sound, tends_failed, tends_done, tends_stays, at_rest_stays, Stays}
+use Rattle.pp_recover.proofs.NameLemmas.{NotIn, Distinct}
+use Rattle.pp_recover.proofs.TendLemmas.{tends_other, tends_stays, at_rest_stays, Stays}
 
 -- a front of two parts is a front of the first, or the first and a front of the second
 pub data Front (a b p q : Log) : Type 0 where

@@ -1,11 +1,10 @@
 -- From a head block and the gates to the entry that a file is.
-use Rattle.std.proofs.Common.{◌≡◌, ℕ, ◌+◌, ◌≤◌, Bool, true, [], length, take, drop, Option, Some, None, refl, sym, ◌∙◌, ap, subst, arith}
+use Rattle.std.proofs.Common.{◌≡◌, ℕ, ◌+◌, ◌≤◌, true, [], length, take, Option, Some, None, refl, ◌∙◌, ap, subst, arith}
 use Rattle.std.specs.Prelude.{nat_le, bytes_eq, if◌then◌else◌, option_map}
 use Rattle.std.specs.Option.{option_and_then}
 use Rattle.std.proofs.lemmas.Bool.Decides.{nat_tests}
 use Rattle.std.proofs.lemmas.Option.{option_and_then_some}
 use Rattle.std.proofs.lemmas.Slice.Eq.{bytes_eq-Decides}
-use Rattle.pp_world.specs.declared.op.DiskOp.{DiskOp}
 use Rattle.pp_world.specs.Disk.{Bytes}
 use Rattle.pp_entry.specs.Entries.{Row, row_at}
 use Rattle.pp_entry.specs.Texts.{body_at}
@@ -13,9 +12,9 @@ use Rattle.pp_gate.specs.Files.{extent_in}
 use Rattle.pp_gate.proofs.PlaceLemmas.{gates_below}
 use Rattle.pp_target.specs.Name.{name_of}
 use Rattle.pp_store.specs.Kept.{Kept}
-use Rattle.pp_recover.specs.Image.{IsRowOf, named_for, head_in, extent_if, kept_with, entry_in, entry_of, bytes_of}
+use Rattle.pp_recover.specs.Image.{named_for, head_in, extent_if, kept_with, entry_in, entry_of, bytes_of}
 use Rattle.pp_recover.specs.Closing.{gates_in, closing, closing_if, closing_of}
-use Rattle.pp_recover.proofs.RowLemmas.{if_some, map_some, none_or, row_short}
+use Rattle.pp_recover.proofs.RowLemmas.{if_some, map_some}
 
 -- what a head tells
 pub record IsHead (name file : Bytes) (row : Row) : Type 0 where

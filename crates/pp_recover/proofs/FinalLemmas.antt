@@ -1,6 +1,6 @@
 -- What stands under each name once all were attended to, and what the store then holds.
-use Rattle.std.proofs.Common.{◌≡◌, ◌≢◌, ◌⊎◌, inl, inr, ℕ, ◌+◌, ◌*◌, ◌-◌, ◌<◌, ◌≤◌, Bool, true, false, List, [], ◌∷◌, ◌++◌, length, take, drop, get_or, Option, Some, None, refl, sym, ◌∙◌, ap, subst, arith, append_assoc}
-use Rattle.std.specs.Prelude.{◌||◌, not, cond, bytes_eq, map, filter, min, All}
+use Rattle.std.proofs.Common.{◌≡◌, ℕ, ◌+◌, ◌*◌, ◌<◌, ◌≤◌, Bool, true, false, List, [], ◌∷◌, ◌++◌, take, Option, Some, None, refl, sym, ◌∙◌, ap, subst, arith}
+use Rattle.std.specs.Prelude.{◌||◌, not, cond, bytes_eq, map, filter, min}
 use Rattle.std.specs.List.{filter_map, list_any, AllByRecursion}
 use Rattle.std.proofs.lemmas.List.{append-nil}
 use Rattle.std.proofs.lemmas.List.Elements.{All-from_recursion}
@@ -10,16 +10,16 @@ use Rattle.pp_world.specs.Log.{Log}
 use Rattle.pp_world.specs.Disk.{Bytes, View, settled, at_rest, view_of}
 use Rattle.pp_target.specs.Name.{name_of}
 use Rattle.pp_entry.specs.Texts.{body_at, chunks_of}
-use Rattle.pp_gate.specs.Files.{open_gates, extent_in, gate, body, HoldsSent}
+use Rattle.pp_gate.specs.Files.{open_gates, extent_in, body, HoldsSent}
 use Rattle.pp_gate.specs.Seal.{IsKept, KeepsIn}
 use Rattle.pp_gate.proofs.Views.{view_from, view_of-append}
 use Rattle.pp_gate.proofs.PlaceLemmas.{gates_below}
 use Rattle.pp_gate.proofs.SealLemmas.{same_head, gate_same, body_same}
 use Rattle.pp_store.specs.Held.{Sent, IsHeld, Holds}
-use Rattle.pp_store.specs.Kept.{Kept, KeptMap, name_at, block_of, is_name, is_closed}
-use Rattle.pp_recover.specs.Image.{entry_in, entry_of, head_in}
+use Rattle.pp_store.specs.Kept.{Kept, block_of, is_name}
+use Rattle.pp_recover.specs.Image.{entry_in, entry_of}
 use Rattle.pp_recover.specs.Closing.{Tends}
-use Rattle.pp_recover.specs.Opening.{IsFresh, Tended, name_in, TendsEach, AllSent, failed_on, entry_unless, store_in, entry_if, is_lost, store_of}
+use Rattle.pp_recover.specs.Opening.{IsFresh, Tended, name_in, TendsEach, AllSent, failed_on, entry_unless, entry_if, is_lost, store_of}
 use Rattle.pp_recover.proofs.RowLemmas.{spelt}
 use Rattle.pp_recover.proofs.EntryLemmas.{entry_told, head_told, room_told}
 use Rattle.pp_recover.proofs.NameLemmas.{NotIn, Distinct}

@@ -1,11 +1,11 @@
 -- Looks at one name, one after another, and what they come to.
-use Rattle.std.proofs.Common.{◌≡◌, ℕ, ◌+◌, ◌<◌, ◌≤◌, Bool, true, false, [], ◌∷◌, ◌++◌, length, take, drop, Option, Some, None, refl, sym, ◌∙◌, ap, subst, arith, append_assoc, inl, inr}
+use Rattle.std.proofs.Common.{◌≡◌, ℕ, ◌+◌, ◌<◌, ◌≤◌, Bool, true, false, [], ◌++◌, length, take, drop, Option, Some, None, refl, sym, ◌∙◌, ap, subst, arith, append_assoc, inr}
 use Rattle.std.specs.Prelude.{⊤, nat_le, if◌then◌else◌, option_map, Result, Ok, Err, IfOk, IsErr, is_ok}
 use Rattle.std.specs.Option.{option_and_then}
 use Rattle.std.proofs.lemmas.List.{append-nil, length-take, length-take-le, take-append-le, take_all}
 use Rattle.pp_world.specs.declared.disk.DiskFault.{DiskFault}
 use Rattle.pp_world.specs.Log.{Log, Told, AppendsAll}
-use Rattle.pp_world.specs.Disk.{Bytes, Stored, Stands, at_rest, bytes_in, settled, view_of, look_happenings, GivesBytes, GivesLength}
+use Rattle.pp_world.specs.Disk.{Bytes, Stands, at_rest, bytes_in, look_happenings, GivesBytes, GivesLength}
 use Rattle.pp_entry.specs.Entries.{Row, row_at}
 use Rattle.pp_entry.specs.Gates.{extent_of}
 use Rattle.pp_entry.specs.Texts.{body_at, chunks_of}
@@ -15,9 +15,9 @@ use Rattle.pp_gate.proofs.PlaceLemmas.{gates_below}
 use Rattle.pp_gate.proofs.SealLemmas.{settled_bytes}
 use Rattle.pp_recover.specs.declared.examine.Front.{Front}
 use Rattle.pp_store.specs.Kept.{Kept}
-use Rattle.pp_recover.specs.Image.{named_for, head_in, extent_if, entry_of, bytes_of}
+use Rattle.pp_recover.specs.Image.{named_for, extent_if, entry_of, bytes_of}
 use Rattle.pp_recover.specs.Closing.{RestsTo, Tends, gates_in, closing, closing_of}
-use Rattle.pp_recover.specs.Looks.{Extends, Looks, looked, GivesHead, GivesGates, GivesFront, GivesEntry, Examines, front_in}
+use Rattle.pp_recover.specs.Looks.{Extends, Looks, looked, GivesHead, GivesGates, GivesFront, Examines, front_in}
 use Rattle.pp_recover.proofs.RowLemmas.{row_short}
 use Rattle.pp_recover.proofs.EntryLemmas.{head_is, no_head, extent_same, room_told, entry_there, no_entry_there, no_room_there, closing_is, closes_none}
 

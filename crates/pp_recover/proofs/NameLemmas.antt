@@ -1,7 +1,6 @@
 -- Names in rising order are distinct; a store that knows nothing of a name.
-use Rattle.std.proofs.Common.{◌≡◌, ℕ, zero, suc, ◌+◌, ◌<◌, ◌≤◌, Bool, true, false, List, [], ◌∷◌, ◌++◌, length, take, get_or, Option, Some, None, refl, sym, ◌∙◌, ap, subst, arith}
-use Rattle.std.specs.Prelude.{◌&&◌, ◌||◌, bytes_eq, cond, find, IsTrue, Result, Ok, Err, OnOk, OnErr}
-use Rattle.std.specs.List.{list_any}
+use Rattle.std.proofs.Common.{◌≡◌, ℕ, zero, suc, ◌<◌, Bool, true, false, List, [], ◌∷◌, length, take, get_or, Option, Some, None, refl, sym, ◌∙◌, ap, subst, arith}
+use Rattle.std.specs.Prelude.{◌||◌, bytes_eq, cond, find, IsTrue, Result, Ok, Err, OnOk, OnErr}
 use Rattle.std.specs.Option.{option_or}
 use Rattle.std.specs.Ordering.{is_lt}
 use Rattle.std.specs.declared.cmp.Ordering.{Ordering}
@@ -14,7 +13,7 @@ use Rattle.pp_world.specs.Disk.{Bytes, is_rising}
 use Rattle.pp_target.specs.Name.{name_of}
 use Rattle.pp_entry.specs.Entries.{Row}
 use Rattle.pp_store.specs.Changes.{with_closed, closed_once, with_row, no_entries}
-use Rattle.pp_store.specs.Kept.{Kept, KeptMap, is_closed, kept_under, is_under, is_name}
+use Rattle.pp_store.specs.Kept.{Kept, KeptMap, is_under, is_name}
 use Rattle.pp_recover.specs.Opening.{IsFree}
 use Rattle.pp_recover.proofs.RowLemmas.{both_true}
 use Rattle.pp_recover.proofs.TendLemmas.{other_name}

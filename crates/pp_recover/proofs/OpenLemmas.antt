@@ -1,6 +1,6 @@
 -- A folder that was listed, and its names attended to.
-use Rattle.std.proofs.Common.{◌≡◌, ◌⊎◌, inl, inr, ℕ, zero, suc, Bool, true, false, List, [], ◌∷◌, ◌++◌, length, take, Option, Some, None, refl, sym, ◌∙◌, ap, subst, arith, append_assoc}
-use Rattle.std.specs.Prelude.{map, cond, IsTrue, Result, Ok, Err, IsErr, IsErrAnd}
+use Rattle.std.proofs.Common.{◌≡◌, inr, ℕ, zero, suc, Bool, true, false, List, [], ◌∷◌, ◌++◌, length, take, Option, Some, refl, sym, ◌∙◌, ap, subst, arith, append_assoc}
+use Rattle.std.specs.Prelude.{map, IsTrue, Result, Ok, Err, IsErr, IsErrAnd}
 use Rattle.std.proofs.lemmas.List.{append-nil, take_all}
 use Rattle.std.proofs.lemmas.List.Sums.{fold-append}
 use Rattle.pp_world.specs.declared.disk.NamesFault.{NamesFault}
@@ -10,15 +10,15 @@ use Rattle.pp_world.specs.declared.happening.Happening.TheVariants.{Listed, Root
 use Rattle.pp_world.specs.Files.{Files, file_of}
 use Rattle.pp_world.specs.Log.{Log, Told, AppendsAll}
 use Rattle.pp_world.specs.Disk.{Bytes, View, at_rest, image_of, image_after, names_in, names_happenings, view_of, is_rising}
-use Rattle.pp_gate.specs.Runs.{EachMoment, AtEach}
+use Rattle.pp_gate.specs.Runs.{EachMoment}
 use Rattle.pp_gate.proofs.Views.{view_from, view_of-append}
 use Rattle.pp_gate.proofs.Ops.{AllLeft}
 use Rattle.pp_store.specs.Held.{Sent, Holds}
 use Rattle.pp_store.specs.Kept.{KeptMap}
 use Rattle.pp_recover.specs.declared.faults.RecoverFault.{RecoverFault}
-use Rattle.pp_recover.specs.declared.faults.RecoverFault.TheVariants.{DiskFault, OutOfMemory}
+use Rattle.pp_recover.specs.declared.faults.RecoverFault.TheVariants.{OutOfMemory}
 use Rattle.pp_recover.specs.Looks.{Extends}
-use Rattle.pp_recover.specs.Opening.{IsFresh, SameEntries, Tended, name_in, TendsEach, TendsNames, TendsFirst, ListsAnd, Opens, AllSent, store_in, store_of}
+use Rattle.pp_recover.specs.Opening.{IsFresh, SameEntries, Tended, name_in, TendsEach, TendsNames, TendsFirst, ListsAnd, Opens, AllSent, store_in}
 use Rattle.pp_recover.proofs.LookLemmas.{extends_then, extends_map}
 use Rattle.pp_recover.proofs.NameLemmas.{NotIn, Distinct, distinct}
 use Rattle.pp_recover.proofs.TendLemmas.{Stays, at_rest_stays}

@@ -1,7 +1,6 @@
 -- What a head block that is in the grammar says of its row.
-use Rattle.std.proofs.Common.{◌≡◌, ℕ, ◌+◌, ◌-◌, ◌^◌, ◌≤◌, Bool, true, false, List, ◌++◌, length, take, replicate, Option, Some, None, refl, sym, ◌∙◌, ap, subst, arith, length-append}
+use Rattle.std.proofs.Common.{◌≡◌, ℕ, ◌+◌, ◌-◌, ◌^◌, ◌≤◌, Bool, true, false, List, length, replicate, Option, Some, None, refl, sym, ◌∙◌, ap, subst, arith, length-append}
 use Rattle.std.specs.Prelude.{◌&&◌, nat_le, nat_lt, bytes_eq, if◌then◌else◌, option_map}
-use Rattle.std.specs.Option.{option_and_then}
 use Rattle.std.proofs.lemmas.Option.{option_and_then_some}
 use Rattle.std.proofs.lemmas.Bool.Decides.{nat_tests}
 use Rattle.std.proofs.lemmas.Slice.Eq.{bytes_eq-Decides}
@@ -12,7 +11,7 @@ use Rattle.pp_head.specs.Read.{Read, Whole, TooLong, Bad, More}
 use Rattle.pp_head.specs.Response.{Response, response_at}
 use Rattle.pp_valid.specs.TagStates.{tag_of}
 use Rattle.pp_valid.specs.Versions.{strong_part}
-use Rattle.pp_entry.specs.Entries.{Row, Own, is_sized, own_with, own_at, own_in, kept_in, is_spelled, row_with, row_of, row_if_spelled, row_among, row_from, row_at}
+use Rattle.pp_entry.specs.Entries.{Row, Own, is_sized, own_with, own_at, own_in, kept_in, is_spelled, row_with, row_of, row_if_spelled, row_from, row_at}
 use Rattle.pp_entry.specs.Fields.{are_allowed}
 use Rattle.pp_entry.specs.Texts.{head_text, fits, padded}
 

@@ -1,6 +1,5 @@
 -- Runs of operations, one behind another.
-use Rattle.std.proofs.Common.{◌≡◌, inl, inr, Bool, true, false, List, [], ◌∷◌, ◌++◌, Option, Some, refl, sym, ◌∙◌, ap, append_assoc}
-use Rattle.pp_world.specs.declared.happening.Happening.TheVariants.{Began, Did}
+use Rattle.std.proofs.Common.{inl, inr, Bool, true, false, List, [], ◌∷◌, ◌++◌, Option, ◌∙◌, ap, append_assoc}
 use Rattle.pp_world.specs.declared.op.DiskOp.{DiskOp}
 use Rattle.pp_world.specs.Log.{Log}
 use Rattle.pp_gate.specs.Runs.{Ran, RunsOps}

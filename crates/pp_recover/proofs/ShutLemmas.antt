@@ -1,30 +1,29 @@
 -- A file whose stray gates are closed one after another: at each moment it is the same entry.
-use Rattle.std.proofs.Common.{◌≡◌, ◌≢◌, ◌⊎◌, inl, inr, ⊎_elim, ℕ, zero, suc, ◌+◌, ◌*◌, ◌-◌, ◌<◌, ◌≤◌, Bool, true, false, List, [], ◌∷◌, ◌++◌, length, take, drop, get_or, replicate, Option, Some, None, refl, sym, ◌∙◌, ap, subst, arith, length-drop}
-use Rattle.std.specs.Prelude.{◌==◌, ◌&&◌, not, nat_lt, nat_le, min, cond, slice_index, option_map, if◌then◌else◌}
+use Rattle.std.proofs.Common.{◌≡◌, ◌≢◌, ◌⊎◌, ⊎_elim, ℕ, zero, suc, ◌+◌, ◌*◌, ◌-◌, ◌<◌, ◌≤◌, Bool, true, false, List, [], ◌∷◌, ◌++◌, length, take, drop, get_or, replicate, Option, Some, None, refl, sym, ◌∙◌, ap, subst, arith, length-drop}
+use Rattle.std.specs.Prelude.{◌==◌, ◌&&◌, not, nat_lt, nat_le, min, cond, if◌then◌else◌}
 use Rattle.std.specs.Option.{option_and_then}
 use Rattle.std.specs.List.{flat_map, range_with_len, prefix_len}
-use Rattle.std.proofs.lemmas.List.{get_or-take, get_or-drop, length-take, length-take-le, append-nil, get_or-replicate}
+use Rattle.std.proofs.lemmas.List.{get_or-take, get_or-drop, length-take-le, get_or-replicate}
 use Rattle.std.proofs.Math.ListN.{length-replicate}
 use Rattle.std.proofs.lemmas.List.Sums.{prefix_len_passes, prefix_len_stops, prefix_len-drop_yes, prefix_len-drop_no, prefix_len-le-length}
 use Rattle.std.proofs.lemmas.Bool.Decides.{nat_tests}
 use Rattle.pp_world.specs.declared.op.DiskOp.{DiskOp}
-use Rattle.pp_world.specs.declared.op.DiskOp.TheVariants.{Write, Sync}
-use Rattle.pp_world.specs.Disk.{Bytes, View, Stored, settled, splice}
+use Rattle.pp_world.specs.Disk.{Bytes, View, settled, splice}
 use Rattle.pp_entry.specs.Entries.{row_at}
 use Rattle.pp_entry.specs.Gates.{leading_open}
 use Rattle.pp_entry.specs.Texts.{body_at, chunks_of}
-use Rattle.pp_gate.specs.Files.{open_gates, extent_in, gate, body}
+use Rattle.pp_gate.specs.Files.{open_gates, extent_in, gate}
 use Rattle.pp_gate.specs.Runs.{During}
 use Rattle.pp_gate.proofs.Views.{done_view}
-use Rattle.pp_gate.proofs.Images.{Torn, length-splice, splice_before, splice_in, splice_after, written_torn}
+use Rattle.pp_gate.proofs.Images.{Torn, length-splice, splice_in, written_torn}
 use Rattle.pp_gate.proofs.Ops.{AllLeft, write_then_sync, write_sync_slot, all_settled}
 use Rattle.pp_gate.proofs.PlaceLemmas.{gates_below}
 use Rattle.pp_gate.proofs.GateLemmas.{opens_at_least, opens_at_most}
-use Rattle.pp_gate.proofs.SealLemmas.{same_head, gate_same, gate_new, body_same}
+use Rattle.pp_gate.proofs.SealLemmas.{same_head, gate_same, gate_new}
 use Rattle.pp_store.specs.Kept.{Kept}
-use Rattle.pp_recover.specs.Image.{named_for, head_in, extent_if, entry_in, entry_of}
+use Rattle.pp_recover.specs.Image.{named_for, head_in, entry_in, entry_of}
 use Rattle.pp_recover.specs.Closing.{gates_in, begins, open_from, close_from, close_at, closing}
-use Rattle.pp_recover.proofs.EntryLemmas.{IsEntryOf, entry_told, entry_some, room_told, extent_same, head_told}
+use Rattle.pp_recover.proofs.EntryLemmas.{IsEntryOf, entry_told, entry_some, room_told, extent_same}
 use Rattle.pp_recover.proofs.RowLemmas.{both_true}
 
 -- ---- gates that lead, by index

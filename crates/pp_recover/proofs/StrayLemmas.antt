@@ -9,7 +9,7 @@ use Rattle.pp_world.specs.declared.op.DiskOp.{DiskOp}
 use Rattle.pp_world.specs.declared.op.DiskOp.TheVariants.{Write, Sync}
 use Rattle.pp_world.specs.declared.disk.DiskFault.{DiskFault}
 use Rattle.pp_world.specs.Log.{Log, Told, AppendsAll}
-use Rattle.pp_world.specs.Disk.{Bytes, View, settled, splice, view_of, Reaches, op_happenings}
+use Rattle.pp_world.specs.Disk.{Bytes, View, settled, splice, Reaches, op_happenings}
 use Rattle.pp_gate.specs.Runs.{RunsOps}
 use Rattle.pp_gate.proofs.Views.{told_map, told_after, runs_none, runs_more, runs_last, on_ok}
 use Rattle.pp_gate.proofs.Images.{length-splice}

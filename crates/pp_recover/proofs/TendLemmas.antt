@@ -1,14 +1,14 @@
 -- What attending to one name does to what stands under it, and under the others.
-use Rattle.std.proofs.Common.{◌≡◌, ◌⊎◌, inl, inr, ℕ, ◌+◌, Bool, true, false, List, [], ◌∷◌, ◌++◌, length, Option, Some, None, refl, sym, ◌∙◌, ap, subst}
+use Rattle.std.proofs.Common.{◌≡◌, inl, inr, ℕ, Bool, true, false, List, [], ◌∷◌, ◌++◌, length, Option, Some, None, refl, sym, ◌∙◌, ap, subst}
 use Rattle.std.specs.Prelude.{◌||◌, bytes_eq, cond}
 use Rattle.std.proofs.lemmas.Slice.Eq.{bytes_eq-Decides}
 use Rattle.std.specs.List.{flat_map, range_with_len}
 use Rattle.pp_world.specs.declared.happening.Happening.{Happening}
-use Rattle.pp_world.specs.declared.happening.Happening.TheVariants.{Began, Did, Unread}
+use Rattle.pp_world.specs.declared.happening.Happening.TheVariants.{Unread}
 use Rattle.pp_world.specs.declared.op.DiskOp.{DiskOp}
 use Rattle.pp_world.specs.declared.op.DiskOp.TheVariants.{Draft, SyncDraft, Publish, Write, Sync, Remove}
 use Rattle.pp_world.specs.Log.{Log}
-use Rattle.pp_world.specs.Disk.{Bytes, View, Stored, settled, at_rest, on_file, loosened, written, synced, where_on, is_on, began, done, undone, view_after, LeavesOne, IsLeftOf}
+use Rattle.pp_world.specs.Disk.{Bytes, View, Stored, settled, at_rest, where_on, began, done, undone, view_after, LeavesOne}
 use Rattle.pp_gate.specs.Runs.{Ran, During}
 use Rattle.pp_gate.proofs.Views.{view_from, each_from, done_view, ran_to}
 use Rattle.pp_gate.proofs.Ops.{AllLeft, all_settled}

@@ -1,5 +1,5 @@
 -- What looks at the file of one name tell.
-use Rattle.std.specs.Prelude.{◌≡◌, ⊤, ℕ, Bool, true, false, List, [], ◌∷◌, ◌++◌, ◌+◌, nat_le, if◌then◌else◌, length, take, drop, Option, Some, None, Result, Ok, Err, option_map}
+use Rattle.std.specs.Prelude.{◌≡◌, ⊤, ℕ, Bool, true, false, [], ◌∷◌, ◌++◌, ◌+◌, nat_le, if◌then◌else◌, length, take, Option, Some, None, Result, Ok, Err, option_map}
 use Rattle.pp_world.specs.declared.disk.DiskFault.{DiskFault}
 use Rattle.pp_world.specs.declared.happening.Happening.TheVariants.{Unread}
 use Rattle.pp_world.specs.Log.{Log}

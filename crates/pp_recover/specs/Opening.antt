@@ -1,5 +1,5 @@
 -- What opening a folder does, as the log tells it, and the store that it makes.
-use Rattle.std.specs.Prelude.{◌≡◌, ◌⊎◌, ⊤, ℕ, Bool, true, false, not, List, [], ◌∷◌, ◌++◌, length, take, map, filter, cond, Option, Some, None, Result, Ok, Err}
+use Rattle.std.specs.Prelude.{◌≡◌, ◌⊎◌, ℕ, Bool, true, false, not, List, [], ◌∷◌, ◌++◌, length, take, map, filter, cond, Option, Some, None, Result, Ok, Err}
 use Rattle.std.specs.List.{filter_map}
 use Rattle.pp_world.specs.declared.happening.Happening.TheVariants.{Listed}
 use Rattle.pp_world.specs.Files.{Files, file_of}

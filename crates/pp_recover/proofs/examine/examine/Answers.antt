@@ -1,14 +1,5 @@
-use Rattle.std.proofs.Common.{refl, sym, ◌∙◌, ap, ◌≡◌, ℕ, Bool, false, subst}
-use Rattle.std.specs.Prelude.{IfSome, option_map, Ok, Err, IsErr, Some, is_ok, Option, Result}
-use Rattle.pp_world.specs.Disk.{Bytes, Stands, at_rest}
-use Rattle.pp_world.specs.Log.{Log}
-use Rattle.pp_world.specs.declared.disk.DiskFault.{DiskFault}
+use Rattle.std.proofs.Common.{refl, false}
 use Rattle.pp_entry.specs.Entries.{shown_entry}
-use Rattle.pp_gate.proofs.SealLemmas.{err_not_ok}
-use Rattle.pp_store.specs.Kept.{Kept}
-use Rattle.pp_recover.specs.Image.{IsRowOf, entry_of}
-use Rattle.pp_recover.specs.Closing.{Tends}
-use Rattle.pp_recover.specs.Looks.{Extends, Examines, GivesEntry, GivesFront, GivesHead, Looks}
 use Rattle.pp_recover.specs.Shown.{shown_found}
 use Rattle.pp_recover.proofs.RowLemmas.{spelt}
 use Rattle.pp_recover.proofs.LookLemmas.{no_head_found, no_room_found, rests, closed, failed_of, found_of}

@@ -1,6 +1,5 @@
-use Rattle.std.proofs.Common.{◌≡◌, sym, ◌∙◌, subst, refl, List}
-use Rattle.std.specs.Prelude.{is_ok, IsTrue, Err}
-use Rattle.pp_world.specs.Disk.{Bytes, is_rising}
+use Rattle.std.proofs.Common.{refl}
+use Rattle.std.specs.Prelude.{Err}
 use Rattle.pp_recover.proofs.OpenLemmas.{fresh_mid, went, opens_ok, opens_front, holds_ok, went_moments, none_moments, list_moments}
 use Rattle.pp_recover.proofs.opening.open.Goals as goal
 

@@ -1,4 +1,3 @@
-use Rattle.std.proofs.Common.{◌∙◌}
 use Rattle.pp_entry.specs.Entries.{shown_entry}
 use Rattle.pp_recover.proofs.RowLemmas.{spelt}
 use Rattle.pp_recover.proofs.NameLemmas.{free_found, free_closed}

@@ -1,4 +1,4 @@
-use Rattle.std.proofs.Common.{arith, sym, subst, ◌∙◌, [], ◌∷◌, ◌++◌, get_or, take, List}
+use Rattle.std.proofs.Common.{arith, sym, subst, ◌∙◌, [], get_or, take, List}
 use Rattle.std.specs.Prelude.{is_ok}
 use Rattle.pp_world.specs.Disk.{Bytes}
 use Rattle.pp_gate.proofs.SealLemmas.{err_not_ok}
