@@ -1,0 +1,11 @@
+pub mod EachLemmas
+pub mod EntryLemmas
+pub mod FinalLemmas
+pub mod LookLemmas
+pub mod NameLemmas
+pub mod OpenLemmas
+pub mod RowLemmas
+pub mod RunLemmas
+pub mod ShutLemmas
+pub mod StrayLemmas
+pub mod TendLemmas

@@ -1,0 +1,439 @@
+-- A file whose stray gates are closed one after another: at each moment it is the same entry.
+use Rattle.std.proofs.Common.{◌≡◌, ◌≢◌, ◌⊎◌, ⊎_elim, ℕ, zero, suc, ◌+◌, ◌*◌, ◌-◌, ◌<◌, ◌≤◌, Bool, true, false, List, [], ◌∷◌, ◌++◌, length, take, drop, get_or, replicate, Option, Some, None, refl, sym, ◌∙◌, ap, subst, arith, length-drop}
+use Rattle.std.specs.Prelude.{◌==◌, ◌&&◌, not, nat_lt, nat_le, min, cond, if◌then◌else◌}
+use Rattle.std.specs.Option.{option_and_then}
+use Rattle.std.specs.List.{flat_map, range_with_len, prefix_len}
+use Rattle.std.proofs.lemmas.List.{get_or-take, get_or-drop, length-take-le, get_or-replicate}
+use Rattle.std.proofs.Math.ListN.{length-replicate}
+use Rattle.std.proofs.lemmas.List.Sums.{prefix_len_passes, prefix_len_stops, prefix_len-drop_yes, prefix_len-drop_no, prefix_len-le-length}
+use Rattle.std.proofs.lemmas.Bool.Decides.{nat_tests}
+use Rattle.pp_world.specs.declared.op.DiskOp.{DiskOp}
+use Rattle.pp_world.specs.Disk.{Bytes, View, settled, splice}
+use Rattle.pp_entry.specs.Entries.{row_at}
+use Rattle.pp_entry.specs.Gates.{leading_open}
+use Rattle.pp_entry.specs.Texts.{body_at, chunks_of}
+use Rattle.pp_gate.specs.Files.{open_gates, extent_in, gate}
+use Rattle.pp_gate.specs.Runs.{During}
+use Rattle.pp_gate.proofs.Views.{done_view}
+use Rattle.pp_gate.proofs.Images.{Torn, length-splice, splice_in, written_torn}
+use Rattle.pp_gate.proofs.Ops.{AllLeft, write_then_sync, write_sync_slot, all_settled}
+use Rattle.pp_gate.proofs.PlaceLemmas.{gates_below}
+use Rattle.pp_gate.proofs.GateLemmas.{opens_at_least, opens_at_most}
+use Rattle.pp_gate.proofs.SealLemmas.{same_head, gate_same, gate_new}
+use Rattle.pp_store.specs.Kept.{Kept}
+use Rattle.pp_recover.specs.Image.{named_for, head_in, entry_in, entry_of}
+use Rattle.pp_recover.specs.Closing.{gates_in, begins, open_from, close_from, close_at, closing}
+use Rattle.pp_recover.proofs.EntryLemmas.{IsEntryOf, entry_told, entry_some, room_told, extent_same}
+use Rattle.pp_recover.proofs.RowLemmas.{both_true}
+
+-- ---- gates that lead, by index
+
+is_one : (x : ℕ) → (x == 1) ≡ true → x ≡ 1
+is_one x is = grind (arith, nat_tests)
+
+one_is : (x : ℕ) → x ≡ 1 → (x == 1) ≡ true
+one_is x is = ap (λ (y : ℕ). y == 1) is
+
+not_one : (x : ℕ) → (x == 1) ≡ false → x ≢ 1
+not_one x differs is = absurd (let bad : true ≡ false = sym (one_is x is) ∙ differs in cc)
+
+pub leads : (gs : Bytes) → leading_open gs ≡ prefix_len (λ x. x == 1) gs
+leads gs = length-take-le (prefix_len (λ x. x == 1) gs) gs (prefix_len-le-length (λ x. x == 1) gs)
+
+pub leads_within : (gs : Bytes) → leading_open gs ≤ length gs
+leads_within gs = omega (arith, leads gs, prefix_len-le-length (λ x. x == 1) gs)
+
+pub leads_open : (gs : Bytes) (i : ℕ) → i < leading_open gs → get_or gs i 0 ≡ 1
+leads_open gs i lt = is_one (get_or gs i 0) (prefix_len_passes (λ x. x == 1) gs i 0 (omega (arith, lt, leads gs)))
+
+pub stops_shut : (gs : Bytes) → leading_open gs < length gs → get_or gs (leading_open gs) 0 ≢ 1
+stops_shut gs lt = subst (λ (k : ℕ). get_or gs k 0 ≢ 1) (sym (leads gs)) (not_one (get_or gs (prefix_len (λ x. x == 1) gs) 0) (prefix_len_stops (λ x. x == 1) gs 0 (omega (arith, lt, leads gs))))
+
+pub open_more : (gs : Bytes) (i : ℕ) → i < length gs → get_or gs i 0 ≡ 1 → open_from gs i ≡ 1 + open_from gs (i + 1)
+open_more gs i lt is = leads (drop i gs) ∙ prefix_len-drop_yes (λ x. x == 1) gs i 0 lt (one_is (get_or gs i 0) is) ∙ ap (λ (k : ℕ). 1 + k) (sym (leads (drop (i + 1) gs)))
+
+differs : (x : ℕ) → x ≢ 1 → (x == 1) ≡ false
+differs x not = grind (arith, nat_tests)
+
+pub open_none : (gs : Bytes) (i : ℕ) → i < length gs → get_or gs i 0 ≢ 1 → open_from gs i ≡ 0
+open_none gs i lt not = leads (drop i gs) ∙ prefix_len-drop_no (λ x. x == 1) gs i 0 lt (differs (get_or gs i 0) not)
+
+pub open_within : (gs : Bytes) (i : ℕ) → i ≤ length gs → i + open_from gs i ≤ length gs
+open_within gs i le = omega (arith, le, leads_within (drop i gs), length-drop i gs)
+
+all_but : (a b c : Bool) → a ≡ true → b ≡ true → ((a && b) && not c) ≡ false → c ≡ true
+all_but true true true p q is = refl
+all_but true true false p q is = absurd (cc)
+all_but true false c p q is = absurd (cc)
+all_but false b c p q is = absurd (cc)
+
+-- ---- one entry
+
+extents_same : (n : ℕ) (c file : Bytes) → open_gates n c ≡ open_gates n file → extent_in n c ≡ extent_in n file
+unfolding extent_in
+extents_same n c file same = ap (λ (g : ℕ). min n (4096 * g)) same
+
+heads_same : (name c file : Bytes) → take 8192 c ≡ take 8192 file → head_in name c ≡ head_in name file
+unfolding head_in
+heads_same name c file same = ap (λ (b : Bytes). option_and_then (named_for name) (row_at b)) same
+
+module _ (name file : Bytes) (kept : Kept) (is : entry_in name file ≡ Some kept) where
+  abbrev pub n : ℕ
+  n = kept.entry.version.length
+
+  abbrev pub gates : Bytes
+  gates = gates_in n file
+
+  entry : IsEntryOf name file kept
+  entry = entry_told name file kept is
+
+  pub long : body_at n + extent_in n file ≤ length file
+  long = (room_told n file kept.extent entry.room).long
+
+  pub whole : length gates ≡ chunks_of n
+  whole = length-take-le (chunks_of n) (drop 8192 file) (omega (arith, length-drop 8192 file, long, gates_below n))
+
+  -- how many lead
+  pub first : ℕ
+  first = leading_open gates
+
+  pub first_is : open_gates n file ≡ first
+  unfolding open_gates first
+  first_is = refl
+
+  pub first_within : first ≤ chunks_of n
+  unfolding first
+  first_within = omega (arith, leads_within gates, whole)
+
+  pub gate_is : (i : ℕ) → i < chunks_of n → gate file i ≡ get_or gates i 0
+  unfolding gate
+  gate_is i lt = sym (get_or-take (chunks_of n) (drop 8192 file) i 0 lt ∙ get_or-drop 8192 file i 0)
+
+  pub first_open : (i : ℕ) → i < first → gate file i ≡ 1
+  unfolding first
+  first_open i lt = gate_is i (omega (arith, lt, leads_within gates, whole)) ∙ leads_open gates i lt
+
+  pub next_shut : first < chunks_of n → gate file first ≢ 1
+  unfolding first
+  next_shut lt one = stops_shut gates (omega (arith, lt, whole)) (sym (gate_is (leading_open gates) lt) ∙ one)
+
+  -- a file that is the same up to the first closed gate, and no shorter, is the same entry
+  pub same_entry : (c : Bytes) → length file ≤ length c → ((o : ℕ) → o < length file → o < 8192 + first → get_or c o 0 ≡ get_or file o 0) → (first < chunks_of n → gate c first ≢ 1) → entry_in name c ≡ Some kept
+  same_entry c no_shorter low next =
+      entry_some name c kept.entry kept.extent (heads_same name c file fronts ∙ entry.head) (extent_same n c ∙ ap (λ (e : ℕ). if nat_le (body_at n + e) (length c) then Some e else None) extent_is ∙ ap (λ (b : Bool). if b then Some kept.extent else None) fits)
+    where
+      opens : open_gates n c ≡ first
+      opens = omega (
+        arith,
+        opens_at_least n first c first_within (λ i lt. gate_same c file i (low (8192 + i) (omega (arith, lt, long, gates_below n, first_within)) (omega (arith, lt))) ∙ first_open i lt),
+        opens_at_most n first c first_within next,
+      )
+
+      extent_is : extent_in n c ≡ kept.extent
+      extent_is = extents_same n c file (opens ∙ sym first_is) ∙ (room_told n file kept.extent entry.room).extent_is
+
+      le_is : (a b : ℕ) → a ≤ b → nat_le a b ≡ true
+      le_is a b le = grind (arith, nat_tests)
+
+      fits : nat_le (body_at n + kept.extent) (length c) ≡ true
+      fits = le_is (body_at n + kept.extent) (length c) (omega (arith, no_shorter, long, (room_told n file kept.extent entry.room).extent_is))
+
+      fronts : take 8192 c ≡ take 8192 file
+      fronts = same_head c file (omega (arith, no_shorter, long, gates_below n)) (omega (arith, long, gates_below n)) (λ o lt. low o (omega (arith, lt, long, gates_below n)) (omega (arith, lt)))
+
+  -- the gates from the first closed one up to `end` are closed, and all else is as it was
+  pub record ShutTo (end : ℕ) (now : Bytes) : Type 0 where
+    pub size : length now ≡ length file
+    pub low : (o : ℕ) → o < length file → o < 8192 + first → get_or now o 0 ≡ get_or file o 0
+    pub high : (o : ℕ) → o < length file → 8192 + chunks_of n ≤ o → get_or now o 0 ≡ get_or file o 0
+    pub closed : (i : ℕ) → first ≤ i → i < end → i < chunks_of n → gate now i ≢ 1
+    pub as_read : (i : ℕ) → end ≤ i → i < chunks_of n → gate now i ≡ gate file i
+    pub from : first ≤ end
+    pub within : end ≤ chunks_of n
+
+  pub shut_start : ShutTo first file
+  shut_start = record {
+    size = refl;
+    low = λ o lt below. refl;
+    high = λ o lt above. refl;
+    closed = λ i from lt there. absurd (omega (arith, from, lt));
+    as_read = λ i from lt. refl;
+    from = omega arith;
+    within = first_within;
+  }
+
+  shut_next : (end : ℕ) (now : Bytes) → ShutTo end now → first < chunks_of n → gate now first ≢ 1
+  shut_next end now shut lt = ⊎_elim
+      (λ (below : first < end). shut.closed first (omega arith) below lt)
+      (λ (there : end ≤ first). λ one. next_shut lt (sym (shut.as_read first there lt) ∙ one))
+      (split first end)
+    where
+      split : (a b : ℕ) → (a < b) ⊎ (b ≤ a)
+      split a b = grind arith
+
+  pub shut_entry : (end : ℕ) (now : Bytes) → ShutTo end now → entry_in name now ≡ Some kept
+  shut_entry end now shut = same_entry now (omega (arith, shut.size)) shut.low (shut_next end now shut)
+
+  -- a gate that is not open is passed over
+  pub shut_pass : (end : ℕ) (now : Bytes) → ShutTo end now → end < chunks_of n → get_or gates end 0 ≢ 1 → ShutTo (end + 1) now
+  shut_pass end now shut lt not = record {
+    size = shut.size;
+    low = shut.low;
+    high = shut.high;
+    closed = λ i from below there. ⊎_elim
+        (λ (before : i < end). shut.closed i from before there)
+        (λ (there_is : i ≡ end). λ one. not (sym (gate_is end lt) ∙ sym (shut.as_read end (omega arith) lt) ∙ sym (ap (gate now) there_is) ∙ one))
+        (split i end (omega (arith, below)));
+    as_read = λ i from there. shut.as_read i (omega (arith, from)) there;
+    from = omega (arith, shut.from);
+    within = omega (arith, lt);
+  }
+    where
+      split : (a b : ℕ) → a ≤ b → (a < b) ⊎ (a ≡ b)
+      split a b le = grind arith
+
+  -- a run behind a gate that is not open
+  module _ (end run : ℕ) (now : Bytes) (shut : ShutTo end now) (behind : first < end) (fits : end + run ≤ chunks_of n) where
+    pub reach : 8192 + end ≤ length now
+    reach = omega (arith, fits, shut.size, long, gates_below n)
+
+    abbrev pub next_file : Bytes
+    next_file = splice (8192 + end) (replicate run 0) now
+
+    pub torn_entry : (c : Bytes) → Torn (8192 + end) (8192 + end + length (replicate {A = ℕ} run 0)) now c → entry_in name c ≡ Some kept
+    torn_entry c torn = same_entry c (omega (arith, torn.no_shorter, shut.size))
+        (λ o lt below. torn.before o (omega (arith, lt, shut.size)) (omega (arith, below, behind)) ∙ shut.low o lt below)
+        (λ lt one. shut_next end now shut lt (sym (gate_same c now first (torn.before (8192 + first) (omega (arith, lt, shut.size, long, gates_below n)) (omega (arith, behind)))) ∙ one))
+
+    torn : Torn (8192 + end) (8192 + end + length (replicate {A = ℕ} run 0)) now next_file
+    torn = written_torn (8192 + end) (replicate run 0) now reach
+
+    pub shut_run : ShutTo (end + run) next_file
+    shut_run = record {
+      size = omega (arith, length-splice (8192 + end) (replicate {A = ℕ} run 0) now reach, length-replicate {A = ℕ} run 0, shut.size, fits, long, gates_below n);
+      low = λ o lt below. torn.before o (omega (arith, lt, shut.size)) (omega (arith, below, behind)) ∙ shut.low o lt below;
+      high = λ o lt above. torn.after o (omega (arith, lt, shut.size)) (omega (arith, above, fits, length-replicate {A = ℕ} run 0)) ∙ shut.high o lt above;
+      closed = λ i from below there. ⊎_elim
+          (λ (before : i < end). λ one. shut.closed i from before there (sym (gate_same next_file now i (torn.before (8192 + i) (omega (arith, there, shut.size, long, gates_below n)) (omega (arith, before)))) ∙ one))
+          (λ (inside : end ≤ i). λ one. zero_one (gate next_file i)
+          (gate_new next_file (replicate run 0) i (i - end) (
+          splice_in (8192 + end) (replicate run 0) now reach (8192 + i) (omega (arith, inside)) (omega (arith, below, length-replicate {A = ℕ} run 0)) ∙ ap (λ (k : ℕ). get_or (replicate run 0) k 0) (index i inside))
+          ∙ get_or-replicate run (i - end) 0 0 (omega (arith, inside, below))) one)
+          (split i end);
+      as_read = λ i from there. gate_same next_file now i (torn.after (8192 + i) (omega (arith, there, shut.size, long, gates_below n)) (omega (arith, from, length-replicate {A = ℕ} run 0))) ∙ shut.as_read i (omega (arith, from)) there;
+      from = omega (arith, shut.from);
+      within = fits;
+    }
+      where
+        split : (a b : ℕ) → (a < b) ⊎ (b ≤ a)
+        split a b = grind arith
+
+        index : (i : ℕ) → end ≤ i → (8192 + i) - (8192 + end) ≡ i - end
+        index i le = omega arith
+
+        zero_one : (x : ℕ) → x ≡ 0 → x ≡ 1 → ⊥
+        zero_one x none one = omega (arith, none, one)
+
+  -- ---- the operations, gate by gate
+
+  pub Same : Option Bytes → Type 0
+  Same c = entry_of name c ≡ Some kept
+
+  -- how far the gates are closed once those before `i` were passed over: a run was closed to its end
+  abbrev pub reached_if : Bool → ℕ → ℕ
+  reached_if b i = cond b (i + open_from gates i) i
+
+  pub reached : ℕ → ℕ
+  reached zero = first
+  reached (suc i) = reached_if (get_or gates i 0 == 1) (suc i)
+
+  pub record Ends (end : ℕ) (v : View) : Type 0 where
+    pub now : Bytes
+    pub slot : v.slot ≡ Some (settled now) ∷ []
+    pub shut : ShutTo end now
+
+  -- the first gates lead
+  reached_first : reached 0 ≡ first
+  unfolding reached
+  reached_first = refl
+
+  first_from : first ≡ open_from gates 0
+  unfolding first
+  first_from = refl
+
+  -- whether the gate before is open, or there is none
+  abbrev before_open : ℕ → Bool
+  before_open zero = true
+  before_open (suc j) = get_or gates j 0 == 1
+
+  reached_from : (i : ℕ) → reached i ≡ reached_if (before_open i) i
+  unfolding reached
+  reached_from zero = let none : 0 + open_from gates 0 ≡ open_from gates 0 = omega arith in first_from ∙ sym none
+  reached_from (suc i) = refl
+
+  reached_next : (i : ℕ) (b : Bool) → (get_or gates i 0 == 1) ≡ b → reached (i + 1) ≡ reached_if b (i + 1)
+  unfolding reached
+  reached_next i b is = let one : i + 1 ≡ suc i = omega arith in ap reached one ∙ ap (λ (t : Bool). reached_if t (suc i)) is ∙ ap (reached_if b) (sym one)
+
+  -- where a run begins, the gates before are closed, and one of them was not open
+  begins_is : (i : ℕ) → begins gates i ≡ true → (get_or gates i 0 ≡ 1) × (before_open i ≡ false) × (1 ≤ i)
+  begins_is zero is = absurd (cc)
+  begins_is (suc j) is =
+      let outer = both_true (nat_lt 0 (suc j) && (get_or gates (suc j) 0 == 1)) (not (get_or gates (suc j - 1) 0 == 1)) is in
+      let inner = both_true (nat_lt 0 (suc j)) (get_or gates (suc j) 0 == 1) outer.0 in
+      let back : suc j - 1 ≡ j = omega arith in
+      (is_one (get_or gates (suc j) 0) inner.1, flip (get_or gates j 0 == 1) (subst (λ (k : ℕ). not (get_or gates k 0 == 1) ≡ true) back outer.1), omega arith)
+    where
+      flip : (b : Bool) → not b ≡ true → b ≡ false
+      flip true bad = absurd (cc)
+      flip false is = refl
+
+  begins_not : (i : ℕ) → begins gates i ≡ false → (get_or gates i 0 == 1) ≡ true → before_open i ≡ true
+  begins_not zero is one = refl
+  begins_not (suc j) is one =
+      let back : suc j - 1 ≡ j = omega arith in
+      all_but (nat_lt 0 (suc j)) (get_or gates (suc j) 0 == 1) (get_or gates j 0 == 1) (some j) one
+      (sym (ap (λ (k : ℕ). (nat_lt 0 (suc j) && (get_or gates (suc j) 0 == 1)) && not (get_or gates k 0 == 1)) back) ∙ is)
+    where
+      some : (j : ℕ) → nat_lt 0 (suc j) ≡ true
+      some j = grind (arith, nat_tests)
+
+  -- a gate that is shut in the file does not lead
+  behind_shut : (i : ℕ) → before_open i ≡ false → i ≤ chunks_of n → first < i
+  behind_shut zero is le = absurd (cc)
+  behind_shut (suc j) is le = ⊎_elim
+      (λ (lt : j < first). absurd (let bad : true ≡ false = sym (one_is (get_or gates j 0) (sym (gate_is j (omega (arith, le))) ∙ first_open j lt)) ∙ is in cc))
+      (λ (ge : first ≤ j). omega (arith, ge))
+      (split j first)
+    where
+      split : (a b : ℕ) → (a < b) ⊎ (b ≤ a)
+      split a b = grind arith
+
+  -- one gate on, without an operation
+  pass_on : (i : ℕ) (v : View) → i < chunks_of n → begins gates i ≡ false → Ends (reached i) v → Ends (reached (i + 1)) v
+  pass_on i v lt not_run ends = by (get_or gates i 0 == 1) refl
+    where
+      at_place : (b : Bool) → open_from gates i ≡ 0 → reached_if b i ≡ i
+      at_place true none = omega (arith, none)
+      at_place false none = refl
+
+      by : (b : Bool) → (get_or gates i 0 == 1) ≡ b → Ends (reached (i + 1)) v
+      by true is =
+          let from : reached i ≡ i + open_from gates i = reached_from i ∙ ap (λ (t : Bool). reached_if t i) (begins_not i not_run is) in
+          let to : reached (i + 1) ≡ (i + 1) + open_from gates (i + 1) = reached_next i true is in
+          let more : open_from gates i ≡ 1 + open_from gates (i + 1) = open_more gates i (omega (arith, lt, whole)) (is_one (get_or gates i 0) is) in
+          subst (λ (k : ℕ). Ends k v) (omega (arith, from, to, more)) ends
+      by false is =
+          let none : open_from gates i ≡ 0 = open_none gates i (omega (arith, lt, whole)) (not_one (get_or gates i 0) is) in
+          let from : reached i ≡ i = reached_from i ∙ at_place (before_open i) none in
+          let to : reached (i + 1) ≡ i + 1 = reached_next i false is in
+          let here : Ends i v = subst (λ (k : ℕ). Ends k v) from ends in
+          subst (λ (k : ℕ). Ends k v) (sym to) (record { now = here.now; slot = here.slot; shut = shut_pass i here.now here.shut lt (not_one (get_or gates i 0) is) })
+
+  -- one run on
+  module _ (i : ℕ) (v : View) (lt : i < chunks_of n) (run : begins gates i ≡ true) (ends : Ends (reached i) v) where
+    here : Ends i v
+    here = let w = begins_is i run in subst (λ (k : ℕ). Ends k v) (reached_from i ∙ ap (λ (t : Bool). reached_if t i) w.1) ends
+
+    behind : first < i
+    behind = behind_shut i (begins_is i run).1 (omega (arith, lt))
+
+    fits : i + open_from gates i ≤ chunks_of n
+    fits = omega (arith, open_within gates i (omega (arith, lt, whole)), whole)
+
+    run_after : reached (i + 1) ≡ i + open_from gates i
+    run_after =
+        let one : get_or gates i 0 ≡ 1 = (begins_is i run).0 in
+        let more : open_from gates i ≡ 1 + open_from gates (i + 1) = open_more gates i (omega (arith, lt, whole)) one in
+        let to : reached (i + 1) ≡ (i + 1) + open_from gates (i + 1) = reached_next i true (one_is (get_or gates i 0) one) in
+        omega (arith, more, to)
+
+    pub run_file : Bytes
+    run_file = next_file i (open_from gates i) here.now here.shut behind fits
+
+    run_shut : ShutTo (reached (i + 1)) run_file
+    unfolding run_file
+    run_shut = subst (λ (k : ℕ). ShutTo k (next_file i (open_from gates i) here.now here.shut behind fits)) (sym run_after) (shut_run i (open_from gates i) here.now here.shut behind fits)
+
+    pub run_ends : (w : View) → w.slot ≡ Some (settled run_file) ∷ [] → Ends (reached (i + 1)) w
+    run_ends w slot = record { now = run_file; slot = slot; shut = run_shut }
+
+    pub run_during : (ops : List DiskOp) → ((w : View) → Ends (reached (i + 1)) w → During name w ops (AllLeft Same)) → During name v (close_from name gates i ++ ops) (AllLeft Same)
+    unfolding run_file Same
+    run_during ops rest = write_then_sync name (8192 + i) (replicate (open_from gates i) 0) here.now v ops Same here.slot (reach i (open_from gates i) here.now here.shut behind fits)
+        (λ c torn. torn_entry i (open_from gates i) here.now here.shut behind fits c torn)
+        (λ w slot. rest w (run_ends w slot))
+
+    pub run_done : Ends (reached (i + 1)) (done_view name v (close_from name gates i))
+    unfolding run_file
+    run_done = run_ends (done_view name v (close_from name gates i)) (write_sync_slot name (8192 + i) (replicate (open_from gates i) 0) here.now v here.slot)
+
+  abbrev from_place : ℕ → ℕ → List DiskOp
+  from_place i k = flat_map (close_at name gates) (range_with_len i k)
+
+  stays : (end : ℕ) (v : View) → Ends end v → AllLeft Same v
+  unfolding Same
+  stays end v ends = all_settled ends.now Same v ends.slot (shut_entry end ends.now ends.shut)
+
+  pub closing_during : (k i : ℕ) (v : View) → i + k ≡ chunks_of n → Ends (reached i) v → During name v (from_place i k) (AllLeft Same)
+  closing_during zero i v sum ends = stays (reached i) v ends
+  closing_during (suc k) i v sum ends = by (λ w w_ends. closing_during k (i + 1) w (omega (arith, sum)) w_ends) (begins gates i) refl
+    where
+      lt : i < chunks_of n
+      lt = omega (arith, sum)
+
+      by : ((w : View) → Ends (reached (i + 1)) w → During name w (from_place (i + 1) k) (AllLeft Same)) → (b : Bool) → begins gates i ≡ b → During name v (cond b (close_from name gates i) [] ++ from_place (i + 1) k) (AllLeft Same)
+      by rest true run = run_during i v lt run ends (from_place (i + 1) k) rest
+      by rest false none = rest v (pass_on i v lt none ends)
+
+  pub closing_done : (k i : ℕ) (v : View) → i + k ≡ chunks_of n → Ends (reached i) v → Ends (reached (chunks_of n)) (done_view name v (from_place i k))
+  closing_done zero i v sum ends = let same : i ≡ chunks_of n = omega (arith, sum) in subst (λ (j : ℕ). Ends (reached j) v) same ends
+  closing_done (suc k) i v sum ends = by (λ w w_ends. closing_done k (i + 1) w (omega (arith, sum)) w_ends) (begins gates i) refl
+    where
+      lt : i < chunks_of n
+      lt = omega (arith, sum)
+
+      by : ((w : View) → Ends (reached (i + 1)) w → Ends (reached (chunks_of n)) (done_view name w (from_place (i + 1) k))) → (b : Bool) → begins gates i ≡ b → Ends (reached (chunks_of n)) (done_view name v (cond b (close_from name gates i) [] ++ from_place (i + 1) k))
+      by rest true run = rest (done_view name v (close_from name gates i)) (run_done i v lt run ends)
+      by rest false none = rest v (pass_on i v lt none ends)
+
+  -- ---- the whole of it
+  pub all_during : (v : View) → v.slot ≡ Some (settled file) ∷ [] → During name v (closing name gates) (AllLeft Same)
+  unfolding closing
+  all_during v slot = subst (λ (k : ℕ). During name v (from_place 0 k) (AllLeft Same)) (sym whole)
+      (closing_during (chunks_of n) 0 v (omega arith) (subst (λ (k : ℕ). Ends k v) (sym reached_first) (record { now = file; slot = slot; shut = shut_start })))
+
+  reached_over : chunks_of n ≤ reached (chunks_of n)
+  reached_over = at_least (before_open (chunks_of n)) (reached_from (chunks_of n))
+    where
+      at_least : (b : Bool) → reached (chunks_of n) ≡ reached_if b (chunks_of n) → chunks_of n ≤ reached (chunks_of n)
+      at_least true is = omega (arith, is)
+      at_least false is = omega (arith, is)
+
+  -- the file in the end: no gate is open behind the first closed one
+  pub record IsTidy (now : Bytes) : Type 0 where
+    pub size : length now ≡ length file
+    pub low : (o : ℕ) → o < length file → o < 8192 + first → get_or now o 0 ≡ get_or file o 0
+    pub high : (o : ℕ) → o < length file → 8192 + chunks_of n ≤ o → get_or now o 0 ≡ get_or file o 0
+    pub closed : (i : ℕ) → first ≤ i → i < chunks_of n → gate now i ≢ 1
+    pub same : entry_in name now ≡ Some kept
+
+  pub all_done : (v : View) → v.slot ≡ Some (settled file) ∷ [] → (now : Bytes) × ((done_view name v (closing name gates)).slot ≡ Some (settled now) ∷ []) × IsTidy now
+  unfolding closing
+  all_done v slot =
+      let ends = subst (λ (k : ℕ). Ends (reached (chunks_of n)) (done_view name v (from_place 0 k))) (sym whole)
+      (closing_done (chunks_of n) 0 v (omega arith) (subst (λ (k : ℕ). Ends k v) (sym reached_first) (record { now = file; slot = slot; shut = shut_start }))) in (
+        ends.now,
+        ends.slot,
+        record {
+          size = ends.shut.size;
+          low = ends.shut.low;
+          high = ends.shut.high;
+          closed = λ i from lt. ends.shut.closed i from (omega (arith, lt, reached_over)) lt;
+          same = shut_entry (reached (chunks_of n)) ends.now ends.shut;
+        },
+      )
+
+pub same_is : (name file : Bytes) (kept : Kept) (is : entry_in name file ≡ Some kept) (v : View) (ops : List DiskOp) → During name v ops (AllLeft (Same name file kept is)) → During name v ops (AllLeft (λ c. entry_of name c ≡ Some kept))
+unfolding Same
+same_is name file kept is v ops during = during

@@ -1,0 +1,18 @@
+use Rattle.pp_entry.specs.Entries.{shown_entry}
+use Rattle.pp_recover.proofs.RowLemmas.{spelt}
+use Rattle.pp_recover.proofs.NameLemmas.{free_found, free_closed}
+use Rattle.pp_recover.proofs.opening.tend.Goals as goal
+
+pub found-requires-clause-sized : goal.found-requires-clause-sized
+found-requires-clause-sized g c =
+    let row = rw c.in-Ok-Some.field-0-is at c.in-Ok-Some.ensures.row in
+    (spelt row.0.block (shown_entry c.in-Ok-Some.found.entry) row.0.is).sized
+
+pub returns-in-Ok-Some-clause-others : goal.returns-in-Ok-Some-clause-others
+returns-in-Ok-Some-clause-others g c = λ other differ free.
+    let row = rw c.in-Ok-Some.field-0-is at c.in-Ok-Some.ensures.row in
+    free_found c.args.name.now other (shown_entry c.in-Ok-Some.found.entry) c.in-Ok-Some.found.extent c.args.store.now c.found.new.self c.found.result row.0.own differ c.found.ensures.ok c.found.ensures.err free
+
+pub returns-in-Err-clause-others : goal.returns-in-Err-clause-others
+returns-in-Err-clause-others g c = λ other differ free.
+    free_closed c.args.name.now other c.args.store.now c.close.new.self c.close.result c.requires.free differ c.close.ensures.ok c.close.ensures.err free

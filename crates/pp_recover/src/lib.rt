@@ -1,0 +1,23 @@
+//! Opening: a folder of files becomes a store.
+//!
+//! A file is an entry where its head block is in the grammar, it has all that its gates keep, and it is
+//! named for its key. A gate that is open behind one that is not vouches for nothing: it is closed
+//! before the entry counts, so that no later body comes to stand under it.
+//!
+//! To the layer above: the store has just the entries of the folder, but for those of names on which
+//! something failed, which are closed. At every moment each image that a crash may leave has the same
+//! entries under the same names.
+//!
+//! Takes memory for the names and for the store. What the store then keeps is for `pp_store`.
+#![tactic(auto)]
+
+mod examine; // the file of one name
+mod faults; // why a folder was not opened
+mod opening; // the names of a folder, one after another
+mod strays; // gates that are open behind one that is not
+
+pub use faults::RecoverFault;
+pub use opening::open;
+
+#[cfg(test)]
+mod tests; // files of all kinds on a small disk
