@@ -1,9 +1,9 @@
 -- Lists of files in the order of their names: what stands behind a name, what is found, where one more goes.
-use Rattle.std.proofs.Common.{◌≡◌, ◌⊎◌, inl, inr, ⊎_elim, ℕ, Bool, true, false, List, [], ◌∷◌, ◌++◌, map, filter, cond, Option, Some, None, refl, sym, ◌∙◌, ap, subst, append_assoc, append-nil, length, ◌<◌, arith}
-use Rattle.std.specs.Prelude.{◌&&◌, IsTrue, Result, Ok, Err, OnOk, OnErr}
+use Rattle.std.proofs.Common.{◌≡◌, Bool, true, false, List, [], ◌∷◌, ◌++◌, map, filter, cond, Option, Some, None, refl, sym, ◌∙◌, ap, subst, append_assoc, append-nil, length, ◌<◌, arith}
+use Rattle.std.specs.Prelude.{◌&&◌, Result, Ok, Err, OnOk, OnErr}
 use Rattle.std.specs.declared.cmp.Ordering.{Ordering}
 use Rattle.std.specs.declared.cmp.Ordering.TheVariants.{Less, Equal, Greater}
-use Rattle.std.specs.Ordering.{is_eq, is_lt, ordering_reverse, match_ordering, nat_cmp}
+use Rattle.std.specs.Ordering.{is_eq, is_lt, ordering_reverse, match_ordering}
 use Rattle.std.specs.List.{AllByRecursion}
 use Rattle.std.specs.List.Sorted.{IsStrictlySortedBy}
 use Rattle.std.specs.BTreeMap.{insert_entry}

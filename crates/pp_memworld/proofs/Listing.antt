@@ -1,11 +1,11 @@
 -- The names of a folder, listed one by one.
 use Rattle.std.proofs.Common.{◌≡◌, ◌∙◌, ap, sym, refl, subst, ℕ, zero, suc, ◌+◌, ◌<◌, ◌≤◌, arith, Bool, true, false, cond, List, [], ◌∷◌, ◌++◌, length, take, map, filter, append-nil, append_assoc, length-append}
-use Rattle.std.specs.Prelude.{◌&&◌, nat_lt, IsTrue}
-use Rattle.std.specs.List.{list_all, AllByRecursion}
+use Rattle.std.specs.Prelude.{◌&&◌, nat_lt}
+use Rattle.std.specs.List.{list_all}
 use Rattle.std.specs.List.Sorted.{IsStrictlySortedBy}
 use Rattle.std.proofs.lemmas.Bool.Decides.{nat_tests}
 use Rattle.std.proofs.lemmas.List.Kept.{IsStrictlySortedBy-filter}
-use Rattle.pp_world.specs.Disk.{Bytes, AreNames, is_name, is_rising}
+use Rattle.pp_world.specs.Disk.{Bytes, AreNames, is_name}
 use Rattle.pp_world.specs.Files.{name_order}
 use Rattle.pp_memworld.specs.Slots.{Candidates, first_of, is_file}
 use Rattle.pp_memworld.specs.Folder.{standing_in, listed_in, listed_one}

@@ -1,9 +1,9 @@
 -- A log heard from its begin, happening by happening.
-use Rattle.std.proofs.Common.{◌≡◌, ◌∙◌, ap, sym, refl, subst, ℕ, zero, suc, ◌+◌, ◌<◌, arith, Bool, true, false, List, [], ◌∷◌, ◌++◌, take, get_or, length, Option, Some, None}
+use Rattle.std.proofs.Common.{◌≡◌, ◌∙◌, ap, sym, refl, subst, ℕ, zero, suc, ◌+◌, ◌<◌, arith, Bool, true, false, List, [], ◌∷◌, ◌++◌, take, get_or, length}
 use Rattle.std.specs.Prelude.{◌&&◌}
 use Rattle.std.specs.List.{list_all}
 use Rattle.pp_world.specs.declared.happening.Happening.{Happening}
-use Rattle.pp_world.specs.Disk.{IsLeftBehind, LeavesOne, view_of}
+use Rattle.pp_world.specs.Disk.{IsLeftBehind, LeavesOne}
 use Rattle.pp_world.specs.Files.{Files, file_of}
 use Rattle.pp_world.specs.Log.{Log}
 use Rattle.pp_memworld.specs.declared.folder.Folder.{Folder}

@@ -1,5 +1,5 @@
 -- What a folder in memory is to the log.
-use Rattle.std.specs.Prelude.{◌≡◌, ℕ, Bool, true, nat_lt, ◌&&◌, List, [], ◌∷◌, ◌++◌, length, map, filter, take, cond, Option, Some, None}
+use Rattle.std.specs.Prelude.{◌≡◌, Bool, true, nat_lt, ◌&&◌, List, [], ◌∷◌, ◌++◌, length, map, filter, take, cond}
 use Rattle.pp_world.specs.declared.happening.Happening.{Happening}
 use Rattle.pp_world.specs.declared.happening.Happening.TheVariants.{Woke}
 use Rattle.pp_world.specs.Disk.{Bytes, View, is_name, is_rising, view_after, view_of}

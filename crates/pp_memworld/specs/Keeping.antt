@@ -1,5 +1,5 @@
 -- What a folder in memory keeps of the log, where that is told.
-use Rattle.std.specs.Prelude.{◌≡◌, Bool, true, List, map, Option, Some}
+use Rattle.std.specs.Prelude.{◌≡◌, Bool, true, map, Option, Some}
 use Rattle.std.specs.List.{list_all}
 use Rattle.pp_world.specs.declared.happening.Happening.{Happening}
 use Rattle.pp_world.specs.Disk.{Bytes, View, image_after, image_of, view_after}

@@ -1,5 +1,5 @@
 -- What a read of a connection finds, and how much a write to it leaves there.
-use Rattle.std.specs.Prelude.{ℕ, Bool, true, false, min, List, [], ◌∷◌, length, drop, Option, Some, None}
+use Rattle.std.specs.Prelude.{ℕ, min, List, [], ◌∷◌, length, drop, Option, Some, None}
 use Rattle.pp_world.specs.declared.event.Got.{Got}
 use Rattle.pp_world.specs.declared.event.Got.TheVariants.{Bytes, End, NotYet}
 use Rattle.pp_memworld.specs.declared.peer.Peer.{Peer}

@@ -1,12 +1,16 @@
-//! A world in memory: it plays a script of clients, origins and the clock, and tells what happened.
+//! A world in memory: it plays a script of clients, origins and the clock, keeps a folder of files,
+//! and tells what happened.
 //!
 //! A `Script` is a list of cues, as that a client connects or that an origin answers, and a site of
-//! pages whose origins answer by themselves. `MemWorld` is a `Wire` over it: the same script and the
-//! same calls give the same events, so every run can be told again.
+//! pages whose origins answer by themselves. `MemWorld` is a `Wire` over it and a `Disk`: the same
+//! script and the same calls give the same events, so every run can be told again. `crash` gives the
+//! world of the next life, over the files that a crash at a place of the log leaves.
 //!
 //! To the layer above: the log that it tells is exactly what its calls did; numbers are given once;
-//! a call fails only where it was told to by its number, where a cue breaks its connection, or where
-//! a dial finds that all numbers were given. It stops telling its log only for want of memory.
+//! reads and listings give what the log says; a call fails only where it was told to by its number,
+//! where a cue breaks its connection, or where a dial finds that all numbers were given. By every
+//! choice a crash leaves files that the log permits. The world stops telling its log only for want
+//! of memory.
 //!
 //! What a whole script leads to is for whoever writes it; nothing here knows of requests, but for
 //! the pages of the site.

@@ -23,8 +23,8 @@ use pp_world::{
 };
 use std::alloc::Global;
 
-/// A world that plays a script, and tells its log until memory for that, or for its connections, is
-/// refused.
+/// A world that plays a script, and tells its log until memory for that, or for its connections or
+/// files, is refused.
 #[derive(Drop)]
 pub struct MemWorld {
     pub(crate) record: Record,
@@ -37,9 +37,10 @@ pub struct MemWorld {
 }
 
 impl MemWorld {
-    /// A world at the begin of its first life, over a folder with these files. The calls of `read`,
-    /// `write`, `listen`, `dial` and `config` are numbered from 1 in the order in which they are
-    /// made; those whose numbers are in `failing` fail.
+    /// A world at the begin of its first life, over a folder with these files, which `put_file`
+    /// lists in the order of their names. The calls of `read`, `write`, `listen`, `dial` and
+    /// `config`, and those of the disk but `root`, are numbered from 1 in the order in which they
+    /// are made; those whose numbers are in `failing` fail, and do nothing but tell so.
     pub fn new(
         alloc: Global,
         script: Script,

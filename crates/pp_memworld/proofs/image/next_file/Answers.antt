@@ -1,4 +1,4 @@
-use Rattle.std.proofs.Common.{◌≡◌, ◌∙◌, ap, sym, List, ℕ, Some, None}
+use Rattle.std.proofs.Common.{◌≡◌, ◌∙◌, ap, sym, Some, None}
 use Rattle.std.specs.Option.{option_copied, option_map}
 use Rattle.pp_world.specs.Disk.{Bytes}
 use Rattle.pp_world.specs.Files.{file_of, next_name}

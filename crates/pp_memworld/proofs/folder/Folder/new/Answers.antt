@@ -1,4 +1,4 @@
-use Rattle.std.proofs.Common.{◌≡◌, ap, sym, refl}
+use Rattle.std.proofs.Common.{ap, sym, refl}
 use Rattle.std.specs.Map.{lookup}
 use Rattle.std.specs.Ordering.{is_eq}
 use Rattle.pp_world.specs.Disk.{view_of}

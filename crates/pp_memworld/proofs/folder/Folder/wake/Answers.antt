@@ -1,7 +1,6 @@
 use Rattle.std.proofs.Common.{◌∙◌, ap, sym, refl}
 use Rattle.std.specs.Map.{lookup}
 use Rattle.std.specs.Ordering.{is_eq}
-use Rattle.pp_world.specs.Disk.{Bytes}
 use Rattle.pp_world.specs.Files.{name_order}
 use Rattle.pp_memworld.specs.Slots.{files_in}
 use Rattle.pp_memworld.proofs.Listed.{rested_at}
