@@ -1,0 +1,8 @@
+pub mod OnLiterals
+pub mod Prefixes
+pub mod FirstFault
+mod Worked
+mod OpeningRows
+mod PageRows
+mod PassingRows
+mod BrokenRows

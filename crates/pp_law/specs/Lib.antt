@@ -1,0 +1,15 @@
+pub mod Lists
+pub mod Requests
+pub mod State
+pub mod Connections
+pub mod Responses
+pub mod Clients
+pub mod Replies
+pub mod Asking
+pub mod Entries
+pub mod Opening
+pub mod Turn
+pub mod Served
+pub mod After
+pub mod Permits
+pub mod Lawful

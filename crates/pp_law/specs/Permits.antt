@@ -1,0 +1,190 @@
+-- What may happen next: a test for each happening.
+use Rattle.std.specs.Prelude.{◌≡◌, ℕ, Bool, true, false, ◌==◌, ◌&&◌, ◌||◌, not, nat_lt, nat_le, nat_eq, List, [], ◌∷◌, length, bytes_eq, is_some, Option, Some, None}
+use Rattle.std.specs.List.{list_any, starts_with}
+use Rattle.pp_world.specs.declared.event.Wants.{Wants}
+use Rattle.pp_world.specs.declared.happening.Happening.{Happening}
+use Rattle.pp_world.specs.declared.happening.Happening.TheVariants.{Woke, Waits, Clock, Opened, CanRead, CanWrite, Heard, HungUp, Said, Shut, Dialled, Undialled, Reached, Ended, Broke, Asked, Got, Dropped, NoneYet, Began, Did, Unread, Noted, Rooted, Listed, Listens, Configured, Printed, Stopped}
+use Rattle.pp_world.specs.declared.note.Cause.{Cause}
+use Rattle.pp_world.specs.declared.note.Cause.TheVariants.{Superseded, Origin, Short, Idle, Memory, Stop}
+use Rattle.pp_world.specs.declared.note.Decision.{Decision}
+use Rattle.pp_world.specs.declared.note.Decision.TheVariants.{Refuse, Hit, Part, Head, NotModified, Unsatisfiable, Relay, Validate, Fetch, Pass}
+use Rattle.pp_world.specs.declared.note.Remark.{Remark}
+use Rattle.pp_world.specs.declared.note.Remark.TheVariants.{Taken, Cut, Kept, Gone, Forgotten, Evicted, Loaded}
+use Rattle.pp_law.specs.Asking.{is_reading, is_writing, permits_heard, permits_got, permits_asked}
+use Rattle.pp_law.specs.Clients.{Due, Decide, CutOff, first_due}
+use Rattle.pp_law.specs.Connections.{client, conn, is_client, is_conn, placing, Placement, Pause, AllPlaced, WaitsDial, WaitsDrop}
+use Rattle.pp_law.specs.Lists.{Bytes, is_some_with}
+use Rattle.pp_law.specs.Opening.{permits_woke, permits_configured, permits_rooted, permits_listens, is_at, is_opening, may_fail}
+use Rattle.pp_law.specs.Replies.{offer}
+use Rattle.pp_law.specs.Served.{is_served}
+use Rattle.pp_law.specs.State.{State, Client, Conn, Phase, IsRooted, IsListening}
+use Rattle.pp_law.specs.Turn.{is_awaiting, has_closings, to_6, to_decide, may_6, may_decide, may_end, ending}
+
+-- ---- decisions and cuts
+
+abbrev pub is_same_decision : Decision → Decision → Bool
+is_same_decision (Refuse a) (Refuse b) = a == b
+is_same_decision (Hit a b) (Hit c d) = (a == c) && (b == d)
+is_same_decision (Part a b) (Part c d) = (a == c) && (b == d)
+is_same_decision Head Head = true
+is_same_decision NotModified NotModified = true
+is_same_decision Unsatisfiable Unsatisfiable = true
+is_same_decision Relay Relay = true
+is_same_decision Validate Validate = true
+is_same_decision Fetch Fetch = true
+is_same_decision Pass Pass = true
+is_same_decision d other = false
+
+abbrev pub is_same_cause : Cause → Cause → Bool
+is_same_cause Superseded Superseded = true
+is_same_cause Origin Origin = true
+is_same_cause Short Short = true
+is_same_cause Idle Idle = true
+is_same_cause Memory Memory = true
+is_same_cause Stop Stop = true
+is_same_cause cause other = false
+
+-- what is built so far: what is refused and what is passed
+abbrev pub is_known : Decision → Bool
+is_known (Refuse status) = true
+is_known Pass = true
+is_known d = false
+
+-- it is the decision that is due; or memory was refused
+abbrev pub is_due_decision : Option Due → ℕ → ℕ → Decision → Bool
+is_due_decision None c i d = false
+is_due_decision (Some (CutOff n cause)) c i d = false
+is_due_decision (Some (Decide n j due)) c i d = (n == c) && (j == i) && (is_same_decision due d || is_same_decision d (Refuse 500))
+
+abbrev pub is_due_cut : Option Due → ℕ → Cause → Bool
+is_due_cut None c cause = false
+is_due_cut (Some (CutOff n due)) c cause = (n == c) && is_same_cause due cause
+is_due_cut (Some (Decide n j d)) c cause = false
+
+abbrev pub permits_taken : State → ℕ → ℕ → Decision → Bool
+permits_taken s c i d = is_known d && may_decide s && is_due_decision (first_due (to_decide s)) c i d
+
+-- a client that was opened in this turn may be refused memory
+abbrev pub is_newcomer : ℕ → Client → Bool
+is_newcomer n c = is_client n c && c.is_new && not c.is_closing
+
+abbrev pub may_cut : State → ℕ → Cause → Bool
+may_cut s c cause = is_due_cut (first_due s) c cause || (is_same_cause cause Memory && list_any (is_newcomer c) s.clients)
+
+abbrev pub permits_cut : State → ℕ → Cause → Bool
+permits_cut s c cause = may_decide s && may_cut (to_decide s) c cause
+
+abbrev pub permits_noted : State → Remark → Bool
+permits_noted s (Taken c i d) = permits_taken s c i d
+permits_noted s (Cut c cause) = permits_cut s c cause
+permits_noted s (Kept key tag n extent) = false
+permits_noted s (Gone key) = false
+permits_noted s (Forgotten key) = false
+permits_noted s (Evicted key tag n i) = false
+permits_noted s (Loaded key tag n i) = false
+
+-- ---- what is said
+
+-- the front of what is left for the client; how many bytes of it are offered is free
+abbrev pub is_said_of : ℕ → Bytes → Bytes → Bool
+is_said_of offered bytes left = nat_le 1 offered && nat_le (length bytes) offered && nat_le offered (length left) && starts_with nat_eq left bytes
+
+abbrev pub permits_said : State → ℕ → ℕ → Bytes → Bool
+permits_said s c offered bytes = is_writing s.owed c && is_some_with (λ x. is_said_of offered bytes (offer s x)) (client s c)
+
+-- ---- closings and places
+
+-- a client that sends no more may be shut at any time
+abbrev pub may_shut : State → ℕ → Client → Bool
+may_shut s n c = is_client n c && (c.is_closing || c.has_hung_up || s.is_stopped)
+
+abbrev pub permits_shut : State → ℕ → Bool
+permits_shut s c = may_6 s && list_any (may_shut s c) s.clients
+
+abbrev pub is_dial_of : Pause → Bytes → ℕ → Bool
+is_dial_of AllPlaced host port = false
+is_dial_of (WaitsDrop k e) host port = false
+is_dial_of (WaitsDial e) host port = bytes_eq e.key.host host && (e.key.port == port)
+
+-- the dial of the first exchange that needs one, behind all closings
+abbrev pub permits_dial : State → Bytes → ℕ → Bool
+permits_dial s host port = may_6 s && not s.is_stopped && not (has_closings (to_6 s)) && is_dial_of (placing (to_6 s)).pause host port
+
+abbrev pub is_drop_of : Pause → ℕ → Bool
+is_drop_of AllPlaced n = false
+is_drop_of (WaitsDrop k e) n = k == n
+is_drop_of (WaitsDial e) n = false
+
+-- it gives way to the dial of the first exchange that needs one
+abbrev pub gives_way : State → ℕ → Bool
+gives_way s n = not (has_closings s) && is_drop_of (placing s).pause n
+
+abbrev pub may_drop : State → ℕ → Bool
+may_drop s n = list_any (λ k. is_conn n k && (k.is_closing || s.is_stopped)) s.conns || gives_way s n
+
+abbrev pub permits_dropped : State → ℕ → Bool
+permits_dropped s n = may_6 s && may_drop (to_6 s) n
+
+-- ---- the outside
+
+abbrev pub has_client : State → ℕ → Bool
+has_client s n = is_some (client s n)
+
+abbrev pub has_conn : State → ℕ → Bool
+has_conn s n = is_some (conn s n)
+
+abbrev pub is_owed : State → ℕ → Bool
+is_owed s n = is_reading s.owed n || is_writing s.owed n
+
+abbrev pub permits_broke : State → ℕ → Bool
+permits_broke s n = has_conn s n && (is_awaiting s || is_owed s n)
+
+abbrev pub is_new_number : State → ℕ → Bool
+is_new_number s n = nat_lt s.top n
+
+-- ---- all
+
+-- the opening is over, or all is done that this turn owes
+abbrev pub may_wait : State → Bool
+may_wait s = is_at IsListening s || (not (is_awaiting s) && not s.is_stopped && may_end s)
+
+-- the state that is waited in
+abbrev pub waiting : State → State
+waiting s = elim (is_at IsListening s) [ true ↦ s | false ↦ ending s ]
+
+abbrev pub permits_waits : State → Wants → Bool
+permits_waits s w = elim (may_wait s) [ true ↦ is_served (waiting s) w | false ↦ false ]
+
+unfoldable pub is_permitted : State → Happening → Bool
+is_permitted s (Woke image) = permits_woke s image
+is_permitted s (Waits w) = permits_waits s w
+is_permitted s (Clock seconds) = is_awaiting s
+is_permitted s (Opened n) = is_awaiting s && is_new_number s n
+is_permitted s (CanRead n) = is_awaiting s
+is_permitted s (CanWrite n) = is_awaiting s
+is_permitted s (Heard c bytes) = permits_heard s c bytes
+is_permitted s (HungUp c) = is_owed s c && has_client s c
+is_permitted s (Said c offered bytes) = permits_said s c offered bytes
+is_permitted s (Shut c) = permits_shut s c
+is_permitted s (Dialled n host port) = is_new_number s n && permits_dial s host port
+is_permitted s (Undialled host port) = may_fail s false && permits_dial s host port
+is_permitted s (Reached k) = is_awaiting s && has_conn s k
+is_permitted s (Ended k) = is_reading s.owed k && has_conn s k
+is_permitted s (Broke k) = permits_broke s k
+is_permitted s (Asked k bytes) = permits_asked s k bytes
+is_permitted s (Got k bytes) = permits_got s k bytes
+is_permitted s (Dropped k) = permits_dropped s k
+is_permitted s (NoneYet n) = is_reading s.owed n
+is_permitted s (Began op) = false
+is_permitted s (Did op ok) = false
+is_permitted s (Unread name) = false
+is_permitted s (Noted remark) = permits_noted s remark
+is_permitted s (Rooted folder) = permits_rooted s folder
+is_permitted s (Listed ok) = is_at IsRooted s && may_fail s ok
+is_permitted s (Listens port ok) = permits_listens s port && may_fail s ok
+is_permitted s (Configured file text) = permits_configured s file && may_fail s (is_some text)
+is_permitted s (Printed text) = is_opening s
+is_permitted s Stopped = is_awaiting s
+
+abbrev pub IsPermitted : State → Happening → Type 0
+IsPermitted s h = is_permitted s h ≡ true
