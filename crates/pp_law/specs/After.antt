@@ -1,5 +1,5 @@
 -- The state after one happening.
-use Rattle.std.specs.Prelude.{ℕ, ◌+◌, Bool, true, false, ◌==◌, ◌&&◌, ◌||◌, not, List, [], ◌∷◌, ◌++◌, length, is_some, Option, Some, None}
+use Rattle.std.specs.Prelude.{ℕ, ◌+◌, Bool, true, false, ◌==◌, ◌&&◌, ◌||◌, not, List, [], ◌∷◌, ◌++◌, length, map, filter, is_some, Option, Some, None}
 use Rattle.pp_plan.specs.declared.table.Begun.TheVariants.{Nothing}
 use Rattle.pp_world.specs.declared.event.Wants.{Wants}
 use Rattle.pp_world.specs.declared.happening.Happening.{Happening}
@@ -7,15 +7,17 @@ use Rattle.pp_world.specs.declared.happening.Happening.TheVariants.{Woke, Waits,
 use Rattle.pp_world.specs.declared.note.Remark.{Remark}
 use Rattle.pp_world.specs.declared.note.Remark.TheVariants.{Taken, Cut, Kept, Gone, Forgotten, Evicted, Loaded}
 use Rattle.pp_law.specs.Asking.{hear, ask, hang_up}
+use Rattle.pp_law.specs.Chunks.{drop_chunk, note_use}
 use Rattle.pp_law.specs.Clients.{decided, close_client}
 use Rattle.pp_law.specs.Connections.{client, conn, on_client, on_conn, is_client, is_conn, put_on, lose_attempt, placing, Placement, Pause, AllPlaced, WaitsDial, WaitsDrop}
 use Rattle.pp_law.specs.Lists.{Bytes, without}
 use Rattle.pp_law.specs.Opening.{woken, configured, opened_to}
-use Rattle.pp_law.specs.Replies.{said_by, end_replies}
+use Rattle.pp_law.specs.Replies.{said_by, use_next, end_replies, regained}
 use Rattle.pp_law.specs.Requests.{NoHeadYet}
 use Rattle.pp_law.specs.Responses.{got, ended}
-use Rattle.pp_law.specs.State.{State, Client, Conn, Undecided, Phase, IsRooted, IsListed, IsListening, Step, Owed, Free, ReadOf, WriteTo}
-use Rattle.pp_law.specs.Turn.{step, at_step, is_awaiting, to_6, to_7, to_decide, touch, tick, ending, rest_with}
+use Rattle.pp_law.specs.State.{State, Client, Conn, Instance, Undecided, Phase, IsRooted, IsListed, IsListening, Step, Owed, Free, ReadOf, WriteTo}
+use Rattle.pp_law.specs.Table.{row, forget, is_bound_to}
+use Rattle.pp_law.specs.Turn.{step, at_step, due_victim, is_awaiting, to_6, to_7, to_decide, touch, tick, ending, rest_with}
 
 abbrev pub new_client : ℕ → ℕ → Client
 new_client n now = record {
@@ -50,7 +52,7 @@ unfoldable pub paid : State → State
 paid s = record s { owed = Free }
 
 unfoldable pub said : ℕ → ℕ → State → State
-said c n s = end_replies (on_client c (said_by n) s)
+said c n s = elim (client s c) [ None ↦ s | Some x ↦ end_replies (on_client c (said_by n) (use_next x s)) ]
 
 unfoldable pub gone : Bool → ℕ → State → State
 gone is_clean n s = elim (conn s n) [ None ↦ s | Some k ↦ end_replies (ended is_clean k s) ]
@@ -61,15 +63,37 @@ unfoldable pub in_step_7 : State → State
 in_step_7 s = record s { is_again = step s == 7 }
 
 unfoldable pub take_decision : ℕ → State → (Client → State → State) → State
-take_decision n s decide = elim (client s n) [ None ↦ s | Some c ↦ in_step_7 (decide c s) ]
+take_decision n s decide = elim (client s n) [ None ↦ s | Some c ↦ record (in_step_7 (decide c s)) { forgotten = [] } ]
+
+-- the chunk that has to go next goes
+unfoldable pub evicted : State → State
+evicted s = elim (due_victim s) [ None ↦ s | Some place ↦ drop_chunk place.0 place.1 (at_step 2 s) ]
+
+-- those whose exchanges are bound to it
+abbrev pub clients_of : State → ℕ → List ℕ
+clients_of s id = map (λ e. e.client) (filter (is_bound_to id) s.exchanges)
+
+-- a row for which memory was refused
+unfoldable pub refused_row : Instance → State → State
+refused_row x s = record (forget x.id s) { refused = s.refused ++ clients_of s x.id }
+
+unfoldable pub forgotten_row : Instance → State → State
+forgotten_row x s = elim x.is_new [ true ↦ refused_row x s | false ↦ forget x.id (to_decide s) ]
+
+-- one that left memory, is to leave it before a decision, or was refused memory
+unfoldable pub forgotten_by : Bytes → State → State
+forgotten_by key s = elim s.forgotten [
+  | k ∷ keys ↦ record s { forgotten = keys }
+  | [] ↦ elim (row s key) [ None ↦ s | Some x ↦ forgotten_row x s ]
+]
 
 unfoldable pub noted : Remark → State → State
 noted (Taken c i d) s = take_decision c (to_decide s) (λ x t. decided x d t)
 noted (Cut c cause) s = in_step_7 (close_client c true (to_decide s))
 noted (Kept key tag n extent) s = s
 noted (Gone key) s = s
-noted (Forgotten key) s = s
-noted (Evicted key tag n i) s = s
+noted (Forgotten key) s = forgotten_by key s
+noted (Evicted key tag n i) s = evicted s
 noted (Loaded key tag n i) s = s
 
 -- ---- closings and places
@@ -105,33 +129,36 @@ dropped n s = elim (conn s n) [ None ↦ s | Some k ↦ elim k.is_closing [ true
 unfoldable pub rested : Wants → State → State
 rested w s = elim (is_awaiting s || (step s == 0)) [ true ↦ rest_with w s | false ↦ rest_with w (ending s) ]
 
+unfoldable pub changed : State → Happening → State
+changed s (Woke image) = woken image s
+changed s (Waits w) = rested w s
+changed s (Clock seconds) = event (tick seconds s)
+changed s (Opened n) = event (opened n s)
+changed s (CanRead n) = event (owing (ReadOf n) n s)
+changed s (CanWrite n) = event (owing (WriteTo n) n s)
+changed s (Heard c bytes) = paid (hear c bytes s)
+changed s (HungUp c) = paid (hang_up c s)
+changed s (Said c offered bytes) = paid (said c (length bytes) s)
+changed s (Shut c) = shut c (to_6 s)
+changed s (Dialled n host port) = dialled n host port (placing (to_6 s))
+changed s (Undialled host port) = undialled (placing (to_6 s))
+changed s (Reached k) = event (reached k s)
+changed s (Ended k) = paid (gone true k s)
+changed s (Broke k) = paid (gone false k (event s))
+changed s (Asked k bytes) = paid (ask k (length bytes) s)
+changed s (Got k bytes) = paid (note_use (end_replies (got (length bytes) k bytes s)))
+changed s (Dropped k) = dropped k (to_6 s)
+changed s (NoneYet n) = paid s
+changed s (Began op) = s
+changed s (Did op ok) = s
+changed s (Unread name) = s
+changed s (Noted remark) = noted remark s
+changed s (Rooted folder) = opened_to IsRooted true s
+changed s (Listed ok) = opened_to IsListed ok s
+changed s (Listens port ok) = opened_to IsListening ok s
+changed s (Configured file text) = configured text s
+changed s (Printed text) = s
+changed s Stopped = event (record s { is_stopped = true })
+
 unfoldable pub after : State → Happening → State
-after s (Woke image) = woken image s
-after s (Waits w) = rested w s
-after s (Clock seconds) = event (tick seconds s)
-after s (Opened n) = event (opened n s)
-after s (CanRead n) = event (owing (ReadOf n) n s)
-after s (CanWrite n) = event (owing (WriteTo n) n s)
-after s (Heard c bytes) = paid (hear c bytes s)
-after s (HungUp c) = paid (hang_up c s)
-after s (Said c offered bytes) = paid (said c (length bytes) s)
-after s (Shut c) = shut c (to_6 s)
-after s (Dialled n host port) = dialled n host port (placing (to_6 s))
-after s (Undialled host port) = undialled (placing (to_6 s))
-after s (Reached k) = event (reached k s)
-after s (Ended k) = paid (gone true k s)
-after s (Broke k) = paid (gone false k (event s))
-after s (Asked k bytes) = paid (ask k (length bytes) s)
-after s (Got k bytes) = paid (end_replies (got (length bytes) k bytes s))
-after s (Dropped k) = dropped k (to_6 s)
-after s (NoneYet n) = paid s
-after s (Began op) = s
-after s (Did op ok) = s
-after s (Unread name) = s
-after s (Noted remark) = noted remark s
-after s (Rooted folder) = opened_to IsRooted true s
-after s (Listed ok) = opened_to IsListed ok s
-after s (Listens port ok) = opened_to IsListening ok s
-after s (Configured file text) = configured text s
-after s (Printed text) = s
-after s Stopped = event (record s { is_stopped = true })
+after s h = regained (changed s h)

@@ -2,9 +2,15 @@ pub mod Lists
 pub mod Requests
 pub mod State
 pub mod Connections
+pub mod Chunks
+pub mod Table
+pub mod Passing
+pub mod OwnHeads
 pub mod Responses
 pub mod Clients
+pub mod InstanceTexts
 pub mod Replies
+pub mod Followers
 pub mod Asking
 pub mod Entries
 pub mod Opening

@@ -1,6 +1,7 @@
 -- What may happen next: a test for each happening.
 use Rattle.std.specs.Prelude.{◌≡◌, ℕ, Bool, true, false, ◌==◌, ◌&&◌, ◌||◌, not, nat_lt, nat_le, nat_eq, List, [], ◌∷◌, length, bytes_eq, is_some, Option, Some, None}
 use Rattle.std.specs.List.{list_any, starts_with}
+use Rattle.pp_text.specs.Bytes.{is_empty}
 use Rattle.pp_world.specs.declared.event.Wants.{Wants}
 use Rattle.pp_world.specs.declared.happening.Happening.{Happening}
 use Rattle.pp_world.specs.declared.happening.Happening.TheVariants.{Woke, Waits, Clock, Opened, CanRead, CanWrite, Heard, HungUp, Said, Shut, Dialled, Undialled, Reached, Ended, Broke, Asked, Got, Dropped, NoneYet, Began, Did, Unread, Noted, Rooted, Listed, Listens, Configured, Printed, Stopped}
@@ -11,14 +12,15 @@ use Rattle.pp_world.specs.declared.note.Decision.TheVariants.{Refuse, Hit, Part,
 use Rattle.pp_world.specs.declared.note.Remark.{Remark}
 use Rattle.pp_world.specs.declared.note.Remark.TheVariants.{Taken, Cut, Kept, Gone, Forgotten, Evicted, Loaded}
 use Rattle.pp_law.specs.Asking.{is_reading, is_writing, permits_heard, permits_got, permits_asked}
-use Rattle.pp_law.specs.Clients.{Due, Decide, CutOff, first_due}
+use Rattle.pp_law.specs.Clients.{Due, Decide, CutOff, first_due, is_for_memory, has_to_forget}
 use Rattle.pp_law.specs.Connections.{client, conn, is_client, is_conn, placing, Placement, Pause, AllPlaced, WaitsDial, WaitsDrop}
 use Rattle.pp_law.specs.Lists.{Bytes, is_some_with}
 use Rattle.pp_law.specs.Opening.{permits_woke, permits_configured, permits_rooted, permits_listens, is_at, is_opening, may_fail}
 use Rattle.pp_law.specs.Replies.{offer}
 use Rattle.pp_law.specs.Served.{is_served}
-use Rattle.pp_law.specs.State.{State, Client, Conn, Phase, IsRooted, IsListening}
-use Rattle.pp_law.specs.Turn.{is_awaiting, has_closings, to_6, to_decide, may_6, may_decide, may_end, ending}
+use Rattle.pp_law.specs.State.{State, Client, Conn, Instance, Phase, IsRooted, IsListening}
+use Rattle.pp_law.specs.Table.{row, instance, idle_row}
+use Rattle.pp_law.specs.Turn.{step, due_victim, is_awaiting, has_closings, to_6, to_decide, may_6, may_decide, may_end, ending}
 
 -- ---- decisions and cuts
 
@@ -44,12 +46,6 @@ is_same_cause Memory Memory = true
 is_same_cause Stop Stop = true
 is_same_cause cause other = false
 
--- what is built so far: what is refused and what is passed
-abbrev pub is_known : Decision → Bool
-is_known (Refuse status) = true
-is_known Pass = true
-is_known d = false
-
 -- it is the decision that is due; or memory was refused
 abbrev pub is_due_decision : Option Due → ℕ → ℕ → Decision → Bool
 is_due_decision None c i d = false
@@ -61,8 +57,15 @@ is_due_cut None c cause = false
 is_due_cut (Some (CutOff n due)) c cause = (n == c) && is_same_cause due cause
 is_due_cut (Some (Decide n j d)) c cause = false
 
+-- the row of its key has room in memory
+abbrev pub has_room_for : State → ℕ → Decision → Bool
+has_room_for s c d = is_for_memory d || not (is_some_with (has_to_forget s) (client s c))
+
+abbrev pub may_take : State → ℕ → ℕ → Decision → Bool
+may_take s c i d = is_due_decision (first_due s) c i d && has_room_for s c d
+
 abbrev pub permits_taken : State → ℕ → ℕ → Decision → Bool
-permits_taken s c i d = is_known d && may_decide s && is_due_decision (first_due (to_decide s)) c i d
+permits_taken s c i d = may_decide s && may_take (to_decide s) c i d
 
 -- a client that was opened in this turn may be refused memory
 abbrev pub is_newcomer : ℕ → Client → Bool
@@ -74,13 +77,46 @@ may_cut s c cause = is_due_cut (first_due s) c cause || (is_same_cause cause Mem
 abbrev pub permits_cut : State → ℕ → Cause → Bool
 permits_cut s c cause = may_decide s && may_cut (to_decide s) c cause
 
+-- ---- rows and chunks leave memory
+
+abbrev pub is_first : Bytes → List Bytes → Bool
+is_first key [] = false
+is_first key (k ∷ keys) = bytes_eq k key
+
+abbrev pub is_key_of : Bytes → Option Instance → Bool
+is_key_of key x = is_some_with (λ y. bytes_eq y.key key) x
+
+-- the client whose decision is next brings a row in, where as many are there as may be
+abbrev pub forgets_next : State → Option Due → Bool
+forgets_next s None = false
+forgets_next s (Some (CutOff n cause)) = false
+forgets_next s (Some (Decide n i d)) = is_some_with (has_to_forget s) (client s n)
+
+abbrev pub may_forget : State → Bytes → Bool
+may_forget s key = forgets_next s (first_due s) && is_key_of key (idle_row s)
+
+-- the row left memory for another; or it is one that memory was refused for; or it is to leave it before a decision
+abbrev pub permits_forgotten : State → Bytes → Bool
+permits_forgotten s key =
+    (nat_lt 0 (step s) && nat_le (step s) 2 && is_first key s.forgotten)
+    || (nat_lt 0 (step s) && is_empty s.forgotten && is_some_with (λ x. x.is_new) (row s key))
+    || (may_decide s && may_forget (to_decide s) key)
+
+abbrev pub is_chunk_of : State → Bytes → Bytes → ℕ → ℕ → ℕ × ℕ → Bool
+is_chunk_of s key tag n i place =
+    (place.1 == i) && is_some_with (λ x. bytes_eq x.key key && bytes_eq x.version.tag tag && (x.version.length == n)) (instance s place.0)
+
+abbrev pub permits_evicted : State → Bytes → Bytes → ℕ → ℕ → Bool
+permits_evicted s key tag n i =
+    nat_lt 0 (step s) && nat_le (step s) 2 && is_empty s.forgotten && is_some_with (is_chunk_of s key tag n i) (due_victim s)
+
 abbrev pub permits_noted : State → Remark → Bool
 permits_noted s (Taken c i d) = permits_taken s c i d
 permits_noted s (Cut c cause) = permits_cut s c cause
 permits_noted s (Kept key tag n extent) = false
 permits_noted s (Gone key) = false
-permits_noted s (Forgotten key) = false
-permits_noted s (Evicted key tag n i) = false
+permits_noted s (Forgotten key) = permits_forgotten s key
+permits_noted s (Evicted key tag n i) = permits_evicted s key tag n i
 permits_noted s (Loaded key tag n i) = false
 
 -- ---- what is said

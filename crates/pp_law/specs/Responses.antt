@@ -9,39 +9,16 @@ use Rattle.pp_framing.specs.declared.body.Ending.{Ending}
 use Rattle.pp_framing.specs.declared.body.Ending.TheVariants.{Whole as IsWhole, Short as IsShort}
 use Rattle.pp_head.specs.Read.{Read, Whole, TooLong, Bad as NoHead, More}
 use Rattle.pp_head.specs.Response.{Response, response_at}
-use Rattle.pp_pass.specs.Pipe.{Pipe, started, with_data, finished}
+use Rattle.pp_pass.specs.Pipe.{Pipe, finished}
 use Rattle.pp_plan.specs.Requests.{is_head}
 use Rattle.pp_reply.specs.Keeping.{is_old}
 use Rattle.pp_text.specs.Bytes.{is_empty}
 use Rattle.pp_text.specs.Fields.{has_item}
-use Rattle.pp_law.specs.Connections.{conn, on_conn, exchange, on_exchange, on_client_of, front_of_line, is_outstanding, fail, end_exchange, on_passed, close_conn}
+use Rattle.pp_law.specs.Connections.{conn, on_conn, on_client_of, front_of_line, is_outstanding, fail, end_exchange, close_conn}
 use Rattle.pp_law.specs.Lists.{Bytes, is_some_with}
+use Rattle.pp_law.specs.OwnHeads.{is_wrong_head, through_head, own_head, filling_head, note_sent, join_bound}
+use Rattle.pp_law.specs.Passing.{pour, poured}
 use Rattle.pp_law.specs.State.{State, Aim, Through, Own, Filling, Answer, Client, Conn, Exchange, Passed}
-
--- ---- what a passed response is for its client
-
--- a body whose length is not told goes on in chunks, but not to HTTP/1.0 (section 3.6.1)
-abbrev pub is_coded : BodyRule → ℕ → Bool
-is_coded Empty minor = false
-is_coded (Length n) minor = false
-is_coded Chunked minor = not (is_old minor)
-is_coded ToEnd minor = not (is_old minor)
-
-abbrev pub passed_by : Exchange → Response → BodyRule → Passed
-passed_by e head rule = record { exchange = e.number; head = head; rule = rule; pipe = started (is_coded rule e.head.minor); is_short = false }
-
-unfoldable pub pass_on : Exchange → Response → BodyRule → State → State
-pass_on e head rule s = on_client_of e (λ c. record c { passed = Some (passed_by e head rule) }) s
-
--- ours: the data of one read are one chunk; an empty one would be the last
-abbrev pub poured : Bytes → Pipe → Pipe
-poured bytes pipe = elim (is_empty bytes) [ true ↦ pipe | false ↦ with_data bytes pipe ]
-
-abbrev pub on_pipe : ℕ → (Pipe → Pipe) → Passed → Passed
-on_pipe n f p = elim (p.exchange == n) [ true ↦ record p { pipe = f p.pipe } | false ↦ p ]
-
-unfoldable pub pour : Exchange → (Pipe → Pipe) → State → State
-pour e f s = on_client_of e (on_passed (on_pipe e.number f)) s
 
 -- ---- ends
 
@@ -85,14 +62,8 @@ bad_response k s = elim (front_of_line s k) [
 abbrev pub is_interim : ℕ → Bool
 is_interim status = nat_le 100 status && nat_lt status 200 && not (status == 101)
 
-abbrev pub through_head : Exchange → Response → BodyRule → State → State
-through_head e head rule s = pass_on e head rule (on_exchange e.number (λ x. record x { is_headed = true }) s)
-
-abbrev pub by_aim : Exchange → Response → BodyRule → State → State
-by_aim e head rule s = elim e.aim [ Through ↦ through_head e head rule s | Own ↦ s | Filling v from to ↦ s ]
-
-abbrev pub is_refused_head : Exchange → Response → Bool
-is_refused_head e head = head.status == 101
+unfoldable pub by_aim : Exchange → Response → BodyRule → State → State
+by_aim e head rule s = elim e.aim [ Through ↦ through_head e head rule s | Own ↦ own_head e head rule s | Filling v from to ↦ filling_head e head rule s ]
 
 -- HEAD is asked only for a client
 abbrev pub asks_head : Exchange → Bool
@@ -110,7 +81,7 @@ begin_answer k e head rule s =
     end_if_empty k e (record { head = head; rule = rule; raw = [] }) (by_aim e head rule (on_conn k.number (answered_by head rule) s))
 
 unfoldable pub answer_for : Conn → Exchange → Response → State → State
-answer_for k e head s = elim (k.is_early || is_refused_head e head) [
+answer_for k e head s = elim (k.is_early || is_wrong_head e head) [
   | true ↦ bad_response k s
   | false ↦ elim (rule_of (asks_head e) head.status head.fields) [ Ok rule ↦ begin_answer k e head rule s | Err fault ↦ bad_response k s ]
 ]
@@ -146,7 +117,7 @@ head_piece k bytes s =
 
 -- the data of a response go where its exchange is bound
 unfoldable pub deliver : Exchange → Answer → ℕ → Bytes → State → State
-deliver e a at bytes s = pour e (poured bytes) s
+deliver e a at bytes s = pour e (poured bytes) (join_bound e bytes (note_sent e a.head at bytes s))
 
 abbrev pub payload_of : Answer → Bytes
 payload_of a = (body_of a.rule a.raw).payload

@@ -1,16 +1,19 @@
 -- What has to stand in the wants at the end of a turn, so that nobody waits on nothing. It is ours.
-use Rattle.std.specs.Prelude.{ℕ, Bool, true, false, ◌==◌, ◌&&◌, ◌||◌, not, nat_lt, List, [], ◌∷◌, length, Option, Some, None}
+use Rattle.std.specs.Prelude.{ℕ, ◌+◌, ◌/◌, Bool, true, false, ◌==◌, ◌&&◌, ◌||◌, not, nat_lt, nat_le, max, List, [], ◌∷◌, length, fold, filter_map, Option, Some, None}
 use Rattle.std.specs.List.{list_any, list_all}
 use Rattle.pp_peers.specs.declared.placing.Placed.{Placed}
 use Rattle.pp_peers.specs.declared.placing.Placed.TheVariants.{On, Dial, CloseThenDial, Wait}
 use Rattle.pp_text.specs.Bytes.{is_empty}
 use Rattle.pp_world.specs.declared.event.Wants.{Wants}
 use Rattle.pp_law.specs.Asking.{has_room, left_to_ask, room_for}
+use Rattle.pp_law.specs.Chunks.{chunk_len}
 use Rattle.pp_law.specs.Connections.{client, exchange, is_client, is_conn, is_for, is_outstanding, front_of_line, place_for}
 use Rattle.pp_law.specs.Lists.{has_number, is_some_with}
-use Rattle.pp_law.specs.Replies.{offer}
+use Rattle.pp_law.specs.Replies.{offer, is_at_body}
 use Rattle.pp_law.specs.Requests.{has_request}
-use Rattle.pp_law.specs.State.{State, Client, Conn, Exchange}
+use Rattle.pp_law.specs.State.{State, Bound, Client, Conn, Exchange}
+use Rattle.pp_law.specs.Table.{instance, next_of, Next, is_held, is_next_held}
+use Rattle.pp_law.specs.Turn.{waits_for_exchange}
 
 abbrev pub wants_read : Wants → ℕ → Bool
 wants_read w n = has_number n w.read.items
@@ -28,12 +31,13 @@ accepts_rightly s w = same (nat_lt (length s.clients) 256) w.accept
 
 -- ---- clients
 
+-- also where the bytes are on disk alone
 abbrev pub has_to_say : State → Client → Bool
-has_to_say s c = not (is_empty (offer s c))
+has_to_say s c = not (is_empty (offer s c)) || (is_at_body c && is_some_with (is_next_held s) (next_of s c))
 
--- it may send its request, or an exchange of its request is there
+-- it may send its request, or an exchange of its request is there, or one that brings its next byte; or it shares one
 abbrev pub is_waiting : State → Wants → Client → Bool
-is_waiting s w c = (not (has_request c.front) && wants_read w c.number) || list_any (λ e. is_for e c) s.exchanges
+is_waiting s w c = (not (has_request c.front) && wants_read w c.number) || waits_for_exchange s c
 
 abbrev pub is_client_served : State → Wants → Client → Bool
 is_client_served s w c = elim (has_to_say s c) [
@@ -43,9 +47,27 @@ is_client_served s w c = elim (has_to_say s c) [
 
 -- ---- connections
 
--- reading stops where the pipe has no room
+-- where the furthest of those stands who follow what the exchange is bound to
+abbrev pub at_of : State → Bound → Client → Option ℕ
+at_of s b c = elim (next_of s c) [ None ↦ None | Some n ↦ elim (n.source.id == b.instance) [ true ↦ Some n.at | false ↦ None ] ]
+
+abbrev pub furthest : List ℕ → Option ℕ
+furthest [] = None
+furthest (at ∷ ats) = Some (fold max at ats)
+
+abbrev pub is_held_in : State → Bound → ℕ → Bool
+is_held_in s b at = is_some_with (λ x. is_held s x at) (instance s b.instance)
+
+-- ours: 256 chunks past that follower, whose next byte is there
+abbrev pub is_past : State → Bound → ℕ → Bool
+is_past s b at = nat_le (at / chunk_len + 256) (b.next / chunk_len) && is_held_in s b at
+
+abbrev pub is_far_ahead : State → Exchange → Bool
+is_far_ahead s e = is_some_with (λ b. is_some_with (is_past s b) (furthest (filter_map (at_of s b) s.clients))) e.bound
+
+-- reading stops where the pipe has no room, or far ahead of all followers
 abbrev pub is_stopped : State → Exchange → Bool
-is_stopped s e = room_for s e == 0
+is_stopped s e = (room_for s e == 0) || is_far_ahead s e
 
 -- one without an exchange is read, so that its end is seen; one whose ask is not whole may be
 abbrev pub reads_rightly : State → Wants → Conn → Bool

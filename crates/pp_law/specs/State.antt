@@ -81,6 +81,7 @@ pub record Exchange : Type 0 where
   pub key : Key
   pub aim : Aim
   pub named : Option Bytes  -- the tag that its ask names
+  pub is_ranged : Bool  -- it asks for a range
   pub is_moved : Bool  -- its first offset is not that of the client's range
   pub text : Bytes
   pub asked : ℕ  -- how much of the text was asked

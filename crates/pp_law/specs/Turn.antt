@@ -4,11 +4,15 @@
 use Rattle.std.specs.Prelude.{ℕ, ◌-◌, Bool, true, false, ◌==◌, ◌&&◌, ◌||◌, not, nat_lt, nat_le, max, List, [], ◌∷◌, map, is_some, Option, Some, None}
 use Rattle.std.specs.List.{list_any}
 use Rattle.pp_world.specs.declared.event.Wants.{Wants}
-use Rattle.pp_law.specs.Clients.{first_due}
+use Rattle.pp_text.specs.Bytes.{is_empty}
+use Rattle.pp_law.specs.Chunks.{victim}
+use Rattle.pp_law.specs.Clients.{first_due, is_sharing, shared_ask}
 use Rattle.pp_law.specs.Connections.{is_client, is_conn, is_for, on_client, on_conn, close_conn, placing, Placement, Pause, AllPlaced, WaitsDial, WaitsDrop}
-use Rattle.pp_law.specs.Lists.{has_number}
+use Rattle.pp_law.specs.Followers.{fill, give_up_asks}
+use Rattle.pp_law.specs.Lists.{has_number, is_some_with}
 use Rattle.pp_law.specs.Replies.{begin_replies}
-use Rattle.pp_law.specs.State.{State, Client, Conn, Instance, Phase, Before, IsWoken, IsConfigured, IsRooted, IsListed, IsListening, IsStuck, Step, Owed, Free, ReadOf, WriteTo}
+use Rattle.pp_law.specs.State.{State, Client, Conn, Exchange, Instance, Phase, Before, IsWoken, IsConfigured, IsRooted, IsListed, IsListening, IsStuck, Step, Owed, Free, ReadOf, WriteTo}
+use Rattle.pp_law.specs.Table.{next_of, Next, brings, pins}
 
 abbrev pub step_in : Phase → ℕ
 step_in (Step n) = n
@@ -31,12 +35,15 @@ is_awaiting s = is_start s.phase
 
 -- ---- what is changed on the way to a step
 
+unfoldable pub behind_2 : State → State
+behind_2 s = elim (nat_le (step s) 2) [ true ↦ give_up_asks s | false ↦ s ]
+
 unfoldable pub to_4 : State → State
-to_4 s = at_step 4 s
+to_4 s = at_step 4 (behind_2 s)
 
 -- from step 7 on these are done again, once somebody was refused or cut there
 unfoldable pub to_6 : State → State
-to_6 s = elim (step s == 6) [ true ↦ s | false ↦ record s { phase = Step 6; is_again = false } ]
+to_6 s = elim (step s == 6) [ true ↦ s | false ↦ record (fill (behind_2 s)) { phase = Step 6; is_again = false } ]
 
 -- exchanges get their places, as far as no new connection is needed
 unfoldable pub to_7 : State → State
@@ -54,8 +61,12 @@ is_placed AllPlaced = true
 is_placed (WaitsDial e) = false
 is_placed (WaitsDrop k e) = false
 
-abbrev pub is_done_1 : State → Bool
-is_done_1 s = is_free s.owed
+-- the chunk that has to go next
+abbrev pub due_victim : State → Option (ℕ × ℕ)
+due_victim s = elim s.is_evicting [ true ↦ victim (pins s) s | false ↦ None ]
+
+abbrev pub is_done_2 : State → Bool
+is_done_2 s = is_free s.owed && is_empty s.forgotten && not (is_some (due_victim s))
 
 abbrev pub is_done_4 : State → Bool
 is_done_4 s = not (is_some (first_due s))
@@ -69,7 +80,7 @@ is_done_6 s = not (has_closings s) && is_placed (placing s).pause
 -- ---- a happening of a step may come: what is before it is done
 
 abbrev pub may_4 : State → Bool
-may_4 s = nat_lt 0 (step s) && nat_le (step s) 4 && is_done_1 s
+may_4 s = nat_lt 0 (step s) && nat_le (step s) 4 && (nat_lt 2 (step s) || is_done_2 s)
 
 abbrev pub may_6 : State → Bool
 may_6 s = (step s == 6) || (may_4 s && is_done_4 (to_4 s)) || ((step s == 7) && s.is_again && is_done_4 s)
@@ -131,11 +142,22 @@ tick now s = tick_to (max s.clock now) s
 unfoldable pub ending : State → State
 ending s = begin_replies (to_7 s)
 
+-- an exchange of its request is there, or one that brings its next byte
+abbrev pub waits_for : State → Client → Exchange → Bool
+waits_for s c e = is_for e c || is_some_with (λ n. brings s n.source n.at e) (next_of s c)
+
 abbrev pub waits_for_exchange : State → Client → Bool
-waits_for_exchange s c = list_any (λ e. is_for e c) s.exchanges
+waits_for_exchange s c = list_any (waits_for s c) s.exchanges || is_sharing s c
+
+abbrev pub shared_with : State → Client → Option ℕ
+shared_with s c = elim (is_sharing s c) [ true ↦ shared_ask s c | false ↦ None ]
+
+abbrev pub awaited_by : State → Client → Option ℕ
+awaited_by s c = elim c.waits_on [ Some n ↦ Some n | None ↦ shared_with s c ]
 
 abbrev pub rested_client : State → Wants → Client → Client
 rested_client s w c = record c {
+  waits_on = awaited_by s c;
   is_new = false;
   is_told = false;
   mark = elim (waits_for_exchange s c && not (has_number c.number w.write.items)) [ true ↦ s.clock | false ↦ c.mark ];
