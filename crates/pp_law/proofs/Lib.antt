@@ -6,3 +6,4 @@ mod OpeningRows
 mod PageRows
 mod PassingRows
 mod BrokenRows
+mod CachingRows

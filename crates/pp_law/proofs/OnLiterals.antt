@@ -3,8 +3,12 @@ use Rattle.std.specs.Prelude.{⊤}
 use Rattle.std.specs.Fmt.{digits}
 use Rattle.clap.proofs.OnLiterals.{clap_on_literals}
 use Rattle.httpdate.proofs.OnLiterals.{httpdate_on_literals}
+use Rattle.pp_entry.specs.Entries.{row_at}
+use Rattle.pp_entry.specs.Texts.{body_at, own_lines, head_text}
+use Rattle.pp_gate.specs.Gate.{fresh_file}
 use Rattle.pp_head.proofs.OnLiterals.{pp_head_on_literals}
 use Rattle.pp_target.proofs.OnLiterals.{pp_target_on_literals}
+use Rattle.pp_world.specs.Disk.{loosened, splice, written, settled, unsynced, view_of}
 use Rattle.pp_law.specs.Requests.{front_of}
 use Rattle.pp_law.specs.Connections.{on_conn, on_exchange, on_client, on_client_of, lose_attempt, fail, end_exchange, leave_place, lose_place, lose_places, close_conn, put_on}
 use Rattle.pp_law.specs.Chunks.{use_chunk, drop_chunk, note_use}
@@ -16,14 +20,16 @@ use Rattle.pp_law.specs.Clients.{leave_one, leave_each, close_client, leave_unpl
 use Rattle.pp_law.specs.Replies.{begin_replies, use_next, end_reply, end_each, close_finished, end_replies, regained}
 use Rattle.pp_law.specs.Followers.{fill_with, fill_span, fill_next, fill_for, fill_each, fill, give_up_asks}
 use Rattle.pp_law.specs.Asking.{hear, ask_body, ask_next, ask, hang_up}
-use Rattle.pp_law.specs.Opening.{with_settings, begun, woken, stuck, opened_to, configured}
-use Rattle.pp_law.specs.Turn.{behind_2, to_4, to_6, to_7, to_decide, touch, first_marks, close_idle, tick_to, tick, ending, rest_with}
-use Rattle.pp_law.specs.After.{opened, owing, reached, paid, said, gone, in_step_7, take_decision, evicted, refused_row, forgotten_row, forgotten_by, noted, shut, dialled, undialled, out, dropped, rested, changed, after}
+use Rattle.pp_law.specs.Store.{remove_entry, note_gone, begin_op, enter_next, close_name, end_op, lose_entry, note_kept, load_from, load}
+use Rattle.pp_law.specs.Opening.{with_settings, begun, woken, stuck, opened_to, configured, lose_in_opening}
+use Rattle.pp_law.specs.Turn.{behind_2, to_3, to_4, to_6, to_7, to_decide, touch, first_marks, close_idle, tick_to, tick, ending, rest_with}
+use Rattle.pp_law.specs.After.{opened, owing, reached, paid, said, gone, in_step_7, take_decision, evicted, refused_row, forgotten_row, forgotten_by, noted, begun_op, ended_op, unread, shut, dialled, undialled, out, dropped, rested, changed, after}
 use Rattle.pp_law.specs.Permits.{is_permitted}
 use Rattle.pp_law.specs.Lawful.{rule_of}
 
 unfoldable pub pp_law_on_literals : ⊤
 unfolding clap_on_literals httpdate_on_literals pp_head_on_literals pp_target_on_literals digits
+  row_at body_at own_lines head_text fresh_file loosened splice written settled unsynced view_of
   front_of
   on_conn on_exchange on_client on_client_of lose_attempt fail end_exchange leave_place lose_place lose_places close_conn put_on
   use_chunk drop_chunk note_use
@@ -35,9 +41,10 @@ unfolding clap_on_literals httpdate_on_literals pp_head_on_literals pp_target_on
   begin_replies use_next end_reply end_each close_finished end_replies regained
   fill_with fill_span fill_next fill_for fill_each fill give_up_asks
   hear ask_body ask_next ask hang_up
-  with_settings begun woken stuck opened_to configured
-  behind_2 to_4 to_6 to_7 to_decide touch first_marks close_idle tick_to tick ending rest_with
-  opened owing reached paid said gone in_step_7 take_decision evicted refused_row forgotten_row forgotten_by noted shut dialled undialled out dropped rested changed after
+  remove_entry note_gone begin_op enter_next close_name end_op lose_entry note_kept load_from load
+  with_settings begun woken stuck opened_to configured lose_in_opening
+  behind_2 to_3 to_4 to_6 to_7 to_decide touch first_marks close_idle tick_to tick ending rest_with
+  opened owing reached paid said gone in_step_7 take_decision evicted refused_row forgotten_row forgotten_by noted begun_op ended_op unread shut dialled undialled out dropped rested changed after
   is_permitted
   rule_of
 pp_law_on_literals = tt

@@ -1,10 +1,14 @@
 -- What worked logs are written with.
-use Rattle.std.proofs.Common.{ℕ, List, [], ◌∷◌, ◌++◌, Bool, true, false, Option, Some, None, length, codes}
+use Rattle.std.proofs.Common.{ℕ, ◌-◌, List, [], ◌∷◌, ◌++◌, Bool, true, false, Option, Some, None, length, codes}
+use Rattle.std.specs.Prelude.{replicate}
+use Rattle.pp_target.specs.Name.{name_of}
+use Rattle.pp_world.specs.declared.op.DiskOp.{DiskOp}
+use Rattle.pp_world.specs.declared.op.DiskOp.TheVariants.{Draft, SyncDraft, Publish, Write, Sync, Remove}
 use Rattle.pp_world.specs.declared.happening.Happening.{Happening}
-use Rattle.pp_world.specs.declared.happening.Happening.TheVariants.{Woke, Waits, CanRead, CanWrite, Clock, Opened, Heard, Said, Dialled, Reached, Asked, Got, Noted, Rooted, Listed, Listens}
+use Rattle.pp_world.specs.declared.happening.Happening.TheVariants.{Woke, Waits, CanRead, CanWrite, Clock, Opened, Heard, Said, Dialled, Reached, Asked, Got, Began, Did, Noted, Rooted, Listed, Listens}
 use Rattle.pp_world.specs.declared.note.Decision.{Decision}
 use Rattle.pp_world.specs.declared.note.Decision.TheVariants.{Pass}
-use Rattle.pp_world.specs.declared.note.Remark.TheVariants.{Taken}
+use Rattle.pp_world.specs.declared.note.Remark.TheVariants.{Taken, Kept}
 use Rattle.pp_world.specs.Log.{Log}
 use Rattle.pp_law.specs.Lists.{Bytes}
 use Rattle.pp_law.specs.State.{Term}
@@ -53,3 +57,33 @@ origin_asked =
 
 abbrev pub origin_sends : Bytes → Log
 origin_sends bytes = CanRead 2 ∷ Got 2 bytes ∷ []
+
+-- ---- the disk
+
+-- an operation that is done
+abbrev pub does : DiskOp → Log
+does op = Began op ∷ Did op true ∷ []
+
+abbrev pub zeros : ℕ → Bytes
+zeros n = replicate n 0
+
+-- the file of http://h/a
+abbrev pub name_of_a : Bytes
+name_of_a = name_of (codes "http://h/a")
+
+abbrev pub draft_of : Bytes → Bytes
+draft_of text = text ++ zeros (12288 - length text)
+
+-- a whole body of one chunk is kept: the gate comes last
+abbrev pub keeps : Bytes → Bytes → Log
+keeps block body =
+    does (Draft (draft_of block)) ++ does SyncDraft ++ does (Publish name_of_a)
+    ++ does (Write name_of_a 12288 body) ++ does (Sync name_of_a) ++ does (Write name_of_a 8192 (1 ∷ [])) ++ does (Sync name_of_a)
+    ++ Noted (Kept (codes "http://h/a") (codes "\"x\"") (length body) (length body)) ∷ []
+
+-- the entry of the first response
+abbrev pub block : Bytes
+block = codes "HTTP/1.1 200 OK\r\netag: \"x\"\r\ndate: Sun, 06 Nov 1994 08:49:37 GMT\r\ncache-control: max-age=60\r\nX-Polipo-Location: http://h/a\r\nX-Polipo-Date: 784111777\r\nX-Polipo-Age: 0\r\nX-Polipo-Length: 5\r\nX-Polipo-Body-Offset: 12288\r\n\r\n"
+
+abbrev pub stored : Log
+stored = keeps block (codes "hello")

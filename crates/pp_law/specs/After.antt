@@ -6,18 +6,20 @@ use Rattle.pp_world.specs.declared.happening.Happening.{Happening}
 use Rattle.pp_world.specs.declared.happening.Happening.TheVariants.{Woke, Waits, Clock, Opened, CanRead, CanWrite, Heard, HungUp, Said, Shut, Dialled, Undialled, Reached, Ended, Broke, Asked, Got, Dropped, NoneYet, Began, Did, Unread, Noted, Rooted, Listed, Listens, Configured, Printed, Stopped}
 use Rattle.pp_world.specs.declared.note.Remark.{Remark}
 use Rattle.pp_world.specs.declared.note.Remark.TheVariants.{Taken, Cut, Kept, Gone, Forgotten, Evicted, Loaded}
+use Rattle.pp_world.specs.declared.op.DiskOp.{DiskOp}
 use Rattle.pp_law.specs.Asking.{hear, ask, hang_up}
 use Rattle.pp_law.specs.Chunks.{drop_chunk, note_use}
 use Rattle.pp_law.specs.Clients.{decided, close_client}
 use Rattle.pp_law.specs.Connections.{client, conn, on_client, on_conn, is_client, is_conn, put_on, lose_attempt, placing, Placement, Pause, AllPlaced, WaitsDial, WaitsDrop}
 use Rattle.pp_law.specs.Lists.{Bytes, without}
-use Rattle.pp_law.specs.Opening.{woken, configured, opened_to}
+use Rattle.pp_law.specs.Opening.{woken, configured, opened_to, is_opening, lose_in_opening}
 use Rattle.pp_law.specs.Replies.{said_by, use_next, end_replies, regained}
 use Rattle.pp_law.specs.Requests.{NoHeadYet}
 use Rattle.pp_law.specs.Responses.{got, ended}
 use Rattle.pp_law.specs.State.{State, Client, Conn, Instance, Undecided, Phase, IsRooted, IsListed, IsListening, Step, Owed, Free, ReadOf, WriteTo}
+use Rattle.pp_law.specs.Store.{begin_op, end_op, close_name, name_for, note_kept, note_gone, load}
 use Rattle.pp_law.specs.Table.{row, forget, is_bound_to}
-use Rattle.pp_law.specs.Turn.{step, at_step, due_victim, is_awaiting, to_6, to_7, to_decide, touch, tick, ending, rest_with}
+use Rattle.pp_law.specs.Turn.{step, at_step, due_victim, is_awaiting, to_3, to_6, to_7, to_decide, touch, tick, ending, rest_with}
 
 abbrev pub new_client : ℕ → ℕ → Client
 new_client n now = record {
@@ -90,11 +92,24 @@ forgotten_by key s = elim s.forgotten [
 unfoldable pub noted : Remark → State → State
 noted (Taken c i d) s = take_decision c (to_decide s) (λ x t. decided x d t)
 noted (Cut c cause) s = in_step_7 (close_client c true (to_decide s))
-noted (Kept key tag n extent) s = s
-noted (Gone key) s = s
+noted (Kept key tag n extent) s = note_kept key extent (to_3 s)
+noted (Gone key) s = note_gone key (to_3 s)
 noted (Forgotten key) s = forgotten_by key s
 noted (Evicted key tag n i) s = evicted s
-noted (Loaded key tag n i) s = s
+noted (Loaded key tag n i) s = load key i s
+
+-- ---- the disk
+
+unfoldable pub begun_op : DiskOp → State → State
+begun_op op s = elim (is_opening s) [ true ↦ begin_op false op s | false ↦ begin_op true op (to_3 s) ]
+
+unfoldable pub ended_op : DiskOp → Bool → State → State
+ended_op op true s = end_op op true s
+ended_op op false s = lose_in_opening (name_for op s.agenda) (end_op op false s)
+
+-- ours: its name is closed; a load that failed stands for the write
+unfoldable pub unread : Bytes → State → State
+unread name s = paid (lose_in_opening name (close_name name s))
 
 -- ---- closings and places
 
@@ -149,9 +164,9 @@ changed s (Asked k bytes) = paid (ask k (length bytes) s)
 changed s (Got k bytes) = paid (note_use (end_replies (got (length bytes) k bytes s)))
 changed s (Dropped k) = dropped k (to_6 s)
 changed s (NoneYet n) = paid s
-changed s (Began op) = s
-changed s (Did op ok) = s
-changed s (Unread name) = s
+changed s (Began op) = begun_op op s
+changed s (Did op ok) = ended_op op ok s
+changed s (Unread name) = unread name s
 changed s (Noted remark) = noted remark s
 changed s (Rooted folder) = opened_to IsRooted true s
 changed s (Listed ok) = opened_to IsListed ok s

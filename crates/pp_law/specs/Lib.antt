@@ -13,6 +13,7 @@ pub mod Replies
 pub mod Followers
 pub mod Asking
 pub mod Entries
+pub mod Store
 pub mod Opening
 pub mod Turn
 pub mod Served

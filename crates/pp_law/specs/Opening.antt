@@ -13,6 +13,7 @@ use Rattle.pp_world.specs.declared.op.DiskOp.{DiskOp}
 use Rattle.pp_world.specs.declared.op.DiskOp.TheVariants.{Draft, SyncDraft, Publish, Write, Sync, Remove}
 use Rattle.pp_law.specs.Entries.{entries_in}
 use Rattle.pp_law.specs.Lists.{Bytes, is_some_with}
+use Rattle.pp_law.specs.Store.{is_idle_disk, has_stray_gates, lose_entry}
 use Rattle.pp_law.specs.State.{State, Term, no_term, start, Phase, Before, IsWoken, IsConfigured, IsRooted, IsListed, IsListening, IsStuck, Step}
 
 -- ---- the files
@@ -88,7 +89,7 @@ begun s = elim (names_file s.term) [
 unfoldable pub woken : Files → State → State
 woken image s = begun (record (start (terms_behind s.terms)) {
   sent = s.sent; acknowledged = s.acknowledged; top = s.top; term = term_in s.terms;
-  disk = s.disk ++ Woke image ∷ []; entries = entries_in image;
+  disk = Woke image ∷ []; entries = entries_in image;
 })
 
 -- ---- the calls, in their order
@@ -132,7 +133,11 @@ abbrev pub permits_rooted : State → Bytes → Bool
 permits_rooted s folder = is_at IsConfigured s && bytes_eq folder s.settings.root
 
 abbrev pub permits_listens : State → ℕ → Bool
-permits_listens s port = is_at IsListed s && (port == s.settings.port)
+permits_listens s port = is_at IsListed s && (port == s.settings.port) && is_idle_disk s && is_empty s.agenda && not (list_any (has_stray_gates s) s.entries)
+
+-- an entry that could not be read or repaired is none in this life
+unfoldable pub lose_in_opening : Bytes → State → State
+lose_in_opening name s = elim (is_opening s) [ true ↦ lose_entry name s | false ↦ s ]
 
 -- a failure comes only where the outside failed so often
 abbrev pub may_fail : State → Bool → Bool

@@ -1,5 +1,5 @@
 -- What may happen next: a test for each happening.
-use Rattle.std.specs.Prelude.{◌≡◌, ℕ, Bool, true, false, ◌==◌, ◌&&◌, ◌||◌, not, nat_lt, nat_le, nat_eq, List, [], ◌∷◌, length, bytes_eq, is_some, Option, Some, None}
+use Rattle.std.specs.Prelude.{◌≡◌, ℕ, Bool, true, false, ◌==◌, ◌&&◌, ◌||◌, not, nat_lt, nat_le, nat_eq, ◌/◌, List, [], ◌∷◌, length, bytes_eq, is_some, Option, Some, None}
 use Rattle.std.specs.List.{list_any, starts_with}
 use Rattle.pp_text.specs.Bytes.{is_empty}
 use Rattle.pp_world.specs.declared.event.Wants.{Wants}
@@ -11,16 +11,19 @@ use Rattle.pp_world.specs.declared.note.Decision.{Decision}
 use Rattle.pp_world.specs.declared.note.Decision.TheVariants.{Refuse, Hit, Part, Head, NotModified, Unsatisfiable, Relay, Validate, Fetch, Pass}
 use Rattle.pp_world.specs.declared.note.Remark.{Remark}
 use Rattle.pp_world.specs.declared.note.Remark.TheVariants.{Taken, Cut, Kept, Gone, Forgotten, Evicted, Loaded}
+use Rattle.pp_world.specs.declared.op.DiskOp.{DiskOp}
 use Rattle.pp_law.specs.Asking.{is_reading, is_writing, permits_heard, permits_got, permits_asked}
+use Rattle.pp_law.specs.Chunks.{chunk_len, is_in_memory}
 use Rattle.pp_law.specs.Clients.{Due, Decide, CutOff, first_due, is_for_memory, has_to_forget}
 use Rattle.pp_law.specs.Connections.{client, conn, is_client, is_conn, placing, Placement, Pause, AllPlaced, WaitsDial, WaitsDrop}
 use Rattle.pp_law.specs.Lists.{Bytes, is_some_with}
 use Rattle.pp_law.specs.Opening.{permits_woke, permits_configured, permits_rooted, permits_listens, is_at, is_opening, may_fail}
-use Rattle.pp_law.specs.Replies.{offer}
+use Rattle.pp_law.specs.Replies.{offer, is_at_body}
 use Rattle.pp_law.specs.Served.{is_served}
-use Rattle.pp_law.specs.State.{State, Client, Conn, Instance, Phase, IsRooted, IsListening}
-use Rattle.pp_law.specs.Table.{row, instance, idle_row}
-use Rattle.pp_law.specs.Turn.{step, due_victim, is_awaiting, has_closings, to_6, to_decide, may_6, may_decide, may_end, ending}
+use Rattle.pp_law.specs.State.{State, Client, Conn, Instance, Phase, IsRooted, IsListed, IsListening}
+use Rattle.pp_law.specs.Store.{is_idle_disk, is_named, is_acknowledged_as, may_note_gone, may_begin_op, may_end_op}
+use Rattle.pp_law.specs.Table.{row, kept_row, instance, idle_row, extent_of, next_of, Next}
+use Rattle.pp_law.specs.Turn.{step, due_victim, is_awaiting, has_closings, to_3, to_6, to_decide, may_3, may_6, may_decide, may_end, ending}
 
 -- ---- decisions and cuts
 
@@ -110,14 +113,41 @@ abbrev pub permits_evicted : State → Bytes → Bytes → ℕ → ℕ → Bool
 permits_evicted s key tag n i =
     nat_lt 0 (step s) && nat_le (step s) 2 && is_empty s.forgotten && is_some_with (is_chunk_of s key tag n i) (due_victim s)
 
+-- ---- the disk
+
+-- in step 3, or to repair an entry in the opening
+abbrev pub permits_began : State → DiskOp → Bool
+permits_began s op = (is_at IsListed s && may_begin_op false s op) || (may_3 s && may_begin_op true (to_3 s) op)
+
+-- the client that is written to has its next byte in that chunk, below the extent and not in memory
+abbrev pub may_load_at : State → Next → Bytes → Bytes → ℕ → ℕ → Bool
+may_load_at s x key tag n i =
+    not x.source.is_retired && bytes_eq x.source.key key && bytes_eq x.source.version.tag tag && (x.source.version.length == n)
+    && (x.at / chunk_len == i) && nat_lt x.at (extent_of s x.source) && not (is_in_memory s x.source.id x.at)
+
+abbrev pub may_load : State → Bytes → Bytes → ℕ → ℕ → Client → Bool
+may_load s key tag n i c = is_writing s.owed c.number && is_at_body c && is_some_with (λ x. may_load_at s x key tag n i) (next_of s c)
+
+abbrev pub loads_from : State → Bytes → Next → Bool
+loads_from s name x =
+    may_load_at s x x.source.key x.source.version.tag x.source.version.length (x.at / chunk_len)
+    && is_some_with (is_named name) (kept_row s x.source.key)
+
+abbrev pub may_fail_to_load : State → Bytes → Client → Bool
+may_fail_to_load s name c = is_writing s.owed c.number && is_at_body c && is_some_with (loads_from s name) (next_of s c)
+
+-- where recovery reads, or where a chunk may be loaded from that file
+abbrev pub permits_unread : State → Bytes → Bool
+permits_unread s name = is_at IsListed s || list_any (may_fail_to_load s name) s.clients
+
 abbrev pub permits_noted : State → Remark → Bool
 permits_noted s (Taken c i d) = permits_taken s c i d
 permits_noted s (Cut c cause) = permits_cut s c cause
-permits_noted s (Kept key tag n extent) = false
-permits_noted s (Gone key) = false
+permits_noted s (Kept key tag n extent) = is_idle_disk s && is_acknowledged_as key tag n extent s.agenda
+permits_noted s (Gone key) = may_3 s && may_note_gone (to_3 s) key
 permits_noted s (Forgotten key) = permits_forgotten s key
 permits_noted s (Evicted key tag n i) = permits_evicted s key tag n i
-permits_noted s (Loaded key tag n i) = false
+permits_noted s (Loaded key tag n i) = list_any (may_load s key tag n i) s.clients
 
 -- ---- what is said
 
@@ -211,9 +241,9 @@ is_permitted s (Asked k bytes) = permits_asked s k bytes
 is_permitted s (Got k bytes) = permits_got s k bytes
 is_permitted s (Dropped k) = permits_dropped s k
 is_permitted s (NoneYet n) = is_reading s.owed n
-is_permitted s (Began op) = false
-is_permitted s (Did op ok) = false
-is_permitted s (Unread name) = false
+is_permitted s (Began op) = permits_began s op
+is_permitted s (Did op ok) = may_end_op s op && may_fail s ok
+is_permitted s (Unread name) = may_fail s false && permits_unread s name
 is_permitted s (Noted remark) = permits_noted s remark
 is_permitted s (Rooted folder) = permits_rooted s folder
 is_permitted s (Listed ok) = is_at IsRooted s && may_fail s ok

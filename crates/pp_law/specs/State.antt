@@ -185,7 +185,7 @@ pub record State : Type 0 where
   -- all lives
   pub sent : List Sent
   pub acknowledged : List Entry
-  pub disk : Log  -- each Woke, Began and Did so far
+  pub disk : Log  -- the last Woke, and each Began and Did since
   pub top : ℕ  -- the greatest number of a connection
   pub terms : List Term  -- of the lives to come
   -- this life
@@ -205,6 +205,7 @@ pub record State : Type 0 where
   pub uses : ℕ
   pub entries : List Entry
   pub closed_names : List Bytes
+  pub under_way : Option DiskOp
   pub displaced : List Bytes  -- keys whose name another key took
   -- this turn
   pub is_ticked : Bool
@@ -224,6 +225,6 @@ start terms = record {
   sent = []; acknowledged = []; disk = []; top = 0; terms = terms;
   term = no_term; settings = defaults; phase = Before; clock = 0; has_ticked = false; failures = 0;
   clients = []; conns = []; exchanges = []; next_exchange = 0; instances = []; next_instance = 0; chunks = []; uses = 0;
-  entries = []; closed_names = []; displaced = [];
+  entries = []; closed_names = []; under_way = None; displaced = [];
   is_ticked = false; is_stopped = false; owed = Free; is_evicting = false; forgotten = []; agenda = []; is_again = false; refused = [];
 }

@@ -12,6 +12,7 @@ use Rattle.pp_law.specs.Followers.{fill, give_up_asks}
 use Rattle.pp_law.specs.Lists.{has_number, is_some_with}
 use Rattle.pp_law.specs.Replies.{begin_replies}
 use Rattle.pp_law.specs.State.{State, Client, Conn, Exchange, Instance, Phase, Before, IsWoken, IsConfigured, IsRooted, IsListed, IsListening, IsStuck, Step, Owed, Free, ReadOf, WriteTo}
+use Rattle.pp_law.specs.Store.{is_done_on_disk}
 use Rattle.pp_law.specs.Table.{next_of, Next, brings, pins}
 
 abbrev pub step_in : Phase → ℕ
@@ -37,6 +38,9 @@ is_awaiting s = is_start s.phase
 
 unfoldable pub behind_2 : State → State
 behind_2 s = elim (nat_le (step s) 2) [ true ↦ give_up_asks s | false ↦ s ]
+
+unfoldable pub to_3 : State → State
+to_3 s = at_step 3 (behind_2 s)
 
 unfoldable pub to_4 : State → State
 to_4 s = at_step 4 (behind_2 s)
@@ -68,6 +72,9 @@ due_victim s = elim s.is_evicting [ true ↦ victim (pins s) s | false ↦ None 
 abbrev pub is_done_2 : State → Bool
 is_done_2 s = is_free s.owed && is_empty s.forgotten && not (is_some (due_victim s))
 
+abbrev pub is_done_3 : State → Bool
+is_done_3 s = is_done_on_disk s
+
 abbrev pub is_done_4 : State → Bool
 is_done_4 s = not (is_some (first_due s))
 
@@ -79,8 +86,11 @@ is_done_6 s = not (has_closings s) && is_placed (placing s).pause
 
 -- ---- a happening of a step may come: what is before it is done
 
+abbrev pub may_3 : State → Bool
+may_3 s = nat_lt 0 (step s) && nat_le (step s) 3 && ((step s == 3) || is_done_2 s)
+
 abbrev pub may_4 : State → Bool
-may_4 s = nat_lt 0 (step s) && nat_le (step s) 4 && (nat_lt 2 (step s) || is_done_2 s)
+may_4 s = (step s == 4) || (may_3 s && is_done_3 (to_3 s))
 
 abbrev pub may_6 : State → Bool
 may_6 s = (step s == 6) || (may_4 s && is_done_4 (to_4 s)) || ((step s == 7) && s.is_again && is_done_4 s)
