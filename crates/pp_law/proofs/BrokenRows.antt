@@ -1,14 +1,12 @@
 -- Logs that break one rule each.
-use Rattle.std.proofs.Common.{◌≡◌, refl, ℕ, List, [], ◌∷◌, ◌++◌, Bool, true, false, Option, Some, None, length, codes}
-use Rattle.pp_world.specs.declared.happening.Happening.TheVariants.{CanRead, CanWrite, Heard, HungUp, Said, Shut, Dialled, Undialled, Reached, Ended, Broke, Asked, Got, Dropped, NoneYet, Noted, Stopped, Clock, Opened}
+use Rattle.std.proofs.Common.{◌≡◌, refl, [], ◌∷◌, ◌++◌, codes}
+use Rattle.pp_world.specs.declared.happening.Happening.TheVariants.{CanRead, CanWrite, Heard, Dialled, Undialled, Reached, Ended, Broke, Asked, Dropped, NoneYet, Noted, Opened}
 use Rattle.pp_world.specs.declared.note.Remark.TheVariants.{Taken, Cut}
-use Rattle.pp_world.specs.declared.note.Cause.TheVariants.{Origin, Short, Idle}
+use Rattle.pp_world.specs.declared.note.Cause.TheVariants.{Short}
 use Rattle.pp_world.specs.declared.note.Decision.TheVariants.{Refuse, Pass}
-use Rattle.pp_world.specs.Log.{Log}
-use Rattle.pp_law.specs.Lists.{Bytes}
-use Rattle.pp_law.specs.Lawful.{first_fault, Rule, EventOutOfTurn, ReadNotAskedFor, FailureMadeUp, WrongReply, WrongAsk, WrongDecision, WrongCut, NotToBeClosed, NotToBeDialled, StepUnfinished, AcceptsWrongly, ClientForgotten, ConnectionForgotten, ExchangeForgotten, WantsTooMuch}
+use Rattle.pp_law.specs.Lawful.{first_fault, EventOutOfTurn, ReadNotAskedFor, FailureMadeUp, WrongReply, WrongAsk, WrongDecision, WrongCut, NotToBeClosed, NotToBeDialled, StepUnfinished, ClientForgotten, ConnectionForgotten, WantsTooMuch}
 use Rattle.pp_law.proofs.OnLiterals.{pp_law_on_literals}
-use Rattle.pp_law.proofs.Worked.{no_words, wait, broken, opening, client_sends, client_gets, request, ask_text, reply_head, origin_asked, origin_sends}
+use Rattle.pp_law.proofs.Worked.{no_words, wait, broken, opening, client_sends, client_gets, request, ask_text, reply_head, origin_sends}
 use Rattle.pp_law.proofs.PassingRows.{passed, answered}
 
 -- the body before the head

@@ -1,42 +1,40 @@
 -- Worked logs of requests that the cache answers.
-use Rattle.std.proofs.Common.{◌≡◌, refl, ℕ, ◌+◌, List, [], ◌∷◌, ◌++◌, Bool, true, false, Option, Some, None, length, codes}
-use Rattle.pp_world.specs.declared.happening.Happening.{Happening}
-use Rattle.pp_world.specs.declared.happening.Happening.TheVariants.{CanRead, CanWrite, Heard, HungUp, Said, Shut, Dialled, Undialled, Reached, Ended, Broke, Asked, Got, Dropped, NoneYet, Noted, Stopped, Clock, Opened}
-use Rattle.pp_world.specs.declared.note.Decision.{Decision}
-use Rattle.pp_world.specs.declared.note.Decision.TheVariants.{Refuse, Hit, Part, Head, NotModified, Unsatisfiable, Relay, Validate, Fetch, Pass}
+use Rattle.std.proofs.Common.{◌≡◌, refl, ℕ, ◌+◌, List, [], ◌∷◌, ◌++◌, None, length, codes}
+use Rattle.pp_world.specs.declared.happening.Happening.TheVariants.{CanRead, CanWrite, Heard, Said, Shut, Dialled, Reached, Ended, Broke, Asked, Got, Dropped, Noted, Clock, Opened}
+use Rattle.pp_world.specs.declared.note.Decision.TheVariants.{Refuse, Hit, Part, Unsatisfiable, Relay, Validate, Fetch}
 use Rattle.pp_world.specs.declared.note.Remark.TheVariants.{Taken, Cut}
-use Rattle.pp_world.specs.declared.note.Cause.TheVariants.{Origin, Superseded}
+use Rattle.pp_world.specs.declared.note.Cause.TheVariants.{Origin}
 use Rattle.pp_world.specs.Log.{Log}
 use Rattle.pp_law.specs.Lists.{Bytes}
-use Rattle.pp_law.specs.Lawful.{first_fault, Rule, WrongReply, WrongDecision, WrongAsk, ClientForgotten, StepUnfinished, NotToBeDialled}
+use Rattle.pp_law.specs.Lawful.{first_fault, WrongReply, WrongDecision, ClientForgotten}
 use Rattle.pp_law.proofs.OnLiterals.{pp_law_on_literals}
 use Rattle.pp_law.proofs.Worked.{no_words, wait, broken, opening, sunday, stored, client_sends, origin_sends}
 
 -- ---- the first request of a key
 
-abbrev request : Bytes
+abbrev pub request : Bytes
 request = codes "GET http://h/a HTTP/1.1\r\nHost: h\r\n\r\n"
 
 abbrev ask_text : Bytes
 ask_text = codes "GET /a HTTP/1.1\r\nhost: h\r\nvia: 1.1 polipo\r\n\r\n"
 
-abbrev response : Bytes
+abbrev pub response : Bytes
 response = codes "HTTP/1.1 200 OK\r\nDate: Sun, 06 Nov 1994 08:49:37 GMT\r\nETag: \"x\"\r\nCache-Control: max-age=60\r\nContent-Length: 5\r\n\r\nhello"
 
-abbrev fetched_head : Bytes
+abbrev pub fetched_head : Bytes
 fetched_head = codes "HTTP/1.1 200 OK\r\netag: \"x\"\r\ndate: Sun, 06 Nov 1994 08:49:37 GMT\r\ncache-control: max-age=60\r\nvia: 1.1 polipo\r\ncontent-length: 5\r\nconnection: keep-alive\r\n\r\n"
 
-abbrev fetching : Log
+abbrev pub fetching : Log
 fetching =
     opening ++ client_sends request ++ Noted (Taken 1 0 Fetch) ∷ Dialled 2 (codes "h") 80 ∷ wait (1 ∷ []) [] ∷ Reached 2 ∷ wait (1 ∷ 2 ∷ []) (2 ∷ []) ∷
     CanWrite 2 ∷ Asked 2 ask_text ∷ wait (1 ∷ 2 ∷ []) [] ∷ []
 
 -- the client gets a head, and then a body
-abbrev gets : ℕ → List ℕ → Bytes → Bytes → Log
+abbrev pub gets : ℕ → List ℕ → Bytes → Bytes → Log
 gets c readers head body =
     wait readers (c ∷ []) ∷ CanWrite c ∷ Said c (length head) head ∷ wait readers (c ∷ []) ∷ CanWrite c ∷ Said c (length body) body ∷ wait readers [] ∷ []
 
-abbrev fetched : Log
+abbrev pub fetched : Log
 fetched = fetching ++ origin_sends response ++ stored ++ Noted (Taken 1 0 (Hit 0 5)) ∷ gets 1 (1 ∷ 2 ∷ []) fetched_head (codes "hello")
 
 said_159_bytes : length fetched_head + 5 ≡ 159
@@ -51,7 +49,7 @@ first_request = refl
 abbrev later_request : ℕ → Bytes → Log
 later_request seconds bytes = Clock (sunday + seconds) ∷ wait (1 ∷ 2 ∷ []) [] ∷ Opened 3 ∷ wait (1 ∷ 2 ∷ 3 ∷ []) [] ∷ CanRead 3 ∷ Heard 3 bytes ∷ []
 
-abbrev aged_head : Bytes
+abbrev pub aged_head : Bytes
 aged_head = codes "HTTP/1.1 200 OK\r\netag: \"x\"\r\ndate: Sun, 06 Nov 1994 08:49:37 GMT\r\ncache-control: max-age=60\r\nage: 10\r\nvia: 1.1 polipo\r\ncontent-length: 5\r\nconnection: keep-alive\r\n\r\n"
 
 hit : first_fault no_words (fetched ++ later_request 10 request ++ Noted (Taken 3 0 (Hit 0 5)) ∷ gets 3 (1 ∷ 2 ∷ 3 ∷ []) aged_head (codes "hello")) ≡ None
@@ -90,7 +88,7 @@ forgotten = refl
 abbrev check_text : Bytes
 check_text = codes "GET /a HTTP/1.1\r\nhost: h\r\nif-none-match: \"x\"\r\nvia: 1.1 polipo\r\n\r\n"
 
-abbrev checking : Log
+abbrev pub checking : Log
 checking =
     Clock (sunday + 61) ∷ Dropped 2 ∷ wait (1 ∷ []) [] ∷ Opened 3 ∷ wait (1 ∷ 3 ∷ []) [] ∷ CanRead 3 ∷ Heard 3 request ∷ Noted (Taken 3 0 Validate) ∷ Dialled 4 (codes "h") 80 ∷ wait (1 ∷ []) [] ∷
     Reached 4 ∷ wait (1 ∷ 4 ∷ []) (4 ∷ []) ∷ CanWrite 4 ∷ Asked 4 check_text ∷ wait (1 ∷ 4 ∷ []) [] ∷ CanRead 4 ∷ []

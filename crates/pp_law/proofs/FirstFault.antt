@@ -1,11 +1,11 @@
 -- A log has no first fault exactly where it is lawful.
-use Rattle.std.proofs.Common.{◌≡◌, refl, ℕ, ◌+◌, List, [], ◌∷◌, ◌++◌, Bool, true, false, Option, Some, None}
+use Rattle.std.proofs.Common.{◌≡◌, refl, ℕ, ◌+◌, [], ◌∷◌, Bool, true, false, Option, Some, None}
 use Rattle.pp_world.specs.Log.{Log}
 use Rattle.pp_world.specs.declared.happening.Happening.{Happening}
 use Rattle.pp_law.specs.After.{after}
-use Rattle.pp_law.specs.Lawful.{LawfulFrom, Lawful, Fault, rule_of, fault_from, first_fault, NoFaultIsLawful, LawfulHasNoFault}
+use Rattle.pp_law.specs.Lawful.{LawfulFrom, Fault, rule_of, fault_from, NoFaultIsLawful, LawfulHasNoFault}
 use Rattle.pp_law.specs.Permits.{is_permitted}
-use Rattle.pp_law.specs.State.{State, Term, start}
+use Rattle.pp_law.specs.State.{State, start}
 
 -- one step of the search
 abbrev step_of : ℕ → State → Happening → Log → Bool → Option Fault

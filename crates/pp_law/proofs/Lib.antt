@@ -7,3 +7,5 @@ mod PageRows
 mod PassingRows
 mod BrokenRows
 mod CachingRows
+mod DiskRows
+mod FollowerRows

@@ -1,7 +1,7 @@
 -- Worked openings.
-use Rattle.std.proofs.Common.{◌≡◌, refl, ℕ, List, [], ◌∷◌, ◌++◌, Bool, true, false, Option, Some, None, codes}
+use Rattle.std.proofs.Common.{◌≡◌, refl, [], ◌∷◌, true, false, None, codes}
 use Rattle.pp_world.specs.declared.happening.Happening.TheVariants.{Woke, Clock, Rooted, Listed, Listens, Printed, Stopped}
-use Rattle.pp_law.specs.Lawful.{first_fault, Rule, OpeningOutOfOrder, FailureMadeUp, EventOutOfTurn, StepUnfinished}
+use Rattle.pp_law.specs.Lawful.{first_fault, OpeningOutOfOrder, EventOutOfTurn, StepUnfinished}
 use Rattle.pp_law.proofs.OnLiterals.{pp_law_on_literals}
 use Rattle.pp_law.proofs.Worked.{no_words, wait, broken}
 

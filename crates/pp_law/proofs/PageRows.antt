@@ -1,13 +1,13 @@
 -- Worked logs of requests that are refused.
-use Rattle.std.proofs.Common.{◌≡◌, refl, ℕ, List, [], ◌∷◌, ◌++◌, Bool, true, false, Option, Some, None, length, codes}
+use Rattle.std.proofs.Common.{◌≡◌, refl, [], ◌∷◌, ◌++◌, None, length, codes}
 use Rattle.std.specs.Prelude.{replicate, flat_map}
-use Rattle.pp_world.specs.declared.happening.Happening.TheVariants.{CanRead, Heard, HungUp, Shut, Noted, Said, CanWrite, Stopped}
+use Rattle.pp_world.specs.declared.happening.Happening.TheVariants.{CanRead, HungUp, Shut, Noted, Said, CanWrite, Stopped}
 use Rattle.pp_world.specs.declared.note.Remark.TheVariants.{Taken, Cut}
 use Rattle.pp_world.specs.declared.note.Cause.TheVariants.{Stop}
 use Rattle.pp_world.specs.declared.note.Decision.TheVariants.{Refuse}
 use Rattle.pp_world.specs.Log.{Log}
 use Rattle.pp_law.specs.Lists.{Bytes}
-use Rattle.pp_law.specs.Lawful.{first_fault, Rule, WrongReply, WrongDecision, NotToBeClosed, StepUnfinished, ClientForgotten}
+use Rattle.pp_law.specs.Lawful.{first_fault, WrongReply, WrongDecision, NotToBeClosed, StepUnfinished, ClientForgotten}
 use Rattle.pp_law.proofs.OnLiterals.{pp_law_on_literals}
 use Rattle.pp_law.proofs.Worked.{no_words, wait, broken, opening, client_sends, client_gets}
 

@@ -1,12 +1,12 @@
 -- Worked logs of requests that are passed.
-use Rattle.std.proofs.Common.{◌≡◌, refl, ℕ, List, [], ◌∷◌, ◌++◌, Bool, true, false, Option, Some, None, length, codes}
-use Rattle.pp_world.specs.declared.happening.Happening.TheVariants.{CanRead, CanWrite, Heard, HungUp, Said, Shut, Dialled, Undialled, Reached, Ended, Broke, Asked, Got, Dropped, NoneYet, Noted, Stopped}
+use Rattle.std.proofs.Common.{◌≡◌, refl, [], ◌∷◌, ◌++◌, None, codes}
+use Rattle.pp_world.specs.declared.happening.Happening.TheVariants.{CanRead, CanWrite, Heard, Shut, Dialled, Reached, Ended, Broke, Asked, Dropped, Noted, Stopped}
 use Rattle.pp_world.specs.declared.note.Remark.TheVariants.{Taken, Cut}
 use Rattle.pp_world.specs.declared.note.Cause.TheVariants.{Short, Stop}
 use Rattle.pp_world.specs.declared.note.Decision.TheVariants.{Refuse, Pass}
 use Rattle.pp_world.specs.Log.{Log}
 use Rattle.pp_law.specs.Lists.{Bytes}
-use Rattle.pp_law.specs.Lawful.{first_fault, Rule}
+use Rattle.pp_law.specs.Lawful.{first_fault}
 use Rattle.pp_law.proofs.OnLiterals.{pp_law_on_literals}
 use Rattle.pp_law.proofs.Worked.{no_words, wait, opening, client_sends, client_gets, request, ask_text, reply_head, origin_asked, origin_sends}
 

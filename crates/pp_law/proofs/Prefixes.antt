@@ -1,9 +1,9 @@
 -- Every prefix of a lawful log is lawful.
-use Rattle.std.proofs.Common.{◌≡◌, List, [], ◌∷◌, ◌++◌}
+use Rattle.std.proofs.Common.{[], ◌∷◌, ◌++◌}
 use Rattle.pp_world.specs.Log.{Log}
 use Rattle.pp_law.specs.After.{after}
-use Rattle.pp_law.specs.Lawful.{LawfulFrom, Lawful, EachPrefixIsLawful}
-use Rattle.pp_law.specs.State.{State, Term, start}
+use Rattle.pp_law.specs.Lawful.{LawfulFrom, EachPrefixIsLawful}
+use Rattle.pp_law.specs.State.{State, start}
 
 pub front_from : (s : State) (front rest : Log) → LawfulFrom s (front ++ rest) → LawfulFrom s front
 front_from s [] rest lawful = tt

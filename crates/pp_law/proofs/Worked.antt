@@ -1,14 +1,11 @@
 -- What worked logs are written with.
-use Rattle.std.proofs.Common.{ℕ, ◌-◌, List, [], ◌∷◌, ◌++◌, Bool, true, false, Option, Some, None, length, codes}
+use Rattle.std.proofs.Common.{ℕ, ◌-◌, List, [], ◌∷◌, ◌++◌, true, Option, Some, length, codes}
 use Rattle.std.specs.Prelude.{replicate}
-use Rattle.pp_target.specs.Name.{name_of}
 use Rattle.pp_world.specs.declared.op.DiskOp.{DiskOp}
-use Rattle.pp_world.specs.declared.op.DiskOp.TheVariants.{Draft, SyncDraft, Publish, Write, Sync, Remove}
+use Rattle.pp_world.specs.declared.op.DiskOp.TheVariants.{Draft, SyncDraft, Publish, Write, Sync}
 use Rattle.pp_world.specs.declared.happening.Happening.{Happening}
 use Rattle.pp_world.specs.declared.happening.Happening.TheVariants.{Woke, Waits, CanRead, CanWrite, Clock, Opened, Heard, Said, Dialled, Reached, Asked, Got, Began, Did, Noted, Rooted, Listed, Listens}
-use Rattle.pp_world.specs.declared.note.Decision.{Decision}
-use Rattle.pp_world.specs.declared.note.Decision.TheVariants.{Pass}
-use Rattle.pp_world.specs.declared.note.Remark.TheVariants.{Taken, Kept}
+use Rattle.pp_world.specs.declared.note.Remark.TheVariants.{Kept}
 use Rattle.pp_world.specs.Log.{Log}
 use Rattle.pp_law.specs.Lists.{Bytes}
 use Rattle.pp_law.specs.State.{Term}
@@ -69,7 +66,7 @@ zeros n = replicate n 0
 
 -- the file of http://h/a
 abbrev pub name_of_a : Bytes
-name_of_a = name_of (codes "http://h/a")
+name_of_a = codes "2ce7276502725c281e6d5ae4e55aed55"
 
 abbrev pub draft_of : Bytes → Bytes
 draft_of text = text ++ zeros (12288 - length text)

@@ -1,5 +1,5 @@
 -- The state after one happening.
-use Rattle.std.specs.Prelude.{ℕ, ◌+◌, Bool, true, false, ◌==◌, ◌&&◌, ◌||◌, not, List, [], ◌∷◌, ◌++◌, length, map, filter, is_some, Option, Some, None}
+use Rattle.std.specs.Prelude.{ℕ, ◌+◌, Bool, true, false, ◌==◌, ◌||◌, List, [], ◌∷◌, ◌++◌, length, map, filter, Some, None}
 use Rattle.pp_plan.specs.declared.table.Begun.TheVariants.{Nothing}
 use Rattle.pp_world.specs.declared.event.Wants.{Wants}
 use Rattle.pp_world.specs.declared.happening.Happening.{Happening}
@@ -10,28 +10,59 @@ use Rattle.pp_world.specs.declared.op.DiskOp.{DiskOp}
 use Rattle.pp_law.specs.Asking.{hear, ask, hang_up}
 use Rattle.pp_law.specs.Chunks.{drop_chunk, note_use}
 use Rattle.pp_law.specs.Clients.{decided, close_client}
-use Rattle.pp_law.specs.Connections.{client, conn, on_client, on_conn, is_client, is_conn, put_on, lose_attempt, placing, Placement, Pause, AllPlaced, WaitsDial, WaitsDrop}
+use Rattle.pp_law.specs.Connections.{client, conn, on_client, on_conn, is_client, is_conn, put_on, lose_attempt, placing, Placement, AllPlaced, WaitsDial, WaitsDrop}
 use Rattle.pp_law.specs.Lists.{Bytes, without}
 use Rattle.pp_law.specs.Opening.{woken, configured, opened_to, is_opening, lose_in_opening}
 use Rattle.pp_law.specs.Replies.{said_by, use_next, end_replies, regained}
 use Rattle.pp_law.specs.Requests.{NoHeadYet}
 use Rattle.pp_law.specs.Responses.{got, ended}
-use Rattle.pp_law.specs.State.{State, Client, Conn, Instance, Undecided, Phase, IsRooted, IsListed, IsListening, Step, Owed, Free, ReadOf, WriteTo}
+use Rattle.pp_law.specs.State.{State, Client, Conn, Instance, Undecided, IsRooted, IsListed, IsListening, Owed, Free, ReadOf, WriteTo}
 use Rattle.pp_law.specs.Store.{begin_op, end_op, close_name, name_for, note_kept, note_gone, load}
 use Rattle.pp_law.specs.Table.{row, forget, is_bound_to}
-use Rattle.pp_law.specs.Turn.{step, at_step, due_victim, is_awaiting, to_3, to_6, to_7, to_decide, touch, tick, ending, rest_with}
+use Rattle.pp_law.specs.Turn.{step, at_step, due_victim, is_awaiting, to_3, to_6, to_decide, touch, tick, ending, rest_with}
 
 abbrev pub new_client : ℕ → ℕ → Client
 new_client n now = record {
-  number = n; is_new = true; has_hung_up = false; front = NoHeadYet; heard = []; body_left = 0; skip = 0; index = 0; stage = Undecided;
-  waits_on = None; passed = None; begun = Nothing; settled = None; is_told = false; has_plain_age = false; lost = 0; has_failed = false;
-  is_too_long = false; interim_left = []; closes = false; is_closing = false; is_cut = false; mark = now;
+  number = n;
+  is_new = true;
+  has_hung_up = false;
+  front = NoHeadYet;
+  heard = [];
+  body_left = 0;
+  skip = 0;
+  index = 0;
+  stage = Undecided;
+  waits_on = None;
+  passed = None;
+  begun = Nothing;
+  settled = None;
+  is_told = false;
+  has_plain_age = false;
+  lost = 0;
+  has_failed = false;
+  is_too_long = false;
+  interim_left = [];
+  closes = false;
+  is_closing = false;
+  is_cut = false;
+  mark = now;
 }
 
 abbrev pub new_conn : ℕ → Bytes → ℕ → ℕ → Conn
 new_conn n host port now = record {
-  number = n; host = host; port = port; is_reached = false; line = []; unread = []; is_early = false; answer = None; has_brought = false;
-  may_pipeline = false; is_closing = false; mark = now; has_waited = false;
+  number = n;
+  host = host;
+  port = port;
+  is_reached = false;
+  line = [];
+  unread = [];
+  is_early = false;
+  answer = None;
+  has_brought = false;
+  may_pipeline = false;
+  is_closing = false;
+  mark = now;
+  has_waited = false;
 }
 
 -- ---- events

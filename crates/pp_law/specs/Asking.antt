@@ -1,13 +1,13 @@
 -- What is asked of origins, and heard of clients (RFC 2616, sections 5 and 8.2).
-use Rattle.std.specs.Prelude.{ℕ, ◌+◌, ◌-◌, Bool, true, false, ◌==◌, ◌&&◌, ◌||◌, not, nat_lt, nat_le, nat_eq, min, List, [], ◌∷◌, length, take, drop, find, is_some, Option, Some, None, option_and_then}
-use Rattle.std.specs.List.{list_any, starts_with}
+use Rattle.std.specs.Prelude.{ℕ, ◌+◌, ◌-◌, Bool, true, false, ◌==◌, ◌&&◌, ◌||◌, not, nat_lt, nat_le, nat_eq, min, [], length, take, drop, find, Option, Some, None, option_and_then}
+use Rattle.std.specs.List.{starts_with}
 use Rattle.pp_pass.specs.Pipe.{room_of}
 use Rattle.pp_text.specs.Bytes.{is_empty}
 use Rattle.pp_law.specs.Clients.{heard_by, text_limit, close_client}
 use Rattle.pp_law.specs.Connections.{client, conn, exchange, is_for, on_client, on_client_of, on_exchange, is_outstanding, front_of_line}
 use Rattle.pp_law.specs.Lists.{Bytes, first_some, is_some_with}
 use Rattle.pp_law.specs.Replies.{end_replies}
-use Rattle.pp_law.specs.State.{State, Client, Conn, Exchange, Owed, Free, ReadOf, WriteTo}
+use Rattle.pp_law.specs.State.{State, Client, Exchange, Owed, Free, ReadOf, WriteTo}
 
 -- ---- of a client
 

@@ -1,9 +1,9 @@
 -- The bytes of instances that are in memory, chunk by chunk, and which chunk goes first (ours: chunks of 4,096 bytes).
-use Rattle.std.specs.Prelude.{ℕ, zero, suc, ◌+◌, ◌-◌, ◌*◌, ◌/◌, ◌%◌, Bool, true, false, ◌==◌, ◌&&◌, ◌||◌, not, nat_lt, nat_le, min, List, [], ◌∷◌, ◌++◌, length, take, drop, map, find, filter_map, Option, Some, None}
+use Rattle.std.specs.Prelude.{ℕ, zero, suc, ◌+◌, ◌-◌, ◌/◌, ◌%◌, Bool, true, false, ◌==◌, ◌&&◌, ◌||◌, nat_lt, nat_le, min, List, [], ◌∷◌, ◌++◌, length, take, drop, map, find, Option, Some, None}
 use Rattle.pp_evict.specs.Victims.{victim_in}
 use Rattle.pp_pool.specs.Chunks.{Used}
 use Rattle.pp_text.specs.Bytes.{is_empty}
-use Rattle.pp_law.specs.Lists.{Bytes, without, is_some_with}
+use Rattle.pp_law.specs.Lists.{Bytes, without}
 use Rattle.pp_law.specs.State.{State, Chunk}
 
 abbrev pub chunk_len : ℕ

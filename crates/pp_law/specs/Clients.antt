@@ -1,10 +1,10 @@
 -- What is decided for a request, when that is due, and what ends a client (RFC 2616, sections 5, 8.1, 13 and 14; RFC 6585, section 5).
-use Rattle.std.specs.Prelude.{ℕ, ◌+◌, ◌-◌, ◌%◌, Bool, true, false, ◌==◌, ◌&&◌, ◌||◌, not, nat_lt, nat_le, List, [], ◌∷◌, ◌++◌, length, filter, find, drop, bytes_eq, is_some, Option, Some, None, option_map, Result, Ok, Err}
+use Rattle.std.specs.Prelude.{ℕ, ◌+◌, ◌-◌, ◌%◌, Bool, true, false, ◌==◌, ◌&&◌, ◌||◌, not, nat_le, List, [], ◌∷◌, ◌++◌, length, filter, find, drop, bytes_eq, is_some, Option, Some, None, option_map, Ok, Err}
 use Rattle.std.specs.Borrow.{Bor}
 use Rattle.std.specs.List.{list_any}
 use Rattle.pp_ask.specs.Texts.{ask_text}
 use Rattle.pp_ask.specs.declared.kind.AskKind.{AskKind}
-use Rattle.pp_ask.specs.declared.kind.AskKind.TheVariants.{Whole as AsWhole, Range as AsRange, Hole as AsHole, Check as AsCheck, Pass as AsPassed}
+use Rattle.pp_ask.specs.declared.kind.AskKind.TheVariants.{Whole as AsWhole, Range as AsRange, Check as AsCheck, Pass as AsPassed}
 use Rattle.pp_head.specs.Request.{Request}
 use Rattle.pp_plan.specs.Decision.{decision}
 use Rattle.pp_plan.specs.Fetch.{fetch_range}
@@ -17,17 +17,16 @@ use Rattle.pp_ranges.specs.declared.range.Range.TheVariants.{Span, From, Last}
 use Rattle.pp_reply.specs.Keeping.{interim}
 use Rattle.pp_reply.specs.Texts.{page}
 use Rattle.pp_target.specs.Key.{Key, text_of}
-use Rattle.pp_text.specs.Bytes.{is_empty}
 use Rattle.pp_world.specs.declared.note.Cause.{Cause}
 use Rattle.pp_world.specs.declared.note.Cause.TheVariants.{Superseded, Origin, Short, Idle, Memory, Stop}
 use Rattle.pp_world.specs.declared.note.Decision.{Decision}
 use Rattle.pp_world.specs.declared.note.Decision.TheVariants.{Refuse, Hit, Part, Head, NotModified, Unsatisfiable, Relay, Validate, Fetch, Pass}
-use Rattle.pp_law.specs.Connections.{conn, is_client, on_client, end_exchange, close_conn}
+use Rattle.pp_law.specs.Connections.{conn, on_client, end_exchange, close_conn}
 use Rattle.pp_law.specs.Lists.{Bytes, first_some, has_number, is_some_with, is_this}
-use Rattle.pp_law.specs.Requests.{Parsed, Front, NoHeadYet, NoHead, IsRequest, front_of, behind_head, body_len, has_request, refusal_of, key_in, keeps_after, asks_head, expects_interim}
+use Rattle.pp_law.specs.Requests.{Parsed, NoHeadYet, NoHead, IsRequest, front_of, behind_head, body_len, has_request, refusal_of, key_in, keeps_after, asks_head, expects_interim}
 use Rattle.pp_law.specs.Responses.{skipping}
-use Rattle.pp_law.specs.State.{State, Aim, Through, Own, Filling, Client, Exchange, Instance, Stage, Undecided, Waiting, Passing, Answering, Reply}
-use Rattle.pp_law.specs.Table.{row, row_for, source_of, next_of, Next, is_provided, swept, mark_row, enter, must_forget}
+use Rattle.pp_law.specs.State.{State, Through, Own, Filling, Client, Exchange, Instance, Stage, Undecided, Waiting, Passing, Answering, Reply}
+use Rattle.pp_law.specs.Table.{row, row_for, source_of, next_of, is_provided, swept, mark_row, enter, must_forget}
 
 -- ---- what a client sends
 
@@ -211,12 +210,27 @@ is_idle s c = s.is_ticked && nat_le 120 (s.clock - c.mark)
 -- the first cause of a cut that applies
 abbrev pub cut_in : State → Client → Option Cause
 cut_in s c =
-    elim (s.is_stopped && is_begun c) [ true ↦ Some Stop | false ↦
-    elim (is_begun c && is_short c) [ true ↦ Some Short | false ↦
-    elim (is_begun c && is_superseded s c) [ true ↦ Some Superseded | false ↦
-    elim (is_begun c && (c.has_failed || c.is_too_long)) [ true ↦ Some Origin | false ↦
-    elim (is_idle s c) [ true ↦ Some Idle | false ↦
-    elim (is_begun c && has_number c.number s.refused) [ true ↦ Some Memory | false ↦ None ] ] ] ] ] ]
+    elim (s.is_stopped && is_begun c) [
+      | true ↦ Some Stop
+      | false ↦
+          elim (is_begun c && is_short c) [
+            | true ↦ Some Short
+            | false ↦
+                elim (is_begun c && is_superseded s c) [
+                  | true ↦ Some Superseded
+                  | false ↦
+                      elim (is_begun c && (c.has_failed || c.is_too_long)) [
+                        | true ↦ Some Origin
+                        | false ↦
+                            elim (is_idle s c) [
+                              | true ↦ Some Idle
+                              | false ↦
+                                  elim (is_begun c && has_number c.number s.refused) [ true ↦ Some Memory | false ↦ None ]
+                            ]
+                      ]
+                ]
+          ]
+    ]
 
 abbrev pub due_cut : State → Client → Option Cause
 due_cut s c = elim c.is_closing [ true ↦ None | false ↦ cut_in s c ]
@@ -322,7 +336,11 @@ is_moved_in (Some (Last n)) = false
 
 abbrev pub new_exchange : State → Client → Request → Key → Decision → AskKind → Exchange
 new_exchange s c head key d kind = record {
-  number = s.next_exchange; client = c.number; request = c.index; head = head; key = key;
+  number = s.next_exchange;
+  client = c.number;
+  request = c.index;
+  head = head;
+  key = key;
   aim = elim (is_pass d) [ true ↦ Through | false ↦ Own ];
   named = tag_named (row_for s head (text_of key)) d;
   is_ranged = is_range kind;
@@ -330,7 +348,10 @@ new_exchange s c head key d kind = record {
   text = text_for s head key kind;
   asked = 0;
   body_left = elim (is_pass d) [ true ↦ c.body_left | false ↦ 0 ];
-  requested = 0; place = None; is_headed = false; bound = None;
+  requested = 0;
+  place = None;
+  is_headed = false;
+  bound = None;
 }
 
 abbrev pub stage_for : Decision → ℕ → Stage
@@ -339,7 +360,13 @@ stage_for d n = Waiting n
 
 abbrev pub asking_with : Decision → ℕ → Client → Client
 asking_with d n c = record c {
-  interim_left = first_interim c; stage = stage_for d n; begun = Nothing; settled = None; is_told = false; has_plain_age = false; passed = None;
+  interim_left = first_interim c;
+  stage = stage_for d n;
+  begun = Nothing;
+  settled = None;
+  is_told = false;
+  has_plain_age = false;
+  passed = None;
 }
 
 unfoldable pub ask_for : Client → Decision → Request → Key → AskKind → State → State

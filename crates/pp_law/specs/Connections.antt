@@ -5,7 +5,7 @@ use Rattle.pp_peers.specs.Placing.{place}
 use Rattle.pp_peers.specs.declared.peers.Peer.{Peer}
 use Rattle.pp_peers.specs.declared.placing.Placed.{Placed}
 use Rattle.pp_peers.specs.declared.placing.Placed.TheVariants.{On, Dial, CloseThenDial, Wait}
-use Rattle.pp_law.specs.Lists.{Bytes, change, without, is_some_with}
+use Rattle.pp_law.specs.Lists.{change, without, is_some_with}
 use Rattle.pp_law.specs.Requests.{goes_alone}
 use Rattle.pp_law.specs.State.{State, Client, Conn, Exchange, Passed}
 

@@ -1,5 +1,5 @@
 -- The entries of a folder: files whose head block, gates and name agree.
-use Rattle.std.specs.Prelude.{ℕ, ◌+◌, Bool, true, false, ◌&&◌, nat_le, List, [], ◌∷◌, length, take, drop, min, filter_map, bytes_eq, Option, Some, None, option_and_then}
+use Rattle.std.specs.Prelude.{ℕ, ◌+◌, true, false, ◌&&◌, nat_le, List, length, take, drop, filter_map, bytes_eq, Option, Some, None, option_and_then}
 use Rattle.pp_entry.specs.Entries.{Row, row_at}
 use Rattle.pp_entry.specs.Gates.{extent_of}
 use Rattle.pp_entry.specs.Texts.{body_at, chunks_of}

@@ -1,5 +1,5 @@
 -- What followers ask for: bytes that are not there and do not come (RFC 7233, sections 3.2 and 4.3; ours: chunk by chunk).
-use Rattle.std.specs.Prelude.{ℕ, ◌+◌, ◌-◌, ◌*◌, ◌/◌, Bool, true, false, ◌==◌, ◌&&◌, ◌||◌, not, nat_le, List, [], ◌∷◌, length, filter, is_some, Option, Some, None, Result, Ok, Err}
+use Rattle.std.specs.Prelude.{ℕ, ◌+◌, ◌-◌, ◌*◌, ◌/◌, Bool, true, false, ◌&&◌, ◌||◌, not, List, [], ◌∷◌, is_some, Option, Some, None, Ok, Err}
 use Rattle.std.specs.List.{list_any}
 use Rattle.pp_ask.specs.declared.kind.AskKind.TheVariants.{Hole as AsHole}
 use Rattle.pp_head.specs.Request.{Request}
@@ -9,8 +9,8 @@ use Rattle.pp_law.specs.Chunks.{chunk_len}
 use Rattle.pp_law.specs.Clients.{fits, lent, text_for, begin_exchange}
 use Rattle.pp_law.specs.Connections.{on_client, is_for}
 use Rattle.pp_law.specs.Lists.{Bytes, is_some_with, without}
-use Rattle.pp_law.specs.Requests.{Parsed, Front, NoHeadYet, NoHead, IsRequest}
-use Rattle.pp_law.specs.State.{State, Aim, Through, Own, Filling, Client, Exchange}
+use Rattle.pp_law.specs.Requests.{NoHeadYet, NoHead, IsRequest}
+use Rattle.pp_law.specs.State.{State, Through, Own, Filling, Client, Exchange}
 use Rattle.pp_law.specs.Table.{next_of, Next, is_brought, brings, held_to, next_held, chunks_in}
 
 -- ---- step 5
@@ -34,11 +34,22 @@ hole_text s head key n span = text_for s head key (AsHole span.0 (span.1 - 1) (l
 
 abbrev pub filling_exchange : State → Client → Request → Key → Next → ℕ × ℕ → Exchange
 filling_exchange s c head key n span = record {
-  number = s.next_exchange; client = c.number; request = c.index; head = head; key = key;
+  number = s.next_exchange;
+  client = c.number;
+  request = c.index;
+  head = head;
+  key = key;
   aim = Filling n.source.version span.0 span.1;
-  named = Some n.source.version.tag; is_ranged = true; is_moved = false;
+  named = Some n.source.version.tag;
+  is_ranged = true;
+  is_moved = false;
   text = hole_text s head key n span;
-  asked = 0; body_left = 0; requested = 0; place = None; is_headed = false; bound = None;
+  asked = 0;
+  body_left = 0;
+  requested = 0;
+  place = None;
+  is_headed = false;
+  bound = None;
 }
 
 unfoldable pub fill_with : Exchange → Client → State → State

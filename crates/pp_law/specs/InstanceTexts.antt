@@ -1,6 +1,6 @@
 -- The heads of replies that are made from an instance (RFC 2616, sections 6, 10.2.7, 10.3.5, 10.4.17 and 14.6; RFC 7232, section 4.1;
 -- RFC 7233, sections 4.1 and 4.2).
-use Rattle.std.specs.Prelude.{ℕ, ◌+◌, ◌-◌, Bool, true, false, ◌||◌, List, [], ◌∷◌, ◌++◌, filter, length, codes, decimal, Option, Some, None}
+use Rattle.std.specs.Prelude.{ℕ, ◌+◌, ◌-◌, Bool, List, [], ◌∷◌, ◌++◌, filter, length, codes, decimal, Option, Some, None}
 use Rattle.std.specs.List.{list_any}
 use Rattle.pp_reply.specs.Texts.{connection_line, length_line, line, via_line}
 use Rattle.pp_text.specs.Fields.{Field, is_named}

@@ -1,5 +1,5 @@
 -- A lawful log, and the first happening that makes a log unlawful.
-use Rattle.std.specs.Prelude.{◌≡◌, ℕ, ◌+◌, Bool, true, false, List, [], ◌∷◌, ◌++◌, Option, Some, None}
+use Rattle.std.specs.Prelude.{◌≡◌, ℕ, ◌+◌, true, false, List, [], ◌∷◌, ◌++◌, Option, Some, None}
 use Rattle.std.specs.List.{list_all}
 use Rattle.pp_world.specs.declared.event.Wants.{Wants}
 use Rattle.pp_world.specs.declared.happening.Happening.{Happening}
@@ -32,10 +32,19 @@ pub data Rule : Type 0 where
 -- of a wait, the first part of the test that fails
 abbrev pub served_rule : State → Wants → Rule
 served_rule s w =
-    elim (accepts_rightly s w) [ false ↦ AcceptsWrongly | true ↦
-    elim (list_all (is_client_served s w) s.clients) [ false ↦ ClientForgotten | true ↦
-    elim (list_all (is_conn_served s w) s.conns) [ false ↦ ConnectionForgotten | true ↦
-    elim (list_all (is_exchange_served s w) s.exchanges) [ false ↦ ExchangeForgotten | true ↦ WantsTooMuch ] ] ] ]
+    elim (accepts_rightly s w) [
+      | false ↦ AcceptsWrongly
+      | true ↦
+          elim (list_all (is_client_served s w) s.clients) [
+            | false ↦ ClientForgotten
+            | true ↦
+                elim (list_all (is_conn_served s w) s.conns) [
+                  | false ↦ ConnectionForgotten
+                  | true ↦
+                      elim (list_all (is_exchange_served s w) s.exchanges) [ false ↦ ExchangeForgotten | true ↦ WantsTooMuch ]
+                ]
+          ]
+    ]
 
 abbrev pub wait_rule : State → Wants → Rule
 wait_rule s w = elim (may_wait s) [ false ↦ StepUnfinished | true ↦ served_rule (waiting s) w ]

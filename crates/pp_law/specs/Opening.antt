@@ -1,10 +1,10 @@
 -- How a life begins: the files that it finds, its words and settings, and the order of its first calls. All of it is ours.
 use Rattle.std.specs.Prelude.{ℕ, ◌+◌, Bool, true, false, ◌==◌, ◌&&◌, ◌||◌, not, nat_lt, nat_le, List, [], ◌∷◌, ◌++◌, length, map, flat_map, is_some, bytes_eq, Option, Some, None, Result, Ok, Err}
 use Rattle.std.specs.List.{list_any, list_all}
-use Rattle.pp_conf.specs.Conf.{Settings, defaults}
-use Rattle.pp_conf.specs.Words.{file_of, has_reading, reading_of, seed_of, Told, Serves, ShowsDemo, Refusal}
+use Rattle.pp_conf.specs.Conf.{Settings}
+use Rattle.pp_conf.specs.Words.{file_of, has_reading, reading_of, Told, Serves, ShowsDemo, Refusal}
 use Rattle.pp_text.specs.Bytes.{is_empty}
-use Rattle.pp_world.specs.Disk.{Stored, View, view_of, is_left}
+use Rattle.pp_world.specs.Disk.{Stored, view_of, is_loose}
 use Rattle.pp_world.specs.Files.{Files, file_of as file_in}
 use Rattle.pp_world.specs.Log.{Log}
 use Rattle.pp_world.specs.declared.happening.Happening.{Happening}
@@ -12,7 +12,7 @@ use Rattle.pp_world.specs.declared.happening.Happening.TheVariants.{Woke, Began}
 use Rattle.pp_world.specs.declared.op.DiskOp.{DiskOp}
 use Rattle.pp_world.specs.declared.op.DiskOp.TheVariants.{Draft, SyncDraft, Publish, Write, Sync, Remove}
 use Rattle.pp_law.specs.Entries.{entries_in}
-use Rattle.pp_law.specs.Lists.{Bytes, is_some_with}
+use Rattle.pp_law.specs.Lists.{Bytes, has_text, is_some_with}
 use Rattle.pp_law.specs.Store.{is_idle_disk, has_stray_gates, lose_entry}
 use Rattle.pp_law.specs.State.{State, Term, no_term, start, Phase, Before, IsWoken, IsConfigured, IsRooted, IsListed, IsListening, IsStuck, Step}
 
@@ -22,11 +22,24 @@ use Rattle.pp_law.specs.State.{State, Term, no_term, start, Phase, Before, IsWok
 abbrev pub is_first_image : Files → Bool
 is_first_image image = nat_le (length image) 1000 && is_empty (entries_in image)
 
+-- each byte below the synced length is as it was, but in loose ranges: `same_below` of pp_world, in one pass
+abbrev pub is_as_it_was : ℕ → Stored → Bytes → Bytes → Bool
+is_as_it_was at f [] bytes = true
+is_as_it_was at f (b ∷ was) [] = nat_le f.synced at
+is_as_it_was at f (b ∷ was) (c ∷ bytes) = elim (nat_lt at f.synced) [
+  | true ↦ ((b == c) || is_loose at f.loose) && is_as_it_was (at + 1) f was bytes
+  | false ↦ true
+]
+
+-- `is_left` of pp_world
+abbrev pub leaves : Stored → Bytes → Bool
+leaves f bytes = nat_le f.synced (length bytes) && nat_le (length bytes) f.end && is_as_it_was 0 f f.bytes bytes
+
 abbrev pub leaves_one : Option Bytes → Option Stored → Bool
 leaves_one None None = true
 leaves_one None (Some f) = false
 leaves_one (Some bytes) None = false
-leaves_one (Some bytes) (Some f) = is_left f bytes
+leaves_one (Some bytes) (Some f) = leaves f bytes
 
 abbrev pub leaves_under : Log → Files → Bytes → Bool
 leaves_under log image name = list_any (leaves_one (file_in name image)) (view_of name log).slot
@@ -44,9 +57,13 @@ names_of (Woke image) = map (λ file. file.0) image
 names_of (Began op) = named_by op
 names_of happening = []
 
+abbrev pub once : List Bytes → List Bytes → List Bytes
+once seen [] = seen
+once seen (name ∷ names) = once (elim (has_text name seen) [ true ↦ seen | false ↦ name ∷ seen ]) names
+
 -- `IsLeftBehind` of pp_world, as a test: any other name has had no file
 abbrev pub is_left_behind : Log → Files → Bool
-is_left_behind log image = list_all (leaves_under log image) (flat_map names_of log ++ map (λ file. file.0) image)
+is_left_behind log image = list_all (leaves_under log image) (once [] (flat_map names_of log ++ map (λ file. file.0) image))
 
 abbrev pub permits_image : Phase → Log → Files → Bool
 permits_image Before log image = is_first_image image
@@ -88,8 +105,12 @@ begun s = elim (names_file s.term) [
 -- memory is empty, and each entry is a kept row
 unfoldable pub woken : Files → State → State
 woken image s = begun (record (start (terms_behind s.terms)) {
-  sent = s.sent; acknowledged = s.acknowledged; top = s.top; term = term_in s.terms;
-  disk = Woke image ∷ []; entries = entries_in image;
+  sent = s.sent;
+  acknowledged = s.acknowledged;
+  top = s.top;
+  term = term_in s.terms;
+  disk = Woke image ∷ [];
+  entries = entries_in image;
 })
 
 -- ---- the calls, in their order

@@ -1,5 +1,5 @@
 -- What the head of a response does to the row of its key (RFC 2616, sections 10.3.5, 13.5, 13.10 and 13.11; RFC 7233, sections 4.1 and 4.3).
-use Rattle.std.specs.Prelude.{ℕ, ◌+◌, ◌-◌, Bool, true, false, ◌==◌, ◌&&◌, ◌||◌, not, nat_lt, nat_le, nat_eq, List, [], ◌∷◌, length, bytes_eq, is_some, codes, Option, Some, None}
+use Rattle.std.specs.Prelude.{ℕ, ◌+◌, Bool, true, false, ◌==◌, ◌&&◌, ◌||◌, not, nat_lt, nat_le, nat_eq, List, ◌∷◌, length, bytes_eq, is_some, codes, Option, Some, None}
 use Rattle.std.specs.List.{list_any, starts_with}
 use Rattle.pp_fresh.specs.Age.{times_of}
 use Rattle.pp_fresh.specs.declared.aging.Times.{Times}
@@ -10,7 +10,7 @@ use Rattle.pp_plan.specs.declared.table.Begun.{Begun}
 use Rattle.pp_plan.specs.declared.table.Begun.TheVariants.{Nothing, Settled, Other, Widened}
 use Rattle.pp_target.specs.Key.{text_of}
 use Rattle.pp_text.specs.Bytes.{is_empty, lower}
-use Rattle.pp_text.specs.Fields.{Field, has_field, values_of}
+use Rattle.pp_text.specs.Fields.{has_field, values_of}
 use Rattle.pp_valid.specs.ContentRanges.{content_range_of}
 use Rattle.pp_valid.specs.Versions.{version_of}
 use Rattle.pp_valid.specs.declared.content_range.ContentRange.{ContentRange}
@@ -21,8 +21,8 @@ use Rattle.pp_law.specs.Connections.{on_exchange, on_client_of, is_for, lose_att
 use Rattle.pp_law.specs.Lists.{Bytes, is_some_with}
 use Rattle.pp_law.specs.Passing.{pass_on}
 use Rattle.pp_law.specs.Requests.{is_safe}
-use Rattle.pp_law.specs.State.{State, Aim, Through, Own, Filling, Bound, Client, Entry, Exchange, Instance, Sent}
-use Rattle.pp_law.specs.Table.{is_same_version, row, kept_row, instance, extent_of, on_instance, mark_row, make_row, enter, clear, next_of, Next, is_provided}
+use Rattle.pp_law.specs.State.{State, Through, Own, Filling, Bound, Client, Exchange, Instance, Sent}
+use Rattle.pp_law.specs.Table.{is_same_version, row, kept_row, instance, extent_of, on_instance, mark_row, make_row, enter, clear, next_of, is_provided}
 
 abbrev pub key_of : Exchange → Bytes
 key_of e = text_of e.key

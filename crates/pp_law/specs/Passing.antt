@@ -1,5 +1,5 @@
 -- A response that is passed to a client, spelled anew (RFC 2616, sections 3.6.1 and 13.5).
-use Rattle.std.specs.Prelude.{ℕ, Bool, true, false, ◌==◌, not, List, Option, Some, None}
+use Rattle.std.specs.Prelude.{ℕ, Bool, true, false, ◌==◌, not, Some}
 use Rattle.pp_framing.specs.declared.body.BodyRule.{BodyRule}
 use Rattle.pp_framing.specs.declared.body.BodyRule.TheVariants.{Empty, Length, Chunked, ToEnd}
 use Rattle.pp_head.specs.Response.{Response}

@@ -15,12 +15,12 @@ use Rattle.pp_world.specs.declared.op.DiskOp.{DiskOp}
 use Rattle.pp_law.specs.Asking.{is_reading, is_writing, permits_heard, permits_got, permits_asked}
 use Rattle.pp_law.specs.Chunks.{chunk_len, is_in_memory}
 use Rattle.pp_law.specs.Clients.{Due, Decide, CutOff, first_due, is_for_memory, has_to_forget}
-use Rattle.pp_law.specs.Connections.{client, conn, is_client, is_conn, placing, Placement, Pause, AllPlaced, WaitsDial, WaitsDrop}
+use Rattle.pp_law.specs.Connections.{client, conn, is_client, is_conn, placing, Pause, AllPlaced, WaitsDial, WaitsDrop}
 use Rattle.pp_law.specs.Lists.{Bytes, is_some_with}
 use Rattle.pp_law.specs.Opening.{permits_woke, permits_configured, permits_rooted, permits_listens, is_at, is_opening, may_fail}
 use Rattle.pp_law.specs.Replies.{offer, is_at_body}
 use Rattle.pp_law.specs.Served.{is_served}
-use Rattle.pp_law.specs.State.{State, Client, Conn, Instance, Phase, IsRooted, IsListed, IsListening}
+use Rattle.pp_law.specs.State.{State, Client, Instance, IsRooted, IsListed, IsListening}
 use Rattle.pp_law.specs.Store.{is_idle_disk, is_named, is_acknowledged_as, may_note_gone, may_begin_op, may_end_op}
 use Rattle.pp_law.specs.Table.{row, kept_row, instance, idle_row, extent_of, next_of, Next}
 use Rattle.pp_law.specs.Turn.{step, due_victim, is_awaiting, has_closings, to_3, to_6, to_decide, may_3, may_6, may_decide, may_end, ending}

@@ -1,7 +1,7 @@
 -- How a reply begins, goes on and ends, and the request behind it (RFC 2616, sections 6, 8.1.2.2, 8.2.3 and 13).
-use Rattle.std.specs.Prelude.{ℕ, ◌+◌, ◌-◌, ◌/◌, ◌%◌, Bool, true, false, ◌==◌, ◌&&◌, ◌||◌, not, nat_lt, List, [], ◌∷◌, ◌++◌, length, take, drop, map, Option, Some, None}
+use Rattle.std.specs.Prelude.{ℕ, ◌+◌, ◌-◌, ◌/◌, ◌%◌, Bool, true, false, ◌==◌, ◌&&◌, ◌||◌, not, nat_lt, List, [], ◌∷◌, length, take, drop, map, Option, Some, None}
 use Rattle.pp_fresh.specs.Age.{age_of}
-use Rattle.pp_pass.specs.Pipe.{Pipe, without_first}
+use Rattle.pp_pass.specs.Pipe.{without_first}
 use Rattle.pp_plan.specs.Requests.{is_head}
 use Rattle.pp_plan.specs.Spans.{resolved}
 use Rattle.pp_plan.specs.declared.table.Begun.TheVariants.{Nothing}
@@ -11,14 +11,14 @@ use Rattle.pp_reply.specs.Keeping.{is_end_known}
 use Rattle.pp_reply.specs.Texts.{passed_head}
 use Rattle.pp_text.specs.Bytes.{is_empty}
 use Rattle.pp_world.specs.declared.note.Decision.{Decision}
-use Rattle.pp_world.specs.declared.note.Decision.TheVariants.{Refuse, Hit, Part, Head, NotModified, Unsatisfiable, Relay, Validate, Fetch, Pass}
+use Rattle.pp_world.specs.declared.note.Decision.TheVariants.{Hit, Part, Head, NotModified, Unsatisfiable, Pass}
 use Rattle.pp_law.specs.Chunks.{chunk_len, chunk_bytes, use_chunk}
-use Rattle.pp_law.specs.Clients.{close_client, is_passing, reply_of, is_begun, with_front}
+use Rattle.pp_law.specs.Clients.{close_client, is_passing, reply_of, with_front}
 use Rattle.pp_law.specs.Connections.{on_client, on_passed}
 use Rattle.pp_law.specs.InstanceTexts.{whole_head, part_head, not_modified_head, unsatisfiable_page}
 use Rattle.pp_law.specs.Lists.{Bytes, is_some_with, is_this}
-use Rattle.pp_law.specs.Requests.{Parsed, Front, NoHeadYet, NoHead, IsRequest, keeps_open, has_request}
-use Rattle.pp_law.specs.State.{State, Client, Instance, Passed, Stage, Undecided, Waiting, Passing, Answering, Reply}
+use Rattle.pp_law.specs.Requests.{Parsed, NoHeadYet, NoHead, IsRequest, keeps_open, has_request}
+use Rattle.pp_law.specs.State.{State, Client, Instance, Passed, Undecided, Waiting, Passing, Answering, Reply}
 use Rattle.pp_law.specs.Table.{source_of, next_of, Next, is_held, is_next_held, swept}
 
 -- ---- a reply begins at the end of a turn
@@ -26,9 +26,12 @@ use Rattle.pp_law.specs.Table.{source_of, next_of, Next, is_held, is_next_held, 
 -- the head of a passed response, for the client of this request
 abbrev pub passed_reply : State → Parsed → Passed → Decision → Reply
 passed_reply s r p d = record {
-  decision = d; source = None; has_begun = true;
+  decision = d;
+  source = None;
+  has_begun = true;
   head_left = passed_head p.head p.rule r.head.minor (is_head r.head.method) s.settings.name (keeps_open r);
-  at = 0; to = 0;
+  at = 0;
+  to = 0;
 }
 
 abbrev pub begun_passed : State → Parsed → Decision → Client → Client
@@ -161,9 +164,23 @@ is_said c = is_empty c.interim_left && is_some_with (λ r. r.has_begun && is_emp
 -- behind the request and its body
 abbrev pub next_request : Client → Client
 next_request c = with_front (record c {
-  front = NoHeadYet; heard = drop c.body_left c.heard; skip = c.skip + (c.body_left - length c.heard); body_left = 0;
-  index = c.index + 1; stage = Undecided; waits_on = None; passed = None; begun = Nothing; settled = None; is_told = false;
-  has_plain_age = false; lost = 0; has_failed = false; is_too_long = false; interim_left = []; closes = false;
+  front = NoHeadYet;
+  heard = drop c.body_left c.heard;
+  skip = c.skip + (c.body_left - length c.heard);
+  body_left = 0;
+  index = c.index + 1;
+  stage = Undecided;
+  waits_on = None;
+  passed = None;
+  begun = Nothing;
+  settled = None;
+  is_told = false;
+  has_plain_age = false;
+  lost = 0;
+  has_failed = false;
+  is_too_long = false;
+  interim_left = [];
+  closes = false;
 })
 
 unfoldable pub end_reply : Client → State → State

@@ -1,5 +1,5 @@
 -- Requests, one behind the other on the connection of a client (RFC 2616, sections 5, 4.4 and 8.2.3).
-use Rattle.std.specs.Prelude.{ℕ, ◌+◌, ◌-◌, Bool, true, false, ◌&&◌, ◌||◌, not, nat_lt, List, [], ◌∷◌, length, drop, is_ok, bytes_eq, codes, Option, Some, None, Result, Ok, Err}
+use Rattle.std.specs.Prelude.{ℕ, Bool, true, false, ◌&&◌, ◌||◌, not, nat_lt, drop, is_ok, bytes_eq, codes, Option, Some, None, Result, Ok, Err}
 use Rattle.pp_framing.specs.Framing.{request_rule_of}
 use Rattle.pp_framing.specs.declared.body.BodyRule.{BodyRule}
 use Rattle.pp_framing.specs.declared.body.BodyRule.TheVariants.{Empty, Length, Chunked, ToEnd}

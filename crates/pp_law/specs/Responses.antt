@@ -1,15 +1,13 @@
 -- Responses on a connection, in the order of its line, and what becomes of their bytes (RFC 2616, sections 4.4, 6, 8.1 and 10.1).
-use Rattle.std.specs.Prelude.{ℕ, zero, suc, ◌+◌, ◌-◌, Bool, true, false, ◌==◌, ◌&&◌, ◌||◌, not, nat_le, nat_lt, List, [], ◌∷◌, ◌++◌, length, drop, codes, Option, Some, None, Result, Ok, Err}
-use Rattle.pp_framing.specs.Body.{Body, Outcome, Done, Going, Bad}
+use Rattle.std.specs.Prelude.{ℕ, zero, suc, ◌+◌, ◌-◌, Bool, true, false, ◌==◌, ◌&&◌, ◌||◌, not, nat_le, nat_lt, [], ◌++◌, length, drop, codes, Some, None, Ok, Err}
+use Rattle.pp_framing.specs.Body.{Done, Going, Bad}
 use Rattle.pp_framing.specs.Framing.{rule_of}
 use Rattle.pp_framing.specs.Rules.{body_of, ending_in}
 use Rattle.pp_framing.specs.declared.body.BodyRule.{BodyRule}
-use Rattle.pp_framing.specs.declared.body.BodyRule.TheVariants.{Empty, Length, Chunked, ToEnd}
-use Rattle.pp_framing.specs.declared.body.Ending.{Ending}
 use Rattle.pp_framing.specs.declared.body.Ending.TheVariants.{Whole as IsWhole, Short as IsShort}
-use Rattle.pp_head.specs.Read.{Read, Whole, TooLong, Bad as NoHead, More}
+use Rattle.pp_head.specs.Read.{Whole, TooLong, Bad as NoHead, More}
 use Rattle.pp_head.specs.Response.{Response, response_at}
-use Rattle.pp_pass.specs.Pipe.{Pipe, finished}
+use Rattle.pp_pass.specs.Pipe.{finished}
 use Rattle.pp_plan.specs.Requests.{is_head}
 use Rattle.pp_reply.specs.Keeping.{is_old}
 use Rattle.pp_text.specs.Bytes.{is_empty}
@@ -18,7 +16,7 @@ use Rattle.pp_law.specs.Connections.{conn, on_conn, on_client_of, front_of_line,
 use Rattle.pp_law.specs.Lists.{Bytes, is_some_with}
 use Rattle.pp_law.specs.OwnHeads.{is_wrong_head, through_head, own_head, filling_head, note_sent, join_bound}
 use Rattle.pp_law.specs.Passing.{pour, poured}
-use Rattle.pp_law.specs.State.{State, Aim, Through, Own, Filling, Answer, Client, Conn, Exchange, Passed}
+use Rattle.pp_law.specs.State.{State, Through, Own, Filling, Answer, Client, Conn, Exchange}
 
 -- ---- ends
 

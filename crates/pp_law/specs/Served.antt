@@ -7,12 +7,12 @@ use Rattle.pp_text.specs.Bytes.{is_empty}
 use Rattle.pp_world.specs.declared.event.Wants.{Wants}
 use Rattle.pp_law.specs.Asking.{has_room, left_to_ask, room_for}
 use Rattle.pp_law.specs.Chunks.{chunk_len}
-use Rattle.pp_law.specs.Connections.{client, exchange, is_client, is_conn, is_for, is_outstanding, front_of_line, place_for}
+use Rattle.pp_law.specs.Connections.{exchange, is_client, is_conn, is_outstanding, front_of_line, place_for}
 use Rattle.pp_law.specs.Lists.{has_number, is_some_with}
 use Rattle.pp_law.specs.Replies.{offer, is_at_body}
 use Rattle.pp_law.specs.Requests.{has_request}
 use Rattle.pp_law.specs.State.{State, Bound, Client, Conn, Exchange}
-use Rattle.pp_law.specs.Table.{instance, next_of, Next, is_held, is_next_held}
+use Rattle.pp_law.specs.Table.{instance, next_of, is_held, is_next_held}
 use Rattle.pp_law.specs.Turn.{waits_for_exchange}
 
 abbrev pub wants_read : Wants → ℕ → Bool

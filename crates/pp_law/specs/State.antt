@@ -1,5 +1,5 @@
 -- What a log says so far: of all lives, of this life, and of this turn. `after` takes it over one happening.
-use Rattle.std.specs.Prelude.{ℕ, Bool, true, false, List, [], ◌∷◌, Option, Some, None, Result, Ok, Err}
+use Rattle.std.specs.Prelude.{ℕ, Bool, false, List, [], Option, None}
 use Rattle.pp_conf.specs.Conf.{Settings, defaults}
 use Rattle.pp_fresh.specs.declared.aging.Times.{Times}
 use Rattle.pp_framing.specs.declared.body.BodyRule.{BodyRule}
@@ -222,9 +222,35 @@ no_term = record { words = []; faults = 0 }
 
 abbrev pub start : List Term → State
 start terms = record {
-  sent = []; acknowledged = []; disk = []; top = 0; terms = terms;
-  term = no_term; settings = defaults; phase = Before; clock = 0; has_ticked = false; failures = 0;
-  clients = []; conns = []; exchanges = []; next_exchange = 0; instances = []; next_instance = 0; chunks = []; uses = 0;
-  entries = []; closed_names = []; under_way = None; displaced = [];
-  is_ticked = false; is_stopped = false; owed = Free; is_evicting = false; forgotten = []; agenda = []; is_again = false; refused = [];
+  sent = [];
+  acknowledged = [];
+  disk = [];
+  top = 0;
+  terms = terms;
+  term = no_term;
+  settings = defaults;
+  phase = Before;
+  clock = 0;
+  has_ticked = false;
+  failures = 0;
+  clients = [];
+  conns = [];
+  exchanges = [];
+  next_exchange = 0;
+  instances = [];
+  next_instance = 0;
+  chunks = [];
+  uses = 0;
+  entries = [];
+  closed_names = [];
+  under_way = None;
+  displaced = [];
+  is_ticked = false;
+  is_stopped = false;
+  owed = Free;
+  is_evicting = false;
+  forgotten = [];
+  agenda = [];
+  is_again = false;
+  refused = [];
 }

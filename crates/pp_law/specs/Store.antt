@@ -1,6 +1,6 @@
 -- Entries on disk: how they are drafted, sealed, taken away and read back. The format and the order are ours; what a crash may leave
 -- of them is pp_world's, and the operations of each step are pp_gate's.
-use Rattle.std.specs.Prelude.{ℕ, zero, suc, ◌+◌, ◌-◌, ◌*◌, ◌/◌, Bool, true, false, ◌==◌, ◌&&◌, ◌||◌, not, nat_lt, nat_le, min, List, [], ◌∷◌, ◌++◌, length, take, drop, map, find, filter_map, bytes_eq, is_some, Option, Some, None}
+use Rattle.std.specs.Prelude.{ℕ, zero, suc, ◌+◌, ◌-◌, ◌*◌, ◌/◌, Bool, true, false, ◌==◌, ◌&&◌, ◌||◌, not, nat_lt, nat_le, min, List, [], ◌∷◌, ◌++◌, length, take, drop, map, find, bytes_eq, is_some, Option, Some, None}
 use Rattle.std.specs.List.{list_any, list_all}
 use Rattle.pp_entry.specs.Entries.{is_sized}
 use Rattle.pp_entry.specs.Gates.{leading_open}
@@ -9,13 +9,13 @@ use Rattle.pp_gate.specs.Gate.{fresh_file, publish_ops}
 use Rattle.pp_gate.specs.Seal.{seal_ops}
 use Rattle.pp_target.specs.Name.{name_of}
 use Rattle.pp_text.specs.Bytes.{is_empty}
-use Rattle.pp_world.specs.Disk.{Stored, View, view_of, bytes_in}
+use Rattle.pp_world.specs.Disk.{view_of, bytes_in}
 use Rattle.pp_world.specs.declared.happening.Happening.TheVariants.{Began, Did}
 use Rattle.pp_world.specs.declared.op.DiskOp.{DiskOp}
 use Rattle.pp_world.specs.declared.op.DiskOp.TheVariants.{Draft, SyncDraft, Publish, Write, Sync, Remove}
 use Rattle.pp_law.specs.Chunks.{chunk_len, chunk_bytes, filled, put_chunk, note_use}
 use Rattle.pp_law.specs.Lists.{Bytes, change, without, has_text, is_some_with}
-use Rattle.pp_law.specs.State.{State, Chunk, Entry, Instance, Owed, Free, Todo, Do, Enter, Acknowledge}
+use Rattle.pp_law.specs.State.{State, Entry, Instance, Todo, Do, Enter, Acknowledge}
 use Rattle.pp_law.specs.Table.{row, kept_row, is_same_version, is_entry_of, is_kept_row_of}
 
 abbrev pub is_same_op : DiskOp → DiskOp → Bool
@@ -44,7 +44,7 @@ has_free_name s name =
     not (list_any (is_named name) s.entries) && not (is_closed s name) && nat_lt (length s.entries + length s.closed_names) 10000
 
 abbrev pub may_draft : State → Instance → Bool
-may_draft s x = not x.is_retired && is_sized x.version.length && fits x.fields (block_of x) && has_free_name s (name_of x.key)
+may_draft s x = elim (not x.is_retired && is_sized x.version.length && fits x.fields (block_of x)) [ true ↦ has_free_name s (name_of x.key) | false ↦ false ]
 
 abbrev pub file_of : Instance → Bytes
 file_of x = fresh_file (padded (block_of x)) x.version.length
@@ -89,17 +89,24 @@ sealing s x e count =
     map Do (seal_ops e.name x.version.length first count (run_bytes count s x first))
     ++ Acknowledge x.key x.version.tag x.version.length (end_of_run x e count) ∷ []
 
+-- how many chunks the next run has
+abbrev pub run_from : State → Instance → Entry → ℕ
+run_from s x e = whole_run s.settings.disk_run s x (e.extent / chunk_len)
+
 abbrev pub seal_with : State → Instance → Entry → Option (List Todo)
 seal_with s x e =
-    let count = whole_run s.settings.disk_run s x (e.extent / chunk_len) in
+    let count = run_from s x e in
     elim (may_seal s x e && is_full_run s x e count) [ true ↦ Some (sealing s x e count) | false ↦ None ]
 
 abbrev pub seal_of : State → Instance → Option (List Todo)
 seal_of s x = elim (kept_row s x.key) [ None ↦ None | Some e ↦ seal_with s x e ]
 
+abbrev pub is_due_to_seal : State → Instance → Bool
+is_due_to_seal s x = is_some_with (λ e. may_seal s x e && is_full_run s x e (run_from s x e)) (kept_row s x.key)
+
 -- what is whole and not kept is sealed before the turn ends
 abbrev pub has_to_seal : State → Bool
-has_to_seal s = list_any (λ x. is_some (seal_of s x)) s.instances
+has_to_seal s = list_any (is_due_to_seal s) s.instances
 
 -- ---- an entry is noted as gone, and taken away
 
@@ -173,16 +180,20 @@ is_first_todo op (Do next ∷ todo) = is_same_op next op
 is_first_todo op (Enter e ∷ todo) = false
 is_first_todo op (Acknowledge key tag n extent ∷ todo) = false
 
--- what may be begun: a draft, or the sealing of a run
-abbrev pub plans_of : State → Instance → List (List Todo)
-plans_of s x = (elim (draft_of s x) [ None ↦ [] | Some todo ↦ todo ∷ [] ]) ++ (elim (seal_of s x) [ None ↦ [] | Some todo ↦ todo ∷ [] ])
+-- what may be begun of a row: its draft, or the sealing of a run
+abbrev pub plan_of : State → DiskOp → Instance → Option (List Todo)
+plan_of s (Draft bytes) x = draft_of s x
+plan_of s (Write name at bytes) x = seal_of s x
+plan_of s op x = None
 
-abbrev pub first_plan : DiskOp → List (List Todo) → Option (List Todo)
-first_plan op plans = find (is_first_todo op) plans
+abbrev pub is_begun_by : DiskOp → Option (List Todo) → Bool
+is_begun_by op plan = is_some_with (is_first_todo op) plan
 
 abbrev pub plan_for : State → DiskOp → List Instance → Option (List Todo)
 plan_for s op [] = None
-plan_for s op (x ∷ xs) = elim (first_plan op (plans_of s x)) [ Some todo ↦ Some todo | None ↦ plan_for s op xs ]
+plan_for s op (x ∷ xs) =
+    let plan = plan_of s op x in
+    elim (is_begun_by op plan) [ true ↦ plan | false ↦ plan_for s op xs ]
 
 -- the next operation of what is under way, or the first of what may be begun; in the opening, of a repair
 abbrev pub todo_for : Bool → State → DiskOp → Option (List Todo)

@@ -1,6 +1,6 @@
 -- The table of what is known of each key: its row, the versions that were retired, what is held of them, and what comes
 -- (RFC 2616, section 13.5.4; RFC 7233, sections 4.1 and 4.3).
-use Rattle.std.specs.Prelude.{ℕ, zero, suc, ◌+◌, ◌-◌, ◌*◌, ◌/◌, ◌%◌, Bool, true, false, ◌==◌, ◌&&◌, ◌||◌, not, nat_lt, nat_le, min, List, [], ◌∷◌, ◌++◌, length, find, filter, filter_map, count_by, bytes_eq, is_some, Option, Some, None}
+use Rattle.std.specs.Prelude.{ℕ, zero, suc, ◌+◌, ◌-◌, ◌*◌, ◌/◌, ◌%◌, Bool, true, false, ◌==◌, ◌&&◌, ◌||◌, not, nat_lt, nat_le, min, List, [], ◌∷◌, ◌++◌, find, filter, filter_map, count_by, bytes_eq, is_some, Option, Some, None}
 use Rattle.std.specs.List.{list_any}
 use Rattle.pp_fresh.specs.declared.aging.Times.{Times}
 use Rattle.pp_head.specs.Request.{Request}
@@ -11,7 +11,7 @@ use Rattle.pp_text.specs.Fields.{Field}
 use Rattle.pp_valid.specs.declared.version.Version.{Version}
 use Rattle.pp_law.specs.Chunks.{chunk_len, filled, is_in_memory}
 use Rattle.pp_law.specs.Lists.{Bytes, change, without, is_some_with, is_this}
-use Rattle.pp_law.specs.State.{State, Instance, Chunk, Entry, Exchange, Bound, Aim, Through, Own, Filling, Client, Stage, Undecided, Waiting, Passing, Answering, Reply}
+use Rattle.pp_law.specs.State.{State, Instance, Chunk, Entry, Exchange, Bound, Through, Own, Filling, Client, Undecided, Waiting, Passing, Answering, Reply}
 
 abbrev pub is_same_version : Version → Version → Bool
 is_same_version v w = bytes_eq v.tag w.tag && (v.length == w.length)

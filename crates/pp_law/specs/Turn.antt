@@ -7,13 +7,13 @@ use Rattle.pp_world.specs.declared.event.Wants.{Wants}
 use Rattle.pp_text.specs.Bytes.{is_empty}
 use Rattle.pp_law.specs.Chunks.{victim}
 use Rattle.pp_law.specs.Clients.{first_due, is_sharing, shared_ask}
-use Rattle.pp_law.specs.Connections.{is_client, is_conn, is_for, on_client, on_conn, close_conn, placing, Placement, Pause, AllPlaced, WaitsDial, WaitsDrop}
+use Rattle.pp_law.specs.Connections.{is_for, on_client, on_conn, close_conn, placing, Pause, AllPlaced, WaitsDial, WaitsDrop}
 use Rattle.pp_law.specs.Followers.{fill, give_up_asks}
 use Rattle.pp_law.specs.Lists.{has_number, is_some_with}
 use Rattle.pp_law.specs.Replies.{begin_replies}
-use Rattle.pp_law.specs.State.{State, Client, Conn, Exchange, Instance, Phase, Before, IsWoken, IsConfigured, IsRooted, IsListed, IsListening, IsStuck, Step, Owed, Free, ReadOf, WriteTo}
+use Rattle.pp_law.specs.State.{State, Client, Conn, Exchange, Instance, Phase, Step, Owed, Free, ReadOf, WriteTo}
 use Rattle.pp_law.specs.Store.{is_done_on_disk}
-use Rattle.pp_law.specs.Table.{next_of, Next, brings, pins}
+use Rattle.pp_law.specs.Table.{next_of, brings, pins}
 
 abbrev pub step_in : Phase → ℕ
 step_in (Step n) = n
@@ -190,5 +190,11 @@ rest_with w s = record s {
   clients = map (rested_client s w) s.clients;
   conns = map (rested_conn s w) s.conns;
   instances = map rested_instance s.instances;
-  phase = Step 0; is_ticked = false; owed = Free; is_evicting = false; forgotten = []; is_again = false; refused = [];
+  phase = Step 0;
+  is_ticked = false;
+  owed = Free;
+  is_evicting = false;
+  forgotten = [];
+  is_again = false;
+  refused = [];
 }

@@ -6,5 +6,4 @@ pub fn prefixes_and_faults()
     ensures prefixes { EachPrefixIsLawful }
     ensures sound { NoFaultIsLawful }
     ensures complete { LawfulHasNoFault }
-{
-}
+{}
