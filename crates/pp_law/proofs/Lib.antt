@@ -9,3 +9,4 @@ mod BrokenRows
 mod CachingRows
 mod DiskRows
 mod FollowerRows
+mod IdleRows

@@ -16,7 +16,8 @@ use Rattle.pp_law.specs.Table.{on_instance, forget, forget_each, swept, clear, m
 use Rattle.pp_law.specs.Passing.{pass_on, pour}
 use Rattle.pp_law.specs.OwnHeads.{tell, bind, useless, renew, settle_on, lose_own, settle_row, settle_known, settle, refresh_row, refresh_known, not_modified, cleared_by, relay_head, other_head, other_part, own_head, count_useless, part_head, filling_head, invalidated, through_head, note_own, note_sent, join, join_bound}
 use Rattle.pp_law.specs.Responses.{skip_body, close_this, finish, bad_response, by_aim, end_if_empty, begin_answer, answer_for, head_came, deliver, got, finish_first, ended}
-use Rattle.pp_law.specs.Clients.{leave_one, leave_each, close_client, leave_unplaced, refuse, begin_exchange, ask_for, ask_as, ask_origin, follow_row, follow, relay, mark_row_of, enter_row, decided_by, decided}
+use Rattle.pp_law.specs.Closing.{leave_one, leave_each, close_client}
+use Rattle.pp_law.specs.Deciding.{leave_unplaced, refuse, begin_exchange, ask_for, ask_as, ask_origin, follow_row, follow, relay, mark_row_of, enter_row, decided_by, decided}
 use Rattle.pp_law.specs.Replies.{begin_replies, use_next, end_reply, end_each, close_finished, end_replies, regained}
 use Rattle.pp_law.specs.Followers.{fill_with, fill_span, fill_next, fill_for, fill_each, fill, give_up_asks}
 use Rattle.pp_law.specs.Asking.{hear, ask_body, ask_next, ask, hang_up}
@@ -37,7 +38,8 @@ unfolding clap_on_literals httpdate_on_literals pp_head_on_literals pp_target_on
     pass_on pour
     tell bind useless renew settle_on lose_own settle_row settle_known settle refresh_row refresh_known not_modified cleared_by relay_head other_head other_part own_head count_useless part_head filling_head invalidated through_head note_own note_sent join join_bound
     skip_body close_this finish bad_response by_aim end_if_empty begin_answer answer_for head_came deliver got finish_first ended
-    leave_one leave_each close_client leave_unplaced refuse begin_exchange ask_for ask_as ask_origin follow_row follow relay mark_row_of enter_row decided_by decided
+    leave_one leave_each close_client
+    leave_unplaced refuse begin_exchange ask_for ask_as ask_origin follow_row follow relay mark_row_of enter_row decided_by decided
     begin_replies use_next end_reply end_each close_finished end_replies regained
     fill_with fill_span fill_next fill_for fill_each fill give_up_asks
     hear ask_body ask_next ask hang_up

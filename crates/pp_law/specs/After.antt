@@ -9,7 +9,8 @@ use Rattle.pp_world.specs.declared.note.Remark.TheVariants.{Taken, Cut, Kept, Go
 use Rattle.pp_world.specs.declared.op.DiskOp.{DiskOp}
 use Rattle.pp_law.specs.Asking.{hear, ask, hang_up}
 use Rattle.pp_law.specs.Chunks.{drop_chunk, note_use}
-use Rattle.pp_law.specs.Clients.{decided, close_client}
+use Rattle.pp_law.specs.Closing.{close_client}
+use Rattle.pp_law.specs.Deciding.{decided}
 use Rattle.pp_law.specs.Connections.{client, conn, on_client, on_conn, is_client, is_conn, put_on, lose_attempt, placing, Placement, AllPlaced, WaitsDial, WaitsDrop}
 use Rattle.pp_law.specs.Lists.{Bytes, without}
 use Rattle.pp_law.specs.Opening.{woken, configured, opened_to, is_opening, lose_in_opening}

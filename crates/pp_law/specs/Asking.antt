@@ -3,7 +3,9 @@ use Rattle.std.specs.Prelude.{ℕ, ◌+◌, ◌-◌, Bool, true, false, ◌==◌
 use Rattle.std.specs.List.{starts_with}
 use Rattle.pp_pass.specs.Pipe.{room_of}
 use Rattle.pp_text.specs.Bytes.{is_empty}
-use Rattle.pp_law.specs.Clients.{heard_by, text_limit, close_client}
+use Rattle.pp_law.specs.Closing.{close_client}
+use Rattle.pp_law.specs.Decisions.{text_limit}
+use Rattle.pp_law.specs.Hearing.{heard_by}
 use Rattle.pp_law.specs.Connections.{client, conn, exchange, is_for, on_client, on_client_of, on_exchange, is_outstanding, front_of_line}
 use Rattle.pp_law.specs.Lists.{Bytes, first_some, is_some_with}
 use Rattle.pp_law.specs.Replies.{end_replies}

@@ -6,7 +6,8 @@ use Rattle.pp_head.specs.Request.{Request}
 use Rattle.pp_plan.specs.Need.{need}
 use Rattle.pp_target.specs.Key.{Key}
 use Rattle.pp_law.specs.Chunks.{chunk_len}
-use Rattle.pp_law.specs.Clients.{fits, lent, text_for, begin_exchange}
+use Rattle.pp_law.specs.Deciding.{begin_exchange}
+use Rattle.pp_law.specs.Decisions.{fits, lent, text_for}
 use Rattle.pp_law.specs.Connections.{on_client, is_for}
 use Rattle.pp_law.specs.Lists.{Bytes, is_some_with, without}
 use Rattle.pp_law.specs.Requests.{NoHeadYet, NoHead, IsRequest}

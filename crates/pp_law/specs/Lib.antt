@@ -7,7 +7,12 @@ pub mod Table
 pub mod Passing
 pub mod OwnHeads
 pub mod Responses
-pub mod Clients
+pub mod Hearing
+pub mod Decisions
+pub mod Sharing
+pub mod Closing
+pub mod Due
+pub mod Deciding
 pub mod InstanceTexts
 pub mod Replies
 pub mod Followers

@@ -14,7 +14,8 @@ use Rattle.pp_world.specs.declared.note.Remark.TheVariants.{Taken, Cut, Kept, Go
 use Rattle.pp_world.specs.declared.op.DiskOp.{DiskOp}
 use Rattle.pp_law.specs.Asking.{is_reading, is_writing, permits_heard, permits_got, permits_asked}
 use Rattle.pp_law.specs.Chunks.{chunk_len, is_in_memory}
-use Rattle.pp_law.specs.Clients.{Due, Decide, CutOff, first_due, is_for_memory, has_to_forget}
+use Rattle.pp_law.specs.Deciding.{is_for_memory, has_to_forget}
+use Rattle.pp_law.specs.Due.{Due, Decide, CutOff, first_due}
 use Rattle.pp_law.specs.Connections.{client, conn, is_client, is_conn, placing, Pause, AllPlaced, WaitsDial, WaitsDrop}
 use Rattle.pp_law.specs.Lists.{Bytes, is_some_with}
 use Rattle.pp_law.specs.Opening.{permits_woke, permits_configured, permits_rooted, permits_listens, is_at, is_opening, may_fail}

@@ -13,7 +13,9 @@ use Rattle.pp_text.specs.Bytes.{is_empty}
 use Rattle.pp_world.specs.declared.note.Decision.{Decision}
 use Rattle.pp_world.specs.declared.note.Decision.TheVariants.{Hit, Part, Head, NotModified, Unsatisfiable, Pass}
 use Rattle.pp_law.specs.Chunks.{chunk_len, chunk_bytes, use_chunk}
-use Rattle.pp_law.specs.Clients.{close_client, is_passing, reply_of, with_front}
+use Rattle.pp_law.specs.Closing.{close_client}
+use Rattle.pp_law.specs.Due.{is_passing, reply_of}
+use Rattle.pp_law.specs.Hearing.{with_front}
 use Rattle.pp_law.specs.Connections.{on_client, on_passed}
 use Rattle.pp_law.specs.InstanceTexts.{whole_head, part_head, not_modified_head, unsatisfiable_page}
 use Rattle.pp_law.specs.Lists.{Bytes, is_some_with, is_this}

@@ -6,7 +6,8 @@ use Rattle.std.specs.List.{list_any}
 use Rattle.pp_world.specs.declared.event.Wants.{Wants}
 use Rattle.pp_text.specs.Bytes.{is_empty}
 use Rattle.pp_law.specs.Chunks.{victim}
-use Rattle.pp_law.specs.Clients.{first_due, is_sharing, shared_ask}
+use Rattle.pp_law.specs.Due.{first_due}
+use Rattle.pp_law.specs.Sharing.{is_sharing, shared_ask}
 use Rattle.pp_law.specs.Connections.{is_for, on_client, on_conn, close_conn, placing, Pause, AllPlaced, WaitsDial, WaitsDrop}
 use Rattle.pp_law.specs.Followers.{fill, give_up_asks}
 use Rattle.pp_law.specs.Lists.{has_number, is_some_with}
