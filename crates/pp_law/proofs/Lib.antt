@@ -10,3 +10,5 @@ mod CachingRows
 mod DiskRows
 mod FollowerRows
 mod IdleRows
+mod PipelineRows
+mod Mutations

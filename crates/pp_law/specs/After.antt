@@ -97,7 +97,7 @@ unfoldable pub in_step_7 : State → State
 in_step_7 s = record s { is_again = step s == 7 }
 
 unfoldable pub take_decision : ℕ → State → (Client → State → State) → State
-take_decision n s decide = elim (client s n) [ None ↦ s | Some c ↦ record (in_step_7 (decide c s)) { forgotten = [] } ]
+take_decision n s decide = elim (client s n) [ None ↦ s | Some c ↦ record (in_step_7 (decide c s)) { forgotten = []; has_made_room = false } ]
 
 -- the chunk that has to go next goes
 unfoldable pub evicted : State → State
@@ -112,7 +112,7 @@ unfoldable pub refused_row : Instance → State → State
 refused_row x s = record (forget x.id s) { refused = s.refused ++ clients_of s x.id }
 
 unfoldable pub forgotten_row : Instance → State → State
-forgotten_row x s = elim x.is_new [ true ↦ refused_row x s | false ↦ forget x.id (to_decide s) ]
+forgotten_row x s = elim x.is_new [ true ↦ refused_row x s | false ↦ record (forget x.id (to_decide s)) { has_made_room = true } ]
 
 -- one that left memory, is to leave it before a decision, or was refused memory
 unfoldable pub forgotten_by : Bytes → State → State

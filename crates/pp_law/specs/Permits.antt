@@ -24,7 +24,7 @@ use Rattle.pp_law.specs.Served.{is_served}
 use Rattle.pp_law.specs.State.{State, Client, Instance, IsRooted, IsListed, IsListening}
 use Rattle.pp_law.specs.Store.{is_idle_disk, is_named, is_acknowledged_as, may_note_gone, may_begin_op, may_end_op}
 use Rattle.pp_law.specs.Table.{row, kept_row, instance, idle_row, extent_of, next_of, Next}
-use Rattle.pp_law.specs.Turn.{step, due_victim, is_awaiting, has_closings, to_3, to_6, to_decide, may_3, may_6, may_decide, may_end, ending}
+use Rattle.pp_law.specs.Turn.{step, due_victim, is_awaiting, has_closings, to_3, to_6, to_decide, may_3, may_6, may_decide, may_end, ending, is_free}
 
 -- ---- decisions and cuts
 
@@ -102,7 +102,7 @@ may_forget s key = forgets_next s (first_due s) && is_key_of key (idle_row s)
 -- the row left memory for another; or it is one that memory was refused for; or it is to leave it before a decision
 abbrev pub permits_forgotten : State → Bytes → Bool
 permits_forgotten s key =
-    (nat_lt 0 (step s) && nat_le (step s) 2 && is_first key s.forgotten)
+    (nat_lt 0 (step s) && nat_le (step s) 2 && is_free s.owed && is_first key s.forgotten)
     || (nat_lt 0 (step s) && is_empty s.forgotten && is_some_with (λ x. x.is_new) (row s key))
     || (may_decide s && may_forget (to_decide s) key)
 
@@ -112,7 +112,7 @@ is_chunk_of s key tag n i place =
 
 abbrev pub permits_evicted : State → Bytes → Bytes → ℕ → ℕ → Bool
 permits_evicted s key tag n i =
-    nat_lt 0 (step s) && nat_le (step s) 2 && is_empty s.forgotten && is_some_with (is_chunk_of s key tag n i) (due_victim s)
+    nat_lt 0 (step s) && nat_le (step s) 2 && is_free s.owed && is_empty s.forgotten && is_some_with (is_chunk_of s key tag n i) (due_victim s)
 
 -- ---- the disk
 
@@ -222,36 +222,45 @@ waiting s = elim (is_at IsListening s) [ true ↦ s | false ↦ ending s ]
 abbrev pub permits_waits : State → Wants → Bool
 permits_waits s w = elim (may_wait s) [ true ↦ is_served (waiting s) w | false ↦ false ]
 
+unfoldable pub permits : State → Happening → Bool
+permits s (Woke image) = permits_woke s image
+permits s (Waits w) = permits_waits s w
+permits s (Clock seconds) = is_awaiting s
+permits s (Opened n) = is_awaiting s && is_new_number s n
+permits s (CanRead n) = is_awaiting s
+permits s (CanWrite n) = is_awaiting s
+permits s (Heard c bytes) = permits_heard s c bytes
+permits s (HungUp c) = is_owed s c && has_client s c
+permits s (Said c offered bytes) = permits_said s c offered bytes
+permits s (Shut c) = permits_shut s c
+permits s (Dialled n host port) = is_new_number s n && permits_dial s host port
+permits s (Undialled host port) = may_fail s false && permits_dial s host port
+permits s (Reached k) = is_awaiting s && has_conn s k
+permits s (Ended k) = is_reading s.owed k && has_conn s k
+permits s (Broke k) = permits_broke s k
+permits s (Asked k bytes) = permits_asked s k bytes
+permits s (Got k bytes) = permits_got s k bytes
+permits s (Dropped k) = permits_dropped s k
+permits s (NoneYet n) = is_reading s.owed n
+permits s (Began op) = permits_began s op
+permits s (Did op ok) = may_end_op s op && may_fail s ok
+permits s (Unread name) = may_fail s false && permits_unread s name
+permits s (Noted remark) = permits_noted s remark
+permits s (Rooted folder) = permits_rooted s folder
+permits s (Listed ok) = is_at IsRooted s && may_fail s ok
+permits s (Listens port ok) = permits_listens s port && may_fail s ok
+permits s (Configured file text) = permits_configured s file && may_fail s (is_some text)
+permits s (Printed text) = is_opening s
+permits s Stopped = is_awaiting s
+
+-- behind a row that left memory for a decision only that decision may come, or a crash
+abbrev pub permits_behind_forgotten : State → Happening → Bool
+permits_behind_forgotten s (Woke image) = permits_woke s image
+permits_behind_forgotten s (Noted (Taken c i d)) = permits_taken s c i d && not (is_for_memory d)
+permits_behind_forgotten s h = false
+
 unfoldable pub is_permitted : State → Happening → Bool
-is_permitted s (Woke image) = permits_woke s image
-is_permitted s (Waits w) = permits_waits s w
-is_permitted s (Clock seconds) = is_awaiting s
-is_permitted s (Opened n) = is_awaiting s && is_new_number s n
-is_permitted s (CanRead n) = is_awaiting s
-is_permitted s (CanWrite n) = is_awaiting s
-is_permitted s (Heard c bytes) = permits_heard s c bytes
-is_permitted s (HungUp c) = is_owed s c && has_client s c
-is_permitted s (Said c offered bytes) = permits_said s c offered bytes
-is_permitted s (Shut c) = permits_shut s c
-is_permitted s (Dialled n host port) = is_new_number s n && permits_dial s host port
-is_permitted s (Undialled host port) = may_fail s false && permits_dial s host port
-is_permitted s (Reached k) = is_awaiting s && has_conn s k
-is_permitted s (Ended k) = is_reading s.owed k && has_conn s k
-is_permitted s (Broke k) = permits_broke s k
-is_permitted s (Asked k bytes) = permits_asked s k bytes
-is_permitted s (Got k bytes) = permits_got s k bytes
-is_permitted s (Dropped k) = permits_dropped s k
-is_permitted s (NoneYet n) = is_reading s.owed n
-is_permitted s (Began op) = permits_began s op
-is_permitted s (Did op ok) = may_end_op s op && may_fail s ok
-is_permitted s (Unread name) = may_fail s false && permits_unread s name
-is_permitted s (Noted remark) = permits_noted s remark
-is_permitted s (Rooted folder) = permits_rooted s folder
-is_permitted s (Listed ok) = is_at IsRooted s && may_fail s ok
-is_permitted s (Listens port ok) = permits_listens s port && may_fail s ok
-is_permitted s (Configured file text) = permits_configured s file && may_fail s (is_some text)
-is_permitted s (Printed text) = is_opening s
-is_permitted s Stopped = is_awaiting s
+is_permitted s h = elim s.has_made_room [ true ↦ permits_behind_forgotten s h | false ↦ permits s h ]
 
 abbrev pub IsPermitted : State → Happening → Type 0
 IsPermitted s h = is_permitted s h ≡ true

@@ -213,6 +213,7 @@ pub record State : Type 0 where
   pub owed : Owed
   pub is_evicting : Bool  -- the trigger was reached
   pub forgotten : List Bytes  -- rows that left memory and are not noted yet
+  pub has_made_room : Bool  -- a row left memory for the decision that is next
   pub agenda : List Todo
   pub is_again : Bool  -- step 7 decided or cut, and the steps before it are done again
   pub refused : List ℕ  -- clients whose row was refused memory
@@ -250,6 +251,7 @@ start terms = record {
   owed = Free;
   is_evicting = false;
   forgotten = [];
+  has_made_room = false;
   agenda = [];
   is_again = false;
   refused = [];
