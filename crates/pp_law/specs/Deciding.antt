@@ -137,7 +137,13 @@ abbrev pub reply_by : Decision → Option ℕ → Reply
 reply_by d source = record { decision = d; source = source; has_begun = false; head_left = []; at = (span_of d).0; to = (span_of d).1 }
 
 abbrev pub answering_with : Reply → Client → Client
-answering_with r c = record c { interim_left = first_interim c; stage = Answering r; closes = not (keeps_after 200 c.front); is_told = false; passed = elim (is_passing r.decision) [ true ↦ c.passed | false ↦ None ] }
+answering_with r c = record c {
+  interim_left = first_interim c;
+  stage = Answering r;
+  closes = not (keeps_after 200 c.front);
+  is_told = false;
+  passed = elim (is_passing r.decision) [ true ↦ c.passed | false ↦ None ];
+}
 
 unfoldable pub follow_row : Client → Decision → Bytes → State → State
 follow_row c d key s = elim (row s key) [ None ↦ s | Some x ↦ swept (on_client c.number (answering_with (reply_by d (Some x.id))) s) ]

@@ -1,5 +1,5 @@
 -- Which decision or cut is due, and which comes first (RFC 2616, section 8.1; the order is ours).
-use Rattle.std.specs.Prelude.{ℕ, ◌-◌, Bool, true, false, ◌&&◌, ◌||◌, not, nat_le, Option, Some, None}
+use Rattle.std.specs.Prelude.{ℕ, ◌-◌, Bool, true, false, ◌&&◌, ◌||◌, not, nat_le, List, [], ◌∷◌, find, Option, Some, None, option_map}
 use Rattle.pp_world.specs.declared.note.Cause.{Cause}
 use Rattle.pp_world.specs.declared.note.Cause.TheVariants.{Superseded, Origin, Short, Idle, Memory, Stop}
 use Rattle.pp_world.specs.declared.note.Decision.{Decision}
@@ -70,30 +70,20 @@ is_superseded s c = is_some_with (λ n. n.source.is_retired && not (is_provided 
 abbrev pub is_idle : State → Client → Bool
 is_idle s c = s.is_ticked && nat_le 120 (s.clock - c.mark)
 
--- the first cause of a cut that applies
+-- the causes of a cut, in their order
+abbrev pub causes : State → Client → List (Bool × Cause)
+causes s c =
+    (s.is_stopped && is_begun c, Stop)
+    ∷ (is_begun c && is_short c, Short)
+    ∷ (is_begun c && is_superseded s c, Superseded)
+    ∷ (is_begun c && (c.has_failed || c.is_too_long), Origin)
+    ∷ (is_idle s c, Idle)
+    ∷ (is_begun c && has_number c.number s.refused, Memory)
+    ∷ []
+
+-- the first that applies
 abbrev pub cut_in : State → Client → Option Cause
-cut_in s c =
-    elim (s.is_stopped && is_begun c) [
-      | true ↦ Some Stop
-      | false ↦
-          elim (is_begun c && is_short c) [
-            | true ↦ Some Short
-            | false ↦
-                elim (is_begun c && is_superseded s c) [
-                  | true ↦ Some Superseded
-                  | false ↦
-                      elim (is_begun c && (c.has_failed || c.is_too_long)) [
-                        | true ↦ Some Origin
-                        | false ↦
-                            elim (is_idle s c) [
-                              | true ↦ Some Idle
-                              | false ↦
-                                  elim (is_begun c && has_number c.number s.refused) [ true ↦ Some Memory | false ↦ None ]
-                            ]
-                      ]
-                ]
-          ]
-    ]
+cut_in s c = option_map (λ cause. cause.1) (find (λ cause. cause.0) (causes s c))
 
 abbrev pub due_cut : State → Client → Option Cause
 due_cut s c = elim c.is_closing [ true ↦ None | false ↦ cut_in s c ]

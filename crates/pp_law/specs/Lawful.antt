@@ -1,5 +1,5 @@
 -- A lawful log, and the first happening that makes a log unlawful.
-use Rattle.std.specs.Prelude.{◌≡◌, ℕ, ◌+◌, true, false, List, [], ◌∷◌, ◌++◌, Option, Some, None}
+use Rattle.std.specs.Prelude.{◌≡◌, ℕ, ◌+◌, true, false, List, [], ◌∷◌, ◌++◌, Option, Some, None, not, find, Bool}
 use Rattle.std.specs.List.{list_all}
 use Rattle.pp_world.specs.declared.event.Wants.{Wants}
 use Rattle.pp_world.specs.declared.happening.Happening.{Happening}
@@ -10,7 +10,7 @@ use Rattle.pp_world.specs.Log.{Log}
 use Rattle.pp_law.specs.After.{after}
 use Rattle.pp_law.specs.Opening.{may_fail}
 use Rattle.pp_law.specs.Permits.{is_permitted, IsPermitted, may_wait, waiting}
-use Rattle.pp_law.specs.Served.{accepts_rightly, is_client_served, is_conn_served, is_exchange_served}
+use Rattle.pp_law.specs.Served.{accepts_rightly, is_client_served, is_conn_served, is_exchange_served, wants_no_more}
 use Rattle.pp_law.specs.State.{State, Term, start}
 
 -- each happening is permitted in the state before it
@@ -29,22 +29,19 @@ pub data Rule : Type 0 where
   NotToBeEvicted NotToBeForgotten NotToBeLoaded NotSealed NotGone WrongDiskOperation : Rule
   StepUnfinished AcceptsWrongly ClientForgotten ConnectionForgotten ExchangeForgotten WantsTooMuch : Rule
 
--- of a wait, the first part of the test that fails
+-- what a wait has to meet, in this order
+abbrev pub waiting_rules : State → Wants → List (Bool × Rule)
+waiting_rules s w =
+    (accepts_rightly s w, AcceptsWrongly)
+    ∷ (list_all (is_client_served s w) s.clients, ClientForgotten)
+    ∷ (list_all (is_conn_served s w) s.conns, ConnectionForgotten)
+    ∷ (list_all (is_exchange_served s w) s.exchanges, ExchangeForgotten)
+    ∷ (wants_no_more s w, WantsTooMuch)
+    ∷ []
+
+-- the first that it does not meet
 abbrev pub served_rule : State → Wants → Rule
-served_rule s w =
-    elim (accepts_rightly s w) [
-      | false ↦ AcceptsWrongly
-      | true ↦
-          elim (list_all (is_client_served s w) s.clients) [
-            | false ↦ ClientForgotten
-            | true ↦
-                elim (list_all (is_conn_served s w) s.conns) [
-                  | false ↦ ConnectionForgotten
-                  | true ↦
-                      elim (list_all (is_exchange_served s w) s.exchanges) [ false ↦ ExchangeForgotten | true ↦ WantsTooMuch ]
-                ]
-          ]
-    ]
+served_rule s w = elim (find (λ rule. not rule.0) (waiting_rules s w)) [ None ↦ WantsTooMuch | Some rule ↦ rule.1 ]
 
 abbrev pub wait_rule : State → Wants → Rule
 wait_rule s w = elim (may_wait s) [ false ↦ StepUnfinished | true ↦ served_rule (waiting s) w ]

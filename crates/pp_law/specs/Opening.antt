@@ -153,8 +153,12 @@ permits_configured s file = is_at IsWoken s && is_some_with (λ named. bytes_eq 
 abbrev pub permits_rooted : State → Bytes → Bool
 permits_rooted s folder = is_at IsConfigured s && bytes_eq folder s.settings.root
 
+-- each stray gate was closed, and its file synced
+abbrev pub is_recovered : State → Bool
+is_recovered s = is_idle_disk s && is_empty s.agenda && not (list_any (has_stray_gates s) s.entries)
+
 abbrev pub permits_listens : State → ℕ → Bool
-permits_listens s port = is_at IsListed s && (port == s.settings.port) && is_idle_disk s && is_empty s.agenda && not (list_any (has_stray_gates s) s.entries)
+permits_listens s port = is_at IsListed s && (port == s.settings.port) && is_recovered s
 
 -- an entry that could not be read or repaired is none in this life
 unfoldable pub lose_in_opening : Bytes → State → State
