@@ -1,14 +1,14 @@
 -- Worked logs of entries: failing operations, crashes, restarts.
-use Rattle.std.proofs.Common.{◌≡◌, refl, ℕ, ◌+◌, List, [], ◌∷◌, ◌++◌, true, false, None, length, codes}
-use Rattle.pp_world.specs.declared.happening.Happening.TheVariants.{Woke, Rooted, Listed, Listens, CanRead, CanWrite, Heard, Said, Dialled, Got, Noted, Began, Did, Clock, Opened}
-use Rattle.pp_world.specs.declared.note.Decision.TheVariants.{Hit, Part}
-use Rattle.pp_world.specs.declared.note.Remark.TheVariants.{Taken, Kept, Gone, Loaded}
+use Rattle.std.proofs.Common.{◌≡◌, refl, ℕ, ◌+◌, List, [], ◌∷◌, ◌++◌, true, false, None, length, codes, ◌-◌}
+use Rattle.pp_world.specs.declared.happening.Happening.TheVariants.{Woke, Rooted, Listed, Listens, CanRead, CanWrite, Heard, Said, Dialled, Got, Noted, Began, Did, Clock, Opened, Unread}
+use Rattle.pp_world.specs.declared.note.Decision.TheVariants.{Hit, Part, Refuse}
+use Rattle.pp_world.specs.declared.note.Remark.TheVariants.{Taken, Kept, Gone, Loaded, Evicted, Forgotten}
 use Rattle.pp_world.specs.declared.op.DiskOp.{DiskOp}
 use Rattle.pp_world.specs.declared.op.DiskOp.TheVariants.{Draft, SyncDraft, Publish, Write, Sync, Remove}
 use Rattle.pp_world.specs.Log.{Log}
 use Rattle.pp_law.specs.Lists.{Bytes}
 use Rattle.pp_law.specs.State.{Term}
-use Rattle.pp_law.specs.Lawful.{first_fault, ImageNotLeft, FailureMadeUp, NotSealed, NotGone, NotToBeLoaded, WrongDiskOperation, WrongDecision}
+use Rattle.pp_law.specs.Lawful.{first_fault, ImageNotLeft, FailureMadeUp, NotSealed, NotGone, NotToBeLoaded, WrongDiskOperation, WrongDecision, NotToBeEvicted, NotToBeForgotten}
 use Rattle.pp_law.proofs.OnLiterals.{pp_law_on_literals}
 use Rattle.pp_law.proofs.Worked.{no_words, wait, broken, sunday, origin_sends, does, zeros, name_of_a, draft_of, block}
 use Rattle.pp_law.proofs.CachingRows.{request, response, fetching, fetched, fetched_head, aged_head, checking, gets}
@@ -154,3 +154,40 @@ loaded_for_nothing = refl
 foreign_entry : first_fault no_words (restart (entry_file 1 (codes "hello"))) ≡ broken 0 ImageNotLeft
 unfolding pp_law_on_literals
 foreign_entry = refl
+
+-- ---- a chunk that cannot be read back: its name is closed, its entry is gone, and the bytes are asked for
+
+abbrev lives_with_a_fault : List Term
+lives_with_a_fault = record { words = []; faults = 0 } ∷ record { words = []; faults = 1 } ∷ []
+
+abbrev unread : Log
+unread =
+    fetched ++ restart (entry_file 1 (codes "hello")) ++ asks_again ++ Noted (Taken 3 0 (Hit 0 5)) ∷ wait (3 ∷ []) (3 ∷ []) ∷ CanWrite 3 ∷ Said 3 (length aged_head) aged_head ∷ wait (3 ∷ []) (3 ∷ []) ∷
+    CanWrite 3 ∷ Unread name_of_a ∷ Noted (Gone (codes "http://h/a")) ∷ Dialled 4 (codes "h") 80 ∷ wait [] [] ∷ []
+
+read_fails : first_fault lives_with_a_fault unread ≡ None
+unfolding pp_law_on_literals
+read_fails = refl
+
+read_fails_for_nothing : first_fault two_lives unread ≡ broken (length unread - 4) FailureMadeUp
+unfolding pp_law_on_literals
+read_fails_for_nothing = refl
+
+-- ---- what leaves memory for nothing
+
+evicted_too_early : first_fault no_words (fetched ++ Clock (sunday + 1) ∷ Noted (Evicted (codes "http://h/a") (codes "\"x\"") 5 0) ∷ []) ≡ broken (length fetched + 1) NotToBeEvicted
+unfolding pp_law_on_literals
+evicted_too_early = refl
+
+forgotten_for_nothing : first_fault no_words (fetched ++ Clock (sunday + 1) ∷ Noted (Forgotten (codes "http://h/a")) ∷ []) ≡ broken (length fetched + 1) NotToBeForgotten
+unfolding pp_law_on_literals
+forgotten_for_nothing = refl
+
+-- a row for which memory was refused: its request is refused too
+refused_memory : first_fault no_words (answered ++ Noted (Forgotten (codes "http://h/a")) ∷ Noted (Taken 1 0 (Refuse 500)) ∷ wait (1 ∷ 2 ∷ []) (1 ∷ []) ∷ []) ≡ None
+unfolding pp_law_on_literals
+refused_memory = refl
+
+hit_without_memory : first_fault no_words (answered ++ Noted (Forgotten (codes "http://h/a")) ∷ Noted (Taken 1 0 (Hit 0 5)) ∷ []) ≡ broken (length answered + 1) WrongDecision
+unfolding pp_law_on_literals
+hit_without_memory = refl
