@@ -7,7 +7,7 @@ use Rattle.pp_world.specs.declared.note.Cause.TheVariants.{Stop}
 use Rattle.pp_world.specs.declared.note.Decision.TheVariants.{Refuse}
 use Rattle.pp_world.specs.Log.{Log}
 use Rattle.pp_law.specs.Lists.{Bytes}
-use Rattle.pp_law.specs.Lawful.{first_fault, WrongReply, WrongDecision, NotToBeClosed, StepUnfinished, ClientForgotten}
+use Rattle.pp_law.specs.Lawful.{first_fault, WrongReply, WrongDecision, NotToBeClosed, StepUnfinished, ClientForgotten, WantsTooMuch}
 use Rattle.pp_law.proofs.OnLiterals.{pp_law_on_literals}
 use Rattle.pp_law.proofs.Worked.{no_words, wait, broken, opening, client_sends, client_gets}
 
@@ -81,3 +81,18 @@ half_closed = refl
 hangs_up : first_fault no_words (opening ++ client_sends (codes "GET ") ++ wait (1 ∷ []) [] ∷ CanRead 1 ∷ HungUp 1 ∷ wait (1 ∷ []) [] ∷ []) ≡ broken 14 StepUnfinished
 unfolding pp_law_on_literals
 hangs_up = refl
+
+-- it may be shut before, at any time
+shut_at_once : first_fault no_words (opening ++ client_sends not_absolute ++ Noted (Taken 1 0 (Refuse 400)) ∷ wait (1 ∷ []) (1 ∷ []) ∷ CanRead 1 ∷ HungUp 1 ∷ Shut 1 ∷ wait [] [] ∷ []) ≡ None
+unfolding pp_law_on_literals
+shut_at_once = refl
+
+-- one whose writing fails is lost
+writing_fails : first_fault no_words (refused ++ CanWrite 1 ∷ HungUp 1 ∷ wait (1 ∷ []) (1 ∷ []) ∷ []) ≡ broken 15 StepUnfinished
+unfolding pp_law_on_literals
+writing_fails = refl
+
+-- it is not read again
+read_again : first_fault no_words (opening ++ client_sends not_absolute ++ Noted (Taken 1 0 (Refuse 400)) ∷ wait (1 ∷ []) (1 ∷ []) ∷ CanRead 1 ∷ HungUp 1 ∷ wait (1 ∷ []) (1 ∷ []) ∷ []) ≡ broken 15 WantsTooMuch
+unfolding pp_law_on_literals
+read_again = refl

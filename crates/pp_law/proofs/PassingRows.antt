@@ -1,6 +1,6 @@
 -- Worked logs of requests that are passed.
 use Rattle.std.proofs.Common.{◌≡◌, refl, [], ◌∷◌, ◌++◌, None, codes}
-use Rattle.pp_world.specs.declared.happening.Happening.TheVariants.{CanRead, CanWrite, Heard, Shut, Dialled, Reached, Ended, Broke, Asked, Dropped, Noted, Stopped}
+use Rattle.pp_world.specs.declared.happening.Happening.TheVariants.{HungUp, CanRead, CanWrite, Heard, Shut, Dialled, Reached, Ended, Broke, Asked, Dropped, Noted, Stopped}
 use Rattle.pp_world.specs.declared.note.Remark.TheVariants.{Taken, Cut}
 use Rattle.pp_world.specs.declared.note.Cause.TheVariants.{Short, Stop}
 use Rattle.pp_world.specs.declared.note.Decision.TheVariants.{Refuse, Pass}
@@ -73,3 +73,13 @@ body_asked = refl
 stopped : first_fault no_words (answered ++ Stopped ∷ Noted (Cut 1 Stop) ∷ Dropped 2 ∷ Shut 1 ∷ []) ≡ None
 unfolding pp_law_on_literals
 stopped = refl
+
+-- a client that sends no more in the midst of its request's body is shut, and the connection of that request is dropped
+abbrev short_body : Log
+short_body =
+    opening ++ client_sends (codes "POST http://h/a HTTP/1.1\r\nContent-Length: 5\r\n\r\n") ++ Noted (Taken 1 0 Pass) ∷ Dialled 2 (codes "h") 80 ∷ wait (1 ∷ []) [] ∷ Reached 2 ∷ wait (1 ∷ []) (2 ∷ []) ∷
+    CanWrite 2 ∷ Asked 2 (codes "POST /a HTTP/1.1\r\nhost: h\r\ncontent-length: 5\r\nvia: 1.1 polipo\r\n\r\n") ∷ wait (1 ∷ 2 ∷ []) [] ∷ CanRead 1 ∷ HungUp 1 ∷ []
+
+body_stays_short : first_fault no_words (short_body ++ Shut 1 ∷ Dropped 2 ∷ wait [] [] ∷ []) ≡ None
+unfolding pp_law_on_literals
+body_stays_short = refl
