@@ -1,0 +1,211 @@
+-- The state after one happening.
+use Rattle.std.specs.Prelude.{ℕ, ◌+◌, Bool, true, false, ◌==◌, ◌||◌, List, [], ◌∷◌, ◌++◌, length, map, filter, Some, None}
+use Rattle.pp_plan.specs.declared.table.Begun.TheVariants.{Nothing}
+use Rattle.pp_world.specs.declared.event.Wants.{Wants}
+use Rattle.pp_world.specs.declared.happening.Happening.{Happening}
+use Rattle.pp_world.specs.declared.happening.Happening.TheVariants.{Woke, Waits, Clock, Opened, CanRead, CanWrite, Heard, HungUp, Said, Shut, Dialled, Undialled, Reached, Ended, Broke, Asked, Got, Dropped, NoneYet, Began, Did, Unread, Noted, Rooted, Listed, Listens, Configured, Printed, Stopped}
+use Rattle.pp_world.specs.declared.note.Remark.{Remark}
+use Rattle.pp_world.specs.declared.note.Remark.TheVariants.{Taken, Cut, Kept, Gone, Forgotten, Evicted, Loaded}
+use Rattle.pp_world.specs.declared.op.DiskOp.{DiskOp}
+use Rattle.pp_law.specs.Asking.{hear, ask, hang_up}
+use Rattle.pp_law.specs.Chunks.{drop_chunk, note_use}
+use Rattle.pp_law.specs.Closing.{close_client}
+use Rattle.pp_law.specs.Deciding.{decided}
+use Rattle.pp_law.specs.Connections.{client, conn, on_client, on_conn, is_client, is_conn, put_on, lose_attempt, placing, Placement, AllPlaced, WaitsDial, WaitsDrop}
+use Rattle.pp_law.specs.Lists.{Bytes, without}
+use Rattle.pp_law.specs.Opening.{woken, configured, opened_to, is_opening, lose_in_opening}
+use Rattle.pp_law.specs.Replies.{said_by, use_next, end_replies, regained}
+use Rattle.pp_law.specs.Requests.{NoHeadYet}
+use Rattle.pp_law.specs.Responses.{got, ended}
+use Rattle.pp_law.specs.State.{State, Client, Conn, Instance, Undecided, IsRooted, IsListed, IsListening, Owed, Free, ReadOf, WriteTo}
+use Rattle.pp_law.specs.Store.{begin_op, end_op, close_name, name_for, note_kept, note_gone, load}
+use Rattle.pp_law.specs.Table.{row, forget, is_bound_to}
+use Rattle.pp_law.specs.Turn.{step, at_step, due_victim, is_awaiting, to_3, to_6, to_decide, touch, tick, ending, rest_with}
+
+abbrev pub new_client : ℕ → ℕ → Client
+new_client n now = record {
+  number = n;
+  is_new = true;
+  has_hung_up = false;
+  front = NoHeadYet;
+  heard = [];
+  body_left = 0;
+  skip = 0;
+  index = 0;
+  stage = Undecided;
+  waits_on = None;
+  passed = None;
+  begun = Nothing;
+  settled = None;
+  is_told = false;
+  has_plain_age = false;
+  lost = 0;
+  has_failed = false;
+  is_too_long = false;
+  interim_left = [];
+  closes = false;
+  is_closing = false;
+  is_cut = false;
+  mark = now;
+}
+
+abbrev pub new_conn : ℕ → Bytes → ℕ → ℕ → Conn
+new_conn n host port now = record {
+  number = n;
+  host = host;
+  port = port;
+  is_reached = false;
+  line = [];
+  unread = [];
+  is_early = false;
+  answer = None;
+  has_brought = false;
+  may_pipeline = false;
+  is_closing = false;
+  mark = now;
+  has_waited = false;
+}
+
+-- ---- events
+
+abbrev pub event : State → State
+event s = at_step 1 s
+
+unfoldable pub opened : ℕ → State → State
+opened n s = record s { clients = s.clients ++ new_client n s.clock ∷ []; top = n }
+
+unfoldable pub owing : Owed → ℕ → State → State
+owing owed n s = record (touch n s) { owed = owed }
+
+unfoldable pub reached : ℕ → State → State
+reached n s = touch n (on_conn n (λ k. record k { is_reached = true }) s)
+
+-- ---- reads and writes
+
+unfoldable pub paid : State → State
+paid s = record s { owed = Free }
+
+unfoldable pub said : ℕ → ℕ → State → State
+said c n s = elim (client s c) [ None ↦ s | Some x ↦ end_replies (on_client c (said_by n) (use_next x s)) ]
+
+unfoldable pub gone : Bool → ℕ → State → State
+gone is_clean n s = elim (conn s n) [ None ↦ s | Some k ↦ end_replies (ended is_clean k s) ]
+
+-- ---- notes
+
+unfoldable pub in_step_7 : State → State
+in_step_7 s = record s { is_again = step s == 7 }
+
+unfoldable pub take_decision : ℕ → State → (Client → State → State) → State
+take_decision n s decide = elim (client s n) [ None ↦ s | Some c ↦ record (in_step_7 (decide c s)) { forgotten = []; has_made_room = false } ]
+
+-- the chunk that has to go next goes
+unfoldable pub evicted : State → State
+evicted s = elim (due_victim s) [ None ↦ s | Some place ↦ drop_chunk place.0 place.1 (at_step 2 s) ]
+
+-- those whose exchanges are bound to it
+abbrev pub clients_of : State → ℕ → List ℕ
+clients_of s id = map (λ e. e.client) (filter (is_bound_to id) s.exchanges)
+
+-- a row for which memory was refused
+unfoldable pub refused_row : Instance → State → State
+refused_row x s = record (forget x.id s) { refused = s.refused ++ clients_of s x.id }
+
+unfoldable pub forgotten_row : Instance → State → State
+forgotten_row x s = elim x.is_new [ true ↦ refused_row x s | false ↦ record (forget x.id (to_decide s)) { has_made_room = true } ]
+
+-- one that left memory, is to leave it before a decision, or was refused memory
+unfoldable pub forgotten_by : Bytes → State → State
+forgotten_by key s = elim s.forgotten [
+  | k ∷ keys ↦ record s { forgotten = keys }
+  | [] ↦ elim (row s key) [ None ↦ s | Some x ↦ forgotten_row x s ]
+]
+
+unfoldable pub noted : Remark → State → State
+noted (Taken c i d) s = take_decision c (to_decide s) (λ x t. decided x d t)
+noted (Cut c cause) s = in_step_7 (close_client c true (to_decide s))
+noted (Kept key tag n extent) s = note_kept key extent (to_3 s)
+noted (Gone key) s = note_gone key (to_3 s)
+noted (Forgotten key) s = forgotten_by key s
+noted (Evicted key tag n i) s = evicted s
+noted (Loaded key tag n i) s = load key i s
+
+-- ---- the disk
+
+unfoldable pub begun_op : DiskOp → State → State
+begun_op op s = elim (is_opening s) [ true ↦ begin_op false op s | false ↦ begin_op true op (to_3 s) ]
+
+unfoldable pub ended_op : DiskOp → Bool → State → State
+ended_op op true s = end_op op true s
+ended_op op false s = lose_in_opening (name_for op s.agenda) (end_op op false s)
+
+-- ours: its name is closed; a load that failed stands for the write
+unfoldable pub unread : Bytes → State → State
+unread name s = paid (lose_in_opening name (close_name name s))
+
+-- ---- closings and places
+
+unfoldable pub shut : ℕ → State → State
+shut n s =
+    let t : State = close_client n false s in
+    record t { clients = without (is_client n) t.clients }
+
+unfoldable pub dialled : ℕ → Bytes → ℕ → Placement → State
+dialled n host port p = elim p.pause [
+  | AllPlaced ↦ p.state
+  | WaitsDrop k e ↦ p.state
+  | WaitsDial e ↦ put_on e.number n (record p.state { conns = p.state.conns ++ new_conn n host port p.state.clock ∷ []; top = n })
+]
+
+unfoldable pub undialled : Placement → State
+undialled p = elim p.pause [
+  | AllPlaced ↦ p.state
+  | WaitsDrop k e ↦ p.state
+  | WaitsDial e ↦ lose_attempt e (record p.state { failures = p.state.failures + 1 })
+]
+
+unfoldable pub out : ℕ → State → State
+out n s = record s { conns = without (is_conn n) s.conns }
+
+-- one that is not closing gives way to a new one, behind the exchanges that have their places
+unfoldable pub dropped : ℕ → State → State
+dropped n s = elim (conn s n) [ None ↦ s | Some k ↦ elim k.is_closing [ true ↦ out n s | false ↦ out n (placing s).state ] ]
+
+-- ---- all
+
+unfoldable pub rested : Wants → State → State
+rested w s = elim (is_awaiting s || (step s == 0)) [ true ↦ rest_with w s | false ↦ rest_with w (ending s) ]
+
+unfoldable pub changed : State → Happening → State
+changed s (Woke image) = woken image s
+changed s (Waits w) = rested w s
+changed s (Clock seconds) = event (tick seconds s)
+changed s (Opened n) = event (opened n s)
+changed s (CanRead n) = event (owing (ReadOf n) n s)
+changed s (CanWrite n) = event (owing (WriteTo n) n s)
+changed s (Heard c bytes) = paid (hear c bytes s)
+changed s (HungUp c) = paid (hang_up c s)
+changed s (Said c offered bytes) = paid (said c (length bytes) s)
+changed s (Shut c) = shut c (to_6 s)
+changed s (Dialled n host port) = dialled n host port (placing (to_6 s))
+changed s (Undialled host port) = undialled (placing (to_6 s))
+changed s (Reached k) = event (reached k s)
+changed s (Ended k) = paid (gone true k s)
+changed s (Broke k) = paid (gone false k (event s))
+changed s (Asked k bytes) = paid (ask k (length bytes) s)
+changed s (Got k bytes) = paid (note_use (end_replies (got (length bytes) k bytes s)))
+changed s (Dropped k) = dropped k (to_6 s)
+changed s (NoneYet n) = paid s
+changed s (Began op) = begun_op op s
+changed s (Did op ok) = ended_op op ok s
+changed s (Unread name) = unread name s
+changed s (Noted remark) = noted remark s
+changed s (Rooted folder) = opened_to IsRooted true s
+changed s (Listed ok) = opened_to IsListed ok s
+changed s (Listens port ok) = opened_to IsListening ok s
+changed s (Configured file text) = configured text s
+changed s (Printed text) = s
+changed s Stopped = event (record s { is_stopped = true })
+
+unfoldable pub after : State → Happening → State
+after s h = regained (changed s h)

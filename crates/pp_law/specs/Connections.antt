@@ -1,0 +1,176 @@
+-- The connections to origins, their lines of exchanges, and where an exchange is asked (RFC 2616, sections 8.1 and 8.1.2.2).
+use Rattle.std.specs.Prelude.{ℕ, ◌+◌, Bool, true, false, ◌==◌, ◌&&◌, ◌||◌, not, nat_le, List, [], ◌∷◌, ◌++◌, length, map, filter, find, cond, Option, Some, None}
+use Rattle.std.specs.List.{list_any}
+use Rattle.pp_pipe.specs.Line.{started}
+use Rattle.pp_pipe.specs.declared.asks.Ask.{Ask}
+use Rattle.pp_peers.specs.Placing.{place}
+use Rattle.pp_peers.specs.declared.peers.Peer.{Peer}
+use Rattle.pp_peers.specs.declared.placing.Placed.{Placed}
+use Rattle.pp_peers.specs.declared.placing.Placed.TheVariants.{On, Dial, CloseThenDial, Wait}
+use Rattle.pp_law.specs.Lists.{change, without, is_some_with}
+use Rattle.pp_law.specs.Requests.{goes_alone}
+use Rattle.pp_law.specs.State.{State, Client, Conn, Exchange, Passed}
+
+-- ---- by number
+
+abbrev pub is_conn : ℕ → Conn → Bool
+is_conn n k = k.number == n
+
+abbrev pub is_exchange : ℕ → Exchange → Bool
+is_exchange n e = e.number == n
+
+abbrev pub is_client : ℕ → Client → Bool
+is_client n c = c.number == n
+
+abbrev pub conn : State → ℕ → Option Conn
+conn s n = find (is_conn n) s.conns
+
+abbrev pub exchange : State → ℕ → Option Exchange
+exchange s n = find (is_exchange n) s.exchanges
+
+abbrev pub client : State → ℕ → Option Client
+client s n = find (is_client n) s.clients
+
+unfoldable pub on_conn : ℕ → (Conn → Conn) → State → State
+on_conn n f s = record s { conns = change (is_conn n) f s.conns }
+
+unfoldable pub on_exchange : ℕ → (Exchange → Exchange) → State → State
+on_exchange n f s = record s { exchanges = change (is_exchange n) f s.exchanges }
+
+unfoldable pub on_client : ℕ → (Client → Client) → State → State
+on_client n f s = record s { clients = change (is_client n) f s.clients }
+
+-- the client of an exchange, as long as it is at that request
+abbrev pub is_for : Exchange → Client → Bool
+is_for e c = is_client e.client c && (c.index == e.request) && not c.is_closing
+
+unfoldable pub on_client_of : Exchange → (Client → Client) → State → State
+on_client_of e f s = record s { clients = change (is_for e) f s.clients }
+
+-- the exchange whose response comes next
+abbrev pub front_of_line : State → Conn → Option Exchange
+front_of_line s k = elim k.line [ [] ↦ None | n ∷ line ↦ exchange s n ]
+
+-- its text was asked whole, and its response may come
+abbrev pub is_outstanding : Exchange → Bool
+is_outstanding e = e.asked == length e.text
+
+-- ---- attempts (section 8.1.4)
+
+-- ours: an ask that may be repeated is tried three times
+abbrev pub attempts_of : Exchange → ℕ
+attempts_of e = elim (goes_alone e.head) [ true ↦ 1 | false ↦ 3 ]
+
+abbrev pub lost_one : ℕ → Client → Client
+lost_one most c = record c { lost = c.lost + 1; has_failed = c.has_failed || nat_le most (c.lost + 1) }
+
+unfoldable pub lose_attempt : Exchange → State → State
+lose_attempt e s = on_client_of e (lost_one (attempts_of e)) s
+
+-- its attempts end at once
+unfoldable pub fail : Exchange → State → State
+fail e s = on_client_of e (λ c. record c { has_failed = true }) s
+
+-- ---- an exchange is over
+
+abbrev pub without_ask : ℕ → Conn → Conn
+without_ask n k = record k { line = filter (λ m. not (m == n)) k.line }
+
+unfoldable pub end_exchange : ℕ → State → State
+end_exchange n s = record s { exchanges = without (is_exchange n) s.exchanges; conns = map (without_ask n) s.conns }
+
+abbrev pub short_of : ℕ → Passed → Passed
+short_of n p = elim (p.exchange == n) [ true ↦ record p { is_short = true } | false ↦ p ]
+
+abbrev pub on_passed : (Passed → Passed) → Client → Client
+on_passed f c = record c { passed = elim c.passed [ None ↦ None | Some p ↦ Some (f p) ] }
+
+abbrev pub unplaced : Exchange → Exchange
+unplaced e = record e { place = None; asked = 0 }
+
+-- somebody still wants its response
+abbrev pub has_client : State → Exchange → Bool
+has_client s e = list_any (λ c. is_client e.client c && not c.is_closing) s.clients
+
+-- its connection is gone: behind its head it is over, and before that it is asked again
+unfoldable pub leave_place : Exchange → State → State
+leave_place e s = elim e.is_headed [
+  | true ↦ end_exchange e.number (on_client_of e (on_passed (short_of e.number)) s)
+  | false ↦ elim (has_client s e) [ true ↦ on_exchange e.number unplaced s | false ↦ end_exchange e.number s ]
+]
+
+-- counts: its attempt is lost
+unfoldable pub lose_place : Bool → Exchange → State → State
+lose_place counts e s = elim counts [ true ↦ leave_place e (lose_attempt e s) | false ↦ leave_place e s ]
+
+unfoldable pub lose_places : Bool → List ℕ → State → State
+lose_places counts [] s = s
+lose_places counts (n ∷ line) s = lose_places counts line (elim (exchange s n) [ None ↦ s | Some e ↦ lose_place counts e s ])
+
+-- a connection's cause to be closed has come. "Client software SHOULD reopen the transport connection and retransmit the
+-- aborted sequence of requests"; ours: an attempt is lost where the connection never brought a whole response
+unfoldable pub close_conn : Bool → Conn → State → State
+close_conn counts k s =
+    lose_places (counts && not k.has_brought) k.line (on_conn k.number (λ j. record j { is_closing = true; line = []; answer = None; unread = [] }) s)
+
+-- ---- places
+
+abbrev pub open_conns : State → List Conn
+open_conns s = without (λ k. k.is_closing) s.conns
+
+abbrev pub carries_alone : State → Conn → Bool
+carries_alone s k = list_any (λ n. is_some_with (λ e. goes_alone e.head) (exchange s n)) k.line
+
+-- an ask on it, as far as places depend on it: its text was asked whole, or not
+abbrev pub ask_of : State → ℕ → Ask
+ask_of s n = record { head_request = false; is_begun = false; text_left = cond (is_some_with is_outstanding (exchange s n)) 0 1; body_left = 0 }
+
+-- and a connection with its asks
+abbrev pub peer_of : State → Conn → Peer
+peer_of s k = record {
+  number = k.number;
+  host = record { items = k.host };
+  port = k.port;
+  pipe = record (started k.number) { asks = map (ask_of s) k.line; may_pipeline = k.may_pipeline && not (carries_alone s k) };
+}
+
+-- where it would be asked now
+abbrev pub place_for : State → Exchange → Placed
+place_for s e = place e.key.host e.key.port (goes_alone e.head) (map (peer_of s) (open_conns s))
+
+-- its request is to be refused, or its client to be cut
+abbrev pub is_given_up : State → Exchange → Bool
+is_given_up s e = list_any (λ c. is_for e c && c.has_failed) s.clients
+
+abbrev pub wanted_place : State → Exchange → Placed
+wanted_place s e = elim (is_given_up s e) [ true ↦ Wait | false ↦ place_for s e ]
+
+-- it is the last of that line
+unfoldable pub put_on : ℕ → ℕ → State → State
+put_on n k s = on_conn k (λ j. record j { line = j.line ++ n ∷ [] }) (on_exchange n (λ e. record e { place = Some k; asked = 0 }) s)
+
+-- what placing waits for: nothing; the dial for an exchange; or that a connection is dropped before it
+pub data Pause : Type 0 where
+  AllPlaced : Pause
+  WaitsDial : Exchange → Pause
+  WaitsDrop : ℕ → Exchange → Pause
+
+pub record Placement : Type 0 where
+  pub state : State
+  pub pause : Pause
+
+-- each exchange without a place, in the order of their beginnings, up to the first that needs a new connection
+abbrev pub place_all : List Exchange → State → Placement
+place_all [] s = record { state = s; pause = AllPlaced }
+place_all (e ∷ es) s = elim e.place [
+  | Some k ↦ place_all es s
+  | None ↦ elim (wanted_place s e) [
+    | On k ↦ place_all es (put_on e.number k s)
+    | Wait ↦ place_all es s
+    | Dial ↦ record { state = s; pause = WaitsDial e }
+    | CloseThenDial k ↦ record { state = s; pause = WaitsDrop k e }
+  ]
+]
+
+abbrev pub placing : State → Placement
+placing s = place_all s.exchanges s

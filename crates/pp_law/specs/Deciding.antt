@@ -1,0 +1,190 @@
+-- What a decision does: a page, an exchange, or a reply by the row (RFC 2616, sections 13 and 14).
+use Rattle.std.specs.Prelude.{ℕ, ◌+◌, ◌%◌, Bool, true, false, ◌==◌, ◌&&◌, not, List, [], ◌∷◌, ◌++◌, Option, Some, None, option_map, Ok, Err}
+use Rattle.pp_ask.specs.declared.kind.AskKind.{AskKind}
+use Rattle.pp_ask.specs.declared.kind.AskKind.TheVariants.{Range as AsRange}
+use Rattle.pp_head.specs.Request.{Request}
+use Rattle.pp_plan.specs.Row.{Row}
+use Rattle.pp_plan.specs.declared.table.Begun.TheVariants.{Nothing}
+use Rattle.pp_ranges.specs.Ranges.{range_of}
+use Rattle.pp_ranges.specs.declared.range.Range.{Range}
+use Rattle.pp_ranges.specs.declared.range.Range.TheVariants.{Span, From, Last}
+use Rattle.pp_reply.specs.Keeping.{interim}
+use Rattle.pp_reply.specs.Texts.{page}
+use Rattle.pp_target.specs.Key.{Key, text_of}
+use Rattle.pp_world.specs.declared.note.Decision.{Decision}
+use Rattle.pp_world.specs.declared.note.Decision.TheVariants.{Refuse, Hit, Part, Head, NotModified, Unsatisfiable, Relay, Validate, Fetch, Pass}
+use Rattle.pp_law.specs.Connections.{on_client, end_exchange}
+use Rattle.pp_law.specs.Lists.{Bytes, is_some_with}
+use Rattle.pp_law.specs.Requests.{Parsed, NoHeadYet, NoHead, IsRequest, key_in, keeps_after, asks_head, expects_interim}
+use Rattle.pp_law.specs.Responses.{skipping}
+use Rattle.pp_law.specs.State.{State, Through, Own, Client, Exchange, Stage, Undecided, Waiting, Passing, Answering, Reply}
+use Rattle.pp_law.specs.Table.{row, row_for, swept, mark_row, enter, must_forget}
+use Rattle.pp_law.specs.Decisions.{kind_of, text_for}
+use Rattle.pp_law.specs.Due.{is_passing}
+use Rattle.pp_law.specs.Closing.{exchanges_of}
+
+-- exchanges without a place of a request that is refused are over
+unfoldable pub leave_unplaced : List Exchange → State → State
+leave_unplaced [] s = s
+leave_unplaced (e ∷ es) s = leave_unplaced es (elim e.place [ None ↦ end_exchange e.number s | Some k ↦ s ])
+
+abbrev pub page_with : ℕ → Bytes → Stage
+page_with status text = Answering (record { decision = Refuse status; source = None; has_begun = true; head_left = text; at = 0; to = 0 })
+
+-- the interim answer comes before the reply, once
+abbrev pub interim_for : Client → Parsed → Bytes
+interim_for c r = elim c.stage [
+  | Undecided ↦ elim (expects_interim r) [ true ↦ interim | false ↦ [] ]
+  | Waiting e ↦ c.interim_left
+  | Passing e ↦ c.interim_left
+  | Answering reply ↦ c.interim_left
+]
+
+abbrev pub first_interim : Client → Bytes
+first_interim c = elim c.front [ NoHeadYet ↦ [] | NoHead status ↦ [] | IsRequest r ↦ interim_for c r ]
+
+abbrev pub refused_with : ℕ → Client → Client
+refused_with status c = skipping (record c {
+  interim_left = first_interim c;
+  stage = page_with status (page status (asks_head c.front) (keeps_after status c.front));
+  closes = not (keeps_after status c.front);
+  is_told = false;
+  has_failed = false;
+  is_too_long = false;
+})
+
+unfoldable pub refuse : Client → ℕ → State → State
+refuse c status s = swept (leave_unplaced (exchanges_of c.number s) (on_client c.number (refused_with status) s))
+
+unfoldable pub begin_exchange : Exchange → State → State
+begin_exchange e s = record s { exchanges = s.exchanges ++ e ∷ []; next_exchange = s.next_exchange + 1 }
+
+abbrev pub is_pass : Decision → Bool
+is_pass Pass = true
+is_pass d = false
+
+abbrev pub tag_named : Option Row → Decision → Option Bytes
+tag_named row Validate = option_map (λ r. r.version.tag) row
+tag_named row d = None
+
+-- ours: a range is asked for from the front of a chunk on
+abbrev pub is_range : AskKind → Bool
+is_range (AsRange first last) = true
+is_range kind = false
+
+abbrev pub is_moved_in : Option Range → Bool
+is_moved_in None = false
+is_moved_in (Some (Span first last)) = not (first % 4096 == 0)
+is_moved_in (Some (From first)) = not (first % 4096 == 0)
+is_moved_in (Some (Last n)) = false
+
+abbrev pub new_exchange : State → Client → Request → Key → Decision → AskKind → Exchange
+new_exchange s c head key d kind = record {
+  number = s.next_exchange;
+  client = c.number;
+  request = c.index;
+  head = head;
+  key = key;
+  aim = elim (is_pass d) [ true ↦ Through | false ↦ Own ];
+  named = tag_named (row_for s head (text_of key)) d;
+  is_ranged = is_range kind;
+  is_moved = is_range kind && is_moved_in (range_of head.fields);
+  text = text_for s head key kind;
+  asked = 0;
+  body_left = elim (is_pass d) [ true ↦ c.body_left | false ↦ 0 ];
+  requested = 0;
+  place = None;
+  is_headed = false;
+  bound = None;
+}
+
+abbrev pub stage_for : Decision → ℕ → Stage
+stage_for Pass n = Passing n
+stage_for d n = Waiting n
+
+abbrev pub asking_with : Decision → ℕ → Client → Client
+asking_with d n c = record c {
+  interim_left = first_interim c;
+  stage = stage_for d n;
+  begun = Nothing;
+  settled = None;
+  is_told = false;
+  has_plain_age = false;
+  passed = None;
+}
+
+unfoldable pub ask_for : Client → Decision → Request → Key → AskKind → State → State
+ask_for c d head key kind s = begin_exchange (new_exchange s c head key d kind) (on_client c.number (asking_with d s.next_exchange) s)
+
+unfoldable pub ask_as : Client → Decision → Request → Key → State → State
+ask_as c d head key s = elim (kind_of head (row_for s head (text_of key)) d) [ None ↦ s | Some kind ↦ ask_for c d head key kind s ]
+
+unfoldable pub ask_origin : Client → Decision → State → State
+ask_origin c d s = elim c.front [
+  | NoHeadYet ↦ s
+  | NoHead status ↦ s
+  | IsRequest r ↦ elim r.key [ Ok key ↦ ask_as c d r.head key s | Err fault ↦ s ]
+]
+
+-- ---- a reply by the row
+
+abbrev pub span_of : Decision → ℕ × ℕ
+span_of (Hit from to) = (from, to)
+span_of (Part from to) = (from, to)
+span_of d = (0, 0)
+
+abbrev pub reply_by : Decision → Option ℕ → Reply
+reply_by d source = record { decision = d; source = source; has_begun = false; head_left = []; at = (span_of d).0; to = (span_of d).1 }
+
+abbrev pub answering_with : Reply → Client → Client
+answering_with r c = record c {
+  interim_left = first_interim c;
+  stage = Answering r;
+  closes = not (keeps_after 200 c.front);
+  is_told = false;
+  passed = elim (is_passing r.decision) [ true ↦ c.passed | false ↦ None ];
+}
+
+unfoldable pub follow_row : Client → Decision → Bytes → State → State
+follow_row c d key s = elim (row s key) [ None ↦ s | Some x ↦ swept (on_client c.number (answering_with (reply_by d (Some x.id))) s) ]
+
+unfoldable pub follow : Client → Decision → State → State
+follow c d s = elim (key_in c.front) [ None ↦ s | Some key ↦ follow_row c d (text_of key) s ]
+
+unfoldable pub relay : Client → State → State
+relay c s = on_client c.number (answering_with (reply_by Relay None)) s
+
+-- ---- all
+
+-- ours: each decision but one for want of memory brings the row of its key into memory, and marks it
+abbrev pub is_for_memory : Decision → Bool
+is_for_memory (Refuse status) = status == 500
+is_for_memory d = false
+
+unfoldable pub mark_row_of : Bytes → State → State
+mark_row_of key s = elim (row s key) [ None ↦ s | Some x ↦ mark_row x.id s ]
+
+unfoldable pub enter_row : Client → Decision → State → State
+enter_row c d s = elim (is_for_memory d) [
+  | true ↦ s
+  | false ↦ elim (key_in c.front) [ None ↦ s | Some key ↦ mark_row_of (text_of key) (enter (text_of key) false s) ]
+]
+
+-- another row has to leave memory before
+abbrev pub has_to_forget : State → Client → Bool
+has_to_forget s c = is_some_with (λ key. must_forget s (text_of key)) (key_in c.front)
+
+unfoldable pub decided_by : Client → Decision → State → State
+decided_by c (Refuse status) s = refuse c status s
+decided_by c Pass s = ask_origin c Pass s
+decided_by c Fetch s = ask_origin c Fetch s
+decided_by c Validate s = ask_origin c Validate s
+decided_by c Relay s = relay c s
+decided_by c (Hit from to) s = follow c (Hit from to) s
+decided_by c (Part from to) s = follow c (Part from to) s
+decided_by c Head s = follow c Head s
+decided_by c NotModified s = follow c NotModified s
+decided_by c Unsatisfiable s = follow c Unsatisfiable s
+
+unfoldable pub decided : Client → Decision → State → State
+decided c d s = decided_by c d (enter_row c d s)

@@ -1,0 +1,91 @@
+-- What followers ask for: bytes that are not there and do not come (RFC 7233, sections 3.2 and 4.3; ours: chunk by chunk).
+use Rattle.std.specs.Prelude.{ℕ, ◌+◌, ◌-◌, ◌*◌, ◌/◌, Bool, true, false, ◌&&◌, ◌||◌, not, List, [], ◌∷◌, is_some, Option, Some, None, Ok, Err}
+use Rattle.std.specs.List.{list_any}
+use Rattle.pp_ask.specs.declared.kind.AskKind.TheVariants.{Hole as AsHole}
+use Rattle.pp_head.specs.Request.{Request}
+use Rattle.pp_plan.specs.Need.{need}
+use Rattle.pp_target.specs.Key.{Key}
+use Rattle.pp_law.specs.Chunks.{chunk_len}
+use Rattle.pp_law.specs.Deciding.{begin_exchange}
+use Rattle.pp_law.specs.Decisions.{fits, lent, text_for}
+use Rattle.pp_law.specs.Connections.{on_client, is_for}
+use Rattle.pp_law.specs.Lists.{Bytes, is_some_with, without}
+use Rattle.pp_law.specs.Requests.{NoHeadYet, NoHead, IsRequest}
+use Rattle.pp_law.specs.State.{State, Through, Own, Filling, Client, Exchange}
+use Rattle.pp_law.specs.Table.{next_of, Next, is_brought, brings, held_to, next_held, chunks_in}
+
+-- ---- step 5
+
+-- what is not held: from the first offset in the chunk of the next byte, to the next chunk with any that is
+abbrev pub hole_of : State → Next → ℕ × ℕ
+hole_of s n =
+    let chunk = n.at / chunk_len in
+    (held_to s n.source (chunk * chunk_len), next_held (chunks_in n.source.version.length) s n.source (chunk + 1))
+
+-- the next byte, where it comes
+abbrev pub coming_to : State → Next → List (ℕ × ℕ)
+coming_to s n = elim (is_brought s n.source n.at) [ true ↦ (n.at, n.at + 1) ∷ [] | false ↦ [] ]
+
+-- of a version that was retired nothing is asked
+abbrev pub need_of : State → Next → Option (ℕ × ℕ)
+need_of s n = elim n.source.is_retired [ true ↦ None | false ↦ need n.at n.to (hole_of s n) (coming_to s n) ]
+
+abbrev pub hole_text : State → Request → Key → Next → ℕ × ℕ → Bytes
+hole_text s head key n span = text_for s head key (AsHole span.0 (span.1 - 1) (lent n.source.version.tag))
+
+abbrev pub filling_exchange : State → Client → Request → Key → Next → ℕ × ℕ → Exchange
+filling_exchange s c head key n span = record {
+  number = s.next_exchange;
+  client = c.number;
+  request = c.index;
+  head = head;
+  key = key;
+  aim = Filling n.source.version span.0 span.1;
+  named = Some n.source.version.tag;
+  is_ranged = true;
+  is_moved = false;
+  text = hole_text s head key n span;
+  asked = 0;
+  body_left = 0;
+  requested = 0;
+  place = None;
+  is_headed = false;
+  bound = None;
+}
+
+unfoldable pub fill_with : Exchange → Client → State → State
+fill_with e c s = elim (fits e.text) [ true ↦ begin_exchange e s | false ↦ on_client c.number (λ x. record x { is_too_long = true }) s ]
+
+unfoldable pub fill_span : Client → Next → ℕ × ℕ → State → State
+fill_span c n span s = elim c.front [
+  | NoHeadYet ↦ s
+  | NoHead status ↦ s
+  | IsRequest r ↦ elim r.key [ Ok key ↦ fill_with (filling_exchange s c r.head key n span) c s | Err fault ↦ s ]
+]
+
+unfoldable pub fill_next : Client → Next → State → State
+fill_next c n s = elim (need_of s n) [ None ↦ s | Some span ↦ fill_span c n span s ]
+
+unfoldable pub fill_for : Client → State → State
+fill_for c s = elim (c.has_failed || c.is_too_long) [ true ↦ s | false ↦ elim (next_of s c) [ None ↦ s | Some n ↦ fill_next c n s ] ]
+
+unfoldable pub fill_each : List Client → State → State
+fill_each [] s = s
+fill_each (c ∷ cs) s = fill_each cs (fill_for c s)
+
+unfoldable pub fill : State → State
+fill s = elim s.is_stopped [ true ↦ s | false ↦ fill_each s.clients s ]
+
+-- ---- step 2: an ask without a place that no longer brings what its own client wants is given up
+
+abbrev pub is_wanted_by : State → Exchange → Client → Bool
+is_wanted_by s e c = is_for e c && is_some_with (λ n. brings s n.source n.at e) (next_of s c)
+
+abbrev pub is_filling : Exchange → Bool
+is_filling e = elim e.aim [ Through ↦ false | Own ↦ false | Filling v from to ↦ true ]
+
+abbrev pub is_useless_ask : State → Exchange → Bool
+is_useless_ask s e = is_filling e && not (is_some e.place) && not (list_any (is_wanted_by s e) s.clients)
+
+unfoldable pub give_up_asks : State → State
+give_up_asks s = record s { exchanges = without (is_useless_ask s) s.exchanges }

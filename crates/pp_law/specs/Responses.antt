@@ -1,0 +1,165 @@
+-- Responses on a connection, in the order of its line, and what becomes of their bytes (RFC 2616, sections 4.4, 6, 8.1 and 10.1).
+use Rattle.std.specs.Prelude.{ℕ, zero, suc, ◌+◌, ◌-◌, Bool, true, false, ◌==◌, ◌&&◌, ◌||◌, not, nat_le, nat_lt, [], ◌++◌, length, drop, codes, Some, None, Ok, Err}
+use Rattle.pp_framing.specs.Body.{Done, Going, Bad}
+use Rattle.pp_framing.specs.Framing.{rule_of}
+use Rattle.pp_framing.specs.Rules.{body_of, ending_in}
+use Rattle.pp_framing.specs.declared.body.BodyRule.{BodyRule}
+use Rattle.pp_framing.specs.declared.body.Ending.TheVariants.{Whole as IsWhole, Short as IsShort}
+use Rattle.pp_head.specs.Read.{Whole, TooLong, Bad as NoHead, More}
+use Rattle.pp_head.specs.Response.{Response, response_at}
+use Rattle.pp_pass.specs.Pipe.{finished}
+use Rattle.pp_plan.specs.Requests.{is_head}
+use Rattle.pp_reply.specs.Keeping.{is_old}
+use Rattle.pp_text.specs.Bytes.{is_empty}
+use Rattle.pp_text.specs.Fields.{has_item}
+use Rattle.pp_law.specs.Connections.{conn, on_conn, on_client_of, front_of_line, is_outstanding, fail, end_exchange, close_conn}
+use Rattle.pp_law.specs.Lists.{Bytes, is_some_with}
+use Rattle.pp_law.specs.OwnHeads.{is_wrong_head, through_head, own_head, filling_head, note_sent, join_bound}
+use Rattle.pp_law.specs.Passing.{pour, poured}
+use Rattle.pp_law.specs.State.{State, Through, Own, Filling, Answer, Client, Conn, Exchange}
+
+-- ---- ends
+
+-- the rest of a body that nobody reads is dropped as it comes
+abbrev pub skipping : Client → Client
+skipping c = record c { heard = drop c.body_left c.heard; skip = c.skip + (c.body_left - length c.heard); body_left = 0 }
+
+-- the client of an exchange that is passed
+unfoldable pub skip_body : Exchange → State → State
+skip_body e s = elim e.aim [ Through ↦ on_client_of e skipping s | Own ↦ s | Filling v from to ↦ s ]
+
+-- whether the connection goes on behind the response (sections 8.1.2.1 and 19.6.2)
+abbrev pub stays_open : Response → Bool
+stays_open head = elim (is_old head.minor) [
+  | true ↦ has_item (codes "connection") (codes "keep-alive") head.fields
+  | false ↦ not (has_item (codes "connection") (codes "close") head.fields)
+]
+
+abbrev pub rested : Response → Conn → Conn
+rested head k = record k { answer = None; unread = []; is_early = false; has_brought = true; may_pipeline = k.may_pipeline || not (is_old head.minor) }
+
+unfoldable pub close_this : ℕ → State → State
+close_this n s = elim (conn s n) [ None ↦ s | Some k ↦ close_conn true k s ]
+
+-- a response is whole; the connection goes on unless it says otherwise, or the request's body was not asked whole
+unfoldable pub finish : Conn → Exchange → Answer → State → State
+finish k e a s =
+    let done : State = on_conn k.number (rested a.head) (end_exchange e.number (skip_body e (pour e finished s))) in
+    elim (stays_open a.head && (e.body_left == 0)) [ true ↦ done | false ↦ close_this k.number done ]
+
+-- a response outside the grammar, or one that answers nothing: its request's attempts end, and the connection is closed
+unfoldable pub bad_response : Conn → State → State
+bad_response k s = elim (front_of_line s k) [
+  | None ↦ close_conn false k s
+  | Some e ↦ close_conn false k (end_exchange e.number (fail e s))
+]
+
+-- ---- heads
+
+-- "Informational 1xx" before the response that counts (section 10.1); 101 would leave HTTP
+abbrev pub is_interim : ℕ → Bool
+is_interim status = nat_le 100 status && nat_lt status 200 && not (status == 101)
+
+unfoldable pub by_aim : Exchange → Response → BodyRule → State → State
+by_aim e head rule s = elim e.aim [ Through ↦ through_head e head rule s | Own ↦ own_head e head rule s | Filling v from to ↦ filling_head e head rule s ]
+
+-- HEAD is asked only for a client
+abbrev pub asks_head : Exchange → Bool
+asks_head e = elim e.aim [ Through ↦ is_head e.head.method | Own ↦ false | Filling v from to ↦ false ]
+
+abbrev pub answered_by : Response → BodyRule → Conn → Conn
+answered_by head rule k = record k { unread = []; is_early = false; answer = Some (record { head = head; rule = rule; raw = [] }) }
+
+-- where the body is empty, the response is whole
+unfoldable pub end_if_empty : Conn → Exchange → Answer → State → State
+end_if_empty k e a s = elim (body_of a.rule []).outcome [ Done rest ↦ finish k e a s | Going ↦ s | Bad ↦ s ]
+
+unfoldable pub begin_answer : Conn → Exchange → Response → BodyRule → State → State
+begin_answer k e head rule s =
+    end_if_empty k e (record { head = head; rule = rule; raw = [] }) (by_aim e head rule (on_conn k.number (answered_by head rule) s))
+
+unfoldable pub answer_for : Conn → Exchange → Response → State → State
+answer_for k e head s = elim (k.is_early || is_wrong_head e head) [
+  | true ↦ bad_response k s
+  | false ↦ elim (rule_of (asks_head e) head.status head.fields) [ Ok rule ↦ begin_answer k e head rule s | Err fault ↦ bad_response k s ]
+]
+
+-- a final head came: it belongs to the first exchange of the line
+unfoldable pub head_came : Conn → Response → State → State
+head_came k head s = elim (front_of_line s k) [ None ↦ bad_response k s | Some e ↦ answer_for k e head s ]
+
+-- ---- bytes
+
+-- the state, and the bytes that follow
+pub record Piece : Type 0 where
+  pub state : State
+  pub rest : Bytes
+
+-- a response that begins before its ask was asked whole answers nothing
+abbrev pub is_early_on : State → Conn → Bool
+is_early_on s k = k.is_early || (is_empty k.unread && not (is_some_with is_outstanding (front_of_line s k)))
+
+abbrev pub head_piece : Conn → Bytes → State → Piece
+head_piece k bytes s =
+    let early = is_early_on s k in
+    let j : Conn = record k { is_early = early } in
+    elim (response_at (k.unread ++ bytes)) [
+      | More ↦ record { state = on_conn k.number (λ i. record i { unread = k.unread ++ bytes; is_early = early }) s; rest = [] }
+      | TooLong ↦ record { state = bad_response k s; rest = [] }
+      | NoHead ↦ record { state = bad_response k s; rest = [] }
+      | Whole head ↦ elim (is_interim head.status) [
+        | true ↦ record { state = on_conn k.number (λ i. record i { unread = []; is_early = false }) s; rest = drop head.length (k.unread ++ bytes) }
+        | false ↦ record { state = head_came j head s; rest = drop head.length (k.unread ++ bytes) }
+      ]
+    ]
+
+-- the data of a response go where its exchange is bound
+unfoldable pub deliver : Exchange → Answer → ℕ → Bytes → State → State
+deliver e a at bytes s = pour e (poured bytes) (join_bound e bytes (note_sent e a.head at bytes s))
+
+abbrev pub payload_of : Answer → Bytes
+payload_of a = (body_of a.rule a.raw).payload
+
+abbrev pub body_piece_of : Conn → Answer → Exchange → Bytes → State → Piece
+body_piece_of k a e bytes s =
+    let body = body_of a.rule (a.raw ++ bytes) in
+    let at = length (payload_of a) in
+    let t : State = deliver e a at (drop at body.payload) s in
+    elim body.outcome [
+      | Going ↦ record { state = on_conn k.number (λ i. record i { answer = Some (record a { raw = a.raw ++ bytes }) }) t; rest = [] }
+      | Bad ↦ record { state = bad_response k t; rest = [] }
+      | Done rest ↦ record { state = finish k e a t; rest = rest }
+    ]
+
+abbrev pub body_piece : Conn → Answer → Bytes → State → Piece
+body_piece k a bytes s = elim (front_of_line s k) [
+  | None ↦ record { state = close_conn false k s; rest = [] }
+  | Some e ↦ body_piece_of k a e bytes s
+]
+
+abbrev pub next_piece : Conn → Bytes → State → Piece
+next_piece k bytes s = elim k.answer [ Some a ↦ body_piece k a bytes s | None ↦ head_piece k bytes s ]
+
+-- what one read brings, one response behind the other; each piece has a byte at least
+unfoldable pub got : ℕ → ℕ → Bytes → State → State
+got zero n bytes s = s
+got (suc more) n bytes s = elim (conn s n) [
+  | None ↦ s
+  | Some k ↦ elim (k.is_closing || is_empty bytes) [
+    | true ↦ s
+    | false ↦ got more n (next_piece k bytes s).rest (next_piece k bytes s).state
+  ]
+]
+
+-- a clean end may end a body (section 4.4)
+abbrev pub is_whole_at_end : Answer → Bool
+is_whole_at_end a = elim (ending_in a.rule (body_of a.rule a.raw).outcome) [ IsWhole ↦ true | IsShort ↦ false ]
+
+unfoldable pub finish_first : Conn → Answer → State → State
+finish_first k a s = elim (front_of_line s k) [ None ↦ s | Some e ↦ finish k e a s ]
+
+unfoldable pub ended : Bool → Conn → State → State
+ended is_clean k s = elim k.answer [
+  | None ↦ close_conn true k s
+  | Some a ↦ elim (is_clean && is_whole_at_end a) [ true ↦ close_this k.number (finish_first k a s) | false ↦ close_conn true k s ]
+]

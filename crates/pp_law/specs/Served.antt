@@ -1,0 +1,126 @@
+-- What has to stand in the wants at the end of a turn, so that nobody waits on nothing. It is ours.
+use Rattle.std.specs.Prelude.{ℕ, ◌+◌, ◌/◌, Bool, true, false, ◌==◌, ◌&&◌, ◌||◌, not, nat_lt, nat_le, max, List, [], ◌∷◌, length, fold, filter_map, Option, Some, None}
+use Rattle.std.specs.List.{list_any, list_all}
+use Rattle.pp_peers.specs.declared.placing.Placed.{Placed}
+use Rattle.pp_peers.specs.declared.placing.Placed.TheVariants.{On, Dial, CloseThenDial, Wait}
+use Rattle.pp_text.specs.Bytes.{is_empty}
+use Rattle.pp_world.specs.declared.event.Wants.{Wants}
+use Rattle.pp_law.specs.Asking.{has_room, left_to_ask, room_for}
+use Rattle.pp_law.specs.Chunks.{chunk_len}
+use Rattle.pp_law.specs.Connections.{exchange, is_client, is_conn, is_outstanding, front_of_line, place_for}
+use Rattle.pp_law.specs.Lists.{has_number, is_some_with}
+use Rattle.pp_law.specs.Replies.{offer, is_at_body}
+use Rattle.pp_law.specs.Requests.{has_request}
+use Rattle.pp_law.specs.State.{State, Bound, Client, Conn, Exchange}
+use Rattle.pp_law.specs.Table.{instance, next_of, is_held, is_next_held}
+use Rattle.pp_law.specs.Turn.{waits_for_exchange}
+
+abbrev pub wants_read : Wants → ℕ → Bool
+wants_read w n = has_number n w.read.items
+
+abbrev pub wants_write : Wants → ℕ → Bool
+wants_write w n = has_number n w.write.items
+
+abbrev pub same : Bool → Bool → Bool
+same true b = b
+same false b = not b
+
+-- ours: at most 256 clients
+abbrev pub accepts_rightly : State → Wants → Bool
+accepts_rightly s w = same (nat_lt (length s.clients) 256) w.accept
+
+-- ---- clients
+
+-- also where the bytes are on disk alone
+abbrev pub has_to_say : State → Client → Bool
+has_to_say s c = not (is_empty (offer s c)) || (is_at_body c && is_some_with (is_next_held s) (next_of s c))
+
+-- it may send its request, or an exchange of its request is there, or one that brings its next byte; or it shares one
+abbrev pub is_waiting : State → Wants → Client → Bool
+is_waiting s w c = (not (has_request c.front) && wants_read w c.number) || waits_for_exchange s c
+
+abbrev pub is_client_served : State → Wants → Client → Bool
+is_client_served s w c = elim (has_to_say s c) [
+  | true ↦ wants_write w c.number
+  | false ↦ not (wants_write w c.number) && is_waiting s w c
+]
+
+-- ---- connections
+
+-- where the furthest of those stands who follow what the exchange is bound to
+abbrev pub at_of : State → Bound → Client → Option ℕ
+at_of s b c = elim (next_of s c) [ None ↦ None | Some n ↦ elim (n.source.id == b.instance) [ true ↦ Some n.at | false ↦ None ] ]
+
+abbrev pub furthest : List ℕ → Option ℕ
+furthest [] = None
+furthest (at ∷ ats) = Some (fold max at ats)
+
+abbrev pub is_held_in : State → Bound → ℕ → Bool
+is_held_in s b at = is_some_with (λ x. is_held s x at) (instance s b.instance)
+
+-- ours: 256 chunks past that follower, whose next byte is there
+abbrev pub is_past : State → Bound → ℕ → Bool
+is_past s b at = nat_le (at / chunk_len + 256) (b.next / chunk_len) && is_held_in s b at
+
+abbrev pub is_far_ahead : State → Exchange → Bool
+is_far_ahead s e = is_some_with (λ b. is_some_with (is_past s b) (furthest (filter_map (at_of s b) s.clients))) e.bound
+
+-- reading stops where the pipe has no room, or far ahead of all followers
+abbrev pub is_stopped : State → Exchange → Bool
+is_stopped s e = (room_for s e == 0) || is_far_ahead s e
+
+-- one without an exchange is read, so that its end is seen; one whose ask is not whole may be
+abbrev pub reads_rightly : State → Wants → Conn → Bool
+reads_rightly s w k = elim (front_of_line s k) [
+  | None ↦ wants_read w k.number
+  | Some e ↦ elim (is_outstanding e) [ true ↦ same (not (is_stopped s e)) (wants_read w k.number) | false ↦ true ]
+]
+
+abbrev pub has_to_ask : State → Conn → Bool
+has_to_ask s k = list_any (λ n. is_some_with (λ e. not (is_empty (left_to_ask s e))) (exchange s n)) k.line
+
+abbrev pub is_conn_served : State → Wants → Conn → Bool
+is_conn_served s w k = elim k.is_reached [
+  | true ↦ same (has_to_ask s k) (wants_write w k.number) && reads_rightly s w k
+  | false ↦ true
+]
+
+-- ---- exchanges
+
+abbrev pub is_nowhere : Placed → Bool
+is_nowhere Wait = true
+is_nowhere (On k) = false
+is_nowhere Dial = false
+is_nowhere (CloseThenDial k) = false
+
+-- it waits for more of the request's body
+abbrev pub waits_for_body : State → Exchange → Bool
+waits_for_body s e = is_outstanding e && nat_lt 0 e.body_left && is_empty (left_to_ask s e)
+
+-- one without a place has none to go to, and the client of one that waits for a body is read
+abbrev pub is_exchange_served : State → Wants → Exchange → Bool
+is_exchange_served s w e = elim e.place [
+  | None ↦ is_nowhere (place_for s e)
+  | Some k ↦ not (waits_for_body s e) || wants_read w e.client
+]
+
+-- ---- and nothing else
+
+abbrev pub may_read : State → ℕ → Bool
+may_read s n =
+    list_any (λ c. is_client n c && not c.has_hung_up && has_room c) s.clients || list_any (λ k. is_conn n k && k.is_reached) s.conns
+
+abbrev pub may_write : State → ℕ → Bool
+may_write s n =
+    list_any (λ c. is_client n c && has_to_say s c) s.clients || list_any (λ k. is_conn n k && k.is_reached && has_to_ask s k) s.conns
+
+abbrev pub wants_no_more : State → Wants → Bool
+wants_no_more s w = list_all (may_read s) w.read.items && list_all (may_write s) w.write.items
+
+abbrev pub is_served : State → Wants → Bool
+is_served s w =
+    accepts_rightly s w
+    && (list_all (is_client_served s w) s.clients
+    && (list_all (is_conn_served s w) s.conns
+    && (list_all (is_exchange_served s w) s.exchanges
+    && wants_no_more s w)))

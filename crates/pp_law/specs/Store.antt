@@ -1,0 +1,289 @@
+-- Entries on disk: how they are drafted, sealed, taken away and read back. The format and the order are ours; what a crash may leave
+-- of them is pp_world's, and the operations of each step are pp_gate's.
+use Rattle.std.specs.Prelude.{ℕ, zero, suc, ◌+◌, ◌-◌, ◌*◌, ◌/◌, Bool, true, false, ◌==◌, ◌&&◌, ◌||◌, not, nat_lt, nat_le, min, List, [], ◌∷◌, ◌++◌, length, take, drop, map, find, bytes_eq, is_some, Option, Some, None}
+use Rattle.std.specs.List.{list_any, list_all}
+use Rattle.pp_entry.specs.Entries.{is_sized}
+use Rattle.pp_entry.specs.Gates.{leading_open}
+use Rattle.pp_entry.specs.Texts.{body_at, chunks_of, fits, head_text, padded}
+use Rattle.pp_gate.specs.Gate.{fresh_file, publish_ops}
+use Rattle.pp_gate.specs.Seal.{seal_ops}
+use Rattle.pp_target.specs.Name.{name_of}
+use Rattle.pp_text.specs.Bytes.{is_empty}
+use Rattle.pp_world.specs.Disk.{view_of, bytes_in}
+use Rattle.pp_world.specs.declared.happening.Happening.TheVariants.{Began, Did}
+use Rattle.pp_world.specs.declared.op.DiskOp.{DiskOp}
+use Rattle.pp_world.specs.declared.op.DiskOp.TheVariants.{Draft, SyncDraft, Publish, Write, Sync, Remove}
+use Rattle.pp_law.specs.Chunks.{chunk_len, chunk_bytes, filled, put_chunk, note_use}
+use Rattle.pp_law.specs.Lists.{Bytes, change, without, has_text, is_some_with}
+use Rattle.pp_law.specs.State.{State, Entry, Instance, Todo, Do, Enter, Acknowledge}
+use Rattle.pp_law.specs.Table.{row, kept_row, is_same_version, is_entry_of, is_kept_row_of}
+
+abbrev pub is_same_op : DiskOp → DiskOp → Bool
+is_same_op (Draft a) (Draft b) = bytes_eq a b
+is_same_op SyncDraft SyncDraft = true
+is_same_op (Publish a) (Publish b) = bytes_eq a b
+is_same_op (Write a i x) (Write b j y) = bytes_eq a b && (i == j) && bytes_eq x y
+is_same_op (Sync a) (Sync b) = bytes_eq a b
+is_same_op (Remove a) (Remove b) = bytes_eq a b
+is_same_op op other = false
+
+abbrev pub is_named : Bytes → Entry → Bool
+is_named name e = bytes_eq e.name name
+
+abbrev pub is_closed : State → Bytes → Bool
+is_closed s name = has_text name s.closed_names
+
+-- ---- a new entry
+
+abbrev pub block_of : Instance → Bytes
+block_of x = head_text x.key x.version.length x.fields x.times
+
+-- ours: at most 10,000 names are taken
+abbrev pub has_free_name : State → Bytes → Bool
+has_free_name s name =
+    not (list_any (is_named name) s.entries) && not (is_closed s name) && nat_lt (length s.entries + length s.closed_names) 10000
+
+abbrev pub may_draft : State → Instance → Bool
+may_draft s x = elim (not x.is_retired && is_sized x.version.length && fits x.fields (block_of x)) [ true ↦ has_free_name s (name_of x.key) | false ↦ false ]
+
+abbrev pub file_of : Instance → Bytes
+file_of x = fresh_file (padded (block_of x)) x.version.length
+
+abbrev pub new_entry : Instance → Entry
+new_entry x = record { name = name_of x.key; key = x.key; version = x.version; fields = x.fields; times = x.times; extent = 0; is_stale = false }
+
+abbrev pub drafting : Instance → List Todo
+drafting x = map Do (publish_ops (name_of x.key) (file_of x)) ++ Enter (new_entry x) ∷ []
+
+abbrev pub draft_of : State → Instance → Option (List Todo)
+draft_of s x = elim (may_draft s x) [ true ↦ Some (drafting x) | false ↦ None ]
+
+-- ---- a run of chunks is sealed
+
+abbrev pub is_whole_chunk : State → Instance → ℕ → Bool
+is_whole_chunk s x i = nat_lt (i * chunk_len) x.version.length && (filled x.id i s.chunks == min chunk_len (x.version.length - i * chunk_len))
+
+-- how many whole chunks stand in memory from this one on, so many at most
+abbrev pub whole_run : ℕ → State → Instance → ℕ → ℕ
+whole_run zero s x i = 0
+whole_run (suc more) s x i = elim (is_whole_chunk s x i) [ true ↦ 1 + whole_run more s x (i + 1) | false ↦ 0 ]
+
+-- the offset behind so many chunks
+abbrev pub end_of_run : Instance → Entry → ℕ → ℕ
+end_of_run x e count = min x.version.length (e.extent + count * chunk_len)
+
+-- ours: a run is as long as is set, or reaches the end of the body
+abbrev pub is_full_run : State → Instance → Entry → ℕ → Bool
+is_full_run s x e count = nat_lt 0 count && ((count == s.settings.disk_run) || (end_of_run x e count == x.version.length))
+
+abbrev pub may_seal : State → Instance → Entry → Bool
+may_seal s x e = not x.is_retired && is_same_version x.version e.version && not (is_closed s e.name) && nat_lt e.extent x.version.length
+
+abbrev pub run_bytes : ℕ → State → Instance → ℕ → Bytes
+run_bytes zero s x i = []
+run_bytes (suc more) s x i = chunk_bytes x.id i s.chunks ++ run_bytes more s x (i + 1)
+
+abbrev pub sealing : State → Instance → Entry → ℕ → List Todo
+sealing s x e count =
+    let first = e.extent / chunk_len in
+    map Do (seal_ops e.name x.version.length first count (run_bytes count s x first))
+    ++ Acknowledge x.key x.version.tag x.version.length (end_of_run x e count) ∷ []
+
+-- how many chunks the next run has
+abbrev pub run_from : State → Instance → Entry → ℕ
+run_from s x e = whole_run s.settings.disk_run s x (e.extent / chunk_len)
+
+abbrev pub seal_with : State → Instance → Entry → Option (List Todo)
+seal_with s x e =
+    let count = run_from s x e in
+    elim (may_seal s x e && is_full_run s x e count) [ true ↦ Some (sealing s x e count) | false ↦ None ]
+
+abbrev pub seal_of : State → Instance → Option (List Todo)
+seal_of s x = elim (kept_row s x.key) [ None ↦ None | Some e ↦ seal_with s x e ]
+
+abbrev pub is_due_to_seal : State → Instance → Bool
+is_due_to_seal s x = is_some_with (λ e. may_seal s x e && is_full_run s x e (run_from s x e)) (kept_row s x.key)
+
+-- what is whole and not kept is sealed before the turn ends
+abbrev pub has_to_seal : State → Bool
+has_to_seal s = list_any (is_due_to_seal s) s.instances
+
+-- ---- an entry is noted as gone, and taken away
+
+abbrev pub is_gone : State → Entry → Bool
+is_gone s e = e.is_stale || is_closed s e.name
+
+-- a row of another key may take its name
+abbrev pub takes_name : State → Entry → Instance → Bool
+takes_name s e x = not x.is_retired && bytes_eq (name_of x.key) e.name && not (bytes_eq x.key e.key)
+
+abbrev pub is_displaced : State → Entry → Bool
+is_displaced s e = list_any (takes_name s e) s.instances
+
+abbrev pub removing : State → Entry → List Todo
+removing s e = elim (is_closed s e.name) [ true ↦ [] | false ↦ Do (Remove e.name) ∷ [] ]
+
+abbrev pub displaced_by : State → Entry → List Bytes
+displaced_by s e = elim (is_gone s e) [ true ↦ s.displaced | false ↦ e.key ∷ s.displaced ]
+
+unfoldable pub remove_entry : Entry → State → State
+remove_entry e s = record s {
+  agenda = removing s e;
+  entries = without (is_entry_of e.key) s.entries;
+  acknowledged = without (is_entry_of e.key) s.acknowledged;
+  displaced = displaced_by s e;
+}
+
+unfoldable pub note_gone : Bytes → State → State
+note_gone key s = elim (find (is_entry_of key) s.entries) [ None ↦ s | Some e ↦ remove_entry e s ]
+
+abbrev pub is_idle_disk : State → Bool
+is_idle_disk s = not (is_some s.under_way)
+
+abbrev pub may_note_gone : State → Bytes → Bool
+may_note_gone s key = is_idle_disk s && is_empty s.agenda && list_any (λ e. is_entry_of key e && (is_gone s e || is_displaced s e)) s.entries
+
+-- ---- recovery: gates behind the first that is closed are closed, and the file is synced
+
+abbrev pub file_under : State → Bytes → Bytes
+file_under s name = elim (view_of name s.disk).slot [ [] ↦ [] | file ∷ files ↦ bytes_in file ]
+
+abbrev pub gates_of : State → Entry → Bytes
+gates_of s e = take (chunks_of e.version.length) (drop 8192 (file_under s e.name))
+
+abbrev pub is_open_gate : ℕ → Bool
+is_open_gate gate = gate == 1
+
+abbrev pub has_stray_gates : State → Entry → Bool
+has_stray_gates s e = list_any is_open_gate (drop (leading_open (gates_of s e)) (gates_of s e))
+
+abbrev pub are_strays : State → ℕ → ℕ → Entry → Bool
+are_strays s at count e =
+    let gates = gates_of s e in
+    nat_lt (8192 + leading_open gates) at && nat_le (at + count) (8192 + length gates) && list_all is_open_gate (take count (drop (at - 8192) gates))
+
+abbrev pub closes_strays : State → Bytes → ℕ → Bytes → Entry → Bool
+closes_strays s name at bytes e = is_named name e && nat_lt 0 (length bytes) && list_all (λ b. b == 0) bytes && are_strays s at (length bytes) e
+
+abbrev pub repair_of : State → DiskOp → Option (List Todo)
+repair_of s (Write name at bytes) = elim (list_any (closes_strays s name at bytes) s.entries) [
+  | true ↦ Some (Do (Write name at bytes) ∷ Do (Sync name) ∷ [])
+  | false ↦ None
+]
+repair_of s op = None
+
+-- ---- operations
+
+abbrev pub is_first_todo : DiskOp → List Todo → Bool
+is_first_todo op [] = false
+is_first_todo op (Do next ∷ todo) = is_same_op next op
+is_first_todo op (Enter e ∷ todo) = false
+is_first_todo op (Acknowledge key tag n extent ∷ todo) = false
+
+-- what may be begun of a row: its draft, or the sealing of a run
+abbrev pub plan_of : State → DiskOp → Instance → Option (List Todo)
+plan_of s (Draft bytes) x = draft_of s x
+plan_of s (Write name at bytes) x = seal_of s x
+plan_of s op x = None
+
+abbrev pub is_begun_by : DiskOp → Option (List Todo) → Bool
+is_begun_by op plan = is_some_with (is_first_todo op) plan
+
+abbrev pub plan_for : State → DiskOp → List Instance → Option (List Todo)
+plan_for s op [] = None
+plan_for s op (x ∷ xs) =
+    let plan = plan_of s op x in
+    elim (is_begun_by op plan) [ true ↦ plan | false ↦ plan_for s op xs ]
+
+-- the next operation of what is under way, or the first of what may be begun; in the opening, of a repair
+abbrev pub todo_for : Bool → State → DiskOp → Option (List Todo)
+todo_for in_turn s op = elim (is_empty s.agenda) [
+  | false ↦ elim (is_first_todo op s.agenda) [ true ↦ Some s.agenda | false ↦ None ]
+  | true ↦ elim in_turn [ true ↦ plan_for s op s.instances | false ↦ repair_of s op ]
+]
+
+abbrev pub may_begin_op : Bool → State → DiskOp → Bool
+may_begin_op in_turn s op = is_idle_disk s && is_some (todo_for in_turn s op)
+
+unfoldable pub begin_op : Bool → DiskOp → State → State
+begin_op in_turn op s = elim (todo_for in_turn s op) [
+  | None ↦ s
+  | Some todo ↦ record s { agenda = drop 1 todo; under_way = Some op; disk = s.disk ++ Began op ∷ [] }
+]
+
+-- the name that an operation is on; a draft is on that of the entry that it becomes
+abbrev pub entered_name : List Todo → Bytes
+entered_name [] = []
+entered_name (Enter e ∷ todo) = e.name
+entered_name (Do op ∷ todo) = entered_name todo
+entered_name (Acknowledge key tag n extent ∷ todo) = entered_name todo
+
+abbrev pub name_for : DiskOp → List Todo → Bytes
+name_for (Draft bytes) todo = entered_name todo
+name_for SyncDraft todo = entered_name todo
+name_for (Publish name) todo = name
+name_for (Write name at bytes) todo = name
+name_for (Sync name) todo = name
+name_for (Remove name) todo = name
+
+-- a published file is an entry at once
+unfoldable pub enter_next : State → State
+enter_next s = elim s.agenda [
+  | [] ↦ s
+  | todo ∷ agenda ↦ elim todo [
+    | Do op ↦ s
+    | Acknowledge key tag n extent ↦ s
+    | Enter e ↦ record s { entries = s.entries ++ e ∷ []; agenda = agenda }
+  ]
+]
+
+-- ours: a name is closed for this life once an operation on it failed
+unfoldable pub close_name : Bytes → State → State
+close_name name s = record s { closed_names = name ∷ s.closed_names; agenda = []; failures = s.failures + 1 }
+
+unfoldable pub end_op : DiskOp → Bool → State → State
+end_op op true s = enter_next (record s { under_way = None; disk = s.disk ++ Did op true ∷ [] })
+end_op op false s = close_name (name_for op s.agenda) (record s { under_way = None; disk = s.disk ++ Did op false ∷ [] })
+
+abbrev pub may_end_op : State → DiskOp → Bool
+may_end_op s op = is_some_with (λ begun. is_same_op begun op) s.under_way
+
+-- in the opening a row of that name is out
+unfoldable pub lose_entry : Bytes → State → State
+lose_entry name s = record s { entries = without (is_named name) s.entries }
+
+-- ---- how far an entry reaches
+
+abbrev pub is_acknowledged_as : Bytes → Bytes → ℕ → ℕ → List Todo → Bool
+is_acknowledged_as key tag n extent [] = false
+is_acknowledged_as key tag n extent (Do op ∷ todo) = false
+is_acknowledged_as key tag n extent (Enter e ∷ todo) = false
+is_acknowledged_as key tag n extent (Acknowledge k t m end ∷ todo) = bytes_eq k key && bytes_eq t tag && (m == n) && (end == extent)
+
+abbrev pub extended : ℕ → Entry → Entry
+extended extent e = record e { extent = extent }
+
+abbrev pub acknowledged_with : Bytes → ℕ → State → List Entry
+acknowledged_with key extent s = elim (kept_row s key) [ None ↦ s.acknowledged | Some e ↦ extended extent e ∷ without (is_entry_of key) s.acknowledged ]
+
+unfoldable pub note_kept : Bytes → ℕ → State → State
+note_kept key extent s = record s {
+  acknowledged = acknowledged_with key extent s;
+  entries = change (is_kept_row_of key) (extended extent) s.entries;
+  agenda = drop 1 s.agenda;
+}
+
+-- nothing is left to do for the disk
+abbrev pub is_done_on_disk : State → Bool
+is_done_on_disk s = is_empty s.agenda && is_idle_disk s && not (list_any (is_gone s) s.entries) && not (has_to_seal s)
+
+-- ---- a chunk is read back
+
+abbrev pub chunk_in_file : State → Entry → ℕ → Bytes
+chunk_in_file s e i = take (min chunk_len (e.version.length - i * chunk_len)) (drop (body_at e.version.length + i * chunk_len) (file_under s e.name))
+
+unfoldable pub load_from : Instance → Entry → ℕ → State → State
+load_from x e i s = note_use (record s { chunks = put_chunk x.id i (chunk_in_file s e i) s.chunks })
+
+unfoldable pub load : Bytes → ℕ → State → State
+load key i s = elim (row s key) [ None ↦ s | Some x ↦ elim (kept_row s key) [ None ↦ s | Some e ↦ load_from x e i s ] ]
