@@ -22,6 +22,7 @@ SUBJECTS = [
     "tools",
     "packages",
     "words",
+    "power_cuts",
     "starting",
 ]
 

@@ -1,0 +1,123 @@
+"""Measures entries kept in a folder: disk.py FOLDER."""
+
+import os
+import pathlib
+import platform
+import shutil
+import statistics
+import subprocess
+import sys
+import tempfile
+import time
+
+KEEPER = pathlib.Path(__file__).resolve().parent.parent / "crates/pp_keeper/out/pp_keeper"
+ROUNDS = 3
+CHUNK = 4096
+LARGE = 1 << 26
+RUNS = (1, 64)
+SMALL_COUNT = 500
+OPENED_COUNT = 10_000
+
+
+def timed(function):
+    start = time.monotonic()
+    function()
+    return time.monotonic() - start
+
+
+def keeper(*words):
+    """Runs the program, and answers the greatest memory that it held, in bytes."""
+    process = subprocess.Popen([KEEPER, *map(str, words)], stdout=subprocess.DEVNULL)
+    _, status, usage = os.wait4(process.pid, 0)
+    if status != 0:
+        raise SystemExit(f"{KEEPER.name} {words}: status {status}")
+    return usage.ru_maxrss * 1024
+
+
+def sync_folder(folder):
+    place = os.open(folder, os.O_RDONLY)
+    os.fsync(place)
+    os.close(place)
+
+
+def plain_entry(folder, number, length, run):
+    """The operations of one entry: a draft synced and renamed; each run of chunks written and synced, then its gates."""
+    draft, name = os.path.join(folder, "draft"), os.path.join(folder, f"{number:032x}")
+    chunks = -(-length // CHUNK)
+    body_at = 8192 + -(-chunks // CHUNK) * CHUNK
+    with open(draft, "wb", buffering=0) as file:
+        file.write(bytes(body_at))
+        os.fsync(file.fileno())
+    os.rename(draft, name)
+    sync_folder(folder)
+    data = bytes(CHUNK * run)
+    place = os.open(name, os.O_RDWR)
+    for first in range(0, chunks, run):
+        count = min(run, chunks - first)
+        os.pwrite(place, data[: min(length - first * CHUNK, count * CHUNK)], body_at + first * CHUNK)
+        os.fsync(place)
+        os.pwrite(place, b"\1" * count, 8192 + first)
+        os.fsync(place)
+    os.close(place)
+
+
+def plain_entries(folder, count, length, run):
+    for number in range(count):
+        plain_entry(folder, number, length, run)
+
+
+def syncs(count, length, run):
+    """A sync of the draft and one of the folder an entry, and two a run of chunks."""
+    return count * (2 + 2 * -(-length // (CHUNK * run)))
+
+
+def in_new_folder(top, function):
+    folder = tempfile.mkdtemp(dir=top)
+    try:
+        return function(folder)
+    finally:
+        shutil.rmtree(folder)
+
+
+def seconds(top, count, length, run):
+    """Medians of both, made in turn."""
+    ours, plain = [], []
+    for _ in range(ROUNDS):
+        ours.append(in_new_folder(top, lambda folder: timed(lambda: keeper("fill", folder, count, length, run))))
+        plain.append(in_new_folder(top, lambda folder: timed(lambda: plain_entries(folder, count, length, run))))
+    return statistics.median(ours), statistics.median(plain)
+
+
+def opening(top):
+    def measure(folder):
+        keeper("fill", folder, OPENED_COUNT, 1, 64)
+        empty = keeper("list", in_empty, 0)
+        start = time.monotonic()
+        memory = keeper("list", folder, 0)
+        return time.monotonic() - start, memory - empty
+
+    in_empty = tempfile.mkdtemp(dir=top)
+    try:
+        return in_new_folder(top, measure)
+    finally:
+        shutil.rmtree(in_empty)
+
+
+def main():
+    top = pathlib.Path(sys.argv[1]).resolve()
+    if not os.access(KEEPER, os.X_OK):
+        raise SystemExit(f"there is no program {KEEPER}: (cd crates/pp_keeper && rt run)")
+    print(f"{platform.machine()}, {os.cpu_count()} processors, load {os.getloadavg()[0]:.1f}; medians of {ROUNDS} rounds")
+    print(f"{'':34} {'kept':>10} {'plain':>10} {'ratio':>6} {'syncs':>7}")
+    for run in RUNS:
+        ours, plain = seconds(top, 1, LARGE, run)
+        label = f"64 MiB, {run} chunk{'s' * (run > 1)} a seal, MB/s"
+        print(f"{label:34} {LARGE / ours / 1e6:10.1f} {LARGE / plain / 1e6:10.1f} {plain / ours:6.2f} {syncs(1, LARGE, run):7}")
+    ours, plain = seconds(top, SMALL_COUNT, CHUNK, 1)
+    print(f"{'entries of 4 KiB, per second':34} {SMALL_COUNT / ours:10.0f} {SMALL_COUNT / plain:10.0f} {plain / ours:6.2f} {syncs(SMALL_COUNT, CHUNK, 1):7}")
+    taken, memory = opening(top)
+    print(f"a folder of {OPENED_COUNT} entries opened in {taken:.2f} s, with {memory / 1e6:.1f} MB more than an empty one")
+
+
+if __name__ == "__main__":
+    main()

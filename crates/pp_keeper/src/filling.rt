@@ -1,0 +1,91 @@
+// Entries are kept.
+ghost use Rattle.std.specs.Prelude.{◌≡◌, ◌≤◌, ◌<◌, length};
+ghost use Rattle.pp_world.specs.Log.{Told};
+ghost use Rattle.pp_store.specs.Held.{Holds};
+ghost use Rattle.pp_keeper.specs.Anything.{anything};
+
+use crate::body::{key_of, put_body};
+use crate::stop::Stop;
+use pp_fresh::Times;
+use pp_head::{HeadState, Scratch, read_response};
+use pp_store::Store;
+use pp_target::file_name;
+use pp_valid::{TagState, Version, tag_of};
+use pp_world::Disk;
+use std::alloc::Global;
+
+/// The bytes of a chunk of a body.
+const CHUNK_LEN: u64 = 4096;
+
+/// The bytes of as many chunks as are sealed at once.
+pub(crate) const RUN_LEN: usize = 262_144;
+
+/// The response that each entry keeps.
+const RESPONSE: &[u8] = b"HTTP/1.1 200 OK\r\netag: \"x\"\r\n\r\n";
+
+/// Keeps the entry with this number without a body, where it is not kept.
+pub(crate) fn keep<D: Disk>(
+    alloc: Global,
+    store: &mut Store,
+    disk: &mut D,
+    number: u64,
+    length: u64,
+) -> Result<(), Stop>
+    requires sized { length ≤ 67108864 }
+    requires holds { Told (D.log disk.old) (Holds anything store.old) }
+    ensures holds { Told (D.log disk.new) (Holds anything store.new) }
+{
+    let key = key_of(number);
+    if store.kept(&key).is_some() {
+        return Ok(());
+    }
+    if store.under(&file_name(&key)).is_some() {
+        return Err(Stop::Taken);
+    }
+    let mut scratch = Scratch::new();
+    let HeadState::Whole(head) = read_response(RESPONSE, &mut scratch) else {
+        return Err(Stop::TooLong);
+    };
+    let TagState::Strong(tag) = tag_of(&head.fields) else {
+        return Err(Stop::TooLong);
+    };
+    let version = Version { tag, length };
+    let times = Times {
+        request: 0,
+        response: 0,
+        initial: 0,
+    };
+    store.keep(alloc, disk, &key, &version, &head.fields, &times)?;
+    Ok(())
+}
+
+/// Keeps up to so many chunks more of the entry with this number. Answers how many of its bytes are kept
+/// then, and `None` where all are, or none may be.
+pub(crate) fn extend<D: Disk>(
+    store: &mut Store,
+    disk: &mut D,
+    number: u64,
+    chunks: u64,
+    room: &mut [u8; RUN_LEN],
+) -> Result<Option<u64>, Stop>
+    requires some { 1 ≤ chunks }
+    requires few { chunks ≤ 64 }
+    requires holds { Told (D.log disk.old) (Holds anything store.old) }
+    ensures holds { Told (D.log disk.new) (Holds anything store.new) }
+{
+    let key = key_of(number);
+    let Some(view) = store.kept(&key) else {
+        return Ok(None);
+    };
+    let extent = view.extent;
+    let left = view.version.length - extent;
+    if left == 0 {
+        return Ok(None);
+    }
+    let bytes = &mut room[..left.min(CHUNK_LEN * chunks) as usize];
+    put_body(number, extent, bytes);
+    match store.extend(disk, &key, bytes) {
+        Ok(extent) => Ok(Some(extent)),
+        Err(_) => Err(Stop::Disk),
+    }
+}

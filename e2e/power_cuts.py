@@ -1,0 +1,130 @@
+"""What is kept in a folder outlives the program that keeps it: it is killed at random moments, and started again."""
+
+import hashlib
+import os
+import pathlib
+import random
+import select
+import subprocess
+import tempfile
+import time
+
+from harness import Failed, case, equal, holds
+
+# Keeps bodies of a known pattern in a folder, and prints a line for each extent that is acknowledged.
+KEEPER = pathlib.Path(__file__).resolve().parent.parent / "crates/pp_keeper/out/pp_keeper"
+CHUNK = 4096
+GATES_AT = 8192
+
+
+def pattern(number, length):
+    """The body of the entry with this number."""
+    cycle = bytes((number * 31 + offset) % 251 for offset in range(251))
+    return (cycle * (length // 251 + 1))[:length]
+
+
+def file_name(number):
+    return hashlib.md5(b"http://h/%d" % number).hexdigest()
+
+
+def kept_in(path):
+    """How much of a body an entry's file vouches for, and these bytes: read by the format alone."""
+    data = path.read_bytes()
+    head = data[:GATES_AT].rstrip(b"\0").split(b"\r\n")
+    own = dict(line.split(b": ", 1) for line in head[1:] if line)
+    length, body_at = int(own[b"X-Polipo-Length"]), int(own[b"X-Polipo-Body-Offset"])
+    gates = data[GATES_AT : GATES_AT + -(-length // CHUNK)]
+    leading = len(gates) - len(gates.lstrip(b"\1"))
+    extent = min(length, leading * CHUNK)
+    return extent, data[body_at : body_at + extent]
+
+
+def keeper(*words):
+    if not os.access(KEEPER, os.X_OK):
+        raise Failed(f"    wanted: a program {KEEPER.name}")
+    return subprocess.Popen([KEEPER, *map(str, words)], stdout=subprocess.PIPE, stderr=subprocess.STDOUT)
+
+
+def lines_until(process, deadline):
+    """The whole lines that it printed before this moment, or before its end; it is killed then."""
+    text = b""
+    while time.monotonic() < deadline:
+        ready, _, _ = select.select([process.stdout], [], [], max(0, deadline - time.monotonic()))
+        more = os.read(process.stdout.fileno(), 65536) if ready else b""
+        if ready and not more:
+            break
+        text += more
+    process.kill()
+    text += process.stdout.read()
+    process.stdout.close()
+    process.wait()
+    return text[: text.rfind(b"\n") + 1].decode().splitlines()
+
+
+def acknowledged(lines, extents):
+    """The extents that these lines acknowledge, over those from before."""
+    for line in lines:
+        word, number, extent = line.split()
+        equal(word, "kept", "the program's word")
+        extents[int(number)] = int(extent)
+    return extents
+
+
+def found(folder, count):
+    """What the program finds in the folder."""
+    process = keeper("list", folder, count)
+    lines = process.communicate(timeout=15)[0].decode().splitlines()
+    equal(process.returncode, 0, "its status")
+    equal(len(lines), count, "how many lines it prints")
+    return {int(number): int(extent) for word, number, extent in map(str.split, lines) if word == "found"}
+
+
+@case
+def what_was_acknowledged_outlives_kills_at_random_moments(world):
+    seed = random.randrange(1 << 32)
+    choose, count, length = random.Random(seed), 6, 300_000
+    with tempfile.TemporaryDirectory() as folder:
+        extents, kills = {}, 0
+        while extents != {number: length for number in range(count)}:
+            process = keeper("fill", folder, count, length)
+            lines = lines_until(process, time.monotonic() + choose.uniform(0.002, 0.08))
+            extents = acknowledged(lines, extents)
+            now = found(folder, count)
+            for number, extent in extents.items():
+                holds(now.get(number, 0) >= extent, f"entry {number} up to {extent}, with seed {seed}")
+            for number, extent in now.items():
+                path = pathlib.Path(folder) / file_name(number)
+                equal(kept_in(path), (extent, pattern(number, extent)), f"entry {number}, with seed {seed}")
+            extents, kills = dict(now), kills + 1
+        return f"{kills} kills"
+
+
+@case
+def a_second_program_does_not_share_the_folder(world):
+    with tempfile.TemporaryDirectory() as folder:
+        first = keeper("fill", folder, 1, 1 << 26)
+        try:
+            first.stdout.readline()
+            second = keeper("list", folder, 1)
+            printed = second.communicate(timeout=15)[0]
+            equal((second.returncode, printed), (4, b"cannot use the folder\n"), "status and output")
+        finally:
+            first.kill()
+            first.communicate()
+
+
+@case
+def foreign_files_are_left_as_they_are(world):
+    with tempfile.TemporaryDirectory() as folder:
+        foreign = {
+            file_name(0): b"",
+            file_name(1): b"12345",
+            file_name(2): bytes(20_000),
+            file_name(3): random.Random(7).randbytes(20_000),
+            "notes.txt": b"not an entry",
+        }
+        for name, data in foreign.items():
+            (pathlib.Path(folder) / name).write_bytes(data)
+        equal(found(folder, 4), {}, "the entries")
+        for name, data in foreign.items():
+            equal((pathlib.Path(folder) / name).read_bytes(), data, name)
