@@ -1,19 +1,19 @@
 -- What the disk holds after each call, and that an entry stands under a kept or a closed name alone.
-use Rattle.std.proofs.Common.{◌≡◌, ℕ, ◌+◌, Bool, true, false, List, [], ◌∷◌, Option, Some, None, refl, sym, ◌∙◌, ap, subst}
+use Rattle.std.proofs.Common.{◌≡◌, ℕ, Bool, true, false, cond, List, [], ◌∷◌, Option, None, refl}
 use Rattle.std.specs.Prelude.{IsSome}
 use Rattle.pp_world.specs.declared.happening.Happening.TheVariants.{Unread}
 use Rattle.pp_world.specs.declared.op.DiskOp.{DiskOp}
 use Rattle.pp_world.specs.declared.op.DiskOp.TheVariants.{Remove}
 use Rattle.pp_world.specs.Log.{Log, AppendsAll, Told}
-use Rattle.pp_world.specs.Disk.{Bytes, view_of}
+use Rattle.pp_world.specs.Disk.{Bytes}
 use Rattle.pp_target.specs.Name.{name_of}
 use Rattle.pp_gate.specs.Gate.{OthersSame}
 use Rattle.pp_gate.specs.Runs.{AllOn, RunsOps, EachMoment}
-use Rattle.pp_store.specs.Kept.{Kept, KeptMap, HasOwnNames, name_at, kept_of, kept_under, row_of}
-use Rattle.pp_store.specs.Changes.{with_row, with_closed, without, lost, extended, extended_to}
+use Rattle.pp_store.specs.Kept.{Kept, KeptMap, HasOwnNames, name_at, is_closed, kept_of, kept_under, row_of}
+use Rattle.pp_store.specs.Changes.{closed_once, with_row, with_closed, without, lost, extended, extended_to}
 use Rattle.pp_store.specs.Held.{Sent, IsHeld, Holds, Covers}
 use Rattle.pp_store.proofs.Names.{found_row, name-kept}
-use Rattle.pp_store.proofs.Running.{After, after_runs, after_appends, after_unread, removed_slot}
+use Rattle.pp_store.proofs.Running.{after_runs, after_appends, after_unread, after_none, removed_slot, told_both, told_map}
 use Rattle.pp_store.proofs.Holding.{holds-without, holds-lost, holds-extended, holds-with_row, holds-with_closed, covers-without, covers-lost, covers-extended, covers-with_row, covers-with_closed}
 
 -- after a run of operations on the name of a key that is kept
@@ -75,3 +75,17 @@ module _ (old new : Option Log) (ops : List DiskOp) (sent : Sent) (store : KeptM
   pub closed_covers : (ok : Bool) → RunsOps old new ops ok → Told old (Covers store) → Told new (Covers (with_closed (name_at row) store))
   closed_covers ok runs told = after_runs old new ops ok (name_at row) (Covers store) (Covers (with_closed (name_at row) store)) on runs others told
       (λ k l was is covers after. covers-with_closed store (name_at row) ok k l after covers)
+
+-- an entry that an earlier life left, and a name that is closed
+pub found_holds : (log : Option Log) (sent : Sent) (store : KeptMap) (row : Kept) → kept_under (name_at row) store ≡ None → Told log (Holds sent store) → Told log (λ l. IsHeld sent l row)
+    → Told log (Holds sent (with_row row.entry row.extent store))
+found_holds log sent store row absent told held =
+    told_both log (Holds sent store) (λ l. IsHeld sent l row) (Holds sent (with_row row.entry row.extent store)) told held
+    (λ l holds there. holds-with_row sent store row l l absent holds (after_none (name_at row) l) there)
+
+pub close_holds : (log : Option Log) (sent : Sent) (store : KeptMap) (name : Bytes) → kept_under name store ≡ None → Told log (Holds sent store) → Told log (Holds sent (closed_once name store))
+close_holds log sent store name absent told = by (is_closed name store)
+  where
+    by : (b : Bool) → Told log (Holds sent (cond b store (with_closed name store)))
+    by true = told
+    by false = told_map log (Holds sent store) (Holds sent (with_closed name store)) told (λ l holds. holds-with_closed sent store name true l l absent holds (after_none name l))

@@ -1,20 +1,18 @@
 -- The bytes that a load gives, and why it fails.
-use Rattle.std.proofs.Common.{◌≡◌, ℕ, ◌+◌, ◌-◌, ◌*◌, ◌<◌, ◌≤◌, Bool, true, false, List, [], ◌∷◌, ◌++◌, length, take, drop, get_or, Option, Some, None, Ok, Err, arith, length-drop, length-take-le, refl, sym, ◌∙◌, ap, subst}
-use Rattle.std.specs.Prelude.{min, Result, IsSome}
+use Rattle.std.proofs.Common.{◌≡◌, ℕ, ◌+◌, ◌*◌, ◌<◌, ◌≤◌, Bool, true, false, List, [], ◌++◌, length, take, drop, get_or, Option, Some, Ok, Err, arith, length-drop, length-take-le, refl, sym, ◌∙◌, ap, subst}
+use Rattle.std.specs.Prelude.{Result, IsSome}
 use Rattle.std.proofs.lemmas.List.{append-nil, get_or-take, get_or-drop}
-use Rattle.pp_world.specs.declared.happening.Happening.TheVariants.{Unread}
-use Rattle.pp_world.specs.Log.{Log, AppendsAll, Told, Rises}
-use Rattle.pp_world.specs.Disk.{Bytes, Stored, View, Stands, bytes_in, settled, view_of}
+use Rattle.pp_world.specs.Log.{Log, AppendsAll, Told}
+use Rattle.pp_world.specs.Disk.{Bytes, settled, view_of}
 use Rattle.pp_target.specs.Name.{name_of}
-use Rattle.pp_entry.specs.Texts.{body_at, chunks_of}
+use Rattle.pp_entry.specs.Texts.{body_at}
 use Rattle.pp_gate.specs.Files.{body}
 use Rattle.pp_gate.specs.Gate.{HoldsJust}
-use Rattle.pp_gate.specs.Seal.{KeepsIn}
 use Rattle.pp_gate.proofs.SealLemmas.{settled_bytes}
 use Rattle.pp_store.specs.declared.faults.LoadFault.{LoadFault}
 use Rattle.pp_store.specs.declared.faults.LoadFault.TheVariants.{DiskFault, Short}
 use Rattle.pp_store.specs.declared.row.Site.{Site}
-use Rattle.pp_store.specs.Kept.{Kept, KeptMap, HasOwnNames, IsExtent, name_at, block_of, is_closed, kept_of, row_of}
+use Rattle.pp_store.specs.Kept.{Kept, KeptMap, HasOwnNames, IsExtent, name_at, block_of, kept_of, row_of}
 use Rattle.pp_store.specs.Changes.{lost}
 use Rattle.pp_store.specs.Held.{Sent, IsHeld, Holds, Covers}
 use Rattle.pp_store.specs.Loads.{chunk_len, load_happenings, GivesRead, GivesChunk, GivesSent, LoadCause, ReadCause}

@@ -1,25 +1,24 @@
 -- What the disk holds after an operation on one name.
-use Rattle.std.proofs.Common.{◌≡◌, ◌⊎◌, inl, inr, ℕ, ◌+◌, ◌<◌, ◌≤◌, Bool, true, false, not, ◌||◌, cond, List, [], ◌∷◌, ◌++◌, length, filter, map, get_or, Option, Some, None, arith, refl, sym, ◌∙◌, ap, subst}
-use Rattle.std.specs.Prelude.{is_some, IsSome, bytes_eq, count_by}
+use Rattle.std.proofs.Common.{◌≡◌, inl, inr, ℕ, ◌≤◌, Bool, true, false, not, ◌||◌, List, [], ◌∷◌, filter, get_or, Option, Some, None, arith, refl, sym, ◌∙◌, ap, subst}
+use Rattle.std.specs.Prelude.{is_some, bytes_eq, count_by}
 use Rattle.std.specs.List.{find, list_any, All}
 use Rattle.std.proofs.lemmas.List.Elements.{All-push}
 use Rattle.std.proofs.lemmas.List.Folds.{list_any-append}
 use Rattle.std.proofs.lemmas.Slice.Eq.{bytes_eq-Decides}
 use Rattle.pp_world.specs.Log.{Log}
-use Rattle.pp_world.specs.Disk.{Bytes, Stored, View, view_of, LeavesOne}
+use Rattle.pp_world.specs.Disk.{Bytes, Stored, view_of, LeavesOne}
 use Rattle.pp_target.specs.Name.{name_of}
-use Rattle.pp_gate.specs.Seal.{KeepsIn}
-use Rattle.pp_store.specs.Kept.{Kept, KeptMap, HasOwnNames, name_at, is_of, is_under, is_name, is_closed, kept_of, kept_under}
+use Rattle.pp_store.specs.Kept.{Kept, KeptMap, HasOwnNames, name_at, is_of, is_under, is_name, is_closed, kept_under}
 use Rattle.pp_store.specs.Changes.{with_row, with_closed, without, lost, extended, extended_to, is_other}
 use Rattle.pp_store.specs.Held.{Sent, IsHeld, Holds, IsEntryUnder, Covers}
 use Rattle.pp_store.proofs.Lists.{none_pass, find_none, found_passes, only, All-filter, All-changed, still_found, same_found, pushed_found}
 use Rattle.pp_store.proofs.Names.{of_key, same_key}
 use Rattle.pp_store.proofs.Running.{After}
 
-same_slot : (sent : Sent) (k l : Log) (row : Kept) → (view_of (name_at row) l).slot ≡ (view_of (name_at row) k).slot → IsHeld sent k row → IsHeld sent l row
+pub same_slot : (sent : Sent) (k l : Log) (row : Kept) → (view_of (name_at row) l).slot ≡ (view_of (name_at row) k).slot → IsHeld sent k row → IsHeld sent l row
 same_slot sent k l row is held = record { bytes = held.bytes; slot = is ∙ held.slot; kept = held.kept; holds = held.holds }
 
-under_it : (name : Bytes) (row : Kept) → is_under name row ≡ false → name ≡ name_at row → ⊥
+pub under_it : (name : Bytes) (row : Kept) → is_under name row ≡ false → name ≡ name_at row → ⊥
 under_it name row off is = wrong (sym ((bytes_eq-Decides (name_at row) name).1 (sym is)) ∙ off)
   where
     wrong : true ≡ false → ⊥

@@ -1,5 +1,5 @@
 -- Whatever is called, a name is kept once, or closed once, or neither.
-use Rattle.std.proofs.Common.{ℕ, ◌+◌, ◌<◌, ◌≤◌, ◌≡◌, Bool, true, false, cond, List, [], ◌∷◌, ◌++◌, length, map, filter, get_or, set, arith, refl, sym, ◌∙◌, ap, Option, Some, None}
+use Rattle.std.proofs.Common.{ℕ, ◌+◌, ◌≤◌, ◌≡◌, Bool, true, false, List, [], ◌∷◌, ◌++◌, filter, get_or, set, arith, refl, sym, ◌∙◌, ap, Option, Some, None}
 use Rattle.std.specs.Prelude.{count_by, is_some, IsSome, unwrap_or, bytes_eq}
 use Rattle.std.specs.List.{find, list_any, position}
 use Rattle.std.proofs.lemmas.List.Quantifiers.{position-Some}

@@ -1,11 +1,11 @@
 -- A call that did nothing on the disk, and a name that was published.
-use Rattle.std.proofs.Common.{◌≡◌, ℕ, ◌+◌, ◌<◌, ◌≤◌, Bool, true, false, List, [], ◌∷◌, ◌++◌, length, Option, Some, None, inl, arith, length-append, refl, sym, ◌∙◌, ap, subst}
+use Rattle.std.proofs.Common.{◌≡◌, [], ◌∷◌, ◌++◌, length, Option, Some, inl, arith, length-append, refl, sym, ◌∙◌, ap, subst}
 use Rattle.std.proofs.lemmas.List.{append-nil}
 use Rattle.pp_world.specs.Log.{Log, Told}
 use Rattle.pp_world.specs.Disk.{Bytes}
 use Rattle.pp_entry.specs.Texts.{chunks_of}
 use Rattle.pp_gate.specs.Gate.{OldOr, OthersSame, HoldsJust, fresh_file}
-use Rattle.pp_gate.specs.Runs.{EachMoment, AtEach}
+use Rattle.pp_gate.specs.Runs.{EachMoment}
 use Rattle.pp_gate.specs.Seal.{IsKept, Keeps}
 use Rattle.pp_gate.proofs.SealLemmas.{new_keeps}
 use Rattle.pp_store.specs.declared.row.Site.{Site}

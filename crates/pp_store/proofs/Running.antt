@@ -1,14 +1,13 @@
 -- What a run of operations on one name leaves of that name, and of the others.
-use Rattle.std.proofs.Common.{◌≡◌, ℕ, Bool, true, false, ◌||◌, List, [], ◌∷◌, ◌++◌, Option, Some, None, refl, sym, ◌∙◌, ap, subst}
+use Rattle.std.proofs.Common.{◌≡◌, Bool, true, false, ◌||◌, List, [], ◌∷◌, ◌++◌, Option, Some, None, refl, sym, ◌∙◌, ap, subst}
 use Rattle.std.specs.Prelude.{bytes_eq}
 use Rattle.std.proofs.lemmas.List.{append-nil}
 use Rattle.std.proofs.lemmas.Slice.Eq.{bytes_eq-Decides}
-use Rattle.pp_world.specs.declared.happening.Happening.{Happening}
 use Rattle.pp_world.specs.declared.happening.Happening.TheVariants.{Unread}
 use Rattle.pp_world.specs.declared.op.DiskOp.{DiskOp}
 use Rattle.pp_world.specs.declared.op.DiskOp.TheVariants.{Draft, SyncDraft, Publish, Write, Sync, Remove}
 use Rattle.pp_world.specs.Log.{Log, AppendsAll, Told}
-use Rattle.pp_world.specs.Disk.{Bytes, View, view_of, view_after, where_on, began, done, undone}
+use Rattle.pp_world.specs.Disk.{Bytes, View, view_of, where_on, began, done, undone}
 use Rattle.pp_gate.specs.Gate.{OthersSame}
 use Rattle.pp_gate.specs.Runs.{Ran, During, IsOn, AllOn, RunsOps, EachMoment}
 use Rattle.pp_gate.proofs.Views.{at_each, done_view, ran_to, view_of-append, told_after}

@@ -1,12 +1,12 @@
 -- Chunks behind those that are kept, as the gates count them.
-use Rattle.std.proofs.Common.{◌≡◌, ℕ, ◌+◌, ◌-◌, ◌*◌, ◌/◌, ◌<◌, ◌≤◌, Bool, true, List, length, Option, Some, arith, refl, sym, ◌∙◌, ap, subst}
+use Rattle.std.proofs.Common.{◌≡◌, ℕ, ◌+◌, ◌-◌, ◌*◌, ◌/◌, ◌<◌, true, List, length, Option, arith, sym, subst}
 use Rattle.std.specs.Prelude.{min, IsSome, slice_index}
 use Rattle.pp_world.specs.Log.{Log, Told}
 use Rattle.pp_world.specs.Disk.{Bytes}
 use Rattle.pp_entry.specs.Texts.{chunks_of}
-use Rattle.pp_gate.specs.Seal.{Keeps, IsRun}
+use Rattle.pp_gate.specs.Seal.{IsRun}
 use Rattle.pp_store.specs.declared.row.Site.{Site}
-use Rattle.pp_store.specs.Kept.{Kept, KeptMap, IsExtent, name_at, block_of, kept_of, row_of}
+use Rattle.pp_store.specs.Kept.{Kept, KeptMap, IsExtent, block_of, kept_of, row_of}
 use Rattle.pp_store.specs.Views.{site_of}
 use Rattle.pp_store.specs.Held.{Sent, IsHeld, Holds, IsMore}
 use Rattle.pp_store.proofs.Lists.{All-found}

@@ -1,6 +1,6 @@
 -- The entries and the closed names as they stand in memory, after each change.
-use Rattle.std.proofs.Common.{ℕ, zero, suc, ◌+◌, ◌<◌, ◌≤◌, ◌≡◌, Bool, true, false, not, List, [], ◌∷◌, ◌++◌, length, filter, get_or, set, arith, length-append, refl, sym, ◌∙◌, ap, subst, Option, Some, None}
-use Rattle.std.specs.Prelude.{count_by, is_some, IsSome, nat_le, vec_capacity}
+use Rattle.std.proofs.Common.{ℕ, zero, suc, ◌+◌, ◌<◌, ◌≤◌, ◌≡◌, true, false, List, [], ◌∷◌, ◌++◌, length, filter, get_or, set, arith, length-append, refl, sym, ◌∙◌, ap, subst, Some, None}
+use Rattle.std.specs.Prelude.{count_by, IsSome, nat_le, vec_capacity}
 use Rattle.std.specs.List.{position}
 use Rattle.std.proofs.lemmas.Bool.Decides.{nat_tests}
 use Rattle.pp_store.specs.Answers.{is_full}
@@ -11,7 +11,7 @@ use Rattle.pp_store.specs.declared.store.Store.TheInside.{Inside}
 use Rattle.pp_store.specs.Kept.{Kept, KeptMap, HasOwnNames, name_at, is_of, is_closed, kept_of, kept_under, row_of, no_row}
 use Rattle.pp_store.specs.Changes.{with_row, with_closed, without, lost, extended, extended_to, is_other}
 use Rattle.pp_store.specs.Inside.{IsSound, map_in}
-use Rattle.pp_store.proofs.Lists.{one, count-cons, count-filter, one_out}
+use Rattle.pp_store.proofs.Lists.{count-cons, count-filter, one_out}
 use Rattle.pp_store.proofs.Names.{found_row, own-with_row, own-with_closed, own-without, own-lost, own-extended, changed_row, row_at_place}
 
 map-is : (o : Inside) (next : KeptMap) → o.rows.items ≡ next.rows → o.closed.items ≡ next.closed → map_in o ≡ next

@@ -1,5 +1,5 @@
 -- What becomes of the entries that are kept, and of the closed names, in each call.
-use Rattle.std.specs.Prelude.{ℕ, ◌+◌, Bool, List, [], ◌∷◌, ◌++◌, map, filter, not, cond, Result, Ok, Err}
+use Rattle.std.specs.Prelude.{ℕ, Bool, List, [], ◌∷◌, ◌++◌, map, filter, not, cond, Result, Ok, Err}
 use Rattle.pp_fresh.specs.declared.aging.Times.{Times}
 use Rattle.pp_valid.specs.declared.version.Version.{Version}
 use Rattle.pp_text.specs.Fields.{Field}

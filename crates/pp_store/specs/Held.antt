@@ -1,5 +1,5 @@
 -- What the entries that are kept say of the disk.
-use Rattle.std.specs.Prelude.{◌≡◌, ◌<◌, ◌≤◌, ℕ, ◌+◌, Bool, true, false, List, length, All, Option, Some, slice_index, take, find, is_some}
+use Rattle.std.specs.Prelude.{◌≡◌, ◌<◌, ◌≤◌, ℕ, ◌+◌, Bool, true, false, length, All, Some, slice_index, take, is_some}
 use Rattle.pp_world.specs.Log.{Log}
 use Rattle.pp_world.specs.Disk.{Bytes, view_of, LeavesOne}
 use Rattle.pp_target.specs.Name.{name_of}

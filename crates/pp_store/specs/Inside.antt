@@ -1,5 +1,5 @@
 -- How the entries that are kept, and the closed names, stand in memory.
-use Rattle.std.specs.Prelude.{◌≡◌, ◌≤◌, ℕ, ◌+◌, length, vec_capacity}
+use Rattle.std.specs.Prelude.{◌≤◌, ◌+◌, length, vec_capacity}
 use Rattle.pp_store.specs.declared.store.Store.TheInside.{Inside}
 use Rattle.pp_store.specs.Kept.{KeptMap, HasOwnNames}
 

@@ -1,5 +1,5 @@
 -- What a load of a chunk gives.
-use Rattle.std.specs.Prelude.{◌≡◌, ◌<◌, ⊤, ℕ, ◌+◌, ◌-◌, ◌*◌, true, min, List, [], ◌∷◌, length, take, drop, Option, Some, Result, Ok, Err, slice_index}
+use Rattle.std.specs.Prelude.{◌≡◌, ◌<◌, ⊤, ℕ, ◌+◌, ◌-◌, ◌*◌, true, min, [], ◌∷◌, length, take, drop, Option, Result, Ok, Err, slice_index}
 use Rattle.pp_world.specs.declared.happening.Happening.TheVariants.{Unread}
 use Rattle.pp_world.specs.Log.{Log, Rises, Told}
 use Rattle.pp_world.specs.Disk.{Bytes, Stored, Stands, bytes_in}

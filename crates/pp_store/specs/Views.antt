@@ -1,5 +1,5 @@
 -- How one entry is kept in memory, and what is shown of it.
-use Rattle.std.specs.Prelude.{◌≡◌, ◌≤◌, ℕ, ◌^◌}
+use Rattle.std.specs.Prelude.{◌≡◌, ◌≤◌, ◌^◌}
 use Rattle.pp_target.specs.Name.{name_of}
 use Rattle.pp_store.specs.declared.row.KeptRow.TheInside.{Inside}
 use Rattle.pp_store.specs.declared.row.KeptView.{KeptView}

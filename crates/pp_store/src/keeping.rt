@@ -18,7 +18,7 @@ use pp_gate::publish;
 use pp_target::file_name;
 use pp_text::Fields;
 use pp_valid::Version;
-use pp_world::{Disk, Name};
+use pp_world::{Disk, DiskFault, Name};
 use std::alloc::Global;
 
 impl Store {
@@ -113,7 +113,7 @@ impl Store {
                 self.rows.push_reserved(row);
                 Ok(())
             }
-            Err(_) => {
+            Err(DiskFault) => {
                 self.closed.push_reserved(site.name);
                 Err(KeepFault::DiskFault)
             }

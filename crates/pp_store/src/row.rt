@@ -36,7 +36,10 @@ impl Model for KeptRow {
     ghost invariant = { IsRow };
 }
 
-/// An entry that is kept.
+/// An entry that is kept, as it was given to `keep` or `found`.
+///
+/// On the disk the names of its fields are in lower case, and the time of the request is not told: a
+/// later life finds that of the response in its place.
 #[derive(Drop)]
 pub struct KeptView<'a> {
     pub key: &'a [u8],

@@ -1,13 +1,8 @@
-use Rattle.std.proofs.Common.{◌≡◌, ℕ, ◌+◌, length, true, false, refl, sym, ◌∙◌, ap, subst}
+use Rattle.std.proofs.Common.{ℕ, false, sym, subst}
 use Rattle.pp_world.specs.Log.{Told}
-use Rattle.pp_entry.specs.Texts.{chunks_of}
-use Rattle.pp_target.specs.Name.{name_of}
-use Rattle.pp_gate.specs.Runs.{RunsOps, AllOn}
-use Rattle.pp_gate.specs.Seal.{seal_ops}
-use Rattle.pp_world.specs.Disk.{Bytes}
 use Rattle.pp_store.specs.Answers.{extend_ops}
-use Rattle.pp_store.specs.Kept.{KeptMap, IsExtent, name_at, row_of}
-use Rattle.pp_store.specs.Changes.{extended, extended_to}
+use Rattle.pp_store.specs.Kept.{KeptMap, IsExtent, row_of}
+use Rattle.pp_store.specs.Changes.{extended_to}
 use Rattle.pp_store.specs.Held.{Holds, Covers, IsHeld}
 use Rattle.pp_store.proofs.Names.{row-name}
 use Rattle.pp_store.proofs.Calls.{extended_holds, extended_covers, lost_holds, lost_covers}

@@ -1,6 +1,6 @@
-use Rattle.std.proofs.Common.{ℕ, List, ◌≡◌, Some, None, refl, sym, ◌∙◌, ap, subst}
+use Rattle.std.proofs.Common.{List, refl, sym, ◌∙◌, ap, subst}
 use Rattle.std.specs.List.{position}
-use Rattle.pp_store.specs.Kept.{Kept, KeptMap, IsExtent, is_of, row_of}
+use Rattle.pp_store.specs.Kept.{Kept, IsExtent, is_of}
 use Rattle.pp_store.specs.Changes.{extended}
 use Rattle.pp_store.specs.Inside.{map_in}
 use Rattle.pp_store.proofs.Names.{never_nowhere}

@@ -1,4 +1,4 @@
-use Rattle.std.proofs.Common.{◌≡◌, ℕ, ◌<◌, ◌*◌, Ok, Err, sym, ◌∙◌, ap, subst}
+use Rattle.std.proofs.Common.{Ok, Err, sym, ◌∙◌, ap, subst}
 use Rattle.pp_world.specs.Log.{AppendsAll, Told}
 use Rattle.pp_world.specs.Disk.{Bytes}
 use Rattle.pp_store.specs.declared.row.Site.{Site}

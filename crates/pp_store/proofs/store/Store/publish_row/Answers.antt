@@ -1,4 +1,4 @@
-use Rattle.std.proofs.Common.{◌≡◌, ℕ, List, [], ◌∷◌, ◌++◌, Some, true, false, arith, refl, sym, ◌∙◌, ap, subst}
+use Rattle.std.proofs.Common.{◌≡◌, List, [], ◌∷◌, ◌++◌, false, arith, refl, sym, ◌∙◌, ap, subst}
 use Rattle.pp_world.specs.Log.{Told}
 use Rattle.pp_world.specs.Disk.{Bytes}
 use Rattle.pp_gate.specs.Gate.{OthersSame, publish_ops, fresh_file}

@@ -1,4 +1,4 @@
-use Rattle.std.proofs.Common.{◌≡◌, List, [], ◌∷◌, None, true, false, refl, sym, subst}
+use Rattle.std.proofs.Common.{[], ◌∷◌, None, true, false, refl, sym, subst}
 use Rattle.pp_world.specs.declared.op.DiskOp.TheVariants.{Remove}
 use Rattle.pp_world.specs.Log.{Told}
 use Rattle.pp_world.specs.Disk.{Bytes}
