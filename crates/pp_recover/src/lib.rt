@@ -4,11 +4,14 @@
 //! named for its key. A gate that is open behind one that is not vouches for nothing: it is closed
 //! before the entry counts, so that no later body comes to stand under it.
 //!
-//! To the layer above: the store has just the entries of the folder, but for those of names on which
-//! something failed, which are closed. At every moment each image that a crash may leave has the same
-//! entries under the same names.
+//! To the layer above: where nothing failed, the store has just the entries of the folder, in the order
+//! of their names, of which at most the first 65,536 are looked at; it may hold more than it would keep
+//! anew. A name on which something failed is closed, and has no entry (`Opens` of `specs/Opening.antt`).
+//! At every moment each image that a crash may leave has the same entries under the same names
+//! (`SameEntries`), and in the end no gate is open behind what an entry keeps (`Holds` of `pp_store`).
+//! Nothing is written but zeros over such gates.
 //!
-//! Takes memory for the names and for the store. What the store then keeps is for `pp_store`.
+//! Takes memory for the names and for the store. What becomes of the entries then is for `pp_store`.
 #![tactic(auto)]
 
 mod examine; // the file of one name
