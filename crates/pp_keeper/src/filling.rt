@@ -17,8 +17,14 @@ use std::alloc::Global;
 /// The bytes of a chunk of a body.
 const CHUNK_LEN: u64 = 4096;
 
-/// The bytes of as many chunks as are sealed at once.
+/// The chunks that are sealed at once at most.
+const RUN_CHUNKS: u64 = 64;
+
+/// The bytes of so many chunks.
 pub(crate) const RUN_LEN: usize = 262_144;
+
+/// The bytes of the longest body that is kept.
+const BODY_LEN: u64 = 67_108_864;
 
 /// The response that each entry keeps.
 const RESPONSE: &[u8] = b"HTTP/1.1 200 OK\r\netag: \"x\"\r\n\r\n";
@@ -31,10 +37,12 @@ pub(crate) fn keep<D: Disk>(
     number: u64,
     length: u64,
 ) -> Result<(), Stop>
-    requires sized { length ≤ 67108864 }
     requires holds { Told (D.log disk.old) (Holds anything store.old) }
     ensures holds { Told (D.log disk.new) (Holds anything store.new) }
 {
+    if length > BODY_LEN {
+        return Err(Stop::TooLong);
+    }
     let key = key_of(number);
     if store.kept(&key).is_some() {
         return Ok(());
@@ -59,7 +67,7 @@ pub(crate) fn keep<D: Disk>(
     Ok(())
 }
 
-/// Keeps up to so many chunks more of the entry with this number. Answers how many of its bytes are kept
+/// Keeps up to so many chunks more, from 1 to 64, of the entry with this number. Answers how many of its bytes are kept
 /// then, and `None` where all are, or none may be.
 pub(crate) fn extend<D: Disk>(
     store: &mut Store,
@@ -68,8 +76,6 @@ pub(crate) fn extend<D: Disk>(
     chunks: u64,
     room: &mut [u8; RUN_LEN],
 ) -> Result<Option<u64>, Stop>
-    requires some { 1 ≤ chunks }
-    requires few { chunks ≤ 64 }
     requires holds { Told (D.log disk.old) (Holds anything store.old) }
     ensures holds { Told (D.log disk.new) (Holds anything store.new) }
 {
@@ -82,7 +88,7 @@ pub(crate) fn extend<D: Disk>(
     if left == 0 {
         return Ok(None);
     }
-    let bytes = &mut room[..left.min(CHUNK_LEN * chunks) as usize];
+    let bytes = &mut room[..left.min(CHUNK_LEN * chunks.max(1).min(RUN_CHUNKS)) as usize];
     put_body(number, extent, bytes);
     match store.extend(disk, &key, bytes) {
         Ok(extent) => Ok(Some(extent)),

@@ -16,7 +16,7 @@ pub(crate) enum Stop {
     Closed,
     /// As many names are kept or closed as may be.
     Full,
-    /// An entry's head has no room.
+    /// An entry's head has no room, or its body is too long.
     TooLong,
     /// The disk failed.
     Disk,
@@ -34,7 +34,7 @@ impl Stop {
             Stop::Taken => "another key has the name\n",
             Stop::Closed => "the name is closed\n",
             Stop::Full => "the folder is full\n",
-            Stop::TooLong => "the head is too long\n",
+            Stop::TooLong => "the entry is too long\n",
             Stop::Disk => "the disk failed\n",
             Stop::System => "the system failed\n",
             Stop::OutOfMemory => "no memory\n",
