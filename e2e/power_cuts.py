@@ -76,7 +76,9 @@ def found(folder, count):
     lines = process.communicate(timeout=15)[0].decode().splitlines()
     equal(process.returncode, 0, "its status")
     equal(len(lines), count, "how many lines it prints")
-    return {int(number): int(extent) for word, number, extent in map(str.split, lines) if word == "found"}
+    sights = [line.split() for line in lines]
+    holds(all(sight[0] in ("found", "none") for sight in sights), "no chunk that differs from its body")
+    return {int(sight[1]): int(sight[2]) for sight in sights if sight[0] == "found"}
 
 
 @case
