@@ -26,12 +26,9 @@ def timed(function):
 
 
 def keeper(*words):
-    """Runs the program, and answers the greatest memory that it held, in bytes."""
-    process = subprocess.Popen([KEEPER, *map(str, words)], stdout=subprocess.DEVNULL)
-    _, status, usage = os.wait4(process.pid, 0)
-    if status != 0:
-        raise SystemExit(f"{KEEPER.name} {words}: status {status}")
-    return usage.ru_maxrss * 1024
+    done = subprocess.run([KEEPER, *map(str, words)], stdout=subprocess.DEVNULL)
+    if done.returncode != 0:
+        raise SystemExit(f"{KEEPER.name} {words}: status {done.returncode}")
 
 
 def sync_folder(folder):
@@ -89,18 +86,12 @@ def seconds(top, count, length, run):
 
 
 def opening(top):
+    """Seconds that it takes to open a folder of so many entries."""
     def measure(folder):
         keeper("fill", folder, OPENED_COUNT, 1, 64)
-        empty = keeper("list", in_empty, 0)
-        start = time.monotonic()
-        memory = keeper("list", folder, 0)
-        return time.monotonic() - start, memory - empty
+        return statistics.median(timed(lambda: keeper("list", folder, 0)) for _ in range(ROUNDS))
 
-    in_empty = tempfile.mkdtemp(dir=top)
-    try:
-        return in_new_folder(top, measure)
-    finally:
-        shutil.rmtree(in_empty)
+    return in_new_folder(top, measure)
 
 
 def main():
@@ -115,8 +106,7 @@ def main():
         print(f"{label:34} {LARGE / ours / 1e6:10.1f} {LARGE / plain / 1e6:10.1f} {plain / ours:6.2f} {syncs(1, LARGE, run):7}")
     ours, plain = seconds(top, SMALL_COUNT, CHUNK, 1)
     print(f"{'entries of 4 KiB, per second':34} {SMALL_COUNT / ours:10.0f} {SMALL_COUNT / plain:10.0f} {plain / ours:6.2f} {syncs(SMALL_COUNT, CHUNK, 1):7}")
-    taken, memory = opening(top)
-    print(f"a folder of {OPENED_COUNT} entries opened in {taken:.2f} s, with {memory / 1e6:.1f} MB more than an empty one")
+    print(f"a folder of {OPENED_COUNT} entries opened in {opening(top):.2f} s")
 
 
 if __name__ == "__main__":
