@@ -37,10 +37,11 @@ int main(void)
     double start = now();
     for (int c = 0; c < CALLS; c++) { seed = seed * 6364136223846793005u + 1442695040888963407u; touch((seed >> 33) % CHUNKS); }
     double touched = now();
-    for (int c = 0; c < CALLS; c++) sum += oldest();
+    seed = 1;
+    for (int c = 0; c < CALLS; c++) { seed = seed * 6364136223846793005u + 1442695040888963407u; touch((seed >> 33) % CHUNKS); sum += oldest(); }
     double asked = now();
     for (int c = 0; c < CALLS; c++) { seed = seed * 6364136223846793005u + 1442695040888963407u; uint32_t n = (seed >> 33) % CHUNKS; give(n); sum += take(0, n); }
     double given = now();
-    printf("touch %.1f\noldest %.1f\ngive_and_take %.1f\n", (touched - start) / CALLS, (asked - touched) / CALLS, (given - asked) / CALLS);
+    printf("touch %.1f\ntouch_and_oldest %.1f\ngive_and_take %.1f\n", (touched - start) / CALLS, (asked - touched) / CALLS, (given - asked) / CALLS);
     return sum == 0;
 }

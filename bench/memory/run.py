@@ -1,22 +1,25 @@
 #!/usr/bin/env python3
-"""What the pool's plain form costs: a million touch, oldest, give and take on a pool of 4,096 chunks.
+"""What the pool's plain form costs: a million touch, touch and oldest, give and take on a pool of 4,096 chunks.
 
 Writes a small program over pp_holes and pp_pool into a temporary folder, proves and builds it there (`rt run`,
-some minutes the first time), and compiles `links.c`, which keeps the same order as links by number. Prints
-nanoseconds per call of both, and their ratio. Run it while the machine is quiet.
+some minutes the first time), and compiles `links.c`, which keeps the same order as links by number. Runs both
+in turn, and prints the medians in nanoseconds per call, and their ratio. `oldest` is called behind a `touch`,
+as a call that changes nothing would be taken out of its loop. Run it while the machine is quiet.
 
     bench/memory/run.py
 """
 
 import pathlib
 import shutil
+import statistics
 import subprocess
 import tempfile
 
 HERE = pathlib.Path(__file__).resolve().parent
 ROOT = HERE.parent.parent
 BELOW = {"pp_text": "arrayvec itoa", "pp_pool": "pp_text arrayvec", "pp_holes": "pp_text pp_pool arrayvec"}
-CALLS = ("touch", "oldest", "give_and_take")
+CALLS = ("touch", "touch_and_oldest", "give_and_take")
+ROUNDS = 5
 
 PROGRAM = """#![tactic(auto)]
 
@@ -98,9 +101,12 @@ fn touch_all(held: &mut Held) {
     }
 }
 
-fn ask_all(held: &Held) -> u64 {
+fn ask_all(held: &mut Held) -> u64 {
+    let mut seed = 1u64;
     let mut sum = 0u64;
     for _call in 0..CALLS {
+        seed = next(seed);
+        held.touch(place(seed));
         sum = sum.wrapping_add(held.oldest());
     }
     sum
@@ -126,16 +132,25 @@ fn main(rt: HostRuntime) -> anyhow::Result<()> {
     let start = Instant::now(&rt)?;
     touch_all(&mut held);
     let touched = start.elapsed(&rt)?.as_nanos();
-    let sum = ask_all(&held);
+    let sum = ask_all(&mut held);
     let asked = start.elapsed(&rt)?.as_nanos();
     give_all(&mut held);
     let given = start.elapsed(&rt)?.as_nanos();
     println!(rt; "after_touch {touched}")?;
-    println!(rt; "after_oldest {asked}")?;
+    println!(rt; "after_touch_and_oldest {asked}")?;
     println!(rt; "after_give_and_take {given}")?;
     println!(rt; "sum {sum}")?;
     Ok(())
 }
+"""
+
+# Cells with nothing in memory agree with a pool that has no used chunk.
+PROOF = """use Rattle.std.proofs.Common.{refl, []}
+use Rattle.measure.proofs.Held.new.Goals as goal
+use Rattle.pp_holes.proofs.Agreement.{agrees_new}
+
+pub invariant_of-result : goal.invariant_of-result
+invariant_of-result c = rw (c.in_ok-cells.ensures, c.in_ok-pool.ensures) (agrees_new 0 4096 [] tt (λ i. refl), refl)
 """
 
 
@@ -144,20 +159,31 @@ def numbers(text: str) -> dict[str, float]:
     return {pair[0]: float(pair[1]) for pair in pairs if len(pair) == 2 and pair[1].replace(".", "").isdigit()}
 
 
-def plain_costs(top: pathlib.Path) -> dict[str, float]:
-    """Nanoseconds per call of the crates as they are."""
+def build_plain(top: pathlib.Path) -> pathlib.Path:
+    """The program over the crates as they are, proved and built."""
     for name in BELOW:
         shutil.copytree(ROOT / "crates" / name, top / "crates" / name, ignore=shutil.ignore_patterns("out", "must-fail"))
     lines = [f"{name}: {deps}" for name, deps in BELOW.items()] + ["measure: pp_holes pp_pool pp_text anyhow"]
     (top / "crates.txt").write_text("\n".join(lines) + "\n")
     crate = top / "crates" / "measure"
-    (crate / "src").mkdir(parents=True)
+    for folder in ("src", "proofs/Held/new"):
+        (crate / folder).mkdir(parents=True)
     (crate / "src" / "main.rt").write_text(PROGRAM)
+    (crate / "proofs" / "Held" / "new" / "Answers.antt").write_text(PROOF)
     run = subprocess.run(["rt", "run", "--jobs", "1"], cwd=crate, capture_output=True, text=True)
-    after = numbers(run.stdout)
-    if "after_give_and_take" not in after:
+    program = crate / "out" / "measure"
+    if not program.exists():
         raise SystemExit(run.stdout[-3000:] + run.stderr[-3000:])
-    costs, before = {}, 0.0
+    return program
+
+
+def said_by(program: pathlib.Path) -> dict[str, float]:
+    return numbers(subprocess.run([program], capture_output=True, text=True, check=True).stdout)
+
+
+def plain_costs(program: pathlib.Path) -> dict[str, float]:
+    """Nanoseconds per call: the program prints the time since its start behind each million calls."""
+    after, before, costs = said_by(program), 0.0, {}
     for call in CALLS:
         costs[call] = (after["after_" + call] - before) / 1_000_000
         before = after["after_" + call]
@@ -165,15 +191,18 @@ def plain_costs(top: pathlib.Path) -> dict[str, float]:
 
 
 def main() -> None:
+    plain, links = [], []
     with tempfile.TemporaryDirectory() as folder:
         top = pathlib.Path(folder)
-        plain = plain_costs(top)
+        program = build_plain(top)
         subprocess.run(["cc", "-O2", "-o", top / "links", HERE / "links.c"], check=True)
-        links = numbers(subprocess.run([top / "links"], capture_output=True, text=True, check=True).stdout)
-    print(f"{'call':15} {'plain ns':>10} {'links ns':>10} {'ratio':>8}")
+        for _ in range(ROUNDS):
+            plain.append(plain_costs(program))
+            links.append(said_by(top / "links"))
+    print(f"{'call':18} {'plain ns':>10} {'links ns':>10} {'ratio':>8}")
     for call in CALLS:
-        ratio = f"{plain[call] / links[call]:.0f}" if links[call] >= 0.1 else "-"
-        print(f"{call:15} {plain[call]:10.0f} {links[call]:10.1f} {ratio:>8}")
+        ours, theirs = (statistics.median(costs[call] for costs in all_costs) for all_costs in (plain, links))
+        print(f"{call:18} {ours:10.0f} {theirs:10.1f} {ours / theirs:8.0f}")
 
 
 if __name__ == "__main__":
