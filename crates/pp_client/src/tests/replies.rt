@@ -123,14 +123,16 @@ fn a_span_waits_where_its_next_byte_is_not_in_memory(rt: HostRuntime) {
     assert_eq!(rt; talk.client.next_byte(), None);
 }
 
-/// What is written before the body of a kept response with this status line, these lines behind its own
-/// and this length.
-fn head(status: &[u8], range: &[u8], length: &[u8]) -> Said {
+/// What is written before the body of a kept response: its status line, its kept fields, these lines behind
+/// them, and its length.
+fn head(status: &[u8], age: &[u8], range: &[u8], length: &[u8]) -> Said {
     let mut head = Said::new();
-    let parts: [&[u8]; 7] = [
+    let parts: [&[u8]; 9] = [
         b"HTTP/1.1 ",
         status,
-        b"\r\netag: \"x\"\r\ndate: Sun, 06 Nov 1994 08:49:37 GMT\r\ncache-control: max-age=60\r\nage: 10\r\nvia: 1.1 polipo\r\n",
+        b"\r\netag: \"x\"\r\ndate: Sun, 06 Nov 1994 08:49:37 GMT\r\ncache-control: max-age=60\r\n",
+        age,
+        b"via: 1.1 polipo\r\n",
         range,
         b"content-length: ",
         length,
@@ -147,18 +149,15 @@ fn five_bytes_are_said_whole_and_in_parts(rt: HostRuntime) {
     let mut cache = Cache::new(&rt, rt.alloc());
     let id = cache.settle(&rt, 5);
     cache.add(&rt, id, 0, b"hello");
-    let whole = head(b"200 OK", b"", b"5");
-    let part = head(
-        b"206 Partial Content",
-        b"content-range: bytes 1-3/5\r\n",
-        b"3",
-    );
-    let all = head(
-        b"206 Partial Content",
-        b"content-range: bytes 0-4/5\r\n",
-        b"5",
-    );
-    let cases: [(&[u8], u64, u64, &[u8], usize); 4] = [
+    let new = head(b"200 OK", b"", b"", b"5");
+    let whole = head(b"200 OK", b"age: 10\r\n", b"", b"5");
+    let partial = b"206 Partial Content".as_slice();
+    let range = b"content-range: bytes 1-3/5\r\n".as_slice();
+    let part = head(partial, b"age: 10\r\n", range, b"3");
+    let range = b"content-range: bytes 0-4/5\r\n".as_slice();
+    let all = head(partial, b"age: 10\r\n", range, b"5");
+    let cases: [(&[u8], u64, u64, &[u8], usize); 5] = [
+        (new.as_slice(), 0, 5, b"hello", 159),
         (whole.as_slice(), 0, 5, b"hello", 168),
         (part.as_slice(), 1, 4, b"ell", 207),
         (all.as_slice(), 0, 5, b"hello", 209),
