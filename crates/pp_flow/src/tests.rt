@@ -81,6 +81,33 @@ fn a_line_has_the_order_in_which_places_were_got(rt: HostRuntime) -> Result<(), 
 }
 
 #[test]
+fn the_33rd_exchange_of_a_host_waits_for_the_first_line_with_room(
+    rt: HostRuntime,
+) -> Result<(), OutOfMemory> {
+    let mut flow = Flow::new(rt.alloc())?;
+    for number in 0u64..33 {
+        assert_eq!(rt;
+            begin(&mut flow, number, b"http://h/a", Aim::Own),
+            Some(number)
+        );
+    }
+    for number in 0u64..32 {
+        place(&mut flow, number, 50 + number % 4);
+    }
+    assert_eq!(rt; flow.waiting(None), Some(32));
+    assert_eq!(rt; line(&flow, 51), [Some(1), Some(5), Some(9)]);
+    assert_eq!(rt; (flow.line(51, 7), flow.line(51, 8)), (Some(29), None));
+    // The response to the first of a line is whole.
+    flow.over(1);
+    place(&mut flow, 32, 51);
+    assert_eq!(rt; flow.waiting(None), None);
+    assert_eq!(rt; line(&flow, 51), [Some(5), Some(9), Some(13)]);
+    assert_eq!(rt; (flow.line(51, 6), flow.line(51, 7)), (Some(29), Some(32)));
+    assert_eq!(rt; flow.line(50, 7), Some(28));
+    Ok(())
+}
+
+#[test]
 fn a_body_is_bound_and_comes(rt: HostRuntime) -> Result<(), OutOfMemory> {
     let mut flow = Flow::new(rt.alloc())?;
     let id = ObjectId { slot: 3, life: 9 };

@@ -1,4 +1,6 @@
 // Worked placings (RFC 2616, sections 8.1.2.2 and 8.1.4).
+mod counts; // by how many connections a host has
+
 use crate::{Attempts, Load, Lost, PEERS, Peers, Placed};
 use pp_pipe::{MAX_ASKS, Pipe};
 use pp_text::OutOfMemory;
@@ -101,6 +103,32 @@ fn the_lowest_idle_one_gives_way_where_64_are_there(rt: HostRuntime) -> Result<(
     assert_eq!(rt; peers.place(b"z", 80, false), Placed::CloseThenDial(50));
     assert_eq!(rt; peers.place(b"z", 80, true), Placed::CloseThenDial(50));
     assert_eq!(rt; peers.place(b"c", 80, true), Placed::CloseThenDial(90));
+    Ok(())
+}
+
+/// The first ask of the connection with this number is answered.
+fn answer(peers: &mut Peers, number: u64) {
+    if let Some(pipe) = peers.pipe(number) {
+        let _ = pipe.feed(b"HTTP/1.1 204 No Content\r\n\r\n");
+        let _ = pipe.feed(b"");
+    }
+}
+
+#[test]
+fn the_33rd_ask_of_a_host_waits_for_the_first_connection_with_room(
+    rt: HostRuntime,
+) -> Result<(), OutOfMemory> {
+    let mut peers = Peers::new(rt.alloc())?;
+    for number in 1u64..5 {
+        join(&mut peers, number, b"h", 80, (8, 8, true));
+    }
+    assert_eq!(rt; peers.place(b"h", 80, false), Placed::Wait);
+    answer(&mut peers, 3);
+    assert_eq!(rt; peers.place(b"h", 80, false), Placed::On(3));
+    if let Some(pipe) = peers.pipe(3) {
+        ask(pipe, 1, 1);
+    }
+    assert_eq!(rt; peers.place(b"h", 80, false), Placed::Wait);
     Ok(())
 }
 

@@ -1,4 +1,6 @@
 // Worked exchanges on one connection (RFC 2616, sections 4.4, 6, 8.1.2 and 10.1).
+mod standards; // responses of RFC 7232 and RFC 7233
+
 use crate::{Full, MAX_ASKS, OUT_ROOM, Pipe, Step};
 use arrayvec::ArrayVec;
 use pp_framing::Ending;
@@ -184,6 +186,40 @@ fn a_head_has_at_most_16384_bytes(rt: HostRuntime) -> Result<(), Fail> {
     assert_eq!(rt; pipe.feed(b"HTTP/1.1 200 "), (13, Step::Idle));
     feed_copies(&rt, &mut pipe, b'x', 100);
     assert_eq!(rt; pipe.feed(&[b'x'; 16_271]), (16_271, Step::Bad));
+    Ok(())
+}
+
+#[test]
+fn a_head_has_at_most_102_lines(rt: HostRuntime) -> Result<(), Fail> {
+    let mut pipe = Pipe::new(rt.alloc(), 1)?;
+    for (before, wanted) in [(99, Step::Head), (100, Step::Bad)] {
+        pipe.restart(1);
+        ask(&mut pipe, 1);
+        assert_eq!(rt; pipe.feed(b"HTTP/1.1 200 OK\r\n"), (17, Step::Idle));
+        for _ in 0..before {
+            assert_eq!(rt; pipe.feed(b"a: b\r\n"), (6, Step::Idle));
+        }
+        assert_eq!(rt; pipe.feed(b"a: b\r\n\r\n"), (8, wanted));
+    }
+    Ok(())
+}
+
+#[test]
+fn asks_behind_a_status_line_that_is_cut_are_not_answered(rt: HostRuntime) -> Result<(), Fail> {
+    let mut pipe = Pipe::new(rt.alloc(), 1)?;
+    let mut told = told_of(
+        &mut pipe,
+        1,
+        b"HTTP/1.1 200 OK\r\nContent-Length: 0\r\n\r\n",
+    );
+    assert!(rt; pipe.may_pipeline());
+    let _ = push(&mut pipe, b"GET /b HTTP/1.1\r\nHost: h\r\n\r\n", false);
+    let _ = push(&mut pipe, b"GET /f HTTP/1.1\r\nHost: h\r\n\r\n", false);
+    write(&mut pipe, OUT_ROOM);
+    hear(&mut pipe, b"HTTP/1.", &mut told);
+    assert_eq!(rt; told.as_slice(), b"<200 >".as_slice());
+    assert_eq!(rt; pipe.ended(true), Ending::Short);
+    assert_eq!(rt; (pipe.asks(), pipe.has_answered()), (2, true));
     Ok(())
 }
 

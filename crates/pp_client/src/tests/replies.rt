@@ -123,6 +123,90 @@ fn a_span_waits_where_its_next_byte_is_not_in_memory(rt: HostRuntime) {
     assert_eq!(rt; talk.client.next_byte(), None);
 }
 
+/// What is written before the body of a kept response: its status line, its kept fields, these lines behind
+/// them, and its length.
+fn head(status: &[u8], age: &[u8], range: &[u8], length: &[u8]) -> Said {
+    let mut head = Said::new();
+    let parts: [&[u8]; 9] = [
+        b"HTTP/1.1 ",
+        status,
+        b"\r\netag: \"x\"\r\ndate: Sun, 06 Nov 1994 08:49:37 GMT\r\ncache-control: max-age=60\r\n",
+        age,
+        b"via: 1.1 polipo\r\n",
+        range,
+        b"content-length: ",
+        length,
+        b"\r\nconnection: keep-alive\r\n\r\n",
+    ];
+    for part in parts {
+        let _ = head.try_extend_from_slice(part);
+    }
+    head
+}
+
+#[test]
+fn five_bytes_are_said_whole_and_in_parts(rt: HostRuntime) {
+    let mut cache = Cache::new(&rt, rt.alloc());
+    let id = cache.settle(&rt, 5);
+    cache.add(&rt, id, 0, b"hello");
+    let new = head(b"200 OK", b"", b"", b"5");
+    let whole = head(b"200 OK", b"age: 10\r\n", b"", b"5");
+    let partial = b"206 Partial Content".as_slice();
+    let range = b"content-range: bytes 1-3/5\r\n".as_slice();
+    let part = head(partial, b"age: 10\r\n", range, b"3");
+    let range = b"content-range: bytes 0-4/5\r\n".as_slice();
+    let all = head(partial, b"age: 10\r\n", range, b"5");
+    let cases: [(&[u8], u64, u64, &[u8], usize); 5] = [
+        (new.as_slice(), 0, 5, b"hello", 159),
+        (whole.as_slice(), 0, 5, b"hello", 168),
+        (part.as_slice(), 1, 4, b"ell", 207),
+        (all.as_slice(), 0, 5, b"hello", 209),
+        // To HEAD.
+        (whole.as_slice(), 5, 5, b"", 163),
+    ];
+    for (head, from, to, body, len) in cases {
+        let mut talk = Talk::new(&rt, rt.alloc());
+        talk.hear(&rt, b"GET http://h/a HTTP/1.1\r\nHost: h\r\n\r\n");
+        talk.begin(&rt, head, Begin::Instance(id, from, to));
+        let said = talk.say_all(&rt, &cache, 20000);
+        assert_eq!(rt; said.len(), len);
+        assert!(rt; said.as_slice().starts_with(head));
+        assert!(rt; said.as_slice().ends_with(body));
+        assert_eq!(rt; talk.status(), 0);
+    }
+}
+
+#[test]
+fn a_body_of_no_bytes_ends_with_its_head(rt: HostRuntime) {
+    let mut cache = Cache::new(&rt, rt.alloc());
+    let id = cache.settle(&rt, 0);
+    let mut talk = Talk::new(&rt, rt.alloc());
+    talk.hear(&rt, b"GET /a HTTP/1.1\r\n\r\nGET /b HTTP/1.1\r\n\r\n");
+    talk.begin(&rt, HEAD, Begin::Instance(id, 0, 0));
+    assert_eq!(rt; talk.client.next_byte(), None);
+    let said = talk.say_all(&rt, &cache, 20000);
+    assert_eq!(rt; said.as_slice(), HEAD);
+    assert!(rt; talk.is_at(b"/b"));
+}
+
+#[test]
+fn a_hole_is_waited_for_and_what_is_behind_it_follows(rt: HostRuntime) {
+    let mut cache = Cache::new(&rt, rt.alloc());
+    let id = cache.settle(&rt, 12288);
+    cache.add(&rt, id, 0, part(0, 4096).as_slice());
+    cache.add(&rt, id, 8192, part(8192, 12288).as_slice());
+    let mut talk = Talk::new(&rt, rt.alloc());
+    talk.hear(&rt, b"GET http://h/b HTTP/1.1\r\nHost: h\r\n\r\n");
+    talk.begin(&rt, HEAD, Begin::Instance(id, 0, 12288));
+    let said = talk.say_all(&rt, &cache, 20000);
+    assert_eq!(rt; said.as_slice(), reply(part(0, 4096).as_slice()).as_slice());
+    assert_eq!(rt; talk.client.next_byte(), Some((id, 4096)));
+    cache.add(&rt, id, 4096, part(4096, 8192).as_slice());
+    let said = talk.say_all(&rt, &cache, 20000);
+    assert_eq!(rt; said.as_slice(), part(4096, 12288).as_slice());
+    assert_eq!(rt; talk.status(), 0);
+}
+
 #[test]
 fn a_head_without_a_body_ends_the_reply(rt: HostRuntime) {
     let mut cache = Cache::new(&rt, rt.alloc());

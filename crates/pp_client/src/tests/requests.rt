@@ -71,6 +71,35 @@ fn pipelined_requests_are_answered_in_their_order_byte_by_byte(rt: HostRuntime) 
     assert_eq!(rt; (number, talk.status()), (REQUESTS, 0));
 }
 
+/// Hears the pieces one after the other, and answers what is current behind each.
+fn answer_pieces(rt: &impl Abort, talk: &mut Talk, cache: &Cache, sent: &[u8], sizes: &[usize]) {
+    let mut number = 0;
+    let mut rest = sent;
+    for turn in 0..sent.len() {
+        if rest.is_empty() || sizes.is_empty() {
+            break;
+        }
+        let (piece, behind) = rest.split_at(sizes[turn % sizes.len()].min(rest.len()));
+        talk.hear(rt, piece);
+        number = answer_from(rt, talk, cache, number);
+        rest = behind;
+    }
+    assert_eq!(rt; (number, talk.status()), (REQUESTS, 0));
+}
+
+#[test]
+fn pipelined_requests_are_answered_in_their_order_in_pieces_of_any_sizes(rt: HostRuntime) {
+    let cache = Cache::new(&rt, rt.alloc());
+    let sent = pipelined();
+    for size in 2..100 {
+        let mut talk = Talk::new(&rt, rt.alloc());
+        answer_pieces(&rt, &mut talk, &cache, sent.as_slice(), &[size]);
+    }
+    let mut talk = Talk::new(&rt, rt.alloc());
+    let sizes = [1, 20, 300, 2, 7, 64, 19, 150];
+    answer_pieces(&rt, &mut talk, &cache, sent.as_slice(), &sizes);
+}
+
 #[test]
 fn what_stands_is_a_request_or_refused_with_its_status(rt: HostRuntime) {
     let cases: [(&[u8], u16); 11] = [
@@ -124,6 +153,28 @@ fn a_head_that_fills_the_room_is_too_long(rt: HostRuntime) {
     talk.answer(&rt, &cache);
     let room = talk.client.room();
     assert_eq!(rt; (room, talk.status()), (16384, 0));
+}
+
+#[test]
+fn a_head_has_at_most_102_lines(rt: HostRuntime) {
+    // Lines behind the request line, whether an empty one follows, and the status.
+    let cases: [(usize, bool, u16); 4] = [
+        (100, false, 1),
+        (100, true, 200),
+        (101, false, 431),
+        (101, true, 431),
+    ];
+    for (lines, is_ended, status) in cases {
+        let mut talk = Talk::new(&rt, rt.alloc());
+        talk.hear(&rt, b"GET http://h/a HTTP/1.1\r\n");
+        for _ in 0..lines {
+            talk.hear(&rt, b"a: b\r\n");
+        }
+        if is_ended {
+            talk.hear(&rt, b"\r\n");
+        }
+        assert_eq!(rt; talk.status(), status);
+    }
 }
 
 #[test]
