@@ -19,7 +19,7 @@ lines-cond : (passes : Bool) (f : Field) (kept : List Field) → flat_map field_
 lines-cond true f kept = refl
 lines-cond false f kept = refl
 
-next : (fields : List Field) (i : ℕ) (d : Field) → i < length fields → drop i fields ≡ get_or fields i d ∷ drop (i + 1) fields
+pub next : (fields : List Field) (i : ℕ) (d : Field) → i < length fields → drop i fields ≡ get_or fields i d ∷ drop (i + 1) fields
 next fields i d within = rw add-one (drop-cons fields i d within)
 
 -- the next field is written, or left out

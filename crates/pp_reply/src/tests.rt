@@ -9,6 +9,8 @@ use arrayvec::ArrayVec;
 use pp_framing::{BodyRule, FramingFault, request_rule, rule};
 use pp_head::{HeadState, Scratch, read_request, read_response};
 
+mod kept; // replies from a kept response
+
 /// Writes the head of the reply for a response that is passed.
 fn pass(received: &[u8], minor: u8, head_asked: bool, out: &mut ArrayVec<u8, TEXT_LEN>) {
     let mut scratch = Scratch::new();
