@@ -13,7 +13,6 @@ pub mod Sharing
 pub mod Closing
 pub mod Due
 pub mod Deciding
-pub mod InstanceTexts
 pub mod Replies
 pub mod Followers
 pub mod Asking

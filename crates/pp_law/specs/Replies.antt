@@ -8,6 +8,7 @@ use Rattle.pp_plan.specs.declared.table.Begun.TheVariants.{Nothing}
 use Rattle.pp_ranges.specs.declared.range.Resolved.{Resolved}
 use Rattle.pp_ranges.specs.declared.range.Resolved.TheVariants.{Whole as OfAll, Part as OfPart, Unsatisfiable as OfNone}
 use Rattle.pp_reply.specs.Keeping.{is_end_known}
+use Rattle.pp_reply.specs.Kept.{whole_head, part_head, not_modified_head, unsatisfiable_page}
 use Rattle.pp_reply.specs.Texts.{passed_head}
 use Rattle.pp_text.specs.Bytes.{is_empty}
 use Rattle.pp_world.specs.declared.note.Decision.{Decision}
@@ -17,7 +18,6 @@ use Rattle.pp_law.specs.Closing.{close_client}
 use Rattle.pp_law.specs.Due.{is_passing, reply_of}
 use Rattle.pp_law.specs.Hearing.{with_front}
 use Rattle.pp_law.specs.Connections.{on_client, on_passed}
-use Rattle.pp_law.specs.InstanceTexts.{whole_head, part_head, not_modified_head, unsatisfiable_page}
 use Rattle.pp_law.specs.Lists.{Bytes, is_some_with, is_this}
 use Rattle.pp_law.specs.Requests.{Parsed, NoHeadYet, NoHead, IsRequest, keeps_open, has_request}
 use Rattle.pp_law.specs.State.{State, Client, Instance, Passed, Undecided, Waiting, Passing, Answering, Reply}
@@ -55,7 +55,7 @@ is_part OfNone = false
 
 abbrev pub body_head : State → Parsed → Client → Instance → ℕ × ℕ → Bytes
 body_head s r c x span = elim (is_part (resolved r.head.fields x.version)) [
-  | true ↦ part_head span x.version.length x.fields (age_shown s c x) s.settings.name (keeps_open r)
+  | true ↦ part_head span.0 span.1 x.version.length x.fields (age_shown s c x) s.settings.name (keeps_open r)
   | false ↦ whole_head x.version.length x.fields (age_shown s c x) s.settings.name (keeps_open r)
 ]
 
