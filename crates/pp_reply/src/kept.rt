@@ -1,7 +1,7 @@
 // Replies that are made from a kept response.
 ghost use Rattle.std.specs.Prelude.{◌≡◌, ◌+◌, ◌-◌, ◌≤◌, ◌<◌, ◌++◌, [], filter, length, codes};
 ghost use Rattle.pp_text.specs.Lines.{lines_of};
-ghost use Rattle.pp_reply.specs.Texts.{connection_line, crlf, via_line};
+ghost use Rattle.pp_reply.specs.Texts.{connection_line, crlf};
 ghost use Rattle.pp_reply.specs.Kept.{age_line, byte_range_resp, content_range_line, is_described as describes, kept_reply, not_modified_head, part_head, unsatisfiable_page, unsatisfied_range, whole_head, CanShow, IsSpanWithin, KeepsLineLimits};
 
 use crate::lines::{
