@@ -1,0 +1,138 @@
+// What the next life finds, at whatever moment the one before it ended.
+use crate::format::{Found, HEAD_OF_8192, found_in};
+use crate::life::{A, Life, Morning, is_as_given, keep_rest, life_with, loads, two_chunks};
+use crate::steps::{Step, are_just, begin_of};
+use pp_target::file_name;
+use pp_world::Happening;
+use std::alloc::Global;
+use std::test::Fail;
+
+/// The old bytes and files, the new ones, and any by the seed of a generator.
+const CHOICES: [u64; 7] = [0, 1, 2, 3, 7, 1000, 1 << 63];
+
+/// A life in which an entry of two chunks was kept and withdrawn.
+fn whole_life(alloc: Global, body: &[u8]) -> Result<Life, Fail> {
+    let mut life = life_with(alloc, body)?;
+    life.withdraw(A).ok_or("kept")?.map_err(|_| "withdrawn")?;
+    Ok(life)
+}
+
+/// What stands under the name of the key `A`, by the disk format.
+fn found_by(morning: &Morning, body: &[u8]) -> Result<Found, Fail> {
+    let image = morning.image().ok_or("files")?;
+    Ok(found_in(image, &file_name(A), HEAD_OF_8192, body))
+}
+
+/// Whether this may be found once so much has happened: the life woke, rooted and listed its folder;
+/// began and did the three operations of the entry, the four of each chunk, and the removal.
+fn is_due(at: usize, found: Found) -> bool {
+    let (one, other) = match at {
+        0..=7 => (Found::Nothing, Found::Nothing),
+        8 => (Found::Nothing, Found::Entry(0)),
+        9..=13 => (Found::Entry(0), Found::Entry(0)),
+        14..=16 => (Found::Entry(0), Found::Entry(4096)),
+        17..=21 => (Found::Entry(4096), Found::Entry(4096)),
+        22..=24 => (Found::Entry(4096), Found::Entry(8192)),
+        25 => (Found::Entry(8192), Found::Entry(8192)),
+        26 => (Found::Entry(8192), Found::Nothing),
+        _ => (Found::Nothing, Found::Nothing),
+    };
+    found == one || found == other
+}
+
+#[test]
+fn a_crash_at_any_moment_leaves_what_was_acknowledged(rt: HostRuntime) -> Result<(), Fail> {
+    let body = two_chunks();
+    let life = whole_life(rt.alloc(), &body)?;
+    assert_eq!(rt; life.log().len(), 27);
+    for at in 0..28 {
+        for choice in CHOICES {
+            let found = found_by(&life.crash(rt.alloc(), at, choice)?, &body)?;
+            assert!(rt; is_due(at, found), "{at} {choice}");
+        }
+    }
+    Ok(())
+}
+
+/// Whether the store has just what was found.
+fn has_just(life: &Life, found: Found) -> bool {
+    let store = life.store();
+    match (store.kept(A), found) {
+        (None, Found::Nothing) => store.entries() == 0 && !store.is_closed(&file_name(A)),
+        (Some(row), Found::Entry(extent)) => {
+            store.entries() == 1 && row.extent == extent && is_as_given(&row, A, 8192)
+        }
+        _ => false,
+    }
+}
+
+/// Whether a life woke, rooted its folder and listed it, and nothing else.
+fn is_just_listed(life: &Life, at: usize) -> bool {
+    match life.log().get(at..) {
+        Some([Happening::Woke(_), Happening::Rooted(_), Happening::Listed(true)]) => true,
+        _ => false,
+    }
+}
+
+#[test]
+fn what_is_opened_is_what_the_file_says(rt: HostRuntime) -> Result<(), Fail> {
+    let body = two_chunks();
+    let life = whole_life(rt.alloc(), &body)?;
+    for at in 0..28 {
+        for choice in CHOICES {
+            let morning = life.crash(rt.alloc(), at, choice)?;
+            let found = found_by(&morning, &body)?;
+            let next = morning.begin(rt.alloc())?;
+            assert!(rt; has_just(&next, found), "{at} {choice}");
+            assert!(rt; is_just_listed(&next, at), "{at} {choice}");
+        }
+    }
+    Ok(())
+}
+
+#[test]
+fn the_next_life_goes_on_from_there(rt: HostRuntime) -> Result<(), Fail> {
+    let body = two_chunks();
+    let life = whole_life(rt.alloc(), &body)?;
+    for at in 0..28 {
+        for choice in CHOICES {
+            let mut next = life.crash(rt.alloc(), at, choice)?.begin(rt.alloc())?;
+            assert!(rt; keep_rest(&mut next, rt.alloc(), A, &body).is_some(), "{at} {choice}");
+            assert!(rt; loads(&mut next, A, &body), "{at} {choice}");
+        }
+    }
+    Ok(())
+}
+
+/// A life that keeps both chunks of an entry at once.
+fn life_with_a_run(alloc: Global, body: &[u8]) -> Result<Life, Fail> {
+    let mut life = Life::begin(alloc, &[])?;
+    life.keep(alloc, A, 8192).ok_or("free")?.map_err(|_| "kept")?;
+    life.extend(A, body).ok_or("whole")?.map_err(|_| "kept")?;
+    Ok(life)
+}
+
+#[test]
+fn gates_that_were_torn_apart_are_closed_before_the_entry_counts(
+    rt: HostRuntime,
+) -> Result<(), Fail> {
+    let body = two_chunks();
+    let life = life_with_a_run(rt.alloc(), &body)?;
+    let gates = Step::Write(8192, &[1, 1]);
+    let at = begin_of(life.log(), &file_name(A), gates).ok_or("begun")?;
+    // The first two values of the generator make the gates 0x60 and 0x01.
+    let cases: [(u64, u64, &[Step<'_>]); 3] = [
+        (0, 0, &[]),
+        (1, 8192, &[]),
+        (41, 0, &[Step::Write(8193, &[0]), Step::Sync]),
+    ];
+    for (choice, extent, steps) in cases {
+        let mut next = life.crash(rt.alloc(), at, choice)?.begin(rt.alloc())?;
+        assert_eq!(rt; next.extent(A), Some(extent), "{choice}");
+        let behind = next.log().get(at + 3..).ok_or("a life")?;
+        assert!(rt; are_just(behind, &file_name(A), steps), "{choice}");
+        assert!(rt; keep_rest(&mut next, rt.alloc(), A, &body).is_some(), "{choice}");
+        assert!(rt; loads(&mut next, A, &body), "{choice}");
+    }
+    Ok(())
+}
