@@ -58,7 +58,10 @@ fn whichever_operation_fails_the_other_entry_is_as_before(rt: HostRuntime) -> Re
     let body = two_chunks();
     for call in 13..20 {
         let mut life = life_failing(rt.alloc(), call, &body)?;
-        assert!(rt; keep_rest(&mut life, rt.alloc(), A, b"hello").is_none(), "{call}");
+        assert!(rt;
+            keep_rest(&mut life, rt.alloc(), A, b"hello").is_none(),
+            "{call}"
+        );
         assert!(rt; is_one_lost(&life, 8192), "{call}");
         assert!(rt; loads(&mut life, B, &body), "{call}");
     }
@@ -70,11 +73,22 @@ fn the_next_life_takes_a_name_that_was_closed(rt: HostRuntime) -> Result<(), Fai
     let body = two_chunks();
     for call in 13..20 {
         let mut life = life_failing(rt.alloc(), call, &body)?;
-        assert!(rt; keep_rest(&mut life, rt.alloc(), A, b"hello").is_none(), "{call}");
-        let mut next = life.crash(rt.alloc(), life.log().len(), 0)?.begin(rt.alloc())?;
+        assert!(rt;
+            keep_rest(&mut life, rt.alloc(), A, b"hello").is_none(),
+            "{call}"
+        );
+        let mut next = life
+            .crash(rt.alloc(), life.log().len(), 0)?
+            .begin(rt.alloc())?;
         assert!(rt; !next.store().is_closed(&file_name(A)), "{call}");
-        assert!(rt; keep_rest(&mut next, rt.alloc(), A, b"hello").is_some(), "{call}");
-        assert!(rt; loads(&mut next, A, b"hello") && loads(&mut next, B, &body), "{call}");
+        assert!(rt;
+            keep_rest(&mut next, rt.alloc(), A, b"hello").is_some(),
+            "{call}"
+        );
+        assert!(rt;
+            loads(&mut next, A, b"hello") && loads(&mut next, B, &body),
+            "{call}"
+        );
     }
     Ok(())
 }
@@ -115,7 +129,10 @@ fn a_fault_while_a_file_is_looked_at_closes_its_name_alone(rt: HostRuntime) -> R
     for call in 2..7 {
         let mut life = morning_failing(rt.alloc(), call)?.begin(rt.alloc())?;
         assert!(rt; is_one_lost(&life, 0), "{call}");
-        assert!(rt; keep_rest(&mut life, rt.alloc(), B, &two_chunks()).is_some(), "{call}");
+        assert!(rt;
+            keep_rest(&mut life, rt.alloc(), B, &two_chunks()).is_some(),
+            "{call}"
+        );
     }
     for call in 7..12 {
         let life = morning_failing(rt.alloc(), call)?.begin(rt.alloc())?;
@@ -133,9 +150,15 @@ fn a_folder_that_is_not_listed_is_not_an_empty_one(rt: HostRuntime) -> Result<()
     };
     assert_eq!(rt; fault, RecoverFault::DiskFault);
     let log = world.log().ok_or("a log")?;
-    assert!(rt; matches!(
-        log,
-        [Happening::Woke(_), Happening::Rooted(_), Happening::Listed(false)]
-    ));
+    assert!(rt;
+        matches!(
+            log,
+            [
+                Happening::Woke(_),
+                Happening::Rooted(_),
+                Happening::Listed(false)
+            ]
+        )
+    );
     Ok(())
 }

@@ -43,6 +43,11 @@ fn is_left(alloc: Global, file: &[u8]) -> Result<bool, Fail> {
     Ok(is_other_alone(&life) && is_untouched(&life, alloc, file)? && goes_on(life, alloc))
 }
 
+/// A head without the empty line at its end.
+fn unended(head: &[u8]) -> &[u8] {
+    head.get(..head.len().saturating_sub(2)).unwrap_or(&[])
+}
+
 #[test]
 fn a_file_that_is_no_entry_is_left_as_it_is(rt: HostRuntime) -> Result<(), Fail> {
     let alloc = rt.alloc();
@@ -52,14 +57,20 @@ fn a_file_that_is_no_entry_is_left_as_it_is(rt: HostRuntime) -> Result<(), Fail>
         file_with(alloc, b"", &[1, 1], &body)?,
         file_with(alloc, b"notes of my own", &[1, 1], &body)?,
         // Nothing tells the end of the head.
-        file_with(alloc, &HEAD_OF_8192[..HEAD_OF_8192.len() - 2], &[1, 1], &body)?,
+        file_with(alloc, unended(HEAD_OF_8192), &[1, 1], &body)?,
         // The entry of another key, where the names may be the same or not.
         file_with(alloc, OTHER_HEAD_OF_8192, &[1, 1], &body)?,
     ];
     for file in &files {
         assert!(rt; is_left(alloc, file)?, "{}", file.len());
     }
-    for file in [b"".as_slice(), b"12345", HEAD_OF_8192, &[0; 8192], &[1; 20_480]] {
+    for file in [
+        b"".as_slice(),
+        b"12345",
+        HEAD_OF_8192,
+        &[0; 8192],
+        &[1; 20_480],
+    ] {
         assert!(rt; is_left(alloc, file)?, "{}", file.len());
     }
     Ok(())
@@ -81,7 +92,7 @@ fn random(alloc: Global, seed: u64, count: usize) -> Result<Vec<u8>, AllocError>
 #[test]
 fn random_bytes_are_left_as_they_are(rt: HostRuntime) -> Result<(), Fail> {
     let body = two_chunks();
-    for seed in 0..16 {
+    for seed in 0..5 {
         let block = random(rt.alloc(), seed, 8192)?;
         let file = file_with(rt.alloc(), &block, &[1, 1], &body)?;
         assert!(rt; is_left(rt.alloc(), &file)?, "{seed}");
@@ -99,15 +110,16 @@ fn counts_with(alloc: Global, place: usize, byte: u8) -> Result<bool, Fail> {
 }
 
 #[test]
-fn a_zero_in_the_head_or_another_byte_behind_it_makes_it_none(
-    rt: HostRuntime,
-) -> Result<(), Fail> {
+fn a_zero_in_the_head_or_another_byte_behind_it_makes_it_none(rt: HostRuntime) -> Result<(), Fail> {
     for place in 0..217 {
         assert!(rt; !counts_with(rt.alloc(), place, 0)?, "{place}");
     }
     for place in 217..8192 {
         let is_tried = place < 250 || place % 64 == 63;
-        assert!(rt; !is_tried || !counts_with(rt.alloc(), place, b' ')?, "{place}");
+        assert!(rt;
+            !is_tried || !counts_with(rt.alloc(), place, b' ')?,
+            "{place}"
+        );
     }
     Ok(())
 }

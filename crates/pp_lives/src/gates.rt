@@ -1,5 +1,5 @@
 // Gates of any byte, and open ones behind one that is not.
-use crate::format::{Found, HEAD_OF_8192, HEAD_OF_20480, file_with, found_in, holds};
+use crate::format::{Found, HEAD_OF_5, HEAD_OF_8192, HEAD_OF_20480, file_with, found_in, holds};
 use crate::life::{A, Life, Morning, folder_with, two_chunks};
 use crate::steps::{Step, are_just};
 use pp_target::file_name;
@@ -16,17 +16,30 @@ fn life_over(alloc: Global, head: &[u8], gates: &[u8], body: &[u8]) -> Result<Li
     Morning::over(alloc, folder, &[])?.begin(alloc)
 }
 
+/// The extent of a life over such a folder, if it wrote nothing.
+fn extent_over(alloc: Global, head: &[u8], gates: &[u8], body: &[u8]) -> Result<u64, Fail> {
+    let life = life_over(alloc, head, gates, body)?;
+    if life.log().len() != BEGIN {
+        return Err("nothing written".into());
+    }
+    Ok(life.extent(A).ok_or("an entry")?)
+}
+
 #[test]
 fn a_gate_of_any_byte_but_one_is_closed(rt: HostRuntime) -> Result<(), Fail> {
-    let body = two_chunks();
     for gate in 0..=255 {
-        let (first, second) = if gate == 1 { (4096, 8192) } else { (0, 4096) };
-        let life = life_over(rt.alloc(), HEAD_OF_8192, &[gate, 0], &body)?;
-        assert_eq!(rt; life.extent(A), Some(first), "{gate}");
-        assert_eq!(rt; life.log().len(), BEGIN, "{gate}");
-        let life = life_over(rt.alloc(), HEAD_OF_8192, &[1, gate], &body)?;
-        assert_eq!(rt; life.extent(A), Some(second), "{gate}");
-        assert_eq!(rt; life.log().len(), BEGIN, "{gate}");
+        let extent = extent_over(rt.alloc(), HEAD_OF_5, &[gate], b"hello")?;
+        assert_eq!(rt; extent, if gate == 1 { 5 } else { 0 }, "{gate}");
+    }
+    Ok(())
+}
+
+#[test]
+fn the_gates_before_it_count(rt: HostRuntime) -> Result<(), Fail> {
+    let body = two_chunks();
+    for gate in [0, 2, 7, 16, 127, 128, 254, 255] {
+        let extent = extent_over(rt.alloc(), HEAD_OF_8192, &[1, gate], &body)?;
+        assert_eq!(rt; extent, 4096, "{gate}");
     }
     Ok(())
 }
@@ -106,7 +119,7 @@ fn a_crash_while_gates_are_closed_leaves_the_same_entry(rt: HostRuntime) -> Resu
     let life = life_over(rt.alloc(), HEAD_OF_20480, &[1, 0, 1, 0, 1], &body)?;
     assert_eq!(rt; life.log().len(), BEGIN + 8);
     for at in 1..12 {
-        for choice in [0, 1, 2, 3, 7, 1000, 1 << 63] {
+        for choice in [0, 1, 2, 3, 7, 1000, u64::MAX] {
             let found = left_of(&life, rt.alloc(), at, choice, &body)?;
             assert_eq!(rt; found, Found::Entry(4096), "{at} {choice}");
         }

@@ -48,6 +48,9 @@ const TIMES: Times = Times {
     initial: 0,
 };
 
+/// The chunks of the longest body that is kept.
+const MOST_CHUNKS: u32 = 16_384;
+
 /// A disk in memory on which a life has begun, and nothing has happened since.
 #[derive(Drop)]
 pub(crate) struct Morning {
@@ -306,8 +309,8 @@ pub(crate) fn keep_rest(life: &mut Life, alloc: Global, key: &[u8], body: &[u8])
 /// Whether each chunk of a key's body is loaded as it was written.
 pub(crate) fn loads(life: &mut Life, key: &[u8], body: &[u8]) -> bool {
     let mut out = [0; 4096];
-    for (index, chunk) in body.chunks(4096).enumerate() {
-        match life.load(key, index as u32, &mut out) {
+    for (index, chunk) in (0..MOST_CHUNKS).zip(body.chunks(4096)) {
+        match life.load(key, index, &mut out) {
             Some(Ok(count)) if out.get(..count) == Some(chunk) => {}
             _ => return false,
         }

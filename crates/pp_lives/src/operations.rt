@@ -56,9 +56,7 @@ fn each_chunk_has_its_place_and_its_gate(rt: HostRuntime) -> Result<(), Fail> {
 }
 
 #[test]
-fn chunks_that_come_together_have_their_gates_opened_together(
-    rt: HostRuntime,
-) -> Result<(), Fail> {
+fn chunks_that_come_together_have_their_gates_opened_together(rt: HostRuntime) -> Result<(), Fail> {
     let body = two_chunks();
     let mut life = Life::begin(rt.alloc(), &[])?;
     assert_eq!(rt; life.keep(rt.alloc(), A, 8192), Some(Ok(())));
