@@ -71,7 +71,8 @@ fn whichever_operation_fails_the_other_entry_is_as_before(rt: HostRuntime) -> Re
 #[test]
 fn the_next_life_takes_a_name_that_was_closed(rt: HostRuntime) -> Result<(), Fail> {
     let body = two_chunks();
-    for call in 13..20 {
+    // The publishing, and the gate.
+    for call in [15, 18] {
         let mut life = life_failing(rt.alloc(), call, &body)?;
         assert!(rt;
             keep_rest(&mut life, rt.alloc(), A, b"hello").is_none(),

@@ -37,10 +37,10 @@ fn goes_on(mut life: Life, alloc: Global) -> bool {
         && loads(&mut life, B, &body)
 }
 
-/// Whether a file is no entry of the key `A`, and left as it is, and the program goes on.
+/// Whether a file is no entry of the key `A`, and left as it is.
 fn is_left(alloc: Global, file: &[u8]) -> Result<bool, Fail> {
     let life = life_beside(alloc, file)?;
-    Ok(is_other_alone(&life) && is_untouched(&life, alloc, file)? && goes_on(life, alloc))
+    Ok(is_other_alone(&life) && is_untouched(&life, alloc, file)?)
 }
 
 /// A head without the empty line at its end.
@@ -72,6 +72,15 @@ fn a_file_that_is_no_entry_is_left_as_it_is(rt: HostRuntime) -> Result<(), Fail>
         &[1; 20_480],
     ] {
         assert!(rt; is_left(alloc, file)?, "{}", file.len());
+    }
+    Ok(())
+}
+
+#[test]
+fn the_program_goes_on_beside_them(rt: HostRuntime) -> Result<(), Fail> {
+    for file in [b"".as_slice(), b"12345", &[0; 8192]] {
+        let life = life_beside(rt.alloc(), file)?;
+        assert!(rt; goes_on(life, rt.alloc()), "{}", file.len());
     }
     Ok(())
 }
@@ -115,7 +124,7 @@ fn a_zero_in_the_head_or_another_byte_behind_it_makes_it_none(rt: HostRuntime) -
         assert!(rt; !counts_with(rt.alloc(), place, 0)?, "{place}");
     }
     for place in 217..8192 {
-        let is_tried = place < 250 || place % 64 == 63;
+        let is_tried = place < 220 || place % 512 == 511;
         assert!(rt;
             !is_tried || !counts_with(rt.alloc(), place, b' ')?,
             "{place}"
@@ -138,7 +147,7 @@ fn a_file_that_was_cut_counts_where_it_has_all_that_it_vouches_for(
     rt: HostRuntime,
 ) -> Result<(), Fail> {
     // The text ends at 217, the head block at 8192, the gates at 12288, and the body at 12293.
-    for (from, to) in [(0, 230), (8180, 8200), (12_280, 12_294)] {
+    for (from, to) in [(0, 2), (215, 219), (8190, 8195), (12_285, 12_294)] {
         for count in from..to {
             let wanted = if count == 12_293 { Some(5) } else { None };
             assert_eq!(rt; extent_of_front(rt.alloc(), 1, count)?, wanted, "{count}");
