@@ -51,21 +51,21 @@ const TIMES: Times = Times {
 /// The chunks of the longest body that is kept.
 const MOST_CHUNKS: u32 = 16_384;
 
-/// A disk in memory on which a life has begun, and nothing has happened since.
+/// A disk in memory on which a life has begun, and nothing has happened since. Contracts see its log.
 #[derive(Drop)]
 pub(crate) struct Morning {
     world: MemWorld,
 }
 
 impl Model for Morning {
-    ghost use Rattle.pp_memworld.specs.declared.memworld.MemWorld.{MemWorld};
-    ghost use Rattle.pp_world.specs.Log.{Told};
+    ghost use Rattle.std.specs.Prelude.{Option};
+    ghost use Rattle.pp_world.specs.Log.{Log, Told};
     ghost use Rattle.pp_memworld.specs.MemWorld.{told_log};
     ghost use Rattle.pp_lives.specs.Lives.{HasWoken};
 
-    ghost Value = { MemWorld };
+    ghost Value = { Option Log };
 
-    ghost view = { λ morning. morning.world };
+    ghost view = { λ morning. told_log morning.world };
 
     ghost invariant = { λ morning. Told (told_log morning.world) HasWoken };
 }
