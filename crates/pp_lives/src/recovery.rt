@@ -119,30 +119,34 @@ fn life_with_a_run(alloc: Global, body: &[u8]) -> Result<Life, Fail> {
     Ok(life)
 }
 
+/// Whether the next life keeps so many bytes, did just these operations, and can keep and load the rest.
+fn finds(
+    morning: Morning,
+    alloc: Global,
+    at: usize,
+    extent: u64,
+    steps: &[Step<'_>],
+    body: &[u8],
+) -> Result<bool, Fail> {
+    let mut next = morning.begin(alloc)?;
+    let behind = next.log().get(at.saturating_add(3)..).ok_or("a life")?;
+    let is_done = are_just(behind, &file_name(A), steps) && next.extent(A) == Some(extent);
+    Ok(is_done && keep_rest(&mut next, alloc, A, body).is_some() && loads(&mut next, A, body))
+}
+
 #[test]
 fn gates_that_were_torn_apart_are_closed_before_the_entry_counts(
     rt: HostRuntime,
 ) -> Result<(), Fail> {
+    let alloc = rt.alloc();
     let body = two_chunks();
-    let life = life_with_a_run(rt.alloc(), &body)?;
+    let life = life_with_a_run(alloc, &body)?;
     let gates = Step::Write(8192, &[1, 1]);
     let at = begin_of(life.log(), &file_name(A), gates).ok_or("begun")?;
+    assert!(rt; finds(life.crash(alloc, at, 0)?, alloc, at, 0, &[], &body)?);
+    assert!(rt; finds(life.crash(alloc, at, 1)?, alloc, at, 8192, &[], &body)?);
     // The first two values of the generator make the gates 0x60 and 0x01.
-    let cases: [(u64, u64, &[Step<'_>]); 3] = [
-        (0, 0, &[]),
-        (1, 8192, &[]),
-        (41, 0, &[Step::Write(8193, &[0]), Step::Sync]),
-    ];
-    for (choice, extent, steps) in cases {
-        let mut next = life.crash(rt.alloc(), at, choice)?.begin(rt.alloc())?;
-        assert_eq!(rt; next.extent(A), Some(extent), "{choice}");
-        let behind = next.log().get(at.saturating_add(3)..).ok_or("a life")?;
-        assert!(rt; are_just(behind, &file_name(A), steps), "{choice}");
-        assert!(rt;
-            keep_rest(&mut next, rt.alloc(), A, &body).is_some(),
-            "{choice}"
-        );
-        assert!(rt; loads(&mut next, A, &body), "{choice}");
-    }
+    let steps = [Step::Write(8193, &[0]), Step::Sync];
+    assert!(rt; finds(life.crash(alloc, at, 41)?, alloc, at, 0, &steps, &body)?);
     Ok(())
 }
