@@ -85,13 +85,26 @@ def seconds(top, count, length, run):
     return statistics.median(ours), statistics.median(plain)
 
 
+def memory(folder):
+    """The most bytes of memory that the program had once it opened the folder. It prints more than a pipe holds, so it has not ended."""
+    process = subprocess.Popen([KEEPER, "list", folder, str(OPENED_COUNT)], stdout=subprocess.PIPE, bufsize=0)
+    try:
+        if not process.stdout.read(1):
+            raise SystemExit(f"{KEEPER.name} list: nothing printed, status {process.wait()}")
+        status = pathlib.Path(f"/proc/{process.pid}/status").read_text()
+    finally:
+        process.kill()
+        process.communicate()
+    return 1024 * next(int(line.split()[1]) for line in status.splitlines() if line.startswith("VmHWM:"))
+
+
 def opening(top):
-    """Seconds that it takes to open a folder of so many entries."""
+    """Seconds and memory that it takes to open a folder of so many entries, and the memory of an empty one."""
     def measure(folder):
         keeper("fill", folder, OPENED_COUNT, 1, 64)
-        return statistics.median(timed(lambda: keeper("list", folder, 0)) for _ in range(ROUNDS))
+        return statistics.median(timed(lambda: keeper("list", folder, 0)) for _ in range(ROUNDS)), memory(folder)
 
-    return in_new_folder(top, measure)
+    return *in_new_folder(top, measure), in_new_folder(top, memory)
 
 
 def main():
@@ -106,7 +119,8 @@ def main():
         print(f"{label:34} {LARGE / ours / 1e6:10.1f} {LARGE / plain / 1e6:10.1f} {plain / ours:6.2f} {syncs(1, LARGE, run):7}")
     ours, plain = seconds(top, SMALL_COUNT, CHUNK, 1)
     print(f"{'entries of 4 KiB, per second':34} {SMALL_COUNT / ours:10.0f} {SMALL_COUNT / plain:10.0f} {plain / ours:6.2f} {syncs(SMALL_COUNT, CHUNK, 1):7}")
-    print(f"a folder of {OPENED_COUNT} entries opened in {opening(top):.2f} s")
+    opened, most, least = opening(top)
+    print(f"a folder of {OPENED_COUNT} entries opened in {opened:.2f} s, with {most / 1e6:.1f} MB; an empty one with {least / 1e6:.1f} MB")
 
 
 if __name__ == "__main__":

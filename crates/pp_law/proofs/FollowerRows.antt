@@ -80,7 +80,7 @@ all_is_asked_again : first_fault no_words (first_part ++ CanRead 1 ∷ Heard 1 (
 unfolding pp_law_on_literals
 all_is_asked_again = refl
 
--- another version answers: what began under the old one is cut
+-- another version answers before its reply has begun: the request is decided again
 superseded : first_fault no_words (following ++ CanRead 2 ∷ Got 2 (codes "HTTP/1.1 200 OK\r\nETag: \"y\"\r\nCache-Control: max-age=60\r\nContent-Length: 3\r\n\r\nnew") ∷ Noted (Taken 1 1 (Hit 0 3)) ∷ wait (1 ∷ 2 ∷ []) (1 ∷ []) ∷ []) ≡ None
 unfolding pp_law_on_literals
 superseded = refl
