@@ -1,0 +1,326 @@
+// A store over a disk in memory, from its beginning to its crash.
+ghost use Rattle.std.specs.Prelude.{◌≡◌, IfOk, IfSome};
+ghost use Rattle.pp_memworld.specs.Slots.{AreListed};
+
+use pp_fresh::Times;
+use pp_memworld::{MemWorld, Script, put_file};
+use pp_recover::{RecoverFault, open};
+use pp_store::{KeepFault, KeptView, LoadFault, Store};
+use pp_target::file_name;
+use pp_text::{FieldSpan, Fields, Octets, OutOfMemory};
+use pp_valid::{Tag, Version};
+use pp_world::{Disk, DiskFault, Happening, Image, Name};
+use std::alloc::Global;
+use std::marker::Model;
+use std::test::Fail;
+
+pub(crate) const A: &[u8] = b"http://h/a";
+
+pub(crate) const B: &[u8] = b"http://h/b";
+
+/// The kept fields of a response, one behind the other, and where they stand.
+const TEXT: &[u8] = b"etag\"x\"dateSun, 06 Nov 1994 08:49:37 GMTcache-controlmax-age=60";
+
+const SPANS: [FieldSpan; 3] = [
+    FieldSpan {
+        name_from: 0,
+        name_to: 4,
+        value_from: 4,
+        value_to: 7,
+    },
+    FieldSpan {
+        name_from: 7,
+        name_to: 11,
+        value_from: 11,
+        value_to: 40,
+    },
+    FieldSpan {
+        name_from: 40,
+        name_to: 53,
+        value_from: 53,
+        value_to: 63,
+    },
+];
+
+const TIMES: Times = Times {
+    request: 784_111_777,
+    response: 784_111_777,
+    initial: 0,
+};
+
+/// The chunks of the longest body that is kept.
+const MOST_CHUNKS: u32 = 16_384;
+
+/// A disk in memory on which a life has begun, and nothing has happened since. Contracts see its log.
+#[derive(Drop)]
+pub(crate) struct Morning {
+    world: MemWorld,
+}
+
+impl Model for Morning {
+    ghost use Rattle.std.specs.Prelude.{Option};
+    ghost use Rattle.pp_world.specs.Log.{Log, Told};
+    ghost use Rattle.pp_memworld.specs.MemWorld.{told_log};
+    ghost use Rattle.pp_lives.specs.Lives.{HasWoken};
+
+    ghost Value = { Option Log };
+
+    ghost view = { λ morning. told_log morning.world };
+
+    ghost invariant = { λ morning. Told (told_log morning.world) HasWoken };
+}
+
+/// What came of opening the folder.
+#[derive(Drop)]
+pub(crate) enum Opened {
+    Life(Life),
+    /// It was not opened. The disk is as it was left.
+    Refused(RecoverFault, MemWorld),
+}
+
+impl Morning {
+    /// The first life, over a folder with these files. The calls of these numbers fail, counted from 1.
+    pub(crate) fn over(alloc: Global, image: Image, failing: &[u64]) -> Result<Morning, OutOfMemory>
+        requires listed { AreListed image }
+    {
+        let failing = Vec::from_slice(alloc, failing)?;
+        let world = MemWorld::new(alloc, no_script(alloc), image, failing)?;
+        Ok(Morning { world })
+    }
+
+    /// The files that the life woke to.
+    pub(crate) fn image(&self) -> Option<&Image> {
+        match self.world.log()?.last()? {
+            Happening::Woke(image) => Some(image),
+            _ => None,
+        }
+    }
+
+    /// The folder is rooted and opened.
+    pub(crate) fn open(self, alloc: Global) -> Opened {
+        let mut world = self.world;
+        world.root(b"cache");
+        match open(alloc, &mut world) {
+            Ok(store) => Opened::Life(Life { world, store }),
+            Err(fault) => Opened::Refused(fault, world),
+        }
+    }
+
+    /// The same, where it is not refused.
+    pub(crate) fn begin(self, alloc: Global) -> Result<Life, Fail> {
+        match self.open(alloc) {
+            Opened::Life(life) => Ok(life),
+            Opened::Refused(_, _) => Err("a folder that is opened".into()),
+        }
+    }
+}
+
+/// A disk in memory, and the store over it. What the store keeps stands on the disk.
+#[derive(Drop)]
+pub(crate) struct Life {
+    world: MemWorld,
+    store: Store,
+}
+
+impl Model for Life {
+    ghost use Rattle.pp_world.specs.Log.{Told};
+    ghost use Rattle.pp_memworld.specs.MemWorld.{told_log};
+    ghost use Rattle.pp_store.specs.Held.{Holds};
+    ghost use Rattle.pp_store.specs.Kept.{KeptMap};
+    ghost use Rattle.pp_lives.specs.Lives.{any_byte};
+
+    ghost Value = { KeptMap };
+
+    ghost view = { λ life. life.store };
+
+    ghost invariant = { λ life. Told (told_log life.world) (Holds any_byte life.store) };
+}
+
+impl Life {
+    /// The first life, over an empty folder. The calls of these numbers fail: the first one lists the
+    /// folder.
+    pub(crate) fn begin(alloc: Global, failing: &[u64]) -> Result<Life, Fail> {
+        Morning::over(alloc, Image::new(alloc), failing)?.begin(alloc)
+    }
+
+    /// What happened so far, in all lives.
+    pub(crate) fn log(&self) -> &[Happening] {
+        self.world.log().unwrap_or(&[])
+    }
+
+    pub(crate) fn store(&self) -> &Store {
+        &self.store
+    }
+
+    /// The next life, where this one crashes behind its first `at` happenings. `None` where there are not
+    /// so many.
+    pub(crate) fn next(
+        &self,
+        alloc: Global,
+        at: usize,
+        choice: u64,
+    ) -> Result<Option<Morning>, OutOfMemory> {
+        let next = self
+            .world
+            .crash(alloc, at, choice, no_script(alloc), Vec::new(alloc))?;
+        match next {
+            Some(world) => Ok(Some(Morning { world })),
+            None => Ok(None),
+        }
+    }
+
+    /// The same, where there are so many.
+    pub(crate) fn crash(&self, alloc: Global, at: usize, choice: u64) -> Result<Morning, Fail> {
+        Ok(self.next(alloc, at, choice)?.ok_or("so many happenings")?)
+    }
+
+    /// How many bytes of the body of a key are kept.
+    pub(crate) fn extent(&self, key: &[u8]) -> Option<u64> {
+        Some(self.store.kept(key)?.extent)
+    }
+
+    /// Keeps the entry of a key with a body of so many bytes. `None` where it may not be asked for.
+    pub(crate) fn keep(
+        &mut self,
+        alloc: Global,
+        key: &[u8],
+        length: u64,
+    ) -> Option<Result<(), KeepFault>> {
+        let version = version(length)?;
+        if length > 67_108_864 || self.store.under(&file_name(key)).is_some() {
+            return None;
+        }
+        let end = self
+            .store
+            .keep(alloc, &mut self.world, key, &version, &fields(), &TIMES);
+        Some(end)
+    }
+
+    /// Keeps more of the body of a key. `None` where it may not be asked for.
+    pub(crate) fn extend(&mut self, key: &[u8], bytes: &[u8]) -> Option<Result<u64, DiskFault>> {
+        let row = self.store.kept(key)?;
+        let extent = row.extent + bytes.len() as u64;
+        let is_whole = extent == row.version.length
+            || (extent < row.version.length && extent % 4096 == 0);
+        if bytes.is_empty() || bytes.len() > 262_144 || !is_whole {
+            return None;
+        }
+        Some(self.store.extend(&mut self.world, key, bytes))
+    }
+
+    /// Loads a chunk of the body of a key. `None` where it may not be asked for.
+    pub(crate) fn load(
+        &mut self,
+        key: &[u8],
+        index: u32,
+        out: &mut [u8; 4096],
+    ) -> Option<Result<usize, LoadFault>> {
+        let row = self.store.kept(key)?;
+        if 4096 * u64::from(index) >= row.extent {
+            return None;
+        }
+        Some(self.store.load(&mut self.world, key, index, out))
+    }
+
+    /// Keeps a key no more. `None` where it is not kept.
+    pub(crate) fn withdraw(&mut self, key: &[u8]) -> Option<Result<(), DiskFault>> {
+        self.store.kept(key)?;
+        Some(self.store.withdraw(&mut self.world, key))
+    }
+}
+
+fn no_script(alloc: Global) -> Script {
+    Script {
+        cues: Vec::new(alloc),
+        site: Vec::new(alloc),
+    }
+}
+
+fn fields() -> Fields<'static, 'static> {
+    Fields::new(TEXT, &SPANS)
+}
+
+/// The version `"x"` of a body of so many bytes.
+fn version(length: u64) -> Option<Version>
+    ensures { IfSome result (λ version. version.length ≡ length) }
+{
+    let tag = Tag::read(b"\"x\"")?;
+    Some(Version { tag, length })
+}
+
+/// Whether the response of a key is told of as it was given, with a body of so many bytes.
+pub(crate) fn is_as_given(row: &KeptView<'_>, key: &[u8], length: u64) -> bool {
+    row.key == key
+        && row.version.tag.as_slice() == b"\"x\"".as_slice()
+        && row.version.length == length
+        && row.times == TIMES
+        && are_fields(&row.fields)
+}
+
+fn are_fields(fields: &Fields<'_, '_>) -> bool {
+    fields.len() == 3
+        && fields.first(b"etag") == Some(b"\"x\"".as_slice())
+        && fields.first(b"date") == Some(b"Sun, 06 Nov 1994 08:49:37 GMT".as_slice())
+        && fields.first(b"cache-control") == Some(b"max-age=60".as_slice())
+}
+
+/// A folder with one file.
+pub(crate) fn folder_with(alloc: Global, name: Name, file: &[u8]) -> Result<Image, OutOfMemory>
+    ensures listed { IfOk result AreListed }
+{
+    let mut image = Image::new(alloc);
+    put_file(&mut image, name, Octets::copy(alloc, file)?)?;
+    Ok(image)
+}
+
+/// A folder with these files under the names of the keys `A` and `B`.
+pub(crate) fn folder_of(alloc: Global, one: &[u8], two: &[u8]) -> Result<Image, OutOfMemory>
+    ensures listed { IfOk result AreListed }
+{
+    let mut image = folder_with(alloc, file_name(A), one)?;
+    put_file(&mut image, file_name(B), Octets::copy(alloc, two)?)?;
+    Ok(image)
+}
+
+/// A body of two chunks, whose bytes differ from those a chunk before.
+pub(crate) fn two_chunks() -> [u8; 8192] {
+    let mut body = [0; 8192];
+    for (offset, byte) in body.iter_mut().enumerate() {
+        *byte = offset
+            .wrapping_mul(7)
+            .wrapping_add(offset / 4096)
+            .to_le_bytes()[0];
+    }
+    body
+}
+
+/// Keeps the rest of a key's body, one chunk after another. `None` where anything fails.
+pub(crate) fn keep_rest(life: &mut Life, alloc: Global, key: &[u8], body: &[u8]) -> Option<()> {
+    if life.extent(key).is_none() {
+        life.keep(alloc, key, body.len() as u64)?.ok()?;
+    }
+    let kept = life.extent(key)? as usize;
+    for chunk in body.get(kept..)?.chunks(4096) {
+        life.extend(key, chunk)?.ok()?;
+    }
+    Some(())
+}
+
+/// Whether each chunk of a key's body is loaded as it was written.
+pub(crate) fn loads(life: &mut Life, key: &[u8], body: &[u8]) -> bool {
+    let mut out = [0; 4096];
+    for (index, chunk) in (0..MOST_CHUNKS).zip(body.chunks(4096)) {
+        match life.load(key, index, &mut out) {
+            Some(Ok(count)) if out.get(..count) == Some(chunk) => {}
+            _ => return false,
+        }
+    }
+    true
+}
+
+/// A life in which this body of the key `A` was kept, one chunk after another.
+pub(crate) fn life_with(alloc: Global, body: &[u8]) -> Result<Life, Fail> {
+    let mut life = Life::begin(alloc, &[])?;
+    keep_rest(&mut life, alloc, A, body).ok_or("kept")?;
+    Ok(life)
+}

@@ -1,0 +1,410 @@
+// The state after one happening.
+use crate::asking::{ask, hang_up, hear};
+use crate::chunks::{drop_chunk, note_use};
+use crate::closing::close_client;
+use crate::connections::{
+    Pause, client_copy, conn_copy, is_client, is_conn, lose_attempt, placing, put_on,
+};
+use crate::deciding::decided;
+use crate::disk_log::DiskOp;
+use crate::lists::{copied, push};
+use crate::opening::{configured, is_opening, lose_in_opening, opened_to, woken};
+use crate::replies::{end_replies, regained, said_by, use_next};
+use crate::requests::Front;
+use crate::responses::{ended, got};
+use crate::state::{Client, Conn, Instance, Owed, Phase, Stage, State};
+use crate::store::{begin_op, close_name, end_op, load, name_for, note_gone, note_kept};
+use crate::table::{forget, is_bound_to, row};
+use crate::turn::{
+    at_step, due_victim, ending, is_awaiting, rest_with, step, tick, to_3, to_6, to_decide, touch,
+};
+use pp_plan::Begun;
+use pp_text::{Octets, OutOfMemory};
+use pp_world::{Decision, Happening, Name, Remark, Wants};
+use std::alloc::Global;
+
+fn new_client(alloc: Global, n: u64, now: u64) -> Client {
+    Client {
+        number: n,
+        is_new: true,
+        has_hung_up: false,
+        front: Front::NoHeadYet,
+        heard: Vec::new(alloc),
+        body_left: 0,
+        skip: 0,
+        index: 0,
+        stage: Stage::Undecided,
+        waits_on: None,
+        passed: None,
+        begun: Begun::Nothing,
+        settled: None,
+        is_told: false,
+        has_plain_age: false,
+        lost: 0,
+        has_failed: false,
+        is_too_long: false,
+        interim_left: Vec::new(alloc),
+        closes: false,
+        is_closing: false,
+        is_cut: false,
+        mark: now,
+    }
+}
+
+fn new_conn(alloc: Global, n: u64, host: &[u8], port: u16, now: u64) -> Result<Conn, OutOfMemory> {
+    Ok(Conn {
+        number: n,
+        host: copied(alloc, host)?,
+        port,
+        is_reached: false,
+        line: Vec::new(alloc),
+        unread: Vec::new(alloc),
+        is_early: false,
+        answer: None,
+        has_brought: false,
+        may_pipeline: false,
+        is_closing: false,
+        mark: now,
+        has_waited: false,
+    })
+}
+
+// ---- events
+
+fn event(s: &mut State) {
+    at_step(s, 1);
+}
+
+fn opened(s: &mut State, n: u64) -> Result<(), OutOfMemory> {
+    let client = new_client(s.alloc, n, s.clock);
+    push(&mut s.clients, client)?;
+    s.top = n;
+    Ok(())
+}
+
+fn owing(s: &mut State, owed: Owed, n: u64) {
+    touch(s, n);
+    s.owed = owed;
+}
+
+fn reached(s: &mut State, n: u64) {
+    for k in s.conns.iter_mut() {
+        if is_conn(n, k) {
+            k.is_reached = true;
+        }
+    }
+    touch(s, n);
+}
+
+// ---- reads and writes
+
+fn paid(s: &mut State) {
+    s.owed = Owed::Free;
+}
+
+fn said(s: &mut State, c: u64, n: usize) -> Result<(), OutOfMemory> {
+    let Some(x) = client_copy(s, c)? else {
+        return Ok(());
+    };
+    use_next(s, &x)?;
+    for x in s.clients.iter_mut() {
+        if is_client(c, x) {
+            said_by(x, n)?;
+        }
+    }
+    end_replies(s)
+}
+
+fn gone(s: &mut State, is_clean: bool, n: u64) -> Result<(), OutOfMemory> {
+    let Some(k) = conn_copy(s, n)? else {
+        return Ok(());
+    };
+    ended(s, is_clean, &k)?;
+    end_replies(s)
+}
+
+// ---- notes
+
+fn in_step_7(s: &mut State) {
+    s.is_again = step(s) == 7;
+}
+
+fn take_decision(s: &mut State, n: u64, d: Decision) -> Result<(), OutOfMemory> {
+    let Some(c) = client_copy(s, n)? else {
+        return Ok(());
+    };
+    decided(s, &c, d)?;
+    in_step_7(s);
+    s.forgotten = Vec::new(s.alloc);
+    s.has_made_room = false;
+    Ok(())
+}
+
+/// The chunk that has to go next goes.
+fn evicted(s: &mut State) -> Result<(), OutOfMemory> {
+    if let Some((id, index)) = due_victim(s)? {
+        at_step(s, 2);
+        drop_chunk(s, id, index);
+    }
+    Ok(())
+}
+
+/// Those whose exchanges are bound to it are refused.
+fn refuse_clients_of(s: &mut State, id: u64) -> Result<(), OutOfMemory> {
+    for e in s.exchanges.iter() {
+        if is_bound_to(id, e) {
+            push(&mut s.refused, e.client)?;
+        }
+    }
+    Ok(())
+}
+
+/// A row for which memory was refused.
+fn refused_row(s: &mut State, x: &Instance) -> Result<(), OutOfMemory> {
+    refuse_clients_of(s, x.id)?;
+    forget(s, x.id);
+    Ok(())
+}
+
+fn forgotten_row(s: &mut State, x: &Instance) -> Result<(), OutOfMemory> {
+    if x.is_new {
+        return refused_row(s, x);
+    }
+    to_decide(s)?;
+    forget(s, x.id);
+    s.has_made_room = true;
+    Ok(())
+}
+
+/// A copy of the key's row.
+fn row_copy(s: &State, key: &[u8]) -> Result<Option<Instance>, OutOfMemory> {
+    match row(s, key) {
+        None => Ok(None),
+        Some(x) => Ok(Some(x.clone()?)),
+    }
+}
+
+/// One that left memory, is to leave it before a decision, or was refused memory.
+fn forgotten_by(s: &mut State, key: &[u8]) -> Result<(), OutOfMemory> {
+    if !s.forgotten.is_empty() {
+        let _ = s.forgotten.remove(0);
+        return Ok(());
+    }
+    match row_copy(s, key)? {
+        None => Ok(()),
+        Some(x) => forgotten_row(s, &x),
+    }
+}
+
+fn noted(s: &mut State, remark: &Remark) -> Result<(), OutOfMemory> {
+    match remark {
+        Remark::Taken(c, _, d) => {
+            to_decide(s)?;
+            take_decision(s, *c, *d)
+        }
+        Remark::Cut(c, _) => {
+            to_decide(s)?;
+            close_client(s, *c, true)?;
+            in_step_7(s);
+            Ok(())
+        }
+        Remark::Kept(key, _, _, extent) => {
+            to_3(s)?;
+            note_kept(s, key.as_slice(), *extent)
+        }
+        Remark::Gone(key) => {
+            to_3(s)?;
+            note_gone(s, key.as_slice())
+        }
+        Remark::Forgotten(key) => forgotten_by(s, key.as_slice()),
+        Remark::Evicted(_, _, _, _) => evicted(s),
+        Remark::Loaded(key, _, _, i) => load(s, key.as_slice(), *i),
+    }
+}
+
+// ---- the disk
+
+fn begun_op(s: &mut State, op: &DiskOp) -> Result<(), OutOfMemory> {
+    if is_opening(s) {
+        begin_op(s, false, op)
+    } else {
+        to_3(s)?;
+        begin_op(s, true, op)
+    }
+}
+
+fn ended_op(s: &mut State, op: &DiskOp, is_done: bool) -> Result<(), OutOfMemory> {
+    let name = name_for(op, s.agenda.as_slice());
+    end_op(s, op, is_done)?;
+    if let Some(name) = name {
+        if !is_done {
+            lose_in_opening(s, &name);
+        }
+    }
+    Ok(())
+}
+
+/// Ours: its name is closed; a load that failed stands for the write.
+fn unread(s: &mut State, name: &Name) -> Result<(), OutOfMemory> {
+    close_name(s, Some(*name))?;
+    lose_in_opening(s, name);
+    paid(s);
+    Ok(())
+}
+
+// ---- closings and places
+
+fn shut(s: &mut State, n: u64) -> Result<(), OutOfMemory> {
+    close_client(s, n, false)?;
+    s.clients.retain(|c| !is_client(n, c));
+    Ok(())
+}
+
+fn dialled(s: &mut State, n: u64, host: &[u8], port: u16) -> Result<(), OutOfMemory> {
+    match placing(s)? {
+        Pause::AllPlaced | Pause::WaitsDrop(_, _) => Ok(()),
+        Pause::WaitsDial(e) => {
+            let conn = new_conn(s.alloc, n, host, port, s.clock)?;
+            push(&mut s.conns, conn)?;
+            s.top = n;
+            put_on(s, e.number, n)
+        }
+    }
+}
+
+fn undialled(s: &mut State) -> Result<(), OutOfMemory> {
+    match placing(s)? {
+        Pause::AllPlaced | Pause::WaitsDrop(_, _) => Ok(()),
+        Pause::WaitsDial(e) => {
+            s.failures = s.failures.saturating_add(1);
+            lose_attempt(s, &e);
+            Ok(())
+        }
+    }
+}
+
+fn out(s: &mut State, n: u64) {
+    s.conns.retain(|k| !is_conn(n, k));
+}
+
+/// One that is not closing gives way to a new one, behind the exchanges that have their places.
+fn dropped(s: &mut State, n: u64) -> Result<(), OutOfMemory> {
+    let Some(k) = conn_copy(s, n)? else {
+        return Ok(());
+    };
+    if !k.is_closing {
+        let _ = placing(s)?;
+    }
+    out(s, n);
+    Ok(())
+}
+
+// ---- all
+
+fn rested(s: &mut State, w: &Wants) -> Result<(), OutOfMemory> {
+    if step(s) != 0 {
+        ending(s)?;
+    }
+    rest_with(s, w)
+}
+
+fn changed(s: &mut State, h: &Happening) -> Result<(), OutOfMemory> {
+    match h {
+        Happening::Woke(image) => woken(s, image)?,
+        Happening::Waits(w) => rested(s, w)?,
+        Happening::Clock(seconds) => {
+            tick(s, *seconds)?;
+            event(s);
+        }
+        Happening::Opened(n) => {
+            opened(s, *n)?;
+            event(s);
+        }
+        Happening::CanRead(n) => {
+            owing(s, Owed::ReadOf(*n), *n);
+            event(s);
+        }
+        Happening::CanWrite(n) => {
+            owing(s, Owed::WriteTo(*n), *n);
+            event(s);
+        }
+        Happening::Heard(c, bytes) => {
+            hear(s, *c, bytes.as_slice())?;
+            paid(s);
+        }
+        Happening::HungUp(c) => {
+            hang_up(s, *c)?;
+            paid(s);
+        }
+        Happening::Said(c, _, bytes) => {
+            said(s, *c, bytes.as_slice().len())?;
+            paid(s);
+        }
+        Happening::Shut(c) => {
+            to_6(s)?;
+            shut(s, *c)?;
+        }
+        Happening::Dialled(n, host, port) => {
+            to_6(s)?;
+            dialled(s, *n, host.as_slice(), *port)?;
+        }
+        Happening::Undialled(_, _) => {
+            to_6(s)?;
+            undialled(s)?;
+        }
+        Happening::Reached(k) => {
+            reached(s, *k);
+            event(s);
+        }
+        Happening::Ended(k) => {
+            gone(s, true, *k)?;
+            paid(s);
+        }
+        Happening::Broke(k) => {
+            event(s);
+            gone(s, false, *k)?;
+            paid(s);
+        }
+        Happening::Asked(k, bytes) => {
+            ask(s, *k, bytes.as_slice().len())?;
+            paid(s);
+        }
+        Happening::Got(k, bytes) => {
+            got(s, bytes.as_slice().len(), *k, bytes.as_slice())?;
+            end_replies(s)?;
+            note_use(s);
+            paid(s);
+        }
+        Happening::Dropped(k) => {
+            to_6(s)?;
+            dropped(s, *k)?;
+        }
+        Happening::NoneYet(_) => paid(s),
+        Happening::Began(op) => begun_op(s, &DiskOp::of(s.alloc, op)?)?,
+        Happening::Did(op, is_done) => ended_op(s, &DiskOp::of(s.alloc, op)?, *is_done)?,
+        Happening::Unread(name) => unread(s, name)?,
+        Happening::Noted(remark) => noted(s, remark)?,
+        Happening::Rooted(_) => opened_to(s, Phase::IsRooted, true),
+        Happening::Listed(is_done) => opened_to(s, Phase::IsListed, *is_done),
+        Happening::Listens(_, is_done) => opened_to(s, Phase::IsListening, *is_done),
+        Happening::Configured(_, text) => configured(s, text_in(text))?,
+        Happening::Printed(_) => {}
+        Happening::Stopped => {
+            s.is_stopped = true;
+            event(s);
+        }
+    }
+    Ok(())
+}
+
+fn text_in(text: &Option<Octets>) -> Option<&[u8]> {
+    match text {
+        None => None,
+        Some(text) => Some(text.as_slice()),
+    }
+}
+
+pub(crate) fn after(s: &mut State, h: &Happening) -> Result<(), OutOfMemory> {
+    changed(s, h)?;
+    regained(s)
+}

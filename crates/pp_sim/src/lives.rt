@@ -1,0 +1,80 @@
+// How a life is started, what happens outside, and where it ends.
+use crate::dice::Dice;
+use crate::scripts::script;
+use pp_memworld::Script;
+use pp_oracle::Term;
+use pp_text::{Octets, OutOfMemory};
+use std::alloc::{AllocError, Global};
+
+/// A life that is to come.
+#[derive(Drop)]
+pub(crate) struct Life {
+    /// The words behind the program's name.
+    pub(crate) words: Vec<String>,
+    pub(crate) script: Script,
+    /// The numbers of the calls that fail, from 1.
+    pub(crate) failing: Vec<u64>,
+}
+
+/// Words that a life is started with.
+const WORDS: &[&[&str]] = &[
+    &[],
+    &[],
+    &[],
+    &["shareFetches=0"],
+    &["proxyPort=8000", "proxyName=p"],
+    &["chunkHighMark=512", "chunkLowMark=512"],
+];
+
+/// A call that fails is one of the first so many.
+const FIRST_CALLS: u64 = 150;
+
+impl Life {
+    /// The life of this number, from 0.
+    pub(crate) fn new(alloc: Global, dice: &mut Dice, number: u64) -> Result<Life, OutOfMemory> {
+        let steps = 10_u64.saturating_add(dice.below(60));
+        Ok(Life {
+            words: words(alloc, dice)?,
+            script: script(alloc, dice, number, steps)?,
+            failing: failing(alloc, dice)?,
+        })
+    }
+
+    /// What the law knows of it: its words, and how many calls of it fail at most.
+    pub(crate) fn term(&self, alloc: Global) -> Result<Term, OutOfMemory> {
+        let mut words = Vec::new(alloc);
+        for word in self.words.as_slice() {
+            words
+                .push(Octets::copy(alloc, word.as_bytes())?)
+                .map_err(AllocError::from)?;
+        }
+        Ok(Term {
+            words,
+            faults: self.failing.len() as u64,
+        })
+    }
+}
+
+fn words(alloc: Global, dice: &mut Dice) -> Result<Vec<String>, OutOfMemory> {
+    let mut words = Vec::new(alloc);
+    if let Some(chosen) = dice.one_of(WORDS) {
+        for word in chosen.iter() {
+            words
+                .push(String::from_str(alloc, word)?)
+                .map_err(AllocError::from)?;
+        }
+    }
+    Ok(words)
+}
+
+/// None mostly, and else up to three.
+fn failing(alloc: Global, dice: &mut Dice) -> Result<Vec<u64>, OutOfMemory> {
+    let mut failing = Vec::new(alloc);
+    if dice.is_once_in(3) {
+        for _ in 0..dice.below(4) {
+            let number = 1_u64.saturating_add(dice.below(FIRST_CALLS));
+            failing.push(number).map_err(AllocError::from)?;
+        }
+    }
+    Ok(failing)
+}
