@@ -24,25 +24,47 @@ either (Some this) other = this
 abbrev pub is_not_modified : Request → Row → Bool
 is_not_modified request row = either (matches_none request.fields row.version.tag) (not_modified_since request.fields row.fields)
 
--- of a row that answers: the part that is asked for, and else all; whether the bytes are held or have to be asked for
+-- the bytes of the span that the reply would show are held, or have to be asked for
 abbrev pub by_range : Bool → ℕ → Resolved → Decision
-by_range held length OfNone = Unsatisfiable
-by_range held length (OfPart from to) = if held then Hit from to else Part from to
-by_range held length OfAll = if held then Hit 0 length else Part 0 length
+by_range held length OfNone = Unsatisfiable  -- 11
+by_range true length (OfPart from to) = Hit from to  -- 12
+by_range false length (OfPart from to) = Part from to  -- 13
+by_range true length OfAll = Hit 0 length  -- 14
+by_range false length OfAll = Part 0 length  -- 15
 
 -- the row is ready
 abbrev pub of_known : Request → Row → Decision
 of_known request row =
-    if is_not_modified request row then NotModified
-    else (if is_head request.method then Head
+    if is_not_modified request row then NotModified  -- 9
+    else (if is_head request.method then Head  -- 10
     else by_range row.held row.version.length (resolved request.fields row.version))
 
--- there is no row; ours: what HEAD would show is not kept, and what may be less than a whole is not shared
-abbrev pub of_unknown : Request → Decision
-of_unknown request =
-    if is_head request.method then Pass
-    else (if is_conditional request.fields then Pass
-    else Fetch)
+-- ours: without a row, what may be less than a whole is not shared
+abbrev pub by_row : Request → Option Row → Bool → Decision
+by_row request None ready =
+    if is_conditional request.fields then Pass  -- 6
+    else Fetch  -- 7
+by_row request (Some row) ready =
+    if not ready then Validate  -- 8
+    else of_known request row
+
+-- ours: what HEAD would show is not kept
+abbrev pub by_ready : Request → Option Row → Bool → Decision
+by_ready request row ready =
+    if is_head request.method && not ready then Pass  -- 5
+    else by_row request row ready
+
+abbrev pub by_begun : Request → Option Row → Begun → Bool → Decision
+by_begun request row Other ready = Relay  -- 3
+by_begun request row Widened ready = Pass  -- 4
+by_begun request row Nothing ready = by_ready request row ready
+by_begun request row Settled ready = by_ready request row ready
+
+abbrev pub line : Request → Option Row → Begun → Bool → Decision
+line request row begun ready =
+    if not (is_get request.method || is_head request.method) then Pass  -- 1
+    else (if never_uses request.fields then Pass  -- 2
+    else by_begun request row begun ready)
 
 abbrev pub is_settled : Begun → Bool
 is_settled Nothing = false
@@ -50,24 +72,10 @@ is_settled Settled = true
 is_settled Other = false
 is_settled Widened = false
 
-abbrev pub by_row : Request → Option Row → Begun → ℕ → Decision
-by_row request None begun now = of_unknown request
-by_row request (Some row) begun now =
-    if is_settled begun || is_ready request.fields row.fields row.times now then of_known request row
-    else (if is_head request.method then Pass
-    else Validate)
-
-abbrev pub by_begun : Request → Option Row → Begun → ℕ → Decision
-by_begun request row Other now = Relay
-by_begun request row Widened now = Pass
-by_begun request row Nothing now = by_row request row Nothing now
-by_begun request row Settled now = by_row request row Settled now
-
-abbrev pub first_line : Request → Option Row → Begun → ℕ → Decision
-first_line request row begun now =
-    if not (is_get request.method || is_head request.method) then Pass
-    else (if never_uses request.fields then Pass
-    else by_begun request row begun now)
+-- the row may answer without a word from the origin
+abbrev pub is_ready_row : Request → Option Row → Begun → ℕ → Bool
+is_ready_row request None begun now = false
+is_ready_row request (Some row) begun now = is_settled begun || is_ready request.fields row.fields row.times now
 
 abbrev pub asks_origin : Decision → Bool
 asks_origin (Refuse status) = false
@@ -89,5 +97,5 @@ is_only_cached request =
 -- respond with a 504 (Gateway Timeout) status" (RFC 2616, section 14.9.4)
 abbrev pub decision : Request → Option Row → Begun → ℕ → Decision
 decision request row begun now =
-    let line = first_line request row begun now in
-    if is_only_cached request && asks_origin line then Refuse 504 else line
+    let first = line request row begun (is_ready_row request row begun now) in
+    if is_only_cached request && asks_origin first then Refuse 504 else first

@@ -1,7 +1,7 @@
 // The table of decisions.
 ghost use Rattle.std.specs.Prelude.{◌≡◌, option_map};
 ghost use Rattle.pp_head.specs.Shown.{shown_request};
-ghost use Rattle.pp_plan.specs.Decision.{asks_origin, by_range, by_row, decision, first_line, is_not_modified, is_only_cached, is_settled, of_known, of_unknown};
+ghost use Rattle.pp_plan.specs.Decision.{asks_origin, by_range, decision, is_not_modified, is_only_cached, is_ready_row, is_settled, line};
 ghost use Rattle.pp_plan.specs.Row.{shown_row};
 
 use crate::requests::{is_conditional, is_get, is_head, never_uses};
@@ -30,23 +30,23 @@ pub enum Begun {
 ///
 /// The first line that applies counts:
 ///
-/// | the request | what is known | decision |
-/// |---|---|---|
-/// | its method is neither GET nor HEAD | | `Pass` |
-/// | has a body, Authorization, `no-store`, If-Match or If-Unmodified-Since | | `Pass` |
-/// | | its exchange brought `Other` | `Relay` |
-/// | | its exchange brought `Widened` | `Pass` |
-/// | is HEAD | no row, or one that is not ready | `Pass` |
-/// | has a suffix range, If-None-Match or If-Modified-Since | no row | `Pass` |
-/// | | no row | `Fetch` |
-/// | | the row is not ready | `Validate` |
-/// | its client has the version already | | `NotModified` |
-/// | is HEAD | | `Head` |
-/// | has a range that counts and asks for no byte of the body | | `Unsatisfiable` |
-/// | has a range that counts | its part is held | `Hit` of the part |
-/// | has a range that counts | | `Part` of the part |
-/// | | the whole body is held | `Hit` of the whole |
-/// | | | `Part` of the whole |
+/// | no. | the request | what is known | decision |
+/// |---|---|---|---|
+/// | 1 | its method is neither GET nor HEAD | | `Pass` |
+/// | 2 | has a body, Authorization, `no-store`, If-Match or If-Unmodified-Since | | `Pass` |
+/// | 3 | | its exchange brought `Other` | `Relay` |
+/// | 4 | | its exchange brought `Widened` | `Pass` |
+/// | 5 | is HEAD | no row, or one that is not ready | `Pass` |
+/// | 6 | has a suffix range, If-None-Match or If-Modified-Since | no row | `Pass` |
+/// | 7 | | no row | `Fetch` |
+/// | 8 | | the row is not ready | `Validate` |
+/// | 9 | its client has the version already | | `NotModified` |
+/// | 10 | is HEAD | | `Head` |
+/// | 11 | has a range that counts and asks for no byte of the body | | `Unsatisfiable` |
+/// | 12 | has a range that counts | its part is held | `Hit` of the part |
+/// | 13 | has a range that counts | | `Part` of the part |
+/// | 14 | | the whole body is held | `Hit` of the whole |
+/// | 15 | | | `Part` of the whole |
 ///
 /// A row is ready where the exchange of this request made or refreshed it, or `pp_fresh` says so. A
 /// GET or HEAD with `only-if-cached` that would ask the origin is refused, by 504 (RFC 2616, section
@@ -59,93 +59,65 @@ pub fn decide(
 ) -> Decision
     ensures { result ≡ decision (shown_request request.now) (option_map (λ r. shown_row r.now) row.entry) begun now }
 {
-    let line = first_line(request, row, begun, now);
-    if is_only_cached(request) && asks_origin(line) {
+    let first = line(request, row, begun, is_ready_row(request, row, begun, now));
+    if is_only_cached(request) && asks_origin(first) {
         return Decision::Refuse(504);
     }
-    line
+    first
 }
 
-fn first_line(
+/// The first line of the table that applies, by the numbers of the table above.
+fn line(
     request: &RequestHead<'_, '_>,
     row: Option<&PlanRow<'_, '_>>,
     begun: Begun,
-    now: u64,
+    is_ready: bool,
 ) -> Decision
-    ensures { result ≡ first_line (shown_request request.now) (option_map (λ r. shown_row r.now) row.entry) begun now }
+    ensures { result ≡ line (shown_request request.now) (option_map (λ r. shown_row r.now) row.entry) begun is_ready }
 {
-    if !(is_get(request.method) || is_head(request.method)) {
-        return Decision::Pass;
-    }
-    if never_uses(&request.fields) {
-        return Decision::Pass;
-    }
-    match begun {
-        Begun::Other => Decision::Relay,
-        Begun::Widened => Decision::Pass,
-        Begun::Nothing | Begun::Settled => by_row(request, row, begun, now),
-    }
-}
-
-fn by_row(
-    request: &RequestHead<'_, '_>,
-    row: Option<&PlanRow<'_, '_>>,
-    begun: Begun,
-    now: u64,
-) -> Decision
-    ensures { result ≡ by_row (shown_request request.now) (option_map (λ r. shown_row r.now) row.entry) begun now }
-{
-    match row {
-        None => of_unknown(request),
-        Some(row) => {
-            if is_settled(begun) || ready(&request.fields, &row.fields, &row.times, now) {
-                return of_known(request, row);
-            }
-            if is_head(request.method) {
-                Decision::Pass
-            } else {
-                Decision::Validate
-            }
+    let is_head = is_head(request.method);
+    match (begun, row) {
+        _ if !(is_get(request.method) || is_head) => Decision::Pass, // 1
+        _ if never_uses(&request.fields) => Decision::Pass, // 2
+        (Begun::Other, _) => Decision::Relay, // 3
+        (Begun::Widened, _) => Decision::Pass, // 4
+        _ if is_head && !is_ready => Decision::Pass, // 5
+        (_, None) if is_conditional(&request.fields) => Decision::Pass, // 6
+        (_, None) => Decision::Fetch, // 7
+        (_, Some(_)) if !is_ready => Decision::Validate, // 8
+        (_, Some(row)) if is_not_modified(request, row) => Decision::NotModified, // 9
+        (_, Some(_)) if is_head => Decision::Head, // 10
+        (_, Some(row)) => {
+            let range = resolved(&request.fields, row.version);
+            by_range(row.held, row.version.length, range)
         }
     }
-}
-
-/// The decision where there is no row.
-fn of_unknown(request: &RequestHead<'_, '_>) -> Decision
-    ensures { result ≡ of_unknown (shown_request request.now) }
-{
-    if is_head(request.method) {
-        return Decision::Pass;
-    }
-    if is_conditional(&request.fields) {
-        return Decision::Pass;
-    }
-    Decision::Fetch
-}
-
-/// The decision where the row is ready.
-fn of_known(request: &RequestHead<'_, '_>, row: &PlanRow<'_, '_>) -> Decision
-    ensures { result ≡ of_known (shown_request request.now) (shown_row row.now) }
-{
-    if is_not_modified(request, row) {
-        return Decision::NotModified;
-    }
-    if is_head(request.method) {
-        return Decision::Head;
-    }
-    let range = resolved(&request.fields, row.version);
-    by_range(row.held, row.version.length, range)
 }
 
 fn by_range(held: bool, length: u64, range: Resolved) -> Decision
     ensures { result ≡ by_range held length range }
 {
-    match range {
-        Resolved::Unsatisfiable => Decision::Unsatisfiable,
-        Resolved::Part(from, to) if held => Decision::Hit(from, to),
-        Resolved::Part(from, to) => Decision::Part(from, to),
-        Resolved::Whole if held => Decision::Hit(0, length),
-        Resolved::Whole => Decision::Part(0, length),
+    match (held, range) {
+        (_, Resolved::Unsatisfiable) => Decision::Unsatisfiable, // 11
+        (true, Resolved::Part(from, to)) => Decision::Hit(from, to), // 12
+        (false, Resolved::Part(from, to)) => Decision::Part(from, to), // 13
+        (true, Resolved::Whole) => Decision::Hit(0, length), // 14
+        (false, Resolved::Whole) => Decision::Part(0, length), // 15
+    }
+}
+
+/// Whether the row may answer without a word from the origin.
+fn is_ready_row(
+    request: &RequestHead<'_, '_>,
+    row: Option<&PlanRow<'_, '_>>,
+    begun: Begun,
+    now: u64,
+) -> bool
+    ensures { result ≡ is_ready_row (shown_request request.now) (option_map (λ r. shown_row r.now) row.entry) begun now }
+{
+    match row {
+        None => false,
+        Some(row) => is_settled(begun) || ready(&request.fields, &row.fields, &row.times, now),
     }
 }
 
