@@ -1,3 +1,4 @@
+pub mod CoverLemmas
 pub mod EachLemmas
 pub mod EntryLemmas
 pub mod FinalLemmas

@@ -1,9 +1,9 @@
 -- Which entries the files of a folder are.
-use Rattle.std.specs.Prelude.{◌≡◌, ℕ, ◌+◌, nat_le, List, [], length, take, bytes_eq, if◌then◌else◌, Option, Some, None, option_map}
+use Rattle.std.specs.Prelude.{◌≡◌, ◌≤◌, ℕ, ◌+◌, nat_le, List, [], length, take, map, filter, bytes_eq, if◌then◌else◌, Option, Some, None, option_map}
 use Rattle.std.specs.List.{filter_map}
 use Rattle.std.specs.Option.{option_and_then}
 use Rattle.pp_world.specs.Files.{Files, file_of}
-use Rattle.pp_world.specs.Disk.{Bytes, names_in}
+use Rattle.pp_world.specs.Disk.{Bytes, is_name, names_in}
 use Rattle.pp_entry.specs.Entries.{Row, row_at}
 use Rattle.pp_entry.specs.Texts.{body_at}
 use Rattle.pp_gate.specs.Files.{extent_in}
@@ -43,6 +43,10 @@ entry_of name (Some file) = entry_in name file
 -- the entries of a folder, in the order of their names
 abbrev pub entries_in : Files → List Kept
 entries_in files = filter_map (λ name. entry_of name (file_of name files)) (names_in files)
+
+-- no more names have the form of an entry's than are looked at
+abbrev pub HasFewNames : Files → Type 0
+HasFewNames files = length (filter is_name (map (λ file. file.0) files)) ≤ 65536
 
 -- what reads give of a name
 abbrev pub bytes_of : Option Bytes → Bytes

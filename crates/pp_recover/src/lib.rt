@@ -9,7 +9,8 @@
 //! anew. A name on which something failed is closed, and has no entry (`Opens` of `specs/Opening.antt`).
 //! At every moment each image that a crash may leave has the same entries under the same names
 //! (`SameEntries`), and in the end no gate is open behind what an entry keeps (`Holds` of `pp_store`).
-//! Nothing is written but zeros over such gates.
+//! Where all names were looked at, an entry that a crash then leaves stands under a kept or a closed name
+//! (`Covers` of `pp_store`). Nothing is written but zeros over such gates.
 //!
 //! Takes memory for the names and for the store. What becomes of the entries then is for `pp_store`.
 #![tactic(auto)]

@@ -5,8 +5,9 @@ ghost use Rattle.pp_world.specs.Files.{Files};
 ghost use Rattle.pp_world.specs.Log.{Told};
 ghost use Rattle.pp_gate.specs.Runs.{EachMoment};
 ghost use Rattle.pp_store.specs.Changes.{no_entries};
-ghost use Rattle.pp_store.specs.Held.{Holds, Sent};
+ghost use Rattle.pp_store.specs.Held.{Covers, Holds, Sent};
 ghost use Rattle.pp_recover.specs.Faults.{OpenCause};
+ghost use Rattle.pp_recover.specs.Image.{HasFewNames};
 ghost use Rattle.pp_recover.specs.Looks.{Extends};
 ghost use Rattle.pp_recover.specs.Opening.{AllSent, IsFree, IsFresh, Opens, SameEntries, TendsNames, TendsOne};
 
@@ -45,6 +46,7 @@ pub fn open<D: Disk>(alloc: Global, disk: &mut D) -> Result<Store, RecoverFault>
     ensures opens { Extends (D.log disk.old) (D.log disk.new) (λ before hs. (files : Files) → IsFresh files before → Opens result files before hs) }
     ensures moments { EachMoment (D.log disk.old) (D.log disk.new) SameEntries }
     ensures holds { IfOk result (λ store. Extends (D.log disk.old) (D.log disk.new) (λ before hs. (files : Files) → IsFresh files before → (sent : Sent) → AllSent sent files → Holds sent store (before ++ hs))) }
+    ensures covers { IfOk result (λ store. Extends (D.log disk.old) (D.log disk.new) (λ before hs. (files : Files) → IsFresh files before → HasFewNames files → Covers store (before ++ hs))) }
     ensures faults { D.faults disk.old ≤ D.faults disk.new }
     ensures cause { OpenCause (D.log disk.new) (D.faults disk.old) (D.faults disk.new) result }
     ensures top { D.top disk.new ≡ D.top disk.old }

@@ -1,5 +1,6 @@
 use Rattle.std.proofs.Common.{refl}
 use Rattle.std.specs.Prelude.{Err}
+use Rattle.pp_recover.proofs.CoverLemmas.{covers_ok}
 use Rattle.pp_recover.proofs.OpenLemmas.{fresh_mid, went, opens_ok, opens_front, holds_ok, went_moments, none_moments, list_moments}
 use Rattle.pp_recover.proofs.opening.open.Goals as goal
 
@@ -36,3 +37,6 @@ pub returns-clause-holds : goal.returns-clause-holds
 returns-clause-holds g c =
     holds_ok _ _ c.in_ok-names.names.items c.tend_all.new.store c.in_ok-names.ensures.form.order
     (went _ _ _ c.in_ok-names.names.items _ c.tend_all.new.store c.in_ok-names.ensures.told c.in_ok-names.ensures.names (rw c.deref.ensures.value at c.in_ok-tend_all.ensures.tends))
+
+pub returns-clause-covers : goal.returns-clause-covers
+returns-clause-covers g c = covers_ok _ _ c.tend_all.new.store (returns-clause-opens g c) (returns-clause-moments g c)
