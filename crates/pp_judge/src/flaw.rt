@@ -23,6 +23,8 @@ pub(crate) enum Flaw {
     /// A file's name has 32 bytes.
     NoFileName,
     BadEscape,
+    /// A text has no byte at this place.
+    NoByte,
     /// A count is larger than this program takes.
     TooMany,
     /// Words are left behind what stands here.
@@ -55,6 +57,7 @@ impl Flaw {
             Flaw::NoText => "a text is missing",
             Flaw::NoFileName => "the name of a file has 32 bytes",
             Flaw::BadEscape => "no byte is written like this",
+            Flaw::NoByte => "the text has no byte there",
             Flaw::TooMany => "this is too large",
             Flaw::WordsLeft => "there are too many words",
             Flaw::StretchOpen => "a stretch that comes again has no end",

@@ -54,7 +54,8 @@ impl<'a> Texts<'a> {
         Ok(())
     }
 
-    /// Pieces with `+` between them; `to 8192` fills up with zeros what stands before it.
+    /// Pieces with `+` between them. Of what stands before it, `to 8192` fills it up with zeros, and
+    /// `at 3` leaves the byte at that place, from 0.
     pub(crate) fn read(&self, words: &mut Words<'_>) -> Result<Octets, Flaw> {
         let mut text = Octets::empty(self.alloc);
         self.put_piece(words, &mut text)?;
@@ -62,9 +63,9 @@ impl<'a> Texts<'a> {
             if words.takes(b"+") {
                 self.put_piece(words, &mut text)?;
             } else if words.takes(b"to") {
-                let len = words.number()?;
-                let missing = len.saturating_sub(text.as_slice().len() as u64);
-                put_times(missing, b"\0", &mut text)?;
+                fill_up(words.number()?, &mut text)?;
+            } else if words.takes(b"at") {
+                text = byte_at(self.alloc, words.number()?, &text)?;
             } else {
                 break;
             }
@@ -113,6 +114,19 @@ fn put_times(times: u64, piece: &[u8], text: &mut Octets) -> Result<(), Flaw> {
         text.append(piece)?;
     }
     Ok(())
+}
+
+/// Adds zeros up to that length.
+fn fill_up(len: u64, text: &mut Octets) -> Result<(), Flaw> {
+    let missing = len.saturating_sub(text.as_slice().len() as u64);
+    put_times(missing, b"\0", text)
+}
+
+/// The byte at that place, alone.
+fn byte_at(alloc: Global, place: u64, text: &Octets) -> Result<Octets, Flaw> {
+    let place = usize::try_from(place).map_err(|_| Flaw::NoByte)?;
+    let byte = text.as_slice().get(place).ok_or(Flaw::NoByte)?;
+    Ok(Octets::copy(alloc, &[*byte])?)
 }
 
 /// Where the reading of a quoted text stands.
