@@ -2,10 +2,10 @@
 // behind it.
 use crate::blocks::Line;
 use crate::flaw::{Flaw, Refusal};
+use crate::front::Front;
 use crate::logs::Log;
 use crate::texts::Texts;
 use crate::words::Words;
-use pp_oracle::{Term, first_fault};
 use std::alloc::{AllocError, Global};
 
 /// A change of one happening.
@@ -57,17 +57,17 @@ fn changed<'a>(
 /// The places of these lines whose change leaves a lawful log behind the front.
 pub(crate) fn unnoticed(
     texts: &Texts<'_>,
-    lives: &[Term],
+    front: &Front,
     change: Change,
-    front: &[Line<'_>],
     lines: &[Line<'_>],
 ) -> Result<Vec<usize>, Refusal> {
     let alloc = texts.alloc();
     let mut places = Vec::new(alloc);
     for place in 0..lines.len() {
         let back = changed(alloc, change, place, lines)?;
-        let log = Log::read(texts, &[front, back.as_slice()])?;
-        if first_fault(alloc, lives, log.happenings.as_slice())?.is_none() {
+        let mut log = Log::new(alloc, front.len());
+        log.read(texts, back.as_slice())?;
+        if front.first_fault(&log)?.is_none() {
             places.push(place).map_err(AllocError::from)?;
         }
     }

@@ -7,29 +7,34 @@ use crate::verdicts::rule;
 use crate::words::Words;
 use pp_oracle::Fault;
 use pp_world::Happening;
-use std::alloc::AllocError;
+use std::alloc::{AllocError, Global};
 
-/// A log, and the verdict that is written of it: none where it is lawful.
+/// What happens behind a front, and the verdict that is written of it: none where it is lawful.
 #[derive(Drop)]
 pub(crate) struct Log {
+    /// So many happenings are before these.
+    before: usize,
     pub(crate) happenings: Vec<Happening>,
     pub(crate) verdict: Option<Fault>,
 }
 
 impl Log {
-    /// The log of these lines, one slice behind the other.
-    pub(crate) fn read(texts: &Texts<'_>, parts: &[&[Line<'_>]]) -> Result<Log, Refusal> {
-        let mut log = Log {
-            happenings: Vec::new(texts.alloc()),
+    /// Nothing happened yet behind so many happenings.
+    pub(crate) fn new(alloc: Global, before: usize) -> Log {
+        Log {
+            before,
+            happenings: Vec::new(alloc),
             verdict: None,
-        };
-        for lines in parts {
-            for line in lines.iter() {
-                log.put(texts, &mut line.words())
-                    .map_err(|flaw| flaw.at(line.number))?;
-            }
         }
-        Ok(log)
+    }
+
+    /// Adds what these lines tell.
+    pub(crate) fn read(&mut self, texts: &Texts<'_>, lines: &[Line<'_>]) -> Result<(), Refusal> {
+        for line in lines {
+            self.put(texts, &mut line.words())
+                .map_err(|flaw| flaw.at(line.number))?;
+        }
+        Ok(())
     }
 
     /// Adds a happening, or a verdict on the last.
@@ -49,11 +54,12 @@ impl Log {
             return Err(Flaw::SecondVerdict);
         }
         let rule = rule(words)?;
-        let at = self
+        let last = self
             .happenings
             .len()
             .checked_sub(1)
             .ok_or(Flaw::NothingJudged)?;
+        let at = self.before.saturating_add(last);
         self.verdict = Some(Fault { at, rule });
         Ok(())
     }

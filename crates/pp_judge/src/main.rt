@@ -29,6 +29,7 @@
 mod blocks; // a line, and the lines below it that are set in
 mod changes; // what changes of a lawful log are noticed
 mod flaw; // why a transcript cannot be read
+mod front; // what comes before the rows
 mod happenings; // a happening, as a line tells it
 mod lives; // how a life is started
 mod logs; // a log, and the verdict that is written of it
@@ -71,7 +72,10 @@ fn main(rt: HostRuntime) -> io::Result<ExitCode> {
 
 /// Judges one file behind the other, up to the first that cannot be read.
 fn judge_all(rt: &HostRuntime, files: &[File]) -> io::Result<ExitCode> {
-    let mut scene = Scene::new(rt.alloc());
+    let Ok(mut scene) = Scene::new(rt.alloc()) else {
+        rt.eprint("there is no memory\n")?;
+        return Ok(ExitCode::from(1));
+    };
     let mut are_as_written = true;
     for file in files {
         match scene.judge(file.name.as_str(), file.text.as_str()) {

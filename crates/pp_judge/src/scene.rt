@@ -1,13 +1,14 @@
 // What the blocks of transcripts define, and the logs that are judged there.
-use crate::blocks::{Block, Line, blocks_of};
+use crate::blocks::{Block, blocks_of};
 use crate::changes::{CHANGES, happening_lines, told_unnoticed, unnoticed};
 use crate::flaw::{Flaw, Refusal};
-use crate::lives::{life, plain_life};
+use crate::front::Front;
+use crate::lives::life;
 use crate::logs::Log;
 use crate::parts::Parts;
 use crate::report::Report;
 use crate::texts::Texts;
-use pp_oracle::{Term, first_fault};
+use pp_text::OutOfMemory;
 use std::alloc::{AllocError, Global};
 
 /// What was defined so far.
@@ -16,30 +17,22 @@ pub(crate) struct Scene<'a> {
     alloc: Global,
     texts: Texts<'a>,
     parts: Parts<'a>,
-    /// How the lives of each log are started.
-    lives: Vec<Term>,
-    /// The lines that each log begins with.
-    front: Vec<Line<'a>>,
+    front: Front,
 }
 
 impl<'a> Scene<'a> {
-    pub(crate) fn new(alloc: Global) -> Scene<'a> {
-        Scene {
+    pub(crate) fn new(alloc: Global) -> Result<Scene<'a>, OutOfMemory> {
+        Ok(Scene {
             alloc,
             texts: Texts::new(alloc),
             parts: Parts::new(alloc),
-            lives: Vec::new(alloc),
-            front: Vec::new(alloc),
-        }
+            front: Front::new(alloc)?,
+        })
     }
 
     /// Judges the logs of a file.
     pub(crate) fn judge(&mut self, file: &'a str, text: &'a str) -> Result<Report<'a>, Refusal> {
-        self.lives.clear();
-        self.lives
-            .push(plain_life(self.alloc))
-            .map_err(AllocError::from)?;
-        self.front.clear();
+        self.front = Front::new(self.alloc)?;
         let mut report = Report::new(self.alloc, file);
         for block in blocks_of(self.alloc, text)?.as_slice() {
             self.take(block, &mut report)?;
@@ -76,7 +69,7 @@ impl<'a> Scene<'a> {
     /// `part NAME`, and its happenings. A part that cannot be read is refused here.
     fn define_part(&mut self, block: &Block<'a>) -> Result<(), Refusal> {
         let lines = self.parts.written_out(block.body.as_slice())?;
-        Log::read(&self.texts, &[lines.as_slice()])?;
+        Log::new(self.alloc, 0).read(&self.texts, lines.as_slice())?;
         let at = block.head.number;
         let name = block.head.words().name().map_err(|flaw| flaw.at(at))?;
         self.parts.define(name, lines).map_err(|flaw| flaw.at(at))
@@ -84,27 +77,33 @@ impl<'a> Scene<'a> {
 
     /// `lives`, and a line for each.
     fn set_lives(&mut self, block: &Block<'a>) -> Result<(), Refusal> {
-        self.lives.clear();
+        let mut lives = Vec::new(self.alloc);
         for line in block.body.as_slice() {
             let life = life(&self.texts, &mut line.words()).map_err(|flaw| flaw.at(line.number))?;
-            self.lives.push(life).map_err(AllocError::from)?;
+            lives.push(life).map_err(AllocError::from)?;
         }
+        self.front.set_lives(lives)?;
         Ok(())
     }
 
     /// `front`, and names of parts.
     fn set_front(&mut self, block: &Block<'a>) -> Result<(), Refusal> {
-        self.front.clear();
+        let mut lines = Vec::new(self.alloc);
         self.parts
-            .put_named(&mut block.head.words(), &mut self.front)
-            .map_err(|flaw| flaw.at(block.head.number))
+            .put_named(&mut block.head.words(), &mut lines)
+            .map_err(|flaw| flaw.at(block.head.number))?;
+        let mut log = Log::new(self.alloc, 0);
+        log.read(&self.texts, lines.as_slice())?;
+        self.front.set_happenings(log.happenings)?;
+        Ok(())
     }
 
     /// `row TITLE`, and what happens behind the front, with its verdict.
     fn judge_row(&self, block: &Block<'a>, report: &mut Report<'a>) -> Result<(), Refusal> {
         let lines = self.parts.written_out(block.body.as_slice())?;
-        let log = Log::read(&self.texts, &[self.front.as_slice(), lines.as_slice()])?;
-        let found = first_fault(self.alloc, self.lives.as_slice(), log.happenings.as_slice())?;
+        let mut log = Log::new(self.alloc, self.front.len());
+        log.read(&self.texts, lines.as_slice())?;
+        let found = self.front.first_fault(&log)?;
         report.count();
         report.verdict(block.head.number, block.head.text, log.verdict, found)?;
         Ok(())
@@ -119,13 +118,7 @@ impl<'a> Scene<'a> {
         report.count();
         for change in CHANGES {
             let written = told_unnoticed(self.alloc, change, body)?;
-            let found = unnoticed(
-                &self.texts,
-                self.lives.as_slice(),
-                change,
-                self.front.as_slice(),
-                lines.as_slice(),
-            )?;
+            let found = unnoticed(&self.texts, &self.front, change, lines.as_slice())?;
             report.places(
                 block.head.number,
                 block.head.text,
