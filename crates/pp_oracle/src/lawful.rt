@@ -179,6 +179,62 @@ pub struct Fault {
     pub rule: Rule,
 }
 
+/// A log that is judged in pieces, up to the first happening that the law does not permit.
+#[derive(Drop)]
+pub struct Judge {
+    /// What the log says so far, where the law permits all of it.
+    state: State,
+    /// So many happenings came.
+    count: usize,
+    fault: Option<Fault>,
+}
+
+impl Judge {
+    /// Of a log whose lives were started by these terms, one after the other, nothing came yet.
+    pub fn new(alloc: Global, terms: &[Term]) -> Result<Judge, OutOfMemory> {
+        Ok(Judge {
+            state: start(alloc, terms)?,
+            count: 0,
+            fault: None,
+        })
+    }
+
+    /// The same again, to which another piece may come.
+    pub fn copy(&self) -> Result<Judge, OutOfMemory> {
+        Ok(Judge {
+            state: self.state.clone()?,
+            count: self.count,
+            fault: self.fault,
+        })
+    }
+
+    /// The first fault of the log with this piece behind it.
+    pub fn judge(&mut self, piece: &[Happening]) -> Result<Option<Fault>, OutOfMemory> {
+        for h in piece {
+            self.take(h)?;
+        }
+        Ok(self.fault)
+    }
+
+    /// Behind a fault nothing is looked at.
+    fn take(&mut self, h: &Happening) -> Result<(), OutOfMemory> {
+        if self.fault.is_some() {
+            return Ok(());
+        }
+        if is_permitted(&self.state, h)? {
+            after(&mut self.state, h)?;
+        } else {
+            let rule = rule_of(&self.state, h)?;
+            self.fault = Some(Fault {
+                at: self.count,
+                rule,
+            });
+        }
+        self.count = self.count.saturating_add(1);
+        Ok(())
+    }
+}
+
 /// The first happening of the log that the law does not permit, and the rule that it breaks. The
 /// lives that the log tells were started by these terms, one after the other.
 pub fn first_fault(
@@ -186,13 +242,5 @@ pub fn first_fault(
     terms: &[Term],
     log: &[Happening],
 ) -> Result<Option<Fault>, OutOfMemory> {
-    let mut s = start(alloc, terms)?;
-    for (at, h) in log.iter().enumerate() {
-        if !is_permitted(&s, h)? {
-            let rule = rule_of(&s, h)?;
-            return Ok(Some(Fault { at, rule }));
-        }
-        after(&mut s, h)?;
-    }
-    Ok(None)
+    Judge::new(alloc, terms)?.judge(log)
 }

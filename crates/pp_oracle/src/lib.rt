@@ -2,7 +2,8 @@
 //!
 //! `pp_law` defines which logs of happenings the proxy may leave, by functions on lists. Here the
 //! same functions stand in Rust, so that the logs of simulated runs can be judged: `first_fault`
-//! names the first happening of a log that the law does not permit, and the rule that it breaks.
+//! names the first happening of a log that the law does not permit, and the rule that it breaks; a
+//! `Judge` takes a log in pieces, so that a common front is judged once.
 //! Each file transliterates the file of `pp_law`'s definitions of the same name, one function for one
 //! definition, in the same order. What a leaf crate defines is called there.
 //!
@@ -44,8 +45,8 @@ mod store; // entries on disk
 mod table; // what is known of each key
 mod turn; // the steps of a turn
 
-pub use lawful::{Fault, Rule, first_fault};
+pub use lawful::{Fault, Judge, Rule, first_fault};
 pub use state::Term;
 
 #[cfg(test)]
-mod tests; // worked logs, and what the law says of them
+mod tests; // small worked states

@@ -1,17 +1,29 @@
-// Worked logs, and what the law says of each.
-mod lines; // a happening as a worked log spells it
-mod rows; // a worked log with its verdict, and where the law says otherwise
-mod texts; // the lines that most logs are made of
-mod caching; // requests that the cache answers
-mod crashes; // crashes, and the life that follows
-mod disk; // entries: the order of their operations, and operations that fail
-mod followers; // replies that wait for bytes
-mod idle; // ticks, old clients and empty bodies
-mod many; // bytes that come alone, and many readers of one new object
-mod mutations; // what changes of a lawful log are noticed
-mod openings; // openings
-mod pages; // requests that are refused
-mod passing; // requests that are passed
-mod pipelines; // a host that has all its connections
-mod sizes; // how long a body may be to be stored, and to be kept on disk
-mod states; // small worked states
+// Small worked states.
+use crate::requests::{Front, front_of, refusal_of};
+use crate::state::start;
+use std::test::Fail;
+
+#[test]
+fn a_state_is_copied(rt: HostRuntime) -> Result<(), Fail> {
+    let s = start(rt.alloc(), &[]).map_err(|_| "no memory")?;
+    let t = s.clone().map_err(|_| "no memory")?;
+    assert_eq!(rt; t.settings.port, 8123);
+    Ok(())
+}
+
+#[test]
+fn a_request_is_read_with_its_key(rt: HostRuntime) -> Result<(), Fail> {
+    let text = b"GET http://H.example/a HTTP/1.1\r\nHost: H.example\r\n\r\nGET";
+    let front = front_of(rt.alloc(), text.as_slice()).map_err(|_| "no memory")?;
+    let Front::IsRequest(r) = &front else {
+        return Err("no request".into());
+    };
+    assert_eq!(rt; refusal_of(r), None);
+    let Ok(key) = &r.key else {
+        return Err("no key".into());
+    };
+    assert_eq!(rt; key.text(), b"http://h.example/a".as_slice());
+    assert_eq!(rt; key.host(), b"h.example".as_slice());
+    assert_eq!(rt; key.port(), 80);
+    Ok(())
+}
