@@ -1,2 +1,3 @@
+pub mod ByHandLemmas
 pub mod LifeLemmas
 pub mod SpellingLemmas

@@ -11,6 +11,8 @@
 #![tactic(auto)]
 
 #[cfg(test)]
+mod by_hand; // the calls of the gate by themselves
+#[cfg(test)]
 mod crashes; // a crash behind each happening
 #[cfg(test)]
 mod faults; // operations and reads that fail

@@ -88,6 +88,26 @@ impl Morning {
         Ok(Morning { world })
     }
 
+    /// The next life over a disk, where this one crashes behind its first `at` happenings. `None` where
+    /// there are not so many.
+    pub(crate) fn behind(
+        world: &MemWorld,
+        alloc: Global,
+        at: usize,
+        choice: u64,
+    ) -> Result<Option<Morning>, OutOfMemory> {
+        let next = world.crash(alloc, at, choice, no_script(alloc), Vec::new(alloc))?;
+        match next {
+            Some(world) => Ok(Some(Morning { world })),
+            None => Ok(None),
+        }
+    }
+
+    /// What happened so far, in all lives.
+    pub(crate) fn log(&self) -> &[Happening] {
+        self.world.log().unwrap_or(&[])
+    }
+
     /// The files that the life woke to.
     pub(crate) fn image(&self) -> Option<&Image> {
         match self.world.log()?.last()? {
@@ -160,13 +180,7 @@ impl Life {
         at: usize,
         choice: u64,
     ) -> Result<Option<Morning>, OutOfMemory> {
-        let next = self
-            .world
-            .crash(alloc, at, choice, no_script(alloc), Vec::new(alloc))?;
-        match next {
-            Some(world) => Ok(Some(Morning { world })),
-            None => Ok(None),
-        }
+        Morning::behind(&self.world, alloc, at, choice)
     }
 
     /// The same, where there are so many.
@@ -227,6 +241,11 @@ impl Life {
         self.store.kept(key)?;
         Some(self.store.withdraw(&mut self.world, key))
     }
+}
+
+/// A disk in memory on which the first life has begun, over an empty folder.
+pub(crate) fn empty_world(alloc: Global) -> Result<MemWorld, OutOfMemory> {
+    MemWorld::new(alloc, no_script(alloc), Image::new(alloc), Vec::new(alloc))
 }
 
 fn no_script(alloc: Global) -> Script {
