@@ -29,6 +29,16 @@ pub(crate) struct Block<'a> {
     pub(crate) body: Vec<Line<'a>>,
 }
 
+impl<'a> Block<'a> {
+    /// The block, where nothing is set in below its line.
+    pub(crate) fn alone(&self) -> Result<&Block<'a>, Refusal> {
+        match self.body.as_slice().first() {
+            None => Ok(self),
+            Some(line) => Err(Flaw::NothingSetIn.at(line.number)),
+        }
+    }
+}
+
 /// The blocks of a transcript, without blank lines and comments.
 pub(crate) fn blocks_of<'a>(alloc: Global, text: &'a str) -> Result<Vec<Block<'a>>, Refusal> {
     let mut blocks = Vec::new(alloc);

@@ -36,6 +36,10 @@ pub(crate) enum Flaw {
     /// A verdict stands behind no happening.
     NothingJudged,
     SecondVerdict,
+    /// The verdict is that of a row.
+    VerdictInPart,
+    /// A text, and a front, are one line.
+    NothingSetIn,
     OutOfMemory,
 }
 
@@ -64,6 +68,8 @@ impl Flaw {
             Flaw::NoStretch => "no stretch ends here",
             Flaw::NothingJudged => "the verdict stands behind no happening",
             Flaw::SecondVerdict => "this is the second verdict",
+            Flaw::VerdictInPart => "a part has no verdict",
+            Flaw::NothingSetIn => "nothing is set in below such a block",
             Flaw::OutOfMemory => "there is no memory",
         }
     }

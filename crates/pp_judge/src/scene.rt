@@ -1,5 +1,5 @@
 // What the blocks of transcripts define, and the logs that are judged there.
-use crate::blocks::{Block, blocks_of};
+use crate::blocks::{Block, Line, blocks_of};
 use crate::changes::{CHANGES, happening_lines, told_unnoticed, unnoticed};
 use crate::flaw::{Flaw, Refusal};
 use crate::front::Front;
@@ -42,10 +42,10 @@ impl<'a> Scene<'a> {
 
     fn take(&mut self, block: &Block<'a>, report: &mut Report<'a>) -> Result<(), Refusal> {
         match block.kind.as_bytes() {
-            b"text" => self.define_text(block),
+            b"text" => self.define_text(block.alone()?),
             b"part" => self.define_part(block),
             b"lives" => self.set_lives(block),
-            b"front" => self.set_front(block),
+            b"front" => self.set_front(block.alone()?),
             b"row" => self.judge_row(block, report),
             b"changes" => self.judge_changes(block, report),
             _ => Err(Flaw::UnknownBlock.at(block.head.number)),
@@ -68,15 +68,21 @@ impl<'a> Scene<'a> {
 
     /// `part NAME`, and its happenings. A part that cannot be read is refused here.
     fn define_part(&mut self, block: &Block<'a>) -> Result<(), Refusal> {
-        let lines = self.parts.written_out(block.body.as_slice())?;
-        Log::new(self.alloc, 0).read(&self.texts, lines.as_slice())?;
         let at = block.head.number;
-        let name = block.head.words().name().map_err(|flaw| flaw.at(at))?;
+        let name = name_alone(&block.head).map_err(|flaw| flaw.at(at))?;
+        let lines = self.parts.written_out(block.body.as_slice())?;
+        let mut log = Log::new(self.alloc, 0);
+        log.read(&self.texts, lines.as_slice())?;
+        if log.verdict.is_some() {
+            return Err(Flaw::VerdictInPart.at(at));
+        }
         self.parts.define(name, lines).map_err(|flaw| flaw.at(at))
     }
 
     /// `lives`, and a line for each.
     fn set_lives(&mut self, block: &Block<'a>) -> Result<(), Refusal> {
+        let at = block.head.number;
+        block.head.words().end().map_err(|flaw| flaw.at(at))?;
         let mut lives = Vec::new(self.alloc);
         for line in block.body.as_slice() {
             let life = life(&self.texts, &mut line.words()).map_err(|flaw| flaw.at(line.number))?;
@@ -129,4 +135,12 @@ impl<'a> Scene<'a> {
         }
         Ok(())
     }
+}
+
+/// The name that a line is.
+fn name_alone<'a>(line: &Line<'a>) -> Result<&'a [u8], Flaw> {
+    let mut words = line.words();
+    let name = words.name()?;
+    words.end()?;
+    Ok(name)
 }
