@@ -16,16 +16,6 @@ pub(crate) struct Life {
     pub(crate) failing: Vec<u64>,
 }
 
-/// Words that a life is started with.
-const WORDS: &[&[&str]] = &[
-    &[],
-    &[],
-    &[],
-    &["shareFetches=0"],
-    &["proxyPort=8000", "proxyName=p"],
-    &["chunkHighMark=512", "chunkLowMark=512"],
-];
-
 /// A call that fails is one of the first so many.
 const FIRST_CALLS: u64 = 150;
 
@@ -55,16 +45,23 @@ impl Life {
     }
 }
 
+/// Words that a life is started with: none mostly.
 fn words(alloc: Global, dice: &mut Dice) -> Result<Vec<String>, OutOfMemory> {
-    let mut words = Vec::new(alloc);
-    if let Some(chosen) = dice.one_of(WORDS) {
-        for word in chosen.iter() {
-            words
-                .push(String::from_str(alloc, word)?)
-                .map_err(AllocError::from)?;
-        }
+    match dice.below(6) {
+        0..=2 => Ok(Vec::new(alloc)),
+        3 => owned(alloc, &["shareFetches=0"]),
+        4 => owned(alloc, &["proxyPort=8000", "proxyName=p"]),
+        _ => owned(alloc, &["chunkHighMark=512", "chunkLowMark=512"]),
     }
-    Ok(words)
+}
+
+fn owned(alloc: Global, words: &[&str]) -> Result<Vec<String>, OutOfMemory> {
+    let mut all = Vec::new(alloc);
+    for word in words {
+        all.push(String::from_str(alloc, word)?)
+            .map_err(AllocError::from)?;
+    }
+    Ok(all)
 }
 
 /// None mostly, and else up to three.
