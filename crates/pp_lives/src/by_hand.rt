@@ -123,32 +123,6 @@ fn did(log: &[Happening], from: usize, to: usize, steps: &[Step<'_>]) -> bool {
     }
 }
 
-/// Whether the publishing is what happened from one place of a log to another.
-fn is_published(log: &[Happening], from: usize, to: usize) -> bool {
-    let steps = [Step::Draft(12_288), Step::SyncDraft, Step::Publish];
-    did(log, from, to, &steps)
-}
-
-/// Whether a chunk was sealed there: written, and synced before its gate was.
-fn is_sealed(log: &[Happening], from: usize, to: usize, chunk: Step<'_>, gate: Step<'_>) -> bool {
-    did(log, from, to, &[chunk, Step::Sync, gate, Step::Sync])
-}
-
-#[test]
-fn each_call_runs_its_operations(rt: HostRuntime) -> Result<(), Fail> {
-    let body = two_chunks();
-    let world = kept(rt.alloc(), &body)?;
-    let log = log_of(&world);
-    assert!(rt; is_published(log, 1, 7));
-    let chunk = Step::Write(12_288, &body[..4096]);
-    assert!(rt; is_sealed(log, 7, 15, chunk, Step::Write(8192, &[1])));
-    let chunk = Step::Write(16_384, &body[4096..]);
-    assert!(rt; is_sealed(log, 16, 24, chunk, Step::Write(8193, &[1])));
-    // Besides, the life woke, and each chunk is noted.
-    assert_eq!(rt; log.len(), 25);
-    Ok(())
-}
-
 #[test]
 fn a_crash_while_a_chunk_is_written_leaves_those_that_were_sealed(
     rt: HostRuntime,
