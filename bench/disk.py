@@ -86,7 +86,8 @@ def seconds(top, count, length, run):
 
 
 def memory(folder):
-    """The most bytes of memory that the program had once it opened the folder. It prints more than a pipe holds, so it has not ended."""
+    """The most bytes of memory that the program had once it opened the folder. It prints more than a pipe holds,
+    so it has not ended."""
     process = subprocess.Popen([KEEPER, "list", folder, str(OPENED_COUNT)], stdout=subprocess.PIPE, bufsize=0)
     try:
         if not process.stdout.read(1):
@@ -100,6 +101,7 @@ def memory(folder):
 
 def opening(top):
     """Seconds and memory that it takes to open a folder of so many entries, and the memory of an empty one."""
+
     def measure(folder):
         keeper("fill", folder, OPENED_COUNT, 1, 64)
         return statistics.median(timed(lambda: keeper("list", folder, 0)) for _ in range(ROUNDS)), memory(folder)
@@ -107,20 +109,26 @@ def opening(top):
     return *in_new_folder(top, measure), in_new_folder(top, memory)
 
 
+def report(label, ours, plain, amount, count):
+    """A line: how much a second in either way, their ratio, and the syncs."""
+    print(f"{label:34} {amount / ours:10.1f} {amount / plain:10.1f} {plain / ours:6.2f} {count:7}")
+
+
 def main():
     top = pathlib.Path(sys.argv[1]).resolve()
     if not os.access(KEEPER, os.X_OK):
         raise SystemExit(f"there is no program {KEEPER}: (cd crates/pp_keeper && rt run)")
-    print(f"{platform.machine()}, {os.cpu_count()} processors, load {os.getloadavg()[0]:.1f}; medians of {ROUNDS} rounds")
+    load = f"load {os.getloadavg()[0]:.1f}"
+    print(f"{platform.machine()}, {os.cpu_count()} processors, {load}; medians of {ROUNDS} rounds")
     print(f"{'':34} {'kept':>10} {'plain':>10} {'ratio':>6} {'syncs':>7}")
     for run in RUNS:
-        ours, plain = seconds(top, 1, LARGE, run)
         label = f"64 MiB, {run} chunk{'s' * (run > 1)} a seal, MB/s"
-        print(f"{label:34} {LARGE / ours / 1e6:10.1f} {LARGE / plain / 1e6:10.1f} {plain / ours:6.2f} {syncs(1, LARGE, run):7}")
-    ours, plain = seconds(top, SMALL_COUNT, CHUNK, 1)
-    print(f"{'entries of 4 KiB, per second':34} {SMALL_COUNT / ours:10.0f} {SMALL_COUNT / plain:10.0f} {plain / ours:6.2f} {syncs(SMALL_COUNT, CHUNK, 1):7}")
+        report(label, *seconds(top, 1, LARGE, run), LARGE / 1e6, syncs(1, LARGE, run))
+    label = "entries of 4 KiB, per second"
+    report(label, *seconds(top, SMALL_COUNT, CHUNK, 1), SMALL_COUNT, syncs(SMALL_COUNT, CHUNK, 1))
     opened, most, least = opening(top)
-    print(f"a folder of {OPENED_COUNT} entries opened in {opened:.2f} s, with {most / 1e6:.1f} MB; an empty one with {least / 1e6:.1f} MB")
+    most, least = f"{most / 1e6:.1f} MB", f"{least / 1e6:.1f} MB"
+    print(f"a folder of {OPENED_COUNT} entries opened in {opened:.2f} s, with {most}; an empty one with {least}")
 
 
 if __name__ == "__main__":

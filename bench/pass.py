@@ -1,5 +1,6 @@
 """Measures an origin on 127.0.0.1 direct and through proxies: pass.py PROGRAM."""
 
+import contextlib
 import multiprocessing
 import os
 import platform
@@ -14,26 +15,24 @@ import time
 
 sys.path.insert(0, os.path.join(os.path.dirname(os.path.abspath(__file__)), "..", "e2e"))
 
-from network import raise_loopback  # noqa: E402
+from network import free_port, raise_loopback, wait_until_it_listens  # noqa: E402
 from origin import noise, plain  # noqa: E402
-from world import PORT, WORDS  # noqa: E402
 
 ROUNDS = 5
 SECONDS = 2.0
 CLIENTS = 8
 ORIGINS = 48
 LARGE_LEN = 200_000_000
-START_SECONDS = 15
 # What the origin answers; made before its processes are, which share it.
 SMALL, LARGE = plain(noise(1024)), plain(noise(LARGE_LEN))
 
-TINYPROXY = """Port 8888
+TINYPROXY = """Port {port}
 Listen 127.0.0.1
 Timeout 60
 MaxClients 200
 """
 
-SQUID = """http_port 127.0.0.1:3128
+SQUID = """http_port 127.0.0.1:{port}
 http_access allow all
 cache deny all
 access_log none
@@ -73,8 +72,12 @@ class Way:
 
     def stop(self):
         if self.process is not None:
-            self.process.terminate()
-            self.process.wait()
+            stop(self.process)
+
+
+def stop(process):
+    process.terminate()
+    process.wait()
 
 
 def length_of(head):
@@ -170,29 +173,28 @@ def measure(way, path, clients):
     return replies / elapsed, volume / elapsed / 1e6, failures
 
 
-def wait_for(address):
-    deadline = time.monotonic() + START_SECONDS
-    while time.monotonic() < deadline:
-        try:
-            socket.create_connection(address, timeout=1).close()
-            return True
-        except OSError:
-            time.sleep(0.05)
-    return False
-
-
 def start(name, command, port, ways):
     """Starts a proxy, where it is there."""
     if shutil.which(command[0]) is None:
         print(f"skipped: {name} is missing")
         return
     process = subprocess.Popen(command, stdin=subprocess.DEVNULL, stdout=subprocess.DEVNULL, stderr=subprocess.DEVNULL)
-    address = ("127.0.0.1", port)
-    if wait_for(address):
-        ways.append(Way(name, address, ways[0].authority, process))
+    if why := wait_until_it_listens(process, port, seconds=15):
+        stop(process)
+        print(f"skipped: {name}: {why}")
     else:
-        process.kill()
-        print(f"skipped: {name} does not listen")
+        ways.append(Way(name, ("127.0.0.1", port), ways[0].authority, process))
+
+
+def start_all(program, folder, ways):
+    """Starts the proxies that are there, each on a port of its own."""
+    ports = {name: free_port() for name in ("polipo", "tinyproxy", "squid")}
+    for name, text in (("tinyproxy", TINYPROXY), ("squid", SQUID)):
+        with open(f"{folder}/{name}.conf", "w") as file:
+            file.write(text.format(port=ports[name]))
+    start("polipo", [program, f"proxyPort={ports['polipo']}"], ports["polipo"], ways)
+    start("tinyproxy", ["tinyproxy", "-d", "-c", f"{folder}/tinyproxy.conf"], ports["tinyproxy"], ways)
+    start("squid", ["squid", "-N", "-f", f"{folder}/squid.conf"], ports["squid"], ways)
 
 
 def describe_machine():
@@ -229,31 +231,32 @@ def compare(ways, title, unit, path, clients, which):
             print(f"  {name}: {count} requests failed")
 
 
+@contextlib.contextmanager
+def origin_processes():
+    """The address of an origin, while its processes run."""
+    with socket.create_server(("127.0.0.1", 0), backlog=1024) as listener:
+        origins = [multiprocessing.Process(target=serve, args=(listener,), daemon=True) for _ in range(ORIGINS)]
+        for process in origins:
+            process.start()
+        try:
+            yield listener.getsockname()
+        finally:
+            for process in origins:
+                process.kill()
+
+
 def main():
     raise_loopback()
-    listener = socket.create_server(("127.0.0.1", 0), backlog=1024)
-    origins = [multiprocessing.Process(target=serve, args=(listener,), daemon=True) for _ in range(ORIGINS)]
-    for process in origins:
-        process.start()
     describe_machine()
-    address = listener.getsockname()
-    ways = [Way("direct", address, f"127.0.0.1:{address[1]}")]
-    folder = tempfile.mkdtemp()
-    for name, text in (("tinyproxy", TINYPROXY), ("squid", SQUID)):
-        with open(f"{folder}/{name}.conf", "w") as file:
-            file.write(text)
-    start("polipo", [os.path.abspath(sys.argv[1]), *WORDS], PORT, ways)
-    start("tinyproxy", ["tinyproxy", "-d", "-c", f"{folder}/tinyproxy.conf"], 8888, ways)
-    start("squid", ["squid", "-N", "-f", f"{folder}/squid.conf"], 3128, ways)
-    try:
-        compare(ways, f"replies of 1 KiB, {CLIENTS} clients", "/s", "/small", CLIENTS, 0)
-        compare(ways, f"a body of {LARGE_LEN // 1_000_000} MB, one client", "MB/s", "/large", 1, 1)
-    finally:
-        for way in ways:
-            way.stop()
-        for process in origins:
-            process.kill()
-        shutil.rmtree(folder)
+    with tempfile.TemporaryDirectory() as folder, origin_processes() as address:
+        ways = [Way("direct", address, f"127.0.0.1:{address[1]}")]
+        try:
+            start_all(os.path.abspath(sys.argv[1]), folder, ways)
+            compare(ways, f"replies of 1 KiB, {CLIENTS} clients", "/s", "/small", CLIENTS, 0)
+            compare(ways, f"a body of {LARGE_LEN // 1_000_000} MB, one client", "MB/s", "/large", 1, 1)
+        finally:
+            for way in ways:
+                way.stop()
 
 
 if __name__ == "__main__":

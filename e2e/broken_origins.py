@@ -7,7 +7,6 @@ from harness import case, equal, holds
 from origin import Answer, lines, noise, plain
 from world import LAST_BAD_GATEWAY, Client, passed
 
-TAG = b'ETag: "x"'
 OK = b"HTTP/1.1 200 OK"
 
 
@@ -46,7 +45,8 @@ def an_end_in_mid_body_cuts_its_client_alone(world):
             wanted = passed(body)
             holds(len(heard) < len(wanted), "the reply is cut")
             equal(heard, wanted[: len(heard)], "what came before the cut")
-            holds(len(heard) > 100_000, "most of what the origin sent")
+            # a reset may come before bytes that were not read yet
+            holds(then == "break" or len(heard) > 100_000, "most of what the origin sent")
             other.expect(wanted, "the reply to the other client")
 
 
@@ -54,7 +54,7 @@ def an_end_in_mid_body_cuts_its_client_alone(world):
 def an_end_at_any_byte_of_the_head_is_502_and_behind_it_a_cut(world):
     text = plain(b"hello")
     head = len(text) - 5
-    for count in range(0, len(text), 7):
+    for count in range(len(text)):
         world.origin.on("/any", Answer(text[:count], then="end"))
         with Client() as client:
             client.say(world.last_request("/any"))

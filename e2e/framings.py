@@ -1,5 +1,7 @@
 """A response's body however it is delimited, and however it is cut, to clients of either version."""
 
+import threading
+
 from harness import case, equal, holds
 from origin import Answer, chunked, lines, noise, response
 from world import BAD_GATEWAY, LAST_BAD_GATEWAY, VIA, Client, passed, reply, reply_head
@@ -139,10 +141,12 @@ def what_is_no_chunk_cuts_the_reply(world):
         world.origin.on("/bad", Answer(head + body))
         expect_cut(world, "/bad", b"hello\r\n0\r\n\r\n")
         # the reply has begun when the fault comes
-        world.origin.on("/bad", Answer(head + b"3\r\nabc\r\n" + body, cuts=[len(head) + 8], pause=0.05))
+        heard = threading.Event()
+        world.origin.on("/bad", Answer(head + b"3\r\nabc\r\n" + body, cuts=[len(head) + 8], goes_on=heard))
         with Client() as client:
             client.say(world.request("/bad"))
             client.expect(CHUNKED_HEAD + b"3\r\nabc\r\n", f"what came before {name}")
+            heard.set()
             data, is_whole = dechunked(client.hear_all())
             holds(not is_whole and b"hello\r\n0\r\n".startswith(data), f"a cut at {name}")
 

@@ -1,7 +1,9 @@
 """Tests with a time limit each, and what they print where they fail."""
 
+import os
 import shutil
 import signal
+import threading
 import time
 import traceback
 
@@ -50,6 +52,32 @@ def holds(condition, sentence):
         raise Failed(f"    wanted: {sentence}")
 
 
+def together(jobs, seconds=20):
+    """Runs all jobs at once, for so long at most. Answers the failures."""
+    failures = []
+
+    def run(job):
+        try:
+            job()
+        except Exception as failure:
+            failures.append(f"{job.__name__}: {failure}")
+
+    threads = [threading.Thread(target=run, args=(job,), daemon=True) for job in jobs]
+    for thread in threads:
+        thread.start()
+    deadline = time.monotonic() + seconds
+    for thread in threads:
+        thread.join(max(0, deadline - time.monotonic()))
+    holds(not any(thread.is_alive() for thread in threads), "all come to their end")
+    return failures
+
+
+def environment(**variables):
+    """The environment without a word on proxies, and with these variables."""
+    kept = {name: value for name, value in os.environ.items() if not name.lower().endswith("_proxy")}
+    return {**kept, **variables}
+
+
 def _out_of_time(signum, frame):
     raise Failed(f"    wanted: an end within {CASE_SECONDS} seconds, at {frame.f_code.co_name}:{frame.f_lineno}")
 
@@ -93,6 +121,8 @@ def run_all(world, wanted=""):
         print(f"{verdict}: {sentence}: {beside}", flush=True)
         if verdict == "FAILED":
             world.restart()
+    if not any(counts.values()):
+        raise Failed(f"no test has {wanted!r} in its sentence")
     if counts["skipped"]:
         print(f"{counts['skipped']} skipped")
     return counts["passed"], counts["FAILED"]

@@ -94,6 +94,7 @@ def more_clients_than_there_are_places_wait_for_one(world):
     late = Client()
     world.origin.on("/late", Answer(plain(b"at last")))
     late.say(world.request("/late"))
+    late.expect_silence(0.5)
     for client in silent:
         client.socket.close()
     holds(late.hear(5) == b"HTTP/", "a client that waited is served once others left")
@@ -103,7 +104,6 @@ def more_clients_than_there_are_places_wait_for_one(world):
 @case
 def clients_that_take_nothing_harm_nobody_else(world):
     world.origin.on("/large", Answer(plain(noise(3_000_000))))
-    world.origin.on("/other", Answer(plain(b"other")))
     deaf = [Client() for _ in range(3)]
     for client in deaf:
         client.say(world.request("/large"))

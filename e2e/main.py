@@ -2,6 +2,7 @@
 
 import importlib
 import os
+import signal
 import sys
 
 import harness
@@ -22,7 +23,8 @@ SUBJECTS = [
     "tools",
     "packages",
     "words",
-    "power_cuts",
+    "kills",
+    "readme",
     "starting",
 ]
 
@@ -40,18 +42,19 @@ def open_world(program):
 
 
 def main():
+    signal.signal(signal.SIGTERM, lambda *_: sys.exit(1))
     raise_loopback()
+    for subject in SUBJECTS:
+        importlib.import_module(subject)
     world, why = open_world(sys.argv[1])
     if world is None:
         print(f"FAILED: {why}")
         print("0 passed, 1 failed")
         return 1
-    for subject in SUBJECTS:
-        importlib.import_module(subject)
     try:
         passed, failed = harness.run_all(world, " ".join(sys.argv[2:]))
     except harness.Failed as failure:
-        print(f"FAILED: the program cannot be started again: {failure}")
+        print(f"FAILED: {str(failure).strip()}")
         passed, failed = 0, 1
     finally:
         world.stop()

@@ -3,31 +3,12 @@
 import threading
 import time
 
-from harness import Failed, case, equal, holds
+from harness import case, equal, holds, together
 from origin import Answer, noise, plain
 from world import Client, passed
 
 CLIENTS = 50
 BODY = noise(200_000)
-
-
-def together(jobs):
-    """Runs all jobs at once. Answers the failures."""
-    failures = []
-
-    def run(job):
-        try:
-            job()
-        except (Failed, OSError) as failure:
-            failures.append(f"{job.__name__}: {failure}")
-
-    threads = [threading.Thread(target=run, args=(job,), daemon=True) for job in jobs]
-    for thread in threads:
-        thread.start()
-    for thread in threads:
-        thread.join(20)
-    holds(not any(thread.is_alive() for thread in threads), "all clients come to their end")
-    return failures
 
 
 @case
@@ -82,23 +63,26 @@ def each_of_fifty_clients_gets_its_own_reply(world):
 
 @case
 def a_client_with_endless_requests_does_not_hold_up_the_others(world):
-    world.origin.on("/busy", Answer(plain(noise(100_000))))
-    stop = threading.Event()
+    body = noise(100_000)
+    world.origin.on("/busy", Answer(plain(body)))
+    stop, replies = threading.Event(), []
 
     def hurry():
         with Client(seconds=15) as client:
             while not stop.is_set():
                 client.say(world.request("/busy"))
-                client.hear(len(passed(noise(100_000))))
+                client.expect(passed(body))
+                replies.append(True)
 
-    threads = [threading.Thread(target=hurry, daemon=True) for _ in range(3)]
-    for thread in threads:
-        thread.start()
-    start = time.monotonic()
-    for _ in range(50):
-        world.check_still_served()
-    elapsed = time.monotonic() - start
-    stop.set()
-    for thread in threads:
-        thread.join(10)
-    holds(elapsed < 10, f"fifty others are served within 10 seconds (it took {elapsed:.1f})")
+    def others():
+        start = time.monotonic()
+        try:
+            for _ in range(50):
+                world.check_still_served()
+        finally:
+            stop.set()
+        elapsed = time.monotonic() - start
+        holds(elapsed < 10, f"fifty others are served within 10 seconds (it took {elapsed:.1f})")
+
+    equal(together([hurry, hurry, hurry, others]), [], "failures")
+    holds(len(replies) >= 3, "the hurried are served too")

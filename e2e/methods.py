@@ -5,14 +5,14 @@ import tempfile
 import threading
 import time
 
-from harness import case, equal, holds
+from harness import case, equal, holds, together
 from origin import Answer, lines, noise, plain, response
 from passing import curl
 from world import CONTINUE, VIA, Client, passed, reply, reply_head
 
 NO_CONTENT = lines(b"HTTP/1.1 204 No Content")
 NO_CONTENT_PASSED = reply_head(VIA, status=b"204 No Content")
-MEMORY_BOUND = 100_000_000
+MEMORY_BOUND = 8_000_000
 LARGE = 200_000_000
 
 
@@ -247,21 +247,15 @@ def ten_bodies_go_up_at_once(world):
     bodies = [noise(300_000 + 7 * number) for number in range(10)]
     world.origin.on("/up", Answer(plain(b"thanks")))
     world.origin.clear()
-    failures = []
 
-    def send(body):
-        try:
+    def job(body):
+        def send():
             with Client(seconds=15) as client:
                 client.say(world.request("/up", length(len(body)), method="POST") + body)
                 client.expect(passed(b"thanks"))
-        except Exception as failure:
-            failures.append(failure)
 
-    threads = [threading.Thread(target=send, args=(body,), daemon=True) for body in bodies]
-    for thread in threads:
-        thread.start()
-    for thread in threads:
-        thread.join(20)
-    equal(failures, [], "failures")
+        return send
+
+    equal(together([job(body) for body in bodies]), [], "failures")
     came = sorted(ask.digest() for ask in world.origin.asked)
     equal(came, sorted(hashlib.sha256(body).hexdigest() for body in bodies), "the digests at the origin")

@@ -48,18 +48,22 @@ class Answer:
     """What an origin does on a path.
 
     It sends a text, whole or in pieces of one size or cut at these places; then it keeps the
-    connection, ends or breaks it. A request's body is read before that, or not at all.
+    connection, ends or breaks it. A request's body is read before that, or not at all. With an
+    event it sends the second piece once that is set.
     """
 
-    def __init__(self, text, piece=None, cuts=(), pause=0.0, then="keep", reads_body=True):
+    def __init__(self, text, piece=None, cuts=(), pause=0.0, then="keep", reads_body=True, goes_on=None):
         self.text = text
         self.cuts = list(cuts) or list(range(piece or max(1, len(text)), len(text), piece or max(1, len(text))))
         self.pause = pause
         self.then = then
         self.reads_body = reads_body
+        self.goes_on = goes_on
 
     def give(self, connection):
         for start, end in zip([0] + self.cuts, self.cuts + [len(self.text)]):
+            if start and self.goes_on:
+                self.goes_on.wait(10)
             connection.sendall(self.text[start:end])
             if self.pause:
                 time.sleep(self.pause)
@@ -120,6 +124,11 @@ class Origin:
         """Its host, and its port where that is not the one of http."""
         return "127.0.0.1" if self.port == 80 else f"127.0.0.1:{self.port}"
 
+    def close(self):
+        """Takes no more connections."""
+        self._listener.shutdown(socket.SHUT_RDWR)
+        self._listener.close()
+
     def on(self, path, answer):
         """On this path it gives this answer, or the one that a function of the Ask gives."""
         self.answers[path] = answer
@@ -152,7 +161,10 @@ class Origin:
 
     def _accept(self):
         while True:
-            connection, _ = self._listener.accept()
+            try:
+                connection, _ = self._listener.accept()
+            except OSError:
+                return  # it was closed
             with self._lock:
                 self.connections += 1
                 self._open.add(connection)

@@ -6,7 +6,7 @@ import os
 import subprocess
 import tempfile
 
-from harness import case, equal, holds, need
+from harness import case, environment, equal, holds, need
 from origin import Answer, response
 from world import PORT
 
@@ -100,9 +100,8 @@ def make_folders(world, folder):
 
 def apt_get(folder, *words):
     """Runs apt-get over the folder's own configuration and state."""
-    environment = {name: value for name, value in os.environ.items() if not name.lower().endswith("_proxy")}
-    environment.update(APT_CONFIG=f"{folder}/apt.conf", LC_ALL="C", DEBIAN_FRONTEND="noninteractive")
-    done = subprocess.run(["apt-get", *words], capture_output=True, timeout=25, cwd=f"{folder}/here", env=environment)
+    variables = environment(APT_CONFIG=f"{folder}/apt.conf", LC_ALL="C", DEBIAN_FRONTEND="noninteractive")
+    done = subprocess.run(["apt-get", *words], capture_output=True, timeout=25, cwd=f"{folder}/here", env=variables)
     said = (done.stdout + done.stderr).decode(errors="replace")
     equal(done.returncode, 0, f"the status of apt-get {' '.join(words)}, which says {said}")
     return said

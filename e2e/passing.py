@@ -1,10 +1,10 @@
 """A request is passed to its origin, and the response back, byte for byte."""
 
+import contextlib
 import hashlib
-import os
 import subprocess
 
-from harness import Skipped, case, equal, holds, need
+from harness import Skipped, case, environment, equal, holds, need
 from origin import DATE, Answer, Origin, lines, noise, plain, response
 from world import PORT, VIA, Client, passed, reply
 
@@ -12,9 +12,8 @@ from world import PORT, VIA, Client, passed, reply
 def curl(*words, **options):
     """Runs curl through the proxy, and no variable of the environment changes that."""
     need("curl")
-    environment = {name: value for name, value in os.environ.items() if not name.lower().endswith("_proxy")}
     command = ["curl", "--silent", "--show-error", "--max-time", "20", "--proxy", f"127.0.0.1:{PORT}"]
-    return subprocess.run(command + list(words), capture_output=True, env=environment, **options)
+    return subprocess.run(command + list(words), capture_output=True, env=environment(), **options)
 
 
 @case
@@ -51,10 +50,9 @@ def a_host_may_be_a_name_in_any_letters(world):
 
 @case
 def each_request_goes_to_the_port_that_it_names(world):
-    other = Origin()
-    other.on("/a", Answer(plain(b"other")))
     world.origin.on("/a", Answer(plain(b"hello")))
-    with Client() as client:
+    with contextlib.closing(Origin()) as other, Client() as client:
+        other.on("/a", Answer(plain(b"other")))
         for _ in range(3):
             client.say(world.request("/a"))
             client.expect(passed(b"hello"))
@@ -66,15 +64,18 @@ def each_request_goes_to_the_port_that_it_names(world):
 def without_a_port_it_is_80(world):
     try:
         origin = Origin(80)
-    except OSError:
+    except PermissionError:
         raise Skipped("the right to port 80")
-    origin.on("/a", Answer(plain(b"hello")))
-    for authority in ["127.0.0.1", "127.0.0.1:80", "127.0.0.1:"]:
-        origin.clear()
-        with Client() as client:
-            client.say(lines(f"GET http://{authority}/a HTTP/1.1".encode()))
-            client.expect(passed(b"hello"), f"the reply of {authority}")
-        equal(origin.asked_texts(), [lines(b"GET /a HTTP/1.1", b"host: 127.0.0.1", VIA)], "the ask")
+    except OSError:
+        raise Skipped("a free port 80")
+    with contextlib.closing(origin):
+        origin.on("/a", Answer(plain(b"hello")))
+        for authority in ["127.0.0.1", "127.0.0.1:80", "127.0.0.1:"]:
+            origin.clear()
+            with Client() as client:
+                client.say(lines(f"GET http://{authority}/a HTTP/1.1".encode()))
+                client.expect(passed(b"hello"), f"the reply of {authority}")
+            equal(origin.asked_texts(), [lines(b"GET /a HTTP/1.1", b"host: 127.0.0.1", VIA)], "the ask")
 
 
 @case

@@ -6,7 +6,7 @@ import threading
 import time
 from dataclasses import dataclass
 
-from harness import case, equal
+from harness import case, equal, together
 from origin import Answer, chunked, lines, noise, response
 from world import CONTINUE, VIA, Client, reply, reply_head
 
@@ -142,20 +142,15 @@ def session(generator, world, name):
 @case
 def exchanges_at_random_come_out_right(world):
     world.origin.clear()
-    failures, counts = [], []
+    counts = []
 
-    def run(number):
-        generator = random.Random(SEED * 1_000 + number)
-        try:
+    def job(number):
+        def connection():
+            generator = random.Random(SEED * 1_000 + number)
             counts.append(sum(session(generator, world, f"{number}-{at}") for at in range(SESSIONS)))
-        except Exception as failure:
-            failures.append(f"connection {number}: {failure}")
 
-    threads = [threading.Thread(target=run, args=(number,), daemon=True) for number in range(CONNECTIONS)]
-    for thread in threads:
-        thread.start()
-    for thread in threads:
-        thread.join(25)
-    equal(failures, [], "failures")
-    equal(len(counts), CONNECTIONS, "how many connections came to their end")
+        connection.__name__ = f"connection {number}"
+        return connection
+
+    equal(together([job(number) for number in range(CONNECTIONS)], seconds=25), [], "failures")
     return f"{sum(counts)} exchanges"

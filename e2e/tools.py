@@ -2,12 +2,10 @@
 
 import gzip
 import hashlib
-import os
 import subprocess
 import tempfile
-import threading
 
-from harness import case, equal, holds, need
+from harness import case, environment, equal, holds, need, together
 from origin import Answer, chunked, lines, noise, response
 from passing import curl
 from world import CONTINUE, PORT, VIA, Client, reply, reply_head
@@ -15,8 +13,7 @@ from world import CONTINUE, PORT, VIA, Client, reply, reply_head
 
 def proxy_environment():
     """An environment that names the proxy and nothing that goes round it."""
-    kept = {name: value for name, value in os.environ.items() if not name.lower().endswith("_proxy")}
-    return {**kept, "http_proxy": f"http://127.0.0.1:{PORT}/", "LC_ALL": "C"}
+    return environment(http_proxy=f"http://127.0.0.1:{PORT}/", LC_ALL="C")
 
 
 def serve_file(text):
@@ -66,10 +63,10 @@ def curl_reuses_its_connection(world):
     world.origin.on("/length", Answer(response(b"hello")))
     world.origin.on("/chunked", Answer(lines(b"HTTP/1.1 200 OK", b"Transfer-Encoding: chunked") + chunked(b"hello")))
     urls = [world.url("/length"), world.url("/chunked")] * 5
-    run = curl("--verbose", *urls)
+    run = curl("--write-out", "%{stderr}%{num_connects} ", *urls)
     equal(run.returncode, 0, "curl's status")
     equal(run.stdout, b"hello" * 10)
-    equal(run.stderr.count(b"* Re-using existing connection"), 9, "how often the connection was used again")
+    equal(run.stderr, b"1 " + b"0 " * 9, "how many connections each of them took")
 
 
 @case
@@ -127,22 +124,26 @@ def part_of_page(number):
     return text, fields
 
 
-def load_parts(world, numbers, failures):
+def load_parts(world, numbers):
     """One connection of a browser: it asks for all of its parts at once."""
-    try:
-        with Client(seconds=15) as client:
-            client.say(b"".join(world.request(f"/part/{number}", *BROWSER) for number in numbers))
-            for number in numbers:
-                text, fields = part_of_page(number)
-                names = [name.lower() + b": " + value for name, _, value in (field.partition(b": ") for field in fields)]
-                if number % 2 == 0:
-                    client.expect(reply(text, *names), f"the reply of part {number}")
-                else:
-                    client.expect(reply_head(*names, VIA, b"transfer-encoding: chunked"), f"the head of part {number}")
-                    equal(client.hear_chunks(), text, f"part {number}")
-                holds(gzip.decompress(text).startswith(b"part %d " % number), "a text that can be read")
-    except Exception as failure:
-        failures.append(failure)
+    with Client(seconds=15) as client:
+        client.say(b"".join(world.request(f"/part/{number}", *BROWSER) for number in numbers))
+        for number in numbers:
+            text, fields = part_of_page(number)
+            names = [name.lower() + b": " + value for name, _, value in (field.partition(b": ") for field in fields)]
+            if number % 2 == 0:
+                client.expect(reply(text, *names), f"the reply of part {number}")
+            else:
+                client.expect(reply_head(*names, VIA, b"transfer-encoding: chunked"), f"the head of part {number}")
+                equal(client.hear_chunks(), text, f"part {number}")
+            holds(gzip.decompress(text).startswith(b"part %d " % number), "a text that can be read")
+
+
+def send_form(world, form):
+    with Client(seconds=15) as client:
+        fields = [*BROWSER, b"Content-Type: application/x-www-form-urlencoded", b"Content-Length: %d" % len(form)]
+        client.say(world.request("/form", *fields, method="POST") + form)
+        client.expect(reply(b"thanks"), "the reply to the form")
 
 
 @case
@@ -156,21 +157,16 @@ def a_browser_loads_a_page(world):
         world.origin.on(f"/part/{number}", Answer(whole, piece=1_000, pause=0.02))
     world.origin.on("/form", Answer(response(b"thanks")))
     world.origin.clear()
-    failures = []
-    threads = [
-        threading.Thread(target=load_parts, args=(world, range(first, PARTS, CONNECTIONS), failures), daemon=True)
-        for first in range(CONNECTIONS)
-    ]
-    for thread in threads:
-        thread.start()
     form = noise(300)
-    with Client(seconds=15) as client:
-        fields = [*BROWSER, b"Content-Type: application/x-www-form-urlencoded", b"Content-Length: 300"]
-        client.say(world.request("/form", *fields, method="POST") + form)
-        client.expect(reply(b"thanks"), "the reply to the form")
-    for thread in threads:
-        thread.join(20)
-    equal([str(failure) for failure in failures], [], "failures")
+
+    def job(load, *words):
+        def one():
+            load(world, *words)
+
+        return one
+
+    jobs = [job(load_parts, range(first, PARTS, CONNECTIONS)) for first in range(CONNECTIONS)]
+    equal(together([*jobs, job(send_form, form)]), [], "failures")
     equal(len(world.origin.asked), PARTS + 1, "how many asks there were")
     for ask in world.origin.asked:
         equal(ask.field(b"cookie"), b"session=0123456789abcdef; theme=dark", "the cookie")

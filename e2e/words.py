@@ -6,14 +6,12 @@ import signal
 import socket
 import subprocess
 import tempfile
-import time
 
 from harness import Failed, case, equal, holds
-from network import free_port
+from network import free_port, wait_until_it_listens
 from origin import Answer, plain
 
 USAGE = b"usage: polipo [-c FILE] [-g SEED] [name=value ...]\n"
-START_SECONDS = 10
 
 # The words, the text of the file f, the status and the line on standard error.
 ENDS = [
@@ -41,8 +39,7 @@ def end_of(world, words, text=b""):
     with tempfile.TemporaryDirectory() as folder:
         with open(os.path.join(folder, "f"), "wb") as file:
             file.write(text)
-        program = os.path.abspath(world.program)
-        done = subprocess.run([program, *words], cwd=folder, capture_output=True, timeout=15, stdin=subprocess.DEVNULL)
+        done = subprocess.run([world.program, *words], cwd=folder, capture_output=True, timeout=15, stdin=subprocess.DEVNULL)
         return done.returncode, done.stdout, done.stderr
 
 
@@ -56,24 +53,12 @@ def started(world, port, words, text=b""):
         pipe = subprocess.PIPE
         process = subprocess.Popen([world.program, *words], stdin=subprocess.DEVNULL, stdout=pipe, stderr=pipe)
         try:
-            wait_for(process, port)
+            if why := wait_until_it_listens(process, port):
+                raise Failed(f"    {why}")
             yield process
         finally:
             process.kill()
             process.communicate()
-
-
-def wait_for(process, port):
-    deadline = time.monotonic() + START_SECONDS
-    while time.monotonic() < deadline:
-        if process.poll() is not None:
-            raise Failed(f"    the program ended with {process.returncode}")
-        try:
-            socket.create_connection(("127.0.0.1", port), timeout=1).close()
-            return
-        except OSError:
-            time.sleep(0.02)
-    raise Failed(f"    the program does not listen within {START_SECONDS} seconds")
 
 
 def hear_end(client):

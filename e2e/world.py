@@ -7,14 +7,13 @@ import tempfile
 import time
 
 from harness import Failed, equal, holds
-from network import free_port
+from network import free_port, wait_until_it_listens
 from origin import Answer, Origin, abort, lines, plain
 
 # The proxy's port, and the words that make it listen there.
 PORT = free_port()
 WORDS = [f"proxyPort={PORT}"]
 PROXY = ("127.0.0.1", PORT)
-START_SECONDS = 10
 VIA = b"via: 1.1 polipo"
 
 
@@ -153,16 +152,9 @@ class World:
         self.process = subprocess.Popen(
             [self.program, *WORDS], stdin=subprocess.DEVNULL, stdout=self.output, stderr=self.output
         )
-        deadline = time.monotonic() + START_SECONDS
-        while time.monotonic() < deadline:
-            if self.process.poll() is not None:
-                raise Failed(f"    the program ended with {self.process.returncode}")
-            try:
-                socket.create_connection(PROXY, timeout=1).close()
-                return
-            except OSError:
-                time.sleep(0.02)
-        raise Failed(f"    the program does not listen within {START_SECONDS} seconds")
+        if why := wait_until_it_listens(self.process, PORT):
+            self.stop()
+            raise Failed(f"    {why}")
 
     def stop(self):
         if self.process.poll() is None:
@@ -223,11 +215,3 @@ class World:
         with Client() as client:
             client.say(text)
             client.expect_last(wanted, of_what)
-
-    def expect_ask(self, text, wanted, of_what="the ask"):
-        """A client that sends this has the origin asked exactly that, head and body."""
-        self.origin.clear()
-        with Client() as client:
-            client.say(text)
-            client.hear_until(b"\r\n\r\n")
-        equal(self.origin.asked_texts(), [wanted], of_what)

@@ -28,20 +28,36 @@ __attribute__((noinline)) static uint32_t oldest(void) { return after[NONE]; }
 
 static double now(void) { struct timespec t; clock_gettime(CLOCK_MONOTONIC, &t); return t.tv_sec * 1e9 + t.tv_nsec; }
 
+/* A place of the pool, at random. */
+static uint32_t some_place(void)
+{
+    static uint64_t seed = 1;
+    seed = seed * 6364136223846793005u + 1442695040888963407u;
+    return (seed >> 33) % CHUNKS;
+}
+
 int main(void)
 {
-    uint64_t sum = 0, seed = 1;
+    uint64_t sum = 0;
     before[NONE] = after[NONE] = NONE;
     for (uint32_t n = 0; n < CHUNKS; n++) next_free[n] = n + 1;
     for (uint32_t n = 0; n < CHUNKS; n++) take(0, n);
     double start = now();
-    for (int c = 0; c < CALLS; c++) { seed = seed * 6364136223846793005u + 1442695040888963407u; touch((seed >> 33) % CHUNKS); }
+    for (int c = 0; c < CALLS; c++) touch(some_place());
     double touched = now();
-    seed = 1;
-    for (int c = 0; c < CALLS; c++) { seed = seed * 6364136223846793005u + 1442695040888963407u; touch((seed >> 33) % CHUNKS); sum += oldest(); }
+    for (int c = 0; c < CALLS; c++) {
+        touch(some_place());
+        sum += oldest();
+    }
     double asked = now();
-    for (int c = 0; c < CALLS; c++) { seed = seed * 6364136223846793005u + 1442695040888963407u; uint32_t n = (seed >> 33) % CHUNKS; give(n); sum += take(0, n); }
+    for (int c = 0; c < CALLS; c++) {
+        uint32_t n = some_place();
+        give(n);
+        sum += take(0, n);
+    }
     double given = now();
-    printf("touch %.1f\ntouch_and_oldest %.1f\ngive_and_take %.1f\n", (touched - start) / CALLS, (asked - touched) / CALLS, (given - asked) / CALLS);
+    printf("touch %.1f\n", (touched - start) / CALLS);
+    printf("touch_and_oldest %.1f\n", (asked - touched) / CALLS);
+    printf("give_and_take %.1f\n", (given - asked) / CALLS);
     return sum == 0;
 }

@@ -191,6 +191,8 @@ def plain_costs(program: pathlib.Path) -> dict[str, float]:
 
 
 def main() -> None:
+    if shutil.which("cc") is None:
+        raise SystemExit("cc is missing")
     plain, links = [], []
     with tempfile.TemporaryDirectory() as folder:
         top = pathlib.Path(folder)

@@ -5,6 +5,7 @@ import os
 import pathlib
 import random
 import select
+import signal
 import subprocess
 import tempfile
 import time
@@ -15,6 +16,9 @@ from harness import Failed, case, equal, holds
 KEEPER = pathlib.Path(__file__).resolve().parent.parent / "crates/pp_keeper/out/pp_keeper"
 CHUNK = 4096
 GATES_AT = 8192
+# So many times it is killed at least, in so many folders at most.
+KILLS = 10
+FOLDERS = 10
 
 
 def pattern(number, length):
@@ -46,7 +50,7 @@ def keeper(*words):
 
 
 def lines_until(process, deadline):
-    """The whole lines that it printed before this moment, or before its end; it is killed then."""
+    """The whole lines that it printed before this moment, or before its end, and whether it was killed then."""
     text = b""
     while time.monotonic() < deadline:
         ready, _, _ = select.select([process.stdout], [], [], max(0, deadline - time.monotonic()))
@@ -57,8 +61,16 @@ def lines_until(process, deadline):
     process.kill()
     text += process.stdout.read()
     process.stdout.close()
-    process.wait()
-    return text[: text.rfind(b"\n") + 1].decode().splitlines()
+    is_killed = process.wait() == -signal.SIGKILL
+    return text[: text.rfind(b"\n") + 1].decode().splitlines(), is_killed
+
+
+def output_of(process):
+    """What it prints up to its end, which comes within 15 seconds."""
+    try:
+        return process.communicate(timeout=15)[0]
+    finally:
+        process.kill()
 
 
 def acknowledged(lines, extents):
@@ -73,7 +85,7 @@ def acknowledged(lines, extents):
 def found(folder, count):
     """What the program finds in the folder."""
     process = keeper("list", folder, count)
-    lines = process.communicate(timeout=15)[0].decode().splitlines()
+    lines = output_of(process).decode().splitlines()
     equal(process.returncode, 0, "its status")
     equal(len(lines), count, "how many lines it prints")
     sights = [line.split() for line in lines]
@@ -81,24 +93,36 @@ def found(folder, count):
     return {int(sight[1]): int(sight[2]) for sight in sights if sight[0] == "found"}
 
 
+def fill_and_kill(folder, choose, count, length):
+    """Starts and kills it until all bodies are kept, and sees each time that nothing was lost. Answers how often it was killed."""
+    extents, kills = {}, 0
+    while extents != {number: length for number in range(count)}:
+        process = keeper("fill", folder, count, length)
+        lines, is_killed = lines_until(process, time.monotonic() + choose.uniform(0.002, 0.08))
+        extents, kills = acknowledged(lines, extents), kills + is_killed
+        now = found(folder, count)
+        for number, extent in extents.items():
+            holds(now.get(number, 0) >= extent, f"entry {number} up to {extent}")
+        for number, extent in now.items():
+            path = pathlib.Path(folder) / file_name(number)
+            equal(kept_in(path), (extent, pattern(number, extent)), f"entry {number}")
+        extents = dict(now)
+    return kills
+
+
 @case
 def what_was_acknowledged_outlives_kills_at_random_moments(world):
     seed = random.randrange(1 << 32)
-    choose, count, length = random.Random(seed), 6, 300_000
-    with tempfile.TemporaryDirectory() as folder:
-        extents, kills = {}, 0
-        while extents != {number: length for number in range(count)}:
-            process = keeper("fill", folder, count, length)
-            lines = lines_until(process, time.monotonic() + choose.uniform(0.002, 0.08))
-            extents = acknowledged(lines, extents)
-            now = found(folder, count)
-            for number, extent in extents.items():
-                holds(now.get(number, 0) >= extent, f"entry {number} up to {extent}, with seed {seed}")
-            for number, extent in now.items():
-                path = pathlib.Path(folder) / file_name(number)
-                equal(kept_in(path), (extent, pattern(number, extent)), f"entry {number}, with seed {seed}")
-            extents, kills = dict(now), kills + 1
-        return f"{kills} kills"
+    choose, kills = random.Random(seed), 0
+    try:
+        for _ in range(FOLDERS):
+            with tempfile.TemporaryDirectory() as folder:
+                kills += fill_and_kill(folder, choose, 6, 300_000)
+            if kills >= KILLS:
+                return f"{kills} kills"
+    except Failed as failure:
+        raise Failed(f"{failure}\n    with seed {seed}")
+    raise Failed(f"    wanted: {KILLS} kills at least (there were {kills})")
 
 
 @case
@@ -108,7 +132,7 @@ def a_second_program_does_not_share_the_folder(world):
         try:
             first.stdout.readline()
             second = keeper("list", folder, 1)
-            printed = second.communicate(timeout=15)[0]
+            printed = output_of(second)
             equal((second.returncode, printed), (4, b"cannot use the folder\n"), "status and output")
         finally:
             first.kill()
