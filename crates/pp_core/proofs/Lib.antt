@@ -3,3 +3,4 @@ pub mod Gathering
 pub mod Holding
 pub mod Linking
 pub mod Opening
+pub mod Turning

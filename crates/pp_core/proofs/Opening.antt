@@ -1,5 +1,5 @@
 -- Events, and clients that come and go, on the list of clients.
-use Rattle.std.proofs.Common.{◌≡◌, ◌≢◌, ◌<◌, ◌≤◌, ◌+◌, ◌-◌, ◌⊎◌, inl, inr, ℕ, Bool, true, false, cond, ◌&&◌, List, [], ◌∷◌, ◌++◌, length, map, get_or, set, take, drop, Option, Some, None, refl, sym, ◌∙◌, ap, subst, arith, eqb}
+use Rattle.std.proofs.Common.{◌≡◌, ◌≢◌, ◌<◌, ◌≤◌, ◌+◌, ◌-◌, ◌⊎◌, inl, inr, ℕ, Bool, true, false, cond, List, [], ◌∷◌, ◌++◌, length, map, get_or, set, take, drop, Option, Some, None, refl, sym, ◌∙◌, ap, subst, arith, eqb}
 use Rattle.std.specs.Prelude.{suc}
 use Rattle.std.specs.List.{remove}
 use Rattle.std.proofs.Math.Seq.{get_or-append_seam}
@@ -9,7 +9,7 @@ use Rattle.std.proofs.lemmas.Bool.{cases_lt}
 use Rattle.std.proofs.lemmas.Bool.Decides.{eqb_tells}
 use Rattle.pp_world.specs.Log.{Log, Told, AppendsAll}
 use Rattle.pp_world.specs.Connections.{side_after, side_of, IsOpen}
-use Rattle.pp_world.specs.Wire.{close_happening, event_happening, wait_happenings, top_after, IsNumbered}
+use Rattle.pp_world.specs.Wire.{close_happening, wait_happenings, top_after, IsNumbered}
 use Rattle.pp_world.specs.declared.happening.Happening.{Happening}
 use Rattle.pp_world.specs.declared.happening.Happening.TheVariants.{Waits, Dialled, Opened}
 use Rattle.pp_world.specs.declared.event.Event.{Event}
@@ -21,7 +21,6 @@ use Rattle.pp_world.proofs.LogLemmas.{side_of-append}
 use Rattle.pp_world.proofs.CallLemmas.{told_after, told_weaker}
 use Rattle.pp_core.specs.declared.client.Client.{Client}
 use Rattle.pp_core.specs.Links.{Hold, hold_of, holds, hold_at, holds_after, newcomer, AreApart, AreOpen, IsLinked}
-use Rattle.pp_core.specs.Quiet.{is_quiet, GrowsQuietly}
 use Rattle.pp_core.proofs.Closing.{shut_linked, drop_linked, dial_linked, unmoved}
 use Rattle.pp_core.proofs.Holding.{held_at, within_holds, linked_same, some_open}
 
@@ -110,20 +109,6 @@ next_linked top now hs wants (Broken k) held call number is = same_linked top no
 next_linked top now hs wants (Accepted c) held call number is = record {
   apart = subst (λ (t : ℕ). AreApart (hs ++ newcomer c ∷ []) t) (sym is) (push_apart hs c top number.above held.apart);
   opened = told_after (λ l. Waits wants ∷ Opened c ∷ []) (AreOpen hs) (AreOpen (hs ++ newcomer c ∷ [])) held.opened call (λ l o. push_open hs c top wants l number.above held.apart o);
-}
-
-event_quiet : (event : Event) → is_quiet (event_happening event) ≡ true
-event_quiet Stop = refl
-event_quiet (Tick seconds) = refl
-event_quiet (Accepted c) = refl
-event_quiet (Readable id) = refl
-event_quiet (Writable id) = refl
-event_quiet (Reached k) = refl
-event_quiet (Broken k) = refl
-
-pub next_quiet : {old new : Option Log} (wants : Wants) (event : Event) → AppendsAll old new (λ l. wait_happenings wants event) → GrowsQuietly old new
-next_quiet wants event call = record {
-  was = λ l is. let w = call.was l is in (w.0, w.1, (wait_happenings wants event, w.2, ap (λ (b : Bool). b && true) (event_quiet event)));
 }
 
 -- the client that came last

@@ -7,3 +7,4 @@ pub mod Quiet
 pub mod Relays
 pub mod Requests
 pub mod Stages
+pub mod Turns

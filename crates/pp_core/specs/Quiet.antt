@@ -1,12 +1,14 @@
--- What a turn adds to the log: nothing printed, and nothing of the opening.
+-- What a turn adds to the log behind its event: nothing printed, nothing of the opening, and no other wait or stop.
 use Rattle.std.specs.Prelude.{◌≡◌, Bool, true, false, ◌++◌, Option, Some}
 use Rattle.std.specs.List.{list_all}
 use Rattle.pp_world.specs.declared.happening.Happening.{Happening}
-use Rattle.pp_world.specs.declared.happening.Happening.TheVariants.{Woke, Rooted, Listed, Listens, Configured, Printed}
+use Rattle.pp_world.specs.declared.happening.Happening.TheVariants.{Woke, Waits, Stopped, Rooted, Listed, Listens, Configured, Printed}
 use Rattle.pp_world.specs.Log.{Log}
 
 abbrev pub is_quiet : Happening → Bool
 is_quiet (Woke image) = false
+is_quiet (Waits wants) = false
+is_quiet Stopped = false
 is_quiet (Rooted folder) = false
 is_quiet (Listed ok) = false
 is_quiet (Listens port ok) = false

@@ -45,10 +45,12 @@ impl Proxy {
         }
     }
 
-    fn place_of_client(&self, id: u64) -> Option<usize>
+    /// The place of the client whose connection this is, or the one to its origin.
+    fn place_of(&self, id: u64) -> Option<usize>
         ensures { IfSome result (λ i. i < length self.now.clients.items) }
     {
-        self.clients.iter().position(|client| client.id() == id)
+        self.clients.iter().position(|client| client.id() == id
+            || client.stage().origin() == Some(id))
     }
 
     fn place_of_origin(&self, k: u64) -> Option<usize>
@@ -96,10 +98,12 @@ impl Proxy {
         ensures linked { IsLinked (W.log world.new) (W.top world.new) (holds self.new.clients.items) }
         ensures quiet { GrowsQuietly (W.log world.old) (W.log world.new) }
     {
-        if let Some(i) = self.place_of_client(id) {
-            self.hear(world, i);
-        } else if let Some(i) = self.place_of_origin(id) {
-            self.receive(world, i);
+        if let Some(i) = self.place_of(id) {
+            if self.clients[i].id() == id {
+                self.hear(world, i);
+            } else {
+                self.receive(world, i);
+            }
         }
     }
 
@@ -108,10 +112,12 @@ impl Proxy {
         ensures linked { IsLinked (W.log world.new) (W.top world.new) (holds self.new.clients.items) }
         ensures quiet { GrowsQuietly (W.log world.old) (W.log world.new) }
     {
-        if let Some(i) = self.place_of_client(id) {
-            self.say(world, i);
-        } else if let Some(i) = self.place_of_origin(id) {
-            self.ask(world, i);
+        if let Some(i) = self.place_of(id) {
+            if self.clients[i].id() == id {
+                self.say(world, i);
+            } else {
+                self.ask(world, i);
+            }
         }
     }
 

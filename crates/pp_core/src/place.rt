@@ -35,7 +35,7 @@ impl Proxy {
     fn next_to_place(&self) -> Option<usize>
         ensures { IfSome result (λ i. i < length self.now.clients.items) }
     {
-        if self.origins() >= MAX_ORIGINS {
+        if !self.waits() || self.origins() >= MAX_ORIGINS {
             return None;
         }
         let mut first: Option<usize> = None;
@@ -50,6 +50,13 @@ impl Proxy {
             }
         }
         first
+    }
+
+    /// Whether an exchange waits for a connection.
+    fn waits(&self) -> bool {
+        self.clients
+            .iter()
+            .any(|client| matches!(client.stage(), Stage::Waiting(_)))
     }
 
     fn origins(&self) -> usize {

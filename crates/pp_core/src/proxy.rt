@@ -37,6 +37,7 @@ pub enum Turn {
 impl Proxy {
     ghost use Rattle.pp_core.specs.Links.{holds, IsLinked};
     ghost use Rattle.pp_core.specs.Quiet.{GrowsQuietly};
+    ghost use Rattle.pp_core.specs.Turns.{TakesTurn};
 
     /// A proxy of this name without a client, with the memory for all that is not a client's own.
     pub fn open(alloc: Global, name: &[u8]) -> Result<Proxy, OutOfMemory>
@@ -59,11 +60,10 @@ impl Proxy {
     }
 
     /// Takes one event from the world, and handles it to its end.
-    #[tactic(auto, using(crate::proofs::Holding::quiet_then))]
     pub fn turn<W: Wire>(&mut self, world: &mut W) -> Turn
         requires { IsLinked (W.log world.old) (W.top world.old) (holds self.old.clients.items) }
         ensures linked { IsLinked (W.log world.new) (W.top world.new) (holds self.new.clients.items) }
-        ensures quiet { GrowsQuietly (W.log world.old) (W.log world.new) }
+        ensures turn { TakesTurn (length self.old.clients.items) result (W.log world.old) (W.log world.new) }
     {
         self.note_interests();
         let event = world.next(&self.wants);

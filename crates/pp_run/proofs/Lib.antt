@@ -1,3 +1,4 @@
 pub mod Judging
 pub mod Starting
 pub mod LineLemmas
+pub mod TurnByTurn

@@ -3,7 +3,7 @@ use Rattle.std.proofs.Common.{◌≡◌, ◌≤◌, ◌∙◌, ap, sym, subst, �
 use Rattle.pp_world.specs.declared.happening.Happening.TheVariants.{Configured, Listens, Printed}
 use Rattle.pp_world.specs.Log.{Log, AppendsAll, Rises}
 use Rattle.pp_world.proofs.CallLemmas.{appends_then, rises_earlier, rises_later}
-use Rattle.pp_core.specs.Quiet.{GrowsQuietly}
+use Rattle.pp_core.specs.Turns.{GoesUpTo, GrowsBy}
 use Rattle.pp_run.specs.Lines.{unread_line}
 use Rattle.pp_conf.specs.Words.{file_of, has_reading}
 use Rattle.pp_run.specs.Exits.{EndsAs, IsUnread, JudgesWords, ServesOn, StartsAs, asked_for, asks_to_serve}
@@ -11,30 +11,27 @@ use Rattle.pp_run.proofs.Judging.{file_serves}
 use Rattle.pp_run.specs.declared.ending.Exit.{Exit}
 use Rattle.pp_run.specs.declared.ending.Exit.TheVariants.{Served, Usage, NoMemory, NoDisk, NoListener, NoConfig}
 
--- it listened, and then served
-pub serves : {old mid new : Option Log} (port : ℕ) → AppendsAll old mid (λ l. Listens port true ∷ []) → GrowsQuietly mid new → ServesOn [] port old new
-serves port listened quiet = record {
-  was = λ l is.
-      let later = quiet.was l is in
-      let earlier = listened.was later.0 later.1 in
-      (earlier.0, earlier.1, (later.2.0, later.2.1 ∙ ap (λ (b : Log). b ++ later.2.0) earlier.2, later.2.2));
-}
-
--- it asked for FILE, and then served
-serves_later : {old mid new : Option Log} (asked : Log) (port : ℕ) → AppendsAll old mid (λ l. asked) → ServesOn [] port mid new → ServesOn asked port old new
-serves_later asked port first rest = record {
+-- what came behind a call is also behind all that the call appended
+pub grows_later : {old mid new : Option Log} (P : Log → Type 0) (asked first : Log) → AppendsAll old mid (λ l. asked) → GrowsBy first P mid new → GrowsBy (asked ++ first) P old new
+grows_later P asked first call rest = record {
   was = λ l is.
       let later = rest.was l is in
-      let earlier = first.was later.0 later.1 in
-      let there : l ≡ (earlier.0 ++ asked) ++ (Listens port true ∷ []) ++ later.2.0
-      = later.2.1 ∙ ap (λ (b : Log). b ++ (Listens port true ∷ []) ++ later.2.0) earlier.2 in
-      (earlier.0, earlier.1, (later.2.0, there ∙ ap (λ (b : Log). b ++ later.2.0) (append_assoc earlier.0 asked (Listens port true ∷ [])), later.2.2));
+      let earlier = call.was later.0 later.1 in
+      let there : l ≡ (earlier.0 ++ asked) ++ (first ++ later.2.0)
+      = later.2.1 ∙ ap (λ (b : Log). b ++ (first ++ later.2.0)) earlier.2 in
+      let joined : l ≡ earlier.0 ++ ((asked ++ first) ++ later.2.0)
+      = there ∙ append_assoc earlier.0 asked (first ++ later.2.0) ∙ ap (λ (b : Log). earlier.0 ++ b) (sym (append_assoc asked first later.2.0)) in
+      (earlier.0, earlier.1, (later.2.0, joined, later.2.2));
 }
+
+-- it listened, and then served
+pub serves : {old mid new : Option Log} (port most_turns : ℕ) → AppendsAll old mid (λ l. Listens port true ∷ []) → GrowsBy [] (GoesUpTo most_turns) mid new → ServesOn [] port most_turns old new
+serves port most_turns listened served = grows_later (GoesUpTo most_turns) (Listens port true ∷ []) [] listened served
 
 -- what a start with this text came to, behind the asking for FILE
 starts_later : {old mid : Option Log} (new : Option Log) (asked : Log) (words : List (List ℕ)) (text : Option (List ℕ)) (exit : Exit) (before between now : ℕ)
     → AppendsAll old mid (λ l. asked) → before ≤ between → StartsAs [] words text exit mid new between now → StartsAs asked words text exit old new before now
-starts_later new asked words text Served before between now first more start = (start.0, start.1, serves_later asked _ first start.2)
+starts_later new asked words text Served before between now first more start = (start.0, start.1, grows_later (GoesUpTo start.0.max_turns) asked _ first start.2)
 starts_later new asked words text Usage before between now first more start = appends_then (λ l. asked) _ first start
 starts_later new asked words text NoMemory before between now first more start = appends_then (λ l. asked) _ first start
 starts_later new asked words text NoDisk before between now first more start = start

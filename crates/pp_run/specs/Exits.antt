@@ -1,6 +1,5 @@
 -- When each exit comes, and what a told log gained by then.
 use Rattle.std.specs.Prelude.{◌≡◌, ◌⊎◌, ⊤, true, false, ℕ, Bool, ◌&&◌, not, List, [], ◌∷◌, ◌++◌, Option, Some, None, is_some, Ok, Err}
-use Rattle.std.specs.List.{list_all}
 use Rattle.pp_world.specs.declared.happening.Happening.TheVariants.{Configured, Listens, Printed}
 use Rattle.pp_world.specs.Log.{Log, AppendsAll, Rises}
 use Rattle.pp_conf.specs.declared.fault.ConfFault.{ConfFault}
@@ -8,7 +7,7 @@ use Rattle.pp_conf.specs.declared.fault.ConfFault.TheVariants.{Usage as IsUsage,
 use Rattle.pp_conf.specs.Conf.{Settings}
 use Rattle.pp_conf.specs.Words.{Serves, file_of, has_reading, reading_of, seed_of}
 use Rattle.pp_conf.specs.Shown.{Answers}
-use Rattle.pp_core.specs.Quiet.{is_quiet}
+use Rattle.pp_core.specs.Turns.{GoesUpTo, GrowsBy}
 use Rattle.pp_run.specs.Lines.{fault_line, no_listener_line, no_memory_line, unread_line, usage_line}
 use Rattle.pp_run.specs.declared.ending.Exit.{Exit}
 use Rattle.pp_run.specs.declared.ending.Exit.TheVariants.{Served, Usage, NoMemory, NoDisk, NoListener, NoConfig}
@@ -48,9 +47,9 @@ abbrev pub asked_for : Option (List ℕ) → Option (List ℕ) → Log
 asked_for None text = []
 asked_for (Some file) text = Configured file text ∷ []
 
--- it listened on this port, and then nothing was printed
-pub record ServesOn (asked : Log) (port : ℕ) (old new : Option Log) : Type 0 where
-  pub was : (l : Log) → new ≡ Some l → (before : Log) × (old ≡ Some before) × ((added : Log) × (l ≡ before ++ (asked ++ Listens port true ∷ []) ++ added) × (list_all is_quiet added ≡ true))
+-- it listened on this port, and then made turns until the world stopped one, or so many; so nothing was printed
+abbrev pub ServesOn : Log → ℕ → ℕ → Option Log → Option Log → Type 0
+ServesOn asked port most_turns old new = GrowsBy (asked ++ Listens port true ∷ []) (GoesUpTo most_turns) old new
 
 -- it may not listen on this port, and nothing follows but the line
 pub record MayNotListen (asked : Log) (port : ℕ) (old new : Option Log) (before now : ℕ) : Type 0 where
@@ -58,13 +57,13 @@ pub record MayNotListen (asked : Log) (port : ℕ) (old new : Option Log) (befor
   pub told : AppendsAll old new (λ l. asked ++ Listens port false ∷ Printed (no_listener_line port) ∷ [])
 
 -- how a run ends that has its settings
-abbrev pub OpensOn : ℕ → Exit → Option Log → Option Log → ℕ → ℕ → Type 0
-OpensOn port Served old new before now = ServesOn [] port old new
-OpensOn port NoListener old new before now = MayNotListen [] port old new before now
-OpensOn port NoMemory old new before now = AppendsAll old new (λ l. Printed no_memory_line ∷ [])
-OpensOn port Usage old new before now = ⊥
-OpensOn port NoDisk old new before now = ⊥
-OpensOn port NoConfig old new before now = ⊥
+abbrev pub OpensOn : ℕ → ℕ → Exit → Option Log → Option Log → ℕ → ℕ → Type 0
+OpensOn port most_turns Served old new before now = ServesOn [] port most_turns old new
+OpensOn port most_turns NoListener old new before now = MayNotListen [] port old new before now
+OpensOn port most_turns NoMemory old new before now = AppendsAll old new (λ l. Printed no_memory_line ∷ [])
+OpensOn port most_turns Usage old new before now = ⊥
+OpensOn port most_turns NoDisk old new before now = ⊥
+OpensOn port most_turns NoConfig old new before now = ⊥
 
 -- words and text have this fault, and nothing follows but its line
 pub record IsRefused (asked : Log) (words : List (List ℕ)) (text : Option (List ℕ)) (fault : ConfFault) (old new : Option Log) : Type 0 where
@@ -79,7 +78,7 @@ pub record IsUnread (words : List (List ℕ)) (old new : Option Log) (before now
 
 -- how a run ends whose settings are read with this text
 abbrev pub StartsAs : Log → List (List ℕ) → Option (List ℕ) → Exit → Option Log → Option Log → ℕ → ℕ → Type 0
-StartsAs asked words text Served old new before now = (c : Settings) × (reading_of words text ≡ Ok (Serves c)) × ServesOn asked c.port old new
+StartsAs asked words text Served old new before now = (c : Settings) × (reading_of words text ≡ Ok (Serves c)) × ServesOn asked c.port c.max_turns old new
 StartsAs asked words text NoListener old new before now = (c : Settings) × (reading_of words text ≡ Ok (Serves c)) × MayNotListen asked c.port old new before now
 StartsAs asked words text NoConfig old new before now = (fault : ConfFault) × (exit_of fault ≡ NoConfig) × IsRefused asked words text fault old new
 StartsAs asked words text NoMemory old new before now = AppendsAll old new (λ l. asked ++ Printed no_memory_line ∷ [])

@@ -5,7 +5,7 @@ ghost use Rattle.pp_run.specs.Exits.{status_of};
 /// How the program ends.
 #[derive(Clone, Copy, Debug, PartialEq, Eq)]
 pub enum Exit {
-    /// It served until it was stopped.
+    /// It served until it was stopped, or for the most turns that its settings allow.
     Served,
     /// Its words are not understood.
     Usage,

@@ -1,6 +1,6 @@
 // From settings to the end of serving.
 ghost use Rattle.std.specs.Prelude.{◌≡◌, []};
-ghost use Rattle.pp_core.specs.Quiet.{GrowsQuietly};
+ghost use Rattle.pp_core.specs.Turns.{GoesUpTo, GrowsBy};
 ghost use Rattle.pp_run.specs.Exits.{OpensOn};
 
 use crate::Exit;
@@ -12,7 +12,7 @@ use std::alloc::Global;
 
 /// Takes the proxy's memory, listens, and serves where it may.
 pub(crate) fn open<W: World>(alloc: Global, conf: &Conf, world: &mut W) -> Exit
-    ensures told { OpensOn conf.now.port result (W.log world.old) (W.log world.new) (W.faults world.old) (W.faults world.new) }
+    ensures told { OpensOn conf.now.port conf.now.max_turns result (W.log world.old) (W.log world.new) (W.faults world.old) (W.faults world.new) }
 {
     match Proxy::open(alloc, conf.name.as_slice()) {
         Ok(proxy) => listen(proxy, conf.port, conf.max_turns, world),
@@ -26,7 +26,7 @@ pub(crate) fn open<W: World>(alloc: Global, conf: &Conf, world: &mut W) -> Exit
 /// Listens, and serves where it may.
 fn listen<W: World>(proxy: Proxy, port: u16, most_turns: u64, world: &mut W) -> Exit
     requires { proxy.clients.items ≡ [] }
-    ensures told { OpensOn port result (W.log world.old) (W.log world.new) (W.faults world.old) (W.faults world.new) }
+    ensures told { OpensOn port most_turns result (W.log world.old) (W.log world.new) (W.faults world.old) (W.faults world.new) }
 {
     match world.listen(port) {
         Ok(()) => {
@@ -41,14 +41,13 @@ fn listen<W: World>(proxy: Proxy, port: u16, most_turns: u64, world: &mut W) -> 
 }
 
 /// Makes turns until the world stops it, or for the most turns that there may be.
-#[tactic(auto, using(pp_core::proofs::Holding::quiet_then))]
 fn serve<W: World>(mut proxy: Proxy, most_turns: u64, world: &mut W)
     requires { proxy.clients.items ≡ [] }
-    ensures { GrowsQuietly (W.log world.old) (W.log world.new) }
+    ensures { GrowsBy [] (GoesUpTo most_turns) (W.log world.old) (W.log world.new) }
 {
     for _turn in 0..most_turns {
         if let Turn::Stopped = proxy.turn(world) {
-            break;
+            return;
         }
     }
 }
