@@ -124,7 +124,16 @@ const HEAD_PAGES: &[Exchange<'static>] = &[Exchange {
                 b"HTTP/1.1 411 Length Required\r\ncontent-type: text/plain\r\ncontent-length: 20\r\nconnection: close\r\n\r\n",
             )],
         ),
-        Wanted::Count(Step::Shut, 1),
+        Wanted::Course(
+            1,
+            &[
+                Step::Opened,
+                Step::Taken(0, Decision::Refuse(411)),
+                Step::Said(97),
+                Step::Shut,
+                Step::Stopped,
+            ],
+        ),
     ],
 }];
 
@@ -200,10 +209,17 @@ fn a_head_that_does_not_end_gets_a_page(rt: HostRuntime) -> Result<(), Fail> {
         (Pace::Whole, long_field.as_slice()),
         (Pace::Whole, long_target.as_slice()),
     ];
+    let course = [
+        Step::Opened,
+        Step::Taken(0, Decision::Refuse(431)),
+        Step::Said(149),
+        Step::Shut,
+        Step::Stopped,
+    ];
     for (pace, head) in heads {
         let played = play(alloc, pace, &[Act::Connect, Act::Say(1, head)])?;
         assert_eq!(rt; played.said(1)?.as_slice(), PAGE_431, "{pace:?}");
-        assert_eq!(rt; played.count(Step::Shut), 1, "{pace:?}");
+        assert_eq!(rt; played.course(1)?.as_slice(), course.as_slice(), "{pace:?}");
     }
     Ok(())
 }

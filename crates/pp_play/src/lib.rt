@@ -23,7 +23,7 @@ pub use course::{Step, named_step};
 pub use cuts::{Cut, unlike_when_cut};
 pub use exchanges::{Exchange, Wanted, unlike, unlike_at};
 pub use fitting::{Fit, Part, fit_of};
-pub use playing::{Act, PACES, Pace, Played, play, play_failing, play_with};
+pub use playing::{Act, PACES, Pace, Played, play, play_failing};
 pub use texts::{
     ASK, ASK_B, GET, GET_B, PAGE_400, PAGE_411, PAGE_431, PAGE_502, REPLY, REPLY_B, RESPONSE,
     RESPONSE_B, asking, joined, with_repeated,

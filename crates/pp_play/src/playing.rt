@@ -62,24 +62,19 @@ pub fn play_failing(
     acts: &[Act<'_>],
     failing: &[u64],
 ) -> Result<Played, OutOfMemory> {
-    play_with(alloc, &[], script_of(alloc, pace, acts)?, failing)
-}
-
-/// Runs the program with these words over this script.
-pub fn play_with(
-    alloc: Global,
-    words: &[String],
-    script: Script,
-    failing: &[u64],
-) -> Result<Played, OutOfMemory> {
+    let script = script_of(alloc, pace, acts)?;
     let failing = Vec::from_slice(alloc, failing)?;
     let mut world = MemWorld::new(alloc, script, Image::new(alloc), failing)?;
-    let exit = run(alloc, words, &mut world);
+    let exit = run(alloc, &[], &mut world);
+    // The world stops telling where memory was refused.
+    if world.log().is_none() {
+        return Err(OutOfMemory);
+    }
     Ok(Played { exit, world, alloc })
 }
 
 impl Played {
-    /// What happened; nothing where the world stopped telling, so that every comparison fails.
+    /// What happened: the world told it to the end.
     pub fn log(&self) -> &[Happening] {
         self.world.log().unwrap_or(&[])
     }

@@ -60,7 +60,16 @@ const CHUNKED: &[Exchange<'static>] = &[
         ],
         wanted: &[
             Wanted::Said(1, &[CLOSED_REPLY, Part::Text(b"hello")]),
-            Wanted::Count(Step::Shut, 1),
+            Wanted::Course(
+                1,
+                &[
+                    Step::Opened,
+                    Step::Taken(0, Decision::Pass),
+                    Step::Said(60),
+                    Step::Shut,
+                    Step::Stopped,
+                ],
+            ),
             Wanted::Count(Step::Dialled(80), 1),
         ],
     },
@@ -160,7 +169,16 @@ const TO_THE_END: &[Exchange<'static>] = &[
         ],
         wanted: &[
             Wanted::Said(1, &[CLOSED_REPLY, Part::Text(b"hello")]),
-            Wanted::Count(Step::Shut, 1),
+            Wanted::Course(
+                1,
+                &[
+                    Step::Opened,
+                    Step::Taken(0, Decision::Pass),
+                    Step::Said(60),
+                    Step::Shut,
+                    Step::Stopped,
+                ],
+            ),
         ],
     },
     Exchange {

@@ -1,5 +1,6 @@
 // Whether a client's connection goes on (RFC 2616, sections 8.1.2, 14.10 and 19.6.2).
 use pp_play::{Act, Exchange, GET, PAGE_502, Part, REPLY, RESPONSE, Step, Wanted, unlike};
+use pp_world::Decision;
 use std::test::Fail;
 
 /// The reply to the first of two requests, which says that it is the last.
@@ -10,7 +11,16 @@ const LAST_REPLY: &[Wanted<'static>] = &[
             b"HTTP/1.1 200 OK\r\ndate: Sun, 06 Nov 1994 08:49:37 GMT\r\netag: \"x\"\r\ncache-control: max-age=60\r\nvia: 1.1 polipo\r\ncontent-length: 5\r\nconnection: close\r\n\r\nhello",
         )],
     ),
-    Wanted::Count(Step::Shut, 1),
+    Wanted::Course(
+        1,
+        &[
+            Step::Opened,
+            Step::Taken(0, Decision::Pass),
+            Step::Said(154),
+            Step::Shut,
+            Step::Stopped,
+        ],
+    ),
     Wanted::Count(Step::Dialled(80), 1),
 ];
 

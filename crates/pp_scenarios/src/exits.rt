@@ -1,12 +1,7 @@
-// Words, the listener, and the end.
-use pp_memworld::Script;
-use pp_play::{
-    Act, Exchange, GET, Pace, Part, Played, RESPONSE, Step, Wanted, play, play_failing, play_with,
-    unlike_at,
-};
+// The listener, and the end.
+use pp_play::{Act, Exchange, GET, Pace, Part, RESPONSE, Step, Wanted, play, unlike_at};
 use pp_run::Exit;
 use pp_world::{Cause, Decision, Happening};
-use std::alloc::Global;
 use std::test::Fail;
 
 #[test]
@@ -31,55 +26,6 @@ fn is_listening(log: &[Happening]) -> bool {
             && wants.write.is_empty(),
         _ => false,
     }
-}
-
-/// What is printed by a run that woke, printed and did nothing else.
-fn printed_alone(played: &Played) -> &[u8] {
-    match played.log() {
-        [Happening::Woke(_), Happening::Printed(text)] => text.as_slice(),
-        _ => b"",
-    }
-}
-
-fn no_script(alloc: Global) -> Script {
-    Script {
-        cues: Vec::new(alloc),
-        site: Vec::new(alloc),
-    }
-}
-
-#[test]
-fn words_that_are_not_understood_are_refused(rt: HostRuntime) -> Result<(), Fail> {
-    let alloc = rt.alloc();
-    for word in ["nonsense", "-c", "--help", ""] {
-        let words = vec![in alloc; String::from_str(alloc, word)?]?;
-        let played = play_with(alloc, words.as_slice(), no_script(alloc), &[])?;
-        assert_eq!(rt; played.exit, Exit::Usage, "{word}");
-        let line = b"usage: polipo [-c FILE] [-g SEED] [name=value ...]\n";
-        assert_eq!(rt; printed_alone(&played), line.as_slice(), "{word}");
-    }
-    Ok(())
-}
-
-/// What is printed by a run that woke, could not listen, printed and did nothing else.
-fn printed_without_port(played: &Played) -> &[u8] {
-    match played.log() {
-        [
-            Happening::Woke(_),
-            Happening::Listens(8123, false),
-            Happening::Printed(text),
-        ] => text.as_slice(),
-        _ => b"",
-    }
-}
-
-#[test]
-fn without_its_port_it_ends(rt: HostRuntime) -> Result<(), Fail> {
-    let played = play_failing(rt.alloc(), Pace::Whole, &[Act::Connect], &[1])?;
-    assert_eq!(rt; played.exit, Exit::NoListener);
-    let line = b"polipo: cannot listen on port 8123\n";
-    assert_eq!(rt; printed_without_port(&played), line.as_slice());
-    Ok(())
 }
 
 const STOPPED: &[Act<'static>] = &[

@@ -81,7 +81,17 @@ const ENDED: &[Exchange<'static>] = &[
                 b"PUT /a HTTP/1.1\r\nhost: h\r\ncontent-length: 3\r\nvia: 1.1 polipo\r\n\r\nabc",
             ),
             Wanted::Said(1, &[Part::Text(REPLY)]),
-            Wanted::Count(Step::Shut, 1),
+            Wanted::Course(
+                1,
+                &[
+                    Step::Opened,
+                    Step::Taken(0, Decision::Pass),
+                    Step::HungUp,
+                    Step::Said(159),
+                    Step::Shut,
+                    Step::Stopped,
+                ],
+            ),
         ],
     },
 ];
@@ -136,7 +146,16 @@ const ENDED_IN_REPLY: &[Exchange<'static>] = &[
                     b"HTTP/1.1 400 Bad Request\r\ncontent-type: text/plain\r\ncontent-length: 16\r\nconnection: close\r\n\r\n400 Bad Request\n",
                 )],
             ),
-            Wanted::Count(Step::Shut, 1),
+            Wanted::Course(
+                1,
+                &[
+                    Step::Opened,
+                    Step::Taken(0, Decision::Refuse(400)),
+                    Step::Said(109),
+                    Step::Shut,
+                    Step::Stopped,
+                ],
+            ),
         ],
     },
 ];

@@ -13,7 +13,7 @@ mod bodies; // responses however they are delimited
 #[cfg(test)]
 mod connections; // whether a client's connection goes on
 #[cfg(test)]
-mod exits; // words, the listener, and the end
+mod exits; // the listener, and the end
 #[cfg(test)]
 mod first_path; // plain requests, passed whole
 #[cfg(test)]
