@@ -5,7 +5,7 @@ ghost use Rattle.pp_world.specs.Connections.{top_of, top_with};
 ghost use Rattle.pp_world.specs.Disk.{IsLeftBehind};
 ghost use Rattle.pp_memworld.specs.Crash.{Continues, Crashes};
 ghost use Rattle.pp_memworld.specs.Folder.{Follows, is_sound};
-ghost use Rattle.pp_memworld.specs.MemWorld.{configuration, told_log};
+ghost use Rattle.pp_memworld.specs.MemWorld.{HasNoEnds, configuration, told_log};
 ghost use Rattle.pp_memworld.specs.Slots.{AreListed};
 
 use crate::choice::Choice;
@@ -40,6 +40,7 @@ impl MemWorld {
         ensures failing { IfOk result (λ next. IfSome next (λ w. w.calls.failing.items ≡ failing.items)) }
         ensures calls { IfOk result (λ next. IfSome next (λ w. w.calls.made ≡ 0)) }
         ensures configuration { IfOk result (λ next. IfSome next (λ w. configuration w ≡ configuration self.now)) }
+        ensures ends { IfOk result (λ next. IfSome next HasNoEnds) }
     {
         let Some(log) = self.record.log() else {
             return Ok(None);

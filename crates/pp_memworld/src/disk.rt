@@ -6,7 +6,7 @@ ghost use Rattle.pp_world.specs.Disk.{AreNames, GivesBytes, GivesLength, GivesNa
 ghost use Rattle.pp_world.specs.Log.{Appends, AppendsAll, Rises, Told};
 ghost use Rattle.pp_memworld.specs.Calls.{call_number};
 ghost use Rattle.pp_memworld.specs.Listing.{is_lost, is_short};
-ghost use Rattle.pp_memworld.specs.MemWorld.{Made, OneMoreCall, SameCalls, fails, faults_after, faults_of, told_log, top_number};
+ghost use Rattle.pp_memworld.specs.MemWorld.{EndsStay, Made, OneMoreCall, SameCalls, fails, faults_after, faults_of, told_log, top_number};
 ghost use Rattle.pp_memworld.specs.Operation.{op_of};
 
 use crate::MemWorld;
@@ -39,6 +39,7 @@ impl MemWorld {
         ensures cause { OnErr result (Rises (told_log self.new) (faults_of self.old) (faults_of self.new)) }
         ensures top { top_number self.new ≡ top_number self.old }
         ensures calls { OneMoreCall self.old self.new }
+        ensures ends { EndsStay self.old self.new }
     {
         let is_failing = self.calls.is_failing();
         self.calls.count();
@@ -54,6 +55,7 @@ impl MemWorld {
         ensures never_falls { faults_of self.old ≤ faults_of self.new }
         ensures top { top_number self.new ≡ top_number self.old }
         ensures calls { OneMoreCall self.old self.new }
+        ensures ends { EndsStay self.old self.new }
     {
         self.calls.count();
         self.record.fail(Happening::Unread(*name));
@@ -67,6 +69,7 @@ impl Disk for MemWorld {
         ensures count { faults_of self.new ≡ faults_of self.old }
         ensures top { top_number self.new ≡ top_number self.old }
         ensures calls { SameCalls self.old self.new }
+        ensures ends { EndsStay self.old self.new }
     {
         self.record.root(folder);
     }
@@ -81,6 +84,7 @@ impl Disk for MemWorld {
         ensures cause { NamesCause (told_log self.new) (faults_of self.old) (faults_of self.new) result }
         ensures top { top_number self.new ≡ top_number self.old }
         ensures calls { Made (if is_short result then self.old.calls.made else call_number self.old.calls.made) self.old self.new }
+        ensures ends { EndsStay self.old self.new }
     {
         if self.calls.is_failing() {
             self.calls.count();
@@ -104,6 +108,7 @@ impl Disk for MemWorld {
         ensures cause { OnErr result (Rises (told_log self.new) (faults_of self.old) (faults_of self.new)) }
         ensures top { top_number self.new ≡ top_number self.old }
         ensures calls { OneMoreCall self.old self.new }
+        ensures ends { EndsStay self.old self.new }
     {
         if self.calls.is_failing() {
             self.look_away(name);
@@ -123,6 +128,7 @@ impl Disk for MemWorld {
         ensures cause { OnErr result (Rises (told_log self.new) (faults_of self.old) (faults_of self.new)) }
         ensures top { top_number self.new ≡ top_number self.old }
         ensures calls { OneMoreCall self.old self.new }
+        ensures ends { EndsStay self.old self.new }
     {
         if self.calls.is_failing() {
             self.look_away(name);
@@ -140,6 +146,7 @@ impl Disk for MemWorld {
         ensures cause { OnErr result (Rises (told_log self.new) (faults_of self.old) (faults_of self.new)) }
         ensures top { top_number self.new ≡ top_number self.old }
         ensures calls { OneMoreCall self.old self.new }
+        ensures ends { EndsStay self.old self.new }
     {
         self.operate(Operation::Draft(bytes))
     }
@@ -152,6 +159,7 @@ impl Disk for MemWorld {
         ensures cause { OnErr result (Rises (told_log self.new) (faults_of self.old) (faults_of self.new)) }
         ensures top { top_number self.new ≡ top_number self.old }
         ensures calls { OneMoreCall self.old self.new }
+        ensures ends { EndsStay self.old self.new }
     {
         self.operate(Operation::SyncDraft)
     }
@@ -165,6 +173,7 @@ impl Disk for MemWorld {
         ensures cause { OnErr result (Rises (told_log self.new) (faults_of self.old) (faults_of self.new)) }
         ensures top { top_number self.new ≡ top_number self.old }
         ensures calls { OneMoreCall self.old self.new }
+        ensures ends { EndsStay self.old self.new }
     {
         self.operate(Operation::Publish(name))
     }
@@ -178,6 +187,7 @@ impl Disk for MemWorld {
         ensures cause { OnErr result (Rises (told_log self.new) (faults_of self.old) (faults_of self.new)) }
         ensures top { top_number self.new ≡ top_number self.old }
         ensures calls { OneMoreCall self.old self.new }
+        ensures ends { EndsStay self.old self.new }
     {
         self.operate(Operation::Write(name, at, bytes))
     }
@@ -190,6 +200,7 @@ impl Disk for MemWorld {
         ensures cause { OnErr result (Rises (told_log self.new) (faults_of self.old) (faults_of self.new)) }
         ensures top { top_number self.new ≡ top_number self.old }
         ensures calls { OneMoreCall self.old self.new }
+        ensures ends { EndsStay self.old self.new }
     {
         self.operate(Operation::Sync(name))
     }
@@ -202,6 +213,7 @@ impl Disk for MemWorld {
         ensures cause { OnErr result (Rises (told_log self.new) (faults_of self.old) (faults_of self.new)) }
         ensures top { top_number self.new ≡ top_number self.old }
         ensures calls { OneMoreCall self.old self.new }
+        ensures ends { EndsStay self.old self.new }
     {
         self.operate(Operation::Remove(name))
     }

@@ -7,7 +7,8 @@
 //! world of the next life, over the files that a crash at a place of the log leaves.
 //!
 //! To the layer above: the log that it tells is exactly what its calls did; numbers are given once;
-//! reads and listings give what the log says; a call fails only where it was told to by its number,
+//! a connection gives the front of what is unread there, and takes what its window lets in; reads and
+//! listings of files give what the log says; a call fails only where it was told to by its number,
 //! where a cue breaks its connection, or where a dial finds that all numbers were given. By every
 //! choice a crash leaves files that the log permits. The world stops telling its log only for want
 //! of memory.
@@ -25,18 +26,21 @@ mod draft; // the one draft
 mod file; // one file, and what a crash may leave of it
 mod folder; // the files of a folder, as the log leaves them
 mod image; // the files that a life woke to
-mod memworld; // the world, as a Wire
+mod memworld; // the world: what its calls have in common, and the events of its script
 mod operation; // an operation on the disk
 mod parts; // parts of a slice
 mod peer; // the other end of one connection
 mod record; // the log, and the connections that are open by it
 mod script; // cues and pages
+mod sides; // what is told of a connection, by whose it is
 mod site; // what the origin of a page answers to an ask
 #[cfg(test)]
 mod tests;
 mod slot; // the files one of which stands under a name
 mod slots; // what stands under each name
+mod telling; // the log, one happening more
 mod traffic; // all other ends, and what the cues bring to them
+mod wire; // the world, as a Wire
 
 pub use image::put_file;
 pub use memworld::MemWorld;

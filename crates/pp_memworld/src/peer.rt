@@ -1,5 +1,5 @@
 // The other end of one connection: what it sent and is not read yet, and what it takes.
-ghost use Rattle.std.specs.Prelude.{◌≡◌, ◌<◌, ◌≤◌, false, [], vec_len, length, take};
+ghost use Rattle.std.specs.Prelude.{◌≡◌, ◌<◌, ◌≤◌, false, [], vec_len, length, take, Some};
 ghost use Rattle.pp_world.specs.Wire.{IsWithin};
 
 use crate::Page;
@@ -43,10 +43,11 @@ pub(crate) struct Peer {
 }
 
 impl Peer {
-    ghost use Rattle.pp_memworld.specs.Peer.{count_of, found, found_in, taken, unread};
+    ghost use Rattle.pp_memworld.specs.Peer.{IsFresh, IsReadBy, IsWrittenBy, count_of, found, found_in, is_over, taken, unread};
 
     pub(crate) fn new(alloc: Global, page: Option<usize>) -> Peer
-        ensures { result.is_broken ≡ false }
+        ensures fresh { IsFresh (Some result) }
+        ensures broken { result.is_broken ≡ false }
     {
         Peer {
             sent: Vec::new(alloc),
@@ -85,11 +86,17 @@ impl Peer {
     }
 
     /// The fault was found.
-    pub(crate) fn mend(&mut self) {
+    pub(crate) fn mend(&mut self)
+        ensures stays { IsReadBy 0 (Some self.old) (Some self.new) }
+        ensures mended { self.new.is_broken ≡ false }
+    {
         self.is_broken = false;
     }
 
-    fn send(&mut self, bytes: &[u8]) -> Result<(), OutOfMemory> {
+    fn send(&mut self, bytes: &[u8]) -> Result<(), OutOfMemory>
+        ensures sent { IsWrittenBy 0 (Some self.old) (Some self.new) }
+        ensures broken { self.new.is_broken ≡ self.old.is_broken }
+    {
         self.sent.extend_from_slice(bytes)?;
         Ok(())
     }
@@ -103,9 +110,11 @@ impl Peer {
     /// Reads the front of what is unread.
     pub(crate) fn take(&mut self, buf: &mut [u8]) -> Got
         requires { 0 < length buf.old }
-        ensures found { result ≡ found (length buf.old) self.old }
+        ensures found { result ≡ found (length buf.old) (Some self.old) }
         ensures within { IsWithin (length buf.new) result }
-        ensures front { take (count_of result) buf.new ≡ take (count_of result) (unread self.old) }
+        ensures front { take (count_of result) buf.new ≡ take (count_of result) (unread (Some self.old)) }
+        ensures read { IsReadBy (count_of result) (Some self.old) (Some self.new) }
+        ensures broken { self.new.is_broken ≡ self.old.is_broken }
     {
         let unread = self.sent.len() - self.read;
         if unread == 0 {
@@ -123,7 +132,9 @@ impl Peer {
     }
 
     fn take_end(&mut self) -> Got
-        ensures { result ≡ found_in 0 [] self.old.ending }
+        ensures found { result ≡ found_in 0 [] (is_over self.old.ending) }
+        ensures read { IsReadBy 0 (Some self.old) (Some self.new) }
+        ensures broken { self.new.is_broken ≡ self.old.is_broken }
     {
         match self.ending {
             Ending::None => Got::NotYet,
@@ -136,8 +147,11 @@ impl Peer {
 
     /// How many of so many bytes it takes.
     pub(crate) fn accept(&mut self, offered: usize) -> usize
-        ensures taken { result ≡ taken self.old.window offered }
+        ensures taken { result ≡ taken offered (Some self.old) }
         ensures within { result ≤ offered }
+        ensures written { IsWrittenBy result (Some self.old) (Some self.new) }
+        ensures unread { unread (Some self.new) ≡ unread (Some self.old) }
+        ensures broken { self.new.is_broken ≡ self.old.is_broken }
     {
         match self.window {
             None => offered,
@@ -155,7 +169,10 @@ impl Peer {
         alloc: Global,
         site: &[Page],
         bytes: &[u8],
-    ) -> Result<(), OutOfMemory> {
+    ) -> Result<(), OutOfMemory>
+        ensures answered { IsWrittenBy 0 (Some self.old) (Some self.new) }
+        ensures broken { self.new.is_broken ≡ self.old.is_broken }
+    {
         let Some(page) = self.page else {
             return Ok(());
         };

@@ -1,13 +1,13 @@
 // The log of a world in memory, and the connections and files that it leads to.
-ghost use Rattle.std.specs.Prelude.{◌≡◌, ◌<◌, ◌≤◌, ◌+◌, ◌-◌, ◌^◌, ℕ, true, false, [], ◌∷◌, ◌++◌, length, take, vec_len, if◌then◌else◌, ◌==◌, ◌↔◌, IsTrue, IfOk, IfSome, Option, Some, None};
+ghost use Rattle.std.specs.Prelude.{◌≡◌, ◌<◌, ◌≤◌, ◌+◌, ◌-◌, ◌^◌, true, false, [], ◌∷◌, ◌++◌, length, take, if◌then◌else◌, ◌↔◌, IsTrue, IfOk, IfSome, OnErr, Option, Some, None};
 ghost use Rattle.std.specs.List.{list_all};
 ghost use Rattle.std.specs.Option.{option_copied};
 ghost use Rattle.pp_world.specs.Connections.{side_of, top_of};
 ghost use Rattle.pp_world.specs.Disk.{AreNames, HasDraft, Reaches, Stands, Stored, bytes_in, image_of, names_in};
 ghost use Rattle.pp_world.specs.Files.{Files};
 ghost use Rattle.pp_world.specs.Log.{Appends, Rises, Told};
-ghost use Rattle.pp_world.specs.Wire.{by_side, close_happening, note_happening, remark_of};
-ghost use Rattle.pp_memworld.specs.Folder.{Hears, is_sound};
+ghost use Rattle.pp_world.specs.Wire.{by_side, close_happening, note_happening};
+ghost use Rattle.pp_memworld.specs.Folder.{is_sound};
 ghost use Rattle.pp_memworld.specs.Keeping.{Keeps, KeepsFiles};
 ghost use Rattle.pp_memworld.specs.Operation.{op_of};
 ghost use Rattle.pp_memworld.specs.Sides.{IsTied, KeepsConnections, side_at};
@@ -15,8 +15,10 @@ ghost use Rattle.pp_memworld.specs.Slots.{AreListed};
 
 use crate::folder::Folder;
 use crate::operation::{Operation, kept};
+use crate::sides::{closed, ended, heard, lost, said};
+use crate::telling::{begun, displace, follow, place, push, push_dialled, remark};
 use pp_text::{Octets, OutOfMemory};
-use pp_world::{DiskOp, Happening, Image, Name, Note, Remark, Side};
+use pp_world::{DiskOp, Happening, Image, Name, Note, Side};
 use std::alloc::Global;
 use std::collections::BTreeMap;
 
@@ -114,7 +116,8 @@ impl Record {
 
     /// What goes on was kept; or else the log is told no more.
     pub(crate) fn keep(&mut self, kept: Result<(), OutOfMemory>)
-        ensures { Stays self.old self.new }
+        ensures stays { Stays self.old self.new }
+        ensures untold { OnErr kept (self.new.told ≡ false) }
     {
         if kept.is_err() {
             self.told = false;
@@ -387,158 +390,5 @@ impl Record {
         ensures names { IfOk result (λ names. Told (record_log self.now) (λ l. (files : Files) → image_of l ≡ Some files → names.items ≡ names_in files)) }
     {
         self.folder.names(alloc)
-    }
-}
-
-/// The log of a life that begins after this one.
-fn begun(mut log: Vec<Happening>, image: Image) -> Result<Vec<Happening>, OutOfMemory>
-    ensures { IfOk result (λ l. l.items ≡ log.items ++ Happening.Woke image ∷ []) }
-{
-    match log.push(Happening::Woke(image)) {
-        Ok(()) => Ok(log),
-        Err(_) => Err(OutOfMemory),
-    }
-}
-
-/// Whether the log is told still, after a happening that the folder follows.
-fn follow(
-    told: bool,
-    alloc: Global,
-    log: &mut Vec<Happening>,
-    folder: &mut Folder,
-    happening: Happening,
-) -> bool
-    requires { IsTrue (is_sound happening) }
-    ensures told { result ≡ true → told ≡ true }
-    ensures pushed { result ≡ true → log.new.items ≡ log.old.items ++ happening ∷ [] }
-    ensures hears { result ≡ true → Hears happening folder.old folder.new }
-{
-    let heard = folder.hear(alloc, &happening).is_ok();
-    push(told && heard, log, happening)
-}
-
-/// Whether the log is told still, after one happening more.
-fn push(told: bool, log: &mut Vec<Happening>, happening: Happening) -> bool
-    ensures told { result ≡ true → told ≡ true }
-    ensures pushed { result ≡ true → log.new.items ≡ log.old.items ++ happening ∷ [] }
-    ensures fits { vec_len log.new < 2 ^ 63 }
-{
-    let kept = log.push(happening).is_ok();
-    told && kept
-}
-
-fn push_dialled(
-    told: bool,
-    log: &mut Vec<Happening>,
-    alloc: Global,
-    id: u64,
-    host: &[u8],
-    port: u16,
-) -> bool
-    ensures told { result ≡ true → told ≡ true }
-    ensures pushed { result ≡ true → log.new.items ≡ log.old.items ++ Happening.Dialled id host.now port ∷ [] }
-{
-    match Octets::copy(alloc, host) {
-        Ok(copy) => push(told, log, Happening::Dialled(id, copy, port)),
-        Err(_) => false,
-    }
-}
-
-/// Whether the log is told still, after a connection more.
-fn place(told: bool, sides: &mut BTreeMap<u64, Side>, id: u64, side: Side) -> bool
-    ensures told { result ≡ true → told ≡ true }
-    ensures placed { result ≡ true → (q : ℕ) → side_at sides.new q ≡ (if id == q then Some side else side_at sides.old q) }
-{
-    let placed = sides.insert(id, side).is_ok();
-    told && placed
-}
-
-/// Whose the connection was, which is open no more.
-fn displace(sides: &mut BTreeMap<u64, Side>, id: u64) -> Option<Side>
-    ensures was { result ≡ side_at sides.old id }
-    ensures removed { (q : ℕ) → side_at sides.new q ≡ (if id == q then None else side_at sides.old q) }
-{
-    sides.remove(&id)
-}
-
-fn heard(side: Option<Side>, id: u64, bytes: Octets) -> Happening
-    ensures is { result ≡ by_side side (Happening.Heard id bytes) (Happening.Got id bytes) }
-    ensures keeps { KeepsConnections result }
-    ensures files { KeepsFiles result }
-{
-    match side {
-        Some(Side::Client) => Happening::Heard(id, bytes),
-        Some(Side::Origin) | None => Happening::Got(id, bytes),
-    }
-}
-
-fn ended(side: Option<Side>, id: u64) -> Happening
-    ensures is { result ≡ by_side side (Happening.HungUp id) (Happening.Ended id) }
-    ensures keeps { KeepsConnections result }
-    ensures files { KeepsFiles result }
-{
-    match side {
-        Some(Side::Client) => Happening::HungUp(id),
-        Some(Side::Origin) | None => Happening::Ended(id),
-    }
-}
-
-fn said(side: Option<Side>, id: u64, offered: u64, bytes: Octets) -> Happening
-    ensures is { result ≡ by_side side (Happening.Said id offered bytes) (Happening.Asked id bytes) }
-    ensures keeps { KeepsConnections result }
-    ensures files { KeepsFiles result }
-{
-    match side {
-        Some(Side::Client) => Happening::Said(id, offered, bytes),
-        Some(Side::Origin) | None => Happening::Asked(id, bytes),
-    }
-}
-
-fn lost(side: Option<Side>, id: u64) -> Happening
-    ensures is { result ≡ by_side side (Happening.HungUp id) (Happening.Broke id) }
-    ensures keeps { KeepsConnections result }
-    ensures files { KeepsFiles result }
-{
-    match side {
-        Some(Side::Client) => Happening::HungUp(id),
-        Some(Side::Origin) | None => Happening::Broke(id),
-    }
-}
-
-fn remark(alloc: Global, note: &Note<'_>) -> Result<Remark, OutOfMemory>
-    ensures { IfOk result (λ r. r ≡ remark_of note.now) }
-{
-    match *note {
-        Note::Taken(client, request, decision) => Ok(Remark::Taken(client, request, decision)),
-        Note::Cut(client, cause) => Ok(Remark::Cut(client, cause)),
-        Note::Kept(key, tag, len, extent) => Ok(Remark::Kept(
-            Octets::copy(alloc, key)?,
-            Octets::copy(alloc, tag)?,
-            len,
-            extent,
-        )),
-        Note::Gone(key) => Ok(Remark::Gone(Octets::copy(alloc, key)?)),
-        Note::Forgotten(key) => Ok(Remark::Forgotten(Octets::copy(alloc, key)?)),
-        Note::Evicted(key, tag, len, chunk) => Ok(Remark::Evicted(
-            Octets::copy(alloc, key)?,
-            Octets::copy(alloc, tag)?,
-            len,
-            chunk,
-        )),
-        Note::Loaded(key, tag, len, chunk) => Ok(Remark::Loaded(
-            Octets::copy(alloc, key)?,
-            Octets::copy(alloc, tag)?,
-            len,
-            chunk,
-        )),
-    }
-}
-
-fn closed(side: Option<Side>, id: u64) -> Happening
-    ensures { result ≡ by_side side (Happening.Shut id) (Happening.Dropped id) }
-{
-    match side {
-        Some(Side::Client) => Happening::Shut(id),
-        Some(Side::Origin) | None => Happening::Dropped(id),
     }
 }

@@ -1,5 +1,5 @@
 // The other ends of all connections, and what the cues bring to them.
-ghost use Rattle.std.specs.Prelude.{◌≡◌, ◌<◌, ◌≤◌, true, length, IfSome};
+ghost use Rattle.std.specs.Prelude.{◌≡◌, ◌<◌, ◌≤◌, true, false, [], length, take, IfSome, IsSome, OnOk, None};
 ghost use Rattle.pp_world.specs.Wire.{IsWithin, has_number};
 
 use crate::Page;
@@ -42,21 +42,24 @@ pub(crate) struct Traffic {
     peers: BTreeMap<u64, Peer>,
     /// The clients that connected and wait to be accepted.
     waiting: Vec<Peer>,
-    /// The number of the client that was accepted last; 0 before.
-    last_client: u64,
+    /// The number of the client that was accepted last.
+    last_client: Option<u64>,
     /// What was not reported yet, in the order in which it came.
     news: Vec<News>,
 }
 
 impl Traffic {
-    ghost use Rattle.pp_memworld.specs.Traffic.{is_broken_at};
+    ghost use Rattle.pp_memworld.specs.Peer.{IsFresh, IsReadBy, IsWrittenBy, count_of, found, taken, unread};
+    ghost use Rattle.pp_memworld.specs.Traffic.{NoneLeaves, OthersStay, is_broken_at, peer_at};
 
-    pub(crate) fn new(alloc: Global) -> Traffic {
+    pub(crate) fn new(alloc: Global) -> Traffic
+        ensures { result.peers.entries ≡ [] }
+    {
         Traffic {
             alloc,
             peers: BTreeMap::new(alloc),
             waiting: Vec::new(alloc),
-            last_client: 0,
+            last_client: None,
             news: Vec::new(alloc),
         }
     }
@@ -71,7 +74,9 @@ impl Traffic {
     }
 
     /// The first was reported.
-    pub(crate) fn forget_news(&mut self) {
+    pub(crate) fn forget_news(&mut self)
+        ensures { self.new.peers ≡ self.old.peers }
+    {
         if !self.news.is_empty() {
             self.news.remove(0);
         }
@@ -109,20 +114,27 @@ impl Traffic {
     }
 
     /// A client connects, and waits to be accepted.
-    pub(crate) fn connect(&mut self) -> Result<(), OutOfMemory> {
+    pub(crate) fn connect(&mut self) -> Result<(), OutOfMemory>
+        ensures { self.new.peers ≡ self.old.peers }
+    {
         match self.waiting.push(Peer::new(self.alloc, None)) {
             Ok(()) => Ok(()),
             Err(_) => Err(OutOfMemory),
         }
     }
 
-    /// The first that waits has this number from now on.
-    pub(crate) fn accept(&mut self, id: u64) -> Result<(), OutOfMemory> {
-        if self.waiting.is_empty() {
-            return Ok(());
-        }
-        let peer = self.waiting.remove(0);
-        self.last_client = id;
+    /// The first that waits has this number from now on; where none waits, one connects now.
+    pub(crate) fn accept(&mut self, id: u64) -> Result<(), OutOfMemory>
+        ensures accepted { OnOk result (IsSome (peer_at self.new.peers id)) }
+        ensures others { OthersStay id self.old.peers self.new.peers }
+        ensures none_leaves { NoneLeaves self.old.peers self.new.peers }
+    {
+        let peer = if self.waiting.is_empty() {
+            Peer::new(self.alloc, None)
+        } else {
+            self.waiting.remove(0)
+        };
+        self.last_client = Some(id);
         match self.peers.insert(id, peer) {
             Ok(_) => Ok(()),
             Err(_) => Err(OutOfMemory),
@@ -130,7 +142,11 @@ impl Traffic {
     }
 
     /// An origin was dialled, and has this number; the origin of a page is reached at once.
-    pub(crate) fn dial(&mut self, id: u64, page: Option<usize>) -> Result<(), OutOfMemory> {
+    pub(crate) fn dial(&mut self, id: u64, page: Option<usize>) -> Result<(), OutOfMemory>
+        ensures fresh { OnOk result (IsFresh (peer_at self.new.peers id)) }
+        ensures broken { OnOk result (is_broken_at self.new.peers id ≡ false) }
+        ensures others { OthersStay id self.old.peers self.new.peers }
+    {
         if page.is_some() {
             self.report(News::Reached(id))?;
         }
@@ -141,14 +157,19 @@ impl Traffic {
     }
 
     /// Something is to be reported of a dialled connection.
-    pub(crate) fn report(&mut self, news: News) -> Result<(), OutOfMemory> {
+    pub(crate) fn report(&mut self, news: News) -> Result<(), OutOfMemory>
+        ensures { self.new.peers ≡ self.old.peers }
+    {
         match self.news.push(news) {
             Ok(()) => Ok(()),
             Err(_) => Err(OutOfMemory),
         }
     }
 
-    pub(crate) fn close(&mut self, id: u64) {
+    pub(crate) fn close(&mut self, id: u64)
+        ensures gone { peer_at self.new.peers id ≡ None }
+        ensures others { OthersStay id self.old.peers self.new.peers }
+    {
         self.peers.remove(&id);
         self.news.retain(|news| news.id() != id);
     }
@@ -159,14 +180,16 @@ impl Traffic {
             return Some(id);
         }
         if self.waiting.is_empty() {
-            Some(self.last_client)
+            self.last_client
         } else {
             None
         }
     }
 
     /// A cue changes the other end of a connection.
-    pub(crate) fn apply(&mut self, id: u64, change: &Change<'_>) -> Result<(), OutOfMemory> {
+    pub(crate) fn apply(&mut self, id: u64, change: &Change<'_>) -> Result<(), OutOfMemory>
+        ensures { NoneLeaves self.old.peers self.new.peers }
+    {
         match self.number_of(id) {
             Some(number) => match self.peers.get_mut(&number) {
                 Some(peer) => peer.apply(change),
@@ -182,7 +205,12 @@ impl Traffic {
     /// Reads what this connection has, into the front of the buffer.
     pub(crate) fn take(&mut self, id: u64, buf: &mut [u8]) -> Got
         requires { 0 < length buf.old }
-        ensures { IsWithin (length buf.new) result }
+        ensures found { result ≡ found (length buf.old) (peer_at self.old.peers id) }
+        ensures within { IsWithin (length buf.new) result }
+        ensures front { take (count_of result) buf.new ≡ take (count_of result) (unread (peer_at self.old.peers id)) }
+        ensures read { IsReadBy (count_of result) (peer_at self.old.peers id) (peer_at self.new.peers id) }
+        ensures broken { is_broken_at self.new.peers id ≡ is_broken_at self.old.peers id }
+        ensures others { OthersStay id self.old.peers self.new.peers }
     {
         match self.peers.get_mut(&id) {
             Some(peer) => peer.take(buf),
@@ -192,7 +220,12 @@ impl Traffic {
 
     /// How many of so many bytes this connection takes.
     pub(crate) fn offer(&mut self, id: u64, offered: usize) -> usize
-        ensures { result ≤ offered }
+        ensures taken { result ≡ taken offered (peer_at self.old.peers id) }
+        ensures within { result ≤ offered }
+        ensures written { IsWrittenBy result (peer_at self.old.peers id) (peer_at self.new.peers id) }
+        ensures unread { unread (peer_at self.new.peers id) ≡ unread (peer_at self.old.peers id) }
+        ensures broken { is_broken_at self.new.peers id ≡ is_broken_at self.old.peers id }
+        ensures others { OthersStay id self.old.peers self.new.peers }
     {
         match self.peers.get_mut(&id) {
             Some(peer) => peer.accept(offered),
@@ -201,12 +234,11 @@ impl Traffic {
     }
 
     /// An origin of the site answers what it was asked.
-    pub(crate) fn answer(
-        &mut self,
-        id: u64,
-        site: &[Page],
-        bytes: &[u8],
-    ) -> Result<(), OutOfMemory> {
+    pub(crate) fn answer(&mut self, id: u64, site: &[Page], bytes: &[u8]) -> Result<(), OutOfMemory>
+        ensures answered { IsWrittenBy 0 (peer_at self.old.peers id) (peer_at self.new.peers id) }
+        ensures broken { is_broken_at self.new.peers id ≡ is_broken_at self.old.peers id }
+        ensures others { OthersStay id self.old.peers self.new.peers }
+    {
         match self.peers.get_mut(&id) {
             Some(peer) => peer.answer(self.alloc, site, bytes),
             None => Ok(()),
@@ -214,7 +246,11 @@ impl Traffic {
     }
 
     /// The fault of this connection was found.
-    pub(crate) fn mend(&mut self, id: u64) {
+    pub(crate) fn mend(&mut self, id: u64)
+        ensures stays { IsReadBy 0 (peer_at self.old.peers id) (peer_at self.new.peers id) }
+        ensures mended { is_broken_at self.new.peers id ≡ false }
+        ensures others { OthersStay id self.old.peers self.new.peers }
+    {
         if let Some(peer) = self.peers.get_mut(&id) {
             peer.mend();
         }
