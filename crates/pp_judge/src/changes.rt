@@ -74,20 +74,61 @@ pub(crate) fn unnoticed(
     Ok(places)
 }
 
-/// The places of a change that go unnoticed, as a body tells them by `unnoticed deleted 3 7`.
-pub(crate) fn told_unnoticed(
-    alloc: Global,
-    change: Change,
-    body: &[Line<'_>],
-) -> Result<Vec<usize>, Refusal> {
-    let mut places = Vec::new(alloc);
-    for line in body {
+/// The body of a block `changes`: its happenings, and of each change the places that go unnoticed.
+#[derive(Drop)]
+pub(crate) struct Body<'a> {
+    pub(crate) lines: Vec<Line<'a>>,
+    deleted: Vec<usize>,
+    doubled: Vec<usize>,
+    swapped: Vec<usize>,
+}
+
+impl<'a> Body<'a> {
+    /// The body that these lines are.
+    pub(crate) fn read(alloc: Global, lines: &[Line<'a>]) -> Result<Body<'a>, Refusal> {
+        let mut body = Body {
+            lines: Vec::new(alloc),
+            deleted: Vec::new(alloc),
+            doubled: Vec::new(alloc),
+            swapped: Vec::new(alloc),
+        };
+        for line in lines {
+            body.put(line).map_err(|flaw| flaw.at(line.number))?;
+        }
+        Ok(body)
+    }
+
+    /// `unnoticed deleted 3 7`, or a happening.
+    fn put(&mut self, line: &Line<'a>) -> Result<(), Flaw> {
         let mut words = line.words();
-        if words.takes(b"unnoticed") && words.takes(change.word().as_bytes()) {
-            put_places(&mut words, &mut places).map_err(|flaw| flaw.at(line.number))?;
+        if !words.takes(b"unnoticed") {
+            return Ok(self.lines.push(*line).map_err(AllocError::from)?);
+        }
+        match change_in(&mut words)? {
+            Change::Deleted => put_places(&mut words, &mut self.deleted),
+            Change::Doubled => put_places(&mut words, &mut self.doubled),
+            Change::Swapped => put_places(&mut words, &mut self.swapped),
         }
     }
-    Ok(places)
+
+    /// The places that go unnoticed, as they are written.
+    pub(crate) fn unnoticed(&self, change: Change) -> &[usize] {
+        match change {
+            Change::Deleted => self.deleted.as_slice(),
+            Change::Doubled => self.doubled.as_slice(),
+            Change::Swapped => self.swapped.as_slice(),
+        }
+    }
+}
+
+/// The change that is written here.
+fn change_in(words: &mut Words<'_>) -> Result<Change, Flaw> {
+    for change in CHANGES {
+        if words.takes(change.word().as_bytes()) {
+            return Ok(change);
+        }
+    }
+    Err(Flaw::UnknownChange)
 }
 
 fn put_places(words: &mut Words<'_>, places: &mut Vec<usize>) -> Result<(), Flaw> {
@@ -99,18 +140,4 @@ fn put_places(words: &mut Words<'_>, places: &mut Vec<usize>) -> Result<(), Flaw
         places.push(place).map_err(AllocError::from)?;
     }
     words.end()
-}
-
-/// The lines of a body that tell no such places.
-pub(crate) fn happening_lines<'a>(
-    alloc: Global,
-    body: &[Line<'a>],
-) -> Result<Vec<Line<'a>>, AllocError> {
-    let mut lines = Vec::new(alloc);
-    for line in body {
-        if !line.words().takes(b"unnoticed") {
-            lines.push(*line).map_err(AllocError::from)?;
-        }
-    }
-    Ok(lines)
 }

@@ -8,17 +8,25 @@ pub(crate) enum Flaw {
     /// A line that is set in has no block above it.
     NoBlock,
     UnknownBlock,
+    UnknownLife,
+    NoLife,
     UnknownHappening,
     UnknownOperation,
     UnknownDecision,
     UnknownCause,
     UnknownRule,
+    /// What stands behind `unnoticed`.
+    UnknownChange,
     /// No text, or no part, has this name.
     UnknownName,
-    /// A text, or a part, has this name already.
+    /// A text, a part, or a file of this folder, has this name already.
     KnownName,
     NoName,
+    /// A name that reads as a number could never be used.
+    NumberAsName,
     NoNumber,
+    /// A span ends before it begins.
+    BackwardSpan,
     NoText,
     /// A file's name has 32 bytes.
     NoFileName,
@@ -36,8 +44,10 @@ pub(crate) enum Flaw {
     /// A verdict stands behind no happening.
     NothingJudged,
     SecondVerdict,
+    /// What follows the first happening that may not be is not judged.
+    BehindVerdict,
     /// The verdict is that of a row.
-    VerdictInPart,
+    VerdictHere,
     /// A text, and a front, are one line.
     NothingSetIn,
     OutOfMemory,
@@ -49,15 +59,20 @@ impl Flaw {
         match self {
             Flaw::NoBlock => "no block is above this line",
             Flaw::UnknownBlock => "no block begins like this",
+            Flaw::NoLife => "a log has one life at least",
+            Flaw::UnknownLife => "no life is written like this",
             Flaw::UnknownHappening => "no happening is written like this",
             Flaw::UnknownOperation => "no operation on the disk is written like this",
             Flaw::UnknownDecision => "no decision is written like this",
             Flaw::UnknownCause => "no cause is written like this",
             Flaw::UnknownRule => "no rule is written like this",
+            Flaw::UnknownChange => "no change is written like this",
             Flaw::UnknownName => "this name is not known",
             Flaw::KnownName => "this name is known already",
             Flaw::NoName => "a name is missing",
+            Flaw::NumberAsName => "a number is no name",
             Flaw::NoNumber => "a number is missing",
+            Flaw::BackwardSpan => "a span ends before it begins",
             Flaw::NoText => "a text is missing",
             Flaw::NoFileName => "the name of a file has 32 bytes",
             Flaw::BadEscape => "no byte is written like this",
@@ -68,7 +83,8 @@ impl Flaw {
             Flaw::NoStretch => "no stretch ends here",
             Flaw::NothingJudged => "the verdict stands behind no happening",
             Flaw::SecondVerdict => "this is the second verdict",
-            Flaw::VerdictInPart => "a part has no verdict",
+            Flaw::BehindVerdict => "nothing is judged behind a verdict",
+            Flaw::VerdictHere => "no verdict stands in such a block",
             Flaw::NothingSetIn => "nothing is set in below such a block",
             Flaw::OutOfMemory => "there is no memory",
         }
@@ -76,7 +92,10 @@ impl Flaw {
 
     /// The same, of that line.
     pub(crate) fn at(self, line: usize) -> Refusal {
-        Refusal { line, flaw: self }
+        Refusal {
+            line: Some(line),
+            flaw: self,
+        }
     }
 }
 
@@ -92,21 +111,27 @@ impl From<AllocError> for Flaw {
     }
 }
 
-/// A line that cannot be read, by its number from 1. What has no line of its own has the number 0.
+/// Why a file cannot be read, and the line where that shows, from 1.
 #[derive(Clone, Copy, Debug, PartialEq, Eq)]
 pub(crate) struct Refusal {
-    pub(crate) line: usize,
+    pub(crate) line: Option<usize>,
     pub(crate) flaw: Flaw,
 }
 
 impl From<OutOfMemory> for Refusal {
     fn from(_: OutOfMemory) -> Refusal {
-        Flaw::OutOfMemory.at(0)
+        Refusal {
+            line: None,
+            flaw: Flaw::OutOfMemory,
+        }
     }
 }
 
 impl From<AllocError> for Refusal {
     fn from(_: AllocError) -> Refusal {
-        Flaw::OutOfMemory.at(0)
+        Refusal {
+            line: None,
+            flaw: Flaw::OutOfMemory,
+        }
     }
 }

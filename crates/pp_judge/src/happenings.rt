@@ -2,7 +2,7 @@
 use crate::flaw::Flaw;
 use crate::notes::remark;
 use crate::texts::Texts;
-use crate::words::{Word, Words};
+use crate::words::{First, Word, Words};
 use arrayvec::ArrayVec;
 use pp_world::{DiskOp, Happening, Image, Wants};
 
@@ -109,6 +109,9 @@ fn image(texts: &Texts<'_>, words: &mut Words<'_>) -> Result<Image, Flaw> {
             break;
         }
         let name = texts.file_name(words)?;
+        if image.get(&name).is_some() {
+            return Err(Flaw::KnownName);
+        }
         if !words.takes(b"of") {
             return Err(Flaw::NoText);
         }
@@ -138,10 +141,10 @@ fn wants(words: &mut Words<'_>) -> Result<Wants, Flaw> {
 /// Adds numbers and spans of them, up to the next word that is none.
 fn put_spans(words: &mut Words<'_>, numbers: &mut ArrayVec<u64, 320>) -> Result<(), Flaw> {
     for _ in 0..words.most_left() {
-        let Some(span) = words.span_if_any() else {
+        let Some(span) = words.span_if_any(First::TheLast)? else {
             break;
         };
-        for number in span.first.unwrap_or(span.last)..=span.last {
+        for number in span.first..=span.last {
             numbers.try_push(number).map_err(|_| Flaw::TooMany)?;
         }
     }

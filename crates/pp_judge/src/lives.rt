@@ -16,7 +16,7 @@ pub(crate) fn plain_life(alloc: Global) -> Term {
 /// `life`, behind `faults` how often the outside fails, and behind `words` the words.
 pub(crate) fn life(texts: &Texts<'_>, words: &mut Words<'_>) -> Result<Term, Flaw> {
     if !words.takes(b"life") {
-        return Err(Flaw::UnknownBlock);
+        return Err(Flaw::UnknownLife);
     }
     let mut life = plain_life(texts.alloc());
     if words.takes(b"faults") {

@@ -41,6 +41,8 @@ impl Log {
     fn put(&mut self, texts: &Texts<'_>, words: &mut Words<'_>) -> Result<(), Flaw> {
         if words.takes(b"!") {
             self.judge(words)?;
+        } else if self.verdict.is_some() {
+            return Err(Flaw::BehindVerdict);
         } else {
             let happening = happening(texts, words)?;
             self.happenings.push(happening).map_err(AllocError::from)?;

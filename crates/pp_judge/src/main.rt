@@ -40,6 +40,8 @@ mod scene; // what the blocks define, and the logs that are judged there
 mod texts; // texts: their names, and how they are written
 mod verdicts; // how a rule is written, and what the law says of a log
 mod words; // the words of a line
+#[cfg(test)]
+mod tests; // what cannot be read
 
 use crate::scene::Scene;
 use std::process::ExitCode;
@@ -85,9 +87,11 @@ fn judge_all(rt: &HostRuntime, files: &[File]) -> io::Result<ExitCode> {
             }
             Err(refusal) => {
                 let name = file.name.as_str();
-                let line = refusal.line;
                 let words = refusal.flaw.words();
-                eprintln!(rt; "{name}:{line}: {words}")?;
+                match refusal.line {
+                    Some(line) => eprintln!(rt; "{name}:{line}: {words}")?,
+                    None => eprintln!(rt; "{name}: {words}")?,
+                }
                 return Ok(ExitCode::from(1));
             }
         }

@@ -1,7 +1,7 @@
 // Parts: lines with a name, and the lines of a body written out.
 use crate::blocks::Line;
 use crate::flaw::{Flaw, Refusal};
-use crate::words::Words;
+use crate::words::{First, Span, Words};
 use std::alloc::{AllocError, Global};
 
 /// A stretch comes no more often than this.
@@ -113,8 +113,7 @@ struct Stretch {
     from: usize,
     /// So many lines stand before it.
     place: usize,
-    first: u64,
-    last: u64,
+    span: Span,
 }
 
 /// `repeat 9` counts from 1, `repeat 3..9` from 3.
@@ -127,19 +126,12 @@ fn begin(
     if open.is_some() {
         return Err(Flaw::StretchOpen);
     }
-    let span = words.span_if_any().ok_or(Flaw::NoNumber)?;
+    let span = words.span_if_any(First::One)?.ok_or(Flaw::NoNumber)?;
     words.end()?;
-    let first = span.first.unwrap_or(1);
-    let last = span.last;
-    if last.saturating_sub(first) > MOST_TIMES {
+    if span.last.saturating_sub(span.first) > MOST_TIMES {
         return Err(Flaw::TooMany);
     }
-    Ok(Some(Stretch {
-        from,
-        place,
-        first,
-        last,
-    }))
+    Ok(Some(Stretch { from, place, span }))
 }
 
 /// Puts in place of the lines of a stretch those of each time that it comes.
@@ -148,7 +140,7 @@ fn repeat(alloc: Global, stretch: Stretch, lines: &mut Vec<Line<'_>>) -> Result<
     let (_, behind) = lines.as_slice().split_at(place);
     let once = Vec::from_slice(alloc, behind)?;
     lines.truncate(place);
-    for number in stretch.first..=stretch.last {
+    for number in stretch.span.first..=stretch.span.last {
         for line in once.as_slice() {
             let count = line.count.or(Some(number));
             let line = Line { count, ..*line };

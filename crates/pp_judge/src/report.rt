@@ -43,7 +43,7 @@ impl<'a> Report<'a> {
         written: Option<Fault>,
         found: Option<Fault>,
     ) -> Result<(), AllocError> {
-        if is_same(written, found) {
+        if written == found {
             return Ok(());
         }
         let written = told(self.alloc, written)?;
@@ -96,9 +96,4 @@ impl<'a> Report<'a> {
             format!(in self.alloc; "{lines}{file}: {logs} logs, {unlike} verdicts are others\n")
         }
     }
-}
-
-/// Whether both are nothing, or the same place and rule.
-fn is_same(written: Option<Fault>, found: Option<Fault>) -> bool {
-    written == found
 }

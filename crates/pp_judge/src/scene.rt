@@ -1,6 +1,6 @@
 // What the blocks of transcripts define, and the logs that are judged there.
 use crate::blocks::{Block, Line, blocks_of};
-use crate::changes::{CHANGES, happening_lines, told_unnoticed, unnoticed};
+use crate::changes::{Body, CHANGES, unnoticed};
 use crate::flaw::{Flaw, Refusal};
 use crate::front::Front;
 use crate::lives::life;
@@ -71,11 +71,9 @@ impl<'a> Scene<'a> {
         let at = block.head.number;
         let name = name_alone(&block.head).map_err(|flaw| flaw.at(at))?;
         let lines = self.parts.written_out(block.body.as_slice())?;
+        has_no_verdict(lines.as_slice())?;
         let mut log = Log::new(self.alloc, 0);
         log.read(&self.texts, lines.as_slice())?;
-        if log.verdict.is_some() {
-            return Err(Flaw::VerdictInPart.at(at));
-        }
         self.parts.define(name, lines).map_err(|flaw| flaw.at(at))
     }
 
@@ -87,6 +85,9 @@ impl<'a> Scene<'a> {
         for line in block.body.as_slice() {
             let life = life(&self.texts, &mut line.words()).map_err(|flaw| flaw.at(line.number))?;
             lives.push(life).map_err(AllocError::from)?;
+        }
+        if lives.is_empty() {
+            return Err(Flaw::NoLife.at(at));
         }
         self.front.set_lives(lives)?;
         Ok(())
@@ -115,26 +116,38 @@ impl<'a> Scene<'a> {
         Ok(())
     }
 
-    /// `changes TITLE`, and what happens behind the front, with the places that go unnoticed.
+    /// `changes TITLE`, and what happens behind the front, which is lawful, with the places that go unnoticed.
     fn judge_changes(&self, block: &Block<'a>, report: &mut Report<'a>) -> Result<(), Refusal> {
-        let body = block.body.as_slice();
-        let lines = self
-            .parts
-            .written_out(happening_lines(self.alloc, body)?.as_slice())?;
+        let body = Body::read(self.alloc, block.body.as_slice())?;
+        let lines = self.parts.written_out(body.lines.as_slice())?;
+        has_no_verdict(lines.as_slice())?;
+        let mut log = Log::new(self.alloc, self.front.len());
+        log.read(&self.texts, lines.as_slice())?;
+        let found = self.front.first_fault(&log)?;
         report.count();
+        report.verdict(block.head.number, block.head.text, None, found)?;
         for change in CHANGES {
-            let written = told_unnoticed(self.alloc, change, body)?;
             let found = unnoticed(&self.texts, &self.front, change, lines.as_slice())?;
             report.places(
                 block.head.number,
                 block.head.text,
                 change,
-                written.as_slice(),
+                body.unnoticed(change),
                 found.as_slice(),
             )?;
         }
         Ok(())
     }
+}
+
+/// That no verdict stands in these lines: it is that of a row.
+fn has_no_verdict(lines: &[Line<'_>]) -> Result<(), Refusal> {
+    for line in lines {
+        if line.words().takes(b"!") {
+            return Err(Flaw::VerdictHere.at(line.number));
+        }
+    }
+    Ok(())
 }
 
 /// The name that a line is.

@@ -4,51 +4,70 @@ use crate::words::Words;
 use pp_oracle::{Fault, Rule};
 use std::alloc::{AllocError, Global};
 
-/// Each rule, as it is written.
-const RULES: [(&str, Rule); 23] = [
-    ("image-not-left", Rule::ImageNotLeft),
-    ("opening-out-of-order", Rule::OpeningOutOfOrder),
-    ("event-out-of-turn", Rule::EventOutOfTurn),
-    ("read-not-asked-for", Rule::ReadNotAskedFor),
-    ("failure-made-up", Rule::FailureMadeUp),
-    ("wrong-reply", Rule::WrongReply),
-    ("wrong-ask", Rule::WrongAsk),
-    ("wrong-decision", Rule::WrongDecision),
-    ("wrong-cut", Rule::WrongCut),
-    ("not-to-be-closed", Rule::NotToBeClosed),
-    ("not-to-be-dialled", Rule::NotToBeDialled),
-    ("not-to-be-evicted", Rule::NotToBeEvicted),
-    ("not-to-be-forgotten", Rule::NotToBeForgotten),
-    ("not-to-be-loaded", Rule::NotToBeLoaded),
-    ("not-sealed", Rule::NotSealed),
-    ("not-gone", Rule::NotGone),
-    ("wrong-disk-operation", Rule::WrongDiskOperation),
-    ("step-unfinished", Rule::StepUnfinished),
-    ("accepts-wrongly", Rule::AcceptsWrongly),
-    ("client-forgotten", Rule::ClientForgotten),
-    ("connection-forgotten", Rule::ConnectionForgotten),
-    ("exchange-forgotten", Rule::ExchangeForgotten),
-    ("wants-too-much", Rule::WantsTooMuch),
+/// Each rule.
+const RULES: [Rule; 23] = [
+    Rule::ImageNotLeft,
+    Rule::OpeningOutOfOrder,
+    Rule::EventOutOfTurn,
+    Rule::ReadNotAskedFor,
+    Rule::FailureMadeUp,
+    Rule::WrongReply,
+    Rule::WrongAsk,
+    Rule::WrongDecision,
+    Rule::WrongCut,
+    Rule::NotToBeClosed,
+    Rule::NotToBeDialled,
+    Rule::NotToBeEvicted,
+    Rule::NotToBeForgotten,
+    Rule::NotToBeLoaded,
+    Rule::NotSealed,
+    Rule::NotGone,
+    Rule::WrongDiskOperation,
+    Rule::StepUnfinished,
+    Rule::AcceptsWrongly,
+    Rule::ClientForgotten,
+    Rule::ConnectionForgotten,
+    Rule::ExchangeForgotten,
+    Rule::WantsTooMuch,
 ];
+
+/// How a rule is written.
+fn spelling_of(rule: Rule) -> &'static str {
+    match rule {
+        Rule::ImageNotLeft => "image-not-left",
+        Rule::OpeningOutOfOrder => "opening-out-of-order",
+        Rule::EventOutOfTurn => "event-out-of-turn",
+        Rule::ReadNotAskedFor => "read-not-asked-for",
+        Rule::FailureMadeUp => "failure-made-up",
+        Rule::WrongReply => "wrong-reply",
+        Rule::WrongAsk => "wrong-ask",
+        Rule::WrongDecision => "wrong-decision",
+        Rule::WrongCut => "wrong-cut",
+        Rule::NotToBeClosed => "not-to-be-closed",
+        Rule::NotToBeDialled => "not-to-be-dialled",
+        Rule::NotToBeEvicted => "not-to-be-evicted",
+        Rule::NotToBeForgotten => "not-to-be-forgotten",
+        Rule::NotToBeLoaded => "not-to-be-loaded",
+        Rule::NotSealed => "not-sealed",
+        Rule::NotGone => "not-gone",
+        Rule::WrongDiskOperation => "wrong-disk-operation",
+        Rule::StepUnfinished => "step-unfinished",
+        Rule::AcceptsWrongly => "accepts-wrongly",
+        Rule::ClientForgotten => "client-forgotten",
+        Rule::ConnectionForgotten => "connection-forgotten",
+        Rule::ExchangeForgotten => "exchange-forgotten",
+        Rule::WantsTooMuch => "wants-too-much",
+    }
+}
 
 /// The rule that is written here.
 pub(crate) fn rule(words: &mut Words<'_>) -> Result<Rule, Flaw> {
-    for (spelling, rule) in RULES {
-        if words.takes(spelling.as_bytes()) {
+    for rule in RULES {
+        if words.takes(spelling_of(rule).as_bytes()) {
             return Ok(rule);
         }
     }
     Err(Flaw::UnknownRule)
-}
-
-/// How a rule is written.
-fn spelling_of(rule: Rule) -> &'static str {
-    for (spelling, other) in RULES {
-        if rule == other {
-            return spelling;
-        }
-    }
-    "no-rule"
 }
 
 /// A verdict as a line tells it: nothing is wrong, or the place, the rule and its words.

@@ -74,6 +74,7 @@ impl<'a> Words<'a> {
     /// A name of a text or a part.
     pub(crate) fn name(&mut self) -> Result<&'a [u8], Flaw> {
         match self.next() {
+            Some(Word::Bare(name)) if read_u64(name).is_some() => Err(Flaw::NumberAsName),
             Some(Word::Bare(name)) => Ok(name),
             _ => Err(Flaw::NoName),
         }
@@ -98,32 +99,48 @@ impl<'a> Words<'a> {
         u16::try_from(self.number()?).map_err(|_| Flaw::TooMany)
     }
 
-    /// `7`, or `3..7`; it is then read.
-    pub(crate) fn span_if_any(&mut self) -> Option<Span> {
+    /// The span that comes next, if one does: `3..7`, or `7`, which is that from the number that counts
+    /// as the first to 7. It is then read.
+    pub(crate) fn span_if_any(&mut self, first: First) -> Result<Option<Span>, Flaw> {
         let Some((Word::Bare(word), behind)) = self.split() else {
-            return None;
+            return Ok(None);
         };
-        let span = span_in(word, self.count)?;
+        let Some(span) = span_in(word, self.count, first) else {
+            return Ok(None);
+        };
+        if span.last < span.first {
+            return Err(Flaw::BackwardSpan);
+        }
         self.rest = behind;
-        Some(span)
+        Ok(Some(span))
     }
 }
 
-/// Numbers from the first to the last; where the last alone is written, there is no first.
+/// Numbers from the first to the last.
 #[derive(Clone, Copy, Debug, PartialEq, Eq)]
 pub(crate) struct Span {
-    pub(crate) first: Option<u64>,
+    pub(crate) first: u64,
     pub(crate) last: u64,
 }
 
-fn span_in(word: &[u8], count: Option<u64>) -> Option<Span> {
+/// With which number a span begins of which the last alone is written.
+#[derive(Clone, Copy, Debug, PartialEq, Eq)]
+pub(crate) enum First {
+    One,
+    TheLast,
+}
+
+fn span_in(word: &[u8], count: Option<u64>, alone: First) -> Option<Span> {
     let Some(at) = word.iter().position(|byte| *byte == b'.') else {
         let last = number_in(word, count)?;
-        return Some(Span { first: None, last });
+        let first = match alone {
+            First::One => 1,
+            First::TheLast => last,
+        };
+        return Some(Span { first, last });
     };
     let first = number_in(word.get(..at)?, count)?;
     let last = number_in(word.get(at..)?.strip_prefix(b"..")?, count)?;
-    let first = Some(first);
     Some(Span { first, last })
 }
 
