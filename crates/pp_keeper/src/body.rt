@@ -2,6 +2,15 @@
 use arrayvec::ArrayVec;
 use itoa::Buffer;
 
+/// The bytes of a chunk of a body.
+pub(crate) const CHUNK_LEN: u64 = 4096;
+
+/// The bytes of the longest body that is kept.
+pub(crate) const BODY_LEN: u64 = 67_108_864;
+
+/// Its chunks.
+pub(crate) const BODY_CHUNKS: u32 = 16_384;
+
 /// The bytes of the body with this number repeat after so many.
 const CYCLE: u64 = 251;
 

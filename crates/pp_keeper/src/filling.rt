@@ -4,7 +4,7 @@ ghost use Rattle.pp_world.specs.Log.{Told};
 ghost use Rattle.pp_store.specs.Held.{Holds};
 ghost use Rattle.pp_keeper.specs.Anything.{anything};
 
-use crate::body::{key_of, put_body};
+use crate::body::{BODY_LEN, CHUNK_LEN, key_of, put_body};
 use crate::stop::Stop;
 use pp_fresh::Times;
 use pp_head::{HeadState, Scratch, read_response};
@@ -14,17 +14,11 @@ use pp_valid::{TagState, Version, tag_of};
 use pp_world::Disk;
 use std::alloc::Global;
 
-/// The bytes of a chunk of a body.
-const CHUNK_LEN: u64 = 4096;
-
 /// The chunks that are sealed at once at most.
-const RUN_CHUNKS: u64 = 64;
+pub(crate) const RUN_CHUNKS: u64 = 64;
 
 /// The bytes of so many chunks.
 pub(crate) const RUN_LEN: usize = 262_144;
-
-/// The bytes of the longest body that is kept.
-const BODY_LEN: u64 = 67_108_864;
 
 /// The response that each entry keeps.
 const RESPONSE: &[u8] = b"HTTP/1.1 200 OK\r\netag: \"x\"\r\n\r\n";

@@ -4,13 +4,10 @@ ghost use Rattle.pp_world.specs.Log.{Told};
 ghost use Rattle.pp_store.specs.Held.{Holds};
 ghost use Rattle.pp_keeper.specs.Anything.{anything};
 
-use crate::body::{is_body, key_of};
+use crate::body::{CHUNK_LEN, is_body, key_of};
 use crate::stop::Stop;
 use pp_store::Store;
 use pp_world::Disk;
-
-/// The bytes of a chunk of a body.
-const CHUNK_LEN: u64 = 4096;
 
 /// How many bytes are kept of the entry with this number. `None` where it is not kept.
 pub(crate) fn extent_of(store: &Store, number: u64) -> Option<u64> {

@@ -6,7 +6,8 @@
 //! `none NUMBER` of so many entries.
 //!
 //! It ends with 0 where all was done, with 2 where the words have no reading, with 3 where memory was refused,
-//! with 4 where the folder cannot be used, and with 5 where an entry was not kept or not read.
+//! with 4 where the folder cannot be used, with 5 where an entry was not kept or not read, and with 6 where the system
+//! gave no poller or nothing can be printed.
 #![tactic(auto)]
 
 mod body; // the bodies of the entries, and their keys
@@ -15,6 +16,7 @@ mod listing; // entries are looked at
 mod stop; // why the program ends early
 mod words; // what the words ask for
 
+use crate::body::BODY_CHUNKS;
 use crate::filling::{RUN_LEN, extend, keep};
 use crate::listing::{extent_of, is_right};
 use crate::stop::Stop;
@@ -25,9 +27,6 @@ use pp_store::Store;
 use pp_world::Disk;
 use std::process::ExitCode;
 use std::{env, io};
-
-/// The chunks of the longest body that is kept.
-const MOST_CHUNKS: u32 = 16_384;
 
 fn main(rt: HostRuntime) -> io::Result<ExitCode> {
     let mut words: Vec<String> = Vec::new(rt.alloc());
@@ -68,7 +67,7 @@ fn fill(
     let mut room = [0; RUN_LEN];
     for number in 0..filling.count {
         keep(rt.alloc(), store, world, number, filling.length)?;
-        for _run in 0..MOST_CHUNKS {
+        for _run in 0..BODY_CHUNKS {
             match extend(store, world, number, filling.chunks, &mut room)? {
                 Some(extent) => println!(rt; "kept {number} {extent}")?,
                 None => break,
@@ -102,7 +101,7 @@ fn list_one(
         return Ok(());
     };
     let mut room = [0; 4096];
-    for index in 0..MOST_CHUNKS {
+    for index in 0..BODY_CHUNKS {
         if !is_right(store, world, number, index, &mut room)? {
             println!(rt; "wrong {number} {index}")?;
             return Ok(());

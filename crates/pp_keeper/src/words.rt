@@ -1,14 +1,10 @@
 // What the words ask for.
+use crate::body::BODY_LEN;
+use crate::filling::RUN_CHUNKS;
 use pp_text::read_u64;
 
 /// The entries that a folder is filled with at most.
 const MOST_ENTRIES: u64 = 10_000;
-
-/// The bytes of the longest body that is kept.
-const MOST_BYTES: u64 = 67_108_864;
-
-/// The chunks that are sealed at once at most.
-const MOST_CHUNKS: u64 = 64;
 
 /// What is to be done with a folder.
 #[derive(Drop)]
@@ -55,11 +51,11 @@ pub(crate) fn task_of(words: &[String]) -> Option<Task<'_>> {
         (b"fill", 4 | 5) => Some(Task::Fill(Filling {
             folder,
             count,
-            length: number_in(words, 3, 1, MOST_BYTES)?,
+            length: number_in(words, 3, 1, BODY_LEN)?,
             chunks: if words.len() == 4 {
                 1
             } else {
-                number_in(words, 4, 1, MOST_CHUNKS)?
+                number_in(words, 4, 1, RUN_CHUNKS)?
             },
         })),
         _ => None,

@@ -42,16 +42,3 @@ fn a_crash_within_an_operation_leaves_what_it_was_to_do_or_not(
     }
     Ok(())
 }
-
-#[test]
-fn a_torn_gate_is_a_byte_that_vouches_for_nothing(rt: HostRuntime) -> Result<(), Fail> {
-    let life = life_with(rt.alloc(), &two_chunks())?;
-    let name = file_name(A);
-    let at = begin_of(life.log(), &name, Step::Write(8193, &[1])).ok_or("begun")?;
-    for (choice, gate) in [(0, 0), (1, 1), (71, 7), (2, 0xec)] {
-        let next = life.crash(rt.alloc(), at, choice)?;
-        let file = next.image().ok_or("files")?.get(&name).ok_or("a file")?;
-        assert_eq!(rt; file.as_slice().get(8193), Some(&gate), "{choice}");
-    }
-    Ok(())
-}

@@ -13,7 +13,7 @@
 #[cfg(test)]
 mod by_hand; // the calls of the gate by themselves
 #[cfg(test)]
-mod crashes; // a crash behind each happening
+mod crashes; // a crash within an operation
 #[cfg(test)]
 mod faults; // operations and reads that fail
 #[cfg(test)]

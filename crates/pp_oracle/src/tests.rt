@@ -1,15 +1,6 @@
 // Small worked states.
 use crate::requests::{Front, front_of, refusal_of};
-use crate::state::start;
 use std::test::Fail;
-
-#[test]
-fn a_state_is_copied(rt: HostRuntime) -> Result<(), Fail> {
-    let s = start(rt.alloc(), &[]).map_err(|_| "no memory")?;
-    let t = s.clone().map_err(|_| "no memory")?;
-    assert_eq!(rt; t.settings.port, 8123);
-    Ok(())
-}
 
 #[test]
 fn a_request_is_read_with_its_key(rt: HostRuntime) -> Result<(), Fail> {

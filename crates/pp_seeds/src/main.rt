@@ -7,21 +7,11 @@
 //! where memory was refused.
 #![tactic(auto)]
 
-use pp_memworld::MemWorld;
-use pp_sim::{Run, simulate};
+use pp_sim::{Proxy, simulate};
 use pp_text::{OutOfMemory, read_u64};
 use std::alloc::Global;
 use std::process::ExitCode;
 use std::{env, io};
-
-/// The proxy, as it is built.
-struct Proxy;
-
-impl Run for Proxy {
-    fn run(&self, alloc: Global, words: &[String], world: &mut MemWorld) {
-        let _ = pp_run::run(alloc, words, world);
-    }
-}
 
 /// The seeds that are tried.
 #[derive(Clone, Copy)]

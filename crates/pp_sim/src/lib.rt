@@ -2,7 +2,7 @@
 //!
 //! `simulate` makes lives of a seed: the words of each, a script of clients, origins and ticks, which calls fail, and where
 //! the life crashes. It runs a `Run` over them, in a world in memory, and judges the whole log by the law. `faults` does so
-//! for many seeds, and says of each that has a fault which happening is the first, in words.
+//! for many seeds, and says of each that has a fault which happening is the first, in words. `Proxy` is the program.
 //!
 //! To the crates above: a seed gives the same run always, as long as what is run does the same. Whatever implements `Run`
 //! is judged, and no more is known of it.
@@ -12,6 +12,7 @@
 
 mod dice; // numbers of a seed
 mod lives; // how a life is started, what happens outside, and where it ends
+mod proxy; // the proxy, as what is run
 mod scripts; // clients and origins that do anything
 mod simulation; // the lives of a seed, run and judged
 mod spelling; // a happening in words
@@ -19,4 +20,5 @@ mod spelling; // a happening in words
 mod tests;
 mod texts; // what clients ask, and origins answer
 
+pub use proxy::Proxy;
 pub use simulation::{Outcome, Run, faults, simulate};

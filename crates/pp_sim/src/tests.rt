@@ -3,20 +3,9 @@ mod doorkeeper; // programs that open, serve nobody, and stop
 
 use self::doorkeeper::Doorkeeper;
 use crate::dice::Dice;
-use crate::{Run, faults, simulate};
-use pp_memworld::MemWorld;
+use crate::{Proxy, faults, simulate};
 use pp_oracle::Rule;
-use std::alloc::Global;
 use std::test::Fail;
-
-/// The program.
-struct Program;
-
-impl Run for Program {
-    fn run(&self, alloc: Global, words: &[String], world: &mut MemWorld) {
-        let _ = pp_run::run(alloc, words, world);
-    }
-}
 
 #[test]
 fn the_numbers_are_those_of_splitmix64(rt: HostRuntime) {
@@ -68,15 +57,16 @@ fn a_client_that_is_not_cut_and_shut_is_found(rt: HostRuntime) -> Result<(), Fai
 }
 
 #[test]
-fn a_seed_gives_the_same_run(rt: HostRuntime) -> Result<(), Fail> {
+fn a_seed_gives_the_same_run_and_the_next_another(rt: HostRuntime) -> Result<(), Fail> {
     for seed in 1..5 {
         let one = simulate(rt.alloc(), seed, &Doorkeeper::Refuses)?;
-        let other = simulate(rt.alloc(), seed, &Doorkeeper::Refuses)?;
-        let all = one.log().len();
-        assert_eq!(rt;
-            one.course(rt.alloc(), all)?.as_str(),
-            other.course(rt.alloc(), all)?.as_str()
-        );
+        let same = simulate(rt.alloc(), seed, &Doorkeeper::Refuses)?;
+        let next = simulate(rt.alloc(), seed + 1, &Doorkeeper::Refuses)?;
+        let course = one.course(rt.alloc(), one.log().len())?;
+        let same = same.course(rt.alloc(), same.log().len())?;
+        let next = next.course(rt.alloc(), next.log().len())?;
+        assert_eq!(rt; same.as_str(), course.as_str());
+        assert!(rt; next.as_str() != course.as_str());
     }
     Ok(())
 }
@@ -85,14 +75,12 @@ fn a_seed_gives_the_same_run(rt: HostRuntime) -> Result<(), Fail> {
 #[test]
 fn the_program_opens_out_of_order(rt: HostRuntime) -> Result<(), Fail> {
     for seed in 1..9 {
-        let outcome = simulate(rt.alloc(), seed, &Program)?;
+        let outcome = simulate(rt.alloc(), seed, &Proxy)?;
         let rule = outcome.fault.map(|fault| fault.rule);
         assert_eq!(rt; rule, Some(Rule::OpeningOutOfOrder), "{seed}");
     }
     assert_eq!(rt;
-        simulate(rt.alloc(), 1, &Program)?
-            .told(rt.alloc())?
-            .as_str(),
+        simulate(rt.alloc(), 1, &Proxy)?.told(rt.alloc())?.as_str(),
         "seed 1: happening 1: the opening is out of order: Listens 8123: true\n"
     );
     Ok(())
