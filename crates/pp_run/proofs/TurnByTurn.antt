@@ -1,6 +1,5 @@
 -- Turns, one after the other.
 use Rattle.std.proofs.Common.{◌≡◌, ◌≢◌, ◌<◌, ◌+◌, ◌∙◌, inr, inl, ℕ, Bool, true, ◌&&◌, [], ◌∷◌, ◌++◌, Option, ap, append_assoc, refl, sym, subst}
-use Rattle.std.specs.List.{list_all}
 use Rattle.std.proofs.lemmas.List.{append-nil, flat_map_more, length-append}
 use Rattle.std.proofs.lemmas.List.Folds.{list_all-append}
 use Rattle.pp_world.specs.declared.event.Event.{Event}
