@@ -1,13 +1,14 @@
 -- Worked logs of entries: failing operations, crashes, restarts.
 use Rattle.std.proofs.Common.{◌≡◌, refl, ℕ, ◌+◌, List, [], ◌∷◌, ◌++◌, true, false, None, length, codes, ◌-◌}
 use Rattle.pp_world.specs.declared.happening.Happening.TheVariants.{Woke, Rooted, Listed, Listens, CanRead, CanWrite, Heard, Said, Dialled, Got, Noted, Began, Did, Clock, Opened, Unread}
-use Rattle.pp_world.specs.declared.note.Decision.TheVariants.{Hit, Part, Refuse}
+use Rattle.pp_world.specs.declared.note.Decision.TheVariants.{Hit, Part, Fetch, Refuse}
 use Rattle.pp_world.specs.declared.note.Remark.TheVariants.{Taken, Kept, Gone, Loaded, Evicted, Forgotten}
 use Rattle.pp_world.specs.declared.op.DiskOp.{DiskOp}
 use Rattle.pp_world.specs.declared.op.DiskOp.TheVariants.{Draft, SyncDraft, Publish, Write, Sync, Remove}
 use Rattle.pp_world.specs.Log.{Log}
 use Rattle.pp_law.specs.Lists.{Bytes}
-use Rattle.pp_law.specs.State.{Term}
+use Rattle.pp_law.specs.State.{Term, Instance, Entry, start}
+use Rattle.pp_law.specs.Store.{takes_name}
 use Rattle.pp_law.specs.Lawful.{first_fault, ImageNotLeft, FailureMadeUp, NotSealed, NotGone, NotToBeLoaded, WrongDiskOperation, WrongDecision, NotToBeEvicted, NotToBeForgotten}
 use Rattle.pp_law.proofs.OnLiterals.{pp_law_on_literals}
 use Rattle.pp_law.proofs.Worked.{no_words, wait, broken, sunday, origin_sends, does, zeros, name_of_a, draft_of, block}
@@ -191,3 +192,45 @@ refused_memory = refl
 hit_without_memory : first_fault no_words (answered ++ Noted (Forgotten (codes "http://h/a")) ∷ Noted (Taken 1 0 (Hit 0 5)) ∷ []) ≡ broken (length answered + 1) WrongDecision
 unfolding pp_law_on_literals
 hit_without_memory = refl
+
+fetched_without_memory : first_fault no_words (answered ++ Noted (Forgotten (codes "http://h/a")) ∷ Noted (Taken 1 0 Fetch) ∷ []) ≡ broken (length answered + 1) WrongDecision
+unfolding pp_law_on_literals
+fetched_without_memory = refl
+
+-- it is refused before anything is decided
+refused_late : first_fault no_words (answered ++ Noted (Taken 1 0 (Hit 0 5)) ∷ Noted (Forgotten (codes "http://h/a")) ∷ []) ≡ broken (length answered + 1) NotToBeForgotten
+unfolding pp_law_on_literals
+refused_late = refl
+
+-- ---- a row of another key takes a name only where it may be drafted: here one of so many bytes
+
+abbrev row_of_length : ℕ → Instance
+row_of_length n = record {
+  id = 0;
+  key = codes "http://h/a";
+  version = record { tag = codes "\"x\""; length = n };
+  fields = [];
+  times = record { request = 0; response = 0; initial = 0 };
+  is_retired = false;
+  touched = 0;
+  is_new = false;
+}
+
+abbrev entry_of_another : Entry
+entry_of_another = record {
+  name = name_of_a;
+  key = codes "http://h/b";
+  version = record { tag = codes "\"x\""; length = 5 };
+  fields = [];
+  times = record { request = 0; response = 0; initial = 0 };
+  extent = 0;
+  is_stale = false;
+}
+
+short_row_takes_name : takes_name (start []) entry_of_another (row_of_length 5) ≡ true
+unfolding pp_law_on_literals
+short_row_takes_name = refl
+
+long_row_takes_none : takes_name (start []) entry_of_another (row_of_length 67108865) ≡ false
+unfolding pp_law_on_literals
+long_row_takes_none = refl

@@ -24,7 +24,7 @@ use Rattle.pp_law.specs.Asking.{hear, ask_body, ask_next, ask, hang_up}
 use Rattle.pp_law.specs.Store.{remove_entry, note_gone, begin_op, enter_next, close_name, end_op, lose_entry, note_kept, load_from, load}
 use Rattle.pp_law.specs.Opening.{with_settings, begun, woken, stuck, opened_to, configured, lose_in_opening}
 use Rattle.pp_law.specs.Turn.{behind_2, to_3, to_4, to_6, to_7, to_decide, touch, first_marks, close_idle, tick_to, tick, ending, rest_with}
-use Rattle.pp_law.specs.After.{opened, owing, reached, paid, said, gone, in_step_7, take_decision, evicted, refused_row, forgotten_row, forgotten_by, noted, begun_op, ended_op, unread, shut, dialled, undialled, out, dropped, rested, changed, after}
+use Rattle.pp_law.specs.After.{opened, owing, reached, paid, use_said, said, gone, in_step_7, take_decision, evicted, refused_row, forgotten_row, forgotten_by, noted, begun_op, ended_op, unread, shut, dialled, undialled, out, dropped, rested, changed, after}
 use Rattle.pp_law.specs.Permits.{permits, is_permitted}
 use Rattle.pp_law.specs.Lawful.{rule_of}
 
@@ -46,7 +46,7 @@ unfolding clap_on_literals httpdate_on_literals pp_head_on_literals pp_target_on
     remove_entry note_gone begin_op enter_next close_name end_op lose_entry note_kept load_from load
     with_settings begun woken stuck opened_to configured lose_in_opening
     behind_2 to_3 to_4 to_6 to_7 to_decide touch first_marks close_idle tick_to tick ending rest_with
-    opened owing reached paid said gone in_step_7 take_decision evicted refused_row forgotten_row forgotten_by noted begun_op ended_op unread shut dialled undialled out dropped rested changed after
+    opened owing reached paid use_said said gone in_step_7 take_decision evicted refused_row forgotten_row forgotten_by noted begun_op ended_op unread shut dialled undialled out dropped rested changed after
     permits is_permitted
     rule_of
 pp_law_on_literals = tt

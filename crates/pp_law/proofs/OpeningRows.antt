@@ -1,6 +1,6 @@
 -- Worked openings.
-use Rattle.std.proofs.Common.{◌≡◌, refl, [], ◌∷◌, true, false, None, codes}
-use Rattle.pp_world.specs.declared.happening.Happening.TheVariants.{Woke, Clock, Rooted, Listed, Listens, Printed, Stopped}
+use Rattle.std.proofs.Common.{◌≡◌, refl, [], ◌∷◌, true, false, Some, None, codes}
+use Rattle.pp_world.specs.declared.happening.Happening.TheVariants.{Woke, Clock, Rooted, Listed, Listens, Configured, Printed, Stopped}
 use Rattle.pp_law.specs.Lawful.{first_fault, OpeningOutOfOrder, EventOutOfTurn, StepUnfinished}
 use Rattle.pp_law.proofs.OnLiterals.{pp_law_on_literals}
 use Rattle.pp_law.proofs.Worked.{no_words, wait, broken}
@@ -27,6 +27,11 @@ other_port = refl
 no_reading : first_fault (record { words = codes "nonsense" ∷ []; faults = 0 } ∷ []) (Woke [] ∷ Printed (codes "usage") ∷ Rooted (codes "polipo-cache") ∷ []) ≡ broken 2 OpeningOutOfOrder
 unfolding pp_law_on_literals
 no_reading = refl
+
+-- a word that is no UTF-8 has no reading either: it names no file
+no_text : first_fault (record { words = codes "-c" ∷ (255 ∷ []) ∷ []; faults = 0 } ∷ []) (Woke [] ∷ Printed (codes "usage") ∷ Configured (255 ∷ []) (Some []) ∷ []) ≡ broken 2 OpeningOutOfOrder
+unfolding pp_law_on_literals
+no_text = refl
 
 -- a folder that cannot be listed ends the opening; it comes only where the outside fails
 unlisted : first_fault (record { words = []; faults = 1 } ∷ []) (Woke [] ∷ Rooted (codes "polipo-cache") ∷ Listed false ∷ Listens 8123 true ∷ []) ≡ broken 3 OpeningOutOfOrder

@@ -43,6 +43,22 @@ cut_short : first_fault no_words (passed ++ origin_sends (codes "HTTP/1.1 200 OK
 unfolding pp_law_on_literals
 cut_short = refl
 
+-- it ends in the midst of the only answer that there can be
+abbrev tried_once : Log
+tried_once =
+    opening ++ client_sends (codes "DELETE http://h/a HTTP/1.1\r\nHost: h\r\n\r\n") ++ Noted (Taken 1 0 Pass) ∷ Dialled 2 (codes "h") 80 ∷ wait [] [] ∷ Reached 2 ∷ wait [] (2 ∷ []) ∷
+    CanWrite 2 ∷ Asked 2 (codes "DELETE /a HTTP/1.1\r\nhost: h\r\nvia: 1.1 polipo\r\n\r\n") ∷ wait (2 ∷ []) [] ∷ []
+
+cut_short_at_once : first_fault no_words (tried_once ++ origin_sends (codes "HTTP/1.1 200 OK\r\nContent-Length: 10\r\n\r\nhello") ++ wait (2 ∷ []) (1 ∷ []) ∷ Broke 2 ∷
+    Noted (Cut 1 Short) ∷ Shut 1 ∷ Dropped 2 ∷ wait [] [] ∷ []) ≡ None
+unfolding pp_law_on_literals
+cut_short_at_once = refl
+
+-- an old origin says both that its connection goes on and that it does not
+closed_and_kept : first_fault no_words (passed ++ origin_sends (codes "HTTP/1.0 200 OK\r\nConnection: close, keep-alive\r\nContent-Length: 5\r\n\r\nhello") ++ Dropped 2 ∷ wait (1 ∷ []) (1 ∷ []) ∷ []) ≡ None
+unfolding pp_law_on_literals
+closed_and_kept = refl
+
 abbrev bad_gateway : Bytes
 bad_gateway = codes "HTTP/1.1 502 Bad Gateway\r\ncontent-type: text/plain\r\ncontent-length: 16\r\nconnection: keep-alive\r\n\r\n502 Bad Gateway\n"
 

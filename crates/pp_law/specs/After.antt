@@ -1,5 +1,5 @@
 -- The state after one happening.
-use Rattle.std.specs.Prelude.{ℕ, ◌+◌, Bool, true, false, ◌==◌, ◌||◌, List, [], ◌∷◌, ◌++◌, length, map, filter, Some, None}
+use Rattle.std.specs.Prelude.{ℕ, ◌+◌, Bool, true, false, ◌==◌, ◌&&◌, ◌||◌, not, List, [], ◌∷◌, ◌++◌, length, map, filter, Some, None}
 use Rattle.pp_plan.specs.declared.table.Begun.TheVariants.{Nothing}
 use Rattle.pp_world.specs.declared.event.Wants.{Wants}
 use Rattle.pp_world.specs.declared.happening.Happening.{Happening}
@@ -11,15 +11,16 @@ use Rattle.pp_law.specs.Asking.{hear, ask, hang_up}
 use Rattle.pp_law.specs.Chunks.{drop_chunk, note_use}
 use Rattle.pp_law.specs.Closing.{close_client}
 use Rattle.pp_law.specs.Deciding.{decided}
+use Rattle.pp_law.specs.Due.{still_waits}
 use Rattle.pp_law.specs.Connections.{client, conn, on_client, on_conn, is_client, is_conn, put_on, lose_attempt, placing, Placement, AllPlaced, WaitsDial, WaitsDrop}
-use Rattle.pp_law.specs.Lists.{Bytes, without}
+use Rattle.pp_law.specs.Lists.{Bytes, without, is_this}
 use Rattle.pp_law.specs.Opening.{woken, configured, opened_to, is_opening, lose_in_opening}
 use Rattle.pp_law.specs.Replies.{said_by, use_next, end_replies, regained}
 use Rattle.pp_law.specs.Requests.{NoHeadYet}
 use Rattle.pp_law.specs.Responses.{got, ended}
 use Rattle.pp_law.specs.State.{State, Client, Conn, Instance, Undecided, IsRooted, IsListed, IsListening, Owed, Free, ReadOf, WriteTo}
 use Rattle.pp_law.specs.Store.{begin_op, end_op, close_name, name_for, note_kept, note_gone, load}
-use Rattle.pp_law.specs.Table.{row, forget, is_bound_to}
+use Rattle.pp_law.specs.Table.{row, forget}
 use Rattle.pp_law.specs.Turn.{step, at_step, due_victim, is_awaiting, to_3, to_6, to_decide, touch, tick, ending, rest_with}
 
 abbrev pub new_client : ℕ → ℕ → Client
@@ -85,8 +86,12 @@ reached n s = touch n (on_conn n (λ k. record k { is_reached = true }) s)
 unfoldable pub paid : State → State
 paid s = record s { owed = Free }
 
+-- a write that took nothing is no use of a chunk
+unfoldable pub use_said : ℕ → Client → State → State
+use_said n c s = elim (n == 0) [ true ↦ s | false ↦ use_next c s ]
+
 unfoldable pub said : ℕ → ℕ → State → State
-said c n s = elim (client s c) [ None ↦ s | Some x ↦ end_replies (on_client c (said_by n) (use_next x s)) ]
+said c n s = elim (client s c) [ None ↦ s | Some x ↦ end_replies (on_client c (said_by n) (use_said n x s)) ]
 
 unfoldable pub gone : Bool → ℕ → State → State
 gone is_clean n s = elim (conn s n) [ None ↦ s | Some k ↦ end_replies (ended is_clean k s) ]
@@ -103,9 +108,12 @@ take_decision n s decide = elim (client s n) [ None ↦ s | Some c ↦ record (i
 unfoldable pub evicted : State → State
 evicted s = elim (due_victim s) [ None ↦ s | Some place ↦ drop_chunk place.0 place.1 (at_step 2 s) ]
 
--- those whose exchanges are bound to it
+-- it waits for that row: the response to the exchange of its request made it, or brought it in
+abbrev pub waits_for_row : ℕ → Client → Bool
+waits_for_row id c = not c.is_closing && is_this id c.settled && still_waits c
+
 abbrev pub clients_of : State → ℕ → List ℕ
-clients_of s id = map (λ e. e.client) (filter (is_bound_to id) s.exchanges)
+clients_of s id = map (λ c. c.number) (filter (waits_for_row id) s.clients)
 
 -- a row for which memory was refused
 unfoldable pub refused_row : Instance → State → State

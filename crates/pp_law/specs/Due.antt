@@ -45,9 +45,20 @@ due_by_stage s c = elim c.stage [
   | Answering r ↦ due_reply s c r
 ]
 
+abbrev pub is_page : Decision → Bool
+is_page (Refuse status) = true
+is_page d = false
+
+-- its request was decided, and is to have a reply that is no page
+abbrev pub still_waits : Client → Bool
+still_waits c = elim c.stage [ Undecided ↦ false | Waiting e ↦ true | Passing e ↦ false | Answering r ↦ not (is_page r.decision) ]
+
 -- memory was refused for the row of its request
+abbrev pub is_refused : State → Client → Bool
+is_refused s c = has_number c.number s.refused && still_waits c
+
 abbrev pub due_in : State → Client → Option Decision
-due_in s c = elim (has_number c.number s.refused && not (is_begun c)) [ true ↦ Some (Refuse 500) | false ↦ due_by_stage s c ]
+due_in s c = elim (is_refused s c && not (is_begun c)) [ true ↦ Some (Refuse 500) | false ↦ due_by_stage s c ]
 
 abbrev pub due_decision : State → Client → Option Decision
 due_decision s c = elim (c.is_closing || s.is_stopped) [ true ↦ None | false ↦ due_in s c ]
@@ -57,10 +68,9 @@ is_passing Pass = true
 is_passing Relay = true
 is_passing d = false
 
--- its response ended early, and was not a bad one
+-- its response ended early; a bad one is over before its connection is closed
 abbrev pub is_short : Client → Bool
-is_short c =
-    not c.has_failed && is_some_with (λ r. is_passing r.decision) (reply_of c) && is_some_with (λ p. p.is_short && not p.pipe.is_finished) c.passed
+is_short c = is_some_with (λ r. is_passing r.decision) (reply_of c) && is_some_with (λ p. p.is_short && not p.pipe.is_finished) c.passed
 
 -- another version stands, and of this one nothing more comes
 abbrev pub is_superseded : State → Client → Bool
@@ -78,7 +88,7 @@ causes s c =
     ∷ (is_begun c && is_superseded s c, Superseded)
     ∷ (is_begun c && (c.has_failed || c.is_too_long), Origin)
     ∷ (is_idle s c, Idle)
-    ∷ (is_begun c && has_number c.number s.refused, Memory)
+    ∷ (is_begun c && is_refused s c, Memory)
     ∷ []
 
 -- the first that applies

@@ -1,6 +1,7 @@
 -- How a life begins: the files that it finds, its words and settings, and the order of its first calls. All of it is ours.
 use Rattle.std.specs.Prelude.{ℕ, ◌+◌, Bool, true, false, ◌==◌, ◌&&◌, ◌||◌, not, nat_lt, nat_le, List, [], ◌∷◌, ◌++◌, length, map, flat_map, is_some, bytes_eq, Option, Some, None, Result, Ok, Err}
 use Rattle.std.specs.List.{list_any, list_all}
+use Rattle.std.specs.Str.{is_utf8}
 use Rattle.pp_conf.specs.Conf.{Settings}
 use Rattle.pp_conf.specs.Words.{file_of, has_reading, reading_of, Told, Serves, ShowsDemo, Refusal}
 use Rattle.pp_text.specs.Bytes.{is_empty}
@@ -92,14 +93,21 @@ unfoldable pub with_settings : Option Settings → State → State
 with_settings None s = record s { phase = IsStuck }
 with_settings (Some c) s = record s { phase = IsConfigured; settings = c }
 
+-- ours: a word that is no UTF-8 has no reading
+abbrev pub are_texts : Term → Bool
+are_texts t = list_all is_utf8 t.words
+
 -- a configuration is read where the words name one
 abbrev pub names_file : Term → Bool
 names_file t = has_reading t.words && is_some (file_of t.words)
 
 unfoldable pub begun : State → State
-begun s = elim (names_file s.term) [
-  | true ↦ record s { phase = IsWoken }
-  | false ↦ with_settings (settings_in (reading_of s.term.words None)) s
+begun s = elim (are_texts s.term) [
+  | false ↦ with_settings None s
+  | true ↦ elim (names_file s.term) [
+    | true ↦ record s { phase = IsWoken }
+    | false ↦ with_settings (settings_in (reading_of s.term.words None)) s
+  ]
 ]
 
 -- memory is empty, and each entry is a kept row

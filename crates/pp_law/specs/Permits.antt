@@ -103,7 +103,7 @@ may_forget s key = forgets_next s (first_due s) && is_key_of key (idle_row s)
 abbrev pub permits_forgotten : State → Bytes → Bool
 permits_forgotten s key =
     (nat_lt 0 (step s) && nat_le (step s) 2 && is_free s.owed && is_first key s.forgotten)
-    || (nat_lt 0 (step s) && is_empty s.forgotten && is_some_with (λ x. x.is_new) (row s key))
+    || (nat_lt 0 (step s) && nat_le (step s) 2 && is_empty s.forgotten && is_some_with (λ x. x.is_new) (row s key))
     || (may_decide s && may_forget (to_decide s) key)
 
 abbrev pub is_chunk_of : State → Bytes → Bytes → ℕ → ℕ → ℕ × ℕ → Bool

@@ -28,12 +28,11 @@ skipping c = record c { heard = drop c.body_left c.heard; skip = c.skip + (c.bod
 unfoldable pub skip_body : Exchange → State → State
 skip_body e s = elim e.aim [ Through ↦ on_client_of e skipping s | Own ↦ s | Filling v from to ↦ s ]
 
--- whether the connection goes on behind the response (sections 8.1.2.1 and 19.6.2)
+-- whether the connection goes on behind the response (sections 8.1.2.1 and 19.6.2); ours: `close` comes before `keep-alive`
 abbrev pub stays_open : Response → Bool
-stays_open head = elim (is_old head.minor) [
-  | true ↦ has_item (codes "connection") (codes "keep-alive") head.fields
-  | false ↦ not (has_item (codes "connection") (codes "close") head.fields)
-]
+stays_open head =
+    not (has_item (codes "connection") (codes "close") head.fields)
+    && (not (is_old head.minor) || has_item (codes "connection") (codes "keep-alive") head.fields)
 
 abbrev pub rested : Response → Conn → Conn
 rested head k = record k { answer = None; unread = []; is_early = false; has_brought = true; may_pipeline = k.may_pipeline || not (is_old head.minor) }

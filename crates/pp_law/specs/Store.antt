@@ -113,9 +113,10 @@ has_to_seal s = list_any (is_due_to_seal s) s.instances
 abbrev pub is_gone : State → Entry → Bool
 is_gone s e = e.is_stale || is_closed s e.name
 
--- a row of another key may take its name
+-- a row of another key, that may be drafted, may take its name
 abbrev pub takes_name : State → Entry → Instance → Bool
-takes_name s e x = not x.is_retired && bytes_eq (name_of x.key) e.name && not (bytes_eq x.key e.key)
+takes_name s e x =
+    not x.is_retired && bytes_eq (name_of x.key) e.name && not (bytes_eq x.key e.key) && is_sized x.version.length && fits x.fields (block_of x)
 
 abbrev pub is_displaced : State → Entry → Bool
 is_displaced s e = list_any (takes_name s e) s.instances

@@ -7,14 +7,15 @@ use crate::connections::{
 };
 use crate::deciding::decided;
 use crate::disk_log::DiskOp;
-use crate::lists::{copied, push};
+use crate::due::still_waits;
+use crate::lists::{copied, is_this, push};
 use crate::opening::{configured, is_opening, lose_in_opening, opened_to, woken};
 use crate::replies::{end_replies, regained, said_by, use_next};
 use crate::requests::Front;
 use crate::responses::{ended, got};
 use crate::state::{Client, Conn, Instance, Owed, Phase, Stage, State};
 use crate::store::{begin_op, close_name, end_op, load, name_for, note_gone, note_kept};
-use crate::table::{forget, is_bound_to, row};
+use crate::table::{forget, row};
 use crate::turn::{
     at_step, due_victim, ending, is_awaiting, rest_with, step, tick, to_3, to_6, to_decide, touch,
 };
@@ -102,11 +103,16 @@ fn paid(s: &mut State) {
     s.owed = Owed::Free;
 }
 
+/// A write that took nothing is no use of a chunk.
+fn use_said(s: &mut State, n: usize, c: &Client) -> Result<(), OutOfMemory> {
+    if n == 0 { Ok(()) } else { use_next(s, c) }
+}
+
 fn said(s: &mut State, c: u64, n: usize) -> Result<(), OutOfMemory> {
     let Some(x) = client_copy(s, c)? else {
         return Ok(());
     };
-    use_next(s, &x)?;
+    use_said(s, n, &x)?;
     for x in s.clients.iter_mut() {
         if is_client(c, x) {
             said_by(x, n)?;
@@ -149,11 +155,15 @@ fn evicted(s: &mut State) -> Result<(), OutOfMemory> {
     Ok(())
 }
 
-/// Those whose exchanges are bound to it are refused.
+/// It waits for that row: the response to the exchange of its request made it, or brought it in.
+fn waits_for_row(id: u64, c: &Client) -> bool {
+    !c.is_closing && is_this(id, c.settled) && still_waits(c)
+}
+
 fn refuse_clients_of(s: &mut State, id: u64) -> Result<(), OutOfMemory> {
-    for e in s.exchanges.iter() {
-        if is_bound_to(id, e) {
-            push(&mut s.refused, e.client)?;
+    for c in s.clients.iter() {
+        if waits_for_row(id, c) {
+            push(&mut s.refused, c.number)?;
         }
     }
     Ok(())

@@ -74,9 +74,27 @@ pub(crate) fn due_by_stage(s: &State, c: &Client) -> Result<Option<Decision>, Ou
     }
 }
 
+pub(crate) fn is_page(d: Decision) -> bool {
+    matches!(d, Decision::Refuse(_))
+}
+
+/// Its request was decided, and is to have a reply that is no page.
+pub(crate) fn still_waits(c: &Client) -> bool {
+    match &c.stage {
+        Stage::Undecided => false,
+        Stage::Waiting(_) => true,
+        Stage::Passing(_) => false,
+        Stage::Answering(r) => !is_page(r.decision),
+    }
+}
+
 /// Memory was refused for the row of its request.
+pub(crate) fn is_refused(s: &State, c: &Client) -> bool {
+    has_number(c.number, s.refused.as_slice()) && still_waits(c)
+}
+
 pub(crate) fn due_in(s: &State, c: &Client) -> Result<Option<Decision>, OutOfMemory> {
-    if has_number(c.number, s.refused.as_slice()) && !is_begun(c) {
+    if is_refused(s, c) && !is_begun(c) {
         Ok(Some(Decision::Refuse(500)))
     } else {
         due_by_stage(s, c)
@@ -95,7 +113,7 @@ pub(crate) fn is_passing(d: Decision) -> bool {
     matches!(d, Decision::Pass | Decision::Relay)
 }
 
-/// Its response ended early, and was not a bad one.
+/// Its response ended early; a bad one is over before its connection is closed.
 pub(crate) fn is_short(c: &Client) -> bool {
     let is_passed = match reply_of(c) {
         None => false,
@@ -105,7 +123,7 @@ pub(crate) fn is_short(c: &Client) -> bool {
         None => false,
         Some(p) => p.is_short && !p.pipe.is_finished,
     };
-    !c.has_failed && is_passed && is_early
+    is_passed && is_early
 }
 
 /// Another version stands, and of this one nothing more comes.
@@ -134,7 +152,7 @@ pub(crate) fn cut_in(s: &State, c: &Client) -> Option<Cause> {
         Some(Cause::Origin)
     } else if is_idle(s, c) {
         Some(Cause::Idle)
-    } else if begun && has_number(c.number, s.refused.as_slice()) {
+    } else if begun && is_refused(s, c) {
         Some(Cause::Memory)
     } else {
         None

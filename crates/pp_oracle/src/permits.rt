@@ -121,7 +121,7 @@ fn permits_forgotten(s: &State, key: &[u8]) -> Result<bool, OutOfMemory> {
     if 0 < n && n <= 2 && is_free(s.owed) && is_first(key, s.forgotten.as_slice()) {
         return Ok(true);
     }
-    if 0 < n && s.forgotten.is_empty() && is_new_row(s, key) {
+    if 0 < n && n <= 2 && s.forgotten.is_empty() && is_new_row(s, key) {
         return Ok(true);
     }
     Ok(may_decide(s)? && may_forget(&at_decide(s)?, key)?)

@@ -44,14 +44,12 @@ pub(crate) fn skip_body(s: &mut State, e: &Exchange) -> Result<(), OutOfMemory> 
     }
 }
 
-/// Whether the connection goes on behind the response (sections 8.1.2.1 and 19.6.2).
+/// Whether the connection goes on behind the response (sections 8.1.2.1 and 19.6.2). Ours: `close`
+/// comes before `keep-alive`.
 pub(crate) fn stays_open(head: &Response) -> bool {
     let fields = head.fields.fields();
-    if is_old(head.minor) {
-        fields.has_item(b"connection", b"keep-alive")
-    } else {
-        !fields.has_item(b"connection", b"close")
-    }
+    let is_kept = !is_old(head.minor) || fields.has_item(b"connection", b"keep-alive");
+    !fields.has_item(b"connection", b"close") && is_kept
 }
 
 /// HTTP/1.0.

@@ -234,10 +234,11 @@ fn is_gone(s: &State, e: &Entry) -> bool {
     e.is_stale || is_closed(s, &e.name)
 }
 
-/// A row of another key may take its name.
+/// A row of another key, that may be drafted, may take its name.
 fn takes_name(e: &Entry, x: &Instance) -> bool {
     let key = x.key.as_slice();
-    !x.is_retired && file_name(key) == e.name && key != e.key.as_slice()
+    let is_other = file_name(key) == e.name && key != e.key.as_slice();
+    !x.is_retired && is_other && block_of(x).is_some()
 }
 
 fn is_displaced(s: &State, e: &Entry) -> bool {
