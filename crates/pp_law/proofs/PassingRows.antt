@@ -74,6 +74,12 @@ other_coding : first_fault no_words (passed ++ origin_sends (codes "HTTP/1.1 200
 unfolding pp_law_on_literals
 other_coding = refl
 
+-- bytes that come before the ask, of whatever kind
+unasked : first_fault no_words (opening ++ client_sends request ++ Noted (Taken 1 0 Pass) ∷ Dialled 2 (codes "h") 80 ∷ wait (1 ∷ []) [] ∷ Reached 2 ∷ wait (1 ∷ 2 ∷ []) (2 ∷ []) ∷
+    origin_sends (codes "HTTP/1.1 100 Continue\r\n\r\n") ++ Noted (Taken 1 0 (Refuse 502)) ∷ Dropped 2 ∷ wait (1 ∷ []) (1 ∷ []) ∷ []) ≡ None
+unfolding pp_law_on_literals
+unasked = refl
+
 -- a body is asked as it is heard, once the interim answer was given
 abbrev post : Bytes
 post = codes "POST http://h/a HTTP/1.1\r\nExpect: 100-continue\r\nContent-Length: 5\r\n\r\n"

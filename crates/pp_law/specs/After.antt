@@ -58,7 +58,6 @@ new_conn n host port now = record {
   is_reached = false;
   line = [];
   unread = [];
-  is_early = false;
   answer = None;
   has_brought = false;
   may_pipeline = false;

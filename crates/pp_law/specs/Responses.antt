@@ -35,7 +35,7 @@ stays_open head =
     && (not (is_old head.minor) || has_item (codes "connection") (codes "keep-alive") head.fields)
 
 abbrev pub rested : Response → Conn → Conn
-rested head k = record k { answer = None; unread = []; is_early = false; has_brought = true; may_pipeline = k.may_pipeline || not (is_old head.minor) }
+rested head k = record k { answer = None; unread = []; has_brought = true; may_pipeline = k.may_pipeline || not (is_old head.minor) }
 
 unfoldable pub close_this : ℕ → State → State
 close_this n s = elim (conn s n) [ None ↦ s | Some k ↦ close_conn true k s ]
@@ -67,7 +67,7 @@ abbrev pub asks_head : Exchange → Bool
 asks_head e = elim e.aim [ Through ↦ is_head e.head.method | Own ↦ false | Filling v from to ↦ false ]
 
 abbrev pub answered_by : Response → BodyRule → Conn → Conn
-answered_by head rule k = record k { unread = []; is_early = false; answer = Some (record { head = head; rule = rule; raw = [] }) }
+answered_by head rule k = record k { unread = []; answer = Some (record { head = head; rule = rule; raw = [] }) }
 
 -- where the body is empty, the response is whole
 unfoldable pub end_if_empty : Conn → Exchange → Answer → State → State
@@ -78,7 +78,7 @@ begin_answer k e head rule s =
     end_if_empty k e (record { head = head; rule = rule; raw = [] }) (by_aim e head rule (on_conn k.number (answered_by head rule) s))
 
 unfoldable pub answer_for : Conn → Exchange → Response → State → State
-answer_for k e head s = elim (k.is_early || is_wrong_head e head) [
+answer_for k e head s = elim (is_wrong_head e head) [
   | true ↦ bad_response k s
   | false ↦ elim (rule_of (asks_head e) head.status head.fields) [ Ok rule ↦ begin_answer k e head rule s | Err fault ↦ bad_response k s ]
 ]
@@ -94,23 +94,29 @@ pub record Piece : Type 0 where
   pub state : State
   pub rest : Bytes
 
--- a response that begins before its ask was asked whole answers nothing
-abbrev pub is_early_on : State → Conn → Bool
-is_early_on s k = k.is_early || (is_empty k.unread && not (is_some_with is_outstanding (front_of_line s k)))
+-- what comes before the first ask of the line was asked whole answers nothing
+abbrev pub is_early : State → Conn → Bool
+is_early s k = not (is_some_with is_outstanding (front_of_line s k))
+
+abbrev pub with_unread : Bytes → Conn → Conn
+with_unread bytes k = record k { unread = bytes }
+
+abbrev pub head_piece_of : Conn → Bytes → State → Piece
+head_piece_of k bytes s = elim (response_at bytes) [
+  | More ↦ record { state = on_conn k.number (with_unread bytes) s; rest = [] }
+  | TooLong ↦ record { state = bad_response k s; rest = [] }
+  | NoHead ↦ record { state = bad_response k s; rest = [] }
+  | Whole head ↦ elim (is_interim head.status) [
+    | true ↦ record { state = on_conn k.number (with_unread []) s; rest = drop head.length bytes }
+    | false ↦ record { state = head_came k head s; rest = drop head.length bytes }
+  ]
+]
 
 abbrev pub head_piece : Conn → Bytes → State → Piece
-head_piece k bytes s =
-    let early = is_early_on s k in
-    let j : Conn = record k { is_early = early } in
-    elim (response_at (k.unread ++ bytes)) [
-      | More ↦ record { state = on_conn k.number (λ i. record i { unread = k.unread ++ bytes; is_early = early }) s; rest = [] }
-      | TooLong ↦ record { state = bad_response k s; rest = [] }
-      | NoHead ↦ record { state = bad_response k s; rest = [] }
-      | Whole head ↦ elim (is_interim head.status) [
-        | true ↦ record { state = on_conn k.number (λ i. record i { unread = []; is_early = false }) s; rest = drop head.length (k.unread ++ bytes) }
-        | false ↦ record { state = head_came j head s; rest = drop head.length (k.unread ++ bytes) }
-      ]
-    ]
+head_piece k bytes s = elim (is_early s k) [
+  | true ↦ record { state = bad_response k s; rest = [] }
+  | false ↦ head_piece_of k (k.unread ++ bytes) s
+]
 
 -- the data of a response go where its exchange is bound
 unfoldable pub deliver : Exchange → Answer → ℕ → Bytes → State → State

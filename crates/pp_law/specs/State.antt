@@ -104,7 +104,6 @@ pub record Conn : Type 0 where
   pub is_reached : Bool
   pub line : List ℕ  -- its exchanges, in the order in which they are answered
   pub unread : Bytes  -- of a head that is not whole
-  pub is_early : Bool  -- they began before the ask was asked whole
   pub answer : Option Answer
   pub has_brought : Bool  -- a whole final response
   pub may_pipeline : Bool

@@ -60,7 +60,6 @@ fn new_conn(alloc: Global, n: u64, host: &[u8], port: u16, now: u64) -> Result<C
         is_reached: false,
         line: Vec::new(alloc),
         unread: Vec::new(alloc),
-        is_early: false,
         answer: None,
         has_brought: false,
         may_pipeline: false,

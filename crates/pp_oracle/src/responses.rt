@@ -60,7 +60,6 @@ fn is_old(minor: u8) -> bool {
 pub(crate) fn rested(k: &mut Conn, head: &Response) {
     k.answer = None;
     k.unread.clear();
-    k.is_early = false;
     k.has_brought = true;
     k.may_pipeline = k.may_pipeline || !is_old(head.minor);
 }
@@ -133,7 +132,6 @@ pub(crate) fn asks_head(e: &Exchange) -> bool {
 
 pub(crate) fn answered_by(k: &mut Conn, a: Answer) {
     k.unread.clear();
-    k.is_early = false;
     k.answer = Some(a);
 }
 
@@ -178,7 +176,7 @@ pub(crate) fn answer_for(
     e: &Exchange,
     head: &Response,
 ) -> Result<(), OutOfMemory> {
-    if k.is_early || is_wrong_head(e, head) {
+    if is_wrong_head(e, head) {
         return bad_response(s, k);
     }
     match rule(asks_head(e), head.status, &head.fields.fields()) {
@@ -198,27 +196,29 @@ pub(crate) fn head_came(s: &mut State, k: &Conn, head: &Response) -> Result<(), 
 
 // ---- bytes: each gives those that follow
 
-/// A response that begins before its ask was asked whole answers nothing.
-pub(crate) fn is_early_on(s: &State, k: &Conn) -> bool {
-    if k.is_early {
-        return true;
+/// What comes before the first ask of the line was asked whole answers nothing.
+pub(crate) fn is_early(s: &State, k: &Conn) -> bool {
+    match front_of_line(s, k) {
+        None => true,
+        Some(e) => !is_outstanding(e),
     }
-    let is_asked = match front_of_line(s, k) {
-        None => false,
-        Some(e) => is_outstanding(e),
-    };
-    k.unread.is_empty() && !is_asked
 }
 
-pub(crate) fn head_piece(s: &mut State, k: &Conn, bytes: &[u8]) -> Result<Bytes, OutOfMemory> {
+fn unread_came(s: &mut State, n: u64, unread: &[u8]) -> Result<(), OutOfMemory> {
+    for i in s.conns.iter_mut() {
+        if is_conn(n, i) {
+            i.unread = copied(*i.unread.allocator(), unread)?;
+        }
+    }
+    Ok(())
+}
+
+pub(crate) fn head_piece_of(s: &mut State, k: &Conn, bytes: &[u8]) -> Result<Bytes, OutOfMemory> {
     let alloc = s.alloc;
-    let early = is_early_on(s, k);
-    let mut unread = k.unread.clone()?;
-    unread.extend_from_slice(bytes)?;
     let mut scratch = Scratch::new();
-    match read_response(unread.as_slice(), &mut scratch) {
+    match read_response(bytes, &mut scratch) {
         HeadState::More => {
-            more_came(s, k.number, &unread, early)?;
+            unread_came(s, k.number, bytes)?;
             Ok(Vec::new(alloc))
         }
         HeadState::TooLong | HeadState::Bad => {
@@ -227,34 +227,23 @@ pub(crate) fn head_piece(s: &mut State, k: &Conn, bytes: &[u8]) -> Result<Bytes,
         }
         HeadState::Whole(head) => {
             if is_interim(head.status) {
-                interim_came(s, k.number);
+                unread_came(s, k.number, b"")?;
             } else {
-                let mut j = k.clone()?;
-                j.is_early = early;
-                head_came(s, &j, &Response::of(alloc, &head)?)?;
+                head_came(s, k, &Response::of(alloc, &head)?)?;
             }
-            copied(alloc, dropped(head.length, unread.as_slice()))
+            copied(alloc, dropped(head.length, bytes))
         }
     }
 }
 
-fn more_came(s: &mut State, n: u64, unread: &Bytes, early: bool) -> Result<(), OutOfMemory> {
-    for i in s.conns.iter_mut() {
-        if is_conn(n, i) {
-            i.unread = unread.clone()?;
-            i.is_early = early;
-        }
+pub(crate) fn head_piece(s: &mut State, k: &Conn, bytes: &[u8]) -> Result<Bytes, OutOfMemory> {
+    if is_early(s, k) {
+        bad_response(s, k)?;
+        return Ok(Vec::new(s.alloc));
     }
-    Ok(())
-}
-
-fn interim_came(s: &mut State, n: u64) {
-    for i in s.conns.iter_mut() {
-        if is_conn(n, i) {
-            i.unread.clear();
-            i.is_early = false;
-        }
-    }
+    let mut unread = k.unread.clone()?;
+    unread.extend_from_slice(bytes)?;
+    head_piece_of(s, k, unread.as_slice())
 }
 
 /// The data of a response go where its exchange is bound.

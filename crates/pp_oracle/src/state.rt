@@ -228,8 +228,6 @@ pub(crate) struct Conn {
     pub(crate) line: Vec<u64>,
     /// Of a head that is not whole.
     pub(crate) unread: Bytes,
-    /// They began before the ask was asked whole.
-    pub(crate) is_early: bool,
     pub(crate) answer: Option<Answer>,
     /// A whole final response.
     pub(crate) has_brought: bool,

@@ -45,7 +45,6 @@ fn conn_to(alloc: Global, number: u64, host: &[u8], line: &[u64]) -> Result<Conn
         is_reached: true,
         line: Vec::from_slice(alloc, line)?,
         unread: Vec::new(alloc),
-        is_early: false,
         answer: None,
         has_brought: false,
         may_pipeline: false,
