@@ -1,0 +1,276 @@
+-- The data of a response are put on record, and join the instance that they were sent for.
+use Rattle.std.proofs.Common.{◌≡◌, refl, ℕ, zero, suc, ◌+◌, ◌-◌, ◌<◌, ◌≤◌, Bool, true, false, ◌==◌, List, [], ◌∷◌, ◌++◌, length, drop, Option, Some, None, inl, inr, sym, subst, ap, ◌∙◌, length-drop, arith}
+use Rattle.pp_framing.specs.Rules.{body_of}
+use Rattle.pp_framing.specs.declared.body.BodyRule.TheVariants.{Empty}
+use Rattle.pp_framing.specs.declared.body.BodyRule.{BodyRule}
+use Rattle.pp_head.specs.Response.{Response}
+use Rattle.pp_text.specs.Bytes.{is_empty}
+use Rattle.pp_valid.specs.Versions.{version_of}
+use Rattle.pp_valid.specs.declared.version.Version.{Version}
+use Rattle.pp_law.specs.Chunks.{joined}
+use Rattle.pp_law.specs.Connections.{is_exchange, on_exchange, on_passed}
+use Rattle.pp_law.specs.Lists.{Bytes}
+use Rattle.pp_law.specs.OwnHeads.{key_of, first_offset, sent_as, note_own, note_sent, join, moved_on, join_bound}
+use Rattle.pp_law.specs.Passing.{pour, poured, on_pipe}
+use Rattle.pp_law.specs.Responses.{deliver, payload_of}
+use Rattle.pp_law.specs.State.{State, Sent, Aim, Through, Own, Filling, Answer, Bound, Exchange, Instance}
+use Rattle.pp_law.specs.Table.{is_instance, instance, extent_of}
+use Rattle.pp_laws.specs.Origin.{AllSent}
+use Rattle.pp_laws.specs.Runs.{IsIn}
+use Rattle.pp_laws.proofs.Binding.{Behind, Rebinds, behind_told, rebound}
+use Rattle.pp_laws.proofs.Callers.{same_parts}
+use Rattle.pp_laws.proofs.Joins.{HeldOf, joined-given, joined-held}
+use Rattle.pp_laws.proofs.Lists.{Changed, in_change, in_find, one_of, other, same}
+use Rattle.pp_laws.proofs.Payloads.{payload-grows}
+use Rattle.pp_laws.proofs.Rows.{rechunked}
+use Rattle.pp_laws.proofs.Sent.{sent-just, sent-more}
+use Rattle.pp_laws.proofs.Sound.{FactsOf, Fitting, Since, Sound, exchange_number, facts_of, is_noted, sound}
+use Rattle.pp_laws.proofs.Tests.{number_same, same_number}
+
+-- ---- bytes are put on record
+
+more_sent : (b : Since) (s : State) (part : Sent) → FactsOf b s → FactsOf b (record s { sent = part ∷ s.sent })
+more_sent b s part h = record {
+  grew = (part ∷ h.grew.0, ap (λ (l : List Sent). part ∷ l) h.grew.1);
+  lines = h.lines;
+  asks = h.asks;
+  rows = h.rows;
+  placed = h.placed;
+  brings = h.brings;
+  keyed = h.keyed;
+  callers = h.callers;
+  held = λ counts x i c j is. sent-more part s.sent x.key x.version _ c.bytes (h.held counts x i c j is);
+}
+
+sent_as-facts : (b : Since) (s : State) (e : Exchange) (at : ℕ) (bytes : Bytes) (v : Option Version) → FactsOf b s → FactsOf b (record s { sent = sent_as e at bytes v s.sent })
+sent_as-facts b s e at bytes None h = h
+sent_as-facts b s e at bytes (Some v) h = more_sent b s (record { key = key_of e; version = v; at = at; bytes = bytes }) h
+
+-- only what was sent is changed
+record OnlySent (b : Since) (s t : State) : Type 0 where
+  is_sound : Sound b t
+  conns : t.conns ≡ s.conns
+  exchanges : t.exchanges ≡ s.exchanges
+  instances : t.instances ≡ s.instances
+
+only_sent : {b : Since} (s : State) → Sound b s → OnlySent b s s
+only_sent s h = record { is_sound = h; conns = refl; exchanges = refl; instances = refl }
+
+only_sent_when : {b : Since} {s : State} (t : Bool) {x y : State} → OnlySent b s x → OnlySent b s y → OnlySent b s (elim t as (λ c. State) [ true ↦ x | false ↦ y ])
+only_sent_when true hx hy = hx
+only_sent_when false hx hy = hy
+
+only_sent_aim : {b : Since} {s : State} (a : Aim) {x y : State} {z : Version → ℕ → ℕ → State} → OnlySent b s x → OnlySent b s y → ((v : Version) (from to : ℕ) → OnlySent b s (z v from to))
+    → OnlySent b s (elim a as (λ c. State) [ Through ↦ x | Own ↦ y | Filling v from to ↦ z v from to ])
+only_sent_aim Through hx hy hz = hx
+only_sent_aim Own hx hy hz = hy
+only_sent_aim (Filling v from to) hx hy hz = hz v from to
+
+note_own-only : {b : Since} (e : Exchange) (head : Response) (at : ℕ) (bytes : Bytes) (s : State) → Sound b s → OnlySent b s (note_own e head at bytes s)
+unfolding note_own
+note_own-only {b} e head at bytes s h =
+    only_sent_when (is_empty bytes) (only_sent s h)
+    (record { is_sound = sound (sent_as-facts b s e (first_offset head + at) bytes (version_of head.fields head.status) (facts_of h)); conns = refl; exchanges = refl; instances = refl })
+
+note_sent-only : {b : Since} (e : Exchange) (head : Response) (at : ℕ) (bytes : Bytes) (s : State) → Sound b s → OnlySent b s (note_sent e head at bytes s)
+unfolding note_sent
+note_sent-only e head at bytes s h = only_sent_aim e.aim (only_sent s h) (note_own-only e head at bytes s h) (λ v from to. note_own-only e head at bytes s h)
+
+note_own-sent : (e : Exchange) (head : Response) (at : ℕ) (bytes : Bytes) (v : Version) (s : State) → version_of head.fields head.status ≡ Some v → AllSent (note_own e head at bytes s).sent (key_of e) v (first_offset head + at) bytes
+unfolding note_own
+note_own-sent e head at [] v s version = tt
+note_own-sent e head at (x ∷ xs) v s version =
+    subst (λ o. AllSent (sent_as e (first_offset head + at) (x ∷ xs) o s.sent) (key_of e) v (first_offset head + at) (x ∷ xs)) (sym version)
+    (sent-just (record { key = key_of e; version = v; at = first_offset head + at; bytes = x ∷ xs }) s.sent)
+
+noted_by : (aim : Aim) (s t : State) (key : Bytes) (v : Version) (at : ℕ) (bytes : Bytes) → is_noted aim ≡ true → AllSent t.sent key v at bytes → AllSent (elim aim as (λ c. State) [ Through ↦ s | Own ↦ t | Filling w from to ↦ t ]).sent key v at bytes
+noted_by Through s t key v at bytes noted all = absurd (cc noted)
+noted_by Own s t key v at bytes noted all = all
+noted_by (Filling w from to) s t key v at bytes noted all = all
+
+note_sent-sent : (e : Exchange) (head : Response) (at : ℕ) (bytes : Bytes) (v : Version) (s : State) → is_noted e.aim ≡ true → version_of head.fields head.status ≡ Some v
+    → AllSent (note_sent e head at bytes s).sent (key_of e) v (first_offset head + at) bytes
+unfolding note_sent
+note_sent-sent e head at bytes v s noted version = noted_by e.aim s (note_own e head at bytes s) (key_of e) v (first_offset head + at) bytes noted (note_own-sent e head at bytes v s version)
+
+-- ---- they join
+
+join-only : {b : Since} (to : Bound) (bytes : Bytes) (s : State) → (b.counts_loads ≡ true → (x : Instance) → IsIn x s.instances → x.id ≡ to.instance → AllSent s.sent x.key x.version to.next bytes) → Sound b s → OnlySent b s (join to bytes s)
+unfolding join
+join-only {b} to bytes s sent h = by (instance s to.instance) refl
+  where
+    facts : FactsOf b s
+    facts = facts_of h
+
+    held : (x : Instance) → IsIn x s.instances × (is_instance to.instance x ≡ true) → b.counts_loads ≡ true → (y : Instance) → IsIn y s.instances → HeldOf s.sent y.key y.version y.id (joined x.id (extent_of s x) to.next bytes s.chunks)
+    held x there counts y i =
+        joined-held s.sent y.key y.version y.id x.id (extent_of s x) to.next bytes s.chunks (λ is. sent counts y i (sym is ∙ same_number x.id to.instance there.1)) (facts.held counts y i)
+
+    by : (found : Option Instance) → instance s to.instance ≡ found
+        → OnlySent b s (elim found as (λ c. State) [ None ↦ s | Some x ↦ record s { chunks = joined x.id (extent_of s x) to.next bytes s.chunks } ])
+    by None is = only_sent s h
+    by (Some x) is =
+        let there = in_find (is_instance to.instance) x s.instances is in
+        record {
+          is_sound = sound (rechunked b s (joined x.id (extent_of s x) to.next bytes s.chunks) (joined-given s.next_instance x.id (extent_of s x) to.next bytes s.chunks (facts.rows.given x there.0) facts.rows.chunks_given) (held x there) facts);
+          conns = refl;
+          exchanges = refl;
+          instances = refl;
+        }
+
+-- ---- and the span that is to come is shorter
+
+-- what the answer is behind these bytes
+abbrev pub behind_bytes : Answer → Bytes → Answer
+behind_bytes a bytes = record a { raw = a.raw ++ bytes }
+
+-- the data that they add
+abbrev pub added : Answer → Bytes → Bytes
+added a bytes = drop (length (payload_of a)) (body_of a.rule (a.raw ++ bytes)).payload
+
+further : (a : Answer) (bytes : Bytes) (to : Bound) (x : Instance) → Fitting a to x → Fitting (behind_bytes a bytes) (record to { next = to.next + length (added a bytes) }) x
+further a bytes to x (inl fits) = inl (fits.0, longer fits.1)
+  where
+    longer : to.next ≡ first_offset a.head + length (payload_of a) → to.next + length (added a bytes) ≡ first_offset a.head + length (body_of a.rule (a.raw ++ bytes)).payload
+    longer is =
+        let grows : length (payload_of a) ≤ length (body_of a.rule (a.raw ++ bytes)).payload = payload-grows a.rule a.raw bytes in
+        let rest : length (added a bytes) ≡ length (body_of a.rule (a.raw ++ bytes)).payload - length (payload_of a) = length-drop (length (payload_of a)) (body_of a.rule (a.raw ++ bytes)).payload in
+        omega arith
+further a bytes to x (inr empty) = inr empty
+
+moved_none : (n : ℕ) (o : Option Bound) → o ≡ None → (elim o as (λ c. Option Bound) [ None ↦ None | Some to ↦ Some (record to { next = to.next + n }) ]) ≡ None
+moved_none n None is = refl
+moved_none n (Some to) is = absurd (cc is)
+
+-- what it was before
+record MovedFrom (n : ℕ) (o : Option Bound) (to : Bound) : Type 0 where
+  was : Bound
+  there : o ≡ Some was
+  is : to ≡ record was { next = was.next + n }
+
+moved_some : (n : ℕ) (o : Option Bound) (to : Bound) → (elim o as (λ c. Option Bound) [ None ↦ None | Some k ↦ Some (record k { next = k.next + n }) ]) ≡ Some to → MovedFrom n o to
+moved_some n None to is = absurd (cc is)
+moved_some n (Some k) to is = record { was = k; there = refl; is = let e : record k { next = k.next + n } ≡ to = cc in sym e }
+
+moves : (b : Since) (n : ℕ) (s : State) → FactsOf b s → (d : Exchange) → IsIn d s.exchanges → Rebinds s d (moved_on n d)
+moves b n s h d i = record {
+  number = refl;
+  key = refl;
+  aim = refl;
+  place = refl;
+  bounds = λ to is. let m = moved_some n d.bound to is in subst (λ x. x < s.next_instance) (sym (ap (λ (o : Bound). o.instance) m.is)) (h.asks.bounds d m.was i m.there);
+  noted = λ to is. let m = moved_some n d.bound to is in h.asks.noted d m.was i m.there;
+  keyed = λ to x is j id. let m = moved_some n d.bound to is in h.keyed d m.was x i m.there j (id ∙ ap (λ (o : Bound). o.instance) m.is);
+  unplaced = λ none. moved_none n d.bound (h.asks.unplaced d i none);
+  unheaded = λ isnt. moved_none n d.bound (h.asks.unheaded d i isnt);
+}
+
+move_on-behind : {b : Since} (a : Answer) (e : Exchange) (bytes : Bytes) (s : State) → b.excepts ≡ Some e.number → IsIn e s.exchanges
+    → ((to : Bound) (x : Instance) → e.bound ≡ Some to → IsIn x s.instances → x.id ≡ to.instance → Fitting a to x) → Sound b s
+    → Behind b (behind_bytes a bytes) e s (on_exchange e.number (moved_on (length (added a bytes))) s)
+unfolding on_exchange
+move_on-behind {b} a e bytes s apart there fits h = record {
+  is_sound = sound (rebound b e.number (moved_on n) s apart (λ d. refl) (λ d i is. moves b n s facts d i) facts);
+  conns = refl;
+  others = λ d i. others_by d (in_change (is_exchange e.number) (moved_on n) d s.exchanges i);
+  starts = λ d to x i is some j id. starts_by d to x (in_change (is_exchange e.number) (moved_on n) d s.exchanges i) is some j id;
+}
+  where
+    n : ℕ
+    n = length (added a bytes)
+
+    facts : FactsOf b s
+    facts = facts_of h
+
+    others_by : (d : Exchange) → Changed (is_exchange e.number) (moved_on n) s.exchanges d → (g : Exchange) × IsIn g s.exchanges × (d.number ≡ g.number) × (¬ (d.number ≡ e.number) → d.bound ≡ g.bound)
+    others_by d (same i isnt) = (d, i, refl, λ other_one. refl)
+    others_by d (other g i hit eq) = (g, i, ap exchange_number eq, λ other_one. absurd (other_one (ap exchange_number eq ∙ same_number g.number e.number hit)))
+
+    of_old : (g : Exchange) (to : Bound) (x : Instance) → IsIn g s.exchanges → g.number ≡ e.number → (moved_on n g).bound ≡ Some to → IsIn x s.instances → x.id ≡ to.instance → Fitting (behind_bytes a bytes) to x
+    of_old g to x i is some j id =
+        let m = moved_some n g.bound to some in
+        let g_is : g ≡ e = one_of exchange_number s.exchanges g e facts.asks.rise i there is in
+        subst (λ (o : Bound). Fitting (behind_bytes a bytes) o x) (sym m.is)
+        (further a bytes m.was x (fits m.was x (sym (ap (λ (y : Exchange). y.bound) g_is) ∙ m.there) j (id ∙ ap (λ (o : Bound). o.instance) m.is)))
+
+    starts_by : (d : Exchange) (to : Bound) (x : Instance) → Changed (is_exchange e.number) (moved_on n) s.exchanges d → d.number ≡ e.number → d.bound ≡ Some to → IsIn x s.instances → x.id ≡ to.instance → Fitting (behind_bytes a bytes) to x
+    starts_by d to x (same i isnt) is some j id = let both : true ≡ false = sym (number_same e.number) ∙ ap (λ y. y == e.number) (sym is) ∙ isnt in absurd (cc both)
+    starts_by d to x (other g i hit eq) is some j id = of_old g to x i (same_number g.number e.number hit) (sym (ap (λ (y : Exchange). y.bound) eq) ∙ some) j id
+
+-- ---- the data of a response go where its exchange is bound
+
+-- from a state of which only what was sent is other
+behind_sent : {b : Since} {a : Answer} {e : Exchange} (s t u : State) → OnlySent b s t → Behind b a e t u → Behind b a e s u
+behind_sent s t u only p = record {
+  is_sound = p.is_sound;
+  conns = p.conns ∙ only.conns;
+  others = λ d i. let f = p.others d i in (f.0, subst (λ es. IsIn f.0 es) only.exchanges f.1, f.2, f.3);
+  starts = p.starts;
+}
+
+-- an answer to which the exchange is bound as it tells
+abbrev pub IsFitting : Answer → Exchange → State → Type 0
+IsFitting a e s = (to : Bound) (x : Instance) → e.bound ≡ Some to → IsIn x s.instances → x.id ≡ to.instance → Fitting a to x
+
+data_sent : {b : Since} (a : Answer) (e : Exchange) (bytes : Bytes) (s : State) → IsIn e s.exchanges → IsFitting a e s → FactsOf b s → (to : Bound) → e.bound ≡ Some to → (x : Instance) → IsIn x s.instances → x.id ≡ to.instance
+    → AllSent (note_sent e a.head (length (payload_of a)) (added a bytes) s).sent x.key x.version to.next (added a bytes)
+data_sent a e bytes s there fits h to is x i id = by (fits to x is i id)
+  where
+    at : ℕ
+    at = length (payload_of a)
+
+    key : x.key ≡ key_of e
+    key = h.keyed e to x there is i id
+
+    by : Fitting a to x → AllSent (note_sent e a.head at (added a bytes) s).sent x.key x.version to.next (added a bytes)
+    by (inl fit) =
+        subst (λ k. AllSent (note_sent e a.head at (added a bytes) s).sent k x.version to.next (added a bytes)) (sym key)
+        (subst (λ n. AllSent (note_sent e a.head at (added a bytes) s).sent (key_of e) x.version n (added a bytes)) (sym fit.1)
+        (note_sent-sent e a.head at (added a bytes) x.version s (h.asks.noted e to there is) fit.0))
+    by (inr empty) = none a.rule empty
+      where
+        nothing : (n : ℕ) → drop n (let l : Bytes = [] in l) ≡ []
+        nothing zero = refl
+        nothing (suc n) = refl
+
+        none : (rule : BodyRule) → rule ≡ Empty → AllSent (note_sent e a.head at (added a bytes) s).sent x.key x.version to.next (drop at (body_of rule (a.raw ++ bytes)).payload)
+        none rule eq = subst (λ r. AllSent (note_sent e a.head at (added a bytes) s).sent x.key x.version to.next (drop at (body_of r (a.raw ++ bytes)).payload)) (sym eq)
+            (subst (λ l. AllSent (note_sent e a.head at (added a bytes) s).sent x.key x.version to.next l) (sym (nothing at)) tt)
+
+join_bound-behind : {b : Since} (a : Answer) (e : Exchange) (bytes : Bytes) (s t : State) → b.excepts ≡ Some e.number → IsIn e s.exchanges → IsFitting a e s → OnlySent b s t
+    → ((to : Bound) → e.bound ≡ Some to → (x : Instance) → IsIn x s.instances → x.id ≡ to.instance → AllSent t.sent x.key x.version to.next (added a bytes))
+    → Behind b (behind_bytes a bytes) e s (join_bound e (added a bytes) t)
+unfolding join_bound
+join_bound-behind {b} a e bytes s t apart there fits only sent = by e.bound refl
+  where
+    t_there : IsIn e t.exchanges
+    t_there = subst (λ es. IsIn e es) (sym only.exchanges) there
+
+    by : (bound : Option Bound) → e.bound ≡ bound → Behind b (behind_bytes a bytes) e s (elim bound as (λ c. State) [ None ↦ t | Some to ↦ on_exchange e.number (moved_on (length (added a bytes))) (join to (added a bytes) t) ])
+    by None none = behind_sent s t t only (record {
+      is_sound = only.is_sound;
+      conns = refl;
+      others = λ d i. (d, i, refl, λ other_one. refl);
+      starts = λ d to x i is some j id.
+          let d_is : d ≡ e = one_of exchange_number t.exchanges d e (facts_of only.is_sound).asks.rise i t_there is in
+          let both : None ≡ Some to = sym none ∙ sym (ap (λ (y : Exchange). y.bound) d_is) ∙ some in absurd (cc both);
+    })
+    by (Some to) is = behind_sent s u _ (record {
+      is_sound = joined_only.is_sound;
+      conns = joined_only.conns ∙ only.conns;
+      exchanges = joined_only.exchanges ∙ only.exchanges;
+      instances = joined_only.instances ∙ only.instances;
+    }) (move_on-behind a e bytes u apart (subst (λ es. IsIn e es) (sym joined_only.exchanges) t_there) (λ k x bound i id. fits k x bound (subst (λ xs. IsIn x xs) (joined_only.instances ∙ only.instances) i) id) joined_only.is_sound)
+      where
+        u : State
+        u = join to (added a bytes) t
+
+        joined_only : OnlySent b t u
+        joined_only = join-only to (added a bytes) t (λ counts x i id. sent to is x (subst (λ xs. IsIn x xs) only.instances i) id) only.is_sound
+
+pub deliver-behind : {b : Since} (a : Answer) (e : Exchange) (bytes : Bytes) (s : State) → b.excepts ≡ Some e.number → IsIn e s.exchanges → IsFitting a e s → Sound b s
+    → Behind b (behind_bytes a bytes) e s (deliver e a (length (payload_of a)) (added a bytes) s)
+unfolding deliver pour
+deliver-behind a e bytes s apart there fits h =
+    behind_told (on_passed (on_pipe e.number (poured (added a bytes)))) s _ (λ c. same_parts _ c refl refl refl)
+    (join_bound-behind a e bytes s _ apart there fits (note_sent-only e a.head (length (payload_of a)) (added a bytes) s h) (λ to is x i id. data_sent a e bytes s there fits (facts_of h) to is x i id))

@@ -1,0 +1,59 @@
+-- Changes of one connection, exchange or client, and an exchange that is over, keep what is sound.
+use Rattle.std.proofs.Common.{◌≡◌, refl, ℕ, Bool, true, not, ◌==◌, List, [], ◌∷◌, map, filter, cond, Some, sym, subst, ap, ◌∙◌}
+use Rattle.pp_law.specs.Connections.{is_client, is_conn, is_exchange, is_for, on_conn, on_exchange, on_client, on_client_of, attempts_of, lost_one, lose_attempt, fail, without_ask, end_exchange}
+use Rattle.pp_law.specs.State.{State, Client, Conn, Exchange}
+use Rattle.pp_laws.specs.Runs.{IsIn}
+use Rattle.pp_laws.proofs.Callers.{same_parts}
+use Rattle.pp_laws.proofs.KeptClients.{SameClient, clients_changed}
+use Rattle.pp_laws.proofs.KeptConns.{ConnFrom, SameConn, conns_changed, conns_kept}
+use Rattle.pp_laws.proofs.KeptExchanges.{SameExchange, exchanges_changed, exchanges_filtered}
+use Rattle.pp_laws.proofs.Lists.{From, in_filter, in_map, rise_map}
+use Rattle.pp_laws.proofs.Sound.{Since, Sound, conn_number, facts_of, first_of, sound}
+
+pub on_conn-sound : {b : Since} (n : ℕ) (f : Conn → Conn) (s : State) → ((k : Conn) → SameConn (f k) k) → Sound b s → Sound b (on_conn n f s)
+unfolding on_conn
+on_conn-sound {b} n f s kept h = sound (conns_changed b s (is_conn n) f kept (facts_of h))
+
+pub on_exchange-sound : {b : Since} (n : ℕ) (f : Exchange → Exchange) (s : State) → ((e : Exchange) → SameExchange (f e) e) → Sound b s → Sound b (on_exchange n f s)
+unfolding on_exchange
+on_exchange-sound {b} n f s kept h = sound (exchanges_changed b s (is_exchange n) f kept (facts_of h))
+
+pub on_client-sound : {b : Since} (n : ℕ) (f : Client → Client) (s : State) → ((c : Client) → SameClient (f c) c) → Sound b s → Sound b (on_client n f s)
+unfolding on_client
+on_client-sound {b} n f s kept h = sound (clients_changed b s (is_client n) f kept (facts_of h))
+
+pub on_client_of-sound : {b : Since} (e : Exchange) (f : Client → Client) (s : State) → ((c : Client) → SameClient (f c) c) → Sound b s → Sound b (on_client_of e f s)
+unfolding on_client_of
+on_client_of-sound {b} e f s kept h = sound (clients_changed b s (is_for e) f kept (facts_of h))
+
+pub lose_attempt-sound : {b : Since} (e : Exchange) (s : State) → Sound b s → Sound b (lose_attempt e s)
+unfolding lose_attempt
+lose_attempt-sound e s h = on_client_of-sound e (lost_one (attempts_of e)) s (λ c. same_parts _ c refl refl refl) h
+
+pub fail-sound : {b : Since} (e : Exchange) (s : State) → Sound b s → Sound b (fail e s)
+unfolding fail
+fail-sound e s h = on_client_of-sound e (λ c. record c { has_failed = true }) s (λ c. same_parts _ c refl refl refl) h
+
+-- ---- an exchange is over
+
+first_filter : (p : ℕ → Bool) (n : ℕ) (ns : List ℕ) → p n ≡ true → first_of ns ≡ Some n → first_of (filter p ns) ≡ Some n
+first_filter p n [] holds is = absurd (cc is)
+first_filter p n (m ∷ ms) holds is = let e : m ≡ n = cc in subst (λ t. first_of (cond t (m ∷ filter p ms) (filter p ms)) ≡ Some n) (sym (ap p e ∙ holds)) is
+
+pub end_exchange-sound : {b : Since} (n : ℕ) (s : State) → Sound b s → Sound b (end_exchange n s)
+unfolding end_exchange
+end_exchange-sound {b} n s h = sound (conns_kept b (record s { exchanges = filter (λ e. not (is_exchange n e)) s.exchanges }) (map (without_ask n) s.conns) (rise_map conn_number (without_ask n) (λ k. refl) s.conns (facts_of h).lines.rise) (λ k i. from k (in_map (without_ask n) k s.conns i))
+    (exchanges_filtered b s (λ e. not (is_exchange n e)) (facts_of h)))
+  where
+    of_was : (j : Conn) → IsIn j s.conns → ConnFrom s.conns (without_ask n j)
+    of_was j i = record {
+      was = j;
+      there = i;
+      number = refl;
+      line = λ m l. (in_filter (λ x. not (x == n)) m j.line l).0;
+      front = λ m l is. first_filter (λ x. not (x == n)) m j.line (in_filter (λ x. not (x == n)) m j.line l).1 is;
+      answer = λ m l. refl;
+    }
+
+    from : (k : Conn) → From (without_ask n) s.conns k → ConnFrom s.conns k
+    from k r = subst (λ (x : Conn). ConnFrom s.conns x) (sym r.is) (of_was r.was r.there)

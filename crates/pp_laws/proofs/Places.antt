@@ -1,0 +1,205 @@
+-- The placing of exchanges keeps what is sound.
+use Rattle.std.proofs.Common.{◌≡◌, ◌⊎◌, refl, ℕ, ◌<◌, ◌≤◌, true, false, ◌==◌, List, [], ◌∷◌, ◌++◌, map, Option, Some, None, inl, inr, sym, subst, ap, ◌∙◌, lt_irrefl}
+use Rattle.pp_peers.specs.declared.placing.Placed.TheVariants.{On, Dial, CloseThenDial, Wait}
+use Rattle.pp_peers.specs.declared.placing.Placed.{Placed}
+use Rattle.pp_law.specs.Connections.{is_conn, is_exchange, on_conn, on_exchange, wanted_place, put_on, place_all, placing, WaitsDial, WaitsDrop, Placement}
+use Rattle.pp_law.specs.Lists.{change}
+use Rattle.pp_law.specs.State.{State, Conn, Exchange, Bound}
+use Rattle.pp_laws.specs.Numbers.{AreRising}
+use Rattle.pp_laws.specs.Runs.{IsIn}
+use Rattle.pp_laws.proofs.Closings.{Unbound, moved_facts}
+use Rattle.pp_laws.proofs.Lists.{Changed, above_in, in_change, in_push, one_of, other, rise_change, same}
+use Rattle.pp_laws.proofs.Shrinks.{NoLine}
+use Rattle.pp_laws.proofs.Sound.{Brings, FactsOf, Since, Sound, conn_number, exchange_number, facts_of, first_of, sound}
+use Rattle.pp_laws.proofs.Tests.{number_same, same_number}
+
+-- ---- places
+
+-- in no line, begun before, and not bound
+pub record IsReady (n : ℕ) (s : State) : Type 0 where
+  pub no_line : NoLine n s
+  pub given : n < s.next_exchange
+  pub unbound : Unbound n s
+
+first_append : (n : ℕ) (ns ms : List ℕ) → first_of ns ≡ Some n → first_of (ns ++ ms) ≡ Some n
+first_append n [] ms is = absurd (cc is)
+first_append n (m ∷ ns) ms is = is
+
+appended_facts : (b : Since) (n k : ℕ) (s : State) → n < s.next_exchange → Unbound n s → ((e : Exchange) → IsIn e s.exchanges → e.number ≡ n → e.place ≡ Some k) → FactsOf b s
+    → FactsOf b (record s { conns = change (is_conn k) (λ j. record j { line = j.line ++ n ∷ [] }) s.conns })
+appended_facts b n k s given unbound place h = record {
+  grew = h.grew;
+  lines = record {
+    rise = rise_change conn_number (is_conn k) longer (λ j. refl) s.conns h.lines.rise;
+    given = λ j i. given_by j (at j i);
+    asked = λ j m i l. asked_by j m (at j i) l;
+  };
+  asks = h.asks;
+  rows = h.rows;
+  placed = λ j e i m l. placed_by j e (at j i) m l;
+  brings = λ j e to i m l is isnt. brings_by j e to (at j i) m l is isnt;
+  keyed = h.keyed;
+  callers = h.callers;
+  held = h.held;
+}
+  where
+    longer : Conn → Conn
+    longer j = record j { line = j.line ++ n ∷ [] }
+
+    at : (j : Conn) → IsIn j (change (is_conn k) (λ i. record i { line = i.line ++ n ∷ [] }) s.conns) → Changed (is_conn k) (λ i. record i { line = i.line ++ n ∷ [] }) s.conns j
+    at j i = in_change (is_conn k) (λ l. record l { line = l.line ++ n ∷ [] }) j s.conns i
+
+    in_line : (j g : Conn) (m : ℕ) → j ≡ record g { line = g.line ++ n ∷ [] } → IsIn m j.line → IsIn m g.line ⊎ (m ≡ n)
+    in_line j g m eq l = in_push m g.line n (subst (λ (x : Conn). IsIn m x.line) eq l)
+
+    given_by : (j : Conn) → Changed (is_conn k) (λ i. record i { line = i.line ++ n ∷ [] }) s.conns j → j.number ≤ s.top
+    given_by j (same i isnt) = h.lines.given j i
+    given_by j (other g i is eq) = subst (λ m. m ≤ s.top) (sym (ap conn_number eq)) (h.lines.given g i)
+
+    asked_by : (j : Conn) (m : ℕ) → Changed (is_conn k) (λ i. record i { line = i.line ++ n ∷ [] }) s.conns j → IsIn m j.line → m < s.next_exchange
+    asked_by j m (same i isnt) l = h.lines.asked j m i l
+    asked_by j m (other g i is eq) l = asked_at (in_line j g m eq l)
+      where
+        asked_at : IsIn m g.line ⊎ (m ≡ n) → m < s.next_exchange
+        asked_at (inl r) = h.lines.asked g m i r
+        asked_at (inr r) = subst (λ x. x < s.next_exchange) (sym r) given
+
+    placed_by : (j : Conn) (e : Exchange) → Changed (is_conn k) (λ i. record i { line = i.line ++ n ∷ [] }) s.conns j → IsIn e s.exchanges → IsIn e.number j.line → e.place ≡ Some j.number
+    placed_by j e (same i isnt) m l = h.placed j e i m l
+    placed_by j e (other g i is eq) m l = placed_at (in_line j g e.number eq l)
+      where
+        placed_at : IsIn e.number g.line ⊎ (e.number ≡ n) → e.place ≡ Some j.number
+        placed_at (inl r) = h.placed g e i m r ∙ ap (λ x. Some x) (sym (ap conn_number eq))
+        placed_at (inr r) = place e m r ∙ ap (λ x. Some x) (sym (ap conn_number eq ∙ same_number g.number k is))
+
+    brings_by : (j : Conn) (e : Exchange) (to : Bound) → Changed (is_conn k) (λ i. record i { line = i.line ++ n ∷ [] }) s.conns j → IsIn e s.exchanges → IsIn e.number j.line → e.bound ≡ Some to → ¬ (b.excepts ≡ Some e.number) → Brings s.instances j e to
+    brings_by j e to (same i isnt) m l is but = h.brings j e to i m l is but
+    brings_by j e to (other g i hit eq) m l is but = brings_at (in_line j g e.number eq l)
+      where
+        longer_brings : Brings s.instances g e to → Brings s.instances j e to
+        longer_brings w = record {
+          front = ap (λ (x : Conn). first_of x.line) eq ∙ first_append e.number g.line (n ∷ []) w.front;
+          answer = w.answer;
+          is = ap (λ (x : Conn). x.answer) eq ∙ w.is;
+          fits = w.fits;
+        }
+
+        brings_at : IsIn e.number g.line ⊎ (e.number ≡ n) → Brings s.instances j e to
+        brings_at (inl r) = longer_brings (h.brings g e to i m r is but)
+        brings_at (inr r) = let both : None ≡ Some to = sym (unbound e m r) ∙ is in absurd (cc both)
+
+pub put_on-sound : {b : Since} (n k : ℕ) (s : State) → IsReady n s → Sound b s → Sound b (put_on n k s)
+unfolding put_on on_conn on_exchange
+put_on-sound {b} n k s ready h = sound (appended_facts b n k (record s { exchanges = change (is_exchange n) (λ e. record e { place = Some k; asked = 0 }) s.exchanges }) ready.given unbound place
+    (moved_facts b n (λ e. record e { place = Some k; asked = 0 }) s (λ e. record { number = refl; key = refl; aim = refl; is_headed = refl; bound = refl }) ready.no_line ready.unbound (facts_of h)))
+  where
+    unbound : (e : Exchange) → IsIn e (change (is_exchange n) (λ d. record d { place = Some k; asked = 0 }) s.exchanges) → e.number ≡ n → e.bound ≡ None
+    unbound e i is = by (in_change (is_exchange n) (λ d. record d { place = Some k; asked = 0 }) e s.exchanges i)
+      where
+        by : Changed (is_exchange n) (λ d. record d { place = Some k; asked = 0 }) s.exchanges e → e.bound ≡ None
+        by (same j isnt) = ready.unbound e j is
+        by (other d j hit eq) = ap (λ (x : Exchange). x.bound) eq ∙ ready.unbound d j (same_number d.number n hit)
+
+    place : (e : Exchange) → IsIn e (change (is_exchange n) (λ d. record d { place = Some k; asked = 0 }) s.exchanges) → e.number ≡ n → e.place ≡ Some k
+    place e i is = by (in_change (is_exchange n) (λ d. record d { place = Some k; asked = 0 }) e s.exchanges i)
+      where
+        by : Changed (is_exchange n) (λ d. record d { place = Some k; asked = 0 }) s.exchanges e → e.place ≡ Some k
+        by (same j isnt) = let both : true ≡ false = sym (number_same n) ∙ sym (ap (λ x. x == n) is) ∙ isnt in absurd (cc both)
+        by (other d j hit eq) = ap (λ (x : Exchange). x.place) eq
+
+put_on-ready : (m n k : ℕ) (s : State) → ¬ (m ≡ n) → IsReady m s → IsReady m (put_on n k s)
+unfolding put_on on_conn on_exchange
+put_on-ready m n k s apart ready = record {
+  no_line = λ j i l. no_by j (in_change (is_conn k) (λ g. record g { line = g.line ++ n ∷ [] }) j s.conns i) l;
+  given = ready.given;
+  unbound = λ e i is. unbound_by e (in_change (is_exchange n) (λ d. record d { place = Some k; asked = 0 }) e s.exchanges i) is;
+}
+  where
+    no_by : (j : Conn) → Changed (is_conn k) (λ g. record g { line = g.line ++ n ∷ [] }) s.conns j → IsIn m j.line → ⊥
+    no_by j (same i isnt) l = ready.no_line j i l
+    no_by j (other g i is eq) l = by (in_push m g.line n (subst (λ (x : Conn). IsIn m x.line) eq l))
+      where
+        by : IsIn m g.line ⊎ (m ≡ n) → ⊥
+        by (inl r) = ready.no_line g i r
+        by (inr r) = apart r
+
+    unbound_by : (e : Exchange) → Changed (is_exchange n) (λ d. record d { place = Some k; asked = 0 }) s.exchanges e → e.number ≡ m → e.bound ≡ None
+    unbound_by e (same i isnt) is = ready.unbound e i is
+    unbound_by e (other d i hit eq) is = ap (λ (x : Exchange). x.bound) eq ∙ ready.unbound d i (sym (ap exchange_number eq) ∙ is)
+
+-- those without a place are ready
+abbrev AreReady : List Exchange → State → Type 0
+AreReady es s = (e : Exchange) → IsIn e es → e.place ≡ None → IsReady e.number s
+
+place_by : {b : Since} (e : Exchange) (es : List Exchange) (s : State) (wanted : Placed) → IsReady e.number s → AreRising (map exchange_number (e ∷ es)) → AreReady es s
+    → ((t : State) → AreReady es t → Sound b t → Sound b (place_all es t).state) → Sound b s
+    → Sound b (elim wanted as (λ c. Placement) [
+      | On k ↦ place_all es (put_on e.number k s)
+      | Wait ↦ place_all es s
+      | Dial ↦ record { state = s; pause = WaitsDial e }
+      | CloseThenDial k ↦ record { state = s; pause = WaitsDrop k e }
+    ]).state
+place_by e es s (On k) ready rise others rest h = rest (put_on e.number k s) (λ d i none. put_on-ready d.number e.number k s (apart d i) (others d i none)) (put_on-sound e.number k s ready h)
+  where
+    apart : (d : Exchange) → IsIn d es → ¬ (d.number ≡ e.number)
+    apart d i is = lt_irrefl e.number (subst (λ n. e.number < n) is (above_in exchange_number e.number d es rise.0 i))
+place_by e es s Wait ready rise others rest h = rest s others h
+place_by e es s Dial ready rise others rest h = h
+place_by e es s (CloseThenDial k) ready rise others rest h = h
+
+place_at : {b : Since} (place : Option ℕ) (p q : Placement) → Sound b p.state → (place ≡ None → Sound b q.state) → Sound b (elim place as (λ c. Placement) [ Some k ↦ p | None ↦ q ]).state
+place_at (Some k) p q hp hq = hp
+place_at None p q hp hq = hq refl
+
+place_all-sound : {b : Since} (es : List Exchange) (s : State) → AreRising (map exchange_number es) → AreReady es s → Sound b s → Sound b (place_all es s).state
+place_all-sound [] s rise ready h = h
+place_all-sound (e ∷ es) s rise ready h =
+    place_at e.place _ _ (place_all-sound es s rise.1 (λ d i. ready d (inr i)) h)
+    (λ none. place_by e es s (wanted_place s e) (ready e (inl refl) none) rise (λ d i. ready d (inr i)) (λ t others ht. place_all-sound es t rise.1 others ht) h)
+
+-- the one for which a dial is waited for is ready
+dial_by : (e : Exchange) (es : List Exchange) (s : State) (wanted : Placed) → IsReady e.number s → AreRising (map exchange_number (e ∷ es)) → AreReady es s
+    → ((t : State) → AreReady es t → (d : Exchange) → (place_all es t).pause ≡ WaitsDial d → IsReady d.number (place_all es t).state) → (d : Exchange)
+    → (elim wanted as (λ c. Placement) [
+      | On k ↦ place_all es (put_on e.number k s)
+      | Wait ↦ place_all es s
+      | Dial ↦ record { state = s; pause = WaitsDial e }
+      | CloseThenDial k ↦ record { state = s; pause = WaitsDrop k e }
+    ]).pause ≡ WaitsDial d
+    → IsReady d.number (elim wanted as (λ c. Placement) [
+      | On k ↦ place_all es (put_on e.number k s)
+      | Wait ↦ place_all es s
+      | Dial ↦ record { state = s; pause = WaitsDial e }
+      | CloseThenDial k ↦ record { state = s; pause = WaitsDrop k e }
+    ]).state
+dial_by e es s (On k) ready rise others rest d is = rest (put_on e.number k s) (λ g i none. put_on-ready g.number e.number k s (apart g i) (others g i none)) d is
+  where
+    apart : (g : Exchange) → IsIn g es → ¬ (g.number ≡ e.number)
+    apart g i same_one = lt_irrefl e.number (subst (λ n. e.number < n) same_one (above_in exchange_number e.number g es rise.0 i))
+dial_by e es s Wait ready rise others rest d is = rest s others d is
+dial_by e es s Dial ready rise others rest d is = let eq : e ≡ d = cc in subst (λ (x : Exchange). IsReady x.number s) eq ready
+dial_by e es s (CloseThenDial k) ready rise others rest d is = absurd (cc is)
+
+dial_at : (place : Option ℕ) (p q : Placement) (d : Exchange) → (p.pause ≡ WaitsDial d → IsReady d.number p.state) → (place ≡ None → q.pause ≡ WaitsDial d → IsReady d.number q.state)
+    → (elim place as (λ c. Placement) [ Some k ↦ p | None ↦ q ]).pause ≡ WaitsDial d → IsReady d.number (elim place as (λ c. Placement) [ Some k ↦ p | None ↦ q ]).state
+dial_at (Some k) p q d hp hq is = hp is
+dial_at None p q d hp hq is = hq refl is
+
+place_all-dial : (es : List Exchange) (s : State) → AreRising (map exchange_number es) → AreReady es s → (d : Exchange) → (place_all es s).pause ≡ WaitsDial d → IsReady d.number (place_all es s).state
+place_all-dial [] s rise ready d is = absurd (cc is)
+place_all-dial (e ∷ es) s rise ready d is =
+    dial_at e.place _ _ d (λ more. place_all-dial es s rise.1 (λ g i. ready g (inr i)) d more)
+    (λ none more. dial_by e es s (wanted_place s e) (ready e (inl refl) none) rise (λ g i. ready g (inr i)) (λ t others g later. place_all-dial es t rise.1 others g later) d more) is
+
+all_ready : {b : Since} (s : State) → Sound b s → AreReady s.exchanges s
+all_ready s h e i none = record {
+  no_line = λ k j l. let both : None ≡ Some k.number = sym none ∙ (facts_of h).placed k e j i l in cc both;
+  given = (facts_of h).asks.given e i;
+  unbound = λ d j is. ap (λ (x : Exchange). x.bound) (one_of exchange_number s.exchanges d e (facts_of h).asks.rise j i is) ∙ (facts_of h).asks.unplaced e i none;
+}
+
+pub placing-sound : {b : Since} (s : State) → Sound b s → Sound b (placing s).state
+placing-sound s h = place_all-sound s.exchanges s (facts_of h).asks.rise (all_ready s h) h
+
+pub placing-dial : {b : Since} (s : State) → Sound b s → (d : Exchange) → (placing s).pause ≡ WaitsDial d → IsReady d.number (placing s).state
+placing-dial s h d is = place_all-dial s.exchanges s (facts_of h).asks.rise (all_ready s h) d is

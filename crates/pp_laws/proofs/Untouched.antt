@@ -1,0 +1,109 @@
+-- What is done to rows and clients leaves connections and exchanges as they are.
+use Rattle.std.proofs.Common.{◌≡◌, refl, ℕ, Bool, true, false, List, [], ◌∷◌, filter, Option, Some, None, ◌∙◌}
+use Rattle.std.specs.Prelude.{nat_lt}
+use Rattle.pp_fresh.specs.declared.aging.Times.{Times}
+use Rattle.pp_head.specs.Response.{Response}
+use Rattle.pp_text.specs.Fields.{Field}
+use Rattle.pp_valid.specs.declared.version.Version.{Version}
+use Rattle.pp_law.specs.Connections.{attempts_of, lost_one, on_client_of, lose_attempt}
+use Rattle.pp_law.specs.Lists.{Bytes, change}
+use Rattle.pp_law.specs.OwnHeads.{key_of, renewed, renew, lose_own, clears_row, cleared_by, invalidates, invalidated}
+use Rattle.pp_law.specs.State.{State, Aim, Through, Own, Filling, Client, Exchange, Instance}
+use Rattle.pp_law.specs.Table.{is_row_of, is_left_over, is_entry_of, row, rows, kept_row, idle_row, on_instance, forget, forget_each, swept, clear, mark_row, forget_row, with_room, add_row, make_row, enter}
+
+-- ---- what leaves connections and exchanges as they are
+
+pub record Untouched (s t : State) : Type 0 where
+  pub conns : t.conns ≡ s.conns
+  pub exchanges : t.exchanges ≡ s.exchanges
+
+pub untouched : (s : State) → Untouched s s
+untouched s = record { conns = refl; exchanges = refl }
+
+pub untouched_on : (s t u : State) → Untouched s t → Untouched t u → Untouched s u
+untouched_on s t u one two = record { conns = two.conns ∙ one.conns; exchanges = two.exchanges ∙ one.exchanges }
+
+untouched_when : (s : State) (t : Bool) {x y : State} → Untouched s x → Untouched s y → Untouched s (elim t as (λ c. State) [ true ↦ x | false ↦ y ])
+untouched_when s true hx hy = hx
+untouched_when s false hx hy = hy
+
+untouched_each : {A : Type 0} (s : State) (o : Option A) {x : State} {y : A → State} → Untouched s x → ((a : A) → Untouched s (y a)) → Untouched s (elim o as (λ c. State) [ None ↦ x | Some a ↦ y a ])
+untouched_each s None hx hy = hx
+untouched_each s (Some a) hx hy = hy a
+
+untouched_aim : (s : State) (a : Aim) {x y : State} {z : Version → ℕ → ℕ → State} → Untouched s x → Untouched s y → ((v : Version) (from to : ℕ) → Untouched s (z v from to))
+    → Untouched s (elim a as (λ c. State) [ Through ↦ x | Own ↦ y | Filling v from to ↦ z v from to ])
+untouched_aim s Through hx hy hz = hx
+untouched_aim s Own hx hy hz = hy
+untouched_aim s (Filling v from to) hx hy hz = hz v from to
+
+pub on_client_of-untouched : (e : Exchange) (f : Client → Client) (s : State) → Untouched s (on_client_of e f s)
+unfolding on_client_of
+on_client_of-untouched e f s = record { conns = refl; exchanges = refl }
+
+pub lose_attempt-untouched : (e : Exchange) (s : State) → Untouched s (lose_attempt e s)
+unfolding lose_attempt
+lose_attempt-untouched e s = on_client_of-untouched e (lost_one (attempts_of e)) s
+
+on_instance-untouched : (id : ℕ) (f : Instance → Instance) (s : State) → Untouched s (on_instance id f s)
+unfolding on_instance
+on_instance-untouched id f s = record { conns = refl; exchanges = refl }
+
+forget-untouched : (id : ℕ) (s : State) → Untouched s (forget id s)
+unfolding forget
+forget-untouched id s = record { conns = refl; exchanges = refl }
+
+forget_each-untouched : (xs : List Instance) (s : State) → Untouched s (forget_each xs s)
+unfolding forget_each
+forget_each-untouched [] s = untouched s
+forget_each-untouched (x ∷ xs) s = untouched_on s _ _ (forget-untouched x.id s) (forget_each-untouched xs (forget x.id s))
+
+swept-untouched : (s : State) → Untouched s (swept s)
+unfolding swept
+swept-untouched s = forget_each-untouched (filter (is_left_over s) s.instances) s
+
+clear-untouched : (key : Bytes) (s : State) → Untouched s (clear key s)
+unfolding clear
+clear-untouched key s = let u = swept-untouched (record s { instances = change (is_row_of key) (λ x. record x { is_retired = true }) s.instances; entries = change (is_entry_of key) (λ e. record e { is_stale = true }) s.entries }) in
+    record { conns = u.conns; exchanges = u.exchanges }
+
+mark_row-untouched : (id : ℕ) (s : State) → Untouched s (mark_row id s)
+unfolding mark_row
+mark_row-untouched id s = let u = on_instance-untouched id (λ x. record x { touched = s.uses }) s in record { conns = u.conns; exchanges = u.exchanges }
+
+forget_row-untouched : (x : Instance) (s : State) → Untouched s (forget_row x s)
+unfolding forget_row
+forget_row-untouched x s = let u = forget-untouched x.id s in record { conns = u.conns; exchanges = u.exchanges }
+
+with_room-untouched : (s : State) → Untouched s (with_room s)
+unfolding with_room
+with_room-untouched s = untouched_when s (nat_lt (rows s) 1024) (untouched s) (untouched_each s (idle_row s) (untouched s) (λ x. forget_row-untouched x s))
+
+add_row-untouched : (key : Bytes) (version : Version) (fields : List Field) (times : Times) (is_new : Bool) (s : State) → Untouched s (add_row key version fields times is_new s)
+unfolding add_row
+add_row-untouched key version fields times is_new s = record { conns = refl; exchanges = refl }
+
+pub make_row-untouched : (key : Bytes) (version : Version) (fields : List Field) (times : Times) (s : State) → Untouched s (make_row key version fields times s)
+unfolding make_row
+make_row-untouched key version fields times s = untouched_on s _ _ (untouched_on s _ _ (clear-untouched key s) (with_room-untouched _)) (add_row-untouched key version fields times true _)
+
+pub enter-untouched : (key : Bytes) (is_new : Bool) (s : State) → Untouched s (enter key is_new s)
+unfolding enter
+enter-untouched key is_new s =
+    untouched_each s (row s key) (untouched_each s (kept_row s key) (untouched s) (λ e. untouched_on s _ _ (with_room-untouched s) (add_row-untouched key e.version e.fields e.times is_new _))) (λ x. untouched s)
+
+pub renew-untouched : (x : Instance) (head : Response) (times : Times) (s : State) → Untouched s (renew x head times s)
+unfolding renew
+renew-untouched x head times s = untouched_on s _ _ (on_instance-untouched x.id (renewed head times) s) (mark_row-untouched x.id _)
+
+pub lose_own-untouched : (e : Exchange) (s : State) → Untouched s (lose_own e s)
+unfolding lose_own
+lose_own-untouched e s = untouched_aim s e.aim (untouched s) (lose_attempt-untouched e s) (λ v from to. untouched s)
+
+pub cleared_by-untouched : (head : Response) (e : Exchange) (s : State) → Untouched s (cleared_by head e s)
+unfolding cleared_by
+cleared_by-untouched head e s = untouched_when s (clears_row head) (clear-untouched (key_of e) s) (untouched s)
+
+pub invalidated-untouched : (e : Exchange) (head : Response) (s : State) → Untouched s (invalidated e head s)
+unfolding invalidated
+invalidated-untouched e head s = untouched_when s (invalidates e head) (clear-untouched (key_of e) s) (untouched s)
