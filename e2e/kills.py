@@ -94,7 +94,8 @@ def found(folder, count):
 
 
 def fill_and_kill(folder, choose, count, length):
-    """Starts and kills it until all bodies are kept, and sees each time that nothing was lost. Answers how often it was killed."""
+    """Starts and kills it until all bodies are kept, and sees each time that nothing was lost. Answers how often it was
+    killed."""
     extents, kills = {}, 0
     while extents != {number: length for number in range(count)}:
         process = keeper("fill", folder, count, length)
