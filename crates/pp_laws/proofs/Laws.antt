@@ -1,4 +1,4 @@
--- The laws: numbers are never given twice, what was sent is never forgotten, and what is held was sent.
+-- The laws: numbers are distinct, what was sent is never forgotten, and what is held was sent.
 use Rattle.std.proofs.Common.{◌≡◌, refl, Bool, true, false, List, [], ◌∷◌, ◌++◌, None, sym, subst}
 use Rattle.pp_world.specs.Log.{Log}
 use Rattle.pp_world.specs.declared.happening.Happening.TheVariants.{Said}
@@ -6,7 +6,7 @@ use Rattle.pp_law.proofs.Prefixes.{front_from}
 use Rattle.pp_law.specs.After.{after}
 use Rattle.pp_law.specs.Lawful.{LawfulFrom, Lawful}
 use Rattle.pp_law.specs.State.{State, Term, start}
-use Rattle.pp_laws.specs.Numbers.{NumbersAreNeverGivenTwice}
+use Rattle.pp_laws.specs.Numbers.{NumbersAreDistinct}
 use Rattle.pp_laws.specs.Origin.{IsBackPart, SentOnlyGrows, LoadsWhatWasSent, HeldWasSent, SaidWasSent}
 use Rattle.pp_laws.specs.Runs.{after_all, state_after}
 use Rattle.pp_laws.proofs.Happenings.{after_all-sound}
@@ -62,7 +62,7 @@ sent_grows terms front rest lawful =
     after_all-sound s rest refl (λ counts. absurd (cc counts)) (back_from (start terms) front rest lawful) (since_now s here) in
     subst (λ (t : State). IsBackPart s.sent t.sent) (sym (after_all-append (start terms) front rest)) (facts_of there).grew
 
-pub own_numbers : NumbersAreNeverGivenTwice
+pub own_numbers : NumbersAreDistinct
 own_numbers terms log lawful =
     let f = facts_of (whole_sound terms log lawful) in
     record {

@@ -1,4 +1,4 @@
--- Numbers of clients, connections, exchanges and instances: none is given twice.
+-- Numbers of what is there: distinct, and below the next that is given.
 use Rattle.std.specs.Prelude.{◌≡◌, ℕ, ◌<◌, ◌≤◌, List, [], ◌∷◌, map, Some}
 use Rattle.pp_world.specs.Log.{Log}
 use Rattle.pp_law.specs.Lawful.{Lawful}
@@ -29,5 +29,5 @@ pub record HasOwnNumbers (s : State) : Type 0 where
   pub chunks_given : (c : Chunk) → IsIn c s.chunks → c.instance < s.next_instance
   pub bounds_given : (e : Exchange) (b : Bound) → IsIn e s.exchanges → e.bound ≡ Some b → b.instance < s.next_instance
 
-abbrev pub NumbersAreNeverGivenTwice : Type 0
-NumbersAreNeverGivenTwice = (terms : List Term) (log : Log) → Lawful terms log → HasOwnNumbers (state_after terms log)
+abbrev pub NumbersAreDistinct : Type 0
+NumbersAreDistinct = (terms : List Term) (log : Log) → Lawful terms log → HasOwnNumbers (state_after terms log)

@@ -1,5 +1,5 @@
 use Rattle.pp_laws.proofs.Laws.{own_numbers}
-use Rattle.pp_laws.proofs.numbers.numbers_are_never_given_twice.Goals as goal
+use Rattle.pp_laws.proofs.numbers.numbers_are_distinct.Goals as goal
 
 pub returns : goal.returns
 returns c = record { numbers = own_numbers }
