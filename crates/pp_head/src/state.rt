@@ -7,7 +7,8 @@ pub enum HeadState<H> {
     Whole(H),
     /// As many bytes or line ends are there as a head may have, and it is not whole.
     TooLong,
-    /// No bytes that may follow make a head of the grammar, of any size.
+    /// No bytes that may follow make a head of the grammar, of any size, and the bytes do not end inside a
+    /// request target.
     Bad,
     /// Some bytes may follow that make a head, or the bytes end inside a request target.
     More,

@@ -27,7 +27,7 @@ const DRAIN_READS: u32 = 64;
 /// ```text
 /// Accepted -> Lingering   it is closed, and the client may still send       [linger]
 /// Dialled  -> Answered    the system tells how the dial went                [hear]
-/// Answered -> Reached     it went well                                      [reach]
+/// Answered -> Reached     somebody looked how it went                       [reach]
 /// Reached  -> Broken      a write failed                                    [write]
 /// ```
 #[derive(Clone, Copy, Debug, PartialEq, Eq)]

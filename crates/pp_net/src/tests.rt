@@ -260,7 +260,7 @@ fn a_configuration_is_read_up_to_its_limit(rt: HostRuntime) -> Result<(), Fail> 
 }
 
 #[test]
-fn a_line_is_printed(rt: HostRuntime) -> Result<(), Fail> {
+fn printing_and_noting_are_no_faults(rt: HostRuntime) -> Result<(), Fail> {
     let mut world = NetWorld::new(rt)?;
     world.print(b"polipo: a complaint\n");
     world.print(b"a line\n");

@@ -6,9 +6,9 @@ use pp_text::Octets;
 pub enum Decision {
     /// A page of the proxy's own, with this status.
     Refuse(u16),
-    /// A whole or partial reply from an instance that is fresh: the span of offsets, half-open.
+    /// A reply from an instance, of this span of offsets, half-open, each byte of which is held.
     Hit(u64, u64),
-    /// The same with the status 206.
+    /// A reply from an instance, of this span, not all of which is held: what is missing is asked for.
     Part(u64, u64),
     /// The head of the reply alone.
     Head,
