@@ -1,0 +1,5 @@
+pub mod Closing
+pub mod Keeping
+pub mod Opening
+pub mod QuietLemmas
+pub mod Waiting
