@@ -1,6 +1,6 @@
 -- What is left to be said to a request: the interim answer, the head or page, and the body (RFC 2616, sections 6
 -- and 8.2.3).
-use Rattle.std.specs.Prelude.{ℕ, ◌+◌, ◌-◌, ◌/◌, ◌%◌, ◌≤◌, Bool, true, false, ◌==◌, ◌&&◌, nat_lt, nat_le, if◌then◌else◌, cond, List, [], ◌∷◌, ◌++◌, length, take, drop, codes, Option, Some, None, ⊤}
+use Rattle.std.specs.Prelude.{ℕ, ◌+◌, ◌-◌, ◌/◌, ◌%◌, ◌≤◌, Bool, true, false, ◌==◌, ◌&&◌, not, nat_lt, nat_le, if◌then◌else◌, cond, List, [], ◌∷◌, ◌++◌, length, take, drop, codes, Option, Some, None, ⊤}
 use Rattle.pp_text.specs.Bytes.{is_empty}
 use Rattle.pp_holes.specs.Places.{Chunk, bytes_at}
 use Rattle.pp_objects.specs.declared.id.ObjectId.{ObjectId}
@@ -53,6 +53,14 @@ IsBeginning (Instance id next to) = next ≤ to
 IsBeginning Passed = ⊤
 
 -- ---- what stands next
+
+abbrev pub is_unasked : Interim → Bool
+is_unasked Unasked = true
+is_unasked (Left n) = false
+
+-- the interim answer comes at most once, before the reply
+abbrev pub may_interim : Reply → Bool
+may_interim r = is_unasked r.interim && not (has_begun r.stage)
 
 -- how many bytes are left of a body: the rest of the span, or what the pipe holds
 abbrev pub body_left : Begin → Pipe → ℕ

@@ -8,7 +8,7 @@ ghost use Rattle.pp_client.specs.Clients.{IsAnswerable, new_client, said_by};
 ghost use Rattle.pp_client.specs.InOrder.{IsReadInOrder};
 ghost use Rattle.pp_client.specs.Saying.{IsFrontOfLeft, IsSaidFirst};
 ghost use Rattle.pp_client.specs.ClientLending.{LendsPass, LendsText};
-ghost use Rattle.pp_client.specs.Replies.{IsBeginning, at_hand, has_begun, is_piped, left_next, next_byte, with_begun, with_interim};
+ghost use Rattle.pp_client.specs.Replies.{IsBeginning, at_hand, has_begun, is_piped, left_next, may_interim, next_byte, with_begun, with_interim};
 ghost use Rattle.pp_client.specs.Requests.{answered, body_dropped, body_in, body_taken, current_of, heard_in, room_of};
 ghost use Rattle.pp_client.specs.Shown.{shown};
 
@@ -217,10 +217,17 @@ impl Client {
         }
     }
 
+    /// Whether the interim answer may be said still: it was not given to the current request, and the reply
+    /// to it has not begun.
+    pub fn may_interim(&self) -> bool
+        ensures { result ≡ may_interim self.now.reply }
+    {
+        self.reply.may_interim()
+    }
+
     /// The interim answer is said before the reply to the current request, and begins no reply.
     pub fn interim(&mut self)
-        requires once { self.old.reply.interim ≡ Interim.Unasked }
-        requires before { self.old.reply.stage ≡ Stage.Due }
+        requires { may_interim self.old.reply ≡ true }
         ensures { self.new ≡ record self.old { reply = with_interim self.old.reply } }
     {
         self.reply.interim();

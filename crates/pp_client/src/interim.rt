@@ -1,7 +1,7 @@
 // The interim answer: "the server MUST NOT wait for the request body before sending the 100 (Continue)
 // response" (RFC 2616, section 8.2.3).
 ghost use Rattle.std.specs.Prelude.{◌≡◌, ◌≤◌, ◌-◌, drop};
-ghost use Rattle.pp_client.specs.Replies.{continue_text, interim_left};
+ghost use Rattle.pp_client.specs.Replies.{continue_text, interim_left, is_unasked};
 
 use pp_reply::CONTINUE;
 
@@ -20,6 +20,13 @@ pub(crate) enum Interim {
 }
 
 impl Interim {
+    /// Whether it is not given, or not yet.
+    pub(crate) fn is_unasked(self) -> bool
+        ensures { result ≡ is_unasked self }
+    {
+        matches!(self, Interim::Unasked)
+    }
+
     /// How many bytes are left to be said.
     pub(crate) fn left(self) -> usize
         ensures { result ≡ interim_left self }

@@ -4,7 +4,7 @@ ghost use Rattle.std.specs.Borrow.{sem};
 ghost use Rattle.pp_holes.specs.Places.{shown as chunks_in};
 ghost use Rattle.pp_objects.specs.Agreement.{AllAgree};
 ghost use Rattle.pp_objects.specs.Instances.{is_there};
-ghost use Rattle.pp_client.specs.Replies.{IsBeginning, at_hand, body_left, body_said, ended, has_begun, is_piped, is_said, left_next, next_byte, no_reply, said, with_begun, with_interim};
+ghost use Rattle.pp_client.specs.Replies.{IsBeginning, at_hand, body_left, body_said, ended, has_begun, is_piped, is_said, left_next, may_interim, next_byte, no_reply, said, with_begun, with_interim};
 ghost use Rattle.pp_client.specs.Saying.{IsSaidFirst};
 ghost use Rattle.pp_client.specs.ReplyLending.{LendsPass, LendsText};
 
@@ -95,6 +95,13 @@ impl Reply {
         ensures* writes_back { sem 𝓛 (LendsText self.entry result) }
     {
         self.text.lend()
+    }
+
+    /// Whether the interim answer may be said still.
+    pub(crate) fn may_interim(&self) -> bool
+        ensures { result ≡ may_interim self.now }
+    {
+        self.interim.is_unasked() && matches!(self.stage, Stage::Due)
     }
 
     /// The interim answer is to be said.
