@@ -1,0 +1,162 @@
+// The clients, the origins and the cache, behind the connections that are open, and the steps of a turn.
+ghost use Rattle.pp_links.specs.Links.{IsLinked};
+ghost use Rattle.pp_links.specs.Quiet.{GrowsQuietly};
+
+use crate::due::Due;
+use crate::origin::Origin;
+use crate::state::State;
+use pp_links::Links;
+use pp_peers::Peers;
+use pp_world::{Cause, Event, Note, Wire};
+
+/// The most clients at once.
+pub(crate) const MAX_CLIENTS: usize = 256;
+
+/// One read, in bytes.
+pub(crate) const READ_LEN: usize = 8192;
+
+/// How often the steps behind the decisions are made in one turn at most: each round but the last decides.
+const ROUNDS: u32 = 65_536;
+
+#[derive(Drop)]
+pub(crate) struct Desk {
+    pub(crate) state: State,
+    pub(crate) peers: Peers,
+    pub(crate) origins: Vec<Origin>,
+    /// What is read.
+    pub(crate) buffer: Vec<u8>,
+    /// The data of a response in what was read.
+    pub(crate) data: Vec<u8>,
+    /// A client that was accepted in this turn, and for whom there is no memory.
+    pub(crate) turned_away: Option<u64>,
+}
+
+impl Desk {
+    /// Handles an event to its end.
+    #[tactic(auto, using(pp_links::proofs::QuietLemmas::quiet_then, pp_links::proofs::QuietLemmas::quiet_none))]
+    pub(crate) fn take_event<W: Wire>(&mut self, links: &mut Links, world: &mut W, event: Event)
+        requires { IsLinked (W.log world.old) (W.top world.old) links.old }
+        ensures linked { IsLinked (W.log world.new) (W.top world.new) links.new }
+        ensures quiet { GrowsQuietly (W.log world.old) (W.log world.new) }
+    {
+        self.handle(links, world, event);
+        self.state.regain();
+        self.state.leave_memory(links, world);
+        self.state.give_up_asks();
+        self.settle(links, world);
+    }
+
+    /// Decides, and goes on with what was decided; at the end all is closed.
+    #[tactic(auto, using(pp_links::proofs::QuietLemmas::quiet_then, pp_links::proofs::QuietLemmas::quiet_none))]
+    fn settle<W: Wire>(&mut self, links: &mut Links, world: &mut W)
+        requires { IsLinked (W.log world.old) (W.top world.old) links.old }
+        ensures linked { IsLinked (W.log world.new) (W.top world.new) links.new }
+        ensures quiet { GrowsQuietly (W.log world.old) (W.log world.new) }
+    {
+        let _ = self.decide(links, world);
+        self.go_on(links, world);
+    }
+
+    fn go_on<W: Wire>(&mut self, links: &mut Links, world: &mut W)
+        requires { IsLinked (W.log world.old) (W.top world.old) links.old }
+        ensures linked { IsLinked (W.log world.new) (W.top world.new) links.new }
+        ensures quiet { GrowsQuietly (W.log world.old) (W.log world.new) }
+    {
+        if self.state.is_stopped {
+            self.close_over(links, world);
+        } else {
+            self.serve(links, world);
+        }
+    }
+
+    /// Followers ask, connections that are over are closed, and exchanges get their places; where that brings
+    /// decisions, once more. Then replies begin.
+    #[tactic(auto, using(pp_links::proofs::QuietLemmas::quiet_then, pp_links::proofs::QuietLemmas::quiet_none))]
+    fn serve<W: Wire>(&mut self, links: &mut Links, world: &mut W)
+        requires { IsLinked (W.log world.old) (W.top world.old) links.old }
+        ensures linked { IsLinked (W.log world.new) (W.top world.new) links.new }
+        ensures quiet { GrowsQuietly (W.log world.old) (W.log world.new) }
+    {
+        let mut is_decided = true;
+        for _round in 0..ROUNDS {
+            if !is_decided {
+                break;
+            }
+            is_decided = self.go_round(links, world);
+        }
+        self.state.begin_replies();
+    }
+
+    /// Whether anything was decided.
+    #[tactic(auto, using(pp_links::proofs::QuietLemmas::quiet_then, pp_links::proofs::QuietLemmas::quiet_none))]
+    fn go_round<W: Wire>(&mut self, links: &mut Links, world: &mut W) -> bool
+        requires { IsLinked (W.log world.old) (W.top world.old) links.old }
+        ensures linked { IsLinked (W.log world.new) (W.top world.new) links.new }
+        ensures quiet { GrowsQuietly (W.log world.old) (W.log world.new) }
+    {
+        self.state.fill();
+        self.close_over(links, world);
+        self.place(links, world);
+        self.decide(links, world)
+    }
+
+    /// Takes what is due, one after the other. Whether anything was.
+    #[tactic(auto, using(pp_links::proofs::QuietLemmas::quiet_then, pp_links::proofs::QuietLemmas::quiet_none))]
+    fn decide<W: Wire>(&mut self, links: &mut Links, world: &mut W) -> bool
+        requires { IsLinked (W.log world.old) (W.top world.old) links.old }
+        ensures linked { IsLinked (W.log world.new) (W.top world.new) links.new }
+        ensures quiet { GrowsQuietly (W.log world.old) (W.log world.new) }
+    {
+        let mut is_any = self.turn_away(links, world);
+        for _due in 0..ROUNDS {
+            let Some((i, due)) = self.state.first_due() else {
+                break;
+            };
+            is_any = true;
+            self.take(links, world, i, due);
+        }
+        is_any
+    }
+
+    #[tactic(auto, using(pp_links::proofs::QuietLemmas::quiet_then, pp_links::proofs::QuietLemmas::quiet_none))]
+    fn take<W: Wire>(&mut self, links: &mut Links, world: &mut W, i: usize, due: Due)
+        requires { IsLinked (W.log world.old) (W.top world.old) links.old }
+        ensures linked { IsLinked (W.log world.new) (W.top world.new) links.new }
+        ensures quiet { GrowsQuietly (W.log world.old) (W.log world.new) }
+    {
+        let Some(seat) = self.state.seats.get(i) else {
+            return;
+        };
+        let (client, index) = (seat.id(), seat.index);
+        match due {
+            Due::Decide(decision) => {
+                let decision = self.state.afforded(i, decision);
+                links.note(world, &Note::Taken(client, index, decision));
+                self.state.take(i, decision);
+                self.state.regain();
+            }
+            Due::CutOff(cause) => {
+                links.note(world, &Note::Cut(client, cause));
+                self.close_client(i);
+            }
+        }
+    }
+
+    /// A client for whom there is no memory is cut.
+    #[tactic(auto, using(pp_links::proofs::QuietLemmas::quiet_then, pp_links::proofs::QuietLemmas::quiet_none))]
+    fn turn_away<W: Wire>(&mut self, links: &mut Links, world: &mut W) -> bool
+        requires { IsLinked (W.log world.old) (W.top world.old) links.old }
+        ensures linked { IsLinked (W.log world.new) (W.top world.new) links.new }
+        ensures quiet { GrowsQuietly (W.log world.old) (W.log world.new) }
+    {
+        match self.turned_away {
+            None => false,
+            Some(client) => {
+                self.turned_away = None;
+                links.note(world, &Note::Cut(client, Cause::Memory));
+                links.close(world, client);
+                true
+            }
+        }
+    }
+}

@@ -1,0 +1,127 @@
+// Which decision or cut is due, and which comes first (RFC 2616, section 8.1; the order is ours).
+use crate::seat::{Answer, Seat, Stage};
+use crate::state::State;
+use pp_world::{Cause, Decision};
+
+/// Ours: a client that is idle for so many seconds is cut.
+const IDLE_SECONDS: u64 = 120;
+
+/// What is due to a client.
+#[derive(Clone, Copy, Debug, PartialEq, Eq)]
+pub(crate) enum Due {
+    Decide(Decision),
+    CutOff(Cause),
+}
+
+impl State {
+    /// The first client, in the order of their numbers, for whom something is due.
+    pub(crate) fn first_due(&self) -> Option<(usize, Due)> {
+        for (i, seat) in self.seats.iter().enumerate() {
+            if let Some(due) = self.due_of(seat) {
+                return Some((i, due));
+            }
+        }
+        None
+    }
+
+    fn due_of(&self, seat: &Seat) -> Option<Due> {
+        if seat.is_closing {
+            return None;
+        }
+        if let Some(cause) = self.cut_of(seat) {
+            return Some(Due::CutOff(cause));
+        }
+        if self.is_stopped {
+            return None;
+        }
+        Some(Due::Decide(self.decision_of(seat)?))
+    }
+
+    /// The causes of a cut, in their order: the first that applies.
+    fn cut_of(&self, seat: &Seat) -> Option<Cause> {
+        let begun = seat.has_begun();
+        let is_idle = IDLE_SECONDS <= self.now.saturating_sub(seat.client.mark());
+        if begun && self.is_stopped {
+            Some(Cause::Stop)
+        } else if begun && is_short(seat) {
+            Some(Cause::Short)
+        } else if begun && self.is_superseded(seat) {
+            Some(Cause::Superseded)
+        } else if begun && (seat.has_failed || seat.is_too_long) {
+            Some(Cause::Origin)
+        } else if self.is_ticked && is_idle {
+            Some(Cause::Idle)
+        } else if begun && seat.is_refused && seat.still_waits() {
+            Some(Cause::Memory)
+        } else {
+            None
+        }
+    }
+
+    /// Another version stands, and of this one nothing more comes.
+    fn is_superseded(&self, seat: &Seat) -> bool {
+        match seat.next() {
+            None => false,
+            Some(next) => self.cache.is_retired(next.source) && !self.is_provided(&next),
+        }
+    }
+
+    fn decision_of(&self, seat: &Seat) -> Option<Decision> {
+        if seat.is_refused && seat.still_waits() && !seat.has_begun() {
+            return Some(Decision::Refuse(500));
+        }
+        match seat.stage {
+            Stage::Undecided => self.due_undecided(seat),
+            Stage::Waiting(_) => {
+                let told = if seat.is_told {
+                    self.decide(seat)
+                } else {
+                    None
+                };
+                give_up(seat, told)
+            }
+            Stage::Passing(_) => give_up(seat, None),
+            Stage::Answering(answer) => self.decided_again(seat, answer),
+        }
+    }
+
+    /// A reply that has not begun is decided again where the row that it was decided by is replaced.
+    fn decided_again(&self, seat: &Seat, answer: Answer) -> Option<Decision> {
+        if answer.has_begun {
+            return None;
+        }
+        let again = if self.has_lost_row(answer) {
+            self.decide(seat)
+        } else {
+            None
+        };
+        give_up(seat, again)
+    }
+
+    fn has_lost_row(&self, answer: Answer) -> bool {
+        let has_row = match answer.source {
+            None => false,
+            Some(id) => !self.cache.is_retired(id),
+        };
+        matches!(answer.decision, Decision::Hit(_, _) | Decision::Part(_, _)) && !has_row
+    }
+}
+
+/// Its attempts ended, or its ask as a follower is too long.
+fn give_up(seat: &Seat, other: Option<Decision>) -> Option<Decision> {
+    if seat.has_failed {
+        Some(Decision::Refuse(502))
+    } else if seat.is_too_long {
+        Some(Decision::Refuse(431))
+    } else {
+        other
+    }
+}
+
+/// Its response ended early.
+fn is_short(seat: &Seat) -> bool {
+    match seat.passed {
+        None => false,
+        Some(passed) => seat.is_passing() && passed.is_short && !passed.is_finished,
+    }
+}

@@ -1,0 +1,104 @@
+// Step 1: the event, with at most one read or one write.
+ghost use Rattle.pp_links.specs.Links.{IsLinked};
+ghost use Rattle.pp_links.specs.Quiet.{GrowsQuietly};
+
+use crate::desk::Desk;
+use crate::seat::Seat;
+use pp_client::Client;
+use pp_links::Links;
+use pp_world::{Event, Wire};
+
+/// Ours: an origin that did nothing for so many seconds while it was waited for is given up.
+const IDLE_SECONDS: u64 = 60;
+
+impl Desk {
+    /// Takes the event in.
+    pub(crate) fn handle<W: Wire>(&mut self, links: &mut Links, world: &mut W, event: Event)
+        requires { IsLinked (W.log world.old) (W.top world.old) links.old }
+        ensures linked { IsLinked (W.log world.new) (W.top world.new) links.new }
+        ensures quiet { GrowsQuietly (W.log world.old) (W.log world.new) }
+    {
+        match event {
+            Event::Stop => self.state.is_stopped = true,
+            Event::Tick(seconds) => self.tick(seconds),
+            Event::Accepted(c) => self.accept(c),
+            Event::Readable(id) => {
+                self.touch(id);
+                match self.state.seat_of(id) {
+                    Some(i) => self.hear(links, world, i),
+                    None => self.receive(links, world, id),
+                }
+            }
+            Event::Writable(id) => {
+                self.touch(id);
+                match self.state.seat_of(id) {
+                    Some(i) => self.say(links, world, i),
+                    None => self.ask(links, world, id),
+                }
+            }
+            Event::Reached(k) => {
+                self.touch(k);
+                if let Some(origin) = self.origin_mut(k) {
+                    origin.is_reached = true;
+                }
+            }
+            Event::Broken(k) => self.gone(k, false),
+        }
+    }
+
+    fn accept(&mut self, c: u64) {
+        let Ok(client) = Client::new(self.state.alloc, c, self.state.now) else {
+            self.turned_away = Some(c);
+            return;
+        };
+        if self.state.seats.push(Seat::new(client)).is_err() {
+            self.turned_away = Some(c);
+        }
+    }
+
+    /// The connection is not idle.
+    fn touch(&mut self, id: u64) {
+        let now = self.state.now;
+        if let Some(i) = self.state.seat_of(id) {
+            if let Some(seat) = self.state.seats.get_mut(i) {
+                seat.client.set_mark(now);
+            }
+        }
+        if let Some(origin) = self.origin_mut(id) {
+            origin.mark = now;
+        }
+    }
+
+    /// The clock never goes back. The first tick of a life marks all.
+    fn tick(&mut self, seconds: u64) {
+        let now = self.state.now.max(seconds);
+        if !self.state.has_ticked {
+            self.state.has_ticked = true;
+            for seat in self.state.seats.iter_mut() {
+                seat.client.set_mark(now);
+            }
+            for origin in self.origins.iter_mut() {
+                origin.mark = now;
+            }
+        }
+        self.state.now = now;
+        self.state.is_ticked = true;
+        for _origin in 0..self.origins.len() {
+            let Some(k) = self.idle_origin() else {
+                break;
+            };
+            self.close_origin(k, true);
+        }
+    }
+
+    /// One that is idle, and not given up yet.
+    fn idle_origin(&self) -> Option<u64> {
+        let now = self.state.now;
+        let idle = self.origins.iter().find(|origin| {
+            origin.has_waited
+                && IDLE_SECONDS <= now.saturating_sub(origin.mark)
+                && !origin.is_closing
+        })?;
+        Some(idle.number)
+    }
+}

@@ -1,0 +1,53 @@
+// One fetch for many (ours): a request waits once for what another has asked for already.
+use crate::seat::{Seat, Stage};
+use crate::state::State;
+use pp_flow::Aim;
+use pp_world::Decision;
+
+impl State {
+    /// The exchange that asks for the whole of the client's key, or checks it, and whose answer has not come.
+    pub(crate) fn shared_ask(&self, seat: &Seat) -> Option<u64> {
+        let key = seat.front.key()?;
+        for errand in self.errands.iter() {
+            if let Some(e) = self.flow.get(errand.number) {
+                let is_own = e.aim == Aim::Own && !e.headed && !errand.kind.is_range();
+                if is_own && self.flow.key(errand.number) == Some(key.text()) {
+                    return Some(errand.number);
+                }
+            }
+        }
+        None
+    }
+
+    /// The exchange that it waited for is there, and its answer has not come.
+    fn is_awaited(&self, number: u64) -> bool {
+        match self.flow.get(number) {
+            None => false,
+            Some(e) => !e.headed,
+        }
+    }
+
+    /// A request waits once for what is asked already.
+    pub(crate) fn due_undecided(&self, seat: &Seat) -> Option<Decision> {
+        match seat.waits_on {
+            Some(number) if self.is_awaited(number) => None,
+            Some(_) => self.decide(seat),
+            None => {
+                let decision = self.decide(seat)?;
+                let may_share = matches!(decision, Decision::Fetch | Decision::Validate);
+                if self.shares_fetches && may_share && self.shared_ask(seat).is_some() {
+                    None
+                } else {
+                    Some(decision)
+                }
+            }
+        }
+    }
+
+    /// It waits for the answer to another client's ask.
+    pub(crate) fn is_sharing(&self, seat: &Seat) -> bool {
+        matches!(seat.stage, Stage::Undecided)
+            && seat.front.is_there()
+            && self.due_undecided(seat).is_none()
+    }
+}
