@@ -1,4 +1,4 @@
-//! Runs the proxy over simulated lives, and tells of each seed what the law says.
+//! Runs the caching proxy over simulated lives, and tells of each seed what the law says.
 //!
 //! `FIRST COUNT` names the seeds. Of each it prints one line: how many happenings there were, or the first that the
 //! law does not permit, in words.
@@ -7,7 +7,7 @@
 //! where memory was refused.
 #![tactic(auto)]
 
-use pp_sim::{Proxy, simulate};
+use pp_sim::{Caching, simulate};
 use pp_text::{OutOfMemory, read_u64};
 use std::alloc::Global;
 use std::process::ExitCode;
@@ -63,7 +63,7 @@ struct Trial {
 }
 
 fn tried(alloc: Global, seed: u64) -> Result<Trial, OutOfMemory> {
-    let outcome = simulate(alloc, seed, &Proxy)?;
+    let outcome = simulate(alloc, seed, &Caching)?;
     Ok(Trial {
         line: outcome.told(alloc)?,
         is_lawful: outcome.fault.is_none(),

@@ -2,7 +2,8 @@
 //!
 //! `simulate` makes lives of a seed: the words of each, a script of clients, origins and ticks, which calls fail, and where
 //! the life crashes. It runs a `Run` over them, in a world in memory, and judges the whole log by the law. `faults` does so
-//! for many seeds, and says of each that has a fault which happening is the first, in words. `Proxy` is the program.
+//! for many seeds, and says of each that has a fault which happening is the first, in words. `Proxy` is the
+//! program, and `Caching` the proxy that it is to become.
 //!
 //! To the crates above: a seed gives the same run always, as long as what is run does the same. Whatever implements `Run`
 //! is judged, and no more is known of it.
@@ -10,6 +11,7 @@
 //! What the law permits is for `pp_oracle`, and what a world does for `pp_memworld`.
 #![tactic(auto)]
 
+mod caching; // the caching proxy, as what is run
 mod dice; // numbers of a seed
 mod lives; // how a life is started, what happens outside, and where it ends
 mod proxy; // the proxy, as what is run
@@ -20,5 +22,6 @@ mod spelling; // a happening in words
 mod tests;
 mod texts; // what clients ask, and origins answer
 
+pub use caching::Caching;
 pub use proxy::Proxy;
 pub use simulation::{Outcome, Run, faults, simulate};

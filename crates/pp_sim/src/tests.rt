@@ -3,7 +3,7 @@ mod doorkeeper; // programs that open, serve nobody, and stop
 
 use self::doorkeeper::Doorkeeper;
 use crate::dice::Dice;
-use crate::{Proxy, faults, simulate};
+use crate::{Caching, Proxy, faults, simulate};
 use pp_oracle::Rule;
 use std::test::Fail;
 
@@ -68,6 +68,12 @@ fn a_seed_gives_the_same_run_and_the_next_another(rt: HostRuntime) -> Result<(),
         assert_eq!(rt; same.as_str(), course.as_str());
         assert!(rt; next.as_str() != course.as_str());
     }
+    Ok(())
+}
+
+#[test]
+fn the_caching_proxy_is_lawful(rt: HostRuntime) -> Result<(), Fail> {
+    assert_eq!(rt; faults(rt.alloc(), 1_000, 3, &Caching)?.as_str(), "");
     Ok(())
 }
 

@@ -1,0 +1,46 @@
+// The caching proxy behind an opening, as what is run.
+ghost use Rattle.std.specs.Prelude.{◌≡◌, []};
+
+use crate::Run;
+use pp_conf::{Command, Conf};
+use pp_memworld::MemWorld;
+use pp_proxy::{Proxy, Turn};
+use pp_world::{Disk, Wire};
+use std::alloc::Global;
+
+/// The caching proxy, which keeps nothing on its disk: its folder is rooted and listed, and not used.
+pub struct Caching;
+
+impl Run for Caching {
+    fn run(&self, alloc: Global, words: &[String], world: &mut MemWorld) {
+        match Conf::read(alloc, words, None) {
+            Ok(Command::Serve(conf)) => open(alloc, &conf, world),
+            Ok(Command::Demo(_)) | Err(_) => world.print(b"usage\n"),
+        }
+    }
+}
+
+fn open(alloc: Global, conf: &Conf, world: &mut MemWorld) {
+    world.root(conf.root.as_slice());
+    if world.names(alloc).is_err() {
+        return world.print(b"no folder\n");
+    }
+    if world.listen(conf.port).is_err() {
+        return world.print(b"no port\n");
+    }
+    match Proxy::open(alloc, conf) {
+        Ok(proxy) => serve(proxy, conf.max_turns, world),
+        Err(_) => world.print(b"no memory\n"),
+    }
+}
+
+/// Takes turns until the world stops it.
+fn serve<W: Wire>(mut proxy: Proxy, most: u64, world: &mut W)
+    requires { proxy.links ≡ [] }
+{
+    for _turn in 0..most {
+        if let Turn::Stopped = proxy.turn(world) {
+            return;
+        }
+    }
+}
