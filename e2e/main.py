@@ -24,6 +24,7 @@ SUBJECTS = [
     "packages",
     "words",
     "kills",
+    "caching",
     "readme",
     "starting",
 ]

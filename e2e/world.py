@@ -13,7 +13,6 @@ from origin import Answer, Origin, abort, lines, plain
 # The proxy's port, and the words that make it listen there.
 PORT = free_port()
 WORDS = [f"proxyPort={PORT}"]
-PROXY = ("127.0.0.1", PORT)
 VIA = b"via: 1.1 polipo"
 
 
@@ -51,8 +50,8 @@ CONTINUE = lines(b"HTTP/1.1 100 Continue")
 class Client:
     """One connection to the proxy."""
 
-    def __init__(self, seconds=10):
-        self.socket = socket.create_connection(PROXY, timeout=seconds)
+    def __init__(self, seconds=10, port=PORT):
+        self.socket = socket.create_connection(("127.0.0.1", port), timeout=seconds)
         self.socket.setsockopt(socket.IPPROTO_TCP, socket.TCP_NODELAY, 1)
         self._unread = b""
 
@@ -140,8 +139,9 @@ class Client:
 
 
 class World:
-    def __init__(self, program):
+    def __init__(self, program, port=PORT):
         self.program = program
+        self.port = port
         self.origin = Origin()
         self.origin.on("/probe", Answer(plain(b"still here")))
         self.output = tempfile.TemporaryFile()
@@ -150,9 +150,9 @@ class World:
 
     def start(self):
         self.process = subprocess.Popen(
-            [self.program, *WORDS], stdin=subprocess.DEVNULL, stdout=self.output, stderr=self.output
+            [self.program, f"proxyPort={self.port}"], stdin=subprocess.DEVNULL, stdout=self.output, stderr=self.output
         )
-        if why := wait_until_it_listens(self.process, PORT):
+        if why := wait_until_it_listens(self.process, self.port):
             self.stop()
             raise Failed(f"    {why}")
 
