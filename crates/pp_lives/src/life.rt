@@ -1,6 +1,10 @@
 // A store over a disk in memory, from its beginning to its crash.
 ghost use Rattle.std.specs.Prelude.{◌≡◌, IfOk, IfSome};
+ghost use Rattle.pp_world.specs.Log.{Told};
+ghost use Rattle.pp_memworld.specs.MemWorld.{told_log};
 ghost use Rattle.pp_memworld.specs.Slots.{AreListed};
+ghost use Rattle.pp_store.specs.Held.{Holds};
+ghost use Rattle.pp_lives.specs.Lives.{HasWoken, any_byte};
 
 use pp_fresh::Times;
 use pp_memworld::{MemWorld, Script, put_file};
@@ -54,7 +58,7 @@ const MOST_CHUNKS: u32 = 16_384;
 /// A disk in memory on which a life has begun, and nothing has happened since. Contracts see its log.
 #[derive(Drop)]
 pub(crate) struct Morning {
-    world: MemWorld,
+    world: Box<MemWorld>,
 }
 
 impl Model for Morning {
@@ -65,9 +69,9 @@ impl Model for Morning {
 
     ghost Value = { Option Log };
 
-    ghost view = { λ morning. told_log morning.world };
+    ghost view = { λ morning. told_log morning.world.value };
 
-    ghost invariant = { λ morning. Told (told_log morning.world) HasWoken };
+    ghost invariant = { λ morning. Told (told_log morning.world.value) HasWoken };
 }
 
 /// What came of opening the folder.
@@ -75,7 +79,7 @@ impl Model for Morning {
 pub(crate) enum Opened {
     Life(Life),
     /// It was not opened. The disk is as it was left.
-    Refused(RecoverFault, MemWorld),
+    Refused(RecoverFault, Box<MemWorld>),
 }
 
 impl Morning {
@@ -84,8 +88,11 @@ impl Morning {
         requires listed { AreListed image }
     {
         let failing = Vec::from_slice(alloc, failing)?;
-        let world = MemWorld::new(alloc, no_script(alloc), image, failing)?;
-        Ok(Morning { world })
+        let made = MemWorld::new(alloc, no_script(alloc), image, failing)?;
+        match Box::new(alloc, made) {
+            Ok(world) => Ok(Morning { world }),
+            Err(_) => Err(OutOfMemory),
+        }
     }
 
     /// The next life over a disk, where this one crashes behind its first `at` happenings. `None` where
@@ -98,7 +105,10 @@ impl Morning {
     ) -> Result<Option<Morning>, OutOfMemory> {
         let next = world.crash(alloc, at, choice, no_script(alloc), Vec::new(alloc))?;
         match next {
-            Some(world) => Ok(Some(Morning { world })),
+            Some(world) => match Box::new(alloc, world) {
+                Ok(world) => Ok(Some(Morning { world })),
+                Err(_) => Err(OutOfMemory),
+            },
             None => Ok(None),
         }
     }
@@ -119,9 +129,11 @@ impl Morning {
     /// The folder is rooted and opened.
     pub(crate) fn open(self, alloc: Global) -> Opened {
         let mut world = self.world;
-        world.root(b"cache");
-        match open(alloc, &mut world) {
-            Ok(store) => Opened::Life(Life { world, store }),
+        match open_folder(alloc, &mut world) {
+            Ok(store) => match Box::new(alloc, store) {
+                Ok(store) => Opened::Life(Life { world, store }),
+                Err(_) => Opened::Refused(RecoverFault::OutOfMemory, world),
+            },
             Err(fault) => Opened::Refused(fault, world),
         }
     }
@@ -135,11 +147,20 @@ impl Morning {
     }
 }
 
+/// Roots the folder of a life that has just begun, and opens it.
+fn open_folder(alloc: Global, world: &mut MemWorld) -> Result<Store, RecoverFault>
+    requires woken { Told (told_log world.old) HasWoken }
+    ensures holds { IfOk result (λ store. Told (told_log world.new) (Holds any_byte store)) }
+{
+    world.root(b"cache");
+    open(alloc, world)
+}
+
 /// A disk in memory, and the store over it. What the store keeps stands on the disk.
 #[derive(Drop)]
 pub(crate) struct Life {
-    world: MemWorld,
-    store: Store,
+    world: Box<MemWorld>,
+    store: Box<Store>,
 }
 
 impl Model for Life {
@@ -151,9 +172,9 @@ impl Model for Life {
 
     ghost Value = { KeptMap };
 
-    ghost view = { λ life. life.store };
+    ghost view = { λ life. life.store.value };
 
-    ghost invariant = { λ life. Told (told_log life.world) (Holds any_byte life.store) };
+    ghost invariant = { λ life. Told (told_log life.world.value) (Holds any_byte life.store.value) };
 }
 
 impl Life {
@@ -206,7 +227,7 @@ impl Life {
         }
         let end = self
             .store
-            .keep(alloc, &mut self.world, key, &version, &fields(), &TIMES);
+            .keep(alloc, &mut *self.world, key, &version, &fields(), &TIMES);
         Some(end)
     }
 
@@ -219,7 +240,7 @@ impl Life {
         if bytes.is_empty() || bytes.len() > 262_144 || !is_whole {
             return None;
         }
-        Some(self.store.extend(&mut self.world, key, bytes))
+        Some(self.store.extend(&mut *self.world, key, bytes))
     }
 
     /// Loads a chunk of the body of a key. `None` where it may not be asked for.
@@ -233,13 +254,13 @@ impl Life {
         if 4096 * u64::from(index) >= row.extent {
             return None;
         }
-        Some(self.store.load(&mut self.world, key, index, out))
+        Some(self.store.load(&mut *self.world, key, index, out))
     }
 
     /// Keeps a key no more. `None` where it is not kept.
     pub(crate) fn withdraw(&mut self, key: &[u8]) -> Option<Result<(), DiskFault>> {
         self.store.kept(key)?;
-        Some(self.store.withdraw(&mut self.world, key))
+        Some(self.store.withdraw(&mut *self.world, key))
     }
 }
 

@@ -2,7 +2,7 @@
 use pp_world::{DiskOp, Happening, Name};
 
 /// An operation on one name, or on the draft.
-#[derive(Clone, Copy, Debug, PartialEq, Eq)]
+#[derive(Clone, Copy)]
 pub(crate) enum Step<'a> {
     /// The draft is to have so many bytes.
     Draft(usize),
@@ -11,42 +11,49 @@ pub(crate) enum Step<'a> {
     Write(u64, &'a [u8]),
     Sync,
     Remove,
-    /// An operation on another name.
-    Elsewhere,
 }
 
-fn step_of<'a>(op: &'a DiskOp, name: &Name) -> Step<'a> {
+/// Whether this is the operation, on the draft or on this name.
+fn is_op(op: &DiskOp, name: &Name, step: Step<'_>) -> bool {
     match op {
-        DiskOp::Draft(bytes) => Step::Draft(bytes.as_slice().len()),
-        DiskOp::SyncDraft => Step::SyncDraft,
-        DiskOp::Publish(other) => on(name, other, Step::Publish),
-        DiskOp::Write(other, at, bytes) => on(name, other, Step::Write(*at, bytes.as_slice())),
-        DiskOp::Sync(other) => on(name, other, Step::Sync),
-        DiskOp::Remove(other) => on(name, other, Step::Remove),
+        DiskOp::Draft(bytes) => is_draft(bytes.as_slice().len(), step),
+        DiskOp::SyncDraft => matches!(step, Step::SyncDraft),
+        DiskOp::Publish(other) => other == name && matches!(step, Step::Publish),
+        DiskOp::Write(other, at, bytes) => {
+            other == name && is_write(*at, bytes.as_slice(), step)
+        }
+        DiskOp::Sync(other) => other == name && matches!(step, Step::Sync),
+        DiskOp::Remove(other) => other == name && matches!(step, Step::Remove),
     }
 }
 
-fn on<'a>(name: &Name, other: &Name, step: Step<'a>) -> Step<'a> {
-    if other.as_slice() == name.as_slice() {
-        step
-    } else {
-        Step::Elsewhere
+fn is_draft(count: usize, step: Step<'_>) -> bool {
+    match step {
+        Step::Draft(wanted) => count == wanted,
+        _ => false,
     }
 }
 
-/// The operation that was begun here.
-fn begun<'a>(happening: &'a Happening, name: &Name) -> Option<Step<'a>> {
+fn is_write(at: u64, bytes: &[u8], step: Step<'_>) -> bool {
+    match step {
+        Step::Write(place, wanted) => at == place && bytes == wanted,
+        _ => false,
+    }
+}
+
+/// Whether the operation was begun here.
+fn is_begun(happening: &Happening, name: &Name, step: Step<'_>) -> bool {
     match happening {
-        Happening::Began(op) => Some(step_of(op, name)),
-        _ => None,
+        Happening::Began(op) => is_op(op, name, step),
+        _ => false,
     }
 }
 
-/// The operation that was done here.
-fn done<'a>(happening: &'a Happening, name: &Name) -> Option<Step<'a>> {
+/// Whether the operation was done here.
+fn is_done(happening: &Happening, name: &Name, step: Step<'_>) -> bool {
     match happening {
-        Happening::Did(op, true) => Some(step_of(op, name)),
-        _ => None,
+        Happening::Did(op, true) => is_op(op, name, step),
+        _ => false,
     }
 }
 
@@ -62,21 +69,16 @@ pub(crate) fn are_just(happenings: &[Happening], name: &Name, steps: &[Step<'_>]
 
 /// Whether this operation was begun and done.
 fn is_run(pair: &[Happening], name: &Name, step: Step<'_>) -> bool {
-    let begun = match pair.first() {
-        Some(happening) => begun(happening, name),
-        None => None,
-    };
-    let done = match pair.last() {
-        Some(happening) => done(happening, name),
-        None => None,
-    };
-    begun == Some(step) && done == Some(step)
+    match pair {
+        [begun, done] => is_begun(begun, name, step) && is_done(done, name, step),
+        _ => false,
+    }
 }
 
 /// How many happenings there are up to the begin of an operation on a name, that happening included.
 pub(crate) fn begin_of(log: &[Happening], name: &Name, step: Step<'_>) -> Option<usize> {
     let place = log
         .iter()
-        .position(|happening| begun(happening, name) == Some(step))?;
+        .position(|happening| is_begun(happening, name, step))?;
     Some(place + 1)
 }
