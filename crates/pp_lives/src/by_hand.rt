@@ -42,9 +42,9 @@ fn keep<W: World>(world: &mut W, block: &[u8; HEAD_LEN], body: &[u8; 8192]) -> R
 }
 
 /// A disk on which the entry was kept.
-fn kept(alloc: Global, body: &[u8; 8192]) -> Result<MemWorld, Fail> {
+fn kept(alloc: Global, body: &[u8; 8192]) -> Result<Box<MemWorld>, Fail> {
     let mut world = empty_world(alloc)?;
-    keep(&mut world, &head_block(), body).map_err(|_| "kept")?;
+    keep(&mut *world, &head_block(), body).map_err(|_| "kept")?;
     Ok(world)
 }
 
@@ -64,13 +64,23 @@ fn crash(world: &MemWorld, alloc: Global, at: usize, choice: u64) -> Result<Morn
 
 /// What stands under the name by the disk format, where the life that begins here keeps just that.
 fn found_by(morning: Morning, alloc: Global, body: &[u8; 8192]) -> Result<Found, Fail> {
-    let image = morning.image().ok_or("files")?;
-    let found = found_in(image, &file_name(A), HEAD_OF_8192, body);
-    let life = morning.begin(alloc)?;
-    if found != as_found(life.extent(A)) {
-        return Err("a life that keeps what the file says".into());
+    let found = found_at(&morning, body)?;
+    if extent_of(morning, alloc)? == found {
+        Ok(found)
+    } else {
+        Err("a life that keeps what the file says".into())
     }
-    Ok(found)
+}
+
+/// What stands under the name by the disk format.
+fn found_at(morning: &Morning, body: &[u8; 8192]) -> Result<Found, Fail> {
+    let image = morning.image().ok_or("files")?;
+    Ok(found_in(image, &file_name(A), HEAD_OF_8192, body))
+}
+
+/// How much of the entry the life keeps that begins here.
+fn extent_of(morning: Morning, alloc: Global) -> Result<Found, Fail> {
+    Ok(as_found(morning.begin(alloc)?.extent(A)))
 }
 
 fn as_found(extent: Option<u64>) -> Found {
@@ -148,10 +158,14 @@ fn torn(
 ) -> Result<(u8, Found), Fail> {
     let at = up_to(world, Step::Write(8193, &[1]))?;
     let next = crash(world, alloc, at, choice)?;
-    let image = next.image().ok_or("files")?;
-    let file = image.get(&file_name(A)).ok_or("a file")?;
-    let gate = *file.as_slice().get(8193).ok_or("a gate")?;
+    let gate = second_gate(&next).ok_or("a gate")?;
     Ok((gate, found_by(next, alloc, body)?))
+}
+
+/// The gate of the second chunk, in the files that a life woke to.
+fn second_gate(morning: &Morning) -> Option<u8> {
+    let file = morning.image()?.get(&file_name(A))?;
+    file.as_slice().get(8193).copied()
 }
 
 #[test]
@@ -210,7 +224,7 @@ fn a_crash_while_it_is_published_leaves_none_or_one_without_a_body(
 fn a_crash_while_it_is_removed_leaves_all_of_it_or_none(rt: HostRuntime) -> Result<(), Fail> {
     let body = two_chunks();
     let mut world = kept(rt.alloc(), &body)?;
-    assert_eq!(rt; remove(&mut world, &file_name(A)), Ok(()));
+    assert_eq!(rt; remove(&mut *world, &file_name(A)), Ok(()));
     assert!(rt; did(log_of(&world), 25, 27, &[Step::Remove]));
     // The first value of the generator is even by the choice 2, and odd by 3.
     let cases = [

@@ -265,8 +265,9 @@ impl Life {
 }
 
 /// A disk in memory on which the first life has begun, over an empty folder.
-pub(crate) fn empty_world(alloc: Global) -> Result<MemWorld, OutOfMemory> {
-    MemWorld::new(alloc, no_script(alloc), Image::new(alloc), Vec::new(alloc))
+pub(crate) fn empty_world(alloc: Global) -> Result<Box<MemWorld>, OutOfMemory> {
+    let world = MemWorld::new(alloc, no_script(alloc), Image::new(alloc), Vec::new(alloc))?;
+    Box::new(alloc, world).map_err(|_| OutOfMemory)
 }
 
 fn no_script(alloc: Global) -> Script {
