@@ -1,6 +1,6 @@
 // The blocks of a transcript: a line, and the lines below it that are set in.
 use crate::flaw::{Flaw, Refusal};
-use crate::words::Words;
+use crate::words::{Words, meaning_in};
 use std::alloc::{AllocError, Global};
 
 /// A line of a transcript.
@@ -19,17 +19,41 @@ impl<'a> Line<'a> {
     }
 }
 
+/// What a block is.
+#[derive(Clone, Copy)]
+pub(crate) enum Kind {
+    Text,
+    Part,
+    Lives,
+    Front,
+    Row,
+    Changes,
+}
+
+const KINDS: [(&str, Kind); 6] = [
+    ("text", Kind::Text),
+    ("part", Kind::Part),
+    ("lives", Kind::Lives),
+    ("front", Kind::Front),
+    ("row", Kind::Row),
+    ("changes", Kind::Changes),
+];
+
 /// A line, and those below it that are set in.
 #[derive(Drop)]
 pub(crate) struct Block<'a> {
     /// Its first word.
-    pub(crate) kind: &'a str,
+    word: &'a str,
     /// What follows that word.
     pub(crate) head: Line<'a>,
     pub(crate) body: Vec<Line<'a>>,
 }
 
 impl<'a> Block<'a> {
+    pub(crate) fn kind(&self) -> Result<Kind, Refusal> {
+        meaning_in(&KINDS, self.word.as_bytes()).ok_or(Flaw::UnknownBlock.at(self.head.number))
+    }
+
     /// The block, where nothing is set in below its line.
     pub(crate) fn alone(&self) -> Result<&Block<'a>, Refusal> {
         match self.body.as_slice().first() {
@@ -67,9 +91,9 @@ fn line_of(number: usize, text: &str) -> Line<'_> {
 }
 
 fn block_of(alloc: Global, number: usize, text: &str) -> Block<'_> {
-    let (kind, head) = text.split_once(' ').unwrap_or((text, ""));
+    let (word, head) = text.split_once(' ').unwrap_or((text, ""));
     Block {
-        kind,
+        word,
         head: line_of(number, head),
         body: Vec::new(alloc),
     }

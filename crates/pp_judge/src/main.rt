@@ -28,12 +28,16 @@
 
 mod blocks; // a line, and the lines below it that are set in
 mod changes; // what changes of a lawful log are noticed
+mod events; // what takes no text, as a line tells it
+mod exchanges; // what goes to and comes from clients and origins, as a line tells it
 mod flaw; // why a transcript cannot be read
 mod front; // what comes before the rows
 mod happenings; // a happening, as a line tells it
 mod lives; // how a life is started
 mod logs; // a log, and the verdict that is written of it
 mod notes; // a note of the proxy's own, as a line tells it
+mod openings; // how a life begins, as a line tells it
+mod operations; // what happens on the disk, as a line tells it
 mod parts; // lines with a name, and the lines of a body written out
 mod report; // what is to be printed of a file
 mod scene; // what the blocks define, and the logs that are judged there

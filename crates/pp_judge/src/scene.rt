@@ -1,5 +1,5 @@
 // What the blocks of transcripts define, and the logs that are judged there.
-use crate::blocks::{Block, Line, blocks_of};
+use crate::blocks::{Block, Kind, Line, blocks_of};
 use crate::changes::{Body, CHANGES, unnoticed};
 use crate::flaw::{Flaw, Refusal};
 use crate::front::Front;
@@ -41,14 +41,13 @@ impl<'a> Scene<'a> {
     }
 
     fn take(&mut self, block: &Block<'a>, report: &mut Report<'a>) -> Result<(), Refusal> {
-        match block.kind.as_bytes() {
-            b"text" => self.define_text(block.alone()?),
-            b"part" => self.define_part(block),
-            b"lives" => self.set_lives(block),
-            b"front" => self.set_front(block.alone()?),
-            b"row" => self.judge_row(block, report),
-            b"changes" => self.judge_changes(block, report),
-            _ => Err(Flaw::UnknownBlock.at(block.head.number)),
+        match block.kind()? {
+            Kind::Text => self.define_text(block.alone()?),
+            Kind::Part => self.define_part(block),
+            Kind::Lives => self.set_lives(block),
+            Kind::Front => self.set_front(block.alone()?),
+            Kind::Row => self.judge_row(block, report),
+            Kind::Changes => self.judge_changes(block, report),
         }
     }
 

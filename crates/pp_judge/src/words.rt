@@ -63,6 +63,16 @@ impl<'a> Words<'a> {
         }
     }
 
+    /// What the next word stands for in a table, if it is there; the word is then read.
+    pub(crate) fn one_of<T: Copy>(&mut self, table: &[(&str, T)]) -> Option<T> {
+        let Some((Word::Bare(word), behind)) = self.split() else {
+            return None;
+        };
+        let meaning = meaning_in(table, word)?;
+        self.rest = behind;
+        Some(meaning)
+    }
+
     /// That no word is left.
     pub(crate) fn end(&self) -> Result<(), Flaw> {
         match self.split() {
@@ -116,6 +126,16 @@ impl<'a> Words<'a> {
     }
 }
 
+/// What a word stands for in a table.
+pub(crate) fn meaning_in<T: Copy>(table: &[(&str, T)], word: &[u8]) -> Option<T> {
+    for (spelling, meaning) in table {
+        if spelling.as_bytes() == word {
+            return Some(*meaning);
+        }
+    }
+    None
+}
+
 /// Numbers from the first to the last.
 #[derive(Clone, Copy, Debug, PartialEq, Eq)]
 pub(crate) struct Span {
@@ -144,13 +164,27 @@ fn span_in(word: &[u8], count: Option<u64>, alone: First) -> Option<Span> {
     Some(Span { first, last })
 }
 
+/// `N`, or a number beside it.
+#[derive(Clone, Copy)]
+enum Nth {
+    Itself,
+    Before,
+    Behind,
+}
+
+const NTHS: [(&str, Nth); 3] = [
+    ("N", Nth::Itself),
+    ("N-1", Nth::Before),
+    ("N+1", Nth::Behind),
+];
+
 /// `7`, `N`, `N-1` or `N+1`.
 fn number_in(word: &[u8], count: Option<u64>) -> Option<u64> {
-    match word {
-        b"N" => count,
-        b"N-1" => count?.checked_sub(1),
-        b"N+1" => count?.checked_add(1),
-        _ => read_u64(word),
+    match meaning_in(&NTHS, word) {
+        Some(Nth::Itself) => count,
+        Some(Nth::Before) => count?.checked_sub(1),
+        Some(Nth::Behind) => count?.checked_add(1),
+        None => read_u64(word),
     }
 }
 
