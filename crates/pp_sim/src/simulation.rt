@@ -19,7 +19,7 @@ pub trait Run {
 pub struct Outcome {
     pub seed: u64,
     pub fault: Option<Fault>,
-    world: MemWorld,
+    world: Box<MemWorld>,
 }
 
 /// So many lives at most.
@@ -36,10 +36,10 @@ pub fn simulate<R: Run>(alloc: Global, seed: u64, run: &R) -> Result<Outcome, Ou
     let mut world = first_life(alloc, &mut dice, &mut terms, run)?;
     let mut begin = 0;
     for number in 1..lives {
-        begin = crash_place(&mut dice, begin, log_of(&world)?.len());
-        world = next_life(alloc, &mut dice, number, &world, begin, &mut terms, run)?;
+        begin = crash_place(&mut dice, begin, log_of(&*world)?.len());
+        world = next_life(alloc, &mut dice, number, &*world, begin, &mut terms, run)?;
     }
-    let fault = first_fault(alloc, terms.as_slice(), log_of(&world)?)?;
+    let fault = first_fault(alloc, terms.as_slice(), log_of(&*world)?)?;
     Ok(Outcome { seed, fault, world })
 }
 
@@ -48,7 +48,7 @@ fn first_life<R: Run>(
     dice: &mut Dice,
     terms: &mut Vec<Term>,
     run: &R,
-) -> Result<MemWorld, OutOfMemory> {
+) -> Result<Box<MemWorld>, OutOfMemory> {
     let life = Life::new(alloc, dice, 0)?;
     terms.push(life.term(alloc)?).map_err(AllocError::from)?;
     let Life {
@@ -56,8 +56,11 @@ fn first_life<R: Run>(
         script,
         failing,
     } = life;
-    let mut world = MemWorld::new(alloc, script, Image::new(alloc), failing)?;
-    run.run(alloc, words.as_slice(), &mut world);
+    let mut world = boxed(
+        alloc,
+        MemWorld::new(alloc, script, Image::new(alloc), failing)?,
+    )?;
+    run.run(alloc, words.as_slice(), &mut *world);
     Ok(world)
 }
 
@@ -70,7 +73,7 @@ fn next_life<R: Run>(
     at: usize,
     terms: &mut Vec<Term>,
     run: &R,
-) -> Result<MemWorld, OutOfMemory> {
+) -> Result<Box<MemWorld>, OutOfMemory> {
     let life = Life::new(alloc, dice, number)?;
     terms.push(life.term(alloc)?).map_err(AllocError::from)?;
     let Life {
@@ -80,11 +83,17 @@ fn next_life<R: Run>(
     } = life;
     let choice = dice.below(CHOICES);
     let crashed = world.crash(alloc, at, choice, script, failing)?;
-    let Some(mut next) = crashed else {
+    let Some(next) = crashed else {
         return Err(OutOfMemory);
     };
-    run.run(alloc, words.as_slice(), &mut next);
+    let mut next = boxed(alloc, next)?;
+    run.run(alloc, words.as_slice(), &mut *next);
     Ok(next)
+}
+
+/// A world of its own place, so that whoever lets go of it lets go of one thing.
+fn boxed(alloc: Global, world: MemWorld) -> Result<Box<MemWorld>, OutOfMemory> {
+    Box::new(alloc, world).map_err(|_| OutOfMemory)
 }
 
 /// What happened; the world tells it as long as there is memory.
