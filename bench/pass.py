@@ -50,8 +50,11 @@ def serve(listener):
         connection, _ = listener.accept()
         connection.setsockopt(socket.IPPROTO_TCP, socket.TCP_NODELAY, 1)
         try:
-            while head := connection.recv(65536):
-                connection.sendall(LARGE if b"/large " in head else SMALL)
+            waiting = b""
+            while more := connection.recv(65536):
+                *heads, waiting = (waiting + more).split(b"\r\n\r\n")
+                for head in heads:
+                    connection.sendall(LARGE if b"/large " in head else SMALL)
         except OSError:
             pass
         connection.close()
