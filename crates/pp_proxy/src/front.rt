@@ -121,7 +121,8 @@ fn is_other_safe(method: &[u8]) -> bool {
 
 /// Whether a request, or what is none, waits for its reply.
 pub(crate) fn is_answerable(client: &Client) -> bool
-    ensures { IsTrue result → IsAnswerable client.now }
+    ensures is { IsTrue result → IsAnswerable client.now }
+    ensures only { IsAnswerable client.now → IsTrue result }
 {
     let mut scratch = Scratch::new();
     match client.current(&mut scratch) {
