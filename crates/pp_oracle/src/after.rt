@@ -8,7 +8,7 @@ use crate::connections::{
 use crate::deciding::decided;
 use crate::disk_log::DiskOp;
 use crate::due::still_waits;
-use crate::lists::{copied, is_this, push};
+use crate::lists::{copied, copy, is_this, push};
 use crate::opening::{configured, is_opening, lose_in_opening, opened_to, woken};
 use crate::replies::{end_replies, regained, said_by, use_next};
 use crate::requests::Front;
@@ -128,6 +128,20 @@ fn gone(s: &mut State, is_clean: bool, n: u64) -> Result<(), OutOfMemory> {
     end_replies(s)
 }
 
+/// A connection broke: an event, and an end that is not clean.
+fn broken(s: &mut State, n: u64) -> Result<(), OutOfMemory> {
+    event(s);
+    gone(s, false, n)
+}
+
+/// What a read of an origin brought.
+fn read(s: &mut State, n: u64, bytes: &[u8]) -> Result<(), OutOfMemory> {
+    got(s, bytes.len(), n, bytes)?;
+    end_replies(s)?;
+    note_use(s);
+    Ok(())
+}
+
 // ---- notes
 
 fn in_step_7(s: &mut State) {
@@ -186,10 +200,10 @@ fn forgotten_row(s: &mut State, x: &Instance) -> Result<(), OutOfMemory> {
 }
 
 /// A copy of the key's row.
-fn row_copy(s: &State, key: &[u8]) -> Result<Option<Instance>, OutOfMemory> {
+fn row_copy(s: &State, key: &[u8]) -> Result<Option<Box<Instance>>, OutOfMemory> {
     match row(s, key) {
         None => Ok(None),
-        Some(x) => Ok(Some(x.clone()?)),
+        Some(x) => Ok(Some(copy(s.alloc, x)?)),
     }
 }
 
@@ -264,12 +278,14 @@ fn unread(s: &mut State, name: &Name) -> Result<(), OutOfMemory> {
 // ---- closings and places
 
 fn shut(s: &mut State, n: u64) -> Result<(), OutOfMemory> {
+    to_6(s)?;
     close_client(s, n, false)?;
     s.clients.retain(|c| !is_client(n, c));
     Ok(())
 }
 
 fn dialled(s: &mut State, n: u64, host: &[u8], port: u16) -> Result<(), OutOfMemory> {
+    to_6(s)?;
     match placing(s)? {
         Pause::AllPlaced | Pause::WaitsDrop(_, _) => Ok(()),
         Pause::WaitsDial(e) => {
@@ -282,6 +298,7 @@ fn dialled(s: &mut State, n: u64, host: &[u8], port: u16) -> Result<(), OutOfMem
 }
 
 fn undialled(s: &mut State) -> Result<(), OutOfMemory> {
+    to_6(s)?;
     match placing(s)? {
         Pause::AllPlaced | Pause::WaitsDrop(_, _) => Ok(()),
         Pause::WaitsDial(e) => {
@@ -298,6 +315,7 @@ fn out(s: &mut State, n: u64) {
 
 /// One that is not closing gives way to a new one, behind the exchanges that have their places.
 fn dropped(s: &mut State, n: u64) -> Result<(), OutOfMemory> {
+    to_6(s)?;
     let Some(k) = conn_copy(s, n)? else {
         return Ok(());
     };
@@ -317,78 +335,28 @@ fn rested(s: &mut State, w: &Wants) -> Result<(), OutOfMemory> {
     rest_with(s, w)
 }
 
-fn changed(s: &mut State, h: &Happening) -> Result<(), OutOfMemory> {
+/// What the happening itself changes.
+fn happened(s: &mut State, h: &Happening) -> Result<(), OutOfMemory> {
     match h {
         Happening::Woke(image) => woken(s, image)?,
         Happening::Waits(w) => rested(s, w)?,
-        Happening::Clock(seconds) => {
-            tick(s, *seconds)?;
-            event(s);
-        }
-        Happening::Opened(n) => {
-            opened(s, *n)?;
-            event(s);
-        }
-        Happening::CanRead(n) => {
-            owing(s, Owed::ReadOf(*n), *n);
-            event(s);
-        }
-        Happening::CanWrite(n) => {
-            owing(s, Owed::WriteTo(*n), *n);
-            event(s);
-        }
-        Happening::Heard(c, bytes) => {
-            hear(s, *c, bytes.as_slice())?;
-            paid(s);
-        }
-        Happening::HungUp(c) => {
-            hang_up(s, *c)?;
-            paid(s);
-        }
-        Happening::Said(c, _, bytes) => {
-            said(s, *c, bytes.as_slice().len())?;
-            paid(s);
-        }
-        Happening::Shut(c) => {
-            to_6(s)?;
-            shut(s, *c)?;
-        }
-        Happening::Dialled(n, host, port) => {
-            to_6(s)?;
-            dialled(s, *n, host.as_slice(), *port)?;
-        }
-        Happening::Undialled(_, _) => {
-            to_6(s)?;
-            undialled(s)?;
-        }
-        Happening::Reached(k) => {
-            reached(s, *k);
-            event(s);
-        }
-        Happening::Ended(k) => {
-            gone(s, true, *k)?;
-            paid(s);
-        }
-        Happening::Broke(k) => {
-            event(s);
-            gone(s, false, *k)?;
-            paid(s);
-        }
-        Happening::Asked(k, bytes) => {
-            ask(s, *k, bytes.as_slice().len())?;
-            paid(s);
-        }
-        Happening::Got(k, bytes) => {
-            got(s, bytes.as_slice().len(), *k, bytes.as_slice())?;
-            end_replies(s)?;
-            note_use(s);
-            paid(s);
-        }
-        Happening::Dropped(k) => {
-            to_6(s)?;
-            dropped(s, *k)?;
-        }
-        Happening::NoneYet(_) => paid(s),
+        Happening::Clock(seconds) => tick(s, *seconds)?,
+        Happening::Opened(n) => opened(s, *n)?,
+        Happening::CanRead(n) => owing(s, Owed::ReadOf(*n), *n),
+        Happening::CanWrite(n) => owing(s, Owed::WriteTo(*n), *n),
+        Happening::Heard(c, bytes) => hear(s, *c, bytes.as_slice())?,
+        Happening::HungUp(c) => hang_up(s, *c)?,
+        Happening::Said(c, _, bytes) => said(s, *c, bytes.as_slice().len())?,
+        Happening::Shut(c) => shut(s, *c)?,
+        Happening::Dialled(n, host, port) => dialled(s, *n, host.as_slice(), *port)?,
+        Happening::Undialled(_, _) => undialled(s)?,
+        Happening::Reached(k) => reached(s, *k),
+        Happening::Ended(k) => gone(s, true, *k)?,
+        Happening::Broke(k) => broken(s, *k)?,
+        Happening::Asked(k, bytes) => ask(s, *k, bytes.as_slice().len())?,
+        Happening::Got(k, bytes) => read(s, *k, bytes.as_slice())?,
+        Happening::Dropped(k) => dropped(s, *k)?,
+        Happening::NoneYet(_) | Happening::Printed(_) => {}
         Happening::Began(op) => begun_op(s, &DiskOp::of(s.alloc, op)?)?,
         Happening::Did(op, is_done) => ended_op(s, &DiskOp::of(s.alloc, op)?, *is_done)?,
         Happening::Unread(name) => unread(s, name)?,
@@ -397,11 +365,44 @@ fn changed(s: &mut State, h: &Happening) -> Result<(), OutOfMemory> {
         Happening::Listed(is_done) => opened_to(s, Phase::IsListed, *is_done),
         Happening::Listens(_, is_done) => opened_to(s, Phase::IsListening, *is_done),
         Happening::Configured(_, text) => configured(s, text_in(text))?,
-        Happening::Printed(_) => {}
-        Happening::Stopped => {
-            s.is_stopped = true;
-            event(s);
-        }
+        Happening::Stopped => s.is_stopped = true,
+    }
+    Ok(())
+}
+
+/// Behind an event step 1 goes on, and behind a read or write nothing is owed.
+fn changed(s: &mut State, h: &Happening) -> Result<(), OutOfMemory> {
+    happened(s, h)?;
+    match h {
+        Happening::Clock(_)
+        | Happening::Opened(_)
+        | Happening::CanRead(_)
+        | Happening::CanWrite(_)
+        | Happening::Reached(_)
+        | Happening::Stopped => event(s),
+        Happening::Heard(_, _)
+        | Happening::HungUp(_)
+        | Happening::Said(_, _, _)
+        | Happening::Ended(_)
+        | Happening::Broke(_)
+        | Happening::Asked(_, _)
+        | Happening::Got(_, _)
+        | Happening::NoneYet(_) => paid(s),
+        Happening::Woke(_)
+        | Happening::Waits(_)
+        | Happening::Shut(_)
+        | Happening::Dialled(_, _, _)
+        | Happening::Undialled(_, _)
+        | Happening::Dropped(_)
+        | Happening::Began(_)
+        | Happening::Did(_, _)
+        | Happening::Unread(_)
+        | Happening::Noted(_)
+        | Happening::Rooted(_)
+        | Happening::Listed(_)
+        | Happening::Listens(_, _)
+        | Happening::Configured(_, _)
+        | Happening::Printed(_) => {}
     }
     Ok(())
 }

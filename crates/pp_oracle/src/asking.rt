@@ -4,7 +4,7 @@ use crate::connections::{
     client, conn, exchange, front_of_line, is_client, is_exchange, is_for, is_outstanding,
 };
 use crate::hearing::heard_by;
-use crate::lists::{as_length, drop_front, dropped, taken};
+use crate::lists::{as_length, copy, drop_front, dropped, taken};
 use crate::replies::end_replies;
 use crate::state::{Client, Exchange, Owed, Pipe, State};
 use pp_ask::ASK_LEN;
@@ -122,7 +122,7 @@ pub(crate) fn ask(s: &mut State, k: u64, n: usize) -> Result<(), OutOfMemory> {
     let Some(e) = asking(s, k) else {
         return Ok(());
     };
-    let e = e.clone()?;
+    let e = copy(s.alloc, e)?;
     ask_next(s, &e, n)
 }
 

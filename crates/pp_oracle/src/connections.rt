@@ -3,7 +3,7 @@
 //
 // Where a definition changes the records with a number by a function, the loop over them stands at
 // the caller's.
-use crate::lists::push;
+use crate::lists::{copy, push};
 use crate::requests::goes_alone;
 use crate::state::{Client, Conn, Exchange, Passed, State};
 use pp_text::OutOfMemory;
@@ -35,26 +35,26 @@ pub(crate) fn client(s: &State, n: u64) -> Option<&Client> {
 }
 
 /// A copy of the connection, so that the state may change beside it.
-pub(crate) fn conn_copy(s: &State, n: u64) -> Result<Option<Conn>, OutOfMemory> {
+pub(crate) fn conn_copy(s: &State, n: u64) -> Result<Option<Box<Conn>>, OutOfMemory> {
     match conn(s, n) {
         None => Ok(None),
-        Some(k) => Ok(Some(k.clone()?)),
+        Some(k) => Ok(Some(copy(s.alloc, k)?)),
     }
 }
 
 /// A copy of the exchange, so that the state may change beside it.
-pub(crate) fn exchange_copy(s: &State, n: u64) -> Result<Option<Exchange>, OutOfMemory> {
+pub(crate) fn exchange_copy(s: &State, n: u64) -> Result<Option<Box<Exchange>>, OutOfMemory> {
     match exchange(s, n) {
         None => Ok(None),
-        Some(e) => Ok(Some(e.clone()?)),
+        Some(e) => Ok(Some(copy(s.alloc, e)?)),
     }
 }
 
 /// A copy of the client, so that the state may change beside it.
-pub(crate) fn client_copy(s: &State, n: u64) -> Result<Option<Client>, OutOfMemory> {
+pub(crate) fn client_copy(s: &State, n: u64) -> Result<Option<Box<Client>>, OutOfMemory> {
     match client(s, n) {
         None => Ok(None),
-        Some(c) => Ok(Some(c.clone()?)),
+        Some(c) => Ok(Some(copy(s.alloc, c)?)),
     }
 }
 
@@ -376,9 +376,9 @@ pub(crate) fn put_on(s: &mut State, n: u64, k: u64) -> Result<(), OutOfMemory> {
 pub(crate) enum Pause {
     AllPlaced,
     /// The dial for an exchange.
-    WaitsDial(Exchange),
+    WaitsDial(Box<Exchange>),
     /// That a connection is dropped before it.
-    WaitsDrop(u64, Exchange),
+    WaitsDrop(u64, Box<Exchange>),
 }
 
 /// Each exchange without a place, in the order of their beginnings, up to the first that needs a new
@@ -391,8 +391,8 @@ pub(crate) fn place_all(s: &mut State, es: &[Exchange]) -> Result<Pause, OutOfMe
         match wanted_place(s, e)? {
             Placed::On(k) => put_on(s, e.number, k)?,
             Placed::Wait => {}
-            Placed::Dial => return Ok(Pause::WaitsDial(e.clone()?)),
-            Placed::CloseThenDial(k) => return Ok(Pause::WaitsDrop(k, e.clone()?)),
+            Placed::Dial => return Ok(Pause::WaitsDial(copy(s.alloc, e)?)),
+            Placed::CloseThenDial(k) => return Ok(Pause::WaitsDrop(k, copy(s.alloc, e)?)),
         }
     }
     Ok(Pause::AllPlaced)

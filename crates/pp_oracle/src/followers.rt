@@ -5,7 +5,7 @@ use crate::connections::{is_client, is_for};
 use crate::deciding::begin_exchange;
 use crate::decisions::text_for;
 use crate::keys::Key;
-use crate::lists::{Bytes, copied};
+use crate::lists::{Bytes, copied, copy};
 use crate::requests::Front;
 use crate::state::{Aim, Client, Exchange, Instance, Request, State};
 use crate::table::{Next, brings, chunk_front, chunks_in, held_to, is_brought, next_held, next_of};
@@ -128,7 +128,7 @@ pub(crate) fn fill_for(s: &mut State, c: &Client) -> Result<(), OutOfMemory> {
     let Some(span) = need_of(s, &n) else {
         return Ok(());
     };
-    let source = n.source.clone()?;
+    let source = copy(s.alloc, n.source)?;
     fill_span(s, c, &source, span)
 }
 

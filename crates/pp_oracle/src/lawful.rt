@@ -1,5 +1,6 @@
 // A lawful log, and the first happening that makes a log unlawful.
 use crate::after::after;
+use crate::lists::copy;
 use crate::opening::may_fail;
 use crate::permits::{is_permitted, may_wait, waiting};
 use crate::served::{
@@ -109,7 +110,7 @@ fn served_rule(s: &State, w: &Wants) -> Result<Rule, OutOfMemory> {
 
 fn wait_rule(s: &State, w: &Wants) -> Result<Rule, OutOfMemory> {
     if may_wait(s)? {
-        served_rule(&waiting(s)?, w)
+        served_rule(&*waiting(s)?, w)
     } else {
         Ok(Rule::StepUnfinished)
     }
@@ -183,7 +184,7 @@ pub struct Fault {
 #[derive(Drop)]
 pub struct Judge {
     /// What the log says so far, where the law permits all of it.
-    state: State,
+    state: Box<State>,
     /// So many happenings came.
     count: usize,
     fault: Option<Fault>,
@@ -202,7 +203,7 @@ impl Judge {
     /// The same again, to which another piece may come.
     pub fn copy(&self) -> Result<Judge, OutOfMemory> {
         Ok(Judge {
-            state: self.state.clone()?,
+            state: copy(self.state.alloc, &*self.state)?,
             count: self.count,
             fault: self.fault,
         })

@@ -51,6 +51,19 @@ pub(crate) fn as_length(n: u64) -> usize {
     }
 }
 
+/// The value in a box, so that it is let go of in one step, whatever it has.
+pub(crate) fn boxed<T: Drop>(alloc: Global, x: T) -> Result<Box<T>, OutOfMemory> {
+    match Box::new(alloc, x) {
+        Ok(x) => Ok(x),
+        Err(_) => Err(OutOfMemory),
+    }
+}
+
+/// A copy of the record, so that what it was taken from may change beside it.
+pub(crate) fn copy<T: Clone + Drop>(alloc: Global, x: &T) -> Result<Box<T>, OutOfMemory> {
+    boxed(alloc, x.clone()?)
+}
+
 /// One more at the end.
 pub(crate) fn push<T: Drop>(xs: &mut Vec<T>, x: T) -> Result<(), OutOfMemory> {
     match xs.push(x) {

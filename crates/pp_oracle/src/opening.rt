@@ -231,7 +231,7 @@ pub(crate) fn woken(s: &mut State, image: &Image) -> Result<(), OutOfMemory> {
     t.entries = entries_in(alloc, files.as_slice())?;
     push(&mut t.disk, DiskStep::Woke(files))?;
     begun(&mut t)?;
-    *s = t;
+    *s = Box::into_inner(t);
     Ok(())
 }
 

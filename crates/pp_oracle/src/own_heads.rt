@@ -4,7 +4,7 @@ mod kept; // the fields that are kept of the responses of a version
 
 use crate::chunks::joined;
 use crate::connections::{is_exchange, is_for, lose_attempt};
-use crate::lists::copied;
+use crate::lists::{copied, copy};
 use crate::passing::pass_on;
 use crate::requests::is_safe;
 use crate::state::{Aim, Bound, Client, Exchange, Instance, Response, Sent, State};
@@ -183,7 +183,7 @@ pub(crate) fn settle_known(
     let Some(x) = row(s, key_of(e)) else {
         return Ok(());
     };
-    let x = x.clone()?;
+    let x = copy(s.alloc, x)?;
     settle_row(s, e, head, v, &x)
 }
 
@@ -267,7 +267,7 @@ pub(crate) fn refresh_known(
     let Some(x) = row(s, key_of(e)) else {
         return Ok(());
     };
-    let x = x.clone()?;
+    let x = copy(s.alloc, x)?;
     refresh_row(s, e, head, &x)
 }
 

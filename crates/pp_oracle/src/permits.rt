@@ -5,6 +5,7 @@ use crate::connections::{Pause, client, conn, is_client, is_conn};
 use crate::deciding::{has_to_forget, is_for_memory};
 use crate::disk_log::DiskOp;
 use crate::due::{Due, first_due};
+use crate::lists::copy;
 use crate::opening::{
     is_at, is_opening, may_fail, permits_configured, permits_listens, permits_rooted, permits_woke,
 };
@@ -59,7 +60,7 @@ fn may_take(s: &State, c: u64, i: u64, d: Decision) -> Result<bool, OutOfMemory>
 }
 
 fn permits_taken(s: &State, c: u64, i: u64, d: Decision) -> Result<bool, OutOfMemory> {
-    Ok(may_decide(s)? && may_take(&at_decide(s)?, c, i, d)?)
+    Ok(may_decide(s)? && may_take(&*at_decide(s)?, c, i, d)?)
 }
 
 /// A client that was opened in this turn may be refused memory.
@@ -75,7 +76,7 @@ fn may_cut(s: &State, c: u64, cause: Cause) -> Result<bool, OutOfMemory> {
 }
 
 fn permits_cut(s: &State, c: u64, cause: Cause) -> Result<bool, OutOfMemory> {
-    Ok(may_decide(s)? && may_cut(&at_decide(s)?, c, cause)?)
+    Ok(may_decide(s)? && may_cut(&*at_decide(s)?, c, cause)?)
 }
 
 // ---- rows and chunks leave memory
@@ -124,7 +125,7 @@ fn permits_forgotten(s: &State, key: &[u8]) -> Result<bool, OutOfMemory> {
     if 0 < n && n <= 2 && s.forgotten.is_empty() && is_new_row(s, key) {
         return Ok(true);
     }
-    Ok(may_decide(s)? && may_forget(&at_decide(s)?, key)?)
+    Ok(may_decide(s)? && may_forget(&*at_decide(s)?, key)?)
 }
 
 fn is_version(x: &Instance, key: &[u8], tag: &[u8], n: u64) -> bool {
@@ -158,7 +159,7 @@ fn permits_began(s: &State, op: &DiskOp) -> Result<bool, OutOfMemory> {
     if is_at(Phase::IsListed, s) && may_begin_op(false, s, op)? {
         return Ok(true);
     }
-    Ok(may_3(s)? && may_begin_op(true, &at_3(s)?, op)?)
+    Ok(may_3(s)? && may_begin_op(true, &*at_3(s)?, op)?)
 }
 
 /// The client that is written to has its next byte in that chunk, below the extent and not in memory.
@@ -206,7 +207,7 @@ fn permits_unread(s: &State, name: &Name) -> bool {
 }
 
 fn permits_gone(s: &State, key: &[u8]) -> Result<bool, OutOfMemory> {
-    Ok(may_3(s)? && may_note_gone(&at_3(s)?, key))
+    Ok(may_3(s)? && may_note_gone(&*at_3(s)?, key))
 }
 
 fn permits_noted(s: &State, remark: &Remark) -> Result<bool, OutOfMemory> {
@@ -302,7 +303,7 @@ fn may_drop(s: &State, n: u64) -> Result<bool, OutOfMemory> {
 }
 
 fn permits_dropped(s: &State, n: u64) -> Result<bool, OutOfMemory> {
-    Ok(may_6(s)? && may_drop(&at_6(s)?, n)?)
+    Ok(may_6(s)? && may_drop(&*at_6(s)?, n)?)
 }
 
 // ---- the outside
@@ -338,8 +339,8 @@ pub(crate) fn may_wait(s: &State) -> Result<bool, OutOfMemory> {
 }
 
 /// The state that is waited in, beside this one.
-pub(crate) fn waiting(s: &State) -> Result<State, OutOfMemory> {
-    let mut t = s.clone()?;
+pub(crate) fn waiting(s: &State) -> Result<Box<State>, OutOfMemory> {
+    let mut t = copy(s.alloc, s)?;
     if !is_at(Phase::IsListening, s) {
         ending(&mut t)?;
     }
@@ -347,7 +348,7 @@ pub(crate) fn waiting(s: &State) -> Result<State, OutOfMemory> {
 }
 
 fn permits_waits(s: &State, w: &Wants) -> Result<bool, OutOfMemory> {
-    Ok(may_wait(s)? && is_served(&waiting(s)?, w)?)
+    Ok(may_wait(s)? && is_served(&*waiting(s)?, w)?)
 }
 
 fn permits(s: &State, h: &Happening) -> Result<bool, OutOfMemory> {

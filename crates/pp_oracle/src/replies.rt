@@ -8,7 +8,7 @@ use crate::connections::is_client;
 use crate::due::{is_passing, reply_of};
 use crate::hearing::with_front;
 use crate::instance_texts::{not_modified_head, part_head, unsatisfiable_page, whole_head};
-use crate::lists::{Bytes, as_length, drop_front, dropped, is_this, taken};
+use crate::lists::{Bytes, as_length, copy, drop_front, dropped, is_this, push, taken};
 use crate::passing::without_first;
 use crate::requests::{Front, Parsed, has_request, is_head, keeps_open};
 use crate::responses::skipping;
@@ -21,7 +21,6 @@ use pp_ranges::Resolved;
 use pp_reply::is_end_known;
 use pp_text::OutOfMemory;
 use pp_world::Decision;
-use std::alloc::AllocError;
 
 // ---- a reply begins at the end of a turn: these give the client as it is then
 
@@ -48,8 +47,8 @@ pub(crate) fn begun_passed(
     r: &Parsed,
     d: Decision,
     c: &Client,
-) -> Result<Client, OutOfMemory> {
-    let mut begun = c.clone()?;
+) -> Result<Box<Client>, OutOfMemory> {
+    let mut begun = copy(s.alloc, c)?;
     if let Some(p) = &c.passed {
         begun.stage = Stage::Answering(passed_reply(s, r, p, d)?);
         begun.closes = !(keeps_open(r) && is_end_known(p.rule, r.head.minor));
@@ -152,8 +151,8 @@ pub(crate) fn begun_instance(
     r: &Parsed,
     reply: &Reply,
     c: &Client,
-) -> Result<Client, OutOfMemory> {
-    let mut begun = c.clone()?;
+) -> Result<Box<Client>, OutOfMemory> {
+    let mut begun = copy(s.alloc, c)?;
     if let Some(x) = source_of(s, reply) {
         if may_begin(s, reply, x) {
             begun.stage = Stage::Answering(begun_reply(s, r, c, reply, x)?);
@@ -167,7 +166,7 @@ pub(crate) fn begun_decided(
     r: &Parsed,
     reply: &Reply,
     c: &Client,
-) -> Result<Client, OutOfMemory> {
+) -> Result<Box<Client>, OutOfMemory> {
     if is_passing(reply.decision) {
         begun_passed(s, r, reply.decision, c)
     } else {
@@ -175,14 +174,14 @@ pub(crate) fn begun_decided(
     }
 }
 
-pub(crate) fn begun_by(s: &State, r: &Parsed, c: &Client) -> Result<Client, OutOfMemory> {
+pub(crate) fn begun_by(s: &State, r: &Parsed, c: &Client) -> Result<Box<Client>, OutOfMemory> {
     match &c.stage {
-        Stage::Undecided => Ok(c.clone()?),
-        Stage::Waiting(_) => Ok(c.clone()?),
+        Stage::Undecided => copy(s.alloc, c),
+        Stage::Waiting(_) => copy(s.alloc, c),
         Stage::Passing(_) => begun_passed(s, r, Decision::Pass, c),
         Stage::Answering(reply) => {
             if reply.has_begun {
-                Ok(c.clone()?)
+                copy(s.alloc, c)
             } else {
                 begun_decided(s, r, reply, c)
             }
@@ -190,12 +189,12 @@ pub(crate) fn begun_by(s: &State, r: &Parsed, c: &Client) -> Result<Client, OutO
     }
 }
 
-pub(crate) fn begun_at_end(s: &State, c: &Client) -> Result<Client, OutOfMemory> {
+pub(crate) fn begun_at_end(s: &State, c: &Client) -> Result<Box<Client>, OutOfMemory> {
     if c.is_closing {
-        return Ok(c.clone()?);
+        return copy(s.alloc, c);
     }
     match &c.front {
-        Front::NoHeadYet | Front::NoHead(_) => Ok(c.clone()?),
+        Front::NoHeadYet | Front::NoHead(_) => copy(s.alloc, c),
         Front::IsRequest(r) => begun_by(s, r, c),
     }
 }
@@ -203,7 +202,7 @@ pub(crate) fn begun_at_end(s: &State, c: &Client) -> Result<Client, OutOfMemory>
 pub(crate) fn begin_replies(s: &mut State) -> Result<(), OutOfMemory> {
     let mut clients = Vec::new(s.alloc);
     for c in s.clients.iter() {
-        clients.push(begun_at_end(s, c)?).map_err(AllocError::from)?;
+        push(&mut clients, Box::into_inner(begun_at_end(s, c)?))?;
     }
     s.clients = clients;
     swept(s)
@@ -410,14 +409,18 @@ pub(crate) fn is_regained(s: &State, c: &Client) -> bool {
     }
 }
 
+fn regained_by(s: &State, c: &Client) -> Result<Box<Client>, OutOfMemory> {
+    let mut client = copy(s.alloc, c)?;
+    if is_regained(s, c) {
+        client.lost = 0;
+    }
+    Ok(client)
+}
+
 pub(crate) fn regained(s: &mut State) -> Result<(), OutOfMemory> {
     let mut clients = Vec::new(s.alloc);
     for c in s.clients.iter() {
-        let mut d = c.clone()?;
-        if is_regained(s, c) {
-            d.lost = 0;
-        }
-        clients.push(d).map_err(AllocError::from)?;
+        push(&mut clients, Box::into_inner(regained_by(s, c)?))?;
     }
     s.clients = clients;
     Ok(())

@@ -5,7 +5,7 @@ mod body; // the body of a text, by the rule that delimits it
 use crate::connections::{
     close_conn, conn_copy, end_exchange, fail, front_of_line, is_conn, is_for, is_outstanding,
 };
-use crate::lists::{Bytes, as_length, copied, drop_front, dropped};
+use crate::lists::{Bytes, as_length, copied, copy, drop_front, dropped};
 use crate::own_heads::{
     filling_head, is_wrong_head, join_bound, note_sent, own_head, through_head,
 };
@@ -95,7 +95,7 @@ pub(crate) fn bad_response(s: &mut State, k: &Conn) -> Result<(), OutOfMemory> {
     let Some(e) = front_of_line(s, k) else {
         return close_conn(s, false, k);
     };
-    let e = e.clone()?;
+    let e = copy(s.alloc, e)?;
     fail(s, &e);
     end_exchange(s, e.number);
     close_conn(s, false, k)
@@ -190,7 +190,7 @@ pub(crate) fn head_came(s: &mut State, k: &Conn, head: &Response) -> Result<(), 
     let Some(e) = front_of_line(s, k) else {
         return bad_response(s, k);
     };
-    let e = e.clone()?;
+    let e = copy(s.alloc, e)?;
     answer_for(s, k, &e, head)
 }
 
@@ -316,7 +316,7 @@ pub(crate) fn body_piece(
         close_conn(s, false, k)?;
         return Ok(Vec::new(s.alloc));
     };
-    let e = e.clone()?;
+    let e = copy(s.alloc, e)?;
     body_piece_of(s, k, a, &e, bytes)
 }
 
@@ -355,7 +355,7 @@ pub(crate) fn finish_first(s: &mut State, k: &Conn, a: &Answer) -> Result<(), Ou
     let Some(e) = front_of_line(s, k) else {
         return Ok(());
     };
-    let e = e.clone()?;
+    let e = copy(s.alloc, e)?;
     finish(s, k, &e, a)
 }
 

@@ -1,13 +1,15 @@
 // What a log says so far: of all lives, of this life, and of this turn. `after` takes it over one
 // happening.
 //
-// Each record has a `clone` that may find no memory. Texts are `Bytes`, and fields `HeldFields`, over
-// which `fields()` lends what the crates below read. A head is kept in its parts, and `view()` lends
-// it as it was read.
+// Each record has a `clone` that may find no memory. It is written out where the record is large, so
+// that it can end early only where a text or a list is copied, and not at each field. A state, and a
+// record that is held beside the state, stands in a box, which is let go of in one step. Texts are
+// `Bytes`, and fields `HeldFields`, over which `fields()` lends what the crates below read. A head is
+// kept in its parts, and `view()` lends it as it was read.
 use crate::disk_log::{DiskOp, DiskStep};
 use crate::held_fields::HeldFields;
 use crate::keys::Key;
-use crate::lists::{Bytes, copied, push};
+use crate::lists::{Bytes, boxed, copied, push};
 use crate::requests::Front;
 use arrayvec::ArrayVec;
 use pp_conf::Conf;
@@ -23,13 +25,25 @@ use std::alloc::{AllocError, Global};
 // ---- heads
 
 /// The head of a request, in texts of its own.
-#[derive(Clone, Drop)]
+#[derive(Drop)]
 pub(crate) struct Request {
     pub(crate) method: Bytes,
     pub(crate) target: Bytes,
     pub(crate) minor: u8,
     pub(crate) fields: HeldFields,
     pub(crate) length: usize,
+}
+
+impl Clone for Request {
+    fn clone(&self) -> Result<Request, AllocError> {
+        Ok(Request {
+            method: self.method.clone()?,
+            target: self.target.clone()?,
+            minor: self.minor,
+            fields: self.fields.clone()?,
+            length: self.length,
+        })
+    }
 }
 
 impl Request {
@@ -56,13 +70,25 @@ impl Request {
 }
 
 /// The head of a response, in texts of its own.
-#[derive(Clone, Drop)]
+#[derive(Drop)]
 pub(crate) struct Response {
     pub(crate) minor: u8,
     pub(crate) status: u16,
     pub(crate) reason: Bytes,
     pub(crate) fields: HeldFields,
     pub(crate) length: usize,
+}
+
+impl Clone for Response {
+    fn clone(&self) -> Result<Response, AllocError> {
+        Ok(Response {
+            minor: self.minor,
+            status: self.status,
+            reason: self.reason.clone()?,
+            fields: self.fields.clone()?,
+            length: self.length,
+        })
+    }
 }
 
 impl Response {
@@ -108,13 +134,9 @@ pub struct Term {
 
 impl Clone for Term {
     fn clone(&self) -> Result<Term, AllocError> {
-        let alloc = *self.words.allocator();
-        let mut words: Vec<Octets> = Vec::new(alloc);
+        let mut words: Vec<Octets> = Vec::new(*self.words.allocator());
         for word in self.words.iter() {
-            let Ok(word) = Octets::copy(alloc, word.as_slice()) else {
-                return Err(AllocError);
-            };
-            words.push(word)?;
+            add_word(&mut words, word)?;
         }
         Ok(Term {
             words,
@@ -123,11 +145,21 @@ impl Clone for Term {
     }
 }
 
+/// A copy of the word is the last of them.
+fn add_word(words: &mut Vec<Octets>, word: &Octets) -> Result<(), AllocError> {
+    let alloc = *words.allocator();
+    let Ok(word) = Octets::copy(alloc, word.as_slice()) else {
+        return Err(AllocError);
+    };
+    words.push(word)?;
+    Ok(())
+}
+
 // ---- the table
 
 /// The bytes of one version of a key, known in part: the row of the key, or a retired version that a
 /// client still follows.
-#[derive(Clone, Drop)]
+#[derive(Drop)]
 pub(crate) struct Instance {
     pub(crate) id: u64,
     pub(crate) key: Bytes,
@@ -141,6 +173,21 @@ pub(crate) struct Instance {
     pub(crate) is_new: bool,
 }
 
+impl Clone for Instance {
+    fn clone(&self) -> Result<Instance, AllocError> {
+        Ok(Instance {
+            id: self.id,
+            key: self.key.clone()?,
+            version: self.version,
+            fields: self.fields.clone()?,
+            times: self.times,
+            is_retired: self.is_retired,
+            touched: self.touched,
+            is_new: self.is_new,
+        })
+    }
+}
+
 /// The front of a chunk, in memory.
 #[derive(Clone, Drop)]
 pub(crate) struct Chunk {
@@ -150,7 +197,7 @@ pub(crate) struct Chunk {
 }
 
 /// What the store holds under a name; it is stale once its row was replaced or cleared.
-#[derive(Clone, Drop)]
+#[derive(Drop)]
 pub(crate) struct Entry {
     pub(crate) name: Name,
     pub(crate) key: Bytes,
@@ -159,6 +206,20 @@ pub(crate) struct Entry {
     pub(crate) times: Times,
     pub(crate) extent: u64,
     pub(crate) is_stale: bool,
+}
+
+impl Clone for Entry {
+    fn clone(&self) -> Result<Entry, AllocError> {
+        Ok(Entry {
+            name: self.name,
+            key: self.key.clone()?,
+            version: self.version,
+            fields: self.fields.clone()?,
+            times: self.times,
+            extent: self.extent,
+            is_stale: self.is_stale,
+        })
+    }
 }
 
 // ---- exchanges and their connections
@@ -182,7 +243,7 @@ pub(crate) struct Bound {
     pub(crate) to: u64,
 }
 
-#[derive(Clone, Drop)]
+#[derive(Drop)]
 pub(crate) struct Exchange {
     pub(crate) number: u64,
     pub(crate) client: u64,
@@ -210,6 +271,29 @@ pub(crate) struct Exchange {
     pub(crate) bound: Option<Bound>,
 }
 
+impl Clone for Exchange {
+    fn clone(&self) -> Result<Exchange, AllocError> {
+        Ok(Exchange {
+            number: self.number,
+            client: self.client,
+            request: self.request,
+            head: self.head.clone()?,
+            key: self.key.clone()?,
+            aim: self.aim.clone()?,
+            named: self.named.clone()?,
+            is_ranged: self.is_ranged,
+            is_moved: self.is_moved,
+            text: self.text.clone()?,
+            asked: self.asked,
+            body_left: self.body_left,
+            requested: self.requested,
+            place: self.place,
+            is_headed: self.is_headed,
+            bound: self.bound,
+        })
+    }
+}
+
 /// A final response whose head came, and the bytes behind it.
 #[derive(Clone, Drop)]
 pub(crate) struct Answer {
@@ -218,7 +302,7 @@ pub(crate) struct Answer {
     pub(crate) raw: Bytes,
 }
 
-#[derive(Clone, Drop)]
+#[derive(Drop)]
 pub(crate) struct Conn {
     pub(crate) number: u64,
     pub(crate) host: Bytes,
@@ -240,15 +324,44 @@ pub(crate) struct Conn {
     pub(crate) has_waited: bool,
 }
 
+impl Clone for Conn {
+    fn clone(&self) -> Result<Conn, AllocError> {
+        Ok(Conn {
+            number: self.number,
+            host: self.host.clone()?,
+            port: self.port,
+            is_reached: self.is_reached,
+            line: self.line.clone()?,
+            unread: self.unread.clone()?,
+            answer: self.answer.clone()?,
+            has_brought: self.has_brought,
+            may_pipeline: self.may_pipeline,
+            is_closing: self.is_closing,
+            mark: self.mark,
+            has_waited: self.has_waited,
+        })
+    }
+}
+
 // ---- clients
 
 /// The body of a response, as it is spelled and not said: what is said next stands first. Data goes in
 /// as chunks where `is_coded`, and nothing more once `is_finished`.
-#[derive(Clone, Drop)]
+#[derive(Drop)]
 pub(crate) struct Pipe {
     pub(crate) bytes: Bytes,
     pub(crate) is_coded: bool,
     pub(crate) is_finished: bool,
+}
+
+impl Clone for Pipe {
+    fn clone(&self) -> Result<Pipe, AllocError> {
+        Ok(Pipe {
+            bytes: self.bytes.clone()?,
+            is_coded: self.is_coded,
+            is_finished: self.is_finished,
+        })
+    }
 }
 
 /// A response that is passed to a client, and what of its body is spelled and not said.
@@ -262,7 +375,7 @@ pub(crate) struct Passed {
     pub(crate) is_short: bool,
 }
 
-#[derive(Clone, Drop)]
+#[derive(Drop)]
 pub(crate) struct Reply {
     pub(crate) decision: Decision,
     /// The instance that is followed.
@@ -273,6 +386,19 @@ pub(crate) struct Reply {
     /// The next offset of its body, and the end.
     pub(crate) at: u64,
     pub(crate) to: u64,
+}
+
+impl Clone for Reply {
+    fn clone(&self) -> Result<Reply, AllocError> {
+        Ok(Reply {
+            decision: self.decision,
+            source: self.source,
+            has_begun: self.has_begun,
+            head_left: self.head_left.clone()?,
+            at: self.at,
+            to: self.to,
+        })
+    }
 }
 
 /// Where the current request is.
@@ -286,7 +412,7 @@ pub(crate) enum Stage {
     Answering(Reply),
 }
 
-#[derive(Clone, Drop)]
+#[derive(Drop)]
 pub(crate) struct Client {
     pub(crate) number: u64,
     /// Opened in this turn.
@@ -329,6 +455,36 @@ pub(crate) struct Client {
     pub(crate) mark: u64,
 }
 
+impl Clone for Client {
+    fn clone(&self) -> Result<Client, AllocError> {
+        Ok(Client {
+            number: self.number,
+            is_new: self.is_new,
+            has_hung_up: self.has_hung_up,
+            front: self.front.clone()?,
+            heard: self.heard.clone()?,
+            body_left: self.body_left,
+            skip: self.skip,
+            index: self.index,
+            stage: self.stage.clone()?,
+            waits_on: self.waits_on,
+            passed: self.passed.clone()?,
+            begun: self.begun,
+            settled: self.settled,
+            is_told: self.is_told,
+            has_plain_age: self.has_plain_age,
+            lost: self.lost,
+            has_failed: self.has_failed,
+            is_too_long: self.is_too_long,
+            interim_left: self.interim_left.clone()?,
+            closes: self.closes,
+            is_closing: self.is_closing,
+            is_cut: self.is_cut,
+            mark: self.mark,
+        })
+    }
+}
+
 // ---- the turn
 
 /// The opening has its places: recovery is at `IsListed`, and `IsStuck` is behind what failed; of a
@@ -363,7 +519,7 @@ pub(crate) enum Todo {
 }
 
 /// The settings in force.
-#[derive(Clone, Drop)]
+#[derive(Drop)]
 pub(crate) struct Settings {
     pub(crate) port: u16,
     pub(crate) name: ArrayVec<u8, 64>,
@@ -374,6 +530,22 @@ pub(crate) struct Settings {
     pub(crate) disk_run: u64,
     pub(crate) max_turns: u64,
     pub(crate) shares_fetches: bool,
+}
+
+impl Clone for Settings {
+    fn clone(&self) -> Result<Settings, AllocError> {
+        Ok(Settings {
+            port: self.port,
+            name: self.name.clone()?,
+            root: self.root.clone()?,
+            low: self.low,
+            high: self.high,
+            critical: self.critical,
+            disk_run: self.disk_run,
+            max_turns: self.max_turns,
+            shares_fetches: self.shares_fetches,
+        })
+    }
 }
 
 impl Settings {
@@ -414,7 +586,7 @@ fn named(text: &[u8]) -> ArrayVec<u8, 64> {
     name
 }
 
-#[derive(Clone, Drop)]
+#[derive(Drop)]
 pub(crate) struct State {
     /// Where new texts and lists take their memory.
     pub(crate) alloc: Global,
@@ -466,6 +638,46 @@ pub(crate) struct State {
     pub(crate) refused: Vec<u64>,
 }
 
+impl Clone for State {
+    fn clone(&self) -> Result<State, AllocError> {
+        Ok(State {
+            alloc: self.alloc,
+            sent: self.sent.clone()?,
+            acknowledged: self.acknowledged.clone()?,
+            disk: self.disk.clone()?,
+            top: self.top,
+            terms: self.terms.clone()?,
+            term: self.term.clone()?,
+            settings: self.settings.clone()?,
+            phase: self.phase,
+            clock: self.clock,
+            has_ticked: self.has_ticked,
+            failures: self.failures,
+            clients: self.clients.clone()?,
+            conns: self.conns.clone()?,
+            exchanges: self.exchanges.clone()?,
+            next_exchange: self.next_exchange,
+            instances: self.instances.clone()?,
+            next_instance: self.next_instance,
+            chunks: self.chunks.clone()?,
+            uses: self.uses,
+            entries: self.entries.clone()?,
+            closed_names: self.closed_names.clone()?,
+            under_way: self.under_way.clone()?,
+            displaced: self.displaced.clone()?,
+            is_ticked: self.is_ticked,
+            is_stopped: self.is_stopped,
+            owed: self.owed,
+            is_evicting: self.is_evicting,
+            forgotten: self.forgotten.clone()?,
+            has_made_room: self.has_made_room,
+            agenda: self.agenda.clone()?,
+            is_again: self.is_again,
+            refused: self.refused.clone()?,
+        })
+    }
+}
+
 pub(crate) fn no_term(alloc: Global) -> Term {
     Term {
         words: Vec::new(alloc),
@@ -473,20 +685,31 @@ pub(crate) fn no_term(alloc: Global) -> Term {
     }
 }
 
-pub(crate) fn start(alloc: Global, terms: &[Term]) -> Result<State, OutOfMemory> {
+/// Of a log whose lives are started by these terms, one after the other, nothing came yet.
+pub(crate) fn start(alloc: Global, terms: &[Term]) -> Result<Box<State>, OutOfMemory> {
+    let terms = terms_of(alloc, terms)?;
+    let settings = Settings::defaults(alloc)?;
+    boxed(alloc, first_state(alloc, terms, settings))
+}
+
+fn terms_of(alloc: Global, terms: &[Term]) -> Result<Vec<Term>, OutOfMemory> {
     let mut lives: Vec<Term> = Vec::new(alloc);
     for term in terms {
         push(&mut lives, term.clone()?)?;
     }
-    Ok(State {
+    Ok(lives)
+}
+
+fn first_state(alloc: Global, terms: Vec<Term>, settings: Settings) -> State {
+    State {
         alloc,
         sent: Vec::new(alloc),
         acknowledged: Vec::new(alloc),
         disk: Vec::new(alloc),
         top: 0,
-        terms: lives,
+        terms,
         term: no_term(alloc),
-        settings: Settings::defaults(alloc)?,
+        settings,
         phase: Phase::Before,
         clock: 0,
         has_ticked: false,
@@ -512,5 +735,5 @@ pub(crate) fn start(alloc: Global, terms: &[Term]) -> Result<State, OutOfMemory>
         agenda: Vec::new(alloc),
         is_again: false,
         refused: Vec::new(alloc),
-    })
+    }
 }

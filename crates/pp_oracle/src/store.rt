@@ -4,7 +4,7 @@
 use crate::chunks::{CHUNK_LEN, chunk_bytes, filled, note_use, put_chunk};
 use crate::disk::{bytes_in, view_of};
 use crate::disk_log::{DiskOp, DiskStep};
-use crate::lists::{Bytes, as_length, copied, dropped, push, taken};
+use crate::lists::{Bytes, as_length, copied, copy, dropped, push, taken};
 use crate::state::{Entry, Instance, State, Todo};
 use crate::table::{chunks_in, is_entry_of, is_kept_row_of, is_same_version, kept_row, row};
 use pp_entry::{HEAD_LEN, write_head};
@@ -274,10 +274,10 @@ pub(crate) fn note_gone(s: &mut State, key: &[u8]) -> Result<(), OutOfMemory> {
 }
 
 /// The first entry of this key.
-fn entry_of(s: &State, key: &[u8]) -> Result<Option<Entry>, OutOfMemory> {
+fn entry_of(s: &State, key: &[u8]) -> Result<Option<Box<Entry>>, OutOfMemory> {
     match s.entries.iter().find(|e| is_entry_of(key, e)) {
         None => Ok(None),
-        Some(e) => Ok(Some(e.clone()?)),
+        Some(e) => Ok(Some(copy(s.alloc, e)?)),
     }
 }
 

@@ -2,7 +2,7 @@
 // them, and what comes (RFC 2616, section 13.5.4; RFC 7233, sections 4.1 and 4.3).
 use crate::chunks::{CHUNK_LEN, ChunkPlace, filled, is_in_memory};
 use crate::held_fields::HeldFields;
-use crate::lists::{Bytes, is_this, push};
+use crate::lists::{Bytes, copy, is_this, push};
 use crate::state::{
     Aim, Bound, Chunk, Client, Entry, Exchange, Instance, Reply, Request, Stage, State,
 };
@@ -389,7 +389,7 @@ pub(crate) fn with_room(s: &mut State) -> Result<(), OutOfMemory> {
     }
     let x = match idle_row(s) {
         None => return Ok(()),
-        Some(x) => x.clone()?,
+        Some(x) => copy(s.alloc, x)?,
     };
     forget_row(s, &x)
 }
@@ -439,13 +439,13 @@ pub(crate) fn enter(s: &mut State, key: &[u8], is_new: bool) -> Result<(), OutOf
     if row(s, key).is_some() {
         return Ok(());
     }
-    let e = match kept_row(s, key) {
+    let (version, fields, times) = match kept_row(s, key) {
         None => return Ok(()),
-        Some(e) => e.clone()?,
+        Some(e) => (e.version, e.fields.clone()?, e.times),
     };
     with_room(s)?;
     let key = Vec::from_slice(s.alloc, key)?;
-    add_row(s, key, e.version, e.fields, e.times, is_new)
+    add_row(s, key, version, fields, times, is_new)
 }
 
 /// It would, and another has to leave before.

@@ -7,7 +7,7 @@ use crate::chunks::{ChunkPlace, victim};
 use crate::connections::{Pause, close_conn, is_client, is_conn, is_for, placing};
 use crate::due::first_due;
 use crate::followers::{fill, give_up_asks};
-use crate::lists::{has_number, push};
+use crate::lists::{copy, has_number, push};
 use crate::replies::begin_replies;
 use crate::sharing::{is_sharing, shared_ask};
 use crate::state::{Client, Conn, Exchange, Owed, Phase, State};
@@ -86,29 +86,29 @@ fn to_7(s: &mut State) -> Result<(), OutOfMemory> {
 }
 
 /// The state on step 3, beside this one.
-pub(crate) fn at_3(s: &State) -> Result<State, OutOfMemory> {
-    let mut t = s.clone()?;
+pub(crate) fn at_3(s: &State) -> Result<Box<State>, OutOfMemory> {
+    let mut t = copy(s.alloc, s)?;
     to_3(&mut t)?;
     Ok(t)
 }
 
 /// The state on step 4, beside this one.
-fn at_4(s: &State) -> Result<State, OutOfMemory> {
-    let mut t = s.clone()?;
+fn at_4(s: &State) -> Result<Box<State>, OutOfMemory> {
+    let mut t = copy(s.alloc, s)?;
     to_4(&mut t)?;
     Ok(t)
 }
 
 /// The state on step 6, beside this one.
-pub(crate) fn at_6(s: &State) -> Result<State, OutOfMemory> {
-    let mut t = s.clone()?;
+pub(crate) fn at_6(s: &State) -> Result<Box<State>, OutOfMemory> {
+    let mut t = copy(s.alloc, s)?;
     to_6(&mut t)?;
     Ok(t)
 }
 
 /// The state on step 7, beside this one.
-fn at_7(s: &State) -> Result<State, OutOfMemory> {
-    let mut t = s.clone()?;
+fn at_7(s: &State) -> Result<Box<State>, OutOfMemory> {
+    let mut t = copy(s.alloc, s)?;
     to_7(&mut t)?;
     Ok(t)
 }
@@ -153,7 +153,7 @@ pub(crate) fn has_closings(s: &State) -> bool {
 
 /// What placing waits for, with the state left as it is.
 pub(crate) fn pause_of(s: &State) -> Result<Pause, OutOfMemory> {
-    let mut t = s.clone()?;
+    let mut t = copy(s.alloc, s)?;
     placing(&mut t)
 }
 
@@ -169,11 +169,11 @@ pub(crate) fn may_3(s: &State) -> Result<bool, OutOfMemory> {
 }
 
 fn may_4(s: &State) -> Result<bool, OutOfMemory> {
-    Ok(step(s) == 4 || (may_3(s)? && is_done_3(&at_3(s)?)))
+    Ok(step(s) == 4 || (may_3(s)? && is_done_3(&*at_3(s)?)))
 }
 
 pub(crate) fn may_6(s: &State) -> Result<bool, OutOfMemory> {
-    if step(s) == 6 || (may_4(s)? && is_done_4(&at_4(s)?)?) {
+    if step(s) == 6 || (may_4(s)? && is_done_4(&*at_4(s)?)?) {
         return Ok(true);
     }
     Ok(step(s) == 7 && s.is_again && is_done_4(s)?)
@@ -183,17 +183,17 @@ fn may_7(s: &State) -> Result<bool, OutOfMemory> {
     if step(s) == 7 && !s.is_again {
         return Ok(true);
     }
-    Ok(may_6(s)? && is_done_6(&at_6(s)?)?)
+    Ok(may_6(s)? && is_done_6(&*at_6(s)?)?)
 }
 
 /// The turn may end.
 pub(crate) fn may_end(s: &State) -> Result<bool, OutOfMemory> {
-    Ok(may_7(s)? && is_done_4(&at_7(s)?)?)
+    Ok(may_7(s)? && is_done_4(&*at_7(s)?)?)
 }
 
 /// Where a decision or cut stands: step 4, and where nothing is left in it, step 7.
 fn is_in_4(s: &State) -> Result<bool, OutOfMemory> {
-    Ok(step(s) <= 4 && !is_done_4(&at_4(s)?)?)
+    Ok(step(s) <= 4 && !is_done_4(&*at_4(s)?)?)
 }
 
 pub(crate) fn to_decide(s: &mut State) -> Result<(), OutOfMemory> {
@@ -207,8 +207,8 @@ pub(crate) fn to_decide(s: &mut State) -> Result<(), OutOfMemory> {
 }
 
 /// The state in which the next decision or cut is taken, beside this one.
-pub(crate) fn at_decide(s: &State) -> Result<State, OutOfMemory> {
-    let mut t = s.clone()?;
+pub(crate) fn at_decide(s: &State) -> Result<Box<State>, OutOfMemory> {
+    let mut t = copy(s.alloc, s)?;
     to_decide(&mut t)?;
     Ok(t)
 }
@@ -318,8 +318,8 @@ fn awaited_by(s: &State, c: &Client) -> Result<Option<u64>, OutOfMemory> {
     }
 }
 
-fn rested_client(s: &State, w: &Wants, c: &Client) -> Result<Client, OutOfMemory> {
-    let mut rested = c.clone()?;
+fn rested_client(s: &State, w: &Wants, c: &Client) -> Result<Box<Client>, OutOfMemory> {
+    let mut rested = copy(s.alloc, c)?;
     rested.waits_on = awaited_by(s, c)?;
     rested.is_new = false;
     rested.is_told = false;
@@ -332,7 +332,7 @@ fn rested_client(s: &State, w: &Wants, c: &Client) -> Result<Client, OutOfMemory
 fn rested_clients(s: &State, w: &Wants) -> Result<Vec<Client>, OutOfMemory> {
     let mut rested = Vec::new(s.alloc);
     for c in s.clients.iter() {
-        push(&mut rested, rested_client(s, w, c)?)?;
+        push(&mut rested, Box::into_inner(rested_client(s, w, c)?))?;
     }
     Ok(rested)
 }
