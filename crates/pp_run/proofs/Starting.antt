@@ -3,7 +3,8 @@ use Rattle.std.proofs.Common.{◌≡◌, ◌≤◌, ◌∙◌, ap, sym, subst, �
 use Rattle.pp_world.specs.declared.happening.Happening.TheVariants.{Configured, Listens, Printed}
 use Rattle.pp_world.specs.Log.{Log, AppendsAll, Rises}
 use Rattle.pp_world.proofs.CallLemmas.{appends_then, rises_earlier, rises_later}
-use Rattle.pp_core.specs.Turns.{GoesUpTo, GrowsBy}
+use Rattle.pp_links.specs.Quiet.{GrowsBy}
+use Rattle.pp_run.specs.Serving.{GoesUpTo}
 use Rattle.pp_run.specs.Lines.{unread_line}
 use Rattle.pp_conf.specs.Words.{file_of, has_reading}
 use Rattle.pp_run.specs.Exits.{EndsAs, IsUnread, JudgesWords, ServesOn, StartsAs, asked_for, asks_to_serve}

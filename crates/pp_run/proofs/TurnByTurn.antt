@@ -1,15 +1,22 @@
 -- Turns, one after the other.
-use Rattle.std.proofs.Common.{◌≡◌, ◌≢◌, ◌<◌, ◌+◌, ◌∙◌, inr, inl, ℕ, Bool, true, ◌&&◌, [], ◌∷◌, ◌++◌, Option, ap, append_assoc, refl, sym, subst}
+use Rattle.std.proofs.Common.{◌≡◌, ◌≢◌, ◌<◌, ◌+◌, ◌∙◌, inr, inl, ℕ, Bool, true, ◌&&◌, List, [], ◌∷◌, ◌++◌, Option, ap, append_assoc, refl, sym, subst}
 use Rattle.std.proofs.lemmas.List.{append-nil, flat_map_more, length-append}
 use Rattle.std.proofs.lemmas.List.Folds.{list_all-append}
 use Rattle.pp_world.specs.declared.event.Event.{Event}
 use Rattle.pp_world.specs.declared.event.Event.TheVariants.{Stop, Tick, Accepted, Readable, Writable, Reached, Broken}
 use Rattle.pp_world.specs.Log.{Log}
-use Rattle.pp_core.specs.Turns.{GoesOn, GoesUpTo, GrowsBy, IsQuiet, LoggedTurn, TakesTurn, is_going, turn_by, turn_happenings, went_on}
-use Rattle.pp_core.specs.declared.proxy.Turn.{Turn}
-use Rattle.pp_core.specs.declared.proxy.Turn.TheVariants.{Went, Stopped}
+use Rattle.pp_links.specs.Links.{IsLinked, Link}
+use Rattle.pp_links.specs.Quiet.{GrowsBy, IsQuiet}
+use Rattle.pp_links.proofs.Keeping.{none_linked}
+use Rattle.pp_proxy.specs.Turns.{TakesTurn, turn_by}
+use Rattle.pp_proxy.specs.declared.proxy.Turn.{Turn}
+use Rattle.pp_proxy.specs.declared.proxy.Turn.TheVariants.{Went, Stopped}
+use Rattle.pp_run.specs.Serving.{GoesOn, GoesUpTo, LoggedTurn, is_going, turn_happenings, went_on}
 
 -- before the first
+pub linked_none : (log : Option Log) (top : ℕ) (links : List Link) → links ≡ [] → IsLinked log top links
+linked_none log top links none = subst (λ (each : List Link). IsLinked log top each) (sym none) (none_linked log top)
+
 pub goes_none : (log : Option Log) → GrowsBy [] (GoesOn 0) log log
 goes_none log = record { was = λ l is. (l, is, ([], sym (append-nil l), record { turns = []; counted = refl; going = refl; log_is = refl })) }
 

@@ -7,7 +7,8 @@ use Rattle.pp_conf.specs.declared.fault.ConfFault.TheVariants.{Usage as IsUsage,
 use Rattle.pp_conf.specs.Conf.{Settings}
 use Rattle.pp_conf.specs.Words.{Serves, file_of, has_reading, reading_of, seed_of}
 use Rattle.pp_conf.specs.Shown.{Answers}
-use Rattle.pp_core.specs.Turns.{GoesUpTo, GrowsBy}
+use Rattle.pp_links.specs.Quiet.{GrowsBy}
+use Rattle.pp_run.specs.Serving.{GoesUpTo}
 use Rattle.pp_run.specs.Lines.{fault_line, no_listener_line, no_memory_line, unread_line, usage_line}
 use Rattle.pp_run.specs.declared.ending.Exit.{Exit}
 use Rattle.pp_run.specs.declared.ending.Exit.TheVariants.{Served, Usage, NoMemory, NoDisk, NoListener, NoConfig}

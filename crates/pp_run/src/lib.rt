@@ -7,7 +7,7 @@
 //! To the layer above: each exit but `Served` prints its one line and nothing else is ever printed;
 //! `specs/Exits.antt` says of each exit when it comes and what a told log gained by it.
 //!
-//! What words and text say is for `pp_conf`, and what a turn does is for `pp_core`.
+//! What words and text say is for `pp_conf`, and what a turn does is for `pp_proxy`.
 #![tactic(auto)]
 
 mod ending; // how the program ends

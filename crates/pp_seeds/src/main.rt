@@ -1,4 +1,4 @@
-//! Runs the caching proxy over simulated lives, and tells of each seed what the law says.
+//! Runs the proxy, behind an opening, over simulated lives, and tells of each seed what the law says.
 //!
 //! `FIRST COUNT` names the seeds. Of each it prints one line: how many happenings there were, or the first that the
 //! law does not permit, in words.

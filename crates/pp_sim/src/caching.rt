@@ -1,4 +1,4 @@
-// The caching proxy behind an opening, as what is run.
+// The proxy behind an opening of its folder, as what is run.
 ghost use Rattle.std.specs.Prelude.{◌≡◌, []};
 
 use crate::Run;
@@ -8,7 +8,7 @@ use pp_proxy::{Proxy, Turn};
 use pp_world::{Disk, Wire};
 use std::alloc::Global;
 
-/// The caching proxy, which keeps nothing on its disk: its folder is rooted and listed, and not used.
+/// The proxy, which keeps nothing on its disk yet: its folder is rooted and listed, and not used.
 pub struct Caching;
 
 impl Run for Caching {

@@ -3,7 +3,7 @@ mod doorkeeper; // programs that open, serve nobody, and stop
 
 use self::doorkeeper::Doorkeeper;
 use crate::dice::Dice;
-use crate::{Caching, Proxy, faults, simulate};
+use crate::{Caching, Program, faults, simulate};
 use pp_oracle::Rule;
 use std::test::Fail;
 
@@ -72,7 +72,7 @@ fn a_seed_gives_the_same_run_and_the_next_another(rt: HostRuntime) -> Result<(),
 }
 
 #[test]
-fn the_caching_proxy_is_lawful(rt: HostRuntime) -> Result<(), Fail> {
+fn the_proxy_behind_an_opening_is_lawful(rt: HostRuntime) -> Result<(), Fail> {
     for seed in [3, 11] {
         assert_eq!(rt; faults(rt.alloc(), seed, 1, &Caching)?.as_str(), "");
     }
@@ -83,12 +83,14 @@ fn the_caching_proxy_is_lawful(rt: HostRuntime) -> Result<(), Fail> {
 #[test]
 fn the_program_opens_out_of_order(rt: HostRuntime) -> Result<(), Fail> {
     for seed in 1..9 {
-        let outcome = simulate(rt.alloc(), seed, &Proxy)?;
+        let outcome = simulate(rt.alloc(), seed, &Program)?;
         let rule = outcome.fault.map(|fault| fault.rule);
         assert_eq!(rt; rule, Some(Rule::OpeningOutOfOrder), "{seed}");
     }
     assert_eq!(rt;
-        simulate(rt.alloc(), 1, &Proxy)?.told(rt.alloc())?.as_str(),
+        simulate(rt.alloc(), 1, &Program)?
+            .told(rt.alloc())?
+            .as_str(),
         "seed 1: happening 1: the opening is out of order: Listens 8123: true\n"
     );
     Ok(())

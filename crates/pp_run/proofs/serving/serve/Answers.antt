@@ -1,11 +1,8 @@
-use Rattle.std.proofs.Common.{ap}
-use Rattle.pp_core.specs.Links.{holds}
-use Rattle.pp_core.proofs.Holding.{linked_same, nothing_held}
-use Rattle.pp_run.proofs.TurnByTurn.{goes_none, goes_stopped, goes_then}
+use Rattle.pp_run.proofs.TurnByTurn.{goes_none, goes_stopped, goes_then, linked_none}
 use Rattle.pp_run.proofs.serving.serve.Goals as goal
 
 pub loop-turn-init : goal.loop-turn-init
-loop-turn-init g c = record { linked = linked_same _ _ _ (nothing_held _ _) (ap holds c.requires); goes = goes_none _ }
+loop-turn-init g c = record { linked = linked_none _ _ _ c.requires; goes = goes_none _ }
 
 pub returns-in-Stopped : goal.returns-in-Stopped
 returns-in-Stopped g c = goes_stopped c.loop-turn._turn c.args.most_turns _ c.turn.result c.loop-turn-test.true c.loop-turn.invariant.goes c.turn.ensures.turn c.in-Stopped.is

@@ -1,12 +1,12 @@
-// The proxy, as what is run.
+// The program, as what is run.
 use crate::Run;
 use pp_memworld::MemWorld;
 use std::alloc::Global;
 
-/// The proxy, as it is built.
-pub struct Proxy;
+/// The program, as it is built.
+pub struct Program;
 
-impl Run for Proxy {
+impl Run for Program {
     fn run(&self, alloc: Global, words: &[String], world: &mut MemWorld) {
         let _ = pp_run::run(alloc, words, world);
     }
