@@ -1,7 +1,5 @@
 // Rows that are refreshed or replaced.
-use crate::exchanges::{Exchange, Part, Wanted, unlike};
-use crate::playing::Act;
-use crate::texts::{ASK, GET, REPLY, RESPONSE, T};
+use pp_play::{ASK, Act, Exchange, GET, Part, REPLY, RESPONSE, Step, T, Wanted, unlike};
 use pp_world::Decision;
 use std::test::Fail;
 
@@ -103,7 +101,7 @@ const SHARED: &[Exchange<'static>] = &[Exchange {
         Act::Say(4, GET),
     ],
     wanted: &[
-        Wanted::Dials(1),
+        Wanted::Count(Step::Dialled(80), 1),
         Wanted::Asked(2, &[ASK, CHECK]),
         Wanted::Taken(3, Decision::Hit(0, 5)),
         Wanted::Taken(4, Decision::Validate),

@@ -1,7 +1,5 @@
 // Replies from what is held.
-use crate::exchanges::{Exchange, Part, Wanted, unlike};
-use crate::playing::Act;
-use crate::texts::{ASK, GET, REPLY, REPLY_AGED, RESPONSE, T};
+use pp_play::{ASK, Act, Exchange, GET, Part, REPLY, RESPONSE, Step, T, Wanted, unlike};
 use pp_world::Decision;
 use std::test::Fail;
 
@@ -15,7 +13,7 @@ const FIRST: &[Exchange<'static>] = &[Exchange {
         Act::Answer(2, RESPONSE),
     ],
     wanted: &[
-        Wanted::Dials(1),
+        Wanted::Count(Step::Dialled(80), 1),
         Wanted::Asked(2, &[ASK]),
         Wanted::Taken(1, Decision::Fetch),
         Wanted::Said(1, &[Part::Text(REPLY)]),
@@ -27,6 +25,10 @@ fn a_page_that_is_not_known_is_fetched(rt: HostRuntime) -> Result<(), Fail> {
     assert_eq!(rt; unlike(rt.alloc(), FIRST)?.as_str(), "");
     Ok(())
 }
+
+/// The reply to a client that comes ten seconds behind the one for whom the page was fetched.
+const REPLY_AGED: &[u8] =
+    b"HTTP/1.1 200 OK\r\netag: \"x\"\r\ndate: Sun, 06 Nov 1994 08:49:37 GMT\r\ncache-control: max-age=60\r\nage: 10\r\nvia: 1.1 polipo\r\ncontent-length: 5\r\nconnection: keep-alive\r\n\r\nhello";
 
 const AGAIN: &[Exchange<'static>] = &[Exchange {
     name: "a page that is held is not asked for again",
@@ -41,7 +43,7 @@ const AGAIN: &[Exchange<'static>] = &[Exchange {
         Act::Say(3, GET),
     ],
     wanted: &[
-        Wanted::Dials(1),
+        Wanted::Count(Step::Dialled(80), 1),
         Wanted::Asked(2, &[ASK]),
         Wanted::Taken(3, Decision::Hit(0, 5)),
         Wanted::Said(1, &[Part::Text(REPLY)]),
@@ -86,7 +88,7 @@ const RANGES: &[Exchange<'static>] = &[Exchange {
         ),
     ],
     wanted: &[
-        Wanted::Dials(1),
+        Wanted::Count(Step::Dialled(80), 1),
         Wanted::Asked(2, &[ASK]),
         Wanted::Taken(3, Decision::Hit(1, 4)),
         Wanted::Said(
@@ -141,7 +143,7 @@ const EMPTY: &[Exchange<'static>] = &[Exchange {
         ),
     ],
     wanted: &[
-        Wanted::Dials(1),
+        Wanted::Count(Step::Dialled(80), 1),
         Wanted::Asked(2, &[ASK]),
         Wanted::Said(
             1,

@@ -1,7 +1,5 @@
 // What is missing of a page, and asked for.
-use crate::exchanges::{Exchange, Part, Wanted, unlike};
-use crate::playing::Act;
-use crate::texts::T;
+use pp_play::{Act, Exchange, Part, Step, T, Wanted, unlike};
 use pp_world::{Cause, Decision};
 use std::test::Fail;
 
@@ -62,7 +60,7 @@ const PARTS: &[Exchange<'static>] = &[Exchange {
         Act::Fill(2, b'b', 4_096),
     ],
     wanted: &[
-        Wanted::Dials(1),
+        Wanted::Count(Step::Dialled(80), 1),
         Wanted::Asked(2, &[ASK_A, ASK_C, ASK_B]),
         Wanted::Taken(1, Decision::Fetch),
         Wanted::Taken(3, Decision::Part(8_192, 12_288)),
@@ -110,7 +108,7 @@ const REPLACED: &[Exchange<'static>] = &[Exchange {
         Act::Say(5, GET_ALL),
     ],
     wanted: &[
-        Wanted::Dials(1),
+        Wanted::Count(Step::Dialled(80), 1),
         Wanted::Asked(2, &[ASK_A, ASK_C, ASK_B]),
         Wanted::Cut(4, Cause::Superseded),
         Wanted::Said(4, &[Part::Text(REPLY_HEAD_ALL), Part::Fill(b'a', 4_096)]),
@@ -158,7 +156,7 @@ const OVERTAKEN: &[Exchange<'static>] = &[Exchange {
         ),
     ],
     wanted: &[
-        Wanted::Dials(2),
+        Wanted::Count(Step::Dialled(80), 2),
         Wanted::Asked(
             2,
             &[
@@ -209,7 +207,7 @@ const MOVED: &[Exchange<'static>] = &[
             Act::Fill(2, b'd', 404),
         ],
         wanted: &[
-            Wanted::Dials(1),
+            Wanted::Count(Step::Dialled(80), 1),
             Wanted::Asked(2, &[ASK_D]),
             Wanted::Said(
                 1,
@@ -234,7 +232,7 @@ const MOVED: &[Exchange<'static>] = &[
             Act::Fill(2, b'd', 1_000),
         ],
         wanted: &[
-            Wanted::Dials(1),
+            Wanted::Count(Step::Dialled(80), 1),
             Wanted::Asked(2, &[ASK_D]),
             Wanted::Said(
                 1,

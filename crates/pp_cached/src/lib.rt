@@ -1,15 +1,13 @@
 //! Worked exchanges with the caching proxy, over a world in memory.
 //!
-//! Each table writes down what clients and origins do, and the bytes that each of them is sent where the cache answers. All are
-//! played twice, with each text whole and with every byte alone, since the two must end alike.
+//! Each table writes down what clients and origins do, and the bytes that each of them is sent where the cache answers. `pp_play`
+//! plays them twice, with each text whole and with every byte alone, since the two must end alike.
 //!
 //! Nothing stands on this crate. What each part promises is proved in the crate of that part; here the parts are tried together.
 #![tactic(auto)]
 
 #[cfg(test)]
 mod changes; // rows that are refreshed or replaced
-#[cfg(test)]
-mod exchanges; // what is played, and what is wanted of it
 #[cfg(test)]
 mod hits; // replies from what is held
 #[cfg(test)]
@@ -18,7 +16,3 @@ mod holes; // what is missing, and asked for
 mod losses; // origins that end too early
 #[cfg(test)]
 mod passing; // what the cache does not answer
-#[cfg(test)]
-mod playing; // acts, and the proxy played against them
-#[cfg(test)]
-mod texts; // the texts that most exchanges are made of

@@ -1,7 +1,5 @@
 // Origins that end too early.
-use crate::exchanges::{Exchange, Part, Wanted, unlike};
-use crate::playing::Act;
-use crate::texts::{ASK, GET, T};
+use pp_play::{ASK, Act, Exchange, GET, Part, Step, T, Wanted, unlike};
 use pp_world::{Cause, Decision};
 use std::test::Fail;
 
@@ -24,7 +22,7 @@ const ENDED: &[Exchange<'static>] = &[Exchange {
         Act::Reach(6),
     ],
     wanted: &[
-        Wanted::Dials(4),
+        Wanted::Count(Step::Dialled(80), 4),
         Wanted::Asked(2, &[ASK]),
         Wanted::Cut(1, Cause::Origin),
         Wanted::Said(

@@ -1,7 +1,5 @@
 // What the cache does not answer.
-use crate::exchanges::{Exchange, Part, Wanted, unlike};
-use crate::playing::Act;
-use crate::texts::{ASK, GET, T};
+use pp_play::{ASK, Act, Exchange, GET, Part, Step, T, Wanted, unlike};
 use pp_world::Decision;
 use std::test::Fail;
 
@@ -27,12 +25,12 @@ const CODED: &[Exchange<'static>] = &[Exchange {
         Act::Answer(2, RESPONSE_C),
     ],
     wanted: &[
-        Wanted::Dials(1),
+        Wanted::Count(Step::Dialled(80), 1),
         Wanted::Asked(2, &[ASK_C, ASK_C]),
         Wanted::Said(1, &[Part::Text(REPLY_C)]),
-        Wanted::Closed(1),
+        Wanted::Shut(1),
         Wanted::Said(3, &[Part::Text(REPLY_C)]),
-        Wanted::Closed(3),
+        Wanted::Shut(3),
     ],
 }];
 
@@ -60,7 +58,7 @@ const WEAK: &[Exchange<'static>] = &[Exchange {
         Act::Answer(2, WEAK_RESPONSE),
     ],
     wanted: &[
-        Wanted::Dials(1),
+        Wanted::Count(Step::Dialled(80), 1),
         Wanted::Asked(2, &[ASK, ASK]),
         Wanted::Taken(1, Decision::Relay),
         Wanted::Said(1, &[Part::Text(WEAK_REPLY), Part::Text(WEAK_REPLY)]),
@@ -84,7 +82,7 @@ const CACHED_ALONE: &[Exchange<'static>] = &[Exchange {
         ),
     ],
     wanted: &[
-        Wanted::Dials(0),
+        Wanted::Count(Step::Dialled(80), 0),
         Wanted::Taken(1, Decision::Refuse(504)),
         Wanted::Said(
             1,

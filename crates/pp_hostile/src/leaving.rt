@@ -1,5 +1,12 @@
-// Clients that are lost, within a request, within a reply, or while they wait. Others are served as ever.
-use pp_play::{Act, Exchange, GET, Pace, REPLY, RESPONSE, Step, Wanted, play, unlike};
+// Clients that are lost, within a request, within a reply, or while they wait. Others are served as ever, also from what was
+// fetched for those.
+//
+// A client is lost by two breaks. Where the first fails a read, it counts as one that sends no more, and is answered what it
+// asked; the other fails the answer's writing.
+use pp_play::{
+    ASK, Act, Exchange, GET, HEAD, Pace, Part, REPLY, REPLY_HELD, RESPONSE, Step, T, Wanted, play,
+    unlike,
+};
 use pp_world::Decision;
 use std::test::Fail;
 
@@ -8,98 +15,203 @@ const PUT: &[u8] = b"PUT http://h/a HTTP/1.1\r\nContent-Length: 3\r\n\r\n";
 
 #[test]
 fn a_client_that_leaves_in_its_request_is_shut(rt: HostRuntime) -> Result<(), Fail> {
-    for leave in [Act::HangUp(1), Act::Break(1)] {
-        for len in 0..PUT.len() {
-            let acts = [
-                Act::Connect,
-                Act::Say(1, &PUT[..len]),
-                leave,
-                Act::Connect,
-                Act::Say(2, GET),
-                Act::Reach(3),
-                Act::Answer(3, RESPONSE),
-            ];
-            let played = play(rt.alloc(), Pace::Whole, &acts)?;
-            let course = [Step::Opened, Step::HungUp, Step::Shut, Step::Stopped];
-            assert_eq!(rt; played.course(1)?.as_slice(), course.as_slice(), "at {len}");
-            assert_eq!(rt; played.said(2)?.as_slice(), REPLY, "at {len}");
+    let alloc = rt.alloc();
+    let mut acts = Vec::new(alloc);
+    let mut last: u64 = 1;
+    for len in 0..PUT.len() {
+        for leave in [Act::HangUp(0), Act::Break(0)] {
+            acts.extend_from_slice(&[Act::Connect, Act::Say(0, &PUT[..len]), leave])?;
+            last = last.saturating_add(1);
         }
     }
+    acts.extend_from_slice(&[Act::Connect, Act::Say(0, GET)])?;
+    let origin = last.saturating_add(1);
+    acts.extend_from_slice(&[Act::Reach(origin), Act::Answer(origin, RESPONSE)])?;
+    let played = play(alloc, Pace::Whole, acts.as_slice())?;
+    let course = [Step::Opened, Step::HungUp, Step::Shut, Step::Stopped];
+    for client in 1..last {
+        assert_eq!(rt;
+            played.course(client)?.as_slice(),
+            course.as_slice(),
+            "client {client}"
+        );
+    }
+    assert_eq!(rt; played.said(last)?.as_slice(), REPLY);
     Ok(())
 }
 
 #[test]
 fn a_client_that_is_lost_in_its_reply_is_shut(rt: HostRuntime) -> Result<(), Fail> {
-    for len in 0..REPLY.len() {
-        let acts = [
-            Act::Connect,
-            Act::Window(1, len as u64),
-            Act::Say(1, GET),
-            Act::Reach(2),
-            Act::Answer(2, RESPONSE),
-            Act::Break(1),
-            Act::Connect,
-            Act::Say(3, GET),
-            Act::Reach(4),
-            Act::Answer(4, RESPONSE),
-        ];
-        let played = play(rt.alloc(), Pace::Whole, &acts)?;
-        assert_eq!(rt; played.said(1)?.as_slice(), &REPLY[..len], "at {len}");
-        assert_eq!(rt; played.count(Step::HungUp), 1, "at {len}");
-        assert_eq!(rt; played.said(3)?.as_slice(), REPLY, "at {len}");
+    let alloc = rt.alloc();
+    let mut acts = Vec::new(alloc);
+    acts.extend_from_slice(&[Act::Tick(T), Act::Connect, Act::Say(1, GET)])?;
+    acts.extend_from_slice(&[Act::Reach(2), Act::Answer(2, RESPONSE)])?;
+    for len in 0..REPLY_HELD.len() {
+        acts.extend_from_slice(&[Act::Connect, Act::Window(0, len as u64), Act::Say(0, GET)])?;
+        acts.extend_from_slice(&[Act::Break(0), Act::Break(0), Act::Window(0, 1)])?;
     }
+    acts.extend_from_slice(&[Act::Connect, Act::Say(0, GET)])?;
+    let played = play(alloc, Pace::Whole, acts.as_slice())?;
+    let mut client: u64 = 3;
+    for len in 0..REPLY_HELD.len() {
+        assert_eq!(rt;
+            played.said(client)?.as_slice(),
+            &REPLY_HELD[..len],
+            "at {len}"
+        );
+        client = client.saturating_add(1);
+    }
+    assert_eq!(rt; played.said(client)?.as_slice(), REPLY_HELD);
+    // the first client, and one that is not lost yet
+    assert_eq!(rt; played.most_open(Step::Opened, Step::Shut), 2);
+    assert_eq!(rt; played.count(Step::Dialled(80)), 1);
     Ok(())
 }
 
-/// A client that was lost once it asked, and the connection to its origin, which is given up.
+/// A client that was lost once it asked, and another that asked for the same: what was asked serves the other.
 const LOST_LATE: &[Wanted<'static>] = &[
-    Wanted::Course(
-        1,
-        &[
-            Step::Opened,
-            Step::Taken(0, Decision::Pass),
-            Step::HungUp,
-            Step::Shut,
-            Step::Stopped,
-        ],
-    ),
-    Wanted::Count(Step::Dropped, 1),
+    Wanted::Taken(1, Decision::Fetch),
+    Wanted::Said(1, &[]),
+    Wanted::Shut(1),
+    Wanted::Count(Step::Dialled(80), 1),
+    Wanted::Asked(2, &[ASK]),
+    Wanted::Said(3, &[Part::Text(REPLY_HELD)]),
 ];
 
 const WAITING: &[Exchange<'static>] = &[
     Exchange {
         name: "while it is dialled for",
-        acts: &[Act::Connect, Act::Say(1, GET), Act::Break(1)],
+        acts: &[
+            Act::Tick(T),
+            Act::Connect,
+            Act::Say(1, GET),
+            Act::Break(1),
+            Act::Break(1),
+            Act::Connect,
+            Act::Say(3, GET),
+            Act::Reach(2),
+            Act::Answer(2, RESPONSE),
+        ],
         wanted: LOST_LATE,
     },
     Exchange {
-        name: "while its request is asked",
-        acts: &[Act::Connect, Act::Say(1, GET), Act::Reach(2), Act::Break(1)],
+        name: "while its request is asked, and another waits for the same",
+        acts: &[
+            Act::Tick(T),
+            Act::Connect,
+            Act::Say(1, GET),
+            Act::Connect,
+            Act::Say(0, GET),
+            Act::Reach(2),
+            Act::Break(1),
+            Act::Break(1),
+            Act::Answer(2, RESPONSE),
+        ],
         wanted: LOST_LATE,
     },
     Exchange {
         name: "while its response's head comes",
         acts: &[
+            Act::Tick(T),
             Act::Connect,
             Act::Say(1, GET),
             Act::Reach(2),
-            Act::Answer(2, b"HTTP/1.1 200"),
+            Act::Answer(2, b"HTTP/1.1 200 OK\r\nDate: Sun, 06 Nov 1994"),
             Act::Break(1),
+            Act::Break(1),
+            Act::Answer(
+                2,
+                b" 08:49:37 GMT\r\nETag: \"x\"\r\nCache-Control: max-age=60\r\nContent-Length: 5\r\n\r\nhello",
+            ),
+            Act::Connect,
+            Act::Say(3, GET),
         ],
         wanted: LOST_LATE,
     },
     Exchange {
-        name: "within its body, before the origin is reached",
+        name: "within its reply, while more of the body comes",
         acts: &[
+            Act::Tick(T),
+            Act::Connect,
+            Act::Window(1, 100),
+            Act::Say(1, GET),
+            Act::Reach(2),
+            Act::Answer(2, HEAD),
+            Act::Answer(2, b"hel"),
+            Act::Break(1),
+            Act::Break(1),
+            Act::Window(1, 1),
+            Act::Answer(2, b"lo"),
+            Act::Connect,
+            Act::Say(3, GET),
+        ],
+        wanted: &[
+            Wanted::Shut(1),
+            Wanted::Count(Step::Dialled(80), 1),
+            Wanted::Asked(2, &[ASK]),
+            Wanted::Said(3, &[Part::Text(REPLY_HELD)]),
+        ],
+    },
+];
+
+#[test]
+fn a_client_that_is_lost_while_it_waits_leaves_what_it_asked_to_others(
+    rt: HostRuntime,
+) -> Result<(), Fail> {
+    assert_eq!(rt; unlike(rt.alloc(), WAITING)?.as_str(), "");
+    Ok(())
+}
+
+/// A client that was lost within its request's body: it is shut at once.
+const LOST_ASKING: Wanted<'static> = Wanted::Course(
+    1,
+    &[
+        Step::Opened,
+        Step::Taken(0, Decision::Pass),
+        Step::HungUp,
+        Step::Shut,
+        Step::Stopped,
+    ],
+);
+
+/// A connection on which a body was asked in part can carry nothing else.
+const GIVEN_UP: &[Wanted<'static>] = &[
+    LOST_ASKING,
+    Wanted::Course(
+        2,
+        &[
+            Step::Dialled(80),
+            Step::Reached,
+            Step::Asked(66),
+            Step::Dropped,
+            Step::Stopped,
+        ],
+    ),
+];
+
+const ASKING: &[Exchange<'static>] = &[
+    Exchange {
+        name: "before the origin is reached: the connection is another's",
+        acts: &[
+            Act::Tick(T),
             Act::Connect,
             Act::Say(1, PUT),
             Act::Say(1, b"ab"),
             Act::Break(1),
+            Act::Connect,
+            Act::Say(3, GET),
+            Act::Reach(2),
+            Act::Answer(2, RESPONSE),
         ],
-        wanted: LOST_LATE,
+        wanted: &[
+            LOST_ASKING,
+            Wanted::Count(Step::Dialled(80), 1),
+            Wanted::Asked(2, &[ASK]),
+            Wanted::Said(3, &[Part::Text(REPLY)]),
+        ],
     },
     Exchange {
-        name: "within its body",
+        name: "once it is asked",
         acts: &[
             Act::Connect,
             Act::Say(1, PUT),
@@ -107,10 +219,10 @@ const WAITING: &[Exchange<'static>] = &[
             Act::Say(1, b"ab"),
             Act::Break(1),
         ],
-        wanted: LOST_LATE,
+        wanted: GIVEN_UP,
     },
     Exchange {
-        name: "within its body, where it will send no more",
+        name: "once it is asked, where it will send no more",
         acts: &[
             Act::Connect,
             Act::Say(1, PUT),
@@ -118,14 +230,40 @@ const WAITING: &[Exchange<'static>] = &[
             Act::Say(1, b"ab"),
             Act::HangUp(1),
         ],
-        wanted: LOST_LATE,
+        wanted: GIVEN_UP,
+    },
+    Exchange {
+        name: "once it is asked, as one of four of its host: a fifth request gets the place",
+        acts: &[
+            Act::Tick(T),
+            Act::Connect,
+            Act::Say(1, PUT),
+            Act::Reach(2),
+            Act::Connect,
+            Act::Say(3, PUT),
+            Act::Connect,
+            Act::Say(5, PUT),
+            Act::Connect,
+            Act::Say(7, PUT),
+            Act::Connect,
+            Act::Say(9, GET),
+            Act::Break(1),
+            Act::Reach(10),
+            Act::Answer(10, RESPONSE),
+        ],
+        wanted: &[
+            LOST_ASKING,
+            Wanted::MostOpen(Step::Dialled(80), Step::Dropped, 4),
+            Wanted::Asked(10, &[ASK]),
+            Wanted::Said(9, &[Part::Text(REPLY)]),
+        ],
     },
 ];
 
 #[test]
-fn a_client_that_is_lost_while_it_waits_gives_its_connection_up(
+fn a_client_that_is_lost_within_its_body_gives_its_connection_up(
     rt: HostRuntime,
 ) -> Result<(), Fail> {
-    assert_eq!(rt; unlike(rt.alloc(), WAITING)?.as_str(), "");
+    assert_eq!(rt; unlike(rt.alloc(), ASKING)?.as_str(), "");
     Ok(())
 }

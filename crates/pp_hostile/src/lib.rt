@@ -1,5 +1,5 @@
 //! Hostile exchanges: the whole program, run over a world in memory, against garbage, early ends, messages that two readers
-//! could take apart, and clients that leave.
+//! could take apart, bodies that are gone on with by another's, clients that leave, and those who do nothing.
 //!
 //! As in `pp_scenarios`, each test is a table and one call, and all are played whole and byte by byte.
 //!
@@ -12,3 +12,5 @@ mod gateways; // origins that answer wrongly, or not at all
 mod leaving; // clients that are lost
 #[cfg(test)]
 mod refusals; // requests that are refused with a page
+#[cfg(test)]
+mod waiting; // clients and origins that do nothing

@@ -34,11 +34,19 @@ pub(crate) fn open(
     if let Some(call) = failing {
         calls.push(call).map_err(AllocError::from)?;
     }
-    let mut world = MemWorld::new(alloc, script, Image::new(alloc), calls)?;
+    let mut world = boxed(
+        alloc,
+        MemWorld::new(alloc, script, Image::new(alloc), calls)?,
+    )?;
     world.set_config(Octets::copy(alloc, text)?);
-    let exit = run(alloc, words.as_slice(), &mut world);
+    let exit = run(alloc, words.as_slice(), &mut *world);
     let course = course_of(alloc, world.log().unwrap_or(&[]))?;
     Ok(Opened { exit, course })
+}
+
+/// A world of its own place, so that whoever lets go of it lets go of one thing.
+fn boxed(alloc: Global, world: MemWorld) -> Result<Box<MemWorld>, OutOfMemory> {
+    Box::new(alloc, world).map_err(|_| OutOfMemory)
 }
 
 /// The words of a line; an empty line has none.

@@ -87,71 +87,73 @@ fn words_without_a_reading_are_refused_before_anything_is_read(
     Ok(())
 }
 
+/// Words, a text, which call fails, and the course.
+const NO_CONFIGS: [(&str, &str, Option<u64>, &str); 10] = [
+    (
+        "-c f",
+        "",
+        Some(1),
+        "cannot read f\nprints polipo: cannot read the configuration\n\n",
+    ),
+    (
+        "-c f proxyPort=0",
+        "x",
+        Some(1),
+        "cannot read f\nprints polipo: cannot read the configuration\n\n",
+    ),
+    (
+        "proxyPort=0",
+        "",
+        None,
+        "prints polipo: bad value for proxyPort\n\n",
+    ),
+    (
+        "chunkHighMark=3000 chunkLowMark=3001",
+        "",
+        None,
+        "prints polipo: bad value for chunkHighMark\n\n",
+    ),
+    (
+        "chunkCriticalMark=65537",
+        "",
+        None,
+        "prints polipo: bad value for chunkCriticalMark\n\n",
+    ),
+    (
+        "-c f",
+        "# x\nproxyPort 9\n",
+        None,
+        "reads f\nprints polipo: configuration line 2 is not understood\n\n",
+    ),
+    (
+        "-c f diskRun=2",
+        "maxTurns=0\n",
+        None,
+        "reads f\nprints polipo: bad value for maxTurns\n\n",
+    ),
+    (
+        "-c f diskRun=2",
+        "maxTurns=1\n",
+        None,
+        "reads f\nprints polipo: bad value for diskRun\n\n",
+    ),
+    (
+        "-c f",
+        "shareFetches=2\nx\n",
+        None,
+        "reads f\nprints polipo: configuration line 2 is not understood\n\n",
+    ),
+    (
+        "-c f",
+        "diskCacheRoot=\n",
+        None,
+        "reads f\nprints polipo: bad value for diskCacheRoot\n\n",
+    ),
+];
+
 #[test]
 fn a_configuration_that_says_nothing_ends_it_with_its_line(rt: HostRuntime) -> Result<(), Fail> {
-    let cases: [(&str, &str, Option<u64>, &str); 10] = [
-        (
-            "-c f",
-            "",
-            Some(1),
-            "cannot read f\nprints polipo: cannot read the configuration\n\n",
-        ),
-        (
-            "-c f proxyPort=0",
-            "x",
-            Some(1),
-            "cannot read f\nprints polipo: cannot read the configuration\n\n",
-        ),
-        (
-            "proxyPort=0",
-            "",
-            None,
-            "prints polipo: bad value for proxyPort\n\n",
-        ),
-        (
-            "chunkHighMark=3000 chunkLowMark=3001",
-            "",
-            None,
-            "prints polipo: bad value for chunkHighMark\n\n",
-        ),
-        (
-            "chunkCriticalMark=65537",
-            "",
-            None,
-            "prints polipo: bad value for chunkCriticalMark\n\n",
-        ),
-        (
-            "-c f",
-            "# x\nproxyPort 9\n",
-            None,
-            "reads f\nprints polipo: configuration line 2 is not understood\n\n",
-        ),
-        (
-            "-c f diskRun=2",
-            "maxTurns=0\n",
-            None,
-            "reads f\nprints polipo: bad value for maxTurns\n\n",
-        ),
-        (
-            "-c f diskRun=2",
-            "maxTurns=1\n",
-            None,
-            "reads f\nprints polipo: bad value for diskRun\n\n",
-        ),
-        (
-            "-c f",
-            "shareFetches=2\nx\n",
-            None,
-            "reads f\nprints polipo: configuration line 2 is not understood\n\n",
-        ),
-        (
-            "-c f",
-            "diskCacheRoot=\n",
-            None,
-            "reads f\nprints polipo: bad value for diskCacheRoot\n\n",
-        ),
-    ];
-    for (line, text, failing, wanted) in cases {
+    for (line, text, failing, wanted) in NO_CONFIGS {
         let came = open(rt.alloc(), line, text.as_bytes(), failing)?;
         assert_eq!(rt; came.exit, Exit::NoConfig, "{line}");
         assert_eq!(rt; came.exit.status(), 6, "{line}");

@@ -2,9 +2,10 @@
 use crate::course::Step;
 use crate::fitting::{Fit, Part, fit_of};
 use crate::playing::{Act, PACES, Pace, Played, play};
+use crate::texts::joined;
 use pp_run::Exit;
 use pp_text::OutOfMemory;
-use pp_world::Happening;
+use pp_world::{Cause, Decision, Happening, Remark};
 use std::alloc::Global;
 
 /// What clients and origins do, and what the program is to do.
@@ -21,8 +22,14 @@ pub struct Exchange<'a> {
 pub enum Wanted<'a> {
     /// This client is said these parts, and nothing more.
     Said(u64, &'a [Part<'a>]),
-    /// This origin is asked just that.
-    Asked(u64, &'a [u8]),
+    /// This origin is asked just these texts, one behind the other.
+    Asked(u64, &'a [&'a [u8]]),
+    /// This was decided for a request of this client.
+    Taken(u64, Decision),
+    /// This client was cut for this cause, and shut.
+    Cut(u64, Cause),
+    /// This client was shut before the program ended.
+    Shut(u64),
     /// The connection of this number is one to this host and port.
     Dialled(u64, &'a [u8], u16),
     /// The course of this connection.
@@ -57,7 +64,7 @@ pub fn unlike_at(
     for exchange in exchanges {
         let played = play(alloc, pace, exchange.acts)?;
         for wanted in exchange.wanted {
-            if !is_met(&played, *wanted)? {
+            if !is_met(alloc, &played, *wanted)? {
                 return tell(alloc, &played, exchange.name, *wanted);
             }
         }
@@ -66,10 +73,15 @@ pub fn unlike_at(
 }
 
 /// Whether the program did what is wanted.
-fn is_met(played: &Played, wanted: Wanted<'_>) -> Result<bool, OutOfMemory> {
+fn is_met(alloc: Global, played: &Played, wanted: Wanted<'_>) -> Result<bool, OutOfMemory> {
     match wanted {
         Wanted::Said(c, parts) => Ok(fit_of(played.said(c)?.as_slice(), parts) == Fit::Whole),
-        Wanted::Asked(k, text) => Ok(played.asked(k)?.as_slice() == text),
+        Wanted::Asked(k, texts) => {
+            Ok(played.asked(k)?.as_slice() == joined(alloc, texts)?.as_slice())
+        }
+        Wanted::Taken(c, decision) => Ok(is_taken(played.log(), c, decision)),
+        Wanted::Cut(c, cause) => Ok(is_cut(played.log(), c, cause) && is_shut(played.log(), c)),
+        Wanted::Shut(c) => Ok(is_shut(played.log(), c)),
         Wanted::Dialled(k, host, port) => Ok(is_dialled(played.log(), k, host, port)),
         Wanted::Course(id, steps) => Ok(played.course(id)?.as_slice() == steps),
         Wanted::Count(step, count) => Ok(played.count(step) == count),
@@ -77,6 +89,41 @@ fn is_met(played: &Played, wanted: Wanted<'_>) -> Result<bool, OutOfMemory> {
         Wanted::MostHeld(bytes) => Ok(played.most_held() <= bytes),
         Wanted::Exit(exit) => Ok(played.exit == exit),
     }
+}
+
+/// Whether this was decided for a request of this client.
+fn is_taken(log: &[Happening], c: u64, wanted: Decision) -> bool {
+    for happening in log {
+        if let Happening::Noted(Remark::Taken(client, _, decision)) = happening {
+            if *client == c && *decision == wanted {
+                return true;
+            }
+        }
+    }
+    false
+}
+
+fn is_cut(log: &[Happening], c: u64, wanted: Cause) -> bool {
+    for happening in log {
+        if let Happening::Noted(Remark::Cut(client, cause)) = happening {
+            if *client == c && *cause == wanted {
+                return true;
+            }
+        }
+    }
+    false
+}
+
+/// Whether this client was shut before the world stopped the program.
+fn is_shut(log: &[Happening], c: u64) -> bool {
+    for happening in log {
+        match happening {
+            Happening::Shut(client) if *client == c => return true,
+            Happening::Stopped => return false,
+            _ => {}
+        }
+    }
+    false
 }
 
 /// Whether connection `k` is one to this host and port.
@@ -101,7 +148,8 @@ fn tell(
     let text = match wanted {
         Wanted::Said(c, _) => lossy(alloc, played.said(c)?.as_slice())?,
         Wanted::Asked(k, _) => lossy(alloc, played.asked(k)?.as_slice())?,
-        Wanted::Course(id, _) => format!(in alloc; "{:?}", played.course(id)?.as_slice())?,
+        Wanted::Taken(id, _) | Wanted::Cut(id, _) | Wanted::Shut(id) | Wanted::Course(id, _) =>
+            format!(in alloc; "{:?}", played.course(id)?.as_slice())?,
         Wanted::Count(step, _) => format!(in alloc; "{}", played.count(step))?,
         Wanted::MostOpen(opens, closes, _) => format!(in alloc;
             "{}",

@@ -6,6 +6,8 @@ use crate::coding::Place;
 pub enum Part<'a> {
     /// Just these bytes.
     Text(&'a [u8]),
+    /// So many of this byte.
+    Fill(u8, usize),
     /// These bytes in the chunked coding, in chunks of any size, up to its last chunk.
     Coded(&'a [u8]),
 }
@@ -14,7 +16,7 @@ impl<'a> Part<'a> {
     /// Other bytes, spelled in the same way.
     pub fn with(self, data: &'a [u8]) -> Part<'a> {
         match self {
-            Part::Text(_) => Part::Text(data),
+            Part::Text(_) | Part::Fill(_, _) => Part::Text(data),
             Part::Coded(_) => Part::Coded(data),
         }
     }
@@ -44,6 +46,7 @@ pub fn fit_of(text: &[u8], parts: &[Part<'_>]) -> Fit {
     for part in parts {
         let rest = match *part {
             Part::Text(wanted) => behind_text(left, wanted),
+            Part::Fill(byte, count) => behind_fill(left, byte, count),
             Part::Coded(data) => behind_chunks(left, data),
         };
         match rest {
@@ -64,6 +67,18 @@ fn behind_text<'a>(text: &'a [u8], wanted: &[u8]) -> Rest<'a> {
         Some(rest) => Rest::Behind(rest),
         None if wanted.starts_with(text) => Rest::Ends,
         None => Rest::Unlike,
+    }
+}
+
+/// Behind so many of this byte.
+fn behind_fill<'a>(text: &'a [u8], byte: u8, count: usize) -> Rest<'a> {
+    let (filled, behind) = text.split_at(count.min(text.len()));
+    if filled.iter().any(|other| *other != byte) {
+        Rest::Unlike
+    } else if filled.len() < count {
+        Rest::Ends
+    } else {
+        Rest::Behind(behind)
     }
 }
 

@@ -2,8 +2,8 @@
 //!
 //! An `Exchange` writes down what clients and origins do, and what the program is to do: the bytes that each of them is
 //! sent, the dials, the course of each connection. `unlike` plays it twice, with each text whole and with every byte alone,
-//! and says in words where it went otherwise. `unlike_when_cut` plays one more often: the origin is lost behind each of its
-//! bytes, and what the client was said must be a lawful reply or a front of one.
+//! and says in words where it went otherwise. `unlike_when_cut` plays one for many clients, one behind the other: the origin
+//! is lost behind each of its bytes, and what the client was said must be a lawful reply or a front of one.
 //!
 //! To the crates above: a test is a table and one call. Proving a test is dear, so all that they share stands here and is
 //! proved once.
@@ -25,6 +25,6 @@ pub use exchanges::{Exchange, Wanted, unlike, unlike_at};
 pub use fitting::{Fit, Part, fit_of};
 pub use playing::{Act, PACES, Pace, Played, play, play_failing};
 pub use texts::{
-    ASK, ASK_B, GET, GET_B, PAGE_400, PAGE_411, PAGE_431, PAGE_502, REPLY, REPLY_B, RESPONSE,
-    RESPONSE_B, asking, joined, with_repeated,
+    ASK, ASK_B, GET, GET_B, HEAD, HEAD_B, PAGE_400, PAGE_411, PAGE_431, PAGE_502, PASSED, REPLY,
+    REPLY_B, REPLY_HELD, RESPONSE, RESPONSE_B, T, asking, joined, with_repeated,
 };

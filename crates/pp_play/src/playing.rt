@@ -9,6 +9,8 @@ use std::alloc::{AllocError, Global};
 /// the order in which they are accepted and dialled; 0 is the client that connected last.
 #[derive(Clone, Copy, Debug)]
 pub enum Act<'a> {
+    /// The clock, in seconds since 1970.
+    Tick(u64),
     /// A client connects.
     Connect,
     /// A client sends this text.
@@ -23,6 +25,8 @@ pub enum Act<'a> {
     Refuse(u64),
     /// An origin sends this text.
     Answer(u64, &'a [u8]),
+    /// An origin sends so many of this byte.
+    Fill(u64, u8, usize),
     /// An origin will send no more.
     End(u64),
     /// The next read or write of this connection fails.
@@ -46,7 +50,7 @@ pub const PACES: [Pace; 2] = [Pace::Whole, Pace::Bytewise];
 #[derive(Drop)]
 pub struct Played {
     pub exit: Exit,
-    world: MemWorld,
+    world: Box<MemWorld>,
     alloc: Global,
 }
 
@@ -64,13 +68,21 @@ pub fn play_failing(
 ) -> Result<Played, OutOfMemory> {
     let script = script_of(alloc, pace, acts)?;
     let failing = Vec::from_slice(alloc, failing)?;
-    let mut world = MemWorld::new(alloc, script, Image::new(alloc), failing)?;
-    let exit = run(alloc, &[], &mut world);
+    let mut world = boxed(
+        alloc,
+        MemWorld::new(alloc, script, Image::new(alloc), failing)?,
+    )?;
+    let exit = run(alloc, &[], &mut *world);
     // The world stops telling where memory was refused.
     if world.log().is_none() {
         return Err(OutOfMemory);
     }
     Ok(Played { exit, world, alloc })
+}
+
+/// A world of its own place, so that whoever lets go of it lets go of one thing.
+fn boxed(alloc: Global, world: MemWorld) -> Result<Box<MemWorld>, OutOfMemory> {
+    Box::new(alloc, world).map_err(|_| OutOfMemory)
 }
 
 impl Played {
@@ -135,12 +147,12 @@ fn put_cues(
             }
             Ok(())
         }
-        Act::Answer(k, text) => {
-            for piece in pieces(alloc, pace, text)? {
-                put(Cue::Answer(k, piece), cues)?;
-            }
-            Ok(())
+        Act::Answer(k, text) => put_answers(alloc, pace, k, text, cues),
+        Act::Fill(k, byte, count) => {
+            let text = vec![in alloc; byte; count]?;
+            put_answers(alloc, pace, k, text.as_slice(), cues)
         }
+        Act::Tick(seconds) => put(Cue::Tick(seconds), cues),
         Act::Connect => put(Cue::Connect, cues),
         Act::HangUp(c) => put(Cue::HangUp(c), cues),
         Act::Window(id, room) => put(Cue::Window(id, room), cues),
@@ -150,6 +162,20 @@ fn put_cues(
         Act::Break(id) => put(Cue::Break(id), cues),
         Act::Stop => put(Cue::Stop, cues),
     }
+}
+
+/// Adds the cues of a text that an origin sends.
+fn put_answers(
+    alloc: Global,
+    pace: Pace,
+    k: u64,
+    text: &[u8],
+    cues: &mut Vec<Cue>,
+) -> Result<(), OutOfMemory> {
+    for piece in pieces(alloc, pace, text)? {
+        put(Cue::Answer(k, piece), cues)?;
+    }
+    Ok(())
 }
 
 fn put(cue: Cue, cues: &mut Vec<Cue>) -> Result<(), OutOfMemory> {

@@ -1,6 +1,7 @@
 // Responses however they are delimited, to clients of either version (RFC 2616, sections 3.6.1 and 4.4).
 use pp_play::{
-    Act, Cut, Exchange, GET, PAGE_502, Part, REPLY, RESPONSE, Step, Wanted, unlike, unlike_when_cut,
+    ASK, Act, Cut, Exchange, GET, PAGE_502, Part, REPLY, RESPONSE, Step, Wanted, unlike,
+    unlike_when_cut,
 };
 use pp_world::Decision;
 use std::test::Fail;
@@ -28,19 +29,32 @@ const CHUNKED: &[Exchange<'static>] = &[
             ),
         ],
         wanted: &[
-            Wanted::Asked(2, b"GET /c HTTP/1.1\r\nhost: h\r\nvia: 1.1 polipo\r\n\r\n"),
+            Wanted::Asked(
+                2,
+                &[b"GET /c HTTP/1.1\r\nhost: h\r\nvia: 1.1 polipo\r\n\r\n"],
+            ),
             Wanted::Said(1, &[CLOSED_REPLY, Part::Text(b"hello")]),
             Wanted::Course(
                 1,
                 &[
                     Step::Opened,
-                    Step::Taken(0, Decision::Pass),
+                    Step::Taken(0, Decision::Fetch),
+                    Step::Taken(0, Decision::Relay),
                     Step::Said(60),
                     Step::Shut,
                     Step::Stopped,
                 ],
             ),
-            Wanted::Count(Step::Dropped, 1),
+            Wanted::Course(
+                2,
+                &[
+                    Step::Dialled(80),
+                    Step::Reached,
+                    Step::Asked(45),
+                    Step::Stopped,
+                    Step::Dropped,
+                ],
+            ),
         ],
     },
     Exchange {
@@ -64,7 +78,8 @@ const CHUNKED: &[Exchange<'static>] = &[
                 1,
                 &[
                     Step::Opened,
-                    Step::Taken(0, Decision::Pass),
+                    Step::Taken(0, Decision::Fetch),
+                    Step::Taken(0, Decision::Relay),
                     Step::Said(60),
                     Step::Shut,
                     Step::Stopped,
@@ -84,10 +99,10 @@ const CHUNKED: &[Exchange<'static>] = &[
                 2,
                 b"HTTP/1.1 200 OK\r\nTransfer-Encoding: chunked\r\n\r\n5;a=b\r\nhello\r\n006 \r\n world\r\n0;c\r\nTrailer: d\r\n\r\n",
             ),
-            Act::Reach(3),
-            Act::Answer(3, RESPONSE),
+            Act::Answer(2, RESPONSE),
         ],
         wanted: &[
+            Wanted::Asked(2, &[ASK, ASK]),
             Wanted::Said(
                 1,
                 &[
@@ -96,7 +111,7 @@ const CHUNKED: &[Exchange<'static>] = &[
                     Part::Text(REPLY),
                 ],
             ),
-            Wanted::Count(Step::Dropped, 2),
+            Wanted::Count(Step::Dialled(80), 1),
         ],
     },
     Exchange {
@@ -173,7 +188,8 @@ const TO_THE_END: &[Exchange<'static>] = &[
                 1,
                 &[
                     Step::Opened,
-                    Step::Taken(0, Decision::Pass),
+                    Step::Taken(0, Decision::Fetch),
+                    Step::Taken(0, Decision::Relay),
                     Step::Said(60),
                     Step::Shut,
                     Step::Stopped,
@@ -221,6 +237,7 @@ fn a_body_may_end_with_the_connection(rt: HostRuntime) -> Result<(), Fail> {
 
 const CUT_CHUNKS: &Cut<'static> = &Cut {
     request: GET,
+    attempts: 3,
     interim: b"",
     head: b"HTTP/1.1 200 OK\r\nTransfer-Encoding: chunked\r\n\r\n",
     body: b"5;a\r\nhello\r\n6\r\n world\r\n0\r\nA: b\r\n\r\n",
@@ -232,6 +249,7 @@ const CUT_CHUNKS: &Cut<'static> = &Cut {
 
 const CUT_OLD_CHUNKS: &Cut<'static> = &Cut {
     request: OLD_GET,
+    attempts: 3,
     interim: b"",
     head: b"HTTP/1.1 200 OK\r\nTransfer-Encoding: chunked\r\n\r\n",
     body: b"5\r\nhello\r\n0\r\n\r\n",
@@ -243,6 +261,7 @@ const CUT_OLD_CHUNKS: &Cut<'static> = &Cut {
 
 const CUT_END: &Cut<'static> = &Cut {
     request: GET,
+    attempts: 3,
     interim: b"",
     head: b"HTTP/1.1 103 Early Hints\r\nLink: x\r\n\r\nHTTP/1.1 200 OK\r\n\r\n",
     body: b"hello",
@@ -274,8 +293,9 @@ const INTERIM: &[Exchange<'static>] = &[
             Act::Answer(2, RESPONSE),
         ],
         wanted: &[
+            Wanted::Asked(2, &[ASK]),
             Wanted::Said(1, &[Part::Text(REPLY)]),
-            Wanted::Count(Step::Dropped, 1),
+            Wanted::Count(Step::Dialled(80), 1),
         ],
     },
     Exchange {

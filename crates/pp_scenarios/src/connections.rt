@@ -1,5 +1,8 @@
 // Whether a client's connection goes on (RFC 2616, sections 8.1.2, 14.10 and 19.6.2).
-use pp_play::{Act, Exchange, GET, PAGE_502, Part, REPLY, RESPONSE, Step, Wanted, unlike};
+use pp_play::{
+    ASK, Act, Exchange, GET, HEAD, PAGE_502, Part, REPLY, REPLY_HELD, RESPONSE, Step, Wanted,
+    unlike,
+};
 use pp_world::Decision;
 use std::test::Fail;
 
@@ -8,14 +11,15 @@ const LAST_REPLY: &[Wanted<'static>] = &[
     Wanted::Said(
         1,
         &[Part::Text(
-            b"HTTP/1.1 200 OK\r\ndate: Sun, 06 Nov 1994 08:49:37 GMT\r\netag: \"x\"\r\ncache-control: max-age=60\r\nvia: 1.1 polipo\r\ncontent-length: 5\r\nconnection: close\r\n\r\nhello",
+            b"HTTP/1.1 200 OK\r\netag: \"x\"\r\ndate: Sun, 06 Nov 1994 08:49:37 GMT\r\ncache-control: max-age=60\r\nvia: 1.1 polipo\r\ncontent-length: 5\r\nconnection: close\r\n\r\nhello",
         )],
     ),
     Wanted::Course(
         1,
         &[
             Step::Opened,
-            Step::Taken(0, Decision::Pass),
+            Step::Taken(0, Decision::Fetch),
+            Step::Taken(0, Decision::Part(0, 5)),
             Step::Said(154),
             Step::Shut,
             Step::Stopped,
@@ -24,10 +28,15 @@ const LAST_REPLY: &[Wanted<'static>] = &[
     Wanted::Count(Step::Dialled(80), 1),
 ];
 
-/// Both replies.
-const BOTH: &[Wanted<'static>] = &[Wanted::Said(1, &[Part::Text(REPLY), Part::Text(REPLY)])];
+/// Both replies, the second one from what is held.
+const BOTH: &[Wanted<'static>] = &[
+    Wanted::Said(1, &[Part::Text(REPLY), Part::Text(REPLY_HELD)]),
+    Wanted::Taken(1, Decision::Hit(0, 5)),
+    Wanted::Asked(2, &[ASK]),
+    Wanted::Count(Step::Dialled(80), 1),
+];
 
-/// A request, and a further one behind it.
+/// A request, and a further one behind it. The head of the response comes first, at either pace: it decides.
 macro_rules! behind {
     ($request:literal) => {
         &[
@@ -35,9 +44,8 @@ macro_rules! behind {
             Act::Say(1, $request),
             Act::Say(1, GET),
             Act::Reach(2),
-            Act::Answer(2, RESPONSE),
-            Act::Reach(3),
-            Act::Answer(3, RESPONSE),
+            Act::Answer(2, HEAD),
+            Act::Answer(2, b"hello"),
         ]
     };
 }
@@ -80,10 +88,15 @@ const GOES_ON: &[Exchange<'static>] = &[
             Act::Say(1, GET),
             Act::Say(1, GET),
             Act::Refuse(2),
-            Act::Reach(3),
-            Act::Answer(3, RESPONSE),
+            Act::Refuse(3),
+            Act::Refuse(4),
+            Act::Reach(5),
+            Act::Answer(5, RESPONSE),
         ],
-        wanted: &[Wanted::Said(1, &[Part::Text(PAGE_502), Part::Text(REPLY)])],
+        wanted: &[
+            Wanted::Said(1, &[Part::Text(PAGE_502), Part::Text(REPLY)]),
+            Wanted::Asked(5, &[ASK]),
+        ],
     },
 ];
 

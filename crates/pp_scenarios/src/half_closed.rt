@@ -1,7 +1,7 @@
 // Clients that close their writing half and wait for their replies (RFC 7230, section 6.6).
 use pp_play::{
-    Act, Exchange, GET, Pace, Part, REPLY, REPLY_B, RESPONSE, RESPONSE_B, Step, Wanted, unlike,
-    unlike_at,
+    ASK, ASK_B, Act, Exchange, GET, HEAD, HEAD_B, PASSED, Pace, Part, REPLY, REPLY_B, RESPONSE,
+    Step, T, Wanted, unlike, unlike_at,
 };
 use pp_world::Decision;
 use std::test::Fail;
@@ -14,7 +14,8 @@ const ENDED: &[Exchange<'static>] = &[
             Act::Say(1, GET),
             Act::HangUp(1),
             Act::Reach(2),
-            Act::Answer(2, RESPONSE),
+            Act::Answer(2, HEAD),
+            Act::Answer(2, b"hello"),
         ],
         wanted: &[
             Wanted::Said(1, &[Part::Text(REPLY)]),
@@ -22,19 +23,30 @@ const ENDED: &[Exchange<'static>] = &[
                 1,
                 &[
                     Step::Opened,
-                    Step::Taken(0, Decision::Pass),
+                    Step::Taken(0, Decision::Fetch),
                     Step::HungUp,
+                    Step::Taken(0, Decision::Part(0, 5)),
                     Step::Said(159),
                     Step::Shut,
                     Step::Stopped,
                 ],
             ),
-            Wanted::Count(Step::Dropped, 1),
+            Wanted::Course(
+                2,
+                &[
+                    Step::Dialled(80),
+                    Step::Reached,
+                    Step::Asked(45),
+                    Step::Stopped,
+                    Step::Dropped,
+                ],
+            ),
         ],
     },
     Exchange {
         name: "behind two requests and a front of a third",
         acts: &[
+            Act::Tick(T),
             Act::Connect,
             Act::Say(
                 1,
@@ -42,21 +54,25 @@ const ENDED: &[Exchange<'static>] = &[
             ),
             Act::HangUp(1),
             Act::Reach(2),
-            Act::Answer(2, RESPONSE),
-            Act::Reach(3),
-            Act::Answer(3, RESPONSE_B),
+            Act::Answer(2, HEAD),
+            Act::Answer(2, b"hello"),
+            Act::Answer(2, HEAD_B),
+            Act::Answer(2, b"bye"),
         ],
         wanted: &[
+            Wanted::Asked(2, &[ASK, ASK_B]),
             Wanted::Said(1, &[Part::Text(REPLY), Part::Text(REPLY_B)]),
             Wanted::Course(
                 1,
                 &[
                     Step::Opened,
-                    Step::Taken(0, Decision::Pass),
+                    Step::Taken(0, Decision::Fetch),
                     Step::HungUp,
+                    Step::Taken(0, Decision::Part(0, 5)),
                     Step::Said(159),
-                    Step::Taken(1, Decision::Pass),
-                    Step::Said(93),
+                    Step::Taken(1, Decision::Fetch),
+                    Step::Taken(1, Decision::Part(0, 3)),
+                    Step::Said(130),
                     Step::Shut,
                     Step::Stopped,
                 ],
@@ -78,9 +94,9 @@ const ENDED: &[Exchange<'static>] = &[
         wanted: &[
             Wanted::Asked(
                 2,
-                b"PUT /a HTTP/1.1\r\nhost: h\r\ncontent-length: 3\r\nvia: 1.1 polipo\r\n\r\nabc",
+                &[b"PUT /a HTTP/1.1\r\nhost: h\r\ncontent-length: 3\r\nvia: 1.1 polipo\r\n\r\nabc"],
             ),
-            Wanted::Said(1, &[Part::Text(REPLY)]),
+            Wanted::Said(1, &[Part::Text(PASSED)]),
             Wanted::Course(
                 1,
                 &[
@@ -120,7 +136,8 @@ const ENDED_IN_REPLY: &[Exchange<'static>] = &[
                 1,
                 &[
                     Step::Opened,
-                    Step::Taken(0, Decision::Pass),
+                    Step::Taken(0, Decision::Fetch),
+                    Step::Taken(0, Decision::Hit(0, 5)),
                     Step::Said(10),
                     Step::HungUp,
                     Step::Said(149),
@@ -151,6 +168,7 @@ const ENDED_IN_REPLY: &[Exchange<'static>] = &[
                 &[
                     Step::Opened,
                     Step::Taken(0, Decision::Refuse(400)),
+                    Step::HungUp,
                     Step::Said(109),
                     Step::Shut,
                     Step::Stopped,

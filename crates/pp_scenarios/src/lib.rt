@@ -15,10 +15,18 @@ mod connections; // whether a client's connection goes on
 #[cfg(test)]
 mod exits; // the listener, and the end
 #[cfg(test)]
-mod first_path; // plain requests, passed whole
+mod first_path; // plain requests, and their replies
 #[cfg(test)]
 mod half_closed; // clients that end, and wait for their replies
+#[cfg(test)]
+mod losses; // origins that are lost, and asked again
 #[cfg(test)]
 mod many_clients; // limits on clients and connections
 #[cfg(test)]
 mod methods; // requests of any method, with bodies
+#[cfg(test)]
+mod pipelining; // asks behind one another on a connection
+#[cfg(test)]
+mod sharing; // one fetch for many
+#[cfg(test)]
+mod whole_log; // a log, happening by happening

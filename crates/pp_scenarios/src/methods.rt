@@ -1,6 +1,6 @@
 // Requests of any method, with bodies (RFC 2616, sections 4.3, 8.2.3 and 9).
 use pp_play::{
-    ASK, Act, Cut, Exchange, GET, PAGE_502, Part, REPLY, RESPONSE, Step, Wanted, unlike,
+    ASK, Act, Cut, Exchange, GET, PAGE_502, Part, REPLY, RESPONSE, Step, T, Wanted, unlike,
     unlike_when_cut,
 };
 use pp_world::Decision;
@@ -30,7 +30,7 @@ const EXPECTING: &[Exchange<'static>] = &[
             Act::Answer(2, NO_CONTENT),
         ],
         wanted: &[
-            Wanted::Asked(2, POST_ASK),
+            Wanted::Asked(2, &[POST_ASK]),
             Wanted::Said(1, &[Part::Text(CONTINUE), Part::Text(NO_CONTENT_PASSED)]),
             Wanted::Course(
                 1,
@@ -65,7 +65,7 @@ const EXPECTING: &[Exchange<'static>] = &[
             Act::Answer(2, NO_CONTENT),
         ],
         wanted: &[
-            Wanted::Asked(2, POST_ASK),
+            Wanted::Asked(2, &[POST_ASK]),
             Wanted::Said(1, &[Part::Text(CONTINUE), Part::Text(NO_CONTENT_PASSED)]),
         ],
     },
@@ -81,7 +81,7 @@ const EXPECTING: &[Exchange<'static>] = &[
             Act::Answer(3, RESPONSE),
         ],
         wanted: &[
-            Wanted::Asked(3, ASK),
+            Wanted::Asked(3, &[ASK]),
             Wanted::Said(
                 1,
                 &[
@@ -103,7 +103,10 @@ const EXPECTING: &[Exchange<'static>] = &[
             Act::Reach(2),
             Act::Answer(2, RESPONSE),
         ],
-        wanted: &[Wanted::Asked(2, ASK), Wanted::Said(1, &[Part::Text(REPLY)])],
+        wanted: &[
+            Wanted::Asked(2, &[ASK]),
+            Wanted::Said(1, &[Part::Text(REPLY)]),
+        ],
     },
 ];
 
@@ -115,6 +118,7 @@ fn a_client_that_waits_for_100_is_told_to_go_on(rt: HostRuntime) -> Result<(), F
 
 const CUT_POST: &Cut<'static> = &Cut {
     request: b"POST http://h/p HTTP/1.1\r\nHost: h\r\nContent-Length: 3\r\nExpect: 100-continue\r\n\r\nabc",
+    attempts: 1,
     interim: CONTINUE,
     head: b"HTTP/1.1 100 Continue\r\n\r\nHTTP/1.1 200 OK\r\nContent-Length: 5\r\n\r\n",
     body: b"hello",
@@ -139,11 +143,16 @@ const METHODS: &[Exchange<'static>] = &[
             Act::Say(1, GET),
             Act::Reach(2),
             Act::Answer(2, b"HTTP/1.1 200 OK\r\nContent-Length: 5\r\n\r\n"),
-            Act::Reach(3),
-            Act::Answer(3, RESPONSE),
+            Act::Answer(2, RESPONSE),
         ],
         wanted: &[
-            Wanted::Asked(2, b"HEAD /a HTTP/1.1\r\nhost: h\r\nvia: 1.1 polipo\r\n\r\n"),
+            Wanted::Asked(
+                2,
+                &[
+                    b"HEAD /a HTTP/1.1\r\nhost: h\r\nvia: 1.1 polipo\r\n\r\n",
+                    ASK,
+                ],
+            ),
             Wanted::Said(
                 1,
                 &[
@@ -190,7 +199,7 @@ const METHODS: &[Exchange<'static>] = &[
         wanted: &[
             Wanted::Asked(
                 2,
-                b"GET /a HTTP/1.1\r\nhost: h\r\nif-none-match: \"x\"\r\nvia: 1.1 polipo\r\n\r\n",
+                &[b"GET /a HTTP/1.1\r\nhost: h\r\nif-none-match: \"x\"\r\nvia: 1.1 polipo\r\n\r\n"],
             ),
             Wanted::Said(
                 1,
@@ -212,15 +221,16 @@ const METHODS: &[Exchange<'static>] = &[
             Act::Say(1, GET),
             Act::Reach(2),
             Act::Answer(2, NO_CONTENT),
-            Act::Reach(3),
-            Act::Answer(3, RESPONSE),
+            Act::Answer(2, RESPONSE),
         ],
         wanted: &[
             Wanted::Asked(
                 2,
-                b"M-SEARCH /p HTTP/1.1\r\nhost: h\r\ncontent-length: 36\r\nvia: 1.1 polipo\r\n\r\nGET http://h/a HTTP/1.1\r\nHost: h\r\n\r\n",
+                &[
+                    b"M-SEARCH /p HTTP/1.1\r\nhost: h\r\ncontent-length: 36\r\nvia: 1.1 polipo\r\n\r\nGET http://h/a HTTP/1.1\r\nHost: h\r\n\r\n",
+                    ASK,
+                ],
             ),
-            Wanted::Asked(3, ASK),
             Wanted::Said(1, &[Part::Text(NO_CONTENT_PASSED), Part::Text(REPLY)]),
         ],
     },
@@ -234,7 +244,7 @@ const METHODS: &[Exchange<'static>] = &[
             ),
             Act::Reach(2),
         ],
-        wanted: &[Wanted::Asked(2, POST_ASK)],
+        wanted: &[Wanted::Asked(2, &[POST_ASK])],
     },
     Exchange {
         name: "a reply may come before the body was asked, whose rest is no request",
@@ -254,10 +264,89 @@ const METHODS: &[Exchange<'static>] = &[
         wanted: &[
             Wanted::Asked(
                 2,
-                b"POST /p HTTP/1.1\r\nhost: h\r\ncontent-length: 41\r\nvia: 1.1 polipo\r\n\r\nabcde",
+                &[
+                    b"POST /p HTTP/1.1\r\nhost: h\r\ncontent-length: 41\r\nvia: 1.1 polipo\r\n\r\nabcde",
+                ],
             ),
-            Wanted::Asked(3, ASK),
+            Wanted::Asked(3, &[ASK]),
             Wanted::Said(1, &[Part::Text(NO_CONTENT_PASSED), Part::Text(REPLY)]),
+        ],
+    },
+    Exchange {
+        name: "a PUT whose origin cannot be reached is tried once",
+        acts: &[
+            Act::Connect,
+            Act::Say(1, b"PUT http://h/a HTTP/1.1\r\nHost: h\r\n\r\n"),
+            Act::Refuse(2),
+        ],
+        wanted: &[
+            Wanted::Said(1, &[Part::Text(PAGE_502)]),
+            Wanted::Count(Step::Dialled(80), 1),
+            Wanted::Course(
+                1,
+                &[
+                    Step::Opened,
+                    Step::Taken(0, Decision::Pass),
+                    Step::Taken(0, Decision::Refuse(502)),
+                    Step::Said(114),
+                    Step::Stopped,
+                    Step::Shut,
+                ],
+            ),
+        ],
+    },
+    Exchange {
+        name: "what a POST changed is not served from what was held (RFC 2616, section 13.10)",
+        acts: &[
+            Act::Tick(T),
+            Act::Connect,
+            Act::Say(1, GET),
+            Act::Reach(2),
+            Act::Answer(2, RESPONSE),
+            Act::Say(1, b"POST http://h/a HTTP/1.1\r\n\r\n"),
+            Act::Reach(3),
+            Act::Answer(3, NO_CONTENT),
+            Act::Say(1, GET),
+            Act::Answer(2, RESPONSE),
+        ],
+        wanted: &[
+            Wanted::Asked(2, &[ASK, ASK]),
+            Wanted::Asked(
+                3,
+                &[b"POST /a HTTP/1.1\r\nhost: h\r\nvia: 1.1 polipo\r\n\r\n"],
+            ),
+            Wanted::Said(
+                1,
+                &[
+                    Part::Text(REPLY),
+                    Part::Text(NO_CONTENT_PASSED),
+                    Part::Text(REPLY),
+                ],
+            ),
+        ],
+    },
+    Exchange {
+        name: "HEAD of a page that is held asks nobody",
+        acts: &[
+            Act::Tick(T),
+            Act::Connect,
+            Act::Say(1, GET),
+            Act::Reach(2),
+            Act::Answer(2, RESPONSE),
+            Act::Say(1, b"HEAD http://h/a HTTP/1.1\r\n\r\n"),
+        ],
+        wanted: &[
+            Wanted::Asked(2, &[ASK]),
+            Wanted::Taken(1, Decision::Head),
+            Wanted::Said(
+                1,
+                &[
+                    Part::Text(REPLY),
+                    Part::Text(
+                        b"HTTP/1.1 200 OK\r\netag: \"x\"\r\ndate: Sun, 06 Nov 1994 08:49:37 GMT\r\ncache-control: max-age=60\r\nage: 0\r\nvia: 1.1 polipo\r\ncontent-length: 5\r\nconnection: keep-alive\r\n\r\n",
+                    ),
+                ],
+            ),
         ],
     },
 ];
