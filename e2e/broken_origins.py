@@ -12,24 +12,24 @@ OK = b"HTTP/1.1 200 OK"
 
 @case
 def a_response_that_is_no_head_is_502(world):
-    refused = {
-        "nothing": Answer(b"", then="end"),
-        "a reset": Answer(b"", then="break"),
-        "part of a line": Answer(b"HTTP/1.1 20", then="end"),
-        "part of a head": Answer(OK + b"\r\nETag: ", then="end"),
-        "part of a head, and a reset": Answer(OK + b"\r\nETag: ", then="break"),
-        "an interim response alone": Answer(lines(b"HTTP/1.1 100 Continue"), then="end"),
-        "garbage": Answer(bytes(range(256)) * 10, then="end"),
-        "garbage, and no end": Answer(bytes(range(256)) * 10),
-        "another protocol": Answer(b"SSH-2.0-OpenSSH_9.6\r\n"),
-        "a head of 20,000 bytes": Answer(lines(OK, b"A: " + b"a" * 20_000)),
-        "a head of 101 fields": Answer(lines(OK, *[b"a: b"] * 101)),
-        "a folded line": Answer(lines(OK, b"A: b", b" c", b"Content-Length: 0")),
-    }
-    for number, (name, answer) in enumerate(refused.items()):
-        world.origin.on(f"/no-head/{number}", answer)
-        world.expect_answer(world.last_request(f"/no-head/{number}"), LAST_BAD_GATEWAY, f"the reply to {name}")
-    world.check_all_dropped()
+    with world.dropping_connections():
+        refused = {
+            "nothing": Answer(b"", then="end"),
+            "a reset": Answer(b"", then="break"),
+            "part of a line": Answer(b"HTTP/1.1 20", then="end"),
+            "part of a head": Answer(OK + b"\r\nETag: ", then="end"),
+            "part of a head, and a reset": Answer(OK + b"\r\nETag: ", then="break"),
+            "an interim response alone": Answer(lines(b"HTTP/1.1 100 Continue"), then="end"),
+            "garbage": Answer(bytes(range(256)) * 10, then="end"),
+            "garbage, and no end": Answer(bytes(range(256)) * 10),
+            "another protocol": Answer(b"SSH-2.0-OpenSSH_9.6\r\n"),
+            "a head of 20,000 bytes": Answer(lines(OK, b"A: " + b"a" * 20_000)),
+            "a head of 101 fields": Answer(lines(OK, *[b"a: b"] * 101)),
+            "a folded line": Answer(lines(OK, b"A: b", b" c", b"Content-Length: 0")),
+        }
+        for number, (name, answer) in enumerate(refused.items()):
+            world.origin.on(f"/no-head/{number}", answer)
+            world.expect_answer(world.last_request(f"/no-head/{number}"), LAST_BAD_GATEWAY, f"the reply to {name}")
 
 
 @case
@@ -55,27 +55,30 @@ def an_end_at_any_byte_of_the_head_is_502_and_behind_it_a_cut(world):
     text = plain(b"hello")
     head = len(text) - 5
     for count in range(len(text)):
-        world.origin.on("/any", Answer(text[:count], then="end"))
+        world.origin.on(f"/any/{count}", Answer(text[:count], then="end"))
         with Client() as client:
-            client.say(world.last_request("/any"))
+            client.say(world.last_request(f"/any/{count}"))
             heard = client.hear_all()
-        if count < head:
+        # a reply begins with the first byte of its body
+        if count <= head:
             equal(heard, LAST_BAD_GATEWAY, f"the reply where the origin ends after {count} bytes")
         else:
             wanted = passed(b"hello", b"close")
-            holds(len(wanted) - 5 <= len(heard) < len(wanted), f"a cut body where the origin ends after {count} bytes")
-            equal(heard, wanted[: len(heard)], f"the reply where the origin ends after {count} bytes")
+            equal(heard, wanted[: count - len(text)], f"the reply where the origin ends after {count} bytes")
 
 
 @case
 def an_origin_that_sends_nothing_holds_up_its_own_client_alone(world):
-    world.origin.on("/silent", Answer(b""))
+    goes_on = threading.Event()
+    world.origin.on("/silent", Answer(plain(b"at last"), cuts=[0], goes_on=goes_on))
     with Client() as waiting:
         waiting.say(world.request("/silent"))
         start = time.monotonic()
         for _ in range(20):
             world.check_still_served()
         holds(time.monotonic() - start < 5, "twenty others are served within 5 seconds")
+        goes_on.set()
+        waiting.expect(passed(b"at last"), "its own reply")
 
 
 @case

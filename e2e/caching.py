@@ -1,33 +1,16 @@
-"""The caching proxy: what was fetched once is served from memory, and what is missing is completed by ranges."""
+"""What was fetched once is served from memory, and what is missing is completed by ranges."""
 
-import contextlib
 import email.utils
-import os
-import pathlib
 import re
 import subprocess
 import threading
 
-from harness import Failed, case, environment, equal, holds, need, together
-from network import free_port
+from harness import case, environment, equal, holds, need, together
 from origin import Answer, lines, noise, response
-from world import VIA, Client, World, reply, reply_head
+from world import VIA, Client, reply, reply_head
 
-PREVIEW = pathlib.Path(__file__).resolve().parent.parent / "crates/pp_preview/out/pp_preview"
 TAG = b'"x"'
 FRESH = b"Cache-Control: max-age=60"
-
-
-@contextlib.contextmanager
-def preview():
-    """The caching proxy on a port of its own, with an origin of its own."""
-    if not os.access(PREVIEW, os.X_OK):
-        raise Failed(f"    wanted: a program {PREVIEW.name}")
-    proxy = World(PREVIEW, free_port())
-    try:
-        yield proxy
-    finally:
-        proxy.stop()
 
 
 def now():
@@ -68,8 +51,8 @@ def asked_range(ask):
 
 
 @case
-def the_second_of_two_gets_is_served_from_memory(_):
-    with preview() as proxy:
+def the_second_of_two_gets_is_served_from_memory(world):
+    with world.anew() as proxy:
         date = now()
         proxy.origin.on("/a", Answer(fresh(b"hello", date)))
         wanted = reply(b"hello", *kept(date), connection=b"close")
@@ -83,8 +66,8 @@ def the_second_of_two_gets_is_served_from_memory(_):
 
 
 @case
-def a_part_of_a_kept_body_is_served_from_memory(_):
-    with preview() as proxy:
+def a_part_of_a_kept_body_is_served_from_memory(world):
+    with world.anew() as proxy:
         date = now()
         proxy.origin.on("/a", Answer(fresh(b"hello", date)))
         said(proxy, "/a")
@@ -101,9 +84,9 @@ def a_part_of_a_kept_body_is_served_from_memory(_):
 
 
 @case
-def a_broken_download_goes_on_where_it_stopped(_):
+def a_broken_download_goes_on_where_it_stopped(world):
     body = noise(100_000)
-    with preview() as proxy:
+    with world.anew() as proxy:
         date = now()
 
         def answer(ask):
@@ -119,9 +102,9 @@ def a_broken_download_goes_on_where_it_stopped(_):
 
 
 @case
-def thirty_readers_of_one_new_object_are_one_fetch(_):
+def thirty_readers_of_one_new_object_are_one_fetch(world):
     body = noise(300_000)
-    with preview() as proxy:
+    with world.anew() as proxy:
         date, goes_on = now(), threading.Event()
         proxy.origin.on("/one", Answer(fresh(body, date), cuts=[1000], goes_on=goes_on))
         wanted = reply(body, *kept(date), connection=b"close")
@@ -141,8 +124,8 @@ def thirty_readers_of_one_new_object_are_one_fetch(_):
 
 
 @case
-def a_stale_body_is_checked_and_served_from_memory(_):
-    with preview() as proxy:
+def a_stale_body_is_checked_and_served_from_memory(world):
+    with world.anew() as proxy:
         date = now()
         fields = [b"Date: " + date, b"ETag: " + TAG, b"Cache-Control: no-cache"]
 
@@ -158,8 +141,8 @@ def a_stale_body_is_checked_and_served_from_memory(_):
 
 
 @case
-def a_post_makes_the_proxy_ask_anew(_):
-    with preview() as proxy:
+def a_post_makes_the_proxy_ask_anew(world):
+    with world.anew() as proxy:
         date = now()
         proxy.origin.on("/a", lambda ask: Answer(fresh(b"of %d" % len(proxy.origin.asked), date)))
         equal(said(proxy, "/a")[0][-4:], b"of 0", "the first body")
@@ -170,8 +153,8 @@ def a_post_makes_the_proxy_ask_anew(_):
 
 
 @case
-def what_has_no_strong_tag_is_passed(_):
-    with preview() as proxy:
+def what_has_no_strong_tag_is_passed(world):
+    with world.anew() as proxy:
         for path, field in (("/weak", b'ETag: W/"x"'), ("/none", b"X: y"), ("/private", b"Cache-Control: private")):
             proxy.origin.on(path, Answer(response(b"hello", field)))
             for _number in (1, 2):
@@ -180,10 +163,10 @@ def what_has_no_strong_tag_is_passed(_):
 
 
 @case
-def curl_goes_on_with_a_download_that_it_cut(_):
+def curl_goes_on_with_a_download_that_it_cut(world):
     need("curl")
     body = noise(50_000)
-    with preview() as proxy:
+    with world.anew() as proxy:
         date = now()
         proxy.origin.on("/file", Answer(fresh(body, date)))
         words = ["curl", "-sS", "-x", f"127.0.0.1:{proxy.port}", proxy.url("/file")]

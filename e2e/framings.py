@@ -228,38 +228,38 @@ def equal_lengths_count_as_one(world):
 
 @case
 def another_coding_is_502_and_its_connection_dropped(world):
-    codings = [b"gzip, chunked", b"gzip", b"chunked, gzip", b"chunked, chunked", b"x", b"chunked;q=1"]
-    with Client() as client:
-        for coding in codings:
-            world.origin.clear()
-            text = lines(OK, b"Transfer-Encoding: " + coding, b"Content-Length: 5") + chunked(b"hello")
-            world.origin.on("/coding", Answer(text))
-            client.say(world.request("/coding"))
-            client.expect(BAD_GATEWAY, f"the reply to {coding}")
-            equal(world.origin.connections, 1, "connections")
-    world.check_all_dropped()
+    with world.dropping_connections():
+        codings = [b"gzip, chunked", b"gzip", b"chunked, gzip", b"chunked, chunked", b"x", b"chunked;q=1"]
+        with Client() as client:
+            for coding in codings:
+                world.origin.clear()
+                text = lines(OK, b"Transfer-Encoding: " + coding, b"Content-Length: 5") + chunked(b"hello")
+                world.origin.on("/coding", Answer(text))
+                client.say(world.request("/coding"))
+                client.expect(BAD_GATEWAY, f"the reply to {coding}")
+                equal(len(world.origin.asked), 1, "asks")
 
 
 @case
 def lengths_that_are_no_length_are_502(world):
-    lengths = {
-        "two": (b"5", b"6"),
-        "a sign": (b"+5",),
-        "nothing": (b"",),
-        "letters": (b"five",),
-        "a list": (b"5, 5",),
-        "a negative": (b"-1",),
-        "more than 64 bits": (b"18446744073709551616",),
-        "hexadecimal": (b"0x5",),
-    }
-    with Client() as client:
-        for name, values in lengths.items():
-            fields = [b"Content-Length: " + value for value in values]
-            for more in ([], [CHUNKED]):
-                world.origin.on("/lengths", Answer(lines(OK, *fields, *more) + b"hello"))
-                client.say(world.request("/lengths"))
-                client.expect(BAD_GATEWAY, f"the reply to {name}")
-    world.check_all_dropped()
+    with world.dropping_connections():
+        lengths = {
+            "two": (b"5", b"6"),
+            "a sign": (b"+5",),
+            "nothing": (b"",),
+            "letters": (b"five",),
+            "a list": (b"5, 5",),
+            "a negative": (b"-1",),
+            "more than 64 bits": (b"18446744073709551616",),
+            "hexadecimal": (b"0x5",),
+        }
+        with Client() as client:
+            for name, values in lengths.items():
+                fields = [b"Content-Length: " + value for value in values]
+                for more in ([], [CHUNKED]):
+                    world.origin.on("/lengths", Answer(lines(OK, *fields, *more) + b"hello"))
+                    client.say(world.request("/lengths"))
+                    client.expect(BAD_GATEWAY, f"the reply to {name}")
 
 
 @case
@@ -288,16 +288,16 @@ def a_length_beside_an_interim_status_is_no_body(world):
 
 @case
 def no_protocol_is_switched(world):
-    switch = lines(b"HTTP/1.1 101 Switching Protocols", b"Upgrade: websocket", b"Connection: Upgrade")
-    world.origin.on("/switch", Answer(switch))
-    world.origin.clear()
-    fields = [b"Upgrade: websocket", b"Connection: Upgrade", b"Sec-WebSocket-Key: a"]
-    with Client() as client:
-        for _ in range(2):
-            client.say(world.request("/switch", *fields))
-            client.expect(BAD_GATEWAY)
-    equal(world.origin.asked_texts(), [world.ask("/switch", b"sec-websocket-key: a")] * 2, "the asks")
-    world.check_all_dropped()
+    with world.dropping_connections():
+        switch = lines(b"HTTP/1.1 101 Switching Protocols", b"Upgrade: websocket", b"Connection: Upgrade")
+        world.origin.on("/switch", Answer(switch))
+        world.origin.clear()
+        fields = [b"Upgrade: websocket", b"Connection: Upgrade", b"Sec-WebSocket-Key: a"]
+        with Client() as client:
+            for _ in range(2):
+                client.say(world.request("/switch", *fields))
+                client.expect(BAD_GATEWAY)
+        equal(world.origin.asked_texts(), [world.ask("/switch", b"sec-websocket-key: a")] * 2, "the asks")
 
 
 @case

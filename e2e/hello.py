@@ -12,7 +12,7 @@ class Hello(BaseHTTPRequestHandler):
         self.send_response_only(200)
         self.send_header("Date", "Sun, 06 Nov 1994 08:49:37 GMT")
         self.send_header("ETag", '"x"')
-        self.send_header("Cache-Control", "max-age=60")
+        self.send_header("Cache-Control", "max-age=2147483647")
         self.send_header("Content-Length", "5")
         self.end_headers()
         self.wfile.write(b"hello")

@@ -26,7 +26,7 @@ def response(body, *fields, status=b"200 OK"):
 
 def plain(body):
     """The response that most tests are made of."""
-    return response(body, DATE, b'ETag: "x"', b"Cache-Control: max-age=60")
+    return response(body, b'ETag: "x"', DATE, b"Cache-Control: max-age=60")
 
 
 def chunked(*pieces):
@@ -61,8 +61,8 @@ class Answer:
         self.goes_on = goes_on
 
     def give(self, connection):
-        for start, end in zip([0] + self.cuts, self.cuts + [len(self.text)]):
-            if start and self.goes_on:
+        for number, (start, end) in enumerate(zip([0] + self.cuts, self.cuts + [len(self.text)])):
+            if number and self.goes_on:
                 self.goes_on.wait(10)
             connection.sendall(self.text[start:end])
             if self.pause:
@@ -203,6 +203,8 @@ class Origin:
             answer.give(connection)
             if answer.then == "break":
                 abort(connection)
+            elif answer.then != "keep":
+                linger(connection)
             if answer.then != "keep":
                 return
             if not answer.reads_body:
@@ -232,6 +234,14 @@ def read_body(connection, ask, waiting):
             raise ConnectionError("the body ends early")
         ask.add(piece)
     return waiting
+
+
+def linger(connection):
+    """Ends, and takes what still comes: else the system's reset could lose what was sent (RFC 7230, section 6.6)."""
+    connection.shutdown(socket.SHUT_WR)
+    connection.settimeout(2)
+    while connection.recv(65536):
+        pass
 
 
 def wait_until_gone(connection):

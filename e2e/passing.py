@@ -28,22 +28,22 @@ def a_request_and_its_response_are_passed_byte_for_byte(world):
 
 @case
 def curl_gets_head_and_body(world):
-    world.origin.on("/a", Answer(plain(b"hello")))
+    world.origin.on("/curl", Answer(plain(b"hello")))
     world.origin.clear()
-    run = curl("--include", "--user-agent", "it", world.url("/a"))
+    run = curl("--include", "--user-agent", "it", world.url("/curl"))
     equal(run.stderr, b"", "curl's complaint")
     equal(run.stdout, passed(b"hello"))
-    equal(world.origin.asked_texts(), [world.ask("/a", b"user-agent: it", b"accept: */*")], "the ask")
+    equal(world.origin.asked_texts(), [world.ask("/curl", b"user-agent: it", b"accept: */*")], "the ask")
 
 
 @case
 def a_host_may_be_a_name_in_any_letters(world):
-    world.origin.on("/a", Answer(plain(b"hello")))
+    world.origin.on("/a", Answer(response(b"hello")))
     for host in ["localhost", "LocalHost"]:
         world.origin.clear()
         with Client() as client:
             client.say(lines(f"GET http://{host}:{world.origin.port}/a HTTP/1.1".encode(), b"Host: other"))
-            client.expect(passed(b"hello"))
+            client.expect(reply(b"hello"))
         name = f"host: localhost:{world.origin.port}".encode()
         equal(world.origin.asked_texts(), [lines(b"GET /a HTTP/1.1", name, VIA)], "the ask")
 
@@ -69,12 +69,12 @@ def without_a_port_it_is_80(world):
     except OSError:
         raise Skipped("a free port 80")
     with contextlib.closing(origin):
-        origin.on("/a", Answer(plain(b"hello")))
+        origin.on("/a", Answer(response(b"hello")))
         for authority in ["127.0.0.1", "127.0.0.1:80", "127.0.0.1:"]:
             origin.clear()
             with Client() as client:
                 client.say(lines(f"GET http://{authority}/a HTTP/1.1".encode()))
-                client.expect(passed(b"hello"), f"the reply of {authority}")
+                client.expect(reply(b"hello"), f"the reply of {authority}")
             equal(origin.asked_texts(), [lines(b"GET /a HTTP/1.1", b"host: 127.0.0.1", VIA)], "the ask")
 
 
@@ -82,12 +82,12 @@ def without_a_port_it_is_80(world):
 def the_origin_is_asked_for_path_and_query(world):
     targets = {"": "/", "/": "/", "?q=1": "/?q=1", "/b/../c?d=/e?f": "/b/../c?d=/e?f", "/%7Ea;b": "/%7Ea;b", "/a#b": "/a"}
     for target, path in targets.items():
-        world.origin.on(path, Answer(plain(b"hello")))
+        world.origin.on(path, Answer(response(b"hello")))
         world.origin.clear()
         with Client() as client:
-            client.say(world.request(target))
-            client.expect(passed(b"hello"), f"the reply to {target}")
-        equal(world.origin.asked_texts(), [world.ask(path)], f"the ask for {target}")
+            client.say(world.request(target, b"Cache-Control: no-store"))
+            client.expect(reply(b"hello"), f"the reply to {target}")
+        equal(world.origin.asked_texts(), [world.ask(path, b"cache-control: no-store")], f"the ask for {target}")
 
 
 @case

@@ -98,11 +98,11 @@ def a_head_of_101_fields_is_431(world):
 
 @case
 def a_head_whose_ask_would_be_too_long_is_431(world):
-    world.origin.on("/a", Answer(plain(b"hello")))
-    front = f"GET {world.url('/a')} HTTP/1.1\r\nA:".encode()
+    world.origin.on("/ask", Answer(plain(b"hello")))
+    front = f"GET {world.url('/ask')} HTTP/1.1\r\nA:".encode()
     # in the ask stand a host, a blank and a Via that the request has not
-    ask = len(world.ask("/a", b"a: "))
-    for count, wanted in [(16_384 - ask, None), (16_385 - ask, TOO_LONG)]:
+    ask = len(world.ask("/ask", b"a: "))
+    for count, wanted in [(16_385 - ask, TOO_LONG), (16_384 - ask, None)]:
         text = front + b"a" * count + b"\r\n\r\n"
         if wanted is not None:
             world.expect_answer(text, wanted, "the reply to an ask of 16,385 bytes")

@@ -97,9 +97,9 @@ def a_request_within_a_body_is_no_request(world):
 
 @case
 def the_target_decides_and_not_the_host_field(world):
-    world.origin.on("/a", Answer(plain(b"hello")))
+    world.origin.on("/target", Answer(plain(b"hello")))
     world.origin.clear()
     with Client() as client:
-        client.say(lines(f"GET {world.url('/a')} HTTP/1.1".encode(), b"Host: 127.0.0.2:1", b"Host: other"))
+        client.say(lines(f"GET {world.url('/target')} HTTP/1.1".encode(), b"Host: 127.0.0.2:1", b"Host: other"))
         client.expect(passed(b"hello"))
-    equal(world.origin.asked_texts(), [world.ask("/a")], "the ask")
+    equal(world.origin.asked_texts(), [world.ask("/target")], "the ask")

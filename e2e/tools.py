@@ -6,7 +6,7 @@ import subprocess
 import tempfile
 
 from harness import case, environment, equal, holds, need, together
-from origin import Answer, chunked, lines, noise, response
+from origin import DATE, Answer, chunked, lines, noise, response
 from passing import curl
 from world import CONTINUE, PORT, VIA, Client, reply, reply_head
 
@@ -22,10 +22,10 @@ def serve_file(text):
     def answer(ask):
         asked = ask.field(b"range")
         if asked is None:
-            return Answer(response(text, b'ETag: "v1"', b"Accept-Ranges: bytes"))
+            return Answer(response(text, b'ETag: "v1"', DATE, b"Accept-Ranges: bytes"))
         start = int(asked.removeprefix(b"bytes=").partition(b"-")[0])
         place = b"Content-Range: bytes %d-%d/%d" % (start, len(text) - 1, len(text))
-        return Answer(response(text[start:], b'ETag: "v1"', place, status=b"206 Partial Content"))
+        return Answer(response(text[start:], b'ETag: "v1"', DATE, place, status=b"206 Partial Content"))
 
     return answer
 
@@ -46,16 +46,17 @@ def wget_continues_a_file(world):
             came = file.read()
     equal(hashlib.sha256(came).hexdigest(), hashlib.sha256(text).hexdigest(), "the digest of the file")
     (ask,) = world.origin.asked
-    equal(ask.field(b"range"), b"bytes=250000-", "the range that the origin is asked for")
+    # from the front of the chunk that has this byte
+    equal(ask.field(b"range"), b"bytes=249856-", "the range that the origin is asked for")
 
 
 @case
 def curl_gets_a_part_of_a_file(world):
     text = noise(10_000)
-    world.origin.on("/file.bin", serve_file(text))
-    run = curl("--include", "--range", "9000-", "--user-agent", "it", world.url("/file.bin"))
-    fields = [b'etag: "v1"', b"content-range: bytes 9000-9999/10000"]
-    equal(run.stdout, reply(text[9000:], *fields, status=b"206 Partial Content"))
+    world.origin.on("/part.bin", serve_file(text))
+    run = curl("--include", "--range", "9000-", "--user-agent", "it", world.url("/part.bin"))
+    fields = [b'etag: "v1"', DATE.replace(b"Date", b"date"), VIA, b"content-range: bytes 9000-9999/10000", b"content-length: 1000"]
+    equal(run.stdout, reply_head(*fields, status=b"206 Partial Content") + text[9000:])
 
 
 @case
@@ -116,7 +117,7 @@ CONNECTIONS = 6
 def part_of_page(number):
     """A part of a page: the text, and the fields of its response."""
     text = gzip.compress(b"part %d of a page\n" % number * (50 * number + 1), mtime=0)
-    fields = [b'ETag: "part-%d"' % number, b"Content-Encoding: gzip"]
+    fields = [b'ETag: "part-%d"' % number, b"Content-Encoding: gzip", DATE]
     if number % 3 == 0:
         fields.append(b"Vary: Accept-Encoding")
     if number % 5 == 0:
@@ -126,7 +127,7 @@ def part_of_page(number):
 
 def load_parts(world, numbers):
     """One connection of a browser: it asks for all of its parts at once."""
-    with Client(seconds=15) as client:
+    with Client(seconds=15, port=world.port) as client:
         client.say(b"".join(world.request(f"/part/{number}", *BROWSER) for number in numbers))
         for number in numbers:
             text, fields = part_of_page(number)
@@ -140,14 +141,14 @@ def load_parts(world, numbers):
 
 
 def send_form(world, form):
-    with Client(seconds=15) as client:
+    with Client(seconds=15, port=world.port) as client:
         fields = [*BROWSER, b"Content-Type: application/x-www-form-urlencoded", b"Content-Length: %d" % len(form)]
         client.say(world.request("/form", *fields, method="POST") + form)
         client.expect(reply(b"thanks"), "the reply to the form")
 
 
-@case
-def a_browser_loads_a_page(world):
+def load_page(world):
+    """Six connections load all parts at once, and one sends a form."""
     for number in range(PARTS):
         text, fields = part_of_page(number)
         whole = response(text, *fields)
@@ -173,6 +174,12 @@ def a_browser_loads_a_page(world):
         equal(ask.field(b"proxy-connection"), None, "the field of the connection")
         equal(ask.body, form if ask.path == "/form" else b"", "the body of the ask")
     holds(world.origin.most_open <= 4, f"at most 4 connections to the host (there were {world.origin.most_open})")
+
+
+@case
+def a_browser_loads_a_page(world):
+    with world.anew() as fresh:
+        load_page(fresh)
 
 
 @case

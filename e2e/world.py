@@ -1,5 +1,6 @@
 """The program under test, the origin beside it, and clients."""
 
+import contextlib
 import re
 import socket
 import subprocess
@@ -18,7 +19,7 @@ VIA = b"via: 1.1 polipo"
 
 def passed(body, connection=b"keep-alive"):
     """What a client is told of a plain response."""
-    fields = [b"date: Sun, 06 Nov 1994 08:49:37 GMT", b'etag: "x"', b"cache-control: max-age=60"]
+    fields = [b'etag: "x"', b"date: Sun, 06 Nov 1994 08:49:37 GMT", b"cache-control: max-age=60"]
     return reply(body, *fields, connection=connection)
 
 
@@ -166,6 +167,15 @@ class World:
         self.stop()
         self.start()
 
+    @contextlib.contextmanager
+    def anew(self):
+        """The program once more, which has nothing in its memory: on a port of its own, with an origin of its own."""
+        other = World(self.program, free_port())
+        try:
+            yield other
+        finally:
+            other.stop()
+
     def printed(self):
         self.output.seek(0)
         return self.output.read()
@@ -203,12 +213,16 @@ class World:
             client.say(self.request("/probe"))
             client.expect(passed(b"still here"), "the reply to another client, afterwards")
 
-    def check_all_dropped(self):
-        """No connection to the origin is left open, within a second."""
+    @contextlib.contextmanager
+    def dropping_connections(self):
+        """No connection to the origin is left open by what is done here, but for those that were there before: it is seen
+        within a second."""
+        before = self.origin.count_open()
+        yield
         deadline = time.monotonic() + 1
-        while self.origin.count_open() and time.monotonic() < deadline:
+        while self.origin.count_open() > before and time.monotonic() < deadline:
             time.sleep(0.01)
-        equal(self.origin.count_open(), 0, "connections to the origin that are left open")
+        holds(self.origin.count_open() <= before, "no more connections to the origin than before")
 
     def expect_answer(self, text, wanted, of_what="the reply, up to the end"):
         """A client that sends this hears exactly that, and then the end."""
