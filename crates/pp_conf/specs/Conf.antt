@@ -1,8 +1,8 @@
 -- What all assignments together set.
-use Rattle.std.specs.Prelude.{ℕ, Bool, true, ◌==◌, not, nat_lt, cond, List, fold, find, Option, Some, None, unwrap_or, option_map, Result, Ok, Err, codes}
+use Rattle.std.specs.Prelude.{ℕ, Bool, true, false, ◌==◌, not, nat_lt, cond, List, fold, find, Option, Some, None, unwrap_or, option_map, Result, Ok, Err, codes}
 use Rattle.pp_conf.specs.Settings.{accepts, number_for}
 use Rattle.pp_conf.specs.declared.setting.Setting.{Setting}
-use Rattle.pp_conf.specs.declared.setting.Setting.TheVariants.{ProxyPort, ProxyName, DiskCacheRoot, ChunkLowMark, ChunkHighMark, ChunkCriticalMark, DiskRun, MaxTurns, ShareFetches}
+use Rattle.pp_conf.specs.declared.setting.Setting.TheVariants.{ProxyPort, ProxyName, DiskCacheRoot, ChunkLowMark, ChunkHighMark, ChunkCriticalMark, DiskRun, MaxTurns, ShareFetches, PipelineAsks, HostConnections}
 
 -- a setting and the text of its value
 abbrev pub Assignment : Type 0
@@ -18,6 +18,8 @@ pub record Settings : Type 0 where
   pub disk_run : ℕ
   pub max_turns : ℕ
   pub shares_fetches : Bool
+  pub pipelines_asks : Bool
+  pub host_connections : ℕ
 
 abbrev pub defaults : Settings
 defaults = record {
@@ -27,9 +29,11 @@ defaults = record {
   low = 2560;
   high = 3072;
   critical = 4096;
-  disk_run = 1;
+  disk_run = 16;
   max_turns = 140737488355327;
   shares_fetches = true;
+  pipelines_asks = false;
+  host_connections = 8;
 }
 
 abbrev pub number_or_0 : Setting → List ℕ → ℕ
@@ -46,6 +50,8 @@ with_value c ChunkCriticalMark text = record c { critical = number_or_0 ChunkCri
 with_value c DiskRun text = record c { disk_run = number_or_0 DiskRun text }
 with_value c MaxTurns text = record c { max_turns = number_or_0 MaxTurns text }
 with_value c ShareFetches text = record c { shares_fetches = number_or_0 ShareFetches text == 1 }
+with_value c PipelineAsks text = record c { pipelines_asks = number_or_0 PipelineAsks text == 1 }
+with_value c HostConnections text = record c { host_connections = number_or_0 HostConnections text }
 
 abbrev pub assigned : Settings → List Assignment → Settings
 assigned c assignments = fold (λ c a. with_value c a.0 a.1) c assignments

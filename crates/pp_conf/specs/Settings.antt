@@ -5,7 +5,7 @@ use Rattle.std.specs.Char.{is_ascii_alphanumeric}
 use Rattle.std.specs.Str.{is_utf8}
 use Rattle.pp_text.specs.Numbers.{number_of}
 use Rattle.pp_conf.specs.declared.setting.Setting.{Setting}
-use Rattle.pp_conf.specs.declared.setting.Setting.TheVariants.{ProxyPort, ProxyName, DiskCacheRoot, ChunkLowMark, ChunkHighMark, ChunkCriticalMark, DiskRun, MaxTurns, ShareFetches}
+use Rattle.pp_conf.specs.declared.setting.Setting.TheVariants.{ProxyPort, ProxyName, DiskCacheRoot, ChunkLowMark, ChunkHighMark, ChunkCriticalMark, DiskRun, MaxTurns, ShareFetches, PipelineAsks, HostConnections}
 
 abbrev pub name_of : Setting → List ℕ
 name_of ProxyPort = codes "proxyPort"
@@ -17,9 +17,11 @@ name_of ChunkCriticalMark = codes "chunkCriticalMark"
 name_of DiskRun = codes "diskRun"
 name_of MaxTurns = codes "maxTurns"
 name_of ShareFetches = codes "shareFetches"
+name_of PipelineAsks = codes "pipelineAsks"
+name_of HostConnections = codes "hostConnections"
 
 abbrev pub all_settings : List Setting
-all_settings = ProxyPort ∷ ProxyName ∷ DiskCacheRoot ∷ ChunkLowMark ∷ ChunkHighMark ∷ ChunkCriticalMark ∷ DiskRun ∷ MaxTurns ∷ ShareFetches ∷ []
+all_settings = ProxyPort ∷ ProxyName ∷ DiskCacheRoot ∷ ChunkLowMark ∷ ChunkHighMark ∷ ChunkCriticalMark ∷ DiskRun ∷ MaxTurns ∷ ShareFetches ∷ PipelineAsks ∷ HostConnections ∷ []
 
 -- the setting of that name, letter for letter
 abbrev pub setting_named : List ℕ → Option Setting
@@ -60,6 +62,8 @@ least_of ChunkCriticalMark = 512
 least_of DiskRun = 1
 least_of MaxTurns = 1
 least_of ShareFetches = 0
+least_of PipelineAsks = 0
+least_of HostConnections = 1
 
 abbrev pub most_of : Setting → ℕ
 most_of ProxyPort = 65535
@@ -68,9 +72,11 @@ most_of DiskCacheRoot = 0
 most_of ChunkLowMark = 65536
 most_of ChunkHighMark = 65536
 most_of ChunkCriticalMark = 65536
-most_of DiskRun = 1
+most_of DiskRun = 64
 most_of MaxTurns = 140737488355327
 most_of ShareFetches = 1
+most_of PipelineAsks = 1
+most_of HostConnections = 64
 
 abbrev pub number_for : Setting → List ℕ → Option ℕ
 number_for s text = number_in (least_of s) (most_of s) text
@@ -86,3 +92,5 @@ accepts ChunkCriticalMark text = is_some (number_for ChunkCriticalMark text)
 accepts DiskRun text = is_some (number_for DiskRun text)
 accepts MaxTurns text = is_some (number_for MaxTurns text)
 accepts ShareFetches text = is_some (number_for ShareFetches text)
+accepts PipelineAsks text = is_some (number_for PipelineAsks text)
+accepts HostConnections text = is_some (number_for HostConnections text)

@@ -64,6 +64,8 @@ shown_draft d = record {
   disk_run = d.disk_run;
   max_turns = d.max_turns;
   shares_fetches = d.share_fetches;
+  pipelines_asks = d.pipeline_asks;
+  host_connections = d.host_connections;
 }
 
 abbrev pub shown_conf : Conf → Settings
@@ -77,6 +79,8 @@ shown_conf c = record {
   disk_run = c.disk_run;
   max_turns = c.max_turns;
   shares_fetches = c.share_fetches;
+  pipelines_asks = c.pipeline_asks;
+  host_connections = c.host_connections;
 }
 
 abbrev pub shown_command : Command → Told

@@ -23,6 +23,8 @@ pub struct Conf {
     pub disk_run: u32,
     pub max_turns: u64,
     pub share_fetches: bool,
+    pub pipeline_asks: bool,
+    pub host_connections: u32,
 }
 
 /// The settings while assignments are applied; texts still stand where they came from.
@@ -37,6 +39,8 @@ pub(crate) struct Draft<'a> {
     pub disk_run: u32,
     pub max_turns: u64,
     pub share_fetches: bool,
+    pub pipeline_asks: bool,
+    pub host_connections: u32,
 }
 
 impl<'a> Draft<'a> {
@@ -50,9 +54,11 @@ impl<'a> Draft<'a> {
             low: 2560,
             high: 3072,
             critical: 4096,
-            disk_run: 1,
+            disk_run: 16,
             max_turns: 140_737_488_355_327,
             share_fetches: true,
+            pipeline_asks: false,
+            host_connections: 8,
         }
     }
 
@@ -72,6 +78,8 @@ impl<'a> Draft<'a> {
             Setting::DiskRun => self.disk_run = number as u32,
             Setting::MaxTurns => self.max_turns = number,
             Setting::ShareFetches => self.share_fetches = number == 1,
+            Setting::PipelineAsks => self.pipeline_asks = number == 1,
+            Setting::HostConnections => self.host_connections = number as u32,
         }
     }
 
@@ -93,6 +101,8 @@ impl<'a> Draft<'a> {
             disk_run: self.disk_run,
             max_turns: self.max_turns,
             share_fetches: self.share_fetches,
+            pipeline_asks: self.pipeline_asks,
+            host_connections: self.host_connections,
         })
     }
 

@@ -21,16 +21,20 @@ pub enum Setting {
     ChunkHighMark,
     /// The pool's size in chunks: from the high mark to 65,536.
     ChunkCriticalMark,
-    /// How many whole chunks are kept on disk at a time: 1.
+    /// How many whole chunks are kept on disk at a time: 1 to 64.
     DiskRun,
     /// After so many turns the program ends: 1 to 2^47 - 1.
     MaxTurns,
     /// Whether readers of one new object wait for one fetch: 0 or 1.
     ShareFetches,
+    /// Whether an ask may go behind others that are not answered: 0 or 1.
+    PipelineAsks,
+    /// How many connections one host may have: 1 to 64.
+    HostConnections,
 }
 
 impl Setting {
-    pub const ALL: [Setting; 9] = [
+    pub const ALL: [Setting; 11] = [
         Setting::ProxyPort,
         Setting::ProxyName,
         Setting::DiskCacheRoot,
@@ -40,6 +44,8 @@ impl Setting {
         Setting::DiskRun,
         Setting::MaxTurns,
         Setting::ShareFetches,
+        Setting::PipelineAsks,
+        Setting::HostConnections,
     ];
 
     /// The name that words and text use.
@@ -56,6 +62,8 @@ impl Setting {
             Setting::DiskRun => "diskRun",
             Setting::MaxTurns => "maxTurns",
             Setting::ShareFetches => "shareFetches",
+            Setting::PipelineAsks => "pipelineAsks",
+            Setting::HostConnections => "hostConnections",
         }
     }
 
@@ -80,9 +88,9 @@ impl Setting {
             Setting::ChunkLowMark | Setting::ChunkHighMark | Setting::ChunkCriticalMark => {
                 (512, 65_536)
             }
-            Setting::DiskRun => (1, 1),
+            Setting::DiskRun | Setting::HostConnections => (1, 64),
             Setting::MaxTurns => (1, 140_737_488_355_327),
-            Setting::ShareFetches => (0, 1),
+            Setting::ShareFetches | Setting::PipelineAsks => (0, 1),
         }
     }
 
@@ -107,7 +115,9 @@ impl Setting {
             | Setting::ChunkCriticalMark
             | Setting::DiskRun
             | Setting::MaxTurns
-            | Setting::ShareFetches => self.number(text).is_some(),
+            | Setting::ShareFetches
+            | Setting::PipelineAsks
+            | Setting::HostConnections => self.number(text).is_some(),
         }
     }
 }

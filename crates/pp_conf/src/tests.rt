@@ -41,14 +41,15 @@ fn without_words_each_setting_has_its_default(rt: HostRuntime) -> Result<(), Fai
     assert_eq!(rt; conf.name.as_slice(), b"polipo".as_slice());
     assert_eq!(rt; conf.root.as_slice(), b"polipo-cache".as_slice());
     assert_eq!(rt; (conf.low, conf.high, conf.critical), (2560, 3072, 4096));
-    assert_eq!(rt; (conf.disk_run, conf.max_turns), (1, 140_737_488_355_327));
+    assert_eq!(rt; (conf.disk_run, conf.max_turns), (16, 140_737_488_355_327));
     assert!(rt; conf.share_fetches);
+    assert_eq!(rt; (conf.pipeline_asks, conf.host_connections), (false, 8));
     Ok(())
 }
 
 #[test]
 fn a_value_outside_its_range_is_named(rt: HostRuntime) -> Result<(), Fail> {
-    let cases: [(&str, Option<Setting>); 40] = [
+    let cases: [(&str, Option<Setting>); 46] = [
         ("proxyPort=0", Some(Setting::ProxyPort)),
         ("proxyPort=1", None),
         ("proxyPort=65535", None),
@@ -79,19 +80,25 @@ fn a_value_outside_its_range_is_named(rt: HostRuntime) -> Result<(), Fail> {
         ("chunkCriticalMark=65537", Some(Setting::ChunkCriticalMark)),
         ("diskRun=0", Some(Setting::DiskRun)),
         ("diskRun=1", None),
-        ("diskRun=2", Some(Setting::DiskRun)),
+        ("diskRun=64", None),
+        ("diskRun=65", Some(Setting::DiskRun)),
         ("maxTurns=0", Some(Setting::MaxTurns)),
         ("maxTurns=1", None),
         ("maxTurns=140737488355327", None),
         ("maxTurns=140737488355328", Some(Setting::MaxTurns)),
         ("shareFetches=0", None),
         ("shareFetches=2", Some(Setting::ShareFetches)),
+        ("pipelineAsks=1", None),
+        ("pipelineAsks=2", Some(Setting::PipelineAsks)),
+        ("hostConnections=0", Some(Setting::HostConnections)),
+        ("hostConnections=64", None),
+        ("hostConnections=65", Some(Setting::HostConnections)),
         (
             "chunkHighMark=3000 chunkLowMark=3001",
             Some(Setting::ChunkHighMark),
         ),
         ("chunkLowMark=4000 chunkHighMark=4000", None),
-        ("diskRun=9 proxyPort=0 diskRun=1", Some(Setting::DiskRun)),
+        ("diskRun=65 proxyPort=0 diskRun=1", Some(Setting::DiskRun)),
     ];
     for (line, wanted) in cases {
         assert_eq!(rt; refused_by(rt.alloc(), line, None)?, wanted, "{line}");
@@ -181,7 +188,7 @@ fn words_come_after_the_text(rt: HostRuntime) -> Result<(), Fail> {
         ("-- proxyPort=10", "", Came::Port(10)),
         (
             "proxyPort=0",
-            "diskRun=2",
+            "diskRun=0",
             Came::Fault(ConfFault::BadValue(Setting::DiskRun)),
         ),
         ("proxyPort=0", "x", Came::Fault(ConfFault::BadLine(1))),
