@@ -1,1 +1,2 @@
 pub mod JoiningLemmas
+mod Rows

@@ -1,5 +1,5 @@
 -- How long a response is fresh (RFC 2616, section 13.2.4).
-use Rattle.std.specs.Prelude.{ℕ, ◌-◌, ◌/◌, Bool, nat_lt, min, List, codes, Option, Some, None, unwrap_or}
+use Rattle.std.specs.Prelude.{ℕ, ◌-◌, ◌/◌, Bool, nat_lt, min, List, codes, Option, Some, None, unwrap_or, if◌then◌else◌}
 use Rattle.httpdate.specs.Date.{parse_secs}
 use Rattle.pp_text.specs.Fields.{Field, first_value}
 use Rattle.pp_fresh.specs.Dates.{date_of}
@@ -21,19 +21,19 @@ lifetime_guessed (Some modified) date = min ((date - modified) / 10) longest_gue
 -- freshness_lifetime = expires_value - date_value
 -- "caches MUST treat other invalid date formats, especially including the value "0", as in the past"
 -- (section 14.21); ours: of several Expires fields the first counts
-abbrev pub lifetime_by_dates : List Field → ℕ → ℕ
-lifetime_by_dates fields date = by_expires (first_value (codes "expires") fields)
+abbrev pub lifetime_by_dates : List Field → Times → ℕ
+lifetime_by_dates fields times = by_expires (first_value (codes "expires") fields)
   where
     by_expires : Option (List ℕ) → ℕ
-    by_expires None = lifetime_guessed (date_of (codes "last-modified") fields) date
-    by_expires (Some expires) = unwrap_or (parse_secs expires) 0 - date
+    by_expires None = if times.may_guess then lifetime_guessed (date_of (codes "last-modified") fields) (date_value fields times.response) else 0
+    by_expires (Some expires) = unwrap_or (parse_secs expires) 0 - date_value fields times.response
 
 -- "The max-age directive takes priority over Expires", and "for a shared cache .. the maximum age specified
 -- by this directive [s-maxage] overrides the maximum age specified by either" (section 14.9.3)
 abbrev pub lifetime_of : List Field → Times → ℕ
 lifetime_of fields times =
     let directives = directives_of fields in
-    unwrap_or directives.s_maxage (unwrap_or directives.max_age (lifetime_by_dates fields (date_value fields times.response)))
+    unwrap_or directives.s_maxage (unwrap_or directives.max_age (lifetime_by_dates fields times))
 
 -- response_is_fresh = (freshness_lifetime > current_age)
 abbrev pub is_fresh : List Field → Times → ℕ → Bool

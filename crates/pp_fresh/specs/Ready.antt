@@ -7,11 +7,16 @@ use Rattle.pp_fresh.specs.Directives.{directives_of}
 use Rattle.pp_fresh.specs.Lifetime.{is_fresh, lifetime_of}
 use Rattle.pp_fresh.specs.declared.aging.Times.{Times}
 
--- ours: nor is a response kept that is for one client or one kind of client alone, as Set-Cookie and Vary show
+-- ours: a response is for one client or one kind of client alone, as Vary, Set-Cookie and Set-Cookie2 (RFC 2965) show
+abbrev pub is_for_some : List Field → Bool
+is_for_some fields = has_field (codes "vary") fields || (has_field (codes "set-cookie") fields || has_field (codes "set-cookie2") fields)
+
+-- "no-store: .. a cache MUST NOT store any part of either this response or the request that elicited it"; "private:
+-- .. MUST NOT be cached by a shared cache"
 abbrev pub may_store : List Field → Bool
 may_store fields =
     let directives = directives_of fields in
-    not directives.no_store && not directives.private && not (has_field (codes "vary") fields) && not (has_field (codes "set-cookie") fields)
+    not (directives.no_store || directives.private) && not (is_for_some fields)
 
 -- "the client is willing to accept a response whose age is no greater than the specified time in seconds"
 -- ours: and with 0 it asks for validation, whatever the age
@@ -35,4 +40,5 @@ asks_validation request lifetime age =
 -- ours: a stale response is always validated, so max-stale changes nothing
 abbrev pub is_ready : List Field → List Field → Times → ℕ → Bool
 is_ready request kept times now =
-    is_fresh kept times now && not (directives_of kept).no_cache && not (asks_validation request (lifetime_of kept times) (age_of times now))
+    (may_store kept && not (directives_of kept).no_cache)
+    && (is_fresh kept times now && not (asks_validation request (lifetime_of kept times) (age_of times now)))

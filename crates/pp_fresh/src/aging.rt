@@ -1,9 +1,12 @@
 // How old a response is (RFC 2616, section 13.2.3).
-ghost use Rattle.std.specs.Prelude.{◌≡◌};
-ghost use Rattle.pp_fresh.specs.Age.{age_of, first_age, times_of};
+ghost use Rattle.std.specs.Prelude.{◌≡◌, option_copied};
+ghost use Rattle.pp_fresh.specs.Age.{age_of, first_age, seconds_in, times_of};
 
 use crate::dates::date_of;
 use pp_text::{Fields, read_u64};
+
+/// The greatest age that is taken from a field (RFC 9111, section 1.2.2).
+const GREATEST_AGE: u64 = 1 << 31;
 
 /// When a response was asked for and when it came, in seconds since 1970, and how old it was then.
 #[derive(Clone, Copy, Debug, PartialEq, Eq)]
@@ -14,12 +17,15 @@ pub struct Times {
     pub response: u64,
     /// The response's age in seconds when it came: `corrected_initial_age`.
     pub initial: u64,
+    /// Whether its lifetime may be guessed, where it names none.
+    pub may_guess: bool,
 }
 
-/// The times of a response with these fields, asked for and come at these seconds. An age that
-/// would pass `u64::MAX` stays there.
-pub fn times_of(fields: &Fields, request: u64, response: u64) -> Times
-    ensures { result ≡ times_of fields.now request response }
+/// The times of a response with these fields, asked for and come at these seconds, by a request
+/// that allows a guess or not. An age that would pass `u64::MAX` stays there; with `Pragma:
+/// no-cache` nothing is guessed.
+pub fn times_of(fields: &Fields, request: u64, response: u64, allows_guess: bool) -> Times
+    ensures { result ≡ times_of fields.now request response allows_guess }
 {
     let date = date_of(b"date", fields).unwrap_or(response);
     let apparent = response.saturating_sub(date);
@@ -28,6 +34,7 @@ pub fn times_of(fields: &Fields, request: u64, response: u64) -> Times
         request,
         response,
         initial: received.saturating_add(response.saturating_sub(request)),
+        may_guess: allows_guess && !fields.has_item(b"pragma", b"no-cache"),
     }
 }
 
@@ -41,12 +48,21 @@ pub fn age(times: &Times, now: u64) -> u64
         .saturating_add(now.saturating_sub(times.response))
 }
 
-/// The seconds that the first Age field shows, or 0.
+/// The seconds that the first member of the Age fields shows; 0 without such a field.
 fn first_age(fields: &Fields) -> u64
     ensures { result ≡ first_age fields.now }
 {
-    let Some(text) = fields.first(b"age") else {
+    if !fields.has(b"age") {
         return 0;
-    };
-    read_u64(text).unwrap_or(0)
+    }
+    seconds_in(fields.items(b"age").next())
+}
+
+fn seconds_in(member: Option<&[u8]>) -> u64
+    ensures { result ≡ seconds_in (option_copied member.entry) }
+{
+    match member {
+        Some(text) => read_u64(text).unwrap_or(GREATEST_AGE).min(GREATEST_AGE),
+        None => GREATEST_AGE,
+    }
 }

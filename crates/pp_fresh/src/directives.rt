@@ -1,15 +1,19 @@
 // What the Cache-Control fields say together (RFC 2616, section 14.9).
 ghost use Rattle.std.specs.Prelude.{◌≡◌, fold};
-ghost use Rattle.pp_fresh.specs.Directives.{directives_of};
+ghost use Rattle.std.specs.List.{list_any};
+ghost use Rattle.pp_text.specs.Quoting.{quoting_after};
+ghost use Rattle.pp_text.specs.declared.quoting.Quoting.TheVariants.{Outside};
+ghost use Rattle.pp_fresh.specs.Directives.{directives_of, is_cut_off, listed};
 ghost use Rattle.pp_fresh.specs.Joining.{joined, lesser, no_directives};
 
 use crate::directive::Directive;
-use pp_text::{FieldItems, Fields};
+use pp_text::{FieldItems, FieldValues, Fields, Quoting};
 
 /// The directives of a message that this cache heeds, over all its Cache-Control fields.
 ///
 /// A directive with field names, as `no-cache="set-cookie"`, counts as one without. Of several
-/// numbers the least counts, and one that cannot be read counts as 0.
+/// numbers the least counts, and one that cannot be read counts as 0. A field that ends within a
+/// quoted string counts as `no-store`.
 #[derive(Clone, Copy, Debug, PartialEq, Eq)]
 pub struct Directives {
     pub no_store: bool,
@@ -39,7 +43,17 @@ impl Directives {
     pub fn read(fields: &Fields) -> Directives
         ensures { result ≡ directives_of fields.now }
     {
-        Directives::join(fields.items(b"cache-control"))
+        let directives = Directives::listed(fields.items(b"cache-control"));
+        Directives {
+            no_store: directives.no_store | has_cut_off(fields.values(b"cache-control")),
+            ..directives
+        }
+    }
+
+    fn listed(items: FieldItems) -> Directives
+        ensures { result ≡ listed items.entry }
+    {
+        Directives::join(items)
     }
 
     fn join(items: FieldItems) -> Directives
@@ -63,6 +77,27 @@ impl Directives {
             min_fresh: lesser(self.min_fresh, directive.seconds(b"min-fresh")),
         }
     }
+}
+
+/// Whether a value ends within a quoted string.
+fn has_cut_off(mut values: FieldValues) -> bool
+    ensures { result ≡ list_any is_cut_off values.entry }
+{
+    values.any(is_cut_off)
+}
+
+fn is_cut_off(value: &[u8]) -> bool
+    ensures { result ≡ is_cut_off value.now }
+{
+    !quoting_behind(value).is_outside()
+}
+
+/// Where a byte behind this text stands.
+fn quoting_behind(text: &[u8]) -> Quoting
+    ensures { result ≡ fold quoting_after Outside text.now }
+{
+    text.iter()
+        .fold(Quoting::Outside, |quoting, byte| quoting.after(*byte))
 }
 
 /// The lesser of two numbers of which either may be missing.

@@ -16,13 +16,12 @@ mod dates; // dates as seconds
 mod directive; // one directive of a Cache-Control field
 mod directives; // what the Cache-Control fields say together
 mod freshness; // how long a response is fresh
+mod guessing; // where that may be guessed
 mod reuse; // whether it may be kept, and used for a request
 
 pub use aging::{Times, age, times_of};
 pub use dates::date_of;
 pub use directives::Directives;
-pub use freshness::{is_fresh, lifetime};
+pub use freshness::lifetime;
+pub use guessing::allows_guess;
 pub use reuse::{may_store, ready};
-
-#[cfg(test)]
-mod tests; // worked responses
