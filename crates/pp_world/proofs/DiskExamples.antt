@@ -1,4 +1,4 @@
--- One file worked out: drafted, synced, published, written over, and a removal that fails.
+-- One file worked out: drafted, synced, published, written over, a sync that fails, and a removal that fails.
 use Rattle.std.proofs.Common.{◌≡◌, [], ◌∷◌, ◌++◌, true, false, None, Some, refl}
 use Rattle.pp_world.specs.declared.happening.Happening.TheVariants.{Woke, Began, Did}
 use Rattle.pp_world.specs.declared.op.DiskOp.TheVariants.{Draft, SyncDraft, Publish, Write, Sync, Remove}
@@ -43,6 +43,27 @@ unsynced_draft : view_of name (Woke [] ∷ Began (Draft (5 ∷ [])) ∷ Did (Dra
     ≡ record { draft = None; slot = Some (record { bytes = 5 ∷ []; synced = 0; end = 1; loose = [] }) ∷ []; failed = false }
 unfolding view_of unsynced
 unsynced_draft = refl
+
+-- a sync that failed leaves the write loose, and so does each sync of that name behind it, until the next start
+failed_syncs : (view_of name (wrote ++ (Began (Sync name) ∷ Did (Sync name) false ∷ [])) ≡ record { draft = None; slot = Some (in_doubt (1 ∷ 9 ∷ 3 ∷ [])) ∷ []; failed = true })
+    × (view_of name (wrote ++ (Began (Sync name) ∷ Did (Sync name) false ∷ Began (Sync name) ∷ Did (Sync name) true ∷ [])) ≡ record { draft = None; slot = Some (in_doubt (1 ∷ 9 ∷ 3 ∷ [])) ∷ []; failed = true })
+    × (view_of name (wrote ++ (Began (Sync (98 ∷ [])) ∷ Did (Sync (98 ∷ [])) false ∷ Began (Sync name) ∷ Did (Sync name) true ∷ [])) ≡ rests (1 ∷ 9 ∷ 3 ∷ []))
+unfolding view_of settled unsynced loosened written splice
+failed_syncs = (refl, refl, refl)
+
+-- a publish that failed leaves two files in doubt, of which a sync reaches one, and which is not known: it settles none
+abbrev doubtful : Log
+doubtful = wrote ++ (Began (Draft (5 ∷ [])) ∷ Did (Draft (5 ∷ [])) true ∷ Began SyncDraft ∷ Did SyncDraft true ∷ Began (Publish name) ∷ Did (Publish name) false ∷ [])
+
+two_candidates : view_of name (doubtful ++ (Began (Sync name) ∷ Did (Sync name) true ∷ [])) ≡ record { draft = None; slot = Some (in_doubt (1 ∷ 9 ∷ 3 ∷ [])) ∷ Some (settled (5 ∷ [])) ∷ []; failed = true }
+unfolding view_of settled unsynced loosened written splice
+two_candidates = refl
+
+-- a draft whose sync failed is none: a later sync of it has nothing to make stand
+failed_drafts : (view_of name (Woke [] ∷ Began (Draft (5 ∷ [])) ∷ Did (Draft (5 ∷ [])) true ∷ Began SyncDraft ∷ Did SyncDraft false ∷ []) ≡ record { draft = None; slot = None ∷ []; failed = false })
+    × (view_of name (Woke [] ∷ Began (Draft (5 ∷ [])) ∷ Did (Draft (5 ∷ [])) true ∷ Began SyncDraft ∷ Did SyncDraft false ∷ Began SyncDraft ∷ Did SyncDraft true ∷ []) ≡ record { draft = None; slot = None ∷ []; failed = false })
+unfolding view_of settled unsynced
+failed_drafts = (refl, refl)
 
 -- a removal that failed leaves the file or none, and after the next start the one that the crash left
 removals : (view_of name (published ++ (Began (Remove name) ∷ Did (Remove name) false ∷ [])) ≡ record { draft = None; slot = Some (record { bytes = 1 ∷ 2 ∷ 3 ∷ []; synced = 3; end = 3; loose = [] }) ∷ None ∷ []; failed = true })

@@ -71,6 +71,11 @@ is_on name (Remove n) = bytes_eq n name
 abbrev pub where_on : Bool → List (Option Stored) → List (Option Stored) → List (Option Stored)
 where_on on changed slot = cond on changed slot
 
+-- A sync that failed is not mended by another: a system tells a write that it lost once, and forgets it (fsync(2), 'EIO'). So a
+-- sync settles no file of a name on which an operation failed.
+abbrev pub synced_unless : Bool → List (Option Stored) → List (Option Stored)
+synced_unless failed slot = cond failed slot (map (on_file synced) slot)
+
 -- an operation that began: a file that is published or removed is in doubt from then on
 abbrev pub began : Bytes → DiskOp → View → View
 began name (Draft bytes) v = record { draft = None; slot = v.slot; failed = v.failed }
@@ -86,13 +91,13 @@ done name (Draft bytes) v = record { draft = Some (unsynced bytes); slot = v.slo
 done name SyncDraft v = record { draft = on_file synced v.draft; slot = v.slot; failed = v.failed }
 done name (Publish n) v = record { draft = None; slot = where_on (is_on name (Publish n)) (v.draft ∷ []) v.slot; failed = v.failed }
 done name (Write n at bytes) v = record { draft = v.draft; slot = where_on (is_on name (Write n at bytes)) (map (on_file (written at bytes)) v.slot) v.slot; failed = v.failed }
-done name (Sync n) v = record { draft = v.draft; slot = where_on (is_on name (Sync n)) (map (on_file synced) v.slot) v.slot; failed = v.failed }
+done name (Sync n) v = record { draft = v.draft; slot = where_on (is_on name (Sync n)) (synced_unless v.failed v.slot) v.slot; failed = v.failed }
 done name (Remove n) v = record { draft = v.draft; slot = where_on (is_on name (Remove n)) (None ∷ []) v.slot; failed = v.failed }
 
--- an operation that failed: it stays in doubt, and the draft that was to be published is no more
+-- an operation that failed: it stays in doubt, and the draft that was to be synced or published is no more
 abbrev pub draft_behind : DiskOp → Option Stored → Option Stored
 draft_behind (Draft bytes) draft = draft
-draft_behind SyncDraft draft = draft
+draft_behind SyncDraft draft = None
 draft_behind (Publish n) draft = None
 draft_behind (Write n at bytes) draft = draft
 draft_behind (Sync n) draft = draft

@@ -67,7 +67,7 @@ pub trait Disk: Logged {
         ensures cause { OnErr result (Rises (Self.log self.new) (Self.faults self.old) (Self.faults self.new)) }
         ensures top { Self.top self.new ≡ Self.top self.old };
 
-    /// Makes what the draft holds stand through a crash.
+    /// Makes what the draft holds stand through a crash. Where that fails, there is no draft any more.
     fn sync_draft(&mut self) -> Result<(), DiskFault>
         ensures told { AppendsAll (Self.log self.old) (Self.log self.new) (λ l. op_happenings SyncDraft result) }
         ensures faults { Self.faults self.old ≤ Self.faults self.new }
@@ -90,7 +90,8 @@ pub trait Disk: Logged {
         ensures cause { OnErr result (Rises (Self.log self.new) (Self.faults self.old) (Self.faults self.new)) }
         ensures top { Self.top self.new ≡ Self.top self.old };
 
-    /// Makes what the file of this name holds stand through a crash.
+    /// Makes what the file of this name holds stand through a crash, unless an operation on the name
+    /// failed before in this life: what that one lost, no sync brings back.
     fn sync(&mut self, name: &Name) -> Result<(), DiskFault>
         ensures told { AppendsAll (Self.log self.old) (Self.log self.new) (λ l. op_happenings (Sync name.now) result) }
         ensures faults { Self.faults self.old ≤ Self.faults self.new }

@@ -22,8 +22,6 @@ mod happening; // an entry of the log
 mod image; // the files of a folder, by name
 mod note; // what the proxy itself puts on record
 mod op; // an operation that changes the disk
-#[cfg(test)]
-mod tests;
 mod wire; // connections, the clock and the console
 
 pub use disk::{Disk, DiskFault, NamesFault};

@@ -3,12 +3,12 @@ ghost use Rattle.std.specs.Prelude.{◌≡◌, ◌<◌, ◌≤◌, ℕ, None, le
 ghost use Rattle.pp_world.specs.Connections.{IsOpen};
 ghost use Rattle.pp_world.specs.Log.{Told};
 
-use crate::{
+use arrayvec::ArrayVec;
+use pp_text::Octets;
+use pp_world::{
     Cause, ConfigFault, Disk, DiskFault, Event, Got, Image, Logged, Name, NamesFault, Note, Wants,
     Wire, WireFault, World,
 };
-use arrayvec::ArrayVec;
-use pp_text::Octets;
 use std::alloc::Global;
 use std::test::Fail;
 
