@@ -1,0 +1,64 @@
+//! Worked exchanges: the whole program, run over a world in memory.
+//!
+//! Each table writes down what clients and origins do, and the bytes that each of them is sent, the course of each
+//! connection, and where it matters the whole log. All are played twice, with each text whole and with every byte alone, since
+//! the two must end alike. Openings write down the words, the text of the file and which call of the world fails, and what was
+//! read, listened on and printed.
+//!
+//! Nothing stands on this crate. What each part promises is proved in the crate of that part; here the parts are tried together,
+//! on texts from the standards, hostile ones among them.
+#![tactic(auto)]
+
+// Requests and their replies.
+#[cfg(test)]
+mod framing; // responses however they are delimited
+#[cfg(test)]
+mod methods; // requests of any method, with bodies
+#[cfg(test)]
+mod refusals; // requests that are refused with a page
+#[cfg(test)]
+mod requests; // plain requests, and their replies
+#[cfg(test)]
+mod whole_log; // a log, happening by happening
+
+// Connections.
+#[cfg(test)]
+mod connections; // whether a client's connection goes on
+#[cfg(test)]
+mod half_closed; // clients that end, and wait for their replies
+#[cfg(test)]
+mod idle; // clients and origins that do nothing
+#[cfg(test)]
+mod leaving; // clients that are lost
+#[cfg(test)]
+mod limits; // of clients, connections and buffers
+#[cfg(test)]
+mod pipelining; // asks behind one another on a connection
+
+// The cache.
+#[cfg(test)]
+mod hits; // replies from what is held
+#[cfg(test)]
+mod holes; // what is missing, and asked for
+#[cfg(test)]
+mod not_kept; // what the cache does not answer
+#[cfg(test)]
+mod sharing; // one fetch for many
+#[cfg(test)]
+mod validation; // rows that are refreshed or replaced
+
+// Origins that are lost, or answer wrongly.
+#[cfg(test)]
+mod gateways; // answers that cannot be passed
+#[cfg(test)]
+mod kept_losses; // what a lost origin sent is kept
+#[cfg(test)]
+mod losses; // lost origins are asked again
+
+// The program's beginning and end.
+#[cfg(test)]
+mod exits; // the listener, and the end
+#[cfg(test)]
+mod opened; // a run, and what it did
+#[cfg(test)]
+mod openings; // words and texts, and what comes of them
