@@ -122,7 +122,7 @@ def main():
         print("polipo: interrupted; the next build goes on from here", file=sys.stderr)
         return 1
     if tail:
-        print("polipo: it is not built:", *tail, sep="\n", file=sys.stderr)
+        print("polipo: it is not built:", "".join(tail), sep="\n", end="", file=sys.stderr)
         return 1
     STAMP.write_text(total)
     return 0
