@@ -1,8 +1,8 @@
 -- From a head to the rule that delimits the body behind it (RFC 2616, section 4.4).
 use Rattle.std.specs.Prelude.{ℕ, Bool, true, false, ◌==◌, ◌&&◌, ◌||◌, not, nat_lt, is_some, List, [], ◌∷◌, fold, slice_get, Option, Some, None, Result, Ok, Err, codes}
 use Rattle.std.specs.List.{list_all, filter_map}
-use Rattle.pp_text.specs.Bytes.{is_same}
-use Rattle.pp_text.specs.Fields.{Field, values_of, list_items}
+use Rattle.pp_text.specs.Bytes.{is_empty, is_same}
+use Rattle.pp_text.specs.Fields.{Field, has_field, values_of, list_items}
 use Rattle.pp_text.specs.Numbers.{number_of}
 use Rattle.pp_framing.specs.declared.body.BodyRule.{BodyRule}
 use Rattle.pp_framing.specs.declared.body.BodyRule.TheVariants.{Empty, Length, Chunked, ToEnd}
@@ -10,6 +10,8 @@ use Rattle.pp_framing.specs.declared.framing.Coding.{Coding}
 use Rattle.pp_framing.specs.declared.framing.Coding.TheVariants.{Identity, InChunks, Other}
 use Rattle.pp_framing.specs.declared.framing.FramingFault.{FramingFault}
 use Rattle.pp_framing.specs.declared.framing.FramingFault.TheVariants.{TwoLengths, BadLength, OtherCoding}
+use Rattle.pp_framing.specs.declared.framing.ResponseFault.{ResponseFault}
+use Rattle.pp_framing.specs.declared.framing.ResponseFault.TheVariants.{NoStatus, Framing}
 
 abbrev pub is_identity : Coding → Bool
 is_identity Identity = true
@@ -66,8 +68,8 @@ response_body Identity None = ToEnd
 response_body Other (Some n) = Length n
 response_body Other None = ToEnd
 
-abbrev pub rule_of : Bool → ℕ → List Field → Result BodyRule FramingFault
-rule_of head_request status fields = elim (is_other (coding_of fields)) [
+abbrev pub framing_of : Bool → ℕ → List Field → Result BodyRule FramingFault
+framing_of head_request status fields = elim (is_other (coding_of fields)) [
   | true ↦ Err OtherCoding
   | false ↦ by_length (length_of (values_of (codes "content-length") fields)) (λ length. elim (has_no_body head_request status) [
     | true ↦ Empty
@@ -75,14 +77,29 @@ rule_of head_request status fields = elim (is_other (coding_of fields)) [
   ])
 ]
 
+abbrev pub framed : Result BodyRule FramingFault → Result BodyRule ResponseFault
+framed (Ok rule) = Ok rule
+framed (Err fault) = Err (Framing fault)
+
+-- "All valid status codes are within the range of 100 to 599, inclusive" (RFC 9110, section 15); ours: one
+-- above is read as any other that is not known
+abbrev pub rule_of : Bool → ℕ → List Field → Result BodyRule ResponseFault
+rule_of head_request status fields = elim (nat_lt status 100) [ true ↦ Err NoStatus | false ↦ framed (framing_of head_request status fields) ]
+
 -- "The presence of a message-body in a request is signaled by the inclusion of a Content-Length or
--- Transfer-Encoding header field" (section 4.3); ours: a request's body is in no coding
+-- Transfer-Encoding header field" (section 4.3); ours: a Transfer-Encoding without items is there, and not identity
+abbrev pub is_coded : List Field → Bool
+is_coded fields =
+    not (is_identity (coding_of fields))
+    || (has_field (codes "transfer-encoding") fields && is_empty (list_items (codes "transfer-encoding") fields))
+
+-- ours: a request's body is in no coding
 abbrev pub request_body : Option ℕ → BodyRule
 request_body None = Empty
 request_body (Some n) = Length n
 
 abbrev pub request_rule_of : List Field → Result BodyRule FramingFault
-request_rule_of fields = elim (is_identity (coding_of fields)) [
-  | true ↦ by_length (length_of (values_of (codes "content-length") fields)) request_body
-  | false ↦ Err OtherCoding
+request_rule_of fields = elim (is_coded fields) [
+  | true ↦ Err OtherCoding
+  | false ↦ by_length (length_of (values_of (codes "content-length") fields)) request_body
 ]

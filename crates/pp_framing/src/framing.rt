@@ -1,12 +1,12 @@
 // From a head to the rule that delimits the body behind it.
 ghost use Rattle.std.specs.Prelude.{◌≡◌, codes};
 ghost use Rattle.pp_text.specs.Fields.{values_of};
-ghost use Rattle.pp_framing.specs.Framing.{coding_of, with_coding, length_of, is_other_length, has_no_body as has_none, rule_of, request_rule_of};
+ghost use Rattle.pp_framing.specs.Framing.{coding_of, with_coding, length_of, is_other_length, has_no_body as has_none, framing_of, is_coded as has_coding, rule_of, request_rule_of};
 
 use crate::body::BodyRule;
 use pp_text::{Fields, read_u64, same};
 
-/// Why a head delimits no body.
+/// Why the fields of a head delimit no body.
 #[derive(Clone, Copy, Debug, PartialEq, Eq)]
 pub enum FramingFault {
     /// Two of its lengths differ.
@@ -15,6 +15,15 @@ pub enum FramingFault {
     BadLength,
     /// A transfer coding is there that is not read here.
     OtherCoding,
+}
+
+/// Why a head is none of a response with a body that can be read.
+#[derive(Clone, Copy, Debug, PartialEq, Eq)]
+pub enum ResponseFault {
+    /// Its status is below 100: it is no response (RFC 9110, section 15).
+    NoStatus,
+    /// Its fields delimit no body.
+    Framing(FramingFault),
 }
 
 /// The transfer codings of a body, all together.
@@ -27,14 +36,30 @@ enum Coding {
 
 /// How the body behind the head of a response is delimited (RFC 2616, section 4.4).
 ///
-/// Of several faults, another coding comes first, then lengths that differ. They count also where
-/// there is no body: a head that two readers may take differently is not passed on.
+/// Of several faults, the status comes first, then another coding, then lengths that differ. They
+/// count also where there is no body: a head that two readers may take differently is not passed on.
 pub fn rule(
     head_request: bool,
     status: u16,
     fields: &Fields<'_, '_>,
-) -> Result<BodyRule, FramingFault>
+) -> Result<BodyRule, ResponseFault>
     ensures { result ≡ rule_of head_request status fields.now }
+{
+    if status < 100 {
+        return Err(ResponseFault::NoStatus);
+    }
+    match framing(head_request, status, fields) {
+        Ok(rule) => Ok(rule),
+        Err(fault) => Err(ResponseFault::Framing(fault)),
+    }
+}
+
+fn framing(
+    head_request: bool,
+    status: u16,
+    fields: &Fields<'_, '_>,
+) -> Result<BodyRule, FramingFault>
+    ensures { result ≡ framing_of head_request status fields.now }
 {
     let coding = transfer_coding(fields);
     if coding == Coding::Other {
@@ -55,17 +80,27 @@ pub fn rule(
 /// How the body behind the head of a request is delimited: by its length, or there is none.
 ///
 /// Of several faults, a coding comes first, then lengths that differ. `OtherCoding` is any coding
-/// but identity, the chunked one too: to such a request a length is required (section 10.4.12).
+/// but identity, the chunked one too, and a Transfer-Encoding without items: to such a request a
+/// length is required (section 10.4.12).
 pub fn request_rule(fields: &Fields<'_, '_>) -> Result<BodyRule, FramingFault>
     ensures { result ≡ request_rule_of fields.now }
 {
-    if transfer_coding(fields) != Coding::Identity {
+    if is_coded(fields) {
         return Err(FramingFault::OtherCoding);
     }
     match content_length(fields)? {
         Some(n) => Ok(BodyRule::Length(n)),
         None => Ok(BodyRule::Empty),
     }
+}
+
+/// Whether the body of a request is in a coding, as far as two readers may agree.
+fn is_coded(fields: &Fields<'_, '_>) -> bool
+    ensures { result ≡ has_coding fields.now }
+{
+    let has_items = fields.items(b"transfer-encoding").next().is_some();
+    let is_empty = fields.has(b"transfer-encoding") && !has_items;
+    transfer_coding(fields) != Coding::Identity || is_empty
 }
 
 /// Whatever its fields say, such a response has no body.

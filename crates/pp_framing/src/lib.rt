@@ -16,7 +16,7 @@ mod place; // where in a body a decoder is, byte by byte
 
 pub use body::{BodyRule, BodyState, Ending, Fed};
 pub use decoder::Decoder;
-pub use framing::{FramingFault, request_rule, rule};
+pub use framing::{FramingFault, ResponseFault, request_rule, rule};
 
 #[cfg(test)]
 mod tests; // worked bodies and heads
