@@ -3,7 +3,7 @@ use Rattle.std.proofs.Common.{◌≡◌, ℕ, zero, suc, ◌<◌, Bool, true, fa
 use Rattle.std.proofs.lemmas.List.{length-drop}
 use Rattle.pp_framing.specs.Framing.{rule_of}
 use Rattle.pp_framing.specs.declared.body.BodyRule.{BodyRule}
-use Rattle.pp_framing.specs.declared.framing.FramingFault.{FramingFault}
+use Rattle.pp_framing.specs.declared.framing.ResponseFault.{ResponseFault}
 use Rattle.pp_head.proofs.OnLiterals.{pp_head_on_literals}
 use Rattle.pp_head.proofs.ResponseAgrees.{response_within}
 use Rattle.pp_head.specs.Read.{Read, Whole, TooLong, Bad, More}
@@ -89,7 +89,7 @@ final_looked : (head_request : Bool) (text : List ℕ) (r : Response) → respon
 final_looked head_request text r is front true e = front ∙ ap (final_by head_request r (drop r.length text)) e
 final_looked head_request text r is front false e = by (rule_of head_request r.status r.fields) refl
   where
-    by : (p : Result BodyRule FramingFault) → rule_of head_request r.status r.fields ≡ p → IsLooked head_request text (found_by r.length (fate_of r) p)
+    by : (p : Result BodyRule ResponseFault) → rule_of head_request r.status r.fields ≡ p → IsLooked head_request text (found_by r.length (fate_of r) p)
     by (Ok rule) f = (r, is, refl, refl, front ∙ ap (final_by head_request r (drop r.length text)) e ∙ ap (by_rule r (drop r.length text)) f)
     by (Err fault) f = front ∙ ap (final_by head_request r (drop r.length text)) e ∙ ap (by_rule r (drop r.length text)) f
 

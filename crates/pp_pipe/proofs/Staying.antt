@@ -3,7 +3,7 @@ use Rattle.std.proofs.Common.{◌≡◌, ℕ, zero, suc, ◌<◌, Bool, true, fa
 use Rattle.std.proofs.lemmas.List.{drop-append-le}
 use Rattle.pp_framing.specs.Framing.{rule_of}
 use Rattle.pp_framing.specs.declared.body.BodyRule.{BodyRule}
-use Rattle.pp_framing.specs.declared.framing.FramingFault.{FramingFault}
+use Rattle.pp_framing.specs.declared.framing.ResponseFault.{ResponseFault}
 use Rattle.pp_head.proofs.ResponseAgrees.{response_stays, response_within}
 use Rattle.pp_head.specs.Limits.{is_limit_reached}
 use Rattle.pp_head.specs.Read.{Read, Whole, TooLong, Bad, More, Stays}
@@ -20,7 +20,7 @@ FrontStays head_request whole more NoResponse = whole ≡ NoResponse
 final_stays : (head_request : Bool) (r : Response) (rest more : List ℕ) → FrontStays head_request (final_of head_request r (rest ++ more)) more (final_of head_request r rest)
 final_stays head_request r rest more = by (r.status == 101) (rule_of head_request r.status r.fields)
   where
-    by : (w : Bool) (p : Result BodyRule FramingFault)
+    by : (w : Bool) (p : Result BodyRule ResponseFault)
         → FrontStays head_request (elim w [ true ↦ NoResponse | false ↦ by_rule r (rest ++ more) p ]) more (elim w [ true ↦ NoResponse | false ↦ by_rule r rest p ])
     by true p = refl
     by false (Ok rule) = refl

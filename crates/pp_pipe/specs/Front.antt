@@ -5,7 +5,8 @@ use Rattle.pp_head.specs.Read.{Whole, TooLong, Bad, More}
 use Rattle.pp_head.specs.Response.{Response, response_at}
 use Rattle.pp_framing.specs.Framing.{rule_of}
 use Rattle.pp_framing.specs.declared.body.BodyRule.{BodyRule}
-use Rattle.pp_framing.specs.declared.framing.FramingFault.{FramingFault}
+use Rattle.pp_framing.specs.declared.framing.ResponseFault.{ResponseFault}
+use Rattle.pp_pipe.specs.Ends.{is_end_in_doubt}
 use Rattle.pp_pipe.specs.declared.fate.Fate.{Fate}
 use Rattle.pp_pipe.specs.declared.fate.Fate.TheVariants.{Closes, Stays, Pipelines}
 
@@ -18,7 +19,7 @@ pub data Front : Type 0 where
   Unfinished : List ℕ → Front  -- the bytes of a head that is not whole
   NoResponse : Front  -- nothing that is read here, whatever follows
 
-abbrev pub by_rule : Response → List ℕ → Result BodyRule FramingFault → Front
+abbrev pub by_rule : Response → List ℕ → Result BodyRule ResponseFault → Front
 by_rule response rest (Ok rule) = Final response rule rest
 by_rule response rest (Err fault) = NoResponse
 
@@ -49,11 +50,24 @@ front_of head_request text = front_within (suc (length text)) head_request text
 -- "HTTP/1.1 defines the "close" connection option for the sender to signal that the connection will be closed
 -- after completion of the response" (section 14.10); HTTP/1.0 closes without "keep-alive" (section 19.6.2);
 -- ours: only behind HTTP/1.1 is a connection pipelined
-abbrev pub fate_of : Response → Fate
-fate_of response = elim (has_item (codes "connection") (codes "close") response.fields) [
+abbrev pub fate_told : Response → Fate
+fate_told response = elim (has_item (codes "connection") (codes "close") response.fields) [
   | true ↦ Closes
   | false ↦ elim (response.minor == 0) [
     | true ↦ elim (has_item (codes "connection") (codes "keep-alive") response.fields) [ true ↦ Stays | false ↦ Closes ]
     | false ↦ Pipelines
   ]
 ]
+
+-- ours: where another reader may see its end elsewhere, what follows answers nobody
+abbrev pub fate_of : Response → Fate
+fate_of response = elim (is_end_in_doubt response) [ true ↦ Closes | false ↦ fate_told response ]
+
+abbrev pub goes_on : Fate → Bool
+goes_on Closes = false
+goes_on Stays = true
+goes_on Pipelines = true
+
+-- whether the connection goes on behind the response
+abbrev pub stays_open : Response → Bool
+stays_open response = goes_on (fate_of response)

@@ -1,5 +1,7 @@
 pub mod Answers
 pub mod Asks
+pub mod Authentication
+pub mod Ends
 pub mod Feeding
 pub mod Front
 pub mod Line

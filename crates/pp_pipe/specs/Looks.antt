@@ -4,13 +4,13 @@ use Rattle.pp_head.specs.Read.{Read, Whole, TooLong, Bad, More}
 use Rattle.pp_head.specs.Response.{Response}
 use Rattle.pp_framing.specs.Framing.{rule_of}
 use Rattle.pp_framing.specs.declared.body.BodyRule.{BodyRule}
-use Rattle.pp_framing.specs.declared.framing.FramingFault.{FramingFault}
+use Rattle.pp_framing.specs.declared.framing.ResponseFault.{ResponseFault}
 use Rattle.pp_pipe.specs.Front.{fate_of, is_interim}
 use Rattle.pp_pipe.specs.declared.fate.Fate.{Fate}
 use Rattle.pp_pipe.specs.declared.front.Found.{Found}
 use Rattle.pp_pipe.specs.declared.front.Found.TheVariants.{More as IsMore, Other, Interim, Final}
 
-abbrev pub found_by : ℕ → Fate → Result BodyRule FramingFault → Found
+abbrev pub found_by : ℕ → Fate → Result BodyRule ResponseFault → Found
 found_by len fate (Ok rule) = Final len rule fate
 found_by len fate (Err fault) = Other
 

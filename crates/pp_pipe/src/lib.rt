@@ -16,6 +16,7 @@
 
 mod answer; // where in a response the bytes stand
 mod asks; // the asks that are not answered whole
+mod authentication; // requests that authenticate their connection
 mod fate; // what becomes of the connection behind a response
 mod front; // the head at the front of what came
 mod heading; // the heads of responses, in pieces
@@ -25,6 +26,8 @@ mod run; // the next run of data of a body
 mod step; // what the bytes that came tell
 
 pub use asks::MAX_ASKS;
+pub use authentication::binds_connection;
+pub use fate::stays_open;
 pub use outgoing::OUT_ROOM;
 pub use pipe::{Full, Pipe};
 pub use step::Step;

@@ -1,5 +1,5 @@
 // A connection to an origin.
-ghost use Rattle.std.specs.Prelude.{◌≡◌, ◌↔◌, ◌≤◌, ◌<◌, ℕ, true, List, [], ◌∷◌, ◌++◌, map, drop, length, count_by, option_map, IfOk, IfSome, IsErr, is_ok, not};
+ghost use Rattle.std.specs.Prelude.{◌≡◌, ◌↔◌, ◌≤◌, ◌<◌, ℕ, true, List, [], ◌∷◌, ◌++◌, map, drop, length, count_by, option_map, is_some, IfOk, IfSome, IsErr, is_ok, not};
 ghost use Rattle.std.specs.List.{concat, remove};
 ghost use Rattle.pp_head.specs.Shown.{shown_response};
 ghost use Rattle.pp_pipe.specs.Answers.{WasRead};
@@ -224,6 +224,14 @@ impl Pipe {
             Step::Head | Step::Body(..) | Step::Bad | Step::Idle => {}
         }
         (used, step)
+    }
+
+    /// Whether the head of a response came that is not whole: what is `Bad` then is its body, and else
+    /// its head.
+    pub fn is_answering(&self) -> bool
+        ensures { result ≡ is_some (head_in self.now.reading) }
+    {
+        self.answer.is_within()
     }
 
     /// The head of the response that comes. `None` exactly before a `Head` and after its `End`.
