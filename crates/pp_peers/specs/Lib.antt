@@ -1,4 +1,3 @@
-pub mod Attempts
 pub mod Lending
 pub mod Peers
 pub mod Placing

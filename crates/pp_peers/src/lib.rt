@@ -1,10 +1,8 @@
-//! Which connection an ask goes to, and how often it may be lost (RFC 2616, sections 8.1.2.2 and
-//! 8.1.4).
+//! Which connection an ask goes to (RFC 2616, sections 8.1.2.2 and 8.1.4).
 //!
 //! `Peers` are the connections to origins that are there, each with its pipe. `place` says where the
 //! next ask for a host goes: to a connection that carries nothing, to a new one while the host has
-//! few, else behind the asks of one that may be pipelined. `Attempts` count what was lost for a
-//! request.
+//! few, else, where the limits let asks be pipelined, behind those of one that may be.
 //!
 //! To the layer above: a list of connections in the order in which they were added, each with the
 //! line of its pipe, and the place is that of `specs/Placing.antt`.
@@ -12,14 +10,12 @@
 //! Only `Peers::new` takes memory, that of all 64 pipes. What goes through a pipe is for `pp_pipe`.
 #![tactic(auto)]
 
-mod attempts; // how often an ask may be lost
 mod peers; // the connections that are there
 mod placing; // where an ask goes
 mod searches; // the best of some connections
 
-pub use attempts::{Attempts, Lost};
 pub use peers::{HOST_ROOM, Load, PEERS, Peers};
-pub use placing::Placed;
+pub use placing::{Limits, Placed};
 
 #[cfg(test)]
 mod tests; // worked placings

@@ -6,7 +6,7 @@ ghost use Rattle.pp_peers.specs.Lending.{LendsPipe};
 ghost use Rattle.pp_peers.specs.Peers.{is_number, load_of as load_in, place_in, unused, without};
 ghost use Rattle.pp_peers.specs.Placing.{place};
 
-use crate::placing::{Placed, place_among};
+use crate::placing::{Limits, Placed, place_among};
 use arrayvec::ArrayVec;
 use pp_pipe::Pipe;
 use pp_text::OutOfMemory;
@@ -83,11 +83,11 @@ impl Peers {
 
     /// Where the next ask for this host and port goes. An ask that goes `alone` has a connection for
     /// itself, a new one: its method is not known to be safe to repeat, or it has a body (RFC 2616,
-    /// section 8.1.2.2).
-    pub fn place(&self, host: &[u8], port: u16, alone: bool) -> Placed
-        ensures { result ≡ place host.now port alone self.now }
+    /// section 8.1.2.2), or it authenticates its connection (RFC 4559, section 6).
+    pub fn place(&self, limits: Limits, host: &[u8], port: u16, alone: bool) -> Placed
+        ensures { result ≡ place limits host.now port alone self.now }
     {
-        place_among(&self.peers, host, port, alone)
+        place_among(&self.peers, limits, host, port, alone)
     }
 
     /// A connection with this number was dialled, to this host and port: nothing was asked there.

@@ -1,9 +1,15 @@
 // Worked placings (RFC 2616, sections 8.1.2.2 and 8.1.4).
 mod counts; // by how many connections a host has
 
-use crate::{Attempts, Load, Lost, PEERS, Peers, Placed};
+use crate::{Limits, Load, PEERS, Peers, Placed};
 use pp_pipe::{MAX_ASKS, Pipe};
 use pp_text::OutOfMemory;
+
+/// Four connections a host, and asks behind others.
+const FOUR: Limits = Limits {
+    host_connections: 4,
+    pipelines_asks: true,
+};
 
 /// What a connection is to carry: so many asks, how many of them are written, and whether it brought
 /// a response before.
@@ -51,15 +57,15 @@ fn join(peers: &mut Peers, number: u64, host: &[u8], port: u16, wanted: Wanted) 
 #[test]
 fn an_idle_connection_of_the_host_comes_first(rt: HostRuntime) -> Result<(), OutOfMemory> {
     let mut peers = Peers::new(rt.alloc())?;
-    assert_eq!(rt; peers.place(b"h", 80, false), Placed::Dial);
+    assert_eq!(rt; peers.place(FOUR, b"h", 80, false), Placed::Dial);
     join(&mut peers, 7, b"h", 80, (1, 1, true));
-    assert_eq!(rt; peers.place(b"h", 80, false), Placed::Dial);
+    assert_eq!(rt; peers.place(FOUR, b"h", 80, false), Placed::Dial);
     join(&mut peers, 6, b"h", 80, NOTHING);
     join(&mut peers, 5, b"h", 80, NOTHING);
-    assert_eq!(rt; peers.place(b"h", 80, false), Placed::On(5));
-    assert_eq!(rt; peers.place(b"h", 80, true), Placed::Dial);
-    assert_eq!(rt; peers.place(b"h", 81, false), Placed::Dial);
-    assert_eq!(rt; peers.place(b"g", 80, false), Placed::Dial);
+    assert_eq!(rt; peers.place(FOUR, b"h", 80, false), Placed::On(5));
+    assert_eq!(rt; peers.place(FOUR, b"h", 80, true), Placed::Dial);
+    assert_eq!(rt; peers.place(FOUR, b"h", 81, false), Placed::Dial);
+    assert_eq!(rt; peers.place(FOUR, b"g", 80, false), Placed::Dial);
     Ok(())
 }
 
@@ -70,21 +76,21 @@ fn a_host_has_four_connections_at_most(rt: HostRuntime) -> Result<(), OutOfMemor
     join(&mut peers, 2, b"h", 80, (2, 1, true));
     join(&mut peers, 3, b"h", 80, (1, 0, false));
     join(&mut peers, 9, b"g", 80, NOTHING);
-    assert_eq!(rt; peers.place(b"h", 80, false), Placed::Dial);
+    assert_eq!(rt; peers.place(FOUR, b"h", 80, false), Placed::Dial);
     join(&mut peers, 4, b"h", 80, (8, 1, true));
     // The fewest outstanding asks, of those that take one more; the idle one of another host is not the host's.
-    assert_eq!(rt; peers.place(b"h", 80, false), Placed::On(2));
-    assert_eq!(rt; peers.place(b"h", 80, true), Placed::Wait);
+    assert_eq!(rt; peers.place(FOUR, b"h", 80, false), Placed::On(2));
+    assert_eq!(rt; peers.place(FOUR, b"h", 80, true), Placed::Wait);
     load(&mut peers, 2, (8, 1, true));
-    assert_eq!(rt; peers.place(b"h", 80, false), Placed::On(1));
+    assert_eq!(rt; peers.place(FOUR, b"h", 80, false), Placed::On(1));
     load(&mut peers, 1, (3, 2, false));
-    assert_eq!(rt; peers.place(b"h", 80, false), Placed::Wait);
+    assert_eq!(rt; peers.place(FOUR, b"h", 80, false), Placed::Wait);
     load(&mut peers, 3, NOTHING);
-    assert_eq!(rt; peers.place(b"h", 80, false), Placed::On(3));
-    assert_eq!(rt; peers.place(b"h", 80, true), Placed::CloseThenDial(3));
+    assert_eq!(rt; peers.place(FOUR, b"h", 80, false), Placed::On(3));
+    assert_eq!(rt; peers.place(FOUR, b"h", 80, true), Placed::CloseThenDial(3));
     peers.gone(3);
     assert_eq!(rt; (peers.has(3), peers.load(3)), (false, None));
-    assert_eq!(rt; peers.place(b"h", 80, true), Placed::Dial);
+    assert_eq!(rt; peers.place(FOUR, b"h", 80, true), Placed::Dial);
     Ok(())
 }
 
@@ -96,13 +102,22 @@ fn the_lowest_idle_one_gives_way_where_64_are_there(rt: HostRuntime) -> Result<(
         join(&mut peers, 100 - number, &host, 80, (1, 1, true));
     }
     assert_eq!(rt; peers.len(), 64);
-    assert_eq!(rt; peers.place(b"z", 80, false), Placed::Wait);
-    assert_eq!(rt; peers.place(b"a", 80, false), Placed::On(97));
+    assert_eq!(rt; peers.place(FOUR, b"z", 80, false), Placed::Wait);
+    assert_eq!(rt; peers.place(FOUR, b"a", 80, false), Placed::On(97));
     load(&mut peers, 90, NOTHING);
     load(&mut peers, 50, NOTHING);
-    assert_eq!(rt; peers.place(b"z", 80, false), Placed::CloseThenDial(50));
-    assert_eq!(rt; peers.place(b"z", 80, true), Placed::CloseThenDial(50));
-    assert_eq!(rt; peers.place(b"c", 80, true), Placed::CloseThenDial(90));
+    assert_eq!(rt;
+        peers.place(FOUR, b"z", 80, false),
+        Placed::CloseThenDial(50)
+    );
+    assert_eq!(rt;
+        peers.place(FOUR, b"z", 80, true),
+        Placed::CloseThenDial(50)
+    );
+    assert_eq!(rt;
+        peers.place(FOUR, b"c", 80, true),
+        Placed::CloseThenDial(90)
+    );
     Ok(())
 }
 
@@ -122,13 +137,13 @@ fn the_33rd_ask_of_a_host_waits_for_the_first_connection_with_room(
     for number in 1u64..5 {
         join(&mut peers, number, b"h", 80, (8, 8, true));
     }
-    assert_eq!(rt; peers.place(b"h", 80, false), Placed::Wait);
+    assert_eq!(rt; peers.place(FOUR, b"h", 80, false), Placed::Wait);
     answer(&mut peers, 3);
-    assert_eq!(rt; peers.place(b"h", 80, false), Placed::On(3));
+    assert_eq!(rt; peers.place(FOUR, b"h", 80, false), Placed::On(3));
     if let Some(pipe) = peers.pipe(3) {
         ask(pipe, 1, 1);
     }
-    assert_eq!(rt; peers.place(b"h", 80, false), Placed::Wait);
+    assert_eq!(rt; peers.place(FOUR, b"h", 80, false), Placed::Wait);
     Ok(())
 }
 
@@ -167,16 +182,4 @@ fn a_pipe_is_that_of_its_connection_and_new_ones_carry_nothing(
         None => assert!(rt; false),
     }
     Ok(())
-}
-
-#[test]
-fn a_request_fails_at_the_last_loss_in_a_row(rt: HostRuntime) {
-    let mut attempts = Attempts::new(3);
-    assert_eq!(rt; attempts.lose(), Lost::Again);
-    assert_eq!(rt; attempts.lose(), Lost::Again);
-    attempts.gain();
-    assert_eq!(rt; attempts.lose(), Lost::Again);
-    assert_eq!(rt; attempts.lose(), Lost::Again);
-    assert_eq!(rt; attempts.lose(), Lost::Failed);
-    assert_eq!(rt; Attempts::new(1).lose(), Lost::Failed);
 }

@@ -1,5 +1,5 @@
 // Where the asks of a host go while it has 0 to 4 connections, alone or with 64 in all.
-use super::{NOTHING, Wanted, join};
+use super::{FOUR, NOTHING, Wanted, join};
 use crate::{Peers, Placed};
 use pp_text::OutOfMemory;
 
@@ -156,7 +156,10 @@ fn placings(peers: &mut Peers, case: &Case) -> [(Placed, Placed); 5] {
             peers.gone(100 + count as u64);
             join(peers, 15 - count as u64, b"h", 80, case.carried);
         }
-        placings[count] = (peers.place(b"h", 80, false), peers.place(b"h", 80, true));
+        placings[count] = (
+            peers.place(FOUR, b"h", 80, false),
+            peers.place(FOUR, b"h", 80, true),
+        );
     }
     placings
 }
