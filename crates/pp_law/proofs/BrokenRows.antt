@@ -7,7 +7,7 @@ use Rattle.pp_world.specs.declared.note.Decision.TheVariants.{Refuse, Pass}
 use Rattle.pp_law.specs.Lawful.{first_fault, EventOutOfTurn, ReadNotAskedFor, FailureMadeUp, WrongReply, WrongAsk, WrongDecision, WrongCut, NotToBeClosed, NotToBeDialled, StepUnfinished, ClientForgotten, ConnectionForgotten, WantsTooMuch}
 use Rattle.pp_law.proofs.OnLiterals.{pp_law_on_literals}
 use Rattle.pp_law.proofs.Worked.{no_words, wait, broken, opening, client_sends, client_gets, request, ask_text, reply_head, origin_sends}
-use Rattle.pp_law.proofs.PassingRows.{passed, answered}
+use Rattle.pp_law.proofs.PassingRows.{passed, answered, ended_early}
 
 -- the body before the head
 out_of_order : first_fault no_words (answered ++ client_gets (codes "hello")) ≡ broken 23 WrongReply
@@ -70,10 +70,15 @@ cut_for_nothing : first_fault no_words (passed ++ origin_sends (codes "HTTP/1.1 
 unfolding pp_law_on_literals
 cut_for_nothing = refl
 
--- a reply that was begun goes on where its origin ended
-not_cut : first_fault no_words (passed ++ origin_sends (codes "HTTP/1.1 200 OK\r\nContent-Length: 10\r\n\r\nhello") ++ wait (1 ∷ 2 ∷ []) (1 ∷ []) ∷ CanRead 2 ∷ Ended 2 ∷ Dropped 2 ∷ []) ≡ broken 24 NotToBeClosed
+-- a reply that was begun goes on where its origin ended, and all that came was said
+not_cut : first_fault no_words (ended_early ++ wait (1 ∷ []) (1 ∷ []) ∷ client_gets (codes "hello") ++ wait (1 ∷ []) [] ∷ []) ≡ broken 31 StepUnfinished
 unfolding pp_law_on_literals
 not_cut = refl
+
+-- what came is thrown away
+cut_too_early : first_fault no_words (ended_early ++ Noted (Cut 1 Short) ∷ []) ≡ broken 28 WrongCut
+unfolding pp_law_on_literals
+cut_too_early = refl
 
 -- 502 after one attempt
 too_early : first_fault no_words (passed ++ Broke 2 ∷ Noted (Taken 1 0 (Refuse 502)) ∷ []) ≡ broken 20 WrongDecision

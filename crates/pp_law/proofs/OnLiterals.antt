@@ -13,18 +13,18 @@ use Rattle.pp_law.specs.Requests.{front_of}
 use Rattle.pp_law.specs.Connections.{on_conn, on_exchange, on_client, on_client_of, lose_attempt, fail, end_exchange, leave_place, lose_place, lose_places, close_conn, put_on}
 use Rattle.pp_law.specs.Chunks.{use_chunk, drop_chunk, note_use}
 use Rattle.pp_law.specs.Table.{on_instance, forget, forget_each, swept, clear, mark_row, forget_row, with_room, add_row, make_row, enter}
-use Rattle.pp_law.specs.Passing.{pass_on, pour}
-use Rattle.pp_law.specs.OwnHeads.{tell, bind, useless, renew, settle_on, lose_own, settle_row, settle_known, settle, refresh_row, refresh_known, not_modified, cleared_by, relay_head, other_head, other_part, own_head, count_useless, part_head, filling_head, invalidated, through_head, note_own, note_sent, join, join_bound}
+use Rattle.pp_law.specs.Passing.{pour}
+use Rattle.pp_law.specs.OwnHeads.{tell, bind, useless, renew, settle_on, renew_row, refresh, settle_known, settle, settle_unchanged, not_modified, cleared_by, relay_head, other_head, other_part, own_head, count_elsewhere, part_head, filling_head, invalidated, through_head, note_own, note_sent, join, join_bound}
 use Rattle.pp_law.specs.Responses.{skip_body, close_this, finish, bad_response, by_aim, end_if_empty, begin_answer, answer_for, head_came, deliver, got, finish_first, ended}
-use Rattle.pp_law.specs.Closing.{leave_one, leave_each, close_client}
-use Rattle.pp_law.specs.Deciding.{leave_unplaced, refuse, begin_exchange, ask_for, ask_as, ask_origin, follow_row, follow, relay, mark_row_of, enter_row, decided_by, decided}
-use Rattle.pp_law.specs.Replies.{begin_replies, use_next, end_reply, end_each, close_finished, end_replies, regained}
+use Rattle.pp_law.specs.Closing.{forsake, leave, leave_one, leave_each, close_client}
+use Rattle.pp_law.specs.Deciding.{refuse, add_exchange, begin_exchange, ask_for, ask_as, ask_origin, follow_with, follow_row, follow, relay, mark_row_of, enter_row, decided_by, decided}
+use Rattle.pp_law.specs.Replies.{begin_replies, use_chunks, use_from, use_said, end_reply, end_each, close_finished, end_replies, regained}
 use Rattle.pp_law.specs.Followers.{fill_with, fill_span, fill_next, fill_for, fill_each, fill, give_up_asks}
 use Rattle.pp_law.specs.Asking.{hear, ask_body, ask_next, ask, hang_up}
 use Rattle.pp_law.specs.Store.{remove_entry, note_gone, begin_op, enter_next, close_name, end_op, lose_entry, note_kept, load_from, load}
 use Rattle.pp_law.specs.Opening.{with_settings, begun, woken, stuck, opened_to, configured, lose_in_opening}
-use Rattle.pp_law.specs.Turn.{behind_2, to_3, to_4, to_6, to_7, to_decide, touch, first_marks, close_idle, tick_to, tick, ending, rest_with}
-use Rattle.pp_law.specs.After.{opened, owing, reached, paid, use_said, said, gone, in_step_7, take_decision, evicted, refused_row, forgotten_row, forgotten_by, noted, begun_op, ended_op, unread, shut, dialled, undialled, out, dropped, rested, changed, after}
+use Rattle.pp_law.specs.Turn.{behind_2, to_3, to_4, to_6, to_7, to_decide, touch, first_marks, close_idle, renew_marks, tick_to, tick, ending, rest_with}
+use Rattle.pp_law.specs.After.{event, opened, owing, reached, paid, said, gone, in_step_7, take_decision, evicted, refused_row, forgotten_row, forgotten_by, noted, begun_op, ended_op, unread, shut, dialled, refused_dial, undialled, out, dropped, rested, changed}
 use Rattle.pp_law.specs.Permits.{permits, is_permitted}
 use Rattle.pp_law.specs.Lawful.{rule_of}
 
@@ -35,18 +35,18 @@ unfolding clap_on_literals httpdate_on_literals pp_head_on_literals pp_target_on
     on_conn on_exchange on_client on_client_of lose_attempt fail end_exchange leave_place lose_place lose_places close_conn put_on
     use_chunk drop_chunk note_use
     on_instance forget forget_each swept clear mark_row forget_row with_room add_row make_row enter
-    pass_on pour
-    tell bind useless renew settle_on lose_own settle_row settle_known settle refresh_row refresh_known not_modified cleared_by relay_head other_head other_part own_head count_useless part_head filling_head invalidated through_head note_own note_sent join join_bound
+    pour
+    tell bind useless renew settle_on renew_row refresh settle_known settle settle_unchanged not_modified cleared_by relay_head other_head other_part own_head count_elsewhere part_head filling_head invalidated through_head note_own note_sent join join_bound
     skip_body close_this finish bad_response by_aim end_if_empty begin_answer answer_for head_came deliver got finish_first ended
-    leave_one leave_each close_client
-    leave_unplaced refuse begin_exchange ask_for ask_as ask_origin follow_row follow relay mark_row_of enter_row decided_by decided
-    begin_replies use_next end_reply end_each close_finished end_replies regained
+    forsake leave leave_one leave_each close_client
+    refuse add_exchange begin_exchange ask_for ask_as ask_origin follow_with follow_row follow relay mark_row_of enter_row decided_by decided
+    begin_replies use_chunks use_from use_said end_reply end_each close_finished end_replies regained
     fill_with fill_span fill_next fill_for fill_each fill give_up_asks
     hear ask_body ask_next ask hang_up
     remove_entry note_gone begin_op enter_next close_name end_op lose_entry note_kept load_from load
     with_settings begun woken stuck opened_to configured lose_in_opening
-    behind_2 to_3 to_4 to_6 to_7 to_decide touch first_marks close_idle tick_to tick ending rest_with
-    opened owing reached paid use_said said gone in_step_7 take_decision evicted refused_row forgotten_row forgotten_by noted begun_op ended_op unread shut dialled undialled out dropped rested changed after
+    behind_2 to_3 to_4 to_6 to_7 to_decide touch first_marks close_idle renew_marks tick_to tick ending rest_with
+    event opened owing reached paid said gone in_step_7 take_decision evicted refused_row forgotten_row forgotten_by noted begun_op ended_op unread shut dialled refused_dial undialled out dropped rested changed
     permits is_permitted
     rule_of
 pp_law_on_literals = tt

@@ -82,8 +82,8 @@ hangs_up : first_fault no_words (opening ++ client_sends (codes "GET ") ++ wait 
 unfolding pp_law_on_literals
 hangs_up = refl
 
--- it may be shut before, at any time
-shut_at_once : first_fault no_words (opening ++ client_sends not_absolute ++ Noted (Taken 1 0 (Refuse 400)) ∷ wait (1 ∷ []) (1 ∷ []) ∷ CanRead 1 ∷ HungUp 1 ∷ Shut 1 ∷ wait [] [] ∷ []) ≡ None
+-- it is not shut before
+shut_at_once : first_fault no_words (opening ++ client_sends not_absolute ++ Noted (Taken 1 0 (Refuse 400)) ∷ wait (1 ∷ []) (1 ∷ []) ∷ CanRead 1 ∷ HungUp 1 ∷ Shut 1 ∷ []) ≡ broken 15 NotToBeClosed
 unfolding pp_law_on_literals
 shut_at_once = refl
 

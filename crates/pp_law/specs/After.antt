@@ -1,6 +1,5 @@
 -- The state after one happening.
 use Rattle.std.specs.Prelude.{ℕ, ◌+◌, Bool, true, false, ◌==◌, ◌&&◌, ◌||◌, not, List, [], ◌∷◌, ◌++◌, length, map, filter, Some, None}
-use Rattle.pp_plan.specs.declared.table.Begun.TheVariants.{Nothing}
 use Rattle.pp_world.specs.declared.event.Wants.{Wants}
 use Rattle.pp_world.specs.declared.happening.Happening.{Happening}
 use Rattle.pp_world.specs.declared.happening.Happening.TheVariants.{Woke, Waits, Clock, Opened, CanRead, CanWrite, Heard, HungUp, Said, Shut, Dialled, Undialled, Reached, Ended, Broke, Asked, Got, Dropped, NoneYet, Began, Did, Unread, Noted, Rooted, Listed, Listens, Configured, Printed, Stopped}
@@ -8,17 +7,17 @@ use Rattle.pp_world.specs.declared.note.Remark.{Remark}
 use Rattle.pp_world.specs.declared.note.Remark.TheVariants.{Taken, Cut, Kept, Gone, Forgotten, Evicted, Loaded}
 use Rattle.pp_world.specs.declared.op.DiskOp.{DiskOp}
 use Rattle.pp_law.specs.Asking.{hear, ask, hang_up}
-use Rattle.pp_law.specs.Chunks.{drop_chunk, note_use}
+use Rattle.pp_law.specs.Chunks.{drop_chunk}
 use Rattle.pp_law.specs.Closing.{close_client}
 use Rattle.pp_law.specs.Deciding.{decided}
 use Rattle.pp_law.specs.Due.{still_waits}
-use Rattle.pp_law.specs.Connections.{client, conn, on_client, on_conn, is_client, is_conn, put_on, lose_attempt, placing, Placement, AllPlaced, WaitsDial, WaitsDrop}
-use Rattle.pp_law.specs.Lists.{Bytes, without, is_this}
+use Rattle.pp_law.specs.Connections.{client, conn, on_client, on_conn, is_client, is_conn, put_on, lose_attempt, may_ask_again, end_exchange, placing, Placement, AllPlaced, WaitsDial, WaitsDrop}
+use Rattle.pp_law.specs.Lists.{Bytes, change, without}
 use Rattle.pp_law.specs.Opening.{woken, configured, opened_to, is_opening, lose_in_opening}
-use Rattle.pp_law.specs.Replies.{said_by, use_next, end_replies, regained}
+use Rattle.pp_law.specs.Replies.{said_by, use_said, end_replies, regained}
 use Rattle.pp_law.specs.Requests.{NoHeadYet}
 use Rattle.pp_law.specs.Responses.{got, ended}
-use Rattle.pp_law.specs.State.{State, Client, Conn, Instance, Undecided, IsRooted, IsListed, IsListening, Owed, Free, ReadOf, WriteTo}
+use Rattle.pp_law.specs.State.{State, Client, Conn, Exchange, Instance, Brought, Awaited, Useless, Joins, Passes, TooWide, Trying, RowRefused, Undecided, IsRooted, IsListed, IsListening, Owed, Free, ReadOf, WriteTo}
 use Rattle.pp_law.specs.Store.{begin_op, end_op, close_name, name_for, note_kept, note_gone, load}
 use Rattle.pp_law.specs.Table.{row, forget}
 use Rattle.pp_law.specs.Turn.{step, at_step, due_victim, is_awaiting, to_3, to_6, to_decide, touch, tick, ending, rest_with}
@@ -35,14 +34,8 @@ new_client n now = record {
   index = 0;
   stage = Undecided;
   waits_on = None;
-  passed = None;
-  begun = Nothing;
-  settled = None;
-  is_told = false;
-  has_plain_age = false;
-  lost = 0;
-  has_failed = false;
-  is_too_long = false;
+  brought = Awaited;
+  course = Trying 0;
   interim_left = [];
   closes = false;
   is_closing = false;
@@ -68,8 +61,8 @@ new_conn n host port now = record {
 
 -- ---- events
 
-abbrev pub event : State → State
-event s = at_step 1 s
+unfoldable pub event : State → State
+event s = regained (at_step 1 s)
 
 unfoldable pub opened : ℕ → State → State
 opened n s = record s { clients = s.clients ++ new_client n s.clock ∷ []; top = n }
@@ -83,11 +76,7 @@ reached n s = touch n (on_conn n (λ k. record k { is_reached = true }) s)
 -- ---- reads and writes
 
 unfoldable pub paid : State → State
-paid s = record s { owed = Free }
-
--- a write that took nothing is no use of a chunk
-unfoldable pub use_said : ℕ → Client → State → State
-use_said n c s = elim (n == 0) [ true ↦ s | false ↦ use_next c s ]
+paid s = regained (record s { owed = Free })
 
 unfoldable pub said : ℕ → ℕ → State → State
 said c n s = elim (client s c) [ None ↦ s | Some x ↦ end_replies (on_client c (said_by n) (use_said n x s)) ]
@@ -101,22 +90,28 @@ unfoldable pub in_step_7 : State → State
 in_step_7 s = record s { is_again = step s == 7 }
 
 unfoldable pub take_decision : ℕ → State → (Client → State → State) → State
-take_decision n s decide = elim (client s n) [ None ↦ s | Some c ↦ record (in_step_7 (decide c s)) { forgotten = []; has_made_room = false } ]
+take_decision n s decide = elim (client s n) [ None ↦ s | Some c ↦ regained (record (in_step_7 (decide c s)) { forgotten = []; has_made_room = false }) ]
 
 -- the chunk that has to go next goes
 unfoldable pub evicted : State → State
 evicted s = elim (due_victim s) [ None ↦ s | Some place ↦ drop_chunk place.0 place.1 (at_step 2 s) ]
 
+abbrev pub joins : ℕ → Brought → Bool
+joins id Awaited = false
+joins id Useless = false
+joins id (Joins x plain) = x == id
+joins id (Passes p) = false
+joins id TooWide = false
+
 -- it waits for that row: the response to the exchange of its request made it, or brought it in
 abbrev pub waits_for_row : ℕ → Client → Bool
-waits_for_row id c = not c.is_closing && is_this id c.settled && still_waits c
-
-abbrev pub clients_of : State → ℕ → List ℕ
-clients_of s id = map (λ c. c.number) (filter (waits_for_row id) s.clients)
+waits_for_row id c = not c.is_closing && joins id c.brought && still_waits c
 
 -- a row for which memory was refused
 unfoldable pub refused_row : Instance → State → State
-refused_row x s = record (forget x.id s) { refused = s.refused ++ clients_of s x.id }
+refused_row x s =
+    let t : State = forget x.id s in
+    record t { clients = change (waits_for_row x.id) (λ c. record c { course = RowRefused }) t.clients }
 
 unfoldable pub forgotten_row : Instance → State → State
 forgotten_row x s = elim x.is_new [ true ↦ refused_row x s | false ↦ record (forget x.id (to_decide s)) { has_made_room = true } ]
@@ -164,11 +159,15 @@ dialled n host port p = elim p.pause [
   | WaitsDial e ↦ put_on e.number n (record p.state { conns = p.state.conns ++ new_conn n host port p.state.clock ∷ []; top = n })
 ]
 
+-- it is asked elsewhere; or it is over, and whoever waited for what it brings asks for himself
+unfoldable pub refused_dial : Exchange → State → State
+refused_dial e s = elim (may_ask_again s e) [ true ↦ s | false ↦ record (end_exchange e.number s) { is_again = true } ]
+
 unfoldable pub undialled : Placement → State
 undialled p = elim p.pause [
   | AllPlaced ↦ p.state
   | WaitsDrop k e ↦ p.state
-  | WaitsDial e ↦ lose_attempt e (record p.state { failures = p.state.failures + 1 })
+  | WaitsDial e ↦ refused_dial e (lose_attempt e (record p.state { failures = p.state.failures + 1 }))
 ]
 
 unfoldable pub out : ℕ → State → State
@@ -200,7 +199,7 @@ changed s (Reached k) = event (reached k s)
 changed s (Ended k) = paid (gone true k s)
 changed s (Broke k) = paid (gone false k (event s))
 changed s (Asked k bytes) = paid (ask k (length bytes) s)
-changed s (Got k bytes) = paid (note_use (end_replies (got (length bytes) k bytes s)))
+changed s (Got k bytes) = paid (end_replies (got (length bytes) k bytes s))
 changed s (Dropped k) = dropped k (to_6 s)
 changed s (NoneYet n) = paid s
 changed s (Began op) = begun_op op s
@@ -214,5 +213,5 @@ changed s (Configured file text) = configured text s
 changed s (Printed text) = s
 changed s Stopped = event (record s { is_stopped = true })
 
-unfoldable pub after : State → Happening → State
-after s h = regained (changed s h)
+abbrev pub after : State → Happening → State
+after s h = changed s h

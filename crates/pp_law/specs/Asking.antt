@@ -1,14 +1,15 @@
 -- What is asked of origins, and heard of clients (RFC 2616, sections 5 and 8.2).
-use Rattle.std.specs.Prelude.{ℕ, ◌+◌, ◌-◌, Bool, true, false, ◌==◌, ◌&&◌, ◌||◌, not, nat_lt, nat_le, nat_eq, min, [], length, take, drop, find, Option, Some, None, option_and_then}
+use Rattle.std.specs.Prelude.{ℕ, ◌+◌, ◌-◌, Bool, true, false, ◌==◌, ◌&&◌, ◌||◌, not, nat_lt, nat_le, nat_eq, min, [], length, take, drop, find, Option, Some, None, option_and_then, option_map}
 use Rattle.std.specs.List.{starts_with}
 use Rattle.pp_pass.specs.Pipe.{room_of}
 use Rattle.pp_text.specs.Bytes.{is_empty}
 use Rattle.pp_law.specs.Closing.{close_client}
 use Rattle.pp_law.specs.Decisions.{text_limit}
-use Rattle.pp_law.specs.Hearing.{heard_by}
+use Rattle.pp_law.specs.Hearing.{heard_by, what_counts}
 use Rattle.pp_law.specs.Connections.{client, conn, exchange, is_for, on_client, on_client_of, on_exchange, is_outstanding, front_of_line}
 use Rattle.pp_law.specs.Lists.{Bytes, first_some, is_some_with}
 use Rattle.pp_law.specs.Replies.{end_replies}
+use Rattle.pp_law.specs.Stages.{passed_of}
 use Rattle.pp_law.specs.State.{State, Client, Exchange, Owed, Free, ReadOf, WriteTo}
 
 -- ---- of a client
@@ -21,11 +22,14 @@ abbrev pub has_room : Client → Bool
 has_room c = nat_lt (length c.heard) text_limit
 
 abbrev pub fits_heard : Bytes → Client → Bool
-fits_heard bytes c = nat_le (length c.heard + length (drop c.skip bytes)) text_limit
+fits_heard bytes c = nat_le (length c.heard + length (what_counts c.front (drop c.skip bytes))) text_limit
 
--- ours: one read takes at most 8,192 bytes
+-- ours: one read takes at most so many bytes
+abbrev pub read_limit : ℕ
+read_limit = 32768
+
 abbrev pub is_read : ℕ → Bytes → Bool
-is_read most bytes = nat_le 1 (length bytes) && nat_le (length bytes) (min 8192 most)
+is_read most bytes = nat_le 1 (length bytes) && nat_le (length bytes) (min read_limit most)
 
 -- ---- of an origin
 
@@ -65,13 +69,13 @@ ask k n s = elim (asking s k) [ None ↦ s | Some e ↦ ask_next e n s ]
 
 -- ours: a read takes no more than the pipe of the first exchange has room for
 abbrev pub pipe_room : Exchange → Client → Option ℕ
-pipe_room e c = elim c.passed [ None ↦ None | Some p ↦ elim (is_for e c && (p.exchange == e.number)) [ true ↦ Some (room_of p.pipe) | false ↦ None ] ]
+pipe_room e c = elim (is_for e c) [ false ↦ None | true ↦ option_map (λ p. room_of p.pipe) (passed_of c) ]
 
 abbrev pub room_for : State → Exchange → ℕ
-room_for s e = elim (first_some (pipe_room e) s.clients) [ None ↦ 8192 | Some n ↦ n ]
+room_for s e = elim (first_some (pipe_room e) s.clients) [ None ↦ read_limit | Some n ↦ n ]
 
 abbrev pub read_room : State → ℕ → ℕ
-read_room s n = elim (conn s n) [ None ↦ 0 | Some k ↦ elim (front_of_line s k) [ None ↦ 8192 | Some e ↦ room_for s e ] ]
+read_room s n = elim (conn s n) [ None ↦ 0 | Some k ↦ elim (front_of_line s k) [ None ↦ read_limit | Some e ↦ room_for s e ] ]
 
 -- ---- what the event asks for
 
@@ -93,7 +97,7 @@ hang_up n s = elim (is_writing s.owed n) [
 ]
 
 abbrev pub permits_heard : State → ℕ → Bytes → Bool
-permits_heard s n bytes = is_reading s.owed n && is_read 8192 bytes && is_some_with (fits_heard bytes) (client s n)
+permits_heard s n bytes = is_reading s.owed n && is_read read_limit bytes && is_some_with (fits_heard bytes) (client s n)
 
 abbrev pub permits_got : State → ℕ → Bytes → Bool
 permits_got s n bytes = is_reading s.owed n && is_read (read_room s n) bytes

@@ -1,8 +1,31 @@
--- What becomes of the exchanges of a client that is closed (RFC 2616, section 8.1.4).
-use Rattle.std.specs.Prelude.{ℕ, Bool, true, false, ◌==◌, ◌||◌, List, [], ◌∷◌, filter, Some, None}
-use Rattle.pp_law.specs.Connections.{conn, on_client, end_exchange, close_conn}
+-- What becomes of exchanges that their request leaves (RFC 2616, section 8.1.4): each is nobody's from then on. It is read to
+-- its end and changes the table as any does, but it is told to no client, passed to none, and counts for none.
+use Rattle.std.specs.Prelude.{ℕ, Bool, true, false, ◌==◌, ◌||◌, not, List, [], ◌∷◌, filter, is_some, Some, None}
+use Rattle.pp_law.specs.Connections.{conn, on_client, on_exchange, end_exchange, close_conn}
+use Rattle.pp_law.specs.Lists.{change, without, is_this}
 use Rattle.pp_law.specs.State.{State, Exchange}
 use Rattle.pp_law.specs.Table.{swept}
+
+abbrev pub is_of : ℕ → Exchange → Bool
+is_of n e = is_this n e.asker
+
+abbrev pub left_alone : Exchange → Exchange
+left_alone e = record e { asker = None }
+
+-- these are left
+unfoldable pub forsake : (Exchange → Bool) → State → State
+forsake test s = record s { exchanges = change test left_alone s.exchanges }
+
+abbrev pub is_over : Exchange → Bool
+is_over e = not (is_some e.asker || is_some e.place)
+
+-- at a decision, also before they had a place, and then they are over
+unfoldable pub leave : (Exchange → Bool) → State → State
+leave test s =
+    let t : State = forsake test s in
+    record t { exchanges = without is_over t.exchanges }
+
+-- ---- a client is closed
 
 -- its exchanges: those of which nothing was asked are over; a response that was asked for is read to its end; where a body
 -- cannot be asked any more, the connection is dropped
@@ -12,7 +35,7 @@ leave_one e s = elim e.place [
   | Some k ↦ elim (e.asked == 0) [
     | true ↦ end_exchange e.number s
     | false ↦ elim (e.body_left == 0) [
-      | true ↦ s
+      | true ↦ on_exchange e.number left_alone s
       | false ↦ elim (conn s k) [ None ↦ s | Some j ↦ close_conn false j (end_exchange e.number s) ]
     ]
   ]
@@ -23,7 +46,7 @@ leave_each [] s = s
 leave_each (e ∷ es) s = leave_each es (leave_one e s)
 
 abbrev pub exchanges_of : ℕ → State → List Exchange
-exchanges_of n s = filter (λ e. e.client == n) s.exchanges
+exchanges_of n s = filter (is_of n) s.exchanges
 
 -- its cause to be closed has come
 unfoldable pub close_client : ℕ → Bool → State → State

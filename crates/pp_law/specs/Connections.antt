@@ -7,9 +7,10 @@ use Rattle.pp_peers.specs.Placing.{place}
 use Rattle.pp_peers.specs.declared.peers.Peer.{Peer}
 use Rattle.pp_peers.specs.declared.placing.Placed.{Placed}
 use Rattle.pp_peers.specs.declared.placing.Placed.TheVariants.{On, Dial, CloseThenDial, Wait}
-use Rattle.pp_law.specs.Lists.{change, without, is_some_with}
+use Rattle.pp_law.specs.Lists.{change, without, is_some_with, is_this}
 use Rattle.pp_law.specs.Requests.{goes_alone}
-use Rattle.pp_law.specs.State.{State, Client, Conn, Exchange, Passed}
+use Rattle.pp_law.specs.Stages.{on_passed}
+use Rattle.pp_law.specs.State.{State, Client, Conn, Exchange, Course, Trying, OutOfTries, AskTooLong, RowRefused, Passed}
 
 -- ---- by number
 
@@ -40,9 +41,9 @@ on_exchange n f s = record s { exchanges = change (is_exchange n) f s.exchanges 
 unfoldable pub on_client : ℕ → (Client → Client) → State → State
 on_client n f s = record s { clients = change (is_client n) f s.clients }
 
--- the client of an exchange, as long as it is at that request
+-- the client of an exchange: its request did not leave it
 abbrev pub is_for : Exchange → Client → Bool
-is_for e c = is_client e.client c && (c.index == e.request) && not c.is_closing
+is_for e c = is_this c.number e.asker
 
 unfoldable pub on_client_of : Exchange → (Client → Client) → State → State
 on_client_of e f s = record s { clients = change (is_for e) f s.clients }
@@ -61,15 +62,24 @@ is_outstanding e = e.asked == length e.text
 abbrev pub attempts_of : Exchange → ℕ
 attempts_of e = elim (goes_alone e.head) [ true ↦ 1 | false ↦ 3 ]
 
-abbrev pub lost_one : ℕ → Client → Client
-lost_one most c = record c { lost = c.lost + 1; has_failed = c.has_failed || nat_le most (c.lost + 1) }
+abbrev pub lost_one : ℕ → Course → Course
+lost_one most (Trying n) = elim (nat_le most (n + 1)) [ true ↦ OutOfTries | false ↦ Trying (n + 1) ]
+lost_one most course = course
 
 unfoldable pub lose_attempt : Exchange → State → State
-lose_attempt e s = on_client_of e (lost_one (attempts_of e)) s
+lose_attempt e s = on_client_of e (λ c. record c { course = lost_one (attempts_of e) c.course }) s
 
 -- its attempts end at once
 unfoldable pub fail : Exchange → State → State
-fail e s = on_client_of e (λ c. record c { has_failed = true }) s
+fail e s = on_client_of e (λ c. record c { course = OutOfTries }) s
+
+abbrev pub is_trying : Course → Bool
+is_trying (Trying n) = true
+is_trying course = false
+
+-- its request waits for it, and may ask once more
+abbrev pub may_ask_again : State → Exchange → Bool
+may_ask_again s e = list_any (λ c. is_for e c && is_trying c.course) s.clients
 
 -- ---- an exchange is over
 
@@ -79,24 +89,14 @@ without_ask n k = record k { line = filter (λ m. not (m == n)) k.line }
 unfoldable pub end_exchange : ℕ → State → State
 end_exchange n s = record s { exchanges = without (is_exchange n) s.exchanges; conns = map (without_ask n) s.conns }
 
-abbrev pub short_of : ℕ → Passed → Passed
-short_of n p = elim (p.exchange == n) [ true ↦ record p { is_short = true } | false ↦ p ]
-
-abbrev pub on_passed : (Passed → Passed) → Client → Client
-on_passed f c = record c { passed = elim c.passed [ None ↦ None | Some p ↦ Some (f p) ] }
-
 abbrev pub unplaced : Exchange → Exchange
 unplaced e = record e { place = None; asked = 0 }
 
--- somebody still wants its response
-abbrev pub has_client : State → Exchange → Bool
-has_client s e = list_any (λ c. is_client e.client c && not c.is_closing) s.clients
-
--- its connection is gone: behind its head it is over, and before that it is asked again
+-- its connection is gone: behind its head it is over, and before that it is asked again for the request that waits for it
 unfoldable pub leave_place : Exchange → State → State
 leave_place e s = elim e.is_headed [
-  | true ↦ end_exchange e.number (on_client_of e (on_passed (short_of e.number)) s)
-  | false ↦ elim (has_client s e) [ true ↦ on_exchange e.number unplaced s | false ↦ end_exchange e.number s ]
+  | true ↦ end_exchange e.number (on_client_of e (on_passed (λ p. record p { is_short = true })) s)
+  | false ↦ elim (may_ask_again s e) [ true ↦ on_exchange e.number unplaced s | false ↦ end_exchange e.number s ]
 ]
 
 -- counts: its attempt is lost
@@ -138,13 +138,6 @@ peer_of s k = record {
 abbrev pub place_for : State → Exchange → Placed
 place_for s e = place e.key.host e.key.port (goes_alone e.head) (map (peer_of s) (open_conns s))
 
--- its request is to be refused, or its client to be cut
-abbrev pub is_given_up : State → Exchange → Bool
-is_given_up s e = list_any (λ c. is_for e c && c.has_failed) s.clients
-
-abbrev pub wanted_place : State → Exchange → Placed
-wanted_place s e = elim (is_given_up s e) [ true ↦ Wait | false ↦ place_for s e ]
-
 -- it is the last of that line
 unfoldable pub put_on : ℕ → ℕ → State → State
 put_on n k s = on_conn k (λ j. record j { line = j.line ++ n ∷ [] }) (on_exchange n (λ e. record e { place = Some k; asked = 0 }) s)
@@ -164,7 +157,7 @@ abbrev pub place_all : List Exchange → State → Placement
 place_all [] s = record { state = s; pause = AllPlaced }
 place_all (e ∷ es) s = elim e.place [
   | Some k ↦ place_all es s
-  | None ↦ elim (wanted_place s e) [
+  | None ↦ elim (place_for s e) [
     | On k ↦ place_all es (put_on e.number k s)
     | Wait ↦ place_all es s
     | Dial ↦ record { state = s; pause = WaitsDial e }

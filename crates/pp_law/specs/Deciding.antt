@@ -1,10 +1,9 @@
 -- What a decision does: a page, an exchange, or a reply by the row (RFC 2616, sections 13 and 14).
-use Rattle.std.specs.Prelude.{ℕ, ◌+◌, ◌%◌, Bool, true, false, ◌==◌, ◌&&◌, not, List, [], ◌∷◌, ◌++◌, Option, Some, None, option_map, Ok, Err}
+use Rattle.std.specs.Prelude.{ℕ, ◌+◌, ◌%◌, Bool, true, false, ◌==◌, ◌&&◌, not, nat_lt, min, max, [], ◌∷◌, ◌++◌, Option, Some, None, option_map, Ok, Err}
 use Rattle.pp_ask.specs.declared.kind.AskKind.{AskKind}
 use Rattle.pp_ask.specs.declared.kind.AskKind.TheVariants.{Range as AsRange}
 use Rattle.pp_head.specs.Request.{Request}
 use Rattle.pp_plan.specs.Row.{Row}
-use Rattle.pp_plan.specs.declared.table.Begun.TheVariants.{Nothing}
 use Rattle.pp_ranges.specs.Ranges.{range_of}
 use Rattle.pp_ranges.specs.declared.range.Range.{Range}
 use Rattle.pp_ranges.specs.declared.range.Range.TheVariants.{Span, From, Last}
@@ -13,20 +12,14 @@ use Rattle.pp_reply.specs.Texts.{page}
 use Rattle.pp_target.specs.Key.{Key, text_of}
 use Rattle.pp_world.specs.declared.note.Decision.{Decision}
 use Rattle.pp_world.specs.declared.note.Decision.TheVariants.{Refuse, Hit, Part, Head, NotModified, Unsatisfiable, Relay, Validate, Fetch, Pass}
-use Rattle.pp_law.specs.Connections.{on_client, end_exchange}
+use Rattle.pp_law.specs.Closing.{is_of, forsake, leave}
+use Rattle.pp_law.specs.Connections.{on_client}
 use Rattle.pp_law.specs.Lists.{Bytes, is_some_with}
 use Rattle.pp_law.specs.Requests.{Parsed, NoHeadYet, NoHead, IsRequest, key_in, keeps_after, asks_head, expects_interim}
 use Rattle.pp_law.specs.Responses.{skipping}
-use Rattle.pp_law.specs.State.{State, Through, Own, Client, Exchange, Stage, Undecided, Waiting, Passing, Answering, Reply}
-use Rattle.pp_law.specs.Table.{row, row_for, swept, mark_row, enter, must_forget}
+use Rattle.pp_law.specs.State.{State, Through, Own, Awaited, Trying, Client, Exchange, Instance, Stage, Undecided, Waiting, Passing, Answering, Reply}
+use Rattle.pp_law.specs.Table.{row, row_for, swept, mark_row, enter, must_forget, asks_for}
 use Rattle.pp_law.specs.Decisions.{kind_of, text_for}
-use Rattle.pp_law.specs.Due.{is_passing}
-use Rattle.pp_law.specs.Closing.{exchanges_of}
-
--- exchanges without a place of a request that is refused are over
-unfoldable pub leave_unplaced : List Exchange → State → State
-leave_unplaced [] s = s
-leave_unplaced (e ∷ es) s = leave_unplaced es (elim e.place [ None ↦ end_exchange e.number s | Some k ↦ s ])
 
 abbrev pub page_with : ℕ → Bytes → Stage
 page_with status text = Answering (record { decision = Refuse status; source = None; has_begun = true; head_left = text; at = 0; to = 0 })
@@ -35,8 +28,8 @@ page_with status text = Answering (record { decision = Refuse status; source = N
 abbrev pub interim_for : Client → Parsed → Bytes
 interim_for c r = elim c.stage [
   | Undecided ↦ elim (expects_interim r) [ true ↦ interim | false ↦ [] ]
-  | Waiting e ↦ c.interim_left
-  | Passing e ↦ c.interim_left
+  | Waiting ↦ c.interim_left
+  | Passing ↦ c.interim_left
   | Answering reply ↦ c.interim_left
 ]
 
@@ -48,16 +41,19 @@ refused_with status c = skipping (record c {
   interim_left = first_interim c;
   stage = page_with status (page status (asks_head c.front) (keeps_after status c.front));
   closes = not (keeps_after status c.front);
-  is_told = false;
-  has_failed = false;
-  is_too_long = false;
+  brought = Awaited;
+  course = Trying 0;
 })
 
 unfoldable pub refuse : Client → ℕ → State → State
-refuse c status s = swept (leave_unplaced (exchanges_of c.number s) (on_client c.number (refused_with status) s))
+refuse c status s = swept (leave (is_of c.number) (on_client c.number (refused_with status) s))
 
+unfoldable pub add_exchange : Exchange → State → State
+add_exchange e s = record s { exchanges = s.exchanges ++ e ∷ []; next_exchange = s.next_exchange + 1 }
+
+-- the exchange begun last is the only one of its request
 unfoldable pub begin_exchange : Exchange → State → State
-begin_exchange e s = record s { exchanges = s.exchanges ++ e ∷ []; next_exchange = s.next_exchange + 1 }
+begin_exchange e s = add_exchange e (forsake (λ x. is_some_with (λ n. is_of n x) e.asker) s)
 
 abbrev pub is_pass : Decision → Bool
 is_pass Pass = true
@@ -81,8 +77,7 @@ is_moved_in (Some (Last n)) = false
 abbrev pub new_exchange : State → Client → Request → Key → Decision → AskKind → Exchange
 new_exchange s c head key d kind = record {
   number = s.next_exchange;
-  client = c.number;
-  request = c.index;
+  asker = Some c.number;
   head = head;
   key = key;
   aim = elim (is_pass d) [ true ↦ Through | false ↦ Own ];
@@ -98,23 +93,15 @@ new_exchange s c head key d kind = record {
   bound = None;
 }
 
-abbrev pub stage_for : Decision → ℕ → Stage
-stage_for Pass n = Passing n
-stage_for d n = Waiting n
+abbrev pub stage_for : Decision → Stage
+stage_for Pass = Passing
+stage_for d = Waiting
 
-abbrev pub asking_with : Decision → ℕ → Client → Client
-asking_with d n c = record c {
-  interim_left = first_interim c;
-  stage = stage_for d n;
-  begun = Nothing;
-  settled = None;
-  is_told = false;
-  has_plain_age = false;
-  passed = None;
-}
+abbrev pub asking_with : Decision → Client → Client
+asking_with d c = record c { interim_left = first_interim c; stage = stage_for d; brought = Awaited }
 
 unfoldable pub ask_for : Client → Decision → Request → Key → AskKind → State → State
-ask_for c d head key kind s = begin_exchange (new_exchange s c head key d kind) (on_client c.number (asking_with d s.next_exchange) s)
+ask_for c d head key kind s = begin_exchange (new_exchange s c head key d kind) (leave (is_of c.number) (on_client c.number (asking_with d) s))
 
 unfoldable pub ask_as : Client → Decision → Request → Key → State → State
 ask_as c d head key s = elim (kind_of head (row_for s head (text_of key)) d) [ None ↦ s | Some kind ↦ ask_for c d head key kind s ]
@@ -137,16 +124,21 @@ abbrev pub reply_by : Decision → Option ℕ → Reply
 reply_by d source = record { decision = d; source = source; has_begun = false; head_left = []; at = (span_of d).0; to = (span_of d).1 }
 
 abbrev pub answering_with : Reply → Client → Client
-answering_with r c = record c {
-  interim_left = first_interim c;
-  stage = Answering r;
-  closes = not (keeps_after 200 c.front);
-  is_told = false;
-  passed = elim (is_passing r.decision) [ true ↦ c.passed | false ↦ None ];
-}
+answering_with r c = record c { interim_left = first_interim c; stage = Answering r; closes = not (keeps_after 200 c.front) }
+
+-- of what the follower still wants, something is still to come by the exchange
+abbrev pub serves : Instance → Reply → Exchange → Bool
+serves x r e = elim e.bound [
+  | Some b ↦ (b.instance == x.id) && nat_lt (max b.next r.at) (min b.to r.to)
+  | None ↦ asks_for x r.at e
+]
+
+-- and leaves an exchange that brings nothing of it
+unfoldable pub follow_with : Client → Reply → Instance → State → State
+follow_with c r x s = swept (leave (λ e. is_of c.number e && not (serves x r e)) (on_client c.number (answering_with r) s))
 
 unfoldable pub follow_row : Client → Decision → Bytes → State → State
-follow_row c d key s = elim (row s key) [ None ↦ s | Some x ↦ swept (on_client c.number (answering_with (reply_by d (Some x.id))) s) ]
+follow_row c d key s = elim (row s key) [ None ↦ s | Some x ↦ follow_with c (reply_by d (Some x.id)) x s ]
 
 unfoldable pub follow : Client → Decision → State → State
 follow c d s = elim (key_in c.front) [ None ↦ s | Some key ↦ follow_row c d (text_of key) s ]

@@ -1,5 +1,5 @@
 -- What is decided for a request, by what is known of its key (RFC 2616, sections 13 and 14; RFC 6585, section 5).
-use Rattle.std.specs.Prelude.{ℕ, Bool, true, false, nat_le, length, Option, Some, None, option_map, Ok, Err}
+use Rattle.std.specs.Prelude.{ℕ, Bool, true, false, ◌==◌, nat_le, length, Option, Some, None, option_map, Ok, Err}
 use Rattle.std.specs.Borrow.{Bor}
 use Rattle.pp_ask.specs.Texts.{ask_text}
 use Rattle.pp_ask.specs.declared.kind.AskKind.{AskKind}
@@ -13,9 +13,9 @@ use Rattle.pp_plan.specs.declared.table.Begun.TheVariants.{Nothing, Settled, Oth
 use Rattle.pp_target.specs.Key.{Key, text_of}
 use Rattle.pp_world.specs.declared.note.Decision.{Decision}
 use Rattle.pp_world.specs.declared.note.Decision.TheVariants.{Refuse, Validate, Fetch, Pass}
-use Rattle.pp_law.specs.Lists.{Bytes, is_some_with, is_this}
+use Rattle.pp_law.specs.Lists.{Bytes, is_some_with}
 use Rattle.pp_law.specs.Requests.{Parsed, NoHeadYet, NoHead, IsRequest, refusal_of}
-use Rattle.pp_law.specs.State.{State, Client, Instance}
+use Rattle.pp_law.specs.State.{State, Client, Awaited, Useless, Joins, Passes, TooWide}
 use Rattle.pp_law.specs.Table.{row, row_for}
 
 -- ours: the text of an ask has at most 16,384 bytes
@@ -47,16 +47,14 @@ abbrev pub if_fits : State → Request → Key → Option AskKind → Decision �
 if_fits s head key None d = d
 if_fits s head key (Some kind) d = elim (fits (text_for s head key kind)) [ true ↦ d | false ↦ Refuse 431 ]
 
--- what its exchange brought counts as long as the row is the one that it is bound to, and in the turn in which it came
-abbrev pub is_settled_on : Client → Option Instance → Bool
-is_settled_on c x = is_some_with (λ y. is_this y.id c.settled) x
-
+-- what its exchange brought; a body counts as long as it belongs to the row
 abbrev pub begun_now : State → Client → Bytes → Begun
-begun_now s c key = elim c.begun [
-  | Nothing ↦ Nothing
-  | Settled ↦ elim (is_settled_on c (row s key)) [ true ↦ Settled | false ↦ Nothing ]
-  | Other ↦ elim c.is_told [ true ↦ Other | false ↦ Nothing ]
-  | Widened ↦ Widened
+begun_now s c key = elim c.brought [
+  | Awaited ↦ Nothing
+  | Useless ↦ Nothing
+  | Joins id plain ↦ elim (is_some_with (λ x. x.id == id) (row s key)) [ true ↦ Settled | false ↦ Nothing ]
+  | Passes p ↦ Other
+  | TooWide ↦ Widened
 ]
 
 abbrev pub decide_for : State → Client → Request → Key → Decision

@@ -1,30 +1,32 @@
 -- Which decision or cut is due, and which comes first (RFC 2616, section 8.1; the order is ours).
 use Rattle.std.specs.Prelude.{ℕ, ◌-◌, Bool, true, false, ◌&&◌, ◌||◌, not, nat_le, List, [], ◌∷◌, find, Option, Some, None, option_map}
 use Rattle.pp_world.specs.declared.note.Cause.{Cause}
-use Rattle.pp_world.specs.declared.note.Cause.TheVariants.{Superseded, Origin, Short, Idle, Memory, Stop}
+use Rattle.pp_world.specs.declared.note.Cause.TheVariants.{Superseded, Origin, Short, Idle, Stop}
 use Rattle.pp_world.specs.declared.note.Decision.{Decision}
-use Rattle.pp_world.specs.declared.note.Decision.TheVariants.{Refuse, Hit, Part, Relay, Pass}
-use Rattle.pp_law.specs.Lists.{first_some, has_number, is_some_with}
-use Rattle.pp_law.specs.State.{State, Client, Undecided, Waiting, Passing, Answering, Reply}
+use Rattle.pp_world.specs.declared.note.Decision.TheVariants.{Refuse}
+use Rattle.pp_law.specs.Connections.{is_trying}
+use Rattle.pp_law.specs.Lists.{first_some, is_some_with}
+use Rattle.pp_law.specs.Offers.{has_to_say}
+use Rattle.pp_law.specs.Stages.{is_begun, is_followed_by, is_page, passed_of}
+use Rattle.pp_law.specs.State.{State, Client, Course, Trying, OutOfTries, AskTooLong, RowRefused, Brought, Awaited, Useless, Joins, Passes, TooWide, Undecided, Waiting, Passing, Answering, Reply}
 use Rattle.pp_law.specs.Table.{source_of, next_of, is_provided}
 use Rattle.pp_law.specs.Decisions.{decide}
 use Rattle.pp_law.specs.Sharing.{due_undecided}
 
-abbrev pub reply_of : Client → Option Reply
-reply_of c = elim c.stage [ Undecided ↦ None | Waiting e ↦ None | Passing e ↦ None | Answering r ↦ Some r ]
+-- a request that cannot be answered is refused
+abbrev pub give_up : Course → Option Decision → Option Decision
+give_up (Trying n) other = other
+give_up OutOfTries other = Some (Refuse 502)
+give_up AskTooLong other = Some (Refuse 431)
+give_up RowRefused other = Some (Refuse 500)
 
--- the client is in the midst of a reply
-abbrev pub is_begun : Client → Bool
-is_begun c = is_some_with (λ r. r.has_begun) (reply_of c)
-
--- its attempts ended, or its ask as a follower is too long
-abbrev pub give_up : Client → Option Decision → Option Decision
-give_up c other = elim c.has_failed [ true ↦ Some (Refuse 502) | false ↦ elim c.is_too_long [ true ↦ Some (Refuse 431) | false ↦ other ] ]
-
-abbrev pub is_followed_by : Decision → Bool
-is_followed_by (Hit from to) = true
-is_followed_by (Part from to) = true
-is_followed_by d = false
+-- the head of its exchange's response came
+abbrev pub is_told : Brought → Bool
+is_told Awaited = false
+is_told Useless = true
+is_told (Joins id plain) = true
+is_told (Passes p) = true
+is_told TooWide = true
 
 -- the row that it was decided by was replaced or cleared
 abbrev pub has_lost_row : State → Reply → Bool
@@ -34,43 +36,33 @@ has_lost_row s r = is_followed_by r.decision && not (is_some_with (λ x. not x.i
 abbrev pub due_reply : State → Client → Reply → Option Decision
 due_reply s c r = elim r.has_begun [
   | true ↦ None
-  | false ↦ give_up c (elim (has_lost_row s r) [ true ↦ decide s c | false ↦ None ])
+  | false ↦ give_up c.course (elim (has_lost_row s r) [ true ↦ decide s c | false ↦ None ])
 ]
 
 abbrev pub due_by_stage : State → Client → Option Decision
 due_by_stage s c = elim c.stage [
   | Undecided ↦ due_undecided s c
-  | Waiting e ↦ give_up c (elim c.is_told [ true ↦ decide s c | false ↦ None ])
-  | Passing e ↦ give_up c None
+  | Waiting ↦ give_up c.course (elim (is_told c.brought) [ true ↦ decide s c | false ↦ None ])
+  | Passing ↦ give_up c.course None
   | Answering r ↦ due_reply s c r
 ]
 
-abbrev pub is_page : Decision → Bool
-is_page (Refuse status) = true
-is_page d = false
+abbrev pub due_decision : State → Client → Option Decision
+due_decision s c = elim (c.is_closing || s.is_stopped) [ true ↦ None | false ↦ due_by_stage s c ]
 
 -- its request was decided, and is to have a reply that is no page
 abbrev pub still_waits : Client → Bool
-still_waits c = elim c.stage [ Undecided ↦ false | Waiting e ↦ true | Passing e ↦ false | Answering r ↦ not (is_page r.decision) ]
+still_waits c = elim c.stage [ Undecided ↦ false | Waiting ↦ true | Passing ↦ false | Answering r ↦ not (r.has_begun || is_page r.decision) ]
 
--- memory was refused for the row of its request
-abbrev pub is_refused : State → Client → Bool
-is_refused s c = has_number c.number s.refused && still_waits c
+-- ---- cuts
 
-abbrev pub due_in : State → Client → Option Decision
-due_in s c = elim (is_refused s c && not (is_begun c)) [ true ↦ Some (Refuse 500) | false ↦ due_by_stage s c ]
-
-abbrev pub due_decision : State → Client → Option Decision
-due_decision s c = elim (c.is_closing || s.is_stopped) [ true ↦ None | false ↦ due_in s c ]
-
-abbrev pub is_passing : Decision → Bool
-is_passing Pass = true
-is_passing Relay = true
-is_passing d = false
+-- it is in the midst of a reply, and nothing that came is left to say
+abbrev pub is_dry : State → Client → Bool
+is_dry s c = is_begun c && not (has_to_say s c)
 
 -- its response ended early; a bad one is over before its connection is closed
 abbrev pub is_short : Client → Bool
-is_short c = is_some_with (λ r. is_passing r.decision) (reply_of c) && is_some_with (λ p. p.is_short && not p.pipe.is_finished) c.passed
+is_short c = is_some_with (λ p. p.is_short && not p.pipe.is_finished) (passed_of c)
 
 -- another version stands, and of this one nothing more comes
 abbrev pub is_superseded : State → Client → Bool
@@ -80,15 +72,14 @@ is_superseded s c = is_some_with (λ n. n.source.is_retired && not (is_provided 
 abbrev pub is_idle : State → Client → Bool
 is_idle s c = s.is_ticked && nat_le 120 (s.clock - c.mark)
 
--- the causes of a cut, in their order
+-- the causes of a cut, in their order. What came is said before a reply is cut for its origin
 abbrev pub causes : State → Client → List (Bool × Cause)
 causes s c =
     (s.is_stopped && is_begun c, Stop)
-    ∷ (is_begun c && is_short c, Short)
+    ∷ (is_dry s c && is_short c, Short)
     ∷ (is_begun c && is_superseded s c, Superseded)
-    ∷ (is_begun c && (c.has_failed || c.is_too_long), Origin)
+    ∷ (is_dry s c && not (is_trying c.course), Origin)
     ∷ (is_idle s c, Idle)
-    ∷ (is_begun c && is_refused s c, Memory)
     ∷ []
 
 -- the first that applies

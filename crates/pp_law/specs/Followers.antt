@@ -8,10 +8,10 @@ use Rattle.pp_target.specs.Key.{Key}
 use Rattle.pp_law.specs.Chunks.{chunk_len}
 use Rattle.pp_law.specs.Deciding.{begin_exchange}
 use Rattle.pp_law.specs.Decisions.{fits, lent, text_for}
-use Rattle.pp_law.specs.Connections.{on_client, is_for}
+use Rattle.pp_law.specs.Connections.{on_client, is_for, is_trying}
 use Rattle.pp_law.specs.Lists.{Bytes, is_some_with, without}
 use Rattle.pp_law.specs.Requests.{NoHeadYet, NoHead, IsRequest}
-use Rattle.pp_law.specs.State.{State, Through, Own, Filling, Client, Exchange}
+use Rattle.pp_law.specs.State.{State, Through, Own, Filling, AskTooLong, Client, Exchange}
 use Rattle.pp_law.specs.Table.{next_of, Next, is_brought, brings, held_to, next_held, chunks_in}
 
 -- ---- step 5
@@ -36,8 +36,7 @@ hole_text s head key n span = text_for s head key (AsHole span.0 (span.1 - 1) (l
 abbrev pub filling_exchange : State → Client → Request → Key → Next → ℕ × ℕ → Exchange
 filling_exchange s c head key n span = record {
   number = s.next_exchange;
-  client = c.number;
-  request = c.index;
+  asker = Some c.number;
   head = head;
   key = key;
   aim = Filling n.source.version span.0 span.1;
@@ -54,7 +53,7 @@ filling_exchange s c head key n span = record {
 }
 
 unfoldable pub fill_with : Exchange → Client → State → State
-fill_with e c s = elim (fits e.text) [ true ↦ begin_exchange e s | false ↦ on_client c.number (λ x. record x { is_too_long = true }) s ]
+fill_with e c s = elim (fits e.text) [ true ↦ begin_exchange e s | false ↦ on_client c.number (λ x. record x { course = AskTooLong }) s ]
 
 unfoldable pub fill_span : Client → Next → ℕ × ℕ → State → State
 fill_span c n span s = elim c.front [
@@ -67,7 +66,7 @@ unfoldable pub fill_next : Client → Next → State → State
 fill_next c n s = elim (need_of s n) [ None ↦ s | Some span ↦ fill_span c n span s ]
 
 unfoldable pub fill_for : Client → State → State
-fill_for c s = elim (c.has_failed || c.is_too_long) [ true ↦ s | false ↦ elim (next_of s c) [ None ↦ s | Some n ↦ fill_next c n s ] ]
+fill_for c s = elim (is_trying c.course) [ false ↦ s | true ↦ elim (next_of s c) [ None ↦ s | Some n ↦ fill_next c n s ] ]
 
 unfoldable pub fill_each : List Client → State → State
 fill_each [] s = s

@@ -1,9 +1,11 @@
 pub mod Lists
 pub mod Requests
 pub mod State
+pub mod Stages
 pub mod Connections
 pub mod Chunks
 pub mod Table
+pub mod Offers
 pub mod Passing
 pub mod OwnHeads
 pub mod Responses

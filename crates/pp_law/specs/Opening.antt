@@ -5,7 +5,7 @@ use Rattle.std.specs.Str.{is_utf8}
 use Rattle.pp_conf.specs.Conf.{Settings}
 use Rattle.pp_conf.specs.Words.{file_of, has_reading, reading_of, Told, Serves, ShowsDemo, Refusal}
 use Rattle.pp_text.specs.Bytes.{is_empty}
-use Rattle.pp_world.specs.Disk.{Stored, view_of, is_loose}
+use Rattle.pp_world.specs.Disk.{Stored, view_of, is_loose, is_rising}
 use Rattle.pp_world.specs.Files.{Files, file_of as file_in}
 use Rattle.pp_world.specs.Log.{Log}
 use Rattle.pp_world.specs.declared.happening.Happening.{Happening}
@@ -70,8 +70,9 @@ abbrev pub permits_image : Phase → Log → Files → Bool
 permits_image Before log image = is_first_image image
 permits_image phase log image = is_left_behind log image
 
+-- each name once, in their order
 abbrev pub permits_woke : State → Files → Bool
-permits_woke s image = permits_image s.phase s.disk image
+permits_woke s image = is_rising (map (λ file. file.0) image) && permits_image s.phase s.disk image
 
 -- ---- words
 

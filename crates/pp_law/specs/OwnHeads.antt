@@ -1,27 +1,26 @@
 -- What the head of a response does to the row of its key (RFC 2616, sections 10.3.5, 13.5, 13.10 and 13.11; RFC 7233, sections 4.1 and 4.3).
-use Rattle.std.specs.Prelude.{ℕ, ◌+◌, Bool, true, false, ◌==◌, ◌&&◌, ◌||◌, not, nat_lt, nat_le, nat_eq, List, ◌∷◌, length, bytes_eq, is_some, codes, Option, Some, None}
+use Rattle.std.specs.Prelude.{ℕ, ◌+◌, Bool, true, false, ◌==◌, ◌&&◌, ◌||◌, not, nat_lt, nat_le, nat_eq, List, [], ◌∷◌, length, bytes_eq, is_some, codes, Option, Some, None}
 use Rattle.std.specs.List.{list_any, starts_with}
 use Rattle.pp_fresh.specs.Age.{times_of}
 use Rattle.pp_fresh.specs.declared.aging.Times.{Times}
 use Rattle.pp_framing.specs.declared.body.BodyRule.{BodyRule}
 use Rattle.pp_head.specs.Response.{Response}
 use Rattle.pp_objects.specs.Kept.{kept_of, refreshed_of, has_room}
-use Rattle.pp_plan.specs.declared.table.Begun.{Begun}
-use Rattle.pp_plan.specs.declared.table.Begun.TheVariants.{Nothing, Settled, Other, Widened}
 use Rattle.pp_target.specs.Key.{text_of}
 use Rattle.pp_text.specs.Bytes.{is_empty, lower}
-use Rattle.pp_text.specs.Fields.{has_field, values_of}
+use Rattle.pp_text.specs.Fields.{Field, has_field, values_of}
 use Rattle.pp_valid.specs.ContentRanges.{content_range_of}
 use Rattle.pp_valid.specs.Versions.{version_of}
 use Rattle.pp_valid.specs.declared.content_range.ContentRange.{ContentRange}
 use Rattle.pp_valid.specs.declared.content_range.ContentRange.TheVariants.{Span, Unsatisfied}
 use Rattle.pp_valid.specs.declared.version.Version.{Version}
-use Rattle.pp_law.specs.Chunks.{joined}
-use Rattle.pp_law.specs.Connections.{on_exchange, on_client_of, is_for, lose_attempt}
-use Rattle.pp_law.specs.Lists.{Bytes, is_some_with}
-use Rattle.pp_law.specs.Passing.{pass_on}
+use Rattle.pp_law.specs.Chunks.{joined, note_use}
+use Rattle.pp_law.specs.Connections.{exchange, on_exchange, is_for, lose_attempt}
+use Rattle.pp_law.specs.Lists.{Bytes, change, is_some_with}
+use Rattle.pp_law.specs.Passing.{passed_by}
 use Rattle.pp_law.specs.Requests.{is_safe}
-use Rattle.pp_law.specs.State.{State, Through, Own, Filling, Bound, Client, Exchange, Instance, Sent}
+use Rattle.pp_law.specs.Stages.{is_begun}
+use Rattle.pp_law.specs.State.{State, Through, Own, Filling, Bound, Brought, Useless, Joins, Passes, TooWide, Client, Exchange, Instance, Sent}
 use Rattle.pp_law.specs.Table.{is_same_version, row, kept_row, instance, extent_of, on_instance, mark_row, make_row, enter, clear, next_of, is_provided}
 
 abbrev pub key_of : Exchange → Bytes
@@ -49,20 +48,21 @@ first_offset head = first_in (range_in head)
 abbrev pub span_to_come : Response → Version → ℕ → Bound
 span_to_come head v id = record { instance = id; next = first_offset head; to = end_in (range_in head) v.length }
 
--- ---- what the client of the exchange is told
+-- ---- what the request of the exchange is told
 
-abbrev pub told : Begun → Option ℕ → Bool → Client → Client
-told begun id has_plain_age c = record c { begun = begun; settled = id; is_told = true; has_plain_age = has_plain_age }
+-- the request that did not leave it, and has no reply yet
+abbrev pub is_asked_by : Exchange → Client → Bool
+is_asked_by e c = is_for e c && not (is_begun c)
 
-unfoldable pub tell : Exchange → Begun → Option ℕ → Bool → State → State
-tell e begun id has_plain_age s = on_client_of e (told begun id has_plain_age) s
+unfoldable pub tell : Exchange → Brought → State → State
+tell e brought s = record s { clients = change (is_asked_by e) (λ c. record c { brought = brought }) s.clients }
 
 unfoldable pub bind : Exchange → Option Bound → State → State
 bind e bound s = on_exchange e.number (λ x. record x { is_headed = true; bound = bound }) s
 
--- an answer that is of no use: its request is decided again
+-- an answer that is of no use loses an attempt, and its request is decided again
 unfoldable pub useless : Exchange → State → State
-useless e s = tell e Nothing None false (bind e None s)
+useless e s = tell e Useless (lose_attempt e (bind e None s))
 
 -- ---- a response with a version
 
@@ -79,30 +79,34 @@ renew x head times s = mark_row x.id (on_instance x.id (renewed head times) s)
 unfoldable pub settle_on : Exchange → Response → Version → State → State
 settle_on e head v s = elim (row s (key_of e)) [
   | None ↦ s
-  | Some x ↦ tell e Settled (Some x.id) (not (has_field (codes "age") head.fields)) (bind e (Some (span_to_come head v x.id)) s)
+  | Some x ↦ tell e (Joins x.id (not (has_field (codes "age") head.fields))) (bind e (Some (span_to_come head v x.id)) s)
 ]
 
--- the attempt of an exchange that no follower waits for
-unfoldable pub lose_own : Exchange → State → State
-lose_own e s = elim e.aim [ Own ↦ lose_attempt e s | Through ↦ s | Filling v from to ↦ s ]
+-- the row takes over what changes with each response
+unfoldable pub renew_row : Exchange → Response → State → State
+renew_row e head s = elim (row s (key_of e)) [ None ↦ s | Some x ↦ renew x head (times_for e head s) s ]
 
--- the version of the row: what changes with each response is taken over, if there is room for it
-unfoldable pub settle_row : Exchange → Response → Version → Instance → State → State
-settle_row e head v x s = elim (has_room x.fields head.fields (times_for e head s)) [
-  | true ↦ settle_on e head v (renew x head (times_for e head s) s)
-  | false ↦ useless e (lose_own e s)
-]
-
-unfoldable pub settle_known : Exchange → Response → Version → State → State
-settle_known e head v s = elim (row s (key_of e)) [ None ↦ s | Some x ↦ settle_row e head v x s ]
+-- a kept row comes into memory for it
+unfoldable pub refresh : Exchange → Response → State → State
+refresh e head s = renew_row e head (enter (key_of e) true s)
 
 abbrev pub known_version : State → Bytes → Option Version
 known_version s key = elim (row s key) [ Some x ↦ Some x.version | None ↦ elim (kept_row s key) [ None ↦ None | Some k ↦ Some k.version ] ]
 
+abbrev pub known_fields : State → Bytes → List Field
+known_fields s key = elim (row s key) [ Some x ↦ x.fields | None ↦ elim (kept_row s key) [ None ↦ [] | Some k ↦ k.fields ] ]
+
+-- what it would take over has room in the row
+abbrev pub may_refresh : Exchange → Response → State → Bool
+may_refresh e head s = has_room (known_fields s (key_of e)) head.fields (times_for e head s)
+
+unfoldable pub settle_known : Exchange → Response → Version → State → State
+settle_known e head v s = elim (may_refresh e head s) [ true ↦ settle_on e head v (refresh e head s) | false ↦ useless e s ]
+
 -- "An implementation MUST NOT combine" parts of two versions: another one makes a new row
 unfoldable pub settle : Exchange → Response → Version → State → State
 settle e head v s = elim (is_some_with (is_same_version v) (known_version s (key_of e))) [
-  | true ↦ settle_known e head v (enter (key_of e) true s)
+  | true ↦ settle_known e head v s
   | false ↦ settle_on e head v (make_row (key_of e) v (kept_of head.fields (times_for e head s)) (times_for e head s) s)
 ]
 
@@ -115,20 +119,14 @@ names_version e v = is_some_with (λ tag. bytes_eq tag v.tag) e.named
 abbrev pub nothing_to_come : Instance → Bound
 nothing_to_come x = record { instance = x.id; next = 0; to = 0 }
 
-unfoldable pub refresh_row : Exchange → Response → Instance → State → State
-refresh_row e head x s = elim (has_room x.fields head.fields (times_for e head s)) [
-  | true ↦ tell e Settled (Some x.id) false (bind e (Some (nothing_to_come x)) (renew x head (times_for e head s) s))
-  | false ↦ useless e (lose_own e s)
-]
-
-unfoldable pub refresh_known : Exchange → Response → State → State
-refresh_known e head s = elim (row s (key_of e)) [ None ↦ s | Some x ↦ refresh_row e head x s ]
+unfoldable pub settle_unchanged : Exchange → State → State
+settle_unchanged e s = elim (row s (key_of e)) [ None ↦ s | Some x ↦ tell e (Joins x.id false) (bind e (Some (nothing_to_come x)) s) ]
 
 -- it has to name the version of the row
 unfoldable pub not_modified : Exchange → Response → State → State
-not_modified e head s = elim (is_some_with (names_version e) (known_version s (key_of e))) [
-  | true ↦ refresh_known e head (enter (key_of e) true s)
-  | false ↦ useless e (lose_attempt e s)
+not_modified e head s = elim (is_some_with (names_version e) (known_version s (key_of e)) && may_refresh e head s) [
+  | true ↦ settle_unchanged e (refresh e head s)
+  | false ↦ useless e s
 ]
 
 -- ---- a response without a version
@@ -145,12 +143,12 @@ abbrev pub is_widened : Exchange → Response → Bool
 is_widened e head = e.is_moved && (head.status == 206)
 
 unfoldable pub relay_head : Exchange → Response → BodyRule → State → State
-relay_head e head rule s = pass_on e head rule (tell e Other None false (bind e None s))
+relay_head e head rule s = tell e (Passes (passed_by e head rule)) (bind e None s)
 
 -- to a Fetch or Validate: it is relayed
 unfoldable pub other_head : Exchange → Response → BodyRule → State → State
 other_head e head rule s = elim (is_widened e head) [
-  | true ↦ tell e Widened None false (bind e None (cleared_by head e s))
+  | true ↦ tell e TooWide (bind e None (cleared_by head e s))
   | false ↦ relay_head e head rule (cleared_by head e s)
 ]
 
@@ -166,12 +164,19 @@ own_head e head rule s = elim (version_of head.fields head.status) [
   | None ↦ elim (head.status == 304) [ true ↦ not_modified e head s | false ↦ other_head e head rule s ]
 ]
 
+abbrev pub is_bound : Exchange → Bool
+is_bound e = is_some e.bound
+
 -- the follower still lacks its next byte, of a row that stands
 abbrev pub lacks_next : State → Client → Bool
 lacks_next s c = is_some_with (λ n. not n.source.is_retired && not (is_provided s n)) (next_of s c)
 
-unfoldable pub count_useless : Exchange → State → State
-count_useless e s = elim (list_any (λ c. is_for e c && lacks_next s c) s.clients) [ true ↦ lose_attempt e s | false ↦ s ]
+-- what it brings is no use for its own follower; an answer that is of no use at all is counted already
+unfoldable pub count_elsewhere : Exchange → State → State
+count_elsewhere e s = elim (is_some_with is_bound (exchange s e.number) && list_any (λ c. is_for e c && lacks_next s c) s.clients) [
+  | true ↦ lose_attempt e s
+  | false ↦ s
+]
 
 unfoldable pub part_head : Exchange → Response → BodyRule → State → State
 part_head e head rule s = elim (version_of head.fields head.status) [
@@ -180,7 +185,7 @@ part_head e head rule s = elim (version_of head.fields head.status) [
 ]
 
 unfoldable pub filling_head : Exchange → Response → BodyRule → State → State
-filling_head e head rule s = count_useless e (part_head e head rule s)
+filling_head e head rule s = count_elsewhere e (part_head e head rule s)
 
 -- "POST, PUT, DELETE": what they change is not known any more (RFC 2616, section 13.10)
 abbrev pub invalidates : Exchange → Response → Bool
@@ -190,7 +195,7 @@ unfoldable pub invalidated : Exchange → Response → State → State
 invalidated e head s = elim (invalidates e head) [ true ↦ clear (key_of e) s | false ↦ s ]
 
 unfoldable pub through_head : Exchange → Response → BodyRule → State → State
-through_head e head rule s = pass_on e head rule (tell e Nothing None false (bind e None (invalidated e head s)))
+through_head e head rule s = relay_head e head rule (invalidated e head s)
 
 -- ---- heads that answer no ask of this kind
 
@@ -225,7 +230,7 @@ unfoldable pub note_sent : Exchange → Response → ℕ → Bytes → State →
 note_sent e head at bytes s = elim e.aim [ Through ↦ s | Own ↦ note_own e head at bytes s | Filling v from to ↦ note_own e head at bytes s ]
 
 unfoldable pub join : Bound → Bytes → State → State
-join b bytes s = elim (instance s b.instance) [ None ↦ s | Some x ↦ record s { chunks = joined x.id (extent_of s x) b.next bytes s.chunks } ]
+join b bytes s = elim (instance s b.instance) [ None ↦ s | Some x ↦ note_use (record s { chunks = joined x.id (extent_of s x) b.next bytes s.chunks }) ]
 
 abbrev pub moved_on : ℕ → Exchange → Exchange
 moved_on n e = record e { bound = elim e.bound [ None ↦ None | Some b ↦ Some (record b { next = b.next + n }) ] }

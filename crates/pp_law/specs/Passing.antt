@@ -1,13 +1,14 @@
 -- A response that is passed to a client, spelled anew (RFC 2616, sections 3.6.1 and 13.5).
-use Rattle.std.specs.Prelude.{ℕ, Bool, true, false, ◌==◌, not, Some}
+use Rattle.std.specs.Prelude.{ℕ, Bool, true, false, not}
 use Rattle.pp_framing.specs.declared.body.BodyRule.{BodyRule}
 use Rattle.pp_framing.specs.declared.body.BodyRule.TheVariants.{Empty, Length, Chunked, ToEnd}
 use Rattle.pp_head.specs.Response.{Response}
 use Rattle.pp_pass.specs.Pipe.{Pipe, started, with_data}
 use Rattle.pp_reply.specs.Keeping.{is_old}
 use Rattle.pp_text.specs.Bytes.{is_empty}
-use Rattle.pp_law.specs.Connections.{on_client_of, on_passed}
+use Rattle.pp_law.specs.Connections.{on_client_of}
 use Rattle.pp_law.specs.Lists.{Bytes}
+use Rattle.pp_law.specs.Stages.{on_passed}
 use Rattle.pp_law.specs.State.{State, Exchange, Passed}
 
 -- a body whose length is not told goes on in chunks, but not to HTTP/1.0 (section 3.6.1)
@@ -18,17 +19,12 @@ is_coded Chunked minor = not (is_old minor)
 is_coded ToEnd minor = not (is_old minor)
 
 abbrev pub passed_by : Exchange → Response → BodyRule → Passed
-passed_by e head rule = record { exchange = e.number; head = head; rule = rule; pipe = started (is_coded rule e.head.minor); is_short = false }
-
-unfoldable pub pass_on : Exchange → Response → BodyRule → State → State
-pass_on e head rule s = on_client_of e (λ c. record c { passed = Some (passed_by e head rule) }) s
+passed_by e head rule = record { head = head; rule = rule; pipe = started (is_coded rule e.head.minor); is_short = false }
 
 -- ours: the data of one read are one chunk; an empty one would be the last
 abbrev pub poured : Bytes → Pipe → Pipe
 poured bytes pipe = elim (is_empty bytes) [ true ↦ pipe | false ↦ with_data bytes pipe ]
 
-abbrev pub on_pipe : ℕ → (Pipe → Pipe) → Passed → Passed
-on_pipe n f p = elim (p.exchange == n) [ true ↦ record p { pipe = f p.pipe } | false ↦ p ]
-
+-- into the pipe of the request that the response is passed to
 unfoldable pub pour : Exchange → (Pipe → Pipe) → State → State
-pour e f s = on_client_of e (on_passed (on_pipe e.number f)) s
+pour e f s = on_client_of e (on_passed (λ p. record p { pipe = f p.pipe })) s

@@ -19,10 +19,11 @@ use Rattle.pp_law.specs.Due.{Due, Decide, CutOff, first_due}
 use Rattle.pp_law.specs.Connections.{client, conn, is_client, is_conn, placing, Pause, AllPlaced, WaitsDial, WaitsDrop}
 use Rattle.pp_law.specs.Lists.{Bytes, is_some_with}
 use Rattle.pp_law.specs.Opening.{permits_woke, permits_configured, permits_rooted, permits_listens, is_at, is_opening, may_fail}
-use Rattle.pp_law.specs.Replies.{offer, is_at_body}
+use Rattle.pp_law.specs.Offers.{offer, is_at_body}
+use Rattle.pp_law.specs.Requests.{Front, NoHeadYet, NoHead, IsRequest}
 use Rattle.pp_law.specs.Served.{is_served}
 use Rattle.pp_law.specs.State.{State, Client, Instance, IsRooted, IsListed, IsListening}
-use Rattle.pp_law.specs.Store.{is_idle_disk, is_named, is_acknowledged_as, may_note_gone, may_begin_op, may_end_op}
+use Rattle.pp_law.specs.Store.{is_idle_disk, is_closed, is_named, is_acknowledged_as, may_note_gone, may_begin_op, may_end_op}
 use Rattle.pp_law.specs.Table.{row, kept_row, instance, idle_row, extent_of, next_of, Next}
 use Rattle.pp_law.specs.Turn.{step, due_victim, is_awaiting, has_closings, to_3, to_6, to_decide, may_3, may_6, may_decide, may_end, ending, is_free}
 
@@ -50,11 +51,21 @@ is_same_cause Memory Memory = true
 is_same_cause Stop Stop = true
 is_same_cause cause other = false
 
+-- a request has a key and a row that memory may be refused for, and a place that is none has not
+abbrev pub is_request : Front → Bool
+is_request NoHeadYet = false
+is_request (NoHead status) = false
+is_request (IsRequest r) = true
+
+abbrev pub may_want_memory : State → ℕ → Bool
+may_want_memory s c = is_some_with (λ x. is_request x.front) (client s c)
+
 -- it is the decision that is due; or memory was refused
-abbrev pub is_due_decision : Option Due → ℕ → ℕ → Decision → Bool
-is_due_decision None c i d = false
-is_due_decision (Some (CutOff n cause)) c i d = false
-is_due_decision (Some (Decide n j due)) c i d = (n == c) && (j == i) && (is_same_decision due d || is_same_decision d (Refuse 500))
+abbrev pub is_due_decision : State → Option Due → ℕ → ℕ → Decision → Bool
+is_due_decision s None c i d = false
+is_due_decision s (Some (CutOff n cause)) c i d = false
+is_due_decision s (Some (Decide n j due)) c i d =
+    (n == c) && (j == i) && (is_same_decision due d || (is_same_decision d (Refuse 500) && may_want_memory s c))
 
 abbrev pub is_due_cut : Option Due → ℕ → Cause → Bool
 is_due_cut None c cause = false
@@ -66,7 +77,7 @@ abbrev pub has_room_for : State → ℕ → Decision → Bool
 has_room_for s c d = is_for_memory d || not (is_some_with (has_to_forget s) (client s c))
 
 abbrev pub may_take : State → ℕ → ℕ → Decision → Bool
-may_take s c i d = is_due_decision (first_due s) c i d && has_room_for s c d
+may_take s c i d = is_due_decision s (first_due s) c i d && has_room_for s c d
 
 abbrev pub permits_taken : State → ℕ → ℕ → Decision → Bool
 permits_taken s c i d = may_decide s && may_take (to_decide s) c i d
@@ -87,9 +98,6 @@ abbrev pub is_first : Bytes → List Bytes → Bool
 is_first key [] = false
 is_first key (k ∷ keys) = bytes_eq k key
 
-abbrev pub is_key_of : Bytes → Option Instance → Bool
-is_key_of key x = is_some_with (λ y. bytes_eq y.key key) x
-
 -- the client whose decision is next brings a row in, where as many are there as may be
 abbrev pub forgets_next : State → Option Due → Bool
 forgets_next s None = false
@@ -97,7 +105,7 @@ forgets_next s (Some (CutOff n cause)) = false
 forgets_next s (Some (Decide n i d)) = is_some_with (has_to_forget s) (client s n)
 
 abbrev pub may_forget : State → Bytes → Bool
-may_forget s key = forgets_next s (first_due s) && is_key_of key (idle_row s)
+may_forget s key = forgets_next s (first_due s) && is_some_with (λ x. bytes_eq x.key key && not x.is_new) (idle_row s)
 
 -- the row left memory for another; or it is one that memory was refused for; or it is to leave it before a decision
 abbrev pub permits_forgotten : State → Bytes → Bool
@@ -137,9 +145,13 @@ loads_from s name x =
 abbrev pub may_fail_to_load : State → Bytes → Client → Bool
 may_fail_to_load s name c = is_writing s.owed c.number && is_at_body c && is_some_with (loads_from s name) (next_of s c)
 
+-- recovery reads a name between repairs, and no more once it is closed
+abbrev pub may_fail_to_recover : State → Bytes → Bool
+may_fail_to_recover s name = is_at IsListed s && is_idle_disk s && is_empty s.agenda && not (is_closed s name)
+
 -- where recovery reads, or where a chunk may be loaded from that file
 abbrev pub permits_unread : State → Bytes → Bool
-permits_unread s name = is_at IsListed s || list_any (may_fail_to_load s name) s.clients
+permits_unread s name = may_fail_to_recover s name || list_any (may_fail_to_load s name) s.clients
 
 abbrev pub permits_noted : State → Remark → Bool
 permits_noted s (Taken c i d) = permits_taken s c i d
@@ -161,12 +173,11 @@ permits_said s c offered bytes = is_writing s.owed c && is_some_with (λ x. is_s
 
 -- ---- closings and places
 
--- a client that sends no more may be shut at any time
 abbrev pub may_shut : State → ℕ → Client → Bool
-may_shut s n c = is_client n c && (c.is_closing || c.has_hung_up || s.is_stopped)
+may_shut s n c = is_client n c && (c.is_closing || s.is_stopped)
 
 abbrev pub permits_shut : State → ℕ → Bool
-permits_shut s c = may_6 s && list_any (may_shut s c) s.clients
+permits_shut s c = may_6 s && list_any (may_shut s c) (to_6 s).clients
 
 abbrev pub is_dial_of : Pause → Bytes → ℕ → Bool
 is_dial_of AllPlaced host port = false
@@ -214,6 +225,10 @@ is_new_number s n = nat_lt s.top n
 -- the opening is over, or all is done that this turn owes
 abbrev pub may_wait : State → Bool
 may_wait s = is_at IsListening s || (not (is_awaiting s) && not s.is_stopped && may_end s)
+
+-- a log may end here: nothing is owed, and behind Stop everybody is closed
+abbrev pub is_over : State → Bool
+is_over s = ((step s == 0) || may_end s) && (not s.is_stopped || (is_empty s.clients && is_empty s.conns))
 
 -- the state that is waited in
 abbrev pub waiting : State → State

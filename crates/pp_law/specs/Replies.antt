@@ -1,10 +1,10 @@
 -- How a reply begins, goes on and ends, and the request behind it (RFC 2616, sections 6, 8.1.2.2, 8.2.3 and 13).
-use Rattle.std.specs.Prelude.{ℕ, ◌+◌, ◌-◌, ◌/◌, ◌%◌, Bool, true, false, ◌==◌, ◌&&◌, ◌||◌, not, nat_lt, List, [], ◌∷◌, length, take, drop, map, Option, Some, None}
+use Rattle.std.specs.List.{list_any}
+use Rattle.std.specs.Prelude.{ℕ, zero, suc, ◌+◌, ◌-◌, ◌/◌, Bool, true, false, ◌==◌, ◌&&◌, ◌||◌, not, nat_lt, List, [], ◌∷◌, length, drop, map, Option, Some, None}
 use Rattle.pp_fresh.specs.Age.{age_of}
 use Rattle.pp_pass.specs.Pipe.{without_first}
 use Rattle.pp_plan.specs.Requests.{is_head}
 use Rattle.pp_plan.specs.Spans.{resolved}
-use Rattle.pp_plan.specs.declared.table.Begun.TheVariants.{Nothing}
 use Rattle.pp_ranges.specs.declared.range.Resolved.{Resolved}
 use Rattle.pp_ranges.specs.declared.range.Resolved.TheVariants.{Whole as OfAll, Part as OfPart, Unsatisfiable as OfNone}
 use Rattle.pp_reply.specs.Keeping.{is_end_known}
@@ -13,14 +13,15 @@ use Rattle.pp_reply.specs.Texts.{passed_head}
 use Rattle.pp_text.specs.Bytes.{is_empty}
 use Rattle.pp_world.specs.declared.note.Decision.{Decision}
 use Rattle.pp_world.specs.declared.note.Decision.TheVariants.{Hit, Part, Head, NotModified, Unsatisfiable, Pass}
-use Rattle.pp_law.specs.Chunks.{chunk_len, chunk_bytes, use_chunk}
-use Rattle.pp_law.specs.Closing.{close_client}
-use Rattle.pp_law.specs.Due.{is_passing, reply_of}
+use Rattle.pp_law.specs.Chunks.{chunk_len, use_chunk}
+use Rattle.pp_law.specs.Closing.{close_client, forsake, is_of}
 use Rattle.pp_law.specs.Hearing.{with_front}
-use Rattle.pp_law.specs.Connections.{on_client, on_passed}
-use Rattle.pp_law.specs.Lists.{Bytes, is_some_with, is_this}
+use Rattle.pp_law.specs.Connections.{on_client, is_for}
+use Rattle.pp_law.specs.Lists.{Bytes, is_some_with}
+use Rattle.pp_law.specs.Offers.{is_at_body}
 use Rattle.pp_law.specs.Requests.{Parsed, NoHeadYet, NoHead, IsRequest, keeps_open, has_request}
-use Rattle.pp_law.specs.State.{State, Client, Instance, Passed, Undecided, Waiting, Passing, Answering, Reply}
+use Rattle.pp_law.specs.Stages.{is_begun, is_passing, on_passed, passed_of, reply_of}
+use Rattle.pp_law.specs.State.{State, Client, Exchange, Instance, Passed, Brought, Awaited, Useless, Joins, Passes, TooWide, Course, Trying, OutOfTries, AskTooLong, RowRefused, Undecided, Waiting, Passing, Answering, Reply}
 use Rattle.pp_law.specs.Table.{source_of, next_of, Next, is_held, is_next_held, swept}
 
 -- ---- a reply begins at the end of a turn
@@ -37,16 +38,23 @@ passed_reply s r p d = record {
 }
 
 abbrev pub begun_passed : State → Parsed → Decision → Client → Client
-begun_passed s r d c = elim c.passed [
+begun_passed s r d c = elim (passed_of c) [
   | None ↦ c
   | Some p ↦ record c { stage = Answering (passed_reply s r p d); closes = not (keeps_open r && is_end_known p.rule r.head.minor) }
 ]
 
 -- ---- a reply by a row begins with the head that the table and the clock of then give
 
+abbrev pub has_plain_age : ℕ → Brought → Bool
+has_plain_age id Awaited = false
+has_plain_age id Useless = false
+has_plain_age id (Joins x plain) = (x == id) && plain
+has_plain_age id (Passes p) = false
+has_plain_age id TooWide = false
+
 -- no age where the exchange of this very request just brought it, and told none
 abbrev pub age_shown : State → Client → Instance → Option ℕ
-age_shown s c x = elim (c.has_plain_age && is_this x.id c.settled) [ true ↦ None | false ↦ Some (age_of x.times s.clock) ]
+age_shown s c x = elim (has_plain_age x.id c.brought) [ true ↦ None | false ↦ Some (age_of x.times s.clock) ]
 
 abbrev pub is_part : Resolved → Bool
 is_part OfAll = false
@@ -89,8 +97,8 @@ begun_decided s r reply c = elim (is_passing reply.decision) [ true ↦ begun_pa
 abbrev pub begun_by : State → Parsed → Client → Client
 begun_by s r c = elim c.stage [
   | Undecided ↦ c
-  | Waiting e ↦ c
-  | Passing e ↦ begun_passed s r Pass c
+  | Waiting ↦ c
+  | Passing ↦ begun_passed s r Pass c
   | Answering reply ↦ elim reply.has_begun [ true ↦ c | false ↦ begun_decided s r reply c ]
 ]
 
@@ -100,33 +108,15 @@ begun_at_end s c = elim c.is_closing [
   | false ↦ elim c.front [ NoHeadYet ↦ c | NoHead status ↦ c | IsRequest r ↦ begun_by s r c ]
 ]
 
+abbrev pub begins : State → Client → Bool
+begins s c = not (is_begun c) && is_begun (begun_at_end s c)
+
+-- the reply of its request begins from something else
+abbrev pub is_outrun : State → Exchange → Bool
+is_outrun s e = not e.is_headed && list_any (λ c. is_for e c && begins s c) s.clients
+
 unfoldable pub begin_replies : State → State
-begin_replies s = swept (record s { clients = map (begun_at_end s) s.clients })
-
--- ---- what is said next
-
--- what the chunk holds from the offset on
-abbrev pub piece : State → Next → Bytes
-piece s n = take (n.to - n.at) (drop (n.at % chunk_len) (chunk_bytes n.source.id (n.at / chunk_len) s.chunks))
-
-abbrev pub passed_part : Client → Bytes
-passed_part c = elim c.passed [ None ↦ [] | Some p ↦ p.pipe.bytes ]
-
-abbrev pub body_part : State → Client → Reply → Bytes
-body_part s c r = elim (is_passing r.decision) [
-  | true ↦ passed_part c
-  | false ↦ elim (next_of s c) [ None ↦ [] | Some n ↦ piece s n ]
-]
-
-abbrev pub reply_part : State → Client → Bytes
-reply_part s c = elim (reply_of c) [
-  | None ↦ []
-  | Some r ↦ elim r.has_begun [ false ↦ [] | true ↦ elim (is_empty r.head_left) [ false ↦ r.head_left | true ↦ body_part s c r ] ]
-]
-
--- the interim answer, the head of the reply, and what is there of its body
-abbrev pub offer : State → Client → Bytes
-offer s c = elim (is_empty c.interim_left) [ false ↦ c.interim_left | true ↦ reply_part s c ]
+begin_replies s = swept (forsake (is_outrun s) (record s { clients = map (begun_at_end s) s.clients }))
 
 -- ---- so many bytes were said
 
@@ -145,20 +135,21 @@ said_by n c = elim (is_empty c.interim_left) [
   | true ↦ elim (reply_of c) [ None ↦ c | Some r ↦ said_of n r c ]
 ]
 
--- the chunk that was lent is the most recently used one
-abbrev pub is_at_body : Client → Bool
-is_at_body c = is_empty c.interim_left && is_some_with (λ r. r.has_begun && is_empty r.head_left) (reply_of c)
+unfoldable pub use_chunks : ℕ → ℕ → ℕ → State → State
+use_chunks zero id i s = s
+use_chunks (suc more) id i s = use_chunks more id (i + 1) (use_chunk id i s)
 
-unfoldable pub use_next : Client → State → State
-use_next c s = elim (is_at_body c) [
-  | false ↦ s
-  | true ↦ elim (next_of s c) [ None ↦ s | Some n ↦ use_chunk n.source.id (n.at / chunk_len) s ]
-]
+-- each chunk of which a byte was said is the most recently used one, in their order
+unfoldable pub use_from : ℕ → Next → State → State
+use_from n x s = use_chunks ((x.at + n - 1) / chunk_len + 1 - x.at / chunk_len) x.source.id (x.at / chunk_len) s
+
+unfoldable pub use_said : ℕ → Client → State → State
+use_said n c s = elim (is_at_body c && nat_lt 0 n) [ false ↦ s | true ↦ elim (next_of s c) [ None ↦ s | Some x ↦ use_from n x s ] ]
 
 -- ---- a reply is over
 
 abbrev pub has_no_more : Client → Reply → Bool
-has_no_more c r = (r.at == r.to) && (not (is_passing r.decision) || is_some_with (λ p. p.pipe.is_finished && is_empty p.pipe.bytes) c.passed)
+has_no_more c r = (r.at == r.to) && (not (is_passing r.decision) || is_some_with (λ p. p.pipe.is_finished && is_empty p.pipe.bytes) (passed_of c))
 
 abbrev pub is_said : Client → Bool
 is_said c = is_empty c.interim_left && is_some_with (λ r. r.has_begun && is_empty r.head_left && has_no_more c r) (reply_of c)
@@ -173,20 +164,17 @@ next_request c = with_front (record c {
   index = c.index + 1;
   stage = Undecided;
   waits_on = None;
-  passed = None;
-  begun = Nothing;
-  settled = None;
-  is_told = false;
-  has_plain_age = false;
-  lost = 0;
-  has_failed = false;
-  is_too_long = false;
+  brought = Awaited;
+  course = Trying 0;
   interim_left = [];
   closes = false;
 })
 
 unfoldable pub end_reply : Client → State → State
-end_reply c s = elim c.closes [ true ↦ close_client c.number false s | false ↦ swept (on_client c.number next_request s) ]
+end_reply c s = elim c.closes [
+  | true ↦ close_client c.number false s
+  | false ↦ swept (forsake (is_of c.number) (on_client c.number next_request s))
+]
 
 unfoldable pub end_each : List Client → State → State
 end_each [] s = s
@@ -210,9 +198,15 @@ end_replies s =
 
 -- ---- attempts
 
+abbrev pub anew : Course → Course
+anew (Trying n) = Trying 0
+anew OutOfTries = Trying 0
+anew AskTooLong = Trying 0
+anew RowRefused = RowRefused
+
 -- ours: they count anew once the next byte is held
 abbrev pub regained_by : State → Client → Client
-regained_by s c = elim (is_some_with (is_next_held s) (next_of s c)) [ true ↦ record c { lost = 0 } | false ↦ c ]
+regained_by s c = elim (is_some_with (is_next_held s) (next_of s c)) [ true ↦ record c { course = anew c.course } | false ↦ c ]
 
 unfoldable pub regained : State → State
 regained s = record s { clients = map (regained_by s) s.clients }

@@ -46,7 +46,7 @@ finish k e a s =
     let done : State = on_conn k.number (rested a.head) (end_exchange e.number (skip_body e (pour e finished s))) in
     elim (stays_open a.head && (e.body_left == 0)) [ true ↦ done | false ↦ close_this k.number done ]
 
--- a response outside the grammar, or one that answers nothing: its request's attempts end, and the connection is closed
+-- a response outside the grammar, or one that its ask did not allow: its request's attempts end, and the connection is closed
 unfoldable pub bad_response : Conn → State → State
 bad_response k s = elim (front_of_line s k) [
   | None ↦ close_conn false k s
@@ -94,7 +94,8 @@ pub record Piece : Type 0 where
   pub state : State
   pub rest : Bytes
 
--- what comes before the first ask of the line was asked whole answers nothing
+-- what comes before the first ask of the line was asked whole answers nobody, and costs nobody: the connection is closed as one
+-- that ended (section 8.1.4)
 abbrev pub is_early : State → Conn → Bool
 is_early s k = not (is_some_with is_outstanding (front_of_line s k))
 
@@ -114,7 +115,7 @@ head_piece_of k bytes s = elim (response_at bytes) [
 
 abbrev pub head_piece : Conn → Bytes → State → Piece
 head_piece k bytes s = elim (is_early s k) [
-  | true ↦ record { state = bad_response k s; rest = [] }
+  | true ↦ record { state = close_conn true k s; rest = [] }
   | false ↦ head_piece_of k (k.unread ++ bytes) s
 ]
 

@@ -5,14 +5,14 @@ use Rattle.pp_peers.specs.declared.placing.Placed.{Placed}
 use Rattle.pp_peers.specs.declared.placing.Placed.TheVariants.{On, Dial, CloseThenDial, Wait}
 use Rattle.pp_text.specs.Bytes.{is_empty}
 use Rattle.pp_world.specs.declared.event.Wants.{Wants}
-use Rattle.pp_law.specs.Asking.{has_room, left_to_ask, room_for}
+use Rattle.pp_law.specs.Asking.{has_room, left_to_ask, pipe_room}
 use Rattle.pp_law.specs.Chunks.{chunk_len}
 use Rattle.pp_law.specs.Connections.{exchange, is_client, is_conn, is_outstanding, front_of_line, place_for}
-use Rattle.pp_law.specs.Lists.{has_number, is_some_with}
-use Rattle.pp_law.specs.Replies.{offer, is_at_body}
+use Rattle.pp_law.specs.Lists.{has_number, is_some_with, is_this}
+use Rattle.pp_law.specs.Offers.{has_to_say}
 use Rattle.pp_law.specs.Requests.{has_request}
 use Rattle.pp_law.specs.State.{State, Bound, Client, Conn, Exchange}
-use Rattle.pp_law.specs.Table.{instance, next_of, is_held, is_next_held}
+use Rattle.pp_law.specs.Table.{instance, next_of, is_held}
 use Rattle.pp_law.specs.Turn.{waits_for_exchange}
 
 abbrev pub wants_read : Wants → ℕ → Bool
@@ -31,11 +31,7 @@ accepts_rightly s w = same (nat_lt (length s.clients) 256) w.accept
 
 -- ---- clients
 
--- also where the bytes are on disk alone
-abbrev pub has_to_say : State → Client → Bool
-has_to_say s c = not (is_empty (offer s c)) || (is_at_body c && is_some_with (is_next_held s) (next_of s c))
-
--- it may send its request, or an exchange of its request is there, or one that brings its next byte; or it shares one
+-- it may send its request, or waits for an exchange
 abbrev pub is_waiting : State → Wants → Client → Bool
 is_waiting s w c = (not (has_request c.front) && wants_read w c.number) || waits_for_exchange s c
 
@@ -46,6 +42,10 @@ is_client_served s w c = elim (has_to_say s c) [
 ]
 
 -- ---- connections
+
+-- reading stops where the pipe of the request that it is passed to has no room
+abbrev pub has_full_pipe : Exchange → Client → Bool
+has_full_pipe e c = is_some_with (λ n. n == 0) (pipe_room e c)
 
 -- where the furthest of those stands who follow what the exchange is bound to
 abbrev pub at_of : State → Bound → Client → Option ℕ
@@ -62,18 +62,34 @@ is_held_in s b at = is_some_with (λ x. is_held s x at) (instance s b.instance)
 abbrev pub is_past : State → Bound → ℕ → Bool
 is_past s b at = nat_le (at / chunk_len + 256) (b.next / chunk_len) && is_held_in s b at
 
-abbrev pub is_far_ahead : State → Exchange → Bool
-is_far_ahead s e = is_some_with (λ b. is_some_with (is_past s b) (furthest (filter_map (at_of s b) s.clients))) e.bound
+abbrev pub furthest_at : State → Bound → Option ℕ
+furthest_at s b = furthest (filter_map (at_of s b) s.clients)
 
--- reading stops where the pipe has no room, or far ahead of all followers
+abbrev pub is_far_ahead : State → Exchange → Bool
+is_far_ahead s e = is_some_with (λ b. is_some_with (is_past s b) (furthest_at s b)) e.bound
+
+-- or far ahead of all followers
 abbrev pub is_stopped : State → Exchange → Bool
-is_stopped s e = (room_for s e == 0) || is_far_ahead s e
+is_stopped s e = list_any (has_full_pipe e) s.clients || is_far_ahead s e
+
+abbrev pub is_furthest_in : State → Bound → Client → Bool
+is_furthest_in s b c = is_some_with (λ at. is_this at (furthest_at s b)) (at_of s b c)
+
+abbrev pub is_furthest : State → Exchange → Client → Bool
+is_furthest s e c = is_far_ahead s e && is_some_with (λ b. is_furthest_in s b c) e.bound
+
+-- it stops for somebody who is written to
+abbrev pub is_held_back : State → Wants → Exchange → Bool
+is_held_back s w e = list_any (λ c. wants_write w c.number && (has_full_pipe e c || is_furthest s e c)) s.clients
+
+abbrev pub reads_first : State → Wants → Conn → Exchange → Bool
+reads_first s w k e = elim (is_stopped s e) [ true ↦ not (wants_read w k.number) && is_held_back s w e | false ↦ wants_read w k.number ]
 
 -- one without an exchange is read, so that its end is seen; one whose ask is not whole may be
 abbrev pub reads_rightly : State → Wants → Conn → Bool
 reads_rightly s w k = elim (front_of_line s k) [
   | None ↦ wants_read w k.number
-  | Some e ↦ elim (is_outstanding e) [ true ↦ same (not (is_stopped s e)) (wants_read w k.number) | false ↦ true ]
+  | Some e ↦ not (is_outstanding e) || reads_first s w k e
 ]
 
 abbrev pub has_to_ask : State → Conn → Bool
@@ -101,7 +117,7 @@ waits_for_body s e = is_outstanding e && nat_lt 0 e.body_left && is_empty (left_
 abbrev pub is_exchange_served : State → Wants → Exchange → Bool
 is_exchange_served s w e = elim e.place [
   | None ↦ is_nowhere (place_for s e)
-  | Some k ↦ not (waits_for_body s e) || wants_read w e.client
+  | Some k ↦ not (waits_for_body s e) || is_some_with (wants_read w) e.asker
 ]
 
 -- ---- and nothing else

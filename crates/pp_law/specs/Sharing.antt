@@ -44,7 +44,7 @@ due_undecided s c = elim c.waits_on [
 abbrev pub is_sharing : State → Client → Bool
 is_sharing s c = elim c.stage [
   | Undecided ↦ has_request c.front && not (is_some (due_undecided s c))
-  | Waiting e ↦ false
-  | Passing e ↦ false
+  | Waiting ↦ false
+  | Passing ↦ false
   | Answering r ↦ false
 ]

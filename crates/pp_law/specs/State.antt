@@ -6,7 +6,6 @@ use Rattle.pp_framing.specs.declared.body.BodyRule.{BodyRule}
 use Rattle.pp_head.specs.Request.{Request}
 use Rattle.pp_head.specs.Response.{Response}
 use Rattle.pp_pass.specs.Pipe.{Pipe}
-use Rattle.pp_plan.specs.declared.table.Begun.{Begun}
 use Rattle.pp_target.specs.Key.{Key}
 use Rattle.pp_text.specs.Fields.{Field}
 use Rattle.pp_valid.specs.declared.version.Version.{Version}
@@ -75,9 +74,8 @@ pub record Bound : Type 0 where
 
 pub record Exchange : Type 0 where
   pub number : ℕ
-  pub client : ℕ
-  pub request : ℕ
-  pub head : Request  -- of the client
+  pub asker : Option ℕ  -- the client whose current request it was begun for last; nobody, once that request left it
+  pub head : Request  -- of that request
   pub key : Key
   pub aim : Aim
   pub named : Option Bytes  -- the tag that its ask names
@@ -115,11 +113,26 @@ pub record Conn : Type 0 where
 
 -- a response that is passed to a client, and what of its body is spelled and not said
 pub record Passed : Type 0 where
-  pub exchange : ℕ
   pub head : Response
   pub rule : BodyRule
   pub pipe : Pipe
   pub is_short : Bool  -- its connection was gone before it was whole
+
+-- what the exchange of a request brought, by the head of its response: nothing yet; nothing of use; a body that belongs to
+-- this instance, and whether no Age was told; a response that is passed; a part that was asked for from too early on
+pub data Brought : Type 0 where
+  Awaited : Brought
+  Useless : Brought
+  Joins : ℕ → Bool → Brought
+  Passes : Passed → Brought
+  TooWide : Brought
+
+-- how a request fares: it lost so many attempts; they ended; its ask as a follower is too long; its row was refused memory
+pub data Course : Type 0 where
+  Trying : ℕ → Course
+  OutOfTries : Course
+  AskTooLong : Course
+  RowRefused : Course
 
 pub record Reply : Type 0 where
   pub decision : Decision
@@ -129,11 +142,11 @@ pub record Reply : Type 0 where
   pub at : ℕ  -- the next offset of its body, and the end
   pub to : ℕ
 
--- where the current request is
+-- where the current request is. The exchange that it waits for is the one that names its client
 pub data Stage : Type 0 where
   Undecided : Stage
-  Waiting : ℕ → Stage  -- decided again when the head of this exchange's response came
-  Passing : ℕ → Stage  -- the response to this exchange is its reply
+  Waiting : Stage  -- decided again when the head of its exchange's response came
+  Passing : Stage  -- the response to its exchange is its reply
   Answering : Reply → Stage
 
 pub record Client : Type 0 where
@@ -147,14 +160,8 @@ pub record Client : Type 0 where
   pub index : ℕ  -- the number of the request
   pub stage : Stage
   pub waits_on : Option ℕ  -- the exchange of another client that it waits for, before its own
-  pub passed : Option Passed
-  pub begun : Begun  -- what its exchange brought, and to which instance
-  pub settled : Option ℕ
-  pub is_told : Bool  -- the head of its exchange's response came in this turn
-  pub has_plain_age : Bool  -- that response had no Age
-  pub lost : ℕ  -- its attempts, and whether they ended
-  pub has_failed : Bool
-  pub is_too_long : Bool  -- its ask as a follower is too long
+  pub brought : Brought
+  pub course : Course
   pub interim_left : Bytes
   pub closes : Bool  -- its reply is the last
   pub is_closing : Bool  -- its cause to be closed has come, and it counts as closed
@@ -214,8 +221,7 @@ pub record State : Type 0 where
   pub forgotten : List Bytes  -- rows that left memory and are not noted yet
   pub has_made_room : Bool  -- a row left memory for the decision that is next
   pub agenda : List Todo
-  pub is_again : Bool  -- step 7 decided or cut, and the steps before it are done again
-  pub refused : List ℕ  -- clients whose row was refused memory
+  pub is_again : Bool  -- an exchange was given up in step 6, or step 7 decided or cut: steps 5 and 6 are done again
 
 abbrev pub no_term : Term
 no_term = record { words = []; faults = 0 }
@@ -253,5 +259,4 @@ start terms = record {
   has_made_room = false;
   agenda = [];
   is_again = false;
-  refused = [];
 }

@@ -1,6 +1,6 @@
 -- Entries on disk: how they are drafted, sealed, taken away and read back. The format and the order are ours; what a crash may leave
 -- of them is pp_world's, and the operations of each step are pp_gate's.
-use Rattle.std.specs.Prelude.{ℕ, zero, suc, ◌+◌, ◌-◌, ◌*◌, ◌/◌, Bool, true, false, ◌==◌, ◌&&◌, ◌||◌, not, nat_lt, nat_le, min, List, [], ◌∷◌, ◌++◌, length, take, drop, map, find, bytes_eq, is_some, Option, Some, None}
+use Rattle.std.specs.Prelude.{ℕ, zero, suc, ◌+◌, ◌-◌, ◌*◌, ◌/◌, Bool, true, false, ◌==◌, ◌&&◌, ◌||◌, not, nat_lt, nat_le, min, List, [], ◌∷◌, ◌++◌, length, take, drop, map, find, count_by, bytes_eq, is_some, Option, Some, None}
 use Rattle.std.specs.List.{list_any, list_all}
 use Rattle.pp_entry.specs.Entries.{is_sized}
 use Rattle.pp_entry.specs.Gates.{leading_open}
@@ -38,10 +38,13 @@ is_closed s name = has_text name s.closed_names
 abbrev pub block_of : Instance → Bytes
 block_of x = head_text x.key x.version.length x.fields x.times
 
+-- a closed name may still have its entry
+abbrev pub names_taken : State → ℕ
+names_taken s = length s.closed_names + count_by (λ e. not (is_closed s e.name)) s.entries
+
 -- ours: at most 10,000 names are taken
 abbrev pub has_free_name : State → Bytes → Bool
-has_free_name s name =
-    not (list_any (is_named name) s.entries) && not (is_closed s name) && nat_lt (length s.entries + length s.closed_names) 10000
+has_free_name s name = not (list_any (is_named name) s.entries) && not (is_closed s name) && nat_lt (names_taken s) 10000
 
 abbrev pub may_draft : State → Instance → Bool
 may_draft s x = elim (not x.is_retired && is_sized x.version.length && fits x.fields (block_of x)) [ true ↦ has_free_name s (name_of x.key) | false ↦ false ]
@@ -113,10 +116,10 @@ has_to_seal s = list_any (is_due_to_seal s) s.instances
 abbrev pub is_gone : State → Entry → Bool
 is_gone s e = e.is_stale || is_closed s e.name
 
--- a row of another key, that may be drafted, may take its name
+-- a row of another key, that may be drafted, may take its name; but one whose own name was taken takes none back in this life
 abbrev pub takes_name : State → Entry → Instance → Bool
 takes_name s e x =
-    not x.is_retired && bytes_eq (name_of x.key) e.name && not (bytes_eq x.key e.key) && is_sized x.version.length && fits x.fields (block_of x)
+    not x.is_retired && bytes_eq (name_of x.key) e.name && not (bytes_eq x.key e.key) && not (has_text x.key s.displaced) && is_sized x.version.length && fits x.fields (block_of x)
 
 abbrev pub is_displaced : State → Entry → Bool
 is_displaced s e = list_any (takes_name s e) s.instances
@@ -240,7 +243,7 @@ enter_next s = elim s.agenda [
 
 -- ours: a name is closed for this life once an operation on it failed
 unfoldable pub close_name : Bytes → State → State
-close_name name s = record s { closed_names = name ∷ s.closed_names; agenda = []; failures = s.failures + 1 }
+close_name name s = record s { closed_names = name ∷ without (bytes_eq name) s.closed_names; agenda = []; failures = s.failures + 1 }
 
 unfoldable pub end_op : DiskOp → Bool → State → State
 end_op op true s = enter_next (record s { under_way = None; disk = s.disk ++ Did op true ∷ [] })

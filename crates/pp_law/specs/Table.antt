@@ -11,7 +11,8 @@ use Rattle.pp_text.specs.Fields.{Field}
 use Rattle.pp_valid.specs.declared.version.Version.{Version}
 use Rattle.pp_law.specs.Chunks.{chunk_len, filled, is_in_memory}
 use Rattle.pp_law.specs.Lists.{Bytes, change, without, is_some_with, is_this}
-use Rattle.pp_law.specs.State.{State, Instance, Chunk, Entry, Exchange, Bound, Through, Own, Filling, Client, Undecided, Waiting, Passing, Answering, Reply}
+use Rattle.pp_law.specs.Stages.{reply_of}
+use Rattle.pp_law.specs.State.{State, Instance, Chunk, Entry, Exchange, Bound, Through, Own, Filling, Client, Reply}
 
 abbrev pub is_same_version : Version → Version → Bool
 is_same_version v w = bytes_eq v.tag w.tag && (v.length == w.length)
@@ -118,11 +119,11 @@ next_in s r = elim (source_of s r) [ None ↦ None | Some x ↦ next_from x r ]
 abbrev pub next_of : State → Client → Option Next
 next_of s c = elim c.is_closing [
   | true ↦ None
-  | false ↦ elim c.stage [ Undecided ↦ None | Waiting e ↦ None | Passing e ↦ None | Answering r ↦ next_in s r ]
+  | false ↦ elim (reply_of c) [ None ↦ None | Some r ↦ next_in s r ]
 ]
 
 abbrev pub follows : ℕ → Client → Bool
-follows id c = not c.is_closing && (elim c.stage [ Undecided ↦ false | Waiting e ↦ false | Passing e ↦ false | Answering r ↦ is_this id r.source ])
+follows id c = not c.is_closing && is_some_with (λ r. is_this id r.source) (reply_of c)
 
 abbrev pub is_followed : State → ℕ → Bool
 is_followed s id = list_any (follows id) s.clients

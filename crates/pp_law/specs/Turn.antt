@@ -10,7 +10,8 @@ use Rattle.pp_law.specs.Due.{first_due}
 use Rattle.pp_law.specs.Sharing.{is_sharing, shared_ask}
 use Rattle.pp_law.specs.Connections.{is_for, on_client, on_conn, close_conn, placing, Pause, AllPlaced, WaitsDial, WaitsDrop}
 use Rattle.pp_law.specs.Followers.{fill, give_up_asks}
-use Rattle.pp_law.specs.Lists.{has_number, is_some_with}
+use Rattle.pp_law.specs.Lists.{has_number}
+use Rattle.pp_law.specs.Offers.{has_to_say}
 use Rattle.pp_law.specs.Replies.{begin_replies}
 use Rattle.pp_law.specs.State.{State, Client, Conn, Exchange, Instance, Phase, Step, Owed, Free, ReadOf, WriteTo}
 use Rattle.pp_law.specs.Store.{is_done_on_disk}
@@ -46,13 +47,13 @@ to_3 s = at_step 3 (behind_2 s)
 unfoldable pub to_4 : State → State
 to_4 s = at_step 4 (behind_2 s)
 
--- from step 7 on these are done again, once somebody was refused or cut there
+-- followers ask for what is missing; and again, once an exchange was given up in step 6, or somebody refused or cut in step 7
 unfoldable pub to_6 : State → State
-to_6 s = elim (step s == 6) [ true ↦ s | false ↦ record (fill (behind_2 s)) { phase = Step 6; is_again = false } ]
+to_6 s = elim ((step s == 6) && not s.is_again) [ true ↦ s | false ↦ fill (record (behind_2 s) { phase = Step 6; is_again = false }) ]
 
 -- exchanges get their places, as far as no new connection is needed
 unfoldable pub to_7 : State → State
-to_7 s = elim ((step s == 7) && not s.is_again) [ true ↦ s | false ↦ record (placing (to_6 s)).state { phase = Step 7; is_again = false } ]
+to_7 s = elim ((step s == 7) && not s.is_again) [ true ↦ s | false ↦ (placing (at_step 7 (to_6 s))).state ]
 
 -- ---- what is left to do in a step
 
@@ -107,13 +108,24 @@ may_end s = may_7 s && is_done_4 (to_7 s)
 abbrev pub is_in_4 : State → Bool
 is_in_4 s = nat_le (step s) 4 && not (is_done_4 (to_4 s))
 
+abbrev pub is_in_7 : State → Bool
+is_in_7 s = (step s == 7) && not (is_done_4 s)
+
 unfoldable pub to_decide : State → State
-to_decide s = elim (is_in_4 s) [ true ↦ to_4 s | false ↦ elim (step s == 7) [ true ↦ s | false ↦ to_7 s ] ]
+to_decide s = elim (is_in_4 s) [ true ↦ to_4 s | false ↦ elim (is_in_7 s) [ true ↦ s | false ↦ to_7 s ] ]
 
 abbrev pub may_decide : State → Bool
-may_decide s = elim (is_in_4 s) [ true ↦ may_4 s | false ↦ (step s == 7) || may_7 s ]
+may_decide s = elim (is_in_4 s) [ true ↦ may_4 s | false ↦ is_in_7 s || may_7 s ]
 
--- ---- idle times
+-- ---- what a client waits for, and idle times
+
+-- the exchange that brings its next byte; where it follows nothing, that of its request
+abbrev pub waits_for : State → Client → Exchange → Bool
+waits_for s c e = elim (next_of s c) [ Some n ↦ brings s n.source n.at e | None ↦ is_for e c ]
+
+-- or it shares one
+abbrev pub waits_for_exchange : State → Client → Bool
+waits_for_exchange s c = list_any (waits_for s c) s.exchanges || is_sharing s c
 
 abbrev pub marked_client : ℕ → Client → Client
 marked_client now c = record c { mark = now }
@@ -139,9 +151,16 @@ unfoldable pub close_idle : List Conn → State → State
 close_idle [] s = s
 close_idle (k ∷ ks) s = close_idle ks (elim (is_idle_conn s.clock k) [ true ↦ close_conn true k s | false ↦ s ])
 
+-- who waited for an exchange, and was not written to, is not idle, however long the clock stood still
+abbrev pub woken_client : ℕ → State → Client → Client
+woken_client now s c = elim (waits_for_exchange s c && not (has_to_say s c)) [ true ↦ marked_client now c | false ↦ c ]
+
+unfoldable pub renew_marks : ℕ → State → State
+renew_marks now s = record s { clients = map (woken_client now s) s.clients }
+
 unfoldable pub tick_to : ℕ → State → State
 tick_to now s =
-    let t : State = record (first_marks now s) { clock = now; is_ticked = true } in
+    let t : State = record (renew_marks now (first_marks now s)) { clock = now; is_ticked = true } in
     close_idle t.conns t
 
 -- the clock never goes back
@@ -153,25 +172,16 @@ tick now s = tick_to (max s.clock now) s
 unfoldable pub ending : State → State
 ending s = begin_replies (to_7 s)
 
--- an exchange of its request is there, or one that brings its next byte
-abbrev pub waits_for : State → Client → Exchange → Bool
-waits_for s c e = is_for e c || is_some_with (λ n. brings s n.source n.at e) (next_of s c)
-
-abbrev pub waits_for_exchange : State → Client → Bool
-waits_for_exchange s c = list_any (waits_for s c) s.exchanges || is_sharing s c
-
 abbrev pub shared_with : State → Client → Option ℕ
 shared_with s c = elim (is_sharing s c) [ true ↦ shared_ask s c | false ↦ None ]
 
 abbrev pub awaited_by : State → Client → Option ℕ
 awaited_by s c = elim c.waits_on [ Some n ↦ Some n | None ↦ shared_with s c ]
 
-abbrev pub rested_client : State → Wants → Client → Client
-rested_client s w c = record c {
+abbrev pub rested_client : State → Client → Client
+rested_client s c = record c {
   waits_on = awaited_by s c;
   is_new = false;
-  is_told = false;
-  mark = elim (waits_for_exchange s c && not (has_number c.number w.write.items)) [ true ↦ s.clock | false ↦ c.mark ];
 }
 
 abbrev pub is_waited_for : Wants → Conn → Bool
@@ -188,7 +198,7 @@ rested_instance x = record x { is_new = false }
 
 unfoldable pub rest_with : Wants → State → State
 rest_with w s = record s {
-  clients = map (rested_client s w) s.clients;
+  clients = map (rested_client s) s.clients;
   conns = map (rested_conn s w) s.conns;
   instances = map rested_instance s.instances;
   phase = Step 0;
@@ -197,5 +207,4 @@ rest_with w s = record s {
   is_evicting = false;
   forgotten = [];
   is_again = false;
-  refused = [];
 }

@@ -9,7 +9,7 @@ pub record Pipe : Type 0 where
 
 -- ours: how many bytes the pipe holds
 abbrev pub pipe_len : ℕ
-pipe_len = 16384
+pipe_len = 65536
 
 -- ours: what a chunk and the last chunk have beside the data: at most four digits, four line ends of CRLF,
 -- and "0"

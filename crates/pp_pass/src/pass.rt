@@ -9,7 +9,7 @@ use std::alloc::Global;
 use std::marker::Model;
 
 /// How many bytes the pipe holds.
-pub const PIPE_LEN: usize = 16_384;
+pub const PIPE_LEN: usize = 65_536;
 /// What a chunk and the last chunk have beside the data: at most four digits and a `0`, and four
 /// line ends.
 const CODING_LEN: usize = 13;
@@ -35,7 +35,7 @@ impl Model for Pass {
 }
 
 impl Pass {
-    /// An empty pipe of 16,384 bytes, for a body that is not coded.
+    /// An empty pipe of 65,536 bytes, for a body that is not coded.
     pub fn new(alloc: Global) -> Result<Pass, OutOfMemory>
         ensures { IfOk result (λ pass. pass ≡ started false) }
     {
