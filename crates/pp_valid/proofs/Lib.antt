@@ -1,3 +1,4 @@
 pub mod TagRoom
 pub mod LineLemmas
 pub mod OnLiterals
+mod Rows

@@ -1,14 +1,20 @@
 -- Conditions of a request (RFC 7232, sections 2.3.2, 3.2 and 3.3; RFC 7233, section 3.2).
-use Rattle.std.specs.Prelude.{ℕ, Bool, true, false, ◌&&◌, ◌||◌, nat_le, bytes_eq, if◌then◌else◌, List, [], ◌∷◌, codes, Option, Some, None}
+use Rattle.std.specs.Prelude.{ℕ, Bool, true, false, ◌&&◌, ◌||◌, not, nat_le, bytes_eq, if◌then◌else◌, List, [], ◌∷◌, codes, Option, Some, None}
 use Rattle.std.specs.List.{list_any}
 use Rattle.pp_text.specs.Fields.{Field, values_of, has_field, list_items}
 use Rattle.pp_fresh.specs.Dates.{date_of}
+use Rattle.pp_valid.specs.EndToEnd.{end_to_end_values}
 use Rattle.pp_valid.specs.Tags.{is_strong_tag, opaque_part}
 
 -- "two entity-tags are equivalent if their opaque-tags match character-by-character, regardless of either or
 -- both being tagged as weak"
 abbrev pub is_weakly_equal : List ℕ → List ℕ → Bool
 is_weakly_equal a b = bytes_eq (opaque_part a) (opaque_part b)
+
+-- "If a 304 response indicates an entity not currently cached, then the cache MUST disregard the response and repeat the
+-- request without the conditional" (RFC 2616, section 10.3.5): it has an ETag that is not this tag, by weak comparison
+abbrev pub names_other_tag : List Field → List ℕ → Bool
+names_other_tag fields tag = list_any (λ value. not (is_weakly_equal value tag)) (end_to_end_values (codes "etag") fields)
 
 -- If-None-Match = "*" / 1#entity-tag
 abbrev pub is_listed : List ℕ → List ℕ → Bool

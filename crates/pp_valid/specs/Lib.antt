@@ -1,3 +1,4 @@
+pub mod Codings
 pub mod Conditions
 pub mod ContentRanges
 pub mod EndToEnd

@@ -1,11 +1,12 @@
 // Conditions of a request (RFC 7232, sections 3.2 and 3.3; RFC 7233, section 3.2).
-ghost use Rattle.std.specs.Prelude.{◌≡◌};
+ghost use Rattle.std.specs.Prelude.{◌≡◌, not};
 ghost use Rattle.std.specs.List.{list_any};
-ghost use Rattle.pp_valid.specs.Conditions.{if_range_holds, is_listed, matches_none, not_modified_since};
+ghost use Rattle.pp_valid.specs.Conditions.{if_range_holds, is_listed, is_weakly_equal, matches_none, names_other_tag, not_modified_since};
 
+use crate::end_to_end::is_dropped;
 use crate::tag::{Tag, opaque_part};
 use pp_fresh::date_of;
-use pp_text::{FieldItems, Fields};
+use pp_text::{FieldItems, FieldValues, Fields};
 
 /// Whether If-None-Match has this tag, by weak comparison, or is `*`: None without that field. A
 /// request for which it does is answered 304 (RFC 7232, section 3.2).
@@ -27,7 +28,30 @@ fn is_among(tag: &[u8], mut items: FieldItems<'_, '_, '_>) -> bool
 fn is_listed(tag: &[u8], item: &[u8]) -> bool
     ensures { result ≡ is_listed tag.now item.now }
 {
-    item == b"*".as_slice() || opaque_part(item) == opaque_part(tag)
+    item == b"*".as_slice() || is_weakly_equal(item, tag)
+}
+
+/// Whether a response, such as 304, has an ETag that is not this tag, by weak comparison (RFC 2616,
+/// section 10.3.5).
+pub fn names_other_tag(fields: &Fields<'_, '_>, tag: &Tag) -> bool
+    ensures { result ≡ names_other_tag fields.now tag.now }
+{
+    if is_dropped(fields, b"etag") {
+        return false;
+    }
+    has_other(tag.as_slice(), fields.values(b"etag"))
+}
+
+fn has_other(tag: &[u8], mut values: FieldValues<'_, '_, '_>) -> bool
+    ensures { result ≡ list_any (λ value. not (is_weakly_equal value tag.now)) values.entry }
+{
+    values.any(|value| !is_weakly_equal(value, tag))
+}
+
+fn is_weakly_equal(a: &[u8], b: &[u8]) -> bool
+    ensures { result ≡ is_weakly_equal a.now b.now }
+{
+    opaque_part(a) == opaque_part(b)
 }
 
 /// Whether the kept response was not modified since the date of the request: both dates are

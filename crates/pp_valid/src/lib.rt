@@ -12,7 +12,8 @@
 //! `pp_plan`.
 #![tactic(auto)]
 
-mod conditions; // conditions of a request
+mod codings; // content codings
+mod conditions; // conditions of a request, and of the answer to one
 mod content_range; // the part of a body that a response carries
 mod end_to_end; // fields that Connection does not name
 mod kept; // the room that the lines of a kept response take
@@ -21,12 +22,10 @@ mod tag_state; // the entity tag of a response
 mod version; // a strong tag and a total length
 mod versions; // from the head of a response to its version
 
-pub use conditions::{if_range_holds, matches_none, not_modified_since};
+pub use codings::accepts_only_identity;
+pub use conditions::{if_range_holds, matches_none, names_other_tag, not_modified_since};
 pub use content_range::{ContentRange, read_content_range};
 pub use tag::Tag;
 pub use tag_state::{TagState, tag_of};
 pub use version::Version;
 pub use versions::version_of;
-
-#[cfg(test)]
-mod tests;

@@ -2,10 +2,11 @@
 ghost use Rattle.std.specs.Prelude.{◌≡◌};
 ghost use Rattle.std.specs.List.{list_all};
 ghost use Rattle.pp_text.specs.Numbers.{number_of};
-ghost use Rattle.pp_valid.specs.Versions.{body_length, complete_length, is_number, length_in, total_of, version_of};
+ghost use Rattle.pp_valid.specs.Versions.{body_length, can_share, complete_length, is_for_everybody, is_number, is_telling, length_in, total_of, version_of};
 
+use crate::codings::is_coded;
 use crate::content_range::{ContentRange, read_content_range};
-use crate::end_to_end::is_dropped;
+use crate::end_to_end::{hides_freshness, is_dropped};
 use crate::kept::has_room_for;
 use crate::tag_state::{TagState, tag_of};
 use crate::version::Version;
@@ -18,25 +19,52 @@ const MAX_LENGTH: u64 = 1 << 30;
 /// The version of a response with these fields. None where one of these does not hold. A field that
 /// Connection names counts as absent, but for what forbids storing, which holds all the same:
 ///
-/// - there is one ETag, and it is strong, of at most 1,024 bytes;
+/// - there is one ETag, and it is strong, not empty, and of at most 1,024 bytes;
 /// - the status is 200 with a Content-Length, or 206 with a Content-Range `a-b/n` and the
 ///   Content-Length `b - a + 1`; there is no Transfer-Encoding, and equal lengths count as one;
 /// - the whole body has at most 2^30 bytes;
-/// - Cache-Control has neither `no-store` nor `private`, and there is no Vary and no Set-Cookie;
 /// - the lines of Date, Expires and Cache-Control have at most 2,048 bytes, a Date that is missing
-///   or unreadable counting as a line of 37, and the other lines that are kept at most 16,384.
-pub fn version_of(head: &Fields<'_, '_>, status: u16) -> Option<Version>
-    ensures { result ≡ version_of head.now status }
+///   or unreadable counting as a line of 37, and the other lines that are kept at most 16,384;
+/// - `pp_fresh::may_store` holds of the fields;
+/// - the request accepts only `identity`, or there is no other content coding;
+/// - Connection names none of Cache-Control, Expires, Date, Age and Last-Modified.
+pub fn version_of(
+    head: &Fields<'_, '_>,
+    status: u16,
+    accepts_only_identity: bool,
+) -> Option<Version>
+    ensures { result ≡ version_of head.now status accepts_only_identity }
 {
     let TagState::Strong(tag) = tag_of(head) else {
         return None;
     };
     let length = total_of(head, status)?;
-    if length <= MAX_LENGTH && (may_store(head) && has_room_for(head)) {
+    let can_keep = length <= MAX_LENGTH && has_room_for(head);
+    if is_telling(tag.as_slice()) && (can_keep && can_share(head, accepts_only_identity)) {
         Some(Version { tag, length })
     } else {
         None
     }
+}
+
+/// The tag is not the empty one, `""`.
+fn is_telling(tag: &[u8]) -> bool
+    ensures { result ≡ is_telling tag.now }
+{
+    tag.len() > 2
+}
+
+fn can_share(fields: &Fields<'_, '_>, accepts_only_identity: bool) -> bool
+    ensures { result ≡ can_share fields.now accepts_only_identity }
+{
+    may_store(fields)
+        && (is_for_everybody(fields, accepts_only_identity) && !hides_freshness(fields))
+}
+
+fn is_for_everybody(fields: &Fields<'_, '_>, accepts_only_identity: bool) -> bool
+    ensures { result ≡ is_for_everybody fields.now accepts_only_identity }
+{
+    accepts_only_identity || !is_coded(fields)
 }
 
 fn total_of(fields: &Fields<'_, '_>, status: u16) -> Option<u64>
