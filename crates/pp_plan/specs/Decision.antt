@@ -3,13 +3,13 @@
 use Rattle.std.specs.Prelude.{ℕ, Bool, true, false, ◌&&◌, ◌||◌, not, if◌then◌else◌, Option, Some, None}
 use Rattle.pp_head.specs.Request.{Request}
 use Rattle.pp_fresh.specs.Directives.{directives_of}
-use Rattle.pp_fresh.specs.Ready.{is_ready}
+use Rattle.pp_fresh.specs.Ready.{is_ready, may_store}
 use Rattle.pp_ranges.specs.declared.range.Resolved.{Resolved}
 use Rattle.pp_ranges.specs.declared.range.Resolved.TheVariants.{Whole as OfAll, Part as OfPart, Unsatisfiable as OfNone}
 use Rattle.pp_valid.specs.Conditions.{matches_none, not_modified_since}
 use Rattle.pp_world.specs.declared.note.Decision.{Decision}
 use Rattle.pp_world.specs.declared.note.Decision.TheVariants.{Refuse, Hit, Part, Head, NotModified, Unsatisfiable, Relay, Validate, Fetch, Pass}
-use Rattle.pp_plan.specs.Requests.{is_conditional, is_get, is_head, never_uses}
+use Rattle.pp_plan.specs.Requests.{is_conditional, is_connect, is_get, is_head, never_uses}
 use Rattle.pp_plan.specs.Row.{Row}
 use Rattle.pp_plan.specs.Spans.{resolved}
 use Rattle.pp_plan.specs.declared.table.Begun.{Begun}
@@ -72,10 +72,11 @@ is_settled Settled = true
 is_settled Other = false
 is_settled Widened = false
 
--- the row may answer without a word from the origin
+-- the row may answer without a word from the origin, or the origin was asked; ours: one that forbids sharing never does
 abbrev pub is_ready_row : Request → Option Row → Begun → ℕ → Bool
 is_ready_row request None begun now = false
-is_ready_row request (Some row) begun now = is_settled begun || is_ready request.fields row.fields row.times now
+is_ready_row request (Some row) begun now =
+    (is_settled begun && may_store row.fields) || is_ready request.fields row.fields row.times now
 
 abbrev pub asks_origin : Decision → Bool
 asks_origin (Refuse status) = false
@@ -95,7 +96,10 @@ is_only_cached request =
 
 -- "it SHOULD either respond using a cached entry that is consistent with the other constraints of the request, or
 -- respond with a 504 (Gateway Timeout) status" (RFC 2616, section 14.9.4)
+-- ours: a CONNECT that has a key did not name its target by host and port alone, and is refused
 abbrev pub decision : Request → Option Row → Begun → ℕ → Decision
 decision request row begun now =
     let first = line request row begun (is_ready_row request row begun now) in
-    if is_only_cached request && asks_origin first then Refuse 504 else first
+    if is_connect request.method then Refuse 400
+    else (if is_only_cached request && asks_origin first then Refuse 504
+    else first)

@@ -14,6 +14,10 @@ is_get method = bytes_eq method (codes "GET")
 abbrev pub is_head : List ℕ → Bool
 is_head method = bytes_eq method (codes "HEAD")
 
+-- "A CONNECT request MUST use authority-form" (RFC 9110, section 9.3.6; RFC 9112, section 3.2.3), which is no key
+abbrev pub is_connect : List ℕ → Bool
+is_connect method = bytes_eq method (codes "CONNECT")
+
 -- ours: a length that cannot be read counts as 0
 abbrev pub length_of : List Field → ℕ
 length_of fields = unwrap_or (option_and_then number_of (first_value (codes "content-length") fields)) 0

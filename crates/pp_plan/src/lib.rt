@@ -3,7 +3,8 @@
 //!
 //! `decide` is a table of fifteen lines, of which the first that applies counts. `span` says which
 //! bytes of a version the reply shows, `need` which of them have to be asked for before it can go
-//! on, and `fetch_range` what is asked where nothing is known.
+//! on, `is_near` what an exchange brings soon enough, and `fetch_range` what is asked where nothing is
+//! known.
 //!
 //! To the layer above: the decision is that of `specs/Decision.antt`, whose lines are those of the
 //! table and of the code; each span lies within the body, and a need begins at or before the byte
@@ -21,10 +22,7 @@ mod row; // what is known of the row of a key
 mod spans; // which bytes a reply shows
 
 pub use fetched::fetch_range;
-pub use needs::need;
+pub use needs::{is_near, need};
 pub use row::PlanRow;
 pub use spans::span;
 pub use table::{Begun, decide};
-
-#[cfg(test)]
-mod tests; // worked decisions

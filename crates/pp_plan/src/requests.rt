@@ -1,6 +1,6 @@
 // What a request says of its decision.
 ghost use Rattle.std.specs.Prelude.{◌≡◌};
-ghost use Rattle.pp_plan.specs.Requests.{is_conditional, is_get, is_head, is_suffix, length_of, never_uses};
+ghost use Rattle.pp_plan.specs.Requests.{is_conditional, is_connect, is_get, is_head, is_suffix, length_of, never_uses};
 
 use pp_fresh::Directives;
 use pp_ranges::{Range, read_range};
@@ -18,6 +18,13 @@ pub fn is_head(method: &[u8]) -> bool
     ensures { result ≡ is_head method.now }
 {
     method == b"HEAD".as_slice()
+}
+
+/// Whether the method is CONNECT (RFC 9110, section 9.3.6).
+pub fn is_connect(method: &[u8]) -> bool
+    ensures { result ≡ is_connect method.now }
+{
+    method == b"CONNECT".as_slice()
 }
 
 /// Whether the request keeps out of the cache: it has a body or credentials, is not to be stored, or

@@ -4,10 +4,10 @@ ghost use Rattle.pp_head.specs.Shown.{shown_request};
 ghost use Rattle.pp_plan.specs.Decision.{asks_origin, by_range, decision, is_not_modified, is_only_cached, is_ready_row, is_settled, line};
 ghost use Rattle.pp_plan.specs.Row.{shown_row};
 
-use crate::requests::{is_conditional, is_get, is_head, never_uses};
+use crate::requests::{is_conditional, is_connect, is_get, is_head, never_uses};
 use crate::row::PlanRow;
 use crate::spans::resolved;
-use pp_fresh::{Directives, ready};
+use pp_fresh::{Directives, may_store, ready};
 use pp_head::RequestHead;
 use pp_ranges::Resolved;
 use pp_valid::{matches_none, not_modified_since};
@@ -48,8 +48,9 @@ pub enum Begun {
 /// | 14 | | the whole body is held | `Hit` of the whole |
 /// | 15 | | | `Part` of the whole |
 ///
-/// A row is ready where the exchange of this request made or refreshed it, or `pp_fresh` says so. A
-/// GET or HEAD with `only-if-cached` that would ask the origin is refused, by 504 (RFC 2616, section
+/// A row is ready where the exchange of this request made or refreshed it and it may be kept, or
+/// `pp_fresh` says so. CONNECT is refused, by 400: its target is a host and a port alone, and so has
+/// no key (RFC 9110, section 9.3.6). A GET or HEAD with `only-if-cached` that would ask the origin is refused, by 504 (RFC 2616, section
 /// 14.9.4).
 pub fn decide(
     request: &RequestHead<'_, '_>,
@@ -59,6 +60,9 @@ pub fn decide(
 ) -> Decision
     ensures { result ≡ decision (shown_request request.now) (option_map (λ r. shown_row r.now) row.entry) begun now }
 {
+    if is_connect(request.method) {
+        return Decision::Refuse(400);
+    }
     let first = line(request, row, begun, is_ready_row(request, row, begun, now));
     if is_only_cached(request) && asks_origin(first) {
         return Decision::Refuse(504);
@@ -117,7 +121,10 @@ fn is_ready_row(
 {
     match row {
         None => false,
-        Some(row) => is_settled(begun) || ready(&request.fields, &row.fields, &row.times, now),
+        Some(row) => {
+            let is_settled = is_settled(begun) && may_store(&row.fields);
+            is_settled || ready(&request.fields, &row.fields, &row.times, now)
+        }
     }
 }
 
