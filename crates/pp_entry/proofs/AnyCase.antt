@@ -1,5 +1,5 @@
 -- What an entry says of a row whose names are in any case: the same row, with its names in lower case.
-use Rattle.std.proofs.Common.{◌≡◌, ◌<◌, ◌+◌, ◌^◌, ℕ, Bool, true, false, cond, ◌&&◌, ◌||◌, not, if◌then◌else◌, List, [], ◌∷◌, length, map, filter, flat_map, codes, refl, sym, ◌∙◌, ap, arith, Some}
+use Rattle.std.proofs.Common.{◌≡◌, ◌<◌, ◌+◌, ℕ, Bool, true, false, cond, ◌&&◌, ◌||◌, not, if◌then◌else◌, List, [], ◌∷◌, length, map, filter, flat_map, codes, refl, sym, ◌∙◌, ap, arith}
 use Rattle.std.specs.Prelude.{nat_lt, nat_le, nat_eq, bytes_eq, All}
 use Rattle.std.specs.Char.{to_ascii_lowercase, is_ascii_alphanumeric}
 use Rattle.std.specs.List.{list_all, list_any, starts_with}
@@ -16,10 +16,12 @@ use Rattle.pp_text.specs.Lines.{lines_of}
 use Rattle.pp_text.specs.Lists.{items_of}
 use Rattle.pp_head.specs.Agreement.{IsFieldText}
 use Rattle.pp_valid.specs.EndToEnd.{is_dropped}
+use Rattle.pp_valid.specs.Kept.{is_written_anew}
 use Rattle.pp_valid.specs.TagStates.{state_in, tag_of}
 use Rattle.pp_valid.specs.Versions.{strong_part}
-use Rattle.pp_entry.specs.Entries.{Row, is_sized, row_at}
-use Rattle.pp_entry.specs.Fields.{are_allowed, is_end_to_end, is_passing, lowered}
+use Rattle.pp_entry.specs.Entries.{Row, row_at}
+use Rattle.pp_entry.specs.Fields.{are_allowed, is_passing, lowered, may_be_kept}
+use Rattle.pp_entry.specs.Spelling.{CanBeWritten, IsReadBack, as_read}
 use Rattle.pp_entry.specs.Texts.{fits, head_text, own_lines, padded}
 use Rattle.pp_entry.proofs.LineLemmas.{lines-lowered}
 use Rattle.pp_entry.proofs.RoundTrip.{CanStand, is_solid, round-trip, solid-trimmed}
@@ -97,11 +99,22 @@ hop-lower fs f =
     ap (λ (t : List ℕ). list_any (λ name. bytes_eq (lower name) t) hop_names || is_connection_token (map lowered fs) (lowered f) || starts_with nat_eq t (codes "x-polipo-")) (lower-lower f.0)
     ∙ ap (λ (b : Bool). list_any (λ name. is_named name f) hop_names || b || is_private f) (token-same fs f)
 
-all-lower : (all fs : List Field) → list_all (is_end_to_end (map lowered all)) (map lowered fs) ≡ list_all (is_end_to_end all) fs
+anew-lower : (f : Field) → is_written_anew (lowered f) ≡ is_written_anew f
+anew-lower f =
+    ap (λ (t : List ℕ). bytes_eq (lower (codes "content-length")) t || bytes_eq (lower (codes "content-range")) t || bytes_eq (lower (codes "age")) t || bytes_eq (lower (codes "date")) t)
+    (lower-lower f.0)
+
+kept-lower : (fs : List Field) (f : Field) → may_be_kept (map lowered fs) (lowered f) ≡ may_be_kept fs f
+kept-lower fs f =
+    ap (λ (b : Bool). not b && (is_named (codes "date") (lowered f) || not (is_written_anew (lowered f)))) (hop-lower fs f)
+    ∙ ap (λ (b : Bool). not (is_hop_by_hop fs f) && (b || not (is_written_anew (lowered f)))) (named-lower (codes "date") f)
+    ∙ ap (λ (b : Bool). not (is_hop_by_hop fs f) && (is_named (codes "date") f || not b)) (anew-lower f)
+
+all-lower : (all fs : List Field) → list_all (may_be_kept (map lowered all)) (map lowered fs) ≡ list_all (may_be_kept all) fs
 all-lower all [] = refl
 all-lower all (f ∷ fs) =
-    ap (λ (b : Bool). not b && list_all (is_end_to_end (map lowered all)) (map lowered fs)) (hop-lower all f)
-    ∙ ap (λ (b : Bool). is_end_to_end all f && b) (all-lower all fs)
+    ap (λ (b : Bool). b && list_all (may_be_kept (map lowered all)) (map lowered fs)) (kept-lower all f)
+    ∙ ap (λ (b : Bool). may_be_kept all f && b) (all-lower all fs)
 
 passing-lower : (f : Field) → is_passing (lowered f) ≡ is_passing f
 passing-lower f =
@@ -124,7 +137,7 @@ lines-same fs = ap lines_of (filtered fs) ∙ lines-lowered (filter is_passing f
 allowed-lower : (fs : List Field) → are_allowed (map lowered fs) ≡ are_allowed fs
 allowed-lower fs =
     ap (λ (b : Bool). b && nat_le (length (lines_of (filter is_passing (map lowered fs)))) 2048) (all-lower fs fs)
-    ∙ ap (λ (t : List ℕ). list_all (is_end_to_end fs) fs && nat_le (length t) 2048) (lines-same fs)
+    ∙ ap (λ (t : List ℕ). list_all (may_be_kept fs) fs && nat_le (length t) 2048) (lines-same fs)
 
 tag-lower : (fs : List Field) → tag_of (map lowered fs) ≡ tag_of fs
 tag-lower fs =
@@ -133,33 +146,6 @@ tag-lower fs =
 
 -- ---- the row
 
--- a row that an entry can be written of
-pub record CanBeKept (row : Row) : Type 0 where
-  -- tokens, and values without blanks at their ends: pp_head reads no others (its IsResponseWithin), and what
-  -- pp_objects keeps is of a head, or a date of its own (RFC 2616, section 14.18)
-  pub fields : All IsFieldText row.fields
-  -- what is kept of a response that has a version (pp_valid) is end-to-end, and what it renews has at most 2,048
-  -- bytes, at a refresh too (`has_room` of pp_objects)
-  pub allowed : are_allowed row.fields ≡ true
-  -- the tag of a version is the one of its fields (pp_valid), which last
-  pub tag : strong_part (tag_of row.fields) ≡ Some row.version.tag
-  -- a key of pp_target has the bytes of a target (IsRequestWithin of pp_head), in lower case or not, and a port
-  pub key : AllPass is_uri_byte row.key
-  -- the caller tests the length: no other body has an entry
-  pub sized : is_sized row.version.length ≡ true
-  -- seconds, as the code counts them
-  pub response : row.times.response < 2 ^ 64
-  pub initial : row.times.initial < 2 ^ 64
-
--- as it is read back: its names in lower case, and asked for when the response came
-abbrev pub as_kept : Row → Row
-as_kept row = record {
-  key = row.key;
-  version = row.version;
-  fields = map lowered row.fields;
-  times = record { request = row.times.response; response = row.times.response; initial = row.times.initial };
-}
-
 uri-value : (b : ℕ) → is_uri_byte b ≡ true → is_value_byte b ≡ true
 uri-value b is = grind (arith, nat_tests)
 
@@ -167,7 +153,7 @@ uri-solid : (b : ℕ) → is_uri_byte b ≡ true → is_solid b ≡ true
 unfolding is_solid
 uri-solid b is = grind (arith, nat_tests)
 
-can-stand : (row : Row) → CanBeKept row → CanStand (as_kept row)
+can-stand : (row : Row) → CanBeWritten row → CanStand (as_read row)
 can-stand row can = record {
   fields = texts-lower row.fields can.fields;
   in_lower_case = lowered-lowered row.fields;
@@ -181,7 +167,7 @@ can-stand row can = record {
   request = refl;
 }
 
-kept-text : (row : Row) → head_text row.key row.version.length (map lowered row.fields) (as_kept row).times ≡ head_text row.key row.version.length row.fields row.times
+kept-text : (row : Row) → head_text row.key row.version.length (map lowered row.fields) (as_read row).times ≡ head_text row.key row.version.length row.fields row.times
 unfolding head_text own_lines
 kept-text row = text-lowered row.key row.version.length row.fields row.times
 
@@ -190,11 +176,10 @@ fits-lower fs a b same fit =
     ap (fits (map lowered fs)) same ∙ ap (λ (n : ℕ). nat_le n 95 && nat_le (length b) 8192) (length-map fs lowered) ∙ fit
 
 -- what an entry writes of a row is read back as that row, its names in lower case
-pub kept-round-trip : (row : Row) → CanBeKept row → fits row.fields (head_text row.key row.version.length row.fields row.times) ≡ true
-    → row_at (padded (head_text row.key row.version.length row.fields row.times)) ≡ Some (as_kept row)
-kept-round-trip row can fit =
+pub read-back : IsReadBack
+read-back row can fit =
     ap (λ (t : List ℕ). row_at (padded t)) (sym (kept-text row))
-    ∙ round-trip (as_kept row) (can-stand row can) (fits-lower row.fields _ _ (kept-text row) fit)
+    ∙ round-trip (as_read row) (can-stand row can) (fits-lower row.fields _ _ (kept-text row) fit)
 
 -- there are such rows
 an_etag : Field
@@ -218,7 +203,7 @@ literal-text f some name value ends = record {
   trimmed = ends;
 }
 
-pub a_row-can : CanBeKept a_row
+pub a_row-can : CanBeWritten a_row
 unfolding a_row an_etag a_lifetime is_token_byte
 a_row-can = record {
   fields =

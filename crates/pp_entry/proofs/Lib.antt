@@ -4,3 +4,4 @@ pub mod Parts
 pub mod PlaceLemmas
 pub mod RoundTrip
 pub mod SpellingLemmas
+mod Rows

@@ -3,4 +3,5 @@ pub mod Fields
 pub mod Gates
 pub mod Places
 pub mod Puts
+pub mod Spelling
 pub mod Texts

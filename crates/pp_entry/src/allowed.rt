@@ -3,7 +3,8 @@ ghost use Rattle.std.specs.Prelude.{◌≡◌, ◌-◌, ◌^◌, ◌<◌, [], fi
 ghost use Rattle.std.specs.List.{list_all};
 ghost use Rattle.pp_text.specs.Fields.{field_at};
 ghost use Rattle.pp_text.specs.Lines.{line_of, lines_of};
-ghost use Rattle.pp_entry.specs.Fields.{are_allowed, is_end_to_end, is_passing};
+ghost use Rattle.pp_valid.specs.Kept.{is_written_anew};
+ghost use Rattle.pp_entry.specs.Fields.{are_allowed, is_passing, may_be_kept};
 
 use pp_text::{Fields, is_forwarded, same};
 
@@ -14,18 +15,34 @@ const RENEWED_ROOM: usize = 2048;
 pub(crate) fn are_allowed(fields: &Fields<'_, '_>) -> bool
     ensures { result ≡ are_allowed fields.now }
 {
-    are_end_to_end(fields) && has_room(fields)
+    may_all_be_kept(fields) && has_room(fields)
 }
 
-fn are_end_to_end(fields: &Fields<'_, '_>) -> bool
-    ensures { result ≡ list_all (is_end_to_end fields.now) fields.now }
+fn may_all_be_kept(fields: &Fields<'_, '_>) -> bool
+    ensures { result ≡ list_all (may_be_kept fields.now) fields.now }
 {
     for index in 0..fields.len() {
-        if !is_forwarded(fields, index) {
+        if !may_be_kept(fields, index) {
             return false;
         }
     }
     true
+}
+
+fn may_be_kept(fields: &Fields<'_, '_>, index: usize) -> bool
+    requires { index < length fields.now }
+    ensures { result ≡ may_be_kept fields.now (field_at fields.now index) }
+{
+    let name = fields.name(index);
+    is_forwarded(fields, index) && (same(b"date", name) || !is_written_anew(name))
+}
+
+/// Whether each reply has a field of this name of its own.
+fn is_written_anew(name: &[u8]) -> bool
+    ensures { result ≡ is_written_anew (name.now, []) }
+{
+    let is_of_body = same(b"content-length", name) || same(b"content-range", name);
+    is_of_body || same(b"age", name) || same(b"date", name)
 }
 
 /// Whether the lines of the fields that may be renewed fit the room for them.

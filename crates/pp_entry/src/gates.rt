@@ -1,6 +1,8 @@
 // How much of a body is kept.
-ghost use Rattle.std.specs.Prelude.{◌≡◌};
-ghost use Rattle.pp_entry.specs.Gates.{extent_of, leading_open};
+ghost use Rattle.std.specs.Prelude.{◌≡◌, ◌≤◌, ◌^◌};
+ghost use Rattle.pp_entry.specs.Gates.{extent_of, has_extent, leading_open};
+
+use crate::text::body_at;
 
 /// The bytes of a chunk of a body.
 const CHUNK_LEN: u64 = 4096;
@@ -22,4 +24,15 @@ fn leading_open(gates: &[u8]) -> u64
     ensures { result ≡ leading_open gates.now }
 {
     gates.iter().take_while(|gate| **gate == OPEN).count() as u64
+}
+
+/// Whether a file of `len` bytes has these many of a body of `n` bytes, and nothing behind the body.
+#[tactic(auto, unfolding(crate::specs::Texts::body_at))]
+pub fn has_extent(n: u64, extent: u64, len: u64) -> bool
+    requires sized { n ≤ 2 ^ 26 }
+    requires within { extent ≤ n }
+    ensures { result ≡ has_extent n extent len }
+{
+    let at = body_at(n);
+    at + extent <= len && len <= at + n
 }

@@ -1,3 +1,2 @@
 pub mod ByHandLemmas
 pub mod LifeLemmas
-pub mod SpellingLemmas

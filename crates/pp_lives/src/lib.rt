@@ -6,8 +6,7 @@
 //! one that was written, and what was acknowledged is there. The next life finds just that.
 //!
 //! Nothing stands on this crate. That the same holds of every image is proved in `pp_gate`, `pp_store`
-//! and `pp_recover`; here it is tried, with the operations and the files written down. Of all entries
-//! `entries_have_one_spelling` says that what is written is read back.
+//! and `pp_recover`; here it is tried, with the operations and the files written down.
 #![tactic(auto)]
 
 #[cfg(test)]
@@ -30,8 +29,5 @@ mod operations; // the operations of one entry, and its file
 mod recovery; // what the next life finds
 #[cfg(test)]
 mod removals; // an entry that is withdrawn
-mod spelling; // one spelling for each entry
 #[cfg(test)]
 mod steps; // operations, as a test names them
-
-pub use spelling::entries_have_one_spelling;

@@ -1,5 +1,5 @@
 // One spelling for each entry.
-ghost use Rattle.pp_lives.specs.Spelling.{HasOneSpelling, IsReadBack};
+ghost use Rattle.pp_entry.specs.Spelling.{HasOneSpelling, IsReadBack};
 
 /// What is written of an entry is read back as that entry, its names in lower case and asked for when the
 /// response came; and a head block that is read as an entry is how that entry is written.
