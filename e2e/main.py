@@ -25,6 +25,7 @@ SUBJECTS = [
     "words",
     "kills",
     "caching",
+    "one_answer",
     "readme",
     "starting",
 ]
