@@ -34,6 +34,3 @@ pub use numbers::{read_hex, read_u64};
 pub use octets::{Octets, OutOfMemory};
 pub use parts::{cut, sole_item, sole_value};
 pub use quoting::Quoting;
-
-#[cfg(test)]
-mod tests; // worked examples
