@@ -11,11 +11,12 @@ use Rattle.pp_head.specs.Response.{Response}
 use Rattle.pp_pass.specs.Pipe.{Pipe, finished}
 use Rattle.pp_text.specs.Fields.{Field, values_of}
 use Rattle.pp_valid.specs.declared.version.Version.{Version}
-use Rattle.pp_law.specs.Connections.{conn, exchange, is_conn, is_exchange, on_conn, on_passed, front_of_line, fail, without_ask, end_exchange}
+use Rattle.pp_law.specs.Connections.{conn, exchange, is_conn, is_exchange, on_conn, front_of_line, fail, without_ask, end_exchange}
 use Rattle.pp_law.specs.Lists.{change}
 use Rattle.pp_law.specs.OwnHeads.{key_of}
-use Rattle.pp_law.specs.Passing.{pour, on_pipe}
+use Rattle.pp_law.specs.Passing.{pour}
 use Rattle.pp_law.specs.Responses.{skipping, skip_body, stays_open, rested, close_this, finish, bad_response, answered_by, end_if_empty, begin_answer}
+use Rattle.pp_law.specs.Stages.{on_passed}
 use Rattle.pp_law.specs.State.{State, Aim, Through, Own, Filling, Answer, Bound, Conn, Exchange}
 use Rattle.pp_laws.specs.Runs.{IsIn}
 use Rattle.pp_laws.proofs.Apart.{IsGone, OthersUnbound, answered, bound_by, but, end_exchange-gone, gone_shrunk, never_none, others_behind, others_unbound, others_untouched, set_apart, set_back, set_back_gone}
@@ -50,7 +51,7 @@ skip_body-untouched e s = untouched_by_aim s e.aim (on_client_of-untouched e ski
 
 pour-untouched : (e : Exchange) (f : Pipe → Pipe) (s : State) → Untouched s (pour e f s)
 unfolding pour
-pour-untouched e f s = on_client_of-untouched e (on_passed (on_pipe e.number f)) s
+pour-untouched e f s = on_client_of-untouched e (on_passed (λ p. record p { pipe = f p.pipe })) s
 
 pub close_this-sound : {b : Since} (n : ℕ) (s : State) → Sound b s → Sound b (close_this n s)
 unfolding close_this

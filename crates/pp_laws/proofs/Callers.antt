@@ -5,14 +5,13 @@ use Rattle.pp_reply.specs.Keeping.{is_end_known}
 use Rattle.pp_text.specs.Bytes.{is_empty}
 use Rattle.pp_world.specs.declared.note.Decision.TheVariants.{Refuse, Hit, Part, Head, NotModified, Unsatisfiable, Relay, Validate, Fetch, Pass}
 use Rattle.pp_world.specs.declared.note.Decision.{Decision}
-use Rattle.pp_law.specs.Connections.{on_passed}
 use Rattle.pp_law.specs.Deciding.{refused_with, asking_with, stage_for, reply_by, answering_with}
-use Rattle.pp_law.specs.Due.{is_passing, reply_of}
-use Rattle.pp_law.specs.Hearing.{fronted, with_front, heard_by}
+use Rattle.pp_law.specs.Hearing.{what_counts, fronted, with_front, heard_by}
 use Rattle.pp_law.specs.Lists.{Bytes, is_some_with}
-use Rattle.pp_law.specs.Replies.{passed_reply, begun_passed, may_begin, begun_reply, begun_instance, begun_decided, begun_by, begun_at_end, said_of_body, said_of, said_by, next_request, regained_by}
+use Rattle.pp_law.specs.Replies.{passed_reply, begun_passed, may_begin, begun_reply, begun_instance, begun_decided, begun_by, begun_at_end, said_of_body, said_of, said_by, next_request, anew, regained_by}
 use Rattle.pp_law.specs.Requests.{Front, Parsed, NoHeadYet, NoHead, IsRequest, key_in, keeps_open}
-use Rattle.pp_law.specs.State.{State, Client, Passed, Stage, Undecided, Waiting, Passing, Answering, Reply, Instance}
+use Rattle.pp_law.specs.Stages.{is_passing, on_passed, passed_of, reply_of}
+use Rattle.pp_law.specs.State.{State, Client, Passed, Passes, Stage, Undecided, Waiting, Passing, Answering, Reply, Instance}
 use Rattle.pp_law.specs.Table.{source_of, is_next_held, next_of}
 use Rattle.pp_laws.proofs.KeptClients.{SameClient, client_same}
 use Rattle.pp_laws.proofs.Sound.{passes_in, source_in}
@@ -48,25 +47,25 @@ pub heard_by-same : (bytes : Bytes) (c : Client) → SameClient (heard_by bytes 
 heard_by-same bytes c = same_on (heard_by bytes c) was c (with_front-same was) (same_parts was c refl refl refl)
   where
     was : Client
-    was = record c { heard = c.heard ++ drop c.skip bytes; skip = c.skip - length bytes }
+    was = record c { heard = c.heard ++ what_counts c.front (drop c.skip bytes); skip = c.skip - length bytes }
 
 pub next_request-same : (c : Client) → SameClient (next_request c) c
 next_request-same c = no_source (next_request c) c refl refl
 
-stage_for-none : (d : Decision) (n : ℕ) → source_in (stage_for d n) ≡ None
-stage_for-none (Refuse status) n = refl
-stage_for-none (Hit from to) n = refl
-stage_for-none (Part from to) n = refl
-stage_for-none Head n = refl
-stage_for-none NotModified n = refl
-stage_for-none Unsatisfiable n = refl
-stage_for-none Relay n = refl
-stage_for-none Validate n = refl
-stage_for-none Fetch n = refl
-stage_for-none Pass n = refl
+stage_for-none : (d : Decision) → source_in (stage_for d) ≡ None
+stage_for-none (Refuse status) = refl
+stage_for-none (Hit from to) = refl
+stage_for-none (Part from to) = refl
+stage_for-none Head = refl
+stage_for-none NotModified = refl
+stage_for-none Unsatisfiable = refl
+stage_for-none Relay = refl
+stage_for-none Validate = refl
+stage_for-none Fetch = refl
+stage_for-none Pass = refl
 
-pub asking_with-same : (d : Decision) (n : ℕ) (c : Client) → SameClient (asking_with d n c) c
-asking_with-same d n c = no_source (asking_with d n c) c refl (stage_for-none d n)
+pub asking_with-same : (d : Decision) (c : Client) → SameClient (asking_with d c) c
+asking_with-same d c = no_source (asking_with d c) c refl (stage_for-none d)
 
 pub refused_with-same : (status : ℕ) (c : Client) → SameClient (refused_with status c) c
 refused_with-same status c = no_source (refused_with status c) c refl refl
@@ -75,6 +74,13 @@ pub relayed-same : (c : Client) → SameClient (answering_with (reply_by Relay N
 relayed-same c = no_source (answering_with (reply_by Relay None) c) c refl refl
 
 -- ---- what is said
+
+on_passed-by : (f : Passed → Passed) (c : Client) (passed : Option Passed) → SameClient (elim passed as (λ x. Client) [ None ↦ c | Some p ↦ record c { brought = Passes (f p) } ]) c
+on_passed-by f c None = client_same c
+on_passed-by f c (Some p) = same_parts _ c refl refl refl
+
+pub on_passed-same : (f : Passed → Passed) (c : Client) → SameClient (on_passed f c) c
+on_passed-same f c = on_passed-by f c (passed_of c)
 
 -- the reply goes on
 goes_on : (c : Client) (r q : Reply) (d : Client) → reply_of c ≡ Some r → d.number ≡ c.number → d.stage ≡ Answering q → q.source ≡ r.source → q.decision ≡ r.decision → d.front ≡ c.front → SameClient d c
@@ -87,10 +93,10 @@ goes_on c r q d has number stage source decision front = record {
   };
 }
   where
-    of : (st : Stage) → (elim st as (λ x. Option Reply) [ Undecided ↦ None | Waiting e ↦ None | Passing e ↦ None | Answering p ↦ Some p ]) ≡ Some r → st ≡ Answering r
+    of : (st : Stage) → (elim st as (λ x. Option Reply) [ Undecided ↦ None | Waiting ↦ None | Passing ↦ None | Answering p ↦ Some p ]) ≡ Some r → st ≡ Answering r
     of Undecided is = absurd (cc is)
-    of (Waiting e) is = absurd (cc is)
-    of (Passing e) is = absurd (cc is)
+    of Waiting is = absurd (cc is)
+    of Passing is = absurd (cc is)
     of (Answering p) is = let e : p ≡ r = cc in ap (λ (x : Reply). Answering x) e
 
     was : c.stage ≡ Answering r
@@ -101,7 +107,7 @@ said_of_body-by : (n : ℕ) (r : Reply) (c : Client) (passing : Bool) → reply_
       | true ↦ on_passed (λ p. record p { pipe = without_first n p.pipe }) c
       | false ↦ record c { stage = Answering (record r { at = r.at + n }) }
     ]) c
-said_of_body-by n r c true has = same_parts _ c refl refl refl
+said_of_body-by n r c true has = on_passed-same (λ p. record p { pipe = without_first n p.pipe }) c
 said_of_body-by n r c false has = goes_on c r (record r { at = r.at + n }) _ has refl refl refl refl refl
 
 said_of-by : (n : ℕ) (r : Reply) (c : Client) (empty : Bool) → reply_of c ≡ Some r
@@ -132,7 +138,7 @@ begun_passed-by s r d c None = client_same c
 begun_passed-by s r d c (Some p) = no_source _ c refl refl
 
 begun_passed-same : (s : State) (r : Parsed) (d : Decision) (c : Client) → SameClient (begun_passed s r d c) c
-begun_passed-same s r d c = begun_passed-by s r d c c.passed
+begun_passed-same s r d c = begun_passed-by s r d c (passed_of c)
 
 kept_source-by : (source : Option ℕ) (over : Bool) (id : ℕ) → (elim over as (λ x. Option ℕ) [ true ↦ None | false ↦ source ]) ≡ Some id → source ≡ Some id
 kept_source-by source true id is = absurd (cc is)
@@ -167,13 +173,13 @@ begun_reply-by s r reply c false has = begun_decided-by s r reply c (is_passing 
 begun_stage : (s : State) (r : Parsed) (c : Client) (stage : Stage) → c.stage ≡ stage
     → SameClient (elim stage as (λ y. Client) [
       | Undecided ↦ c
-      | Waiting e ↦ c
-      | Passing e ↦ begun_passed s r Pass c
+      | Waiting ↦ c
+      | Passing ↦ begun_passed s r Pass c
       | Answering reply ↦ elim reply.has_begun as (λ y. Client) [ true ↦ c | false ↦ begun_decided s r reply c ]
     ]) c
 begun_stage s r c Undecided has = client_same c
-begun_stage s r c (Waiting e) has = client_same c
-begun_stage s r c (Passing e) has = begun_passed-same s r Pass c
+begun_stage s r c Waiting has = client_same c
+begun_stage s r c Passing has = begun_passed-same s r Pass c
 begun_stage s r c (Answering reply) has = begun_reply-by s r reply c reply.has_begun has
 
 begun_front : (s : State) (c : Client) (front : Front) → SameClient (elim front as (λ y. Client) [ NoHeadYet ↦ c | NoHead status ↦ c | IsRequest r ↦ begun_by s r c ]) c
@@ -189,7 +195,7 @@ begun_closing s c false = begun_front s c c.front
 pub begun_at_end-same : (s : State) (c : Client) → SameClient (begun_at_end s c) c
 begun_at_end-same s c = begun_closing s c c.is_closing
 
-regained-by : (c : Client) (held : Bool) → SameClient (elim held as (λ y. Client) [ true ↦ record c { lost = 0 } | false ↦ c ]) c
+regained-by : (c : Client) (held : Bool) → SameClient (elim held as (λ y. Client) [ true ↦ record c { course = anew c.course } | false ↦ c ]) c
 regained-by c true = same_parts _ c refl refl refl
 regained-by c false = client_same c
 

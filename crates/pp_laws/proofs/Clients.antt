@@ -1,5 +1,5 @@
 -- What is done for clients keeps what is sound: decisions, replies, asks and closings.
-use Rattle.std.proofs.Common.{◌≡◌, refl, ℕ, ◌-◌, ◌/◌, ◌<◌, nat_lt, bytes_eq, Bool, true, false, not, ◌==◌, ◌&&◌, ◌||◌, List, [], ◌∷◌, Option, Some, None, sym, subst, ap, ◌∙◌}
+use Rattle.std.proofs.Common.{◌≡◌, refl, ℕ, zero, suc, ◌+◌, ◌-◌, ◌/◌, ◌<◌, nat_lt, bytes_eq, Bool, true, false, not, ◌==◌, ◌&&◌, ◌||◌, List, [], ◌∷◌, Option, Some, None, sym, subst, ap, ◌∙◌}
 use Rattle.pp_ask.specs.declared.kind.AskKind.{AskKind}
 use Rattle.pp_head.specs.Request.{Request}
 use Rattle.pp_pass.specs.Pipe.{Pipe}
@@ -7,27 +7,28 @@ use Rattle.pp_target.specs.Key.{Key, text_of}
 use Rattle.pp_world.specs.declared.note.Decision.TheVariants.{Refuse, Hit, Part, Head, NotModified, Unsatisfiable, Relay, Validate, Fetch, Pass}
 use Rattle.pp_world.specs.declared.note.Decision.{Decision}
 use Rattle.pp_law.specs.Asking.{asking, is_writing, hear, ask_body, ask_next, ask, hang_up, asked_text, asked_body}
-use Rattle.pp_law.specs.Chunks.{chunk_len}
-use Rattle.pp_law.specs.Closing.{leave_one, leave_each, exchanges_of, close_client}
-use Rattle.pp_law.specs.Connections.{conn, is_conn, is_client, is_outstanding, on_client, on_passed}
-use Rattle.pp_law.specs.Deciding.{leave_unplaced, refused_with, refuse, begin_exchange, new_exchange, asking_with, ask_for, ask_as, ask_origin, reply_by, answering_with, follow_row, follow, relay, is_for_memory, mark_row_of, enter_row, decided_by, decided}
+use Rattle.pp_law.specs.Chunks.{chunk_len, use_chunk}
+use Rattle.pp_law.specs.Closing.{is_of, left_alone, forsake, is_over, leave, leave_one, leave_each, exchanges_of, close_client}
+use Rattle.pp_law.specs.Connections.{conn, is_conn, is_client, is_outstanding, on_client, is_trying}
+use Rattle.pp_law.specs.Deciding.{refused_with, refuse, add_exchange, begin_exchange, new_exchange, asking_with, ask_for, ask_as, ask_origin, reply_by, answering_with, serves, follow_with, follow_row, follow, relay, is_for_memory, mark_row_of, enter_row, decided_by, decided}
 use Rattle.pp_law.specs.Decisions.{kind_of, fits}
-use Rattle.pp_law.specs.Due.{is_passing}
 use Rattle.pp_law.specs.Followers.{need_of, filling_exchange, fill_with, fill_span, fill_next, fill_for, fill_each, fill, is_useless_ask, give_up_asks}
 use Rattle.pp_law.specs.Hearing.{heard_by}
-use Rattle.pp_law.specs.Lists.{Bytes, change}
-use Rattle.pp_law.specs.Passing.{on_pipe, pour}
-use Rattle.pp_law.specs.Replies.{begun_at_end, begin_replies, is_at_body, use_next, is_said, next_request, end_reply, end_each, is_finished, close_finished, end_replies, regained_by, regained}
+use Rattle.pp_law.specs.Lists.{Bytes, change, is_some_with}
+use Rattle.pp_law.specs.Offers.{is_at_body}
+use Rattle.pp_law.specs.Passing.{pour}
+use Rattle.pp_law.specs.Replies.{begun_at_end, is_outrun, begin_replies, use_chunks, use_from, use_said, is_said, next_request, end_reply, end_each, is_finished, close_finished, end_replies, regained_by, regained}
 use Rattle.pp_law.specs.Requests.{key_in}
-use Rattle.pp_law.specs.State.{State, Client, Exchange, Instance}
+use Rattle.pp_law.specs.Stages.{is_passing, on_passed}
+use Rattle.pp_law.specs.State.{State, AskTooLong, Client, Exchange, Instance, Passed}
 use Rattle.pp_law.specs.Table.{is_row_of, Next, next_of, row, kept_row, rows, idle_row, row_for, mark_row, on_instance, forget, forget_row, with_room, add_row, enter}
 use Rattle.pp_laws.specs.Runs.{IsIn}
-use Rattle.pp_laws.proofs.Callers.{asking_with-same, begun_at_end-same, heard_by-same, next_request-same, refused_with-same, regained_by-same, relayed-same, same_parts}
+use Rattle.pp_laws.proofs.Callers.{asking_with-same, begun_at_end-same, heard_by-same, next_request-same, on_passed-same, refused_with-same, regained_by-same, relayed-same, same_parts}
 use Rattle.pp_laws.proofs.Cases.{by_front, by_result, each_of, each_so, when}
 use Rattle.pp_laws.proofs.Closings.{close_conn-sound, own_line, own_line_shrunk}
 use Rattle.pp_laws.proofs.Exchanges.{end_exchange-sound, on_client-sound, on_client_of-sound, on_exchange-sound}
 use Rattle.pp_laws.proofs.KeptClients.{client_follows, clients_mapped}
-use Rattle.pp_laws.proofs.KeptExchanges.{exchange_pushed, exchanges_filtered}
+use Rattle.pp_laws.proofs.KeptExchanges.{SameExchange, exchange_pushed, exchanges_changed, exchanges_filtered}
 use Rattle.pp_laws.proofs.Lists.{in_find, one_of}
 use Rattle.pp_laws.proofs.Rows.{enter-sound, mark_row-sound, swept-sound, use_chunk-sound}
 use Rattle.pp_laws.proofs.Shrinks.{end_exchange-shrinks}
@@ -38,7 +39,23 @@ use Rattle.pp_laws.proofs.Tests.{same_bytes, same_number, second_holds}
 
 pub pour-sound : {b : Since} (e : Exchange) (f : Pipe → Pipe) (s : State) → Sound b s → Sound b (pour e f s)
 unfolding pour
-pour-sound e f s h = on_client_of-sound e (on_passed (on_pipe e.number f)) s (λ c. same_parts _ c refl refl refl) h
+pour-sound e f s h = on_client_of-sound e (on_passed (piped f)) s (on_passed-same (piped f)) h
+  where
+    piped : (Pipe → Pipe) → Passed → Passed
+    piped g p = record p { pipe = g p.pipe }
+
+-- ---- an exchange that its request leaves
+
+left_alone-same : (e : Exchange) → SameExchange (left_alone e) e
+left_alone-same e = record { number = refl; key = refl; aim = refl; place = refl; is_headed = refl; bound = refl }
+
+pub forsake-sound : {b : Since} (test : Exchange → Bool) (s : State) → Sound b s → Sound b (forsake test s)
+unfolding forsake
+forsake-sound {b} test s h = sound (exchanges_changed b s test left_alone left_alone-same (facts_of h))
+
+pub leave-sound : {b : Since} (test : Exchange → Bool) (s : State) → Sound b s → Sound b (leave test s)
+unfolding leave
+leave-sound {b} test s h = sound (exchanges_filtered b (forsake test s) (λ e. not (is_over e)) (facts_of (forsake-sound test s h)))
 
 -- ---- a client is closed
 
@@ -46,7 +63,7 @@ pub leave_one-sound : {b : Since} (e : Exchange) (s : State) → Sound b s → S
 unfolding leave_one
 leave_one-sound e s h =
     each_of e.place (end_exchange-sound e.number s h) (λ k. when (e.asked == 0) (end_exchange-sound e.number s h)
-    (when (e.body_left == 0) h (each_so (conn s k) (λ none. h) (λ j found.
+    (when (e.body_left == 0) (on_exchange-sound e.number left_alone s left_alone-same h) (each_so (conn s k) (λ none. h) (λ j found.
     close_conn-sound false j _ (own_line_shrunk j s _ (end_exchange-shrinks e.number s) (own_line j s (in_find (is_conn k) j s.conns found).0 h)) (end_exchange-sound e.number s h)))))
 
 pub leave_each-sound : {b : Since} (es : List Exchange) (s : State) → Sound b s → Sound b (leave_each es s)
@@ -60,22 +77,21 @@ close_client-sound n is_cut s h = swept-sound _ (leave_each-sound (exchanges_of 
 
 -- ---- decisions
 
-pub leave_unplaced-sound : {b : Since} (es : List Exchange) (s : State) → Sound b s → Sound b (leave_unplaced es s)
-unfolding leave_unplaced
-leave_unplaced-sound [] s h = h
-leave_unplaced-sound (e ∷ es) s h = leave_unplaced-sound es _ (each_of e.place (end_exchange-sound e.number s h) (λ k. h))
-
 pub refuse-sound : {b : Since} (c : Client) (status : ℕ) (s : State) → Sound b s → Sound b (refuse c status s)
 unfolding refuse
-refuse-sound c status s h = swept-sound _ (leave_unplaced-sound (exchanges_of c.number s) _ (on_client-sound c.number (refused_with status) s (refused_with-same status) h))
+refuse-sound c status s h = swept-sound _ (leave-sound (is_of c.number) _ (on_client-sound c.number (refused_with status) s (refused_with-same status) h))
+
+add_exchange-sound : {b : Since} (e : Exchange) (s : State) → e.number ≡ s.next_exchange → e.bound ≡ None → Sound b s → Sound b (add_exchange e s)
+unfolding add_exchange
+add_exchange-sound {b} e s number none h = sound (exchange_pushed b s e number none (facts_of h))
 
 pub begin_exchange-sound : {b : Since} (e : Exchange) (s : State) → e.number ≡ s.next_exchange → e.bound ≡ None → Sound b s → Sound b (begin_exchange e s)
-unfolding begin_exchange
-begin_exchange-sound {b} e s number none h = sound (exchange_pushed b s e number none (facts_of h))
+unfolding begin_exchange forsake
+begin_exchange-sound e s number none h = add_exchange-sound e _ number none (forsake-sound (λ x. is_some_with (λ n. is_of n x) e.asker) s h)
 
 pub ask_for-sound : {b : Since} (c : Client) (d : Decision) (head : Request) (key : Key) (kind : AskKind) (s : State) → Sound b s → Sound b (ask_for c d head key kind s)
-unfolding ask_for on_client
-ask_for-sound c d head key kind s h = begin_exchange-sound (new_exchange s c head key d kind) _ refl refl (on_client-sound c.number (asking_with d s.next_exchange) s (asking_with-same d s.next_exchange) h)
+unfolding ask_for leave forsake on_client
+ask_for-sound c d head key kind s h = begin_exchange-sound (new_exchange s c head key d kind) _ refl refl (leave-sound (is_of c.number) _ (on_client-sound c.number (asking_with d) s (asking_with-same d) h))
 
 pub ask_as-sound : {b : Since} (c : Client) (d : Decision) (head : Request) (key : Key) (s : State) → Sound b s → Sound b (ask_as c d head key s)
 unfolding ask_as
@@ -95,8 +111,10 @@ row_of-key key s x found =
     (there.0, same_bytes x.key key (second_holds (not x.is_retired) (bytes_eq x.key key) there.1))
 
 pub follow_row-sound : {b : Since} (c : Client) (d : Decision) (key : Key) (s : State) → is_passing d ≡ false → key_in c.front ≡ Some key → IsCurrent c s → Sound b s → Sound b (follow_row c d (text_of key) s)
-unfolding follow_row on_client
-follow_row-sound {b} c d key s kept asks current h = each_so (row s (text_of key)) (λ none. h) (λ x found. swept-sound _ (sound (by x (row_of-key (text_of key) s x found))))
+unfolding follow_row follow_with on_client
+follow_row-sound {b} c d key s kept asks current h =
+    each_so (row s (text_of key)) (λ none. h)
+    (λ x found. swept-sound _ (leave-sound (λ e. is_of c.number e && not (serves x (reply_by d (Some x.id)) e)) _ (sound (by x (row_of-key (text_of key) s x found)))))
   where
     by : (x : Instance) → IsIn x s.instances × (x.key ≡ text_of key) → FactsOf b (record s { clients = change (is_client c.number) (answering_with (reply_by d (Some x.id))) s.clients })
     by x there = client_follows b s (is_client c.number) (answering_with (reply_by d (Some x.id))) (λ e. refl) follows (facts_of h)
@@ -179,15 +197,24 @@ decided-sound c d s there h =
 
 pub begin_replies-sound : {b : Since} (s : State) → Sound b s → Sound b (begin_replies s)
 unfolding begin_replies
-begin_replies-sound {b} s h = swept-sound _ (sound (clients_mapped b s (begun_at_end s) (begun_at_end-same s) (facts_of h)))
+begin_replies-sound {b} s h = swept-sound _ (forsake-sound (is_outrun s) _ (sound (clients_mapped b s (begun_at_end s) (begun_at_end-same s) (facts_of h))))
 
-pub use_next-sound : {b : Since} (c : Client) (s : State) → Sound b s → Sound b (use_next c s)
-unfolding use_next
-use_next-sound c s h = when (is_at_body c) (each_of (next_of s c) h (λ n. use_chunk-sound n.source.id (n.at / chunk_len) s h)) h
+use_chunks-sound : {b : Since} (more id i : ℕ) (s : State) → Sound b s → Sound b (use_chunks more id i s)
+unfolding use_chunks
+use_chunks-sound zero id i s h = h
+use_chunks-sound (suc more) id i s h = use_chunks-sound more id (i + 1) (use_chunk id i s) (use_chunk-sound id i s h)
+
+use_from-sound : {b : Since} (n : ℕ) (x : Next) (s : State) → Sound b s → Sound b (use_from n x s)
+unfolding use_from
+use_from-sound n x s h = use_chunks-sound _ x.source.id (x.at / chunk_len) s h
+
+pub use_said-sound : {b : Since} (n : ℕ) (c : Client) (s : State) → Sound b s → Sound b (use_said n c s)
+unfolding use_said
+use_said-sound n c s h = when (is_at_body c && nat_lt 0 n) (each_of (next_of s c) h (λ x. use_from-sound n x s h)) h
 
 pub end_reply-sound : {b : Since} (c : Client) (s : State) → Sound b s → Sound b (end_reply c s)
 unfolding end_reply
-end_reply-sound c s h = when c.closes (close_client-sound c.number false s h) (swept-sound _ (on_client-sound c.number next_request s next_request-same h))
+end_reply-sound c s h = when c.closes (close_client-sound c.number false s h) (swept-sound _ (forsake-sound (is_of c.number) _ (on_client-sound c.number next_request s next_request-same h)))
 
 pub end_each-sound : {b : Since} (cs : List Client) (s : State) → Sound b s → Sound b (end_each cs s)
 unfolding end_each
@@ -211,7 +238,7 @@ regained-sound {b} s h = sound (clients_mapped b s (regained_by s) (regained_by-
 
 pub fill_with-sound : {b : Since} (e : Exchange) (c : Client) (s : State) → e.number ≡ s.next_exchange → e.bound ≡ None → Sound b s → Sound b (fill_with e c s)
 unfolding fill_with
-fill_with-sound e c s number none h = when (fits e.text) (begin_exchange-sound e s number none h) (on_client-sound c.number (λ x. record x { is_too_long = true }) s (λ c. same_parts _ c refl refl refl) h)
+fill_with-sound e c s number none h = when (fits e.text) (begin_exchange-sound e s number none h) (on_client-sound c.number (λ x. record x { course = AskTooLong }) s (λ c. same_parts _ c refl refl refl) h)
 
 pub fill_span-sound : {b : Since} (c : Client) (n : Next) (span : ℕ × ℕ) (s : State) → Sound b s → Sound b (fill_span c n span s)
 unfolding fill_span
@@ -224,7 +251,7 @@ fill_next-sound c n s h = each_of (need_of s n) h (λ span. fill_span-sound c n 
 
 pub fill_for-sound : {b : Since} (c : Client) (s : State) → Sound b s → Sound b (fill_for c s)
 unfolding fill_for
-fill_for-sound c s h = when (c.has_failed || c.is_too_long) h (each_of (next_of s c) h (λ n. fill_next-sound c n s h))
+fill_for-sound c s h = when (is_trying c.course) (each_of (next_of s c) h (λ n. fill_next-sound c n s h)) h
 
 pub fill_each-sound : {b : Since} (cs : List Client) (s : State) → Sound b s → Sound b (fill_each cs s)
 unfolding fill_each

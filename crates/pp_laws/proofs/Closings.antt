@@ -1,11 +1,12 @@
 -- A connection that is closed, and its exchanges that are asked again, keep what is sound.
 use Rattle.std.proofs.Common.{◌≡◌, refl, ℕ, ◌<◌, Bool, true, false, not, ◌==◌, ◌&&◌, List, [], ◌∷◌, Some, None, inl, inr, sym, subst, ap, ◌∙◌}
-use Rattle.pp_law.specs.Connections.{exchange, is_conn, is_exchange, on_conn, on_exchange, on_client_of, lose_attempt, short_of, on_passed, unplaced, has_client, leave_place, lose_place, lose_places, close_conn}
+use Rattle.pp_law.specs.Connections.{exchange, is_conn, is_exchange, on_conn, on_exchange, on_client_of, lose_attempt, unplaced, may_ask_again, leave_place, lose_place, lose_places, close_conn}
 use Rattle.pp_law.specs.Lists.{change}
 use Rattle.pp_law.specs.OwnHeads.{key_of}
+use Rattle.pp_law.specs.Stages.{on_passed}
 use Rattle.pp_law.specs.State.{State, Conn, Exchange, Instance, Bound}
 use Rattle.pp_laws.specs.Runs.{IsIn}
-use Rattle.pp_laws.proofs.Callers.{same_parts}
+use Rattle.pp_laws.proofs.Callers.{on_passed-same}
 use Rattle.pp_laws.proofs.Cases.{each_so, when, when_so}
 use Rattle.pp_laws.proofs.Exchanges.{end_exchange-sound, lose_attempt-sound, on_client_of-sound}
 use Rattle.pp_laws.proofs.KeptConns.{ConnFrom, conn_from, conn_same, conns_kept}
@@ -108,8 +109,8 @@ pub leave_place-sound : {b : Since} (e : Exchange) (s : State) → IsIn e s.exch
 unfolding leave_place
 leave_place-sound e s i no_line h =
     when_so e.is_headed
-    (λ hit. end_exchange-sound e.number _ (on_client_of-sound e (on_passed (short_of e.number)) s (λ c. same_parts _ c refl refl refl) h))
-    (λ isnt. when (has_client s e)
+    (λ hit. end_exchange-sound e.number _ (on_client_of-sound e (on_passed (λ p. record p { is_short = true })) s (on_passed-same (λ p. record p { is_short = true })) h))
+    (λ isnt. when (may_ask_again s e)
     (move-sound e.number unplaced s (λ d. record { number = refl; key = refl; aim = refl; is_headed = refl; bound = refl }) no_line (unheaded_unbound e s (facts_of h) i isnt) h)
     (end_exchange-sound e.number s h))
 

@@ -7,22 +7,23 @@ use Rattle.pp_head.specs.Response.{Response}
 use Rattle.pp_text.specs.Bytes.{is_empty}
 use Rattle.pp_valid.specs.Versions.{version_of}
 use Rattle.pp_valid.specs.declared.version.Version.{Version}
-use Rattle.pp_law.specs.Chunks.{joined}
-use Rattle.pp_law.specs.Connections.{is_exchange, on_exchange, on_passed}
+use Rattle.pp_law.specs.Chunks.{joined, note_use}
+use Rattle.pp_law.specs.Connections.{is_exchange, on_exchange}
 use Rattle.pp_law.specs.Lists.{Bytes}
 use Rattle.pp_law.specs.OwnHeads.{key_of, first_offset, sent_as, note_own, note_sent, join, moved_on, join_bound}
-use Rattle.pp_law.specs.Passing.{pour, poured, on_pipe}
+use Rattle.pp_law.specs.Passing.{pour, poured}
 use Rattle.pp_law.specs.Responses.{deliver, payload_of}
+use Rattle.pp_law.specs.Stages.{on_passed}
 use Rattle.pp_law.specs.State.{State, Sent, Aim, Through, Own, Filling, Answer, Bound, Exchange, Instance}
 use Rattle.pp_law.specs.Table.{is_instance, instance, extent_of}
 use Rattle.pp_laws.specs.Origin.{AllSent}
 use Rattle.pp_laws.specs.Runs.{IsIn}
 use Rattle.pp_laws.proofs.Binding.{Behind, Rebinds, behind_told, rebound}
-use Rattle.pp_laws.proofs.Callers.{same_parts}
+use Rattle.pp_laws.proofs.Callers.{on_passed-same}
 use Rattle.pp_laws.proofs.Joins.{HeldOf, joined-given, joined-held}
 use Rattle.pp_laws.proofs.Lists.{Changed, in_change, in_find, one_of, other, same}
 use Rattle.pp_laws.proofs.Payloads.{payload-grows}
-use Rattle.pp_laws.proofs.Rows.{rechunked}
+use Rattle.pp_laws.proofs.Rows.{note_use-sound, rechunked}
 use Rattle.pp_laws.proofs.Sent.{sent-just, sent-more}
 use Rattle.pp_laws.proofs.Sound.{FactsOf, Fitting, Since, Sound, exchange_number, facts_of, is_noted, sound}
 use Rattle.pp_laws.proofs.Tests.{number_same, same_number}
@@ -96,7 +97,7 @@ note_sent-sent e head at bytes v s noted version = noted_by e.aim s (note_own e 
 -- ---- they join
 
 join-only : {b : Since} (to : Bound) (bytes : Bytes) (s : State) → (b.counts_loads ≡ true → (x : Instance) → IsIn x s.instances → x.id ≡ to.instance → AllSent s.sent x.key x.version to.next bytes) → Sound b s → OnlySent b s (join to bytes s)
-unfolding join
+unfolding join note_use
 join-only {b} to bytes s sent h = by (instance s to.instance) refl
   where
     facts : FactsOf b s
@@ -107,12 +108,12 @@ join-only {b} to bytes s sent h = by (instance s to.instance) refl
         joined-held s.sent y.key y.version y.id x.id (extent_of s x) to.next bytes s.chunks (λ is. sent counts y i (sym is ∙ same_number x.id to.instance there.1)) (facts.held counts y i)
 
     by : (found : Option Instance) → instance s to.instance ≡ found
-        → OnlySent b s (elim found as (λ c. State) [ None ↦ s | Some x ↦ record s { chunks = joined x.id (extent_of s x) to.next bytes s.chunks } ])
+        → OnlySent b s (elim found as (λ c. State) [ None ↦ s | Some x ↦ note_use (record s { chunks = joined x.id (extent_of s x) to.next bytes s.chunks }) ])
     by None is = only_sent s h
     by (Some x) is =
         let there = in_find (is_instance to.instance) x s.instances is in
         record {
-          is_sound = sound (rechunked b s (joined x.id (extent_of s x) to.next bytes s.chunks) (joined-given s.next_instance x.id (extent_of s x) to.next bytes s.chunks (facts.rows.given x there.0) facts.rows.chunks_given) (held x there) facts);
+          is_sound = note_use-sound _ (sound (rechunked b s (joined x.id (extent_of s x) to.next bytes s.chunks) (joined-given s.next_instance x.id (extent_of s x) to.next bytes s.chunks (facts.rows.given x there.0) facts.rows.chunks_given) (held x there) facts));
           conns = refl;
           exchanges = refl;
           instances = refl;
@@ -272,5 +273,5 @@ pub deliver-behind : {b : Since} (a : Answer) (e : Exchange) (bytes : Bytes) (s 
     → Behind b (behind_bytes a bytes) e s (deliver e a (length (payload_of a)) (added a bytes) s)
 unfolding deliver pour
 deliver-behind a e bytes s apart there fits h =
-    behind_told (on_passed (on_pipe e.number (poured (added a bytes)))) s _ (λ c. same_parts _ c refl refl refl)
+    behind_told (on_passed (λ p. record p { pipe = poured (added a bytes) p.pipe })) s _ (on_passed-same (λ p. record p { pipe = poured (added a bytes) p.pipe }))
     (join_bound-behind a e bytes s _ apart there fits (note_sent-only e a.head (length (payload_of a)) (added a bytes) s h) (λ to is x i id. data_sent a e bytes s there fits (facts_of h) to is x i id))

@@ -1,7 +1,7 @@
 -- Changes of one connection, exchange or client, and an exchange that is over, keep what is sound.
 use Rattle.std.proofs.Common.{◌≡◌, refl, ℕ, Bool, true, not, ◌==◌, List, [], ◌∷◌, map, filter, cond, Some, sym, subst, ap, ◌∙◌}
 use Rattle.pp_law.specs.Connections.{is_client, is_conn, is_exchange, is_for, on_conn, on_exchange, on_client, on_client_of, attempts_of, lost_one, lose_attempt, fail, without_ask, end_exchange}
-use Rattle.pp_law.specs.State.{State, Client, Conn, Exchange}
+use Rattle.pp_law.specs.State.{State, OutOfTries, Client, Conn, Exchange}
 use Rattle.pp_laws.specs.Runs.{IsIn}
 use Rattle.pp_laws.proofs.Callers.{same_parts}
 use Rattle.pp_laws.proofs.KeptClients.{SameClient, clients_changed}
@@ -28,11 +28,11 @@ on_client_of-sound {b} e f s kept h = sound (clients_changed b s (is_for e) f ke
 
 pub lose_attempt-sound : {b : Since} (e : Exchange) (s : State) → Sound b s → Sound b (lose_attempt e s)
 unfolding lose_attempt
-lose_attempt-sound e s h = on_client_of-sound e (lost_one (attempts_of e)) s (λ c. same_parts _ c refl refl refl) h
+lose_attempt-sound e s h = on_client_of-sound e (λ c. record c { course = lost_one (attempts_of e) c.course }) s (λ c. same_parts _ c refl refl refl) h
 
 pub fail-sound : {b : Since} (e : Exchange) (s : State) → Sound b s → Sound b (fail e s)
 unfolding fail
-fail-sound e s h = on_client_of-sound e (λ c. record c { has_failed = true }) s (λ c. same_parts _ c refl refl refl) h
+fail-sound e s h = on_client_of-sound e (λ c. record c { course = OutOfTries }) s (λ c. same_parts _ c refl refl refl) h
 
 -- ---- an exchange is over
 

@@ -5,8 +5,8 @@ use Rattle.pp_head.specs.Response.{Response}
 use Rattle.pp_text.specs.Fields.{Field}
 use Rattle.pp_valid.specs.declared.version.Version.{Version}
 use Rattle.pp_law.specs.Lists.{Bytes, change, is_some_with}
-use Rattle.pp_law.specs.OwnHeads.{renewed, renew, known_version}
-use Rattle.pp_law.specs.State.{State, Instance, Entry}
+use Rattle.pp_law.specs.OwnHeads.{key_of, renewed, renew, renew_row, refresh, times_for, known_version}
+use Rattle.pp_law.specs.State.{State, Exchange, Instance, Entry}
 use Rattle.pp_law.specs.Table.{is_same_version, is_instance, is_row_of, is_left_over, row, rows, kept_row, idle_row, on_instance, forget, forget_each, swept, clear, mark_row, forget_row, with_room, add_row, make_row, enter}
 use Rattle.pp_laws.proofs.Tests.{same_version}
 
@@ -112,7 +112,7 @@ entered_by key v is_new s (Some y) kept is known x found = let e : y ≡ x = cc 
 entered_by key v is_new s None None is known x found = absurd (cc known)
 entered_by key v is_new s None (Some k) is known x found = add_row-is key k.version k.fields k.times is_new (with_room s) (with_room-no_row key s is) x found ∙ sym (same_version v k.version known)
 
-pub enter-is : (key : Bytes) (v : Version) (is_new : Bool) (s : State) → is_some_with (is_same_version v) (known_version s key) ≡ true → RowIs key v (enter key is_new s)
+enter-is : (key : Bytes) (v : Version) (is_new : Bool) (s : State) → is_some_with (is_same_version v) (known_version s key) ≡ true → RowIs key v (enter key is_new s)
 unfolding enter
 enter-is key v is_new s known = entered_by key v is_new s (row s key) (kept_row s key) refl known
 
@@ -134,6 +134,18 @@ mark_row-is : (key : Bytes) (v : Version) (id : ℕ) (s : State) → RowIs key v
 unfolding mark_row
 mark_row-is key v id s is = on_instance-is key v id (λ x. record x { touched = s.uses }) s (λ x. refl) (λ x. refl) is
 
-pub renew-is : (key : Bytes) (v : Version) (x : Instance) (head : Response) (times : Times) (s : State) → RowIs key v s → RowIs key v (renew x head times s)
+renew-is : (key : Bytes) (v : Version) (x : Instance) (head : Response) (times : Times) (s : State) → RowIs key v s → RowIs key v (renew x head times s)
 unfolding renew
 renew-is key v x head times s is = mark_row-is key v x.id _ (on_instance-is key v x.id (renewed head times) s (λ y. refl) (λ y. refl) is)
+
+is_each : (key : Bytes) (v : Version) (o : Option Instance) (x : State) (y : Instance → State) → RowIs key v x → ((a : Instance) → RowIs key v (y a)) → RowIs key v (elim o as (λ c. State) [ None ↦ x | Some a ↦ y a ])
+is_each key v None x y hx hy = hx
+is_each key v (Some a) x y hx hy = hy a
+
+renew_row-is : (e : Exchange) (head : Response) (key : Bytes) (v : Version) (s : State) → RowIs key v s → RowIs key v (renew_row e head s)
+unfolding renew_row
+renew_row-is e head key v s is = is_each key v (row s (key_of e)) _ _ is (λ x. renew-is key v x head (times_for e head s) s is)
+
+pub refresh-is : (e : Exchange) (head : Response) (v : Version) (s : State) → is_some_with (is_same_version v) (known_version s (key_of e)) ≡ true → RowIs (key_of e) v (refresh e head s)
+unfolding refresh
+refresh-is e head v s known = renew_row-is e head (key_of e) v (enter (key_of e) true s) (enter-is (key_of e) v true s known)

@@ -7,32 +7,32 @@ use Rattle.pp_world.specs.declared.happening.Happening.{Happening}
 use Rattle.pp_world.specs.declared.note.Remark.TheVariants.{Taken, Cut, Kept, Gone, Forgotten, Evicted, Loaded}
 use Rattle.pp_world.specs.declared.note.Remark.{Remark}
 use Rattle.pp_world.specs.declared.op.DiskOp.{DiskOp}
-use Rattle.pp_law.specs.After.{new_client, new_conn, event, opened, owing, reached, paid, use_said, said, gone, in_step_7, take_decision, evicted, refused_row, forgotten_row, forgotten_by, noted, begun_op, ended_op, unread, shut, dialled, undialled, out, dropped, rested, changed, after}
+use Rattle.pp_law.specs.After.{new_client, new_conn, event, opened, owing, reached, paid, said, gone, in_step_7, take_decision, evicted, waits_for_row, refused_row, forgotten_row, forgotten_by, noted, begun_op, ended_op, unread, shut, dialled, refused_dial, undialled, out, dropped, rested, changed, after}
 use Rattle.pp_law.specs.Closing.{close_client}
-use Rattle.pp_law.specs.Connections.{client, conn, is_client, is_conn, put_on, placing, Placement, Pause, AllPlaced, WaitsDial, WaitsDrop}
+use Rattle.pp_law.specs.Connections.{client, conn, is_client, is_conn, may_ask_again, put_on, placing, Placement, Pause, AllPlaced, WaitsDial, WaitsDrop}
 use Rattle.pp_law.specs.Deciding.{decided}
 use Rattle.pp_law.specs.Lawful.{LawfulFrom}
 use Rattle.pp_law.specs.Lists.{Bytes}
 use Rattle.pp_law.specs.Opening.{is_opening}
 use Rattle.pp_law.specs.Permits.{is_permitted, IsPermitted, permits, permits_dial, is_new_number}
 use Rattle.pp_law.specs.Replies.{said_by}
-use Rattle.pp_law.specs.State.{State, Client, Conn, Exchange, Instance, IsRooted, IsListed, IsListening, Owed, ReadOf, WriteTo}
+use Rattle.pp_law.specs.State.{State, RowRefused, Client, Conn, Exchange, Instance, IsRooted, IsListed, IsListening, Owed, ReadOf, WriteTo}
 use Rattle.pp_law.specs.Store.{name_for}
-use Rattle.pp_law.specs.Table.{row}
+use Rattle.pp_law.specs.Table.{row, forget}
 use Rattle.pp_law.specs.Turn.{step, is_awaiting, due_victim, to_6}
 use Rattle.pp_laws.specs.Origin.{LoadWasSent, LoadsWhatWasSent}
 use Rattle.pp_laws.specs.Runs.{after_all, IsIn}
-use Rattle.pp_laws.proofs.Callers.{said_by-same}
+use Rattle.pp_laws.proofs.Callers.{said_by-same, same_parts}
 use Rattle.pp_laws.proofs.Cases.{by_list, by_pause, each_of, each_so, when}
-use Rattle.pp_laws.proofs.Clients.{ask-sound, close_client-sound, decided-sound, end_replies-sound, hang_up-sound, hear-sound, regained-sound, use_next-sound}
+use Rattle.pp_laws.proofs.Clients.{ask-sound, close_client-sound, decided-sound, end_replies-sound, hang_up-sound, hear-sound, regained-sound, use_said-sound}
 use Rattle.pp_laws.proofs.Disk.{begin_op-sound, close_name-sound, configured-sound, end_op-sound, load-sound, lose_in_opening-sound, note_gone-sound, note_kept-sound, opened_to-sound, woken-sound}
-use Rattle.pp_laws.proofs.Exchanges.{lose_attempt-sound, on_client-sound, on_conn-sound}
-use Rattle.pp_laws.proofs.KeptClients.{client_pushed, clients_filtered}
+use Rattle.pp_laws.proofs.Exchanges.{end_exchange-sound, lose_attempt-sound, on_client-sound, on_conn-sound}
+use Rattle.pp_laws.proofs.KeptClients.{client_pushed, clients_changed, clients_filtered}
 use Rattle.pp_laws.proofs.KeptConns.{conn_pushed, conns_filtered, top_raised}
 use Rattle.pp_laws.proofs.Lists.{in_find, in_push}
 use Rattle.pp_laws.proofs.Pieces.{ended-sound, got-sound}
 use Rattle.pp_laws.proofs.Places.{IsReady, placing-dial, placing-sound, put_on-sound}
-use Rattle.pp_laws.proofs.Rows.{drop_chunk-sound, forget-sound, note_use-sound}
+use Rattle.pp_laws.proofs.Rows.{drop_chunk-sound, forget-sound}
 use Rattle.pp_laws.proofs.Sound.{Since, Sound, facts_of, sound}
 use Rattle.pp_laws.proofs.Steps.{ending-sound, rest_with-sound, tick-sound, to_3-sound, to_6-sound, to_decide-sound, touch-sound}
 use Rattle.pp_laws.proofs.Tests.{below, first_holds, second_holds}
@@ -41,7 +41,8 @@ use Rattle.pp_laws.proofs.Tops.{placing-top, to_6-top}
 -- ---- events
 
 event-sound : {b : Since} (s : State) → Sound b s → Sound b (event s)
-event-sound s h = sound (facts_of h)
+unfolding event
+event-sound s h = regained-sound _ (sound (facts_of h))
 
 opened-sound : {b : Since} (n : ℕ) (s : State) → s.top < n → Sound b s → Sound b (opened n s)
 unfolding opened
@@ -62,11 +63,7 @@ reached-sound n s h = touch-sound n _ (on_conn-sound n (λ k. record k { is_reac
 
 paid-sound : {b : Since} (s : State) → Sound b s → Sound b (paid s)
 unfolding paid
-paid-sound s h = sound (facts_of h)
-
-use_said-sound : {b : Since} (n : ℕ) (c : Client) (s : State) → Sound b s → Sound b (use_said n c s)
-unfolding use_said
-use_said-sound n c s h = when (n == 0) h (use_next-sound c s h)
+paid-sound s h = regained-sound _ (sound (facts_of h))
 
 said-sound : {b : Since} (c n : ℕ) (s : State) → Sound b s → Sound b (said c n s)
 unfolding said
@@ -84,7 +81,7 @@ in_step_7-sound s h = sound (facts_of h)
 
 take_decision-sound : {b : Since} (n : ℕ) (s : State) (decide : Client → State → State) → ((c : Client) → IsIn c s.clients → Sound b (decide c s)) → Sound b s → Sound b (take_decision n s decide)
 unfolding take_decision
-take_decision-sound n s decide each h = each_so (client s n) (λ none. h) (λ c found. sound (facts_of (in_step_7-sound _ (each c (in_find (is_client n) c s.clients found).0))))
+take_decision-sound n s decide each h = each_so (client s n) (λ none. h) (λ c found. regained-sound _ (sound (facts_of (in_step_7-sound _ (each c (in_find (is_client n) c s.clients found).0)))))
 
 evicted-sound : {b : Since} (s : State) → Sound b s → Sound b (evicted s)
 unfolding evicted
@@ -92,7 +89,7 @@ evicted-sound s h = each_of (due_victim s) h (λ place. drop_chunk-sound place.0
 
 refused_row-sound : {b : Since} (x : Instance) (s : State) → Sound b s → Sound b (refused_row x s)
 unfolding refused_row
-refused_row-sound x s h = sound (facts_of (forget-sound x.id s h))
+refused_row-sound {b} x s h = sound (clients_changed b (forget x.id s) (waits_for_row x.id) (λ c. record c { course = RowRefused }) (λ c. same_parts _ c refl refl refl) (facts_of (forget-sound x.id s h)))
 
 forgotten_row-sound : {b : Since} (x : Instance) (s : State) → Sound b s → Sound b (forgotten_row x s)
 unfolding forgotten_row
@@ -155,9 +152,13 @@ dialled-sound : {b : Since} (n : ℕ) (host : Bytes) (port : ℕ) (s : State) �
 unfolding dialled
 dialled-sound n host port s above h = dialled_at n host port (placing s).state (placing s).pause above (λ e is. placing-dial s h e is) (placing-sound s h)
 
+refused_dial-sound : {b : Since} (e : Exchange) (s : State) → Sound b s → Sound b (refused_dial e s)
+unfolding refused_dial
+refused_dial-sound e s h = when (may_ask_again s e) h (sound (facts_of (end_exchange-sound e.number s h)))
+
 undialled-sound : {b : Since} (p : Placement) → Sound b p.state → Sound b (undialled p)
 unfolding undialled
-undialled-sound p h = by_pause p.pause h (λ k e. h) (λ e. lose_attempt-sound e _ (sound (facts_of h)))
+undialled-sound p h = by_pause p.pause h (λ k e. h) (λ e. refused_dial-sound e _ (lose_attempt-sound e _ (sound (facts_of h))))
 
 out-sound : {b : Since} (n : ℕ) (s : State) → Sound b s → Sound b (out n s)
 unfolding out
@@ -210,7 +211,7 @@ changed-sound s (Reached k) none loads is h = event-sound _ (reached-sound k s h
 changed-sound s (Ended k) none loads is h = paid-sound _ (gone-sound true k s none h)
 changed-sound s (Broke k) none loads is h = paid-sound _ (gone-sound false k _ none (event-sound s h))
 changed-sound s (Asked k bytes) none loads is h = paid-sound _ (ask-sound k (length bytes) s h)
-changed-sound s (Got k bytes) none loads is h = paid-sound _ (note_use-sound _ (end_replies-sound _ (got-sound (length bytes) k bytes s none h)))
+changed-sound s (Got k bytes) none loads is h = paid-sound _ (end_replies-sound _ (got-sound (length bytes) k bytes s none h))
 changed-sound s (Dropped k) none loads is h = dropped-sound k _ (to_6-sound s h)
 changed-sound s (NoneYet n) none loads is h = paid-sound s h
 changed-sound s (Began op) none loads is h = begun_op-sound op s h
@@ -225,8 +226,7 @@ changed-sound s (Printed text) none loads is h = h
 changed-sound s Stopped none loads is h = event-sound (record s { is_stopped = true }) (sound (facts_of h))
 
 pub after-sound : {b : Since} (s : State) (happening : Happening) → b.excepts ≡ None → (b.counts_loads ≡ true → LoadWasSent s happening) → IsPermitted s happening → Sound b s → Sound b (after s happening)
-unfolding after
-after-sound s happening none loads is h = regained-sound _ (changed-sound s happening none loads is h)
+after-sound s happening none loads is h = changed-sound s happening none loads is h
 
 pub after_all-sound : {b : Since} (s : State) (log : Log) → b.excepts ≡ None → (b.counts_loads ≡ true → LoadsWhatWasSent s log) → LawfulFrom s log → Sound b s → Sound b (after_all s log)
 after_all-sound s [] none loads lawful h = h

@@ -79,7 +79,7 @@ head_piece_by k bytes s (Whole head) none there no_answer h =
 
 head_piece-sound : {b : Since} (k : Conn) (bytes : Bytes) (s : State) → b.excepts ≡ None → IsIn k s.conns → k.answer ≡ None → Sound b s → Sound b (head_piece k bytes s).state
 head_piece-sound k bytes s none there no_answer h =
-    piece_when (is_early s k) _ _ (bad_response-sound k s (own_line k s there h) h)
+    piece_when (is_early s k) _ _ (close_conn-sound true k s (own_line k s there h) h)
     (head_piece_by k (k.unread ++ bytes) s (response_at (k.unread ++ bytes)) none there no_answer h)
 
 -- ---- pieces

@@ -2,7 +2,7 @@
 use Rattle.std.proofs.Common.{◌≡◌, ◌⊎◌, refl, ℕ, ◌<◌, ◌≤◌, true, false, ◌==◌, List, [], ◌∷◌, ◌++◌, map, Option, Some, None, inl, inr, sym, subst, ap, ◌∙◌, lt_irrefl}
 use Rattle.pp_peers.specs.declared.placing.Placed.TheVariants.{On, Dial, CloseThenDial, Wait}
 use Rattle.pp_peers.specs.declared.placing.Placed.{Placed}
-use Rattle.pp_law.specs.Connections.{is_conn, is_exchange, on_conn, on_exchange, wanted_place, put_on, place_all, placing, WaitsDial, WaitsDrop, Placement}
+use Rattle.pp_law.specs.Connections.{is_conn, is_exchange, on_conn, on_exchange, place_for, put_on, place_all, placing, WaitsDial, WaitsDrop, Placement}
 use Rattle.pp_law.specs.Lists.{change}
 use Rattle.pp_law.specs.State.{State, Conn, Exchange, Bound}
 use Rattle.pp_laws.specs.Numbers.{AreRising}
@@ -155,7 +155,7 @@ place_all-sound : {b : Since} (es : List Exchange) (s : State) → AreRising (ma
 place_all-sound [] s rise ready h = h
 place_all-sound (e ∷ es) s rise ready h =
     place_at e.place _ _ (place_all-sound es s rise.1 (λ d i. ready d (inr i)) h)
-    (λ none. place_by e es s (wanted_place s e) (ready e (inl refl) none) rise (λ d i. ready d (inr i)) (λ t others ht. place_all-sound es t rise.1 others ht) h)
+    (λ none. place_by e es s (place_for s e) (ready e (inl refl) none) rise (λ d i. ready d (inr i)) (λ t others ht. place_all-sound es t rise.1 others ht) h)
 
 -- the one for which a dial is waited for is ready
 dial_by : (e : Exchange) (es : List Exchange) (s : State) (wanted : Placed) → IsReady e.number s → AreRising (map exchange_number (e ∷ es)) → AreReady es s
@@ -189,7 +189,7 @@ place_all-dial : (es : List Exchange) (s : State) → AreRising (map exchange_nu
 place_all-dial [] s rise ready d is = absurd (cc is)
 place_all-dial (e ∷ es) s rise ready d is =
     dial_at e.place _ _ d (λ more. place_all-dial es s rise.1 (λ g i. ready g (inr i)) d more)
-    (λ none more. dial_by e es s (wanted_place s e) (ready e (inl refl) none) rise (λ g i. ready g (inr i)) (λ t others g later. place_all-dial es t rise.1 others g later) d more) is
+    (λ none more. dial_by e es s (place_for s e) (ready e (inl refl) none) rise (λ g i. ready g (inr i)) (λ t others g later. place_all-dial es t rise.1 others g later) d more) is
 
 all_ready : {b : Since} (s : State) → Sound b s → AreReady s.exchanges s
 all_ready s h e i none = record {

@@ -1,22 +1,22 @@
 -- What is said to a client that is answered from an instance was sent.
-use Rattle.std.proofs.Common.{◌≡◌, refl, ℕ, zero, suc, ◌+◌, ◌-◌, ◌*◌, ◌/◌, ◌%◌, nat_lt, nat_le, nat_eq, Bool, true, false, [], ◌∷◌, ◌++◌, length, take, drop, Option, Some, None, sym, subst, ap, ◌∙◌, div-add-mod'}
+use Rattle.std.proofs.Common.{◌≡◌, refl, ℕ, zero, suc, ◌+◌, ◌-◌, ◌*◌, ◌/◌, ◌%◌, nat_lt, nat_le, nat_eq, Bool, true, false, ◌==◌, [], ◌∷◌, ◌++◌, length, take, drop, Option, Some, None, sym, subst, ap, ◌∙◌, div-add-mod', length-drop, arith}
 use Rattle.std.specs.List.{starts_with}
 use Rattle.pp_text.specs.Bytes.{is_empty}
 use Rattle.pp_world.specs.declared.happening.Happening.TheVariants.{Said}
 use Rattle.pp_law.specs.Asking.{is_writing}
 use Rattle.pp_law.specs.Chunks.{chunk_len, chunk_bytes}
 use Rattle.pp_law.specs.Connections.{is_client, client}
-use Rattle.pp_law.specs.Due.{is_passing}
 use Rattle.pp_law.specs.Lists.{Bytes, is_some_with}
+use Rattle.pp_law.specs.Offers.{run_at, piece, passed_part, offer}
 use Rattle.pp_law.specs.Permits.{is_permitted, IsPermitted, permits, permits_said, is_said_of}
-use Rattle.pp_law.specs.Replies.{offer, piece}
-use Rattle.pp_law.specs.State.{State, Client, Passed, Stage, Answering, Reply, Instance}
+use Rattle.pp_law.specs.Stages.{is_passing}
+use Rattle.pp_law.specs.State.{State, Client, Stage, Answering, Reply, Instance}
 use Rattle.pp_law.specs.Table.{is_instance, instance, source_of, Next, next_in}
 use Rattle.pp_laws.specs.Origin.{AllSent, HoldsWhatWasSent, SaysWhatWasSent}
 use Rattle.pp_laws.specs.Runs.{IsIn}
 use Rattle.pp_laws.proofs.Joins.{chunk_bytes-sent}
 use Rattle.pp_laws.proofs.Lists.{in_find}
-use Rattle.pp_laws.proofs.Sent.{sent-drop, sent-take, sent_at}
+use Rattle.pp_laws.proofs.Sent.{sent-append, sent-drop, sent-take, sent_at}
 use Rattle.pp_laws.proofs.Sound.{FactsOf, Follows, Since, passes_in, source_in}
 use Rattle.pp_laws.proofs.Tests.{fourth_holds, same_bytes, same_number, second_holds}
 
@@ -68,14 +68,33 @@ module _ (s : State) (held : HoldsWhatWasSent s) (r : Reply) (x : Instance) (sou
   there : IsIn x s.instances
   there = source_by r.source source
 
-  piece_sent : (to : ℕ) → AllSent s.sent x.key x.version r.at (piece s (record { source = x; at = r.at; to = to }))
-  piece_sent to = sent-take s.sent x.key x.version r.at (to - r.at) (drop (r.at % chunk_len) bytes)
-      (sent_at s.sent x.key x.version (drop (r.at % chunk_len) bytes) (r.at / chunk_len * chunk_len + r.at % chunk_len) r.at (div-add-mod' r.at chunk_len)
-      (sent-drop s.sent x.key x.version (r.at / chunk_len * chunk_len) (r.at % chunk_len) bytes
-      (chunk_bytes-sent s.sent x.key x.version x.id (r.at / chunk_len) s.chunks (λ c i is. held x c there i is))))
+  -- a run of chunks, the first of them from the offset on
+  run_at_sent : (more at : ℕ) → AllSent s.sent x.key x.version at (run_at more x.id at s.chunks)
+  run_at_sent zero at = tt
+  run_at_sent (suc more) at = sent-append s.sent x.key x.version at (drop (at % chunk_len) bytes) _ front (rest (run_at_sent more ((at / chunk_len + 1) * chunk_len)) (length bytes == chunk_len) refl)
     where
       bytes : Bytes
-      bytes = chunk_bytes x.id (r.at / chunk_len) s.chunks
+      bytes = chunk_bytes x.id (at / chunk_len) s.chunks
+
+      front : AllSent s.sent x.key x.version at (drop (at % chunk_len) bytes)
+      front = sent_at s.sent x.key x.version (drop (at % chunk_len) bytes) (at / chunk_len * chunk_len + at % chunk_len) at (div-add-mod' at chunk_len)
+          (sent-drop s.sent x.key x.version (at / chunk_len * chunk_len) (at % chunk_len) bytes
+          (chunk_bytes-sent s.sent x.key x.version x.id (at / chunk_len) s.chunks (λ c i is. held x c there i is)))
+
+      next : (length bytes == chunk_len) ≡ true → (at / chunk_len + 1) * chunk_len ≡ at + length (drop (at % chunk_len) bytes)
+      next full =
+          let whole : length bytes ≡ chunk_len = same_number (length bytes) chunk_len full in
+          let left : length (drop (at % chunk_len) bytes) ≡ length bytes - at % chunk_len = length-drop (at % chunk_len) bytes in
+          let parts : at / chunk_len * chunk_len + at % chunk_len ≡ at = div-add-mod' at chunk_len in
+          omega arith
+
+      rest : AllSent s.sent x.key x.version ((at / chunk_len + 1) * chunk_len) (run_at more x.id ((at / chunk_len + 1) * chunk_len) s.chunks) → (full : Bool) → (length bytes == chunk_len) ≡ full
+          → AllSent s.sent x.key x.version (at + length (drop (at % chunk_len) bytes)) (elim full as (λ c. Bytes) [ true ↦ run_at more x.id ((at / chunk_len + 1) * chunk_len) s.chunks | false ↦ [] ])
+      rest behind true is = sent_at s.sent x.key x.version (run_at more x.id ((at / chunk_len + 1) * chunk_len) s.chunks) ((at / chunk_len + 1) * chunk_len) _ (next is) behind
+      rest behind false is = tt
+
+  piece_sent : (to : ℕ) → AllSent s.sent x.key x.version r.at (piece s (record { source = x; at = r.at; to = to }))
+  piece_sent to = sent-take s.sent x.key x.version r.at (to - r.at) (run_at 16 x.id r.at s.chunks) (run_at_sent 16 r.at)
 
   next_sent : (follows : Bool) → AllSent s.sent x.key x.version r.at (elim (elim follows as (λ c. Option Next) [ true ↦ Some (record { source = x; at = r.at; to = r.to }) | false ↦ None ]) as (λ c. Bytes) [ None ↦ [] | Some n ↦ piece s n ])
   next_sent true = piece_sent r.to
@@ -115,11 +134,8 @@ module _ (s : State) (held : HoldsWhatWasSent s) (r : Reply) (x : Instance) (sou
 
 -- ---- what is said
 
-passed_of : Option Passed → Bytes
-passed_of passed = elim passed [ None ↦ [] | Some p ↦ p.pipe.bytes ]
-
-offer_is : (s : State) (c : Client) (r : Reply) → c.stage ≡ Answering r → offer s c ≡ offered_of s c.is_closing r (passed_of c.passed) c.interim_left
-unfolding offered_of body_of passed_of
+offer_is : (s : State) (c : Client) (r : Reply) → c.stage ≡ Answering r → offer s c ≡ offered_of s c.is_closing r (passed_part c) c.interim_left
+unfolding offered_of body_of
 offer_is s c r has = ap (λ (stage : Stage). offer s (record c { stage = stage })) has
 
 permitted_by : (s : State) (n offered : ℕ) (bytes : Bytes) (room : Bool) → (elim room as (λ c. Bool) [ true ↦ false | false ↦ permits_said s n offered bytes ]) ≡ true → permits_said s n offered bytes ≡ true
@@ -146,12 +162,12 @@ source_at s None x is = absurd (cc is)
 source_at s (Some id) x is = let there = in_find (is_instance id) x s.instances is in (ap (λ n. Some n) (sym (same_number x.id id there.1)), there.0)
 
 pub says : {b : Since} (s : State) (n offered : ℕ) (bytes : Bytes) → b.counts_loads ≡ true → FactsOf b s → IsPermitted s (Said n offered bytes) → SaysWhatWasSent s n bytes
-unfolding offered_of passed_of
+unfolding offered_of
 says s n offered bytes counts h is c r x found has source = record {
   key = w.key;
   names = w.asks;
   was_sent = subst (λ k. AllSent s.sent k x.version r.at (drop (length (c.interim_left ++ r.head_left)) bytes)) (w.same_key x at.1 refl)
-      (front_sent s (λ y d i j eq. h.held counts y i d j eq) r x source (sym (ap passes_in has) ∙ w.is_kept) c.interim_left r.head_left bytes r.has_begun c.is_closing (passed_of c.passed)
+      (front_sent s (λ y d i j eq. h.held counts y i d j eq) r x source (sym (ap passes_in has) ∙ w.is_kept) c.interim_left r.head_left bytes r.has_begun c.is_closing (passed_part c)
       (said_front s n offered bytes c found is ∙ ap (take (length bytes)) (offer_is s c r has)));
 }
   where

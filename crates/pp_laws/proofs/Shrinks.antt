@@ -1,7 +1,8 @@
 -- No exchange comes into a line where one is over, or its connection is closed.
 use Rattle.std.proofs.Common.{◌≡◌, refl, ℕ, Bool, true, false, not, ◌==◌, ◌&&◌, List, [], ◌∷◌, Option, Some, None, subst, ap, ◌∙◌}
-use Rattle.pp_law.specs.Connections.{exchange, is_conn, is_exchange, on_conn, on_exchange, on_client_of, attempts_of, lost_one, lose_attempt, fail, without_ask, end_exchange, short_of, on_passed, unplaced, has_client, leave_place, lose_place, lose_places, close_conn}
-use Rattle.pp_law.specs.State.{State, Client, Conn, Exchange}
+use Rattle.pp_law.specs.Connections.{exchange, is_conn, is_exchange, on_conn, on_exchange, on_client_of, attempts_of, lost_one, lose_attempt, fail, without_ask, end_exchange, unplaced, may_ask_again, leave_place, lose_place, lose_places, close_conn}
+use Rattle.pp_law.specs.Stages.{on_passed}
+use Rattle.pp_law.specs.State.{State, OutOfTries, Client, Conn, Exchange}
 use Rattle.pp_laws.specs.Runs.{IsIn}
 use Rattle.pp_laws.proofs.Lists.{Changed, From, in_change, in_filter, in_map, other, same}
 use Rattle.pp_laws.proofs.Sound.{conn_number, exchange_number}
@@ -39,11 +40,11 @@ on_client_of-shrinks e f s = record { exchanges = λ d i. (d, i, refl); conns = 
 
 pub lose_attempt-shrinks : (e : Exchange) (s : State) → Shrinks s (lose_attempt e s)
 unfolding lose_attempt
-lose_attempt-shrinks e s = on_client_of-shrinks e (lost_one (attempts_of e)) s
+lose_attempt-shrinks e s = on_client_of-shrinks e (λ c. record c { course = lost_one (attempts_of e) c.course }) s
 
 pub fail-shrinks : (e : Exchange) (s : State) → Shrinks s (fail e s)
 unfolding fail
-fail-shrinks e s = on_client_of-shrinks e (λ c. record c { has_failed = true }) s
+fail-shrinks e s = on_client_of-shrinks e (λ c. record c { course = OutOfTries }) s
 
 pub end_exchange-shrinks : (n : ℕ) (s : State) → Shrinks s (end_exchange n s)
 unfolding end_exchange
@@ -64,8 +65,8 @@ pub leave_place-shrinks : (e : Exchange) (s : State) → Shrinks s (leave_place 
 unfolding leave_place
 leave_place-shrinks e s =
     shrinks_when s e.is_headed
-    (shrinks_on s _ _ (on_client_of-shrinks e (on_passed (short_of e.number)) s) (end_exchange-shrinks e.number _))
-    (shrinks_when s (has_client s e) (on_exchange-shrinks e.number unplaced s (λ d. refl)) (end_exchange-shrinks e.number s))
+    (shrinks_on s _ _ (on_client_of-shrinks e (on_passed (λ p. record p { is_short = true })) s) (end_exchange-shrinks e.number _))
+    (shrinks_when s (may_ask_again s e) (on_exchange-shrinks e.number unplaced s (λ d. refl)) (end_exchange-shrinks e.number s))
 
 pub lose_place-shrinks : (counts : Bool) (e : Exchange) (s : State) → Shrinks s (lose_place counts e s)
 unfolding lose_place

@@ -3,10 +3,10 @@ use Rattle.std.proofs.Common.{◌≡◌, ◌⊎◌, ℕ, ◌+◌, ◌<◌, ◌�
 use Rattle.pp_framing.specs.declared.body.BodyRule.TheVariants.{Empty}
 use Rattle.pp_target.specs.Key.{Key, text_of}
 use Rattle.pp_valid.specs.Versions.{version_of}
-use Rattle.pp_law.specs.Due.{is_passing}
 use Rattle.pp_law.specs.OwnHeads.{key_of, first_offset}
 use Rattle.pp_law.specs.Requests.{key_in}
 use Rattle.pp_law.specs.Responses.{payload_of}
+use Rattle.pp_law.specs.Stages.{is_passing}
 use Rattle.pp_law.specs.State.{State, Sent, Aim, Through, Own, Filling, Answer, Client, Stage, Undecided, Waiting, Passing, Answering, Conn, Exchange, Instance, Chunk, Bound}
 use Rattle.pp_laws.specs.Numbers.{AreRising}
 use Rattle.pp_laws.specs.Origin.{IsBackPart}
@@ -73,15 +73,15 @@ pub record Rows (instances : List Instance) (next_instance : ℕ) (chunks : List
 -- the instance that a client is answered from
 abbrev pub source_in : Stage → Option ℕ
 source_in Undecided = None
-source_in (Waiting n) = None
-source_in (Passing n) = None
+source_in Waiting = None
+source_in Passing = None
 source_in (Answering r) = r.source
 
 -- its reply is one that is passed
 abbrev pub passes_in : Stage → Bool
 passes_in Undecided = false
-passes_in (Waiting n) = false
-passes_in (Passing n) = false
+passes_in Waiting = false
+passes_in Passing = false
 passes_in (Answering r) = is_passing r.decision
 
 -- it is of the key that the client's request names

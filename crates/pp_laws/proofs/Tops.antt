@@ -2,8 +2,9 @@
 use Rattle.std.proofs.Common.{◌≡◌, refl, ℕ, List, [], ◌∷◌, Option, Some, None, ◌∙◌, arith}
 use Rattle.pp_peers.specs.declared.placing.Placed.TheVariants.{On, Dial, CloseThenDial, Wait}
 use Rattle.pp_peers.specs.declared.placing.Placed.{Placed}
-use Rattle.pp_law.specs.Connections.{on_conn, on_exchange, on_client, wanted_place, put_on, place_all, placing, WaitsDial, WaitsDrop, Placement}
-use Rattle.pp_law.specs.Deciding.{begin_exchange}
+use Rattle.pp_law.specs.Connections.{on_conn, on_exchange, on_client, place_for, put_on, place_all, placing, WaitsDial, WaitsDrop, Placement}
+use Rattle.pp_law.specs.Closing.{forsake}
+use Rattle.pp_law.specs.Deciding.{add_exchange, begin_exchange}
 use Rattle.pp_law.specs.Followers.{fill_with, fill_span, fill_next, fill_for, fill_each, fill, give_up_asks}
 use Rattle.pp_law.specs.State.{State, Client, Exchange}
 use Rattle.pp_law.specs.Table.{Next}
@@ -31,13 +32,13 @@ place_at None p q n hp hq = hq
 
 place_all-top : (es : List Exchange) (s : State) → (place_all es s).state.top ≡ s.top
 place_all-top [] s = refl
-place_all-top (e ∷ es) s = place_at e.place _ _ s.top (place_all-top es s) (place_by e es s (wanted_place s e) (λ t. place_all-top es t))
+place_all-top (e ∷ es) s = place_at e.place _ _ s.top (place_all-top es s) (place_by e es s (place_for s e) (λ t. place_all-top es t))
 
 pub placing-top : (s : State) → (placing s).state.top ≡ s.top
 placing-top s = place_all-top s.exchanges s
 
 fill_with-top : (e : Exchange) (c : Client) (s : State) → (fill_with e c s).top ≡ s.top
-unfolding fill_with begin_exchange on_client
+unfolding fill_with begin_exchange add_exchange forsake on_client
 fill_with-top e c s = grind arith
 
 fill_span-top : (c : Client) (n : Next) (span : ℕ × ℕ) (s : State) → (fill_span c n span s).top ≡ s.top

@@ -7,7 +7,7 @@ use Rattle.pp_text.specs.Fields.{Field}
 use Rattle.pp_valid.specs.declared.version.Version.{Version}
 use Rattle.pp_law.specs.Connections.{attempts_of, lost_one, on_client_of, lose_attempt}
 use Rattle.pp_law.specs.Lists.{Bytes, change}
-use Rattle.pp_law.specs.OwnHeads.{key_of, renewed, renew, lose_own, clears_row, cleared_by, invalidates, invalidated}
+use Rattle.pp_law.specs.OwnHeads.{key_of, times_for, renewed, renew, renew_row, refresh, clears_row, cleared_by, invalidates, invalidated}
 use Rattle.pp_law.specs.State.{State, Aim, Through, Own, Filling, Client, Exchange, Instance}
 use Rattle.pp_law.specs.Table.{is_row_of, is_left_over, is_entry_of, row, rows, kept_row, idle_row, on_instance, forget, forget_each, swept, clear, mark_row, forget_row, with_room, add_row, make_row, enter}
 
@@ -43,7 +43,7 @@ on_client_of-untouched e f s = record { conns = refl; exchanges = refl }
 
 pub lose_attempt-untouched : (e : Exchange) (s : State) → Untouched s (lose_attempt e s)
 unfolding lose_attempt
-lose_attempt-untouched e s = on_client_of-untouched e (lost_one (attempts_of e)) s
+lose_attempt-untouched e s = on_client_of-untouched e (λ c. record c { course = lost_one (attempts_of e) c.course }) s
 
 on_instance-untouched : (id : ℕ) (f : Instance → Instance) (s : State) → Untouched s (on_instance id f s)
 unfolding on_instance
@@ -87,18 +87,22 @@ pub make_row-untouched : (key : Bytes) (version : Version) (fields : List Field)
 unfolding make_row
 make_row-untouched key version fields times s = untouched_on s _ _ (untouched_on s _ _ (clear-untouched key s) (with_room-untouched _)) (add_row-untouched key version fields times true _)
 
-pub enter-untouched : (key : Bytes) (is_new : Bool) (s : State) → Untouched s (enter key is_new s)
+enter-untouched : (key : Bytes) (is_new : Bool) (s : State) → Untouched s (enter key is_new s)
 unfolding enter
 enter-untouched key is_new s =
     untouched_each s (row s key) (untouched_each s (kept_row s key) (untouched s) (λ e. untouched_on s _ _ (with_room-untouched s) (add_row-untouched key e.version e.fields e.times is_new _))) (λ x. untouched s)
 
-pub renew-untouched : (x : Instance) (head : Response) (times : Times) (s : State) → Untouched s (renew x head times s)
+renew-untouched : (x : Instance) (head : Response) (times : Times) (s : State) → Untouched s (renew x head times s)
 unfolding renew
 renew-untouched x head times s = untouched_on s _ _ (on_instance-untouched x.id (renewed head times) s) (mark_row-untouched x.id _)
 
-pub lose_own-untouched : (e : Exchange) (s : State) → Untouched s (lose_own e s)
-unfolding lose_own
-lose_own-untouched e s = untouched_aim s e.aim (untouched s) (lose_attempt-untouched e s) (λ v from to. untouched s)
+renew_row-untouched : (e : Exchange) (head : Response) (s : State) → Untouched s (renew_row e head s)
+unfolding renew_row
+renew_row-untouched e head s = untouched_each s (row s (key_of e)) (untouched s) (λ x. renew-untouched x head (times_for e head s) s)
+
+pub refresh-untouched : (e : Exchange) (head : Response) (s : State) → Untouched s (refresh e head s)
+unfolding refresh
+refresh-untouched e head s = untouched_on s _ _ (enter-untouched (key_of e) true s) (renew_row-untouched e head _)
 
 pub cleared_by-untouched : (head : Response) (e : Exchange) (s : State) → Untouched s (cleared_by head e s)
 unfolding cleared_by
