@@ -1,3 +1,4 @@
 pub mod KeptLemmas
 pub mod Parts
 pub mod PassedLemmas
+mod Rows

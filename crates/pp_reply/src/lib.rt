@@ -22,6 +22,3 @@ pub use keeping::{CONTINUE, is_end_known, is_kept_open, wants_interim};
 pub use kept::{KeptReply, KeptView, write_kept_reply};
 pub use lines::TEXT_LEN;
 pub use reply::{ReplyKind, write_reply};
-
-#[cfg(test)]
-mod tests; // worked replies
