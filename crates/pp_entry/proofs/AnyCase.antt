@@ -165,6 +165,7 @@ can-stand row can = record {
   response = can.response;
   initial = can.initial;
   request = refl;
+  no_guess = refl;
 }
 
 kept-text : (row : Row) → head_text row.key row.version.length (map lowered row.fields) (as_read row).times ≡ head_text row.key row.version.length row.fields row.times
@@ -193,7 +194,7 @@ a_row = record {
   key = codes "http://h/a";
   version = record { tag = codes "\"x\""; length = 5 };
   fields = an_etag ∷ a_lifetime ∷ [];
-  times = record { request = 784111776; response = 784111777; initial = 0 };
+  times = record { request = 784111776; response = 784111777; initial = 0; may_guess = true };
 }
 
 literal-text : (f : Field) → 0 < length f.0 → list_all is_token_byte f.0 ≡ true → list_all is_value_byte f.1 ≡ true → trim f.1 ≡ f.1 → IsFieldText f

@@ -378,7 +378,7 @@ fields-read fs all = lines-back fs all
 
 own_of : List ℕ → ℕ → Times → ℕ → Own
 own_of key n times count =
-    record { key = key; times = record { request = times.response; response = times.response; initial = times.initial }; length = n; count = count }
+    record { key = key; times = record { request = times.response; response = times.response; initial = times.initial; may_guess = false }; length = n; count = count }
 
 own-from : Option ℕ → Option ℕ → Option ℕ → List ℕ → ℕ → Option Own
 own-from response initial n key count =
@@ -442,6 +442,7 @@ pub record CanStand (row : Row) : Type 0 where
   pub initial : row.times.initial < 2 ^ 64
   -- an entry does not keep when the response was asked for
   pub request : row.times.request ≡ row.times.response
+  pub no_guess : row.times.may_guess ≡ false
 
 text_of : Row → List ℕ
 text_of row = head_text row.key row.version.length row.fields row.times
@@ -456,12 +457,15 @@ fits-is kept text is = by (length kept) (length text) is
     by : (k n : ℕ) → (nat_le k 95 && nat_le n 8192) ≡ true → (k ≤ 95) × (n ≤ 8192)
     by k n is = (grind (arith, nat_tests), grind (arith, nat_tests))
 
-times-same : (times : Times) → times.request ≡ times.response → (let t : Times = record { request = times.response; response = times.response; initial = times.initial } in t) ≡ times
-times-same times is = ap (λ (r : ℕ). let t : Times = record { request = r; response = times.response; initial = times.initial } in t) (sym is)
+times-same : (times : Times) → times.request ≡ times.response → times.may_guess ≡ false
+    → (let t : Times = record { request = times.response; response = times.response; initial = times.initial; may_guess = false } in t) ≡ times
+times-same times is no_guess =
+    ap (λ (r : ℕ). let t : Times = record { request = r; response = times.response; initial = times.initial; may_guess = false } in t) (sym is)
+    ∙ ap (λ (g : Bool). let t : Times = record { request = times.request; response = times.response; initial = times.initial; may_guess = g } in t) (sym no_guess)
 
 own-times : (row : Row) → CanStand row → (own_of row.key row.version.length row.times (length row.fields)).times ≡ row.times
 unfolding own_of
-own-times row can = times-same row.times can.request
+own-times row can = times-same row.times can.request can.no_guess
 
 kept-back : (fs gs : List Field) → map lowered fs ≡ fs → map lowered (take (length fs) (fs ++ gs)) ≡ fs
 kept-back fs gs low = ap (map lowered) (take-append_seam fs gs) ∙ low

@@ -22,7 +22,7 @@ a_row = record {
   key = codes "http://h/a";
   version = record { tag = codes "\"x\""; length = 5 };
   fields = field (codes "ETag") (codes "\"x\"") ∷ field (codes "Date") (codes "Sun, 06 Nov 1994 08:49:37 GMT") ∷ field (codes "CACHE-control") (codes "max-age=60") ∷ [];
-  times = record { request = 784111776; response = 784111777; initial = 0 };
+  times = record { request = 784111776; response = 784111777; initial = 0; may_guess = true };
 }
 
 its_text : List ℕ
@@ -91,7 +91,7 @@ own_lines_of = refl
 with_fields : ℕ → ℕ → Bool
 with_fields count len =
     let fields = field (codes "etag") (codes "\"x\"") ∷ field (codes "b") (replicate len 118) ∷ replicate count (field (codes "a") (codes "1")) in
-    fits fields (head_text (codes "http://h/a") 5 fields (record { request = 784111776; response = 784111777; initial = 0 }))
+    fits fields (head_text (codes "http://h/a") 5 fields (record { request = 784111776; response = 784111777; initial = 0; may_guess = true }))
 
 -- without the value of `b` there are 158 bytes
 limits : with_fields 93 1 ∷ with_fields 94 1 ∷ with_fields 0 8034 ∷ with_fields 0 8035 ∷ with_fields 0 0 ∷ [] ≡ true ∷ false ∷ true ∷ false ∷ true ∷ []

@@ -1,6 +1,6 @@
 -- The entry that a head block is. One entry has one spelling: a block is read as a response head (RFC 2616, section 6),
 -- and is an entry exactly where what it says is written as this block.
-use Rattle.std.specs.Prelude.{◌≡◌, ℕ, ◌+◌, ◌-◌, ◌^◌, Bool, ◌&&◌, nat_le, nat_lt, List, length, map, take, bytes_eq, if◌then◌else◌, All, Option, Some, None, option_map, option_and_then}
+use Rattle.std.specs.Prelude.{◌≡◌, ℕ, ◌+◌, ◌-◌, ◌^◌, Bool, false, ◌&&◌, nat_le, nat_lt, List, length, map, take, bytes_eq, if◌then◌else◌, All, Option, Some, None, option_map, option_and_then}
 use Rattle.pp_text.specs.Fields.{Field, field_at, field_in, IsFieldWithin}
 use Rattle.pp_text.specs.Numbers.{number_of}
 use Rattle.pp_text.specs.declared.fields.FieldSpan.{FieldSpan}
@@ -33,10 +33,11 @@ pub record Own : Type 0 where
 abbrev pub is_sized : ℕ → Bool
 is_sized n = nat_le 1 n && nat_le n (2 ^ 26)
 
--- the time of the request is not kept: it is read back as that of the response
+-- the time of the request is not kept: it is read back as that of the response. Nor is it kept whether the lifetime may be
+-- guessed (RFC 2616, section 13.2.4): it may not
 abbrev pub own_with : List ℕ → ℕ → ℕ → ℕ → ℕ → Option Own
 own_with key count response initial n =
-    if is_sized n then Some (record { key = key; times = record { request = response; response = response; initial = initial }; length = n; count = count })
+    if is_sized n then Some (record { key = key; times = record { request = response; response = response; initial = initial; may_guess = false }; length = n; count = count })
     else None
 
 -- the last five fields: the key, three numbers, and where the body stands

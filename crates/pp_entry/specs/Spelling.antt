@@ -1,5 +1,5 @@
 -- One spelling for each entry: what is written is read back, and what is read is written so.
-use Rattle.std.specs.Prelude.{◌≡◌, ◌<◌, ◌^◌, ℕ, true, List, map, All, Some}
+use Rattle.std.specs.Prelude.{◌≡◌, ◌<◌, ◌^◌, ℕ, true, false, List, map, All, Some}
 use Rattle.httparse.specs.Grammar.{AllPass, is_uri_byte}
 use Rattle.pp_head.specs.Agreement.{IsFieldText}
 use Rattle.pp_valid.specs.TagStates.{tag_of}
@@ -26,13 +26,13 @@ pub record CanBeWritten (row : Row) : Type 0 where
 abbrev pub text_of : Row → List ℕ
 text_of row = head_text row.key row.version.length row.fields row.times
 
--- ours: names are kept in lower case, and the time of the request is read back as that of the response
+-- ours: names are kept in lower case, the time of the request is read back as that of the response, and no lifetime is guessed
 abbrev pub as_read : Row → Row
 as_read row = record {
   key = row.key;
   version = row.version;
   fields = map lowered row.fields;
-  times = record { request = row.times.response; response = row.times.response; initial = row.times.initial };
+  times = record { request = row.times.response; response = row.times.response; initial = row.times.initial; may_guess = false };
 }
 
 -- what is written of a row, where it fits, is read back as that row

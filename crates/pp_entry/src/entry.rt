@@ -11,7 +11,8 @@ pub struct Entry<'a, 's> {
     pub version: Version,
     /// The kept fields, their names in lower case.
     pub fields: Fields<'a, 's>,
-    /// When the response came, and its age then. The time of the request is that of the response.
+    /// When the response came, and its age then. The time of the request is that of the response, and
+    /// its lifetime is not guessed.
     pub times: Times,
     /// Where the body stands in the file, in bytes.
     pub body_at: u64,

@@ -42,6 +42,7 @@ pub(crate) fn own_in<'a>(fields: &Fields<'a, '_>) -> Option<OwnLines<'a>>
             request: response,
             response,
             initial,
+            may_guess: false,
         },
         length,
         count,

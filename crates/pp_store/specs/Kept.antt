@@ -56,7 +56,7 @@ block_of entry = padded (text_of entry)
 
 abbrev pub no_row : Kept
 no_row = record {
-  entry = record { key = []; version = record { tag = []; length = 0 }; fields = []; times = record { request = 0; response = 0; initial = 0 } };
+  entry = record { key = []; version = record { tag = []; length = 0 }; fields = []; times = record { request = 0; response = 0; initial = 0; may_guess = false } };
   extent = 0;
 }
 

@@ -38,8 +38,8 @@ impl Model for KeptRow {
 
 /// An entry that is kept, as it was given to `keep` or `found`.
 ///
-/// On the disk the names of its fields are in lower case, and the time of the request is not told: a
-/// later life finds that of the response in its place.
+/// On the disk the names of its fields are in lower case, and the time of the request is not told, nor
+/// whether its lifetime may be guessed: a later life finds the time of the response, and guesses none.
 #[derive(Drop)]
 pub struct KeptView<'a> {
     pub key: &'a [u8],
