@@ -27,6 +27,16 @@ def case(function):
     return function
 
 
+def lasting(seconds):
+    """Gives a test more time than the others have."""
+
+    def mark(function):
+        function.seconds = seconds
+        return function
+
+    return mark
+
+
 def need(tool):
     """Skips the test where the tool is missing."""
     if shutil.which(tool) is None:
@@ -79,12 +89,12 @@ def environment(**variables):
 
 
 def _out_of_time(signum, frame):
-    raise Failed(f"    wanted: an end within {CASE_SECONDS} seconds, at {frame.f_code.co_name}:{frame.f_lineno}")
+    raise Failed(f"    wanted: an end in time, at {frame.f_code.co_name}:{frame.f_lineno}")
 
 
 def _run(function, world):
     """Runs one test, and then sees that everyone else is still served."""
-    signal.alarm(CASE_SECONDS)
+    signal.alarm(getattr(function, "seconds", CASE_SECONDS))
     try:
         said = function(world)
         world.check_still_served()

@@ -26,6 +26,7 @@ SUBJECTS = [
     "kills",
     "caching",
     "one_answer",
+    "hostile_origins",
     "readme",
     "starting",
 ]

@@ -234,22 +234,28 @@ def an_origin_that_breaks_off_cuts_behind_all_that_came(world):
 
 @case
 def an_answer_that_comes_before_its_ask_costs_nobody(world):
-    # a connection that waits for an ask is told goodbye in the moment in which it gets one (RFC 7230, section 6.5)
+    # a connection that waits for an ask is told goodbye in the moment in which it gets one (RFC 7230, section 6.5): read before
+    # the ask is written it is no answer to it; read behind it, nobody can tell
     goodbye = response(b"", b"Connection: close", status=b"408 Request Timeout")
-    for count in range(5):
-        with Played() as origin, Client(port=world.port) as client:
+    told = reply_head(*reply(b"").split(b"\r\n")[1:2], b"content-length: 0", status=b"408 Request Timeout", connection=b"close")
+    for count in range(6):
+        with Played() as origin, Client(port=world.port) as other, Client(port=world.port) as client:
             origin.always("/next", response(b"next"))
             client.say(origin.request("/first"))
             first = origin.take()
             first.say(response(b"first"))
             client.expect(reply(b"first"))
+            for _ in range(count % 3):
+                # reading and writing come in turn, so the next event is another
+                other.say(b"G")
+                time.sleep(0.02)
             with world.paused():
                 client.say(origin.request("/next", b"Connection: close"))
-                time.sleep(0.02)
                 first.say(goodbye)
                 first.end()
                 time.sleep(0.02)
-            equal(heard(client), NEXT, f"the reply to an ask that was not sent, at try {count}")
+            text = heard(client)
+            holds(text in (NEXT, told), f"the reply, or the goodbye behind the ask, in place of {text!r}, at try {count}")
 
 
 @case
