@@ -17,6 +17,3 @@ mod place; // where in a body a decoder is, byte by byte
 pub use body::{BodyRule, BodyState, Ending, Fed};
 pub use decoder::Decoder;
 pub use framing::{FramingFault, ResponseFault, request_rule, rule};
-
-#[cfg(test)]
-mod tests; // worked bodies and heads
