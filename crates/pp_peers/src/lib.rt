@@ -16,6 +16,3 @@ mod searches; // the best of some connections
 
 pub use peers::{HOST_ROOM, Load, PEERS, Peers};
 pub use placing::{Limits, Placed};
-
-#[cfg(test)]
-mod tests; // worked placings
