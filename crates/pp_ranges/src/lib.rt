@@ -15,6 +15,3 @@ mod read; // from the fields of a request to its range
 
 pub use range::{Range, Resolved, resolve};
 pub use read::read_range;
-
-#[cfg(test)]
-mod tests;
