@@ -1,3 +1,4 @@
-pub mod UriGrammar
 pub mod KeyLemmas
 pub mod OnLiterals
+mod Rows
+pub mod UriGrammar

@@ -16,6 +16,3 @@ mod name; // the file name of a key
 
 pub use name::file_name;
 pub use target::{Place, TargetFault, key};
-
-#[cfg(test)]
-mod tests;
