@@ -12,3 +12,5 @@ mod FollowerRows
 mod IdleRows
 mod PipelineRows
 mod Mutations
+mod AnswerRows
+mod OverRows
