@@ -18,6 +18,3 @@ mod text; // the text of an ask
 pub use kind::AskKind;
 pub use lines::{ASK_LEN, TooLong};
 pub use text::write_ask;
-
-#[cfg(test)]
-mod tests; // worked asks
