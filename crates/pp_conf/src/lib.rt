@@ -22,6 +22,3 @@ pub use conf::Conf;
 pub use fault::ConfFault;
 pub use read::{Command, config_name};
 pub use setting::Setting;
-
-#[cfg(test)]
-mod tests; // words and texts
