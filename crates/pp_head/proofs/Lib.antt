@@ -13,4 +13,5 @@ pub mod RequestSpansLemmas
 pub mod ResponseAgrees
 pub mod ResponseSpansLemmas
 pub mod OnLiterals
-pub mod Computed
+mod RequestRows
+mod ResponseRows

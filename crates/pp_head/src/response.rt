@@ -96,6 +96,3 @@ fn show<'a, 's>(
         HeadState::More => HeadState::More,
     }
 }
-
-#[cfg(test)]
-mod tests;
