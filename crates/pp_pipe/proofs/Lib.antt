@@ -8,3 +8,4 @@ mod Staying
 mod Taking
 mod Tales
 mod Using
+mod Rows

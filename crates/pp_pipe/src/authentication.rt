@@ -10,7 +10,9 @@ use pp_text::{Fields, same};
 pub fn binds_connection(fields: &Fields<'_, '_>) -> bool
     ensures { result ≡ binds fields.now }
 {
-    fields.values(b"authorization").any(|credentials| is_of_connection(credentials))
+    fields
+        .values(b"authorization")
+        .any(|credentials| is_of_connection(credentials))
 }
 
 fn is_of_connection(credentials: &[u8]) -> bool

@@ -78,7 +78,9 @@ fn tells_of_body(fields: &Fields<'_, '_>) -> bool
 fn has_length_above_0(fields: &Fields<'_, '_>) -> bool
     ensures { result ≡ list_any above_0 (values_of (codes "content-length") fields.now) }
 {
-    fields.values(b"content-length").any(|value| is_above_0(value))
+    fields
+        .values(b"content-length")
+        .any(|value| is_above_0(value))
 }
 
 fn is_above_0(value: &[u8]) -> bool

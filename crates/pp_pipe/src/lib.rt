@@ -31,6 +31,3 @@ pub use fate::stays_open;
 pub use outgoing::OUT_ROOM;
 pub use pipe::{Full, Pipe};
 pub use step::Step;
-
-#[cfg(test)]
-mod tests; // worked exchanges
