@@ -1,1 +1,2 @@
 pub mod HexLemmas
+mod Rows

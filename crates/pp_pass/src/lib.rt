@@ -14,6 +14,3 @@ mod pass; // the pipe
 mod spelling; // the chunked coding of a piece of data
 
 pub use pass::Pass;
-
-#[cfg(test)]
-mod tests; // worked bodies
