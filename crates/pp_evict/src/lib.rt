@@ -12,6 +12,3 @@
 mod room; // one victim
 
 pub use room::{Victim, make_room};
-
-#[cfg(test)]
-mod tests; // worked evictions

@@ -17,8 +17,6 @@ mod cell; // a chunk that is in memory
 mod cells; // the chunks of one instance
 mod hole; // what is missing
 mod join; // bytes that join
-#[cfg(test)]
-mod tests; // worked exchanges with one instance
 
 pub use cells::Cells;
 pub use join::Added;

@@ -2,7 +2,7 @@
 use Rattle.std.specs.Prelude.{◌≡◌, ◌≢◌, ◌≤◌, ℕ, Bool, true, false, ◌==◌, not, List, [], ◌∷◌, ◌++◌, Option, Some, Result, Ok, Err}
 use Rattle.std.specs.List.{All, AllPairs, filter, list_any}
 use Rattle.pp_world.specs.declared.event.Side.{Side}
-use Rattle.pp_world.specs.declared.event.Side.TheVariants.{Client, Origin}
+use Rattle.pp_world.specs.declared.event.Side.TheVariants.{Origin}
 use Rattle.pp_world.specs.declared.wire.WireFault.{WireFault}
 use Rattle.pp_world.specs.Connections.{side_of}
 use Rattle.pp_world.specs.Log.{Log, Told}
@@ -20,13 +20,6 @@ is_link id link = link.0 == id
 
 abbrev pub has_link : ℕ → List Link → Bool
 has_link id links = list_any (is_link id) links
-
-abbrev pub is_client_side : Side → Bool
-is_client_side Client = true
-is_client_side Origin = false
-
-abbrev pub is_client : Link → Bool
-is_client link = is_client_side link.1
 
 abbrev pub is_other : ℕ → Link → Bool
 is_other id link = not (is_link id link)

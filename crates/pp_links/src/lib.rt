@@ -16,7 +16,5 @@
 
 mod calls; // the calls of the world, on connections that are open
 mod links; // the connections that are open
-#[cfg(test)]
-mod tests; // worked calls, and a caller over any wire
 
 pub use links::{Links, MAX_LINKS};

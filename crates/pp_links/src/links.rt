@@ -1,7 +1,7 @@
 // The connections that are open.
 ghost use Rattle.std.specs.Prelude.{◌≡◌, ◌≤◌, ◌<◌, ◌++◌, ◌∷◌, [], length, nat_le, IfOk, vec_capacity};
 ghost use Rattle.std.specs.List.{filter};
-ghost use Rattle.pp_links.specs.Links.{has_link, is_client, is_other, without};
+ghost use Rattle.pp_links.specs.Links.{has_link, is_other, without};
 
 use pp_text::OutOfMemory;
 use pp_world::Side;
@@ -36,17 +36,6 @@ impl Links {
     {
         let links = Vec::with_capacity(alloc, MAX_LINKS)?;
         Ok(Links { links })
-    }
-
-    /// How many are those of clients.
-    pub fn clients(&self) -> usize
-        ensures count { result ≡ length (filter is_client self.now) }
-        ensures few { result ≤ 512 }
-    {
-        self.links
-            .iter()
-            .filter(|link| matches!(link.1, Side::Client))
-            .count()
     }
 
     /// Whether the connection with this number is open.

@@ -9,3 +9,4 @@ pub mod Slots
 pub mod Sound
 pub mod Staying
 pub mod TextLemmas
+mod Rows

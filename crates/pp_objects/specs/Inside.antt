@@ -20,7 +20,7 @@ instance_as slot None = record {
   key = [];
   version = record { tag = []; length = 0 };
   fields = [];
-  times = record { request = 0; response = 0; initial = 0 };
+  times = record { request = 0; response = 0; initial = 0; may_guess = false };
   is_retired = true;
   followers = 0;
   cells = [];

@@ -27,6 +27,3 @@ pub use id::ObjectId;
 pub use objects::{Objects, RowView};
 pub use pp_fresh::Times;
 pub use pp_holes::Added;
-
-#[cfg(test)]
-mod tests; // worked exchanges

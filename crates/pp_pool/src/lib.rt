@@ -13,8 +13,6 @@
 
 mod chunk; // the handle of a used chunk
 mod pool; // the slots, and the order of use
-#[cfg(test)]
-mod tests; // worked exchanges with one pool
 
 pub use chunk::ChunkId;
 pub use pool::{CHUNK_LEN, Pins, Pool};

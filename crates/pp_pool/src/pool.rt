@@ -64,13 +64,6 @@ impl Pool {
         Ok(Pool { slots, order })
     }
 
-    /// How many chunks there are, used or free.
-    pub fn size(&self) -> u32
-        ensures { result ≡ self.now.size }
-    {
-        self.slots.len() as u32
-    }
-
     /// How many chunks are used.
     pub fn used(&self) -> u32
         ensures used { result ≡ length self.now.used }
