@@ -1,22 +1,23 @@
 -- A folder keeps what the log says as the log goes on.
 use Rattle.std.proofs.Common.{◌≡◌, ◌∙◌, ap, sym, refl, subst, ℕ, Bool, true, false, List, [], ◌∷◌, ◌++◌, map, filter, take, Option, Some, None}
-use Rattle.std.specs.Prelude.{◌&&◌, is_some}
+use Rattle.std.specs.Prelude.{◌&&◌, ◌||◌, bytes_eq, is_some}
 use Rattle.std.specs.List.{list_all}
 use Rattle.std.proofs.lemmas.List.Sums.{fold-append}
 use Rattle.pp_world.specs.declared.event.Side.{Side}
 use Rattle.pp_world.specs.declared.event.Side.TheVariants.{Client, Origin}
 use Rattle.pp_world.specs.declared.happening.Happening.{Happening}
-use Rattle.pp_world.specs.declared.happening.Happening.TheVariants.{Woke, Began, Did, Shut, Dropped}
+use Rattle.pp_world.specs.declared.happening.Happening.TheVariants.{Woke, Began, Did, Unread, Shut, Dropped}
 use Rattle.pp_world.specs.declared.op.DiskOp.{DiskOp}
 use Rattle.pp_world.specs.Disk.{Bytes, HasDraft, Stored, View, image_after, image_of, is_name, names_in, view_after, view_of, woken}
 use Rattle.pp_world.specs.Files.{Files}
 use Rattle.pp_world.specs.Log.{Log, Told}
 use Rattle.pp_world.specs.Wire.{by_side}
 use Rattle.pp_memworld.specs.declared.folder.Folder.{Folder}
+use Rattle.pp_memworld.specs.Failures.{Adds}
 use Rattle.pp_memworld.specs.Folder.{Follows, Hears, IsShown, is_sound, listed_in, standing_in}
 use Rattle.pp_memworld.specs.Keeping.{Keeps, KeepsFiles}
 use Rattle.pp_memworld.specs.Sides.{log_if}
-use Rattle.pp_memworld.specs.Slots.{AreListed, rested}
+use Rattle.pp_memworld.specs.Slots.{AreListed, Slots, files_at, rested}
 
 pub view_of-push : (name : Bytes) (log : Log) (h : Happening) → view_of name (log ++ h ∷ []) ≡ view_after name (view_of name log) h
 unfolding view_of
@@ -50,16 +51,36 @@ kept_push {log = log} {folder = folder} h kept keeps was pushed = record {
     shown = λ name. subst (λ (v : View). IsShown name v folder) (sym (view_of-push name log h)) (record {
       draft = keeps.draft name (view_of name log) ∙ ((kept.follows (was is)).shown name).draft;
       slot = keeps.slot name (view_of name log) ∙ ((kept.follows (was is)).shown name).slot;
+      failed = keeps.failed name (view_of name log) ∙ ((kept.follows (was is)).shown name).failed;
     });
   });
   rests = λ is files image. kept.rests (was is) files (sym (keeps.image (image_of log)) ∙ sym (image_of-push log h) ∙ sym (ap image_of (pushed is)) ∙ image);
   sound = λ is. subst (λ (l : Log). list_all is_sound l ≡ true) (sym (pushed is)) (sound_push log h (kept.sound (was is)) keeps.sound);
 }
 
+-- a file that could not be read: its name is one on which an operation failed
+pub kept_unread : {told told' : Bool} {log log' : Log} {folder folder' : Folder} (name : Bytes) → Keeps told log folder
+    → (told' ≡ true → told ≡ true) → (told' ≡ true → log' ≡ log ++ Unread name ∷ []) → (told' ≡ true → Adds name folder.failed folder'.failed)
+    → folder'.draft ≡ folder.draft → folder'.slots ≡ folder.slots → Keeps told' log' folder'
+kept_unread {told' = told'} {log = log} {folder = folder} {folder' = folder'} name kept was pushed adds drafted slots = record {
+  follows = λ is. subst (λ (l : Log). Follows l folder') (sym (pushed is)) (record {
+    shown = λ other. subst (λ (v : View). IsShown other v folder') (sym (view_of-push other log (Unread name))) (record {
+      draft = (known is other).draft ∙ sym drafted;
+      slot = (known is other).slot ∙ ap (files_at other) (sym slots);
+      failed = ap (λ (b : Bool). b || bytes_eq name other) (known is other).failed ∙ sym (adds is other);
+    });
+  });
+  rests = λ is files image. ap (λ (s : Slots). s.entries) slots ∙ kept.rests (was is) files (sym (image_of-push log (Unread name)) ∙ sym (ap image_of (pushed is)) ∙ image);
+  sound = λ is. subst (λ (l : Log). list_all is_sound l ≡ true) (sym (pushed is)) (sound_push log (Unread name) (kept.sound (was is)) refl);
+}
+  where
+    known : told' ≡ true → (other : Bytes) → IsShown other (view_of other log) folder
+    known is other = (kept.follows (was is)).shown other
+
 pub closing_keeps : (side : Option Side) (id : ℕ) → KeepsFiles (by_side side (Shut id) (Dropped id))
-closing_keeps None id = record { draft = λ name view. refl; slot = λ name view. refl; image = λ image. refl; sound = refl }
-closing_keeps (Some Client) id = record { draft = λ name view. refl; slot = λ name view. refl; image = λ image. refl; sound = refl }
-closing_keeps (Some Origin) id = record { draft = λ name view. refl; slot = λ name view. refl; image = λ image. refl; sound = refl }
+closing_keeps None id = record { draft = λ name view. refl; slot = λ name view. refl; failed = λ name view. refl; image = λ image. refl; sound = refl }
+closing_keeps (Some Client) id = record { draft = λ name view. refl; slot = λ name view. refl; failed = λ name view. refl; image = λ image. refl; sound = refl }
+closing_keeps (Some Origin) id = record { draft = λ name view. refl; slot = λ name view. refl; failed = λ name view. refl; image = λ image. refl; sound = refl }
 
 -- a life that begins
 pub kept_woke : {log' : Log} {empty folder : Folder} (log : Log) (files : Files) → list_all is_sound log ≡ true → AreListed files → log' ≡ log ++ Woke files ∷ [] → Follows [] empty → Hears (Woke files) empty folder

@@ -1,6 +1,6 @@
 -- One of the files that may stand under a name is left.
-use Rattle.std.proofs.Common.{◌≡◌, ◌∙◌, ap, inl, inr, ℕ, zero, suc, List, [], ◌∷◌, Option, Some, None, refl, sym, subst}
-use Rattle.std.specs.Prelude.{◌≢◌, slice_get, Result, Ok, Err, IfOk, OnOk}
+use Rattle.std.proofs.Common.{◌≡◌, ◌∙◌, ap, inl, inr, ℕ, zero, suc, ◌<◌, arith, List, [], ◌∷◌, length, get_or, Option, Some, None, refl, sym, subst}
+use Rattle.std.specs.Prelude.{◌≢◌, Result, Ok, Err, IfOk, OnOk}
 use Rattle.std.specs.declared.cmp.Ordering.{Ordering}
 use Rattle.std.specs.declared.cmp.Ordering.TheVariants.{Less, Equal, Greater}
 use Rattle.std.specs.FinMap.{slice_cmp-IsAntisymmetric, nat_cmp-IsAntisymmetric}
@@ -21,10 +21,10 @@ on_ok (Ok a) step is = step is
 on_ok (Err e) step is = is
 
 -- the file at this place
-pub leaves_at : (files : List (Option Stored)) (i : ℕ) (file : Option Stored) (bytes : Option Bytes) → Some file ≡ slice_get files i → IsLeftOf file bytes → LeavesOne files bytes
-leaves_at [] i file bytes is left = absurd (cc)
-leaves_at (f ∷ files) zero file bytes is left = inl (let same : f ≡ file = cc in subst (λ (g : Option Stored). IsLeftOf g bytes) (sym same) left)
-leaves_at (f ∷ files) (suc i) file bytes is left = inr (leaves_at files i file bytes is left)
+pub leaves_at : (files : List (Option Stored)) (i : ℕ) (file : Option Stored) (bytes : Option Bytes) → i < length files → file ≡ get_or files i file → IsLeftOf file bytes → LeavesOne files bytes
+leaves_at [] i file bytes within is left = absurd (omega (arith, within))
+leaves_at (f ∷ files) zero file bytes within is left = inl (subst (λ (g : Option Stored). IsLeftOf g bytes) is left)
+leaves_at (f ∷ files) (suc i) file bytes within is left = inr (leaves_at files i file bytes (omega (arith, within)) is left)
 
 -- what a crash leaves, name by name, but for the names of the slots that are not yet reached
 pub record LeavesBut (rest : List (Bytes × Candidates)) (slots : Slots) (image : Files) : Type 0 where

@@ -5,12 +5,14 @@ use Rattle.pp_world.specs.declared.happening.Happening.TheVariants.{Woke}
 use Rattle.pp_world.specs.Disk.{Bytes, View, is_name, is_rising, view_after, view_of}
 use Rattle.pp_world.specs.Log.{Log}
 use Rattle.pp_memworld.specs.declared.folder.Folder.{Folder}
+use Rattle.pp_memworld.specs.Failures.{has_failed}
 use Rattle.pp_memworld.specs.Slots.{Candidates, files_at, first_of, is_file}
 
 -- what a log says of this name is what the folder has
 pub record IsShown (name : Bytes) (view : View) (folder : Folder) : Type 0 where
   pub draft : view.draft ≡ folder.draft
   pub slot : view.slot ≡ files_at name folder.slots
+  pub failed : view.failed ≡ has_failed name folder.failed
 
 -- where it is so before a happening, it is so after it
 pub record Hears (happening : Happening) (old new : Folder) : Type 0 where

@@ -16,9 +16,10 @@ pub record Keeps (told : Bool) (log : Log) (folder : Folder) : Type 0 where
   pub rests : told ≡ true → (files : Files) → image_of log ≡ Some files → folder.slots.entries ≡ map rested files
   pub sound : told ≡ true → list_all is_sound log ≡ true
 
--- no file changes by it
+-- no file changes by it, and no operation on one fails
 pub record KeepsFiles (happening : Happening) : Type 0 where
   pub draft : (name : Bytes) (view : View) → (view_after name view happening).draft ≡ view.draft
   pub slot : (name : Bytes) (view : View) → (view_after name view happening).slot ≡ view.slot
+  pub failed : (name : Bytes) (view : View) → (view_after name view happening).failed ≡ view.failed
   pub image : (image : Option Files) → image_after image happening ≡ image
   pub sound : is_sound happening ≡ true

@@ -2,6 +2,7 @@ pub mod Calls
 pub mod Crash
 pub mod Draft
 pub mod Edit
+pub mod Failures
 pub mod File
 pub mod Folder
 pub mod Images

@@ -1,4 +1,8 @@
 // What a crash leaves where it may leave one thing or another.
+ghost use Rattle.std.specs.Prelude.{◌<◌, ◌≤◌};
+
+/// From this choice on, a crash tears.
+const FIRST_TORN: u64 = 1 << 63;
 
 /// How a crash settles what is loose or in doubt.
 #[derive(Clone, Copy)]
@@ -9,6 +13,8 @@ pub(crate) enum Choice {
     New,
     /// Each by the next value of a generator in this state.
     Any(u64),
+    /// Each of what stood before and what was to stand, by the next value of a generator in this state.
+    Torn(u64),
 }
 
 impl Choice {
@@ -16,24 +22,40 @@ impl Choice {
         match choice {
             0 => Choice::Old,
             1 => Choice::New,
-            seed => Choice::Any(seed),
+            seed if seed < FIRST_TORN => Choice::Any(seed),
+            seed => Choice::Torn(seed),
         }
     }
 
-    /// Whether a file ends where it was synced to.
-    pub(crate) fn is_old(&self) -> bool {
+    /// How many of so many files under a name in doubt, of which each took the place of the one before,
+    /// came to stand there after the first.
+    pub(crate) fn standing(&mut self, doubts: usize) -> usize
+        ensures { result ≤ doubts }
+    {
         match self {
-            Choice::Old => true,
-            Choice::New | Choice::Any(_) => false,
+            Choice::Old => 0,
+            Choice::New => doubts,
+            Choice::Any(state) => {
+                if next_value(state) % 2 == 1 {
+                    doubts
+                } else {
+                    0
+                }
+            }
+            Choice::Torn(state) => up_to(state, doubts),
         }
     }
 
-    /// Whether the new file stands under a name in doubt.
-    pub(crate) fn is_new(&mut self) -> bool {
+    /// Where a file ends that is synced to one length, and was to have the other.
+    pub(crate) fn length(&mut self, synced: usize, end: usize) -> usize
+        requires { synced ≤ end }
+        ensures no_shorter { synced ≤ result }
+        ensures no_longer { result ≤ end }
+    {
         match self {
-            Choice::Old => false,
-            Choice::New => true,
-            Choice::Any(state) => next_value(state) % 2 == 1,
+            Choice::Old => synced,
+            Choice::New | Choice::Any(_) => end,
+            Choice::Torn(state) => synced + up_to(state, end - synced),
         }
     }
 
@@ -43,7 +65,19 @@ impl Choice {
             Choice::Old => old,
             Choice::New => new,
             Choice::Any(state) => next_value(state).to_le_bytes()[0],
+            Choice::Torn(state) => { if next_value(state) % 2 == 1 { new } else { old } }
         }
+    }
+}
+
+/// A number from 0 to this one, both in.
+fn up_to(state: &mut u64, most: usize) -> usize
+    ensures { result ≤ most }
+{
+    let value = next_value(state) as usize;
+    match most.checked_add(1) {
+        Some(count) => value % count,
+        None => value,
     }
 }
 

@@ -23,9 +23,13 @@ impl MemWorld {
     ///
     /// By the choice 0 a crash leaves the old file under each name in doubt, and of a file what is
     /// synced, with the old bytes where it was written since; by 1 the new file, whole, with the new
-    /// bytes. By another choice each loose byte, and each name in doubt, is settled by the next
+    /// bytes. By a choice below 2^63 each loose byte, and each name in doubt, is settled by the next
     /// value of a generator that begins with it, in the order of names: first whether the new file
     /// stands, by an odd value, and then each loose byte of that file, by the low 8 bits.
+    ///
+    /// By a choice from 2^63 on a crash tears. The next value settles which of the files stands, where
+    /// a name is in doubt; the next after it where the file ends, from the synced length to the greatest
+    /// end; and then each of its loose bytes is the new one by an odd value, and the old one by an even.
     ///
     /// The configuration file stays, the calls are numbered from 1 again, and no fault is counted.
     pub fn crash(

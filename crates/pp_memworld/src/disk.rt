@@ -58,7 +58,7 @@ impl MemWorld {
         ensures ends { EndsStay self.old self.new }
     {
         self.calls.count();
-        self.record.fail(Happening::Unread(*name));
+        self.record.look_away(name);
     }
 }
 

@@ -143,11 +143,7 @@ impl File {
     pub(crate) fn left(&self, alloc: Global, choice: &mut Choice) -> Result<Octets, OutOfMemory>
         ensures { IfOk result (IsLeft self.now) }
     {
-        let len = if choice.is_old() {
-            self.synced
-        } else {
-            self.end
-        };
+        let len = choice.length(self.synced, self.end);
         let mut bytes = Vec::new(alloc);
         for at in 0..len {
             let byte = self.byte_left(at, choice);

@@ -1,10 +1,11 @@
 // The files of a folder as the happenings of a log leave them.
-ghost use Rattle.std.specs.Prelude.{◌≡◌, ◌≤◌, ◌∷◌, [], ◌++◌, false, true, IsTrue, ◌≢◌, ℕ, List, length, map, is_some, None, Some, IfOk, OnOk};
+ghost use Rattle.std.specs.Prelude.{◌≡◌, ◌≤◌, ◌∷◌, [], ◌++◌, false, true, ◌||◌, IsTrue, ◌≢◌, ℕ, List, length, map, is_some, None, Some, IfOk, OnOk};
 ghost use Rattle.std.specs.List.{list_all};
 ghost use Rattle.pp_world.specs.declared.happening.Happening.TheVariants.{Woke, Began, Did};
-ghost use Rattle.pp_world.specs.Disk.{AreNames, LeavesOne, Stored, bytes_in, is_name, is_name_byte, on_file, synced};
+ghost use Rattle.pp_world.specs.Disk.{AreNames, LeavesOne, Stored, bytes_in, is_name, is_name_byte, on_file, synced, synced_unless};
 ghost use Rattle.pp_world.specs.Files.{file_of};
 ghost use Rattle.pp_memworld.specs.Edit.{edited};
+ghost use Rattle.pp_memworld.specs.Failures.{Adds, has_failed};
 ghost use Rattle.pp_memworld.specs.Folder.{Follows, Hears, is_sound, listed_in, listed_one};
 ghost use Rattle.pp_memworld.specs.Slots.{AreListed, Changes, files_at, first_of, rested};
 
@@ -17,16 +18,17 @@ use crate::slots::{Slots, put, take};
 use pp_text::{Octets, OutOfMemory};
 use pp_world::{DiskOp, Happening, Image, Name};
 use std::alloc::Global;
-use std::collections::BTreeMap;
+use std::collections::{BTreeMap, BTreeSet};
 
 /// How many names a listing has at most.
 const MAX_NAMES: usize = 65_536;
 
-/// The draft, and what stands under each name.
+/// The draft, what stands under each name, and the names on which an operation failed in this life.
 #[derive(Drop)]
 pub(crate) struct Folder {
     draft: Option<Draft>,
     slots: Slots,
+    failed: BTreeSet<Name>,
 }
 
 impl Folder {
@@ -37,6 +39,7 @@ impl Folder {
         Folder {
             draft: None,
             slots: BTreeMap::new(alloc),
+            failed: BTreeSet::new(alloc),
         }
     }
 
@@ -49,10 +52,8 @@ impl Folder {
             Happening::Woke(image) => self.wake(alloc, image),
             Happening::Began(op) => self.begin(alloc, op),
             Happening::Did(op, true) => self.finish(alloc, op),
-            Happening::Did(op, false) => {
-                self.fail(op);
-                Ok(())
-            }
+            Happening::Did(op, false) => self.fail(op),
+            Happening::Unread(name) => self.mark(name),
             _ => Ok(()),
         }
     }
@@ -65,6 +66,7 @@ impl Folder {
     {
         self.draft = None;
         self.slots = image::rest(alloc, image)?;
+        self.failed = BTreeSet::new(alloc);
         Ok(())
     }
 
@@ -110,23 +112,39 @@ impl Folder {
             DiskOp::Write(name, at, bytes) => {
                 self.edit(alloc, name, Edit::Overwrite(*at as usize, bytes.as_slice()))
             }
-            DiskOp::Sync(name) => self.edit(alloc, name, Edit::Settle),
+            DiskOp::Sync(name) => self.settle(alloc, name),
             DiskOp::Remove(name) => self.stand(alloc, name, None),
         }
     }
 
-    /// It failed: what it left in doubt stays so, and a draft that was to be published is no more.
-    fn fail(&mut self, op: &DiskOp)
-        ensures { Hears (Did op.now false) self.old self.new }
+    /// It failed: what it left in doubt stays so, and a draft that was to be synced or published is no
+    /// more.
+    fn fail(&mut self, op: &DiskOp) -> Result<(), OutOfMemory>
+        ensures { OnOk result (Hears (Did op.now false) self.old self.new) }
     {
         match op {
-            DiskOp::Publish(_) => self.draft = None,
-            DiskOp::Draft(_)
-            | DiskOp::SyncDraft
-            | DiskOp::Write(_, _, _)
-            | DiskOp::Sync(_)
-            | DiskOp::Remove(_) => {}
+            DiskOp::Draft(_) => Ok(()),
+            DiskOp::SyncDraft => {
+                self.draft = None;
+                Ok(())
+            }
+            DiskOp::Publish(name) => {
+                self.draft = None;
+                self.mark(name)
+            }
+            DiskOp::Write(name, _, _) | DiskOp::Sync(name) | DiskOp::Remove(name) => {
+                self.mark(name)
+            }
         }
+    }
+
+    /// An operation on this name failed, or a read of its file.
+    pub(crate) fn mark(&mut self, name: &Name) -> Result<(), OutOfMemory>
+        ensures failed { OnOk result (Adds name.now self.old.failed self.new.failed) }
+        ensures draft { self.new.draft ≡ self.old.draft }
+        ensures slots { self.new.slots ≡ self.old.slots }
+    {
+        add(&mut self.failed, name)
     }
 
     /// The file that the draft would be.
@@ -142,6 +160,7 @@ impl Folder {
     fn sync_draft(&mut self)
         ensures draft { self.new.draft ≡ on_file synced self.old.draft }
         ensures slots { self.new.slots ≡ self.old.slots }
+        ensures failed { self.new.failed ≡ self.old.failed }
     {
         if let Some(draft) = &mut self.draft {
             draft.sync();
@@ -152,6 +171,7 @@ impl Folder {
     fn doubt(&mut self, alloc: Global, name: &Name, file: Option<File>) -> Result<(), OutOfMemory>
         ensures slots { OnOk result (Changes name.now (λ files. files ++ file ∷ []) self.old.slots self.new.slots) }
         ensures draft { self.new.draft ≡ self.old.draft }
+        ensures failed { self.new.failed ≡ self.old.failed }
     {
         let mut slot = take(&mut self.slots, alloc, name);
         slot.doubt(file)?;
@@ -162,6 +182,7 @@ impl Folder {
     fn stand(&mut self, alloc: Global, name: &Name, file: Option<File>) -> Result<(), OutOfMemory>
         ensures slots { OnOk result (Changes name.now (λ files. file ∷ []) self.old.slots self.new.slots) }
         ensures draft { self.new.draft ≡ self.old.draft }
+        ensures failed { self.new.failed ≡ self.old.failed }
     {
         put(&mut self.slots, name, Slot::of(alloc, file))
     }
@@ -170,10 +191,23 @@ impl Folder {
     fn edit(&mut self, alloc: Global, name: &Name, edit: Edit<'_>) -> Result<(), OutOfMemory>
         ensures slots { OnOk result (Changes name.now (map (on_file (edited edit.entry))) self.old.slots self.new.slots) }
         ensures draft { self.new.draft ≡ self.old.draft }
+        ensures failed { self.new.failed ≡ self.old.failed }
     {
         let mut slot = take(&mut self.slots, alloc, name);
         slot.edit(alloc, edit)?;
         put(&mut self.slots, name, slot)
+    }
+
+    /// Settles the file of this name, unless an operation on it failed before.
+    fn settle(&mut self, alloc: Global, name: &Name) -> Result<(), OutOfMemory>
+        ensures slots { OnOk result (Changes name.now (synced_unless (has_failed name.now self.old.failed)) self.old.slots self.new.slots) }
+        ensures draft { self.new.draft ≡ self.old.draft }
+        ensures failed { self.new.failed ≡ self.old.failed }
+    {
+        if self.failed.contains(name) {
+            return Ok(());
+        }
+        self.edit(alloc, name, Edit::Settle)
     }
 
     pub(crate) fn has_draft(&self) -> bool
@@ -224,6 +258,15 @@ impl Folder {
             leave(&mut image, name, slot, alloc, choice)?;
         }
         Ok(image)
+    }
+}
+
+fn add(names: &mut BTreeSet<Name>, name: &Name) -> Result<(), OutOfMemory>
+    ensures { OnOk result (Adds name.now names.old names.new) }
+{
+    match names.insert(*name) {
+        Ok(_) => Ok(()),
+        Err(_) => Err(OutOfMemory),
     }
 }
 

@@ -34,8 +34,6 @@ mod record; // the log, and the connections that are open by it
 mod script; // cues and pages
 mod sides; // what is told of a connection, by whose it is
 mod site; // what the origin of a page answers to an ask
-#[cfg(test)]
-mod tests;
 mod slot; // the files one of which stands under a name
 mod slots; // what stands under each name
 mod telling; // the log, one happening more

@@ -16,7 +16,7 @@ ghost use Rattle.pp_memworld.specs.Slots.{AreListed};
 use crate::folder::Folder;
 use crate::operation::{Operation, kept};
 use crate::sides::{closed, ended, heard, lost, said};
-use crate::telling::{begun, displace, follow, place, push, push_dialled, remark};
+use crate::telling::{begun, displace, follow, follow_unread, place, push, push_dialled, remark};
 use pp_text::{Octets, OutOfMemory};
 use pp_world::{DiskOp, Happening, Image, Name, Note, Side};
 use std::alloc::Global;
@@ -98,6 +98,19 @@ impl Record {
         ensures top { self.new.top ≡ self.old.top }
     {
         self.told = push(self.told, &mut self.log, happening);
+        self.faults = self.faults.saturating_add(1);
+    }
+
+    /// The file of this name could not be read.
+    pub(crate) fn look_away(&mut self, name: &Name)
+        ensures tells { Tells self.old self.new (Happening.Unread name.now) }
+        ensures faults { self.new.faults ≡ one_more self.old.faults }
+        ensures rises { Rises (record_log self.new) self.old.faults self.new.faults }
+        ensures never_falls { self.old.faults ≤ self.new.faults }
+        ensures sides { self.new.sides ≡ self.old.sides }
+        ensures top { self.new.top ≡ self.old.top }
+    {
+        self.told = follow_unread(self.told, &mut self.log, &mut self.folder, name);
         self.faults = self.faults.saturating_add(1);
     }
 

@@ -89,13 +89,12 @@ impl Slot {
     ) -> Result<Option<Octets>, OutOfMemory>
         ensures { IfOk result (LeavesOne self.now) }
     {
-        let Some(new) = self.doubts.last() else {
+        if self.doubts.is_empty() {
             return left_of(&self.file, alloc, choice);
-        };
-        if choice.is_new() {
-            left_of(new, alloc, choice)
-        } else {
-            left_of(&self.file, alloc, choice)
+        }
+        match choice.standing(self.doubts.len()) {
+            0 => left_of(&self.file, alloc, choice),
+            place => left_of(&self.doubts[place - 1], alloc, choice),
         }
     }
 }

@@ -1,12 +1,13 @@
 // What the log and the table of connections become by one step.
 ghost use Rattle.std.specs.Prelude.{◌≡◌, ◌<◌, ◌^◌, ℕ, true, [], ◌∷◌, ◌++◌, vec_len, if◌then◌else◌, ◌==◌, IsTrue, IfOk, Some, None};
 ghost use Rattle.pp_world.specs.Wire.{remark_of};
+ghost use Rattle.pp_memworld.specs.Failures.{Adds};
 ghost use Rattle.pp_memworld.specs.Folder.{Hears, is_sound};
 ghost use Rattle.pp_memworld.specs.Sides.{side_at};
 
 use crate::folder::Folder;
 use pp_text::{Octets, OutOfMemory};
-use pp_world::{Happening, Image, Note, Remark, Side};
+use pp_world::{Happening, Image, Name, Note, Remark, Side};
 use std::alloc::Global;
 use std::collections::BTreeMap;
 
@@ -35,6 +36,23 @@ pub(crate) fn follow(
 {
     let heard = folder.hear(alloc, &happening).is_ok();
     push(told && heard, log, happening)
+}
+
+/// Whether the log is told still, after a read that failed, which the folder follows.
+pub(crate) fn follow_unread(
+    told: bool,
+    log: &mut Vec<Happening>,
+    folder: &mut Folder,
+    name: &Name,
+) -> bool
+    ensures told { result ≡ true → told ≡ true }
+    ensures pushed { result ≡ true → log.new.items ≡ log.old.items ++ Happening.Unread name.now ∷ [] }
+    ensures failed { result ≡ true → Adds name.now folder.old.failed folder.new.failed }
+    ensures draft { folder.new.draft ≡ folder.old.draft }
+    ensures slots { folder.new.slots ≡ folder.old.slots }
+{
+    let marked = folder.mark(name).is_ok();
+    push(told && marked, log, Happening::Unread(*name))
 }
 
 /// Whether the log is told still, after one happening more.

@@ -1,4 +1,5 @@
 use Rattle.std.proofs.Common.{◌∙◌, ap, sym, refl}
+use Rattle.std.specs.List.{list_any}
 use Rattle.std.specs.Map.{lookup}
 use Rattle.std.specs.Ordering.{is_eq}
 use Rattle.pp_world.specs.Files.{name_order}
@@ -10,6 +11,7 @@ pub returns-clause-hears : goal.returns-clause-hears
 returns-clause-hears c = record {
   hears = λ name view shown. record {
     draft = refl;
+    failed = sym (ap (list_any (λ n. is_eq (name_order name n))) c.new.ensures.empty);
     slot = sym (ap (λ es. files_in (lookup (λ n. is_eq (name_order name n)) es)) c.in_ok-self.ensures ∙ rested_at (λ n. is_eq (name_order name n)) c.args.image.now);
   };
 }

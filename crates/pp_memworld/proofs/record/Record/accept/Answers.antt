@@ -7,5 +7,5 @@ use Rattle.pp_memworld.proofs.record.Record.accept.Goals as goal
 pub invariant_of-self : goal.invariant_of-self
 invariant_of-self c = record {
   tied = tied_accept _ c.args.self.now.tied refl c.place-placed.ensures.told c.place-placed.ensures.placed c.push-self.ensures.told c.push-self.ensures.pushed;
-  kept = kept_push (Opened _) c.args.self.now.kept (record { draft = λ name view. refl; slot = λ name view. refl; image = λ image. refl; sound = refl }) (λ is. c.place-placed.ensures.told (c.push-self.ensures.told is)) c.push-self.ensures.pushed;
+  kept = kept_push (Opened _) c.args.self.now.kept (record { draft = λ name view. refl; slot = λ name view. refl; failed = λ name view. refl; image = λ image. refl; sound = refl }) (λ is. c.place-placed.ensures.told (c.push-self.ensures.told is)) c.push-self.ensures.pushed;
 }

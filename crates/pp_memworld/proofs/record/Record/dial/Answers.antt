@@ -7,5 +7,5 @@ use Rattle.pp_memworld.proofs.record.Record.dial.Goals as goal
 pub invariant_of-self : goal.invariant_of-self
 invariant_of-self c = record {
   tied = tied_dial _ c.args.host.now c.args.port c.args.self.now.tied refl c.place-placed.ensures.told c.place-placed.ensures.placed c.push_dialled-self.ensures.told c.push_dialled-self.ensures.pushed;
-  kept = kept_push (Dialled _ c.args.host.now c.args.port) c.args.self.now.kept (record { draft = λ name view. refl; slot = λ name view. refl; image = λ image. refl; sound = refl }) (λ is. c.place-placed.ensures.told (c.push_dialled-self.ensures.told is)) c.push_dialled-self.ensures.pushed;
+  kept = kept_push (Dialled _ c.args.host.now c.args.port) c.args.self.now.kept (record { draft = λ name view. refl; slot = λ name view. refl; failed = λ name view. refl; image = λ image. refl; sound = refl }) (λ is. c.place-placed.ensures.told (c.push_dialled-self.ensures.told is)) c.push_dialled-self.ensures.pushed;
 }
