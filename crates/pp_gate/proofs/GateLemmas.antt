@@ -75,16 +75,17 @@ opens_at_most n k c le next = ⊎_elim
 pub honest_next : (P : Bytes → ℕ → ℕ → Bool) (block : Bytes) (n low high : ℕ) (c : Bytes) → low ≤ high → high ≤ chunks_of n → take 8192 c ≡ block
     → ((i : ℕ) → i < low → gate c i ≡ 1) → (high < chunks_of n → gate c high ≢ 1)
     → body_at n + min n (4096 * high) ≤ length c
+    → length c ≤ body_at n + n
     → ((o : ℕ) → o < min n (4096 * high) → P block o (body n c o) ≡ true)
     → IsHonest P block n (min n (4096 * low)) (Some c)
 unfolding extent_in
-honest_next P block n low high c order within head is_open next long holds =
+honest_next P block n low high c order within head is_open next long short holds =
     let least : low ≤ open_gates n c = opens_at_least n low c (omega (arith, order, within)) is_open in
     let most : open_gates n c ≤ high = opens_at_most n high c within next in
     record {
       bytes = c;
       is = refl;
-      entry = record { head = head; long = omega (arith, most, long) };
+      entry = record { head = head; long = omega (arith, most, long); short = short };
       extent = omega (arith, least);
       holds = λ o lt. holds o (omega (arith, lt, most));
     }
@@ -92,6 +93,7 @@ honest_next P block n low high c order within head is_open next long holds =
 pub honest_between : (P : Bytes → ℕ → ℕ → Bool) (block : Bytes) (n low high : ℕ) (c : Bytes) → low ≤ high → high ≤ chunks_of n → take 8192 c ≡ block
     → ((i : ℕ) → i < low → gate c i ≡ 1) → ((i : ℕ) → high ≤ i → i < chunks_of n → gate c i ≢ 1)
     → body_at n + min n (4096 * high) ≤ length c
+    → length c ≤ body_at n + n
     → ((o : ℕ) → o < min n (4096 * high) → P block o (body n c o) ≡ true)
     → IsHonest P block n (min n (4096 * low)) (Some c)
-honest_between P block n low high c order within head is_open is_closed long holds = honest_next P block n low high c order within head is_open (λ lt. is_closed high (omega arith) lt) long holds
+honest_between P block n low high c order within head is_open is_closed long short holds = honest_next P block n low high c order within head is_open (λ lt. is_closed high (omega arith) lt) long short holds

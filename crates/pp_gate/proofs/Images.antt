@@ -19,6 +19,7 @@ list_ext (x ∷ a) (y ∷ b) len same =
 -- as it was read, but for one range
 pub record Torn (from to : ℕ) (was is : Bytes) : Type 0 where
   pub no_shorter : length was ≤ length is
+  pub no_longer : length is ≤ max (length was) to
   pub before : (o : ℕ) → o < length was → o < from → get_or is o 0 ≡ get_or was o 0
   pub after : (o : ℕ) → o < length was → to ≤ o → get_or is o 0 ≡ get_or was o 0
 
@@ -36,6 +37,7 @@ pub loose_leaves : (from to : ℕ) (b c : Bytes) → IsLeft (loosened from to (s
 unfolding settled loosened
 loose_leaves from to b c left = record {
   no_shorter = left.no_shorter;
+  no_longer = left.no_longer;
   before = λ o lt below. left.same o lt (below_range o from to below);
   after = λ o lt above. left.same o lt (above_range o from to above);
 }
@@ -75,6 +77,7 @@ module _ (at : ℕ) (x b : Bytes) (le : at ≤ length b) where
   pub written_torn : Torn at (at + length x) b (splice at x b)
   written_torn = record {
     no_shorter = omega (arith, length-splice);
+    no_longer = omega (arith, length-splice);
     before = λ o lt below. splice_before o below;
     after = λ o lt above. splice_after o above;
   }
@@ -83,9 +86,10 @@ module _ (at : ℕ) (x b : Bytes) (le : at ≤ length b) where
   unfolding settled loosened written
   written_leaves c left = record {
     no_shorter = left.no_shorter;
+    no_longer = left.no_longer;
     before = λ o lt below. left.same o lt (below_range o at (at + length x) below) ∙ splice_before o below;
     after = λ o lt above. left.same o lt (above_range o at (at + length x) above) ∙ splice_after o above;
   }
 
 pub same_torn : (from to : ℕ) (b : Bytes) → Torn from to b b
-same_torn from to b = record { no_shorter = omega arith; before = λ o lt below. refl; after = λ o lt above. refl }
+same_torn from to b = record { no_shorter = omega arith; no_longer = omega arith; before = λ o lt below. refl; after = λ o lt above. refl }

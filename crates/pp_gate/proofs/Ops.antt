@@ -4,7 +4,7 @@ use Rattle.std.proofs.lemmas.Slice.Eq.{bytes_eq-Decides}
 use Rattle.std.specs.Prelude.{bytes_eq, map}
 use Rattle.pp_world.specs.declared.op.DiskOp.{DiskOp}
 use Rattle.pp_world.specs.declared.op.DiskOp.TheVariants.{Draft, SyncDraft, Publish, Write, Sync, Remove}
-use Rattle.pp_world.specs.Disk.{Bytes, View, Stored, on_file, settled, unsynced, loosened, written, splice, synced, began, done, undone, where_on, IsLeft, IsLeftOf, LeavesOne, view_of, HasDraft}
+use Rattle.pp_world.specs.Disk.{Bytes, View, Stored, on_file, settled, unsynced, loosened, written, splice, synced, synced_unless, began, done, undone, where_on, IsLeft, IsLeftOf, LeavesOne, view_of, HasDraft}
 use Rattle.pp_world.specs.Log.{Log, Told}
 use Rattle.pp_gate.specs.Runs.{During, IsOn, AllOn, RunsOps, EachMoment}
 use Rattle.pp_gate.proofs.Views.{at_each, done_view, told_after, runs_at}
@@ -80,21 +80,21 @@ unfolding settled loosened written
 is_bytes at x base = refl
 
 -- a write, and its sync: at each moment the file is as it was but in the range; then it has the bytes
-pub write_then_sync : (name : Bytes) (at : ℕ) (x base : Bytes) (v : View) (ops : List DiskOp) (R : Option Bytes → Type 0) → v.slot ≡ Some (settled base) ∷ [] → at ≤ length base
+pub write_then_sync : (name : Bytes) (at : ℕ) (x base : Bytes) (v : View) (ops : List DiskOp) (R : Option Bytes → Type 0) → v.slot ≡ Some (settled base) ∷ [] → v.failed ≡ false → at ≤ length base
     → ((c : Bytes) → Torn at (at + length x) base c → R (Some c))
-    → ((w : View) → w.slot ≡ Some (settled (splice at x base)) ∷ [] → During name w ops (AllLeft R))
+    → ((w : View) → w.slot ≡ Some (settled (splice at x base)) ∷ [] → w.failed ≡ false → During name w ops (AllLeft R))
     → During name v (Write name at x ∷ Sync name ∷ ops) (AllLeft R)
-write_then_sync name at x base v ops R is le torn rest =
+write_then_sync name at x base v ops R is sound le torn rest =
     let loose_is : (began name (Write name at x) v).slot ≡ Some (loosened at (at + length x) (settled base)) ∷ [] =
     chosen name (map (on_file (loosened at (at + length x))) v.slot) v.slot ∙ ap (λ (s : List (Option Stored)). map (on_file (loosened at (at + length x))) s) is in
     let written_is : (done name (Write name at x) (began name (Write name at x) v)).slot ≡ Some (written at x (loosened at (at + length x) (settled base))) ∷ [] =
     chosen name _ _ ∙ ap (λ (s : List (Option Stored)). map (on_file (written at x)) s) loose_is in
     let synced_is : (done name (Sync name) (done name (Write name at x) (began name (Write name at x) v))).slot ≡ Some (synced (written at x (loosened at (at + length x) (settled base)))) ∷ [] =
-    chosen name _ _ ∙ ap (λ (s : List (Option Stored)). map (on_file synced) s) written_is in
+    chosen name _ _ ∙ ap (λ (b : Bool). synced_unless b (done name (Write name at x) (began name (Write name at x) v)).slot) sound ∙ ap (λ (s : List (Option Stored)). map (on_file synced) s) written_is in
     let before : AllLeft R v = one_leaves (settled base) R v.slot is (λ c left. torn c (subst (λ (b : Bytes). Torn at (at + length x) base b) (sym (settled_leaves base c left)) (same_torn at (at + length x) base))) in
     let during : AllLeft R (began name (Write name at x) v) = one_leaves _ R _ loose_is (λ c left. torn c (loose_leaves at (at + length x) base c left)) in
     let after : AllLeft R (done name (Write name at x) (began name (Write name at x) v)) = one_leaves _ R _ written_is (λ c left. torn c (written_leaves at x base le c left)) in
-    (before, during, during, (after, after, after, rest _ (synced_is ∙ ap (λ (f : Stored). Some f ∷ []) (is_bytes at x base))))
+    (before, during, during, (after, after, after, rest _ (synced_is ∙ ap (λ (f : Stored). Some f ∷ []) (is_bytes at x base)) sound))
 
 -- the last moment
 pub all_settled : (base : Bytes) (R : Option Bytes → Type 0) (v : View) → v.slot ≡ Some (settled base) ∷ [] → R (Some base) → AllLeft R v
@@ -168,9 +168,10 @@ others_moments old new ops ok name on runs = record {
 }
 
 -- the file once it was written and synced
-pub write_sync_slot : (name : Bytes) (at : ℕ) (x base : Bytes) (v : View) → v.slot ≡ Some (settled base) ∷ [] → (done_view name v (Write name at x ∷ Sync name ∷ [])).slot ≡ Some (settled (splice at x base)) ∷ []
-write_sync_slot name at x base v is =
+pub write_sync_slot : (name : Bytes) (at : ℕ) (x base : Bytes) (v : View) → v.slot ≡ Some (settled base) ∷ [] → v.failed ≡ false → (done_view name v (Write name at x ∷ Sync name ∷ [])).slot ≡ Some (settled (splice at x base)) ∷ []
+write_sync_slot name at x base v is sound =
     chosen name _ _
+    ∙ ap (λ (b : Bool). synced_unless b (done name (Write name at x) (began name (Write name at x) v)).slot) sound
     ∙ ap (λ (s : List (Option Stored)). map (on_file synced) s) (
     chosen name _ _
     ∙ ap (λ (s : List (Option Stored)). map (on_file (written at x)) s) (

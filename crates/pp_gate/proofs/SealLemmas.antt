@@ -1,10 +1,8 @@
 -- Each step of sealing chunks.
-use Rattle.std.proofs.Common.{◌≡◌, ◌≢◌, ◌⊎◌, ⊎_elim, ℕ, ◌+◌, ◌*◌, ◌-◌, ◌<◌, ◌≤◌, Bool, true, false, [], ◌∷◌, ◌++◌, length, take, get_or, replicate, refl, sym, ◌∙◌, ap, subst, arith, Option, Some}
+use Rattle.std.proofs.Common.{◌≡◌, ◌≢◌, ◌⊎◌, ⊎_elim, ℕ, ◌+◌, ◌*◌, ◌-◌, ◌<◌, ◌≤◌, Bool, true, false, [], ◌∷◌, length, take, get_or, replicate, refl, sym, ◌∙◌, ap, subst, arith, Option, Some}
 use Rattle.std.specs.Prelude.{◌^◌, min, Result, Ok, Err, IsErr, is_ok}
-use Rattle.std.proofs.lemmas.List.{get_or-take, length-take-le, get_or-replicate, take_all}
-use Rattle.std.proofs.Math.Seq.{get_or-append_right}
-use Rattle.std.proofs.Math.ListN.{get_or-append, length-replicate}
-use Rattle.std.proofs.Common.{length-append}
+use Rattle.std.proofs.lemmas.List.{get_or-take, length-take-le, get_or-replicate}
+use Rattle.std.proofs.Math.ListN.{length-replicate}
 use Rattle.pp_world.specs.declared.op.DiskOp.TheVariants.{Write, Sync}
 use Rattle.pp_world.specs.declared.happening.Happening.TheVariants.{Began, Did}
 use Rattle.pp_world.specs.declared.disk.DiskFault.{DiskFault}
@@ -12,14 +10,13 @@ use Rattle.pp_world.specs.Log.{Log, Told, AppendsAll}
 use Rattle.pp_world.specs.Disk.{Bytes, View, Stored, settled, splice, view_of, Reaches, op_happenings}
 use Rattle.pp_entry.specs.Texts.{body_at, chunks_of}
 use Rattle.pp_gate.specs.Files.{gate, body}
-use Rattle.pp_gate.specs.Gate.{HoldsJust, fresh_file}
 use Rattle.pp_gate.specs.Runs.{During, RunsOps, EachMoment}
 use Rattle.pp_gate.specs.Seal.{IsKept, KeepsIn, Keeps, IsRun, IsHonest, StaysHonest, seal_ops}
 use Rattle.pp_gate.proofs.Views.{done_view, told_after, told_map, moments, runs_none, runs_more, runs_failed, runs_last}
 use Rattle.pp_gate.proofs.Images.{Torn, list_ext, length-splice, splice_before, splice_in, written_torn}
 use Rattle.pp_gate.proofs.Ops.{AllLeft, write_then_sync, write_sync_slot, all_settled}
 use Rattle.pp_gate.proofs.GateLemmas.{honest_between}
-use Rattle.pp_gate.proofs.PlaceLemmas.{gates_below, body_within}
+use Rattle.pp_gate.proofs.PlaceLemmas.{gates_below}
 
 -- as far as the head is, two files are the same where their bytes are
 pub same_head : (a b : Bytes) → 8192 ≤ length a → 8192 ≤ length b → ((o : ℕ) → o < 8192 → get_or a o 0 ≡ get_or b o 0) → take 8192 a ≡ take 8192 b
@@ -78,10 +75,14 @@ module _ (P : Bytes → ℕ → ℕ → Bool) (block : Bytes) (n first m : ℕ) 
       (λ i lt. gates i (omega (arith, lt, fits)) ∙ kept.is_open i lt)
       (λ i le lt is. kept.is_closed i le lt (sym (gates i lt) ∙ is))
       (omega (arith, kept.long, torn.no_shorter))
+      (omega (arith, kept.short, torn.no_longer, new_size))
       (λ o lt. subst (λ (x : ℕ). P block o x ≡ true) (sym (body_same n c base o (same (body_at n + o) (omega (arith, lt, old_extent))))) (holds o lt))
 
   length_body : body_at n + min n (4096 * (first + m)) ≤ length with_body
   length_body = omega (arith, length-splice (body_at n + 4096 * first) bytes base reach, new_size)
+
+  short_body : length with_body ≤ body_at n + n
+  short_body = omega (arith, length-splice (body_at n + 4096 * first) bytes base reach, new_size, kept.short)
 
   -- a byte of the new body is true
   true_body : (o : ℕ) → o < min n (4096 * (first + m)) → P block o (body n with_body o) ≡ true
@@ -132,8 +133,11 @@ module _ (P : Bytes → ℕ → ℕ → Bool) (block : Bytes) (n first m : ℕ) 
         (sym (body_same n c with_body o (torn.after (body_at n + o) (omega (arith, lt, length_body)) (omega (arith, gates_below n, within)))))
         (true_body o lt)
 
+    torn_short : length c ≤ body_at n + n
+    torn_short = omega (arith, torn.no_longer, short_body, gates_below n, within)
+
     pub gates_torn : IsHonest P block n (min n (4096 * first)) (Some c)
-    gates_torn = honest_between P block n first (first + m) c (omega arith) within torn_head torn_open torn_closed (omega (arith, torn.no_shorter, length_body)) torn_holds
+    gates_torn = honest_between P block n first (first + m) c (omega arith) within torn_head torn_open torn_closed (omega (arith, torn.no_shorter, length_body)) torn_short torn_holds
 
   gates_torn_by : Torn (8192 + first) (8192 + first + length (replicate {A = ℕ} m 1)) with_body with_gates → Torn (8192 + first) (8192 + first + m) with_body with_gates
   gates_torn_by torn = subst (λ (k : ℕ). Torn (8192 + first) (8192 + first + k) with_body with_gates) (length-replicate m 1) torn
@@ -155,6 +159,7 @@ module _ (P : Bytes → ℕ → ℕ → Bool) (block : Bytes) (n first m : ℕ) 
     is_closed = λ i le lt. torn_closed with_gates last_torn i le lt;
     within = within;
     long = omega (arith, last_torn.no_shorter, length_body);
+    short = torn_short with_gates last_torn;
   }
     where
       split : (a b : ℕ) → (a < b) ⊎ (b ≤ a)
@@ -167,24 +172,25 @@ module _ (P : Bytes → ℕ → ℕ → Bool) (block : Bytes) (n first m : ℕ) 
   sealed_holds o lt = torn_holds with_gates last_torn o lt
 
   -- each step of the seal
-  pub seal_during : (name : Bytes) (v : View) → v.slot ≡ Some (settled base) ∷ [] → During name v (seal_ops name n first m bytes) (AllLeft (IsHonest P block n (min n (4096 * first))))
-  seal_during name v is =
-      write_then_sync name (body_at n + 4096 * first) bytes base v (Write name (8192 + first) (replicate m 1) ∷ Sync name ∷ []) (IsHonest P block n (min n (4096 * first))) is reach body_torn
-      (λ w w_is. write_then_sync name (8192 + first) (replicate m 1) with_body w [] (IsHonest P block n (min n (4096 * first))) w_is gates_fit
+  pub seal_during : (name : Bytes) (v : View) → v.slot ≡ Some (settled base) ∷ [] → v.failed ≡ false → During name v (seal_ops name n first m bytes) (AllLeft (IsHonest P block n (min n (4096 * first))))
+  seal_during name v is sound =
+      write_then_sync name (body_at n + 4096 * first) bytes base v (Write name (8192 + first) (replicate m 1) ∷ Sync name ∷ []) (IsHonest P block n (min n (4096 * first))) is sound reach body_torn
+      (λ w w_is w_sound. write_then_sync name (8192 + first) (replicate m 1) with_body w [] (IsHonest P block n (min n (4096 * first))) w_is w_sound gates_fit
       (λ c torn. gates_torn c (subst (λ (k : ℕ). Torn (8192 + first) (8192 + first + k) with_body c) (length-replicate m 1) torn))
-      (λ u u_is. all_settled with_gates (IsHonest P block n (min n (4096 * first))) u u_is (gates_torn with_gates last_torn)))
+      (λ u u_is u_sound. all_settled with_gates (IsHonest P block n (min n (4096 * first))) u u_is (gates_torn with_gates last_torn)))
 
-  pub seal_done : (name : Bytes) (v : View) → v.slot ≡ Some (settled base) ∷ [] → KeepsIn P block n (first + m) (done_view name v (seal_ops name n first m bytes))
-  seal_done name v is = record {
+  pub seal_done : (name : Bytes) (v : View) → v.slot ≡ Some (settled base) ∷ [] → v.failed ≡ false → KeepsIn P block n (first + m) (done_view name v (seal_ops name n first m bytes))
+  seal_done name v is sound = record {
     bytes = with_gates;
     slot = write_sync_slot name (8192 + first) (replicate m 1) with_body (done_view name v (Write name (body_at n + 4096 * first) bytes ∷ Sync name ∷ []))
-        (write_sync_slot name (body_at n + 4096 * first) bytes base v is);
+        (write_sync_slot name (body_at n + 4096 * first) bytes base v is sound) sound;
+    sound = sound;
     kept = sealed;
     holds = sealed_holds;
   }
 
-  pub body_done : (name : Bytes) (v : View) → v.slot ≡ Some (settled base) ∷ [] → (done_view name v (Write name (body_at n + 4096 * first) bytes ∷ Sync name ∷ [])).slot ≡ Some (settled with_body) ∷ []
-  body_done name v is = write_sync_slot name (body_at n + 4096 * first) bytes base v is
+  pub body_done : (name : Bytes) (v : View) → v.slot ≡ Some (settled base) ∷ [] → v.failed ≡ false → (done_view name v (Write name (body_at n + 4096 * first) bytes ∷ Sync name ∷ [])).slot ≡ Some (settled with_body) ∷ []
+  body_done name v is sound = write_sync_slot name (body_at n + 4096 * first) bytes base v is sound
 
 pub settled_bytes : (b : Bytes) → (settled b).bytes ≡ b
 unfolding settled
@@ -203,7 +209,7 @@ gates_reached old mid P name block n first m bytes told run runs =
     (told_after old mid (Write name (body_at n + 4096 * first) bytes ∷ Sync name ∷ []) name (KeepsIn P block n first) Reached told runs
     (λ v k. (
       settled (with_body P block n first m bytes k.bytes k.kept k.holds run),
-      body_done P block n first m bytes k.bytes k.kept k.holds run name v k.slot,
+      body_done P block n first m bytes k.bytes k.kept k.holds run name v k.slot k.sound,
       omega (arith, ap length (settled_bytes (with_body P block n first m bytes k.bytes k.kept k.holds run)), gates_fit P block n first m bytes k.bytes k.kept k.holds run),
     )))
     (λ l r. (r.0, r.1, r.2))
@@ -220,13 +226,13 @@ pub seal_moments : (old new : Option Log) (ok : Bool) (P : Bytes → ℕ → ℕ
     → RunsOps old new (seal_ops name n first m bytes) ok → EachMoment old new (StaysHonest P name block n (min n (4096 * first)))
 seal_moments old new ok P name block n first m bytes told run runs =
     moments old new (seal_ops name n first m bytes) ok name (KeepsIn P block n first) (λ v w. AllLeft (IsHonest P block n (min n (4096 * first))) w) told runs
-    (λ v k. seal_during P block n first m bytes k.bytes k.kept k.holds run name v k.slot)
+    (λ v k. seal_during P block n first m bytes k.bytes k.kept k.holds run name v k.slot k.sound)
 
 pub seal_keeps : (old new : Option Log) (P : Bytes → ℕ → ℕ → Bool) (name : Bytes) (block : Bytes) (n first m : ℕ) (bytes : Bytes) → Told old (Keeps P name block n first) → IsRun P block n first m bytes
     → RunsOps old new (seal_ops name n first m bytes) true → Told new (Keeps P name block n (first + m))
 seal_keeps old new P name block n first m bytes told run runs =
     told_after old new (seal_ops name n first m bytes) name (KeepsIn P block n first) (KeepsIn P block n (first + m)) told runs
-    (λ v k. seal_done P block n first m bytes k.bytes k.kept k.holds run name v k.slot)
+    (λ v k. seal_done P block n first m bytes k.bytes k.kept k.holds run name v k.slot k.sound)
 
 -- the operations, call by call
 pub body_runs : (old a b : Option Log) (name : Bytes) (n first at : ℕ) (bytes : Bytes) → at ≡ body_at n + 4096 * first → AppendsAll old a (λ l. (Began (Write name at bytes) ∷ Did (Write name at bytes) true ∷ [])) → AppendsAll a b (λ l. (Began (Sync name) ∷ Did (Sync name) true ∷ []))
@@ -257,25 +263,3 @@ gates_done old mid last new name n first m bytes x r ones so_far call sync =
     subst (λ (y : Bytes). RunsOps old new (Write name (body_at n + 4096 * first) bytes ∷ Sync name ∷ Write name (8192 + first) y ∷ Sync name ∷ []) (is_ok r)) ones
     (runs_last old last new (Write name (body_at n + 4096 * first) bytes ∷ Sync name ∷ Write name (8192 + first) x ∷ []) (Sync name) r
     (runs_more old mid last (Write name (body_at n + 4096 * first) bytes ∷ Sync name ∷ []) (Write name (8192 + first) x) so_far call) sync)
-
--- a new file keeps nothing yet
-pub fresh_kept : (block : Bytes) (n : ℕ) → length block ≡ 8192 → n ≤ 2 ^ 26 → IsKept block n 0 (fresh_file block n)
-unfolding fresh_file gate
-fresh_kept block n len le = record {
-  head = same_head (take (body_at n) (block ++ replicate 16384 0)) block (omega (arith, size, gates_below n)) (omega (arith, len)) (λ o lt. get_or-take (body_at n) (block ++ replicate 16384 0) o 0 (omega (arith, lt, gates_below n)) ∙ get_or-append block (replicate 16384 0) 0 o (omega (arith, lt, len))) ∙ take_all 8192 block (omega (arith, len));
-  is_open = λ i lt. absurd (omega (arith, lt));
-  is_closed = λ i from lt is. not_one _ (get_or-take (body_at n) (block ++ replicate 16384 0) (8192 + i) 0 (omega (arith, lt, gates_below n)) ∙ get_or-append_right block (replicate 16384 0) (8192 + i) 0 (omega (arith, len)) ∙ get_or-replicate 16384 (8192 + i - length block) 0 0 (omega (arith, lt, len, gates_below n, body_within n le))) is;
-  within = omega arith;
-  long = omega (arith, size);
-}
-  where
-    not_one : (x : ℕ) → x ≡ 0 → x ≡ 1 → ⊥
-    not_one x zero_is one_is = omega (arith, zero_is, one_is)
-
-    size : length (take (body_at n) (block ++ replicate 16384 0)) ≡ body_at n
-    size = length-take-le (body_at n) (block ++ replicate 16384 0) (omega (arith, body_within n le, length-append block (replicate {A = ℕ} 16384 0), len, length-replicate {A = ℕ} 16384 0))
-
--- and is what sealing asks for
-pub new_keeps : (log : Option Log) (sent : Bytes → ℕ → ℕ → Bool) (name : Bytes) (block : Bytes) (n : ℕ) → IsKept block n 0 (fresh_file block n) → Told log (HoldsJust name (fresh_file block n)) → Told log (Keeps sent name block n 0)
-new_keeps log sent name block n kept told = told_map log (HoldsJust name (fresh_file block n)) (Keeps sent name block n 0) told
-    (λ l slot. record { bytes = fresh_file block n; slot = slot; kept = kept; holds = λ o lt. absurd (omega (arith, lt)) })

@@ -1,34 +1,27 @@
-use Rattle.std.proofs.Common.{sym, subst, Some, length-take-le}
-use Rattle.std.specs.Prelude.{OnOk, is_ok}
-use Rattle.pp_world.specs.Disk.{Bytes}
-use Rattle.pp_world.specs.Log.{Told}
-use Rattle.pp_gate.specs.Gate.{OldOr, HoldsJust, publish_ops}
-use Rattle.pp_gate.specs.Runs.{EachMoment, RunsOps}
-use Rattle.pp_gate.proofs.PlaceLemmas.{end_within, file_is}
-use Rattle.pp_gate.proofs.SealLemmas.{fresh_kept}
+use Rattle.std.proofs.Common.{drop, length-drop}
+use Rattle.pp_entry.specs.Texts.{body_at}
+use Rattle.pp_gate.proofs.WholeLemmas.{front_fits, laid_honest, laid_keeps, laid_kept, laid_whole}
 use Rattle.pp_gate.proofs.publishing.publish.Goals as goal
 
-pub slice_bounds-room-end : goal.slice_bounds-room-end
-slice_bounds-room-end g c = end_within c.args.block.now c.laid-room.result c.args.n c.body_at.result c.laid-room.ensures c.told-block c.requires c.body_at.ensures
+pub lay-requires-clause-gates : goal.lay-requires-clause-gates
+lay-requires-clause-gates g c = front_fits g.sent c.args.block.now c.args.n c.body_at.result c.args.room.now c.requires.1.1.1.0 c.body_at.ensures
 
-pub slice_bounds-publish_file-end : goal.slice_bounds-publish_file-end
-slice_bounds-publish_file-end g c =
-    sym (length-take-le c.body_at.result c.laid-room.result (end_within c.args.block.now c.laid-room.result c.args.n c.body_at.result c.laid-room.ensures c.told-block c.requires c.body_at.ensures))
+pub returns-clause-laid : goal.returns-clause-laid
+returns-clause-laid g c = laid_whole c.args.block.now c.args.n c.body_at.result c.args.room.now c.lay.new.room c.body_at.ensures c.lay.ensures
 
-pub returns-clause-ops : goal.returns-clause-ops
-returns-clause-ops g c =
-    subst (λ (file : Bytes). RunsOps (g.D.Logged.log c.args.disk.now) (g.D.Logged.log c.publish_file.new.disk) (publish_ops c.args.name.now file) (is_ok c.publish_file.result))
-    (file_is c.args.block.now c.laid-room.result c.args.n c.body_at.result c.laid-room.ensures c.body_at.ensures) c.publish_file.ensures.ops
+pub returns-clause-kept : goal.returns-clause-kept
+returns-clause-kept g c =
+    laid_kept g.sent c.args.block.now c.args.n _ (drop (body_at c.args.n) c.args.room.now) c.lay.new.room c.told-block c.requires.1.1.1.0
+    (laid_whole c.args.block.now c.args.n c.body_at.result c.args.room.now c.lay.new.room c.body_at.ensures c.lay.ensures) (length-drop (body_at c.args.n) c.args.room.now)
 
-pub returns-clause-old_or_new : goal.returns-clause-old_or_new
-returns-clause-old_or_new g c =
-    subst (λ (file : Bytes). EachMoment (g.D.Logged.log c.args.disk.now) (g.D.Logged.log c.publish_file.new.disk) (OldOr c.args.name.now (Some file)))
-    (file_is c.args.block.now c.laid-room.result c.args.n c.body_at.result c.laid-room.ensures c.body_at.ensures) c.publish_file.ensures.old_or_new
+pub returns-clause-any_moment : goal.returns-clause-any_moment
+returns-clause-any_moment g c =
+    laid_honest _ _ g.sent c.args.name.now c.args.block.now c.args.n _ (drop (body_at c.args.n) c.args.room.now) c.lay.new.room c.told-block c.requires.1.1.1.0
+    (laid_whole c.args.block.now c.args.n c.body_at.result c.args.room.now c.lay.new.room c.body_at.ensures c.lay.ensures) (length-drop (body_at c.args.n) c.args.room.now)
+    c.publish_file.ensures.old_or_new
 
 pub returns-clause-done : goal.returns-clause-done
 returns-clause-done g c =
-    subst (λ (file : Bytes). OnOk c.publish_file.result (Told (g.D.Logged.log c.publish_file.new.disk) (HoldsJust c.args.name.now file)))
-    (file_is c.args.block.now c.laid-room.result c.args.n c.body_at.result c.laid-room.ensures c.body_at.ensures) c.publish_file.ensures.done
-
-pub returns-clause-empty : goal.returns-clause-empty
-returns-clause-empty g c = fresh_kept c.args.block.now c.args.n c.told-block c.requires
+    laid_keeps _ _ g.sent c.args.name.now c.args.block.now c.args.n _ (drop (body_at c.args.n) c.args.room.now) c.lay.new.room c.publish_file.result c.told-block c.requires.1.1.1.0
+    (laid_whole c.args.block.now c.args.n c.body_at.result c.args.room.now c.lay.new.room c.body_at.ensures c.lay.ensures) (length-drop (body_at c.args.n) c.args.room.now)
+    c.requires.1.1.1.1 c.publish_file.ensures.ops c.publish_file.ensures.done
