@@ -31,7 +31,7 @@ lower-lower : (text : List ℕ) → lower (lower text) ≡ lower text
 lower-lower [] = refl
 lower-lower (b ∷ text) = ap (λ (c : ℕ). c ∷ lower (lower text)) (lowercase-lowercase b) ∙ ap (λ (t : List ℕ). to_ascii_lowercase b ∷ t) (lower-lower text)
 
-lowered-lowered : (fs : List Field) → map lowered (map lowered fs) ≡ map lowered fs
+pub lowered-lowered : (fs : List Field) → map lowered (map lowered fs) ≡ map lowered fs
 lowered-lowered [] = refl
 lowered-lowered (f ∷ fs) =
     ap (λ (n : List ℕ). let g : Field = (n, f.1) in g ∷ map lowered (map lowered fs)) (lower-lower f.0)

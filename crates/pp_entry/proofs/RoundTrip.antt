@@ -457,7 +457,7 @@ fits-is kept text is = by (length kept) (length text) is
     by : (k n : ℕ) → (nat_le k 95 && nat_le n 8192) ≡ true → (k ≤ 95) × (n ≤ 8192)
     by k n is = (grind (arith, nat_tests), grind (arith, nat_tests))
 
-times-same : (times : Times) → times.request ≡ times.response → times.may_guess ≡ false
+pub times-same : (times : Times) → times.request ≡ times.response → times.may_guess ≡ false
     → (let t : Times = record { request = times.response; response = times.response; initial = times.initial; may_guess = false } in t) ≡ times
 times-same times is no_guess =
     ap (λ (r : ℕ). let t : Times = record { request = r; response = times.response; initial = times.initial; may_guess = false } in t) (sym is)

@@ -39,6 +39,10 @@ as_read row = record {
 abbrev pub IsReadBack : Type 0
 IsReadBack = (row : Row) → CanBeWritten row → fits row.fields (text_of row) ≡ true → row_at (padded (text_of row)) ≡ Some (as_read row)
 
+-- and what was read of a block is read again as it was
+abbrev pub IsReadAgain : Type 0
+IsReadAgain = (block : List ℕ) (row : Row) → row_at block ≡ Some row → row_at (padded (text_of row)) ≡ Some (as_read row)
+
 -- a block that is read as a row is how that row is written
 abbrev pub HasOneSpelling : Type 0
 HasOneSpelling = (block : List ℕ) (row : Row) → row_at block ≡ Some row → block ≡ padded (text_of row)
