@@ -27,6 +27,7 @@ SUBJECTS = [
     "caching",
     "one_answer",
     "hostile_origins",
+    "judged",
     "readme",
     "starting",
 ]

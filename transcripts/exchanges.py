@@ -28,6 +28,7 @@ class Request:
     is_told: bool  # its body's length can be told: else nothing behind its head can be read
     start: int
     end: int  # of what came of it
+    is_whole: bool
 
     def goes_on(self):
         """The client may ask more behind it (section 6.3)."""
@@ -119,10 +120,10 @@ def requests_of(text):
             method, target, minor = found[1].decode(), found[2], int(found[3])
             is_told = not values(fields, b"transfer-encoding")
         except Malformed:
-            out.append(Request("", b"", 1, [], 0, False, start, len(text)))
+            out.append(Request("", b"", 1, [], 0, False, start, len(text), True))
             return out, False
         end = min(len(text), at + length)
-        out.append(Request(method, target, minor, fields, length, is_told, start, end))
+        out.append(Request(method, target, minor, fields, length, is_told, start, end, end == at + length))
         if not is_told or not out[-1].goes_on() or end == len(text):
             return out, False
         at = end
