@@ -1,8 +1,8 @@
 -- Worked bodies on their way through the pipe (RFC 2616, section 3.6.1).
-use Rattle.std.proofs.Common.{refl, ℕ, ◌-◌, Bool, true, false, List, [], ◌∷◌, length, codes, replicate}
+use Rattle.std.proofs.Common.{refl, ℕ, Bool, true, false, List, [], ◌∷◌, length, take, codes, replicate}
 use Rattle.std.specs.Fmt.{digits}
 use Rattle.pp_text.proofs.Table.{Rows}
-use Rattle.pp_pass.specs.Pipe.{Pipe, finished, pipe_len, room_of, started, with_data, without_first}
+use Rattle.pp_pass.specs.Pipe.{Pipe, finished, room_of, started, with_data, without_first}
 
 -- data of which each piece is put in by itself
 abbrev put : List (List ℕ) → Pipe → Pipe
@@ -31,16 +31,12 @@ a_body_is_finished_until_the_next_begins : Rows (λ (pipe : Pipe). pipe.is_finis
     ∷ [])
 a_body_is_finished_until_the_next_begins = refl
 
--- how many of the bytes that a pipe holds are taken
-abbrev taken : Pipe → ℕ
-taken pipe = pipe_len - room_of pipe
-
--- a chunk has two line ends and its size beside the data, and there is room for the largest and for the last one
-room_is_left_for_a_chunk_and_the_last_one : Rows taken (
-    (started false, 0)
-    ∷ (started true, 13)
-    ∷ (put (codes "hello" ∷ []) (started false), 5)
-    ∷ (put (codes "hello" ∷ []) (started true), 23)
+-- a chunk has two line ends and its size beside the data, and there is room for the largest size and for the last chunk
+room_is_left_for_a_chunk_and_the_last_one : Rows room_of (
+    (started false, 65536)
+    ∷ (started true, 65523)
+    ∷ (put (codes "hello" ∷ []) (started false), 65531)
+    ∷ (put (codes "hello" ∷ []) (started true), 65513)
     ∷ [])
 unfolding digits
 room_is_left_for_a_chunk_and_the_last_one = refl
@@ -50,8 +46,8 @@ abbrev filled : Bool → Pipe
 filled is_coded = with_data (replicate (room_of (started is_coded)) 120) (started is_coded)
 
 what_fills_the_room_leaves_place_for_the_last_chunk : Rows (λ (pipe : Pipe). length pipe.bytes) (
-    (finished (filled true), pipe_len)
-    ∷ (finished (filled false), pipe_len)
+    (finished (filled true), 65536)
+    ∷ (finished (filled false), 65536)
     ∷ [])
 unfolding digits
 what_fills_the_room_leaves_place_for_the_last_chunk = refl
@@ -62,3 +58,9 @@ nothing_has_room_behind_it : Rows room_of (
     ∷ [])
 unfolding digits
 nothing_has_room_behind_it = refl
+
+its_size_has_four_digits : Rows (take 9) (
+    ((filled true).bytes, codes "fff3\r\nxxx")
+    ∷ [])
+unfolding digits
+its_size_has_four_digits = refl
