@@ -28,6 +28,9 @@ SUBJECTS = [
     "one_answer",
     "hostile_origins",
     "judged",
+    "real_origins",
+    "real_hosts",
+    "browsing",
     "readme",
     "starting",
 ]
