@@ -8,7 +8,7 @@ use Rattle.pp_world.specs.declared.note.Remark.TheVariants.{Taken, Cut}
 use Rattle.pp_world.specs.Log.{Log}
 use Rattle.pp_law.specs.Lawful.{first_fault, WrongDecision, ConnectionForgotten}
 use Rattle.pp_law.proofs.OnLiterals.{pp_law_on_literals}
-use Rattle.pp_law.proofs.Worked.{no_words, wait, broken, opening}
+use Rattle.pp_law.proofs.Worked.{one_life, wait, broken, opening}
 
 -- 4096 to 4099 of 4,100 bytes come; client 3 wants all of it, and its hole is asked for
 abbrev hole_is_asked : Log
@@ -38,7 +38,7 @@ late_body_comes =
     row_is_cleared ++ CanRead 2 ∷ Got 2 (codes "HTTP/1.1 200 OK\r\nContent-Length: 10\r\n\r\nAAAAA") ∷ []
 
 -- it has no reader, and the answer to the fetch is the reply
-late_answer : first_fault no_words (late_body_comes ++ wait (1 ∷ 2 ∷ 5 ∷ []) (4 ∷ []) ∷ CanRead 2 ∷ Got 2 (codes "AAAAA") ∷ wait (1 ∷ 2 ∷ 5 ∷ []) (4 ∷ []) ∷
+late_answer : first_fault one_life (late_body_comes ++ wait (1 ∷ 2 ∷ 5 ∷ []) (4 ∷ []) ∷ CanRead 2 ∷ Got 2 (codes "AAAAA") ∷ wait (1 ∷ 2 ∷ 5 ∷ []) (4 ∷ []) ∷
     CanRead 5 ∷ Got 5 (codes "HTTP/1.1 200 OK\r\nContent-Length: 10\r\n\r\nBBBBBBBBBB") ∷ Noted (Taken 3 0 Relay) ∷ wait (1 ∷ 2 ∷ 5 ∷ []) (3 ∷ 4 ∷ []) ∷
     CanWrite 3 ∷ Said 3 80 (codes "HTTP/1.1 200 OK\r\nvia: 1.1 polipo\r\ncontent-length: 10\r\nconnection: keep-alive\r\n\r\n") ∷ wait (1 ∷ 2 ∷ 5 ∷ []) (3 ∷ 4 ∷ []) ∷
     CanWrite 3 ∷ Said 3 10 (codes "BBBBBBBBBB") ∷ wait (1 ∷ 2 ∷ 3 ∷ 5 ∷ []) (4 ∷ []) ∷ []) ≡ None
@@ -46,12 +46,12 @@ unfolding pp_law_on_literals
 late_answer = refl
 
 -- it decides the request
-late_decision : first_fault no_words (late_body_comes ++ Noted (Taken 3 0 Relay) ∷ []) ≡ broken (length late_body_comes) WrongDecision
+late_decision : first_fault one_life (late_body_comes ++ Noted (Taken 3 0 Relay) ∷ []) ≡ broken (length late_body_comes) WrongDecision
 unfolding pp_law_on_literals
 late_decision = refl
 
 -- one of no use begins a second fetch
-second_fetch : first_fault no_words (row_is_cleared ++ CanRead 2 ∷ Got 2 (codes "HTTP/1.1 304 Not Modified\r\n\r\n") ∷ Noted (Taken 3 0 Fetch) ∷ []) ≡ broken (length row_is_cleared + 2) WrongDecision
+second_fetch : first_fault one_life (row_is_cleared ++ CanRead 2 ∷ Got 2 (codes "HTTP/1.1 304 Not Modified\r\n\r\n") ∷ Noted (Taken 3 0 Fetch) ∷ []) ≡ broken (length row_is_cleared + 2) WrongDecision
 unfolding pp_law_on_literals
 second_fetch = refl
 
@@ -71,6 +71,11 @@ follower_asks_on =
     CanWrite 3 ∷ Said 3 96 (replicate 96 97) ∷ wait (1 ∷ []) (2 ∷ []) ∷
     CanWrite 2 ∷ Asked 2 (codes "GET /r HTTP/1.1\r\nhost: h\r\nrange: bytes=4096-4999\r\nif-range: \"x\"\r\nvia: 1.1 polipo\r\n\r\n") ∷ wait (1 ∷ 2 ∷ []) [] ∷ []
 
+-- its reply has begun, so another body is nobody's: it is read to its end, though the client is cut
+drained : first_fault one_life (follower_asks_on ++ CanRead 2 ∷ Got 2 (codes "HTTP/1.1 200 OK\r\nContent-Length: 20000\r\n\r\n" ++ replicate 8000 101) ∷ Noted (Cut 3 Superseded) ∷ Shut 3 ∷ wait (1 ∷ 2 ∷ []) [] ∷ []) ≡ None
+unfolding pp_law_on_literals
+drained = refl
+
 -- the host has no other connection; the ask of client 20 stands behind, and another body comes first
 abbrev another_body_comes : Log
 another_body_comes =
@@ -87,17 +92,17 @@ another_body_comes =
     CanWrite 2 ∷ Asked 2 (codes "GET /r HTTP/1.1\r\nhost: h\r\nrange: bytes=4096-8191\r\nvia: 1.1 polipo\r\n\r\n") ∷ wait (1 ∷ 2 ∷ []) [] ∷ []
 
 -- it is read to its end, and what stands behind it comes
-no_ring : first_fault no_words (another_body_comes ++ CanRead 2 ∷ Got 2 (replicate 12000 101 ++ codes "HTTP/1.1 206 Partial Content\r\nETag: \"y\"\r\nCache-Control: max-age=60\r\nContent-Range: bytes 4096-8191/8192\r\nContent-Length: 4096\r\n\r\n") ∷ Noted (Cut 3 Superseded) ∷ Shut 3 ∷ wait (1 ∷ 2 ∷ []) [] ∷
+no_ring : first_fault one_life (another_body_comes ++ CanRead 2 ∷ Got 2 (replicate 12000 101 ++ codes "HTTP/1.1 206 Partial Content\r\nETag: \"y\"\r\nCache-Control: max-age=60\r\nContent-Range: bytes 4096-8191/8192\r\nContent-Length: 4096\r\n\r\n") ∷ Noted (Cut 3 Superseded) ∷ Shut 3 ∷ wait (1 ∷ 2 ∷ []) [] ∷
     CanRead 2 ∷ Got 2 (replicate 4096 102 ++ codes "HTTP/1.1 206 Partial Content\r\nETag: \"y\"\r\nCache-Control: max-age=60\r\nContent-Range: bytes 4096-8191/8192\r\nContent-Length: 4096\r\n\r\n") ∷ Noted (Taken 20 0 (Hit 5000 8192)) ∷ wait (1 ∷ 2 ∷ []) (20 ∷ []) ∷ []) ≡ None
 unfolding pp_law_on_literals
 no_ring = refl
 
 -- reading stops, and nobody is written to
-stopped_for_nobody : first_fault no_words (another_body_comes ++ CanRead 2 ∷ NoneYet 2 ∷ wait (1 ∷ []) [] ∷ []) ≡ broken (length another_body_comes + 2) ConnectionForgotten
+stopped_for_nobody : first_fault one_life (another_body_comes ++ CanRead 2 ∷ NoneYet 2 ∷ wait (1 ∷ []) [] ∷ []) ≡ broken (length another_body_comes + 2) ConnectionForgotten
 unfolding pp_law_on_literals
 stopped_for_nobody = refl
 
 -- the clock stood still for two minutes: who waited is not idle
-long_sleep : first_fault no_words (hole_is_asked ++ Clock 784111897 ∷ Noted (Cut 1 Idle) ∷ Shut 1 ∷ Dropped 2 ∷ Dialled 6 (codes "h") 80 ∷ wait [] [] ∷ []) ≡ None
+long_sleep : first_fault one_life (hole_is_asked ++ Clock 784111897 ∷ Noted (Cut 1 Idle) ∷ Shut 1 ∷ wait (2 ∷ []) [] ∷ []) ≡ None
 unfolding pp_law_on_literals
 long_sleep = refl

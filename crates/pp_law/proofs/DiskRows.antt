@@ -11,7 +11,7 @@ use Rattle.pp_law.specs.State.{Term, Instance, Entry, start}
 use Rattle.pp_law.specs.Store.{takes_name}
 use Rattle.pp_law.specs.Lawful.{first_fault, ImageNotLeft, FailureMadeUp, NotSealed, NotGone, NotToBeLoaded, WrongDiskOperation, WrongDecision, NotToBeEvicted, NotToBeForgotten}
 use Rattle.pp_law.proofs.OnLiterals.{pp_law_on_literals}
-use Rattle.pp_law.proofs.Worked.{no_words, wait, broken, sunday, origin_sends, does, zeros, name_of_a, draft_of, block}
+use Rattle.pp_law.proofs.Worked.{one_life, life_with, wait, broken, sunday, origin_sends, does, zeros, name_of_a, draft_of, block}
 use Rattle.pp_law.proofs.CachingRows.{request, response, fetching, fetched, fetched_head, aged_head, checking, gets}
 
 abbrev answered : Log
@@ -30,46 +30,46 @@ gate_write = Write name_of_a 8192 (1 ∷ [])
 
 -- ---- the order
 
-gate_before_sync : first_fault no_words (published ++ does (Write name_of_a 12288 (codes "hello")) ++ Began gate_write ∷ []) ≡ broken (length published + 2) WrongDiskOperation
+gate_before_sync : first_fault one_life (published ++ does (Write name_of_a 12288 (codes "hello")) ++ Began gate_write ∷ []) ≡ broken (length published + 2) WrongDiskOperation
 unfolding pp_law_on_literals
 gate_before_sync = refl
 
-kept_without_gate : first_fault no_words (written ++ Noted (Kept (codes "http://h/a") (codes "\"x\"") 5 5) ∷ []) ≡ broken (length written) NotSealed
+kept_without_gate : first_fault one_life (written ++ Noted (Kept (codes "http://h/a") (codes "\"x\"") 5 5) ∷ []) ≡ broken (length written) NotSealed
 unfolding pp_law_on_literals
 kept_without_gate = refl
 
-published_unsynced : first_fault no_words (answered ++ does (Draft (draft_of block)) ++ Began (Publish name_of_a) ∷ []) ≡ broken (length answered + 2) WrongDiskOperation
+published_unsynced : first_fault one_life (answered ++ does (Draft (draft_of block)) ++ Began (Publish name_of_a) ∷ []) ≡ broken (length answered + 2) WrongDiskOperation
 unfolding pp_law_on_literals
 published_unsynced = refl
 
-other_bytes : first_fault no_words (published ++ Began (Write name_of_a 12288 (codes "jello")) ∷ []) ≡ broken (length published) WrongDiskOperation
+other_bytes : first_fault one_life (published ++ Began (Write name_of_a 12288 (codes "jello")) ∷ []) ≡ broken (length published) WrongDiskOperation
 unfolding pp_law_on_literals
 other_bytes = refl
 
-not_sealed : first_fault no_words (published ++ Noted (Taken 1 0 (Hit 0 5)) ∷ []) ≡ broken (length published) WrongDecision
+not_sealed : first_fault one_life (published ++ Noted (Taken 1 0 (Hit 0 5)) ∷ []) ≡ broken (length published) WrongDecision
 unfolding pp_law_on_literals
 not_sealed = refl
 
 -- want of memory: no entry is made
-not_drafted : first_fault no_words (answered ++ Noted (Taken 1 0 (Hit 0 5)) ∷ gets 1 (1 ∷ 2 ∷ []) fetched_head (codes "hello")) ≡ None
+not_drafted : first_fault one_life (answered ++ Noted (Taken 1 0 (Hit 0 5)) ∷ gets 1 (1 ∷ 2 ∷ []) fetched_head (codes "hello")) ≡ None
 unfolding pp_law_on_literals
 not_drafted = refl
 
-gone_for_nothing : first_fault no_words (fetched ++ Clock (sunday + 1) ∷ Noted (Gone (codes "http://h/a")) ∷ []) ≡ broken (length fetched + 1) NotGone
+gone_for_nothing : first_fault one_life (fetched ++ Clock (sunday + 1) ∷ Noted (Gone (codes "http://h/a")) ∷ []) ≡ broken (length fetched + 1) NotGone
 unfolding pp_law_on_literals
 gone_for_nothing = refl
 
 -- ---- an operation that fails
 
 abbrev one_fault : List Term
-one_fault = record { words = []; faults = 1 } ∷ []
+one_fault = life_with 1 ∷ []
 
 -- the first gate cannot be written: the name is closed, and the reply is as it would be
 gate_fails : first_fault one_fault (written ++ Began gate_write ∷ Did gate_write false ∷ Noted (Gone (codes "http://h/a")) ∷ Noted (Taken 1 0 (Hit 0 5)) ∷ gets 1 (1 ∷ 2 ∷ []) fetched_head (codes "hello")) ≡ None
 unfolding pp_law_on_literals
 gate_fails = refl
 
-fails_for_nothing : first_fault no_words (written ++ Began gate_write ∷ Did gate_write false ∷ []) ≡ broken (length written + 1) FailureMadeUp
+fails_for_nothing : first_fault one_life (written ++ Began gate_write ∷ Did gate_write false ∷ []) ≡ broken (length written + 1) FailureMadeUp
 unfolding pp_law_on_literals
 fails_for_nothing = refl
 
@@ -82,12 +82,12 @@ goes_on_with_a_closed_name = refl
 abbrev longer_head : Bytes
 longer_head = codes "HTTP/1.1 200 OK\r\netag: \"x\"\r\ndate: Sun, 06 Nov 1994 08:50:38 GMT\r\ncache-control: max-age=60\r\nvia: 1.1 polipo\r\ncontent-length: 6\r\nconnection: keep-alive\r\n\r\n"
 
-replaced : first_fault no_words (fetched ++ checking ++ Got 4 (codes "HTTP/1.1 200 OK\r\nETag: \"x\"\r\nCache-Control: max-age=60\r\nContent-Length: 6\r\n\r\nhello!") ∷
+replaced : first_fault one_life (fetched ++ checking ++ Got 4 (codes "HTTP/1.1 200 OK\r\nETag: \"x\"\r\nCache-Control: max-age=60\r\nContent-Length: 6\r\n\r\nhello!") ∷
     Noted (Gone (codes "http://h/a")) ∷ does (Remove name_of_a) ++ Noted (Taken 3 0 (Hit 0 6)) ∷ gets 3 (1 ∷ 3 ∷ 4 ∷ []) longer_head (codes "hello!")) ≡ None
 unfolding pp_law_on_literals
 replaced = refl
 
-removed_unnoted : first_fault no_words (fetched ++ checking ++ Got 4 (codes "HTTP/1.1 200 OK\r\nETag: \"x\"\r\nCache-Control: max-age=60\r\nContent-Length: 6\r\n\r\nhello!") ∷
+removed_unnoted : first_fault one_life (fetched ++ checking ++ Got 4 (codes "HTTP/1.1 200 OK\r\nETag: \"x\"\r\nCache-Control: max-age=60\r\nContent-Length: 6\r\n\r\nhello!") ∷
     Began (Remove name_of_a) ∷ []) ≡ broken (length fetched + length checking + 1) WrongDiskOperation
 unfolding pp_law_on_literals
 removed_unnoted = refl
@@ -95,7 +95,7 @@ removed_unnoted = refl
 -- ---- a crash, and the next life
 
 abbrev two_lives : List Term
-two_lives = record { words = []; faults = 0 } ∷ record { words = []; faults = 0 } ∷ []
+two_lives = life_with 0 ∷ life_with 0 ∷ []
 
 abbrev restart : Bytes → Log
 restart file = Woke ((name_of_a, file) ∷ []) ∷ Rooted (codes "polipo-cache") ∷ Listed true ∷ Listens 8123 true ∷ wait [] [] ∷ []
@@ -147,19 +147,19 @@ unfolding pp_law_on_literals
 publishing_done = refl
 
 -- a chunk that is in memory is not loaded
-loaded_for_nothing : first_fault no_words (fetched ++ Clock (sunday + 1) ∷ Noted (Loaded (codes "http://h/a") (codes "\"x\"") 5 0) ∷ []) ≡ broken (length fetched + 1) NotToBeLoaded
+loaded_for_nothing : first_fault one_life (fetched ++ Clock (sunday + 1) ∷ Noted (Loaded (codes "http://h/a") (codes "\"x\"") 5 0) ∷ []) ≡ broken (length fetched + 1) NotToBeLoaded
 unfolding pp_law_on_literals
 loaded_for_nothing = refl
 
 -- the first life finds no entry
-foreign_entry : first_fault no_words (restart (entry_file 1 (codes "hello"))) ≡ broken 0 ImageNotLeft
+foreign_entry : first_fault one_life (restart (entry_file 1 (codes "hello"))) ≡ broken 0 ImageNotLeft
 unfolding pp_law_on_literals
 foreign_entry = refl
 
 -- ---- a chunk that cannot be read back: its name is closed, its entry is gone, and the bytes are asked for
 
 abbrev lives_with_a_fault : List Term
-lives_with_a_fault = record { words = []; faults = 0 } ∷ record { words = []; faults = 1 } ∷ []
+lives_with_a_fault = life_with 0 ∷ life_with 1 ∷ []
 
 abbrev unread : Log
 unread =
@@ -176,29 +176,29 @@ read_fails_for_nothing = refl
 
 -- ---- what leaves memory for nothing
 
-evicted_too_early : first_fault no_words (fetched ++ Clock (sunday + 1) ∷ Noted (Evicted (codes "http://h/a") (codes "\"x\"") 5 0) ∷ []) ≡ broken (length fetched + 1) NotToBeEvicted
+evicted_too_early : first_fault one_life (fetched ++ Clock (sunday + 1) ∷ Noted (Evicted (codes "http://h/a") (codes "\"x\"") 5 0) ∷ []) ≡ broken (length fetched + 1) NotToBeEvicted
 unfolding pp_law_on_literals
 evicted_too_early = refl
 
-forgotten_for_nothing : first_fault no_words (fetched ++ Clock (sunday + 1) ∷ Noted (Forgotten (codes "http://h/a")) ∷ []) ≡ broken (length fetched + 1) NotToBeForgotten
+forgotten_for_nothing : first_fault one_life (fetched ++ Clock (sunday + 1) ∷ Noted (Forgotten (codes "http://h/a")) ∷ []) ≡ broken (length fetched + 1) NotToBeForgotten
 unfolding pp_law_on_literals
 forgotten_for_nothing = refl
 
 -- a row for which memory was refused: its request is refused too
-refused_memory : first_fault no_words (answered ++ Noted (Forgotten (codes "http://h/a")) ∷ Noted (Taken 1 0 (Refuse 500)) ∷ wait (1 ∷ 2 ∷ []) (1 ∷ []) ∷ []) ≡ None
+refused_memory : first_fault one_life (answered ++ Noted (Forgotten (codes "http://h/a")) ∷ Noted (Taken 1 0 (Refuse 500)) ∷ wait (1 ∷ 2 ∷ []) (1 ∷ []) ∷ []) ≡ None
 unfolding pp_law_on_literals
 refused_memory = refl
 
-hit_without_memory : first_fault no_words (answered ++ Noted (Forgotten (codes "http://h/a")) ∷ Noted (Taken 1 0 (Hit 0 5)) ∷ []) ≡ broken (length answered + 1) WrongDecision
+hit_without_memory : first_fault one_life (answered ++ Noted (Forgotten (codes "http://h/a")) ∷ Noted (Taken 1 0 (Hit 0 5)) ∷ []) ≡ broken (length answered + 1) WrongDecision
 unfolding pp_law_on_literals
 hit_without_memory = refl
 
-fetched_without_memory : first_fault no_words (answered ++ Noted (Forgotten (codes "http://h/a")) ∷ Noted (Taken 1 0 Fetch) ∷ []) ≡ broken (length answered + 1) WrongDecision
+fetched_without_memory : first_fault one_life (answered ++ Noted (Forgotten (codes "http://h/a")) ∷ Noted (Taken 1 0 Fetch) ∷ []) ≡ broken (length answered + 1) WrongDecision
 unfolding pp_law_on_literals
 fetched_without_memory = refl
 
 -- it is refused before anything is decided
-refused_late : first_fault no_words (answered ++ Noted (Taken 1 0 (Hit 0 5)) ∷ Noted (Forgotten (codes "http://h/a")) ∷ []) ≡ broken (length answered + 1) NotToBeForgotten
+refused_late : first_fault one_life (answered ++ Noted (Taken 1 0 (Hit 0 5)) ∷ Noted (Forgotten (codes "http://h/a")) ∷ []) ≡ broken (length answered + 1) NotToBeForgotten
 unfolding pp_law_on_literals
 refused_late = refl
 
@@ -210,7 +210,7 @@ row_of_length n = record {
   key = codes "http://h/a";
   version = record { tag = codes "\"x\""; length = n };
   fields = [];
-  times = record { request = 0; response = 0; initial = 0 };
+  times = record { request = 0; response = 0; initial = 0; may_guess = false };
   is_retired = false;
   touched = 0;
   is_new = false;
@@ -222,7 +222,7 @@ entry_of_another = record {
   key = codes "http://h/b";
   version = record { tag = codes "\"x\""; length = 5 };
   fields = [];
-  times = record { request = 0; response = 0; initial = 0 };
+  times = record { request = 0; response = 0; initial = 0; may_guess = false };
   extent = 0;
   is_stale = false;
 }

@@ -4,7 +4,7 @@ use Rattle.std.specs.Prelude.{take, drop}
 use Rattle.pp_world.specs.Log.{Log}
 use Rattle.pp_law.specs.Lawful.{first_fault}
 use Rattle.pp_law.proofs.OnLiterals.{pp_law_on_literals}
-use Rattle.pp_law.proofs.Worked.{no_words, wait, client_gets, reply_head}
+use Rattle.pp_law.proofs.Worked.{one_life, wait, client_gets, reply_head}
 use Rattle.pp_law.proofs.PassingRows.{answered}
 
 abbrev without_at : ℕ → Log → Log
@@ -18,7 +18,7 @@ swapped_at n log = take n log ++ take 1 (drop (n + 1) log) ++ take 1 (drop n log
 
 abbrev unnoticed : (ℕ → Log → Log) → ℕ → ℕ → Log → List ℕ
 unnoticed change zero n log = []
-unnoticed change (suc k) n log = elim (first_fault no_words (change n log)) [ None ↦ n ∷ unnoticed change k (n + 1) log | Some fault ↦ unnoticed change k (n + 1) log ]
+unnoticed change (suc k) n log = elim (first_fault one_life (change n log)) [ None ↦ n ∷ unnoticed change k (n + 1) log | Some fault ↦ unnoticed change k (n + 1) log ]
 
 abbrev passing : Log
 passing = answered ++ client_gets reply_head ++ wait (1 ∷ 2 ∷ []) (1 ∷ []) ∷ client_gets (codes "hello") ++ wait (1 ∷ 2 ∷ []) [] ∷ []

@@ -3,18 +3,18 @@ use Rattle.std.proofs.Common.{◌≡◌, refl, [], ◌∷◌, true, false, Some,
 use Rattle.pp_world.specs.declared.happening.Happening.TheVariants.{Woke, Clock, Rooted, Listed, Listens, Configured, Printed, Stopped}
 use Rattle.pp_law.specs.Lawful.{first_fault, OpeningOutOfOrder, EventOutOfTurn, StepUnfinished}
 use Rattle.pp_law.proofs.OnLiterals.{pp_law_on_literals}
-use Rattle.pp_law.proofs.Worked.{no_words, wait, broken}
+use Rattle.pp_law.proofs.Worked.{one_life, wait, broken}
 
 -- no words, and nothing happens
-nothing_happens : first_fault no_words (Woke [] ∷ Rooted (codes "polipo-cache") ∷ Listed true ∷ Listens 8123 true ∷ wait [] [] ∷ Stopped ∷ []) ≡ None
+nothing_happens : first_fault (record { words = []; faults = 0 } ∷ []) (Woke [] ∷ Rooted (codes "polipo-cache") ∷ Listed true ∷ Listens 8123 true ∷ wait [] [] ∷ Stopped ∷ []) ≡ None
 unfolding pp_law_on_literals
 nothing_happens = refl
 
-listens_before_it_lists : first_fault no_words (Woke [] ∷ Rooted (codes "polipo-cache") ∷ Listens 8123 true ∷ []) ≡ broken 2 OpeningOutOfOrder
+listens_before_it_lists : first_fault one_life (Woke [] ∷ Rooted (codes "polipo-cache") ∷ Listens 8123 true ∷ []) ≡ broken 2 OpeningOutOfOrder
 unfolding pp_law_on_literals
 listens_before_it_lists = refl
 
-another_folder : first_fault no_words (Woke [] ∷ Rooted (codes "tmp") ∷ []) ≡ broken 1 OpeningOutOfOrder
+another_folder : first_fault one_life (Woke [] ∷ Rooted (codes "tmp") ∷ []) ≡ broken 1 OpeningOutOfOrder
 unfolding pp_law_on_literals
 another_folder = refl
 
@@ -38,10 +38,10 @@ unlisted : first_fault (record { words = []; faults = 1 } ∷ []) (Woke [] ∷ R
 unfolding pp_law_on_literals
 unlisted = refl
 
-waits_before_it_listens : first_fault no_words (Woke [] ∷ Rooted (codes "polipo-cache") ∷ Listed true ∷ wait [] [] ∷ []) ≡ broken 3 StepUnfinished
+waits_before_it_listens : first_fault one_life (Woke [] ∷ Rooted (codes "polipo-cache") ∷ Listed true ∷ wait [] [] ∷ []) ≡ broken 3 StepUnfinished
 unfolding pp_law_on_literals
 waits_before_it_listens = refl
 
-ticks_before_it_waits : first_fault no_words (Woke [] ∷ Clock 5 ∷ []) ≡ broken 1 EventOutOfTurn
+ticks_before_it_waits : first_fault one_life (Woke [] ∷ Clock 5 ∷ []) ≡ broken 1 EventOutOfTurn
 unfolding pp_law_on_literals
 ticks_before_it_waits = refl

@@ -9,7 +9,7 @@ use Rattle.pp_law.specs.After.{after}
 use Rattle.pp_law.specs.Permits.{is_over}
 use Rattle.pp_law.specs.State.{State, start}
 use Rattle.pp_law.proofs.OnLiterals.{pp_law_on_literals}
-use Rattle.pp_law.proofs.Worked.{no_words, opening, client_sends, request}
+use Rattle.pp_law.proofs.Worked.{one_life, opening, client_sends, request}
 use Rattle.pp_law.proofs.PassingRows.{answered}
 
 abbrev behind : State → Log → State
@@ -17,7 +17,7 @@ behind s [] = s
 behind s (h ∷ log) = behind (after s h) log
 
 abbrev ends_well : Log → Bool
-ends_well log = is_over (behind (start no_words) log)
+ends_well log = is_over (behind (start one_life) log)
 
 while_it_waits : ends_well answered ≡ true
 unfolding pp_law_on_literals

@@ -7,7 +7,7 @@ use Rattle.pp_world.specs.Log.{Log}
 use Rattle.pp_law.specs.Lists.{Bytes}
 use Rattle.pp_law.specs.Lawful.{first_fault, NotToBeDialled}
 use Rattle.pp_law.proofs.OnLiterals.{pp_law_on_literals}
-use Rattle.pp_law.proofs.Worked.{no_words, wait, broken, origin_sends}
+use Rattle.pp_law.proofs.Worked.{one_life, wait, broken, origin_sends}
 use Rattle.pp_law.proofs.CachingRows.{fetching}
 
 abbrev get : Bytes → Bytes
@@ -40,14 +40,14 @@ abbrev pipelined : Log
 pipelined = four_dialled ++ asks 9 (codes "/f") ++ wait (2 ∷ []) (2 ∷ []) ∷ CanWrite 2 ∷ Asked 2 (ask (codes "/f")) ∷ wait (2 ∷ []) [] ∷ []
 
 -- the connection ends within the first answer: /b is dialled anew, and /f waits
-answer_lost : first_fault no_words (pipelined ++ origin_sends (codes "HTTP/1.") ++ wait (2 ∷ []) [] ∷ CanRead 2 ∷ Ended 2 ∷ Dropped 2 ∷ Dialled 10 (codes "h") 80 ∷ wait [] [] ∷ []) ≡ None
+answer_lost : first_fault one_life (pipelined ++ origin_sends (codes "HTTP/1.") ++ wait (2 ∷ []) [] ∷ CanRead 2 ∷ Ended 2 ∷ Dropped 2 ∷ Dialled 10 (codes "h") 80 ∷ wait [] [] ∷ []) ≡ None
 unfolding pp_law_on_literals
 answer_lost = refl
 
-a_fifth_connection : first_fault no_words (four_dialled ++ asks 9 (codes "/f") ++ Dialled 10 (codes "h") 80 ∷ []) ≡ broken (length four_dialled + 5) NotToBeDialled
+a_fifth_connection : first_fault one_life (four_dialled ++ asks 9 (codes "/f") ++ Dialled 10 (codes "h") 80 ∷ []) ≡ broken (length four_dialled + 5) NotToBeDialled
 unfolding pp_law_on_literals
 a_fifth_connection = refl
 
-both_dialled : first_fault no_words (pipelined ++ origin_sends (codes "HTTP/1.") ++ wait (2 ∷ []) [] ∷ CanRead 2 ∷ Ended 2 ∷ Dropped 2 ∷ Dialled 10 (codes "h") 80 ∷ Dialled 11 (codes "h") 80 ∷ []) ≡ broken (length pipelined + 7) NotToBeDialled
+both_dialled : first_fault one_life (pipelined ++ origin_sends (codes "HTTP/1.") ++ wait (2 ∷ []) [] ∷ CanRead 2 ∷ Ended 2 ∷ Dropped 2 ∷ Dialled 10 (codes "h") 80 ∷ Dialled 11 (codes "h") 80 ∷ []) ≡ broken (length pipelined + 7) NotToBeDialled
 unfolding pp_law_on_literals
 both_dialled = refl

@@ -11,9 +11,16 @@ use Rattle.pp_law.specs.Lists.{Bytes}
 use Rattle.pp_law.specs.State.{Term}
 use Rattle.pp_law.specs.Lawful.{Fault, Rule}
 
--- one life, started with no words, in which nothing fails outside
-abbrev pub no_words : List Term
-no_words = record { words = []; faults = 0 } ∷ []
+-- runs of one chunk, asks that are pipelined, and four connections to a host
+abbrev pub small_words : List Bytes
+small_words = codes "diskRun=1" ∷ codes "pipelineAsks=1" ∷ codes "hostConnections=4" ∷ []
+
+abbrev pub life_with : ℕ → Term
+life_with faults = record { words = small_words; faults = faults }
+
+-- one life, in which nothing fails outside
+abbrev pub one_life : List Term
+one_life = life_with 0 ∷ []
 
 -- it waits to accept, and for these to be read and to be written
 abbrev pub wait : List ℕ → List ℕ → Happening

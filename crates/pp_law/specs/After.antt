@@ -18,7 +18,7 @@ use Rattle.pp_law.specs.Replies.{said_by, use_said, end_replies, regained}
 use Rattle.pp_law.specs.Requests.{NoHeadYet}
 use Rattle.pp_law.specs.Responses.{got, ended}
 use Rattle.pp_law.specs.State.{State, Client, Conn, Exchange, Instance, Brought, Awaited, Useless, Joins, Passes, TooWide, Trying, RowRefused, Undecided, IsRooted, IsListed, IsListening, Owed, Free, ReadOf, WriteTo}
-use Rattle.pp_law.specs.Store.{begin_op, end_op, close_name, name_for, note_kept, note_gone, load}
+use Rattle.pp_law.specs.Store.{begin_in_turn, begin_in_opening, end_op, close_name, note_kept, note_gone, load}
 use Rattle.pp_law.specs.Table.{row, forget}
 use Rattle.pp_law.specs.Turn.{step, at_step, due_victim, is_awaiting, to_3, to_6, to_decide, touch, tick, ending, rest_with}
 
@@ -135,11 +135,11 @@ noted (Loaded key tag n i) s = load key i s
 -- ---- the disk
 
 unfoldable pub begun_op : DiskOp → State → State
-begun_op op s = elim (is_opening s) [ true ↦ begin_op false op s | false ↦ begin_op true op (to_3 s) ]
+begun_op op s = elim (is_opening s) [ true ↦ begin_in_opening op s | false ↦ begin_in_turn op (to_3 s) ]
 
 unfoldable pub ended_op : DiskOp → Bool → State → State
 ended_op op true s = end_op op true s
-ended_op op false s = lose_in_opening (name_for op s.agenda) (end_op op false s)
+ended_op op false s = lose_in_opening s.agenda.name (end_op op false s)
 
 -- ours: its name is closed; a load that failed stands for the write
 unfoldable pub unread : Bytes → State → State
@@ -161,7 +161,7 @@ dialled n host port p = elim p.pause [
 
 -- it is asked elsewhere; or it is over, and whoever waited for what it brings asks for himself
 unfoldable pub refused_dial : Exchange → State → State
-refused_dial e s = elim (may_ask_again s e) [ true ↦ s | false ↦ record (end_exchange e.number s) { is_again = true } ]
+refused_dial e s = elim (may_ask_again s e.number) [ true ↦ s | false ↦ record (end_exchange e.number s) { is_again = true } ]
 
 unfoldable pub undialled : Placement → State
 undialled p = elim p.pause [

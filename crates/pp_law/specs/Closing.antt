@@ -1,7 +1,7 @@
 -- What becomes of exchanges that their request leaves (RFC 2616, section 8.1.4): each is nobody's from then on. It is read to
 -- its end and changes the table as any does, but it is told to no client, passed to none, and counts for none.
 use Rattle.std.specs.Prelude.{ℕ, Bool, true, false, ◌==◌, ◌||◌, not, List, [], ◌∷◌, filter, is_some, Some, None}
-use Rattle.pp_law.specs.Connections.{conn, on_client, on_exchange, end_exchange, close_conn}
+use Rattle.pp_law.specs.Connections.{on_client, on_exchange, end_exchange}
 use Rattle.pp_law.specs.Lists.{change, without, is_this}
 use Rattle.pp_law.specs.State.{State, Exchange}
 use Rattle.pp_law.specs.Table.{swept}
@@ -27,19 +27,9 @@ leave test s =
 
 -- ---- a client is closed
 
--- its exchanges: those of which nothing was asked are over; a response that was asked for is read to its end; where a body
--- cannot be asked any more, the connection is dropped
+-- its exchanges: those of which nothing was asked are over, and the others are nobody's
 unfoldable pub leave_one : Exchange → State → State
-leave_one e s = elim e.place [
-  | None ↦ end_exchange e.number s
-  | Some k ↦ elim (e.asked == 0) [
-    | true ↦ end_exchange e.number s
-    | false ↦ elim (e.body_left == 0) [
-      | true ↦ on_exchange e.number left_alone s
-      | false ↦ elim (conn s k) [ None ↦ s | Some j ↦ close_conn false j (end_exchange e.number s) ]
-    ]
-  ]
-]
+leave_one e s = elim (e.asked == 0) [ true ↦ end_exchange e.number s | false ↦ on_exchange e.number left_alone s ]
 
 unfoldable pub leave_each : List Exchange → State → State
 leave_each [] s = s

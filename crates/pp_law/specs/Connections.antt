@@ -5,12 +5,15 @@ use Rattle.pp_pipe.specs.Line.{started}
 use Rattle.pp_pipe.specs.declared.asks.Ask.{Ask}
 use Rattle.pp_peers.specs.Placing.{place}
 use Rattle.pp_peers.specs.declared.peers.Peer.{Peer}
+use Rattle.pp_peers.specs.declared.placing.Limits.{Limits}
 use Rattle.pp_peers.specs.declared.placing.Placed.{Placed}
 use Rattle.pp_peers.specs.declared.placing.Placed.TheVariants.{On, Dial, CloseThenDial, Wait}
 use Rattle.pp_law.specs.Lists.{change, without, is_some_with, is_this}
-use Rattle.pp_law.specs.Requests.{goes_alone}
-use Rattle.pp_law.specs.Stages.{on_passed}
-use Rattle.pp_law.specs.State.{State, Client, Conn, Exchange, Course, Trying, OutOfTries, AskTooLong, RowRefused, Passed}
+use Rattle.pp_law.specs.Requests.{goes_alone, is_asked_once}
+use Rattle.pp_law.specs.Stages.{is_begun, is_headed, on_passed}
+use Rattle.pp_law.specs.State.{State, Through, Own, Filling, Client, Conn, Exchange, Course, Trying, OutOfTries, AskTooLong, RowRefused, Passed}
+use Rattle.pp_law.specs.Table.{clear, is_same_version, row}
+use Rattle.pp_target.specs.Key.{text_of}
 
 -- ---- by number
 
@@ -60,26 +63,52 @@ is_outstanding e = e.asked == length e.text
 
 -- ours: an ask that may be repeated is tried three times
 abbrev pub attempts_of : Exchange → ℕ
-attempts_of e = elim (goes_alone e.head) [ true ↦ 1 | false ↦ 3 ]
+attempts_of e = elim (is_asked_once e.head) [ true ↦ 1 | false ↦ 3 ]
 
 abbrev pub lost_one : ℕ → Course → Course
 lost_one most (Trying n) = elim (nat_le most (n + 1)) [ true ↦ OutOfTries | false ↦ Trying (n + 1) ]
 lost_one most course = course
 
-unfoldable pub lose_attempt : Exchange → State → State
-lose_attempt e s = on_client_of e (λ c. record c { course = lost_one (attempts_of e) c.course }) s
-
--- its attempts end at once
-unfoldable pub fail : Exchange → State → State
-fail e s = on_client_of e (λ c. record c { course = OutOfTries }) s
-
 abbrev pub is_trying : Course → Bool
 is_trying (Trying n) = true
 is_trying course = false
 
+abbrev pub is_out : Course → Bool
+is_out OutOfTries = true
+is_out course = false
+
+-- a row whose hole nobody fills is cleared; where the reply has not begun, its request is decided again without it, and its
+-- attempts count anew
+abbrev pub without_row : Client → Client
+without_row c = elim (is_begun c) [ true ↦ c | false ↦ record c { course = Trying 0 } ]
+
+abbrev pub is_unfilled : State → Exchange → Bool
+is_unfilled s e = elim e.aim [
+  | Through ↦ false
+  | Own ↦ false
+  | Filling v from to ↦ is_some_with (λ x. is_same_version v x.version) (row s (text_of e.key)) && list_any (λ c. is_for e c && is_out c.course) s.clients
+]
+
+unfoldable pub give_up_row : Exchange → State → State
+give_up_row e s = elim (is_unfilled s e) [
+  | false ↦ s
+  | true ↦ on_exchange e.number (λ x. record x { asker = None }) (on_client_of e without_row (clear (text_of e.key) s))
+]
+
+-- what an exchange costs its request
+unfoldable pub charge : (Course → Course) → Exchange → State → State
+charge cost e s = give_up_row e (on_client_of e (λ c. record c { course = cost c.course }) s)
+
+unfoldable pub lose_attempt : Exchange → State → State
+lose_attempt e s = charge (lost_one (attempts_of e)) e s
+
+-- its attempts end at once
+unfoldable pub fail : Exchange → State → State
+fail e s = charge (λ course. OutOfTries) e s
+
 -- its request waits for it, and may ask once more
-abbrev pub may_ask_again : State → Exchange → Bool
-may_ask_again s e = list_any (λ c. is_for e c && is_trying c.course) s.clients
+abbrev pub may_ask_again : State → ℕ → Bool
+may_ask_again s n = is_some_with (λ e. list_any (λ c. is_for e c && is_trying c.course) s.clients) (exchange s n)
 
 -- ---- an exchange is over
 
@@ -94,9 +123,9 @@ unplaced e = record e { place = None; asked = 0 }
 
 -- its connection is gone: behind its head it is over, and before that it is asked again for the request that waits for it
 unfoldable pub leave_place : Exchange → State → State
-leave_place e s = elim e.is_headed [
+leave_place e s = elim (is_headed e) [
   | true ↦ end_exchange e.number (on_client_of e (on_passed (λ p. record p { is_short = true })) s)
-  | false ↦ elim (may_ask_again s e) [ true ↦ on_exchange e.number unplaced s | false ↦ end_exchange e.number s ]
+  | false ↦ elim (may_ask_again s e.number) [ true ↦ on_exchange e.number unplaced s | false ↦ end_exchange e.number s ]
 ]
 
 -- counts: its attempt is lost
@@ -134,9 +163,12 @@ peer_of s k = record {
   pipe = record (started k.number) { asks = map (ask_of s) k.line; may_pipeline = k.may_pipeline && not (carries_alone s k) };
 }
 
+abbrev pub limits : State → Limits
+limits s = record { host_connections = s.settings.host_connections; pipelines_asks = s.settings.pipelines_asks }
+
 -- where it would be asked now
 abbrev pub place_for : State → Exchange → Placed
-place_for s e = place e.key.host e.key.port (goes_alone e.head) (map (peer_of s) (open_conns s))
+place_for s e = place (limits s) e.key.host e.key.port (goes_alone e.head) (map (peer_of s) (open_conns s))
 
 -- it is the last of that line
 unfoldable pub put_on : ℕ → ℕ → State → State

@@ -77,8 +77,8 @@ abbrev pub causes : State → Client → List (Bool × Cause)
 causes s c =
     (s.is_stopped && is_begun c, Stop)
     ∷ (is_dry s c && is_short c, Short)
-    ∷ (is_begun c && is_superseded s c, Superseded)
     ∷ (is_dry s c && not (is_trying c.course), Origin)
+    ∷ (is_begun c && is_superseded s c, Superseded)
     ∷ (is_idle s c, Idle)
     ∷ []
 

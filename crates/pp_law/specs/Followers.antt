@@ -11,7 +11,7 @@ use Rattle.pp_law.specs.Decisions.{fits, lent, text_for}
 use Rattle.pp_law.specs.Connections.{on_client, is_for, is_trying}
 use Rattle.pp_law.specs.Lists.{Bytes, is_some_with, without}
 use Rattle.pp_law.specs.Requests.{NoHeadYet, NoHead, IsRequest}
-use Rattle.pp_law.specs.State.{State, Through, Own, Filling, AskTooLong, Client, Exchange}
+use Rattle.pp_law.specs.State.{State, Through, Own, Filling, Pending, AskTooLong, Client, Exchange}
 use Rattle.pp_law.specs.Table.{next_of, Next, is_brought, brings, held_to, next_held, chunks_in}
 
 -- ---- step 5
@@ -22,13 +22,9 @@ hole_of s n =
     let chunk = n.at / chunk_len in
     (held_to s n.source (chunk * chunk_len), next_held (chunks_in n.source.version.length) s n.source (chunk + 1))
 
--- the next byte, where it comes
-abbrev pub coming_to : State → Next → List (ℕ × ℕ)
-coming_to s n = elim (is_brought s n.source n.at) [ true ↦ (n.at, n.at + 1) ∷ [] | false ↦ [] ]
-
--- of a version that was retired nothing is asked
+-- of a version that was retired nothing is asked, nor what comes
 abbrev pub need_of : State → Next → Option (ℕ × ℕ)
-need_of s n = elim n.source.is_retired [ true ↦ None | false ↦ need n.at n.to (hole_of s n) (coming_to s n) ]
+need_of s n = elim (n.source.is_retired || is_brought s n.source n.at) [ true ↦ None | false ↦ need n.at n.to (hole_of s n) ]
 
 abbrev pub hole_text : State → Request → Key → Next → ℕ × ℕ → Bytes
 hole_text s head key n span = text_for s head key (AsHole span.0 (span.1 - 1) (lent n.source.version.tag))
@@ -48,8 +44,7 @@ filling_exchange s c head key n span = record {
   body_left = 0;
   requested = 0;
   place = None;
-  is_headed = false;
-  bound = None;
+  body = Pending;
 }
 
 unfoldable pub fill_with : Exchange → Client → State → State

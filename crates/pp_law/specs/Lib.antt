@@ -2,13 +2,14 @@ pub mod Lists
 pub mod Requests
 pub mod State
 pub mod Stages
-pub mod Connections
 pub mod Chunks
 pub mod Table
+pub mod Connections
 pub mod Offers
 pub mod Passing
 pub mod OwnHeads
 pub mod Responses
+pub mod Unseen
 pub mod Hearing
 pub mod Decisions
 pub mod Sharing

@@ -164,7 +164,7 @@ permits_rooted s folder = is_at IsConfigured s && bytes_eq folder s.settings.roo
 
 -- each stray gate was closed, and its file synced
 abbrev pub is_recovered : State → Bool
-is_recovered s = is_idle_disk s && is_empty s.agenda && not (list_any (has_stray_gates s) s.entries)
+is_recovered s = is_idle_disk s && is_empty s.agenda.todo && not (list_any (has_stray_gates s) s.entries)
 
 abbrev pub permits_listens : State → ℕ → Bool
 permits_listens s port = is_at IsListed s && (port == s.settings.port) && is_recovered s

@@ -1,16 +1,21 @@
 -- What the head of a response does to the row of its key (RFC 2616, sections 10.3.5, 13.5, 13.10 and 13.11; RFC 7233, sections 4.1 and 4.3).
-use Rattle.std.specs.Prelude.{ℕ, ◌+◌, Bool, true, false, ◌==◌, ◌&&◌, ◌||◌, not, nat_lt, nat_le, nat_eq, List, [], ◌∷◌, length, bytes_eq, is_some, codes, Option, Some, None}
+use Rattle.std.specs.Prelude.{ℕ, ◌+◌, Bool, true, false, ◌==◌, ◌&&◌, ◌||◌, not, nat_lt, nat_le, nat_eq, List, [], ◌∷◌, ◌++◌, length, bytes_eq, is_some, codes, Option, Some, None, Ok, Err}
 use Rattle.std.specs.List.{list_any, starts_with}
 use Rattle.pp_fresh.specs.Age.{times_of}
+use Rattle.pp_fresh.specs.Guessing.{allows_guess}
+use Rattle.pp_fresh.specs.Ready.{may_store}
 use Rattle.pp_fresh.specs.declared.aging.Times.{Times}
 use Rattle.pp_framing.specs.declared.body.BodyRule.{BodyRule}
 use Rattle.pp_head.specs.Response.{Response}
 use Rattle.pp_objects.specs.Kept.{kept_of, refreshed_of, has_room}
-use Rattle.pp_target.specs.Key.{text_of}
+use Rattle.pp_plan.specs.Requests.{is_get, is_head}
+use Rattle.pp_target.specs.Key.{Key, key_at, text_of}
 use Rattle.pp_text.specs.Bytes.{is_empty, lower}
 use Rattle.pp_text.specs.Fields.{Field, has_field, values_of}
 use Rattle.pp_valid.specs.ContentRanges.{content_range_of}
-use Rattle.pp_valid.specs.Versions.{version_of}
+use Rattle.pp_valid.specs.Codings.{accepts_only_identity}
+use Rattle.pp_valid.specs.Conditions.{names_other_tag}
+use Rattle.pp_valid.specs.Versions.{body_length, version_of}
 use Rattle.pp_valid.specs.declared.content_range.ContentRange.{ContentRange}
 use Rattle.pp_valid.specs.declared.content_range.ContentRange.TheVariants.{Span, Unsatisfied}
 use Rattle.pp_valid.specs.declared.version.Version.{Version}
@@ -19,8 +24,8 @@ use Rattle.pp_law.specs.Connections.{exchange, on_exchange, is_for, lose_attempt
 use Rattle.pp_law.specs.Lists.{Bytes, change, is_some_with}
 use Rattle.pp_law.specs.Passing.{passed_by}
 use Rattle.pp_law.specs.Requests.{is_safe}
-use Rattle.pp_law.specs.Stages.{is_begun}
-use Rattle.pp_law.specs.State.{State, Through, Own, Filling, Bound, Brought, Useless, Joins, Passes, TooWide, Client, Exchange, Instance, Sent}
+use Rattle.pp_law.specs.Stages.{is_begun, bound_of}
+use Rattle.pp_law.specs.State.{State, Through, Own, Filling, Bound, Body, Joining, Relaying, Dropping, Brought, Useless, Joins, Passes, TooWide, Client, Exchange, Instance, Sent}
 use Rattle.pp_law.specs.Table.{is_same_version, row, kept_row, instance, extent_of, on_instance, mark_row, make_row, enter, clear, next_of, is_provided}
 
 abbrev pub key_of : Exchange → Bytes
@@ -46,7 +51,7 @@ abbrev pub first_offset : Response → ℕ
 first_offset head = first_in (range_in head)
 
 abbrev pub span_to_come : Response → Version → ℕ → Bound
-span_to_come head v id = record { instance = id; next = first_offset head; to = end_in (range_in head) v.length }
+span_to_come head v id = record { instance = id; next = first_offset head; to = end_in (range_in head) v.length; wanted = first_offset head }
 
 -- ---- what the request of the exchange is told
 
@@ -57,17 +62,32 @@ is_asked_by e c = is_for e c && not (is_begun c)
 unfoldable pub tell : Exchange → Brought → State → State
 tell e brought s = record s { clients = change (is_asked_by e) (λ c. record c { brought = brought }) s.clients }
 
-unfoldable pub bind : Exchange → Option Bound → State → State
-bind e bound s = on_exchange e.number (λ x. record x { is_headed = true; bound = bound }) s
+unfoldable pub use_body : Exchange → Body → State → State
+use_body e body s = on_exchange e.number (λ x. record x { body = body }) s
 
--- an answer that is of no use loses an attempt, and its request is decided again
+-- an answer that is of no use: its request is decided again
+unfoldable pub drop_answer : Exchange → State → State
+drop_answer e s = tell e Useless (use_body e Dropping s)
+
+-- and it loses an attempt
 unfoldable pub useless : Exchange → State → State
-useless e s = tell e Useless (lose_attempt e (bind e None s))
+useless e s = lose_attempt e (drop_answer e s)
 
 -- ---- a response with a version
 
+-- what has a content coding has one only where the request had no other wish
+abbrev pub version_in : Exchange → Response → Option Version
+version_in e head = version_of head.fields head.status (accepts_only_identity e.head.fields)
+
+-- "private", "no-store" and what varies by client
+abbrev pub forbids_sharing : Response → Bool
+forbids_sharing head = not (may_store head.fields)
+
+abbrev pub is_private_part : Response → Bool
+is_private_part head = (head.status == 206) && forbids_sharing head
+
 abbrev pub times_for : Exchange → Response → State → Times
-times_for e head s = times_of head.fields e.requested s.clock
+times_for e head s = times_of head.fields e.requested s.clock (allows_guess (key_of e) e.head.fields)
 
 abbrev pub renewed : Response → Times → Instance → Instance
 renewed head times x = record x { fields = refreshed_of x.fields head.fields times; times = times }
@@ -79,7 +99,7 @@ renew x head times s = mark_row x.id (on_instance x.id (renewed head times) s)
 unfoldable pub settle_on : Exchange → Response → Version → State → State
 settle_on e head v s = elim (row s (key_of e)) [
   | None ↦ s
-  | Some x ↦ tell e (Joins x.id (not (has_field (codes "age") head.fields))) (bind e (Some (span_to_come head v x.id)) s)
+  | Some x ↦ tell e (Joins x.id (not (has_field (codes "age") head.fields))) (use_body e (Joining (span_to_come head v x.id)) s)
 ]
 
 -- the row takes over what changes with each response
@@ -103,37 +123,57 @@ may_refresh e head s = has_room (known_fields s (key_of e)) head.fields (times_f
 unfoldable pub settle_known : Exchange → Response → Version → State → State
 settle_known e head v s = elim (may_refresh e head s) [ true ↦ settle_on e head v (refresh e head s) | false ↦ useless e s ]
 
+-- the tag that its ask names
+abbrev pub names_version : Exchange → Version → Bool
+names_version e v = is_some_with (λ tag. bytes_eq tag v.tag) e.named
+
+-- "A full response indicates that none of the stored responses nominated in the conditional request are suitable" (RFC 7234,
+-- section 4.3.3): it is a new version, whatever its tag
+abbrev pub is_full_answer : Exchange → Response → Version → Bool
+is_full_answer e head v = elim e.aim [ Own ↦ (head.status == 200) && names_version e v | Through ↦ false | Filling w from to ↦ false ]
+
+abbrev pub may_join : Exchange → Response → Version → Version → Bool
+may_join e head v known = is_same_version v known && not (is_full_answer e head known)
+
 -- "An implementation MUST NOT combine" parts of two versions: another one makes a new row
 unfoldable pub settle : Exchange → Response → Version → State → State
-settle e head v s = elim (is_some_with (is_same_version v) (known_version s (key_of e))) [
+settle e head v s = elim (is_some_with (may_join e head v) (known_version s (key_of e))) [
   | true ↦ settle_known e head v s
   | false ↦ settle_on e head v (make_row (key_of e) v (kept_of head.fields (times_for e head s)) (times_for e head s) s)
 ]
 
 -- ---- 304 (RFC 2616, section 10.3.5)
 
-abbrev pub names_version : Exchange → Version → Bool
-names_version e v = is_some_with (λ tag. bytes_eq tag v.tag) e.named
-
 -- nothing of a body comes
 abbrev pub nothing_to_come : Instance → Bound
-nothing_to_come x = record { instance = x.id; next = 0; to = 0 }
+nothing_to_come x = record { instance = x.id; next = 0; to = 0; wanted = 0 }
 
 unfoldable pub settle_unchanged : Exchange → State → State
-settle_unchanged e s = elim (row s (key_of e)) [ None ↦ s | Some x ↦ tell e (Joins x.id false) (bind e (Some (nothing_to_come x)) s) ]
+settle_unchanged e s = elim (row s (key_of e)) [ None ↦ s | Some x ↦ tell e (Joins x.id false) (use_body e (Joining (nothing_to_come x)) s) ]
 
 -- it has to name the version of the row
-unfoldable pub not_modified : Exchange → Response → State → State
-not_modified e head s = elim (is_some_with (names_version e) (known_version s (key_of e)) && may_refresh e head s) [
+unfoldable pub unchanged : Exchange → Response → State → State
+unchanged e head s = elim (is_some_with (names_version e) (known_version s (key_of e)) && may_refresh e head s) [
   | true ↦ settle_unchanged e (refresh e head s)
   | false ↦ useless e s
 ]
 
+-- "If a 304 response indicates an entity not currently cached, then the cache MUST disregard the response"
+abbrev pub is_of_another : Response → State → Bytes → Bool
+is_of_another head s key = is_some_with (λ v. names_other_tag head.fields v.tag) (known_version s key)
+
+-- what forbids sharing is never shared: its row is cleared, and nothing is counted
+unfoldable pub not_modified : Exchange → Response → State → State
+not_modified e head s = elim (forbids_sharing head) [
+  | true ↦ drop_answer e (clear (key_of e) s)
+  | false ↦ elim (is_of_another head s (key_of e)) [ true ↦ useless e (clear (key_of e) s) | false ↦ unchanged e head s ]
+]
+
 -- ---- a response without a version
 
--- the row was known to be otherwise
+-- the row was known to be otherwise, or is not to be shared
 abbrev pub clears_row : Response → Bool
-clears_row head = (head.status == 200) || (head.status == 404) || (head.status == 410)
+clears_row head = (head.status == 200) || (head.status == 404) || (head.status == 410) || is_private_part head
 
 unfoldable pub cleared_by : Response → Exchange → State → State
 cleared_by head e s = elim (clears_row head) [ true ↦ clear (key_of e) s | false ↦ s ]
@@ -142,30 +182,37 @@ cleared_by head e s = elim (clears_row head) [ true ↦ clear (key_of e) s | fal
 abbrev pub is_widened : Exchange → Response → Bool
 is_widened e head = e.is_moved && (head.status == 206)
 
+-- it is passed to the request that waits for it, or dropped
+abbrev pub relayed : Exchange → State → Body
+relayed e s = elim (list_any (is_asked_by e) s.clients) [ true ↦ Relaying | false ↦ Dropping ]
+
 unfoldable pub relay_head : Exchange → Response → BodyRule → State → State
-relay_head e head rule s = tell e (Passes (passed_by e head rule)) (bind e None s)
+relay_head e head rule s = tell e (Passes (passed_by e head rule)) (use_body e (relayed e s) s)
 
 -- to a Fetch or Validate: it is relayed
 unfoldable pub other_head : Exchange → Response → BodyRule → State → State
 other_head e head rule s = elim (is_widened e head) [
-  | true ↦ tell e TooWide (bind e None (cleared_by head e s))
+  | true ↦ tell e TooWide (use_body e Dropping (cleared_by head e s))
   | false ↦ relay_head e head rule (cleared_by head e s)
 ]
 
--- to a follower's ask: only where it cleared the row
+-- to a follower's ask: only where it cleared the row, and is not a part that was asked for another's sake
 unfoldable pub other_part : Exchange → Response → BodyRule → State → State
-other_part e head rule s = elim (clears_row head) [ true ↦ relay_head e head rule (cleared_by head e s) | false ↦ useless e s ]
+other_part e head rule s = elim (is_private_part head) [
+  | true ↦ drop_answer e (clear (key_of e) s)
+  | false ↦ elim (clears_row head) [ true ↦ relay_head e head rule (cleared_by head e s) | false ↦ useless e s ]
+]
 
 -- ---- heads by what was asked
 
 unfoldable pub own_head : Exchange → Response → BodyRule → State → State
-own_head e head rule s = elim (version_of head.fields head.status) [
+own_head e head rule s = elim (version_in e head) [
   | Some v ↦ settle e head v s
   | None ↦ elim (head.status == 304) [ true ↦ not_modified e head s | false ↦ other_head e head rule s ]
 ]
 
 abbrev pub is_bound : Exchange → Bool
-is_bound e = is_some e.bound
+is_bound e = is_some (bound_of e)
 
 -- the follower still lacks its next byte, of a row that stands
 abbrev pub lacks_next : State → Client → Bool
@@ -179,7 +226,7 @@ count_elsewhere e s = elim (is_some_with is_bound (exchange s e.number) && list_
 ]
 
 unfoldable pub part_head : Exchange → Response → BodyRule → State → State
-part_head e head rule s = elim (version_of head.fields head.status) [
+part_head e head rule s = elim (version_in e head) [
   | Some v ↦ settle e head v s
   | None ↦ elim (head.status == 304) [ true ↦ not_modified e head s | false ↦ other_part e head rule s ]
 ]
@@ -191,11 +238,50 @@ filling_head e head rule s = count_elsewhere e (part_head e head rule s)
 abbrev pub invalidates : Exchange → Response → Bool
 invalidates e head = not (is_safe e.head) && nat_le 200 head.status && nat_lt head.status 400
 
+-- Location and Content-Location: a URL, or a path of the same host
+abbrev pub path_named : Key → Bytes → Option Key
+path_named key [] = None
+path_named key (b ∷ text) = elim (b == 47) [ true ↦ Some (record key { path = b ∷ text }) | false ↦ None ]
+
+abbrev pub key_named : Key → Bytes → Option Key
+key_named key text = elim (key_at text) [ Ok named ↦ Some named | Err fault ↦ path_named key text ]
+
+abbrev pub is_same_host : Key → Key → Bool
+is_same_host a b = bytes_eq a.host b.host && (a.port == b.port)
+
+-- "the host part MUST be the same as in the Request-URI"
+unfoldable pub clear_named : Key → Bytes → State → State
+clear_named key text s = elim (key_named key text) [
+  | None ↦ s
+  | Some named ↦ elim (is_same_host named key) [ true ↦ clear (text_of named) s | false ↦ s ]
+]
+
+unfoldable pub clear_each : Key → List Bytes → State → State
+clear_each key [] s = s
+clear_each key (text ∷ texts) s = clear_each key texts (clear_named key text s)
+
+abbrev pub places_named : Response → List Bytes
+places_named head = values_of (codes "location") head.fields ++ values_of (codes "content-location") head.fields
+
 unfoldable pub invalidated : Exchange → Response → State → State
-invalidated e head s = elim (invalidates e head) [ true ↦ clear (key_of e) s | false ↦ s ]
+invalidated e head s = elim (invalidates e head) [ true ↦ clear_each e.key (places_named head) (clear (key_of e) s) | false ↦ s ]
+
+-- "if the new field values indicate that the cached entity differs from the current entity .. then the cache MUST treat the
+-- cache entry as stale" (RFC 2616, section 9.4)
+abbrev pub shows_other : Response → Version → Bool
+shows_other head v = names_other_tag head.fields v.tag || is_some_with (λ n. not (n == v.length)) (body_length head.fields)
+
+abbrev pub disproves : Response → Version → Bool
+disproves head v = (head.status == 404) || (head.status == 410) || ((head.status == 200) && shows_other head v)
+
+abbrev pub reads : Exchange → Bool
+reads e = is_get e.head.method || is_head e.head.method
+
+unfoldable pub disproved : Exchange → Response → State → State
+disproved e head s = elim (reads e && is_some_with (disproves head) (known_version s (key_of e))) [ true ↦ clear (key_of e) s | false ↦ s ]
 
 unfoldable pub through_head : Exchange → Response → BodyRule → State → State
-through_head e head rule s = relay_head e head rule (invalidated e head s)
+through_head e head rule s = relay_head e head rule (disproved e head (invalidated e head s))
 
 -- ---- heads that answer no ask of this kind
 
@@ -223,7 +309,7 @@ sent_as e at bytes (Some v) sent = record { key = key_of e; version = v; at = at
 unfoldable pub note_own : Exchange → Response → ℕ → Bytes → State → State
 note_own e head at bytes s = elim (is_empty bytes) [
   | true ↦ s
-  | false ↦ record s { sent = sent_as e (first_offset head + at) bytes (version_of head.fields head.status) s.sent }
+  | false ↦ record s { sent = sent_as e (first_offset head + at) bytes (version_in e head) s.sent }
 ]
 
 unfoldable pub note_sent : Exchange → Response → ℕ → Bytes → State → State
@@ -233,8 +319,8 @@ unfoldable pub join : Bound → Bytes → State → State
 join b bytes s = elim (instance s b.instance) [ None ↦ s | Some x ↦ note_use (record s { chunks = joined x.id (extent_of s x) b.next bytes s.chunks }) ]
 
 abbrev pub moved_on : ℕ → Exchange → Exchange
-moved_on n e = record e { bound = elim e.bound [ None ↦ None | Some b ↦ Some (record b { next = b.next + n }) ] }
+moved_on n e = elim (bound_of e) [ None ↦ e | Some b ↦ record e { body = Joining (record b { next = b.next + n }) } ]
 
 -- the bytes join the instance that they belong to
 unfoldable pub join_bound : Exchange → Bytes → State → State
-join_bound e bytes s = elim e.bound [ None ↦ s | Some b ↦ on_exchange e.number (moved_on (length bytes)) (join b bytes s) ]
+join_bound e bytes s = elim (bound_of e) [ None ↦ s | Some b ↦ on_exchange e.number (moved_on (length bytes)) (join b bytes s) ]

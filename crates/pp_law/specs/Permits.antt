@@ -23,7 +23,7 @@ use Rattle.pp_law.specs.Offers.{offer, is_at_body}
 use Rattle.pp_law.specs.Requests.{Front, NoHeadYet, NoHead, IsRequest}
 use Rattle.pp_law.specs.Served.{is_served}
 use Rattle.pp_law.specs.State.{State, Client, Instance, IsRooted, IsListed, IsListening}
-use Rattle.pp_law.specs.Store.{is_idle_disk, is_closed, is_named, is_acknowledged_as, may_note_gone, may_begin_op, may_end_op}
+use Rattle.pp_law.specs.Store.{is_idle_disk, is_closed, is_named, is_acknowledged_as, may_note_gone, may_begin_in_turn, may_begin_in_opening, may_end_op}
 use Rattle.pp_law.specs.Table.{row, kept_row, instance, idle_row, extent_of, next_of, Next}
 use Rattle.pp_law.specs.Turn.{step, due_victim, is_awaiting, has_closings, to_3, to_6, to_decide, may_3, may_6, may_decide, may_end, ending, is_free}
 
@@ -126,7 +126,7 @@ permits_evicted s key tag n i =
 
 -- in step 3, or to repair an entry in the opening
 abbrev pub permits_began : State → DiskOp → Bool
-permits_began s op = (is_at IsListed s && may_begin_op false s op) || (may_3 s && may_begin_op true (to_3 s) op)
+permits_began s op = (is_at IsListed s && may_begin_in_opening op s) || (may_3 s && may_begin_in_turn op (to_3 s))
 
 -- the client that is written to has its next byte in that chunk, below the extent and not in memory
 abbrev pub may_load_at : State → Next → Bytes → Bytes → ℕ → ℕ → Bool
@@ -147,7 +147,7 @@ may_fail_to_load s name c = is_writing s.owed c.number && is_at_body c && is_som
 
 -- recovery reads a name between repairs, and no more once it is closed
 abbrev pub may_fail_to_recover : State → Bytes → Bool
-may_fail_to_recover s name = is_at IsListed s && is_idle_disk s && is_empty s.agenda && not (is_closed s name)
+may_fail_to_recover s name = is_at IsListed s && is_idle_disk s && is_empty s.agenda.todo && not (is_closed s name)
 
 -- where recovery reads, or where a chunk may be loaded from that file
 abbrev pub permits_unread : State → Bytes → Bool
@@ -156,7 +156,7 @@ permits_unread s name = may_fail_to_recover s name || list_any (may_fail_to_load
 abbrev pub permits_noted : State → Remark → Bool
 permits_noted s (Taken c i d) = permits_taken s c i d
 permits_noted s (Cut c cause) = permits_cut s c cause
-permits_noted s (Kept key tag n extent) = is_idle_disk s && is_acknowledged_as key tag n extent s.agenda
+permits_noted s (Kept key tag n extent) = is_idle_disk s && is_acknowledged_as key tag n extent s.agenda.todo
 permits_noted s (Gone key) = may_3 s && may_note_gone (to_3 s) key
 permits_noted s (Forgotten key) = permits_forgotten s key
 permits_noted s (Evicted key tag n i) = permits_evicted s key tag n i

@@ -20,7 +20,7 @@ use Rattle.pp_law.specs.Connections.{on_client, is_for}
 use Rattle.pp_law.specs.Lists.{Bytes, is_some_with}
 use Rattle.pp_law.specs.Offers.{is_at_body}
 use Rattle.pp_law.specs.Requests.{Parsed, NoHeadYet, NoHead, IsRequest, keeps_open, has_request}
-use Rattle.pp_law.specs.Stages.{is_begun, is_passing, on_passed, passed_of, reply_of}
+use Rattle.pp_law.specs.Stages.{is_begun, is_headed, is_passing, on_passed, passed_of, reply_of}
 use Rattle.pp_law.specs.State.{State, Client, Exchange, Instance, Passed, Brought, Awaited, Useless, Joins, Passes, TooWide, Course, Trying, OutOfTries, AskTooLong, RowRefused, Undecided, Waiting, Passing, Answering, Reply}
 use Rattle.pp_law.specs.Table.{source_of, next_of, Next, is_held, is_next_held, swept}
 
@@ -113,7 +113,7 @@ begins s c = not (is_begun c) && is_begun (begun_at_end s c)
 
 -- the reply of its request begins from something else
 abbrev pub is_outrun : State → Exchange → Bool
-is_outrun s e = not e.is_headed && list_any (λ c. is_for e c && begins s c) s.clients
+is_outrun s e = not (is_headed e) && list_any (λ c. is_for e c && begins s c) s.clients
 
 unfoldable pub begin_replies : State → State
 begin_replies s = swept (forsake (is_outrun s) (record s { clients = map (begun_at_end s) s.clients }))

@@ -7,6 +7,7 @@ use Rattle.pp_framing.specs.declared.framing.FramingFault.{FramingFault}
 use Rattle.pp_framing.specs.declared.framing.FramingFault.TheVariants.{TwoLengths, BadLength, OtherCoding}
 use Rattle.pp_head.specs.Read.{Read, Whole, TooLong, Bad, More}
 use Rattle.pp_head.specs.Request.{Request, request_at}
+use Rattle.pp_pipe.specs.Authentication.{binds_connection}
 use Rattle.pp_plan.specs.Requests.{is_get, is_head}
 use Rattle.pp_reply.specs.Keeping.{is_kept_open, wants_interim}
 use Rattle.pp_reply.specs.Texts.{is_last}
@@ -99,9 +100,13 @@ expects_interim r = elim (refusal_of r) [
   | None ↦ elim r.rule [ Ok rule ↦ wants_interim r.head.minor rule r.head.fields | Err fault ↦ false ]
 ]
 
--- ours: such a request takes a connection for itself, and is asked once (section 8.1.2.2)
+-- ours: such a request is asked once (section 8.1.2.2)
+abbrev pub is_asked_once : Request → Bool
+is_asked_once head = not (is_get head.method || is_head head.method) || nat_lt 0 (body_len_by (request_rule_of head.fields))
+
+-- ours: it takes a connection for itself; so does one whose credentials would hold for the connection (RFC 4559, section 6)
 abbrev pub goes_alone : Request → Bool
-goes_alone head = not (is_get head.method || is_head head.method) || nat_lt 0 (body_len_by (request_rule_of head.fields))
+goes_alone head = is_asked_once head || binds_connection head.fields
 
 -- "the GET and HEAD methods .. ought to be considered "safe"", and OPTIONS and TRACE have no side effects (section 9.1)
 abbrev pub is_safe : Request → Bool

@@ -11,8 +11,9 @@ use Rattle.pp_pass.specs.Pipe.{finished}
 use Rattle.pp_plan.specs.Requests.{is_head}
 use Rattle.pp_reply.specs.Keeping.{is_old}
 use Rattle.pp_text.specs.Bytes.{is_empty}
-use Rattle.pp_text.specs.Fields.{has_item}
-use Rattle.pp_law.specs.Connections.{conn, on_conn, on_client_of, front_of_line, is_outstanding, fail, end_exchange, close_conn}
+use Rattle.pp_pipe.specs.Authentication.{binds_connection}
+use Rattle.pp_pipe.specs.Front.{is_interim, stays_open}
+use Rattle.pp_law.specs.Connections.{conn, on_conn, on_client_of, front_of_line, is_outstanding, fail, lose_attempt, end_exchange, close_conn}
 use Rattle.pp_law.specs.Lists.{Bytes, is_some_with}
 use Rattle.pp_law.specs.OwnHeads.{is_wrong_head, through_head, own_head, filling_head, note_sent, join_bound}
 use Rattle.pp_law.specs.Passing.{pour, poured}
@@ -28,23 +29,21 @@ skipping c = record c { heard = drop c.body_left c.heard; skip = c.skip + (c.bod
 unfoldable pub skip_body : Exchange → State → State
 skip_body e s = elim e.aim [ Through ↦ on_client_of e skipping s | Own ↦ s | Filling v from to ↦ s ]
 
--- whether the connection goes on behind the response (sections 8.1.2.1 and 19.6.2); ours: `close` comes before `keep-alive`
-abbrev pub stays_open : Response → Bool
-stays_open head =
-    not (has_item (codes "connection") (codes "close") head.fields)
-    && (not (is_old head.minor) || has_item (codes "connection") (codes "keep-alive") head.fields)
-
 abbrev pub rested : Response → Conn → Conn
 rested head k = record k { answer = None; unread = []; has_brought = true; may_pipeline = k.may_pipeline || not (is_old head.minor) }
 
 unfoldable pub close_this : ℕ → State → State
 close_this n s = elim (conn s n) [ None ↦ s | Some k ↦ close_conn true k s ]
 
--- a response is whole; the connection goes on unless it says otherwise, or the request's body was not asked whole
+-- a response is whole; the connection goes on unless it says otherwise, its end is in doubt, the request's body was not asked
+-- whole, or its credentials would hold for the connection
+abbrev pub may_go_on : Exchange → Response → Bool
+may_go_on e head = stays_open head && (e.body_left == 0) && not (binds_connection e.head.fields)
+
 unfoldable pub finish : Conn → Exchange → Answer → State → State
 finish k e a s =
     let done : State = on_conn k.number (rested a.head) (end_exchange e.number (skip_body e (pour e finished s))) in
-    elim (stays_open a.head && (e.body_left == 0)) [ true ↦ done | false ↦ close_this k.number done ]
+    elim (may_go_on e a.head) [ true ↦ done | false ↦ close_this k.number done ]
 
 -- a response outside the grammar, or one that its ask did not allow: its request's attempts end, and the connection is closed
 unfoldable pub bad_response : Conn → State → State
@@ -53,11 +52,15 @@ bad_response k s = elim (front_of_line s k) [
   | Some e ↦ close_conn false k (end_exchange e.number (fail e s))
 ]
 
--- ---- heads
+-- ours: a head that is none, behind a whole response on this connection, may be the rest of that one: it costs an attempt, and
+-- its request is asked elsewhere
+unfoldable pub bad_head : Conn → State → State
+bad_head k s = elim k.has_brought [
+  | false ↦ bad_response k s
+  | true ↦ elim (front_of_line s k) [ None ↦ close_conn false k s | Some e ↦ close_conn false k (lose_attempt e s) ]
+]
 
--- "Informational 1xx" before the response that counts (section 10.1); 101 would leave HTTP
-abbrev pub is_interim : ℕ → Bool
-is_interim status = nat_le 100 status && nat_lt status 200 && not (status == 101)
+-- ---- heads
 
 unfoldable pub by_aim : Exchange → Response → BodyRule → State → State
 by_aim e head rule s = elim e.aim [ Through ↦ through_head e head rule s | Own ↦ own_head e head rule s | Filling v from to ↦ filling_head e head rule s ]
@@ -79,13 +82,13 @@ begin_answer k e head rule s =
 
 unfoldable pub answer_for : Conn → Exchange → Response → State → State
 answer_for k e head s = elim (is_wrong_head e head) [
-  | true ↦ bad_response k s
-  | false ↦ elim (rule_of (asks_head e) head.status head.fields) [ Ok rule ↦ begin_answer k e head rule s | Err fault ↦ bad_response k s ]
+  | true ↦ bad_head k s
+  | false ↦ elim (rule_of (asks_head e) head.status head.fields) [ Ok rule ↦ begin_answer k e head rule s | Err fault ↦ bad_head k s ]
 ]
 
 -- a final head came: it belongs to the first exchange of the line
 unfoldable pub head_came : Conn → Response → State → State
-head_came k head s = elim (front_of_line s k) [ None ↦ bad_response k s | Some e ↦ answer_for k e head s ]
+head_came k head s = elim (front_of_line s k) [ None ↦ close_conn false k s | Some e ↦ answer_for k e head s ]
 
 -- ---- bytes
 
@@ -105,8 +108,8 @@ with_unread bytes k = record k { unread = bytes }
 abbrev pub head_piece_of : Conn → Bytes → State → Piece
 head_piece_of k bytes s = elim (response_at bytes) [
   | More ↦ record { state = on_conn k.number (with_unread bytes) s; rest = [] }
-  | TooLong ↦ record { state = bad_response k s; rest = [] }
-  | NoHead ↦ record { state = bad_response k s; rest = [] }
+  | TooLong ↦ record { state = bad_head k s; rest = [] }
+  | NoHead ↦ record { state = bad_head k s; rest = [] }
   | Whole head ↦ elim (is_interim head.status) [
     | true ↦ record { state = on_conn k.number (with_unread []) s; rest = drop head.length bytes }
     | false ↦ record { state = head_came k head s; rest = drop head.length bytes }

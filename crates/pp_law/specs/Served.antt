@@ -1,5 +1,5 @@
 -- What has to stand in the wants at the end of a turn, so that nobody waits on nothing. It is ours.
-use Rattle.std.specs.Prelude.{ℕ, ◌+◌, ◌/◌, Bool, true, false, ◌==◌, ◌&&◌, ◌||◌, not, nat_lt, nat_le, max, List, [], ◌∷◌, length, fold, filter_map, Option, Some, None}
+use Rattle.std.specs.Prelude.{ℕ, ◌+◌, ◌/◌, Bool, true, false, ◌==◌, ◌&&◌, ◌||◌, not, nat_lt, nat_le, length, Option, Some, None}
 use Rattle.std.specs.List.{list_any, list_all}
 use Rattle.pp_peers.specs.declared.placing.Placed.{Placed}
 use Rattle.pp_peers.specs.declared.placing.Placed.TheVariants.{On, Dial, CloseThenDial, Wait}
@@ -11,9 +11,11 @@ use Rattle.pp_law.specs.Connections.{exchange, is_client, is_conn, is_outstandin
 use Rattle.pp_law.specs.Lists.{has_number, is_some_with, is_this}
 use Rattle.pp_law.specs.Offers.{has_to_say}
 use Rattle.pp_law.specs.Requests.{has_request}
+use Rattle.pp_law.specs.Stages.{bound_of}
 use Rattle.pp_law.specs.State.{State, Bound, Client, Conn, Exchange}
 use Rattle.pp_law.specs.Table.{instance, next_of, is_held}
 use Rattle.pp_law.specs.Turn.{waits_for_exchange}
+use Rattle.pp_law.specs.Unseen.{at_of, furthest_at}
 
 abbrev pub wants_read : Wants → ℕ → Bool
 wants_read w n = has_number n w.read.items
@@ -47,14 +49,6 @@ is_client_served s w c = elim (has_to_say s c) [
 abbrev pub has_full_pipe : Exchange → Client → Bool
 has_full_pipe e c = is_some_with (λ n. n == 0) (pipe_room e c)
 
--- where the furthest of those stands who follow what the exchange is bound to
-abbrev pub at_of : State → Bound → Client → Option ℕ
-at_of s b c = elim (next_of s c) [ None ↦ None | Some n ↦ elim (n.source.id == b.instance) [ true ↦ Some n.at | false ↦ None ] ]
-
-abbrev pub furthest : List ℕ → Option ℕ
-furthest [] = None
-furthest (at ∷ ats) = Some (fold max at ats)
-
 abbrev pub is_held_in : State → Bound → ℕ → Bool
 is_held_in s b at = is_some_with (λ x. is_held s x at) (instance s b.instance)
 
@@ -62,11 +56,8 @@ is_held_in s b at = is_some_with (λ x. is_held s x at) (instance s b.instance)
 abbrev pub is_past : State → Bound → ℕ → Bool
 is_past s b at = nat_le (at / chunk_len + 256) (b.next / chunk_len) && is_held_in s b at
 
-abbrev pub furthest_at : State → Bound → Option ℕ
-furthest_at s b = furthest (filter_map (at_of s b) s.clients)
-
 abbrev pub is_far_ahead : State → Exchange → Bool
-is_far_ahead s e = is_some_with (λ b. is_some_with (is_past s b) (furthest_at s b)) e.bound
+is_far_ahead s e = is_some_with (λ b. is_some_with (is_past s b) (furthest_at s b)) (bound_of e)
 
 -- or far ahead of all followers
 abbrev pub is_stopped : State → Exchange → Bool
@@ -76,7 +67,7 @@ abbrev pub is_furthest_in : State → Bound → Client → Bool
 is_furthest_in s b c = is_some_with (λ at. is_this at (furthest_at s b)) (at_of s b c)
 
 abbrev pub is_furthest : State → Exchange → Client → Bool
-is_furthest s e c = is_far_ahead s e && is_some_with (λ b. is_furthest_in s b c) e.bound
+is_furthest s e c = is_far_ahead s e && is_some_with (λ b. is_furthest_in s b c) (bound_of e)
 
 -- it stops for somebody who is written to
 abbrev pub is_held_back : State → Wants → Exchange → Bool

@@ -1,9 +1,9 @@
--- Where the current request of a client is.
-use Rattle.std.specs.Prelude.{Bool, true, false, Option, Some, None}
+-- Where the current request of a client is, and the response to an exchange.
+use Rattle.std.specs.Prelude.{Bool, true, false, not, Option, Some, None}
 use Rattle.pp_world.specs.declared.note.Decision.{Decision}
 use Rattle.pp_world.specs.declared.note.Decision.TheVariants.{Refuse, Hit, Part, Relay, Pass}
 use Rattle.pp_law.specs.Lists.{is_some_with}
-use Rattle.pp_law.specs.State.{Client, Undecided, Waiting, Passing, Answering, Reply, Awaited, Useless, Joins, Passes, TooWide, Passed}
+use Rattle.pp_law.specs.State.{Client, Undecided, Waiting, Passing, Answering, Reply, Awaited, Useless, Joins, Passes, TooWide, Passed, Exchange, Bound, Body, Pending, Joining, Relaying, Dropping}
 
 abbrev pub reply_of : Client → Option Reply
 reply_of c = elim c.stage [ Undecided ↦ None | Waiting ↦ None | Passing ↦ None | Answering r ↦ Some r ]
@@ -32,3 +32,22 @@ passed_of c = elim c.brought [ Awaited ↦ None | Useless ↦ None | Joins id pl
 
 abbrev pub on_passed : (Passed → Passed) → Client → Client
 on_passed f c = elim (passed_of c) [ None ↦ c | Some p ↦ record c { brought = Passes (f p) } ]
+
+-- ---- of an exchange
+
+abbrev pub is_pending : Body → Bool
+is_pending Pending = true
+is_pending body = false
+
+-- the head of its final response came
+abbrev pub is_headed : Exchange → Bool
+is_headed e = not (is_pending e.body)
+
+abbrev pub bound_in : Body → Option Bound
+bound_in Pending = None
+bound_in (Joining b) = Some b
+bound_in Relaying = None
+bound_in Dropping = None
+
+abbrev pub bound_of : Exchange → Option Bound
+bound_of e = bound_in e.body

@@ -66,11 +66,19 @@ pub data Aim : Type 0 where
   Own : Aim
   Filling : Version → ℕ → ℕ → Aim
 
--- the instance that the body belongs to, and the half-open span that is still to come
+-- the instance that the body belongs to, the half-open span that is still to come, and how far it was wanted
 pub record Bound : Type 0 where
   pub instance : ℕ
   pub next : ℕ
   pub to : ℕ
+  pub wanted : ℕ
+
+-- what becomes of the body of a response: its head has not come; it joins an instance; it is passed; it is dropped as it comes
+pub data Body : Type 0 where
+  Pending : Body
+  Joining : Bound → Body
+  Relaying : Body
+  Dropping : Body
 
 pub record Exchange : Type 0 where
   pub number : ℕ
@@ -86,8 +94,7 @@ pub record Exchange : Type 0 where
   pub body_left : ℕ  -- bytes of the request's body that are still to be asked
   pub requested : ℕ  -- when the text was asked whole
   pub place : Option ℕ
-  pub is_headed : Bool  -- the head of its final response came
-  pub bound : Option Bound
+  pub body : Body
 
 -- a final response whose head came, and the bytes behind it
 pub record Answer : Type 0 where
@@ -127,6 +134,11 @@ pub data Brought : Type 0 where
   Passes : Passed → Brought
   TooWide : Brought
 
+-- the exchange of another client that a request waits for, and since when
+pub record Shared : Type 0 where
+  pub exchange : ℕ
+  pub since : ℕ
+
 -- how a request fares: it lost so many attempts; they ended; its ask as a follower is too long; its row was refused memory
 pub data Course : Type 0 where
   Trying : ℕ → Course
@@ -159,7 +171,7 @@ pub record Client : Type 0 where
   pub skip : ℕ  -- bytes of a body that are dropped as they come
   pub index : ℕ  -- the number of the request
   pub stage : Stage
-  pub waits_on : Option ℕ  -- the exchange of another client that it waits for, before its own
+  pub waits_on : Option Shared  -- before an exchange of its own
   pub brought : Brought
   pub course : Course
   pub interim_left : Bytes
@@ -186,6 +198,14 @@ pub data Todo : Type 0 where
   Do : DiskOp → Todo
   Enter : Entry → Todo
   Acknowledge : Bytes → Bytes → ℕ → ℕ → Todo
+
+-- and on which name
+pub record Agenda : Type 0 where
+  pub name : Bytes
+  pub todo : List Todo
+
+abbrev pub no_agenda : Agenda
+no_agenda = record { name = []; todo = [] }
 
 pub record State : Type 0 where
   -- all lives
@@ -220,7 +240,7 @@ pub record State : Type 0 where
   pub is_evicting : Bool  -- the trigger was reached
   pub forgotten : List Bytes  -- rows that left memory and are not noted yet
   pub has_made_room : Bool  -- a row left memory for the decision that is next
-  pub agenda : List Todo
+  pub agenda : Agenda
   pub is_again : Bool  -- an exchange was given up in step 6, or step 7 decided or cut: steps 5 and 6 are done again
 
 abbrev pub no_term : Term
@@ -257,6 +277,6 @@ start terms = record {
   is_evicting = false;
   forgotten = [];
   has_made_room = false;
-  agenda = [];
+  agenda = no_agenda;
   is_again = false;
 }

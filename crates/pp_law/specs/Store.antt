@@ -1,11 +1,12 @@
 -- Entries on disk: how they are drafted, sealed, taken away and read back. The format and the order are ours; what a crash may leave
 -- of them is pp_world's, and the operations of each step are pp_gate's.
-use Rattle.std.specs.Prelude.{ℕ, zero, suc, ◌+◌, ◌-◌, ◌*◌, ◌/◌, Bool, true, false, ◌==◌, ◌&&◌, ◌||◌, not, nat_lt, nat_le, min, List, [], ◌∷◌, ◌++◌, length, take, drop, map, find, count_by, bytes_eq, is_some, Option, Some, None}
+use Rattle.std.specs.Prelude.{ℕ, zero, suc, ◌+◌, ◌-◌, ◌*◌, ◌/◌, Bool, true, false, ◌==◌, ◌&&◌, ◌||◌, not, nat_lt, nat_le, min, max, List, [], ◌∷◌, ◌++◌, length, take, drop, map, find, count_by, bytes_eq, is_some, Option, Some, None}
 use Rattle.std.specs.List.{list_any, list_all}
 use Rattle.pp_entry.specs.Entries.{is_sized}
 use Rattle.pp_entry.specs.Gates.{leading_open}
 use Rattle.pp_entry.specs.Texts.{body_at, chunks_of, fits, head_text, padded}
-use Rattle.pp_gate.specs.Gate.{fresh_file, publish_ops}
+use Rattle.pp_gate.specs.Files.{whole_file}
+use Rattle.pp_gate.specs.Gate.{publish_ops}
 use Rattle.pp_gate.specs.Seal.{seal_ops}
 use Rattle.pp_target.specs.Name.{name_of}
 use Rattle.pp_text.specs.Bytes.{is_empty}
@@ -15,7 +16,7 @@ use Rattle.pp_world.specs.declared.op.DiskOp.{DiskOp}
 use Rattle.pp_world.specs.declared.op.DiskOp.TheVariants.{Draft, SyncDraft, Publish, Write, Sync, Remove}
 use Rattle.pp_law.specs.Chunks.{chunk_len, chunk_bytes, filled, put_chunk, note_use}
 use Rattle.pp_law.specs.Lists.{Bytes, change, without, has_text, is_some_with}
-use Rattle.pp_law.specs.State.{State, Entry, Instance, Todo, Do, Enter, Acknowledge}
+use Rattle.pp_law.specs.State.{State, Agenda, no_agenda, Entry, Instance, Todo, Do, Enter, Acknowledge}
 use Rattle.pp_law.specs.Table.{row, kept_row, is_same_version, is_entry_of, is_kept_row_of}
 
 abbrev pub is_same_op : DiskOp → DiskOp → Bool
@@ -46,22 +47,14 @@ names_taken s = length s.closed_names + count_by (λ e. not (is_closed s e.name)
 abbrev pub has_free_name : State → Bytes → Bool
 has_free_name s name = not (list_any (is_named name) s.entries) && not (is_closed s name) && nat_lt (names_taken s) 10000
 
-abbrev pub may_draft : State → Instance → Bool
-may_draft s x = elim (not x.is_retired && is_sized x.version.length && fits x.fields (block_of x)) [ true ↦ has_free_name s (name_of x.key) | false ↦ false ]
+abbrev pub new_entry : Instance → ℕ → Entry
+new_entry x extent = record { name = name_of x.key; key = x.key; version = x.version; fields = x.fields; times = x.times; extent = extent; is_stale = false }
 
-abbrev pub file_of : Instance → Bytes
-file_of x = fresh_file (padded (block_of x)) x.version.length
+-- ---- runs of chunks
 
-abbrev pub new_entry : Instance → Entry
-new_entry x = record { name = name_of x.key; key = x.key; version = x.version; fields = x.fields; times = x.times; extent = 0; is_stale = false }
-
-abbrev pub drafting : Instance → List Todo
-drafting x = map Do (publish_ops (name_of x.key) (file_of x)) ++ Enter (new_entry x) ∷ []
-
-abbrev pub draft_of : State → Instance → Option (List Todo)
-draft_of s x = elim (may_draft s x) [ true ↦ Some (drafting x) | false ↦ None ]
-
--- ---- a run of chunks is sealed
+-- ours: a run has as many chunks as is set, but no more than a 128th of the pool
+abbrev pub run_len : State → ℕ
+run_len s = max 1 (min s.settings.disk_run (s.settings.critical / 128))
 
 abbrev pub is_whole_chunk : State → Instance → ℕ → Bool
 is_whole_chunk s x i = nat_lt (i * chunk_len) x.version.length && (filled x.id i s.chunks == min chunk_len (x.version.length - i * chunk_len))
@@ -75,9 +68,9 @@ whole_run (suc more) s x i = elim (is_whole_chunk s x i) [ true ↦ 1 + whole_ru
 abbrev pub end_of_run : Instance → Entry → ℕ → ℕ
 end_of_run x e count = min x.version.length (e.extent + count * chunk_len)
 
--- ours: a run is as long as is set, or reaches the end of the body
+-- or reaches the end of the body
 abbrev pub is_full_run : State → Instance → Entry → ℕ → Bool
-is_full_run s x e count = nat_lt 0 count && ((count == s.settings.disk_run) || (end_of_run x e count == x.version.length))
+is_full_run s x e count = nat_lt 0 count && ((count == run_len s) || (end_of_run x e count == x.version.length))
 
 abbrev pub may_seal : State → Instance → Entry → Bool
 may_seal s x e = not x.is_retired && is_same_version x.version e.version && not (is_closed s e.name) && nat_lt e.extent x.version.length
@@ -86,22 +79,54 @@ abbrev pub run_bytes : ℕ → State → Instance → ℕ → Bytes
 run_bytes zero s x i = []
 run_bytes (suc more) s x i = chunk_bytes x.id i s.chunks ++ run_bytes more s x (i + 1)
 
+-- how many chunks the next run has
+abbrev pub run_from : State → Instance → Entry → ℕ
+run_from s x e = whole_run (run_len s) s x (e.extent / chunk_len)
+
+-- ---- an entry is drafted
+
+-- ours: where runs have more than one chunk, once its first run is full, so that what was given up leaves no entry
+abbrev pub has_first_run : State → Instance → Bool
+has_first_run s x = (run_len s == 1) || is_full_run s x (new_entry x 0) (run_from s x (new_entry x 0))
+
+abbrev pub may_draft : State → Instance → Bool
+may_draft s x = elim (not x.is_retired && is_sized x.version.length && fits x.fields (block_of x) && has_first_run s x) [
+  | true ↦ has_free_name s (name_of x.key)
+  | false ↦ false
+]
+
+-- and where that run is the whole body, it is drafted with all of it
+abbrev pub drafted_with : State → Instance → ℕ
+drafted_with s x = elim (nat_lt 1 (run_len s) && nat_le (chunks_of x.version.length) (run_len s)) [ true ↦ x.version.length | false ↦ 0 ]
+
+abbrev pub file_of : State → Instance → Bytes
+file_of s x = whole_file (padded (block_of x)) x.version.length (run_bytes (chunks_of (drafted_with s x)) s x 0)
+
+-- what is behind its gates is noted
+abbrev pub noting : Instance → ℕ → List Todo
+noting x extent = elim (extent == 0) [ true ↦ [] | false ↦ Acknowledge x.key x.version.tag x.version.length extent ∷ [] ]
+
+abbrev pub drafting : State → Instance → List Todo
+drafting s x =
+    map Do (publish_ops (name_of x.key) (file_of s x)) ++ Enter (new_entry x (drafted_with s x)) ∷ noting x (drafted_with s x)
+
+abbrev pub draft_of : State → Instance → Option Agenda
+draft_of s x = elim (may_draft s x) [ true ↦ Some (record { name = name_of x.key; todo = drafting s x }) | false ↦ None ]
+
+-- ---- a run is sealed
+
 abbrev pub sealing : State → Instance → Entry → ℕ → List Todo
 sealing s x e count =
     let first = e.extent / chunk_len in
     map Do (seal_ops e.name x.version.length first count (run_bytes count s x first))
     ++ Acknowledge x.key x.version.tag x.version.length (end_of_run x e count) ∷ []
 
--- how many chunks the next run has
-abbrev pub run_from : State → Instance → Entry → ℕ
-run_from s x e = whole_run s.settings.disk_run s x (e.extent / chunk_len)
-
-abbrev pub seal_with : State → Instance → Entry → Option (List Todo)
+abbrev pub seal_with : State → Instance → Entry → Option Agenda
 seal_with s x e =
     let count = run_from s x e in
-    elim (may_seal s x e && is_full_run s x e count) [ true ↦ Some (sealing s x e count) | false ↦ None ]
+    elim (may_seal s x e && is_full_run s x e count) [ true ↦ Some (record { name = e.name; todo = sealing s x e count }) | false ↦ None ]
 
-abbrev pub seal_of : State → Instance → Option (List Todo)
+abbrev pub seal_of : State → Instance → Option Agenda
 seal_of s x = elim (kept_row s x.key) [ None ↦ None | Some e ↦ seal_with s x e ]
 
 abbrev pub is_due_to_seal : State → Instance → Bool
@@ -132,7 +157,7 @@ displaced_by s e = elim (is_gone s e) [ true ↦ s.displaced | false ↦ e.key �
 
 unfoldable pub remove_entry : Entry → State → State
 remove_entry e s = record s {
-  agenda = removing s e;
+  agenda = record { name = e.name; todo = removing s e };
   entries = without (is_entry_of e.key) s.entries;
   acknowledged = without (is_entry_of e.key) s.acknowledged;
   displaced = displaced_by s e;
@@ -145,7 +170,7 @@ abbrev pub is_idle_disk : State → Bool
 is_idle_disk s = not (is_some s.under_way)
 
 abbrev pub may_note_gone : State → Bytes → Bool
-may_note_gone s key = is_idle_disk s && is_empty s.agenda && list_any (λ e. is_entry_of key e && (is_gone s e || is_displaced s e)) s.entries
+may_note_gone s key = is_idle_disk s && is_empty s.agenda.todo && list_any (λ e. is_entry_of key e && (is_gone s e || is_displaced s e)) s.entries
 
 -- ---- recovery: gates behind the first that is closed are closed, and the file is synced
 
@@ -169,9 +194,9 @@ are_strays s at count e =
 abbrev pub closes_strays : State → Bytes → ℕ → Bytes → Entry → Bool
 closes_strays s name at bytes e = is_named name e && nat_lt 0 (length bytes) && list_all (λ b. b == 0) bytes && are_strays s at (length bytes) e
 
-abbrev pub repair_of : State → DiskOp → Option (List Todo)
+abbrev pub repair_of : State → DiskOp → Option Agenda
 repair_of s (Write name at bytes) = elim (list_any (closes_strays s name at bytes) s.entries) [
-  | true ↦ Some (Do (Write name at bytes) ∷ Do (Sync name) ∷ [])
+  | true ↦ Some (record { name = name; todo = Do (Write name at bytes) ∷ Do (Sync name) ∷ [] })
   | false ↦ None
 ]
 repair_of s op = None
@@ -185,69 +210,68 @@ is_first_todo op (Enter e ∷ todo) = false
 is_first_todo op (Acknowledge key tag n extent ∷ todo) = false
 
 -- what may be begun of a row: its draft, or the sealing of a run
-abbrev pub plan_of : State → DiskOp → Instance → Option (List Todo)
+abbrev pub plan_of : State → DiskOp → Instance → Option Agenda
 plan_of s (Draft bytes) x = draft_of s x
 plan_of s (Write name at bytes) x = seal_of s x
 plan_of s op x = None
 
-abbrev pub is_begun_by : DiskOp → Option (List Todo) → Bool
-is_begun_by op plan = is_some_with (is_first_todo op) plan
+abbrev pub is_begun_by : DiskOp → Option Agenda → Bool
+is_begun_by op plan = is_some_with (λ a. is_first_todo op a.todo) plan
 
-abbrev pub plan_for : State → DiskOp → List Instance → Option (List Todo)
+abbrev pub plan_for : State → DiskOp → List Instance → Option Agenda
 plan_for s op [] = None
 plan_for s op (x ∷ xs) =
     let plan = plan_of s op x in
     elim (is_begun_by op plan) [ true ↦ plan | false ↦ plan_for s op xs ]
 
--- the next operation of what is under way, or the first of what may be begun; in the opening, of a repair
-abbrev pub todo_for : Bool → State → DiskOp → Option (List Todo)
-todo_for in_turn s op = elim (is_empty s.agenda) [
-  | false ↦ elim (is_first_todo op s.agenda) [ true ↦ Some s.agenda | false ↦ None ]
-  | true ↦ elim in_turn [ true ↦ plan_for s op s.instances | false ↦ repair_of s op ]
-]
+abbrev pub going_on : DiskOp → Agenda → Option Agenda
+going_on op a = elim (is_first_todo op a.todo) [ true ↦ Some a | false ↦ None ]
 
-abbrev pub may_begin_op : Bool → State → DiskOp → Bool
-may_begin_op in_turn s op = is_idle_disk s && is_some (todo_for in_turn s op)
+-- what was begun goes on; and where nothing is left of it, what may be begun of a row is begun
+abbrev pub agenda_in_turn : DiskOp → State → Option Agenda
+agenda_in_turn op s = elim (is_empty s.agenda.todo) [ false ↦ going_on op s.agenda | true ↦ plan_for s op s.instances ]
 
-unfoldable pub begin_op : Bool → DiskOp → State → State
-begin_op in_turn op s = elim (todo_for in_turn s op) [
-  | None ↦ s
-  | Some todo ↦ record s { agenda = drop 1 todo; under_way = Some op; disk = s.disk ++ Began op ∷ [] }
-]
+-- in the opening, a repair
+abbrev pub agenda_in_opening : DiskOp → State → Option Agenda
+agenda_in_opening op s = elim (is_empty s.agenda.todo) [ false ↦ going_on op s.agenda | true ↦ repair_of s op ]
 
--- the name that an operation is on; a draft is on that of the entry that it becomes
-abbrev pub entered_name : List Todo → Bytes
-entered_name [] = []
-entered_name (Enter e ∷ todo) = e.name
-entered_name (Do op ∷ todo) = entered_name todo
-entered_name (Acknowledge key tag n extent ∷ todo) = entered_name todo
+abbrev pub may_begin_in_turn : DiskOp → State → Bool
+may_begin_in_turn op s = is_idle_disk s && is_some (agenda_in_turn op s)
 
-abbrev pub name_for : DiskOp → List Todo → Bytes
-name_for (Draft bytes) todo = entered_name todo
-name_for SyncDraft todo = entered_name todo
-name_for (Publish name) todo = name
-name_for (Write name at bytes) todo = name
-name_for (Sync name) todo = name
-name_for (Remove name) todo = name
+abbrev pub may_begin_in_opening : DiskOp → State → Bool
+may_begin_in_opening op s = is_idle_disk s && is_some (agenda_in_opening op s)
+
+unfoldable pub begin_op : DiskOp → Option Agenda → State → State
+begin_op op None s = s
+begin_op op (Some a) s = record s { agenda = record a { todo = drop 1 a.todo }; under_way = Some op; disk = s.disk ++ Began op ∷ [] }
+
+unfoldable pub begin_in_turn : DiskOp → State → State
+begin_in_turn op s = begin_op op (agenda_in_turn op s) s
+
+unfoldable pub begin_in_opening : DiskOp → State → State
+begin_in_opening op s = begin_op op (agenda_in_opening op s) s
+
+abbrev pub left_todo : List Todo → State → State
+left_todo todo s = record s { agenda = record { name = s.agenda.name; todo = todo } }
 
 -- a published file is an entry at once
 unfoldable pub enter_next : State → State
-enter_next s = elim s.agenda [
+enter_next s = elim s.agenda.todo [
   | [] ↦ s
-  | todo ∷ agenda ↦ elim todo [
+  | next ∷ todo ↦ elim next [
     | Do op ↦ s
     | Acknowledge key tag n extent ↦ s
-    | Enter e ↦ record s { entries = s.entries ++ e ∷ []; agenda = agenda }
+    | Enter e ↦ left_todo todo (record s { entries = s.entries ++ e ∷ [] })
   ]
 ]
 
 -- ours: a name is closed for this life once an operation on it failed
 unfoldable pub close_name : Bytes → State → State
-close_name name s = record s { closed_names = name ∷ without (bytes_eq name) s.closed_names; agenda = []; failures = s.failures + 1 }
+close_name name s = record s { closed_names = name ∷ without (bytes_eq name) s.closed_names; agenda = no_agenda; failures = s.failures + 1 }
 
 unfoldable pub end_op : DiskOp → Bool → State → State
 end_op op true s = enter_next (record s { under_way = None; disk = s.disk ++ Did op true ∷ [] })
-end_op op false s = close_name (name_for op s.agenda) (record s { under_way = None; disk = s.disk ++ Did op false ∷ [] })
+end_op op false s = close_name s.agenda.name (record s { under_way = None; disk = s.disk ++ Did op false ∷ [] })
 
 abbrev pub may_end_op : State → DiskOp → Bool
 may_end_op s op = is_some_with (λ begun. is_same_op begun op) s.under_way
@@ -274,12 +298,12 @@ unfoldable pub note_kept : Bytes → ℕ → State → State
 note_kept key extent s = record s {
   acknowledged = acknowledged_with key extent s;
   entries = change (is_kept_row_of key) (extended extent) s.entries;
-  agenda = drop 1 s.agenda;
+  agenda = record { name = s.agenda.name; todo = drop 1 s.agenda.todo };
 }
 
 -- nothing is left to do for the disk
 abbrev pub is_done_on_disk : State → Bool
-is_done_on_disk s = is_empty s.agenda && is_idle_disk s && not (list_any (is_gone s) s.entries) && not (has_to_seal s)
+is_done_on_disk s = is_empty s.agenda.todo && is_idle_disk s && not (list_any (is_gone s) s.entries) && not (has_to_seal s)
 
 -- ---- a chunk is read back
 

@@ -4,6 +4,7 @@ use Rattle.std.specs.Prelude.{ℕ, zero, suc, ◌+◌, ◌-◌, ◌*◌, ◌/◌
 use Rattle.std.specs.List.{list_any}
 use Rattle.pp_fresh.specs.declared.aging.Times.{Times}
 use Rattle.pp_head.specs.Request.{Request}
+use Rattle.pp_plan.specs.Need.{is_near}
 use Rattle.pp_plan.specs.Row.{Row}
 use Rattle.pp_plan.specs.Spans.{resolved, span_in}
 use Rattle.pp_target.specs.Key.{text_of}
@@ -11,7 +12,7 @@ use Rattle.pp_text.specs.Fields.{Field}
 use Rattle.pp_valid.specs.declared.version.Version.{Version}
 use Rattle.pp_law.specs.Chunks.{chunk_len, filled, is_in_memory}
 use Rattle.pp_law.specs.Lists.{Bytes, change, without, is_some_with, is_this}
-use Rattle.pp_law.specs.Stages.{reply_of}
+use Rattle.pp_law.specs.Stages.{reply_of, is_headed, bound_of}
 use Rattle.pp_law.specs.State.{State, Instance, Chunk, Entry, Exchange, Bound, Through, Own, Filling, Client, Reply}
 
 abbrev pub is_same_version : Version → Version → Bool
@@ -133,16 +134,16 @@ is_next_held s n = is_held s n.source n.at
 
 -- ---- what an exchange brings
 
--- the offset, and each before it in its chunk that is not in memory, are still to come
+-- the offset, and each before it in its chunk that is not in memory, are still to come, and soon enough
 abbrev pub is_to_come : State → Instance → Bound → ℕ → Bool
-is_to_come s x b at = (b.instance == x.id) && nat_lt at b.to && nat_le b.next (min at (at / chunk_len * chunk_len + filled x.id (at / chunk_len) s.chunks))
+is_to_come s x b at = (b.instance == x.id) && nat_lt at b.to && is_near b.next at && nat_le b.next (min at (at / chunk_len * chunk_len + filled x.id (at / chunk_len) s.chunks))
 
 -- its head has not come, and it asks for that offset of that version
 abbrev pub asks_for : Instance → ℕ → Exchange → Bool
-asks_for x at e = not e.is_headed && (elim e.aim [ Through ↦ false | Own ↦ false | Filling v from to ↦ bytes_eq (text_of e.key) x.key && bytes_eq v.tag x.version.tag && nat_le from at && nat_lt at to ])
+asks_for x at e = not (is_headed e) && (elim e.aim [ Through ↦ false | Own ↦ false | Filling v from to ↦ bytes_eq (text_of e.key) x.key && bytes_eq v.tag x.version.tag && nat_le from at && nat_lt at to && is_near from at ])
 
 abbrev pub brings : State → Instance → ℕ → Exchange → Bool
-brings s x at e = elim e.bound [ Some b ↦ is_to_come s x b at | None ↦ asks_for x at e ]
+brings s x at e = elim (bound_of e) [ Some b ↦ is_to_come s x b at | None ↦ asks_for x at e ]
 
 abbrev pub is_brought : State → Instance → ℕ → Bool
 is_brought s x at = list_any (brings s x at) s.exchanges
@@ -160,7 +161,7 @@ abbrev pub pin_of_client : State → Client → Option (ℕ × ℕ)
 pin_of_client s c = elim (next_of s c) [ None ↦ None | Some n ↦ Some (pin_of_next n) ]
 
 abbrev pub pin_of_exchange : Exchange → Option (ℕ × ℕ)
-pin_of_exchange e = elim e.bound [ None ↦ None | Some b ↦ elim (nat_lt b.next b.to) [ true ↦ Some (b.instance, b.next / chunk_len) | false ↦ None ] ]
+pin_of_exchange e = elim (bound_of e) [ None ↦ None | Some b ↦ elim (nat_lt b.next b.to) [ true ↦ Some (b.instance, b.next / chunk_len) | false ↦ None ] ]
 
 abbrev pub pins : State → List (ℕ × ℕ)
 pins s = filter_map (pin_of_client s) s.clients ++ filter_map pin_of_exchange s.exchanges
@@ -201,7 +202,7 @@ abbrev pub rows : State → ℕ
 rows s = count_by (λ x. not x.is_retired) s.instances
 
 abbrev pub is_bound_to : ℕ → Exchange → Bool
-is_bound_to id e = is_some_with (λ b. b.instance == id) e.bound
+is_bound_to id e = is_some_with (λ b. b.instance == id) (bound_of e)
 
 abbrev pub is_idle_row : State → Instance → Bool
 is_idle_row s x = not x.is_retired && not (is_followed s x.id) && not (list_any (is_bound_to x.id) s.exchanges)

@@ -1,19 +1,20 @@
 -- The steps of a turn: what each changes without a happening, and when it is done. The order of the steps is ours:
 --   1 the event, with at most one read or write    2 the table    3 the disk    4 decisions and cuts    5 exchanges of followers
 --   6 closings, then the places of exchanges        7 decisions and cuts that these bring, and then 5 to 7 again
-use Rattle.std.specs.Prelude.{ℕ, ◌-◌, Bool, true, false, ◌==◌, ◌&&◌, ◌||◌, not, nat_lt, nat_le, max, List, [], ◌∷◌, map, is_some, Option, Some, None}
+use Rattle.std.specs.Prelude.{ℕ, ◌-◌, Bool, true, false, ◌==◌, ◌&&◌, ◌||◌, not, nat_lt, nat_le, max, List, [], ◌∷◌, map, is_some, Option, Some, None, option_map}
 use Rattle.std.specs.List.{list_any}
 use Rattle.pp_world.specs.declared.event.Wants.{Wants}
 use Rattle.pp_text.specs.Bytes.{is_empty}
 use Rattle.pp_law.specs.Chunks.{victim}
 use Rattle.pp_law.specs.Due.{first_due}
 use Rattle.pp_law.specs.Sharing.{is_sharing, shared_ask}
-use Rattle.pp_law.specs.Connections.{is_for, on_client, on_conn, close_conn, placing, Pause, AllPlaced, WaitsDial, WaitsDrop}
+use Rattle.pp_law.specs.Connections.{conn, is_for, is_outstanding, front_of_line, fail, on_client, on_conn, close_conn, placing, Pause, AllPlaced, WaitsDial, WaitsDrop}
 use Rattle.pp_law.specs.Followers.{fill, give_up_asks}
-use Rattle.pp_law.specs.Lists.{has_number}
+use Rattle.pp_law.specs.Lists.{has_number, is_some_with}
 use Rattle.pp_law.specs.Offers.{has_to_say}
 use Rattle.pp_law.specs.Replies.{begin_replies}
-use Rattle.pp_law.specs.State.{State, Client, Conn, Exchange, Instance, Phase, Step, Owed, Free, ReadOf, WriteTo}
+use Rattle.pp_law.specs.Unseen.{drop_unseen, rested_exchange}
+use Rattle.pp_law.specs.State.{State, Shared, Client, Conn, Exchange, Instance, Phase, Step, Owed, Free, ReadOf, WriteTo}
 use Rattle.pp_law.specs.Store.{is_done_on_disk}
 use Rattle.pp_law.specs.Table.{next_of, brings, pins}
 
@@ -47,9 +48,9 @@ to_3 s = at_step 3 (behind_2 s)
 unfoldable pub to_4 : State → State
 to_4 s = at_step 4 (behind_2 s)
 
--- followers ask for what is missing; and again, once an exchange was given up in step 6, or somebody refused or cut in step 7
+-- what nobody will see is not read on, and followers ask for what is missing; and again, once an exchange was given up in step 6, or somebody refused or cut in step 7
 unfoldable pub to_6 : State → State
-to_6 s = elim ((step s == 6) && not s.is_again) [ true ↦ s | false ↦ fill (record (behind_2 s) { phase = Step 6; is_again = false }) ]
+to_6 s = elim ((step s == 6) && not s.is_again) [ true ↦ s | false ↦ fill (drop_unseen (record (behind_2 s) { phase = Step 6; is_again = false })) ]
 
 -- exchanges get their places, as far as no new connection is needed
 unfoldable pub to_7 : State → State
@@ -143,13 +144,27 @@ first_marks now s = elim s.has_ticked [
   | false ↦ record s { has_ticked = true; clients = map (marked_client now) s.clients; conns = map (marked_conn now) s.conns }
 ]
 
--- ours: an origin that did nothing for 60 seconds while it was waited for
-abbrev pub is_idle_conn : ℕ → Conn → Bool
-is_idle_conn now k = k.has_waited && nat_le 60 (now - k.mark) && not k.is_closing
+-- all of its first ask was written, and its answer is due
+abbrev pub owes_answer : State → Conn → Bool
+owes_answer s k = is_some_with (λ e. is_outstanding e && (e.body_left == 0)) (front_of_line s k)
 
-unfoldable pub close_idle : List Conn → State → State
+-- ours: an origin that did nothing while it was waited for, for 300 seconds where it owes an answer, and else for 60
+abbrev pub patience : State → Conn → ℕ
+patience s k = elim (owes_answer s k) [ true ↦ 300 | false ↦ 60 ]
+
+abbrev pub is_idle_conn : State → Conn → Bool
+is_idle_conn s k = k.has_waited && nat_le (patience s k) (s.clock - k.mark) && not k.is_closing
+
+-- what it did not answer is not asked again
+unfoldable pub end_patience : Conn → State → State
+end_patience k s = elim (owes_answer s k) [ false ↦ s | true ↦ elim (front_of_line s k) [ None ↦ s | Some e ↦ fail e s ] ]
+
+unfoldable pub close_idle_conn : Conn → State → State
+close_idle_conn k s = elim (is_idle_conn s k) [ true ↦ close_conn true k (end_patience k s) | false ↦ s ]
+
+unfoldable pub close_idle : List ℕ → State → State
 close_idle [] s = s
-close_idle (k ∷ ks) s = close_idle ks (elim (is_idle_conn s.clock k) [ true ↦ close_conn true k s | false ↦ s ])
+close_idle (n ∷ ns) s = close_idle ns (elim (conn s n) [ None ↦ s | Some k ↦ close_idle_conn k s ])
 
 -- who waited for an exchange, and was not written to, is not idle, however long the clock stood still
 abbrev pub woken_client : ℕ → State → Client → Client
@@ -161,7 +176,7 @@ renew_marks now s = record s { clients = map (woken_client now s) s.clients }
 unfoldable pub tick_to : ℕ → State → State
 tick_to now s =
     let t : State = record (renew_marks now (first_marks now s)) { clock = now; is_ticked = true } in
-    close_idle t.conns t
+    close_idle (map (λ k. k.number) t.conns) t
 
 -- the clock never goes back
 unfoldable pub tick : ℕ → State → State
@@ -172,11 +187,11 @@ tick now s = tick_to (max s.clock now) s
 unfoldable pub ending : State → State
 ending s = begin_replies (to_7 s)
 
-abbrev pub shared_with : State → Client → Option ℕ
-shared_with s c = elim (is_sharing s c) [ true ↦ shared_ask s c | false ↦ None ]
+abbrev pub shared_with : State → Client → Option Shared
+shared_with s c = elim (is_sharing s c) [ true ↦ option_map (λ n. record { exchange = n; since = s.clock }) (shared_ask s c) | false ↦ None ]
 
-abbrev pub awaited_by : State → Client → Option ℕ
-awaited_by s c = elim c.waits_on [ Some n ↦ Some n | None ↦ shared_with s c ]
+abbrev pub awaited_by : State → Client → Option Shared
+awaited_by s c = elim c.waits_on [ Some w ↦ Some w | None ↦ shared_with s c ]
 
 abbrev pub rested_client : State → Client → Client
 rested_client s c = record c {
@@ -200,6 +215,7 @@ unfoldable pub rest_with : Wants → State → State
 rest_with w s = record s {
   clients = map (rested_client s) s.clients;
   conns = map (rested_conn s w) s.conns;
+  exchanges = map (rested_exchange s) s.exchanges;
   instances = map rested_instance s.instances;
   phase = Step 0;
   is_ticked = false;
