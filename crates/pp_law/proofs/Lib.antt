@@ -13,4 +13,5 @@ mod IdleRows
 mod PipelineRows
 mod Mutations
 mod AnswerRows
+mod OriginRows
 mod OverRows
