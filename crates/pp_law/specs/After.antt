@@ -15,10 +15,11 @@ use Rattle.pp_law.specs.Connections.{client, conn, on_client, on_conn, is_client
 use Rattle.pp_law.specs.Lists.{Bytes, change, without}
 use Rattle.pp_law.specs.Opening.{woken, configured, opened_to, is_opening, lose_in_opening}
 use Rattle.pp_law.specs.Replies.{said_by, use_said, end_replies, regained}
+use Rattle.pp_law.specs.Repairs.{begin_in_opening}
 use Rattle.pp_law.specs.Requests.{NoHeadYet}
 use Rattle.pp_law.specs.Responses.{got, ended}
 use Rattle.pp_law.specs.State.{State, Client, Conn, Exchange, Instance, Brought, Awaited, Useless, Joins, Passes, TooWide, Trying, RowRefused, Undecided, IsRooted, IsListed, IsListening, Owed, Free, ReadOf, WriteTo}
-use Rattle.pp_law.specs.Store.{begin_in_turn, begin_in_opening, end_op, close_name, note_kept, note_gone, load}
+use Rattle.pp_law.specs.Store.{begin_in_turn, end_op, close_name, note_kept, note_gone, load}
 use Rattle.pp_law.specs.Table.{row, forget}
 use Rattle.pp_law.specs.Turn.{step, at_step, due_victim, is_awaiting, to_3, to_6, to_decide, touch, tick, ending, rest_with}
 

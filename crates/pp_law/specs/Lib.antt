@@ -8,6 +8,7 @@ pub mod Connections
 pub mod Offers
 pub mod Passing
 pub mod OwnHeads
+pub mod ThroughHeads
 pub mod Responses
 pub mod Unseen
 pub mod Hearing
@@ -21,6 +22,7 @@ pub mod Followers
 pub mod Asking
 pub mod Entries
 pub mod Store
+pub mod Repairs
 pub mod Opening
 pub mod Turn
 pub mod Served

@@ -14,7 +14,8 @@ use Rattle.pp_world.specs.declared.op.DiskOp.{DiskOp}
 use Rattle.pp_world.specs.declared.op.DiskOp.TheVariants.{Draft, SyncDraft, Publish, Write, Sync, Remove}
 use Rattle.pp_law.specs.Entries.{entries_in}
 use Rattle.pp_law.specs.Lists.{Bytes, has_text, is_some_with}
-use Rattle.pp_law.specs.Store.{is_idle_disk, has_stray_gates, lose_entry}
+use Rattle.pp_law.specs.Repairs.{has_stray_gates}
+use Rattle.pp_law.specs.Store.{is_idle_disk, lose_entry}
 use Rattle.pp_law.specs.State.{State, Term, no_term, start, Phase, Before, IsWoken, IsConfigured, IsRooted, IsListed, IsListening, IsStuck, Step}
 
 -- ---- the files

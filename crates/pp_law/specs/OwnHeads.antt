@@ -1,5 +1,6 @@
--- What the head of a response does to the row of its key (RFC 2616, sections 10.3.5, 13.5, 13.10 and 13.11; RFC 7233, sections 4.1 and 4.3).
-use Rattle.std.specs.Prelude.{ℕ, ◌+◌, Bool, true, false, ◌==◌, ◌&&◌, ◌||◌, not, nat_lt, nat_le, nat_eq, List, [], ◌∷◌, ◌++◌, length, bytes_eq, is_some, codes, Option, Some, None, Ok, Err}
+-- What the head of a response to an exchange of the cache's own does to the row of its key (RFC 2616, sections 10.3.5 and 13.5;
+-- RFC 7233, sections 4.1 and 4.3; RFC 7234, section 4.3.3).
+use Rattle.std.specs.Prelude.{ℕ, ◌+◌, Bool, true, false, ◌==◌, ◌&&◌, ◌||◌, not, nat_eq, List, [], ◌∷◌, length, bytes_eq, is_some, codes, Option, Some, None}
 use Rattle.std.specs.List.{list_any, starts_with}
 use Rattle.pp_fresh.specs.Age.{times_of}
 use Rattle.pp_fresh.specs.Guessing.{allows_guess}
@@ -8,14 +9,13 @@ use Rattle.pp_fresh.specs.declared.aging.Times.{Times}
 use Rattle.pp_framing.specs.declared.body.BodyRule.{BodyRule}
 use Rattle.pp_head.specs.Response.{Response}
 use Rattle.pp_objects.specs.Kept.{kept_of, refreshed_of, has_room}
-use Rattle.pp_plan.specs.Requests.{is_get, is_head}
-use Rattle.pp_target.specs.Key.{Key, key_at, text_of}
+use Rattle.pp_target.specs.Key.{text_of}
 use Rattle.pp_text.specs.Bytes.{is_empty, lower}
 use Rattle.pp_text.specs.Fields.{Field, has_field, values_of}
 use Rattle.pp_valid.specs.ContentRanges.{content_range_of}
 use Rattle.pp_valid.specs.Codings.{accepts_only_identity}
 use Rattle.pp_valid.specs.Conditions.{names_other_tag}
-use Rattle.pp_valid.specs.Versions.{body_length, version_of}
+use Rattle.pp_valid.specs.Versions.{version_of}
 use Rattle.pp_valid.specs.declared.content_range.ContentRange.{ContentRange}
 use Rattle.pp_valid.specs.declared.content_range.ContentRange.TheVariants.{Span, Unsatisfied}
 use Rattle.pp_valid.specs.declared.version.Version.{Version}
@@ -23,7 +23,6 @@ use Rattle.pp_law.specs.Chunks.{joined, note_use}
 use Rattle.pp_law.specs.Connections.{exchange, on_exchange, is_for, lose_attempt}
 use Rattle.pp_law.specs.Lists.{Bytes, change, is_some_with}
 use Rattle.pp_law.specs.Passing.{passed_by}
-use Rattle.pp_law.specs.Requests.{is_safe}
 use Rattle.pp_law.specs.Stages.{is_begun, bound_of}
 use Rattle.pp_law.specs.State.{State, Through, Own, Filling, Bound, Body, Joining, Relaying, Dropping, Brought, Useless, Joins, Passes, TooWide, Client, Exchange, Instance, Sent}
 use Rattle.pp_law.specs.Table.{is_same_version, row, kept_row, instance, extent_of, on_instance, mark_row, make_row, enter, clear, next_of, is_provided}
@@ -233,55 +232,6 @@ part_head e head rule s = elim (version_in e head) [
 
 unfoldable pub filling_head : Exchange → Response → BodyRule → State → State
 filling_head e head rule s = count_elsewhere e (part_head e head rule s)
-
--- "POST, PUT, DELETE": what they change is not known any more (RFC 2616, section 13.10)
-abbrev pub invalidates : Exchange → Response → Bool
-invalidates e head = not (is_safe e.head) && nat_le 200 head.status && nat_lt head.status 400
-
--- Location and Content-Location: a URL, or a path of the same host
-abbrev pub path_named : Key → Bytes → Option Key
-path_named key [] = None
-path_named key (b ∷ text) = elim (b == 47) [ true ↦ Some (record key { path = b ∷ text }) | false ↦ None ]
-
-abbrev pub key_named : Key → Bytes → Option Key
-key_named key text = elim (key_at text) [ Ok named ↦ Some named | Err fault ↦ path_named key text ]
-
-abbrev pub is_same_host : Key → Key → Bool
-is_same_host a b = bytes_eq a.host b.host && (a.port == b.port)
-
--- "the host part MUST be the same as in the Request-URI"
-unfoldable pub clear_named : Key → Bytes → State → State
-clear_named key text s = elim (key_named key text) [
-  | None ↦ s
-  | Some named ↦ elim (is_same_host named key) [ true ↦ clear (text_of named) s | false ↦ s ]
-]
-
-unfoldable pub clear_each : Key → List Bytes → State → State
-clear_each key [] s = s
-clear_each key (text ∷ texts) s = clear_each key texts (clear_named key text s)
-
-abbrev pub places_named : Response → List Bytes
-places_named head = values_of (codes "location") head.fields ++ values_of (codes "content-location") head.fields
-
-unfoldable pub invalidated : Exchange → Response → State → State
-invalidated e head s = elim (invalidates e head) [ true ↦ clear_each e.key (places_named head) (clear (key_of e) s) | false ↦ s ]
-
--- "if the new field values indicate that the cached entity differs from the current entity .. then the cache MUST treat the
--- cache entry as stale" (RFC 2616, section 9.4)
-abbrev pub shows_other : Response → Version → Bool
-shows_other head v = names_other_tag head.fields v.tag || is_some_with (λ n. not (n == v.length)) (body_length head.fields)
-
-abbrev pub disproves : Response → Version → Bool
-disproves head v = (head.status == 404) || (head.status == 410) || ((head.status == 200) && shows_other head v)
-
-abbrev pub reads : Exchange → Bool
-reads e = is_get e.head.method || is_head e.head.method
-
-unfoldable pub disproved : Exchange → Response → State → State
-disproved e head s = elim (reads e && is_some_with (disproves head) (known_version s (key_of e))) [ true ↦ clear (key_of e) s | false ↦ s ]
-
-unfoldable pub through_head : Exchange → Response → BodyRule → State → State
-through_head e head rule s = relay_head e head rule (disproved e head (invalidated e head s))
 
 -- ---- heads that answer no ask of this kind
 

@@ -21,9 +21,10 @@ use Rattle.pp_law.specs.Lists.{Bytes, is_some_with}
 use Rattle.pp_law.specs.Opening.{permits_woke, permits_configured, permits_rooted, permits_listens, is_at, is_opening, may_fail}
 use Rattle.pp_law.specs.Offers.{offer, is_at_body}
 use Rattle.pp_law.specs.Requests.{Front, NoHeadYet, NoHead, IsRequest}
+use Rattle.pp_law.specs.Repairs.{may_begin_in_opening}
 use Rattle.pp_law.specs.Served.{is_served}
 use Rattle.pp_law.specs.State.{State, Client, Instance, IsRooted, IsListed, IsListening}
-use Rattle.pp_law.specs.Store.{is_idle_disk, is_closed, is_named, is_acknowledged_as, may_note_gone, may_begin_in_turn, may_begin_in_opening, may_end_op}
+use Rattle.pp_law.specs.Store.{is_idle_disk, is_closed, is_named, is_acknowledged_as, may_note_gone, may_begin_in_turn, may_end_op}
 use Rattle.pp_law.specs.Table.{row, kept_row, instance, idle_row, extent_of, next_of, Next}
 use Rattle.pp_law.specs.Turn.{step, due_victim, is_awaiting, has_closings, to_3, to_6, to_decide, may_3, may_6, may_decide, may_end, ending, is_free}
 

@@ -15,8 +15,9 @@ use Rattle.pp_pipe.specs.Authentication.{binds_connection}
 use Rattle.pp_pipe.specs.Front.{is_interim, stays_open}
 use Rattle.pp_law.specs.Connections.{conn, on_conn, on_client_of, front_of_line, is_outstanding, fail, lose_attempt, end_exchange, close_conn}
 use Rattle.pp_law.specs.Lists.{Bytes, is_some_with}
-use Rattle.pp_law.specs.OwnHeads.{is_wrong_head, through_head, own_head, filling_head, note_sent, join_bound}
+use Rattle.pp_law.specs.OwnHeads.{is_wrong_head, own_head, filling_head, note_sent, join_bound}
 use Rattle.pp_law.specs.Passing.{pour, poured}
+use Rattle.pp_law.specs.ThroughHeads.{through_head}
 use Rattle.pp_law.specs.State.{State, Through, Own, Filling, Answer, Client, Conn, Exchange}
 
 -- ---- ends

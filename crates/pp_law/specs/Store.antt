@@ -172,35 +172,6 @@ is_idle_disk s = not (is_some s.under_way)
 abbrev pub may_note_gone : State → Bytes → Bool
 may_note_gone s key = is_idle_disk s && is_empty s.agenda.todo && list_any (λ e. is_entry_of key e && (is_gone s e || is_displaced s e)) s.entries
 
--- ---- recovery: gates behind the first that is closed are closed, and the file is synced
-
-abbrev pub file_under : State → Bytes → Bytes
-file_under s name = elim (view_of name s.disk).slot [ [] ↦ [] | file ∷ files ↦ bytes_in file ]
-
-abbrev pub gates_of : State → Entry → Bytes
-gates_of s e = take (chunks_of e.version.length) (drop 8192 (file_under s e.name))
-
-abbrev pub is_open_gate : ℕ → Bool
-is_open_gate gate = gate == 1
-
-abbrev pub has_stray_gates : State → Entry → Bool
-has_stray_gates s e = list_any is_open_gate (drop (leading_open (gates_of s e)) (gates_of s e))
-
-abbrev pub are_strays : State → ℕ → ℕ → Entry → Bool
-are_strays s at count e =
-    let gates = gates_of s e in
-    nat_lt (8192 + leading_open gates) at && nat_le (at + count) (8192 + length gates) && list_all is_open_gate (take count (drop (at - 8192) gates))
-
-abbrev pub closes_strays : State → Bytes → ℕ → Bytes → Entry → Bool
-closes_strays s name at bytes e = is_named name e && nat_lt 0 (length bytes) && list_all (λ b. b == 0) bytes && are_strays s at (length bytes) e
-
-abbrev pub repair_of : State → DiskOp → Option Agenda
-repair_of s (Write name at bytes) = elim (list_any (closes_strays s name at bytes) s.entries) [
-  | true ↦ Some (record { name = name; todo = Do (Write name at bytes) ∷ Do (Sync name) ∷ [] })
-  | false ↦ None
-]
-repair_of s op = None
-
 -- ---- operations
 
 abbrev pub is_first_todo : DiskOp → List Todo → Bool
@@ -231,15 +202,8 @@ going_on op a = elim (is_first_todo op a.todo) [ true ↦ Some a | false ↦ Non
 abbrev pub agenda_in_turn : DiskOp → State → Option Agenda
 agenda_in_turn op s = elim (is_empty s.agenda.todo) [ false ↦ going_on op s.agenda | true ↦ plan_for s op s.instances ]
 
--- in the opening, a repair
-abbrev pub agenda_in_opening : DiskOp → State → Option Agenda
-agenda_in_opening op s = elim (is_empty s.agenda.todo) [ false ↦ going_on op s.agenda | true ↦ repair_of s op ]
-
 abbrev pub may_begin_in_turn : DiskOp → State → Bool
 may_begin_in_turn op s = is_idle_disk s && is_some (agenda_in_turn op s)
-
-abbrev pub may_begin_in_opening : DiskOp → State → Bool
-may_begin_in_opening op s = is_idle_disk s && is_some (agenda_in_opening op s)
 
 unfoldable pub begin_op : DiskOp → Option Agenda → State → State
 begin_op op None s = s
@@ -247,9 +211,6 @@ begin_op op (Some a) s = record s { agenda = record a { todo = drop 1 a.todo }; 
 
 unfoldable pub begin_in_turn : DiskOp → State → State
 begin_in_turn op s = begin_op op (agenda_in_turn op s) s
-
-unfoldable pub begin_in_opening : DiskOp → State → State
-begin_in_opening op s = begin_op op (agenda_in_opening op s) s
 
 abbrev pub left_todo : List Todo → State → State
 left_todo todo s = record s { agenda = record { name = s.agenda.name; todo = todo } }
@@ -306,6 +267,9 @@ abbrev pub is_done_on_disk : State → Bool
 is_done_on_disk s = is_empty s.agenda.todo && is_idle_disk s && not (list_any (is_gone s) s.entries) && not (has_to_seal s)
 
 -- ---- a chunk is read back
+
+abbrev pub file_under : State → Bytes → Bytes
+file_under s name = elim (view_of name s.disk).slot [ [] ↦ [] | file ∷ files ↦ bytes_in file ]
 
 abbrev pub chunk_in_file : State → Entry → ℕ → Bytes
 chunk_in_file s e i = take (min chunk_len (e.version.length - i * chunk_len)) (drop (body_at e.version.length + i * chunk_len) (file_under s e.name))
