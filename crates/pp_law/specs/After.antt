@@ -1,5 +1,5 @@
 -- The state after one happening.
-use Rattle.std.specs.Prelude.{ℕ, ◌+◌, Bool, true, false, ◌==◌, ◌&&◌, ◌||◌, not, List, [], ◌∷◌, ◌++◌, length, map, filter, Some, None}
+use Rattle.std.specs.Prelude.{ℕ, ◌+◌, Bool, true, false, ◌==◌, ◌&&◌, ◌||◌, not, List, [], ◌∷◌, ◌++◌, length, drop, map, filter, Some, None}
 use Rattle.pp_world.specs.declared.event.Wants.{Wants}
 use Rattle.pp_world.specs.declared.happening.Happening.{Happening}
 use Rattle.pp_world.specs.declared.happening.Happening.TheVariants.{Woke, Waits, Clock, Opened, CanRead, CanWrite, Heard, HungUp, Said, Shut, Dialled, Undialled, Reached, Ended, Broke, Asked, Got, Dropped, NoneYet, Began, Did, Unread, Noted, Rooted, Listed, Listens, Configured, Printed, Stopped}
@@ -12,6 +12,7 @@ use Rattle.pp_law.specs.Closing.{close_client}
 use Rattle.pp_law.specs.Deciding.{decided}
 use Rattle.pp_law.specs.Due.{still_waits}
 use Rattle.pp_law.specs.Connections.{client, conn, on_client, on_conn, is_client, is_conn, put_on, lose_attempt, may_ask_again, end_exchange, placing, Placement, AllPlaced, WaitsDial, WaitsDrop}
+use Rattle.pp_law.specs.Leaving.{Leaving, ForAnother, ForMemory, BeforeDecision, leaving_as}
 use Rattle.pp_law.specs.Lists.{Bytes, change, without}
 use Rattle.pp_law.specs.Opening.{woken, configured, opened_to, is_opening, lose_in_opening}
 use Rattle.pp_law.specs.Replies.{said_by, use_said, end_replies, regained}
@@ -20,7 +21,7 @@ use Rattle.pp_law.specs.Requests.{NoHeadYet}
 use Rattle.pp_law.specs.Responses.{got, ended}
 use Rattle.pp_law.specs.State.{State, Client, Conn, Exchange, Instance, Brought, Awaited, Useless, Joins, Passes, TooWide, Trying, RowRefused, Undecided, IsRooted, IsListed, IsListening, Owed, Free, ReadOf, WriteTo}
 use Rattle.pp_law.specs.Store.{begin_in_turn, end_op, close_name, note_kept, note_gone, load}
-use Rattle.pp_law.specs.Table.{row, forget}
+use Rattle.pp_law.specs.Table.{forget}
 use Rattle.pp_law.specs.Turn.{step, at_step, due_victim, is_awaiting, to_3, to_6, to_decide, touch, tick, ending, rest_with}
 
 abbrev pub new_client : ℕ → ℕ → Client
@@ -114,15 +115,13 @@ refused_row x s =
     let t : State = forget x.id s in
     record t { clients = change (waits_for_row x.id) (λ c. record c { course = RowRefused }) t.clients }
 
-unfoldable pub forgotten_row : Instance → State → State
-forgotten_row x s = elim x.is_new [ true ↦ refused_row x s | false ↦ record (forget x.id (to_decide s)) { has_made_room = true } ]
+unfoldable pub leave_memory : Leaving → State → State
+leave_memory ForAnother s = record s { forgotten = drop 1 s.forgotten }
+leave_memory (ForMemory x) s = refused_row x s
+leave_memory (BeforeDecision x) s = record (forget x.id (to_decide s)) { has_made_room = true }
 
--- one that left memory, is to leave it before a decision, or was refused memory
 unfoldable pub forgotten_by : Bytes → State → State
-forgotten_by key s = elim s.forgotten [
-  | k ∷ keys ↦ record s { forgotten = keys }
-  | [] ↦ elim (row s key) [ None ↦ s | Some x ↦ forgotten_row x s ]
-]
+forgotten_by key s = elim (leaving_as s key) [ None ↦ s | Some how ↦ leave_memory how s ]
 
 unfoldable pub noted : Remark → State → State
 noted (Taken c i d) s = take_decision c (to_decide s) (λ x t. decided x d t)

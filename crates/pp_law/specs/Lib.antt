@@ -25,6 +25,7 @@ pub mod Store
 pub mod Repairs
 pub mod Opening
 pub mod Turn
+pub mod Leaving
 pub mod Served
 pub mod After
 pub mod Permits

@@ -21,6 +21,7 @@ use Rattle.pp_law.specs.Lists.{Bytes, is_some_with}
 use Rattle.pp_law.specs.Opening.{permits_woke, permits_configured, permits_rooted, permits_listens, is_at, is_opening, may_fail}
 use Rattle.pp_law.specs.Offers.{offer, is_at_body}
 use Rattle.pp_law.specs.Requests.{Front, NoHeadYet, NoHead, IsRequest}
+use Rattle.pp_law.specs.Leaving.{is_in_2, leaving_as}
 use Rattle.pp_law.specs.Repairs.{may_begin_in_opening}
 use Rattle.pp_law.specs.Served.{is_served}
 use Rattle.pp_law.specs.State.{State, Client, Instance, IsRooted, IsListed, IsListening}
@@ -93,27 +94,7 @@ may_cut s c cause = is_due_cut (first_due s) c cause || (is_same_cause cause Mem
 abbrev pub permits_cut : State → ℕ → Cause → Bool
 permits_cut s c cause = may_decide s && may_cut (to_decide s) c cause
 
--- ---- rows and chunks leave memory
-
-abbrev pub is_first : Bytes → List Bytes → Bool
-is_first key [] = false
-is_first key (k ∷ keys) = bytes_eq k key
-
--- the client whose decision is next brings a row in, where as many are there as may be
-abbrev pub forgets_next : State → Option Due → Bool
-forgets_next s None = false
-forgets_next s (Some (CutOff n cause)) = false
-forgets_next s (Some (Decide n i d)) = is_some_with (has_to_forget s) (client s n)
-
-abbrev pub may_forget : State → Bytes → Bool
-may_forget s key = forgets_next s (first_due s) && is_some_with (λ x. bytes_eq x.key key && not x.is_new) (idle_row s)
-
--- the row left memory for another; or it is one that memory was refused for; or it is to leave it before a decision
-abbrev pub permits_forgotten : State → Bytes → Bool
-permits_forgotten s key =
-    (nat_lt 0 (step s) && nat_le (step s) 2 && is_free s.owed && is_first key s.forgotten)
-    || (nat_lt 0 (step s) && nat_le (step s) 2 && is_empty s.forgotten && is_some_with (λ x. x.is_new) (row s key))
-    || (may_decide s && may_forget (to_decide s) key)
+-- ---- chunks leave memory
 
 abbrev pub is_chunk_of : State → Bytes → Bytes → ℕ → ℕ → ℕ × ℕ → Bool
 is_chunk_of s key tag n i place =
@@ -121,7 +102,7 @@ is_chunk_of s key tag n i place =
 
 abbrev pub permits_evicted : State → Bytes → Bytes → ℕ → ℕ → Bool
 permits_evicted s key tag n i =
-    nat_lt 0 (step s) && nat_le (step s) 2 && is_free s.owed && is_empty s.forgotten && is_some_with (is_chunk_of s key tag n i) (due_victim s)
+    is_in_2 s && is_empty s.forgotten && is_some_with (is_chunk_of s key tag n i) (due_victim s)
 
 -- ---- the disk
 
@@ -159,7 +140,7 @@ permits_noted s (Taken c i d) = permits_taken s c i d
 permits_noted s (Cut c cause) = permits_cut s c cause
 permits_noted s (Kept key tag n extent) = is_idle_disk s && is_acknowledged_as key tag n extent s.agenda.todo
 permits_noted s (Gone key) = may_3 s && may_note_gone (to_3 s) key
-permits_noted s (Forgotten key) = permits_forgotten s key
+permits_noted s (Forgotten key) = is_some (leaving_as s key)
 permits_noted s (Evicted key tag n i) = permits_evicted s key tag n i
 permits_noted s (Loaded key tag n i) = list_any (may_load s key tag n i) s.clients
 
