@@ -1,1 +1,3 @@
-mod Rows
+mod StandardRows
+mod TableRows
+mod Worked
