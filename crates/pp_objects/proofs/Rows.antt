@@ -1,7 +1,8 @@
 -- Worked fields of a row, as they are kept and renewed (RFC 2616, sections 10.3.5, 13.5.1 and 14.18).
-use Rattle.std.proofs.Common.{◌≡◌, refl, ℕ, true, false, List, [], ◌∷◌, replicate, codes}
+use Rattle.std.proofs.Common.{refl, ℕ, true, false, List, [], ◌∷◌, replicate, codes}
 use Rattle.std.specs.Fmt.{digits}
 use Rattle.httpdate.proofs.OnLiterals.{httpdate_on_literals}
+use Rattle.pp_text.proofs.Table.{Rows}
 use Rattle.pp_text.specs.Fields.{Field}
 use Rattle.pp_fresh.specs.declared.aging.Times.{Times}
 use Rattle.pp_objects.specs.Kept.{has_room, kept_of, refreshed_of}
@@ -14,38 +15,29 @@ at second = record { request = second; response = second; initial = 0; may_guess
 abbrev sunday : Times
 sunday = at 784111777
 
--- a response keeps what is not of its connection
-
-kept_0 : kept_of ((codes "Cache-Control", codes "max-age=60") ∷ (codes "Content-Type", codes "text/plain") ∷ (codes "Connection", codes "X-Hop, Upgrade") ∷ (codes "X-Hop", codes "1") ∷ (codes "Age", codes "7") ∷ (codes "Content-Length", codes "5") ∷ (codes "Date", codes "Sun, 06 Nov 1994 08:49:30 GMT") ∷ (codes "Expires", codes "0") ∷ (codes "ETag", codes "\"x\"") ∷ (codes "Cache-Control", codes "no-transform") ∷ []) sunday ≡ ((codes "Content-Type", codes "text/plain") ∷ (codes "ETag", codes "\"x\"") ∷ (codes "date", codes "Sun, 06 Nov 1994 08:49:30 GMT") ∷ (codes "Expires", codes "0") ∷ (codes "Cache-Control", codes "max-age=60") ∷ (codes "Cache-Control", codes "no-transform") ∷ [])
+a_response_keeps_what_is_not_of_its_connection_and_has_a_date : Rows (λ (fields : List Field). kept_of fields sunday) (
+    ((codes "Cache-Control", codes "max-age=60") ∷ (codes "Content-Type", codes "text/plain") ∷ (codes "Connection", codes "X-Hop, Upgrade") ∷ (codes "X-Hop", codes "1") ∷ (codes "Age", codes "7") ∷ (codes "Content-Length", codes "5") ∷ (codes "Date", codes "Sun, 06 Nov 1994 08:49:30 GMT") ∷ (codes "Expires", codes "0") ∷ (codes "ETag", codes "\"x\"") ∷ (codes "Cache-Control", codes "no-transform") ∷ [], (codes "Content-Type", codes "text/plain") ∷ (codes "ETag", codes "\"x\"") ∷ (codes "date", codes "Sun, 06 Nov 1994 08:49:30 GMT") ∷ (codes "Expires", codes "0") ∷ (codes "Cache-Control", codes "max-age=60") ∷ (codes "Cache-Control", codes "no-transform") ∷ [])
+    ∷ ((codes "Date", codes "yesterday") ∷ [], (codes "date", codes "Sun, 06 Nov 1994 08:49:37 GMT") ∷ [])
+    ∷ [])
 unfolding httpdate_on_literals digits
-kept_0 = refl
+a_response_keeps_what_is_not_of_its_connection_and_has_a_date = refl
 
--- a response without a date has the one of its coming
-
-dated_0 : kept_of ((codes "Date", codes "yesterday") ∷ []) sunday ≡ ((codes "date", codes "Sun, 06 Nov 1994 08:49:37 GMT") ∷ [])
+a_response_without_a_date_has_the_one_of_its_coming : Rows (λ (second : ℕ). refreshed_of ((codes "date", codes "Sun, 06 Nov 1994 08:49:37 GMT") ∷ []) [] (at second)) (
+    (951827696, (codes "date", codes "Tue, 29 Feb 2000 12:34:56 GMT") ∷ [])
+    ∷ (253402300800, [])
+    ∷ [])
 unfolding httpdate_on_literals digits
-dated_0 = refl
+a_response_without_a_date_has_the_one_of_its_coming = refl
 
-dated_1 : refreshed_of ((codes "date", codes "Sun, 06 Nov 1994 08:49:37 GMT") ∷ []) [] (at 951827696) ≡ ((codes "date", codes "Tue, 29 Feb 2000 12:34:56 GMT") ∷ [])
+a_refresh_takes_over_what_the_response_says_anew : Rows (λ (t : List Field × List Field). refreshed_of (kept_of t.0 sunday) t.1 (at 784111780)) (
+    (((codes "ETag", codes "\"x\"") ∷ (codes "Date", codes "Sun, 06 Nov 1994 08:49:30 GMT") ∷ (codes "Expires", codes "Sun, 06 Nov 1994 08:50:30 GMT") ∷ (codes "Cache-Control", codes "max-age=60") ∷ [], (codes "Date", codes "Sun, 06 Nov 1994 08:49:36 GMT") ∷ (codes "cache-control", codes "max-age=5") ∷ (codes "Content-Type", codes "text/html") ∷ []), (codes "ETag", codes "\"x\"") ∷ (codes "date", codes "Sun, 06 Nov 1994 08:49:36 GMT") ∷ (codes "Expires", codes "Sun, 06 Nov 1994 08:50:30 GMT") ∷ (codes "cache-control", codes "max-age=5") ∷ [])
+    ∷ [])
 unfolding httpdate_on_literals digits
-dated_1 = refl
+a_refresh_takes_over_what_the_response_says_anew = refl
 
-dated_2 : refreshed_of ((codes "date", codes "Tue, 29 Feb 2000 12:34:56 GMT") ∷ []) [] (at 253402300800) ≡ []
+the_renewed_lines_have_2048_bytes_at_most : Rows (λ (n : ℕ). has_room ((codes "date", codes "Sun, 06 Nov 1994 08:49:37 GMT") ∷ []) ((codes "Cache-Control", replicate n 97) ∷ []) sunday) (
+    (1994, true)
+    ∷ (1995, false)
+    ∷ [])
 unfolding httpdate_on_literals digits
-dated_2 = refl
-
--- a refresh takes over what the response says anew
-
-renewed_0 : refreshed_of (kept_of ((codes "ETag", codes "\"x\"") ∷ (codes "Date", codes "Sun, 06 Nov 1994 08:49:30 GMT") ∷ (codes "Expires", codes "Sun, 06 Nov 1994 08:50:30 GMT") ∷ (codes "Cache-Control", codes "max-age=60") ∷ []) sunday) ((codes "Date", codes "Sun, 06 Nov 1994 08:49:36 GMT") ∷ (codes "cache-control", codes "max-age=5") ∷ (codes "Content-Type", codes "text/html") ∷ []) (at 784111780) ≡ ((codes "ETag", codes "\"x\"") ∷ (codes "date", codes "Sun, 06 Nov 1994 08:49:36 GMT") ∷ (codes "Expires", codes "Sun, 06 Nov 1994 08:50:30 GMT") ∷ (codes "cache-control", codes "max-age=5") ∷ [])
-unfolding httpdate_on_literals digits
-renewed_0 = refl
-
--- the renewed lines have 2,048 bytes at most
-
-room_0 : has_room ((codes "date", codes "Sun, 06 Nov 1994 08:49:37 GMT") ∷ []) ((codes "Cache-Control", replicate 1994 97) ∷ []) sunday ≡ true
-unfolding httpdate_on_literals digits
-room_0 = refl
-
-room_1 : has_room ((codes "date", codes "Sun, 06 Nov 1994 08:49:37 GMT") ∷ []) ((codes "Cache-Control", replicate 1995 97) ∷ []) sunday ≡ false
-unfolding httpdate_on_literals digits
-room_1 = refl
+the_renewed_lines_have_2048_bytes_at_most = refl
