@@ -12,7 +12,7 @@ use Rattle.pp_law.specs.Connections.{on_client, is_for, is_trying}
 use Rattle.pp_law.specs.Lists.{Bytes, is_some_with, without}
 use Rattle.pp_law.specs.Requests.{NoHeadYet, NoHead, IsRequest}
 use Rattle.pp_law.specs.State.{State, Through, Own, Filling, Pending, AskTooLong, Client, Exchange}
-use Rattle.pp_law.specs.Table.{next_of, Next, is_brought, brings, held_to, next_held, chunks_in}
+use Rattle.pp_law.specs.Table.{next_of, Next, is_brought, brings, held_to, next_held}
 
 -- ---- step 5
 
@@ -20,7 +20,7 @@ use Rattle.pp_law.specs.Table.{next_of, Next, is_brought, brings, held_to, next_
 abbrev pub hole_of : State → Next → ℕ × ℕ
 hole_of s n =
     let chunk = n.at / chunk_len in
-    (held_to s n.source (chunk * chunk_len), next_held (chunks_in n.source.version.length) s n.source (chunk + 1))
+    (held_to s n.source (chunk * chunk_len), next_held s n.source (chunk + 1))
 
 -- of a version that was retired nothing is asked, nor what comes
 abbrev pub need_of : State → Next → Option (ℕ × ℕ)

@@ -16,7 +16,7 @@ use Rattle.pp_world.specs.declared.op.DiskOp.{DiskOp}
 use Rattle.pp_world.specs.declared.op.DiskOp.TheVariants.{Draft, SyncDraft, Publish, Write, Sync, Remove}
 use Rattle.pp_law.specs.Chunks.{chunk_len, chunk_bytes, filled, put_chunk, note_use}
 use Rattle.pp_law.specs.Lists.{Bytes, change, without, has_text, is_some_with}
-use Rattle.pp_law.specs.State.{State, Agenda, no_agenda, Entry, Instance, Todo, Do, Enter, Acknowledge}
+use Rattle.pp_law.specs.State.{State, Chunk, Agenda, no_agenda, Entry, Instance, Todo, Do, Enter, Acknowledge}
 use Rattle.pp_law.specs.Table.{row, kept_row, is_same_version, is_entry_of, is_kept_row_of}
 
 abbrev pub is_same_op : DiskOp → DiskOp → Bool
@@ -56,13 +56,13 @@ new_entry x extent = record { name = name_of x.key; key = x.key; version = x.ver
 abbrev pub run_len : State → ℕ
 run_len s = max 1 (min s.settings.disk_run (s.settings.critical / 128))
 
-abbrev pub is_whole_chunk : State → Instance → ℕ → Bool
-is_whole_chunk s x i = nat_lt (i * chunk_len) x.version.length && (filled x.id i s.chunks == min chunk_len (x.version.length - i * chunk_len))
+abbrev pub is_whole_chunk : ℕ → ℕ → List Chunk → ℕ → Bool
+is_whole_chunk n id chunks i = nat_lt (i * chunk_len) n && (filled id i chunks == min chunk_len (n - i * chunk_len))
 
 -- how many whole chunks stand in memory from this one on, so many at most
-abbrev pub whole_run : ℕ → State → Instance → ℕ → ℕ
-whole_run zero s x i = 0
-whole_run (suc more) s x i = elim (is_whole_chunk s x i) [ true ↦ 1 + whole_run more s x (i + 1) | false ↦ 0 ]
+abbrev pub whole_run : ℕ → ℕ → ℕ → List Chunk → ℕ → ℕ
+whole_run zero n id chunks i = 0
+whole_run (suc more) n id chunks i = elim (is_whole_chunk n id chunks i) [ true ↦ 1 + whole_run more n id chunks (i + 1) | false ↦ 0 ]
 
 -- the offset behind so many chunks
 abbrev pub end_of_run : Instance → Entry → ℕ → ℕ
@@ -75,13 +75,13 @@ is_full_run s x e count = nat_lt 0 count && ((count == run_len s) || (end_of_run
 abbrev pub may_seal : State → Instance → Entry → Bool
 may_seal s x e = not x.is_retired && is_same_version x.version e.version && not (is_closed s e.name) && nat_lt e.extent x.version.length
 
-abbrev pub run_bytes : ℕ → State → Instance → ℕ → Bytes
-run_bytes zero s x i = []
-run_bytes (suc more) s x i = chunk_bytes x.id i s.chunks ++ run_bytes more s x (i + 1)
+abbrev pub run_bytes : ℕ → ℕ → List Chunk → ℕ → Bytes
+run_bytes zero id chunks i = []
+run_bytes (suc more) id chunks i = chunk_bytes id i chunks ++ run_bytes more id chunks (i + 1)
 
 -- how many chunks the next run has
 abbrev pub run_from : State → Instance → Entry → ℕ
-run_from s x e = whole_run (run_len s) s x (e.extent / chunk_len)
+run_from s x e = whole_run (run_len s) x.version.length x.id s.chunks (e.extent / chunk_len)
 
 -- ---- an entry is drafted
 
@@ -100,7 +100,7 @@ abbrev pub drafted_with : State → Instance → ℕ
 drafted_with s x = elim (nat_lt 1 (run_len s) && nat_le (chunks_of x.version.length) (run_len s)) [ true ↦ x.version.length | false ↦ 0 ]
 
 abbrev pub file_of : State → Instance → Bytes
-file_of s x = whole_file (padded (block_of x)) x.version.length (run_bytes (chunks_of (drafted_with s x)) s x 0)
+file_of s x = whole_file (padded (block_of x)) x.version.length (run_bytes (chunks_of (drafted_with s x)) x.id s.chunks 0)
 
 -- what is behind its gates is noted
 abbrev pub noting : Instance → ℕ → List Todo
@@ -118,7 +118,7 @@ draft_of s x = elim (may_draft s x) [ true ↦ Some (record { name = name_of x.k
 abbrev pub sealing : State → Instance → Entry → ℕ → List Todo
 sealing s x e count =
     let first = e.extent / chunk_len in
-    map Do (seal_ops e.name x.version.length first count (run_bytes count s x first))
+    map Do (seal_ops e.name x.version.length first count (run_bytes count x.id s.chunks first))
     ++ Acknowledge x.key x.version.tag x.version.length (end_of_run x e count) ∷ []
 
 abbrev pub seal_with : State → Instance → Entry → Option Agenda

@@ -10,7 +10,7 @@ use Rattle.pp_plan.specs.Spans.{resolved, span_in}
 use Rattle.pp_target.specs.Key.{text_of}
 use Rattle.pp_text.specs.Fields.{Field}
 use Rattle.pp_valid.specs.declared.version.Version.{Version}
-use Rattle.pp_law.specs.Chunks.{chunk_len, filled, is_in_memory}
+use Rattle.pp_law.specs.Chunks.{chunk_len, filled}
 use Rattle.pp_law.specs.Lists.{Bytes, change, without, is_some_with, is_this}
 use Rattle.pp_law.specs.Stages.{reply_of, is_headed, bound_of}
 use Rattle.pp_law.specs.State.{State, Instance, Chunk, Entry, Exchange, Bound, Through, Own, Filling, Client, Reply}
@@ -48,8 +48,11 @@ extent_of s x = elim x.is_retired [ true ↦ 0 | false ↦ elim (kept_row s x.ke
 -- ---- what is held
 
 -- in memory, or below the extent on disk
+abbrev pub is_held_by : ℕ → ℕ → List Chunk → ℕ → Bool
+is_held_by id extent chunks at = nat_lt at extent || nat_lt (at % chunk_len) (filled id (at / chunk_len) chunks)
+
 abbrev pub is_held : State → Instance → ℕ → Bool
-is_held s x at = nat_lt at (extent_of s x) || is_in_memory s x.id at
+is_held s x at = is_held_by x.id (extent_of s x) s.chunks at
 
 abbrev pub chunks_in : ℕ → ℕ
 chunks_in n = (n + chunk_len - 1) / chunk_len
@@ -76,9 +79,15 @@ abbrev pub is_span_held : State → Instance → ℕ × ℕ → Bool
 is_span_held s x span = nat_le span.1 span.0 || nat_le span.1 (held_to s x span.0)
 
 -- the first offset of the next chunk, from this one on, of which any is held; or the end
-abbrev pub next_held : ℕ → State → Instance → ℕ → ℕ
-next_held zero s x i = x.version.length
-next_held (suc more) s x i = elim (is_held s x (i * chunk_len)) [ true ↦ i * chunk_len | false ↦ next_held more s x (i + 1) ]
+abbrev pub next_run : ℕ → ℕ → ℕ → ℕ → List Chunk → ℕ → ℕ
+next_run zero n id extent chunks i = n
+next_run (suc more) n id extent chunks i = elim (is_held_by id extent chunks (i * chunk_len)) [
+  | true ↦ i * chunk_len
+  | false ↦ next_run more n id extent chunks (i + 1)
+]
+
+abbrev pub next_held : State → Instance → ℕ → ℕ
+next_held s x i = next_run (chunks_in x.version.length) x.version.length x.id (extent_of s x) s.chunks i
 
 -- ---- the row that a decision sees
 
