@@ -66,7 +66,7 @@ impl<R: Runtime + AllocGlobal + Net + Files<File = File>> Disk for NetWorld<R> {
     }
 
     fn sync_draft(&mut self) -> Result<(), DiskFault> {
-        let done = self.folder.sync_draft(&self.rt);
+        let done = self.folder.sync_draft();
         self.or_fault(done)
     }
 

@@ -1,28 +1,27 @@
 // The folder of files: where it stands, the lock on it, and the calls on its files.
 //
-// No file is kept open from one call to the next: each call finds it anew, by the path of the folder.
+// A write that did not reach the disk is told once, to the next sync of a file that was open then; one that is closed before,
+// and found anew by its name, may tell nothing (fsync(2), 'ERRORS'). So what was written is synced by the handle that wrote it.
 ghost use Rattle.std.specs.Prelude.{◌≤◌, length, IfOk};
 ghost use Rattle.pp_world.specs.Disk.{AreNames};
 
+use crate::held::{Held, is_held, take_held};
 use crate::listing;
+use crate::place::{PATH_LEN, joined, make, path_of_folder};
 use arrayvec::ArrayString;
 use pp_world::{Name, NamesFault};
 use std::alloc::Global;
 use std::fs::{File, OpenOptions};
 use std::io::{ErrorKind, Write};
-use std::os::unix::fs::FileExt;
-use std::path::Path;
+use std::os::unix::fs::{FileExt, MetadataExt, OpenOptionsExt};
 use std::rt::{Files, Runtime};
 use std::{fs, io};
 
-/// The longest path of a file, in bytes: the folder's, which has 255 at most, a slash and a name.
-const PATH_LEN: usize = 288;
-
-/// The longest path of a folder, in bytes.
-const FOLDER_LEN: usize = 255;
-
 /// The draft has a name that no other file of the folder is given.
 const DRAFT: &[u8] = b"draft";
+
+/// A file is for the user of the proxy alone.
+const FILE_MODE: u32 = 0o600;
 
 /// The folder of files.
 #[derive(Drop)]
@@ -39,50 +38,64 @@ pub struct Root {
     path: ArrayString<PATH_LEN>,
     // The folder itself. It carries the lock, and the names in it are synced through it.
     handle: File,
+    // The draft, since all its bytes were written.
+    drafted: Option<File>,
+    // The file that was written last.
+    written: Option<Held>,
+    // The file that was read last, since its pieces are read one after another.
+    read: Option<Held>,
 }
 
 impl Folder {
-    /// Opens the folder. It is made where it is not there, but no folder above it is.
+    /// Opens the folder. It is made where it is not there, but no folder above it is. The names in it stand through a crash
+    /// from then on, though a program that was stopped may have left some that did not.
     pub fn open<R: Files<File = File>>(files: &R, folder: &[u8]) -> io::Result<Folder> {
         let path = path_of_folder(folder)?;
         make(files, path.as_str())?;
         let handle = File::open(files, path.as_str())?;
         handle.try_lock()?;
-        Ok(Folder::Open(Root { path, handle }))
+        handle.sync_all()?;
+        Ok(Folder::Open(Root {
+            path,
+            handle,
+            drafted: None,
+            written: None,
+            read: None,
+        }))
     }
 
-    fn root(&self) -> io::Result<&Root> {
+    fn root(&mut self) -> io::Result<&mut Root> {
         match self {
             Folder::Open(root) => Ok(root),
             Folder::Closed => Err(io::Error::from(ErrorKind::NotFound)),
         }
     }
 
-    fn path(&self, name: &[u8]) -> io::Result<ArrayString<PATH_LEN>> {
-        let Ok(name) = str::from_utf8(name) else {
-            return Err(io::Error::from(ErrorKind::InvalidFilename));
-        };
-        joined(self.root()?.path, name)
-    }
-
-    // Makes the names in the folder stand through a crash.
-    fn sync_names(&self) -> io::Result<()> {
-        self.root()?.handle.sync_all()
-    }
-
     /// The names of 32 lower hexadecimal digits, in order.
-    pub fn names<R: Runtime>(&self, rt: &R, alloc: Global) -> Result<Vec<Name>, NamesFault>
+    pub fn names<R: Runtime + Files<File = File>>(
+        &self,
+        rt: &R,
+        alloc: Global,
+    ) -> Result<Vec<Name>, NamesFault>
         ensures { IfOk result (λ names. AreNames names.items) }
     {
-        match self.root() {
-            Ok(root) => listing::names(rt, alloc, root.path.as_str()),
-            Err(_) => Err(NamesFault::Disk),
+        match self {
+            Folder::Open(root) => listing::names(rt, alloc, root.path.as_str()),
+            Folder::Closed => Err(NamesFault::Disk),
+        }
+    }
+
+    /// Whether the path names another folder by now, or none.
+    pub fn is_moved<R: Files>(&self, files: &R) -> bool {
+        match self {
+            Folder::Open(root) => !root.is_in_place(files),
+            Folder::Closed => false,
         }
     }
 
     /// How many bytes the file has: 0 where there is none.
-    pub fn length<R: Files>(&self, files: &R, name: &Name) -> io::Result<u64> {
-        match fs::metadata(files, self.path(name)?.as_str()) {
+    pub fn length<R: Files>(&mut self, files: &R, name: &Name) -> io::Result<u64> {
+        match fs::metadata(files, self.root()?.path(name)?.as_str()) {
             Ok(found) => Ok(found.len()),
             Err(e) if e.kind() == ErrorKind::NotFound => Ok(0),
             Err(e) => Err(e),
@@ -92,7 +105,7 @@ impl Folder {
     /// Reads the file from an offset on, as far as it or the buffer goes. Where there is no file,
     /// nothing is read.
     pub fn read<R: Files<File = File>>(
-        &self,
+        &mut self,
         files: &R,
         name: &Name,
         at: u64,
@@ -100,90 +113,149 @@ impl Folder {
     ) -> io::Result<usize>
         ensures { IfOk result (λ n. n ≤ length buf.new) }
     {
-        match File::open(files, self.path(name)?.as_str()) {
-            Ok(file) => read_from(&file, at, buf),
-            Err(e) if e.kind() == ErrorKind::NotFound => Ok(0),
-            Err(e) => Err(e),
-        }
+        let root = self.root()?;
+        let held = match root.reader(files, name) {
+            Ok(held) => held,
+            Err(e) if e.kind() == ErrorKind::NotFound => return Ok(0),
+            Err(e) => return Err(e),
+        };
+        let count = read_from(&held.file, at, buf)?;
+        root.read = Some(held);
+        Ok(count)
     }
 
     /// Makes the draft hold just these bytes.
-    pub fn draft<R: Files<File = File>>(&self, files: &R, bytes: &[u8]) -> io::Result<()> {
-        let mut file = File::create(files, self.path(DRAFT)?.as_str())?;
-        file.write_all(bytes)
+    pub fn draft<R: Files<File = File>>(&mut self, files: &R, bytes: &[u8]) -> io::Result<()> {
+        let root = self.root()?;
+        root.drafted = None;
+        let mut file = OpenOptions::new()
+            .write(true)
+            .create(true)
+            .truncate(true)
+            .mode(FILE_MODE)
+            .open(files, root.path(DRAFT)?.as_str())?;
+        file.write_all(bytes)?;
+        root.drafted = Some(file);
+        Ok(())
     }
 
-    /// Makes what the draft holds stand through a crash.
-    pub fn sync_draft<R: Files<File = File>>(&self, files: &R) -> io::Result<()> {
-        File::open(files, self.path(DRAFT)?.as_str())?.sync_all()
+    /// Makes what the draft holds stand through a crash. Where that fails, there is no draft any more.
+    pub fn sync_draft(&mut self) -> io::Result<()> {
+        let root = self.root()?;
+        let file = root.take_draft()?;
+        file.sync_data()?;
+        root.drafted = Some(file);
+        Ok(())
     }
 
     /// Makes the draft the file of this name, in one step.
-    pub fn publish<R: Files>(&self, files: &R, name: &Name) -> io::Result<()> {
-        fs::rename(files, self.path(DRAFT)?.as_str(), self.path(name)?.as_str())?;
-        self.sync_names()
+    pub fn publish<R: Files>(&mut self, files: &R, name: &Name) -> io::Result<()> {
+        let root = self.root()?;
+        let file = root.take_draft()?;
+        root.let_go(name);
+        fs::rename(files, root.path(DRAFT)?.as_str(), root.path(name)?.as_str())?;
+        root.handle.sync_all()?;
+        root.written = Some(Held::of(*name, file));
+        Ok(())
     }
 
     /// Writes over a file that is there, from an offset on.
     pub fn write<R: Files<File = File>>(
-        &self,
+        &mut self,
         files: &R,
         name: &Name,
         at: u64,
         bytes: &[u8],
     ) -> io::Result<()> {
-        let path = self.path(name)?;
-        let file = OpenOptions::new().write(true).open(files, path.as_str())?;
-        file.write_all_at(bytes, at)
+        let root = self.root()?;
+        let held = root.writer(files, name)?;
+        held.file.write_all_at(bytes, at)?;
+        root.written = Some(held);
+        Ok(())
     }
 
     /// Makes what the file holds stand through a crash.
-    pub fn sync<R: Files<File = File>>(&self, files: &R, name: &Name) -> io::Result<()> {
-        File::open(files, self.path(name)?.as_str())?.sync_all()
+    pub fn sync<R: Files<File = File>>(&mut self, files: &R, name: &Name) -> io::Result<()> {
+        let root = self.root()?;
+        if !is_held(&root.written, name) {
+            return File::open(files, root.path(name)?.as_str())?.sync_data();
+        }
+        let held = root.writer(files, name)?;
+        held.file.sync_data()?;
+        root.written = Some(held);
+        Ok(())
     }
 
     /// Takes the file away. That there was none is no fault: also then the folder is synced, since a
     /// removal may stand in it that no crash was to undo.
-    pub fn remove<R: Files>(&self, files: &R, name: &Name) -> io::Result<()> {
-        match fs::remove_file(files, self.path(name)?.as_str()) {
+    pub fn remove<R: Files>(&mut self, files: &R, name: &Name) -> io::Result<()> {
+        let root = self.root()?;
+        root.let_go(name);
+        match fs::remove_file(files, root.path(name)?.as_str()) {
             Ok(()) => {}
             Err(e) if e.kind() == ErrorKind::NotFound => {}
             Err(e) => return Err(e),
         }
-        self.sync_names()
+        root.handle.sync_all()
     }
 }
 
-fn path_of_folder(folder: &[u8]) -> io::Result<ArrayString<PATH_LEN>> {
-    let Ok(folder) = str::from_utf8(folder) else {
-        return Err(io::Error::from(ErrorKind::InvalidFilename));
-    };
-    if folder.len() > FOLDER_LEN {
-        return Err(io::Error::from(ErrorKind::InvalidFilename));
+impl Root {
+    fn is_in_place<R: Files>(&self, files: &R) -> bool {
+        match (
+            fs::metadata(files, self.path.as_str()),
+            self.handle.metadata(),
+        ) {
+            (Ok(there), Ok(held)) => there.dev() == held.dev() && there.ino() == held.ino(),
+            (Ok(_), Err(_)) | (Err(_), _) => false,
+        }
     }
-    joined(joined(ArrayString::new(), folder)?, "/")
-}
 
-fn joined(path: ArrayString<PATH_LEN>, end: &str) -> io::Result<ArrayString<PATH_LEN>> {
-    let mut path = path;
-    match path.try_push_str(end) {
-        Ok(()) => Ok(path),
-        Err(_) => Err(io::Error::from(ErrorKind::InvalidFilename)),
+    fn path(&self, name: &[u8]) -> io::Result<ArrayString<PATH_LEN>> {
+        let Ok(name) = str::from_utf8(name) else {
+            return Err(io::Error::from(ErrorKind::InvalidFilename));
+        };
+        joined(self.path, name)
     }
-}
 
-// Makes the folder, and its name stand through a crash. Its name may be there and not stand yet, where the
-// program that made it was stopped.
-fn make<R: Files<File = File>>(files: &R, path: &str) -> io::Result<()> {
-    match fs::create_dir(files, path) {
-        Ok(()) => {}
-        Err(e) if e.kind() == ErrorKind::AlreadyExists => {}
-        Err(e) => return Err(e),
+    // The handle that read this file last, or a new one.
+    fn reader<R: Files<File = File>>(&mut self, files: &R, name: &Name) -> io::Result<Held> {
+        match take_held(&mut self.read, name) {
+            Some(held) => Ok(held),
+            None => {
+                let path = self.path(name)?;
+                Ok(Held::of(*name, File::open(files, path.as_str())?))
+            }
+        }
     }
-    match Path::new(path).parent() {
-        Some(parent) if parent.as_str().is_empty() => File::open(files, ".")?.sync_all(),
-        Some(parent) => File::open(files, parent)?.sync_all(),
-        None => Ok(()),
+
+    fn take_draft(&mut self) -> io::Result<File> {
+        match self.drafted.take() {
+            Some(file) => Ok(file),
+            None => Err(io::Error::from(ErrorKind::NotFound)),
+        }
+    }
+
+    // The handle that wrote this file last, or a new one.
+    fn writer<R: Files<File = File>>(&mut self, files: &R, name: &Name) -> io::Result<Held> {
+        match take_held(&mut self.written, name) {
+            Some(held) => Ok(held),
+            None => {
+                let path = self.path(name)?;
+                let file = OpenOptions::new().write(true).open(files, path.as_str())?;
+                Ok(Held::of(*name, file))
+            }
+        }
+    }
+
+    // Holds the file of this name no more, since another is to stand there, or none.
+    fn let_go(&mut self, name: &Name) {
+        if is_held(&self.written, name) {
+            self.written = None;
+        }
+        if is_held(&self.read, name) {
+            self.read = None;
+        }
     }
 }
 

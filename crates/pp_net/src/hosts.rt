@@ -26,12 +26,14 @@ struct Host {
     since: u64,
 }
 
+/// What the system answered lately.
 #[derive(Drop)]
 pub struct Hosts {
     hosts: Vec<Host>,
 }
 
 impl Hosts {
+    /// Nothing was asked yet.
     pub fn new(alloc: Global) -> Result<Hosts, AllocError> {
         Ok(Hosts {
             hosts: Vec::with_capacity(alloc, HOSTS)?,

@@ -4,8 +4,9 @@
 //! reported is kept beside the connection until a call finds that it would wait. `next` answers from what
 //! is kept, everyone in turn, and asks the system when nothing is left, up to the end of the second.
 //!
-//! A folder of files is locked as long as the world lives, so that no second program works in it. No file
-//! is kept open. What is to stand through a crash is synced, the names in the folder by the folder itself.
+//! A folder of files is locked as long as the world lives, so that no second program works in it, and is left
+//! where its path names another. What is to stand through a crash is synced: a file by the handle that wrote
+//! it, the names in the folder by the folder itself. What a life finds is synced once at its begin.
 //!
 //! To the layer above: `NetWorld` is a `Wire` and a `Disk` that tells no log. Its count of faults rises at
 //! each fault, and no number is given twice. What the sockets and the files hold, no clause can say.
@@ -18,18 +19,17 @@ mod connection; // one connection: its phase, and its bytes
 mod connections; // all of them, by number
 mod console; // what is printed, and where
 mod disk; // the calls on files
-#[cfg(test)]
-mod disk_tests;
 mod door; // the listener
 mod files; // the front of a configuration
-mod folder; // the folder of files, and its lock
+mod folder; // the folder of files, its lock, and the calls on its files
+mod held; // a file that is held open
 mod hosts; // addresses of names, for a few seconds
 mod listing; // the names in the folder
 mod net_world; // the tables, the counts, and how the system is asked
+mod place; // where the folder stands, and how it is made
 mod readiness; // in which directions a call need not wait
 mod rotation; // whose turn it is
-#[cfg(test)]
-mod tests;
 mod wire; // the calls on connections
 
+pub use hosts::Hosts;
 pub use net_world::{NetFault, NetWorld};

@@ -6,9 +6,9 @@ ghost use Rattle.pp_world.specs.Disk.{AreNames, is_name, is_name_byte, is_rising
 use pp_world::{Name, NamesFault};
 use std::alloc::{AllocError, Global};
 use std::collections::BTreeSet;
-use std::fs::FileType;
+use std::fs::{File, FileType};
 use std::io::ErrorKind;
-use std::rt::Runtime;
+use std::rt::{Files, Runtime};
 use std::{fs, io};
 
 /// How many names are listed at most.
@@ -16,7 +16,14 @@ const MOST_NAMES: usize = 65_536;
 
 /// The names of 32 lower hexadecimal digits in a folder, in the order of their bytes, and at most the first
 /// `MOST_NAMES`. What is known to be no file, as a folder or a pipe, is left out: to open it might wait.
-pub fn names<R: Runtime>(rt: &R, alloc: Global, folder: &str) -> Result<Vec<Name>, NamesFault>
+///
+/// Each file is synced, since a program that was stopped may have left bytes that are read and do not stand
+/// yet. One that cannot be is left out too: what is read of it might not be what the disk has.
+pub fn names<R: Runtime + Files<File = File>>(
+    rt: &R,
+    alloc: Global,
+    folder: &str,
+) -> Result<Vec<Name>, NamesFault>
     ensures { IfOk result (λ names. AreNames names.items) }
 {
     let entries = match fs::read_dir(rt, folder) {
@@ -29,6 +36,7 @@ pub fn names<R: Runtime>(rt: &R, alloc: Global, folder: &str) -> Result<Vec<Name
             Ok(entry) => {
                 if let Some(name) = as_name(entry.file_name())
                     && may_be_file(&entry.file_type())
+                    && sync(rt, entry.path().as_str()).is_ok()
                     && keep(&mut least, name).is_err()
                 {
                     return Err(NamesFault::OutOfMemory);
@@ -51,6 +59,11 @@ fn may_be_file(kind: &io::Result<FileType>) -> bool {
         Ok(kind) => kind.is_file(),
         Err(_) => true,
     }
+}
+
+// Makes what the file holds stand through a crash.
+fn sync<R: Files<File = File>>(files: &R, path: &str) -> io::Result<()> {
+    File::open(files, path)?.sync_data()
 }
 
 fn cause(error: &io::Error) -> NamesFault {

@@ -5,6 +5,7 @@ ghost use Rattle.pp_world.specs.declared.event.Wants.{Wants};
 ghost use Rattle.pp_net.specs.Found.{Finds, IsFoundFor};
 
 use crate::connection::Direction;
+use crate::folder::Folder;
 use crate::net_world::NetWorld;
 use crate::rotation::Turn;
 use crate::{console, files};
@@ -17,6 +18,9 @@ use std::time::Duration;
 
 /// After so many events the system is asked again, though more are known.
 const MOST_FOUND: u32 = 256;
+
+/// Said once, where the folder of files is no longer at its path.
+const MOVED_LINE: &[u8] = b"polipo: the disk cache was moved, and nothing more is kept\n";
 
 /// What is left of the second that has begun.
 fn rest_of_second(now: Duration) -> Duration {
@@ -39,6 +43,17 @@ impl<R: Runtime + AllocGlobal + Net> NetWorld<R> {
             door.knock();
         }
         Some(Event::Tick(now))
+    }
+
+    // Nothing more is kept where the path of the folder names another, which nobody locked.
+    fn leave_moved_folder(&mut self)
+        ensures faults { self.old.faults ≤ self.new.faults }
+        ensures top { self.new.top ≡ self.old.top }
+    {
+        if self.folder.is_moved(&self.rt) {
+            self.folder = Folder::Closed;
+            self.print(MOVED_LINE);
+        }
     }
 
     // What is known without asking the system.
@@ -131,6 +146,7 @@ impl<R: Runtime + AllocGlobal + Net> Wire for NetWorld<R> {
         for _ in 0..u64::MAX {
             let now = self.clock();
             if let Some(tick) = self.find_tick(now.as_secs()) {
+                self.leave_moved_folder();
                 return tick;
             }
             if self.found >= MOST_FOUND {
