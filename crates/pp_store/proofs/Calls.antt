@@ -9,9 +9,11 @@ use Rattle.pp_world.specs.Disk.{Bytes}
 use Rattle.pp_target.specs.Name.{name_of}
 use Rattle.pp_gate.specs.Gate.{OthersSame}
 use Rattle.pp_gate.specs.Runs.{AllOn, RunsOps, EachMoment}
-use Rattle.pp_store.specs.Kept.{Kept, KeptMap, HasOwnNames, name_at, is_closed, kept_of, kept_under, row_of}
+use Rattle.pp_store.specs.Kept.{Kept, KeptMap, HasOwnNames, name_at, is_closed, is_of, kept_of, kept_under, row_of}
 use Rattle.pp_store.specs.Changes.{closed_once, with_row, with_closed, without, lost, extended, extended_to}
-use Rattle.pp_store.specs.Held.{Sent, IsHeld, Holds, Covers}
+use Rattle.pp_gate.specs.Files.{Sent}
+use Rattle.pp_store.specs.Held.{IsOnDisk, IsHeld, Holds, Covers}
+use Rattle.pp_store.proofs.Lists.{All-found}
 use Rattle.pp_store.proofs.Names.{found_row, name-kept}
 use Rattle.pp_store.proofs.Running.{after_runs, after_appends, after_unread, after_none, removed_slot, told_both, told_map}
 use Rattle.pp_store.proofs.Holding.{holds-without, holds-lost, holds-extended, holds-with_row, holds-with_closed, covers-without, covers-lost, covers-extended, covers-with_row, covers-with_closed}
@@ -27,9 +29,10 @@ module _ (old new : Option Log) (ops : List DiskOp) (sent : Sent) (store : KeptM
   lost_covers ok runs told = after_runs old new ops ok (name_of key) (Covers store) (Covers (lost key store)) on runs others told
       (λ k l was is covers after. covers-lost store key ok k l after covers)
 
-  pub extended_holds : (extent : ℕ) → RunsOps old new ops true → Told old (Holds sent store) → Told new (λ l. IsHeld sent l (extended_to extent (row_of key store))) → Told new (Holds sent (extended key extent store))
+  pub extended_holds : (extent : ℕ) → RunsOps old new ops true → Told old (Holds sent store) → Told new (IsOnDisk sent (extended_to extent (row_of key store))) → Told new (Holds sent (extended key extent store))
   extended_holds extent runs told done = after_runs old new ops true (name_of key) (Holds sent store) (Holds sent (extended key extent store)) on runs others told
-      (λ k l was is held after. holds-extended sent store key (row_of key store) extent k l own (found_row key store kept) held after (done.at l is))
+      (λ k l was is held after. holds-extended sent store key (row_of key store) extent k l own (found_row key store kept) held after
+      (record { keeps = done.at l is; reads = (All-found (is_of key) (IsHeld sent k) store.rows (row_of key store) held.rows (found_row key store kept)).reads }))
 
   pub extended_covers : (extent : ℕ) → RunsOps old new ops true → Told old (Covers store) → Told new (Covers (extended key extent store))
   extended_covers extent runs told = after_runs old new ops true (name_of key) (Covers store) (Covers (extended key extent store)) on runs others told

@@ -6,7 +6,7 @@ use Rattle.pp_world.specs.Log.{Log, AppendsAll, Told}
 use Rattle.pp_world.specs.Disk.{Bytes, settled, view_of}
 use Rattle.pp_target.specs.Name.{name_of}
 use Rattle.pp_entry.specs.Texts.{body_at}
-use Rattle.pp_gate.specs.Files.{body}
+use Rattle.pp_gate.specs.Files.{body, Sent}
 use Rattle.pp_gate.specs.Gate.{HoldsJust}
 use Rattle.pp_gate.proofs.SealLemmas.{settled_bytes}
 use Rattle.pp_store.specs.declared.faults.LoadFault.{LoadFault}
@@ -14,7 +14,7 @@ use Rattle.pp_store.specs.declared.faults.LoadFault.TheVariants.{DiskFault, Shor
 use Rattle.pp_store.specs.declared.row.Site.{Site}
 use Rattle.pp_store.specs.Kept.{Kept, KeptMap, HasOwnNames, IsExtent, name_at, block_of, kept_of, row_of}
 use Rattle.pp_store.specs.Changes.{lost}
-use Rattle.pp_store.specs.Held.{Sent, IsHeld, Holds, Covers}
+use Rattle.pp_store.specs.Held.{IsHeld, Holds, Covers}
 use Rattle.pp_store.specs.Loads.{chunk_len, load_happenings, GivesRead, GivesChunk, GivesSent, LoadCause, ReadCause}
 use Rattle.pp_store.specs.Views.{site_of}
 use Rattle.pp_store.proofs.Names.{found_row, not-closed, row-name}
@@ -74,8 +74,8 @@ gives_sent old sent store key index count out kept told whole below all read =
     told_both old (λ l. IsHeld sent l (row_of key store)) _ (λ l. GivesSent sent (row_of key store) index out (Ok count)) (row_held old sent store key kept told) read
     (λ l held gives offset lt.
     subst (λ (b : ℕ). sent (block_of (row_of key store).entry) (4096 * index + offset) b ≡ true)
-    (byte-is (row_of key store).entry.version.length index offset count out held.bytes lt (gives held.bytes held.slot))
-    (held.holds (4096 * index + offset) (omega (arith, lt, all, whole, ends_within (row_of key store).entry.version.length (row_of key store).extent index whole below))))
+    (byte-is (row_of key store).entry.version.length index offset count out held.keeps.bytes lt (gives held.keeps.bytes held.keeps.slot))
+    (held.keeps.holds (4096 * index + offset) (omega (arith, lt, all, whole, ends_within (row_of key store).entry.version.length (row_of key store).extent index whole below))))
 
 -- after a load that failed
 module _ (old new : Option Log) (sent : Sent) (store : KeptMap) (key : List ℕ) (own : HasOwnNames store) (kept : IsSome (kept_of key store)) where
@@ -102,10 +102,10 @@ never_short : (sent : Sent) (store : KeptMap) (key : List ℕ) (index wanted got
 never_short sent store key index wanted got out l own kept holds held whole below all less gives =
     let n = (row_of key store).entry.version.length in
     let at : ℕ = body_at n + 4096 * index in
-    let read : length (take (chunk_len n index) (drop at held.bytes)) ≡ got =
-    ap (λ (b : Bytes). length (take (chunk_len n index) (drop at b))) (sym (settled_bytes held.bytes)) ∙ gives (Some (settled held.bytes)) (record { alone = held.slot; sound = kept_sound sent store key l own kept holds }) in
-    let there : at + chunk_len n index ≤ length held.bytes = omega (arith, held.kept.long, whole, ends_within n (row_of key store).extent index whole below) in
-    omega (arith, read, long_enough at (chunk_len n index) held.bytes there, all, less)
+    let read : length (take (chunk_len n index) (drop at held.keeps.bytes)) ≡ got =
+    ap (λ (b : Bytes). length (take (chunk_len n index) (drop at b))) (sym (settled_bytes held.keeps.bytes)) ∙ gives (Some (settled held.keeps.bytes)) (record { alone = held.keeps.slot; sound = kept_sound sent store key l own kept holds }) in
+    let there : at + chunk_len n index ≤ length held.keeps.bytes = omega (arith, held.keeps.kept.long, whole, ends_within n (row_of key store).extent index whole below) in
+    omega (arith, read, long_enough at (chunk_len n index) held.keeps.bytes there, all, less)
 
 pub load_cause : (old new : Option Log) (sent : Sent) (store : KeptMap) (key : List ℕ) (index before now : ℕ) (out : Bytes) (fault : LoadFault) → HasOwnNames store → IsSome (kept_of key store) → Told old (Holds sent store)
     → IsExtent (row_of key store).entry.version.length (row_of key store).extent → 4096 * index < (row_of key store).extent

@@ -10,13 +10,18 @@ use Rattle.pp_world.specs.Disk.{Bytes, Stored, view_of, LeavesOne}
 use Rattle.pp_target.specs.Name.{name_of}
 use Rattle.pp_store.specs.Kept.{Kept, KeptMap, HasOwnNames, name_at, is_of, is_under, is_name, is_closed, kept_under}
 use Rattle.pp_store.specs.Changes.{with_row, with_closed, without, lost, extended, extended_to, is_other}
-use Rattle.pp_store.specs.Held.{Sent, IsHeld, Holds, IsEntryUnder, Covers}
+use Rattle.pp_gate.specs.Files.{Sent}
+use Rattle.pp_store.specs.Held.{IsHeld, Holds, IsEntryUnder, Covers}
 use Rattle.pp_store.proofs.Lists.{none_pass, find_none, found_passes, only, All-filter, All-changed, still_found, same_found, pushed_found}
 use Rattle.pp_store.proofs.Names.{of_key, same_key}
 use Rattle.pp_store.proofs.Running.{After}
 
-pub same_slot : (sent : Sent) (k l : Log) (row : Kept) → (view_of (name_at row) l).slot ≡ (view_of (name_at row) k).slot → IsHeld sent k row → IsHeld sent l row
-same_slot sent k l row is held = record { bytes = held.bytes; slot = is ∙ held.slot; kept = held.kept; holds = held.holds }
+pub same_slot : (sent : Sent) (k l : Log) (row : Kept) → (view_of (name_at row) l).slot ≡ (view_of (name_at row) k).slot → (view_of (name_at row) l).failed ≡ (view_of (name_at row) k).failed
+    → IsHeld sent k row → IsHeld sent l row
+same_slot sent k l row is sound held = record {
+  keeps = record { bytes = held.keeps.bytes; slot = is ∙ held.keeps.slot; sound = sound ∙ held.keeps.sound; kept = held.keeps.kept; holds = held.keeps.holds };
+  reads = held.reads;
+}
 
 pub under_it : (name : Bytes) (row : Kept) → is_under name row ≡ false → name ≡ name_at row → ⊥
 under_it name row off is = wrong (sym ((bytes_eq-Decides (name_at row) name).1 (sym is)) ∙ off)
@@ -26,7 +31,7 @@ under_it name row off is = wrong (sym ((bytes_eq-Decides (name_at row) name).1 (
 
 -- an entry under another name is held as before
 still_held : (sent : Sent) (name : Bytes) (ok : Bool) (k l : Log) (row : Kept) → After name ok k l → is_under name row ≡ false → IsHeld sent k row → IsHeld sent l row
-still_held sent name ok k l row after off held = same_slot sent k l row (after.slots (name_at row) (under_it name row off)) held
+still_held sent name ok k l row after off held = same_slot sent k l row (after.slots (name_at row) (under_it name row off)) (after.fails (name_at row) (under_it name row off)) held
 
 wrong : {A : Type 0} → true ≡ false → A
 wrong e = absurd cc

@@ -3,6 +3,7 @@ pub mod ChunkLemmas
 pub mod FieldLemmas
 pub mod HeldByImages
 pub mod Holding
+pub mod KeepLemmas
 pub mod Lists
 pub mod Names
 pub mod PlaceLemmas

@@ -1,18 +1,12 @@
--- A call that did nothing on the disk, and a name that was published.
-use Rattle.std.proofs.Common.{◌≡◌, [], ◌∷◌, ◌++◌, length, Option, Some, inl, arith, length-append, refl, sym, ◌∙◌, ap, subst}
+-- A call that did nothing on the disk.
+use Rattle.std.proofs.Common.{◌≡◌, ℕ, [], ◌∷◌, ◌++◌, length, Option, Some, inl, arith, length-append, refl, sym, ◌∙◌, ap, subst}
 use Rattle.std.proofs.lemmas.List.{append-nil}
-use Rattle.pp_world.specs.Log.{Log, Told}
+use Rattle.pp_world.specs.Log.{Log}
 use Rattle.pp_world.specs.Disk.{Bytes}
-use Rattle.pp_entry.specs.Texts.{chunks_of}
-use Rattle.pp_gate.specs.Gate.{OldOr, OthersSame, HoldsJust, fresh_file}
+use Rattle.pp_gate.specs.Files.{Sent}
+use Rattle.pp_gate.specs.Gate.{OldOr, OthersSame}
 use Rattle.pp_gate.specs.Runs.{EachMoment}
-use Rattle.pp_gate.specs.Seal.{IsKept, Keeps}
-use Rattle.pp_gate.proofs.SealLemmas.{new_keeps}
-use Rattle.pp_store.specs.declared.row.Site.{Site}
-use Rattle.pp_store.specs.Kept.{Kept, name_at, block_of}
-use Rattle.pp_store.specs.Views.{site_of}
-use Rattle.pp_store.specs.Held.{Sent, IsHeld}
-use Rattle.pp_store.proofs.Sealing.{moved}
+use Rattle.pp_gate.specs.Seal.{OldOrHonest}
 
 no_more : (k p : Log) → length (k ++ p) ≡ length k → [] ≡ p
 no_more k [] same = refl
@@ -41,10 +35,5 @@ quiet_old log name new = quiet log (OldOr name new) (λ k file left. inl left)
 pub quiet_others : (log : Option Log) (name : Bytes) → EachMoment log log (OthersSame name)
 quiet_others log name = quiet log (OthersSame name) (λ k other differ. refl)
 
--- a file that was just published is held
-pub published_held : (new : Option Log) (sent : Sent) (row : Kept) (site : Site) (block : Bytes) → site ≡ site_of row → block ≡ block_of row.entry → row.extent ≡ 0
-    → IsKept block site.length 0 (fresh_file block site.length) → Told new (HoldsJust site.name (fresh_file block site.length)) → Told new (λ l. IsHeld sent l row)
-published_held new sent row site block is block_is fresh empty done =
-    moved (λ name b n m. Told new (Keeps sent name b n m)) site.name (name_at row) block (block_of row.entry) site.length row.entry.version.length 0 (chunks_of row.extent)
-    (ap (λ (s : Site). s.name) is) block_is (ap (λ (s : Site). s.length) is) (omega (arith, fresh))
-    (new_keeps new sent site.name block site.length empty done)
+pub quiet_honest : (log : Option Log) (sent : Sent) (name block : Bytes) (n least : ℕ) → EachMoment log log (OldOrHonest sent name block n least)
+quiet_honest log sent name block n least = quiet log (OldOrHonest sent name block n least) (λ k file left. inl left)

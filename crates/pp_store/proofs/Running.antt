@@ -25,7 +25,7 @@ other_name n m differ = by (bytes_eq n m) refl
     by true is = absurd (differ ((bytes_eq-Decides n m).0 is))
     by false is = refl
 
-or_not : (a b : Bool) → b ≡ false → (a || b) ≡ a
+pub or_not : (a b : Bool) → b ≡ false → (a || b) ≡ a
 or_not true b is = refl
 or_not false b is = is
 

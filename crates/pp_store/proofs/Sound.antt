@@ -105,6 +105,9 @@ pub room-left : (o : Inside) (w : KeptMap) → IsSound o → map_in o ≡ w → 
 room-left o w sound is few =
     omega (arith, not_full w few, sound.many, ap (λ (v : KeptMap). length v.rows) is, ap (λ (v : KeptMap). length v.closed) is)
 
+pub view-same : (o p : Inside) (w : KeptMap) → map_in o ≡ w → p.rows.items ≡ o.rows.items → p.closed.items ≡ o.closed.items → map_in p ≡ w
+view-same o p w is rows closed = map-is p (map_in o) rows closed ∙ is
+
 pub view-with_row : (o p : Inside) (w : KeptMap) (row : Kept) → map_in o ≡ w → p.rows.items ≡ o.rows.items ++ row ∷ [] → p.closed.items ≡ o.closed.items → map_in p ≡ with_row row.entry row.extent w
 view-with_row o p w row is rows closed = map-is p (with_row row.entry row.extent (map_in o)) rows closed ∙ ap (with_row row.entry row.extent) is
 

@@ -6,7 +6,7 @@ use Rattle.pp_text.specs.Fields.{Field}
 use Rattle.pp_target.specs.Name.{name_of}
 use Rattle.pp_entry.specs.Entries.{Row}
 use Rattle.pp_store.specs.declared.faults.KeepFault.{KeepFault}
-use Rattle.pp_store.specs.declared.faults.KeepFault.TheVariants.{Closed, Full, TooLong, DiskFault, OutOfMemory}
+use Rattle.pp_store.specs.declared.faults.KeepFault.TheVariants.{Closed, Full, TooLong, NoDraft, DiskFault, OutOfMemory}
 use Rattle.pp_store.specs.Kept.{Kept, KeptMap, is_of, is_closed}
 
 abbrev pub no_entries : KeptMap
@@ -44,13 +44,15 @@ lost key store = with_closed (name_of key) (without key store)
 
 -- ---- by the answer of the call
 
-abbrev pub kept_after : {A : Type 0} → Result A KeepFault → Row → KeptMap → KeptMap
-kept_after (Ok done) entry store = with_row entry 0 store
-kept_after (Err Closed) entry store = store
-kept_after (Err Full) entry store = store
-kept_after (Err TooLong) entry store = store
-kept_after (Err DiskFault) entry store = with_closed (name_of entry.key) store
-kept_after (Err OutOfMemory) entry store = store
+-- the entry is kept with so many bytes of its body; a fault of the draft touched no name
+abbrev pub kept_after : {A : Type 0} → Result A KeepFault → Row → ℕ → KeptMap → KeptMap
+kept_after (Ok done) entry extent store = with_row entry extent store
+kept_after (Err Closed) entry extent store = store
+kept_after (Err Full) entry extent store = store
+kept_after (Err TooLong) entry extent store = store
+kept_after (Err NoDraft) entry extent store = store
+kept_after (Err DiskFault) entry extent store = with_closed (name_of entry.key) store
+kept_after (Err OutOfMemory) entry extent store = store
 
 abbrev pub extended_after : {E : Type 0} → Result ℕ E → List ℕ → KeptMap → KeptMap
 extended_after (Ok extent) key store = extended key extent store

@@ -1,9 +1,10 @@
 -- The entries that are kept on the disk, and the names that are closed.
-use Rattle.std.specs.Prelude.{◌≡◌, ℕ, ◌+◌, ◌*◌, ◌≤◌, min, Bool, List, [], Option, unwrap_or, bytes_eq, count_by, find}
+use Rattle.std.specs.Prelude.{false, ◌≡◌, ℕ, ◌+◌, ◌*◌, ◌≤◌, min, Bool, List, [], Option, unwrap_or, bytes_eq, count_by, find}
 use Rattle.std.specs.List.{list_any}
 use Rattle.pp_target.specs.Name.{name_of}
 use Rattle.pp_entry.specs.Entries.{Row}
-use Rattle.pp_entry.specs.Texts.{chunks_of, head_text, padded}
+use Rattle.pp_entry.specs.Spelling.{text_of}
+use Rattle.pp_entry.specs.Texts.{chunks_of, padded}
 
 -- an entry, and how many bytes of its body are kept, from the first on
 pub record Kept : Type 0 where
@@ -48,9 +49,6 @@ abbrev pub IsExtent : ℕ → ℕ → Type 0
 IsExtent n extent = min n (4096 * chunks_of extent) ≡ extent
 
 -- the head block of an entry
-abbrev pub text_of : Row → List ℕ
-text_of entry = head_text entry.key entry.version.length entry.fields entry.times
-
 abbrev pub block_of : Row → List ℕ
 block_of entry = padded (text_of entry)
 

@@ -8,7 +8,7 @@ use Rattle.pp_gate.specs.Gate.{HoldsJust}
 use Rattle.pp_store.specs.declared.faults.LoadFault.{LoadFault}
 use Rattle.pp_store.specs.declared.faults.LoadFault.TheVariants.{DiskFault, Short}
 use Rattle.pp_store.specs.Kept.{Kept, name_at, block_of}
-use Rattle.pp_store.specs.Held.{Sent}
+use Rattle.pp_gate.specs.Files.{Sent}
 
 -- how many bytes a chunk of a body has
 abbrev pub chunk_len : ℕ → ℕ → ℕ

@@ -7,7 +7,8 @@ ghost use Rattle.pp_gate.specs.Runs.{EachMoment, RunsOps};
 ghost use Rattle.pp_gate.specs.Seal.{Claim, StaysHonest};
 ghost use Rattle.pp_store.specs.Answers.{extend_ops};
 ghost use Rattle.pp_store.specs.Changes.{extended_after, extended_to};
-ghost use Rattle.pp_store.specs.Held.{Covers, Holds, IsHeld, IsMore, Sent};
+ghost use Rattle.pp_gate.specs.Files.{Sent};
+ghost use Rattle.pp_store.specs.Held.{Covers, Holds, IsOnDisk, IsMore};
 ghost use Rattle.pp_store.specs.Kept.{HasOwnNames, block_of, kept_of, row_of};
 
 use crate::store::Store;
@@ -61,7 +62,7 @@ impl Store {
         requires more { IsMore claim.sent (row_of key.now self.now) bytes.now }
         requires holds { Told (D.log disk.old) (Holds claim.sent self.now) }
         ensures extent { IfOk result (λ extent. extent ≡ (row_of key.now self.now).extent + length bytes.now) }
-        ensures done { OnOk result (Told (D.log disk.new) (λ l. IsHeld claim.sent l (extended_to ((row_of key.now self.now).extent + length bytes.now) (row_of key.now self.now)))) }
+        ensures done { OnOk result (Told (D.log disk.new) (IsOnDisk claim.sent (extended_to ((row_of key.now self.now).extent + length bytes.now) (row_of key.now self.now)))) }
         ensures names { HasOwnNames self.now }
         ensures ops { RunsOps (D.log disk.old) (D.log disk.new) (extend_ops (row_of key.now self.now) bytes.now) (is_ok result) }
         ensures any_moment { EachMoment (D.log disk.old) (D.log disk.new) (StaysHonest claim.sent (name_of key.now) (block_of (row_of key.now self.now).entry) (row_of key.now self.now).entry.version.length (row_of key.now self.now).extent) }

@@ -14,7 +14,9 @@ pub enum KeepFault {
     Full,
     /// The head block has no room for the entry, or it has more than 95 fields.
     TooLong,
-    /// The disk failed.
+    /// The disk failed before the entry had its name. Nothing is changed.
+    NoDraft,
+    /// The disk failed to name the entry, and the name is closed.
     DiskFault,
     /// Memory was asked for and not given.
     OutOfMemory,

@@ -1,8 +1,9 @@
 //! Which entries are kept on the disk, and the names that are closed after a fault.
 //!
-//! An entry is kept under the file name of its key. It is published without a body, and then extended
-//! by whole chunks, from the first on. After an operation that failed, nothing is known of what stands
-//! under the name: it is closed for the rest of the life, and its key is not kept.
+//! An entry is kept under the file name of its key. It is published with none of its body or all of it,
+//! and then extended by whole chunks, from the first on. What is kept can be read back. After an operation
+//! on a name that failed, nothing is known of what stands under it: it is closed for the rest of the life,
+//! and its key is not kept. A draft that failed touched no name.
 //!
 //! To the layer above: a list of kept entries and a list of closed names, in which each name stands at
 //! most once. Where the log is told, each kept entry is on the disk (`Holds` of `specs/Held.antt`): one
@@ -27,6 +28,3 @@ mod withdrawing; // an entry that is kept no more
 pub use faults::{KeepFault, LoadFault};
 pub use row::KeptView;
 pub use store::Store;
-
-#[cfg(test)]
-mod tests; // entries on a small disk

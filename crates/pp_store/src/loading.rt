@@ -4,7 +4,8 @@ ghost use Rattle.pp_world.specs.Log.{AppendsAll, Told};
 ghost use Rattle.pp_target.specs.Name.{name_of};
 ghost use Rattle.pp_entry.specs.Texts.{body_at};
 ghost use Rattle.pp_store.specs.Changes.{loaded_after};
-ghost use Rattle.pp_store.specs.Held.{Covers, Holds, Sent};
+ghost use Rattle.pp_gate.specs.Files.{Sent};
+ghost use Rattle.pp_store.specs.Held.{Covers, Holds};
 ghost use Rattle.pp_store.specs.Kept.{kept_of, row_of};
 ghost use Rattle.pp_store.specs.Loads.{GivesChunk, GivesRead, GivesSent, LoadCause, ReadCause, chunk_len, load_happenings};
 

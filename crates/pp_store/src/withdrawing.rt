@@ -6,7 +6,8 @@ ghost use Rattle.pp_target.specs.Name.{name_of};
 ghost use Rattle.pp_gate.specs.Gate.{OldOr, OthersSame};
 ghost use Rattle.pp_gate.specs.Runs.{EachMoment, RunsOps};
 ghost use Rattle.pp_store.specs.Changes.{withdrawn_after};
-ghost use Rattle.pp_store.specs.Held.{Covers, Holds, Sent};
+ghost use Rattle.pp_gate.specs.Files.{Sent};
+ghost use Rattle.pp_store.specs.Held.{Covers, Holds};
 ghost use Rattle.pp_store.specs.Kept.{kept_of};
 
 use crate::store::Store;

@@ -3,7 +3,7 @@ use Rattle.pp_world.specs.Log.{Told}
 use Rattle.pp_store.specs.Answers.{extend_ops}
 use Rattle.pp_store.specs.Kept.{KeptMap, IsExtent, row_of}
 use Rattle.pp_store.specs.Changes.{extended_to}
-use Rattle.pp_store.specs.Held.{Holds, Covers, IsHeld}
+use Rattle.pp_store.specs.Held.{Holds, Covers, IsOnDisk}
 use Rattle.pp_store.proofs.Names.{row-name}
 use Rattle.pp_store.proofs.Calls.{extended_holds, extended_covers, lost_holds, lost_covers}
 use Rattle.pp_store.proofs.store.Store.extend.Goals as goal
@@ -17,7 +17,7 @@ returns-in-Ok-clause-holds g c =
     let on = row-name c.args.key.now c.args.self.now c.requires.1.0 in
     subst (λ (w : KeptMap). Told (g.D.Logged.log c.seal_behind.new.disk) (Holds g.sent w)) (sym c.extend_to.ensures)
     (extended_holds _ _ (extend_ops (row_of c.args.key.now c.args.self.now) c.args.bytes.now) g.sent c.args.self.now c.args.key.now c.seal_behind.ensures.names c.requires.1.0 (on, (on, (on, (on, tt)))) c.in-Ok.ensures.others c.in-Ok.extent c.in-Ok.ensures.ops c.requires.1.1.1
-    (subst (λ (e : ℕ). Told (g.D.Logged.log c.seal_behind.new.disk) (λ l. IsHeld g.sent l (extended_to e (row_of c.args.key.now c.args.self.now)))) (sym c.in-Ok.ensures.extent) c.in-Ok.ensures.done))
+    (subst (λ (e : ℕ). Told (g.D.Logged.log c.seal_behind.new.disk) (IsOnDisk g.sent (extended_to e (row_of c.args.key.now c.args.self.now)))) (sym c.in-Ok.ensures.extent) c.in-Ok.ensures.done))
 
 pub returns-in-Ok-clause-covers : goal.returns-in-Ok-clause-covers
 returns-in-Ok-clause-covers g c told =

@@ -10,7 +10,7 @@ use Rattle.pp_gate.specs.Seal.{Keeps, IsRun, StaysHonest}
 use Rattle.pp_store.specs.declared.row.Site.{Site}
 use Rattle.pp_store.specs.Kept.{block_of, name_at, row_of}
 use Rattle.pp_store.proofs.Names.{site-name}
-use Rattle.pp_store.proofs.Sealing.{first-is, count-is, least-is, run-is, row_held, moved, site-whole}
+use Rattle.pp_store.proofs.Sealing.{first-is, count-is, least-is, run-is, row_on_disk, moved, site-whole}
 use Rattle.pp_store.proofs.store.Store.seal_behind.Goals as goal
 
 pub seal-requires : goal.seal-requires
@@ -27,7 +27,7 @@ seal-requires g c κs within =
               (name_at row) c.site-site.result.name (block_of row.entry) g.claim'.block row.entry.version.length c.site-site.result.length (chunks_of row.extent) (c.site-site.result.extent / 4096)
               (sym (ap (λ (s : Site). s.name) is)) (sym c.requires.1.1.0) (sym (ap (λ (s : Site). s.length) is))
               (sym (ap (λ (s : Site). s.extent / 4096) is ∙ first-is row.entry.version.length row.extent (length c.args.bytes.now) whole more.whole more.some))
-              (row_held (g.D.Logged.log c.args.disk.now) g.claim'.sent c.args.self.now c.args.key.now c.requires.1.0 c.requires.1.1.1.1),
+              (row_on_disk (g.D.Logged.log c.args.disk.now) g.claim'.sent c.args.self.now c.args.key.now c.requires.1.0 c.requires.1.1.1.1),
           moved (λ name block n m. IsRun g.claim'.sent block n m (chunks_of (length c.args.bytes.now)) c.args.bytes.now)
               (name_at row) c.site-site.result.name (block_of row.entry) g.claim'.block row.entry.version.length c.site-site.result.length (row.extent / 4096) (c.site-site.result.extent / 4096)
               (sym (ap (λ (s : Site). s.name) is)) (sym c.requires.1.1.0) (sym (ap (λ (s : Site). s.length) is)) (sym (ap (λ (s : Site). s.extent / 4096) is))
