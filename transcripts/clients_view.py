@@ -69,7 +69,7 @@ class Life:
         self.heard, self.said = defaultdict(bytes), defaultdict(bytes)
         self.asked, self.got = defaultdict(bytes), defaultdict(bytes)
         self.hosts, self.reached, self.closed = {}, set(), set()
-        self.shut, self.cut = set(), set()
+        self.shut, self.cut, self.lost = set(), set(), set()
         self.stalls = []
 
 
@@ -85,6 +85,8 @@ def lives_of(happenings):
             getattr(life, name.lower())[happening[1]] += happening[2]
         elif name == "Said":
             life.said[happening[1]] += happening[3]
+            if not happening[3]:
+                life.lost.add(happening[1])  # a write to it failed
         elif name == "Dialled":
             life.hosts[happening[1]] = (happening[2].lower(), happening[3])
         elif name == "Reached":
@@ -187,7 +189,7 @@ class Judge:
         done = len(replies) - (1 if replies and not replies[-1].is_whole else 0)
         is_closed = replies and replies[-1].is_whole and replies[-1].closes()
         left = sum(request.is_whole for request in requests) - done
-        if number in life.shut - life.cut and left > 0 and not is_closed:
+        if number in life.shut - life.cut - life.lost and left > 0 and not is_closed:
             self.found.append(f"client {number} is shut with {left} requests open")
 
     def _why_not(self, life, request, reply):
