@@ -1,23 +1,20 @@
-//! Runs the proxy, behind an opening, over simulated lives, and tells of each seed what the law says.
+//! Prints simulated lives of the proxy as transcripts.
 //!
-//! `FIRST COUNT` names the seeds. Of each it prints one line: how many happenings there were, or the first that the
-//! law does not permit, in words.
+//! A word names a seed, as `3`, or seeds that follow each other, as `3..7`.
 //!
-//! It ends with 0 where no seed has a fault, with 1 where one has, with 2 where the words have no reading, and with 3
-//! where memory was refused.
+//! It ends with 0, with 2 where the words have no reading, and with 3 where memory was refused.
 #![tactic(auto)]
 
-use pp_sim::{Caching, simulate};
+use pp_sim::simulate;
 use pp_text::{OutOfMemory, read_u64};
-use std::alloc::Global;
 use std::process::ExitCode;
 use std::{env, io};
 
-/// The seeds that are tried.
+/// The seeds that a word names.
 #[derive(Clone, Copy)]
 struct Seeds {
     first: u64,
-    count: u64,
+    last: u64,
 }
 
 fn main(rt: HostRuntime) -> io::Result<ExitCode> {
@@ -25,47 +22,38 @@ fn main(rt: HostRuntime) -> io::Result<ExitCode> {
     for word in env::args(&rt)?.skip(1) {
         words.push(word)?;
     }
-    let Some(seeds) = seeds_of(words.as_slice()) else {
-        rt.eprint("usage: pp_seeds FIRST COUNT\n")?;
-        return Ok(ExitCode::from(2));
-    };
-    let mut has_fault = false;
-    for number in 0..seeds.count {
-        match tried(rt.alloc(), seeds.first.saturating_add(number)) {
-            Ok(Trial { line, is_lawful }) => {
-                rt.print(line.as_str())?;
-                has_fault = has_fault || !is_lawful;
-            }
-            Err(OutOfMemory) => {
-                rt.eprint("there is no memory\n")?;
-                return Ok(ExitCode::from(3));
+    for word in words.as_slice() {
+        let Some(seeds) = seeds_of(word.as_bytes()) else {
+            rt.eprint("usage: pp_seeds [SEED|FIRST..LAST] ..\n")?;
+            return Ok(ExitCode::from(2));
+        };
+        for seed in seeds.first..=seeds.last {
+            match told(&rt, seed) {
+                Ok(text) => rt.print(text.as_str())?,
+                Err(OutOfMemory) => {
+                    rt.eprint("there is no memory\n")?;
+                    return Ok(ExitCode::from(3));
+                }
             }
         }
     }
-    Ok(ExitCode::from(if has_fault { 1 } else { 0 }))
+    Ok(ExitCode::from(0))
 }
 
-fn seeds_of(words: &[String]) -> Option<Seeds> {
-    match words {
-        [first, count] => Some(Seeds {
-            first: read_u64(first.as_bytes())?,
-            count: read_u64(count.as_bytes())?,
-        }),
-        _ => None,
-    }
+fn told(rt: &HostRuntime, seed: u64) -> Result<String, OutOfMemory> {
+    simulate(rt.alloc(), seed)?.transcript(rt.alloc())
 }
 
-/// What came of a seed.
-#[derive(Drop)]
-struct Trial {
-    line: String,
-    is_lawful: bool,
-}
-
-fn tried(alloc: Global, seed: u64) -> Result<Trial, OutOfMemory> {
-    let outcome = simulate(alloc, seed, &Caching)?;
-    Ok(Trial {
-        line: outcome.told(alloc)?,
-        is_lawful: outcome.fault.is_none(),
+fn seeds_of(word: &[u8]) -> Option<Seeds> {
+    let Some(at) = word.iter().position(|byte| *byte == b'.') else {
+        let seed = read_u64(word)?;
+        return Some(Seeds {
+            first: seed,
+            last: seed,
+        });
+    };
+    Some(Seeds {
+        first: read_u64(word.get(..at)?)?,
+        last: read_u64(word.get(at..)?.strip_prefix(b"..")?)?,
     })
 }

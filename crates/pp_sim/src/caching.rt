@@ -1,22 +1,18 @@
-// The proxy behind an opening of its folder, as what is run.
+// The proxy behind an opening of its folder.
 ghost use Rattle.std.specs.Prelude.{◌≡◌, []};
 
-use crate::Run;
 use pp_conf::{Command, Conf};
 use pp_memworld::MemWorld;
 use pp_proxy::{Proxy, Turn};
 use pp_world::{Disk, Wire};
 use std::alloc::Global;
 
-/// The proxy, which keeps nothing on its disk yet: its folder is rooted and listed, and not used.
-pub struct Caching;
-
-impl Run for Caching {
-    fn run(&self, alloc: Global, words: &[String], world: &mut MemWorld) {
-        match Conf::read(alloc, words, None) {
-            Ok(Command::Serve(conf)) => open(alloc, &conf, world),
-            Ok(Command::Demo(_)) | Err(_) => world.print(b"usage\n"),
-        }
+/// Serves as these words say, until the world stops it. The proxy keeps nothing on its disk yet: its folder is rooted and
+/// listed, and not used.
+pub(crate) fn serve(alloc: Global, words: &[String], world: &mut MemWorld) {
+    match Conf::read(alloc, words, None) {
+        Ok(Command::Serve(conf)) => open(alloc, &conf, world),
+        Ok(Command::Demo(_)) | Err(_) => world.print(b"usage\n"),
     }
 }
 
@@ -29,13 +25,13 @@ fn open(alloc: Global, conf: &Conf, world: &mut MemWorld) {
         return world.print(b"no port\n");
     }
     match Proxy::open(alloc, conf) {
-        Ok(proxy) => serve(proxy, conf.max_turns, world),
+        Ok(proxy) => take_turns(proxy, conf.max_turns, world),
         Err(_) => world.print(b"no memory\n"),
     }
 }
 
 /// Takes turns until the world stops it.
-fn serve<W: Wire>(mut proxy: Proxy, most: u64, world: &mut W)
+fn take_turns<W: Wire>(mut proxy: Proxy, most: u64, world: &mut W)
     requires { proxy.links ≡ [] }
 {
     for _turn in 0..most {

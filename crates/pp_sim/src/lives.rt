@@ -2,7 +2,6 @@
 use crate::dice::Dice;
 use crate::scripts::script;
 use pp_memworld::Script;
-use pp_oracle::Term;
 use pp_text::{Octets, OutOfMemory};
 use std::alloc::{AllocError, Global};
 
@@ -14,6 +13,13 @@ pub(crate) struct Life {
     pub(crate) script: Script,
     /// The numbers of the calls that fail, from 1.
     pub(crate) failing: Vec<u64>,
+}
+
+/// How a life is started: the words behind the program's name, and how often the outside fails in it.
+#[derive(Drop)]
+pub struct Term {
+    pub words: Vec<Octets>,
+    pub faults: u64,
 }
 
 /// A call that fails is one of the first so many.
@@ -30,7 +36,7 @@ impl Life {
         })
     }
 
-    /// What the law knows of it: its words, and how many calls of it fail at most.
+    /// How it is started: its words, and how many calls of it fail at most.
     pub(crate) fn term(&self, alloc: Global) -> Result<Term, OutOfMemory> {
         let mut words = Vec::new(alloc);
         for word in self.words.as_slice() {

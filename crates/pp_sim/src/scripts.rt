@@ -14,6 +14,9 @@ const NUMBERS: u64 = 16;
 /// More than any script says.
 const ALL: u64 = 1_000_000;
 
+/// So many equal bytes follow each other in a page.
+const RUN: usize = 128;
+
 /// A script of so many steps, whose clock begins some time behind `BEGIN`.
 pub(crate) fn script(
     alloc: Global,
@@ -148,8 +151,8 @@ fn site(alloc: Global) -> Result<Vec<Page>, OutOfMemory> {
 fn page(alloc: Global, resource: &Resource) -> Result<Page, OutOfMemory> {
     let mut body = Octets::empty(alloc);
     for place in 0..resource.len {
-        // A byte tells its offset, so that one of another place shows.
-        let letter = b'a'.saturating_add((place % 23) as u8);
+        // Bytes tell their offset, so that those of another place show; runs of them are short to write.
+        let letter = b'a'.saturating_add((place / RUN % 23) as u8);
         body.append(&[letter])?;
     }
     Ok(Page {

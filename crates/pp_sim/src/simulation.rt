@@ -1,24 +1,20 @@
-// The lives of a seed, run and judged.
+// The lives of a seed, run.
+use crate::caching::serve;
 use crate::dice::Dice;
-use crate::lives::Life;
+use crate::lives::{Life, Term};
+use crate::quoting::quoted;
 use crate::spelling::spelled;
 use pp_memworld::MemWorld;
-use pp_oracle::{Fault, Term, first_fault};
 use pp_text::OutOfMemory;
 use pp_world::{Happening, Image};
 use std::alloc::{AllocError, Global};
 
-/// What is run over a world: a program, from its words to its end.
-pub trait Run {
-    /// Runs until the world stops it.
-    fn run(&self, alloc: Global, words: &[String], world: &mut MemWorld);
-}
-
-/// What the lives of a seed left, and what the law says of it.
+/// The lives of a seed, and what happened in them.
 #[derive(Drop)]
-pub struct Outcome {
+pub struct Simulation {
     pub seed: u64,
-    pub fault: Option<Fault>,
+    /// How each life was started.
+    pub terms: Vec<Term>,
     world: Box<MemWorld>,
 }
 
@@ -28,26 +24,24 @@ const LIVES: u64 = 3;
 /// A crash by one of so many choices.
 const CHOICES: u64 = 16;
 
-/// Runs the lives of this seed, and judges their log.
-pub fn simulate<R: Run>(alloc: Global, seed: u64, run: &R) -> Result<Outcome, OutOfMemory> {
+/// Runs the lives of this seed.
+pub fn simulate(alloc: Global, seed: u64) -> Result<Simulation, OutOfMemory> {
     let mut dice = Dice::new(seed);
     let lives = 1_u64.saturating_add(dice.below(LIVES));
     let mut terms = Vec::new(alloc);
-    let mut world = first_life(alloc, &mut dice, &mut terms, run)?;
+    let mut world = first_life(alloc, &mut dice, &mut terms)?;
     let mut begin = 0;
     for number in 1..lives {
         begin = crash_place(&mut dice, begin, log_of(&*world)?.len());
-        world = next_life(alloc, &mut dice, number, &*world, begin, &mut terms, run)?;
+        world = next_life(alloc, &mut dice, number, &*world, begin, &mut terms)?;
     }
-    let fault = first_fault(alloc, terms.as_slice(), log_of(&*world)?)?;
-    Ok(Outcome { seed, fault, world })
+    Ok(Simulation { seed, terms, world })
 }
 
-fn first_life<R: Run>(
+fn first_life(
     alloc: Global,
     dice: &mut Dice,
     terms: &mut Vec<Term>,
-    run: &R,
 ) -> Result<Box<MemWorld>, OutOfMemory> {
     let life = Life::new(alloc, dice, 0)?;
     terms.push(life.term(alloc)?).map_err(AllocError::from)?;
@@ -60,19 +54,18 @@ fn first_life<R: Run>(
         alloc,
         MemWorld::new(alloc, script, Image::new(alloc), failing)?,
     )?;
-    run.run(alloc, words.as_slice(), &mut *world);
+    serve(alloc, words.as_slice(), &mut *world);
     Ok(world)
 }
 
 /// The life after a crash of this world behind its first `at` happenings.
-fn next_life<R: Run>(
+fn next_life(
     alloc: Global,
     dice: &mut Dice,
     number: u64,
     world: &MemWorld,
     at: usize,
     terms: &mut Vec<Term>,
-    run: &R,
 ) -> Result<Box<MemWorld>, OutOfMemory> {
     let life = Life::new(alloc, dice, number)?;
     terms.push(life.term(alloc)?).map_err(AllocError::from)?;
@@ -87,7 +80,7 @@ fn next_life<R: Run>(
         return Err(OutOfMemory);
     };
     let mut next = boxed(alloc, next)?;
-    run.run(alloc, words.as_slice(), &mut *next);
+    serve(alloc, words.as_slice(), &mut *next);
     Ok(next)
 }
 
@@ -116,61 +109,44 @@ fn crash_place(dice: &mut Dice, begin: usize, len: usize) -> usize {
         .saturating_add(dice.below(past) as usize)
 }
 
-/// The seeds from this one on, so many, whose run has a fault: a line for each. Nothing is said where
-/// none has.
-pub fn faults<R: Run>(
-    alloc: Global,
-    first: u64,
-    count: u64,
-    run: &R,
-) -> Result<String, OutOfMemory> {
-    let mut text = String::new(alloc);
-    for number in 0..count {
-        let outcome = simulate(alloc, first.saturating_add(number), run)?;
-        if outcome.fault.is_some() {
-            text.push_str(outcome.told(alloc)?.as_str())?;
-        }
-    }
-    Ok(text)
-}
-
-impl Outcome {
-    /// What happened, of all lives.
+impl Simulation {
+    /// What happened, of all lives; nothing where the world could not tell it.
     pub fn log(&self) -> &[Happening] {
         self.world.log().unwrap_or(&[])
     }
 
-    /// The seed, and the first fault with its happening, in one line; or that there is none.
-    pub fn told(&self, alloc: Global) -> Result<String, OutOfMemory> {
+    /// The lives as a transcript: how they were started, and a row of what happened.
+    pub fn transcript(&self, alloc: Global) -> Result<String, OutOfMemory> {
+        let mut text = String::from_str(alloc, "lives\n")?;
+        for term in self.terms.as_slice() {
+            put_term(alloc, term, &mut text)?;
+        }
         let seed = self.seed;
-        let Some(fault) = &self.fault else {
-            let count = self.log().len();
-            return Ok(format!(in alloc; "seed {seed}: {count} happenings, and no fault\n")?);
-        };
-        let at = fault.at;
-        let words = fault.rule.words();
-        let happening = match self.log().get(at) {
-            Some(happening) => spelled(alloc, happening)?,
-            None => String::new(alloc),
-        };
-        Ok(format!(in alloc; "seed {seed}: happening {at}: {words}: {happening}\n")?)
-    }
-
-    /// The last so many happenings up to the fault, or of all where there is none, a line for each.
-    pub fn course(&self, alloc: Global, count: usize) -> Result<String, OutOfMemory> {
-        let log = self.log();
-        let end = match &self.fault {
-            Some(fault) => fault.at.saturating_add(1),
-            None => log.len(),
-        };
-        let begin = end.saturating_sub(count);
-        let mut text = String::new(alloc);
-        for (at, happening) in log.iter().enumerate() {
-            if begin <= at && at < end {
-                let happening = spelled(alloc, happening)?;
-                text.push_str(format!(in alloc; "{at} {happening}\n")?.as_str())?;
-            }
+        text.push_str(format!(in alloc; "row seed {seed}\n")?.as_str())?;
+        for happening in self.log() {
+            put_happening(alloc, happening, &mut text)?;
         }
         Ok(text)
     }
+}
+
+fn put_term(alloc: Global, term: &Term, text: &mut String) -> Result<(), OutOfMemory> {
+    let faults = term.faults;
+    text.push_str(format!(in alloc; "  life faults {faults} words")?.as_str())?;
+    for word in term.words.as_slice() {
+        let word = quoted(alloc, word.as_slice())?;
+        text.push_str(format!(in alloc; " {word}")?.as_str())?;
+    }
+    text.push_str("\n")?;
+    Ok(())
+}
+
+fn put_happening(
+    alloc: Global,
+    happening: &Happening,
+    text: &mut String,
+) -> Result<(), OutOfMemory> {
+    let line = spelled(alloc, happening)?;
+    text.push_str(format!(in alloc; "  {line}\n")?.as_str())?;
+    Ok(())
 }
