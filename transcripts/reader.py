@@ -161,12 +161,6 @@ class Scene:
             words.end()
         return text
 
-    def file_name(self, words):
-        name = self.text(words)
-        if len(name) != 32:
-            words.fail("the name of a file has 32 bytes")
-        return name
-
     # ---- happenings
 
     def operation(self, words):
@@ -176,9 +170,9 @@ class Scene:
         if word == "sync-draft":
             return ("SyncDraft",)
         if word == "write":
-            return ("Write", self.file_name(words), words.number(), self.text(words))
+            return ("Write", self.text(words), words.number(), self.text(words))
         if word in ("publish", "sync", "remove"):
-            return (word.capitalize(), self.file_name(words))
+            return (word.capitalize(), self.text(words))
         words.fail(f"no operation on the disk is {word}")
 
     def decision(self, words):
@@ -206,14 +200,12 @@ class Scene:
         words.fail(f"no happening is {word}")
 
     def image(self, words):
-        files = {}
+        files = []
         while words.takes("file"):
-            name = self.file_name(words)
-            if name in files:
-                words.fail("this file is in the folder already")
+            name = self.text(words)
             words.expect("of")
-            files[name] = self.text(words)
-        return tuple(sorted(files.items()))
+            files.append((name, self.text(words)))
+        return tuple(sorted(files, key=lambda file: file[0]))
 
     def opening(self, word, words):
         """What belongs to the beginning of a life, if this does."""
@@ -256,7 +248,7 @@ class Scene:
         if word in ("did", "failed"):
             return ("Did", self.operation(words), word == "did")
         if word == "unread":
-            return ("Unread", self.file_name(words))
+            return ("Unread", self.text(words))
         return self.opening(word, words) or ("Noted", self.remark(word, words))
 
     # ---- lines

@@ -9,8 +9,7 @@ use Rattle.pp_law.specs.After.{after}
 use Rattle.pp_law.specs.Permits.{is_over}
 use Rattle.pp_law.specs.State.{State, start}
 use Rattle.pp_law.proofs.OnLiterals.{pp_law_on_literals}
-use Rattle.pp_law.proofs.Worked.{one_life, opening, client_sends, request}
-use Rattle.pp_law.proofs.PassingRows.{answered}
+use Rattle.pp_law.proofs.Worked.{one_life, opening, client_sends, request, answered}
 
 abbrev behind : State → Log → State
 behind s [] = s
