@@ -1,4 +1,5 @@
 pub mod BodyDropped
+pub mod BodyTaken
 pub mod DroppedLemmas
 pub mod FoundLemmas
 pub mod HeadLemmas

@@ -124,30 +124,6 @@ const NO_ANSWERS: &[Exchange<'static>] = &[
         b"HTTP/1.1 206 Partial Content\r\nETag: \"x\"\r\nContent-Type: multipart/byteranges; boundary=b\r\nContent-Length: 7\r\n\r\n--b--\r\n"
     ),
     Exchange {
-        name: "an answer before it was asked whole",
-        acts: &[
-            Act::Connect,
-            Act::Say(1, GET),
-            Act::Window(2, 44),
-            Act::Reach(2),
-            Act::Answer(2, RESPONSE),
-        ],
-        wanted: &[
-            Wanted::Said(1, &[Part::Text(PAGE_502)]),
-            Wanted::Course(1, REFUSED),
-            Wanted::Course(
-                2,
-                &[
-                    Step::Dialled(80),
-                    Step::Reached,
-                    Step::Asked(44),
-                    Step::Dropped,
-                    Step::Stopped,
-                ],
-            ),
-        ],
-    },
-    Exchange {
         name: "two lengths, where the request is passed",
         acts: &[
             Act::Connect,

@@ -51,6 +51,10 @@ mod validation; // rows that are refreshed or replaced
 #[cfg(test)]
 mod gateways; // answers that cannot be passed
 #[cfg(test)]
+mod one_answer; // what is still out for a request that asks anew
+#[cfg(test)]
+mod origin_ends; // origins that end, speak too early, or are slow
+#[cfg(test)]
 mod kept_losses; // what a lost origin sent is kept
 #[cfg(test)]
 mod losses; // lost origins are asked again

@@ -12,12 +12,11 @@ abbrev pub is_number : ℕ → Entry → Bool
 is_number number entry = entry.exchange.number == number
 
 -- it waits for a place
-abbrev pub begun_with : ℕ → ℕ → ℕ → List ℕ → Aim → Entry
-begun_with number client request key aim = record {
+abbrev pub begun_with : ℕ → ℕ → List ℕ → Aim → Entry
+begun_with number client key aim = record {
   exchange = record {
     number = number;
-    client = client;
-    request = request;
+    asker = Some client;
     aim = aim;
     place = None;
     headed = false;
@@ -28,6 +27,18 @@ begun_with number client request key aim = record {
 
 abbrev pub with_place : Option ℕ → Entry → Entry
 with_place place entry = record entry { exchange = record entry.exchange { place = place } }
+
+-- the client's current request asks it
+abbrev pub is_of : ℕ → Option ℕ → Bool
+is_of client None = false
+is_of client (Some asker) = asker == client
+
+abbrev pub is_asked_by : ℕ → Entry → Bool
+is_asked_by client entry = is_of client entry.exchange.asker
+
+-- its request left it
+abbrev pub nobodys : Entry → Entry
+nobodys entry = record entry { exchange = record entry.exchange { asker = None } }
 
 -- its final head came, and its body belongs there
 abbrev pub bound_to : Option Span → Entry → Entry

@@ -1,6 +1,6 @@
 // An exchange and its key.
 ghost use Rattle.std.specs.Prelude.{◌≡◌, ◌≤◌, length};
-ghost use Rattle.pp_flow.specs.Entries.{begun_with, bound_to, moved, moved_by, to_come, with_place, IsInSpan, IsToCome};
+ghost use Rattle.pp_flow.specs.Entries.{begun_with, bound_to, moved, moved_by, nobodys, to_come, with_place, IsInSpan, IsToCome};
 
 use arrayvec::ArrayVec;
 use pp_objects::ObjectId;
@@ -25,10 +25,8 @@ pub enum Aim {
 pub struct Exchange {
     /// Rises with each exchange.
     pub number: u64,
-    /// The client that it was begun for.
-    pub client: u64,
-    /// The number of that client's request.
-    pub request: u64,
+    /// The client whose current request asks it. None once that request left it: then it is nobody's.
+    pub asker: Option<u64>,
     pub aim: Aim,
     /// Its connection.
     pub place: Option<u64>,
@@ -50,8 +48,7 @@ impl Entry {
         Entry {
             exchange: Exchange {
                 number: 0,
-                client: 0,
-                request: 0,
+                asker: None,
                 aim: Aim::Own,
                 place: None,
                 headed: false,
@@ -62,14 +59,13 @@ impl Entry {
     }
 
     /// An exchange begins here.
-    pub(crate) fn begin(&mut self, number: u64, client: u64, request: u64, key: &[u8], aim: Aim)
+    pub(crate) fn begin(&mut self, number: u64, client: u64, key: &[u8], aim: Aim)
         requires { length key.now ≤ 8192 }
-        ensures { self.new ≡ begun_with number client request key.now aim }
+        ensures { self.new ≡ begun_with number client key.now aim }
     {
         self.exchange = Exchange {
             number,
-            client,
-            request,
+            asker: Some(client),
             aim,
             place: None,
             headed: false,
@@ -83,6 +79,13 @@ impl Entry {
         ensures { self.new ≡ with_place place self.old }
     {
         self.exchange.place = place;
+    }
+
+    /// Its request leaves it.
+    pub(crate) fn leave(&mut self)
+        ensures { self.new ≡ nobodys self.old }
+    {
+        self.exchange.asker = None;
     }
 
     /// Its final head came, and its body belongs there.

@@ -4,12 +4,14 @@ ghost use Rattle.std.specs.List.{find, list_any};
 ghost use Rattle.pp_objects.specs.Instances.{in_slot, is_there};
 ghost use Rattle.pp_flow.specs.Brings.{IsBrought, covers};
 ghost use Rattle.pp_flow.specs.Coming.{coming, target_of};
-ghost use Rattle.pp_flow.specs.Entries.{begun_with, bound_to, is_number, moved_by, to_come};
-ghost use Rattle.pp_flow.specs.Changes.{changed, entry_of, is_after, line_of, placed_on, unplaced, without};
+ghost use Rattle.pp_flow.specs.Entries.{begun_with, bound_to, is_asked_by, is_number, moved_by, nobodys, to_come};
+ghost use Rattle.pp_flow.specs.Changes.{changed, entry_of, first_of, is_after, line_of, placed_on, unplaced, without};
 
 use crate::coming::{Wanted, collect, write_spans};
 use crate::entry::{Aim, Entry, Exchange};
-use crate::lists::{bind_in, came_in, enter, find_in, first_after, line_at, take_out};
+use crate::lists::{
+    bind_in, came_in, enter, find_in, first_after, first_asked, leave_in, line_at, take_out,
+};
 use arrayvec::ArrayVec;
 use pp_objects::{ObjectId, Objects};
 use pp_text::OutOfMemory;
@@ -71,19 +73,19 @@ impl Flow {
         self.begun
     }
 
-    /// An exchange begins, for this request of a client. Answers its number.
-    pub fn begin(&mut self, client: u64, request: u64, key: &[u8], aim: Aim) -> u64
+    /// An exchange begins, which the client's current request asks. Answers its number.
+    pub fn begin(&mut self, client: u64, key: &[u8], aim: Aim) -> u64
         requires few { length self.old.waiting + length self.old.placed < 1024 }
         requires short { length key.now ≤ 8192 }
         requires numbers { self.old.begun < 18446744073709551615 }
         ensures number { result ≡ self.old.begun }
-        ensures begun { self.new ≡ record self.old { waiting = self.old.waiting ++ begun_with self.old.begun client request key.now aim ∷ []; begun = self.old.begun + 1 } }
+        ensures begun { self.new ≡ record self.old { waiting = self.old.waiting ++ begun_with self.old.begun client key.now aim ∷ []; begun = self.old.begun + 1 } }
     {
         let number = self.begun;
         let Some(mut entry) = self.spare.pop() else {
             return number;
         };
-        entry.begin(number, client, request, key, aim);
+        entry.begin(number, client, key, aim);
         self.waiting.push_reserved(entry);
         self.begun += 1;
         number
@@ -151,6 +153,25 @@ impl Flow {
         if let Some(mut entry) = take_out(&mut self.placed, number) {
             entry.set_place(None);
             enter(&mut self.waiting, entry);
+        }
+    }
+
+    /// The exchange's request leaves it: it is nobody's from now on.
+    pub fn leave(&mut self, number: u64)
+        ensures { self.new ≡ record self.old { waiting = changed number nobodys self.old.waiting; placed = changed number nobodys self.old.placed } }
+    {
+        leave_in(&mut self.waiting, number);
+        leave_in(&mut self.placed, number);
+    }
+
+    /// The number of the exchange that the client's current request asks: the first without a place, or else
+    /// the first with one. `None` exactly without one.
+    pub fn asked_by(&self, client: u64) -> Option<u64>
+        ensures { result ≡ option_map (λ e. e.exchange.number) (first_of (find (is_asked_by client) self.now.waiting) (find (is_asked_by client) self.now.placed)) }
+    {
+        match first_asked(&self.waiting, client) {
+            Some(number) => Some(number),
+            None => first_asked(&self.placed, client),
         }
     }
 

@@ -2,7 +2,8 @@
 //!
 //! An exchange is a request of this proxy to an origin and its response. It waits for a place, then
 //! stands in the line of a connection, whose responses come in the order of the line. Once its final
-//! head has come it may be bound to an instance, and then its body's bytes belong there.
+//! head has come it may be bound to an instance, and then its body's bytes belong there. It is asked by
+//! the current request of a client, until that leaves it.
 //!
 //! To the layer above: two lists of exchanges, those without a place in the order of their beginnings,
 //! and those with one in the order in which they got it, and how many were begun. Each call does to

@@ -2,7 +2,7 @@
 ghost use Rattle.std.specs.Prelude.{◌≡◌, ◌+◌, ◌<◌, ◌≤◌, false, length, option_map, slice_get, vec_capacity, IfNone, IfSome};
 ghost use Rattle.std.specs.List.{find, list_any};
 ghost use Rattle.std.specs.Option.{option_to_list};
-ghost use Rattle.pp_flow.specs.Entries.{bound_to, is_number, moved_by, IsToCome};
+ghost use Rattle.pp_flow.specs.Entries.{bound_to, is_asked_by, is_number, moved_by, nobodys, IsToCome};
 ghost use Rattle.pp_flow.specs.Changes.{changed, entered, is_after, is_on, line_of, place_in, without};
 ghost use Rattle.pp_flow.specs.Inside.{IsFirst, entries};
 
@@ -42,6 +42,17 @@ pub fn find_in(list: &[Box<Entry>], number: u64) -> Option<&Entry>
     match index_of(list, number) {
         Some(index) => Some(&list[index]),
         None => None,
+    }
+}
+
+/// The request of the exchange with this number leaves it.
+pub fn leave_in(list: &mut [Box<Entry>], number: u64)
+    ensures change { entries list.new ≡ changed number nobodys (entries list.old) }
+    ensures len { length list.new ≡ length list.old }
+{
+    match index_of(list, number) {
+        Some(index) => list[index].leave(),
+        None => {}
     }
 }
 
@@ -135,5 +146,26 @@ fn is_after(entry: &Entry, after: Option<u64>) -> bool
     match after {
         Some(number) => number < entry.exchange.number,
         None => true,
+    }
+}
+
+/// The number of the first exchange of the list that the client's current request asks.
+pub fn first_asked(list: &[Box<Entry>], client: u64) -> Option<u64>
+    ensures { result ≡ option_map (λ e. e.exchange.number) (find (is_asked_by client) (entries list.now)) }
+{
+    for index in 0..list.len() {
+        if is_asked_by(&list[index], client) {
+            return Some(list[index].exchange.number);
+        }
+    }
+    None
+}
+
+fn is_asked_by(entry: &Entry, client: u64) -> bool
+    ensures { result ≡ is_asked_by client entry.now }
+{
+    match entry.exchange.asker {
+        Some(asker) => asker == client,
+        None => false,
     }
 }

@@ -10,7 +10,7 @@ use pp_text::OutOfMemory;
 /// Begins an exchange, where there is room.
 fn begin(flow: &mut Flow, client: u64, key: &[u8], aim: Aim) -> Option<u64> {
     if flow.len() < EXCHANGES && key.len() <= 8192 && flow.begun() < u64::MAX {
-        Some(flow.begin(client, 0, key, aim))
+        Some(flow.begin(client, key, aim))
     } else {
         None
     }
@@ -122,11 +122,14 @@ fn a_body_is_bound_and_comes(rt: HostRuntime) -> Result<(), OutOfMemory> {
     match flow.get(0) {
         Some(exchange) => {
             assert_eq!(rt; exchange.bound, Some((id, 5, 12)));
-            assert_eq!(rt; (exchange.client, exchange.place), (7, Some(50)));
+            assert_eq!(rt; (exchange.asker, exchange.place), (Some(7), Some(50)));
             assert!(rt; exchange.headed);
         }
         None => panic!(rt; "it is there"),
     }
+    assert_eq!(rt; (flow.asked_by(7), flow.asked_by(9)), (Some(0), None));
+    flow.leave(0);
+    assert_eq!(rt; flow.asked_by(7), None);
     flow.bind(1, None);
     assert_eq!(rt; flow.to_come(1), None);
     assert_eq!(rt; flow.key(1), Some(b"http://h/b".as_slice()));

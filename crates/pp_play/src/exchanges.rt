@@ -1,7 +1,7 @@
 // What is played, and what is wanted of it.
 use crate::course::Step;
 use crate::fitting::{Fit, Part, fit_of};
-use crate::playing::{Act, PACES, Pace, Played, play};
+use crate::playing::{Act, PACES, Pace, Played, WORDS, play_with};
 use crate::texts::joined;
 use pp_run::Exit;
 use pp_text::OutOfMemory;
@@ -46,8 +46,17 @@ pub enum Wanted<'a> {
 
 /// Where these exchanges go otherwise than wanted, at either pace: nothing is said where none does.
 pub fn unlike(alloc: Global, exchanges: &[Exchange<'_>]) -> Result<String, OutOfMemory> {
+    unlike_with(alloc, WORDS, exchanges)
+}
+
+/// The same with these words for the program.
+pub fn unlike_with(
+    alloc: Global,
+    words: &[&str],
+    exchanges: &[Exchange<'_>],
+) -> Result<String, OutOfMemory> {
     for pace in PACES {
-        let said = unlike_at(alloc, pace, exchanges)?;
+        let said = unlike_by(alloc, words, pace, exchanges)?;
         if !said.is_empty() {
             return Ok(said);
         }
@@ -61,8 +70,17 @@ pub fn unlike_at(
     pace: Pace,
     exchanges: &[Exchange<'_>],
 ) -> Result<String, OutOfMemory> {
+    unlike_by(alloc, WORDS, pace, exchanges)
+}
+
+fn unlike_by(
+    alloc: Global,
+    words: &[&str],
+    pace: Pace,
+    exchanges: &[Exchange<'_>],
+) -> Result<String, OutOfMemory> {
     for exchange in exchanges {
-        let played = play(alloc, pace, exchange.acts)?;
+        let played = play_with(alloc, words, pace, exchange.acts, &[])?;
         for wanted in exchange.wanted {
             if !is_met(alloc, &played, *wanted)? {
                 return tell(alloc, &played, exchange.name, *wanted);

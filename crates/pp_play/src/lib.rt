@@ -21,10 +21,10 @@ mod texts; // the texts that most exchanges are made of
 
 pub use course::{Step, named_step};
 pub use cuts::{Cut, unlike_when_cut};
-pub use exchanges::{Exchange, Wanted, unlike, unlike_at};
+pub use exchanges::{Exchange, Wanted, unlike, unlike_at, unlike_with};
 pub use fitting::{Fit, Part, fit_of};
-pub use playing::{Act, PACES, Pace, Played, play, play_failing};
+pub use playing::{Act, PACES, Pace, Played, WORDS, play, play_failing, play_with};
 pub use texts::{
     ASK, ASK_B, GET, GET_B, HEAD, HEAD_B, PAGE_400, PAGE_411, PAGE_431, PAGE_502, PASSED, REPLY,
-    REPLY_B, REPLY_HELD, RESPONSE, RESPONSE_B, T, asking, joined, with_repeated,
+    REPLY_B, REPLY_HELD, RESPONSE, RESPONSE_B, T, asking, joined, joined_acts, with_repeated,
 };

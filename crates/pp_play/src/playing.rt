@@ -54,14 +54,29 @@ pub struct Played {
     alloc: Global,
 }
 
-/// Plays these acts, without words and without a call that fails.
+/// The words that exchanges are played with: a host has few connections, and asks go behind one another on them, so that
+/// an order shows on a few connections.
+pub const WORDS: &[&str] = &["hostConnections=4", "pipelineAsks=1"];
+
+/// Plays these acts, without a call that fails.
 pub fn play(alloc: Global, pace: Pace, acts: &[Act<'_>]) -> Result<Played, OutOfMemory> {
-    play_failing(alloc, pace, acts, &[])
+    play_with(alloc, WORDS, pace, acts, &[])
 }
 
 /// The same, where the calls of these numbers fail: reads, writes, listening and dials, from 1.
 pub fn play_failing(
     alloc: Global,
+    pace: Pace,
+    acts: &[Act<'_>],
+    failing: &[u64],
+) -> Result<Played, OutOfMemory> {
+    play_with(alloc, WORDS, pace, acts, failing)
+}
+
+/// The same with these words.
+pub fn play_with(
+    alloc: Global,
+    words: &[&str],
     pace: Pace,
     acts: &[Act<'_>],
     failing: &[u64],
@@ -72,12 +87,21 @@ pub fn play_failing(
         alloc,
         MemWorld::new(alloc, script, Image::new(alloc), failing)?,
     )?;
-    let exit = run(alloc, &[], &mut *world);
+    let exit = run(alloc, strings(alloc, words)?.as_slice(), &mut *world);
     // The world stops telling where memory was refused.
     if world.log().is_none() {
         return Err(OutOfMemory);
     }
     Ok(Played { exit, world, alloc })
+}
+
+fn strings(alloc: Global, words: &[&str]) -> Result<Vec<String>, OutOfMemory> {
+    let mut strings = Vec::new(alloc);
+    for word in words {
+        let word = String::from_str(alloc, word)?;
+        strings.push(word).map_err(AllocError::from)?;
+    }
+    Ok(strings)
 }
 
 /// A world of its own place, so that whoever lets go of it lets go of one thing.

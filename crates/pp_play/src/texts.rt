@@ -97,3 +97,12 @@ pub fn asking<'a>(
     acts.extend_from_slice(then)?;
     Ok(acts)
 }
+
+/// These acts, one list behind the other.
+pub fn joined_acts<'a>(alloc: Global, parts: &[&[Act<'a>]]) -> Result<Vec<Act<'a>>, OutOfMemory> {
+    let mut acts = Vec::new(alloc);
+    for part in parts {
+        acts.extend_from_slice(part)?;
+    }
+    Ok(acts)
+}

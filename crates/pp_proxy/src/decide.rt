@@ -3,7 +3,7 @@
 use crate::errand::Kind;
 use crate::front::Front;
 use crate::key::Key;
-use crate::seat::Seat;
+use crate::seat::{Brought, Seat};
 use crate::state::State;
 use arrayvec::ArrayVec;
 use pp_ask::{ASK_LEN, write_ask};
@@ -114,13 +114,13 @@ pub(crate) fn kind_of(
     }
 }
 
-/// What its exchange brought counts as long as the row is the one that it is bound to, and in the turn in
-/// which it came.
+/// What its exchange brought; a body counts as long as it belongs to the row of the key.
 fn begun_now(seat: &Seat, id: Option<ObjectId>) -> Begun {
-    match seat.begun {
-        Begun::Settled if id.is_some() && seat.settled == id => Begun::Settled,
-        Begun::Other if seat.is_told => Begun::Other,
-        Begun::Widened => Begun::Widened,
-        Begun::Nothing | Begun::Settled | Begun::Other => Begun::Nothing,
+    match seat.brought {
+        Brought::Joins(joined, _) if id == Some(joined) => Begun::Settled,
+        Brought::Awaited | Brought::Useless | Brought::Joins(_, _) | Brought::Refused =>
+            Begun::Nothing,
+        Brought::Passes(_) => Begun::Other,
+        Brought::TooWide => Begun::Widened,
     }
 }

@@ -3,21 +3,24 @@ ghost use Rattle.std.specs.Prelude.{IsTrue};
 ghost use Rattle.pp_reply.specs.Texts.{has_page};
 
 use crate::decide::kind_of;
-use crate::errand::Errand;
-use crate::front::is_answerable;
-use crate::seat::{Answer, Stage};
+use crate::errand::{Errand, Kind};
+use crate::front::{Asked, is_answerable};
+use crate::key::Key;
+use crate::seat::{Answer, Brought, Course, Seat, Stage};
 use crate::state::State;
 use pp_client::{Begin, Current};
-use pp_flow::{Aim, EXCHANGES};
+use pp_flow::{Aim, EXCHANGES, Exchange};
+use pp_fresh::allows_guess;
 use pp_head::{RequestHead, Scratch};
-use pp_plan::Begun;
+use pp_objects::ObjectId;
 use pp_ranges::{Range, read_range};
 use pp_reply::{CONTINUE, ReplyKind, write_reply};
+use pp_valid::accepts_only_identity;
 use pp_world::Decision;
 
 impl State {
     /// The decision that is taken: where there is no memory to ask, a refusal.
-    pub(crate) fn afforded(&mut self, i: usize, decision: Decision) -> Decision {
+    pub(crate) fn afforded(&self, i: usize, decision: Decision) -> Decision {
         let asks = matches!(
             decision,
             Decision::Pass | Decision::Fetch | Decision::Validate
@@ -29,7 +32,7 @@ impl State {
         }
     }
 
-    fn may_ask_for(&mut self, i: usize) -> bool {
+    fn may_ask_for(&self, i: usize) -> bool {
         let has_key = match self.seats.get(i) {
             None => false,
             Some(seat) => seat.front.key().is_some(),
@@ -88,6 +91,7 @@ impl State {
     fn refuse(&mut self, i: usize, status: u16) {
         self.begin_interim(i);
         self.leave_source(i);
+        self.leave_exchange(i);
         let Some(seat) = self.seats.get_mut(i) else {
             return;
         };
@@ -108,33 +112,9 @@ impl State {
             has_begun: true,
         });
         seat.closes = !keep;
-        seat.is_told = false;
-        seat.has_failed = false;
-        seat.is_too_long = false;
+        seat.brought = Brought::Awaited;
+        seat.course = Course::Trying(0);
         seat.drop_body();
-        let client = seat.id();
-        self.leave_unplaced(client);
-    }
-
-    /// Exchanges without a place of a request that is refused are over.
-    fn leave_unplaced(&mut self, client: u64) {
-        for _round in 0..self.errands.len() {
-            let Some(number) = self.unplaced_of(client) else {
-                break;
-            };
-            self.end(number);
-        }
-    }
-
-    fn unplaced_of(&self, client: u64) -> Option<u64> {
-        for errand in self.errands.iter() {
-            if let Some(e) = self.flow.get(errand.number) {
-                if e.client == client && e.place.is_none() {
-                    return Some(errand.number);
-                }
-            }
-        }
-        None
     }
 
     // ---- an exchange
@@ -145,7 +125,23 @@ impl State {
         };
         self.begin_interim(i);
         self.leave_source(i);
-        let Some(seat) = self.seats.get_mut(i) else {
+        self.leave_exchange(i);
+        let (aim, stage) = if decision == Decision::Pass {
+            (Aim::Pass, Stage::Passing)
+        } else {
+            (Aim::Own, Stage::Waiting)
+        };
+        self.begin_exchange(i, aim, &errand);
+        if let Some(seat) = self.seats.get_mut(i) {
+            seat.stage = stage;
+            seat.brought = Brought::Awaited;
+        }
+    }
+
+    /// The request asks this exchange. The one begun last is the only one of a request.
+    pub(crate) fn begin_exchange(&mut self, i: usize, aim: Aim, errand: &Errand) {
+        self.forsake(i);
+        let Some(seat) = self.seats.get(i) else {
             return;
         };
         let Some(key) = seat.front.key() else {
@@ -154,22 +150,8 @@ impl State {
         if self.flow.len() >= EXCHANGES || self.flow.begun() == u64::MAX {
             return;
         }
-        let is_pass = decision == Decision::Pass;
-        let aim = if is_pass { Aim::Pass } else { Aim::Own };
-        let number = self
-            .flow
-            .begin(seat.client.id(), seat.index, key.text(), aim);
-        seat.stage = if is_pass {
-            Stage::Passing(number)
-        } else {
-            Stage::Waiting(number)
-        };
-        seat.begun = Begun::Nothing;
-        seat.settled = None;
-        seat.is_told = false;
-        seat.has_plain_age = false;
-        seat.passed = None;
-        let _ = self.errands.push(Errand { number, ..errand });
+        let number = self.flow.begin(seat.client.id(), key.text(), aim);
+        let _ = self.errands.push(Errand { number, ..*errand });
     }
 
     /// The errand of a decision that asks an origin.
@@ -183,17 +165,37 @@ impl State {
         };
         let kind = kind_of(&head, self.cache.version(key.text()), decision)?;
         let is_pass = kind.is_pass();
+        let errand = self.errand_of(asked, key, &head, kind)?;
+        Some(Errand {
+            is_moved: kind.is_range() && is_moved(&head),
+            asks_head: is_pass && asked.is_head,
+            body_left: if is_pass { seat.body_left } else { 0 },
+            ..errand
+        })
+    }
+
+    /// The errand of an exchange that asks this for a request. None where its text does not fit.
+    pub(crate) fn errand_of(
+        &self,
+        asked: &Asked,
+        key: &Key,
+        head: &RequestHead<'_, '_>,
+        kind: Kind,
+    ) -> Option<Errand> {
         Some(Errand {
             number: 0,
             kind,
             place: *key.place(),
-            is_moved: kind.is_range() && is_moved(&head),
+            is_moved: false,
             goes_alone: asked.goes_alone,
-            asks_head: is_pass && asked.is_head,
+            asks_head: false,
             is_safe: asked.is_safe,
-            text_len: self.text_len(&head, key, &kind)?,
+            binds_connection: asked.binds_connection,
+            accepts_only_identity: accepts_only_identity(&head.fields),
+            allows_guess: allows_guess(key.text(), &head.fields),
+            text_len: self.text_len(head, key, &kind)?,
             asked: 0,
-            body_left: if is_pass { seat.body_left } else { 0 },
+            body_left: 0,
             requested: 0,
         })
     }
@@ -213,43 +215,53 @@ impl State {
         };
         self.cache.follow(id);
         self.leave_source(i);
-        self.answer(
-            i,
-            Answer {
-                decision,
-                source: Some(id),
-                from: span.0,
-                to: span.1,
-                has_begun: false,
-            },
-        );
-        if let Some(seat) = self.seats.get_mut(i) {
-            seat.passed = None;
-        }
+        self.answer(i, decision, Some(id), span);
+        self.leave_useless(i);
     }
 
     fn relay(&mut self, i: usize) {
         self.begin_interim(i);
         self.leave_source(i);
-        self.answer(
-            i,
-            Answer {
-                decision: Decision::Relay,
-                source: None,
-                from: 0,
-                to: 0,
-                has_begun: false,
-            },
-        );
+        self.answer(i, Decision::Relay, None, (0, 0));
     }
 
-    fn answer(&mut self, i: usize, answer: Answer) {
+    fn answer(&mut self, i: usize, decision: Decision, source: Option<ObjectId>, span: (u64, u64)) {
         let Some(seat) = self.seats.get_mut(i) else {
             return;
         };
-        seat.stage = Stage::Answering(answer);
+        seat.stage = Stage::Answering(Answer {
+            decision,
+            source,
+            from: span.0,
+            to: span.1,
+            has_begun: false,
+        });
         seat.closes = !seat.front.keeps_after(200);
-        seat.is_told = false;
+    }
+
+    /// The request leaves an exchange that brings nothing of what its reply follows.
+    fn leave_useless(&mut self, i: usize) {
+        let Some(e) = self.exchange_of(i) else {
+            return;
+        };
+        let is_served = match self.seats.get(i) {
+            None => false,
+            Some(seat) => self.serves(&e, seat),
+        };
+        if !is_served {
+            self.leave_exchange(i);
+        }
+    }
+
+    /// Of what the follower still wants, something is still to come by the exchange.
+    fn serves(&self, e: &Exchange, seat: &Seat) -> bool {
+        let Some(next) = seat.next() else {
+            return false;
+        };
+        match e.bound {
+            Some((id, from, to)) => id == next.source && from.max(next.at) < to.min(next.to),
+            None => !e.headed && self.asks_for(e, &next),
+        }
     }
 }
 

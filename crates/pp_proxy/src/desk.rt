@@ -13,7 +13,7 @@ use pp_world::{Cause, Event, Note, Wire};
 pub(crate) const MAX_CLIENTS: usize = 256;
 
 /// One read, in bytes.
-pub(crate) const READ_LEN: usize = 8192;
+pub(crate) const READ_LEN: usize = 32_768;
 
 /// How often the steps behind the decisions are made in one turn at most: each round but the last decides.
 const ROUNDS: u32 = 65_536;

@@ -1,5 +1,5 @@
 // Which decision or cut is due, and which comes first (RFC 2616, section 8.1; the order is ours).
-use crate::seat::{Answer, Seat, Stage};
+use crate::seat::{Answer, Brought, Course, PassedEnd, Seat, Stage};
 use crate::state::State;
 use pp_world::{Cause, Decision};
 
@@ -37,25 +37,32 @@ impl State {
         Some(Due::Decide(self.decision_of(seat)?))
     }
 
-    /// The causes of a cut, in their order: the first that applies.
+    /// The causes of a cut, in their order: the first that applies. What came is said before a reply is cut
+    /// for its origin.
     fn cut_of(&self, seat: &Seat) -> Option<Cause> {
         let begun = seat.has_begun();
-        let is_idle = IDLE_SECONDS <= self.now.saturating_sub(seat.client.mark());
         if begun && self.is_stopped {
             Some(Cause::Stop)
-        } else if begun && is_short(seat) {
+        } else if begun && is_short(seat) && self.is_dry(seat) {
             Some(Cause::Short)
         } else if begun && self.is_superseded(seat) {
             Some(Cause::Superseded)
-        } else if begun && (seat.has_failed || seat.is_too_long) {
+        } else if begun && !seat.is_trying() && self.is_dry(seat) {
             Some(Cause::Origin)
-        } else if self.is_ticked && is_idle {
+        } else if self.is_ticked && self.is_idle(seat) {
             Some(Cause::Idle)
-        } else if begun && seat.is_refused && seat.still_waits() {
-            Some(Cause::Memory)
         } else {
             None
         }
+    }
+
+    /// Nothing that came is left to say to it.
+    pub(crate) fn is_dry(&self, seat: &Seat) -> bool {
+        self.cache.offer(&seat.client).is_empty()
+    }
+
+    fn is_idle(&self, seat: &Seat) -> bool {
+        IDLE_SECONDS <= self.now.saturating_sub(seat.client.mark())
     }
 
     /// Another version stands, and of this one nothing more comes.
@@ -67,20 +74,20 @@ impl State {
     }
 
     fn decision_of(&self, seat: &Seat) -> Option<Decision> {
-        if seat.is_refused && seat.still_waits() && !seat.has_begun() {
+        if matches!(seat.brought, Brought::Refused) {
             return Some(Decision::Refuse(500));
         }
         match seat.stage {
             Stage::Undecided => self.due_undecided(seat),
-            Stage::Waiting(_) => {
-                let told = if seat.is_told {
+            Stage::Waiting => {
+                let told = if seat.is_told() {
                     self.decide(seat)
                 } else {
                     None
                 };
                 give_up(seat, told)
             }
-            Stage::Passing(_) => give_up(seat, None),
+            Stage::Passing => give_up(seat, None),
             Stage::Answering(answer) => self.decided_again(seat, answer),
         }
     }
@@ -98,6 +105,7 @@ impl State {
         give_up(seat, again)
     }
 
+    /// The row by which it was decided is replaced or cleared.
     fn has_lost_row(&self, answer: Answer) -> bool {
         let has_row = match answer.source {
             None => false,
@@ -109,19 +117,17 @@ impl State {
 
 /// Its attempts ended, or its ask as a follower is too long.
 fn give_up(seat: &Seat, other: Option<Decision>) -> Option<Decision> {
-    if seat.has_failed {
-        Some(Decision::Refuse(502))
-    } else if seat.is_too_long {
-        Some(Decision::Refuse(431))
-    } else {
-        other
+    match seat.course {
+        Course::Trying(_) => other,
+        Course::OutOfTries => Some(Decision::Refuse(502)),
+        Course::AskTooLong => Some(Decision::Refuse(431)),
     }
 }
 
 /// Its response ended early.
 fn is_short(seat: &Seat) -> bool {
-    match seat.passed {
+    match seat.passed() {
         None => false,
-        Some(passed) => seat.is_passing() && passed.is_short && !passed.is_finished,
+        Some(passed) => passed.end == PassedEnd::Short,
     }
 }

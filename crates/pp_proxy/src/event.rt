@@ -81,6 +81,7 @@ impl Desk {
                 origin.mark = now;
             }
         }
+        self.state.renew_marks(now);
         self.state.now = now;
         self.state.is_ticked = true;
         for _origin in 0..self.origins.len() {

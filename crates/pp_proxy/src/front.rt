@@ -7,6 +7,7 @@ use crate::key::Key;
 use pp_client::{Client, Current};
 use pp_framing::{BodyRule, request_rule};
 use pp_head::{RequestHead, Scratch};
+use pp_pipe::binds_connection;
 use pp_reply::{is_kept_open, wants_interim};
 use pp_target::TargetFault;
 use std::alloc::Global;
@@ -37,6 +38,8 @@ pub(crate) struct Asked {
     pub(crate) is_safe: bool,
     /// Whether it takes a connection for itself, and is asked once (section 8.1.2.2).
     pub(crate) goes_alone: bool,
+    /// Whether it authenticates that connection, so that nobody else may be asked on it (RFC 4559, section 6).
+    pub(crate) binds_connection: bool,
     /// Whether the client's connection goes on behind the reply.
     pub(crate) keeps_open: bool,
     /// Whether it waits for the interim answer (section 8.2.3).
@@ -109,7 +112,8 @@ fn asked_of(alloc: Global, head: &RequestHead<'_, '_>, fault: Option<u16>) -> As
         body_len,
         is_head: head.method == b"HEAD".as_slice(),
         is_safe: is_plain || is_other_safe(head.method),
-        goes_alone: !is_plain || body_len > 0,
+        goes_alone: !is_plain || body_len > 0 || binds_connection(&head.fields),
+        binds_connection: binds_connection(&head.fields),
         keeps_open: is_kept_open(head.minor, &head.fields) && rule.is_ok(),
         expects_interim: refusal.is_none() && waits,
     }

@@ -6,18 +6,62 @@ use crate::front::Front;
 use pp_client::Client;
 use pp_framing::BodyRule;
 use pp_objects::ObjectId;
-use pp_plan::Begun;
 use pp_world::Decision;
 
-/// Where the current request is.
+/// Where the current request is. The exchange that it waits for is the one that names its client.
+///
+/// ```text
+/// Undecided -> Waiting, Passing   an origin is asked                  [ask_origin]
+/// Waiting   -> Waiting, Passing   what came does not answer it        [ask_origin]
+/// any       -> Answering          a reply is decided                  [answer, refuse]
+/// Answering -> Waiting, Passing   its row is lost before it began     [ask_origin]
+/// Answering -> Undecided          all was said: the next one stands   [next_request]
+/// ```
 #[derive(Clone, Copy)]
 pub(crate) enum Stage {
     Undecided,
-    /// Decided again when the head of this exchange's response came.
-    Waiting(u64),
-    /// The response to this exchange is its reply.
-    Passing(u64),
+    /// Decided again when the head of its exchange's response came.
+    Waiting,
+    /// The response to its exchange is its reply.
+    Passing,
     Answering(Answer),
+}
+
+/// What the exchange of the request brought, by the head of its response.
+#[derive(Clone, Copy)]
+pub(crate) enum Brought {
+    /// Nothing yet.
+    Awaited,
+    /// Nothing of use.
+    Useless,
+    /// A body that belongs to this instance; and whether no Age was told.
+    Joins(ObjectId, bool),
+    /// A response that is passed.
+    Passes(Passed),
+    /// A part, without a version, that was asked for from before the client's range on.
+    TooWide,
+    /// A version for whose row memory was refused.
+    Refused,
+}
+
+/// A response that is passed: its head is written already, and its body goes through the client's pipe.
+#[derive(Clone, Copy)]
+pub(crate) struct Passed {
+    pub(crate) rule: BodyRule,
+    /// Bytes of the head that was written.
+    pub(crate) head_len: usize,
+    pub(crate) end: PassedEnd,
+}
+
+/// How much of the body of a response that is passed came.
+#[derive(Clone, Copy, Debug, PartialEq, Eq)]
+pub(crate) enum PassedEnd {
+    /// More of it is to come.
+    Coming,
+    /// All of it is in the pipe.
+    Whole,
+    /// Its connection was gone before it was whole.
+    Short,
 }
 
 /// A reply that was decided.
@@ -32,25 +76,23 @@ pub(crate) struct Answer {
     pub(crate) has_begun: bool,
 }
 
+/// How a request fares (RFC 2616, section 8.1.4).
+#[derive(Clone, Copy, Debug, PartialEq, Eq)]
+pub(crate) enum Course {
+    /// So many attempts were lost.
+    Trying(u8),
+    /// They ended.
+    OutOfTries,
+    /// What its client would ask as a follower is too long.
+    AskTooLong,
+}
+
 /// The next byte of a client that follows an instance, and the end of its span.
 #[derive(Clone, Copy)]
 pub(crate) struct Next {
     pub(crate) source: ObjectId,
     pub(crate) at: u64,
     pub(crate) to: u64,
-}
-
-/// A response that is passed: its head is written already, and its body goes through the client's pipe.
-#[derive(Clone, Copy)]
-pub(crate) struct Passed {
-    pub(crate) exchange: u64,
-    pub(crate) rule: BodyRule,
-    /// Bytes of the head that was written.
-    pub(crate) head_len: usize,
-    /// All of its body is in the pipe.
-    pub(crate) is_finished: bool,
-    /// Its connection was gone before it was whole.
-    pub(crate) is_short: bool,
 }
 
 #[derive(Drop)]
@@ -66,21 +108,8 @@ pub(crate) struct Seat {
     pub(crate) stage: Stage,
     /// The exchange of another client that it waits for, before its own.
     pub(crate) waits_on: Option<u64>,
-    pub(crate) passed: Option<Passed>,
-    /// What its exchange brought, and to which instance.
-    pub(crate) begun: Begun,
-    pub(crate) settled: Option<ObjectId>,
-    /// The head of its exchange's response came in this turn.
-    pub(crate) is_told: bool,
-    /// That response had no Age.
-    pub(crate) has_plain_age: bool,
-    /// Attempts that were lost, and whether they ended.
-    pub(crate) lost: u8,
-    pub(crate) has_failed: bool,
-    /// Its ask as a follower is too long.
-    pub(crate) is_too_long: bool,
-    /// Memory was refused for the row of its request, in this turn.
-    pub(crate) is_refused: bool,
+    pub(crate) brought: Brought,
+    pub(crate) course: Course,
     /// Bytes of the interim answer and of the head that are still to be said.
     pub(crate) before_body: usize,
     /// Its reply is the last.
@@ -100,15 +129,8 @@ impl Seat {
             index: 0,
             stage: Stage::Undecided,
             waits_on: None,
-            passed: None,
-            begun: Begun::Nothing,
-            settled: None,
-            is_told: false,
-            has_plain_age: false,
-            lost: 0,
-            has_failed: false,
-            is_too_long: false,
-            is_refused: false,
+            brought: Brought::Awaited,
+            course: Course::Trying(0),
             before_body: 0,
             closes: false,
             is_closing: false,
@@ -121,8 +143,47 @@ impl Seat {
 
     pub(crate) fn answer(&self) -> Option<Answer> {
         match self.stage {
-            Stage::Undecided | Stage::Waiting(_) | Stage::Passing(_) => None,
+            Stage::Undecided | Stage::Waiting | Stage::Passing => None,
             Stage::Answering(answer) => Some(answer),
+        }
+    }
+
+    /// That is the key of its request.
+    pub(crate) fn has_key(&self, key: &[u8]) -> bool {
+        match self.front.key() {
+            None => false,
+            Some(own) => own.text() == key,
+        }
+    }
+
+    /// The head of its exchange's response came.
+    pub(crate) fn is_told(&self) -> bool {
+        match self.brought {
+            Brought::Awaited => false,
+            Brought::Useless
+            | Brought::Joins(_, _)
+            | Brought::Passes(_)
+            | Brought::TooWide
+            | Brought::Refused => true,
+        }
+    }
+
+    /// The response that its exchange passes to it.
+    pub(crate) fn passed(&self) -> Option<Passed> {
+        match self.brought {
+            Brought::Passes(passed) => Some(passed),
+            Brought::Awaited
+            | Brought::Useless
+            | Brought::Joins(_, _)
+            | Brought::TooWide
+            | Brought::Refused => None,
+        }
+    }
+
+    /// The body of that response came to this.
+    pub(crate) fn end_passed(&mut self, end: PassedEnd) {
+        if let Brought::Passes(passed) = &mut self.brought {
+            passed.end = end;
         }
     }
 
@@ -184,20 +245,23 @@ impl Seat {
         self.has_begun() && self.before_body == 0
     }
 
-    /// Its response is passed.
-    pub(crate) fn is_passing(&self) -> bool {
-        match self.answer() {
-            None => false,
-            Some(answer) => matches!(answer.decision, Decision::Pass | Decision::Relay),
+    /// More may be asked for its request.
+    pub(crate) fn is_trying(&self) -> bool {
+        match self.course {
+            Course::Trying(_) => true,
+            Course::OutOfTries | Course::AskTooLong => false,
         }
     }
 
-    /// Its request was decided, and is to have a reply that is no page.
-    pub(crate) fn still_waits(&self) -> bool {
-        match self.stage {
-            Stage::Undecided | Stage::Passing(_) => false,
-            Stage::Waiting(_) => true,
-            Stage::Answering(answer) => !matches!(answer.decision, Decision::Refuse(_)),
+    /// An attempt is lost, of so many.
+    pub(crate) fn lose_attempt(&mut self, most: u8) {
+        if let Course::Trying(n) = self.course {
+            let lost = n.saturating_add(1);
+            self.course = if most <= lost {
+                Course::OutOfTries
+            } else {
+                Course::Trying(lost)
+            };
         }
     }
 
@@ -220,14 +284,8 @@ impl Seat {
         self.index = self.index.saturating_add(1);
         self.stage = Stage::Undecided;
         self.waits_on = None;
-        self.passed = None;
-        self.begun = Begun::Nothing;
-        self.settled = None;
-        self.is_told = false;
-        self.has_plain_age = false;
-        self.lost = 0;
-        self.has_failed = false;
-        self.is_too_long = false;
+        self.brought = Brought::Awaited;
+        self.course = Course::Trying(0);
         self.before_body = 0;
         self.closes = false;
     }

@@ -1,10 +1,11 @@
 // What the steps of a turn change together: clients, exchanges and the cache.
 use crate::cache::Cache;
 use crate::errand::Errand;
-use crate::seat::{Seat, Stage};
+use crate::noted::Noted;
+use crate::seat::{Course, Seat, Stage};
 use arrayvec::ArrayVec;
 use pp_flow::{EXCHANGES, Exchange, Flow};
-use pp_text::Octets;
+use pp_peers::Limits;
 use std::alloc::Global;
 
 #[derive(Drop)]
@@ -16,6 +17,8 @@ pub(crate) struct State {
     pub(crate) trigger: u32,
     pub(crate) floor: u32,
     pub(crate) shares_fetches: bool,
+    /// What the connections of a host may be used for.
+    pub(crate) limits: Limits,
     /// In the order of their numbers.
     pub(crate) seats: Vec<Seat>,
     pub(crate) flow: Flow,
@@ -31,9 +34,9 @@ pub(crate) struct State {
     /// The trigger was reached.
     pub(crate) is_evicting: bool,
     /// Keys of rows that left memory and are not noted yet.
-    pub(crate) forgotten: Vec<Octets>,
+    pub(crate) forgotten: Noted,
     /// Keys of rows that memory was refused for.
-    pub(crate) refused: Vec<Octets>,
+    pub(crate) refused: Noted,
 }
 
 impl State {
@@ -41,18 +44,20 @@ impl State {
         self.seats.iter().position(|seat| seat.id() == client)
     }
 
-    /// The client of an exchange, as long as it is at that request.
+    /// The client of an exchange: its request did not leave it.
     pub(crate) fn seat_for(&self, e: &Exchange) -> Option<usize> {
-        self.seats.iter().position(|seat| seat.id() == e.client
-            && seat.index == e.request
-            && !seat.is_closing)
+        self.seat_of(e.asker?)
     }
 
-    /// Somebody still wants the response of the exchange.
-    pub(crate) fn has_client(&self, e: &Exchange) -> bool {
-        self.seats
-            .iter()
-            .any(|seat| seat.id() == e.client && !seat.is_closing)
+    /// The request of the exchange did not leave it, and may ask once more.
+    pub(crate) fn may_ask_again(&self, e: &Exchange) -> bool {
+        match self.seat_for(e) {
+            None => false,
+            Some(i) => match self.seats.get(i) {
+                None => false,
+                Some(seat) => seat.is_trying(),
+            },
+        }
     }
 
     pub(crate) fn exchange(&self, number: u64) -> Option<Exchange> {
@@ -73,16 +78,39 @@ impl State {
     }
 
     /// Whether another exchange may begin.
-    pub(crate) fn may_ask(&mut self) -> bool {
-        self.flow.len() < EXCHANGES
-            && self.flow.begun() < u64::MAX
-            && self.errands.reserve(1).is_ok()
+    pub(crate) fn may_ask(&self) -> bool {
+        self.flow.len() < EXCHANGES && self.flow.begun() < u64::MAX
     }
 
     /// The exchange is over.
     pub(crate) fn end(&mut self, number: u64) {
         self.flow.over(number);
         self.errands.retain(|errand| errand.number != number);
+    }
+
+    /// The exchange of the request of the client at this place.
+    pub(crate) fn exchange_of(&self, i: usize) -> Option<Exchange> {
+        let seat = self.seats.get(i)?;
+        self.exchange(self.flow.asked_by(seat.id())?)
+    }
+
+    /// The request leaves its exchange: that is nobody's from now on, and is read to its end.
+    pub(crate) fn forsake(&mut self, i: usize) {
+        if let Some(e) = self.exchange_of(i) {
+            self.flow.leave(e.number);
+        }
+    }
+
+    /// The same at a decision: without a place it is over.
+    pub(crate) fn leave_exchange(&mut self, i: usize) {
+        let Some(e) = self.exchange_of(i) else {
+            return;
+        };
+        if e.place.is_none() {
+            self.end(e.number);
+        } else {
+            self.flow.leave(e.number);
+        }
     }
 
     /// An attempt of the exchange is lost.
@@ -95,8 +123,7 @@ impl State {
             return;
         };
         if let Some(seat) = self.seats.get_mut(i) {
-            seat.lost = seat.lost.saturating_add(1);
-            seat.has_failed = seat.has_failed || most <= seat.lost;
+            seat.lose_attempt(most);
         }
     }
 
@@ -106,7 +133,7 @@ impl State {
             return;
         };
         if let Some(seat) = self.seats.get_mut(i) {
-            seat.has_failed = true;
+            seat.course = Course::OutOfTries;
         }
     }
 
@@ -128,10 +155,10 @@ impl State {
     /// Attempts count anew for those whose next byte is held.
     pub(crate) fn regain(&mut self) {
         for seat in self.seats.iter_mut() {
-            if seat.lost > 0 {
+            if seat.course != Course::Trying(0) {
                 if let Some(next) = seat.next() {
                     if self.cache.holds(next.source, next.at) {
-                        seat.lost = 0;
+                        seat.course = Course::Trying(0);
                     }
                 }
             }
