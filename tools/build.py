@@ -8,6 +8,7 @@ import hashlib
 import os
 import pathlib
 import re
+import shutil
 import subprocess
 import sys
 import threading
@@ -36,6 +37,15 @@ def below(name, listed):
             found.add(name)
             wanted += listed[name]
     return found
+
+
+def copied(names, room, without=()):
+    """Copies these crates into a folder, as a repository that has no other."""
+    lines = (TOP / "crates.txt").read_text().splitlines(True)
+    (room / "crates.txt").write_text("".join(line for line in lines if line.split(":")[0].strip() in names))
+    shutil.copy(TOP / "HANDLES", room)
+    for name in names:
+        shutil.copytree(TOP / "crates" / name, room / "crates" / name, ignore=shutil.ignore_patterns("out", *without))
 
 
 def checksum(names):

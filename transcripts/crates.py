@@ -6,6 +6,7 @@ import forcing
 import reader
 import rows
 
+TOP = Path(__file__).resolve().parent.parent
 PIECES = "pp_pieces"
 LIB = """//! {head}
 //!
@@ -22,9 +23,9 @@ HEADS = {
 LONG = 5000  # a file that has a log of so many happenings stands in pp_rows_long
 
 
-def rules_of(top):
+def rules_of():
     """The rules, as antt names them."""
-    return [name for name, _ in forcing.types_in((top / "crates/pp_law/specs/Lawful.antt").read_text())[1]["Rule"]]
+    return [name for name, _ in forcing.types_in((TOP / "crates/pp_law/specs/Lawful.antt").read_text())[1]["Rule"]]
 
 
 def crate(name, modules, head):
@@ -42,42 +43,42 @@ def by_file(logs):
     return found
 
 
-def of_repository(top):
+def of_repository():
     """Each file of each crate of rows."""
-    rules, folder, lives = rules_of(top), Path("transcripts"), Path("crates/pp_seeds/stdout")
+    rules, folder, lives = rules_of(), Path("transcripts"), Path("crates/pp_seeds/stdout")
     found = {"pp_rows": {}, "pp_rows_long": {}, "pp_rows_changes": {}}
-    for file, logs in by_file(reader.read([top / folder])).items():
+    for file, logs in by_file(reader.read([TOP / folder])).items():
         # A log that is there to be changed stands with its changes.
         changed = {log.line for log in logs if log.change}
         plain = "pp_rows_long" if max(len(log.happenings) for log in logs) >= LONG else "pp_rows"
         found[plain] |= rows.modules([log for log in logs if log.line not in changed], folder / file, rules)
         found["pp_rows_changes"] |= rows.modules([log for log in logs if log.line in changed], folder / file, rules)
-    found["pp_rows_lives"] = rows.modules(reader.read([top / lives]), lives, rules, "Lives")
-    found[PIECES] = {"Forced": forcing.module(top / "crates")}
+    found["pp_rows_lives"] = rows.modules(reader.read([TOP / lives]), lives, rules, "Lives")
+    found[PIECES] = {"Forced": forcing.module(TOP / "crates")}
     return {file: text for name, modules in found.items() for file, text in crate(name, modules, HEADS[name]).items()}
 
 
-def standing(top):
+def standing():
     """The files that stand in these crates now."""
-    files = [file for name in HEADS for part in ("src", "proofs") for file in (top / "crates" / name / part).rglob("*") if file.is_file()]
-    return {str(file.relative_to(top)) for file in files}
+    files = [file for name in HEADS for part in ("src", "proofs") for file in (TOP / "crates" / name / part).rglob("*") if file.is_file()]
+    return {str(file.relative_to(TOP)) for file in files}
 
 
-def compare(top, written):
+def compare(written):
     """Says which files are not as written; 1 where one is not."""
-    files = sorted(standing(top) | set(written))
-    unlike = [file for file in files if not (top / file).is_file() or (top / file).read_text() != written.get(file)]
+    files = sorted(standing() | set(written))
+    unlike = [file for file in files if not (TOP / file).is_file() or (TOP / file).read_text() != written.get(file)]
     for file in unlike:
         print(f"{file} is not what transcripts/make_rows writes")
     print(f"{len(files) - len(unlike)} passed, {len(unlike)} failed")
     return 1 if unlike else 0
 
 
-def write(top, written):
-    for file in standing(top) - set(written):
-        (top / file).unlink()
+def write(written):
+    for file in standing() - set(written):
+        (TOP / file).unlink()
     for file, text in written.items():
-        (top / file).parent.mkdir(parents=True, exist_ok=True)
-        if not (top / file).is_file() or (top / file).read_text() != text:
-            (top / file).write_text(text)
+        (TOP / file).parent.mkdir(parents=True, exist_ok=True)
+        if not (TOP / file).is_file() or (TOP / file).read_text() != text:
+            (TOP / file).write_text(text)
     return 0
