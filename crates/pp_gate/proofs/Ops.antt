@@ -62,7 +62,7 @@ others_same name other (op ∷ ops) v s on differ is =
     )
 
 -- one file stands under the name
-one_leaves : (f : Stored) (R : Option Bytes → Type 0) (s : List (Option Stored)) → s ≡ Some f ∷ [] → ((c : Bytes) → IsLeft f c → R (Some c)) → (file : Option Bytes) → LeavesOne s file → R file
+pub one_leaves : (f : Stored) (R : Option Bytes → Type 0) (s : List (Option Stored)) → s ≡ Some f ∷ [] → ((c : Bytes) → IsLeft f c → R (Some c)) → (file : Option Bytes) → LeavesOne s file → R file
 one_leaves f R s is each file left = by file (subst (λ (t : List (Option Stored)). LeavesOne t file) is left)
   where
     by : (file : Option Bytes) → LeavesOne (Some f ∷ []) file → R file
@@ -166,6 +166,16 @@ others_moments old new ops ok name on runs = record {
     at = λ p q split other differ. (at_each other (λ v. v.slot ≡ (view_of other k).slot) k ops ok hs (others_same name other ops (view_of other k) (view_of other k).slot on differ refl) (runs_at old new ops ok k hs runs was is)).at p q split;
   };
 }
+
+-- the file once it was written, and once it was synced
+pub begun_slot : (name : Bytes) (at : ℕ) (x : Bytes) (f : Stored) (v : View) → v.slot ≡ Some f ∷ [] → (began name (Write name at x) v).slot ≡ Some (loosened at (at + length x) f) ∷ []
+begun_slot name at x f v is = chosen name _ _ ∙ ap (λ (s : List (Option Stored)). map (on_file (loosened at (at + length x))) s) is
+
+pub write_slot : (name : Bytes) (at : ℕ) (x : Bytes) (f : Stored) (v : View) → v.slot ≡ Some f ∷ [] → (done name (Write name at x) (began name (Write name at x) v)).slot ≡ Some (written at x (loosened at (at + length x) f)) ∷ []
+write_slot name at x f v is = chosen name _ _ ∙ ap (λ (s : List (Option Stored)). map (on_file (written at x)) s) (begun_slot name at x f v is)
+
+pub sync_slot : (name : Bytes) (f : Stored) (v : View) → v.slot ≡ Some f ∷ [] → v.failed ≡ false → (done name (Sync name) v).slot ≡ Some (settled f.bytes) ∷ []
+sync_slot name f v is sound = chosen name _ _ ∙ ap (λ (b : Bool). synced_unless b v.slot) sound ∙ ap (λ (s : List (Option Stored)). map (on_file synced) s) is
 
 -- the file once it was written and synced
 pub write_sync_slot : (name : Bytes) (at : ℕ) (x base : Bytes) (v : View) → v.slot ≡ Some (settled base) ∷ [] → v.failed ≡ false → (done_view name v (Write name at x ∷ Sync name ∷ [])).slot ≡ Some (settled (splice at x base)) ∷ []

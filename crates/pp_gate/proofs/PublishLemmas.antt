@@ -52,7 +52,7 @@ publish_failed old mid new name file runs call = record {
 pub published_runs : (old mid new : Option Log) (name file : Bytes) → RunsOps old mid (draft_ops file) true → AppendsAll mid new (λ l. Began (Publish name) ∷ Did (Publish name) true ∷ []) → RunsOps old new (publish_ops name file) true
 published_runs old mid new name file runs call = runs_more old mid new (draft_ops file) (Publish name) runs call
 
-failed_runs : (old new : Option Log) (name file : Bytes) → AppendsAll old new (λ l. Began (Draft file) ∷ Did (Draft file) true ∷ Began SyncDraft ∷ Did SyncDraft true ∷ Began (Publish name) ∷ Did (Publish name) false ∷ [])
+pub failed_runs : (old new : Option Log) (name file : Bytes) → AppendsAll old new (λ l. Began (Draft file) ∷ Did (Draft file) true ∷ Began SyncDraft ∷ Did SyncDraft true ∷ Began (Publish name) ∷ Did (Publish name) false ∷ [])
     → RunsOps old new (publish_ops name file) false
 failed_runs old new name file call = record {
   was = λ l is. let w = call.was l is in (w.0, _, w.1, w.2, inr (_, refl, inr (_, refl, inl (refl, refl))));

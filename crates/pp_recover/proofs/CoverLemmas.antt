@@ -1,6 +1,6 @@
 -- Once all names were attended to, an entry stands under a kept or a closed name alone.
-use Rattle.std.proofs.Common.{◌≡◌, ℕ, zero, suc, ◌+◌, ◌*◌, ◌/◌, ◌%◌, ◌<◌, ◌≤◌, Bool, true, false, List, [], ◌∷◌, ◌++◌, length, Option, Some, None, refl, sym, ◌∙◌, ap, subst, arith}
-use Rattle.std.specs.Prelude.{◌==◌, ◌||◌, nat_le, nat_lt, bytes_eq, cond, if◌then◌else◌, map, filter, find, slice_index, is_some, Ok}
+use Rattle.std.proofs.Common.{◌≡◌, ℕ, zero, suc, ◌*◌, ◌/◌, ◌%◌, ◌<◌, Bool, true, false, List, [], ◌∷◌, ◌++◌, length, Option, Some, None, refl, sym, ◌∙◌, ap, subst, arith}
+use Rattle.std.specs.Prelude.{◌==◌, ◌||◌, nat_lt, bytes_eq, cond, if◌then◌else◌, map, filter, find, slice_index, is_some, Ok}
 use Rattle.std.specs.Int.{w32, to_le_bytes}
 use Rattle.std.specs.List.{filter_map, cons_option, list_all, list_any}
 use Rattle.std.specs.Option.{option_and_then}
@@ -20,7 +20,6 @@ use Rattle.pp_world.specs.Files.{Files, file_of, name_order}
 use Rattle.pp_world.specs.Log.{Log}
 use Rattle.pp_world.specs.Disk.{Bytes, LeavesOne, names_in, view_of, is_name_byte, is_name as has_form}
 use Rattle.pp_target.specs.Name.{name_of}
-use Rattle.pp_entry.specs.Texts.{body_at}
 use Rattle.pp_gate.specs.Files.{extent_in}
 use Rattle.pp_gate.specs.Runs.{EachMoment}
 use Rattle.pp_store.specs.Held.{IsEntryUnder, Covers}
@@ -28,7 +27,7 @@ use Rattle.pp_store.specs.Kept.{Kept, KeptMap, is_closed, is_name, is_under, kep
 use Rattle.pp_recover.specs.Image.{HasFewNames, named_for, head_in, entry_in, entry_of}
 use Rattle.pp_recover.specs.Looks.{Extends}
 use Rattle.pp_recover.specs.Opening.{IsFresh, SameEntries, Opens, entry_unless, failed_on, store_in}
-use Rattle.pp_recover.proofs.EntryLemmas.{entry_some, entry_told, extent_same, head_told}
+use Rattle.pp_recover.proofs.EntryLemmas.{entry_some, entry_told, extent_same, head_told, fits}
 
 -- ---- the name of a key has the form of a name
 
@@ -136,11 +135,8 @@ entry_under name file under = (
   record { entry = under.row; extent = extent_in under.row.version.length file },
   entry_some name file under.row (extent_in under.row.version.length file)
       (ap (option_and_then (named_for name)) under.head ∙ ap (λ (b : Bool). if b then Some under.row else None) ((bytes_eq-Decides (name_of under.row.key) name).1 under.own))
-      (extent_same under.row.version.length file ∙ ap (λ (b : Bool). if b then Some (extent_in under.row.version.length file) else None) (le_is (body_at under.row.version.length + extent_in under.row.version.length file) (length file) under.entry.long)),
+      (extent_same under.row.version.length file ∙ ap (λ (b : Bool). if b then Some (extent_in under.row.version.length file) else None) (fits under.row.version.length (extent_in under.row.version.length file) (length file) under.entry.long under.entry.short)),
 )
-  where
-    le_is : (a b : ℕ) → a ≤ b → nat_le a b ≡ true
-    le_is a b le = grind (arith, nat_tests)
 
 module _ (files : Files) (l : Log) (few : HasFewNames files) where
   -- the entry of a file of the folder is kept, or its name is closed

@@ -64,17 +64,17 @@ module _ (files : Files) where
   whole_other name ts v hs not_in each = each_other name ts v hs hs [] not_in each (sym (append-nil hs))
 
   -- ---- what a crash leaves at each moment
-  pub each_stays : (name : Bytes) (ts : List Tended) (v : View) (hs p q : Log) → Distinct (map name_in ts) → v.slot ≡ at_rest (file_of name files) ∷ [] → TendsEach files ts hs → hs ≡ p ++ q → AllLeft (Stays name (file_of name files)) (view_from name v p)
-  each_stays name [] v hs p q apart slot each split = subst (λ (l : Log). AllLeft (Stays name (file_of name files)) (view_from name v l)) (nil_front p q (sym each ∙ split)) (at_rest_stays name (file_of name files) v slot)
-  each_stays name (t ∷ ts) v hs p q apart slot each split =
+  pub each_stays : (name : Bytes) (ts : List Tended) (v : View) (hs p q : Log) → Distinct (map name_in ts) → v.slot ≡ at_rest (file_of name files) ∷ [] → v.failed ≡ false → TendsEach files ts hs → hs ≡ p ++ q → AllLeft (Stays name (file_of name files)) (view_from name v p)
+  each_stays name [] v hs p q apart slot sound each split = subst (λ (l : Log). AllLeft (Stays name (file_of name files)) (view_from name v l)) (nil_front p q (sym each ∙ split)) (at_rest_stays name (file_of name files) v slot)
+  each_stays name (t ∷ ts) v hs p q apart slot sound each split =
       by (bytes_eq t.name name) (bytes_eq-Decides t.name name) (front_of each.0 each.1 p q (sym each.2 ∙ split))
-      (λ w r w_slot rest. each_stays name ts w each.1 r q apart.1 w_slot each.4 rest)
+      (λ w r w_slot w_sound rest. each_stays name ts w each.1 r q apart.1 w_slot w_sound each.4 rest)
     where
       here : t.name ≡ name → Tends name (file_of name files) t.sound each.0
       here same = subst (λ (n : Bytes). Tends n (file_of n files) t.sound each.0) same each.3
 
       left_whole : t.name ≡ name → AllLeft (Stays name (file_of name files)) (view_from name v each.0)
-      left_whole same = tends_stays name (file_of name files) t.sound v each.0 each.0 [] slot (here same) (sym (append-nil each.0))
+      left_whole same = tends_stays name (file_of name files) t.sound v each.0 each.0 [] slot sound (here same) (sym (append-nil each.0))
 
       others : (r : Log) → each.1 ≡ r ++ q → t.name ≡ name → view_from name (view_from name v each.0) r ≡ view_from name v each.0
       others r rest same = each_other name ts (view_from name v each.0) each.1 r q (subst (λ (n : Bytes). NotIn n (map name_in ts)) same apart.0) each.4 rest
@@ -86,9 +86,9 @@ module _ (files : Files) where
       at_front l is left = subst (λ (m : Log). AllLeft (Stays name (file_of name files)) (view_from name v m)) (sym is) left
 
       by : (b : Bool) → ((b ≡ true → t.name ≡ name) × (t.name ≡ name → b ≡ true)) → Front each.0 each.1 p q
-          → ((w : View) (r : Log) → w.slot ≡ at_rest (file_of name files) ∷ [] → each.1 ≡ r ++ q → AllLeft (Stays name (file_of name files)) (view_from name w r))
+          → ((w : View) (r : Log) → w.slot ≡ at_rest (file_of name files) ∷ [] → w.failed ≡ false → each.1 ≡ r ++ q → AllLeft (Stays name (file_of name files)) (view_from name w r))
           → AllLeft (Stays name (file_of name files)) (view_from name v p)
-      by true decides (within r is) rest = tends_stays name (file_of name files) t.sound v each.0 p r slot (here (decides.0 refl)) is
+      by true decides (within r is) rest = tends_stays name (file_of name files) t.sound v each.0 p r slot sound (here (decides.0 refl)) is
       by true decides (beyond r is there) rest = at_front (each.0 ++ r) is
           (subst (AllLeft (Stays name (file_of name files))) (sym (view_then name v each.0 r ∙ others r there (decides.0 refl))) (left_whole (decides.0 refl)))
       by false decides (within r is) rest =
@@ -96,7 +96,7 @@ module _ (files : Files) where
       by false decides (beyond r is there) rest = at_front (each.0 ++ r) is
           (subst (AllLeft (Stays name (file_of name files)))
           (sym (view_then name v each.0 r ∙ ap (λ (w : View). view_from name w r) (tends_other t.name name (λ same. absurd (let bad : false ≡ true = decides.1 same in cc)) (file_of t.name files) t.sound v each.0 each.0 [] each.3 (sym (append-nil each.0)))))
-          (rest v r slot there))
+          (rest v r slot sound there))
 
   -- ---- one more
   pub each_more : (ts : List Tended) (t : Tended) (hs one : Log) → TendsEach files ts hs → Tends t.name (file_of t.name files) t.sound one → TendsEach files (ts ++ t ∷ []) (hs ++ one)

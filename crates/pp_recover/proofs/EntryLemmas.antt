@@ -1,5 +1,5 @@
 -- From a head block and the gates to the entry that a file is.
-use Rattle.std.proofs.Common.{◌≡◌, ℕ, ◌+◌, ◌≤◌, true, [], length, take, Option, Some, None, refl, ◌∙◌, ap, subst, arith}
+use Rattle.std.proofs.Common.{◌≡◌, ℕ, ◌+◌, ◌≤◌, Bool, true, ◌&&◌, [], length, take, Option, Some, None, refl, ◌∙◌, ap, subst, arith}
 use Rattle.std.specs.Prelude.{nat_le, bytes_eq, if◌then◌else◌, option_map}
 use Rattle.std.specs.Option.{option_and_then}
 use Rattle.std.proofs.lemmas.Bool.Decides.{nat_tests}
@@ -7,6 +7,7 @@ use Rattle.std.proofs.lemmas.Option.{option_and_then_some}
 use Rattle.std.proofs.lemmas.Slice.Eq.{bytes_eq-Decides}
 use Rattle.pp_world.specs.Disk.{Bytes}
 use Rattle.pp_entry.specs.Entries.{Row, row_at}
+use Rattle.pp_entry.specs.Gates.{has_extent}
 use Rattle.pp_entry.specs.Texts.{body_at}
 use Rattle.pp_gate.specs.Files.{extent_in}
 use Rattle.pp_gate.proofs.PlaceLemmas.{gates_below}
@@ -14,7 +15,7 @@ use Rattle.pp_target.specs.Name.{name_of}
 use Rattle.pp_store.specs.Kept.{Kept}
 use Rattle.pp_recover.specs.Image.{named_for, head_in, extent_if, kept_with, entry_in, entry_of, bytes_of}
 use Rattle.pp_recover.specs.Closing.{gates_in, closing, closing_if, closing_of}
-use Rattle.pp_recover.proofs.RowLemmas.{if_some, map_some}
+use Rattle.pp_recover.proofs.RowLemmas.{both_true, if_some, map_some}
 
 -- what a head tells
 pub record IsHead (name file : Bytes) (row : Row) : Type 0 where
@@ -40,19 +41,30 @@ no_head name file is = ap (option_and_then (named_for name)) is
 pub record IsRoom (n : ℕ) (file : Bytes) (extent : ℕ) : Type 0 where
   pub extent_is : extent_in n file ≡ extent
   pub long : body_at n + extent_in n file ≤ length file
+  pub short : length file ≤ body_at n + n
 
 pub room_told : (n : ℕ) (file : Bytes) (extent : ℕ) → extent_if n file ≡ Some extent → IsRoom n file extent
 unfolding extent_if
 room_told n file extent is =
-    let parts = if_some (nat_le (body_at n + extent_in n file) (length file)) (Some (extent_in n file)) extent is in
-    record { extent_is = (cc); long = le_of (body_at n + extent_in n file) (length file) parts.0 }
+    let parts = if_some (has_extent n (extent_in n file) (length file)) (Some (extent_in n file)) extent is in
+    let sizes = both_true (nat_le (body_at n + extent_in n file) (length file)) (nat_le (length file) (body_at n + n)) parts.0 in
+    record { extent_is = (cc); long = le_of (body_at n + extent_in n file) (length file) sizes.0; short = le_of (length file) (body_at n + n) sizes.1 }
   where
     le_of : (a b : ℕ) → nat_le a b ≡ true → a ≤ b
     le_of a b le = grind (arith, nat_tests)
 
-pub extent_same : (n : ℕ) (file : Bytes) → extent_if n file ≡ (if nat_le (body_at n + extent_in n file) (length file) then Some (extent_in n file) else None)
+pub extent_same : (n : ℕ) (file : Bytes) → extent_if n file ≡ (if has_extent n (extent_in n file) (length file) then Some (extent_in n file) else None)
 unfolding extent_if
 extent_same n file = refl
+
+le_is : (a b : ℕ) → a ≤ b → nat_le a b ≡ true
+le_is a b le = grind (arith, nat_tests)
+
+both_are : (a b : Bool) → a ≡ true → b ≡ true → (a && b) ≡ true
+both_are a b one two = ap (λ (c : Bool). c && b) one ∙ two
+
+pub fits : (n extent len : ℕ) → body_at n + extent ≤ len → len ≤ body_at n + n → has_extent n extent len ≡ true
+fits n extent len long short = both_are (nat_le (body_at n + extent) len) (nat_le len (body_at n + n)) (le_is (body_at n + extent) len long) (le_is len (body_at n + n) short)
 
 -- both
 pub entry_some : (name file : Bytes) (row : Row) (extent : ℕ) → head_in name file ≡ Some row → extent_if row.version.length file ≡ Some extent → entry_in name file ≡ Some (record { entry = row; extent = extent })

@@ -8,14 +8,14 @@ use Rattle.std.proofs.lemmas.Slice.Eq.{bytes_eq-Decides}
 use Rattle.pp_world.specs.Files.{Files, file_of}
 use Rattle.pp_world.specs.Log.{Log}
 use Rattle.pp_world.specs.Disk.{Bytes, View, settled, at_rest, view_of}
-use Rattle.pp_target.specs.Name.{name_of}
 use Rattle.pp_entry.specs.Texts.{body_at, chunks_of}
-use Rattle.pp_gate.specs.Files.{open_gates, extent_in, body, HoldsSent}
+use Rattle.pp_entry.proofs.ReadRows.{read-again}
+use Rattle.pp_gate.specs.Files.{open_gates, extent_in, body, HoldsSent, Sent}
 use Rattle.pp_gate.specs.Seal.{IsKept, KeepsIn}
 use Rattle.pp_gate.proofs.Views.{view_from, view_of-append}
 use Rattle.pp_gate.proofs.PlaceLemmas.{gates_below}
 use Rattle.pp_gate.proofs.SealLemmas.{same_head, gate_same, body_same}
-use Rattle.pp_store.specs.Held.{Sent, IsHeld, Holds}
+use Rattle.pp_store.specs.Held.{IsHeld, Holds}
 use Rattle.pp_store.specs.Kept.{Kept, block_of, is_name}
 use Rattle.pp_recover.specs.Image.{entry_in, entry_of}
 use Rattle.pp_recover.specs.Closing.{Tends}
@@ -23,7 +23,7 @@ use Rattle.pp_recover.specs.Opening.{IsFresh, Tended, name_in, TendsEach, AllSen
 use Rattle.pp_recover.proofs.RowLemmas.{spelt}
 use Rattle.pp_recover.proofs.EntryLemmas.{entry_told, head_told, room_told}
 use Rattle.pp_recover.proofs.NameLemmas.{NotIn, Distinct}
-use Rattle.pp_recover.proofs.ShutLemmas.{IsTidy, first, first_is, first_within, first_open, long}
+use Rattle.pp_recover.proofs.ShutLemmas.{IsTidy, first, first_is, first_within, first_open, long, short}
 use Rattle.pp_recover.proofs.TendLemmas.{tends_other, tends_sound, tends_failed, tends_done}
 use Rattle.pp_recover.proofs.EachLemmas.{whole_other, view_then}
 
@@ -52,7 +52,7 @@ module _ (files : Files) where
       by true is =
           let whole : Tends t.name (file_of t.name files) true one = subst (λ (s : Bool). Tends t.name (file_of t.name files) s one) is tends in (
             tends_sound t.name (file_of t.name files) v one whole ∙ fresh.1 ∙ sym (ap not is),
-            λ sound file kept entry there. tends_done t.name file kept entry v one (fresh.0 ∙ ap (λ (f : Option Bytes). at_rest f ∷ []) there) (subst (λ (f : Option Bytes). Tends t.name f true one) there whole),
+            λ sound file kept entry there. tends_done t.name file kept entry v one (fresh.0 ∙ ap (λ (f : Option Bytes). at_rest f ∷ []) there) fresh.1 (subst (λ (f : Option Bytes). Tends t.name f true one) there whole),
           )
       by false is = (
         tends_failed t.name (file_of t.name files) v one (subst (λ (s : Bool). Tends t.name (file_of t.name files) s one) is tends) ∙ sym (ap not is),
@@ -149,6 +149,7 @@ module _ (files : Files) where
       is_closed = λ i from lt. tidy.closed i from lt;
       within = first_within name file kept is;
       long = omega (arith, tidy.size, long name file kept is, extent_first n file (first name file kept is) (first_is name file kept is));
+      short = omega (arith, tidy.size, short name file kept is);
     }
 
     kept_sent : (o : ℕ) → o < min n (4096 * lead) → sent (block_of kept.entry) o (body n now o) ≡ true
@@ -158,12 +159,15 @@ module _ (files : Files) where
         (sym (body_same n now file o (tidy.high (body_at n + o) (omega (arith, lt, extent_is, long name file kept is)) (omega (arith, gates_below n)))))
         (was_sent o (omega (arith, lt, extent_is))))
 
-    pub held : (l : Log) → (view_of name l).slot ≡ Some (settled now) ∷ [] → IsHeld sent l kept
-    held l slot =
-        let own : name_of kept.entry.key ≡ name = (head_told name file kept.entry (entry_told name file kept is).head).own in
-        subst (λ (m : Bytes). KeepsIn sent (block_of kept.entry) n (chunks_of kept.extent) (view_of m l)) (sym own)
-        (subst (λ (g : ℕ). KeepsIn sent (block_of kept.entry) n g (view_of name l)) (sym gates_are)
-        (record { bytes = now; slot = slot; kept = kept_gates; holds = kept_sent }))
+    pub held : (l : Log) → (view_of name l).slot ≡ Some (settled now) ∷ [] → (view_of name l).failed ≡ false → IsHeld sent l kept
+    held l slot sound =
+        let told = head_told name file kept.entry (entry_told name file kept is).head in
+        record {
+          keeps = subst (λ (m : Bytes). KeepsIn sent (block_of kept.entry) n (chunks_of kept.extent) (view_of m l)) (sym told.own)
+              (subst (λ (g : ℕ). KeepsIn sent (block_of kept.entry) n g (view_of name l)) (sym gates_are)
+              (record { bytes = now; slot = slot; sound = sound; kept = kept_gates; holds = kept_sent }));
+          reads = read-again (take 8192 file) kept.entry told.row_is;
+        }
 
   rows_held : (sent : Sent) (l : Log) (ts : List Tended) → AllSent sent files → AllT (λ t. Final t (view_of t.name l)) ts → AllByRecursion (IsHeld sent l) (filter_map (entry_if files) ts)
   rows_held sent l [] was_sent all = tt
@@ -174,7 +178,7 @@ module _ (files : Files) where
       with_kept file sound there None is rest = rest
       with_kept file sound there (Some kept) is rest =
           let last = all.0.1 sound file kept is there in
-          (held sent t.name file kept is last.0 last.2 (was_sent t.name file there kept is) l last.1, rest)
+          (held sent t.name file kept is last.0 last.2 (was_sent t.name file there kept is) l last.1 (all.0.0 ∙ ap not sound), rest)
 
       by : (s : Bool) (f : Option Bytes) → t.sound ≡ s → file_of t.name files ≡ f → AllByRecursion (IsHeld sent l) (filter_map (entry_if files) ts)
           → AllByRecursion (IsHeld sent l) (Rattle.std.specs.List.cons_option (cond s (entry_of t.name f) None) (filter_map (entry_if files) ts))

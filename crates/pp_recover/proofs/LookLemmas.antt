@@ -1,18 +1,18 @@
 -- Looks at one name, one after another, and what they come to.
 use Rattle.std.proofs.Common.{◌≡◌, ℕ, ◌+◌, ◌<◌, ◌≤◌, Bool, true, false, [], ◌++◌, length, take, drop, Option, Some, None, refl, sym, ◌∙◌, ap, subst, arith, append_assoc, inr}
-use Rattle.std.specs.Prelude.{⊤, nat_le, if◌then◌else◌, option_map, Result, Ok, Err, IfOk, IsErr, is_ok}
+use Rattle.std.specs.Prelude.{⊤, if◌then◌else◌, option_map, Result, Ok, Err, IfOk, IsErr, is_ok}
 use Rattle.std.specs.Option.{option_and_then}
 use Rattle.std.proofs.lemmas.List.{append-nil, length-take, length-take-le, take-append-le, take_all}
 use Rattle.pp_world.specs.declared.disk.DiskFault.{DiskFault}
 use Rattle.pp_world.specs.Log.{Log, Told, AppendsAll}
-use Rattle.pp_world.specs.Disk.{Bytes, Stands, at_rest, bytes_in, look_happenings, GivesBytes, GivesLength}
+use Rattle.pp_world.specs.Disk.{Bytes, Stands, at_rest, bytes_in, look_happenings, GivesBytes, GivesLength, settled}
 use Rattle.pp_entry.specs.Entries.{Row, row_at}
-use Rattle.pp_entry.specs.Gates.{extent_of}
-use Rattle.pp_entry.specs.Texts.{body_at, chunks_of}
+use Rattle.pp_entry.specs.Gates.{extent_of, has_extent}
+use Rattle.pp_entry.specs.Texts.{chunks_of}
 use Rattle.pp_gate.specs.Files.{extent_in, open_gates}
 use Rattle.pp_gate.specs.Runs.{Ran, RunsOps}
 use Rattle.pp_gate.proofs.PlaceLemmas.{gates_below}
-use Rattle.pp_gate.proofs.SealLemmas.{settled_bytes}
+use Rattle.pp_gate.proofs.SealLemmas.{settled_bytes, settled_bytes}
 use Rattle.pp_recover.specs.declared.examine.Front.{Front}
 use Rattle.pp_store.specs.Kept.{Kept}
 use Rattle.pp_recover.specs.Image.{named_for, extent_if, entry_of, bytes_of}
@@ -116,7 +116,7 @@ extent_read n file = refl
 front_gives : (n count : ℕ) (buffer : Bytes) (file : Option Bytes) (len : ℕ) (front : Option Front) → count ≤ length buffer → len ≡ length (bytes_of file) → take count buffer ≡ gates_in n (bytes_of file) → front ≡ front_in len n (take count buffer) → GivesFront n buffer (Ok front) file
 front_gives n count buffer file len front within long gates is =
     subst (λ (f : Option Front). GivesFront n buffer (Ok f) file) (sym (is ∙ ap (λ (k : ℕ). front_in k n (take count buffer)) long))
-    (by (nat_le (body_at n + extent_of (take count buffer) n) (length (bytes_of file))) (extent_same n (bytes_of file) ∙ ap (λ (e : ℕ). if nat_le (body_at n + e) (length (bytes_of file)) then Some e else None) (extent_read n (bytes_of file) ∙ ap (λ (g : Bytes). extent_of g n) (sym gates))))
+    (by (has_extent n (extent_of (take count buffer) n) (length (bytes_of file))) (extent_same n (bytes_of file) ∙ ap (λ (e : ℕ). if has_extent n e (length (bytes_of file)) then Some e else None) (extent_read n (bytes_of file) ∙ ap (λ (g : Bytes). extent_of g n) (sym gates))))
   where
     by : (b : Bool) → extent_if n (bytes_of file) ≡ (if b then Some (extent_of (take count buffer) n) else None) → GivesFront n buffer (Ok (if b then Some (record { gates = length (take count buffer); extent = extent_of (take count buffer) n }) else None)) file
     by true is = (is, ap (λ (k : ℕ). take k buffer) (length-take-le count buffer within) ∙ gates)
@@ -172,9 +172,9 @@ module _ {A B : Type 0} (shown_head : A → Row) (shown : B → Kept) (old mid :
         by : (file : Option Bytes) → {l : Log} → Stands name l (at_rest file) → Both file → RestsTo name (8192 + length (take front.gates buffer)) l
         by None stands both = absurd (omega (arith, (room_told n [] front.extent both.1.0).long, gates_below n))
         by (Some file) stands both = (
-          file,
+          settled file,
           stands.alone,
-          omega (arith, ap (λ (g : Bytes). length g) both.1.1, length-take (chunks_of n) (drop 8192 file), gates_below n, (room_told n file front.extent both.1.0).long),
+          omega (arith, ap length (settled_bytes file), ap (λ (g : Bytes). length g) both.1.1, length-take (chunks_of n) (drop 8192 file), gates_below n, (room_told n file front.extent both.1.0).long),
         )
 
     pub closed : (new : Option Log) (ok : Bool) → RunsOps last new (closing name (take front.gates buffer)) ok

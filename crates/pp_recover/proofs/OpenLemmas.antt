@@ -13,7 +13,8 @@ use Rattle.pp_world.specs.Disk.{Bytes, View, at_rest, image_of, image_after, nam
 use Rattle.pp_gate.specs.Runs.{EachMoment}
 use Rattle.pp_gate.proofs.Views.{view_from, view_of-append}
 use Rattle.pp_gate.proofs.Ops.{AllLeft}
-use Rattle.pp_store.specs.Held.{Sent, Holds}
+use Rattle.pp_gate.specs.Files.{Sent}
+use Rattle.pp_store.specs.Held.{Holds}
 use Rattle.pp_store.specs.Kept.{KeptMap}
 use Rattle.pp_recover.specs.declared.faults.RecoverFault.{RecoverFault}
 use Rattle.pp_recover.specs.declared.faults.RecoverFault.TheVariants.{OutOfMemory}
@@ -130,17 +131,17 @@ pub data Happens (files : Files) (hs : Log) : Type 0 where
   list_alone : (b : Bool) → hs ≡ Listed b ∷ [] → Happens files hs
   names_too : (rest : Log) (ts : List Tended) → hs ≡ Listed true ∷ rest → Distinct (map name_in ts) → TendsEach files ts rest → Happens files hs
 
-happens_stays : (files : Files) (name : Bytes) (v : View) (hs p q : Log) → v.slot ≡ at_rest (file_of name files) ∷ [] → Happens files hs → hs ≡ p ++ q → AllLeft (Stays name (file_of name files)) (view_from name v p)
-happens_stays files name v hs [] q slot happens split = at_rest_stays name (file_of name files) v slot
-happens_stays files name v hs (h ∷ p) q slot (nothing is) split = absurd (cc)
-happens_stays files name v hs (h ∷ []) q slot (list_alone b is) split =
+happens_stays : (files : Files) (name : Bytes) (v : View) (hs p q : Log) → v.slot ≡ at_rest (file_of name files) ∷ [] → v.failed ≡ false → Happens files hs → hs ≡ p ++ q → AllLeft (Stays name (file_of name files)) (view_from name v p)
+happens_stays files name v hs [] q slot sound happens split = at_rest_stays name (file_of name files) v slot
+happens_stays files name v hs (h ∷ p) q slot sound (nothing is) split = absurd (cc)
+happens_stays files name v hs (h ∷ []) q slot sound (list_alone b is) split =
     let first : Listed b ≡ h = cc in
     subst (λ (g : Happening). AllLeft (Stays name (file_of name files)) (view_from name v (g ∷ []))) first (at_rest_stays name (file_of name files) v slot)
-happens_stays files name v hs (h ∷ g ∷ p) q slot (list_alone b is) split = absurd (cc)
-happens_stays files name v hs (h ∷ p) q slot (names_too rest ts is apart each) split =
+happens_stays files name v hs (h ∷ g ∷ p) q slot sound (list_alone b is) split = absurd (cc)
+happens_stays files name v hs (h ∷ p) q slot sound (names_too rest ts is apart each) split =
     let first : Listed true ≡ h = cc in
     let behind : rest ≡ p ++ q = cc in
-    subst (λ (g : Happening). AllLeft (Stays name (file_of name files)) (view_from name v (g ∷ p))) first (each_stays files name ts v rest p q apart slot each behind)
+    subst (λ (g : Happening). AllLeft (Stays name (file_of name files)) (view_from name v (g ∷ p))) first (each_stays files name ts v rest p q apart slot sound each behind)
 
 cancel : (k a b : Log) → k ++ a ≡ k ++ b → a ≡ b
 cancel [] a b is = is
@@ -158,7 +159,7 @@ same_entries old new all = record {
         let hs_is : hs ≡ w.1 = cancel k hs w.1 (w.3 ∙ ap (λ (m : Log). m ++ w.1) same) in
         let happens : Happens files hs = subst (Happens files) (sym hs_is) (w.4 files (subst (IsFresh files) (sym same) fresh)) in
         subst (AllLeft (Stays name (file_of name files))) (sym (view_of-append name k p))
-        (happens_stays files name (view_of name k) hs p q (ap (λ (v : View). v.slot) (fresh.views name)) happens split)
+        (happens_stays files name (view_of name k) hs p q (ap (λ (v : View). v.slot) (fresh.views name)) (ap (λ (v : View). v.failed) (fresh.views name)) happens split)
 
 pub went_moments : (old new : Option Log) (names : List Bytes) (done : Bool) (store : KeptMap) → IsTrue (is_rising names) → Extends old new (WentAll names done store) → EachMoment old new SameEntries
 went_moments old new names done store rising all = same_entries old new (extends_map old new (WentAll names done store) _ all

@@ -1,29 +1,30 @@
 -- A file whose stray gates are closed one after another: at each moment it is the same entry.
 use Rattle.std.proofs.Common.{◌≡◌, ◌≢◌, ◌⊎◌, ⊎_elim, ℕ, zero, suc, ◌+◌, ◌*◌, ◌-◌, ◌<◌, ◌≤◌, Bool, true, false, List, [], ◌∷◌, ◌++◌, length, take, drop, get_or, replicate, Option, Some, None, refl, sym, ◌∙◌, ap, subst, arith, length-drop}
-use Rattle.std.specs.Prelude.{◌==◌, ◌&&◌, not, nat_lt, nat_le, min, cond, if◌then◌else◌}
+use Rattle.std.specs.Prelude.{◌==◌, ◌&&◌, ◌||◌, not, nat_lt, nat_le, min, cond, if◌then◌else◌}
 use Rattle.std.specs.Option.{option_and_then}
-use Rattle.std.specs.List.{flat_map, range_with_len, prefix_len}
+use Rattle.std.specs.List.{flat_map, list_any, range_with_len, prefix_len}
 use Rattle.std.proofs.lemmas.List.{get_or-take, get_or-drop, length-take-le, get_or-replicate}
 use Rattle.std.proofs.Math.ListN.{length-replicate}
 use Rattle.std.proofs.lemmas.List.Sums.{prefix_len_passes, prefix_len_stops, prefix_len-drop_yes, prefix_len-drop_no, prefix_len-le-length}
 use Rattle.std.proofs.lemmas.Bool.Decides.{nat_tests}
 use Rattle.pp_world.specs.declared.op.DiskOp.{DiskOp}
-use Rattle.pp_world.specs.Disk.{Bytes, View, settled, splice}
+use Rattle.pp_world.specs.declared.op.DiskOp.TheVariants.{Sync}
+use Rattle.pp_world.specs.Disk.{Bytes, Stored, View, began, done, undone, is_loose, loosened, settled, splice, written, IsLeft}
 use Rattle.pp_entry.specs.Entries.{row_at}
-use Rattle.pp_entry.specs.Gates.{leading_open}
+use Rattle.pp_entry.specs.Gates.{has_extent, leading_open}
 use Rattle.pp_entry.specs.Texts.{body_at, chunks_of}
 use Rattle.pp_gate.specs.Files.{open_gates, extent_in, gate}
 use Rattle.pp_gate.specs.Runs.{During}
 use Rattle.pp_gate.proofs.Views.{done_view}
 use Rattle.pp_gate.proofs.Images.{Torn, length-splice, splice_in, written_torn}
-use Rattle.pp_gate.proofs.Ops.{AllLeft, write_then_sync, write_sync_slot, all_settled}
+use Rattle.pp_gate.proofs.Ops.{AllLeft, all_settled, begun_slot, one_leaves, sync_slot, write_slot}
 use Rattle.pp_gate.proofs.PlaceLemmas.{gates_below}
 use Rattle.pp_gate.proofs.GateLemmas.{opens_at_least, opens_at_most}
 use Rattle.pp_gate.proofs.SealLemmas.{same_head, gate_same, gate_new}
 use Rattle.pp_store.specs.Kept.{Kept}
 use Rattle.pp_recover.specs.Image.{named_for, head_in, entry_in, entry_of}
-use Rattle.pp_recover.specs.Closing.{gates_in, begins, open_from, close_from, close_at, closing}
-use Rattle.pp_recover.proofs.EntryLemmas.{IsEntryOf, entry_told, entry_some, room_told, extent_same}
+use Rattle.pp_recover.specs.Closing.{gates_in, begins, open_from, close_from, close_at, closing, has_strays, writes_over}
+use Rattle.pp_recover.proofs.EntryLemmas.{IsEntryOf, entry_told, entry_some, room_told, extent_same, fits as has_fit}
 use Rattle.pp_recover.proofs.RowLemmas.{both_true}
 
 -- ---- gates that lead, by index
@@ -90,6 +91,9 @@ module _ (name file : Bytes) (kept : Kept) (is : entry_in name file ≡ Some kep
   pub long : body_at n + extent_in n file ≤ length file
   long = (room_told n file kept.extent entry.room).long
 
+  pub short : length file ≤ body_at n + n
+  short = (room_told n file kept.extent entry.room).short
+
   pub whole : length gates ≡ chunks_of n
   whole = length-take-le (chunks_of n) (drop 8192 file) (omega (arith, length-drop 8192 file, long, gates_below n))
 
@@ -118,9 +122,9 @@ module _ (name file : Bytes) (kept : Kept) (is : entry_in name file ≡ Some kep
   next_shut lt one = stops_shut gates (omega (arith, lt, whole)) (sym (gate_is (leading_open gates) lt) ∙ one)
 
   -- a file that is the same up to the first closed gate, and no shorter, is the same entry
-  pub same_entry : (c : Bytes) → length file ≤ length c → ((o : ℕ) → o < length file → o < 8192 + first → get_or c o 0 ≡ get_or file o 0) → (first < chunks_of n → gate c first ≢ 1) → entry_in name c ≡ Some kept
-  same_entry c no_shorter low next =
-      entry_some name c kept.entry kept.extent (heads_same name c file fronts ∙ entry.head) (extent_same n c ∙ ap (λ (e : ℕ). if nat_le (body_at n + e) (length c) then Some e else None) extent_is ∙ ap (λ (b : Bool). if b then Some kept.extent else None) fits)
+  pub same_entry : (c : Bytes) → length file ≤ length c → length c ≤ body_at n + n → ((o : ℕ) → o < length file → o < 8192 + first → get_or c o 0 ≡ get_or file o 0) → (first < chunks_of n → gate c first ≢ 1) → entry_in name c ≡ Some kept
+  same_entry c no_shorter no_longer low next =
+      entry_some name c kept.entry kept.extent (heads_same name c file fronts ∙ entry.head) (extent_same n c ∙ ap (λ (e : ℕ). if has_extent n e (length c) then Some e else None) extent_is ∙ ap (λ (b : Bool). if b then Some kept.extent else None) fit)
     where
       opens : open_gates n c ≡ first
       opens = omega (
@@ -132,11 +136,8 @@ module _ (name file : Bytes) (kept : Kept) (is : entry_in name file ≡ Some kep
       extent_is : extent_in n c ≡ kept.extent
       extent_is = extents_same n c file (opens ∙ sym first_is) ∙ (room_told n file kept.extent entry.room).extent_is
 
-      le_is : (a b : ℕ) → a ≤ b → nat_le a b ≡ true
-      le_is a b le = grind (arith, nat_tests)
-
-      fits : nat_le (body_at n + kept.extent) (length c) ≡ true
-      fits = le_is (body_at n + kept.extent) (length c) (omega (arith, no_shorter, long, (room_told n file kept.extent entry.room).extent_is))
+      fit : has_extent n kept.extent (length c) ≡ true
+      fit = has_fit n kept.extent (length c) (omega (arith, no_shorter, long, (room_told n file kept.extent entry.room).extent_is)) no_longer
 
       fronts : take 8192 c ≡ take 8192 file
       fronts = same_head c file (omega (arith, no_shorter, long, gates_below n)) (omega (arith, long, gates_below n)) (λ o lt. low o (omega (arith, lt, long, gates_below n)) (omega (arith, lt)))
@@ -172,7 +173,7 @@ module _ (name file : Bytes) (kept : Kept) (is : entry_in name file ≡ Some kep
       split a b = grind arith
 
   pub shut_entry : (end : ℕ) (now : Bytes) → ShutTo end now → entry_in name now ≡ Some kept
-  shut_entry end now shut = same_entry now (omega (arith, shut.size)) shut.low (shut_next end now shut)
+  shut_entry end now shut = same_entry now (omega (arith, shut.size)) (omega (arith, shut.size, short)) shut.low (shut_next end now shut)
 
   -- a gate that is not open is passed over
   pub shut_pass : (end : ℕ) (now : Bytes) → ShutTo end now → end < chunks_of n → get_or gates end 0 ≢ 1 → ShutTo (end + 1) now
@@ -199,11 +200,6 @@ module _ (name file : Bytes) (kept : Kept) (is : entry_in name file ≡ Some kep
 
     abbrev pub next_file : Bytes
     next_file = splice (8192 + end) (replicate run 0) now
-
-    pub torn_entry : (c : Bytes) → Torn (8192 + end) (8192 + end + length (replicate {A = ℕ} run 0)) now c → entry_in name c ≡ Some kept
-    torn_entry c torn = same_entry c (omega (arith, torn.no_shorter, shut.size))
-        (λ o lt below. torn.before o (omega (arith, lt, shut.size)) (omega (arith, below, behind)) ∙ shut.low o lt below)
-        (λ lt one. shut_next end now shut lt (sym (gate_same c now first (torn.before (8192 + first) (omega (arith, lt, shut.size, long, gates_below n)) (omega (arith, behind)))) ∙ one))
 
     torn : Torn (8192 + end) (8192 + end + length (replicate {A = ℕ} run 0)) now next_file
     torn = written_torn (8192 + end) (replicate run 0) now reach
@@ -247,10 +243,28 @@ module _ (name file : Bytes) (kept : Kept) (is : entry_in name file ≡ Some kep
   reached zero = first
   reached (suc i) = reached_if (get_or gates i 0 == 1) (suc i)
 
+  -- a file whose gates are closed so far, and that is loose there at most
+  pub record IsPart (end : ℕ) (f : Stored) : Type 0 where
+    pub shut : ShutTo end f.bytes
+    pub synced : f.synced ≡ length file
+    pub end_is : f.end ≡ length file
+    pub low : (o : ℕ) → o ≤ 8192 + first → is_loose o f.loose ≡ false
+    pub high : (o : ℕ) → 8192 + chunks_of n ≤ o → is_loose o f.loose ≡ false
+
   pub record Ends (end : ℕ) (v : View) : Type 0 where
-    pub now : Bytes
-    pub slot : v.slot ≡ Some (settled now) ∷ []
-    pub shut : ShutTo end now
+    pub file_now : Stored
+    pub slot : v.slot ≡ Some file_now ∷ []
+    pub sound : v.failed ≡ false
+    pub part : IsPart end file_now
+
+  -- whatever a crash leaves of such a file is the entry
+  part_left : (end : ℕ) (f : Stored) → IsPart end f → (c : Bytes) → IsLeft f c → entry_in name c ≡ Some kept
+  part_left end f part c left =
+      let size : length c ≡ length file = omega (arith, left.no_shorter, left.no_longer, part.synced, part.end_is) in
+      let same : (o : ℕ) → o < length file → o ≤ 8192 + first → get_or c o 0 ≡ get_or f.bytes o 0 = λ o lt le. left.same o (omega (arith, lt, part.synced)) (part.low o le) in
+      same_entry c (omega (arith, size)) (omega (arith, size, short))
+      (λ o lt below. same o lt (omega (arith, below)) ∙ part.shut.low o lt below)
+      (λ lt one. shut_next end f.bytes part.shut lt (sym (gate_same c f.bytes first (same (8192 + first) (omega (arith, lt, long, gates_below n)) (omega arith))) ∙ one))
 
   -- the first gates lead
   reached_first : reached 0 ≡ first
@@ -310,30 +324,44 @@ module _ (name file : Bytes) (kept : Kept) (is : entry_in name file ≡ Some kep
       split a b = grind arith
 
   -- one gate on, without an operation
-  pass_on : (i : ℕ) (v : View) → i < chunks_of n → begins gates i ≡ false → Ends (reached i) v → Ends (reached (i + 1)) v
-  pass_on i v lt not_run ends = by (get_or gates i 0 == 1) refl
+  pass_on : (i : ℕ) (now : Bytes) → i < chunks_of n → begins gates i ≡ false → ShutTo (reached i) now → ShutTo (reached (i + 1)) now
+  pass_on i now lt not_run shut = by (get_or gates i 0 == 1) refl
     where
       at_place : (b : Bool) → open_from gates i ≡ 0 → reached_if b i ≡ i
       at_place true none = omega (arith, none)
       at_place false none = refl
 
-      by : (b : Bool) → (get_or gates i 0 == 1) ≡ b → Ends (reached (i + 1)) v
+      by : (b : Bool) → (get_or gates i 0 == 1) ≡ b → ShutTo (reached (i + 1)) now
       by true is =
           let from : reached i ≡ i + open_from gates i = reached_from i ∙ ap (λ (t : Bool). reached_if t i) (begins_not i not_run is) in
           let to : reached (i + 1) ≡ (i + 1) + open_from gates (i + 1) = reached_next i true is in
           let more : open_from gates i ≡ 1 + open_from gates (i + 1) = open_more gates i (omega (arith, lt, whole)) (is_one (get_or gates i 0) is) in
-          subst (λ (k : ℕ). Ends k v) (omega (arith, from, to, more)) ends
+          subst (λ (k : ℕ). ShutTo k now) (omega (arith, from, to, more)) shut
       by false is =
           let none : open_from gates i ≡ 0 = open_none gates i (omega (arith, lt, whole)) (not_one (get_or gates i 0) is) in
           let from : reached i ≡ i = reached_from i ∙ at_place (before_open i) none in
           let to : reached (i + 1) ≡ i + 1 = reached_next i false is in
-          let here : Ends i v = subst (λ (k : ℕ). Ends k v) from ends in
-          subst (λ (k : ℕ). Ends k v) (sym to) (record { now = here.now; slot = here.slot; shut = shut_pass i here.now here.shut lt (not_one (get_or gates i 0) is) })
+          let here : ShutTo i now = subst (λ (k : ℕ). ShutTo k now) from shut in
+          subst (λ (k : ℕ). ShutTo k now) (sym to) (shut_pass i now here lt (not_one (get_or gates i 0) is))
+
+  pass_ends : (i : ℕ) (v : View) → i < chunks_of n → begins gates i ≡ false → Ends (reached i) v → Ends (reached (i + 1)) v
+  pass_ends i v lt not_run ends = record {
+    file_now = ends.file_now;
+    slot = ends.slot;
+    sound = ends.sound;
+    part = record {
+      shut = pass_on i ends.file_now.bytes lt not_run ends.part.shut;
+      synced = ends.part.synced;
+      end_is = ends.part.end_is;
+      low = ends.part.low;
+      high = ends.part.high;
+    };
+  }
 
   -- one run on
-  module _ (i : ℕ) (v : View) (lt : i < chunks_of n) (run : begins gates i ≡ true) (ends : Ends (reached i) v) where
-    here : Ends i v
-    here = let w = begins_is i run in subst (λ (k : ℕ). Ends k v) (reached_from i ∙ ap (λ (t : Bool). reached_if t i) w.1) ends
+  module _ (i : ℕ) (f : Stored) (lt : i < chunks_of n) (run : begins gates i ≡ true) (part : IsPart (reached i) f) where
+    here : ShutTo i f.bytes
+    here = let w = begins_is i run in subst (λ (k : ℕ). ShutTo k f.bytes) (reached_from i ∙ ap (λ (t : Bool). reached_if t i) w.1) part.shut
 
     behind : first < i
     behind = behind_shut i (begins_is i run).1 (omega (arith, lt))
@@ -348,60 +376,135 @@ module _ (name file : Bytes) (kept : Kept) (is : entry_in name file ≡ Some kep
         let to : reached (i + 1) ≡ (i + 1) + open_from gates (i + 1) = reached_next i true (one_is (get_or gates i 0) one) in
         omega (arith, more, to)
 
-    pub run_file : Bytes
-    run_file = next_file i (open_from gates i) here.now here.shut behind fits
+    abbrev zeros : Bytes
+    zeros = replicate (open_from gates i) 0
 
-    run_shut : ShutTo (reached (i + 1)) run_file
-    unfolding run_file
-    run_shut = subst (λ (k : ℕ). ShutTo k (next_file i (open_from gates i) here.now here.shut behind fits)) (sym run_after) (shut_run i (open_from gates i) here.now here.shut behind fits)
+    abbrev to : ℕ
+    to = 8192 + i + length zeros
 
-    pub run_ends : (w : View) → w.slot ≡ Some (settled run_file) ∷ [] → Ends (reached (i + 1)) w
-    run_ends w slot = record { now = run_file; slot = slot; shut = run_shut }
+    to_is : to ≤ 8192 + chunks_of n
+    to_is = omega (arith, fits, length-replicate {A = ℕ} (open_from gates i) 0)
 
-    pub run_during : (ops : List DiskOp) → ((w : View) → Ends (reached (i + 1)) w → During name w ops (AllLeft Same)) → During name v (close_from name gates i ++ ops) (AllLeft Same)
-    unfolding run_file Same
-    run_during ops rest = write_then_sync name (8192 + i) (replicate (open_from gates i) 0) here.now v ops Same here.slot (reach i (open_from gates i) here.now here.shut behind fits)
-        (λ c torn. torn_entry i (open_from gates i) here.now here.shut behind fits c torn)
-        (λ w slot. rest w (run_ends w slot))
+    below : (o from to : ℕ) (b : Bool) → o < from → b ≡ false → ((nat_le from o && nat_lt o to) || b) ≡ false
+    below o from to b less is = grind (arith, nat_tests)
 
-    pub run_done : Ends (reached (i + 1)) (done_view name v (close_from name gates i))
-    unfolding run_file
-    run_done = run_ends (done_view name v (close_from name gates i)) (write_sync_slot name (8192 + i) (replicate (open_from gates i) 0) here.now v here.slot)
+    above : (o from to : ℕ) (b : Bool) → to ≤ o → b ≡ false → ((nat_le from o && nat_lt o to) || b) ≡ false
+    above o from to b more is = grind (arith, nat_tests)
+
+    -- while it is written
+    pub torn_part : IsPart (reached i) (loosened (8192 + i) to f)
+    unfolding loosened
+    torn_part = record {
+      shut = part.shut;
+      synced = part.synced;
+      end_is = omega (arith, part.end_is, to_is, long, gates_below n);
+      low = λ o le. below o (8192 + i) to (is_loose o f.loose) (omega (arith, le, behind)) (part.low o le);
+      high = λ o le. above o (8192 + i) to (is_loose o f.loose) (omega (arith, le, to_is)) (part.high o le);
+    }
+
+    -- and once it was
+    pub done_part : IsPart (reached (i + 1)) (written (8192 + i) zeros (loosened (8192 + i) to f))
+    unfolding loosened written
+    done_part = record {
+      shut = subst (λ (k : ℕ). ShutTo k (next_file i (open_from gates i) f.bytes here behind fits)) (sym run_after) (shut_run i (open_from gates i) f.bytes here behind fits);
+      synced = part.synced;
+      end_is = omega (arith, part.end_is, to_is, long, gates_below n);
+      low = λ o le. below o (8192 + i) to (is_loose o f.loose) (omega (arith, le, behind)) (part.low o le);
+      high = λ o le. above o (8192 + i) to (is_loose o f.loose) (omega (arith, le, to_is)) (part.high o le);
+    }
 
   abbrev from_place : ℕ → ℕ → List DiskOp
   from_place i k = flat_map (close_at name gates) (range_with_len i k)
 
-  stays : (end : ℕ) (v : View) → Ends end v → AllLeft Same v
+  stays : (end : ℕ) (f : Stored) (v : View) → v.slot ≡ Some f ∷ [] → IsPart end f → AllLeft Same v
   unfolding Same
-  stays end v ends = all_settled ends.now Same v ends.slot (shut_entry end ends.now ends.shut)
+  stays end f v slot part = one_leaves f Same v.slot slot (λ c left. part_left end f part c left)
 
-  pub closing_during : (k i : ℕ) (v : View) → i + k ≡ chunks_of n → Ends (reached i) v → During name v (from_place i k) (AllLeft Same)
-  closing_during zero i v sum ends = stays (reached i) v ends
-  closing_during (suc k) i v sum ends = by (λ w w_ends. closing_during k (i + 1) w (omega (arith, sum)) w_ends) (begins gates i) refl
+  run_ends : (i : ℕ) (v : View) → i < chunks_of n → begins gates i ≡ true → Ends (reached i) v → Ends (reached (i + 1)) (done name (close_from name gates i) (began name (close_from name gates i) v))
+  run_ends i v lt run ends = record {
+    file_now = written (8192 + i) (replicate (open_from gates i) 0) (loosened (8192 + i) (8192 + i + length (replicate {A = ℕ} (open_from gates i) 0)) ends.file_now);
+    slot = write_slot name (8192 + i) (replicate (open_from gates i) 0) ends.file_now v ends.slot;
+    sound = ends.sound;
+    part = done_part i ends.file_now lt run ends.part;
+  }
+
+  run_during : (i : ℕ) (v : View) (ops : List DiskOp) → i < chunks_of n → begins gates i ≡ true → Ends (reached i) v → ((w : View) → Ends (reached (i + 1)) w → During name w ops (AllLeft Same)) → During name v (close_from name gates i ∷ ops) (AllLeft Same)
+  run_during i v ops lt run ends rest =
+      let begun = begun_slot name (8192 + i) (replicate (open_from gates i) 0) ends.file_now v ends.slot in
+      let torn = torn_part i ends.file_now lt run ends.part in (
+        stays (reached i) ends.file_now v ends.slot ends.part,
+        stays (reached i) _ (began name (close_from name gates i) v) begun torn,
+        stays (reached i) _ (undone name (close_from name gates i) (began name (close_from name gates i) v)) begun torn,
+        rest _ (run_ends i v lt run ends),
+      )
+
+  closing_during : (k i : ℕ) (v : View) (ops : List DiskOp) → i + k ≡ chunks_of n → Ends (reached i) v → ((w : View) → Ends (reached (chunks_of n)) w → During name w ops (AllLeft Same)) → During name v (from_place i k ++ ops) (AllLeft Same)
+  closing_during zero i v ops sum ends rest = let same : i ≡ chunks_of n = omega (arith, sum) in rest v (subst (λ (j : ℕ). Ends (reached j) v) same ends)
+  closing_during (suc k) i v ops sum ends rest = by (λ w w_ends. closing_during k (i + 1) w ops (omega (arith, sum)) w_ends rest) (begins gates i) refl
     where
       lt : i < chunks_of n
       lt = omega (arith, sum)
 
-      by : ((w : View) → Ends (reached (i + 1)) w → During name w (from_place (i + 1) k) (AllLeft Same)) → (b : Bool) → begins gates i ≡ b → During name v (cond b (close_from name gates i) [] ++ from_place (i + 1) k) (AllLeft Same)
-      by rest true run = run_during i v lt run ends (from_place (i + 1) k) rest
-      by rest false none = rest v (pass_on i v lt none ends)
+      by : ((w : View) → Ends (reached (i + 1)) w → During name w (from_place (i + 1) k ++ ops) (AllLeft Same)) → (b : Bool) → begins gates i ≡ b
+          → During name v ((cond b (close_from name gates i ∷ []) [] ++ from_place (i + 1) k) ++ ops) (AllLeft Same)
+      by more true run = run_during i v (from_place (i + 1) k ++ ops) lt run ends more
+      by more false none = more v (pass_ends i v lt none ends)
 
-  pub closing_done : (k i : ℕ) (v : View) → i + k ≡ chunks_of n → Ends (reached i) v → Ends (reached (chunks_of n)) (done_view name v (from_place i k))
-  closing_done zero i v sum ends = let same : i ≡ chunks_of n = omega (arith, sum) in subst (λ (j : ℕ). Ends (reached j) v) same ends
-  closing_done (suc k) i v sum ends = by (λ w w_ends. closing_done k (i + 1) w (omega (arith, sum)) w_ends) (begins gates i) refl
+  closing_done : (k i : ℕ) (v : View) (ops : List DiskOp) (Q : View → Type 0) → i + k ≡ chunks_of n → Ends (reached i) v → ((w : View) → Ends (reached (chunks_of n)) w → Q (done_view name w ops)) → Q (done_view name v (from_place i k ++ ops))
+  closing_done zero i v ops Q sum ends rest = let same : i ≡ chunks_of n = omega (arith, sum) in rest v (subst (λ (j : ℕ). Ends (reached j) v) same ends)
+  closing_done (suc k) i v ops Q sum ends rest = by (λ w w_ends. closing_done k (i + 1) w ops Q (omega (arith, sum)) w_ends rest) (begins gates i) refl
     where
       lt : i < chunks_of n
       lt = omega (arith, sum)
 
-      by : ((w : View) → Ends (reached (i + 1)) w → Ends (reached (chunks_of n)) (done_view name w (from_place (i + 1) k))) → (b : Bool) → begins gates i ≡ b → Ends (reached (chunks_of n)) (done_view name v (cond b (close_from name gates i) [] ++ from_place (i + 1) k))
-      by rest true run = rest (done_view name v (close_from name gates i)) (run_done i v lt run ends)
-      by rest false none = rest v (pass_on i v lt none ends)
+      by : ((w : View) → Ends (reached (i + 1)) w → Q (done_view name w (from_place (i + 1) k ++ ops))) → (b : Bool) → begins gates i ≡ b
+          → Q (done_view name v ((cond b (close_from name gates i ∷ []) [] ++ from_place (i + 1) k) ++ ops))
+      by more true run = more (done name (close_from name gates i) (began name (close_from name gates i) v)) (run_ends i v lt run ends)
+      by more false none = more v (pass_ends i v lt none ends)
+
+  -- where there are none, no gate is open behind the first closed one
+  or_first : (a b : Bool) → (a || b) ≡ false → a ≡ false
+  or_first true b is = absurd (cc)
+  or_first false b is = refl
+
+  or_second : (a b : Bool) → (a || b) ≡ false → b ≡ false
+  or_second true b is = absurd (cc)
+  or_second false b is = is
+
+  none_stray : (k i : ℕ) (now : Bytes) → i + k ≡ chunks_of n → list_any (begins gates) (range_with_len i k) ≡ false → ShutTo (reached i) now → ShutTo (reached (chunks_of n)) now
+  none_stray zero i now sum none shut = let same : i ≡ chunks_of n = omega (arith, sum) in subst (λ (j : ℕ). ShutTo (reached j) now) same shut
+  none_stray (suc k) i now sum none shut = none_stray k (i + 1) now (omega (arith, sum)) (or_second (begins gates i) (list_any (begins gates) (range_with_len (i + 1) k)) none)
+      (pass_on i now (omega (arith, sum)) (or_first (begins gates i) (list_any (begins gates) (range_with_len (i + 1) k)) none) shut)
+
+  settled_same : (now : Bytes) → ShutTo (reached (chunks_of n)) now → Same (Some now)
+  unfolding Same
+  settled_same now shut = shut_entry (reached (chunks_of n)) now shut
 
   -- ---- the whole of it
-  pub all_during : (v : View) → v.slot ≡ Some (settled file) ∷ [] → During name v (closing name gates) (AllLeft Same)
-  unfolding closing
-  all_during v slot = subst (λ (k : ℕ). During name v (from_place 0 k) (AllLeft Same)) (sym whole)
-      (closing_during (chunks_of n) 0 v (omega arith) (subst (λ (k : ℕ). Ends k v) (sym reached_first) (record { now = file; slot = slot; shut = shut_start })))
+  start : (v : View) → v.slot ≡ Some (settled file) ∷ [] → v.failed ≡ false → Ends (reached 0) v
+  unfolding settled
+  start v slot sound = subst (λ (k : ℕ). Ends k v) (sym reached_first) (record {
+    file_now = settled file;
+    slot = slot;
+    sound = sound;
+    part = record { shut = shut_start; synced = refl; end_is = refl; low = λ o le. refl; high = λ o le. refl };
+  })
+
+  pub all_during : (v : View) → v.slot ≡ Some (settled file) ∷ [] → v.failed ≡ false → During name v (closing name gates) (AllLeft Same)
+  unfolding closing writes_over
+  all_during v slot sound = by (has_strays gates)
+    where
+      synced_too : (w : View) → Ends (reached (chunks_of n)) w → During name w (Sync name ∷ []) (AllLeft Same)
+      synced_too w ends =
+          let left : AllLeft Same w = stays (reached (chunks_of n)) ends.file_now w ends.slot ends.part in
+          (left, left, left, settled_stays (done name (Sync name) (began name (Sync name) w)) ends.file_now.bytes (sync_slot name ends.file_now w ends.slot ends.sound) ends.part.shut)
+        where
+          settled_stays : (u : View) (now : Bytes) → u.slot ≡ Some (settled now) ∷ [] → ShutTo (reached (chunks_of n)) now → AllLeft Same u
+          settled_stays u now u_slot shut = all_settled now Same u u_slot (settled_same now shut)
+
+      by : (b : Bool) → During name v (cond b (writes_over name gates ++ Sync name ∷ []) []) (AllLeft Same)
+      by true = subst (λ (k : ℕ). During name v (from_place 0 k ++ Sync name ∷ []) (AllLeft Same)) (sym whole) (closing_during (chunks_of n) 0 v (Sync name ∷ []) (omega arith) (start v slot sound) synced_too)
+      by false = stays (reached 0) _ v (start v slot sound).slot (start v slot sound).part
 
   reached_over : chunks_of n ≤ reached (chunks_of n)
   reached_over = at_least (before_open (chunks_of n)) (reached_from (chunks_of n))
@@ -418,21 +521,27 @@ module _ (name file : Bytes) (kept : Kept) (is : entry_in name file ≡ Some kep
     pub closed : (i : ℕ) → first ≤ i → i < chunks_of n → gate now i ≢ 1
     pub same : entry_in name now ≡ Some kept
 
-  pub all_done : (v : View) → v.slot ≡ Some (settled file) ∷ [] → (now : Bytes) × ((done_view name v (closing name gates)).slot ≡ Some (settled now) ∷ []) × IsTidy now
-  unfolding closing
-  all_done v slot =
-      let ends = subst (λ (k : ℕ). Ends (reached (chunks_of n)) (done_view name v (from_place 0 k))) (sym whole)
-      (closing_done (chunks_of n) 0 v (omega arith) (subst (λ (k : ℕ). Ends k v) (sym reached_first) (record { now = file; slot = slot; shut = shut_start }))) in (
-        ends.now,
-        ends.slot,
-        record {
-          size = ends.shut.size;
-          low = ends.shut.low;
-          high = ends.shut.high;
-          closed = λ i from lt. ends.shut.closed i from (omega (arith, lt, reached_over)) lt;
-          same = shut_entry (reached (chunks_of n)) ends.now ends.shut;
-        },
-      )
+  tidy : (now : Bytes) → ShutTo (reached (chunks_of n)) now → IsTidy now
+  tidy now shut = record {
+    size = shut.size;
+    low = shut.low;
+    high = shut.high;
+    closed = λ i from lt. shut.closed i from (omega (arith, lt, reached_over)) lt;
+    same = shut_entry (reached (chunks_of n)) now shut;
+  }
+
+  abbrev IsDone : View → Type 0
+  IsDone v = (now : Bytes) × (v.slot ≡ Some (settled now) ∷ []) × IsTidy now
+
+  pub all_done : (v : View) → v.slot ≡ Some (settled file) ∷ [] → v.failed ≡ false → (now : Bytes) × ((done_view name v (closing name gates)).slot ≡ Some (settled now) ∷ []) × IsTidy now
+  unfolding closing writes_over has_strays
+  all_done v slot sound = by (has_strays gates) refl
+    where
+      by : (b : Bool) → has_strays gates ≡ b → IsDone (done_view name v (cond b (writes_over name gates ++ Sync name ∷ []) []))
+      by true is = subst (λ (k : ℕ). IsDone (done_view name v (from_place 0 k ++ Sync name ∷ []))) (sym whole)
+          (closing_done (chunks_of n) 0 v (Sync name ∷ []) IsDone (omega arith) (start v slot sound)
+          (λ w ends. (ends.file_now.bytes, sync_slot name ends.file_now w ends.slot ends.sound, tidy ends.file_now.bytes ends.part.shut)))
+      by false is = (file, slot, tidy file (none_stray (chunks_of n) 0 file (omega arith) (subst (λ (k : ℕ). list_any (begins gates) (range_with_len 0 k) ≡ false) whole is) (subst (λ (k : ℕ). ShutTo k file) (sym reached_first) shut_start)))
 
 pub same_is : (name file : Bytes) (kept : Kept) (is : entry_in name file ≡ Some kept) (v : View) (ops : List DiskOp) → During name v ops (AllLeft (Same name file kept is)) → During name v ops (AllLeft (λ c. entry_of name c ≡ Some kept))
 unfolding Same

@@ -14,7 +14,7 @@ use Rattle.pp_gate.proofs.Views.{view_from, each_from, done_view, ran_to}
 use Rattle.pp_gate.proofs.Ops.{AllLeft, all_settled}
 use Rattle.pp_store.specs.Kept.{Kept}
 use Rattle.pp_recover.specs.Image.{entry_in, entry_of}
-use Rattle.pp_recover.specs.Closing.{Tends, begins, close_from, close_at, closing, closing_if, closing_of, gates_in}
+use Rattle.pp_recover.specs.Closing.{Tends, begins, close_from, close_at, closing, closing_if, closing_of, gates_in, has_strays, writes_over}
 use Rattle.pp_recover.proofs.ShutLemmas.{IsTidy, all_during, all_done, same_is}
 
 same_name : (n : Bytes) → bytes_eq n n ≡ true
@@ -41,17 +41,21 @@ abbrev AllClosing : Bytes → List DiskOp → Type 0
 AllClosing name [] = Unit {0}
 AllClosing name (op ∷ ops) = IsClosing name op × AllClosing name ops
 
-closing_each : (name gates : Bytes) (is : List ℕ) → AllClosing name (flat_map (close_at name gates) is)
-closing_each name gates [] = tt
+closing_each : (name gates : Bytes) (is : List ℕ) → AllClosing name (flat_map (close_at name gates) is ++ Sync name ∷ [])
+closing_each name gates [] = (refl, tt)
 closing_each name gates (i ∷ is) = by (begins gates i) (closing_each name gates is)
   where
-    by : (b : Bool) → AllClosing name (flat_map (close_at name gates) is) → AllClosing name (cond b (close_from name gates i) [] ++ flat_map (close_at name gates) is)
-    by true rest = (refl, (refl, rest))
+    by : (b : Bool) → AllClosing name (flat_map (close_at name gates) is ++ Sync name ∷ []) → AllClosing name ((cond b (close_from name gates i ∷ []) [] ++ flat_map (close_at name gates) is) ++ Sync name ∷ [])
+    by true rest = (refl, rest)
     by false rest = rest
 
 closing_all : (name gates : Bytes) → AllClosing name (closing name gates)
-unfolding closing
-closing_all name gates = closing_each name gates (range_with_len 0 (length gates))
+unfolding closing writes_over
+closing_all name gates = by (has_strays gates)
+  where
+    by : (b : Bool) → AllClosing name (cond b (writes_over name gates ++ Sync name ∷ []) [])
+    by true = closing_each name gates (range_with_len 0 (length gates))
+    by false = tt
 
 closing_all_of : (name : Bytes) (file : Option Bytes) → AllClosing name (closing_of name file)
 closing_all_of name None = tt
@@ -164,13 +168,13 @@ at_rest_stays name None v slot = λ c left. by c (subst (λ (s : List (Option St
     by (Some b) (inl bad) = absurd bad
     by (Some b) (inr bad) = absurd bad
 
-closing_stays : (name : Bytes) (file : Option Bytes) (v : View) → v.slot ≡ at_rest file ∷ [] → During name v (closing_of name file) (AllLeft (Stays name file))
-closing_stays name None v slot = at_rest_stays name None v slot
-closing_stays name (Some file) v slot = by (entry_in name file) refl
+closing_stays : (name : Bytes) (file : Option Bytes) (v : View) → v.slot ≡ at_rest file ∷ [] → v.failed ≡ false → During name v (closing_of name file) (AllLeft (Stays name file))
+closing_stays name None v slot sound = at_rest_stays name None v slot
+closing_stays name (Some file) v slot sound = by (entry_in name file) refl
   where
     by : (e : Option Kept) → entry_in name file ≡ e → During name v (closing_if name file e) (AllLeft (λ c. entry_of name c ≡ entry_in name file))
     by None is = at_rest_stays name (Some file) v slot
-    by (Some kept) is = subst (λ (o : Option Kept). During name v (closing name (gates_in kept.entry.version.length file)) (AllLeft (λ c. entry_of name c ≡ o))) (sym is) (same_is name file kept is v (closing name (gates_in kept.entry.version.length file)) (all_during name file kept is v slot))
+    by (Some kept) is = subst (λ (o : Option Kept). During name v (closing name (gates_in kept.entry.version.length file)) (AllLeft (λ c. entry_of name c ≡ o))) (sym is) (same_is name file kept is v (closing name (gates_in kept.entry.version.length file)) (all_during name file kept is v slot sound))
 
 look_stays : (name : Bytes) (file : Option Bytes) (v : View) (p q : Log) → v.slot ≡ at_rest file ∷ [] → Unread name ∷ [] ≡ p ++ q → AllLeft (Stays name file) (view_from name v p)
 look_stays name file v [] q slot is = at_rest_stays name file v slot
@@ -179,15 +183,15 @@ look_stays name file v (h ∷ []) q slot is =
     subst (λ (g : Happening). AllLeft (Stays name file) (view_after name v g)) first (at_rest_stays name file (view_after name v (Unread name)) slot)
 look_stays name file v (h ∷ i ∷ p) q slot is = absurd (cc)
 
-pub tends_stays : (name : Bytes) (file : Option Bytes) (ok : Bool) (v : View) (hs p q : Log) → v.slot ≡ at_rest file ∷ [] → Tends name file ok hs → hs ≡ p ++ q → AllLeft (Stays name file) (view_from name v p)
-tends_stays name file ok v hs p q slot (inl look) split = look_stays name file v p q slot (sym look.1 ∙ split)
-tends_stays name file ok v hs p q slot (inr ran) split = each_from name (AllLeft (Stays name file)) v (closing_of name file) ok hs p q (closing_stays name file v slot) ran split
+pub tends_stays : (name : Bytes) (file : Option Bytes) (ok : Bool) (v : View) (hs p q : Log) → v.slot ≡ at_rest file ∷ [] → v.failed ≡ false → Tends name file ok hs → hs ≡ p ++ q → AllLeft (Stays name file) (view_from name v p)
+tends_stays name file ok v hs p q slot sound (inl look) split = look_stays name file v p q slot (sym look.1 ∙ split)
+tends_stays name file ok v hs p q slot sound (inr ran) split = each_from name (AllLeft (Stays name file)) v (closing_of name file) ok hs p q (closing_stays name file v slot sound) ran split
 
 -- ---- an entry, once nothing failed
-pub tends_done : (name file : Bytes) (kept : Kept) (is : entry_in name file ≡ Some kept) (v : View) (hs : Log) → v.slot ≡ Some (settled file) ∷ [] → Tends name (Some file) true hs
+pub tends_done : (name file : Bytes) (kept : Kept) (is : entry_in name file ≡ Some kept) (v : View) (hs : Log) → v.slot ≡ Some (settled file) ∷ [] → v.failed ≡ false → Tends name (Some file) true hs
     → (now : Bytes) × ((view_from name v hs).slot ≡ Some (settled now) ∷ []) × IsTidy name file kept is now
-tends_done name file kept is v hs slot (inl look) = absurd (cc)
-tends_done name file kept is v hs slot (inr ran) =
+tends_done name file kept is v hs slot sound (inl look) = absurd (cc)
+tends_done name file kept is v hs slot sound (inr ran) =
     let all : Ran (closing name (gates_in kept.entry.version.length file)) true hs = subst (λ (e : Option Kept). Ran (closing_if name file e) true hs) is ran in
-    let last = all_done name file kept is v slot in
+    let last = all_done name file kept is v slot sound in
     (last.0, ap (λ (w : View). w.slot) (ran_to name v (closing name (gates_in kept.entry.version.length file)) hs all) ∙ last.1, last.2)

@@ -1,11 +1,11 @@
 -- Which entries the files of a folder are.
-use Rattle.std.specs.Prelude.{◌≡◌, ◌≤◌, ℕ, ◌+◌, nat_le, List, [], length, take, map, filter, bytes_eq, if◌then◌else◌, Option, Some, None, option_map}
+use Rattle.std.specs.Prelude.{◌≡◌, ◌≤◌, ℕ, List, [], length, take, map, filter, bytes_eq, if◌then◌else◌, Option, Some, None, option_map}
 use Rattle.std.specs.List.{filter_map}
 use Rattle.std.specs.Option.{option_and_then}
 use Rattle.pp_world.specs.Files.{Files, file_of}
 use Rattle.pp_world.specs.Disk.{Bytes, is_name, names_in}
 use Rattle.pp_entry.specs.Entries.{Row, row_at}
-use Rattle.pp_entry.specs.Texts.{body_at}
+use Rattle.pp_entry.specs.Gates.{has_extent}
 use Rattle.pp_gate.specs.Files.{extent_in}
 use Rattle.pp_store.specs.Kept.{Kept}
 use Rattle.pp_target.specs.Name.{name_of}
@@ -24,9 +24,10 @@ pub record IsRowOf (name : Bytes) (row : Row) : Type 0 where
 unfoldable pub head_in : Bytes → Bytes → Option Row
 head_in name file = option_and_then (named_for name) (row_at (take 8192 file))
 
--- how much of a body of this length is kept, where the file has all of it behind its head block and gates
+-- how much of a body of this length is kept, where the file has all of it behind its head block and gates, and nothing
+-- behind the body
 unfoldable pub extent_if : ℕ → Bytes → Option ℕ
-extent_if n file = if nat_le (body_at n + extent_in n file) (length file) then Some (extent_in n file) else None
+extent_if n file = if has_extent n (extent_in n file) (length file) then Some (extent_in n file) else None
 
 abbrev pub kept_with : Bytes → Row → Option Kept
 kept_with file row = option_map (λ extent. record { entry = row; extent = extent }) (extent_if row.version.length file)

@@ -1,12 +1,11 @@
 -- What looks at the file of one name tell.
-use Rattle.std.specs.Prelude.{◌≡◌, ⊤, ℕ, Bool, true, false, [], ◌∷◌, ◌++◌, ◌+◌, nat_le, if◌then◌else◌, length, take, Option, Some, None, Result, Ok, Err, option_map}
+use Rattle.std.specs.Prelude.{◌≡◌, ⊤, ℕ, Bool, true, false, [], ◌∷◌, ◌++◌, if◌then◌else◌, length, take, Option, Some, None, Result, Ok, Err, option_map}
 use Rattle.pp_world.specs.declared.disk.DiskFault.{DiskFault}
 use Rattle.pp_world.specs.declared.happening.Happening.TheVariants.{Unread}
 use Rattle.pp_world.specs.Log.{Log}
 use Rattle.pp_world.specs.Disk.{Bytes, Stands, at_rest}
 use Rattle.pp_entry.specs.Entries.{Row}
-use Rattle.pp_entry.specs.Gates.{extent_of}
-use Rattle.pp_entry.specs.Texts.{body_at}
+use Rattle.pp_entry.specs.Gates.{extent_of, has_extent}
 use Rattle.pp_recover.specs.declared.examine.Front.{Front}
 use Rattle.pp_recover.specs.Closing.{gates_in, Tends}
 use Rattle.pp_store.specs.Kept.{Kept}
@@ -34,10 +33,10 @@ abbrev pub GivesGates : ℕ → Bytes → Result ℕ DiskFault → Option Bytes 
 GivesGates n buffer (Ok count) file = take count buffer ≡ gates_in n (bytes_of file)
 GivesGates n buffer (Err fault) file = ⊤
 
--- what these gates keep of it in a file of this length, where that is long enough
+-- what these gates keep of it in a file of this length, where that is its length
 abbrev pub front_in : ℕ → ℕ → Bytes → Option Front
 front_in len n gates =
-    if nat_le (body_at n + extent_of gates n) len then Some (record { gates = length gates; extent = extent_of gates n }) else None
+    if has_extent n (extent_of gates n) len then Some (record { gates = length gates; extent = extent_of gates n }) else None
 
 -- how much of a body of this length it keeps, where its gates were read into the front of a buffer
 abbrev pub GivesFront : ℕ → Bytes → Result (Option Front) DiskFault → Option Bytes → Type 0

@@ -5,9 +5,8 @@ use Rattle.pp_world.specs.declared.happening.Happening.TheVariants.{Listed}
 use Rattle.pp_world.specs.Files.{Files, file_of}
 use Rattle.pp_world.specs.Log.{Log}
 use Rattle.pp_world.specs.Disk.{Bytes, image_of, names_in, view_of, woken, at_rest, LeavesOne, Stands}
-use Rattle.pp_gate.specs.Files.{HoldsSent}
+use Rattle.pp_gate.specs.Files.{HoldsSent, Sent}
 use Rattle.pp_store.specs.Changes.{with_closed}
-use Rattle.pp_store.specs.Held.{Sent}
 use Rattle.pp_store.specs.Kept.{Kept, KeptMap, is_closed, kept_under}
 use Rattle.pp_recover.specs.declared.faults.RecoverFault.{RecoverFault}
 use Rattle.pp_recover.specs.declared.faults.RecoverFault.TheVariants.{DiskFault, OutOfMemory}

@@ -10,7 +10,7 @@ ghost use Rattle.pp_recover.specs.Looks.{Examines, Extends, GivesFront, GivesGat
 ghost use Rattle.pp_recover.specs.Shown.{shown_found};
 
 use crate::strays::{MAX_GATES, close_strays};
-use pp_entry::{Entry, HEAD_LEN, Scratch, body_at, extent, read_head};
+use pp_entry::{Entry, HEAD_LEN, Scratch, extent, has_extent, read_head};
 use pp_target::file_name;
 use pp_world::{Disk, DiskFault, Name};
 
@@ -122,7 +122,7 @@ fn front_in(length: u64, n: u64, gates: &[u8]) -> Option<Front>
     ensures { result ≡ front_in length n gates.now }
 {
     let extent = extent(gates, n);
-    if length < body_at(n) + extent {
+    if !has_extent(n, extent, length) {
         return None;
     }
     Some(Front {

@@ -1,9 +1,9 @@
 // Gates that are open behind one that is not.
-ghost use Rattle.std.specs.Prelude.{◌≡◌, ◌+◌, ◌<◌, ◌≤◌, OnErr, OnOk, is_ok, length, replicate};
+ghost use Rattle.std.specs.Prelude.{◌≡◌, ◌+◌, ◌<◌, ◌≤◌, [], ◌∷◌, OnErr, OnOk, is_ok, length, replicate};
 ghost use Rattle.pp_entry.specs.Gates.{leading_open};
 ghost use Rattle.pp_world.specs.Log.{Rises, Told};
 ghost use Rattle.pp_gate.specs.Runs.{RunsOps};
-ghost use Rattle.pp_recover.specs.Closing.{RestsTo, begins, close_from, closing, open_from};
+ghost use Rattle.pp_recover.specs.Closing.{RestsTo, begins, close_from, closing, has_strays, open_from, writes_over};
 
 use pp_world::{Disk, DiskFault, Name};
 
@@ -16,7 +16,7 @@ const OPEN: u8 = 0x01;
 /// Closed gates.
 const CLOSED: [u8; MAX_GATES] = [0; MAX_GATES];
 
-/// Closes the gates of a file that are open behind one that is not, run by run.
+/// Closes the gates of a file that are open behind one that is not: all of them, and then syncs once.
 pub(crate) fn close_strays<D: Disk>(
     disk: &mut D,
     name: &Name,
@@ -25,6 +25,34 @@ pub(crate) fn close_strays<D: Disk>(
     requires few { length gates.now ≤ 16384 }
     requires stands { Told (D.log disk.old) (RestsTo name.now (8192 + length gates.now)) }
     ensures ops { RunsOps (D.log disk.old) (D.log disk.new) (closing name.now gates.now) (is_ok result) }
+    ensures faults { D.faults disk.old ≤ D.faults disk.new }
+    ensures cause { OnErr result (Rises (D.log disk.new) (D.faults disk.old) (D.faults disk.new)) }
+    ensures top { D.top disk.new ≡ D.top disk.old }
+{
+    if !has_strays(gates) {
+        return Ok(());
+    }
+    close_each(disk, name, gates)?;
+    // Until then a crash may bring a stray gate back, and the entry is the same with it.
+    disk.sync(name)
+}
+
+fn has_strays(gates: &[u8]) -> bool
+    ensures { result ≡ has_strays gates.now }
+{
+    for i in 0..gates.len() {
+        if begins(gates, i) {
+            return true;
+        }
+    }
+    false
+}
+
+/// Writes over the stray gates, run by run.
+fn close_each<D: Disk>(disk: &mut D, name: &Name, gates: &[u8]) -> Result<(), DiskFault>
+    requires few { length gates.now ≤ 16384 }
+    requires stands { Told (D.log disk.old) (RestsTo name.now (8192 + length gates.now)) }
+    ensures ops { RunsOps (D.log disk.old) (D.log disk.new) (writes_over name.now gates.now) (is_ok result) }
     ensures faults { D.faults disk.old ≤ D.faults disk.new }
     ensures cause { OnErr result (Rises (D.log disk.new) (D.faults disk.old) (D.faults disk.new)) }
     ensures top { D.top disk.new ≡ D.top disk.old }
@@ -50,14 +78,13 @@ fn close_from<D: Disk>(disk: &mut D, name: &Name, gates: &[u8], i: usize) -> Res
     requires few { length gates.now ≤ 16384 }
     requires within { i < length gates.now }
     requires stands { Told (D.log disk.old) (RestsTo name.now (8192 + length gates.now)) }
-    ensures ops { RunsOps (D.log disk.old) (D.log disk.new) (close_from name.now gates.now i) (is_ok result) }
+    ensures ops { RunsOps (D.log disk.old) (D.log disk.new) (close_from name.now gates.now i ∷ []) (is_ok result) }
     ensures stands { OnOk result (Told (D.log disk.new) (RestsTo name.now (8192 + length gates.now))) }
     ensures faults { D.faults disk.old ≤ D.faults disk.new }
     ensures cause { OnErr result (Rises (D.log disk.new) (D.faults disk.old) (D.faults disk.new)) }
     ensures top { D.top disk.new ≡ D.top disk.old }
 {
-    disk.write(name, 8192 + i as u64, closed(open_from(gates, i)))?;
-    disk.sync(name)
+    disk.write(name, 8192 + i as u64, closed(open_from(gates, i)))
 }
 
 /// How many gates stand open from here on.

@@ -5,6 +5,7 @@ ghost use Rattle.pp_target.specs.Name.{name_of};
 ghost use Rattle.pp_store.specs.Kept.{HasOwnNames, IsExtent, is_closed, is_of, is_under, kept_of, kept_under, name_at, row_of};
 ghost use Rattle.pp_store.specs.Answers.{is_full};
 ghost use Rattle.pp_store.specs.Changes.{closed_once, entry_with, extended, lost, is_other, no_entries, with_closed, with_row, without};
+ghost use Rattle.pp_store.specs.Held.{IsReadable};
 ghost use Rattle.pp_store.specs.Views.{shown, site_of};
 
 use crate::row::{KeptRow, KeptView, Site};
@@ -90,8 +91,8 @@ impl Store {
             .any(|other| other.as_slice() == name.as_slice())
     }
 
-    /// Keeps an entry that an earlier life left, with so many bytes of its body. Where memory is
-    /// refused, all is as before.
+    /// Keeps an entry that was read, as an earlier life left it, with so many bytes of its body. Where
+    /// memory is refused, all is as before.
     pub fn found(
         &mut self,
         alloc: Global,
@@ -100,6 +101,7 @@ impl Store {
     ) -> Result<(), OutOfMemory>
         requires sized { entry.now.version.length ≤ 2 ^ 26 }
         requires whole { IsExtent entry.now.version.length extent }
+        requires reads { IsReadable (entry_with entry.now.key.now entry.now.version entry.now.fields entry.now.times) }
         requires absent { kept_under (name_of entry.now.key.now) self.old ≡ None }
         requires sound { is_closed (name_of entry.now.key.now) self.old ≡ false }
         ensures ok { OnOk result (self.new ≡ with_row (entry_with entry.now.key.now entry.now.version entry.now.fields entry.now.times) extent self.old) }

@@ -1,4 +1,5 @@
 use Rattle.pp_entry.specs.Entries.{shown_entry}
+use Rattle.pp_entry.proofs.ReadRows.{read-again}
 use Rattle.pp_recover.proofs.RowLemmas.{spelt}
 use Rattle.pp_recover.proofs.NameLemmas.{free_found, free_closed}
 use Rattle.pp_recover.proofs.opening.tend.Goals as goal
@@ -7,6 +8,11 @@ pub found-requires-clause-sized : goal.found-requires-clause-sized
 found-requires-clause-sized g c =
     let row = rw c.in-Ok-Some.field-0-is at c.in-Ok-Some.ensures.row in
     (spelt row.0.block (shown_entry c.in-Ok-Some.found.entry) row.0.is).sized
+
+pub found-requires-clause-reads : goal.found-requires-clause-reads
+found-requires-clause-reads g c =
+    let row = rw c.in-Ok-Some.field-0-is at c.in-Ok-Some.ensures.row in
+    read-again row.0.block (shown_entry c.in-Ok-Some.found.entry) row.0.is
 
 pub returns-in-Ok-Some-clause-others : goal.returns-in-Ok-Some-clause-others
 returns-in-Ok-Some-clause-others g c = λ other differ free.

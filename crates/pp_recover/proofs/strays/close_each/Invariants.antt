@@ -3,7 +3,7 @@ use Rattle.pp_world.specs.Log.{Told}
 use Rattle.pp_gate.specs.Runs.{RunsOps}
 use Rattle.pp_recover.specs.Closing.{RestsTo}
 use Rattle.pp_recover.proofs.StrayLemmas.{close_below}
-use Rattle.pp_recover.proofs.strays.close_strays.Given as goal
+use Rattle.pp_recover.proofs.strays.close_each.Given as goal
 
 abbrev pub invariant-loop-i : goal.invariant-loop-i
 invariant-loop-i g l = record {
