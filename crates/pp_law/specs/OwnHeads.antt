@@ -24,7 +24,7 @@ use Rattle.pp_law.specs.Connections.{exchange, on_exchange, is_for, lose_attempt
 use Rattle.pp_law.specs.Lists.{Bytes, change, is_some_with}
 use Rattle.pp_law.specs.Passing.{passed_by}
 use Rattle.pp_law.specs.Stages.{is_begun, bound_of}
-use Rattle.pp_law.specs.State.{State, Through, Own, Filling, Bound, Body, Joining, Relaying, Dropping, Brought, Useless, Joins, Passes, TooWide, Client, Exchange, Instance, Sent}
+use Rattle.pp_law.specs.State.{State, Answer, Through, Own, Filling, Bound, Body, Joining, Relaying, Dropping, Brought, Useless, Joins, Passes, TooWide, Client, Exchange, Instance, Sent}
 use Rattle.pp_law.specs.Table.{is_same_version, row, kept_row, instance, extent_of, on_instance, mark_row, make_row, enter, clear, next_of, is_provided}
 
 abbrev pub key_of : Exchange → Bytes
@@ -256,14 +256,14 @@ sent_as e at bytes None sent = sent
 sent_as e at bytes (Some v) sent = record { key = key_of e; version = v; at = at; bytes = bytes } ∷ sent
 
 -- what an exchange of the cache's own brought is put on record, whatever becomes of it
-unfoldable pub note_own : Exchange → Response → ℕ → Bytes → State → State
-note_own e head at bytes s = elim (is_empty bytes) [
+unfoldable pub note_own : Exchange → Answer → ℕ → Bytes → State → State
+note_own e a at bytes s = elim (is_empty bytes) [
   | true ↦ s
-  | false ↦ record s { sent = sent_as e (first_offset head + at) bytes (version_in e head) s.sent }
+  | false ↦ record s { sent = sent_as e (first_offset a.head + at) bytes a.version s.sent }
 ]
 
-unfoldable pub note_sent : Exchange → Response → ℕ → Bytes → State → State
-note_sent e head at bytes s = elim e.aim [ Through ↦ s | Own ↦ note_own e head at bytes s | Filling v from to ↦ note_own e head at bytes s ]
+unfoldable pub note_sent : Exchange → Answer → ℕ → Bytes → State → State
+note_sent e a at bytes s = elim e.aim [ Through ↦ s | Own ↦ note_own e a at bytes s | Filling v from to ↦ note_own e a at bytes s ]
 
 unfoldable pub join : Bound → Bytes → State → State
 join b bytes s = elim (instance s b.instance) [ None ↦ s | Some x ↦ note_use (record s { chunks = joined x.id (extent_of s x) b.next bytes s.chunks }) ]

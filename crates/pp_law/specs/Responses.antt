@@ -15,7 +15,7 @@ use Rattle.pp_pipe.specs.Authentication.{binds_connection}
 use Rattle.pp_pipe.specs.Front.{is_interim, stays_open}
 use Rattle.pp_law.specs.Connections.{conn, on_conn, on_client_of, front_of_line, is_outstanding, fail, lose_attempt, end_exchange, close_conn}
 use Rattle.pp_law.specs.Lists.{Bytes, is_some_with}
-use Rattle.pp_law.specs.OwnHeads.{is_wrong_head, own_head, filling_head, note_sent, join_bound}
+use Rattle.pp_law.specs.OwnHeads.{version_in, is_wrong_head, own_head, filling_head, note_sent, join_bound}
 use Rattle.pp_law.specs.Passing.{pour, poured}
 use Rattle.pp_law.specs.ThroughHeads.{through_head}
 use Rattle.pp_law.specs.State.{State, Through, Own, Filling, Answer, Client, Conn, Exchange}
@@ -70,8 +70,12 @@ by_aim e head rule s = elim e.aim [ Through ↦ through_head e head rule s | Own
 abbrev pub asks_head : Exchange → Bool
 asks_head e = elim e.aim [ Through ↦ is_head e.head.method | Own ↦ false | Filling v from to ↦ false ]
 
-abbrev pub answered_by : Response → BodyRule → Conn → Conn
-answered_by head rule k = record k { unread = []; answer = Some (record { head = head; rule = rule; raw = [] }) }
+-- of a response, of which nothing but the head came
+abbrev pub answer_with : Exchange → Response → BodyRule → Answer
+answer_with e head rule = record { head = head; version = version_in e head; rule = rule; raw = [] }
+
+abbrev pub answered_by : Answer → Conn → Conn
+answered_by a k = record k { unread = []; answer = Some a }
 
 -- where the body is empty, the response is whole
 unfoldable pub end_if_empty : Conn → Exchange → Answer → State → State
@@ -79,7 +83,7 @@ end_if_empty k e a s = elim (body_of a.rule []).outcome [ Done rest ↦ finish k
 
 unfoldable pub begin_answer : Conn → Exchange → Response → BodyRule → State → State
 begin_answer k e head rule s =
-    end_if_empty k e (record { head = head; rule = rule; raw = [] }) (by_aim e head rule (on_conn k.number (answered_by head rule) s))
+    end_if_empty k e (answer_with e head rule) (by_aim e head rule (on_conn k.number (answered_by (answer_with e head rule)) s))
 
 unfoldable pub answer_for : Conn → Exchange → Response → State → State
 answer_for k e head s = elim (is_wrong_head e head) [
@@ -125,7 +129,7 @@ head_piece k bytes s = elim (is_early s k) [
 
 -- the data of a response go where its exchange is bound
 unfoldable pub deliver : Exchange → Answer → ℕ → Bytes → State → State
-deliver e a at bytes s = pour e (poured bytes) (join_bound e bytes (note_sent e a.head at bytes s))
+deliver e a at bytes s = pour e (poured bytes) (join_bound e bytes (note_sent e a at bytes s))
 
 abbrev pub payload_of : Answer → Bytes
 payload_of a = (body_of a.rule a.raw).payload

@@ -99,6 +99,7 @@ pub record Exchange : Type 0 where
 -- a final response whose head came, and the bytes behind it
 pub record Answer : Type 0 where
   pub head : Response
+  pub version : Option Version  -- the one that its body is of
   pub rule : BodyRule
   pub raw : Bytes
 

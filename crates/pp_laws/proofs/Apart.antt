@@ -2,6 +2,7 @@
 use Rattle.std.proofs.Common.{◌≡◌, refl, ℕ, ◌<◌, ◌≤◌, Bool, true, false, not, ◌==◌, Option, Some, None, sym, subst, ap, ◌∙◌}
 use Rattle.pp_law.specs.Connections.{is_conn, is_exchange, end_exchange}
 use Rattle.pp_law.specs.Lists.{change}
+use Rattle.pp_law.specs.Stages.{bound_of}
 use Rattle.pp_law.specs.State.{State, Answer, Bound, Conn, Exchange}
 use Rattle.pp_laws.specs.Runs.{IsIn}
 use Rattle.pp_laws.proofs.Binding.{Behind}
@@ -33,7 +34,7 @@ set_apart {b} n s none h = sound (record {
 })
 
 -- it is looked at again, where it is bound as its answer tells
-pub set_back : {b : Since} (n : ℕ) (s : State) → ((k : Conn) (d : Exchange) (to : Bound) → IsIn k s.conns → IsIn d s.exchanges → d.number ≡ n → IsIn d.number k.line → d.bound ≡ Some to → Brings s.instances k d to)
+pub set_back : {b : Since} (n : ℕ) (s : State) → ((k : Conn) (d : Exchange) (to : Bound) → IsIn k s.conns → IsIn d s.exchanges → d.number ≡ n → IsIn d.number k.line → bound_of d ≡ Some to → Brings s.instances k d to)
     → Sound (but b n) s → Sound b s
 set_back {b} n s brings h = sound (record {
   grew = (facts_of h).grew;
@@ -50,7 +51,7 @@ set_back {b} n s brings h = sound (record {
     apart : (m : ℕ) → (n == m) ≡ false → ¬ (Some n ≡ Some m)
     apart m isnt is = let e : n ≡ m = cc in let both : true ≡ false = sym (number_same n) ∙ ap (λ x. n == x) e ∙ isnt in cc both
 
-    by : (k : Conn) (e : Exchange) (to : Bound) → IsIn k s.conns → IsIn e s.exchanges → IsIn e.number k.line → e.bound ≡ Some to → (t : Bool) → (n == e.number) ≡ t → Brings s.instances k e to
+    by : (k : Conn) (e : Exchange) (to : Bound) → IsIn k s.conns → IsIn e s.exchanges → IsIn e.number k.line → bound_of e ≡ Some to → (t : Bool) → (n == e.number) ≡ t → Brings s.instances k e to
     by k e to i j l is true hit = brings k e to i j (sym (same_number n e.number hit)) l is
     by k e to i j l is false isnt = (facts_of h).brings k e to i j l is (apart e.number isnt)
 
@@ -72,14 +73,14 @@ end_exchange-gone n s d i is = let passes = (in_filter (λ e. not (is_exchange n
 
 -- on that connection all but this exchange are not bound
 abbrev pub OthersUnbound : ℕ → ℕ → State → Type 0
-OthersUnbound n m s = (k : Conn) (d : Exchange) → IsIn k s.conns → k.number ≡ n → IsIn d s.exchanges → IsIn d.number k.line → ¬ (d.number ≡ m) → d.bound ≡ None
+OthersUnbound n m s = (k : Conn) (d : Exchange) → IsIn k s.conns → k.number ≡ n → IsIn d s.exchanges → IsIn d.number k.line → ¬ (d.number ≡ m) → bound_of d ≡ None
 
 pub bound_by : (bound : Option Bound) → ((to : Bound) → bound ≡ Some to → ⊥) → bound ≡ None
 bound_by None never = refl
 bound_by (Some to) never = absurd (never to refl)
 
 pub others_unbound : {b : Since} (k : Conn) (m : ℕ) (s : State) → b.excepts ≡ None → IsIn k s.conns → first_of k.line ≡ Some m → Sound b s → OthersUnbound k.number m s
-others_unbound {b} k m s none there first h j d i number at l apart = bound_by d.bound never
+others_unbound {b} k m s none there first h j d i number at l apart = bound_by (bound_of d) never
   where
     facts : FactsOf b s
     facts = facts_of h
@@ -87,7 +88,7 @@ others_unbound {b} k m s none there first h j d i number at l apart = bound_by d
     j_is : j ≡ k
     j_is = one_of conn_number s.conns j k facts.lines.rise i there number
 
-    never : (to : Bound) → d.bound ≡ Some to → ⊥
+    never : (to : Bound) → bound_of d ≡ Some to → ⊥
     never to is =
         let w = facts.brings j d to i at l is (never_none d.number b.excepts none) in
         let both : Some d.number ≡ Some m = sym w.front ∙ ap (λ (x : Conn). first_of x.line) j_is ∙ first in
@@ -103,7 +104,7 @@ others_untouched n m s t u others k d i number j l apart = others k d (subst (λ
 
 -- the connection has this answer now
 pub answered : (b : Since) (s : State) (n : ℕ) (f : Conn → Conn) → ((k : Conn) → (f k).number ≡ k.number) → ((k : Conn) → (f k).line ≡ k.line)
-    → ((k : Conn) (d : Exchange) → IsIn k s.conns → k.number ≡ n → IsIn d s.exchanges → IsIn d.number k.line → ¬ (b.excepts ≡ Some d.number) → d.bound ≡ None)
+    → ((k : Conn) (d : Exchange) → IsIn k s.conns → k.number ≡ n → IsIn d s.exchanges → IsIn d.number k.line → ¬ (b.excepts ≡ Some d.number) → bound_of d ≡ None)
     → FactsOf b s → FactsOf b (record s { conns = change (is_conn n) f s.conns })
 answered b s n f number line unbound h = record {
   grew = h.grew;
@@ -139,7 +140,7 @@ answered b s n f number line unbound h = record {
     placed_by k e (same i isnt) m l = h.placed k e i m l
     placed_by k e (other j i hit eq) m l = h.placed j e i m (in_line k j e.number eq l) ∙ ap (λ x. Some x) (sym (ap conn_number eq ∙ number j))
 
-    brings_by : (k : Conn) (e : Exchange) (to : Bound) → Changed (is_conn n) f s.conns k → IsIn e s.exchanges → IsIn e.number k.line → e.bound ≡ Some to → ¬ (b.excepts ≡ Some e.number) → Brings s.instances k e to
+    brings_by : (k : Conn) (e : Exchange) (to : Bound) → Changed (is_conn n) f s.conns k → IsIn e s.exchanges → IsIn e.number k.line → bound_of e ≡ Some to → ¬ (b.excepts ≡ Some e.number) → Brings s.instances k e to
     brings_by k e to (same i isnt) m l is apart = h.brings k e to i m l is apart
     brings_by k e to (other j i hit eq) m l is apart =
         let both : None ≡ Some to = sym (unbound j e i (same_number j.number n hit) m (in_line k j e.number eq l) apart) ∙ is in absurd (cc both)

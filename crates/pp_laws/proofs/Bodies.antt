@@ -1,12 +1,14 @@
 -- The ends of responses, and the heads that begin them, keep what is sound.
 use Rattle.std.proofs.Common.{◌≡◌, ◌⊎◌, refl, ℕ, Bool, true, false, not, ◌==◌, ◌&&◌, List, [], ◌∷◌, find, cond, length, Option, Some, None, Result, Ok, Err, inl, inr, sym, subst, ap, ◌∙◌, arith}
-use Rattle.std.specs.Prelude.{codes}
-use Rattle.pp_framing.specs.Framing.{rule_of, coding_of, is_other, length_of, by_length, has_no_body, response_body}
+use Rattle.std.specs.Prelude.{codes, nat_lt}
+use Rattle.pp_framing.specs.Framing.{rule_of, framing_of, framed, coding_of, is_other, length_of, by_length, has_no_body, response_body}
 use Rattle.pp_framing.specs.Rules.{body_of}
 use Rattle.pp_framing.specs.declared.body.BodyRule.TheVariants.{Empty}
 use Rattle.pp_framing.specs.declared.body.BodyRule.{BodyRule}
 use Rattle.pp_framing.specs.declared.framing.FramingFault.TheVariants.{OtherCoding}
 use Rattle.pp_framing.specs.declared.framing.FramingFault.{FramingFault}
+use Rattle.pp_framing.specs.declared.framing.ResponseFault.TheVariants.{NoStatus}
+use Rattle.pp_framing.specs.declared.framing.ResponseFault.{ResponseFault}
 use Rattle.pp_head.specs.Response.{Response}
 use Rattle.pp_pass.specs.Pipe.{Pipe, finished}
 use Rattle.pp_text.specs.Fields.{Field, values_of}
@@ -15,8 +17,8 @@ use Rattle.pp_law.specs.Connections.{conn, exchange, is_conn, is_exchange, on_co
 use Rattle.pp_law.specs.Lists.{change}
 use Rattle.pp_law.specs.OwnHeads.{key_of}
 use Rattle.pp_law.specs.Passing.{pour}
-use Rattle.pp_law.specs.Responses.{skipping, skip_body, stays_open, rested, close_this, finish, bad_response, answered_by, end_if_empty, begin_answer}
-use Rattle.pp_law.specs.Stages.{on_passed}
+use Rattle.pp_law.specs.Responses.{skipping, skip_body, may_go_on, rested, close_this, finish, bad_response, answer_with, answered_by, end_if_empty, begin_answer}
+use Rattle.pp_law.specs.Stages.{on_passed, bound_of}
 use Rattle.pp_law.specs.State.{State, Aim, Through, Own, Filling, Answer, Bound, Conn, Exchange}
 use Rattle.pp_laws.specs.Runs.{IsIn}
 use Rattle.pp_laws.proofs.Apart.{IsGone, OthersUnbound, answered, bound_by, but, end_exchange-gone, gone_shrunk, never_none, others_behind, others_unbound, others_untouched, set_apart, set_back, set_back_gone}
@@ -61,7 +63,7 @@ end_exchange-others : (n m : ℕ) (s : State) → OthersUnbound n m s → Others
 unfolding end_exchange
 end_exchange-others n m s others k d i number j l apart = by (in_map (without_ask m) k s.conns i)
   where
-    by : From (without_ask m) s.conns k → d.bound ≡ None
+    by : From (without_ask m) s.conns k → bound_of d ≡ None
     by r = others r.was d r.there (sym (ap conn_number r.is) ∙ number) (in_filter (λ e. not (is_exchange m e)) d s.exchanges j).0
         (in_filter (λ x. not (x == m)) d.number r.was.line (subst (λ (x : Conn). IsIn d.number x.line) r.is l)).0 apart
 
@@ -82,12 +84,12 @@ done-sound {b} k e a s others h = sound (answered b over k.number (rested a.head
     rest : OthersUnbound k.number e.number over
     rest = end_exchange-others k.number e.number quiet (others_untouched k.number e.number s quiet (untouched_on s (pour e finished s) quiet (pour-untouched e finished s) (skip_body-untouched e (pour e finished s))) others)
 
-    unbound : (j : Conn) (d : Exchange) → IsIn j over.conns → j.number ≡ k.number → IsIn d over.exchanges → IsIn d.number j.line → ¬ (b.excepts ≡ Some d.number) → d.bound ≡ None
+    unbound : (j : Conn) (d : Exchange) → IsIn j over.conns → j.number ≡ k.number → IsIn d over.exchanges → IsIn d.number j.line → ¬ (b.excepts ≡ Some d.number) → bound_of d ≡ None
     unbound j d i number at l apart = rest j d i number at l (end_exchange-gone e.number quiet d at)
 
 pub finish-sound : {b : Since} (k : Conn) (e : Exchange) (a : Answer) (s : State) → OthersUnbound k.number e.number s → Sound (but b e.number) s → Sound b (finish k e a s)
 unfolding finish
-finish-sound k e a s others h = when (stays_open a.head && (e.body_left == 0)) (done-sound k e a s others h) (close_this-sound k.number _ (done-sound k e a s others h))
+finish-sound k e a s others h = when (may_go_on e a.head) (done-sound k e a s others h) (close_this-sound k.number _ (done-sound k e a s others h))
 
 pub bad_response-sound : {b : Since} (k : Conn) (s : State) → IsOwnLine k s → Sound b s → Sound b (bad_response k s)
 unfolding bad_response
@@ -140,9 +142,18 @@ empty_by false hr status fields rule (Ok length) is ok = let r : response ≡ ru
     none : has_no_body hr status ≡ true
     none = grind arith
 
+framed_at : (framing : Result BodyRule FramingFault) (rule : BodyRule) → framed framing ≡ Ok rule → framing ≡ Ok rule
+framed_at (Ok found) rule is = let eq : found ≡ rule = cc in ap (λ r. Ok r) eq
+framed_at (Err fault) rule is = absurd (cc is)
+
+rule_from : (no_status : Bool) (framing : Result BodyRule ResponseFault) (rule : BodyRule) → (elim no_status as (λ c. Result BodyRule ResponseFault) [ true ↦ Err NoStatus | false ↦ framing ]) ≡ Ok rule → framing ≡ Ok rule
+rule_from true framing rule is = absurd (cc is)
+rule_from false framing rule is = is
+
 -- "such as the 1xx, 204, and 304 responses" have no body
 pub rule_at_304 : (hr : Bool) (head : Response) (rule : BodyRule) → rule_of hr head.status head.fields ≡ Ok rule → IsEmptyAt304 head rule
-rule_at_304 hr head rule ok is = empty_by (is_other (coding_of head.fields)) hr head.status head.fields rule (length_of (values_of (codes "content-length") head.fields)) is ok
+rule_at_304 hr head rule ok is =
+    empty_by (is_other (coding_of head.fields)) hr head.status head.fields rule (length_of (values_of (codes "content-length") head.fields)) is (framed_at (framing_of hr head.status head.fields) rule (rule_from (nat_lt head.status 100) _ rule ok))
 
 -- a connection that is there, the first of its line, and no answer yet
 pub record Opens (k : Conn) (e : Exchange) (s : State) : Type 0 where
@@ -164,26 +175,26 @@ of_line k e s h o j m i is l =
     (own_line o.was s o.there h e j o.given (in_first e.number o.was.line o.front) i (subst (λ x. IsIn x j.line) is l))
 
 begun_sound : {b : Since} (k : Conn) (e : Exchange) (head : Response) (rule : BodyRule) (s : State) → b.excepts ≡ None → (o : Opens k e s) → o.was.answer ≡ None → Sound b s
-    → Sound (but b e.number) (on_conn k.number (answered_by head rule) s)
+    → Sound (but b e.number) (on_conn k.number (answered_by (answer_with e head rule)) s)
 unfolding on_conn
-begun_sound {b} k e head rule s none o no_answer h = sound (answered (but b e.number) s k.number (answered_by head rule) (λ j. refl) (λ j. refl) unbound (facts_of (set_apart e.number s none h)))
+begun_sound {b} k e head rule s none o no_answer h = sound (answered (but b e.number) s k.number (answered_by (answer_with e head rule)) (λ j. refl) (λ j. refl) unbound (facts_of (set_apart e.number s none h)))
   where
     facts : FactsOf b s
     facts = facts_of h
 
-    unbound : (j : Conn) (d : Exchange) → IsIn j s.conns → j.number ≡ k.number → IsIn d s.exchanges → IsIn d.number j.line → ¬ (Some e.number ≡ Some d.number) → d.bound ≡ None
+    unbound : (j : Conn) (d : Exchange) → IsIn j s.conns → j.number ≡ k.number → IsIn d s.exchanges → IsIn d.number j.line → ¬ (Some e.number ≡ Some d.number) → bound_of d ≡ None
     unbound j d i number at l apart = others_unbound o.was e.number s none o.there o.front h j d i (number ∙ sym o.number) at l (λ is. apart (ap (λ x. Some x) (sym is)))
 
-unbound_first : {b : Since} (k : Conn) (e : Exchange) (s : State) → b.excepts ≡ None → (o : Opens k e s) → o.was.answer ≡ None → Sound b s → e.bound ≡ None
-unbound_first {b} k e s none o no_answer h = bound_by e.bound never
+unbound_first : {b : Since} (k : Conn) (e : Exchange) (s : State) → b.excepts ≡ None → (o : Opens k e s) → o.was.answer ≡ None → Sound b s → bound_of e ≡ None
+unbound_first {b} k e s none o no_answer h = bound_by (bound_of e) never
   where
-    never : (to : Bound) → e.bound ≡ Some to → ⊥
+    never : (to : Bound) → bound_of e ≡ Some to → ⊥
     never to is =
         let w = (facts_of h).brings o.was e to o.there o.given (in_first e.number o.was.line o.front) is (never_none e.number b.excepts none) in
         let both : None ≡ Some w.answer = sym no_answer ∙ w.is in cc both
 
 begun_before : {b : Since} (k : Conn) (e : Exchange) (head : Response) (rule : BodyRule) (s : State) → b.excepts ≡ None → (o : Opens k e s) → o.was.answer ≡ None → Sound b s
-    → Before (but b e.number) e (on_conn k.number (answered_by head rule) s)
+    → Before (but b e.number) e (on_conn k.number (answered_by (answer_with e head rule)) s)
 unfolding on_conn
 begun_before {b} k e head rule s none o no_answer h = record {
   apart = refl;
@@ -191,21 +202,21 @@ begun_before {b} k e head rule s none o no_answer h = record {
   key = λ d i is. ap key_of (one d i is);
   aim = λ d i is. ap (λ (x : Exchange). x.aim) (one d i is);
   place = λ d i is no_place. let both : None ≡ Some o.was.number = sym no_place ∙ ap (λ (x : Exchange). x.place) (one d i is) ∙ (facts_of h).placed o.was e o.there o.given (in_first e.number o.was.line o.front) in cc both;
-  unbound = λ d i is. ap (λ (x : Exchange). x.bound) (one d i is) ∙ unbound_first k e s none o no_answer h;
+  unbound = λ d i is. ap bound_of (one d i is) ∙ unbound_first k e s none o no_answer h;
 }
   where
     one : (d : Exchange) → IsIn d s.exchanges → d.number ≡ e.number → d ≡ e
     one d i is = one_of exchange_number s.exchanges d e (facts_of h).asks.rise i o.given is
 
 begun_others : {b : Since} (k : Conn) (e : Exchange) (head : Response) (rule : BodyRule) (s : State) → b.excepts ≡ None → (o : Opens k e s) → o.was.answer ≡ None → Sound b s
-    → OthersUnbound k.number e.number (on_conn k.number (answered_by head rule) s)
+    → OthersUnbound k.number e.number (on_conn k.number (answered_by (answer_with e head rule)) s)
 unfolding on_conn
-begun_others {b} k e head rule s none o no_answer h j d i number at l apart = by (in_change (is_conn k.number) (answered_by head rule) j s.conns i)
+begun_others {b} k e head rule s none o no_answer h j d i number at l apart = by (in_change (is_conn k.number) (answered_by (answer_with e head rule)) j s.conns i)
   where
     was : OthersUnbound o.was.number e.number s
     was = others_unbound o.was e.number s none o.there o.front h
 
-    by : Changed (is_conn k.number) (answered_by head rule) s.conns j → d.bound ≡ None
+    by : Changed (is_conn k.number) (answered_by (answer_with e head rule)) s.conns j → bound_of d ≡ None
     by (same m isnt) = was j d m (number ∙ sym o.number) at l apart
     by (other g m hit eq) = was g d m (sym (ap conn_number eq) ∙ number ∙ sym o.number) at (subst (λ (x : Conn). IsIn d.number x.line) eq l) apart
 
@@ -236,7 +247,7 @@ pub begin_answer-sound : {b : Since} (k : Conn) (e : Exchange) (head : Response)
     → Sound b (begin_answer k e head rule s)
 unfolding begin_answer on_conn
 begin_answer-sound {b} k e head rule s none empty o no_answer h =
-    end_if_empty-sound k e (record { head = head; rule = rule; raw = [] }) (on_conn k.number (answered_by head rule) s) _
-    (by_aim-behind e head rule (on_conn k.number (answered_by head rule) s) empty (begun_before k e head rule s none o no_answer h))
+    end_if_empty-sound k e (answer_with e head rule) (on_conn k.number (answered_by (answer_with e head rule)) s) _
+    (by_aim-behind e head rule (on_conn k.number (answered_by (answer_with e head rule)) s) empty (begun_before k e head rule s none o no_answer h))
     (begun_others k e head rule s none o no_answer h)
-    (begun_brings k e (answered_by head rule) (record { head = head; rule = rule; raw = [] }) s (λ j. refl) (λ j. refl) o h)
+    (begun_brings k e (answered_by (answer_with e head rule)) (answer_with e head rule) s (λ j. refl) (λ j. refl) o h)

@@ -19,7 +19,7 @@ use Rattle.pp_law.specs.Offers.{is_at_body}
 use Rattle.pp_law.specs.Passing.{pour}
 use Rattle.pp_law.specs.Replies.{begun_at_end, is_outrun, begin_replies, use_chunks, use_from, use_said, is_said, next_request, end_reply, end_each, is_finished, close_finished, end_replies, regained_by, regained}
 use Rattle.pp_law.specs.Requests.{key_in}
-use Rattle.pp_law.specs.Stages.{is_passing, on_passed}
+use Rattle.pp_law.specs.Stages.{is_passing, on_passed, bound_of}
 use Rattle.pp_law.specs.State.{State, AskTooLong, Client, Exchange, Instance, Passed}
 use Rattle.pp_law.specs.Table.{is_row_of, Next, next_of, row, kept_row, rows, idle_row, row_for, mark_row, on_instance, forget, forget_row, with_room, add_row, enter}
 use Rattle.pp_laws.specs.Runs.{IsIn}
@@ -47,7 +47,7 @@ pour-sound e f s h = on_client_of-sound e (on_passed (piped f)) s (on_passed-sam
 -- ---- an exchange that its request leaves
 
 left_alone-same : (e : Exchange) → SameExchange (left_alone e) e
-left_alone-same e = record { number = refl; key = refl; aim = refl; place = refl; is_headed = refl; bound = refl }
+left_alone-same e = record { number = refl; key = refl; aim = refl; place = refl; headed = refl; bound = refl }
 
 pub forsake-sound : {b : Since} (test : Exchange → Bool) (s : State) → Sound b s → Sound b (forsake test s)
 unfolding forsake
@@ -61,10 +61,7 @@ leave-sound {b} test s h = sound (exchanges_filtered b (forsake test s) (λ e. n
 
 pub leave_one-sound : {b : Since} (e : Exchange) (s : State) → Sound b s → Sound b (leave_one e s)
 unfolding leave_one
-leave_one-sound e s h =
-    each_of e.place (end_exchange-sound e.number s h) (λ k. when (e.asked == 0) (end_exchange-sound e.number s h)
-    (when (e.body_left == 0) (on_exchange-sound e.number left_alone s left_alone-same h) (each_so (conn s k) (λ none. h) (λ j found.
-    close_conn-sound false j _ (own_line_shrunk j s _ (end_exchange-shrinks e.number s) (own_line j s (in_find (is_conn k) j s.conns found).0 h)) (end_exchange-sound e.number s h)))))
+leave_one-sound e s h = when (e.asked == 0) (end_exchange-sound e.number s h) (on_exchange-sound e.number left_alone s left_alone-same h)
 
 pub leave_each-sound : {b : Since} (es : List Exchange) (s : State) → Sound b s → Sound b (leave_each es s)
 unfolding leave_each
@@ -81,11 +78,11 @@ pub refuse-sound : {b : Since} (c : Client) (status : ℕ) (s : State) → Sound
 unfolding refuse
 refuse-sound c status s h = swept-sound _ (leave-sound (is_of c.number) _ (on_client-sound c.number (refused_with status) s (refused_with-same status) h))
 
-add_exchange-sound : {b : Since} (e : Exchange) (s : State) → e.number ≡ s.next_exchange → e.bound ≡ None → Sound b s → Sound b (add_exchange e s)
+add_exchange-sound : {b : Since} (e : Exchange) (s : State) → e.number ≡ s.next_exchange → bound_of e ≡ None → Sound b s → Sound b (add_exchange e s)
 unfolding add_exchange
 add_exchange-sound {b} e s number none h = sound (exchange_pushed b s e number none (facts_of h))
 
-pub begin_exchange-sound : {b : Since} (e : Exchange) (s : State) → e.number ≡ s.next_exchange → e.bound ≡ None → Sound b s → Sound b (begin_exchange e s)
+pub begin_exchange-sound : {b : Since} (e : Exchange) (s : State) → e.number ≡ s.next_exchange → bound_of e ≡ None → Sound b s → Sound b (begin_exchange e s)
 unfolding begin_exchange forsake
 begin_exchange-sound e s number none h = add_exchange-sound e _ number none (forsake-sound (λ x. is_some_with (λ n. is_of n x) e.asker) s h)
 
@@ -236,7 +233,7 @@ regained-sound {b} s h = sound (clients_mapped b s (regained_by s) (regained_by-
 
 -- ---- what followers ask for
 
-pub fill_with-sound : {b : Since} (e : Exchange) (c : Client) (s : State) → e.number ≡ s.next_exchange → e.bound ≡ None → Sound b s → Sound b (fill_with e c s)
+pub fill_with-sound : {b : Since} (e : Exchange) (c : Client) (s : State) → e.number ≡ s.next_exchange → bound_of e ≡ None → Sound b s → Sound b (fill_with e c s)
 unfolding fill_with
 fill_with-sound e c s number none h = when (fits e.text) (begin_exchange-sound e s number none h) (on_client-sound c.number (λ x. record x { course = AskTooLong }) s (λ c. same_parts _ c refl refl refl) h)
 
@@ -278,11 +275,11 @@ hang_up-sound n s h = when (is_writing s.owed n) (close_client-sound n false s h
 
 pub ask_body-sound : {b : Since} (e : Exchange) (n : ℕ) (s : State) → Sound b s → Sound b (ask_body e n s)
 unfolding ask_body
-ask_body-sound e n s h = on_client_of-sound e (asked_body n) _ (λ c. same_parts _ c refl refl refl) (on_exchange-sound e.number (λ x. record x { body_left = x.body_left - n }) s (λ x. record { number = refl; key = refl; aim = refl; place = refl; is_headed = refl; bound = refl }) h)
+ask_body-sound e n s h = on_client_of-sound e (asked_body n) _ (λ c. same_parts _ c refl refl refl) (on_exchange-sound e.number (λ x. record x { body_left = x.body_left - n }) s (λ x. record { number = refl; key = refl; aim = refl; place = refl; headed = refl; bound = refl }) h)
 
 pub ask_next-sound : {b : Since} (e : Exchange) (n : ℕ) (s : State) → Sound b s → Sound b (ask_next e n s)
 unfolding ask_next
-ask_next-sound e n s h = when (is_outstanding e) (ask_body-sound e n s h) (on_exchange-sound e.number (asked_text n s.clock) s (λ x. record { number = refl; key = refl; aim = refl; place = refl; is_headed = refl; bound = refl }) h)
+ask_next-sound e n s h = when (is_outstanding e) (ask_body-sound e n s h) (on_exchange-sound e.number (asked_text n s.clock) s (λ x. record { number = refl; key = refl; aim = refl; place = refl; headed = refl; bound = refl }) h)
 
 pub ask-sound : {b : Since} (k n : ℕ) (s : State) → Sound b s → Sound b (ask k n s)
 unfolding ask

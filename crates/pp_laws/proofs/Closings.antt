@@ -1,32 +1,35 @@
 -- A connection that is closed, and its exchanges that are asked again, keep what is sound.
 use Rattle.std.proofs.Common.{◌≡◌, refl, ℕ, ◌<◌, Bool, true, false, not, ◌==◌, ◌&&◌, List, [], ◌∷◌, Some, None, inl, inr, sym, subst, ap, ◌∙◌}
-use Rattle.pp_law.specs.Connections.{exchange, is_conn, is_exchange, on_conn, on_exchange, on_client_of, lose_attempt, unplaced, may_ask_again, leave_place, lose_place, lose_places, close_conn}
+use Rattle.pp_target.specs.Key.{text_of}
+use Rattle.pp_law.specs.Connections.{exchange, is_conn, is_exchange, on_conn, on_exchange, on_client_of, attempts_of, lost_one, without_row, is_unfilled, give_up_row, charge, lose_attempt, unplaced, may_ask_again, leave_place, lose_place, lose_places, close_conn}
 use Rattle.pp_law.specs.Lists.{change}
 use Rattle.pp_law.specs.OwnHeads.{key_of}
-use Rattle.pp_law.specs.Stages.{on_passed}
+use Rattle.pp_law.specs.Stages.{on_passed, bound_of, is_headed}
 use Rattle.pp_law.specs.State.{State, Conn, Exchange, Instance, Bound}
+use Rattle.pp_law.specs.Table.{clear}
 use Rattle.pp_laws.specs.Runs.{IsIn}
 use Rattle.pp_laws.proofs.Callers.{on_passed-same}
 use Rattle.pp_laws.proofs.Cases.{each_so, when, when_so}
 use Rattle.pp_laws.proofs.Exchanges.{end_exchange-sound, lose_attempt-sound, on_client_of-sound}
 use Rattle.pp_laws.proofs.KeptConns.{ConnFrom, conn_from, conn_same, conns_kept}
 use Rattle.pp_laws.proofs.Lists.{Changed, in_change, in_find, one_of, other, rise_change, same}
-use Rattle.pp_laws.proofs.Shrinks.{NoLine, Shrinks, lose_place-shrinks, off, shrinks_each, shrinks_same}
+use Rattle.pp_laws.proofs.Shrinks.{NoLine, Shrinks, lose_attempt-shrinks, lose_place-shrinks, no_line_shrunk, off, shrinks_each, shrinks_same}
 use Rattle.pp_laws.proofs.Sound.{Brings, FactsOf, Since, Sound, conn_number, exchange_number, facts_of, is_noted, sound}
 use Rattle.pp_laws.proofs.Tests.{number_same, same_number}
+use Rattle.pp_laws.proofs.Untouched.{clear-untouched}
 
 -- ---- an exchange changes its place
 
 -- what is there with that number is not bound
 abbrev pub Unbound : ℕ → State → Type 0
-Unbound n s = (e : Exchange) → IsIn e s.exchanges → e.number ≡ n → e.bound ≡ None
+Unbound n s = (e : Exchange) → IsIn e s.exchanges → e.number ≡ n → bound_of e ≡ None
 
 pub record MovedExchange (e d : Exchange) : Type 0 where
   pub number : e.number ≡ d.number
   pub key : key_of e ≡ key_of d
   pub aim : e.aim ≡ d.aim
-  pub is_headed : e.is_headed ≡ d.is_headed
-  pub bound : e.bound ≡ d.bound
+  pub headed : is_headed e ≡ is_headed d
+  pub bound : bound_of e ≡ bound_of d
 
 pub moved_facts : (b : Since) (n : ℕ) (f : Exchange → Exchange) (s : State) → ((e : Exchange) → MovedExchange (f e) e) → NoLine n s → Unbound n s → FactsOf b s → FactsOf b (record s { exchanges = change (is_exchange n) f s.exchanges })
 moved_facts b n f s kept no_line unbound h = record {
@@ -54,32 +57,32 @@ moved_facts b n f s kept no_line unbound h = record {
     number : (e d : Exchange) → e ≡ f d → e.number ≡ d.number
     number e d eq = ap exchange_number eq ∙ (kept d).number
 
-    bound : (e d : Exchange) → e ≡ f d → e.bound ≡ d.bound
-    bound e d eq = ap (λ (x : Exchange). x.bound) eq ∙ (kept d).bound
+    bound : (e d : Exchange) → e ≡ f d → bound_of e ≡ bound_of d
+    bound e d eq = ap bound_of eq ∙ (kept d).bound
 
-    none : (e d : Exchange) → IsIn d s.exchanges → is_exchange n d ≡ true → e ≡ f d → e.bound ≡ None
+    none : (e d : Exchange) → IsIn d s.exchanges → is_exchange n d ≡ true → e ≡ f d → bound_of e ≡ None
     none e d i is eq = bound e d eq ∙ unbound d i (same_number d.number n is)
 
-    never : (e d : Exchange) (to : Bound) → IsIn d s.exchanges → is_exchange n d ≡ true → e ≡ f d → e.bound ≡ Some to → ⊥
+    never : (e d : Exchange) (to : Bound) → IsIn d s.exchanges → is_exchange n d ≡ true → e ≡ f d → bound_of e ≡ Some to → ⊥
     never e d to i is eq some = let both : None ≡ Some to = sym (none e d i is eq) ∙ some in cc both
 
     given_by : (e : Exchange) → Changed (is_exchange n) f s.exchanges e → e.number < s.next_exchange
     given_by e (same i isnt) = h.asks.given e i
     given_by e (other d i is eq) = subst (λ m. m < s.next_exchange) (sym (number e d eq)) (h.asks.given d i)
 
-    bounds_by : (e : Exchange) (to : Bound) → Changed (is_exchange n) f s.exchanges e → e.bound ≡ Some to → to.instance < s.next_instance
+    bounds_by : (e : Exchange) (to : Bound) → Changed (is_exchange n) f s.exchanges e → bound_of e ≡ Some to → to.instance < s.next_instance
     bounds_by e to (same i isnt) some = h.asks.bounds e to i some
     bounds_by e to (other d i is eq) some = absurd (never e d to i is eq some)
 
-    noted_by : (e : Exchange) (to : Bound) → Changed (is_exchange n) f s.exchanges e → e.bound ≡ Some to → is_noted e.aim ≡ true
+    noted_by : (e : Exchange) (to : Bound) → Changed (is_exchange n) f s.exchanges e → bound_of e ≡ Some to → is_noted e.aim ≡ true
     noted_by e to (same i isnt) some = h.asks.noted e to i some
     noted_by e to (other d i is eq) some = absurd (never e d to i is eq some)
 
-    unplaced_by : (e : Exchange) → Changed (is_exchange n) f s.exchanges e → e.place ≡ None → e.bound ≡ None
+    unplaced_by : (e : Exchange) → Changed (is_exchange n) f s.exchanges e → e.place ≡ None → bound_of e ≡ None
     unplaced_by e (same i isnt) is = h.asks.unplaced e i is
     unplaced_by e (other d i is eq) isnt = none e d i is eq
 
-    unheaded_by : (e : Exchange) → Changed (is_exchange n) f s.exchanges e → e.is_headed ≡ false → e.bound ≡ None
+    unheaded_by : (e : Exchange) → Changed (is_exchange n) f s.exchanges e → is_headed e ≡ false → bound_of e ≡ None
     unheaded_by e (same i isnt) is = h.asks.unheaded e i is
     unheaded_by e (other d i is eq) isnt = none e d i is eq
 
@@ -87,11 +90,11 @@ moved_facts b n f s kept no_line unbound h = record {
     placed_by k e i (same j isnt) l = h.placed k e i j l
     placed_by k e i (other d j is eq) l = absurd (no_line k i (subst (λ m. IsIn m k.line) (number e d eq ∙ same_number d.number n is) l))
 
-    brings_by : (k : Conn) (e : Exchange) (to : Bound) → IsIn k s.conns → Changed (is_exchange n) f s.exchanges e → IsIn e.number k.line → e.bound ≡ Some to → ¬ (b.excepts ≡ Some e.number) → Brings s.instances k e to
+    brings_by : (k : Conn) (e : Exchange) (to : Bound) → IsIn k s.conns → Changed (is_exchange n) f s.exchanges e → IsIn e.number k.line → bound_of e ≡ Some to → ¬ (b.excepts ≡ Some e.number) → Brings s.instances k e to
     brings_by k e to i (same j isnt) l some but = h.brings k e to i j l some but
     brings_by k e to i (other d j is eq) l some but = absurd (never e d to j is eq some)
 
-    keyed_by : (e : Exchange) (to : Bound) (x : Instance) → Changed (is_exchange n) f s.exchanges e → e.bound ≡ Some to → IsIn x s.instances → x.id ≡ to.instance → x.key ≡ key_of e
+    keyed_by : (e : Exchange) (to : Bound) (x : Instance) → Changed (is_exchange n) f s.exchanges e → bound_of e ≡ Some to → IsIn x s.instances → x.id ≡ to.instance → x.key ≡ key_of e
     keyed_by e to x (same i isnt) some j id = h.keyed e to x i some j id
     keyed_by e to x (other d i is eq) some j id = absurd (never e d to i is eq some)
 
@@ -99,24 +102,48 @@ move-sound : {b : Since} (n : ℕ) (f : Exchange → Exchange) (s : State) → (
 unfolding on_exchange
 move-sound {b} n f s kept no_line unbound h = sound (moved_facts b n f s kept no_line unbound (facts_of h))
 
+-- ---- what an exchange costs binds none
+
+give_up_row-unbound : (n : ℕ) (e : Exchange) (s : State) → Unbound n s → Unbound n (give_up_row e s)
+unfolding give_up_row on_exchange on_client_of
+give_up_row-unbound n e s unbound = by (is_unfilled s e)
+  where
+    cleared : Unbound n (clear (text_of e.key) s)
+    cleared d i is = unbound d (subst (λ es. IsIn d es) (clear-untouched (text_of e.key) s).exchanges i) is
+
+    left : (d : Exchange) → Changed (is_exchange e.number) (λ x. record x { asker = None }) (clear (text_of e.key) s).exchanges d → d.number ≡ n → bound_of d ≡ None
+    left d (same i isnt) is = cleared d i is
+    left d (other g i hit eq) is = ap bound_of eq ∙ cleared g i (sym (ap exchange_number eq) ∙ is)
+
+    by : (t : Bool) → Unbound n (elim t as (λ c. State) [ false ↦ s | true ↦ on_exchange e.number (λ x. record x { asker = None }) (on_client_of e without_row (clear (text_of e.key) s)) ])
+    by false d i is = unbound d i is
+    by true d i is = left d (in_change (is_exchange e.number) (λ x. record x { asker = None }) d (clear (text_of e.key) s).exchanges i) is
+
+lose_attempt-unbound : (n : ℕ) (e : Exchange) (s : State) → Unbound n s → Unbound n (lose_attempt e s)
+unfolding lose_attempt charge on_client_of
+lose_attempt-unbound n e s unbound = give_up_row-unbound n e (on_client_of e (λ c. record c { course = lost_one (attempts_of e) c.course }) s) unbound
+
 -- ---- a connection is closed
 
 -- one that is there is the one of its number
-pub unheaded_unbound : {b : Since} (e : Exchange) (s : State) → FactsOf b s → IsIn e s.exchanges → e.is_headed ≡ false → Unbound e.number s
-unheaded_unbound e s h i isnt d j is = ap (λ (x : Exchange). x.bound) (one_of exchange_number s.exchanges d e h.asks.rise j i is) ∙ h.asks.unheaded e i isnt
+pub unheaded_unbound : {b : Since} (e : Exchange) (s : State) → FactsOf b s → IsIn e s.exchanges → is_headed e ≡ false → Unbound e.number s
+unheaded_unbound e s h i isnt d j is = ap bound_of (one_of exchange_number s.exchanges d e h.asks.rise j i is) ∙ h.asks.unheaded e i isnt
 
-pub leave_place-sound : {b : Since} (e : Exchange) (s : State) → IsIn e s.exchanges → NoLine e.number s → Sound b s → Sound b (leave_place e s)
+leave_place-sound : {b : Since} (e : Exchange) (s : State) → (is_headed e ≡ false → Unbound e.number s) → NoLine e.number s → Sound b s → Sound b (leave_place e s)
 unfolding leave_place
-leave_place-sound e s i no_line h =
-    when_so e.is_headed
+leave_place-sound e s unbound no_line h =
+    when_so (is_headed e)
     (λ hit. end_exchange-sound e.number _ (on_client_of-sound e (on_passed (λ p. record p { is_short = true })) s (on_passed-same (λ p. record p { is_short = true })) h))
-    (λ isnt. when (may_ask_again s e)
-    (move-sound e.number unplaced s (λ d. record { number = refl; key = refl; aim = refl; is_headed = refl; bound = refl }) no_line (unheaded_unbound e s (facts_of h) i isnt) h)
+    (λ isnt. when (may_ask_again s e.number)
+    (move-sound e.number unplaced s (λ d. record { number = refl; key = refl; aim = refl; headed = refl; bound = refl }) no_line (unbound isnt) h)
     (end_exchange-sound e.number s h))
 
 pub lose_place-sound : {b : Since} (counts : Bool) (e : Exchange) (s : State) → IsIn e s.exchanges → NoLine e.number s → Sound b s → Sound b (lose_place counts e s)
-unfolding lose_place lose_attempt on_client_of
-lose_place-sound counts e s i no_line h = when counts (leave_place-sound e _ i no_line (lose_attempt-sound e s h)) (leave_place-sound e s i no_line h)
+unfolding lose_place
+lose_place-sound counts e s i no_line h =
+    when counts
+    (leave_place-sound e _ (λ isnt. lose_attempt-unbound e.number e s (unheaded_unbound e s (facts_of h) i isnt)) (no_line_shrunk e.number s _ (lose_attempt-shrinks e s) no_line) (lose_attempt-sound e s h))
+    (leave_place-sound e s (unheaded_unbound e s (facts_of h) i) no_line h)
 
 -- of these, what is still there is in no line
 abbrev NotInLines : List ℕ → State → Type 0

@@ -3,9 +3,7 @@ use Rattle.std.proofs.Common.{◌≡◌, refl, ℕ, zero, suc, ◌+◌, ◌-◌,
 use Rattle.pp_framing.specs.Rules.{body_of}
 use Rattle.pp_framing.specs.declared.body.BodyRule.TheVariants.{Empty}
 use Rattle.pp_framing.specs.declared.body.BodyRule.{BodyRule}
-use Rattle.pp_head.specs.Response.{Response}
 use Rattle.pp_text.specs.Bytes.{is_empty}
-use Rattle.pp_valid.specs.Versions.{version_of}
 use Rattle.pp_valid.specs.declared.version.Version.{Version}
 use Rattle.pp_law.specs.Chunks.{joined, note_use}
 use Rattle.pp_law.specs.Connections.{is_exchange, on_exchange}
@@ -13,8 +11,8 @@ use Rattle.pp_law.specs.Lists.{Bytes}
 use Rattle.pp_law.specs.OwnHeads.{key_of, first_offset, sent_as, note_own, note_sent, join, moved_on, join_bound}
 use Rattle.pp_law.specs.Passing.{pour, poured}
 use Rattle.pp_law.specs.Responses.{deliver, payload_of}
-use Rattle.pp_law.specs.Stages.{on_passed}
-use Rattle.pp_law.specs.State.{State, Sent, Aim, Through, Own, Filling, Answer, Bound, Exchange, Instance}
+use Rattle.pp_law.specs.Stages.{on_passed, bound_of}
+use Rattle.pp_law.specs.State.{Joining, State, Sent, Aim, Through, Own, Filling, Answer, Bound, Exchange, Instance}
 use Rattle.pp_law.specs.Table.{is_instance, instance, extent_of}
 use Rattle.pp_laws.specs.Origin.{AllSent}
 use Rattle.pp_laws.specs.Runs.{IsIn}
@@ -67,32 +65,32 @@ only_sent_aim Through hx hy hz = hx
 only_sent_aim Own hx hy hz = hy
 only_sent_aim (Filling v from to) hx hy hz = hz v from to
 
-note_own-only : {b : Since} (e : Exchange) (head : Response) (at : ℕ) (bytes : Bytes) (s : State) → Sound b s → OnlySent b s (note_own e head at bytes s)
+note_own-only : {b : Since} (e : Exchange) (a : Answer) (at : ℕ) (bytes : Bytes) (s : State) → Sound b s → OnlySent b s (note_own e a at bytes s)
 unfolding note_own
-note_own-only {b} e head at bytes s h =
+note_own-only {b} e a at bytes s h =
     only_sent_when (is_empty bytes) (only_sent s h)
-    (record { is_sound = sound (sent_as-facts b s e (first_offset head + at) bytes (version_of head.fields head.status) (facts_of h)); conns = refl; exchanges = refl; instances = refl })
+    (record { is_sound = sound (sent_as-facts b s e (first_offset a.head + at) bytes a.version (facts_of h)); conns = refl; exchanges = refl; instances = refl })
 
-note_sent-only : {b : Since} (e : Exchange) (head : Response) (at : ℕ) (bytes : Bytes) (s : State) → Sound b s → OnlySent b s (note_sent e head at bytes s)
+note_sent-only : {b : Since} (e : Exchange) (a : Answer) (at : ℕ) (bytes : Bytes) (s : State) → Sound b s → OnlySent b s (note_sent e a at bytes s)
 unfolding note_sent
-note_sent-only e head at bytes s h = only_sent_aim e.aim (only_sent s h) (note_own-only e head at bytes s h) (λ v from to. note_own-only e head at bytes s h)
+note_sent-only e a at bytes s h = only_sent_aim e.aim (only_sent s h) (note_own-only e a at bytes s h) (λ v from to. note_own-only e a at bytes s h)
 
-note_own-sent : (e : Exchange) (head : Response) (at : ℕ) (bytes : Bytes) (v : Version) (s : State) → version_of head.fields head.status ≡ Some v → AllSent (note_own e head at bytes s).sent (key_of e) v (first_offset head + at) bytes
+note_own-sent : (e : Exchange) (a : Answer) (at : ℕ) (bytes : Bytes) (v : Version) (s : State) → a.version ≡ Some v → AllSent (note_own e a at bytes s).sent (key_of e) v (first_offset a.head + at) bytes
 unfolding note_own
-note_own-sent e head at [] v s version = tt
-note_own-sent e head at (x ∷ xs) v s version =
-    subst (λ o. AllSent (sent_as e (first_offset head + at) (x ∷ xs) o s.sent) (key_of e) v (first_offset head + at) (x ∷ xs)) (sym version)
-    (sent-just (record { key = key_of e; version = v; at = first_offset head + at; bytes = x ∷ xs }) s.sent)
+note_own-sent e a at [] v s version = tt
+note_own-sent e a at (x ∷ xs) v s version =
+    subst (λ o. AllSent (sent_as e (first_offset a.head + at) (x ∷ xs) o s.sent) (key_of e) v (first_offset a.head + at) (x ∷ xs)) (sym version)
+    (sent-just (record { key = key_of e; version = v; at = first_offset a.head + at; bytes = x ∷ xs }) s.sent)
 
 noted_by : (aim : Aim) (s t : State) (key : Bytes) (v : Version) (at : ℕ) (bytes : Bytes) → is_noted aim ≡ true → AllSent t.sent key v at bytes → AllSent (elim aim as (λ c. State) [ Through ↦ s | Own ↦ t | Filling w from to ↦ t ]).sent key v at bytes
 noted_by Through s t key v at bytes noted all = absurd (cc noted)
 noted_by Own s t key v at bytes noted all = all
 noted_by (Filling w from to) s t key v at bytes noted all = all
 
-note_sent-sent : (e : Exchange) (head : Response) (at : ℕ) (bytes : Bytes) (v : Version) (s : State) → is_noted e.aim ≡ true → version_of head.fields head.status ≡ Some v
-    → AllSent (note_sent e head at bytes s).sent (key_of e) v (first_offset head + at) bytes
+note_sent-sent : (e : Exchange) (a : Answer) (at : ℕ) (bytes : Bytes) (v : Version) (s : State) → is_noted e.aim ≡ true → a.version ≡ Some v
+    → AllSent (note_sent e a at bytes s).sent (key_of e) v (first_offset a.head + at) bytes
 unfolding note_sent
-note_sent-sent e head at bytes v s noted version = noted_by e.aim s (note_own e head at bytes s) (key_of e) v (first_offset head + at) bytes noted (note_own-sent e head at bytes v s version)
+note_sent-sent e a at bytes v s noted version = noted_by e.aim s (note_own e a at bytes s) (key_of e) v (first_offset a.head + at) bytes noted (note_own-sent e a at bytes v s version)
 
 -- ---- they join
 
@@ -139,10 +137,6 @@ further a bytes to x (inl fits) = inl (fits.0, longer fits.1)
         omega arith
 further a bytes to x (inr empty) = inr empty
 
-moved_none : (n : ℕ) (o : Option Bound) → o ≡ None → (elim o as (λ c. Option Bound) [ None ↦ None | Some to ↦ Some (record to { next = to.next + n }) ]) ≡ None
-moved_none n None is = refl
-moved_none n (Some to) is = absurd (cc is)
-
 -- what it was before
 record MovedFrom (n : ℕ) (o : Option Bound) (to : Bound) : Type 0 where
   was : Bound
@@ -153,25 +147,57 @@ moved_some : (n : ℕ) (o : Option Bound) (to : Bound) → (elim o as (λ c. Opt
 moved_some n None to is = absurd (cc is)
 moved_some n (Some k) to is = record { was = k; there = refl; is = let e : record k { next = k.next + n } ≡ to = cc in sym e }
 
+moved_number : (n : ℕ) (e : Exchange) → (moved_on n e).number ≡ e.number
+moved_number n e = by (bound_of e)
+  where
+    by : (bound : Option Bound) → (elim bound as (λ c. Exchange) [ None ↦ e | Some k ↦ record e { body = Joining (record k { next = k.next + n }) } ]).number ≡ e.number
+    by None = refl
+    by (Some k) = refl
+
+moved_bound : (n : ℕ) (e : Exchange) → bound_of (moved_on n e) ≡ (elim (bound_of e) as (λ c. Option Bound) [ None ↦ None | Some k ↦ Some (record k { next = k.next + n }) ])
+moved_bound n e = by (bound_of e) refl
+  where
+    by : (bound : Option Bound) → bound_of e ≡ bound
+        → bound_of (elim bound as (λ c. Exchange) [ None ↦ e | Some k ↦ record e { body = Joining (record k { next = k.next + n }) } ]) ≡ (elim bound as (λ c. Option Bound) [ None ↦ None | Some k ↦ Some (record k { next = k.next + n }) ])
+    by None is = is
+    by (Some k) is = refl
+
 moves : (b : Since) (n : ℕ) (s : State) → FactsOf b s → (d : Exchange) → IsIn d s.exchanges → Rebinds s d (moved_on n d)
-moves b n s h d i = record {
-  number = refl;
-  key = refl;
-  aim = refl;
-  place = refl;
-  bounds = λ to is. let m = moved_some n d.bound to is in subst (λ x. x < s.next_instance) (sym (ap (λ (o : Bound). o.instance) m.is)) (h.asks.bounds d m.was i m.there);
-  noted = λ to is. let m = moved_some n d.bound to is in h.asks.noted d m.was i m.there;
-  keyed = λ to x is j id. let m = moved_some n d.bound to is in h.keyed d m.was x i m.there j (id ∙ ap (λ (o : Bound). o.instance) m.is);
-  unplaced = λ none. moved_none n d.bound (h.asks.unplaced d i none);
-  unheaded = λ isnt. moved_none n d.bound (h.asks.unheaded d i isnt);
-}
+moves b n s h d i = by (bound_of d) refl
+  where
+    by : (bound : Option Bound) → bound_of d ≡ bound → Rebinds s d (elim bound as (λ c. Exchange) [ None ↦ d | Some k ↦ record d { body = Joining (record k { next = k.next + n }) } ])
+    by None none = record {
+      number = refl;
+      key = refl;
+      aim = refl;
+      place = refl;
+      bounds = λ to is. h.asks.bounds d to i is;
+      noted = λ to is. h.asks.noted d to i is;
+      keyed = λ to x is j id. h.keyed d to x i is j id;
+      unplaced = λ nowhere. h.asks.unplaced d i nowhere;
+      unheaded = λ isnt. h.asks.unheaded d i isnt;
+    }
+    by (Some k) some = record {
+      number = refl;
+      key = refl;
+      aim = refl;
+      place = refl;
+      bounds = λ to is. subst (λ (o : Bound). o.instance < s.next_instance) (to_is to is) (h.asks.bounds d k i some);
+      noted = λ to is. h.asks.noted d k i some;
+      keyed = λ to x is j id. h.keyed d k x i some j (id ∙ sym (ap (λ (o : Bound). o.instance) (to_is to is)));
+      unplaced = λ nowhere. let both : None ≡ Some k = sym (h.asks.unplaced d i nowhere) ∙ some in absurd (cc both);
+      unheaded = λ isnt. absurd (cc isnt);
+    }
+      where
+        to_is : (to : Bound) → Some (record k { next = k.next + n }) ≡ Some to → record k { next = k.next + n } ≡ to
+        to_is to is = cc is
 
 move_on-behind : {b : Since} (a : Answer) (e : Exchange) (bytes : Bytes) (s : State) → b.excepts ≡ Some e.number → IsIn e s.exchanges
-    → ((to : Bound) (x : Instance) → e.bound ≡ Some to → IsIn x s.instances → x.id ≡ to.instance → Fitting a to x) → Sound b s
+    → ((to : Bound) (x : Instance) → bound_of e ≡ Some to → IsIn x s.instances → x.id ≡ to.instance → Fitting a to x) → Sound b s
     → Behind b (behind_bytes a bytes) e s (on_exchange e.number (moved_on (length (added a bytes))) s)
 unfolding on_exchange
 move_on-behind {b} a e bytes s apart there fits h = record {
-  is_sound = sound (rebound b e.number (moved_on n) s apart (λ d. refl) (λ d i is. moves b n s facts d i) facts);
+  is_sound = sound (rebound b e.number (moved_on n) s apart (moved_number n) (λ d i is. moves b n s facts d i) facts);
   conns = refl;
   others = λ d i. others_by d (in_change (is_exchange e.number) (moved_on n) d s.exchanges i);
   starts = λ d to x i is some j id. starts_by d to x (in_change (is_exchange e.number) (moved_on n) d s.exchanges i) is some j id;
@@ -183,20 +209,20 @@ move_on-behind {b} a e bytes s apart there fits h = record {
     facts : FactsOf b s
     facts = facts_of h
 
-    others_by : (d : Exchange) → Changed (is_exchange e.number) (moved_on n) s.exchanges d → (g : Exchange) × IsIn g s.exchanges × (d.number ≡ g.number) × (¬ (d.number ≡ e.number) → d.bound ≡ g.bound)
+    others_by : (d : Exchange) → Changed (is_exchange e.number) (moved_on n) s.exchanges d → (g : Exchange) × IsIn g s.exchanges × (d.number ≡ g.number) × (¬ (d.number ≡ e.number) → bound_of d ≡ bound_of g)
     others_by d (same i isnt) = (d, i, refl, λ other_one. refl)
-    others_by d (other g i hit eq) = (g, i, ap exchange_number eq, λ other_one. absurd (other_one (ap exchange_number eq ∙ same_number g.number e.number hit)))
+    others_by d (other g i hit eq) = (g, i, ap exchange_number eq ∙ moved_number n g, λ other_one. absurd (other_one (ap exchange_number eq ∙ moved_number n g ∙ same_number g.number e.number hit)))
 
-    of_old : (g : Exchange) (to : Bound) (x : Instance) → IsIn g s.exchanges → g.number ≡ e.number → (moved_on n g).bound ≡ Some to → IsIn x s.instances → x.id ≡ to.instance → Fitting (behind_bytes a bytes) to x
+    of_old : (g : Exchange) (to : Bound) (x : Instance) → IsIn g s.exchanges → g.number ≡ e.number → bound_of (moved_on n g) ≡ Some to → IsIn x s.instances → x.id ≡ to.instance → Fitting (behind_bytes a bytes) to x
     of_old g to x i is some j id =
-        let m = moved_some n g.bound to some in
+        let m = moved_some n (bound_of g) to (sym (moved_bound n g) ∙ some) in
         let g_is : g ≡ e = one_of exchange_number s.exchanges g e facts.asks.rise i there is in
         subst (λ (o : Bound). Fitting (behind_bytes a bytes) o x) (sym m.is)
-        (further a bytes m.was x (fits m.was x (sym (ap (λ (y : Exchange). y.bound) g_is) ∙ m.there) j (id ∙ ap (λ (o : Bound). o.instance) m.is)))
+        (further a bytes m.was x (fits m.was x (sym (ap bound_of g_is) ∙ m.there) j (id ∙ ap (λ (o : Bound). o.instance) m.is)))
 
-    starts_by : (d : Exchange) (to : Bound) (x : Instance) → Changed (is_exchange e.number) (moved_on n) s.exchanges d → d.number ≡ e.number → d.bound ≡ Some to → IsIn x s.instances → x.id ≡ to.instance → Fitting (behind_bytes a bytes) to x
+    starts_by : (d : Exchange) (to : Bound) (x : Instance) → Changed (is_exchange e.number) (moved_on n) s.exchanges d → d.number ≡ e.number → bound_of d ≡ Some to → IsIn x s.instances → x.id ≡ to.instance → Fitting (behind_bytes a bytes) to x
     starts_by d to x (same i isnt) is some j id = let both : true ≡ false = sym (number_same e.number) ∙ ap (λ y. y == e.number) (sym is) ∙ isnt in absurd (cc both)
-    starts_by d to x (other g i hit eq) is some j id = of_old g to x i (same_number g.number e.number hit) (sym (ap (λ (y : Exchange). y.bound) eq) ∙ some) j id
+    starts_by d to x (other g i hit eq) is some j id = of_old g to x i (same_number g.number e.number hit) (sym (ap bound_of eq) ∙ some) j id
 
 -- ---- the data of a response go where its exchange is bound
 
@@ -211,10 +237,10 @@ behind_sent s t u only p = record {
 
 -- an answer to which the exchange is bound as it tells
 abbrev pub IsFitting : Answer → Exchange → State → Type 0
-IsFitting a e s = (to : Bound) (x : Instance) → e.bound ≡ Some to → IsIn x s.instances → x.id ≡ to.instance → Fitting a to x
+IsFitting a e s = (to : Bound) (x : Instance) → bound_of e ≡ Some to → IsIn x s.instances → x.id ≡ to.instance → Fitting a to x
 
-data_sent : {b : Since} (a : Answer) (e : Exchange) (bytes : Bytes) (s : State) → IsIn e s.exchanges → IsFitting a e s → FactsOf b s → (to : Bound) → e.bound ≡ Some to → (x : Instance) → IsIn x s.instances → x.id ≡ to.instance
-    → AllSent (note_sent e a.head (length (payload_of a)) (added a bytes) s).sent x.key x.version to.next (added a bytes)
+data_sent : {b : Since} (a : Answer) (e : Exchange) (bytes : Bytes) (s : State) → IsIn e s.exchanges → IsFitting a e s → FactsOf b s → (to : Bound) → bound_of e ≡ Some to → (x : Instance) → IsIn x s.instances → x.id ≡ to.instance
+    → AllSent (note_sent e a (length (payload_of a)) (added a bytes) s).sent x.key x.version to.next (added a bytes)
 data_sent a e bytes s there fits h to is x i id = by (fits to x is i id)
   where
     at : ℕ
@@ -223,38 +249,38 @@ data_sent a e bytes s there fits h to is x i id = by (fits to x is i id)
     key : x.key ≡ key_of e
     key = h.keyed e to x there is i id
 
-    by : Fitting a to x → AllSent (note_sent e a.head at (added a bytes) s).sent x.key x.version to.next (added a bytes)
+    by : Fitting a to x → AllSent (note_sent e a at (added a bytes) s).sent x.key x.version to.next (added a bytes)
     by (inl fit) =
-        subst (λ k. AllSent (note_sent e a.head at (added a bytes) s).sent k x.version to.next (added a bytes)) (sym key)
-        (subst (λ n. AllSent (note_sent e a.head at (added a bytes) s).sent (key_of e) x.version n (added a bytes)) (sym fit.1)
-        (note_sent-sent e a.head at (added a bytes) x.version s (h.asks.noted e to there is) fit.0))
+        subst (λ k. AllSent (note_sent e a at (added a bytes) s).sent k x.version to.next (added a bytes)) (sym key)
+        (subst (λ n. AllSent (note_sent e a at (added a bytes) s).sent (key_of e) x.version n (added a bytes)) (sym fit.1)
+        (note_sent-sent e a at (added a bytes) x.version s (h.asks.noted e to there is) fit.0))
     by (inr empty) = none a.rule empty
       where
         nothing : (n : ℕ) → drop n (let l : Bytes = [] in l) ≡ []
         nothing zero = refl
         nothing (suc n) = refl
 
-        none : (rule : BodyRule) → rule ≡ Empty → AllSent (note_sent e a.head at (added a bytes) s).sent x.key x.version to.next (drop at (body_of rule (a.raw ++ bytes)).payload)
-        none rule eq = subst (λ r. AllSent (note_sent e a.head at (added a bytes) s).sent x.key x.version to.next (drop at (body_of r (a.raw ++ bytes)).payload)) (sym eq)
-            (subst (λ l. AllSent (note_sent e a.head at (added a bytes) s).sent x.key x.version to.next l) (sym (nothing at)) tt)
+        none : (rule : BodyRule) → rule ≡ Empty → AllSent (note_sent e a at (added a bytes) s).sent x.key x.version to.next (drop at (body_of rule (a.raw ++ bytes)).payload)
+        none rule eq = subst (λ r. AllSent (note_sent e a at (added a bytes) s).sent x.key x.version to.next (drop at (body_of r (a.raw ++ bytes)).payload)) (sym eq)
+            (subst (λ l. AllSent (note_sent e a at (added a bytes) s).sent x.key x.version to.next l) (sym (nothing at)) tt)
 
 join_bound-behind : {b : Since} (a : Answer) (e : Exchange) (bytes : Bytes) (s t : State) → b.excepts ≡ Some e.number → IsIn e s.exchanges → IsFitting a e s → OnlySent b s t
-    → ((to : Bound) → e.bound ≡ Some to → (x : Instance) → IsIn x s.instances → x.id ≡ to.instance → AllSent t.sent x.key x.version to.next (added a bytes))
+    → ((to : Bound) → bound_of e ≡ Some to → (x : Instance) → IsIn x s.instances → x.id ≡ to.instance → AllSent t.sent x.key x.version to.next (added a bytes))
     → Behind b (behind_bytes a bytes) e s (join_bound e (added a bytes) t)
 unfolding join_bound
-join_bound-behind {b} a e bytes s t apart there fits only sent = by e.bound refl
+join_bound-behind {b} a e bytes s t apart there fits only sent = by (bound_of e) refl
   where
     t_there : IsIn e t.exchanges
     t_there = subst (λ es. IsIn e es) (sym only.exchanges) there
 
-    by : (bound : Option Bound) → e.bound ≡ bound → Behind b (behind_bytes a bytes) e s (elim bound as (λ c. State) [ None ↦ t | Some to ↦ on_exchange e.number (moved_on (length (added a bytes))) (join to (added a bytes) t) ])
+    by : (bound : Option Bound) → bound_of e ≡ bound → Behind b (behind_bytes a bytes) e s (elim bound as (λ c. State) [ None ↦ t | Some to ↦ on_exchange e.number (moved_on (length (added a bytes))) (join to (added a bytes) t) ])
     by None none = behind_sent s t t only (record {
       is_sound = only.is_sound;
       conns = refl;
       others = λ d i. (d, i, refl, λ other_one. refl);
       starts = λ d to x i is some j id.
           let d_is : d ≡ e = one_of exchange_number t.exchanges d e (facts_of only.is_sound).asks.rise i t_there is in
-          let both : None ≡ Some to = sym none ∙ sym (ap (λ (y : Exchange). y.bound) d_is) ∙ some in absurd (cc both);
+          let both : None ≡ Some to = sym none ∙ sym (ap bound_of d_is) ∙ some in absurd (cc both);
     })
     by (Some to) is = behind_sent s u _ (record {
       is_sound = joined_only.is_sound;
@@ -274,4 +300,4 @@ pub deliver-behind : {b : Since} (a : Answer) (e : Exchange) (bytes : Bytes) (s 
 unfolding deliver pour
 deliver-behind a e bytes s apart there fits h =
     behind_told (on_passed (λ p. record p { pipe = poured (added a bytes) p.pipe })) s _ (on_passed-same (λ p. record p { pipe = poured (added a bytes) p.pipe }))
-    (join_bound-behind a e bytes s _ apart there fits (note_sent-only e a.head (length (payload_of a)) (added a bytes) s h) (λ to is x i id. data_sent a e bytes s there fits (facts_of h) to is x i id))
+    (join_bound-behind a e bytes s _ apart there fits (note_sent-only e a (length (payload_of a)) (added a bytes) s h) (λ to is x i id. data_sent a e bytes s there fits (facts_of h) to is x i id))

@@ -7,8 +7,9 @@ use Rattle.pp_world.specs.declared.op.DiskOp.{DiskOp}
 use Rattle.pp_law.specs.Chunks.{chunk_len}
 use Rattle.pp_law.specs.Lists.{Bytes}
 use Rattle.pp_law.specs.Opening.{settings_in, with_settings, names_file, begun, woken, is_opening, stuck, opened_to, configured, lose_in_opening, are_texts}
-use Rattle.pp_law.specs.State.{State, Entry, Instance, Phase}
-use Rattle.pp_law.specs.Store.{todo_for, remove_entry, note_gone, begin_op, name_for, enter_next, close_name, end_op, lose_entry, note_kept, chunk_in_file, load_from, load}
+use Rattle.pp_law.specs.Repairs.{agenda_in_opening, begin_in_opening}
+use Rattle.pp_law.specs.State.{State, Agenda, Entry, Instance, Phase}
+use Rattle.pp_law.specs.Store.{remove_entry, note_gone, agenda_in_turn, begin_op, begin_in_turn, enter_next, close_name, end_op, lose_entry, note_kept, chunk_in_file, load_from, load}
 use Rattle.pp_law.specs.Table.{is_entry_of, is_row_of, row, kept_row}
 use Rattle.pp_laws.specs.Origin.{AllSent, EntryWasSent, ChunkWasSent}
 use Rattle.pp_laws.specs.Runs.{IsIn}
@@ -27,13 +28,22 @@ pub note_gone-sound : {b : Since} (key : Bytes) (s : State) → Sound b s → So
 unfolding note_gone
 note_gone-sound key s h = each_of (find (is_entry_of key) s.entries) h (λ e. remove_entry-sound e s h)
 
-pub begin_op-sound : {b : Since} (in_turn : Bool) (op : DiskOp) (s : State) → Sound b s → Sound b (begin_op in_turn op s)
+begin_op-sound : {b : Since} (op : DiskOp) (plan : Option Agenda) (s : State) → Sound b s → Sound b (begin_op op plan s)
 unfolding begin_op
-begin_op-sound in_turn op s h = each_of (todo_for in_turn s op) h (λ todo. sound (facts_of h))
+begin_op-sound op None s h = h
+begin_op-sound op (Some a) s h = sound (facts_of h)
+
+pub begin_in_turn-sound : {b : Since} (op : DiskOp) (s : State) → Sound b s → Sound b (begin_in_turn op s)
+unfolding begin_in_turn
+begin_in_turn-sound op s h = begin_op-sound op (agenda_in_turn op s) s h
+
+pub begin_in_opening-sound : {b : Since} (op : DiskOp) (s : State) → Sound b s → Sound b (begin_in_opening op s)
+unfolding begin_in_opening
+begin_in_opening-sound op s h = begin_op-sound op (agenda_in_opening op s) s h
 
 pub enter_next-sound : {b : Since} (s : State) → Sound b s → Sound b (enter_next s)
 unfolding enter_next
-enter_next-sound s h = by_list s.agenda h (λ todo agenda. by_todo todo (λ op. h) (λ e. sound (facts_of h)) (λ key tag n extent. h))
+enter_next-sound s h = by_list s.agenda.todo h (λ todo agenda. by_todo todo (λ op. h) (λ e. sound (facts_of h)) (λ key tag n extent. h))
 
 pub close_name-sound : {b : Since} (name : Bytes) (s : State) → Sound b s → Sound b (close_name name s)
 unfolding close_name
@@ -42,7 +52,7 @@ close_name-sound name s h = sound (facts_of h)
 pub end_op-sound : {b : Since} (op : DiskOp) (ok : Bool) (s : State) → Sound b s → Sound b (end_op op ok s)
 unfolding end_op
 end_op-sound op true s h = enter_next-sound _ (sound (facts_of h))
-end_op-sound op false s h = close_name-sound (name_for op s.agenda) _ (sound (facts_of h))
+end_op-sound op false s h = close_name-sound s.agenda.name _ (sound (facts_of h))
 
 pub lose_entry-sound : {b : Since} (name : Bytes) (s : State) → Sound b s → Sound b (lose_entry name s)
 unfolding lose_entry

@@ -1,13 +1,17 @@
 -- Changes of one connection, exchange or client, and an exchange that is over, keep what is sound.
-use Rattle.std.proofs.Common.{◌≡◌, refl, ℕ, Bool, true, not, ◌==◌, List, [], ◌∷◌, map, filter, cond, Some, sym, subst, ap, ◌∙◌}
-use Rattle.pp_law.specs.Connections.{is_client, is_conn, is_exchange, is_for, on_conn, on_exchange, on_client, on_client_of, attempts_of, lost_one, lose_attempt, fail, without_ask, end_exchange}
-use Rattle.pp_law.specs.State.{State, OutOfTries, Client, Conn, Exchange}
+use Rattle.std.proofs.Common.{◌≡◌, refl, ℕ, Bool, true, false, not, ◌==◌, List, [], ◌∷◌, map, filter, cond, Some, None, sym, subst, ap, ◌∙◌}
+use Rattle.pp_target.specs.Key.{text_of}
+use Rattle.pp_law.specs.Connections.{is_client, is_conn, is_exchange, is_for, on_conn, on_exchange, on_client, on_client_of, attempts_of, lost_one, without_row, is_unfilled, give_up_row, charge, lose_attempt, fail, without_ask, end_exchange}
+use Rattle.pp_law.specs.Stages.{is_begun}
+use Rattle.pp_law.specs.State.{State, Course, Trying, OutOfTries, Client, Conn, Exchange}
 use Rattle.pp_laws.specs.Runs.{IsIn}
 use Rattle.pp_laws.proofs.Callers.{same_parts}
-use Rattle.pp_laws.proofs.KeptClients.{SameClient, clients_changed}
+use Rattle.pp_laws.proofs.Cases.{when}
+use Rattle.pp_laws.proofs.KeptClients.{SameClient, client_same, clients_changed}
 use Rattle.pp_laws.proofs.KeptConns.{ConnFrom, SameConn, conns_changed, conns_kept}
 use Rattle.pp_laws.proofs.KeptExchanges.{SameExchange, exchanges_changed, exchanges_filtered}
 use Rattle.pp_laws.proofs.Lists.{From, in_filter, in_map, rise_map}
+use Rattle.pp_laws.proofs.Rows.{clear-sound}
 use Rattle.pp_laws.proofs.Sound.{Since, Sound, conn_number, facts_of, first_of, sound}
 
 pub on_conn-sound : {b : Since} (n : ℕ) (f : Conn → Conn) (s : State) → ((k : Conn) → SameConn (f k) k) → Sound b s → Sound b (on_conn n f s)
@@ -26,13 +30,28 @@ pub on_client_of-sound : {b : Since} (e : Exchange) (f : Client → Client) (s :
 unfolding on_client_of
 on_client_of-sound {b} e f s kept h = sound (clients_changed b s (is_for e) f kept (facts_of h))
 
+without_row-by : (c : Client) (begun : Bool) → SameClient (elim begun as (λ x. Client) [ true ↦ c | false ↦ record c { course = Trying 0 } ]) c
+without_row-by c true = client_same c
+without_row-by c false = same_parts _ c refl refl refl
+
+pub give_up_row-sound : {b : Since} (e : Exchange) (s : State) → Sound b s → Sound b (give_up_row e s)
+unfolding give_up_row
+give_up_row-sound e s h =
+    when (is_unfilled s e)
+    (on_exchange-sound e.number (λ x. record x { asker = None }) _ (λ x. record { number = refl; key = refl; aim = refl; place = refl; headed = refl; bound = refl })
+    (on_client_of-sound e without_row _ (λ c. without_row-by c (is_begun c)) (clear-sound (text_of e.key) s h))) h
+
+pub charge-sound : {b : Since} (cost : Course → Course) (e : Exchange) (s : State) → Sound b s → Sound b (charge cost e s)
+unfolding charge
+charge-sound cost e s h = give_up_row-sound e _ (on_client_of-sound e (λ c. record c { course = cost c.course }) s (λ c. same_parts _ c refl refl refl) h)
+
 pub lose_attempt-sound : {b : Since} (e : Exchange) (s : State) → Sound b s → Sound b (lose_attempt e s)
 unfolding lose_attempt
-lose_attempt-sound e s h = on_client_of-sound e (λ c. record c { course = lost_one (attempts_of e) c.course }) s (λ c. same_parts _ c refl refl refl) h
+lose_attempt-sound e s h = charge-sound (lost_one (attempts_of e)) e s h
 
 pub fail-sound : {b : Since} (e : Exchange) (s : State) → Sound b s → Sound b (fail e s)
 unfolding fail
-fail-sound e s h = on_client_of-sound e (λ c. record c { course = OutOfTries }) s (λ c. same_parts _ c refl refl refl) h
+fail-sound e s h = charge-sound (λ course. OutOfTries) e s h
 
 -- ---- an exchange is over
 

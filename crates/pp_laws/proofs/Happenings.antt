@@ -7,17 +7,17 @@ use Rattle.pp_world.specs.declared.happening.Happening.{Happening}
 use Rattle.pp_world.specs.declared.note.Remark.TheVariants.{Taken, Cut, Kept, Gone, Forgotten, Evicted, Loaded}
 use Rattle.pp_world.specs.declared.note.Remark.{Remark}
 use Rattle.pp_world.specs.declared.op.DiskOp.{DiskOp}
-use Rattle.pp_law.specs.After.{new_client, new_conn, event, opened, owing, reached, paid, said, gone, in_step_7, take_decision, evicted, waits_for_row, refused_row, forgotten_row, forgotten_by, noted, begun_op, ended_op, unread, shut, dialled, refused_dial, undialled, out, dropped, rested, changed, after}
+use Rattle.pp_law.specs.After.{new_client, new_conn, event, opened, owing, reached, paid, said, gone, in_step_7, take_decision, evicted, waits_for_row, refused_row, leave_memory, forgotten_by, noted, begun_op, ended_op, unread, shut, dialled, refused_dial, undialled, out, dropped, rested, changed, after}
 use Rattle.pp_law.specs.Closing.{close_client}
 use Rattle.pp_law.specs.Connections.{client, conn, is_client, is_conn, may_ask_again, put_on, placing, Placement, Pause, AllPlaced, WaitsDial, WaitsDrop}
 use Rattle.pp_law.specs.Deciding.{decided}
 use Rattle.pp_law.specs.Lawful.{LawfulFrom}
+use Rattle.pp_law.specs.Leaving.{Leaving, ForAnother, ForMemory, BeforeDecision, leaving_as}
 use Rattle.pp_law.specs.Lists.{Bytes}
 use Rattle.pp_law.specs.Opening.{is_opening}
 use Rattle.pp_law.specs.Permits.{is_permitted, IsPermitted, permits, permits_dial, is_new_number}
 use Rattle.pp_law.specs.Replies.{said_by}
 use Rattle.pp_law.specs.State.{State, RowRefused, Client, Conn, Exchange, Instance, IsRooted, IsListed, IsListening, Owed, ReadOf, WriteTo}
-use Rattle.pp_law.specs.Store.{name_for}
 use Rattle.pp_law.specs.Table.{row, forget}
 use Rattle.pp_law.specs.Turn.{step, is_awaiting, due_victim, to_6}
 use Rattle.pp_laws.specs.Origin.{LoadWasSent, LoadsWhatWasSent}
@@ -25,7 +25,7 @@ use Rattle.pp_laws.specs.Runs.{after_all, IsIn}
 use Rattle.pp_laws.proofs.Callers.{said_by-same, same_parts}
 use Rattle.pp_laws.proofs.Cases.{by_list, by_pause, each_of, each_so, when}
 use Rattle.pp_laws.proofs.Clients.{ask-sound, close_client-sound, decided-sound, end_replies-sound, hang_up-sound, hear-sound, regained-sound, use_said-sound}
-use Rattle.pp_laws.proofs.Disk.{begin_op-sound, close_name-sound, configured-sound, end_op-sound, load-sound, lose_in_opening-sound, note_gone-sound, note_kept-sound, opened_to-sound, woken-sound}
+use Rattle.pp_laws.proofs.Disk.{begin_in_opening-sound, begin_in_turn-sound, close_name-sound, configured-sound, end_op-sound, load-sound, lose_in_opening-sound, note_gone-sound, note_kept-sound, opened_to-sound, woken-sound}
 use Rattle.pp_laws.proofs.Exchanges.{end_exchange-sound, lose_attempt-sound, on_client-sound, on_conn-sound}
 use Rattle.pp_laws.proofs.KeptClients.{client_pushed, clients_changed, clients_filtered}
 use Rattle.pp_laws.proofs.KeptConns.{conn_pushed, conns_filtered, top_raised}
@@ -91,13 +91,15 @@ refused_row-sound : {b : Since} (x : Instance) (s : State) → Sound b s → Sou
 unfolding refused_row
 refused_row-sound {b} x s h = sound (clients_changed b (forget x.id s) (waits_for_row x.id) (λ c. record c { course = RowRefused }) (λ c. same_parts _ c refl refl refl) (facts_of (forget-sound x.id s h)))
 
-forgotten_row-sound : {b : Since} (x : Instance) (s : State) → Sound b s → Sound b (forgotten_row x s)
-unfolding forgotten_row
-forgotten_row-sound x s h = when x.is_new (refused_row-sound x s h) (sound (facts_of (forget-sound x.id _ (to_decide-sound s h))))
+leave_memory-sound : {b : Since} (how : Leaving) (s : State) → Sound b s → Sound b (leave_memory how s)
+unfolding leave_memory
+leave_memory-sound ForAnother s h = sound (facts_of h)
+leave_memory-sound (ForMemory x) s h = refused_row-sound x s h
+leave_memory-sound (BeforeDecision x) s h = sound (facts_of (forget-sound x.id _ (to_decide-sound s h)))
 
 forgotten_by-sound : {b : Since} (key : Bytes) (s : State) → Sound b s → Sound b (forgotten_by key s)
 unfolding forgotten_by
-forgotten_by-sound key s h = by_list s.forgotten (each_of (row s key) h (λ x. forgotten_row-sound x s h)) (λ k keys. sound (facts_of h))
+forgotten_by-sound key s h = each_of (leaving_as s key) h (λ how. leave_memory-sound how s h)
 
 noted-sound : {b : Since} (remark : Remark) (s : State) → (b.counts_loads ≡ true → LoadWasSent s (Noted remark)) → Sound b s → Sound b (noted remark s)
 unfolding noted
@@ -113,12 +115,12 @@ noted-sound (Loaded key tag n i) s loads h = load-sound key i s loads h
 
 begun_op-sound : {b : Since} (op : DiskOp) (s : State) → Sound b s → Sound b (begun_op op s)
 unfolding begun_op
-begun_op-sound op s h = when (is_opening s) (begin_op-sound false op s h) (begin_op-sound true op _ (to_3-sound s h))
+begun_op-sound op s h = when (is_opening s) (begin_in_opening-sound op s h) (begin_in_turn-sound op _ (to_3-sound s h))
 
 ended_op-sound : {b : Since} (op : DiskOp) (ok : Bool) (s : State) → Sound b s → Sound b (ended_op op ok s)
 unfolding ended_op
 ended_op-sound op true s h = end_op-sound op true s h
-ended_op-sound op false s h = lose_in_opening-sound (name_for op s.agenda) _ (end_op-sound op false s h)
+ended_op-sound op false s h = lose_in_opening-sound s.agenda.name _ (end_op-sound op false s h)
 
 unread-sound : {b : Since} (name : Bytes) (s : State) → Sound b s → Sound b (unread name s)
 unfolding unread
@@ -154,7 +156,7 @@ dialled-sound n host port s above h = dialled_at n host port (placing s).state (
 
 refused_dial-sound : {b : Since} (e : Exchange) (s : State) → Sound b s → Sound b (refused_dial e s)
 unfolding refused_dial
-refused_dial-sound e s h = when (may_ask_again s e) h (sound (facts_of (end_exchange-sound e.number s h)))
+refused_dial-sound e s h = when (may_ask_again s e.number) h (sound (facts_of (end_exchange-sound e.number s h)))
 
 undialled-sound : {b : Since} (p : Placement) → Sound b p.state → Sound b (undialled p)
 unfolding undialled

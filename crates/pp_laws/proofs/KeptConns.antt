@@ -1,6 +1,7 @@
 -- What is kept where connections are changed in what nothing here depends on, come or go.
 use Rattle.std.proofs.Common.{◌≡◌, ◌⊎◌, refl, ℕ, ◌<◌, ◌≤◌, Bool, List, [], ◌∷◌, ◌++◌, map, filter, Some, inl, inr, sym, subst, ap, ◌∙◌, le_trans, le_of_lt, arith}
 use Rattle.pp_law.specs.Lists.{change}
+use Rattle.pp_law.specs.Stages.{bound_of}
 use Rattle.pp_law.specs.State.{State, Client, Conn, Exchange, Instance, Bound}
 use Rattle.pp_laws.specs.Numbers.{AreRising}
 use Rattle.pp_laws.specs.Runs.{IsIn}
@@ -110,7 +111,7 @@ conn_pushed b s k above none h = record {
     placed_by j e (inl i) m l = h.placed j e i m l
     placed_by j e (inr is) m l = absurd (not_in j e.number is l)
 
-    brings_by : (j : Conn) (e : Exchange) (to : Bound) → IsIn j s.conns ⊎ (j ≡ k) → IsIn e s.exchanges → IsIn e.number j.line → e.bound ≡ Some to → ¬ (b.excepts ≡ Some e.number) → Brings s.instances j e to
+    brings_by : (j : Conn) (e : Exchange) (to : Bound) → IsIn j s.conns ⊎ (j ≡ k) → IsIn e s.exchanges → IsIn e.number j.line → bound_of e ≡ Some to → ¬ (b.excepts ≡ Some e.number) → Brings s.instances j e to
     brings_by j e to (inl i) m l is isnt = h.brings j e to i m l is isnt
     brings_by j e to (inr e_is) m l is isnt = absurd (not_in j e.number e_is l)
 

@@ -4,6 +4,7 @@ use Rattle.pp_target.specs.Key.{text_of}
 use Rattle.pp_law.specs.Chunks.{chunk_len}
 use Rattle.pp_law.specs.Lists.{change, Bytes}
 use Rattle.pp_law.specs.OwnHeads.{key_of}
+use Rattle.pp_law.specs.Stages.{bound_of}
 use Rattle.pp_law.specs.State.{State, Answer, Client, Exchange, Instance, Chunk, Bound}
 use Rattle.pp_laws.specs.Numbers.{AreRising}
 use Rattle.pp_laws.specs.Origin.{AllSent}
@@ -129,7 +130,7 @@ instance_pushed b s x id h = record {
     fits_by a to lt fits y (inl i) is = fits y i is
     fits_by a to lt fits y (inr e) is = absurd (never y to.instance e lt is)
 
-    keyed_by : (e : Exchange) (to : Bound) (y : Instance) → IsIn e s.exchanges → e.bound ≡ Some to → IsIn y s.instances ⊎ (y ≡ x) → y.id ≡ to.instance → y.key ≡ key_of e
+    keyed_by : (e : Exchange) (to : Bound) (y : Instance) → IsIn e s.exchanges → bound_of e ≡ Some to → IsIn y s.instances ⊎ (y ≡ x) → y.id ≡ to.instance → y.key ≡ key_of e
     keyed_by e to y i is (inl j) same_id = h.keyed e to y i is j same_id
     keyed_by e to y i is (inr eq) same_id = absurd (never y to.instance eq (h.asks.bounds e to i is) same_id)
 

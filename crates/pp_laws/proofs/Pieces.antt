@@ -4,25 +4,27 @@ use Rattle.pp_framing.specs.Body.{Outcome, Done, Going, Bad}
 use Rattle.pp_framing.specs.Framing.{rule_of}
 use Rattle.pp_framing.specs.Rules.{body_of}
 use Rattle.pp_framing.specs.declared.body.BodyRule.{BodyRule}
-use Rattle.pp_framing.specs.declared.framing.FramingFault.{FramingFault}
+use Rattle.pp_framing.specs.declared.framing.ResponseFault.{ResponseFault}
 use Rattle.pp_head.specs.Read.{Read, Whole, TooLong, Bad as NoHead, More}
 use Rattle.pp_head.specs.Response.{Response, response_at}
+use Rattle.pp_pipe.specs.Front.{is_interim}
 use Rattle.pp_text.specs.Bytes.{is_empty}
 use Rattle.pp_law.specs.Connections.{conn, exchange, is_conn, is_exchange, on_conn, front_of_line, close_conn}
 use Rattle.pp_law.specs.Lists.{Bytes, change}
 use Rattle.pp_law.specs.OwnHeads.{is_wrong_head}
-use Rattle.pp_law.specs.Responses.{finish, bad_response, is_interim, asks_head, begin_answer, answer_for, head_came, Piece, is_early, with_unread, head_piece, body_piece_of, body_piece, next_piece, got, is_whole_at_end, finish_first, ended}
+use Rattle.pp_law.specs.Responses.{finish, bad_response, bad_head, asks_head, begin_answer, answer_for, head_came, Piece, is_early, with_unread, head_piece, body_piece_of, body_piece, next_piece, got, is_whole_at_end, finish_first, ended}
+use Rattle.pp_law.specs.Stages.{bound_of}
 use Rattle.pp_law.specs.State.{State, Answer, Bound, Conn, Exchange}
 use Rattle.pp_laws.specs.Runs.{IsIn}
 use Rattle.pp_laws.proofs.Apart.{OthersUnbound, answered, but, never_none, others_behind, others_unbound, set_apart, set_back, set_back_gone}
 use Rattle.pp_laws.proofs.Binding.{Behind}
 use Rattle.pp_laws.proofs.Bodies.{Opens, bad_response-gone, bad_response-sound, begin_answer-sound, begun_brings, close_this-sound, finish-sound, in_first, rule_at_304}
 use Rattle.pp_laws.proofs.Cases.{each_of, each_so, when}
-use Rattle.pp_laws.proofs.Closings.{close_conn-sound, own_line, own_line_shrunk}
+use Rattle.pp_laws.proofs.Closings.{IsOwnLine, close_conn-sound, own_line, own_line_shrunk}
 use Rattle.pp_laws.proofs.Deliveries.{IsFitting, behind_bytes, deliver-behind}
-use Rattle.pp_laws.proofs.Exchanges.{on_conn-sound}
+use Rattle.pp_laws.proofs.Exchanges.{lose_attempt-sound, on_conn-sound}
 use Rattle.pp_laws.proofs.Lists.{in_find}
-use Rattle.pp_laws.proofs.Shrinks.{Shrinks}
+use Rattle.pp_laws.proofs.Shrinks.{Shrinks, lose_attempt-shrinks}
 use Rattle.pp_laws.proofs.Sound.{Brings, Fitting, Since, Sound, facts_of, first_of, sound}
 use Rattle.pp_laws.proofs.Tests.{same_number}
 
@@ -37,22 +39,29 @@ opens k e s there front = let f = front_by s k.line e front in record { was = k;
 
 -- ---- heads
 
+bad_head-sound : {b : Since} (k : Conn) (s : State) → IsOwnLine k s → Sound b s → Sound b (bad_head k s)
+unfolding bad_head
+bad_head-sound k s own h =
+    when k.has_brought
+    (each_of (front_of_line s k) (close_conn-sound false k s own h) (λ e. close_conn-sound false k _ (own_line_shrunk k s _ (lose_attempt-shrinks e s) own) (lose_attempt-sound e s h)))
+    (bad_response-sound k s own h)
+
 answer_for-sound : {b : Since} (k : Conn) (e : Exchange) (head : Response) (s : State) → b.excepts ≡ None → IsIn k s.conns → k.answer ≡ None → front_of_line s k ≡ Some e → Sound b s
     → Sound b (answer_for k e head s)
 unfolding answer_for opens
 answer_for-sound {b} k e head s none there no_answer front h =
-    when (is_wrong_head e head) (bad_response-sound k s (own_line k s there h) h)
+    when (is_wrong_head e head) (bad_head-sound k s (own_line k s there h) h)
     (by_rule (rule_of (asks_head e) head.status head.fields) refl)
   where
-    by_rule : (read : Result BodyRule FramingFault) → rule_of (asks_head e) head.status head.fields ≡ read
-        → Sound b (elim read as (λ c. State) [ Ok rule ↦ begin_answer k e head rule s | Err fault ↦ bad_response k s ])
+    by_rule : (read : Result BodyRule ResponseFault) → rule_of (asks_head e) head.status head.fields ≡ read
+        → Sound b (elim read as (λ c. State) [ Ok rule ↦ begin_answer k e head rule s | Err fault ↦ bad_head k s ])
     by_rule (Ok rule) is = begin_answer-sound k e head rule s none (rule_at_304 (asks_head e) head rule is) (opens k e s there front) no_answer h
-    by_rule (Err fault) is = bad_response-sound k s (own_line k s there h) h
+    by_rule (Err fault) is = bad_head-sound k s (own_line k s there h) h
 
 head_came-sound : {b : Since} (k : Conn) (head : Response) (s : State) → b.excepts ≡ None → IsIn k s.conns → k.answer ≡ None → Sound b s → Sound b (head_came k head s)
 unfolding head_came
 head_came-sound k head s none there no_answer h =
-    each_so (front_of_line s k) (λ isnt. bad_response-sound k s (own_line k s there h) h) (λ e front. answer_for-sound k e head s none there no_answer front h)
+    each_so (front_of_line s k) (λ isnt. close_conn-sound false k s (own_line k s there h) h) (λ e front. answer_for-sound k e head s none there no_answer front h)
 
 piece_when : {b : Since} (t : Bool) (p q : Piece) → Sound b p.state → Sound b q.state → Sound b (elim t as (λ c. Piece) [ true ↦ p | false ↦ q ]).state
 piece_when true p q hp hq = hp
@@ -64,16 +73,16 @@ with_unread-sound k bytes s h = on_conn-sound k.number (with_unread bytes) s (λ
 head_piece_by : {b : Since} (k : Conn) (bytes : Bytes) (s : State) (read : Read Response) → b.excepts ≡ None → IsIn k s.conns → k.answer ≡ None → Sound b s
     → Sound b (elim read as (λ c. Piece) [
       | More ↦ record { state = on_conn k.number (with_unread bytes) s; rest = [] }
-      | TooLong ↦ record { state = bad_response k s; rest = [] }
-      | NoHead ↦ record { state = bad_response k s; rest = [] }
+      | TooLong ↦ record { state = bad_head k s; rest = [] }
+      | NoHead ↦ record { state = bad_head k s; rest = [] }
       | Whole head ↦ elim (is_interim head.status) as (λ c. Piece) [
         | true ↦ record { state = on_conn k.number (with_unread []) s; rest = drop head.length bytes }
         | false ↦ record { state = head_came k head s; rest = drop head.length bytes }
       ]
     ]).state
 head_piece_by k bytes s More none there no_answer h = with_unread-sound k bytes s h
-head_piece_by k bytes s TooLong none there no_answer h = bad_response-sound k s (own_line k s there h) h
-head_piece_by k bytes s NoHead none there no_answer h = bad_response-sound k s (own_line k s there h) h
+head_piece_by k bytes s TooLong none there no_answer h = bad_head-sound k s (own_line k s there h) h
+head_piece_by k bytes s NoHead none there no_answer h = bad_head-sound k s (own_line k s there h) h
 head_piece_by k bytes s (Whole head) none there no_answer h =
     piece_when (is_interim head.status) _ _ (with_unread-sound k [] s h) (head_came-sound k head s none there no_answer h)
 
@@ -101,10 +110,10 @@ going-sound {b} k a e s t none there o h p = set_back e.number next brings (soun
     others : OthersUnbound k.number e.number t
     others = others_behind k.number s t p (subst (λ n. OthersUnbound n e.number s) o.number (others_unbound o.was e.number s none o.there o.front h))
 
-    unbound : (j : Conn) (d : Exchange) → IsIn j t.conns → j.number ≡ k.number → IsIn d t.exchanges → IsIn d.number j.line → ¬ (Some e.number ≡ Some d.number) → d.bound ≡ None
+    unbound : (j : Conn) (d : Exchange) → IsIn j t.conns → j.number ≡ k.number → IsIn d t.exchanges → IsIn d.number j.line → ¬ (Some e.number ≡ Some d.number) → bound_of d ≡ None
     unbound j d i number at l apart = others j d i number at l (λ is. apart (ap (λ x. Some x) (sym is)))
 
-    brings : (j : Conn) (d : Exchange) (to : Bound) → IsIn j next.conns → IsIn d t.exchanges → d.number ≡ e.number → IsIn d.number j.line → d.bound ≡ Some to → Brings t.instances j d to
+    brings : (j : Conn) (d : Exchange) (to : Bound) → IsIn j next.conns → IsIn d t.exchanges → d.number ≡ e.number → IsIn d.number j.line → bound_of d ≡ Some to → Brings t.instances j d to
     brings j d to i m is l bound =
         let w = begun_brings k e (λ g. record g { answer = Some a }) a s (λ g. refl) (λ g. refl) o h j d.number (subst (λ ks. IsIn j (change (is_conn k.number) (λ g. record g { answer = Some a }) ks)) p.conns i) is l in
         record { front = w.0 ∙ ap (λ x. Some x) (sym is); answer = a; is = w.1; fits = λ x n id. p.starts d to x m is bound n id }

@@ -4,6 +4,7 @@ use Rattle.pp_peers.specs.declared.placing.Placed.TheVariants.{On, Dial, CloseTh
 use Rattle.pp_peers.specs.declared.placing.Placed.{Placed}
 use Rattle.pp_law.specs.Connections.{is_conn, is_exchange, on_conn, on_exchange, place_for, put_on, place_all, placing, WaitsDial, WaitsDrop, Placement}
 use Rattle.pp_law.specs.Lists.{change}
+use Rattle.pp_law.specs.Stages.{bound_of}
 use Rattle.pp_law.specs.State.{State, Conn, Exchange, Bound}
 use Rattle.pp_laws.specs.Numbers.{AreRising}
 use Rattle.pp_laws.specs.Runs.{IsIn}
@@ -72,7 +73,7 @@ appended_facts b n k s given unbound place h = record {
         placed_at (inl r) = h.placed g e i m r ∙ ap (λ x. Some x) (sym (ap conn_number eq))
         placed_at (inr r) = place e m r ∙ ap (λ x. Some x) (sym (ap conn_number eq ∙ same_number g.number k is))
 
-    brings_by : (j : Conn) (e : Exchange) (to : Bound) → Changed (is_conn k) (λ i. record i { line = i.line ++ n ∷ [] }) s.conns j → IsIn e s.exchanges → IsIn e.number j.line → e.bound ≡ Some to → ¬ (b.excepts ≡ Some e.number) → Brings s.instances j e to
+    brings_by : (j : Conn) (e : Exchange) (to : Bound) → Changed (is_conn k) (λ i. record i { line = i.line ++ n ∷ [] }) s.conns j → IsIn e s.exchanges → IsIn e.number j.line → bound_of e ≡ Some to → ¬ (b.excepts ≡ Some e.number) → Brings s.instances j e to
     brings_by j e to (same i isnt) m l is but = h.brings j e to i m l is but
     brings_by j e to (other g i hit eq) m l is but = brings_at (in_line j g e.number eq l)
       where
@@ -91,14 +92,14 @@ appended_facts b n k s given unbound place h = record {
 pub put_on-sound : {b : Since} (n k : ℕ) (s : State) → IsReady n s → Sound b s → Sound b (put_on n k s)
 unfolding put_on on_conn on_exchange
 put_on-sound {b} n k s ready h = sound (appended_facts b n k (record s { exchanges = change (is_exchange n) (λ e. record e { place = Some k; asked = 0 }) s.exchanges }) ready.given unbound place
-    (moved_facts b n (λ e. record e { place = Some k; asked = 0 }) s (λ e. record { number = refl; key = refl; aim = refl; is_headed = refl; bound = refl }) ready.no_line ready.unbound (facts_of h)))
+    (moved_facts b n (λ e. record e { place = Some k; asked = 0 }) s (λ e. record { number = refl; key = refl; aim = refl; headed = refl; bound = refl }) ready.no_line ready.unbound (facts_of h)))
   where
-    unbound : (e : Exchange) → IsIn e (change (is_exchange n) (λ d. record d { place = Some k; asked = 0 }) s.exchanges) → e.number ≡ n → e.bound ≡ None
+    unbound : (e : Exchange) → IsIn e (change (is_exchange n) (λ d. record d { place = Some k; asked = 0 }) s.exchanges) → e.number ≡ n → bound_of e ≡ None
     unbound e i is = by (in_change (is_exchange n) (λ d. record d { place = Some k; asked = 0 }) e s.exchanges i)
       where
-        by : Changed (is_exchange n) (λ d. record d { place = Some k; asked = 0 }) s.exchanges e → e.bound ≡ None
+        by : Changed (is_exchange n) (λ d. record d { place = Some k; asked = 0 }) s.exchanges e → bound_of e ≡ None
         by (same j isnt) = ready.unbound e j is
-        by (other d j hit eq) = ap (λ (x : Exchange). x.bound) eq ∙ ready.unbound d j (same_number d.number n hit)
+        by (other d j hit eq) = ap bound_of eq ∙ ready.unbound d j (same_number d.number n hit)
 
     place : (e : Exchange) → IsIn e (change (is_exchange n) (λ d. record d { place = Some k; asked = 0 }) s.exchanges) → e.number ≡ n → e.place ≡ Some k
     place e i is = by (in_change (is_exchange n) (λ d. record d { place = Some k; asked = 0 }) e s.exchanges i)
@@ -123,9 +124,9 @@ put_on-ready m n k s apart ready = record {
         by (inl r) = ready.no_line g i r
         by (inr r) = apart r
 
-    unbound_by : (e : Exchange) → Changed (is_exchange n) (λ d. record d { place = Some k; asked = 0 }) s.exchanges e → e.number ≡ m → e.bound ≡ None
+    unbound_by : (e : Exchange) → Changed (is_exchange n) (λ d. record d { place = Some k; asked = 0 }) s.exchanges e → e.number ≡ m → bound_of e ≡ None
     unbound_by e (same i isnt) is = ready.unbound e i is
-    unbound_by e (other d i hit eq) is = ap (λ (x : Exchange). x.bound) eq ∙ ready.unbound d i (sym (ap exchange_number eq) ∙ is)
+    unbound_by e (other d i hit eq) is = ap bound_of eq ∙ ready.unbound d i (sym (ap exchange_number eq) ∙ is)
 
 -- those without a place are ready
 abbrev AreReady : List Exchange → State → Type 0
@@ -195,7 +196,7 @@ all_ready : {b : Since} (s : State) → Sound b s → AreReady s.exchanges s
 all_ready s h e i none = record {
   no_line = λ k j l. let both : None ≡ Some k.number = sym none ∙ (facts_of h).placed k e j i l in cc both;
   given = (facts_of h).asks.given e i;
-  unbound = λ d j is. ap (λ (x : Exchange). x.bound) (one_of exchange_number s.exchanges d e (facts_of h).asks.rise j i is) ∙ (facts_of h).asks.unplaced e i none;
+  unbound = λ d j is. ap bound_of (one_of exchange_number s.exchanges d e (facts_of h).asks.rise j i is) ∙ (facts_of h).asks.unplaced e i none;
 }
 
 pub placing-sound : {b : Since} (s : State) → Sound b s → Sound b (placing s).state

@@ -1,11 +1,14 @@
 -- No exchange comes into a line where one is over, or its connection is closed.
 use Rattle.std.proofs.Common.{◌≡◌, refl, ℕ, Bool, true, false, not, ◌==◌, ◌&&◌, List, [], ◌∷◌, Option, Some, None, subst, ap, ◌∙◌}
-use Rattle.pp_law.specs.Connections.{exchange, is_conn, is_exchange, on_conn, on_exchange, on_client_of, attempts_of, lost_one, lose_attempt, fail, without_ask, end_exchange, unplaced, may_ask_again, leave_place, lose_place, lose_places, close_conn}
-use Rattle.pp_law.specs.Stages.{on_passed}
-use Rattle.pp_law.specs.State.{State, OutOfTries, Client, Conn, Exchange}
+use Rattle.pp_target.specs.Key.{text_of}
+use Rattle.pp_law.specs.Connections.{exchange, is_conn, is_exchange, on_conn, on_exchange, on_client_of, attempts_of, lost_one, without_row, is_unfilled, give_up_row, charge, lose_attempt, fail, without_ask, end_exchange, unplaced, may_ask_again, leave_place, lose_place, lose_places, close_conn}
+use Rattle.pp_law.specs.Stages.{on_passed, is_headed}
+use Rattle.pp_law.specs.State.{State, Course, OutOfTries, Client, Conn, Exchange}
+use Rattle.pp_law.specs.Table.{clear}
 use Rattle.pp_laws.specs.Runs.{IsIn}
 use Rattle.pp_laws.proofs.Lists.{Changed, From, in_change, in_filter, in_map, other, same}
 use Rattle.pp_laws.proofs.Sound.{conn_number, exchange_number}
+use Rattle.pp_laws.proofs.Untouched.{Untouched, clear-untouched}
 
 -- ---- no line has it
 
@@ -38,14 +41,6 @@ pub on_client_of-shrinks : (e : Exchange) (f : Client → Client) (s : State) �
 unfolding on_client_of
 on_client_of-shrinks e f s = record { exchanges = λ d i. (d, i, refl); conns = λ k i. (k, i, refl, λ n l. l) }
 
-pub lose_attempt-shrinks : (e : Exchange) (s : State) → Shrinks s (lose_attempt e s)
-unfolding lose_attempt
-lose_attempt-shrinks e s = on_client_of-shrinks e (λ c. record c { course = lost_one (attempts_of e) c.course }) s
-
-pub fail-shrinks : (e : Exchange) (s : State) → Shrinks s (fail e s)
-unfolding fail
-fail-shrinks e s = on_client_of-shrinks e (λ c. record c { course = OutOfTries }) s
-
 pub end_exchange-shrinks : (n : ℕ) (s : State) → Shrinks s (end_exchange n s)
 unfolding end_exchange
 end_exchange-shrinks n s = record { exchanges = λ e i. (e, (in_filter (λ d. not (is_exchange n d)) e s.exchanges i).0, refl); conns = λ k i. from k (in_map (without_ask n) k s.conns i) }
@@ -61,12 +56,38 @@ on_exchange-shrinks n f s kept = record { exchanges = λ e i. from e (in_change 
     from e (same i isnt) = (e, i, refl)
     from e (other d i is eq) = (d, i, ap exchange_number eq ∙ kept d)
 
+untouched_shrinks : (s t : State) → Untouched s t → Shrinks s t
+untouched_shrinks s t u = record { exchanges = λ e i. (e, subst (λ es. IsIn e es) u.exchanges i, refl); conns = λ k i. (k, subst (λ ks. IsIn k ks) u.conns i, refl, λ n l. l) }
+
+give_up_row-shrinks : (e : Exchange) (s : State) → Shrinks s (give_up_row e s)
+unfolding give_up_row
+give_up_row-shrinks e s =
+    shrinks_when s (is_unfilled s e)
+    (shrinks_on s _ _ (untouched_shrinks s _ (clear-untouched (text_of e.key) s))
+    (shrinks_on (clear (text_of e.key) s) _ _ (on_client_of-shrinks e without_row (clear (text_of e.key) s)) (on_exchange-shrinks e.number (λ x. record x { asker = None }) _ (λ d. refl))))
+    (shrinks_same s)
+
+charge-shrinks : (cost : Course → Course) (e : Exchange) (s : State) → Shrinks s (charge cost e s)
+unfolding charge
+charge-shrinks cost e s = shrinks_on s _ _ (on_client_of-shrinks e (λ c. record c { course = cost c.course }) s) (give_up_row-shrinks e _)
+
+pub lose_attempt-shrinks : (e : Exchange) (s : State) → Shrinks s (lose_attempt e s)
+unfolding lose_attempt
+lose_attempt-shrinks e s = charge-shrinks (lost_one (attempts_of e)) e s
+
+pub fail-shrinks : (e : Exchange) (s : State) → Shrinks s (fail e s)
+unfolding fail
+fail-shrinks e s = charge-shrinks (λ course. OutOfTries) e s
+
+pub no_line_shrunk : (n : ℕ) (s t : State) → Shrinks s t → NoLine n s → NoLine n t
+no_line_shrunk n s t shrinks no_line k i l = let f = shrinks.conns k i in no_line f.0 f.1 (f.3 n l)
+
 pub leave_place-shrinks : (e : Exchange) (s : State) → Shrinks s (leave_place e s)
 unfolding leave_place
 leave_place-shrinks e s =
-    shrinks_when s e.is_headed
+    shrinks_when s (is_headed e)
     (shrinks_on s _ _ (on_client_of-shrinks e (on_passed (λ p. record p { is_short = true })) s) (end_exchange-shrinks e.number _))
-    (shrinks_when s (may_ask_again s e) (on_exchange-shrinks e.number unplaced s (λ d. refl)) (end_exchange-shrinks e.number s))
+    (shrinks_when s (may_ask_again s e.number) (on_exchange-shrinks e.number unplaced s (λ d. refl)) (end_exchange-shrinks e.number s))
 
 pub lose_place-shrinks : (counts : Bool) (e : Exchange) (s : State) → Shrinks s (lose_place counts e s)
 unfolding lose_place

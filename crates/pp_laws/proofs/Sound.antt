@@ -2,11 +2,10 @@
 use Rattle.std.proofs.Common.{◌≡◌, ◌⊎◌, ℕ, ◌+◌, ◌<◌, ◌≤◌, Bool, true, false, List, [], ◌∷◌, map, length, Option, Some, None}
 use Rattle.pp_framing.specs.declared.body.BodyRule.TheVariants.{Empty}
 use Rattle.pp_target.specs.Key.{Key, text_of}
-use Rattle.pp_valid.specs.Versions.{version_of}
 use Rattle.pp_law.specs.OwnHeads.{key_of, first_offset}
 use Rattle.pp_law.specs.Requests.{key_in}
 use Rattle.pp_law.specs.Responses.{payload_of}
-use Rattle.pp_law.specs.Stages.{is_passing}
+use Rattle.pp_law.specs.Stages.{is_passing, bound_of, is_headed}
 use Rattle.pp_law.specs.State.{State, Sent, Aim, Through, Own, Filling, Answer, Client, Stage, Undecided, Waiting, Passing, Answering, Conn, Exchange, Instance, Chunk, Bound}
 use Rattle.pp_laws.specs.Numbers.{AreRising}
 use Rattle.pp_laws.specs.Origin.{IsBackPart}
@@ -43,7 +42,7 @@ is_noted (Filling v from to) = true
 
 -- the data of an answer are bytes of this instance, and the next ones go there; or it has none
 abbrev pub Fitting : Answer → Bound → Instance → Type 0
-Fitting a to x = ((version_of a.head.fields a.head.status ≡ Some x.version) × (to.next ≡ first_offset a.head + length (payload_of a))) ⊎ (a.rule ≡ Empty)
+Fitting a to x = ((a.version ≡ Some x.version) × (to.next ≡ first_offset a.head + length (payload_of a))) ⊎ (a.rule ≡ Empty)
 
 -- an exchange that is bound is the first of its line, and its answer is under way
 pub record Brings (instances : List Instance) (k : Conn) (e : Exchange) (to : Bound) : Type 0 where
@@ -60,10 +59,10 @@ pub record Lines (conns : List Conn) (top : ℕ) (next_exchange : ℕ) : Type 0 
 pub record Asks (exchanges : List Exchange) (next_exchange : ℕ) (next_instance : ℕ) : Type 0 where
   pub rise : AreRising (map exchange_number exchanges)
   pub given : (e : Exchange) → IsIn e exchanges → e.number < next_exchange
-  pub bounds : (e : Exchange) (to : Bound) → IsIn e exchanges → e.bound ≡ Some to → to.instance < next_instance
-  pub noted : (e : Exchange) (to : Bound) → IsIn e exchanges → e.bound ≡ Some to → is_noted e.aim ≡ true
-  pub unplaced : (e : Exchange) → IsIn e exchanges → e.place ≡ None → e.bound ≡ None
-  pub unheaded : (e : Exchange) → IsIn e exchanges → e.is_headed ≡ false → e.bound ≡ None
+  pub bounds : (e : Exchange) (to : Bound) → IsIn e exchanges → bound_of e ≡ Some to → to.instance < next_instance
+  pub noted : (e : Exchange) (to : Bound) → IsIn e exchanges → bound_of e ≡ Some to → is_noted e.aim ≡ true
+  pub unplaced : (e : Exchange) → IsIn e exchanges → e.place ≡ None → bound_of e ≡ None
+  pub unheaded : (e : Exchange) → IsIn e exchanges → is_headed e ≡ false → bound_of e ≡ None
 
 pub record Rows (instances : List Instance) (next_instance : ℕ) (chunks : List Chunk) : Type 0 where
   pub rise : AreRising (map instance_id instances)
@@ -104,8 +103,8 @@ pub record Facts (b : Since) (sent : List Sent) (clients : List Client) (conns :
   pub rows : Rows instances next_instance chunks
   -- an exchange stands in the line of its place
   pub placed : (k : Conn) (e : Exchange) → IsIn k conns → IsIn e exchanges → IsIn e.number k.line → e.place ≡ Some k.number
-  pub brings : (k : Conn) (e : Exchange) (to : Bound) → IsIn k conns → IsIn e exchanges → IsIn e.number k.line → e.bound ≡ Some to → ¬ (b.excepts ≡ Some e.number) → Brings instances k e to
-  pub keyed : (e : Exchange) (to : Bound) (x : Instance) → IsIn e exchanges → e.bound ≡ Some to → IsIn x instances → x.id ≡ to.instance → x.key ≡ key_of e
+  pub brings : (k : Conn) (e : Exchange) (to : Bound) → IsIn k conns → IsIn e exchanges → IsIn e.number k.line → bound_of e ≡ Some to → ¬ (b.excepts ≡ Some e.number) → Brings instances k e to
+  pub keyed : (e : Exchange) (to : Bound) (x : Instance) → IsIn e exchanges → bound_of e ≡ Some to → IsIn x instances → x.id ≡ to.instance → x.key ≡ key_of e
   pub callers : Callers clients top instances next_instance
   pub held : b.counts_loads ≡ true → (x : Instance) → IsIn x instances → HeldOf sent x.key x.version x.id chunks
 

@@ -1,20 +1,25 @@
 -- The steps of a turn keep what is sound.
-use Rattle.std.proofs.Common.{refl, ℕ, nat_le, max, Bool, true, false, not, ◌==◌, ◌&&◌, List, [], ◌∷◌, map, inl, inr}
+use Rattle.std.proofs.Common.{◌≡◌, refl, ℕ, nat_le, max, Bool, true, false, not, ◌==◌, ◌&&◌, List, [], ◌∷◌, map, Option, Some, None, sym, ap, ◌∙◌}
 use Rattle.pp_world.specs.declared.event.Wants.{Wants}
+use Rattle.pp_law.specs.Connections.{conn, is_conn, front_of_line}
 use Rattle.pp_law.specs.Offers.{has_to_say}
-use Rattle.pp_law.specs.State.{State, Client, Conn}
-use Rattle.pp_law.specs.Turn.{step, is_in_4, is_in_7, behind_2, to_3, to_4, to_6, to_7, to_decide, waits_for_exchange, marked_client, marked_conn, touch, first_marks, is_idle_conn, close_idle, woken_client, renew_marks, tick_to, tick, ending, rested_client, rested_conn, rested_instance, rest_with}
+use Rattle.pp_law.specs.Stages.{bound_in, bound_of, is_pending}
+use Rattle.pp_law.specs.State.{State, Body, Bound, Pending, Joining, Relaying, Dropping, Client, Conn, Exchange}
+use Rattle.pp_law.specs.Turn.{step, is_in_4, is_in_7, behind_2, to_3, to_4, to_6, to_7, to_decide, waits_for_exchange, marked_client, marked_conn, touch, first_marks, is_idle_conn, owes_answer, end_patience, close_idle_conn, close_idle, woken_client, renew_marks, tick_to, tick, ending, rested_client, rested_conn, rested_instance, rest_with}
+use Rattle.pp_law.specs.Unseen.{furthest_at, wanted_to, rested_exchange, is_unseen, drop_on, drop_each, drop_unseen}
 use Rattle.pp_laws.specs.Runs.{IsIn}
 use Rattle.pp_laws.proofs.Callers.{same_parts}
-use Rattle.pp_laws.proofs.Cases.{when}
+use Rattle.pp_laws.proofs.Cases.{each_of, each_so, when}
 use Rattle.pp_laws.proofs.Clients.{begin_replies-sound, fill-sound, give_up_asks-sound}
 use Rattle.pp_laws.proofs.Closings.{IsOwnLine, close_conn-sound, own_line, own_line_shrunk}
-use Rattle.pp_laws.proofs.Exchanges.{on_client-sound, on_conn-sound}
+use Rattle.pp_laws.proofs.Exchanges.{end_exchange-sound, fail-sound, on_client-sound, on_conn-sound}
 use Rattle.pp_laws.proofs.KeptClients.{SameClient, client_same, clients_mapped}
 use Rattle.pp_laws.proofs.KeptConns.{conns_mapped}
+use Rattle.pp_laws.proofs.KeptExchanges.{Rewanted, exchanges_rewanted}
 use Rattle.pp_laws.proofs.KeptRows.{instances_mapped}
+use Rattle.pp_laws.proofs.Lists.{in_find}
 use Rattle.pp_laws.proofs.Places.{placing-sound}
-use Rattle.pp_laws.proofs.Shrinks.{close_conn-shrinks, shrinks_same, shrinks_when}
+use Rattle.pp_laws.proofs.Shrinks.{Shrinks, end_exchange-shrinks, fail-shrinks, shrinks_each, shrinks_same, shrinks_when}
 use Rattle.pp_laws.proofs.Sound.{Since, Sound, facts_of, sound}
 
 pub behind_2-sound : {b : Since} (s : State) → Sound b s → Sound b (behind_2 s)
@@ -29,9 +34,24 @@ pub to_4-sound : {b : Since} (s : State) → Sound b s → Sound b (to_4 s)
 unfolding to_4
 to_4-sound s h = sound (facts_of (behind_2-sound s h))
 
+drop_on-sound : {b : Since} (k : Conn) (s : State) → IsOwnLine k s → Sound b s → Sound b (drop_on k s)
+unfolding drop_on
+drop_on-sound k s own h =
+    each_of (front_of_line s k) h
+    (λ e. when (is_unseen s k e) (close_conn-sound false k _ (own_line_shrunk k s _ (end_exchange-shrinks e.number s) own) (end_exchange-sound e.number s h)) h)
+
+drop_each-sound : {b : Since} (ns : List ℕ) (s : State) → Sound b s → Sound b (drop_each ns s)
+unfolding drop_each
+drop_each-sound [] s h = h
+drop_each-sound (n ∷ ns) s h = drop_each-sound ns _ (each_so (conn s n) (λ none. h) (λ k found. drop_on-sound k s (own_line k s (in_find (is_conn n) k s.conns found).0 h) h))
+
+drop_unseen-sound : {b : Since} (s : State) → Sound b s → Sound b (drop_unseen s)
+unfolding drop_unseen
+drop_unseen-sound s h = drop_each-sound (map (λ (k : Conn). k.number) s.conns) s h
+
 pub to_6-sound : {b : Since} (s : State) → Sound b s → Sound b (to_6 s)
 unfolding to_6
-to_6-sound s h = when ((step s == 6) && not s.is_again) h (fill-sound _ (sound (facts_of (behind_2-sound s h))))
+to_6-sound s h = when ((step s == 6) && not s.is_again) h (fill-sound _ (drop_unseen-sound _ (sound (facts_of (behind_2-sound s h)))))
 
 pub to_7-sound : {b : Since} (s : State) → Sound b s → Sound b (to_7 s)
 unfolding to_7
@@ -50,13 +70,22 @@ unfolding first_marks
 first_marks-sound {b} now s h = when s.has_ticked h (sound (clients_mapped b (record s { conns = map (marked_conn now) s.conns }) (marked_client now) (λ c. same_parts _ c refl refl refl)
     (conns_mapped b s (marked_conn now) (λ k. record { number = refl; line = refl; answer = refl }) (facts_of h))))
 
-pub close_idle-sound : {b : Since} (ks : List Conn) (s : State) → ((k : Conn) → IsIn k ks → IsOwnLine k s) → Sound b s → Sound b (close_idle ks s)
+patience_ended : {b : Since} (k : Conn) (s : State) → Sound b s → Sound b (end_patience k s)
+unfolding end_patience
+patience_ended k s h = when (owes_answer s k) (each_of (front_of_line s k) h (λ e. fail-sound e s h)) h
+
+end_patience-shrinks : (k : Conn) (s : State) → Shrinks s (end_patience k s)
+unfolding end_patience
+end_patience-shrinks k s = shrinks_when s (owes_answer s k) (shrinks_each s (front_of_line s k) (shrinks_same s) (λ e. fail-shrinks e s)) (shrinks_same s)
+
+close_idle_conn-sound : {b : Since} (k : Conn) (s : State) → IsOwnLine k s → Sound b s → Sound b (close_idle_conn k s)
+unfolding close_idle_conn
+close_idle_conn-sound k s own h = when (is_idle_conn s k) (close_conn-sound true k _ (own_line_shrunk k s _ (end_patience-shrinks k s) own) (patience_ended k s h)) h
+
+pub close_idle-sound : {b : Since} (ns : List ℕ) (s : State) → Sound b s → Sound b (close_idle ns s)
 unfolding close_idle
-close_idle-sound [] s own h = h
-close_idle-sound (k ∷ ks) s own h =
-    close_idle-sound ks _
-    (λ j i. own_line_shrunk j s _ (shrinks_when s (is_idle_conn s.clock k) (close_conn-shrinks true k s) (shrinks_same s)) (own j (inr i)))
-    (when (is_idle_conn s.clock k) (close_conn-sound true k s (own k (inl refl)) h) h)
+close_idle-sound [] s h = h
+close_idle-sound (n ∷ ns) s h = close_idle-sound ns _ (each_so (conn s n) (λ none. h) (λ k found. close_idle_conn-sound k s (own_line k s (in_find (is_conn n) k s.conns found).0 h) h))
 
 woken-by : (now : ℕ) (c : Client) (woken : Bool) → SameClient (elim woken as (λ x. Client) [ true ↦ marked_client now c | false ↦ c ]) c
 woken-by now c true = same_parts _ c refl refl refl
@@ -68,7 +97,7 @@ renew_marks-sound {b} now s h = sound (clients_mapped b s (woken_client now s) (
 
 pub tick_to-sound : {b : Since} (now : ℕ) (s : State) → Sound b s → Sound b (tick_to now s)
 unfolding tick_to
-tick_to-sound {b} now s h = close_idle-sound _ _ (λ k i. own_line k _ i marked) marked
+tick_to-sound {b} now s h = close_idle-sound _ _ marked
   where
     marked : Sound b (record (renew_marks now (first_marks now s)) { clock = now; is_ticked = true })
     marked = sound (facts_of (renew_marks-sound now _ (first_marks-sound now s h)))
@@ -81,8 +110,43 @@ pub ending-sound : {b : Since} (s : State) → Sound b s → Sound b (ending s)
 unfolding ending
 ending-sound s h = begin_replies-sound _ (to_7-sound s h)
 
+-- how far its body was wanted is noted
+wanted_same : (s : State) (b : Bound) (at : Option ℕ) (to : Bound) → (elim at as (λ c. Bound) [ None ↦ b | Some n ↦ record b { wanted = n } ]) ≡ to → (to.instance ≡ b.instance) × (to.next ≡ b.next)
+wanted_same s b None to is = (sym (ap (λ (o : Bound). o.instance) is), sym (ap (λ (o : Bound). o.next) is))
+wanted_same s b (Some n) to is = (sym (ap (λ (o : Bound). o.instance) is), sym (ap (λ (o : Bound). o.next) is))
+
+bound_headed : (body : Body) (b : Bound) → bound_in body ≡ Some b → not (is_pending body) ≡ true
+bound_headed Pending b is = absurd (cc is)
+bound_headed (Joining c) b is = refl
+bound_headed Relaying b is = absurd (cc is)
+bound_headed Dropping b is = absurd (cc is)
+
+rested_exchange-rewanted : (s : State) (e : Exchange) → Rewanted (rested_exchange s e) e
+rested_exchange-rewanted s e = by (bound_of e) refl
+  where
+    by : (bound : Option Bound) → bound_of e ≡ bound → Rewanted (elim bound as (λ c. Exchange) [ None ↦ e | Some b ↦ record e { body = Joining (wanted_to s b) } ]) e
+    by None none = record {
+      number = refl;
+      key = refl;
+      aim = refl;
+      place = refl;
+      headed = refl;
+      bound = λ to is. record { was = to; there = is; instance = refl; next = refl };
+      unbound = λ is. is;
+    }
+    by (Some b) some = record {
+      number = refl;
+      key = refl;
+      aim = refl;
+      place = refl;
+      headed = sym (bound_headed e.body b some);
+      bound = λ to is. let w = wanted_same s b (furthest_at s b) to (cc is) in record { was = b; there = some; instance = w.0; next = w.1 };
+      unbound = λ none. let both : None ≡ Some b = sym none ∙ some in absurd (cc both);
+    }
+
 pub rest_with-sound : {b : Since} (w : Wants) (s : State) → Sound b s → Sound b (rest_with w s)
 unfolding rest_with
-rest_with-sound {b} w s h = sound (clients_mapped b (record s { conns = map (rested_conn s w) s.conns; instances = map rested_instance s.instances }) (rested_client s) (λ c. same_parts _ c refl refl refl)
-    (instances_mapped b (record s { conns = map (rested_conn s w) s.conns }) rested_instance (λ x. record { id = refl; key = refl; version = refl })
-    (conns_mapped b s (rested_conn s w) (λ k. record { number = refl; line = refl; answer = refl }) (facts_of h))))
+rest_with-sound {b} w s h = sound (clients_mapped b (record s { conns = map (rested_conn s w) s.conns; exchanges = map (rested_exchange s) s.exchanges; instances = map rested_instance s.instances }) (rested_client s) (λ c. same_parts _ c refl refl refl)
+    (instances_mapped b (record s { conns = map (rested_conn s w) s.conns; exchanges = map (rested_exchange s) s.exchanges }) rested_instance (λ x. record { id = refl; key = refl; version = refl })
+    (exchanges_rewanted b (record s { conns = map (rested_conn s w) s.conns }) (rested_exchange s) (rested_exchange-rewanted s)
+    (conns_mapped b s (rested_conn s w) (λ k. record { number = refl; line = refl; answer = refl }) (facts_of h)))))

@@ -1,14 +1,18 @@
 -- Placing and the asks of followers leave the greatest number of a connection as it is.
-use Rattle.std.proofs.Common.{◌≡◌, refl, ℕ, List, [], ◌∷◌, Option, Some, None, ◌∙◌, arith}
+use Rattle.std.proofs.Common.{◌≡◌, refl, ℕ, Bool, true, false, not, ◌==◌, ◌&&◌, List, [], ◌∷◌, Option, Some, None, ◌∙◌, arith}
+use Rattle.pp_target.specs.Key.{text_of}
 use Rattle.pp_peers.specs.declared.placing.Placed.TheVariants.{On, Dial, CloseThenDial, Wait}
 use Rattle.pp_peers.specs.declared.placing.Placed.{Placed}
-use Rattle.pp_law.specs.Connections.{on_conn, on_exchange, on_client, place_for, put_on, place_all, placing, WaitsDial, WaitsDrop, Placement}
+use Rattle.pp_law.specs.Connections.{conn, exchange, on_conn, on_exchange, on_client, on_client_of, front_of_line, is_unfilled, give_up_row, charge, lose_attempt, may_ask_again, end_exchange, leave_place, lose_place, lose_places, close_conn, place_for, put_on, place_all, placing, WaitsDial, WaitsDrop, Placement}
 use Rattle.pp_law.specs.Closing.{forsake}
 use Rattle.pp_law.specs.Deciding.{add_exchange, begin_exchange}
 use Rattle.pp_law.specs.Followers.{fill_with, fill_span, fill_next, fill_for, fill_each, fill, give_up_asks}
-use Rattle.pp_law.specs.State.{State, Client, Exchange}
-use Rattle.pp_law.specs.Table.{Next}
-use Rattle.pp_law.specs.Turn.{behind_2, to_6}
+use Rattle.pp_law.specs.Lists.{Bytes}
+use Rattle.pp_law.specs.Stages.{is_headed}
+use Rattle.pp_law.specs.State.{State, Client, Conn, Exchange, Instance}
+use Rattle.pp_law.specs.Table.{Next, forget, forget_each, swept, clear}
+use Rattle.pp_law.specs.Turn.{step, behind_2, to_6}
+use Rattle.pp_law.specs.Unseen.{is_unseen, drop_on, drop_each, drop_unseen}
 
 put_on-top : (n k : ℕ) (s : State) → (put_on n k s).top ≡ s.top
 unfolding put_on on_conn on_exchange
@@ -66,6 +70,65 @@ behind_2-top : (s : State) → (behind_2 s).top ≡ s.top
 unfolding behind_2 give_up_asks
 behind_2-top s = grind arith
 
+top_when : (n : ℕ) (t : Bool) (x y : State) → x.top ≡ n → y.top ≡ n → (elim t as (λ c. State) [ true ↦ x | false ↦ y ]).top ≡ n
+top_when n true x y hx hy = hx
+top_when n false x y hx hy = hy
+
+top_each : {A : Type 0} (n : ℕ) (o : Option A) (x : State) (y : A → State) → x.top ≡ n → ((a : A) → (y a).top ≡ n) → (elim o as (λ c. State) [ None ↦ x | Some a ↦ y a ]).top ≡ n
+top_each n None x y hx hy = hx
+top_each n (Some a) x y hx hy = hy a
+
+forget_each-top : (xs : List Instance) (s : State) → (forget_each xs s).top ≡ s.top
+unfolding forget_each forget
+forget_each-top [] s = refl
+forget_each-top (x ∷ xs) s = forget_each-top xs (forget x.id s)
+
+clear-top : (key : Bytes) (s : State) → (clear key s).top ≡ s.top
+unfolding clear swept
+clear-top key s = forget_each-top _ _
+
+give_up_row-top : (e : Exchange) (s : State) → (give_up_row e s).top ≡ s.top
+unfolding give_up_row on_exchange on_client_of
+give_up_row-top e s = top_when s.top (is_unfilled s e) _ _ (clear-top (text_of e.key) s) refl
+
+lose_attempt-top : (e : Exchange) (s : State) → (lose_attempt e s).top ≡ s.top
+unfolding lose_attempt charge on_client_of
+lose_attempt-top e s = give_up_row-top e _
+
+end_exchange-top : (n : ℕ) (s : State) → (end_exchange n s).top ≡ s.top
+unfolding end_exchange
+end_exchange-top n s = refl
+
+leave_place-top : (e : Exchange) (s : State) → (leave_place e s).top ≡ s.top
+unfolding leave_place end_exchange on_client_of on_exchange
+leave_place-top e s = top_when s.top (is_headed e) _ _ refl (top_when s.top (may_ask_again s e.number) _ _ refl refl)
+
+lose_place-top : (counts : Bool) (e : Exchange) (s : State) → (lose_place counts e s).top ≡ s.top
+unfolding lose_place
+lose_place-top counts e s = top_when s.top counts _ _ (leave_place-top e (lose_attempt e s) ∙ lose_attempt-top e s) (leave_place-top e s)
+
+lose_places-top : (counts : Bool) (line : List ℕ) (s : State) → (lose_places counts line s).top ≡ s.top
+unfolding lose_places
+lose_places-top counts [] s = refl
+lose_places-top counts (n ∷ line) s = lose_places-top counts line _ ∙ top_each s.top (exchange s n) _ _ refl (λ e. lose_place-top counts e s)
+
+close_conn-top : (counts : Bool) (k : Conn) (s : State) → (close_conn counts k s).top ≡ s.top
+unfolding close_conn on_conn
+close_conn-top counts k s = lose_places-top _ k.line _
+
+drop_on-top : (k : Conn) (s : State) → (drop_on k s).top ≡ s.top
+unfolding drop_on
+drop_on-top k s = top_each s.top (front_of_line s k) _ _ refl (λ e. top_when s.top (is_unseen s k e) _ _ (close_conn-top false k (end_exchange e.number s) ∙ end_exchange-top e.number s) refl)
+
+drop_each-top : (ns : List ℕ) (s : State) → (drop_each ns s).top ≡ s.top
+unfolding drop_each
+drop_each-top [] s = refl
+drop_each-top (n ∷ ns) s = drop_each-top ns _ ∙ top_each s.top (conn s n) _ _ refl (λ k. drop_on-top k s)
+
+drop_unseen-top : (s : State) → (drop_unseen s).top ≡ s.top
+unfolding drop_unseen
+drop_unseen-top s = drop_each-top _ s
+
 pub to_6-top : (s : State) → (to_6 s).top ≡ s.top
 unfolding to_6
-to_6-top s = grind (arith, fill-top, behind_2-top)
+to_6-top s = top_when s.top ((step s == 6) && not s.is_again) _ _ refl (fill-top _ ∙ drop_unseen-top _ ∙ behind_2-top s)

@@ -1,15 +1,17 @@
 -- What is done to rows and clients leaves connections and exchanges as they are.
-use Rattle.std.proofs.Common.{◌≡◌, refl, ℕ, Bool, true, false, List, [], ◌∷◌, filter, Option, Some, None, ◌∙◌}
+use Rattle.std.proofs.Common.{◌≡◌, refl, ℕ, Bool, true, false, ◌&&◌, List, [], ◌∷◌, filter, Option, Some, None, ◌∙◌}
 use Rattle.std.specs.Prelude.{nat_lt}
 use Rattle.pp_fresh.specs.declared.aging.Times.{Times}
 use Rattle.pp_head.specs.Response.{Response}
+use Rattle.pp_target.specs.Key.{Key, text_of}
 use Rattle.pp_text.specs.Fields.{Field}
 use Rattle.pp_valid.specs.declared.version.Version.{Version}
-use Rattle.pp_law.specs.Connections.{attempts_of, lost_one, on_client_of, lose_attempt}
-use Rattle.pp_law.specs.Lists.{Bytes, change}
-use Rattle.pp_law.specs.OwnHeads.{key_of, times_for, renewed, renew, renew_row, refresh, clears_row, cleared_by, invalidates, invalidated}
+use Rattle.pp_law.specs.Connections.{on_client_of}
+use Rattle.pp_law.specs.Lists.{Bytes, change, is_some_with}
+use Rattle.pp_law.specs.OwnHeads.{key_of, times_for, renewed, renew, renew_row, refresh, known_version, clears_row, cleared_by}
 use Rattle.pp_law.specs.State.{State, Aim, Through, Own, Filling, Client, Exchange, Instance}
 use Rattle.pp_law.specs.Table.{is_row_of, is_left_over, is_entry_of, row, rows, kept_row, idle_row, on_instance, forget, forget_each, swept, clear, mark_row, forget_row, with_room, add_row, make_row, enter}
+use Rattle.pp_law.specs.ThroughHeads.{invalidates, key_named, is_same_host, clear_named, clear_each, places_named, invalidated, disproves, reads, disproved}
 
 -- ---- what leaves connections and exchanges as they are
 
@@ -41,10 +43,6 @@ pub on_client_of-untouched : (e : Exchange) (f : Client → Client) (s : State) 
 unfolding on_client_of
 on_client_of-untouched e f s = record { conns = refl; exchanges = refl }
 
-pub lose_attempt-untouched : (e : Exchange) (s : State) → Untouched s (lose_attempt e s)
-unfolding lose_attempt
-lose_attempt-untouched e s = on_client_of-untouched e (λ c. record c { course = lost_one (attempts_of e) c.course }) s
-
 on_instance-untouched : (id : ℕ) (f : Instance → Instance) (s : State) → Untouched s (on_instance id f s)
 unfolding on_instance
 on_instance-untouched id f s = record { conns = refl; exchanges = refl }
@@ -62,7 +60,7 @@ swept-untouched : (s : State) → Untouched s (swept s)
 unfolding swept
 swept-untouched s = forget_each-untouched (filter (is_left_over s) s.instances) s
 
-clear-untouched : (key : Bytes) (s : State) → Untouched s (clear key s)
+pub clear-untouched : (key : Bytes) (s : State) → Untouched s (clear key s)
 unfolding clear
 clear-untouched key s = let u = swept-untouched (record s { instances = change (is_row_of key) (λ x. record x { is_retired = true }) s.instances; entries = change (is_entry_of key) (λ e. record e { is_stale = true }) s.entries }) in
     record { conns = u.conns; exchanges = u.exchanges }
@@ -108,6 +106,20 @@ pub cleared_by-untouched : (head : Response) (e : Exchange) (s : State) → Unto
 unfolding cleared_by
 cleared_by-untouched head e s = untouched_when s (clears_row head) (clear-untouched (key_of e) s) (untouched s)
 
+clear_named-untouched : (key : Key) (text : Bytes) (s : State) → Untouched s (clear_named key text s)
+unfolding clear_named
+clear_named-untouched key text s = untouched_each s (key_named key text) (untouched s) (λ named. untouched_when s (is_same_host named key) (clear-untouched (text_of named) s) (untouched s))
+
+clear_each-untouched : (key : Key) (texts : List Bytes) (s : State) → Untouched s (clear_each key texts s)
+unfolding clear_each
+clear_each-untouched key [] s = untouched s
+clear_each-untouched key (text ∷ texts) s = untouched_on s _ _ (clear_named-untouched key text s) (clear_each-untouched key texts _)
+
 pub invalidated-untouched : (e : Exchange) (head : Response) (s : State) → Untouched s (invalidated e head s)
 unfolding invalidated
-invalidated-untouched e head s = untouched_when s (invalidates e head) (clear-untouched (key_of e) s) (untouched s)
+invalidated-untouched e head s =
+    untouched_when s (invalidates e head) (untouched_on s _ _ (clear-untouched (key_of e) s) (clear_each-untouched e.key (places_named head) _)) (untouched s)
+
+pub disproved-untouched : (e : Exchange) (head : Response) (s : State) → Untouched s (disproved e head s)
+unfolding disproved
+disproved-untouched e head s = untouched_when s (reads e && is_some_with (disproves head) (known_version s (key_of e))) (clear-untouched (key_of e) s) (untouched s)

@@ -2,6 +2,7 @@
 use Rattle.std.specs.Prelude.{◌≡◌, ℕ, ◌<◌, ◌≤◌, List, [], ◌∷◌, map, Some}
 use Rattle.pp_world.specs.Log.{Log}
 use Rattle.pp_law.specs.Lawful.{Lawful}
+use Rattle.pp_law.specs.Stages.{bound_of}
 use Rattle.pp_law.specs.State.{State, Term, Client, Conn, Exchange, Instance, Chunk, Bound}
 use Rattle.pp_laws.specs.Runs.{state_after, IsIn}
 
@@ -27,7 +28,7 @@ pub record HasOwnNumbers (s : State) : Type 0 where
   pub instances_rise : AreRising (map (λ x. x.id) s.instances)
   pub instances_given : (x : Instance) → IsIn x s.instances → x.id < s.next_instance
   pub chunks_given : (c : Chunk) → IsIn c s.chunks → c.instance < s.next_instance
-  pub bounds_given : (e : Exchange) (b : Bound) → IsIn e s.exchanges → e.bound ≡ Some b → b.instance < s.next_instance
+  pub bounds_given : (e : Exchange) (b : Bound) → IsIn e s.exchanges → bound_of e ≡ Some b → b.instance < s.next_instance
 
 abbrev pub NumbersAreDistinct : Type 0
 NumbersAreDistinct = (terms : List Term) (log : Log) → Lawful terms log → HasOwnNumbers (state_after terms log)
