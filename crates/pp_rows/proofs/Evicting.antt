@@ -108,7 +108,7 @@ abbrev row126marked : State
 unfolding row126x0
 row126marked = record (row126x0.0) { settings = record (row126x0.0).settings { low = 12; high = 12 } }
 
-row126 : fault_from 5 row126marked (Clock 784111777 ∷ wait true [] [] ∷ Opened 1 ∷ wait true (1 ∷ []) [] ∷ CanRead 1 ∷ Heard 1 text3 ∷ Noted (Taken 1 0 Fetch) ∷ Dialled 2 (codes "h") 80 ∷ wait true [] [] ∷ Reached 2 ∷ wait true (2 ∷ []) (2 ∷ []) ∷ CanWrite 2 ∷ Asked 2 text4 ∷ wait true (2 ∷ []) [] ∷ CanRead 2 ∷ Got 2 text5 ∷ Noted (Taken 1 0 (Part 0 2000000)) ∷ wait true (2 ∷ []) [] ∷ CanRead 2 ∷ Got 2 text6 ∷ wait true (2 ∷ []) (1 ∷ []) ∷ CanRead 2 ∷ Got 2 text6 ∷ wait true (2 ∷ []) (1 ∷ []) ∷ Opened 3 ∷ wait true (2 ∷ 3 ∷ []) (1 ∷ []) ∷ CanRead 3 ∷ Heard 3 text7 ∷ Noted (Taken 3 0 Fetch) ∷ Dialled 4 (codes "i") 80 ∷ wait true (2 ∷ []) (1 ∷ []) ∷ Reached 4 ∷ wait true (2 ∷ 4 ∷ []) (1 ∷ 4 ∷ []) ∷ CanWrite 4 ∷ Asked 4 text8 ∷ wait true (2 ∷ 4 ∷ []) (1 ∷ []) ∷ CanRead 4 ∷ Got 4 text5 ∷ Noted (Taken 3 0 (Part 0 2000000)) ∷ wait true (2 ∷ 4 ∷ []) (1 ∷ []) ∷ CanRead 4 ∷ Got 4 text6 ∷ wait true (2 ∷ 4 ∷ []) (1 ∷ 3 ∷ []) ∷ CanRead 4 ∷ Got 4 text6 ∷ wait true (2 ∷ 4 ∷ []) (1 ∷ 3 ∷ []) ∷ Opened 5 ∷ wait true (2 ∷ 4 ∷ 5 ∷ []) (1 ∷ 3 ∷ []) ∷ CanRead 5 ∷ Heard 5 text9 ∷ Noted (Taken 5 0 Fetch) ∷ Dialled 6 (codes "j") 80 ∷ wait true (2 ∷ 4 ∷ []) (1 ∷ 3 ∷ []) ∷ Reached 6 ∷ wait true (2 ∷ 4 ∷ 6 ∷ []) (1 ∷ 3 ∷ 6 ∷ []) ∷ CanWrite 6 ∷ Asked 6 text10 ∷ wait true (2 ∷ 4 ∷ 6 ∷ []) (1 ∷ 3 ∷ []) ∷ CanRead 6 ∷ Got 6 text5 ∷ Noted (Taken 5 0 (Part 0 2000000)) ∷ wait true (2 ∷ 4 ∷ 6 ∷ []) (1 ∷ 3 ∷ []) ∷ CanRead 6 ∷ Got 6 text6 ∷ wait true (2 ∷ 4 ∷ 6 ∷ []) (1 ∷ 3 ∷ 5 ∷ []) ∷ CanRead 6 ∷ Got 6 text6 ∷ wait true (2 ∷ 4 ∷ 6 ∷ []) (1 ∷ 3 ∷ 5 ∷ []) ∷ CanWrite 1 ∷ Said 1 133 text11 ∷ wait true (2 ∷ 4 ∷ 6 ∷ []) (1 ∷ 3 ∷ 5 ∷ []) ∷ CanWrite 1 ∷ Said 1 4096 [] ∷ wait true (1 ∷ 2 ∷ 4 ∷ 6 ∷ []) (1 ∷ 3 ∷ 5 ∷ []) ∷ CanRead 1 ∷ HungUp 1 ∷ Shut 1 ∷ wait true (2 ∷ 4 ∷ 6 ∷ []) (3 ∷ 5 ∷ []) ∷ CanRead 6 ∷ Got 6 text6 ∷ Noted (Evicted (codes "http://h/a") (codes "\"x\"") 2000000 0) ∷ Noted (Evicted (codes "http://h/a") (codes "\"x\"") 2000000 1) ∷ wait true (2 ∷ 4 ∷ 6 ∷ []) (3 ∷ 5 ∷ []) ∷ []) ≡ None
+row126 : fault_from 5 row126marked (Clock 784111777 ∷ wait true [] [] ∷ Opened 1 ∷ wait true (1 ∷ []) [] ∷ CanRead 1 ∷ Heard 1 text3 ∷ Noted (Taken 1 0 Fetch) ∷ Dialled 2 (codes "h") 80 ∷ wait true [] [] ∷ Reached 2 ∷ wait true (2 ∷ []) (2 ∷ []) ∷ CanWrite 2 ∷ Asked 2 text4 ∷ wait true (2 ∷ []) [] ∷ CanRead 2 ∷ Got 2 text5 ∷ Noted (Taken 1 0 (Part 0 2000000)) ∷ wait true (2 ∷ []) [] ∷ CanRead 2 ∷ Got 2 text6 ∷ wait true (2 ∷ []) (1 ∷ []) ∷ CanRead 2 ∷ Got 2 text6 ∷ wait true (2 ∷ []) (1 ∷ []) ∷ Opened 3 ∷ wait true (2 ∷ 3 ∷ []) (1 ∷ []) ∷ CanRead 3 ∷ Heard 3 text7 ∷ Noted (Taken 3 0 Fetch) ∷ Dialled 4 (codes "i") 80 ∷ wait true (2 ∷ []) (1 ∷ []) ∷ Reached 4 ∷ wait true (2 ∷ 4 ∷ []) (1 ∷ 4 ∷ []) ∷ CanWrite 4 ∷ Asked 4 text8 ∷ wait true (2 ∷ 4 ∷ []) (1 ∷ []) ∷ CanRead 4 ∷ Got 4 text5 ∷ Noted (Taken 3 0 (Part 0 2000000)) ∷ wait true (2 ∷ 4 ∷ []) (1 ∷ []) ∷ CanRead 4 ∷ Got 4 text6 ∷ wait true (2 ∷ 4 ∷ []) (1 ∷ 3 ∷ []) ∷ CanRead 4 ∷ Got 4 text6 ∷ wait true (2 ∷ 4 ∷ []) (1 ∷ 3 ∷ []) ∷ Opened 5 ∷ wait true (2 ∷ 4 ∷ 5 ∷ []) (1 ∷ 3 ∷ []) ∷ CanRead 5 ∷ Heard 5 text9 ∷ Noted (Taken 5 0 Fetch) ∷ Dialled 6 (codes "j") 80 ∷ wait true (2 ∷ 4 ∷ []) (1 ∷ 3 ∷ []) ∷ Reached 6 ∷ wait true (2 ∷ 4 ∷ 6 ∷ []) (1 ∷ 3 ∷ 6 ∷ []) ∷ CanWrite 6 ∷ Asked 6 text10 ∷ wait true (2 ∷ 4 ∷ 6 ∷ []) (1 ∷ 3 ∷ []) ∷ CanRead 6 ∷ Got 6 text5 ∷ Noted (Taken 5 0 (Part 0 2000000)) ∷ wait true (2 ∷ 4 ∷ 6 ∷ []) (1 ∷ 3 ∷ []) ∷ CanRead 6 ∷ Got 6 text6 ∷ wait true (2 ∷ 4 ∷ 6 ∷ []) (1 ∷ 3 ∷ 5 ∷ []) ∷ CanRead 6 ∷ Got 6 text6 ∷ wait true (2 ∷ 4 ∷ 6 ∷ []) (1 ∷ 3 ∷ 5 ∷ []) ∷ CanWrite 1 ∷ Said 1 133 text11 ∷ wait true (2 ∷ 4 ∷ 6 ∷ []) (1 ∷ 3 ∷ 5 ∷ []) ∷ CanWrite 1 ∷ Said 1 16384 [] ∷ wait true (1 ∷ 2 ∷ 4 ∷ 6 ∷ []) (1 ∷ 3 ∷ 5 ∷ []) ∷ CanWrite 1 ∷ HungUp 1 ∷ Shut 1 ∷ wait true (2 ∷ 4 ∷ 6 ∷ []) (3 ∷ 5 ∷ []) ∷ CanRead 6 ∷ Got 6 text6 ∷ Noted (Evicted (codes "http://h/a") (codes "\"x\"") 2000000 0) ∷ Noted (Evicted (codes "http://h/a") (codes "\"x\"") 2000000 1) ∷ wait true (2 ∷ 4 ∷ 6 ∷ []) (3 ∷ 5 ∷ []) ∷ []) ≡ None
 unfolding judging row126x0 row126marked
 row126 = refl
 
@@ -120,6 +120,6 @@ abbrev row131marked : State
 unfolding row131x0
 row131marked = record (row131x0.0) { settings = record (row131x0.0).settings { low = 12; high = 12 } }
 
-row131 : fault_from 5 row131marked (Clock 784111777 ∷ wait true [] [] ∷ Opened 1 ∷ wait true (1 ∷ []) [] ∷ CanRead 1 ∷ Heard 1 text3 ∷ Noted (Taken 1 0 Fetch) ∷ Dialled 2 (codes "h") 80 ∷ wait true [] [] ∷ Reached 2 ∷ wait true (2 ∷ []) (2 ∷ []) ∷ CanWrite 2 ∷ Asked 2 text4 ∷ wait true (2 ∷ []) [] ∷ CanRead 2 ∷ Got 2 text5 ∷ Noted (Taken 1 0 (Part 0 2000000)) ∷ wait true (2 ∷ []) [] ∷ CanRead 2 ∷ Got 2 text6 ∷ wait true (2 ∷ []) (1 ∷ []) ∷ CanRead 2 ∷ Got 2 text6 ∷ wait true (2 ∷ []) (1 ∷ []) ∷ Opened 3 ∷ wait true (2 ∷ 3 ∷ []) (1 ∷ []) ∷ CanRead 3 ∷ Heard 3 text7 ∷ Noted (Taken 3 0 Fetch) ∷ Dialled 4 (codes "i") 80 ∷ wait true (2 ∷ []) (1 ∷ []) ∷ Reached 4 ∷ wait true (2 ∷ 4 ∷ []) (1 ∷ 4 ∷ []) ∷ CanWrite 4 ∷ Asked 4 text8 ∷ wait true (2 ∷ 4 ∷ []) (1 ∷ []) ∷ CanRead 4 ∷ Got 4 text5 ∷ Noted (Taken 3 0 (Part 0 2000000)) ∷ wait true (2 ∷ 4 ∷ []) (1 ∷ []) ∷ CanRead 4 ∷ Got 4 text6 ∷ wait true (2 ∷ 4 ∷ []) (1 ∷ 3 ∷ []) ∷ CanRead 4 ∷ Got 4 text6 ∷ wait true (2 ∷ 4 ∷ []) (1 ∷ 3 ∷ []) ∷ Opened 5 ∷ wait true (2 ∷ 4 ∷ 5 ∷ []) (1 ∷ 3 ∷ []) ∷ CanRead 5 ∷ Heard 5 text9 ∷ Noted (Taken 5 0 Fetch) ∷ Dialled 6 (codes "j") 80 ∷ wait true (2 ∷ 4 ∷ []) (1 ∷ 3 ∷ []) ∷ Reached 6 ∷ wait true (2 ∷ 4 ∷ 6 ∷ []) (1 ∷ 3 ∷ 6 ∷ []) ∷ CanWrite 6 ∷ Asked 6 text10 ∷ wait true (2 ∷ 4 ∷ 6 ∷ []) (1 ∷ 3 ∷ []) ∷ CanRead 6 ∷ Got 6 text5 ∷ Noted (Taken 5 0 (Part 0 2000000)) ∷ wait true (2 ∷ 4 ∷ 6 ∷ []) (1 ∷ 3 ∷ []) ∷ CanRead 6 ∷ Got 6 text6 ∷ wait true (2 ∷ 4 ∷ 6 ∷ []) (1 ∷ 3 ∷ 5 ∷ []) ∷ CanRead 6 ∷ Got 6 text6 ∷ wait true (2 ∷ 4 ∷ 6 ∷ []) (1 ∷ 3 ∷ 5 ∷ []) ∷ CanWrite 1 ∷ Said 1 133 text11 ∷ wait true (2 ∷ 4 ∷ 6 ∷ []) (1 ∷ 3 ∷ 5 ∷ []) ∷ CanWrite 1 ∷ Said 1 4096 [] ∷ wait true (1 ∷ 2 ∷ 4 ∷ 6 ∷ []) (1 ∷ 3 ∷ 5 ∷ []) ∷ CanRead 1 ∷ HungUp 1 ∷ Shut 1 ∷ wait true (2 ∷ 4 ∷ 6 ∷ []) (3 ∷ 5 ∷ []) ∷ CanRead 6 ∷ Got 6 text6 ∷ Noted (Evicted (codes "http://h/a") (codes "\"x\"") 2000000 1) ∷ []) ≡ Some (record { at = 85; rule = NotToBeEvicted })
+row131 : fault_from 5 row131marked (Clock 784111777 ∷ wait true [] [] ∷ Opened 1 ∷ wait true (1 ∷ []) [] ∷ CanRead 1 ∷ Heard 1 text3 ∷ Noted (Taken 1 0 Fetch) ∷ Dialled 2 (codes "h") 80 ∷ wait true [] [] ∷ Reached 2 ∷ wait true (2 ∷ []) (2 ∷ []) ∷ CanWrite 2 ∷ Asked 2 text4 ∷ wait true (2 ∷ []) [] ∷ CanRead 2 ∷ Got 2 text5 ∷ Noted (Taken 1 0 (Part 0 2000000)) ∷ wait true (2 ∷ []) [] ∷ CanRead 2 ∷ Got 2 text6 ∷ wait true (2 ∷ []) (1 ∷ []) ∷ CanRead 2 ∷ Got 2 text6 ∷ wait true (2 ∷ []) (1 ∷ []) ∷ Opened 3 ∷ wait true (2 ∷ 3 ∷ []) (1 ∷ []) ∷ CanRead 3 ∷ Heard 3 text7 ∷ Noted (Taken 3 0 Fetch) ∷ Dialled 4 (codes "i") 80 ∷ wait true (2 ∷ []) (1 ∷ []) ∷ Reached 4 ∷ wait true (2 ∷ 4 ∷ []) (1 ∷ 4 ∷ []) ∷ CanWrite 4 ∷ Asked 4 text8 ∷ wait true (2 ∷ 4 ∷ []) (1 ∷ []) ∷ CanRead 4 ∷ Got 4 text5 ∷ Noted (Taken 3 0 (Part 0 2000000)) ∷ wait true (2 ∷ 4 ∷ []) (1 ∷ []) ∷ CanRead 4 ∷ Got 4 text6 ∷ wait true (2 ∷ 4 ∷ []) (1 ∷ 3 ∷ []) ∷ CanRead 4 ∷ Got 4 text6 ∷ wait true (2 ∷ 4 ∷ []) (1 ∷ 3 ∷ []) ∷ Opened 5 ∷ wait true (2 ∷ 4 ∷ 5 ∷ []) (1 ∷ 3 ∷ []) ∷ CanRead 5 ∷ Heard 5 text9 ∷ Noted (Taken 5 0 Fetch) ∷ Dialled 6 (codes "j") 80 ∷ wait true (2 ∷ 4 ∷ []) (1 ∷ 3 ∷ []) ∷ Reached 6 ∷ wait true (2 ∷ 4 ∷ 6 ∷ []) (1 ∷ 3 ∷ 6 ∷ []) ∷ CanWrite 6 ∷ Asked 6 text10 ∷ wait true (2 ∷ 4 ∷ 6 ∷ []) (1 ∷ 3 ∷ []) ∷ CanRead 6 ∷ Got 6 text5 ∷ Noted (Taken 5 0 (Part 0 2000000)) ∷ wait true (2 ∷ 4 ∷ 6 ∷ []) (1 ∷ 3 ∷ []) ∷ CanRead 6 ∷ Got 6 text6 ∷ wait true (2 ∷ 4 ∷ 6 ∷ []) (1 ∷ 3 ∷ 5 ∷ []) ∷ CanRead 6 ∷ Got 6 text6 ∷ wait true (2 ∷ 4 ∷ 6 ∷ []) (1 ∷ 3 ∷ 5 ∷ []) ∷ CanWrite 1 ∷ Said 1 133 text11 ∷ wait true (2 ∷ 4 ∷ 6 ∷ []) (1 ∷ 3 ∷ 5 ∷ []) ∷ CanWrite 1 ∷ Said 1 16384 [] ∷ wait true (1 ∷ 2 ∷ 4 ∷ 6 ∷ []) (1 ∷ 3 ∷ 5 ∷ []) ∷ CanWrite 1 ∷ HungUp 1 ∷ Shut 1 ∷ wait true (2 ∷ 4 ∷ 6 ∷ []) (3 ∷ 5 ∷ []) ∷ CanRead 6 ∷ Got 6 text6 ∷ Noted (Evicted (codes "http://h/a") (codes "\"x\"") 2000000 1) ∷ []) ≡ Some (record { at = 85; rule = NotToBeEvicted })
 unfolding judging row131x0 row131marked
 row131 = refl

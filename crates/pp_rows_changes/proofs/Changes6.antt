@@ -26,204 +26,288 @@ abbrev text2 : Bytes
 text2 = (codes "polipo-cache")
 
 abbrev text3 : Bytes
-text3 = (codes "GET http://h/a HTTP/1.1\r\nHost: h\r\n\r\n")
+text3 = (codes "GET http://h/a HTTP/1.1\r\nHost: h\r\nCache-Control: no-store\r\n\r\n")
 
 abbrev text4 : Bytes
-text4 = (codes "GET /a HTTP/1.1\r\nhost: h\r\nvia: 1.1 polipo\r\n\r\n")
+text4 = (codes "GET /a HTTP/1.1\r\nhost: h\r\ncache-control: no-store\r\nvia: 1.1 polipo\r\n\r\n")
 
 abbrev text5 : Bytes
-text5 = (codes "HTTP/1.1 200 OK\r\nDate: Sun, 06 Nov 1994 08:49:37 GMT\r\nETag: \"x\"\r\nCache-Control: max-age=60\r\nContent-Length: 5\r\n\r\nhello")
+text5 = (codes "HTTP/1.1 200 OK\r\nContent-Length: 10\r\n\r\nhello")
 
 abbrev text6 : Bytes
-text6 = (codes "HTTP/1.1 200 OK\r\netag: \"x\"\r\ndate: Sun, 06 Nov 1994 08:49:37 GMT\r\ncache-control: max-age=60\r\nX-Polipo-Location: http://h/a\r\nX-Polipo-Date: 784111777\r\nX-Polipo-Age: 0\r\nX-Polipo-Length: 5\r\nX-Polipo-Body-Offset: 12288\r\n\r\n" ++ replicate 12071 0)
+text6 = (codes "HTTP/1.1 200 OK\r\nvia: 1.1 polipo\r\ncontent-length: 10\r\nconnection: keep-alive\r\n\r\n")
 
 abbrev text7 : Bytes
-text7 = (codes "2ce7276502725c281e6d5ae4e55aed55")
+text7 = (codes "GET http://h/a HTTP/1.1\r\nHost: h\r\n\r\n")
 
 abbrev text8 : Bytes
-text8 = (codes "HTTP/1.1 200 OK\r\netag: \"x\"\r\ndate: Sun, 06 Nov 1994 08:49:37 GMT\r\ncache-control: max-age=60\r\nvia: 1.1 polipo\r\ncontent-length: 5\r\nconnection: keep-alive\r\n\r\n")
-
-abbrev front0 : Log
-front0 = Woke [] ∷ Rooted text2 ∷ Listed true ∷ Listens 8123 true ∷ wait true [] [] ∷ Clock 784111777 ∷ wait true [] [] ∷ Opened 1 ∷ wait true (1 ∷ []) [] ∷ CanRead 1 ∷ Heard 1 text3 ∷ Noted (Taken 1 0 Fetch) ∷ Dialled 2 (codes "h") 80 ∷ wait true (1 ∷ []) [] ∷ Reached 2 ∷ wait true (1 ∷ 2 ∷ []) (2 ∷ []) ∷ CanWrite 2 ∷ Asked 2 text4 ∷ wait true (1 ∷ 2 ∷ []) [] ∷ CanRead 2 ∷ Got 2 text5 ∷ Began (Draft text6) ∷ Did (Draft text6) true ∷ Began SyncDraft ∷ Did SyncDraft true ∷ Began (Publish text7) ∷ Did (Publish text7) true ∷ Began (Write text7 12288 (codes "hello")) ∷ Did (Write text7 12288 (codes "hello")) true ∷ Began (Sync text7) ∷ Did (Sync text7) true ∷ Began (Write text7 8192 ((1 ∷ []))) ∷ Did (Write text7 8192 ((1 ∷ []))) true ∷ Began (Sync text7) ∷ Did (Sync text7) true ∷ Noted (Kept (codes "http://h/a") (codes "\"x\"") 5 5) ∷ Noted (Taken 1 0 (Hit 0 5)) ∷ wait true (1 ∷ 2 ∷ []) (1 ∷ []) ∷ CanWrite 1 ∷ Said 1 154 text8 ∷ wait true (1 ∷ 2 ∷ []) (1 ∷ []) ∷ CanWrite 1 ∷ Said 1 5 (codes "hello") ∷ wait true (1 ∷ 2 ∷ []) [] ∷ []
+text8 = (codes "GET /a HTTP/1.1\r\nhost: h\r\nvia: 1.1 polipo\r\n\r\n")
 
 abbrev text9 : Bytes
-text9 = (codes "HTTP/1.1 200 OK\r\netag: \"x\"\r\ndate: Sun, 06 Nov 1994 08:49:37 GMT\r\ncache-control: max-age=60\r\nX-Polipo-Location: http://h/a\r\nX-Polipo-Date: 784111777\r\nX-Polipo-Age: 0\r\nX-Polipo-Length: 5\r\nX-Polipo-Body-Offset: 12288\r\n\r\n" ++ replicate 7975 0 ++ (1 ∷ []) ++ replicate 4095 0 ++ codes "hello")
+text9 = (codes "HTTP/1.1 200 OK\r\nDate: Sun, 06 Nov 1994 08:49:37 GMT\r\nETag: \"x\"\r\nCache-Control: max-age=60\r\nContent-Length: 5\r\n\r\nhello")
 
 abbrev text10 : Bytes
-text10 = (codes "HTTP/1.1 200 OK\r\netag: \"x\"\r\ndate: Sun, 06 Nov 1994 08:49:37 GMT\r\ncache-control: max-age=60\r\nage: 10\r\nvia: 1.1 polipo\r\ncontent-length: 5\r\nconnection: keep-alive\r\n\r\n")
+text10 = (codes "HTTP/1.1 200 OK\r\netag: \"x\"\r\ndate: Sun, 06 Nov 1994 08:49:37 GMT\r\ncache-control: max-age=60\r\nX-Polipo-Location: http://h/a\r\nX-Polipo-Date: 784111777\r\nX-Polipo-Age: 0\r\nX-Polipo-Length: 5\r\nX-Polipo-Body-Offset: 12288\r\n\r\n" ++ replicate 12071 0)
 
-row43deleted16 : is_some (fault_from 0 (start (record { words = (codes "diskRun=1") ∷ text0 ∷ text1 ∷ []; faults = 0 } ∷ record { words = (codes "diskRun=1") ∷ text0 ∷ text1 ∷ []; faults = 0 } ∷ [])) (front0 ++ Woke ((text7, text9) ∷ []) ∷ Rooted text2 ∷ Listed true ∷ Listens 8123 true ∷ wait true [] [] ∷ Clock 784111787 ∷ wait true [] [] ∷ Opened 3 ∷ wait true (3 ∷ []) [] ∷ CanRead 3 ∷ Heard 3 text3 ∷ Noted (Taken 3 0 (Hit 0 5)) ∷ wait true (3 ∷ []) (3 ∷ []) ∷ CanWrite 3 ∷ Said 3 163 text10 ∷ wait true (3 ∷ []) (3 ∷ []) ∷ Noted (Loaded (codes "http://h/a") (codes "\"x\"") 5 0) ∷ Said 3 5 (codes "hello") ∷ wait true (3 ∷ []) [] ∷ [])) ≡ true
-unfolding judging
-row43deleted16 = refl
+abbrev text11 : Bytes
+text11 = (codes "2ce7276502725c281e6d5ae4e55aed55")
 
-row43deleted17 : is_some (fault_from 0 (start (record { words = (codes "diskRun=1") ∷ text0 ∷ text1 ∷ []; faults = 0 } ∷ record { words = (codes "diskRun=1") ∷ text0 ∷ text1 ∷ []; faults = 0 } ∷ [])) (front0 ++ Woke ((text7, text9) ∷ []) ∷ Rooted text2 ∷ Listed true ∷ Listens 8123 true ∷ wait true [] [] ∷ Clock 784111787 ∷ wait true [] [] ∷ Opened 3 ∷ wait true (3 ∷ []) [] ∷ CanRead 3 ∷ Heard 3 text3 ∷ Noted (Taken 3 0 (Hit 0 5)) ∷ wait true (3 ∷ []) (3 ∷ []) ∷ CanWrite 3 ∷ Said 3 163 text10 ∷ wait true (3 ∷ []) (3 ∷ []) ∷ CanWrite 3 ∷ Said 3 5 (codes "hello") ∷ wait true (3 ∷ []) [] ∷ [])) ≡ true
-unfolding judging
-row43deleted17 = refl
+abbrev text12 : Bytes
+text12 = (codes "HTTP/1.1 200 OK\r\netag: \"x\"\r\ndate: Sun, 06 Nov 1994 08:49:37 GMT\r\ncache-control: max-age=60\r\nvia: 1.1 polipo\r\ncontent-length: 5\r\nconnection: keep-alive\r\n\r\n")
 
-row43deleted18 : is_some (fault_from 0 (start (record { words = (codes "diskRun=1") ∷ text0 ∷ text1 ∷ []; faults = 0 } ∷ record { words = (codes "diskRun=1") ∷ text0 ∷ text1 ∷ []; faults = 0 } ∷ [])) (front0 ++ Woke ((text7, text9) ∷ []) ∷ Rooted text2 ∷ Listed true ∷ Listens 8123 true ∷ wait true [] [] ∷ Clock 784111787 ∷ wait true [] [] ∷ Opened 3 ∷ wait true (3 ∷ []) [] ∷ CanRead 3 ∷ Heard 3 text3 ∷ Noted (Taken 3 0 (Hit 0 5)) ∷ wait true (3 ∷ []) (3 ∷ []) ∷ CanWrite 3 ∷ Said 3 163 text10 ∷ wait true (3 ∷ []) (3 ∷ []) ∷ CanWrite 3 ∷ Noted (Loaded (codes "http://h/a") (codes "\"x\"") 5 0) ∷ wait true (3 ∷ []) [] ∷ [])) ≡ true
-unfolding judging
-row43deleted18 = refl
+abbrev front0 : Log
+front0 = Woke [] ∷ Rooted text2 ∷ Listed true ∷ Listens 8123 true ∷ wait true [] [] ∷ Clock 784111777 ∷ wait true [] [] ∷ Opened 1 ∷ wait true (1 ∷ []) [] ∷ CanRead 1 ∷ Heard 1 text7 ∷ Noted (Taken 1 0 Fetch) ∷ Dialled 2 (codes "h") 80 ∷ wait true (1 ∷ []) [] ∷ Reached 2 ∷ wait true (1 ∷ 2 ∷ []) (2 ∷ []) ∷ CanWrite 2 ∷ Asked 2 text8 ∷ wait true (1 ∷ 2 ∷ []) [] ∷ CanRead 2 ∷ Got 2 text9 ∷ Began (Draft text10) ∷ Did (Draft text10) true ∷ Began SyncDraft ∷ Did SyncDraft true ∷ Began (Publish text11) ∷ Did (Publish text11) true ∷ Began (Write text11 12288 (codes "hello")) ∷ Did (Write text11 12288 (codes "hello")) true ∷ Began (Sync text11) ∷ Did (Sync text11) true ∷ Began (Write text11 8192 ((1 ∷ []))) ∷ Did (Write text11 8192 ((1 ∷ []))) true ∷ Began (Sync text11) ∷ Did (Sync text11) true ∷ Noted (Kept (codes "http://h/a") (codes "\"x\"") 5 5) ∷ Noted (Taken 1 0 (Hit 0 5)) ∷ wait true (1 ∷ 2 ∷ []) (1 ∷ []) ∷ CanWrite 1 ∷ Said 1 154 text12 ∷ wait true (1 ∷ 2 ∷ []) (1 ∷ []) ∷ CanWrite 1 ∷ Said 1 5 (codes "hello") ∷ wait true (1 ∷ 2 ∷ []) [] ∷ []
 
-row43deleted19 : fault_from 0 (start (record { words = (codes "diskRun=1") ∷ text0 ∷ text1 ∷ []; faults = 0 } ∷ record { words = (codes "diskRun=1") ∷ text0 ∷ text1 ∷ []; faults = 0 } ∷ [])) (front0 ++ Woke ((text7, text9) ∷ []) ∷ Rooted text2 ∷ Listed true ∷ Listens 8123 true ∷ wait true [] [] ∷ Clock 784111787 ∷ wait true [] [] ∷ Opened 3 ∷ wait true (3 ∷ []) [] ∷ CanRead 3 ∷ Heard 3 text3 ∷ Noted (Taken 3 0 (Hit 0 5)) ∷ wait true (3 ∷ []) (3 ∷ []) ∷ CanWrite 3 ∷ Said 3 163 text10 ∷ wait true (3 ∷ []) (3 ∷ []) ∷ CanWrite 3 ∷ Noted (Loaded (codes "http://h/a") (codes "\"x\"") 5 0) ∷ Said 3 5 (codes "hello") ∷ []) ≡ None
-unfolding judging
-row43deleted19 = refl
+abbrev text13 : Bytes
+text13 = (codes "HTTP/1.1 200 OK\r\netag: \"x\"\r\ndate: Sun, 06 Nov 1994 08:49:37 GMT\r\ncache-control: max-age=60\r\nX-Polipo-Location: http://h/a\r\nX-Polipo-Date: 784111777\r\nX-Polipo-Age: 0\r\nX-Polipo-Length: 5\r\nX-Polipo-Body-Offset: 12288\r\n\r\n" ++ replicate 7975 0 ++ (1 ∷ []) ++ replicate 4095 0 ++ codes "hello")
 
-row43doubled0 : fault_from 0 (start (record { words = (codes "diskRun=1") ∷ text0 ∷ text1 ∷ []; faults = 0 } ∷ record { words = (codes "diskRun=1") ∷ text0 ∷ text1 ∷ []; faults = 0 } ∷ [])) (front0 ++ Woke ((text7, text9) ∷ []) ∷ Woke ((text7, text9) ∷ []) ∷ Rooted text2 ∷ Listed true ∷ Listens 8123 true ∷ wait true [] [] ∷ Clock 784111787 ∷ wait true [] [] ∷ Opened 3 ∷ wait true (3 ∷ []) [] ∷ CanRead 3 ∷ Heard 3 text3 ∷ Noted (Taken 3 0 (Hit 0 5)) ∷ wait true (3 ∷ []) (3 ∷ []) ∷ CanWrite 3 ∷ Said 3 163 text10 ∷ wait true (3 ∷ []) (3 ∷ []) ∷ CanWrite 3 ∷ Noted (Loaded (codes "http://h/a") (codes "\"x\"") 5 0) ∷ Said 3 5 (codes "hello") ∷ wait true (3 ∷ []) [] ∷ []) ≡ None
-unfolding judging
-row43doubled0 = refl
+abbrev text14 : Bytes
+text14 = (codes "HTTP/1.1 200 OK\r\netag: \"x\"\r\ndate: Sun, 06 Nov 1994 08:49:37 GMT\r\ncache-control: max-age=60\r\nage: 10\r\nvia: 1.1 polipo\r\ncontent-length: 5\r\nconnection: keep-alive\r\n\r\n")
 
-row43doubled1 : is_some (fault_from 0 (start (record { words = (codes "diskRun=1") ∷ text0 ∷ text1 ∷ []; faults = 0 } ∷ record { words = (codes "diskRun=1") ∷ text0 ∷ text1 ∷ []; faults = 0 } ∷ [])) (front0 ++ Woke ((text7, text9) ∷ []) ∷ Rooted text2 ∷ Rooted text2 ∷ Listed true ∷ Listens 8123 true ∷ wait true [] [] ∷ Clock 784111787 ∷ wait true [] [] ∷ Opened 3 ∷ wait true (3 ∷ []) [] ∷ CanRead 3 ∷ Heard 3 text3 ∷ Noted (Taken 3 0 (Hit 0 5)) ∷ wait true (3 ∷ []) (3 ∷ []) ∷ CanWrite 3 ∷ Said 3 163 text10 ∷ wait true (3 ∷ []) (3 ∷ []) ∷ CanWrite 3 ∷ Noted (Loaded (codes "http://h/a") (codes "\"x\"") 5 0) ∷ Said 3 5 (codes "hello") ∷ wait true (3 ∷ []) [] ∷ [])) ≡ true
+row23swapped33 : fault_from 0 (start (record { words = (codes "diskRun=1") ∷ text0 ∷ text1 ∷ []; faults = 0 } ∷ record { words = (codes "diskRun=1") ∷ text0 ∷ text1 ∷ []; faults = 0 } ∷ [])) (Woke [] ∷ Rooted text2 ∷ Listed true ∷ Listens 8123 true ∷ wait true [] [] ∷ Clock 784111777 ∷ wait true [] [] ∷ Opened 1 ∷ wait true (1 ∷ []) [] ∷ CanRead 1 ∷ Heard 1 text3 ∷ Noted (Taken 1 0 Pass) ∷ Dialled 2 (codes "h") 80 ∷ wait true (1 ∷ []) [] ∷ Reached 2 ∷ wait true (1 ∷ 2 ∷ []) (2 ∷ []) ∷ CanWrite 2 ∷ Asked 2 text4 ∷ wait true (1 ∷ 2 ∷ []) [] ∷ CanRead 2 ∷ Got 2 text5 ∷ wait true (1 ∷ 2 ∷ []) (1 ∷ []) ∷ CanWrite 1 ∷ Said 1 80 text6 ∷ wait true (1 ∷ 2 ∷ []) (1 ∷ []) ∷ CanWrite 1 ∷ Said 1 5 (codes "hello") ∷ wait true (1 ∷ 2 ∷ []) [] ∷ CanRead 2 ∷ Ended 2 ∷ Noted (Cut 1 Short) ∷ Shut 1 ∷ Dropped 2 ∷ wait true [] [] ∷ []) ≡ None
 unfolding judging
-row43doubled1 = refl
+row23swapped33 = refl
 
-row43doubled2 : is_some (fault_from 0 (start (record { words = (codes "diskRun=1") ∷ text0 ∷ text1 ∷ []; faults = 0 } ∷ record { words = (codes "diskRun=1") ∷ text0 ∷ text1 ∷ []; faults = 0 } ∷ [])) (front0 ++ Woke ((text7, text9) ∷ []) ∷ Rooted text2 ∷ Listed true ∷ Listed true ∷ Listens 8123 true ∷ wait true [] [] ∷ Clock 784111787 ∷ wait true [] [] ∷ Opened 3 ∷ wait true (3 ∷ []) [] ∷ CanRead 3 ∷ Heard 3 text3 ∷ Noted (Taken 3 0 (Hit 0 5)) ∷ wait true (3 ∷ []) (3 ∷ []) ∷ CanWrite 3 ∷ Said 3 163 text10 ∷ wait true (3 ∷ []) (3 ∷ []) ∷ CanWrite 3 ∷ Noted (Loaded (codes "http://h/a") (codes "\"x\"") 5 0) ∷ Said 3 5 (codes "hello") ∷ wait true (3 ∷ []) [] ∷ [])) ≡ true
+row50 : fault_from 0 (start (record { words = (codes "diskRun=1") ∷ text0 ∷ text1 ∷ []; faults = 0 } ∷ record { words = (codes "diskRun=1") ∷ text0 ∷ text1 ∷ []; faults = 0 } ∷ [])) (front0 ++ Woke ((text11, text13) ∷ []) ∷ Rooted text2 ∷ Listed true ∷ Listens 8123 true ∷ wait true [] [] ∷ Clock 784111787 ∷ wait true [] [] ∷ Opened 3 ∷ wait true (3 ∷ []) [] ∷ CanRead 3 ∷ Heard 3 text7 ∷ Noted (Taken 3 0 (Hit 0 5)) ∷ wait true (3 ∷ []) (3 ∷ []) ∷ CanWrite 3 ∷ Said 3 163 text14 ∷ wait true (3 ∷ []) (3 ∷ []) ∷ CanWrite 3 ∷ Noted (Loaded (codes "http://h/a") (codes "\"x\"") 5 0) ∷ Said 3 5 (codes "hello") ∷ wait true (3 ∷ []) [] ∷ []) ≡ None
 unfolding judging
-row43doubled2 = refl
+row50 = refl
 
-row43doubled3 : is_some (fault_from 0 (start (record { words = (codes "diskRun=1") ∷ text0 ∷ text1 ∷ []; faults = 0 } ∷ record { words = (codes "diskRun=1") ∷ text0 ∷ text1 ∷ []; faults = 0 } ∷ [])) (front0 ++ Woke ((text7, text9) ∷ []) ∷ Rooted text2 ∷ Listed true ∷ Listens 8123 true ∷ Listens 8123 true ∷ wait true [] [] ∷ Clock 784111787 ∷ wait true [] [] ∷ Opened 3 ∷ wait true (3 ∷ []) [] ∷ CanRead 3 ∷ Heard 3 text3 ∷ Noted (Taken 3 0 (Hit 0 5)) ∷ wait true (3 ∷ []) (3 ∷ []) ∷ CanWrite 3 ∷ Said 3 163 text10 ∷ wait true (3 ∷ []) (3 ∷ []) ∷ CanWrite 3 ∷ Noted (Loaded (codes "http://h/a") (codes "\"x\"") 5 0) ∷ Said 3 5 (codes "hello") ∷ wait true (3 ∷ []) [] ∷ [])) ≡ true
+row50deleted0 : is_some (fault_from 0 (start (record { words = (codes "diskRun=1") ∷ text0 ∷ text1 ∷ []; faults = 0 } ∷ record { words = (codes "diskRun=1") ∷ text0 ∷ text1 ∷ []; faults = 0 } ∷ [])) (front0 ++ Rooted text2 ∷ Listed true ∷ Listens 8123 true ∷ wait true [] [] ∷ Clock 784111787 ∷ wait true [] [] ∷ Opened 3 ∷ wait true (3 ∷ []) [] ∷ CanRead 3 ∷ Heard 3 text7 ∷ Noted (Taken 3 0 (Hit 0 5)) ∷ wait true (3 ∷ []) (3 ∷ []) ∷ CanWrite 3 ∷ Said 3 163 text14 ∷ wait true (3 ∷ []) (3 ∷ []) ∷ CanWrite 3 ∷ Noted (Loaded (codes "http://h/a") (codes "\"x\"") 5 0) ∷ Said 3 5 (codes "hello") ∷ wait true (3 ∷ []) [] ∷ [])) ≡ true
 unfolding judging
-row43doubled3 = refl
+row50deleted0 = refl
 
-row43doubled4 : is_some (fault_from 0 (start (record { words = (codes "diskRun=1") ∷ text0 ∷ text1 ∷ []; faults = 0 } ∷ record { words = (codes "diskRun=1") ∷ text0 ∷ text1 ∷ []; faults = 0 } ∷ [])) (front0 ++ Woke ((text7, text9) ∷ []) ∷ Rooted text2 ∷ Listed true ∷ Listens 8123 true ∷ wait true [] [] ∷ wait true [] [] ∷ Clock 784111787 ∷ wait true [] [] ∷ Opened 3 ∷ wait true (3 ∷ []) [] ∷ CanRead 3 ∷ Heard 3 text3 ∷ Noted (Taken 3 0 (Hit 0 5)) ∷ wait true (3 ∷ []) (3 ∷ []) ∷ CanWrite 3 ∷ Said 3 163 text10 ∷ wait true (3 ∷ []) (3 ∷ []) ∷ CanWrite 3 ∷ Noted (Loaded (codes "http://h/a") (codes "\"x\"") 5 0) ∷ Said 3 5 (codes "hello") ∷ wait true (3 ∷ []) [] ∷ [])) ≡ true
+row50deleted1 : is_some (fault_from 0 (start (record { words = (codes "diskRun=1") ∷ text0 ∷ text1 ∷ []; faults = 0 } ∷ record { words = (codes "diskRun=1") ∷ text0 ∷ text1 ∷ []; faults = 0 } ∷ [])) (front0 ++ Woke ((text11, text13) ∷ []) ∷ Listed true ∷ Listens 8123 true ∷ wait true [] [] ∷ Clock 784111787 ∷ wait true [] [] ∷ Opened 3 ∷ wait true (3 ∷ []) [] ∷ CanRead 3 ∷ Heard 3 text7 ∷ Noted (Taken 3 0 (Hit 0 5)) ∷ wait true (3 ∷ []) (3 ∷ []) ∷ CanWrite 3 ∷ Said 3 163 text14 ∷ wait true (3 ∷ []) (3 ∷ []) ∷ CanWrite 3 ∷ Noted (Loaded (codes "http://h/a") (codes "\"x\"") 5 0) ∷ Said 3 5 (codes "hello") ∷ wait true (3 ∷ []) [] ∷ [])) ≡ true
 unfolding judging
-row43doubled4 = refl
+row50deleted1 = refl
 
-row43doubled5 : is_some (fault_from 0 (start (record { words = (codes "diskRun=1") ∷ text0 ∷ text1 ∷ []; faults = 0 } ∷ record { words = (codes "diskRun=1") ∷ text0 ∷ text1 ∷ []; faults = 0 } ∷ [])) (front0 ++ Woke ((text7, text9) ∷ []) ∷ Rooted text2 ∷ Listed true ∷ Listens 8123 true ∷ wait true [] [] ∷ Clock 784111787 ∷ Clock 784111787 ∷ wait true [] [] ∷ Opened 3 ∷ wait true (3 ∷ []) [] ∷ CanRead 3 ∷ Heard 3 text3 ∷ Noted (Taken 3 0 (Hit 0 5)) ∷ wait true (3 ∷ []) (3 ∷ []) ∷ CanWrite 3 ∷ Said 3 163 text10 ∷ wait true (3 ∷ []) (3 ∷ []) ∷ CanWrite 3 ∷ Noted (Loaded (codes "http://h/a") (codes "\"x\"") 5 0) ∷ Said 3 5 (codes "hello") ∷ wait true (3 ∷ []) [] ∷ [])) ≡ true
+row50deleted2 : is_some (fault_from 0 (start (record { words = (codes "diskRun=1") ∷ text0 ∷ text1 ∷ []; faults = 0 } ∷ record { words = (codes "diskRun=1") ∷ text0 ∷ text1 ∷ []; faults = 0 } ∷ [])) (front0 ++ Woke ((text11, text13) ∷ []) ∷ Rooted text2 ∷ Listens 8123 true ∷ wait true [] [] ∷ Clock 784111787 ∷ wait true [] [] ∷ Opened 3 ∷ wait true (3 ∷ []) [] ∷ CanRead 3 ∷ Heard 3 text7 ∷ Noted (Taken 3 0 (Hit 0 5)) ∷ wait true (3 ∷ []) (3 ∷ []) ∷ CanWrite 3 ∷ Said 3 163 text14 ∷ wait true (3 ∷ []) (3 ∷ []) ∷ CanWrite 3 ∷ Noted (Loaded (codes "http://h/a") (codes "\"x\"") 5 0) ∷ Said 3 5 (codes "hello") ∷ wait true (3 ∷ []) [] ∷ [])) ≡ true
 unfolding judging
-row43doubled5 = refl
+row50deleted2 = refl
 
-row43doubled6 : is_some (fault_from 0 (start (record { words = (codes "diskRun=1") ∷ text0 ∷ text1 ∷ []; faults = 0 } ∷ record { words = (codes "diskRun=1") ∷ text0 ∷ text1 ∷ []; faults = 0 } ∷ [])) (front0 ++ Woke ((text7, text9) ∷ []) ∷ Rooted text2 ∷ Listed true ∷ Listens 8123 true ∷ wait true [] [] ∷ Clock 784111787 ∷ wait true [] [] ∷ wait true [] [] ∷ Opened 3 ∷ wait true (3 ∷ []) [] ∷ CanRead 3 ∷ Heard 3 text3 ∷ Noted (Taken 3 0 (Hit 0 5)) ∷ wait true (3 ∷ []) (3 ∷ []) ∷ CanWrite 3 ∷ Said 3 163 text10 ∷ wait true (3 ∷ []) (3 ∷ []) ∷ CanWrite 3 ∷ Noted (Loaded (codes "http://h/a") (codes "\"x\"") 5 0) ∷ Said 3 5 (codes "hello") ∷ wait true (3 ∷ []) [] ∷ [])) ≡ true
+row50deleted3 : is_some (fault_from 0 (start (record { words = (codes "diskRun=1") ∷ text0 ∷ text1 ∷ []; faults = 0 } ∷ record { words = (codes "diskRun=1") ∷ text0 ∷ text1 ∷ []; faults = 0 } ∷ [])) (front0 ++ Woke ((text11, text13) ∷ []) ∷ Rooted text2 ∷ Listed true ∷ wait true [] [] ∷ Clock 784111787 ∷ wait true [] [] ∷ Opened 3 ∷ wait true (3 ∷ []) [] ∷ CanRead 3 ∷ Heard 3 text7 ∷ Noted (Taken 3 0 (Hit 0 5)) ∷ wait true (3 ∷ []) (3 ∷ []) ∷ CanWrite 3 ∷ Said 3 163 text14 ∷ wait true (3 ∷ []) (3 ∷ []) ∷ CanWrite 3 ∷ Noted (Loaded (codes "http://h/a") (codes "\"x\"") 5 0) ∷ Said 3 5 (codes "hello") ∷ wait true (3 ∷ []) [] ∷ [])) ≡ true
 unfolding judging
-row43doubled6 = refl
+row50deleted3 = refl
 
-row43doubled7 : is_some (fault_from 0 (start (record { words = (codes "diskRun=1") ∷ text0 ∷ text1 ∷ []; faults = 0 } ∷ record { words = (codes "diskRun=1") ∷ text0 ∷ text1 ∷ []; faults = 0 } ∷ [])) (front0 ++ Woke ((text7, text9) ∷ []) ∷ Rooted text2 ∷ Listed true ∷ Listens 8123 true ∷ wait true [] [] ∷ Clock 784111787 ∷ wait true [] [] ∷ Opened 3 ∷ Opened 3 ∷ wait true (3 ∷ []) [] ∷ CanRead 3 ∷ Heard 3 text3 ∷ Noted (Taken 3 0 (Hit 0 5)) ∷ wait true (3 ∷ []) (3 ∷ []) ∷ CanWrite 3 ∷ Said 3 163 text10 ∷ wait true (3 ∷ []) (3 ∷ []) ∷ CanWrite 3 ∷ Noted (Loaded (codes "http://h/a") (codes "\"x\"") 5 0) ∷ Said 3 5 (codes "hello") ∷ wait true (3 ∷ []) [] ∷ [])) ≡ true
+row50deleted4 : is_some (fault_from 0 (start (record { words = (codes "diskRun=1") ∷ text0 ∷ text1 ∷ []; faults = 0 } ∷ record { words = (codes "diskRun=1") ∷ text0 ∷ text1 ∷ []; faults = 0 } ∷ [])) (front0 ++ Woke ((text11, text13) ∷ []) ∷ Rooted text2 ∷ Listed true ∷ Listens 8123 true ∷ Clock 784111787 ∷ wait true [] [] ∷ Opened 3 ∷ wait true (3 ∷ []) [] ∷ CanRead 3 ∷ Heard 3 text7 ∷ Noted (Taken 3 0 (Hit 0 5)) ∷ wait true (3 ∷ []) (3 ∷ []) ∷ CanWrite 3 ∷ Said 3 163 text14 ∷ wait true (3 ∷ []) (3 ∷ []) ∷ CanWrite 3 ∷ Noted (Loaded (codes "http://h/a") (codes "\"x\"") 5 0) ∷ Said 3 5 (codes "hello") ∷ wait true (3 ∷ []) [] ∷ [])) ≡ true
 unfolding judging
-row43doubled7 = refl
+row50deleted4 = refl
 
-row43doubled8 : is_some (fault_from 0 (start (record { words = (codes "diskRun=1") ∷ text0 ∷ text1 ∷ []; faults = 0 } ∷ record { words = (codes "diskRun=1") ∷ text0 ∷ text1 ∷ []; faults = 0 } ∷ [])) (front0 ++ Woke ((text7, text9) ∷ []) ∷ Rooted text2 ∷ Listed true ∷ Listens 8123 true ∷ wait true [] [] ∷ Clock 784111787 ∷ wait true [] [] ∷ Opened 3 ∷ wait true (3 ∷ []) [] ∷ wait true (3 ∷ []) [] ∷ CanRead 3 ∷ Heard 3 text3 ∷ Noted (Taken 3 0 (Hit 0 5)) ∷ wait true (3 ∷ []) (3 ∷ []) ∷ CanWrite 3 ∷ Said 3 163 text10 ∷ wait true (3 ∷ []) (3 ∷ []) ∷ CanWrite 3 ∷ Noted (Loaded (codes "http://h/a") (codes "\"x\"") 5 0) ∷ Said 3 5 (codes "hello") ∷ wait true (3 ∷ []) [] ∷ [])) ≡ true
+row50deleted5 : is_some (fault_from 0 (start (record { words = (codes "diskRun=1") ∷ text0 ∷ text1 ∷ []; faults = 0 } ∷ record { words = (codes "diskRun=1") ∷ text0 ∷ text1 ∷ []; faults = 0 } ∷ [])) (front0 ++ Woke ((text11, text13) ∷ []) ∷ Rooted text2 ∷ Listed true ∷ Listens 8123 true ∷ wait true [] [] ∷ wait true [] [] ∷ Opened 3 ∷ wait true (3 ∷ []) [] ∷ CanRead 3 ∷ Heard 3 text7 ∷ Noted (Taken 3 0 (Hit 0 5)) ∷ wait true (3 ∷ []) (3 ∷ []) ∷ CanWrite 3 ∷ Said 3 163 text14 ∷ wait true (3 ∷ []) (3 ∷ []) ∷ CanWrite 3 ∷ Noted (Loaded (codes "http://h/a") (codes "\"x\"") 5 0) ∷ Said 3 5 (codes "hello") ∷ wait true (3 ∷ []) [] ∷ [])) ≡ true
 unfolding judging
-row43doubled8 = refl
+row50deleted5 = refl
 
-row43doubled9 : is_some (fault_from 0 (start (record { words = (codes "diskRun=1") ∷ text0 ∷ text1 ∷ []; faults = 0 } ∷ record { words = (codes "diskRun=1") ∷ text0 ∷ text1 ∷ []; faults = 0 } ∷ [])) (front0 ++ Woke ((text7, text9) ∷ []) ∷ Rooted text2 ∷ Listed true ∷ Listens 8123 true ∷ wait true [] [] ∷ Clock 784111787 ∷ wait true [] [] ∷ Opened 3 ∷ wait true (3 ∷ []) [] ∷ CanRead 3 ∷ CanRead 3 ∷ Heard 3 text3 ∷ Noted (Taken 3 0 (Hit 0 5)) ∷ wait true (3 ∷ []) (3 ∷ []) ∷ CanWrite 3 ∷ Said 3 163 text10 ∷ wait true (3 ∷ []) (3 ∷ []) ∷ CanWrite 3 ∷ Noted (Loaded (codes "http://h/a") (codes "\"x\"") 5 0) ∷ Said 3 5 (codes "hello") ∷ wait true (3 ∷ []) [] ∷ [])) ≡ true
+row50deleted6 : is_some (fault_from 0 (start (record { words = (codes "diskRun=1") ∷ text0 ∷ text1 ∷ []; faults = 0 } ∷ record { words = (codes "diskRun=1") ∷ text0 ∷ text1 ∷ []; faults = 0 } ∷ [])) (front0 ++ Woke ((text11, text13) ∷ []) ∷ Rooted text2 ∷ Listed true ∷ Listens 8123 true ∷ wait true [] [] ∷ Clock 784111787 ∷ Opened 3 ∷ wait true (3 ∷ []) [] ∷ CanRead 3 ∷ Heard 3 text7 ∷ Noted (Taken 3 0 (Hit 0 5)) ∷ wait true (3 ∷ []) (3 ∷ []) ∷ CanWrite 3 ∷ Said 3 163 text14 ∷ wait true (3 ∷ []) (3 ∷ []) ∷ CanWrite 3 ∷ Noted (Loaded (codes "http://h/a") (codes "\"x\"") 5 0) ∷ Said 3 5 (codes "hello") ∷ wait true (3 ∷ []) [] ∷ [])) ≡ true
 unfolding judging
-row43doubled9 = refl
+row50deleted6 = refl
 
-row43doubled10 : is_some (fault_from 0 (start (record { words = (codes "diskRun=1") ∷ text0 ∷ text1 ∷ []; faults = 0 } ∷ record { words = (codes "diskRun=1") ∷ text0 ∷ text1 ∷ []; faults = 0 } ∷ [])) (front0 ++ Woke ((text7, text9) ∷ []) ∷ Rooted text2 ∷ Listed true ∷ Listens 8123 true ∷ wait true [] [] ∷ Clock 784111787 ∷ wait true [] [] ∷ Opened 3 ∷ wait true (3 ∷ []) [] ∷ CanRead 3 ∷ Heard 3 text3 ∷ Heard 3 text3 ∷ Noted (Taken 3 0 (Hit 0 5)) ∷ wait true (3 ∷ []) (3 ∷ []) ∷ CanWrite 3 ∷ Said 3 163 text10 ∷ wait true (3 ∷ []) (3 ∷ []) ∷ CanWrite 3 ∷ Noted (Loaded (codes "http://h/a") (codes "\"x\"") 5 0) ∷ Said 3 5 (codes "hello") ∷ wait true (3 ∷ []) [] ∷ [])) ≡ true
+row50deleted7 : is_some (fault_from 0 (start (record { words = (codes "diskRun=1") ∷ text0 ∷ text1 ∷ []; faults = 0 } ∷ record { words = (codes "diskRun=1") ∷ text0 ∷ text1 ∷ []; faults = 0 } ∷ [])) (front0 ++ Woke ((text11, text13) ∷ []) ∷ Rooted text2 ∷ Listed true ∷ Listens 8123 true ∷ wait true [] [] ∷ Clock 784111787 ∷ wait true [] [] ∷ wait true (3 ∷ []) [] ∷ CanRead 3 ∷ Heard 3 text7 ∷ Noted (Taken 3 0 (Hit 0 5)) ∷ wait true (3 ∷ []) (3 ∷ []) ∷ CanWrite 3 ∷ Said 3 163 text14 ∷ wait true (3 ∷ []) (3 ∷ []) ∷ CanWrite 3 ∷ Noted (Loaded (codes "http://h/a") (codes "\"x\"") 5 0) ∷ Said 3 5 (codes "hello") ∷ wait true (3 ∷ []) [] ∷ [])) ≡ true
 unfolding judging
-row43doubled10 = refl
+row50deleted7 = refl
 
-row43doubled11 : is_some (fault_from 0 (start (record { words = (codes "diskRun=1") ∷ text0 ∷ text1 ∷ []; faults = 0 } ∷ record { words = (codes "diskRun=1") ∷ text0 ∷ text1 ∷ []; faults = 0 } ∷ [])) (front0 ++ Woke ((text7, text9) ∷ []) ∷ Rooted text2 ∷ Listed true ∷ Listens 8123 true ∷ wait true [] [] ∷ Clock 784111787 ∷ wait true [] [] ∷ Opened 3 ∷ wait true (3 ∷ []) [] ∷ CanRead 3 ∷ Heard 3 text3 ∷ Noted (Taken 3 0 (Hit 0 5)) ∷ Noted (Taken 3 0 (Hit 0 5)) ∷ wait true (3 ∷ []) (3 ∷ []) ∷ CanWrite 3 ∷ Said 3 163 text10 ∷ wait true (3 ∷ []) (3 ∷ []) ∷ CanWrite 3 ∷ Noted (Loaded (codes "http://h/a") (codes "\"x\"") 5 0) ∷ Said 3 5 (codes "hello") ∷ wait true (3 ∷ []) [] ∷ [])) ≡ true
+row50deleted8 : is_some (fault_from 0 (start (record { words = (codes "diskRun=1") ∷ text0 ∷ text1 ∷ []; faults = 0 } ∷ record { words = (codes "diskRun=1") ∷ text0 ∷ text1 ∷ []; faults = 0 } ∷ [])) (front0 ++ Woke ((text11, text13) ∷ []) ∷ Rooted text2 ∷ Listed true ∷ Listens 8123 true ∷ wait true [] [] ∷ Clock 784111787 ∷ wait true [] [] ∷ Opened 3 ∷ CanRead 3 ∷ Heard 3 text7 ∷ Noted (Taken 3 0 (Hit 0 5)) ∷ wait true (3 ∷ []) (3 ∷ []) ∷ CanWrite 3 ∷ Said 3 163 text14 ∷ wait true (3 ∷ []) (3 ∷ []) ∷ CanWrite 3 ∷ Noted (Loaded (codes "http://h/a") (codes "\"x\"") 5 0) ∷ Said 3 5 (codes "hello") ∷ wait true (3 ∷ []) [] ∷ [])) ≡ true
 unfolding judging
-row43doubled11 = refl
+row50deleted8 = refl
 
-row43doubled12 : is_some (fault_from 0 (start (record { words = (codes "diskRun=1") ∷ text0 ∷ text1 ∷ []; faults = 0 } ∷ record { words = (codes "diskRun=1") ∷ text0 ∷ text1 ∷ []; faults = 0 } ∷ [])) (front0 ++ Woke ((text7, text9) ∷ []) ∷ Rooted text2 ∷ Listed true ∷ Listens 8123 true ∷ wait true [] [] ∷ Clock 784111787 ∷ wait true [] [] ∷ Opened 3 ∷ wait true (3 ∷ []) [] ∷ CanRead 3 ∷ Heard 3 text3 ∷ Noted (Taken 3 0 (Hit 0 5)) ∷ wait true (3 ∷ []) (3 ∷ []) ∷ wait true (3 ∷ []) (3 ∷ []) ∷ CanWrite 3 ∷ Said 3 163 text10 ∷ wait true (3 ∷ []) (3 ∷ []) ∷ CanWrite 3 ∷ Noted (Loaded (codes "http://h/a") (codes "\"x\"") 5 0) ∷ Said 3 5 (codes "hello") ∷ wait true (3 ∷ []) [] ∷ [])) ≡ true
+row50deleted9 : is_some (fault_from 0 (start (record { words = (codes "diskRun=1") ∷ text0 ∷ text1 ∷ []; faults = 0 } ∷ record { words = (codes "diskRun=1") ∷ text0 ∷ text1 ∷ []; faults = 0 } ∷ [])) (front0 ++ Woke ((text11, text13) ∷ []) ∷ Rooted text2 ∷ Listed true ∷ Listens 8123 true ∷ wait true [] [] ∷ Clock 784111787 ∷ wait true [] [] ∷ Opened 3 ∷ wait true (3 ∷ []) [] ∷ Heard 3 text7 ∷ Noted (Taken 3 0 (Hit 0 5)) ∷ wait true (3 ∷ []) (3 ∷ []) ∷ CanWrite 3 ∷ Said 3 163 text14 ∷ wait true (3 ∷ []) (3 ∷ []) ∷ CanWrite 3 ∷ Noted (Loaded (codes "http://h/a") (codes "\"x\"") 5 0) ∷ Said 3 5 (codes "hello") ∷ wait true (3 ∷ []) [] ∷ [])) ≡ true
 unfolding judging
-row43doubled12 = refl
+row50deleted9 = refl
 
-row43doubled13 : is_some (fault_from 0 (start (record { words = (codes "diskRun=1") ∷ text0 ∷ text1 ∷ []; faults = 0 } ∷ record { words = (codes "diskRun=1") ∷ text0 ∷ text1 ∷ []; faults = 0 } ∷ [])) (front0 ++ Woke ((text7, text9) ∷ []) ∷ Rooted text2 ∷ Listed true ∷ Listens 8123 true ∷ wait true [] [] ∷ Clock 784111787 ∷ wait true [] [] ∷ Opened 3 ∷ wait true (3 ∷ []) [] ∷ CanRead 3 ∷ Heard 3 text3 ∷ Noted (Taken 3 0 (Hit 0 5)) ∷ wait true (3 ∷ []) (3 ∷ []) ∷ CanWrite 3 ∷ CanWrite 3 ∷ Said 3 163 text10 ∷ wait true (3 ∷ []) (3 ∷ []) ∷ CanWrite 3 ∷ Noted (Loaded (codes "http://h/a") (codes "\"x\"") 5 0) ∷ Said 3 5 (codes "hello") ∷ wait true (3 ∷ []) [] ∷ [])) ≡ true
+row50deleted10 : is_some (fault_from 0 (start (record { words = (codes "diskRun=1") ∷ text0 ∷ text1 ∷ []; faults = 0 } ∷ record { words = (codes "diskRun=1") ∷ text0 ∷ text1 ∷ []; faults = 0 } ∷ [])) (front0 ++ Woke ((text11, text13) ∷ []) ∷ Rooted text2 ∷ Listed true ∷ Listens 8123 true ∷ wait true [] [] ∷ Clock 784111787 ∷ wait true [] [] ∷ Opened 3 ∷ wait true (3 ∷ []) [] ∷ CanRead 3 ∷ Noted (Taken 3 0 (Hit 0 5)) ∷ wait true (3 ∷ []) (3 ∷ []) ∷ CanWrite 3 ∷ Said 3 163 text14 ∷ wait true (3 ∷ []) (3 ∷ []) ∷ CanWrite 3 ∷ Noted (Loaded (codes "http://h/a") (codes "\"x\"") 5 0) ∷ Said 3 5 (codes "hello") ∷ wait true (3 ∷ []) [] ∷ [])) ≡ true
 unfolding judging
-row43doubled13 = refl
+row50deleted10 = refl
 
-row43doubled14 : is_some (fault_from 0 (start (record { words = (codes "diskRun=1") ∷ text0 ∷ text1 ∷ []; faults = 0 } ∷ record { words = (codes "diskRun=1") ∷ text0 ∷ text1 ∷ []; faults = 0 } ∷ [])) (front0 ++ Woke ((text7, text9) ∷ []) ∷ Rooted text2 ∷ Listed true ∷ Listens 8123 true ∷ wait true [] [] ∷ Clock 784111787 ∷ wait true [] [] ∷ Opened 3 ∷ wait true (3 ∷ []) [] ∷ CanRead 3 ∷ Heard 3 text3 ∷ Noted (Taken 3 0 (Hit 0 5)) ∷ wait true (3 ∷ []) (3 ∷ []) ∷ CanWrite 3 ∷ Said 3 163 text10 ∷ Said 3 163 text10 ∷ wait true (3 ∷ []) (3 ∷ []) ∷ CanWrite 3 ∷ Noted (Loaded (codes "http://h/a") (codes "\"x\"") 5 0) ∷ Said 3 5 (codes "hello") ∷ wait true (3 ∷ []) [] ∷ [])) ≡ true
+row50deleted11 : is_some (fault_from 0 (start (record { words = (codes "diskRun=1") ∷ text0 ∷ text1 ∷ []; faults = 0 } ∷ record { words = (codes "diskRun=1") ∷ text0 ∷ text1 ∷ []; faults = 0 } ∷ [])) (front0 ++ Woke ((text11, text13) ∷ []) ∷ Rooted text2 ∷ Listed true ∷ Listens 8123 true ∷ wait true [] [] ∷ Clock 784111787 ∷ wait true [] [] ∷ Opened 3 ∷ wait true (3 ∷ []) [] ∷ CanRead 3 ∷ Heard 3 text7 ∷ wait true (3 ∷ []) (3 ∷ []) ∷ CanWrite 3 ∷ Said 3 163 text14 ∷ wait true (3 ∷ []) (3 ∷ []) ∷ CanWrite 3 ∷ Noted (Loaded (codes "http://h/a") (codes "\"x\"") 5 0) ∷ Said 3 5 (codes "hello") ∷ wait true (3 ∷ []) [] ∷ [])) ≡ true
 unfolding judging
-row43doubled14 = refl
+row50deleted11 = refl
 
-row43doubled15 : is_some (fault_from 0 (start (record { words = (codes "diskRun=1") ∷ text0 ∷ text1 ∷ []; faults = 0 } ∷ record { words = (codes "diskRun=1") ∷ text0 ∷ text1 ∷ []; faults = 0 } ∷ [])) (front0 ++ Woke ((text7, text9) ∷ []) ∷ Rooted text2 ∷ Listed true ∷ Listens 8123 true ∷ wait true [] [] ∷ Clock 784111787 ∷ wait true [] [] ∷ Opened 3 ∷ wait true (3 ∷ []) [] ∷ CanRead 3 ∷ Heard 3 text3 ∷ Noted (Taken 3 0 (Hit 0 5)) ∷ wait true (3 ∷ []) (3 ∷ []) ∷ CanWrite 3 ∷ Said 3 163 text10 ∷ wait true (3 ∷ []) (3 ∷ []) ∷ wait true (3 ∷ []) (3 ∷ []) ∷ CanWrite 3 ∷ Noted (Loaded (codes "http://h/a") (codes "\"x\"") 5 0) ∷ Said 3 5 (codes "hello") ∷ wait true (3 ∷ []) [] ∷ [])) ≡ true
+row50deleted12 : is_some (fault_from 0 (start (record { words = (codes "diskRun=1") ∷ text0 ∷ text1 ∷ []; faults = 0 } ∷ record { words = (codes "diskRun=1") ∷ text0 ∷ text1 ∷ []; faults = 0 } ∷ [])) (front0 ++ Woke ((text11, text13) ∷ []) ∷ Rooted text2 ∷ Listed true ∷ Listens 8123 true ∷ wait true [] [] ∷ Clock 784111787 ∷ wait true [] [] ∷ Opened 3 ∷ wait true (3 ∷ []) [] ∷ CanRead 3 ∷ Heard 3 text7 ∷ Noted (Taken 3 0 (Hit 0 5)) ∷ CanWrite 3 ∷ Said 3 163 text14 ∷ wait true (3 ∷ []) (3 ∷ []) ∷ CanWrite 3 ∷ Noted (Loaded (codes "http://h/a") (codes "\"x\"") 5 0) ∷ Said 3 5 (codes "hello") ∷ wait true (3 ∷ []) [] ∷ [])) ≡ true
 unfolding judging
-row43doubled15 = refl
+row50deleted12 = refl
 
-row43doubled16 : is_some (fault_from 0 (start (record { words = (codes "diskRun=1") ∷ text0 ∷ text1 ∷ []; faults = 0 } ∷ record { words = (codes "diskRun=1") ∷ text0 ∷ text1 ∷ []; faults = 0 } ∷ [])) (front0 ++ Woke ((text7, text9) ∷ []) ∷ Rooted text2 ∷ Listed true ∷ Listens 8123 true ∷ wait true [] [] ∷ Clock 784111787 ∷ wait true [] [] ∷ Opened 3 ∷ wait true (3 ∷ []) [] ∷ CanRead 3 ∷ Heard 3 text3 ∷ Noted (Taken 3 0 (Hit 0 5)) ∷ wait true (3 ∷ []) (3 ∷ []) ∷ CanWrite 3 ∷ Said 3 163 text10 ∷ wait true (3 ∷ []) (3 ∷ []) ∷ CanWrite 3 ∷ CanWrite 3 ∷ Noted (Loaded (codes "http://h/a") (codes "\"x\"") 5 0) ∷ Said 3 5 (codes "hello") ∷ wait true (3 ∷ []) [] ∷ [])) ≡ true
+row50deleted13 : is_some (fault_from 0 (start (record { words = (codes "diskRun=1") ∷ text0 ∷ text1 ∷ []; faults = 0 } ∷ record { words = (codes "diskRun=1") ∷ text0 ∷ text1 ∷ []; faults = 0 } ∷ [])) (front0 ++ Woke ((text11, text13) ∷ []) ∷ Rooted text2 ∷ Listed true ∷ Listens 8123 true ∷ wait true [] [] ∷ Clock 784111787 ∷ wait true [] [] ∷ Opened 3 ∷ wait true (3 ∷ []) [] ∷ CanRead 3 ∷ Heard 3 text7 ∷ Noted (Taken 3 0 (Hit 0 5)) ∷ wait true (3 ∷ []) (3 ∷ []) ∷ Said 3 163 text14 ∷ wait true (3 ∷ []) (3 ∷ []) ∷ CanWrite 3 ∷ Noted (Loaded (codes "http://h/a") (codes "\"x\"") 5 0) ∷ Said 3 5 (codes "hello") ∷ wait true (3 ∷ []) [] ∷ [])) ≡ true
 unfolding judging
-row43doubled16 = refl
+row50deleted13 = refl
 
-row43doubled17 : is_some (fault_from 0 (start (record { words = (codes "diskRun=1") ∷ text0 ∷ text1 ∷ []; faults = 0 } ∷ record { words = (codes "diskRun=1") ∷ text0 ∷ text1 ∷ []; faults = 0 } ∷ [])) (front0 ++ Woke ((text7, text9) ∷ []) ∷ Rooted text2 ∷ Listed true ∷ Listens 8123 true ∷ wait true [] [] ∷ Clock 784111787 ∷ wait true [] [] ∷ Opened 3 ∷ wait true (3 ∷ []) [] ∷ CanRead 3 ∷ Heard 3 text3 ∷ Noted (Taken 3 0 (Hit 0 5)) ∷ wait true (3 ∷ []) (3 ∷ []) ∷ CanWrite 3 ∷ Said 3 163 text10 ∷ wait true (3 ∷ []) (3 ∷ []) ∷ CanWrite 3 ∷ Noted (Loaded (codes "http://h/a") (codes "\"x\"") 5 0) ∷ Noted (Loaded (codes "http://h/a") (codes "\"x\"") 5 0) ∷ Said 3 5 (codes "hello") ∷ wait true (3 ∷ []) [] ∷ [])) ≡ true
+row50deleted14 : is_some (fault_from 0 (start (record { words = (codes "diskRun=1") ∷ text0 ∷ text1 ∷ []; faults = 0 } ∷ record { words = (codes "diskRun=1") ∷ text0 ∷ text1 ∷ []; faults = 0 } ∷ [])) (front0 ++ Woke ((text11, text13) ∷ []) ∷ Rooted text2 ∷ Listed true ∷ Listens 8123 true ∷ wait true [] [] ∷ Clock 784111787 ∷ wait true [] [] ∷ Opened 3 ∷ wait true (3 ∷ []) [] ∷ CanRead 3 ∷ Heard 3 text7 ∷ Noted (Taken 3 0 (Hit 0 5)) ∷ wait true (3 ∷ []) (3 ∷ []) ∷ CanWrite 3 ∷ wait true (3 ∷ []) (3 ∷ []) ∷ CanWrite 3 ∷ Noted (Loaded (codes "http://h/a") (codes "\"x\"") 5 0) ∷ Said 3 5 (codes "hello") ∷ wait true (3 ∷ []) [] ∷ [])) ≡ true
 unfolding judging
-row43doubled17 = refl
+row50deleted14 = refl
 
-row43doubled18 : is_some (fault_from 0 (start (record { words = (codes "diskRun=1") ∷ text0 ∷ text1 ∷ []; faults = 0 } ∷ record { words = (codes "diskRun=1") ∷ text0 ∷ text1 ∷ []; faults = 0 } ∷ [])) (front0 ++ Woke ((text7, text9) ∷ []) ∷ Rooted text2 ∷ Listed true ∷ Listens 8123 true ∷ wait true [] [] ∷ Clock 784111787 ∷ wait true [] [] ∷ Opened 3 ∷ wait true (3 ∷ []) [] ∷ CanRead 3 ∷ Heard 3 text3 ∷ Noted (Taken 3 0 (Hit 0 5)) ∷ wait true (3 ∷ []) (3 ∷ []) ∷ CanWrite 3 ∷ Said 3 163 text10 ∷ wait true (3 ∷ []) (3 ∷ []) ∷ CanWrite 3 ∷ Noted (Loaded (codes "http://h/a") (codes "\"x\"") 5 0) ∷ Said 3 5 (codes "hello") ∷ Said 3 5 (codes "hello") ∷ wait true (3 ∷ []) [] ∷ [])) ≡ true
+row50deleted15 : is_some (fault_from 0 (start (record { words = (codes "diskRun=1") ∷ text0 ∷ text1 ∷ []; faults = 0 } ∷ record { words = (codes "diskRun=1") ∷ text0 ∷ text1 ∷ []; faults = 0 } ∷ [])) (front0 ++ Woke ((text11, text13) ∷ []) ∷ Rooted text2 ∷ Listed true ∷ Listens 8123 true ∷ wait true [] [] ∷ Clock 784111787 ∷ wait true [] [] ∷ Opened 3 ∷ wait true (3 ∷ []) [] ∷ CanRead 3 ∷ Heard 3 text7 ∷ Noted (Taken 3 0 (Hit 0 5)) ∷ wait true (3 ∷ []) (3 ∷ []) ∷ CanWrite 3 ∷ Said 3 163 text14 ∷ CanWrite 3 ∷ Noted (Loaded (codes "http://h/a") (codes "\"x\"") 5 0) ∷ Said 3 5 (codes "hello") ∷ wait true (3 ∷ []) [] ∷ [])) ≡ true
 unfolding judging
-row43doubled18 = refl
+row50deleted15 = refl
 
-row43doubled19 : is_some (fault_from 0 (start (record { words = (codes "diskRun=1") ∷ text0 ∷ text1 ∷ []; faults = 0 } ∷ record { words = (codes "diskRun=1") ∷ text0 ∷ text1 ∷ []; faults = 0 } ∷ [])) (front0 ++ Woke ((text7, text9) ∷ []) ∷ Rooted text2 ∷ Listed true ∷ Listens 8123 true ∷ wait true [] [] ∷ Clock 784111787 ∷ wait true [] [] ∷ Opened 3 ∷ wait true (3 ∷ []) [] ∷ CanRead 3 ∷ Heard 3 text3 ∷ Noted (Taken 3 0 (Hit 0 5)) ∷ wait true (3 ∷ []) (3 ∷ []) ∷ CanWrite 3 ∷ Said 3 163 text10 ∷ wait true (3 ∷ []) (3 ∷ []) ∷ CanWrite 3 ∷ Noted (Loaded (codes "http://h/a") (codes "\"x\"") 5 0) ∷ Said 3 5 (codes "hello") ∷ wait true (3 ∷ []) [] ∷ wait true (3 ∷ []) [] ∷ [])) ≡ true
+row50deleted16 : is_some (fault_from 0 (start (record { words = (codes "diskRun=1") ∷ text0 ∷ text1 ∷ []; faults = 0 } ∷ record { words = (codes "diskRun=1") ∷ text0 ∷ text1 ∷ []; faults = 0 } ∷ [])) (front0 ++ Woke ((text11, text13) ∷ []) ∷ Rooted text2 ∷ Listed true ∷ Listens 8123 true ∷ wait true [] [] ∷ Clock 784111787 ∷ wait true [] [] ∷ Opened 3 ∷ wait true (3 ∷ []) [] ∷ CanRead 3 ∷ Heard 3 text7 ∷ Noted (Taken 3 0 (Hit 0 5)) ∷ wait true (3 ∷ []) (3 ∷ []) ∷ CanWrite 3 ∷ Said 3 163 text14 ∷ wait true (3 ∷ []) (3 ∷ []) ∷ Noted (Loaded (codes "http://h/a") (codes "\"x\"") 5 0) ∷ Said 3 5 (codes "hello") ∷ wait true (3 ∷ []) [] ∷ [])) ≡ true
 unfolding judging
-row43doubled19 = refl
+row50deleted16 = refl
 
-row43swapped0 : is_some (fault_from 0 (start (record { words = (codes "diskRun=1") ∷ text0 ∷ text1 ∷ []; faults = 0 } ∷ record { words = (codes "diskRun=1") ∷ text0 ∷ text1 ∷ []; faults = 0 } ∷ [])) (front0 ++ Rooted text2 ∷ Woke ((text7, text9) ∷ []) ∷ Listed true ∷ Listens 8123 true ∷ wait true [] [] ∷ Clock 784111787 ∷ wait true [] [] ∷ Opened 3 ∷ wait true (3 ∷ []) [] ∷ CanRead 3 ∷ Heard 3 text3 ∷ Noted (Taken 3 0 (Hit 0 5)) ∷ wait true (3 ∷ []) (3 ∷ []) ∷ CanWrite 3 ∷ Said 3 163 text10 ∷ wait true (3 ∷ []) (3 ∷ []) ∷ CanWrite 3 ∷ Noted (Loaded (codes "http://h/a") (codes "\"x\"") 5 0) ∷ Said 3 5 (codes "hello") ∷ wait true (3 ∷ []) [] ∷ [])) ≡ true
+row50deleted17 : is_some (fault_from 0 (start (record { words = (codes "diskRun=1") ∷ text0 ∷ text1 ∷ []; faults = 0 } ∷ record { words = (codes "diskRun=1") ∷ text0 ∷ text1 ∷ []; faults = 0 } ∷ [])) (front0 ++ Woke ((text11, text13) ∷ []) ∷ Rooted text2 ∷ Listed true ∷ Listens 8123 true ∷ wait true [] [] ∷ Clock 784111787 ∷ wait true [] [] ∷ Opened 3 ∷ wait true (3 ∷ []) [] ∷ CanRead 3 ∷ Heard 3 text7 ∷ Noted (Taken 3 0 (Hit 0 5)) ∷ wait true (3 ∷ []) (3 ∷ []) ∷ CanWrite 3 ∷ Said 3 163 text14 ∷ wait true (3 ∷ []) (3 ∷ []) ∷ CanWrite 3 ∷ Said 3 5 (codes "hello") ∷ wait true (3 ∷ []) [] ∷ [])) ≡ true
 unfolding judging
-row43swapped0 = refl
+row50deleted17 = refl
 
-row43swapped1 : is_some (fault_from 0 (start (record { words = (codes "diskRun=1") ∷ text0 ∷ text1 ∷ []; faults = 0 } ∷ record { words = (codes "diskRun=1") ∷ text0 ∷ text1 ∷ []; faults = 0 } ∷ [])) (front0 ++ Woke ((text7, text9) ∷ []) ∷ Listed true ∷ Rooted text2 ∷ Listens 8123 true ∷ wait true [] [] ∷ Clock 784111787 ∷ wait true [] [] ∷ Opened 3 ∷ wait true (3 ∷ []) [] ∷ CanRead 3 ∷ Heard 3 text3 ∷ Noted (Taken 3 0 (Hit 0 5)) ∷ wait true (3 ∷ []) (3 ∷ []) ∷ CanWrite 3 ∷ Said 3 163 text10 ∷ wait true (3 ∷ []) (3 ∷ []) ∷ CanWrite 3 ∷ Noted (Loaded (codes "http://h/a") (codes "\"x\"") 5 0) ∷ Said 3 5 (codes "hello") ∷ wait true (3 ∷ []) [] ∷ [])) ≡ true
+row50deleted18 : is_some (fault_from 0 (start (record { words = (codes "diskRun=1") ∷ text0 ∷ text1 ∷ []; faults = 0 } ∷ record { words = (codes "diskRun=1") ∷ text0 ∷ text1 ∷ []; faults = 0 } ∷ [])) (front0 ++ Woke ((text11, text13) ∷ []) ∷ Rooted text2 ∷ Listed true ∷ Listens 8123 true ∷ wait true [] [] ∷ Clock 784111787 ∷ wait true [] [] ∷ Opened 3 ∷ wait true (3 ∷ []) [] ∷ CanRead 3 ∷ Heard 3 text7 ∷ Noted (Taken 3 0 (Hit 0 5)) ∷ wait true (3 ∷ []) (3 ∷ []) ∷ CanWrite 3 ∷ Said 3 163 text14 ∷ wait true (3 ∷ []) (3 ∷ []) ∷ CanWrite 3 ∷ Noted (Loaded (codes "http://h/a") (codes "\"x\"") 5 0) ∷ wait true (3 ∷ []) [] ∷ [])) ≡ true
 unfolding judging
-row43swapped1 = refl
+row50deleted18 = refl
 
-row43swapped2 : is_some (fault_from 0 (start (record { words = (codes "diskRun=1") ∷ text0 ∷ text1 ∷ []; faults = 0 } ∷ record { words = (codes "diskRun=1") ∷ text0 ∷ text1 ∷ []; faults = 0 } ∷ [])) (front0 ++ Woke ((text7, text9) ∷ []) ∷ Rooted text2 ∷ Listens 8123 true ∷ Listed true ∷ wait true [] [] ∷ Clock 784111787 ∷ wait true [] [] ∷ Opened 3 ∷ wait true (3 ∷ []) [] ∷ CanRead 3 ∷ Heard 3 text3 ∷ Noted (Taken 3 0 (Hit 0 5)) ∷ wait true (3 ∷ []) (3 ∷ []) ∷ CanWrite 3 ∷ Said 3 163 text10 ∷ wait true (3 ∷ []) (3 ∷ []) ∷ CanWrite 3 ∷ Noted (Loaded (codes "http://h/a") (codes "\"x\"") 5 0) ∷ Said 3 5 (codes "hello") ∷ wait true (3 ∷ []) [] ∷ [])) ≡ true
+row50deleted19 : fault_from 0 (start (record { words = (codes "diskRun=1") ∷ text0 ∷ text1 ∷ []; faults = 0 } ∷ record { words = (codes "diskRun=1") ∷ text0 ∷ text1 ∷ []; faults = 0 } ∷ [])) (front0 ++ Woke ((text11, text13) ∷ []) ∷ Rooted text2 ∷ Listed true ∷ Listens 8123 true ∷ wait true [] [] ∷ Clock 784111787 ∷ wait true [] [] ∷ Opened 3 ∷ wait true (3 ∷ []) [] ∷ CanRead 3 ∷ Heard 3 text7 ∷ Noted (Taken 3 0 (Hit 0 5)) ∷ wait true (3 ∷ []) (3 ∷ []) ∷ CanWrite 3 ∷ Said 3 163 text14 ∷ wait true (3 ∷ []) (3 ∷ []) ∷ CanWrite 3 ∷ Noted (Loaded (codes "http://h/a") (codes "\"x\"") 5 0) ∷ Said 3 5 (codes "hello") ∷ []) ≡ None
 unfolding judging
-row43swapped2 = refl
+row50deleted19 = refl
 
-row43swapped3 : is_some (fault_from 0 (start (record { words = (codes "diskRun=1") ∷ text0 ∷ text1 ∷ []; faults = 0 } ∷ record { words = (codes "diskRun=1") ∷ text0 ∷ text1 ∷ []; faults = 0 } ∷ [])) (front0 ++ Woke ((text7, text9) ∷ []) ∷ Rooted text2 ∷ Listed true ∷ wait true [] [] ∷ Listens 8123 true ∷ Clock 784111787 ∷ wait true [] [] ∷ Opened 3 ∷ wait true (3 ∷ []) [] ∷ CanRead 3 ∷ Heard 3 text3 ∷ Noted (Taken 3 0 (Hit 0 5)) ∷ wait true (3 ∷ []) (3 ∷ []) ∷ CanWrite 3 ∷ Said 3 163 text10 ∷ wait true (3 ∷ []) (3 ∷ []) ∷ CanWrite 3 ∷ Noted (Loaded (codes "http://h/a") (codes "\"x\"") 5 0) ∷ Said 3 5 (codes "hello") ∷ wait true (3 ∷ []) [] ∷ [])) ≡ true
+row50doubled0 : fault_from 0 (start (record { words = (codes "diskRun=1") ∷ text0 ∷ text1 ∷ []; faults = 0 } ∷ record { words = (codes "diskRun=1") ∷ text0 ∷ text1 ∷ []; faults = 0 } ∷ [])) (front0 ++ Woke ((text11, text13) ∷ []) ∷ Woke ((text11, text13) ∷ []) ∷ Rooted text2 ∷ Listed true ∷ Listens 8123 true ∷ wait true [] [] ∷ Clock 784111787 ∷ wait true [] [] ∷ Opened 3 ∷ wait true (3 ∷ []) [] ∷ CanRead 3 ∷ Heard 3 text7 ∷ Noted (Taken 3 0 (Hit 0 5)) ∷ wait true (3 ∷ []) (3 ∷ []) ∷ CanWrite 3 ∷ Said 3 163 text14 ∷ wait true (3 ∷ []) (3 ∷ []) ∷ CanWrite 3 ∷ Noted (Loaded (codes "http://h/a") (codes "\"x\"") 5 0) ∷ Said 3 5 (codes "hello") ∷ wait true (3 ∷ []) [] ∷ []) ≡ None
 unfolding judging
-row43swapped3 = refl
+row50doubled0 = refl
 
-row43swapped4 : is_some (fault_from 0 (start (record { words = (codes "diskRun=1") ∷ text0 ∷ text1 ∷ []; faults = 0 } ∷ record { words = (codes "diskRun=1") ∷ text0 ∷ text1 ∷ []; faults = 0 } ∷ [])) (front0 ++ Woke ((text7, text9) ∷ []) ∷ Rooted text2 ∷ Listed true ∷ Listens 8123 true ∷ Clock 784111787 ∷ wait true [] [] ∷ wait true [] [] ∷ Opened 3 ∷ wait true (3 ∷ []) [] ∷ CanRead 3 ∷ Heard 3 text3 ∷ Noted (Taken 3 0 (Hit 0 5)) ∷ wait true (3 ∷ []) (3 ∷ []) ∷ CanWrite 3 ∷ Said 3 163 text10 ∷ wait true (3 ∷ []) (3 ∷ []) ∷ CanWrite 3 ∷ Noted (Loaded (codes "http://h/a") (codes "\"x\"") 5 0) ∷ Said 3 5 (codes "hello") ∷ wait true (3 ∷ []) [] ∷ [])) ≡ true
+row50doubled1 : is_some (fault_from 0 (start (record { words = (codes "diskRun=1") ∷ text0 ∷ text1 ∷ []; faults = 0 } ∷ record { words = (codes "diskRun=1") ∷ text0 ∷ text1 ∷ []; faults = 0 } ∷ [])) (front0 ++ Woke ((text11, text13) ∷ []) ∷ Rooted text2 ∷ Rooted text2 ∷ Listed true ∷ Listens 8123 true ∷ wait true [] [] ∷ Clock 784111787 ∷ wait true [] [] ∷ Opened 3 ∷ wait true (3 ∷ []) [] ∷ CanRead 3 ∷ Heard 3 text7 ∷ Noted (Taken 3 0 (Hit 0 5)) ∷ wait true (3 ∷ []) (3 ∷ []) ∷ CanWrite 3 ∷ Said 3 163 text14 ∷ wait true (3 ∷ []) (3 ∷ []) ∷ CanWrite 3 ∷ Noted (Loaded (codes "http://h/a") (codes "\"x\"") 5 0) ∷ Said 3 5 (codes "hello") ∷ wait true (3 ∷ []) [] ∷ [])) ≡ true
 unfolding judging
-row43swapped4 = refl
+row50doubled1 = refl
 
-row43swapped5 : is_some (fault_from 0 (start (record { words = (codes "diskRun=1") ∷ text0 ∷ text1 ∷ []; faults = 0 } ∷ record { words = (codes "diskRun=1") ∷ text0 ∷ text1 ∷ []; faults = 0 } ∷ [])) (front0 ++ Woke ((text7, text9) ∷ []) ∷ Rooted text2 ∷ Listed true ∷ Listens 8123 true ∷ wait true [] [] ∷ wait true [] [] ∷ Clock 784111787 ∷ Opened 3 ∷ wait true (3 ∷ []) [] ∷ CanRead 3 ∷ Heard 3 text3 ∷ Noted (Taken 3 0 (Hit 0 5)) ∷ wait true (3 ∷ []) (3 ∷ []) ∷ CanWrite 3 ∷ Said 3 163 text10 ∷ wait true (3 ∷ []) (3 ∷ []) ∷ CanWrite 3 ∷ Noted (Loaded (codes "http://h/a") (codes "\"x\"") 5 0) ∷ Said 3 5 (codes "hello") ∷ wait true (3 ∷ []) [] ∷ [])) ≡ true
+row50doubled2 : is_some (fault_from 0 (start (record { words = (codes "diskRun=1") ∷ text0 ∷ text1 ∷ []; faults = 0 } ∷ record { words = (codes "diskRun=1") ∷ text0 ∷ text1 ∷ []; faults = 0 } ∷ [])) (front0 ++ Woke ((text11, text13) ∷ []) ∷ Rooted text2 ∷ Listed true ∷ Listed true ∷ Listens 8123 true ∷ wait true [] [] ∷ Clock 784111787 ∷ wait true [] [] ∷ Opened 3 ∷ wait true (3 ∷ []) [] ∷ CanRead 3 ∷ Heard 3 text7 ∷ Noted (Taken 3 0 (Hit 0 5)) ∷ wait true (3 ∷ []) (3 ∷ []) ∷ CanWrite 3 ∷ Said 3 163 text14 ∷ wait true (3 ∷ []) (3 ∷ []) ∷ CanWrite 3 ∷ Noted (Loaded (codes "http://h/a") (codes "\"x\"") 5 0) ∷ Said 3 5 (codes "hello") ∷ wait true (3 ∷ []) [] ∷ [])) ≡ true
 unfolding judging
-row43swapped5 = refl
+row50doubled2 = refl
 
-row43swapped6 : is_some (fault_from 0 (start (record { words = (codes "diskRun=1") ∷ text0 ∷ text1 ∷ []; faults = 0 } ∷ record { words = (codes "diskRun=1") ∷ text0 ∷ text1 ∷ []; faults = 0 } ∷ [])) (front0 ++ Woke ((text7, text9) ∷ []) ∷ Rooted text2 ∷ Listed true ∷ Listens 8123 true ∷ wait true [] [] ∷ Clock 784111787 ∷ Opened 3 ∷ wait true [] [] ∷ wait true (3 ∷ []) [] ∷ CanRead 3 ∷ Heard 3 text3 ∷ Noted (Taken 3 0 (Hit 0 5)) ∷ wait true (3 ∷ []) (3 ∷ []) ∷ CanWrite 3 ∷ Said 3 163 text10 ∷ wait true (3 ∷ []) (3 ∷ []) ∷ CanWrite 3 ∷ Noted (Loaded (codes "http://h/a") (codes "\"x\"") 5 0) ∷ Said 3 5 (codes "hello") ∷ wait true (3 ∷ []) [] ∷ [])) ≡ true
+row50doubled3 : is_some (fault_from 0 (start (record { words = (codes "diskRun=1") ∷ text0 ∷ text1 ∷ []; faults = 0 } ∷ record { words = (codes "diskRun=1") ∷ text0 ∷ text1 ∷ []; faults = 0 } ∷ [])) (front0 ++ Woke ((text11, text13) ∷ []) ∷ Rooted text2 ∷ Listed true ∷ Listens 8123 true ∷ Listens 8123 true ∷ wait true [] [] ∷ Clock 784111787 ∷ wait true [] [] ∷ Opened 3 ∷ wait true (3 ∷ []) [] ∷ CanRead 3 ∷ Heard 3 text7 ∷ Noted (Taken 3 0 (Hit 0 5)) ∷ wait true (3 ∷ []) (3 ∷ []) ∷ CanWrite 3 ∷ Said 3 163 text14 ∷ wait true (3 ∷ []) (3 ∷ []) ∷ CanWrite 3 ∷ Noted (Loaded (codes "http://h/a") (codes "\"x\"") 5 0) ∷ Said 3 5 (codes "hello") ∷ wait true (3 ∷ []) [] ∷ [])) ≡ true
 unfolding judging
-row43swapped6 = refl
+row50doubled3 = refl
 
-row43swapped7 : is_some (fault_from 0 (start (record { words = (codes "diskRun=1") ∷ text0 ∷ text1 ∷ []; faults = 0 } ∷ record { words = (codes "diskRun=1") ∷ text0 ∷ text1 ∷ []; faults = 0 } ∷ [])) (front0 ++ Woke ((text7, text9) ∷ []) ∷ Rooted text2 ∷ Listed true ∷ Listens 8123 true ∷ wait true [] [] ∷ Clock 784111787 ∷ wait true [] [] ∷ wait true (3 ∷ []) [] ∷ Opened 3 ∷ CanRead 3 ∷ Heard 3 text3 ∷ Noted (Taken 3 0 (Hit 0 5)) ∷ wait true (3 ∷ []) (3 ∷ []) ∷ CanWrite 3 ∷ Said 3 163 text10 ∷ wait true (3 ∷ []) (3 ∷ []) ∷ CanWrite 3 ∷ Noted (Loaded (codes "http://h/a") (codes "\"x\"") 5 0) ∷ Said 3 5 (codes "hello") ∷ wait true (3 ∷ []) [] ∷ [])) ≡ true
+row50doubled4 : is_some (fault_from 0 (start (record { words = (codes "diskRun=1") ∷ text0 ∷ text1 ∷ []; faults = 0 } ∷ record { words = (codes "diskRun=1") ∷ text0 ∷ text1 ∷ []; faults = 0 } ∷ [])) (front0 ++ Woke ((text11, text13) ∷ []) ∷ Rooted text2 ∷ Listed true ∷ Listens 8123 true ∷ wait true [] [] ∷ wait true [] [] ∷ Clock 784111787 ∷ wait true [] [] ∷ Opened 3 ∷ wait true (3 ∷ []) [] ∷ CanRead 3 ∷ Heard 3 text7 ∷ Noted (Taken 3 0 (Hit 0 5)) ∷ wait true (3 ∷ []) (3 ∷ []) ∷ CanWrite 3 ∷ Said 3 163 text14 ∷ wait true (3 ∷ []) (3 ∷ []) ∷ CanWrite 3 ∷ Noted (Loaded (codes "http://h/a") (codes "\"x\"") 5 0) ∷ Said 3 5 (codes "hello") ∷ wait true (3 ∷ []) [] ∷ [])) ≡ true
 unfolding judging
-row43swapped7 = refl
+row50doubled4 = refl
 
-row43swapped8 : is_some (fault_from 0 (start (record { words = (codes "diskRun=1") ∷ text0 ∷ text1 ∷ []; faults = 0 } ∷ record { words = (codes "diskRun=1") ∷ text0 ∷ text1 ∷ []; faults = 0 } ∷ [])) (front0 ++ Woke ((text7, text9) ∷ []) ∷ Rooted text2 ∷ Listed true ∷ Listens 8123 true ∷ wait true [] [] ∷ Clock 784111787 ∷ wait true [] [] ∷ Opened 3 ∷ CanRead 3 ∷ wait true (3 ∷ []) [] ∷ Heard 3 text3 ∷ Noted (Taken 3 0 (Hit 0 5)) ∷ wait true (3 ∷ []) (3 ∷ []) ∷ CanWrite 3 ∷ Said 3 163 text10 ∷ wait true (3 ∷ []) (3 ∷ []) ∷ CanWrite 3 ∷ Noted (Loaded (codes "http://h/a") (codes "\"x\"") 5 0) ∷ Said 3 5 (codes "hello") ∷ wait true (3 ∷ []) [] ∷ [])) ≡ true
+row50doubled5 : is_some (fault_from 0 (start (record { words = (codes "diskRun=1") ∷ text0 ∷ text1 ∷ []; faults = 0 } ∷ record { words = (codes "diskRun=1") ∷ text0 ∷ text1 ∷ []; faults = 0 } ∷ [])) (front0 ++ Woke ((text11, text13) ∷ []) ∷ Rooted text2 ∷ Listed true ∷ Listens 8123 true ∷ wait true [] [] ∷ Clock 784111787 ∷ Clock 784111787 ∷ wait true [] [] ∷ Opened 3 ∷ wait true (3 ∷ []) [] ∷ CanRead 3 ∷ Heard 3 text7 ∷ Noted (Taken 3 0 (Hit 0 5)) ∷ wait true (3 ∷ []) (3 ∷ []) ∷ CanWrite 3 ∷ Said 3 163 text14 ∷ wait true (3 ∷ []) (3 ∷ []) ∷ CanWrite 3 ∷ Noted (Loaded (codes "http://h/a") (codes "\"x\"") 5 0) ∷ Said 3 5 (codes "hello") ∷ wait true (3 ∷ []) [] ∷ [])) ≡ true
 unfolding judging
-row43swapped8 = refl
+row50doubled5 = refl
 
-row43swapped9 : is_some (fault_from 0 (start (record { words = (codes "diskRun=1") ∷ text0 ∷ text1 ∷ []; faults = 0 } ∷ record { words = (codes "diskRun=1") ∷ text0 ∷ text1 ∷ []; faults = 0 } ∷ [])) (front0 ++ Woke ((text7, text9) ∷ []) ∷ Rooted text2 ∷ Listed true ∷ Listens 8123 true ∷ wait true [] [] ∷ Clock 784111787 ∷ wait true [] [] ∷ Opened 3 ∷ wait true (3 ∷ []) [] ∷ Heard 3 text3 ∷ CanRead 3 ∷ Noted (Taken 3 0 (Hit 0 5)) ∷ wait true (3 ∷ []) (3 ∷ []) ∷ CanWrite 3 ∷ Said 3 163 text10 ∷ wait true (3 ∷ []) (3 ∷ []) ∷ CanWrite 3 ∷ Noted (Loaded (codes "http://h/a") (codes "\"x\"") 5 0) ∷ Said 3 5 (codes "hello") ∷ wait true (3 ∷ []) [] ∷ [])) ≡ true
+row50doubled6 : is_some (fault_from 0 (start (record { words = (codes "diskRun=1") ∷ text0 ∷ text1 ∷ []; faults = 0 } ∷ record { words = (codes "diskRun=1") ∷ text0 ∷ text1 ∷ []; faults = 0 } ∷ [])) (front0 ++ Woke ((text11, text13) ∷ []) ∷ Rooted text2 ∷ Listed true ∷ Listens 8123 true ∷ wait true [] [] ∷ Clock 784111787 ∷ wait true [] [] ∷ wait true [] [] ∷ Opened 3 ∷ wait true (3 ∷ []) [] ∷ CanRead 3 ∷ Heard 3 text7 ∷ Noted (Taken 3 0 (Hit 0 5)) ∷ wait true (3 ∷ []) (3 ∷ []) ∷ CanWrite 3 ∷ Said 3 163 text14 ∷ wait true (3 ∷ []) (3 ∷ []) ∷ CanWrite 3 ∷ Noted (Loaded (codes "http://h/a") (codes "\"x\"") 5 0) ∷ Said 3 5 (codes "hello") ∷ wait true (3 ∷ []) [] ∷ [])) ≡ true
 unfolding judging
-row43swapped9 = refl
+row50doubled6 = refl
 
-row43swapped10 : is_some (fault_from 0 (start (record { words = (codes "diskRun=1") ∷ text0 ∷ text1 ∷ []; faults = 0 } ∷ record { words = (codes "diskRun=1") ∷ text0 ∷ text1 ∷ []; faults = 0 } ∷ [])) (front0 ++ Woke ((text7, text9) ∷ []) ∷ Rooted text2 ∷ Listed true ∷ Listens 8123 true ∷ wait true [] [] ∷ Clock 784111787 ∷ wait true [] [] ∷ Opened 3 ∷ wait true (3 ∷ []) [] ∷ CanRead 3 ∷ Noted (Taken 3 0 (Hit 0 5)) ∷ Heard 3 text3 ∷ wait true (3 ∷ []) (3 ∷ []) ∷ CanWrite 3 ∷ Said 3 163 text10 ∷ wait true (3 ∷ []) (3 ∷ []) ∷ CanWrite 3 ∷ Noted (Loaded (codes "http://h/a") (codes "\"x\"") 5 0) ∷ Said 3 5 (codes "hello") ∷ wait true (3 ∷ []) [] ∷ [])) ≡ true
+row50doubled7 : is_some (fault_from 0 (start (record { words = (codes "diskRun=1") ∷ text0 ∷ text1 ∷ []; faults = 0 } ∷ record { words = (codes "diskRun=1") ∷ text0 ∷ text1 ∷ []; faults = 0 } ∷ [])) (front0 ++ Woke ((text11, text13) ∷ []) ∷ Rooted text2 ∷ Listed true ∷ Listens 8123 true ∷ wait true [] [] ∷ Clock 784111787 ∷ wait true [] [] ∷ Opened 3 ∷ Opened 3 ∷ wait true (3 ∷ []) [] ∷ CanRead 3 ∷ Heard 3 text7 ∷ Noted (Taken 3 0 (Hit 0 5)) ∷ wait true (3 ∷ []) (3 ∷ []) ∷ CanWrite 3 ∷ Said 3 163 text14 ∷ wait true (3 ∷ []) (3 ∷ []) ∷ CanWrite 3 ∷ Noted (Loaded (codes "http://h/a") (codes "\"x\"") 5 0) ∷ Said 3 5 (codes "hello") ∷ wait true (3 ∷ []) [] ∷ [])) ≡ true
 unfolding judging
-row43swapped10 = refl
+row50doubled7 = refl
 
-row43swapped11 : is_some (fault_from 0 (start (record { words = (codes "diskRun=1") ∷ text0 ∷ text1 ∷ []; faults = 0 } ∷ record { words = (codes "diskRun=1") ∷ text0 ∷ text1 ∷ []; faults = 0 } ∷ [])) (front0 ++ Woke ((text7, text9) ∷ []) ∷ Rooted text2 ∷ Listed true ∷ Listens 8123 true ∷ wait true [] [] ∷ Clock 784111787 ∷ wait true [] [] ∷ Opened 3 ∷ wait true (3 ∷ []) [] ∷ CanRead 3 ∷ Heard 3 text3 ∷ wait true (3 ∷ []) (3 ∷ []) ∷ Noted (Taken 3 0 (Hit 0 5)) ∷ CanWrite 3 ∷ Said 3 163 text10 ∷ wait true (3 ∷ []) (3 ∷ []) ∷ CanWrite 3 ∷ Noted (Loaded (codes "http://h/a") (codes "\"x\"") 5 0) ∷ Said 3 5 (codes "hello") ∷ wait true (3 ∷ []) [] ∷ [])) ≡ true
+row50doubled8 : is_some (fault_from 0 (start (record { words = (codes "diskRun=1") ∷ text0 ∷ text1 ∷ []; faults = 0 } ∷ record { words = (codes "diskRun=1") ∷ text0 ∷ text1 ∷ []; faults = 0 } ∷ [])) (front0 ++ Woke ((text11, text13) ∷ []) ∷ Rooted text2 ∷ Listed true ∷ Listens 8123 true ∷ wait true [] [] ∷ Clock 784111787 ∷ wait true [] [] ∷ Opened 3 ∷ wait true (3 ∷ []) [] ∷ wait true (3 ∷ []) [] ∷ CanRead 3 ∷ Heard 3 text7 ∷ Noted (Taken 3 0 (Hit 0 5)) ∷ wait true (3 ∷ []) (3 ∷ []) ∷ CanWrite 3 ∷ Said 3 163 text14 ∷ wait true (3 ∷ []) (3 ∷ []) ∷ CanWrite 3 ∷ Noted (Loaded (codes "http://h/a") (codes "\"x\"") 5 0) ∷ Said 3 5 (codes "hello") ∷ wait true (3 ∷ []) [] ∷ [])) ≡ true
 unfolding judging
-row43swapped11 = refl
+row50doubled8 = refl
 
-row43swapped12 : is_some (fault_from 0 (start (record { words = (codes "diskRun=1") ∷ text0 ∷ text1 ∷ []; faults = 0 } ∷ record { words = (codes "diskRun=1") ∷ text0 ∷ text1 ∷ []; faults = 0 } ∷ [])) (front0 ++ Woke ((text7, text9) ∷ []) ∷ Rooted text2 ∷ Listed true ∷ Listens 8123 true ∷ wait true [] [] ∷ Clock 784111787 ∷ wait true [] [] ∷ Opened 3 ∷ wait true (3 ∷ []) [] ∷ CanRead 3 ∷ Heard 3 text3 ∷ Noted (Taken 3 0 (Hit 0 5)) ∷ CanWrite 3 ∷ wait true (3 ∷ []) (3 ∷ []) ∷ Said 3 163 text10 ∷ wait true (3 ∷ []) (3 ∷ []) ∷ CanWrite 3 ∷ Noted (Loaded (codes "http://h/a") (codes "\"x\"") 5 0) ∷ Said 3 5 (codes "hello") ∷ wait true (3 ∷ []) [] ∷ [])) ≡ true
+row50doubled9 : is_some (fault_from 0 (start (record { words = (codes "diskRun=1") ∷ text0 ∷ text1 ∷ []; faults = 0 } ∷ record { words = (codes "diskRun=1") ∷ text0 ∷ text1 ∷ []; faults = 0 } ∷ [])) (front0 ++ Woke ((text11, text13) ∷ []) ∷ Rooted text2 ∷ Listed true ∷ Listens 8123 true ∷ wait true [] [] ∷ Clock 784111787 ∷ wait true [] [] ∷ Opened 3 ∷ wait true (3 ∷ []) [] ∷ CanRead 3 ∷ CanRead 3 ∷ Heard 3 text7 ∷ Noted (Taken 3 0 (Hit 0 5)) ∷ wait true (3 ∷ []) (3 ∷ []) ∷ CanWrite 3 ∷ Said 3 163 text14 ∷ wait true (3 ∷ []) (3 ∷ []) ∷ CanWrite 3 ∷ Noted (Loaded (codes "http://h/a") (codes "\"x\"") 5 0) ∷ Said 3 5 (codes "hello") ∷ wait true (3 ∷ []) [] ∷ [])) ≡ true
 unfolding judging
-row43swapped12 = refl
+row50doubled9 = refl
 
-row43swapped13 : is_some (fault_from 0 (start (record { words = (codes "diskRun=1") ∷ text0 ∷ text1 ∷ []; faults = 0 } ∷ record { words = (codes "diskRun=1") ∷ text0 ∷ text1 ∷ []; faults = 0 } ∷ [])) (front0 ++ Woke ((text7, text9) ∷ []) ∷ Rooted text2 ∷ Listed true ∷ Listens 8123 true ∷ wait true [] [] ∷ Clock 784111787 ∷ wait true [] [] ∷ Opened 3 ∷ wait true (3 ∷ []) [] ∷ CanRead 3 ∷ Heard 3 text3 ∷ Noted (Taken 3 0 (Hit 0 5)) ∷ wait true (3 ∷ []) (3 ∷ []) ∷ Said 3 163 text10 ∷ CanWrite 3 ∷ wait true (3 ∷ []) (3 ∷ []) ∷ CanWrite 3 ∷ Noted (Loaded (codes "http://h/a") (codes "\"x\"") 5 0) ∷ Said 3 5 (codes "hello") ∷ wait true (3 ∷ []) [] ∷ [])) ≡ true
+row50doubled10 : is_some (fault_from 0 (start (record { words = (codes "diskRun=1") ∷ text0 ∷ text1 ∷ []; faults = 0 } ∷ record { words = (codes "diskRun=1") ∷ text0 ∷ text1 ∷ []; faults = 0 } ∷ [])) (front0 ++ Woke ((text11, text13) ∷ []) ∷ Rooted text2 ∷ Listed true ∷ Listens 8123 true ∷ wait true [] [] ∷ Clock 784111787 ∷ wait true [] [] ∷ Opened 3 ∷ wait true (3 ∷ []) [] ∷ CanRead 3 ∷ Heard 3 text7 ∷ Heard 3 text7 ∷ Noted (Taken 3 0 (Hit 0 5)) ∷ wait true (3 ∷ []) (3 ∷ []) ∷ CanWrite 3 ∷ Said 3 163 text14 ∷ wait true (3 ∷ []) (3 ∷ []) ∷ CanWrite 3 ∷ Noted (Loaded (codes "http://h/a") (codes "\"x\"") 5 0) ∷ Said 3 5 (codes "hello") ∷ wait true (3 ∷ []) [] ∷ [])) ≡ true
 unfolding judging
-row43swapped13 = refl
+row50doubled10 = refl
 
-row43swapped14 : is_some (fault_from 0 (start (record { words = (codes "diskRun=1") ∷ text0 ∷ text1 ∷ []; faults = 0 } ∷ record { words = (codes "diskRun=1") ∷ text0 ∷ text1 ∷ []; faults = 0 } ∷ [])) (front0 ++ Woke ((text7, text9) ∷ []) ∷ Rooted text2 ∷ Listed true ∷ Listens 8123 true ∷ wait true [] [] ∷ Clock 784111787 ∷ wait true [] [] ∷ Opened 3 ∷ wait true (3 ∷ []) [] ∷ CanRead 3 ∷ Heard 3 text3 ∷ Noted (Taken 3 0 (Hit 0 5)) ∷ wait true (3 ∷ []) (3 ∷ []) ∷ CanWrite 3 ∷ wait true (3 ∷ []) (3 ∷ []) ∷ Said 3 163 text10 ∷ CanWrite 3 ∷ Noted (Loaded (codes "http://h/a") (codes "\"x\"") 5 0) ∷ Said 3 5 (codes "hello") ∷ wait true (3 ∷ []) [] ∷ [])) ≡ true
+row50doubled11 : is_some (fault_from 0 (start (record { words = (codes "diskRun=1") ∷ text0 ∷ text1 ∷ []; faults = 0 } ∷ record { words = (codes "diskRun=1") ∷ text0 ∷ text1 ∷ []; faults = 0 } ∷ [])) (front0 ++ Woke ((text11, text13) ∷ []) ∷ Rooted text2 ∷ Listed true ∷ Listens 8123 true ∷ wait true [] [] ∷ Clock 784111787 ∷ wait true [] [] ∷ Opened 3 ∷ wait true (3 ∷ []) [] ∷ CanRead 3 ∷ Heard 3 text7 ∷ Noted (Taken 3 0 (Hit 0 5)) ∷ Noted (Taken 3 0 (Hit 0 5)) ∷ wait true (3 ∷ []) (3 ∷ []) ∷ CanWrite 3 ∷ Said 3 163 text14 ∷ wait true (3 ∷ []) (3 ∷ []) ∷ CanWrite 3 ∷ Noted (Loaded (codes "http://h/a") (codes "\"x\"") 5 0) ∷ Said 3 5 (codes "hello") ∷ wait true (3 ∷ []) [] ∷ [])) ≡ true
 unfolding judging
-row43swapped14 = refl
+row50doubled11 = refl
 
-row43swapped15 : is_some (fault_from 0 (start (record { words = (codes "diskRun=1") ∷ text0 ∷ text1 ∷ []; faults = 0 } ∷ record { words = (codes "diskRun=1") ∷ text0 ∷ text1 ∷ []; faults = 0 } ∷ [])) (front0 ++ Woke ((text7, text9) ∷ []) ∷ Rooted text2 ∷ Listed true ∷ Listens 8123 true ∷ wait true [] [] ∷ Clock 784111787 ∷ wait true [] [] ∷ Opened 3 ∷ wait true (3 ∷ []) [] ∷ CanRead 3 ∷ Heard 3 text3 ∷ Noted (Taken 3 0 (Hit 0 5)) ∷ wait true (3 ∷ []) (3 ∷ []) ∷ CanWrite 3 ∷ Said 3 163 text10 ∷ CanWrite 3 ∷ wait true (3 ∷ []) (3 ∷ []) ∷ Noted (Loaded (codes "http://h/a") (codes "\"x\"") 5 0) ∷ Said 3 5 (codes "hello") ∷ wait true (3 ∷ []) [] ∷ [])) ≡ true
+row50doubled12 : is_some (fault_from 0 (start (record { words = (codes "diskRun=1") ∷ text0 ∷ text1 ∷ []; faults = 0 } ∷ record { words = (codes "diskRun=1") ∷ text0 ∷ text1 ∷ []; faults = 0 } ∷ [])) (front0 ++ Woke ((text11, text13) ∷ []) ∷ Rooted text2 ∷ Listed true ∷ Listens 8123 true ∷ wait true [] [] ∷ Clock 784111787 ∷ wait true [] [] ∷ Opened 3 ∷ wait true (3 ∷ []) [] ∷ CanRead 3 ∷ Heard 3 text7 ∷ Noted (Taken 3 0 (Hit 0 5)) ∷ wait true (3 ∷ []) (3 ∷ []) ∷ wait true (3 ∷ []) (3 ∷ []) ∷ CanWrite 3 ∷ Said 3 163 text14 ∷ wait true (3 ∷ []) (3 ∷ []) ∷ CanWrite 3 ∷ Noted (Loaded (codes "http://h/a") (codes "\"x\"") 5 0) ∷ Said 3 5 (codes "hello") ∷ wait true (3 ∷ []) [] ∷ [])) ≡ true
 unfolding judging
-row43swapped15 = refl
+row50doubled12 = refl
 
-row43swapped16 : is_some (fault_from 0 (start (record { words = (codes "diskRun=1") ∷ text0 ∷ text1 ∷ []; faults = 0 } ∷ record { words = (codes "diskRun=1") ∷ text0 ∷ text1 ∷ []; faults = 0 } ∷ [])) (front0 ++ Woke ((text7, text9) ∷ []) ∷ Rooted text2 ∷ Listed true ∷ Listens 8123 true ∷ wait true [] [] ∷ Clock 784111787 ∷ wait true [] [] ∷ Opened 3 ∷ wait true (3 ∷ []) [] ∷ CanRead 3 ∷ Heard 3 text3 ∷ Noted (Taken 3 0 (Hit 0 5)) ∷ wait true (3 ∷ []) (3 ∷ []) ∷ CanWrite 3 ∷ Said 3 163 text10 ∷ wait true (3 ∷ []) (3 ∷ []) ∷ Noted (Loaded (codes "http://h/a") (codes "\"x\"") 5 0) ∷ CanWrite 3 ∷ Said 3 5 (codes "hello") ∷ wait true (3 ∷ []) [] ∷ [])) ≡ true
+row50doubled13 : is_some (fault_from 0 (start (record { words = (codes "diskRun=1") ∷ text0 ∷ text1 ∷ []; faults = 0 } ∷ record { words = (codes "diskRun=1") ∷ text0 ∷ text1 ∷ []; faults = 0 } ∷ [])) (front0 ++ Woke ((text11, text13) ∷ []) ∷ Rooted text2 ∷ Listed true ∷ Listens 8123 true ∷ wait true [] [] ∷ Clock 784111787 ∷ wait true [] [] ∷ Opened 3 ∷ wait true (3 ∷ []) [] ∷ CanRead 3 ∷ Heard 3 text7 ∷ Noted (Taken 3 0 (Hit 0 5)) ∷ wait true (3 ∷ []) (3 ∷ []) ∷ CanWrite 3 ∷ CanWrite 3 ∷ Said 3 163 text14 ∷ wait true (3 ∷ []) (3 ∷ []) ∷ CanWrite 3 ∷ Noted (Loaded (codes "http://h/a") (codes "\"x\"") 5 0) ∷ Said 3 5 (codes "hello") ∷ wait true (3 ∷ []) [] ∷ [])) ≡ true
 unfolding judging
-row43swapped16 = refl
+row50doubled13 = refl
 
-row43swapped17 : is_some (fault_from 0 (start (record { words = (codes "diskRun=1") ∷ text0 ∷ text1 ∷ []; faults = 0 } ∷ record { words = (codes "diskRun=1") ∷ text0 ∷ text1 ∷ []; faults = 0 } ∷ [])) (front0 ++ Woke ((text7, text9) ∷ []) ∷ Rooted text2 ∷ Listed true ∷ Listens 8123 true ∷ wait true [] [] ∷ Clock 784111787 ∷ wait true [] [] ∷ Opened 3 ∷ wait true (3 ∷ []) [] ∷ CanRead 3 ∷ Heard 3 text3 ∷ Noted (Taken 3 0 (Hit 0 5)) ∷ wait true (3 ∷ []) (3 ∷ []) ∷ CanWrite 3 ∷ Said 3 163 text10 ∷ wait true (3 ∷ []) (3 ∷ []) ∷ CanWrite 3 ∷ Said 3 5 (codes "hello") ∷ Noted (Loaded (codes "http://h/a") (codes "\"x\"") 5 0) ∷ wait true (3 ∷ []) [] ∷ [])) ≡ true
+row50doubled14 : is_some (fault_from 0 (start (record { words = (codes "diskRun=1") ∷ text0 ∷ text1 ∷ []; faults = 0 } ∷ record { words = (codes "diskRun=1") ∷ text0 ∷ text1 ∷ []; faults = 0 } ∷ [])) (front0 ++ Woke ((text11, text13) ∷ []) ∷ Rooted text2 ∷ Listed true ∷ Listens 8123 true ∷ wait true [] [] ∷ Clock 784111787 ∷ wait true [] [] ∷ Opened 3 ∷ wait true (3 ∷ []) [] ∷ CanRead 3 ∷ Heard 3 text7 ∷ Noted (Taken 3 0 (Hit 0 5)) ∷ wait true (3 ∷ []) (3 ∷ []) ∷ CanWrite 3 ∷ Said 3 163 text14 ∷ Said 3 163 text14 ∷ wait true (3 ∷ []) (3 ∷ []) ∷ CanWrite 3 ∷ Noted (Loaded (codes "http://h/a") (codes "\"x\"") 5 0) ∷ Said 3 5 (codes "hello") ∷ wait true (3 ∷ []) [] ∷ [])) ≡ true
 unfolding judging
-row43swapped17 = refl
+row50doubled14 = refl
 
-row43swapped18 : is_some (fault_from 0 (start (record { words = (codes "diskRun=1") ∷ text0 ∷ text1 ∷ []; faults = 0 } ∷ record { words = (codes "diskRun=1") ∷ text0 ∷ text1 ∷ []; faults = 0 } ∷ [])) (front0 ++ Woke ((text7, text9) ∷ []) ∷ Rooted text2 ∷ Listed true ∷ Listens 8123 true ∷ wait true [] [] ∷ Clock 784111787 ∷ wait true [] [] ∷ Opened 3 ∷ wait true (3 ∷ []) [] ∷ CanRead 3 ∷ Heard 3 text3 ∷ Noted (Taken 3 0 (Hit 0 5)) ∷ wait true (3 ∷ []) (3 ∷ []) ∷ CanWrite 3 ∷ Said 3 163 text10 ∷ wait true (3 ∷ []) (3 ∷ []) ∷ CanWrite 3 ∷ Noted (Loaded (codes "http://h/a") (codes "\"x\"") 5 0) ∷ wait true (3 ∷ []) [] ∷ Said 3 5 (codes "hello") ∷ [])) ≡ true
+row50doubled15 : is_some (fault_from 0 (start (record { words = (codes "diskRun=1") ∷ text0 ∷ text1 ∷ []; faults = 0 } ∷ record { words = (codes "diskRun=1") ∷ text0 ∷ text1 ∷ []; faults = 0 } ∷ [])) (front0 ++ Woke ((text11, text13) ∷ []) ∷ Rooted text2 ∷ Listed true ∷ Listens 8123 true ∷ wait true [] [] ∷ Clock 784111787 ∷ wait true [] [] ∷ Opened 3 ∷ wait true (3 ∷ []) [] ∷ CanRead 3 ∷ Heard 3 text7 ∷ Noted (Taken 3 0 (Hit 0 5)) ∷ wait true (3 ∷ []) (3 ∷ []) ∷ CanWrite 3 ∷ Said 3 163 text14 ∷ wait true (3 ∷ []) (3 ∷ []) ∷ wait true (3 ∷ []) (3 ∷ []) ∷ CanWrite 3 ∷ Noted (Loaded (codes "http://h/a") (codes "\"x\"") 5 0) ∷ Said 3 5 (codes "hello") ∷ wait true (3 ∷ []) [] ∷ [])) ≡ true
 unfolding judging
-row43swapped18 = refl
+row50doubled15 = refl
 
-row43swapped19 : fault_from 0 (start (record { words = (codes "diskRun=1") ∷ text0 ∷ text1 ∷ []; faults = 0 } ∷ record { words = (codes "diskRun=1") ∷ text0 ∷ text1 ∷ []; faults = 0 } ∷ [])) (front0 ++ Woke ((text7, text9) ∷ []) ∷ Rooted text2 ∷ Listed true ∷ Listens 8123 true ∷ wait true [] [] ∷ Clock 784111787 ∷ wait true [] [] ∷ Opened 3 ∷ wait true (3 ∷ []) [] ∷ CanRead 3 ∷ Heard 3 text3 ∷ Noted (Taken 3 0 (Hit 0 5)) ∷ wait true (3 ∷ []) (3 ∷ []) ∷ CanWrite 3 ∷ Said 3 163 text10 ∷ wait true (3 ∷ []) (3 ∷ []) ∷ CanWrite 3 ∷ Noted (Loaded (codes "http://h/a") (codes "\"x\"") 5 0) ∷ Said 3 5 (codes "hello") ∷ wait true (3 ∷ []) [] ∷ []) ≡ None
+row50doubled16 : is_some (fault_from 0 (start (record { words = (codes "diskRun=1") ∷ text0 ∷ text1 ∷ []; faults = 0 } ∷ record { words = (codes "diskRun=1") ∷ text0 ∷ text1 ∷ []; faults = 0 } ∷ [])) (front0 ++ Woke ((text11, text13) ∷ []) ∷ Rooted text2 ∷ Listed true ∷ Listens 8123 true ∷ wait true [] [] ∷ Clock 784111787 ∷ wait true [] [] ∷ Opened 3 ∷ wait true (3 ∷ []) [] ∷ CanRead 3 ∷ Heard 3 text7 ∷ Noted (Taken 3 0 (Hit 0 5)) ∷ wait true (3 ∷ []) (3 ∷ []) ∷ CanWrite 3 ∷ Said 3 163 text14 ∷ wait true (3 ∷ []) (3 ∷ []) ∷ CanWrite 3 ∷ CanWrite 3 ∷ Noted (Loaded (codes "http://h/a") (codes "\"x\"") 5 0) ∷ Said 3 5 (codes "hello") ∷ wait true (3 ∷ []) [] ∷ [])) ≡ true
 unfolding judging
-row43swapped19 = refl
+row50doubled16 = refl
+
+row50doubled17 : is_some (fault_from 0 (start (record { words = (codes "diskRun=1") ∷ text0 ∷ text1 ∷ []; faults = 0 } ∷ record { words = (codes "diskRun=1") ∷ text0 ∷ text1 ∷ []; faults = 0 } ∷ [])) (front0 ++ Woke ((text11, text13) ∷ []) ∷ Rooted text2 ∷ Listed true ∷ Listens 8123 true ∷ wait true [] [] ∷ Clock 784111787 ∷ wait true [] [] ∷ Opened 3 ∷ wait true (3 ∷ []) [] ∷ CanRead 3 ∷ Heard 3 text7 ∷ Noted (Taken 3 0 (Hit 0 5)) ∷ wait true (3 ∷ []) (3 ∷ []) ∷ CanWrite 3 ∷ Said 3 163 text14 ∷ wait true (3 ∷ []) (3 ∷ []) ∷ CanWrite 3 ∷ Noted (Loaded (codes "http://h/a") (codes "\"x\"") 5 0) ∷ Noted (Loaded (codes "http://h/a") (codes "\"x\"") 5 0) ∷ Said 3 5 (codes "hello") ∷ wait true (3 ∷ []) [] ∷ [])) ≡ true
+unfolding judging
+row50doubled17 = refl
+
+row50doubled18 : is_some (fault_from 0 (start (record { words = (codes "diskRun=1") ∷ text0 ∷ text1 ∷ []; faults = 0 } ∷ record { words = (codes "diskRun=1") ∷ text0 ∷ text1 ∷ []; faults = 0 } ∷ [])) (front0 ++ Woke ((text11, text13) ∷ []) ∷ Rooted text2 ∷ Listed true ∷ Listens 8123 true ∷ wait true [] [] ∷ Clock 784111787 ∷ wait true [] [] ∷ Opened 3 ∷ wait true (3 ∷ []) [] ∷ CanRead 3 ∷ Heard 3 text7 ∷ Noted (Taken 3 0 (Hit 0 5)) ∷ wait true (3 ∷ []) (3 ∷ []) ∷ CanWrite 3 ∷ Said 3 163 text14 ∷ wait true (3 ∷ []) (3 ∷ []) ∷ CanWrite 3 ∷ Noted (Loaded (codes "http://h/a") (codes "\"x\"") 5 0) ∷ Said 3 5 (codes "hello") ∷ Said 3 5 (codes "hello") ∷ wait true (3 ∷ []) [] ∷ [])) ≡ true
+unfolding judging
+row50doubled18 = refl
+
+row50doubled19 : is_some (fault_from 0 (start (record { words = (codes "diskRun=1") ∷ text0 ∷ text1 ∷ []; faults = 0 } ∷ record { words = (codes "diskRun=1") ∷ text0 ∷ text1 ∷ []; faults = 0 } ∷ [])) (front0 ++ Woke ((text11, text13) ∷ []) ∷ Rooted text2 ∷ Listed true ∷ Listens 8123 true ∷ wait true [] [] ∷ Clock 784111787 ∷ wait true [] [] ∷ Opened 3 ∷ wait true (3 ∷ []) [] ∷ CanRead 3 ∷ Heard 3 text7 ∷ Noted (Taken 3 0 (Hit 0 5)) ∷ wait true (3 ∷ []) (3 ∷ []) ∷ CanWrite 3 ∷ Said 3 163 text14 ∷ wait true (3 ∷ []) (3 ∷ []) ∷ CanWrite 3 ∷ Noted (Loaded (codes "http://h/a") (codes "\"x\"") 5 0) ∷ Said 3 5 (codes "hello") ∷ wait true (3 ∷ []) [] ∷ wait true (3 ∷ []) [] ∷ [])) ≡ true
+unfolding judging
+row50doubled19 = refl
+
+row50swapped0 : is_some (fault_from 0 (start (record { words = (codes "diskRun=1") ∷ text0 ∷ text1 ∷ []; faults = 0 } ∷ record { words = (codes "diskRun=1") ∷ text0 ∷ text1 ∷ []; faults = 0 } ∷ [])) (front0 ++ Rooted text2 ∷ Woke ((text11, text13) ∷ []) ∷ Listed true ∷ Listens 8123 true ∷ wait true [] [] ∷ Clock 784111787 ∷ wait true [] [] ∷ Opened 3 ∷ wait true (3 ∷ []) [] ∷ CanRead 3 ∷ Heard 3 text7 ∷ Noted (Taken 3 0 (Hit 0 5)) ∷ wait true (3 ∷ []) (3 ∷ []) ∷ CanWrite 3 ∷ Said 3 163 text14 ∷ wait true (3 ∷ []) (3 ∷ []) ∷ CanWrite 3 ∷ Noted (Loaded (codes "http://h/a") (codes "\"x\"") 5 0) ∷ Said 3 5 (codes "hello") ∷ wait true (3 ∷ []) [] ∷ [])) ≡ true
+unfolding judging
+row50swapped0 = refl
+
+row50swapped1 : is_some (fault_from 0 (start (record { words = (codes "diskRun=1") ∷ text0 ∷ text1 ∷ []; faults = 0 } ∷ record { words = (codes "diskRun=1") ∷ text0 ∷ text1 ∷ []; faults = 0 } ∷ [])) (front0 ++ Woke ((text11, text13) ∷ []) ∷ Listed true ∷ Rooted text2 ∷ Listens 8123 true ∷ wait true [] [] ∷ Clock 784111787 ∷ wait true [] [] ∷ Opened 3 ∷ wait true (3 ∷ []) [] ∷ CanRead 3 ∷ Heard 3 text7 ∷ Noted (Taken 3 0 (Hit 0 5)) ∷ wait true (3 ∷ []) (3 ∷ []) ∷ CanWrite 3 ∷ Said 3 163 text14 ∷ wait true (3 ∷ []) (3 ∷ []) ∷ CanWrite 3 ∷ Noted (Loaded (codes "http://h/a") (codes "\"x\"") 5 0) ∷ Said 3 5 (codes "hello") ∷ wait true (3 ∷ []) [] ∷ [])) ≡ true
+unfolding judging
+row50swapped1 = refl
+
+row50swapped2 : is_some (fault_from 0 (start (record { words = (codes "diskRun=1") ∷ text0 ∷ text1 ∷ []; faults = 0 } ∷ record { words = (codes "diskRun=1") ∷ text0 ∷ text1 ∷ []; faults = 0 } ∷ [])) (front0 ++ Woke ((text11, text13) ∷ []) ∷ Rooted text2 ∷ Listens 8123 true ∷ Listed true ∷ wait true [] [] ∷ Clock 784111787 ∷ wait true [] [] ∷ Opened 3 ∷ wait true (3 ∷ []) [] ∷ CanRead 3 ∷ Heard 3 text7 ∷ Noted (Taken 3 0 (Hit 0 5)) ∷ wait true (3 ∷ []) (3 ∷ []) ∷ CanWrite 3 ∷ Said 3 163 text14 ∷ wait true (3 ∷ []) (3 ∷ []) ∷ CanWrite 3 ∷ Noted (Loaded (codes "http://h/a") (codes "\"x\"") 5 0) ∷ Said 3 5 (codes "hello") ∷ wait true (3 ∷ []) [] ∷ [])) ≡ true
+unfolding judging
+row50swapped2 = refl
+
+row50swapped3 : is_some (fault_from 0 (start (record { words = (codes "diskRun=1") ∷ text0 ∷ text1 ∷ []; faults = 0 } ∷ record { words = (codes "diskRun=1") ∷ text0 ∷ text1 ∷ []; faults = 0 } ∷ [])) (front0 ++ Woke ((text11, text13) ∷ []) ∷ Rooted text2 ∷ Listed true ∷ wait true [] [] ∷ Listens 8123 true ∷ Clock 784111787 ∷ wait true [] [] ∷ Opened 3 ∷ wait true (3 ∷ []) [] ∷ CanRead 3 ∷ Heard 3 text7 ∷ Noted (Taken 3 0 (Hit 0 5)) ∷ wait true (3 ∷ []) (3 ∷ []) ∷ CanWrite 3 ∷ Said 3 163 text14 ∷ wait true (3 ∷ []) (3 ∷ []) ∷ CanWrite 3 ∷ Noted (Loaded (codes "http://h/a") (codes "\"x\"") 5 0) ∷ Said 3 5 (codes "hello") ∷ wait true (3 ∷ []) [] ∷ [])) ≡ true
+unfolding judging
+row50swapped3 = refl
+
+row50swapped4 : is_some (fault_from 0 (start (record { words = (codes "diskRun=1") ∷ text0 ∷ text1 ∷ []; faults = 0 } ∷ record { words = (codes "diskRun=1") ∷ text0 ∷ text1 ∷ []; faults = 0 } ∷ [])) (front0 ++ Woke ((text11, text13) ∷ []) ∷ Rooted text2 ∷ Listed true ∷ Listens 8123 true ∷ Clock 784111787 ∷ wait true [] [] ∷ wait true [] [] ∷ Opened 3 ∷ wait true (3 ∷ []) [] ∷ CanRead 3 ∷ Heard 3 text7 ∷ Noted (Taken 3 0 (Hit 0 5)) ∷ wait true (3 ∷ []) (3 ∷ []) ∷ CanWrite 3 ∷ Said 3 163 text14 ∷ wait true (3 ∷ []) (3 ∷ []) ∷ CanWrite 3 ∷ Noted (Loaded (codes "http://h/a") (codes "\"x\"") 5 0) ∷ Said 3 5 (codes "hello") ∷ wait true (3 ∷ []) [] ∷ [])) ≡ true
+unfolding judging
+row50swapped4 = refl
+
+row50swapped5 : is_some (fault_from 0 (start (record { words = (codes "diskRun=1") ∷ text0 ∷ text1 ∷ []; faults = 0 } ∷ record { words = (codes "diskRun=1") ∷ text0 ∷ text1 ∷ []; faults = 0 } ∷ [])) (front0 ++ Woke ((text11, text13) ∷ []) ∷ Rooted text2 ∷ Listed true ∷ Listens 8123 true ∷ wait true [] [] ∷ wait true [] [] ∷ Clock 784111787 ∷ Opened 3 ∷ wait true (3 ∷ []) [] ∷ CanRead 3 ∷ Heard 3 text7 ∷ Noted (Taken 3 0 (Hit 0 5)) ∷ wait true (3 ∷ []) (3 ∷ []) ∷ CanWrite 3 ∷ Said 3 163 text14 ∷ wait true (3 ∷ []) (3 ∷ []) ∷ CanWrite 3 ∷ Noted (Loaded (codes "http://h/a") (codes "\"x\"") 5 0) ∷ Said 3 5 (codes "hello") ∷ wait true (3 ∷ []) [] ∷ [])) ≡ true
+unfolding judging
+row50swapped5 = refl
+
+row50swapped6 : is_some (fault_from 0 (start (record { words = (codes "diskRun=1") ∷ text0 ∷ text1 ∷ []; faults = 0 } ∷ record { words = (codes "diskRun=1") ∷ text0 ∷ text1 ∷ []; faults = 0 } ∷ [])) (front0 ++ Woke ((text11, text13) ∷ []) ∷ Rooted text2 ∷ Listed true ∷ Listens 8123 true ∷ wait true [] [] ∷ Clock 784111787 ∷ Opened 3 ∷ wait true [] [] ∷ wait true (3 ∷ []) [] ∷ CanRead 3 ∷ Heard 3 text7 ∷ Noted (Taken 3 0 (Hit 0 5)) ∷ wait true (3 ∷ []) (3 ∷ []) ∷ CanWrite 3 ∷ Said 3 163 text14 ∷ wait true (3 ∷ []) (3 ∷ []) ∷ CanWrite 3 ∷ Noted (Loaded (codes "http://h/a") (codes "\"x\"") 5 0) ∷ Said 3 5 (codes "hello") ∷ wait true (3 ∷ []) [] ∷ [])) ≡ true
+unfolding judging
+row50swapped6 = refl
+
+row50swapped7 : is_some (fault_from 0 (start (record { words = (codes "diskRun=1") ∷ text0 ∷ text1 ∷ []; faults = 0 } ∷ record { words = (codes "diskRun=1") ∷ text0 ∷ text1 ∷ []; faults = 0 } ∷ [])) (front0 ++ Woke ((text11, text13) ∷ []) ∷ Rooted text2 ∷ Listed true ∷ Listens 8123 true ∷ wait true [] [] ∷ Clock 784111787 ∷ wait true [] [] ∷ wait true (3 ∷ []) [] ∷ Opened 3 ∷ CanRead 3 ∷ Heard 3 text7 ∷ Noted (Taken 3 0 (Hit 0 5)) ∷ wait true (3 ∷ []) (3 ∷ []) ∷ CanWrite 3 ∷ Said 3 163 text14 ∷ wait true (3 ∷ []) (3 ∷ []) ∷ CanWrite 3 ∷ Noted (Loaded (codes "http://h/a") (codes "\"x\"") 5 0) ∷ Said 3 5 (codes "hello") ∷ wait true (3 ∷ []) [] ∷ [])) ≡ true
+unfolding judging
+row50swapped7 = refl
+
+row50swapped8 : is_some (fault_from 0 (start (record { words = (codes "diskRun=1") ∷ text0 ∷ text1 ∷ []; faults = 0 } ∷ record { words = (codes "diskRun=1") ∷ text0 ∷ text1 ∷ []; faults = 0 } ∷ [])) (front0 ++ Woke ((text11, text13) ∷ []) ∷ Rooted text2 ∷ Listed true ∷ Listens 8123 true ∷ wait true [] [] ∷ Clock 784111787 ∷ wait true [] [] ∷ Opened 3 ∷ CanRead 3 ∷ wait true (3 ∷ []) [] ∷ Heard 3 text7 ∷ Noted (Taken 3 0 (Hit 0 5)) ∷ wait true (3 ∷ []) (3 ∷ []) ∷ CanWrite 3 ∷ Said 3 163 text14 ∷ wait true (3 ∷ []) (3 ∷ []) ∷ CanWrite 3 ∷ Noted (Loaded (codes "http://h/a") (codes "\"x\"") 5 0) ∷ Said 3 5 (codes "hello") ∷ wait true (3 ∷ []) [] ∷ [])) ≡ true
+unfolding judging
+row50swapped8 = refl
+
+row50swapped9 : is_some (fault_from 0 (start (record { words = (codes "diskRun=1") ∷ text0 ∷ text1 ∷ []; faults = 0 } ∷ record { words = (codes "diskRun=1") ∷ text0 ∷ text1 ∷ []; faults = 0 } ∷ [])) (front0 ++ Woke ((text11, text13) ∷ []) ∷ Rooted text2 ∷ Listed true ∷ Listens 8123 true ∷ wait true [] [] ∷ Clock 784111787 ∷ wait true [] [] ∷ Opened 3 ∷ wait true (3 ∷ []) [] ∷ Heard 3 text7 ∷ CanRead 3 ∷ Noted (Taken 3 0 (Hit 0 5)) ∷ wait true (3 ∷ []) (3 ∷ []) ∷ CanWrite 3 ∷ Said 3 163 text14 ∷ wait true (3 ∷ []) (3 ∷ []) ∷ CanWrite 3 ∷ Noted (Loaded (codes "http://h/a") (codes "\"x\"") 5 0) ∷ Said 3 5 (codes "hello") ∷ wait true (3 ∷ []) [] ∷ [])) ≡ true
+unfolding judging
+row50swapped9 = refl
+
+row50swapped10 : is_some (fault_from 0 (start (record { words = (codes "diskRun=1") ∷ text0 ∷ text1 ∷ []; faults = 0 } ∷ record { words = (codes "diskRun=1") ∷ text0 ∷ text1 ∷ []; faults = 0 } ∷ [])) (front0 ++ Woke ((text11, text13) ∷ []) ∷ Rooted text2 ∷ Listed true ∷ Listens 8123 true ∷ wait true [] [] ∷ Clock 784111787 ∷ wait true [] [] ∷ Opened 3 ∷ wait true (3 ∷ []) [] ∷ CanRead 3 ∷ Noted (Taken 3 0 (Hit 0 5)) ∷ Heard 3 text7 ∷ wait true (3 ∷ []) (3 ∷ []) ∷ CanWrite 3 ∷ Said 3 163 text14 ∷ wait true (3 ∷ []) (3 ∷ []) ∷ CanWrite 3 ∷ Noted (Loaded (codes "http://h/a") (codes "\"x\"") 5 0) ∷ Said 3 5 (codes "hello") ∷ wait true (3 ∷ []) [] ∷ [])) ≡ true
+unfolding judging
+row50swapped10 = refl
+
+row50swapped11 : is_some (fault_from 0 (start (record { words = (codes "diskRun=1") ∷ text0 ∷ text1 ∷ []; faults = 0 } ∷ record { words = (codes "diskRun=1") ∷ text0 ∷ text1 ∷ []; faults = 0 } ∷ [])) (front0 ++ Woke ((text11, text13) ∷ []) ∷ Rooted text2 ∷ Listed true ∷ Listens 8123 true ∷ wait true [] [] ∷ Clock 784111787 ∷ wait true [] [] ∷ Opened 3 ∷ wait true (3 ∷ []) [] ∷ CanRead 3 ∷ Heard 3 text7 ∷ wait true (3 ∷ []) (3 ∷ []) ∷ Noted (Taken 3 0 (Hit 0 5)) ∷ CanWrite 3 ∷ Said 3 163 text14 ∷ wait true (3 ∷ []) (3 ∷ []) ∷ CanWrite 3 ∷ Noted (Loaded (codes "http://h/a") (codes "\"x\"") 5 0) ∷ Said 3 5 (codes "hello") ∷ wait true (3 ∷ []) [] ∷ [])) ≡ true
+unfolding judging
+row50swapped11 = refl
+
+row50swapped12 : is_some (fault_from 0 (start (record { words = (codes "diskRun=1") ∷ text0 ∷ text1 ∷ []; faults = 0 } ∷ record { words = (codes "diskRun=1") ∷ text0 ∷ text1 ∷ []; faults = 0 } ∷ [])) (front0 ++ Woke ((text11, text13) ∷ []) ∷ Rooted text2 ∷ Listed true ∷ Listens 8123 true ∷ wait true [] [] ∷ Clock 784111787 ∷ wait true [] [] ∷ Opened 3 ∷ wait true (3 ∷ []) [] ∷ CanRead 3 ∷ Heard 3 text7 ∷ Noted (Taken 3 0 (Hit 0 5)) ∷ CanWrite 3 ∷ wait true (3 ∷ []) (3 ∷ []) ∷ Said 3 163 text14 ∷ wait true (3 ∷ []) (3 ∷ []) ∷ CanWrite 3 ∷ Noted (Loaded (codes "http://h/a") (codes "\"x\"") 5 0) ∷ Said 3 5 (codes "hello") ∷ wait true (3 ∷ []) [] ∷ [])) ≡ true
+unfolding judging
+row50swapped12 = refl
+
+row50swapped13 : is_some (fault_from 0 (start (record { words = (codes "diskRun=1") ∷ text0 ∷ text1 ∷ []; faults = 0 } ∷ record { words = (codes "diskRun=1") ∷ text0 ∷ text1 ∷ []; faults = 0 } ∷ [])) (front0 ++ Woke ((text11, text13) ∷ []) ∷ Rooted text2 ∷ Listed true ∷ Listens 8123 true ∷ wait true [] [] ∷ Clock 784111787 ∷ wait true [] [] ∷ Opened 3 ∷ wait true (3 ∷ []) [] ∷ CanRead 3 ∷ Heard 3 text7 ∷ Noted (Taken 3 0 (Hit 0 5)) ∷ wait true (3 ∷ []) (3 ∷ []) ∷ Said 3 163 text14 ∷ CanWrite 3 ∷ wait true (3 ∷ []) (3 ∷ []) ∷ CanWrite 3 ∷ Noted (Loaded (codes "http://h/a") (codes "\"x\"") 5 0) ∷ Said 3 5 (codes "hello") ∷ wait true (3 ∷ []) [] ∷ [])) ≡ true
+unfolding judging
+row50swapped13 = refl
+
+row50swapped14 : is_some (fault_from 0 (start (record { words = (codes "diskRun=1") ∷ text0 ∷ text1 ∷ []; faults = 0 } ∷ record { words = (codes "diskRun=1") ∷ text0 ∷ text1 ∷ []; faults = 0 } ∷ [])) (front0 ++ Woke ((text11, text13) ∷ []) ∷ Rooted text2 ∷ Listed true ∷ Listens 8123 true ∷ wait true [] [] ∷ Clock 784111787 ∷ wait true [] [] ∷ Opened 3 ∷ wait true (3 ∷ []) [] ∷ CanRead 3 ∷ Heard 3 text7 ∷ Noted (Taken 3 0 (Hit 0 5)) ∷ wait true (3 ∷ []) (3 ∷ []) ∷ CanWrite 3 ∷ wait true (3 ∷ []) (3 ∷ []) ∷ Said 3 163 text14 ∷ CanWrite 3 ∷ Noted (Loaded (codes "http://h/a") (codes "\"x\"") 5 0) ∷ Said 3 5 (codes "hello") ∷ wait true (3 ∷ []) [] ∷ [])) ≡ true
+unfolding judging
+row50swapped14 = refl
+
+row50swapped15 : is_some (fault_from 0 (start (record { words = (codes "diskRun=1") ∷ text0 ∷ text1 ∷ []; faults = 0 } ∷ record { words = (codes "diskRun=1") ∷ text0 ∷ text1 ∷ []; faults = 0 } ∷ [])) (front0 ++ Woke ((text11, text13) ∷ []) ∷ Rooted text2 ∷ Listed true ∷ Listens 8123 true ∷ wait true [] [] ∷ Clock 784111787 ∷ wait true [] [] ∷ Opened 3 ∷ wait true (3 ∷ []) [] ∷ CanRead 3 ∷ Heard 3 text7 ∷ Noted (Taken 3 0 (Hit 0 5)) ∷ wait true (3 ∷ []) (3 ∷ []) ∷ CanWrite 3 ∷ Said 3 163 text14 ∷ CanWrite 3 ∷ wait true (3 ∷ []) (3 ∷ []) ∷ Noted (Loaded (codes "http://h/a") (codes "\"x\"") 5 0) ∷ Said 3 5 (codes "hello") ∷ wait true (3 ∷ []) [] ∷ [])) ≡ true
+unfolding judging
+row50swapped15 = refl
+
+row50swapped16 : is_some (fault_from 0 (start (record { words = (codes "diskRun=1") ∷ text0 ∷ text1 ∷ []; faults = 0 } ∷ record { words = (codes "diskRun=1") ∷ text0 ∷ text1 ∷ []; faults = 0 } ∷ [])) (front0 ++ Woke ((text11, text13) ∷ []) ∷ Rooted text2 ∷ Listed true ∷ Listens 8123 true ∷ wait true [] [] ∷ Clock 784111787 ∷ wait true [] [] ∷ Opened 3 ∷ wait true (3 ∷ []) [] ∷ CanRead 3 ∷ Heard 3 text7 ∷ Noted (Taken 3 0 (Hit 0 5)) ∷ wait true (3 ∷ []) (3 ∷ []) ∷ CanWrite 3 ∷ Said 3 163 text14 ∷ wait true (3 ∷ []) (3 ∷ []) ∷ Noted (Loaded (codes "http://h/a") (codes "\"x\"") 5 0) ∷ CanWrite 3 ∷ Said 3 5 (codes "hello") ∷ wait true (3 ∷ []) [] ∷ [])) ≡ true
+unfolding judging
+row50swapped16 = refl
+
+row50swapped17 : is_some (fault_from 0 (start (record { words = (codes "diskRun=1") ∷ text0 ∷ text1 ∷ []; faults = 0 } ∷ record { words = (codes "diskRun=1") ∷ text0 ∷ text1 ∷ []; faults = 0 } ∷ [])) (front0 ++ Woke ((text11, text13) ∷ []) ∷ Rooted text2 ∷ Listed true ∷ Listens 8123 true ∷ wait true [] [] ∷ Clock 784111787 ∷ wait true [] [] ∷ Opened 3 ∷ wait true (3 ∷ []) [] ∷ CanRead 3 ∷ Heard 3 text7 ∷ Noted (Taken 3 0 (Hit 0 5)) ∷ wait true (3 ∷ []) (3 ∷ []) ∷ CanWrite 3 ∷ Said 3 163 text14 ∷ wait true (3 ∷ []) (3 ∷ []) ∷ CanWrite 3 ∷ Said 3 5 (codes "hello") ∷ Noted (Loaded (codes "http://h/a") (codes "\"x\"") 5 0) ∷ wait true (3 ∷ []) [] ∷ [])) ≡ true
+unfolding judging
+row50swapped17 = refl
+
+row50swapped18 : is_some (fault_from 0 (start (record { words = (codes "diskRun=1") ∷ text0 ∷ text1 ∷ []; faults = 0 } ∷ record { words = (codes "diskRun=1") ∷ text0 ∷ text1 ∷ []; faults = 0 } ∷ [])) (front0 ++ Woke ((text11, text13) ∷ []) ∷ Rooted text2 ∷ Listed true ∷ Listens 8123 true ∷ wait true [] [] ∷ Clock 784111787 ∷ wait true [] [] ∷ Opened 3 ∷ wait true (3 ∷ []) [] ∷ CanRead 3 ∷ Heard 3 text7 ∷ Noted (Taken 3 0 (Hit 0 5)) ∷ wait true (3 ∷ []) (3 ∷ []) ∷ CanWrite 3 ∷ Said 3 163 text14 ∷ wait true (3 ∷ []) (3 ∷ []) ∷ CanWrite 3 ∷ Noted (Loaded (codes "http://h/a") (codes "\"x\"") 5 0) ∷ wait true (3 ∷ []) [] ∷ Said 3 5 (codes "hello") ∷ [])) ≡ true
+unfolding judging
+row50swapped18 = refl
+
+row50swapped19 : fault_from 0 (start (record { words = (codes "diskRun=1") ∷ text0 ∷ text1 ∷ []; faults = 0 } ∷ record { words = (codes "diskRun=1") ∷ text0 ∷ text1 ∷ []; faults = 0 } ∷ [])) (front0 ++ Woke ((text11, text13) ∷ []) ∷ Rooted text2 ∷ Listed true ∷ Listens 8123 true ∷ wait true [] [] ∷ Clock 784111787 ∷ wait true [] [] ∷ Opened 3 ∷ wait true (3 ∷ []) [] ∷ CanRead 3 ∷ Heard 3 text7 ∷ Noted (Taken 3 0 (Hit 0 5)) ∷ wait true (3 ∷ []) (3 ∷ []) ∷ CanWrite 3 ∷ Said 3 163 text14 ∷ wait true (3 ∷ []) (3 ∷ []) ∷ CanWrite 3 ∷ Noted (Loaded (codes "http://h/a") (codes "\"x\"") 5 0) ∷ Said 3 5 (codes "hello") ∷ wait true (3 ∷ []) [] ∷ []) ≡ None
+unfolding judging
+row50swapped19 = refl
