@@ -9,7 +9,7 @@ import threading
 import time
 
 from harness import case, equal, holds, together
-from origin import Answer, chunked, lines, noise, plain, response
+from origin import chunked, lines, noise, response
 from played import Played
 from world import LENGTH_REQUIRED, Client, reply, reply_head
 
@@ -230,41 +230,6 @@ def an_origin_that_breaks_off_cuts_behind_all_that_came(world):
     head = reply(body)[: -len(body)]
     equal(len(text), len(head) + len(body) - 1_000, "how many bytes come")
     equal(text, head + body[:-1_000], "what comes before the cut")
-
-
-def drain(client):
-    """Takes what waits for it, so that it may be written to again."""
-    client.socket.settimeout(0.2)
-    with contextlib.suppress(TimeoutError):
-        while client.socket.recv(1 << 18):
-            pass
-
-
-@case
-def an_answer_that_comes_before_its_ask_costs_nobody(world):
-    # a connection that waits for an ask is told goodbye in the moment in which it gets one (RFC 7230, section 6.5). The program
-    # reads and writes in turn: somebody else is written to first, so the goodbye is read before the ask is written
-    world.origin.on("/large", Answer(plain(noise(8_000_000))))
-    with Client(port=world.port) as before:
-        before.say(world.last_request("/large"))
-        before.hear_all()
-    goodbye = response(b"", b"Connection: close", status=b"408 Request Timeout")
-    for count in range(3):
-        with Played() as origin, Client(port=world.port) as client, Client(port=world.port) as deaf:
-            origin.always("/next", response(b"next"))
-            deaf.say(world.request("/large"))
-            time.sleep(0.3)
-            client.say(origin.request("/first"))
-            first = origin.take()
-            first.say(response(b"first"))
-            client.expect(reply(b"first"))
-            with world.paused():
-                client.say(origin.request("/next", b"Connection: close"))
-                time.sleep(0.02)
-                first.say(goodbye)
-                first.end()
-                drain(deaf)
-            equal(heard(client, 8), NEXT, f"the reply to an ask that was not sent, at try {count}")
 
 
 @case

@@ -2,7 +2,6 @@
 
 import contextlib
 import re
-import signal
 import socket
 import subprocess
 import tempfile
@@ -176,15 +175,6 @@ class World:
             yield other
         finally:
             other.stop()
-
-    @contextlib.contextmanager
-    def paused(self):
-        """The program stands still: what happens meanwhile it finds at once."""
-        self.process.send_signal(signal.SIGSTOP)
-        try:
-            yield
-        finally:
-            self.process.send_signal(signal.SIGCONT)
 
     def printed(self):
         self.output.seek(0)
