@@ -12,7 +12,7 @@ from real_hosts import FRESH, MB, OK, TAG, Flow, part
 from rules import rule
 from world import Client
 
-FILE = noise(20 * MB)
+FILE = noise(8 * MB)
 
 
 def serve(fields, counted):
@@ -46,7 +46,7 @@ def curl_and_wget_go_on_with_a_file_that_has_no_tag(world):
         world.origin.on("/plain-file", serve([b"Last-Modified: Sun, 06 Nov 1994 08:49:37 GMT", b"Accept-Ranges: bytes"], counted))
         with tempfile.TemporaryDirectory() as folder:
             file = pathlib.Path(folder, "file")
-            file.write_bytes(FILE[: 15 * MB + 1])
+            file.write_bytes(FILE[: 6 * MB + 1])
             run(world, folder, *words)
             equal(hashlib.sha256(file.read_bytes()).hexdigest(), hashlib.sha256(FILE).hexdigest(), f"the file of {name}")
 
@@ -57,7 +57,7 @@ def a_player_skips_through_a_film(world):
     # it asks from where it is to the end, and goes when it is moved elsewhere
     counted = []
     world.origin.on("/film", serve([TAG, FRESH], counted))
-    for first in [0, 12 * MB, 3 * MB, 18 * MB + 77, 12 * MB + 500_000, 1]:
+    for first in [0, 5 * MB, 2 * MB, 7 * MB + 77, 5 * MB + 500_000, 1]:
         with Client(port=world.port) as player:
             player.say(world.request("/film", b"Range: bytes=%d-" % first))
             head = player.hear_until(b"\r\n\r\n")

@@ -25,10 +25,10 @@ from harness import case, holds, lasting
 from named_origin import Names, NamedOrigin, body_of, span_of
 from origin import abort
 
-CLIENTS = 48
+CLIENTS = 36
 ORIGINS = 12
 PATHS = 2
-PATIENCE = 10.0  # within which everything that is asked is answered
+PATIENCE = 20.0  # within which everything that is asked is answered
 CASE_SECONDS = 30
 PAGES = {400, 411, 416, 431, 500, 502, 504}
 FIELDS = [[]] * 4 + [[b"Cache-Control: no-cache"]] * 3 + [[b"Cache-Control: no-store"], [b"Cache-Control: only-if-cached"]]
@@ -224,7 +224,7 @@ def drive(port, seed, seconds):
     return sum(counts), wrong
 
 
-@lasting(CASE_SECONDS + 60)
+@lasting(CASE_SECONDS + 3 * int(PATIENCE) + 10)
 @case
 def hostile_origins_cost_no_client_more_than_its_own(world):
     with world.anew() as proxy:

@@ -17,7 +17,7 @@ OK = b"HTTP/1.1 200 OK"
 TAG = b'ETag: "x"'
 FRESH = b"Cache-Control: max-age=60"
 BODY = noise(4100)
-SECONDS = 2
+SECONDS = 5
 MOMENT = 0.15  # in which what was sent is read
 TEN = b"BBBBBBBBBB"
 

@@ -8,7 +8,7 @@ import threading
 from harness import Failed
 from origin import Ask, abort, read_body
 
-WAIT_SECONDS = 5
+WAIT_SECONDS = 15
 
 
 class PlayedAsk(Ask):
