@@ -50,6 +50,7 @@ impl Cache {
             request: 784111777,
             response: 784111777,
             initial: 0,
+            may_guess: true,
         };
         self.objects
             .settle(

@@ -49,6 +49,7 @@ impl Cache {
             request: 0,
             response: 0,
             initial: 0,
+            may_guess: true,
         };
         let none = Fields::new(&[], &[]);
         let version = version(rt, b"\"x\"", LENGTH);
