@@ -109,6 +109,33 @@ def opening(top):
     return *in_new_folder(top, measure), in_new_folder(top, memory)
 
 
+def calls(top, length, run):
+    """How many system calls it takes to keep one body, and how many of them are syncs."""
+
+    def counted(folder):
+        table = os.path.join(folder, "calls")
+        words = [KEEPER, "fill", os.path.join(folder, "cache"), "1", str(length), str(run)]
+        os.mkdir(words[2])
+        subprocess.run(["strace", "-f", "-c", "-o", table, *words], stdout=subprocess.DEVNULL, check=True)
+        lines = [line.split() for line in pathlib.Path(table).read_text().splitlines()]
+        counts = {line[-1]: int(line[3]) for line in lines if len(line) >= 5 and line[3].isdigit()}
+        return counts["total"], counts.get("fsync", 0) + counts.get("fdatasync", 0)
+
+    return in_new_folder(top, counted)
+
+
+def seal(top, run):
+    """System calls, syncs and microseconds of one seal of so many chunks: what a body of 64 MiB has more than one of a seal."""
+    seals = LARGE // (CHUNK * run) - 1
+    most, least = calls(top, LARGE, run), calls(top, CHUNK * run, run)
+
+    def timed_fill(length):
+        return in_new_folder(top, lambda folder: timed(lambda: keeper("fill", folder, 1, length, run)))
+
+    spent = statistics.median(timed_fill(LARGE) - timed_fill(CHUNK * run) for _ in range(ROUNDS))
+    return (most[0] - least[0]) / seals, (most[1] - least[1]) / seals, 1e6 * spent / seals
+
+
 def report(label, ours, plain, amount, count):
     """A line: how much a second in either way, their ratio, and the syncs."""
     print(f"{label:34} {amount / ours:10.1f} {amount / plain:10.1f} {plain / ours:6.2f} {count:7}")
@@ -124,6 +151,10 @@ def main():
     for run in RUNS:
         label = f"64 MiB, {run} chunk{'s' * (run > 1)} a seal, MB/s"
         report(label, *seconds(top, 1, LARGE, run), LARGE / 1e6, syncs(1, LARGE, run))
+    if shutil.which("strace"):
+        for run in RUNS:
+            count, syncs_of_one, spent = seal(top, run)
+            print(f"a seal of {run} chunk{'s' * (run > 1)}: {count:.1f} system calls, {syncs_of_one:.1f} of them syncs; {spent:.0f} microseconds")
     label = "entries of 4 KiB, per second"
     report(label, *seconds(top, SMALL_COUNT, CHUNK, 1), SMALL_COUNT, syncs(SMALL_COUNT, CHUNK, 1))
     opened, most, least = opening(top)
