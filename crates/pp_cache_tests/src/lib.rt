@@ -1,0 +1,29 @@
+//! Worked exchanges over the crates of the cache: tables of calls, each call with what it answers.
+//!
+//! `cache` has the instances, their chunks and their eviction, `cells` one instance and one pool,
+//! `links` the open connections, and `heads` and `replies` what is decided and replied for a request
+//! and a response.
+//! An exchange of one of these is a table, which one interpreter runs.
+//!
+//! Which answer a definition gives is worked out in the rows of each crate's `proofs/`. Here the
+//! compiled calls are run.
+#![tactic(auto)]
+
+#[cfg(test)]
+mod cache; // instances and a pool that agree
+#[cfg(test)]
+mod cells; // one instance, and one pool
+#[cfg(test)]
+mod evictions; // which chunk goes
+#[cfg(test)]
+mod heads; // a request, a response, and what is made of them
+#[cfg(test)]
+mod instances; // rows by key, and their bytes
+#[cfg(test)]
+mod links; // connections that are open
+#[cfg(test)]
+mod replies; // what is replied
+#[cfg(test)]
+mod steps; // a table of calls on the cache
+#[cfg(test)]
+mod wire; // a world that puts down its calls
