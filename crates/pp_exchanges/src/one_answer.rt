@@ -2,7 +2,9 @@
 use pp_play::{
     Act, Exchange, PAGE_502, Pace, Part, Step, T, Wanted, joined_acts, unlike, unlike_at,
 };
+use pp_text::OutOfMemory;
 use pp_world::{Cause, Decision};
+use std::alloc::Global;
 use std::test::Fail;
 
 const PART: &[u8] =
@@ -122,6 +124,10 @@ const ANEW: &[Behind] = &[
             ],
         )],
     },
+];
+
+/// In these it neither begins a second fetch, nor costs the request anything.
+const NOT_COUNTED: &[Behind] = &[
     Behind {
         name: "a second fetch beside the first, for an old 304",
         acts: &[
@@ -194,7 +200,10 @@ const ANEW: &[Behind] = &[
         name: "a page is cut for an old answer that is none",
         acts: &[
             Act::Window(3, 0),
-            Act::Answer(5, b"HTTP/3 oh\r\n\r\n"),
+            Act::Answer(
+                5,
+                b"HTTP/1.1 200 OK\r\nTransfer-Encoding: chunked\r\n\r\nzz\r\n",
+            ),
             Act::Answer(2, b"HTTP/3 oh\r\n\r\n"),
             Act::Window(3, 1000),
         ],
@@ -202,10 +211,9 @@ const ANEW: &[Behind] = &[
     },
 ];
 
-#[test]
-fn the_answer_to_an_old_ask_is_nobodys(rt: HostRuntime) -> Result<(), Fail> {
-    let alloc = rt.alloc();
-    for behind in ANEW {
+/// Where these go otherwise than wanted, behind the row that was cleared.
+fn unlike_behind(alloc: Global, behinds: &[Behind]) -> Result<String, OutOfMemory> {
+    for behind in behinds {
         let acts = joined_acts(
             alloc,
             &[END_IS_HELD, ALL_IS_WANTED, ROW_IS_CLEARED, behind.acts],
@@ -215,8 +223,23 @@ fn the_answer_to_an_old_ask_is_nobodys(rt: HostRuntime) -> Result<(), Fail> {
             acts: acts.as_slice(),
             wanted: behind.wanted,
         };
-        assert_eq!(rt; unlike_at(alloc, Pace::Whole, &[played])?.as_str(), "");
+        let said = unlike_at(alloc, Pace::Whole, &[played])?;
+        if !said.is_empty() {
+            return Ok(said);
+        }
     }
+    Ok(String::new(alloc))
+}
+
+#[test]
+fn the_answer_to_an_old_ask_is_nobodys(rt: HostRuntime) -> Result<(), Fail> {
+    assert_eq!(rt; unlike_behind(rt.alloc(), ANEW)?.as_str(), "");
+    Ok(())
+}
+
+#[test]
+fn and_costs_its_request_nothing(rt: HostRuntime) -> Result<(), Fail> {
+    assert_eq!(rt; unlike_behind(rt.alloc(), NOT_COUNTED)?.as_str(), "");
     Ok(())
 }
 

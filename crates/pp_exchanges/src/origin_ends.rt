@@ -39,7 +39,7 @@ const SAID_FIRST: &[Exchange<'static>] = &[
             Act::Reach(2),
             Act::Answer(
                 2,
-                b"HTTP/1.1 200 OK\r\nTransfer-Encoding: chunked\r\n\r\n5\r\nAAAAA\r\n",
+                b"HTTP/1.1 200 OK\r\nTransfer-Encoding: chunked\r\n\r\n1\r\nA\r\n",
             ),
             Act::Answer(2, b"oh"),
             Act::Window(1, 1000),
@@ -51,7 +51,7 @@ const SAID_FIRST: &[Exchange<'static>] = &[
                     Part::Text(
                         b"HTTP/1.1 200 OK\r\nvia: 1.1 polipo\r\ntransfer-encoding: chunked\r\nconnection: keep-alive\r\n\r\n",
                     ),
-                    Part::Text(b"5\r\nAAAAA\r\n"),
+                    Part::Text(b"1\r\nA\r\n"),
                 ],
             ),
             Wanted::Cut(1, Cause::Origin),
