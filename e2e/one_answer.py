@@ -8,7 +8,7 @@ import contextlib
 import threading
 import time
 
-from harness import case, equal, holds, together
+from harness import case, equal, holds, lasting, together
 from origin import chunked, lines, noise, response
 from played import Played
 from world import LENGTH_REQUIRED, Client, reply, reply_head
@@ -123,7 +123,7 @@ def each(of_late):
         one.__name__ = f"{name}, coming late"
         return one
 
-    failures = together([job(name) for name in LATE])
+    failures = together([job(name) for name in LATE], seconds=28)
     holds(not failures, "each as it is in place of\n    " + "\n    ".join(failures))
 
 
@@ -133,11 +133,13 @@ def all_told(world, answer, wanted, *fields):
         each(lambda name: equal(told(world, LATE[name], answer, amid, *fields), wanted + NEXT, "the replies"))
 
 
+@lasting(70)
 @case
 def one_reply_is_one_response(world):
     all_told(world, response(TEN), reply(TEN))
 
 
+@lasting(70)
 @case
 def one_reply_is_one_response_also_where_a_part_is_passed(world):
     span = b"Content-Range: bytes 4090-4099/4100"
@@ -146,6 +148,7 @@ def one_reply_is_one_response_also_where_a_part_is_passed(world):
     all_told(world, response(TEN, span, status=b"206 Partial Content"), wanted, b"Range: bytes=-4100")
 
 
+@lasting(70)
 @case
 def one_reply_is_one_response_also_in_chunks(world):
     answer = lines(OK, b"Transfer-Encoding: chunked") + chunked(TEN, b"CCCCC")
@@ -160,6 +163,7 @@ def one_reply_is_one_response_also_in_chunks(world):
     each(one)
 
 
+@lasting(70)
 @case
 def a_check_of_another_version_is_told_alone(world):
     # the version of the hole is replaced by one that has to be checked, and that check fails
@@ -217,16 +221,16 @@ def nobody_waits_for_what_nobody_reads(world):
 @case
 def an_origin_that_breaks_off_cuts_behind_all_that_came(world):
     # the client reads nothing until the origin has ended: most of it waits in the program
-    body = noise(12_000_000)
+    body = noise(8_000_000)
     with Played() as origin, Client(port=world.port, seconds=20) as client:
         client.say(origin.request("/cut"))
         ask = origin.take()
-        ask.connection.settimeout(10)
+        ask.connection.settimeout(20)
         sending = threading.Thread(target=lambda: (ask.say(response(body)[:-1_000]), ask.end()), daemon=True)
         sending.start()
         time.sleep(1)
         text = client.hear_all()
-        sending.join(10)
+        sending.join(20)
     head = reply(body)[: -len(body)]
     equal(len(text), len(head) + len(body) - 1_000, "how many bytes come")
     equal(text, head + body[:-1_000], "what comes before the cut")

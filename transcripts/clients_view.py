@@ -66,27 +66,31 @@ class Life:
 
     def __init__(self, image):
         self.image = image
-        self.heard, self.said = defaultdict(bytes), defaultdict(bytes)
-        self.asked, self.got = defaultdict(bytes), defaultdict(bytes)
+        self.heard, self.said = defaultdict(bytearray), defaultdict(bytearray)
+        self.asked, self.got = defaultdict(bytearray), defaultdict(bytearray)
         self.hosts, self.reached, self.closed = {}, set(), set()
-        self.shut, self.cut, self.lost = set(), set(), set()
+        self.shut, self.cut = set(), set()
+        self.lost = set()  # a write to them failed
         self.stalls = []
+        self.open = {}  # by client: its first request without a reply, or None; not there where that has to be found anew
 
 
 def lives_of(happenings):
     """The lives of a log, each with its streams."""
     lives = []
-    for happening in happenings:
+    for before, happening in zip((("Woke", ()), *happenings), happenings):
         name = happening[0]
         if name == "Woke" or not lives:
             lives.append(Life(happening[1] if name == "Woke" else ()))
         life = lives[-1]
+        if name in ("Heard", "Said"):
+            life.open.pop(happening[1], None)
         if name in ("Heard", "Asked", "Got"):
             getattr(life, name.lower())[happening[1]] += happening[2]
         elif name == "Said":
             life.said[happening[1]] += happening[3]
             if not happening[3]:
-                life.lost.add(happening[1])  # a write to it failed
+                life.lost.add(happening[1])
         elif name == "Dialled":
             life.hosts[happening[1]] = (happening[2].lower(), happening[3])
         elif name == "Reached":
@@ -95,6 +99,8 @@ def lives_of(happenings):
             life.closed.add(happening[1])
         elif name == "Shut":
             life.shut.add(happening[1])
+        elif name == "HungUp" and before == ("CanWrite", happening[1]):
+            life.lost.add(happening[1])
         elif happening[:1] == ("Noted",) and happening[1][0] == "Cut":
             life.cut.add(happening[1][1])
         elif name == "Waits":
@@ -105,28 +111,36 @@ def lives_of(happenings):
 def look_at_wait(life, wait):
     """Notes the clients that have a request open while nothing is waited for that could answer it."""
     _, _, reads, writes = wait
-    wanted = set(reads) | set(writes)
-    busy = {number for number in life.hosts if number not in life.closed and (number in wanted or number not in life.reached)}
-    for number, heard in life.heard.items():
-        if number in life.shut or number in writes:
-            continue
-        requests, _ = requests_of(heard)
-        try:
-            replies, _ = replies_of(life.said[number], [request.method for request in requests])
-        except Malformed:
-            continue  # it is told elsewhere
-        answered = sum(reply.is_whole for reply in replies)
-        if answered == len(requests) or (replies and replies[-1].closes()):
-            continue
-        request = requests[answered]
-        if not busy and (request.is_whole or number not in reads):
-            life.stalls.append((number, request))
+    wanted = {*reads, *writes}
+    if any(number not in life.closed and (number in wanted or number not in life.reached) for number in life.hosts):
+        return
+    for number in life.heard:
+        if number not in life.shut and number not in writes:
+            if number not in life.open:
+                life.open[number] = open_request(bytes(life.heard[number]), bytes(life.said[number]))
+            request = life.open[number]
+            if request is not None and (request.is_whole or number not in reads):
+                life.stalls.append((number, request))
+
+
+def open_request(heard, said):
+    """The first request that has no whole reply; None without one."""
+    requests, _ = requests_of(heard)
+    try:
+        replies, _ = replies_of(said, [request.method for request in requests])
+    except Malformed:
+        return None  # it is told elsewhere
+    answered = sum(reply.is_whole for reply in replies)
+    if answered == len(requests) or (replies and replies[-1].closes()):
+        return None
+    return requests[answered]
 
 
 def responses_of(life):
     """The responses of a life, each with the URL that was asked for."""
     for number, got in life.got.items():
-        asks, _ = requests_of(life.asked[number])
+        asks, _ = requests_of(bytes(life.asked[number]))
+        got = bytes(got)
         at = 0
         for ask in asks:
             try:
@@ -166,8 +180,8 @@ class Judge:
             self.versions[url, tag, span[2]].add(span[0], response.body)
 
     def _judge_client(self, life, number):
-        requests, is_left = requests_of(life.heard[number])
-        said = life.said[number]
+        requests, is_left = requests_of(bytes(life.heard[number]))
+        said = bytes(life.said[number])
         methods = [request.method for request in requests] + ["GET"] * is_left
         try:
             replies, end = replies_of(said, methods)
