@@ -7,22 +7,14 @@ from harness import Skipped
 
 # The tests of these are skipped by name; with ALSO_NOT_YET=1 in the environment they run.
 NOT_YET = {
-    "forbids-sharing",
     "gone-clients",
     "holes-nobody-fills",
-    "no-pipelining",
     "near-bytes",
-    "bound-authentication",
-    "no-guess",
     "full-answer-to-a-check",
     "shared-wait-ends",
     "another-tag",
-    "content-coding",
     "slow-origin",
     "invalidation",
-    "shorter-life",
-    "no-response",
-    "host-connections",
 }
 
 # What takes minutes runs with LONG=1 alone.
