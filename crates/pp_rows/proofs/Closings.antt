@@ -56,16 +56,13 @@ abbrev text10 : Bytes
 text10 = (codes "GET /b HTTP/1.1\r\nhost: h\r\nvia: 1.1 polipo\r\n\r\n")
 
 abbrev text11 : Bytes
-text11 = (codes "HTTP/1.1 200 OK\r\nETag: \"x\"\r\nTransfer-Encoding: chunked\r\nContent-Length: 5\r\n\r\n")
+text11 = (codes "HTTP/1.1 200 OK\r\nETag: \"x\"\r\nCache-Control: max-age=60\r\nContent-Length: 10\r\n\r\nabc")
 
 abbrev text12 : Bytes
-text12 = (codes "HTTP/1.1 200 OK\r\nETag: \"x\"\r\nCache-Control: max-age=60\r\nContent-Length: 10\r\n\r\nabc")
+text12 = (codes "HTTP/1.1 200 OK\r\netag: \"x\"\r\ndate: Sun, 06 Nov 1994 08:49:37 GMT\r\ncache-control: max-age=60\r\nvia: 1.1 polipo\r\ncontent-length: 10\r\nconnection: keep-alive\r\n\r\n")
 
 abbrev text13 : Bytes
-text13 = (codes "HTTP/1.1 200 OK\r\netag: \"x\"\r\ndate: Sun, 06 Nov 1994 08:49:37 GMT\r\ncache-control: max-age=60\r\nvia: 1.1 polipo\r\ncontent-length: 10\r\nconnection: keep-alive\r\n\r\n")
-
-abbrev text14 : Bytes
-text14 = (codes "GET http://h/c HTTP/1.1\r\n: \r\n\r\n")
+text13 = (codes "GET http://h/c HTTP/1.1\r\n: \r\n\r\n")
 
 row25 : fault_from 0 (start (record { words = []; faults = 0 } ∷ [])) (front0 ++ Opened 3 ∷ wait true (1 ∷ 2 ∷ 3 ∷ []) [] ∷ CanRead 3 ∷ Heard 3 text5 ∷ Noted (Taken 3 0 (Part 0 4100)) ∷ wait true (1 ∷ 3 ∷ []) (2 ∷ []) ∷ Opened 6 ∷ wait true (1 ∷ 3 ∷ 6 ∷ []) (2 ∷ []) ∷ CanRead 6 ∷ Heard 6 text5 ∷ Noted (Taken 6 0 (Part 0 4100)) ∷ wait true (1 ∷ 3 ∷ []) (2 ∷ []) ∷ CanRead 3 ∷ HungUp 3 ∷ wait true (1 ∷ []) (2 ∷ []) ∷ Clock 784111778 ∷ Shut 3 ∷ []) ≡ Some (record { at = 45; rule = NotToBeClosed })
 unfolding judging
@@ -91,26 +88,26 @@ row106 : fault_from 0 (start (record { words = []; faults = 0 } ∷ [])) (front1
 unfolding judging
 row106 = refl
 
-row131 : fault_from 0 (start (record { words = []; faults = 0 } ∷ [])) (front1 ++ Heard 1 text5 ∷ Noted (Taken 1 0 Fetch) ∷ Dialled 2 (codes "h") 80 ∷ wait true [] [] ∷ Reached 2 ∷ wait true [] (2 ∷ []) ∷ CanWrite 2 ∷ Asked 2 text10 ∷ wait true (2 ∷ []) [] ∷ CanRead 2 ∷ Got 2 text11 ∷ Noted (Taken 1 0 (Refuse 500)) ∷ wait true (2 ∷ []) (1 ∷ []) ∷ CanRead 2 ∷ Got 2 (codes "zz\r\n") ∷ Dropped 2 ∷ wait true [] (1 ∷ []) ∷ []) ≡ None
+row131 : fault_from 0 (start (record { words = []; faults = 0 } ∷ [])) (front1 ++ Heard 1 text5 ∷ Noted (Taken 1 0 Fetch) ∷ Dialled 2 (codes "h") 80 ∷ wait true [] [] ∷ Reached 2 ∷ wait true [] (2 ∷ []) ∷ CanWrite 2 ∷ Asked 2 text10 ∷ wait true (2 ∷ []) [] ∷ CanRead 2 ∷ Got 2 text11 ∷ Noted (Taken 1 0 (Refuse 500)) ∷ wait true (2 ∷ []) (1 ∷ []) ∷ CanRead 2 ∷ Ended 2 ∷ Dropped 2 ∷ wait true [] (1 ∷ []) ∷ []) ≡ None
 unfolding judging
 row131 = refl
 
-row136 : fault_from 0 (start (record { words = []; faults = 0 } ∷ [])) (front1 ++ Heard 1 text5 ∷ Noted (Taken 1 0 Fetch) ∷ Dialled 2 (codes "h") 80 ∷ wait true [] [] ∷ Reached 2 ∷ wait true [] (2 ∷ []) ∷ CanWrite 2 ∷ Asked 2 text10 ∷ wait true (2 ∷ []) [] ∷ CanRead 2 ∷ Got 2 text11 ∷ Noted (Taken 1 0 (Refuse 500)) ∷ wait true (2 ∷ []) (1 ∷ []) ∷ CanRead 2 ∷ Got 2 (codes "zz\r\n") ∷ Noted (Cut 1 Origin) ∷ []) ≡ Some (record { at = 25; rule = WrongCut })
+row136 : fault_from 0 (start (record { words = []; faults = 0 } ∷ [])) (front1 ++ Heard 1 text5 ∷ Noted (Taken 1 0 Fetch) ∷ Dialled 2 (codes "h") 80 ∷ wait true [] [] ∷ Reached 2 ∷ wait true [] (2 ∷ []) ∷ CanWrite 2 ∷ Asked 2 text10 ∷ wait true (2 ∷ []) [] ∷ CanRead 2 ∷ Got 2 text11 ∷ Noted (Taken 1 0 (Refuse 500)) ∷ wait true (2 ∷ []) (1 ∷ []) ∷ CanRead 2 ∷ Ended 2 ∷ Noted (Cut 1 Origin) ∷ []) ≡ Some (record { at = 25; rule = WrongCut })
 unfolding judging
 row136 = refl
 
-row164 : fault_from 0 (start (record { words = []; faults = 0 } ∷ [])) (front1 ++ Heard 1 text5 ∷ Noted (Taken 1 0 Fetch) ∷ Dialled 2 (codes "h") 80 ∷ wait true [] [] ∷ Reached 2 ∷ wait true [] (2 ∷ []) ∷ CanWrite 2 ∷ Asked 2 text10 ∷ wait true (2 ∷ []) [] ∷ CanRead 2 ∷ Got 2 text12 ∷ Noted (Taken 1 0 (Part 0 10)) ∷ wait true (2 ∷ []) (1 ∷ []) ∷ CanRead 2 ∷ Ended 2 ∷ Dropped 2 ∷ wait true [] (1 ∷ []) ∷ CanWrite 1 ∷ Said 1 155 text13 ∷ wait true [] (1 ∷ []) ∷ CanWrite 1 ∷ Said 1 3 (codes "abc") ∷ Dialled 3 (codes "h") 80 ∷ wait true [] [] ∷ []) ≡ None
+row164 : fault_from 0 (start (record { words = []; faults = 0 } ∷ [])) (front1 ++ Heard 1 text5 ∷ Noted (Taken 1 0 Fetch) ∷ Dialled 2 (codes "h") 80 ∷ wait true [] [] ∷ Reached 2 ∷ wait true [] (2 ∷ []) ∷ CanWrite 2 ∷ Asked 2 text10 ∷ wait true (2 ∷ []) [] ∷ CanRead 2 ∷ Got 2 text11 ∷ Noted (Taken 1 0 (Part 0 10)) ∷ wait true (2 ∷ []) (1 ∷ []) ∷ CanRead 2 ∷ Ended 2 ∷ Dropped 2 ∷ wait true [] (1 ∷ []) ∷ CanWrite 1 ∷ Said 1 155 text12 ∷ wait true [] (1 ∷ []) ∷ CanWrite 1 ∷ Said 1 3 (codes "abc") ∷ Dialled 3 (codes "h") 80 ∷ wait true [] [] ∷ []) ≡ None
 unfolding judging
 row164 = refl
 
-row171 : fault_from 0 (start (record { words = []; faults = 0 } ∷ [])) (front1 ++ Heard 1 text5 ∷ Noted (Taken 1 0 Fetch) ∷ Dialled 2 (codes "h") 80 ∷ wait true [] [] ∷ Reached 2 ∷ wait true [] (2 ∷ []) ∷ CanWrite 2 ∷ Asked 2 text10 ∷ wait true (2 ∷ []) [] ∷ CanRead 2 ∷ Got 2 text12 ∷ Noted (Taken 1 0 (Part 0 10)) ∷ wait true (2 ∷ []) (1 ∷ []) ∷ CanRead 2 ∷ Ended 2 ∷ Dropped 2 ∷ wait true [] (1 ∷ []) ∷ CanWrite 1 ∷ Said 1 155 text13 ∷ wait true [] (1 ∷ []) ∷ Clock 784111778 ∷ Noted (Cut 1 Origin) ∷ []) ≡ Some (record { at = 31; rule = WrongCut })
+row171 : fault_from 0 (start (record { words = []; faults = 0 } ∷ [])) (front1 ++ Heard 1 text5 ∷ Noted (Taken 1 0 Fetch) ∷ Dialled 2 (codes "h") 80 ∷ wait true [] [] ∷ Reached 2 ∷ wait true [] (2 ∷ []) ∷ CanWrite 2 ∷ Asked 2 text10 ∷ wait true (2 ∷ []) [] ∷ CanRead 2 ∷ Got 2 text11 ∷ Noted (Taken 1 0 (Part 0 10)) ∷ wait true (2 ∷ []) (1 ∷ []) ∷ CanRead 2 ∷ Ended 2 ∷ Dropped 2 ∷ wait true [] (1 ∷ []) ∷ CanWrite 1 ∷ Said 1 155 text12 ∷ wait true [] (1 ∷ []) ∷ Clock 784111778 ∷ Noted (Cut 1 Origin) ∷ []) ≡ Some (record { at = 31; rule = WrongCut })
 unfolding judging
 row171 = refl
 
-row179 : fault_from 0 (start (record { words = []; faults = 0 } ∷ [])) (front1 ++ Heard 1 text14 ∷ Noted (Taken 1 0 (Refuse 500)) ∷ []) ≡ Some (record { at = 11; rule = WrongDecision })
+row179 : fault_from 0 (start (record { words = []; faults = 0 } ∷ [])) (front1 ++ Heard 1 text13 ∷ Noted (Taken 1 0 (Refuse 500)) ∷ []) ≡ Some (record { at = 11; rule = WrongDecision })
 unfolding judging
 row179 = refl
 
-row184 : fault_from 0 (start (record { words = []; faults = 0 } ∷ [])) (front1 ++ Heard 1 text14 ∷ Noted (Taken 1 0 (Refuse 400)) ∷ wait true [] (1 ∷ []) ∷ []) ≡ None
+row184 : fault_from 0 (start (record { words = []; faults = 0 } ∷ [])) (front1 ++ Heard 1 text13 ∷ Noted (Taken 1 0 (Refuse 400)) ∷ wait true [] (1 ∷ []) ∷ []) ≡ None
 unfolding judging
 row184 = refl

@@ -119,7 +119,7 @@ abbrev text30 : Bytes
 text30 = (replicate 4096 97)
 
 abbrev front3 : Log
-front3 = Woke [] ∷ Rooted text2 ∷ Listed true ∷ Listens 8123 true ∷ wait true [] [] ∷ Clock 784111777 ∷ wait true [] [] ∷ Opened 1 ∷ wait true (1 ∷ []) [] ∷ CanRead 1 ∷ Heard 1 text13 ∷ Noted (Taken 1 0 Fetch) ∷ Dialled 2 (codes "h") 80 ∷ wait true (1 ∷ []) [] ∷ Reached 2 ∷ wait true (1 ∷ 2 ∷ []) (2 ∷ []) ∷ CanWrite 2 ∷ Asked 2 text14 ∷ wait true (1 ∷ 2 ∷ []) [] ∷ CanRead 2 ∷ Got 2 text15 ∷ Noted (Taken 1 0 (Hit 4096 4100)) ∷ wait true (1 ∷ 2 ∷ []) (1 ∷ []) ∷ CanWrite 1 ∷ Said 1 204 text16 ∷ wait true (1 ∷ 2 ∷ []) (1 ∷ []) ∷ CanWrite 1 ∷ Said 1 4 (codes "last") ∷ wait true (1 ∷ 2 ∷ []) [] ∷ CanRead 1 ∷ Heard 1 text17 ∷ Noted (Taken 1 1 (Part 0 4100)) ∷ wait true (1 ∷ 2 ∷ []) (2 ∷ []) ∷ CanWrite 2 ∷ Asked 2 text18 ∷ wait true (1 ∷ 2 ∷ []) [] ∷ Opened 3 ∷ wait true (2 ∷ 3 ∷ []) [] ∷ CanRead 3 ∷ Heard 3 text26 ∷ Noted (Taken 3 0 Validate) ∷ Dialled 4 (codes "h") 80 ∷ wait true (2 ∷ []) [] ∷ Reached 4 ∷ wait true (2 ∷ []) (4 ∷ []) ∷ CanWrite 4 ∷ Asked 4 text27 ∷ wait true (2 ∷ 4 ∷ []) [] ∷ CanRead 4 ∷ Got 4 text28 ∷ Noted (Taken 3 0 (Hit 0 4100)) ∷ wait true (2 ∷ 4 ∷ []) (1 ∷ 3 ∷ []) ∷ CanWrite 1 ∷ Said 1 165 text29 ∷ wait true (2 ∷ 4 ∷ []) (1 ∷ 3 ∷ []) ∷ CanWrite 1 ∷ Said 1 4096 text30 ∷ wait true (2 ∷ 4 ∷ []) (1 ∷ 3 ∷ []) ∷ CanWrite 1 ∷ Said 1 4 (codes "last") ∷ wait true (1 ∷ 2 ∷ 4 ∷ []) (3 ∷ []) ∷ []
+front3 = Woke [] ∷ Rooted text2 ∷ Listed true ∷ Listens 8123 true ∷ wait true [] [] ∷ Clock 784111777 ∷ wait true [] [] ∷ Opened 1 ∷ wait true (1 ∷ []) [] ∷ CanRead 1 ∷ Heard 1 text13 ∷ Noted (Taken 1 0 Fetch) ∷ Dialled 2 (codes "h") 80 ∷ wait true (1 ∷ []) [] ∷ Reached 2 ∷ wait true (1 ∷ 2 ∷ []) (2 ∷ []) ∷ CanWrite 2 ∷ Asked 2 text14 ∷ wait true (1 ∷ 2 ∷ []) [] ∷ CanRead 2 ∷ Got 2 text15 ∷ Noted (Taken 1 0 (Hit 4096 4100)) ∷ wait true (1 ∷ 2 ∷ []) (1 ∷ []) ∷ CanWrite 1 ∷ Said 1 204 text16 ∷ wait true (1 ∷ 2 ∷ []) (1 ∷ []) ∷ CanWrite 1 ∷ Said 1 4 (codes "last") ∷ wait true (1 ∷ 2 ∷ []) [] ∷ CanRead 1 ∷ Heard 1 text17 ∷ Noted (Taken 1 1 (Part 0 4100)) ∷ wait true (1 ∷ 2 ∷ []) (2 ∷ []) ∷ CanWrite 2 ∷ Asked 2 text18 ∷ wait true (1 ∷ 2 ∷ []) [] ∷ Opened 3 ∷ wait true (2 ∷ 3 ∷ []) [] ∷ CanRead 3 ∷ Heard 3 text26 ∷ Noted (Taken 3 0 Validate) ∷ Dialled 4 (codes "h") 80 ∷ wait true (2 ∷ []) [] ∷ Reached 4 ∷ wait true (2 ∷ []) (4 ∷ []) ∷ CanWrite 4 ∷ Asked 4 text27 ∷ wait true (2 ∷ 4 ∷ []) [] ∷ CanRead 4 ∷ Got 4 text28 ∷ Noted (Taken 1 1 (Hit 0 4100)) ∷ Noted (Taken 3 0 (Hit 0 4100)) ∷ wait true (2 ∷ 4 ∷ []) (1 ∷ 3 ∷ []) ∷ CanWrite 1 ∷ Said 1 165 text29 ∷ wait true (2 ∷ 4 ∷ []) (1 ∷ 3 ∷ []) ∷ CanWrite 1 ∷ Said 1 4096 text30 ∷ wait true (2 ∷ 4 ∷ []) (1 ∷ 3 ∷ []) ∷ CanWrite 1 ∷ Said 1 4 (codes "last") ∷ wait true (1 ∷ 2 ∷ 4 ∷ []) (3 ∷ []) ∷ []
 
 abbrev text31 : Bytes
 text31 = (codes "HTTP/1.1 200 OK\r\nETag: \"y\"\r\nCache-Control: max-age=60\r\nContent-Length: 3\r\n\r\nne")
@@ -216,10 +216,10 @@ row265 : fault_from 0 (start (record { words = (codes "diskRun=1") ∷ text0 ∷
 unfolding judging
 row265 = refl
 
-row307 : fault_from 0 (start (record { words = (codes "diskRun=1") ∷ text0 ∷ text1 ∷ []; faults = 0 } ∷ [])) (front3 ++ CanRead 2 ∷ Got 2 text31 ∷ Noted (Forgotten (codes "http://h/b")) ∷ wait true (1 ∷ 2 ∷ 4 ∷ []) (3 ∷ []) ∷ []) ≡ None
+row308 : fault_from 0 (start (record { words = (codes "diskRun=1") ∷ text0 ∷ text1 ∷ []; faults = 0 } ∷ [])) (front3 ++ CanRead 2 ∷ Got 2 text31 ∷ Noted (Forgotten (codes "http://h/b")) ∷ wait true (1 ∷ 2 ∷ 4 ∷ []) (3 ∷ []) ∷ []) ≡ None
 unfolding judging
-row307 = refl
+row308 = refl
 
-row311 : fault_from 0 (start (record { words = (codes "diskRun=1") ∷ text0 ∷ text1 ∷ []; faults = 0 } ∷ [])) (front3 ++ CanRead 2 ∷ Got 2 text31 ∷ Noted (Forgotten (codes "http://h/b")) ∷ Noted (Taken 1 2 (Refuse 500)) ∷ []) ≡ Some (record { at = 64; rule = WrongDecision })
+row312 : fault_from 0 (start (record { words = (codes "diskRun=1") ∷ text0 ∷ text1 ∷ []; faults = 0 } ∷ [])) (front3 ++ CanRead 2 ∷ Got 2 text31 ∷ Noted (Forgotten (codes "http://h/b")) ∷ Noted (Taken 1 2 (Refuse 500)) ∷ []) ≡ Some (record { at = 65; rule = WrongDecision })
 unfolding judging
-row311 = refl
+row312 = refl
