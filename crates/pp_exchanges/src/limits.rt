@@ -140,7 +140,7 @@ fn unlike_when_long(
 #[test]
 fn a_long_reply_streams_through_a_small_buffer(rt: HostRuntime) -> Result<(), Fail> {
     // the pipe of a reply, and the response's head
-    let unlike = unlike_when_long(rt.alloc(), LONG_PASSED, 16_384 + 44)?;
+    let unlike = unlike_when_long(rt.alloc(), LONG_PASSED, 65_536 + 44)?;
     assert_eq!(rt; unlike.as_str(), "");
     Ok(())
 }
@@ -148,7 +148,7 @@ fn a_long_reply_streams_through_a_small_buffer(rt: HostRuntime) -> Result<(), Fa
 #[test]
 fn a_long_page_is_read_only_so_far_ahead_of_its_client(rt: HostRuntime) -> Result<(), Fail> {
     // 256 chunks, one read, and the response's head
-    let unlike = unlike_when_long(rt.alloc(), LONG_KEPT, 1_048_576 + 8_192 + 55)?;
+    let unlike = unlike_when_long(rt.alloc(), LONG_KEPT, 1_048_576 + 32_768 + 55)?;
     assert_eq!(rt; unlike.as_str(), "");
     Ok(())
 }
