@@ -52,7 +52,7 @@ fn the_names_are_those_of_the_keys(rt: HostRuntime) {
 fn a_file_counts_where_it_has_all_that_its_gates_keep(rt: HostRuntime) -> Result<(), &'static str> {
     let cases: [([u8; 3], usize, Option<u64>); 15] = [
         ([1, 1, 1], 24_576, Some(12_288)),
-        ([1, 1, 1], 30_000, Some(12_288)),
+        ([1, 1, 1], 24_577, None),
         ([1, 1, 1], 24_575, None),
         ([1, 1, 0], 20_480, Some(8192)),
         ([1, 1, 0], 20_479, None),
