@@ -1,4 +1,6 @@
 // The bodies of the entries, and their keys.
+ghost use Rattle.std.specs.Prelude.{◌≡◌, ◌++◌, codes, decimal};
+
 use arrayvec::ArrayVec;
 use itoa::Buffer;
 
@@ -41,7 +43,9 @@ pub(crate) fn is_body(number: u64, from: u64, bytes: &[u8]) -> bool {
 }
 
 /// The key of the entry with this number.
-pub(crate) fn key_of(number: u64) -> ArrayVec<u8, 32> {
+pub(crate) fn key_of(number: u64) -> ArrayVec<u8, 32>
+    ensures { result.items ≡ codes "http://h/" ++ decimal number }
+{
     let mut key = ArrayVec::new();
     let mut buffer = Buffer::new();
     let _ = key.try_extend_from_slice(b"http://h/");

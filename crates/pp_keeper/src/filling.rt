@@ -6,6 +6,7 @@ ghost use Rattle.pp_keeper.specs.Anything.{anything};
 
 use crate::body::{BODY_LEN, CHUNK_LEN, key_of, put_body};
 use crate::stop::Stop;
+use pp_entry::body_at;
 use pp_fresh::Times;
 use pp_head::{HeadState, Scratch, read_response};
 use pp_store::Store;
@@ -23,17 +24,21 @@ pub(crate) const RUN_LEN: usize = 262_144;
 /// The response that each entry keeps.
 const RESPONSE: &[u8] = b"HTTP/1.1 200 OK\r\netag: \"x\"\r\n\r\n";
 
-/// Keeps the entry with this number without a body, where it is not kept.
+/// Keeps the entry with this number without its body, where it is not kept. Its file is laid out in `room`.
 pub(crate) fn keep<D: Disk>(
     alloc: Global,
     store: &mut Store,
     disk: &mut D,
     number: u64,
     length: u64,
+    room: &mut [u8; RUN_LEN],
 ) -> Result<(), Stop>
     requires holds { Told (D.log disk.old) (Holds anything store.old) }
     ensures holds { Told (D.log disk.new) (Holds anything store.new) }
 {
+    if length == 0 {
+        return Err(Stop::Empty);
+    }
     if length > BODY_LEN {
         return Err(Stop::TooLong);
     }
@@ -56,8 +61,10 @@ pub(crate) fn keep<D: Disk>(
         request: 0,
         response: 0,
         initial: 0,
+        may_guess: false,
     };
-    store.keep(alloc, disk, &key, &version, &head.fields, &times)?;
+    let room = &mut room[..body_at(length) as usize];
+    store.keep(alloc, disk, &key, &version, &head.fields, &times, room)?;
     Ok(())
 }
 

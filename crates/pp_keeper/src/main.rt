@@ -66,7 +66,7 @@ fn fill(
 ) -> Result<(), Stop> {
     let mut room = [0; RUN_LEN];
     for number in 0..filling.count {
-        keep(rt.alloc(), store, world, number, filling.length)?;
+        keep(rt.alloc(), store, world, number, filling.length, &mut room)?;
         for _run in 0..BODY_CHUNKS {
             match extend(store, world, number, filling.chunks, &mut room)? {
                 Some(extent) => println!(rt; "kept {number} {extent}")?,

@@ -18,6 +18,8 @@ pub(crate) enum Stop {
     Full,
     /// An entry's head has no room, or its body is too long.
     TooLong,
+    /// An entry is to have a body of no bytes.
+    Empty,
     /// The disk failed.
     Disk,
     /// Nothing could be printed, or the system gave no poller.
@@ -35,6 +37,7 @@ impl Stop {
             Stop::Closed => "the name is closed\n",
             Stop::Full => "the folder is full\n",
             Stop::TooLong => "the entry is too long\n",
+            Stop::Empty => "the body is empty\n",
             Stop::Disk => "the disk failed\n",
             Stop::System => "the system failed\n",
             Stop::OutOfMemory => "no memory\n",
@@ -46,7 +49,7 @@ impl Stop {
         match self {
             Stop::OutOfMemory => 3,
             Stop::Folder => 4,
-            Stop::Taken | Stop::Closed | Stop::Full | Stop::TooLong | Stop::Disk => 5,
+            Stop::Taken | Stop::Closed | Stop::Full | Stop::TooLong | Stop::Empty | Stop::Disk => 5,
             Stop::System => 6,
         }
     }
@@ -58,7 +61,7 @@ impl From<KeepFault> for Stop {
             KeepFault::Closed => Stop::Closed,
             KeepFault::Full => Stop::Full,
             KeepFault::TooLong => Stop::TooLong,
-            KeepFault::DiskFault => Stop::Disk,
+            KeepFault::NoDraft | KeepFault::DiskFault => Stop::Disk,
             KeepFault::OutOfMemory => Stop::OutOfMemory,
         }
     }
