@@ -173,7 +173,7 @@ def load_page(world):
         equal(ask.field(b"cookie"), b"session=0123456789abcdef; theme=dark", "the cookie")
         equal(ask.field(b"proxy-connection"), None, "the field of the connection")
         equal(ask.body, form if ask.path == "/form" else b"", "the body of the ask")
-    holds(world.origin.most_open <= 4, f"at most 4 connections to the host (there were {world.origin.most_open})")
+    holds(world.origin.most_open <= 8, f"at most 8 connections to the host (there were {world.origin.most_open})")
 
 
 @case

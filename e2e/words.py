@@ -28,7 +28,7 @@ ENDS = [
     (["-c", "f"], b"# x\r\n\r\nproxyPort 9\r\n", 6, b"polipo: configuration line 3 is not understood\n"),
     (["-c", "f"], b"proxyPort = 65536", 6, b"polipo: bad value for proxyPort\n"),
     (["-c", "f"], b"diskCacheRoot=\xff\n", 6, b"polipo: bad value for diskCacheRoot\n"),
-    (["-c", "f", "proxyPort=0"], b"diskRun=2\n", 6, b"polipo: bad value for diskRun\n"),
+    (["-c", "f", "proxyPort=0"], b"diskRun=65\n", 6, b"polipo: bad value for diskRun\n"),
     (["proxyPort=0"], b"", 6, b"polipo: bad value for proxyPort\n"),
     (["chunkHighMark=3000", "chunkLowMark=3001"], b"", 6, b"polipo: bad value for chunkHighMark\n"),
 ]
