@@ -1,2 +1,2 @@
-pub mod ByHandLemmas
+pub mod GivenLemmas
 pub mod LifeLemmas

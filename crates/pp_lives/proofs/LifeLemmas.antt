@@ -7,7 +7,8 @@ use Rattle.pp_world.specs.Log.{Appends, Log, Told}
 use Rattle.pp_memworld.specs.declared.memworld.MemWorld.{MemWorld}
 use Rattle.pp_memworld.specs.Crash.{Crashes}
 use Rattle.pp_memworld.specs.MemWorld.{told_log}
-use Rattle.pp_store.specs.Held.{Holds, Sent}
+use Rattle.pp_gate.specs.Files.{Sent}
+use Rattle.pp_store.specs.Held.{Holds}
 use Rattle.pp_store.specs.Kept.{KeptMap}
 use Rattle.pp_recover.specs.Looks.{Extends}
 use Rattle.pp_recover.specs.Opening.{AllSent, IsFresh}

@@ -56,7 +56,8 @@ fn a_gate_that_is_not_written_closes_the_name(rt: HostRuntime) -> Result<(), Fai
 #[test]
 fn whichever_operation_fails_the_other_entry_is_as_before(rt: HostRuntime) -> Result<(), Fail> {
     let body = two_chunks();
-    for call in 13..20 {
+    // The publishing, and the two writes and syncs of the chunk.
+    for call in 15..20 {
         let mut life = life_failing(rt.alloc(), call, &body)?;
         assert!(rt;
             keep_rest(&mut life, rt.alloc(), A, b"hello").is_none(),
@@ -64,6 +65,28 @@ fn whichever_operation_fails_the_other_entry_is_as_before(rt: HostRuntime) -> Re
         );
         assert!(rt; is_one_lost(&life, 8192), "{call}");
         assert!(rt; loads(&mut life, B, &body), "{call}");
+    }
+    Ok(())
+}
+
+#[test]
+fn an_entry_is_asked_for_again_where_its_draft_failed(rt: HostRuntime) -> Result<(), Fail> {
+    let body = two_chunks();
+    // The draft, and its sync: no name was touched, and none is closed.
+    for call in [13, 14] {
+        let mut life = life_failing(rt.alloc(), call, &body)?;
+        let end = life.keep(rt.alloc(), A, 5);
+        assert_eq!(rt; end, Some(Err(KeepFault::NoDraft)), "{call}");
+        assert!(rt; !life.store().is_closed(&file_name(A)), "{call}");
+        assert_eq!(rt; life.store().entries(), 1, "{call}");
+        assert!(rt;
+            keep_rest(&mut life, rt.alloc(), A, b"hello").is_some(),
+            "{call}"
+        );
+        assert!(rt;
+            loads(&mut life, A, b"hello") && loads(&mut life, B, &body),
+            "{call}"
+        );
     }
     Ok(())
 }
@@ -102,6 +125,18 @@ fn a_read_that_fails_loses_its_entry_alone(rt: HostRuntime) -> Result<(), Fail> 
     assert!(rt; keep_rest(&mut life, rt.alloc(), A, b"hello").is_some());
     let mut out = [0; 4096];
     assert_eq!(rt; life.load(A, 0, &mut out), Some(Err(LoadFault::DiskFault)));
+    assert!(rt; is_one_lost(&life, 8192));
+    assert!(rt; loads(&mut life, B, &body));
+    Ok(())
+}
+
+#[test]
+fn a_removal_that_fails_loses_its_entry_alone(rt: HostRuntime) -> Result<(), Fail> {
+    let body = two_chunks();
+    // Behind the seven calls that keep the entry.
+    let mut life = life_failing(rt.alloc(), 20, &body)?;
+    assert!(rt; keep_rest(&mut life, rt.alloc(), A, b"hello").is_some());
+    assert_eq!(rt; life.withdraw(A), Some(Err(DiskFault)));
     assert!(rt; is_one_lost(&life, 8192));
     assert!(rt; loads(&mut life, B, &body));
     Ok(())

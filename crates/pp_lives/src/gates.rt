@@ -97,9 +97,9 @@ fn an_open_gate_behind_one_that_is_not_is_closed_and_nothing_else_is_written(
     assert!(rt; closes(alloc, [7, 1, 1, 1, 1, 1], 0, &steps, [7, 0, 0, 0, 0, 1])?);
     let steps = [Step::Write(8196, &[0]), Step::Sync];
     assert!(rt; closes(alloc, [0, 0, 0, 0, 1, 1], 0, &steps, [0, 0, 0, 0, 0, 1])?);
+    // Each run of gates is written, and the file is synced once.
     let steps = [
         Step::Write(8194, &[0]),
-        Step::Sync,
         Step::Write(8196, &[0]),
         Step::Sync,
     ];
@@ -126,8 +126,8 @@ fn left_of(life: &Life, alloc: Global, at: usize, choice: u64, body: &[u8]) -> R
 fn a_crash_while_gates_are_closed_leaves_the_same_entry(rt: HostRuntime) -> Result<(), Fail> {
     let body = [b'b'; 20_480];
     let life = life_over(rt.alloc(), HEAD_OF_20480, &[1, 0, 1, 0, 1], &body)?;
-    assert_eq!(rt; life.log().len(), BEGIN + 8);
-    for at in 1..12 {
+    assert_eq!(rt; life.log().len(), BEGIN + 6);
+    for at in 1..10 {
         for choice in [0, 1, 2, 3, 7, 1000, u64::MAX] {
             let found = left_of(&life, rt.alloc(), at, choice, &body)?;
             assert_eq!(rt; found, Found::Entry(4096), "{at} {choice}");

@@ -10,8 +10,6 @@
 #![tactic(auto)]
 
 #[cfg(test)]
-mod by_hand; // the calls of the gate by themselves
-#[cfg(test)]
 mod crashes; // a crash within an operation
 #[cfg(test)]
 mod faults; // operations and reads that fail
@@ -22,6 +20,8 @@ mod format; // what a file says, by the disk format
 #[cfg(test)]
 mod gates; // gates of any byte
 #[cfg(test)]
+mod given; // what is kept
+#[cfg(test)]
 mod life; // a store over a disk in memory
 #[cfg(test)]
 mod operations; // the operations of one entry, and its file
@@ -30,4 +30,8 @@ mod recovery; // what the next life finds
 #[cfg(test)]
 mod removals; // an entry that is withdrawn
 #[cfg(test)]
+mod short; // reads that give too little, and too many names
+#[cfg(test)]
 mod steps; // operations, as a test names them
+#[cfg(test)]
+mod whole; // an entry that is published with its body

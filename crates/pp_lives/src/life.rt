@@ -1,18 +1,17 @@
 // A store over a disk in memory, from its beginning to its crash.
-ghost use Rattle.std.specs.Prelude.{◌≡◌, IfOk, IfSome};
+ghost use Rattle.std.specs.Prelude.{IfOk};
 ghost use Rattle.pp_world.specs.Log.{Told};
 ghost use Rattle.pp_memworld.specs.MemWorld.{told_log};
 ghost use Rattle.pp_memworld.specs.Slots.{AreListed};
 ghost use Rattle.pp_store.specs.Held.{Holds};
 ghost use Rattle.pp_lives.specs.Lives.{HasWoken, any_byte};
 
-use pp_fresh::Times;
+use crate::given::keep_in;
 use pp_memworld::{MemWorld, Script, put_file};
 use pp_recover::{RecoverFault, open};
-use pp_store::{KeepFault, KeptView, LoadFault, Store};
+use pp_store::{KeepFault, LoadFault, Store};
 use pp_target::file_name;
-use pp_text::{FieldSpan, Fields, Octets, OutOfMemory};
-use pp_valid::{Tag, Version};
+use pp_text::{Octets, OutOfMemory};
 use pp_world::{Disk, DiskFault, Happening, Image, Name};
 use std::alloc::Global;
 use std::marker::Model;
@@ -21,36 +20,6 @@ use std::test::Fail;
 pub(crate) const A: &[u8] = b"http://h/a";
 
 pub(crate) const B: &[u8] = b"http://h/b";
-
-/// The kept fields of a response, one behind the other, and where they stand.
-const TEXT: &[u8] = b"etag\"x\"dateSun, 06 Nov 1994 08:49:37 GMTcache-controlmax-age=60";
-
-const SPANS: [FieldSpan; 3] = [
-    FieldSpan {
-        name_from: 0,
-        name_to: 4,
-        value_from: 4,
-        value_to: 7,
-    },
-    FieldSpan {
-        name_from: 7,
-        name_to: 11,
-        value_from: 11,
-        value_to: 40,
-    },
-    FieldSpan {
-        name_from: 40,
-        name_to: 53,
-        value_from: 53,
-        value_to: 63,
-    },
-];
-
-const TIMES: Times = Times {
-    request: 784_111_777,
-    response: 784_111_777,
-    initial: 0,
-};
 
 /// The chunks of the longest body that is kept.
 const MOST_CHUNKS: u32 = 16_384;
@@ -214,21 +183,26 @@ impl Life {
         Some(self.store.kept(key)?.extent)
     }
 
-    /// Keeps the entry of a key with a body of so many bytes. `None` where it may not be asked for.
+    /// Keeps the entry of a key with a body of so many bytes, and none of it. `None` where it may not be
+    /// asked for.
     pub(crate) fn keep(
         &mut self,
         alloc: Global,
         key: &[u8],
         length: u64,
     ) -> Option<Result<(), KeepFault>> {
-        let version = version(length)?;
-        if length > 67_108_864 || self.store.under(&file_name(key)).is_some() {
-            return None;
-        }
-        let end = self
-            .store
-            .keep(alloc, &mut *self.world, key, &version, &fields(), &TIMES);
-        Some(end)
+        self.keep_front(alloc, key, length, &[])
+    }
+
+    /// The same with these first bytes of the body.
+    pub(crate) fn keep_front(
+        &mut self,
+        alloc: Global,
+        key: &[u8],
+        length: u64,
+        front: &[u8],
+    ) -> Option<Result<(), KeepFault>> {
+        keep_in(&mut self.store, alloc, &mut *self.world, key, length, front)
     }
 
     /// Keeps more of the body of a key. `None` where it may not be asked for.
@@ -264,45 +238,11 @@ impl Life {
     }
 }
 
-/// A disk in memory on which the first life has begun, over an empty folder.
-pub(crate) fn empty_world(alloc: Global) -> Result<Box<MemWorld>, OutOfMemory> {
-    let world = MemWorld::new(alloc, no_script(alloc), Image::new(alloc), Vec::new(alloc))?;
-    Box::new(alloc, world).map_err(|_| OutOfMemory)
-}
-
 fn no_script(alloc: Global) -> Script {
     Script {
         cues: Vec::new(alloc),
         site: Vec::new(alloc),
     }
-}
-
-fn fields() -> Fields<'static, 'static> {
-    Fields::new(TEXT, &SPANS)
-}
-
-/// The version `"x"` of a body of so many bytes.
-fn version(length: u64) -> Option<Version>
-    ensures { IfSome result (λ version. version.length ≡ length) }
-{
-    let tag = Tag::read(b"\"x\"")?;
-    Some(Version { tag, length })
-}
-
-/// Whether the response of a key is told of as it was given, with a body of so many bytes.
-pub(crate) fn is_as_given(row: &KeptView<'_>, key: &[u8], length: u64) -> bool {
-    row.key == key
-        && row.version.tag.as_slice() == b"\"x\"".as_slice()
-        && row.version.length == length
-        && row.times == TIMES
-        && are_fields(&row.fields)
-}
-
-fn are_fields(fields: &Fields<'_, '_>) -> bool {
-    fields.len() == 3
-        && fields.first(b"etag") == Some(b"\"x\"".as_slice())
-        && fields.first(b"date") == Some(b"Sun, 06 Nov 1994 08:49:37 GMT".as_slice())
-        && fields.first(b"cache-control") == Some(b"max-age=60".as_slice())
 }
 
 /// A folder with one file.

@@ -1,6 +1,7 @@
 // The operations of one entry, and the file that they make.
 use crate::format::{HEAD_OF_5, file_with, holds};
-use crate::life::{A, Life, life_with, loads, two_chunks};
+use crate::given::{TIMES, is_as_given};
+use crate::life::{A, B, Life, life_with, loads, two_chunks};
 use crate::steps::{Step, are_just};
 use pp_target::file_name;
 use std::test::Fail;
@@ -71,6 +72,44 @@ fn chunks_that_come_together_have_their_gates_opened_together(rt: HostRuntime) -
         Step::Sync,
     ];
     assert!(rt; did_just(&life, &steps));
+    Ok(())
+}
+
+#[test]
+fn the_end_of_a_body_stands_behind_its_whole_chunks(rt: HostRuntime) -> Result<(), Fail> {
+    let mut life = Life::begin(rt.alloc(), &[])?;
+    assert_eq!(rt; life.keep(rt.alloc(), A, 8197), Some(Ok(())));
+    assert_eq!(rt; life.extend(A, &[b'a'; 8192]), Some(Ok(8192)));
+    assert_eq!(rt; life.extend(A, b"hello"), Some(Ok(8197)));
+    let steps = [
+        Step::Draft(12_288),
+        Step::SyncDraft,
+        Step::Publish,
+        Step::Write(12_288, &[b'a'; 8192]),
+        Step::Sync,
+        Step::Write(8192, &[1, 1]),
+        Step::Sync,
+        Step::Write(20_480, b"hello"),
+        Step::Sync,
+        Step::Write(8194, &[1]),
+        Step::Sync,
+    ];
+    assert!(rt; did_just(&life, &steps));
+    let mut out = [0; 4096];
+    assert_eq!(rt; life.load(A, 1, &mut out), Some(Ok(4096)));
+    assert!(rt; out == [b'a'; 4096]);
+    assert_eq!(rt; life.load(A, 2, &mut out), Some(Ok(5)));
+    assert_eq!(rt; &out[..5], b"hello".as_slice());
+    assert_eq!(rt; life.load(A, 3, &mut out), None);
+    Ok(())
+}
+
+#[test]
+fn what_is_kept_is_told_of_as_it_was_given(rt: HostRuntime) -> Result<(), Fail> {
+    let life = life_with(rt.alloc(), b"hello")?;
+    let row = life.store().kept(A).ok_or("kept")?;
+    assert!(rt; is_as_given(&row, A, 5, &TIMES));
+    assert!(rt; life.store().kept(B).is_none());
     Ok(())
 }
 

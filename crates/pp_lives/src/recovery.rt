@@ -1,6 +1,7 @@
 // What the next life finds, at whatever moment the one before it ended.
 use crate::format::{Found, HEAD_OF_8192, found_in};
-use crate::life::{A, Life, Morning, is_as_given, keep_rest, life_with, loads, two_chunks};
+use crate::given::{TIMES, TIMES_READ, is_as_given};
+use crate::life::{A, Life, Morning, keep_rest, life_with, loads, two_chunks};
 use crate::steps::{Step, are_just, begin_of};
 use pp_target::file_name;
 use pp_world::Happening;
@@ -46,7 +47,7 @@ fn has_just(life: &Life, found: Found) -> bool {
     match (store.kept(A), found) {
         (None, Found::Nothing) => store.entries() == 0 && !store.is_closed(&file_name(A)),
         (Some(row), Found::Entry(extent)) => {
-            store.entries() == 1 && row.extent == extent && is_as_given(&row, A, 8192)
+            store.entries() == 1 && row.extent == extent && is_as_given(&row, A, 8192, &TIMES_READ)
         }
         _ => false,
     }

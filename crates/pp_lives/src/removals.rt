@@ -26,8 +26,11 @@ fn a_crash_within_a_removal_leaves_the_whole_entry_or_none(rt: HostRuntime) -> R
     let mut life = life_with(rt.alloc(), b"hello")?;
     assert_eq!(rt; life.withdraw(A), Some(Ok(())));
     assert_eq!(rt; life.withdraw(A), None);
+    assert!(rt; !life.store().is_closed(&file_name(A)));
+    assert_eq!(rt; life.store().entries(), 0);
+    // The removal is begun and done, and nothing else.
     let at = begin_of(life.log(), &file_name(A), Step::Remove).ok_or("begun")?;
-    assert_eq!(rt; at, 18);
+    assert_eq!(rt; (at, life.log().len()), (18, 19));
     // The first value of the generator is even by the choice 2, and odd by 3.
     let cases: [(usize, u64, Found); 9] = [
         (17, 0, Found::Entry(5)),
