@@ -98,11 +98,7 @@ fn an_open_gate_behind_one_that_is_not_is_closed_and_nothing_else_is_written(
     let steps = [Step::Write(8196, &[0]), Step::Sync];
     assert!(rt; closes(alloc, [0, 0, 0, 0, 1, 1], 0, &steps, [0, 0, 0, 0, 0, 1])?);
     // Each run of gates is written, and the file is synced once.
-    let steps = [
-        Step::Write(8194, &[0]),
-        Step::Write(8196, &[0]),
-        Step::Sync,
-    ];
+    let steps = [Step::Write(8194, &[0]), Step::Write(8196, &[0]), Step::Sync];
     assert!(rt;
         closes(
             alloc,
