@@ -1,7 +1,30 @@
-//! What `pp_world`, `pp_memworld` and `pp_net` do, tried: what no clause of them says.
+//! What `pp_world`, `pp_memworld` and `pp_net` do, tried: worked calls, lives and crashes, over memory and over the system.
+//!
+//! Each table writes down calls and what they are to give, and one function plays it and says in words where it went otherwise.
+//! To prove a test is dear, so what they share is proved once.
 //!
 //! Nothing stands on this crate. The three have no tests of their own, since a crate with tests is proved twice.
 #![tactic(auto)]
 
 #[cfg(test)]
+mod calls; // calls on a disk, and what they give
+#[cfg(test)]
+mod crashes; // what a crash leaves
+#[cfg(test)]
+mod disk_in_memory; // the calls on a disk in memory
+#[cfg(test)]
+mod folders; // the calls on a real folder
+#[cfg(test)]
+mod lives; // lives of a folder in memory, and what crashes leave of them
+#[cfg(test)]
 mod outside; // any wire and any disk, and the files of a folder
+#[cfg(test)]
+mod sockets; // the calls on real connections
+#[cfg(test)]
+mod system; // the configuration, and the addresses of names
+#[cfg(test)]
+mod telling; // what a world in memory tells
+#[cfg(test)]
+mod turns; // a script in memory, turn by turn
+#[cfg(test)]
+mod wire_in_memory; // the calls on a wire in memory

@@ -3,6 +3,7 @@ ghost use Rattle.std.specs.Prelude.{◌≡◌, ◌<◌, ◌≤◌, ℕ, None, le
 ghost use Rattle.pp_world.specs.Connections.{IsOpen};
 ghost use Rattle.pp_world.specs.Log.{Told};
 
+use crate::calls::{Call, Gives, Shelf, first_unlike};
 use arrayvec::ArrayVec;
 use pp_text::Octets;
 use pp_world::{
@@ -111,17 +112,6 @@ impl Disk for Silent {
     }
 }
 
-/// How many bytes the file of this name has, on any disk, as far as they can be read.
-fn count_held<D: Disk>(disk: &mut D, name: &Name, buf: &mut [u8]) -> Result<usize, DiskFault>
-    ensures within { IfOk result (λ n. n ≤ length buf.new) }
-    ensures top { D.top disk.new ≡ D.top disk.old }
-{
-    if disk.length(name)? == 0 {
-        return Ok(0);
-    }
-    disk.read(name, 0, buf)
-}
-
 /// How many bytes came, over any wire.
 fn count_read<W: World>(world: &mut W, id: u64, buf: &mut [u8]) -> Result<usize, WireFault>
     requires room { 0 < length buf.old }
@@ -184,27 +174,35 @@ fn a_wire_that_tells_nothing_serves_any_caller(rt: HostRuntime) -> Result<(), Fa
     Ok(())
 }
 
+impl Shelf for Silent {
+    fn publish_if(&mut self, name: &Name) -> Option<Result<(), DiskFault>> {
+        Some(self.publish(name))
+    }
+
+    fn write_if(&mut self, name: &Name, at: u64, bytes: &[u8]) -> Option<Result<(), DiskFault>> {
+        Some(Disk::write(self, name, at, bytes))
+    }
+}
+
+const SILENCE: &[(Call<'static>, Gives<'static>)] = &[
+    (Call::Root(b"polipo-cache"), Gives::Done),
+    (Call::Names, Gives::Names(b"")),
+    (Call::Whole(b'0'), Gives::Bytes(b"")),
+    (Call::Draft(b"HTTP/1.1 200 OK\r\n"), Gives::Fault),
+    (Call::SyncDraft, Gives::Fault),
+    (Call::Publish(b'0'), Gives::Fault),
+    (Call::Write(b'0', 8192, b"\x01"), Gives::Fault),
+    (Call::Sync(b'0'), Gives::Fault),
+    (Call::Remove(b'0'), Gives::Fault),
+];
+
 #[test]
 fn a_disk_that_tells_nothing_serves_any_caller(rt: HostRuntime) -> Result<(), Fail> {
     let mut silent = Silent {
         faults: 0,
         ticks: 0,
     };
-    let name = name_of(b'a');
-    let mut buf = [0; 4];
-    silent.root(b"polipo-cache");
-    let names = silent.names(rt.alloc()).ok().ok_or("names")?;
-    assert_eq!(rt; names.len(), 0);
-    assert_eq!(rt; count_held(&mut silent, &name, &mut buf), Ok(0));
-    assert_eq!(rt; silent.draft(b"HTTP/1.1 200 OK\r\n"), Err(DiskFault));
-    assert_eq!(rt; silent.sync_draft(), Err(DiskFault));
-    assert_eq!(rt; silent.publish(&name), Err(DiskFault));
-    assert_eq!(rt;
-        Disk::write(&mut silent, &name, 8192, b"\x01"),
-        Err(DiskFault)
-    );
-    assert_eq!(rt; silent.sync(&name), Err(DiskFault));
-    assert_eq!(rt; silent.remove(&name), Err(DiskFault));
+    assert_eq!(rt; first_unlike(&mut silent, rt.alloc(), SILENCE), None);
     assert_eq!(rt; silent.faults, 6);
     Ok(())
 }

@@ -1,0 +1,346 @@
+// Real folders, call by call, each course in one of its own.
+use crate::calls::{Call, Gives, is_given};
+use crate::turns::wants;
+use pp_net::{NetFault, NetWorld};
+use pp_world::{Event, Wire};
+use std::os::unix::fs::PermissionsExt;
+use std::test::Fail;
+use std::{fs, io};
+
+/// What happens to a folder. Paths begin with its name.
+#[derive(Clone, Copy)]
+enum Act<'a> {
+    /// What a call of the program gives.
+    Call(Call<'a>, Gives<'a>),
+    /// What a call of a second program gives.
+    Second(Call<'a>, Gives<'a>),
+    /// The first program ends.
+    Ends,
+    /// A second begins, in which the program looks after its folder.
+    Tick,
+    /// By hand: the file of this path has these bytes.
+    Put(&'a str, &'a [u8]),
+    /// By hand: a folder is made.
+    Make(&'a str),
+    /// By hand: the one has the name of the other from now on.
+    Move(&'a str, &'a str),
+    /// By hand: a folder goes, with all that is in it.
+    Clear(&'a str),
+    /// The file of this path has these bytes.
+    Has(&'a str, &'a [u8]),
+    /// Who may do what with the file or folder of this path.
+    Mode(&'a str, u32),
+}
+
+struct Course<'a> {
+    name: &'a str,
+    acts: &'a [Act<'a>],
+}
+
+/// Two programs.
+#[derive(Drop)]
+struct Programs {
+    rt: HostRuntime,
+    first: NetWorld<HostRuntime>,
+    second: NetWorld<HostRuntime>,
+}
+
+impl Programs {
+    fn new(rt: &HostRuntime) -> Result<Programs, NetFault> {
+        Ok(Programs {
+            rt: *rt,
+            first: NetWorld::new(*rt)?,
+            second: NetWorld::new(*rt)?,
+        })
+    }
+
+    fn is_met(&mut self, act: Act<'_>) -> Result<bool, Fail> {
+        let alloc = self.rt.alloc();
+        match act {
+            Act::Call(call, wanted) => Ok(is_given(&mut self.first, alloc, call, wanted)),
+            Act::Second(call, wanted) => Ok(is_given(&mut self.second, alloc, call, wanted)),
+            Act::Ends => {
+                self.first = NetWorld::new(self.rt)?;
+                Ok(true)
+            }
+            Act::Tick => Ok(matches!(self.first.next(&wants(false, &[], &[])), Event::Tick(_))),
+            by_hand => Ok(is_done(&self.rt, by_hand)?),
+        }
+    }
+}
+
+fn is_done(rt: &HostRuntime, act: Act<'_>) -> io::Result<bool> {
+    match act {
+        Act::Put(path, bytes) => fs::write(rt, path, bytes)?,
+        Act::Make(path) => fs::create_dir(rt, path)?,
+        Act::Move(from, to) => fs::rename(rt, from, to)?,
+        Act::Clear(path) => fs::remove_dir_all(rt, path)?,
+        Act::Has(path, bytes) => return Ok(fs::read(rt, path)?.as_slice() == bytes),
+        Act::Mode(path, mode) => {
+            return Ok(fs::metadata(rt, path)?.permissions().mode() & 0o777 == mode);
+        }
+        Act::Call(_, _) | Act::Second(_, _) | Act::Ends | Act::Tick => return Ok(false),
+    }
+    Ok(true)
+}
+
+/// Where these courses go otherwise than wanted: nothing is said where none does.
+fn unlike(rt: &HostRuntime, courses: &[Course<'_>]) -> Result<String, Fail> {
+    let alloc = rt.alloc();
+    for course in courses {
+        let mut programs = Programs::new(rt)?;
+        for (place, act) in course.acts.iter().enumerate() {
+            if !programs.is_met(*act)? {
+                return Ok(format!(in alloc; "{}: act {place}", course.name)?);
+            }
+        }
+    }
+    Ok(String::new(alloc))
+}
+
+const FOLDERS: &[Course<'static>] = &[
+    Course {
+        name: "a folder is made, but none above it, and it is the user's alone",
+        acts: &[
+            Act::Call(Call::Root(b"disk_root"), Gives::Done),
+            Act::Mode("disk_root", 0o700),
+            Act::Call(Call::Names, Gives::Names(b"")),
+            Act::Call(Call::Root(b"disk_root/above/below"), Gives::Done),
+            Act::Call(Call::Names, Gives::Fault),
+            Act::Put("disk_root/file", b""),
+            Act::Call(Call::Root(b"disk_root/file"), Gives::Done),
+            Act::Call(Call::Names, Gives::Fault),
+            Act::Clear("disk_root"),
+        ],
+    },
+    Course {
+        name: "a second program is refused",
+        acts: &[
+            Act::Call(Call::Root(b"disk_lock"), Gives::Done),
+            Act::Second(Call::Root(b"disk_lock"), Gives::Done),
+            Act::Second(Call::Names, Gives::Fault),
+            Act::Second(Call::Draft(b"text"), Gives::Fault),
+            Act::Call(Call::Draft(b"text"), Gives::Done),
+            Act::Ends,
+            Act::Second(Call::Root(b"disk_lock"), Gives::Done),
+            Act::Second(Call::Draft(b"text"), Gives::Done),
+            Act::Clear("disk_lock"),
+        ],
+    },
+    Course {
+        name: "names are those of 32 digits, in order, and of files",
+        acts: &[
+            Act::Call(Call::Root(b"disk_names"), Gives::Done),
+            Act::Put("disk_names/ffffffffffffffffffffffffffffffff", b""),
+            Act::Put("disk_names/aaaaaaaaaaaaaaaaaaaaaaaaaaaaaaaa", b""),
+            Act::Put("disk_names/AAAAAAAAAAAAAAAAAAAAAAAAAAAAAAAA", b""),
+            Act::Put("disk_names/aaaaaaaaaaaaaaaaaaaaaaaaaaaaaaa", b""),
+            Act::Put("disk_names/aaaaaaaaaaaaaaaagaaaaaaaaaaaaaaa", b""),
+            Act::Put("disk_names/draft", b""),
+            Act::Make("disk_names/00000000000000000000000000000000"),
+            Act::Call(Call::Names, Gives::Names(b"af")),
+            Act::Clear("disk_names"),
+        ],
+    },
+    Course {
+        name: "a folder that is moved is left, and none is taken in its place",
+        acts: &[
+            Act::Call(Call::Root(b"disk_moved"), Gives::Done),
+            Act::Tick,
+            Act::Call(Call::Draft(b"text"), Gives::Done),
+            Act::Move("disk_moved", "disk_moved_away"),
+            Act::Make("disk_moved"),
+            Act::Tick,
+            Act::Call(Call::Draft(b"more"), Gives::Fault),
+            Act::Call(Call::Names, Gives::Fault),
+            Act::Call(Call::Length(b'a'), Gives::Fault),
+            Act::Has("disk_moved_away/draft", b"text"),
+            Act::Clear("disk_moved"),
+            Act::Clear("disk_moved_away"),
+        ],
+    },
+    Course {
+        name: "without a folder every call fails",
+        acts: &[
+            Act::Call(Call::Names, Gives::Fault),
+            Act::Call(Call::Length(b'a'), Gives::Fault),
+            Act::Call(Call::Read(b'a', 0, 3), Gives::Fault),
+            Act::Call(Call::Draft(b"text"), Gives::Fault),
+            Act::Call(Call::SyncDraft, Gives::Fault),
+            Act::Call(Call::Publish(b'a'), Gives::Fault),
+            Act::Call(Call::Write(b'a', 0, b"text"), Gives::Fault),
+            Act::Call(Call::Sync(b'a'), Gives::Fault),
+            Act::Call(Call::Remove(b'a'), Gives::Fault),
+        ],
+    },
+];
+
+#[test]
+fn a_folder_is_one_program_s(rt: HostRuntime) -> Result<(), Fail> {
+    assert_eq!(rt; unlike(&rt, FOLDERS)?.as_str(), "");
+    Ok(())
+}
+
+const FILES: &[Course<'static>] = &[
+    Course {
+        name: "a file is as long as it is, and 0 where there is none",
+        acts: &[
+            Act::Call(Call::Root(b"disk_length"), Gives::Done),
+            Act::Put("disk_length/aaaaaaaaaaaaaaaaaaaaaaaaaaaaaaaa", b"12345"),
+            Act::Call(Call::Length(b'a'), Gives::Length(5)),
+            Act::Call(Call::Length(b'f'), Gives::Length(0)),
+            Act::Clear("disk_length"),
+        ],
+    },
+    Course {
+        name: "a file is read as far as it and the buffer go",
+        acts: &[
+            Act::Call(Call::Root(b"disk_read"), Gives::Done),
+            Act::Put("disk_read/aaaaaaaaaaaaaaaaaaaaaaaaaaaaaaaa", b"12345"),
+            Act::Call(Call::Read(b'a', 0, 3), Gives::Bytes(b"123")),
+            Act::Call(Call::Read(b'a', 3, 3), Gives::Bytes(b"45")),
+            Act::Call(Call::Read(b'a', 9, 3), Gives::Bytes(b"")),
+            Act::Call(Call::Read(b'f', 0, 3), Gives::Bytes(b"")),
+            Act::Make("disk_read/ffffffffffffffffffffffffffffffff"),
+            Act::Call(Call::Read(b'f', 0, 3), Gives::Fault),
+            Act::Clear("disk_read"),
+        ],
+    },
+    Course {
+        name: "a draft holds the last bytes, and becomes the file, which is the user's alone",
+        acts: &[
+            Act::Call(Call::Root(b"disk_draft"), Gives::Done),
+            Act::Call(Call::SyncDraft, Gives::Fault),
+            Act::Call(Call::Draft(b"a longer draft"), Gives::Done),
+            Act::Call(Call::Draft(b"a draft"), Gives::Done),
+            Act::Call(Call::SyncDraft, Gives::Done),
+            Act::Call(Call::Length(b'a'), Gives::Length(0)),
+            Act::Call(Call::Publish(b'a'), Gives::Done),
+            Act::Call(Call::Whole(b'a'), Gives::Bytes(b"a draft")),
+            Act::Call(Call::Publish(b'a'), Gives::Fault),
+            Act::Mode("disk_draft/aaaaaaaaaaaaaaaaaaaaaaaaaaaaaaaa", 0o600),
+            Act::Clear("disk_draft"),
+        ],
+    },
+    Course {
+        name: "a draft of an earlier program is none",
+        acts: &[
+            Act::Call(Call::Root(b"disk_left"), Gives::Done),
+            Act::Call(Call::Draft(b"text"), Gives::Done),
+            Act::Ends,
+            Act::Call(Call::Root(b"disk_left"), Gives::Done),
+            Act::Call(Call::SyncDraft, Gives::Fault),
+            Act::Call(Call::Publish(b'a'), Gives::Fault),
+            Act::Clear("disk_left"),
+        ],
+    },
+    Course {
+        name: "bytes are written over a file that is there",
+        acts: &[
+            Act::Call(Call::Root(b"disk_write"), Gives::Done),
+            Act::Put("disk_write/aaaaaaaaaaaaaaaaaaaaaaaaaaaaaaaa", b"12345"),
+            Act::Call(Call::Write(b'a', 3, b"xyz"), Gives::Done),
+            Act::Call(Call::Sync(b'a'), Gives::Done),
+            Act::Call(Call::Whole(b'a'), Gives::Bytes(b"123xyz")),
+            Act::Call(Call::Write(b'f', 0, b"xyz"), Gives::Fault),
+            Act::Call(Call::Sync(b'f'), Gives::Fault),
+            Act::Call(Call::Length(b'f'), Gives::Length(0)),
+            Act::Clear("disk_write"),
+        ],
+    },
+    Course {
+        name: "a file is removed, and one that is not there is no fault",
+        acts: &[
+            Act::Call(Call::Root(b"disk_remove"), Gives::Done),
+            Act::Put("disk_remove/aaaaaaaaaaaaaaaaaaaaaaaaaaaaaaaa", b"12345"),
+            Act::Call(Call::Remove(b'a'), Gives::Done),
+            Act::Call(Call::Names, Gives::Names(b"")),
+            Act::Call(Call::Remove(b'a'), Gives::Done),
+            Act::Clear("disk_remove"),
+            Act::Call(Call::Names, Gives::Fault),
+        ],
+    },
+];
+
+#[test]
+fn files_are_what_the_calls_left_of_them(rt: HostRuntime) -> Result<(), Fail> {
+    assert_eq!(rt; unlike(&rt, FILES)?.as_str(), "");
+    Ok(())
+}
+
+const HANDLES: &[Course<'static>] = &[
+    Course {
+        name: "what was written is written on and synced by one handle, from the draft on",
+        acts: &[
+            Act::Call(Call::Root(b"disk_handle"), Gives::Done),
+            Act::Call(Call::Draft(b"12345"), Gives::Done),
+            Act::Call(Call::SyncDraft, Gives::Done),
+            Act::Call(Call::Publish(b'a'), Gives::Done),
+            Act::Call(Call::Write(b'a', 0, b"AB"), Gives::Done),
+            Act::Move(
+                "disk_handle/aaaaaaaaaaaaaaaaaaaaaaaaaaaaaaaa",
+                "disk_handle/aside",
+            ),
+            Act::Call(Call::Write(b'a', 3, b"CD"), Gives::Done),
+            Act::Call(Call::Sync(b'a'), Gives::Done),
+            Act::Has("disk_handle/aside", b"AB3CD"),
+            Act::Clear("disk_handle"),
+        ],
+    },
+    Course {
+        name: "a file that was not written by this program is written by one handle too",
+        acts: &[
+            Act::Call(Call::Root(b"disk_again"), Gives::Done),
+            Act::Put("disk_again/aaaaaaaaaaaaaaaaaaaaaaaaaaaaaaaa", b"12345"),
+            Act::Call(Call::Write(b'a', 0, b"AB"), Gives::Done),
+            Act::Move(
+                "disk_again/aaaaaaaaaaaaaaaaaaaaaaaaaaaaaaaa",
+                "disk_again/aside",
+            ),
+            Act::Call(Call::Write(b'a', 3, b"CD"), Gives::Done),
+            Act::Call(Call::Sync(b'a'), Gives::Done),
+            Act::Has("disk_again/aside", b"AB3CD"),
+            Act::Clear("disk_again"),
+        ],
+    },
+    Course {
+        name: "the pieces of a file are read by one handle, until another file stands there",
+        acts: &[
+            Act::Call(Call::Root(b"disk_pieces"), Gives::Done),
+            Act::Put("disk_pieces/aaaaaaaaaaaaaaaaaaaaaaaaaaaaaaaa", b"12345"),
+            Act::Call(Call::Read(b'a', 0, 2), Gives::Bytes(b"12")),
+            Act::Move(
+                "disk_pieces/aaaaaaaaaaaaaaaaaaaaaaaaaaaaaaaa",
+                "disk_pieces/aside",
+            ),
+            Act::Call(Call::Read(b'a', 2, 3), Gives::Bytes(b"345")),
+            Act::Call(Call::Draft(b"new"), Gives::Done),
+            Act::Call(Call::SyncDraft, Gives::Done),
+            Act::Call(Call::Publish(b'a'), Gives::Done),
+            Act::Call(Call::Read(b'a', 0, 5), Gives::Bytes(b"new")),
+            Act::Call(Call::Remove(b'a'), Gives::Done),
+            Act::Call(Call::Read(b'a', 0, 5), Gives::Bytes(b"")),
+            Act::Clear("disk_pieces"),
+        ],
+    },
+    Course {
+        name: "what one handle wrote is read by another",
+        acts: &[
+            Act::Call(Call::Root(b"disk_both"), Gives::Done),
+            Act::Call(Call::Draft(b"12345"), Gives::Done),
+            Act::Call(Call::SyncDraft, Gives::Done),
+            Act::Call(Call::Publish(b'a'), Gives::Done),
+            Act::Call(Call::Read(b'a', 0, 5), Gives::Bytes(b"12345")),
+            Act::Call(Call::Write(b'a', 1, b"xy"), Gives::Done),
+            Act::Call(Call::Read(b'a', 0, 5), Gives::Bytes(b"1xy45")),
+            Act::Call(Call::Whole(b'a'), Gives::Bytes(b"1xy45")),
+            Act::Clear("disk_both"),
+        ],
+    },
+];
+
+#[test]
+fn a_file_is_synced_by_the_handle_that_wrote_it(rt: HostRuntime) -> Result<(), Fail> {
+    assert_eq!(rt; unlike(&rt, HANDLES)?.as_str(), "");
+    Ok(())
+}

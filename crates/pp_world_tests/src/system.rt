@@ -1,0 +1,98 @@
+// What the system is asked beside sockets and folders: a configuration file, and the addresses of names.
+use pp_net::{Hosts, NetWorld};
+use pp_text::Octets;
+use pp_world::{CONFIG_READ_LEN, ConfigFault, Wire};
+use std::cell::Cell;
+use std::io::ErrorKind;
+use std::net::{Ipv4Addr, Net, SocketAddr, TcpListener, TcpStream};
+use std::test::Fail;
+use std::{fs, io};
+
+// What is read of a configuration file with this text.
+fn read_back(rt: &HostRuntime, text: &[u8]) -> Result<Octets, Fail> {
+    let mut world = NetWorld::new(*rt)?;
+    fs::write(rt, "polipo.conf", text)?;
+    let found = world.config(rt.alloc(), "polipo.conf");
+    fs::remove_file(rt, "polipo.conf")?;
+    Ok(found?)
+}
+
+fn is_missing(rt: &HostRuntime) -> Result<bool, Fail> {
+    let mut world = NetWorld::new(*rt)?;
+    let missing = world.config(rt.alloc(), "no.conf");
+    Ok(matches!(missing, Err(ConfigFault::Unreadable)))
+}
+
+#[test]
+fn a_configuration_is_read_up_to_its_limit(rt: HostRuntime) -> Result<(), Fail> {
+    let short = read_back(&rt, b"proxyPort = 8124\n")?;
+    assert_eq!(rt; short.as_slice(), b"proxyPort = 8124\n".as_slice());
+    let long = read_back(&rt, &[b'#'; 70_000])?;
+    assert_eq!(rt; long.as_slice().len(), CONFIG_READ_LEN);
+    assert!(rt; is_missing(&rt)?);
+    Ok(())
+}
+
+// A system that knows one name, and counts how often it is asked.
+#[derive(Drop)]
+struct Resolver {
+    asked: Cell<u32>,
+}
+
+impl Net for Resolver {
+    type Stream = TcpStream;
+
+    type Listener = TcpListener;
+
+    fn bind(&self, _addr: SocketAddr) -> io::Result<TcpListener> {
+        Err(io::Error::from(ErrorKind::Unsupported))
+    }
+
+    fn connect(&self, _addr: SocketAddr) -> io::Result<TcpStream> {
+        Err(io::Error::from(ErrorKind::Unsupported))
+    }
+
+    fn lookup_host(&self, host: &str, port: u16, found: &mut [SocketAddr]) -> io::Result<usize> {
+        self.asked.set(self.asked.get().saturating_add(1));
+        if host != "known" || found.is_empty() {
+            return Err(io::Error::from(ErrorKind::NotFound));
+        }
+        found[0] = SocketAddr::from((Ipv4Addr::new(10, 0, 0, 1), port));
+        Ok(1)
+    }
+}
+
+/// The name, the second, whether it is found, and how often the system was asked by then.
+const NAMES: &[(&str, u64, bool, u32)] = &[
+    ("127.0.0.1", 100, true, 0),
+    ("known", 100, true, 1),
+    ("known", 104, true, 1),
+    ("unknown", 104, false, 2),
+    ("unknown", 105, false, 2),
+    ("known", 105, true, 3),
+    ("unknown", 109, false, 4),
+    ("::1", 109, true, 4),
+];
+
+// The first line of the table that goes otherwise.
+fn first_unlike(rt: &HostRuntime) -> Result<Option<usize>, Fail> {
+    let mut hosts = Hosts::new(rt.alloc())?;
+    let system = Resolver {
+        asked: Cell::new(0),
+    };
+    for (place, (name, now, is_found, asked)) in NAMES.iter().enumerate() {
+        let found = hosts.address(&system, name, *now).is_ok();
+        if found != *is_found || system.asked.get() != *asked {
+            return Ok(Some(place));
+        }
+    }
+    Ok(None)
+}
+
+#[test]
+fn a_name_is_looked_up_once_in_some_seconds_and_an_address_never(
+    rt: HostRuntime,
+) -> Result<(), Fail> {
+    assert_eq!(rt; first_unlike(&rt)?, None);
+    Ok(())
+}

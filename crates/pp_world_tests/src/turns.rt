@@ -1,0 +1,236 @@
+// Scripts played over a world in memory, turn by turn: what is reported, what is read and written, and what is told.
+use crate::lives::no_script;
+use crate::telling::tells;
+use arrayvec::ArrayVec;
+use pp_memworld::{Cue, MemWorld, Page, Script};
+use pp_text::{Octets, OutOfMemory};
+use pp_world::{Cause, ConfigFault, Event, Got, Happening, Image, Note, Wants, Wire, WireFault};
+use std::alloc::Global;
+
+/// How many bytes a read takes at most.
+const READ_LEN: usize = 256;
+
+/// A cue over texts that a table has.
+#[derive(Clone, Copy)]
+pub enum Hint<'a> {
+    Tick(u64),
+    Connect,
+    Say(u64, &'a [u8]),
+    HangUp(u64),
+    Window(u64, u64),
+    Reach(u64),
+    Refuse(u64),
+    Answer(u64, &'a [u8]),
+    End(u64),
+    Break(u64),
+    Stop,
+}
+
+/// A turn, and what it is to give. None: the world may not be called so, since that connection is not open.
+#[derive(Clone, Copy)]
+pub enum Turn<'a> {
+    /// Whether a client may be accepted, and whose bytes and room are waited for.
+    Next(bool, &'a [u64], &'a [u64], Event),
+    /// By a buffer so long.
+    Read(u64, usize, Option<Result<Got, WireFault>>),
+    /// The bytes that were read.
+    Found(u64, usize, &'a [u8]),
+    Write(u64, &'a [u8], Option<Result<usize, WireFault>>),
+    /// An ask in two pieces is answered by these bytes, and only once it is whole.
+    Ask(u64, &'a [u8], &'a [u8]),
+    /// Whether it was open.
+    Close(u64, bool),
+    Dial(&'a [u8], u16, Result<u64, WireFault>),
+    Listen(u16, Result<(), WireFault>),
+    /// The text, if it can be read.
+    Config(Option<&'a [u8]>),
+    Note,
+    Print(&'a [u8]),
+    /// After so many happenings, by the choice 0; in the next life the calls of these numbers fail. Whether there were so
+    /// many.
+    Crash(usize, &'a [u64], bool),
+    IsOpen(u64, bool),
+    /// All that is told.
+    Told(&'a [&'a str]),
+    /// The place of a dial in the log, its number and its port.
+    ToldDial(usize, u64, u16),
+}
+
+/// A world with this script, and how it is called.
+pub struct Course<'a> {
+    pub name: &'a str,
+    pub hints: &'a [Hint<'a>],
+    /// Host, path, tag and body of the pages that answer by themselves.
+    pub site: &'a [(&'a [u8], &'a [u8], &'a [u8], &'a [u8])],
+    pub failing: &'a [u64],
+    pub config: &'a [u8],
+    pub turns: &'a [Turn<'a>],
+}
+
+/// Where these courses go otherwise than wanted: nothing is said where none does.
+pub fn unlike(alloc: Global, courses: &[Course<'_>]) -> Result<String, OutOfMemory> {
+    for course in courses {
+        let mut world = begin(alloc, course)?;
+        for (place, turn) in course.turns.iter().enumerate() {
+            if !is_met(&mut world, alloc, *turn)? {
+                return Ok(format!(in alloc; "{}: turn {place}", course.name)?);
+            }
+        }
+    }
+    Ok(String::new(alloc))
+}
+
+fn begin(alloc: Global, course: &Course<'_>) -> Result<MemWorld, OutOfMemory> {
+    let mut cues = Vec::new(alloc);
+    for hint in course.hints {
+        let cue = cue_of(alloc, *hint)?;
+        cues.push(cue).map_err(|_| OutOfMemory)?;
+    }
+    let mut site = Vec::new(alloc);
+    for (host, path, tag, body) in course.site {
+        let page = Page {
+            host: Octets::copy(alloc, host)?,
+            path: Octets::copy(alloc, path)?,
+            tag: Octets::copy(alloc, tag)?,
+            body: Octets::copy(alloc, body)?,
+        };
+        site.push(page).map_err(|_| OutOfMemory)?;
+    }
+    let failing = Vec::from_slice(alloc, course.failing)?;
+    let mut world = MemWorld::new(alloc, Script { cues, site }, Image::new(alloc), failing)?;
+    world.set_config(Octets::copy(alloc, course.config)?);
+    Ok(world)
+}
+
+fn cue_of(alloc: Global, hint: Hint<'_>) -> Result<Cue, OutOfMemory> {
+    Ok(match hint {
+        Hint::Tick(seconds) => Cue::Tick(seconds),
+        Hint::Connect => Cue::Connect,
+        Hint::Say(id, bytes) => Cue::Say(id, Octets::copy(alloc, bytes)?),
+        Hint::HangUp(id) => Cue::HangUp(id),
+        Hint::Window(id, len) => Cue::Window(id, len),
+        Hint::Reach(id) => Cue::Reach(id),
+        Hint::Refuse(id) => Cue::Refuse(id),
+        Hint::Answer(id, bytes) => Cue::Answer(id, Octets::copy(alloc, bytes)?),
+        Hint::End(id) => Cue::End(id),
+        Hint::Break(id) => Cue::Break(id),
+        Hint::Stop => Cue::Stop,
+    })
+}
+
+pub fn wants(accept: bool, read: &[u64], write: &[u64]) -> Wants {
+    let mut wants = Wants {
+        accept,
+        read: ArrayVec::new(),
+        write: ArrayVec::new(),
+    };
+    let _ = wants.read.try_extend_from_slice(read);
+    let _ = wants.write.try_extend_from_slice(write);
+    wants
+}
+
+fn is_met(world: &mut MemWorld, alloc: Global, turn: Turn<'_>) -> Result<bool, OutOfMemory> {
+    match turn {
+        Turn::Next(accept, read, write, event) => {
+            Ok(world.next(&wants(accept, read, write)) == event)
+        }
+        Turn::Read(id, len, wanted) => {
+            let mut buf = [0; READ_LEN];
+            Ok(read(world, id, &mut buf[..len.min(READ_LEN)]) == wanted)
+        }
+        Turn::Found(id, len, wanted) => Ok(finds(world, id, len, wanted)),
+        Turn::Write(id, bytes, wanted) => Ok(write(world, id, bytes) == wanted),
+        Turn::Ask(id, ask, wanted) => Ok(is_answered(world, id, ask, wanted)),
+        Turn::Close(id, wanted) => Ok(close(world, id) == wanted),
+        Turn::Dial(host, port, wanted) => Ok(world.dial(host, port) == wanted),
+        Turn::Listen(port, wanted) => Ok(world.listen(port) == wanted),
+        Turn::Config(wanted) => Ok(is_config(world.config(alloc, "f"), wanted)),
+        Turn::Note => {
+            world.note(&Note::Cut(1, Cause::Stop));
+            Ok(true)
+        }
+        Turn::Print(bytes) => {
+            world.print(bytes);
+            Ok(true)
+        }
+        Turn::Crash(at, failing, wanted) => crash(world, alloc, at, failing, wanted),
+        Turn::IsOpen(id, wanted) => Ok(world.is_open(id) == wanted),
+        Turn::Told(names) => Ok(tells(world, names)),
+        Turn::ToldDial(place, id, port) => Ok(is_dialled(world, place, id, port)),
+    }
+}
+
+fn read(world: &mut MemWorld, id: u64, buf: &mut [u8]) -> Option<Result<Got, WireFault>> {
+    if buf.is_empty() || !world.is_open(id) {
+        return None;
+    }
+    Some(world.read(id, buf))
+}
+
+fn finds(world: &mut MemWorld, id: u64, len: usize, wanted: &[u8]) -> bool {
+    let mut buf = [0; READ_LEN];
+    let front = &mut buf[..len.min(READ_LEN)];
+    read(world, id, front) == Some(Ok(Got::Bytes(wanted.len())))
+        && front.get(..wanted.len()) == Some(wanted)
+}
+
+fn write(world: &mut MemWorld, id: u64, bytes: &[u8]) -> Option<Result<usize, WireFault>> {
+    if bytes.is_empty() || !world.is_open(id) {
+        return None;
+    }
+    Some(world.write(id, bytes))
+}
+
+fn close(world: &mut MemWorld, id: u64) -> bool {
+    if !world.is_open(id) {
+        return false;
+    }
+    world.close(id);
+    true
+}
+
+fn is_answered(world: &mut MemWorld, id: u64, ask: &[u8], wanted: &[u8]) -> bool {
+    let Some((last, front)) = ask.split_last() else {
+        return false;
+    };
+    let mut buf = [0; READ_LEN];
+    let wrote = write(world, id, front) == Some(Ok(front.len()));
+    let waited = read(world, id, &mut buf) == Some(Ok(Got::NotYet));
+    let ended = write(world, id, &[*last]) == Some(Ok(1));
+    wrote && waited && ended && finds(world, id, READ_LEN, wanted)
+}
+
+fn is_config(found: Result<Octets, ConfigFault>, wanted: Option<&[u8]>) -> bool {
+    match (found, wanted) {
+        (Ok(text), Some(wanted)) => text.as_slice() == wanted,
+        (Err(ConfigFault::Unreadable), None) => true,
+        _ => false,
+    }
+}
+
+fn crash(
+    world: &mut MemWorld,
+    alloc: Global,
+    at: usize,
+    failing: &[u64],
+    wanted: bool,
+) -> Result<bool, OutOfMemory> {
+    let failing = Vec::from_slice(alloc, failing)?;
+    match world.crash(alloc, at, 0, no_script(alloc), failing)? {
+        Some(next) => {
+            *world = next;
+            Ok(wanted)
+        }
+        None => Ok(!wanted),
+    }
+}
+
+fn is_dialled(world: &MemWorld, place: usize, id: u64, port: u16) -> bool {
+    let Some(log) = world.log() else {
+        return false;
+    };
+    match log.get(place) {
+        Some(Happening::Dialled(dialled, _, to)) => *dialled == id && *to == port,
+        _ => false,
+    }
+}
