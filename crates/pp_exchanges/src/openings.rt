@@ -126,13 +126,13 @@ const NO_CONFIGS: [(&str, &str, Option<u64>, &str); 10] = [
         "reads f\nprints polipo: configuration line 2 is not understood\n\n",
     ),
     (
-        "-c f diskRun=2",
+        "-c f diskRun=65",
         "maxTurns=0\n",
         None,
         "reads f\nprints polipo: bad value for maxTurns\n\n",
     ),
     (
-        "-c f diskRun=2",
+        "-c f diskRun=65",
         "maxTurns=1\n",
         None,
         "reads f\nprints polipo: bad value for diskRun\n\n",

@@ -190,14 +190,14 @@ const REPLIES: &[Exchange<'static>] = &[
             Act::Reach(2),
             Act::Answer(
                 2,
-                b"HTTP/1.1 200 OK\r\nContent-Length: 0\r\nETag: \"\"\r\n\r\n",
+                b"HTTP/1.1 200 OK\r\nContent-Length: 0\r\nETag: \"e\"\r\n\r\n",
             ),
         ],
         wanted: &[
             Wanted::Said(
                 1,
                 &[Part::Text(
-                    b"HTTP/1.1 200 OK\r\netag: \"\"\r\ndate: Sun, 06 Nov 1994 08:49:37 GMT\r\nvia: 1.1 polipo\r\ncontent-length: 0\r\nconnection: keep-alive\r\n\r\n",
+                    b"HTTP/1.1 200 OK\r\netag: \"e\"\r\ndate: Sun, 06 Nov 1994 08:49:37 GMT\r\nvia: 1.1 polipo\r\ncontent-length: 0\r\nconnection: keep-alive\r\n\r\n",
                 )],
             ),
             Wanted::Taken(1, Decision::Hit(0, 0)),
