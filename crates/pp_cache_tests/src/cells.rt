@@ -31,8 +31,6 @@ fn adding_stops_where_a_byte_needs_a_chunk_and_none_is_free(rt: HostRuntime) -> 
         }
     );
     assert!(rt; !cells.piece(&pool, 0).is_empty());
-    cells.touch(&mut pool, 0);
-    assert_eq!(rt; pool.oldest(&Pins::new()), Some((0, 1)));
     cells.drop_all(&mut pool);
     assert_eq!(rt; pool.used(), 0);
     assert_eq!(rt; cells.next_hole(0), (0, 2101248));
