@@ -228,9 +228,10 @@ def equal_lengths_count_as_one(world):
 
 @case
 def another_coding_is_502_and_its_connection_dropped(world):
-    with world.dropping_connections():
+    # Anew: on a connection that is left of an earlier exchange the program asks once more.
+    with world.anew() as world, world.dropping_connections():
         codings = [b"gzip, chunked", b"gzip", b"chunked, gzip", b"chunked, chunked", b"x", b"chunked;q=1"]
-        with Client() as client:
+        with Client(port=world.port) as client:
             for coding in codings:
                 world.origin.clear()
                 text = lines(OK, b"Transfer-Encoding: " + coding, b"Content-Length: 5") + chunked(b"hello")
@@ -288,12 +289,13 @@ def a_length_beside_an_interim_status_is_no_body(world):
 
 @case
 def no_protocol_is_switched(world):
-    with world.dropping_connections():
+    # Anew: on a connection that is left of an earlier exchange the program asks once more.
+    with world.anew() as world, world.dropping_connections():
         switch = lines(b"HTTP/1.1 101 Switching Protocols", b"Upgrade: websocket", b"Connection: Upgrade")
         world.origin.on("/switch", Answer(switch))
         world.origin.clear()
         fields = [b"Upgrade: websocket", b"Connection: Upgrade", b"Sec-WebSocket-Key: a"]
-        with Client() as client:
+        with Client(port=world.port) as client:
             for _ in range(2):
                 client.say(world.request("/switch", *fields))
                 client.expect(BAD_GATEWAY)
