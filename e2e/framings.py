@@ -4,6 +4,7 @@ import threading
 
 from harness import case, equal, holds
 from origin import Answer, chunked, lines, noise, response
+from rules import rule
 from world import BAD_GATEWAY, LAST_BAD_GATEWAY, VIA, Client, passed, reply, reply_head
 from passing import curl
 
@@ -228,7 +229,6 @@ def equal_lengths_count_as_one(world):
 
 @case
 def another_coding_is_502_and_its_connection_dropped(world):
-    # Anew: on a connection that is left of an earlier exchange the program asks once more.
     with world.anew() as world, world.dropping_connections():
         codings = [b"gzip, chunked", b"gzip", b"chunked, gzip", b"chunked, chunked", b"x", b"chunked;q=1"]
         with Client(port=world.port) as client:
@@ -239,6 +239,20 @@ def another_coding_is_502_and_its_connection_dropped(world):
                 client.say(world.request("/coding"))
                 client.expect(BAD_GATEWAY, f"the reply to {coding}")
                 equal(len(world.origin.asked), 1, "asks")
+
+
+@case
+@rule("bad-answer-asked-once")
+def a_bad_answer_on_a_used_connection_is_asked_for_once(world):
+    with world.anew() as world, Client(port=world.port) as client:
+        world.origin.on("/good", Answer(response(b"hello")))
+        client.say(world.request("/good"))
+        client.expect(reply(b"hello"))
+        world.origin.clear()
+        world.origin.on("/bad", Answer(lines(OK, b"Transfer-Encoding: gzip") + b"hello"))
+        client.say(world.request("/bad"))
+        client.expect(BAD_GATEWAY)
+        equal(len(world.origin.asked), 1, "asks")
 
 
 @case
@@ -289,7 +303,6 @@ def a_length_beside_an_interim_status_is_no_body(world):
 
 @case
 def no_protocol_is_switched(world):
-    # Anew: on a connection that is left of an earlier exchange the program asks once more.
     with world.anew() as world, world.dropping_connections():
         switch = lines(b"HTTP/1.1 101 Switching Protocols", b"Upgrade: websocket", b"Connection: Upgrade")
         world.origin.on("/switch", Answer(switch))

@@ -10,6 +10,7 @@ NOT_YET = {
     "gone-clients",
     "holes-nobody-fills",
     "near-bytes",
+    "bad-answer-asked-once",
     "full-answer-to-a-check",
     "shared-wait-ends",
     "another-tag",
