@@ -1,6 +1,6 @@
 -- An offset is in a span that comes exactly where an exchange brings it.
 use Rattle.std.proofs.Common.{eq-eqb, ◌≡◌, ◌≤◌, ◌<◌, ◌-◌, ◌/◌, ◌%◌, ℕ, zero, suc, Bool, true, false, ◌&&◌, ◌||◌, if◌then◌else◌, List, [], ◌∷◌, ◌++◌, length, map, get_or, refl, sym, ◌∙◌, ap, subst, arith, Option, Some, None, nat_lt}
-use Rattle.std.specs.Prelude.{◌==◌, ◌↔◌, IsSomeAnd, IsTrue, bytes_eq, nat_le, option_map}
+use Rattle.std.specs.Prelude.{◌==◌, ◌↔◌, IsSomeAnd, IsTrue, bytes_eq, min, nat_le, option_map}
 use Rattle.std.specs.Bool.{Decides}
 use Rattle.std.specs.List.{Contains, cons_option, filter_map, list_any}
 use Rattle.std.proofs.lemmas.Bool.{both_ways, eqb-true}
@@ -9,13 +9,14 @@ use Rattle.std.proofs.lemmas.Slice.Eq.{bytes_eq-Decides}
 use Rattle.pp_holes.specs.Cells.{Table, cell_of, filled_of, is_in_memory}
 use Rattle.pp_objects.specs.declared.id.ObjectId.{ObjectId}
 use Rattle.pp_objects.specs.Instances.{Instance, is_same_id}
+use Rattle.pp_plan.specs.Need.{is_near}
 use Rattle.pp_flow.specs.declared.coming.Brought.{Brought}
 use Rattle.pp_flow.specs.declared.entry.Aim.{Aim}
 use Rattle.pp_flow.specs.declared.entry.Aim.TheVariants.{Own, Hole, Pass}
 use Rattle.pp_flow.specs.declared.entry.Entry.{Entry}
 use Rattle.pp_flow.specs.Brings.{AskedBrings, Brings, BringsBy, IsAsked, IsBrought, OwnBrings, WillJoin, covers}
 use Rattle.pp_flow.specs.Changes.{Exchanges}
-use Rattle.pp_flow.specs.Coming.{Target, all_entered, asked_brings, bound_brings, brings, brings_by, brought, brought_by, coming, entered, has_offset, joins_at, joins_from, next_chunk, own_brings, span, span_of, target_of}
+use Rattle.pp_flow.specs.Coming.{Target, all_entered, asked_brings, bound_brings, brings, brings_by, brought, brought_by, coming, entered, has_offset, joins_at, joins_from, near_to, next_chunk, own_brings, span, span_of, target_of}
 use Rattle.pp_flow.specs.Entries.{Span}
 use Rattle.pp_flow.proofs.Collecting.{id-same}
 
@@ -23,6 +24,12 @@ use Rattle.pp_flow.proofs.Collecting.{id-same}
 
 lt-is : (a b : ℕ) → nat_lt a b ≡ true → a < b
 lt-is a b is = grind (arith, nat_tests)
+
+le-is : (a b : ℕ) → nat_le a b ≡ true → a ≤ b
+le-is a b is = grind (arith, nat_tests)
+
+is-le : (a b : ℕ) → a ≤ b → nat_le a b ≡ true
+is-le a b less = grind (arith, nat_tests)
 
 is-lt : (a b : ℕ) → a < b → nat_lt a b ≡ true
 is-lt a b less = grind (arith, nat_tests)
@@ -45,6 +52,17 @@ covers-is o from to is = (grind (arith, nat_tests), grind (arith, nat_tests))
 
 is-covers : (o from to : ℕ) → from ≤ o → o < to → covers o (from, to) ≡ true
 is-covers o from to begun ends = grind (arith, nat_tests)
+
+-- ---- soon enough
+
+near-ends : (from to o : ℕ) → o < near_to from to → o < to
+near-ends from to o less = omega (arith, less)
+
+near-is : (from to o : ℕ) → o < near_to from to → is_near from o ≡ true
+near-is from to o less = is-le (o - from) (256 * 4096) (omega (arith, less))
+
+is-before : (from to o : ℕ) → o < to → is_near from o ≡ true → o < near_to from to
+is-before from to o ends near = let le : o - from ≤ 256 * 4096 = le-is (o - from) (256 * 4096) near in omega (arith, ends, le)
 
 in_option : ℕ → Option (ℕ × ℕ) → Bool
 in_option o None = false
@@ -89,14 +107,15 @@ missing-behind t from o p joins begun chunk before missing = by (nat_lt p from) 
     by true less = absurd (cases (from % 4096 == 0) (has_offset t (from - 1)) refl refl joins (lt-is p from less))
     by false is = not-less p from is
 
-will-join : (t : Table) (from to o : ℕ) → joins_from t from ≤ o → o < to → WillJoin t from to o
-will-join t from to o begun ends = by (joins_at t from) refl begun
+will-join : (t : Table) (from to o : ℕ) → joins_from t from ≤ o → o < to → is_near from o ≡ true → WillJoin t from to o
+will-join t from to o begun ends near = by (joins_at t from) refl begun
   where
     by : (v : Bool) → joins_at t from ≡ v → (if v then from else next_chunk from) ≤ o → WillJoin t from to o
-    by true joins begun = record { begun = begun; ends = ends; before = λ p chunk before missing. missing-behind t from o p joins begun chunk before missing }
+    by true joins begun = record { begun = begun; ends = ends; near = near; before = λ p chunk before missing. missing-behind t from o p joins begun chunk before missing }
     by false joins begun = record {
       begun = omega (arith, begun);
       ends = ends;
+      near = near;
       before = λ p chunk before missing. omega (arith, begun, chunk, before);
     }
 
@@ -130,11 +149,12 @@ unfolding in_option
 bound-decides t b o = by (is_same_id t.id b.0) refl
   where
     by : (v : Bool) → is_same_id t.id b.0 ≡ v
-        → Decides (in_option o (if v then span (joins_from t.table b.1) b.2 else None)) ((t.id ≡ b.0) × WillJoin t.table b.1 b.2 o)
+        → Decides (in_option o (if v then span (joins_from t.table b.1) (near_to b.1 b.2) else None)) ((t.id ≡ b.0) × WillJoin t.table b.1 b.2 o)
     by true same = (
-      (λ is. let in_it = covers-is o (joins_from t.table b.1) b.2 (sym (in-span o (joins_from t.table b.1) b.2) ∙ is) in
-          ((same-id t.id b.0).0 same, will-join t.table b.1 b.2 o in_it.0 in_it.1)),
-      (λ brings. in-span o (joins_from t.table b.1) b.2 ∙ is-covers o (joins_from t.table b.1) b.2 (joins-by t.table b.1 b.2 o brings.1) brings.1.ends),
+      (λ is. let in_it = covers-is o (joins_from t.table b.1) (near_to b.1 b.2) (sym (in-span o (joins_from t.table b.1) (near_to b.1 b.2)) ∙ is) in
+          ((same-id t.id b.0).0 same, will-join t.table b.1 b.2 o in_it.0 (near-ends b.1 b.2 o in_it.1) (near-is b.1 b.2 o in_it.1))),
+      (λ brings. in-span o (joins_from t.table b.1) (near_to b.1 b.2)
+          ∙ is-covers o (joins_from t.table b.1) (near_to b.1 b.2) (joins-by t.table b.1 b.2 o brings.1) (is-before b.1 b.2 o brings.1.ends brings.1.near)),
     )
     by false other = ((λ is. absurd (cc is)), (λ brings. absurd (both_ways (is_same_id t.id b.0) other ((same-id t.id b.0).1 brings.0))))
 
@@ -144,12 +164,18 @@ asked-decides t key Own o = ((λ is. absurd (cc is)), (λ brings. absurd brings)
 asked-decides t key (Hole version from to) o = by (bytes_eq t.key key && bytes_eq t.tag version.tag) refl
   where
     by : (v : Bool) → (bytes_eq t.key key && bytes_eq t.tag version.tag) ≡ v
-        → Decides (in_option o (if v then span from to else None)) (IsAsked t key version.tag from to o)
+        → Decides (in_option o (if v then span from (near_to from to) else None)) (IsAsked t key version.tag from to o)
     by true same = (
       (λ is. let parts = both-are (bytes_eq t.key key) (bytes_eq t.tag version.tag) same in
-          let in_it = covers-is o from to (sym (in-span o from to) ∙ is) in
-          record { key = (bytes_eq-Decides t.key key).0 parts.0; tag = (bytes_eq-Decides t.tag version.tag).0 parts.1; begun = in_it.0; ends = in_it.1 }),
-      (λ asked. in-span o from to ∙ is-covers o from to asked.begun asked.ends),
+          let in_it = covers-is o from (near_to from to) (sym (in-span o from (near_to from to)) ∙ is) in
+          record {
+            key = (bytes_eq-Decides t.key key).0 parts.0;
+            tag = (bytes_eq-Decides t.tag version.tag).0 parts.1;
+            begun = in_it.0;
+            ends = near-ends from to o in_it.1;
+            near = near-is from to o in_it.1;
+          }),
+      (λ asked. in-span o from (near_to from to) ∙ is-covers o from (near_to from to) asked.begun (is-before from to o asked.ends asked.near)),
     )
     by false other = (
       (λ is. absurd (cc is)),

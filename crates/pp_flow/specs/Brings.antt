@@ -2,6 +2,7 @@
 use Rattle.std.specs.Prelude.{◌≡◌, ◌≤◌, ◌<◌, ◌/◌, ℕ, Bool, true, false, ◌&&◌, nat_le, nat_lt, List, ◌++◌, Option, Some, None}
 use Rattle.std.specs.List.{Contains}
 use Rattle.pp_holes.specs.Cells.{Table}
+use Rattle.pp_plan.specs.Need.{is_near}
 use Rattle.pp_flow.specs.declared.entry.Aim.{Aim}
 use Rattle.pp_flow.specs.declared.entry.Aim.TheVariants.{Own, Hole, Pass}
 use Rattle.pp_flow.specs.declared.entry.Entry.{Entry}
@@ -13,18 +14,20 @@ use Rattle.pp_flow.specs.Entries.{Span}
 abbrev pub covers : ℕ → ℕ × ℕ → Bool
 covers offset s = nat_le s.0 offset && nat_lt offset s.1
 
--- the offset is still to come, and so is each before it in its chunk that is not in memory
+-- the offset is still to come, soon enough, and so is each before it in its chunk that is not in memory
 pub record WillJoin (t : Table) (from to offset : ℕ) : Type 0 where
   pub begun : from ≤ offset
   pub ends : offset < to
+  pub near : is_near from offset ≡ true
   pub before : (o : ℕ) → o / 4096 ≡ offset / 4096 → o < offset → has_offset t o ≡ false → from ≤ o
 
--- it is asked for with this key and tag
+-- it is asked for with this key and tag, and comes soon enough
 pub record IsAsked (t : Target) (of_key of_tag : List ℕ) (from to offset : ℕ) : Type 0 where
   pub key : t.key ≡ of_key
   pub tag : t.tag ≡ of_tag
   pub begun : from ≤ offset
   pub ends : offset < to
+  pub near : is_near from offset ≡ true
 
 abbrev pub AskedBrings : Target → List ℕ → Aim → ℕ → Type 0
 AskedBrings t key Own offset = ⊥

@@ -1,5 +1,5 @@
 -- What the exchanges bring to an instance (ours: no rule of the standards).
-use Rattle.std.specs.Prelude.{ℕ, suc, ◌+◌, ◌-◌, ◌%◌, Bool, true, false, ◌==◌, ◌&&◌, ◌||◌, nat_lt, if◌then◌else◌, List, [], ◌∷◌, ◌++◌, map, bytes_eq, Option, Some, None, option_map}
+use Rattle.std.specs.Prelude.{ℕ, suc, ◌+◌, ◌-◌, ◌*◌, ◌%◌, min, Bool, true, false, ◌==◌, ◌&&◌, ◌||◌, nat_lt, if◌then◌else◌, List, [], ◌∷◌, ◌++◌, map, bytes_eq, Option, Some, None, option_map}
 use Rattle.std.specs.List.{filter_map}
 use Rattle.pp_holes.specs.Cells.{Table, is_in_memory}
 use Rattle.pp_objects.specs.declared.id.ObjectId.{ObjectId}
@@ -37,19 +37,23 @@ next_chunk o = o - o % 4096 + 4096
 abbrev pub joins_from : Table → ℕ → ℕ
 joins_from t o = if joins_at t o then o else next_chunk o
 
+-- what is far ahead comes too late: it is waited for at most 256 chunks of what the exchange brings next
+abbrev pub near_to : ℕ → ℕ → ℕ
+near_to from to = min to (from + 256 * 4096 + 1)
+
 -- a span that has an offset
 abbrev pub span : ℕ → ℕ → Option (ℕ × ℕ)
 span from to = if nat_lt from to then Some (from, to) else None
 
--- an exchange that is bound to the instance brings what will join of what is still to come
+-- an exchange that is bound to the instance brings what will join, soon enough, of what is still to come
 abbrev pub bound_brings : Target → Span → Option (ℕ × ℕ)
-bound_brings t b = if is_same_id t.id b.0 then span (joins_from t.table b.1) b.2 else None
+bound_brings t b = if is_same_id t.id b.0 then span (joins_from t.table b.1) (near_to b.1 b.2) else None
 
 -- before its final head came, one that asks for a hole of this key and tag brings what it asks for
 abbrev pub asked_brings : Target → List ℕ → Aim → Option (ℕ × ℕ)
 asked_brings t key Own = None
 asked_brings t key (Hole version from to) =
-    if bytes_eq t.key key && bytes_eq t.tag version.tag then span from to else None
+    if bytes_eq t.key key && bytes_eq t.tag version.tag then span from (near_to from to) else None
 asked_brings t key Pass = None
 
 -- an exchange of the cache's own

@@ -4,7 +4,7 @@ ghost use Rattle.std.specs.List.{filter_map};
 ghost use Rattle.std.specs.Option.{option_to_list};
 ghost use Rattle.arrayvec.specs.ArrayVec.{array_vec_len};
 ghost use Rattle.pp_objects.specs.Instances.{is_there};
-ghost use Rattle.pp_flow.specs.Coming.{all_entered, asked_brings, bound_brings, brings, brought, entered, joins_at, joins_from, own_brings, place_of, shown_target, span, span_of};
+ghost use Rattle.pp_flow.specs.Coming.{all_entered, asked_brings, bound_brings, brings, brought, entered, joins_at, joins_from, near_to, own_brings, place_of, shown_target, span, span_of};
 ghost use Rattle.pp_flow.specs.Inside.{entries};
 
 use crate::entry::{Aim, Entry};
@@ -12,6 +12,9 @@ use arrayvec::ArrayVec;
 use pp_objects::{ObjectId, Objects};
 
 const CHUNK_LEN: u64 = 4096;
+
+/// Bytes that an exchange is waited for: 256 chunks of what it brings next, and that byte.
+const NEAR: u64 = 256 * CHUNK_LEN + 1;
 
 /// The span of offsets that an exchange brings.
 #[derive(Clone, Copy, Default)]
@@ -125,11 +128,12 @@ fn bound_brings(id: ObjectId, from: u64, to: u64, wanted: &Wanted<'_>) -> Option
     if wanted.id.slot != id.slot || wanted.id.life != id.life {
         return None;
     }
+    let near = near_to(from, to);
     if joins_at(from, wanted) {
-        return span(from, to);
+        return span(from, near);
     }
     let next_chunk = (from - from % CHUNK_LEN).checked_add(CHUNK_LEN)?;
-    span(next_chunk, to)
+    span(next_chunk, near)
 }
 
 /// What an exchange whose final head has not come asked for.
@@ -140,13 +144,20 @@ fn asked_brings(entry: &Entry, wanted: &Wanted<'_>) -> Option<(u64, u64)>
         Aim::Own => None,
         Aim::Hole(version, from, to) => {
             if wanted.key == entry.key.as_slice() && wanted.tag == version.tag.as_slice() {
-                span(from, to)
+                span(from, near_to(from, to))
             } else {
                 None
             }
         }
         Aim::Pass => None,
     }
+}
+
+/// What is far ahead comes too late.
+fn near_to(from: u64, to: u64) -> u64
+    ensures { result ≡ near_to from to }
+{
+    to.min(from.saturating_add(NEAR))
 }
 
 fn span(from: u64, to: u64) -> Option<(u64, u64)>

@@ -3,7 +3,7 @@ ghost use Rattle.std.specs.Prelude.{IsTrue};
 ghost use Rattle.pp_reply.specs.Texts.{has_page};
 
 use crate::decide::kind_of;
-use crate::errand::{Errand, Kind};
+use crate::errand::{Body, Errand, Kind};
 use crate::front::{Asked, is_answerable};
 use crate::key::Key;
 use crate::seat::{Answer, Brought, Course, Seat, Stage};
@@ -13,6 +13,7 @@ use pp_flow::{Aim, EXCHANGES, Exchange};
 use pp_fresh::allows_guess;
 use pp_head::{RequestHead, Scratch};
 use pp_objects::ObjectId;
+use pp_plan::is_near;
 use pp_ranges::{Range, read_range};
 use pp_reply::{CONTINUE, ReplyKind, write_reply};
 use pp_valid::accepts_only_identity;
@@ -197,6 +198,7 @@ impl State {
             asked: 0,
             body_left: 0,
             requested: 0,
+            body: Body::Pending,
         })
     }
 
@@ -253,13 +255,16 @@ impl State {
         }
     }
 
-    /// Of what the follower still wants, something is still to come by the exchange.
+    /// Of what the follower still wants, something is still to come by the exchange, soon enough.
     fn serves(&self, e: &Exchange, seat: &Seat) -> bool {
         let Some(next) = seat.next() else {
             return false;
         };
         match e.bound {
-            Some((id, from, to)) => id == next.source && from.max(next.at) < to.min(next.to),
+            Some((id, from, to)) =>
+                id == next.source
+                    && from.max(next.at) < to.min(next.to)
+                    && is_near(from, next.at),
             None => !e.headed && self.asks_for(e, &next),
         }
     }

@@ -69,8 +69,8 @@ impl Desk {
         }
     }
 
-    /// Followers ask, connections that are over are closed, and exchanges get their places; where that brings
-    /// decisions, once more. Then replies begin.
+    /// What nobody will see is not read on, followers ask, connections that are over are closed, and exchanges
+    /// get their places; where that brings decisions, once more. Then replies begin.
     #[tactic(auto, using(pp_links::proofs::QuietLemmas::quiet_then, pp_links::proofs::QuietLemmas::quiet_none))]
     fn serve<W: Wire>(&mut self, links: &mut Links, world: &mut W)
         requires { IsLinked (W.log world.old) (W.top world.old) links.old }
@@ -94,6 +94,7 @@ impl Desk {
         ensures linked { IsLinked (W.log world.new) (W.top world.new) links.new }
         ensures quiet { GrowsQuietly (W.log world.old) (W.log world.new) }
     {
+        self.drop_unseen();
         self.state.fill();
         self.close_over(links, world);
         self.place(links, world);

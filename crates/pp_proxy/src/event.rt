@@ -3,12 +3,15 @@ ghost use Rattle.pp_links.specs.Links.{IsLinked};
 ghost use Rattle.pp_links.specs.Quiet.{GrowsQuietly};
 
 use crate::desk::Desk;
+use crate::origin::Origin;
 use crate::seat::Seat;
 use pp_client::Client;
 use pp_links::Links;
 use pp_world::{Event, Wire};
 
-/// Ours: an origin that did nothing for so many seconds while it was waited for is given up.
+/// Ours: an origin that did nothing for so many seconds while it was waited for is given up: one that owes an
+/// answer, and any other.
+const ANSWER_SECONDS: u64 = 300;
 const IDLE_SECONDS: u64 = 60;
 
 impl Desk {
@@ -88,18 +91,31 @@ impl Desk {
             let Some(k) = self.idle_origin() else {
                 break;
             };
+            self.end_patience(k);
             self.close_origin(k, true);
         }
     }
 
     /// One that is idle, and not given up yet.
     fn idle_origin(&self) -> Option<u64> {
-        let now = self.state.now;
-        let idle = self.origins.iter().find(|origin| {
-            origin.has_waited
-                && IDLE_SECONDS <= now.saturating_sub(origin.mark)
-                && !origin.is_closing
-        })?;
+        let idle = self.origins.iter().find(|origin| self.is_idle(origin))?;
         Some(idle.number)
+    }
+
+    fn is_idle(&self, origin: &Origin) -> bool {
+        let patience = match self.state.owed_answer(origin.number) {
+            None => IDLE_SECONDS,
+            Some(_) => ANSWER_SECONDS,
+        };
+        origin.has_waited
+            && patience <= self.state.now.saturating_sub(origin.mark)
+            && !origin.is_closing
+    }
+
+    /// What the origin did not answer is not asked again.
+    fn end_patience(&mut self, k: u64) {
+        if let Some(e) = self.state.owed_answer(k) {
+            self.state.fail(&e);
+        }
     }
 }

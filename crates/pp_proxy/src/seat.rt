@@ -76,6 +76,13 @@ pub(crate) struct Answer {
     pub(crate) has_begun: bool,
 }
 
+/// The exchange of another client that a request waits for, and the second in which it began to.
+#[derive(Clone, Copy)]
+pub(crate) struct Shared {
+    pub(crate) exchange: u64,
+    pub(crate) since: u64,
+}
+
 /// How a request fares (RFC 2616, section 8.1.4).
 #[derive(Clone, Copy, Debug, PartialEq, Eq)]
 pub(crate) enum Course {
@@ -107,7 +114,7 @@ pub(crate) struct Seat {
     pub(crate) index: u64,
     pub(crate) stage: Stage,
     /// The exchange of another client that it waits for, before its own.
-    pub(crate) waits_on: Option<u64>,
+    pub(crate) waits_on: Option<Shared>,
     pub(crate) brought: Brought,
     pub(crate) course: Course,
     /// Bytes of the interim answer and of the head that are still to be said.

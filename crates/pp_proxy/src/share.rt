@@ -1,8 +1,11 @@
 // One fetch for many (ours): a request waits once for what another has asked for already.
-use crate::seat::{Seat, Stage};
+use crate::seat::{Seat, Shared, Stage};
 use crate::state::State;
 use pp_flow::Aim;
 use pp_world::Decision;
+
+/// Ours: a request waits for another's fetch for so many seconds.
+const PATIENCE: u64 = 5;
 
 impl State {
     /// The exchange that asks for the whole of the client's key, or checks it, and whose answer has not come.
@@ -27,10 +30,14 @@ impl State {
         }
     }
 
+    fn is_patient(&self, shared: &Shared) -> bool {
+        self.is_awaited(shared.exchange) && self.now.saturating_sub(shared.since) < PATIENCE
+    }
+
     /// A request waits once for what is asked already.
     pub(crate) fn due_undecided(&self, seat: &Seat) -> Option<Decision> {
-        match seat.waits_on {
-            Some(number) if self.is_awaited(number) => None,
+        match &seat.waits_on {
+            Some(shared) if self.is_patient(shared) => None,
             Some(_) => self.decide(seat),
             None => {
                 let decision = self.decide(seat)?;

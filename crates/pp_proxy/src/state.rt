@@ -4,7 +4,7 @@ use crate::errand::Errand;
 use crate::noted::Noted;
 use crate::seat::{Course, Seat, Stage};
 use arrayvec::ArrayVec;
-use pp_flow::{EXCHANGES, Exchange, Flow};
+use pp_flow::{Aim, EXCHANGES, Exchange, Flow};
 use pp_peers::Limits;
 use std::alloc::Global;
 
@@ -50,14 +50,17 @@ impl State {
     }
 
     /// The request of the exchange did not leave it, and may ask once more.
-    pub(crate) fn may_ask_again(&self, e: &Exchange) -> bool {
-        match self.seat_for(e) {
+    pub(crate) fn may_ask_again(&self, number: u64) -> bool {
+        match self.asker_of(number) {
             None => false,
-            Some(i) => match self.seats.get(i) {
-                None => false,
-                Some(seat) => seat.is_trying(),
-            },
+            Some(seat) => seat.is_trying(),
         }
+    }
+
+    /// The client of the exchange with this number.
+    fn asker_of(&self, number: u64) -> Option<&Seat> {
+        let e = self.flow.get(number)?;
+        self.seats.get(self.seat_for(e)?)
     }
 
     pub(crate) fn exchange(&self, number: u64) -> Option<Exchange> {
@@ -125,6 +128,7 @@ impl State {
         if let Some(seat) = self.seats.get_mut(i) {
             seat.lose_attempt(most);
         }
+        self.give_up_row(e);
     }
 
     /// The attempts of the exchange end at once.
@@ -135,6 +139,40 @@ impl State {
         if let Some(seat) = self.seats.get_mut(i) {
             seat.course = Course::OutOfTries;
         }
+        self.give_up_row(e);
+    }
+
+    /// A row whose hole nobody fills is cleared. Where the reply has not begun, its request is decided again
+    /// without it, and its attempts count anew.
+    fn give_up_row(&mut self, e: &Exchange) {
+        if !self.is_unfilled(e) {
+            return;
+        }
+        self.clear_row(e);
+        if let Some(i) = self.seat_for(e) {
+            if let Some(seat) = self.seats.get_mut(i) {
+                if !seat.has_begun() {
+                    seat.course = Course::Trying(0);
+                }
+            }
+        }
+        self.flow.leave(e.number);
+    }
+
+    /// It asks for a hole of its key's row, and the attempts of its request ended.
+    fn is_unfilled(&self, e: &Exchange) -> bool {
+        let Aim::Hole(version, _, _) = e.aim else {
+            return false;
+        };
+        let is_out = match self.asker_of(e.number) {
+            None => false,
+            Some(seat) => seat.course == Course::OutOfTries,
+        };
+        let known = match self.flow.key(e.number) {
+            None => None,
+            Some(key) => self.cache.version(key),
+        };
+        is_out && known == Some(version)
     }
 
     /// The client follows nothing any more.
