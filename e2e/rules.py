@@ -7,14 +7,9 @@ from harness import Skipped
 
 # The tests of these are skipped by name; with ALSO_NOT_YET=1 in the environment they run.
 NOT_YET = {
-    "gone-clients",
-    "holes-nobody-fills",
-    "near-bytes",
     "bad-answer-asked-once",
     "full-answer-to-a-check",
-    "shared-wait-ends",
     "another-tag",
-    "slow-origin",
     "invalidation",
 }
 
