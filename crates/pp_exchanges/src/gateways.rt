@@ -212,7 +212,7 @@ const NOT_REACHED: &[Exchange<'static>] = &[
         wanted: LOST,
     },
     Exchange {
-        name: "lost behind the head of what is kept",
+        name: "lost behind the head of what is kept: it is known no more, and the whole is asked for, three times",
         acts: &[
             Act::Connect,
             Act::Say(1, GET),
@@ -221,12 +221,15 @@ const NOT_REACHED: &[Exchange<'static>] = &[
             Act::End(2),
             Act::Refuse(3),
             Act::Refuse(4),
+            Act::Refuse(5),
+            Act::Refuse(6),
+            Act::Refuse(7),
         ],
         wanted: &[
             Wanted::Said(1, &[Part::Text(PAGE_502)]),
             Wanted::Taken(1, Decision::Part(0, 5)),
             Wanted::Taken(1, Decision::Refuse(502)),
-            Wanted::Count(Step::Dialled(80), 3),
+            Wanted::Count(Step::Dialled(80), 6),
         ],
     },
     Exchange {

@@ -1,7 +1,22 @@
-// Origins that end too early.
+// What a lost origin sent is kept, until the rest was asked for in vain as often as is allowed.
 use pp_play::{ASK, Act, Exchange, GET, Part, Step, T, Wanted, unlike};
 use pp_world::{Cause, Decision};
 use std::test::Fail;
+
+/// Seven bytes of a page of ten.
+const LOST: &[u8] =
+    b"HTTP/1.1 200 OK\r\nDate: Sun, 06 Nov 1994 08:49:37 GMT\r\nETag: \"x\"\r\nCache-Control: max-age=60\r\nContent-Length: 10\r\n\r\nhello w";
+
+/// Its rest, and how that is asked for.
+const REST: &[u8] =
+    b"HTTP/1.1 206 Partial Content\r\nETag: \"x\"\r\nContent-Range: bytes 7-9/10\r\nContent-Length: 3\r\n\r\norl";
+
+const ASK_REST: &[u8] =
+    b"GET /a HTTP/1.1\r\nhost: h\r\nrange: bytes=7-9\r\nif-range: \"x\"\r\nvia: 1.1 polipo\r\n\r\n";
+
+/// The head of the reply to the client that it was fetched for.
+const REPLY_HEAD: &[u8] =
+    b"HTTP/1.1 200 OK\r\netag: \"x\"\r\ndate: Sun, 06 Nov 1994 08:49:37 GMT\r\ncache-control: max-age=60\r\nvia: 1.1 polipo\r\ncontent-length: 10\r\nconnection: keep-alive\r\n\r\n";
 
 const ENDED: &[Exchange<'static>] = &[Exchange {
     name: "what an origin sent before it ended is kept",
@@ -10,38 +25,24 @@ const ENDED: &[Exchange<'static>] = &[Exchange {
         Act::Connect,
         Act::Say(1, GET),
         Act::Reach(2),
-        Act::Answer(
-            2,
-            b"HTTP/1.1 200 OK\r\nDate: Sun, 06 Nov 1994 08:49:37 GMT\r\nETag: \"x\"\r\nCache-Control: max-age=60\r\nContent-Length: 10\r\n\r\nhello w",
-        ),
+        Act::Answer(2, LOST),
         Act::End(2),
         Act::Refuse(3),
-        Act::Refuse(4),
         Act::Connect,
         Act::Say(5, GET),
-        Act::Reach(6),
+        Act::Reach(4),
+        Act::Answer(4, REST),
     ],
     wanted: &[
-        Wanted::Count(Step::Dialled(80), 4),
+        Wanted::Count(Step::Dialled(80), 3),
         Wanted::Asked(2, &[ASK]),
-        Wanted::Cut(1, Cause::Origin),
-        Wanted::Said(
-            1,
-            &[Part::Text(
-                b"HTTP/1.1 200 OK\r\netag: \"x\"\r\ndate: Sun, 06 Nov 1994 08:49:37 GMT\r\ncache-control: max-age=60\r\nvia: 1.1 polipo\r\ncontent-length: 10\r\nconnection: keep-alive\r\n\r\nhello w",
-            )],
-        ),
+        Wanted::Asked(4, &[ASK_REST]),
+        Wanted::Said(1, &[Part::Text(REPLY_HEAD), Part::Text(b"hello worl")]),
         Wanted::Taken(5, Decision::Part(0, 10)),
-        Wanted::Asked(
-            6,
-            &[
-                b"GET /a HTTP/1.1\r\nhost: h\r\nrange: bytes=7-9\r\nif-range: \"x\"\r\nvia: 1.1 polipo\r\n\r\n",
-            ],
-        ),
         Wanted::Said(
             5,
             &[Part::Text(
-                b"HTTP/1.1 200 OK\r\netag: \"x\"\r\ndate: Sun, 06 Nov 1994 08:49:37 GMT\r\ncache-control: max-age=60\r\nage: 0\r\nvia: 1.1 polipo\r\ncontent-length: 10\r\nconnection: keep-alive\r\n\r\nhello w",
+                b"HTTP/1.1 200 OK\r\netag: \"x\"\r\ndate: Sun, 06 Nov 1994 08:49:37 GMT\r\ncache-control: max-age=60\r\nage: 0\r\nvia: 1.1 polipo\r\ncontent-length: 10\r\nconnection: keep-alive\r\n\r\nhello worl",
             )],
         ),
     ],
@@ -50,5 +51,133 @@ const ENDED: &[Exchange<'static>] = &[Exchange {
 #[test]
 fn what_an_origin_sent_before_it_ended_is_kept(rt: HostRuntime) -> Result<(), Fail> {
     assert_eq!(rt; unlike(rt.alloc(), ENDED)?.as_str(), "");
+    Ok(())
+}
+
+/// The last two bytes of the page, and how they are asked for where nothing is known, and where its front is.
+const GET_END: &[u8] = b"GET http://h/a HTTP/1.1\r\nRange: bytes=8-9\r\n\r\n";
+
+const ASK_END: &[u8] = b"GET /a HTTP/1.1\r\nhost: h\r\nrange: bytes=0-9\r\nvia: 1.1 polipo\r\n\r\n";
+
+const ASK_BEHIND_FRONT: &[u8] =
+    b"GET /a HTTP/1.1\r\nhost: h\r\nrange: bytes=4-9\r\nif-range: \"x\"\r\nvia: 1.1 polipo\r\n\r\n";
+
+/// Its first four bytes.
+const GET_FRONT: &[u8] = b"GET http://h/a HTTP/1.1\r\nRange: bytes=0-3\r\n\r\n";
+
+const ASK_FRONT: &[u8] =
+    b"GET /a HTTP/1.1\r\nhost: h\r\nrange: bytes=0-3\r\nvia: 1.1 polipo\r\n\r\n";
+
+const FRONT: &[u8] =
+    b"HTTP/1.1 206 Partial Content\r\nDate: Sun, 06 Nov 1994 08:49:37 GMT\r\nETag: \"x\"\r\nCache-Control: max-age=60\r\nContent-Range: bytes 0-3/10\r\nContent-Length: 4\r\n\r\nhell";
+
+/// What an origin says that gives no part of it, and how it is passed.
+const BUSY: &[u8] = b"HTTP/1.1 503 Service Unavailable\r\nContent-Length: 0\r\n\r\n";
+
+const BUSY_PASSED: &[u8] =
+    b"HTTP/1.1 503 Service Unavailable\r\nvia: 1.1 polipo\r\ncontent-length: 0\r\nconnection: keep-alive\r\n\r\n";
+
+const UNFILLED: &[Exchange<'static>] = &[
+    Exchange {
+        name: "nobody gives the rest: a begun reply is cut, another is fetched anew, and what is held is not known any more",
+        acts: &[
+            Act::Tick(T),
+            Act::Connect,
+            Act::Say(1, GET),
+            Act::Reach(2),
+            Act::Answer(2, LOST),
+            Act::End(2),
+            Act::Refuse(3),
+            Act::Connect,
+            Act::Say(5, GET_END),
+            Act::Refuse(4),
+            Act::Connect,
+            Act::Say(
+                7,
+                b"GET http://h/a HTTP/1.1\r\nCache-Control: only-if-cached\r\nRange: bytes=0-3\r\n\r\n",
+            ),
+            Act::Reach(6),
+            Act::Answer(
+                6,
+                b"HTTP/1.1 206 Partial Content\r\nDate: Sun, 06 Nov 1994 08:49:37 GMT\r\nETag: \"x\"\r\nCache-Control: max-age=60\r\nContent-Range: bytes 0-9/10\r\nContent-Length: 10\r\n\r\nhello worl",
+            ),
+        ],
+        wanted: &[
+            Wanted::Count(Step::Dialled(80), 4),
+            Wanted::Said(1, &[Part::Text(REPLY_HEAD), Part::Text(b"hello w")]),
+            Wanted::Cut(1, Cause::Origin),
+            Wanted::Taken(5, Decision::Part(8, 10)),
+            Wanted::Taken(5, Decision::Fetch),
+            Wanted::Asked(6, &[ASK_END]),
+            Wanted::Said(
+                5,
+                &[Part::Text(
+                    b"HTTP/1.1 206 Partial Content\r\netag: \"x\"\r\ndate: Sun, 06 Nov 1994 08:49:37 GMT\r\ncache-control: max-age=60\r\nvia: 1.1 polipo\r\ncontent-range: bytes 8-9/10\r\ncontent-length: 2\r\nconnection: keep-alive\r\n\r\nrl",
+                )],
+            ),
+            Wanted::Said(
+                7,
+                &[Part::Text(
+                    b"HTTP/1.1 504 Gateway Timeout\r\ncontent-type: text/plain\r\ncontent-length: 20\r\nconnection: keep-alive\r\n\r\n504 Gateway Timeout\n",
+                )],
+            ),
+        ],
+    },
+    Exchange {
+        name: "the origin gives no part of it, three times: what it says to a plain ask is its answer",
+        acts: &[
+            Act::Tick(T),
+            Act::Connect,
+            Act::Say(1, GET_FRONT),
+            Act::Reach(2),
+            Act::Answer(2, FRONT),
+            Act::Connect,
+            Act::Say(3, GET_END),
+            Act::Answer(2, BUSY),
+            Act::Answer(2, BUSY),
+            Act::Answer(2, BUSY),
+            Act::Answer(2, BUSY),
+        ],
+        wanted: &[
+            Wanted::Count(Step::Dialled(80), 1),
+            Wanted::Asked(
+                2,
+                &[
+                    ASK_FRONT,
+                    ASK_BEHIND_FRONT,
+                    ASK_BEHIND_FRONT,
+                    ASK_BEHIND_FRONT,
+                    ASK_END,
+                ],
+            ),
+            Wanted::Said(3, &[Part::Text(BUSY_PASSED)]),
+        ],
+    },
+    Exchange {
+        name: "the origin does not answer for five minutes: it is asked for the whole",
+        acts: &[
+            Act::Tick(T),
+            Act::Connect,
+            Act::Say(1, GET_FRONT),
+            Act::Reach(2),
+            Act::Answer(2, FRONT),
+            Act::Connect,
+            Act::Say(3, GET_END),
+            Act::Tick(T + 300),
+            Act::Reach(4),
+            Act::Answer(4, BUSY),
+        ],
+        wanted: &[
+            Wanted::Count(Step::Dialled(80), 2),
+            Wanted::Asked(2, &[ASK_FRONT, ASK_BEHIND_FRONT]),
+            Wanted::Asked(4, &[ASK_END]),
+            Wanted::Said(3, &[Part::Text(BUSY_PASSED)]),
+        ],
+    },
+];
+
+#[test]
+fn a_page_whose_rest_nobody_gives_is_known_no_more(rt: HostRuntime) -> Result<(), Fail> {
+    assert_eq!(rt; unlike(rt.alloc(), UNFILLED)?.as_str(), "");
     Ok(())
 }

@@ -34,12 +34,16 @@ mod leaving; // clients that are lost
 mod limits; // of clients, connections and buffers
 #[cfg(test)]
 mod pipelining; // asks behind one another on a connection
+#[cfg(test)]
+mod unseen; // what nobody will see
 
 // The cache.
 #[cfg(test)]
 mod hits; // replies from what is held
 #[cfg(test)]
 mod holes; // what is missing, and asked for
+#[cfg(test)]
+mod near; // clients that read far ahead of what comes
 #[cfg(test)]
 mod not_kept; // what the cache does not answer
 #[cfg(test)]
@@ -55,7 +59,7 @@ mod one_answer; // what is still out for a request that asks anew
 #[cfg(test)]
 mod origin_ends; // origins that end, speak too early, or are slow
 #[cfg(test)]
-mod kept_losses; // what a lost origin sent is kept
+mod kept_losses; // what a lost origin sent is kept, unless nobody gives the rest
 #[cfg(test)]
 mod losses; // lost origins are asked again
 

@@ -227,7 +227,7 @@ const WITHIN_BODY: &[Exchange<'static>] = &[
         ],
     },
     Exchange {
-        name: "before a byte of the body came no reply has begun, and the client is told",
+        name: "before a byte of the body came no reply has begun: behind the third loss it is fetched anew",
         acts: &[
             Act::Tick(T),
             Act::Connect,
@@ -237,18 +237,23 @@ const WITHIN_BODY: &[Exchange<'static>] = &[
             Act::End(2),
             Act::Refuse(3),
             Act::Refuse(4),
+            Act::Reach(5),
+            Act::Answer(5, HEAD),
+            Act::Answer(5, b"hello"),
         ],
         wanted: &[
-            Wanted::Count(Step::Dialled(80), 3),
-            Wanted::Said(1, &[Part::Text(PAGE_502)]),
+            Wanted::Count(Step::Dialled(80), 4),
+            Wanted::Asked(5, &[ASK]),
+            Wanted::Said(1, &[Part::Text(REPLY)]),
             Wanted::Course(
                 1,
                 &[
                     Step::Opened,
                     Step::Taken(0, Decision::Fetch),
                     Step::Taken(0, Decision::Part(0, 5)),
-                    Step::Taken(0, Decision::Refuse(502)),
-                    Step::Said(114),
+                    Step::Taken(0, Decision::Fetch),
+                    Step::Taken(0, Decision::Part(0, 5)),
+                    Step::Said(159),
                     Step::Stopped,
                     Step::Shut,
                 ],

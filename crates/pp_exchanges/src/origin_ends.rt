@@ -169,19 +169,32 @@ fn bytes_that_answer_nobody_cost_nobody(rt: HostRuntime) -> Result<(), Fail> {
     Ok(())
 }
 
-const ASLEEP: &[Exchange<'static>] = &[Exchange {
-    name: "the clock jumps by two minutes",
-    acts: &[
-        Act::Tick(T),
-        Act::Connect,
-        Act::Say(1, GET),
-        Act::Reach(2),
-        Act::Tick(T + 120),
-        Act::Reach(3),
-        Act::Answer(3, RESPONSE),
-    ],
-    wanted: &[Wanted::Said(1, &[Part::Text(REPLY)])],
-}];
+const ASLEEP: &[Exchange<'static>] = &[
+    Exchange {
+        name: "the clock jumps by two minutes",
+        acts: &[
+            Act::Tick(T),
+            Act::Connect,
+            Act::Say(1, GET),
+            Act::Reach(2),
+            Act::Tick(T + 120),
+            Act::Answer(2, RESPONSE),
+        ],
+        wanted: &[Wanted::Said(1, &[Part::Text(REPLY)])],
+    },
+    Exchange {
+        name: "it jumps by an hour, before the origin is reached",
+        acts: &[
+            Act::Tick(T),
+            Act::Connect,
+            Act::Say(1, GET),
+            Act::Tick(T + 3600),
+            Act::Reach(3),
+            Act::Answer(3, RESPONSE),
+        ],
+        wanted: &[Wanted::Said(1, &[Part::Text(REPLY)])],
+    },
+];
 
 #[test]
 fn a_computer_that_was_asleep_loses_no_request(rt: HostRuntime) -> Result<(), Fail> {

@@ -1,6 +1,7 @@
 // Asks behind one another on a connection (RFC 2616, sections 8.1.2.2 and 8.1.4).
 use pp_play::{
-    ASK, ASK_B, Act, Exchange, GET, GET_B, Part, REPLY, RESPONSE, Step, T, Wanted, unlike,
+    ASK, ASK_B, Act, Exchange, GET, GET_B, PAGE_502, Part, REPLY, RESPONSE, Step, T, Wanted,
+    unlike, unlike_with,
 };
 use std::test::Fail;
 
@@ -12,6 +13,8 @@ const GET_D: &[u8] = b"GET http://h/d HTTP/1.1\r\n\r\n";
 const GET_E: &[u8] = b"GET http://h/e HTTP/1.1\r\n\r\n";
 
 const GET_F: &[u8] = b"GET http://h/f HTTP/1.1\r\n\r\n";
+
+const ASK_C: &[u8] = b"GET /c HTTP/1.1\r\nhost: h\r\nvia: 1.1 polipo\r\n\r\n";
 
 const ASK_E: &[u8] = b"GET /e HTTP/1.1\r\nhost: h\r\nvia: 1.1 polipo\r\n\r\n";
 
@@ -121,5 +124,75 @@ const BEHIND: &[Exchange<'static>] = &[
 #[test]
 fn asks_go_behind_one_another_where_no_connection_is_free(rt: HostRuntime) -> Result<(), Fail> {
     assert_eq!(rt; unlike(rt.alloc(), BEHIND)?.as_str(), "");
+    Ok(())
+}
+
+/// The only connection that the host may have brought a page, and was asked for two more, the first for the same client. It is
+/// given up for that one; the other is asked again, and nothing is counted: a loss that was would make the second refusal the last.
+macro_rules! given_up {
+    ($name:literal, [$($gives_up:expr),*], $first:expr) => {
+        Exchange {
+            name: $name,
+            acts: &[
+                Act::Tick(T),
+                Act::Connect,
+                Act::Say(1, GET),
+                Act::Reach(2),
+                Act::Answer(2, RESPONSE),
+                Act::Say(1, GET_B),
+                Act::Connect,
+                Act::Say(3, GET_C),
+                $($gives_up,)*
+                Act::Refuse(4),
+                Act::Refuse(5),
+                Act::Reach(6),
+                Act::Answer(6, RESPONSE),
+            ],
+            wanted: &[
+                Wanted::Asked(2, &[ASK, ASK_B, ASK_C]),
+                Wanted::Course(
+                    2,
+                    &[
+                        Step::Dialled(80),
+                        Step::Reached,
+                        Step::Asked(135),
+                        Step::Dropped,
+                        Step::Stopped,
+                    ],
+                ),
+                Wanted::Count(Step::Dialled(80), 4),
+                $first,
+                Wanted::Asked(6, &[ASK_C]),
+                Wanted::Said(3, &[Part::Text(REPLY)]),
+            ],
+        }
+    };
+}
+
+const GIVEN_UP: &[Exchange<'static>] = &[
+    given_up!(
+        "the client of what is passed is gone",
+        [
+            Act::Answer(
+                2,
+                b"HTTP/1.1 200 OK\r\nContent-Length: 1000000\r\n\r\nhello"
+            ),
+            Act::Break(1),
+            Act::Break(1),
+            Act::Answer(2, b"hello")
+        ],
+        Wanted::Shut(1)
+    ),
+    given_up!(
+        "the first is not answered for five minutes",
+        [Act::Tick(T + 300)],
+        Wanted::Said(1, &[Part::Text(REPLY), Part::Text(PAGE_502)])
+    ),
+];
+
+#[test]
+fn those_behind_one_that_is_given_up_are_asked_again(rt: HostRuntime) -> Result<(), Fail> {
+    let words = ["hostConnections=1", "pipelineAsks=1"];
+    assert_eq!(rt; unlike_with(rt.alloc(), &words, GIVEN_UP)?.as_str(), "");
     Ok(())
 }

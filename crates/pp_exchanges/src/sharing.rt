@@ -167,3 +167,80 @@ fn clients_of_one_page_share_its_fetch(rt: HostRuntime) -> Result<(), Fail> {
     assert_eq!(rt; unlike(rt.alloc(), SHARED)?.as_str(), "");
     Ok(())
 }
+
+/// Two that came three seconds behind the first.
+const PATIENT: &[Exchange<'static>] = &[
+    Exchange {
+        name: "for less than five seconds they wait for the head of what is asked already",
+        acts: &[
+            Act::Tick(T),
+            Act::Connect,
+            Act::Say(1, GET),
+            Act::Reach(2),
+            Act::Tick(T + 3),
+            Act::Connect,
+            Act::Say(3, GET),
+            Act::Connect,
+            Act::Say(4, GET),
+            Act::Tick(T + 7),
+            Act::Answer(2, HEAD),
+            Act::Answer(2, b"hello"),
+        ],
+        wanted: &[
+            Wanted::Count(Step::Dialled(80), 1),
+            Wanted::Asked(2, &[ASK]),
+            Wanted::Said(1, &[Part::Text(REPLY)]),
+            Wanted::Taken(3, Decision::Part(0, 5)),
+            Wanted::Taken(4, Decision::Part(0, 5)),
+        ],
+    },
+    Exchange {
+        name: "at the first tick five seconds later each asks for itself",
+        acts: &[
+            Act::Tick(T),
+            Act::Connect,
+            Act::Say(1, GET),
+            Act::Reach(2),
+            Act::Tick(T + 3),
+            Act::Connect,
+            Act::Say(3, GET),
+            Act::Connect,
+            Act::Say(4, GET),
+            Act::Tick(T + 8),
+            Act::Reach(5),
+            Act::Answer(5, HEAD),
+            Act::Answer(5, b"hello"),
+            Act::Reach(6),
+            Act::Answer(6, HEAD),
+            Act::Answer(6, b"hello"),
+            Act::Answer(2, HEAD),
+            Act::Answer(2, b"hello"),
+        ],
+        wanted: &[
+            Wanted::Count(Step::Dialled(80), 3),
+            Wanted::Asked(2, &[ASK]),
+            Wanted::Asked(5, &[ASK]),
+            Wanted::Asked(6, &[ASK]),
+            Wanted::Said(1, &[Part::Text(REPLY)]),
+            Wanted::Said(3, &[Part::Text(REPLY)]),
+            Wanted::Said(4, &[Part::Text(REPLY)]),
+            Wanted::Course(
+                3,
+                &[
+                    Step::Opened,
+                    Step::Taken(0, Decision::Fetch),
+                    Step::Taken(0, Decision::Part(0, 5)),
+                    Step::Said(159),
+                    Step::Stopped,
+                    Step::Shut,
+                ],
+            ),
+        ],
+    },
+];
+
+#[test]
+fn they_wait_for_it_five_seconds(rt: HostRuntime) -> Result<(), Fail> {
+    assert_eq!(rt; unlike(rt.alloc(), PATIENT)?.as_str(), "");
+    Ok(())
+}
