@@ -45,10 +45,10 @@ impl State {
             Some(Cause::Stop)
         } else if begun && is_short(seat) && self.is_dry(seat) {
             Some(Cause::Short)
-        } else if begun && self.is_superseded(seat) {
-            Some(Cause::Superseded)
         } else if begun && !seat.is_trying() && self.is_dry(seat) {
             Some(Cause::Origin)
+        } else if begun && self.is_superseded(seat) {
+            Some(Cause::Superseded)
         } else if self.is_ticked && self.is_idle(seat) {
             Some(Cause::Idle)
         } else {
