@@ -127,7 +127,10 @@ fn asks_go_behind_one_another_where_no_connection_is_free(rt: HostRuntime) -> Re
     Ok(())
 }
 
-/// The only connection that the host may have brought a page, and was asked for two more, the first for the same client. It is
+/// A host has one connection, and asks go behind one another on it.
+const ONE_CONNECTION: &[&str] = &["hostConnections=1", "pipelineAsks=1"];
+
+/// The only connection of the host brought a page, and was asked for two more, the first for the same client. It is
 /// given up for that one; the other is asked again, and nothing is counted: a loss that was would make the second refusal the last.
 macro_rules! given_up {
     ($name:literal, [$($gives_up:expr),*], $first:expr) => {
@@ -192,7 +195,9 @@ const GIVEN_UP: &[Exchange<'static>] = &[
 
 #[test]
 fn those_behind_one_that_is_given_up_are_asked_again(rt: HostRuntime) -> Result<(), Fail> {
-    let words = ["hostConnections=1", "pipelineAsks=1"];
-    assert_eq!(rt; unlike_with(rt.alloc(), &words, GIVEN_UP)?.as_str(), "");
+    assert_eq!(rt;
+        unlike_with(rt.alloc(), ONE_CONNECTION, GIVEN_UP)?.as_str(),
+        ""
+    );
     Ok(())
 }
