@@ -261,6 +261,42 @@ const WITHIN_BODY: &[Exchange<'static>] = &[
         ],
     },
     Exchange {
+        name: "and where that is lost as often, the client is told",
+        acts: &[
+            Act::Tick(T),
+            Act::Connect,
+            Act::Say(1, GET),
+            Act::Reach(2),
+            Act::Answer(2, HEAD),
+            Act::End(2),
+            Act::Refuse(3),
+            Act::Refuse(4),
+            Act::Reach(5),
+            Act::Answer(5, HEAD),
+            Act::End(5),
+            Act::Refuse(6),
+            Act::Refuse(7),
+        ],
+        wanted: &[
+            Wanted::Count(Step::Dialled(80), 6),
+            Wanted::Said(1, &[Part::Text(PAGE_502)]),
+            Wanted::Course(
+                1,
+                &[
+                    Step::Opened,
+                    Step::Taken(0, Decision::Fetch),
+                    Step::Taken(0, Decision::Part(0, 5)),
+                    Step::Taken(0, Decision::Fetch),
+                    Step::Taken(0, Decision::Part(0, 5)),
+                    Step::Taken(0, Decision::Refuse(502)),
+                    Step::Said(114),
+                    Step::Stopped,
+                    Step::Shut,
+                ],
+            ),
+        ],
+    },
+    Exchange {
         name: "what is not kept is not asked again",
         acts: &[
             Act::Connect,
