@@ -1,7 +1,7 @@
 -- What becomes of exchanges that their request leaves (RFC 2616, section 8.1.4): each is nobody's from then on. It is read to
 -- its end and changes the table as any does, but it is told to no client, passed to none, and counts for none.
-use Rattle.std.specs.Prelude.{ℕ, Bool, true, false, ◌==◌, ◌||◌, not, List, [], ◌∷◌, filter, is_some, Some, None}
-use Rattle.pp_law.specs.Connections.{on_client, on_exchange, end_exchange}
+use Rattle.std.specs.Prelude.{ℕ, Bool, true, false, ◌==◌, ◌||◌, not, List, map, filter, is_some, Some, None}
+use Rattle.pp_law.specs.Connections.{on_client, on_exchange, each_exchange, end_exchange}
 use Rattle.pp_law.specs.Lists.{change, without, is_this}
 use Rattle.pp_law.specs.State.{State, Exchange}
 use Rattle.pp_law.specs.Table.{swept}
@@ -31,14 +31,10 @@ leave test s =
 unfoldable pub leave_one : Exchange → State → State
 leave_one e s = elim (e.asked == 0) [ true ↦ end_exchange e.number s | false ↦ on_exchange e.number left_alone s ]
 
-unfoldable pub leave_each : List Exchange → State → State
-leave_each [] s = s
-leave_each (e ∷ es) s = leave_each es (leave_one e s)
-
-abbrev pub exchanges_of : ℕ → State → List Exchange
-exchanges_of n s = filter (is_of n) s.exchanges
+abbrev pub exchanges_of : ℕ → State → List ℕ
+exchanges_of n s = map (λ e. e.number) (filter (is_of n) s.exchanges)
 
 -- its cause to be closed has come
 unfoldable pub close_client : ℕ → Bool → State → State
 close_client n is_cut s =
-    swept (leave_each (exchanges_of n s) (on_client n (λ c. record c { is_closing = true; is_cut = c.is_cut || is_cut }) s))
+    swept (each_exchange leave_one (exchanges_of n s) (on_client n (λ c. record c { is_closing = true; is_cut = c.is_cut || is_cut }) s))

@@ -1,5 +1,5 @@
 -- The connections to origins, their lines of exchanges, and where an exchange is asked (RFC 2616, sections 8.1 and 8.1.2.2).
-use Rattle.std.specs.Prelude.{ℕ, ◌+◌, Bool, true, false, ◌==◌, ◌&&◌, ◌||◌, not, nat_le, List, [], ◌∷◌, ◌++◌, length, map, filter, find, cond, Option, Some, None}
+use Rattle.std.specs.Prelude.{ℕ, ◌+◌, Bool, true, false, ◌==◌, ◌&&◌, ◌||◌, not, nat_le, List, [], ◌∷◌, ◌++◌, length, map, filter, find, cond, Option, Some, None, option_and_then}
 use Rattle.std.specs.List.{list_any}
 use Rattle.pp_pipe.specs.Line.{started}
 use Rattle.pp_pipe.specs.declared.asks.Ask.{Ask}
@@ -51,7 +51,22 @@ is_for e c = is_this c.number e.asker
 unfoldable pub on_client_of : Exchange → (Client → Client) → State → State
 on_client_of e f s = record s { clients = change (is_for e) f s.clients }
 
--- the exchange whose response comes next
+-- ---- of these numbers one behind the other, each as it is when its turn comes
+
+unfoldable pub each_client : (Client → State → State) → List ℕ → State → State
+each_client f [] s = s
+each_client f (n ∷ ns) s = each_client f ns (elim (client s n) [ None ↦ s | Some c ↦ f c s ])
+
+unfoldable pub each_conn : (Conn → State → State) → List ℕ → State → State
+each_conn f [] s = s
+each_conn f (n ∷ ns) s = each_conn f ns (elim (conn s n) [ None ↦ s | Some k ↦ f k s ])
+
+unfoldable pub each_exchange : (Exchange → State → State) → List ℕ → State → State
+each_exchange f [] s = s
+each_exchange f (n ∷ ns) s = each_exchange f ns (elim (exchange s n) [ None ↦ s | Some e ↦ f e s ])
+
+-- ---- whose response comes next
+
 abbrev pub front_of_line : State → Conn → Option Exchange
 front_of_line s k = elim k.line [ [] ↦ None | n ∷ line ↦ exchange s n ]
 
@@ -132,15 +147,11 @@ leave_place e s = elim (is_headed e) [
 unfoldable pub lose_place : Bool → Exchange → State → State
 lose_place counts e s = elim counts [ true ↦ leave_place e (lose_attempt e s) | false ↦ leave_place e s ]
 
-unfoldable pub lose_places : Bool → List ℕ → State → State
-lose_places counts [] s = s
-lose_places counts (n ∷ line) s = lose_places counts line (elim (exchange s n) [ None ↦ s | Some e ↦ lose_place counts e s ])
-
 -- a connection's cause to be closed has come. "Client software SHOULD reopen the transport connection and retransmit the
 -- aborted sequence of requests"; ours: an attempt is lost where the connection never brought a whole response
 unfoldable pub close_conn : Bool → Conn → State → State
 close_conn counts k s =
-    lose_places (counts && not k.has_brought) k.line (on_conn k.number (λ j. record j { is_closing = true; line = []; answer = None; unread = [] }) s)
+    each_exchange (lose_place (counts && not k.has_brought)) k.line (on_conn k.number (λ j. record j { is_closing = true; line = []; answer = None; unread = [] }) s)
 
 -- ---- places
 
@@ -184,18 +195,21 @@ pub record Placement : Type 0 where
   pub state : State
   pub pause : Pause
 
+abbrev pub if_unplaced : Exchange → Option Exchange
+if_unplaced e = elim e.place [ Some k ↦ None | None ↦ Some e ]
+
 -- each exchange without a place, in the order of their beginnings, up to the first that needs a new connection
-abbrev pub place_all : List Exchange → State → Placement
-place_all [] s = record { state = s; pause = AllPlaced }
-place_all (e ∷ es) s = elim e.place [
-  | Some k ↦ place_all es s
-  | None ↦ elim (place_for s e) [
-    | On k ↦ place_all es (put_on e.number k s)
-    | Wait ↦ place_all es s
+abbrev pub place_each : List ℕ → State → Placement
+place_each [] s = record { state = s; pause = AllPlaced }
+place_each (n ∷ ns) s = elim (option_and_then if_unplaced (exchange s n)) [
+  | None ↦ place_each ns s
+  | Some e ↦ elim (place_for s e) [
+    | On k ↦ place_each ns (put_on n k s)
+    | Wait ↦ place_each ns s
     | Dial ↦ record { state = s; pause = WaitsDial e }
     | CloseThenDial k ↦ record { state = s; pause = WaitsDrop k e }
   ]
 ]
 
 abbrev pub placing : State → Placement
-placing s = place_all s.exchanges s
+placing s = place_each (map (λ e. e.number) s.exchanges) s

@@ -1,5 +1,5 @@
 -- What followers ask for: bytes that are not there and do not come (RFC 7233, sections 3.2 and 4.3; ours: chunk by chunk).
-use Rattle.std.specs.Prelude.{ℕ, ◌+◌, ◌-◌, ◌*◌, ◌/◌, Bool, true, false, ◌&&◌, ◌||◌, not, List, [], ◌∷◌, is_some, Option, Some, None, Ok, Err}
+use Rattle.std.specs.Prelude.{ℕ, ◌+◌, ◌-◌, ◌*◌, ◌/◌, Bool, true, false, ◌&&◌, ◌||◌, not, map, is_some, Option, Some, None, Ok, Err}
 use Rattle.std.specs.List.{list_any}
 use Rattle.pp_ask.specs.declared.kind.AskKind.TheVariants.{Hole as AsHole}
 use Rattle.pp_head.specs.Request.{Request}
@@ -8,7 +8,7 @@ use Rattle.pp_target.specs.Key.{Key}
 use Rattle.pp_law.specs.Chunks.{chunk_len}
 use Rattle.pp_law.specs.Deciding.{begin_exchange}
 use Rattle.pp_law.specs.Decisions.{fits, lent, text_for}
-use Rattle.pp_law.specs.Connections.{on_client, is_for, is_trying}
+use Rattle.pp_law.specs.Connections.{on_client, each_client, is_for, is_trying}
 use Rattle.pp_law.specs.Lists.{Bytes, is_some_with, without}
 use Rattle.pp_law.specs.Requests.{NoHeadYet, NoHead, IsRequest}
 use Rattle.pp_law.specs.State.{State, Through, Own, Filling, Pending, AskTooLong, Client, Exchange}
@@ -63,12 +63,8 @@ fill_next c n s = elim (need_of s n) [ None ↦ s | Some span ↦ fill_span c n 
 unfoldable pub fill_for : Client → State → State
 fill_for c s = elim (is_trying c.course) [ false ↦ s | true ↦ elim (next_of s c) [ None ↦ s | Some n ↦ fill_next c n s ] ]
 
-unfoldable pub fill_each : List Client → State → State
-fill_each [] s = s
-fill_each (c ∷ cs) s = fill_each cs (fill_for c s)
-
 unfoldable pub fill : State → State
-fill s = elim s.is_stopped [ true ↦ s | false ↦ fill_each s.clients s ]
+fill s = elim s.is_stopped [ true ↦ s | false ↦ each_client fill_for (map (λ c. c.number) s.clients) s ]
 
 -- ---- step 2: an ask without a place that no longer brings what its own client wants is given up
 

@@ -16,7 +16,7 @@ use Rattle.pp_world.specs.declared.note.Decision.TheVariants.{Hit, Part, Head, N
 use Rattle.pp_law.specs.Chunks.{chunk_len, use_chunk}
 use Rattle.pp_law.specs.Closing.{close_client, forsake, is_of}
 use Rattle.pp_law.specs.Hearing.{with_front}
-use Rattle.pp_law.specs.Connections.{on_client, is_for}
+use Rattle.pp_law.specs.Connections.{on_client, each_client, is_for}
 use Rattle.pp_law.specs.Lists.{Bytes, is_some_with}
 use Rattle.pp_law.specs.Offers.{is_at_body}
 use Rattle.pp_law.specs.Requests.{Parsed, NoHeadYet, NoHead, IsRequest, keeps_open, has_request}
@@ -176,9 +176,8 @@ end_reply c s = elim c.closes [
   | false ↦ swept (forsake (is_of c.number) (on_client c.number next_request s))
 ]
 
-unfoldable pub end_each : List Client → State → State
-end_each [] s = s
-end_each (c ∷ cs) s = end_each cs (elim (is_said c && not c.is_closing) [ true ↦ end_reply c s | false ↦ s ])
+unfoldable pub end_said : Client → State → State
+end_said c s = elim (is_said c && not c.is_closing) [ true ↦ end_reply c s | false ↦ s ]
 
 -- ---- a client that sends no more
 
@@ -186,15 +185,14 @@ end_each (c ∷ cs) s = end_each cs (elim (is_said c && not c.is_closing) [ true
 abbrev pub is_finished : Client → Bool
 is_finished c = c.has_hung_up && not c.is_closing && (not (has_request c.front) || nat_lt (length c.heard) c.body_left)
 
-unfoldable pub close_finished : List Client → State → State
-close_finished [] s = s
-close_finished (c ∷ cs) s = close_finished cs (elim (is_finished c) [ true ↦ close_client c.number false s | false ↦ s ])
+unfoldable pub close_finished : Client → State → State
+close_finished c s = elim (is_finished c) [ true ↦ close_client c.number false s | false ↦ s ]
 
 -- replies that were said whole are over, and clients of whom nothing is left are closed
 unfoldable pub end_replies : State → State
 end_replies s =
-    let t : State = end_each s.clients s in
-    close_finished t.clients t
+    let numbers : List ℕ = map (λ c. c.number) s.clients in
+    each_client close_finished numbers (each_client end_said numbers s)
 
 -- ---- attempts
 

@@ -1,6 +1,6 @@
 -- Entries on disk: how they are drafted, sealed, taken away and read back. The format and the order are ours; what a crash may leave
 -- of them is pp_world's, and the operations of each step are pp_gate's.
-use Rattle.std.specs.Prelude.{ℕ, zero, suc, ◌+◌, ◌-◌, ◌*◌, ◌/◌, Bool, true, false, ◌==◌, ◌&&◌, ◌||◌, not, nat_lt, nat_le, min, max, List, [], ◌∷◌, ◌++◌, length, take, drop, map, find, count_by, bytes_eq, is_some, Option, Some, None}
+use Rattle.std.specs.Prelude.{ℕ, zero, suc, ◌+◌, ◌-◌, ◌*◌, ◌/◌, Bool, true, false, ◌==◌, ◌&&◌, ◌||◌, not, nat_lt, nat_le, min, max, List, [], ◌∷◌, ◌++◌, length, take, drop, map, find, count_by, bytes_eq, is_some, Option, Some, None, option_and_then}
 use Rattle.std.specs.List.{list_any, list_all}
 use Rattle.pp_entry.specs.Entries.{is_sized}
 use Rattle.pp_entry.specs.Gates.{leading_open}
@@ -15,7 +15,7 @@ use Rattle.pp_world.specs.declared.happening.Happening.TheVariants.{Began, Did}
 use Rattle.pp_world.specs.declared.op.DiskOp.{DiskOp}
 use Rattle.pp_world.specs.declared.op.DiskOp.TheVariants.{Draft, SyncDraft, Publish, Write, Sync, Remove}
 use Rattle.pp_law.specs.Chunks.{chunk_len, chunk_bytes, filled, put_chunk, note_use}
-use Rattle.pp_law.specs.Lists.{Bytes, change, without, has_text, is_some_with}
+use Rattle.pp_law.specs.Lists.{Bytes, change, without, first_some, has_text, is_some_with}
 use Rattle.pp_law.specs.State.{State, Chunk, Agenda, no_agenda, Entry, Instance, Todo, Do, Enter, Acknowledge}
 use Rattle.pp_law.specs.Table.{row, kept_row, is_same_version, is_entry_of, is_kept_row_of}
 
@@ -186,21 +186,15 @@ plan_of s (Draft bytes) x = draft_of s x
 plan_of s (Write name at bytes) x = seal_of s x
 plan_of s op x = None
 
-abbrev pub is_begun_by : DiskOp → Option Agenda → Bool
-is_begun_by op plan = is_some_with (λ a. is_first_todo op a.todo) plan
-
-abbrev pub plan_for : State → DiskOp → List Instance → Option Agenda
-plan_for s op [] = None
-plan_for s op (x ∷ xs) =
-    let plan = plan_of s op x in
-    elim (is_begun_by op plan) [ true ↦ plan | false ↦ plan_for s op xs ]
-
 abbrev pub going_on : DiskOp → Agenda → Option Agenda
 going_on op a = elim (is_first_todo op a.todo) [ true ↦ Some a | false ↦ None ]
 
 -- what was begun goes on; and where nothing is left of it, what may be begun of a row is begun
 abbrev pub agenda_in_turn : DiskOp → State → Option Agenda
-agenda_in_turn op s = elim (is_empty s.agenda.todo) [ false ↦ going_on op s.agenda | true ↦ plan_for s op s.instances ]
+agenda_in_turn op s = elim (is_empty s.agenda.todo) [
+  | false ↦ going_on op s.agenda
+  | true ↦ first_some (λ x. option_and_then (going_on op) (plan_of s op x)) s.instances
+]
 
 abbrev pub may_begin_in_turn : DiskOp → State → Bool
 may_begin_in_turn op s = is_idle_disk s && is_some (agenda_in_turn op s)

@@ -187,13 +187,15 @@ forget id s = record s { instances = without (is_instance id) s.instances; chunk
 abbrev pub is_left_over : State → Instance → Bool
 is_left_over s x = x.is_retired && not (is_followed s x.id)
 
-unfoldable pub forget_each : List Instance → State → State
-forget_each [] s = s
-forget_each (x ∷ xs) s = forget_each xs (forget x.id s)
+abbrev pub is_chunk_of_any : List Instance → Chunk → Bool
+is_chunk_of_any xs c = list_any (is_instance c.instance) xs
 
 -- retired versions stand only while a client follows them
 unfoldable pub swept : State → State
-swept s = forget_each (filter (is_left_over s) s.instances) s
+swept s = record s {
+  instances = without (is_left_over s) s.instances;
+  chunks = without (is_chunk_of_any (filter (is_left_over s) s.instances)) s.chunks;
+}
 
 -- the row is replaced, or is not known any more
 unfoldable pub clear : Bytes → State → State

@@ -8,7 +8,7 @@ use Rattle.pp_text.specs.Bytes.{is_empty}
 use Rattle.pp_law.specs.Chunks.{victim}
 use Rattle.pp_law.specs.Due.{first_due}
 use Rattle.pp_law.specs.Sharing.{is_sharing, shared_ask}
-use Rattle.pp_law.specs.Connections.{conn, is_for, is_outstanding, front_of_line, fail, on_client, on_conn, close_conn, placing, Pause, AllPlaced, WaitsDial, WaitsDrop}
+use Rattle.pp_law.specs.Connections.{is_for, is_outstanding, each_conn, front_of_line, fail, on_client, on_conn, close_conn, placing, Pause, AllPlaced, WaitsDial, WaitsDrop}
 use Rattle.pp_law.specs.Followers.{fill, give_up_asks}
 use Rattle.pp_law.specs.Lists.{has_number, is_some_with}
 use Rattle.pp_law.specs.Offers.{has_to_say}
@@ -162,10 +162,6 @@ end_patience k s = elim (owes_answer s k) [ false ↦ s | true ↦ elim (front_o
 unfoldable pub close_idle_conn : Conn → State → State
 close_idle_conn k s = elim (is_idle_conn s k) [ true ↦ close_conn true k (end_patience k s) | false ↦ s ]
 
-unfoldable pub close_idle : List ℕ → State → State
-close_idle [] s = s
-close_idle (n ∷ ns) s = close_idle ns (elim (conn s n) [ None ↦ s | Some k ↦ close_idle_conn k s ])
-
 -- who waited for an exchange, and was not written to, is not idle, however long the clock stood still
 abbrev pub woken_client : ℕ → State → Client → Client
 woken_client now s c = elim (waits_for_exchange s c && not (has_to_say s c)) [ true ↦ marked_client now c | false ↦ c ]
@@ -176,7 +172,7 @@ renew_marks now s = record s { clients = map (woken_client now s) s.clients }
 unfoldable pub tick_to : ℕ → State → State
 tick_to now s =
     let t : State = record (renew_marks now (first_marks now s)) { clock = now; is_ticked = true } in
-    close_idle (map (λ k. k.number) t.conns) t
+    each_conn close_idle_conn (map (λ k. k.number) t.conns) t
 
 -- the clock never goes back
 unfoldable pub tick : ℕ → State → State

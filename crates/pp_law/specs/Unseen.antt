@@ -1,7 +1,7 @@
 -- What nobody will see is not read: its connection is closed, and the others of its line are asked elsewhere (RFC 2616, section 8.1.4).
 use Rattle.std.specs.Prelude.{ℕ, Bool, true, false, ◌==◌, ◌&&◌, ◌||◌, not, nat_lt, max, List, [], ◌∷◌, fold, filter_map, length, map, is_some, Option, Some, None}
 use Rattle.pp_plan.specs.Need.{is_near}
-use Rattle.pp_law.specs.Connections.{conn, front_of_line, close_conn, end_exchange}
+use Rattle.pp_law.specs.Connections.{each_conn, front_of_line, close_conn, end_exchange}
 use Rattle.pp_law.specs.Responses.{payload_of}
 use Rattle.pp_law.specs.Stages.{bound_of}
 use Rattle.pp_law.specs.State.{State, Through, Own, Filling, Bound, Body, Pending, Joining, Relaying, Dropping, Client, Conn, Exchange}
@@ -58,9 +58,5 @@ drop_on k s = elim (front_of_line s k) [
   | Some e ↦ elim (is_unseen s k e) [ true ↦ close_conn false k (end_exchange e.number s) | false ↦ s ]
 ]
 
-unfoldable pub drop_each : List ℕ → State → State
-drop_each [] s = s
-drop_each (n ∷ ns) s = drop_each ns (elim (conn s n) [ None ↦ s | Some k ↦ drop_on k s ])
-
 unfoldable pub drop_unseen : State → State
-drop_unseen s = drop_each (map (λ k. k.number) s.conns) s
+drop_unseen s = each_conn drop_on (map (λ k. k.number) s.conns) s

@@ -7,7 +7,7 @@ use Rattle.pp_law.specs.Lists.{Bytes, change}
 use Rattle.pp_law.specs.OwnHeads.{key_of, use_body}
 use Rattle.pp_law.specs.Stages.{bound_in, bound_of, is_headed, is_pending}
 use Rattle.pp_law.specs.State.{State, Aim, Through, Own, Filling, Answer, Bound, Body, Client, Conn, Course, Exchange, Instance}
-use Rattle.pp_law.specs.Table.{is_instance, is_row_of, clear, swept, forget, forget_each}
+use Rattle.pp_law.specs.Table.{is_row_of, is_left_over, clear, swept}
 use Rattle.pp_laws.specs.Runs.{IsIn}
 use Rattle.pp_laws.proofs.Callers.{same_parts}
 use Rattle.pp_laws.proofs.Exchanges.{give_up_row-sound, on_client_of-sound}
@@ -219,15 +219,14 @@ behind_use {b} a e body s came p binds = record {
 
 -- ---- what the exchange costs its request
 
--- none comes where some are forgotten
-left_in : (xs : List Instance) (s : State) (x : Instance) → IsIn x (forget_each xs s).instances → IsIn x s.instances
-unfolding forget_each forget
-left_in [] s x i = i
-left_in (y ∷ ys) s x i = (in_filter (λ z. not (is_instance y.id z)) x s.instances (left_in ys (forget y.id s) x i)).0
+-- none comes where some are out
+swept_from : (s : State) (x : Instance) → IsIn x (swept s).instances → IsIn x s.instances
+unfolding swept
+swept_from s x i = (in_filter (λ y. not (is_left_over s y)) x s.instances i).0
 
 cleared_from : (key : Bytes) (s : State) (x : Instance) → IsIn x (clear key s).instances → (y : Instance) × IsIn y s.instances × (x.id ≡ y.id) × (x.version ≡ y.version)
-unfolding clear swept
-cleared_from key s x i = marked (in_change (is_row_of key) (λ y. record y { is_retired = true }) x s.instances (left_in _ _ x i))
+unfolding clear
+cleared_from key s x i = marked (in_change (is_row_of key) (λ y. record y { is_retired = true }) x s.instances (swept_from _ x i))
   where
     marked : Changed (is_row_of key) (λ y. record y { is_retired = true }) s.instances x → (y : Instance) × IsIn y s.instances × (x.id ≡ y.id) × (x.version ≡ y.version)
     marked (same j isnt) = (x, j, refl, refl)

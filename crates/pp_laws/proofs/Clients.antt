@@ -8,16 +8,16 @@ use Rattle.pp_world.specs.declared.note.Decision.TheVariants.{Refuse, Hit, Part,
 use Rattle.pp_world.specs.declared.note.Decision.{Decision}
 use Rattle.pp_law.specs.Asking.{asking, is_writing, hear, ask_body, ask_next, ask, hang_up, asked_text, asked_body}
 use Rattle.pp_law.specs.Chunks.{chunk_len, use_chunk}
-use Rattle.pp_law.specs.Closing.{is_of, left_alone, forsake, is_over, leave, leave_one, leave_each, exchanges_of, close_client}
+use Rattle.pp_law.specs.Closing.{is_of, left_alone, forsake, is_over, leave, leave_one, exchanges_of, close_client}
 use Rattle.pp_law.specs.Connections.{conn, is_conn, is_client, is_outstanding, on_client, is_trying}
 use Rattle.pp_law.specs.Deciding.{refused_with, refuse, add_exchange, begin_exchange, new_exchange, asking_with, ask_for, ask_as, ask_origin, reply_by, answering_with, serves, follow_with, follow_row, follow, relay, is_for_memory, mark_row_of, enter_row, decided_by, decided}
 use Rattle.pp_law.specs.Decisions.{kind_of, fits}
-use Rattle.pp_law.specs.Followers.{need_of, filling_exchange, fill_with, fill_span, fill_next, fill_for, fill_each, fill, is_useless_ask, give_up_asks}
+use Rattle.pp_law.specs.Followers.{need_of, filling_exchange, fill_with, fill_span, fill_next, fill_for, fill, is_useless_ask, give_up_asks}
 use Rattle.pp_law.specs.Hearing.{heard_by}
 use Rattle.pp_law.specs.Lists.{Bytes, change, is_some_with}
 use Rattle.pp_law.specs.Offers.{is_at_body}
 use Rattle.pp_law.specs.Passing.{pour}
-use Rattle.pp_law.specs.Replies.{begun_at_end, is_outrun, begin_replies, use_chunks, use_from, use_said, is_said, next_request, end_reply, end_each, is_finished, close_finished, end_replies, regained_by, regained}
+use Rattle.pp_law.specs.Replies.{begun_at_end, is_outrun, begin_replies, use_chunks, use_from, use_said, is_said, next_request, end_reply, end_said, is_finished, close_finished, end_replies, regained_by, regained}
 use Rattle.pp_law.specs.Requests.{key_in}
 use Rattle.pp_law.specs.Stages.{is_passing, on_passed, bound_of}
 use Rattle.pp_law.specs.State.{State, AskTooLong, Client, Exchange, Instance, Passed}
@@ -26,7 +26,7 @@ use Rattle.pp_laws.specs.Runs.{IsIn}
 use Rattle.pp_laws.proofs.Callers.{asking_with-same, begun_at_end-same, heard_by-same, next_request-same, on_passed-same, refused_with-same, regained_by-same, relayed-same, same_parts}
 use Rattle.pp_laws.proofs.Cases.{by_front, by_result, each_of, each_so, when}
 use Rattle.pp_laws.proofs.Closings.{close_conn-sound, own_line, own_line_shrunk}
-use Rattle.pp_laws.proofs.Exchanges.{end_exchange-sound, on_client-sound, on_client_of-sound, on_exchange-sound}
+use Rattle.pp_laws.proofs.Exchanges.{each_client-sound, each_exchange-sound, end_exchange-sound, on_client-sound, on_client_of-sound, on_exchange-sound}
 use Rattle.pp_laws.proofs.KeptClients.{client_follows, clients_mapped}
 use Rattle.pp_laws.proofs.KeptExchanges.{SameExchange, exchange_pushed, exchanges_changed, exchanges_filtered}
 use Rattle.pp_laws.proofs.Lists.{in_find, one_of}
@@ -63,14 +63,9 @@ pub leave_one-sound : {b : Since} (e : Exchange) (s : State) → Sound b s → S
 unfolding leave_one
 leave_one-sound e s h = when (e.asked == 0) (end_exchange-sound e.number s h) (on_exchange-sound e.number left_alone s left_alone-same h)
 
-pub leave_each-sound : {b : Since} (es : List Exchange) (s : State) → Sound b s → Sound b (leave_each es s)
-unfolding leave_each
-leave_each-sound [] s h = h
-leave_each-sound (e ∷ es) s h = leave_each-sound es (leave_one e s) (leave_one-sound e s h)
-
 pub close_client-sound : {b : Since} (n : ℕ) (is_cut : Bool) (s : State) → Sound b s → Sound b (close_client n is_cut s)
 unfolding close_client
-close_client-sound n is_cut s h = swept-sound _ (leave_each-sound (exchanges_of n s) _ (on_client-sound n (λ c. record c { is_closing = true; is_cut = c.is_cut || is_cut }) s (λ c. same_parts _ c refl refl refl) h))
+close_client-sound n is_cut s h = swept-sound _ (each_exchange-sound leave_one (λ e t there. leave_one-sound e t) (exchanges_of n s) _ (on_client-sound n (λ c. record c { is_closing = true; is_cut = c.is_cut || is_cut }) s (λ c. same_parts _ c refl refl refl) h))
 
 -- ---- decisions
 
@@ -213,19 +208,17 @@ pub end_reply-sound : {b : Since} (c : Client) (s : State) → Sound b s → Sou
 unfolding end_reply
 end_reply-sound c s h = when c.closes (close_client-sound c.number false s h) (swept-sound _ (forsake-sound (is_of c.number) _ (on_client-sound c.number next_request s next_request-same h)))
 
-pub end_each-sound : {b : Since} (cs : List Client) (s : State) → Sound b s → Sound b (end_each cs s)
-unfolding end_each
-end_each-sound [] s h = h
-end_each-sound (c ∷ cs) s h = end_each-sound cs _ (when (is_said c && not c.is_closing) (end_reply-sound c s h) h)
+pub end_said-sound : {b : Since} (c : Client) (s : State) → Sound b s → Sound b (end_said c s)
+unfolding end_said
+end_said-sound c s h = when (is_said c && not c.is_closing) (end_reply-sound c s h) h
 
-pub close_finished-sound : {b : Since} (cs : List Client) (s : State) → Sound b s → Sound b (close_finished cs s)
+pub close_finished-sound : {b : Since} (c : Client) (s : State) → Sound b s → Sound b (close_finished c s)
 unfolding close_finished
-close_finished-sound [] s h = h
-close_finished-sound (c ∷ cs) s h = close_finished-sound cs _ (when (is_finished c) (close_client-sound c.number false s h) h)
+close_finished-sound c s h = when (is_finished c) (close_client-sound c.number false s h) h
 
 pub end_replies-sound : {b : Since} (s : State) → Sound b s → Sound b (end_replies s)
 unfolding end_replies
-end_replies-sound s h = close_finished-sound (end_each s.clients s).clients (end_each s.clients s) (end_each-sound s.clients s h)
+end_replies-sound s h = each_client-sound close_finished (λ c t there. close_finished-sound c t) _ _ (each_client-sound end_said (λ c t there. end_said-sound c t) _ s h)
 
 pub regained-sound : {b : Since} (s : State) → Sound b s → Sound b (regained s)
 unfolding regained
@@ -250,14 +243,9 @@ pub fill_for-sound : {b : Since} (c : Client) (s : State) → Sound b s → Soun
 unfolding fill_for
 fill_for-sound c s h = when (is_trying c.course) (each_of (next_of s c) h (λ n. fill_next-sound c n s h)) h
 
-pub fill_each-sound : {b : Since} (cs : List Client) (s : State) → Sound b s → Sound b (fill_each cs s)
-unfolding fill_each
-fill_each-sound [] s h = h
-fill_each-sound (c ∷ cs) s h = fill_each-sound cs (fill_for c s) (fill_for-sound c s h)
-
 pub fill-sound : {b : Since} (s : State) → Sound b s → Sound b (fill s)
 unfolding fill
-fill-sound s h = when s.is_stopped h (fill_each-sound s.clients s h)
+fill-sound s h = when s.is_stopped h (each_client-sound fill_for (λ c t there. fill_for-sound c t) _ s h)
 
 pub give_up_asks-sound : {b : Since} (s : State) → Sound b s → Sound b (give_up_asks s)
 unfolding give_up_asks

@@ -1,7 +1,7 @@
 -- A connection that is closed, and its exchanges that are asked again, keep what is sound.
 use Rattle.std.proofs.Common.{◌≡◌, refl, ℕ, ◌<◌, Bool, true, false, not, ◌==◌, ◌&&◌, List, [], ◌∷◌, Some, None, inl, inr, sym, subst, ap, ◌∙◌}
 use Rattle.pp_target.specs.Key.{text_of}
-use Rattle.pp_law.specs.Connections.{exchange, is_conn, is_exchange, on_conn, on_exchange, on_client_of, attempts_of, lost_one, without_row, is_unfilled, give_up_row, charge, lose_attempt, unplaced, may_ask_again, leave_place, lose_place, lose_places, close_conn}
+use Rattle.pp_law.specs.Connections.{exchange, is_conn, is_exchange, on_conn, on_exchange, on_client_of, attempts_of, lost_one, without_row, is_unfilled, give_up_row, charge, lose_attempt, unplaced, may_ask_again, leave_place, lose_place, each_exchange, close_conn}
 use Rattle.pp_law.specs.Lists.{change}
 use Rattle.pp_law.specs.OwnHeads.{key_of}
 use Rattle.pp_law.specs.Stages.{on_passed, bound_of, is_headed}
@@ -155,8 +155,8 @@ not_in_shrunk line s t shrinks not_in n e i j is k m l =
     let g = shrinks.conns k m in
     not_in n f.0 i f.1 (sym f.2 ∙ is) g.0 g.1 (g.3 n l)
 
-pub lose_places-sound : {b : Since} (counts : Bool) (line : List ℕ) (s : State) → NotInLines line s → Sound b s → Sound b (lose_places counts line s)
-unfolding lose_places
+pub lose_places-sound : {b : Since} (counts : Bool) (line : List ℕ) (s : State) → NotInLines line s → Sound b s → Sound b (each_exchange (lose_place counts) line s)
+unfolding each_exchange
 lose_places-sound counts [] s not_in h = h
 lose_places-sound {b} counts (n ∷ line) s not_in h =
     lose_places-sound counts line _

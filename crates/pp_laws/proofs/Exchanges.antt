@@ -1,16 +1,16 @@
 -- Changes of one connection, exchange or client, and an exchange that is over, keep what is sound.
 use Rattle.std.proofs.Common.{◌≡◌, refl, ℕ, Bool, true, false, not, ◌==◌, List, [], ◌∷◌, map, filter, cond, Some, None, sym, subst, ap, ◌∙◌}
 use Rattle.pp_target.specs.Key.{text_of}
-use Rattle.pp_law.specs.Connections.{is_client, is_conn, is_exchange, is_for, on_conn, on_exchange, on_client, on_client_of, attempts_of, lost_one, without_row, is_unfilled, give_up_row, charge, lose_attempt, fail, without_ask, end_exchange}
+use Rattle.pp_law.specs.Connections.{client, conn, exchange, is_client, is_conn, is_exchange, is_for, each_client, each_conn, each_exchange, on_conn, on_exchange, on_client, on_client_of, attempts_of, lost_one, without_row, is_unfilled, give_up_row, charge, lose_attempt, fail, without_ask, end_exchange}
 use Rattle.pp_law.specs.Stages.{is_begun}
 use Rattle.pp_law.specs.State.{State, Course, Trying, OutOfTries, Client, Conn, Exchange}
 use Rattle.pp_laws.specs.Runs.{IsIn}
 use Rattle.pp_laws.proofs.Callers.{same_parts}
-use Rattle.pp_laws.proofs.Cases.{when}
+use Rattle.pp_laws.proofs.Cases.{each_so, when}
 use Rattle.pp_laws.proofs.KeptClients.{SameClient, client_same, clients_changed}
 use Rattle.pp_laws.proofs.KeptConns.{ConnFrom, SameConn, conns_changed, conns_kept}
 use Rattle.pp_laws.proofs.KeptExchanges.{SameExchange, exchanges_changed, exchanges_filtered}
-use Rattle.pp_laws.proofs.Lists.{From, in_filter, in_map, rise_map}
+use Rattle.pp_laws.proofs.Lists.{From, in_filter, in_find, in_map, rise_map}
 use Rattle.pp_laws.proofs.Rows.{clear-sound}
 use Rattle.pp_laws.proofs.Sound.{Since, Sound, conn_number, facts_of, first_of, sound}
 
@@ -29,6 +29,25 @@ on_client-sound {b} n f s kept h = sound (clients_changed b s (is_client n) f ke
 pub on_client_of-sound : {b : Since} (e : Exchange) (f : Client → Client) (s : State) → ((c : Client) → SameClient (f c) c) → Sound b s → Sound b (on_client_of e f s)
 unfolding on_client_of
 on_client_of-sound {b} e f s kept h = sound (clients_changed b s (is_for e) f kept (facts_of h))
+
+-- ---- of these numbers one behind the other
+
+pub each_client-sound : {b : Since} (f : Client → State → State) → ((c : Client) (s : State) → IsIn c s.clients → Sound b s → Sound b (f c s)) → (ns : List ℕ) (s : State) → Sound b s → Sound b (each_client f ns s)
+unfolding each_client
+each_client-sound f each [] s h = h
+each_client-sound f each (n ∷ ns) s h = each_client-sound f each ns _ (each_so (client s n) (λ none. h) (λ c found. each c s (in_find (is_client n) c s.clients found).0 h))
+
+pub each_conn-sound : {b : Since} (f : Conn → State → State) → ((k : Conn) (s : State) → IsIn k s.conns → Sound b s → Sound b (f k s)) → (ns : List ℕ) (s : State) → Sound b s → Sound b (each_conn f ns s)
+unfolding each_conn
+each_conn-sound f each [] s h = h
+each_conn-sound f each (n ∷ ns) s h = each_conn-sound f each ns _ (each_so (conn s n) (λ none. h) (λ k found. each k s (in_find (is_conn n) k s.conns found).0 h))
+
+pub each_exchange-sound : {b : Since} (f : Exchange → State → State) → ((e : Exchange) (s : State) → IsIn e s.exchanges → Sound b s → Sound b (f e s)) → (ns : List ℕ) (s : State) → Sound b s → Sound b (each_exchange f ns s)
+unfolding each_exchange
+each_exchange-sound f each [] s h = h
+each_exchange-sound f each (n ∷ ns) s h = each_exchange-sound f each ns _ (each_so (exchange s n) (λ none. h) (λ e found. each e s (in_find (is_exchange n) e s.exchanges found).0 h))
+
+-- ---- attempts
 
 without_row-by : (c : Client) (begun : Bool) → SameClient (elim begun as (λ x. Client) [ true ↦ c | false ↦ record c { course = Trying 0 } ]) c
 without_row-by c true = client_same c

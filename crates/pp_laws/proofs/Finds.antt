@@ -7,7 +7,7 @@ use Rattle.pp_valid.specs.declared.version.Version.{Version}
 use Rattle.pp_law.specs.Lists.{Bytes, change, is_some_with}
 use Rattle.pp_law.specs.OwnHeads.{key_of, renewed, renew, renew_row, refresh, times_for, known_version}
 use Rattle.pp_law.specs.State.{State, Exchange, Instance, Entry}
-use Rattle.pp_law.specs.Table.{is_same_version, is_instance, is_row_of, is_left_over, row, rows, kept_row, idle_row, on_instance, forget, forget_each, swept, clear, mark_row, forget_row, with_room, add_row, make_row, enter}
+use Rattle.pp_law.specs.Table.{is_same_version, is_instance, is_row_of, is_left_over, row, rows, kept_row, idle_row, on_instance, forget, swept, clear, mark_row, forget_row, with_room, add_row, make_row, enter}
 use Rattle.pp_laws.proofs.Tests.{same_version}
 
 -- ---- finding
@@ -62,14 +62,9 @@ forget-no_row : (key : Bytes) (id : ℕ) (s : State) → HasNoRow key s → HasN
 unfolding forget
 forget-no_row key id s none = find_none_filter (is_row_of key) (λ x. not (is_instance id x)) s.instances none
 
-forget_each-no_row : (key : Bytes) (xs : List Instance) (s : State) → HasNoRow key s → HasNoRow key (forget_each xs s)
-unfolding forget_each
-forget_each-no_row key [] s none = none
-forget_each-no_row key (x ∷ xs) s none = forget_each-no_row key xs (forget x.id s) (forget-no_row key x.id s none)
-
 swept-no_row : (key : Bytes) (s : State) → HasNoRow key s → HasNoRow key (swept s)
 unfolding swept
-swept-no_row key s none = forget_each-no_row key (filter (is_left_over s) s.instances) s none
+swept-no_row key s none = find_none_filter (is_row_of key) (λ x. not (is_left_over s x)) s.instances none
 
 clear-no_row : (key : Bytes) (s : State) → HasNoRow key (clear key s)
 unfolding clear

@@ -1,15 +1,14 @@
 -- The placing of exchanges keeps what is sound.
-use Rattle.std.proofs.Common.{◌≡◌, ◌⊎◌, refl, ℕ, ◌<◌, ◌≤◌, true, false, ◌==◌, List, [], ◌∷◌, ◌++◌, map, Option, Some, None, inl, inr, sym, subst, ap, ◌∙◌, lt_irrefl}
+use Rattle.std.proofs.Common.{◌≡◌, ◌⊎◌, refl, ℕ, ◌<◌, ◌≤◌, true, false, ◌==◌, List, [], ◌∷◌, ◌++◌, Option, Some, None, option_and_then, inl, inr, sym, subst, ap, ◌∙◌}
 use Rattle.pp_peers.specs.declared.placing.Placed.TheVariants.{On, Dial, CloseThenDial, Wait}
 use Rattle.pp_peers.specs.declared.placing.Placed.{Placed}
-use Rattle.pp_law.specs.Connections.{is_conn, is_exchange, on_conn, on_exchange, place_for, put_on, place_all, placing, WaitsDial, WaitsDrop, Placement}
+use Rattle.pp_law.specs.Connections.{exchange, is_conn, is_exchange, on_conn, on_exchange, place_for, put_on, if_unplaced, place_each, placing, WaitsDial, WaitsDrop, Placement}
 use Rattle.pp_law.specs.Lists.{change}
 use Rattle.pp_law.specs.Stages.{bound_of}
 use Rattle.pp_law.specs.State.{State, Conn, Exchange, Bound}
-use Rattle.pp_laws.specs.Numbers.{AreRising}
 use Rattle.pp_laws.specs.Runs.{IsIn}
 use Rattle.pp_laws.proofs.Closings.{Unbound, moved_facts}
-use Rattle.pp_laws.proofs.Lists.{Changed, above_in, in_change, in_push, one_of, other, rise_change, same}
+use Rattle.pp_laws.proofs.Lists.{Changed, in_change, in_find, in_push, one_of, other, rise_change, same}
 use Rattle.pp_laws.proofs.Shrinks.{NoLine}
 use Rattle.pp_laws.proofs.Sound.{Brings, FactsOf, Since, Sound, conn_number, exchange_number, facts_of, first_of, sound}
 use Rattle.pp_laws.proofs.Tests.{number_same, same_number}
@@ -128,79 +127,92 @@ put_on-ready m n k s apart ready = record {
     unbound_by e (same i isnt) is = ready.unbound e i is
     unbound_by e (other d i hit eq) is = ap bound_of eq ∙ ready.unbound d i (sym (ap exchange_number eq) ∙ is)
 
--- those without a place are ready
-abbrev AreReady : List Exchange → State → Type 0
-AreReady es s = (e : Exchange) → IsIn e es → e.place ≡ None → IsReady e.number s
-
-place_by : {b : Since} (e : Exchange) (es : List Exchange) (s : State) (wanted : Placed) → IsReady e.number s → AreRising (map exchange_number (e ∷ es)) → AreReady es s
-    → ((t : State) → AreReady es t → Sound b t → Sound b (place_all es t).state) → Sound b s
-    → Sound b (elim wanted as (λ c. Placement) [
-      | On k ↦ place_all es (put_on e.number k s)
-      | Wait ↦ place_all es s
-      | Dial ↦ record { state = s; pause = WaitsDial e }
-      | CloseThenDial k ↦ record { state = s; pause = WaitsDrop k e }
-    ]).state
-place_by e es s (On k) ready rise others rest h = rest (put_on e.number k s) (λ d i none. put_on-ready d.number e.number k s (apart d i) (others d i none)) (put_on-sound e.number k s ready h)
-  where
-    apart : (d : Exchange) → IsIn d es → ¬ (d.number ≡ e.number)
-    apart d i is = lt_irrefl e.number (subst (λ n. e.number < n) is (above_in exchange_number e.number d es rise.0 i))
-place_by e es s Wait ready rise others rest h = rest s others h
-place_by e es s Dial ready rise others rest h = h
-place_by e es s (CloseThenDial k) ready rise others rest h = h
-
-place_at : {b : Since} (place : Option ℕ) (p q : Placement) → Sound b p.state → (place ≡ None → Sound b q.state) → Sound b (elim place as (λ c. Placement) [ Some k ↦ p | None ↦ q ]).state
-place_at (Some k) p q hp hq = hp
-place_at None p q hp hq = hq refl
-
-place_all-sound : {b : Since} (es : List Exchange) (s : State) → AreRising (map exchange_number es) → AreReady es s → Sound b s → Sound b (place_all es s).state
-place_all-sound [] s rise ready h = h
-place_all-sound (e ∷ es) s rise ready h =
-    place_at e.place _ _ (place_all-sound es s rise.1 (λ d i. ready d (inr i)) h)
-    (λ none. place_by e es s (place_for s e) (ready e (inl refl) none) rise (λ d i. ready d (inr i)) (λ t others ht. place_all-sound es t rise.1 others ht) h)
-
--- the one for which a dial is waited for is ready
-dial_by : (e : Exchange) (es : List Exchange) (s : State) (wanted : Placed) → IsReady e.number s → AreRising (map exchange_number (e ∷ es)) → AreReady es s
-    → ((t : State) → AreReady es t → (d : Exchange) → (place_all es t).pause ≡ WaitsDial d → IsReady d.number (place_all es t).state) → (d : Exchange)
-    → (elim wanted as (λ c. Placement) [
-      | On k ↦ place_all es (put_on e.number k s)
-      | Wait ↦ place_all es s
-      | Dial ↦ record { state = s; pause = WaitsDial e }
-      | CloseThenDial k ↦ record { state = s; pause = WaitsDrop k e }
-    ]).pause ≡ WaitsDial d
-    → IsReady d.number (elim wanted as (λ c. Placement) [
-      | On k ↦ place_all es (put_on e.number k s)
-      | Wait ↦ place_all es s
-      | Dial ↦ record { state = s; pause = WaitsDial e }
-      | CloseThenDial k ↦ record { state = s; pause = WaitsDrop k e }
-    ]).state
-dial_by e es s (On k) ready rise others rest d is = rest (put_on e.number k s) (λ g i none. put_on-ready g.number e.number k s (apart g i) (others g i none)) d is
-  where
-    apart : (g : Exchange) → IsIn g es → ¬ (g.number ≡ e.number)
-    apart g i same_one = lt_irrefl e.number (subst (λ n. e.number < n) same_one (above_in exchange_number e.number g es rise.0 i))
-dial_by e es s Wait ready rise others rest d is = rest s others d is
-dial_by e es s Dial ready rise others rest d is = let eq : e ≡ d = cc in subst (λ (x : Exchange). IsReady x.number s) eq ready
-dial_by e es s (CloseThenDial k) ready rise others rest d is = absurd (cc is)
-
-dial_at : (place : Option ℕ) (p q : Placement) (d : Exchange) → (p.pause ≡ WaitsDial d → IsReady d.number p.state) → (place ≡ None → q.pause ≡ WaitsDial d → IsReady d.number q.state)
-    → (elim place as (λ c. Placement) [ Some k ↦ p | None ↦ q ]).pause ≡ WaitsDial d → IsReady d.number (elim place as (λ c. Placement) [ Some k ↦ p | None ↦ q ]).state
-dial_at (Some k) p q d hp hq is = hp is
-dial_at None p q d hp hq is = hq refl is
-
-place_all-dial : (es : List Exchange) (s : State) → AreRising (map exchange_number es) → AreReady es s → (d : Exchange) → (place_all es s).pause ≡ WaitsDial d → IsReady d.number (place_all es s).state
-place_all-dial [] s rise ready d is = absurd (cc is)
-place_all-dial (e ∷ es) s rise ready d is =
-    dial_at e.place _ _ d (λ more. place_all-dial es s rise.1 (λ g i. ready g (inr i)) d more)
-    (λ none more. dial_by e es s (place_for s e) (ready e (inl refl) none) rise (λ g i. ready g (inr i)) (λ t others g later. place_all-dial es t rise.1 others g later) d more) is
-
-all_ready : {b : Since} (s : State) → Sound b s → AreReady s.exchanges s
-all_ready s h e i none = record {
+-- one that is there without a place is ready
+ready : {b : Since} (e : Exchange) (s : State) → IsIn e s.exchanges → e.place ≡ None → Sound b s → IsReady e.number s
+ready e s i none h = record {
   no_line = λ k j l. let both : None ≡ Some k.number = sym none ∙ (facts_of h).placed k e j i l in cc both;
   given = (facts_of h).asks.given e i;
   unbound = λ d j is. ap bound_of (one_of exchange_number s.exchanges d e (facts_of h).asks.rise j i is) ∙ (facts_of h).asks.unplaced e i none;
 }
 
+unplaced_by : (d e : Exchange) (place : Option ℕ) → d.place ≡ place → (elim place as (λ c. Option Exchange) [ Some k ↦ None | None ↦ Some d ]) ≡ Some e → (d ≡ e) × (d.place ≡ None)
+unplaced_by d e None none is = (cc, none)
+unplaced_by d e (Some k) some is = absurd (cc is)
+
+unplaced_in : (o : Option Exchange) (e : Exchange) → option_and_then if_unplaced o ≡ Some e → (o ≡ Some e) × (e.place ≡ None)
+unplaced_in None e is = absurd (cc is)
+unplaced_in (Some d) e is = let w = unplaced_by d e d.place refl is in (ap (λ x. Some x) w.0, subst (λ (x : Exchange). x.place ≡ None) w.0 w.1)
+
+-- the one of this number, where it has no place
+unplaced_ready : {b : Since} (n : ℕ) (s : State) (e : Exchange) → option_and_then if_unplaced (exchange s n) ≡ Some e → Sound b s → IsReady n s
+unplaced_ready {b} n s e is h = subst (λ m. IsReady m s) (same_number e.number n there.1) (ready e s there.0 w.1 h)
+  where
+    w : (exchange s n ≡ Some e) × (e.place ≡ None)
+    w = unplaced_in (exchange s n) e is
+
+    there : IsIn e s.exchanges × (is_exchange n e ≡ true)
+    there = in_find (is_exchange n) e s.exchanges w.0
+
+place_by : {b : Since} (n : ℕ) (e : Exchange) (ns : List ℕ) (s : State) (wanted : Placed) → IsReady n s → ((t : State) → Sound b t → Sound b (place_each ns t).state) → Sound b s
+    → Sound b (elim wanted as (λ c. Placement) [
+      | On k ↦ place_each ns (put_on n k s)
+      | Wait ↦ place_each ns s
+      | Dial ↦ record { state = s; pause = WaitsDial e }
+      | CloseThenDial k ↦ record { state = s; pause = WaitsDrop k e }
+    ]).state
+place_by n e ns s (On k) is_ready rest h = rest (put_on n k s) (put_on-sound n k s is_ready h)
+place_by n e ns s Wait is_ready rest h = rest s h
+place_by n e ns s Dial is_ready rest h = h
+place_by n e ns s (CloseThenDial k) is_ready rest h = h
+
+place_at : {b : Since} (unplaced : Option Exchange) (p : Placement) (q : Exchange → Placement) → Sound b p.state → ((e : Exchange) → unplaced ≡ Some e → Sound b (q e).state)
+    → Sound b (elim unplaced as (λ c. Placement) [ None ↦ p | Some e ↦ q e ]).state
+place_at None p q hp hq = hp
+place_at (Some e) p q hp hq = hq e refl
+
+place_each-sound : {b : Since} (ns : List ℕ) (s : State) → Sound b s → Sound b (place_each ns s).state
+place_each-sound [] s h = h
+place_each-sound (n ∷ ns) s h =
+    place_at (option_and_then if_unplaced (exchange s n)) _ _ (place_each-sound ns s h)
+    (λ e is. place_by n e ns s (place_for s e) (unplaced_ready n s e is h) (λ t ht. place_each-sound ns t ht) h)
+
 pub placing-sound : {b : Since} (s : State) → Sound b s → Sound b (placing s).state
-placing-sound s h = place_all-sound s.exchanges s (facts_of h).asks.rise (all_ready s h) h
+placing-sound s h = place_each-sound _ s h
+
+-- the one for which a dial is waited for is ready
+dial_by : {b : Since} (n : ℕ) (e : Exchange) (ns : List ℕ) (s : State) (wanted : Placed) → IsReady n s → IsReady e.number s
+    → ((t : State) → Sound b t → (d : Exchange) → (place_each ns t).pause ≡ WaitsDial d → IsReady d.number (place_each ns t).state) → Sound b s → (d : Exchange)
+    → (elim wanted as (λ c. Placement) [
+      | On k ↦ place_each ns (put_on n k s)
+      | Wait ↦ place_each ns s
+      | Dial ↦ record { state = s; pause = WaitsDial e }
+      | CloseThenDial k ↦ record { state = s; pause = WaitsDrop k e }
+    ]).pause ≡ WaitsDial d
+    → IsReady d.number (elim wanted as (λ c. Placement) [
+      | On k ↦ place_each ns (put_on n k s)
+      | Wait ↦ place_each ns s
+      | Dial ↦ record { state = s; pause = WaitsDial e }
+      | CloseThenDial k ↦ record { state = s; pause = WaitsDrop k e }
+    ]).state
+dial_by n e ns s (On k) is_ready its rest h d is = rest (put_on n k s) (put_on-sound n k s is_ready h) d is
+dial_by n e ns s Wait is_ready its rest h d is = rest s h d is
+dial_by n e ns s Dial is_ready its rest h d is = let eq : e ≡ d = cc in subst (λ (x : Exchange). IsReady x.number s) eq its
+dial_by n e ns s (CloseThenDial k) is_ready its rest h d is = absurd (cc is)
+
+dial_at : (unplaced : Option Exchange) (p : Placement) (q : Exchange → Placement) (d : Exchange) → (p.pause ≡ WaitsDial d → IsReady d.number p.state)
+    → ((e : Exchange) → unplaced ≡ Some e → (q e).pause ≡ WaitsDial d → IsReady d.number (q e).state)
+    → (elim unplaced as (λ c. Placement) [ None ↦ p | Some e ↦ q e ]).pause ≡ WaitsDial d → IsReady d.number (elim unplaced as (λ c. Placement) [ None ↦ p | Some e ↦ q e ]).state
+dial_at None p q d hp hq is = hp is
+dial_at (Some e) p q d hp hq is = hq e refl is
+
+place_each-dial : {b : Since} (ns : List ℕ) (s : State) → Sound b s → (d : Exchange) → (place_each ns s).pause ≡ WaitsDial d → IsReady d.number (place_each ns s).state
+place_each-dial [] s h d is = absurd (cc is)
+place_each-dial {b} (n ∷ ns) s h d is =
+    dial_at (option_and_then if_unplaced (exchange s n)) _ _ d (λ more. place_each-dial ns s h d more)
+    (λ e found more. dial_by {b = b} n e ns s (place_for s e) (unplaced_ready n s e found h) (its e found) (λ t ht g later. place_each-dial ns t ht g later) h d more) is
+  where
+    its : (e : Exchange) → option_and_then if_unplaced (exchange s n) ≡ Some e → IsReady e.number s
+    its e found = let w = unplaced_in (exchange s n) e found in ready e s (in_find (is_exchange n) e s.exchanges w.0).0 w.1 h
 
 pub placing-dial : {b : Since} (s : State) → Sound b s → (d : Exchange) → (placing s).pause ≡ WaitsDial d → IsReady d.number (placing s).state
-placing-dial s h d is = place_all-dial s.exchanges s (facts_of h).asks.rise (all_ready s h) d is
+placing-dial s h d is = place_each-dial _ s h d is

@@ -6,7 +6,7 @@ use Rattle.pp_valid.specs.declared.version.Version.{Version}
 use Rattle.pp_law.specs.Chunks.{is_chunk, chunk_len, put_chunk, use_chunk, drop_chunk, note_use}
 use Rattle.pp_law.specs.Lists.{Bytes}
 use Rattle.pp_law.specs.State.{State, Instance, Chunk}
-use Rattle.pp_law.specs.Table.{is_instance, is_row_of, is_left_over, row, kept_row, rows, idle_row, on_instance, forget, forget_each, swept, clear, mark_row, forget_row, with_room, add_row, make_row, enter}
+use Rattle.pp_law.specs.Table.{is_instance, is_row_of, is_left_over, is_chunk_of_any, row, kept_row, rows, idle_row, on_instance, forget, swept, clear, mark_row, forget_row, with_room, add_row, make_row, enter}
 use Rattle.pp_laws.specs.Origin.{AllSent}
 use Rattle.pp_laws.specs.Runs.{IsIn}
 use Rattle.pp_laws.proofs.Cases.{each_of, each_so, when}
@@ -26,14 +26,9 @@ pub forget-sound : {b : Since} (id : ℕ) (s : State) → Sound b s → Sound b 
 unfolding forget
 forget-sound {b} id s h = sound (rows_filtered b s (λ x. not (is_instance id x)) (λ c. not (c.instance == id)) (facts_of h))
 
-pub forget_each-sound : {b : Since} (xs : List Instance) (s : State) → Sound b s → Sound b (forget_each xs s)
-unfolding forget_each
-forget_each-sound [] s h = h
-forget_each-sound (x ∷ xs) s h = forget_each-sound xs (forget x.id s) (forget-sound x.id s h)
-
 pub swept-sound : {b : Since} (s : State) → Sound b s → Sound b (swept s)
 unfolding swept
-swept-sound s h = forget_each-sound (filter (is_left_over s) s.instances) s h
+swept-sound {b} s h = sound (rows_filtered b s (λ x. not (is_left_over s x)) (λ c. not (is_chunk_of_any (filter (is_left_over s) s.instances) c)) (facts_of h))
 
 pub clear-sound : {b : Since} (key : Bytes) (s : State) → Sound b s → Sound b (clear key s)
 unfolding clear

@@ -1,7 +1,7 @@
 -- No exchange comes into a line where one is over, or its connection is closed.
 use Rattle.std.proofs.Common.{◌≡◌, refl, ℕ, Bool, true, false, not, ◌==◌, ◌&&◌, List, [], ◌∷◌, Option, Some, None, subst, ap, ◌∙◌}
 use Rattle.pp_target.specs.Key.{text_of}
-use Rattle.pp_law.specs.Connections.{exchange, is_conn, is_exchange, on_conn, on_exchange, on_client_of, attempts_of, lost_one, without_row, is_unfilled, give_up_row, charge, lose_attempt, fail, without_ask, end_exchange, unplaced, may_ask_again, leave_place, lose_place, lose_places, close_conn}
+use Rattle.pp_law.specs.Connections.{exchange, is_conn, is_exchange, on_conn, on_exchange, on_client_of, attempts_of, lost_one, without_row, is_unfilled, give_up_row, charge, lose_attempt, fail, without_ask, end_exchange, unplaced, may_ask_again, leave_place, lose_place, each_exchange, close_conn}
 use Rattle.pp_law.specs.Stages.{on_passed, is_headed}
 use Rattle.pp_law.specs.State.{State, Course, OutOfTries, Client, Conn, Exchange}
 use Rattle.pp_law.specs.Table.{clear}
@@ -93,8 +93,8 @@ pub lose_place-shrinks : (counts : Bool) (e : Exchange) (s : State) → Shrinks 
 unfolding lose_place
 lose_place-shrinks counts e s = shrinks_when s counts (shrinks_on s _ _ (lose_attempt-shrinks e s) (leave_place-shrinks e _)) (leave_place-shrinks e s)
 
-pub lose_places-shrinks : (counts : Bool) (line : List ℕ) (s : State) → Shrinks s (lose_places counts line s)
-unfolding lose_places
+pub lose_places-shrinks : (counts : Bool) (line : List ℕ) (s : State) → Shrinks s (each_exchange (lose_place counts) line s)
+unfolding each_exchange
 lose_places-shrinks counts [] s = shrinks_same s
 lose_places-shrinks counts (n ∷ line) s = shrinks_on s _ _ (shrinks_each s (exchange s n) (shrinks_same s) (λ e. lose_place-shrinks counts e s)) (lose_places-shrinks counts line _)
 

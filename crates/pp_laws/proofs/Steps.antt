@@ -1,23 +1,22 @@
 -- The steps of a turn keep what is sound.
 use Rattle.std.proofs.Common.{◌≡◌, refl, ℕ, nat_le, max, Bool, true, false, not, ◌==◌, ◌&&◌, List, [], ◌∷◌, map, Option, Some, None, sym, ap, ◌∙◌}
 use Rattle.pp_world.specs.declared.event.Wants.{Wants}
-use Rattle.pp_law.specs.Connections.{conn, is_conn, front_of_line}
+use Rattle.pp_law.specs.Connections.{front_of_line}
 use Rattle.pp_law.specs.Offers.{has_to_say}
 use Rattle.pp_law.specs.Stages.{bound_in, bound_of, is_pending}
 use Rattle.pp_law.specs.State.{State, Body, Bound, Pending, Joining, Relaying, Dropping, Client, Conn, Exchange}
-use Rattle.pp_law.specs.Turn.{step, is_in_4, is_in_7, behind_2, to_3, to_4, to_6, to_7, to_decide, waits_for_exchange, marked_client, marked_conn, touch, first_marks, is_idle_conn, owes_answer, end_patience, close_idle_conn, close_idle, woken_client, renew_marks, tick_to, tick, ending, rested_client, rested_conn, rested_instance, rest_with}
-use Rattle.pp_law.specs.Unseen.{furthest_at, wanted_to, rested_exchange, is_unseen, drop_on, drop_each, drop_unseen}
+use Rattle.pp_law.specs.Turn.{step, is_in_4, is_in_7, behind_2, to_3, to_4, to_6, to_7, to_decide, waits_for_exchange, marked_client, marked_conn, touch, first_marks, is_idle_conn, owes_answer, end_patience, close_idle_conn, woken_client, renew_marks, tick_to, tick, ending, rested_client, rested_conn, rested_instance, rest_with}
+use Rattle.pp_law.specs.Unseen.{furthest_at, wanted_to, rested_exchange, is_unseen, drop_on, drop_unseen}
 use Rattle.pp_laws.specs.Runs.{IsIn}
 use Rattle.pp_laws.proofs.Callers.{same_parts}
-use Rattle.pp_laws.proofs.Cases.{each_of, each_so, when}
+use Rattle.pp_laws.proofs.Cases.{each_of, when}
 use Rattle.pp_laws.proofs.Clients.{begin_replies-sound, fill-sound, give_up_asks-sound}
 use Rattle.pp_laws.proofs.Closings.{IsOwnLine, close_conn-sound, own_line, own_line_shrunk}
-use Rattle.pp_laws.proofs.Exchanges.{end_exchange-sound, fail-sound, on_client-sound, on_conn-sound}
+use Rattle.pp_laws.proofs.Exchanges.{each_conn-sound, end_exchange-sound, fail-sound, on_client-sound, on_conn-sound}
 use Rattle.pp_laws.proofs.KeptClients.{SameClient, client_same, clients_mapped}
 use Rattle.pp_laws.proofs.KeptConns.{conns_mapped}
 use Rattle.pp_laws.proofs.KeptExchanges.{Rewanted, exchanges_rewanted}
 use Rattle.pp_laws.proofs.KeptRows.{instances_mapped}
-use Rattle.pp_laws.proofs.Lists.{in_find}
 use Rattle.pp_laws.proofs.Places.{placing-sound}
 use Rattle.pp_laws.proofs.Shrinks.{Shrinks, end_exchange-shrinks, fail-shrinks, shrinks_each, shrinks_same, shrinks_when}
 use Rattle.pp_laws.proofs.Sound.{Since, Sound, facts_of, sound}
@@ -40,14 +39,9 @@ drop_on-sound k s own h =
     each_of (front_of_line s k) h
     (λ e. when (is_unseen s k e) (close_conn-sound false k _ (own_line_shrunk k s _ (end_exchange-shrinks e.number s) own) (end_exchange-sound e.number s h)) h)
 
-drop_each-sound : {b : Since} (ns : List ℕ) (s : State) → Sound b s → Sound b (drop_each ns s)
-unfolding drop_each
-drop_each-sound [] s h = h
-drop_each-sound (n ∷ ns) s h = drop_each-sound ns _ (each_so (conn s n) (λ none. h) (λ k found. drop_on-sound k s (own_line k s (in_find (is_conn n) k s.conns found).0 h) h))
-
 drop_unseen-sound : {b : Since} (s : State) → Sound b s → Sound b (drop_unseen s)
 unfolding drop_unseen
-drop_unseen-sound s h = drop_each-sound (map (λ (k : Conn). k.number) s.conns) s h
+drop_unseen-sound s h = each_conn-sound drop_on (λ k t there ht. drop_on-sound k t (own_line k t there ht) ht) _ s h
 
 pub to_6-sound : {b : Since} (s : State) → Sound b s → Sound b (to_6 s)
 unfolding to_6
@@ -82,11 +76,6 @@ close_idle_conn-sound : {b : Since} (k : Conn) (s : State) → IsOwnLine k s →
 unfolding close_idle_conn
 close_idle_conn-sound k s own h = when (is_idle_conn s k) (close_conn-sound true k _ (own_line_shrunk k s _ (end_patience-shrinks k s) own) (patience_ended k s h)) h
 
-pub close_idle-sound : {b : Since} (ns : List ℕ) (s : State) → Sound b s → Sound b (close_idle ns s)
-unfolding close_idle
-close_idle-sound [] s h = h
-close_idle-sound (n ∷ ns) s h = close_idle-sound ns _ (each_so (conn s n) (λ none. h) (λ k found. close_idle_conn-sound k s (own_line k s (in_find (is_conn n) k s.conns found).0 h) h))
-
 woken-by : (now : ℕ) (c : Client) (woken : Bool) → SameClient (elim woken as (λ x. Client) [ true ↦ marked_client now c | false ↦ c ]) c
 woken-by now c true = same_parts _ c refl refl refl
 woken-by now c false = client_same c
@@ -97,7 +86,7 @@ renew_marks-sound {b} now s h = sound (clients_mapped b s (woken_client now s) (
 
 pub tick_to-sound : {b : Since} (now : ℕ) (s : State) → Sound b s → Sound b (tick_to now s)
 unfolding tick_to
-tick_to-sound {b} now s h = close_idle-sound _ _ marked
+tick_to-sound {b} now s h = each_conn-sound close_idle_conn (λ k t there ht. close_idle_conn-sound k t (own_line k t there ht) ht) _ _ marked
   where
     marked : Sound b (record (renew_marks now (first_marks now s)) { clock = now; is_ticked = true })
     marked = sound (facts_of (renew_marks-sound now _ (first_marks-sound now s h)))

@@ -1,5 +1,5 @@
 -- What is done to rows and clients leaves connections and exchanges as they are.
-use Rattle.std.proofs.Common.{◌≡◌, refl, ℕ, Bool, true, false, ◌&&◌, List, [], ◌∷◌, filter, Option, Some, None, ◌∙◌}
+use Rattle.std.proofs.Common.{◌≡◌, refl, ℕ, Bool, true, false, ◌&&◌, List, [], ◌∷◌, Option, Some, None, ◌∙◌}
 use Rattle.std.specs.Prelude.{nat_lt}
 use Rattle.pp_fresh.specs.declared.aging.Times.{Times}
 use Rattle.pp_head.specs.Response.{Response}
@@ -10,7 +10,7 @@ use Rattle.pp_law.specs.Connections.{on_client_of}
 use Rattle.pp_law.specs.Lists.{Bytes, change, is_some_with}
 use Rattle.pp_law.specs.OwnHeads.{key_of, times_for, renewed, renew, renew_row, refresh, known_version, clears_row, cleared_by}
 use Rattle.pp_law.specs.State.{State, Aim, Through, Own, Filling, Client, Exchange, Instance}
-use Rattle.pp_law.specs.Table.{is_row_of, is_left_over, is_entry_of, row, rows, kept_row, idle_row, on_instance, forget, forget_each, swept, clear, mark_row, forget_row, with_room, add_row, make_row, enter}
+use Rattle.pp_law.specs.Table.{is_row_of, is_entry_of, row, rows, kept_row, idle_row, on_instance, forget, swept, clear, mark_row, forget_row, with_room, add_row, make_row, enter}
 use Rattle.pp_law.specs.ThroughHeads.{invalidates, key_named, is_same_host, clear_named, clear_each, places_named, invalidated, disproves, reads, disproved}
 
 -- ---- what leaves connections and exchanges as they are
@@ -51,14 +51,9 @@ forget-untouched : (id : ℕ) (s : State) → Untouched s (forget id s)
 unfolding forget
 forget-untouched id s = record { conns = refl; exchanges = refl }
 
-forget_each-untouched : (xs : List Instance) (s : State) → Untouched s (forget_each xs s)
-unfolding forget_each
-forget_each-untouched [] s = untouched s
-forget_each-untouched (x ∷ xs) s = untouched_on s _ _ (forget-untouched x.id s) (forget_each-untouched xs (forget x.id s))
-
 swept-untouched : (s : State) → Untouched s (swept s)
 unfolding swept
-swept-untouched s = forget_each-untouched (filter (is_left_over s) s.instances) s
+swept-untouched s = record { conns = refl; exchanges = refl }
 
 pub clear-untouched : (key : Bytes) (s : State) → Untouched s (clear key s)
 unfolding clear
