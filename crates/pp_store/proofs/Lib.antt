@@ -11,3 +11,4 @@ pub mod Quiet
 pub mod Running
 pub mod Sealing
 pub mod Sound
+pub mod TableLemmas

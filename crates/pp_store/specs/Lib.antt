@@ -4,5 +4,6 @@ pub mod Held
 pub mod Inside
 pub mod Kept
 pub mod Loads
+pub mod Table
 pub mod Texts
 pub mod Views

@@ -123,15 +123,16 @@ impl Store {
         ensures cause { KeepCause (D.log disk.new) (D.faults disk.old) (D.faults disk.new) result }
         ensures top { D.top disk.new ≡ D.top disk.old }
     {
-        self.rows.reserve(1)?;
         let site = row.site();
+        self.rows.push(row)?;
         match publish(disk, &site.name, block, site.length, room) {
-            Ok(()) => {
-                self.rows.push_reserved(row);
-                Ok(())
+            Ok(()) => Ok(()),
+            Err(PublishFault::NoDraft) => {
+                self.rows.pop();
+                Err(KeepFault::NoDraft)
             }
-            Err(PublishFault::NoDraft) => Err(KeepFault::NoDraft),
             Err(PublishFault::DiskFault) => {
+                self.rows.pop();
                 self.closed.push_reserved(site.name);
                 Err(KeepFault::DiskFault)
             }
