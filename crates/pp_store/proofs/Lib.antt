@@ -1,3 +1,4 @@
+pub mod Backing
 pub mod Calls
 pub mod ChunkLemmas
 pub mod FieldLemmas

@@ -11,8 +11,9 @@ use Rattle.pp_store.specs.Kept.{KeptMap, name_at}
 use Rattle.pp_store.specs.Held.{Holds, Covers}
 use Rattle.pp_store.proofs.Sound.{room-left, sound-same, sound-with_row, sound-with_closed, view-same, view-with_row, view-with_closed}
 use Rattle.pp_store.proofs.TableLemmas.{popped_is}
+use Rattle.pp_store.proofs.Backing.{quiet_backed}
 use Rattle.pp_store.proofs.Quiet.{quiet_honest, quiet_old, quiet_others}
-use Rattle.pp_store.proofs.KeepLemmas.{drafted_covers, drafted_holds, kept_there}
+use Rattle.pp_store.proofs.KeepLemmas.{drafted_covers, drafted_holds, kept_backed, kept_there}
 use Rattle.pp_store.proofs.Calls.{kept_holds, kept_covers, closed_holds, closed_covers}
 use Rattle.pp_store.proofs.store.Store.publish_row.Goals as goal
 
@@ -27,6 +28,18 @@ returns-in_err-push-clause-any_moment g c = quiet_honest _ g.sent (name_at c.arg
 
 pub returns-in_err-push-clause-others : goal.returns-in_err-push-clause-others
 returns-in_err-push-clause-others g c = quiet_others _ (name_at c.args.row)
+
+pub returns-in_err-push-clause-backed : goal.returns-in_err-push-clause-backed
+returns-in_err-push-clause-backed g c = quiet_backed _ g.sent
+
+pub returns-in-Ok-clause-backed : goal.returns-in-Ok-clause-backed
+returns-in-Ok-clause-backed g c = kept_backed _ _ g.sent c.args.row c.site-site.result c.args.block.now _ c.site-site.ensures.site c.requires.1.0 c.requires.1.1.0 c.in-Ok.ensures.any_moment c.in-Ok.ensures.others
+
+pub returns-in-Err-NoDraft-clause-backed : goal.returns-in-Err-NoDraft-clause-backed
+returns-in-Err-NoDraft-clause-backed g c = kept_backed _ _ g.sent c.args.row c.site-site.result c.args.block.now _ c.site-site.ensures.site c.requires.1.0 c.requires.1.1.0 c.in-Err-NoDraft.ensures.any_moment c.in-Err-NoDraft.ensures.others
+
+pub returns-in-Err-DiskFault-clause-backed : goal.returns-in-Err-DiskFault-clause-backed
+returns-in-Err-DiskFault-clause-backed g c = kept_backed _ _ g.sent c.args.row c.site-site.result c.args.block.now _ c.site-site.ensures.site c.requires.1.0 c.requires.1.1.0 c.in-Err-DiskFault.ensures.any_moment c.in-Err-DiskFault.ensures.others
 
 pub invariant_of-self-in-Err-NoDraft : goal.invariant_of-self-in-Err-NoDraft
 invariant_of-self-in-Err-NoDraft g c = sound-same c.self.inside _ c.self.invariant (popped_is c.self.inside.rows c.push.new.self c.pop.new.self c.args.row c.in_ok-push.ensures.ok c.pop.ensures) refl
