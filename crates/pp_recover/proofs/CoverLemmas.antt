@@ -129,14 +129,15 @@ row_among entry name kept (n ∷ names) is own any = by (bytes_eq n name) (bytes
 
 -- ---- an entry under its name is one that the folder had
 
-entry_under : (name file : Bytes) → IsEntryUnder name file → (kept : Kept) × (entry_in name file ≡ Some kept)
+abbrev pub kept_under_it : (name file : Bytes) → IsEntryUnder name file → Kept
+kept_under_it name file under = record { entry = under.row; extent = extent_in under.row.version.length file }
+
+pub entry_under : (name file : Bytes) (under : IsEntryUnder name file) → entry_in name file ≡ Some (kept_under_it name file under)
 unfolding head_in
-entry_under name file under = (
-  record { entry = under.row; extent = extent_in under.row.version.length file },
-  entry_some name file under.row (extent_in under.row.version.length file)
-      (ap (option_and_then (named_for name)) under.head ∙ ap (λ (b : Bool). if b then Some under.row else None) ((bytes_eq-Decides (name_of under.row.key) name).1 under.own))
-      (extent_same under.row.version.length file ∙ ap (λ (b : Bool). if b then Some (extent_in under.row.version.length file) else None) (fits under.row.version.length (extent_in under.row.version.length file) (length file) under.entry.long under.entry.short)),
-)
+entry_under name file under =
+    entry_some name file under.row (extent_in under.row.version.length file)
+    (ap (option_and_then (named_for name)) under.head ∙ ap (λ (b : Bool). if b then Some under.row else None) ((bytes_eq-Decides (name_of under.row.key) name).1 under.own))
+    (extent_same under.row.version.length file ∙ ap (λ (b : Bool). if b then Some (extent_in under.row.version.length file) else None) (fits under.row.version.length (extent_in under.row.version.length file) (length file) under.entry.long under.entry.short))
 
 module _ (files : Files) (l : Log) (few : HasFewNames files) where
   -- the entry of a file of the folder is kept, or its name is closed
@@ -164,8 +165,7 @@ module _ (files : Files) (l : Log) (few : HasFewNames files) where
   covered : ((name : Bytes) (file : Option Bytes) → LeavesOne (view_of name l).slot file → entry_of name file ≡ entry_of name (file_of name files)) → Covers (store_in files l) l
   covered same = record {
     each = λ name absent sound file left under.
-        let entry = entry_under name file under in
-        by name absent sound entry.0 (file_of name files) refl (sym (same name (Some file) left) ∙ entry.1);
+        by name absent sound (kept_under_it name file under) (file_of name files) refl (sym (same name (Some file) left) ∙ entry_under name file under);
   }
     where
       by : (name : Bytes) → is_some (kept_under name (store_in files l)) ≡ false → is_closed name (store_in files l) ≡ false

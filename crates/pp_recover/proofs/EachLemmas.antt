@@ -21,7 +21,8 @@ use Rattle.pp_recover.specs.Looks.{Extends}
 use Rattle.pp_recover.specs.Opening.{IsFresh, Tended, name_in, TendsEach, TendsOne, TendsNames, with_tended, with_entry, entry_if, is_lost, store_of}
 use Rattle.pp_recover.proofs.LookLemmas.{extends_then, extends_map}
 use Rattle.pp_recover.proofs.NameLemmas.{NotIn, Distinct}
-use Rattle.pp_recover.proofs.TendLemmas.{tends_other, tends_stays, at_rest_stays, Stays}
+use Rattle.pp_recover.proofs.TendLemmas.{tends_other, tends_stays, at_rest_stays}
+use Rattle.pp_recover.proofs.ShutLemmas.{Stays}
 
 -- a front of two parts is a front of the first, or the first and a front of the second
 pub data Front (a b p q : Log) : Type 0 where

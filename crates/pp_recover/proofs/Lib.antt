@@ -1,3 +1,4 @@
+pub mod BackedLemmas
 pub mod CoverLemmas
 pub mod EachLemmas
 pub mod EntryLemmas

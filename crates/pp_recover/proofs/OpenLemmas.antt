@@ -22,7 +22,8 @@ use Rattle.pp_recover.specs.Looks.{Extends}
 use Rattle.pp_recover.specs.Opening.{IsFresh, SameEntries, Tended, name_in, TendsEach, TendsNames, TendsFirst, ListsAnd, Opens, AllSent, store_in}
 use Rattle.pp_recover.proofs.LookLemmas.{extends_then, extends_map}
 use Rattle.pp_recover.proofs.NameLemmas.{NotIn, Distinct, distinct}
-use Rattle.pp_recover.proofs.TendLemmas.{Stays, at_rest_stays}
+use Rattle.pp_recover.proofs.ShutLemmas.{Stays}
+use Rattle.pp_recover.proofs.TendLemmas.{at_rest_stays}
 use Rattle.pp_recover.proofs.EachLemmas.{each_stays}
 use Rattle.pp_recover.proofs.FinalLemmas.{store_is, store_holds}
 
@@ -147,8 +148,12 @@ cancel : (k a b : Log) → k ++ a ≡ k ++ b → a ≡ b
 cancel [] a b is = is
 cancel (h ∷ k) a b is = let rest : k ++ a ≡ k ++ b = cc in cancel k a b rest
 
-pub same_entries : (old new : Option Log) → Extends old new (λ before hs. (files : Files) → IsFresh files before → Happens files hs) → EachMoment old new SameEntries
-same_entries old new all = record {
+-- whatever a crash leaves under a name is the entry that was there, with its bytes
+abbrev pub AllStay : Log → Log → Type 0
+AllStay before log = (files : Files) → IsFresh files before → (name : Bytes) → AllLeft (Stays name (file_of name files)) (view_of name log)
+
+each_moment : (old new : Option Log) → Extends old new (λ before hs. (files : Files) → IsFresh files before → Happens files hs) → EachMoment old new AllStay
+each_moment old new all = record {
   at = λ k hs was is. record { at = λ p q split files fresh name. by k hs p q was is split files fresh name };
 }
   where
@@ -161,17 +166,22 @@ same_entries old new all = record {
         subst (AllLeft (Stays name (file_of name files))) (sym (view_of-append name k p))
         (happens_stays files name (view_of name k) hs p q (ap (λ (v : View). v.slot) (fresh.views name)) (ap (λ (v : View). v.failed) (fresh.views name)) happens split)
 
-pub went_moments : (old new : Option Log) (names : List Bytes) (done : Bool) (store : KeptMap) → IsTrue (is_rising names) → Extends old new (WentAll names done store) → EachMoment old new SameEntries
-went_moments old new names done store rising all = same_entries old new (extends_map old new (WentAll names done store) _ all
+pub went_moments : (old new : Option Log) (names : List Bytes) (done : Bool) (store : KeptMap) → IsTrue (is_rising names) → Extends old new (WentAll names done store) → EachMoment old new AllStay
+went_moments old new names done store rising all = each_moment old new (extends_map old new (WentAll names done store) _ all
     (λ k hs w files fresh.
     let had = w files fresh in
     let t = had.tended in
     names_too had.rest t.1 had.listed (subst Distinct (sym t.2) (distinct_take names t.0 (distinct names rising))) t.3))
 
-pub none_moments : (log : Option Log) → EachMoment log log SameEntries
-none_moments log = same_entries log log (record { was = λ l is. (l, [], is, sym (append-nil l), λ files fresh. nothing refl) })
+pub none_moments : (log : Option Log) → EachMoment log log AllStay
+none_moments log = each_moment log log (record { was = λ l is. (l, [], is, sym (append-nil l), λ files fresh. nothing refl) })
 
-pub list_moments : {A : Type 0} (old new : Option Log) (r : Result A NamesFault) → IsErr r → AppendsAll old new (λ l. names_happenings r) → EachMoment old new SameEntries
+pub list_moments : {A : Type 0} (old new : Option Log) (r : Result A NamesFault) → IsErr r → AppendsAll old new (λ l. names_happenings r) → EachMoment old new AllStay
 list_moments old new (Ok names) failed call = absurd (cc)
-list_moments old new (Err FolderFault) failed call = same_entries old new (record { was = λ l is. let w = call.was l is in (w.0, Listed false ∷ [], w.1, w.2, λ files fresh. list_alone false refl) })
-list_moments old new (Err NoNames) failed call = same_entries old new (record { was = λ l is. let w = call.was l is in (w.0, [], w.1, w.2, λ files fresh. nothing refl) })
+list_moments old new (Err FolderFault) failed call = each_moment old new (record { was = λ l is. let w = call.was l is in (w.0, Listed false ∷ [], w.1, w.2, λ files fresh. list_alone false refl) })
+list_moments old new (Err NoNames) failed call = each_moment old new (record { was = λ l is. let w = call.was l is in (w.0, [], w.1, w.2, λ files fresh. nothing refl) })
+
+pub same_entries : (old new : Option Log) → EachMoment old new AllStay → EachMoment old new SameEntries
+same_entries old new all = record {
+  at = λ k hs was is. record { at = λ p q split files fresh name file left. ((all.at k hs was is).at p q split files fresh name file left).0 };
+}

@@ -13,16 +13,16 @@ use Rattle.pp_world.specs.Disk.{Bytes, Stored, View, began, done, undone, is_loo
 use Rattle.pp_entry.specs.Entries.{row_at}
 use Rattle.pp_entry.specs.Gates.{has_extent, leading_open}
 use Rattle.pp_entry.specs.Texts.{body_at, chunks_of}
-use Rattle.pp_gate.specs.Files.{open_gates, extent_in, gate}
+use Rattle.pp_gate.specs.Files.{open_gates, extent_in, body, gate}
 use Rattle.pp_gate.specs.Runs.{During}
 use Rattle.pp_gate.proofs.Views.{done_view}
 use Rattle.pp_gate.proofs.Images.{Torn, length-splice, splice_in, written_torn}
 use Rattle.pp_gate.proofs.Ops.{AllLeft, all_settled, begun_slot, one_leaves, sync_slot, write_slot}
 use Rattle.pp_gate.proofs.PlaceLemmas.{gates_below}
 use Rattle.pp_gate.proofs.GateLemmas.{opens_at_least, opens_at_most}
-use Rattle.pp_gate.proofs.SealLemmas.{same_head, gate_same, gate_new}
+use Rattle.pp_gate.proofs.SealLemmas.{same_head, body_same, gate_same, gate_new}
 use Rattle.pp_store.specs.Kept.{Kept}
-use Rattle.pp_recover.specs.Image.{named_for, head_in, entry_in, entry_of}
+use Rattle.pp_recover.specs.Image.{bytes_of, named_for, head_in, entry_in, entry_of}
 use Rattle.pp_recover.specs.Closing.{gates_in, begins, open_from, close_from, close_at, closing, has_strays, writes_over}
 use Rattle.pp_recover.proofs.EntryLemmas.{IsEntryOf, entry_told, entry_some, room_told, extent_same, fits as has_fit}
 use Rattle.pp_recover.proofs.RowLemmas.{both_true}
@@ -69,6 +69,12 @@ all_but true false c p q is = absurd (cc)
 all_but false b c p q is = absurd (cc)
 
 -- ---- one entry
+
+-- the entry that was there, with the bytes that it keeps
+abbrev pub Stays : Bytes → Option Bytes → Option Bytes → Type 0
+Stays name file c =
+    (entry_of name c ≡ entry_of name file)
+    × ((kept : Kept) → entry_of name file ≡ Some kept → (o : ℕ) → o < kept.extent → body kept.entry.version.length (bytes_of c) o ≡ body kept.entry.version.length (bytes_of file) o)
 
 extents_same : (n : ℕ) (c file : Bytes) → open_gates n c ≡ open_gates n file → extent_in n c ≡ extent_in n file
 unfolding extent_in
@@ -233,7 +239,18 @@ module _ (name file : Bytes) (kept : Kept) (is : entry_in name file ≡ Some kep
   -- ---- the operations, gate by gate
 
   pub Same : Option Bytes → Type 0
-  Same c = entry_of name c ≡ Some kept
+  Same c = Stays name (Some file) c
+
+  stayed : (c : Bytes) → entry_in name c ≡ Some kept → ((o : ℕ) → o < kept.extent → body n c o ≡ body n file o) → Same (Some c)
+  unfolding Same
+  stayed c entry_is bytes = (entry_is ∙ sym is, λ other there. subst (λ (k : Kept). (o : ℕ) → o < k.extent → body k.entry.version.length c o ≡ body k.entry.version.length file o) (same_kept other there) bytes)
+    where
+      same_kept : (other : Kept) → entry_in name file ≡ Some other → kept ≡ other
+      same_kept other there = let both : Some kept ≡ Some other = sym is ∙ there in cc
+
+  -- where the bytes of an entry stand that it keeps
+  inside : (o : ℕ) → o < kept.extent → body_at n + o < length file
+  inside o lt = omega (arith, lt, long, (room_told n file kept.extent entry.room).extent_is)
 
   -- how far the gates are closed once those before `i` were passed over: a run was closed to its end
   abbrev pub reached_if : Bool → ℕ → ℕ
@@ -265,6 +282,11 @@ module _ (name file : Bytes) (kept : Kept) (is : entry_in name file ≡ Some kep
       same_entry c (omega (arith, size)) (omega (arith, size, short))
       (λ o lt below. same o lt (omega (arith, below)) ∙ part.shut.low o lt below)
       (λ lt one. shut_next end f.bytes part.shut lt (sym (gate_same c f.bytes first (same (8192 + first) (omega (arith, lt, long, gates_below n)) (omega arith))) ∙ one))
+
+  part_bytes : (end : ℕ) (f : Stored) → IsPart end f → (c : Bytes) → IsLeft f c → (o : ℕ) → o < kept.extent → body n c o ≡ body n file o
+  part_bytes end f part c left o lt =
+      body_same n c f.bytes o (left.same (body_at n + o) (omega (arith, inside o lt, part.synced)) (part.high (body_at n + o) (omega (arith, gates_below n))))
+      ∙ body_same n f.bytes file o (part.shut.high (body_at n + o) (inside o lt) (omega (arith, gates_below n)))
 
   -- the first gates lead
   reached_first : reached 0 ≡ first
@@ -417,8 +439,7 @@ module _ (name file : Bytes) (kept : Kept) (is : entry_in name file ≡ Some kep
   from_place i k = flat_map (close_at name gates) (range_with_len i k)
 
   stays : (end : ℕ) (f : Stored) (v : View) → v.slot ≡ Some f ∷ [] → IsPart end f → AllLeft Same v
-  unfolding Same
-  stays end f v slot part = one_leaves f Same v.slot slot (λ c left. part_left end f part c left)
+  stays end f v slot part = one_leaves f Same v.slot slot (λ c left. stayed c (part_left end f part c left) (part_bytes end f part c left))
 
   run_ends : (i : ℕ) (v : View) → i < chunks_of n → begins gates i ≡ true → Ends (reached i) v → Ends (reached (i + 1)) (done name (close_from name gates i) (began name (close_from name gates i) v))
   run_ends i v lt run ends = record {
@@ -477,8 +498,7 @@ module _ (name file : Bytes) (kept : Kept) (is : entry_in name file ≡ Some kep
       (pass_on i now (omega (arith, sum)) (or_first (begins gates i) (list_any (begins gates) (range_with_len (i + 1) k)) none) shut)
 
   settled_same : (now : Bytes) → ShutTo (reached (chunks_of n)) now → Same (Some now)
-  unfolding Same
-  settled_same now shut = shut_entry (reached (chunks_of n)) now shut
+  settled_same now shut = stayed now (shut_entry (reached (chunks_of n)) now shut) (λ o lt. body_same n now file o (shut.high (body_at n + o) (inside o lt) (omega (arith, gates_below n))))
 
   -- ---- the whole of it
   start : (v : View) → v.slot ≡ Some (settled file) ∷ [] → v.failed ≡ false → Ends (reached 0) v
@@ -543,6 +563,6 @@ module _ (name file : Bytes) (kept : Kept) (is : entry_in name file ≡ Some kep
           (λ w ends. (ends.file_now.bytes, sync_slot name ends.file_now w ends.slot ends.sound, tidy ends.file_now.bytes ends.part.shut)))
       by false is = (file, slot, tidy file (none_stray (chunks_of n) 0 file (omega arith) (subst (λ (k : ℕ). list_any (begins gates) (range_with_len 0 k) ≡ false) whole is) (subst (λ (k : ℕ). ShutTo k file) (sym reached_first) shut_start)))
 
-pub same_is : (name file : Bytes) (kept : Kept) (is : entry_in name file ≡ Some kept) (v : View) (ops : List DiskOp) → During name v ops (AllLeft (Same name file kept is)) → During name v ops (AllLeft (λ c. entry_of name c ≡ Some kept))
+pub same_is : (name file : Bytes) (kept : Kept) (is : entry_in name file ≡ Some kept) (v : View) (ops : List DiskOp) → During name v ops (AllLeft (Same name file kept is)) → During name v ops (AllLeft (Stays name (Some file)))
 unfolding Same
 same_is name file kept is v ops during = during

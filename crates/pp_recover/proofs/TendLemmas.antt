@@ -13,9 +13,9 @@ use Rattle.pp_gate.specs.Runs.{Ran, During}
 use Rattle.pp_gate.proofs.Views.{view_from, each_from, done_view, ran_to}
 use Rattle.pp_gate.proofs.Ops.{AllLeft, all_settled}
 use Rattle.pp_store.specs.Kept.{Kept}
-use Rattle.pp_recover.specs.Image.{entry_in, entry_of}
+use Rattle.pp_recover.specs.Image.{entry_in}
 use Rattle.pp_recover.specs.Closing.{Tends, begins, close_from, close_at, closing, closing_if, closing_of, gates_in, has_strays, writes_over}
-use Rattle.pp_recover.proofs.ShutLemmas.{IsTidy, all_during, all_done, same_is}
+use Rattle.pp_recover.proofs.ShutLemmas.{Stays, IsTidy, all_during, all_done, same_is}
 
 same_name : (n : Bytes) → bytes_eq n n ≡ true
 same_name n = (bytes_eq-Decides n n).1 refl
@@ -156,15 +156,12 @@ tends_failed name file v hs (inr ran) = failed_flag name v (closing_of name file
 
 -- ---- what a crash leaves
 
-abbrev pub Stays : Bytes → Option Bytes → Option Bytes → Type 0
-Stays name file c = entry_of name c ≡ entry_of name file
-
 pub at_rest_stays : (name : Bytes) (file : Option Bytes) (v : View) → v.slot ≡ at_rest file ∷ [] → AllLeft (Stays name file) v
-at_rest_stays name (Some b) v slot = all_settled b (Stays name (Some b)) v slot refl
+at_rest_stays name (Some b) v slot = all_settled b (Stays name (Some b)) v slot (refl, λ kept is o lt. refl)
 at_rest_stays name None v slot = λ c left. by c (subst (λ (s : List (Option Stored)). LeavesOne s c) slot left)
   where
     by : (c : Option Bytes) → LeavesOne (None ∷ []) c → Stays name None c
-    by None left = refl
+    by None left = (refl, λ kept is o lt. refl)
     by (Some b) (inl bad) = absurd bad
     by (Some b) (inr bad) = absurd bad
 
@@ -172,9 +169,9 @@ closing_stays : (name : Bytes) (file : Option Bytes) (v : View) → v.slot ≡ a
 closing_stays name None v slot sound = at_rest_stays name None v slot
 closing_stays name (Some file) v slot sound = by (entry_in name file) refl
   where
-    by : (e : Option Kept) → entry_in name file ≡ e → During name v (closing_if name file e) (AllLeft (λ c. entry_of name c ≡ entry_in name file))
+    by : (e : Option Kept) → entry_in name file ≡ e → During name v (closing_if name file e) (AllLeft (Stays name (Some file)))
     by None is = at_rest_stays name (Some file) v slot
-    by (Some kept) is = subst (λ (o : Option Kept). During name v (closing name (gates_in kept.entry.version.length file)) (AllLeft (λ c. entry_of name c ≡ o))) (sym is) (same_is name file kept is v (closing name (gates_in kept.entry.version.length file)) (all_during name file kept is v slot sound))
+    by (Some kept) is = same_is name file kept is v (closing name (gates_in kept.entry.version.length file)) (all_during name file kept is v slot sound)
 
 look_stays : (name : Bytes) (file : Option Bytes) (v : View) (p q : Log) → v.slot ≡ at_rest file ∷ [] → Unread name ∷ [] ≡ p ++ q → AllLeft (Stays name file) (view_from name v p)
 look_stays name file v [] q slot is = at_rest_stays name file v slot

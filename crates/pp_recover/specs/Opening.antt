@@ -4,9 +4,10 @@ use Rattle.std.specs.List.{filter_map}
 use Rattle.pp_world.specs.declared.happening.Happening.TheVariants.{Listed}
 use Rattle.pp_world.specs.Files.{Files, file_of}
 use Rattle.pp_world.specs.Log.{Log}
-use Rattle.pp_world.specs.Disk.{Bytes, image_of, names_in, view_of, woken, at_rest, LeavesOne, Stands}
+use Rattle.pp_world.specs.Disk.{Bytes, image_of, names_in, view_of, woken, at_rest, IsLeftBehind, LeavesOne, Stands}
 use Rattle.pp_gate.specs.Files.{HoldsSent, Sent}
 use Rattle.pp_store.specs.Changes.{with_closed}
+use Rattle.pp_store.specs.Held.{IsBacked}
 use Rattle.pp_store.specs.Kept.{Kept, KeptMap, is_closed, kept_under}
 use Rattle.pp_recover.specs.declared.faults.RecoverFault.{RecoverFault}
 use Rattle.pp_recover.specs.declared.faults.RecoverFault.TheVariants.{DiskFault, OutOfMemory}
@@ -75,6 +76,14 @@ abbrev pub AllSent : Sent → Files → Type 0
 AllSent sent files =
     (name file : Bytes) → file_of name files ≡ Some file → (kept : Kept) → entry_in name file ≡ Some kept
     → HoldsSent sent (take 8192 file) kept.entry.version.length file
+
+-- where they do, whatever a crash leaves is backed
+abbrev pub OpensBacked : Log → Log → Type 0
+OpensBacked before log = (files : Files) → IsFresh files before → (sent : Sent) → AllSent sent files → IsBacked sent log
+
+-- and whatever a crash leaves of what is backed, the next life may open
+abbrev pub FilesAreBacked : Type 0
+FilesAreBacked = (sent : Sent) (log : Log) (files : Files) → IsBacked sent log → IsLeftBehind log files → AllSent sent files
 
 -- ---- name by name
 

@@ -10,7 +10,7 @@ ghost use Rattle.pp_store.specs.Held.{Covers, Holds};
 ghost use Rattle.pp_recover.specs.Faults.{OpenCause};
 ghost use Rattle.pp_recover.specs.Image.{HasFewNames};
 ghost use Rattle.pp_recover.specs.Looks.{Extends};
-ghost use Rattle.pp_recover.specs.Opening.{AllSent, IsFree, IsFresh, Opens, SameEntries, TendsNames, TendsOne};
+ghost use Rattle.pp_recover.specs.Opening.{AllSent, IsFree, IsFresh, Opens, OpensBacked, SameEntries, TendsNames, TendsOne};
 
 use crate::examine::examine;
 use crate::faults::RecoverFault;
@@ -46,6 +46,7 @@ pub fn open<D: Disk>(alloc: Global, disk: &mut D) -> Result<Store, RecoverFault>
     requires fresh { Told (D.log disk.old) (λ l. (files : Files) × IsFresh files l) }
     ensures opens { Extends (D.log disk.old) (D.log disk.new) (λ before hs. (files : Files) → IsFresh files before → Opens result files before hs) }
     ensures moments { EachMoment (D.log disk.old) (D.log disk.new) SameEntries }
+    ensures backed { EachMoment (D.log disk.old) (D.log disk.new) OpensBacked }
     ensures holds { IfOk result (λ store. Extends (D.log disk.old) (D.log disk.new) (λ before hs. (files : Files) → IsFresh files before → (sent : Sent) → AllSent sent files → Holds sent store (before ++ hs))) }
     ensures covers { IfOk result (λ store. Extends (D.log disk.old) (D.log disk.new) (λ before hs. (files : Files) → IsFresh files before → HasFewNames files → Covers store (before ++ hs))) }
     ensures faults { D.faults disk.old ≤ D.faults disk.new }

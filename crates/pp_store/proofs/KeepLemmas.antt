@@ -9,18 +9,19 @@ use Rattle.pp_entry.specs.Spelling.{CanBeWritten, text_of}
 use Rattle.pp_entry.specs.Texts.{body_at, chunks_of, fits}
 use Rattle.pp_entry.proofs.AnyCase.{read-back}
 use Rattle.pp_gate.specs.Files.{Sent, whole_file}
-use Rattle.pp_gate.specs.Gate.{IsUnfailed, RunsPublish, draft_ops}
-use Rattle.pp_gate.specs.Runs.{During, RunsOps}
-use Rattle.pp_gate.specs.Seal.{IsFront, Keeps}
+use Rattle.pp_gate.specs.Gate.{IsUnfailed, OthersSame, RunsPublish, draft_ops}
+use Rattle.pp_gate.specs.Runs.{During, EachMoment, RunsOps}
+use Rattle.pp_gate.specs.Seal.{IsFront, Keeps, OldOrHonest}
 use Rattle.pp_gate.specs.declared.publishing.PublishFault.{PublishFault}
 use Rattle.pp_gate.proofs.Views.{at_each}
 use Rattle.pp_store.specs.declared.row.Site.{Site}
 use Rattle.pp_target.specs.Name.{name_of}
 use Rattle.pp_store.specs.declared.faults.KeepFault.TheVariants.{Closed, Full, TooLong}
 use Rattle.pp_store.specs.Answers.{file_with, is_full, refusal_of}
-use Rattle.pp_store.specs.Held.{Covers, Holds, IsHeld, IsReadable}
+use Rattle.pp_store.specs.Held.{Covers, Holds, IsHeld, IsReadable, StaysBacked}
 use Rattle.pp_store.specs.Kept.{Kept, KeptMap, IsExtent, block_of, is_closed, name_at}
 use Rattle.pp_store.specs.Views.{site_of}
+use Rattle.pp_store.proofs.Backing.{published_backed}
 use Rattle.pp_store.proofs.Holding.{same_slot}
 use Rattle.pp_store.proofs.Running.{or_not, told_map}
 use Rattle.pp_store.proofs.Sealing.{moved}
@@ -113,3 +114,12 @@ drafted_covers old new file ok store runs told = drafted old new file ok (Covers
     (λ k l covers same. record {
       each = λ name absent free file left entry. covers.each name absent free file (subst (λ (s : List (Option Stored)). LeavesOne s (Some file)) (same name).0 left) entry;
     })
+
+-- whatever its publishing leaves is backed
+pub kept_backed : (old new : Option Log) (sent : Sent) (row : Kept) (site : Site) (block : Bytes) (least : ℕ) → site ≡ site_of row → block ≡ block_of row.entry → IsReadable row.entry
+    → EachMoment old new (OldOrHonest sent site.name block site.length least) → EachMoment old new (OthersSame site.name) → EachMoment old new (StaysBacked sent)
+kept_backed old new sent row site block least is block_is reads this others =
+    published_backed old new sent row.entry least (name_at row) reads
+    (moved (λ (n b : Bytes) (m l : ℕ). EachMoment old new (OldOrHonest sent n b m l)) site.name (name_at row) block (block_of row.entry) site.length row.entry.version.length least least
+    (ap (λ (s : Site). s.name) is) block_is (ap (λ (s : Site). s.length) is) refl this)
+    (subst (λ (n : Bytes). EachMoment old new (OthersSame n)) (ap (λ (s : Site). s.name) is) others)

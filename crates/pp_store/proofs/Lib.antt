@@ -1,3 +1,4 @@
+pub mod Backing
 pub mod Calls
 pub mod ChunkLemmas
 pub mod FieldLemmas
@@ -11,3 +12,4 @@ pub mod Quiet
 pub mod Running
 pub mod Sealing
 pub mod Sound
+pub mod TableLemmas

@@ -1,15 +1,14 @@
 -- Whatever is called, a name is kept once, or closed once, or neither.
-use Rattle.std.proofs.Common.{ℕ, ◌+◌, ◌≤◌, ◌≡◌, Bool, true, false, List, [], ◌∷◌, ◌++◌, filter, get_or, set, arith, refl, sym, ◌∙◌, ap, Option, Some, None}
+use Rattle.std.proofs.Common.{ℕ, ◌+◌, ◌≤◌, ◌≡◌, Bool, true, false, List, [], ◌∷◌, ◌++◌, filter, arith, refl, sym, ◌∙◌, ap, Option, Some, None}
 use Rattle.std.specs.Prelude.{count_by, is_some, IsSome, unwrap_or, bytes_eq}
-use Rattle.std.specs.List.{find, list_any, position}
-use Rattle.std.proofs.lemmas.List.Quantifiers.{position-Some}
+use Rattle.std.specs.List.{find, list_any}
 use Rattle.std.proofs.lemmas.Slice.Eq.{bytes_eq-Decides}
 use Rattle.pp_target.specs.Name.{name_of}
 use Rattle.pp_store.specs.declared.row.Site.{Site}
 use Rattle.pp_store.specs.Views.{site_of}
 use Rattle.pp_store.specs.Kept.{Kept, KeptMap, HasOwnNames, name_at, is_of, is_under, is_name, is_closed, kept_of, kept_under, row_of, no_row}
 use Rattle.pp_store.specs.Changes.{with_row, with_closed, without, lost, extended, extended_to, is_other}
-use Rattle.pp_store.proofs.Lists.{one, count-push, count-filter, count-same, count-weaker, find_none, any_none, one_out, first_at, changed_at, nowhere, found_passes, found_counts, any_counts}
+use Rattle.pp_store.proofs.Lists.{one, count-push, count-filter, count-same, count-weaker, find_none, any_none, one_out, found_passes, found_counts, any_counts}
 
 -- a key has one name
 pub of_key : (key : List ℕ) (row : Kept) → is_of key row ≡ true → is_under (name_of key) row ≡ true
@@ -75,25 +74,6 @@ own-lost store key own kept = record { once = λ n. by n (bytes_eq (name_of key)
 
 pub own-extended : (store : KeptMap) (key : List ℕ) (extent : ℕ) → HasOwnNames store → HasOwnNames (extended key extent store)
 own-extended store key extent own = record { once = λ name. omega (arith, own.once name, count-same (is_under name) (is_of key) (extended_to extent) store.rows (λ row. refl)) }
-
--- the place at which a key is found
-pub row_at_place : (store : KeptMap) (key : List ℕ) (place : ℕ) → position (is_of key) store.rows ≡ Some place → get_or store.rows place no_row ≡ row_of key store
-row_at_place store key place e =
-    let at = position-Some (is_of key) store.rows place no_row e in
-    sym (row-from key store (get_or store.rows place no_row) (first_at (is_of key) store.rows place no_row at.0 at.1 at.2))
-
-pub changed_row : (store : KeptMap) (key : List ℕ) (place extent : ℕ) → HasOwnNames store → position (is_of key) store.rows ≡ Some place
-    → set store.rows place (extended_to extent (get_or store.rows place no_row)) ≡ (extended key extent store).rows
-changed_row store key place extent own e =
-    let at = position-Some (is_of key) store.rows place no_row e in
-    changed_at (is_of key) (extended_to extent) store.rows place no_row at.0 at.1 (one_key store key own)
-
-pub never_nowhere : (store : KeptMap) (key : List ℕ) → IsSome (kept_of key store) → position (is_of key) store.rows ≡ None → ⊥
-never_nowhere store key kept e = no (kept_of key store) (nowhere (is_of key) store.rows e) kept
-  where
-    no : (o : Option Kept) → o ≡ None → is_some o ≡ true → ⊥
-    no None e is = absurd cc
-    no (Some row) e is = absurd cc
 
 pub site-name : (key : List ℕ) (store : KeptMap) (site : Site) → IsSome (kept_of key store) → site ≡ site_of (row_of key store) → site.name ≡ name_of key
 site-name key store site kept is =

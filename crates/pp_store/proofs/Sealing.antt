@@ -9,7 +9,7 @@ use Rattle.pp_store.specs.declared.row.Site.{Site}
 use Rattle.pp_store.specs.Kept.{Kept, KeptMap, IsExtent, block_of, kept_of, row_of}
 use Rattle.pp_store.specs.Views.{site_of}
 use Rattle.pp_gate.specs.Files.{Sent}
-use Rattle.pp_store.specs.Held.{IsOnDisk, IsHeld, Holds, IsMore}
+use Rattle.pp_store.specs.Held.{Holds, IsHeld, IsMore, IsOnDisk, IsReadable}
 use Rattle.pp_store.proofs.Lists.{All-found}
 use Rattle.pp_store.proofs.Names.{found_row}
 use Rattle.pp_store.proofs.Running.{told_map}
@@ -54,6 +54,9 @@ row_held log sent store key kept told = told_map log (Holds sent store) (λ l. I
 
 pub row_on_disk : (log : Option Log) (sent : Sent) (store : KeptMap) (key : List ℕ) → IsSome (kept_of key store) → Told log (Holds sent store) → Told log (IsOnDisk sent (row_of key store))
 row_on_disk log sent store key kept told = told_map log (λ l. IsHeld sent l (row_of key store)) (IsOnDisk sent (row_of key store)) (row_held log sent store key kept told) (λ l held. held.keeps)
+
+pub row_reads : (log : Option Log) (sent : Sent) (store : KeptMap) (key : List ℕ) → IsSome (kept_of key store) → Told log (Holds sent store) → Told log (λ l. IsReadable (row_of key store).entry)
+row_reads log sent store key kept told = told_map log (λ l. IsHeld sent l (row_of key store)) (λ l. IsReadable (row_of key store).entry) (row_held log sent store key kept told) (λ l held. held.reads)
 
 -- facts of an entry in other words
 pub moved : (P : Bytes → Bytes → ℕ → ℕ → Type 0) (name name' block block' : Bytes) (n n' m m' : ℕ) → name ≡ name' → block ≡ block' → n ≡ n' → m ≡ m' → P name block n m → P name' block' n' m'

@@ -45,6 +45,10 @@ pub record Covers (store : KeptMap) (log : Log) : Type 0 where
 pub record IsBacked (sent : Sent) (log : Log) : Type 0 where
   pub each : (name file : Bytes) → LeavesOne (view_of name log).slot (Some file) → (entry : IsEntryUnder name file) → HoldsSent sent (take 8192 file) entry.row.version.length file
 
+-- what was backed before is backed
+abbrev pub StaysBacked : Sent → Log → Log → Type 0
+StaysBacked sent before log = IsBacked sent before → IsBacked sent log
+
 -- one to 64 chunks of the body, each of 4,096 bytes or ending it, that stand behind what is kept, and were sent
 pub record IsMore (sent : Sent) (row : Kept) (bytes : Bytes) : Type 0 where
   pub some : 0 < length bytes

@@ -3,6 +3,8 @@ pub mod Changes
 pub mod Held
 pub mod Inside
 pub mod Kept
+pub mod Lasting
 pub mod Loads
+pub mod Table
 pub mod Texts
 pub mod Views

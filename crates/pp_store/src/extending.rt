@@ -8,7 +8,7 @@ ghost use Rattle.pp_gate.specs.Seal.{Claim, StaysHonest};
 ghost use Rattle.pp_store.specs.Answers.{extend_ops};
 ghost use Rattle.pp_store.specs.Changes.{extended_after, extended_to};
 ghost use Rattle.pp_gate.specs.Files.{Sent};
-ghost use Rattle.pp_store.specs.Held.{Covers, Holds, IsOnDisk, IsMore};
+ghost use Rattle.pp_store.specs.Held.{Covers, Holds, IsOnDisk, IsMore, StaysBacked};
 ghost use Rattle.pp_store.specs.Kept.{HasOwnNames, block_of, kept_of, row_of};
 
 use crate::store::Store;
@@ -38,6 +38,7 @@ impl Store {
         ensures ops { RunsOps (D.log disk.old) (D.log disk.new) (extend_ops (row_of key.now self.old) bytes.now) (is_ok result) }
         ensures any_moment { EachMoment (D.log disk.old) (D.log disk.new) (StaysHonest sent (name_of key.now) (block_of (row_of key.now self.old).entry) (row_of key.now self.old).entry.version.length (row_of key.now self.old).extent) }
         ensures others { EachMoment (D.log disk.old) (D.log disk.new) (OthersSame (name_of key.now)) }
+        ensures backed { EachMoment (D.log disk.old) (D.log disk.new) (StaysBacked sent) }
         ensures faults { D.faults disk.old ≤ D.faults disk.new }
         ensures cause { OnErr result (Rises (D.log disk.new) (D.faults disk.old) (D.faults disk.new)) }
         ensures top { D.top disk.new ≡ D.top disk.old }

@@ -10,7 +10,7 @@ ghost use Rattle.pp_gate.specs.Runs.{EachMoment};
 ghost use Rattle.pp_gate.specs.Seal.{IsFront, OldOrHonest};
 ghost use Rattle.pp_store.specs.Answers.{Answers, IsDue, IsLate, KeepCause, RunsKeep, file_with, is_full, refusal_of};
 ghost use Rattle.pp_store.specs.Changes.{entry_with, kept_after};
-ghost use Rattle.pp_store.specs.Held.{Covers, Holds, IsReadable};
+ghost use Rattle.pp_store.specs.Held.{Covers, Holds, IsReadable, StaysBacked};
 ghost use Rattle.pp_store.specs.Kept.{block_of, is_closed, kept_under, name_at};
 
 use crate::faults::KeepFault;
@@ -56,6 +56,7 @@ impl Store {
         ensures old_or_new { EachMoment (D.log disk.old) (D.log disk.new) (OldOr (name_of key.now) (Some (file_with (entry_with key.now version.now fields.now times.now) (drop (body_at version.now.length) room.old)))) }
         ensures any_moment { EachMoment (D.log disk.old) (D.log disk.new) (OldOrHonest sent (name_of key.now) (block_of (entry_with key.now version.now fields.now times.now)) version.now.length (length room.old - body_at version.now.length)) }
         ensures others { EachMoment (D.log disk.old) (D.log disk.new) (OthersSame (name_of key.now)) }
+        ensures backed { EachMoment (D.log disk.old) (D.log disk.new) (StaysBacked sent) }
         ensures faults { D.faults disk.old ≤ D.faults disk.new }
         ensures cause { KeepCause (D.log disk.new) (D.faults disk.old) (D.faults disk.new) result }
         ensures top { D.top disk.new ≡ D.top disk.old }
@@ -119,19 +120,21 @@ impl Store {
         ensures old_or_new { EachMoment (D.log disk.old) (D.log disk.new) (OldOr (name_at row) (Some (file_with row.entry (drop (body_at row.entry.version.length) room.old)))) }
         ensures any_moment { EachMoment (D.log disk.old) (D.log disk.new) (OldOrHonest sent (name_at row) (block_of row.entry) row.entry.version.length row.extent) }
         ensures others { EachMoment (D.log disk.old) (D.log disk.new) (OthersSame (name_at row)) }
+        ensures backed { EachMoment (D.log disk.old) (D.log disk.new) (StaysBacked sent) }
         ensures faults { D.faults disk.old ≤ D.faults disk.new }
         ensures cause { KeepCause (D.log disk.new) (D.faults disk.old) (D.faults disk.new) result }
         ensures top { D.top disk.new ≡ D.top disk.old }
     {
-        self.rows.reserve(1)?;
         let site = row.site();
+        self.rows.push(row)?;
         match publish(disk, &site.name, block, site.length, room) {
-            Ok(()) => {
-                self.rows.push_reserved(row);
-                Ok(())
+            Ok(()) => Ok(()),
+            Err(PublishFault::NoDraft) => {
+                self.rows.pop();
+                Err(KeepFault::NoDraft)
             }
-            Err(PublishFault::NoDraft) => Err(KeepFault::NoDraft),
             Err(PublishFault::DiskFault) => {
+                self.rows.pop();
                 self.closed.push_reserved(site.name);
                 Err(KeepFault::DiskFault)
             }

@@ -5,7 +5,8 @@ ghost use Rattle.pp_target.specs.Name.{name_of};
 ghost use Rattle.pp_entry.specs.Texts.{body_at};
 ghost use Rattle.pp_store.specs.Changes.{loaded_after};
 ghost use Rattle.pp_gate.specs.Files.{Sent};
-ghost use Rattle.pp_store.specs.Held.{Covers, Holds};
+ghost use Rattle.pp_gate.specs.Runs.{EachMoment};
+ghost use Rattle.pp_store.specs.Held.{Covers, Holds, StaysBacked};
 ghost use Rattle.pp_store.specs.Kept.{kept_of, row_of};
 ghost use Rattle.pp_store.specs.Loads.{GivesChunk, GivesRead, GivesSent, LoadCause, ReadCause, chunk_len, load_happenings};
 
@@ -39,6 +40,7 @@ impl Store {
         ensures bytes { Told (D.log disk.old) (GivesChunk (row_of key.now self.old) index out.new result) }
         ensures sent { Told (D.log disk.old) (λ l. GivesSent sent (row_of key.now self.old) index out.new result) }
         ensures told { AppendsAll (D.log disk.old) (D.log disk.new) (λ l. load_happenings (name_of key.now) result) }
+        ensures backed { EachMoment (D.log disk.old) (D.log disk.new) (StaysBacked sent) }
         ensures faults { D.faults disk.old ≤ D.faults disk.new }
         ensures cause { LoadCause (D.log disk.new) (D.faults disk.old) (D.faults disk.new) (chunk_len (row_of key.now self.old).entry.version.length index) result }
         ensures top { D.top disk.new ≡ D.top disk.old }

@@ -1,7 +1,7 @@
 // One entry in memory.
 ghost use Rattle.std.specs.Prelude.{◌≡◌, ◌≤◌, ◌^◌, IfOk};
 ghost use Rattle.pp_target.specs.Name.{name_of};
-ghost use Rattle.pp_store.specs.Kept.{IsExtent, is_of, is_under};
+ghost use Rattle.pp_store.specs.Kept.{IsExtent, is_of, name_at};
 ghost use Rattle.pp_store.specs.Changes.{entry_with, extended_to};
 ghost use Rattle.pp_store.specs.Views.{shown, site_of};
 
@@ -95,16 +95,16 @@ impl KeptRow {
         })
     }
 
+    pub(crate) fn name(&self) -> &Name
+        ensures { result.now ≡ name_at self.now }
+    {
+        &self.name
+    }
+
     pub(crate) fn is_of(&self, key: &[u8]) -> bool
         ensures { result ≡ is_of key.now self.now }
     {
         self.text.key() == key
-    }
-
-    pub(crate) fn is_under(&self, name: &Name) -> bool
-        ensures { result ≡ is_under name.now self.now }
-    {
-        self.name.as_slice() == name.as_slice()
     }
 
     pub(crate) fn view(&self) -> KeptView<'_>

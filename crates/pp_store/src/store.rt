@@ -9,6 +9,7 @@ ghost use Rattle.pp_store.specs.Held.{IsReadable};
 ghost use Rattle.pp_store.specs.Views.{shown, site_of};
 
 use crate::row::{KeptRow, KeptView, Site};
+use crate::rows::Rows;
 use pp_entry::Entry;
 use pp_target::file_name;
 use pp_text::OutOfMemory;
@@ -22,7 +23,7 @@ const NAMES: usize = 10_000;
 /// The entries that are kept on the disk, and the names that are closed. Contracts see both lists.
 #[derive(Drop)]
 pub struct Store {
-    pub(crate) rows: Vec<KeptRow>,
+    pub(crate) rows: Rows,
     pub(crate) closed: Vec<Name>,
 }
 
@@ -45,7 +46,7 @@ impl Store {
     {
         let closed = Vec::with_capacity(alloc, NAMES)?;
         Ok(Store {
-            rows: Vec::new(alloc),
+            rows: Rows::new(alloc),
             closed,
         })
     }
@@ -56,7 +57,7 @@ impl Store {
         ensures sized { IfSome result (λ view. view.version.now.length ≤ 2 ^ 26) }
         ensures whole { IfSome result (λ view. IsExtent view.version.now.length view.extent) }
     {
-        match row_of(&self.rows, key) {
+        match self.rows.of(key) {
             Some(row) => Some(row.view()),
             None => None,
         }
@@ -68,7 +69,7 @@ impl Store {
         ensures sized { IfSome result (λ view. view.version.now.length ≤ 2 ^ 26) }
         ensures whole { IfSome result (λ view. IsExtent view.version.now.length view.extent) }
     {
-        match row_under(&self.rows, name) {
+        match self.rows.under(name) {
             Some(row) => Some(row.view()),
             None => None,
         }
@@ -79,7 +80,7 @@ impl Store {
         ensures entries { result ≡ min (length self.now.rows) (2 ^ 32 - 1) }
         ensures names { HasOwnNames self.now }
     {
-        count_of(&self.rows)
+        u32::try_from(self.rows.len()).unwrap_or(u32::MAX)
     }
 
     /// Whether an operation on this name failed.
@@ -149,7 +150,7 @@ impl Store {
         ensures whole { IsExtent result.length result.extent }
         ensures names { HasOwnNames self.now }
     {
-        match row_of(&self.rows, key) {
+        match self.rows.of(key) {
             Some(row) => row.site(),
             None => Site::NOWHERE,
         }
@@ -161,18 +162,15 @@ impl Store {
         requires whole { IsExtent (row_of key.now self.old).entry.version.length extent }
         ensures { self.new ≡ extended key.now extent self.old }
     {
-        let Some(place) = place_of(&self.rows, key) else {
-            return;
-        };
-        let row = &mut self.rows[place];
-        row.extend_to(extent);
+        self.rows.extend_to(key, extent);
     }
 
     /// Keeps the entry of a key no more.
     pub(crate) fn forget(&mut self, key: &[u8])
+        requires { IsSome (kept_of key.now self.old) }
         ensures { self.new ≡ without key.now self.old }
     {
-        forget(&mut self.rows, key);
+        self.rows.forget(key);
     }
 
     /// Keeps the entry of a key no more, and closes its name.
@@ -180,7 +178,7 @@ impl Store {
         requires { IsSome (kept_of key.now self.old) }
         ensures { self.new ≡ lost key.now self.old }
     {
-        forget(&mut self.rows, key);
+        self.rows.forget(key);
         self.closed.push_reserved(file_name(key));
     }
 
@@ -190,10 +188,9 @@ impl Store {
         ensures ok { OnOk result (self.new ≡ with_row row.entry row.extent self.old) }
         ensures err { OnErr result (self.new ≡ self.old) }
     {
-        self.rows.reserve(1)?;
         let more = self.rows.len() + 1;
         self.closed.reserve(more)?;
-        self.rows.push_reserved(row);
+        self.rows.push(row)?;
         Ok(())
     }
 
@@ -208,35 +205,4 @@ impl Store {
         self.closed.push_reserved(*name);
         Ok(())
     }
-}
-
-fn row_of<'a>(rows: &'a [KeptRow], key: &[u8]) -> Option<&'a KeptRow>
-    ensures { option_copied result ≡ find (is_of key.now) rows.now }
-{
-    rows.iter().find(|row| row.is_of(key))
-}
-
-fn row_under<'a>(rows: &'a [KeptRow], name: &Name) -> Option<&'a KeptRow>
-    ensures { option_copied result ≡ find (is_under name.now) rows.now }
-{
-    rows.iter().find(|row| row.is_under(name))
-}
-
-fn place_of(rows: &[KeptRow], key: &[u8]) -> Option<usize>
-    ensures { result ≡ position (is_of key.now) rows.now }
-{
-    rows.iter().position(|row| row.is_of(key))
-}
-
-fn count_of(rows: &[KeptRow]) -> u32
-    ensures { result ≡ min (length rows.now) (2 ^ 32 - 1) }
-{
-    u32::try_from(rows.len()).unwrap_or(u32::MAX)
-}
-
-/// Takes the entry of a key out.
-fn forget(rows: &mut Vec<KeptRow>, key: &[u8])
-    ensures { rows.new.items ≡ filter (is_other key.now) rows.old.items }
-{
-    rows.retain(|row| !row.is_of(key));
 }

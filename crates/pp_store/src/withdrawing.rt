@@ -7,7 +7,7 @@ ghost use Rattle.pp_gate.specs.Gate.{OldOr, OthersSame};
 ghost use Rattle.pp_gate.specs.Runs.{EachMoment, RunsOps};
 ghost use Rattle.pp_store.specs.Changes.{withdrawn_after};
 ghost use Rattle.pp_gate.specs.Files.{Sent};
-ghost use Rattle.pp_store.specs.Held.{Covers, Holds};
+ghost use Rattle.pp_store.specs.Held.{Covers, Holds, StaysBacked};
 ghost use Rattle.pp_store.specs.Kept.{kept_of};
 
 use crate::store::Store;
@@ -27,6 +27,7 @@ impl Store {
         ensures ops { RunsOps (D.log disk.old) (D.log disk.new) (Remove (name_of key.now) ∷ []) (is_ok result) }
         ensures old_or_none { EachMoment (D.log disk.old) (D.log disk.new) (OldOr (name_of key.now) None) }
         ensures others { EachMoment (D.log disk.old) (D.log disk.new) (OthersSame (name_of key.now)) }
+        ensures backed { EachMoment (D.log disk.old) (D.log disk.new) (StaysBacked sent) }
         ensures faults { D.faults disk.old ≤ D.faults disk.new }
         ensures cause { OnErr result (Rises (D.log disk.new) (D.faults disk.old) (D.faults disk.new)) }
         ensures top { D.top disk.new ≡ D.top disk.old }

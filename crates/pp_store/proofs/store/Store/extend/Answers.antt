@@ -6,6 +6,8 @@ use Rattle.pp_store.specs.Changes.{extended_to}
 use Rattle.pp_store.specs.Held.{Holds, Covers, IsOnDisk}
 use Rattle.pp_store.proofs.Names.{row-name}
 use Rattle.pp_store.proofs.Calls.{extended_holds, extended_covers, lost_holds, lost_covers}
+use Rattle.pp_store.proofs.Backing.{sealed_backed}
+use Rattle.pp_store.proofs.Sealing.{row_reads}
 use Rattle.pp_store.proofs.store.Store.extend.Goals as goal
 
 pub extend_to-requires-clause-whole : goal.extend_to-requires-clause-whole
@@ -36,3 +38,11 @@ returns-in-Err-clause-covers g c told =
     let on = row-name c.args.key.now c.args.self.now c.requires.1.0 in
     subst (λ (w : KeptMap). Told (g.D.Logged.log c.seal_behind.new.disk) (Covers w)) (sym c.lose.ensures)
     (lost_covers _ _ (extend_ops (row_of c.args.key.now c.args.self.now) c.args.bytes.now) g.sent c.args.self.now c.args.key.now c.seal_behind.ensures.names c.requires.1.0 (on, (on, (on, (on, tt)))) c.in-Err.ensures.others false c.in-Err.ensures.ops told)
+
+pub returns-in-Ok-clause-backed : goal.returns-in-Ok-clause-backed
+returns-in-Ok-clause-backed g c =
+    sealed_backed _ _ g.sent (row_of c.args.key.now c.args.self.now).entry _ _ (row_reads _ g.sent c.args.self.now c.args.key.now c.requires.1.0 c.requires.1.1.1) c.in-Ok.ensures.any_moment c.in-Ok.ensures.others
+
+pub returns-in-Err-clause-backed : goal.returns-in-Err-clause-backed
+returns-in-Err-clause-backed g c =
+    sealed_backed _ _ g.sent (row_of c.args.key.now c.args.self.now).entry _ _ (row_reads _ g.sent c.args.self.now c.args.key.now c.requires.1.0 c.requires.1.1.1) c.in-Err.ensures.any_moment c.in-Err.ensures.others

@@ -4,6 +4,7 @@ use Rattle.pp_gate.specs.Seal.{IsFront}
 use Rattle.pp_store.specs.Changes.{entry_with}
 use Rattle.pp_store.specs.Held.{IsReadable}
 use Rattle.pp_store.specs.Kept.{Kept, block_of, is_closed, kept_under, name_at}
+use Rattle.pp_store.proofs.Backing.{quiet_backed}
 use Rattle.pp_store.proofs.KeepLemmas.{readable, refusal-none}
 use Rattle.pp_target.specs.Name.{name_of}
 use Rattle.pp_store.proofs.Quiet.{quiet_honest, quiet_old, quiet_others}
@@ -26,6 +27,12 @@ returns-in_err-row-clause-any_moment g c = quiet_honest _ g.sent (name_of c.args
 
 pub returns-in_err-row-clause-others : goal.returns-in_err-row-clause-others
 returns-in_err-row-clause-others g c = quiet_others _ (name_of c.args.key.now)
+
+pub returns-in_err-block-clause-backed : goal.returns-in_err-block-clause-backed
+returns-in_err-block-clause-backed g c = quiet_backed _ g.sent
+
+pub returns-in_err-row-clause-backed : goal.returns-in_err-row-clause-backed
+returns-in_err-row-clause-backed g c = quiet_backed _ g.sent
 
 pub publish_row-requires : goal.publish_row-requires
 publish_row-requires g c κs within =

@@ -8,6 +8,7 @@ use Rattle.pp_store.specs.Loads.{chunk_len, load_happenings, ReadCause}
 use Rattle.pp_store.proofs.Names.{site-name}
 use Rattle.pp_store.proofs.Sealing.{site-whole}
 use Rattle.pp_store.proofs.ChunkLemmas.{read-as, gives_chunk, gives_sent, failed_holds, failed_covers, load_cause}
+use Rattle.pp_store.proofs.Backing.{loaded_backed}
 use Rattle.pp_store.proofs.store.Store.load.Goals as goal
 
 pub returns-in-Ok-clause-bytes : goal.returns-in-Ok-clause-bytes
@@ -46,3 +47,9 @@ returns-in-Err-clause-cause g c =
     (returns-in-Err-clause-told g c)
     (read-as (g.D.Logged.log c.args.disk.now) (row_of c.args.key.now c.args.self.now) c.site-site.result c.args.index c.read_chunk.new.out (Err c.in-Err.fault) c.site-site.ensures.site c.in-Err.ensures.bytes)
     (subst (λ (s : Site). ReadCause (g.D.Logged.log c.read_chunk.new.disk) (g.D.Logged.faults c.args.disk.now) (g.D.Logged.faults c.read_chunk.new.disk) (chunk_len s.length c.args.index) (Err c.in-Err.fault)) c.site-site.ensures.site c.in-Err.ensures.cause)
+
+pub returns-in-Ok-clause-backed : goal.returns-in-Ok-clause-backed
+returns-in-Ok-clause-backed g c = loaded_backed (g.D.Logged.log c.args.disk.now) (g.D.Logged.log c.read_chunk.new.disk) g.sent c.site-site.result.name (Ok c.in-Ok.count) c.in-Ok.ensures.told
+
+pub returns-in-Err-clause-backed : goal.returns-in-Err-clause-backed
+returns-in-Err-clause-backed g c = loaded_backed (g.D.Logged.log c.args.disk.now) (g.D.Logged.log c.read_chunk.new.disk) g.sent c.site-site.result.name (Err c.in-Err.fault) c.in-Err.ensures.told

@@ -8,6 +8,7 @@ use Rattle.pp_store.specs.Kept.{KeptMap}
 use Rattle.pp_store.specs.Held.{Holds, Covers}
 use Rattle.pp_store.proofs.Names.{site-name}
 use Rattle.pp_store.proofs.Calls.{withdrawn_holds, withdrawn_covers, lost_holds, lost_covers}
+use Rattle.pp_store.proofs.Backing.{removed_backed}
 use Rattle.pp_store.proofs.store.Store.withdraw.Goals as goal
 
 pub returns-in-Ok-clause-ops : goal.returns-in-Ok-clause-ops
@@ -59,3 +60,9 @@ pub returns-in-Err-clause-covers : goal.returns-in-Err-clause-covers
 returns-in-Err-clause-covers g c told =
     subst (λ (w : KeptMap). Told (g.D.Logged.log c.remove.new.disk) (Covers w)) (sym c.lose.ensures)
     (lost_covers _ _ _ g.sent c.args.self.now c.args.key.now c.site-site.ensures.names c.requires.1.0 (refl, tt) (returns-in-Err-clause-others g c) false (returns-in-Err-clause-ops g c) told)
+
+pub returns-in-Ok-clause-backed : goal.returns-in-Ok-clause-backed
+returns-in-Ok-clause-backed g c = removed_backed _ _ g.sent _ c.in-Ok.ensures.old_or_none c.in-Ok.ensures.others
+
+pub returns-in-Err-clause-backed : goal.returns-in-Err-clause-backed
+returns-in-Err-clause-backed g c = removed_backed _ _ g.sent _ c.in-Err.ensures.old_or_none c.in-Err.ensures.others
