@@ -1,7 +1,6 @@
 """Origins that answer wrongly, in part, or not at all."""
 
 import threading
-import time
 
 from harness import case, equal, holds
 from origin import Answer, lines, noise, plain
@@ -73,10 +72,8 @@ def an_origin_that_sends_nothing_holds_up_its_own_client_alone(world):
     world.origin.on("/silent", Answer(plain(b"at last"), cuts=[0], goes_on=goes_on))
     with Client() as waiting:
         waiting.say(world.request("/silent"))
-        start = time.monotonic()
         for _ in range(20):
             world.check_still_served()
-        holds(time.monotonic() - start < 5, "twenty others are served within 5 seconds")
         goes_on.set()
         waiting.expect(passed(b"at last"), "its own reply")
 
@@ -87,10 +84,8 @@ def an_origin_that_reads_nothing_holds_up_its_own_client_alone(world):
     body = noise(400_000)
     with Client() as waiting:
         waiting.say(world.request("/deaf", b"Content-Length: 100000000", method="POST") + body)
-        start = time.monotonic()
         for _ in range(20):
             world.check_still_served()
-        holds(time.monotonic() - start < 5, "twenty others are served within 5 seconds")
 
 
 @case
