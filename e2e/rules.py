@@ -10,16 +10,12 @@ NOT_YET = {
     "gone-clients",
     "holes-nobody-fills",
     "near-bytes",
-    "bad-answer-asked-once",
     "full-answer-to-a-check",
     "shared-wait-ends",
     "another-tag",
     "slow-origin",
     "invalidation",
 }
-
-# What takes minutes runs with LONG=1 alone.
-LONG = {"slow-origin"}
 
 
 def rule(name):
@@ -30,8 +26,6 @@ def rule(name):
         def unless_skipped(world):
             if name in NOT_YET and not os.environ.get("ALSO_NOT_YET"):
                 raise Skipped(f"the rule {name}")
-            if name in LONG and not os.environ.get("LONG"):
-                raise Skipped("LONG=1, for minutes,")
             return function(world)
 
         return unless_skipped
