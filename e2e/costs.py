@@ -123,6 +123,24 @@ def each_seek_of_a_player_costs_what_it_plays_and_256_chunks(world):
     flows = Flows(world.origin, "/film", 200 * MB, TAG, FRESH, held_at=TAKEN)
     for first in [0, 150 * MB, 50 * MB]:
         take_and_go(world, flows, "/film", Client.reset, b"Range: bytes=%d-" % first)
-    sent = flows.wait()
+        sent = flows.wait()
     equal(len(sent), 3, "asks")
+    holds(all(count <= TAKEN + NEAR + MORE for count in sent), f"256 chunks behind each place in place of {sent}")
+
+
+@case
+@rule("left-places")
+def what_is_fetched_for_one_place_ends_though_its_readers_were_last_elsewhere(world):
+    # the last that left was elsewhere: what comes from the front on is not near there
+    flows = Flows(world.origin, "/long-film", 200 * MB, TAG, FRESH, held_at=TAKEN)
+    with Client() as player, Client() as elsewhere:
+        for client, first in [(player, 0), (elsewhere, 150 * MB)]:
+            client.say(world.request("/long-film", b"Range: bytes=%d-" % first))
+            client.hear_until(b"\r\n\r\n")
+            client.hear(TAKEN)
+        player.reset()
+        elsewhere.reset()
+    for flow in flows.all:
+        flow.goes_on.set()
+    sent = flows.wait()
     holds(all(count <= TAKEN + NEAR + MORE for count in sent), f"256 chunks behind each place in place of {sent}")

@@ -8,6 +8,7 @@ from harness import Skipped
 # The tests of these are skipped by name; with ALSO_NOT_YET=1 in the environment they run.
 NOT_YET = {
     "gone-clients",
+    "left-places",
     "holes-nobody-fills",
     "near-bytes",
     "full-answer-to-a-check",
