@@ -54,6 +54,7 @@ def an_end_at_any_byte_of_the_head_is_502_and_behind_it_a_cut(world):
     text = plain(b"hello")
     head = len(text) - 5
     for count in range(len(text)):
+        world.origin.clear()
         world.origin.on(f"/any/{count}", Answer(text[:count], then="end"))
         with Client() as client:
             client.say(world.last_request(f"/any/{count}"))
@@ -64,6 +65,8 @@ def an_end_at_any_byte_of_the_head_is_502_and_behind_it_a_cut(world):
         else:
             wanted = passed(b"hello", b"close")
             equal(heard, wanted[: count - len(text)], f"the reply where the origin ends after {count} bytes")
+        # three, and three more without what is known of it
+        holds(len(world.origin.asked) <= 6, f"6 asks at most in place of {len(world.origin.asked)}")
 
 
 @case
