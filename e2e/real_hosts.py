@@ -87,6 +87,40 @@ def what_cannot_be_completed_is_fetched_anew(world):
         equal(texts[1], body, f"the body where the {name} was held")
 
 
+PAGE = noise(100_000)
+# answers to an ask for what is missing which do not bring it
+UNFIT = {
+    "a part without a tag": lambda asked: part(PAGE, asked, FRESH),
+    "a part with a weak tag": lambda asked: part(PAGE, asked, b'ETag: W/"x"', FRESH),
+    "a part of no known length": lambda asked: part(PAGE, asked, TAG, FRESH).replace(b"/100000", b"/*"),
+    "another part": lambda asked: part(PAGE, b"bytes=50000-50099", TAG, FRESH),
+    "a refusal": lambda asked: response(b"no", status=b"403 Forbidden"),
+    "a fault": lambda asked: response(b"no", status=b"500 Internal Server Error"),
+    "another place": lambda asked: response(b"", b"Location: /", status=b"302 Found"),
+    "no range": lambda asked: response(b"", b"Content-Range: bytes */100000", status=b"416 Range Not Satisfiable"),
+    "nothing new": lambda asked: lines(b"HTTP/1.1 304 Not Modified", TAG),
+}
+
+
+@case
+@rule("holes-nobody-fills")
+def what_no_answer_completes_is_fetched_anew(world):
+    # where its front is held, a reply may have begun, and is cut; then nothing of it is known any more
+    for name, unfit in UNFIT.items():
+        for held, span in [("front", b"bytes=0-4095"), ("end", b"bytes=98304-")]:
+            path = f"/{name.replace(' ', '-')}/{held}"
+            world.origin.on(path, lambda ask: Answer(part(PAGE, ask.field(b"range"), TAG, FRESH)))
+            bodies = []
+            for fields in [[b"Range: " + span], [], []]:
+                with Client() as client:
+                    client.say(world.last_request(path, *fields))
+                    bodies.append(client.hear_all().partition(b"\r\n\r\n")[2])
+                whole = response(PAGE, TAG, FRESH)
+                world.origin.on(path, lambda ask: Answer(unfit(ask.field(b"range")) if ask.field(b"range") else whole))
+            holds(bodies[1] == PAGE or (held == "front" and PAGE.startswith(bodies[1])), f"the body, or its front, where {name} comes")
+            holds(bodies[2] == PAGE, f"the whole body where {name} came and its {held} was held")
+
+
 @case
 @rule("host-connections")
 def four_downloads_hold_up_nobody_else(world):

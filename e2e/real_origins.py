@@ -133,7 +133,7 @@ def a_304_of_another_version_is_no_answer(world):
 
 
 @case
-@rule("another-tag")
+@rule("shown-in-passing")
 def what_a_passed_answer_shows_is_believed(world):
     # RFC 2616, 9.4 for HEAD: the entry MUST be treated as stale; 404 and 410 say that there is nothing
     shown = {

@@ -13,7 +13,7 @@ NOT_YET = {
     "near-bytes",
     "full-answer-to-a-check",
     "shared-wait-ends",
-    "another-tag",
+    "shown-in-passing",
     "slow-origin",
     "invalidation",
 }
