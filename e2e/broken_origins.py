@@ -1,7 +1,6 @@
 """Origins that answer wrongly, in part, or not at all."""
 
 import threading
-import time
 
 from harness import case, equal, holds
 from origin import Answer, lines, noise, plain
@@ -55,6 +54,7 @@ def an_end_at_any_byte_of_the_head_is_502_and_behind_it_a_cut(world):
     text = plain(b"hello")
     head = len(text) - 5
     for count in range(len(text)):
+        world.origin.clear()
         world.origin.on(f"/any/{count}", Answer(text[:count], then="end"))
         with Client() as client:
             client.say(world.last_request(f"/any/{count}"))
@@ -65,6 +65,8 @@ def an_end_at_any_byte_of_the_head_is_502_and_behind_it_a_cut(world):
         else:
             wanted = passed(b"hello", b"close")
             equal(heard, wanted[: count - len(text)], f"the reply where the origin ends after {count} bytes")
+        # three, and three more without what is known of it
+        holds(len(world.origin.asked) <= 6, f"6 asks at most in place of {len(world.origin.asked)}")
 
 
 @case
@@ -73,10 +75,8 @@ def an_origin_that_sends_nothing_holds_up_its_own_client_alone(world):
     world.origin.on("/silent", Answer(plain(b"at last"), cuts=[0], goes_on=goes_on))
     with Client() as waiting:
         waiting.say(world.request("/silent"))
-        start = time.monotonic()
         for _ in range(20):
             world.check_still_served()
-        holds(time.monotonic() - start < 5, "twenty others are served within 5 seconds")
         goes_on.set()
         waiting.expect(passed(b"at last"), "its own reply")
 
@@ -87,10 +87,8 @@ def an_origin_that_reads_nothing_holds_up_its_own_client_alone(world):
     body = noise(400_000)
     with Client() as waiting:
         waiting.say(world.request("/deaf", b"Content-Length: 100000000", method="POST") + body)
-        start = time.monotonic()
         for _ in range(20):
             world.check_still_served()
-        holds(time.monotonic() - start < 5, "twenty others are served within 5 seconds")
 
 
 @case

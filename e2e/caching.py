@@ -5,8 +5,8 @@ import re
 import subprocess
 import threading
 
-from harness import case, environment, equal, holds, need, together
-from origin import Answer, lines, noise, response
+from harness import TOOL_SECONDS, case, environment, equal, holds, need, together
+from origin import Answer, lines, noise, part, response, span_of
 from world import VIA, Client, reply, reply_head
 
 TAG = b'"x"'
@@ -27,13 +27,6 @@ def fresh(body, date):
     return response(body, b"Date: " + date, b"ETag: " + TAG, FRESH)
 
 
-def part(body, first, last, date):
-    """The bytes from the first to the last, inclusive."""
-    span = b"Content-Range: bytes %d-%d/%d" % (first, last, len(body))
-    fields = [b"Date: " + date, b"ETag: " + TAG, FRESH, span]
-    return response(body[first : last + 1], *fields, status=b"206 Partial Content")
-
-
 def said(proxy, path, *fields):
     """What one more client is said, up to the end of its connection, without its age, which is told beside."""
     with Client(port=proxy.port) as client:
@@ -42,12 +35,6 @@ def said(proxy, path, *fields):
     head, end, body = text.partition(b"\r\n\r\n")
     age = re.search(rb"\r\nage: (\d+)", head)
     return re.sub(rb"\r\nage: \d+", b"", head) + end + body, age and int(age.group(1))
-
-
-def asked_range(ask):
-    """The offsets that were asked for, inclusive."""
-    first, last = ask.field(b"range").removeprefix(b"bytes=").split(b"-")
-    return int(first), int(last)
 
 
 @case
@@ -92,11 +79,11 @@ def a_broken_download_goes_on_where_it_stopped(world):
         def answer(ask):
             if ask.field(b"range") is None:
                 return Answer(fresh(body, date)[:-60_000], then="end")
-            return Answer(part(body, *asked_range(ask), date))
+            return Answer(part(body, ask.field(b"range"), b"Date: " + date, b"ETag: " + TAG, FRESH))
 
         proxy.origin.on("/big", answer)
         equal(said(proxy, "/big")[0], reply(body, *kept(date), connection=b"close"), "the whole body")
-        first, last = asked_range(proxy.origin.asked[1])
+        first, last = span_of(proxy.origin.asked[1].field(b"range"), len(body))
         holds(first <= 40_000 and last == len(body) - 1, f"a range from where it stopped in place of {first}-{last}")
         equal(proxy.origin.asked[1].field(b"if-range"), TAG, "the version that is asked for")
 
@@ -170,8 +157,7 @@ def curl_goes_on_with_a_download_that_it_cut(world):
         date = now()
         proxy.origin.on("/file", Answer(fresh(body, date)))
         words = ["curl", "-sS", "-x", f"127.0.0.1:{proxy.port}", proxy.url("/file")]
-        run = lambda *more: subprocess.run([*words, *more], capture_output=True, timeout=20, env=environment()).stdout
+        run = lambda *more: subprocess.run([*words, *more], capture_output=True, timeout=TOOL_SECONDS, env=environment()).stdout
         equal(run("-r", "0-19999") + run("-r", "20000-"), body, "both parts")
         equal(run(), body, "the whole")
-        first, last = asked_range(proxy.origin.asked[0])
-        equal((first, last), (0, 19_999), "the range that was asked for")
+        equal(proxy.origin.asked[0].field(b"range"), b"bytes=0-19999", "the range that was asked for")

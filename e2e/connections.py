@@ -170,7 +170,7 @@ def many_requests_wait_while_the_first_is_answered(world):
     world.origin.on("/wait", Answer(plain(b"slow"), cuts=[0], pause=0.3))
     small = world.request("/probe")
     count = 500
-    with Client(seconds=20) as client:
+    with Client() as client:
         client.say(world.request("/wait"))
         client.say(small * count)
         client.expect(passed(b"slow"))

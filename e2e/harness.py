@@ -7,7 +7,9 @@ import threading
 import time
 import traceback
 
-CASE_SECONDS = 30
+CASE_SECONDS = 60
+# So long a tool may take, on a machine that is busy too.
+TOOL_SECONDS = 50
 SHOWN_BYTES = 600
 
 _cases = []
@@ -62,7 +64,7 @@ def holds(condition, sentence):
         raise Failed(f"    wanted: {sentence}")
 
 
-def together(jobs, seconds=20):
+def together(jobs, seconds=40):
     """Runs all jobs at once, for so long at most. Answers the failures."""
     failures = []
 
@@ -93,11 +95,11 @@ def _out_of_time(signum, frame):
 
 
 def _run(function, world):
-    """Runs one test, and then sees that everyone else is still served."""
+    """Runs one test, and then sees that the program printed nothing, and that everyone else is still served."""
     signal.alarm(getattr(function, "seconds", CASE_SECONDS))
     try:
         said = function(world)
-        world.check_still_served()
+        world.check_well()
         return said
     finally:
         signal.alarm(0)
@@ -118,21 +120,20 @@ def _judge(function, world):
     return "passed", f"{seconds}, {said}" if said else seconds
 
 
-def run_all(world, wanted=""):
-    """Runs the tests whose sentence has this in it. Answers how many passed, and how many failed."""
+def _sentence(function):
+    return function.__name__.replace("_", " ")
+
+
+def cases(subject, wanted=""):
+    """The tests of a subject whose sentence has this in it."""
+    return [function for function in _cases if function.__module__ == subject and wanted in _sentence(function)]
+
+
+def run_each(functions, world):
+    """Runs these tests. Gives of each its verdict, its sentence, and what it says beside."""
     signal.signal(signal.SIGALRM, _out_of_time)
-    counts = {"passed": 0, "FAILED": 0, "skipped": 0}
-    for function in _cases:
-        sentence = function.__name__.replace("_", " ")
-        if wanted not in sentence:
-            continue
+    for function in functions:
         verdict, beside = _judge(function, world)
-        counts[verdict] += 1
-        print(f"{verdict}: {sentence}: {beside}", flush=True)
+        yield verdict, _sentence(function), beside
         if verdict == "FAILED":
             world.restart()
-    if not any(counts.values()):
-        raise Failed(f"no test has {wanted!r} in its sentence")
-    if counts["skipped"]:
-        print(f"{counts['skipped']} skipped")
-    return counts["passed"], counts["FAILED"]

@@ -22,13 +22,13 @@ sys.path.insert(1, str(pathlib.Path(__file__).resolve().parent.parent / "transcr
 
 from exchanges import Malformed, replies_of
 from harness import case, holds, lasting
-from named_origin import Names, NamedOrigin, body_of, span_of
-from origin import abort
+from named_origin import Names, NamedOrigin, body_of
+from origin import abort, span_of
 
 CLIENTS = 36
 ORIGINS = 12
 PATHS = 2
-PATIENCE = 20.0  # within which everything that is asked is answered
+PATIENCE = 40.0  # within which everything that is asked is answered
 CASE_SECONDS = 30
 PAGES = {400, 411, 416, 431, 500, 502, 504}
 FIELDS = [[]] * 4 + [[b"Cache-Control: no-cache"]] * 3 + [[b"Cache-Control: no-store"], [b"Cache-Control: only-if-cached"]]

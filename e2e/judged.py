@@ -5,7 +5,7 @@ import re
 import subprocess
 import sys
 
-from harness import Skipped, case, holds
+from harness import TOOL_SECONDS, Skipped, case, holds
 
 TOP = pathlib.Path(__file__).resolve().parent.parent
 TRANSCRIPTS = TOP / "transcripts"
@@ -14,7 +14,7 @@ LIVES = TOP / "crates/pp_seeds/stdout"
 
 def see(*words):
     """Runs the judge. Answers whether it is content, and what it printed."""
-    run = subprocess.run([sys.executable, "-B", TRANSCRIPTS / "clients_view.py", *words], capture_output=True, text=True, timeout=25)
+    run = subprocess.run([sys.executable, "-B", TRANSCRIPTS / "clients_view.py", *words], capture_output=True, text=True, timeout=TOOL_SECONDS)
     return run.returncode == 0, run.stdout + run.stderr
 
 

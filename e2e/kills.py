@@ -10,7 +10,7 @@ import subprocess
 import tempfile
 import time
 
-from harness import Failed, case, equal, holds
+from harness import TOOL_SECONDS, Failed, case, equal, holds
 
 # Keeps bodies of a known pattern in a folder, and prints a line for each extent that is acknowledged.
 KEEPER = pathlib.Path(__file__).resolve().parent.parent / "crates/pp_keeper/out/pp_keeper"
@@ -68,7 +68,7 @@ def lines_until(process, deadline):
 def output_of(process):
     """What it prints up to its end, which comes within 15 seconds."""
     try:
-        return process.communicate(timeout=15)[0]
+        return process.communicate(timeout=TOOL_SECONDS)[0]
     finally:
         process.kill()
 

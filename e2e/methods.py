@@ -222,7 +222,7 @@ def bodies_of_200_megabytes_pass_in_bounded_memory(world):
     world.origin.on("/up", Answer(plain(b"thanks")))
     world.origin.clear()
     start = time.monotonic()
-    with Client(seconds=20) as client:
+    with Client() as client:
         client.say(world.request("/down"))
         client.expect(passed(body)[: -len(body)], "the head")
         digest, left = hashlib.sha256(), len(body)
@@ -251,7 +251,7 @@ def ten_bodies_go_up_at_once(world):
 
     def job(body):
         def send():
-            with Client(seconds=15) as client:
+            with Client() as client:
                 client.say(world.request("/up", length(len(body)), method="POST") + body)
                 client.expect(passed(b"thanks"))
 

@@ -11,7 +11,7 @@ import socket
 import threading
 import time
 
-from origin import abort, chunked
+from origin import abort, accepted, chunked, linger, read_head, span_of
 
 FRESH = [b"max-age=60"] * 5 + [b"max-age=0", b"no-cache", b"max-age=1", b"private", b"no-store"]
 LENGTHS = [0, 1, 100, 4_095, 4_096, 4_100, 4_100, 8_192, 9_000, 9_000, 20_000, 70_000]
@@ -70,25 +70,17 @@ class NamedOrigin:
         self._listener.close()
 
     def _accept(self):
-        while True:
-            try:
-                connection, _ = self._listener.accept()
-            except OSError:
-                return  # it was closed
+        for connection in accepted(self._listener):
             connection.settimeout(30)
-            connection.setsockopt(socket.IPPROTO_TCP, socket.TCP_NODELAY, 1)
             threading.Thread(target=self._serve, args=(connection,), daemon=True).start()
 
     def _serve(self, connection):
         waiting = b""
         with contextlib.suppress(OSError), connection:
             while True:
-                while b"\r\n\r\n" not in waiting:
-                    more = connection.recv(65536)
-                    if not more:
-                        return
-                    waiting += more
-                head, _, waiting = waiting.partition(b"\r\n\r\n")
+                head, waiting = read_head(connection, waiting)
+                if not head:
+                    return
                 with self._lock:
                     seed = self._random.random()
                 if not self._answer(random.Random(seed), connection, head):
@@ -96,7 +88,7 @@ class NamedOrigin:
 
     def _answer(self, generator, connection, head):
         """Answers an ask. False where the connection ends with it."""
-        line, *fields = head.split(b"\r\n")
+        line, *fields = head.removesuffix(b"\r\n\r\n").split(b"\r\n")
         method, path = line.split(b" ")[:2]
         asked = dict(field.split(b": ", 1) for field in fields)
         place = self.paths[path.decode()]
@@ -113,10 +105,7 @@ class NamedOrigin:
         if then == "break":
             abort(connection)
         elif then == "end":
-            connection.shutdown(socket.SHUT_WR)
-            connection.settimeout(2)
-            while connection.recv(65536):
-                pass
+            linger(connection)
         return then == "keep"
 
     # ---- what it answers
@@ -199,11 +188,3 @@ class NamedOrigin:
         head = [b"HTTP/1.1 206 Partial Content", b"X-Name: %d" % name, *fields]
         head += [b"Content-Range: bytes %d-%d/%d" % (first, last, length), b"Content-Length: %d" % len(body)]
         return b"\r\n".join(head) + b"\r\n\r\n" + (body if method != b"HEAD" else b""), False
-
-
-def span_of(asked, length):
-    """The first and last byte that a range asks for; the last below the first where there is none."""
-    first, _, last = asked.removeprefix(b"bytes=").partition(b"-")
-    if not first:
-        return max(0, length - int(last)), length - 1
-    return int(first), min(int(last), length - 1) if last else length - 1

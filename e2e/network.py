@@ -1,11 +1,14 @@
 """The loopback of a network of our own, which begins down, and its ports."""
 
+import contextlib
 import fcntl
+import pathlib
+import random
 import socket
 import struct
 import time
 
-START_SECONDS = 10
+START_SECONDS = 20
 SIOCGIFFLAGS, SIOCSIFFLAGS, IFF_UP = 0x8913, 0x8914, 1
 
 
@@ -18,10 +21,13 @@ def raise_loopback():
 
 
 def free_port():
-    """A TCP port of 127.0.0.1 that nobody listens on."""
-    with socket.socket() as any_socket:
-        any_socket.bind(("127.0.0.1", 0))
-        return any_socket.getsockname()[1]
+    """A TCP port of 127.0.0.1 that nobody listens on, and none that the system gives to a connection of its own accord."""
+    lowest = int(pathlib.Path("/proc/sys/net/ipv4/ip_local_port_range").read_text().split()[0])
+    while True:
+        port = random.randrange(10_000, max(lowest, 20_000))
+        with socket.socket() as any_socket, contextlib.suppress(OSError):
+            any_socket.bind(("127.0.0.1", port))
+            return port
 
 
 def wait_until_it_listens(process, port, seconds=START_SECONDS):

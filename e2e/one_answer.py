@@ -9,7 +9,7 @@ import threading
 import time
 
 from harness import case, equal, holds, lasting, together
-from origin import chunked, lines, noise, response
+from origin import chunked, lines, noise, part, response
 from played import Played
 from world import LENGTH_REQUIRED, Client, reply, reply_head
 
@@ -22,10 +22,9 @@ MOMENT = 0.15  # in which what was sent is read
 TEN = b"BBBBBBBBBB"
 
 
-def part(first, last, tag=TAG, body=BODY):
+def span(first, last, tag=TAG, body=BODY):
     """The bytes from the first to the last, inclusive."""
-    span = b"Content-Range: bytes %d-%d/%d" % (first, last, len(body))
-    return response(body[first : last + 1], tag, FRESH, span, status=b"206 Partial Content")
+    return part(body, b"bytes=%d-%d" % (first, last), tag, FRESH)
 
 
 def heard(client, seconds=SECONDS):
@@ -42,7 +41,7 @@ def hold_an_end(world, origin, client, *fields):
     """This client asks for a body whose end is held. Answers its ask for the rest, which is not answered yet."""
     with Client(port=world.port) as before:
         before.say(origin.request("/b", b"Range: bytes=4096-4099"))
-        origin.take("the ask for the end").say(part(4096, 4099))
+        origin.take("the ask for the end").say(span(4096, 4099))
         before.hear_until(BODY[4096:])
     client.say(origin.request("/b", *fields) + origin.request("/next", b"Connection: close"))
     hole = origin.take("the ask for the rest")
@@ -77,7 +76,8 @@ LATE = {
     "a chunk": (lines(OK, b"Transfer-Encoding: chunked") + b"5\r\nAAAAA\r\n", "keep"),
     "all chunks": (lines(OK, b"Transfer-Encoding: chunked") + chunked(b"AAAAA"), "keep"),
     "a body to the end": (lines(OK) + b"AAAAA", "end"),
-    "a part without a tag": (part(0, 4095, b"X: y"), "keep"),
+    "a part without a tag": (span(0, 4095, b"X: y"), "keep"),
+    "a part of another version": (span(0, 4095, b'ETag: "z"'), "keep"),
     "a fault": (response(b"AAA", status=b"503 Service Unavailable"), "keep"),
     "nothing new": (lines(b"HTTP/1.1 304 Not Modified"), "keep"),
     "garbage": (b"SSH-2.0-OpenSSH_9.6\r\n" * 10, "keep"),
@@ -123,7 +123,7 @@ def each(of_late):
         one.__name__ = f"{name}, coming late"
         return one
 
-    failures = together([job(name) for name in LATE], seconds=28)
+    failures = together([job(name) for name in LATE])
     holds(not failures, "each as it is in place of\n    " + "\n    ".join(failures))
 
 
@@ -142,10 +142,10 @@ def one_reply_is_one_response(world):
 @lasting(70)
 @case
 def one_reply_is_one_response_also_where_a_part_is_passed(world):
-    span = b"Content-Range: bytes 4090-4099/4100"
+    place = b"Content-Range: bytes 4090-4099/4100"
     head = [b"content-range: bytes 4090-4099/4100", *reply(b"").split(b"\r\n")[1:2], b"content-length: 10"]
     wanted = reply_head(*head, status=b"206 Partial Content") + TEN
-    all_told(world, response(TEN, span, status=b"206 Partial Content"), wanted, b"Range: bytes=-4100")
+    all_told(world, response(TEN, place, status=b"206 Partial Content"), wanted, b"Range: bytes=-4100")
 
 
 @lasting(70)
@@ -189,33 +189,46 @@ def a_check_of_another_version_is_told_alone(world):
 GONE = response(b"gone", status=b"404 Not Found")
 
 
+# what an origin does to a client that waits behind an answer which has nobody that reads it
+BEHIND = {
+    "it is answered": lambda ask: ask.say(GONE),
+    "its connection ends": lambda ask: ask.end(),
+    "its connection breaks": lambda ask: ask.break_off(),
+}
+
+
 @case
 def nobody_waits_for_what_nobody_reads(world):
-    # one ask waits behind another, whose answer has nobody that reads it
     body = noise(8192)
-    with Played() as origin, contextlib.ExitStack() as clients:
+    with world.anew("pipelineAsks=1", "hostConnections=4") as proxy:
 
-        def asking(path, *fields):
-            client = clients.enter_context(Client(port=world.port))
-            client.say(origin.request(path, *fields))
-            return client
+        def one(then):
+            with Played() as origin, contextlib.ExitStack() as clients:
 
-        first = asking("/r", b"Range: bytes=0-4095")
-        origin.take("the ask for the front").say(part(0, 4095, body=body))
-        first.hear_until(body[:4096])
-        asking("/r", b"Range: bytes=4000-4999")
-        hole = origin.take("the ask for the rest of a part")
-        busy = [asking(f"/{number}", b"Cache-Control: no-store") for number in range(3)]
-        held = [origin.take("an ask on a connection of its own") for _ in busy]
-        waiting = asking("/r", b"Range: bytes=5000-8191")
-        behind = origin.take_if_any(0.5)  # none where it waits for a connection of its own
-        origin.always("/r", GONE)
-        hole.say(response(b"e" * 20_000))
-        if behind is not None:
-            behind.say(GONE)
-        for other in held:
-            other.say(lines(b"HTTP/1.1 204 No Content"))
-        equal(heard(waiting), reply(b"gone", status=b"404 Not Found"), "the reply to the one that waits")
+                def asking(path, *fields):
+                    client = clients.enter_context(Client(port=proxy.port))
+                    client.say(origin.request(path, *fields))
+                    return client
+
+                first = asking("/r", b"Range: bytes=0-4095")
+                origin.take("the ask for the front").say(span(0, 4095, body=body))
+                first.hear_until(body[:4096])
+                asking("/r", b"Range: bytes=4000-4999")
+                hole = origin.take("the ask for the rest of a part")
+                busy = [asking(f"/{number}", b"Cache-Control: no-store") for number in range(3)]
+                held = [origin.take("an ask on a connection of its own") for _ in busy]
+                waiting = asking("/r", b"Range: bytes=5000-8191")
+                behind = origin.take("the ask behind another")
+                holds(behind.connection is hole.connection, "the ask behind the one for the rest")
+                origin.always("/r", GONE)
+                hole.say(response(b"e" * 20_000))
+                BEHIND[then](behind)
+                for other in held:
+                    other.say(lines(b"HTTP/1.1 204 No Content"))
+                waiting.expect(reply(b"gone", status=b"404 Not Found"), f"the reply to the one that waits, where {then}")
+
+        for then in BEHIND:
+            one(then)
 
 
 @case

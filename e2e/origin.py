@@ -9,6 +9,8 @@ import time
 
 DATE = b"Date: Sun, 06 Nov 1994 08:49:37 GMT"
 KEPT_BYTES = 100_000
+# So long it holds back what it was not told to send yet: longer than any client waits.
+HELD_SECONDS = 60
 NOISE = bytes((31 * i + i // 251) % 256 for i in range(65521))
 GONE = select.POLLRDHUP | select.POLLHUP | select.POLLERR
 
@@ -34,9 +36,25 @@ def chunked(*pieces):
     return b"".join(b"%x\r\n%b\r\n" % (len(piece), piece) for piece in pieces) + b"0\r\n\r\n"
 
 
-def noise(count):
-    """Bytes that repeat late, so that a byte in a wrong place shows."""
-    return (NOISE * (count // len(NOISE) + 1))[:count]
+def span_of(asked, length):
+    """The first and the last byte that a range asks for, of so many; the last below the first where there is none."""
+    first, _, last = asked.removeprefix(b"bytes=").partition(b"-")
+    if not first:
+        return max(0, length - int(last)), length - 1
+    return int(first), min(int(last), length - 1) if last else length - 1
+
+
+def part(body, asked, *fields):
+    """The response of what a range asks for of this body (RFC 7233, section 4.1)."""
+    first, last = span_of(asked, len(body))
+    place = b"Content-Range: bytes %d-%d/%d" % (first, last, len(body))
+    return response(body[first : last + 1], *fields, place, status=b"206 Partial Content")
+
+
+def noise(count, first=0):
+    """Bytes that repeat late, so that a byte in a wrong place shows: so many of them, from this one on."""
+    start = first % len(NOISE)
+    return (NOISE * ((start + count) // len(NOISE) + 1))[start : start + count]
 
 
 def abort(connection):
@@ -63,7 +81,7 @@ class Answer:
     def give(self, connection):
         for number, (start, end) in enumerate(zip([0] + self.cuts, self.cuts + [len(self.text)])):
             if number and self.goes_on:
-                self.goes_on.wait(10)
+                self.goes_on.wait(HELD_SECONDS)
             connection.sendall(self.text[start:end])
             if self.pause:
                 time.sleep(self.pause)
@@ -160,11 +178,7 @@ class Origin:
         return [ask.text() for ask in self.asked]
 
     def _accept(self):
-        while True:
-            try:
-                connection, _ = self._listener.accept()
-            except OSError:
-                return  # it was closed
+        for connection in accepted(self._listener):
             with self._lock:
                 self.connections += 1
                 self._open.add(connection)
@@ -173,7 +187,6 @@ class Origin:
             threading.Thread(target=self._serve, args=(connection,), daemon=True).start()
 
     def _serve(self, connection):
-        connection.setsockopt(socket.IPPROTO_TCP, socket.TCP_NODELAY, 1)
         try:
             self._answer_all(connection)
         except OSError:
@@ -186,13 +199,10 @@ class Origin:
     def _answer_all(self, connection):
         waiting = b""
         while True:
-            while b"\r\n\r\n" not in waiting:
-                more = connection.recv(65536)
-                if not more:
-                    return
-                waiting += more
-            head, _, waiting = waiting.partition(b"\r\n\r\n")
-            ask = Ask(head + b"\r\n\r\n")
+            head, waiting = read_head(connection, waiting)
+            if not head:
+                return
+            ask = Ask(head)
             answer = self.answers.get(ask.path, NOT_FOUND)
             if callable(answer):
                 answer = answer(ask)
@@ -215,12 +225,34 @@ class Origin:
 NOT_FOUND = Answer(response(b"", status=b"404 Not Found"))
 
 
+def accepted(listener):
+    """Each connection that is made, until the listener is closed."""
+    while True:
+        try:
+            connection, _ = listener.accept()
+        except OSError:
+            return  # it was closed
+        connection.setsockopt(socket.IPPROTO_TCP, socket.TCP_NODELAY, 1)
+        yield connection
+
+
 def count_open(connections):
     """How many of these the other side has not closed."""
     poll = select.poll()
     for connection in connections:
         poll.register(connection, GONE)
     return len(connections) - len(poll.poll(0))
+
+
+def read_head(connection, waiting):
+    """The next head, of which this came already, and what came behind it; none where the other side ends before."""
+    while b"\r\n\r\n" not in waiting:
+        more = connection.recv(65536)
+        if not more:
+            return b"", b""
+        waiting += more
+    head, end, waiting = waiting.partition(b"\r\n\r\n")
+    return head + end, waiting
 
 
 def read_body(connection, ask, waiting):
@@ -248,4 +280,4 @@ def wait_until_gone(connection):
     """Leaves all that comes unread until the other side closes."""
     poll = select.poll()
     poll.register(connection, GONE)
-    poll.poll(10_000)
+    poll.poll(HELD_SECONDS * 1_000)

@@ -12,7 +12,7 @@ from world import PORT, VIA, Client, passed, reply
 def curl(*words, **options):
     """Runs curl through the proxy, and no variable of the environment changes that."""
     need("curl")
-    command = ["curl", "--silent", "--show-error", "--max-time", "20", "--proxy", f"127.0.0.1:{PORT}"]
+    command = ["curl", "--silent", "--show-error", "--max-time", "40", "--proxy", f"127.0.0.1:{PORT}"]
     return subprocess.run(command + list(words), capture_output=True, env=environment(), **options)
 
 

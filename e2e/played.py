@@ -6,9 +6,9 @@ import socket
 import threading
 
 from harness import Failed
-from origin import Ask, abort, read_body
+from origin import Ask, abort, accepted, lines, read_body, read_head
 
-WAIT_SECONDS = 15
+WAIT_SECONDS = 20
 
 
 class PlayedAsk(Ask):
@@ -62,7 +62,7 @@ class Played:
     def request(self, path, *fields, method="GET"):
         """A request to this origin, with these fields behind Host."""
         line = f"{method} http://{self.authority}{path} HTTP/1.1".encode()
-        return b"\r\n".join([line, b"Host: " + self.authority.encode(), *fields]) + b"\r\n\r\n"
+        return lines(line, b"Host: " + self.authority.encode(), *fields)
 
     def always(self, path, text):
         """On this path it answers this at once."""
@@ -81,26 +81,18 @@ class Played:
             return self._waiting.get(timeout=seconds)
 
     def _accept(self):
-        while True:
-            try:
-                connection, _ = self._listener.accept()
-            except OSError:
-                return  # it was closed
+        for connection in accepted(self._listener):
             self._connections.add(connection)
-            connection.setsockopt(socket.IPPROTO_TCP, socket.TCP_NODELAY, 1)
             threading.Thread(target=self._read, args=(connection,), daemon=True).start()
 
     def _read(self, connection):
         waiting = b""
         with contextlib.suppress(OSError):
             while True:
-                while b"\r\n\r\n" not in waiting:
-                    more = connection.recv(65536)
-                    if not more:
-                        return
-                    waiting += more
-                head, _, waiting = waiting.partition(b"\r\n\r\n")
-                ask = PlayedAsk(head + b"\r\n\r\n", connection)
+                head, waiting = read_head(connection, waiting)
+                if not head:
+                    return
+                ask = PlayedAsk(head, connection)
                 waiting = read_body(connection, ask, waiting)
                 self.asked.append(ask)
                 if ask.path in self._answers:

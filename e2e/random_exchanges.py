@@ -124,7 +124,7 @@ def session(generator, world, name):
     """One connection: some requests at once, and their replies in order. Answers how many."""
     count = generator.randint(1, 5)
     made = [some_exchange(generator, world, f"/{name}/{at}", at == count - 1) for at in range(count)]
-    with Client(seconds=20) as client:
+    with Client() as client:
         text = b"".join(text for _, text in made)
         saying = threading.Thread(target=say_at_random, args=(random.Random(generator.random()), client, text), daemon=True)
         saying.start()
@@ -152,5 +152,5 @@ def exchanges_at_random_come_out_right(world):
         connection.__name__ = f"connection {number}"
         return connection
 
-    equal(together([job(number) for number in range(CONNECTIONS)], seconds=25), [], "failures")
+    equal(together([job(number) for number in range(CONNECTIONS)]), [], "failures")
     return f"{sum(counts)} exchanges"

@@ -1,14 +1,14 @@
 """No host and no object is lost, no client gets another's, and nobody waits, and no byte comes, without need."""
 
 import contextlib
-import threading
 import time
 
-from harness import case, equal, holds, lasting
-from origin import Answer, lines, noise, response
+from flows import Flow, flow_from
+from harness import case, equal, holds
+from origin import Answer, lines, noise, part, response
 from played import Played
 from rules import rule
-from world import BAD_REQUEST, LAST_BAD_GATEWAY, Client, reply
+from world import BAD_REQUEST, LAST_BAD_GATEWAY, PATIENCE, Client, reply
 
 OK = b"HTTP/1.1 200 OK"
 TAG = b'ETag: "x"'
@@ -17,41 +17,26 @@ PLACES = 8  # connections to one host, by default
 MB = 1 << 20
 
 
-class Flow(Answer):
-    """A head, and then bytes until so many were sent or the other side went."""
-
-    def __init__(self, head, length, seconds_each=0.0, piece=65_536):
-        super().__init__(head, then="end")
-        self.length, self.seconds_each, self.piece = length, seconds_each, piece
-        self.sent, self.is_over = 0, threading.Event()
-
-    def give(self, connection):
-        try:
-            connection.sendall(self.text)
-            while self.sent < self.length:
-                connection.sendall(noise(min(self.piece, self.length - self.sent)))
-                self.sent += self.piece
-                time.sleep(self.seconds_each)
-        finally:
-            self.is_over.set()
+def endless():
+    """Sound without an end."""
+    return Flow(lines(OK, b"Content-Type: audio/mpeg"), 1 << 40, piece=1_000, seconds_each=0.05)
 
 
-def part(body, asked, *fields):
-    """What a range asks for of this body."""
-    first, _, last = asked.removeprefix(b"bytes=").partition(b"-")
-    first, last = int(first), min(int(last or len(body)), len(body) - 1)
-    place = b"Content-Range: bytes %d-%d/%d" % (first, last, len(body))
-    return response(body[first : last + 1], place, *fields, status=b"206 Partial Content")
+def expect_another_connection(world, origin, first, path, of_what):
+    """The next client's ask comes over another connection than this one."""
+    with Client(port=world.port) as other:
+        other.say(origin.request(path))
+        holds(origin.take().connection is not first.connection, f"another connection behind {of_what}")
 
 
-def told_soon(world, origin, path, seconds, wanted):
-    """A new client is told this in so many seconds."""
-    with Client(port=world.port, seconds=seconds) as client:
+def told_soon(world, origin, path, wanted):
+    """A new client is told this while all others stay as they are."""
+    with Client(port=world.port) as client:
         client.say(origin.request(path, b"Connection: close") if isinstance(origin, Played) else world.last_request(path))
         try:
             equal(client.hear_all(), wanted, f"what a client of {path} is told")
         except TimeoutError:
-            holds(False, f"an answer on {path} within {seconds} seconds")
+            holds(False, f"an answer on {path}")
 
 
 # ---- nothing is lost
@@ -61,52 +46,18 @@ def told_soon(world, origin, path, seconds, wanted):
 @rule("gone-clients")
 def a_radio_whose_listeners_went_holds_no_place(world):
     with world.anew() as proxy:
-        radio = [Flow(lines(OK, b"Content-Type: audio/mpeg"), 1 << 40, 0.1, 1_000) for _ in range(PLACES + 2)]
+        radio = [endless() for _ in range(PLACES + 2)]
         proxy.origin.on("/x", Answer(response(b"hello")))
         for number, flow in enumerate(radio):
             proxy.origin.on(f"/radio/{number}", flow)
-            with Client(port=proxy.port, seconds=5) as listener:
+            with Client(port=proxy.port) as listener:
                 listener.say(proxy.request(f"/radio/{number}"))
                 try:
                     holds(len(listener.hear(2_000)) == 2_000, "some sound")
                 except TimeoutError:
-                    holds(False, f"some sound within 5 seconds, behind {number} listeners that went")
-        told_soon(proxy, proxy, "/x", 5, reply(b"hello", connection=b"close"))
-        holds(all(flow.is_over.wait(5) for flow in radio), "each stream ends soon behind its listener")
-
-
-@case
-@rule("gone-clients")
-def a_download_that_was_given_up_is_not_read_to_its_end(world):
-    for name, fields, most in [("passed", [], 16 * MB), ("kept", [TAG, FRESH], 16 * MB)]:
-        flow = Flow(lines(OK, b"Content-Length: %d" % (64 * MB), *fields), 64 * MB)
-        world.origin.on(f"/given-up/{name}", flow)
-        with Client(port=world.port) as client:
-            client.say(world.request(f"/given-up/{name}"))
-            client.hear(100_000)
-        holds(flow.is_over.wait(10), "the origin's sending ends")
-        holds(flow.sent < most, f"less than {most} bytes of what was {name} in place of {flow.sent}")
-
-
-@case
-@rule("gone-clients")
-def a_resume_of_what_has_no_tag_is_sent_once(world):
-    length = 64 * MB
-    flows = []
-
-    def answer(ask):
-        first = int(ask.field(b"range").removeprefix(b"bytes=").partition(b"-")[0])
-        place = b"Content-Range: bytes %d-%d/%d" % (first, length - 1, length)
-        head = lines(b"HTTP/1.1 206 Partial Content", place, b"Content-Length: %d" % (length - first))
-        flows.append(Flow(head, length - first))
-        return flows[-1]
-
-    world.origin.on("/untagged", answer)
-    with Client(port=world.port, seconds=20) as client:
-        client.say(world.last_request("/untagged", b"Range: bytes=%d-" % (32 * MB + 1)))
-        client.hear_all()
-    sent = sum(flow.sent for flow in flows)
-    holds(sent < 45 * MB, f"32 MB and little more in place of {sent}")
+                    holds(False, f"some sound, behind {number} listeners that went")
+        told_soon(proxy, proxy, "/x", reply(b"hello", connection=b"close"))
+        holds(all(flow.is_over.wait(PATIENCE) for flow in radio), "each stream ends soon behind its listener")
 
 
 @case
@@ -136,17 +87,38 @@ def what_cannot_be_completed_is_fetched_anew(world):
         equal(texts[1], body, f"the body where the {name} was held")
 
 
-@lasting(110)
+PAGE = noise(100_000)
+# answers to an ask for what is missing which do not bring it
+UNFIT = {
+    "a part without a tag": lambda asked: part(PAGE, asked, FRESH),
+    "a part with a weak tag": lambda asked: part(PAGE, asked, b'ETag: W/"x"', FRESH),
+    "a part of no known length": lambda asked: part(PAGE, asked, TAG, FRESH).replace(b"/100000", b"/*"),
+    "another part": lambda asked: part(PAGE, b"bytes=50000-50099", TAG, FRESH),
+    "a refusal": lambda asked: response(b"no", status=b"403 Forbidden"),
+    "a fault": lambda asked: response(b"no", status=b"500 Internal Server Error"),
+    "another place": lambda asked: response(b"", b"Location: /", status=b"302 Found"),
+    "no range": lambda asked: response(b"", b"Content-Range: bytes */100000", status=b"416 Range Not Satisfiable"),
+    "nothing new": lambda asked: lines(b"HTTP/1.1 304 Not Modified", TAG),
+}
+
+
 @case
-@rule("slow-origin")
-def an_origin_that_thinks_is_asked_once(world):
-    with Played() as origin, Client(port=world.port, seconds=100) as client:
-        client.say(origin.request("/thinks", b"Connection: close"))
-        ask = origin.take()
-        other = origin.take_if_any(75)
-        holds(other is None, "one ask in 75 seconds")
-        ask.say(response(b"thought"))
-        equal(client.hear_all(), reply(b"thought", connection=b"close"), "the reply")
+@rule("holes-nobody-fills")
+def what_no_answer_completes_is_fetched_anew(world):
+    # where its front is held, a reply may have begun, and is cut; then nothing of it is known any more
+    for name, unfit in UNFIT.items():
+        for held, span in [("front", b"bytes=0-4095"), ("end", b"bytes=98304-")]:
+            path = f"/{name.replace(' ', '-')}/{held}"
+            world.origin.on(path, lambda ask: Answer(part(PAGE, ask.field(b"range"), TAG, FRESH)))
+            bodies = []
+            for fields in [[b"Range: " + span], [], []]:
+                with Client() as client:
+                    client.say(world.last_request(path, *fields))
+                    bodies.append(client.hear_all().partition(b"\r\n\r\n")[2])
+                whole = response(PAGE, TAG, FRESH)
+                world.origin.on(path, lambda ask: Answer(unfit(ask.field(b"range")) if ask.field(b"range") else whole))
+            holds(bodies[1] == PAGE or (held == "front" and PAGE.startswith(bodies[1])), f"the body, or its front, where {name} comes")
+            holds(bodies[2] == PAGE, f"the whole body where {name} came and its {held} was held")
 
 
 @case
@@ -158,7 +130,7 @@ def four_downloads_hold_up_nobody_else(world):
             client.say(origin.request(f"/slow/{number}"))
             origin.take("the ask of a download")
         origin.always("/small", response(b"small"))
-        told_soon(world, origin, "/small", 3, reply(b"small", connection=b"close"))
+        told_soon(world, origin, "/small", reply(b"small", connection=b"close"))
 
 
 @case
@@ -166,11 +138,11 @@ def four_downloads_hold_up_nobody_else(world):
 def four_clients_that_do_not_read_hold_up_nobody_else(world):
     with world.anew() as proxy, contextlib.ExitStack() as clients:
         for number in range(4):
-            proxy.origin.on(f"/large/{number}", Flow(lines(OK, b"Content-Length: %d" % (64 * MB)), 64 * MB))
+            proxy.origin.on(f"/large/{number}", lambda ask: flow_from(ask, 64 * MB))
             clients.enter_context(Client(port=proxy.port)).say(proxy.request(f"/large/{number}"))
         time.sleep(0.5)
         proxy.origin.on("/small", Answer(response(b"small")))
-        told_soon(proxy, proxy, "/small", 3, reply(b"small", connection=b"close"))
+        told_soon(proxy, proxy, "/small", reply(b"small", connection=b"close"))
 
 
 # ---- no client gets another's
@@ -216,10 +188,7 @@ def a_response_that_others_end_elsewhere_is_the_last_of_its_connection(world):
             client.hear_until(b"\r\n\r\n")
             time.sleep(0.1)
             client.socket.close()
-            with Client(port=world.port) as other:
-                other.say(origin.request("/other"))
-                second = origin.take()
-                holds(second.connection is not first.connection, f"another connection behind {name}")
+            expect_another_connection(world, origin, first, "/other", name)
 
 
 @case
@@ -243,14 +212,12 @@ def a_connection_that_breaks_behind_a_response_costs_the_next_request_nothing(wo
 def who_was_let_in_over_a_connection_is_not_followed_there(world):
     # RFC 4559, 6
     for scheme in [b"NTLM", b"Negotiate", b"ntlm"]:
-        with Played() as origin, Client(port=world.port) as one, Client(port=world.port) as other:
+        with Played() as origin, Client(port=world.port) as one:
             one.say(origin.request("/inside", b"Authorization: " + scheme + b" TlRMTVNTUAADAAAA"))
             first = origin.take()
             first.say(response(b"inside"))
             one.expect(reply(b"inside"))
-            other.say(origin.request("/inside"))
-            second = origin.take()
-            holds(second.connection is not first.connection, f"another connection behind {scheme!r}")
+            expect_another_connection(world, origin, first, "/inside", scheme)
 
 
 @case
@@ -289,10 +256,15 @@ def a_seek_does_not_wait_for_what_lies_between(world):
 @case
 @rule("shared-wait-ends")
 def a_long_poll_of_three_clients_is_asked_thrice(world):
-    with Played() as origin, contextlib.ExitStack() as clients:
-        for _ in range(3):
-            clients.enter_context(Client(port=world.port)).say(origin.request("/poll"))
-        asks = [origin.take("a first ask")]
-        asks += [origin.take("an ask of one's own, behind five seconds", 8) for _ in range(2)]
-        for ask in asks:
-            ask.say(response(b"news", b"Cache-Control: no-store"))
+    with Played() as origin, contextlib.ExitStack() as stack:
+        start = time.monotonic()
+        clients = [stack.enter_context(Client()) for _ in range(3)]
+        for client in clients:
+            client.say(origin.request("/poll", b"Connection: close"))
+        asks = [origin.take("an ask of each one's own, while none is answered") for _ in clients]
+        # they share for five seconds, and a tick comes each second; the rest is for a machine that is busy
+        holds(time.monotonic() - start < 15, "three asks in some five seconds")
+        for number, ask in enumerate(asks):
+            ask.say(response(b"news %d" % number, b"Cache-Control: no-store"))
+        told = sorted(client.hear_all()[-6:] for client in clients)
+        equal(told, [b"news 0", b"news 1", b"news 2"], "what they are told")

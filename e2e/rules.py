@@ -6,15 +6,7 @@ import os
 from harness import Skipped
 
 # The tests of these are skipped by name; with ALSO_NOT_YET=1 in the environment they run.
-NOT_YET = {
-    "bad-answer-asked-once",
-    "full-answer-to-a-check",
-    "another-tag",
-    "invalidation",
-}
-
-# What takes minutes runs with LONG=1 alone.
-LONG = {"slow-origin"}
+NOT_YET = set()
 
 
 def rule(name):
@@ -25,8 +17,6 @@ def rule(name):
         def unless_skipped(world):
             if name in NOT_YET and not os.environ.get("ALSO_NOT_YET"):
                 raise Skipped(f"the rule {name}")
-            if name in LONG and not os.environ.get("LONG"):
-                raise Skipped("LONG=1, for minutes,")
             return function(world)
 
         return unless_skipped

@@ -5,8 +5,8 @@ import hashlib
 import subprocess
 import tempfile
 
-from harness import case, environment, equal, holds, need, together
-from origin import DATE, Answer, chunked, lines, noise, response
+from harness import TOOL_SECONDS, case, environment, equal, holds, need, together
+from origin import DATE, Answer, chunked, lines, noise, part, response
 from passing import curl
 from world import CONTINUE, PORT, VIA, Client, reply, reply_head
 
@@ -23,9 +23,7 @@ def serve_file(text):
         asked = ask.field(b"range")
         if asked is None:
             return Answer(response(text, b'ETag: "v1"', DATE, b"Accept-Ranges: bytes"))
-        start = int(asked.removeprefix(b"bytes=").partition(b"-")[0])
-        place = b"Content-Range: bytes %d-%d/%d" % (start, len(text) - 1, len(text))
-        return Answer(response(text[start:], b'ETag: "v1"', DATE, place, status=b"206 Partial Content"))
+        return Answer(part(text, asked, b'ETag: "v1"', DATE))
 
     return answer
 
@@ -39,8 +37,8 @@ def wget_continues_a_file(world):
     with tempfile.TemporaryDirectory() as folder:
         with open(f"{folder}/file.bin", "wb") as file:
             file.write(text[:250_000])
-        command = ["wget", "--continue", "--tries=1", "--timeout=10", "--no-config", world.url("/file.bin")]
-        run = subprocess.run(command, capture_output=True, cwd=folder, env=proxy_environment(), timeout=20)
+        command = ["wget", "--continue", "--tries=1", "--timeout=40", "--no-config", world.url("/file.bin")]
+        run = subprocess.run(command, capture_output=True, cwd=folder, env=proxy_environment(), timeout=TOOL_SECONDS)
         equal(run.returncode, 0, f"wget's status, which says {run.stderr.decode(errors='replace')}")
         with open(f"{folder}/file.bin", "rb") as file:
             came = file.read()
@@ -127,7 +125,7 @@ def part_of_page(number):
 
 def load_parts(world, numbers):
     """One connection of a browser: it asks for all of its parts at once."""
-    with Client(seconds=15, port=world.port) as client:
+    with Client(port=world.port) as client:
         client.say(b"".join(world.request(f"/part/{number}", *BROWSER) for number in numbers))
         for number in numbers:
             text, fields = part_of_page(number)
@@ -141,7 +139,7 @@ def load_parts(world, numbers):
 
 
 def send_form(world, form):
-    with Client(seconds=15, port=world.port) as client:
+    with Client(port=world.port) as client:
         fields = [*BROWSER, b"Content-Type: application/x-www-form-urlencoded", b"Content-Length: %d" % len(form)]
         client.say(world.request("/form", *fields, method="POST") + form)
         client.expect(reply(b"thanks"), "the reply to the form")

@@ -7,9 +7,10 @@ import socket
 import subprocess
 import tempfile
 
-from harness import Failed, case, equal, holds
+from harness import TOOL_SECONDS, Failed, case, equal, holds
 from network import free_port, wait_until_it_listens
 from origin import Answer, plain
+from world import PORT, WORDS
 
 USAGE = b"usage: polipo [-c FILE] [-g SEED] [name=value ...]\n"
 
@@ -39,7 +40,7 @@ def end_of(world, words, text=b""):
     with tempfile.TemporaryDirectory() as folder:
         with open(os.path.join(folder, "f"), "wb") as file:
             file.write(text)
-        done = subprocess.run([world.program, *words], cwd=folder, capture_output=True, timeout=15, stdin=subprocess.DEVNULL)
+        done = subprocess.run([world.program, *words], cwd=folder, capture_output=True, timeout=TOOL_SECONDS, stdin=subprocess.DEVNULL)
         return done.returncode, done.stdout, done.stderr
 
 
@@ -102,6 +103,12 @@ def a_signal_ends_it_at_once_and_in_silence(world):
     with started(world, port, [f"proxyPort={port}"]) as process:
         with socket.create_connection(("127.0.0.1", port), timeout=10) as client:
             process.send_signal(signal.SIGTERM)
-            output, complaint = process.communicate(timeout=5)
+            output, complaint = process.communicate(timeout=TOOL_SECONDS)
             equal((process.returncode, output, complaint), (-signal.SIGTERM, b"", b""), "status, output and complaint")
             equal(hear_end(client), b"", "what the client hears")
+
+
+@case
+def a_port_that_is_taken_is_complained_of(world):
+    wanted = (5, b"", f"polipo: cannot listen on port {PORT}\n".encode())
+    equal(end_of(world, WORDS), wanted, "status, output and complaint")

@@ -1,6 +1,7 @@
 """The program under test, the origin beside it, and clients."""
 
 import contextlib
+import os
 import re
 import socket
 import subprocess
@@ -15,6 +16,8 @@ from origin import Answer, Origin, abort, lines, plain
 PORT = free_port()
 WORDS = [f"proxyPort={PORT}"]
 VIA = b"via: 1.1 polipo"
+# So long a client waits for what it is told: more than any reply takes on a machine that is busy.
+PATIENCE = 20
 
 
 def passed(body, connection=b"keep-alive"):
@@ -51,7 +54,7 @@ CONTINUE = lines(b"HTTP/1.1 100 Continue")
 class Client:
     """One connection to the proxy."""
 
-    def __init__(self, seconds=10, port=PORT):
+    def __init__(self, seconds=PATIENCE, port=PORT):
         self.socket = socket.create_connection(("127.0.0.1", port), timeout=seconds)
         self.socket.setsockopt(socket.IPPROTO_TCP, socket.TCP_NODELAY, 1)
         self._unread = b""
@@ -136,22 +139,27 @@ class Client:
             came = self._unread or self.socket.recv(1)
             raise Failed(f"    wanted: silence for {seconds} seconds, and {came!r} came")
         except TimeoutError:
-            self.socket.settimeout(10)
+            self.socket.settimeout(PATIENCE)
 
 
 class World:
-    def __init__(self, program, port=PORT):
+    def __init__(self, program, port=PORT, words=(), environment=None):
         self.program = program
         self.port = port
+        self.words = words
+        self.environment = environment
         self.origin = Origin()
         self.origin.on("/probe", Answer(plain(b"still here")))
-        self.output = tempfile.TemporaryFile()
-        self.process = None
         self.start()
 
     def start(self):
+        self.output = tempfile.TemporaryFile()
         self.process = subprocess.Popen(
-            [self.program, f"proxyPort={self.port}"], stdin=subprocess.DEVNULL, stdout=self.output, stderr=self.output
+            [self.program, f"proxyPort={self.port}", *self.words],
+            stdin=subprocess.DEVNULL,
+            stdout=self.output,
+            stderr=self.output,
+            env=self.environment,
         )
         if why := wait_until_it_listens(self.process, self.port):
             self.stop()
@@ -168,17 +176,17 @@ class World:
         self.start()
 
     @contextlib.contextmanager
-    def anew(self):
-        """The program once more, which has nothing in its memory: on a port of its own, with an origin of its own."""
-        other = World(self.program, free_port())
+    def anew(self, *words, environment=None):
+        """The program once more, with these words and nothing in its memory: on a port and with an origin of its own."""
+        other = World(self.program, free_port(), words, environment)
         try:
             yield other
+            other.check_well()
         finally:
             other.stop()
 
     def printed(self):
-        self.output.seek(0)
-        return self.output.read()
+        return os.pread(self.output.fileno(), 65_536, 0)
 
     def most_memory(self):
         """How much memory the program had in its life at most, in bytes."""
@@ -205,21 +213,26 @@ class World:
         host = b"host: " + self.origin.authority.encode()
         return lines(f"{method} {path} HTTP/1.1".encode(), host, *fields, VIA)
 
+    def check_well(self):
+        """The program runs on in silence, and another client is served."""
+        equal(self.printed(), b"", "output and complaints")
+        self.check_still_served()
+
     def check_still_served(self):
         """Another client gets its reply, within a few seconds."""
         if self.process.poll() is not None:
             raise Failed(f"    the program ended with {self.process.returncode}")
-        with Client(seconds=5) as client:
+        with Client(port=self.port) as client:
             client.say(self.request("/probe"))
             client.expect(passed(b"still here"), "the reply to another client, afterwards")
 
     @contextlib.contextmanager
     def dropping_connections(self):
         """No connection to the origin is left open by what is done here, but for those that were there before: it is seen
-        within a second."""
+        within seconds."""
         before = self.origin.count_open()
         yield
-        deadline = time.monotonic() + 1
+        deadline = time.monotonic() + 5
         while self.origin.count_open() > before and time.monotonic() < deadline:
             time.sleep(0.01)
         holds(self.origin.count_open() <= before, "no more connections to the origin than before")

@@ -1,0 +1,104 @@
+"""Who does nothing for long, by a clock that leaps."""
+
+import contextlib
+import mmap
+import pathlib
+import select
+import struct
+import subprocess
+import tempfile
+import time
+
+from harness import TOOL_SECONDS, case, environment, equal, holds, need
+from origin import Answer, plain, response
+from played import Played
+from rules import rule
+from world import BAD_GATEWAY, Client, passed, reply
+
+SHIM = pathlib.Path(__file__).resolve().parent / "clock.c"
+
+
+class Clock:
+    """The clock of a program, which is ahead by as much as it is told to."""
+
+    def __init__(self, path):
+        path.write_bytes(bytes(8))
+        with open(path, "r+b") as file:
+            self._ahead = mmap.mmap(file.fileno(), 8)
+        self._leapt = 0
+
+    def leap(self, seconds):
+        """So many seconds pass at once. The program looks at its clock each second."""
+        self._leapt += seconds
+        struct.pack_into("q", self._ahead, 0, self._leapt)
+        time.sleep(1.1)
+
+    def leap_until(self, is_over):
+        """Leaps by and by until this holds, for ten minutes at most. Answers how many seconds passed for the program."""
+        start, before = time.monotonic(), self._leapt
+        while not is_over() and self._leapt - before < 600:
+            self.leap(25)
+        return self._leapt - before + time.monotonic() - start
+
+
+@contextlib.contextmanager
+def leaping(world):
+    """The program once more, and its clock."""
+    need("cc")
+    with tempfile.TemporaryDirectory() as folder:
+        library, file = f"{folder}/clock.so", pathlib.Path(folder, "ahead")
+        subprocess.run(["cc", "-shared", "-fPIC", "-o", library, SHIM], check=True, timeout=TOOL_SECONDS)
+        clock = Clock(file)
+        with world.anew(environment=environment(LD_PRELOAD=library, CLOCK_FILE=str(file))) as proxy:
+            yield proxy, clock
+
+
+def has_news(client):
+    """Whether something came for the client, or an end."""
+    return bool(select.select([client.socket], [], [], 0)[0])
+
+
+@case
+def an_idle_client_is_closed_after_120_seconds(world):
+    with leaping(world) as (proxy, clock), Client(port=proxy.port) as client:
+        client.say(b"GET http://")
+        seconds = clock.leap_until(lambda: has_news(client))
+        client.expect_last(b"", "an end, and nothing before")
+        holds(seconds >= 119, f"an end after 120 seconds in place of {seconds:.0f}")
+
+
+@case
+def an_idle_connection_to_an_origin_is_dropped_after_60_seconds(world):
+    with leaping(world) as (proxy, clock), Client(port=proxy.port) as client:
+        proxy.origin.on("/a", Answer(plain(b"hello")))
+        client.say(proxy.request("/a"))
+        client.expect(passed(b"hello"))
+        equal(proxy.origin.count_open(), 1, "connections that are open")
+        seconds = clock.leap_until(lambda: proxy.origin.count_open() == 0)
+        equal(proxy.origin.count_open(), 0, "connections that are left")
+        holds(seconds >= 59, f"an end after 60 seconds in place of {seconds:.0f}")
+
+
+@case
+@rule("slow-origin")
+def an_origin_that_thinks_for_minutes_is_asked_once(world):
+    with leaping(world) as (proxy, clock), Played() as origin, Client(port=proxy.port) as client:
+        client.say(origin.request("/thinks"))
+        ask = origin.take()
+        for _ in range(5):
+            clock.leap(50)
+        holds(origin.take_if_any(0) is None, "one ask in 250 seconds")
+        ask.say(response(b"thought"))
+        client.expect(reply(b"thought"))
+
+
+@case
+@rule("slow-origin")
+def an_origin_that_never_answers_is_asked_once_and_given_up_after_300_seconds(world):
+    with leaping(world) as (proxy, clock), Played() as origin, Client(port=proxy.port) as client:
+        client.say(origin.request("/silent"))
+        origin.take()
+        seconds = clock.leap_until(lambda: has_news(client))
+        client.expect(BAD_GATEWAY)
+        holds(seconds >= 299, f"300 seconds of patience in place of {seconds:.0f}")
+        equal(len(origin.asked), 1, "asks")
