@@ -1,4 +1,4 @@
-"""The rules for real origins and real clients, by name, and which of them the program does not follow yet."""
+"""The rules for real origins and real clients, by name, and which of them the program does not follow yet: none."""
 
 import functools
 import os
