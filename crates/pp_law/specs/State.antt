@@ -39,7 +39,6 @@ pub record Instance : Type 0 where
   pub fields : List Field
   pub times : Times
   pub is_retired : Bool
-  pub touched : ℕ  -- in the order of making, refreshing and deciding
   pub is_new : Bool  -- a response made it or brought it into memory in this turn
 
 -- the front of a chunk, in memory
@@ -233,10 +232,9 @@ pub record State : Type 0 where
   pub conns : List Conn
   pub exchanges : List Exchange  -- in the order of their beginnings
   pub next_exchange : ℕ
-  pub instances : List Instance
+  pub instances : List Instance  -- in the order of making, refreshing and deciding: the least recently used first
   pub next_instance : ℕ
   pub chunks : List Chunk  -- the least recently used first
-  pub uses : ℕ
   pub entries : List Entry
   pub closed_names : List Bytes
   pub under_way : Option DiskOp
@@ -273,7 +271,6 @@ start terms = record {
   instances = [];
   next_instance = 0;
   chunks = [];
-  uses = 0;
   entries = [];
   closed_names = [];
   under_way = None;

@@ -29,7 +29,7 @@ use Rattle.pp_laws.proofs.Closings.{close_conn-sound, own_line, own_line_shrunk}
 use Rattle.pp_laws.proofs.Exchanges.{each_client-sound, each_exchange-sound, end_exchange-sound, on_client-sound, on_client_of-sound, on_exchange-sound}
 use Rattle.pp_laws.proofs.KeptClients.{client_follows, clients_mapped}
 use Rattle.pp_laws.proofs.KeptExchanges.{SameExchange, exchange_pushed, exchanges_changed, exchanges_filtered}
-use Rattle.pp_laws.proofs.Lists.{in_find, one_of}
+use Rattle.pp_laws.proofs.Lists.{in_find, one_of, the_one}
 use Rattle.pp_laws.proofs.Rows.{enter-sound, mark_row-sound, swept-sound, use_chunk-sound}
 use Rattle.pp_laws.proofs.Shrinks.{end_exchange-shrinks}
 use Rattle.pp_laws.proofs.Sound.{FactsOf, Follows, Since, Sound, client_number, facts_of, instance_id, sound}
@@ -117,7 +117,7 @@ follow_row-sound {b} c d key s kept asks current h =
           given = subst (λ n. n < s.next_instance) id_is ((facts_of h).rows.given x there.0);
           key = key;
           asks = ap key_in (current e i (same_number e.number c.number hit)) ∙ asks;
-          same_key = λ y j y_is. ap (λ (z : Instance). z.key) (one_of instance_id s.instances y x (facts_of h).rows.rise j there.0 (y_is ∙ sym id_is)) ∙ there.1;
+          same_key = λ y j y_is. ap (λ (z : Instance). z.key) (the_one instance_id s.instances y x (facts_of h).rows.differ j there.0 (y_is ∙ sym id_is)) ∙ there.1;
         }
           where
             id_is : x.id ≡ id

@@ -159,6 +159,6 @@ rested_exchange-rewanted s e = by (bound_of e) refl
 pub rest_with-sound : {b : Since} (w : Wants) (s : State) → Sound b s → Sound b (rest_with w s)
 unfolding rest_with
 rest_with-sound {b} w s h = sound (clients_mapped b (record s { conns = map (rested_conn s w) s.conns; exchanges = map (rested_exchange s) s.exchanges; instances = map rested_instance s.instances }) (rested_client s) (λ c. same_parts _ c refl refl refl)
-    (instances_mapped b (record s { conns = map (rested_conn s w) s.conns; exchanges = map (rested_exchange s) s.exchanges }) rested_instance (λ x. record { id = refl; key = refl; version = refl })
+    (instances_mapped b (record s { conns = map (rested_conn s w) s.conns; exchanges = map (rested_exchange s) s.exchanges }) rested_instance (λ x. record { id = refl; key = refl; version = refl; row = λ key is. is })
     (exchanges_rewanted b (record s { conns = map (rested_conn s w) s.conns }) (rested_exchange s) (rested_exchange-rewanted s)
     (conns_mapped b s (rested_conn s w) (λ k. record { number = refl; line = refl; answer = refl }) (facts_of h)))))
