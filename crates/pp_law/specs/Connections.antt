@@ -1,5 +1,5 @@
 -- The connections to origins, their lines of exchanges, and where an exchange is asked (RFC 2616, sections 8.1 and 8.1.2.2).
-use Rattle.std.specs.Prelude.{ℕ, ◌+◌, Bool, true, false, ◌==◌, ◌&&◌, ◌||◌, not, nat_le, List, [], ◌∷◌, ◌++◌, length, map, filter, find, cond, Option, Some, None, option_and_then}
+use Rattle.std.specs.Prelude.{ℕ, ◌+◌, Bool, true, false, ◌==◌, ◌&&◌, not, nat_le, List, [], ◌∷◌, ◌++◌, length, map, filter, find, cond, Option, Some, None, option_and_then}
 use Rattle.std.specs.List.{list_any}
 use Rattle.pp_pipe.specs.Line.{started}
 use Rattle.pp_pipe.specs.declared.asks.Ask.{Ask}
@@ -11,7 +11,7 @@ use Rattle.pp_peers.specs.declared.placing.Placed.TheVariants.{On, Dial, CloseTh
 use Rattle.pp_law.specs.Lists.{change, without, is_some_with, is_this}
 use Rattle.pp_law.specs.Requests.{goes_alone, is_asked_once}
 use Rattle.pp_law.specs.Stages.{is_begun, is_headed, on_passed}
-use Rattle.pp_law.specs.State.{State, Through, Own, Filling, Client, Conn, Exchange, Course, Trying, OutOfTries, AskTooLong, RowRefused, Passed}
+use Rattle.pp_law.specs.State.{State, Through, Own, Filling, Client, Conn, Exchange, Course, Trying, OutOfTries}
 use Rattle.pp_law.specs.Table.{clear, is_same_version, row}
 use Rattle.pp_target.specs.Key.{text_of}
 

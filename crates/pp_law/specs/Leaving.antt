@@ -1,6 +1,6 @@
--- How a row leaves memory, as it is noted: another took its room, memory was refused for it, or a decision is next that brings another in.
--- All of it is ours.
-use Rattle.std.specs.Prelude.{ℕ, Bool, true, false, ◌&&◌, not, List, [], ◌∷◌, bytes_eq, Option, Some, None, option_map}
+-- How a row leaves memory, as it is noted: another took its room, memory was refused for it, or a decision is next that brings
+-- another in. All of it is ours.
+use Rattle.std.specs.Prelude.{Bool, true, false, ◌&&◌, not, List, [], ◌∷◌, bytes_eq, Option, Some, None, option_map}
 use Rattle.pp_text.specs.Bytes.{is_empty}
 use Rattle.pp_law.specs.Connections.{client}
 use Rattle.pp_law.specs.Deciding.{has_to_forget}
@@ -25,7 +25,10 @@ is_first key (k ∷ keys) = bytes_eq k key
 
 -- a row that came in this turn
 abbrev pub refused_memory : State → Bytes → Option Instance
-refused_memory s key = elim (may_in Evicting (λ t. is_empty t.forgotten) s) [ true ↦ if_so (λ x. x.is_new) (row s key) | false ↦ None ]
+refused_memory s key = elim (may_in Evicting (λ t. is_empty t.forgotten) s) [
+  | true ↦ if_so (λ x. x.is_new) (row s key)
+  | false ↦ None
+]
 
 -- the client whose decision is next brings a row in, where as many are there as may be
 abbrev pub forgets_next : State → Option Due → Bool
@@ -45,4 +48,7 @@ abbrev pub by_now : State → Bytes → Option Leaving
 by_now s key = elim (refused_memory s key) [ Some x ↦ Some (ForMemory x) | None ↦ option_map BeforeDecision (before_decision s key) ]
 
 abbrev pub leaving_as : State → Bytes → Option Leaving
-leaving_as s key = elim (may_in Evicting (λ t. is_first key t.forgotten) s) [ true ↦ Some ForAnother | false ↦ by_now s key ]
+leaving_as s key = elim (may_in Evicting (λ t. is_first key t.forgotten) s) [
+  | true ↦ Some ForAnother
+  | false ↦ by_now s key
+]

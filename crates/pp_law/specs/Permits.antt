@@ -1,5 +1,5 @@
 -- What may happen next: a test for each happening.
-use Rattle.std.specs.Prelude.{◌≡◌, ℕ, Bool, true, false, ◌==◌, ◌&&◌, ◌||◌, not, nat_lt, nat_le, nat_eq, ◌/◌, List, [], ◌∷◌, length, bytes_eq, is_some, Option, Some, None}
+use Rattle.std.specs.Prelude.{◌≡◌, ℕ, Bool, true, false, ◌==◌, ◌&&◌, ◌||◌, not, nat_lt, nat_le, nat_eq, ◌/◌, length, bytes_eq, is_some, Option, Some, None}
 use Rattle.std.specs.List.{list_any, starts_with}
 use Rattle.pp_text.specs.Bytes.{is_empty}
 use Rattle.pp_world.specs.declared.event.Wants.{Wants}
@@ -25,9 +25,9 @@ use Rattle.pp_law.specs.Requests.{Front, NoHeadYet, NoHead, IsRequest}
 use Rattle.pp_law.specs.Leaving.{leaving_as}
 use Rattle.pp_law.specs.Repairs.{may_begin_in_opening}
 use Rattle.pp_law.specs.Served.{is_served}
-use Rattle.pp_law.specs.State.{State, Client, Instance, IsRooted, IsListed, IsListening, Evicting, Keeping, Connecting}
+use Rattle.pp_law.specs.State.{State, Client, IsRooted, IsListed, IsListening, Evicting, Keeping, Connecting}
 use Rattle.pp_law.specs.Store.{is_idle_disk, is_closed, is_named, is_acknowledged_as, may_note_gone, may_begin_in_turn, may_end_op}
-use Rattle.pp_law.specs.Table.{row, kept_row, instance, idle_row, extent_of, next_of, Next}
+use Rattle.pp_law.specs.Table.{kept_row, instance, extent_of, next_of, Next}
 
 -- ---- decisions and cuts
 

@@ -1,4 +1,4 @@
--- The phases of a turn, one behind the other: what each brings as it begins, without a happening, and when it is done. It is ours.
+-- The phases of a turn: what each brings as it begins, without a happening, and when it is done. All of it is ours.
 use Rattle.std.specs.Prelude.{ℕ, Bool, true, false, ◌&&◌, ◌||◌, not, List, [], ◌∷◌, is_some, Option, None}
 use Rattle.std.specs.List.{list_any}
 use Rattle.pp_text.specs.Bytes.{is_empty}

@@ -1,4 +1,4 @@
--- How a turn begins and ends: what its clients wait for, the clock and the marks of who is idle, and what is noted at a wait. It is ours.
+-- How a turn begins and ends: the clock, and the marks of those who wait. All of it is ours.
 use Rattle.std.specs.Prelude.{ℕ, ◌-◌, Bool, true, false, ◌==◌, ◌&&◌, ◌||◌, not, nat_le, max, [], map, Option, Some, None, option_map}
 use Rattle.std.specs.List.{list_any}
 use Rattle.pp_world.specs.declared.event.Wants.{Wants}
@@ -10,7 +10,7 @@ use Rattle.pp_law.specs.Unseen.{rested_exchange}
 use Rattle.pp_law.specs.State.{State, Shared, Client, Conn, Exchange, Instance, Awaiting, Free}
 use Rattle.pp_law.specs.Table.{next_of, brings}
 
--- ---- what a client waits for, and idle times
+-- ---- what a client waits for, and marks
 
 -- the exchange that brings its next byte; where it follows nothing, that of its request
 abbrev pub waits_for : State → Client → Exchange → Bool

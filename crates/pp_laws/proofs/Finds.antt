@@ -1,5 +1,5 @@
 -- The row of a key after rows were changed, left memory or came into it.
-use Rattle.std.proofs.Common.{◌≡◌, ◌⊎◌, refl, ℕ, nat_lt, Bool, true, false, not, List, [], ◌∷◌, ◌++◌, filter, find, cond, Option, Some, None, inl, inr, sym, ap, ◌∙◌}
+use Rattle.std.proofs.Common.{◌≡◌, ◌⊎◌, refl, ℕ, nat_lt, Bool, true, false, not, List, [], ◌∷◌, filter, find, cond, Option, Some, None, inl, inr, sym, ap, ◌∙◌}
 use Rattle.pp_fresh.specs.declared.aging.Times.{Times}
 use Rattle.pp_head.specs.Response.{Response}
 use Rattle.pp_text.specs.Fields.{Field}

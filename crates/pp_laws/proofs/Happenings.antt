@@ -1,5 +1,5 @@
 -- Each permitted happening keeps what is sound, and so does a lawful log.
-use Rattle.std.proofs.Common.{◌≡◌, ◌⊎◌, refl, ℕ, ◌<◌, Bool, true, false, not, ◌==◌, ◌&&◌, ◌||◌, [], ◌∷◌, ◌++◌, length, None, inl, inr, sym, subst, ap, ◌∙◌, le_of_lt, lt_of_le_of_lt}
+use Rattle.std.proofs.Common.{◌≡◌, ◌⊎◌, refl, ℕ, ◌<◌, Bool, true, false, not, ◌&&◌, [], ◌∷◌, ◌++◌, length, None, inl, inr, sym, subst, ap, ◌∙◌, le_of_lt, lt_of_le_of_lt}
 use Rattle.pp_world.specs.Log.{Log}
 use Rattle.pp_world.specs.declared.happening.Happening.TheVariants.{Woke, Waits, Clock, Opened, CanRead, CanWrite, Heard, HungUp, Said, Shut, Dialled, Undialled, Reached, Ended, Broke, Asked, Got, Dropped, NoneYet, Began, Did, Unread, Noted, Rooted, Listed, Listens, Configured, Printed, Stopped}
 use Rattle.pp_world.specs.declared.happening.Happening.{Happening}
@@ -15,14 +15,14 @@ use Rattle.pp_law.specs.Leaving.{Leaving, ForAnother, ForMemory, BeforeDecision,
 use Rattle.pp_law.specs.Lists.{Bytes}
 use Rattle.pp_law.specs.Opening.{is_opening}
 use Rattle.pp_law.specs.Permits.{is_permitted, IsPermitted, permits, permits_dial, is_new_number}
-use Rattle.pp_law.specs.Phases.{is_awaiting, due_victim, in_phase, come_to}
+use Rattle.pp_law.specs.Phases.{is_awaiting, due_victim, come_to}
 use Rattle.pp_law.specs.Replies.{said_by}
 use Rattle.pp_law.specs.State.{State, RowRefused, Client, Conn, Exchange, Instance, IsRooted, IsListed, IsListening, Handling, Evicting, Keeping, Following, Connecting, Owed, ReadOf, WriteTo}
-use Rattle.pp_law.specs.Table.{row, forget}
+use Rattle.pp_law.specs.Table.{forget}
 use Rattle.pp_laws.specs.Origin.{LoadWasSent, LoadsWhatWasSent}
 use Rattle.pp_laws.specs.Runs.{after_all, IsIn}
 use Rattle.pp_laws.proofs.Callers.{said_by-same, same_parts}
-use Rattle.pp_laws.proofs.Cases.{by_list, by_pause, each_of, each_so, when}
+use Rattle.pp_laws.proofs.Cases.{by_pause, each_of, each_so, when}
 use Rattle.pp_laws.proofs.Clients.{ask-sound, close_client-sound, decided-sound, end_replies-sound, hang_up-sound, hear-sound, regained-sound, use_said-sound}
 use Rattle.pp_laws.proofs.Disk.{begin_in_opening-sound, begin_in_turn-sound, close_name-sound, configured-sound, end_op-sound, load-sound, lose_in_opening-sound, note_gone-sound, note_kept-sound, opened_to-sound, woken-sound}
 use Rattle.pp_laws.proofs.Exchanges.{end_exchange-sound, lose_attempt-sound, on_client-sound, on_conn-sound}

@@ -11,14 +11,14 @@ use Rattle.pp_text.specs.Fields.{has_field}
 use Rattle.pp_valid.specs.declared.version.Version.{Version}
 use Rattle.pp_law.specs.Connections.{exchange, is_for, attempts_of, lost_one, lose_attempt}
 use Rattle.pp_law.specs.Lists.{Bytes, is_some_with}
-use Rattle.pp_law.specs.OwnHeads.{key_of, first_offset, span_to_come, is_asked_by, tell, useless, times_for, renewed, renew, settle_on, renew_row, refresh, may_refresh, settle_known, known_version, settle, names_version, nothing_to_come, settle_unchanged, not_modified, clears_row, cleared_by, is_widened, relay_head, other_head, other_part, own_head, is_bound, lacks_next, count_elsewhere, part_head, filling_head, drop_answer, use_body, version_in, forbids_sharing, is_private_part, relayed, unchanged, is_of_another, is_full_answer, may_join}
+use Rattle.pp_law.specs.OwnHeads.{key_of, first_offset, span_to_come, is_asked_by, tell, useless, times_for, renewed, renew, settle_on, renew_row, refresh, may_refresh, settle_known, known_version, settle, names_version, nothing_to_come, settle_unchanged, not_modified, clears_row, cleared_by, is_widened, relay_head, other_head, other_part, own_head, is_bound, lacks_next, count_elsewhere, part_head, filling_head, drop_answer, use_body, version_in, forbids_sharing, is_private_part, unchanged, is_of_another, is_full_answer, may_join}
 use Rattle.pp_law.specs.Passing.{passed_by}
 use Rattle.pp_law.specs.Responses.{answer_with, by_aim, payload_of}
 use Rattle.pp_law.specs.State.{State, Answer, Body, Joining, Relaying, Dropping, Brought, Useless, Joins, Passes, TooWide, Exchange, Instance}
 use Rattle.pp_law.specs.Table.{is_same_version, is_row_of, row, clear, enter}
 use Rattle.pp_law.specs.ThroughHeads.{invalidates, key_named, is_same_host, clear_named, clear_each, places_named, invalidated, disproves, reads, disproved, through_head}
 use Rattle.pp_laws.specs.Runs.{IsIn}
-use Rattle.pp_laws.proofs.Binding.{Before, Behind, BindsTo, before_on, behind_aim, behind_each, behind_on, charge-behind, behind_use, behind_same, behind_told, behind_when}
+use Rattle.pp_laws.proofs.Binding.{Before, Behind, BindsTo, before_on, behind_aim, behind_each, behind_on, charge-behind, behind_use, behind_same, behind_when}
 use Rattle.pp_laws.proofs.Callers.{same_parts}
 use Rattle.pp_laws.proofs.Cases.{each_of, when}
 use Rattle.pp_laws.proofs.Finds.{RowIs, make_row-is, refresh-is}

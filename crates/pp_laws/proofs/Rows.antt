@@ -1,5 +1,5 @@
 -- Rows and chunks: what is done to them keeps what is sound.
-use Rattle.std.proofs.Common.{◌≡◌, refl, ℕ, ◌*◌, ◌<◌, nat_lt, Bool, true, false, not, ◌==◌, List, [], ◌∷◌, filter, find, bytes_eq, sym, subst, ◌∙◌}
+use Rattle.std.proofs.Common.{◌≡◌, refl, ℕ, ◌*◌, ◌<◌, nat_lt, Bool, true, false, not, ◌==◌, List, filter, find, bytes_eq, sym, subst, ◌∙◌}
 use Rattle.pp_fresh.specs.declared.aging.Times.{Times}
 use Rattle.pp_text.specs.Fields.{Field}
 use Rattle.pp_valid.specs.declared.version.Version.{Version}

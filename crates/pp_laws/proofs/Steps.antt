@@ -1,5 +1,5 @@
 -- The phases of a turn, its clock and its end keep what is sound.
-use Rattle.std.proofs.Common.{◌≡◌, refl, ℕ, max, Bool, true, false, not, ◌==◌, ◌&&◌, List, [], ◌∷◌, map, Option, Some, None, sym, ap, ◌∙◌}
+use Rattle.std.proofs.Common.{◌≡◌, refl, ℕ, max, Bool, true, false, not, ◌&&◌, List, [], ◌∷◌, map, Option, Some, None, sym, ap, ◌∙◌}
 use Rattle.pp_world.specs.declared.event.Wants.{Wants}
 use Rattle.pp_law.specs.Connections.{front_of_line}
 use Rattle.pp_law.specs.Offers.{has_to_say}
@@ -9,7 +9,6 @@ use Rattle.pp_law.specs.Stages.{bound_in, bound_of, is_pending}
 use Rattle.pp_law.specs.State.{State, Phase, Before, IsWoken, IsConfigured, IsRooted, IsListed, IsListening, IsStuck, Awaiting, Handling, Evicting, Keeping, Deciding, Following, Connecting, DecidingAgain, Body, Bound, Pending, Joining, Relaying, Dropping, Client, Conn, Exchange}
 use Rattle.pp_law.specs.Turn.{waits_for_exchange, marked_client, marked_conn, touch, first_marks, is_idle_conn, owes_answer, end_patience, close_idle_conn, woken_client, renew_marks, tick_to, tick, rested_client, rested_conn, rested_instance, rest_with}
 use Rattle.pp_law.specs.Unseen.{furthest_at, wanted_to, rested_exchange, is_unseen, drop_on, drop_unseen}
-use Rattle.pp_laws.specs.Runs.{IsIn}
 use Rattle.pp_laws.proofs.Callers.{same_parts}
 use Rattle.pp_laws.proofs.Cases.{each_of, when}
 use Rattle.pp_laws.proofs.Clients.{begin_replies-sound, fill-sound, give_up_asks-sound}
