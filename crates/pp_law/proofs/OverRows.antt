@@ -1,5 +1,5 @@
 -- Where a log may end.
-use Rattle.std.proofs.Common.{◌≡◌, refl, Bool, true, false, [], ◌∷◌, ◌++◌, codes}
+use Rattle.std.proofs.Common.{◌≡◌, refl, Bool, true, false, [], ◌∷◌, ◌++◌}
 use Rattle.pp_world.specs.declared.happening.Happening.TheVariants.{Shut, Dropped, Noted, Stopped, Opened}
 use Rattle.pp_world.specs.declared.note.Remark.TheVariants.{Cut, Taken}
 use Rattle.pp_world.specs.declared.note.Cause.TheVariants.{Stop}

@@ -1,8 +1,8 @@
 -- The state after one happening.
-use Rattle.std.specs.Prelude.{ℕ, ◌+◌, Bool, true, false, ◌==◌, ◌&&◌, ◌||◌, not, List, [], ◌∷◌, ◌++◌, length, drop, map, filter, Some, None}
-use Rattle.pp_world.specs.declared.event.Wants.{Wants}
+use Rattle.std.specs.Prelude.{ℕ, ◌+◌, Bool, true, false, ◌==◌, ◌&&◌, not, [], ◌∷◌, ◌++◌, length, drop, Some, None}
 use Rattle.pp_world.specs.declared.happening.Happening.{Happening}
 use Rattle.pp_world.specs.declared.happening.Happening.TheVariants.{Woke, Waits, Clock, Opened, CanRead, CanWrite, Heard, HungUp, Said, Shut, Dialled, Undialled, Reached, Ended, Broke, Asked, Got, Dropped, NoneYet, Began, Did, Unread, Noted, Rooted, Listed, Listens, Configured, Printed, Stopped}
+use Rattle.pp_world.specs.declared.note.Decision.{Decision}
 use Rattle.pp_world.specs.declared.note.Remark.{Remark}
 use Rattle.pp_world.specs.declared.note.Remark.TheVariants.{Taken, Cut, Kept, Gone, Forgotten, Evicted, Loaded}
 use Rattle.pp_world.specs.declared.op.DiskOp.{DiskOp}
@@ -15,14 +15,15 @@ use Rattle.pp_law.specs.Connections.{client, conn, on_client, on_conn, is_client
 use Rattle.pp_law.specs.Leaving.{Leaving, ForAnother, ForMemory, BeforeDecision, leaving_as}
 use Rattle.pp_law.specs.Lists.{Bytes, change, without}
 use Rattle.pp_law.specs.Opening.{woken, configured, opened_to, is_opening, lose_in_opening}
+use Rattle.pp_law.specs.Phases.{in_phase, due_victim, come_to, come_to_decide, deciding, ending}
 use Rattle.pp_law.specs.Replies.{said_by, use_said, end_replies, regained}
 use Rattle.pp_law.specs.Repairs.{begin_in_opening}
 use Rattle.pp_law.specs.Requests.{NoHeadYet}
 use Rattle.pp_law.specs.Responses.{got, ended}
-use Rattle.pp_law.specs.State.{State, Client, Conn, Exchange, Instance, Brought, Awaited, Useless, Joins, Passes, TooWide, Trying, RowRefused, Undecided, IsRooted, IsListed, IsListening, Owed, Free, ReadOf, WriteTo}
+use Rattle.pp_law.specs.State.{State, Client, Conn, Exchange, Instance, Brought, Awaited, Useless, Joins, Passes, TooWide, Trying, RowRefused, Undecided, IsRooted, IsListed, IsListening, Handling, Evicting, Keeping, Following, Connecting, Owed, Free, ReadOf, WriteTo}
 use Rattle.pp_law.specs.Store.{begin_in_turn, end_op, close_name, note_kept, note_gone, load}
 use Rattle.pp_law.specs.Table.{forget}
-use Rattle.pp_law.specs.Turn.{step, at_step, due_victim, is_awaiting, to_3, to_6, to_decide, touch, tick, ending, rest_with}
+use Rattle.pp_law.specs.Turn.{touch, tick, rest_with}
 
 abbrev pub new_client : ℕ → ℕ → Client
 new_client n now = record {
@@ -64,7 +65,7 @@ new_conn n host port now = record {
 -- ---- events
 
 unfoldable pub event : State → State
-event s = regained (at_step 1 s)
+event s = regained (in_phase Handling s)
 
 unfoldable pub opened : ℕ → State → State
 opened n s = record s { clients = s.clients ++ new_client n s.clock ∷ []; top = n }
@@ -88,15 +89,12 @@ gone is_clean n s = elim (conn s n) [ None ↦ s | Some k ↦ end_replies (ended
 
 -- ---- notes
 
-unfoldable pub in_step_7 : State → State
-in_step_7 s = record s { is_again = step s == 7 }
-
-unfoldable pub take_decision : ℕ → State → (Client → State → State) → State
-take_decision n s decide = elim (client s n) [ None ↦ s | Some c ↦ regained (record (in_step_7 (decide c s)) { forgotten = []; has_made_room = false }) ]
+unfoldable pub take_decision : ℕ → Decision → State → State
+take_decision n d s = elim (client s n) [ None ↦ s | Some c ↦ regained (record (decided c d s) { forgotten = []; has_made_room = false }) ]
 
 -- the chunk that has to go next goes
 unfoldable pub evicted : State → State
-evicted s = elim (due_victim s) [ None ↦ s | Some place ↦ drop_chunk place.0 place.1 (at_step 2 s) ]
+evicted s = elim (due_victim s) [ None ↦ s | Some place ↦ drop_chunk place.0 place.1 s ]
 
 abbrev pub joins : ℕ → Brought → Bool
 joins id Awaited = false
@@ -118,24 +116,24 @@ refused_row x s =
 unfoldable pub leave_memory : Leaving → State → State
 leave_memory ForAnother s = record s { forgotten = drop 1 s.forgotten }
 leave_memory (ForMemory x) s = refused_row x s
-leave_memory (BeforeDecision x) s = record (forget x.id (to_decide s)) { has_made_room = true }
+leave_memory (BeforeDecision x) s = record (forget x.id (come_to_decide s)) { has_made_room = true }
 
 unfoldable pub forgotten_by : Bytes → State → State
 forgotten_by key s = elim (leaving_as s key) [ None ↦ s | Some how ↦ leave_memory how s ]
 
 unfoldable pub noted : Remark → State → State
-noted (Taken c i d) s = take_decision c (to_decide s) (λ x t. decided x d t)
-noted (Cut c cause) s = in_step_7 (close_client c true (to_decide s))
-noted (Kept key tag n extent) s = note_kept key extent (to_3 s)
-noted (Gone key) s = note_gone key (to_3 s)
+noted (Taken c i d) s = take_decision c d (deciding s)
+noted (Cut c cause) s = close_client c true (deciding s)
+noted (Kept key tag n extent) s = note_kept key extent s
+noted (Gone key) s = note_gone key (come_to Keeping s)
 noted (Forgotten key) s = forgotten_by key s
-noted (Evicted key tag n i) s = evicted s
+noted (Evicted key tag n i) s = evicted (come_to Evicting s)
 noted (Loaded key tag n i) s = load key i s
 
 -- ---- the disk
 
 unfoldable pub begun_op : DiskOp → State → State
-begun_op op s = elim (is_opening s) [ true ↦ begin_in_opening op s | false ↦ begin_in_turn op (to_3 s) ]
+begun_op op s = elim (is_opening s) [ true ↦ begin_in_opening op s | false ↦ begin_in_turn op (come_to Keeping s) ]
 
 unfoldable pub ended_op : DiskOp → Bool → State → State
 ended_op op true s = end_op op true s
@@ -161,7 +159,7 @@ dialled n host port p = elim p.pause [
 
 -- it is asked elsewhere; or it is over, and whoever waited for what it brings asks for himself
 unfoldable pub refused_dial : Exchange → State → State
-refused_dial e s = elim (may_ask_again s e.number) [ true ↦ s | false ↦ record (end_exchange e.number s) { is_again = true } ]
+refused_dial e s = elim (may_ask_again s e.number) [ true ↦ s | false ↦ end_exchange e.number (in_phase Following s) ]
 
 unfoldable pub undialled : Placement → State
 undialled p = elim p.pause [
@@ -179,12 +177,9 @@ dropped n s = elim (conn s n) [ None ↦ s | Some k ↦ elim k.is_closing [ true
 
 -- ---- all
 
-unfoldable pub rested : Wants → State → State
-rested w s = elim (is_awaiting s || (step s == 0)) [ true ↦ rest_with w s | false ↦ rest_with w (ending s) ]
-
 unfoldable pub changed : State → Happening → State
 changed s (Woke image) = woken image s
-changed s (Waits w) = rested w s
+changed s (Waits w) = rest_with w (ending s)
 changed s (Clock seconds) = event (tick seconds s)
 changed s (Opened n) = event (opened n s)
 changed s (CanRead n) = event (owing (ReadOf n) n s)
@@ -192,15 +187,15 @@ changed s (CanWrite n) = event (owing (WriteTo n) n s)
 changed s (Heard c bytes) = paid (hear c bytes s)
 changed s (HungUp c) = paid (hang_up c s)
 changed s (Said c offered bytes) = paid (said c (length bytes) s)
-changed s (Shut c) = shut c (to_6 s)
-changed s (Dialled n host port) = dialled n host port (placing (to_6 s))
-changed s (Undialled host port) = undialled (placing (to_6 s))
+changed s (Shut c) = shut c (come_to Connecting s)
+changed s (Dialled n host port) = dialled n host port (placing (come_to Connecting s))
+changed s (Undialled host port) = undialled (placing (come_to Connecting s))
 changed s (Reached k) = event (reached k s)
 changed s (Ended k) = paid (gone true k s)
 changed s (Broke k) = paid (gone false k (event s))
 changed s (Asked k bytes) = paid (ask k (length bytes) s)
 changed s (Got k bytes) = paid (end_replies (got (length bytes) k bytes s))
-changed s (Dropped k) = dropped k (to_6 s)
+changed s (Dropped k) = dropped k (come_to Connecting s)
 changed s (NoneYet n) = paid s
 changed s (Began op) = begun_op op s
 changed s (Did op ok) = ended_op op ok s

@@ -1,6 +1,6 @@
 -- What becomes of exchanges that their request leaves (RFC 2616, section 8.1.4): each is nobody's from then on. It is read to
 -- its end and changes the table as any does, but it is told to no client, passed to none, and counts for none.
-use Rattle.std.specs.Prelude.{ℕ, Bool, true, false, ◌==◌, ◌||◌, not, List, map, filter, is_some, Some, None}
+use Rattle.std.specs.Prelude.{ℕ, Bool, true, false, ◌==◌, ◌||◌, not, List, map, filter, is_some, None}
 use Rattle.pp_law.specs.Connections.{on_client, on_exchange, each_exchange, end_exchange}
 use Rattle.pp_law.specs.Lists.{change, without, is_this}
 use Rattle.pp_law.specs.State.{State, Exchange}

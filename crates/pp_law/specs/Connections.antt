@@ -1,17 +1,16 @@
 -- The connections to origins, their lines of exchanges, and where an exchange is asked (RFC 2616, sections 8.1 and 8.1.2.2).
-use Rattle.std.specs.Prelude.{ℕ, ◌+◌, Bool, true, false, ◌==◌, ◌&&◌, ◌||◌, not, nat_le, List, [], ◌∷◌, ◌++◌, length, map, filter, find, cond, Option, Some, None, option_and_then}
+use Rattle.std.specs.Prelude.{ℕ, ◌+◌, Bool, true, false, ◌==◌, ◌&&◌, not, nat_le, List, [], ◌∷◌, ◌++◌, length, map, filter, find, count_by, Option, Some, None, option_and_then}
 use Rattle.std.specs.List.{list_any}
-use Rattle.pp_pipe.specs.Line.{started}
-use Rattle.pp_pipe.specs.declared.asks.Ask.{Ask}
 use Rattle.pp_peers.specs.Placing.{place}
-use Rattle.pp_peers.specs.declared.peers.Peer.{Peer}
+use Rattle.pp_peers.specs.Peers.{Loaded}
+use Rattle.pp_peers.specs.declared.peers.Load.{Load}
 use Rattle.pp_peers.specs.declared.placing.Limits.{Limits}
 use Rattle.pp_peers.specs.declared.placing.Placed.{Placed}
 use Rattle.pp_peers.specs.declared.placing.Placed.TheVariants.{On, Dial, CloseThenDial, Wait}
 use Rattle.pp_law.specs.Lists.{change, without, is_some_with, is_this}
 use Rattle.pp_law.specs.Requests.{goes_alone, is_asked_once}
 use Rattle.pp_law.specs.Stages.{is_begun, is_headed, on_passed}
-use Rattle.pp_law.specs.State.{State, Through, Own, Filling, Client, Conn, Exchange, Course, Trying, OutOfTries, AskTooLong, RowRefused, Passed}
+use Rattle.pp_law.specs.State.{State, Through, Own, Filling, Client, Conn, Exchange, Course, Trying, OutOfTries}
 use Rattle.pp_law.specs.Table.{clear, is_same_version, row}
 use Rattle.pp_target.specs.Key.{text_of}
 
@@ -161,25 +160,23 @@ open_conns s = without (λ k. k.is_closing) s.conns
 abbrev pub carries_alone : State → Conn → Bool
 carries_alone s k = list_any (λ n. is_some_with (λ e. goes_alone e.head) (exchange s n)) k.line
 
--- an ask on it, as far as places depend on it: its text was asked whole, or not
-abbrev pub ask_of : State → ℕ → Ask
-ask_of s n = record { head_request = false; is_begun = false; text_left = cond (is_some_with is_outstanding (exchange s n)) 0 1; body_left = 0 }
-
--- and a connection with its asks
-abbrev pub peer_of : State → Conn → Peer
-peer_of s k = record {
-  number = k.number;
-  host = record { items = k.host };
-  port = k.port;
-  pipe = record (started k.number) { asks = map (ask_of s) k.line; may_pipeline = k.may_pipeline && not (carries_alone s k) };
+abbrev pub load_of : State → Conn → Load
+load_of s k = record {
+  asks = length k.line;
+  outstanding = count_by (λ n. is_some_with is_outstanding (exchange s n)) k.line;
+  may_pipeline = k.may_pipeline && not (carries_alone s k);
 }
+
+-- a connection as far as places depend on it
+abbrev pub with_load : State → Conn → Loaded
+with_load s k = record { number = k.number; host = k.host; port = k.port; load = load_of s k }
 
 abbrev pub limits : State → Limits
 limits s = record { host_connections = s.settings.host_connections; pipelines_asks = s.settings.pipelines_asks }
 
 -- where it would be asked now
 abbrev pub place_for : State → Exchange → Placed
-place_for s e = place (limits s) e.key.host e.key.port (goes_alone e.head) (map (peer_of s) (open_conns s))
+place_for s e = place (limits s) e.key.host e.key.port (goes_alone e.head) (map (with_load s) (open_conns s))
 
 -- it is the last of that line
 unfoldable pub put_on : ℕ → ℕ → State → State

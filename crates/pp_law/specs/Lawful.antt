@@ -9,7 +9,8 @@ use Rattle.pp_world.specs.declared.note.Remark.TheVariants.{Taken, Cut, Kept, Go
 use Rattle.pp_world.specs.Log.{Log}
 use Rattle.pp_law.specs.After.{after}
 use Rattle.pp_law.specs.Opening.{may_fail}
-use Rattle.pp_law.specs.Permits.{is_permitted, IsPermitted, may_wait, waiting}
+use Rattle.pp_law.specs.Permits.{is_permitted, IsPermitted, may_wait}
+use Rattle.pp_law.specs.Phases.{ending}
 use Rattle.pp_law.specs.Served.{accepts_rightly, is_client_served, is_conn_served, is_exchange_served, wants_no_more}
 use Rattle.pp_law.specs.State.{State, Term, start}
 
@@ -44,7 +45,7 @@ abbrev pub served_rule : State → Wants → Rule
 served_rule s w = elim (find (λ rule. not rule.0) (waiting_rules s w)) [ None ↦ WantsTooMuch | Some rule ↦ rule.1 ]
 
 abbrev pub wait_rule : State → Wants → Rule
-wait_rule s w = elim (may_wait s) [ false ↦ StepUnfinished | true ↦ served_rule (waiting s) w ]
+wait_rule s w = elim (may_wait s) [ false ↦ StepUnfinished | true ↦ served_rule (ending s) w ]
 
 abbrev pub note_rule : Remark → Rule
 note_rule (Taken c i d) = WrongDecision

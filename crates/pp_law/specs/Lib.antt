@@ -24,6 +24,7 @@ pub mod Entries
 pub mod Store
 pub mod Repairs
 pub mod Opening
+pub mod Phases
 pub mod Turn
 pub mod Leaving
 pub mod Served

@@ -16,7 +16,7 @@ use Rattle.pp_law.specs.Entries.{entries_in}
 use Rattle.pp_law.specs.Lists.{Bytes, has_text, is_some_with}
 use Rattle.pp_law.specs.Repairs.{has_stray_gates}
 use Rattle.pp_law.specs.Store.{is_idle_disk, lose_entry}
-use Rattle.pp_law.specs.State.{State, Term, no_term, start, Phase, Before, IsWoken, IsConfigured, IsRooted, IsListed, IsListening, IsStuck, Step}
+use Rattle.pp_law.specs.State.{State, Term, no_term, start, Phase, Before, IsWoken, IsConfigured, IsRooted, IsListed, IsListening, IsStuck, Awaiting, Handling, Evicting, Keeping, Deciding, Following, Connecting, DecidingAgain}
 
 -- ---- the files
 
@@ -132,18 +132,21 @@ is_same_phase IsRooted IsRooted = true
 is_same_phase IsListed IsListed = true
 is_same_phase IsListening IsListening = true
 is_same_phase IsStuck IsStuck = true
+is_same_phase Awaiting Awaiting = true
+is_same_phase Handling Handling = true
+is_same_phase Evicting Evicting = true
+is_same_phase Keeping Keeping = true
+is_same_phase Deciding Deciding = true
+is_same_phase Following Following = true
+is_same_phase Connecting Connecting = true
+is_same_phase DecidingAgain DecidingAgain = true
 is_same_phase phase other = false
 
 abbrev pub is_at : Phase → State → Bool
 is_at phase s = is_same_phase phase s.phase
 
-abbrev pub is_in_opening : Phase → Bool
-is_in_opening Before = false
-is_in_opening (Step n) = false
-is_in_opening phase = true
-
 abbrev pub is_opening : State → Bool
-is_opening s = is_in_opening s.phase
+is_opening s = list_any (λ p. is_at p s) (IsWoken ∷ IsConfigured ∷ IsRooted ∷ IsListed ∷ IsListening ∷ IsStuck ∷ [])
 
 -- what failed is counted, and nothing but a printed line follows it
 unfoldable pub stuck : State → State

@@ -1,5 +1,5 @@
 -- What may happen next: a test for each happening.
-use Rattle.std.specs.Prelude.{◌≡◌, ℕ, Bool, true, false, ◌==◌, ◌&&◌, ◌||◌, not, nat_lt, nat_le, nat_eq, ◌/◌, List, [], ◌∷◌, length, bytes_eq, is_some, Option, Some, None}
+use Rattle.std.specs.Prelude.{◌≡◌, ℕ, Bool, true, false, ◌==◌, ◌&&◌, ◌||◌, not, nat_lt, nat_le, nat_eq, ◌/◌, length, bytes_eq, is_some, Option, Some, None}
 use Rattle.std.specs.List.{list_any, starts_with}
 use Rattle.pp_text.specs.Bytes.{is_empty}
 use Rattle.pp_world.specs.declared.event.Wants.{Wants}
@@ -20,14 +20,14 @@ use Rattle.pp_law.specs.Connections.{client, conn, is_client, is_conn, placing, 
 use Rattle.pp_law.specs.Lists.{Bytes, is_some_with}
 use Rattle.pp_law.specs.Opening.{permits_woke, permits_configured, permits_rooted, permits_listens, is_at, is_opening, may_fail}
 use Rattle.pp_law.specs.Offers.{offer, is_at_body}
+use Rattle.pp_law.specs.Phases.{is_awaiting, is_under_way, due_victim, has_closings, may_in, may_decide, may_end, ending}
 use Rattle.pp_law.specs.Requests.{Front, NoHeadYet, NoHead, IsRequest}
-use Rattle.pp_law.specs.Leaving.{is_in_2, leaving_as}
+use Rattle.pp_law.specs.Leaving.{leaving_as}
 use Rattle.pp_law.specs.Repairs.{may_begin_in_opening}
 use Rattle.pp_law.specs.Served.{is_served}
-use Rattle.pp_law.specs.State.{State, Client, Instance, IsRooted, IsListed, IsListening}
+use Rattle.pp_law.specs.State.{State, Client, IsRooted, IsListed, IsListening, Evicting, Keeping, Connecting}
 use Rattle.pp_law.specs.Store.{is_idle_disk, is_closed, is_named, is_acknowledged_as, may_note_gone, may_begin_in_turn, may_end_op}
-use Rattle.pp_law.specs.Table.{row, kept_row, instance, idle_row, extent_of, next_of, Next}
-use Rattle.pp_law.specs.Turn.{step, due_victim, is_awaiting, has_closings, to_3, to_6, to_decide, may_3, may_6, may_decide, may_end, ending, is_free}
+use Rattle.pp_law.specs.Table.{kept_row, instance, extent_of, next_of, Next}
 
 -- ---- decisions and cuts
 
@@ -82,7 +82,7 @@ abbrev pub may_take : State → ℕ → ℕ → Decision → Bool
 may_take s c i d = is_due_decision s (first_due s) c i d && has_room_for s c d
 
 abbrev pub permits_taken : State → ℕ → ℕ → Decision → Bool
-permits_taken s c i d = may_decide s && may_take (to_decide s) c i d
+permits_taken s c i d = may_decide (λ t. may_take t c i d) s
 
 -- a client that was opened in this turn may be refused memory
 abbrev pub is_newcomer : ℕ → Client → Bool
@@ -92,7 +92,7 @@ abbrev pub may_cut : State → ℕ → Cause → Bool
 may_cut s c cause = is_due_cut (first_due s) c cause || (is_same_cause cause Memory && list_any (is_newcomer c) s.clients)
 
 abbrev pub permits_cut : State → ℕ → Cause → Bool
-permits_cut s c cause = may_decide s && may_cut (to_decide s) c cause
+permits_cut s c cause = may_decide (λ t. may_cut t c cause) s
 
 -- ---- chunks leave memory
 
@@ -100,15 +100,14 @@ abbrev pub is_chunk_of : State → Bytes → Bytes → ℕ → ℕ → ℕ × �
 is_chunk_of s key tag n i place =
     (place.1 == i) && is_some_with (λ x. bytes_eq x.key key && bytes_eq x.version.tag tag && (x.version.length == n)) (instance s place.0)
 
-abbrev pub permits_evicted : State → Bytes → Bytes → ℕ → ℕ → Bool
-permits_evicted s key tag n i =
-    is_in_2 s && is_empty s.forgotten && is_some_with (is_chunk_of s key tag n i) (due_victim s)
+abbrev pub may_evict : State → Bytes → Bytes → ℕ → ℕ → Bool
+may_evict s key tag n i = is_empty s.forgotten && is_some_with (is_chunk_of s key tag n i) (due_victim s)
 
 -- ---- the disk
 
--- in step 3, or to repair an entry in the opening
+-- also to repair an entry in the opening
 abbrev pub permits_began : State → DiskOp → Bool
-permits_began s op = (is_at IsListed s && may_begin_in_opening op s) || (may_3 s && may_begin_in_turn op (to_3 s))
+permits_began s op = (is_at IsListed s && may_begin_in_opening op s) || may_in Keeping (may_begin_in_turn op) s
 
 -- the client that is written to has its next byte in that chunk, below the extent and not in memory
 abbrev pub may_load_at : State → Next → Bytes → Bytes → ℕ → ℕ → Bool
@@ -139,9 +138,9 @@ abbrev pub permits_noted : State → Remark → Bool
 permits_noted s (Taken c i d) = permits_taken s c i d
 permits_noted s (Cut c cause) = permits_cut s c cause
 permits_noted s (Kept key tag n extent) = is_idle_disk s && is_acknowledged_as key tag n extent s.agenda.todo
-permits_noted s (Gone key) = may_3 s && may_note_gone (to_3 s) key
+permits_noted s (Gone key) = may_in Keeping (λ t. may_note_gone t key) s
 permits_noted s (Forgotten key) = is_some (leaving_as s key)
-permits_noted s (Evicted key tag n i) = permits_evicted s key tag n i
+permits_noted s (Evicted key tag n i) = may_in Evicting (λ t. may_evict t key tag n i) s
 permits_noted s (Loaded key tag n i) = list_any (may_load s key tag n i) s.clients
 
 -- ---- what is said
@@ -159,7 +158,7 @@ abbrev pub may_shut : State → ℕ → Client → Bool
 may_shut s n c = is_client n c && (c.is_closing || s.is_stopped)
 
 abbrev pub permits_shut : State → ℕ → Bool
-permits_shut s c = may_6 s && list_any (may_shut s c) (to_6 s).clients
+permits_shut s c = may_in Connecting (λ t. list_any (may_shut t c) t.clients) s
 
 abbrev pub is_dial_of : Pause → Bytes → ℕ → Bool
 is_dial_of AllPlaced host port = false
@@ -167,8 +166,11 @@ is_dial_of (WaitsDrop k e) host port = false
 is_dial_of (WaitsDial e) host port = bytes_eq e.key.host host && (e.key.port == port)
 
 -- the dial of the first exchange that needs one, behind all closings
+abbrev pub may_dial : State → Bytes → ℕ → Bool
+may_dial s host port = not s.is_stopped && not (has_closings s) && is_dial_of (placing s).pause host port
+
 abbrev pub permits_dial : State → Bytes → ℕ → Bool
-permits_dial s host port = may_6 s && not s.is_stopped && not (has_closings (to_6 s)) && is_dial_of (placing (to_6 s)).pause host port
+permits_dial s host port = may_in Connecting (λ t. may_dial t host port) s
 
 abbrev pub is_drop_of : Pause → ℕ → Bool
 is_drop_of AllPlaced n = false
@@ -183,7 +185,7 @@ abbrev pub may_drop : State → ℕ → Bool
 may_drop s n = list_any (λ k. is_conn n k && (k.is_closing || s.is_stopped)) s.conns || gives_way s n
 
 abbrev pub permits_dropped : State → ℕ → Bool
-permits_dropped s n = may_6 s && may_drop (to_6 s) n
+permits_dropped s n = may_in Connecting (λ t. may_drop t n) s
 
 -- ---- the outside
 
@@ -206,18 +208,14 @@ is_new_number s n = nat_lt s.top n
 
 -- the opening is over, or all is done that this turn owes
 abbrev pub may_wait : State → Bool
-may_wait s = is_at IsListening s || (not (is_awaiting s) && not s.is_stopped && may_end s)
+may_wait s = is_at IsListening s || (not s.is_stopped && may_end s)
 
 -- a log may end here: nothing is owed, and behind Stop everybody is closed
 abbrev pub is_over : State → Bool
-is_over s = ((step s == 0) || may_end s) && (not s.is_stopped || (is_empty s.clients && is_empty s.conns))
-
--- the state that is waited in
-abbrev pub waiting : State → State
-waiting s = elim (is_at IsListening s) [ true ↦ s | false ↦ ending s ]
+is_over s = (not (is_under_way s) || may_end s) && (not s.is_stopped || (is_empty s.clients && is_empty s.conns))
 
 abbrev pub permits_waits : State → Wants → Bool
-permits_waits s w = elim (may_wait s) [ true ↦ is_served (waiting s) w | false ↦ false ]
+permits_waits s w = elim (may_wait s) [ true ↦ is_served (ending s) w | false ↦ false ]
 
 unfoldable pub permits : State → Happening → Bool
 permits s (Woke image) = permits_woke s image

@@ -1,5 +1,5 @@
 -- How an entry is repaired in the opening: gates behind the first that is closed are closed, and the file is synced. It is ours.
-use Rattle.std.specs.Prelude.{ℕ, ◌+◌, ◌-◌, Bool, true, false, ◌==◌, ◌&&◌, not, nat_lt, nat_le, [], ◌∷◌, length, take, drop, is_some, Option, Some, None}
+use Rattle.std.specs.Prelude.{ℕ, ◌+◌, ◌-◌, Bool, true, false, ◌==◌, ◌&&◌, nat_lt, nat_le, [], ◌∷◌, length, take, drop, is_some, Option, Some, None}
 use Rattle.std.specs.List.{list_any, list_all}
 use Rattle.pp_entry.specs.Gates.{leading_open}
 use Rattle.pp_entry.specs.Texts.{chunks_of}

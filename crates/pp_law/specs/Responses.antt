@@ -1,5 +1,5 @@
 -- Responses on a connection, in the order of its line, and what becomes of their bytes (RFC 2616, sections 4.4, 6, 8.1 and 10.1).
-use Rattle.std.specs.Prelude.{ℕ, zero, suc, ◌+◌, ◌-◌, Bool, true, false, ◌==◌, ◌&&◌, ◌||◌, not, nat_le, nat_lt, [], ◌++◌, length, drop, codes, Some, None, Ok, Err}
+use Rattle.std.specs.Prelude.{ℕ, zero, suc, ◌+◌, ◌-◌, Bool, true, false, ◌==◌, ◌&&◌, ◌||◌, not, [], ◌++◌, length, drop, Some, None, Ok, Err}
 use Rattle.pp_framing.specs.Body.{Done, Going, Bad}
 use Rattle.pp_framing.specs.Framing.{rule_of}
 use Rattle.pp_framing.specs.Rules.{body_of, ending_in}

@@ -1,5 +1,5 @@
 -- What has to stand in the wants at the end of a turn, so that nobody waits on nothing. It is ours.
-use Rattle.std.specs.Prelude.{ℕ, ◌+◌, ◌/◌, Bool, true, false, ◌==◌, ◌&&◌, ◌||◌, not, nat_lt, nat_le, length, Option, Some, None}
+use Rattle.std.specs.Prelude.{ℕ, ◌+◌, ◌/◌, Bool, true, false, ◌==◌, ◌&&◌, ◌||◌, not, nat_lt, nat_le, length, Some, None}
 use Rattle.std.specs.List.{list_any, list_all}
 use Rattle.pp_peers.specs.declared.placing.Placed.{Placed}
 use Rattle.pp_peers.specs.declared.placing.Placed.TheVariants.{On, Dial, CloseThenDial, Wait}
@@ -13,7 +13,7 @@ use Rattle.pp_law.specs.Offers.{has_to_say}
 use Rattle.pp_law.specs.Requests.{has_request}
 use Rattle.pp_law.specs.Stages.{bound_of}
 use Rattle.pp_law.specs.State.{State, Bound, Client, Conn, Exchange}
-use Rattle.pp_law.specs.Table.{instance, next_of, is_held}
+use Rattle.pp_law.specs.Table.{instance, is_held}
 use Rattle.pp_law.specs.Turn.{waits_for_exchange}
 use Rattle.pp_law.specs.Unseen.{at_of, furthest_at}
 

@@ -39,7 +39,6 @@ pub record Instance : Type 0 where
   pub fields : List Field
   pub times : Times
   pub is_retired : Bool
-  pub touched : ℕ  -- in the order of making, refreshing and deciding
   pub is_new : Bool  -- a response made it or brought it into memory in this turn
 
 -- the front of a chunk, in memory
@@ -183,18 +182,25 @@ pub record Client : Type 0 where
 
 -- ---- the turn
 
--- the opening has its places: recovery is at IsListed, and IsStuck is behind what failed; of a turn, Step 0 awaits the event
+-- the opening has its places: recovery is at IsListed, and IsStuck is behind what failed. A turn has its phases
 pub data Phase : Type 0 where
   Before : Phase
   IsWoken IsConfigured IsRooted IsListed IsListening IsStuck : Phase
-  Step : ℕ → Phase
+  Awaiting : Phase  -- the event
+  Handling : Phase  -- the event, with at most one read or write
+  Evicting : Phase  -- rows and chunks leave memory
+  Keeping : Phase  -- the disk
+  Deciding : Phase  -- decisions and cuts
+  Following : Phase  -- what is not seen is dropped, and followers ask
+  Connecting : Phase  -- closings, then the places of exchanges
+  DecidingAgain : Phase  -- decisions and cuts that these bring
 
--- what the event asks for in step 1
+-- what the event asks for
 pub data Owed : Type 0 where
   Free : Owed
   ReadOf WriteTo : ℕ → Owed
 
--- what step 3 has begun: these follow, in this order
+-- what was begun on the disk: these follow, in this order
 pub data Todo : Type 0 where
   Do : DiskOp → Todo
   Enter : Entry → Todo
@@ -226,10 +232,9 @@ pub record State : Type 0 where
   pub conns : List Conn
   pub exchanges : List Exchange  -- in the order of their beginnings
   pub next_exchange : ℕ
-  pub instances : List Instance
+  pub instances : List Instance  -- in the order of making, refreshing and deciding: the least recently used first
   pub next_instance : ℕ
   pub chunks : List Chunk  -- the least recently used first
-  pub uses : ℕ
   pub entries : List Entry
   pub closed_names : List Bytes
   pub under_way : Option DiskOp
@@ -242,7 +247,6 @@ pub record State : Type 0 where
   pub forgotten : List Bytes  -- rows that left memory and are not noted yet
   pub has_made_room : Bool  -- a row left memory for the decision that is next
   pub agenda : Agenda
-  pub is_again : Bool  -- an exchange was given up in step 6, or step 7 decided or cut: steps 5 and 6 are done again
 
 abbrev pub no_term : Term
 no_term = record { words = []; faults = 0 }
@@ -267,7 +271,6 @@ start terms = record {
   instances = [];
   next_instance = 0;
   chunks = [];
-  uses = 0;
   entries = [];
   closed_names = [];
   under_way = None;
@@ -279,5 +282,4 @@ start terms = record {
   forgotten = [];
   has_made_room = false;
   agenda = no_agenda;
-  is_again = false;
 }

@@ -1,9 +1,8 @@
 -- Entries on disk: how they are drafted, sealed, taken away and read back. The format and the order are ours; what a crash may leave
 -- of them is pp_world's, and the operations of each step are pp_gate's.
 use Rattle.std.specs.Prelude.{ℕ, zero, suc, ◌+◌, ◌-◌, ◌*◌, ◌/◌, Bool, true, false, ◌==◌, ◌&&◌, ◌||◌, not, nat_lt, nat_le, min, max, List, [], ◌∷◌, ◌++◌, length, take, drop, map, find, count_by, bytes_eq, is_some, Option, Some, None, option_and_then}
-use Rattle.std.specs.List.{list_any, list_all}
+use Rattle.std.specs.List.{list_any}
 use Rattle.pp_entry.specs.Entries.{is_sized}
-use Rattle.pp_entry.specs.Gates.{leading_open}
 use Rattle.pp_entry.specs.Texts.{body_at, chunks_of, fits, head_text, padded}
 use Rattle.pp_gate.specs.Files.{whole_file}
 use Rattle.pp_gate.specs.Gate.{publish_ops}

@@ -204,8 +204,9 @@ clear key s = swept (record s {
   entries = change (is_entry_of key) (λ e. record e { is_stale = true }) s.entries;
 })
 
+-- it is the most recently used one
 unfoldable pub mark_row : ℕ → State → State
-mark_row id s = record (on_instance id (λ x. record x { touched = s.uses }) s) { uses = s.uses + 1 }
+mark_row id s = record s { instances = without (is_instance id) s.instances ++ filter (is_instance id) s.instances }
 
 -- ---- rows in memory: ours, at most 1,024
 
@@ -218,17 +219,9 @@ is_bound_to id e = is_some_with (λ b. b.instance == id) (bound_of e)
 abbrev pub is_idle_row : State → Instance → Bool
 is_idle_row s x = not x.is_retired && not (is_followed s x.id) && not (list_any (is_bound_to x.id) s.exchanges)
 
-abbrev pub earlier : Option Instance → Instance → Option Instance
-earlier None x = Some x
-earlier (Some y) x = elim (nat_lt x.touched y.touched) [ true ↦ Some x | false ↦ Some y ]
-
-abbrev pub earliest : Option Instance → List Instance → Option Instance
-earliest best [] = best
-earliest best (x ∷ xs) = earliest (earlier best x) xs
-
--- the one without follower and exchange whose making, refresh or last decision is earliest
+-- the least recently used one without follower and exchange
 abbrev pub idle_row : State → Option Instance
-idle_row s = earliest None (filter (is_idle_row s) s.instances)
+idle_row s = find (is_idle_row s) s.instances
 
 unfoldable pub forget_row : Instance → State → State
 forget_row x s = record (forget x.id s) { forgotten = s.forgotten ++ x.key ∷ [] }
@@ -238,9 +231,8 @@ with_room s = elim (nat_lt (rows s) 1024) [ true ↦ s | false ↦ elim (idle_ro
 
 unfoldable pub add_row : Bytes → Version → List Field → Times → Bool → State → State
 add_row key version fields times is_new s = record s {
-  instances = s.instances ++ record { id = s.next_instance; key = key; version = version; fields = fields; times = times; is_retired = false; touched = s.uses; is_new = is_new } ∷ [];
+  instances = s.instances ++ record { id = s.next_instance; key = key; version = version; fields = fields; times = times; is_retired = false; is_new = is_new } ∷ [];
   next_instance = s.next_instance + 1;
-  uses = s.uses + 1;
 }
 
 -- a new row, of which nothing is held

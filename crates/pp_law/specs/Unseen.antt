@@ -4,7 +4,7 @@ use Rattle.pp_plan.specs.Need.{is_near}
 use Rattle.pp_law.specs.Connections.{each_conn, front_of_line, close_conn, end_exchange}
 use Rattle.pp_law.specs.Responses.{payload_of}
 use Rattle.pp_law.specs.Stages.{bound_of}
-use Rattle.pp_law.specs.State.{State, Through, Own, Filling, Bound, Body, Pending, Joining, Relaying, Dropping, Client, Conn, Exchange}
+use Rattle.pp_law.specs.State.{State, Through, Own, Filling, Bound, Pending, Joining, Relaying, Dropping, Client, Conn, Exchange}
 use Rattle.pp_law.specs.Table.{is_followed, next_of}
 
 -- ---- how far a body is wanted

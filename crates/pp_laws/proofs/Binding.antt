@@ -1,5 +1,5 @@
 -- An exchange is bound to the row that the body of its answer belongs to.
-use Rattle.std.proofs.Common.{◌≡◌, refl, ℕ, ◌<◌, Bool, true, false, not, List, [], ◌∷◌, Option, Some, None, inl, inr, sym, subst, ap, ◌∙◌}
+use Rattle.std.proofs.Common.{◌≡◌, refl, ℕ, ◌<◌, Bool, true, false, not, Option, Some, None, inl, inr, sym, subst, ap, ◌∙◌}
 use Rattle.pp_target.specs.Key.{text_of}
 use Rattle.pp_valid.specs.declared.version.Version.{Version}
 use Rattle.pp_law.specs.Connections.{is_exchange, on_client_of, on_exchange, without_row, is_unfilled, give_up_row, charge}

@@ -1,5 +1,5 @@
 -- The ends of responses, and the heads that begin them, keep what is sound.
-use Rattle.std.proofs.Common.{◌≡◌, ◌⊎◌, refl, ℕ, Bool, true, false, not, ◌==◌, ◌&&◌, List, [], ◌∷◌, find, cond, length, Option, Some, None, Result, Ok, Err, inl, inr, sym, subst, ap, ◌∙◌, arith}
+use Rattle.std.proofs.Common.{◌≡◌, ◌⊎◌, refl, ℕ, Bool, true, false, not, ◌==◌, List, [], ◌∷◌, find, cond, length, Option, Some, None, Result, Ok, Err, inl, inr, sym, subst, ap, ◌∙◌, arith}
 use Rattle.std.specs.Prelude.{codes, nat_lt}
 use Rattle.pp_framing.specs.Framing.{rule_of, framing_of, framed, coding_of, is_other, length_of, by_length, has_no_body, response_body}
 use Rattle.pp_framing.specs.Rules.{body_of}

@@ -1,5 +1,5 @@
 -- What is done for clients keeps what is sound: decisions, replies, asks and closings.
-use Rattle.std.proofs.Common.{◌≡◌, refl, ℕ, zero, suc, ◌+◌, ◌-◌, ◌/◌, ◌<◌, nat_lt, bytes_eq, Bool, true, false, not, ◌==◌, ◌&&◌, ◌||◌, List, [], ◌∷◌, Option, Some, None, sym, subst, ap, ◌∙◌}
+use Rattle.std.proofs.Common.{◌≡◌, refl, ℕ, zero, suc, ◌+◌, ◌-◌, ◌/◌, ◌<◌, nat_lt, bytes_eq, Bool, true, false, not, ◌==◌, ◌&&◌, ◌||◌, Option, Some, None, sym, subst, ap, ◌∙◌}
 use Rattle.pp_ask.specs.declared.kind.AskKind.{AskKind}
 use Rattle.pp_head.specs.Request.{Request}
 use Rattle.pp_pass.specs.Pipe.{Pipe}
@@ -9,7 +9,7 @@ use Rattle.pp_world.specs.declared.note.Decision.{Decision}
 use Rattle.pp_law.specs.Asking.{asking, is_writing, hear, ask_body, ask_next, ask, hang_up, asked_text, asked_body}
 use Rattle.pp_law.specs.Chunks.{chunk_len, use_chunk}
 use Rattle.pp_law.specs.Closing.{is_of, left_alone, forsake, is_over, leave, leave_one, exchanges_of, close_client}
-use Rattle.pp_law.specs.Connections.{conn, is_conn, is_client, is_outstanding, on_client, is_trying}
+use Rattle.pp_law.specs.Connections.{is_client, is_outstanding, on_client, is_trying}
 use Rattle.pp_law.specs.Deciding.{refused_with, refuse, add_exchange, begin_exchange, new_exchange, asking_with, ask_for, ask_as, ask_origin, reply_by, answering_with, serves, follow_with, follow_row, follow, relay, is_for_memory, mark_row_of, enter_row, decided_by, decided}
 use Rattle.pp_law.specs.Decisions.{kind_of, fits}
 use Rattle.pp_law.specs.Followers.{need_of, filling_exchange, fill_with, fill_span, fill_next, fill_for, fill, is_useless_ask, give_up_asks}
@@ -25,13 +25,11 @@ use Rattle.pp_law.specs.Table.{is_row_of, Next, next_of, row, kept_row, rows, id
 use Rattle.pp_laws.specs.Runs.{IsIn}
 use Rattle.pp_laws.proofs.Callers.{asking_with-same, begun_at_end-same, heard_by-same, next_request-same, on_passed-same, refused_with-same, regained_by-same, relayed-same, same_parts}
 use Rattle.pp_laws.proofs.Cases.{by_front, by_result, each_of, each_so, when}
-use Rattle.pp_laws.proofs.Closings.{close_conn-sound, own_line, own_line_shrunk}
 use Rattle.pp_laws.proofs.Exchanges.{each_client-sound, each_exchange-sound, end_exchange-sound, on_client-sound, on_client_of-sound, on_exchange-sound}
 use Rattle.pp_laws.proofs.KeptClients.{client_follows, clients_mapped}
 use Rattle.pp_laws.proofs.KeptExchanges.{SameExchange, exchange_pushed, exchanges_changed, exchanges_filtered}
-use Rattle.pp_laws.proofs.Lists.{in_find, one_of}
+use Rattle.pp_laws.proofs.Lists.{in_find, one_of, the_one}
 use Rattle.pp_laws.proofs.Rows.{enter-sound, mark_row-sound, swept-sound, use_chunk-sound}
-use Rattle.pp_laws.proofs.Shrinks.{end_exchange-shrinks}
 use Rattle.pp_laws.proofs.Sound.{FactsOf, Follows, Since, Sound, client_number, facts_of, instance_id, sound}
 use Rattle.pp_laws.proofs.Tests.{same_bytes, same_number, second_holds}
 
@@ -117,7 +115,7 @@ follow_row-sound {b} c d key s kept asks current h =
           given = subst (λ n. n < s.next_instance) id_is ((facts_of h).rows.given x there.0);
           key = key;
           asks = ap key_in (current e i (same_number e.number c.number hit)) ∙ asks;
-          same_key = λ y j y_is. ap (λ (z : Instance). z.key) (one_of instance_id s.instances y x (facts_of h).rows.rise j there.0 (y_is ∙ sym id_is)) ∙ there.1;
+          same_key = λ y j y_is. ap (λ (z : Instance). z.key) (the_one instance_id s.instances y x (facts_of h).rows.differ j there.0 (y_is ∙ sym id_is)) ∙ there.1;
         }
           where
             id_is : x.id ≡ id

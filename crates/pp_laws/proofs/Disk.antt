@@ -14,7 +14,7 @@ use Rattle.pp_law.specs.Table.{is_entry_of, is_row_of, row, kept_row}
 use Rattle.pp_laws.specs.Origin.{AllSent, EntryWasSent, ChunkWasSent}
 use Rattle.pp_laws.specs.Runs.{IsIn}
 use Rattle.pp_laws.proofs.Cases.{by_list, by_todo, each_of, each_so, when}
-use Rattle.pp_laws.proofs.Lists.{in_find, one_of}
+use Rattle.pp_laws.proofs.Lists.{in_find, the_one}
 use Rattle.pp_laws.proofs.Rows.{chunk_put, note_use-sound}
 use Rattle.pp_laws.proofs.Sound.{Since, Sound, facts_of, instance_id, sound}
 
@@ -67,7 +67,7 @@ unfolding load_from
 load_from-sound {b} x e i s there loads h = note_use-sound _ (sound (chunk_put b s x.id i (chunk_in_file s e i) ((facts_of h).rows.given x there) sent (facts_of h)))
   where
     sent : b.counts_loads ≡ true → (y : Instance) → IsIn y s.instances → x.id ≡ y.id → AllSent s.sent y.key y.version (i * chunk_len) (chunk_in_file s e i)
-    sent counts y y_there is = subst (λ (z : Instance). AllSent s.sent z.key z.version (i * chunk_len) (chunk_in_file s e i)) (one_of instance_id s.instances x y (facts_of h).rows.rise there y_there is) (loads counts)
+    sent counts y y_there is = subst (λ (z : Instance). AllSent s.sent z.key z.version (i * chunk_len) (chunk_in_file s e i)) (the_one instance_id s.instances x y (facts_of h).rows.differ there y_there is) (loads counts)
 
 -- what is read back was sent
 pub load-sound : {b : Since} (key : Bytes) (i : ℕ) (s : State) → (b.counts_loads ≡ true → ChunkWasSent s key i (row s key)) → Sound b s → Sound b (load key i s)
@@ -104,7 +104,7 @@ woken-sound image s h = begun-sound _ (sound (record {
     unplaced = λ e i is. absurd i;
     unheaded = λ e i is. absurd i;
   };
-  rows = record { rise = tt; given = λ x i. absurd i; chunks_given = λ c i. absurd i };
+  rows = record { differ = tt; given = λ x i. absurd i; own_keys = λ key x y i. absurd i; chunks_given = λ c i. absurd i };
   placed = λ k e i j l. absurd i;
   brings = λ k e to i j l is but. absurd i;
   keyed = λ e to x i is j id. absurd i;

@@ -1,29 +1,28 @@
 -- Each permitted happening keeps what is sound, and so does a lawful log.
-use Rattle.std.proofs.Common.{◌≡◌, ◌⊎◌, refl, ℕ, ◌<◌, Bool, true, false, not, ◌==◌, ◌&&◌, ◌||◌, [], ◌∷◌, ◌++◌, length, None, inl, inr, sym, subst, ap, ◌∙◌, le_of_lt, lt_of_le_of_lt}
+use Rattle.std.proofs.Common.{◌≡◌, ◌⊎◌, refl, ℕ, ◌<◌, Bool, true, false, not, ◌&&◌, [], ◌∷◌, ◌++◌, length, None, inl, inr, sym, subst, ap, ◌∙◌, le_of_lt, lt_of_le_of_lt}
 use Rattle.pp_world.specs.Log.{Log}
-use Rattle.pp_world.specs.declared.event.Wants.{Wants}
 use Rattle.pp_world.specs.declared.happening.Happening.TheVariants.{Woke, Waits, Clock, Opened, CanRead, CanWrite, Heard, HungUp, Said, Shut, Dialled, Undialled, Reached, Ended, Broke, Asked, Got, Dropped, NoneYet, Began, Did, Unread, Noted, Rooted, Listed, Listens, Configured, Printed, Stopped}
 use Rattle.pp_world.specs.declared.happening.Happening.{Happening}
 use Rattle.pp_world.specs.declared.note.Remark.TheVariants.{Taken, Cut, Kept, Gone, Forgotten, Evicted, Loaded}
+use Rattle.pp_world.specs.declared.note.Decision.{Decision}
 use Rattle.pp_world.specs.declared.note.Remark.{Remark}
 use Rattle.pp_world.specs.declared.op.DiskOp.{DiskOp}
-use Rattle.pp_law.specs.After.{new_client, new_conn, event, opened, owing, reached, paid, said, gone, in_step_7, take_decision, evicted, waits_for_row, refused_row, leave_memory, forgotten_by, noted, begun_op, ended_op, unread, shut, dialled, refused_dial, undialled, out, dropped, rested, changed, after}
+use Rattle.pp_law.specs.After.{new_client, new_conn, event, opened, owing, reached, paid, said, gone, take_decision, evicted, waits_for_row, refused_row, leave_memory, forgotten_by, noted, begun_op, ended_op, unread, shut, dialled, refused_dial, undialled, out, dropped, changed, after}
 use Rattle.pp_law.specs.Closing.{close_client}
 use Rattle.pp_law.specs.Connections.{client, conn, is_client, is_conn, may_ask_again, put_on, placing, Placement, Pause, AllPlaced, WaitsDial, WaitsDrop}
-use Rattle.pp_law.specs.Deciding.{decided}
 use Rattle.pp_law.specs.Lawful.{LawfulFrom}
 use Rattle.pp_law.specs.Leaving.{Leaving, ForAnother, ForMemory, BeforeDecision, leaving_as}
 use Rattle.pp_law.specs.Lists.{Bytes}
 use Rattle.pp_law.specs.Opening.{is_opening}
 use Rattle.pp_law.specs.Permits.{is_permitted, IsPermitted, permits, permits_dial, is_new_number}
+use Rattle.pp_law.specs.Phases.{is_awaiting, due_victim, come_to}
 use Rattle.pp_law.specs.Replies.{said_by}
-use Rattle.pp_law.specs.State.{State, RowRefused, Client, Conn, Exchange, Instance, IsRooted, IsListed, IsListening, Owed, ReadOf, WriteTo}
-use Rattle.pp_law.specs.Table.{row, forget}
-use Rattle.pp_law.specs.Turn.{step, is_awaiting, due_victim, to_6}
+use Rattle.pp_law.specs.State.{State, RowRefused, Client, Conn, Exchange, Instance, IsRooted, IsListed, IsListening, Handling, Evicting, Keeping, Following, Connecting, Owed, ReadOf, WriteTo}
+use Rattle.pp_law.specs.Table.{forget}
 use Rattle.pp_laws.specs.Origin.{LoadWasSent, LoadsWhatWasSent}
 use Rattle.pp_laws.specs.Runs.{after_all, IsIn}
 use Rattle.pp_laws.proofs.Callers.{said_by-same, same_parts}
-use Rattle.pp_laws.proofs.Cases.{by_list, by_pause, each_of, each_so, when}
+use Rattle.pp_laws.proofs.Cases.{by_pause, each_of, each_so, when}
 use Rattle.pp_laws.proofs.Clients.{ask-sound, close_client-sound, decided-sound, end_replies-sound, hang_up-sound, hear-sound, regained-sound, use_said-sound}
 use Rattle.pp_laws.proofs.Disk.{begin_in_opening-sound, begin_in_turn-sound, close_name-sound, configured-sound, end_op-sound, load-sound, lose_in_opening-sound, note_gone-sound, note_kept-sound, opened_to-sound, woken-sound}
 use Rattle.pp_laws.proofs.Exchanges.{end_exchange-sound, lose_attempt-sound, on_client-sound, on_conn-sound}
@@ -34,15 +33,15 @@ use Rattle.pp_laws.proofs.Pieces.{ended-sound, got-sound}
 use Rattle.pp_laws.proofs.Places.{IsReady, placing-dial, placing-sound, put_on-sound}
 use Rattle.pp_laws.proofs.Rows.{drop_chunk-sound, forget-sound}
 use Rattle.pp_laws.proofs.Sound.{Since, Sound, facts_of, sound}
-use Rattle.pp_laws.proofs.Steps.{ending-sound, rest_with-sound, tick-sound, to_3-sound, to_6-sound, to_decide-sound, touch-sound}
+use Rattle.pp_laws.proofs.Steps.{come_to-sound, come_to_decide-sound, deciding-sound, ending-sound, in_phase-sound, rest_with-sound, tick-sound, touch-sound}
 use Rattle.pp_laws.proofs.Tests.{below, first_holds, second_holds}
-use Rattle.pp_laws.proofs.Tops.{placing-top, to_6-top}
+use Rattle.pp_laws.proofs.Tops.{come_to-top, placing-top}
 
 -- ---- events
 
 event-sound : {b : Since} (s : State) → Sound b s → Sound b (event s)
 unfolding event
-event-sound s h = regained-sound _ (sound (facts_of h))
+event-sound s h = regained-sound _ (in_phase-sound Handling s h)
 
 opened-sound : {b : Since} (n : ℕ) (s : State) → s.top < n → Sound b s → Sound b (opened n s)
 unfolding opened
@@ -75,17 +74,13 @@ gone-sound is_clean n s none h = each_so (conn s n) (λ isnt. h) (λ k found. en
 
 -- ---- notes
 
-in_step_7-sound : {b : Since} (s : State) → Sound b s → Sound b (in_step_7 s)
-unfolding in_step_7
-in_step_7-sound s h = sound (facts_of h)
-
-take_decision-sound : {b : Since} (n : ℕ) (s : State) (decide : Client → State → State) → ((c : Client) → IsIn c s.clients → Sound b (decide c s)) → Sound b s → Sound b (take_decision n s decide)
+take_decision-sound : {b : Since} (n : ℕ) (d : Decision) (s : State) → Sound b s → Sound b (take_decision n d s)
 unfolding take_decision
-take_decision-sound n s decide each h = each_so (client s n) (λ none. h) (λ c found. regained-sound _ (sound (facts_of (in_step_7-sound _ (each c (in_find (is_client n) c s.clients found).0)))))
+take_decision-sound n d s h = each_so (client s n) (λ none. h) (λ c found. regained-sound _ (sound (facts_of (decided-sound c d s (in_find (is_client n) c s.clients found).0 h))))
 
 evicted-sound : {b : Since} (s : State) → Sound b s → Sound b (evicted s)
 unfolding evicted
-evicted-sound s h = each_of (due_victim s) h (λ place. drop_chunk-sound place.0 place.1 _ (sound (facts_of h)))
+evicted-sound s h = each_of (due_victim s) h (λ place. drop_chunk-sound place.0 place.1 s h)
 
 refused_row-sound : {b : Since} (x : Instance) (s : State) → Sound b s → Sound b (refused_row x s)
 unfolding refused_row
@@ -95,7 +90,7 @@ leave_memory-sound : {b : Since} (how : Leaving) (s : State) → Sound b s → S
 unfolding leave_memory
 leave_memory-sound ForAnother s h = sound (facts_of h)
 leave_memory-sound (ForMemory x) s h = refused_row-sound x s h
-leave_memory-sound (BeforeDecision x) s h = sound (facts_of (forget-sound x.id _ (to_decide-sound s h)))
+leave_memory-sound (BeforeDecision x) s h = sound (facts_of (forget-sound x.id _ (come_to_decide-sound s h)))
 
 forgotten_by-sound : {b : Since} (key : Bytes) (s : State) → Sound b s → Sound b (forgotten_by key s)
 unfolding forgotten_by
@@ -103,19 +98,19 @@ forgotten_by-sound key s h = each_of (leaving_as s key) h (λ how. leave_memory-
 
 noted-sound : {b : Since} (remark : Remark) (s : State) → (b.counts_loads ≡ true → LoadWasSent s (Noted remark)) → Sound b s → Sound b (noted remark s)
 unfolding noted
-noted-sound (Taken c i d) s loads h = take_decision-sound c _ (λ x t. decided x d t) (λ x there. decided-sound x d _ there (to_decide-sound s h)) (to_decide-sound s h)
-noted-sound (Cut c cause) s loads h = in_step_7-sound _ (close_client-sound c true _ (to_decide-sound s h))
-noted-sound (Kept key tag n extent) s loads h = note_kept-sound key extent _ (to_3-sound s h)
-noted-sound (Gone key) s loads h = note_gone-sound key _ (to_3-sound s h)
+noted-sound (Taken c i d) s loads h = take_decision-sound c d _ (deciding-sound s h)
+noted-sound (Cut c cause) s loads h = close_client-sound c true _ (deciding-sound s h)
+noted-sound (Kept key tag n extent) s loads h = note_kept-sound key extent s h
+noted-sound (Gone key) s loads h = note_gone-sound key _ (come_to-sound Keeping s h)
 noted-sound (Forgotten key) s loads h = forgotten_by-sound key s h
-noted-sound (Evicted key tag n i) s loads h = evicted-sound s h
+noted-sound (Evicted key tag n i) s loads h = evicted-sound _ (come_to-sound Evicting s h)
 noted-sound (Loaded key tag n i) s loads h = load-sound key i s loads h
 
 -- ---- the disk
 
 begun_op-sound : {b : Since} (op : DiskOp) (s : State) → Sound b s → Sound b (begun_op op s)
 unfolding begun_op
-begun_op-sound op s h = when (is_opening s) (begin_in_opening-sound op s h) (begin_in_turn-sound op _ (to_3-sound s h))
+begun_op-sound op s h = when (is_opening s) (begin_in_opening-sound op s h) (begin_in_turn-sound op _ (come_to-sound Keeping s h))
 
 ended_op-sound : {b : Since} (op : DiskOp) (ok : Bool) (s : State) → Sound b s → Sound b (ended_op op ok s)
 unfolding ended_op
@@ -156,7 +151,7 @@ dialled-sound n host port s above h = dialled_at n host port (placing s).state (
 
 refused_dial-sound : {b : Since} (e : Exchange) (s : State) → Sound b s → Sound b (refused_dial e s)
 unfolding refused_dial
-refused_dial-sound e s h = when (may_ask_again s e.number) h (sound (facts_of (end_exchange-sound e.number s h)))
+refused_dial-sound e s h = when (may_ask_again s e.number) h (end_exchange-sound e.number _ (in_phase-sound Following s h))
 
 undialled-sound : {b : Since} (p : Placement) → Sound b p.state → Sound b (undialled p)
 unfolding undialled
@@ -169,10 +164,6 @@ out-sound {b} n s h = sound (conns_filtered b s (λ k. not (is_conn n k)) (facts
 dropped-sound : {b : Since} (n : ℕ) (s : State) → Sound b s → Sound b (dropped n s)
 unfolding dropped
 dropped-sound n s h = each_of (conn s n) h (λ k. when k.is_closing (out-sound n s h) (out-sound n _ (placing-sound s h)))
-
-rested-sound : {b : Since} (w : Wants) (s : State) → Sound b s → Sound b (rested w s)
-unfolding rested
-rested-sound w s h = when (is_awaiting s || (step s == 0)) (rest_with-sound w s h) (rest_with-sound w _ (ending-sound s h))
 
 -- ---- what is permitted
 
@@ -197,7 +188,7 @@ dialled_above s n host port is = dialled_by s n host port s.has_made_room is
 changed-sound : {b : Since} (s : State) (happening : Happening) → b.excepts ≡ None → (b.counts_loads ≡ true → LoadWasSent s happening) → IsPermitted s happening → Sound b s → Sound b (changed s happening)
 unfolding changed
 changed-sound s (Woke image) none loads is h = woken-sound image s h
-changed-sound s (Waits w) none loads is h = rested-sound w s h
+changed-sound s (Waits w) none loads is h = rest_with-sound w _ (ending-sound s h)
 changed-sound s (Clock seconds) none loads is h = event-sound _ (tick-sound seconds s h)
 changed-sound s (Opened n) none loads is h = event-sound _ (opened-sound n s (opened_above s n is) h)
 changed-sound s (CanRead n) none loads is h = event-sound _ (owing-sound (ReadOf n) n s h)
@@ -205,16 +196,16 @@ changed-sound s (CanWrite n) none loads is h = event-sound _ (owing-sound (Write
 changed-sound s (Heard c bytes) none loads is h = paid-sound _ (hear-sound c bytes s h)
 changed-sound s (HungUp c) none loads is h = paid-sound _ (hang_up-sound c s h)
 changed-sound s (Said c offered bytes) none loads is h = paid-sound _ (said-sound c (length bytes) s h)
-changed-sound s (Shut c) none loads is h = shut-sound c _ (to_6-sound s h)
+changed-sound s (Shut c) none loads is h = shut-sound c _ (come_to-sound Connecting s h)
 changed-sound s (Dialled n host port) none loads is h =
-    dialled-sound n host port (to_6 s) (subst (λ m. m < n) (sym (placing-top (to_6 s) ∙ to_6-top s)) (dialled_above s n host port is)) (to_6-sound s h)
-changed-sound s (Undialled host port) none loads is h = undialled-sound (placing (to_6 s)) (placing-sound _ (to_6-sound s h))
+    dialled-sound n host port (come_to Connecting s) (subst (λ m. m < n) (sym (placing-top (come_to Connecting s) ∙ come_to-top Connecting s)) (dialled_above s n host port is)) (come_to-sound Connecting s h)
+changed-sound s (Undialled host port) none loads is h = undialled-sound (placing (come_to Connecting s)) (placing-sound _ (come_to-sound Connecting s h))
 changed-sound s (Reached k) none loads is h = event-sound _ (reached-sound k s h)
 changed-sound s (Ended k) none loads is h = paid-sound _ (gone-sound true k s none h)
 changed-sound s (Broke k) none loads is h = paid-sound _ (gone-sound false k _ none (event-sound s h))
 changed-sound s (Asked k bytes) none loads is h = paid-sound _ (ask-sound k (length bytes) s h)
 changed-sound s (Got k bytes) none loads is h = paid-sound _ (end_replies-sound _ (got-sound (length bytes) k bytes s none h))
-changed-sound s (Dropped k) none loads is h = dropped-sound k _ (to_6-sound s h)
+changed-sound s (Dropped k) none loads is h = dropped-sound k _ (come_to-sound Connecting s h)
 changed-sound s (NoneYet n) none loads is h = paid-sound s h
 changed-sound s (Began op) none loads is h = begun_op-sound op s h
 changed-sound s (Did op ok) none loads is h = ended_op-sound op ok s h

@@ -11,19 +11,19 @@ use Rattle.pp_text.specs.Fields.{has_field}
 use Rattle.pp_valid.specs.declared.version.Version.{Version}
 use Rattle.pp_law.specs.Connections.{exchange, is_for, attempts_of, lost_one, lose_attempt}
 use Rattle.pp_law.specs.Lists.{Bytes, is_some_with}
-use Rattle.pp_law.specs.OwnHeads.{key_of, first_offset, span_to_come, is_asked_by, tell, useless, times_for, renewed, renew, settle_on, renew_row, refresh, may_refresh, settle_known, known_version, settle, names_version, nothing_to_come, settle_unchanged, not_modified, clears_row, cleared_by, is_widened, relay_head, other_head, other_part, own_head, is_bound, lacks_next, count_elsewhere, part_head, filling_head, drop_answer, use_body, version_in, forbids_sharing, is_private_part, relayed, unchanged, is_of_another, is_full_answer, may_join}
+use Rattle.pp_law.specs.OwnHeads.{key_of, first_offset, span_to_come, is_asked_by, tell, useless, times_for, renewed, renew, settle_on, renew_row, refresh, may_refresh, settle_known, known_version, settle, names_version, nothing_to_come, settle_unchanged, not_modified, clears_row, cleared_by, is_widened, relay_head, other_head, other_part, own_head, is_bound, lacks_next, count_elsewhere, part_head, filling_head, drop_answer, use_body, version_in, forbids_sharing, is_private_part, unchanged, is_of_another, is_full_answer, may_join}
 use Rattle.pp_law.specs.Passing.{passed_by}
 use Rattle.pp_law.specs.Responses.{answer_with, by_aim, payload_of}
 use Rattle.pp_law.specs.State.{State, Answer, Body, Joining, Relaying, Dropping, Brought, Useless, Joins, Passes, TooWide, Exchange, Instance}
 use Rattle.pp_law.specs.Table.{is_same_version, is_row_of, row, clear, enter}
 use Rattle.pp_law.specs.ThroughHeads.{invalidates, key_named, is_same_host, clear_named, clear_each, places_named, invalidated, disproves, reads, disproved, through_head}
 use Rattle.pp_laws.specs.Runs.{IsIn}
-use Rattle.pp_laws.proofs.Binding.{Before, Behind, BindsTo, before_on, behind_aim, behind_each, behind_on, charge-behind, behind_use, behind_same, behind_told, behind_when}
+use Rattle.pp_laws.proofs.Binding.{Before, Behind, BindsTo, before_on, behind_aim, behind_each, behind_on, charge-behind, behind_use, behind_same, behind_when}
 use Rattle.pp_laws.proofs.Callers.{same_parts}
 use Rattle.pp_laws.proofs.Cases.{each_of, when}
 use Rattle.pp_laws.proofs.Finds.{RowIs, make_row-is, refresh-is}
 use Rattle.pp_laws.proofs.KeptClients.{clients_changed}
-use Rattle.pp_laws.proofs.Lists.{in_find, one_of}
+use Rattle.pp_laws.proofs.Lists.{in_find, the_one}
 use Rattle.pp_laws.proofs.Payloads.{payload-nothing}
 use Rattle.pp_laws.proofs.Rows.{clear-sound, enter-sound, make_row-sound, mark_row-sound, on_instance-sound}
 use Rattle.pp_laws.proofs.Sound.{FactsOf, Fitting, Since, Sound, facts_of, instance_id, is_noted, sound}
@@ -34,7 +34,7 @@ use Rattle.pp_laws.proofs.Untouched.{clear-untouched, cleared_by-untouched, disp
 
 pub renew-sound : {b : Since} (x : Instance) (head : Response) (times : Times) (s : State) → Sound b s → Sound b (renew x head times s)
 unfolding renew
-renew-sound x head times s h = mark_row-sound x.id _ (on_instance-sound x.id (renewed head times) s (λ y. record { id = refl; key = refl; version = refl }) h)
+renew-sound x head times s h = mark_row-sound x.id _ (on_instance-sound x.id (renewed head times) s (λ y. record { id = refl; key = refl; version = refl; row = λ key is. is }) h)
 
 renew_row-sound : {b : Since} (e : Exchange) (head : Response) (s : State) → Sound b s → Sound b (renew_row e head s)
 unfolding renew_row
@@ -95,26 +95,26 @@ fresh e head rule = answer_with e head rule
 no_data : (e : Exchange) (head : Response) (rule : BodyRule) → first_offset head ≡ first_offset head + length (payload_of (fresh e head rule))
 no_data e head rule = let none : length (payload_of (fresh e head rule)) ≡ 0 = ap length (payload-nothing rule) in omega arith
 
-row_is : (key : Bytes) (s : State) (x : Instance) → row s key ≡ Some x → IsIn x s.instances × (x.key ≡ key)
+row_is : (key : Bytes) (s : State) (x : Instance) → row s key ≡ Some x → IsIn x s.instances × (x.key ≡ key) × (is_row_of key x ≡ true)
 row_is key s x found =
     let there = in_find (is_row_of key) x s.instances found in
-    (there.0, same_bytes x.key key (second_holds (not x.is_retired) (bytes_eq x.key key) there.1))
+    (there.0, same_bytes x.key key (second_holds (not x.is_retired) (bytes_eq x.key key) there.1), there.1)
 
 settle_on-behind : {b : Since} (e : Exchange) (head : Response) (rule : BodyRule) (v : Version) (s : State) → is_noted e.aim ≡ true → version_in e head ≡ Some v → RowIs (key_of e) v s
     → Before b e s → Behind b (fresh e head rule) e s (settle_on e head v s)
 unfolding settle_on
 settle_on-behind {b} e head rule v s noted version is p =
     behind_each (row s (key_of e)) (λ none. behind_same (fresh e head rule) e s p)
-    (λ x found. tell-behind (Joins x.id (not (has_field (codes "age") head.fields))) s _ (behind_use (fresh e head rule) e (Joining (span_to_come head v x.id)) s refl p (binds x found (row_is (key_of e) s x found))))
+    (λ x found. tell-behind (Joins x.id (not (has_field (codes "age") head.fields))) s _ (behind_use (fresh e head rule) e (Joining (span_to_come head v x.id)) s refl p (binds x (row_is (key_of e) s x found))))
   where
     facts : FactsOf b s
     facts = facts_of p.is_sound
 
-    binds : (x : Instance) → row s (key_of e) ≡ Some x → IsIn x s.instances × (x.key ≡ key_of e) → BindsTo (fresh e head rule) e s (Some (span_to_come head v x.id))
-    binds x found there = (facts.rows.given x there.0, noted, λ y i id. of y (one_of instance_id s.instances y x facts.rows.rise i there.0 id))
+    binds : (x : Instance) → IsIn x s.instances × (x.key ≡ key_of e) × (is_row_of (key_of e) x ≡ true) → BindsTo (fresh e head rule) e s (Some (span_to_come head v x.id))
+    binds x there = (facts.rows.given x there.0, noted, λ y i id. of y (the_one instance_id s.instances y x facts.rows.differ i there.0 id))
       where
         of : (y : Instance) → y ≡ x → (y.key ≡ key_of e) × Fitting (fresh e head rule) (span_to_come head v x.id) y
-        of y eq = (ap (λ (z : Instance). z.key) eq ∙ there.1, inl (version ∙ ap (λ w. Some w) (sym (ap (λ (z : Instance). z.version) eq ∙ is x found)), no_data e head rule))
+        of y eq = (ap (λ (z : Instance). z.key) eq ∙ there.1, inl (version ∙ ap (λ w. Some w) (sym (ap (λ (z : Instance). z.version) eq ∙ is x there.0 there.2)), no_data e head rule))
 
 settle_known-behind : {b : Since} (e : Exchange) (head : Response) (rule : BodyRule) (v : Version) (s : State) → is_noted e.aim ≡ true → version_in e head ≡ Some v
     → is_some_with (is_same_version v) (known_version s (key_of e)) ≡ true → Before b e s → Behind b (fresh e head rule) e s (settle_known e head v s)
@@ -122,7 +122,7 @@ unfolding settle_known
 settle_known-behind e head rule v s noted version known p =
     behind_when (may_refresh e head s)
     (λ may. behind_on s _ _ (refresh-untouched e head s)
-    (settle_on-behind e head rule v _ noted version (refresh-is e head v s known) (before_on s _ (refresh-untouched e head s) (refresh-sound e head s p.is_sound) p)))
+    (settle_on-behind e head rule v _ noted version (refresh-is e head v s (facts_of p.is_sound) known) (before_on s _ (refresh-untouched e head s) (refresh-sound e head s p.is_sound) p)))
     (λ isnt. useless-behind (fresh e head rule) e s p)
 
 -- what may join is of the version
@@ -152,8 +152,8 @@ settle_unchanged-behind {b} e head rule s noted empty p =
     facts : FactsOf b s
     facts = facts_of p.is_sound
 
-    binds : (x : Instance) → IsIn x s.instances × (x.key ≡ key_of e) → BindsTo (fresh e head rule) e s (Some (nothing_to_come x))
-    binds x there = (facts.rows.given x there.0, noted, λ y i id. (ap (λ (z : Instance). z.key) (one_of instance_id s.instances y x facts.rows.rise i there.0 id) ∙ there.1, inr empty))
+    binds : (x : Instance) → IsIn x s.instances × (x.key ≡ key_of e) × (is_row_of (key_of e) x ≡ true) → BindsTo (fresh e head rule) e s (Some (nothing_to_come x))
+    binds x there = (facts.rows.given x there.0, noted, λ y i id. (ap (λ (z : Instance). z.key) (the_one instance_id s.instances y x facts.rows.differ i there.0 id) ∙ there.1, inr empty))
 
 unchanged-behind : {b : Since} (e : Exchange) (head : Response) (rule : BodyRule) (s : State) → is_noted e.aim ≡ true → rule ≡ Empty → Before b e s → Behind b (fresh e head rule) e s (unchanged e head s)
 unfolding unchanged

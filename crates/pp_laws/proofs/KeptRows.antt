@@ -1,16 +1,17 @@
 -- What is kept where instances are changed in what nothing here depends on, come or go.
-use Rattle.std.proofs.Common.{◌≡◌, ◌⊎◌, refl, ℕ, ◌+◌, ◌<◌, ◌*◌, Bool, true, List, [], ◌∷◌, ◌++◌, map, filter, Some, inl, inr, sym, subst, ap, ◌∙◌, arith}
+use Rattle.std.proofs.Common.{◌≡◌, ◌⊎◌, refl, ℕ, ◌+◌, ◌<◌, ◌*◌, Bool, true, List, [], ◌∷◌, ◌++◌, map, filter, Some, inl, inr, sym, subst, ap, ◌∙◌, lt_irrefl, arith}
 use Rattle.pp_target.specs.Key.{text_of}
 use Rattle.pp_law.specs.Chunks.{chunk_len}
 use Rattle.pp_law.specs.Lists.{change, Bytes}
 use Rattle.pp_law.specs.OwnHeads.{key_of}
 use Rattle.pp_law.specs.Stages.{bound_of}
 use Rattle.pp_law.specs.State.{State, Answer, Client, Exchange, Instance, Chunk, Bound}
-use Rattle.pp_laws.specs.Numbers.{AreRising}
+use Rattle.pp_law.specs.Table.{is_row_of}
+use Rattle.pp_laws.specs.Numbers.{AreDistinct}
 use Rattle.pp_laws.specs.Origin.{AllSent}
 use Rattle.pp_laws.specs.Runs.{IsIn}
 use Rattle.pp_laws.proofs.Joins.{HeldOf}
-use Rattle.pp_laws.proofs.Lists.{Changed, in_change, in_filter, in_map, in_push, other, rise_change, rise_filter, rise_map, rise_push, same}
+use Rattle.pp_laws.proofs.Lists.{Changed, differ_change, differ_filter, differ_map, differ_moved, differ_push, in_change, in_filter, in_map, in_moved, in_push, moved, other, same}
 use Rattle.pp_laws.proofs.Sound.{FactsOf, Fitting, Follows, Since, instance_id}
 
 -- ---- instances
@@ -22,20 +23,22 @@ pub record InstanceFrom (instances : List Instance) (x : Instance) : Type 0 wher
   pub id : x.id ≡ was.id
   pub key : x.key ≡ was.key
   pub version : x.version ≡ was.version
+  pub row : (key : Bytes) → is_row_of key x ≡ true → is_row_of key was ≡ true
 
 fitting_same : (a : Answer) (to : Bound) (x y : Instance) → x.version ≡ y.version → Fitting a to y → Fitting a to x
 fitting_same a to x y is (inl fits) = inl (fits.0 ∙ ap (λ v. Some v) (sym is), fits.1)
 fitting_same a to x y is (inr none) = inr none
 
-pub rows_kept : (b : Since) (s : State) (instances : List Instance) (chunks : List Chunk) → AreRising (map instance_id instances) → ((x : Instance) → IsIn x instances → InstanceFrom s.instances x)
+pub rows_kept : (b : Since) (s : State) (instances : List Instance) (chunks : List Chunk) → AreDistinct (map instance_id instances) → ((x : Instance) → IsIn x instances → InstanceFrom s.instances x)
     → ((c : Chunk) → IsIn c chunks → IsIn c s.chunks) → FactsOf b s → FactsOf b (record s { instances = instances; chunks = chunks })
-rows_kept b s instances chunks rise from chunk_from h = record {
+rows_kept b s instances chunks differ from chunk_from h = record {
   grew = h.grew;
   lines = h.lines;
   asks = h.asks;
   rows = record {
-    rise = rise;
+    differ = differ;
     given = λ x i. let f = from x i in subst (λ n. n < s.next_instance) (sym f.id) (h.rows.given f.was f.there);
+    own_keys = λ key x y i j r q. let f = from x i in let g = from y j in f.id ∙ h.rows.own_keys key f.was g.was f.there g.there (f.row key r) (g.row key q) ∙ sym g.id;
     chunks_given = λ c i. h.rows.chunks_given c (chunk_from c i);
   };
   placed = h.placed;
@@ -62,21 +65,22 @@ pub record SameInstance (x y : Instance) : Type 0 where
   pub id : x.id ≡ y.id
   pub key : x.key ≡ y.key
   pub version : x.version ≡ y.version
+  pub row : (key : Bytes) → is_row_of key x ≡ true → is_row_of key y ≡ true
 
 pub instance_from : (instances : List Instance) (x y : Instance) → IsIn y instances → SameInstance x y → InstanceFrom instances x
-instance_from instances x y i is = record { was = y; there = i; id = is.id; key = is.key; version = is.version }
+instance_from instances x y i is = record { was = y; there = i; id = is.id; key = is.key; version = is.version; row = is.row }
 
 pub instance_same : (x : Instance) → SameInstance x x
-instance_same x = record { id = refl; key = refl; version = refl }
+instance_same x = record { id = refl; key = refl; version = refl; row = λ key is. is }
 
 pub instances_mapped : (b : Since) (s : State) (f : Instance → Instance) → ((x : Instance) → SameInstance (f x) x) → FactsOf b s → FactsOf b (record s { instances = map f s.instances })
-instances_mapped b s f kept h = rows_kept b s (map f s.instances) s.chunks (rise_map instance_id f (λ x. (kept x).id) s.instances h.rows.rise) from (λ c i. i) h
+instances_mapped b s f kept h = rows_kept b s (map f s.instances) s.chunks (differ_map instance_id f (λ x. (kept x).id) s.instances h.rows.differ) from (λ c i. i) h
   where
     from : (x : Instance) → IsIn x (map f s.instances) → InstanceFrom s.instances x
     from x i = let r = in_map f x s.instances i in instance_from s.instances x r.was r.there (subst (λ (y : Instance). SameInstance y r.was) (sym r.is) (kept r.was))
 
 pub instances_changed : (b : Since) (s : State) (p : Instance → Bool) (f : Instance → Instance) → ((x : Instance) → SameInstance (f x) x) → FactsOf b s → FactsOf b (record s { instances = change p f s.instances })
-instances_changed b s p f kept h = rows_kept b s (change p f s.instances) s.chunks (rise_change instance_id p f (λ x. (kept x).id) s.instances h.rows.rise) (λ x i. from x (in_change p f x s.instances i)) (λ c i. i) h
+instances_changed b s p f kept h = rows_kept b s (change p f s.instances) s.chunks (differ_change instance_id p f (λ x. (kept x).id) s.instances h.rows.differ) (λ x i. from x (in_change p f x s.instances i)) (λ c i. i) h
   where
     from : (x : Instance) → Changed p f s.instances x → InstanceFrom s.instances x
     from x (same i isnt) = instance_from s.instances x x i (instance_same x)
@@ -84,21 +88,25 @@ instances_changed b s p f kept h = rows_kept b s (change p f s.instances) s.chun
 
 pub rows_filtered : (b : Since) (s : State) (p : Instance → Bool) (q : Chunk → Bool) → FactsOf b s → FactsOf b (record s { instances = filter p s.instances; chunks = filter q s.chunks })
 rows_filtered b s p q h =
-    rows_kept b s (filter p s.instances) (filter q s.chunks) (rise_filter instance_id p s.instances h.rows.rise) (λ x i. instance_from s.instances x x (in_filter p x s.instances i).0 (instance_same x))
+    rows_kept b s (filter p s.instances) (filter q s.chunks) (differ_filter instance_id p s.instances h.rows.differ) (λ x i. instance_from s.instances x x (in_filter p x s.instances i).0 (instance_same x))
     (λ c i. (in_filter q c s.chunks i).0) h
 
 pub chunks_filtered : (b : Since) (s : State) (q : Chunk → Bool) → FactsOf b s → FactsOf b (record s { chunks = filter q s.chunks })
-chunks_filtered b s q h = rows_kept b s s.instances (filter q s.chunks) h.rows.rise (λ x i. instance_from s.instances x x i (instance_same x)) (λ c i. (in_filter q c s.chunks i).0) h
+chunks_filtered b s q h = rows_kept b s s.instances (filter q s.chunks) h.rows.differ (λ x i. instance_from s.instances x x i (instance_same x)) (λ c i. (in_filter q c s.chunks i).0) h
 
--- a new one, of which nothing is held
-pub instance_pushed : (b : Since) (s : State) (x : Instance) → x.id ≡ s.next_instance → FactsOf b s → FactsOf b (record s { instances = s.instances ++ x ∷ []; next_instance = s.next_instance + 1 })
-instance_pushed b s x id h = record {
+pub instances_moved : (b : Since) (s : State) (p : Instance → Bool) → FactsOf b s → FactsOf b (record s { instances = moved p s.instances })
+instances_moved b s p h = rows_kept b s (moved p s.instances) s.chunks (differ_moved instance_id p s.instances h.rows.differ) (λ x i. instance_from s.instances x x (in_moved p x s.instances i) (instance_same x)) (λ c i. i) h
+
+-- a new one, of which nothing is held, and whose key has no row
+pub instance_pushed : (b : Since) (s : State) (x : Instance) → x.id ≡ s.next_instance → ((key : Bytes) (y : Instance) → IsIn y s.instances → is_row_of key y ≡ true → is_row_of key x ≡ true → ⊥) → FactsOf b s → FactsOf b (record s { instances = s.instances ++ x ∷ []; next_instance = s.next_instance + 1 })
+instance_pushed b s x id alone h = record {
   grew = h.grew;
   lines = h.lines;
   asks = record { rise = h.asks.rise; given = h.asks.given; bounds = λ e to i is. more to.instance (h.asks.bounds e to i is); noted = h.asks.noted; unplaced = h.asks.unplaced; unheaded = h.asks.unheaded };
   rows = record {
-    rise = rise_push instance_id s.instances x h.rows.rise (λ y i. subst (λ n. y.id < n) (sym id) (h.rows.given y i));
+    differ = differ_push instance_id s.instances x h.rows.differ (λ y i is. lt_irrefl y.id (subst (λ n. y.id < n) (sym (is ∙ id)) (h.rows.given y i)));
     given = λ y i. given_by y (in_push y s.instances x i);
+    own_keys = λ key y z i j r q. own_by key y z (in_push y s.instances x i) (in_push z s.instances x j) r q;
     chunks_given = λ c i. more c.instance (h.rows.chunks_given c i);
   };
   placed = h.placed;
@@ -125,6 +133,15 @@ instance_pushed b s x id h = record {
 
     never : (y : Instance) (n : ℕ) → y ≡ x → n < s.next_instance → y.id ≡ n → ⊥
     never y n e lt is = let new : y.id ≡ s.next_instance = new_id y e in omega arith
+
+    as_new : (key : Bytes) (y : Instance) → y ≡ x → is_row_of key y ≡ true → is_row_of key x ≡ true
+    as_new key y e is = sym (ap (is_row_of key) e) ∙ is
+
+    own_by : (key : Bytes) (y z : Instance) → IsIn y s.instances ⊎ (y ≡ x) → IsIn z s.instances ⊎ (z ≡ x) → is_row_of key y ≡ true → is_row_of key z ≡ true → y.id ≡ z.id
+    own_by key y z (inl i) (inl j) r q = h.rows.own_keys key y z i j r q
+    own_by key y z (inl i) (inr e) r q = absurd (alone key y i r (as_new key z e q))
+    own_by key y z (inr e) (inl j) r q = absurd (alone key z j q (as_new key y e r))
+    own_by key y z (inr e) (inr f) r q = ap instance_id (e ∙ sym f)
 
     fits_by : (a : Answer) (to : Bound) → to.instance < s.next_instance → ((y : Instance) → IsIn y s.instances → y.id ≡ to.instance → Fitting a to y) → (y : Instance) → IsIn y s.instances ⊎ (y ≡ x) → y.id ≡ to.instance → Fitting a to y
     fits_by a to lt fits y (inl i) is = fits y i is

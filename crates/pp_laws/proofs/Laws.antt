@@ -33,7 +33,7 @@ start-sound b terms none = sound (record {
     unplaced = λ e i is. absurd i;
     unheaded = λ e i is. absurd i;
   };
-  rows = record { rise = tt; given = λ x i. absurd i; chunks_given = λ c i. absurd i };
+  rows = record { differ = tt; given = λ x i. absurd i; own_keys = λ key x y i. absurd i; chunks_given = λ c i. absurd i };
   placed = λ k e i j l. absurd i;
   brings = λ k e to i j l is but. absurd i;
   keyed = λ e to x i is j id. absurd i;
@@ -72,7 +72,7 @@ own_numbers terms log lawful =
       conns_given = f.lines.given;
       exchanges_rise = f.asks.rise;
       exchanges_given = f.asks.given;
-      instances_rise = f.rows.rise;
+      instances_differ = f.rows.differ;
       instances_given = f.rows.given;
       chunks_given = f.rows.chunks_given;
       bounds_given = λ e b i is. f.asks.bounds e b i is;

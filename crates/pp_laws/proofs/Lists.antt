@@ -1,7 +1,7 @@
--- What is in a list that was changed, filtered or grew; and lists of records whose numbers rise.
-use Rattle.std.proofs.Common.{◌≡◌, ◌⊎◌, refl, ℕ, ◌<◌, Bool, true, false, List, [], ◌∷◌, ◌++◌, map, filter, find, cond, Option, Some, inl, inr, sym, subst, ap, ap₂, ◌∙◌, lt_irrefl}
+-- What is in a list that was changed, filtered, moved or grew; and lists of records whose numbers rise, or are distinct.
+use Rattle.std.proofs.Common.{◌≡◌, ◌⊎◌, refl, ℕ, ◌<◌, Bool, true, false, not, List, [], ◌∷◌, ◌++◌, map, filter, find, cond, Option, Some, inl, inr, sym, subst, ap, ap₂, ◌∙◌, lt_irrefl}
 use Rattle.pp_law.specs.Lists.{change}
-use Rattle.pp_laws.specs.Numbers.{AllAbove, AreRising}
+use Rattle.pp_laws.specs.Numbers.{AllAbove, AreDistinct, AreRising}
 use Rattle.pp_laws.specs.Runs.{IsIn}
 
 -- ---- what is in a list
@@ -117,3 +117,73 @@ one_of num (z ∷ zs) x y rise (inl e) (inl f) is = e ∙ sym f
 one_of num (z ∷ zs) x y rise (inl e) (inr j) is = let l = above_in num (num z) y zs rise.0 j in absurd (lt_irrefl (num z) (subst (λ n. num z < n) (sym is ∙ ap num e) l))
 one_of num (z ∷ zs) x y rise (inr i) (inl f) is = let l = above_in num (num z) x zs rise.0 i in absurd (lt_irrefl (num z) (subst (λ n. num z < n) (is ∙ ap num f) l))
 one_of num (z ∷ zs) x y rise (inr i) (inr j) is = one_of num zs x y rise.1 i j is
+
+-- ---- numbers that are distinct
+
+in_numbers : {A : Type 0} (num : A → ℕ) (x : A) (xs : List A) → IsIn x xs → IsIn (num x) (map num xs)
+in_numbers num x [] i = absurd i
+in_numbers num x (y ∷ ys) (inl e) = inl (ap num e)
+in_numbers num x (y ∷ ys) (inr i) = inr (in_numbers num x ys i)
+
+not_in_numbers : {A : Type 0} (num : A → ℕ) (n : ℕ) (xs : List A) → ((x : A) → IsIn x xs → ¬ (num x ≡ n)) → ¬ (IsIn n (map num xs))
+not_in_numbers num n [] apart i = i
+not_in_numbers num n (x ∷ xs) apart (inl e) = apart x (inl refl) (sym e)
+not_in_numbers num n (x ∷ xs) apart (inr i) = not_in_numbers num n xs (λ y j. apart y (inr j)) i
+
+apart_from : {A : Type 0} (num : A → ℕ) (n : ℕ) (x : A) (xs : List A) → ¬ (IsIn n (map num xs)) → IsIn x xs → ¬ (num x ≡ n)
+apart_from num n x xs none i is = none (subst (λ m. IsIn m (map num xs)) is (in_numbers num x xs i))
+
+-- records with one number are one
+pub the_one : {A : Type 0} (num : A → ℕ) (xs : List A) (x y : A) → AreDistinct (map num xs) → IsIn x xs → IsIn y xs → num x ≡ num y → x ≡ y
+the_one num [] x y differ i j e = absurd i
+the_one num (z ∷ zs) x y differ (inl e) (inl f) is = e ∙ sym f
+the_one num (z ∷ zs) x y differ (inl e) (inr j) is = absurd (apart_from num (num z) y zs differ.0 j (sym is ∙ ap num e))
+the_one num (z ∷ zs) x y differ (inr i) (inl f) is = absurd (apart_from num (num z) x zs differ.0 i (is ∙ ap num f))
+the_one num (z ∷ zs) x y differ (inr i) (inr j) is = the_one num zs x y differ.1 i j is
+
+pub differ_map : {A : Type 0} (num : A → ℕ) (f : A → A) → ((x : A) → num (f x) ≡ num x) → (xs : List A) → AreDistinct (map num xs) → AreDistinct (map num (map f xs))
+differ_map num f kept xs differ = subst AreDistinct (sym (map_kept num f kept xs)) differ
+
+pub differ_change : {A : Type 0} (num : A → ℕ) (p : A → Bool) (f : A → A) → ((x : A) → num (f x) ≡ num x) → (xs : List A) → AreDistinct (map num xs) → AreDistinct (map num (change p f xs))
+differ_change num p f kept xs differ = differ_map num (changed_at p f) (λ x. changed_kept num f x (p x) (kept x)) xs differ
+
+differ_filter_by : {A : Type 0} (num : A → ℕ) (p : A → Bool) (x : A) (xs : List A) (b : Bool) → ¬ (IsIn (num x) (map num xs)) → AreDistinct (map num (filter p xs)) → AreDistinct (map num (cond b (x ∷ filter p xs) (filter p xs)))
+differ_filter_by num p x xs true none differ = (not_in_numbers num (num x) (filter p xs) (λ y i. apart_from num (num x) y xs none (in_filter p y xs i).0), differ)
+differ_filter_by num p x xs false none differ = differ
+
+pub differ_filter : {A : Type 0} (num : A → ℕ) (p : A → Bool) (xs : List A) → AreDistinct (map num xs) → AreDistinct (map num (filter p xs))
+differ_filter num p [] differ = tt
+differ_filter num p (x ∷ xs) differ = differ_filter_by num p x xs (p x) differ.0 (differ_filter num p xs differ.1)
+
+differ_append : {A : Type 0} (num : A → ℕ) (xs ys : List A) → AreDistinct (map num xs) → AreDistinct (map num ys) → ((x y : A) → IsIn x xs → IsIn y ys → ¬ (num y ≡ num x)) → AreDistinct (map num (xs ++ ys))
+differ_append num [] ys one two apart = two
+differ_append num (x ∷ xs) ys one two apart =
+    (not_in_numbers num (num x) (xs ++ ys) (λ z i. by z (in_append z xs ys i)), differ_append num xs ys one.1 two (λ z y i j. apart z y (inr i) j))
+  where
+    by : (z : _) → IsIn z xs ⊎ IsIn z ys → ¬ (num z ≡ num x)
+    by z (inl i) = apart_from num (num x) z xs one.0 i
+    by z (inr j) = apart x z (inl refl) j
+
+pub differ_push : {A : Type 0} (num : A → ℕ) (xs : List A) (y : A) → AreDistinct (map num xs) → ((x : A) → IsIn x xs → ¬ (num x ≡ num y)) → AreDistinct (map num (xs ++ y ∷ []))
+differ_push num xs y differ apart = differ_append num xs (y ∷ []) differ (λ i. i, tt) (λ x z i j. by x z i j)
+  where
+    by : (x z : _) → IsIn x xs → IsIn z (y ∷ []) → ¬ (num z ≡ num x)
+    by x z i (inl e) is = apart x i (sym is ∙ ap num e)
+    by x z i (inr none) is = none
+
+-- those of which the test holds are the last
+abbrev pub moved : {A : Type 0} → (A → Bool) → List A → List A
+moved p xs = filter (λ x. not (p x)) xs ++ filter p xs
+
+pub in_moved : {A : Type 0} (p : A → Bool) (x : A) (xs : List A) → IsIn x (moved p xs) → IsIn x xs
+in_moved p x xs i = elim (in_append x (filter (λ y. not (p y)) xs) (filter p xs) i) [ inl l ↦ (in_filter (λ y. not (p y)) x xs l).0 | inr r ↦ (in_filter p x xs r).0 ]
+
+pub differ_moved : {A : Type 0} (num : A → ℕ) (p : A → Bool) (xs : List A) → AreDistinct (map num xs) → AreDistinct (map num (moved p xs))
+differ_moved num p xs differ =
+    differ_append num (filter (λ x. not (p x)) xs) (filter p xs) (differ_filter num (λ x. not (p x)) xs differ) (differ_filter num p xs differ) (λ x y i j. by x y (in_filter (λ z. not (p z)) x xs i) (in_filter p y xs j))
+  where
+    by : (x y : _) → IsIn x xs × (not (p x) ≡ true) → IsIn y xs × (p y ≡ true) → ¬ (num y ≡ num x)
+    by x y i j is =
+        let e : y ≡ x = the_one num xs y x differ j.0 i.0 is in
+        let both : false ≡ true = ap not (sym (sym (ap p e) ∙ j.1)) ∙ i.1 in
+        cc both

@@ -1,5 +1,5 @@
 -- Rows and chunks: what is done to them keeps what is sound.
-use Rattle.std.proofs.Common.{◌≡◌, refl, ℕ, ◌*◌, ◌<◌, nat_lt, Bool, true, false, not, ◌==◌, List, [], ◌∷◌, filter, find, subst, ◌∙◌}
+use Rattle.std.proofs.Common.{◌≡◌, refl, ℕ, ◌*◌, ◌<◌, nat_lt, Bool, true, false, not, ◌==◌, List, filter, find, bytes_eq, sym, subst, ◌∙◌}
 use Rattle.pp_fresh.specs.declared.aging.Times.{Times}
 use Rattle.pp_text.specs.Fields.{Field}
 use Rattle.pp_valid.specs.declared.version.Version.{Version}
@@ -10,11 +10,12 @@ use Rattle.pp_law.specs.Table.{is_instance, is_row_of, is_left_over, is_chunk_of
 use Rattle.pp_laws.specs.Origin.{AllSent}
 use Rattle.pp_laws.specs.Runs.{IsIn}
 use Rattle.pp_laws.proofs.Cases.{each_of, each_so, when}
+use Rattle.pp_laws.proofs.Finds.{HasNoRow, clear-no_row, no_row, with_room-no_row}
 use Rattle.pp_laws.proofs.Joins.{HeldOf, put_chunk-given, put_chunk-held}
-use Rattle.pp_laws.proofs.KeptRows.{SameInstance, chunks_filtered, instance_pushed, instances_changed, rows_filtered}
+use Rattle.pp_laws.proofs.KeptRows.{SameInstance, chunks_filtered, instance_pushed, instances_changed, instances_moved, rows_filtered}
 use Rattle.pp_laws.proofs.Lists.{in_find}
 use Rattle.pp_laws.proofs.Sound.{FactsOf, Since, Sound, facts_of, sound}
-use Rattle.pp_laws.proofs.Tests.{first_holds, same_number, second_holds}
+use Rattle.pp_laws.proofs.Tests.{first_holds, same_bytes, same_number, second_holds}
 
 -- ---- instances
 
@@ -32,11 +33,11 @@ swept-sound {b} s h = sound (rows_filtered b s (λ x. not (is_left_over s x)) (�
 
 pub clear-sound : {b : Since} (key : Bytes) (s : State) → Sound b s → Sound b (clear key s)
 unfolding clear
-clear-sound {b} key s h = swept-sound _ (sound (instances_changed b s (is_row_of key) (λ x. record x { is_retired = true }) (λ x. record { id = refl; key = refl; version = refl }) (facts_of h)))
+clear-sound {b} key s h = swept-sound _ (sound (instances_changed b s (is_row_of key) (λ x. record x { is_retired = true }) (λ x. record { id = refl; key = refl; version = refl; row = λ k is. absurd (cc is) }) (facts_of h)))
 
 pub mark_row-sound : {b : Since} (id : ℕ) (s : State) → Sound b s → Sound b (mark_row id s)
 unfolding mark_row
-mark_row-sound id s h = sound (facts_of (on_instance-sound id (λ x. record x { touched = s.uses }) s (λ x. record { id = refl; key = refl; version = refl }) h))
+mark_row-sound {b} id s h = sound (instances_moved b s (is_instance id) (facts_of h))
 
 pub forget_row-sound : {b : Since} (x : Instance) (s : State) → Sound b s → Sound b (forget_row x s)
 unfolding forget_row
@@ -46,18 +47,22 @@ pub with_room-sound : {b : Since} (s : State) → Sound b s → Sound b (with_ro
 unfolding with_room
 with_room-sound s h = when (nat_lt (rows s) 1024) h (each_of (idle_row s) h (λ x. forget_row-sound x s h))
 
-pub add_row-sound : {b : Since} (key : Bytes) (version : Version) (fields : List Field) (times : Times) (is_new : Bool) (s : State) → Sound b s → Sound b (add_row key version fields times is_new s)
+pub add_row-sound : {b : Since} (key : Bytes) (version : Version) (fields : List Field) (times : Times) (is_new : Bool) (s : State) → HasNoRow key s → Sound b s → Sound b (add_row key version fields times is_new s)
 unfolding add_row
-add_row-sound {b} key version fields times is_new s h =
-    sound (instance_pushed b s (record { id = s.next_instance; key = key; version = version; fields = fields; times = times; is_retired = false; touched = s.uses; is_new = is_new }) refl (facts_of h))
+add_row-sound {b} key version fields times is_new s none h =
+    sound (instance_pushed b s (record { id = s.next_instance; key = key; version = version; fields = fields; times = times; is_retired = false; is_new = is_new }) refl alone (facts_of h))
+  where
+    alone : (k : Bytes) (y : Instance) → IsIn y s.instances → is_row_of k y ≡ true → bytes_eq key k ≡ true → ⊥
+    alone k y i is same = no_row key s none y i (subst (λ m. is_row_of m y ≡ true) (sym (same_bytes key k same)) is)
 
 pub make_row-sound : {b : Since} (key : Bytes) (version : Version) (fields : List Field) (times : Times) (s : State) → Sound b s → Sound b (make_row key version fields times s)
 unfolding make_row
-make_row-sound key version fields times s h = add_row-sound key version fields times true _ (with_room-sound _ (clear-sound key s h))
+make_row-sound key version fields times s h = add_row-sound key version fields times true _ (with_room-no_row key _ (clear-no_row key s)) (with_room-sound _ (clear-sound key s h))
 
 pub enter-sound : {b : Since} (key : Bytes) (is_new : Bool) (s : State) → Sound b s → Sound b (enter key is_new s)
 unfolding enter
-enter-sound key is_new s h = each_of (row s key) (each_of (kept_row s key) h (λ e. add_row-sound key e.version e.fields e.times is_new _ (with_room-sound s h))) (λ x. h)
+enter-sound key is_new s h =
+    each_so (row s key) (λ none. each_of (kept_row s key) h (λ e. add_row-sound key e.version e.fields e.times is_new _ (with_room-no_row key s none) (with_room-sound s h))) (λ x found. h)
 
 -- ---- chunks
 
@@ -68,7 +73,7 @@ rechunked b s chunks given held h = record {
   grew = h.grew;
   lines = h.lines;
   asks = h.asks;
-  rows = record { rise = h.rows.rise; given = h.rows.given; chunks_given = given };
+  rows = record { differ = h.rows.differ; given = h.rows.given; own_keys = h.rows.own_keys; chunks_given = given };
   placed = h.placed;
   brings = h.brings;
   keyed = h.keyed;

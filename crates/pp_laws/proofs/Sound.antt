@@ -2,12 +2,14 @@
 use Rattle.std.proofs.Common.{◌≡◌, ◌⊎◌, ℕ, ◌+◌, ◌<◌, ◌≤◌, Bool, true, false, List, [], ◌∷◌, map, length, Option, Some, None}
 use Rattle.pp_framing.specs.declared.body.BodyRule.TheVariants.{Empty}
 use Rattle.pp_target.specs.Key.{Key, text_of}
+use Rattle.pp_law.specs.Lists.{Bytes}
 use Rattle.pp_law.specs.OwnHeads.{key_of, first_offset}
 use Rattle.pp_law.specs.Requests.{key_in}
 use Rattle.pp_law.specs.Responses.{payload_of}
 use Rattle.pp_law.specs.Stages.{is_passing, bound_of, is_headed}
 use Rattle.pp_law.specs.State.{State, Sent, Aim, Through, Own, Filling, Answer, Client, Stage, Undecided, Waiting, Passing, Answering, Conn, Exchange, Instance, Chunk, Bound}
-use Rattle.pp_laws.specs.Numbers.{AreRising}
+use Rattle.pp_law.specs.Table.{is_row_of}
+use Rattle.pp_laws.specs.Numbers.{AreDistinct, AreRising}
 use Rattle.pp_laws.specs.Origin.{IsBackPart}
 use Rattle.pp_laws.specs.Runs.{IsIn}
 use Rattle.pp_laws.proofs.Joins.{HeldOf}
@@ -65,8 +67,10 @@ pub record Asks (exchanges : List Exchange) (next_exchange : ℕ) (next_instance
   pub unheaded : (e : Exchange) → IsIn e exchanges → is_headed e ≡ false → bound_of e ≡ None
 
 pub record Rows (instances : List Instance) (next_instance : ℕ) (chunks : List Chunk) : Type 0 where
-  pub rise : AreRising (map instance_id instances)
+  pub differ : AreDistinct (map instance_id instances)
   pub given : (x : Instance) → IsIn x instances → x.id < next_instance
+  -- a key has one row at most
+  pub own_keys : (key : Bytes) (x y : Instance) → IsIn x instances → IsIn y instances → is_row_of key x ≡ true → is_row_of key y ≡ true → x.id ≡ y.id
   pub chunks_given : (c : Chunk) → IsIn c chunks → c.instance < next_instance
 
 -- the instance that a client is answered from

@@ -1,13 +1,14 @@
--- The steps of a turn keep what is sound.
-use Rattle.std.proofs.Common.{◌≡◌, refl, ℕ, nat_le, max, Bool, true, false, not, ◌==◌, ◌&&◌, List, [], ◌∷◌, map, Option, Some, None, sym, ap, ◌∙◌}
+-- The phases of a turn, its clock and its end keep what is sound.
+use Rattle.std.proofs.Common.{◌≡◌, refl, ℕ, max, Bool, true, false, not, ◌&&◌, List, [], ◌∷◌, map, Option, Some, None, sym, ap, ◌∙◌}
 use Rattle.pp_world.specs.declared.event.Wants.{Wants}
 use Rattle.pp_law.specs.Connections.{front_of_line}
 use Rattle.pp_law.specs.Offers.{has_to_say}
+use Rattle.pp_law.specs.Opening.{is_at}
+use Rattle.pp_law.specs.Phases.{phases, in_phase, behind, next, is_done, come, come_to, decides, come_to_decide, deciding, ending}
 use Rattle.pp_law.specs.Stages.{bound_in, bound_of, is_pending}
-use Rattle.pp_law.specs.State.{State, Body, Bound, Pending, Joining, Relaying, Dropping, Client, Conn, Exchange}
-use Rattle.pp_law.specs.Turn.{step, is_in_4, is_in_7, behind_2, to_3, to_4, to_6, to_7, to_decide, waits_for_exchange, marked_client, marked_conn, touch, first_marks, is_idle_conn, owes_answer, end_patience, close_idle_conn, woken_client, renew_marks, tick_to, tick, ending, rested_client, rested_conn, rested_instance, rest_with}
+use Rattle.pp_law.specs.State.{State, Phase, Before, IsWoken, IsConfigured, IsRooted, IsListed, IsListening, IsStuck, Awaiting, Handling, Evicting, Keeping, Deciding, Following, Connecting, DecidingAgain, Body, Bound, Pending, Joining, Relaying, Dropping, Client, Conn, Exchange}
+use Rattle.pp_law.specs.Turn.{waits_for_exchange, marked_client, marked_conn, touch, first_marks, is_idle_conn, owes_answer, end_patience, close_idle_conn, woken_client, renew_marks, tick_to, tick, rested_client, rested_conn, rested_instance, rest_with}
 use Rattle.pp_law.specs.Unseen.{furthest_at, wanted_to, rested_exchange, is_unseen, drop_on, drop_unseen}
-use Rattle.pp_laws.specs.Runs.{IsIn}
 use Rattle.pp_laws.proofs.Callers.{same_parts}
 use Rattle.pp_laws.proofs.Cases.{each_of, when}
 use Rattle.pp_laws.proofs.Clients.{begin_replies-sound, fill-sound, give_up_asks-sound}
@@ -21,18 +22,6 @@ use Rattle.pp_laws.proofs.Places.{placing-sound}
 use Rattle.pp_laws.proofs.Shrinks.{Shrinks, end_exchange-shrinks, fail-shrinks, shrinks_each, shrinks_same, shrinks_when}
 use Rattle.pp_laws.proofs.Sound.{Since, Sound, facts_of, sound}
 
-pub behind_2-sound : {b : Since} (s : State) → Sound b s → Sound b (behind_2 s)
-unfolding behind_2
-behind_2-sound s h = when (nat_le (step s) 2) (give_up_asks-sound s h) h
-
-pub to_3-sound : {b : Since} (s : State) → Sound b s → Sound b (to_3 s)
-unfolding to_3
-to_3-sound s h = sound (facts_of (behind_2-sound s h))
-
-pub to_4-sound : {b : Since} (s : State) → Sound b s → Sound b (to_4 s)
-unfolding to_4
-to_4-sound s h = sound (facts_of (behind_2-sound s h))
-
 drop_on-sound : {b : Since} (k : Conn) (s : State) → IsOwnLine k s → Sound b s → Sound b (drop_on k s)
 unfolding drop_on
 drop_on-sound k s own h =
@@ -43,17 +32,50 @@ drop_unseen-sound : {b : Since} (s : State) → Sound b s → Sound b (drop_unse
 unfolding drop_unseen
 drop_unseen-sound s h = each_conn-sound drop_on (λ k t there ht. drop_on-sound k t (own_line k t there ht) ht) _ s h
 
-pub to_6-sound : {b : Since} (s : State) → Sound b s → Sound b (to_6 s)
-unfolding to_6
-to_6-sound s h = when ((step s == 6) && not s.is_again) h (fill-sound _ (drop_unseen-sound _ (sound (facts_of (behind_2-sound s h)))))
+-- ---- phases
 
-pub to_7-sound : {b : Since} (s : State) → Sound b s → Sound b (to_7 s)
-unfolding to_7
-to_7-sound s h = when ((step s == 7) && not s.is_again) h (placing-sound _ (sound (facts_of (to_6-sound s h))))
+pub in_phase-sound : {b : Since} (phase : Phase) (s : State) → Sound b s → Sound b (in_phase phase s)
+in_phase-sound phase s h = sound (facts_of h)
 
-pub to_decide-sound : {b : Since} (s : State) → Sound b s → Sound b (to_decide s)
-unfolding to_decide
-to_decide-sound s h = when (is_in_4 s) (to_4-sound s h) (when (is_in_7 s) h (to_7-sound s h))
+behind-sound : {b : Since} (phase : Phase) (s : State) → Sound b s → Sound b (behind phase s)
+behind-sound Before s h = h
+behind-sound IsWoken s h = h
+behind-sound IsConfigured s h = h
+behind-sound IsRooted s h = h
+behind-sound IsListed s h = h
+behind-sound IsListening s h = h
+behind-sound IsStuck s h = h
+behind-sound Awaiting s h = h
+behind-sound Handling s h = in_phase-sound Evicting s h
+behind-sound Evicting s h = give_up_asks-sound _ (in_phase-sound Keeping s h)
+behind-sound Keeping s h = in_phase-sound Deciding s h
+behind-sound Deciding s h = in_phase-sound Following s h
+behind-sound Following s h = fill-sound _ (drop_unseen-sound _ (in_phase-sound Connecting s h))
+behind-sound Connecting s h = placing-sound _ (in_phase-sound DecidingAgain s h)
+behind-sound DecidingAgain s h = h
+
+next-sound : {b : Since} (s : State) → Sound b s → Sound b (next s)
+unfolding next
+next-sound s h = behind-sound s.phase s h
+
+come-sound : {b : Since} (stops : State → Bool) (ps : List Phase) (s : State) → Sound b s → Sound b (come stops ps s)
+unfolding come
+come-sound stops [] s h = h
+come-sound stops (p ∷ ps) s h = come-sound stops ps _ (when (is_at p s) (when (stops s) h (when (is_done s) (next-sound s h) h)) h)
+
+pub come_to-sound : {b : Since} (phase : Phase) (s : State) → Sound b s → Sound b (come_to phase s)
+unfolding come_to
+come_to-sound phase s h = come-sound (is_at phase) phases s h
+
+pub come_to_decide-sound : {b : Since} (s : State) → Sound b s → Sound b (come_to_decide s)
+unfolding come_to_decide
+come_to_decide-sound s h = come-sound decides phases s h
+
+pub deciding-sound : {b : Since} (s : State) → Sound b s → Sound b (deciding s)
+unfolding deciding
+deciding-sound s h = in_phase-sound Deciding _ (come_to_decide-sound s h)
+
+-- ---- marks, and the clock
 
 pub touch-sound : {b : Since} (n : ℕ) (s : State) → Sound b s → Sound b (touch n s)
 unfolding touch
@@ -97,7 +119,7 @@ tick-sound now s h = tick_to-sound (max s.clock now) s h
 
 pub ending-sound : {b : Since} (s : State) → Sound b s → Sound b (ending s)
 unfolding ending
-ending-sound s h = begin_replies-sound _ (to_7-sound s h)
+ending-sound s h = begin_replies-sound _ (come_to-sound DecidingAgain s h)
 
 -- how far its body was wanted is noted
 wanted_same : (s : State) (b : Bound) (at : Option ℕ) (to : Bound) → (elim at as (λ c. Bound) [ None ↦ b | Some n ↦ record b { wanted = n } ]) ≡ to → (to.instance ≡ b.instance) × (to.next ≡ b.next)
@@ -136,6 +158,6 @@ rested_exchange-rewanted s e = by (bound_of e) refl
 pub rest_with-sound : {b : Since} (w : Wants) (s : State) → Sound b s → Sound b (rest_with w s)
 unfolding rest_with
 rest_with-sound {b} w s h = sound (clients_mapped b (record s { conns = map (rested_conn s w) s.conns; exchanges = map (rested_exchange s) s.exchanges; instances = map rested_instance s.instances }) (rested_client s) (λ c. same_parts _ c refl refl refl)
-    (instances_mapped b (record s { conns = map (rested_conn s w) s.conns; exchanges = map (rested_exchange s) s.exchanges }) rested_instance (λ x. record { id = refl; key = refl; version = refl })
+    (instances_mapped b (record s { conns = map (rested_conn s w) s.conns; exchanges = map (rested_exchange s) s.exchanges }) rested_instance (λ x. record { id = refl; key = refl; version = refl; row = λ key is. is })
     (exchanges_rewanted b (record s { conns = map (rested_conn s w) s.conns }) (rested_exchange s) (rested_exchange-rewanted s)
     (conns_mapped b s (rested_conn s w) (λ k. record { number = refl; line = refl; answer = refl }) (facts_of h)))))

@@ -1,5 +1,5 @@
 -- Placing and the asks of followers leave the greatest number of a connection as it is.
-use Rattle.std.proofs.Common.{◌≡◌, refl, ℕ, Bool, true, false, not, ◌==◌, ◌&&◌, List, [], ◌∷◌, Option, Some, None, option_and_then, ◌∙◌, arith}
+use Rattle.std.proofs.Common.{◌≡◌, refl, ℕ, Bool, true, false, not, ◌&&◌, List, [], ◌∷◌, Option, Some, None, option_and_then, ◌∙◌, arith}
 use Rattle.pp_target.specs.Key.{text_of}
 use Rattle.pp_peers.specs.declared.placing.Placed.TheVariants.{On, Dial, CloseThenDial, Wait}
 use Rattle.pp_peers.specs.declared.placing.Placed.{Placed}
@@ -8,10 +8,11 @@ use Rattle.pp_law.specs.Closing.{forsake}
 use Rattle.pp_law.specs.Deciding.{add_exchange, begin_exchange}
 use Rattle.pp_law.specs.Followers.{fill_with, fill_span, fill_next, fill_for, fill, give_up_asks}
 use Rattle.pp_law.specs.Lists.{Bytes}
+use Rattle.pp_law.specs.Opening.{is_at}
+use Rattle.pp_law.specs.Phases.{phases, in_phase, behind, next, is_done, come, come_to}
 use Rattle.pp_law.specs.Stages.{is_headed}
-use Rattle.pp_law.specs.State.{State, Client, Conn, Exchange, Instance}
+use Rattle.pp_law.specs.State.{State, Phase, Before, IsWoken, IsConfigured, IsRooted, IsListed, IsListening, IsStuck, Awaiting, Handling, Evicting, Keeping, Deciding, Following, Connecting, DecidingAgain, Client, Conn, Exchange}
 use Rattle.pp_law.specs.Table.{Next, swept, clear}
-use Rattle.pp_law.specs.Turn.{step, behind_2, to_6}
 use Rattle.pp_law.specs.Unseen.{is_unseen, drop_on, drop_unseen}
 
 -- ---- cases and walks
@@ -88,10 +89,6 @@ fill-top : (s : State) → (fill s).top ≡ s.top
 unfolding fill
 fill-top s = top_when s.top s.is_stopped _ _ refl (each_client-top fill_for fill_for-top _ s)
 
-behind_2-top : (s : State) → (behind_2 s).top ≡ s.top
-unfolding behind_2 give_up_asks
-behind_2-top s = grind arith
-
 clear-top : (key : Bytes) (s : State) → (clear key s).top ≡ s.top
 unfolding clear swept
 clear-top key s = refl
@@ -128,6 +125,38 @@ drop_unseen-top : (s : State) → (drop_unseen s).top ≡ s.top
 unfolding drop_unseen
 drop_unseen-top s = each_conn-top drop_on drop_on-top _ s
 
-pub to_6-top : (s : State) → (to_6 s).top ≡ s.top
-unfolding to_6
-to_6-top s = top_when s.top ((step s == 6) && not s.is_again) _ _ refl (fill-top _ ∙ drop_unseen-top _ ∙ behind_2-top s)
+-- ---- phases
+
+give_up_asks-top : (s : State) → (give_up_asks s).top ≡ s.top
+unfolding give_up_asks
+give_up_asks-top s = refl
+
+behind-top : (phase : Phase) (s : State) → (behind phase s).top ≡ s.top
+behind-top Before s = refl
+behind-top IsWoken s = refl
+behind-top IsConfigured s = refl
+behind-top IsRooted s = refl
+behind-top IsListed s = refl
+behind-top IsListening s = refl
+behind-top IsStuck s = refl
+behind-top Awaiting s = refl
+behind-top Handling s = refl
+behind-top Evicting s = give_up_asks-top (in_phase Keeping s)
+behind-top Keeping s = refl
+behind-top Deciding s = refl
+behind-top Following s = fill-top (drop_unseen (in_phase Connecting s)) ∙ drop_unseen-top (in_phase Connecting s)
+behind-top Connecting s = placing-top (in_phase DecidingAgain s)
+behind-top DecidingAgain s = refl
+
+next-top : (s : State) → (next s).top ≡ s.top
+unfolding next
+next-top s = behind-top s.phase s
+
+come-top : (stops : State → Bool) (ps : List Phase) (s : State) → (come stops ps s).top ≡ s.top
+unfolding come
+come-top stops [] s = refl
+come-top stops (p ∷ ps) s = come-top stops ps _ ∙ top_when s.top (is_at p s) _ _ (top_when s.top (stops s) _ _ refl (top_when s.top (is_done s) _ _ (next-top s) refl)) refl
+
+pub come_to-top : (phase : Phase) (s : State) → (come_to phase s).top ≡ s.top
+unfolding come_to
+come_to-top phase s = come-top (is_at phase) phases s

@@ -62,7 +62,7 @@ clear-untouched key s = let u = swept-untouched (record s { instances = change (
 
 mark_row-untouched : (id : ℕ) (s : State) → Untouched s (mark_row id s)
 unfolding mark_row
-mark_row-untouched id s = let u = on_instance-untouched id (λ x. record x { touched = s.uses }) s in record { conns = u.conns; exchanges = u.exchanges }
+mark_row-untouched id s = record { conns = refl; exchanges = refl }
 
 forget_row-untouched : (x : Instance) (s : State) → Untouched s (forget_row x s)
 unfolding forget_row

@@ -16,8 +16,13 @@ abbrev pub AreRising : List ℕ → Type 0
 AreRising [] = Unit {0}
 AreRising (n ∷ ns) = AllAbove n ns × AreRising ns
 
+-- none is there twice
+abbrev pub AreDistinct : List ℕ → Type 0
+AreDistinct [] = Unit {0}
+AreDistinct (n ∷ ns) = ¬ (IsIn n ns) × AreDistinct ns
+
 -- those that are there have numbers of their own, and a new one would get one above them; what speaks of an instance does not
--- speak of one that is still to come
+-- speak of one that is still to come. Instances stand in the order of their use
 pub record HasOwnNumbers (s : State) : Type 0 where
   pub clients_rise : AreRising (map (λ c. c.number) s.clients)
   pub clients_given : (c : Client) → IsIn c s.clients → c.number ≤ s.top
@@ -25,7 +30,7 @@ pub record HasOwnNumbers (s : State) : Type 0 where
   pub conns_given : (k : Conn) → IsIn k s.conns → k.number ≤ s.top
   pub exchanges_rise : AreRising (map (λ e. e.number) s.exchanges)
   pub exchanges_given : (e : Exchange) → IsIn e s.exchanges → e.number < s.next_exchange
-  pub instances_rise : AreRising (map (λ x. x.id) s.instances)
+  pub instances_differ : AreDistinct (map (λ x. x.id) s.instances)
   pub instances_given : (x : Instance) → IsIn x s.instances → x.id < s.next_instance
   pub chunks_given : (c : Chunk) → IsIn c s.chunks → c.instance < s.next_instance
   pub bounds_given : (e : Exchange) (b : Bound) → IsIn e s.exchanges → bound_of e ≡ Some b → b.instance < s.next_instance

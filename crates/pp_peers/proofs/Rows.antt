@@ -1,9 +1,9 @@
 -- Worked places of asks (RFC 2616, sections 8.1.2.2 and 8.1.4).
-use Rattle.std.proofs.Common.{refl, ℕ, zero, suc, ◌+◌, ◌-◌, Bool, true, false, List, [], ◌∷◌, ◌++◌, codes, replicate}
+use Rattle.std.proofs.Common.{refl, ℕ, zero, suc, ◌+◌, ◌-◌, Bool, true, false, List, [], ◌∷◌, ◌++◌, map, codes, replicate}
 use Rattle.pp_text.proofs.Table.{Rows}
 use Rattle.pp_pipe.specs.Line.{started}
 use Rattle.pp_pipe.specs.declared.asks.Ask.{Ask}
-use Rattle.pp_peers.specs.Peers.{load_of, place_in, unused, with_pipe, without}
+use Rattle.pp_peers.specs.Peers.{load_of, place_in, unused, with_load, with_pipe, without}
 use Rattle.pp_peers.specs.Placing.{place}
 use Rattle.pp_peers.specs.declared.peers.Peer.{Peer}
 use Rattle.pp_peers.specs.declared.placing.Limits.{Limits}
@@ -38,7 +38,7 @@ four = record { host_connections = 4; pipelines_asks = true }
 
 -- where the next ask for h goes, shared or alone
 abbrev next : List Peer → Bool → Placed
-next peers alone = place four h 80 alone peers
+next peers alone = place four h 80 alone (map with_load peers)
 
 abbrev both : List Peer → Placed × Placed
 both peers = (next peers false, next peers true)
@@ -70,7 +70,7 @@ the_33rd_ask_of_a_host_waits_for_the_first_connection_with_room = refl
 
 -- ---- what the user lets connections be used for
 
-asks_go_behind_others_only_where_the_user_says_so : Rows (λ (limits : Limits). place limits h 80 false (on 1 (1, 0, true) ∷ on 2 (2, 0, true) ∷ [])) (
+asks_go_behind_others_only_where_the_user_says_so : Rows (λ (limits : Limits). place limits h 80 false (map with_load (on 1 (1, 0, true) ∷ on 2 (2, 0, true) ∷ []))) (
     (record { host_connections = 2; pipelines_asks = false }, Wait)
     ∷ (record { host_connections = 2; pipelines_asks = true }, On 1)
     ∷ (record { host_connections = 1; pipelines_asks = true }, On 1)
@@ -83,7 +83,7 @@ abbrev same : ℕ → List Peer
 same zero = []
 same (suc n) = same n ++ on (n + 1) (1, 0, true) ∷ []
 
-the_ninth_connection_of_a_host_is_one_too_many_by_default : Rows (λ (n : ℕ). place (record { host_connections = 8; pipelines_asks = false }) h 80 false (same n)) (
+the_ninth_connection_of_a_host_is_one_too_many_by_default : Rows (λ (n : ℕ). place (record { host_connections = 8; pipelines_asks = false }) h 80 false (map with_load (same n))) (
     (7, Dial)
     ∷ (8, Wait)
     ∷ [])

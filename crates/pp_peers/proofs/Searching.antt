@@ -1,27 +1,30 @@
 -- A search over the connections, one by one.
-use Rattle.std.proofs.Common.{◌≡◌, ◌≤◌, ◌<◌, ◌+◌, ℕ, Bool, true, false, cond, min, List, [], ◌∷◌, filter, fold, length, refl, sym, ◌∙◌, ap, get_or, drop, add-one, drop-cons, Option, Some, None}
+use Rattle.std.proofs.Common.{◌≡◌, ◌≤◌, ◌<◌, ◌+◌, ℕ, Bool, true, false, cond, min, List, [], ◌∷◌, map, filter, fold, length, refl, sym, ◌∙◌, ap, get_or, drop, add-one, drop-cons, Option, Some, None}
 use Rattle.std.specs.List.{find}
 use Rattle.std.proofs.lemmas.List.{drop_all}
 use Rattle.pp_peers.specs.declared.peers.Peer.{Peer}
+use Rattle.pp_peers.specs.Peers.{Loaded, with_load}
 use Rattle.pp_peers.specs.Searches.{Weight, lighter, lighter_of, lightest_of, lower, lowest}
 
 next : (ps : List Peer) (i : ℕ) (p : Peer) → i < length ps → p ≡ get_or ps i p → drop i ps ≡ p ∷ drop (i + 1) ps
 next ps i p within is = rw add-one (drop-cons ps i p within) ∙ ap (λ q. q ∷ drop (i + 1) ps) (sym is)
 
 -- the next one passes the test
-pub kept : (test : Peer → Bool) (ps : List Peer) (i : ℕ) (p : Peer) → i < length ps → p ≡ get_or ps i p → test p ≡ true
-    → filter test (drop i ps) ≡ p ∷ filter test (drop (i + 1) ps)
+pub kept : (test : Loaded → Bool) (ps : List Peer) (i : ℕ) (p : Peer) → i < length ps → p ≡ get_or ps i p → test (with_load p) ≡ true
+    → filter test (map with_load (drop i ps)) ≡ with_load p ∷ filter test (map with_load (drop (i + 1) ps))
 kept test ps i p within is passes =
-    ap (filter test) (next ps i p within is) ∙ ap (λ b. cond b (p ∷ filter test (drop (i + 1) ps)) (filter test (drop (i + 1) ps))) passes
+    ap (λ qs. filter test (map with_load qs)) (next ps i p within is)
+    ∙ ap (λ b. cond b (with_load p ∷ filter test (map with_load (drop (i + 1) ps))) (filter test (map with_load (drop (i + 1) ps)))) passes
 
 -- the next one does not
-pub left_out : (test : Peer → Bool) (ps : List Peer) (i : ℕ) (p : Peer) → i < length ps → p ≡ get_or ps i p → test p ≡ false
-    → filter test (drop i ps) ≡ filter test (drop (i + 1) ps)
+pub left_out : (test : Loaded → Bool) (ps : List Peer) (i : ℕ) (p : Peer) → i < length ps → p ≡ get_or ps i p → test (with_load p) ≡ false
+    → filter test (map with_load (drop i ps)) ≡ filter test (map with_load (drop (i + 1) ps))
 left_out test ps i p within is passes =
-    ap (filter test) (next ps i p within is) ∙ ap (λ b. cond b (p ∷ filter test (drop (i + 1) ps)) (filter test (drop (i + 1) ps))) passes
+    ap (λ qs. filter test (map with_load qs)) (next ps i p within is)
+    ∙ ap (λ b. cond b (with_load p ∷ filter test (map with_load (drop (i + 1) ps))) (filter test (map with_load (drop (i + 1) ps)))) passes
 
-pub none_left : (test : Peer → Bool) (ps : List Peer) (i : ℕ) → length ps ≤ i → filter test (drop i ps) ≡ []
-none_left test ps i past = ap (filter test) (drop_all i ps past)
+pub none_left : (test : Loaded → Bool) (ps : List Peer) (i : ℕ) → length ps ≤ i → filter test (map with_load (drop i ps)) ≡ []
+none_left test ps i past = ap (λ qs. filter test (map with_load qs)) (drop_all i ps past)
 
 -- the first that passes the test
 pub found : (test : Peer → Bool) (ps : List Peer) (i : ℕ) (p : Peer) → i < length ps → p ≡ get_or ps i p → test p ≡ true → find test (drop i ps) ≡ Some p

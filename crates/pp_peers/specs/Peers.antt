@@ -20,6 +20,16 @@ load_of peer = record {
   may_pipeline = peer.pipe.may_pipeline;
 }
 
+-- a connection as far as places depend on it: where it goes to, and what it carries
+pub record Loaded : Type 0 where
+  pub number : ℕ
+  pub host : List ℕ
+  pub port : ℕ
+  pub load : Load
+
+abbrev pub with_load : Peer → Loaded
+with_load peer = record { number = peer.number; host = peer.host.items; port = peer.port; load = load_of peer }
+
 -- where the connection with this number stands, behind the last where it is not there
 abbrev pub place_in : ℕ → List Peer → ℕ
 place_in number [] = 0

@@ -1,32 +1,31 @@
 -- The best of some connections.
 use Rattle.std.specs.Prelude.{ℕ, Bool, true, ◌==◌, ◌&&◌, ◌||◌, nat_lt, if◌then◌else◌, min, List, [], ◌∷◌, map, filter, fold, length, bytes_eq, Option, Some, None}
-use Rattle.pp_peers.specs.Peers.{load_of}
-use Rattle.pp_peers.specs.declared.peers.Peer.{Peer}
+use Rattle.pp_peers.specs.Peers.{Loaded}
 use Rattle.pp_peers.specs.declared.searches.Among.{Among}
 use Rattle.pp_peers.specs.declared.searches.Among.TheVariants.{All, Host}
 
 -- those that are meant: any, or those to this host and port
-abbrev pub is_any : Peer → Bool
+abbrev pub is_any : Loaded → Bool
 is_any peer = true
 
-abbrev pub is_of : List ℕ → ℕ → Peer → Bool
-is_of host port peer = bytes_eq peer.host.items host && (peer.port == port)
+abbrev pub is_of : List ℕ → ℕ → Loaded → Bool
+is_of host port peer = bytes_eq peer.host host && (peer.port == port)
 
-abbrev pub is_among : Among → Peer → Bool
+abbrev pub is_among : Among → Loaded → Bool
 is_among All = is_any
 is_among (Host host port) = is_of host.now port
 
-abbrev pub count_of : (Peer → Bool) → List Peer → ℕ
+abbrev pub count_of : (Loaded → Bool) → List Loaded → ℕ
 count_of among peers = length (filter among peers)
 
 -- it carries nothing
-abbrev pub is_idle : (Peer → Bool) → Peer → Bool
-is_idle among peer = among peer && ((load_of peer).asks == 0)
+abbrev pub is_idle : (Loaded → Bool) → Loaded → Bool
+is_idle among peer = among peer && (peer.load.asks == 0)
 
 -- "Clients which assume persistent connections and pipeline immediately after connection establishment SHOULD be
 -- prepared to retry" (section 8.1.2.2); ours: only after a response that shows that it may, and 8 asks
-abbrev pub takes_more : (Peer → Bool) → Peer → Bool
-takes_more among peer = among peer && ((load_of peer).may_pipeline && nat_lt (load_of peer).asks 8)
+abbrev pub takes_more : (Loaded → Bool) → Loaded → Bool
+takes_more among peer = among peer && (peer.load.may_pipeline && nat_lt peer.load.asks 8)
 
 abbrev pub lower : Option ℕ → ℕ → ℕ
 lower None number = number
@@ -36,10 +35,10 @@ abbrev pub lowest : List ℕ → Option ℕ
 lowest [] = None
 lowest (number ∷ numbers) = Some (fold min number numbers)
 
-abbrev pub numbers : (Peer → Bool) → List Peer → List ℕ
+abbrev pub numbers : (Loaded → Bool) → List Loaded → List ℕ
 numbers test peers = map (λ p. p.number) (filter test peers)
 
-abbrev pub lowest_idle : (Peer → Bool) → List Peer → Option ℕ
+abbrev pub lowest_idle : (Loaded → Bool) → List Loaded → Option ℕ
 lowest_idle among peers = lowest (numbers (is_idle among) peers)
 
 -- outstanding asks, and the number
@@ -61,8 +60,8 @@ abbrev pub lightest_of : List Weight → Option Weight
 lightest_of [] = None
 lightest_of (weight ∷ weights) = Some (fold lighter_of weight weights)
 
-abbrev pub weights : (Peer → Bool) → List Peer → List Weight
-weights test peers = map (λ p. ((load_of p).outstanding, p.number)) (filter test peers)
+abbrev pub weights : (Loaded → Bool) → List Loaded → List Weight
+weights test peers = map (λ p. (p.load.outstanding, p.number)) (filter test peers)
 
-abbrev pub lightest : (Peer → Bool) → List Peer → Option Weight
+abbrev pub lightest : (Loaded → Bool) → List Loaded → Option Weight
 lightest among peers = lightest_of (weights (takes_more among) peers)

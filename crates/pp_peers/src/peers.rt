@@ -1,9 +1,9 @@
 // The connections that are there.
 ghost use Rattle.std.specs.Borrow.{sem};
-ghost use Rattle.std.specs.Prelude.{◌≡◌, ◌≤◌, ◌<◌, ◌++◌, ◌∷◌, [], length, option_map, false, IfOk};
+ghost use Rattle.std.specs.Prelude.{◌≡◌, ◌≤◌, ◌<◌, ◌++◌, ◌∷◌, [], length, map, option_map, false, IfOk};
 ghost use Rattle.std.specs.List.{find, list_any};
 ghost use Rattle.pp_peers.specs.Lending.{LendsPipe};
-ghost use Rattle.pp_peers.specs.Peers.{is_number, load_of as load_in, place_in, unused, without};
+ghost use Rattle.pp_peers.specs.Peers.{is_number, load_of as load_in, place_in, unused, with_load, without};
 ghost use Rattle.pp_peers.specs.Placing.{place};
 
 use crate::placing::{Limits, Placed, place_among};
@@ -85,7 +85,7 @@ impl Peers {
     /// itself, a new one: its method is not known to be safe to repeat, or it has a body (RFC 2616,
     /// section 8.1.2.2), or it authenticates its connection (RFC 4559, section 6).
     pub fn place(&self, limits: Limits, host: &[u8], port: u16, alone: bool) -> Placed
-        ensures { result ≡ place limits host.now port alone self.now }
+        ensures { result ≡ place limits host.now port alone (map with_load self.now) }
     {
         place_among(&self.peers, limits, host, port, alone)
     }

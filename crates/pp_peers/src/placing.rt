@@ -1,5 +1,6 @@
 // Where an ask goes.
-ghost use Rattle.std.specs.Prelude.{◌≡◌, ◌≤◌, length};
+ghost use Rattle.std.specs.Prelude.{◌≡◌, ◌≤◌, length, map};
+ghost use Rattle.pp_peers.specs.Peers.{with_load};
 ghost use Rattle.pp_peers.specs.Placing.{giving_way, new_place, pipelined_place, place, shared_place};
 ghost use Rattle.pp_peers.specs.Searches.{is_among};
 
@@ -40,7 +41,7 @@ pub(crate) fn place_among(
     alone: bool,
 ) -> Placed
     requires { length peers.now ≤ 64 }
-    ensures { result ≡ place limits host.now port alone peers.now }
+    ensures { result ≡ place limits host.now port alone (map with_load peers.now) }
 {
     if alone {
         return match new_place(peers, limits.host_connections, host, port) {
@@ -53,7 +54,7 @@ pub(crate) fn place_among(
 
 fn shared_place(peers: &[Peer], limits: Limits, host: &[u8], port: u16) -> Placed
     requires { length peers.now ≤ 64 }
-    ensures { result ≡ shared_place limits host.now port peers.now }
+    ensures { result ≡ shared_place limits host.now port (map with_load peers.now) }
 {
     if let Some(number) = lowest_idle(peers, Among::Host(host, port)) {
         return Placed::On(number);
@@ -69,7 +70,7 @@ fn shared_place(peers: &[Peer], limits: Limits, host: &[u8], port: u16) -> Place
 
 /// Behind the asks of a connection, where asks are pipelined.
 fn pipelined_place(peers: &[Peer], pipelines_asks: bool, host: &[u8], port: u16) -> Option<Placed>
-    ensures { result ≡ pipelined_place pipelines_asks host.now port peers.now }
+    ensures { result ≡ pipelined_place pipelines_asks host.now port (map with_load peers.now) }
 {
     if !pipelines_asks {
         return None;
@@ -83,7 +84,7 @@ fn pipelined_place(peers: &[Peer], pipelines_asks: bool, host: &[u8], port: u16)
 /// A new connection, where one may be dialled and the host has fewer than `most`.
 fn new_place(peers: &[Peer], most: u32, host: &[u8], port: u16) -> Option<Placed>
     requires { length peers.now ≤ 64 }
-    ensures { result ≡ new_place most host.now port peers.now }
+    ensures { result ≡ new_place most host.now port (map with_load peers.now) }
 {
     if count_of(peers, Among::Host(host, port)) < most as usize {
         if peers.len() < PEERS {
@@ -98,7 +99,7 @@ fn new_place(peers: &[Peer], most: u32, host: &[u8], port: u16) -> Option<Placed
 
 /// A new connection in the place of an idle one.
 fn giving_way(peers: &[Peer], among: Among<'_>) -> Option<Placed>
-    ensures { result ≡ giving_way (is_among among.entry) peers.now }
+    ensures { result ≡ giving_way (is_among among.entry) (map with_load peers.now) }
 {
     match lowest_idle(peers, among) {
         Some(number) => Some(Placed::CloseThenDial(number)),

@@ -1,5 +1,6 @@
 // The best of some connections.
-ghost use Rattle.std.specs.Prelude.{◌≡◌, ◌≤◌, length, option_map};
+ghost use Rattle.std.specs.Prelude.{◌≡◌, ◌≤◌, length, map, option_map};
+ghost use Rattle.pp_peers.specs.Peers.{with_load};
 ghost use Rattle.pp_peers.specs.Searches.{count_of, is_among, is_idle, is_lighter, lighter, lightest, lower, lowest_idle, takes_more};
 
 use crate::peers::{Peer, load_of};
@@ -14,7 +15,7 @@ pub enum Among<'h> {
 }
 
 pub fn count_of(peers: &[Peer], among: Among<'_>) -> usize
-    ensures count { result ≡ count_of (is_among among.entry) peers.now }
+    ensures count { result ≡ count_of (is_among among.entry) (map with_load peers.now) }
     ensures few { result ≤ length peers.now }
 {
     let mut count = 0;
@@ -28,7 +29,7 @@ pub fn count_of(peers: &[Peer], among: Among<'_>) -> usize
 
 /// The lowest number of those that carry nothing.
 pub fn lowest_idle(peers: &[Peer], among: Among<'_>) -> Option<u64>
-    ensures { result ≡ lowest_idle (is_among among.entry) peers.now }
+    ensures { result ≡ lowest_idle (is_among among.entry) (map with_load peers.now) }
 {
     let mut lowest = None;
     for peer in peers {
@@ -51,7 +52,7 @@ fn lower(lowest: Option<u64>, number: u64) -> u64
 /// The number of the one with the fewest outstanding asks, and the lowest number, of those that take
 /// one more.
 pub fn lightest(peers: &[Peer], among: Among<'_>) -> Option<u64>
-    ensures { result ≡ option_map (λ w. w.1) (lightest (is_among among.entry) peers.now) }
+    ensures { result ≡ option_map (λ w. w.1) (lightest (is_among among.entry) (map with_load peers.now)) }
 {
     let mut lightest = None;
     for peer in peers {
@@ -84,7 +85,7 @@ fn is_lighter(weight: Weight, other: Weight) -> bool
 }
 
 fn is_among(peer: &Peer, among: Among<'_>) -> bool
-    ensures { result ≡ is_among among.entry peer.now }
+    ensures { result ≡ is_among among.entry (with_load peer.now) }
 {
     match among {
         Among::All => true,
@@ -93,13 +94,13 @@ fn is_among(peer: &Peer, among: Among<'_>) -> bool
 }
 
 fn is_idle(peer: &Peer, among: Among<'_>) -> bool
-    ensures { result ≡ is_idle (is_among among.entry) peer.now }
+    ensures { result ≡ is_idle (is_among among.entry) (with_load peer.now) }
 {
     is_among(peer, among) && load_of(peer).asks == 0
 }
 
 fn takes_more(peer: &Peer, among: Among<'_>) -> bool
-    ensures { result ≡ takes_more (is_among among.entry) peer.now }
+    ensures { result ≡ takes_more (is_among among.entry) (with_load peer.now) }
 {
     let load = load_of(peer);
     let takes = load.may_pipeline && load.asks < MAX_ASKS;

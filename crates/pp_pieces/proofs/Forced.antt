@@ -23,7 +23,7 @@ use Rattle.pp_world.specs.Log.{Log}
 use Rattle.pp_world.specs.declared.happening.Happening.{Happening}
 use Rattle.pp_world.specs.declared.happening.Happening.TheVariants.{Woke, Began, Did}
 use Rattle.pp_law.specs.Requests.{Parsed, Front, NoHeadYet, NoHead, IsRequest}
-use Rattle.pp_law.specs.State.{Sent, Term, Instance, Chunk, Entry, Bound, Exchange, Answer, Conn, Passed, Shared, Reply, Client, Agenda, State, Aim, Body, Brought, Course, Stage, Phase, Owed, Todo, Through, Own, Filling, Pending, Joining, Relaying, Dropping, Awaited, Useless, Joins, Passes, TooWide, Trying, OutOfTries, AskTooLong, RowRefused, Undecided, Waiting, Passing, Answering, Before, IsWoken, IsConfigured, IsRooted, IsListed, IsListening, IsStuck, Step, Free, ReadOf, WriteTo, Do, Enter, Acknowledge}
+use Rattle.pp_law.specs.State.{Sent, Term, Instance, Chunk, Entry, Bound, Exchange, Answer, Conn, Passed, Shared, Reply, Client, Agenda, State, Aim, Body, Brought, Course, Stage, Phase, Owed, Todo, Through, Own, Filling, Pending, Joining, Relaying, Dropping, Awaited, Useless, Joins, Passes, TooWide, Trying, OutOfTries, AskTooLong, RowRefused, Undecided, Waiting, Passing, Answering, Before, IsWoken, IsConfigured, IsRooted, IsListed, IsListening, IsStuck, Awaiting, Handling, Evicting, Keeping, Deciding, Following, Connecting, DecidingAgain, Free, ReadOf, WriteTo, Do, Enter, Acknowledge}
 use Rattle.pp_law.specs.Lists.{Bytes}
 use Rattle.pp_law.specs.After.{after}
 use Rattle.pp_law.specs.Permits.{is_permitted}
@@ -98,7 +98,14 @@ forced_Phase IsRooted k = k IsRooted
 forced_Phase IsListed k = k IsListed
 forced_Phase IsListening k = k IsListening
 forced_Phase IsStuck k = k IsStuck
-forced_Phase (Step x0) k = forced_nat x0 (λ x0'. k (Step x0'))
+forced_Phase Awaiting k = k Awaiting
+forced_Phase Handling k = k Handling
+forced_Phase Evicting k = k Evicting
+forced_Phase Keeping k = k Keeping
+forced_Phase Deciding k = k Deciding
+forced_Phase Following k = k Following
+forced_Phase Connecting k = k Connecting
+forced_Phase DecidingAgain k = k DecidingAgain
 
 unfoldable pub forced_Request : Request → (Request → Out) → Out
 forced_Request x k = (forced_list forced_nat) x.method (λ method'. (forced_list forced_nat) x.target (λ target'. forced_nat x.minor (λ minor'. (forced_list forced_field) x.fields (λ fields'. forced_nat x.length (λ length'. k (record { method = method'; target = target'; minor = minor'; fields = fields'; length = length' }))))))
@@ -206,7 +213,7 @@ unfoldable pub forced_Exchange : Exchange → (Exchange → Out) → Out
 forced_Exchange x k = forced_nat x.number (λ number'. (forced_option forced_nat) x.asker (λ asker'. forced_Request x.head (λ head'. forced_Key x.key (λ key'. forced_Aim x.aim (λ aim'. (forced_option (forced_list forced_nat)) x.named (λ named'. forced_Bool x.is_ranged (λ is_ranged'. forced_Bool x.is_moved (λ is_moved'. (forced_list forced_nat) x.text (λ text'. forced_nat x.asked (λ asked'. forced_nat x.body_left (λ body_left'. forced_nat x.requested (λ requested'. (forced_option forced_nat) x.place (λ place'. forced_Body x.body (λ body'. k (record { number = number'; asker = asker'; head = head'; key = key'; aim = aim'; named = named'; is_ranged = is_ranged'; is_moved = is_moved'; text = text'; asked = asked'; body_left = body_left'; requested = requested'; place = place'; body = body' })))))))))))))))
 
 unfoldable pub forced_Instance : Instance → (Instance → Out) → Out
-forced_Instance x k = forced_nat x.id (λ id'. (forced_list forced_nat) x.key (λ key'. forced_Version x.version (λ version'. (forced_list forced_field) x.fields (λ fields'. forced_Times x.times (λ times'. forced_Bool x.is_retired (λ is_retired'. forced_nat x.touched (λ touched'. forced_Bool x.is_new (λ is_new'. k (record { id = id'; key = key'; version = version'; fields = fields'; times = times'; is_retired = is_retired'; touched = touched'; is_new = is_new' })))))))))
+forced_Instance x k = forced_nat x.id (λ id'. (forced_list forced_nat) x.key (λ key'. forced_Version x.version (λ version'. (forced_list forced_field) x.fields (λ fields'. forced_Times x.times (λ times'. forced_Bool x.is_retired (λ is_retired'. forced_Bool x.is_new (λ is_new'. k (record { id = id'; key = key'; version = version'; fields = fields'; times = times'; is_retired = is_retired'; is_new = is_new' }))))))))
 
 unfoldable pub forced_Chunk : Chunk → (Chunk → Out) → Out
 forced_Chunk x k = forced_nat x.instance (λ instance'. forced_nat x.index (λ index'. (forced_list forced_nat) x.bytes (λ bytes'. k (record { instance = instance'; index = index'; bytes = bytes' }))))
@@ -225,7 +232,7 @@ unfoldable pub forced_Agenda : Agenda → (Agenda → Out) → Out
 forced_Agenda x k = (forced_list forced_nat) x.name (λ name'. (forced_list forced_Todo) x.todo (λ todo'. k (record { name = name'; todo = todo' })))
 
 unfoldable pub forced_State : State → (State → Out) → Out
-forced_State x k = (forced_list forced_Sent) x.sent (λ sent'. (forced_list forced_Entry) x.acknowledged (λ acknowledged'. (forced_list forced_Happening) x.disk (λ disk'. forced_nat x.top (λ top'. (forced_list forced_Term) x.terms (λ terms'. forced_Term x.term (λ term'. forced_Settings x.settings (λ settings'. forced_Phase x.phase (λ phase'. forced_nat x.clock (λ clock'. forced_Bool x.has_ticked (λ has_ticked'. forced_nat x.failures (λ failures'. (forced_list forced_Client) x.clients (λ clients'. (forced_list forced_Conn) x.conns (λ conns'. (forced_list forced_Exchange) x.exchanges (λ exchanges'. forced_nat x.next_exchange (λ next_exchange'. (forced_list forced_Instance) x.instances (λ instances'. forced_nat x.next_instance (λ next_instance'. (forced_list forced_Chunk) x.chunks (λ chunks'. forced_nat x.uses (λ uses'. (forced_list forced_Entry) x.entries (λ entries'. (forced_list (forced_list forced_nat)) x.closed_names (λ closed_names'. (forced_option forced_DiskOp) x.under_way (λ under_way'. (forced_list (forced_list forced_nat)) x.displaced (λ displaced'. forced_Bool x.is_ticked (λ is_ticked'. forced_Bool x.is_stopped (λ is_stopped'. forced_Owed x.owed (λ owed'. forced_Bool x.is_evicting (λ is_evicting'. (forced_list (forced_list forced_nat)) x.forgotten (λ forgotten'. forced_Bool x.has_made_room (λ has_made_room'. forced_Agenda x.agenda (λ agenda'. forced_Bool x.is_again (λ is_again'. k (record { sent = sent'; acknowledged = acknowledged'; disk = disk'; top = top'; terms = terms'; term = term'; settings = settings'; phase = phase'; clock = clock'; has_ticked = has_ticked'; failures = failures'; clients = clients'; conns = conns'; exchanges = exchanges'; next_exchange = next_exchange'; instances = instances'; next_instance = next_instance'; chunks = chunks'; uses = uses'; entries = entries'; closed_names = closed_names'; under_way = under_way'; displaced = displaced'; is_ticked = is_ticked'; is_stopped = is_stopped'; owed = owed'; is_evicting = is_evicting'; forgotten = forgotten'; has_made_room = has_made_room'; agenda = agenda'; is_again = is_again' }))))))))))))))))))))))))))))))))
+forced_State x k = (forced_list forced_Sent) x.sent (λ sent'. (forced_list forced_Entry) x.acknowledged (λ acknowledged'. (forced_list forced_Happening) x.disk (λ disk'. forced_nat x.top (λ top'. (forced_list forced_Term) x.terms (λ terms'. forced_Term x.term (λ term'. forced_Settings x.settings (λ settings'. forced_Phase x.phase (λ phase'. forced_nat x.clock (λ clock'. forced_Bool x.has_ticked (λ has_ticked'. forced_nat x.failures (λ failures'. (forced_list forced_Client) x.clients (λ clients'. (forced_list forced_Conn) x.conns (λ conns'. (forced_list forced_Exchange) x.exchanges (λ exchanges'. forced_nat x.next_exchange (λ next_exchange'. (forced_list forced_Instance) x.instances (λ instances'. forced_nat x.next_instance (λ next_instance'. (forced_list forced_Chunk) x.chunks (λ chunks'. (forced_list forced_Entry) x.entries (λ entries'. (forced_list (forced_list forced_nat)) x.closed_names (λ closed_names'. (forced_option forced_DiskOp) x.under_way (λ under_way'. (forced_list (forced_list forced_nat)) x.displaced (λ displaced'. forced_Bool x.is_ticked (λ is_ticked'. forced_Bool x.is_stopped (λ is_stopped'. forced_Owed x.owed (λ owed'. forced_Bool x.is_evicting (λ is_evicting'. (forced_list (forced_list forced_nat)) x.forgotten (λ forgotten'. forced_Bool x.has_made_room (λ has_made_room'. forced_Agenda x.agenda (λ agenda'. k (record { sent = sent'; acknowledged = acknowledged'; disk = disk'; top = top'; terms = terms'; term = term'; settings = settings'; phase = phase'; clock = clock'; has_ticked = has_ticked'; failures = failures'; clients = clients'; conns = conns'; exchanges = exchanges'; next_exchange = next_exchange'; instances = instances'; next_instance = next_instance'; chunks = chunks'; entries = entries'; closed_names = closed_names'; under_way = under_way'; displaced = displaced'; is_ticked = is_ticked'; is_stopped = is_stopped'; owed = owed'; is_evicting = is_evicting'; forgotten = forgotten'; has_made_room = has_made_room'; agenda = agenda' }))))))))))))))))))))))))))))))
 
 -- what a piece of a log leaves, or the first of it that may not be
 unfoldable pub judge : ℕ → State → Log → Out
