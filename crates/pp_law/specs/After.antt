@@ -39,6 +39,7 @@ new_client n now = record {
   waits_on = None;
   brought = Awaited;
   course = Trying 0;
+  has_given_up = false;
   interim_left = [];
   closes = false;
   is_closing = false;

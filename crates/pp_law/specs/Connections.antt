@@ -1,5 +1,5 @@
 -- The connections to origins, their lines of exchanges, and where an exchange is asked (RFC 2616, sections 8.1 and 8.1.2.2).
-use Rattle.std.specs.Prelude.{ℕ, ◌+◌, Bool, true, false, ◌==◌, ◌&&◌, not, nat_le, List, [], ◌∷◌, ◌++◌, length, map, filter, find, count_by, Option, Some, None, option_and_then}
+use Rattle.std.specs.Prelude.{ℕ, ◌+◌, Bool, true, false, ◌==◌, ◌&&◌, ◌||◌, not, nat_le, List, [], ◌∷◌, ◌++◌, length, map, filter, find, count_by, Option, Some, None, option_and_then}
 use Rattle.std.specs.List.{list_any}
 use Rattle.pp_peers.specs.Placing.{place}
 use Rattle.pp_peers.specs.Peers.{Loaded}
@@ -91,10 +91,10 @@ abbrev pub is_out : Course → Bool
 is_out OutOfTries = true
 is_out course = false
 
--- a row whose hole nobody fills is cleared; where the reply has not begun, its request is decided again without it, and its
+-- a row whose hole nobody fills is cleared; where the reply has not begun, its request is decided again without it, once, and its
 -- attempts count anew
 abbrev pub without_row : Client → Client
-without_row c = elim (is_begun c) [ true ↦ c | false ↦ record c { course = Trying 0 } ]
+without_row c = elim (is_begun c || c.has_given_up) [ true ↦ c | false ↦ record c { course = Trying 0; has_given_up = true } ]
 
 abbrev pub is_unfilled : State → Exchange → Bool
 is_unfilled s e = elim e.aim [

@@ -166,6 +166,7 @@ next_request c = with_front (record c {
   waits_on = None;
   brought = Awaited;
   course = Trying 0;
+  has_given_up = false;
   interim_left = [];
   closes = false;
 })

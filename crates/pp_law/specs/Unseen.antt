@@ -29,9 +29,9 @@ rested_exchange s e = elim (bound_of e) [ None ↦ e | Some b ↦ record e { bod
 
 -- ---- what is not read on
 
--- what is kept has readers, or little of it is left, or it is near where the last of them left
+-- what is kept has readers, or little of it is left, or where the last of them left is near, before it or behind
 abbrev pub is_worth_keeping : State → Bound → Bool
-is_worth_keeping s b = is_followed s b.instance || is_near b.next b.to || is_near b.wanted b.next
+is_worth_keeping s b = is_followed s b.instance || is_near b.next b.to || (is_near b.wanted b.next && is_near b.next b.wanted)
 
 -- ours: what is dropped as it comes is read for so many bytes, to spare the connection
 abbrev pub drop_limit : ℕ

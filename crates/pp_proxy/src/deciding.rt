@@ -261,10 +261,9 @@ impl State {
             return false;
         };
         match e.bound {
-            Some((id, from, to)) =>
-                id == next.source
-                    && from.max(next.at) < to.min(next.to)
-                    && is_near(from, next.at),
+            Some((id, from, to)) => id == next.source
+                && from.max(next.at) < to.min(next.to)
+                && is_near(from, next.at),
             None => !e.headed && self.asks_for(e, &next),
         }
     }

@@ -12,6 +12,7 @@ use pp_world::{Event, Wire};
 /// Ours: an origin that did nothing for so many seconds while it was waited for is given up: one that owes an
 /// answer, and any other.
 const ANSWER_SECONDS: u64 = 300;
+
 const IDLE_SECONDS: u64 = 60;
 
 impl Desk {

@@ -117,6 +117,8 @@ pub(crate) struct Seat {
     pub(crate) waits_on: Option<Shared>,
     pub(crate) brought: Brought,
     pub(crate) course: Course,
+    /// A row whose hole nobody filled was cleared for its request.
+    pub(crate) has_given_up: bool,
     /// Bytes of the interim answer and of the head that are still to be said.
     pub(crate) before_body: usize,
     /// Its reply is the last.
@@ -138,6 +140,7 @@ impl Seat {
             waits_on: None,
             brought: Brought::Awaited,
             course: Course::Trying(0),
+            has_given_up: false,
             before_body: 0,
             closes: false,
             is_closing: false,
@@ -293,6 +296,7 @@ impl Seat {
         self.waits_on = None;
         self.brought = Brought::Awaited;
         self.course = Course::Trying(0);
+        self.has_given_up = false;
         self.before_body = 0;
         self.closes = false;
     }

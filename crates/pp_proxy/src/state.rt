@@ -143,7 +143,7 @@ impl State {
     }
 
     /// A row whose hole nobody fills is cleared. Where the reply has not begun, its request is decided again
-    /// without it, and its attempts count anew.
+    /// without it, once, and its attempts count anew.
     fn give_up_row(&mut self, e: &Exchange) {
         if !self.is_unfilled(e) {
             return;
@@ -151,8 +151,9 @@ impl State {
         self.clear_row(e);
         if let Some(i) = self.seat_for(e) {
             if let Some(seat) = self.seats.get_mut(i) {
-                if !seat.has_begun() {
+                if !seat.has_begun() && !seat.has_given_up {
                     seat.course = Course::Trying(0);
+                    seat.has_given_up = true;
                 }
             }
         }

@@ -38,12 +38,15 @@ impl State {
         if is_unseen { Some(number) } else { None }
     }
 
-    /// What is kept has readers, or little of it is left, or it is near where the last of them left.
+    /// What is kept has readers, or little of it is left, or where the last of them left is near, before it or
+    /// behind.
     fn is_worth_keeping(&self, e: &Exchange, wanted: u64) -> bool {
         match e.bound {
             None => false,
             Some((id, next, to)) => {
-                self.is_followed(id) || is_near(next, to) || is_near(wanted, next)
+                self.is_followed(id)
+                    || is_near(next, to)
+                    || is_near(wanted, next) && is_near(next, wanted)
             }
         }
     }
