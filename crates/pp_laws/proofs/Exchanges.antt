@@ -1,5 +1,5 @@
 -- Changes of one connection, exchange or client, and an exchange that is over, keep what is sound.
-use Rattle.std.proofs.Common.{◌≡◌, refl, ℕ, Bool, true, false, not, ◌==◌, List, [], ◌∷◌, map, filter, cond, Some, None, sym, subst, ap, ◌∙◌}
+use Rattle.std.proofs.Common.{◌≡◌, refl, ℕ, Bool, true, false, ◌||◌, not, ◌==◌, List, [], ◌∷◌, map, filter, cond, Some, None, sym, subst, ap, ◌∙◌}
 use Rattle.pp_target.specs.Key.{text_of}
 use Rattle.pp_law.specs.Connections.{client, conn, exchange, is_client, is_conn, is_exchange, is_for, each_client, each_conn, each_exchange, on_conn, on_exchange, on_client, on_client_of, attempts_of, lost_one, without_row, is_unfilled, give_up_row, charge, lose_attempt, fail, without_ask, end_exchange}
 use Rattle.pp_law.specs.Stages.{is_begun}
@@ -49,7 +49,7 @@ each_exchange-sound f each (n ∷ ns) s h = each_exchange-sound f each ns _ (eac
 
 -- ---- attempts
 
-without_row-by : (c : Client) (begun : Bool) → SameClient (elim begun as (λ x. Client) [ true ↦ c | false ↦ record c { course = Trying 0 } ]) c
+without_row-by : (c : Client) (begun : Bool) → SameClient (elim begun as (λ x. Client) [ true ↦ c | false ↦ record c { course = Trying 0; has_given_up = true } ]) c
 without_row-by c true = client_same c
 without_row-by c false = same_parts _ c refl refl refl
 
@@ -58,7 +58,7 @@ unfolding give_up_row
 give_up_row-sound e s h =
     when (is_unfilled s e)
     (on_exchange-sound e.number (λ x. record x { asker = None }) _ (λ x. record { number = refl; key = refl; aim = refl; place = refl; headed = refl; bound = refl })
-    (on_client_of-sound e without_row _ (λ c. without_row-by c (is_begun c)) (clear-sound (text_of e.key) s h))) h
+    (on_client_of-sound e without_row _ (λ c. without_row-by c (is_begun c || c.has_given_up)) (clear-sound (text_of e.key) s h))) h
 
 pub charge-sound : {b : Since} (cost : Course → Course) (e : Exchange) (s : State) → Sound b s → Sound b (charge cost e s)
 unfolding charge
