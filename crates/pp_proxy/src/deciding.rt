@@ -188,7 +188,7 @@ impl State {
             kind,
             place: *key.place(),
             is_moved: false,
-            goes_alone: asked.goes_alone,
+            is_asked_once: asked.is_asked_once,
             asks_head: false,
             is_safe: asked.is_safe,
             binds_connection: asked.binds_connection,

@@ -36,8 +36,8 @@ pub(crate) struct Asked {
     pub(crate) is_head: bool,
     /// Whether it changes nothing at the origin (section 9.1).
     pub(crate) is_safe: bool,
-    /// Whether it takes a connection for itself, and is asked once (section 8.1.2.2).
-    pub(crate) goes_alone: bool,
+    /// Whether it may change something, or has a body, and is asked once (section 8.1.4).
+    pub(crate) is_asked_once: bool,
     /// Whether it authenticates that connection, so that nobody else may be asked on it (RFC 4559, section 6).
     pub(crate) binds_connection: bool,
     /// Whether the client's connection goes on behind the reply.
@@ -112,7 +112,7 @@ fn asked_of(alloc: Global, head: &RequestHead<'_, '_>, fault: Option<u16>) -> As
         body_len,
         is_head: head.method == b"HEAD".as_slice(),
         is_safe: is_plain || is_other_safe(head.method),
-        goes_alone: !is_plain || body_len > 0 || binds_connection(&head.fields),
+        is_asked_once: !is_plain || body_len > 0,
         binds_connection: binds_connection(&head.fields),
         keeps_open: is_kept_open(head.minor, &head.fields) && rule.is_ok(),
         expects_interim: refusal.is_none() && waits,

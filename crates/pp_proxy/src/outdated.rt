@@ -87,7 +87,7 @@ impl State {
 
     /// GET or HEAD was asked. An ask that goes alone is not there without its client.
     fn reads(&self, e: &Exchange, errand: &Errand) -> bool {
-        if errand.asks_head || !errand.goes_alone {
+        if errand.asks_head || !errand.goes_alone() {
             return true;
         }
         let Some(i) = self.seat_for(e) else {
