@@ -187,7 +187,7 @@ forced_Course AskTooLong k = k AskTooLong
 forced_Course RowRefused k = k RowRefused
 
 unfoldable pub forced_Client : Client → (Client → Out) → Out
-forced_Client x k = forced_nat x.number (λ number'. forced_Bool x.is_new (λ is_new'. forced_Bool x.has_hung_up (λ has_hung_up'. forced_Front x.front (λ front'. (forced_list forced_nat) x.heard (λ heard'. forced_nat x.body_left (λ body_left'. forced_nat x.skip (λ skip'. forced_nat x.index (λ index'. forced_Stage x.stage (λ stage'. (forced_option forced_Shared) x.waits_on (λ waits_on'. forced_Brought x.brought (λ brought'. forced_Course x.course (λ course'. (forced_list forced_nat) x.interim_left (λ interim_left'. forced_Bool x.closes (λ closes'. forced_Bool x.is_closing (λ is_closing'. forced_Bool x.is_cut (λ is_cut'. forced_nat x.mark (λ mark'. k (record { number = number'; is_new = is_new'; has_hung_up = has_hung_up'; front = front'; heard = heard'; body_left = body_left'; skip = skip'; index = index'; stage = stage'; waits_on = waits_on'; brought = brought'; course = course'; interim_left = interim_left'; closes = closes'; is_closing = is_closing'; is_cut = is_cut'; mark = mark' }))))))))))))))))))
+forced_Client x k = forced_nat x.number (λ number'. forced_Bool x.is_new (λ is_new'. forced_Bool x.has_hung_up (λ has_hung_up'. forced_Front x.front (λ front'. (forced_list forced_nat) x.heard (λ heard'. forced_nat x.body_left (λ body_left'. forced_nat x.skip (λ skip'. forced_nat x.index (λ index'. forced_Stage x.stage (λ stage'. (forced_option forced_Shared) x.waits_on (λ waits_on'. forced_Brought x.brought (λ brought'. forced_Course x.course (λ course'. forced_Bool x.has_given_up (λ has_given_up'. (forced_list forced_nat) x.interim_left (λ interim_left'. forced_Bool x.closes (λ closes'. forced_Bool x.is_closing (λ is_closing'. forced_Bool x.is_cut (λ is_cut'. forced_nat x.mark (λ mark'. k (record { number = number'; is_new = is_new'; has_hung_up = has_hung_up'; front = front'; heard = heard'; body_left = body_left'; skip = skip'; index = index'; stage = stage'; waits_on = waits_on'; brought = brought'; course = course'; has_given_up = has_given_up'; interim_left = interim_left'; closes = closes'; is_closing = is_closing'; is_cut = is_cut'; mark = mark' })))))))))))))))))))
 
 unfoldable pub forced_Answer : Answer → (Answer → Out) → Out
 forced_Answer x k = forced_Response x.head (λ head'. (forced_option forced_Version) x.version (λ version'. forced_BodyRule x.rule (λ rule'. (forced_list forced_nat) x.raw (λ raw'. k (record { head = head'; version = version'; rule = rule'; raw = raw' })))))

@@ -803,55 +803,76 @@ abbrev text261 : Bytes
 text261 = (codes "://t/c HTTP/1.1\r\nHost: t\r\n")
 
 abbrev text262 : Bytes
-text262 = (codes "ET /a HTTP/1.1\r\nHost: ")
+text262 = (codes "HTTP/1.1 200 OK\r\netag: \"c\"\r\ndate: Sun, 06 Nov 1994 08:49:37 GMT\r\ncache-control: max-age=3600\r\nvia: 1.1 polipo\r\ncontent-length: 20000\r\nconnection: keep-alive\r\n\r\n")
 
 abbrev text263 : Bytes
-text263 = (codes "GET http://s/a HTTP/1.1\r\nIf-Non")
+text263 = (codes "GET http://h:8080/a HTTP/1.1\r\nHost: h\r\n\r\n")
 
 abbrev text264 : Bytes
-text264 = (codes "GET http://t/c HT")
+text264 = (codes "GET http://i/ HTTP/1.1\r\n\r\nGET http://i/2 HTTP/1.1\r\n\r\n")
 
 abbrev text265 : Bytes
-text265 = (codes "HTTP/1.1 200 OK\r\netag: \"c\"\r\ndate: Sun, 06 Nov 1994 08:49:37 GMT\r\ncache-control: max-age=3600\r\nvia: 1.1 polipo\r\ncontent-length: 20000\r\nconnection: keep-alive\r\n\r\n")
+text265 = (codes "HTTP/1.1 206 Partial Content\r\netag: \"c\"\r\ndate: Sun, 06 Nov 1994 08:49:37 GMT\r\ncache-control: max-age=3600\r\nage: 63\r\nvia: 1.1 polipo\r\ncontent-range: bytes 19900-19999/20000\r\ncontent-length: 100\r\nconnection: keep-alive\r\n\r\n")
 
 abbrev text266 : Bytes
-text266 = (codes "HTTP/1.1 101 Switching Protocols\r\n\r\n")
+text266 = (codes "GET / HTTP/1.1\r\nhost: i\r\nvia: 1.1 polipo\r\n\r\n")
 
 abbrev text267 : Bytes
-text267 = (codes "HTTP/1.1 200 OK\r\netag: \"x\"\r\ndate: Sun, 06 Nov 1994 08:49:37 GMT\r\ncache-control: max-age=3600\r\nvia: 1.1 polipo\r\ncontent-length: 5\r\nconnection: keep-alive\r\n\r\n")
+text267 = (codes "GET http://s/a HTTP/1.1\r\nRange: bytes")
 
 abbrev text268 : Bytes
-text268 = (codes "T http://s/b HTTP/1.0")
+text268 = (codes "HTTP/1.1 206 Partial Content\r\netag: \"x\"\r\ndate: Sun, 06 Nov 1994 08:50:59 GMT\r\ncache-control: max-age=3600\r\nvia: 1.1 polipo\r\ncontent-range: bytes 1-3/5\r\ncontent-length: 3\r\nconnection: keep-alive\r\n\r\n")
 
 abbrev text269 : Bytes
-text269 = (codes ".1\r\nHost: s\r")
+text269 = (codes "HTTP/1.1 206 Partial Content\r\netag: \"y\"\r\ndate: Sun, 06 Nov 1994 08:50:59 GMT\r\ncache-control: max-age=3600\r\nvia: 1.1 polipo\r\ncontent-range: bytes 5000-5999/9000\r\ncontent-length: 1000\r\nconnection: keep-alive\r\n\r\n")
 
 abbrev text270 : Bytes
-text270 = (codes "HTTP/1.1 200 OK\r\netag: \"y\"\r\ndate: Sun, 06 Nov 1994 09:06:17 GMT\r\ncache-control: max-age=3600\r\nage: 65\r\nvia: 1.1 polipo\r\ncontent-length: 9000\r\nconnection: keep-alive\r\n\r\n")
+text270 = (codes "ET /a HTTP/1.1\r\nHost: ")
 
 abbrev text271 : Bytes
-text271 = (codes "GET http://s/a HTTP/1.1\r\nCache-Control: no-store\r")
+text271 = (codes "GET http://s/a HTTP/1.1\r\nIf-Non")
 
 abbrev text272 : Bytes
-text272 = (codes "GET http://s/b HTTP/1.1\r\nRange: b")
+text272 = (codes "GET http://t/c HT")
 
 abbrev text273 : Bytes
-text273 = (codes "HTTP/1.1 206 Partial Content\r\netag: \"y\"\r\ndate: Sun, 06 Nov 1994 09:06:17 GMT\r\ncache-control: max-age=3600\r\nage: 65\r\nvia: 1.1 polipo\r\ncontent-range: bytes 5000-5999/9000\r\ncontent-length: 1000\r\nconnection: keep-alive\r\n\r\n")
+text273 = (codes "HTTP/1.1 101 Switching Protocols\r\n\r\n")
 
 abbrev text274 : Bytes
-text274 = (codes "HTTP/1.1 200 OK\r\nConnection: close\r\nContent-Length: 5\r\n\r\nhello")
+text274 = (codes "HTTP/1.1 200 OK\r\netag: \"x\"\r\ndate: Sun, 06 Nov 1994 08:49:37 GMT\r\ncache-control: max-age=3600\r\nvia: 1.1 polipo\r\ncontent-length: 5\r\nconnection: keep-alive\r\n\r\n")
 
 abbrev text275 : Bytes
-text275 = (codes "POST http://h/a HTTP/1.1\r\nTransfer-Encoding: chunked\r\n\r\n")
+text275 = (codes "T http://s/b HTTP/1.0")
 
 abbrev text276 : Bytes
-text276 = (codes "HTTP/1.1 411 Length Required\r\ncontent-type: text/plain\r\ncontent-length: 20\r\nconnection: close\r\n\r\n411 Length Required\n")
+text276 = (codes ".1\r\nHost: s\r")
 
 abbrev text277 : Bytes
-text277 = (codes "GET /a HTTP/1.1\r\nHos")
+text277 = (codes "HTTP/1.1 200 OK\r\netag: \"y\"\r\ndate: Sun, 06 Nov 1994 09:06:17 GMT\r\ncache-control: max-age=3600\r\nage: 65\r\nvia: 1.1 polipo\r\ncontent-length: 9000\r\nconnection: keep-alive\r\n\r\n")
 
 abbrev text278 : Bytes
-text278 = (codes "TP/1.1\r\nRange:")
+text278 = (codes "GET http://s/a HTTP/1.1\r\nCache-Control: no-store\r")
+
+abbrev text279 : Bytes
+text279 = (codes "GET http://s/b HTTP/1.1\r\nRange: b")
+
+abbrev text280 : Bytes
+text280 = (codes "HTTP/1.1 206 Partial Content\r\netag: \"y\"\r\ndate: Sun, 06 Nov 1994 09:06:17 GMT\r\ncache-control: max-age=3600\r\nage: 65\r\nvia: 1.1 polipo\r\ncontent-range: bytes 5000-5999/9000\r\ncontent-length: 1000\r\nconnection: keep-alive\r\n\r\n")
+
+abbrev text281 : Bytes
+text281 = (codes "HTTP/1.1 200 OK\r\nConnection: close\r\nContent-Length: 5\r\n\r\nhello")
+
+abbrev text282 : Bytes
+text282 = (codes "POST http://h/a HTTP/1.1\r\nTransfer-Encoding: chunked\r\n\r\n")
+
+abbrev text283 : Bytes
+text283 = (codes "HTTP/1.1 411 Length Required\r\ncontent-type: text/plain\r\ncontent-length: 20\r\nconnection: close\r\n\r\n411 Length Required\n")
+
+abbrev text284 : Bytes
+text284 = (codes "GET /a HTTP/1.1\r\nHos")
+
+abbrev text285 : Bytes
+text285 = (codes "TP/1.1\r\nRange:")
 
 row5 : fault_from 0 (start (record { words = []; faults = 0 } ∷ record { words = text0 ∷ text1 ∷ []; faults = 0 } ∷ record { words = []; faults = 0 } ∷ [])) (Woke [] ∷ Rooted text2 ∷ Listed true ∷ Listens 8123 true ∷ wait true [] [] ∷ Clock 784111777 ∷ wait true [] [] ∷ Opened 1 ∷ wait true (1 ∷ []) [] ∷ CanRead 1 ∷ Heard 1 text3 ∷ Noted (Taken 1 0 Fetch) ∷ Dialled 2 (codes "t") 80 ∷ wait true (1 ∷ []) [] ∷ Reached 2 ∷ wait true (1 ∷ 2 ∷ []) (2 ∷ []) ∷ CanWrite 2 ∷ Asked 2 text4 ∷ wait true (1 ∷ 2 ∷ []) [] ∷ CanRead 2 ∷ Got 2 text5 ∷ Noted (Taken 1 0 (Hit 12000 20000)) ∷ wait true (1 ∷ 2 ∷ []) (1 ∷ []) ∷ CanWrite 1 ∷ Said 1 212 text6 ∷ wait true (1 ∷ 2 ∷ []) (1 ∷ []) ∷ CanWrite 1 ∷ Said 1 288 text7 ∷ wait true (1 ∷ 2 ∷ []) (1 ∷ []) ∷ CanWrite 1 ∷ Said 1 4096 text8 ∷ wait true (1 ∷ 2 ∷ []) (1 ∷ []) ∷ CanWrite 1 ∷ Said 1 3616 text9 ∷ wait true (1 ∷ 2 ∷ []) [] ∷ Opened 3 ∷ wait true (1 ∷ 3 ∷ 2 ∷ []) [] ∷ CanRead 3 ∷ Heard 3 text10 ∷ Noted (Taken 3 0 (Hit 19900 20000)) ∷ wait true (1 ∷ 3 ∷ 2 ∷ []) (3 ∷ []) ∷ CanWrite 3 ∷ Said 3 219 text11 ∷ wait true (1 ∷ 3 ∷ 2 ∷ []) (3 ∷ []) ∷ CanWrite 3 ∷ Said 3 100 text12 ∷ wait true (1 ∷ 3 ∷ 2 ∷ []) [] ∷ Clock 784111796 ∷ wait true (1 ∷ 3 ∷ 2 ∷ []) [] ∷ Opened 4 ∷ wait true (1 ∷ 3 ∷ 4 ∷ 2 ∷ []) [] ∷ CanRead 4 ∷ Heard 4 text13 ∷ Noted (Taken 4 0 Fetch) ∷ Dialled 5 (codes "s") 80 ∷ wait true (1 ∷ 3 ∷ 4 ∷ 2 ∷ []) [] ∷ Reached 5 ∷ wait true (1 ∷ 3 ∷ 4 ∷ 2 ∷ 5 ∷ []) (5 ∷ []) ∷ CanWrite 5 ∷ Asked 5 text14 ∷ wait true (1 ∷ 3 ∷ 4 ∷ 2 ∷ 5 ∷ []) [] ∷ CanRead 5 ∷ Got 5 text15 ∷ Noted (Taken 4 0 (Hit 0 0)) ∷ wait true (1 ∷ 3 ∷ 4 ∷ 2 ∷ 5 ∷ []) (4 ∷ []) ∷ CanWrite 4 ∷ Said 4 156 text16 ∷ wait true (1 ∷ 3 ∷ 4 ∷ 2 ∷ 5 ∷ []) [] ∷ Reached 2 ∷ wait true (1 ∷ 3 ∷ 4 ∷ 2 ∷ 5 ∷ []) [] ∷ Reached 5 ∷ wait true (1 ∷ 3 ∷ 4 ∷ 2 ∷ 5 ∷ []) [] ∷ Opened 6 ∷ wait true (1 ∷ 3 ∷ 4 ∷ 6 ∷ 2 ∷ 5 ∷ []) [] ∷ CanRead 6 ∷ Heard 6 text17 ∷ wait true (1 ∷ 3 ∷ 4 ∷ 6 ∷ 2 ∷ 5 ∷ []) [] ∷ CanRead 6 ∷ Heard 6 (codes "-Forwards:") ∷ wait true (1 ∷ 3 ∷ 4 ∷ 6 ∷ 2 ∷ 5 ∷ []) [] ∷ CanRead 6 ∷ Heard 6 (codes " 0\r\n\r\n") ∷ Noted (Taken 6 0 Pass) ∷ Dialled 7 (codes "h") 80 ∷ wait true (1 ∷ 3 ∷ 4 ∷ 6 ∷ 2 ∷ 5 ∷ []) [] ∷ Clock 784111830 ∷ wait true (1 ∷ 3 ∷ 4 ∷ 6 ∷ 2 ∷ 5 ∷ []) [] ∷ CanRead 1 ∷ Heard 1 text18 ∷ wait true (1 ∷ 3 ∷ 4 ∷ 6 ∷ 2 ∷ 5 ∷ []) [] ∷ CanRead 1 ∷ Heard 1 (codes "ch: \"x") ∷ wait true (1 ∷ 3 ∷ 4 ∷ 6 ∷ 2 ∷ 5 ∷ []) [] ∷ CanRead 1 ∷ Heard 1 (codes "\"") ∷ wait true (1 ∷ 3 ∷ 4 ∷ 6 ∷ 2 ∷ 5 ∷ []) [] ∷ CanRead 1 ∷ Heard 1 (codes "\r") ∷ wait true (1 ∷ 3 ∷ 4 ∷ 6 ∷ 2 ∷ 5 ∷ []) [] ∷ CanRead 1 ∷ Heard 1 (codes "\n") ∷ wait true (1 ∷ 3 ∷ 4 ∷ 6 ∷ 2 ∷ 5 ∷ []) [] ∷ CanRead 1 ∷ Heard 1 (codes "\r\n") ∷ Noted (Taken 1 1 Pass) ∷ wait true (1 ∷ 3 ∷ 4 ∷ 6 ∷ 2 ∷ 5 ∷ []) (5 ∷ []) ∷ CanWrite 5 ∷ Asked 5 text19 ∷ wait true (1 ∷ 3 ∷ 4 ∷ 6 ∷ 2 ∷ 5 ∷ []) [] ∷ CanRead 5 ∷ Got 5 text20 ∷ wait true (1 ∷ 3 ∷ 4 ∷ 6 ∷ 2 ∷ 5 ∷ []) (1 ∷ []) ∷ CanWrite 1 ∷ Said 1 81 text21 ∷ wait true (1 ∷ 3 ∷ 4 ∷ 6 ∷ 2 ∷ 5 ∷ []) [] ∷ Broke 2 ∷ Dropped 2 ∷ wait true (1 ∷ 3 ∷ 4 ∷ 6 ∷ 5 ∷ []) [] ∷ Opened 8 ∷ wait true (1 ∷ 3 ∷ 4 ∷ 6 ∷ 8 ∷ 5 ∷ []) [] ∷ CanRead 8 ∷ Heard 8 text22 ∷ Noted (Taken 8 0 Pass) ∷ wait true (1 ∷ 3 ∷ 4 ∷ 6 ∷ 8 ∷ 5 ∷ []) (5 ∷ []) ∷ CanWrite 5 ∷ Asked 5 text23 ∷ wait true (1 ∷ 3 ∷ 4 ∷ 6 ∷ 8 ∷ 5 ∷ []) [] ∷ CanRead 5 ∷ Got 5 text24 ∷ wait true (1 ∷ 3 ∷ 4 ∷ 6 ∷ 8 ∷ 5 ∷ []) (8 ∷ []) ∷ CanWrite 8 ∷ Said 8 119 text25 ∷ wait true (1 ∷ 3 ∷ 4 ∷ 6 ∷ 8 ∷ 5 ∷ []) (8 ∷ []) ∷ CanWrite 8 ∷ Said 8 5 (codes "aaaaa") ∷ wait true (1 ∷ 3 ∷ 4 ∷ 6 ∷ 8 ∷ 5 ∷ []) [] ∷ Opened 9 ∷ wait true (1 ∷ 3 ∷ 4 ∷ 6 ∷ 8 ∷ 9 ∷ 5 ∷ []) [] ∷ CanRead 9 ∷ Heard 9 text26 ∷ Noted (Taken 9 0 Fetch) ∷ wait true (1 ∷ 3 ∷ 4 ∷ 6 ∷ 8 ∷ 9 ∷ 5 ∷ []) (5 ∷ []) ∷ CanWrite 5 ∷ Asked 5 text27 ∷ wait true (1 ∷ 3 ∷ 4 ∷ 6 ∷ 8 ∷ 9 ∷ 5 ∷ []) [] ∷ CanRead 5 ∷ Got 5 text28 ∷ Noted (Taken 9 0 (Hit 0 9000)) ∷ wait true (1 ∷ 3 ∷ 4 ∷ 6 ∷ 8 ∷ 9 ∷ 5 ∷ []) (9 ∷ []) ∷ CanWrite 9 ∷ Said 9 154 text29 ∷ wait true (1 ∷ 3 ∷ 4 ∷ 6 ∷ 8 ∷ 9 ∷ 5 ∷ []) (9 ∷ []) ∷ CanWrite 9 ∷ Said 9 4096 text30 ∷ wait true (1 ∷ 3 ∷ 4 ∷ 6 ∷ 8 ∷ 9 ∷ 5 ∷ []) (9 ∷ []) ∷ CanWrite 9 ∷ Said 9 4096 text31 ∷ wait true (1 ∷ 3 ∷ 4 ∷ 6 ∷ 8 ∷ 9 ∷ 5 ∷ []) (9 ∷ []) ∷ CanWrite 9 ∷ Said 9 808 text32 ∷ Shut 9 ∷ wait true (1 ∷ 3 ∷ 4 ∷ 6 ∷ 8 ∷ 5 ∷ []) [] ∷ CanRead 8 ∷ Heard 8 text33 ∷ Noted (Taken 8 1 (Refuse 400)) ∷ wait true (1 ∷ 3 ∷ 4 ∷ 6 ∷ 8 ∷ 5 ∷ []) (8 ∷ []) ∷ CanWrite 8 ∷ Said 8 109 text34 ∷ Shut 8 ∷ wait true (1 ∷ 3 ∷ 4 ∷ 6 ∷ 5 ∷ []) [] ∷ Opened 10 ∷ wait true (1 ∷ 3 ∷ 4 ∷ 6 ∷ 10 ∷ 5 ∷ []) [] ∷ CanRead 10 ∷ Heard 10 text35 ∷ Noted (Taken 10 0 Fetch) ∷ wait true (1 ∷ 3 ∷ 4 ∷ 6 ∷ 10 ∷ 5 ∷ []) (5 ∷ []) ∷ CanWrite 5 ∷ Asked 5 text36 ∷ wait true (1 ∷ 3 ∷ 4 ∷ 6 ∷ 10 ∷ 5 ∷ []) [] ∷ CanRead 5 ∷ Got 5 text24 ∷ Noted (Taken 10 0 (Hit 0 5)) ∷ wait true (1 ∷ 3 ∷ 4 ∷ 6 ∷ 10 ∷ 5 ∷ []) (10 ∷ []) ∷ CanWrite 10 ∷ Said 10 156 text37 ∷ wait true (1 ∷ 3 ∷ 4 ∷ 6 ∷ 10 ∷ 5 ∷ []) (10 ∷ []) ∷ CanWrite 10 ∷ Said 10 5 (codes "aaaaa") ∷ wait true (1 ∷ 3 ∷ 4 ∷ 6 ∷ 10 ∷ 5 ∷ []) [] ∷ Reached 5 ∷ wait true (1 ∷ 3 ∷ 4 ∷ 6 ∷ 10 ∷ 5 ∷ []) [] ∷ Reached 7 ∷ wait true (1 ∷ 3 ∷ 4 ∷ 6 ∷ 10 ∷ 5 ∷ 7 ∷ []) (7 ∷ []) ∷ CanWrite 7 ∷ Asked 7 text38 ∷ wait true (1 ∷ 3 ∷ 4 ∷ 6 ∷ 10 ∷ 5 ∷ 7 ∷ []) [] ∷ Reached 5 ∷ wait true (1 ∷ 3 ∷ 4 ∷ 6 ∷ 10 ∷ 5 ∷ 7 ∷ []) [] ∷ Reached 7 ∷ wait true (1 ∷ 3 ∷ 4 ∷ 6 ∷ 10 ∷ 5 ∷ 7 ∷ []) [] ∷ CanRead 7 ∷ Got 7 text39 ∷ wait true (1 ∷ 3 ∷ 4 ∷ 6 ∷ 10 ∷ 5 ∷ 7 ∷ []) (6 ∷ []) ∷ CanWrite 6 ∷ Said 6 91 text40 ∷ wait true (1 ∷ 3 ∷ 4 ∷ 6 ∷ 10 ∷ 5 ∷ 7 ∷ []) (6 ∷ []) ∷ CanWrite 6 ∷ Said 6 7 (codes "hello w") ∷ wait true (1 ∷ 3 ∷ 4 ∷ 6 ∷ 10 ∷ 5 ∷ 7 ∷ []) [] ∷ Opened 11 ∷ wait true (1 ∷ 3 ∷ 4 ∷ 6 ∷ 10 ∷ 11 ∷ 5 ∷ 7 ∷ []) [] ∷ CanRead 11 ∷ Heard 11 text26 ∷ Noted (Taken 11 0 (Hit 0 9000)) ∷ wait true (1 ∷ 3 ∷ 4 ∷ 6 ∷ 10 ∷ 11 ∷ 5 ∷ 7 ∷ []) (11 ∷ []) ∷ CanWrite 11 ∷ Said 11 162 text41 ∷ wait true (1 ∷ 3 ∷ 4 ∷ 6 ∷ 10 ∷ 11 ∷ 5 ∷ 7 ∷ []) (11 ∷ []) ∷ CanWrite 11 ∷ Said 11 4096 text30 ∷ wait true (1 ∷ 3 ∷ 4 ∷ 6 ∷ 10 ∷ 11 ∷ 5 ∷ 7 ∷ []) (11 ∷ []) ∷ CanWrite 11 ∷ Said 11 4096 text31 ∷ wait true (1 ∷ 3 ∷ 4 ∷ 6 ∷ 10 ∷ 11 ∷ 5 ∷ 7 ∷ []) (11 ∷ []) ∷ CanWrite 11 ∷ Said 11 808 text32 ∷ Shut 11 ∷ wait true (1 ∷ 3 ∷ 4 ∷ 6 ∷ 10 ∷ 5 ∷ 7 ∷ []) [] ∷ Clock 784111831 ∷ wait true (1 ∷ 3 ∷ 4 ∷ 6 ∷ 10 ∷ 5 ∷ 7 ∷ []) [] ∷ Stopped ∷ Noted (Cut 6 Stop) ∷ Shut 1 ∷ Shut 3 ∷ Shut 4 ∷ Shut 6 ∷ Shut 10 ∷ Dropped 5 ∷ Dropped 7 ∷ Woke [] ∷ Rooted text2 ∷ Listed true ∷ Listens 8123 true ∷ wait true [] [] ∷ Clock 784112777 ∷ wait true [] [] ∷ Opened 12 ∷ wait true (12 ∷ []) [] ∷ CanRead 12 ∷ Heard 12 text42 ∷ wait true (12 ∷ []) [] ∷ Opened 13 ∷ wait true (12 ∷ 13 ∷ []) [] ∷ CanRead 13 ∷ Heard 13 text43 ∷ Noted (Taken 13 0 Pass) ∷ Dialled 14 (codes "h") 80 ∷ wait true (12 ∷ 13 ∷ []) [] ∷ Opened 15 ∷ wait true (12 ∷ 13 ∷ 15 ∷ []) [] ∷ CanRead 15 ∷ Heard 15 text3 ∷ Noted (Taken 15 0 Fetch) ∷ Dialled 16 (codes "t") 80 ∷ wait true (12 ∷ 13 ∷ 15 ∷ []) [] ∷ Reached 16 ∷ wait true (12 ∷ 13 ∷ 15 ∷ 16 ∷ []) (16 ∷ []) ∷ CanWrite 16 ∷ Asked 16 text4 ∷ wait true (12 ∷ 13 ∷ 15 ∷ 16 ∷ []) [] ∷ CanRead 16 ∷ Got 16 text5 ∷ Noted (Taken 15 0 (Hit 12000 20000)) ∷ wait true (12 ∷ 13 ∷ 15 ∷ 16 ∷ []) (15 ∷ []) ∷ CanWrite 15 ∷ Said 15 212 text44 ∷ wait true (12 ∷ 13 ∷ 15 ∷ 16 ∷ []) (15 ∷ []) ∷ CanWrite 15 ∷ Said 15 288 text7 ∷ wait true (12 ∷ 13 ∷ 15 ∷ 16 ∷ []) (15 ∷ []) ∷ CanWrite 15 ∷ Said 15 4096 text8 ∷ wait true (12 ∷ 13 ∷ 15 ∷ 16 ∷ []) (15 ∷ []) ∷ CanWrite 15 ∷ Said 15 3616 text9 ∷ wait true (12 ∷ 13 ∷ 15 ∷ 16 ∷ []) [] ∷ Opened 17 ∷ wait true (12 ∷ 13 ∷ 15 ∷ 17 ∷ 16 ∷ []) [] ∷ CanRead 17 ∷ Heard 17 text45 ∷ Noted (Taken 17 0 Pass) ∷ Dialled 18 (codes "h") 80 ∷ wait true (12 ∷ 13 ∷ 15 ∷ 17 ∷ 16 ∷ []) [] ∷ CanRead 17 ∷ Heard 17 text46 ∷ wait true (12 ∷ 13 ∷ 15 ∷ 17 ∷ 16 ∷ []) [] ∷ CanRead 17 ∷ Heard 17 (codes "\r") ∷ wait true (12 ∷ 13 ∷ 15 ∷ 17 ∷ 16 ∷ []) [] ∷ CanRead 17 ∷ Heard 17 (codes "\n") ∷ wait true (12 ∷ 13 ∷ 15 ∷ 17 ∷ 16 ∷ []) [] ∷ Reached 14 ∷ wait true (12 ∷ 13 ∷ 15 ∷ 17 ∷ 14 ∷ 16 ∷ []) (14 ∷ []) ∷ CanWrite 14 ∷ Asked 14 text38 ∷ wait true (12 ∷ 13 ∷ 15 ∷ 17 ∷ 14 ∷ 16 ∷ []) [] ∷ Reached 16 ∷ wait true (12 ∷ 13 ∷ 15 ∷ 17 ∷ 14 ∷ 16 ∷ []) [] ∷ CanRead 17 ∷ Heard 17 text47 ∷ wait true (12 ∷ 13 ∷ 15 ∷ 17 ∷ 14 ∷ 16 ∷ []) [] ∷ CanRead 17 ∷ Heard 17 (codes "\r\n") ∷ wait true (12 ∷ 13 ∷ 15 ∷ 17 ∷ 14 ∷ 16 ∷ []) [] ∷ CanRead 17 ∷ Heard 17 (codes "\r") ∷ wait true (12 ∷ 13 ∷ 15 ∷ 17 ∷ 14 ∷ 16 ∷ []) [] ∷ CanRead 17 ∷ Heard 17 (codes "\n") ∷ wait true (12 ∷ 13 ∷ 15 ∷ 17 ∷ 14 ∷ 16 ∷ []) [] ∷ Clock 784112817 ∷ wait true (12 ∷ 13 ∷ 15 ∷ 17 ∷ 14 ∷ 16 ∷ []) [] ∷ Clock 784112823 ∷ wait true (12 ∷ 13 ∷ 15 ∷ 17 ∷ 14 ∷ 16 ∷ []) [] ∷ Opened 19 ∷ wait true (12 ∷ 13 ∷ 15 ∷ 17 ∷ 19 ∷ 14 ∷ 16 ∷ []) [] ∷ CanRead 19 ∷ Heard 19 text48 ∷ wait true (12 ∷ 13 ∷ 15 ∷ 17 ∷ 19 ∷ 14 ∷ 16 ∷ []) [] ∷ CanRead 19 ∷ Heard 19 (codes "Host: ") ∷ wait true (12 ∷ 13 ∷ 15 ∷ 17 ∷ 19 ∷ 14 ∷ 16 ∷ []) [] ∷ CanRead 19 ∷ Heard 19 (codes "h\r\n") ∷ wait true (12 ∷ 13 ∷ 15 ∷ 17 ∷ 19 ∷ 14 ∷ 16 ∷ []) [] ∷ CanRead 19 ∷ Heard 19 (codes "\r\n") ∷ Noted (Taken 19 0 Fetch) ∷ Dialled 20 (codes "h") 8080 ∷ wait true (12 ∷ 13 ∷ 15 ∷ 17 ∷ 19 ∷ 14 ∷ 16 ∷ []) [] ∷ Reached 14 ∷ wait true (12 ∷ 13 ∷ 15 ∷ 17 ∷ 19 ∷ 14 ∷ 16 ∷ []) [] ∷ Reached 16 ∷ wait true (12 ∷ 13 ∷ 15 ∷ 17 ∷ 19 ∷ 14 ∷ 16 ∷ []) [] ∷ CanRead 16 ∷ Got 16 text49 ∷ Dropped 16 ∷ wait true (12 ∷ 13 ∷ 15 ∷ 17 ∷ 19 ∷ 14 ∷ []) [] ∷ Opened 21 ∷ wait true (12 ∷ 13 ∷ 15 ∷ 17 ∷ 19 ∷ 21 ∷ 14 ∷ []) [] ∷ CanRead 21 ∷ Heard 21 text50 ∷ Noted (Taken 21 0 Fetch) ∷ Dialled 22 (codes "s") 80 ∷ wait true (12 ∷ 13 ∷ 15 ∷ 17 ∷ 19 ∷ 21 ∷ 14 ∷ []) [] ∷ Reached 22 ∷ wait true (12 ∷ 13 ∷ 15 ∷ 17 ∷ 19 ∷ 21 ∷ 14 ∷ 22 ∷ []) (22 ∷ []) ∷ CanWrite 22 ∷ Asked 22 text51 ∷ wait true (12 ∷ 13 ∷ 15 ∷ 17 ∷ 19 ∷ 21 ∷ 14 ∷ 22 ∷ []) [] ∷ CanRead 22 ∷ Got 22 text52 ∷ Noted (Taken 21 0 (Hit 1 4)) ∷ wait true (12 ∷ 13 ∷ 15 ∷ 17 ∷ 19 ∷ 21 ∷ 14 ∷ 22 ∷ []) (21 ∷ []) ∷ CanWrite 21 ∷ Said 21 197 text53 ∷ wait true (12 ∷ 13 ∷ 15 ∷ 17 ∷ 19 ∷ 21 ∷ 14 ∷ 22 ∷ []) (21 ∷ []) ∷ CanWrite 21 ∷ Said 21 3 (codes "aaa") ∷ wait true (12 ∷ 13 ∷ 15 ∷ 17 ∷ 19 ∷ 21 ∷ 14 ∷ 22 ∷ []) [] ∷ CanRead 21 ∷ Heard 21 text54 ∷ wait true (12 ∷ 13 ∷ 15 ∷ 17 ∷ 19 ∷ 21 ∷ 14 ∷ 22 ∷ []) [] ∷ CanRead 21 ∷ Heard 21 (codes "ed\r\n\r\n") ∷ Noted (Taken 21 1 (Refuse 504)) ∷ wait true (12 ∷ 13 ∷ 15 ∷ 17 ∷ 19 ∷ 21 ∷ 14 ∷ 22 ∷ []) (21 ∷ []) ∷ CanWrite 21 ∷ Said 21 122 text55 ∷ wait true (12 ∷ 13 ∷ 15 ∷ 17 ∷ 19 ∷ 21 ∷ 14 ∷ 22 ∷ []) [] ∷ Opened 23 ∷ wait true (12 ∷ 13 ∷ 15 ∷ 17 ∷ 19 ∷ 21 ∷ 23 ∷ 14 ∷ 22 ∷ []) [] ∷ CanRead 23 ∷ Heard 23 text10 ∷ Noted (Taken 23 0 (Hit 19900 20000)) ∷ wait true (12 ∷ 13 ∷ 15 ∷ 17 ∷ 19 ∷ 21 ∷ 23 ∷ 14 ∷ 22 ∷ []) (23 ∷ []) ∷ CanWrite 23 ∷ Said 23 220 text56 ∷ wait true (12 ∷ 13 ∷ 15 ∷ 17 ∷ 19 ∷ 21 ∷ 23 ∷ 14 ∷ 22 ∷ []) (23 ∷ []) ∷ CanWrite 23 ∷ Said 23 100 text12 ∷ wait true (12 ∷ 13 ∷ 15 ∷ 17 ∷ 19 ∷ 21 ∷ 23 ∷ 14 ∷ 22 ∷ []) [] ∷ Opened 24 ∷ wait true (12 ∷ 13 ∷ 15 ∷ 17 ∷ 19 ∷ 21 ∷ 23 ∷ 24 ∷ 14 ∷ 22 ∷ []) [] ∷ CanRead 24 ∷ Heard 24 text57 ∷ Noted (Taken 24 0 (Part 0 20000)) ∷ Dialled 25 (codes "t") 80 ∷ wait true (12 ∷ 13 ∷ 15 ∷ 17 ∷ 19 ∷ 21 ∷ 23 ∷ 24 ∷ 14 ∷ 22 ∷ []) [] ∷ Reached 25 ∷ wait true (12 ∷ 13 ∷ 15 ∷ 17 ∷ 19 ∷ 21 ∷ 23 ∷ 24 ∷ 14 ∷ 22 ∷ 25 ∷ []) (25 ∷ []) ∷ CanWrite 25 ∷ Asked 25 text58 ∷ wait true (12 ∷ 13 ∷ 15 ∷ 17 ∷ 19 ∷ 21 ∷ 23 ∷ 24 ∷ 14 ∷ 22 ∷ 25 ∷ []) [] ∷ CanRead 25 ∷ Got 25 text59 ∷ wait true (12 ∷ 13 ∷ 15 ∷ 17 ∷ 19 ∷ 21 ∷ 23 ∷ 24 ∷ 14 ∷ 22 ∷ 25 ∷ []) (24 ∷ []) ∷ CanWrite 24 ∷ Said 24 160 text60 ∷ wait true (12 ∷ 13 ∷ 15 ∷ 17 ∷ 19 ∷ 21 ∷ 23 ∷ 24 ∷ 14 ∷ 22 ∷ 25 ∷ []) (24 ∷ []) ∷ CanWrite 24 ∷ Said 24 4096 text30 ∷ wait true (12 ∷ 13 ∷ 15 ∷ 17 ∷ 19 ∷ 21 ∷ 23 ∷ 24 ∷ 14 ∷ 22 ∷ 25 ∷ []) (24 ∷ []) ∷ CanWrite 24 ∷ Said 24 4096 text31 ∷ wait true (12 ∷ 13 ∷ 15 ∷ 17 ∷ 19 ∷ 21 ∷ 23 ∷ 24 ∷ 14 ∷ 22 ∷ 25 ∷ []) (24 ∷ []) ∷ CanWrite 24 ∷ Said 24 4096 text61 ∷ wait true (12 ∷ 13 ∷ 15 ∷ 17 ∷ 19 ∷ 21 ∷ 23 ∷ 24 ∷ 14 ∷ 22 ∷ 25 ∷ []) (24 ∷ []) ∷ CanWrite 24 ∷ Said 24 4096 text8 ∷ wait true (12 ∷ 13 ∷ 15 ∷ 17 ∷ 19 ∷ 21 ∷ 23 ∷ 24 ∷ 14 ∷ 22 ∷ 25 ∷ []) (24 ∷ []) ∷ CanWrite 24 ∷ Said 24 3616 text9 ∷ wait true (12 ∷ 13 ∷ 15 ∷ 17 ∷ 19 ∷ 21 ∷ 23 ∷ 24 ∷ 14 ∷ 22 ∷ 25 ∷ []) [] ∷ Opened 26 ∷ wait true (12 ∷ 13 ∷ 15 ∷ 17 ∷ 19 ∷ 21 ∷ 23 ∷ 24 ∷ 26 ∷ 14 ∷ 22 ∷ 25 ∷ []) [] ∷ CanRead 26 ∷ Heard 26 text62 ∷ wait true (12 ∷ 13 ∷ 15 ∷ 17 ∷ 19 ∷ 21 ∷ 23 ∷ 24 ∷ 26 ∷ 14 ∷ 22 ∷ 25 ∷ []) [] ∷ CanRead 26 ∷ Heard 26 (codes "es=-100\r\n") ∷ wait true (12 ∷ 13 ∷ 15 ∷ 17 ∷ 19 ∷ 21 ∷ 23 ∷ 24 ∷ 26 ∷ 14 ∷ 22 ∷ 25 ∷ []) [] ∷ CanRead 26 ∷ Heard 26 (codes "\r") ∷ wait true (12 ∷ 13 ∷ 15 ∷ 17 ∷ 19 ∷ 21 ∷ 23 ∷ 24 ∷ 26 ∷ 14 ∷ 22 ∷ 25 ∷ []) [] ∷ CanRead 26 ∷ Heard 26 (codes "\n") ∷ Noted (Taken 26 0 (Hit 19900 20000)) ∷ wait true (12 ∷ 13 ∷ 15 ∷ 17 ∷ 19 ∷ 21 ∷ 23 ∷ 24 ∷ 26 ∷ 14 ∷ 22 ∷ 25 ∷ []) (26 ∷ []) ∷ CanWrite 26 ∷ Said 26 219 text63 ∷ wait true (12 ∷ 13 ∷ 15 ∷ 17 ∷ 19 ∷ 21 ∷ 23 ∷ 24 ∷ 26 ∷ 14 ∷ 22 ∷ 25 ∷ []) (26 ∷ []) ∷ CanWrite 26 ∷ Said 26 100 text12 ∷ wait true (12 ∷ 13 ∷ 15 ∷ 17 ∷ 19 ∷ 21 ∷ 23 ∷ 24 ∷ 26 ∷ 14 ∷ 22 ∷ 25 ∷ []) [] ∷ Reached 14 ∷ wait true (12 ∷ 13 ∷ 15 ∷ 17 ∷ 19 ∷ 21 ∷ 23 ∷ 24 ∷ 26 ∷ 14 ∷ 22 ∷ 25 ∷ []) [] ∷ Opened 27 ∷ wait true (12 ∷ 13 ∷ 15 ∷ 17 ∷ 19 ∷ 21 ∷ 23 ∷ 24 ∷ 26 ∷ 27 ∷ 14 ∷ 22 ∷ 25 ∷ []) [] ∷ CanRead 27 ∷ Heard 27 text64 ∷ Noted (Taken 27 0 Fetch) ∷ wait true (12 ∷ 13 ∷ 15 ∷ 17 ∷ 19 ∷ 21 ∷ 23 ∷ 24 ∷ 26 ∷ 27 ∷ 14 ∷ 22 ∷ 25 ∷ []) (22 ∷ []) ∷ CanWrite 22 ∷ Asked 22 text65 ∷ wait true (12 ∷ 13 ∷ 15 ∷ 17 ∷ 19 ∷ 21 ∷ 23 ∷ 24 ∷ 26 ∷ 27 ∷ 14 ∷ 22 ∷ 25 ∷ []) [] ∷ CanRead 22 ∷ Got 22 text66 ∷ Noted (Taken 27 0 (Hit 5000 6000)) ∷ wait true (12 ∷ 13 ∷ 15 ∷ 17 ∷ 19 ∷ 21 ∷ 23 ∷ 24 ∷ 26 ∷ 27 ∷ 14 ∷ 22 ∷ 25 ∷ []) (27 ∷ []) ∷ CanWrite 27 ∷ Said 27 209 text67 ∷ wait true (12 ∷ 13 ∷ 15 ∷ 17 ∷ 19 ∷ 21 ∷ 23 ∷ 24 ∷ 26 ∷ 27 ∷ 14 ∷ 22 ∷ 25 ∷ []) (27 ∷ []) ∷ CanWrite 27 ∷ Said 27 1000 text68 ∷ wait true (12 ∷ 13 ∷ 15 ∷ 17 ∷ 19 ∷ 21 ∷ 23 ∷ 24 ∷ 26 ∷ 27 ∷ 14 ∷ 22 ∷ 25 ∷ []) [] ∷ CanRead 27 ∷ Heard 27 text22 ∷ Noted (Taken 27 1 Pass) ∷ wait true (12 ∷ 13 ∷ 15 ∷ 17 ∷ 19 ∷ 21 ∷ 23 ∷ 24 ∷ 26 ∷ 27 ∷ 14 ∷ 22 ∷ 25 ∷ []) (22 ∷ []) ∷ CanWrite 22 ∷ Asked 22 text23 ∷ wait true (12 ∷ 13 ∷ 15 ∷ 17 ∷ 19 ∷ 21 ∷ 23 ∷ 24 ∷ 26 ∷ 27 ∷ 14 ∷ 22 ∷ 25 ∷ []) [] ∷ CanRead 22 ∷ Got 22 text24 ∷ wait true (12 ∷ 13 ∷ 15 ∷ 17 ∷ 19 ∷ 21 ∷ 23 ∷ 24 ∷ 26 ∷ 27 ∷ 14 ∷ 22 ∷ 25 ∷ []) (27 ∷ []) ∷ CanWrite 27 ∷ Said 27 119 text25 ∷ wait true (12 ∷ 13 ∷ 15 ∷ 17 ∷ 19 ∷ 21 ∷ 23 ∷ 24 ∷ 26 ∷ 27 ∷ 14 ∷ 22 ∷ 25 ∷ []) (27 ∷ []) ∷ CanWrite 27 ∷ Said 27 5 (codes "aaaaa") ∷ wait true (12 ∷ 13 ∷ 15 ∷ 17 ∷ 19 ∷ 21 ∷ 23 ∷ 24 ∷ 26 ∷ 27 ∷ 14 ∷ 22 ∷ 25 ∷ []) [] ∷ Opened 28 ∷ wait true (12 ∷ 13 ∷ 15 ∷ 17 ∷ 19 ∷ 21 ∷ 23 ∷ 24 ∷ 26 ∷ 27 ∷ 28 ∷ 14 ∷ 22 ∷ 25 ∷ []) [] ∷ CanRead 28 ∷ Heard 28 text35 ∷ Noted (Taken 28 0 (Part 0 5)) ∷ wait true (12 ∷ 13 ∷ 15 ∷ 17 ∷ 19 ∷ 21 ∷ 23 ∷ 24 ∷ 26 ∷ 27 ∷ 28 ∷ 14 ∷ 22 ∷ 25 ∷ []) (28 ∷ []) ∷ CanWrite 28 ∷ Said 28 164 text69 ∷ wait true (12 ∷ 13 ∷ 15 ∷ 17 ∷ 19 ∷ 21 ∷ 23 ∷ 24 ∷ 26 ∷ 27 ∷ 28 ∷ 14 ∷ 22 ∷ 25 ∷ []) (28 ∷ []) ∷ CanWrite 28 ∷ Said 28 4 (codes "aaaa") ∷ wait true (12 ∷ 13 ∷ 15 ∷ 17 ∷ 19 ∷ 21 ∷ 23 ∷ 24 ∷ 26 ∷ 27 ∷ 28 ∷ 14 ∷ 22 ∷ 25 ∷ []) (22 ∷ []) ∷ CanWrite 22 ∷ Asked 22 text70 ∷ wait true (12 ∷ 13 ∷ 15 ∷ 17 ∷ 19 ∷ 21 ∷ 23 ∷ 24 ∷ 26 ∷ 27 ∷ 28 ∷ 14 ∷ 22 ∷ 25 ∷ []) [] ∷ CanRead 22 ∷ Got 22 text71 ∷ wait true (12 ∷ 13 ∷ 15 ∷ 17 ∷ 19 ∷ 21 ∷ 23 ∷ 24 ∷ 26 ∷ 27 ∷ 28 ∷ 14 ∷ 22 ∷ 25 ∷ []) (28 ∷ []) ∷ CanWrite 28 ∷ Said 28 1 (codes "a") ∷ wait true (12 ∷ 13 ∷ 15 ∷ 17 ∷ 19 ∷ 21 ∷ 23 ∷ 24 ∷ 26 ∷ 27 ∷ 28 ∷ 14 ∷ 22 ∷ 25 ∷ []) [] ∷ Opened 29 ∷ wait true (12 ∷ 13 ∷ 15 ∷ 17 ∷ 19 ∷ 21 ∷ 23 ∷ 24 ∷ 26 ∷ 27 ∷ 28 ∷ 29 ∷ 14 ∷ 22 ∷ 25 ∷ []) [] ∷ CanRead 29 ∷ Heard 29 text57 ∷ Noted (Taken 29 0 (Hit 0 20000)) ∷ wait true (12 ∷ 13 ∷ 15 ∷ 17 ∷ 19 ∷ 21 ∷ 23 ∷ 24 ∷ 26 ∷ 27 ∷ 28 ∷ 29 ∷ 14 ∷ 22 ∷ 25 ∷ []) (29 ∷ []) ∷ CanWrite 29 ∷ Said 29 168 text72 ∷ wait true (12 ∷ 13 ∷ 15 ∷ 17 ∷ 19 ∷ 21 ∷ 23 ∷ 24 ∷ 26 ∷ 27 ∷ 28 ∷ 29 ∷ 14 ∷ 22 ∷ 25 ∷ []) (29 ∷ []) ∷ CanWrite 29 ∷ Said 29 4096 text30 ∷ wait true (12 ∷ 13 ∷ 15 ∷ 17 ∷ 19 ∷ 21 ∷ 23 ∷ 24 ∷ 26 ∷ 27 ∷ 28 ∷ 29 ∷ 14 ∷ 22 ∷ 25 ∷ []) (29 ∷ []) ∷ CanWrite 29 ∷ Said 29 4096 text31 ∷ wait true (12 ∷ 13 ∷ 15 ∷ 17 ∷ 19 ∷ 21 ∷ 23 ∷ 24 ∷ 26 ∷ 27 ∷ 28 ∷ 29 ∷ 14 ∷ 22 ∷ 25 ∷ []) (29 ∷ []) ∷ CanWrite 29 ∷ Said 29 4096 text61 ∷ Woke [] ∷ Rooted text2 ∷ Listed true ∷ Listens 8123 true ∷ wait true [] [] ∷ Clock 784113777 ∷ wait true [] [] ∷ Clock 784113835 ∷ wait true [] [] ∷ Clock 784113879 ∷ wait true [] [] ∷ Opened 30 ∷ wait true (30 ∷ []) [] ∷ CanRead 30 ∷ Heard 30 text73 ∷ wait true (30 ∷ []) [] ∷ CanRead 30 ∷ Heard 30 (codes ": s\r\n") ∷ wait true (30 ∷ []) [] ∷ CanRead 30 ∷ Heard 30 (codes "\r\n") ∷ Noted (Taken 30 0 Fetch) ∷ Dialled 31 (codes "s") 80 ∷ wait true (30 ∷ []) [] ∷ Reached 31 ∷ wait true (30 ∷ 31 ∷ []) (31 ∷ []) ∷ CanWrite 31 ∷ Asked 31 text14 ∷ wait true (30 ∷ 31 ∷ []) [] ∷ CanRead 31 ∷ Got 31 text15 ∷ Noted (Taken 30 0 (Hit 0 0)) ∷ wait true (30 ∷ 31 ∷ []) (30 ∷ []) ∷ CanWrite 30 ∷ Said 30 156 text74 ∷ wait true (30 ∷ 31 ∷ []) [] ∷ CanRead 30 ∷ Heard 30 text22 ∷ Noted (Taken 30 1 Pass) ∷ wait true (30 ∷ 31 ∷ []) (31 ∷ []) ∷ CanWrite 31 ∷ Asked 31 text23 ∷ wait true (30 ∷ 31 ∷ []) [] ∷ CanRead 31 ∷ Got 31 text24 ∷ wait true (30 ∷ 31 ∷ []) (30 ∷ []) ∷ CanWrite 30 ∷ Said 30 119 text25 ∷ wait true (30 ∷ 31 ∷ []) (30 ∷ []) ∷ CanWrite 30 ∷ Said 30 5 (codes "aaaaa") ∷ wait true (30 ∷ 31 ∷ []) [] ∷ Opened 32 ∷ wait true (30 ∷ 32 ∷ 31 ∷ []) [] ∷ CanRead 32 ∷ Heard 32 (codes "GET htt") ∷ wait true (30 ∷ 32 ∷ 31 ∷ []) [] ∷ CanRead 32 ∷ Heard 32 text75 ∷ wait true (30 ∷ 32 ∷ 31 ∷ []) [] ∷ CanRead 32 ∷ Heard 32 (codes "1\r\nA") ∷ wait true (30 ∷ 32 ∷ 31 ∷ []) [] ∷ Opened 33 ∷ wait true (30 ∷ 32 ∷ 33 ∷ 31 ∷ []) [] ∷ CanRead 33 ∷ Heard 33 (codes "G") ∷ wait true (30 ∷ 32 ∷ 33 ∷ 31 ∷ []) [] ∷ CanRead 33 ∷ Heard 33 (codes "E") ∷ wait true (30 ∷ 32 ∷ 33 ∷ 31 ∷ []) [] ∷ CanRead 33 ∷ Heard 33 (codes "T") ∷ wait true (30 ∷ 32 ∷ 33 ∷ 31 ∷ []) [] ∷ CanRead 33 ∷ Heard 33 (codes " ") ∷ wait true (30 ∷ 32 ∷ 33 ∷ 31 ∷ []) [] ∷ CanRead 33 ∷ Heard 33 (codes "h") ∷ wait true (30 ∷ 32 ∷ 33 ∷ 31 ∷ []) [] ∷ CanRead 33 ∷ Heard 33 (codes "t") ∷ wait true (30 ∷ 32 ∷ 33 ∷ 31 ∷ []) [] ∷ CanRead 33 ∷ Heard 33 (codes "t") ∷ wait true (30 ∷ 32 ∷ 33 ∷ 31 ∷ []) [] ∷ CanRead 33 ∷ Heard 33 (codes "p") ∷ wait true (30 ∷ 32 ∷ 33 ∷ 31 ∷ []) [] ∷ CanRead 33 ∷ Heard 33 (codes ":") ∷ wait true (30 ∷ 32 ∷ 33 ∷ 31 ∷ []) [] ∷ CanRead 33 ∷ Heard 33 (codes "/") ∷ wait true (30 ∷ 32 ∷ 33 ∷ 31 ∷ []) [] ∷ CanRead 33 ∷ Heard 33 (codes "/") ∷ wait true (30 ∷ 32 ∷ 33 ∷ 31 ∷ []) [] ∷ CanRead 33 ∷ Heard 33 (codes "s") ∷ wait true (30 ∷ 32 ∷ 33 ∷ 31 ∷ []) [] ∷ CanRead 33 ∷ Heard 33 (codes "/") ∷ wait true (30 ∷ 32 ∷ 33 ∷ 31 ∷ []) [] ∷ CanRead 33 ∷ Heard 33 (codes "e") ∷ wait true (30 ∷ 32 ∷ 33 ∷ 31 ∷ []) [] ∷ CanRead 33 ∷ Heard 33 (codes " ") ∷ wait true (30 ∷ 32 ∷ 33 ∷ 31 ∷ []) [] ∷ CanRead 33 ∷ Heard 33 (codes "H") ∷ wait true (30 ∷ 32 ∷ 33 ∷ 31 ∷ []) [] ∷ CanRead 33 ∷ Heard 33 (codes "T") ∷ wait true (30 ∷ 32 ∷ 33 ∷ 31 ∷ []) [] ∷ CanRead 33 ∷ Heard 33 (codes "T") ∷ wait true (30 ∷ 32 ∷ 33 ∷ 31 ∷ []) [] ∷ CanRead 33 ∷ Heard 33 (codes "P") ∷ wait true (30 ∷ 32 ∷ 33 ∷ 31 ∷ []) [] ∷ CanRead 33 ∷ Heard 33 (codes "/") ∷ wait true (30 ∷ 32 ∷ 33 ∷ 31 ∷ []) [] ∷ CanRead 33 ∷ Heard 33 (codes "1") ∷ wait true (30 ∷ 32 ∷ 33 ∷ 31 ∷ []) [] ∷ CanRead 33 ∷ Heard 33 (codes ".") ∷ wait true (30 ∷ 32 ∷ 33 ∷ 31 ∷ []) [] ∷ CanRead 33 ∷ Heard 33 (codes "1") ∷ wait true (30 ∷ 32 ∷ 33 ∷ 31 ∷ []) [] ∷ CanRead 33 ∷ Heard 33 (codes "\r") ∷ wait true (30 ∷ 32 ∷ 33 ∷ 31 ∷ []) [] ∷ CanRead 33 ∷ Heard 33 (codes "\n") ∷ wait true (30 ∷ 32 ∷ 33 ∷ 31 ∷ []) [] ∷ CanRead 33 ∷ Heard 33 (codes "H") ∷ wait true (30 ∷ 32 ∷ 33 ∷ 31 ∷ []) [] ∷ CanRead 33 ∷ Heard 33 (codes "o") ∷ wait true (30 ∷ 32 ∷ 33 ∷ 31 ∷ []) [] ∷ CanRead 33 ∷ Heard 33 (codes "s") ∷ wait true (30 ∷ 32 ∷ 33 ∷ 31 ∷ []) [] ∷ CanRead 33 ∷ Heard 33 (codes "t") ∷ wait true (30 ∷ 32 ∷ 33 ∷ 31 ∷ []) [] ∷ CanRead 33 ∷ Heard 33 (codes ":") ∷ wait true (30 ∷ 32 ∷ 33 ∷ 31 ∷ []) [] ∷ CanRead 33 ∷ Heard 33 (codes " ") ∷ wait true (30 ∷ 32 ∷ 33 ∷ 31 ∷ []) [] ∷ CanRead 33 ∷ Heard 33 (codes "s") ∷ wait true (30 ∷ 32 ∷ 33 ∷ 31 ∷ []) [] ∷ CanRead 33 ∷ Heard 33 (codes "\r") ∷ wait true (30 ∷ 32 ∷ 33 ∷ 31 ∷ []) [] ∷ CanRead 33 ∷ Heard 33 (codes "\n") ∷ wait true (30 ∷ 32 ∷ 33 ∷ 31 ∷ []) [] ∷ CanRead 33 ∷ Heard 33 (codes "\r") ∷ wait true (30 ∷ 32 ∷ 33 ∷ 31 ∷ []) [] ∷ CanRead 33 ∷ Heard 33 (codes "\n") ∷ Noted (Taken 33 0 (Hit 0 0)) ∷ wait true (30 ∷ 32 ∷ 33 ∷ 31 ∷ []) (33 ∷ []) ∷ CanWrite 33 ∷ Said 33 164 text76 ∷ wait true (30 ∷ 32 ∷ 33 ∷ 31 ∷ []) [] ∷ CanRead 33 ∷ Heard 33 (codes "GE") ∷ wait true (30 ∷ 32 ∷ 33 ∷ 31 ∷ []) [] ∷ CanRead 33 ∷ Heard 33 text77 ∷ wait true (30 ∷ 32 ∷ 33 ∷ 31 ∷ []) [] ∷ CanRead 33 ∷ Heard 33 (codes "HTTP") ∷ wait true (30 ∷ 32 ∷ 33 ∷ 31 ∷ []) [] ∷ CanRead 33 ∷ Heard 33 text78 ∷ Noted (Taken 33 1 Fetch) ∷ wait true (30 ∷ 32 ∷ 33 ∷ 31 ∷ []) (31 ∷ []) ∷ CanWrite 31 ∷ Asked 31 text79 ∷ wait true (30 ∷ 32 ∷ 33 ∷ 31 ∷ []) [] ∷ CanRead 31 ∷ Got 31 text80 ∷ Noted (Taken 33 1 (Hit 0 100)) ∷ wait true (30 ∷ 32 ∷ 33 ∷ 31 ∷ []) (33 ∷ []) ∷ CanWrite 33 ∷ Said 33 203 text81 ∷ wait true (30 ∷ 32 ∷ 33 ∷ 31 ∷ []) (33 ∷ []) ∷ CanWrite 33 ∷ Said 33 100 text82 ∷ wait true (30 ∷ 32 ∷ 33 ∷ 31 ∷ []) [] ∷ Clock 784113940 ∷ Dropped 31 ∷ wait true (30 ∷ 32 ∷ 33 ∷ []) [] ∷ Opened 34 ∷ wait true (30 ∷ 32 ∷ 33 ∷ 34 ∷ []) [] ∷ CanRead 34 ∷ Heard 34 text83 ∷ wait true (30 ∷ 32 ∷ 33 ∷ 34 ∷ []) [] ∷ CanRead 34 ∷ Heard 34 (codes "\n") ∷ Noted (Taken 34 0 (Part 5000 6000)) ∷ Dialled 35 (codes "s") 80 ∷ wait true (30 ∷ 32 ∷ 33 ∷ 34 ∷ []) [] ∷ Reached 35 ∷ wait true (30 ∷ 32 ∷ 33 ∷ 34 ∷ 35 ∷ []) (35 ∷ []) ∷ CanWrite 35 ∷ Asked 35 text84 ∷ wait true (30 ∷ 32 ∷ 33 ∷ 34 ∷ 35 ∷ []) [] ∷ CanRead 35 ∷ Got 35 text66 ∷ wait true (30 ∷ 32 ∷ 33 ∷ 34 ∷ 35 ∷ []) (34 ∷ []) ∷ CanWrite 34 ∷ Said 34 209 text85 ∷ wait true (30 ∷ 32 ∷ 33 ∷ 34 ∷ 35 ∷ []) (34 ∷ []) ∷ CanWrite 34 ∷ Said 34 1000 text68 ∷ wait true (30 ∷ 32 ∷ 33 ∷ 34 ∷ 35 ∷ []) [] ∷ Clock 784113988 ∷ wait true (30 ∷ 32 ∷ 33 ∷ 34 ∷ 35 ∷ []) [] ∷ Opened 36 ∷ wait true (30 ∷ 32 ∷ 33 ∷ 34 ∷ 36 ∷ 35 ∷ []) [] ∷ CanRead 36 ∷ Heard 36 text50 ∷ Noted (Taken 36 0 Fetch) ∷ wait true (30 ∷ 32 ∷ 33 ∷ 34 ∷ 36 ∷ 35 ∷ []) (35 ∷ []) ∷ CanWrite 35 ∷ Asked 35 text51 ∷ wait true (30 ∷ 32 ∷ 33 ∷ 34 ∷ 36 ∷ 35 ∷ []) [] ∷ CanRead 35 ∷ Got 35 text52 ∷ Noted (Taken 36 0 (Hit 1 4)) ∷ wait true (30 ∷ 32 ∷ 33 ∷ 34 ∷ 36 ∷ 35 ∷ []) (36 ∷ []) ∷ CanWrite 36 ∷ Said 36 197 text86 ∷ wait true (30 ∷ 32 ∷ 33 ∷ 34 ∷ 36 ∷ 35 ∷ []) (36 ∷ []) ∷ CanWrite 36 ∷ Said 36 3 (codes "aaa") ∷ wait true (30 ∷ 32 ∷ 33 ∷ 34 ∷ 36 ∷ 35 ∷ []) [] ∷ CanRead 36 ∷ Heard 36 text87 ∷ wait true (30 ∷ 32 ∷ 33 ∷ 34 ∷ 36 ∷ 35 ∷ []) [] ∷ CanRead 36 ∷ Heard 36 text88 ∷ wait true (30 ∷ 32 ∷ 33 ∷ 34 ∷ 36 ∷ 35 ∷ []) [] ∷ CanRead 36 ∷ Heard 36 (codes "000-\r\n") ∷ wait true (30 ∷ 32 ∷ 33 ∷ 34 ∷ 36 ∷ 35 ∷ []) [] ∷ CanRead 36 ∷ Heard 36 (codes "\r") ∷ wait true (30 ∷ 32 ∷ 33 ∷ 34 ∷ 36 ∷ 35 ∷ []) [] ∷ CanRead 36 ∷ Heard 36 (codes "\n") ∷ Noted (Taken 36 1 Fetch) ∷ Dialled 37 (codes "t") 80 ∷ wait true (30 ∷ 32 ∷ 33 ∷ 34 ∷ 36 ∷ 35 ∷ []) [] ∷ Reached 37 ∷ wait true (30 ∷ 32 ∷ 33 ∷ 34 ∷ 36 ∷ 35 ∷ 37 ∷ []) (37 ∷ []) ∷ CanWrite 37 ∷ Asked 37 text4 ∷ wait true (30 ∷ 32 ∷ 33 ∷ 34 ∷ 36 ∷ 35 ∷ 37 ∷ []) [] ∷ CanRead 37 ∷ Got 37 text5 ∷ Noted (Taken 36 1 (Hit 12000 20000)) ∷ wait true (30 ∷ 32 ∷ 33 ∷ 34 ∷ 36 ∷ 35 ∷ 37 ∷ []) (36 ∷ []) ∷ CanWrite 36 ∷ Said 36 212 text89 ∷ wait true (30 ∷ 32 ∷ 33 ∷ 34 ∷ 36 ∷ 35 ∷ 37 ∷ []) (36 ∷ []) ∷ CanWrite 36 ∷ Said 36 288 text7 ∷ wait true (30 ∷ 32 ∷ 33 ∷ 34 ∷ 36 ∷ 35 ∷ 37 ∷ []) (36 ∷ []) ∷ CanWrite 36 ∷ Said 36 4096 text8 ∷ wait true (30 ∷ 32 ∷ 33 ∷ 34 ∷ 36 ∷ 35 ∷ 37 ∷ []) (36 ∷ []) ∷ CanWrite 36 ∷ Said 36 3616 text9 ∷ wait true (30 ∷ 32 ∷ 33 ∷ 34 ∷ 36 ∷ 35 ∷ 37 ∷ []) [] ∷ Opened 38 ∷ wait true (30 ∷ 32 ∷ 33 ∷ 34 ∷ 36 ∷ 38 ∷ 35 ∷ 37 ∷ []) [] ∷ CanRead 38 ∷ Heard 38 text13 ∷ Noted (Taken 38 0 (Hit 0 0)) ∷ wait true (30 ∷ 32 ∷ 33 ∷ 34 ∷ 36 ∷ 38 ∷ 35 ∷ 37 ∷ []) (38 ∷ []) ∷ CanWrite 38 ∷ Said 38 166 text90 ∷ wait true (30 ∷ 32 ∷ 33 ∷ 34 ∷ 36 ∷ 38 ∷ 35 ∷ 37 ∷ []) [] ∷ Clock 784114006 ∷ Noted (Cut 30 Idle) ∷ Noted (Cut 32 Idle) ∷ Noted (Cut 33 Idle) ∷ Shut 30 ∷ Shut 32 ∷ Shut 33 ∷ wait true (34 ∷ 36 ∷ 38 ∷ 35 ∷ 37 ∷ []) [] ∷ CanRead 38 ∷ Heard 38 text91 ∷ wait true (34 ∷ 36 ∷ 38 ∷ 35 ∷ 37 ∷ []) [] ∷ CanRead 38 ∷ Heard 38 (codes "/a HTTP/1.1") ∷ wait true (34 ∷ 36 ∷ 38 ∷ 35 ∷ 37 ∷ []) [] ∷ CanRead 38 ∷ Heard 38 text92 ∷ wait true (34 ∷ 36 ∷ 38 ∷ 35 ∷ 37 ∷ []) [] ∷ CanRead 38 ∷ Heard 38 (codes "\n\r") ∷ wait true (34 ∷ 36 ∷ 38 ∷ 35 ∷ 37 ∷ []) [] ∷ CanRead 38 ∷ Heard 38 (codes "\n") ∷ Noted (Taken 38 1 (Refuse 504)) ∷ wait true (34 ∷ 36 ∷ 38 ∷ 35 ∷ 37 ∷ []) (38 ∷ []) ∷ CanWrite 38 ∷ Said 38 122 text55 ∷ wait true (34 ∷ 36 ∷ 38 ∷ 35 ∷ 37 ∷ []) [] ∷ Clock 784114007 ∷ wait true (34 ∷ 36 ∷ 38 ∷ 35 ∷ 37 ∷ []) [] ∷ Stopped ∷ Shut 34 ∷ Shut 36 ∷ Shut 38 ∷ Dropped 35 ∷ Dropped 37 ∷ []) ≡ None
 unfolding judging
@@ -877,10 +898,10 @@ row3577 : fault_from 0 (start (record { words = text131 ∷ (codes "proxyName=p"
 unfolding judging
 row3577 = refl
 
-row3781 : fault_from 0 (start (record { words = text93 ∷ []; faults = 2 } ∷ record { words = text131 ∷ (codes "proxyName=p") ∷ []; faults = 0 } ∷ [])) (Woke [] ∷ Rooted text2 ∷ Listed true ∷ Listens 8123 true ∷ wait true [] [] ∷ Clock 784111777 ∷ wait true [] [] ∷ Opened 1 ∷ wait true (1 ∷ []) [] ∷ CanRead 1 ∷ Heard 1 text22 ∷ Noted (Taken 1 0 Pass) ∷ Dialled 2 (codes "s") 80 ∷ wait true (1 ∷ []) [] ∷ Reached 2 ∷ wait true (1 ∷ 2 ∷ []) (2 ∷ []) ∷ CanWrite 2 ∷ Asked 2 text23 ∷ wait true (1 ∷ 2 ∷ []) [] ∷ CanRead 2 ∷ Got 2 text24 ∷ wait true (1 ∷ 2 ∷ []) (1 ∷ []) ∷ CanWrite 1 ∷ Said 1 119 text25 ∷ wait true (1 ∷ 2 ∷ []) (1 ∷ []) ∷ CanWrite 1 ∷ Said 1 5 (codes "aaaaa") ∷ wait true (1 ∷ 2 ∷ []) [] ∷ Reached 2 ∷ wait true (1 ∷ 2 ∷ []) [] ∷ Opened 3 ∷ wait true (1 ∷ 3 ∷ 2 ∷ []) [] ∷ CanRead 3 ∷ Heard 3 (codes "GET http") ∷ wait true (1 ∷ 3 ∷ 2 ∷ []) [] ∷ CanRead 3 ∷ Heard 3 text261 ∷ wait true (1 ∷ 3 ∷ 2 ∷ []) [] ∷ CanRead 3 ∷ Heard 3 (codes "\r\n") ∷ Noted (Taken 3 0 Fetch) ∷ Dialled 4 (codes "t") 80 ∷ wait true (1 ∷ 3 ∷ 2 ∷ []) [] ∷ Reached 4 ∷ wait true (1 ∷ 3 ∷ 2 ∷ 4 ∷ []) (4 ∷ []) ∷ Woke [] ∷ Rooted text2 ∷ Listed true ∷ Listens 8000 true ∷ wait true [] [] ∷ Clock 784112777 ∷ wait true [] [] ∷ Opened 5 ∷ wait true (5 ∷ []) [] ∷ CanRead 5 ∷ Heard 5 (codes "G") ∷ wait true (5 ∷ []) [] ∷ CanRead 5 ∷ Heard 5 text262 ∷ wait true (5 ∷ []) [] ∷ CanRead 5 ∷ Heard 5 (codes "h\r\n\r") ∷ wait true (5 ∷ []) [] ∷ CanRead 5 ∷ Heard 5 (codes "\n") ∷ Noted (Taken 5 0 (Refuse 400)) ∷ wait true (5 ∷ []) (5 ∷ []) ∷ CanWrite 5 ∷ Said 5 109 text34 ∷ Shut 5 ∷ wait true [] [] ∷ Clock 784112822 ∷ wait true [] [] ∷ Opened 6 ∷ wait true (6 ∷ []) [] ∷ CanRead 6 ∷ Heard 6 (codes "G") ∷ wait true (6 ∷ []) [] ∷ CanRead 6 ∷ Heard 6 (codes "E") ∷ wait true (6 ∷ []) [] ∷ CanRead 6 ∷ Heard 6 (codes "T") ∷ wait true (6 ∷ []) [] ∷ CanRead 6 ∷ Heard 6 (codes " ") ∷ wait true (6 ∷ []) [] ∷ CanRead 6 ∷ Heard 6 (codes "h") ∷ wait true (6 ∷ []) [] ∷ CanRead 6 ∷ Heard 6 (codes "t") ∷ wait true (6 ∷ []) [] ∷ CanRead 6 ∷ Heard 6 (codes "t") ∷ wait true (6 ∷ []) [] ∷ CanRead 6 ∷ Heard 6 (codes "p") ∷ wait true (6 ∷ []) [] ∷ CanRead 6 ∷ Heard 6 (codes ":") ∷ wait true (6 ∷ []) [] ∷ CanRead 6 ∷ Heard 6 (codes "/") ∷ wait true (6 ∷ []) [] ∷ CanRead 6 ∷ Heard 6 (codes "/") ∷ wait true (6 ∷ []) [] ∷ CanRead 6 ∷ Heard 6 (codes "s") ∷ wait true (6 ∷ []) [] ∷ CanRead 6 ∷ Heard 6 (codes "/") ∷ wait true (6 ∷ []) [] ∷ CanRead 6 ∷ Heard 6 (codes "n") ∷ wait true (6 ∷ []) [] ∷ CanRead 6 ∷ Heard 6 (codes "o") ∷ wait true (6 ∷ []) [] ∷ CanRead 6 ∷ Heard 6 (codes "n") ∷ wait true (6 ∷ []) [] ∷ CanRead 6 ∷ Heard 6 (codes "e") ∷ wait true (6 ∷ []) [] ∷ CanRead 6 ∷ Heard 6 (codes " ") ∷ wait true (6 ∷ []) [] ∷ CanRead 6 ∷ Heard 6 (codes "H") ∷ wait true (6 ∷ []) [] ∷ CanRead 6 ∷ Heard 6 (codes "T") ∷ wait true (6 ∷ []) [] ∷ CanRead 6 ∷ Heard 6 (codes "T") ∷ wait true (6 ∷ []) [] ∷ CanRead 6 ∷ Heard 6 (codes "P") ∷ wait true (6 ∷ []) [] ∷ CanRead 6 ∷ Heard 6 (codes "/") ∷ wait true (6 ∷ []) [] ∷ CanRead 6 ∷ Heard 6 (codes "1") ∷ wait true (6 ∷ []) [] ∷ CanRead 6 ∷ Heard 6 (codes ".") ∷ wait true (6 ∷ []) [] ∷ CanRead 6 ∷ Heard 6 (codes "1") ∷ wait true (6 ∷ []) [] ∷ CanRead 6 ∷ Heard 6 (codes "\r") ∷ wait true (6 ∷ []) [] ∷ CanRead 6 ∷ Heard 6 (codes "\n") ∷ wait true (6 ∷ []) [] ∷ CanRead 6 ∷ Heard 6 (codes "H") ∷ wait true (6 ∷ []) [] ∷ CanRead 6 ∷ Heard 6 (codes "o") ∷ wait true (6 ∷ []) [] ∷ CanRead 6 ∷ Heard 6 (codes "s") ∷ wait true (6 ∷ []) [] ∷ CanRead 6 ∷ Heard 6 (codes "t") ∷ wait true (6 ∷ []) [] ∷ CanRead 6 ∷ Heard 6 (codes ":") ∷ wait true (6 ∷ []) [] ∷ CanRead 6 ∷ Heard 6 (codes " ") ∷ wait true (6 ∷ []) [] ∷ CanRead 6 ∷ Heard 6 (codes "s") ∷ wait true (6 ∷ []) [] ∷ CanRead 6 ∷ Heard 6 (codes "\r") ∷ wait true (6 ∷ []) [] ∷ CanRead 6 ∷ Heard 6 (codes "\n") ∷ wait true (6 ∷ []) [] ∷ CanRead 6 ∷ Heard 6 (codes "\r") ∷ wait true (6 ∷ []) [] ∷ CanRead 6 ∷ Heard 6 (codes "\n") ∷ Noted (Taken 6 0 Fetch) ∷ Dialled 7 (codes "s") 80 ∷ wait true (6 ∷ []) [] ∷ Reached 7 ∷ wait true (6 ∷ 7 ∷ []) (7 ∷ []) ∷ CanWrite 7 ∷ Asked 7 text252 ∷ wait true (6 ∷ 7 ∷ []) [] ∷ CanRead 7 ∷ Got 7 text156 ∷ Noted (Taken 6 0 Relay) ∷ wait true (6 ∷ 7 ∷ []) (6 ∷ []) ∷ CanWrite 6 ∷ Said 6 81 text253 ∷ wait true (6 ∷ 7 ∷ []) [] ∷ Broke 7 ∷ Dropped 7 ∷ wait true (6 ∷ []) [] ∷ CanRead 6 ∷ Heard 6 text263 ∷ wait true (6 ∷ []) [] ∷ CanRead 6 ∷ Heard 6 (codes "e-Matc") ∷ wait true (6 ∷ []) [] ∷ CanRead 6 ∷ Heard 6 (codes "h: \"x\"\r") ∷ wait true (6 ∷ []) [] ∷ CanRead 6 ∷ Heard 6 (codes "\n\r\n") ∷ Noted (Taken 6 1 Pass) ∷ Dialled 8 (codes "s") 80 ∷ wait true (6 ∷ []) [] ∷ Reached 8 ∷ wait true (6 ∷ 8 ∷ []) (8 ∷ []) ∷ CanWrite 8 ∷ Asked 8 text177 ∷ wait true (6 ∷ 8 ∷ []) [] ∷ CanRead 8 ∷ Got 8 text20 ∷ wait true (6 ∷ 8 ∷ []) (6 ∷ []) ∷ CanWrite 6 ∷ Said 6 76 text178 ∷ wait true (6 ∷ 8 ∷ []) [] ∷ Clock 784112823 ∷ wait true (6 ∷ 8 ∷ []) [] ∷ Stopped ∷ Shut 6 ∷ Dropped 8 ∷ []) ≡ None
+row3781 : fault_from 0 (start (record { words = text93 ∷ []; faults = 2 } ∷ record { words = text131 ∷ (codes "proxyName=p") ∷ []; faults = 0 } ∷ [])) (Woke [] ∷ Rooted text2 ∷ Listed true ∷ Listens 8123 true ∷ wait true [] [] ∷ Clock 784111777 ∷ wait true [] [] ∷ Opened 1 ∷ wait true (1 ∷ []) [] ∷ CanRead 1 ∷ Heard 1 text22 ∷ Noted (Taken 1 0 Pass) ∷ Dialled 2 (codes "s") 80 ∷ wait true (1 ∷ []) [] ∷ Reached 2 ∷ wait true (1 ∷ 2 ∷ []) (2 ∷ []) ∷ CanWrite 2 ∷ Asked 2 text23 ∷ wait true (1 ∷ 2 ∷ []) [] ∷ CanRead 2 ∷ Got 2 text24 ∷ wait true (1 ∷ 2 ∷ []) (1 ∷ []) ∷ CanWrite 1 ∷ Said 1 119 text25 ∷ wait true (1 ∷ 2 ∷ []) (1 ∷ []) ∷ CanWrite 1 ∷ Said 1 5 (codes "aaaaa") ∷ wait true (1 ∷ 2 ∷ []) [] ∷ Reached 2 ∷ wait true (1 ∷ 2 ∷ []) [] ∷ Opened 3 ∷ wait true (1 ∷ 3 ∷ 2 ∷ []) [] ∷ CanRead 3 ∷ Heard 3 (codes "GET http") ∷ wait true (1 ∷ 3 ∷ 2 ∷ []) [] ∷ CanRead 3 ∷ Heard 3 text261 ∷ wait true (1 ∷ 3 ∷ 2 ∷ []) [] ∷ CanRead 3 ∷ Heard 3 (codes "\r\n") ∷ Noted (Taken 3 0 Fetch) ∷ Dialled 4 (codes "t") 80 ∷ wait true (1 ∷ 3 ∷ 2 ∷ []) [] ∷ Reached 4 ∷ wait true (1 ∷ 3 ∷ 2 ∷ 4 ∷ []) (4 ∷ []) ∷ CanWrite 4 ∷ Asked 4 text103 ∷ wait true (1 ∷ 3 ∷ 2 ∷ 4 ∷ []) [] ∷ CanRead 4 ∷ Got 4 text104 ∷ Noted (Taken 3 0 (Hit 0 20000)) ∷ wait true (1 ∷ 3 ∷ 2 ∷ 4 ∷ []) (3 ∷ []) ∷ CanWrite 3 ∷ Said 3 160 text262 ∷ wait true (1 ∷ 3 ∷ 2 ∷ 4 ∷ []) (3 ∷ []) ∷ CanWrite 3 ∷ Said 3 4096 text30 ∷ wait true (1 ∷ 3 ∷ 2 ∷ 4 ∷ []) (3 ∷ []) ∷ CanWrite 3 ∷ Said 3 4096 text31 ∷ wait true (1 ∷ 3 ∷ 2 ∷ 4 ∷ []) (3 ∷ []) ∷ CanWrite 3 ∷ Said 3 4096 text61 ∷ wait true (1 ∷ 3 ∷ 2 ∷ 4 ∷ []) (3 ∷ []) ∷ CanWrite 3 ∷ Said 3 4096 text8 ∷ wait true (1 ∷ 3 ∷ 2 ∷ 4 ∷ []) (3 ∷ []) ∷ CanWrite 3 ∷ Said 3 3616 text9 ∷ wait true (1 ∷ 3 ∷ 2 ∷ 4 ∷ []) [] ∷ CanRead 3 ∷ Heard 3 (codes "G") ∷ wait true (1 ∷ 3 ∷ 2 ∷ 4 ∷ []) [] ∷ CanRead 3 ∷ Heard 3 (codes "E") ∷ wait true (1 ∷ 3 ∷ 2 ∷ 4 ∷ []) [] ∷ CanRead 3 ∷ Heard 3 (codes "T") ∷ wait true (1 ∷ 3 ∷ 2 ∷ 4 ∷ []) [] ∷ CanRead 3 ∷ Heard 3 (codes " ") ∷ wait true (1 ∷ 3 ∷ 2 ∷ 4 ∷ []) [] ∷ CanRead 3 ∷ Heard 3 (codes "h") ∷ wait true (1 ∷ 3 ∷ 2 ∷ 4 ∷ []) [] ∷ CanRead 3 ∷ Heard 3 (codes "t") ∷ wait true (1 ∷ 3 ∷ 2 ∷ 4 ∷ []) [] ∷ CanRead 3 ∷ Heard 3 (codes "t") ∷ wait true (1 ∷ 3 ∷ 2 ∷ 4 ∷ []) [] ∷ CanRead 3 ∷ Heard 3 (codes "p") ∷ wait true (1 ∷ 3 ∷ 2 ∷ 4 ∷ []) [] ∷ CanRead 3 ∷ Heard 3 (codes ":") ∷ wait true (1 ∷ 3 ∷ 2 ∷ 4 ∷ []) [] ∷ CanRead 3 ∷ Heard 3 (codes "/") ∷ wait true (1 ∷ 3 ∷ 2 ∷ 4 ∷ []) [] ∷ CanRead 3 ∷ Heard 3 (codes "/") ∷ wait true (1 ∷ 3 ∷ 2 ∷ 4 ∷ []) [] ∷ CanRead 3 ∷ Heard 3 (codes "s") ∷ wait true (1 ∷ 3 ∷ 2 ∷ 4 ∷ []) [] ∷ CanRead 3 ∷ Heard 3 (codes "/") ∷ wait true (1 ∷ 3 ∷ 2 ∷ 4 ∷ []) [] ∷ CanRead 3 ∷ Heard 3 (codes "b") ∷ wait true (1 ∷ 3 ∷ 2 ∷ 4 ∷ []) [] ∷ CanRead 3 ∷ Heard 3 (codes " ") ∷ wait true (1 ∷ 3 ∷ 2 ∷ 4 ∷ []) [] ∷ CanRead 3 ∷ Heard 3 (codes "H") ∷ wait true (1 ∷ 3 ∷ 2 ∷ 4 ∷ []) [] ∷ CanRead 3 ∷ Heard 3 (codes "T") ∷ wait true (1 ∷ 3 ∷ 2 ∷ 4 ∷ []) [] ∷ CanRead 3 ∷ Heard 3 (codes "T") ∷ wait true (1 ∷ 3 ∷ 2 ∷ 4 ∷ []) [] ∷ CanRead 3 ∷ Heard 3 (codes "P") ∷ wait true (1 ∷ 3 ∷ 2 ∷ 4 ∷ []) [] ∷ CanRead 3 ∷ Heard 3 (codes "/") ∷ wait true (1 ∷ 3 ∷ 2 ∷ 4 ∷ []) [] ∷ CanRead 3 ∷ Heard 3 (codes "1") ∷ wait true (1 ∷ 3 ∷ 2 ∷ 4 ∷ []) [] ∷ CanRead 3 ∷ Heard 3 (codes ".") ∷ wait true (1 ∷ 3 ∷ 2 ∷ 4 ∷ []) [] ∷ CanRead 3 ∷ Heard 3 (codes "1") ∷ wait true (1 ∷ 3 ∷ 2 ∷ 4 ∷ []) [] ∷ CanRead 3 ∷ Heard 3 (codes "\r") ∷ wait true (1 ∷ 3 ∷ 2 ∷ 4 ∷ []) [] ∷ CanRead 3 ∷ Heard 3 (codes "\n") ∷ wait true (1 ∷ 3 ∷ 2 ∷ 4 ∷ []) [] ∷ CanRead 3 ∷ Heard 3 (codes "R") ∷ wait true (1 ∷ 3 ∷ 2 ∷ 4 ∷ []) [] ∷ CanRead 3 ∷ Heard 3 (codes "a") ∷ wait true (1 ∷ 3 ∷ 2 ∷ 4 ∷ []) [] ∷ CanRead 3 ∷ Heard 3 (codes "n") ∷ wait true (1 ∷ 3 ∷ 2 ∷ 4 ∷ []) [] ∷ CanRead 3 ∷ Heard 3 (codes "g") ∷ wait true (1 ∷ 3 ∷ 2 ∷ 4 ∷ []) [] ∷ CanRead 3 ∷ Heard 3 (codes "e") ∷ wait true (1 ∷ 3 ∷ 2 ∷ 4 ∷ []) [] ∷ CanRead 3 ∷ Heard 3 (codes ":") ∷ wait true (1 ∷ 3 ∷ 2 ∷ 4 ∷ []) [] ∷ CanRead 3 ∷ Heard 3 (codes " ") ∷ wait true (1 ∷ 3 ∷ 2 ∷ 4 ∷ []) [] ∷ CanRead 3 ∷ Heard 3 (codes "b") ∷ wait true (1 ∷ 3 ∷ 2 ∷ 4 ∷ []) [] ∷ CanRead 3 ∷ Heard 3 (codes "y") ∷ wait true (1 ∷ 3 ∷ 2 ∷ 4 ∷ []) [] ∷ CanRead 3 ∷ Heard 3 (codes "t") ∷ wait true (1 ∷ 3 ∷ 2 ∷ 4 ∷ []) [] ∷ CanRead 3 ∷ Heard 3 (codes "e") ∷ wait true (1 ∷ 3 ∷ 2 ∷ 4 ∷ []) [] ∷ CanRead 3 ∷ Heard 3 (codes "s") ∷ wait true (1 ∷ 3 ∷ 2 ∷ 4 ∷ []) [] ∷ CanRead 3 ∷ Heard 3 (codes "=") ∷ wait true (1 ∷ 3 ∷ 2 ∷ 4 ∷ []) [] ∷ CanRead 3 ∷ Heard 3 (codes "0") ∷ wait true (1 ∷ 3 ∷ 2 ∷ 4 ∷ []) [] ∷ CanRead 3 ∷ Heard 3 (codes "-") ∷ wait true (1 ∷ 3 ∷ 2 ∷ 4 ∷ []) [] ∷ CanRead 3 ∷ Heard 3 (codes "9") ∷ wait true (1 ∷ 3 ∷ 2 ∷ 4 ∷ []) [] ∷ CanRead 3 ∷ Heard 3 (codes "9") ∷ wait true (1 ∷ 3 ∷ 2 ∷ 4 ∷ []) [] ∷ CanRead 3 ∷ Heard 3 (codes "\r") ∷ wait true (1 ∷ 3 ∷ 2 ∷ 4 ∷ []) [] ∷ CanRead 3 ∷ Heard 3 (codes "\n") ∷ wait true (1 ∷ 3 ∷ 2 ∷ 4 ∷ []) [] ∷ CanRead 3 ∷ Heard 3 (codes "\r") ∷ wait true (1 ∷ 3 ∷ 2 ∷ 4 ∷ []) [] ∷ CanRead 3 ∷ Heard 3 (codes "\n") ∷ Noted (Taken 3 1 Fetch) ∷ wait true (1 ∷ 3 ∷ 2 ∷ 4 ∷ []) (2 ∷ []) ∷ CanWrite 2 ∷ Asked 2 text79 ∷ wait true (1 ∷ 3 ∷ 2 ∷ 4 ∷ []) [] ∷ CanRead 2 ∷ Got 2 text80 ∷ Noted (Taken 3 1 (Hit 0 100)) ∷ wait true (1 ∷ 3 ∷ 2 ∷ 4 ∷ []) (3 ∷ []) ∷ CanWrite 3 ∷ HungUp 3 ∷ Shut 3 ∷ wait true (1 ∷ 2 ∷ 4 ∷ []) [] ∷ CanRead 2 ∷ Got 2 text263 ∷ Dropped 2 ∷ wait true (1 ∷ 4 ∷ []) [] ∷ Opened 5 ∷ wait true (1 ∷ 5 ∷ 4 ∷ []) [] ∷ CanRead 5 ∷ Heard 5 text264 ∷ Noted (Taken 5 0 Fetch) ∷ Dialled 6 (codes "i") 80 ∷ wait true (1 ∷ 5 ∷ 4 ∷ []) [] ∷ Clock 784111840 ∷ Dropped 4 ∷ Dropped 6 ∷ Dialled 7 (codes "i") 80 ∷ wait true (1 ∷ 5 ∷ []) [] ∷ Opened 8 ∷ wait true (1 ∷ 5 ∷ 8 ∷ []) [] ∷ CanRead 8 ∷ Heard 8 text10 ∷ Noted (Taken 8 0 (Hit 19900 20000)) ∷ wait true (1 ∷ 5 ∷ 8 ∷ []) (8 ∷ []) ∷ CanWrite 8 ∷ Said 8 220 text265 ∷ wait true (1 ∷ 5 ∷ 8 ∷ []) (8 ∷ []) ∷ CanWrite 8 ∷ Said 8 100 text12 ∷ wait true (1 ∷ 5 ∷ 8 ∷ []) [] ∷ Reached 7 ∷ wait true (1 ∷ 5 ∷ 8 ∷ 7 ∷ []) (7 ∷ []) ∷ CanWrite 7 ∷ Asked 7 text266 ∷ wait true (1 ∷ 5 ∷ 8 ∷ 7 ∷ []) [] ∷ Clock 784111859 ∷ wait true (1 ∷ 5 ∷ 8 ∷ 7 ∷ []) [] ∷ Opened 9 ∷ wait true (1 ∷ 5 ∷ 8 ∷ 9 ∷ 7 ∷ []) [] ∷ CanRead 9 ∷ Heard 9 text267 ∷ wait true (1 ∷ 5 ∷ 8 ∷ 9 ∷ 7 ∷ []) [] ∷ CanRead 9 ∷ Heard 9 (codes "=") ∷ wait true (1 ∷ 5 ∷ 8 ∷ 9 ∷ 7 ∷ []) [] ∷ CanRead 9 ∷ Heard 9 (codes "1-3") ∷ wait true (1 ∷ 5 ∷ 8 ∷ 9 ∷ 7 ∷ []) [] ∷ CanRead 9 ∷ Heard 9 (codes "\r\n") ∷ wait true (1 ∷ 5 ∷ 8 ∷ 9 ∷ 7 ∷ []) [] ∷ CanRead 9 ∷ Heard 9 (codes "\r\n") ∷ Noted (Taken 9 0 Fetch) ∷ Dialled 10 (codes "s") 80 ∷ wait true (1 ∷ 5 ∷ 8 ∷ 9 ∷ 7 ∷ []) [] ∷ Reached 10 ∷ wait true (1 ∷ 5 ∷ 8 ∷ 9 ∷ 7 ∷ 10 ∷ []) (10 ∷ []) ∷ CanWrite 10 ∷ Asked 10 text51 ∷ wait true (1 ∷ 5 ∷ 8 ∷ 9 ∷ 7 ∷ 10 ∷ []) [] ∷ CanRead 10 ∷ Got 10 text52 ∷ Noted (Taken 9 0 (Hit 1 4)) ∷ wait true (1 ∷ 5 ∷ 8 ∷ 9 ∷ 7 ∷ 10 ∷ []) (9 ∷ []) ∷ CanWrite 9 ∷ Said 9 197 text268 ∷ wait true (1 ∷ 5 ∷ 8 ∷ 9 ∷ 7 ∷ 10 ∷ []) (9 ∷ []) ∷ CanWrite 9 ∷ Said 9 3 (codes "aaa") ∷ wait true (1 ∷ 5 ∷ 8 ∷ 9 ∷ 7 ∷ 10 ∷ []) [] ∷ Reached 7 ∷ wait true (1 ∷ 5 ∷ 8 ∷ 9 ∷ 7 ∷ 10 ∷ []) [] ∷ Reached 10 ∷ wait true (1 ∷ 5 ∷ 8 ∷ 9 ∷ 7 ∷ 10 ∷ []) [] ∷ Opened 11 ∷ wait true (1 ∷ 5 ∷ 8 ∷ 9 ∷ 11 ∷ 7 ∷ 10 ∷ []) [] ∷ CanRead 11 ∷ Heard 11 text64 ∷ Noted (Taken 11 0 (Part 5000 6000)) ∷ wait true (1 ∷ 5 ∷ 8 ∷ 9 ∷ 11 ∷ 7 ∷ 10 ∷ []) (10 ∷ []) ∷ CanWrite 10 ∷ Asked 10 text84 ∷ wait true (1 ∷ 5 ∷ 8 ∷ 9 ∷ 11 ∷ 7 ∷ 10 ∷ []) [] ∷ CanRead 10 ∷ Got 10 text66 ∷ wait true (1 ∷ 5 ∷ 8 ∷ 9 ∷ 11 ∷ 7 ∷ 10 ∷ []) (11 ∷ []) ∷ CanWrite 11 ∷ Said 11 209 text269 ∷ wait true (1 ∷ 5 ∷ 8 ∷ 9 ∷ 11 ∷ 7 ∷ 10 ∷ []) (11 ∷ []) ∷ CanWrite 11 ∷ Woke [] ∷ Rooted text2 ∷ Listed true ∷ Listens 8000 true ∷ wait true [] [] ∷ Clock 784112777 ∷ wait true [] [] ∷ Opened 12 ∷ wait true (12 ∷ []) [] ∷ CanRead 12 ∷ Heard 12 (codes "G") ∷ wait true (12 ∷ []) [] ∷ CanRead 12 ∷ Heard 12 text270 ∷ wait true (12 ∷ []) [] ∷ CanRead 12 ∷ Heard 12 (codes "h\r\n\r") ∷ wait true (12 ∷ []) [] ∷ CanRead 12 ∷ Heard 12 (codes "\n") ∷ Noted (Taken 12 0 (Refuse 400)) ∷ wait true (12 ∷ []) (12 ∷ []) ∷ CanWrite 12 ∷ Said 12 109 text34 ∷ Shut 12 ∷ wait true [] [] ∷ Clock 784112822 ∷ wait true [] [] ∷ Opened 13 ∷ wait true (13 ∷ []) [] ∷ CanRead 13 ∷ Heard 13 (codes "G") ∷ wait true (13 ∷ []) [] ∷ CanRead 13 ∷ Heard 13 (codes "E") ∷ wait true (13 ∷ []) [] ∷ CanRead 13 ∷ Heard 13 (codes "T") ∷ wait true (13 ∷ []) [] ∷ CanRead 13 ∷ Heard 13 (codes " ") ∷ wait true (13 ∷ []) [] ∷ CanRead 13 ∷ Heard 13 (codes "h") ∷ wait true (13 ∷ []) [] ∷ CanRead 13 ∷ Heard 13 (codes "t") ∷ wait true (13 ∷ []) [] ∷ CanRead 13 ∷ Heard 13 (codes "t") ∷ wait true (13 ∷ []) [] ∷ CanRead 13 ∷ Heard 13 (codes "p") ∷ wait true (13 ∷ []) [] ∷ CanRead 13 ∷ Heard 13 (codes ":") ∷ wait true (13 ∷ []) [] ∷ CanRead 13 ∷ Heard 13 (codes "/") ∷ wait true (13 ∷ []) [] ∷ CanRead 13 ∷ Heard 13 (codes "/") ∷ wait true (13 ∷ []) [] ∷ CanRead 13 ∷ Heard 13 (codes "s") ∷ wait true (13 ∷ []) [] ∷ CanRead 13 ∷ Heard 13 (codes "/") ∷ wait true (13 ∷ []) [] ∷ CanRead 13 ∷ Heard 13 (codes "n") ∷ wait true (13 ∷ []) [] ∷ CanRead 13 ∷ Heard 13 (codes "o") ∷ wait true (13 ∷ []) [] ∷ CanRead 13 ∷ Heard 13 (codes "n") ∷ wait true (13 ∷ []) [] ∷ CanRead 13 ∷ Heard 13 (codes "e") ∷ wait true (13 ∷ []) [] ∷ CanRead 13 ∷ Heard 13 (codes " ") ∷ wait true (13 ∷ []) [] ∷ CanRead 13 ∷ Heard 13 (codes "H") ∷ wait true (13 ∷ []) [] ∷ CanRead 13 ∷ Heard 13 (codes "T") ∷ wait true (13 ∷ []) [] ∷ CanRead 13 ∷ Heard 13 (codes "T") ∷ wait true (13 ∷ []) [] ∷ CanRead 13 ∷ Heard 13 (codes "P") ∷ wait true (13 ∷ []) [] ∷ CanRead 13 ∷ Heard 13 (codes "/") ∷ wait true (13 ∷ []) [] ∷ CanRead 13 ∷ Heard 13 (codes "1") ∷ wait true (13 ∷ []) [] ∷ CanRead 13 ∷ Heard 13 (codes ".") ∷ wait true (13 ∷ []) [] ∷ CanRead 13 ∷ Heard 13 (codes "1") ∷ wait true (13 ∷ []) [] ∷ CanRead 13 ∷ Heard 13 (codes "\r") ∷ wait true (13 ∷ []) [] ∷ CanRead 13 ∷ Heard 13 (codes "\n") ∷ wait true (13 ∷ []) [] ∷ CanRead 13 ∷ Heard 13 (codes "H") ∷ wait true (13 ∷ []) [] ∷ CanRead 13 ∷ Heard 13 (codes "o") ∷ wait true (13 ∷ []) [] ∷ CanRead 13 ∷ Heard 13 (codes "s") ∷ wait true (13 ∷ []) [] ∷ CanRead 13 ∷ Heard 13 (codes "t") ∷ wait true (13 ∷ []) [] ∷ CanRead 13 ∷ Heard 13 (codes ":") ∷ wait true (13 ∷ []) [] ∷ CanRead 13 ∷ Heard 13 (codes " ") ∷ wait true (13 ∷ []) [] ∷ CanRead 13 ∷ Heard 13 (codes "s") ∷ wait true (13 ∷ []) [] ∷ CanRead 13 ∷ Heard 13 (codes "\r") ∷ wait true (13 ∷ []) [] ∷ CanRead 13 ∷ Heard 13 (codes "\n") ∷ wait true (13 ∷ []) [] ∷ CanRead 13 ∷ Heard 13 (codes "\r") ∷ wait true (13 ∷ []) [] ∷ CanRead 13 ∷ Heard 13 (codes "\n") ∷ Noted (Taken 13 0 Fetch) ∷ Dialled 14 (codes "s") 80 ∷ wait true (13 ∷ []) [] ∷ Reached 14 ∷ wait true (13 ∷ 14 ∷ []) (14 ∷ []) ∷ CanWrite 14 ∷ Asked 14 text252 ∷ wait true (13 ∷ 14 ∷ []) [] ∷ CanRead 14 ∷ Got 14 text156 ∷ Noted (Taken 13 0 Relay) ∷ wait true (13 ∷ 14 ∷ []) (13 ∷ []) ∷ CanWrite 13 ∷ Said 13 81 text253 ∷ wait true (13 ∷ 14 ∷ []) [] ∷ CanRead 14 ∷ Ended 14 ∷ Dropped 14 ∷ wait true (13 ∷ []) [] ∷ CanRead 13 ∷ Heard 13 text271 ∷ wait true (13 ∷ []) [] ∷ CanRead 13 ∷ Heard 13 (codes "e-Matc") ∷ wait true (13 ∷ []) [] ∷ CanRead 13 ∷ Heard 13 (codes "h: \"x\"\r") ∷ wait true (13 ∷ []) [] ∷ CanRead 13 ∷ Heard 13 (codes "\n\r\n") ∷ Noted (Taken 13 1 Pass) ∷ Dialled 15 (codes "s") 80 ∷ wait true (13 ∷ []) [] ∷ Reached 15 ∷ wait true (13 ∷ 15 ∷ []) (15 ∷ []) ∷ CanWrite 15 ∷ Asked 15 text177 ∷ wait true (13 ∷ 15 ∷ []) [] ∷ CanRead 15 ∷ Got 15 text20 ∷ wait true (13 ∷ 15 ∷ []) (13 ∷ []) ∷ CanWrite 13 ∷ Said 13 76 text178 ∷ wait true (13 ∷ 15 ∷ []) [] ∷ Clock 784112823 ∷ wait true (13 ∷ 15 ∷ []) [] ∷ Stopped ∷ Shut 13 ∷ Dropped 15 ∷ []) ≡ None
 unfolding judging
 row3781 = refl
 
-row4024 : fault_from 0 (start (record { words = text0 ∷ text1 ∷ []; faults = 1 } ∷ record { words = []; faults = 0 } ∷ [])) (Woke [] ∷ Rooted text2 ∷ Listed true ∷ Listens 8123 true ∷ wait true [] [] ∷ Clock 784111777 ∷ wait true [] [] ∷ Opened 1 ∷ wait true (1 ∷ []) [] ∷ CanRead 1 ∷ Heard 1 text264 ∷ wait true (1 ∷ []) [] ∷ CanRead 1 ∷ Heard 1 (codes "T") ∷ wait true (1 ∷ []) [] ∷ CanRead 1 ∷ Heard 1 (codes "P/1.1\r\nRan") ∷ wait true (1 ∷ []) [] ∷ CanRead 1 ∷ Heard 1 (codes "ge") ∷ wait true (1 ∷ []) [] ∷ CanRead 1 ∷ Heard 1 (codes ": bytes=-1") ∷ wait true (1 ∷ []) [] ∷ CanRead 1 ∷ Heard 1 (codes "00\r") ∷ wait true (1 ∷ []) [] ∷ CanRead 1 ∷ Heard 1 (codes "\n\r\n") ∷ Noted (Taken 1 0 Pass) ∷ Dialled 2 (codes "t") 80 ∷ wait true (1 ∷ []) [] ∷ Reached 2 ∷ wait true (1 ∷ 2 ∷ []) (2 ∷ []) ∷ CanWrite 2 ∷ Asked 2 text151 ∷ wait true (1 ∷ 2 ∷ []) [] ∷ CanRead 2 ∷ Got 2 text104 ∷ wait true (1 ∷ 2 ∷ []) (1 ∷ []) ∷ CanWrite 1 ∷ Said 1 123 text152 ∷ wait true (1 ∷ 2 ∷ []) (1 ∷ []) ∷ CanWrite 1 ∷ Said 1 20000 text140 ∷ wait true (1 ∷ 2 ∷ []) [] ∷ Reached 2 ∷ wait true (1 ∷ 2 ∷ []) [] ∷ Opened 3 ∷ wait true (1 ∷ 3 ∷ 2 ∷ []) [] ∷ CanRead 3 ∷ Heard 3 text57 ∷ Noted (Taken 3 0 Fetch) ∷ wait true (1 ∷ 3 ∷ 2 ∷ []) (2 ∷ []) ∷ CanWrite 2 ∷ Asked 2 text103 ∷ wait true (1 ∷ 3 ∷ 2 ∷ []) [] ∷ CanRead 2 ∷ Got 2 text104 ∷ Noted (Taken 3 0 (Hit 0 20000)) ∷ wait true (1 ∷ 3 ∷ 2 ∷ []) (3 ∷ []) ∷ CanWrite 3 ∷ Said 3 160 text265 ∷ wait true (1 ∷ 3 ∷ 2 ∷ []) (3 ∷ []) ∷ CanWrite 3 ∷ Said 3 4096 text30 ∷ wait true (1 ∷ 3 ∷ 2 ∷ []) (3 ∷ []) ∷ CanWrite 3 ∷ Said 3 4096 text31 ∷ wait true (1 ∷ 3 ∷ 2 ∷ []) (3 ∷ []) ∷ CanWrite 3 ∷ Said 3 4096 text61 ∷ wait true (1 ∷ 3 ∷ 2 ∷ []) (3 ∷ []) ∷ CanWrite 3 ∷ Said 3 4096 text8 ∷ wait true (1 ∷ 3 ∷ 2 ∷ []) (3 ∷ []) ∷ CanWrite 3 ∷ Said 3 3616 text9 ∷ wait true (1 ∷ 3 ∷ 2 ∷ []) [] ∷ CanRead 2 ∷ Got 2 text266 ∷ Dropped 2 ∷ wait true (1 ∷ 3 ∷ []) [] ∷ Opened 4 ∷ wait true (1 ∷ 3 ∷ 4 ∷ []) [] ∷ CanRead 4 ∷ Heard 4 text35 ∷ Noted (Taken 4 0 Fetch) ∷ Dialled 5 (codes "s") 80 ∷ wait true (1 ∷ 3 ∷ 4 ∷ []) [] ∷ Reached 5 ∷ wait true (1 ∷ 3 ∷ 4 ∷ 5 ∷ []) (5 ∷ []) ∷ CanWrite 5 ∷ Asked 5 text36 ∷ wait true (1 ∷ 3 ∷ 4 ∷ 5 ∷ []) [] ∷ CanRead 5 ∷ Got 5 text24 ∷ Noted (Taken 4 0 (Hit 0 5)) ∷ wait true (1 ∷ 3 ∷ 4 ∷ 5 ∷ []) (4 ∷ []) ∷ CanWrite 4 ∷ Said 4 156 text267 ∷ wait true (1 ∷ 3 ∷ 4 ∷ 5 ∷ []) (4 ∷ []) ∷ CanWrite 4 ∷ Said 4 5 (codes "aaaaa") ∷ wait true (1 ∷ 3 ∷ 4 ∷ 5 ∷ []) [] ∷ Clock 784111778 ∷ wait true (1 ∷ 3 ∷ 4 ∷ 5 ∷ []) [] ∷ Stopped ∷ Shut 1 ∷ Shut 3 ∷ Shut 4 ∷ Dropped 5 ∷ Woke [] ∷ Rooted text2 ∷ Listed true ∷ Listens 8123 true ∷ wait true [] [] ∷ Clock 784112777 ∷ wait true [] [] ∷ Opened 6 ∷ wait true (6 ∷ []) [] ∷ CanRead 6 ∷ Heard 6 (codes "GE") ∷ wait true (6 ∷ []) [] ∷ CanRead 6 ∷ Heard 6 text268 ∷ wait true (6 ∷ []) [] ∷ CanRead 6 ∷ Heard 6 (codes "\r\n") ∷ wait true (6 ∷ []) [] ∷ CanRead 6 ∷ Heard 6 (codes "\r\n") ∷ Noted (Taken 6 0 Fetch) ∷ Dialled 7 (codes "s") 80 ∷ wait true (6 ∷ []) [] ∷ Reached 7 ∷ wait true (6 ∷ 7 ∷ []) (7 ∷ []) ∷ CanWrite 7 ∷ Asked 7 text27 ∷ wait true (6 ∷ 7 ∷ []) [] ∷ CanRead 7 ∷ Got 7 text28 ∷ Noted (Taken 6 0 (Hit 0 9000)) ∷ wait true (6 ∷ 7 ∷ []) (6 ∷ []) ∷ CanWrite 6 ∷ Said 6 154 text95 ∷ wait true (6 ∷ 7 ∷ []) (6 ∷ []) ∷ CanWrite 6 ∷ Said 6 4096 text30 ∷ wait true (6 ∷ 7 ∷ []) (6 ∷ []) ∷ CanWrite 6 ∷ Said 6 4096 text31 ∷ wait true (6 ∷ 7 ∷ []) (6 ∷ []) ∷ CanWrite 6 ∷ Said 6 808 text32 ∷ Shut 6 ∷ wait true (7 ∷ []) [] ∷ Clock 784112817 ∷ wait true (7 ∷ []) [] ∷ Reached 7 ∷ wait true (7 ∷ []) [] ∷ Clock 784112842 ∷ wait true (7 ∷ []) [] ∷ Opened 8 ∷ wait true (8 ∷ 7 ∷ []) [] ∷ CanRead 8 ∷ Heard 8 (codes "HEAD http:/") ∷ wait true (8 ∷ 7 ∷ []) [] ∷ CanRead 8 ∷ Heard 8 (codes "/s/b HTTP/1") ∷ wait true (8 ∷ 7 ∷ []) [] ∷ CanRead 8 ∷ Heard 8 text269 ∷ wait true (8 ∷ 7 ∷ []) [] ∷ CanRead 8 ∷ Heard 8 (codes "\n\r\n") ∷ Noted (Taken 8 0 Head) ∷ wait true (8 ∷ 7 ∷ []) (8 ∷ []) ∷ CanWrite 8 ∷ Said 8 168 text270 ∷ wait true (8 ∷ 7 ∷ []) [] ∷ Reached 7 ∷ wait true (8 ∷ 7 ∷ []) [] ∷ CanRead 8 ∷ Heard 8 text271 ∷ wait true (8 ∷ 7 ∷ []) [] ∷ CanRead 8 ∷ Heard 8 (codes "\n\r") ∷ wait true (8 ∷ 7 ∷ []) [] ∷ CanRead 8 ∷ Heard 8 (codes "\n") ∷ Noted (Taken 8 1 Pass) ∷ wait true (8 ∷ 7 ∷ []) (7 ∷ []) ∷ CanWrite 7 ∷ Asked 7 text23 ∷ wait true (8 ∷ 7 ∷ []) [] ∷ CanRead 7 ∷ Got 7 text24 ∷ wait true (8 ∷ 7 ∷ []) (8 ∷ []) ∷ CanWrite 8 ∷ Said 8 119 text25 ∷ wait true (8 ∷ 7 ∷ []) (8 ∷ []) ∷ CanWrite 8 ∷ Said 8 5 (codes "aaaaa") ∷ wait true (8 ∷ 7 ∷ []) [] ∷ Opened 9 ∷ wait true (8 ∷ 9 ∷ 7 ∷ []) [] ∷ CanRead 9 ∷ Heard 9 text272 ∷ wait true (8 ∷ 9 ∷ 7 ∷ []) [] ∷ CanRead 9 ∷ Heard 9 (codes "yte") ∷ wait true (8 ∷ 9 ∷ 7 ∷ []) [] ∷ CanRead 9 ∷ Heard 9 (codes "s=500") ∷ wait true (8 ∷ 9 ∷ 7 ∷ []) [] ∷ CanRead 9 ∷ Heard 9 (codes "0-5999\r\n\r\n") ∷ Noted (Taken 9 0 (Hit 5000 6000)) ∷ wait true (8 ∷ 9 ∷ 7 ∷ []) (9 ∷ []) ∷ CanWrite 9 ∷ Said 9 218 text273 ∷ wait true (8 ∷ 9 ∷ 7 ∷ []) (9 ∷ []) ∷ CanWrite 9 ∷ Said 9 1000 text68 ∷ wait true (8 ∷ 9 ∷ 7 ∷ []) [] ∷ CanRead 7 ∷ Got 7 text274 ∷ Dropped 7 ∷ wait true (8 ∷ 9 ∷ []) [] ∷ CanRead 9 ∷ HungUp 9 ∷ Shut 9 ∷ wait true (8 ∷ []) [] ∷ Clock 784112907 ∷ wait true (8 ∷ []) [] ∷ Clock 784112969 ∷ Noted (Cut 8 Idle) ∷ Shut 8 ∷ wait true [] [] ∷ Clock 784113035 ∷ wait true [] [] ∷ Opened 10 ∷ wait true (10 ∷ []) [] ∷ CanRead 10 ∷ Heard 10 text275 ∷ Noted (Taken 10 0 (Refuse 411)) ∷ wait true (10 ∷ []) (10 ∷ []) ∷ CanWrite 10 ∷ Said 10 117 text276 ∷ Shut 10 ∷ wait true [] [] ∷ Opened 11 ∷ wait true (11 ∷ []) [] ∷ CanRead 11 ∷ Heard 11 text277 ∷ wait true (11 ∷ []) [] ∷ CanRead 11 ∷ Heard 11 (codes "t: h\r\n") ∷ wait true (11 ∷ []) [] ∷ CanRead 11 ∷ Heard 11 (codes "\r") ∷ wait true (11 ∷ []) [] ∷ CanRead 11 ∷ Heard 11 (codes "\n") ∷ Noted (Taken 11 0 (Refuse 400)) ∷ wait true (11 ∷ []) (11 ∷ []) ∷ CanWrite 11 ∷ Said 11 109 text34 ∷ Shut 11 ∷ wait true [] [] ∷ Opened 12 ∷ wait true (12 ∷ []) [] ∷ CanRead 12 ∷ Heard 12 text127 ∷ wait true (12 ∷ []) [] ∷ CanRead 12 ∷ Heard 12 (codes "c HT") ∷ wait true (12 ∷ []) [] ∷ CanRead 12 ∷ Heard 12 text278 ∷ wait true (12 ∷ []) [] ∷ CanRead 12 ∷ Heard 12 (codes " bytes=-") ∷ wait true (12 ∷ []) [] ∷ CanRead 12 ∷ Heard 12 (codes "100\r") ∷ wait true (12 ∷ []) [] ∷ CanRead 12 ∷ Heard 12 (codes "\n") ∷ wait true (12 ∷ []) [] ∷ CanRead 12 ∷ Heard 12 (codes "\r") ∷ wait true (12 ∷ []) [] ∷ CanRead 12 ∷ Heard 12 (codes "\n") ∷ Noted (Taken 12 0 Pass) ∷ Dialled 13 (codes "t") 80 ∷ wait true (12 ∷ []) [] ∷ Reached 13 ∷ wait true (12 ∷ 13 ∷ []) (13 ∷ []) ∷ CanWrite 13 ∷ Asked 13 text151 ∷ wait true (12 ∷ 13 ∷ []) [] ∷ CanRead 13 ∷ Got 13 text104 ∷ wait true (12 ∷ 13 ∷ []) (12 ∷ []) ∷ CanWrite 12 ∷ Said 12 123 text152 ∷ wait true (12 ∷ 13 ∷ []) (12 ∷ []) ∷ CanWrite 12 ∷ Said 12 20000 text140 ∷ wait true (12 ∷ 13 ∷ []) [] ∷ Clock 784113036 ∷ wait true (12 ∷ 13 ∷ []) [] ∷ Stopped ∷ Shut 12 ∷ Dropped 13 ∷ []) ≡ None
+row4289 : fault_from 0 (start (record { words = text0 ∷ text1 ∷ []; faults = 1 } ∷ record { words = []; faults = 0 } ∷ [])) (Woke [] ∷ Rooted text2 ∷ Listed true ∷ Listens 8123 true ∷ wait true [] [] ∷ Clock 784111777 ∷ wait true [] [] ∷ Opened 1 ∷ wait true (1 ∷ []) [] ∷ CanRead 1 ∷ Heard 1 text272 ∷ wait true (1 ∷ []) [] ∷ CanRead 1 ∷ Heard 1 (codes "T") ∷ wait true (1 ∷ []) [] ∷ CanRead 1 ∷ Heard 1 (codes "P/1.1\r\nRan") ∷ wait true (1 ∷ []) [] ∷ CanRead 1 ∷ Heard 1 (codes "ge") ∷ wait true (1 ∷ []) [] ∷ CanRead 1 ∷ Heard 1 (codes ": bytes=-1") ∷ wait true (1 ∷ []) [] ∷ CanRead 1 ∷ Heard 1 (codes "00\r") ∷ wait true (1 ∷ []) [] ∷ CanRead 1 ∷ Heard 1 (codes "\n\r\n") ∷ Noted (Taken 1 0 Pass) ∷ Dialled 2 (codes "t") 80 ∷ wait true (1 ∷ []) [] ∷ Reached 2 ∷ wait true (1 ∷ 2 ∷ []) (2 ∷ []) ∷ CanWrite 2 ∷ Asked 2 text151 ∷ wait true (1 ∷ 2 ∷ []) [] ∷ CanRead 2 ∷ Got 2 text104 ∷ wait true (1 ∷ 2 ∷ []) (1 ∷ []) ∷ CanWrite 1 ∷ Said 1 123 text152 ∷ wait true (1 ∷ 2 ∷ []) (1 ∷ []) ∷ CanWrite 1 ∷ Said 1 20000 text140 ∷ wait true (1 ∷ 2 ∷ []) [] ∷ Reached 2 ∷ wait true (1 ∷ 2 ∷ []) [] ∷ Opened 3 ∷ wait true (1 ∷ 3 ∷ 2 ∷ []) [] ∷ CanRead 3 ∷ Heard 3 text57 ∷ Noted (Taken 3 0 Fetch) ∷ wait true (1 ∷ 3 ∷ 2 ∷ []) (2 ∷ []) ∷ CanWrite 2 ∷ Asked 2 text103 ∷ wait true (1 ∷ 3 ∷ 2 ∷ []) [] ∷ CanRead 2 ∷ Got 2 text104 ∷ Noted (Taken 3 0 (Hit 0 20000)) ∷ wait true (1 ∷ 3 ∷ 2 ∷ []) (3 ∷ []) ∷ CanWrite 3 ∷ Said 3 160 text262 ∷ wait true (1 ∷ 3 ∷ 2 ∷ []) (3 ∷ []) ∷ CanWrite 3 ∷ Said 3 4096 text30 ∷ wait true (1 ∷ 3 ∷ 2 ∷ []) (3 ∷ []) ∷ CanWrite 3 ∷ Said 3 4096 text31 ∷ wait true (1 ∷ 3 ∷ 2 ∷ []) (3 ∷ []) ∷ CanWrite 3 ∷ Said 3 4096 text61 ∷ wait true (1 ∷ 3 ∷ 2 ∷ []) (3 ∷ []) ∷ CanWrite 3 ∷ Said 3 4096 text8 ∷ wait true (1 ∷ 3 ∷ 2 ∷ []) (3 ∷ []) ∷ CanWrite 3 ∷ Said 3 3616 text9 ∷ wait true (1 ∷ 3 ∷ 2 ∷ []) [] ∷ CanRead 2 ∷ Got 2 text273 ∷ Dropped 2 ∷ wait true (1 ∷ 3 ∷ []) [] ∷ Opened 4 ∷ wait true (1 ∷ 3 ∷ 4 ∷ []) [] ∷ CanRead 4 ∷ Heard 4 text35 ∷ Noted (Taken 4 0 Fetch) ∷ Dialled 5 (codes "s") 80 ∷ wait true (1 ∷ 3 ∷ 4 ∷ []) [] ∷ Reached 5 ∷ wait true (1 ∷ 3 ∷ 4 ∷ 5 ∷ []) (5 ∷ []) ∷ CanWrite 5 ∷ Asked 5 text36 ∷ wait true (1 ∷ 3 ∷ 4 ∷ 5 ∷ []) [] ∷ CanRead 5 ∷ Got 5 text24 ∷ Noted (Taken 4 0 (Hit 0 5)) ∷ wait true (1 ∷ 3 ∷ 4 ∷ 5 ∷ []) (4 ∷ []) ∷ CanWrite 4 ∷ Said 4 156 text274 ∷ wait true (1 ∷ 3 ∷ 4 ∷ 5 ∷ []) (4 ∷ []) ∷ CanWrite 4 ∷ Said 4 5 (codes "aaaaa") ∷ wait true (1 ∷ 3 ∷ 4 ∷ 5 ∷ []) [] ∷ Clock 784111778 ∷ wait true (1 ∷ 3 ∷ 4 ∷ 5 ∷ []) [] ∷ Stopped ∷ Shut 1 ∷ Shut 3 ∷ Shut 4 ∷ Dropped 5 ∷ Woke [] ∷ Rooted text2 ∷ Listed true ∷ Listens 8123 true ∷ wait true [] [] ∷ Clock 784112777 ∷ wait true [] [] ∷ Opened 6 ∷ wait true (6 ∷ []) [] ∷ CanRead 6 ∷ Heard 6 (codes "GE") ∷ wait true (6 ∷ []) [] ∷ CanRead 6 ∷ Heard 6 text275 ∷ wait true (6 ∷ []) [] ∷ CanRead 6 ∷ Heard 6 (codes "\r\n") ∷ wait true (6 ∷ []) [] ∷ CanRead 6 ∷ Heard 6 (codes "\r\n") ∷ Noted (Taken 6 0 Fetch) ∷ Dialled 7 (codes "s") 80 ∷ wait true (6 ∷ []) [] ∷ Reached 7 ∷ wait true (6 ∷ 7 ∷ []) (7 ∷ []) ∷ CanWrite 7 ∷ Asked 7 text27 ∷ wait true (6 ∷ 7 ∷ []) [] ∷ CanRead 7 ∷ Got 7 text28 ∷ Noted (Taken 6 0 (Hit 0 9000)) ∷ wait true (6 ∷ 7 ∷ []) (6 ∷ []) ∷ CanWrite 6 ∷ Said 6 154 text95 ∷ wait true (6 ∷ 7 ∷ []) (6 ∷ []) ∷ CanWrite 6 ∷ Said 6 4096 text30 ∷ wait true (6 ∷ 7 ∷ []) (6 ∷ []) ∷ CanWrite 6 ∷ Said 6 4096 text31 ∷ wait true (6 ∷ 7 ∷ []) (6 ∷ []) ∷ CanWrite 6 ∷ Said 6 808 text32 ∷ Shut 6 ∷ wait true (7 ∷ []) [] ∷ Clock 784112817 ∷ wait true (7 ∷ []) [] ∷ Reached 7 ∷ wait true (7 ∷ []) [] ∷ Clock 784112842 ∷ wait true (7 ∷ []) [] ∷ Opened 8 ∷ wait true (8 ∷ 7 ∷ []) [] ∷ CanRead 8 ∷ Heard 8 (codes "HEAD http:/") ∷ wait true (8 ∷ 7 ∷ []) [] ∷ CanRead 8 ∷ Heard 8 (codes "/s/b HTTP/1") ∷ wait true (8 ∷ 7 ∷ []) [] ∷ CanRead 8 ∷ Heard 8 text276 ∷ wait true (8 ∷ 7 ∷ []) [] ∷ CanRead 8 ∷ Heard 8 (codes "\n\r\n") ∷ Noted (Taken 8 0 Head) ∷ wait true (8 ∷ 7 ∷ []) (8 ∷ []) ∷ CanWrite 8 ∷ Said 8 168 text277 ∷ wait true (8 ∷ 7 ∷ []) [] ∷ Reached 7 ∷ wait true (8 ∷ 7 ∷ []) [] ∷ CanRead 8 ∷ Heard 8 text278 ∷ wait true (8 ∷ 7 ∷ []) [] ∷ CanRead 8 ∷ Heard 8 (codes "\n\r") ∷ wait true (8 ∷ 7 ∷ []) [] ∷ CanRead 8 ∷ Heard 8 (codes "\n") ∷ Noted (Taken 8 1 Pass) ∷ wait true (8 ∷ 7 ∷ []) (7 ∷ []) ∷ CanWrite 7 ∷ Asked 7 text23 ∷ wait true (8 ∷ 7 ∷ []) [] ∷ CanRead 7 ∷ Got 7 text24 ∷ wait true (8 ∷ 7 ∷ []) (8 ∷ []) ∷ CanWrite 8 ∷ Said 8 119 text25 ∷ wait true (8 ∷ 7 ∷ []) (8 ∷ []) ∷ CanWrite 8 ∷ Said 8 5 (codes "aaaaa") ∷ wait true (8 ∷ 7 ∷ []) [] ∷ Opened 9 ∷ wait true (8 ∷ 9 ∷ 7 ∷ []) [] ∷ CanRead 9 ∷ Heard 9 text279 ∷ wait true (8 ∷ 9 ∷ 7 ∷ []) [] ∷ CanRead 9 ∷ Heard 9 (codes "yte") ∷ wait true (8 ∷ 9 ∷ 7 ∷ []) [] ∷ CanRead 9 ∷ Heard 9 (codes "s=500") ∷ wait true (8 ∷ 9 ∷ 7 ∷ []) [] ∷ CanRead 9 ∷ Heard 9 (codes "0-5999\r\n\r\n") ∷ Noted (Taken 9 0 (Hit 5000 6000)) ∷ wait true (8 ∷ 9 ∷ 7 ∷ []) (9 ∷ []) ∷ CanWrite 9 ∷ Said 9 218 text280 ∷ wait true (8 ∷ 9 ∷ 7 ∷ []) (9 ∷ []) ∷ CanWrite 9 ∷ Said 9 1000 text68 ∷ wait true (8 ∷ 9 ∷ 7 ∷ []) [] ∷ CanRead 7 ∷ Got 7 text281 ∷ Dropped 7 ∷ wait true (8 ∷ 9 ∷ []) [] ∷ CanRead 9 ∷ HungUp 9 ∷ Shut 9 ∷ wait true (8 ∷ []) [] ∷ Clock 784112907 ∷ wait true (8 ∷ []) [] ∷ Clock 784112969 ∷ Noted (Cut 8 Idle) ∷ Shut 8 ∷ wait true [] [] ∷ Clock 784113035 ∷ wait true [] [] ∷ Opened 10 ∷ wait true (10 ∷ []) [] ∷ CanRead 10 ∷ Heard 10 text282 ∷ Noted (Taken 10 0 (Refuse 411)) ∷ wait true (10 ∷ []) (10 ∷ []) ∷ CanWrite 10 ∷ Said 10 117 text283 ∷ Shut 10 ∷ wait true [] [] ∷ Opened 11 ∷ wait true (11 ∷ []) [] ∷ CanRead 11 ∷ Heard 11 text284 ∷ wait true (11 ∷ []) [] ∷ CanRead 11 ∷ Heard 11 (codes "t: h\r\n") ∷ wait true (11 ∷ []) [] ∷ CanRead 11 ∷ Heard 11 (codes "\r") ∷ wait true (11 ∷ []) [] ∷ CanRead 11 ∷ Heard 11 (codes "\n") ∷ Noted (Taken 11 0 (Refuse 400)) ∷ wait true (11 ∷ []) (11 ∷ []) ∷ CanWrite 11 ∷ Said 11 109 text34 ∷ Shut 11 ∷ wait true [] [] ∷ Opened 12 ∷ wait true (12 ∷ []) [] ∷ CanRead 12 ∷ Heard 12 text127 ∷ wait true (12 ∷ []) [] ∷ CanRead 12 ∷ Heard 12 (codes "c HT") ∷ wait true (12 ∷ []) [] ∷ CanRead 12 ∷ Heard 12 text285 ∷ wait true (12 ∷ []) [] ∷ CanRead 12 ∷ Heard 12 (codes " bytes=-") ∷ wait true (12 ∷ []) [] ∷ CanRead 12 ∷ Heard 12 (codes "100\r") ∷ wait true (12 ∷ []) [] ∷ CanRead 12 ∷ Heard 12 (codes "\n") ∷ wait true (12 ∷ []) [] ∷ CanRead 12 ∷ Heard 12 (codes "\r") ∷ wait true (12 ∷ []) [] ∷ CanRead 12 ∷ Heard 12 (codes "\n") ∷ Noted (Taken 12 0 Pass) ∷ Dialled 13 (codes "t") 80 ∷ wait true (12 ∷ []) [] ∷ Reached 13 ∷ wait true (12 ∷ 13 ∷ []) (13 ∷ []) ∷ CanWrite 13 ∷ Asked 13 text151 ∷ wait true (12 ∷ 13 ∷ []) [] ∷ CanRead 13 ∷ Got 13 text104 ∷ wait true (12 ∷ 13 ∷ []) (12 ∷ []) ∷ CanWrite 12 ∷ Said 12 123 text152 ∷ wait true (12 ∷ 13 ∷ []) (12 ∷ []) ∷ CanWrite 12 ∷ Said 12 20000 text140 ∷ wait true (12 ∷ 13 ∷ []) [] ∷ Clock 784113036 ∷ wait true (12 ∷ 13 ∷ []) [] ∷ Stopped ∷ Shut 12 ∷ Dropped 13 ∷ []) ≡ None
 unfolding judging
-row4024 = refl
+row4289 = refl
