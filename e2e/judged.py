@@ -1,11 +1,10 @@
 """The transcripts, seen as their clients see them (transcripts/clients_view.py)."""
 
 import pathlib
-import re
 import subprocess
 import sys
 
-from harness import TOOL_SECONDS, Skipped, case, holds
+from harness import TOOL_SECONDS, case, holds
 
 TOP = pathlib.Path(__file__).resolve().parent.parent
 TRANSCRIPTS = TOP / "transcripts"
@@ -27,8 +26,6 @@ def each_client_of_the_transcripts_is_said_what_is_its_own(world):
 
 @case
 def each_client_in_the_lives_of_seeds_is_said_what_is_its_own(world):
-    if not re.match(r"(#|text|part|lives|front|row) ", LIVES.read_text()):
-        raise Skipped(f"a transcript in {LIVES.relative_to(TOP)}")
     is_content, printed = see("--known", TRANSCRIPTS, LIVES)
     holds(is_content, f"nothing found in place of\n{printed[:2_000]}")
     return printed.strip().split("\n")[-1]
