@@ -1,10 +1,9 @@
 """The transcripts, seen as their clients see them (transcripts/clients_view.py)."""
 
 import pathlib
-import subprocess
 import sys
 
-from harness import TOOL_SECONDS, case, holds
+from harness import case, holds, ran
 
 TOP = pathlib.Path(__file__).resolve().parent.parent
 TRANSCRIPTS = TOP / "transcripts"
@@ -13,7 +12,7 @@ LIVES = TOP / "crates/pp_seeds/stdout"
 
 def see(*words):
     """Runs the judge. Answers whether it is content, and what it printed."""
-    run = subprocess.run([sys.executable, "-B", TRANSCRIPTS / "clients_view.py", *words], capture_output=True, text=True, timeout=TOOL_SECONDS)
+    run = ran([sys.executable, "-B", TRANSCRIPTS / "clients_view.py", *words], text=True)
     return run.returncode == 0, run.stdout + run.stderr
 
 
