@@ -1,12 +1,11 @@
 """Downloads and films as their users have them: broken off, gone on with, skipped through."""
 
 import pathlib
-import subprocess
 import tempfile
 import threading
 
 from flows import Flows
-from harness import TOOL_SECONDS, case, environment, equal, holds, need, together
+from harness import case, environment, equal, holds, need, ran, together
 from origin import Answer, noise, response, span_of
 from real_hosts import FRESH, MB, TAG, endless
 from rules import rule
@@ -18,7 +17,7 @@ FILE = noise(LENGTH)
 
 def run(world, folder, *words):
     proxy = f"http://127.0.0.1:{world.port}/"
-    done = subprocess.run(words, capture_output=True, cwd=folder, env=environment(http_proxy=proxy, LC_ALL="C"), timeout=TOOL_SECONDS)
+    done = ran(words, cwd=folder, env=environment(http_proxy=proxy, LC_ALL="C"))
     equal(done.returncode, 0, f"the status of {words[0]}, which says {done.stderr[-300:]!r}")
 
 

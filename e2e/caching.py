@@ -2,10 +2,9 @@
 
 import email.utils
 import re
-import subprocess
 import threading
 
-from harness import TOOL_SECONDS, case, environment, equal, holds, need, together
+from harness import case, environment, equal, holds, need, ran, together
 from origin import Answer, lines, noise, part, response, span_of
 from world import VIA, Client, reply, reply_head
 
@@ -157,7 +156,7 @@ def curl_goes_on_with_a_download_that_it_cut(world):
         date = now()
         proxy.origin.on("/file", Answer(fresh(body, date)))
         words = ["curl", "-sS", "-x", f"127.0.0.1:{proxy.port}", proxy.url("/file")]
-        run = lambda *more: subprocess.run([*words, *more], capture_output=True, timeout=TOOL_SECONDS, env=environment()).stdout
+        run = lambda *more: ran([*words, *more], env=environment()).stdout
         equal(run("-r", "0-19999") + run("-r", "20000-"), body, "both parts")
         equal(run(), body, "the whole")
         equal(proxy.origin.asked[0].field(b"range"), b"bytes=0-19999", "the range that was asked for")

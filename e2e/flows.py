@@ -1,6 +1,7 @@
 """Long bodies of an origin, which flow until the other side goes: what it took of them is counted."""
 
-import pathlib
+import socket
+import struct
 import threading
 import time
 
@@ -9,18 +10,29 @@ from origin import HELD_SECONDS, Answer, count_open, lines, noise, span_of
 from world import PATIENCE
 
 PIECE = 16_384
+NETLINK_SOCK_DIAG = 4
+
+# How the system is asked for one connection of 127.0.0.1 (sock_diag(7)), and where its answer has what was not read and not sent.
+ASK, ANY_STATE, NO_COOKIE, NO_ERROR = 20, 0xFFFFFFFF, 0xFFFFFFFF, 20
+LOOPBACK = socket.inet_aton("127.0.0.1") + bytes(12)
+COUNTS_AT = 16 + 4 + 48 + 4
 
 
-def is_read(connection):
+def counts_of(netlink, local, remote):
+    """How many bytes a connection has that were not read there, and that were not sent from there or not taken yet."""
+    ends = struct.pack(">HH", local, remote) + LOOPBACK * 2 + struct.pack("=III", 0, NO_COOKIE, NO_COOKIE)
+    asked = struct.pack("=BBBBI", socket.AF_INET, socket.IPPROTO_TCP, 0, 0, ANY_STATE) + ends
+    netlink.send(struct.pack("=IHHII", 16 + len(asked), ASK, 1, 0, 0) + asked)
+    told = netlink.recv(4_096)
+    if struct.unpack_from("=H", told, 4)[0] != NO_ERROR:
+        return 0, 0  # there is none
+    return struct.unpack_from("=II", told, COUNTS_AT)
+
+
+def is_read(netlink, connection):
     """Whether the other side has read all that was sent to it, or is gone."""
     mine, other = connection.getsockname()[1], connection.getpeername()[1]
-    for line in pathlib.Path("/proc/net/tcp").read_text().splitlines()[1:]:
-        words = line.split()
-        ports = int(words[1][-4:], 16), int(words[2][-4:], 16)
-        to_send, to_read = (int(count, 16) for count in words[4].split(":"))
-        if (ports == (mine, other) and to_send) or (ports == (other, mine) and to_read):
-            return False
-    return True
+    return counts_of(netlink, mine, other)[1] == 0 and counts_of(netlink, other, mine)[0] == 0
 
 
 class Flow(Answer):
@@ -40,18 +52,19 @@ class Flow(Answer):
     def give(self, connection):
         try:
             connection.sendall(self.text)
-            while self.sent < self.length and self._may_go_on(connection):
-                end = self.length if self.sent >= self.held_at else self.held_at
-                piece = noise(min(self.piece, end - self.sent), self.first + self.sent)
-                connection.sendall(piece)
-                self.sent += len(piece)
-                time.sleep(self.seconds_each)
+            with socket.socket(socket.AF_NETLINK, socket.SOCK_RAW, NETLINK_SOCK_DIAG) as netlink:
+                while self.sent < self.length and self._may_go_on(netlink, connection):
+                    end = self.length if self.sent >= self.held_at else self.held_at
+                    piece = noise(min(self.piece, end - self.sent), self.first + self.sent)
+                    connection.sendall(piece)
+                    self.sent += len(piece)
+                    time.sleep(self.seconds_each)
         finally:
             self.is_over.set()
 
-    def _may_go_on(self, connection):
+    def _may_go_on(self, netlink, connection):
         """Waits until it may. False where the other side is gone."""
-        while count_open([connection]) and not is_read(connection):
+        while count_open([connection]) and not is_read(netlink, connection):
             time.sleep(0.001)
         if self.sent >= self.held_at:
             self.goes_on.wait(HELD_SECONDS)

@@ -3,6 +3,7 @@
 import os
 import shutil
 import signal
+import subprocess
 import threading
 import time
 import traceback
@@ -82,6 +83,11 @@ def together(jobs, seconds=40):
         thread.join(max(0, deadline - time.monotonic()))
     holds(not any(thread.is_alive() for thread in threads), "all come to their end")
     return failures
+
+
+def ran(words, **options):
+    """Runs a tool to its end. Answers its status, and what it printed."""
+    return subprocess.run(words, capture_output=True, timeout=TOOL_SECONDS, **options)
 
 
 def environment(**variables):

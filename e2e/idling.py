@@ -5,11 +5,10 @@ import mmap
 import pathlib
 import select
 import struct
-import subprocess
 import tempfile
 import time
 
-from harness import TOOL_SECONDS, case, environment, equal, holds, need
+from harness import case, environment, equal, holds, need, ran
 from origin import Answer, plain, response
 from played import Played
 from rules import rule
@@ -37,7 +36,7 @@ class Clock:
         """Leaps by and by until this holds, for ten minutes at most. Answers how many seconds passed for the program."""
         start, before = time.monotonic(), self._leapt
         while not is_over() and self._leapt - before < 600:
-            self.leap(25)
+            self.leap(50)
         return self._leapt - before + time.monotonic() - start
 
 
@@ -47,7 +46,7 @@ def leaping(world):
     need("cc")
     with tempfile.TemporaryDirectory() as folder:
         library, file = f"{folder}/clock.so", pathlib.Path(folder, "ahead")
-        subprocess.run(["cc", "-shared", "-fPIC", "-o", library, SHIM], check=True, timeout=TOOL_SECONDS)
+        equal(ran(["cc", "-shared", "-fPIC", "-o", library, SHIM]).returncode, 0, "cc's status")
         clock = Clock(file)
         with world.anew(environment=environment(LD_PRELOAD=library, CLOCK_FILE=str(file))) as proxy:
             yield proxy, clock

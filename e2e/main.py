@@ -45,7 +45,7 @@ SUBJECTS = [
     "readme",
 ]
 # These take longest, and are begun first.
-LONGEST = ["hostile_origins", "one_answer", "hostile_clients"]
+LONGEST = ["hostile_origins", "idling", "packages", "real_hosts"]
 # Most of them wait most of the time.
 AT_ONCE = 4
 

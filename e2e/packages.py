@@ -7,12 +7,11 @@ import importlib.util
 import io
 import os
 import pathlib
-import subprocess
 import sys
 import tempfile
 import zipfile
 
-from harness import TOOL_SECONDS, Skipped, case, environment, equal, holds, need
+from harness import Skipped, case, environment, equal, holds, need, ran
 from origin import Answer, lines, response
 from world import PORT
 
@@ -31,7 +30,7 @@ def build_package(folder, version):
         file.write(version + "\n" + "x" * 100_000)
     target = f"{folder}/built-{version}.deb"
     command = ["dpkg-deb", "--root-owner-group", "--build", root, target]
-    done = subprocess.run(command, capture_output=True, timeout=TOOL_SECONDS)
+    done = ran(command)
     equal(done.returncode, 0, f"dpkg-deb's status, which says {done.stderr.decode(errors='replace')}")
     with open(target, "rb") as file:
         return file.read()
@@ -107,7 +106,7 @@ def make_folders(world, folder, repository="/repository"):
 def apt_get(folder, *words):
     """Runs apt-get over the folder's own configuration and state."""
     variables = environment(APT_CONFIG=f"{folder}/apt.conf", LC_ALL="C", DEBIAN_FRONTEND="noninteractive")
-    done = subprocess.run(["apt-get", *words], capture_output=True, timeout=TOOL_SECONDS, cwd=f"{folder}/here", env=variables)
+    done = ran(["apt-get", *words], cwd=f"{folder}/here", env=variables)
     said = (done.stdout + done.stderr).decode(errors="replace")
     equal(done.returncode, 0, f"the status of apt-get {' '.join(words)}, which says {said}")
     return said
@@ -208,10 +207,11 @@ def wheel(version):
 def pip_download(world, folder):
     """Has pip fetch the newest version. Answers the name and the bytes of each file that it fetched."""
     words = [sys.executable, "-m", "pip", "--isolated", "--proxy", f"http://127.0.0.1:{PORT}", "download", "--no-deps", "--quiet"]
-    words += ["--no-cache-dir", "--disable-pip-version-check", "--index-url", world.url("/simple/"), "--trusted-host", "127.0.0.1"]
+    words += ["--no-cache-dir", "--disable-pip-version-check"]
+    words += ["--index-url", world.url("/simple/"), "--trusted-host", "127.0.0.1"]
     variables = environment(PIP_CONFIG_FILE=os.devnull, HOME=folder)
     with tempfile.TemporaryDirectory() as target:
-        done = subprocess.run([*words, "--dest", target, "polipo-try"], capture_output=True, timeout=TOOL_SECONDS, cwd=folder, env=variables)
+        done = ran([*words, "--dest", target, "polipo-try"], cwd=folder, env=variables)
         equal(done.returncode, 0, f"pip's status, which says {done.stderr.decode(errors='replace')}")
         return {file.name: file.read_bytes() for file in pathlib.Path(target).iterdir()}
 
@@ -228,7 +228,7 @@ def pip_sees_an_index_that_changed_between_two_downloads(world):
             page = f"<!DOCTYPE html><html><body>\n{links}</body></html>\n".encode()
             world.origin.on("/simple/polipo-try/", validated(page, b"Content-Type: text/html", b"Cache-Control: max-age=600"))
             for version in known:
-                text = validated(wheels[version], b"Content-Type: application/zip", b"Cache-Control: max-age=365000000, immutable")
+                text = validated(wheels[version], b"Content-Type: application/zip", b"Cache-Control: max-age=365000000")
                 world.origin.on(f"/files/polipo_try-{version}-py3-none-any.whl", text)
             for _ in range(2):
                 wanted = {f"polipo_try-{known[-1]}-py3-none-any.whl": wheels[known[-1]]}

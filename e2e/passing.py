@@ -2,9 +2,8 @@
 
 import contextlib
 import hashlib
-import subprocess
 
-from harness import Skipped, case, environment, equal, holds, need
+from harness import Skipped, case, environment, equal, holds, need, ran
 from origin import DATE, Answer, Origin, lines, noise, plain, response
 from world import PORT, VIA, Client, passed, reply
 
@@ -13,7 +12,7 @@ def curl(*words, **options):
     """Runs curl through the proxy, and no variable of the environment changes that."""
     need("curl")
     command = ["curl", "--silent", "--show-error", "--max-time", "40", "--proxy", f"127.0.0.1:{PORT}"]
-    return subprocess.run(command + list(words), capture_output=True, env=environment(), **options)
+    return ran(command + list(words), env=environment(), **options)
 
 
 @case

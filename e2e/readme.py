@@ -7,7 +7,7 @@ import socket
 import subprocess
 import sys
 
-from harness import TOOL_SECONDS, Failed, Skipped, case, environment, equal, holds, need
+from harness import Failed, Skipped, case, environment, equal, holds, need, ran
 from network import wait_until_it_listens
 from words import started
 
@@ -54,7 +54,7 @@ def the_transcript_of_the_readme_is_what_happens(world):
     holds(len(shown) >= 2, "two commands of curl at least")
     with hello(), started(world, PROXY_PORT, []):
         for command, output in shown:
-            done = subprocess.run(command, shell=True, capture_output=True, text=True, env=environment(), timeout=TOOL_SECONDS)
+            done = ran(command, shell=True, text=True, env=environment())
             # a body may end without a line's end, which the next prompt begins with
             printed = done.stdout.replace("\r\n", "\n").rstrip("\n")
             equal(printed, output.rstrip("\n"), f"what is printed by {command}")

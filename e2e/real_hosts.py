@@ -117,7 +117,8 @@ def what_no_answer_completes_is_fetched_anew(world):
                     bodies.append(client.hear_all().partition(b"\r\n\r\n")[2])
                 whole = response(PAGE, TAG, FRESH)
                 world.origin.on(path, lambda ask: Answer(unfit(ask.field(b"range")) if ask.field(b"range") else whole))
-            holds(bodies[1] == PAGE or (held == "front" and PAGE.startswith(bodies[1])), f"the body, or its front, where {name} comes")
+            is_front = held == "front" and PAGE.startswith(bodies[1])
+            holds(bodies[1] == PAGE or is_front, f"the body, or its front, where {name} comes")
             holds(bodies[2] == PAGE, f"the whole body where {name} came and its {held} was held")
 
 

@@ -2,10 +2,9 @@
 
 import gzip
 import hashlib
-import subprocess
 import tempfile
 
-from harness import TOOL_SECONDS, case, environment, equal, holds, need, together
+from harness import case, environment, equal, holds, need, ran, together
 from origin import DATE, Answer, chunked, lines, noise, part, response
 from passing import curl
 from world import CONTINUE, PORT, VIA, Client, reply, reply_head
@@ -38,7 +37,7 @@ def wget_continues_a_file(world):
         with open(f"{folder}/file.bin", "wb") as file:
             file.write(text[:250_000])
         command = ["wget", "--continue", "--tries=1", "--timeout=40", "--no-config", world.url("/file.bin")]
-        run = subprocess.run(command, capture_output=True, cwd=folder, env=proxy_environment(), timeout=TOOL_SECONDS)
+        run = ran(command, cwd=folder, env=proxy_environment())
         equal(run.returncode, 0, f"wget's status, which says {run.stderr.decode(errors='replace')}")
         with open(f"{folder}/file.bin", "rb") as file:
             came = file.read()

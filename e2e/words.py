@@ -7,7 +7,7 @@ import socket
 import subprocess
 import tempfile
 
-from harness import TOOL_SECONDS, Failed, case, equal, holds
+from harness import TOOL_SECONDS, Failed, case, equal, holds, ran
 from network import free_port, wait_until_it_listens
 from origin import Answer, plain
 from world import PORT, WORDS
@@ -40,7 +40,7 @@ def end_of(world, words, text=b""):
     with tempfile.TemporaryDirectory() as folder:
         with open(os.path.join(folder, "f"), "wb") as file:
             file.write(text)
-        done = subprocess.run([world.program, *words], cwd=folder, capture_output=True, timeout=TOOL_SECONDS, stdin=subprocess.DEVNULL)
+        done = ran([world.program, *words], cwd=folder, stdin=subprocess.DEVNULL)
         return done.returncode, done.stdout, done.stderr
 
 

@@ -70,6 +70,7 @@ class Life:
         self.asked, self.got = defaultdict(bytearray), defaultdict(bytearray)
         self.hosts, self.reached, self.closed = {}, set(), set()
         self.shut, self.cut = set(), set()
+        self.is_stopped = False  # everybody is shut then, whatever was asked
         self.lost = set()  # a write to them failed
         self.stalls = []
         self.open = {}  # by client: its first request without a reply, or None; not there where that has to be found anew
@@ -97,7 +98,9 @@ def lives_of(happenings):
             life.reached.add(happening[1])
         elif name == "Dropped":
             life.closed.add(happening[1])
-        elif name == "Shut":
+        elif name == "Stopped":
+            life.is_stopped = True
+        elif name == "Shut" and not life.is_stopped:
             life.shut.add(happening[1])
         elif name == "HungUp" and before == ("CanWrite", happening[1]):
             life.lost.add(happening[1])
