@@ -162,7 +162,7 @@ fn judged_by(request: &RequestHead<'_, '_>, response: ResponseHead<'_, '_>) -> O
     let now = CAME + 10;
     Some(Found {
         length: known.map(|version| version.length),
-        told: body_length(&response.fields),
+        told: body_length(&row.fields),
         times,
         age: age(&times, now),
         lifetime: lifetime(&row.fields, &times),
