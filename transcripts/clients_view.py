@@ -232,7 +232,10 @@ class Judge:
     @staticmethod
     def _is_page(reply):
         """A page of the proxy's own: its text is its status line's."""
-        return reply.status >= 400 and reply.body.startswith(b"%d " % reply.status) and b"text/plain" == reply.value(b"content-type")
+        # one that is cut may end within its first word
+        begin = b"%d " % reply.status
+        is_front = begin[: len(reply.body)] == reply.body[: len(begin)]
+        return reply.status >= 400 and is_front and b"text/plain" == reply.value(b"content-type")
 
     @staticmethod
     def _is_of(reply, ask, response):
