@@ -28,4 +28,4 @@ pub use content_range::{ContentRange, read_content_range};
 pub use tag::Tag;
 pub use tag_state::{TagState, tag_of};
 pub use version::Version;
-pub use versions::version_of;
+pub use versions::{body_length, version_of};

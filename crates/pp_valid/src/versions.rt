@@ -93,7 +93,9 @@ fn complete_length(range: Option<ContentRange>, len: u64) -> Option<u64>
     }
 }
 
-fn body_length(fields: &Fields<'_, '_>) -> Option<u64>
+/// The length that a response tells of its body. None beside a Transfer-Encoding, where Connection
+/// names the Content-Length, and where there is none, or a second one that is another.
+pub fn body_length(fields: &Fields<'_, '_>) -> Option<u64>
     ensures { result ≡ body_length fields.now }
 {
     if fields.has(b"transfer-encoding") || is_dropped(fields, b"content-length") {
