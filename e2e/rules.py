@@ -11,7 +11,6 @@ NOT_YET = {
     "holes-nobody-fills",
     "near-bytes",
     "bad-answer-asked-once",
-    "full-answer-to-a-check",
     "shared-wait-ends",
     "another-tag",
     "slow-origin",

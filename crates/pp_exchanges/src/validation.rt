@@ -1,5 +1,5 @@
 // Rows that are refreshed or replaced.
-use pp_play::{ASK, Act, Exchange, GET, Part, REPLY, RESPONSE, Step, T, Wanted, unlike};
+use pp_play::{ASK, Act, Exchange, GET, HEAD, Part, REPLY, RESPONSE, Step, T, Wanted, unlike};
 use pp_world::Decision;
 use std::test::Fail;
 
@@ -78,6 +78,87 @@ const REFRESHED: &[Exchange<'static>] = &[Exchange {
 #[test]
 fn a_page_that_still_stands_is_served_again(rt: HostRuntime) -> Result<(), Fail> {
     assert_eq!(rt; unlike(rt.alloc(), REFRESHED)?.as_str(), "");
+    Ok(())
+}
+
+/// The tag is as it was, and the body is not.
+const ANSWER: &[u8] =
+    b"HTTP/1.1 200 OK\r\nDate: Sun, 06 Nov 1994 08:50:38 GMT\r\nETag: \"x\"\r\nCache-Control: max-age=60\r\nContent-Length: 5\r\n\r\nworld";
+
+const ANSWERED: &[Exchange<'static>] = &[
+    Exchange {
+        name: "a full answer, whatever its tag (RFC 7234, section 4.3.3)",
+        acts: &[
+            Act::Tick(T),
+            Act::Connect,
+            Act::Say(1, GET),
+            Act::Reach(2),
+            Act::Answer(2, RESPONSE),
+            Act::Tick(T + 61),
+            Act::Connect,
+            Act::Say(3, GET),
+            Act::Reach(4),
+            Act::Answer(4, ANSWER),
+            Act::Connect,
+            Act::Say(5, GET),
+        ],
+        wanted: &[
+            Wanted::Asked(2, &[ASK]),
+            Wanted::Asked(4, &[CHECK]),
+            Wanted::Taken(3, Decision::Validate),
+            Wanted::Said(
+                3,
+                &[Part::Text(
+                    b"HTTP/1.1 200 OK\r\netag: \"x\"\r\ndate: Sun, 06 Nov 1994 08:50:38 GMT\r\ncache-control: max-age=60\r\nvia: 1.1 polipo\r\ncontent-length: 5\r\nconnection: keep-alive\r\n\r\nworld",
+                )],
+            ),
+            Wanted::Taken(5, Decision::Hit(0, 5)),
+            Wanted::Said(
+                5,
+                &[Part::Text(
+                    b"HTTP/1.1 200 OK\r\netag: \"x\"\r\ndate: Sun, 06 Nov 1994 08:50:38 GMT\r\ncache-control: max-age=60\r\nage: 0\r\nvia: 1.1 polipo\r\ncontent-length: 5\r\nconnection: keep-alive\r\n\r\nworld",
+                )],
+            ),
+        ],
+    },
+    Exchange {
+        name: "whoever reads the former body has that to its end (RFC 7233, section 4.3)",
+        acts: &[
+            Act::Tick(T),
+            Act::Connect,
+            Act::Say(1, GET),
+            Act::Reach(2),
+            Act::Answer(2, HEAD),
+            Act::Answer(2, b"he"),
+            Act::Connect,
+            Act::Say(
+                3,
+                b"GET http://h/a HTTP/1.1\r\nCache-Control: no-cache\r\n\r\n",
+            ),
+            Act::Reach(4),
+            Act::Answer(
+                4,
+                b"HTTP/1.1 200 OK\r\nETag: \"x\"\r\nContent-Length: 5\r\n\r\nworld",
+            ),
+            Act::Answer(2, b"llo"),
+        ],
+        wanted: &[
+            Wanted::Asked(2, &[ASK]),
+            Wanted::Said(1, &[Part::Text(REPLY)]),
+            Wanted::Taken(3, Decision::Validate),
+            Wanted::Said(
+                3,
+                &[Part::Text(
+                    b"HTTP/1.1 200 OK\r\netag: \"x\"\r\ndate: Sun, 06 Nov 1994 08:49:37 GMT\r\nvia: 1.1 polipo\r\ncontent-length: 5\r\nconnection: keep-alive\r\n\r\nworld",
+                )],
+            ),
+        ],
+    },
+];
+
+#[test]
+fn the_full_answer_to_a_check_is_what_is_told(rt: HostRuntime) -> Result<(), Fail> {
+    assert_eq!(rt; unlike(rt.alloc(), ANSWERED)?.as_str(), "");
     Ok(())
 }
 
