@@ -12,9 +12,7 @@ NOT_YET = {
     "near-bytes",
     "bad-answer-asked-once",
     "shared-wait-ends",
-    "another-tag",
     "slow-origin",
-    "invalidation",
 }
 
 # What takes minutes runs with LONG=1 alone.

@@ -5,8 +5,8 @@ use pp_fresh::{
 use pp_head::{HeadState, RequestHead, ResponseHead, Scratch, read_request, read_response};
 use pp_plan::{Begun, PlanRow, decide, fetch_range, is_near, need, span};
 use pp_valid::{
-    ContentRange, Tag, TagState, Version, accepts_only_identity, if_range_holds, matches_none,
-    names_other_tag, not_modified_since, read_content_range, tag_of, version_of,
+    ContentRange, Tag, TagState, Version, accepts_only_identity, body_length, if_range_holds,
+    matches_none, names_other_tag, not_modified_since, read_content_range, tag_of, version_of,
 };
 use pp_world::Decision;
 
@@ -20,6 +20,8 @@ const KEY: &[u8] = b"http://h/a";
 struct Found {
     /// The length of its version.
     length: Option<u64>,
+    /// The length that it tells of its body.
+    told: Option<u64>,
     times: Times,
     age: u64,
     lifetime: u64,
@@ -55,6 +57,7 @@ const TIMES: Times = Times {
 
 const WHOLE: Found = Found {
     length: Some(5),
+    told: Some(5),
     times: TIMES,
     age: 11,
     lifetime: 60,
@@ -159,6 +162,7 @@ fn judged_by(request: &RequestHead<'_, '_>, response: ResponseHead<'_, '_>) -> O
     let now = CAME + 10;
     Some(Found {
         length: known.map(|version| version.length),
+        told: body_length(&response.fields),
         times,
         age: age(&times, now),
         lifetime: lifetime(&row.fields, &times),

@@ -43,6 +43,8 @@ mod holes; // what is missing, and asked for
 #[cfg(test)]
 mod not_kept; // what the cache does not answer
 #[cfg(test)]
+mod outdated; // what passed responses tell of rows
+#[cfg(test)]
 mod sharing; // one fetch for many
 #[cfg(test)]
 mod validation; // rows that are refreshed or replaced

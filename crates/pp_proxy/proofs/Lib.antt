@@ -1,1 +1,2 @@
 pub mod HeadLimits
+pub mod SiteLemmas
