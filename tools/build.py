@@ -9,6 +9,7 @@ import os
 import pathlib
 import re
 import shutil
+import signal
 import subprocess
 import sys
 import threading
@@ -17,8 +18,8 @@ import time
 TOP = pathlib.Path(__file__).resolve().parent.parent
 PROGRAM = TOP / "crates/polipo/out/polipo"
 STAMP = TOP / "crates/polipo/out/built"
-# Proved first, with those below it: beside it there is least to do, so that all processors have work.
-BELOW = "pp_run"
+# By far the largest crate: what it stands on is proved first, a processor a crate; then it, alone, by all of them.
+LARGEST = "pp_proxy"
 
 
 def crates():
@@ -96,25 +97,36 @@ class Progress:
             sys.stderr.write("\n")
 
 
-def run(words, folder, progress):
-    """Runs rt; gives its status and its last lines, while progress follows what it proves."""
+def run(words, progress, until=None):
+    """Runs rt in polipo's folder; gives whether it went on to what was wanted, and its last lines, while progress follows what it
+    proves. It is stopped once so many crates are proved."""
     tail = []
-    with subprocess.Popen(words, cwd=folder, stdout=subprocess.PIPE, stderr=subprocess.STDOUT, text=True, errors="replace") as rt:
-        for line in rt.stdout:
-            tail = [*tail[-39:], line]
-            if found := re.match(r"logic=proved functions=(\d+)", line):
-                progress.proved(int(found.group(1)))
-    return rt.returncode, tail
+    with subprocess.Popen(
+        words, cwd=TOP / "crates/polipo", stdout=subprocess.PIPE, stderr=subprocess.STDOUT, text=True, errors="replace", start_new_session=True
+    ) as rt:
+        try:
+            for line in rt.stdout:
+                tail = [*tail[-39:], line]
+                if found := re.match(r"logic=proved functions=(\d+)", line):
+                    progress.proved(int(found.group(1)))
+                if until is not None and progress.crates >= until:
+                    return True, tail
+        finally:
+            if rt.poll() is None:
+                os.killpg(rt.pid, signal.SIGINT)
+    return rt.returncode == 0, tail
 
 
 def build(names):
     """Proves and builds; gives the last lines of what went wrong, or none."""
     PROGRAM.unlink(missing_ok=True)
+    listed = crates()
+    others = [name for name in names if LARGEST not in below(name, listed)]
     with Progress(len(names)) as progress:
-        status, tail = run(["rt", "all", "check", "--jobs", str(os.cpu_count() or 1)], TOP / "crates" / BELOW, progress)
-        if status == 0:
+        is_well, tail = run(["rt", "all", "check", "--jobs", str(os.cpu_count() or 1)], progress, len(others))
+        if is_well and not PROGRAM.exists():
             # It is run once, with a word that it refuses, so that it ends at once.
-            _, tail = run(["rt", "run", "--", "build-only"], TOP / "crates/polipo", progress)
+            _, tail = run(["rt", "run", "--", "build-only"], progress)
     return [] if PROGRAM.exists() else tail
 
 
