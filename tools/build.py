@@ -113,7 +113,7 @@ def run(words, progress, until=None):
                     return True, tail
         finally:
             if rt.poll() is None:
-                os.killpg(rt.pid, signal.SIGINT)
+                os.killpg(rt.pid, signal.SIGTERM)
     return rt.returncode == 0, tail
 
 
