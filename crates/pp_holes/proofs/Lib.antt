@@ -7,3 +7,4 @@ pub mod Foreign
 pub mod Map
 pub mod Pieces
 pub mod AddingSteps
+pub mod SpanLemmas

@@ -1,12 +1,12 @@
 // The chunks of one instance.
-ghost use Rattle.std.specs.Prelude.{◌≡◌, ◌<◌, ◌≤◌, ◌+◌, ◌/◌, ◌%◌, ◌↔◌, [], length, None, IfOk, false, drop, slice_set};
+ghost use Rattle.std.specs.Prelude.{ℕ, ◌≡◌, ◌<◌, ◌≤◌, ◌+◌, ◌/◌, ◌%◌, ◌↔◌, [], length, None, IfOk, false, drop, slice_set};
 ghost use Rattle.pp_holes.specs.Places.{shown, bytes_at, without, touched};
 ghost use Rattle.pp_holes.specs.Adding.{added};
 ghost use Rattle.pp_holes.specs.Cells.{Agrees, empty_table, cell_of, filled_of, is_in_memory, foreign};
 ghost use Rattle.pp_holes.specs.Holes.{IsFirstHole};
 
 use crate::cell::{Cell, cell_in, take_cell};
-use crate::hole::{first_held, first_missing};
+use crate::hole::{first_missing, held_from, missing_from};
 use crate::join::{Added, add_bytes};
 use pp_pool::Pool;
 use pp_text::OutOfMemory;
@@ -22,17 +22,22 @@ pub struct Cells {
     owner: u32,
     total: u64,
     cells: Vec<Option<Cell>>,
+    /// The length of the leading run in memory.
+    lead: u64,
+    /// From here on nothing is in memory.
+    reach: u64,
 }
 
 impl Model for Cells {
     ghost use Rattle.std.specs.Prelude.{◌≤◌, ◌≡◌, length};
     ghost use Rattle.pp_holes.specs.Cells.{Table, chunks_of};
+    ghost use Rattle.pp_holes.specs.Spans.{AreKnown};
 
     ghost Value = { Table };
 
     ghost view = { λ c. record { owner = c.owner; total = c.total; cells = c.cells.items } };
 
-    ghost invariant = { λ c. (c.total ≤ 1073741824) × (length c.cells.items ≡ chunks_of c.total) };
+    ghost invariant = { λ c. (c.total ≤ 1073741824) × (length c.cells.items ≡ chunks_of c.total) × AreKnown c.cells.items c.total c.lead c.reach };
 }
 
 impl Cells {
@@ -50,6 +55,8 @@ impl Cells {
             owner,
             total: length,
             cells,
+            lead: 0,
+            reach: 0,
         })
     }
 
@@ -68,7 +75,10 @@ impl Cells {
         ensures ignored { result.ignored ≡ (added pool.old.size self.old.owner at bytes.now (shown pool.old.used)).ignored }
         ensures need_chunk { result.need_chunk ≡ (added pool.old.size self.old.owner at bytes.now (shown pool.old.used)).need_chunk }
     {
-        add_bytes(&mut self.cells, pool, self.owner, at, bytes)
+        let added = add_bytes(&mut self.cells, pool, self.owner, at, bytes);
+        self.lead = first_missing(&self.cells, self.total, self.lead);
+        self.reach = self.reach.max(at + bytes.len() as u64);
+        added
     }
 
     /// The bytes from `at` to the end of what its chunk holds, lent from the pool. Empty exactly where `at`
@@ -100,8 +110,8 @@ impl Cells {
         if self.total <= at {
             return (self.total, self.total);
         }
-        let from = first_missing(&self.cells, self.total, at);
-        let to = first_held(&self.cells, self.total, from);
+        let from = missing_from(&self.cells, self.total, self.lead, at);
+        let to = held_from(&self.cells, self.total, self.reach, from);
         (from, to)
     }
 
@@ -116,6 +126,8 @@ impl Cells {
         ensures dropped { shown pool.new.used ≡ without (self.old.owner, index) (shown pool.old.used) }
     {
         give_at(&mut self.cells, pool, self.owner, index);
+        self.lead = self.lead.min(u64::from(index) * CHUNK_LEN);
+        self.lead = first_missing(&self.cells, self.total, self.lead);
     }
 
     /// Gives all chunks back to the pool.
@@ -128,6 +140,8 @@ impl Cells {
         ensures dropped { pool.new.used ≡ foreign self.old.owner pool.old.used }
     {
         give_all(&mut self.cells, pool, self.owner);
+        self.lead = 0;
+        self.reach = 0;
     }
 
     /// Makes a chunk the most recently used.
@@ -178,6 +192,7 @@ fn give_all(cells: &mut Vec<Option<Cell>>, pool: &mut Pool, owner: u32)
     ensures count { length cells.new.items ≡ length cells.old.items }
     ensures size { pool.new.size ≡ pool.old.size }
     ensures dropped { pool.new.used ≡ foreign owner pool.old.used }
+    ensures gone { (i : ℕ) → cell_of cells.new.items i ≡ None }
 {
     for index in 0..cells.len() {
         give_at(cells, pool, owner, index as u32);

@@ -3,6 +3,7 @@ ghost use Rattle.std.specs.Prelude.{◌≡◌, ◌<◌, ◌≤◌, ◌+◌, ◌-
 ghost use Rattle.pp_holes.specs.Places.{shown, joined};
 ghost use Rattle.pp_holes.specs.Adding.{part_of_run, join_run, is_stopped, added, room_at};
 ghost use Rattle.pp_holes.specs.Cells.{Agrees, cell_of, filled_of, foreign};
+ghost use Rattle.pp_holes.specs.Spans.{Grows, IsRaised};
 
 use crate::cell::{Cell, filled_in, take_cell};
 use pp_pool::Pool;
@@ -37,6 +38,7 @@ pub(crate) fn add_bytes(
     ensures joined { result.joined ≡ (added pool.old.size owner at bytes.now (shown pool.old.used)).joined }
     ensures ignored { result.ignored ≡ (added pool.old.size owner at bytes.now (shown pool.old.used)).ignored }
     ensures need_chunk { result.need_chunk ≡ (added pool.old.size owner at bytes.now (shown pool.old.used)).need_chunk }
+    ensures grows { Grows cells.old.items cells.new.items (at + length bytes.now) }
 {
     let mut joined = 0u64;
     let mut ignored = 0u64;
@@ -87,6 +89,7 @@ fn join(
     ensures goes { OnSome result (is_stopped pool.old.size owner (at, run.now) (shown pool.old.used) ≡ false) }
     ensures stops { IfNone result (is_stopped pool.old.size owner (at, run.now) (shown pool.old.used) ≡ true) }
     ensures unchanged { IfNone result (pool.new ≡ pool.old) }
+    ensures grows { Grows cells.old.items cells.new.items (at + length run.now) }
 {
     let index = (at / CHUNK_LEN) as usize;
     let front = (at % CHUNK_LEN) as usize;
@@ -125,6 +128,8 @@ fn begin(cells: &mut Vec<Option<Cell>>, pool: &mut Pool, owner: u32, index: u32,
     ensures room { result ≡ true → length pool.old.used < pool.old.size }
     ensures full { result ≡ false → length pool.old.used ≡ pool.old.size }
     ensures unchanged { result ≡ false → pool.new ≡ pool.old }
+    ensures raised { result ≡ true → IsRaised cells.old.items cells.new.items index (length run.now) }
+    ensures same { result ≡ false → cells.new.items ≡ cells.old.items }
 {
     let Some(chunk) = pool.take(owner, index) else {
         return false;
@@ -147,6 +152,7 @@ fn extend(cells: &mut Vec<Option<Cell>>, pool: &mut Pool, owner: u32, index: u32
     ensures size { pool.new.size ≡ pool.old.size }
     ensures others { foreign owner pool.new.used ≡ foreign owner pool.old.used }
     ensures joined { shown pool.new.used ≡ joined (owner, index) fresh.now (shown pool.old.used) }
+    ensures raised { IsRaised cells.old.items cells.new.items index (filled_of (cell_of cells.old.items index) + length fresh.now) }
 {
     let Some(cell) = take_cell(cells, index as usize) else {
         return;

@@ -1,5 +1,9 @@
 pub mod Numbers
 pub mod Order
+pub mod Chains
+pub mod Counts
+pub mod Links
+pub mod Blocks
 pub mod Views
 pub mod Sound
 pub mod Oldest

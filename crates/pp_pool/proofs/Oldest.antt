@@ -10,29 +10,29 @@ use Rattle.pp_pool.specs.declared.pool.Pool.TheInside.{Inside}
 use Rattle.pp_pool.specs.Chunks.{Used, Chunks, is_pinned, oldest_in, place_of}
 use Rattle.pp_pool.specs.Slots.{used_at, used_as, chunks_of, IsSound}
 
-pinned_at : (pins : List (ℕ × ℕ)) (p : Inside) (i : ℕ) (s : Slot) → IsSound p → i < length p.order.items → s ≡ get_or p.slots.items (get_or p.order.items i 0) s
-    → used_at p.slots.items (get_or p.order.items i 0) ≡ used_as (get_or p.order.items i 0) (Some s)
+pinned_at : (pins : List (ℕ × ℕ)) (p : Inside) (i : ℕ) (s : Slot) → IsSound p → i < length p.order.used → s ≡ get_or p.slots.items (get_or p.order.used i 0) s
+    → used_at p.block.items p.slots.items (get_or p.order.used i 0) ≡ used_as p.block.items (get_or p.order.used i 0) (Some s)
 pinned_at pins p i s sound lt was =
-    ap (used_as (get_or p.order.items i 0)) (slice_get-get_or p.slots.items (get_or p.order.items i 0) s (sound.within i 0 lt) ∙ ap (λ x. Some x) (sym was))
+    ap (used_as p.block.items (get_or p.order.used i 0)) (slice_get-get_or p.slots.items (get_or p.order.used i 0) s (sound.within i 0 lt) ∙ ap (λ x. Some x) (sym was))
 
-walk : (pins : List (ℕ × ℕ)) (p : Inside) (i : ℕ) (s : Slot) (b : Bool) → IsSound p → i < length p.order.items → s ≡ get_or p.slots.items (get_or p.order.items i 0) s
-    → is_pinned pins (used_as (get_or p.order.items i 0) (Some s)) ≡ b
-    → oldest_in pins (map (used_at p.slots.items) (drop i p.order.items))
-    ≡ cond (not b) (Some (used_as (get_or p.order.items i 0) (Some s))) (oldest_in pins (map (used_at p.slots.items) (drop (i + 1) p.order.items)))
+walk : (pins : List (ℕ × ℕ)) (p : Inside) (i : ℕ) (s : Slot) (b : Bool) → IsSound p → i < length p.order.used → s ≡ get_or p.slots.items (get_or p.order.used i 0) s
+    → is_pinned pins (used_as p.block.items (get_or p.order.used i 0) (Some s)) ≡ b
+    → oldest_in pins (map (used_at p.block.items p.slots.items) (drop i p.order.used))
+    ≡ cond (not b) (Some (used_as p.block.items (get_or p.order.used i 0) (Some s))) (oldest_in pins (map (used_at p.block.items p.slots.items) (drop (i + 1) p.order.used)))
 walk pins p i s b sound lt was e =
-    ap (λ ns. oldest_in pins (map (used_at p.slots.items) ns)) (drop_more p.order.items i 0 lt)
-    ∙ ap (λ u. oldest_in pins (u ∷ map (used_at p.slots.items) (drop (i + 1) p.order.items))) (pinned_at pins p i s sound lt was)
-    ∙ ap (λ t. cond (not t) (Some (used_as (get_or p.order.items i 0) (Some s))) (oldest_in pins (map (used_at p.slots.items) (drop (i + 1) p.order.items)))) e
+    ap (λ ns. oldest_in pins (map (used_at p.block.items p.slots.items) ns)) (drop_more p.order.used i 0 lt)
+    ∙ ap (λ u. oldest_in pins (u ∷ map (used_at p.block.items p.slots.items) (drop (i + 1) p.order.used))) (pinned_at pins p i s sound lt was)
+    ∙ ap (λ t. cond (not t) (Some (used_as p.block.items (get_or p.order.used i 0) (Some s))) (oldest_in pins (map (used_at p.block.items p.slots.items) (drop (i + 1) p.order.used)))) e
 
-pub pinned_step : (pins : List (ℕ × ℕ)) (p : Inside) (i : ℕ) (s : Slot) → IsSound p → i < length p.order.items → s ≡ get_or p.slots.items (get_or p.order.items i 0) s
-    → is_pinned pins (used_as (get_or p.order.items i 0) (Some s)) ≡ true
-    → oldest_in pins (map (used_at p.slots.items) (drop i p.order.items)) ≡ oldest_in pins (map (used_at p.slots.items) p.order.items)
-    → oldest_in pins (map (used_at p.slots.items) (drop (i + 1) p.order.items)) ≡ oldest_in pins (map (used_at p.slots.items) p.order.items)
+pub pinned_step : (pins : List (ℕ × ℕ)) (p : Inside) (i : ℕ) (s : Slot) → IsSound p → i < length p.order.used → s ≡ get_or p.slots.items (get_or p.order.used i 0) s
+    → is_pinned pins (used_as p.block.items (get_or p.order.used i 0) (Some s)) ≡ true
+    → oldest_in pins (map (used_at p.block.items p.slots.items) (drop i p.order.used)) ≡ oldest_in pins (map (used_at p.block.items p.slots.items) p.order.used)
+    → oldest_in pins (map (used_at p.block.items p.slots.items) (drop (i + 1) p.order.used)) ≡ oldest_in pins (map (used_at p.block.items p.slots.items) p.order.used)
 pinned_step pins p i s sound lt was e ih = sym (walk pins p i s true sound lt was e) ∙ ih
 
-pub found_step : (pins : List (ℕ × ℕ)) (p : Inside) (v : Chunks) (i : ℕ) (s : Slot) → IsSound p → chunks_of p ≡ v → i < length p.order.items → s ≡ get_or p.slots.items (get_or p.order.items i 0) s
-    → is_pinned pins (used_as (get_or p.order.items i 0) (Some s)) ≡ false
-    → oldest_in pins (map (used_at p.slots.items) (drop i p.order.items)) ≡ oldest_in pins (map (used_at p.slots.items) p.order.items)
+pub found_step : (pins : List (ℕ × ℕ)) (p : Inside) (v : Chunks) (i : ℕ) (s : Slot) → IsSound p → chunks_of p ≡ v → i < length p.order.used → s ≡ get_or p.slots.items (get_or p.order.used i 0) s
+    → is_pinned pins (used_as p.block.items (get_or p.order.used i 0) (Some s)) ≡ false
+    → oldest_in pins (map (used_at p.block.items p.slots.items) (drop i p.order.used)) ≡ oldest_in pins (map (used_at p.block.items p.slots.items) p.order.used)
     → Some (s.owner, s.index) ≡ option_map place_of (oldest_in pins v.used)
 found_step pins p v i s sound e lt was n ih =
     ap (option_map place_of) (sym (walk pins p i s false sound lt was n) ∙ ih) ∙ ap (λ w. option_map place_of (oldest_in pins w.used)) e
@@ -70,8 +70,8 @@ none_where_pinned pins us r e = (
 )
 
 -- the walk came to the end
-pub nothing_found : (pins : List (ℕ × ℕ)) (p : Inside) (v : Chunks) (i : ℕ) → chunks_of p ≡ v → length p.order.items ≤ i
-    → oldest_in pins (map (used_at p.slots.items) (drop i p.order.items)) ≡ oldest_in pins (map (used_at p.slots.items) p.order.items)
+pub nothing_found : (pins : List (ℕ × ℕ)) (p : Inside) (v : Chunks) (i : ℕ) → chunks_of p ≡ v → length p.order.used ≤ i
+    → oldest_in pins (map (used_at p.block.items p.slots.items) (drop i p.order.used)) ≡ oldest_in pins (map (used_at p.block.items p.slots.items) p.order.used)
     → None ≡ option_map place_of (oldest_in pins v.used)
 nothing_found pins p v i e le ih =
-    ap (option_map place_of) (sym (ap (λ ns. oldest_in pins (map (used_at p.slots.items) ns)) (drop_all i p.order.items le)) ∙ ih ∙ ap (λ w. oldest_in pins w.used) e)
+    ap (option_map place_of) (sym (ap (λ ns. oldest_in pins (map (used_at p.block.items p.slots.items) ns)) (drop_all i p.order.used le)) ∙ ih ∙ ap (λ w. oldest_in pins w.used) e)

@@ -1,168 +1,150 @@
 -- Each call keeps the pool sound, and does to its chunks what its clause says.
-use Rattle.std.proofs.Common.{ℕ, ◌≤◌, ◌<◌, ◌≡◌, true, false, List, [], ◌∷◌, ◌++◌, length, map, get_or, set, arith, refl, sym, ◌∙◌, ap, subst, Some, ◌⊎◌, inl, inr, vec_capacity, vec_len}
-use Rattle.std.proofs.lemmas.Grind.{common_steps}
-use Rattle.std.proofs.lemmas.Bool.{cases_eq}
-use Rattle.std.proofs.lemmas.List.{get_or-set_same, get_or-set_other, length-set, length-map, length_push}
-use Rattle.std.proofs.lemmas.List.Elements.{All-filter, All-push, All-set}
-use Rattle.std.proofs.lemmas.Option.{slice_get-get_or}
+use Rattle.std.proofs.Common.{ℕ, ◌+◌, ◌*◌, ◌≤◌, ◌<◌, ◌≡◌, true, false, List, [], ◌∷◌, ◌++◌, length, map, set, get_or, take, drop, Vec, Global, ◌-◌, arith, refl, sym, ◌∙◌, ap, subst, Some, vec_capacity}
+use Rattle.std.proofs.lemmas.List.{get_or_default, length-drop, length-map, length-set, length-take-le, length_push, with_items_is}
+use Rattle.std.proofs.lemmas.List.Elements.{All-filter, All-push, All-set, All-weaker}
 use Rattle.std.specs.Prelude.{slice_get}
 use Rattle.std.specs.List.{filter, All}
+use Rattle.std.specs.Vec.{with_items}
+use borrow.Rule.Slice.PartMut.{put_mid}
 use Rattle.pp_pool.specs.declared.pool.Slot.{Slot}
 use Rattle.pp_pool.specs.declared.pool.Pool.TheInside.{Inside}
 use Rattle.pp_pool.specs.Chunks.{Chunks, IsUsed, is_in, is_not, is_other, bytes_in, extended, used_last}
-use Rattle.pp_pool.specs.Slots.{used_as, used_at, chunks_of, IsFlagged, IsSound}
-use Rattle.pp_pool.proofs.Numbers.{is_in_filter_same, is_in_filter_other, AreDistinct-filter, AreDistinct-push, is_in-push, present_below, few_below, many_below}
-use Rattle.pp_pool.proofs.Views.{is_in_order, view-given, view-filled, view-touched, view-found, view-taken}
+use Rattle.pp_pool.specs.Slots.{used_as, used_at, chunks_of, IsSound}
+use Rattle.pp_pool.proofs.Numbers.{is_in_filter_same, AreDistinct-filter, AreDistinct-push, present_below, few_below}
+use Rattle.pp_pool.proofs.Blocks.{length-put_mid}
+use Rattle.pp_pool.proofs.Views.{is_in_order, present, short_at, view-given, view-filled, view-touched, view-found, view-taken}
 
-flagged_by : (ss : List Slot) (c : ℕ) (s : Slot) (ns ms : List ℕ) → c < length ss → s.is_used ≡ is_in c ms
-    → ((n : ℕ) → (n ≡ c → ⊥) → is_in n ms ≡ is_in n ns) → IsFlagged ss ns → (n : ℕ) (d : Slot) → n < length ss
-    → (n ≡ c) ⊎ (n ≡ c → ⊥) → (get_or (set ss c s) n d).is_used ≡ is_in n ms
-flagged_by ss c s ns ms lt e same f n d below (inl q) = rw q (ap (λ t. t.is_used) (get_or-set_same ss c s d lt) ∙ e)
-flagged_by ss c s ns ms lt e same f n d below (inr q) = ap (λ t. t.is_used) (get_or-set_other ss c n s d q) ∙ f n d below ∙ sym (same n q)
-
-pushed_in : (c : ℕ) (ns : List ℕ) → is_in c (ns ++ c ∷ []) ≡ true
-pushed_in c ns = is_in-push c c ns ∙ (grind (arith, common_steps))
-
-pushed_other : (c n : ℕ) (ns : List ℕ) → (n ≡ c → ⊥) → is_in n (ns ++ c ∷ []) ≡ is_in n ns
-pushed_other c n ns h = is_in-push n c ns ∙ (grind (arith, common_steps))
-
-moved_in : (c n : ℕ) (ns : List ℕ) → is_in c ns ≡ true → (n ≡ c) ⊎ (n ≡ c → ⊥) → is_in n (filter (is_not c) ns ++ c ∷ []) ≡ is_in n ns
-moved_in c n ns h (inl q) = rw q (pushed_in c (filter (is_not c) ns) ∙ sym h)
-moved_in c n ns h (inr q) = pushed_other c n (filter (is_not c) ns) q ∙ is_in_filter_other c n ns q
-
-same_used : (ss : List Slot) (c : ℕ) (s t : Slot) (bs : List ℕ) → c < length ss → t ≡ get_or ss c t
-    → s.owner ≡ t.owner → s.index ≡ t.index → s.bytes.items ≡ t.bytes.items ++ bs
-    → used_as c (Some s) ≡ record (used_at ss c) { bytes = (used_at ss c).bytes ++ bs }
-same_used ss c s t bs lt was owner index bytes =
-    let there : slice_get ss c ≡ Some t = slice_get-get_or ss c t lt ∙ ap (λ x. Some x) (sym was) in
-    rw (there, owner, index, bytes) refl
-
-flagged_at : (ss : List Slot) (c : ℕ) (s : Slot) (ns ms : List ℕ) → c < length ss → s.is_used ≡ is_in c ms
-    → ((n : ℕ) → (n ≡ c → ⊥) → is_in n ms ≡ is_in n ns) → IsFlagged ss ns → IsFlagged (set ss c s) ms
-flagged_at ss c s ns ms lt e same f n d below = flagged_by ss c s ns ms lt e same f n d (omega (arith, below, length-set ss c s)) (cases_eq n c)
+abbrev pub IsBacked : List ℕ → ℕ → Type 0
+IsBacked block n = n * 4096 + 4096 ≤ length block
 
 all_below : (k m : ℕ) (ns : List ℕ) → k ≡ m → All (λ n. n < k) ns → All (λ n. n < m) ns
 all_below k m ns e a = let P : ℕ → Type 0 = λ j. All (λ n. n < j) ns in subst P e a
 
+all_backed : (block block' : List ℕ) (ns : List ℕ) → length block ≤ length block' → All (IsBacked block) ns → All (IsBacked block') ns
+all_backed block block' ns le a = All-weaker (IsBacked block) (IsBacked block') (λ n h. omega arith) ns a
+
 -- what holds of the pool, at a number of its order
-pub in_range : (p : Inside) (v : Chunks) (c : ℕ) → IsSound p → chunks_of p ≡ v → IsUsed c v → c < vec_len p.slots
-in_range p v c s e h = omega (arith, p.slots.ok, present_below c (length p.slots.items) p.order.items s.within (is_in_order p v c e h))
+pub in_range : (p : Inside) (v : Chunks) (c : ℕ) → IsSound p → chunks_of p ≡ v → IsUsed c v → c < length p.slots.items
+in_range p v c s e h = present_below c (length p.slots.items) p.order.used s.within (is_in_order p v c e h)
 
-pub found_in : (p : Inside) (v : Chunks) (c : ℕ) (s : Slot) → IsSound p → chunks_of p ≡ v → IsUsed c v → s ≡ get_or p.slots.items c s → s.bytes.items ≡ bytes_in c v.used
-found_in p v c s i e h was =
-    let inside : is_in c p.order.items ≡ true = is_in_order p v c e h in
-    let there : slice_get p.slots.items c ≡ Some s = slice_get-get_or p.slots.items c s (present_below c (length p.slots.items) p.order.items i.within inside) ∙ ap (λ x. Some x) (sym was) in
-    sym (ap (λ o. (used_as c o).bytes) there) ∙ sym (view-found p.slots.items c p.order.items inside) ∙ ap (λ w. bytes_in c w.used) e
+pub is_backed : (p : Inside) (v : Chunks) (c : ℕ) → IsSound p → chunks_of p ≡ v → IsUsed c v → c * 4096 + 4096 ≤ length p.block.items
+is_backed p v c s e h = present (IsBacked p.block.items) c p.order.used s.backed (is_in_order p v c e h)
 
-pub wide_at : (p : Inside) (c : ℕ) (s : Slot) → IsSound p → c < vec_len p.slots → s ≡ get_or p.slots.items c s → 4096 ≤ vec_capacity s.bytes
-wide_at p c s i lt was = rw was (i.wide c s (omega (arith, p.slots.ok)))
+pub found_in : (p : Inside) (v : Chunks) (c : ℕ) (s : Slot) → IsSound p → chunks_of p ≡ v → IsUsed c v → slice_get p.slots.items c ≡ Some s
+    → (used_as p.block.items c (Some s)).bytes ≡ bytes_in c v.used
+found_in p v c s i e h there =
+    let inside : is_in c p.order.used ≡ true = is_in_order p v c e h in
+    sym (ap (λ o. (used_as p.block.items c o).bytes) there) ∙ sym (view-found p.block.items p.slots.items c p.order.used inside) ∙ ap (λ w. bytes_in c w.used) e
 
-pub used_at_flag : (p : Inside) (c : ℕ) (s : Slot) → IsSound p → c < vec_len p.slots → is_in c p.order.items ≡ true → s ≡ get_or p.slots.items c s → s.is_used ≡ true
-used_at_flag p c s i lt h was = ap (λ t. t.is_used) was ∙ i.flagged c s (omega (arith, p.slots.ok)) ∙ h
+-- more bytes fit a chunk where they fit what is seen of it
+pub fits_in : (p : Inside) (v : Chunks) (c m : ℕ) (s : Slot) → IsSound p → chunks_of p ≡ v → IsUsed c v → slice_get p.slots.items c ≡ Some s
+    → length (bytes_in c v.used) + m ≤ 4096 → s.filled + m ≤ 4096
+fits_in p v c m s i e h there fits =
+    let short : s.filled ≤ 4096 = short_at p.slots.items c s i.short there in
+    let long : length (take s.filled (drop (c * 4096) p.block.items)) ≡ s.filled
+    = length-take-le s.filled (drop (c * 4096) p.block.items) (omega (arith, length-drop (c * 4096) p.block.items, is_backed p v c i e h, short)) in
+    omega (arith, fits, ap length (found_in p v c s i e h there), long)
 
-pub sound-given : (p q : Inside) (c : ℕ) (s : Slot) → IsSound p → is_in c p.order.items ≡ true
-    → q.slots.items ≡ set p.slots.items c s → q.order.items ≡ filter (is_not c) p.order.items → vec_capacity q.order ≡ vec_capacity p.order
-    → s.is_used ≡ false → 4096 ≤ vec_capacity s.bytes → IsSound q
-sound-given p q c s i h slots order cap free wide =
-    let lt : c < length p.slots.items = present_below c (length p.slots.items) p.order.items i.within h in
-    let long : length q.slots.items ≡ length p.slots.items = ap length slots ∙ length-set p.slots.items c s in
+pub same_slot : (ss : List Slot) (c : ℕ) (s t : Slot) → s ≡ get_or ss c s → t ≡ get_or ss c t → c < length ss → t ≡ s
+same_slot ss c s t es et lt = et ∙ get_or_default ss c t s lt ∙ sym es
+
+-- the block once bytes were copied to a place in it
+pub record Written (block : List ℕ) (after : List ℕ) (at : ℕ) (bs : List ℕ) : Type 0 where
+  pub is : after ≡ put_mid at (length bs) block bs
+  pub long : length after ≡ length block
+
+pub written : (v : Vec ℕ Global) (at : ℕ) (lent front bs : List ℕ) → lent ≡ v.items → front ≡ bs → at + length bs ≤ length v.items
+    → Written v.items (with_items v (put_mid at (at + length bs - at) lent front)).items at bs
+written v at lent front bs el ef le =
+    let less : at + length bs - at ≡ length bs = omega arith in
+    let same : put_mid at (at + length bs - at) lent front ≡ put_mid at (length bs) v.items bs
+    = ap (λ k. put_mid at k lent front) less ∙ ap (λ xs. put_mid at (length bs) xs front) el ∙ ap (put_mid at (length bs) v.items) ef in
+    let long : length (put_mid at (length bs) v.items bs) ≡ length v.items = length-put_mid at (length bs) v.items bs le refl in
+    let is = with_items_is v (put_mid at (at + length bs - at) lent front) (ap length same ∙ long ∙ sym v.ok.0) ∙ same in
+    record { is = is; long = ap length is ∙ long }
+
+pub sound-given : (p q : Inside) (c : ℕ) → IsSound p → q.block ≡ p.block → q.slots ≡ p.slots → q.order ≡ record p.order { used = filter (is_not c) p.order.used } → IsSound q
+sound-given p q c i block slots order = record {
+  distinct = rw order (AreDistinct-filter c p.order.used i.distinct);
+  within = rw (slots, order) (All-filter (is_not c) (λ n. n < length p.slots.items) p.order.used i.within);
+  backed = rw (block, order) (All-filter (is_not c) (IsBacked p.block.items) p.order.used i.backed);
+  sizes = rw (slots, order) i.sizes;
+  short = rw slots i.short;
+  room = rw (block, slots) i.room;
+}
+
+pub sound-touched : (p q : Inside) (c : ℕ) → IsSound p → is_in c p.order.used ≡ true → q.block ≡ p.block → q.slots ≡ p.slots
+    → q.order ≡ record p.order { used = filter (is_not c) p.order.used ++ c ∷ [] } → IsSound q
+sound-touched p q c i h block slots order =
+    let lt : c < length p.slots.items = present_below c (length p.slots.items) p.order.used i.within h in
+    let at : IsBacked p.block.items c = present (IsBacked p.block.items) c p.order.used i.backed h in
     record {
-      distinct = rw order (AreDistinct-filter c p.order.items i.distinct);
-      within = rw order (All-filter (is_not c) (λ n. n < length q.slots.items) p.order.items (all_below _ _ p.order.items (sym long) i.within));
-      flagged = rw (slots, order) (flagged_at p.slots.items c s p.order.items (filter (is_not c) p.order.items) lt (free ∙ sym (is_in_filter_same c p.order.items)) (λ n k. is_in_filter_other c n p.order.items k) i.flagged);
-      few = omega (arith, long, i.few);
-      room = omega (arith, long, cap, i.room);
-      wide = rw slots (All-set (λ t. 4096 ≤ vec_capacity t.bytes) p.slots.items c s wide i.wide);
+      distinct = rw order (AreDistinct-push c (filter (is_not c) p.order.used) (AreDistinct-filter c p.order.used i.distinct) (is_in_filter_same c p.order.used));
+      within = rw (slots, order) (All-push (λ n. n < length p.slots.items) (filter (is_not c) p.order.used) c (All-filter (is_not c) (λ n. n < length p.slots.items) p.order.used i.within) lt);
+      backed = rw (block, order) (All-push (IsBacked p.block.items) (filter (is_not c) p.order.used) c (All-filter (is_not c) (IsBacked p.block.items) p.order.used i.backed) at);
+      sizes = rw (slots, order) i.sizes;
+      short = rw slots i.short;
+      room = rw (block, slots) i.room;
     }
 
-pub sound-filled : (p q : Inside) (c : ℕ) (s : Slot) → IsSound p → is_in c p.order.items ≡ true
-    → q.slots.items ≡ set p.slots.items c s → q.order ≡ p.order → s.is_used ≡ true → 4096 ≤ vec_capacity s.bytes → IsSound q
-sound-filled p q c s i h slots order used wide =
-    let lt : c < length p.slots.items = present_below c (length p.slots.items) p.order.items i.within h in
+pub sound-filled : (p q : Inside) (c : ℕ) (s : Slot) → IsSound p → length q.block.items ≡ length p.block.items → vec_capacity q.block ≡ vec_capacity p.block
+    → q.slots.items ≡ set p.slots.items c s → q.order ≡ p.order → s.filled ≤ 4096 → IsSound q
+sound-filled p q c s i block cap slots order short =
     let long : length q.slots.items ≡ length p.slots.items = ap length slots ∙ length-set p.slots.items c s in
     record {
       distinct = rw order i.distinct;
-      within = rw order (all_below _ _ p.order.items (sym long) i.within);
-      flagged = rw (slots, order) (flagged_at p.slots.items c s p.order.items p.order.items lt (used ∙ sym h) (λ n k. refl) i.flagged);
-      few = omega (arith, long, i.few);
-      room = rw order (omega (arith, long, i.room));
-      wide = rw slots (All-set (λ t. 4096 ≤ vec_capacity t.bytes) p.slots.items c s wide i.wide);
+      within = rw order (all_below _ _ p.order.used (sym long) i.within);
+      backed = rw order (all_backed p.block.items q.block.items p.order.used (omega arith) i.backed);
+      sizes = ap (λ o. o.size) order ∙ i.sizes ∙ sym long;
+      short = rw slots (All-set (λ t. t.filled ≤ 4096) p.slots.items c s short i.short);
+      room = omega (arith, i.room, long, cap);
     }
 
-pub sound-taken : (p q : Inside) (c : ℕ) (s : Slot) → IsSound p → c < length p.slots.items → is_in c p.order.items ≡ false
-    → q.slots.items ≡ set p.slots.items c s → q.order.items ≡ p.order.items ++ c ∷ [] → vec_capacity q.order ≡ vec_capacity p.order
-    → s.is_used ≡ true → 4096 ≤ vec_capacity s.bytes → IsSound q
-sound-taken p q c s i lt h slots order cap used wide =
+pub sound-taken : (p q : Inside) (c : ℕ) (s : Slot) → IsSound p → c < length p.slots.items → is_in c p.order.used ≡ false
+    → length p.block.items ≤ length q.block.items → c * 4096 + 4096 ≤ length q.block.items → vec_capacity p.block ≤ vec_capacity q.block
+    → q.slots.items ≡ set p.slots.items c s → q.order ≡ record p.order { used = p.order.used ++ c ∷ [] } → s.filled ≤ 4096 → IsSound q
+sound-taken p q c s i lt h longer at cap slots order short =
     let long : length q.slots.items ≡ length p.slots.items = ap length slots ∙ length-set p.slots.items c s in
     record {
-      distinct = rw order (AreDistinct-push c p.order.items i.distinct h);
-      within = rw order (All-push (λ n. n < length q.slots.items) p.order.items c (all_below _ _ p.order.items (sym long) i.within) (omega (arith, long, lt)));
-      flagged = rw (slots, order) (flagged_at p.slots.items c s p.order.items (p.order.items ++ c ∷ []) lt (used ∙ sym (pushed_in c p.order.items)) (λ n k. pushed_other c n p.order.items k) i.flagged);
-      few = omega (arith, long, i.few);
-      room = omega (arith, long, cap, i.room);
-      wide = rw slots (All-set (λ t. 4096 ≤ vec_capacity t.bytes) p.slots.items c s wide i.wide);
+      distinct = rw order (AreDistinct-push c p.order.used i.distinct h);
+      within = rw order (All-push (λ n. n < length q.slots.items) p.order.used c (all_below _ _ p.order.used (sym long) i.within) (omega (arith, long, lt)));
+      backed = rw order (All-push (IsBacked q.block.items) p.order.used c (all_backed p.block.items q.block.items p.order.used longer i.backed) at);
+      sizes = ap (λ o. o.size) order ∙ i.sizes ∙ sym long;
+      short = rw slots (All-set (λ t. t.filled ≤ 4096) p.slots.items c s short i.short);
+      room = omega (arith, i.room, long, cap);
     }
 
-pub sound-touched : (p q : Inside) (c : ℕ) → IsSound p → is_in c p.order.items ≡ true
-    → q.slots ≡ p.slots → q.order.items ≡ filter (is_not c) p.order.items ++ c ∷ [] → vec_capacity q.order ≡ vec_capacity p.order → IsSound q
-sound-touched p q c i h slots order cap =
-    let lt : c < length p.slots.items = present_below c (length p.slots.items) p.order.items i.within h in
-    record {
-      distinct = rw order (AreDistinct-push c (filter (is_not c) p.order.items) (AreDistinct-filter c p.order.items i.distinct) (is_in_filter_same c p.order.items));
-      within = rw (order, slots) (All-push (λ n. n < length p.slots.items) (filter (is_not c) p.order.items) c (All-filter (is_not c) (λ n. n < length p.slots.items) p.order.items i.within) lt);
-      flagged = rw (slots, order) (λ n d below. i.flagged n d below ∙ sym (moved_in c n p.order.items h (cases_eq n c)));
-      few = rw slots i.few;
-      room = rw slots (omega (arith, cap, i.room));
-      wide = rw slots i.wide;
-    }
-
-abbrev view : List Slot → List ℕ → Chunks
-view ss ns = record { size = length ss; used = map (used_at ss) ns }
+abbrev view : List ℕ → List Slot → List ℕ → Chunks
+view block ss ns = record { size = length ss; used = map (used_at block ss) ns }
 
 -- the chunks after each call
-pub chunks-given : (p : Inside) (ss : List Slot) (ns : List ℕ) (v : Chunks) (c : ℕ) (s : Slot) → chunks_of p ≡ v
-    → ss ≡ set p.slots.items c s → ns ≡ filter (is_not c) p.order.items
-    → view ss ns ≡ record v { used = filter (is_other c) v.used }
-chunks-given p ss ns v c s e slots order =
-    rw (← e, slots, order) (rw (length-set p.slots.items c s, view-given p.slots.items c s p.order.items) refl)
+pub chunks-given : (p : Inside) (ns : List ℕ) (v : Chunks) (c : ℕ) → chunks_of p ≡ v → ns ≡ filter (is_not c) p.order.used
+    → view p.block.items p.slots.items ns ≡ record v { used = filter (is_other c) v.used }
+chunks-given p ns v c e order = rw (← e, order) (rw (view-given p.block.items p.slots.items c p.order.used) refl)
 
-pub chunks-touched : (p : Inside) (ss : List Slot) (ns : List ℕ) (v : Chunks) (c : ℕ) → IsSound p → is_in c p.order.items ≡ true → chunks_of p ≡ v
-    → ss ≡ p.slots.items → ns ≡ filter (is_not c) p.order.items ++ c ∷ []
-    → view ss ns ≡ record v { used = used_last c v.used }
-chunks-touched p ss ns v c i h e slots order =
-    rw (← e, slots, order) (rw (view-touched p.slots.items c p.order.items i.distinct h) refl)
+pub chunks-touched : (p : Inside) (ns : List ℕ) (v : Chunks) (c : ℕ) → IsSound p → is_in c p.order.used ≡ true → chunks_of p ≡ v
+    → ns ≡ filter (is_not c) p.order.used ++ c ∷ []
+    → view p.block.items p.slots.items ns ≡ record v { used = used_last c v.used }
+chunks-touched p ns v c i h e order = rw (← e, order) (rw (view-touched p.block.items p.slots.items c p.order.used i.distinct h) refl)
 
-pub chunks-filled : (p : Inside) (ss : List Slot) (ns : List ℕ) (v : Chunks) (c : ℕ) (s t : Slot) (bs : List ℕ) → c < length p.slots.items → chunks_of p ≡ v
-    → ss ≡ set p.slots.items c s → ns ≡ p.order.items
-    → t ≡ get_or p.slots.items c t → s.owner ≡ t.owner → s.index ≡ t.index → s.bytes.items ≡ t.bytes.items ++ bs
-    → view ss ns ≡ record v { used = map (extended c bs) v.used }
-chunks-filled p ss ns v c s t bs lt e slots order was owner index bytes =
-    rw (← e, slots, order) (rw (length-set p.slots.items c s, view-filled p.slots.items c s bs p.order.items lt (same_used p.slots.items c s t bs lt was owner index bytes)) refl)
+pub chunks-filled : (p : Inside) (block : List ℕ) (ss : List Slot) (v : Chunks) (c : ℕ) (s t : Slot) (bs : List ℕ) → IsSound p → c < length p.slots.items → chunks_of p ≡ v
+    → ss ≡ set p.slots.items c s → block ≡ put_mid (c * 4096 + t.filled) (length bs) p.block.items bs
+    → slice_get p.slots.items c ≡ Some t → s.owner ≡ t.owner → s.index ≡ t.index → s.filled ≡ t.filled + length bs → s.filled ≤ 4096 → c * 4096 + 4096 ≤ length p.block.items
+    → view block ss p.order.used ≡ record v { used = map (extended c bs) v.used }
+chunks-filled p block ss v c s t bs i lt e slots bytes there owner index more fits long =
+    rw (← e, slots, bytes) (rw (length-set p.slots.items c s, view-filled p.block.items p.slots.items c s t bs p.order.used lt i.short there owner index more fits long) refl)
 
-pub chunks-taken : (p : Inside) (ss : List Slot) (ns : List ℕ) (v : Chunks) (c : ℕ) (s : Slot) → c < length p.slots.items → is_in c p.order.items ≡ false → chunks_of p ≡ v
-    → ss ≡ set p.slots.items c s → ns ≡ p.order.items ++ c ∷ []
-    → view ss ns ≡ record v { used = v.used ++ used_as c (Some s) ∷ [] }
-chunks-taken p ss ns v c s lt h e slots order =
-    rw (← e, slots, order) (rw (length-set p.slots.items c s, view-taken p.slots.items c s p.order.items lt h) refl)
+pub chunks-taken : (p : Inside) (block : List ℕ) (ss : List Slot) (ns : List ℕ) (v : Chunks) (c : ℕ) (s : Slot) → IsSound p → c < length p.slots.items → is_in c p.order.used ≡ false → chunks_of p ≡ v
+    → ss ≡ set p.slots.items c s → take (length p.block.items) block ≡ p.block.items → s.filled ≡ 0 → ns ≡ p.order.used ++ c ∷ []
+    → view block ss ns ≡ record v { used = v.used ++ record { number = c; owner = s.owner; index = s.index; bytes = [] } ∷ [] }
+chunks-taken p block ss ns v c s i lt h e slots kept none order =
+    rw (← e, slots, order) (rw (length-set p.slots.items c s, view-taken p.block.items block p.slots.items c s p.order.used lt h i.short i.backed kept none) refl)
 
-each_used : (ss : List Slot) (ns : List ℕ) (n : ℕ) → n < length ss → IsFlagged ss ns → All (λ s. s.is_used ≡ true) ss → is_in n ns ≡ true
-each_used [] ns n lt f a = absurd (omega arith)
-each_used (s ∷ ss) ns n lt f a = sym (f n s lt) ∙ a n s lt
-
--- where each slot is used, the order has them all
-pub all_used : (p : Inside) (v : Chunks) → IsSound p → chunks_of p ≡ v → All (λ s. s.is_used ≡ true) p.slots.items → length v.used ≡ v.size
-all_used p v i e a =
-    let many : length p.slots.items ≤ length p.order.items = many_below (length p.slots.items) p.order.items (λ n lt. each_used p.slots.items p.order.items n lt i.flagged a) in
-    let few : length p.order.items ≤ length p.slots.items = few_below (length p.slots.items) p.order.items i.distinct i.within in
-    rw (← e) (length-map p.order.items (used_at p.slots.items) ∙ (omega (arith, many, few)))
-
-free_by : (ss : List Slot) (ns : List ℕ) (n : ℕ) → n < length ss → IsFlagged ss ns → ((d : Slot) → (get_or ss n d).is_used ≡ false) → is_in n ns ≡ false
-free_by [] ns n lt f h = absurd (omega arith)
-free_by (s ∷ ss) ns n lt f h = sym (f n s lt) ∙ h s
-
-pub is_free : (p : Inside) (n : ℕ) → IsSound p → n < length p.slots.items → ((d : Slot) → (get_or p.slots.items n d).is_used ≡ false) → is_in n p.order.items ≡ false
-is_free p n i lt h = free_by p.slots.items p.order.items n lt i.flagged h
-
-pub room_for : (p : Inside) (n : ℕ) → IsSound p → n < length p.slots.items → is_in n p.order.items ≡ false → length p.order.items < length p.slots.items
+-- a number that the order does not have is free
+pub room_for : (p : Inside) (n : ℕ) → IsSound p → n < length p.slots.items → is_in n p.order.used ≡ false → length p.order.used < length p.slots.items
 room_for p n i lt h =
-    omega (arith, few_below (length p.slots.items) (p.order.items ++ n ∷ []) (AreDistinct-push n p.order.items i.distinct h) (All-push (λ m. m < length p.slots.items) p.order.items n i.within lt), length_push p.order.items n)
+    omega (arith, few_below (length p.slots.items) (p.order.used ++ n ∷ []) (AreDistinct-push n p.order.used i.distinct h) (All-push (λ m. m < length p.slots.items) p.order.used n i.within lt), length_push p.order.used n)
+
+-- where the order has all numbers, none is free
+pub all_used : (p : Inside) (v : Chunks) → IsSound p → chunks_of p ≡ v → length p.order.used ≡ p.order.size → length v.used ≡ v.size
+all_used p v i e all = rw (← e) (length-map p.order.used (used_at p.block.items p.slots.items) ∙ all ∙ i.sizes)

@@ -12,7 +12,8 @@
 #![tactic(auto)]
 
 mod chunk; // the handle of a used chunk
-mod pool; // the slots, and the order of use
+mod pool; // the slots, and the chunks in them
+mod ring; // the order of use, as links
 
 pub use chunk::ChunkId;
 pub use pool::{CHUNK_LEN, Pins, Pool};

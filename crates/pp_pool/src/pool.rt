@@ -1,10 +1,10 @@
-// A pool: a slot for each chunk, and the numbers of the used ones in the order of their last use.
-ghost use Rattle.std.specs.Prelude.{◌≡◌, ◌<◌, ◌≤◌, ◌+◌, ◌↔◌, [], length, map, IfOk, IfSome, IfNone, OnSome, IsNone, true, false, get_or, vec_capacity, option_map, ◌==◌, ◌&&◌};
-ghost use Rattle.std.specs.List.{filter, All, list_any, list_all};
-ghost use Rattle.pp_pool.specs.declared.pool.Slot.{Slot};
+// A pool: one block of bytes, a slot for each chunk, and the numbers of the used ones in the order of their last use.
+ghost use Rattle.std.specs.Prelude.{◌≡◌, ◌<◌, ◌≤◌, ◌+◌, ◌↔◌, [], length, map, IfOk, IfSome, IfNone, OnSome, IsNone, true, false, option_map, ◌==◌, ◌&&◌, take, vec_capacity};
+ghost use Rattle.std.specs.List.{filter, list_any, list_all};
 ghost use Rattle.pp_pool.specs.Chunks.{IsUsed, AreDistinct, numbers, is_in, is_not, bytes_in, taken, given, filled, used_last, is_pinned, oldest_in, place_of};
 
 use crate::chunk::ChunkId;
+use crate::ring::Ring;
 use arrayvec::ArrayVec;
 use pp_text::OutOfMemory;
 use std::alloc::Global;
@@ -16,19 +16,28 @@ pub const CHUNK_LEN: usize = 4096;
 /// Places that may not be evicted: pairs of owner and index.
 pub type Pins = ArrayVec<(u32, u32), 320>;
 
-#[derive(Drop)]
+/// Whose chunk it is, which part, and how many of its bytes are filled.
+#[derive(Clone, Copy)]
 struct Slot {
     owner: u32,
     index: u32,
-    is_used: bool,
-    bytes: Vec<u8>,
+    filled: u16,
 }
+
+const FREE: Slot = Slot {
+    owner: 0,
+    index: 0,
+    filled: 0,
+};
 
 /// Chunks of 4,096 bytes, and the order in which they were used.
 #[derive(Drop)]
 pub struct Pool {
+    /// The bytes of the chunks by their numbers, as far as one was ever taken: no page of what was never used
+    /// is touched.
+    block: Vec<u8>,
     slots: Vec<Slot>,
-    order: Vec<u32>,
+    order: Ring,
 }
 
 impl Model for Pool {
@@ -50,18 +59,17 @@ impl Pool {
         requires most { chunks ≤ 65536 }
         ensures { IfOk result (λ p. p ≡ record { size = chunks; used = [] }) }
     {
+        let block = Vec::with_capacity(alloc, chunks as usize * CHUNK_LEN)?;
         let mut slots = Vec::with_capacity(alloc, chunks as usize)?;
         for _number in 0..chunks {
-            let bytes = Vec::with_capacity(alloc, CHUNK_LEN)?;
-            slots.push_reserved(Slot {
-                owner: 0,
-                index: 0,
-                is_used: false,
-                bytes,
-            });
+            slots.push_reserved(FREE);
         }
-        let order = Vec::with_capacity(alloc, chunks as usize)?;
-        Ok(Pool { slots, order })
+        let order = Ring::new(alloc, chunks)?;
+        Ok(Pool {
+            block,
+            slots,
+            order,
+        })
     }
 
     /// How many chunks are used.
@@ -70,7 +78,7 @@ impl Pool {
         ensures within { length self.now.used ≤ self.now.size }
         ensures distinct { AreDistinct (numbers self.now.used) }
     {
-        self.order.len() as u32
+        self.order.used()
     }
 
     /// Takes a free chunk for a place, as the most recently used, with no bytes. `None` exactly where no
@@ -83,13 +91,13 @@ impl Pool {
         ensures taken { IfSome result (λ c. self.new ≡ record self.old { used = taken c owner index self.old.used }) }
         ensures distinct { AreDistinct (numbers self.new.used) }
     {
-        let number = first_free(&self.slots)?;
-        let slot = &mut self.slots[number as usize];
-        slot.owner = owner;
-        slot.index = index;
-        slot.is_used = true;
-        slot.bytes.clear();
-        self.order.push_reserved(number);
+        let number = self.order.take()?;
+        reach(&mut self.block, (number as usize + 1) * CHUNK_LEN);
+        self.slots[number as usize] = Slot {
+            owner,
+            index,
+            filled: 0,
+        };
         Some(ChunkId { number })
     }
 
@@ -100,9 +108,7 @@ impl Pool {
         ensures distinct { AreDistinct (numbers self.new.used) }
     {
         let ChunkId { number } = chunk;
-        leave(&mut self.order, number);
-        let slot = &mut self.slots[number as usize];
-        slot.is_used = false;
+        self.order.give(number);
     }
 
     /// The front of a chunk that is filled.
@@ -110,7 +116,10 @@ impl Pool {
         requires { IsUsed chunk.now self.now }
         ensures { result.now ≡ bytes_in chunk.now self.now.used }
     {
-        &self.slots[chunk.number as usize].bytes
+        let number = chunk.number as usize;
+        let start = number * CHUNK_LEN;
+        let filled = self.slots[number].filled as usize;
+        &self.block[start..start + filled]
     }
 
     /// Puts bytes behind those of a chunk. This alone is no use of it.
@@ -120,8 +129,12 @@ impl Pool {
         ensures filled { self.new ≡ record self.old { used = filled chunk.now bytes.now self.old.used } }
         ensures distinct { AreDistinct (numbers self.new.used) }
     {
-        let slot = &mut self.slots[chunk.number as usize];
-        let _ = slot.bytes.extend_from_slice(bytes);
+        let number = chunk.number as usize;
+        let filled = self.slots[number].filled;
+        let start = number * CHUNK_LEN + filled as usize;
+        let free = &mut self.block[start..start + bytes.len()];
+        free.copy_from_slice(bytes);
+        self.slots[number].filled = filled + bytes.len() as u16;
     }
 
     /// Makes a chunk the most recently used.
@@ -130,8 +143,7 @@ impl Pool {
         ensures touched { self.new ≡ record self.old { used = used_last chunk.now self.old.used } }
         ensures distinct { AreDistinct (numbers self.new.used) }
     {
-        leave(&mut self.order, chunk.number);
-        self.order.push_reserved(chunk.number);
+        self.order.touch(chunk.number);
     }
 
     /// Owner and index of the least recently used chunk that is not pinned. `None` exactly where every used
@@ -140,11 +152,13 @@ impl Pool {
         ensures oldest { result ≡ option_map place_of (oldest_in pins.now.items self.now.used) }
         ensures none { IsNone result ↔ (list_all (is_pinned pins.now.items) self.now.used ≡ true) }
     {
-        for number in &self.order {
-            let slot = &self.slots[*number as usize];
+        let mut number = self.order.oldest();
+        for _passed in 0..self.order.used() {
+            let slot = &self.slots[number as usize];
             if !is_pinned_at(pins, slot.owner, slot.index) {
                 return Some((slot.owner, slot.index));
             }
+            number = self.order.after(number);
         }
         None
     }
@@ -156,24 +170,15 @@ fn is_pinned_at(pins: &Pins, owner: u32, index: u32) -> bool
     pins.iter().any(|pin| owner == pin.0 && index == pin.1)
 }
 
-/// Takes a number out of the order.
-fn leave(order: &mut Vec<u32>, number: u32)
-    ensures items { order.new.items ≡ filter (is_not number) order.old.items }
-    ensures capacity { vec_capacity order.new ≡ vec_capacity order.old }
+/// Makes the block at least so long. What was there stays.
+fn reach(block: &mut Vec<u8>, end: usize)
+    requires { end ≤ vec_capacity block.old }
+    ensures long { end ≤ length block.new.items }
+    ensures kept { take (length block.old.items) block.new.items ≡ block.old.items }
+    ensures longer { length block.old.items ≤ length block.new.items }
+    ensures room { vec_capacity block.old ≤ vec_capacity block.new }
 {
-    order.retain(|other| *other != number);
-}
-
-fn first_free(slots: &[Slot]) -> Option<u32>
-    requires { length slots.now ≤ 65536 }
-    ensures some { IfSome result (λ n. n < length slots.now) }
-    ensures free { IfSome result (λ n. (d : Slot) → (get_or slots.now n d).is_used ≡ false) }
-    ensures none { IfNone result (All (λ s. s.is_used ≡ true) slots.now) }
-{
-    for number in 0..slots.len() {
-        if !slots[number].is_used {
-            return Some(number as u32);
-        }
+    if block.len() < end {
+        let _ = block.resize(end, 0);
     }
-    None
 }

@@ -1,7 +1,8 @@
-use Rattle.std.proofs.Common.{arith, ◌≡◌, ◌<◌, ◌≤◌, ◌+◌, ◌-◌, length, ℕ, List, false, refl, sym, ◌∙◌, ap}
+use Rattle.std.proofs.Common.{arith, ◌<◌, ◌+◌, ◌-◌, length, false, ◌∙◌, ap}
 use Rattle.pp_pool.specs.Chunks.{Chunks}
 use Rattle.pp_holes.specs.Places.{shown}
 use Rattle.pp_holes.specs.Adding.{Adding, added, add_runs, runs}
+use Rattle.pp_holes.proofs.SpanLemmas.{grows_on, grows_wider}
 use Rattle.pp_holes.proofs.AddingSteps.{some_left, step_joins, step_ends}
 use Rattle.pp_holes.proofs.join.add_bytes.Goals as goal
 
@@ -46,6 +47,15 @@ loop-rest-preserved c =
       others = c.in-Some.ensures.others ∙ c.loop-rest.invariant.others;
       inside = omega (arith, c.split_at.ensures.front_len, c.split_at.ensures.back_len, c.in-Some.ensures.length, c.loop-rest.invariant.inside);
       small = omega (arith, c.split_at.ensures.front_len, c.split_at.ensures.back_len, c.loop-rest.invariant.small);
+      sum = omega (arith, c.split_at.ensures.front_len, c.split_at.ensures.back_len, c.loop-rest.invariant.sum);
+      grows = grows_on _ _ _ _ _ c.loop-rest.invariant.grows c.in-Some.ensures.grows (omega arith);
       counted = omega (arith, c.loop-rest.invariant.counted, c.in-Some.ensures.bound);
       so_far = ap (λ z. add_runs z c.args.owner (record { chunks = shown c.join.new.pool.used; joined = c.loop-rest.joined + c.in-Some.count; ignored = c.loop-rest.ignored + (length c.split_at.result.0.now - c.in-Some.count); need_chunk = false }) (runs (c.loop-rest.from + length c.split_at.result.0.now) c.split_at.result.1.now)) c.in-Some.ensures.size ∙ step;
     }
+
+pub returns-in_default-clause-grows : goal.returns-in_default-clause-grows
+returns-in_default-clause-grows c =
+    grows_on _ _ _ _ _ c.loop-rest.invariant.grows (grows_wider _ _ _ _ c.in_default.ensures.grows (omega (arith, c.split_at.ensures.front_len, c.split_at.ensures.back_len, c.loop-rest.invariant.sum))) (omega (arith, c.loop-rest.invariant.sum))
+
+pub returns-clause-grows : goal.returns-clause-grows
+returns-clause-grows c = grows_wider _ _ _ _ c.loop-rest.invariant.grows (omega (arith, c.loop-rest.invariant.sum))

@@ -1,22 +1,18 @@
-use Rattle.std.proofs.Common.{refl}
-use Rattle.pp_pool.specs.Chunks.{IsUsed}
+use Rattle.std.proofs.Common.{refl, ap}
 use Rattle.pp_pool.proofs.Numbers.{AreDistinct-filter}
 use Rattle.pp_pool.proofs.Views.{is_in_order, distinct_seen}
-use Rattle.pp_pool.proofs.Sound.{in_range, wide_at, sound-given, chunks-given}
+use Rattle.pp_pool.proofs.Sound.{sound-given, chunks-given}
 use Rattle.pp_pool.proofs.pool.Pool.give.Goals as goal
 
-pub index_mut-slot-requires : goal.index_mut-slot-requires
-index_mut-slot-requires c = in_range c.self.inside c.args.self.now c.chunk.inside.number c.self.invariant c.self.view_is (rw c.chunk.view_is c.requires)
+pub give-requires : goal.give-requires
+give-requires c = is_in_order c.self.inside c.args.self.now c.chunk.inside.number c.self.view_is (rw c.chunk.view_is c.requires)
 
 pub invariant_of-self : goal.invariant_of-self
-invariant_of-self c =
-    let used : IsUsed c.chunk.inside.number c.args.self.now = rw c.chunk.view_is c.requires in
-    sound-given c.self.inside _ c.chunk.inside.number _ c.self.invariant (is_in_order c.self.inside c.args.self.now c.chunk.inside.number c.self.view_is used)
-    refl c.leave.ensures.items c.leave.ensures.capacity refl
-    (wide_at c.self.inside c.chunk.inside.number c.index_mut-slot.result.now c.self.invariant (in_range c.self.inside c.args.self.now c.chunk.inside.number c.self.invariant c.self.view_is used) c.index_mut-slot.ensures.value)
+invariant_of-self c = sound-given c.self.inside _ c.chunk.inside.number c.self.invariant refl refl c.give.ensures
 
 pub returns-clause-given : goal.returns-clause-given
-returns-clause-given c = rw (← c.chunk.view_is) (chunks-given c.self.inside _ _ c.args.self.now c.chunk.inside.number _ c.self.view_is refl c.leave.ensures.items)
+returns-clause-given c = rw (← c.chunk.view_is) (chunks-given c.self.inside _ c.args.self.now c.chunk.inside.number c.self.view_is (ap (λ o. o.used) c.give.ensures))
 
 pub returns-clause-distinct : goal.returns-clause-distinct
-returns-clause-distinct c = distinct_seen _ _ (rw c.leave.ensures.items (AreDistinct-filter _ c.self.inside.order.items c.self.invariant.distinct))
+returns-clause-distinct c =
+    distinct_seen c.self.inside.block.items c.self.inside.slots.items _ (rw c.give.ensures (AreDistinct-filter c.chunk.inside.number c.self.inside.order.used c.self.invariant.distinct))
