@@ -233,3 +233,7 @@ row276 = refl
 row281 : fault_from 0 (start (record { words = (codes "diskRun=1") ∷ text0 ∷ text1 ∷ []; faults = 0 } ∷ [])) (Woke ((text7, text20) ∷ []) ∷ Rooted text2 ∷ Listed true ∷ Began (Write text7 8192 ((0 ∷ []))) ∷ []) ≡ Some (record { at = 3; rule = WrongDiskOperation })
 unfolding judging
 row281 = refl
+
+row288 : fault_from 0 (start (record { words = (codes "diskRun=1") ∷ text0 ∷ text1 ∷ []; faults = 0 } ∷ [])) (Woke ((text7, text14) ∷ []) ∷ Rooted text2 ∷ Listed true ∷ Listens 8123 true ∷ wait true [] [] ∷ Clock 784111787 ∷ wait true [] [] ∷ Opened 1 ∷ wait true (1 ∷ []) [] ∷ CanRead 1 ∷ Heard 1 text3 ∷ Noted (Taken 1 0 Fetch) ∷ []) ≡ None
+unfolding judging
+row288 = refl

@@ -185,86 +185,114 @@ row168 : fault_from 0 (start (record { words = (codes "diskRun=1") ∷ text0 ∷
 unfolding judging
 row168 = refl
 
-row185 : fault_from 0 (start (record { words = (codes "diskRun=1") ∷ text0 ∷ text1 ∷ []; faults = 1 } ∷ [])) (front1 ++ Began (Write text8 8192 ((1 ∷ []))) ∷ Did (Write text8 8192 ((1 ∷ []))) false ∷ Noted (Gone (codes "http://h/a")) ∷ Noted (Taken 1 0 (Hit 0 5)) ∷ wait true (1 ∷ 2 ∷ []) (1 ∷ []) ∷ CanWrite 1 ∷ Said 1 154 text6 ∷ wait true (1 ∷ 2 ∷ []) (1 ∷ []) ∷ CanWrite 1 ∷ Said 1 5 (codes "hello") ∷ wait true (1 ∷ 2 ∷ []) [] ∷ []) ≡ None
+row199 : fault_from 0 (start (record { words = (codes "diskRun=1") ∷ text0 ∷ text1 ∷ []; faults = 1 } ∷ [])) (front0 ++ Began (Draft text7) ∷ Did (Draft text7) false ∷ Noted (Taken 1 0 (Hit 0 5)) ∷ wait true (1 ∷ 2 ∷ []) (1 ∷ []) ∷ CanWrite 1 ∷ Said 1 154 text6 ∷ wait true (1 ∷ 2 ∷ []) (1 ∷ []) ∷ CanWrite 1 ∷ Said 1 5 (codes "hello") ∷ wait true (1 ∷ 2 ∷ []) [] ∷ Clock 784111778 ∷ Began (Draft text7) ∷ Did (Draft text7) true ∷ Began SyncDraft ∷ Did SyncDraft true ∷ Began (Publish text8) ∷ Did (Publish text8) true ∷ Began (Write text8 12288 (codes "hello")) ∷ Did (Write text8 12288 (codes "hello")) true ∷ Began (Sync text8) ∷ Did (Sync text8) true ∷ Began (Write text8 8192 ((1 ∷ []))) ∷ Did (Write text8 8192 ((1 ∷ []))) true ∷ Began (Sync text8) ∷ Did (Sync text8) true ∷ Noted (Kept (codes "http://h/a") (codes "\"x\"") 5 5) ∷ wait true (1 ∷ 2 ∷ []) [] ∷ []) ≡ None
 unfolding judging
-row185 = refl
+row199 = refl
 
-row190 : fault_from 0 (start (record { words = (codes "diskRun=1") ∷ text0 ∷ text1 ∷ []; faults = 1 } ∷ [])) (front1 ++ Began (Write text8 8192 ((1 ∷ []))) ∷ Did (Write text8 8192 ((1 ∷ []))) false ∷ Began (Write text8 8192 ((1 ∷ []))) ∷ []) ≡ Some (record { at = 33; rule = WrongDiskOperation })
-unfolding judging
-row190 = refl
-
-row195 : fault_from 0 (start (record { words = (codes "diskRun=1") ∷ text0 ∷ text1 ∷ []; faults = 1 } ∷ [])) (front1 ++ Began (Write text8 8192 ((1 ∷ []))) ∷ Did (Write text8 8192 ((1 ∷ []))) false ∷ Noted (Kept (codes "http://h/a") (codes "\"x\"") 5 5) ∷ []) ≡ Some (record { at = 33; rule = NotSealed })
-unfolding judging
-row195 = refl
-
-row200 : fault_from 0 (start (record { words = (codes "diskRun=1") ∷ text0 ∷ text1 ∷ []; faults = 1 } ∷ [])) (front1 ++ Began (Write text8 8192 ((1 ∷ []))) ∷ Did (Write text8 8192 ((1 ∷ []))) false ∷ Noted (Taken 1 0 (Hit 0 5)) ∷ []) ≡ Some (record { at = 33; rule = WrongDecision })
-unfolding judging
-row200 = refl
-
-row205 : fault_from 0 (start (record { words = (codes "diskRun=1") ∷ text0 ∷ text1 ∷ []; faults = 1 } ∷ [])) (front1 ++ Began (Write text8 8192 ((1 ∷ []))) ∷ Did (Write text8 8192 ((1 ∷ []))) false ∷ Noted (Gone (codes "http://h/a")) ∷ Began (Remove text8) ∷ []) ≡ Some (record { at = 34; rule = WrongDiskOperation })
+row205 : fault_from 0 (start (record { words = (codes "diskRun=1") ∷ text0 ∷ text1 ∷ []; faults = 1 } ∷ [])) (front0 ++ Began (Draft text7) ∷ Did (Draft text7) false ∷ Began (Draft text7) ∷ []) ≡ Some (record { at = 23; rule = WrongDiskOperation })
 unfolding judging
 row205 = refl
 
-row211 : fault_from 0 (start (record { words = (codes "diskRun=1") ∷ text0 ∷ text1 ∷ []; faults = 1 } ∷ [])) (front1 ++ Began (Write text8 8192 ((1 ∷ []))) ∷ Did (Write text8 8192 ((1 ∷ []))) false ∷ Noted (Gone (codes "http://h/a")) ∷ Noted (Taken 1 0 (Hit 0 5)) ∷ wait true (1 ∷ 2 ∷ []) (1 ∷ []) ∷ CanWrite 1 ∷ Said 1 154 text6 ∷ wait true (1 ∷ 2 ∷ []) (1 ∷ []) ∷ CanWrite 1 ∷ Said 1 5 (codes "hello") ∷ wait true (1 ∷ 2 ∷ []) [] ∷ CanRead 1 ∷ Heard 1 text11 ∷ Noted (Taken 1 1 Fetch) ∷ Undialled (codes "i") 80 ∷ []) ≡ Some (record { at = 45; rule = FailureMadeUp })
+row210 : fault_from 0 (start (record { words = (codes "diskRun=1") ∷ text0 ∷ text1 ∷ []; faults = 1 } ∷ [])) (front0 ++ Began (Draft text7) ∷ Did (Draft text7) false ∷ Noted (Taken 1 0 (Hit 0 5)) ∷ wait true (1 ∷ 2 ∷ []) (1 ∷ []) ∷ CanWrite 1 ∷ Said 1 154 text6 ∷ wait true (1 ∷ 2 ∷ []) (1 ∷ []) ∷ CanWrite 1 ∷ Said 1 5 (codes "hello") ∷ wait true (1 ∷ 2 ∷ []) [] ∷ CanRead 1 ∷ NoneYet 1 ∷ Began (Draft text7) ∷ []) ≡ Some (record { at = 33; rule = WrongDiskOperation })
 unfolding judging
-row211 = refl
+row210 = refl
 
-row224 : fault_from 0 (start (record { words = (codes "diskRun=1") ∷ text0 ∷ text1 ∷ []; faults = 0 } ∷ [])) (front1 ++ Began (Write text8 8192 ((1 ∷ []))) ∷ Did (Write text8 8192 ((1 ∷ []))) false ∷ []) ≡ Some (record { at = 32; rule = FailureMadeUp })
+row217 : fault_from 0 (start (record { words = (codes "diskRun=1") ∷ text0 ∷ text1 ∷ []; faults = 1 } ∷ [])) (front0 ++ Began (Draft text7) ∷ Did (Draft text7) true ∷ Began SyncDraft ∷ Did SyncDraft false ∷ Noted (Taken 1 0 (Hit 0 5)) ∷ wait true (1 ∷ 2 ∷ []) (1 ∷ []) ∷ CanWrite 1 ∷ Said 1 154 text6 ∷ wait true (1 ∷ 2 ∷ []) (1 ∷ []) ∷ CanWrite 1 ∷ Said 1 5 (codes "hello") ∷ wait true (1 ∷ 2 ∷ []) [] ∷ Clock 784111778 ∷ Began (Draft text7) ∷ Did (Draft text7) true ∷ Began SyncDraft ∷ Did SyncDraft true ∷ Began (Publish text8) ∷ Did (Publish text8) true ∷ Began (Write text8 12288 (codes "hello")) ∷ Did (Write text8 12288 (codes "hello")) true ∷ Began (Sync text8) ∷ Did (Sync text8) true ∷ Began (Write text8 8192 ((1 ∷ []))) ∷ Did (Write text8 8192 ((1 ∷ []))) true ∷ Began (Sync text8) ∷ Did (Sync text8) true ∷ Noted (Kept (codes "http://h/a") (codes "\"x\"") 5 5) ∷ wait true (1 ∷ 2 ∷ []) [] ∷ []) ≡ None
 unfolding judging
-row224 = refl
+row217 = refl
 
-row238 : fault_from 0 (start (record { words = (codes "diskRun=1") ∷ text0 ∷ text1 ∷ []; faults = 0 } ∷ [])) (front2 ++ Got 4 text13 ∷ Noted (Gone (codes "http://h/a")) ∷ Began (Remove text8) ∷ Did (Remove text8) true ∷ Noted (Taken 3 0 (Hit 0 6)) ∷ wait true (1 ∷ 3 ∷ 4 ∷ []) (3 ∷ []) ∷ CanWrite 3 ∷ Said 3 154 text14 ∷ wait true (1 ∷ 3 ∷ 4 ∷ []) (3 ∷ []) ∷ CanWrite 3 ∷ Said 3 6 (codes "hello!") ∷ wait true (1 ∷ 3 ∷ 4 ∷ []) [] ∷ []) ≡ None
+row223 : fault_from 0 (start (record { words = (codes "diskRun=1") ∷ text0 ∷ text1 ∷ []; faults = 1 } ∷ [])) (front0 ++ Began (Draft text7) ∷ Did (Draft text7) true ∷ Began SyncDraft ∷ Did SyncDraft false ∷ Began SyncDraft ∷ []) ≡ Some (record { at = 25; rule = WrongDiskOperation })
 unfolding judging
-row238 = refl
+row223 = refl
 
-row252 : fault_from 0 (start (record { words = (codes "diskRun=1") ∷ text0 ∷ text1 ∷ []; faults = 0 } ∷ [])) (front2 ++ Got 4 text13 ∷ Began (Remove text8) ∷ []) ≡ Some (record { at = 61; rule = WrongDiskOperation })
+row228 : fault_from 0 (start (record { words = (codes "diskRun=1") ∷ text0 ∷ text1 ∷ []; faults = 1 } ∷ [])) (front0 ++ Began (Draft text7) ∷ Did (Draft text7) true ∷ Began SyncDraft ∷ Did SyncDraft false ∷ Began (Publish text8) ∷ []) ≡ Some (record { at = 25; rule = WrongDiskOperation })
 unfolding judging
-row252 = refl
+row228 = refl
 
-row257 : fault_from 0 (start (record { words = (codes "diskRun=1") ∷ text0 ∷ text1 ∷ []; faults = 0 } ∷ [])) (front2 ++ Got 4 text13 ∷ Noted (Gone (codes "http://h/a")) ∷ Noted (Taken 3 0 (Hit 0 6)) ∷ []) ≡ Some (record { at = 62; rule = WrongDecision })
+row233 : fault_from 0 (start (record { words = (codes "diskRun=1") ∷ text0 ∷ text1 ∷ []; faults = 1 } ∷ [])) (front0 ++ Began (Draft text7) ∷ Did (Draft text7) true ∷ Began SyncDraft ∷ Did SyncDraft true ∷ Began (Publish text8) ∷ Did (Publish text8) false ∷ Noted (Taken 1 0 (Hit 0 5)) ∷ wait true (1 ∷ 2 ∷ []) (1 ∷ []) ∷ CanWrite 1 ∷ Said 1 154 text6 ∷ wait true (1 ∷ 2 ∷ []) (1 ∷ []) ∷ CanWrite 1 ∷ Said 1 5 (codes "hello") ∷ wait true (1 ∷ 2 ∷ []) [] ∷ Clock 784111778 ∷ Began (Draft text7) ∷ []) ≡ Some (record { at = 36; rule = WrongDiskOperation })
 unfolding judging
-row257 = refl
+row233 = refl
 
-row263 : fault_from 0 (start (record { words = (codes "diskRun=1") ∷ text0 ∷ text1 ∷ []; faults = 0 } ∷ [])) (front2 ++ Got 4 text13 ∷ Noted (Taken 3 0 (Hit 0 6)) ∷ []) ≡ Some (record { at = 61; rule = WrongDecision })
+row249 : fault_from 0 (start (record { words = (codes "diskRun=1") ∷ text0 ∷ text1 ∷ []; faults = 1 } ∷ [])) (front1 ++ Began (Write text8 8192 ((1 ∷ []))) ∷ Did (Write text8 8192 ((1 ∷ []))) false ∷ Noted (Gone (codes "http://h/a")) ∷ Noted (Taken 1 0 (Hit 0 5)) ∷ wait true (1 ∷ 2 ∷ []) (1 ∷ []) ∷ CanWrite 1 ∷ Said 1 154 text6 ∷ wait true (1 ∷ 2 ∷ []) (1 ∷ []) ∷ CanWrite 1 ∷ Said 1 5 (codes "hello") ∷ wait true (1 ∷ 2 ∷ []) [] ∷ []) ≡ None
 unfolding judging
-row263 = refl
+row249 = refl
 
-row268 : fault_from 0 (start (record { words = (codes "diskRun=1") ∷ text0 ∷ text1 ∷ []; faults = 0 } ∷ [])) (front2 ++ Got 4 text13 ∷ Noted (Gone (codes "http://h/a")) ∷ Began (Remove text8) ∷ Did (Remove text8) true ∷ Noted (Gone (codes "http://h/a")) ∷ []) ≡ Some (record { at = 64; rule = NotGone })
+row254 : fault_from 0 (start (record { words = (codes "diskRun=1") ∷ text0 ∷ text1 ∷ []; faults = 1 } ∷ [])) (front1 ++ Began (Write text8 8192 ((1 ∷ []))) ∷ Did (Write text8 8192 ((1 ∷ []))) false ∷ Began (Write text8 8192 ((1 ∷ []))) ∷ []) ≡ Some (record { at = 33; rule = WrongDiskOperation })
 unfolding judging
-row268 = refl
+row254 = refl
 
-row276 : fault_from 0 (start (record { words = (codes "diskRun=1") ∷ text0 ∷ text1 ∷ []; faults = 0 } ∷ [])) (front2 ++ Got 4 text13 ∷ Noted (Gone (codes "http://h/a")) ∷ Began (Remove text8) ∷ Did (Remove text8) true ∷ Noted (Taken 3 0 (Hit 0 5)) ∷ []) ≡ Some (record { at = 64; rule = WrongDecision })
+row259 : fault_from 0 (start (record { words = (codes "diskRun=1") ∷ text0 ∷ text1 ∷ []; faults = 1 } ∷ [])) (front1 ++ Began (Write text8 8192 ((1 ∷ []))) ∷ Did (Write text8 8192 ((1 ∷ []))) false ∷ Noted (Kept (codes "http://h/a") (codes "\"x\"") 5 5) ∷ []) ≡ Some (record { at = 33; rule = NotSealed })
 unfolding judging
-row276 = refl
+row259 = refl
 
-row284 : fault_from 0 (start (record { words = (codes "diskRun=1") ∷ text0 ∷ text1 ∷ []; faults = 0 } ∷ [])) (front2 ++ Got 4 text13 ∷ Noted (Gone (codes "http://h/a")) ∷ Began (Remove text8) ∷ Did (Remove text8) true ∷ Noted (Taken 3 0 (Hit 0 6)) ∷ wait true (1 ∷ 3 ∷ 4 ∷ []) (3 ∷ []) ∷ CanWrite 3 ∷ Said 3 154 text6 ∷ []) ≡ Some (record { at = 67; rule = WrongReply })
+row264 : fault_from 0 (start (record { words = (codes "diskRun=1") ∷ text0 ∷ text1 ∷ []; faults = 1 } ∷ [])) (front1 ++ Began (Write text8 8192 ((1 ∷ []))) ∷ Did (Write text8 8192 ((1 ∷ []))) false ∷ Noted (Taken 1 0 (Hit 0 5)) ∷ []) ≡ Some (record { at = 33; rule = WrongDecision })
 unfolding judging
-row284 = refl
+row264 = refl
 
-row295 : fault_from 0 (start (record { words = (codes "diskRun=1") ∷ text0 ∷ text1 ∷ []; faults = 0 } ∷ [])) (front2 ++ Got 4 text13 ∷ Noted (Gone (codes "http://h/a")) ∷ Began (Remove text8) ∷ Did (Remove text8) true ∷ Began (Draft text7) ∷ []) ≡ Some (record { at = 64; rule = WrongDiskOperation })
+row269 : fault_from 0 (start (record { words = (codes "diskRun=1") ∷ text0 ∷ text1 ∷ []; faults = 1 } ∷ [])) (front1 ++ Began (Write text8 8192 ((1 ∷ []))) ∷ Did (Write text8 8192 ((1 ∷ []))) false ∷ Noted (Gone (codes "http://h/a")) ∷ Began (Remove text8) ∷ []) ≡ Some (record { at = 34; rule = WrongDiskOperation })
 unfolding judging
-row295 = refl
+row269 = refl
 
-row307 : fault_from 0 (start (record { words = (codes "diskRun=1") ∷ text0 ∷ text1 ∷ []; faults = 0 } ∷ [])) (front3 ++ Clock 784111778 ∷ Noted (Gone (codes "http://h/a")) ∷ []) ≡ Some (record { at = 45; rule = NotGone })
+row275 : fault_from 0 (start (record { words = (codes "diskRun=1") ∷ text0 ∷ text1 ∷ []; faults = 1 } ∷ [])) (front1 ++ Began (Write text8 8192 ((1 ∷ []))) ∷ Did (Write text8 8192 ((1 ∷ []))) false ∷ Noted (Gone (codes "http://h/a")) ∷ Noted (Taken 1 0 (Hit 0 5)) ∷ wait true (1 ∷ 2 ∷ []) (1 ∷ []) ∷ CanWrite 1 ∷ Said 1 154 text6 ∷ wait true (1 ∷ 2 ∷ []) (1 ∷ []) ∷ CanWrite 1 ∷ Said 1 5 (codes "hello") ∷ wait true (1 ∷ 2 ∷ []) [] ∷ CanRead 1 ∷ Heard 1 text11 ∷ Noted (Taken 1 1 Fetch) ∷ Undialled (codes "i") 80 ∷ []) ≡ Some (record { at = 45; rule = FailureMadeUp })
 unfolding judging
-row307 = refl
+row275 = refl
 
-row312 : fault_from 0 (start (record { words = (codes "diskRun=1") ∷ text0 ∷ text1 ∷ []; faults = 0 } ∷ [])) (front3 ++ Clock 784111778 ∷ Noted (Gone (codes "http://h/b")) ∷ []) ≡ Some (record { at = 45; rule = NotGone })
+row288 : fault_from 0 (start (record { words = (codes "diskRun=1") ∷ text0 ∷ text1 ∷ []; faults = 0 } ∷ [])) (front1 ++ Began (Write text8 8192 ((1 ∷ []))) ∷ Did (Write text8 8192 ((1 ∷ []))) false ∷ []) ≡ Some (record { at = 32; rule = FailureMadeUp })
 unfolding judging
-row312 = refl
+row288 = refl
 
-row317 : fault_from 0 (start (record { words = (codes "diskRun=1") ∷ text0 ∷ text1 ∷ []; faults = 0 } ∷ [])) (front3 ++ Clock 784111778 ∷ Noted (Loaded (codes "http://h/a") (codes "\"x\"") 5 0) ∷ []) ≡ Some (record { at = 45; rule = NotToBeLoaded })
+row302 : fault_from 0 (start (record { words = (codes "diskRun=1") ∷ text0 ∷ text1 ∷ []; faults = 0 } ∷ [])) (front2 ++ Got 4 text13 ∷ Noted (Gone (codes "http://h/a")) ∷ Began (Remove text8) ∷ Did (Remove text8) true ∷ Noted (Taken 3 0 (Hit 0 6)) ∷ wait true (1 ∷ 3 ∷ 4 ∷ []) (3 ∷ []) ∷ CanWrite 3 ∷ Said 3 154 text14 ∷ wait true (1 ∷ 3 ∷ 4 ∷ []) (3 ∷ []) ∷ CanWrite 3 ∷ Said 3 6 (codes "hello!") ∷ wait true (1 ∷ 3 ∷ 4 ∷ []) [] ∷ []) ≡ None
 unfolding judging
-row317 = refl
+row302 = refl
 
-row322 : fault_from 0 (start (record { words = (codes "diskRun=1") ∷ text0 ∷ text1 ∷ []; faults = 0 } ∷ [])) (front3 ++ Clock 784111778 ∷ Noted (Evicted (codes "http://h/a") (codes "\"x\"") 5 0) ∷ []) ≡ Some (record { at = 45; rule = NotToBeEvicted })
+row316 : fault_from 0 (start (record { words = (codes "diskRun=1") ∷ text0 ∷ text1 ∷ []; faults = 0 } ∷ [])) (front2 ++ Got 4 text13 ∷ Began (Remove text8) ∷ []) ≡ Some (record { at = 61; rule = WrongDiskOperation })
 unfolding judging
-row322 = refl
+row316 = refl
 
-row327 : fault_from 0 (start (record { words = (codes "diskRun=1") ∷ text0 ∷ text1 ∷ []; faults = 0 } ∷ [])) (front3 ++ Clock 784111778 ∷ Noted (Forgotten (codes "http://h/a")) ∷ []) ≡ Some (record { at = 45; rule = NotToBeForgotten })
+row321 : fault_from 0 (start (record { words = (codes "diskRun=1") ∷ text0 ∷ text1 ∷ []; faults = 0 } ∷ [])) (front2 ++ Got 4 text13 ∷ Noted (Gone (codes "http://h/a")) ∷ Noted (Taken 3 0 (Hit 0 6)) ∷ []) ≡ Some (record { at = 62; rule = WrongDecision })
+unfolding judging
+row321 = refl
+
+row327 : fault_from 0 (start (record { words = (codes "diskRun=1") ∷ text0 ∷ text1 ∷ []; faults = 0 } ∷ [])) (front2 ++ Got 4 text13 ∷ Noted (Taken 3 0 (Hit 0 6)) ∷ []) ≡ Some (record { at = 61; rule = WrongDecision })
 unfolding judging
 row327 = refl
 
-row332 : fault_from 0 (start (record { words = (codes "diskRun=1") ∷ text0 ∷ text1 ∷ []; faults = 0 } ∷ [])) (front3 ++ CanRead 1 ∷ Heard 1 text3 ∷ Noted (Forgotten (codes "http://h/a")) ∷ []) ≡ Some (record { at = 46; rule = NotToBeForgotten })
+row332 : fault_from 0 (start (record { words = (codes "diskRun=1") ∷ text0 ∷ text1 ∷ []; faults = 0 } ∷ [])) (front2 ++ Got 4 text13 ∷ Noted (Gone (codes "http://h/a")) ∷ Began (Remove text8) ∷ Did (Remove text8) true ∷ Noted (Gone (codes "http://h/a")) ∷ []) ≡ Some (record { at = 64; rule = NotGone })
 unfolding judging
 row332 = refl
+
+row340 : fault_from 0 (start (record { words = (codes "diskRun=1") ∷ text0 ∷ text1 ∷ []; faults = 0 } ∷ [])) (front2 ++ Got 4 text13 ∷ Noted (Gone (codes "http://h/a")) ∷ Began (Remove text8) ∷ Did (Remove text8) true ∷ Noted (Taken 3 0 (Hit 0 5)) ∷ []) ≡ Some (record { at = 64; rule = WrongDecision })
+unfolding judging
+row340 = refl
+
+row348 : fault_from 0 (start (record { words = (codes "diskRun=1") ∷ text0 ∷ text1 ∷ []; faults = 0 } ∷ [])) (front2 ++ Got 4 text13 ∷ Noted (Gone (codes "http://h/a")) ∷ Began (Remove text8) ∷ Did (Remove text8) true ∷ Noted (Taken 3 0 (Hit 0 6)) ∷ wait true (1 ∷ 3 ∷ 4 ∷ []) (3 ∷ []) ∷ CanWrite 3 ∷ Said 3 154 text6 ∷ []) ≡ Some (record { at = 67; rule = WrongReply })
+unfolding judging
+row348 = refl
+
+row359 : fault_from 0 (start (record { words = (codes "diskRun=1") ∷ text0 ∷ text1 ∷ []; faults = 0 } ∷ [])) (front2 ++ Got 4 text13 ∷ Noted (Gone (codes "http://h/a")) ∷ Began (Remove text8) ∷ Did (Remove text8) true ∷ Began (Draft text7) ∷ []) ≡ Some (record { at = 64; rule = WrongDiskOperation })
+unfolding judging
+row359 = refl
+
+row371 : fault_from 0 (start (record { words = (codes "diskRun=1") ∷ text0 ∷ text1 ∷ []; faults = 0 } ∷ [])) (front3 ++ Clock 784111778 ∷ Noted (Gone (codes "http://h/a")) ∷ []) ≡ Some (record { at = 45; rule = NotGone })
+unfolding judging
+row371 = refl
+
+row376 : fault_from 0 (start (record { words = (codes "diskRun=1") ∷ text0 ∷ text1 ∷ []; faults = 0 } ∷ [])) (front3 ++ Clock 784111778 ∷ Noted (Gone (codes "http://h/b")) ∷ []) ≡ Some (record { at = 45; rule = NotGone })
+unfolding judging
+row376 = refl
+
+row381 : fault_from 0 (start (record { words = (codes "diskRun=1") ∷ text0 ∷ text1 ∷ []; faults = 0 } ∷ [])) (front3 ++ Clock 784111778 ∷ Noted (Loaded (codes "http://h/a") (codes "\"x\"") 5 0) ∷ []) ≡ Some (record { at = 45; rule = NotToBeLoaded })
+unfolding judging
+row381 = refl
+
+row386 : fault_from 0 (start (record { words = (codes "diskRun=1") ∷ text0 ∷ text1 ∷ []; faults = 0 } ∷ [])) (front3 ++ Clock 784111778 ∷ Noted (Evicted (codes "http://h/a") (codes "\"x\"") 5 0) ∷ []) ≡ Some (record { at = 45; rule = NotToBeEvicted })
+unfolding judging
+row386 = refl
+
+row391 : fault_from 0 (start (record { words = (codes "diskRun=1") ∷ text0 ∷ text1 ∷ []; faults = 0 } ∷ [])) (front3 ++ Clock 784111778 ∷ Noted (Forgotten (codes "http://h/a")) ∷ []) ≡ Some (record { at = 45; rule = NotToBeForgotten })
+unfolding judging
+row391 = refl
+
+row396 : fault_from 0 (start (record { words = (codes "diskRun=1") ∷ text0 ∷ text1 ∷ []; faults = 0 } ∷ [])) (front3 ++ CanRead 1 ∷ Heard 1 text3 ∷ Noted (Forgotten (codes "http://h/a")) ∷ []) ≡ Some (record { at = 46; rule = NotToBeForgotten })
+unfolding judging
+row396 = refl

@@ -44,57 +44,74 @@ abbrev text8 : Bytes
 text8 = (replicate 4096 97)
 
 abbrev front0 : Log
-front0 = Woke [] ∷ Rooted text2 ∷ Listed true ∷ Listens 8123 true ∷ wait true [] [] ∷ Clock 784111777 ∷ wait true [] [] ∷ Opened 1 ∷ wait true (1 ∷ []) [] ∷ CanRead 1 ∷ Heard 1 text3 ∷ Noted (Taken 1 0 Fetch) ∷ Dialled 2 (codes "h") 80 ∷ wait true (1 ∷ []) [] ∷ Reached 2 ∷ wait true (1 ∷ 2 ∷ []) (2 ∷ []) ∷ CanWrite 2 ∷ Asked 2 text4 ∷ wait true (1 ∷ 2 ∷ []) [] ∷ CanRead 2 ∷ Got 2 text5 ∷ Began (Draft text6) ∷ Did (Draft text6) true ∷ Began SyncDraft ∷ Did SyncDraft true ∷ Began (Publish text7) ∷ Did (Publish text7) true ∷ Began (Write text7 12288 text8) ∷ Did (Write text7 12288 text8) true ∷ Began (Sync text7) ∷ Did (Sync text7) true ∷ Began (Write text7 8192 ((1 ∷ []))) ∷ Did (Write text7 8192 ((1 ∷ []))) true ∷ Began (Sync text7) ∷ Did (Sync text7) true ∷ Noted (Kept (codes "http://h/a") (codes "\"x\"") 4100 4096) ∷ Began (Write text7 16384 (codes "aaaa")) ∷ Did (Write text7 16384 (codes "aaaa")) true ∷ Began (Sync text7) ∷ Did (Sync text7) true ∷ Began (Write text7 8193 ((1 ∷ []))) ∷ []
+front0 = Woke [] ∷ Rooted text2 ∷ Listed true ∷ Listens 8123 true ∷ wait true [] [] ∷ Clock 784111777 ∷ wait true [] [] ∷ Opened 1 ∷ wait true (1 ∷ []) [] ∷ CanRead 1 ∷ Heard 1 text3 ∷ Noted (Taken 1 0 Fetch) ∷ Dialled 2 (codes "h") 80 ∷ wait true (1 ∷ []) [] ∷ Reached 2 ∷ wait true (1 ∷ 2 ∷ []) (2 ∷ []) ∷ CanWrite 2 ∷ Asked 2 text4 ∷ wait true (1 ∷ 2 ∷ []) [] ∷ CanRead 2 ∷ Got 2 text5 ∷ Began (Draft text6) ∷ Did (Draft text6) true ∷ Began SyncDraft ∷ Did SyncDraft true ∷ Began (Publish text7) ∷ Did (Publish text7) true ∷ Began (Write text7 12288 text8) ∷ Did (Write text7 12288 text8) true ∷ Began (Sync text7) ∷ Did (Sync text7) true ∷ Began (Write text7 8192 ((1 ∷ []))) ∷ Did (Write text7 8192 ((1 ∷ []))) true ∷ Began (Sync text7) ∷ Did (Sync text7) true ∷ Noted (Kept (codes "http://h/a") (codes "\"x\"") 4100 4096) ∷ Began (Write text7 16384 (codes "aaaa")) ∷ []
 
 abbrev text9 : Bytes
-text9 = (codes "HTTP/1.1 200 OK\r\netag: \"x\"\r\ndate: Sun, 06 Nov 1994 08:49:37 GMT\r\ncache-control: max-age=60\r\nX-Polipo-Location: http://h/a\r\nX-Polipo-Date: 784111777\r\nX-Polipo-Age: 0\r\nX-Polipo-Length: 4100\r\nX-Polipo-Body-Offset: 12288\r\n\r\n" ++ replicate 7972 0 ++ (1 ∷ 7 ∷ []) ++ replicate 4094 0 ++ replicate 4100 97)
+text9 = (codes "HTTP/1.1 200 OK\r\netag: \"x\"\r\ndate: Sun, 06 Nov 1994 08:49:37 GMT\r\ncache-control: max-age=60\r\nX-Polipo-Location: http://h/a\r\nX-Polipo-Date: 784111777\r\nX-Polipo-Age: 0\r\nX-Polipo-Length: 4100\r\nX-Polipo-Body-Offset: 12288\r\n\r\n" ++ replicate 7972 0 ++ (1 ∷ []) ++ replicate 4095 0 ++ replicate 4097 97 ++ codes "b")
 
 abbrev text10 : Bytes
-text10 = (codes "HTTP/1.1 200 OK\r\netag: \"x\"\r\ndate: Sun, 06 Nov 1994 08:49:37 GMT\r\ncache-control: max-age=60\r\nX-Polipo-Location: http://h/a\r\nX-Polipo-Date: 784111777\r\nX-Polipo-Age: 0\r\nX-Polipo-Length: 4100\r\nX-Polipo-Body-Offset: 12288\r\n\r\n" ++ replicate 7972 0 ++ (1 ∷ 1 ∷ []) ++ replicate 4094 0 ++ replicate 4100 97)
+text10 = (codes "HTTP/1.1 200 OK\r\netag: \"x\"\r\ndate: Sun, 06 Nov 1994 08:49:37 GMT\r\ncache-control: max-age=60\r\nX-Polipo-Location: http://h/a\r\nX-Polipo-Date: 784111777\r\nX-Polipo-Age: 0\r\nX-Polipo-Length: 4100\r\nX-Polipo-Body-Offset: 12288\r\n\r\n" ++ replicate 7972 0 ++ (1 ∷ []) ++ replicate 4095 0 ++ replicate 4100 97)
+
+abbrev front1 : Log
+front1 = Woke [] ∷ Rooted text2 ∷ Listed true ∷ Listens 8123 true ∷ wait true [] [] ∷ Clock 784111777 ∷ wait true [] [] ∷ Opened 1 ∷ wait true (1 ∷ []) [] ∷ CanRead 1 ∷ Heard 1 text3 ∷ Noted (Taken 1 0 Fetch) ∷ Dialled 2 (codes "h") 80 ∷ wait true (1 ∷ []) [] ∷ Reached 2 ∷ wait true (1 ∷ 2 ∷ []) (2 ∷ []) ∷ CanWrite 2 ∷ Asked 2 text4 ∷ wait true (1 ∷ 2 ∷ []) [] ∷ CanRead 2 ∷ Got 2 text5 ∷ Began (Draft text6) ∷ Did (Draft text6) true ∷ Began SyncDraft ∷ Did SyncDraft true ∷ Began (Publish text7) ∷ Did (Publish text7) true ∷ Began (Write text7 12288 text8) ∷ Did (Write text7 12288 text8) true ∷ Began (Sync text7) ∷ Did (Sync text7) true ∷ Began (Write text7 8192 ((1 ∷ []))) ∷ Did (Write text7 8192 ((1 ∷ []))) true ∷ Began (Sync text7) ∷ Did (Sync text7) true ∷ Noted (Kept (codes "http://h/a") (codes "\"x\"") 4100 4096) ∷ Began (Write text7 16384 (codes "aaaa")) ∷ Did (Write text7 16384 (codes "aaaa")) true ∷ Began (Sync text7) ∷ Did (Sync text7) true ∷ Began (Write text7 8193 ((1 ∷ []))) ∷ []
 
 abbrev text11 : Bytes
-text11 = (codes "HTTP/1.1 200 OK\r\netag: \"x\"\r\ndate: Sun, 06 Nov 1994 08:49:37 GMT\r\ncache-control: max-age=60\r\nX-Polipo-Location: http://h/a\r\nX-Polipo-Date: 784111777\r\nX-Polipo-Age: 0\r\nX-Polipo-Length: 4100\r\nX-Polipo-Body-Offset: 12288\r\n\r\n" ++ replicate 7973 0 ++ (1 ∷ []) ++ replicate 4094 0 ++ replicate 4100 97)
+text11 = (codes "HTTP/1.1 200 OK\r\netag: \"x\"\r\ndate: Sun, 06 Nov 1994 08:49:37 GMT\r\ncache-control: max-age=60\r\nX-Polipo-Location: http://h/a\r\nX-Polipo-Date: 784111777\r\nX-Polipo-Age: 0\r\nX-Polipo-Length: 4100\r\nX-Polipo-Body-Offset: 12288\r\n\r\n" ++ replicate 7972 0 ++ (1 ∷ 7 ∷ []) ++ replicate 4094 0 ++ replicate 4100 97)
 
-row42 : fault_from 0 (start (record { words = (codes "diskRun=1") ∷ text0 ∷ text1 ∷ []; faults = 0 } ∷ record { words = (codes "diskRun=1") ∷ text0 ∷ text1 ∷ []; faults = 0 } ∷ [])) (front0 ++ Woke ((text7, text9) ∷ []) ∷ Rooted text2 ∷ Listed true ∷ Listens 8123 true ∷ wait true [] [] ∷ []) ≡ None
+abbrev text12 : Bytes
+text12 = (codes "HTTP/1.1 200 OK\r\netag: \"x\"\r\ndate: Sun, 06 Nov 1994 08:49:37 GMT\r\ncache-control: max-age=60\r\nX-Polipo-Location: http://h/a\r\nX-Polipo-Date: 784111777\r\nX-Polipo-Age: 0\r\nX-Polipo-Length: 4100\r\nX-Polipo-Body-Offset: 12288\r\n\r\n" ++ replicate 7972 0 ++ (1 ∷ 1 ∷ []) ++ replicate 4094 0 ++ replicate 4100 97)
+
+abbrev text13 : Bytes
+text13 = (codes "HTTP/1.1 200 OK\r\netag: \"x\"\r\ndate: Sun, 06 Nov 1994 08:49:37 GMT\r\ncache-control: max-age=60\r\nX-Polipo-Location: http://h/a\r\nX-Polipo-Date: 784111777\r\nX-Polipo-Age: 0\r\nX-Polipo-Length: 4100\r\nX-Polipo-Body-Offset: 12288\r\n\r\n" ++ replicate 7973 0 ++ (1 ∷ []) ++ replicate 4094 0 ++ replicate 4100 97)
+
+row45 : fault_from 0 (start (record { words = (codes "diskRun=1") ∷ text0 ∷ text1 ∷ []; faults = 0 } ∷ record { words = (codes "diskRun=1") ∷ text0 ∷ text1 ∷ []; faults = 0 } ∷ [])) (front0 ++ Woke ((text7, text9) ∷ []) ∷ Rooted text2 ∷ Listed true ∷ Listens 8123 true ∷ wait true [] [] ∷ Clock 784111787 ∷ wait true [] [] ∷ Opened 3 ∷ wait true (3 ∷ []) [] ∷ CanRead 3 ∷ Heard 3 text3 ∷ Noted (Taken 3 0 (Part 0 4100)) ∷ []) ≡ None
 unfolding judging
-row42 = refl
+row45 = refl
 
-row46 : fault_from 0 (start (record { words = (codes "diskRun=1") ∷ text0 ∷ text1 ∷ []; faults = 0 } ∷ record { words = (codes "diskRun=1") ∷ text0 ∷ text1 ∷ []; faults = 0 } ∷ [])) (front0 ++ Woke ((text7, text9) ∷ []) ∷ Rooted text2 ∷ Listed true ∷ Listens 8123 true ∷ wait true [] [] ∷ Clock 784111787 ∷ wait true [] [] ∷ Opened 3 ∷ wait true (3 ∷ []) [] ∷ CanRead 3 ∷ Heard 3 text3 ∷ Noted (Taken 3 0 (Part 0 4100)) ∷ []) ≡ None
-unfolding judging
-row46 = refl
-
-row50 : fault_from 0 (start (record { words = (codes "diskRun=1") ∷ text0 ∷ text1 ∷ []; faults = 0 } ∷ record { words = (codes "diskRun=1") ∷ text0 ∷ text1 ∷ []; faults = 0 } ∷ [])) (front0 ++ Woke ((text7, text9) ∷ []) ∷ Rooted text2 ∷ Listed true ∷ Listens 8123 true ∷ wait true [] [] ∷ Clock 784111787 ∷ wait true [] [] ∷ Opened 3 ∷ wait true (3 ∷ []) [] ∷ CanRead 3 ∷ Heard 3 text3 ∷ Noted (Taken 3 0 (Part 0 4100)) ∷ Dialled 4 (codes "h") 80 ∷ []) ≡ Some (record { at = 53; rule = NotToBeDialled })
+row50 : fault_from 0 (start (record { words = (codes "diskRun=1") ∷ text0 ∷ text1 ∷ []; faults = 0 } ∷ record { words = (codes "diskRun=1") ∷ text0 ∷ text1 ∷ []; faults = 0 } ∷ [])) (front0 ++ Woke ((text7, text10) ∷ []) ∷ Rooted text2 ∷ Listed true ∷ Listens 8123 true ∷ wait true [] [] ∷ Clock 784111787 ∷ wait true [] [] ∷ Opened 3 ∷ wait true (3 ∷ []) [] ∷ CanRead 3 ∷ Heard 3 text3 ∷ Noted (Taken 3 0 (Hit 0 4100)) ∷ []) ≡ Some (record { at = 48; rule = WrongDecision })
 unfolding judging
 row50 = refl
 
-row56 : fault_from 0 (start (record { words = (codes "diskRun=1") ∷ text0 ∷ text1 ∷ []; faults = 0 } ∷ record { words = (codes "diskRun=1") ∷ text0 ∷ text1 ∷ []; faults = 0 } ∷ [])) (front0 ++ Woke ((text7, text9) ∷ []) ∷ Rooted text2 ∷ Listed true ∷ Listens 8123 true ∷ wait true [] [] ∷ Clock 784111787 ∷ wait true [] [] ∷ Opened 3 ∷ wait true (3 ∷ []) [] ∷ CanRead 3 ∷ Heard 3 text3 ∷ Noted (Taken 3 0 (Hit 0 4100)) ∷ []) ≡ Some (record { at = 52; rule = WrongDecision })
+row58 : fault_from 0 (start (record { words = (codes "diskRun=1") ∷ text0 ∷ text1 ∷ []; faults = 0 } ∷ record { words = (codes "diskRun=1") ∷ text0 ∷ text1 ∷ []; faults = 0 } ∷ [])) (front1 ++ Woke ((text7, text11) ∷ []) ∷ Rooted text2 ∷ Listed true ∷ Listens 8123 true ∷ wait true [] [] ∷ []) ≡ None
 unfolding judging
-row56 = refl
+row58 = refl
 
-row61 : fault_from 0 (start (record { words = (codes "diskRun=1") ∷ text0 ∷ text1 ∷ []; faults = 0 } ∷ record { words = (codes "diskRun=1") ∷ text0 ∷ text1 ∷ []; faults = 0 } ∷ [])) (front0 ++ Woke ((text7, text10) ∷ []) ∷ Rooted text2 ∷ Listed true ∷ Listens 8123 true ∷ wait true [] [] ∷ Clock 784111787 ∷ wait true [] [] ∷ Opened 3 ∷ wait true (3 ∷ []) [] ∷ CanRead 3 ∷ Heard 3 text3 ∷ Noted (Taken 3 0 (Hit 0 4100)) ∷ []) ≡ None
+row62 : fault_from 0 (start (record { words = (codes "diskRun=1") ∷ text0 ∷ text1 ∷ []; faults = 0 } ∷ record { words = (codes "diskRun=1") ∷ text0 ∷ text1 ∷ []; faults = 0 } ∷ [])) (front1 ++ Woke ((text7, text11) ∷ []) ∷ Rooted text2 ∷ Listed true ∷ Listens 8123 true ∷ wait true [] [] ∷ Clock 784111787 ∷ wait true [] [] ∷ Opened 3 ∷ wait true (3 ∷ []) [] ∷ CanRead 3 ∷ Heard 3 text3 ∷ Noted (Taken 3 0 (Part 0 4100)) ∷ []) ≡ None
 unfolding judging
-row61 = refl
+row62 = refl
 
-row66 : fault_from 0 (start (record { words = (codes "diskRun=1") ∷ text0 ∷ text1 ∷ []; faults = 0 } ∷ record { words = (codes "diskRun=1") ∷ text0 ∷ text1 ∷ []; faults = 0 } ∷ [])) (front0 ++ Woke ((text7, text9) ∷ []) ∷ Rooted text2 ∷ Listed true ∷ Began (Write text7 8193 ((0 ∷ []))) ∷ []) ≡ Some (record { at = 44; rule = WrongDiskOperation })
+row66 : fault_from 0 (start (record { words = (codes "diskRun=1") ∷ text0 ∷ text1 ∷ []; faults = 0 } ∷ record { words = (codes "diskRun=1") ∷ text0 ∷ text1 ∷ []; faults = 0 } ∷ [])) (front1 ++ Woke ((text7, text11) ∷ []) ∷ Rooted text2 ∷ Listed true ∷ Listens 8123 true ∷ wait true [] [] ∷ Clock 784111787 ∷ wait true [] [] ∷ Opened 3 ∷ wait true (3 ∷ []) [] ∷ CanRead 3 ∷ Heard 3 text3 ∷ Noted (Taken 3 0 (Part 0 4100)) ∷ Dialled 4 (codes "h") 80 ∷ []) ≡ Some (record { at = 53; rule = NotToBeDialled })
 unfolding judging
 row66 = refl
 
-row73 : fault_from 0 (start (record { words = (codes "diskRun=1") ∷ text0 ∷ text1 ∷ []; faults = 0 } ∷ record { words = (codes "diskRun=1") ∷ text0 ∷ text1 ∷ []; faults = 0 } ∷ [])) (front0 ++ Woke ((text7, text9) ∷ []) ∷ Rooted text2 ∷ Listed true ∷ Began (Write text7 8193 ((1 ∷ []))) ∷ []) ≡ Some (record { at = 44; rule = WrongDiskOperation })
+row72 : fault_from 0 (start (record { words = (codes "diskRun=1") ∷ text0 ∷ text1 ∷ []; faults = 0 } ∷ record { words = (codes "diskRun=1") ∷ text0 ∷ text1 ∷ []; faults = 0 } ∷ [])) (front1 ++ Woke ((text7, text11) ∷ []) ∷ Rooted text2 ∷ Listed true ∷ Listens 8123 true ∷ wait true [] [] ∷ Clock 784111787 ∷ wait true [] [] ∷ Opened 3 ∷ wait true (3 ∷ []) [] ∷ CanRead 3 ∷ Heard 3 text3 ∷ Noted (Taken 3 0 (Hit 0 4100)) ∷ []) ≡ Some (record { at = 52; rule = WrongDecision })
 unfolding judging
-row73 = refl
+row72 = refl
 
-row80 : fault_from 0 (start (record { words = (codes "diskRun=1") ∷ text0 ∷ text1 ∷ []; faults = 0 } ∷ record { words = (codes "diskRun=1") ∷ text0 ∷ text1 ∷ []; faults = 0 } ∷ [])) (front0 ++ Woke ((text7, text9) ∷ []) ∷ Rooted text2 ∷ Listed true ∷ Began (Write text7 8192 ((0 ∷ []))) ∷ []) ≡ Some (record { at = 44; rule = WrongDiskOperation })
+row77 : fault_from 0 (start (record { words = (codes "diskRun=1") ∷ text0 ∷ text1 ∷ []; faults = 0 } ∷ record { words = (codes "diskRun=1") ∷ text0 ∷ text1 ∷ []; faults = 0 } ∷ [])) (front1 ++ Woke ((text7, text12) ∷ []) ∷ Rooted text2 ∷ Listed true ∷ Listens 8123 true ∷ wait true [] [] ∷ Clock 784111787 ∷ wait true [] [] ∷ Opened 3 ∷ wait true (3 ∷ []) [] ∷ CanRead 3 ∷ Heard 3 text3 ∷ Noted (Taken 3 0 (Hit 0 4100)) ∷ []) ≡ None
 unfolding judging
-row80 = refl
+row77 = refl
 
-row87 : fault_from 0 (start (record { words = (codes "diskRun=1") ∷ text0 ∷ text1 ∷ []; faults = 0 } ∷ record { words = (codes "diskRun=1") ∷ text0 ∷ text1 ∷ []; faults = 0 } ∷ [])) (front0 ++ Woke ((text7, text9) ∷ []) ∷ Rooted text2 ∷ Listed true ∷ Began (Sync text7) ∷ []) ≡ Some (record { at = 44; rule = WrongDiskOperation })
+row82 : fault_from 0 (start (record { words = (codes "diskRun=1") ∷ text0 ∷ text1 ∷ []; faults = 0 } ∷ record { words = (codes "diskRun=1") ∷ text0 ∷ text1 ∷ []; faults = 0 } ∷ [])) (front1 ++ Woke ((text7, text11) ∷ []) ∷ Rooted text2 ∷ Listed true ∷ Began (Write text7 8193 ((0 ∷ []))) ∷ []) ≡ Some (record { at = 44; rule = WrongDiskOperation })
 unfolding judging
-row87 = refl
+row82 = refl
 
-row94 : fault_from 0 (start (record { words = (codes "diskRun=1") ∷ text0 ∷ text1 ∷ []; faults = 0 } ∷ record { words = (codes "diskRun=1") ∷ text0 ∷ text1 ∷ []; faults = 0 } ∷ [])) (front0 ++ Woke ((text7, text9) ∷ []) ∷ Rooted text2 ∷ Listed true ∷ Began (Remove text7) ∷ []) ≡ Some (record { at = 44; rule = WrongDiskOperation })
+row89 : fault_from 0 (start (record { words = (codes "diskRun=1") ∷ text0 ∷ text1 ∷ []; faults = 0 } ∷ record { words = (codes "diskRun=1") ∷ text0 ∷ text1 ∷ []; faults = 0 } ∷ [])) (front1 ++ Woke ((text7, text11) ∷ []) ∷ Rooted text2 ∷ Listed true ∷ Began (Write text7 8193 ((1 ∷ []))) ∷ []) ≡ Some (record { at = 44; rule = WrongDiskOperation })
 unfolding judging
-row94 = refl
+row89 = refl
 
-row101 : fault_from 0 (start (record { words = (codes "diskRun=1") ∷ text0 ∷ text1 ∷ []; faults = 0 } ∷ record { words = (codes "diskRun=1") ∷ text0 ∷ text1 ∷ []; faults = 0 } ∷ [])) (front0 ++ Woke ((text7, text11) ∷ []) ∷ []) ≡ Some (record { at = 41; rule = ImageNotLeft })
+row96 : fault_from 0 (start (record { words = (codes "diskRun=1") ∷ text0 ∷ text1 ∷ []; faults = 0 } ∷ record { words = (codes "diskRun=1") ∷ text0 ∷ text1 ∷ []; faults = 0 } ∷ [])) (front1 ++ Woke ((text7, text11) ∷ []) ∷ Rooted text2 ∷ Listed true ∷ Began (Write text7 8192 ((0 ∷ []))) ∷ []) ≡ Some (record { at = 44; rule = WrongDiskOperation })
 unfolding judging
-row101 = refl
+row96 = refl
+
+row103 : fault_from 0 (start (record { words = (codes "diskRun=1") ∷ text0 ∷ text1 ∷ []; faults = 0 } ∷ record { words = (codes "diskRun=1") ∷ text0 ∷ text1 ∷ []; faults = 0 } ∷ [])) (front1 ++ Woke ((text7, text11) ∷ []) ∷ Rooted text2 ∷ Listed true ∷ Began (Sync text7) ∷ []) ≡ Some (record { at = 44; rule = WrongDiskOperation })
+unfolding judging
+row103 = refl
+
+row110 : fault_from 0 (start (record { words = (codes "diskRun=1") ∷ text0 ∷ text1 ∷ []; faults = 0 } ∷ record { words = (codes "diskRun=1") ∷ text0 ∷ text1 ∷ []; faults = 0 } ∷ [])) (front1 ++ Woke ((text7, text11) ∷ []) ∷ Rooted text2 ∷ Listed true ∷ Began (Remove text7) ∷ []) ≡ Some (record { at = 44; rule = WrongDiskOperation })
+unfolding judging
+row110 = refl
+
+row117 : fault_from 0 (start (record { words = (codes "diskRun=1") ∷ text0 ∷ text1 ∷ []; faults = 0 } ∷ record { words = (codes "diskRun=1") ∷ text0 ∷ text1 ∷ []; faults = 0 } ∷ [])) (front1 ++ Woke ((text7, text13) ∷ []) ∷ []) ≡ Some (record { at = 41; rule = ImageNotLeft })
+unfolding judging
+row117 = refl

@@ -43,6 +43,48 @@ text6 = (codes "HTTP/1.1 200 OK\r\netag: \"x\"\r\ndate: Sun, 06 Nov 1994 08:49:3
 abbrev text7 : Bytes
 text7 = (codes "HTTP/1.1 200 OK\r\nETag: \"x\"\r\nCache-Control: max-age=60\r\nContent-Length: 5\r\n\r\nhell")
 
+abbrev text8 : Bytes
+text8 = (codes "HTTP/1.1 200 OK\r\nDate: Sun, 06 Nov 1994 08:49:37 GMT\r\nETag: \"x\"\r\nCache-Control: max-age=60\r\nContent-Length: 16385\r\n\r\n" ++ replicate 16384 97)
+
+abbrev text9 : Bytes
+text9 = (codes "HTTP/1.1 200 OK\r\netag: \"x\"\r\ndate: Sun, 06 Nov 1994 08:49:37 GMT\r\ncache-control: max-age=60\r\nX-Polipo-Location: http://h/a\r\nX-Polipo-Date: 784111777\r\nX-Polipo-Age: 0\r\nX-Polipo-Length: 16385\r\nX-Polipo-Body-Offset: 12288\r\n\r\n" ++ replicate 12067 0)
+
+abbrev text10 : Bytes
+text10 = (replicate 16384 97)
+
+abbrev front1 : Log
+front1 = Woke [] ∷ Rooted text0 ∷ Listed true ∷ Listens 8123 true ∷ wait true [] [] ∷ Clock 784111777 ∷ wait true [] [] ∷ Opened 1 ∷ wait true (1 ∷ []) [] ∷ CanRead 1 ∷ Heard 1 text1 ∷ Noted (Taken 1 0 Fetch) ∷ Dialled 2 (codes "h") 80 ∷ wait true (1 ∷ []) [] ∷ Reached 2 ∷ wait true (1 ∷ 2 ∷ []) (2 ∷ []) ∷ CanWrite 2 ∷ Asked 2 text2 ∷ wait true (1 ∷ 2 ∷ []) [] ∷ CanRead 2 ∷ Got 2 text8 ∷ Began (Draft text9) ∷ Did (Draft text9) true ∷ Began SyncDraft ∷ Did SyncDraft true ∷ Began (Publish text5) ∷ Did (Publish text5) true ∷ Began (Write text5 12288 text10) ∷ Did (Write text5 12288 text10) true ∷ Began (Sync text5) ∷ Did (Sync text5) true ∷ Began (Write text5 8192 ((1 ∷ 1 ∷ 1 ∷ 1 ∷ []))) ∷ []
+
+abbrev text11 : Bytes
+text11 = (codes "HTTP/1.1 200 OK\r\netag: \"x\"\r\ndate: Sun, 06 Nov 1994 08:49:37 GMT\r\ncache-control: max-age=60\r\nX-Polipo-Location: http://h/a\r\nX-Polipo-Date: 784111777\r\nX-Polipo-Age: 0\r\nX-Polipo-Length: 16385\r\nX-Polipo-Body-Offset: 12288\r\n\r\n" ++ replicate 7972 0 ++ (1 ∷ 0 ∷ 1 ∷ []) ++ replicate 4092 0 ++ replicate 16384 97)
+
+abbrev text12 : Bytes
+text12 = (codes "HTTP/1.1 200 OK\r\nDate: Sun, 06 Nov 1994 08:49:37 GMT\r\nETag: \"x\"\r\nCache-Control: max-age=60\r\nContent-Length: 12288\r\n\r\n" ++ replicate 8192 97)
+
+abbrev text13 : Bytes
+text13 = (codes "HTTP/1.1 200 OK\r\netag: \"x\"\r\ndate: Sun, 06 Nov 1994 08:49:37 GMT\r\ncache-control: max-age=60\r\nX-Polipo-Location: http://h/a\r\nX-Polipo-Date: 784111777\r\nX-Polipo-Age: 0\r\nX-Polipo-Length: 12288\r\nX-Polipo-Body-Offset: 12288\r\n\r\n" ++ replicate 12067 0)
+
+abbrev text14 : Bytes
+text14 = (replicate 8192 97)
+
+abbrev front2 : Log
+front2 = Woke [] ∷ Rooted text0 ∷ Listed true ∷ Listens 8123 true ∷ wait true [] [] ∷ Clock 784111777 ∷ wait true [] [] ∷ Opened 1 ∷ wait true (1 ∷ []) [] ∷ CanRead 1 ∷ Heard 1 text1 ∷ Noted (Taken 1 0 Fetch) ∷ Dialled 2 (codes "h") 80 ∷ wait true (1 ∷ []) [] ∷ Reached 2 ∷ wait true (1 ∷ 2 ∷ []) (2 ∷ []) ∷ CanWrite 2 ∷ Asked 2 text2 ∷ wait true (1 ∷ 2 ∷ []) [] ∷ CanRead 2 ∷ Got 2 text12 ∷ Began (Draft text13) ∷ Did (Draft text13) true ∷ Began SyncDraft ∷ Did SyncDraft true ∷ Began (Publish text5) ∷ Did (Publish text5) true ∷ Began (Write text5 12288 text14) ∷ Did (Write text5 12288 text14) true ∷ Began (Sync text5) ∷ Did (Sync text5) true ∷ Began (Write text5 8192 ((1 ∷ 1 ∷ []))) ∷ []
+
+abbrev text15 : Bytes
+text15 = (replicate 4096 97)
+
+abbrev text16 : Bytes
+text16 = (replicate 4095 97)
+
+abbrev text17 : Bytes
+text17 = (codes "HTTP/1.1 200 OK\r\netag: \"x\"\r\ndate: Sun, 06 Nov 1994 08:49:37 GMT\r\ncache-control: max-age=60\r\nX-Polipo-Location: http://h/a\r\nX-Polipo-Date: 784111777\r\nX-Polipo-Age: 0\r\nX-Polipo-Length: 12288\r\nX-Polipo-Body-Offset: 12288\r\n\r\n" ++ replicate 7971 0 ++ (1 ∷ 1 ∷ []) ++ replicate 4094 0 ++ replicate 8192 97)
+
+abbrev text18 : Bytes
+text18 = (codes "HTTP/1.1 200 OK\r\netag: \"x\"\r\ndate: Sun, 06 Nov 1994 08:49:37 GMT\r\ncache-control: max-age=60\r\nX-Polipo-Location: http://h/a\r\nX-Polipo-Date: 784111777\r\nX-Polipo-Age: 0\r\nX-Polipo-Length: 12288\r\nX-Polipo-Body-Offset: 12288\r\n\r\n" ++ replicate 12067 0 ++ replicate 8192 97)
+
+abbrev text19 : Bytes
+text19 = (codes "HTTP/1.1 200 OK\r\netag: \"x\"\r\ndate: Sun, 06 Nov 1994 08:49:37 GMT\r\ncache-control: max-age=60\r\nX-Polipo-Location: http://h/a\r\nX-Polipo-Date: 784111777\r\nX-Polipo-Age: 0\r\nX-Polipo-Length: 12288\r\nX-Polipo-Body-Offset: 12288\r\n\r\n" ++ replicate 7971 0 ++ (1 ∷ 1 ∷ 1 ∷ []) ++ replicate 4093 0 ++ replicate 8192 97)
+
 row7 : fault_from 0 (start (record { words = []; faults = 0 } ∷ [])) (front0 ++ CanRead 2 ∷ Got 2 text3 ∷ Began (Draft text4) ∷ Did (Draft text4) true ∷ Began SyncDraft ∷ Did SyncDraft true ∷ Began (Publish text5) ∷ Did (Publish text5) true ∷ Noted (Kept (codes "http://h/a") (codes "\"x\"") 5 5) ∷ Noted (Taken 1 0 (Hit 0 5)) ∷ []) ≡ None
 unfolding judging
 row7 = refl
@@ -58,3 +100,55 @@ row23 = refl
 row32 : fault_from 0 (start (record { words = []; faults = 0 } ∷ [])) (front0 ++ CanRead 2 ∷ Got 2 text7 ∷ Began (Draft text6) ∷ []) ≡ Some (record { at = 21; rule = WrongDiskOperation })
 unfolding judging
 row32 = refl
+
+row79 : fault_from 0 (start (record { words = (codes "diskRun=4") ∷ []; faults = 0 } ∷ record { words = (codes "diskRun=4") ∷ []; faults = 1 } ∷ [])) (front1 ++ Woke ((text5, text11) ∷ []) ∷ Rooted text0 ∷ Listed true ∷ Began (Write text5 8193 ((0 ∷ []))) ∷ Did (Write text5 8193 ((0 ∷ []))) true ∷ Began (Write text5 8195 ((0 ∷ []))) ∷ Did (Write text5 8195 ((0 ∷ []))) true ∷ Began (Sync text5) ∷ Did (Sync text5) true ∷ Listens 8123 true ∷ wait true [] [] ∷ []) ≡ None
+unfolding judging
+row79 = refl
+
+row86 : fault_from 0 (start (record { words = (codes "diskRun=4") ∷ []; faults = 0 } ∷ record { words = (codes "diskRun=4") ∷ []; faults = 1 } ∷ [])) (front1 ++ Woke ((text5, text11) ∷ []) ∷ Rooted text0 ∷ Listed true ∷ Began (Write text5 8193 ((0 ∷ []))) ∷ Did (Write text5 8193 ((0 ∷ []))) true ∷ Began (Sync text5) ∷ []) ≡ Some (record { at = 37; rule = WrongDiskOperation })
+unfolding judging
+row86 = refl
+
+row91 : fault_from 0 (start (record { words = (codes "diskRun=4") ∷ []; faults = 0 } ∷ record { words = (codes "diskRun=4") ∷ []; faults = 1 } ∷ [])) (front1 ++ Woke ((text5, text11) ∷ []) ∷ Rooted text0 ∷ Listed true ∷ Began (Write text5 8193 ((0 ∷ []))) ∷ Did (Write text5 8193 ((0 ∷ []))) true ∷ Began (Write text5 8195 ((0 ∷ []))) ∷ Did (Write text5 8195 ((0 ∷ []))) true ∷ Listens 8123 true ∷ []) ≡ Some (record { at = 39; rule = OpeningOutOfOrder })
+unfolding judging
+row91 = refl
+
+row96 : fault_from 0 (start (record { words = (codes "diskRun=4") ∷ []; faults = 0 } ∷ record { words = (codes "diskRun=4") ∷ []; faults = 1 } ∷ [])) (front1 ++ Woke ((text5, text11) ∷ []) ∷ Rooted text0 ∷ Listed true ∷ Began (Write text5 8193 ((0 ∷ []))) ∷ Did (Write text5 8193 ((0 ∷ []))) true ∷ Began (Write text5 8195 ((0 ∷ []))) ∷ Did (Write text5 8195 ((0 ∷ []))) true ∷ Began (Sync text5) ∷ Did (Sync text5) true ∷ Began (Sync text5) ∷ []) ≡ Some (record { at = 41; rule = WrongDiskOperation })
+unfolding judging
+row96 = refl
+
+row103 : fault_from 0 (start (record { words = (codes "diskRun=4") ∷ []; faults = 0 } ∷ record { words = (codes "diskRun=4") ∷ []; faults = 1 } ∷ [])) (front1 ++ Woke ((text5, text11) ∷ []) ∷ Rooted text0 ∷ Listed true ∷ Listens 8123 true ∷ []) ≡ Some (record { at = 35; rule = OpeningOutOfOrder })
+unfolding judging
+row103 = refl
+
+row108 : fault_from 0 (start (record { words = (codes "diskRun=4") ∷ []; faults = 0 } ∷ record { words = (codes "diskRun=4") ∷ []; faults = 1 } ∷ [])) (front1 ++ Woke ((text5, text11) ∷ []) ∷ Rooted text0 ∷ Listed true ∷ Began (Write text5 8193 ((0 ∷ []))) ∷ Did (Write text5 8193 ((0 ∷ []))) true ∷ Began (Write text5 8195 ((0 ∷ []))) ∷ Did (Write text5 8195 ((0 ∷ []))) true ∷ Began (Sync text5) ∷ Did (Sync text5) false ∷ Listens 8123 true ∷ wait true [] [] ∷ []) ≡ None
+unfolding judging
+row108 = refl
+
+row115 : fault_from 0 (start (record { words = (codes "diskRun=4") ∷ []; faults = 0 } ∷ record { words = (codes "diskRun=4") ∷ []; faults = 1 } ∷ [])) (front1 ++ Woke ((text5, text11) ∷ []) ∷ Rooted text0 ∷ Listed true ∷ Began (Write text5 8193 ((0 ∷ []))) ∷ Did (Write text5 8193 ((0 ∷ []))) true ∷ Began (Write text5 8195 ((0 ∷ []))) ∷ Did (Write text5 8195 ((0 ∷ []))) true ∷ Began (Sync text5) ∷ Did (Sync text5) false ∷ Began (Sync text5) ∷ []) ≡ Some (record { at = 41; rule = WrongDiskOperation })
+unfolding judging
+row115 = refl
+
+row157 : fault_from 0 (start (record { words = (codes "diskRun=2") ∷ []; faults = 0 } ∷ record { words = (codes "diskRun=2") ∷ []; faults = 0 } ∷ [])) (front2 ++ Did (Write text5 8192 ((1 ∷ 1 ∷ []))) true ∷ Began (Sync text5) ∷ Did (Sync text5) true ∷ Noted (Kept (codes "http://h/a") (codes "\"x\"") 12288 8192) ∷ Noted (Taken 1 0 (Part 0 12288)) ∷ wait true (1 ∷ 2 ∷ []) (1 ∷ []) ∷ CanRead 2 ∷ Got 2 text15 ∷ Began (Write text5 20480 text15) ∷ Did (Write text5 20480 text15) true ∷ Began (Sync text5) ∷ Did (Sync text5) true ∷ Began (Write text5 8194 ((1 ∷ []))) ∷ Did (Write text5 8194 ((1 ∷ []))) true ∷ Began (Sync text5) ∷ Did (Sync text5) true ∷ Noted (Kept (codes "http://h/a") (codes "\"x\"") 12288 12288) ∷ wait true (1 ∷ 2 ∷ []) (1 ∷ []) ∷ []) ≡ None
+unfolding judging
+row157 = refl
+
+row172 : fault_from 0 (start (record { words = (codes "diskRun=2") ∷ []; faults = 0 } ∷ record { words = (codes "diskRun=2") ∷ []; faults = 0 } ∷ [])) (front2 ++ Did (Write text5 8192 ((1 ∷ 1 ∷ []))) true ∷ Began (Sync text5) ∷ Did (Sync text5) true ∷ Noted (Kept (codes "http://h/a") (codes "\"x\"") 12288 4096) ∷ []) ≡ Some (record { at = 35; rule = NotSealed })
+unfolding judging
+row172 = refl
+
+row179 : fault_from 0 (start (record { words = (codes "diskRun=2") ∷ []; faults = 0 } ∷ record { words = (codes "diskRun=2") ∷ []; faults = 0 } ∷ [])) (front2 ++ Did (Write text5 8192 ((1 ∷ 1 ∷ []))) true ∷ Began (Sync text5) ∷ Did (Sync text5) true ∷ Noted (Kept (codes "http://h/a") (codes "\"x\"") 12288 8192) ∷ Noted (Taken 1 0 (Part 0 12288)) ∷ wait true (1 ∷ 2 ∷ []) (1 ∷ []) ∷ CanRead 2 ∷ Got 2 text16 ∷ Began (Write text5 20480 text16) ∷ []) ≡ Some (record { at = 40; rule = WrongDiskOperation })
+unfolding judging
+row179 = refl
+
+row186 : fault_from 0 (start (record { words = (codes "diskRun=2") ∷ []; faults = 0 } ∷ record { words = (codes "diskRun=2") ∷ []; faults = 0 } ∷ [])) (front2 ++ Woke ((text5, text17) ∷ []) ∷ Rooted text0 ∷ Listed true ∷ Listens 8123 true ∷ wait true [] [] ∷ Clock 784111787 ∷ wait true [] [] ∷ Opened 3 ∷ wait true (3 ∷ []) [] ∷ CanRead 3 ∷ Heard 3 text1 ∷ Noted (Taken 3 0 (Part 0 12288)) ∷ Dialled 4 (codes "h") 80 ∷ []) ≡ Some (record { at = 44; rule = NotToBeDialled })
+unfolding judging
+row186 = refl
+
+row193 : fault_from 0 (start (record { words = (codes "diskRun=2") ∷ []; faults = 0 } ∷ record { words = (codes "diskRun=2") ∷ []; faults = 0 } ∷ [])) (front2 ++ Woke ((text5, text18) ∷ []) ∷ Rooted text0 ∷ Listed true ∷ Listens 8123 true ∷ wait true [] [] ∷ Clock 784111787 ∷ wait true [] [] ∷ Opened 3 ∷ wait true (3 ∷ []) [] ∷ CanRead 3 ∷ Heard 3 text1 ∷ Noted (Taken 3 0 (Part 0 12288)) ∷ Dialled 4 (codes "h") 80 ∷ wait true [] [] ∷ []) ≡ None
+unfolding judging
+row193 = refl
+
+row200 : fault_from 0 (start (record { words = (codes "diskRun=2") ∷ []; faults = 0 } ∷ record { words = (codes "diskRun=2") ∷ []; faults = 0 } ∷ [])) (front2 ++ Woke ((text5, text19) ∷ []) ∷ []) ≡ Some (record { at = 32; rule = ImageNotLeft })
+unfolding judging
+row200 = refl
