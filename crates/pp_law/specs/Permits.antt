@@ -24,7 +24,7 @@ use Rattle.pp_law.specs.Phases.{is_awaiting, is_under_way, due_victim, has_closi
 use Rattle.pp_law.specs.Requests.{Front, NoHeadYet, NoHead, IsRequest}
 use Rattle.pp_law.specs.Leaving.{leaving_as}
 use Rattle.pp_law.specs.Repairs.{may_begin_in_opening}
-use Rattle.pp_law.specs.Served.{is_served}
+use Rattle.pp_law.specs.Served.{accepts, is_served}
 use Rattle.pp_law.specs.State.{State, Client, IsRooted, IsListed, IsListening, Evicting, Keeping, Connecting}
 use Rattle.pp_law.specs.Store.{is_idle_disk, is_closed, is_named, is_acknowledged_as, may_note_gone, may_begin_in_turn, may_end_op}
 use Rattle.pp_law.specs.Table.{kept_row, instance, extent_of, next_of, Next}
@@ -204,6 +204,10 @@ permits_broke s n = has_conn s n && (is_awaiting s || is_owed s n)
 abbrev pub is_new_number : State → ℕ → Bool
 is_new_number s n = nat_lt s.top n
 
+-- only where the last wait wanted one
+abbrev pub may_open : State → ℕ → Bool
+may_open s n = is_new_number s n && accepts s
+
 -- ---- all
 
 -- the opening is over, or all is done that this turn owes
@@ -221,7 +225,7 @@ unfoldable pub permits : State → Happening → Bool
 permits s (Woke image) = permits_woke s image
 permits s (Waits w) = permits_waits s w
 permits s (Clock seconds) = is_awaiting s
-permits s (Opened n) = is_awaiting s && is_new_number s n
+permits s (Opened n) = is_awaiting s && may_open s n
 permits s (CanRead n) = is_awaiting s
 permits s (CanWrite n) = is_awaiting s
 permits s (Heard c bytes) = permits_heard s c bytes

@@ -28,8 +28,11 @@ same true b = b
 same false b = not b
 
 -- ours: at most 256 clients
+abbrev pub accepts : State → Bool
+accepts s = nat_lt (length s.clients) 256
+
 abbrev pub accepts_rightly : State → Wants → Bool
-accepts_rightly s w = same (nat_lt (length s.clients) 256) w.accept
+accepts_rightly s w = same (accepts s) w.accept
 
 -- ---- clients
 

@@ -14,9 +14,10 @@ use Rattle.pp_law.specs.Lawful.{LawfulFrom}
 use Rattle.pp_law.specs.Leaving.{Leaving, ForAnother, ForMemory, BeforeDecision, leaving_as}
 use Rattle.pp_law.specs.Lists.{Bytes}
 use Rattle.pp_law.specs.Opening.{is_opening}
-use Rattle.pp_law.specs.Permits.{is_permitted, IsPermitted, permits, permits_dial, is_new_number}
+use Rattle.pp_law.specs.Permits.{is_permitted, IsPermitted, permits, permits_dial, is_new_number, may_open}
 use Rattle.pp_law.specs.Phases.{is_awaiting, due_victim, come_to}
 use Rattle.pp_law.specs.Replies.{said_by}
+use Rattle.pp_law.specs.Served.{accepts}
 use Rattle.pp_law.specs.State.{State, RowRefused, Client, Conn, Exchange, Instance, IsRooted, IsListed, IsListening, Handling, Evicting, Keeping, Following, Connecting, Owed, ReadOf, WriteTo}
 use Rattle.pp_law.specs.Table.{forget}
 use Rattle.pp_laws.specs.Origin.{LoadWasSent, LoadsWhatWasSent}
@@ -167,9 +168,9 @@ dropped-sound n s h = each_of (conn s n) h (λ k. when k.is_closing (out-sound n
 
 -- ---- what is permitted
 
-opened_by : (s : State) (n : ℕ) (room : Bool) → (elim room as (λ c. Bool) [ true ↦ false | false ↦ is_awaiting s && is_new_number s n ]) ≡ true → s.top < n
+opened_by : (s : State) (n : ℕ) (room : Bool) → (elim room as (λ c. Bool) [ true ↦ false | false ↦ is_awaiting s && may_open s n ]) ≡ true → s.top < n
 opened_by s n true is = absurd (cc is)
-opened_by s n false is = below s.top n (second_holds (is_awaiting s) (is_new_number s n) is)
+opened_by s n false is = below s.top n (first_holds (is_new_number s n) (accepts s) (second_holds (is_awaiting s) (may_open s n) is))
 
 opened_above : (s : State) (n : ℕ) → IsPermitted s (Opened n) → s.top < n
 unfolding is_permitted permits
