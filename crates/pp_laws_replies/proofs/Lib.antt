@@ -1,0 +1,14 @@
+pub mod ByRowLemmas
+pub mod Usable
+pub mod Quiet
+pub mod Cases
+pub mod QuietRows
+pub mod QuietAsks
+pub mod QuietHeads
+pub mod QuietTurns
+pub mod Stories
+pub mod StoryEnds
+pub mod StorySaid
+pub mod StoryBegins
+pub mod StoryDecided
+pub mod StoryHappenings

@@ -1,0 +1,187 @@
+-- Replies begin at the end of a turn.
+use Rattle.std.proofs.Common.{◌≡◌, refl, ℕ, ◌+◌, ◌-◌, Bool, true, false, not, ◌&&◌, [], ◌++◌, map, Option, Some, None, inl, inr, sym, subst, ap, ◌∙◌, append-nil, arith}
+use Rattle.pp_plan.specs.Spans.{resolved}
+use Rattle.pp_ranges.specs.declared.range.Resolved.{Resolved}
+use Rattle.pp_ranges.specs.declared.range.Resolved.TheVariants.{Whole as OfAll, Part as OfPart, Unsatisfiable as OfNone}
+use Rattle.pp_reply.specs.Keeping.{is_end_known}
+use Rattle.pp_reply.specs.Kept.{whole_head, part_head}
+use Rattle.pp_reply.specs.declared.kept.KeptReply.TheVariants.{Whole as AllOf, Part as SomeOf, Head as HeadOf, NotModified as SameAs, Unsatisfiable as NoneOf}
+use Rattle.pp_world.specs.declared.note.Decision.{Decision}
+use Rattle.pp_world.specs.declared.note.Decision.TheVariants.{Refuse, Hit, Part, Head, NotModified, Unsatisfiable, Relay, Validate, Fetch, Pass}
+use Rattle.pp_law.specs.Deciding.{span_of}
+use Rattle.pp_law.specs.Lists.{Bytes}
+use Rattle.pp_law.specs.Replies.{passed_reply, begun_passed, age_shown, is_part, instance_head, may_begin, begun_reply, begun_instance, begun_decided, begun_by, begun_at_end, is_outrun, begin_replies}
+use Rattle.pp_law.specs.Requests.{Front, Parsed, NoHeadYet, NoHead as NoFront, IsRequest, has_request, keeps_open}
+use Rattle.pp_law.specs.Stages.{is_passing, passed_of}
+use Rattle.pp_law.specs.State.{State, Client, Passed, Stage, Undecided, Waiting, Passing, Answering, Reply, Instance}
+use Rattle.pp_law.specs.Table.{instance, is_instance, source_of}
+use Rattle.pp_valid.specs.declared.version.Version.{Version}
+use Rattle.pp_laws.specs.Runs.{IsIn}
+use Rattle.pp_laws.proofs.Callers.{begun_at_end-same}
+use Rattle.pp_laws.proofs.Lists.{in_find}
+use Rattle.pp_laws.proofs.Tests.{same_number}
+use Rattle.pp_laws_replies.specs.ByRow.{is_by_row}
+use Rattle.pp_laws_replies.specs.Replies.{interim_to}
+use Rattle.pp_laws_replies.proofs.ByRowLemmas.{Shows, SpanOf}
+use Rattle.pp_laws_replies.proofs.Quiet.{quiet_same}
+use Rattle.pp_laws_replies.proofs.QuietAsks.{forsake-quiet}
+use Rattle.pp_laws_replies.proofs.QuietRows.{swept-quiet}
+use Rattle.pp_laws_replies.proofs.Stories.{Begun, a_kept, a_passed, Chosen, to_pass, to_show, Now, undecided, waiting, chosen, begun, Orderly, kept_orderly, quiet_orderly}
+
+-- ---- before a reply begins
+
+-- the interim answer is as far said as it was, and nothing else
+head_first : (last il head whole : Bytes) → last ++ il ≡ whole → (last ++ il) ++ head ≡ (whole ++ head) ++ []
+head_first last il head whole is = ap (λ l. l ++ head) is ∙ sym (append-nil (whole ++ head))
+
+module _ (s : State) (c : Client) (last : Bytes) where
+  abbrev IsNow : Client → Type 0
+  IsNow d = Now s.instances s.next_instance d last
+
+  passed_now : (q : Parsed) (d : Decision) → c.front ≡ IsRequest q → is_passing d ≡ true → last ++ c.interim_left ≡ interim_to c.front → IsNow c → IsNow (begun_passed s q d c)
+  passed_now q d front passing is now = by (passed_of c)
+    where
+      by : (o : Option Passed) → IsNow (elim o as (λ x. Client) [
+        | None ↦ c
+        | Some p ↦ record c { stage = Answering (passed_reply s q p d); closes = not (keeps_open q && is_end_known p.rule q.head.minor) }
+      ])
+      by None = now
+      by (Some p) =
+          let r = passed_reply s q p d in
+          begun r refl refl (ap has_request front) r.head_left [] (head_first last c.interim_left r.head_left (interim_to c.front) is) (inl refl)
+          (a_passed q front passing (record { response = p.head; rule = p.rule; name = s.settings.name; spelled = refl }))
+
+  -- ---- a reply that is read from an instance
+
+  no_more : (n at to : ℕ) → at ≡ n → to ≡ n → 0 + (to - at) ≡ 0
+  no_more n at to one two = omega arith
+
+  shown_head : (q : Parsed) (r : Reply) (x : Instance) (v : Version) (from to : ℕ) → c.front ≡ IsRequest q → is_passing r.decision ≡ false → x.version ≡ v → r.at ≡ from → r.to ≡ to → (res : Resolved) → resolved q.head.fields x.version ≡ res → Shows res v.length from to
+      → Begun c.front (begun_reply s q c r x) (elim (is_part res) as (λ y. Bytes) [
+        | true ↦ part_head from to x.version.length x.fields (age_shown s c x) s.settings.name (keeps_open q)
+        | false ↦ whole_head x.version.length x.fields (age_shown s c x) s.settings.name (keeps_open q)
+      ]) []
+  shown_head q r x v from to front isnt_on version at to_is OfAll is shows =
+      a_kept q front isnt_on (record { kind = AllOf; total = x.version.length; fields = x.fields; age = age_shown s c x; name = s.settings.name; spelled = refl }) (whole shows.0 shows.1 (ap (λ (w : Version). w.length) version))
+    where
+      whole : from ≡ 0 → to ≡ v.length → x.version.length ≡ v.length → 0 + (r.to - r.at) ≡ x.version.length
+      whole f t l = all r.at r.to from to v.length x.version.length at to_is f t l
+        where
+          all : (a b m n k j : ℕ) → a ≡ m → b ≡ n → m ≡ 0 → n ≡ k → j ≡ k → 0 + (b - a) ≡ j
+          all a b m n k j e1 e2 e3 e4 e5 = omega arith
+  shown_head q r x v from to front isnt_on version at to_is (OfPart first end) is shows =
+      a_kept q front isnt_on (record { kind = SomeOf from to; total = x.version.length; fields = x.fields; age = age_shown s c x; name = s.settings.name; spelled = refl }) (part r.at r.to from to at to_is)
+    where
+      part : (a b m n : ℕ) → a ≡ m → b ≡ n → 0 + (b - a) ≡ n - m
+      part a b m n e1 e2 = omega arith
+  shown_head q r x v from to front isnt_on version at to_is OfNone is shows = absurd shows
+
+  kept_begun : (q : Parsed) (r : Reply) (x : Instance) (v : Version) (d : Decision) → c.front ≡ IsRequest q → r.decision ≡ d → is_by_row d ≡ true → SpanOf q.head v d → r.at ≡ (span_of d).0 → r.to ≡ (span_of d).1 → x.version ≡ v
+      → Begun c.front (begun_reply s q c r x) (instance_head s q c x d) []
+  kept_begun q r x v (Refuse status) front is by span at to version = absurd (cc by)
+  kept_begun q r x v Relay front is by span at to version = absurd (cc by)
+  kept_begun q r x v Validate front is by span at to version = absurd (cc by)
+  kept_begun q r x v Fetch front is by span at to version = absurd (cc by)
+  kept_begun q r x v Pass front is by span at to version = absurd (cc by)
+  kept_begun q r x v (Hit from end) front is by span at to version =
+      shown_head q r x v from end front (ap is_passing is) version at to (resolved q.head.fields x.version) refl (subst (λ (w : Version). Shows (resolved q.head.fields w) v.length from end) (sym version) span)
+  kept_begun q r x v (Part from end) front is by span at to version =
+      shown_head q r x v from end front (ap is_passing is) version at to (resolved q.head.fields x.version) refl (subst (λ (w : Version). Shows (resolved q.head.fields w) v.length from end) (sym version) span)
+  kept_begun q r x v Head front is by span at to version =
+      a_kept q front (ap is_passing is) (record { kind = HeadOf; total = x.version.length; fields = x.fields; age = age_shown s c x; name = s.settings.name; spelled = refl }) (no_more 0 r.at r.to at to)
+  kept_begun q r x v NotModified front is by span at to version =
+      a_kept q front (ap is_passing is) (record { kind = SameAs; total = x.version.length; fields = x.fields; age = age_shown s c x; name = s.settings.name; spelled = refl }) (no_more 0 r.at r.to at to)
+  kept_begun q r x v Unsatisfiable front is by span at to version =
+      a_kept q front (ap is_passing is) (record { kind = NoneOf; total = x.version.length; fields = x.fields; age = age_shown s c x; name = s.settings.name; spelled = refl }) (no_more 0 r.at r.to at to)
+
+  source_at : (o : Option ℕ) (x : Instance) (id : ℕ) → o ≡ Some id → (elim o as (λ y. Option Instance) [ None ↦ None | Some i ↦ instance s i ]) ≡ Some x → IsIn x s.instances × (x.id ≡ id)
+  source_at None x id has is = absurd (cc is)
+  source_at (Some i) x id has is = let there = in_find (is_instance i) x s.instances is in let eq : i ≡ id = cc in (there.0, same_number x.id i there.1 ∙ eq)
+
+  same_front : (q p : Parsed) → c.front ≡ IsRequest q → c.front ≡ IsRequest p → p ≡ q
+  same_front q p one two = let both : IsRequest p ≡ IsRequest q = sym two ∙ one in cc
+
+  instance_now : (q : Parsed) (r : Reply) → c.front ≡ IsRequest q → is_passing r.decision ≡ false → last ++ c.interim_left ≡ interim_to c.front → Chosen s.instances s.next_instance c.front r → IsNow c → IsNow (begun_instance s q r c)
+  instance_now q r front isnt_on is (to_pass is_on) now = let both : false ≡ true = sym isnt_on ∙ is_on in absurd (cc both)
+  instance_now q r front isnt_on is (to_show p asks by v span at to id source lt versions) now = by_source (source_of s r) refl
+    where
+      shown : SpanOf q.head v r.decision
+      shown = subst (λ (y : Parsed). SpanOf y.head v r.decision) (same_front q p front asks) span
+
+      by_may : (x : Instance) (t : Bool) → source_of s r ≡ Some x → IsNow (elim t as (λ y. Client) [ true ↦ record c { stage = Answering (begun_reply s q c r x) } | false ↦ c ])
+      by_may x false found = now
+      by_may x true found =
+          let there = source_at r.source x id source found in
+          begun (begun_reply s q c r x) refl refl (ap has_request front) (instance_head s q c x r.decision) [] (head_first last c.interim_left (instance_head s q c x r.decision) (interim_to c.front) is) (inl refl)
+          (kept_begun q r x v r.decision front refl by shown at to (versions x there.0 there.1))
+
+      by_source : (o : Option Instance) → source_of s r ≡ o → IsNow (elim o as (λ y. Client) [
+        | None ↦ c
+        | Some x ↦ elim (may_begin s r x) as (λ z. Client) [ true ↦ record c { stage = Answering (begun_reply s q c r x) } | false ↦ c ]
+      ])
+      by_source None found = now
+      by_source (Some x) found = by_may x (may_begin s r x) found
+
+  -- ---- by its stage
+
+  -- it waits, and this much of the interim answer was said
+  waits_at : c.stage ≡ Passing → IsNow c → last ++ c.interim_left ≡ interim_to c.front
+  waits_at at (undecided stage none is) = let both : Undecided ≡ Passing = sym stage ∙ at in absurd (cc both)
+  waits_at at (waiting stage has is) = is
+  waits_at at (chosen r stage isnt_on has is what) = let both : Answering r ≡ Passing = sym stage ∙ at in absurd (cc both)
+  waits_at at (begun r stage is_on has head body is rest what) = let both : Answering r ≡ Passing = sym stage ∙ at in absurd (cc both)
+
+  chosen_at : (r : Reply) → c.stage ≡ Answering r → r.has_begun ≡ false → IsNow c → (last ++ c.interim_left ≡ interim_to c.front) × Chosen s.instances s.next_instance c.front r
+  chosen_at r at off (undecided stage none is) = let both : Undecided ≡ Answering r = sym stage ∙ at in absurd (cc both)
+  chosen_at r at off (waiting (inl stage) has is) = let both : Waiting ≡ Answering r = sym stage ∙ at in absurd (cc both)
+  chosen_at r at off (waiting (inr stage) has is) = let both : Passing ≡ Answering r = sym stage ∙ at in absurd (cc both)
+  chosen_at r at off (chosen p stage isnt_on has is what) =
+      let both : Answering p ≡ Answering r = sym stage ∙ at in
+      let eq : p ≡ r = cc in
+      (is, subst (λ (y : Reply). Chosen s.instances s.next_instance c.front y) eq what)
+  chosen_at r at off (begun p stage is_on has head body is rest what) =
+      let both : Answering p ≡ Answering r = sym stage ∙ at in
+      let eq : p ≡ r = cc in
+      let on : true ≡ false = sym is_on ∙ ap (λ (y : Reply). y.has_begun) eq ∙ off in absurd (cc on)
+
+  decided_now : (q : Parsed) (r : Reply) (t : Bool) → c.front ≡ IsRequest q → is_passing r.decision ≡ t → last ++ c.interim_left ≡ interim_to c.front → Chosen s.instances s.next_instance c.front r → IsNow c
+      → IsNow (elim t as (λ y. Client) [ true ↦ begun_passed s q r.decision c | false ↦ begun_instance s q r c ])
+  decided_now q r true front passing is what now = passed_now q r.decision front passing is now
+  decided_now q r false front passing is what now = instance_now q r front passing is what now
+
+  begun_now : (q : Parsed) (r : Reply) (t : Bool) → c.front ≡ IsRequest q → c.stage ≡ Answering r → r.has_begun ≡ t → IsNow c → IsNow (elim t as (λ y. Client) [ true ↦ c | false ↦ begun_decided s q r c ])
+  begun_now q r true front stage on now = now
+  begun_now q r false front stage off now = let w = chosen_at r stage off now in decided_now q r (is_passing r.decision) front refl w.0 w.1 now
+
+  stage_now : (q : Parsed) (stage : Stage) → c.front ≡ IsRequest q → c.stage ≡ stage → IsNow c
+      → IsNow (elim stage as (λ y. Client) [
+        | Undecided ↦ c
+        | Waiting ↦ c
+        | Passing ↦ begun_passed s q Pass c
+        | Answering reply ↦ elim reply.has_begun as (λ z. Client) [ true ↦ c | false ↦ begun_decided s q reply c ]
+      ])
+  stage_now q Undecided front at now = now
+  stage_now q Waiting front at now = now
+  stage_now q Passing front at now = passed_now q Pass front refl (waits_at at now) now
+  stage_now q (Answering r) front at now = begun_now q r r.has_begun front at refl now
+
+  front_now : (front : Front) → c.front ≡ front → IsNow c → IsNow (elim front as (λ y. Client) [ NoHeadYet ↦ c | NoFront status ↦ c | IsRequest r ↦ begun_by s r c ])
+  front_now NoHeadYet is now = now
+  front_now (NoFront status) is now = now
+  front_now (IsRequest q) is now = stage_now q c.stage is refl now
+
+  closing_now : (t : Bool) → IsNow c → IsNow (elim t as (λ y. Client) [ true ↦ c | false ↦ elim c.front as (λ z. Client) [ NoHeadYet ↦ c | NoFront status ↦ c | IsRequest r ↦ begun_by s r c ] ])
+  closing_now true now = now
+  closing_now false now = front_now c.front refl now
+
+pub begins_now : (s : State) (c : Client) (last : Bytes) → Now s.instances s.next_instance c last → Now s.instances s.next_instance (begun_at_end s c) last
+begins_now s c last now = closing_now s c last c.is_closing now
+
+begun_clients : State → State
+begun_clients s = record s { clients = map (begun_at_end s) s.clients }
+
+pub begin_replies-orderly : {n : ℕ} {told : Bytes} (s : State) → Orderly n told s → Orderly n told (begin_replies s)
+unfolding begin_replies begun_clients
+begin_replies-orderly s h =
+    quiet_orderly (begun_clients s) _ (swept-quiet _ (forsake-quiet (is_outrun s) (begun_clients s) (quiet_same (begun_clients s))))
+    (kept_orderly s (λ c. true) (begun_at_end s) (λ c. (begun_at_end-same s c).number) (λ c i hit last now. begins_now s c last now) h)

@@ -1,0 +1,300 @@
+-- What is decided for a request is a reply of which nothing was said but the interim answer.
+use Rattle.std.proofs.Common.{◌≡◌, ◌⊎◌, refl, ℕ, true, false, ◌==◌, List, [], ◌∷◌, ◌++◌, Option, Some, None, Result, Ok, Err, inl, inr, sym, subst, ap, ◌∙◌, append-nil}
+use Rattle.pp_ask.specs.declared.kind.AskKind.{AskKind}
+use Rattle.pp_head.specs.Request.{Request}
+use Rattle.pp_plan.specs.Row.{Row}
+use Rattle.pp_reply.specs.Texts.{page}
+use Rattle.pp_target.specs.Key.{Key, text_of}
+use Rattle.pp_target.specs.declared.target.TargetFault.{TargetFault}
+use Rattle.pp_valid.specs.declared.version.Version.{Version}
+use Rattle.pp_world.specs.declared.note.Decision.{Decision}
+use Rattle.pp_world.specs.declared.note.Decision.TheVariants.{Refuse, Hit, Part, Head, NotModified, Unsatisfiable, Relay, Validate, Fetch, Pass}
+use Rattle.pp_law.specs.Closing.{is_of}
+use Rattle.pp_law.specs.Connections.{is_client, on_client}
+use Rattle.pp_law.specs.Deciding.{first_interim, refused_with, refuse, new_exchange, stage_for, asking_with, ask_for, ask_as, ask_origin, reply_by, answering_with, follow_with, follow_row, follow, relay, is_for_memory, mark_row_of, enter_row, decided_by, decided}
+use Rattle.pp_law.specs.Decisions.{kind_of}
+use Rattle.pp_law.specs.Lists.{Bytes}
+use Rattle.pp_law.specs.Requests.{Front, Parsed, NoHeadYet, NoHead as NoFront, IsRequest, has_request, key_in, keeps_after, asks_head}
+use Rattle.pp_law.specs.Stages.{is_begun}
+use Rattle.pp_law.specs.State.{State, Client, Stage, Undecided, Waiting, Passing, Answering, Reply, Instance, Entry}
+use Rattle.pp_law.specs.Table.{is_row_of, row, kept_row, row_for, of_instance, of_entry, mark_row, add_row, with_room, enter}
+use Rattle.pp_laws.specs.Runs.{IsIn}
+use Rattle.pp_laws.proofs.Clients.{enter_row-sound}
+use Rattle.pp_laws.proofs.Finds.{no_row, with_room-no_row}
+use Rattle.pp_laws.proofs.Lists.{in_find, in_moved, in_push, one_of, the_one}
+use Rattle.pp_laws.proofs.Sound.{Since, Sound, facts_of as sound_facts, client_number, instance_id}
+use Rattle.pp_laws.proofs.Tests.{same_number}
+use Rattle.pp_laws_replies.specs.ByRow.{is_by_row}
+use Rattle.pp_laws_replies.specs.Replies.{interim_to}
+use Rattle.pp_laws_replies.proofs.ByRowLemmas.{SpanOf, span_known}
+use Rattle.pp_laws_replies.proofs.Quiet.{Quiet, Quietly, facts_of, quiet_same}
+use Rattle.pp_laws_replies.proofs.QuietAsks.{begin_exchange-quiet, leave-quiet}
+use Rattle.pp_laws_replies.proofs.QuietRows.{swept-quiet}
+use Rattle.pp_laws_replies.proofs.QuietTurns.{enter_row-quiet}
+use Rattle.pp_laws_replies.proofs.Stories.{a_page, Chosen, to_pass, to_show, Now, undecided, waiting, chosen, begun, Orderly, kept_orderly, order_of, quiet_orderly}
+use Rattle.pp_laws_replies.proofs.Usable.{UsedRow}
+
+-- ---- nothing but the interim answer was said
+
+-- it may be decided: it has a request, and is in no reply
+pub record IsFree (c : Client) : Type 0 where
+  pub has : c.stage ≡ Undecided → has_request c.front ≡ true
+  pub off : is_begun c ≡ false
+
+empty_front : (last il : Bytes) → last ++ il ≡ [] → last ≡ []
+empty_front [] il is = refl
+empty_front (b ∷ last) il is = absurd (cc is)
+
+first_at : (c : Client) (front : Front) (stage : Stage) (last : Bytes) → has_request front ≡ true → last ++ c.interim_left ≡ interim_to front → ((stage ≡ Undecided) → ⊥)
+    → last ++ first_interim (record c { front = front; stage = stage }) ≡ interim_to front
+first_at c NoHeadYet stage last has is not_yet = absurd (cc has)
+first_at c (NoFront status) stage last has is not_yet = ap (λ l. l ++ []) (empty_front last c.interim_left is)
+first_at c (IsRequest r) Undecided last has is not_yet = absurd (not_yet refl)
+first_at c (IsRequest r) Waiting last has is not_yet = is
+first_at c (IsRequest r) Passing last has is not_yet = is
+first_at c (IsRequest r) (Answering q) last has is not_yet = is
+
+first_undecided : (c : Client) (front : Front) → first_interim (record c { front = front; stage = Undecided }) ≡ interim_to front
+first_undecided c NoHeadYet = refl
+first_undecided c (NoFront status) = refl
+first_undecided c (IsRequest r) = refl
+
+first_is : (instances : List Instance) (next_instance : ℕ) (c : Client) (last : Bytes) → IsFree c → Now instances next_instance c last → last ++ first_interim c ≡ interim_to c.front
+first_is instances next_instance c last free (undecided stage none is) = ap (λ l. l ++ first_interim c) is ∙ ap (λ st. first_interim (record c { stage = st })) stage ∙ first_undecided c c.front
+first_is instances next_instance c last free (waiting (inl stage) has is) = first_at c c.front c.stage last has is (λ un. let both : Undecided ≡ Waiting = sym un ∙ stage in cc both)
+first_is instances next_instance c last free (waiting (inr stage) has is) = first_at c c.front c.stage last has is (λ un. let both : Undecided ≡ Passing = sym un ∙ stage in cc both)
+first_is instances next_instance c last free (chosen r stage isnt_on has is what) = first_at c c.front c.stage last has is (λ un. let both : Undecided ≡ Answering r = sym un ∙ stage in cc both)
+first_is instances next_instance c last free (begun r stage is_on has head body is rest what) =
+    let on : is_begun c ≡ true = ap (λ st. is_begun (record c { stage = st })) stage ∙ is_on in
+    let both : true ≡ false = sym on ∙ free.off in absurd (cc both)
+
+has_one : (instances : List Instance) (next_instance : ℕ) (c : Client) (last : Bytes) → IsFree c → Now instances next_instance c last → has_request c.front ≡ true
+has_one instances next_instance c last free (undecided stage none is) = free.has stage
+has_one instances next_instance c last free (waiting stage has is) = has
+has_one instances next_instance c last free (chosen r stage isnt_on has is what) = has
+has_one instances next_instance c last free (begun r stage is_on has head body is rest what) = has
+
+-- ---- a page, an ask, a reply that is passed
+
+module _ (instances : List Instance) (next_instance : ℕ) where
+  refused_now : (status : ℕ) (c : Client) (last : Bytes) → IsFree c → Now instances next_instance c last → Now instances next_instance (refused_with status c) last
+  refused_now status c last free now =
+      begun (record { decision = Refuse status; source = None; has_begun = true; head_left = page status (asks_head c.front) (keeps_after status c.front); at = 0; to = 0 }) refl refl (has_one instances next_instance c last free now)
+      (page status (asks_head c.front) (keeps_after status c.front)) []
+      (ap (λ l. l ++ page status (asks_head c.front) (keeps_after status c.front)) (first_is instances next_instance c last free now) ∙ sym (append-nil (interim_to c.front ++ page status (asks_head c.front) (keeps_after status c.front))))
+      (inl refl) (a_page status refl refl refl refl)
+
+  stage_waits : (d : Decision) → (stage_for d ≡ Waiting) ⊎ (stage_for d ≡ Passing)
+  stage_waits Pass = inr refl
+  stage_waits (Refuse status) = inl refl
+  stage_waits (Hit from to) = inl refl
+  stage_waits (Part from to) = inl refl
+  stage_waits Head = inl refl
+  stage_waits NotModified = inl refl
+  stage_waits Unsatisfiable = inl refl
+  stage_waits Relay = inl refl
+  stage_waits Validate = inl refl
+  stage_waits Fetch = inl refl
+
+  asking_now : (d : Decision) (c : Client) (last : Bytes) → IsFree c → Now instances next_instance c last → Now instances next_instance (asking_with d c) last
+  asking_now d c last free now = waiting (stage_waits d) (has_one instances next_instance c last free now) (first_is instances next_instance c last free now)
+
+  answering_now : (r : Reply) (c : Client) (last : Bytes) → r.has_begun ≡ false → IsFree c → Chosen instances next_instance c.front r → Now instances next_instance c last → Now instances next_instance (answering_with r c) last
+  answering_now r c last off free what now = chosen r refl off (has_one instances next_instance c last free now) (first_is instances next_instance c last free now) what
+
+-- ---- for the client of that number
+
+-- it may be changed so
+abbrev pub AllFree : ℕ → State → Type 0
+AllFree m s = (c : Client) → IsIn c s.clients → c.number ≡ m → IsFree c
+
+refuse-orderly : {n : ℕ} {told : Bytes} (c : Client) (status : ℕ) (s : State) → AllFree c.number s → Orderly n told s → Orderly n told (refuse c status s)
+unfolding refuse on_client
+refuse-orderly c status s free h =
+    quiet_orderly _ _ (swept-quiet _ (leave-quiet (is_of c.number) _ (quiet_same _)))
+    (kept_orderly s (is_client c.number) (refused_with status) (λ d. refl) (λ d i hit last now. refused_now s.instances s.next_instance status d last (free d i (same_number d.number c.number hit)) now) h)
+
+ask_for-orderly : {n : ℕ} {told : Bytes} (c : Client) (d : Decision) (head : Request) (key : Key) (kind : AskKind) (s : State) → AllFree c.number s → Orderly n told s → Orderly n told (ask_for c d head key kind s)
+unfolding ask_for on_client
+ask_for-orderly c d head key kind s free h =
+    quiet_orderly _ _ (begin_exchange-quiet (new_exchange s c head key d kind) _ (leave-quiet (is_of c.number) _ (quiet_same _)))
+    (kept_orderly s (is_client c.number) (asking_with d) (λ e. refl) (λ e i hit last now. asking_now s.instances s.next_instance d e last (free e i (same_number e.number c.number hit)) now) h)
+
+ask_origin-orderly : {n : ℕ} {told : Bytes} (c : Client) (d : Decision) (s : State) → AllFree c.number s → Orderly n told s → Orderly n told (ask_origin c d s)
+unfolding ask_origin ask_as
+ask_origin-orderly {n} {told} c d s free h = by_front c.front
+  where
+    by_kind : (head : Request) (key : Key) (o : Option AskKind) → Orderly n told (elim o as (λ x. State) [ None ↦ s | Some kind ↦ ask_for c d head key kind s ])
+    by_kind head key None = h
+    by_kind head key (Some kind) = ask_for-orderly c d head key kind s free h
+
+    by_key : (r : Parsed) (named : Result Key TargetFault) → Orderly n told (elim named as (λ x. State) [ Ok key ↦ ask_as c d r.head key s | Err fault ↦ s ])
+    by_key r (Ok key) = by_kind r.head key (kind_of r.head (row_for s r.head (text_of key)) d)
+    by_key r (Err fault) = h
+
+    by_front : (front : Front) → Orderly n told (elim front as (λ x. State) [
+      | NoHeadYet ↦ s
+      | NoFront status ↦ s
+      | IsRequest r ↦ elim r.key as (λ y. State) [ Ok key ↦ ask_as c d r.head key s | Err fault ↦ s ]
+    ])
+    by_front NoHeadYet = h
+    by_front (NoFront status) = h
+    by_front (IsRequest r) = by_key r r.key
+
+relay-orderly : {n : ℕ} {told : Bytes} (c : Client) (s : State) → AllFree c.number s → Orderly n told s → Orderly n told (relay c s)
+unfolding relay on_client
+relay-orderly c s free h =
+    kept_orderly s (is_client c.number) (answering_with (reply_by Relay None)) (λ d. refl)
+    (λ d i hit last now. answering_now s.instances s.next_instance (reply_by Relay None) d last refl (free d i (same_number d.number c.number hit)) (to_pass refl) now) h
+
+-- ---- a reply by the row
+
+-- the row that the decision is of stands, under this version
+pub record IsRowFor (c : Client) (d : Decision) (s : State) : Type 0 where
+  pub request : Parsed
+  pub asks : c.front ≡ IsRequest request
+  pub key : Key
+  pub names : key_in c.front ≡ Some key
+  pub shows : (x : Instance) → row s (text_of key) ≡ Some x → SpanOf request.head x.version d
+
+follow-orderly : {n : ℕ} {told : Bytes} {b : Since} (c : Client) (d : Decision) (s : State) → is_by_row d ≡ true → ((e : Client) → IsIn e s.clients → e.number ≡ c.number → e.front ≡ c.front) → AllFree c.number s → IsRowFor c d s → Sound b s
+    → Orderly n told s → Orderly n told (follow c d s)
+unfolding follow follow_row follow_with on_client
+follow-orderly {n} {told} {b} c d s by same_front free w hs h = subst (λ o. Orderly n told (elim o as (λ x. State) [ None ↦ s | Some key ↦ follow_row c d (text_of key) s ])) (sym w.names) (at (row s (text_of w.key)) refl)
+  where
+    at : (o : Option Instance) → row s (text_of w.key) ≡ o → Orderly n told (elim o as (λ y. State) [ None ↦ s | Some x ↦ follow_with c (reply_by d (Some x.id)) x s ])
+    at None found = h
+    at (Some x) found =
+        quiet_orderly _ _ (swept-quiet _ (leave-quiet _ _ (quiet_same _)))
+        (kept_orderly s (is_client c.number) (answering_with (reply_by d (Some x.id))) (λ e. refl)
+        (λ e i hit last now.
+        let there = in_find (is_row_of (text_of w.key)) x s.instances found in
+        let number = same_number e.number c.number hit in
+        answering_now s.instances s.next_instance (reply_by d (Some x.id)) e last refl (free e i number)
+        (to_show w.request (same_front e i number ∙ w.asks) by x.version (w.shows x found) refl refl x.id refl ((sound_facts hs).rows.given x there.0)
+        (λ y j id. ap (λ (z : Instance). z.version) (the_one instance_id s.instances y x (sound_facts hs).rows.differ j there.0 id))) now) h)
+
+-- ---- the row that comes into memory for it is the one that was seen
+
+key_of_front : (f : Front) (r : Parsed) (key : Key) → f ≡ IsRequest r → r.key ≡ Ok key → key_in f ≡ Some key
+key_of_front f r key asks names = ap key_in asks ∙ ap (λ (k : Result Key TargetFault). elim k as (λ x. Option Key) [ Ok found ↦ Some found | Err fault ↦ None ]) names
+
+-- it has this version
+VersionIs : Version → Bytes → State → Type 0
+VersionIs v key s = (x : Instance) → IsIn x s.instances → is_row_of key x ≡ true → x.version ≡ v
+
+mark_version : (v : Version) (key : Bytes) (s : State) → VersionIs v key s → VersionIs v key (mark_row_of key s)
+unfolding mark_row_of mark_row VersionIs
+mark_version v key s is = by (row s key)
+  where
+    by : (o : Option Instance) → VersionIs v key (elim o as (λ x. State) [ None ↦ s | Some x ↦ mark_row x.id s ])
+    by None x i hit = is x i hit
+    by (Some y) x i hit = is x (in_moved (λ z. z.id == y.id) x s.instances i) hit
+
+seen_version : {b : Since} (head : Request) (key : Bytes) (known : Row) (s : State) → Sound b s → row_for s head key ≡ Some known → VersionIs known.version key (enter key false s)
+unfolding enter add_row VersionIs
+seen_version {b} head key known s hs seen = by_row (row s key) refl seen
+  where
+    by_kept : (o : Option Entry) → row s key ≡ None → kept_row s key ≡ o → (elim o as (λ x. Option Row) [ None ↦ None | Some e ↦ Some (of_entry head e) ]) ≡ Some known
+        → VersionIs known.version key (elim o as (λ x. State) [ None ↦ s | Some e ↦ add_row key e.version e.fields e.times false (with_room s) ])
+    by_kept None none found is x i hit = absurd (cc is)
+    by_kept (Some e) none found is x i hit = at (in_push x (with_room s).instances _ i)
+      where
+        eq : of_entry head e ≡ known
+        eq = cc
+
+        at : IsIn x (with_room s).instances ⊎ (x ≡ record { id = (with_room s).next_instance; key = key; version = e.version; fields = e.fields; times = e.times; is_retired = false; is_new = false }) → x.version ≡ known.version
+        at (inl j) = absurd (no_row key (with_room s) (with_room-no_row key s none) x j hit)
+        at (inr one) = ap (λ (y : Instance). y.version) one ∙ ap (λ (r : Row). r.version) eq
+
+    by_row : (o : Option Instance) → row s key ≡ o
+        → (elim o as (λ x. Option Row) [ Some x ↦ Some (of_instance s head x) | None ↦ elim (kept_row s key) as (λ y. Option Row) [ None ↦ None | Some e ↦ Some (of_entry head e) ] ]) ≡ Some known
+        → VersionIs known.version key (elim o as (λ x. State) [ Some x ↦ s | None ↦ elim (kept_row s key) as (λ y. State) [ None ↦ s | Some e ↦ add_row key e.version e.fields e.times false (with_room s) ] ])
+    by_row None found is x i hit = by_kept (kept_row s key) found refl is x i hit
+    by_row (Some y) found is x i hit =
+        let there = in_find (is_row_of key) y s.instances found in
+        let eq : of_instance s head y ≡ known = cc in
+        ap (λ (z : Instance). z.version) (the_one instance_id s.instances x y (sound_facts hs).rows.differ i there.0 ((sound_facts hs).rows.own_keys key x y i there.0 hit there.1)) ∙ ap (λ (r : Row). r.version) eq
+
+entered_version : (c : Client) (d : Decision) (key : Key) (known : Row) (s : State) → is_for_memory d ≡ false → key_in c.front ≡ Some key → VersionIs known.version (text_of key) (enter (text_of key) false s)
+    → VersionIs known.version (text_of key) (enter_row c d s)
+unfolding enter_row
+entered_version c d key known s isnt_on names is =
+    subst (λ t. VersionIs known.version (text_of key) (elim t as (λ x. State) [
+      | true ↦ s
+      | false ↦ elim (key_in c.front) as (λ y. State) [ None ↦ s | Some k ↦ mark_row_of (text_of k) (enter (text_of k) false s) ]
+    ])) (sym isnt_on)
+    (subst (λ o. VersionIs known.version (text_of key) (elim o as (λ y. State) [ None ↦ s | Some k ↦ mark_row_of (text_of k) (enter (text_of k) false s) ])) (sym names)
+    (mark_version known.version (text_of key) (enter (text_of key) false s) is))
+
+no_memory : (d : Decision) → is_by_row d ≡ true → is_for_memory d ≡ false
+no_memory (Refuse status) by = absurd (cc by)
+no_memory (Hit from to) by = refl
+no_memory (Part from to) by = refl
+no_memory Head by = refl
+no_memory NotModified by = refl
+no_memory Unsatisfiable by = refl
+no_memory Relay by = refl
+no_memory Validate by = refl
+no_memory Fetch by = refl
+no_memory Pass by = refl
+
+pub row_for_it : {b : Since} (c : Client) (d : Decision) (s : State) → is_by_row d ≡ true → Sound b s → UsedRow s c d → IsRowFor c d (enter_row c d s)
+unfolding VersionIs
+row_for_it c d s by hs used = record {
+  request = used.request;
+  asks = used.asks;
+  key = used.key;
+  names = key_of_front c.front used.request used.key used.asks used.names;
+  shows = λ x found.
+      let there = in_find (is_row_of (text_of used.key)) x (enter_row c d s).instances found in
+      let version = entered_version c d used.key used.row s (no_memory d by) (key_of_front c.front used.request used.key used.asks used.names)
+      (seen_version used.request.head (text_of used.key) used.row s hs used.known) x there.0 there.1 in
+      subst (λ v. SpanOf used.request.head v d) (sym version) (subst (λ e. SpanOf used.request.head used.row.version e) used.made (span_known used.request.head used.row));
+}
+
+-- ---- all
+
+free_on : (d c : Client) → Quiet d c → IsFree c → IsFree d
+free_on d c q free = record { has = λ at. ap has_request q.front ∙ free.has (sym q.stage ∙ at); off = ap (λ st. is_begun (record c { stage = st })) q.stage ∙ free.off }
+
+-- what is decided for a client that may be decided
+pub decided-orderly : {n : ℕ} {told : Bytes} {b : Since} (c : Client) (d : Decision) (s : State) → IsIn c s.clients → IsFree c → (is_by_row d ≡ true → UsedRow s c d) → Sound b s → Orderly n told s → Orderly n told (decided c d s)
+unfolding decided decided_by
+decided-orderly {n} {told} {b} c d s there free used hs h = by d refl
+  where
+    t : State
+    t = enter_row c d s
+
+    quiet : Quietly s t
+    quiet = enter_row-quiet c d s (quiet_same s)
+
+    ht : Orderly n told t
+    ht = quiet_orderly s t quiet h
+
+    -- the one with its number is as it was
+    one : (e : Client) → IsIn e t.clients → e.number ≡ c.number → Quiet e c
+    one e i number =
+        let f = (facts_of quiet).clients_from e i in
+        subst (λ (x : Client). Quiet e x) (one_of client_number s.clients f.was c (order_of h).rise f.there there (sym f.is.number ∙ number)) f.is
+
+    all_free : AllFree c.number t
+    all_free e i number = free_on e c (one e i number) free
+
+    following : is_by_row d ≡ true → Orderly n told (follow c d t)
+    following by_row = follow-orderly c d t by_row (λ e i number. (one e i number).front) all_free (row_for_it c d s by_row hs (used by_row)) (enter_row-sound c d s hs) ht
+
+    followed : (e : Decision) → d ≡ e → is_by_row e ≡ true → Orderly n told (follow c e t)
+    followed e is by_row = subst (λ x. Orderly n told (follow c x t)) is (following (ap is_by_row is ∙ by_row))
+
+    by : (e : Decision) → d ≡ e → Orderly n told (decided_by c e t)
+    by (Refuse status) is = refuse-orderly c status t all_free ht
+    by Pass is = ask_origin-orderly c Pass t all_free ht
+    by Fetch is = ask_origin-orderly c Fetch t all_free ht
+    by Validate is = ask_origin-orderly c Validate t all_free ht
+    by Relay is = relay-orderly c t all_free ht
+    by (Hit from to) is = followed (Hit from to) is refl
+    by (Part from to) is = followed (Part from to) is refl
+    by Head is = followed Head is refl
+    by NotModified is = followed NotModified is refl
+    by Unsatisfiable is = followed Unsatisfiable is refl
