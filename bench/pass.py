@@ -3,20 +3,17 @@
 import contextlib
 import multiprocessing
 import os
-import platform
-import shutil
 import signal
 import socket
-import statistics
-import subprocess
 import sys
 import tempfile
 import time
 
 sys.path.insert(0, os.path.join(os.path.dirname(os.path.abspath(__file__)), "..", "e2e"))
 
-from network import free_port, raise_loopback, wait_until_it_listens  # noqa: E402
+from network import raise_loopback  # noqa: E402
 from origin import noise, plain  # noqa: E402
+from ways import NOTHING, Way, describe_machine, report, start_polipo, start_squid, start_tinyproxy  # noqa: E402
 
 ROUNDS = 5
 SECONDS = 2.0
@@ -25,24 +22,6 @@ ORIGINS = 48
 LARGE_LEN = 200_000_000
 # What the origin answers; made before its processes are, which share it.
 SMALL, LARGE = plain(noise(1024)), plain(noise(LARGE_LEN))
-
-TINYPROXY = """Port {port}
-Listen 127.0.0.1
-Timeout 60
-MaxClients 200
-"""
-
-SQUID = """http_port 127.0.0.1:{port}
-http_access allow all
-cache deny all
-access_log none
-cache_log /dev/null
-pid_filename none
-shutdown_lifetime 0 seconds
-client_persistent_connections on
-server_persistent_connections on
-"""
-
 
 def serve(listener):
     """One origin process: it serves one connection after the other."""
@@ -58,29 +37,6 @@ def serve(listener):
         except OSError:
             pass
         connection.close()
-
-
-class Way:
-    """How the origin is reached: direct, or through a proxy that was started."""
-
-    def __init__(self, name, address, authority, process=None):
-        self.name = name
-        self.address = address
-        self.authority = authority
-        self.process = process
-        self.target = "" if process is None else f"http://{authority}"
-
-    def request(self, path):
-        return f"GET {self.target}{path} HTTP/1.1\r\nHost: {self.authority}\r\n\r\n".encode()
-
-    def stop(self):
-        if self.process is not None:
-            stop(self.process)
-
-
-def stop(process):
-    process.terminate()
-    process.wait()
 
 
 def length_of(head):
@@ -176,50 +132,6 @@ def measure(way, path, clients):
     return replies / elapsed, volume / elapsed / 1e6, failures
 
 
-def start(name, command, port, ways):
-    """Starts a proxy, where it is there."""
-    if shutil.which(command[0]) is None:
-        print(f"skipped: {name} is missing")
-        return
-    process = subprocess.Popen(command, stdin=subprocess.DEVNULL, stdout=subprocess.DEVNULL, stderr=subprocess.DEVNULL)
-    if why := wait_until_it_listens(process, port, seconds=15):
-        stop(process)
-        print(f"skipped: {name}: {why}")
-    else:
-        ways.append(Way(name, ("127.0.0.1", port), ways[0].authority, process))
-
-
-def start_all(program, folder, ways):
-    """Starts the proxies that are there, each on a port of its own."""
-    ports = {name: free_port() for name in ("polipo", "tinyproxy", "squid")}
-    for name, text in (("tinyproxy", TINYPROXY), ("squid", SQUID)):
-        with open(f"{folder}/{name}.conf", "w") as file:
-            file.write(text.format(port=ports[name]))
-    start("polipo", [program, f"proxyPort={ports['polipo']}"], ports["polipo"], ways)
-    start("tinyproxy", ["tinyproxy", "-d", "-c", f"{folder}/tinyproxy.conf"], ports["tinyproxy"], ways)
-    start("squid", ["squid", "-N", "-f", f"{folder}/squid.conf"], ports["squid"], ways)
-
-
-def describe_machine():
-    with open("/proc/cpuinfo") as file:
-        models = [line.split(":", 1)[1].strip() for line in file if line.startswith("model name")]
-    with open("/proc/meminfo") as file:
-        memory = int(file.readline().split()[1]) // 1024
-    load = ", ".join(f"{value:.1f}" for value in os.getloadavg())
-    model = models[0] if models else platform.machine()
-    print(f"machine: {os.cpu_count()} x {model}, {memory} MiB, Linux {platform.release()}, load {load}")
-    print(f"{ROUNDS} rounds of {SECONDS} s, interleaved; medians; client and origin on the same machine, in Python")
-
-
-def report(title, unit, results):
-    print(f"\n{title}")
-    direct = statistics.median(results["direct"])
-    for name, values in results.items():
-        median = statistics.median(values)
-        spread = f"{min(values):,.0f} to {max(values):,.0f}"
-        print(f"  {name:<10} {median:>10,.0f} {unit}   {median / direct:5.2f} of direct   ({spread})")
-
-
 def compare(ways, title, unit, path, clients, which):
     results = {way.name: [] for way in ways}
     failures = {way.name: 0 for way in ways}
@@ -251,10 +163,13 @@ def origin_processes():
 def main():
     raise_loopback()
     describe_machine()
+    print(f"{ROUNDS} rounds of {SECONDS} s, interleaved; medians; client and origin on the same machine, in Python")
     with tempfile.TemporaryDirectory() as folder, origin_processes() as address:
         ways = [Way("direct", address, f"127.0.0.1:{address[1]}")]
         try:
-            start_all(os.path.abspath(sys.argv[1]), folder, ways)
+            start_polipo(os.path.abspath(sys.argv[1]), ways)
+            start_tinyproxy(folder, ways)
+            start_squid(folder, ways, NOTHING)
             compare(ways, f"replies of 1 KiB, {CLIENTS} clients", "/s", "/small", CLIENTS, 0)
             compare(ways, f"a body of {LARGE_LEN // 1_000_000} MB, one client", "MB/s", "/large", 1, 1)
         finally:

@@ -1,0 +1,170 @@
+"""Measures what is served from memory, through proxies that cache: hits.py PROGRAM. The client is bench/load.c."""
+
+import email.utils
+import multiprocessing
+import os
+import signal
+import socket
+import statistics
+import subprocess
+import sys
+import tempfile
+import time
+
+sys.path.insert(0, os.path.join(os.path.dirname(os.path.abspath(__file__)), "..", "e2e"))
+
+from network import raise_loopback  # noqa: E402
+from origin import noise  # noqa: E402
+from ways import ALL_IN_MEMORY, Way, describe_machine, report, start_nginx, start_polipo, start_squid  # noqa: E402
+
+ROUNDS = 3
+SECONDS = 2.0
+IDLE = 200
+READERS = 64
+NEW_LEN = 50_000_000
+SIZES = {"/1k": (1024, 32), "/100k": (102_400, 8), "/10m": (10_000_000, 4)}
+FRESH = "HTTP/1.1 200 OK\r\nDate: {}\r\nCache-Control: max-age=86400\r\nETag: \"v\"\r\nContent-Length: {}\r\n\r\n"
+
+
+def fresh(body):
+    return FRESH.format(email.utils.formatdate(usegmt=True), len(body)).encode() + body
+
+
+def serve(listener, replies, new, asked):
+    """One origin process. What is new under each path is counted as it is asked for."""
+    while True:
+        connection, _ = listener.accept()
+        try:
+            waiting = b""
+            while more := connection.recv(65536):
+                *heads, waiting = (waiting + more).split(b"\r\n\r\n")
+                for head in heads:
+                    path = head.split(b" ", 2)[1].decode()
+                    if path not in replies:
+                        with asked.get_lock():
+                            asked.value += 1
+                    connection.sendall(replies.get(path, new))
+        except OSError:
+            pass
+        connection.close()
+
+
+def seconds_of(process):
+    """Its processor time, in seconds."""
+    with open(f"/proc/{process.pid}/stat") as file:
+        fields = file.read().rsplit(")", 1)[1].split()
+    own = (int(fields[11]) + int(fields[12])) / os.sysconf("SC_CLK_TCK")
+    children = subprocess.run(["pgrep", "-P", str(process.pid)], capture_output=True, text=True).stdout.split()
+    for child in children:  # nginx's worker
+        with open(f"/proc/{child}/stat") as file:
+            fields = file.read().rsplit(")", 1)[1].split()
+        own += (int(fields[11]) + int(fields[12])) / os.sysconf("SC_CLK_TCK")
+    return own
+
+
+def megabytes_of(process):
+    with open(f"/proc/{process.pid}/status") as file:
+        return next(int(line.split()[1]) / 1000 for line in file if line.startswith("VmHWM"))
+
+
+class Loads:
+    """The client: a program in C, which is built here."""
+
+    def __init__(self, folder):
+        self.folder = folder
+        source = os.path.join(os.path.dirname(os.path.abspath(__file__)), "load.c")
+        subprocess.run(["cc", "-O2", "-o", f"{folder}/load", source], check=True)
+
+    def run(self, way, path, connections, seconds):
+        """Replies a second, megabytes a second, failures, and the seconds that it took."""
+        with open(f"{self.folder}/request", "wb") as file:
+            file.write(way.request(path))
+        host, port = way.address
+        words = [f"{self.folder}/load", host, str(port), str(connections), str(seconds), f"{self.folder}/request"]
+        replies, volume, took, failures = subprocess.run(words, capture_output=True, text=True, check=True).stdout.split()
+        return int(replies) / float(took), int(volume) / float(took) / 1e6, int(failures), float(took)
+
+
+def compare(loads, ways, title, path, connections, unit):
+    results, failed, spent = {way.name: [] for way in ways}, {}, {way.name: [] for way in ways}
+    for _ in range(ROUNDS):
+        for way in ways:
+            before = seconds_of(way.process) if way.process else 0
+            measured = loads.run(way, path, connections, SECONDS)
+            results[way.name].append(measured[0 if unit == "/s" else 1])
+            failed[way.name] = failed.get(way.name, 0) + measured[2]
+            if way.process:
+                spent[way.name].append((seconds_of(way.process) - before) / max(1, measured[0] * measured[3]) * 10_000)
+    report(title, unit, results)
+    for way in ways:
+        if spent[way.name]:
+            print(f"  {way.name:<10} {statistics.median(spent[way.name]):.3f} processor seconds for 10,000 of them")
+        if failed[way.name]:
+            print(f"  {way.name}: {failed[way.name]} requests failed")
+    return results
+
+
+def beside_idle_clients(loads, way, alone):
+    """How fast hits are while so many clients are connected and say nothing, of what they are without."""
+    idle = [socket.create_connection(way.address) for _ in range(IDLE)]
+    time.sleep(0.2)
+    rates = [loads.run(way, "/1k", 32, SECONDS)[0] for _ in range(ROUNDS)]
+    for client in idle:
+        client.close()
+    print(f"  {way.name:<10} {statistics.median(rates) / alone:.2f} of it beside {IDLE} clients that say nothing")
+
+
+def read_by_many(loads, ways, asked):
+    """Many readers of one new body at once: how long it takes, and how often the origin is asked."""
+    print(f"\n{READERS} readers of a new body of {NEW_LEN // 1_000_000} MB")
+    for way in ways[1:]:
+        took, asks = [], []
+        for turn in range(ROUNDS):
+            before = asked.value
+            _, _, failures, seconds = loads.run(way, f"/new/{way.name}/{turn}", READERS, 0)
+            took.append(seconds)
+            asks.append(asked.value - before)
+            if failures:
+                print(f"  {way.name}: {failures} requests failed")
+        print(f"  {way.name:<10} {statistics.median(took):6.2f} s, asked {statistics.median(asks):.0f} times")
+
+
+def main():
+    raise_loopback()
+    describe_machine()
+    print(f"{ROUNDS} rounds of {SECONDS} s, interleaved; medians; client (in C) and origin (in Python) on the same machine")
+    replies = {path: fresh(noise(length)) for path, (length, _) in SIZES.items()}
+    new, asked = fresh(noise(NEW_LEN)), multiprocessing.Value("q", 0)
+    with tempfile.TemporaryDirectory() as folder, socket.create_server(("127.0.0.1", 0), backlog=1024) as listener:
+        os.chmod(folder, 0o777)
+        origins = [multiprocessing.Process(target=serve, args=(listener, replies, new, asked), daemon=True) for _ in range(48)]
+        for process in origins:
+            process.start()
+        address, loads = listener.getsockname(), Loads(folder)
+        ways = [Way("direct", address, f"127.0.0.1:{address[1]}")]
+        try:
+            start_polipo(os.path.abspath(sys.argv[1]), ways)
+            start_squid(folder, ways, ALL_IN_MEMORY)
+            start_nginx(folder, ways)
+            small = None
+            for path, (length, connections) in SIZES.items():
+                unit = "/s" if length < 100_000 else "MB/s"
+                results = compare(loads, ways, f"hits of {length:,} bytes, {connections} connections", path, connections, unit)
+                small = small or results
+            print()
+            for way in ways[1:]:
+                beside_idle_clients(loads, way, statistics.median(small[way.name]))
+            read_by_many(loads, ways, asked)
+            print()
+            for way in ways[1:]:
+                print(f"  {way.name:<10} {megabytes_of(way.process):.0f} MB of memory at most")
+        finally:
+            for way in ways:
+                way.stop()
+            for process in origins:
+                process.kill()
+
+
+if __name__ == "__main__":
+    signal.signal(signal.SIGTERM, lambda *_: sys.exit(1))
+    main()

@@ -1,0 +1,141 @@
+"""The ways to an origin that benchmarks compare: direct, and through proxies that are started where they are there."""
+
+import os
+import platform
+import shutil
+import statistics
+import subprocess
+import sys
+
+sys.path.insert(0, os.path.join(os.path.dirname(os.path.abspath(__file__)), "..", "e2e"))
+
+from network import free_port, wait_until_it_listens  # noqa: E402
+
+TINYPROXY = """Port {port}
+Listen 127.0.0.1
+Timeout 60
+MaxClients 200
+"""
+
+# What squid does with what it could keep.
+NOTHING, ALL_IN_MEMORY = "cache deny all", "cache_mem 256 MB\nmaximum_object_size_in_memory 64 MB\nmaximum_object_size 64 MB"
+SQUID = """http_port 127.0.0.1:{port}
+http_access allow all
+{keeps}
+access_log none
+cache_log /dev/null
+pid_filename none
+shutdown_lifetime 0 seconds
+client_persistent_connections on
+server_persistent_connections on
+"""
+
+
+NGINX = """worker_processes 1;
+daemon off;
+pid {folder}/nginx.pid;
+error_log /dev/null;
+events {{ worker_connections 1024; }}
+http {{
+    access_log off;
+    client_body_temp_path {folder}/body;
+    proxy_temp_path {folder}/temp;
+    proxy_cache_path {folder}/kept keys_zone=kept:10m max_size=1g;
+    sendfile on;
+    tcp_nopush on;
+    keepalive_requests 1000000;
+    server {{
+        listen 127.0.0.1:{port};
+        location / {{
+            proxy_pass http://{authority};
+            proxy_cache kept;
+            proxy_cache_lock on;
+            proxy_cache_lock_timeout 60s;
+        }}
+    }}
+}}
+"""
+
+
+class Way:
+    """How the origin is reached: direct, or through a proxy that was started."""
+
+    def __init__(self, name, address, authority, process=None):
+        self.name = name
+        self.address = address
+        self.authority = authority
+        self.process = process
+        self.target = "" if process is None else f"http://{authority}"
+
+    def request(self, path):
+        return f"GET {self.target}{path} HTTP/1.1\r\nHost: {self.authority}\r\n\r\n".encode()
+
+    def stop(self):
+        if self.process is not None:
+            stop(self.process)
+
+
+def stop(process):
+    process.terminate()
+    process.wait()
+
+
+def start(name, command, port, ways):
+    """Starts a proxy, where it is there."""
+    if shutil.which(command[0]) is None:
+        print(f"skipped: {name} is missing")
+        return
+    process = subprocess.Popen(command, stdin=subprocess.DEVNULL, stdout=subprocess.DEVNULL, stderr=subprocess.DEVNULL)
+    if why := wait_until_it_listens(process, port, seconds=15):
+        stop(process)
+        print(f"skipped: {name}: {why}")
+    else:
+        ways.append(Way(name, ("127.0.0.1", port), ways[0].authority, process))
+
+
+def configured(folder, name, text, **values):
+    """A port, and the file that has this proxy listen on it."""
+    port, file = free_port(), f"{folder}/{name}.conf"
+    with open(file, "w") as out:
+        out.write(text.format(port=port, folder=folder, **values))
+    return port, file
+
+
+def start_polipo(program, ways, *settings):
+    port = free_port()
+    start("polipo", [program, f"proxyPort={port}", *settings], port, ways)
+
+
+def start_tinyproxy(folder, ways):
+    port, file = configured(folder, "tinyproxy", TINYPROXY)
+    start("tinyproxy", ["tinyproxy", "-d", "-c", file], port, ways)
+
+
+def start_squid(folder, ways, keeps):
+    port, file = configured(folder, "squid", SQUID, keeps=keeps)
+    start("squid", ["squid", "-N", "-f", file], port, ways)
+
+
+def start_nginx(folder, ways):
+    """One worker, a caching proxy of this one origin: it knows no other form of a forward proxy."""
+    port, file = configured(folder, "nginx", NGINX, authority=ways[0].authority)
+    start("nginx", ["nginx", "-p", folder, "-c", file], port, ways)
+
+
+def describe_machine():
+    with open("/proc/cpuinfo") as file:
+        models = [line.split(":", 1)[1].strip() for line in file if line.startswith("model name")]
+    with open("/proc/meminfo") as file:
+        memory = int(file.readline().split()[1]) // 1024
+    load = ", ".join(f"{value:.1f}" for value in os.getloadavg())
+    model = models[0] if models else platform.machine()
+    print(f"machine: {os.cpu_count()} x {model}, {memory} MiB, Linux {platform.release()}, load {load}")
+
+
+def report(title, unit, results):
+    print(f"\n{title}")
+    direct = statistics.median(results["direct"])
+    for name, values in results.items():
+        median = statistics.median(values)
+        spread = f"{min(values):,.0f} to {max(values):,.0f}"
+        print(f"  {name:<10} {median:>10,.0f} {unit}   {median / direct:5.2f} of direct   ({spread})")
