@@ -1,5 +1,7 @@
 // Rows that are refreshed or replaced.
-use pp_play::{ASK, Act, Exchange, GET, HEAD, Part, REPLY, RESPONSE, Step, T, Wanted, unlike};
+use pp_play::{
+    ASK, Act, Exchange, GET, HEAD, PAGE_502, Part, REPLY, RESPONSE, Step, T, Wanted, unlike,
+};
 use pp_world::Decision;
 use std::test::Fail;
 
@@ -159,6 +161,41 @@ const ANSWERED: &[Exchange<'static>] = &[
 #[test]
 fn the_full_answer_to_a_check_is_what_is_told(rt: HostRuntime) -> Result<(), Fail> {
     assert_eq!(rt; unlike(rt.alloc(), ANSWERED)?.as_str(), "");
+    Ok(())
+}
+
+const DISREGARDED: &[Exchange<'static>] = &[Exchange {
+    name: "a 304 of another version is one of three attempts (RFC 2616, section 10.3.5); a connection that had answered is none",
+    acts: &[
+        Act::Tick(T),
+        Act::Connect,
+        Act::Say(1, GET),
+        Act::Reach(2),
+        Act::Answer(2, RESPONSE),
+        Act::Tick(T + 61),
+        Act::Connect,
+        Act::Say(3, GET),
+        Act::Reach(4),
+        Act::Answer(4, b"HTTP/1.1 304 Not Modified\r\nETag: \"y\"\r\n\r\n"),
+        Act::End(4),
+        Act::Reach(5),
+        Act::End(5),
+        Act::Reach(6),
+        Act::End(6),
+    ],
+    wanted: &[
+        Wanted::Asked(2, &[ASK]),
+        Wanted::Asked(4, &[CHECK, ASK]),
+        Wanted::Asked(5, &[ASK]),
+        Wanted::Asked(6, &[ASK]),
+        Wanted::Said(3, &[Part::Text(PAGE_502)]),
+        Wanted::Count(Step::Dialled(80), 4),
+    ],
+}];
+
+#[test]
+fn a_304_of_another_version_is_no_answer(rt: HostRuntime) -> Result<(), Fail> {
+    assert_eq!(rt; unlike(rt.alloc(), DISREGARDED)?.as_str(), "");
     Ok(())
 }
 

@@ -27,7 +27,7 @@ use Rattle.pp_law.specs.Asking.{hear, ask_body, ask_next, ask, hang_up}
 use Rattle.pp_law.specs.Store.{remove_entry, note_gone, begin_op, begin_in_turn, enter_next, close_name, lose_draft, fail_op, end_op, lose_entry, note_kept, load_from, load}
 use Rattle.pp_law.specs.Opening.{with_settings, begun, woken, stuck, opened_to, configured, lose_in_opening}
 use Rattle.pp_law.specs.Phases.{next, come, come_to, come_to_decide, deciding, ending}
-use Rattle.pp_law.specs.Turn.{touch, first_marks, end_patience, close_idle_conn, renew_marks, tick_to, tick, rest_with}
+use Rattle.pp_law.specs.Turn.{touch, marks_anew, end_patience, close_idle_conn, renew_marks, tick_to, tick, rest_with}
 use Rattle.pp_law.specs.After.{event, opened, owing, reached, paid, said, gone, take_decision, evicted, refused_row, leave_memory, forgotten_by, noted, begun_op, ended_op, unread, shut, dialled, refused_dial, undialled, out, dropped, changed}
 use Rattle.pp_law.specs.Permits.{permits, is_permitted}
 use Rattle.pp_law.specs.Lawful.{rule_of}
@@ -51,7 +51,7 @@ unfolding clap_on_literals httpdate_on_literals pp_head_on_literals pp_target_on
     remove_entry note_gone begin_op begin_in_turn begin_in_opening enter_next close_name lose_draft fail_op end_op lose_entry note_kept load_from load
     with_settings begun woken stuck opened_to configured lose_in_opening
     next come come_to come_to_decide deciding ending
-    touch first_marks end_patience close_idle_conn renew_marks tick_to tick rest_with
+    touch marks_anew end_patience close_idle_conn renew_marks tick_to tick rest_with
     event opened owing reached paid said gone take_decision evicted refused_row leave_memory forgotten_by noted begun_op ended_op unread shut dialled refused_dial undialled out dropped changed
     permits is_permitted
     rule_of

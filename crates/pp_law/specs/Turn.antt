@@ -29,11 +29,18 @@ marked_conn now k = record k { mark = now }
 unfoldable pub touch : ℕ → State → State
 touch n s = on_conn n (marked_conn s.clock) (on_client n (marked_client s.clock) s)
 
--- the first tick of a life marks all
-unfoldable pub first_marks : ℕ → State → State
-first_marks now s = elim s.has_ticked [
-  | true ↦ s
-  | false ↦ record s { has_ticked = true; clients = map (marked_client now) s.clients; conns = map (marked_conn now) s.conns }
+-- ours: a tick that comes so many seconds behind the last one, as long as a client may be idle, tells of a computer that was asleep
+abbrev pub leap : ℕ
+leap = 120
+
+abbrev pub is_leap : ℕ → State → Bool
+is_leap now s = not s.has_ticked || nat_le leap (now - s.clock)
+
+-- the first tick of a life, and one that leaps, mark all: each waits its patience anew from there
+unfoldable pub marks_anew : ℕ → State → State
+marks_anew now s = elim (is_leap now s) [
+  | false ↦ s
+  | true ↦ record s { has_ticked = true; clients = map (marked_client now) s.clients; conns = map (marked_conn now) s.conns }
 ]
 
 -- all of its first ask was written, and its answer is due
@@ -63,7 +70,7 @@ renew_marks now s = record s { clients = map (woken_client now s) s.clients }
 
 unfoldable pub tick_to : ℕ → State → State
 tick_to now s =
-    let t : State = record (renew_marks now (first_marks now s)) { clock = now; is_ticked = true; has_lost_draft = false } in
+    let t : State = record (renew_marks now (marks_anew now s)) { clock = now; is_ticked = true; has_lost_draft = false } in
     each_conn close_idle_conn (map (λ k. k.number) t.conns) t
 
 -- the clock never goes back

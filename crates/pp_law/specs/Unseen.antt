@@ -1,11 +1,13 @@
 -- What nobody will see is not read: its connection is closed, and the others of its line are asked elsewhere (RFC 2616, section 8.1.4).
 use Rattle.std.specs.Prelude.{ℕ, Bool, true, false, ◌==◌, ◌&&◌, ◌||◌, not, nat_lt, max, List, [], ◌∷◌, fold, filter_map, length, map, is_some, Option, Some, None}
+use Rattle.std.specs.List.{list_any}
 use Rattle.pp_plan.specs.Need.{is_near}
 use Rattle.pp_law.specs.Connections.{each_conn, front_of_line, close_conn, end_exchange}
+use Rattle.pp_law.specs.Lists.{is_some_with}
 use Rattle.pp_law.specs.Responses.{payload_of}
 use Rattle.pp_law.specs.Stages.{bound_of}
 use Rattle.pp_law.specs.State.{State, Through, Own, Filling, Bound, Pending, Joining, Relaying, Dropping, Client, Conn, Exchange}
-use Rattle.pp_law.specs.Table.{is_followed, next_of}
+use Rattle.pp_law.specs.Table.{next_of}
 
 -- ---- how far a body is wanted
 
@@ -29,9 +31,13 @@ rested_exchange s e = elim (bound_of e) [ None ↦ e | Some b ↦ record e { bod
 
 -- ---- what is not read on
 
--- what is kept has readers, or little of it is left, or where the last of them left is near, before it or behind
+-- the next byte of a client that follows it comes soon enough
+abbrev pub has_reader_near : State → Bound → Bool
+has_reader_near s b = list_any (λ c. is_some_with (is_near b.next) (at_of s b c)) s.clients
+
+-- what is kept has a reader near, or little of it is left, or where the last of its readers left is near, before it or behind
 abbrev pub is_worth_keeping : State → Bound → Bool
-is_worth_keeping s b = is_followed s b.instance || is_near b.next b.to || (is_near b.wanted b.next && is_near b.next b.wanted)
+is_worth_keeping s b = has_reader_near s b || is_near b.next b.to || (is_near b.wanted b.next && is_near b.next b.wanted)
 
 -- ours: what is dropped as it comes is read for so many bytes, to spare the connection
 abbrev pub drop_limit : ℕ

@@ -7,7 +7,7 @@ use Rattle.pp_law.specs.Opening.{is_at}
 use Rattle.pp_law.specs.Phases.{phases, in_phase, behind, next, is_done, come, come_to, decides, come_to_decide, deciding, ending}
 use Rattle.pp_law.specs.Stages.{bound_in, bound_of, is_pending}
 use Rattle.pp_law.specs.State.{State, Phase, Before, IsWoken, IsConfigured, IsRooted, IsListed, IsListening, IsStuck, Awaiting, Handling, Evicting, Keeping, Deciding, Following, Connecting, DecidingAgain, Body, Bound, Pending, Joining, Relaying, Dropping, Client, Conn, Exchange}
-use Rattle.pp_law.specs.Turn.{waits_for_exchange, marked_client, marked_conn, touch, first_marks, is_idle_conn, owes_answer, end_patience, close_idle_conn, woken_client, renew_marks, tick_to, tick, rested_client, rested_conn, rested_instance, rest_with}
+use Rattle.pp_law.specs.Turn.{waits_for_exchange, marked_client, marked_conn, touch, is_leap, marks_anew, is_idle_conn, owes_answer, end_patience, close_idle_conn, woken_client, renew_marks, tick_to, tick, rested_client, rested_conn, rested_instance, rest_with}
 use Rattle.pp_law.specs.Unseen.{furthest_at, wanted_to, rested_exchange, is_unseen, drop_on, drop_unseen}
 use Rattle.pp_laws.proofs.Callers.{same_parts}
 use Rattle.pp_laws.proofs.Cases.{each_of, when}
@@ -81,10 +81,10 @@ pub touch-sound : {b : Since} (n : ℕ) (s : State) → Sound b s → Sound b (t
 unfolding touch
 touch-sound n s h = on_conn-sound n (marked_conn s.clock) _ (λ k. record { number = refl; line = refl; answer = refl }) (on_client-sound n (marked_client s.clock) s (λ c. same_parts _ c refl refl refl) h)
 
-pub first_marks-sound : {b : Since} (now : ℕ) (s : State) → Sound b s → Sound b (first_marks now s)
-unfolding first_marks
-first_marks-sound {b} now s h = when s.has_ticked h (sound (clients_mapped b (record s { conns = map (marked_conn now) s.conns }) (marked_client now) (λ c. same_parts _ c refl refl refl)
-    (conns_mapped b s (marked_conn now) (λ k. record { number = refl; line = refl; answer = refl }) (facts_of h))))
+pub marks_anew-sound : {b : Since} (now : ℕ) (s : State) → Sound b s → Sound b (marks_anew now s)
+unfolding marks_anew
+marks_anew-sound {b} now s h = when (is_leap now s) (sound (clients_mapped b (record s { conns = map (marked_conn now) s.conns }) (marked_client now) (λ c. same_parts _ c refl refl refl)
+    (conns_mapped b s (marked_conn now) (λ k. record { number = refl; line = refl; answer = refl }) (facts_of h)))) h
 
 patience_ended : {b : Since} (k : Conn) (s : State) → Sound b s → Sound b (end_patience k s)
 unfolding end_patience
@@ -110,8 +110,8 @@ pub tick_to-sound : {b : Since} (now : ℕ) (s : State) → Sound b s → Sound 
 unfolding tick_to
 tick_to-sound {b} now s h = each_conn-sound close_idle_conn (λ k t there ht. close_idle_conn-sound k t (own_line k t there ht) ht) _ _ marked
   where
-    marked : Sound b (record (renew_marks now (first_marks now s)) { clock = now; is_ticked = true; has_lost_draft = false })
-    marked = sound (facts_of (renew_marks-sound now _ (first_marks-sound now s h)))
+    marked : Sound b (record (renew_marks now (marks_anew now s)) { clock = now; is_ticked = true; has_lost_draft = false })
+    marked = sound (facts_of (renew_marks-sound now _ (marks_anew-sound now s h)))
 
 pub tick-sound : {b : Since} (now : ℕ) (s : State) → Sound b s → Sound b (tick now s)
 unfolding tick

@@ -1,6 +1,8 @@
 // Step 1: the event, with at most one read or one write.
+ghost use Rattle.std.specs.Prelude.{◌≡◌};
 ghost use Rattle.pp_links.specs.Links.{IsLinked};
 ghost use Rattle.pp_links.specs.Quiet.{GrowsQuietly};
+ghost use Rattle.pp_proxy.specs.Patience.{is_leap};
 
 use crate::desk::Desk;
 use crate::origin::Origin;
@@ -14,6 +16,10 @@ use pp_world::{Event, Wire};
 const ANSWER_SECONDS: u64 = 300;
 
 const IDLE_SECONDS: u64 = 60;
+
+/// Ours: a tick that comes so many seconds behind the last one, as long as a client may be idle, tells of a computer
+/// that was asleep.
+const LEAP_SECONDS: u64 = 120;
 
 impl Desk {
     /// Takes the event in.
@@ -73,17 +79,13 @@ impl Desk {
         }
     }
 
-    /// The clock never goes back. The first tick of a life marks all.
+    /// The clock never goes back. The first tick of a life, and one that leaps, mark all: each waits its patience
+    /// anew from there.
     fn tick(&mut self, seconds: u64) {
         let now = self.state.now.max(seconds);
-        if !self.state.has_ticked {
+        if self.is_leap(now) {
             self.state.has_ticked = true;
-            for seat in self.state.seats.iter_mut() {
-                seat.client.set_mark(now);
-            }
-            for origin in self.origins.iter_mut() {
-                origin.mark = now;
-            }
+            self.mark_all(now);
         }
         self.state.renew_marks(now);
         self.state.now = now;
@@ -94,6 +96,21 @@ impl Desk {
             };
             self.end_patience(k);
             self.close_origin(k, true);
+        }
+    }
+
+    fn is_leap(&self, now: u64) -> bool
+        ensures { result ≡ is_leap now self.now.state.has_ticked self.now.state.now }
+    {
+        !self.state.has_ticked || LEAP_SECONDS <= now.saturating_sub(self.state.now)
+    }
+
+    fn mark_all(&mut self, now: u64) {
+        for seat in self.state.seats.iter_mut() {
+            seat.client.set_mark(now);
+        }
+        for origin in self.origins.iter_mut() {
+            origin.mark = now;
         }
     }
 

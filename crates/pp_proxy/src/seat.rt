@@ -1,6 +1,8 @@
 // A client, and how far its current request is.
-ghost use Rattle.std.specs.Prelude.{◌≤◌};
+ghost use Rattle.std.specs.Prelude.{◌≡◌, ◌≤◌};
 ghost use Rattle.pp_client.specs.Replies.{left_next};
+ghost use Rattle.pp_proxy.specs.Courses.{has_begun, without_row};
+ghost use Rattle.pp_proxy.specs.Unseen.{answer_in, next_of};
 
 use crate::front::Front;
 use pp_client::Client;
@@ -151,7 +153,9 @@ impl Seat {
         self.client.id()
     }
 
-    pub(crate) fn answer(&self) -> Option<Answer> {
+    pub(crate) fn answer(&self) -> Option<Answer>
+        ensures { result ≡ answer_in self.now.stage }
+    {
         match self.stage {
             Stage::Undecided | Stage::Waiting | Stage::Passing => None,
             Stage::Answering(answer) => Some(answer),
@@ -198,7 +202,9 @@ impl Seat {
     }
 
     /// The client is in the midst of a reply.
-    pub(crate) fn has_begun(&self) -> bool {
+    pub(crate) fn has_begun(&self) -> bool
+        ensures { result ≡ has_begun self.now }
+    {
         match self.answer() {
             None => false,
             Some(answer) => answer.has_begun,
@@ -211,7 +217,9 @@ impl Seat {
     }
 
     /// Its next byte of the instance that it follows.
-    pub(crate) fn next(&self) -> Option<Next> {
+    pub(crate) fn next(&self) -> Option<Next>
+        ensures { result ≡ next_of self.now }
+    {
         if self.is_closing {
             return None;
         }
@@ -272,6 +280,17 @@ impl Seat {
             } else {
                 Course::Trying(lost)
             };
+        }
+    }
+
+    /// The row whose hole nobody filled was cleared. Where the reply has not begun, its request is decided again
+    /// without it, once, and its attempts count anew.
+    pub(crate) fn lose_row(&mut self)
+        ensures { self.new ≡ without_row self.old }
+    {
+        if !self.has_begun() && !self.has_given_up {
+            self.course = Course::Trying(0);
+            self.has_given_up = true;
         }
     }
 

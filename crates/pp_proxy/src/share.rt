@@ -1,4 +1,7 @@
 // One fetch for many (ours): a request waits once for what another has asked for already.
+ghost use Rattle.std.specs.Prelude.{◌≡◌};
+ghost use Rattle.pp_proxy.specs.Patience.{is_patient};
+
 use crate::seat::{Seat, Shared, Stage};
 use crate::state::State;
 use pp_flow::Aim;
@@ -31,7 +34,7 @@ impl State {
     }
 
     fn is_patient(&self, shared: &Shared) -> bool {
-        self.is_awaited(shared.exchange) && self.now.saturating_sub(shared.since) < PATIENCE
+        is_patient(self.is_awaited(shared.exchange), self.now, shared.since)
     }
 
     /// A request waits once for what is asked already.
@@ -57,4 +60,11 @@ impl State {
             && seat.front.is_there()
             && self.due_undecided(seat).is_none()
     }
+}
+
+/// The answer is awaited, and the request began to wait for it less than five seconds ago.
+fn is_patient(is_awaited: bool, now: u64, since: u64) -> bool
+    ensures { result ≡ is_patient is_awaited now since }
+{
+    is_awaited && now.saturating_sub(since) < PATIENCE
 }

@@ -1,4 +1,8 @@
 // What the steps of a turn change together: clients, exchanges and the cache.
+ghost use Rattle.std.specs.Prelude.{◌≡◌};
+ghost use Rattle.pp_proxy.specs.Courses.{is_unfilled};
+ghost use Rattle.pp_proxy.specs.Heads.{cleared, key_of};
+
 use crate::cache::Cache;
 use crate::errand::Errand;
 use crate::noted::Noted;
@@ -6,6 +10,7 @@ use crate::seat::{Course, Seat, Stage};
 use arrayvec::ArrayVec;
 use pp_flow::{Aim, EXCHANGES, Exchange, Flow};
 use pp_peers::Limits;
+use pp_valid::Version;
 use std::alloc::Global;
 
 #[derive(Drop)]
@@ -142,38 +147,30 @@ impl State {
         self.give_up_row(e);
     }
 
-    /// A row whose hole nobody fills is cleared. Where the reply has not begun, its request is decided again
-    /// without it, once, and its attempts count anew.
+    /// A row whose hole nobody fills is cleared, and its request leaves the exchange.
     fn give_up_row(&mut self, e: &Exchange) {
-        if !self.is_unfilled(e) {
-            return;
+        if self.is_unfilled(e) {
+            self.drop_row(e);
         }
+    }
+
+    fn drop_row(&mut self, e: &Exchange)
+        ensures { self.new.cache ≡ cleared (key_of e.now.number self.old.flow) self.old.cache }
+    {
         self.clear_row(e);
         if let Some(i) = self.seat_for(e) {
             if let Some(seat) = self.seats.get_mut(i) {
-                if !seat.has_begun() && !seat.has_given_up {
-                    seat.course = Course::Trying(0);
-                    seat.has_given_up = true;
-                }
+                seat.lose_row();
             }
         }
         self.flow.leave(e.number);
     }
 
-    /// It asks for a hole of its key's row, and the attempts of its request ended.
     fn is_unfilled(&self, e: &Exchange) -> bool {
-        let Aim::Hole(version, _, _) = e.aim else {
-            return false;
-        };
-        let is_out = match self.asker_of(e.number) {
-            None => false,
-            Some(seat) => seat.course == Course::OutOfTries,
-        };
-        let known = match self.flow.key(e.number) {
-            None => None,
-            Some(key) => self.cache.version(key),
-        };
-        is_out && known == Some(version)
+        match (self.asker_of(e.number), self.known_version(e)) {
+            (Some(seat), Some(known)) => is_unfilled(&e.aim, seat.course, &known),
+            (Some(_), None) | (None, Some(_)) | (None, None) => false,
+        }
     }
 
     /// The client follows nothing any more.
@@ -207,5 +204,18 @@ impl State {
     /// Eviction begins where as many chunks are used as the trigger says.
     pub(crate) fn note_use(&mut self) {
         self.is_evicting = self.is_evicting || self.trigger <= self.cache.used();
+    }
+}
+
+/// A hole of the row's version was asked for, and the attempts of its request ended.
+fn is_unfilled(aim: &Aim, course: Course, known: &Version) -> bool
+    ensures { result ≡ is_unfilled aim.now course known.now }
+{
+    match (aim, course) {
+        (Aim::Hole(version, _, _), Course::OutOfTries) => {
+            version.tag.as_slice() == known.tag.as_slice() && version.length == known.length
+        }
+        (Aim::Hole(_, _, _), Course::Trying(_) | Course::AskTooLong) => false,
+        (Aim::Own | Aim::Pass, _) => false,
     }
 }

@@ -1,7 +1,12 @@
 // What nobody will see is not read on: its connection is closed, and the others of its line are asked
 // elsewhere (RFC 2616, section 8.1.4).
+ghost use Rattle.std.specs.Prelude.{◌≡◌};
+ghost use Rattle.pp_objects.specs.Instances.{is_same_id};
+ghost use Rattle.pp_proxy.specs.Unseen.{has_reader_near, is_next_near, is_unseen, is_worth_keeping, next_of};
+
 use crate::desk::Desk;
 use crate::errand::Body;
+use crate::seat::Seat;
 use crate::state::State;
 use pp_flow::{Aim, Exchange};
 use pp_objects::ObjectId;
@@ -29,32 +34,30 @@ impl State {
     fn unseen_on(&self, k: u64) -> Option<u64> {
         let number = self.flow.line(k, 0)?;
         let e = self.flow.get(number)?;
-        let is_unseen = match self.errand(number)?.body {
-            Body::Pending => e.aim == Aim::Pass && e.asker.is_none(),
-            Body::Joining(wanted) => !self.is_worth_keeping(e, wanted),
-            Body::Relaying => e.asker.is_none(),
-            Body::Dropping(count) => DROP_LIMIT < count,
+        let body = self.errand(number)?.body;
+        let is_kept = match body {
+            Body::Joining(wanted) => self.is_kept(e, wanted),
+            Body::Pending | Body::Relaying | Body::Dropping(_) => false,
         };
-        if is_unseen { Some(number) } else { None }
-    }
-
-    /// What is kept has readers, or little of it is left, or where the last of them left is near, before it or
-    /// behind.
-    fn is_worth_keeping(&self, e: &Exchange, wanted: u64) -> bool {
-        match e.bound {
-            None => false,
-            Some((id, next, to)) => {
-                self.is_followed(id)
-                    || is_near(next, to)
-                    || is_near(wanted, next) && is_near(next, wanted)
-            }
+        if is_unseen(body, e.aim == Aim::Pass, e.asker.is_some(), is_kept) {
+            Some(number)
+        } else {
+            None
         }
     }
 
-    fn is_followed(&self, id: ObjectId) -> bool {
-        self.seats
-            .iter()
-            .any(|seat| !seat.is_closing && seat.source() == Some(id))
+    fn is_kept(&self, e: &Exchange, wanted: u64) -> bool {
+        match e.bound {
+            None => false,
+            Some((id, next, to)) => {
+                is_worth_keeping(
+                    has_reader_near(self.seats.as_slice(), id, next),
+                    next,
+                    to,
+                    wanted,
+                )
+            }
+        }
     }
 
     /// The head of the exchange's response came: what becomes of the body is known.
@@ -97,5 +100,47 @@ impl State {
         let e = self.flow.get(self.errands.get(place)?.number)?;
         let (id, _, _) = e.bound?;
         self.furthest(id)
+    }
+}
+
+/// The next byte of a client that follows it comes soon enough.
+fn has_reader_near(seats: &[Seat], id: ObjectId, from: u64) -> bool
+    ensures { result ≡ has_reader_near id from seats.now }
+{
+    seats.iter().any(|seat| is_next_near(seat, id, from))
+}
+
+fn is_next_near(seat: &Seat, id: ObjectId, from: u64) -> bool
+    ensures { result ≡ is_next_near id from (next_of seat.now) }
+{
+    match seat.next() {
+        None => false,
+        Some(next) => is_same(next.source, id) && is_near(from, next.at),
+    }
+}
+
+fn is_same(a: ObjectId, b: ObjectId) -> bool
+    ensures { result ≡ is_same_id a b }
+{
+    a.slot == b.slot && a.life == b.life
+}
+
+/// What is kept has a reader near, or little of it is left, or where the last of its readers left is near, before
+/// it or behind.
+fn is_worth_keeping(has_reader: bool, next: u64, to: u64, wanted: u64) -> bool
+    ensures { result ≡ is_worth_keeping has_reader next to wanted }
+{
+    has_reader || is_near(next, to) || is_near(wanted, next) && is_near(next, wanted)
+}
+
+/// Of the first exchange of a line: nobody will see what comes of it.
+fn is_unseen(body: Body, is_through: bool, has_asker: bool, is_kept: bool) -> bool
+    ensures { result ≡ is_unseen body is_through has_asker is_kept }
+{
+    match body {
+        Body::Pending => is_through && !has_asker,
+        Body::Joining(_) => !is_kept,
+        Body::Relaying => !has_asker,
+        Body::Dropping(count) => DROP_LIMIT < count,
     }
 }

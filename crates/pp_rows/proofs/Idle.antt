@@ -88,70 +88,78 @@ row26 : fault_from 0 (start (record { words = (codes "diskRun=1") ∷ text0 ∷ 
 unfolding judging
 row26 = refl
 
-row33 : fault_from 0 (start (record { words = (codes "diskRun=1") ∷ text0 ∷ text1 ∷ []; faults = 0 } ∷ [])) (front0 ++ Opened 1 ∷ wait true (1 ∷ []) [] ∷ Clock 784111897 ∷ wait true (1 ∷ []) [] ∷ []) ≡ Some (record { at = 10; rule = StepUnfinished })
+row33 : fault_from 0 (start (record { words = (codes "diskRun=1") ∷ text0 ∷ text1 ∷ []; faults = 0 } ∷ [])) (front0 ++ Opened 1 ∷ wait true (1 ∷ []) [] ∷ Clock 784111897 ∷ wait true (1 ∷ []) [] ∷ Clock 784112016 ∷ wait true (1 ∷ []) [] ∷ Clock 784112017 ∷ Noted (Cut 1 Idle) ∷ Shut 1 ∷ wait true [] [] ∷ []) ≡ None
 unfolding judging
 row33 = refl
 
-row40 : fault_from 0 (start (record { words = (codes "diskRun=1") ∷ text0 ∷ text1 ∷ []; faults = 0 } ∷ [])) (front0 ++ Opened 1 ∷ wait true (1 ∷ []) [] ∷ Clock 784111897 ∷ Shut 1 ∷ []) ≡ Some (record { at = 10; rule = NotToBeClosed })
+row45 : fault_from 0 (start (record { words = (codes "diskRun=1") ∷ text0 ∷ text1 ∷ []; faults = 0 } ∷ [])) (front0 ++ Opened 1 ∷ wait true (1 ∷ []) [] ∷ Clock 784111897 ∷ Noted (Cut 1 Idle) ∷ []) ≡ Some (record { at = 10; rule = WrongCut })
 unfolding judging
-row40 = refl
+row45 = refl
 
-row47 : fault_from 0 (start (record { words = (codes "diskRun=1") ∷ text0 ∷ text1 ∷ []; faults = 0 } ∷ [])) (front0 ++ Opened 1 ∷ wait true (1 ∷ []) [] ∷ Clock 784111837 ∷ wait true (1 ∷ []) [] ∷ CanRead 1 ∷ Heard 1 (codes "GET ") ∷ wait true (1 ∷ []) [] ∷ Clock 784111897 ∷ Noted (Cut 1 Idle) ∷ []) ≡ Some (record { at = 15; rule = WrongCut })
+row52 : fault_from 0 (start (record { words = (codes "diskRun=1") ∷ text0 ∷ text1 ∷ []; faults = 0 } ∷ [])) (front0 ++ Opened 1 ∷ wait true (1 ∷ []) [] ∷ Clock 784111896 ∷ wait true (1 ∷ []) [] ∷ Clock 784111897 ∷ wait true (1 ∷ []) [] ∷ []) ≡ Some (record { at = 12; rule = StepUnfinished })
 unfolding judging
-row47 = refl
+row52 = refl
 
-row59 : fault_from 0 (start (record { words = (codes "diskRun=1") ∷ text0 ∷ text1 ∷ []; faults = 0 } ∷ [])) (front0 ++ Opened 1 ∷ wait true (1 ∷ []) [] ∷ CanRead 1 ∷ Heard 1 text3 ∷ Noted (Taken 1 0 Fetch) ∷ Dialled 2 (codes "h") 80 ∷ wait true (1 ∷ []) [] ∷ Reached 2 ∷ wait true (1 ∷ 2 ∷ []) (2 ∷ []) ∷ CanWrite 2 ∷ Asked 2 text4 ∷ wait true (1 ∷ 2 ∷ []) [] ∷ Clock 784111836 ∷ wait true (1 ∷ 2 ∷ []) [] ∷ Clock 784111897 ∷ Noted (Cut 1 Idle) ∷ []) ≡ Some (record { at = 22; rule = WrongCut })
+row61 : fault_from 0 (start (record { words = (codes "diskRun=1") ∷ text0 ∷ text1 ∷ []; faults = 0 } ∷ [])) (front0 ++ Opened 1 ∷ wait true (1 ∷ []) [] ∷ Clock 784111896 ∷ wait true (1 ∷ []) [] ∷ Clock 784111897 ∷ Shut 1 ∷ []) ≡ Some (record { at = 12; rule = NotToBeClosed })
 unfolding judging
-row59 = refl
+row61 = refl
 
-row67 : fault_from 0 (start (record { words = (codes "diskRun=1") ∷ text0 ∷ text1 ∷ []; faults = 0 } ∷ [])) (front0 ++ Opened 1 ∷ wait true (1 ∷ []) [] ∷ Clock 784111778 ∷ Noted (Cut 1 Memory) ∷ []) ≡ Some (record { at = 10; rule = WrongCut })
+row70 : fault_from 0 (start (record { words = (codes "diskRun=1") ∷ text0 ∷ text1 ∷ []; faults = 0 } ∷ [])) (front0 ++ Opened 1 ∷ wait true (1 ∷ []) [] ∷ Clock 784111837 ∷ wait true (1 ∷ []) [] ∷ CanRead 1 ∷ Heard 1 (codes "GET ") ∷ wait true (1 ∷ []) [] ∷ Clock 784111897 ∷ Noted (Cut 1 Idle) ∷ []) ≡ Some (record { at = 15; rule = WrongCut })
 unfolding judging
-row67 = refl
+row70 = refl
 
-row74 : fault_from 0 (start (record { words = (codes "diskRun=1") ∷ text0 ∷ text1 ∷ []; faults = 0 } ∷ [])) (front0 ++ Opened 1 ∷ wait false (1 ∷ []) [] ∷ []) ≡ Some (record { at = 8; rule = AcceptsWrongly })
+row82 : fault_from 0 (start (record { words = (codes "diskRun=1") ∷ text0 ∷ text1 ∷ []; faults = 0 } ∷ [])) (front0 ++ Opened 1 ∷ wait true (1 ∷ []) [] ∷ CanRead 1 ∷ Heard 1 text3 ∷ Noted (Taken 1 0 Fetch) ∷ Dialled 2 (codes "h") 80 ∷ wait true (1 ∷ []) [] ∷ Reached 2 ∷ wait true (1 ∷ 2 ∷ []) (2 ∷ []) ∷ CanWrite 2 ∷ Asked 2 text4 ∷ wait true (1 ∷ 2 ∷ []) [] ∷ Clock 784111836 ∷ wait true (1 ∷ 2 ∷ []) [] ∷ Clock 784111897 ∷ Noted (Cut 1 Idle) ∷ []) ≡ Some (record { at = 22; rule = WrongCut })
 unfolding judging
-row74 = refl
+row82 = refl
 
-row101 : fault_from 0 (start (record { words = (codes "diskRun=1") ∷ text0 ∷ text1 ∷ []; faults = 0 } ∷ [])) (front1 ++ Said 1 55 text7 ∷ wait true (1 ∷ 2 ∷ []) (1 ∷ []) ∷ CanWrite 1 ∷ Said 1 5 (codes "hello") ∷ Shut 1 ∷ wait true (2 ∷ []) [] ∷ []) ≡ None
+row90 : fault_from 0 (start (record { words = (codes "diskRun=1") ∷ text0 ∷ text1 ∷ []; faults = 0 } ∷ [])) (front0 ++ Opened 1 ∷ wait true (1 ∷ []) [] ∷ Clock 784111778 ∷ Noted (Cut 1 Memory) ∷ []) ≡ Some (record { at = 10; rule = WrongCut })
 unfolding judging
-row101 = refl
+row90 = refl
 
-row109 : fault_from 0 (start (record { words = (codes "diskRun=1") ∷ text0 ∷ text1 ∷ []; faults = 0 } ∷ [])) (front1 ++ Said 1 62 text8 ∷ []) ≡ Some (record { at = 24; rule = WrongReply })
+row97 : fault_from 0 (start (record { words = (codes "diskRun=1") ∷ text0 ∷ text1 ∷ []; faults = 0 } ∷ [])) (front0 ++ Opened 1 ∷ wait false (1 ∷ []) [] ∷ []) ≡ Some (record { at = 8; rule = AcceptsWrongly })
 unfolding judging
-row109 = refl
+row97 = refl
 
-row113 : fault_from 0 (start (record { words = (codes "diskRun=1") ∷ text0 ∷ text1 ∷ []; faults = 0 } ∷ [])) (front1 ++ Said 1 55 text7 ∷ wait true (1 ∷ 2 ∷ []) (1 ∷ []) ∷ CanWrite 1 ∷ Said 1 10 (codes "5\r\nhello\r\n") ∷ []) ≡ Some (record { at = 27; rule = WrongReply })
+row124 : fault_from 0 (start (record { words = (codes "diskRun=1") ∷ text0 ∷ text1 ∷ []; faults = 0 } ∷ [])) (front1 ++ Said 1 55 text7 ∷ wait true (1 ∷ 2 ∷ []) (1 ∷ []) ∷ CanWrite 1 ∷ Said 1 5 (codes "hello") ∷ Shut 1 ∷ wait true (2 ∷ []) [] ∷ []) ≡ None
 unfolding judging
-row113 = refl
+row124 = refl
 
-row120 : fault_from 0 (start (record { words = (codes "diskRun=1") ∷ text0 ∷ text1 ∷ []; faults = 0 } ∷ [])) (front1 ++ Said 1 55 text7 ∷ wait true (1 ∷ 2 ∷ []) (1 ∷ []) ∷ CanWrite 1 ∷ Said 1 5 (codes "hello") ∷ wait true (1 ∷ 2 ∷ []) [] ∷ []) ≡ Some (record { at = 28; rule = StepUnfinished })
+row132 : fault_from 0 (start (record { words = (codes "diskRun=1") ∷ text0 ∷ text1 ∷ []; faults = 0 } ∷ [])) (front1 ++ Said 1 62 text8 ∷ []) ≡ Some (record { at = 24; rule = WrongReply })
 unfolding judging
-row120 = refl
+row132 = refl
 
-row145 : fault_from 0 (start (record { words = (codes "diskRun=1") ∷ text0 ∷ text1 ∷ []; faults = 0 } ∷ [])) (front2 ++ CanRead 2 ∷ Got 2 text9 ∷ Noted (Taken 1 0 (Hit 0 0)) ∷ wait true (1 ∷ 2 ∷ []) (1 ∷ []) ∷ CanWrite 1 ∷ Said 1 154 text10 ∷ wait true (1 ∷ 2 ∷ []) [] ∷ CanRead 1 ∷ Heard 1 text11 ∷ Noted (Taken 1 1 Unsatisfiable) ∷ wait true (1 ∷ 2 ∷ []) (1 ∷ []) ∷ CanWrite 1 ∷ Said 1 180 text12 ∷ wait true (1 ∷ 2 ∷ []) [] ∷ []) ≡ None
+row136 : fault_from 0 (start (record { words = (codes "diskRun=1") ∷ text0 ∷ text1 ∷ []; faults = 0 } ∷ [])) (front1 ++ Said 1 55 text7 ∷ wait true (1 ∷ 2 ∷ []) (1 ∷ []) ∷ CanWrite 1 ∷ Said 1 10 (codes "5\r\nhello\r\n") ∷ []) ≡ Some (record { at = 27; rule = WrongReply })
 unfolding judging
-row145 = refl
+row136 = refl
 
-row155 : fault_from 0 (start (record { words = (codes "diskRun=1") ∷ text0 ∷ text1 ∷ []; faults = 0 } ∷ [])) (front2 ++ CanRead 2 ∷ Got 2 text9 ∷ Began (Draft text13) ∷ []) ≡ Some (record { at = 21; rule = WrongDiskOperation })
+row143 : fault_from 0 (start (record { words = (codes "diskRun=1") ∷ text0 ∷ text1 ∷ []; faults = 0 } ∷ [])) (front1 ++ Said 1 55 text7 ∷ wait true (1 ∷ 2 ∷ []) (1 ∷ []) ∷ CanWrite 1 ∷ Said 1 5 (codes "hello") ∷ wait true (1 ∷ 2 ∷ []) [] ∷ []) ≡ Some (record { at = 28; rule = StepUnfinished })
 unfolding judging
-row155 = refl
+row143 = refl
 
-row161 : fault_from 0 (start (record { words = (codes "diskRun=1") ∷ text0 ∷ text1 ∷ []; faults = 0 } ∷ [])) (front2 ++ CanRead 2 ∷ Got 2 text9 ∷ Noted (Taken 1 0 (Hit 0 0)) ∷ wait true (1 ∷ 2 ∷ []) (1 ∷ []) ∷ CanWrite 1 ∷ Said 1 154 text10 ∷ wait true (1 ∷ 2 ∷ []) [] ∷ CanWrite 1 ∷ Said 1 1 (codes "\n") ∷ []) ≡ Some (record { at = 27; rule = WrongReply })
+row168 : fault_from 0 (start (record { words = (codes "diskRun=1") ∷ text0 ∷ text1 ∷ []; faults = 0 } ∷ [])) (front2 ++ CanRead 2 ∷ Got 2 text9 ∷ Noted (Taken 1 0 (Hit 0 0)) ∷ wait true (1 ∷ 2 ∷ []) (1 ∷ []) ∷ CanWrite 1 ∷ Said 1 154 text10 ∷ wait true (1 ∷ 2 ∷ []) [] ∷ CanRead 1 ∷ Heard 1 text11 ∷ Noted (Taken 1 1 Unsatisfiable) ∷ wait true (1 ∷ 2 ∷ []) (1 ∷ []) ∷ CanWrite 1 ∷ Said 1 180 text12 ∷ wait true (1 ∷ 2 ∷ []) [] ∷ []) ≡ None
 unfolding judging
-row161 = refl
+row168 = refl
 
-row179 : fault_from 0 (start (record { words = (codes "diskRun=1") ∷ text0 ∷ text1 ∷ []; faults = 0 } ∷ [])) (front3 ++ wait true (1 ∷ 2 ∷ []) (1 ∷ []) ∷ Clock 784111837 ∷ Dropped 2 ∷ wait true (1 ∷ []) (1 ∷ []) ∷ []) ≡ None
+row178 : fault_from 0 (start (record { words = (codes "diskRun=1") ∷ text0 ∷ text1 ∷ []; faults = 0 } ∷ [])) (front2 ++ CanRead 2 ∷ Got 2 text9 ∷ Began (Draft text13) ∷ []) ≡ Some (record { at = 21; rule = WrongDiskOperation })
 unfolding judging
-row179 = refl
+row178 = refl
 
-row185 : fault_from 0 (start (record { words = (codes "diskRun=1") ∷ text0 ∷ text1 ∷ []; faults = 0 } ∷ [])) (front3 ++ Dropped 2 ∷ []) ≡ Some (record { at = 24; rule = NotToBeClosed })
+row184 : fault_from 0 (start (record { words = (codes "diskRun=1") ∷ text0 ∷ text1 ∷ []; faults = 0 } ∷ [])) (front2 ++ CanRead 2 ∷ Got 2 text9 ∷ Noted (Taken 1 0 (Hit 0 0)) ∷ wait true (1 ∷ 2 ∷ []) (1 ∷ []) ∷ CanWrite 1 ∷ Said 1 154 text10 ∷ wait true (1 ∷ 2 ∷ []) [] ∷ CanWrite 1 ∷ Said 1 1 (codes "\n") ∷ []) ≡ Some (record { at = 27; rule = WrongReply })
 unfolding judging
-row185 = refl
+row184 = refl
 
-row189 : fault_from 0 (start (record { words = (codes "diskRun=1") ∷ text0 ∷ text1 ∷ []; faults = 0 } ∷ [])) (front3 ++ wait true (1 ∷ 2 ∷ []) (1 ∷ []) ∷ Clock 784111837 ∷ wait true (1 ∷ 2 ∷ []) (1 ∷ []) ∷ []) ≡ Some (record { at = 26; rule = StepUnfinished })
+row202 : fault_from 0 (start (record { words = (codes "diskRun=1") ∷ text0 ∷ text1 ∷ []; faults = 0 } ∷ [])) (front3 ++ wait true (1 ∷ 2 ∷ []) (1 ∷ []) ∷ Clock 784111837 ∷ Dropped 2 ∷ wait true (1 ∷ []) (1 ∷ []) ∷ []) ≡ None
 unfolding judging
-row189 = refl
+row202 = refl
 
-row195 : fault_from 0 (start (record { words = (codes "diskRun=1") ∷ text0 ∷ text1 ∷ []; faults = 0 } ∷ [])) (front3 ++ wait true (1 ∷ 2 ∷ []) (1 ∷ []) ∷ CanWrite 1 ∷ Said 1 86 text15 ∷ Dropped 2 ∷ []) ≡ Some (record { at = 27; rule = NotToBeClosed })
+row208 : fault_from 0 (start (record { words = (codes "diskRun=1") ∷ text0 ∷ text1 ∷ []; faults = 0 } ∷ [])) (front3 ++ Dropped 2 ∷ []) ≡ Some (record { at = 24; rule = NotToBeClosed })
 unfolding judging
-row195 = refl
+row208 = refl
+
+row212 : fault_from 0 (start (record { words = (codes "diskRun=1") ∷ text0 ∷ text1 ∷ []; faults = 0 } ∷ [])) (front3 ++ wait true (1 ∷ 2 ∷ []) (1 ∷ []) ∷ Clock 784111837 ∷ wait true (1 ∷ 2 ∷ []) (1 ∷ []) ∷ []) ≡ Some (record { at = 26; rule = StepUnfinished })
+unfolding judging
+row212 = refl
+
+row218 : fault_from 0 (start (record { words = (codes "diskRun=1") ∷ text0 ∷ text1 ∷ []; faults = 0 } ∷ [])) (front3 ++ wait true (1 ∷ 2 ∷ []) (1 ∷ []) ∷ CanWrite 1 ∷ Said 1 86 text15 ∷ Dropped 2 ∷ []) ≡ Some (record { at = 27; rule = NotToBeClosed })
+unfolding judging
+row218 = refl

@@ -124,14 +124,14 @@ row113 : fault_from 0 (start (record { words = (codes "diskRun=1") ∷ text0 ∷
 unfolding judging
 row113 = refl
 
-row126 : fault_from 0 (start (record { words = (codes "diskRun=1") ∷ text0 ∷ text1 ∷ []; faults = 0 } ∷ [])) (front1 ++ Clock 784111897 ∷ Noted (Cut 1 Idle) ∷ Shut 1 ∷ wait true (2 ∷ []) [] ∷ []) ≡ None
+row126 : fault_from 0 (start (record { words = (codes "diskRun=1") ∷ text0 ∷ text1 ∷ []; faults = 0 } ∷ [])) (front1 ++ Clock 784111896 ∷ wait true (1 ∷ 2 ∷ []) [] ∷ Clock 784111897 ∷ Noted (Cut 1 Idle) ∷ Shut 1 ∷ wait true (2 ∷ []) [] ∷ []) ≡ None
 unfolding judging
 row126 = refl
 
-row132 : fault_from 0 (start (record { words = (codes "diskRun=1") ∷ text0 ∷ text1 ∷ []; faults = 0 } ∷ [])) (front1 ++ Clock 784111897 ∷ Noted (Cut 1 Idle) ∷ Noted (Cut 3 Idle) ∷ []) ≡ Some (record { at = 40; rule = WrongCut })
+row134 : fault_from 0 (start (record { words = (codes "diskRun=1") ∷ text0 ∷ text1 ∷ []; faults = 0 } ∷ [])) (front1 ++ Clock 784111896 ∷ wait true (1 ∷ 2 ∷ []) [] ∷ Clock 784111897 ∷ Noted (Cut 1 Idle) ∷ Noted (Cut 3 Idle) ∷ []) ≡ Some (record { at = 42; rule = WrongCut })
 unfolding judging
-row132 = refl
+row134 = refl
 
-row150 : fault_from 0 (start (record { words = (codes "diskRun=1") ∷ text0 ∷ text1 ∷ []; faults = 0 } ∷ [])) (front2 ++ Heard 1 text27 ∷ Noted (Taken 1 0 (Refuse 411)) ∷ wait true (1 ∷ []) (1 ∷ []) ∷ CanRead 1 ∷ Heard 1 text28 ∷ wait true (1 ∷ []) (1 ∷ []) ∷ []) ≡ None
+row154 : fault_from 0 (start (record { words = (codes "diskRun=1") ∷ text0 ∷ text1 ∷ []; faults = 0 } ∷ [])) (front2 ++ Heard 1 text27 ∷ Noted (Taken 1 0 (Refuse 411)) ∷ wait true (1 ∷ []) (1 ∷ []) ∷ CanRead 1 ∷ Heard 1 text28 ∷ wait true (1 ∷ []) (1 ∷ []) ∷ []) ≡ None
 unfolding judging
-row150 = refl
+row154 = refl
