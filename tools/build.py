@@ -97,12 +97,12 @@ class Progress:
             sys.stderr.write("\n")
 
 
-def run(words, progress, until=None):
-    """Runs rt in polipo's folder; gives whether it went on to what was wanted, and its last lines, while progress follows what it
+def run(crate, words, progress, until=None):
+    """Runs rt in a crate's folder; gives whether it went on to what was wanted, and its last lines, while progress follows what it
     proves. It is stopped once so many crates are proved."""
     tail = []
     with subprocess.Popen(
-        words, cwd=TOP / "crates/polipo", stdout=subprocess.PIPE, stderr=subprocess.STDOUT, text=True, errors="replace", start_new_session=True
+        words, cwd=TOP / "crates" / crate, stdout=subprocess.PIPE, stderr=subprocess.STDOUT, text=True, errors="replace", start_new_session=True
     ) as rt:
         try:
             for line in rt.stdout:
@@ -123,10 +123,14 @@ def build(names):
     listed = crates()
     others = [name for name in names if LARGEST not in below(name, listed)]
     with Progress(len(names)) as progress:
-        is_well, tail = run(["rt", "all", "check", "--jobs", str(os.cpu_count() or 1)], progress, len(others))
-        if is_well and not PROGRAM.exists():
+        is_well, tail = run("polipo", ["rt", "all", "check", "--jobs", str(os.cpu_count() or 1)], progress, len(others))
+        # One by one, since rt reads all sources through once more where more than one is not built.
+        for name in sorted(names - {"polipo", *others}, key=lambda it: len(below(it, listed))):
+            if is_well:
+                is_well, tail = run(name, ["rt", "lib"], progress)
+        if is_well:
             # It is run once, with a word that it refuses, so that it ends at once.
-            _, tail = run(["rt", "run", "--", "build-only"], progress)
+            _, tail = run("polipo", ["rt", "run", "--", "build-only"], progress)
     return [] if PROGRAM.exists() else tail
 
 
