@@ -1,8 +1,8 @@
 #!/usr/bin/env python3
-"""What the pool's plain form costs: a million touch, touch and oldest, give and take on a pool of 4,096 chunks.
+"""What the pool costs, by way of cells: a million touch, touch and oldest, give and take on a pool of 4,096 chunks.
 
 Writes a small program over pp_holes and pp_pool into a temporary folder, proves and builds it there (`rt run`,
-some minutes the first time), and compiles `links.c`, which keeps the same order as links by number. Runs both
+some minutes the first time), and compiles `links.c`, which keeps the same order as links by number in C. Runs both
 in turn, and prints the medians in nanoseconds per call, and their ratio. `oldest` is called behind a `touch`,
 as a call that changes nothing would be taken out of its loop. Run it while the machine is quiet.
 
@@ -159,7 +159,7 @@ def numbers(text: str) -> dict[str, float]:
     return {pair[0]: float(pair[1]) for pair in pairs if len(pair) == 2 and pair[1].replace(".", "").isdigit()}
 
 
-def build_plain(top: pathlib.Path) -> pathlib.Path:
+def build_ours(top: pathlib.Path) -> pathlib.Path:
     """The program over the crates as they are, proved and built."""
     for name in BELOW:
         shutil.copytree(ROOT / "crates" / name, top / "crates" / name, ignore=shutil.ignore_patterns("out", "must-fail"))
@@ -181,7 +181,7 @@ def said_by(program: pathlib.Path) -> dict[str, float]:
     return numbers(subprocess.run([program], capture_output=True, text=True, check=True).stdout)
 
 
-def plain_costs(program: pathlib.Path) -> dict[str, float]:
+def our_costs(program: pathlib.Path) -> dict[str, float]:
     """Nanoseconds per call: the program prints the time since its start behind each million calls."""
     after, before, costs = said_by(program), 0.0, {}
     for call in CALLS:
@@ -193,18 +193,18 @@ def plain_costs(program: pathlib.Path) -> dict[str, float]:
 def main() -> None:
     if shutil.which("cc") is None:
         raise SystemExit("cc is missing")
-    plain, links = [], []
+    ours, links = [], []
     with tempfile.TemporaryDirectory() as folder:
         top = pathlib.Path(folder)
-        program = build_plain(top)
+        program = build_ours(top)
         subprocess.run(["cc", "-O2", "-o", top / "links", HERE / "links.c"], check=True)
         for _ in range(ROUNDS):
-            plain.append(plain_costs(program))
+            ours.append(our_costs(program))
             links.append(said_by(top / "links"))
-    print(f"{'call':18} {'plain ns':>10} {'links ns':>10} {'ratio':>8}")
+    print(f"{'call':18} {'ours ns':>10} {'links ns':>10} {'ratio':>8}")
     for call in CALLS:
-        ours, theirs = (statistics.median(costs[call] for costs in all_costs) for all_costs in (plain, links))
-        print(f"{call:18} {ours:10.0f} {theirs:10.1f} {ours / theirs:8.0f}")
+        mine, theirs = (statistics.median(costs[call] for costs in all_costs) for all_costs in (ours, links))
+        print(f"{call:18} {mine:10.1f} {theirs:10.1f} {mine / theirs:8.1f}")
 
 
 if __name__ == "__main__":
