@@ -24,7 +24,7 @@ use Rattle.pp_law.specs.Deciding.{refuse, add_exchange, begin_exchange, ask_for,
 use Rattle.pp_law.specs.Replies.{begin_replies, use_chunks, use_from, use_said, end_reply, end_said, close_finished, end_replies, regained}
 use Rattle.pp_law.specs.Followers.{fill_with, fill_span, fill_next, fill_for, fill, give_up_asks}
 use Rattle.pp_law.specs.Asking.{hear, ask_body, ask_next, ask, hang_up}
-use Rattle.pp_law.specs.Store.{remove_entry, note_gone, begin_op, begin_in_turn, enter_next, close_name, end_op, lose_entry, note_kept, load_from, load}
+use Rattle.pp_law.specs.Store.{remove_entry, note_gone, begin_op, begin_in_turn, enter_next, close_name, lose_draft, fail_op, end_op, lose_entry, note_kept, load_from, load}
 use Rattle.pp_law.specs.Opening.{with_settings, begun, woken, stuck, opened_to, configured, lose_in_opening}
 use Rattle.pp_law.specs.Phases.{next, come, come_to, come_to_decide, deciding, ending}
 use Rattle.pp_law.specs.Turn.{touch, first_marks, end_patience, close_idle_conn, renew_marks, tick_to, tick, rest_with}
@@ -48,7 +48,7 @@ unfolding clap_on_literals httpdate_on_literals pp_head_on_literals pp_target_on
     begin_replies use_chunks use_from use_said end_reply end_said close_finished end_replies regained
     fill_with fill_span fill_next fill_for fill give_up_asks
     hear ask_body ask_next ask hang_up
-    remove_entry note_gone begin_op begin_in_turn begin_in_opening enter_next close_name end_op lose_entry note_kept load_from load
+    remove_entry note_gone begin_op begin_in_turn begin_in_opening enter_next close_name lose_draft fail_op end_op lose_entry note_kept load_from load
     with_settings begun woken stuck opened_to configured lose_in_opening
     next come come_to come_to_decide deciding ending
     touch first_marks end_patience close_idle_conn renew_marks tick_to tick rest_with

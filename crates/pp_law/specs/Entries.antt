@@ -1,8 +1,8 @@
--- The entries of a folder: files whose head block, gates and name agree.
-use Rattle.std.specs.Prelude.{ℕ, ◌+◌, true, false, ◌&&◌, nat_le, List, length, take, drop, filter_map, bytes_eq, Option, Some, None, option_and_then}
+-- The entries of a folder: files whose head block, gates, length and name agree.
+use Rattle.std.specs.Prelude.{ℕ, true, false, ◌&&◌, List, length, take, drop, filter_map, bytes_eq, Option, Some, None, option_and_then}
 use Rattle.pp_entry.specs.Entries.{Row, row_at}
-use Rattle.pp_entry.specs.Gates.{extent_of}
-use Rattle.pp_entry.specs.Texts.{body_at, chunks_of}
+use Rattle.pp_entry.specs.Gates.{extent_of, has_extent}
+use Rattle.pp_entry.specs.Texts.{chunks_of}
 use Rattle.pp_target.specs.Name.{name_of}
 use Rattle.pp_world.specs.Files.{Files}
 use Rattle.pp_law.specs.Lists.{Bytes}
@@ -15,7 +15,7 @@ kept_in n file = extent_of (take (chunks_of n) (drop 8192 file)) n
 abbrev pub entry_with : Bytes → Bytes → Row → Option Entry
 entry_with name file row =
     let extent = kept_in row.version.length file in
-    elim (bytes_eq (name_of row.key) name && nat_le (body_at row.version.length + extent) (length file)) [
+    elim (bytes_eq (name_of row.key) name && has_extent row.version.length extent (length file)) [
       | true ↦ Some (record { name = name; key = row.key; version = row.version; fields = row.fields; times = row.times; extent = extent; is_stale = false })
       | false ↦ None
     ]

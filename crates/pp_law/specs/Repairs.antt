@@ -1,5 +1,5 @@
--- How an entry is repaired in the opening: gates behind the first that is closed are closed, and the file is synced. It is ours.
-use Rattle.std.specs.Prelude.{ℕ, ◌+◌, ◌-◌, Bool, true, false, ◌==◌, ◌&&◌, nat_lt, nat_le, [], ◌∷◌, length, take, drop, is_some, Option, Some, None}
+-- How an entry is repaired in the opening: gates behind the first that is closed are closed, and the file is synced once. It is ours.
+use Rattle.std.specs.Prelude.{ℕ, ◌+◌, ◌-◌, Bool, true, false, ◌==◌, ◌&&◌, ◌||◌, nat_lt, nat_le, [], ◌∷◌, length, take, drop, bytes_eq, is_some, Option, Some, None}
 use Rattle.std.specs.List.{list_any, list_all}
 use Rattle.pp_entry.specs.Gates.{leading_open}
 use Rattle.pp_entry.specs.Texts.{chunks_of}
@@ -27,16 +27,27 @@ are_strays s at count e =
 abbrev pub closes_strays : State → Bytes → ℕ → Bytes → Entry → Bool
 closes_strays s name at bytes e = is_named name e && nat_lt 0 (length bytes) && list_all (λ b. b == 0) bytes && are_strays s at (length bytes) e
 
-abbrev pub repair_of : State → DiskOp → Option Agenda
-repair_of s (Write name at bytes) = elim (list_any (closes_strays s name at bytes) s.entries) [
+-- one file at a time
+abbrev pub may_repair : State → Bytes → Bool
+may_repair s name = is_empty s.agenda.todo || bytes_eq s.agenda.name name
+
+-- its gates are closed by any writes
+abbrev pub repair_of : State → Bytes → ℕ → Bytes → Option Agenda
+repair_of s name at bytes = elim (may_repair s name && list_any (closes_strays s name at bytes) s.entries) [
   | true ↦ Some (record { name = name; todo = Do (Write name at bytes) ∷ Do (Sync name) ∷ [] })
   | false ↦ None
 ]
-repair_of s op = None
 
--- what was begun goes on; and where nothing is left of it, a repair is begun
+abbrev pub has_strays_under : State → Bytes → Bool
+has_strays_under s name = list_any (λ e. is_named name e && has_stray_gates s e) s.entries
+
+-- and one sync behind the last of them
+abbrev pub sync_of : State → DiskOp → Option Agenda
+sync_of s op = elim (has_strays_under s s.agenda.name) [ true ↦ None | false ↦ going_on op s.agenda ]
+
 abbrev pub agenda_in_opening : DiskOp → State → Option Agenda
-agenda_in_opening op s = elim (is_empty s.agenda.todo) [ false ↦ going_on op s.agenda | true ↦ repair_of s op ]
+agenda_in_opening (Write name at bytes) s = repair_of s name at bytes
+agenda_in_opening op s = sync_of s op
 
 abbrev pub may_begin_in_opening : DiskOp → State → Bool
 may_begin_in_opening op s = is_idle_disk s && is_some (agenda_in_opening op s)

@@ -240,6 +240,7 @@ pub record State : Type 0 where
   pub closed_names : List Bytes
   pub under_way : Option DiskOp
   pub displaced : List Bytes  -- keys whose name another key took
+  pub has_lost_draft : Bool  -- a draft failed, and the clock has not ticked since
   -- this turn
   pub is_ticked : Bool
   pub is_stopped : Bool
@@ -276,6 +277,7 @@ start terms = record {
   closed_names = [];
   under_way = None;
   displaced = [];
+  has_lost_draft = false;
   is_ticked = false;
   is_stopped = false;
   owed = Free;

@@ -88,8 +88,9 @@ run_from s x e = whole_run (run_len s) x.version.length x.id s.chunks (e.extent 
 abbrev pub has_first_run : State → Instance → Bool
 has_first_run s x = (run_len s == 1) || is_full_run s x (new_entry x 0) (run_from s x (new_entry x 0))
 
+-- one that failed is followed by none before the next tick
 abbrev pub may_draft : State → Instance → Bool
-may_draft s x = elim (not x.is_retired && is_sized x.version.length && fits x.fields (block_of x) && has_first_run s x) [
+may_draft s x = elim (not s.has_lost_draft && not x.is_retired && is_sized x.version.length && fits x.fields (block_of x) && has_first_run s x) [
   | true ↦ has_free_name s (name_of x.key)
   | false ↦ false
 ]
@@ -143,7 +144,7 @@ is_gone s e = e.is_stale || is_closed s e.name
 -- a row of another key, that may be drafted, may take its name; but one whose own name was taken takes none back in this life
 abbrev pub takes_name : State → Entry → Instance → Bool
 takes_name s e x =
-    not x.is_retired && bytes_eq (name_of x.key) e.name && not (bytes_eq x.key e.key) && not (has_text x.key s.displaced) && is_sized x.version.length && fits x.fields (block_of x)
+    not s.has_lost_draft && not x.is_retired && bytes_eq (name_of x.key) e.name && not (bytes_eq x.key e.key) && not (has_text x.key s.displaced) && is_sized x.version.length && fits x.fields (block_of x)
 
 abbrev pub is_displaced : State → Entry → Bool
 is_displaced s e = list_any (takes_name s e) s.instances
@@ -223,9 +224,24 @@ enter_next s = elim s.agenda.todo [
 unfoldable pub close_name : Bytes → State → State
 close_name name s = record s { closed_names = name ∷ without (bytes_eq name) s.closed_names; agenda = no_agenda; failures = s.failures + 1 }
 
+-- ours: what fails before its name is given touched no name, and closes none
+abbrev pub is_of_draft : DiskOp → Bool
+is_of_draft (Draft bytes) = true
+is_of_draft SyncDraft = true
+is_of_draft (Publish name) = false
+is_of_draft (Write name at bytes) = false
+is_of_draft (Sync name) = false
+is_of_draft (Remove name) = false
+
+unfoldable pub lose_draft : State → State
+lose_draft s = record s { has_lost_draft = true; agenda = no_agenda; failures = s.failures + 1 }
+
+unfoldable pub fail_op : DiskOp → State → State
+fail_op op s = elim (is_of_draft op) [ true ↦ lose_draft s | false ↦ close_name s.agenda.name s ]
+
 unfoldable pub end_op : DiskOp → Bool → State → State
 end_op op true s = enter_next (record s { under_way = None; disk = s.disk ++ Did op true ∷ [] })
-end_op op false s = close_name s.agenda.name (record s { under_way = None; disk = s.disk ++ Did op false ∷ [] })
+end_op op false s = fail_op op (record s { under_way = None; disk = s.disk ++ Did op false ∷ [] })
 
 abbrev pub may_end_op : State → DiskOp → Bool
 may_end_op s op = is_some_with (λ begun. is_same_op begun op) s.under_way

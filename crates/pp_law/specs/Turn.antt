@@ -63,7 +63,7 @@ renew_marks now s = record s { clients = map (woken_client now s) s.clients }
 
 unfoldable pub tick_to : ℕ → State → State
 tick_to now s =
-    let t : State = record (renew_marks now (first_marks now s)) { clock = now; is_ticked = true } in
+    let t : State = record (renew_marks now (first_marks now s)) { clock = now; is_ticked = true; has_lost_draft = false } in
     each_conn close_idle_conn (map (λ k. k.number) t.conns) t
 
 -- the clock never goes back

@@ -9,7 +9,7 @@ use Rattle.pp_law.specs.Lists.{Bytes}
 use Rattle.pp_law.specs.Opening.{settings_in, with_settings, names_file, begun, woken, is_opening, stuck, opened_to, configured, lose_in_opening, are_texts}
 use Rattle.pp_law.specs.Repairs.{agenda_in_opening, begin_in_opening}
 use Rattle.pp_law.specs.State.{State, Agenda, Entry, Instance, Phase}
-use Rattle.pp_law.specs.Store.{remove_entry, note_gone, agenda_in_turn, begin_op, begin_in_turn, enter_next, close_name, end_op, lose_entry, note_kept, chunk_in_file, load_from, load}
+use Rattle.pp_law.specs.Store.{remove_entry, note_gone, agenda_in_turn, begin_op, begin_in_turn, enter_next, close_name, is_of_draft, lose_draft, fail_op, end_op, lose_entry, note_kept, chunk_in_file, load_from, load}
 use Rattle.pp_law.specs.Table.{is_entry_of, is_row_of, row, kept_row}
 use Rattle.pp_laws.specs.Origin.{AllSent, EntryWasSent, ChunkWasSent}
 use Rattle.pp_laws.specs.Runs.{IsIn}
@@ -49,10 +49,18 @@ pub close_name-sound : {b : Since} (name : Bytes) (s : State) → Sound b s → 
 unfolding close_name
 close_name-sound name s h = sound (facts_of h)
 
+lose_draft-sound : {b : Since} (s : State) → Sound b s → Sound b (lose_draft s)
+unfolding lose_draft
+lose_draft-sound s h = sound (facts_of h)
+
+fail_op-sound : {b : Since} (op : DiskOp) (s : State) → Sound b s → Sound b (fail_op op s)
+unfolding fail_op
+fail_op-sound op s h = when (is_of_draft op) (lose_draft-sound s h) (close_name-sound s.agenda.name s h)
+
 pub end_op-sound : {b : Since} (op : DiskOp) (ok : Bool) (s : State) → Sound b s → Sound b (end_op op ok s)
 unfolding end_op
 end_op-sound op true s h = enter_next-sound _ (sound (facts_of h))
-end_op-sound op false s h = close_name-sound s.agenda.name _ (sound (facts_of h))
+end_op-sound op false s h = fail_op-sound op _ (sound (facts_of h))
 
 pub lose_entry-sound : {b : Since} (name : Bytes) (s : State) → Sound b s → Sound b (lose_entry name s)
 unfolding lose_entry
