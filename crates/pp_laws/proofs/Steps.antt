@@ -110,7 +110,7 @@ pub tick_to-sound : {b : Since} (now : ℕ) (s : State) → Sound b s → Sound 
 unfolding tick_to
 tick_to-sound {b} now s h = each_conn-sound close_idle_conn (λ k t there ht. close_idle_conn-sound k t (own_line k t there ht) ht) _ _ marked
   where
-    marked : Sound b (record (renew_marks now (first_marks now s)) { clock = now; is_ticked = true })
+    marked : Sound b (record (renew_marks now (first_marks now s)) { clock = now; is_ticked = true; has_lost_draft = false })
     marked = sound (facts_of (renew_marks-sound now _ (first_marks-sound now s h)))
 
 pub tick-sound : {b : Since} (now : ℕ) (s : State) → Sound b s → Sound b (tick now s)
