@@ -25,9 +25,9 @@ use Rattle.pp_law.specs.Requests.{Front, NoHeadYet, NoHead, IsRequest}
 use Rattle.pp_law.specs.Leaving.{leaving_as}
 use Rattle.pp_law.specs.Repairs.{may_begin_in_opening}
 use Rattle.pp_law.specs.Served.{accepts, is_served}
-use Rattle.pp_law.specs.State.{State, Client, IsRooted, IsListed, IsListening, Evicting, Keeping, Connecting}
-use Rattle.pp_law.specs.Store.{is_idle_disk, is_closed, is_named, is_acknowledged_as, may_note_gone, may_begin_in_turn, may_end_op}
-use Rattle.pp_law.specs.Table.{kept_row, instance, extent_of, next_of, Next}
+use Rattle.pp_law.specs.State.{State, Client, Entry, IsRooted, IsListed, IsListening, Evicting, Keeping, Connecting}
+use Rattle.pp_law.specs.Store.{is_idle_disk, is_at_rest, is_closed, is_named, is_acknowledged_as, may_note_gone, may_begin_in_turn, may_end_op}
+use Rattle.pp_law.specs.Table.{kept_row, instance, is_same_version, next_of, Next}
 
 -- ---- decisions and cuts
 
@@ -109,11 +109,15 @@ may_evict s key tag n i = is_empty s.forgotten && is_some_with (is_chunk_of s ke
 abbrev pub permits_began : State → DiskOp → Bool
 permits_began s op = (is_at IsListed s && may_begin_in_opening op s) || may_in Keeping (may_begin_in_turn op) s
 
--- the client that is written to has its next byte in that chunk, below the extent and not in memory
+-- below the extent of the entry of its version; of a closed name nothing is read
+abbrev pub is_kept_there : State → Next → Entry → Bool
+is_kept_there s x e = is_same_version e.version x.source.version && nat_lt x.at e.extent && not (is_closed s e.name)
+
+-- the client that is written to has its next byte in that chunk, where it is kept and not in memory
 abbrev pub may_load_at : State → Next → Bytes → Bytes → ℕ → ℕ → Bool
 may_load_at s x key tag n i =
     not x.source.is_retired && bytes_eq x.source.key key && bytes_eq x.source.version.tag tag && (x.source.version.length == n)
-    && (x.at / chunk_len == i) && nat_lt x.at (extent_of s x.source) && not (is_in_memory s x.source.id x.at)
+    && (x.at / chunk_len == i) && is_some_with (is_kept_there s x) (kept_row s x.source.key) && not (is_in_memory s x.source.id x.at)
 
 abbrev pub may_load : State → Bytes → Bytes → ℕ → ℕ → Client → Bool
 may_load s key tag n i c = is_writing s.owed c.number && is_at_body c && is_some_with (λ x. may_load_at s x key tag n i) (next_of s c)
@@ -126,13 +130,13 @@ loads_from s name x =
 abbrev pub may_fail_to_load : State → Bytes → Client → Bool
 may_fail_to_load s name c = is_writing s.owed c.number && is_at_body c && is_some_with (loads_from s name) (next_of s c)
 
--- recovery reads a name between repairs, and no more once it is closed
+-- recovery reads a name, and no more once it is closed
 abbrev pub may_fail_to_recover : State → Bytes → Bool
-may_fail_to_recover s name = is_at IsListed s && is_idle_disk s && is_empty s.agenda.todo && not (is_closed s name)
+may_fail_to_recover s name = is_at IsListed s && not (is_closed s name)
 
--- where recovery reads, or where a chunk may be loaded from that file
+-- where recovery reads, or where a chunk may be loaded from that file; and never while the disk is written
 abbrev pub permits_unread : State → Bytes → Bool
-permits_unread s name = may_fail_to_recover s name || list_any (may_fail_to_load s name) s.clients
+permits_unread s name = is_at_rest s && (may_fail_to_recover s name || list_any (may_fail_to_load s name) s.clients)
 
 abbrev pub permits_noted : State → Remark → Bool
 permits_noted s (Taken c i d) = permits_taken s c i d
@@ -141,7 +145,7 @@ permits_noted s (Kept key tag n extent) = is_idle_disk s && is_acknowledged_as k
 permits_noted s (Gone key) = may_in Keeping (λ t. may_note_gone t key) s
 permits_noted s (Forgotten key) = is_some (leaving_as s key)
 permits_noted s (Evicted key tag n i) = may_in Evicting (λ t. may_evict t key tag n i) s
-permits_noted s (Loaded key tag n i) = list_any (may_load s key tag n i) s.clients
+permits_noted s (Loaded key tag n i) = is_at_rest s && list_any (may_load s key tag n i) s.clients
 
 -- ---- what is said
 

@@ -2,7 +2,7 @@
 -- of them is pp_world's, and the operations of each step are pp_gate's.
 use Rattle.std.specs.Prelude.{ℕ, zero, suc, ◌+◌, ◌-◌, ◌*◌, ◌/◌, Bool, true, false, ◌==◌, ◌&&◌, ◌||◌, not, nat_lt, nat_le, min, max, List, [], ◌∷◌, ◌++◌, length, take, drop, map, find, count_by, bytes_eq, is_some, Option, Some, None, option_and_then}
 use Rattle.std.specs.List.{list_any}
-use Rattle.pp_entry.specs.Entries.{is_sized}
+use Rattle.pp_entry.specs.Entries.{is_sized, row_at}
 use Rattle.pp_entry.specs.Texts.{body_at, chunks_of, fits, head_text, padded}
 use Rattle.pp_gate.specs.Files.{whole_file}
 use Rattle.pp_gate.specs.Gate.{publish_ops}
@@ -88,10 +88,14 @@ run_from s x e = whole_run (run_len s) x.version.length x.id s.chunks (e.extent 
 abbrev pub has_first_run : State → Instance → Bool
 has_first_run s x = (run_len s == 1) || is_full_run s x (new_entry x 0) (run_from s x (new_entry x 0))
 
+-- what would not be read back as an entry of that key and version is none
+abbrev pub is_read_back : Instance → Bool
+is_read_back x = is_some_with (λ r. bytes_eq r.key x.key && is_same_version r.version x.version) (row_at (padded (block_of x)))
+
 -- one that failed is followed by none before the next tick
 abbrev pub may_draft : State → Instance → Bool
 may_draft s x = elim (not s.has_lost_draft && not x.is_retired && is_sized x.version.length && fits x.fields (block_of x) && has_first_run s x) [
-  | true ↦ has_free_name s (name_of x.key)
+  | true ↦ has_free_name s (name_of x.key) && is_read_back x
   | false ↦ false
 ]
 
@@ -168,6 +172,10 @@ note_gone key s = elim (find (is_entry_of key) s.entries) [ None ↦ s | Some e 
 
 abbrev pub is_idle_disk : State → Bool
 is_idle_disk s = not (is_some s.under_way)
+
+-- nothing of what was begun is left
+abbrev pub is_at_rest : State → Bool
+is_at_rest s = is_idle_disk s && is_empty s.agenda.todo
 
 abbrev pub may_note_gone : State → Bytes → Bool
 may_note_gone s key = is_idle_disk s && is_empty s.agenda.todo && list_any (λ e. is_entry_of key e && (is_gone s e || is_displaced s e)) s.entries
