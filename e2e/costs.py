@@ -4,7 +4,7 @@ from flows import PIECE, Flows
 from harness import case, equal, holds
 from origin import noise
 from rules import rule
-from world import Client
+from world import PATIENCE, Client
 
 MB = 1 << 20
 TAG = b'ETag: "x"'
@@ -144,3 +144,23 @@ def what_is_fetched_for_one_place_ends_though_its_readers_were_last_elsewhere(wo
         flow.goes_on.set()
     sent = flows.wait()
     holds(all(count <= TAKEN + NEAR + MORE for count in sent), f"256 chunks behind each place in place of {sent}")
+
+
+@case
+@rule("gone-clients")
+@rule("near-bytes")
+def a_seek_made_before_the_old_connection_goes_has_nothing_between_fetched(world):
+    flows = Flows(world.origin, "/seeked-film", 200 * MB, TAG, FRESH, held_at=TAKEN)
+    with Client() as old, Client() as new:
+        for client, first in [(old, 0), (new, 150 * MB)]:
+            client.say(world.request("/seeked-film", b"Range: bytes=%d-" % first))
+            client.hear_until(b"\r\n\r\n")
+            equal(client.hear(TAKEN), noise(TAKEN, first), "the bytes that are taken")
+        old.reset()
+        flows.all[0].goes_on.set()
+        holds(flows.all[0].is_over.wait(PATIENCE), "an end of what comes for the place that was left, while the new one is read")
+        new.reset()
+    flows.all[1].goes_on.set()
+    left, sought = flows.wait()
+    holds(left <= TAKEN + MORE, f"no more than was under way behind the place that was left in place of {left - TAKEN} bytes")
+    holds(sought <= TAKEN + NEAR + MORE, f"256 chunks behind the last place in place of {sought - TAKEN} bytes")

@@ -101,3 +101,15 @@ def an_origin_that_never_answers_is_asked_once_and_given_up_after_300_seconds(wo
         client.expect(BAD_GATEWAY)
         holds(seconds >= 299, f"300 seconds of patience in place of {seconds:.0f}")
         equal(len(origin.asked), 1, "asks")
+
+
+@case
+@rule("slow-origin")
+def a_computer_that_was_asleep_for_an_hour_loses_no_request(world):
+    with leaping(world) as (proxy, clock), Played() as origin, Client(port=proxy.port) as client:
+        client.say(origin.request("/sleeps"))
+        ask = origin.take()
+        clock.leap(3_600)
+        holds(origin.take_if_any(0) is None, "one ask")
+        ask.say(response(b"awake"))
+        client.expect(reply(b"awake"))

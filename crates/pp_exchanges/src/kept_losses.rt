@@ -1,5 +1,5 @@
 // What a lost origin sent is kept, until the rest was asked for in vain as often as is allowed.
-use pp_play::{ASK, Act, Exchange, GET, Part, Step, T, Wanted, unlike};
+use pp_play::{ASK, Act, Exchange, GET, PAGE_502, Pace, Part, Step, T, Wanted, unlike, unlike_at};
 use pp_world::{Cause, Decision};
 use std::test::Fail;
 
@@ -163,6 +163,8 @@ const UNFILLED: &[Exchange<'static>] = &[
             Act::Answer(2, FRONT),
             Act::Connect,
             Act::Say(3, GET_END),
+            Act::Tick(T + 100),
+            Act::Tick(T + 200),
             Act::Tick(T + 300),
             Act::Reach(4),
             Act::Answer(4, BUSY),
@@ -175,6 +177,61 @@ const UNFILLED: &[Exchange<'static>] = &[
         ],
     },
 ];
+
+/// A part that forbids sharing, to the ask for the rest.
+const PRIVATE: &[u8] =
+    b"HTTP/1.1 206 Partial Content\r\nETag: \"x\"\r\nCache-Control: private\r\nContent-Range: bytes 4-9/10\r\nContent-Length: 6\r\n\r\nsecret";
+
+const UNSHARED: &[Exchange<'static>] = &[
+    Exchange {
+        name: "what is held is not known any more, and its client is answered by an ask of its own",
+        acts: &[
+            Act::Tick(T),
+            Act::Connect,
+            Act::Say(1, GET_FRONT),
+            Act::Reach(2),
+            Act::Answer(2, FRONT),
+            Act::Connect,
+            Act::Say(3, GET_END),
+            Act::Answer(2, PRIVATE),
+            Act::Answer(2, BUSY),
+        ],
+        wanted: &[
+            Wanted::Count(Step::Dialled(80), 1),
+            Wanted::Asked(2, &[ASK_FRONT, ASK_BEHIND_FRONT, ASK_END]),
+            Wanted::Taken(3, Decision::Part(8, 10)),
+            Wanted::Taken(3, Decision::Fetch),
+            Wanted::Said(3, &[Part::Text(BUSY_PASSED)]),
+        ],
+    },
+    Exchange {
+        name: "it costs no attempt: three connections are lost before its client is refused",
+        acts: &[
+            Act::Tick(T),
+            Act::Connect,
+            Act::Say(1, GET_FRONT),
+            Act::Reach(2),
+            Act::Answer(2, FRONT),
+            Act::Connect,
+            Act::Say(3, GET_END),
+            Act::Answer(2, PRIVATE),
+            Act::End(2),
+            Act::Refuse(4),
+            Act::Refuse(5),
+            Act::Refuse(6),
+        ],
+        wanted: &[
+            Wanted::Count(Step::Dialled(80), 4),
+            Wanted::Said(3, &[Part::Text(PAGE_502)]),
+        ],
+    },
+];
+
+#[test]
+fn a_part_that_forbids_sharing_makes_a_page_known_no_more(rt: HostRuntime) -> Result<(), Fail> {
+    assert_eq!(rt; unlike_at(rt.alloc(), Pace::Whole, UNSHARED)?.as_str(), "");
+    Ok(())
+}
 
 #[test]
 fn a_page_whose_rest_nobody_gives_is_known_no_more(rt: HostRuntime) -> Result<(), Fail> {

@@ -169,9 +169,26 @@ fn bytes_that_answer_nobody_cost_nobody(rt: HostRuntime) -> Result<(), Fail> {
     Ok(())
 }
 
+/// The clock leaps by an hour, and a second less than five minutes passes behind that.
+macro_rules! nearly_given_up {
+    ($then:expr) => {
+        &[
+            Act::Tick(T),
+            Act::Connect,
+            Act::Say(1, GET),
+            Act::Reach(2),
+            Act::Tick(T + 3_600),
+            Act::Tick(T + 3_719),
+            Act::Tick(T + 3_838),
+            Act::Tick(T + 3_899),
+            $then,
+        ]
+    };
+}
+
 const ASLEEP: &[Exchange<'static>] = &[
     Exchange {
-        name: "the clock jumps by two minutes",
+        name: "two minutes, while the origin owes an answer",
         acts: &[
             Act::Tick(T),
             Act::Connect,
@@ -180,19 +197,70 @@ const ASLEEP: &[Exchange<'static>] = &[
             Act::Tick(T + 120),
             Act::Answer(2, RESPONSE),
         ],
-        wanted: &[Wanted::Said(1, &[Part::Text(REPLY)])],
+        wanted: &[
+            Wanted::Said(1, &[Part::Text(REPLY)]),
+            Wanted::Count(Step::Dialled(80), 1),
+        ],
     },
     Exchange {
-        name: "it jumps by an hour, before the origin is reached",
+        name: "an hour, while the origin owes an answer",
         acts: &[
             Act::Tick(T),
             Act::Connect,
             Act::Say(1, GET),
-            Act::Tick(T + 3600),
-            Act::Reach(3),
-            Act::Answer(3, RESPONSE),
+            Act::Reach(2),
+            Act::Tick(T + 3_600),
+            Act::Answer(2, RESPONSE),
+        ],
+        wanted: &[
+            Wanted::Said(1, &[Part::Text(REPLY)]),
+            Wanted::Count(Step::Dialled(80), 1),
+        ],
+    },
+    Exchange {
+        name: "an hour, before the origin is reached",
+        acts: &[
+            Act::Tick(T),
+            Act::Connect,
+            Act::Say(1, GET),
+            Act::Tick(T + 3_600),
+            Act::Reach(2),
+            Act::Answer(2, RESPONSE),
+        ],
+        wanted: &[
+            Wanted::Said(1, &[Part::Text(REPLY)]),
+            Wanted::Count(Step::Dialled(80), 1),
+        ],
+    },
+    Exchange {
+        name: "an hour, within a reply, whose client takes the rest then",
+        acts: &[
+            Act::Tick(T),
+            Act::Connect,
+            Act::Window(1, 10),
+            Act::Say(1, GET),
+            Act::Reach(2),
+            Act::Answer(2, RESPONSE),
+            Act::Tick(T + 3_600),
+            Act::Window(1, 1_000),
         ],
         wanted: &[Wanted::Said(1, &[Part::Text(REPLY)])],
+    },
+    Exchange {
+        name: "an hour, and nearly five minutes more",
+        acts: nearly_given_up!(Act::Answer(2, RESPONSE)),
+        wanted: &[
+            Wanted::Said(1, &[Part::Text(REPLY)]),
+            Wanted::Count(Step::Dialled(80), 1),
+        ],
+    },
+    Exchange {
+        name: "an hour, and five minutes more: then the origin is given up",
+        acts: nearly_given_up!(Act::Tick(T + 3_900)),
+        wanted: &[
+            Wanted::Said(1, &[Part::Text(PAGE_502)]),
+            Wanted::Count(Step::Dialled(80), 1),
+        ],
     },
 ];
 

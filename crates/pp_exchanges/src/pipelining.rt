@@ -188,7 +188,7 @@ const GIVEN_UP: &[Exchange<'static>] = &[
     ),
     given_up!(
         "the first is not answered for five minutes",
-        [Act::Tick(T + 300)],
+        [Act::Tick(T + 100), Act::Tick(T + 200), Act::Tick(T + 300)],
         Wanted::Said(1, &[Part::Text(REPLY), Part::Text(PAGE_502)])
     ),
 ];

@@ -233,6 +233,72 @@ const LONG: &[Exchange<'static>] = &[
             ),
         ],
     },
+    Exchange {
+        name: "another client reads of its body far ahead of it",
+        acts: &[
+            Act::Tick(T),
+            Act::Connect,
+            Act::Window(1, 170),
+            Act::Say(1, GET),
+            Act::Reach(2),
+            Act::Answer(
+                2,
+                b"HTTP/1.1 200 OK\r\nDate: Sun, 06 Nov 1994 08:49:37 GMT\r\nETag: \"x\"\r\nCache-Control: max-age=60\r\nContent-Length: 4000000\r\n\r\n",
+            ),
+            Act::Fill(2, b'a', 11),
+            Act::Connect,
+            Act::Say(
+                3,
+                b"GET http://h/a HTTP/1.1\r\nRange: bytes=3497984-3497987\r\n\r\n",
+            ),
+            Act::Reach(4),
+            Act::Answer(
+                4,
+                b"HTTP/1.1 206 Partial Content\r\nETag: \"x\"\r\nContent-Range: bytes 3497984-3497987/4000000\r\nContent-Length: 4\r\n\r\nbb",
+            ),
+            Act::Break(1),
+            Act::Break(1),
+            Act::Window(1, 1),
+        ],
+        wanted: &[
+            Wanted::Shut(1),
+            dropped!(45),
+            Wanted::Said(
+                3,
+                &[Part::Text(
+                    b"HTTP/1.1 206 Partial Content\r\netag: \"x\"\r\ndate: Sun, 06 Nov 1994 08:49:37 GMT\r\ncache-control: max-age=60\r\nvia: 1.1 polipo\r\ncontent-range: bytes 3497984-3497987/4000000\r\ncontent-length: 4\r\nconnection: keep-alive\r\n\r\nbb",
+                )],
+            ),
+        ],
+    },
+    Exchange {
+        name: "another client waits for bytes of it that come soon enough",
+        acts: &[
+            Act::Tick(T),
+            Act::Connect,
+            Act::Window(1, 170),
+            Act::Say(1, GET),
+            Act::Reach(2),
+            Act::Answer(
+                2,
+                b"HTTP/1.1 200 OK\r\nDate: Sun, 06 Nov 1994 08:49:37 GMT\r\nETag: \"x\"\r\nCache-Control: max-age=60\r\nContent-Length: 4000000\r\n\r\n",
+            ),
+            Act::Fill(2, b'a', 11),
+            Act::Connect,
+            Act::Say(
+                3,
+                b"GET http://h/a HTTP/1.1\r\nRange: bytes=1048587-1048590\r\n\r\n",
+            ),
+            Act::Break(1),
+            Act::Break(1),
+            Act::Window(1, 1),
+        ],
+        wanted: &[
+            Wanted::Shut(1),
+            stands!(45),
+            Wanted::Count(Step::Dialled(80), 1),
+        ],
+    },
     useless!("65,536 bytes of what is dropped", 65_536, stands!(69)),
     useless!("65,537 bytes of it", 65_537, dropped!(69)),
 ];
