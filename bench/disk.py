@@ -116,15 +116,23 @@ def median(function):
 
 
 def opening(top):
-    """Of a folder of so many entries: the seconds that it takes to open it, and to find each of them once; the memory that it
-    takes, and that of an empty one."""
+    """Seconds and memory that it takes to open a folder of so many entries, and the memory of an empty one."""
 
     def measure(folder):
         keeper("fill", folder, OPENED_COUNT, 1, 64)
-        opened, sought = median(lambda: keeper("list", folder, 0)), median(lambda: keeper("seek", folder, OPENED_COUNT))
-        return opened, (sought - opened) / TIMES, memory(folder)
+        return median(lambda: keeper("list", folder, 0)), memory(folder)
 
     return *in_new_folder(top, measure), in_new_folder(top, memory)
+
+
+def seeking():
+    """Seconds that it takes to find each of so many entries once by its key."""
+
+    def measure(folder):
+        keeper("fill", folder, OPENED_COUNT, 1, 64)
+        return (median(lambda: keeper("seek", folder, OPENED_COUNT)) - median(lambda: keeper("list", folder, 0))) / TIMES
+
+    return in_new_folder(IN_MEMORY, measure)
 
 
 def calls(top, length, run):
@@ -196,10 +204,10 @@ def main():
     label = "entries of 4 KiB, per second"
     report(label, *seconds(top, SMALL_COUNT, CHUNK, 1), SMALL_COUNT, syncs(SMALL_COUNT, CHUNK, 1))
     report_small_entries(top)
-    opened, sought, most, least = opening(top)
+    opened, most, least = opening(top)
     most, least = f"{most / 1e6:.1f} MB", f"{least / 1e6:.1f} MB"
     print(f"a folder of {OPENED_COUNT} entries opened in {opened:.2f} s, with {most}; an empty one with {least}")
-    print(f"each of these {OPENED_COUNT} found once by its key in {1e3 * sought:.2f} ms")
+    print(f"each of these {OPENED_COUNT} found once by its key in {1e3 * seeking():.2f} ms")
 
 
 if __name__ == "__main__":
