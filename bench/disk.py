@@ -17,6 +17,12 @@ LARGE = 1 << 26
 RUNS = (1, 64)
 SMALL_COUNT = 500
 OPENED_COUNT = 10_000
+# How often `seek` asks for each entry.
+TIMES = 100
+# A file system in memory, whose syncs do nothing.
+IN_MEMORY = "/dev/shm"
+# What a sync takes on a slow disk, in microseconds.
+SLOW_SYNC = 5_000
 
 
 def timed(function):
@@ -25,10 +31,16 @@ def timed(function):
     return time.monotonic() - start
 
 
-def keeper(*words):
-    done = subprocess.run([KEEPER, *map(str, words)], stdout=subprocess.DEVNULL)
+def keeper(*words, under=()):
+    done = subprocess.run([*under, KEEPER, *map(str, words)], stdout=subprocess.DEVNULL)
     if done.returncode != 0:
         raise SystemExit(f"{KEEPER.name} {words}: status {done.returncode}")
+
+
+def delayed(microseconds):
+    """Words before those of a program, each sync of which then takes so much longer."""
+    syncs = "fsync,fdatasync"
+    return ["strace", "-f", "--seccomp-bpf", "-o", "/dev/null", "-e", f"trace={syncs}", "-e", f"inject={syncs}:delay_exit={microseconds}"]
 
 
 def sync_folder(folder):
@@ -99,14 +111,28 @@ def memory(folder):
     return 1024 * next(int(line.split()[1]) for line in status.splitlines() if line.startswith("VmHWM:"))
 
 
+def median(function):
+    return statistics.median(timed(function) for _ in range(ROUNDS))
+
+
 def opening(top):
     """Seconds and memory that it takes to open a folder of so many entries, and the memory of an empty one."""
 
     def measure(folder):
         keeper("fill", folder, OPENED_COUNT, 1, 64)
-        return statistics.median(timed(lambda: keeper("list", folder, 0)) for _ in range(ROUNDS)), memory(folder)
+        return median(lambda: keeper("list", folder, 0)), memory(folder)
 
     return *in_new_folder(top, measure), in_new_folder(top, memory)
+
+
+def seeking():
+    """Seconds that it takes to find each of so many entries once by its key."""
+
+    def measure(folder):
+        keeper("fill", folder, OPENED_COUNT, 1, 64)
+        return (median(lambda: keeper("seek", folder, OPENED_COUNT)) - median(lambda: keeper("list", folder, 0))) / TIMES
+
+    return in_new_folder(IN_MEMORY, measure)
 
 
 def calls(top, length, run):
@@ -125,15 +151,35 @@ def calls(top, length, run):
 
 
 def seal(top, run):
-    """System calls, syncs and microseconds of one seal of so many chunks: what a body of 64 MiB has more than one of a seal."""
-    seals = LARGE // (CHUNK * run) - 1
-    most, least = calls(top, LARGE, run), calls(top, CHUNK * run, run)
+    """System calls, syncs and microseconds of one seal of so many chunks: what a body of 64 MiB has more than one of two seals."""
+    two = 2 * CHUNK * run
+    seals = (LARGE - two) // (CHUNK * run)
+    most, least = calls(top, LARGE, run), calls(top, two, run)
 
     def timed_fill(length):
         return in_new_folder(top, lambda folder: timed(lambda: keeper("fill", folder, 1, length, run)))
 
-    spent = statistics.median(timed_fill(LARGE) - timed_fill(CHUNK * run) for _ in range(ROUNDS))
+    spent = statistics.median(timed_fill(LARGE) - timed_fill(two) for _ in range(ROUNDS))
     return (most[0] - least[0]) / seals, (most[1] - least[1]) / seals, 1e6 * spent / seals
+
+
+def small_entries(top, count, run, under=()):
+    """Entries of one chunk a second."""
+
+    def once():
+        return in_new_folder(top, lambda folder: timed(lambda: keeper("fill", folder, count, CHUNK, run, under=under)))
+
+    return count / statistics.median(once() for _ in range(ROUNDS))
+
+
+def report_small_entries(top):
+    """A line for each kind of sync: the entries a second that are published whole, and those that are published and then sealed."""
+    kinds = [("this disk", top, SMALL_COUNT, ()), ("no time", IN_MEMORY, 20 * SMALL_COUNT, ())]
+    if shutil.which("strace"):
+        kinds.append((f"{SLOW_SYNC / 1e3:.0f} ms", IN_MEMORY, SMALL_COUNT // 5, delayed(SLOW_SYNC)))
+    for label, place, count, under in kinds:
+        whole, sealed = (small_entries(place, count, run, under) for run in (64, 1))
+        print(f"entries of 4 KiB a second, a sync of {label}: {whole:.0f} published whole, {sealed:.0f} sealed; {whole / sealed:.2f}")
 
 
 def report(label, ours, plain, amount, count):
@@ -157,9 +203,11 @@ def main():
             print(f"a seal of {run} chunk{'s' * (run > 1)}: {count:.1f} system calls, {syncs_of_one:.1f} of them syncs; {spent:.0f} microseconds")
     label = "entries of 4 KiB, per second"
     report(label, *seconds(top, SMALL_COUNT, CHUNK, 1), SMALL_COUNT, syncs(SMALL_COUNT, CHUNK, 1))
+    report_small_entries(top)
     opened, most, least = opening(top)
     most, least = f"{most / 1e6:.1f} MB", f"{least / 1e6:.1f} MB"
     print(f"a folder of {OPENED_COUNT} entries opened in {opened:.2f} s, with {most}; an empty one with {least}")
+    print(f"each of these {OPENED_COUNT} found once by its key in {1e3 * seeking():.2f} ms")
 
 
 if __name__ == "__main__":

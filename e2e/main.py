@@ -33,6 +33,7 @@ SUBJECTS = [
     "packages",
     "words",
     "kills",
+    "folders",
     "caching",
     "one_answer",
     "hostile_origins",

@@ -1,11 +1,10 @@
 -- Each entry that this program keeps can be written, and none of its body is kept with it.
-use Rattle.std.proofs.Common.{◌≡◌, ◌<◌, ◌≤◌, ◌^◌, ℕ, true, List, [], ◌∷◌, ◌++◌, length, drop, codes, decimal, refl, sym, ◌∙◌, ap, subst, arith, Some}
+use Rattle.std.proofs.Common.{◌≡◌, ◌⊎◌, inl, inr, ◌<◌, ◌≤◌, ◌+◌, ◌^◌, ℕ, true, List, [], ◌∷◌, ◌++◌, length, drop, length-drop, codes, decimal, refl, sym, ◌∙◌, ap, subst, arith, Some}
 use Rattle.std.specs.Prelude.{All}
 use Rattle.std.specs.Char.{digit_value}
 use Rattle.std.specs.Str.Parse.{AllDigits}
 use Rattle.std.proofs.lemmas.Bool.Decides.{nat_tests}
 use Rattle.std.proofs.lemmas.Fmt.{decimal_is_IsNumeral}
-use Rattle.std.proofs.lemmas.List.{drop_all}
 use Rattle.std.proofs.lemmas.List.Elements.{All-nil, All-cons, All-append}
 use Rattle.std.proofs.lemmas.List.Sums.{AllPass-from_list_all}
 use Rattle.httparse.specs.Grammar.{AllPass, is_token_byte, is_uri_byte, is_value_byte}
@@ -20,8 +19,8 @@ use Rattle.pp_entry.specs.Entries.{Row, is_sized}
 use Rattle.pp_entry.specs.Fields.{are_allowed}
 use Rattle.pp_entry.specs.Spelling.{CanBeWritten}
 use Rattle.pp_entry.specs.Texts.{body_at}
-use Rattle.pp_gate.specs.Files.{Sent}
 use Rattle.pp_gate.specs.Seal.{IsFront}
+use Rattle.pp_keeper.specs.Anything.{anything}
 
 a_tag : Field
 a_tag = (codes "etag", codes "\"x\"")
@@ -83,13 +82,31 @@ can row response number is fields less key tag some few response_time initial =
       initial = omega (arith, initial);
     }
 
--- nothing stands behind so many bytes
-pub none_behind : (sent : Sent) (block : List ℕ) (n : ℕ) (room : List ℕ) → length room ≤ body_at n → IsFront sent block n (drop (body_at n) room)
-none_behind sent block n room all = subst (IsFront sent block n) (sym (drop_all (body_at n) room all)) (record {
-  whole = omega arith;
-  sent_all = λ offset less. absurd (omega (arith, less));
-})
+-- none of a body, or all of it, may be kept with its entry
+none_or_all : (block : List ℕ) (n : ℕ) (kept : List ℕ) → (length kept ≡ 0) ⊎ (length kept ≡ n) → IsFront anything block n kept
+none_or_all block n kept size = record {
+  whole = grind (arith, size);
+  sent_all = λ offset less. refl;
+}
 
-pub body_at_room : (n : ℕ) → n ≤ 2 ^ 26 → body_at n ≤ 262144
+size_behind : (n kept : ℕ) (room : List ℕ) → length room ≡ body_at n + kept → length (drop (body_at n) room) ≡ kept
+size_behind n kept room size = omega (arith, length-drop (body_at n) room, size)
+
+-- what stands in the room behind the place of the body
+pub front_in_room : (block : List ℕ) (n kept : ℕ) (room : List ℕ) → length room ≡ body_at n + kept → (kept ≡ 0) ⊎ (kept ≡ n) → IsFront anything block n (drop (body_at n) room)
+front_in_room block n kept room size (inl none) = none_or_all block n _ (inl (size_behind n kept room size ∙ none))
+front_in_room block n kept room size (inr all) = none_or_all block n _ (inr (size_behind n kept room size ∙ all))
+
+pub body_at_room : (n : ℕ) → n ≤ 2 ^ 26 → body_at n ≤ 24576
 unfolding body_at
 body_at_room n few = omega (arith, few)
+
+-- a body of so few chunks stands behind one page of gates
+body_at_few : (n : ℕ) → n ≤ 262144 → body_at n ≤ 12288
+unfolding body_at
+body_at_few n few = omega (arith, few)
+
+-- what is published has room
+pub fits_room : (n kept : ℕ) → n ≤ 2 ^ 26 → (kept ≡ 0) ⊎ (kept ≡ n) → kept ≤ 262144 → body_at n + kept ≤ 274432
+fits_room n kept sized (inl none) few = omega (arith, none, body_at_room n sized)
+fits_room n kept sized (inr all) few = omega (arith, all, body_at_few n (omega arith))

@@ -1,5 +1,5 @@
 // Entries are kept.
-ghost use Rattle.std.specs.Prelude.{◌≡◌, ◌≤◌, ◌<◌, length};
+ghost use Rattle.std.specs.Prelude.{◌≡◌, ◌≤◌, ◌<◌, ◌⊎◌, length};
 ghost use Rattle.pp_world.specs.Log.{Told};
 ghost use Rattle.pp_store.specs.Held.{Holds};
 ghost use Rattle.pp_keeper.specs.Anything.{anything};
@@ -18,21 +18,36 @@ use std::alloc::Global;
 /// The chunks that are sealed at once at most.
 pub(crate) const RUN_CHUNKS: u64 = 64;
 
-/// The bytes of so many chunks.
-pub(crate) const RUN_LEN: usize = 262_144;
+/// The bytes of so many chunks, behind the longest head block and gates that stand before so few.
+pub(crate) const ROOM_LEN: usize = 274_432;
 
 /// The response that each entry keeps.
 const RESPONSE: &[u8] = b"HTTP/1.1 200 OK\r\netag: \"x\"\r\n\r\n";
 
-/// Keeps the entry with this number without its body, where it is not kept. Its file is laid out in `room`.
+/// How much of a body is published with its entry: all of it, where it is no longer than a seal of more chunks than one, or
+/// none.
+fn published(length: u64, chunks: u64) -> u64
+    ensures whole { (result ≡ 0) ⊎ (result ≡ length) }
+    ensures few { result ≤ 262144 }
+{
+    if chunks > 1 && length <= CHUNK_LEN * chunks.min(RUN_CHUNKS) {
+        length
+    } else {
+        0
+    }
+}
+
+/// Keeps the entry with this number, where it is not kept, with none of its body or all of it. Answers how many bytes of it
+/// that are. Its file is laid out in `room`.
 pub(crate) fn keep<D: Disk>(
     alloc: Global,
     store: &mut Store,
     disk: &mut D,
     number: u64,
     length: u64,
-    room: &mut [u8; RUN_LEN],
-) -> Result<(), Stop>
+    chunks: u64,
+    room: &mut [u8; ROOM_LEN],
+) -> Result<u64, Stop>
     requires holds { Told (D.log disk.old) (Holds anything store.old) }
     ensures holds { Told (D.log disk.new) (Holds anything store.new) }
 {
@@ -44,7 +59,7 @@ pub(crate) fn keep<D: Disk>(
     }
     let key = key_of(number);
     if store.kept(&key).is_some() {
-        return Ok(());
+        return Ok(0);
     }
     if store.under(&file_name(&key)).is_some() {
         return Err(Stop::Taken);
@@ -63,9 +78,12 @@ pub(crate) fn keep<D: Disk>(
         initial: 0,
         may_guess: false,
     };
-    let room = &mut room[..body_at(length) as usize];
-    store.keep(alloc, disk, &key, &version, &head.fields, &times, room)?;
-    Ok(())
+    let (at, kept) = (body_at(length), published(length, chunks));
+    let file = &mut room[..(at + kept) as usize];
+    // What stands before the body is written over.
+    put_body(number, 0_u64.wrapping_sub(at), file);
+    store.keep(alloc, disk, &key, &version, &head.fields, &times, file)?;
+    Ok(kept)
 }
 
 /// Keeps up to so many chunks more, from 1 to 64, of the entry with this number. Answers how many of its bytes are kept
@@ -75,7 +93,7 @@ pub(crate) fn extend<D: Disk>(
     disk: &mut D,
     number: u64,
     chunks: u64,
-    room: &mut [u8; RUN_LEN],
+    room: &mut [u8; ROOM_LEN],
 ) -> Result<Option<u64>, Stop>
     requires holds { Told (D.log disk.old) (Holds anything store.old) }
     ensures holds { Told (D.log disk.new) (Holds anything store.new) }

@@ -1,9 +1,10 @@
 //! Keeps bodies of a known pattern in a folder: for the test of what outlives a kill, and for the benchmark.
 //!
 //! `fill FOLDER COUNT LENGTH [CHUNKS]` keeps so many entries of so many bytes, and seals so many chunks at
-//! once, 1 to 64, by default 1. It prints `kept NUMBER EXTENT` for each extent that is acknowledged, and goes
-//! on where an earlier run stopped. `list FOLDER COUNT` prints `found NUMBER EXTENT`, `wrong NUMBER CHUNK` or
-//! `none NUMBER` of so many entries.
+//! once, 1 to 64, by default 1; where these are more than one, a body that is no longer is published whole. It
+//! prints `kept NUMBER EXTENT` for each extent that is acknowledged, and goes on where an earlier run stopped.
+//! `list FOLDER COUNT` prints `found NUMBER EXTENT`, `wrong NUMBER CHUNK` or `none NUMBER` of so many entries.
+//! `seek FOLDER COUNT` asks for each of so many entries 100 times, and prints how often one was found.
 //!
 //! It ends with 0 where all was done, with 2 where the words have no reading, with 3 where memory was refused,
 //! with 4 where the folder cannot be used, with 5 where an entry was not kept or not read, and with 6 where the system
@@ -16,8 +17,8 @@ mod listing; // entries are looked at
 mod stop; // why the program ends early
 mod words; // what the words ask for
 
-use crate::body::BODY_CHUNKS;
-use crate::filling::{RUN_LEN, extend, keep};
+use crate::body::{BODY_CHUNKS, CHUNK_LEN};
+use crate::filling::{ROOM_LEN, extend, keep};
 use crate::listing::{extent_of, is_right};
 use crate::stop::Stop;
 use crate::words::{Filling, Task, task_of};
@@ -28,13 +29,18 @@ use pp_world::Disk;
 use std::process::ExitCode;
 use std::{env, io};
 
+/// How often each entry is asked for.
+const TIMES: u32 = 100;
+
 fn main(rt: HostRuntime) -> io::Result<ExitCode> {
     let mut words: Vec<String> = Vec::new(rt.alloc());
     for word in env::args(&rt)?.skip(1) {
         words.push(word)?;
     }
     let Some(task) = task_of(words.as_slice()) else {
-        rt.eprint("usage: fill FOLDER COUNT LENGTH [CHUNKS] | list FOLDER COUNT\n")?;
+        rt.eprint(
+            "usage: fill FOLDER COUNT LENGTH [CHUNKS] | list FOLDER COUNT | seek FOLDER COUNT\n",
+        )?;
         return Ok(ExitCode::from(2));
     };
     match carry_out(&rt, &task) {
@@ -54,6 +60,7 @@ fn carry_out(rt: &HostRuntime, task: &Task<'_>) -> Result<(), Stop> {
     match task {
         Task::Fill(filling) => fill(rt, &mut store, &mut world, filling),
         Task::List(listing) => list(rt, &mut store, &mut world, listing.count),
+        Task::Seek(listing) => seek(rt, &store, listing.count),
     }
 }
 
@@ -64,11 +71,15 @@ fn fill(
     world: &mut NetWorld<HostRuntime>,
     filling: &Filling<'_>,
 ) -> Result<(), Stop> {
-    let mut room = [0; RUN_LEN];
+    let mut room = [0; ROOM_LEN];
+    let (length, chunks) = (filling.length, filling.chunks);
     for number in 0..filling.count {
-        keep(rt.alloc(), store, world, number, filling.length, &mut room)?;
+        let extent = keep(rt.alloc(), store, world, number, length, chunks, &mut room)?;
+        if extent > 0 {
+            println!(rt; "kept {number} {extent}")?;
+        }
         for _run in 0..BODY_CHUNKS {
-            match extend(store, world, number, filling.chunks, &mut room)? {
+            match extend(store, world, number, chunks, &mut room)? {
                 Some(extent) => println!(rt; "kept {number} {extent}")?,
                 None => break,
             }
@@ -102,11 +113,28 @@ fn list_one(
     };
     let mut room = [0; 4096];
     for index in 0..BODY_CHUNKS {
+        if CHUNK_LEN * u64::from(index) >= extent {
+            break;
+        }
         if !is_right(store, world, number, index, &mut room)? {
             println!(rt; "wrong {number} {index}")?;
             return Ok(());
         }
     }
     println!(rt; "found {number} {extent}")?;
+    Ok(())
+}
+
+/// Asks for each of so many entries so often, and tells how often one was found.
+fn seek(rt: &HostRuntime, store: &Store, count: u64) -> Result<(), Stop> {
+    let mut found: u64 = 0;
+    for _time in 0..TIMES {
+        for number in 0..count {
+            if extent_of(store, number).is_some() {
+                found = found.wrapping_add(1);
+            }
+        }
+    }
+    println!(rt; "found {found}")?;
     Ok(())
 }

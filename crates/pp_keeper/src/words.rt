@@ -11,6 +11,7 @@ const MOST_ENTRIES: u64 = 10_000;
 pub(crate) enum Task<'a> {
     Fill(Filling<'a>),
     List(Listing<'a>),
+    Seek(Listing<'a>),
 }
 
 impl<'a> Task<'a> {
@@ -18,7 +19,7 @@ impl<'a> Task<'a> {
     pub(crate) fn folder(&self) -> &'a [u8] {
         match self {
             Task::Fill(filling) => filling.folder,
-            Task::List(listing) => listing.folder,
+            Task::List(listing) | Task::Seek(listing) => listing.folder,
         }
     }
 }
@@ -34,7 +35,7 @@ pub(crate) struct Filling<'a> {
     pub(crate) chunks: u64,
 }
 
-/// Entries that are to be told of.
+/// Entries that are to be told of, or asked for.
 #[derive(Drop)]
 pub(crate) struct Listing<'a> {
     pub(crate) folder: &'a [u8],
@@ -48,6 +49,7 @@ pub(crate) fn task_of(words: &[String]) -> Option<Task<'_>> {
     let count = number_in(words, 2, 0, MOST_ENTRIES)?;
     match (verb, words.len()) {
         (b"list", 3) => Some(Task::List(Listing { folder, count })),
+        (b"seek", 3) => Some(Task::Seek(Listing { folder, count })),
         (b"fill", 4 | 5) => Some(Task::Fill(Filling {
             folder,
             count,
