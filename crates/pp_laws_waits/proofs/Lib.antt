@@ -1,0 +1,4 @@
+pub mod Served
+pub mod Asked
+pub mod Reaches
+pub mod Laws
