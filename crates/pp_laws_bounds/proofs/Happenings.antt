@@ -371,7 +371,7 @@ dropped_so s n is = (chosen (is_at Connecting (come_to Connecting s)) (may_drop 
 
 -- ---- what is permitted
 
-opened_so : (s : State) (n : ℕ) → IsPermitted s (Opened n) → (s.top < n) × (length s.clients < 256)
+pub opened_so : (s : State) (n : ℕ) → IsPermitted s (Opened n) → (s.top < n) × (length s.clients < 256)
 unfolding is_permitted permits
 opened_so s n is =
     let w : (is_awaiting s && may_open s n) ≡ true = unhampered s.has_made_room _ is in

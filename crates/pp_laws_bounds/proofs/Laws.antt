@@ -10,7 +10,7 @@ use Rattle.pp_laws_bounds.specs.Bounds.{Always, HasFewClients, HasFewConnections
 use Rattle.pp_laws_bounds.proofs.Happenings.{after_all-kept, from_now}
 use Rattle.pp_laws_bounds.proofs.Kept.{Kept, facts_of, kept}
 
-start-kept : (terms : List Term) → Kept [] (start terms)
+pub start-kept : (terms : List Term) → Kept [] (start terms)
 start-kept terms = kept (record {
   few_clients = zero-le;
   lines = record { rise = tt; few = zero-le; spared = λ host port. zero-le; short = λ k i. absurd i; closed = λ k i. absurd i };

@@ -17,3 +17,18 @@ pub mod Steps
 pub mod Happenings
 pub mod Pigeons
 pub mod Laws
+pub mod Small
+pub mod SmallCases
+pub mod SmallChanges
+pub mod SmallRows
+pub mod SmallExchanges
+pub mod SmallClosings
+pub mod SmallClients
+pub mod SmallHeads
+pub mod SmallPieces
+pub mod SmallDisk
+pub mod SmallSteps
+pub mod SmallHappenings
+pub mod SmallLaws
+pub mod Placed
+mod Worked

@@ -191,7 +191,7 @@ body_piece-kept k a bytes s all h = by (front_of_line s k)
         let fresh : Bytes = drop at (body_of a.rule (a.raw ++ bytes)).payload in
         body_piece_by k a e bytes (deliver e a at fresh s) (body_of a.rule (a.raw ++ bytes)).outcome (covers_as k s (deliver e a at fresh s) (deliver-conns e a at fresh s) all) (deliver-kept e a at fresh s h)
 
-next_piece-kept : (k : Conn) (bytes : Bytes) (s : State) → Covers k s → Kept [] s → Kept [] (next_piece k bytes s).state
+pub next_piece-kept : (k : Conn) (bytes : Bytes) (s : State) → Covers k s → Kept [] s → Kept [] (next_piece k bytes s).state
 next_piece-kept k bytes s all h = by k.answer
   where
     by : (answer : Option Answer) → Kept [] (elim answer as (λ c. Piece) [ Some a ↦ body_piece k a bytes s | None ↦ head_piece k bytes s ]).state

@@ -1,9 +1,11 @@
 -- How much there is at most, behind each front of each lawful log. All of it is ours.
-use Rattle.std.specs.Prelude.{ℕ, ◌≤◌, Bool, ◌==◌, ◌&&◌, List, ◌++◌, length, filter, bytes_eq}
+use Rattle.std.specs.Prelude.{◌≡◌, ℕ, ◌≤◌, Bool, false, ◌==◌, ◌&&◌, List, ◌++◌, length, filter, bytes_eq, is_some}
 use Rattle.pp_world.specs.Log.{Log}
 use Rattle.pp_law.specs.Lawful.{Lawful}
 use Rattle.pp_law.specs.Lists.{Bytes}
-use Rattle.pp_law.specs.State.{State, Term, Conn}
+use Rattle.pp_law.specs.Stages.{bound_of}
+use Rattle.pp_law.specs.State.{State, Term, Conn, Exchange}
+use Rattle.pp_law.specs.Table.{pins, rows}
 use Rattle.pp_laws.specs.Runs.{state_after, IsIn}
 
 -- it holds at each moment of each lawful log
@@ -26,6 +28,33 @@ KeepsToHosts s = (host : Bytes) (port : ℕ) → length (filter (goes_to host po
 -- at most 8 asks stand in the line of a connection
 abbrev pub HasShortLines : State → Type 0
 HasShortLines s = (k : Conn) → IsIn k s.conns → length k.line ≤ 8
+
+-- ---- exchanges
+
+-- until Stop at most 512 exchanges have a place
+abbrev pub has_place : Exchange → Bool
+has_place e = is_some e.place
+
+abbrev pub HasFewPlaced : State → Type 0
+HasFewPlaced s = s.is_stopped ≡ false → length (filter has_place s.exchanges) ≤ 512
+
+-- ---- rows
+
+-- at most 1,024 rows are in memory
+abbrev pub HasFewRows : State → Type 0
+HasFewRows s = rows s ≤ 1024
+
+-- the body of its response belongs to a row, or to a version that was retired
+abbrev pub belongs_to_row : Exchange → Bool
+belongs_to_row e = is_some (bound_of e)
+
+-- at most 64 exchanges bring such bodies
+abbrev pub HasFewBodies : State → Type 0
+HasFewBodies s = length (filter belongs_to_row s.exchanges) ≤ 64
+
+-- at most 320 chunks are pinned: the next of each client that follows, and of each such exchange
+abbrev pub HasFewPins : State → Type 0
+HasFewPins s = length (pins s) ≤ 320
 
 -- ---- clients
 

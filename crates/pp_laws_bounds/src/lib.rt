@@ -1,4 +1,4 @@
-//! How much there is at most of what a lawful log speaks of: connections, asks and clients.
+//! How much there is at most of what a lawful log speaks of: connections, asks, exchanges, rows, pins and clients.
 //!
 //! `pp_law` says which happening may follow which. Here stands what follows of numbers: whatever
 //! clients and origins do, no more than so many of each are there at any moment.
@@ -11,4 +11,7 @@
 
 mod bounds; // how much there is at most
 
-pub use bounds::{clients_are_few, connections_are_few, hosts_are_spared, lines_are_short};
+pub use bounds::{
+    bodies_are_few, clients_are_few, connections_are_few, hosts_are_spared, lines_are_short,
+    pins_are_few, placed_exchanges_are_few, rows_are_few,
+};
