@@ -1,6 +1,6 @@
 -- Requests that were heard, one behind the other, stay so as more is heard.
-use Rattle.std.proofs.Common.{◌≡◌, ◌⊎◌, refl, ℕ, zero, suc, ◌+◌, ◌-◌, ◌≤◌, Bool, true, false, List, [], ◌∷◌, ◌++◌, length, drop, Option, Some, None, inl, inr, sym, subst, ap, ◌∙◌, append-nil, length-append, length-drop, le_refl, le_trans, arith}
-use Rattle.std.proofs.lemmas.List.{drop-append-le, drop-drop}
+use Rattle.std.proofs.Common.{◌≡◌, ◌⊎◌, refl, ℕ, zero, suc, ◌+◌, ◌-◌, ◌≤◌, Bool, true, false, List, [], ◌∷◌, ◌++◌, length, drop, inl, inr, sym, subst, ap, ◌∙◌, le_refl, le_trans, arith}
+use Rattle.std.proofs.lemmas.List.{drop-append-le}
 use Rattle.pp_head.proofs.OnLiterals.{pp_head_on_literals}
 use Rattle.pp_head.proofs.RequestAgrees.{request_stays, request_within}
 use Rattle.pp_head.specs.Limits.{is_limit_reached}

@@ -1,14 +1,14 @@
 -- Where a client stands in what it sent: behind the requests that were answered, and the head of the current one.
-use Rattle.std.proofs.Common.{◌≡◌, ◌⊎◌, refl, ℕ, zero, suc, ◌+◌, ◌-◌, ◌≤◌, Bool, true, false, List, [], ◌∷◌, ◌++◌, length, drop, Option, Some, None, Result, Ok, Err, inl, inr, sym, subst, ap, ap₂, ◌∙◌, append-nil, length-append, length-drop, le_refl, le_trans, zero-le, arith}
+use Rattle.std.proofs.Common.{◌≡◌, ◌⊎◌, refl, ℕ, ◌+◌, ◌-◌, ◌≤◌, Bool, true, false, List, [], ◌∷◌, ◌++◌, length, drop, Result, Ok, Err, inl, inr, sym, subst, ap, ap₂, ◌∙◌, length-append, length-drop, le_refl, zero-le, arith}
 use Rattle.std.proofs.lemmas.List.{drop-drop}
 use Rattle.pp_framing.specs.declared.body.BodyRule.{BodyRule}
 use Rattle.pp_framing.specs.declared.framing.FramingFault.{FramingFault}
-use Rattle.pp_law.specs.Hearing.{what_counts, fronted, with_front, heard_by}
+use Rattle.pp_law.specs.Hearing.{what_counts, fronted, heard_by}
 use Rattle.pp_law.specs.Lists.{Bytes}
 use Rattle.pp_law.specs.Replies.{next_request}
 use Rattle.pp_law.specs.Requests.{Front, Parsed, NoHeadYet, NoHead as NoFront, IsRequest, front_of, behind_head, body_len_by, body_len, has_request}
 use Rattle.pp_law.specs.State.{Client}
-use Rattle.pp_laws_replies.specs.Replies.{head_len, AreHeardFrom}
+use Rattle.pp_laws_replies.specs.Replies.{AreHeardFrom}
 use Rattle.pp_laws_replies.proofs.HeardLemmas.{drop_both, drop_none, drop_past, front_within, head_within, heard_first, heard_longer, heard_next, heard_wider}
 
 -- the end of its body is not known

@@ -1,5 +1,5 @@
 -- What happens to clients without a word of their replies, and to the instances that they are read from.
-use Rattle.std.proofs.Common.{◌≡◌, ◌⊎◌, refl, ℕ, ◌+◌, ◌-◌, ◌≤◌, Bool, true, false, List, [], ◌∷◌, ◌++◌, map, length, drop, filter, inl, inr, sym, subst, ap, ◌∙◌, le_refl, arith}
+use Rattle.std.proofs.Common.{◌≡◌, ◌⊎◌, refl, ℕ, ◌+◌, ◌≤◌, Bool, true, false, List, [], ◌∷◌, ◌++◌, map, filter, inl, inr, sym, subst, ap, ◌∙◌, le_refl, arith}
 use Rattle.pp_law.specs.Lists.{change}
 use Rattle.pp_law.specs.State.{State, Client, Instance}
 use Rattle.pp_laws.specs.Runs.{IsIn}

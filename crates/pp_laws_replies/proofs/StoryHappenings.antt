@@ -48,11 +48,11 @@ use Rattle.pp_laws.proofs.Tops.{come_to-top}
 use Rattle.pp_laws_replies.specs.Replies.{before, RepliesInOrder}
 use Rattle.pp_laws_replies.proofs.Cases.{by_pause, each_of, when}
 use Rattle.pp_laws_replies.proofs.Quiet.{clients_changed_in, Quiet, Quietly, clients_changed, facts_of, old_row, quiet_same, quietly}
-use Rattle.pp_laws_replies.proofs.QuietAsks.{close_client-quiet, end_exchange-quiet, lose_attempt-quiet, on_client-quiet, on_client_of-quiet, on_conn-quiet, on_exchange-quiet, parts_same, placing-quiet, put_on-quiet}
+use Rattle.pp_laws_replies.proofs.QuietAsks.{close_client-quiet, end_exchange-quiet, lose_attempt-quiet, on_client-quiet, on_conn-quiet, on_exchange-quiet, parts_same, placing-quiet, put_on-quiet}
 use Rattle.pp_laws_replies.proofs.QuietHeads.{ended-quiet, got-quiet}
 use Rattle.pp_laws_replies.proofs.QuietRows.{begin_in_opening-quiet, begin_in_turn-quiet, close_name-quiet, configured-quiet, drop_chunk-quiet, end_op-quiet, forget-quiet, load-quiet, lose_in_opening-quiet, note_gone-quiet, note_kept-quiet, opened_to-quiet}
 use Rattle.pp_laws_replies.proofs.QuietTurns.{come_to-quiet, come_to_decide-quiet, deciding-quiet, in_phase-quiet, regained-quiet, rest_with-quiet, tick-quiet, touch-quiet, use_said-quiet}
-use Rattle.pp_laws_replies.proofs.Stories.{Told, Now, undecided, waiting, chosen, begun, now_alike, Alike, SameRows, Story, OrderOf, Orderly, changed_orderly, in_order, kept_orderly, order_of, orderly, quiet_orderly}
+use Rattle.pp_laws_replies.proofs.Stories.{Told, Now, undecided, waiting, chosen, begun, now_alike, Alike, SameRows, Story, OrderOf, Orderly, changed_orderly, in_order, order_of, orderly, quiet_orderly}
 use Rattle.pp_laws_replies.proofs.StoryBegins.{begin_replies-orderly}
 use Rattle.pp_laws_replies.proofs.StoryDecided.{IsFree, decided-orderly}
 use Rattle.pp_laws_replies.proofs.StoryEnds.{end_replies-orderly}
@@ -148,7 +148,7 @@ asked_quiet n c le = record { number = refl; front = refl; stage = refl; interim
 ask_body-quiet : {o : State} (e : Exchange) (n : ℕ) (s : State) → ((c : Client) → IsIn c s.clients → is_for e c ≡ true → n ≤ length c.heard) → Quietly o s → Quietly o (ask_body e n s)
 unfolding ask_body on_client_of on_exchange
 ask_body-quiet {o} e n s short h =
-    quietly (clients_changed_in o (on_exchange e.number (λ x. record x { body_left = x.body_left - n }) s) (is_for e) (asked_body n) (λ c. refl) (λ c i hit. asked_quiet n c (short c i hit)) (facts_of (on_exchange-quiet e.number _ s h)))
+    quietly (clients_changed_in o (on_exchange e.number (λ x. record x { body_left = x.body_left - n }) s) (is_for e) (asked_body n) (λ c. refl) (λ c i hit. asked_quiet n c (short c i hit)) (facts_of (on_exchange-quiet e.number (λ (x : Exchange). record x { body_left = x.body_left - n }) s h)))
 
 ask-quiet : {o : State} (k n : ℕ) (s : State) → ((e : Exchange) → asking s k ≡ Some e → is_outstanding e ≡ true → (c : Client) → IsIn c s.clients → is_for e c ≡ true → n ≤ length c.heard) → Quietly o s → Quietly o (ask k n s)
 unfolding ask ask_next

@@ -15,7 +15,7 @@ use Rattle.pp_law.specs.Offers.{run_at, piece, passed_part, offer}
 use Rattle.pp_law.specs.Permits.{is_permitted, IsPermitted, permits, permits_said, is_said_of}
 use Rattle.pp_law.specs.Replies.{said_by, said_of, said_of_body}
 use Rattle.pp_law.specs.Requests.{Front, has_request}
-use Rattle.pp_law.specs.Stages.{is_passing, on_passed, passed_of, reply_of}
+use Rattle.pp_law.specs.Stages.{is_passing, on_passed, reply_of}
 use Rattle.pp_law.specs.State.{State, Client, Stage, Undecided, Waiting, Passing, Answering, Reply, Instance}
 use Rattle.pp_law.specs.Table.{source_of, Next, next_from, next_of}
 use Rattle.pp_laws.proofs.Tests.{fourth_holds, same_bytes, second_holds}
