@@ -1,5 +1,7 @@
 pub mod ByRowLemmas
 pub mod Usable
+pub mod HeardLemmas
+pub mod HeardPlaces
 pub mod Quiet
 pub mod Cases
 pub mod QuietRows

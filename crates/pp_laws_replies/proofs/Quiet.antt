@@ -3,8 +3,9 @@ use Rattle.std.proofs.Common.{◌≡◌, ◌⊎◌, refl, ℕ, ◌+◌, ◌≤�
 use Rattle.pp_law.specs.Lists.{change}
 use Rattle.pp_law.specs.State.{State, Client, Instance}
 use Rattle.pp_laws.specs.Runs.{IsIn}
-use Rattle.pp_laws.proofs.Lists.{changed_at, From, in_filter, in_map, in_moved, in_push, map_kept, moved}
+use Rattle.pp_laws.proofs.Lists.{Changed, From, changed_at, in_change, in_filter, in_map, in_moved, in_push, map_kept, moved, other, same}
 use Rattle.pp_laws.proofs.Sound.{client_number}
+use Rattle.pp_laws_replies.proofs.HeardPlaces.{Reads, again, still}
 
 -- ---- a client
 
@@ -14,9 +15,10 @@ pub record Quiet (d c : Client) : Type 0 where
   pub front : d.front ≡ c.front
   pub stage : d.stage ≡ c.stage
   pub interim : d.interim_left ≡ c.interim_left
+  pub reads : Reads d c
 
 pub still_same : (c : Client) → Quiet c c
-still_same c = record { number = refl; front = refl; stage = refl; interim = refl }
+still_same c = record { number = refl; front = refl; stage = refl; interim = refl; reads = still c c refl refl refl }
 
 quiet_on : (e d c : Client) → Quiet e d → Quiet d c → Quiet e c
 quiet_on e d c one two = record {
@@ -24,6 +26,7 @@ quiet_on e d c one two = record {
   front = one.front ∙ two.front;
   stage = one.stage ∙ two.stage;
   interim = one.interim ∙ two.interim;
+  reads = again e d c one.reads two.reads;
 }
 
 pub record FromClient (clients : List Client) (d : Client) : Type 0 where
@@ -89,6 +92,25 @@ quiet_at p f kept c false is = still_same c
 
 pub clients_changed : (o s : State) (p : Client → Bool) (f : Client → Client) → ((c : Client) → p c ≡ true → Quiet (f c) c) → FactsOf o s → FactsOf o (record s { clients = change p f s.clients })
 clients_changed o s p f kept h = clients_mapped o s (changed_at p f) (λ c. quiet_at p f kept c (p c) refl) h
+
+-- where it is of use that they are there
+pub clients_changed_in : (o s : State) (p : Client → Bool) (f : Client → Client) → ((c : Client) → (f c).number ≡ c.number) → ((c : Client) → IsIn c s.clients → p c ≡ true → Quiet (f c) c) → FactsOf o s
+    → FactsOf o (record s { clients = change p f s.clients })
+clients_changed_in o s p f number kept h = record {
+  numbers = map_kept client_number (changed_at p f) (λ c. number_at c (p c)) s.clients ∙ h.numbers;
+  clients_from = λ d i. by d (in_change p f d s.clients i);
+  rows_from = h.rows_from;
+  next = h.next;
+  top = h.top;
+}
+  where
+    number_at : (c : Client) (t : Bool) → (elim t as (λ x. Client) [ true ↦ f c | false ↦ c ]).number ≡ c.number
+    number_at c true = number c
+    number_at c false = refl
+
+    by : (d : Client) → Changed p f s.clients d → FromClient o.clients d
+    by d (same i isnt) = h.clients_from d i
+    by d (other c i hit eq) = from_on o.clients d c (subst (λ (x : Client). Quiet x c) (sym eq) (kept c i hit)) (h.clients_from c i)
 
 -- ---- what becomes of instances
 

@@ -1,5 +1,5 @@
 -- What an origin sends leaves what was said of each reply as it is: heads, bodies, ends.
-use Rattle.std.proofs.Common.{refl, ℕ, zero, suc, Bool, true, false, ◌==◌, ◌&&◌, ◌||◌, List, [], ◌∷◌, ◌++◌, drop, length, Option, Some, None}
+use Rattle.std.proofs.Common.{refl, ℕ, zero, suc, Bool, true, false, ◌==◌, ◌&&◌, ◌||◌, List, [], ◌∷◌, ◌++◌, drop, length, Option, Some, None, inl, le_refl, zero-le}
 use Rattle.std.specs.List.{list_any}
 use Rattle.pp_framing.specs.Body.{Outcome, Done, Going, Bad}
 use Rattle.pp_framing.specs.Framing.{rule_of}
@@ -20,11 +20,12 @@ use Rattle.pp_law.specs.OwnHeads.{key_of, is_asked_by, tell, use_body, drop_answ
 use Rattle.pp_law.specs.Passing.{pour}
 use Rattle.pp_law.specs.Responses.{skipping, skip_body, rested, close_this, may_go_on, finish, bad_response, bad_head, by_aim, asks_head, answer_with, end_if_empty, begin_answer, answer_for, head_came, Piece, is_early, with_unread, head_piece, deliver, payload_of, body_piece_of, body_piece, next_piece, got, is_whole_at_end, finish_first, ended}
 use Rattle.pp_law.specs.Stages.{on_passed, bound_of}
-use Rattle.pp_law.specs.State.{State, Answer, Body, Brought, Conn, Exchange, Instance, Bound}
+use Rattle.pp_law.specs.State.{State, Answer, Body, Brought, Client, Conn, Exchange, Instance, Bound}
 use Rattle.pp_law.specs.Table.{row, instance}
 use Rattle.pp_law.specs.ThroughHeads.{invalidates, key_named, is_same_host, clear_named, clear_each, places_named, invalidated, disproves, reads, disproved, through_head}
 use Rattle.pp_laws_replies.proofs.Cases.{by_aim_of, by_outcome, by_result, each_of, when}
-use Rattle.pp_laws_replies.proofs.Quiet.{Quietly, clients_changed, facts_of, quietly}
+use Rattle.pp_laws_replies.proofs.HeardPlaces.{read}
+use Rattle.pp_laws_replies.proofs.Quiet.{Quiet, Quietly, clients_changed, facts_of, quietly}
 use Rattle.pp_laws_replies.proofs.QuietAsks.{close_conn-quiet, end_exchange-quiet, fail-quiet, lose_attempt-quiet, on_client_of-quiet, on_conn-quiet, on_exchange-quiet, on_passed-quiet, parts_same}
 use Rattle.pp_laws_replies.proofs.QuietRows.{clear-quiet, enter-quiet, make_row-quiet, mark_row-quiet, note_use-quiet, on_instance-quiet}
 
@@ -32,7 +33,7 @@ use Rattle.pp_laws_replies.proofs.QuietRows.{clear-quiet, enter-quiet, make_row-
 
 pub tell-quiet : {o : State} (e : Exchange) (brought : Brought) (s : State) → Quietly o s → Quietly o (tell e brought s)
 unfolding tell
-tell-quiet {o} e brought s h = quietly (clients_changed o s (is_asked_by e) (λ c. record c { brought = brought }) (λ c is. parts_same _ c refl refl refl refl) (facts_of h))
+tell-quiet {o} e brought s h = quietly (clients_changed o s (is_asked_by e) (λ c. record c { brought = brought }) (λ c is. parts_same _ c refl refl refl refl refl refl refl) (facts_of h))
 
 use_body-quiet : {o : State} (e : Exchange) (body : Body) (s : State) → Quietly o s → Quietly o (use_body e body s)
 unfolding use_body
@@ -155,9 +156,12 @@ pour-quiet : {o : State} (e : Exchange) (f : Pipe → Pipe) (s : State) → Quie
 unfolding pour
 pour-quiet e f s h = on_client_of-quiet e (on_passed (λ p. record p { pipe = f p.pipe })) s (on_passed-quiet (λ p. record p { pipe = f p.pipe })) h
 
+skipping-quiet : (c : Client) → Quiet (skipping c) c
+skipping-quiet c = record { number = refl; front = refl; stage = refl; interim = refl; reads = read (skipping c) c c.body_left (inl (le_refl c.body_left)) refl zero-le refl }
+
 skip_body-quiet : {o : State} (e : Exchange) (s : State) → Quietly o s → Quietly o (skip_body e s)
 unfolding skip_body
-skip_body-quiet e s h = by_aim_of e.aim (on_client_of-quiet e skipping s (λ c. parts_same _ c refl refl refl refl) h) h (λ v from to. h)
+skip_body-quiet e s h = by_aim_of e.aim (on_client_of-quiet e skipping s skipping-quiet h) h (λ v from to. h)
 
 close_this-quiet : {o : State} (n : ℕ) (s : State) → Quietly o s → Quietly o (close_this n s)
 unfolding close_this

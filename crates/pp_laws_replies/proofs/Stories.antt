@@ -1,5 +1,5 @@
 -- How the reply to a client's current request stands: what of it was said, and what is left to say.
-use Rattle.std.proofs.Common.{◌≡◌, ◌⊎◌, ℕ, ◌+◌, ◌-◌, ◌<◌, ◌≤◌, Bool, true, false, List, [], ◌++◌, map, length, Some, inl, inr, sym, subst, ap, ◌∙◌, append_assoc, lt_of_lt_of_le, arith}
+use Rattle.std.proofs.Common.{◌≡◌, ◌⊎◌, ℕ, ◌+◌, ◌-◌, ◌<◌, ◌≤◌, Bool, true, false, List, [], ◌++◌, map, length, Some, inl, inr, sym, subst, ap, ◌∙◌, append_assoc, lt_of_lt_of_le, arith, ◌∷◌, drop}
 use Rattle.std.specs.List.{concat}
 use Rattle.pp_law.specs.Deciding.{span_of}
 use Rattle.pp_law.specs.Lists.{Bytes, change}
@@ -13,8 +13,9 @@ use Rattle.pp_laws.specs.Runs.{IsIn}
 use Rattle.pp_laws.proofs.Lists.{Changed, in_change, other, rise_change, same}
 use Rattle.pp_laws.proofs.Sound.{client_number}
 use Rattle.pp_laws_replies.specs.ByRow.{is_by_row}
-use Rattle.pp_laws_replies.specs.Replies.{interim_to, shown_len, IsKeptHead, IsPassedHead, IsReply, is_page, is_kept, is_passed, before, within, AreReplies, SaysInOrder}
+use Rattle.pp_laws_replies.specs.Replies.{interim_to, shown_len, IsKeptHead, IsPassedHead, IsReply, is_page, is_kept, is_passed, IsFrontOfReply, before, within, AreHeard, AreReplies, SaysInOrder}
 use Rattle.pp_laws_replies.proofs.ByRowLemmas.{SpanOf}
+use Rattle.pp_laws_replies.proofs.HeardPlaces.{PlaceIn, Reads, before_it, read, still, with_current}
 use Rattle.pp_laws_replies.proofs.Quiet.{FactsOf, FromRow, Quiet, Quietly, facts_of, old_row, new_row}
 
 -- ---- definitions
@@ -39,30 +40,36 @@ pub data Now (instances : List Instance) (next_instance : ℕ) (c : Client) (las
   begun : (r : Reply) → c.stage ≡ Answering r → r.has_begun ≡ true → has_request c.front ≡ true → (head body : Bytes) → (last ++ c.interim_left) ++ r.head_left ≡ (interim_to c.front ++ head) ++ body
       → (body ≡ []) ⊎ ((c.interim_left ≡ []) × (r.head_left ≡ [])) → Begun c.front r head body → Now instances next_instance c last
 
+-- what was heard of a client, and what was said to it
+pub record Told : Type 0 where
+  pub heard : Bytes
+  pub said : Bytes
+
 -- all that a client was told
-pub record Story (instances : List Instance) (next_instance : ℕ) (told : Bytes) (c : Client) : Type 0 where
+pub record Story (instances : List Instance) (next_instance : ℕ) (told : Told) (c : Client) : Type 0 where
   pub requests : List Front
   pub replies : List Bytes
   pub each : AreReplies requests replies
   pub last : Bytes
-  pub all : told ≡ concat replies ++ last
+  pub all : told.said ≡ concat replies ++ last
+  pub place : PlaceIn told.heard requests c.front c
   pub now : Now instances next_instance c last
 
 -- of the client with this number; and what was told to it, also where it is gone
-pub record Facts (n : ℕ) (told : Bytes) (clients : List Client) (instances : List Instance) (next_instance top : ℕ) : Type 0 where
+pub record Facts (n : ℕ) (told : Told) (clients : List Client) (instances : List Instance) (next_instance top : ℕ) : Type 0 where
   pub rise : AreRising (map client_number clients)
   pub given : (c : Client) → IsIn c clients → c.number ≤ top
   pub present : (c : Client) → IsIn c clients → c.number ≡ n → Story instances next_instance told c
-  pub absent : top < n → told ≡ []
-  pub sofar : SaysInOrder told
+  pub absent : top < n → (told.heard ≡ []) × (told.said ≡ [])
+  pub sofar : SaysInOrder told.heard told.said
 
-abbrev pub OrderOf : ℕ → Bytes → State → Type 0
+abbrev pub OrderOf : ℕ → Told → State → Type 0
 OrderOf n told s = Facts n told s.clients s.instances s.next_instance s.top
 
-pub data Orderly (n : ℕ) (told : Bytes) (s : State) : Type 0 where
+pub data Orderly (n : ℕ) (told : Told) (s : State) : Type 0 where
   orderly : OrderOf n told s → Orderly n told s
 
-pub order_of : {n : ℕ} {told : Bytes} {s : State} → Orderly n told s → OrderOf n told s
+pub order_of : {n : ℕ} {told : Told} {s : State} → Orderly n told s → OrderOf n told s
 order_of (orderly facts) = facts
 
 -- ---- what was told is in order
@@ -76,22 +83,26 @@ none_left : (il hl body : Bytes) → (body ≡ []) ⊎ ((il ≡ []) × (hl ≡ [
 none_left il hl body (inl none) = inl none
 none_left il hl body (inr both) = inr (ap (λ l. l ++ hl) both.0 ∙ both.1)
 
-pub in_order : {instances : List Instance} {next_instance : ℕ} (told : Bytes) (c : Client) → Story instances next_instance told c → SaysInOrder told
+pub in_order : {instances : List Instance} {next_instance : ℕ} (told : Told) (c : Client) → Story instances next_instance told c → SaysInOrder told.heard told.said
 in_order {instances} {next_instance} told c story = by story.now
   where
-    by : Now instances next_instance c story.last → SaysInOrder told
-    by (undecided stage none last) = record { requests = story.requests; replies = story.replies; each = story.each; next = NoHeadYet; last = story.last; front = before [] (ap (λ l. l ++ []) last); all = story.all }
-    by (waiting stage has is) = record { requests = story.requests; replies = story.replies; each = story.each; next = c.front; last = story.last; front = before c.interim_left is; all = story.all }
-    by (chosen r stage isnt_on has is what) = record { requests = story.requests; replies = story.replies; each = story.each; next = c.front; last = story.last; front = before c.interim_left is; all = story.all }
-    by (begun r stage is_on has head body is rest what) = record {
-      requests = story.requests;
-      replies = story.replies;
-      each = story.each;
-      next = c.front;
-      last = story.last;
-      front = within head body (c.interim_left ++ r.head_left) (sym (append_assoc story.last c.interim_left r.head_left) ∙ is) (none_left c.interim_left r.head_left body rest) (reply_of c.front r head body what);
-      all = story.all;
-    }
+    are_heard : AreHeard told.heard story.requests
+    are_heard = (story.place.at, before_it told.heard story.requests story.place.at c.front story.place.current)
+
+    -- with the current one
+    all_heard : has_request c.front ≡ true → AreHeard told.heard (story.requests ++ c.front ∷ [])
+    all_heard has = (story.place.at, with_current told.heard story.requests story.place.at c.front has story.place.current)
+
+    of : (next : Front) → IsFrontOfReply next story.last → (story.last ≡ []) ⊎ AreHeard told.heard (story.requests ++ next ∷ []) → SaysInOrder told.heard told.said
+    of next front heard =
+        record { requests = story.requests; are_heard = are_heard; replies = story.replies; each = story.each; next = next; last = story.last; front = front; next_heard = heard; all = story.all }
+
+    by : Now instances next_instance c story.last → SaysInOrder told.heard told.said
+    by (undecided stage none last) = of NoHeadYet (before [] (ap (λ l. l ++ []) last)) (inl last)
+    by (waiting stage has is) = of c.front (before c.interim_left is) (inr (all_heard has))
+    by (chosen r stage isnt_on has is what) = of c.front (before c.interim_left is) (inr (all_heard has))
+    by (begun r stage is_on has head body is rest what) =
+        of c.front (within head body (c.interim_left ++ r.head_left) (sym (append_assoc story.last c.interim_left r.head_left) ∙ is) (none_left c.interim_left r.head_left body rest) (reply_of c.front r head body what)) (inr (all_heard has))
 
 -- ---- what keeps a story
 
@@ -133,18 +144,41 @@ now_alike rows next instances next_instance d c last rows_same alike (begun r st
     left (inl none) = inl none
     left (inr both) = inr (alike.interim ∙ both.0, both.1)
 
-pub story_on : (rows : List Instance) (next : ℕ) (instances : List Instance) (next_instance : ℕ) (told : Bytes) (d c : Client) → ((last : Bytes) → Now rows next c last → Now instances next_instance d last) → Story rows next told c → Story instances next_instance told d
-story_on rows next instances next_instance told d c by story = record { requests = story.requests; replies = story.replies; each = story.each; last = story.last; all = story.all; now = by story.last story.now }
+-- as much of what it sent is left as is said here
+pub record Follows (d c : Client) : Type 0 where
+  pub front : d.front ≡ c.front
+  pub reads : Reads d c
+
+pub still_follows : (d c : Client) → d.front ≡ c.front → d.heard ≡ c.heard → d.body_left ≡ c.body_left → d.skip ≡ c.skip → Follows d c
+still_follows d c front heard left skip = record { front = front; reads = still d c heard left skip }
+
+pub read_follows : (d c : Client) (k : ℕ) → d.front ≡ c.front → (k ≤ c.body_left) ⊎ (k ≤ length c.heard) → d.heard ≡ drop k c.heard → d.body_left ≤ c.body_left → d.skip ≡ c.skip + (k - length c.heard) → Follows d c
+read_follows d c k front taken heard left skip = record { front = front; reads = read d c k taken heard left skip }
+
+pub place_on : (heard : Bytes) (requests : List Front) (d c : Client) → Follows d c → PlaceIn heard requests c.front c → PlaceIn heard requests d.front d
+place_on heard requests d c follows p = subst (λ f. PlaceIn heard requests f d) (sym follows.front) (follows.reads heard requests c.front p)
+
+pub story_on : (rows : List Instance) (next : ℕ) (instances : List Instance) (next_instance : ℕ) (told : Told) (d c : Client) → Follows d c → ((last : Bytes) → Now rows next c last → Now instances next_instance d last) → Story rows next told c
+    → Story instances next_instance told d
+story_on rows next instances next_instance told d c follows by story = record {
+  requests = story.requests;
+  replies = story.replies;
+  each = story.each;
+  last = story.last;
+  all = story.all;
+  place = place_on told.heard story.requests d c follows story.place;
+  now = by story.last story.now;
+}
 
 alike_quiet : (d c : Client) → Quiet d c → Alike d c
 alike_quiet d c q = record { front = q.front; stage = q.stage; interim = q.interim }
 
-pub quiet_orderly : {n : ℕ} {told : Bytes} (o s : State) → Quietly o s → Orderly n told o → Orderly n told s
+pub quiet_orderly : {n : ℕ} {told : Told} (o s : State) → Quietly o s → Orderly n told o → Orderly n told s
 quiet_orderly {n} {told} o s quiet h = orderly (record {
   rise = subst AreRising (sym q.numbers) f.rise;
   given = λ d i. let c = q.clients_from d i in let le : c.was.number ≤ o.top = f.given c.was c.there in let eq : d.number ≡ c.was.number = c.is.number in let more : o.top ≤ s.top = q.top in omega arith;
   present = λ d i is. let c = q.clients_from d i in
-      story_on o.instances o.next_instance s.instances s.next_instance told d c.was
+      story_on o.instances o.next_instance s.instances s.next_instance told d c.was (record { front = c.is.front; reads = c.is.reads })
       (λ last. now_alike o.instances o.next_instance s.instances s.next_instance d c.was last (record { from = q.rows_from; next_is = q.next }) (alike_quiet d c.was c.is))
       (f.present c.was c.there (sym c.is.number ∙ is));
   absent = λ lt. let more : o.top ≤ s.top = q.top in f.absent (omega arith);
@@ -158,10 +192,10 @@ quiet_orderly {n} {told} o s quiet h = orderly (record {
     q = facts_of quiet
 
 -- those of which the test holds are changed, and perhaps more was told
-pub changed_orderly : {n : ℕ} {told : Bytes} (more : Bytes) (s : State) (p : Client → Bool) (f : Client → Client) → ((c : Client) → (f c).number ≡ c.number)
+pub changed_orderly : {n : ℕ} {told : Told} (more : Told) (s : State) (p : Client → Bool) (f : Client → Client) → ((c : Client) → (f c).number ≡ c.number)
     → ((c : Client) → IsIn c s.clients → p c ≡ true → c.number ≡ n → Story s.instances s.next_instance told c → Story s.instances s.next_instance more (f c))
     → ((c : Client) → IsIn c s.clients → p c ≡ false → c.number ≡ n → Story s.instances s.next_instance told c → Story s.instances s.next_instance more c)
-    → (s.top < n → more ≡ []) → SaysInOrder more → Orderly n told s → Orderly n more (record s { clients = change p f s.clients })
+    → (s.top < n → (more.heard ≡ []) × (more.said ≡ [])) → SaysInOrder more.heard more.said → Orderly n told s → Orderly n more (record s { clients = change p f s.clients })
 changed_orderly {n} {told} more s p f number hits rest absent sofar h = orderly (record {
   rise = rise_change client_number p f number s.clients o.rise;
   given = λ d i. given_by d (in_change p f d s.clients i);
@@ -184,8 +218,8 @@ changed_orderly {n} {told} more s p f number hits rest absent sofar h = orderly 
         subst (λ (x : Client). Story s.instances s.next_instance more x) (sym eq) (hits c i hit its (o.present c i its))
 
 -- and nothing more was told
-pub kept_orderly : {n : ℕ} {told : Bytes} (s : State) (p : Client → Bool) (f : Client → Client) → ((c : Client) → (f c).number ≡ c.number)
-    → ((c : Client) → IsIn c s.clients → p c ≡ true → (last : Bytes) → Now s.instances s.next_instance c last → Now s.instances s.next_instance (f c) last)
+pub kept_orderly : {n : ℕ} {told : Told} (s : State) (p : Client → Bool) (f : Client → Client) → ((c : Client) → (f c).number ≡ c.number)
+    → ((c : Client) → Follows (f c) c) → ((c : Client) → IsIn c s.clients → p c ≡ true → (last : Bytes) → Now s.instances s.next_instance c last → Now s.instances s.next_instance (f c) last)
     → Orderly n told s → Orderly n told (record s { clients = change p f s.clients })
-kept_orderly {n} {told} s p f number kept h =
-    changed_orderly told s p f number (λ c i hit is story. story_on s.instances s.next_instance s.instances s.next_instance told (f c) c (kept c i hit) story) (λ c i isnt is story. story) (order_of h).absent (order_of h).sofar h
+kept_orderly {n} {told} s p f number follows kept h =
+    changed_orderly told s p f number (λ c i hit is story. story_on s.instances s.next_instance s.instances s.next_instance told (f c) c (follows c) (kept c i hit) story) (λ c i isnt is story. story) (order_of h).absent (order_of h).sofar h

@@ -26,7 +26,7 @@ use Rattle.pp_laws_replies.proofs.ByRowLemmas.{Shows, SpanOf}
 use Rattle.pp_laws_replies.proofs.Quiet.{quiet_same}
 use Rattle.pp_laws_replies.proofs.QuietAsks.{forsake-quiet}
 use Rattle.pp_laws_replies.proofs.QuietRows.{swept-quiet}
-use Rattle.pp_laws_replies.proofs.Stories.{Begun, a_kept, a_passed, Chosen, to_pass, to_show, Now, undecided, waiting, chosen, begun, Orderly, kept_orderly, quiet_orderly}
+use Rattle.pp_laws_replies.proofs.Stories.{Follows, Told, still_follows, Begun, a_kept, a_passed, Chosen, to_pass, to_show, Now, undecided, waiting, chosen, begun, Orderly, kept_orderly, quiet_orderly}
 
 -- ---- before a reply begins
 
@@ -177,11 +177,70 @@ module _ (s : State) (c : Client) (last : Bytes) where
 pub begins_now : (s : State) (c : Client) (last : Bytes) → Now s.instances s.next_instance c last → Now s.instances s.next_instance (begun_at_end s c) last
 begins_now s c last now = closing_now s c last c.is_closing now
 
+-- a reply that begins changes the stage, and whether it is the last
+any_passed : (P : Client → Type 0) (s : State) (c : Client) (q : Parsed) (d : Decision) → P c → ((stage : Stage) (closes : Bool) → P (record c { stage = stage; closes = closes })) → P (begun_passed s q d c)
+any_passed P s c q d same changes = by (passed_of c)
+  where
+    by : (o : Option Passed) → P (elim o as (λ x. Client) [
+      | None ↦ c
+      | Some p ↦ record c { stage = Answering (passed_reply s q p d); closes = not (keeps_open q && is_end_known p.rule q.head.minor) }
+    ])
+    by None = same
+    by (Some p) = changes (Answering (passed_reply s q p d)) (not (keeps_open q && is_end_known p.rule q.head.minor))
+
+any_instance : (P : Client → Type 0) (s : State) (c : Client) (q : Parsed) (r : Reply) → P c → ((stage : Stage) (closes : Bool) → P (record c { stage = stage; closes = closes })) → P (begun_instance s q r c)
+any_instance P s c q r same changes = by (source_of s r)
+  where
+    by_may : (x : Instance) (t : Bool) → P (elim t as (λ y. Client) [ true ↦ record c { stage = Answering (begun_reply s q c r x) } | false ↦ c ])
+    by_may x true = changes (Answering (begun_reply s q c r x)) c.closes
+    by_may x false = same
+
+    by : (o : Option Instance) → P (elim o as (λ y. Client) [
+      | None ↦ c
+      | Some x ↦ elim (may_begin s r x) as (λ z. Client) [ true ↦ record c { stage = Answering (begun_reply s q c r x) } | false ↦ c ]
+    ])
+    by None = same
+    by (Some x) = by_may x (may_begin s r x)
+
+any_begun : (P : Client → Type 0) (s : State) (c : Client) → P c → ((stage : Stage) (closes : Bool) → P (record c { stage = stage; closes = closes })) → P (begun_at_end s c)
+any_begun P s c same changes = by_closing c.is_closing
+  where
+    by_passing : (q : Parsed) (r : Reply) (t : Bool) → P (elim t as (λ y. Client) [ true ↦ begun_passed s q r.decision c | false ↦ begun_instance s q r c ])
+    by_passing q r true = any_passed P s c q r.decision same changes
+    by_passing q r false = any_instance P s c q r same changes
+
+    by_reply : (q : Parsed) (r : Reply) (t : Bool) → P (elim t as (λ y. Client) [ true ↦ c | false ↦ begun_decided s q r c ])
+    by_reply q r true = same
+    by_reply q r false = by_passing q r (is_passing r.decision)
+
+    by_stage : (q : Parsed) (stage : Stage) → P (elim stage as (λ y. Client) [
+      | Undecided ↦ c
+      | Waiting ↦ c
+      | Passing ↦ begun_passed s q Pass c
+      | Answering reply ↦ elim reply.has_begun as (λ z. Client) [ true ↦ c | false ↦ begun_decided s q reply c ]
+    ])
+    by_stage q Undecided = same
+    by_stage q Waiting = same
+    by_stage q Passing = any_passed P s c q Pass same changes
+    by_stage q (Answering r) = by_reply q r r.has_begun
+
+    by_front : (front : Front) → P (elim front as (λ y. Client) [ NoHeadYet ↦ c | NoFront status ↦ c | IsRequest r ↦ begun_by s r c ])
+    by_front NoHeadYet = same
+    by_front (NoFront status) = same
+    by_front (IsRequest q) = by_stage q c.stage
+
+    by_closing : (t : Bool) → P (elim t as (λ y. Client) [ true ↦ c | false ↦ elim c.front as (λ z. Client) [ NoHeadYet ↦ c | NoFront status ↦ c | IsRequest r ↦ begun_by s r c ] ])
+    by_closing true = same
+    by_closing false = by_front c.front
+
+begun_follows : (s : State) (c : Client) → Follows (begun_at_end s c) c
+begun_follows s c = any_begun (λ d. Follows d c) s c (still_follows c c refl refl refl refl) (λ stage closes. still_follows _ c refl refl refl refl)
+
 begun_clients : State → State
 begun_clients s = record s { clients = map (begun_at_end s) s.clients }
 
-pub begin_replies-orderly : {n : ℕ} {told : Bytes} (s : State) → Orderly n told s → Orderly n told (begin_replies s)
+pub begin_replies-orderly : {n : ℕ} {told : Told} (s : State) → Orderly n told s → Orderly n told (begin_replies s)
 unfolding begin_replies begun_clients
 begin_replies-orderly s h =
     quiet_orderly (begun_clients s) _ (swept-quiet _ (forsake-quiet (is_outrun s) (begun_clients s) (quiet_same (begun_clients s))))
-    (kept_orderly s (λ c. true) (begun_at_end s) (λ c. (begun_at_end-same s c).number) (λ c i hit last now. begins_now s c last now) h)
+    (kept_orderly s (λ c. true) (begun_at_end s) (λ c. (begun_at_end-same s c).number) (begun_follows s) (λ c i hit last now. begins_now s c last now) h)

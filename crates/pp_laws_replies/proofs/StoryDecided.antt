@@ -1,5 +1,5 @@
 -- What is decided for a request is a reply of which nothing was said but the interim answer.
-use Rattle.std.proofs.Common.{◌≡◌, ◌⊎◌, refl, ℕ, true, false, ◌==◌, List, [], ◌∷◌, ◌++◌, Option, Some, None, Result, Ok, Err, inl, inr, sym, subst, ap, ◌∙◌, append-nil}
+use Rattle.std.proofs.Common.{◌≡◌, ◌⊎◌, refl, ℕ, true, false, ◌==◌, List, [], ◌∷◌, ◌++◌, Option, Some, None, Result, Ok, Err, inl, inr, sym, subst, ap, ◌∙◌, append-nil, le_refl, zero-le}
 use Rattle.pp_ask.specs.declared.kind.AskKind.{AskKind}
 use Rattle.pp_head.specs.Request.{Request}
 use Rattle.pp_plan.specs.Row.{Row}
@@ -31,7 +31,7 @@ use Rattle.pp_laws_replies.proofs.Quiet.{Quiet, Quietly, facts_of, quiet_same}
 use Rattle.pp_laws_replies.proofs.QuietAsks.{begin_exchange-quiet, leave-quiet}
 use Rattle.pp_laws_replies.proofs.QuietRows.{swept-quiet}
 use Rattle.pp_laws_replies.proofs.QuietTurns.{enter_row-quiet}
-use Rattle.pp_laws_replies.proofs.Stories.{a_page, Chosen, to_pass, to_show, Now, undecided, waiting, chosen, begun, Orderly, kept_orderly, order_of, quiet_orderly}
+use Rattle.pp_laws_replies.proofs.Stories.{Follows, Told, read_follows, still_follows, a_page, Chosen, to_pass, to_show, Now, undecided, waiting, chosen, begun, Orderly, kept_orderly, order_of, quiet_orderly}
 use Rattle.pp_laws_replies.proofs.Usable.{UsedRow}
 
 -- ---- nothing but the interim answer was said
@@ -104,23 +104,32 @@ module _ (instances : List Instance) (next_instance : ℕ) where
 
 -- ---- for the client of that number
 
+refused_follows : (status : ℕ) (c : Client) → Follows (refused_with status c) c
+refused_follows status c = read_follows _ c c.body_left refl (inl (le_refl c.body_left)) refl zero-le refl
+
+asking_follows : (d : Decision) (c : Client) → Follows (asking_with d c) c
+asking_follows d c = still_follows _ c refl refl refl refl
+
+answering_follows : (r : Reply) (c : Client) → Follows (answering_with r c) c
+answering_follows r c = still_follows _ c refl refl refl refl
+
 -- it may be changed so
 abbrev pub AllFree : ℕ → State → Type 0
 AllFree m s = (c : Client) → IsIn c s.clients → c.number ≡ m → IsFree c
 
-refuse-orderly : {n : ℕ} {told : Bytes} (c : Client) (status : ℕ) (s : State) → AllFree c.number s → Orderly n told s → Orderly n told (refuse c status s)
+refuse-orderly : {n : ℕ} {told : Told} (c : Client) (status : ℕ) (s : State) → AllFree c.number s → Orderly n told s → Orderly n told (refuse c status s)
 unfolding refuse on_client
 refuse-orderly c status s free h =
     quiet_orderly _ _ (swept-quiet _ (leave-quiet (is_of c.number) _ (quiet_same _)))
-    (kept_orderly s (is_client c.number) (refused_with status) (λ d. refl) (λ d i hit last now. refused_now s.instances s.next_instance status d last (free d i (same_number d.number c.number hit)) now) h)
+    (kept_orderly s (is_client c.number) (refused_with status) (λ d. refl) (refused_follows status) (λ d i hit last now. refused_now s.instances s.next_instance status d last (free d i (same_number d.number c.number hit)) now) h)
 
-ask_for-orderly : {n : ℕ} {told : Bytes} (c : Client) (d : Decision) (head : Request) (key : Key) (kind : AskKind) (s : State) → AllFree c.number s → Orderly n told s → Orderly n told (ask_for c d head key kind s)
+ask_for-orderly : {n : ℕ} {told : Told} (c : Client) (d : Decision) (head : Request) (key : Key) (kind : AskKind) (s : State) → AllFree c.number s → Orderly n told s → Orderly n told (ask_for c d head key kind s)
 unfolding ask_for on_client
 ask_for-orderly c d head key kind s free h =
     quiet_orderly _ _ (begin_exchange-quiet (new_exchange s c head key d kind) _ (leave-quiet (is_of c.number) _ (quiet_same _)))
-    (kept_orderly s (is_client c.number) (asking_with d) (λ e. refl) (λ e i hit last now. asking_now s.instances s.next_instance d e last (free e i (same_number e.number c.number hit)) now) h)
+    (kept_orderly s (is_client c.number) (asking_with d) (λ e. refl) (asking_follows d) (λ e i hit last now. asking_now s.instances s.next_instance d e last (free e i (same_number e.number c.number hit)) now) h)
 
-ask_origin-orderly : {n : ℕ} {told : Bytes} (c : Client) (d : Decision) (s : State) → AllFree c.number s → Orderly n told s → Orderly n told (ask_origin c d s)
+ask_origin-orderly : {n : ℕ} {told : Told} (c : Client) (d : Decision) (s : State) → AllFree c.number s → Orderly n told s → Orderly n told (ask_origin c d s)
 unfolding ask_origin ask_as
 ask_origin-orderly {n} {told} c d s free h = by_front c.front
   where
@@ -141,10 +150,10 @@ ask_origin-orderly {n} {told} c d s free h = by_front c.front
     by_front (NoFront status) = h
     by_front (IsRequest r) = by_key r r.key
 
-relay-orderly : {n : ℕ} {told : Bytes} (c : Client) (s : State) → AllFree c.number s → Orderly n told s → Orderly n told (relay c s)
+relay-orderly : {n : ℕ} {told : Told} (c : Client) (s : State) → AllFree c.number s → Orderly n told s → Orderly n told (relay c s)
 unfolding relay on_client
 relay-orderly c s free h =
-    kept_orderly s (is_client c.number) (answering_with (reply_by Relay None)) (λ d. refl)
+    kept_orderly s (is_client c.number) (answering_with (reply_by Relay None)) (λ d. refl) (answering_follows (reply_by Relay None))
     (λ d i hit last now. answering_now s.instances s.next_instance (reply_by Relay None) d last refl (free d i (same_number d.number c.number hit)) (to_pass refl) now) h
 
 -- ---- a reply by the row
@@ -157,7 +166,7 @@ pub record IsRowFor (c : Client) (d : Decision) (s : State) : Type 0 where
   pub names : key_in c.front ≡ Some key
   pub shows : (x : Instance) → row s (text_of key) ≡ Some x → SpanOf request.head x.version d
 
-follow-orderly : {n : ℕ} {told : Bytes} {b : Since} (c : Client) (d : Decision) (s : State) → is_by_row d ≡ true → ((e : Client) → IsIn e s.clients → e.number ≡ c.number → e.front ≡ c.front) → AllFree c.number s → IsRowFor c d s → Sound b s
+follow-orderly : {n : ℕ} {told : Told} {b : Since} (c : Client) (d : Decision) (s : State) → is_by_row d ≡ true → ((e : Client) → IsIn e s.clients → e.number ≡ c.number → e.front ≡ c.front) → AllFree c.number s → IsRowFor c d s → Sound b s
     → Orderly n told s → Orderly n told (follow c d s)
 unfolding follow follow_row follow_with on_client
 follow-orderly {n} {told} {b} c d s by same_front free w hs h = subst (λ o. Orderly n told (elim o as (λ x. State) [ None ↦ s | Some key ↦ follow_row c d (text_of key) s ])) (sym w.names) (at (row s (text_of w.key)) refl)
@@ -166,7 +175,7 @@ follow-orderly {n} {told} {b} c d s by same_front free w hs h = subst (λ o. Ord
     at None found = h
     at (Some x) found =
         quiet_orderly _ _ (swept-quiet _ (leave-quiet _ _ (quiet_same _)))
-        (kept_orderly s (is_client c.number) (answering_with (reply_by d (Some x.id))) (λ e. refl)
+        (kept_orderly s (is_client c.number) (answering_with (reply_by d (Some x.id))) (λ e. refl) (answering_follows (reply_by d (Some x.id)))
         (λ e i hit last now.
         let there = in_find (is_row_of (text_of w.key)) x s.instances found in
         let number = same_number e.number c.number hit in
@@ -259,7 +268,7 @@ free_on : (d c : Client) → Quiet d c → IsFree c → IsFree d
 free_on d c q free = record { has = λ at. ap has_request q.front ∙ free.has (sym q.stage ∙ at); off = ap (λ st. is_begun (record c { stage = st })) q.stage ∙ free.off }
 
 -- what is decided for a client that may be decided
-pub decided-orderly : {n : ℕ} {told : Bytes} {b : Since} (c : Client) (d : Decision) (s : State) → IsIn c s.clients → IsFree c → (is_by_row d ≡ true → UsedRow s c d) → Sound b s → Orderly n told s → Orderly n told (decided c d s)
+pub decided-orderly : {n : ℕ} {told : Told} {b : Since} (c : Client) (d : Decision) (s : State) → IsIn c s.clients → IsFree c → (is_by_row d ≡ true → UsedRow s c d) → Sound b s → Orderly n told s → Orderly n told (decided c d s)
 unfolding decided decided_by
 decided-orderly {n} {told} {b} c d s there free used hs h = by d refl
   where

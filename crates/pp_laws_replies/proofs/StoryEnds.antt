@@ -6,7 +6,7 @@ use Rattle.pp_law.specs.Closing.{is_of, forsake, close_client}
 use Rattle.pp_law.specs.Connections.{client, is_client, each_client, on_client}
 use Rattle.pp_law.specs.Lists.{Bytes, is_some_with}
 use Rattle.pp_law.specs.Replies.{has_no_more, is_said, next_request, end_reply, end_said, close_finished, end_replies}
-use Rattle.pp_law.specs.Requests.{Front}
+use Rattle.pp_law.specs.Requests.{Front, has_request}
 use Rattle.pp_law.specs.Stages.{reply_of}
 use Rattle.pp_law.specs.State.{State, Client, Stage, Undecided, Waiting, Passing, Answering, Reply, Instance}
 use Rattle.pp_law.specs.Table.{swept}
@@ -16,11 +16,12 @@ use Rattle.pp_laws.proofs.Lists.{in_find, one_of}
 use Rattle.pp_laws.proofs.Sound.{client_number}
 use Rattle.pp_laws.proofs.Tests.{first_holds, same_number, second_holds}
 use Rattle.pp_laws_replies.specs.Replies.{IsReply, is_page, is_kept, is_passed, IsWholeReply, AreReplies}
+use Rattle.pp_laws_replies.proofs.HeardPlaces.{place_next}
 use Rattle.pp_laws_replies.proofs.Quiet.{quiet_same}
 use Rattle.pp_laws_replies.proofs.QuietAsks.{close_client-quiet, forsake-quiet}
 use Rattle.pp_laws_replies.proofs.QuietRows.{swept-quiet}
 use Rattle.pp_laws_replies.proofs.QuietTurns.{close_finished-quiet}
-use Rattle.pp_laws_replies.proofs.Stories.{Begun, a_page, a_kept, a_passed, Now, undecided, waiting, chosen, begun, Story, Orderly, changed_orderly, order_of, quiet_orderly}
+use Rattle.pp_laws_replies.proofs.Stories.{Told, Begun, a_page, a_kept, a_passed, Now, undecided, waiting, chosen, begun, Story, Orderly, changed_orderly, order_of, quiet_orderly}
 
 -- ---- what is said whole
 
@@ -77,6 +78,12 @@ whole_reply instances next_instance c last w (begun r stage is_on has head body 
       is = whole_of c.front r head body (ap (λ (x : Reply). x.at) eq ∙ w.all ∙ ap (λ (x : Reply). x.to) (sym eq)) what;
     }
 
+has_one : (instances : List Instance) (next_instance : ℕ) (c : Client) (last : Bytes) → SaidWhole c → Now instances next_instance c last → has_request c.front ≡ true
+has_one instances next_instance c last w (undecided stage none is) = let both : Undecided ≡ Answering w.reply = sym stage ∙ w.stage in absurd (cc both)
+has_one instances next_instance c last w (waiting stage has is) = has
+has_one instances next_instance c last w (chosen r stage isnt_on has is what) = has
+has_one instances next_instance c last w (begun r stage is_on has head body is rest what) = has
+
 -- ---- one more reply
 
 pub one_more : (fs : List Front) (texts : List Bytes) (f : Front) (text : Bytes) → AreReplies fs texts → IsWholeReply f text → AreReplies (fs ++ f ∷ []) (texts ++ text ∷ [])
@@ -89,26 +96,27 @@ pub concat_push : (texts : List Bytes) (text : Bytes) → concat (texts ++ text 
 concat_push [] text = append-nil text
 concat_push (t ∷ texts) text = ap (λ l. t ++ l) (concat_push texts text) ∙ sym (append_assoc t (concat texts) text)
 
-pub next_story : {instances : List Instance} {next_instance : ℕ} (told : Bytes) (c : Client) → is_said c ≡ true → Story instances next_instance told c → Story instances next_instance told (next_request c)
+pub next_story : {instances : List Instance} {next_instance : ℕ} (told : Told) (c : Client) → is_said c ≡ true → Story instances next_instance told c → Story instances next_instance told (next_request c)
 next_story {instances} {next_instance} told c is story = record {
   requests = story.requests ++ c.front ∷ [];
   replies = story.replies ++ story.last ∷ [];
   each = one_more story.requests story.replies c.front story.last story.each (whole_reply instances next_instance c story.last (said_whole c is) story.now);
   last = [];
   all = story.all ∙ sym (concat_push story.replies story.last) ∙ sym (append-nil (concat (story.replies ++ story.last ∷ [])));
+  place = place_next told.heard story.requests c (has_one instances next_instance c story.last (said_whole c is) story.now) story.place;
   now = undecided refl refl refl;
 }
 
 -- ---- the walk over clients
 
-next-orderly : {n : ℕ} {told : Bytes} (c : Client) (s : State) → IsIn c s.clients → is_said c ≡ true → Orderly n told s → Orderly n told (on_client c.number next_request s)
+next-orderly : {n : ℕ} {told : Told} (c : Client) (s : State) → IsIn c s.clients → is_said c ≡ true → Orderly n told s → Orderly n told (on_client c.number next_request s)
 unfolding on_client
 next-orderly {n} {told} c s there is h =
     changed_orderly told s (is_client c.number) next_request (λ d. (next_request-same d).number)
     (λ d i hit number story. next_story told d (subst (λ (x : Client). is_said x ≡ true) (sym (one_of client_number s.clients d c (order_of h).rise i there (same_number d.number c.number hit))) is) story)
     (λ d i isnt number story. story) (order_of h).absent (order_of h).sofar h
 
-end_reply-orderly : {n : ℕ} {told : Bytes} (c : Client) (s : State) → IsIn c s.clients → is_said c ≡ true → Orderly n told s → Orderly n told (end_reply c s)
+end_reply-orderly : {n : ℕ} {told : Told} (c : Client) (s : State) → IsIn c s.clients → is_said c ≡ true → Orderly n told s → Orderly n told (end_reply c s)
 unfolding end_reply
 end_reply-orderly {n} {told} c s there is h = by c.closes
   where
@@ -122,7 +130,7 @@ end_reply-orderly {n} {told} c s there is h = by c.closes
     by true = quiet_orderly s _ (close_client-quiet c.number false s (quiet_same s)) h
     by false = quiet_orderly next _ (swept-quiet _ (forsake-quiet (is_of c.number) next (quiet_same next))) (next-orderly c s there is h)
 
-end_said-orderly : {n : ℕ} {told : Bytes} (c : Client) (s : State) → IsIn c s.clients → Orderly n told s → Orderly n told (end_said c s)
+end_said-orderly : {n : ℕ} {told : Told} (c : Client) (s : State) → IsIn c s.clients → Orderly n told s → Orderly n told (end_said c s)
 unfolding end_said
 end_said-orderly {n} {told} c s there h = by (is_said c && not c.is_closing) refl
   where
@@ -130,7 +138,7 @@ end_said-orderly {n} {told} c s there h = by (is_said c && not c.is_closing) ref
     by true is = end_reply-orderly c s there (first_holds (is_said c) (not c.is_closing) is) h
     by false is = h
 
-each_client-orderly : {n : ℕ} {told : Bytes} (f : Client → State → State) → ((c : Client) (s : State) → IsIn c s.clients → Orderly n told s → Orderly n told (f c s)) → (ns : List ℕ) (s : State) → Orderly n told s → Orderly n told (each_client f ns s)
+each_client-orderly : {n : ℕ} {told : Told} (f : Client → State → State) → ((c : Client) (s : State) → IsIn c s.clients → Orderly n told s → Orderly n told (f c s)) → (ns : List ℕ) (s : State) → Orderly n told s → Orderly n told (each_client f ns s)
 unfolding each_client
 each_client-orderly f each [] s h = h
 each_client-orderly {n} {told} f each (m ∷ ms) s h = each_client-orderly f each ms _ (by (client s m) refl)
@@ -139,7 +147,7 @@ each_client-orderly {n} {told} f each (m ∷ ms) s h = each_client-orderly f eac
     by None is = h
     by (Some c) is = each c s (in_find (is_client m) c s.clients is).0 h
 
-pub end_replies-orderly : {n : ℕ} {told : Bytes} (s : State) → Orderly n told s → Orderly n told (end_replies s)
+pub end_replies-orderly : {n : ℕ} {told : Told} (s : State) → Orderly n told s → Orderly n told (end_replies s)
 unfolding end_replies
 end_replies-orderly s h =
     each_client-orderly close_finished (λ c t there ht. quiet_orderly t _ (close_finished-quiet c t (quiet_same t)) ht) _ _ (each_client-orderly end_said (λ c t there. end_said-orderly c t there) _ s h)

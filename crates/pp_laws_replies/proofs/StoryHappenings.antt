@@ -1,10 +1,13 @@
 -- Each permitted happening keeps what was told to each client in order, and so does a lawful log.
-use Rattle.std.proofs.Common.{◌≡◌, ◌⊎◌, refl, ℕ, zero, suc, ◌+◌, ◌-◌, ◌/◌, ◌<◌, ◌≤◌, nat_lt, Bool, true, false, not, ◌==◌, ◌&&◌, List, [], ◌∷◌, ◌++◌, map, find, length, drop, if◌then◌else◌, Option, Some, None, inl, inr, sym, subst, ap, ◌∙◌, append_assoc, append-nil, le_of_lt, le_refl, lt_of_le_of_lt, arith}
+use Rattle.std.proofs.Common.{◌≡◌, ◌⊎◌, refl, ℕ, zero, suc, ◌+◌, ◌-◌, ◌/◌, ◌<◌, ◌≤◌, nat_lt, Bool, true, false, not, ◌==◌, ◌&&◌, List, [], ◌∷◌, ◌++◌, map, find, length, drop, if◌then◌else◌, Option, Some, None, inl, inr, sym, subst, ap, ◌∙◌, append_assoc, append-nil, le_of_lt, le_refl, lt_of_le_of_lt, arith, take, nat_eq, ap₂, le_trans, zero-le, length-take}
+use Rattle.std.specs.List.{starts_with}
+use Rattle.std.proofs.Math.Nat.{min-le_right}
+use Rattle.pp_text.specs.Bytes.{is_empty}
 use Rattle.pp_conf.specs.Conf.{Settings}
 use Rattle.pp_conf.specs.Words.{reading_of}
 use Rattle.pp_world.specs.Files.{Files}
 use Rattle.pp_world.specs.Log.{Log}
-use Rattle.pp_world.specs.Streams.{said_in, said as said_to}
+use Rattle.pp_world.specs.Streams.{heard_in, said_in, heard as heard_of, said as said_to}
 use Rattle.pp_world.specs.declared.happening.Happening.TheVariants.{Woke, Waits, Clock, Opened, CanRead, CanWrite, Heard, HungUp, Said, Shut, Dialled, Undialled, Reached, Ended, Broke, Asked, Got, Dropped, NoneYet, Began, Did, Unread, Noted, Rooted, Listed, Listens, Configured, Printed, Stopped}
 use Rattle.pp_world.specs.declared.happening.Happening.{Happening}
 use Rattle.pp_world.specs.declared.note.Remark.TheVariants.{Taken, Cut, Kept, Gone, Forgotten, Evicted, Loaded}
@@ -12,16 +15,16 @@ use Rattle.pp_world.specs.declared.note.Decision.{Decision}
 use Rattle.pp_world.specs.declared.note.Remark.{Remark}
 use Rattle.pp_world.specs.declared.op.DiskOp.{DiskOp}
 use Rattle.pp_law.specs.After.{new_client, new_conn, event, opened, owing, reached, paid, said, gone, take_decision, evicted, waits_for_row, refused_row, leave_memory, forgotten_by, noted, begun_op, ended_op, unread, shut, dialled, refused_dial, undialled, out, dropped, changed, after}
-use Rattle.pp_law.specs.Asking.{asking, is_writing, hear, ask_body, ask_next, ask, hang_up, asked_text, asked_body}
+use Rattle.pp_law.specs.Asking.{asking, is_writing, hear, ask_body, ask_next, ask, hang_up, asked_text, asked_body, body_heard, left_to_ask, is_front, is_reading, is_read, read_limit, fits_heard, permits_asked, permits_heard}
 use Rattle.pp_law.specs.Chunks.{chunk_len, is_chunk, use_chunk}
 use Rattle.pp_law.specs.Closing.{close_client}
-use Rattle.pp_law.specs.Connections.{client, conn, is_client, is_outstanding, may_ask_again, on_client, placing, Placement}
+use Rattle.pp_law.specs.Connections.{client, conn, is_client, is_outstanding, may_ask_again, on_client, placing, Placement, is_for, on_client_of, on_exchange}
 use Rattle.pp_law.specs.Due.{due_decision}
 use Rattle.pp_law.specs.Deciding.{decided}
 use Rattle.pp_law.specs.Hearing.{fronted, heard_by, what_counts}
 use Rattle.pp_law.specs.Lawful.{LawfulFrom}
 use Rattle.pp_law.specs.Leaving.{Leaving, ForAnother, ForMemory, BeforeDecision, leaving_as}
-use Rattle.pp_law.specs.Lists.{Bytes}
+use Rattle.pp_law.specs.Lists.{Bytes, is_some_with, is_this}
 use Rattle.pp_law.specs.Offers.{is_at_body}
 use Rattle.pp_law.specs.Opening.{woken, begun as opening_begun, with_settings, settings_in, are_texts, names_file, is_opening}
 use Rattle.pp_law.specs.Permits.{is_permitted, IsPermitted, permits, permits_taken, permits_dial, is_new_number}
@@ -31,6 +34,7 @@ use Rattle.pp_law.specs.Requests.{Front, NoHeadYet, NoHead as NoFront, IsRequest
 use Rattle.pp_law.specs.Responses.{ended}
 use Rattle.pp_law.specs.State.{State, Term, RowRefused, Client, Conn, Exchange, Instance, IsRooted, IsListed, IsListening, IsWoken, Handling, Evicting, Keeping, Deciding, Following, Connecting, DecidingAgain, Owed, ReadOf, WriteTo, start}
 use Rattle.pp_law.specs.Table.{forget, next_of}
+use Rattle.pp_laws_replies.proofs.HeardPlaces.{place_heard, read}
 use Rattle.pp_laws.specs.Numbers.{AreRising}
 use Rattle.pp_laws.specs.Runs.{IsIn, after_all}
 use Rattle.pp_laws.proofs.Callers.{said_by-same, heard_by-same}
@@ -39,16 +43,16 @@ use Rattle.pp_laws.proofs.Laws.{start-sound}
 use Rattle.pp_laws.proofs.Lists.{in_filter, in_find, in_push, one_of, rise_filter, rise_push}
 use Rattle.pp_laws.proofs.Sound.{Since, Sound, client_number}
 use Rattle.pp_laws.proofs.Steps.{deciding-sound}
-use Rattle.pp_laws.proofs.Tests.{below, first_holds, number_same, same_number, second_holds}
+use Rattle.pp_laws.proofs.Tests.{below, first_holds, number_same, same_number, second_holds, same_bytes}
 use Rattle.pp_laws.proofs.Tops.{come_to-top}
 use Rattle.pp_laws_replies.specs.Replies.{before, RepliesInOrder}
 use Rattle.pp_laws_replies.proofs.Cases.{by_pause, each_of, when}
-use Rattle.pp_laws_replies.proofs.Quiet.{Quietly, clients_changed, facts_of, old_row, quiet_same, quietly}
-use Rattle.pp_laws_replies.proofs.QuietAsks.{close_client-quiet, end_exchange-quiet, lose_attempt-quiet, on_client-quiet, on_client_of-quiet, on_conn-quiet, on_exchange-quiet, parts_same, placing-quiet, put_on-quiet}
+use Rattle.pp_laws_replies.proofs.Quiet.{clients_changed_in, Quiet, Quietly, clients_changed, facts_of, old_row, quiet_same, quietly}
+use Rattle.pp_laws_replies.proofs.QuietAsks.{close_client-quiet, end_exchange-quiet, lose_attempt-quiet, on_client-quiet, on_conn-quiet, on_exchange-quiet, parts_same, placing-quiet, put_on-quiet}
 use Rattle.pp_laws_replies.proofs.QuietHeads.{ended-quiet, got-quiet}
 use Rattle.pp_laws_replies.proofs.QuietRows.{begin_in_opening-quiet, begin_in_turn-quiet, close_name-quiet, configured-quiet, drop_chunk-quiet, end_op-quiet, forget-quiet, load-quiet, lose_in_opening-quiet, note_gone-quiet, note_kept-quiet, opened_to-quiet}
 use Rattle.pp_laws_replies.proofs.QuietTurns.{come_to-quiet, come_to_decide-quiet, deciding-quiet, in_phase-quiet, regained-quiet, rest_with-quiet, tick-quiet, touch-quiet, use_said-quiet}
-use Rattle.pp_laws_replies.proofs.Stories.{Now, undecided, waiting, chosen, begun, now_alike, Alike, SameRows, Story, OrderOf, Orderly, changed_orderly, in_order, kept_orderly, order_of, orderly, quiet_orderly}
+use Rattle.pp_laws_replies.proofs.Stories.{Told, Now, undecided, waiting, chosen, begun, now_alike, Alike, SameRows, Story, OrderOf, Orderly, changed_orderly, in_order, order_of, orderly, quiet_orderly}
 use Rattle.pp_laws_replies.proofs.StoryBegins.{begin_replies-orderly}
 use Rattle.pp_laws_replies.proofs.StoryDecided.{IsFree, decided-orderly}
 use Rattle.pp_laws_replies.proofs.StoryEnds.{end_replies-orderly}
@@ -80,7 +84,7 @@ evicted-quiet s h = each_of (due_victim s) h (λ place. drop_chunk-quiet place.0
 refused_row-quiet : {o : State} (x : Instance) (s : State) → Quietly o s → Quietly o (refused_row x s)
 unfolding refused_row
 refused_row-quiet {o} x s h =
-    quietly (clients_changed o (forget x.id s) (waits_for_row x.id) (λ c. record c { course = RowRefused }) (λ c is. parts_same _ c refl refl refl refl) (facts_of (forget-quiet x.id s h)))
+    quietly (clients_changed o (forget x.id s) (waits_for_row x.id) (λ c. record c { course = RowRefused }) (λ c is. parts_same _ c refl refl refl refl refl refl refl) (facts_of (forget-quiet x.id s h)))
 
 leave_memory-quiet : {o : State} (how : Leaving) (s : State) → Quietly o s → Quietly o (leave_memory how s)
 unfolding leave_memory
@@ -131,20 +135,76 @@ dialled-quiet {o} n host port s le more h = by_pause (placing s).pause p (λ k e
     raised : (e : Exchange) → Quietly o (record (placing s).state { conns = (placing s).state.conns ++ new_conn n host port (placing s).state.clock ∷ []; top = n })
     raised e = let f = facts_of p in quietly (record { numbers = f.numbers; clients_from = f.clients_from; rows_from = f.rows_from; next = f.next; top = omega arith })
 
-ask_body-quiet : {o : State} (e : Exchange) (n : ℕ) (s : State) → Quietly o s → Quietly o (ask_body e n s)
-unfolding ask_body
-ask_body-quiet e n s h = on_client_of-quiet e (asked_body n) _ (λ c. parts_same _ c refl refl refl refl) (on_exchange-quiet e.number _ s h)
+-- what is asked of a request's body was heard
+asked_quiet : (n : ℕ) (c : Client) → n ≤ length c.heard → Quiet (asked_body n c) c
+asked_quiet n c le = record { number = refl; front = refl; stage = refl; interim = refl; reads = read (asked_body n c) c n (inr le) refl (fewer c.body_left n) (none_more c.skip n (length c.heard) le) }
+  where
+    fewer : (a b : ℕ) → a - b ≤ a
+    fewer a b = omega arith
 
-ask_next-quiet : {o : State} (e : Exchange) (n : ℕ) (s : State) → Quietly o s → Quietly o (ask_next e n s)
-unfolding ask_next
-ask_next-quiet e n s h = when (is_outstanding e) (ask_body-quiet e n s h) (on_exchange-quiet e.number (asked_text n s.clock) s h)
+    none_more : (s m l : ℕ) → m ≤ l → s ≡ s + (m - l)
+    none_more s m l e = omega arith
 
-ask-quiet : {o : State} (k n : ℕ) (s : State) → Quietly o s → Quietly o (ask k n s)
-unfolding ask
-ask-quiet k n s h = each_of (asking s k) h (λ e. ask_next-quiet e n s h)
+ask_body-quiet : {o : State} (e : Exchange) (n : ℕ) (s : State) → ((c : Client) → IsIn c s.clients → is_for e c ≡ true → n ≤ length c.heard) → Quietly o s → Quietly o (ask_body e n s)
+unfolding ask_body on_client_of on_exchange
+ask_body-quiet {o} e n s short h =
+    quietly (clients_changed_in o (on_exchange e.number (λ x. record x { body_left = x.body_left - n }) s) (is_for e) (asked_body n) (λ c. refl) (λ c i hit. asked_quiet n c (short c i hit)) (facts_of (on_exchange-quiet e.number (λ (x : Exchange). record x { body_left = x.body_left - n }) s h)))
+
+ask-quiet : {o : State} (k n : ℕ) (s : State) → ((e : Exchange) → asking s k ≡ Some e → is_outstanding e ≡ true → (c : Client) → IsIn c s.clients → is_for e c ≡ true → n ≤ length c.heard) → Quietly o s → Quietly o (ask k n s)
+unfolding ask ask_next
+ask-quiet {o} k n s short h = by (asking s k) refl
+  where
+    at : (e : Exchange) (t : Bool) → asking s k ≡ Some e → is_outstanding e ≡ t → Quietly o (elim t as (λ x. State) [ false ↦ on_exchange e.number (asked_text n s.clock) s | true ↦ ask_body e n s ])
+    at e false found is = on_exchange-quiet e.number (asked_text n s.clock) s h
+    at e true found is = ask_body-quiet e n s (short e found is) h
+
+    by : (found : Option Exchange) → asking s k ≡ found → Quietly o (elim found as (λ x. State) [ None ↦ s | Some e ↦ ask_next e n s ])
+    by None is = h
+    by (Some e) is = at e (is_outstanding e) is refl
+
+asked_by : (s : State) (k : ℕ) (bytes : Bytes) (room : Bool) → (elim room as (λ c. Bool) [ true ↦ false | false ↦ permits_asked s k bytes ]) ≡ true → permits_asked s k bytes ≡ true
+asked_by s k bytes true is = absurd (cc is)
+asked_by s k bytes false is = is
+
+asked_permitted : (s : State) (k : ℕ) (bytes : Bytes) → IsPermitted s (Asked k bytes) → permits_asked s k bytes ≡ true
+unfolding is_permitted permits
+asked_permitted s k bytes is = asked_by s k bytes s.has_made_room is
+
+-- it is a front of what is left
+asked_front : (s : State) (k : ℕ) (bytes : Bytes) (e : Exchange) → IsPermitted s (Asked k bytes) → asking s k ≡ Some e → bytes ≡ take (length bytes) (left_to_ask s e)
+asked_front s k bytes e is found =
+    let some : is_some_with (λ x. is_front bytes (left_to_ask s x)) (asking s k) ≡ true = second_holds (is_writing s.owed k) (is_some_with (λ x. is_front bytes (left_to_ask s x)) (asking s k)) (asked_permitted s k bytes is) in
+    let front : is_front bytes (left_to_ask s e) ≡ true = subst (λ o. is_some_with (λ x. is_front bytes (left_to_ask s x)) o ≡ true) found some in
+    same_bytes bytes (take (length bytes) (left_to_ask s e)) (first_holds (starts_with nat_eq (left_to_ask s e) bytes) (not (is_empty (left_to_ask s e))) front)
+
+same_asker : (s : State) (e : Exchange) (c d : Client) → AreRising (map client_number s.clients) → IsIn c s.clients → IsIn d s.clients → is_for e c ≡ true → is_for e d ≡ true → c ≡ d
+same_asker s e c d rise i j one two = by e.asker one two
+  where
+    by : (asker : Option ℕ) → is_this c.number asker ≡ true → is_this d.number asker ≡ true → c ≡ d
+    by None first second = absurd (cc first)
+    by (Some m) first second = one_of client_number s.clients c d rise i j (sym (same_number m c.number first) ∙ same_number m d.number second)
+
+asked_short : (s : State) (k : ℕ) (bytes : Bytes) → IsPermitted s (Asked k bytes) → AreRising (map client_number s.clients) → (e : Exchange) → asking s k ≡ Some e → is_outstanding e ≡ true → (c : Client) → IsIn c s.clients → is_for e c ≡ true
+    → length bytes ≤ length c.heard
+asked_short s k bytes is rise e found out c i hit = at (find (is_for e) s.clients) refl body
+  where
+    body : bytes ≡ take (length bytes) (body_heard s e)
+    body = subst (λ t. bytes ≡ take (length bytes) (elim t as (λ x. Bytes) [ false ↦ drop e.asked e.text | true ↦ body_heard s e ])) out (asked_front s k bytes e is found)
+
+    front : (xs ys : Bytes) → xs ≡ take (length xs) ys → length xs ≤ length ys
+    front xs ys eq = subst (λ m. m ≤ length ys) (sym (ap length eq ∙ length-take (length xs) ys)) (min-le_right (length xs) (length ys))
+
+    within : (n : ℕ) (xs : Bytes) → length (take n xs) ≤ length xs
+    within n xs = subst (λ m. m ≤ length xs) (sym (length-take n xs)) (min-le_right n (length xs))
+
+    at : (o : Option Client) → find (is_for e) s.clients ≡ o → bytes ≡ take (length bytes) (elim o as (λ x. Bytes) [ None ↦ [] | Some d ↦ take e.body_left d.heard ]) → length bytes ≤ length c.heard
+    at None none eq = le_trans (front bytes [] eq) zero-le
+    at (Some d) some eq =
+        let there = in_find (is_for e) d s.clients some in
+        subst (λ (x : Client). length bytes ≤ length x.heard) (same_asker s e d c rise there.0 i there.1 hit) (le_trans (front bytes (take e.body_left d.heard) eq) (within e.body_left d.heard))
 
 -- what is read of an origin, and what is read or written elsewhere
-loud_gone : {n : ℕ} {told : Bytes} (is_clean : Bool) (k : ℕ) (s : State) → Orderly n told s → Orderly n told (gone is_clean k s)
+loud_gone : {n : ℕ} {told : Told} (is_clean : Bool) (k : ℕ) (s : State) → Orderly n told s → Orderly n told (gone is_clean k s)
 unfolding gone
 loud_gone {n} {told} is_clean k s h = by (conn s k)
   where
@@ -182,11 +242,68 @@ now_heard s bytes c last now = by now
     by (chosen r stage isnt_on has is what) = now_alike s.instances s.next_instance s.instances s.next_instance (heard_by bytes c) c last (rows_same s) (alike has) now
     by (begun r stage is_on has head body is rest what) = now_alike s.instances s.next_instance s.instances s.next_instance (heard_by bytes c) c last (rows_same s) (alike has) now
 
-hear-orderly : {n : ℕ} {told : Bytes} (m : ℕ) (bytes : Bytes) (s : State) → Orderly n told s → Orderly n told (hear m bytes s)
-unfolding hear on_client
-hear-orderly m bytes s h = end_replies-orderly _ (kept_orderly s (is_client m) (heard_by bytes) (λ c. (heard_by-same bytes c).number) (λ c i hit last now. now_heard s bytes c last now) h)
+story_heard : {told : Told} (bytes : Bytes) (s : State) (c : Client) → Story s.instances s.next_instance told c → Story s.instances s.next_instance (record told { heard = told.heard ++ bytes }) (heard_by bytes c)
+story_heard {told} bytes s c story = record {
+  requests = story.requests;
+  replies = story.replies;
+  each = story.each;
+  last = story.last;
+  all = story.all;
+  place = place_heard told.heard story.requests bytes c story.place;
+  now = now_heard s bytes c story.last story.now;
+}
 
-hang_up-orderly : {n : ℕ} {told : Bytes} (m : ℕ) (s : State) → Orderly n told s → Orderly n told (hang_up m s)
+heard_nothing : {n : ℕ} {told : Told} (s : State) → Orderly n told s → Orderly n (record told { heard = told.heard ++ [] }) s
+heard_nothing {n} {told} s h = subst (λ l. Orderly n (record told { heard = l }) s) (sym (append-nil told.heard)) h
+
+said_nothing : {n : ℕ} {told : Told} (s : State) → Orderly n told s → Orderly n (record told { said = told.said ++ [] }) s
+said_nothing {n} {told} s h = subst (λ l. Orderly n (record told { said = l }) s) (sym (append-nil told.said)) h
+
+heard_here : {n : ℕ} {told : Told} (m : ℕ) (bytes : Bytes) (x : Client) (s : State) → IsIn x s.clients → x.number ≡ m → (t : Bool) → (m == n) ≡ t → Orderly n told s
+    → Orderly n (record told { heard = told.heard ++ (if t then bytes else []) }) (on_client m (heard_by bytes) s)
+unfolding on_client
+heard_here {n} {told} m bytes x s there number false isnt h =
+    heard_nothing (on_client m (heard_by bytes) s)
+    (changed_orderly told s (is_client m) (heard_by bytes) (λ c. (heard_by-same bytes c).number)
+    (λ c i hit is story.
+        let both : true ≡ false = sym (number_same n) ∙ ap (λ k. k == n) (sym is ∙ same_number c.number m hit) ∙ isnt in
+        absurd (cc both))
+    (λ c i off is story. story) (order_of h).absent (order_of h).sofar h)
+heard_here {n} {told} m bytes x s there number true is_n h =
+    changed_orderly (record told { heard = told.heard ++ bytes }) s (is_client m) (heard_by bytes) (λ c. (heard_by-same bytes c).number)
+    (λ c i hit is story. story_heard bytes s c story)
+    (λ c i off is story.
+        let both : true ≡ false = sym (number_same m) ∙ ap (λ k. k == m) (same_number m n is_n ∙ sym is) ∙ off in
+        absurd (cc both))
+    (λ lt. let le : x.number ≤ s.top = (order_of h).given x there in let eq : x.number ≡ n = number ∙ same_number m n is_n in absurd (omega arith))
+    (in_order (record told { heard = told.heard ++ bytes }) (heard_by bytes x) (story_heard bytes s x ((order_of h).present x there (number ∙ same_number m n is_n))))
+    h
+
+heard_by_room : (s : State) (m : ℕ) (bytes : Bytes) (room : Bool) → (elim room as (λ c. Bool) [ true ↦ false | false ↦ permits_heard s m bytes ]) ≡ true → permits_heard s m bytes ≡ true
+heard_by_room s m bytes true is = absurd (cc is)
+heard_by_room s m bytes false is = is
+
+heard_permitted : (s : State) (m : ℕ) (bytes : Bytes) → IsPermitted s (Heard m bytes) → permits_heard s m bytes ≡ true
+unfolding is_permitted permits
+heard_permitted s m bytes is = heard_by_room s m bytes s.has_made_room is
+
+third_holds : (a b c : Bool) → (a && b && c) ≡ true → c ≡ true
+third_holds true true c is = is
+third_holds true false c is = absurd (cc is)
+third_holds false b c is = absurd (cc is)
+
+hear-orderly : {n : ℕ} {told : Told} (m : ℕ) (bytes : Bytes) (s : State) → IsPermitted s (Heard m bytes) → Orderly n told s → Orderly n (record told { heard = told.heard ++ (if m == n then bytes else []) }) (hear m bytes s)
+unfolding hear
+hear-orderly {n} {told} m bytes s is h = end_replies-orderly (on_client m (heard_by bytes) s) (by (client s m) refl)
+  where
+    some : is_some_with (fits_heard bytes) (client s m) ≡ true
+    some = third_holds (is_reading s.owed m) (is_read read_limit bytes) (is_some_with (fits_heard bytes) (client s m)) (heard_permitted s m bytes is)
+
+    by : (o : Option Client) → client s m ≡ o → Orderly n (record told { heard = told.heard ++ (if m == n then bytes else []) }) (on_client m (heard_by bytes) s)
+    by None none = let both : false ≡ true = sym (ap (is_some_with (fits_heard bytes)) none) ∙ some in absurd (cc both)
+    by (Some x) found = let there = in_find (is_client m) x s.clients found in heard_here m bytes x s there.0 (same_number x.number m there.1) (m == n) refl h
+
+hang_up-orderly : {n : ℕ} {told : Told} (m : ℕ) (s : State) → Orderly n told s → Orderly n told (hang_up m s)
 unfolding hang_up
 hang_up-orderly {n} {told} m s h = by (is_writing s.owed m)
   where
@@ -195,17 +312,17 @@ hang_up-orderly {n} {told} m s h = by (is_writing s.owed m)
 
     by : (t : Bool) → Orderly n told (elim t as (λ x. State) [ true ↦ close_client m false s | false ↦ end_replies left ])
     by true = quiet_orderly s _ (close_client-quiet m false s (quiet_same s)) h
-    by false = end_replies-orderly left (quiet_orderly s left (on_client-quiet m (λ c. record c { has_hung_up = true }) s (λ c. parts_same _ c refl refl refl refl) (quiet_same s)) h)
+    by false = end_replies-orderly left (quiet_orderly s left (on_client-quiet m (λ c. record c { has_hung_up = true }) s (λ c. parts_same _ c refl refl refl refl refl refl refl) (quiet_same s)) h)
 
 -- ---- the end of a turn
 
-ending-orderly : {n : ℕ} {told : Bytes} (s : State) → Orderly n told s → Orderly n told (ending s)
+ending-orderly : {n : ℕ} {told : Told} (s : State) → Orderly n told s → Orderly n told (ending s)
 unfolding ending
 ending-orderly s h = begin_replies-orderly _ (quiet_orderly s _ (come_to-quiet DecidingAgain s (quiet_same s)) h)
 
 -- ---- clients come and go
 
-opened-orderly : {n : ℕ} {told : Bytes} (m : ℕ) (s : State) → s.top < m → Orderly n told s → Orderly n told (opened m s)
+opened-orderly : {n : ℕ} {told : Told} (m : ℕ) (s : State) → s.top < m → Orderly n told s → Orderly n told (opened m s)
 unfolding opened
 opened-orderly {n} {told} m s above h = orderly (record {
   rise = rise_push client_number s.clients (new_client m s.clock) o.rise (λ c i. lt_of_le_of_lt (o.given c i) above);
@@ -218,22 +335,26 @@ opened-orderly {n} {told} m s above h = orderly (record {
     o : OrderOf n told s
     o = order_of h
 
+    zero_less : (k : ℕ) → 0 ≡ 0 - k
+    zero_less k = omega arith
+
     given_by : (c : Client) → IsIn c s.clients ⊎ (c ≡ new_client m s.clock) → c.number ≤ m
     given_by c (inl i) = let le : c.number ≤ s.top = o.given c i in omega arith
     given_by c (inr eq) = subst (λ k. k ≤ m) (sym (ap client_number eq)) (le_refl m)
 
     present_by : (c : Client) → IsIn c s.clients ⊎ (c ≡ new_client m s.clock) → c.number ≡ n → Story s.instances s.next_instance told c
     present_by c (inl i) is = o.present c i is
-    present_by c (inr eq) is = subst (λ (x : Client). Story s.instances s.next_instance told x) (sym eq) (record {
+    present_by c (inr eq) is = let none = o.absent (subst (λ k. s.top < k) (sym (ap client_number eq) ∙ is) above) in subst (λ (x : Client). Story s.instances s.next_instance told x) (sym eq) (record {
       requests = [];
       replies = [];
       each = tt;
       last = [];
-      all = o.absent (subst (λ k. s.top < k) (sym (ap client_number eq) ∙ is) above);
+      all = none.1;
+      place = record { at = 0; rest_is = sym (ap (drop 0) none.0); skip_is = zero_less (length told.heard); current = inl (refl, le_refl 0); nowhere = λ on. absurd (cc on) };
       now = undecided refl refl refl;
     })
 
-shut-orderly : {n : ℕ} {told : Bytes} (m : ℕ) (s : State) → Orderly n told s → Orderly n told (shut m s)
+shut-orderly : {n : ℕ} {told : Told} (m : ℕ) (s : State) → Orderly n told s → Orderly n told (shut m s)
 unfolding shut
 shut-orderly {n} {told} m s h = orderly (record {
   rise = rise_filter client_number (λ c. not (is_client m c)) t.clients o.rise;
@@ -250,7 +371,7 @@ shut-orderly {n} {told} m s h = orderly (record {
     o = order_of (quiet_orderly s t (close_client-quiet m false s (quiet_same s)) h)
 
 -- nobody is there
-nobody : {n : ℕ} {told : Bytes} (s t : State) → t.clients ≡ [] → t.top ≡ s.top → Orderly n told s → Orderly n told t
+nobody : {n : ℕ} {told : Told} (s t : State) → t.clients ≡ [] → t.top ≡ s.top → Orderly n told s → Orderly n told t
 nobody {n} {told} s t none top h = orderly (record {
   rise = subst (λ cs. AreRising (map client_number cs)) (sym none) tt;
   given = λ c i. absurd (subst (λ cs. IsIn c cs) none i);
@@ -273,7 +394,7 @@ opening_top s = by (are_texts s.term) (names_file s.term)
     by true true = (refl, refl)
     by true false = by_settings (settings_in (reading_of s.term.words None))
 
-woken-orderly : {n : ℕ} {told : Bytes} (image : Files) (s : State) → Orderly n told s → Orderly n told (woken image s)
+woken-orderly : {n : ℕ} {told : Told} (image : Files) (s : State) → Orderly n told s → Orderly n told (woken image s)
 unfolding woken
 woken-orderly image s h = nobody s (woken image s) (opening_top _).0 (opening_top _).1 h
 
@@ -300,37 +421,37 @@ use_said-clients : (m : ℕ) (c : Client) (s : State) → (use_said m c s).clien
 unfolding use_said use_from
 use_said-clients m c s = same_when s (is_at_body c && nat_lt 0 m) _ s (same_each s (next_of s c) s _ refl (λ x. use_chunks-clients _ x.source.id (x.at / chunk_len) s)) refl
 
-said_here : {n : ℕ} {told : Bytes} (m : ℕ) (bytes : Bytes) (x : Client) (u : State) → IsIn x u.clients → x.number ≡ m → ((e : Client) → IsIn e u.clients → e.number ≡ m → e ≡ x) → Step x (said_by (length bytes) x) bytes
-    → (t : Bool) → (m == n) ≡ t → Orderly n told u → Orderly n (told ++ (if t then bytes else [])) (on_client m (said_by (length bytes)) u)
+said_here : {n : ℕ} {told : Told} (m : ℕ) (bytes : Bytes) (x : Client) (u : State) → IsIn x u.clients → x.number ≡ m → ((e : Client) → IsIn e u.clients → e.number ≡ m → e ≡ x) → Step x (said_by (length bytes) x) bytes
+    → (t : Bool) → (m == n) ≡ t → Orderly n told u → Orderly n (record told { said = told.said ++ (if t then bytes else []) }) (on_client m (said_by (length bytes)) u)
 unfolding on_client
 said_here {n} {told} m bytes x u there number one step false isnt h =
-    subst (λ l. Orderly n l (on_client m (said_by (length bytes)) u)) (sym (append-nil told))
+    said_nothing (on_client m (said_by (length bytes)) u)
     (changed_orderly told u (is_client m) (said_by (length bytes)) (λ c. (said_by-same (length bytes) c).number)
     (λ c i hit is story.
     let both : true ≡ false = sym (number_same n) ∙ ap (λ k. k == n) (sym is ∙ same_number c.number m hit) ∙ isnt in
     absurd (cc both))
     (λ c i off is story. story) (order_of h).absent (order_of h).sofar h)
 said_here {n} {told} m bytes x u there number one step true is_n h =
-    changed_orderly (told ++ bytes) u (is_client m) (said_by (length bytes)) (λ c. (said_by-same (length bytes) c).number)
+    changed_orderly (record told { said = told.said ++ bytes }) u (is_client m) (said_by (length bytes)) (λ c. (said_by-same (length bytes) c).number)
     (λ c i hit is story. goes c (one c i (same_number c.number m hit)) story)
     (λ c i off is story.
     let both : true ≡ false = sym (number_same m) ∙ ap (λ k. k == m) (same_number m n is_n ∙ sym is) ∙ off in
     absurd (cc both))
     (λ lt. let le : x.number ≤ u.top = (order_of h).given x there in let eq : x.number ≡ n = number ∙ same_number m n is_n in absurd (omega arith))
-    (in_order (told ++ bytes) (said_by (length bytes) x) (story_said told x (said_by (length bytes) x) bytes step ((order_of h).present x there (number ∙ same_number m n is_n))))
+    (in_order (record told { said = told.said ++ bytes }) (said_by (length bytes) x) (story_said told x bytes step ((order_of h).present x there (number ∙ same_number m n is_n))))
     h
   where
-    goes : (c : Client) → c ≡ x → Story u.instances u.next_instance told c → Story u.instances u.next_instance (told ++ bytes) (said_by (length bytes) c)
-    goes c eq story = subst (λ (y : Client). Story u.instances u.next_instance (told ++ bytes) (said_by (length bytes) y)) (sym eq) (story_said told x (said_by (length bytes) x) bytes step (subst (λ (y : Client). Story u.instances u.next_instance told y) eq story))
+    goes : (c : Client) → c ≡ x → Story u.instances u.next_instance told c → Story u.instances u.next_instance (record told { said = told.said ++ bytes }) (said_by (length bytes) c)
+    goes c eq story = subst (λ (y : Client). Story u.instances u.next_instance (record told { said = told.said ++ bytes }) (said_by (length bytes) y)) (sym eq) (story_said told x bytes step (subst (λ (y : Client). Story u.instances u.next_instance told y) eq story))
 
-said-orderly : {n : ℕ} {told : Bytes} (m offered : ℕ) (bytes : Bytes) (s : State) → IsPermitted s (Said m offered bytes) → Orderly n told s → Orderly n (told ++ (if m == n then bytes else [])) (said m (length bytes) s)
+said-orderly : {n : ℕ} {told : Told} (m offered : ℕ) (bytes : Bytes) (s : State) → IsPermitted s (Said m offered bytes) → Orderly n told s → Orderly n (record told { said = told.said ++ (if m == n then bytes else []) }) (said m (length bytes) s)
 unfolding said
 said-orderly {n} {told} m offered bytes s is h = by (client s m) refl
   where
     nothing_said : client s m ≡ None → IsPermitted s (Said m offered bytes) → ⊥
     nothing_said none permitted = no_client s m offered bytes none permitted
 
-    by : (o : Option Client) → client s m ≡ o → Orderly n (told ++ (if m == n then bytes else [])) (elim o as (λ x. State) [ None ↦ s | Some x ↦ end_replies (on_client m (said_by (length bytes)) (use_said (length bytes) x s)) ])
+    by : (o : Option Client) → client s m ≡ o → Orderly n (record told { said = told.said ++ (if m == n then bytes else []) }) (elim o as (λ x. State) [ None ↦ s | Some x ↦ end_replies (on_client m (said_by (length bytes)) (use_said (length bytes) x s)) ])
     by None none = absurd (nothing_said none is)
     by (Some x) found =
         let there = in_find (is_client m) x s.clients found in
@@ -352,7 +473,7 @@ free_when s c d due = record { has = due_has s c d due; off = due_off s c d due 
 used_in : (s : State) (c : Client) (d : Decision) → UsedRow s c d → UsedRow (in_phase Deciding s) c d
 used_in s c d used = record { request = used.request; asks = used.asks; key = used.key; names = used.names; row = used.row; known = used.known; ready = used.ready; made = used.made }
 
-taken-orderly : {n : ℕ} {told : Bytes} {b : Since} (m i : ℕ) (d : Decision) (s : State) → permits_taken s m i d ≡ true → Sound b s → Orderly n told s → Orderly n told (take_decision m d (deciding s))
+taken-orderly : {n : ℕ} {told : Told} {b : Since} (m i : ℕ) (d : Decision) (s : State) → permits_taken s m i d ≡ true → Sound b s → Orderly n told s → Orderly n told (take_decision m d (deciding s))
 unfolding take_decision deciding
 taken-orderly {n} {told} {b} m i d s is hs h = by (client (deciding s) m) refl
   where
@@ -376,7 +497,7 @@ taken-orderly {n} {told} {b} m i d s is hs h = by (client (deciding s) m) refl
 
 -- ---- notes
 
-noted-orderly : {n : ℕ} {told : Bytes} {b : Since} (remark : Remark) (s : State) → IsPermitted s (Noted remark) → Sound b s → Orderly n told s → Orderly n told (noted remark s)
+noted-orderly : {n : ℕ} {told : Told} {b : Since} (remark : Remark) (s : State) → IsPermitted s (Noted remark) → Sound b s → Orderly n told s → Orderly n told (noted remark s)
 unfolding noted
 noted-orderly (Taken m i d) s is hs h = taken-orderly m i d s (permitted_taken s m i d is) hs h
 noted-orderly (Cut m cause) s is hs h = quiet_orderly s _ (close_client-quiet m true _ (deciding-quiet s (quiet_same s))) h
@@ -406,22 +527,26 @@ dialled_above s n host port is = dialled_by s n host port s.has_made_room is
 
 -- ---- all
 
--- nothing is said
-untold : {n : ℕ} {told : Bytes} (s : State) → Orderly n told s → Orderly n (told ++ []) s
-untold {n} {told} s h = subst (λ l. Orderly n l s) (sym (append-nil told)) h
+-- this too was heard and said
+abbrev more_told : Told → Bytes → Bytes → Told
+more_told told more further = record { heard = told.heard ++ more; said = told.said ++ further }
+
+-- nothing is heard, and nothing said
+untold : {n : ℕ} {told : Told} (s : State) → Orderly n told s → Orderly n (more_told told [] []) s
+untold s h = said_nothing s (heard_nothing s h)
 
 -- what leaves each reply as it is
-quietly_on : {n : ℕ} {told : Bytes} (s t : State) → Quietly s t → Orderly n told s → Orderly n (told ++ []) t
+quietly_on : {n : ℕ} {told : Told} (s t : State) → Quietly s t → Orderly n told s → Orderly n (more_told told [] []) t
 quietly_on s t quiet h = untold t (quiet_orderly s t quiet h)
 
-dialled_on : {n : ℕ} {told : Bytes} (m : ℕ) (host : Bytes) (port : ℕ) (s : State) → s.top < m → Orderly n told s → Orderly n (told ++ []) (dialled m host port (placing (come_to Connecting s)))
+dialled_on : {n : ℕ} {told : Told} (m : ℕ) (host : Bytes) (port : ℕ) (s : State) → s.top < m → Orderly n told s → Orderly n (more_told told [] []) (dialled m host port (placing (come_to Connecting s)))
 dialled_on m host port s above h =
     quietly_on s _ (dialled-quiet m host port (come_to Connecting s) (subst (λ k. k ≤ m) (sym (come_to-top Connecting s)) (le_of_lt above)) (facts_of (come_to-quiet Connecting s (quiet_same s))).top (come_to-quiet Connecting s (quiet_same s))) h
 
-paid_on : {n : ℕ} {told : Bytes} (s : State) → Orderly n told s → Orderly n told (paid s)
+paid_on : {n : ℕ} {told : Told} (s : State) → Orderly n told s → Orderly n told (paid s)
 paid_on s h = quiet_orderly s (paid s) (paid-quiet s (quiet_same s)) h
 
-changed-orderly : {n : ℕ} {told : Bytes} {b : Since} (s : State) (happening : Happening) → IsPermitted s happening → Sound b s → Orderly n told s → Orderly n (told ++ said_in n happening) (changed s happening)
+changed-orderly : {n : ℕ} {told : Told} {b : Since} (s : State) (happening : Happening) → IsPermitted s happening → Sound b s → Orderly n told s → Orderly n (more_told told (heard_in n happening) (said_in n happening)) (changed s happening)
 unfolding changed
 changed-orderly s (Woke image) is hs h = untold _ (woken-orderly image s h)
 changed-orderly s (Waits w) is hs h =
@@ -430,16 +555,16 @@ changed-orderly s (Clock seconds) is hs h = quietly_on s _ (event-quiet _ (tick-
 changed-orderly s (Opened m) is hs h = untold _ (quiet_orderly _ _ (event-quiet _ (quiet_same _)) (opened-orderly m s (opened_above s m is) h))
 changed-orderly s (CanRead m) is hs h = quietly_on s _ (event-quiet _ (owing-quiet (ReadOf m) m s (quiet_same s))) h
 changed-orderly s (CanWrite m) is hs h = quietly_on s _ (event-quiet _ (owing-quiet (WriteTo m) m s (quiet_same s))) h
-changed-orderly s (Heard c bytes) is hs h = untold _ (paid_on _ (hear-orderly c bytes s h))
+changed-orderly s (Heard c bytes) is hs h = said_nothing _ (paid_on _ (hear-orderly c bytes s is h))
 changed-orderly s (HungUp c) is hs h = untold _ (paid_on _ (hang_up-orderly c s h))
-changed-orderly s (Said c offered bytes) is hs h = paid_on _ (said-orderly c offered bytes s is h)
+changed-orderly s (Said c offered bytes) is hs h = heard_nothing _ (paid_on _ (said-orderly c offered bytes s is h))
 changed-orderly s (Shut c) is hs h = untold _ (shut-orderly c _ (quiet_orderly s _ (come_to-quiet Connecting s (quiet_same s)) h))
 changed-orderly s (Dialled m host port) is hs h = dialled_on m host port s (dialled_above s m host port is) h
 changed-orderly s (Undialled host port) is hs h = quietly_on s _ (undialled-quiet (placing (come_to Connecting s)) (placing-quiet _ (come_to-quiet Connecting s (quiet_same s)))) h
 changed-orderly s (Reached k) is hs h = quietly_on s _ (event-quiet _ (reached-quiet k s (quiet_same s))) h
 changed-orderly s (Ended k) is hs h = untold _ (paid_on _ (loud_gone true k s h))
 changed-orderly s (Broke k) is hs h = untold _ (paid_on _ (loud_gone false k _ (quiet_orderly s _ (event-quiet s (quiet_same s)) h)))
-changed-orderly s (Asked k bytes) is hs h = quietly_on s _ (paid-quiet _ (ask-quiet k (length bytes) s (quiet_same s))) h
+changed-orderly s (Asked k bytes) is hs h = quietly_on s _ (paid-quiet _ (ask-quiet k (length bytes) s (asked_short s k bytes is (order_of h).rise) (quiet_same s))) h
 changed-orderly s (Got k bytes) is hs h = untold _ (paid_on _ (end_replies-orderly _ (quiet_orderly s _ (got-quiet (length bytes) k bytes s (quiet_same s)) h)))
 changed-orderly s (Dropped k) is hs h = quietly_on s _ (dropped-quiet k _ (come_to-quiet Connecting s (quiet_same s))) h
 changed-orderly s (NoneYet m) is hs h = quietly_on s _ (paid-quiet s (quiet_same s)) h
@@ -456,23 +581,30 @@ changed-orderly s Stopped is hs h = quietly_on s _ (event-quiet (record s { is_s
 
 -- ---- along a log
 
-all_orderly : {n : ℕ} {b : Since} (told : Bytes) (s : State) (log : Log) → b.excepts ≡ None → b.counts_loads ≡ false → LawfulFrom s log → Sound b s → Orderly n told s → Orderly n (told ++ said_to n log) (after_all s log)
-unfolding said_to
+all_orderly : {n : ℕ} {b : Since} (told : Told) (s : State) (log : Log) → b.excepts ≡ None → b.counts_loads ≡ false → LawfulFrom s log → Sound b s → Orderly n told s → Orderly n (more_told told (heard_of n log) (said_to n log)) (after_all s log)
+unfolding said_to heard_of
 all_orderly told s [] none loads lawful hs h = untold s h
 all_orderly {n} {b} told s (happening ∷ log) none loads lawful hs h =
-    subst (λ l. Orderly n l (after_all (after s happening) log)) (append_assoc told (said_in n happening) (said_to n log))
-    (all_orderly {b = b} (told ++ said_in n happening) (after s happening) log none loads lawful.1 (after-sound s happening none (λ counts. absurd (uncounted counts)) lawful.0 hs) (changed-orderly s happening lawful.0 hs h))
+    subst (λ t. Orderly n t (after_all (after s happening) log))
+    (ap₂ told_of (append_assoc told.heard (heard_in n happening) (heard_of n log)) (append_assoc told.said (said_in n happening) (said_to n log)))
+    (all_orderly {b = b} (more_told told (heard_in n happening) (said_in n happening)) (after s happening) log none loads lawful.1 (after-sound s happening none (λ counts. absurd (uncounted counts)) lawful.0 hs) (changed-orderly s happening lawful.0 hs h))
   where
+    told_of : Bytes → Bytes → Told
+    told_of more further = record { heard = more; said = further }
+
     uncounted : b.counts_loads ≡ true → ⊥
     uncounted counts = let both : false ≡ true = sym loads ∙ counts in cc both
 
-start_orderly : (n : ℕ) (terms : List Term) → Orderly n [] (start terms)
+abbrev nothing_told : Told
+nothing_told = record { heard = []; said = [] }
+
+start_orderly : (n : ℕ) (terms : List Term) → Orderly n nothing_told (start terms)
 start_orderly n terms = orderly (record {
   rise = tt;
   given = λ c i. absurd i;
   present = λ c i. absurd i;
-  absent = λ lt. refl;
-  sofar = record { requests = []; replies = []; each = tt; next = NoHeadYet; last = []; front = before [] refl; all = refl };
+  absent = λ lt. (refl, refl);
+  sofar = record { requests = []; are_heard = (0, le_refl 0); replies = []; each = tt; next = NoHeadYet; last = []; front = before [] refl; next_heard = inl refl; all = refl };
 })
 
 -- whatever is loaded
@@ -481,4 +613,4 @@ from_start = record { old = []; counts_loads = false; excepts = None }
 
 pub replies_in_order : RepliesInOrder
 unfolding from_start
-replies_in_order terms log n lawful = (order_of (all_orderly {b = from_start} [] (start terms) log refl refl lawful (start-sound from_start terms refl) (start_orderly n terms))).sofar
+replies_in_order terms log n lawful = (order_of (all_orderly {b = from_start} nothing_told (start terms) log refl refl lawful (start-sound from_start terms refl) (start_orderly n terms))).sofar

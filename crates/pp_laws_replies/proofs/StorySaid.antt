@@ -6,21 +6,22 @@ use Rattle.std.proofs.Math.Nat.{min-le_left, min-le_right}
 use Rattle.std.proofs.lemmas.List.{take-append-drop, length-take}
 use Rattle.std.specs.List.{starts_with}
 use Rattle.pp_pass.specs.Pipe.{without_first}
+use Rattle.pp_text.specs.Bytes.{is_empty}
 use Rattle.pp_world.specs.declared.happening.Happening.TheVariants.{Said}
 use Rattle.pp_law.specs.Asking.{is_writing}
 use Rattle.pp_law.specs.Connections.{client}
 use Rattle.pp_law.specs.Lists.{Bytes, is_some_with}
 use Rattle.pp_law.specs.Offers.{run_at, piece, passed_part, offer}
 use Rattle.pp_law.specs.Permits.{is_permitted, IsPermitted, permits, permits_said, is_said_of}
-use Rattle.pp_law.specs.Replies.{said_by}
+use Rattle.pp_law.specs.Replies.{said_by, said_of, said_of_body}
 use Rattle.pp_law.specs.Requests.{Front, has_request}
-use Rattle.pp_law.specs.Stages.{is_passing, on_passed}
+use Rattle.pp_law.specs.Stages.{is_passing, on_passed, reply_of}
 use Rattle.pp_law.specs.State.{State, Client, Stage, Undecided, Waiting, Passing, Answering, Reply, Instance}
 use Rattle.pp_law.specs.Table.{source_of, Next, next_from, next_of}
 use Rattle.pp_laws.proofs.Tests.{fourth_holds, same_bytes, second_holds}
 use Rattle.pp_laws_replies.specs.Replies.{interim_to}
 use Rattle.pp_laws_replies.proofs.QuietAsks.{on_passed-quiet}
-use Rattle.pp_laws_replies.proofs.Stories.{Begun, a_page, a_kept, a_passed, Chosen, Now, undecided, waiting, chosen, begun, Story}
+use Rattle.pp_laws_replies.proofs.Stories.{Follows, Told, place_on, still_follows, Begun, a_page, a_kept, a_passed, Chosen, Now, undecided, waiting, chosen, begun, Story}
 
 -- ---- a step: bytes are said
 
@@ -213,14 +214,39 @@ now_said instances next_instance c d last bytes (of_body r front at on stage il 
     (inr (jl, hl))
     (subst (λ f. Begun f (record r { at = r.at + length bytes }) m.head (m.body ++ bytes)) (sym front) (body_more c.front r m.head m.body bytes isnt_on le m.what))
 
-pub story_said : {instances : List Instance} {next_instance : ℕ} (told : Bytes) (c d : Client) (bytes : Bytes) → Step c d bytes → Story instances next_instance told c → Story instances next_instance (told ++ bytes) d
-story_said {instances} {next_instance} told c d bytes step story = record {
+-- nothing is read with it
+reply_reads : (n : ℕ) (c : Client) (r : Reply) (passing : Bool)
+    → Follows (elim passing as (λ x. Client) [ true ↦ on_passed (λ p. record p { pipe = without_first n p.pipe }) c | false ↦ record c { stage = Answering (record r { at = r.at + n }) } ]) c
+reply_reads n c r true = let q = on_passed-quiet (λ p. record p { pipe = without_first n p.pipe }) c in record { front = q.front; reads = q.reads }
+reply_reads n c r false = still_follows _ c refl refl refl refl
+
+head_reads : (n : ℕ) (c : Client) (r : Reply) (empty : Bool)
+    → Follows (elim empty as (λ x. Client) [ false ↦ record c { stage = Answering (record r { head_left = drop n r.head_left }) } | true ↦ said_of_body n r c ]) c
+head_reads n c r false = still_follows _ c refl refl refl refl
+head_reads n c r true = reply_reads n c r (is_passing r.decision)
+
+stage_reads : (n : ℕ) (c : Client) (reply : Option Reply) → Follows (elim reply as (λ x. Client) [ None ↦ c | Some r ↦ said_of n r c ]) c
+stage_reads n c None = still_follows _ c refl refl refl refl
+stage_reads n c (Some r) = head_reads n c r (is_empty r.head_left)
+
+said_reads : (n : ℕ) (c : Client) (empty : Bool)
+    → Follows (elim empty as (λ x. Client) [ false ↦ record c { interim_left = drop n c.interim_left } | true ↦ elim (reply_of c) as (λ y. Client) [ None ↦ c | Some r ↦ said_of n r c ] ]) c
+said_reads n c false = still_follows _ c refl refl refl refl
+said_reads n c true = stage_reads n c (reply_of c)
+
+said_follows : (n : ℕ) (c : Client) → Follows (said_by n c) c
+said_follows n c = said_reads n c (is_empty c.interim_left)
+
+pub story_said : {instances : List Instance} {next_instance : ℕ} (told : Told) (c : Client) (bytes : Bytes) → Step c (said_by (length bytes) c) bytes → Story instances next_instance told c
+    → Story instances next_instance (record told { said = told.said ++ bytes }) (said_by (length bytes) c)
+story_said {instances} {next_instance} told c bytes step story = record {
   requests = story.requests;
   replies = story.replies;
   each = story.each;
   last = story.last ++ bytes;
   all = ap (λ l. l ++ bytes) story.all ∙ append_assoc (concat story.replies) story.last bytes;
-  now = now_said instances next_instance c d story.last bytes step story.now;
+  place = place_on told.heard story.requests (said_by (length bytes) c) c (said_follows (length bytes) c) story.place;
+  now = now_said instances next_instance c (said_by (length bytes) c) story.last bytes step story.now;
 }
 
 -- ---- what is permitted

@@ -1,6 +1,6 @@
 -- What is said to each client: whole replies to its requests, one behind the other, and then a front of one more (RFC 2616,
 -- sections 6, 8.1.2.2 and 8.2.3).
-use Rattle.std.specs.Prelude.{◌≡◌, ◌⊎◌, ℕ, ◌-◌, ◌≤◌, Bool, true, false, List, [], ◌∷◌, ◌++◌, length, Option}
+use Rattle.std.specs.Prelude.{◌≡◌, ◌⊎◌, ℕ, ◌+◌, ◌-◌, ◌≤◌, Bool, true, false, List, [], ◌∷◌, ◌++◌, length, drop, Option}
 use Rattle.std.specs.List.{concat}
 use Rattle.pp_framing.specs.declared.body.BodyRule.{BodyRule}
 use Rattle.pp_head.specs.Response.{Response}
@@ -12,10 +12,10 @@ use Rattle.pp_reply.specs.declared.kept.KeptReply.{KeptReply}
 use Rattle.pp_reply.specs.declared.kept.KeptReply.TheVariants.{Whole, Part, Head, NotModified, Unsatisfiable}
 use Rattle.pp_text.specs.Fields.{Field}
 use Rattle.pp_world.specs.Log.{Log}
-use Rattle.pp_world.specs.Streams.{said}
+use Rattle.pp_world.specs.Streams.{heard, said}
 use Rattle.pp_law.specs.Lawful.{Lawful}
 use Rattle.pp_law.specs.Lists.{Bytes}
-use Rattle.pp_law.specs.Requests.{Front, Parsed, NoHeadYet, NoHead, IsRequest, keeps_open, keeps_after, asks_head, expects_interim}
+use Rattle.pp_law.specs.Requests.{Front, Parsed, NoHeadYet, NoHead, IsRequest, front_of, keeps_open, keeps_after, asks_head, expects_interim}
 use Rattle.pp_law.specs.State.{Term}
 
 -- ---- one reply
@@ -68,6 +68,27 @@ pub data IsFrontOfReply (f : Front) (text : Bytes) : Type 0 where
   before : (left : Bytes) → text ++ left ≡ interim_to f → IsFrontOfReply f text
   within : (head body left : Bytes) → text ++ left ≡ (interim_to f ++ head) ++ body → (body ≡ []) ⊎ (left ≡ []) → IsReply f false head body → IsFrontOfReply f text
 
+-- ---- the requests that are answered
+
+-- what stands at the front of some bytes is this request, or is none, as this place is
+abbrev pub IsFrontAt : Front → Front → Type 0
+IsFrontAt NoHeadYet found = ⊥
+IsFrontAt (NoHead status) found = (other : ℕ) × (found ≡ NoHead other)
+IsFrontAt (IsRequest r) found = found ≡ IsRequest r
+
+abbrev pub head_len : Front → ℕ
+head_len NoHeadYet = 0
+head_len (NoHead status) = 0
+head_len (IsRequest r) = r.head.length
+
+-- each was heard, from an offset on that is not below the end of the head before it; and they end here at the latest
+abbrev pub AreHeardFrom : Bytes → ℕ → List Front → ℕ → Type 0
+AreHeardFrom heard from [] to = from ≤ to
+AreHeardFrom heard from (f ∷ fs) to = (at : ℕ) × (from ≤ at) × IsFrontAt f (front_of (drop at heard)) × AreHeardFrom heard (at + head_len f) fs to
+
+abbrev pub AreHeard : Bytes → List Front → Type 0
+AreHeard heard fs = (to : ℕ) × AreHeardFrom heard 0 fs to
+
 -- ---- all that is said
 
 -- one for each, in their order
@@ -77,15 +98,18 @@ AreReplies [] (text ∷ texts) = ⊥
 AreReplies (f ∷ fs) [] = ⊥
 AreReplies (f ∷ fs) (text ∷ texts) = IsWholeReply f text × AreReplies fs texts
 
-pub record SaysInOrder (told : Bytes) : Type 0 where
+-- to each of some requests a reply, and to the next a front of one, or nothing yet
+pub record SaysInOrder (heard told : Bytes) : Type 0 where
   pub requests : List Front
+  pub are_heard : AreHeard heard requests
   pub replies : List Bytes
   pub each : AreReplies requests replies
   pub next : Front
   pub last : Bytes
   pub front : IsFrontOfReply next last
+  pub next_heard : (last ≡ []) ⊎ AreHeard heard (requests ++ next ∷ [])
   pub all : told ≡ concat replies ++ last
 
 -- of each client of a lawful log
 abbrev pub RepliesInOrder : Type 0
-RepliesInOrder = (terms : List Term) (log : Log) (n : ℕ) → Lawful terms log → SaysInOrder (said n log)
+RepliesInOrder = (terms : List Term) (log : Log) (n : ℕ) → Lawful terms log → SaysInOrder (heard n log) (said n log)
