@@ -50,7 +50,7 @@ place_read heard requests f rest next left more skip passed k taken next_is less
   skip_is = passed_is ∙ sum p.at k (length heard) skip (length rest) p.skip_is (ap length p.rest_is ∙ length-drop p.at heard);
   current = wider heard requests p.at (p.at + k) f (further p.at k) p.current;
   nowhere = λ is. let q = p.nowhere is in
-    (next_is ∙ ap (drop k) q.0 ∙ drop_none k, passed_is ∙ zero_sum skip k (length rest) q.1 (none q.0 q.2 taken), zero_left more left less q.2);
+      (next_is ∙ ap (drop k) q.0 ∙ drop_none k, passed_is ∙ zero_sum skip k (length rest) q.1 (none q.0 q.2 taken), zero_left more left less q.2);
 }
   where
     sum : (a j l cs ch : ℕ) → cs ≡ a - l → ch ≡ l - a → cs + (j - ch) ≡ (a + j) - l

@@ -266,15 +266,15 @@ heard_here {n} {told} m bytes x s there number false isnt h =
     heard_nothing (on_client m (heard_by bytes) s)
     (changed_orderly told s (is_client m) (heard_by bytes) (λ c. (heard_by-same bytes c).number)
     (λ c i hit is story.
-        let both : true ≡ false = sym (number_same n) ∙ ap (λ k. k == n) (sym is ∙ same_number c.number m hit) ∙ isnt in
-        absurd (cc both))
+    let both : true ≡ false = sym (number_same n) ∙ ap (λ k. k == n) (sym is ∙ same_number c.number m hit) ∙ isnt in
+    absurd (cc both))
     (λ c i off is story. story) (order_of h).absent (order_of h).sofar h)
 heard_here {n} {told} m bytes x s there number true is_n h =
     changed_orderly (record told { heard = told.heard ++ bytes }) s (is_client m) (heard_by bytes) (λ c. (heard_by-same bytes c).number)
     (λ c i hit is story. story_heard bytes s c story)
     (λ c i off is story.
-        let both : true ≡ false = sym (number_same m) ∙ ap (λ k. k == m) (same_number m n is_n ∙ sym is) ∙ off in
-        absurd (cc both))
+    let both : true ≡ false = sym (number_same m) ∙ ap (λ k. k == m) (same_number m n is_n ∙ sym is) ∙ off in
+    absurd (cc both))
     (λ lt. let le : x.number ≤ s.top = (order_of h).given x there in let eq : x.number ≡ n = number ∙ same_number m n is_n in absurd (omega arith))
     (in_order (record told { heard = told.heard ++ bytes }) (heard_by bytes x) (story_heard bytes s x ((order_of h).present x there (number ∙ same_number m n is_n))))
     h
