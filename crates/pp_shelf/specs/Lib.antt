@@ -1,4 +1,0 @@
-pub mod Given
-pub mod Opening
-pub mod Steady
-pub mod Texts
