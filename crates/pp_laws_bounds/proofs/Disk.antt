@@ -8,7 +8,7 @@ use Rattle.pp_law.specs.Lists.{Bytes}
 use Rattle.pp_law.specs.Opening.{settings_in, with_settings, names_file, begun, woken, is_opening, stuck, opened_to, configured, lose_in_opening, are_texts}
 use Rattle.pp_law.specs.Repairs.{agenda_in_opening, begin_in_opening}
 use Rattle.pp_law.specs.State.{State, Agenda, Entry, Instance, Phase, IsWoken}
-use Rattle.pp_law.specs.Store.{remove_entry, note_gone, agenda_in_turn, begin_op, begin_in_turn, enter_next, close_name, end_op, lose_entry, note_kept, load_from, load}
+use Rattle.pp_law.specs.Store.{remove_entry, note_gone, agenda_in_turn, begin_op, begin_in_turn, enter_next, close_name, is_of_draft, lose_draft, fail_op, end_op, lose_entry, note_kept, load_from, load}
 use Rattle.pp_law.specs.Table.{is_entry_of, row, kept_row}
 use Rattle.pp_laws_bounds.proofs.Cases.{by_list, by_todo, each_of, when}
 use Rattle.pp_laws_bounds.proofs.Kept.{Facts, FactsOf, Kept, Lines, facts_of, is_early, kept}
@@ -45,10 +45,18 @@ pub close_name-kept : {but : List ℕ} (name : Bytes) (s : State) → Kept but s
 unfolding close_name
 close_name-kept name s h = kept (facts_of h)
 
+lose_draft-kept : {but : List ℕ} (s : State) → Kept but s → Kept but (lose_draft s)
+unfolding lose_draft
+lose_draft-kept s h = kept (facts_of h)
+
+fail_op-kept : {but : List ℕ} (op : DiskOp) (s : State) → Kept but s → Kept but (fail_op op s)
+unfolding fail_op
+fail_op-kept op s h = when (is_of_draft op) (lose_draft-kept s h) (close_name-kept s.agenda.name s h)
+
 pub end_op-kept : {but : List ℕ} (op : DiskOp) (ok : Bool) (s : State) → Kept but s → Kept but (end_op op ok s)
 unfolding end_op
 end_op-kept op true s h = enter_next-kept _ (kept (facts_of h))
-end_op-kept op false s h = close_name-kept s.agenda.name _ (kept (facts_of h))
+end_op-kept op false s h = fail_op-kept op _ (kept (facts_of h))
 
 lose_entry-kept : {but : List ℕ} (name : Bytes) (s : State) → Kept but s → Kept but (lose_entry name s)
 unfolding lose_entry

@@ -8,7 +8,7 @@ use Rattle.pp_law.specs.Lists.{Bytes}
 use Rattle.pp_law.specs.Opening.{settings_in, with_settings, names_file, begun, woken, is_opening, stuck, opened_to, configured, lose_in_opening, are_texts, terms_behind, is_same_phase}
 use Rattle.pp_law.specs.Repairs.{agenda_in_opening, begin_in_opening}
 use Rattle.pp_law.specs.State.{State, Term, Agenda, Entry, Instance, Phase, IsWoken, IsConfigured, IsStuck, Awaiting, start}
-use Rattle.pp_law.specs.Store.{remove_entry, note_gone, agenda_in_turn, begin_op, begin_in_turn, enter_next, close_name, end_op, lose_entry, note_kept, load_from, load}
+use Rattle.pp_law.specs.Store.{remove_entry, note_gone, agenda_in_turn, begin_op, begin_in_turn, enter_next, close_name, is_of_draft, lose_draft, fail_op, end_op, lose_entry, note_kept, load_from, load}
 use Rattle.pp_law.specs.Table.{is_entry_of, row, kept_row}
 use Rattle.pp_laws_bounds.proofs.SmallCases.{by_list, by_todo, each_of, when}
 use Rattle.pp_laws_bounds.proofs.Small.{As, Small, facts_of, small}
@@ -46,10 +46,18 @@ pub close_name-small : {m : As} (name : Bytes) (s : State) → Small m s → Sma
 unfolding close_name
 close_name-small name s h = small (facts_of h)
 
+lose_draft-small : {m : As} (s : State) → Small m s → Small m (lose_draft s)
+unfolding lose_draft
+lose_draft-small s h = small (facts_of h)
+
+fail_op-small : {m : As} (op : DiskOp) (s : State) → Small m s → Small m (fail_op op s)
+unfolding fail_op
+fail_op-small op s h = when (is_of_draft op) (lose_draft-small s h) (close_name-small s.agenda.name s h)
+
 pub end_op-small : {m : As} (op : DiskOp) (ok : Bool) (s : State) → Small m s → Small m (end_op op ok s)
 unfolding end_op
 end_op-small op true s h = enter_next-small _ (small (facts_of h))
-end_op-small op false s h = close_name-small s.agenda.name _ (small (facts_of h))
+end_op-small op false s h = fail_op-small op _ (small (facts_of h))
 
 lose_entry-small : {m : As} (name : Bytes) (s : State) → Small m s → Small m (lose_entry name s)
 unfolding lose_entry

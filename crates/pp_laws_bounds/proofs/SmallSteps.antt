@@ -7,7 +7,7 @@ use Rattle.pp_law.specs.Opening.{is_at, is_same_phase}
 use Rattle.pp_law.specs.Phases.{phases, in_phase, behind, next, is_done, come, come_to, decides, come_to_decide, deciding, ending}
 use Rattle.pp_law.specs.Stages.{bound_of}
 use Rattle.pp_law.specs.State.{State, Phase, Before, IsWoken, IsConfigured, IsRooted, IsListed, IsListening, IsStuck, Awaiting, Handling, Evicting, Keeping, Deciding, Following, Connecting, DecidingAgain, Bound, Joining, Conn, Exchange, Free}
-use Rattle.pp_law.specs.Turn.{marked_client, marked_conn, touch, first_marks, is_idle_conn, owes_answer, end_patience, close_idle_conn, woken_client, renew_marks, tick_to, tick, rested_client, rest_with, rested_instance}
+use Rattle.pp_law.specs.Turn.{marked_client, marked_conn, touch, is_leap, marks_anew, is_idle_conn, owes_answer, end_patience, close_idle_conn, woken_client, renew_marks, tick_to, tick, rested_client, rest_with, rested_instance}
 use Rattle.pp_law.specs.Unseen.{wanted_to, rested_exchange, is_unseen, drop_on, drop_unseen}
 use Rattle.pp_laws_bounds.proofs.SmallCases.{each_of, when}
 use Rattle.pp_laws_bounds.proofs.Changes.{SameConn}
@@ -88,9 +88,9 @@ pub touch-small : {a : As} (n : ℕ) (s : State) → Small a s → Small a (touc
 unfolding touch
 touch-small n s h = on_conn-small n (marked_conn s.clock) _ (λ k. alike _ k refl refl refl refl refl) (on_client-small n (marked_client s.clock) s h)
 
-first_marks-small : {a : As} (now : ℕ) (s : State) → Small a s → Small a (first_marks now s)
-unfolding first_marks
-first_marks-small {a} now s h = when s.has_ticked h (small (clients_mapped a (record s { conns = map (marked_conn now) s.conns }) (marked_client now) (facts_of h)))
+marks_anew-small : {a : As} (now : ℕ) (s : State) → Small a s → Small a (marks_anew now s)
+unfolding marks_anew
+marks_anew-small {a} now s h = when (is_leap now s) (small (clients_mapped a (record s { conns = map (marked_conn now) s.conns }) (marked_client now) (facts_of h))) h
 
 end_patience-small : {a : As} (k : Conn) (s : State) → Small a s → Small a (end_patience k s)
 unfolding end_patience
@@ -112,8 +112,8 @@ tick_to-small : {a : As} (now : ℕ) (s : State) → Small a s → Small a (tick
 unfolding tick_to
 tick_to-small {a} now s h = each_conn-small close_idle_conn (λ k t there ht. close_idle_conn-small k t ht) _ _ marked
   where
-    marked : Small a (record (renew_marks now (first_marks now s)) { clock = now; is_ticked = true })
-    marked = small (facts_of (renew_marks-small now _ (first_marks-small now s h)))
+    marked : Small a (record (renew_marks now (marks_anew now s)) { clock = now; is_ticked = true; has_lost_draft = false })
+    marked = small (facts_of (renew_marks-small now _ (marks_anew-small now s h)))
 
 pub tick-small : {a : As} (now : ℕ) (s : State) → Small a s → Small a (tick now s)
 unfolding tick

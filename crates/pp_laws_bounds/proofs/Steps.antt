@@ -6,7 +6,7 @@ use Rattle.pp_law.specs.Opening.{is_at}
 use Rattle.pp_law.specs.Phases.{phases, in_phase, behind, next, is_done, come, come_to, decides, come_to_decide, deciding, ending}
 use Rattle.pp_law.specs.Stages.{bound_of}
 use Rattle.pp_law.specs.State.{State, Phase, Before, IsWoken, IsConfigured, IsRooted, IsListed, IsListening, IsStuck, Awaiting, Handling, Evicting, Keeping, Deciding, Following, Connecting, DecidingAgain, Bound, Joining, Conn, Exchange}
-use Rattle.pp_law.specs.Turn.{marked_client, marked_conn, touch, first_marks, is_idle_conn, owes_answer, end_patience, close_idle_conn, woken_client, renew_marks, tick_to, tick, rested_client, rested_conn, rest_with}
+use Rattle.pp_law.specs.Turn.{marked_client, marked_conn, touch, is_leap, marks_anew, is_idle_conn, owes_answer, end_patience, close_idle_conn, woken_client, renew_marks, tick_to, tick, rested_client, rested_conn, rest_with}
 use Rattle.pp_law.specs.Unseen.{wanted_to, rested_exchange, is_unseen, drop_on, drop_unseen}
 use Rattle.pp_laws.proofs.Shrinks.{Shrinks, end_exchange-shrinks, fail-shrinks, shrinks_each, shrinks_same, shrinks_when}
 use Rattle.pp_laws_bounds.proofs.Cases.{each_of, when}
@@ -80,10 +80,10 @@ pub touch-kept : {but : List ℕ} (n : ℕ) (s : State) → Kept but s → Kept 
 unfolding touch
 touch-kept n s h = on_conn-kept n (marked_conn s.clock) _ (λ k. alike _ k refl refl refl refl refl) (on_client-kept n (marked_client s.clock) s h)
 
-first_marks-kept : {but : List ℕ} (now : ℕ) (s : State) → Kept but s → Kept but (first_marks now s)
-unfolding first_marks
-first_marks-kept {but} now s h = when s.has_ticked h (kept (clients_mapped but (record s { conns = map (marked_conn now) s.conns }) (marked_client now)
-    (conns_mapped but s (marked_conn now) (λ k. alike _ k refl refl refl refl refl) (facts_of h))))
+marks_anew-kept : {but : List ℕ} (now : ℕ) (s : State) → Kept but s → Kept but (marks_anew now s)
+unfolding marks_anew
+marks_anew-kept {but} now s h = when (is_leap now s) (kept (clients_mapped but (record s { conns = map (marked_conn now) s.conns }) (marked_client now)
+    (conns_mapped but s (marked_conn now) (λ k. alike _ k refl refl refl refl refl) (facts_of h)))) h
 
 end_patience-kept : {but : List ℕ} (k : Conn) (s : State) → Kept but s → Kept but (end_patience k s)
 unfolding end_patience
@@ -109,8 +109,8 @@ tick_to-kept : (now : ℕ) (s : State) → Kept [] s → Kept [] (tick_to now s)
 unfolding tick_to
 tick_to-kept now s h = each_conn-kept close_idle_conn (λ k t there ht. close_idle_conn-kept k t (covers k t there ht) ht) _ _ marked
   where
-    marked : Kept [] (record (renew_marks now (first_marks now s)) { clock = now; is_ticked = true })
-    marked = kept (facts_of (renew_marks-kept now _ (first_marks-kept now s h)))
+    marked : Kept [] (record (renew_marks now (marks_anew now s)) { clock = now; is_ticked = true; has_lost_draft = false })
+    marked = kept (facts_of (renew_marks-kept now _ (marks_anew-kept now s h)))
 
 pub tick-kept : (now : ℕ) (s : State) → Kept [] s → Kept [] (tick now s)
 unfolding tick

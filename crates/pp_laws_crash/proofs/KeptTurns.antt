@@ -15,7 +15,7 @@ use Rattle.pp_law.specs.Phases.{phases, in_phase, behind, next, passed, due_vict
 use Rattle.pp_law.specs.Replies.{begin_replies, use_chunks, use_from, use_said, is_said, next_request, end_reply, end_said, is_finished, close_finished, end_replies, regained, said_by}
 use Rattle.pp_law.specs.State.{State, Phase, Before, IsWoken, IsConfigured, IsRooted, IsListed, IsListening, IsStuck, Awaiting, Handling, Evicting, Keeping, Deciding, Following, Connecting, DecidingAgain, Owed, Free, Client, Conn, Exchange, Instance}
 use Rattle.pp_law.specs.Table.{Next, next_of, forget}
-use Rattle.pp_law.specs.Turn.{marked_client, marked_conn, touch, first_marks, owes_answer, is_idle_conn, end_patience, close_idle_conn, renew_marks, tick_to, tick, rest_with}
+use Rattle.pp_law.specs.Turn.{marked_client, marked_conn, touch, is_leap, marks_anew, owes_answer, is_idle_conn, end_patience, close_idle_conn, renew_marks, tick_to, tick, rest_with}
 use Rattle.pp_laws_crash.proofs.Frames.{Kept, Parts, PartsOf, OwedIn, kept, parts_of, recovers, takes_turns, when, each_of}
 use Rattle.pp_laws_crash.proofs.KeptTable.{swept-kept, forget-kept, use_chunk-kept, drop_chunk-kept, on_conn-kept, on_exchange-kept, on_client-kept, on_client_of-kept, each_client-kept, each_conn-kept, fail-kept, close_conn-kept, close_client-kept, forsake-kept, placing-kept}
 use Rattle.pp_laws_crash.proofs.KeptExchanges.{decided-kept, drop_unseen-kept, ended-kept, fill-kept, give_up_asks-kept}
@@ -87,9 +87,9 @@ pub touch-kept : {o : State} (n : ℕ) (s : State) → Kept o s → Kept o (touc
 unfolding touch
 touch-kept n s h = on_conn-kept n (marked_conn s.clock) _ (on_client-kept n (marked_client s.clock) s h)
 
-first_marks-kept : {o : State} (now : ℕ) (s : State) → Kept o s → Kept o (first_marks now s)
-unfolding first_marks
-first_marks-kept now s h = when s.has_ticked h (kept (parts_of h))
+marks_anew-kept : {o : State} (now : ℕ) (s : State) → Kept o s → Kept o (marks_anew now s)
+unfolding marks_anew
+marks_anew-kept now s h = when (is_leap now s) (kept (parts_of h)) h
 
 end_patience-kept : {o : State} (k : Conn) (s : State) → Kept o s → Kept o (end_patience k s)
 unfolding end_patience
@@ -107,8 +107,8 @@ tick_to-kept : {o : State} (now : ℕ) (s : State) → Kept o s → Kept o (tick
 unfolding tick_to
 tick_to-kept {o} now s h = each_conn-kept close_idle_conn (λ k t ht. close_idle_conn-kept k t ht) _ _ marked
   where
-    marked : Kept o (record (renew_marks now (first_marks now s)) { clock = now; is_ticked = true; has_lost_draft = false })
-    marked = kept (parts_of (renew_marks-kept now _ (first_marks-kept now s h)))
+    marked : Kept o (record (renew_marks now (marks_anew now s)) { clock = now; is_ticked = true; has_lost_draft = false })
+    marked = kept (parts_of (renew_marks-kept now _ (marks_anew-kept now s h)))
 
 pub tick-kept : {o : State} (now : ℕ) (s : State) → Kept o s → Kept o (tick now s)
 unfolding tick

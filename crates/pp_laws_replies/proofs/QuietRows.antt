@@ -11,7 +11,7 @@ use Rattle.pp_law.specs.Lists.{Bytes}
 use Rattle.pp_law.specs.Opening.{settings_in, with_settings, is_opening, stuck, opened_to, configured, lose_in_opening}
 use Rattle.pp_law.specs.Repairs.{agenda_in_opening, begin_in_opening}
 use Rattle.pp_law.specs.State.{State, Agenda, Entry, Instance, Phase}
-use Rattle.pp_law.specs.Store.{remove_entry, note_gone, agenda_in_turn, begin_op, begin_in_turn, enter_next, close_name, end_op, lose_entry, note_kept, load_from, load}
+use Rattle.pp_law.specs.Store.{remove_entry, note_gone, agenda_in_turn, begin_op, begin_in_turn, enter_next, close_name, is_of_draft, lose_draft, fail_op, end_op, lose_entry, note_kept, load_from, load}
 use Rattle.pp_law.specs.Table.{is_entry_of, is_instance, is_row_of, is_left_over, row, kept_row, rows, idle_row, on_instance, forget, swept, clear, mark_row, forget_row, with_room, add_row, make_row, enter}
 use Rattle.pp_laws_replies.proofs.Cases.{by_list, by_todo, each_of, when}
 use Rattle.pp_laws_replies.proofs.Quiet.{Quietly, SameRow, facts_of, quietly, row_pushed, rows_changed, rows_filtered, rows_moved}
@@ -104,10 +104,18 @@ pub close_name-quiet : {o : State} (name : Bytes) (s : State) → Quietly o s �
 unfolding close_name
 close_name-quiet name s h = quietly (facts_of h)
 
+lose_draft-quiet : {o : State} (s : State) → Quietly o s → Quietly o (lose_draft s)
+unfolding lose_draft
+lose_draft-quiet s h = quietly (facts_of h)
+
+fail_op-quiet : {o : State} (op : DiskOp) (s : State) → Quietly o s → Quietly o (fail_op op s)
+unfolding fail_op
+fail_op-quiet op s h = when (is_of_draft op) (lose_draft-quiet s h) (close_name-quiet s.agenda.name s h)
+
 pub end_op-quiet : {o : State} (op : DiskOp) (ok : Bool) (s : State) → Quietly o s → Quietly o (end_op op ok s)
 unfolding end_op
 end_op-quiet op true s h = enter_next-quiet _ (quietly (facts_of h))
-end_op-quiet op false s h = close_name-quiet s.agenda.name _ (quietly (facts_of h))
+end_op-quiet op false s h = fail_op-quiet op _ (quietly (facts_of h))
 
 lose_entry-quiet : {o : State} (name : Bytes) (s : State) → Quietly o s → Quietly o (lose_entry name s)
 unfolding lose_entry

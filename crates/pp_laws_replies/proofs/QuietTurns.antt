@@ -11,7 +11,7 @@ use Rattle.pp_law.specs.Replies.{use_chunks, use_from, use_said, is_finished, cl
 use Rattle.pp_law.specs.Requests.{key_in}
 use Rattle.pp_law.specs.State.{State, Phase, Before, IsWoken, IsConfigured, IsRooted, IsListed, IsListening, IsStuck, Awaiting, Handling, Evicting, Keeping, Deciding, Following, Connecting, DecidingAgain, Client, Conn}
 use Rattle.pp_law.specs.Table.{Next, is_next_held, next_of, row}
-use Rattle.pp_law.specs.Turn.{waits_for_exchange, marked_client, marked_conn, touch, first_marks, is_idle_conn, owes_answer, end_patience, close_idle_conn, woken_client, renew_marks, tick_to, tick, rested_client, rested_instance, rest_with}
+use Rattle.pp_law.specs.Turn.{waits_for_exchange, marked_client, marked_conn, touch, is_leap, marks_anew, is_idle_conn, owes_answer, end_patience, close_idle_conn, woken_client, renew_marks, tick_to, tick, rested_client, rested_instance, rest_with}
 use Rattle.pp_law.specs.Lists.{Bytes, is_some_with}
 use Rattle.pp_law.specs.Unseen.{is_unseen, drop_on, drop_unseen}
 use Rattle.pp_target.specs.Key.{text_of}
@@ -78,9 +78,9 @@ pub touch-quiet : {o : State} (n : ℕ) (s : State) → Quietly o s → Quietly 
 unfolding touch
 touch-quiet n s h = on_conn-quiet n (marked_conn s.clock) _ (on_client-quiet n (marked_client s.clock) s (λ c. parts_same _ c refl refl refl refl refl refl refl) h)
 
-first_marks-quiet : {o : State} (now : ℕ) (s : State) → Quietly o s → Quietly o (first_marks now s)
-unfolding first_marks
-first_marks-quiet {o} now s h = when s.has_ticked h (quietly (clients_mapped o s (marked_client now) (λ c. parts_same _ c refl refl refl refl refl refl refl) (facts_of h)))
+marks_anew-quiet : {o : State} (now : ℕ) (s : State) → Quietly o s → Quietly o (marks_anew now s)
+unfolding marks_anew
+marks_anew-quiet {o} now s h = when (is_leap now s) (quietly (clients_mapped o s (marked_client now) (λ c. parts_same _ c refl refl refl refl refl refl refl) (facts_of h))) h
 
 end_patience-quiet : {o : State} (k : Conn) (s : State) → Quietly o s → Quietly o (end_patience k s)
 unfolding end_patience
@@ -102,8 +102,8 @@ tick_to-quiet : {o : State} (now : ℕ) (s : State) → Quietly o s → Quietly 
 unfolding tick_to
 tick_to-quiet {o} now s h = each_conn-quiet close_idle_conn close_idle_conn-quiet _ _ marked
   where
-    marked : Quietly o (record (renew_marks now (first_marks now s)) { clock = now; is_ticked = true })
-    marked = quietly (facts_of (renew_marks-quiet now _ (first_marks-quiet now s h)))
+    marked : Quietly o (record (renew_marks now (marks_anew now s)) { clock = now; is_ticked = true; has_lost_draft = false })
+    marked = quietly (facts_of (renew_marks-quiet now _ (marks_anew-quiet now s h)))
 
 pub tick-quiet : {o : State} (now : ℕ) (s : State) → Quietly o s → Quietly o (tick now s)
 unfolding tick

@@ -27,7 +27,8 @@ use Rattle.pp_law.specs.Leaving.{Leaving, ForAnother, ForMemory, BeforeDecision,
 use Rattle.pp_law.specs.Lists.{Bytes, is_some_with, is_this}
 use Rattle.pp_law.specs.Offers.{is_at_body}
 use Rattle.pp_law.specs.Opening.{woken, begun as opening_begun, with_settings, settings_in, are_texts, names_file, is_opening}
-use Rattle.pp_law.specs.Permits.{is_permitted, IsPermitted, permits, permits_taken, permits_dial, is_new_number}
+use Rattle.pp_law.specs.Permits.{is_permitted, IsPermitted, permits, permits_taken, permits_dial, is_new_number, may_open}
+use Rattle.pp_law.specs.Served.{accepts}
 use Rattle.pp_law.specs.Phases.{is_awaiting, due_victim, come_to, come_to_decide, deciding, ending, in_phase}
 use Rattle.pp_law.specs.Replies.{said_by, use_chunks, use_from, use_said, end_replies, regained}
 use Rattle.pp_law.specs.Requests.{Front, NoHeadYet, NoHead as NoFront, IsRequest, has_request}
@@ -509,9 +510,9 @@ noted-orderly (Loaded key tag k i) s is hs h = quiet_orderly s _ (load-quiet key
 
 -- ---- what is permitted
 
-opened_by : (s : State) (n : ℕ) (room : Bool) → (elim room as (λ c. Bool) [ true ↦ false | false ↦ is_awaiting s && is_new_number s n ]) ≡ true → s.top < n
+opened_by : (s : State) (n : ℕ) (room : Bool) → (elim room as (λ c. Bool) [ true ↦ false | false ↦ is_awaiting s && may_open s n ]) ≡ true → s.top < n
 opened_by s n true is = absurd (cc is)
-opened_by s n false is = below s.top n (second_holds (is_awaiting s) (is_new_number s n) is)
+opened_by s n false is = below s.top n (first_holds (is_new_number s n) (accepts s) (second_holds (is_awaiting s) (may_open s n) is))
 
 opened_above : (s : State) (n : ℕ) → IsPermitted s (Opened n) → s.top < n
 unfolding is_permitted permits
