@@ -34,6 +34,7 @@ SUBJECTS = [
     "words",
     "kills",
     "caching",
+    "keeping",
     "one_answer",
     "hostile_origins",
     "judged",

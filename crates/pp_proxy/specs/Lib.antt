@@ -1,2 +1,3 @@
+pub mod Anything
 pub mod Named
 pub mod Turns
