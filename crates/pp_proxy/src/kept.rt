@@ -52,7 +52,12 @@ impl State {
         }
     }
 
-    /// The next byte of a client, where it is on the disk alone and is said next.
+    /// The next byte of the client at this place, where it is on the disk alone and is said next.
+    fn next_to_load(&self, i: usize) -> Option<Next> {
+        self.next_on_disk(self.seats.get(i)?)
+    }
+
+    /// The same of this client.
     pub(crate) fn next_on_disk(&self, seat: &Seat) -> Option<Next> {
         if !seat.is_at_body() {
             return None;
@@ -105,11 +110,7 @@ impl Desk {
         ensures holds { Told (W.log world.new) (Holds anything shelf.new) }
         ensures steady { GrowsSteadily (W.log world.old) (W.log world.new) }
     {
-        let next = match self.state.seats.get(i) {
-            None => None,
-            Some(seat) => self.state.next_on_disk(seat),
-        };
-        if let Some(next) = next {
+        if let Some(next) = self.state.next_to_load(i) {
             self.load(links, shelf, world, next);
         }
         self.say(links, world, i);

@@ -13,6 +13,7 @@ use pp_entry::body_at;
 use pp_links::Links;
 use pp_objects::{ObjectId, RowView};
 use pp_shelf::Shelf;
+use pp_valid::Version;
 use pp_world::{Note, World};
 use std::alloc::Global;
 
@@ -55,14 +56,10 @@ impl<'a> Run<'a> {
         if row.retired || row.version.length > BODY_LEN {
             return None;
         }
-        let kept = match shelf.kept(row.key) {
-            None => None,
-            Some(view) if *view.version == *row.version => Some(view.extent),
-            Some(_) => return None,
-        };
-        match kept {
-            None => self.draft(alloc, links, shelf, world, file, &row),
-            Some(extent) => self.seal(links, shelf, world, file, &row, extent),
+        match extent_of(shelf, &row) {
+            Known::Nothing => self.draft(alloc, links, shelf, world, file, &row),
+            Known::To(extent) => self.seal(links, shelf, world, file, &row, extent),
+            Known::Another => None,
         }
     }
 
@@ -179,6 +176,27 @@ impl<'a> Run<'a> {
         }
         false
     }
+}
+
+/// What is kept of a row's key.
+#[derive(Clone, Copy)]
+enum Known {
+    Nothing,
+    /// So many bytes of this version.
+    To(u64),
+    Another,
+}
+
+fn extent_of(shelf: &Shelf, row: &RowView<'_>) -> Known {
+    match shelf.kept(row.key) {
+        None => Known::Nothing,
+        Some(view) if is_same(view.version, row.version) => Known::To(view.extent),
+        Some(_) => Known::Another,
+    }
+}
+
+fn is_same(one: &Version, other: &Version) -> bool {
+    *one == *other
 }
 
 /// So many bytes are kept, through a crash too.
