@@ -110,10 +110,21 @@ impl Desk {
         ensures holds { Told (W.log world.new) (Holds anything shelf.new) }
         ensures steady { GrowsSteadily (W.log world.old) (W.log world.new) }
     {
+        self.load_next(links, shelf, world, i);
+        self.say(links, world, i);
+    }
+
+    #[tactic(auto, using(crate::proofs::DiskLemmas::holds_quietly, pp_shelf::proofs::SteadyLemmas::steady_then, pp_shelf::proofs::SteadyLemmas::steady_none, pp_shelf::proofs::SteadyLemmas::quiet_is_steady, pp_shelf::proofs::SteadyLemmas::quiet_then_steady, pp_shelf::proofs::SteadyLemmas::steady_then_quiet))]
+    fn load_next<W: World>(&mut self, links: &mut Links, shelf: &mut Shelf, world: &mut W, i: usize)
+        requires linked { IsLinked (W.log world.old) (W.top world.old) links.old }
+        requires holds { Told (W.log world.old) (Holds anything shelf.old) }
+        ensures linked { IsLinked (W.log world.new) (W.top world.new) links.new }
+        ensures holds { Told (W.log world.new) (Holds anything shelf.new) }
+        ensures steady { GrowsSteadily (W.log world.old) (W.log world.new) }
+    {
         if let Some(next) = self.state.next_to_load(i) {
             self.load(links, shelf, world, next);
         }
-        self.say(links, world, i);
     }
 
     /// Reads the chunk of this byte. Where it cannot be read its entry is gone, and it is fetched again.
