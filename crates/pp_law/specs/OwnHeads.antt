@@ -49,9 +49,12 @@ range_in head = elim (head.status == 206) [ true ↦ content_range_of head.field
 abbrev pub first_offset : Response → ℕ
 first_offset head = first_in (range_in head)
 
--- "a server MAY ignore the Range header field" (RFC 7233, section 3.1)
-abbrev pub ignores_range : Exchange → Response → Bool
-ignores_range e head = e.is_ranged && (head.status == 200)
+abbrev pub names_another : Exchange → Version → Bool
+names_another e v = is_some_with (λ tag. not (bytes_eq tag v.tag)) e.named
+
+-- "A server MAY ignore the Range header field" (RFC 7233, section 3.1); for another version than its ask names it has to (3.2)
+abbrev pub ignores_range : Exchange → Response → Version → Bool
+ignores_range e head v = e.is_ranged && (head.status == 200) && not (names_another e v)
 
 abbrev pub span_to_come : Exchange → Response → Version → ℕ → Bound
 span_to_come e head v id = record {
@@ -59,7 +62,7 @@ span_to_come e head v id = record {
   next = first_offset head;
   to = end_in (range_in head) v.length;
   wanted = first_offset head;
-  is_all = ignores_range e head;
+  is_all = ignores_range e head v;
 }
 
 -- ---- what the request of the exchange is told

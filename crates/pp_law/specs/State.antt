@@ -65,8 +65,8 @@ pub data Aim : Type 0 where
   Own : Aim
   Filling : Version → ℕ → ℕ → Aim
 
--- the instance that the body belongs to, the half-open span that is still to come, how far it was wanted, and whether a part was
--- asked for and the whole comes: that origin gives no ranges for it (RFC 7233, section 3.1)
+-- the instance that the body belongs to, the half-open span that is still to come, how far it was wanted, and whether a part of it
+-- was asked for and the whole comes: that origin gives no ranges for it (RFC 7233, section 3.1)
 pub record Bound : Type 0 where
   pub instance : ℕ
   pub next : ℕ
