@@ -1,6 +1,8 @@
 // One instance's chunks, and one pool.
+use crate::cache::Cache;
 use pp_holes::{Added, Cells};
 use pp_pool::{Pins, Pool};
+use pp_text::Fields;
 use std::test::Fail;
 
 #[test]
@@ -70,4 +72,22 @@ fn the_oldest_passes_over_pins_and_nothing_else(rt: HostRuntime) -> Result<(), F
     assert_eq!(rt; pool.used(), 1);
     assert_eq!(rt; pool.oldest(&Pins::new()), Some((1, 0)));
     Ok(())
+}
+
+#[test]
+fn passes_up_and_down_leave_the_last_chunk_of_the_pool_oldest(rt: HostRuntime) {
+    let mut cache = Cache::new(&rt, rt.alloc(), 65536);
+    let fields = Fields::new(&[], &[]);
+    let id = cache.settle(&rt, b"http://h/a", b"\"v\"", 268435456, &fields);
+    cache.fill(&rt, id, 65536);
+    for _pass in 0..16 {
+        for index in 0..65536 {
+            cache.touch(&rt, id, index);
+        }
+        for index in (0..65536).rev() {
+            cache.touch(&rt, id, index);
+        }
+    }
+    assert_eq!(rt; cache.pool.oldest(&Pins::new()), Some((0, 65535)));
+    assert_eq!(rt; cache.next_hole(&rt, id, 0), (1, 4096));
 }
