@@ -56,7 +56,7 @@ fn the_oldest_passes_over_pins_and_nothing_else(rt: HostRuntime) -> Result<(), F
     let mut pins = Pins::new();
     assert_eq!(rt; pool.oldest(&pins), None);
     let first = pool.take(1, 0).ok_or("none is free")?;
-    let second = pool.take(1, 1).ok_or("none is free")?;
+    let _second = pool.take(1, 1).ok_or("none is free")?;
     assert_eq!(rt; pool.oldest(&pins), Some((1, 0)));
     pool.touch(&first);
     assert_eq!(rt; pool.oldest(&pins), Some((1, 1)));
@@ -64,10 +64,17 @@ fn the_oldest_passes_over_pins_and_nothing_else(rt: HostRuntime) -> Result<(), F
     assert_eq!(rt; pool.oldest(&pins), Some((1, 0)));
     pins.push((1, 0));
     assert_eq!(rt; pool.oldest(&pins), None);
-    pool.fill(&second, b"hello");
-    assert_eq!(rt; pool.bytes(&second), b"hello".as_slice());
-    pool.give(second);
-    assert_eq!(rt; pool.used(), 1);
-    assert_eq!(rt; pool.oldest(&Pins::new()), Some((1, 0)));
+    Ok(())
+}
+
+#[test]
+fn a_chunk_has_what_was_put_into_it_until_it_is_given_back(rt: HostRuntime) -> Result<(), Fail> {
+    let mut pool = Pool::new(rt.alloc(), 512)?;
+    let only = pool.take(1, 0).ok_or("none is free")?;
+    pool.fill(&only, b"hello");
+    assert_eq!(rt; pool.bytes(&only), b"hello".as_slice());
+    pool.give(only);
+    assert_eq!(rt; pool.used(), 0);
+    assert_eq!(rt; pool.oldest(&Pins::new()), None);
     Ok(())
 }
