@@ -23,6 +23,7 @@ LARGE_LEN = 200_000_000
 # What the origin answers; made before its processes are, which share it.
 SMALL, LARGE = plain(noise(1024)), plain(noise(LARGE_LEN))
 
+
 def serve(listener):
     """One origin process: it serves one connection after the other."""
     while True:
