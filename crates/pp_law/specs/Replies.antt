@@ -1,6 +1,6 @@
 -- How a reply begins, goes on and ends, and the request behind it (RFC 2616, sections 6, 8.1.2.2, 8.2.3 and 13).
 use Rattle.std.specs.List.{list_any}
-use Rattle.std.specs.Prelude.{ℕ, zero, suc, ◌+◌, ◌-◌, ◌/◌, Bool, true, false, ◌==◌, ◌&&◌, ◌||◌, not, nat_lt, List, [], length, drop, map, Option, Some, None}
+use Rattle.std.specs.Prelude.{ℕ, zero, suc, ◌+◌, ◌-◌, ◌/◌, Bool, true, false, ◌==◌, ◌&&◌, ◌||◌, not, nat_lt, nat_le, List, [], length, drop, map, Option, Some, None}
 use Rattle.pp_fresh.specs.Age.{age_of}
 use Rattle.pp_pass.specs.Pipe.{without_first}
 use Rattle.pp_plan.specs.Requests.{is_head}

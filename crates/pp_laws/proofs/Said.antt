@@ -133,9 +133,9 @@ module _ (s : State) (held : HoldsWhatWasSent s) (r : Reply) (x : Instance) (sou
       (sent-take s.sent x.key x.version r.at (length bytes - length head) (body_of s closing r passed) (body_sent closing passed))
     where
       behind_head : (front behind : Bytes) (n : ℕ) → drop (length front) (take n (front ++ behind)) ≡ take (n - length front) behind
-      behind_head [] behind n = refl
-      behind_head (h ∷ front) behind zero = refl
-      behind_head (h ∷ front) behind (suc n) = behind_head front behind n
+      behind_head [] behind n = ap (λ m. take m behind) (let e : n ≡ n - 0 = omega arith in e)
+      behind_head (h ∷ front) behind zero = ap (λ m. take m behind) (let e : 0 ≡ 0 - suc (length front) = omega arith in e)
+      behind_head (h ∷ front) behind (suc n) = behind_head front behind n ∙ ap (λ m. take m behind) (let e : n - length front ≡ suc n - suc (length front) = omega arith in e)
 
 -- ---- what is said
 
