@@ -56,7 +56,7 @@ use Rattle.pp_laws_replies.proofs.Stories.{Told, Now, undecided, waiting, chosen
 use Rattle.pp_laws_replies.proofs.StoryBegins.{begin_replies-orderly}
 use Rattle.pp_laws_replies.proofs.StoryDecided.{IsFree, decided-orderly}
 use Rattle.pp_laws_replies.proofs.StoryEnds.{end_replies-orderly}
-use Rattle.pp_laws_replies.proofs.StorySaid.{Step, no_client, said_front, said_some, steps, story_said}
+use Rattle.pp_laws_replies.proofs.StorySaid.{Steps, no_client, said_front, said_some, steps, story_said}
 use Rattle.pp_laws_replies.proofs.Usable.{TakenFor, UsedRow, due_has, due_off, due_used, permitted_taken, taken_for}
 
 -- ---- what says nothing
@@ -421,7 +421,7 @@ use_said-clients : (m : ℕ) (c : Client) (s : State) → (use_said m c s).clien
 unfolding use_said use_from
 use_said-clients m c s = same_when s (nat_lt 0 (of_body m c)) _ s (same_each s (next_of s c) s _ refl (λ x. use_chunks-clients _ x.source.id (x.at / chunk_len) s)) refl
 
-said_here : {n : ℕ} {told : Told} (m : ℕ) (bytes : Bytes) (x : Client) (u : State) → IsIn x u.clients → x.number ≡ m → ((e : Client) → IsIn e u.clients → e.number ≡ m → e ≡ x) → Step x (said_by (length bytes) x) bytes
+said_here : {n : ℕ} {told : Told} (m : ℕ) (bytes : Bytes) (x : Client) (u : State) → IsIn x u.clients → x.number ≡ m → ((e : Client) → IsIn e u.clients → e.number ≡ m → e ≡ x) → Steps x (said_by (length bytes) x) bytes
     → (t : Bool) → (m == n) ≡ t → Orderly n told u → Orderly n (record told { said = told.said ++ (if t then bytes else []) }) (on_client m (said_by (length bytes)) u)
 unfolding on_client
 said_here {n} {told} m bytes x u there number one step false isnt h =

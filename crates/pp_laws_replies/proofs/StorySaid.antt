@@ -25,8 +25,7 @@ use Rattle.pp_laws_replies.proofs.Stories.{Follows, Told, place_on, still_follow
 
 -- ---- a step: bytes are said
 
--- nothing; of the interim answer; of the head; of a body that is passed; or of one that is read from an instance; or the last of the
--- head, and behind it of the body
+-- nothing; of the interim answer; of the head; of a body that is passed; or of one that is read from an instance
 pub data Step (c d : Client) (bytes : Bytes) : Type 0 where
   of_nothing : d.front ≡ c.front → d.stage ≡ c.stage → d.interim_left ≡ c.interim_left → bytes ≡ [] → Step c d bytes
   of_interim : d.front ≡ c.front → d.stage ≡ c.stage → bytes ++ d.interim_left ≡ c.interim_left → ¬ (c.interim_left ≡ []) → Step c d bytes
@@ -35,7 +34,11 @@ pub data Step (c d : Client) (bytes : Bytes) : Type 0 where
   of_passed : (r : Reply) → d.front ≡ c.front → c.stage ≡ Answering r → r.has_begun ≡ true → d.stage ≡ c.stage → c.interim_left ≡ [] → d.interim_left ≡ [] → r.head_left ≡ [] → is_passing r.decision ≡ true → Step c d bytes
   of_body : (r : Reply) → d.front ≡ c.front → c.stage ≡ Answering r → r.has_begun ≡ true → d.stage ≡ Answering (record r { at = r.at + length bytes }) → c.interim_left ≡ [] → d.interim_left ≡ [] → r.head_left ≡ [] → is_passing r.decision ≡ false
       → length bytes ≤ r.to - r.at → Step c d bytes
-  of_both : (e : Client) (head body : Bytes) → Step c e head → Step e d body → bytes ≡ head ++ body → Step c d bytes
+
+-- or the last of the head, and behind it of the body
+pub data Steps (c d : Client) (bytes : Bytes) : Type 0 where
+  of_one : Step c d bytes → Steps c d bytes
+  of_both : (e : Client) (head body : Bytes) → Step c e head → Step e d body → bytes ≡ head ++ body → Steps c d bytes
 
 -- what is said of some bytes, and what is left of them
 and_left : (bytes left : Bytes) → bytes ≡ take (length bytes) left → bytes ++ drop (length bytes) left ≡ left
@@ -137,41 +140,41 @@ body_taken n c r = elim (is_passing r.decision) [
   | false ↦ record (at_body c r) { stage = Answering (record r { has_begun = true; head_left = []; at = r.at + n }) }
 ]
 
-past_head : (s : State) (c : Client) (r : Reply) (head body bytes : Bytes) → bytes ≡ head ++ body → body ≡ take (length body) (behind_head s c r) → Step (at_head c r head) (body_taken (length body) c r) bytes
+past_head : (s : State) (c : Client) (r : Reply) (head body bytes : Bytes) → bytes ≡ head ++ body → body ≡ take (length body) (behind_head s c r) → Steps (at_head c r head) (body_taken (length body) c r) bytes
 unfolding at_head behind_head body_taken
-past_head s c r [] body bytes both is = subst (λ l. Step (at_body c r) (body_taken (length body) c r) l) (sym both) (body_step s c r body (is_passing r.decision) refl is)
+past_head s c r [] body bytes both is = subst (λ l. Steps (at_body c r) (body_taken (length body) c r) l) (sym both) (of_one (body_step s c r body (is_passing r.decision) refl is))
 past_head s c r (h ∷ head) body bytes both is =
     of_both (at_body c r) (h ∷ head) body
     (of_head (record r { has_begun = true; head_left = h ∷ head }) [] refl refl refl refl refl refl (append-nil (h ∷ head)) (λ none. cc none))
     (body_step s c r body (is_passing r.decision) refl is) both
 
 head_step : (s : State) (c : Client) (r : Reply) (head bytes : Bytes) → bytes ≡ take (length bytes) (head ++ behind_head s c r) → (t : Bool) → nat_le (length bytes) (length head) ≡ t
-    → Step (at_head c r head) (elim t as (λ x. Client) [ true ↦ at_head c r (drop (length bytes) head) | false ↦ body_taken (length bytes - length head) c r ]) bytes
-head_step s c r head bytes is true le = within_head c r head bytes (of_first head (behind_head s c r) bytes is (grind (arith, nat_tests)))
+    → Steps (at_head c r head) (elim t as (λ x. Client) [ true ↦ at_head c r (drop (length bytes) head) | false ↦ body_taken (length bytes - length head) c r ]) bytes
+head_step s c r head bytes is true le = of_one (within_head c r head bytes (of_first head (behind_head s c r) bytes is (grind (arith, nat_tests))))
 head_step s c r head bytes is false le =
     let more : length head ≤ length bytes = grind (arith, nat_tests) in
     let both = of_second head (behind_head s c r) bytes is more in
-    subst (λ n. Step (at_head c r head) (body_taken n c r) bytes) (length-drop (length head) bytes) (past_head s c r head (drop (length head) bytes) bytes both.0 both.1)
+    subst (λ n. Steps (at_head c r head) (body_taken n c r) bytes) (length-drop (length head) bytes) (past_head s c r head (drop (length head) bytes) bytes both.0 both.1)
 
 reply_step : (s : State) (c : Client) (r : Reply) (b : Bool) (head bytes : Bytes) → let e : Client = record c { interim_left = []; stage = Answering (record r { has_begun = b; head_left = head }) } in
-    bytes ≡ take (length bytes) (offer s e) → ¬ (offer s e ≡ []) → Step e (said_by (length bytes) e) bytes
+    bytes ≡ take (length bytes) (offer s e) → ¬ (offer s e ≡ []) → Steps e (said_by (length bytes) e) bytes
 unfolding at_head behind_head body_taken
 reply_step s c r false head bytes is some = absurd (some refl)
 reply_step s c r true head bytes is some = head_step s c r head bytes is (nat_le (length bytes) (length head)) refl
 
 stage_step : (s : State) (c : Client) (stage : Stage) (bytes : Bytes) → let e : Client = record c { interim_left = []; stage = stage } in
-    bytes ≡ take (length bytes) (offer s e) → ¬ (offer s e ≡ []) → Step e (said_by (length bytes) e) bytes
+    bytes ≡ take (length bytes) (offer s e) → ¬ (offer s e ≡ []) → Steps e (said_by (length bytes) e) bytes
 stage_step s c Undecided bytes is some = absurd (some refl)
 stage_step s c Waiting bytes is some = absurd (some refl)
 stage_step s c Passing bytes is some = absurd (some refl)
 stage_step s c (Answering r) bytes is some = reply_step s c r r.has_begun r.head_left bytes is some
 
 interim_step : (s : State) (c : Client) (interim bytes : Bytes) → let e : Client = record c { interim_left = interim } in
-    bytes ≡ take (length bytes) (offer s e) → ¬ (offer s e ≡ []) → Step e (said_by (length bytes) e) bytes
-interim_step s c (i ∷ interim) bytes is some = of_interim refl refl (and_left bytes (i ∷ interim) is) (λ none. cc none)
+    bytes ≡ take (length bytes) (offer s e) → ¬ (offer s e ≡ []) → Steps e (said_by (length bytes) e) bytes
+interim_step s c (i ∷ interim) bytes is some = of_one (of_interim refl refl (and_left bytes (i ∷ interim) is) (λ none. cc none))
 interim_step s c [] bytes is some = stage_step s c c.stage bytes is some
 
-pub steps : (s : State) (c : Client) (bytes : Bytes) → bytes ≡ take (length bytes) (offer s c) → ¬ (offer s c ≡ []) → Step c (said_by (length bytes) c) bytes
+pub steps : (s : State) (c : Client) (bytes : Bytes) → bytes ≡ take (length bytes) (offer s c) → ¬ (offer s c ≡ []) → Steps c (said_by (length bytes) c) bytes
 steps s c bytes is some = interim_step s c c.interim_left bytes is some
 
 -- ---- the reply goes on
@@ -272,12 +275,9 @@ nothing_said instances next_instance c d last front stage left (begun r at is_on
     at_end (inl none) = inl none
     at_end (inr both) = inr (left ∙ both.0, both.1)
 
-pub now_said : (instances : List Instance) (next_instance : ℕ) (c d : Client) (last bytes : Bytes) → Step c d bytes → Now instances next_instance c last → Now instances next_instance d (last ++ bytes)
+now_said : (instances : List Instance) (next_instance : ℕ) (c d : Client) (last bytes : Bytes) → Step c d bytes → Now instances next_instance c last → Now instances next_instance d (last ++ bytes)
 now_said instances next_instance c d last bytes (of_nothing front stage left none) now =
     subst (λ l. Now instances next_instance d l) (sym (ap (λ l. last ++ l) none ∙ append-nil last)) (nothing_said instances next_instance c d last front stage left now)
-now_said instances next_instance c d last bytes (of_both e head body one two both) now =
-    subst (λ l. Now instances next_instance d l) (append_assoc last head body ∙ ap (λ l. last ++ l) (sym both))
-    (now_said instances next_instance e d (last ++ head) body two (now_said instances next_instance c e last head one now))
 now_said instances next_instance c d last bytes (of_interim front stage left some) now = interim_said instances next_instance c d last bytes front stage left some now
 now_said instances next_instance c d last bytes (of_head r left front at on stage il jl eq some) now =
     let m = midst instances next_instance c last r at on now in
@@ -300,6 +300,12 @@ now_said instances next_instance c d last bytes (of_body r front at on stage il 
     (both_said last c.interim_left r.head_left _ bytes d.interim_left r.head_left il hl jl hl m.is ∙ append_assoc (interim_to c.front ++ m.head) m.body bytes ∙ at_front c.front d.front m.head (m.body ++ bytes) front)
     (inr (jl, hl))
     (subst (λ f. Begun f (record r { at = r.at + length bytes }) m.head (m.body ++ bytes)) (sym front) (body_more c.front r m.head m.body bytes isnt_on le m.what))
+
+pub now_are : (instances : List Instance) (next_instance : ℕ) (c d : Client) (last bytes : Bytes) → Steps c d bytes → Now instances next_instance c last → Now instances next_instance d (last ++ bytes)
+now_are instances next_instance c d last bytes (of_one step) now = now_said instances next_instance c d last bytes step now
+now_are instances next_instance c d last bytes (of_both e head body one two both) now =
+    subst (λ l. Now instances next_instance d l) (append_assoc last head body ∙ ap (λ l. last ++ l) (sym both))
+    (now_said instances next_instance e d (last ++ head) body two (now_said instances next_instance c e last head one now))
 
 -- nothing is read with it
 reply_reads : (n : ℕ) (c : Client) (r : Reply) (passing : Bool)
@@ -330,7 +336,7 @@ said_reads n c true = stage_reads n c (reply_of c)
 said_follows : (n : ℕ) (c : Client) → Follows (said_by n c) c
 said_follows n c = said_reads n c (is_empty c.interim_left)
 
-pub story_said : {instances : List Instance} {next_instance : ℕ} (told : Told) (c : Client) (bytes : Bytes) → Step c (said_by (length bytes) c) bytes → Story instances next_instance told c
+pub story_said : {instances : List Instance} {next_instance : ℕ} (told : Told) (c : Client) (bytes : Bytes) → Steps c (said_by (length bytes) c) bytes → Story instances next_instance told c
     → Story instances next_instance (record told { said = told.said ++ bytes }) (said_by (length bytes) c)
 story_said {instances} {next_instance} told c bytes step story = record {
   requests = story.requests;
@@ -339,7 +345,7 @@ story_said {instances} {next_instance} told c bytes step story = record {
   last = story.last ++ bytes;
   all = ap (λ l. l ++ bytes) story.all ∙ append_assoc (concat story.replies) story.last bytes;
   place = place_on told.heard story.requests (said_by (length bytes) c) c (said_follows (length bytes) c) story.place;
-  now = now_said instances next_instance c (said_by (length bytes) c) story.last bytes step story.now;
+  now = now_are instances next_instance c (said_by (length bytes) c) story.last bytes step story.now;
 }
 
 -- ---- what is permitted
