@@ -117,6 +117,22 @@ def what_is_sought_near_is_waited_for_and_what_is_far_is_asked_for(world):
 
 
 @case
+@rule("near-bytes")
+def what_is_far_is_waited_for_where_the_origin_gives_no_ranges(world):
+    # it answers each ask with the whole, as it may (RFC 7233, 3.1): to ask again would bring the same from the front on
+    far, length = 400 * CHUNK + 1, 4 * MB
+    for name, wanted, end in [("range", b"%d-%d" % (far, far + TAKEN - 1), far + TAKEN), ("resume", b"%d-" % far, length)]:
+        path = f"/no-ranges/{name}"
+        flows = Flows(world.origin, path, length, TAG, FRESH, gives_ranges=False)
+        with Client() as client:
+            client.say(world.last_request(path, b"Range: bytes=" + wanted))
+            head, _, body = client.hear_all().partition(b"\r\n\r\n")
+        holds(head.startswith(b"HTTP/1.1 206 "), f"a part in place of {head}")
+        equal(body, noise(end - far, far), f"what is far, by a {name}")
+        equal(len(flows.all), 1, f"asks of a {name}")
+
+
+@case
 @rule("gone-clients")
 @rule("near-bytes")
 def each_seek_of_a_player_costs_what_it_plays_and_256_chunks(world):

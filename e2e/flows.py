@@ -81,12 +81,21 @@ def flow_from(ask, length, *fields, held_at=None):
     return Flow(head, last + 1 - first, first, held_at)
 
 
+def whole_flow(length, *fields):
+    """The whole of a body of so many bytes, slowly, whatever is asked."""
+    head = lines(b"HTTP/1.1 200 OK", *fields, b"Content-Length: %d" % length)
+    return Flow(head, length, seconds_each=0.002)
+
+
 class Flows:
     """What an origin gives of a body of so many bytes on a path, in the order of its asks; each waits behind so many bytes."""
 
-    def __init__(self, origin, path, length, *fields, held_at=None):
+    def __init__(self, origin, path, length, *fields, held_at=None, gives_ranges=True):
         self.all, self.asked = [], []
-        self._give = lambda ask: flow_from(ask, length, *fields, held_at=held_at)
+        if gives_ranges:
+            self._give = lambda ask: flow_from(ask, length, *fields, held_at=held_at)
+        else:
+            self._give = lambda ask: whole_flow(length, *fields)
         origin.on(path, self._answer)
 
     def _answer(self, ask):

@@ -1,5 +1,5 @@
 // Clients that read far ahead of what comes (ours): an exchange is waited for at most 256 chunks ahead of what it brings next, and
-// what is farther is asked for. 256 chunks are 1,048,576 bytes.
+// what is farther is asked for, but of an origin that gives no ranges. 256 chunks are 1,048,576 bytes.
 use pp_play::{ASK, Act, Exchange, GET, Part, Step, T, Wanted, unlike};
 use pp_world::Decision;
 use std::test::Fail;
@@ -121,5 +121,75 @@ const AHEAD: &[Exchange<'static>] = &[
 #[test]
 fn what_is_far_ahead_is_asked_for(rt: HostRuntime) -> Result<(), Fail> {
     assert_eq!(rt; unlike(rt.alloc(), AHEAD)?.as_str(), "");
+    Ok(())
+}
+
+const WHOLE: &[Exchange<'static>] = &[
+    Exchange {
+        name: "the whole comes for a range that is asked for first",
+        acts: &[
+            Act::Tick(T),
+            Act::Connect,
+            Act::Say(
+                1,
+                b"GET http://h/a HTTP/1.1\r\nRange: bytes=1500000-1500003\r\n\r\n",
+            ),
+            Act::Reach(2),
+            Act::Answer(
+                2,
+                b"HTTP/1.1 200 OK\r\nETag: \"x\"\r\nCache-Control: max-age=60\r\nContent-Length: 2000000\r\n\r\nhell",
+            ),
+        ],
+        wanted: &[
+            Wanted::Taken(1, Decision::Part(1_500_000, 1_500_004)),
+            Wanted::Count(Step::Dialled(80), 1),
+            Wanted::Asked(
+                2,
+                &[
+                    b"GET /a HTTP/1.1\r\nhost: h\r\nrange: bytes=1499136-1500003\r\nvia: 1.1 polipo\r\n\r\n",
+                ],
+            ),
+            Wanted::Said(1, &[]),
+        ],
+    },
+    Exchange {
+        name: "the whole comes for a hole",
+        acts: &[
+            Act::Tick(T),
+            Act::Connect,
+            Act::Say(1, b"GET http://h/a HTTP/1.1\r\nRange: bytes=0-3\r\n\r\n"),
+            Act::Reach(2),
+            Act::Answer(
+                2,
+                b"HTTP/1.1 206 Partial Content\r\nDate: Sun, 06 Nov 1994 08:49:37 GMT\r\nETag: \"x\"\r\nCache-Control: max-age=60\r\nContent-Range: bytes 0-3/2000000\r\nContent-Length: 4\r\n\r\nhell",
+            ),
+            Act::Connect,
+            Act::Say(
+                3,
+                b"GET http://h/a HTTP/1.1\r\nRange: bytes=1500000-1500003\r\n\r\n",
+            ),
+            Act::Answer(
+                2,
+                b"HTTP/1.1 200 OK\r\nETag: \"x\"\r\nCache-Control: max-age=60\r\nContent-Length: 2000000\r\n\r\nhell",
+            ),
+        ],
+        wanted: &[
+            Wanted::Taken(3, Decision::Part(1_500_000, 1_500_004)),
+            Wanted::Count(Step::Dialled(80), 1),
+            Wanted::Asked(
+                2,
+                &[
+                    b"GET /a HTTP/1.1\r\nhost: h\r\nrange: bytes=0-3\r\nvia: 1.1 polipo\r\n\r\n",
+                    b"GET /a HTTP/1.1\r\nhost: h\r\nrange: bytes=1499136-1500003\r\nif-range: \"x\"\r\nvia: 1.1 polipo\r\n\r\n",
+                ],
+            ),
+            Wanted::Said(3, &[]),
+        ],
+    },
+];
+
+#[test]
+fn an_origin_that_gives_no_ranges_is_waited_for(rt: HostRuntime) -> Result<(), Fail> {
+    assert_eq!(rt; unlike(rt.alloc(), WHOLE)?.as_str(), "");
     Ok(())
 }

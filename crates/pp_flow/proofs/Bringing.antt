@@ -14,9 +14,9 @@ use Rattle.pp_flow.specs.declared.coming.Brought.{Brought}
 use Rattle.pp_flow.specs.declared.entry.Aim.{Aim}
 use Rattle.pp_flow.specs.declared.entry.Aim.TheVariants.{Own, Hole, Pass}
 use Rattle.pp_flow.specs.declared.entry.Entry.{Entry}
-use Rattle.pp_flow.specs.Brings.{AskedBrings, Brings, BringsBy, IsAsked, IsBrought, OwnBrings, WillJoin, covers}
+use Rattle.pp_flow.specs.Brings.{AskedBrings, Brings, BringsBy, IsAsked, IsBrought, OwnBrings, WillJoin, covers, is_soon}
 use Rattle.pp_flow.specs.Changes.{Exchanges}
-use Rattle.pp_flow.specs.Coming.{Target, all_entered, asked_brings, bound_brings, brings, brings_by, brought, brought_by, coming, entered, has_offset, joins_at, joins_from, near_to, next_chunk, own_brings, span, span_of, target_of}
+use Rattle.pp_flow.specs.Coming.{Target, all_entered, asked_brings, bound_brings, brings, brings_by, brought, brought_by, coming, entered, has_offset, joins_at, joins_from, near_to, next_chunk, own_brings, soon_to, span, span_of, target_of}
 use Rattle.pp_flow.specs.Entries.{Span}
 use Rattle.pp_flow.proofs.Collecting.{id-same}
 
@@ -64,6 +64,18 @@ near-is from to o less = is-le (o - from) (256 * 4096) (omega (arith, less))
 is-before : (from to o : ℕ) → o < to → is_near from o ≡ true → o < near_to from to
 is-before from to o ends near = let le : o - from ≤ 256 * 4096 = le-is (o - from) (256 * 4096) near in omega (arith, ends, le)
 
+soon-ends : (all : Bool) (from to o : ℕ) → o < soon_to all from to → o < to
+soon-ends true from to o less = less
+soon-ends false from to o less = near-ends from to o less
+
+soon-is : (all : Bool) (from to o : ℕ) → o < soon_to all from to → is_soon all from o ≡ true
+soon-is true from to o less = refl
+soon-is false from to o less = near-is from to o less
+
+is-sooner : (all : Bool) (from to o : ℕ) → o < to → is_soon all from o ≡ true → o < soon_to all from to
+is-sooner true from to o ends soon = ends
+is-sooner false from to o ends soon = is-before from to o ends soon
+
 in_option : ℕ → Option (ℕ × ℕ) → Bool
 in_option o None = false
 in_option o (Some s) = covers o s
@@ -107,20 +119,20 @@ missing-behind t from o p joins begun chunk before missing = by (nat_lt p from) 
     by true less = absurd (cases (from % 4096 == 0) (has_offset t (from - 1)) refl refl joins (lt-is p from less))
     by false is = not-less p from is
 
-will-join : (t : Table) (from to o : ℕ) → joins_from t from ≤ o → o < to → is_near from o ≡ true → WillJoin t from to o
-will-join t from to o begun ends near = by (joins_at t from) refl begun
+will-join : (t : Table) (from to : ℕ) (all : Bool) (o : ℕ) → joins_from t from ≤ o → o < to → is_soon all from o ≡ true → WillJoin t from to all o
+will-join t from to all o begun ends soon = by (joins_at t from) refl begun
   where
-    by : (v : Bool) → joins_at t from ≡ v → (if v then from else next_chunk from) ≤ o → WillJoin t from to o
-    by true joins begun = record { begun = begun; ends = ends; near = near; before = λ p chunk before missing. missing-behind t from o p joins begun chunk before missing }
+    by : (v : Bool) → joins_at t from ≡ v → (if v then from else next_chunk from) ≤ o → WillJoin t from to all o
+    by true joins begun = record { begun = begun; ends = ends; soon = soon; before = λ p chunk before missing. missing-behind t from o p joins begun chunk before missing }
     by false joins begun = record {
       begun = omega (arith, begun);
       ends = ends;
-      near = near;
+      soon = soon;
       before = λ p chunk before missing. omega (arith, begun, chunk, before);
     }
 
-joins-by : (t : Table) (from to o : ℕ) → WillJoin t from to o → joins_from t from ≤ o
-joins-by t from to o w = by (joins_at t from) refl
+joins-by : (t : Table) (from to : ℕ) (all : Bool) (o : ℕ) → WillJoin t from to all o → joins_from t from ≤ o
+joins-by t from to all o w = by (joins_at t from) refl
   where
     other : (a b : Bool) → (from % 4096 == 0) ≡ a → has_offset t (from - 1) ≡ b → (a || b) ≡ false → (v : Bool) → nat_lt o (next_chunk from) ≡ v → next_chunk from ≤ o
     other true b first held is v near = absurd (cc is)
@@ -144,17 +156,17 @@ same-id a b = (
   (λ same. are-both (a.slot == b.slot) (a.life == b.life) (eq-eqb a.slot b.slot (ap (λ (i : ObjectId). i.slot) same)) (eq-eqb a.life b.life (ap (λ (i : ObjectId). i.life) same))),
 )
 
-bound-decides : (t : Target) (b : Span) (o : ℕ) → Decides (in_option o (bound_brings t b)) ((t.id ≡ b.0) × WillJoin t.table b.1 b.2 o)
+bound-decides : (t : Target) (b : Span) (o : ℕ) → Decides (in_option o (bound_brings t b)) ((t.id ≡ b.0) × WillJoin t.table b.1 b.2 b.3 o)
 unfolding in_option
 bound-decides t b o = by (is_same_id t.id b.0) refl
   where
     by : (v : Bool) → is_same_id t.id b.0 ≡ v
-        → Decides (in_option o (if v then span (joins_from t.table b.1) (near_to b.1 b.2) else None)) ((t.id ≡ b.0) × WillJoin t.table b.1 b.2 o)
+        → Decides (in_option o (if v then span (joins_from t.table b.1) (soon_to b.3 b.1 b.2) else None)) ((t.id ≡ b.0) × WillJoin t.table b.1 b.2 b.3 o)
     by true same = (
-      (λ is. let in_it = covers-is o (joins_from t.table b.1) (near_to b.1 b.2) (sym (in-span o (joins_from t.table b.1) (near_to b.1 b.2)) ∙ is) in
-          ((same-id t.id b.0).0 same, will-join t.table b.1 b.2 o in_it.0 (near-ends b.1 b.2 o in_it.1) (near-is b.1 b.2 o in_it.1))),
-      (λ brings. in-span o (joins_from t.table b.1) (near_to b.1 b.2)
-          ∙ is-covers o (joins_from t.table b.1) (near_to b.1 b.2) (joins-by t.table b.1 b.2 o brings.1) (is-before b.1 b.2 o brings.1.ends brings.1.near)),
+      (λ is. let in_it = covers-is o (joins_from t.table b.1) (soon_to b.3 b.1 b.2) (sym (in-span o (joins_from t.table b.1) (soon_to b.3 b.1 b.2)) ∙ is) in
+          ((same-id t.id b.0).0 same, will-join t.table b.1 b.2 b.3 o in_it.0 (soon-ends b.3 b.1 b.2 o in_it.1) (soon-is b.3 b.1 b.2 o in_it.1))),
+      (λ brings. in-span o (joins_from t.table b.1) (soon_to b.3 b.1 b.2)
+          ∙ is-covers o (joins_from t.table b.1) (soon_to b.3 b.1 b.2) (joins-by t.table b.1 b.2 b.3 o brings.1) (is-sooner b.3 b.1 b.2 o brings.1.ends brings.1.soon)),
     )
     by false other = ((λ is. absurd (cc is)), (λ brings. absurd (both_ways (is_same_id t.id b.0) other ((same-id t.id b.0).1 brings.0))))
 

@@ -1,5 +1,5 @@
 -- Which offsets of an instance the exchanges bring, offset by offset (ours: no rule of the standards).
-use Rattle.std.specs.Prelude.{◌≡◌, ◌≤◌, ◌<◌, ◌/◌, ℕ, Bool, true, false, ◌&&◌, nat_le, nat_lt, List, ◌++◌, Option, Some, None}
+use Rattle.std.specs.Prelude.{◌≡◌, ◌≤◌, ◌<◌, ◌/◌, ℕ, Bool, true, false, ◌&&◌, ◌||◌, nat_le, nat_lt, List, ◌++◌, Option, Some, None}
 use Rattle.std.specs.List.{Contains}
 use Rattle.pp_holes.specs.Cells.{Table}
 use Rattle.pp_plan.specs.Need.{is_near}
@@ -14,11 +14,15 @@ use Rattle.pp_flow.specs.Entries.{Span}
 abbrev pub covers : ℕ → ℕ × ℕ → Bool
 covers offset s = nat_le s.0 offset && nat_lt offset s.1
 
+-- what is far ahead comes too late, but from an origin that gives no ranges
+abbrev pub is_soon : Bool → ℕ → ℕ → Bool
+is_soon all from offset = all || is_near from offset
+
 -- the offset is still to come, soon enough, and so is each before it in its chunk that is not in memory
-pub record WillJoin (t : Table) (from to offset : ℕ) : Type 0 where
+pub record WillJoin (t : Table) (from to : ℕ) (all : Bool) (offset : ℕ) : Type 0 where
   pub begun : from ≤ offset
   pub ends : offset < to
-  pub near : is_near from offset ≡ true
+  pub soon : is_soon all from offset ≡ true
   pub before : (o : ℕ) → o / 4096 ≡ offset / 4096 → o < offset → has_offset t o ≡ false → from ≤ o
 
 -- it is asked for with this key and tag, and comes soon enough
@@ -36,7 +40,7 @@ AskedBrings t key Pass offset = ⊥
 
 -- an exchange of the cache's own that is bound to the instance, or whose final head has not come
 abbrev pub OwnBrings : Target → List ℕ → Aim → Bool → Option Span → ℕ → Type 0
-OwnBrings t key aim headed (Some b) offset = (t.id ≡ b.0) × WillJoin t.table b.1 b.2 offset
+OwnBrings t key aim headed (Some b) offset = (t.id ≡ b.0) × WillJoin t.table b.1 b.2 b.3 offset
 OwnBrings t key aim true None offset = ⊥
 OwnBrings t key aim false None offset = AskedBrings t key aim offset
 

@@ -41,13 +41,18 @@ joins_from t o = if joins_at t o then o else next_chunk o
 abbrev pub near_to : ℕ → ℕ → ℕ
 near_to from to = min to (from + 256 * 4096 + 1)
 
+-- an origin that gives no ranges is waited for, however far
+abbrev pub soon_to : Bool → ℕ → ℕ → ℕ
+soon_to true from to = to
+soon_to false from to = near_to from to
+
 -- a span that has an offset
 abbrev pub span : ℕ → ℕ → Option (ℕ × ℕ)
 span from to = if nat_lt from to then Some (from, to) else None
 
 -- an exchange that is bound to the instance brings what will join, soon enough, of what is still to come
 abbrev pub bound_brings : Target → Span → Option (ℕ × ℕ)
-bound_brings t b = if is_same_id t.id b.0 then span (joins_from t.table b.1) (near_to b.1 b.2) else None
+bound_brings t b = if is_same_id t.id b.0 then span (joins_from t.table b.1) (soon_to b.3 b.1 b.2) else None
 
 -- before its final head came, one that asks for a hole of this key and tag brings what it asks for
 abbrev pub asked_brings : Target → List ℕ → Aim → Option (ℕ × ℕ)

@@ -4,9 +4,10 @@ use Rattle.pp_objects.specs.declared.id.ObjectId.{ObjectId}
 use Rattle.pp_flow.specs.declared.entry.Aim.{Aim}
 use Rattle.pp_flow.specs.declared.entry.Entry.{Entry}
 
--- the instance that the body belongs to, and the half-open span that is still to come
+-- the instance that the body belongs to, the half-open span that is still to come, and whether all of it is waited for, however
+-- far ahead
 abbrev pub Span : Type 0
-Span = ObjectId × ℕ × ℕ
+Span = ObjectId × ℕ × ℕ × Bool
 
 abbrev pub is_number : ℕ → Entry → Bool
 is_number number entry = entry.exchange.number == number
@@ -47,7 +48,7 @@ bound_to to entry = record entry { exchange = record entry.exchange { headed = t
 -- the front of what is still to come
 abbrev pub moved : ℕ → Option Span → Option Span
 moved n None = None
-moved n (Some span) = Some (span.0, span.1 + n, span.2)
+moved n (Some span) = Some (span.0, span.1 + n, span.2, span.3)
 
 abbrev pub moved_by : ℕ → Entry → Entry
 moved_by n entry = record entry { exchange = record entry.exchange { bound = moved n entry.exchange.bound } }

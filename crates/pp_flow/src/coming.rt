@@ -4,7 +4,7 @@ ghost use Rattle.std.specs.List.{filter_map};
 ghost use Rattle.std.specs.Option.{option_to_list};
 ghost use Rattle.arrayvec.specs.ArrayVec.{array_vec_len};
 ghost use Rattle.pp_objects.specs.Instances.{is_there};
-ghost use Rattle.pp_flow.specs.Coming.{all_entered, asked_brings, bound_brings, brings, brought, entered, joins_at, joins_from, near_to, own_brings, place_of, shown_target, span, span_of};
+ghost use Rattle.pp_flow.specs.Coming.{all_entered, asked_brings, bound_brings, brings, brought, entered, joins_at, joins_from, near_to, own_brings, place_of, shown_target, soon_to, span, span_of};
 ghost use Rattle.pp_flow.specs.Inside.{entries};
 
 use crate::entry::{Aim, Entry};
@@ -109,7 +109,7 @@ fn own_brings(entry: &Entry, wanted: &Wanted<'_>) -> Option<(u64, u64)>
     ensures { result ≡ own_brings (shown_target wanted.now) entry.now.key.items entry.now.exchange.aim entry.now.exchange.headed entry.now.exchange.bound }
 {
     match entry.exchange.bound {
-        Some((id, from, to)) => bound_brings(id, from, to, wanted),
+        Some(bound) => bound_brings(bound, wanted),
         None => {
             if entry.exchange.headed {
                 None
@@ -121,19 +121,20 @@ fn own_brings(entry: &Entry, wanted: &Wanted<'_>) -> Option<(u64, u64)>
 }
 
 /// What an exchange that is bound to an instance brings of the span that is still to come.
-fn bound_brings(id: ObjectId, from: u64, to: u64, wanted: &Wanted<'_>) -> Option<(u64, u64)>
+fn bound_brings(bound: (ObjectId, u64, u64, bool), wanted: &Wanted<'_>) -> Option<(u64, u64)>
     requires { is_there wanted.now.id wanted.now.objects.now.instances ≡ true }
-    ensures { result ≡ bound_brings (shown_target wanted.now) (id, from, to) }
+    ensures { result ≡ bound_brings (shown_target wanted.now) bound }
 {
+    let (id, from, to, all) = bound;
     if wanted.id.slot != id.slot || wanted.id.life != id.life {
         return None;
     }
-    let near = near_to(from, to);
+    let soon = soon_to(all, from, to);
     if joins_at(from, wanted) {
-        return span(from, near);
+        return span(from, soon);
     }
     let next_chunk = (from - from % CHUNK_LEN).checked_add(CHUNK_LEN)?;
-    span(next_chunk, near)
+    span(next_chunk, soon)
 }
 
 /// What an exchange whose final head has not come asked for.
@@ -158,6 +159,13 @@ fn near_to(from: u64, to: u64) -> u64
     ensures { result ≡ near_to from to }
 {
     to.min(from.saturating_add(NEAR))
+}
+
+/// An origin that gives no ranges is waited for, however far.
+fn soon_to(all: bool, from: u64, to: u64) -> u64
+    ensures { result ≡ soon_to all from to }
+{
+    if all { to } else { near_to(from, to) }
 }
 
 fn span(from: u64, to: u64) -> Option<(u64, u64)>

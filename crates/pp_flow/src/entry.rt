@@ -32,8 +32,9 @@ pub struct Exchange {
     pub place: Option<u64>,
     /// Whether its final head came.
     pub headed: bool,
-    /// The instance that its body belongs to, and the half-open span that is still to come.
-    pub bound: Option<(ObjectId, u64, u64)>,
+    /// The instance that its body belongs to, the half-open span that is still to come, and whether all of it is
+    /// waited for, however far ahead: that of an origin which gives no ranges.
+    pub bound: Option<(ObjectId, u64, u64, bool)>,
 }
 
 #[derive(Drop)]
@@ -89,7 +90,7 @@ impl Entry {
     }
 
     /// Its final head came, and its body belongs there.
-    pub(crate) fn bind(&mut self, to: Option<(ObjectId, u64, u64)>)
+    pub(crate) fn bind(&mut self, to: Option<(ObjectId, u64, u64, bool)>)
         ensures { self.new ≡ bound_to to self.old }
     {
         self.exchange.headed = true;
@@ -100,7 +101,7 @@ impl Entry {
     pub(crate) fn to_come(&self) -> Option<u64>
         ensures { result ≡ to_come self.now }
     {
-        let (_, from, to) = self.exchange.bound?;
+        let (_, from, to, _) = self.exchange.bound?;
         to.checked_sub(from)
     }
 
@@ -114,10 +115,10 @@ impl Entry {
 }
 
 /// What is still to come of a span, when so many bytes of it came.
-fn moved(bound: Option<(ObjectId, u64, u64)>, n: u64) -> Option<(ObjectId, u64, u64)>
+fn moved(bound: Option<(ObjectId, u64, u64, bool)>, n: u64) -> Option<(ObjectId, u64, u64, bool)>
     requires { IsInSpan n bound }
     ensures { result ≡ moved n bound }
 {
-    let (id, from, to) = bound?;
-    Some((id, from + n, to))
+    let (id, from, to, all) = bound?;
+    Some((id, from + n, to, all))
 }

@@ -177,7 +177,7 @@ impl Flow {
 
     /// The final head of the exchange came, and its body belongs there. Nothing changes where it has no
     /// place.
-    pub fn bind(&mut self, number: u64, to: Option<(ObjectId, u64, u64)>)
+    pub fn bind(&mut self, number: u64, to: Option<(ObjectId, u64, u64, bool)>)
         ensures { self.new ≡ record self.old { placed = changed number (bound_to to) self.old.placed } }
     {
         bind_in(&mut self.placed, number, to);
@@ -231,8 +231,8 @@ impl Flow {
 
     /// The spans of offsets that the exchanges bring to an instance, in the order of their beginnings. One that
     /// is bound to it brings what will join of what is still to come; before its final head came, one that asks
-    /// for a hole of its key and tag brings that hole; what is more than 256 chunks ahead comes too late, and does
-    /// not count. Walks the exchanges, and the spans that it finds.
+    /// for a hole of its key and tag brings that hole. What is more than 256 chunks ahead comes too late, and does
+    /// not count, but where all of the span is waited for. Walks the exchanges, and the spans that it finds.
     pub fn coming(&self, objects: &Objects, id: ObjectId, out: &mut ArrayVec<(u64, u64), 1024>)
         requires there { is_there id objects.now.instances ≡ true }
         requires empty { out.old.items ≡ [] }

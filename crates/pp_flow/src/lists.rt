@@ -57,7 +57,7 @@ pub fn leave_in(list: &mut [Box<Entry>], number: u64)
 }
 
 /// The final head of the exchange with this number came.
-pub fn bind_in(list: &mut [Box<Entry>], number: u64, to: Option<(ObjectId, u64, u64)>)
+pub fn bind_in(list: &mut [Box<Entry>], number: u64, to: Option<(ObjectId, u64, u64, bool)>)
     ensures change { entries list.new ≡ changed number (bound_to to) (entries list.old) }
     ensures len { length list.new ≡ length list.old }
 {

@@ -115,13 +115,13 @@ fn a_body_is_bound_and_comes(rt: HostRuntime) -> Result<(), OutOfMemory> {
     assert_eq!(rt; begin(&mut flow, 8, b"http://h/b", Aim::Pass), Some(1));
     place(&mut flow, 0, 50);
     place(&mut flow, 1, 50);
-    flow.bind(0, Some((id, 0, 12)));
+    flow.bind(0, Some((id, 0, 12, false)));
     assert_eq!(rt; flow.to_come(0), Some(12));
     come(&mut flow, 0, 5);
     come(&mut flow, 0, 8);
     match flow.get(0) {
         Some(exchange) => {
-            assert_eq!(rt; exchange.bound, Some((id, 5, 12)));
+            assert_eq!(rt; exchange.bound, Some((id, 5, 12, false)));
             assert_eq!(rt; (exchange.asker, exchange.place), (Some(7), Some(50)));
             assert!(rt; exchange.headed);
         }

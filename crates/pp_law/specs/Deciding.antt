@@ -3,7 +3,6 @@ use Rattle.std.specs.Prelude.{ℕ, ◌+◌, ◌%◌, Bool, true, false, ◌==◌
 use Rattle.pp_ask.specs.declared.kind.AskKind.{AskKind}
 use Rattle.pp_ask.specs.declared.kind.AskKind.TheVariants.{Range as AsRange}
 use Rattle.pp_head.specs.Request.{Request}
-use Rattle.pp_plan.specs.Need.{is_near}
 use Rattle.pp_plan.specs.Row.{Row}
 use Rattle.pp_ranges.specs.Ranges.{range_of}
 use Rattle.pp_ranges.specs.declared.range.Range.{Range}
@@ -20,7 +19,7 @@ use Rattle.pp_law.specs.Requests.{Parsed, NoHeadYet, NoHead, IsRequest, key_in, 
 use Rattle.pp_law.specs.Responses.{skipping}
 use Rattle.pp_law.specs.Stages.{bound_of}
 use Rattle.pp_law.specs.State.{State, Through, Own, Pending, Awaited, Trying, Client, Exchange, Instance, Stage, Undecided, Waiting, Passing, Answering, Reply}
-use Rattle.pp_law.specs.Table.{row, row_for, swept, mark_row, enter, must_forget, asks_for}
+use Rattle.pp_law.specs.Table.{row, row_for, swept, mark_row, enter, must_forget, asks_for, is_soon}
 use Rattle.pp_law.specs.Decisions.{kind_of, text_for}
 
 abbrev pub page_with : ℕ → Bytes → Stage
@@ -130,7 +129,7 @@ answering_with r c = record c { interim_left = first_interim c; stage = Answerin
 -- of what the follower still wants, something is still to come by the exchange
 abbrev pub serves : Instance → Reply → Exchange → Bool
 serves x r e = elim (bound_of e) [
-  | Some b ↦ (b.instance == x.id) && nat_lt (max b.next r.at) (min b.to r.to) && is_near b.next r.at
+  | Some b ↦ (b.instance == x.id) && nat_lt (max b.next r.at) (min b.to r.to) && is_soon b r.at
   | None ↦ asks_for x r.at e
 ]
 

@@ -49,8 +49,21 @@ range_in head = elim (head.status == 206) [ true ↦ content_range_of head.field
 abbrev pub first_offset : Response → ℕ
 first_offset head = first_in (range_in head)
 
-abbrev pub span_to_come : Response → Version → ℕ → Bound
-span_to_come head v id = record { instance = id; next = first_offset head; to = end_in (range_in head) v.length; wanted = first_offset head }
+abbrev pub names_another : Exchange → Version → Bool
+names_another e v = is_some_with (λ tag. not (bytes_eq tag v.tag)) e.named
+
+-- "A server MAY ignore the Range header field" (RFC 7233, section 3.1); for another version than its ask names it has to (3.2)
+abbrev pub ignores_range : Exchange → Response → Version → Bool
+ignores_range e head v = e.is_ranged && (head.status == 200) && not (names_another e v)
+
+abbrev pub span_to_come : Exchange → Response → Version → ℕ → Bound
+span_to_come e head v id = record {
+  instance = id;
+  next = first_offset head;
+  to = end_in (range_in head) v.length;
+  wanted = first_offset head;
+  is_all = ignores_range e head v;
+}
 
 -- ---- what the request of the exchange is told
 
@@ -98,7 +111,7 @@ renew x head times s = mark_row x.id (on_instance x.id (renewed head times) s)
 unfoldable pub settle_on : Exchange → Response → Version → State → State
 settle_on e head v s = elim (row s (key_of e)) [
   | None ↦ s
-  | Some x ↦ tell e (Joins x.id (not (has_field (codes "age") head.fields))) (use_body e (Joining (span_to_come head v x.id)) s)
+  | Some x ↦ tell e (Joins x.id (not (has_field (codes "age") head.fields))) (use_body e (Joining (span_to_come e head v x.id)) s)
 ]
 
 -- the row takes over what changes with each response
@@ -145,7 +158,7 @@ settle e head v s = elim (is_some_with (may_join e head v) (known_version s (key
 
 -- nothing of a body comes
 abbrev pub nothing_to_come : Instance → Bound
-nothing_to_come x = record { instance = x.id; next = 0; to = 0; wanted = 0 }
+nothing_to_come x = record { instance = x.id; next = 0; to = 0; wanted = 0; is_all = false }
 
 unfoldable pub settle_unchanged : Exchange → State → State
 settle_unchanged e s = elim (row s (key_of e)) [ None ↦ s | Some x ↦ tell e (Joins x.id false) (use_body e (Joining (nothing_to_come x)) s) ]

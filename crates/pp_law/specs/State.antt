@@ -65,12 +65,14 @@ pub data Aim : Type 0 where
   Own : Aim
   Filling : Version → ℕ → ℕ → Aim
 
--- the instance that the body belongs to, the half-open span that is still to come, and how far it was wanted
+-- the instance that the body belongs to, the half-open span that is still to come, how far it was wanted, and whether a part of it
+-- was asked for and the whole comes: that origin gives no ranges for it (RFC 7233, section 3.1)
 pub record Bound : Type 0 where
   pub instance : ℕ
   pub next : ℕ
   pub to : ℕ
   pub wanted : ℕ
+  pub is_all : Bool
 
 -- what becomes of the body of a response: its head has not come; it joins an instance; it is passed; it is dropped as it comes
 pub data Body : Type 0 where

@@ -143,9 +143,13 @@ is_next_held s n = is_held s n.source n.at
 
 -- ---- what an exchange brings
 
+-- ours: it is waited for where it is near; from an origin that gives no ranges, however far
+abbrev pub is_soon : Bound → ℕ → Bool
+is_soon b at = b.is_all || is_near b.next at
+
 -- the offset, and each before it in its chunk that is not in memory, are still to come, and soon enough
 abbrev pub is_to_come : State → Instance → Bound → ℕ → Bool
-is_to_come s x b at = (b.instance == x.id) && nat_lt at b.to && is_near b.next at && nat_le b.next (min at (at / chunk_len * chunk_len + filled x.id (at / chunk_len) s.chunks))
+is_to_come s x b at = (b.instance == x.id) && nat_lt at b.to && is_soon b at && nat_le b.next (min at (at / chunk_len * chunk_len + filled x.id (at / chunk_len) s.chunks))
 
 -- its head has not come, and it asks for that offset of that version
 abbrev pub asks_for : Instance → ℕ → Exchange → Bool

@@ -7,7 +7,7 @@ use Rattle.pp_law.specs.Lists.{is_some_with}
 use Rattle.pp_law.specs.Responses.{payload_of}
 use Rattle.pp_law.specs.Stages.{bound_of}
 use Rattle.pp_law.specs.State.{State, Through, Own, Filling, Bound, Pending, Joining, Relaying, Dropping, Client, Conn, Exchange}
-use Rattle.pp_law.specs.Table.{next_of}
+use Rattle.pp_law.specs.Table.{next_of, is_soon}
 
 -- ---- how far a body is wanted
 
@@ -33,7 +33,7 @@ rested_exchange s e = elim (bound_of e) [ None ↦ e | Some b ↦ record e { bod
 
 -- the next byte of a client that follows it comes soon enough
 abbrev pub has_reader_near : State → Bound → Bool
-has_reader_near s b = list_any (λ c. is_some_with (is_near b.next) (at_of s b c)) s.clients
+has_reader_near s b = list_any (λ c. is_some_with (is_soon b) (at_of s b c)) s.clients
 
 -- what is kept has a reader near, or little of it is left, or where the last of its readers left is near, before it or behind
 abbrev pub is_worth_keeping : State → Bound → Bool

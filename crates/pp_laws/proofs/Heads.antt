@@ -105,15 +105,15 @@ settle_on-behind : {b : Since} (e : Exchange) (head : Response) (rule : BodyRule
 unfolding settle_on
 settle_on-behind {b} e head rule v s noted version is p =
     behind_each (row s (key_of e)) (λ none. behind_same (fresh e head rule) e s p)
-    (λ x found. tell-behind (Joins x.id (not (has_field (codes "age") head.fields))) s _ (behind_use (fresh e head rule) e (Joining (span_to_come head v x.id)) s refl p (binds x (row_is (key_of e) s x found))))
+    (λ x found. tell-behind (Joins x.id (not (has_field (codes "age") head.fields))) s _ (behind_use (fresh e head rule) e (Joining (span_to_come e head v x.id)) s refl p (binds x (row_is (key_of e) s x found))))
   where
     facts : FactsOf b s
     facts = facts_of p.is_sound
 
-    binds : (x : Instance) → IsIn x s.instances × (x.key ≡ key_of e) × (is_row_of (key_of e) x ≡ true) → BindsTo (fresh e head rule) e s (Some (span_to_come head v x.id))
+    binds : (x : Instance) → IsIn x s.instances × (x.key ≡ key_of e) × (is_row_of (key_of e) x ≡ true) → BindsTo (fresh e head rule) e s (Some (span_to_come e head v x.id))
     binds x there = (facts.rows.given x there.0, noted, λ y i id. of y (the_one instance_id s.instances y x facts.rows.differ i there.0 id))
       where
-        of : (y : Instance) → y ≡ x → (y.key ≡ key_of e) × Fitting (fresh e head rule) (span_to_come head v x.id) y
+        of : (y : Instance) → y ≡ x → (y.key ≡ key_of e) × Fitting (fresh e head rule) (span_to_come e head v x.id) y
         of y eq = (ap (λ (z : Instance). z.key) eq ∙ there.1, inl (version ∙ ap (λ w. Some w) (sym (ap (λ (z : Instance). z.version) eq ∙ is x there.0 there.2)), no_data e head rule))
 
 settle_known-behind : {b : Since} (e : Exchange) (head : Response) (rule : BodyRule) (v : Version) (s : State) → is_noted e.aim ≡ true → version_in e head ≡ Some v

@@ -54,7 +54,7 @@ refresh-kept e head s h = renew_row-kept e head (enter (key_of e) true s) (enter
 
 settle_on-kept : {but : List ℕ} (e : Exchange) (head : Response) (v : Version) (s : State) → Kept but s → Kept but (settle_on e head v s)
 unfolding settle_on
-settle_on-kept e head v s h = each_of (row s (key_of e)) h (λ x. tell-kept e (Joins x.id (not (has_field (codes "age") head.fields))) _ (use_body-kept e (Joining (span_to_come head v x.id)) s h))
+settle_on-kept e head v s h = each_of (row s (key_of e)) h (λ x. tell-kept e (Joins x.id (not (has_field (codes "age") head.fields))) _ (use_body-kept e (Joining (span_to_come e head v x.id)) s h))
 
 settle_known-kept : {but : List ℕ} (e : Exchange) (head : Response) (v : Version) (s : State) → Kept but s → Kept but (settle_known e head v s)
 unfolding settle_known

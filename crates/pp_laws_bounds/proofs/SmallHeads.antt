@@ -55,7 +55,7 @@ refresh-small e head s h = renew_row-small e head (enter (key_of e) true s) (ent
 
 settle_on-small : {a : As} (e : Exchange) (head : Response) (v : Version) (s : State) → a.expects ≡ Some e.number → Small a s → Small a (settle_on e head v s)
 unfolding settle_on
-settle_on-small e head v s expects h = each_of (row s (key_of e)) h (λ x. tell-small e (Joins x.id (not (has_field (codes "age") head.fields))) _ (use_body-small e (Joining (span_to_come head v x.id)) s expects h))
+settle_on-small e head v s expects h = each_of (row s (key_of e)) h (λ x. tell-small e (Joins x.id (not (has_field (codes "age") head.fields))) _ (use_body-small e (Joining (span_to_come e head v x.id)) s expects h))
 
 settle_known-small : {a : As} (e : Exchange) (head : Response) (v : Version) (s : State) → a.expects ≡ Some e.number → Small a s → Small a (settle_known e head v s)
 unfolding settle_known

@@ -9,10 +9,9 @@ use Rattle.pp_law.specs.Closing.{is_of, close_client, forsake}
 use Rattle.pp_law.specs.Connections.{client, conn, is_client, is_conn, front_of_line, on_client, on_conn, is_outstanding, each_conn, placing, Placement}
 use Rattle.pp_law.specs.Hearing.{heard_by}
 use Rattle.pp_law.specs.Lists.{Bytes}
-use Rattle.pp_law.specs.Offers.{is_at_body}
 use Rattle.pp_law.specs.Opening.{is_at, is_opening, is_same_phase}
 use Rattle.pp_law.specs.Phases.{phases, in_phase, behind, next, passed, due_victim, is_done, come, come_to, come_to_decide, decides, deciding, ending, is_under_way}
-use Rattle.pp_law.specs.Replies.{begin_replies, use_chunks, use_from, use_said, is_said, next_request, end_reply, end_said, is_finished, close_finished, end_replies, regained, said_by}
+use Rattle.pp_law.specs.Replies.{begin_replies, use_chunks, use_from, use_said, of_body, is_said, next_request, end_reply, end_said, is_finished, close_finished, end_replies, regained, said_by}
 use Rattle.pp_law.specs.State.{State, Phase, Before, IsWoken, IsConfigured, IsRooted, IsListed, IsListening, IsStuck, Awaiting, Handling, Evicting, Keeping, Deciding, Following, Connecting, DecidingAgain, Owed, Free, Client, Conn, Exchange, Instance}
 use Rattle.pp_law.specs.Table.{Next, next_of, forget}
 use Rattle.pp_law.specs.Turn.{marked_client, marked_conn, touch, is_leap, marks_anew, owes_answer, is_idle_conn, end_patience, close_idle_conn, renew_marks, tick_to, tick, rest_with}
@@ -37,7 +36,7 @@ use_from-kept n x s h = use_chunks-kept _ _ _ s h
 
 use_said-kept : {o : State} (n : ℕ) (c : Client) (s : State) → Kept o s → Kept o (use_said n c s)
 unfolding use_said
-use_said-kept n c s h = when (is_at_body c && nat_lt 0 n) (each_of (next_of s c) h (λ x. use_from-kept n x s h)) h
+use_said-kept n c s h = when (nat_lt 0 (of_body n c)) (each_of (next_of s c) h (λ x. use_from-kept (of_body n c) x s h)) h
 
 end_reply-kept : {o : State} (c : Client) (s : State) → Kept o s → Kept o (end_reply c s)
 unfolding end_reply

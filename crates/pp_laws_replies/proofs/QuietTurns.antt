@@ -4,10 +4,10 @@ use Rattle.pp_world.specs.declared.event.Wants.{Wants}
 use Rattle.pp_law.specs.Chunks.{chunk_len}
 use Rattle.pp_law.specs.Connections.{front_of_line}
 use Rattle.pp_law.specs.Deciding.{is_for_memory, mark_row_of, enter_row}
-use Rattle.pp_law.specs.Offers.{has_to_say, is_at_body}
+use Rattle.pp_law.specs.Offers.{has_to_say}
 use Rattle.pp_law.specs.Opening.{is_at}
 use Rattle.pp_law.specs.Phases.{phases, in_phase, behind, next, is_done, come, come_to, decides, come_to_decide, deciding}
-use Rattle.pp_law.specs.Replies.{use_chunks, use_from, use_said, is_finished, close_finished, anew, regained_by, regained}
+use Rattle.pp_law.specs.Replies.{use_chunks, use_from, use_said, of_body, is_finished, close_finished, anew, regained_by, regained}
 use Rattle.pp_law.specs.Requests.{key_in}
 use Rattle.pp_law.specs.State.{State, Phase, Before, IsWoken, IsConfigured, IsRooted, IsListed, IsListening, IsStuck, Awaiting, Handling, Evicting, Keeping, Deciding, Following, Connecting, DecidingAgain, Client, Conn}
 use Rattle.pp_law.specs.Table.{Next, is_next_held, next_of, row}
@@ -136,7 +136,7 @@ use_from-quiet n x s h = use_chunks-quiet _ x.source.id (x.at / chunk_len) s h
 
 pub use_said-quiet : {o : State} (n : ℕ) (c : Client) (s : State) → Quietly o s → Quietly o (use_said n c s)
 unfolding use_said
-use_said-quiet n c s h = when (is_at_body c && nat_lt 0 n) (each_of (next_of s c) h (λ x. use_from-quiet n x s h)) h
+use_said-quiet n c s h = when (nat_lt 0 (of_body n c)) (each_of (next_of s c) h (λ x. use_from-quiet (of_body n c) x s h)) h
 
 pub close_finished-quiet : {o : State} (c : Client) (s : State) → Quietly o s → Quietly o (close_finished c s)
 unfolding close_finished

@@ -25,12 +25,11 @@ use Rattle.pp_law.specs.Hearing.{fronted, heard_by, what_counts}
 use Rattle.pp_law.specs.Lawful.{LawfulFrom}
 use Rattle.pp_law.specs.Leaving.{Leaving, ForAnother, ForMemory, BeforeDecision, leaving_as}
 use Rattle.pp_law.specs.Lists.{Bytes, is_some_with, is_this}
-use Rattle.pp_law.specs.Offers.{is_at_body}
 use Rattle.pp_law.specs.Opening.{woken, begun as opening_begun, with_settings, settings_in, are_texts, names_file, is_opening}
 use Rattle.pp_law.specs.Permits.{is_permitted, IsPermitted, permits, permits_taken, permits_dial, is_new_number, may_open}
 use Rattle.pp_law.specs.Served.{accepts}
 use Rattle.pp_law.specs.Phases.{is_awaiting, due_victim, come_to, come_to_decide, deciding, ending, in_phase}
-use Rattle.pp_law.specs.Replies.{said_by, use_chunks, use_from, use_said, end_replies, regained}
+use Rattle.pp_law.specs.Replies.{said_by, use_chunks, use_from, use_said, of_body, end_replies, regained}
 use Rattle.pp_law.specs.Requests.{Front, NoHeadYet, NoHead as NoFront, IsRequest, has_request}
 use Rattle.pp_law.specs.Responses.{ended}
 use Rattle.pp_law.specs.State.{State, Term, RowRefused, Client, Conn, Exchange, Instance, IsRooted, IsListed, IsListening, IsWoken, Handling, Evicting, Keeping, Deciding, Following, Connecting, DecidingAgain, Owed, ReadOf, WriteTo, start}
@@ -57,7 +56,7 @@ use Rattle.pp_laws_replies.proofs.Stories.{Told, Now, undecided, waiting, chosen
 use Rattle.pp_laws_replies.proofs.StoryBegins.{begin_replies-orderly}
 use Rattle.pp_laws_replies.proofs.StoryDecided.{IsFree, decided-orderly}
 use Rattle.pp_laws_replies.proofs.StoryEnds.{end_replies-orderly}
-use Rattle.pp_laws_replies.proofs.StorySaid.{Step, no_client, said_front, said_some, steps, story_said}
+use Rattle.pp_laws_replies.proofs.StorySaid.{Steps, no_client, said_front, said_some, steps, story_said}
 use Rattle.pp_laws_replies.proofs.Usable.{TakenFor, UsedRow, due_has, due_off, due_used, permitted_taken, taken_for}
 
 -- ---- what says nothing
@@ -420,9 +419,9 @@ use_chunks-clients (suc more) id i s = use_chunks-clients more id (i + 1) (use_c
 
 use_said-clients : (m : ℕ) (c : Client) (s : State) → (use_said m c s).clients ≡ s.clients
 unfolding use_said use_from
-use_said-clients m c s = same_when s (is_at_body c && nat_lt 0 m) _ s (same_each s (next_of s c) s _ refl (λ x. use_chunks-clients _ x.source.id (x.at / chunk_len) s)) refl
+use_said-clients m c s = same_when s (nat_lt 0 (of_body m c)) _ s (same_each s (next_of s c) s _ refl (λ x. use_chunks-clients _ x.source.id (x.at / chunk_len) s)) refl
 
-said_here : {n : ℕ} {told : Told} (m : ℕ) (bytes : Bytes) (x : Client) (u : State) → IsIn x u.clients → x.number ≡ m → ((e : Client) → IsIn e u.clients → e.number ≡ m → e ≡ x) → Step x (said_by (length bytes) x) bytes
+said_here : {n : ℕ} {told : Told} (m : ℕ) (bytes : Bytes) (x : Client) (u : State) → IsIn x u.clients → x.number ≡ m → ((e : Client) → IsIn e u.clients → e.number ≡ m → e ≡ x) → Steps x (said_by (length bytes) x) bytes
     → (t : Bool) → (m == n) ≡ t → Orderly n told u → Orderly n (record told { said = told.said ++ (if t then bytes else []) }) (on_client m (said_by (length bytes)) u)
 unfolding on_client
 said_here {n} {told} m bytes x u there number one step false isnt h =

@@ -1,5 +1,5 @@
 -- What is said goes on with the reply as far as it was said.
-use Rattle.std.proofs.Common.{◌≡◌, ◌⊎◌, refl, ℕ, suc, ◌+◌, ◌-◌, ◌≤◌, nat_lt, nat_le, nat_eq, Bool, true, false, ◌&&◌, List, [], ◌∷◌, ◌++◌, length, take, drop, Option, Some, None, inl, inr, sym, subst, ap, ◌∙◌, append_assoc, append-nil, length-append, zero-le, le_trans, arith}
+use Rattle.std.proofs.Common.{◌≡◌, ◌⊎◌, refl, ℕ, suc, ◌+◌, ◌-◌, ◌≤◌, nat_lt, nat_le, nat_eq, Bool, true, false, ◌&&◌, List, [], ◌∷◌, ◌++◌, length, take, drop, Option, Some, None, inl, inr, sym, subst, ap, ◌∙◌, append_assoc, append-nil, length-append, length-drop, zero-le, le_trans, arith}
 use Rattle.std.specs.List.{concat}
 use Rattle.std.proofs.lemmas.Bool.Decides.{nat_tests}
 use Rattle.std.proofs.Math.Nat.{min-le_left, min-le_right}
@@ -25,14 +25,20 @@ use Rattle.pp_laws_replies.proofs.Stories.{Follows, Told, place_on, still_follow
 
 -- ---- a step: bytes are said
 
--- of the interim answer; of the head; of a body that is passed; or of one that is read from an instance
+-- nothing; of the interim answer; of the head; of a body that is passed; or of one that is read from an instance
 pub data Step (c d : Client) (bytes : Bytes) : Type 0 where
+  of_nothing : d.front ≡ c.front → d.stage ≡ c.stage → d.interim_left ≡ c.interim_left → bytes ≡ [] → Step c d bytes
   of_interim : d.front ≡ c.front → d.stage ≡ c.stage → bytes ++ d.interim_left ≡ c.interim_left → ¬ (c.interim_left ≡ []) → Step c d bytes
   of_head : (r : Reply) (left : Bytes) → d.front ≡ c.front → c.stage ≡ Answering r → r.has_begun ≡ true → d.stage ≡ Answering (record r { head_left = left }) → c.interim_left ≡ [] → d.interim_left ≡ [] → bytes ++ left ≡ r.head_left
       → ¬ (r.head_left ≡ []) → Step c d bytes
   of_passed : (r : Reply) → d.front ≡ c.front → c.stage ≡ Answering r → r.has_begun ≡ true → d.stage ≡ c.stage → c.interim_left ≡ [] → d.interim_left ≡ [] → r.head_left ≡ [] → is_passing r.decision ≡ true → Step c d bytes
   of_body : (r : Reply) → d.front ≡ c.front → c.stage ≡ Answering r → r.has_begun ≡ true → d.stage ≡ Answering (record r { at = r.at + length bytes }) → c.interim_left ≡ [] → d.interim_left ≡ [] → r.head_left ≡ [] → is_passing r.decision ≡ false
       → length bytes ≤ r.to - r.at → Step c d bytes
+
+-- or the last of the head, and behind it of the body
+pub data Steps (c d : Client) (bytes : Bytes) : Type 0 where
+  of_one : Step c d bytes → Steps c d bytes
+  of_both : (e : Client) (head body : Bytes) → Step c e head → Step e d body → bytes ≡ head ++ body → Steps c d bytes
 
 -- what is said of some bytes, and what is left of them
 and_left : (bytes left : Bytes) → bytes ≡ take (length bytes) left → bytes ++ drop (length bytes) left ≡ left
@@ -88,25 +94,87 @@ body_step s c r bytes false passing is = of_body (record r { has_begun = true; h
     short : length bytes ≤ r.to - r.at
     short = le_trans (front bytes offered is) bounded
 
+-- of what there is of two texts, no more than the first
+of_first : (first second bytes : Bytes) → bytes ≡ take (length bytes) (first ++ second) → length bytes ≤ length first → bytes ≡ take (length bytes) first
+of_first first second [] is le = refl
+of_first [] second (b ∷ bytes) is le = let long : suc (length bytes) ≤ 0 = le in absurd (omega arith)
+of_first (h ∷ first) second (b ∷ bytes) is le =
+    let parts : b ∷ bytes ≡ h ∷ take (length bytes) (first ++ second) = is in
+    let same : b ≡ h = cc in
+    let rest : bytes ≡ take (length bytes) (first ++ second) = cc in
+    let less : suc (length bytes) ≤ suc (length first) = le in
+    ap (λ x. x ∷ bytes) same ∙ ap (λ l. h ∷ l) (of_first first second bytes rest (omega arith))
+
+-- all of the first, and of the second
+of_second : (first second bytes : Bytes) → bytes ≡ take (length bytes) (first ++ second) → length first ≤ length bytes
+    → (bytes ≡ first ++ drop (length first) bytes) × (drop (length first) bytes ≡ take (length (drop (length first) bytes)) second)
+of_second [] second bytes is le = (refl, is)
+of_second (h ∷ first) second [] is le = let long : suc (length first) ≤ 0 = le in absurd (omega arith)
+of_second (h ∷ first) second (b ∷ bytes) is le =
+    let parts : b ∷ bytes ≡ h ∷ take (length bytes) (first ++ second) = is in
+    let same : b ≡ h = cc in
+    let rest : bytes ≡ take (length bytes) (first ++ second) = cc in
+    let less : suc (length first) ≤ suc (length bytes) = le in
+    let both = of_second first second bytes rest (omega arith) in
+    (ap (λ x. x ∷ bytes) same ∙ ap (λ l. h ∷ l) both.0, both.1)
+
+-- a client that is being said this head
+at_head : Client → Reply → Bytes → Client
+at_head c r head = record c { interim_left = []; stage = Answering (record r { has_begun = true; head_left = head }) }
+
+-- what is offered behind the head
+behind_head : State → Client → Reply → Bytes
+behind_head s c r = elim (is_passing r.decision) [ true ↦ passed_part (at_body c r) | false ↦ elim (next_of s (at_body c r)) [ None ↦ [] | Some n ↦ piece s n ] ]
+
+within_head : (c : Client) (r : Reply) (head bytes : Bytes) → bytes ≡ take (length bytes) head → Step (at_head c r head) (at_head c r (drop (length bytes) head)) bytes
+unfolding at_head
+within_head c r [] [] is = of_nothing refl refl refl refl
+within_head c r [] (b ∷ bytes) is = absurd (cc is)
+within_head c r (h ∷ head) bytes is =
+    of_head (record r { has_begun = true; head_left = h ∷ head }) (drop (length bytes) (h ∷ head)) refl refl refl refl refl refl (and_left bytes (h ∷ head) is) (λ none. cc none)
+
+-- where so many bytes of the body were said
+body_taken : ℕ → Client → Reply → Client
+body_taken n c r = elim (is_passing r.decision) [
+  | true ↦ on_passed (λ p. record p { pipe = without_first n p.pipe }) (at_body c r)
+  | false ↦ record (at_body c r) { stage = Answering (record r { has_begun = true; head_left = []; at = r.at + n }) }
+]
+
+past_head : (s : State) (c : Client) (r : Reply) (head body bytes : Bytes) → bytes ≡ head ++ body → body ≡ take (length body) (behind_head s c r) → Steps (at_head c r head) (body_taken (length body) c r) bytes
+unfolding at_head behind_head body_taken
+past_head s c r [] body bytes both is = subst (λ l. Steps (at_body c r) (body_taken (length body) c r) l) (sym both) (of_one (body_step s c r body (is_passing r.decision) refl is))
+past_head s c r (h ∷ head) body bytes both is =
+    of_both (at_body c r) (h ∷ head) body
+    (of_head (record r { has_begun = true; head_left = h ∷ head }) [] refl refl refl refl refl refl (append-nil (h ∷ head)) (λ none. cc none))
+    (body_step s c r body (is_passing r.decision) refl is) both
+
+head_step : (s : State) (c : Client) (r : Reply) (head bytes : Bytes) → bytes ≡ take (length bytes) (head ++ behind_head s c r) → (t : Bool) → nat_le (length bytes) (length head) ≡ t
+    → Steps (at_head c r head) (elim t as (λ x. Client) [ true ↦ at_head c r (drop (length bytes) head) | false ↦ body_taken (length bytes - length head) c r ]) bytes
+head_step s c r head bytes is true le = of_one (within_head c r head bytes (of_first head (behind_head s c r) bytes is (grind (arith, nat_tests))))
+head_step s c r head bytes is false le =
+    let more : length head ≤ length bytes = grind (arith, nat_tests) in
+    let both = of_second head (behind_head s c r) bytes is more in
+    subst (λ n. Steps (at_head c r head) (body_taken n c r) bytes) (length-drop (length head) bytes) (past_head s c r head (drop (length head) bytes) bytes both.0 both.1)
+
 reply_step : (s : State) (c : Client) (r : Reply) (b : Bool) (head bytes : Bytes) → let e : Client = record c { interim_left = []; stage = Answering (record r { has_begun = b; head_left = head }) } in
-    bytes ≡ take (length bytes) (offer s e) → ¬ (offer s e ≡ []) → Step e (said_by (length bytes) e) bytes
+    bytes ≡ take (length bytes) (offer s e) → ¬ (offer s e ≡ []) → Steps e (said_by (length bytes) e) bytes
+unfolding at_head behind_head body_taken
 reply_step s c r false head bytes is some = absurd (some refl)
-reply_step s c r true (h ∷ head) bytes is some = of_head (record r { has_begun = true; head_left = h ∷ head }) (drop (length bytes) (h ∷ head)) refl refl refl refl refl refl (and_left bytes (h ∷ head) is) (λ none. cc none)
-reply_step s c r true [] bytes is some = body_step s c r bytes (is_passing r.decision) refl is
+reply_step s c r true head bytes is some = head_step s c r head bytes is (nat_le (length bytes) (length head)) refl
 
 stage_step : (s : State) (c : Client) (stage : Stage) (bytes : Bytes) → let e : Client = record c { interim_left = []; stage = stage } in
-    bytes ≡ take (length bytes) (offer s e) → ¬ (offer s e ≡ []) → Step e (said_by (length bytes) e) bytes
+    bytes ≡ take (length bytes) (offer s e) → ¬ (offer s e ≡ []) → Steps e (said_by (length bytes) e) bytes
 stage_step s c Undecided bytes is some = absurd (some refl)
 stage_step s c Waiting bytes is some = absurd (some refl)
 stage_step s c Passing bytes is some = absurd (some refl)
 stage_step s c (Answering r) bytes is some = reply_step s c r r.has_begun r.head_left bytes is some
 
 interim_step : (s : State) (c : Client) (interim bytes : Bytes) → let e : Client = record c { interim_left = interim } in
-    bytes ≡ take (length bytes) (offer s e) → ¬ (offer s e ≡ []) → Step e (said_by (length bytes) e) bytes
-interim_step s c (i ∷ interim) bytes is some = of_interim refl refl (and_left bytes (i ∷ interim) is) (λ none. cc none)
+    bytes ≡ take (length bytes) (offer s e) → ¬ (offer s e ≡ []) → Steps e (said_by (length bytes) e) bytes
+interim_step s c (i ∷ interim) bytes is some = of_one (of_interim refl refl (and_left bytes (i ∷ interim) is) (λ none. cc none))
 interim_step s c [] bytes is some = stage_step s c c.stage bytes is some
 
-pub steps : (s : State) (c : Client) (bytes : Bytes) → bytes ≡ take (length bytes) (offer s c) → ¬ (offer s c ≡ []) → Step c (said_by (length bytes) c) bytes
+pub steps : (s : State) (c : Client) (bytes : Bytes) → bytes ≡ take (length bytes) (offer s c) → ¬ (offer s c ≡ []) → Steps c (said_by (length bytes) c) bytes
 steps s c bytes is some = interim_step s c c.interim_left bytes is some
 
 -- ---- the reply goes on
@@ -190,7 +258,26 @@ head_said last il hl bytes left jl whole i j eq is =
     ap (λ l. ((last ++ bytes) ++ l) ++ left) j ∙ ap (λ l. l ++ left) (append-nil (last ++ bytes)) ∙ append_assoc last bytes left ∙ ap (λ l. last ++ l) eq
     ∙ ap (λ l. l ++ hl) (sym (append-nil last) ∙ ap (λ l. last ++ l) (sym i)) ∙ is
 
-pub now_said : (instances : List Instance) (next_instance : ℕ) (c d : Client) (last bytes : Bytes) → Step c d bytes → Now instances next_instance c last → Now instances next_instance d (last ++ bytes)
+-- where nothing was said
+nothing_said : (instances : List Instance) (next_instance : ℕ) (c d : Client) (last : Bytes) → d.front ≡ c.front → d.stage ≡ c.stage → d.interim_left ≡ c.interim_left → Now instances next_instance c last → Now instances next_instance d last
+nothing_said instances next_instance c d last front stage left (undecided at none is) = undecided (stage ∙ at) (left ∙ none) is
+nothing_said instances next_instance c d last front stage left (waiting (inl at) has is) =
+    waiting (inl (stage ∙ at)) (ap has_request front ∙ has) (ap (λ l. last ++ l) left ∙ is ∙ sym (ap interim_to front))
+nothing_said instances next_instance c d last front stage left (waiting (inr at) has is) =
+    waiting (inr (stage ∙ at)) (ap has_request front ∙ has) (ap (λ l. last ++ l) left ∙ is ∙ sym (ap interim_to front))
+nothing_said instances next_instance c d last front stage left (chosen r at isnt_on has is what) =
+    chosen r (stage ∙ at) isnt_on (ap has_request front ∙ has) (ap (λ l. last ++ l) left ∙ is ∙ sym (ap interim_to front)) (subst (λ f. Chosen instances next_instance f r) (sym front) what)
+nothing_said instances next_instance c d last front stage left (begun r at is_on has head body is rest what) =
+    begun r (stage ∙ at) is_on (ap has_request front ∙ has) head body (ap (λ l. (last ++ l) ++ r.head_left) left ∙ is ∙ at_front c.front d.front head body front) (at_end rest)
+    (subst (λ f. Begun f r head body) (sym front) what)
+  where
+    at_end : (body ≡ []) ⊎ ((c.interim_left ≡ []) × (r.head_left ≡ [])) → (body ≡ []) ⊎ ((d.interim_left ≡ []) × (r.head_left ≡ []))
+    at_end (inl none) = inl none
+    at_end (inr both) = inr (left ∙ both.0, both.1)
+
+now_said : (instances : List Instance) (next_instance : ℕ) (c d : Client) (last bytes : Bytes) → Step c d bytes → Now instances next_instance c last → Now instances next_instance d (last ++ bytes)
+now_said instances next_instance c d last bytes (of_nothing front stage left none) now =
+    subst (λ l. Now instances next_instance d l) (sym (ap (λ l. last ++ l) none ∙ append-nil last)) (nothing_said instances next_instance c d last front stage left now)
 now_said instances next_instance c d last bytes (of_interim front stage left some) now = interim_said instances next_instance c d last bytes front stage left some now
 now_said instances next_instance c d last bytes (of_head r left front at on stage il jl eq some) now =
     let m = midst instances next_instance c last r at on now in
@@ -214,20 +301,32 @@ now_said instances next_instance c d last bytes (of_body r front at on stage il 
     (inr (jl, hl))
     (subst (λ f. Begun f (record r { at = r.at + length bytes }) m.head (m.body ++ bytes)) (sym front) (body_more c.front r m.head m.body bytes isnt_on le m.what))
 
+pub now_are : (instances : List Instance) (next_instance : ℕ) (c d : Client) (last bytes : Bytes) → Steps c d bytes → Now instances next_instance c last → Now instances next_instance d (last ++ bytes)
+now_are instances next_instance c d last bytes (of_one step) now = now_said instances next_instance c d last bytes step now
+now_are instances next_instance c d last bytes (of_both e head body one two both) now =
+    subst (λ l. Now instances next_instance d l) (append_assoc last head body ∙ ap (λ l. last ++ l) (sym both))
+    (now_said instances next_instance e d (last ++ head) body two (now_said instances next_instance c e last head one now))
+
 -- nothing is read with it
 reply_reads : (n : ℕ) (c : Client) (r : Reply) (passing : Bool)
-    → Follows (elim passing as (λ x. Client) [ true ↦ on_passed (λ p. record p { pipe = without_first n p.pipe }) c | false ↦ record c { stage = Answering (record r { at = r.at + n }) } ]) c
-reply_reads n c r true = let q = on_passed-quiet (λ p. record p { pipe = without_first n p.pipe }) c in record { front = q.front; reads = q.reads }
+    → Follows (elim passing as (λ x. Client) [
+      | true ↦ on_passed (λ p. record p { pipe = without_first n p.pipe }) (record c { stage = Answering r })
+      | false ↦ record c { stage = Answering (record r { at = r.at + n }) }
+    ]) c
+reply_reads n c r true = let q = on_passed-quiet (λ p. record p { pipe = without_first n p.pipe }) (record c { stage = Answering r }) in record { front = q.front; reads = q.reads }
 reply_reads n c r false = still_follows _ c refl refl refl refl
 
-head_reads : (n : ℕ) (c : Client) (r : Reply) (empty : Bool)
-    → Follows (elim empty as (λ x. Client) [ false ↦ record c { stage = Answering (record r { head_left = drop n r.head_left }) } | true ↦ said_of_body n r c ]) c
-head_reads n c r false = still_follows _ c refl refl refl refl
-head_reads n c r true = reply_reads n c r (is_passing r.decision)
+head_reads : (n : ℕ) (c : Client) (r : Reply) (of_head : Bool)
+    → Follows (elim of_head as (λ x. Client) [
+      | true ↦ record c { stage = Answering (record r { head_left = drop n r.head_left }) }
+      | false ↦ said_of_body (n - length r.head_left) (record r { head_left = [] }) c
+    ]) c
+head_reads n c r true = still_follows _ c refl refl refl refl
+head_reads n c r false = reply_reads (n - length r.head_left) c (record r { head_left = [] }) (is_passing r.decision)
 
 stage_reads : (n : ℕ) (c : Client) (reply : Option Reply) → Follows (elim reply as (λ x. Client) [ None ↦ c | Some r ↦ said_of n r c ]) c
 stage_reads n c None = still_follows _ c refl refl refl refl
-stage_reads n c (Some r) = head_reads n c r (is_empty r.head_left)
+stage_reads n c (Some r) = head_reads n c r (nat_le n (length r.head_left))
 
 said_reads : (n : ℕ) (c : Client) (empty : Bool)
     → Follows (elim empty as (λ x. Client) [ false ↦ record c { interim_left = drop n c.interim_left } | true ↦ elim (reply_of c) as (λ y. Client) [ None ↦ c | Some r ↦ said_of n r c ] ]) c
@@ -237,7 +336,7 @@ said_reads n c true = stage_reads n c (reply_of c)
 said_follows : (n : ℕ) (c : Client) → Follows (said_by n c) c
 said_follows n c = said_reads n c (is_empty c.interim_left)
 
-pub story_said : {instances : List Instance} {next_instance : ℕ} (told : Told) (c : Client) (bytes : Bytes) → Step c (said_by (length bytes) c) bytes → Story instances next_instance told c
+pub story_said : {instances : List Instance} {next_instance : ℕ} (told : Told) (c : Client) (bytes : Bytes) → Steps c (said_by (length bytes) c) bytes → Story instances next_instance told c
     → Story instances next_instance (record told { said = told.said ++ bytes }) (said_by (length bytes) c)
 story_said {instances} {next_instance} told c bytes step story = record {
   requests = story.requests;
@@ -246,7 +345,7 @@ story_said {instances} {next_instance} told c bytes step story = record {
   last = story.last ++ bytes;
   all = ap (λ l. l ++ bytes) story.all ∙ append_assoc (concat story.replies) story.last bytes;
   place = place_on told.heard story.requests (said_by (length bytes) c) c (said_follows (length bytes) c) story.place;
-  now = now_said instances next_instance c (said_by (length bytes) c) story.last bytes step story.now;
+  now = now_are instances next_instance c (said_by (length bytes) c) story.last bytes step story.now;
 }
 
 -- ---- what is permitted

@@ -201,7 +201,7 @@ forced_Aim Own k = k Own
 forced_Aim (Filling x0 x1 x2) k = forced_Version x0 (λ x0'. forced_nat x1 (λ x1'. forced_nat x2 (λ x2'. k (Filling x0' x1' x2'))))
 
 unfoldable pub forced_Bound : Bound → (Bound → Out) → Out
-forced_Bound x k = forced_nat x.instance (λ instance'. forced_nat x.next (λ next'. forced_nat x.to (λ to'. forced_nat x.wanted (λ wanted'. k (record { instance = instance'; next = next'; to = to'; wanted = wanted' })))))
+forced_Bound x k = forced_nat x.instance (λ instance'. forced_nat x.next (λ next'. forced_nat x.to (λ to'. forced_nat x.wanted (λ wanted'. forced_Bool x.is_all (λ is_all'. k (record { instance = instance'; next = next'; to = to'; wanted = wanted'; is_all = is_all' }))))))
 
 unfoldable pub forced_Body : Body → (Body → Out) → Out
 forced_Body Pending k = k Pending

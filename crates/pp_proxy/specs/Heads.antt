@@ -33,6 +33,15 @@ is_full_answer Own status kind known = (status == 200) && names_tag (named_by ki
 is_full_answer (Hole v from to) status kind known = false
 is_full_answer Through status kind known = false
 
+-- "A server MAY ignore the Range header field" (RFC 7233, section 3.1): a part was asked for, and the whole comes; for another
+-- version than its ask names it has to (section 3.2)
+abbrev pub ignores_range : Kind → ℕ → Version → Bool
+ignores_range Whole status v = false
+ignores_range (Range first last) status v = status == 200
+ignores_range (AsHole first last tag) status v = (status == 200) && bytes_eq tag v.tag
+ignores_range (Check tag) status v = false
+ignores_range AsPassed status v = false
+
 -- a 304 for a row of this version: "If a 304 response indicates an entity not currently cached, then the cache MUST disregard the
 -- response"
 abbrev pub unchanged_for : List Field → Kind → Version → Unchanged

@@ -2,6 +2,7 @@
 use Rattle.std.specs.Prelude.{ℕ, Bool, true, false, ◌==◌, ◌&&◌, ◌||◌, not, nat_lt, List, Option, Some, None, option_map}
 use Rattle.std.specs.List.{list_any}
 use Rattle.pp_client.specs.Replies.{Reply, next_byte}
+use Rattle.pp_flow.specs.Brings.{is_soon}
 use Rattle.pp_objects.specs.Instances.{is_same_id}
 use Rattle.pp_objects.specs.declared.id.ObjectId.{ObjectId}
 use Rattle.pp_plan.specs.Need.{is_near}
@@ -39,12 +40,12 @@ next_of seat = elim seat.is_closing [ true ↦ None | false ↦ next_by (answer_
 -- ---- what is read on
 
 -- it comes soon enough
-abbrev pub is_next_near : ObjectId → ℕ → Option Next → Bool
-is_next_near id from None = false
-is_next_near id from (Some n) = is_same_id n.source id && is_near from n.at
+abbrev pub is_next_near : ObjectId → ℕ → Bool → Option Next → Bool
+is_next_near id from all None = false
+is_next_near id from all (Some n) = is_same_id n.source id && is_soon all from n.at
 
-abbrev pub has_reader_near : ObjectId → ℕ → List Seat → Bool
-has_reader_near id from seats = list_any (λ seat. is_next_near id from (next_of seat)) seats
+abbrev pub has_reader_near : ObjectId → ℕ → Bool → List Seat → Bool
+has_reader_near id from all seats = list_any (λ seat. is_next_near id from all (next_of seat)) seats
 
 -- what is kept has a reader near, or little of it is left, or where the last of its readers left is near, before it or behind
 abbrev pub is_worth_keeping : Bool → ℕ → ℕ → ℕ → Bool

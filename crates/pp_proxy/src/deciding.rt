@@ -8,12 +8,12 @@ use crate::front::{Asked, is_answerable};
 use crate::key::Key;
 use crate::seat::{Answer, Brought, Course, Seat, Stage};
 use crate::state::State;
+use crate::unseen::is_soon;
 use pp_client::{Begin, Current};
 use pp_flow::{Aim, EXCHANGES, Exchange};
 use pp_fresh::allows_guess;
 use pp_head::{RequestHead, Scratch};
 use pp_objects::ObjectId;
-use pp_plan::is_near;
 use pp_ranges::{Range, read_range};
 use pp_reply::{CONTINUE, ReplyKind, write_reply};
 use pp_valid::accepts_only_identity;
@@ -261,9 +261,11 @@ impl State {
             return false;
         };
         match e.bound {
-            Some((id, from, to)) => id == next.source
-                && from.max(next.at) < to.min(next.to)
-                && is_near(from, next.at),
+            Some((id, from, to, all)) => {
+                id == next.source
+                    && from.max(next.at) < to.min(next.to)
+                    && is_soon(all, from, next.at)
+            }
             None => !e.headed && self.asks_for(e, &next),
         }
     }

@@ -2,6 +2,7 @@
 // elsewhere (RFC 2616, section 8.1.4).
 ghost use Rattle.std.specs.Prelude.{◌≡◌};
 ghost use Rattle.pp_objects.specs.Instances.{is_same_id};
+ghost use Rattle.pp_flow.specs.Brings.{is_soon};
 ghost use Rattle.pp_proxy.specs.Unseen.{has_reader_near, is_next_near, is_unseen, is_worth_keeping, next_of};
 
 use crate::desk::Desk;
@@ -49,9 +50,9 @@ impl State {
     fn is_kept(&self, e: &Exchange, wanted: u64) -> bool {
         match e.bound {
             None => false,
-            Some((id, next, to)) => {
+            Some((id, next, to, all)) => {
                 is_worth_keeping(
-                    has_reader_near(self.seats.as_slice(), id, next),
+                    has_reader_near(self.seats.as_slice(), id, next, all),
                     next,
                     to,
                     wanted,
@@ -66,7 +67,7 @@ impl State {
             return;
         };
         let body = match e.bound {
-            Some((_, from, _)) => Body::Joining(from),
+            Some((_, from, _, _)) => Body::Joining(from),
             None if self.passed_by(&e).is_some() => Body::Relaying,
             None => Body::Dropping(0),
         };
@@ -98,25 +99,32 @@ impl State {
     /// Where the furthest follower of what the errand at this place is bound to stands.
     fn wanted_of(&self, place: usize) -> Option<u64> {
         let e = self.flow.get(self.errands.get(place)?.number)?;
-        let (id, _, _) = e.bound?;
+        let (id, _, _, _) = e.bound?;
         self.furthest(id)
     }
 }
 
 /// The next byte of a client that follows it comes soon enough.
-fn has_reader_near(seats: &[Seat], id: ObjectId, from: u64) -> bool
-    ensures { result ≡ has_reader_near id from seats.now }
+fn has_reader_near(seats: &[Seat], id: ObjectId, from: u64, all: bool) -> bool
+    ensures { result ≡ has_reader_near id from all seats.now }
 {
-    seats.iter().any(|seat| is_next_near(seat, id, from))
+    seats.iter().any(|seat| is_next_near(seat, id, from, all))
 }
 
-fn is_next_near(seat: &Seat, id: ObjectId, from: u64) -> bool
-    ensures { result ≡ is_next_near id from (next_of seat.now) }
+fn is_next_near(seat: &Seat, id: ObjectId, from: u64, all: bool) -> bool
+    ensures { result ≡ is_next_near id from all (next_of seat.now) }
 {
     match seat.next() {
         None => false,
-        Some(next) => is_same(next.source, id) && is_near(from, next.at),
+        Some(next) => is_same(next.source, id) && is_soon(all, from, next.at),
     }
+}
+
+/// What is far ahead comes too late, but from an origin that gives no ranges.
+pub(crate) fn is_soon(all: bool, from: u64, at: u64) -> bool
+    ensures { result ≡ is_soon all from at }
+{
+    all || is_near(from, at)
 }
 
 fn is_same(a: ObjectId, b: ObjectId) -> bool

@@ -164,7 +164,24 @@ fn what_is_still_to_come_of_a_body_comes_where_it_can_join(rt: HostRuntime) {
         let mut flow = Flow::new(rt.alloc()).expect(&rt, "no memory");
         assert_eq!(rt; begin(&mut flow, 7, b"http://h/b", Aim::Own), Some(0));
         place(&mut flow, 0, 50);
-        flow.bind(0, Some((bound, from, to)));
+        flow.bind(0, Some((bound, from, to, false)));
+        assert_eq!(rt;
+            cache.coming(&rt, &flow, id),
+            [span, NONE, NONE, NONE, NONE]
+        );
+    }
+}
+
+#[test]
+fn what_is_far_comes_where_the_origin_gives_no_ranges(rt: HostRuntime) {
+    let mut cache = Cache::new(&rt, rt.alloc());
+    let id = cache.settle(&rt, rt.alloc());
+    let cases: [(bool, (u64, u64)); 2] = [(false, (0, 1_048_577)), (true, (0, 3_000_000))];
+    for (all, span) in cases {
+        let mut flow = Flow::new(rt.alloc()).expect(&rt, "no memory");
+        assert_eq!(rt; begin(&mut flow, 7, b"http://h/b", Aim::Own), Some(0));
+        place(&mut flow, 0, 50);
+        flow.bind(0, Some((id, 0, 3_000_000, all)));
         assert_eq!(rt;
             cache.coming(&rt, &flow, id),
             [span, NONE, NONE, NONE, NONE]
@@ -193,8 +210,8 @@ fn spans_come_in_the_order_of_the_beginnings(rt: HostRuntime) {
     let asked = [(100, 101), (102, 103), (104, 105), NONE, NONE];
     assert_eq!(rt; cache.coming(&rt, &flow, id), asked);
     // A response that is passed is bound to nothing, whatever is said of it.
-    flow.bind(3, Some((id, 0, LENGTH)));
-    flow.bind(1, Some((id, 0, LENGTH)));
+    flow.bind(3, Some((id, 0, LENGTH, false)));
+    flow.bind(1, Some((id, 0, LENGTH, false)));
     assert_eq!(rt;
         cache.coming(&rt, &flow, id),
         [(100, 101), (0, LENGTH), (102, 103), (104, 105), NONE]
