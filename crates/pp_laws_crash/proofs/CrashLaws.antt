@@ -58,7 +58,7 @@ start_rest = record {
     by name (Some c) (inl bad) = absurd bad
     by name (Some c) (inr bad) = absurd bad
 
-start_inv : (terms : List Term) → Inv (start terms)
+pub start_inv : (terms : List Term) → Inv (start terms)
 start_inv terms = record { disk = idle start_rest no_agenda refl; owed = λ isnt. refl; few = sixteen }
 
 load_so : (s : State) (h : Happening) → Rows s.instances s.next_instance s.chunks → Inv s → IsPermitted s h → LoadWasSent s h
@@ -100,14 +100,14 @@ load_so s (Noted (Loaded key tag n i)) rows h is = load_was_sent s key tag n i r
 load_so s Stopped rows h is = tt
 
 -- what is loaded counts
-abbrev since : Since
+abbrev pub since : Since
 since = record { old = []; counts_loads = true; excepts = None }
 
-record Along (s : State) (log : Log) : Type 0 where
-  loads : LoadsWhatWasSent s log
-  inv : Inv (after_all s log)
+pub record Along (s : State) (log : Log) : Type 0 where
+  pub loads : LoadsWhatWasSent s log
+  pub inv : Inv (after_all s log)
 
-one_step : (s : State) (h : Happening) → IsPermitted s h → Sound since s → Inv s → LoadWasSent s h × Inv (after s h)
+pub one_step : (s : State) (h : Happening) → IsPermitted s h → Sound since s → Inv s → LoadWasSent s h × Inv (after s h)
 one_step s h is sound inv = (
   load_so s h (facts_of sound).rows inv is,
   changed_inv s inv h (λ x i. (facts_of (come_to-sound Keeping s sound)).held refl x i) is,
@@ -120,7 +120,7 @@ goes_along s (h ∷ log) lawful sound inv =
     let rest = goes_along (after s h) log lawful.1 (after-sound s h refl (λ counts. step.0) lawful.0 sound) step.1 in
     record { loads = (step.0, rest.loads); inv = rest.inv }
 
-all_along : (terms : List Term) (log : Log) → Lawful terms log → Along (start terms) log
+pub all_along : (terms : List Term) (log : Log) → Lawful terms log → Along (start terms) log
 all_along terms log lawful = goes_along (start terms) log lawful (start-sound since terms refl) (start_inv terms)
 
 -- ---- the laws

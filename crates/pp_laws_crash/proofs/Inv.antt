@@ -83,7 +83,7 @@ pub ahead_none : {sent : List Sent} {recovers : Bool} {entries : List Entry} {na
 ahead_none b r = record { during = b; along = λ rec. shut_of r; last = r }
 
 -- by name
-same_or : {A : Type 0} (n m : Bytes) → (n ≡ m → A) → ((n ≡ m → ⊥) → A) → A
+pub same_or : {A : Type 0} (n m : Bytes) → (n ≡ m → A) → ((n ≡ m → ⊥) → A) → A
 same_or {A} n m is isnt = by (bytes_eq n m) refl
   where
     by : (b : Bool) → bytes_eq n m ≡ b → A

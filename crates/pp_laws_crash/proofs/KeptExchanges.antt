@@ -313,6 +313,7 @@ more_sent o s part p = record {
   acknowledged_is = p.acknowledged_is;
   settings_is = p.settings_is;
   recovers_is = p.recovers_is;
+  moved = p.moved;
   owed_in = p.owed_in;
   were = p.were;
   stay = p.stay;

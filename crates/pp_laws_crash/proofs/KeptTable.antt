@@ -67,6 +67,7 @@ staled_parts o s key p = record {
   acknowledged_is = p.acknowledged_is;
   settings_is = p.settings_is;
   recovers_is = p.recovers_is;
+  moved = p.moved;
   owed_in = p.owed_in;
   were = λ e i. were e (in_map (now_at (is_entry_of key) staled) e s.entries i);
   stay = λ e i. stay e (p.stay e i);

@@ -1,5 +1,5 @@
 -- Replies, the clock, the phases of a turn and its end keep what the disk is about.
-use Rattle.std.proofs.Common.{◌≡◌, refl, ℕ, zero, suc, ◌+◌, nat_lt, max, Bool, true, false, not, ◌==◌, ◌&&◌, ◌||◌, List, [], ◌∷◌, ◌++◌, map, length, Option, Some, None, sym, subst, ap, ◌∙◌}
+use Rattle.std.proofs.Common.{◌≡◌, refl, ℕ, zero, suc, ◌+◌, nat_lt, max, Bool, true, false, not, ◌==◌, ◌&&◌, ◌||◌, List, [], ◌∷◌, ◌++◌, map, length, Option, Some, None, inr, sym, subst, ap, ◌∙◌}
 use Rattle.std.specs.List.{list_any}
 use Rattle.pp_world.specs.declared.event.Wants.{Wants}
 use Rattle.pp_world.specs.declared.note.Decision.{Decision}
@@ -125,6 +125,7 @@ in_turn phase s owed recovered turns was p = record {
   acknowledged_is = p.acknowledged_is;
   settings_is = p.settings_is;
   recovers_is = recovered ∙ sym was ∙ p.recovers_is;
+  moved = inr turns;
   owed_in = λ isnt. let both : true ≡ false = sym turns ∙ isnt in absurd (cc both);
   were = p.were;
   stay = p.stay;
@@ -200,6 +201,7 @@ owing-kept {o} owed n s is h = kept (record {
   acknowledged_is = (parts_of h).acknowledged_is;
   settings_is = (parts_of h).settings_is;
   recovers_is = (parts_of h).recovers_is;
+  moved = (parts_of h).moved;
   owed_in = λ isnt. let both : true ≡ false = sym (ap takes_turns is) ∙ isnt in absurd (cc both);
   were = (parts_of h).were;
   stay = (parts_of h).stay;
@@ -220,6 +222,7 @@ paid-kept {o} s h = regained-kept _ (kept (record {
   acknowledged_is = (parts_of h).acknowledged_is;
   settings_is = (parts_of h).settings_is;
   recovers_is = (parts_of h).recovers_is;
+  moved = (parts_of h).moved;
   owed_in = λ isnt. refl;
   were = (parts_of h).were;
   stay = (parts_of h).stay;

@@ -28,7 +28,7 @@ use Rattle.pp_laws_crash.proofs.Views.{began_failed, done_failed, during_map, le
 
 -- ---- one file stands under a name
 
-one_slot : (a b : Bytes) → Some (settled a) ∷ [] ≡ Some (settled b) ∷ [] → a ≡ b
+pub one_slot : (a b : Bytes) → Some (settled a) ∷ [] ≡ Some (settled b) ∷ [] → a ≡ b
 unfolding settled
 one_slot a b is = let same : settled a ≡ settled b = cc is in ap (λ (f : Stored). f.bytes) same
 
@@ -109,6 +109,10 @@ module _ {sent : List Sent} {entries : List Entry} {name : Bytes} {v : View} (re
   sealed : KeepsIn (claimed sent) held.lies.block (len_of e) (first + count) (done_view name v (seal_ops name (len_of e) first count bytes))
   sealed = seal_done (claimed sent) held.lies.block (len_of e) first count bytes held.bytes kept holds run name v held.slot rests.sound
 
+  -- at each moment of it a crash leaves an entry that reaches as far
+  pub seal_each : During name v (seal_ops name (len_of e) first count bytes) (AllLeft (IsHonest (claimed sent) held.lies.block (len_of e) least))
+  seal_each = seal_during (claimed sent) held.lies.block (len_of e) first count bytes held.bytes kept holds run name v held.slot rests.sound
+
   -- an entry under the name, once it was extended
   sealed_as : (d x : Entry) → AreOne e x → d.key ≡ x.key → d.version ≡ x.version → (d.is_stale ≡ false → d.extent ≡ end) → Held sent false d (done_view name v (seal_ops name (len_of e) first count bytes))
   sealed_as d x one key version extent =
@@ -123,7 +127,7 @@ module _ {sent : List Sent} {entries : List Entry} {name : Bytes} {v : View} (re
   seal_ahead key tag n is_row = record {
     during = during_map name v (seal_ops name (len_of e) first count bytes) (AllLeft (IsHonest (claimed sent) held.lies.block (len_of e) least)) (Backed sent name)
         (λ w all. left_map (IsHonest (claimed sent) held.lies.block (len_of e) least) (BackedAt sent name) w (λ file h. honest_backed sent held.lies.block (len_of e) least name held.lies.row file held.lies.reads row_length h) all)
-        (seal_during (claimed sent) held.lies.block (len_of e) first count bytes held.bytes kept holds run name v held.slot rests.sound);
+        seal_each;
     along = along_plain sent entries name (Rests sent false entries name) v (seal_ops name (len_of e) first count bytes) (refl, (refl, (refl, (refl, tt))));
     last = record { sound = sealed.sound; held = λ d i is. by d (in_change (is_kept_row_of key) (extended end) d entries i) is };
   }

@@ -107,15 +107,27 @@ either_is : (a b : Bool) → (a || b) ≡ true → (a ≡ true) ⊎ (b ≡ true)
 either_is true b is = inl refl
 either_is false b is = inr is
 
-repair_plan : (s : State) (name : Bytes) (at : ℕ) (bytes : Bytes) → InvOf s.sent s.disk s.agenda None s.closed_names true s.entries → may_repair s name ≡ true → list_any (closes_strays s name at bytes) s.entries ≡ true
-    → InvOf s.sent s.disk (record { name = name; todo = Do (Write name at bytes) ∷ Do (Sync name) ∷ [] }) None s.closed_names true s.entries
+-- an entry has the name, and these are gates behind the one that is next
+pub record Repairs (s : State) (name : Bytes) (at : ℕ) (bytes : Bytes) : Type 0 where
+  pub entry : Entry
+  pub there : IsIn entry s.entries
+  pub named : entry.name ≡ name
+  pub sound : (view_of name s.disk).failed ≡ false
+  pub stands : Loose s.sent entry (view_of name s.disk)
+  pub stray : IsStray name at bytes stands.gates (len_of entry)
+
+pub repair_plan : (s : State) (name : Bytes) (at : ℕ) (bytes : Bytes) → InvOf s.sent s.disk s.agenda None s.closed_names true s.entries → may_repair s name ≡ true → list_any (closes_strays s name at bytes) s.entries ≡ true
+    → InvOf s.sent s.disk (record { name = name; todo = Do (Write name at bytes) ∷ Do (Sync name) ∷ [] }) None s.closed_names true s.entries × Repairs s name at bytes
 repair_plan s name at bytes h may strays = by (any_in (closes_strays s name at bytes) s.entries strays)
   where
     where_is : (s.agenda.todo ≡ []) ⊎ (s.agenda.name ≡ name)
     where_is = ⊎_elim (λ (empty : is_empty s.agenda.todo ≡ true). inl (empty_is s.agenda.todo empty)) (λ (is : bytes_eq s.agenda.name name ≡ true). inr (same_name s.agenda.name name is)) (either_is (is_empty s.agenda.todo) _ may)
 
-    by : (e : Entry) × IsIn e s.entries × (closes_strays s name at bytes e ≡ true) → InvOf s.sent s.disk (record { name = name; todo = Do (Write name at bytes) ∷ Do (Sync name) ∷ [] }) None s.closed_names true s.entries
-    by (e, i, closes) = replanned h _ where_is isnt (refl, (refl, tt)) (shut_ahead at bytes shuts e i named (λ d j is k. stray_of s name at bytes e d named (shuts.loose e i named) k gates))
+    by : (e : Entry) × IsIn e s.entries × (closes_strays s name at bytes e ≡ true) → InvOf s.sent s.disk (record { name = name; todo = Do (Write name at bytes) ∷ Do (Sync name) ∷ [] }) None s.closed_names true s.entries × Repairs s name at bytes
+    by (e, i, closes) = (
+      replanned h _ where_is isnt (refl, (refl, tt)) (shut_ahead at bytes shuts e i named (λ d j is k. stray_of s name at bytes e d named (shuts.loose e i named) k gates)),
+      record { entry = e; there = i; named = named; sound = shuts.sound; stands = shuts.loose e i named; stray = stray_of s name at bytes e e named (shuts.loose e i named) (shuts.loose e i named) gates },
+    )
       where
         three : (is_named name e && nat_lt 0 (length bytes) && list_all (λ b. b == 0) bytes) ≡ true
         three = first_holds (is_named name e && nat_lt 0 (length bytes) && list_all (λ b. b == 0) bytes) _ closes
@@ -147,7 +159,7 @@ module _ (s : State) (listed : recovers s.phase ≡ true) (idle_so : not (is_som
 
       by : (a b : Bool) → may_repair s name ≡ a → list_any (closes_strays s name at bytes) s.entries ≡ b
           → Inv (begin_op (Write name at bytes) (elim (a && b) as (λ c. Option Agenda) [ true ↦ Some (record { name = name; todo = Do (Write name at bytes) ∷ Do (Sync name) ∷ [] }) | false ↦ None ]) s)
-      by true true one two = begin_inv s (Write name at bytes) _ (record { rest = Do (Sync name) ∷ []; todo = refl }) (back (repair_plan s name at bytes now one two)) h.owed h.few
+      by true true one two = begin_inv s (Write name at bytes) _ (record { rest = Do (Sync name) ∷ []; todo = refl }) (back (repair_plan s name at bytes now one two).0) h.owed h.few
       by true false one two = begin_none s (Write name at bytes) h
       by false b one two = begin_none s (Write name at bytes) h
 

@@ -193,7 +193,7 @@ pub record IsNoted (key : Bytes) (extent : ℕ) (todo : List Todo) : Type 0 wher
   pub rest : List Todo
   pub is : todo ≡ Acknowledge key tag n extent ∷ rest
 
-noted_by : (key tag : Bytes) (n extent : ℕ) (todo : List Todo) → is_acknowledged_as key tag n extent todo ≡ true → IsNoted key extent todo
+pub noted_by : (key tag : Bytes) (n extent : ℕ) (todo : List Todo) → is_acknowledged_as key tag n extent todo ≡ true → IsNoted key extent todo
 noted_by key tag n extent [] is = absurd (cc is)
 noted_by key tag n extent (Do op ∷ todo) is = absurd (cc is)
 noted_by key tag n extent (Enter e ∷ todo) is = absurd (cc is)
@@ -222,10 +222,10 @@ kept_step key tag n extent s idle_so is h =
 
 -- ---- an entry is gone
 
-not_of : (key : Bytes) (entries : List Entry) (e : Entry) → IsIn e (without (is_entry_of key) entries) → e.key ≡ key → ⊥
+pub not_of : (key : Bytes) (entries : List Entry) (e : Entry) → IsIn e (without (is_entry_of key) entries) → e.key ≡ key → ⊥
 not_of key entries e i is = differs e.key key (not_true (is_entry_of key e) (in_filter (λ d. not (is_entry_of key d)) e entries i).1) is
 
-of_in : (key : Bytes) (entries : List Entry) (e : Entry) → IsIn e (without (is_entry_of key) entries) → IsIn e entries
+pub of_in : (key : Bytes) (entries : List Entry) (e : Entry) → IsIn e (without (is_entry_of key) entries) → IsIn e entries
 of_in key entries e i = (in_filter (λ d. not (is_entry_of key d)) e entries i).0
 
 removed_at : (s : State) (e : Entry) → IsIn e s.entries → AtRest s.sent s.disk s.closed_names false s.entries → (closed : Bool) → has_text e.name s.closed_names ≡ closed
@@ -261,7 +261,7 @@ gone_step key s turns idle_so empty h = by (find (is_entry_of key) s.entries) re
 abbrev pub HoldsAll : State → Type 0
 HoldsAll s = (x : Instance) → IsIn x s.instances → HeldOf s.sent x.key x.version x.id s.chunks
 
-planned_by : (s : State) (op : DiskOp) (x : Instance) (a : Agenda) → IsIn x s.instances → HoldsAll s → s.settings.disk_run ≤ 64 → AtRest s.sent s.disk s.closed_names false s.entries → plan_of s op x ≡ Some a → InvOf s.sent s.disk a None s.closed_names false s.entries
+pub planned_by : (s : State) (op : DiskOp) (x : Instance) (a : Agenda) → IsIn x s.instances → HoldsAll s → s.settings.disk_run ≤ 64 → AtRest s.sent s.disk s.closed_names false s.entries → plan_of s op x ≡ Some a → InvOf s.sent s.disk a None s.closed_names false s.entries
 planned_by s (Draft bytes) x a i held few rest is = draft_inv s x a (held x i) rest is
 planned_by s (Write name at bytes) x a i held few rest is = seal_inv s x a few (held x i) rest is
 planned_by s SyncDraft x a i held few rest is = absurd (cc is)
@@ -269,7 +269,7 @@ planned_by s (Publish name) x a i held few rest is = absurd (cc is)
 planned_by s (Sync name) x a i held few rest is = absurd (cc is)
 planned_by s (Remove name) x a i held few rest is = absurd (cc is)
 
-turn_begun : (s : State) (op : DiskOp) (a : Agenda) → HoldsAll s → recovers s.phase ≡ false → s.under_way ≡ None → Inv s → Begun s op a → Inv (begin_op op (Some a) s)
+pub turn_begun : (s : State) (op : DiskOp) (a : Agenda) → HoldsAll s → recovers s.phase ≡ false → s.under_way ≡ None → Inv s → Begun s op a → Inv (begin_op op (Some a) s)
 turn_begun s op a held turns idle_so h (begun_goes is first) =
     begin_inv s op a first (subst (λ b. InvOf s.sent s.disk b None s.closed_names (recovers s.phase) s.entries) (sym is) (subst (λ u. InvOf s.sent s.disk s.agenda u s.closed_names (recovers s.phase) s.entries) idle_so h.disk)) h.owed h.few
 turn_begun s op a held turns idle_so h (begins empty x i is first) =
