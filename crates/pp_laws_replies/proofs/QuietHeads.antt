@@ -1,5 +1,5 @@
 -- What an origin sends leaves what was said of each reply as it is: heads, bodies, ends.
-use Rattle.std.proofs.Common.{refl, ℕ, zero, suc, Bool, true, false, ◌==◌, ◌&&◌, ◌||◌, List, [], ◌∷◌, ◌++◌, drop, length, Option, Some, None, inl, le_refl, zero-le}
+use Rattle.std.proofs.Common.{refl, ℕ, zero, suc, Bool, true, false, ◌==◌, ◌&&◌, ◌||◌, List, [], ◌∷◌, ◌++◌, drop, length, Option, Some, None, le_refl}
 use Rattle.std.specs.List.{list_any}
 use Rattle.pp_framing.specs.Body.{Outcome, Done, Going, Bad}
 use Rattle.pp_framing.specs.Framing.{rule_of}
@@ -24,7 +24,7 @@ use Rattle.pp_law.specs.State.{State, Answer, Body, Brought, Client, Conn, Excha
 use Rattle.pp_law.specs.Table.{row, instance}
 use Rattle.pp_law.specs.ThroughHeads.{invalidates, key_named, is_same_host, clear_named, clear_each, places_named, invalidated, disproves, reads, disproved, through_head}
 use Rattle.pp_laws_replies.proofs.Cases.{by_aim_of, by_outcome, by_result, each_of, when}
-use Rattle.pp_laws_replies.proofs.HeardPlaces.{read}
+use Rattle.pp_laws_replies.proofs.HeardPlaces.{none_left, read}
 use Rattle.pp_laws_replies.proofs.Quiet.{Quiet, Quietly, clients_changed, facts_of, quietly}
 use Rattle.pp_laws_replies.proofs.QuietAsks.{close_conn-quiet, end_exchange-quiet, fail-quiet, lose_attempt-quiet, on_client_of-quiet, on_conn-quiet, on_exchange-quiet, on_passed-quiet, parts_same, without_shared_row-by}
 use Rattle.pp_laws_replies.proofs.QuietRows.{clear-quiet, enter-quiet, make_row-quiet, mark_row-quiet, note_use-quiet, on_instance-quiet}
@@ -33,7 +33,7 @@ use Rattle.pp_laws_replies.proofs.QuietRows.{clear-quiet, enter-quiet, make_row-
 
 pub tell-quiet : {o : State} (e : Exchange) (brought : Brought) (s : State) → Quietly o s → Quietly o (tell e brought s)
 unfolding tell
-tell-quiet {o} e brought s h = quietly (clients_changed o s (is_asked_by e) (λ c. record c { brought = brought }) (λ c is. parts_same _ c refl refl refl refl refl refl refl) (facts_of h))
+tell-quiet {o} e brought s h = quietly (clients_changed o s (is_asked_by e) (λ c. record c { brought = brought }) (λ c is. parts_same _ c refl refl refl refl refl refl refl refl) (facts_of h))
 
 use_body-quiet : {o : State} (e : Exchange) (body : Body) (s : State) → Quietly o s → Quietly o (use_body e body s)
 unfolding use_body
@@ -162,7 +162,7 @@ unfolding pour
 pour-quiet e f s h = on_client_of-quiet e (on_passed (λ p. record p { pipe = f p.pipe })) s (on_passed-quiet (λ p. record p { pipe = f p.pipe })) h
 
 skipping-quiet : (c : Client) → Quiet (skipping c) c
-skipping-quiet c = record { number = refl; front = refl; stage = refl; interim = refl; reads = read (skipping c) c c.body_left (inl (le_refl c.body_left)) refl zero-le refl }
+skipping-quiet c = record { number = refl; front = refl; stage = refl; interim = refl; closes = refl; reads = read (skipping c) c c.body_left (le_refl c.body_left) refl (none_left c.body_left) refl }
 
 skip_body-quiet : {o : State} (e : Exchange) (s : State) → Quietly o s → Quietly o (skip_body e s)
 unfolding skip_body

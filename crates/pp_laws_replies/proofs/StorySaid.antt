@@ -38,7 +38,7 @@ pub data Step (c d : Client) (bytes : Bytes) : Type 0 where
 -- or the last of the head, and behind it of the body
 pub data Steps (c d : Client) (bytes : Bytes) : Type 0 where
   of_one : Step c d bytes → Steps c d bytes
-  of_both : (e : Client) (head body : Bytes) → Step c e head → Step e d body → bytes ≡ head ++ body → Steps c d bytes
+  of_both : (e : Client) (head body : Bytes) → e.closes ≡ c.closes → Step c e head → Step e d body → bytes ≡ head ++ body → Steps c d bytes
 
 -- what is said of some bytes, and what is left of them
 and_left : (bytes left : Bytes) → bytes ≡ take (length bytes) left → bytes ++ drop (length bytes) left ≡ left
@@ -144,7 +144,7 @@ past_head : (s : State) (c : Client) (r : Reply) (head body bytes : Bytes) → b
 unfolding at_head behind_head body_taken
 past_head s c r [] body bytes both is = subst (λ l. Steps (at_body c r) (body_taken (length body) c r) l) (sym both) (of_one (body_step s c r body (is_passing r.decision) refl is))
 past_head s c r (h ∷ head) body bytes both is =
-    of_both (at_body c r) (h ∷ head) body
+    of_both (at_body c r) (h ∷ head) body refl
     (of_head (record r { has_begun = true; head_left = h ∷ head }) [] refl refl refl refl refl refl (append-nil (h ∷ head)) (λ none. cc none))
     (body_step s c r body (is_passing r.decision) refl is) both
 
@@ -185,28 +185,28 @@ grown last bytes il left is = append_assoc last bytes left ∙ ap (λ l. last ++
 same_reply : (c : Client) (r q : Reply) → c.stage ≡ Answering r → c.stage ≡ Answering q → r ≡ q
 same_reply c r q one two = let both : Answering r ≡ Answering q = sym one ∙ two in cc
 
-head_moved : (f : Front) (r : Reply) (left head body : Bytes) → Begun f r head body → Begun f (record r { head_left = left }) head body
-head_moved f r left head body (a_page status isnt_on to is none) = a_page status isnt_on to is none
-head_moved f r left head body (a_kept q front isnt_on k long) = a_kept q front isnt_on k long
-head_moved f r left head body (a_passed q front is_on is) = a_passed q front is_on is
+head_moved : (f : Front) (closes : Bool) (r : Reply) (left head body : Bytes) → Begun f closes r head body → Begun f closes (record r { head_left = left }) head body
+head_moved f closes r left head body (a_page status isnt_on to is none end) = a_page status isnt_on to is none end
+head_moved f closes r left head body (a_kept q front isnt_on k long end) = a_kept q front isnt_on k long end
+head_moved f closes r left head body (a_passed q front is_on is end) = a_passed q front is_on is end
 
-passed_more : (f : Front) (r : Reply) (head body bytes : Bytes) → is_passing r.decision ≡ true → Begun f r head body → Begun f r head (body ++ bytes)
-passed_more f r head body bytes is_on (a_page status isnt_on to is none) = let both : false ≡ true = sym isnt_on ∙ is_on in absurd (cc both)
-passed_more f r head body bytes is_on (a_kept q front isnt_on k long) = let both : false ≡ true = sym isnt_on ∙ is_on in absurd (cc both)
-passed_more f r head body bytes is_on (a_passed q front too is) = a_passed q front too is
+passed_more : (f : Front) (closes : Bool) (r : Reply) (head body bytes : Bytes) → is_passing r.decision ≡ true → Begun f closes r head body → Begun f closes r head (body ++ bytes)
+passed_more f closes r head body bytes is_on (a_page status isnt_on to is none end) = let both : false ≡ true = sym isnt_on ∙ is_on in absurd (cc both)
+passed_more f closes r head body bytes is_on (a_kept q front isnt_on k long end) = let both : false ≡ true = sym isnt_on ∙ is_on in absurd (cc both)
+passed_more f closes r head body bytes is_on (a_passed q front too is end) = a_passed q front too is end
 
 no_bytes : (bytes : Bytes) (n : ℕ) → length bytes ≤ 0 - n → bytes ≡ []
 no_bytes [] n le = refl
 no_bytes (b ∷ bytes) n le = let long : suc (length bytes) ≤ 0 - n = le in absurd (omega arith)
 
-body_more : (f : Front) (r : Reply) (head body bytes : Bytes) → is_passing r.decision ≡ false → length bytes ≤ r.to - r.at → Begun f r head body → Begun f (record r { at = r.at + length bytes }) head (body ++ bytes)
-body_more f r head body bytes isnt_on le (a_page status off to is none) =
-    a_page status off to is (ap (λ l. l ++ bytes) none ∙ no_bytes bytes r.at (subst (λ n. length bytes ≤ n - r.at) to le))
-body_more f r head body bytes isnt_on le (a_kept q front off k long) = a_kept q front off k (sym (sum (length body) (length bytes) (length (body ++ bytes)) r.to r.at le (length-append body bytes)) ∙ long)
+body_more : (f : Front) (closes : Bool) (r : Reply) (head body bytes : Bytes) → is_passing r.decision ≡ false → length bytes ≤ r.to - r.at → Begun f closes r head body → Begun f closes (record r { at = r.at + length bytes }) head (body ++ bytes)
+body_more f closes r head body bytes isnt_on le (a_page status off to is none end) =
+    a_page status off to is (ap (λ l. l ++ bytes) none ∙ no_bytes bytes r.at (subst (λ n. length bytes ≤ n - r.at) to le)) end
+body_more f closes r head body bytes isnt_on le (a_kept q front off k long end) = a_kept q front off k (sym (sum (length body) (length bytes) (length (body ++ bytes)) r.to r.at le (length-append body bytes)) ∙ long) end
   where
     sum : (a b m to at : ℕ) → b ≤ to - at → m ≡ a + b → a + (to - at) ≡ m + (to - (at + b))
     sum a b m to at small eq = omega arith
-body_more f r head body bytes isnt_on le (a_passed q front is_on is) = let both : false ≡ true = sym isnt_on ∙ is_on in absurd (cc both)
+body_more f closes r head body bytes isnt_on le (a_passed q front is_on is end) = let both : false ≡ true = sym isnt_on ∙ is_on in absurd (cc both)
 
 -- both were said
 both_said : (last il hl whole bytes jl kl : Bytes) → il ≡ [] → hl ≡ [] → jl ≡ [] → kl ≡ [] → (last ++ il) ++ hl ≡ whole → ((last ++ bytes) ++ jl) ++ kl ≡ whole ++ bytes
@@ -222,7 +222,7 @@ pub record InMidst (c : Client) (last : Bytes) (r : Reply) : Type 0 where
   pub body : Bytes
   pub is : (last ++ c.interim_left) ++ r.head_left ≡ (interim_to c.front ++ head) ++ body
   pub rest : (body ≡ []) ⊎ ((c.interim_left ≡ []) × (r.head_left ≡ []))
-  pub what : Begun c.front r head body
+  pub what : Begun c.front c.closes r head body
 
 midst : (instances : List Instance) (next_instance : ℕ) (c : Client) (last : Bytes) (r : Reply) → c.stage ≡ Answering r → r.has_begun ≡ true → Now instances next_instance c last → InMidst c last r
 midst instances next_instance c last r at on (undecided stage none is) = let both : Undecided ≡ Answering r = sym stage ∙ at in absurd (cc both)
@@ -236,18 +236,18 @@ midst instances next_instance c last r at on (begun q stage is_on has head body 
 at_front : (f g : Front) (head body : Bytes) → g ≡ f → (interim_to f ++ head) ++ body ≡ (interim_to g ++ head) ++ body
 at_front f g head body is = sym (ap (λ h. (interim_to h ++ head) ++ body) is)
 
-interim_said : (instances : List Instance) (next_instance : ℕ) (c d : Client) (last bytes : Bytes) → d.front ≡ c.front → d.stage ≡ c.stage → bytes ++ d.interim_left ≡ c.interim_left → ¬ (c.interim_left ≡ [])
+interim_said : (instances : List Instance) (next_instance : ℕ) (c d : Client) (last bytes : Bytes) → d.closes ≡ c.closes → d.front ≡ c.front → d.stage ≡ c.stage → bytes ++ d.interim_left ≡ c.interim_left → ¬ (c.interim_left ≡ [])
     → Now instances next_instance c last → Now instances next_instance d (last ++ bytes)
-interim_said instances next_instance c d last bytes front stage left some (undecided at none is) = absurd (some none)
-interim_said instances next_instance c d last bytes front stage left some (waiting (inl at) has is) =
+interim_said instances next_instance c d last bytes end front stage left some (undecided at none is) = absurd (some none)
+interim_said instances next_instance c d last bytes end front stage left some (waiting (inl at) has is) =
     waiting (inl (stage ∙ at)) (ap has_request front ∙ has) (grown last bytes c.interim_left d.interim_left left ∙ is ∙ sym (ap interim_to front))
-interim_said instances next_instance c d last bytes front stage left some (waiting (inr at) has is) =
+interim_said instances next_instance c d last bytes end front stage left some (waiting (inr at) has is) =
     waiting (inr (stage ∙ at)) (ap has_request front ∙ has) (grown last bytes c.interim_left d.interim_left left ∙ is ∙ sym (ap interim_to front))
-interim_said instances next_instance c d last bytes front stage left some (chosen r at isnt_on has is what) =
-    chosen r (stage ∙ at) isnt_on (ap has_request front ∙ has) (grown last bytes c.interim_left d.interim_left left ∙ is ∙ sym (ap interim_to front)) (subst (λ f. Chosen instances next_instance f r) (sym front) what)
-interim_said instances next_instance c d last bytes front stage left some (begun r at is_on has head body is rest what) =
+interim_said instances next_instance c d last bytes end front stage left some (chosen r at isnt_on has is what) =
+    chosen r (stage ∙ at) isnt_on (ap has_request front ∙ has) (grown last bytes c.interim_left d.interim_left left ∙ is ∙ sym (ap interim_to front)) (subst (λ f. Chosen instances next_instance f d.closes r) (sym front) (subst (λ t. Chosen instances next_instance c.front t r) (sym end) what))
+interim_said instances next_instance c d last bytes end front stage left some (begun r at is_on has head body is rest what) =
     begun r (stage ∙ at) is_on (ap has_request front ∙ has) head body (ap (λ l. l ++ r.head_left) (grown last bytes c.interim_left d.interim_left left) ∙ is ∙ at_front c.front d.front head body front) (inl (none rest))
-    (subst (λ f. Begun f r head body) (sym front) what)
+    (subst (λ f. Begun f d.closes r head body) (sym front) (subst (λ t. Begun c.front t r head body) (sym end) what))
   where
     none : (body ≡ []) ⊎ ((c.interim_left ≡ []) × (r.head_left ≡ [])) → body ≡ []
     none (inl is_none) = is_none
@@ -259,53 +259,53 @@ head_said last il hl bytes left jl whole i j eq is =
     ∙ ap (λ l. l ++ hl) (sym (append-nil last) ∙ ap (λ l. last ++ l) (sym i)) ∙ is
 
 -- where nothing was said
-nothing_said : (instances : List Instance) (next_instance : ℕ) (c d : Client) (last : Bytes) → d.front ≡ c.front → d.stage ≡ c.stage → d.interim_left ≡ c.interim_left → Now instances next_instance c last → Now instances next_instance d last
-nothing_said instances next_instance c d last front stage left (undecided at none is) = undecided (stage ∙ at) (left ∙ none) is
-nothing_said instances next_instance c d last front stage left (waiting (inl at) has is) =
+nothing_said : (instances : List Instance) (next_instance : ℕ) (c d : Client) (last : Bytes) → d.closes ≡ c.closes → d.front ≡ c.front → d.stage ≡ c.stage → d.interim_left ≡ c.interim_left → Now instances next_instance c last → Now instances next_instance d last
+nothing_said instances next_instance c d last end front stage left (undecided at none is) = undecided (stage ∙ at) (left ∙ none) is
+nothing_said instances next_instance c d last end front stage left (waiting (inl at) has is) =
     waiting (inl (stage ∙ at)) (ap has_request front ∙ has) (ap (λ l. last ++ l) left ∙ is ∙ sym (ap interim_to front))
-nothing_said instances next_instance c d last front stage left (waiting (inr at) has is) =
+nothing_said instances next_instance c d last end front stage left (waiting (inr at) has is) =
     waiting (inr (stage ∙ at)) (ap has_request front ∙ has) (ap (λ l. last ++ l) left ∙ is ∙ sym (ap interim_to front))
-nothing_said instances next_instance c d last front stage left (chosen r at isnt_on has is what) =
-    chosen r (stage ∙ at) isnt_on (ap has_request front ∙ has) (ap (λ l. last ++ l) left ∙ is ∙ sym (ap interim_to front)) (subst (λ f. Chosen instances next_instance f r) (sym front) what)
-nothing_said instances next_instance c d last front stage left (begun r at is_on has head body is rest what) =
+nothing_said instances next_instance c d last end front stage left (chosen r at isnt_on has is what) =
+    chosen r (stage ∙ at) isnt_on (ap has_request front ∙ has) (ap (λ l. last ++ l) left ∙ is ∙ sym (ap interim_to front)) (subst (λ f. Chosen instances next_instance f d.closes r) (sym front) (subst (λ t. Chosen instances next_instance c.front t r) (sym end) what))
+nothing_said instances next_instance c d last end front stage left (begun r at is_on has head body is rest what) =
     begun r (stage ∙ at) is_on (ap has_request front ∙ has) head body (ap (λ l. (last ++ l) ++ r.head_left) left ∙ is ∙ at_front c.front d.front head body front) (at_end rest)
-    (subst (λ f. Begun f r head body) (sym front) what)
+    (subst (λ f. Begun f d.closes r head body) (sym front) (subst (λ t. Begun c.front t r head body) (sym end) what))
   where
     at_end : (body ≡ []) ⊎ ((c.interim_left ≡ []) × (r.head_left ≡ [])) → (body ≡ []) ⊎ ((d.interim_left ≡ []) × (r.head_left ≡ []))
     at_end (inl none) = inl none
     at_end (inr both) = inr (left ∙ both.0, both.1)
 
-now_said : (instances : List Instance) (next_instance : ℕ) (c d : Client) (last bytes : Bytes) → Step c d bytes → Now instances next_instance c last → Now instances next_instance d (last ++ bytes)
-now_said instances next_instance c d last bytes (of_nothing front stage left none) now =
-    subst (λ l. Now instances next_instance d l) (sym (ap (λ l. last ++ l) none ∙ append-nil last)) (nothing_said instances next_instance c d last front stage left now)
-now_said instances next_instance c d last bytes (of_interim front stage left some) now = interim_said instances next_instance c d last bytes front stage left some now
-now_said instances next_instance c d last bytes (of_head r left front at on stage il jl eq some) now =
+now_said : (instances : List Instance) (next_instance : ℕ) (c d : Client) (last bytes : Bytes) → d.closes ≡ c.closes → Step c d bytes → Now instances next_instance c last → Now instances next_instance d (last ++ bytes)
+now_said instances next_instance c d last bytes end (of_nothing front stage left none) now =
+    subst (λ l. Now instances next_instance d l) (sym (ap (λ l. last ++ l) none ∙ append-nil last)) (nothing_said instances next_instance c d last end front stage left now)
+now_said instances next_instance c d last bytes end (of_interim front stage left some) now = interim_said instances next_instance c d last bytes end front stage left some now
+now_said instances next_instance c d last bytes end (of_head r left front at on stage il jl eq some) now =
     let m = midst instances next_instance c last r at on now in
     begun (record r { head_left = left }) stage on (ap has_request front ∙ m.has) m.head m.body
     (head_said last c.interim_left r.head_left bytes left d.interim_left _ il jl eq m.is ∙ at_front c.front d.front m.head m.body front) (inl (none m.body m.rest))
-    (subst (λ f. Begun f (record r { head_left = left }) m.head m.body) (sym front) (head_moved c.front r left m.head m.body m.what))
+    (subst (λ f. Begun f d.closes (record r { head_left = left }) m.head m.body) (sym front) (head_moved c.front d.closes r left m.head m.body (subst (λ t. Begun c.front t r m.head m.body) (sym end) m.what)))
   where
     none : (body : Bytes) → (body ≡ []) ⊎ ((c.interim_left ≡ []) × (r.head_left ≡ [])) → body ≡ []
     none body (inl is_none) = is_none
     none body (inr both) = absurd (some both.1)
-now_said instances next_instance c d last bytes (of_passed r front at on stage il jl hl passing) now =
+now_said instances next_instance c d last bytes end (of_passed r front at on stage il jl hl passing) now =
     let m = midst instances next_instance c last r at on now in
     begun r (stage ∙ at) on (ap has_request front ∙ m.has) m.head (m.body ++ bytes)
     (both_said last c.interim_left r.head_left _ bytes d.interim_left r.head_left il hl jl hl m.is ∙ append_assoc (interim_to c.front ++ m.head) m.body bytes ∙ at_front c.front d.front m.head (m.body ++ bytes) front)
     (inr (jl, hl))
-    (subst (λ f. Begun f r m.head (m.body ++ bytes)) (sym front) (passed_more c.front r m.head m.body bytes passing m.what))
-now_said instances next_instance c d last bytes (of_body r front at on stage il jl hl isnt_on le) now =
+    (subst (λ f. Begun f d.closes r m.head (m.body ++ bytes)) (sym front) (passed_more c.front d.closes r m.head m.body bytes passing (subst (λ t. Begun c.front t r m.head m.body) (sym end) m.what)))
+now_said instances next_instance c d last bytes end (of_body r front at on stage il jl hl isnt_on le) now =
     let m = midst instances next_instance c last r at on now in
     begun (record r { at = r.at + length bytes }) stage on (ap has_request front ∙ m.has) m.head (m.body ++ bytes)
     (both_said last c.interim_left r.head_left _ bytes d.interim_left r.head_left il hl jl hl m.is ∙ append_assoc (interim_to c.front ++ m.head) m.body bytes ∙ at_front c.front d.front m.head (m.body ++ bytes) front)
     (inr (jl, hl))
-    (subst (λ f. Begun f (record r { at = r.at + length bytes }) m.head (m.body ++ bytes)) (sym front) (body_more c.front r m.head m.body bytes isnt_on le m.what))
+    (subst (λ f. Begun f d.closes (record r { at = r.at + length bytes }) m.head (m.body ++ bytes)) (sym front) (body_more c.front d.closes r m.head m.body bytes isnt_on le (subst (λ t. Begun c.front t r m.head m.body) (sym end) m.what)))
 
-pub now_are : (instances : List Instance) (next_instance : ℕ) (c d : Client) (last bytes : Bytes) → Steps c d bytes → Now instances next_instance c last → Now instances next_instance d (last ++ bytes)
-now_are instances next_instance c d last bytes (of_one step) now = now_said instances next_instance c d last bytes step now
-now_are instances next_instance c d last bytes (of_both e head body one two both) now =
+pub now_are : (instances : List Instance) (next_instance : ℕ) (c d : Client) (last bytes : Bytes) → d.closes ≡ c.closes → Steps c d bytes → Now instances next_instance c last → Now instances next_instance d (last ++ bytes)
+now_are instances next_instance c d last bytes end (of_one step) now = now_said instances next_instance c d last bytes end step now
+now_are instances next_instance c d last bytes end (of_both e head body same one two both) now =
     subst (λ l. Now instances next_instance d l) (append_assoc last head body ∙ ap (λ l. last ++ l) (sym both))
-    (now_said instances next_instance e d (last ++ head) body two (now_said instances next_instance c e last head one now))
+    (now_said instances next_instance e d (last ++ head) body (end ∙ sym same) two (now_said instances next_instance c e last head same one now))
 
 -- nothing is read with it
 reply_reads : (n : ℕ) (c : Client) (r : Reply) (passing : Bool)
@@ -336,6 +336,35 @@ said_reads n c true = stage_reads n c (reply_of c)
 said_follows : (n : ℕ) (c : Client) → Follows (said_by n c) c
 said_follows n c = said_reads n c (is_empty c.interim_left)
 
+-- and the reply closes as it did
+reply_closes : (n : ℕ) (c : Client) (r : Reply) (passing : Bool)
+    → (elim passing as (λ x. Client) [
+      | true ↦ on_passed (λ p. record p { pipe = without_first n p.pipe }) (record c { stage = Answering r })
+      | false ↦ record c { stage = Answering (record r { at = r.at + n }) }
+    ]).closes ≡ c.closes
+reply_closes n c r true = (on_passed-quiet (λ p. record p { pipe = without_first n p.pipe }) (record c { stage = Answering r })).closes
+reply_closes n c r false = refl
+
+head_closes : (n : ℕ) (c : Client) (r : Reply) (of_head : Bool)
+    → (elim of_head as (λ x. Client) [
+      | true ↦ record c { stage = Answering (record r { head_left = drop n r.head_left }) }
+      | false ↦ said_of_body (n - length r.head_left) (record r { head_left = [] }) c
+    ]).closes ≡ c.closes
+head_closes n c r true = refl
+head_closes n c r false = reply_closes (n - length r.head_left) c (record r { head_left = [] }) (is_passing r.decision)
+
+stage_closes : (n : ℕ) (c : Client) (reply : Option Reply) → (elim reply as (λ x. Client) [ None ↦ c | Some r ↦ said_of n r c ]).closes ≡ c.closes
+stage_closes n c None = refl
+stage_closes n c (Some r) = head_closes n c r (nat_le n (length r.head_left))
+
+said_closes_by : (n : ℕ) (c : Client) (empty : Bool)
+    → (elim empty as (λ x. Client) [ false ↦ record c { interim_left = drop n c.interim_left } | true ↦ elim (reply_of c) as (λ y. Client) [ None ↦ c | Some r ↦ said_of n r c ] ]).closes ≡ c.closes
+said_closes_by n c false = refl
+said_closes_by n c true = stage_closes n c (reply_of c)
+
+said_closes : (n : ℕ) (c : Client) → (said_by n c).closes ≡ c.closes
+said_closes n c = said_closes_by n c (is_empty c.interim_left)
+
 pub story_said : {instances : List Instance} {next_instance : ℕ} (told : Told) (c : Client) (bytes : Bytes) → Steps c (said_by (length bytes) c) bytes → Story instances next_instance told c
     → Story instances next_instance (record told { said = told.said ++ bytes }) (said_by (length bytes) c)
 story_said {instances} {next_instance} told c bytes step story = record {
@@ -345,7 +374,7 @@ story_said {instances} {next_instance} told c bytes step story = record {
   last = story.last ++ bytes;
   all = ap (λ l. l ++ bytes) story.all ∙ append_assoc (concat story.replies) story.last bytes;
   place = place_on told.heard story.requests (said_by (length bytes) c) c (said_follows (length bytes) c) story.place;
-  now = now_are instances next_instance c (said_by (length bytes) c) story.last bytes step story.now;
+  now = now_are instances next_instance c (said_by (length bytes) c) story.last bytes (said_closes (length bytes) c) step story.now;
 }
 
 -- ---- what is permitted
