@@ -15,9 +15,8 @@ use Rattle.pp_law.specs.Decisions.{kind_of, fits}
 use Rattle.pp_law.specs.Followers.{need_of, filling_exchange, fill_with, fill_span, fill_next, fill_for, fill, is_useless_ask, give_up_asks}
 use Rattle.pp_law.specs.Hearing.{heard_by}
 use Rattle.pp_law.specs.Lists.{Bytes, change, is_some_with}
-use Rattle.pp_law.specs.Offers.{is_at_body}
 use Rattle.pp_law.specs.Passing.{pour}
-use Rattle.pp_law.specs.Replies.{begun_at_end, is_outrun, begin_replies, use_chunks, use_from, use_said, is_said, next_request, end_reply, end_said, is_finished, close_finished, end_replies, regained_by, regained}
+use Rattle.pp_law.specs.Replies.{begun_at_end, is_outrun, begin_replies, use_chunks, use_from, use_said, of_body, is_said, next_request, end_reply, end_said, is_finished, close_finished, end_replies, regained_by, regained}
 use Rattle.pp_law.specs.Requests.{key_in}
 use Rattle.pp_law.specs.Stages.{on_passed}
 use Rattle.pp_law.specs.State.{State, AskTooLong, Client, Exchange, Passed}
@@ -166,7 +165,7 @@ use_from-keeps u n x s h = use_chunks-keeps u _ x.source.id (x.at / chunk_len) s
 
 pub use_said-keeps : {P : View → Type 0} (u : Uses P) (n : ℕ) (c : Client) (s : State) → Holds P s → Holds P (use_said n c s)
 unfolding use_said
-use_said-keeps u n c s h = when (is_at_body c && nat_lt 0 n) (each_of (next_of s c) h (λ x. use_from-keeps u n x s h)) h
+use_said-keeps u n c s h = when (nat_lt 0 (of_body n c)) (each_of (next_of s c) h (λ x. use_from-keeps u (of_body n c) x s h)) h
 
 end_reply-keeps : {P : View → Type 0} (w : Walk P) (c : Client) (s : State) → Holds P s → Holds P (end_reply c s)
 unfolding end_reply

@@ -1,5 +1,5 @@
 -- What the head of a response does to rows, requests and its exchange keeps what is kept by each change.
-use Rattle.std.proofs.Common.{refl, true, false, not, ◌==◌, ◌&&◌, List, [], ◌∷◌, codes, Option, Some, None, ◌≡◌}
+use Rattle.std.proofs.Common.{refl, ℕ, Bool, true, false, not, ◌==◌, ◌&&◌, List, [], ◌∷◌, codes, Option, Some, None, ◌≡◌, ◌||◌}
 use Rattle.std.specs.List.{list_any}
 use Rattle.pp_framing.specs.declared.body.BodyRule.{BodyRule}
 use Rattle.pp_fresh.specs.declared.aging.Times.{Times}
@@ -8,16 +8,17 @@ use Rattle.pp_objects.specs.Kept.{kept_of}
 use Rattle.pp_target.specs.Key.{Key, text_of}
 use Rattle.pp_text.specs.Fields.{has_field}
 use Rattle.pp_valid.specs.declared.version.Version.{Version}
-use Rattle.pp_law.specs.Connections.{exchange, is_for}
+use Rattle.pp_law.specs.Connections.{exchange, is_for, attempts_of, lost_one, without_shared_row}
 use Rattle.pp_law.specs.Lists.{Bytes, is_some_with}
-use Rattle.pp_law.specs.OwnHeads.{key_of, span_to_come, is_asked_by, tell, use_body, drop_answer, useless, times_for, renewed, renew, settle_on, renew_row, refresh, may_refresh, settle_known, known_version, settle, names_version, nothing_to_come, settle_unchanged, unchanged, not_modified, clears_row, cleared_by, is_widened, relayed, relay_head, other_head, other_part, own_head, is_bound, lacks_next, count_elsewhere, part_head, filling_head, version_in, forbids_sharing, is_private_part, is_of_another, may_join}
+use Rattle.pp_law.specs.OwnHeads.{key_of, span_to_come, is_asked_by, tell, use_body, drop_answer, useless, times_for, renewed, renew, settle_on, renew_row, refresh, may_refresh, settle_known, known_version, settle, names_version, nothing_to_come, settle_unchanged, unchanged, not_shared, not_modified, clears_row, cleared_by, is_widened, relayed, relay_head, other_head, other_part, own_head, is_bound, lacks_next, count_elsewhere, part_head, filling_head, version_in, forbids_sharing, is_private_part, is_of_another, may_join}
 use Rattle.pp_law.specs.Passing.{passed_by}
 use Rattle.pp_law.specs.Responses.{by_aim}
-use Rattle.pp_law.specs.State.{State, Body, Joining, Dropping, Brought, Useless, Joins, Passes, TooWide, Exchange, Instance}
+use Rattle.pp_law.specs.Stages.{is_begun}
+use Rattle.pp_law.specs.State.{State, Client, Trying, Body, Joining, Dropping, Brought, Useless, Joins, Passes, TooWide, Exchange, Instance}
 use Rattle.pp_law.specs.Table.{row, enter}
 use Rattle.pp_law.specs.ThroughHeads.{invalidates, key_named, is_same_host, clear_named, clear_each, places_named, invalidated, disproves, reads, disproved, through_head}
 use Rattle.pp_laws_pool.proofs.WalkCases.{by_aim_of, each_of, when}
-use Rattle.pp_laws_pool.proofs.WalkExchanges.{clients_changed-keeps, lose_attempt-keeps, on_exchange-keeps, same_ask}
+use Rattle.pp_laws_pool.proofs.WalkExchanges.{clients_changed-keeps, on_client_of-keeps, lose_attempt-keeps, on_exchange-keeps, same_ask}
 use Rattle.pp_laws_pool.proofs.View.{View, Walk, Holds, holds, facts_of, view}
 use Rattle.pp_laws_pool.proofs.WalkRows.{clear-keeps, enter-keeps, make_row-keeps, mark_row-keeps, on_instance-keeps}
 
@@ -76,11 +77,24 @@ unchanged-keeps : {P : View → Type 0} (w : Walk P) (e : Exchange) (head : Resp
 unfolding unchanged
 unchanged-keeps w e head s h = when (is_some_with (names_version e) (known_version s (key_of e)) && may_refresh e head s) (settle_unchanged-keeps w e _ (refresh-keeps w e head s h)) (useless-keeps w e s h)
 
+without_shared_row-number : (most : ℕ) (c : Client) → (without_shared_row most c).number ≡ c.number
+without_shared_row-number most c = by (c.has_given_up && not (is_begun c)) (is_begun c || c.has_given_up)
+  where
+    by : (again begun : Bool)
+        → (elim again as (λ x. Client) [ true ↦ record c { course = lost_one most c.course } | false ↦ elim begun as (λ x. Client) [ true ↦ c | false ↦ record c { course = Trying 0; has_given_up = true } ] ]).number ≡ c.number
+    by true begun = refl
+    by false true = refl
+    by false false = refl
+
+not_shared-keeps : {P : View → Type 0} (w : Walk P) (e : Exchange) (s : State) → Holds P s → Holds P (not_shared e s)
+unfolding not_shared
+not_shared-keeps w e s h = on_client_of-keeps w e (without_shared_row (attempts_of e)) _ (without_shared_row-number (attempts_of e)) (drop_answer-keeps w e _ (clear-keeps w (key_of e) s h))
+
 not_modified-keeps : {P : View → Type 0} (w : Walk P) (e : Exchange) (head : Response) (s : State) → Holds P s → Holds P (not_modified e head s)
 unfolding not_modified
 not_modified-keeps w e head s h =
     when (forbids_sharing head)
-    (drop_answer-keeps w e _ (clear-keeps w (key_of e) s h))
+    (not_shared-keeps w e s h)
     (when (is_of_another head s (key_of e)) (useless-keeps w e _ (clear-keeps w (key_of e) s h)) (unchanged-keeps w e head s h))
 
 -- ---- a response without a version
@@ -104,7 +118,7 @@ other_part-keeps : {P : View → Type 0} (w : Walk P) (e : Exchange) (head : Res
 unfolding other_part
 other_part-keeps w e head rule s h =
     when (is_private_part head)
-    (drop_answer-keeps w e _ (clear-keeps w (key_of e) s h))
+    (not_shared-keeps w e s h)
     (when (clears_row head) (relay_head-keeps w e head rule _ (cleared_by-keeps w head e s h)) (useless-keeps w e s h))
 
 -- ---- heads by what was asked
