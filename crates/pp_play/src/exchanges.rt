@@ -1,8 +1,8 @@
 // What is played, and what is wanted of it.
 use crate::course::Step;
 use crate::fitting::{Fit, Part, fit_of};
-use crate::playing::{Act, PACES, Pace, Played, WORDS, play_with};
-use crate::texts::joined;
+use crate::playing::{Act, PACES, Pace, Played, WORDS, play, play_with};
+use crate::texts::{joined, joined_acts};
 use pp_run::Exit;
 use pp_text::OutOfMemory;
 use pp_world::{Cause, Decision, Happening, Remark};
@@ -85,6 +85,29 @@ fn unlike_by(
             if !is_met(alloc, &played, *wanted)? {
                 return tell(alloc, &played, exchange.name, *wanted);
             }
+        }
+    }
+    Ok(String::new(alloc))
+}
+
+/// Through a window of which sizes client 1 is said anything but these parts: nothing is said where there is none. For each size
+/// up to the last these acts are played, then its connection takes so many bytes, then so many more, and then all.
+pub fn unlike_through_windows(
+    alloc: Global,
+    sizes: u64,
+    acts: &[Act<'_>],
+    parts: &[Part<'_>],
+) -> Result<String, OutOfMemory> {
+    for size in 1..=sizes {
+        let windows = [
+            Act::Window(1, size),
+            Act::Window(1, size),
+            Act::Window(1, u64::MAX),
+        ];
+        let acts = joined_acts(alloc, &[acts, &windows])?;
+        let played = play(alloc, Pace::Whole, acts.as_slice())?;
+        if fit_of(played.said(1)?.as_slice(), parts) != Fit::Whole {
+            return Ok(format!(in alloc; "through windows of {size} bytes")?);
         }
     }
     Ok(String::new(alloc))

@@ -1,2 +1,3 @@
 pub mod HeadLimits
 pub mod SiteLemmas
+pub mod UsesLemmas

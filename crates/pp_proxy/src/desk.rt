@@ -5,6 +5,7 @@ ghost use Rattle.pp_links.specs.Quiet.{GrowsQuietly};
 use crate::due::Due;
 use crate::origin::Origin;
 use crate::state::State;
+use pp_client::Room;
 use pp_links::Links;
 use pp_peers::Peers;
 use pp_world::{Cause, Event, Note, Wire};
@@ -27,6 +28,8 @@ pub(crate) struct Desk {
     pub(crate) buffer: Vec<u8>,
     /// The data of a response in what was read.
     pub(crate) data: Vec<u8>,
+    /// What is said at once.
+    pub(crate) room: Box<Room>,
     /// A client that was accepted in this turn, and for whom there is no memory.
     pub(crate) turned_away: Option<u64>,
 }

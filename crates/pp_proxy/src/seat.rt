@@ -2,6 +2,7 @@
 ghost use Rattle.std.specs.Prelude.{◌≡◌, ◌≤◌};
 ghost use Rattle.pp_client.specs.Replies.{left_next};
 ghost use Rattle.pp_proxy.specs.Courses.{has_begun, without_row};
+ghost use Rattle.pp_proxy.specs.Said.{used_by};
 ghost use Rattle.pp_proxy.specs.Unseen.{answer_in, next_of};
 
 use crate::front::Front;
@@ -96,7 +97,7 @@ pub(crate) enum Course {
     AskTooLong,
 }
 
-/// The next byte of a client that follows an instance, and the end of its span.
+/// The next byte of a client that follows an instance, and the end of its span, or of what is said of it.
 #[derive(Clone, Copy)]
 pub(crate) struct Next {
     pub(crate) source: ObjectId,
@@ -241,13 +242,20 @@ impl Seat {
         }
     }
 
-    /// The byte of an instance that is said first where so many bytes are said next.
-    pub(crate) fn used_by(&self, n: usize) -> Option<Next> {
-        if n > 0 && self.is_at_body() {
-            self.next()
-        } else {
-            None
+    /// The bytes of the instance that it follows among the next so many that are said.
+    pub(crate) fn used_by(&self, n: usize) -> Option<Next>
+        ensures { result ≡ used_by n self.now }
+    {
+        let of_body = n.saturating_sub(self.before_body) as u64;
+        if of_body == 0 || !self.has_begun() {
+            return None;
         }
+        let next = self.next()?;
+        Some(Next {
+            source: next.source,
+            at: next.at,
+            to: next.to.min(next.at.saturating_add(of_body)),
+        })
     }
 
     /// So many bytes were said.
