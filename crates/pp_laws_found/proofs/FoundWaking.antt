@@ -165,3 +165,7 @@ left_by {acks} s image phase at may h key a was = by phase at may
 
 pub woke_found : {acks : Acks} (s : State) (image : Files) → permits_woke s image ≡ true → FoundInv acks s → FoundInv acks (woken image s)
 woke_found s image may h = woken_inv image s (left_by s image s.phase refl (second_holds (is_rising (map name_of_file image)) _ may) h)
+
+-- what was acknowledged is in the image that it begins with
+pub woke_left : {acks : Acks} (s : State) (image : Files) → permits_woke s image ≡ true → FoundInv acks s → (key : Bytes) (a : Acknowledged) → acks key ≡ Some a → FoundAt key a (file_of (name_of key) image)
+woke_left s image may h = left_by s image s.phase refl (second_holds (is_rising (map name_of_file image)) _ may) h
