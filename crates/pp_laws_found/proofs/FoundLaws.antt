@@ -1,12 +1,11 @@
 -- The law: what was acknowledged is found, whatever a crash leaves.
-use Rattle.std.proofs.Common.{◌≡◌, refl, Bool, true, false, not, ◌==◌, ◌&&◌, List, [], ◌∷◌, ◌++◌, bytes_eq, Option, Some, None, sym, subst, ap, ◌∙◌}
+use Rattle.std.proofs.Common.{◌≡◌, refl, Bool, true, false, not, ◌==◌, ◌&&◌, List, [], ◌∷◌, ◌++◌, Option, Some, None, sym, subst, ap, ◌∙◌}
 use Rattle.std.specs.Prelude.{fold, is_some}
 use Rattle.pp_conf.specs.Conf.{Settings}
 use Rattle.pp_conf.specs.Words.{reading_of}
-use Rattle.pp_gate.proofs.Ops.{AllLeft}
 use Rattle.pp_target.specs.Name.{name_of}
 use Rattle.pp_text.specs.Bytes.{is_empty}
-use Rattle.pp_world.specs.Disk.{IsLeftBehind, view_of}
+use Rattle.pp_world.specs.Disk.{view_of}
 use Rattle.pp_world.specs.Files.{Files, file_of}
 use Rattle.pp_world.specs.Log.{Log}
 use Rattle.pp_world.specs.declared.happening.Happening.{Happening}
@@ -19,9 +18,9 @@ use Rattle.pp_law.specs.Lists.{Bytes}
 use Rattle.pp_law.proofs.Prefixes.{front_from}
 use Rattle.pp_law.specs.Entries.{entries_in}
 use Rattle.pp_law.specs.Opening.{are_texts, begun, is_at, may_fail, names_file, permits_configured, permits_listens, settings_in, term_in, with_settings, woken}
-use Rattle.pp_law.specs.Permits.{IsPermitted, permits, permits_noted, permits_unread}
+use Rattle.pp_law.specs.Permits.{IsPermitted, permits, permits_noted}
 use Rattle.pp_law.specs.Phases.{come_to}
-use Rattle.pp_law.specs.State.{State, Term, Phase, Before, IsRooted, IsListed, IsListening, IsConfigured, IsWoken, Keeping, no_agenda, start}
+use Rattle.pp_law.specs.State.{State, Term, IsRooted, IsListed, IsListening, IsConfigured, IsWoken, Keeping, no_agenda, start}
 use Rattle.pp_law.specs.Store.{may_end_op}
 use Rattle.pp_laws.specs.Runs.{after_all, state_after}
 use Rattle.pp_laws.proofs.Happenings.{after-sound}
@@ -32,14 +31,14 @@ use Rattle.pp_laws.proofs.Tests.{first_holds, second_holds}
 use Rattle.pp_laws_crash.proofs.CrashLaws.{one_step, since, start_inv}
 use Rattle.pp_laws_crash.proofs.Frames.{kept_self, takes_turns}
 use Rattle.pp_laws_crash.proofs.Inv.{AtRest}
-use Rattle.pp_laws_crash.proofs.Happenings.{MayGo, changed_kept, changes_disk, may_go, permitted, woke_so}
+use Rattle.pp_laws_crash.proofs.Happenings.{changed_kept, changes_disk, may_go, permitted, woke_so}
 use Rattle.pp_laws_crash.proofs.KeptTurns.{come_to-kept}
 use Rattle.pp_laws_crash.proofs.Standing.{at_IsConfigured, at_IsListed, at_IsRooted, at_IsWoken}
 use Rattle.pp_laws_crash.proofs.Waking.{entries_there, found_in}
 use Rattle.pp_laws_crash.proofs.Steps.{HoldsAll, Inv, at_rest_of, idle_is, inv_kept, under_is}
 use Rattle.pp_laws_found.specs.Found.{Acknowledged, AcknowledgedIsFound, AcknowledgedIsRecovered, HasRow, IsFoundIn, acknowledged, noted_of}
 use Rattle.pp_laws_found.proofs.FoundAt.{FoundAt}
-use Rattle.pp_laws_found.proofs.FoundInv.{Acks, FoundOf, at_rest}
+use Rattle.pp_laws_found.proofs.FoundInv.{Acks, at_rest}
 use Rattle.pp_laws_found.proofs.FoundSteps.{FoundInv, began_found, done_found, failed_found, found_kept, gone_found, kept_found, unread_found}
 use Rattle.pp_laws_found.proofs.FoundWaking.{configured_found, opened_found, opens_of, woke_found, woke_left}
 
