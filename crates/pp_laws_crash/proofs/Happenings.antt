@@ -1,17 +1,14 @@
 -- Each happening of a lawful log keeps what holds of the disk, and what is loaded was sent.
-use Rattle.std.proofs.Common.{◌≡◌, ◌⊎◌, ⊎_elim, refl, ℕ, ◌+◌, ◌-◌, ◌*◌, ◌/◌, ◌<◌, ◌≤◌, nat_lt, Bool, true, false, not, ◌==◌, ◌&&◌, ◌||◌, List, [], ◌∷◌, ◌++◌, length, map, find, nat_le, Option, Some, None, Result, Ok, Err, inl, inr, sym, subst, ap, ◌∙◌, arith}
+use Rattle.std.proofs.Common.{◌≡◌, ◌⊎◌, ⊎_elim, refl, ℕ, ◌+◌, ◌≤◌, Bool, true, false, not, ◌==◌, ◌&&◌, ◌||◌, List, [], ◌∷◌, ◌++◌, length, map, nat_le, Option, Some, None, Result, Ok, Err, inl, inr, sym, subst, ap, ◌∙◌, arith}
 use Rattle.std.specs.Prelude.{is_some}
 use Rattle.std.specs.List.{list_any}
 use Rattle.pp_text.specs.Bytes.{is_empty}
-use Rattle.pp_world.specs.Log.{Log}
 use Rattle.pp_world.specs.declared.happening.Happening.{Happening}
 use Rattle.pp_world.specs.declared.happening.Happening.TheVariants.{Woke, Waits, Clock, Opened, CanRead, CanWrite, Heard, HungUp, Said, Shut, Dialled, Undialled, Reached, Ended, Broke, Asked, Got, Dropped, NoneYet, Began, Did, Unread, Noted, Rooted, Listed, Listens, Configured, Printed, Stopped}
-use Rattle.pp_world.specs.declared.note.Remark.{Remark}
 use Rattle.pp_world.specs.declared.note.Remark.TheVariants.{Taken, Cut, Kept as NotedKept, Gone, Forgotten, Evicted, Loaded}
 use Rattle.pp_world.specs.declared.op.DiskOp.{DiskOp}
-use Rattle.pp_law.specs.After.{begun_op, changed, dialled, dropped, ended_op, event, forgotten_by, leave_memory, new_conn, noted, refused_dial, undialled}
-use Rattle.pp_law.specs.Closing.{close_client}
-use Rattle.pp_law.specs.Connections.{lose_attempt, Pause, AllPlaced, Placement, WaitsDial, WaitsDrop, conn, may_ask_again, placing, put_on}
+use Rattle.pp_law.specs.After.{begun_op, changed, dialled, dropped, ended_op, forgotten_by, leave_memory, new_conn, noted, refused_dial, undialled}
+use Rattle.pp_law.specs.Connections.{lose_attempt, Pause, AllPlaced, WaitsDial, WaitsDrop, conn, may_ask_again, placing, put_on}
 use Rattle.pp_law.specs.Leaving.{Leaving, ForAnother, ForMemory, BeforeDecision, leaving_as}
 use Rattle.pp_law.specs.Lists.{Bytes}
 use Rattle.pp_conf.specs.Conf.{Settings}
@@ -23,10 +20,10 @@ use Rattle.pp_law.specs.Asking.{is_reading, is_writing}
 use Rattle.pp_law.specs.Deciding.{is_for_memory}
 use Rattle.pp_law.specs.Entries.{entries_in}
 use Rattle.pp_law.specs.Opening.{are_texts, begun, configured, is_at, is_opening, is_recovered, is_same_phase, may_fail, names_file, opened_to, permits_configured, permits_image, permits_listens, permits_woke, settings_in, stuck, with_settings, woken}
-use Rattle.pp_law.specs.Permits.{is_permitted, IsPermitted, permits, permits_behind_forgotten, permits_began, permits_broke, permits_noted, permits_taken, permits_cut, permits_dial, permits_unread, permits_waits, has_conn, may_cut, may_take, may_wait, is_owed}
-use Rattle.pp_law.specs.Phases.{come_to, come_to_decide, decides, deciding, ending, is_awaiting, may_decide, may_end, may_in}
+use Rattle.pp_law.specs.Permits.{is_permitted, IsPermitted, permits, permits_behind_forgotten, permits_began, permits_broke, permits_noted, permits_taken, permits_dial, has_conn, may_cut, may_take, may_wait}
+use Rattle.pp_law.specs.Phases.{come_to, come_to_decide, decides, is_awaiting, may_decide, may_end, may_in}
 use Rattle.pp_law.specs.Repairs.{begin_in_opening, has_stray_gates, may_begin_in_opening}
-use Rattle.pp_law.specs.State.{State, no_agenda, Conn, Exchange, Instance, Phase, Before, Awaiting, Deciding, DecidingAgain, Following, Handling, Evicting, Keeping, Connecting, IsWoken, IsConfigured, IsRooted, IsStuck, IsListening, IsListed, Owed, Free, ReadOf, WriteTo}
+use Rattle.pp_law.specs.State.{State, no_agenda, Exchange, Phase, Before, Awaiting, Deciding, DecidingAgain, Following, Handling, Evicting, Keeping, Connecting, IsWoken, IsConfigured, IsRooted, IsStuck, IsListening, IsListed, Free, ReadOf, WriteTo}
 use Rattle.pp_law.specs.Store.{begin_in_turn, load, load_from, may_begin_in_turn, may_end_op}
 use Rattle.pp_law.specs.Table.{kept_row, row}
 use Rattle.pp_laws_crash.proofs.Frames.{Kept, OwedIn, kept, kept_self, parts_of, recovers, takes_turns, when, each_of}

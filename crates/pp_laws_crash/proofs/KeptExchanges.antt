@@ -1,7 +1,6 @@
 -- What requests and responses bring keeps what the disk is about.
-use Rattle.std.proofs.Common.{◌≡◌, refl, ℕ, zero, suc, ◌+◌, nat_lt, Bool, true, false, not, ◌==◌, ◌&&◌, ◌||◌, List, [], ◌∷◌, ◌++◌, drop, length, Option, Some, None, Result, Ok, Err, ap, ◌∙◌}
+use Rattle.std.proofs.Common.{ℕ, zero, suc, ◌+◌, Bool, true, false, ◌==◌, ◌&&◌, ◌||◌, List, [], ◌∷◌, ◌++◌, drop, length, Option, Some, None, ap}
 use Rattle.std.specs.List.{list_any}
-use Rattle.std.specs.Prelude.{is_some}
 use Rattle.pp_ask.specs.declared.kind.AskKind.{AskKind}
 use Rattle.pp_framing.specs.Body.{Outcome, Done, Going, Bad}
 use Rattle.pp_framing.specs.Framing.{rule_of}
@@ -20,8 +19,8 @@ use Rattle.pp_valid.specs.declared.version.Version.{Version}
 use Rattle.pp_world.specs.declared.note.Decision.TheVariants.{Refuse, Hit, Part, Head, NotModified, Unsatisfiable, Relay, Validate, Fetch, Pass}
 use Rattle.pp_world.specs.declared.note.Decision.{Decision}
 use Rattle.pp_law.specs.Closing.{is_of}
-use Rattle.pp_law.specs.Connections.{conn, exchange, is_for, front_of_line, on_conn, is_trying, close_conn, end_exchange}
-use Rattle.pp_law.specs.Deciding.{refuse, add_exchange, begin_exchange, new_exchange, ask_for, ask_as, ask_origin, reply_by, serves, follow_with, follow_row, follow, relay, is_for_memory, mark_row_of, enter_row, decided_by, decided}
+use Rattle.pp_law.specs.Connections.{conn, exchange, is_for, front_of_line, on_conn, is_trying, end_exchange}
+use Rattle.pp_law.specs.Deciding.{refuse, add_exchange, begin_exchange, ask_for, ask_as, ask_origin, reply_by, follow_with, follow_row, follow, relay, is_for_memory, mark_row_of, enter_row, decided_by, decided}
 use Rattle.pp_law.specs.Decisions.{kind_of, fits}
 use Rattle.pp_law.specs.Followers.{need_of, filling_exchange, fill_with, fill_span, fill_next, fill_for, fill, give_up_asks}
 use Rattle.pp_law.specs.Lists.{Bytes, is_some_with}
@@ -29,11 +28,10 @@ use Rattle.pp_law.specs.OwnHeads.{key_of, tell, use_body, drop_answer, useless, 
 use Rattle.pp_law.specs.Passing.{pour, poured}
 use Rattle.pp_law.specs.Requests.{key_in}
 use Rattle.pp_law.specs.Responses.{skip_body, close_this, rested, may_go_on, finish, bad_response, bad_head, by_aim, asks_head, answer_with, answered_by, end_if_empty, begin_answer, answer_for, head_came, Piece, is_early, with_unread, head_piece_of, head_piece, deliver, payload_of, body_piece_of, body_piece, next_piece, got, is_whole_at_end, finish_first, ended}
-use Rattle.pp_law.specs.State.{State, Sent, Brought, Body, Client, Conn, Exchange, Instance, Answer, Reply, Bound, Aim, Through, Own, Filling}
-use Rattle.pp_law.specs.Table.{row, row_for, instance, Next, next_of, clear, mark_row}
+use Rattle.pp_law.specs.State.{State, Sent, Brought, Body, Client, Conn, Exchange, Instance, Answer, Reply, Bound}
+use Rattle.pp_law.specs.Table.{row, row_for, instance, Next, next_of}
 use Rattle.pp_law.specs.ThroughHeads.{invalidates, key_named, is_same_host, clear_named, clear_each, places_named, invalidated, disproves, reads, disproved, through_head}
 use Rattle.pp_law.specs.Unseen.{is_unseen, drop_on, drop_unseen}
-use Rattle.pp_laws.specs.Origin.{IsBackPart}
 use Rattle.pp_laws_crash.proofs.Frames.{Kept, PartsOf, kept, parts_of, when, each_of, by_aim_of, by_outcome, by_front, by_result}
 use Rattle.pp_laws_crash.proofs.KeptTable.{on_instance-kept, swept-kept, clear-kept, mark_row-kept, make_row-kept, enter-kept, note_use-kept, on_conn-kept, on_exchange-kept, on_client-kept, on_client_of-kept, each_client-kept, each_conn-kept, lose_attempt-kept, fail-kept, end_exchange-kept, close_conn-kept, forsake-kept, leave-kept}
 

@@ -1,21 +1,19 @@
 -- Replies, the clock, the phases of a turn and its end keep what the disk is about.
-use Rattle.std.proofs.Common.{◌≡◌, refl, ℕ, zero, suc, ◌+◌, nat_lt, max, Bool, true, false, not, ◌==◌, ◌&&◌, ◌||◌, List, [], ◌∷◌, ◌++◌, map, length, Option, Some, None, inr, sym, subst, ap, ◌∙◌}
-use Rattle.std.specs.List.{list_any}
+use Rattle.std.proofs.Common.{◌≡◌, refl, ℕ, zero, suc, ◌+◌, nat_lt, max, Bool, true, false, not, ◌&&◌, List, [], ◌∷◌, inr, sym, ap, ◌∙◌}
 use Rattle.pp_world.specs.declared.event.Wants.{Wants}
 use Rattle.pp_world.specs.declared.note.Decision.{Decision}
-use Rattle.pp_law.specs.After.{new_client, event, opened, owing, reached, paid, said, gone, take_decision, evicted, refused_row, shut, out}
+use Rattle.pp_law.specs.After.{event, opened, owing, reached, paid, said, gone, take_decision, evicted, refused_row, shut, out}
 use Rattle.pp_law.specs.Asking.{asking, is_writing, hear, ask_body, ask_next, ask, hang_up, asked_text}
-use Rattle.pp_law.specs.Closing.{is_of, close_client, forsake}
-use Rattle.pp_law.specs.Connections.{client, conn, is_client, is_conn, front_of_line, on_client, on_conn, is_outstanding, each_conn, placing, Placement}
+use Rattle.pp_law.specs.Connections.{client, conn, front_of_line, on_client, on_conn, is_outstanding}
 use Rattle.pp_law.specs.Hearing.{heard_by}
 use Rattle.pp_law.specs.Lists.{Bytes}
-use Rattle.pp_law.specs.Opening.{is_at, is_opening, is_same_phase}
-use Rattle.pp_law.specs.Phases.{phases, in_phase, behind, next, passed, due_victim, is_done, come, come_to, come_to_decide, decides, deciding, ending, is_under_way}
+use Rattle.pp_law.specs.Opening.{is_at}
+use Rattle.pp_law.specs.Phases.{phases, in_phase, behind, next, due_victim, is_done, come, come_to, come_to_decide, decides, deciding, ending}
 use Rattle.pp_law.specs.Replies.{begin_replies, use_chunks, use_from, use_said, of_body, is_said, next_request, end_reply, end_said, is_finished, close_finished, end_replies, regained, said_by}
 use Rattle.pp_law.specs.State.{State, Phase, Before, IsWoken, IsConfigured, IsRooted, IsListed, IsListening, IsStuck, Awaiting, Handling, Evicting, Keeping, Deciding, Following, Connecting, DecidingAgain, Owed, Free, Client, Conn, Exchange, Instance}
-use Rattle.pp_law.specs.Table.{Next, next_of, forget}
+use Rattle.pp_law.specs.Table.{Next, next_of}
 use Rattle.pp_law.specs.Turn.{marked_client, marked_conn, touch, is_leap, marks_anew, owes_answer, is_idle_conn, end_patience, close_idle_conn, renew_marks, tick_to, tick, rest_with}
-use Rattle.pp_laws_crash.proofs.Frames.{Kept, Parts, PartsOf, OwedIn, kept, parts_of, recovers, takes_turns, when, each_of}
+use Rattle.pp_laws_crash.proofs.Frames.{Kept, PartsOf, kept, parts_of, recovers, takes_turns, when, each_of}
 use Rattle.pp_laws_crash.proofs.KeptTable.{swept-kept, forget-kept, use_chunk-kept, drop_chunk-kept, on_conn-kept, on_exchange-kept, on_client-kept, on_client_of-kept, each_client-kept, each_conn-kept, fail-kept, close_conn-kept, close_client-kept, forsake-kept, placing-kept}
 use Rattle.pp_laws_crash.proofs.KeptExchanges.{decided-kept, drop_unseen-kept, ended-kept, fill-kept, give_up_asks-kept}
 

@@ -1,13 +1,12 @@
 -- How the file of an entry stands on the disk, and what a crash leaves of it.
-use Rattle.std.proofs.Common.{◌≡◌, ◌≢◌, ◌⊎◌, ⊎_elim, refl, ℕ, ◌+◌, ◌*◌, ◌<◌, ◌≤◌, Bool, true, false, List, [], ◌∷◌, ◌++◌, length, take, get_or, Option, Some, None, inl, inr, sym, subst, ap, ◌∙◌, arith}
+use Rattle.std.proofs.Common.{◌≡◌, ◌≢◌, ◌⊎◌, ⊎_elim, refl, ℕ, ◌+◌, ◌*◌, ◌<◌, ◌≤◌, Bool, true, false, List, [], ◌∷◌, ◌++◌, length, take, get_or, Some, inl, inr, sym, subst, ap, ◌∙◌, arith}
 use Rattle.std.specs.Prelude.{min}
 use Rattle.pp_entry.specs.Entries.{Row, row_at}
 use Rattle.pp_entry.specs.Texts.{body_at, chunks_of}
 use Rattle.pp_gate.specs.Files.{gate, body}
 use Rattle.pp_gate.specs.Seal.{IsHonest}
 use Rattle.pp_gate.proofs.GateLemmas.{honest_next}
-use Rattle.pp_gate.proofs.Images.{settled_leaves}
-use Rattle.pp_gate.proofs.Ops.{AllLeft, one_leaves}
+use Rattle.pp_gate.proofs.Ops.{one_leaves}
 use Rattle.pp_gate.proofs.PlaceLemmas.{gates_below}
 use Rattle.pp_gate.proofs.SealLemmas.{same_head, gate_same, body_same}
 use Rattle.pp_world.specs.Disk.{View, Stored, settled, is_loose, IsLeft}

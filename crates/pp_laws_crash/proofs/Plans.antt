@@ -1,30 +1,29 @@
 -- What may be begun on a name: at each step a crash leaves only what was sent.
-use Rattle.std.proofs.Common.{◌≡◌, ◌≢◌, ◌⊎◌, ⊎_elim, refl, ℕ, ◌+◌, ◌*◌, ◌<◌, ◌≤◌, Bool, true, false, ◌&&◌, ◌||◌, not, List, [], ◌∷◌, ◌++◌, length, take, get_or, replicate, Option, Some, None, inl, inr, sym, subst, ap, ◌∙◌, arith}
+use Rattle.std.proofs.Common.{◌≡◌, ⊎_elim, refl, ℕ, ◌+◌, ◌*◌, ◌<◌, Bool, true, false, ◌&&◌, ◌||◌, not, List, [], ◌∷◌, ◌++◌, length, take, replicate, Some, None, inl, inr, sym, subst, ap, ◌∙◌, arith}
 use Rattle.std.specs.Prelude.{min, max}
 use Rattle.pp_entry.specs.Entries.{Row, row_at}
 use Rattle.pp_entry.specs.Texts.{body_at, chunks_of}
-use Rattle.pp_gate.specs.Files.{body, gate, whole_file}
+use Rattle.pp_gate.specs.Files.{body, whole_file}
 use Rattle.pp_gate.specs.Runs.{During}
 use Rattle.pp_gate.specs.Seal.{IsFront, IsHonest, IsKept, IsRun, KeepsIn, seal_ops}
-use Rattle.pp_gate.proofs.Images.{settled_leaves}
 use Rattle.pp_gate.proofs.Ops.{AllLeft, IsOldOr, published, published_slot, removed}
 use Rattle.pp_gate.proofs.SealLemmas.{seal_done, seal_during}
 use Rattle.pp_gate.proofs.Views.{done_view}
 use Rattle.pp_gate.proofs.WholeLemmas.{whole_holds, whole_honest, whole_kept}
-use Rattle.pp_world.specs.Disk.{View, Stored, settled, began, done, undone, LeavesOne}
+use Rattle.pp_world.specs.Disk.{View, Stored, settled, began, done}
 use Rattle.pp_world.specs.declared.op.DiskOp.{DiskOp}
 use Rattle.pp_world.specs.declared.op.DiskOp.TheVariants.{Draft, SyncDraft, Publish, Write, Sync, Remove}
-use Rattle.pp_law.specs.Lists.{Bytes, change}
+use Rattle.pp_law.specs.Lists.{Bytes}
 use Rattle.pp_law.specs.State.{Sent, Entry, Todo, Do, Enter, Acknowledge}
 use Rattle.pp_law.specs.Store.{is_of_draft, extended}
 use Rattle.pp_law.specs.Table.{is_entry_of, is_kept_row_of}
 use Rattle.pp_laws.specs.Runs.{IsIn}
-use Rattle.pp_laws.proofs.Lists.{Changed, in_change, in_filter, in_push, other, same}
+use Rattle.pp_laws.proofs.Lists.{Changed, in_change, in_push, other, same}
 use Rattle.pp_laws.proofs.Tests.{second_holds}
 use Rattle.pp_laws_crash.proofs.Backing.{Backed, BackedAt, claimed, honest_backed}
-use Rattle.pp_laws_crash.proofs.Going.{Ahead, Along, IfRecovers, MayShut, Rests, entries_after, kept_is_fresh, ops_of}
-use Rattle.pp_laws_crash.proofs.Lying.{Held, HeldAll, Lies, len_of}
-use Rattle.pp_laws_crash.proofs.Views.{began_failed, done_failed, during_map, left_map, name_same, same_name}
+use Rattle.pp_laws_crash.proofs.Going.{Ahead, Along, IfRecovers, Rests, entries_after, ops_of}
+use Rattle.pp_laws_crash.proofs.Lying.{Held, len_of}
+use Rattle.pp_laws_crash.proofs.Views.{during_map, left_map, name_same, same_name}
 
 -- ---- one file stands under a name
 

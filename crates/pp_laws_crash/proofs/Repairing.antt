@@ -1,5 +1,5 @@
 -- In the opening gates are closed that stand open behind one that does not; and recovery is over once there are none.
-use Rattle.std.proofs.Common.{◌≡◌, ◌≢◌, ◌⊎◌, ⊎_elim, refl, ℕ, ◌+◌, ◌-◌, ◌*◌, ◌<◌, ◌≤◌, nat_lt, nat_le, Bool, true, false, not, ◌==◌, ◌&&◌, ◌||◌, List, [], ◌∷◌, length, take, drop, get_or, bytes_eq, length-drop, Option, Some, None, inl, inr, sym, subst, ap, ◌∙◌, arith}
+use Rattle.std.proofs.Common.{◌≡◌, ◌⊎◌, ⊎_elim, refl, ℕ, ◌+◌, ◌-◌, ◌<◌, ◌≤◌, nat_lt, nat_le, Bool, true, false, not, ◌==◌, ◌&&◌, ◌||◌, List, [], ◌∷◌, length, take, drop, get_or, bytes_eq, length-drop, Option, Some, None, inl, inr, sym, subst, ap, ◌∙◌, arith}
 use Rattle.std.specs.Prelude.{is_some}
 use Rattle.std.specs.List.{list_all, list_any}
 use Rattle.std.proofs.lemmas.Bool.Decides.{nat_tests}
@@ -7,7 +7,7 @@ use Rattle.std.proofs.lemmas.List.{get_or-take, get_or-drop, length-take, length
 use Rattle.std.proofs.lemmas.List.Folds.{list_any_at}
 use Rattle.pp_entry.specs.Entries.{Row, row_at}
 use Rattle.pp_entry.specs.Gates.{leading_open}
-use Rattle.pp_entry.specs.Texts.{body_at, chunks_of}
+use Rattle.pp_entry.specs.Texts.{chunks_of}
 use Rattle.pp_gate.specs.Files.{gate, open_gates}
 use Rattle.pp_gate.proofs.GateLemmas.{opens_at_least, opens_at_most}
 use Rattle.pp_gate.proofs.PlaceLemmas.{gates_below}
@@ -17,16 +17,16 @@ use Rattle.pp_world.specs.Log.{Log}
 use Rattle.pp_world.specs.declared.op.DiskOp.{DiskOp}
 use Rattle.pp_world.specs.declared.op.DiskOp.TheVariants.{Draft, SyncDraft, Publish, Write, Sync, Remove}
 use Rattle.pp_law.specs.Lists.{Bytes, has_text}
-use Rattle.pp_law.specs.Repairs.{agenda_in_opening, are_strays, begin_in_opening, closes_strays, gates_of, has_stray_gates, has_strays_under, is_open_gate, may_repair, repair_of, sync_of}
-use Rattle.pp_law.specs.State.{State, Sent, Agenda, Entry, Todo, Do}
+use Rattle.pp_law.specs.Repairs.{are_strays, begin_in_opening, closes_strays, gates_of, has_stray_gates, has_strays_under, is_open_gate, may_repair, repair_of, sync_of}
+use Rattle.pp_law.specs.State.{State, Sent, Agenda, Entry, Do}
 use Rattle.pp_law.specs.Store.{begin_op, file_under, going_on, is_named}
 use Rattle.pp_laws.specs.Runs.{IsIn}
 use Rattle.pp_laws.proofs.Tests.{below, first_holds, second_holds}
 use Rattle.pp_laws_crash.proofs.Begins.{IsFirst, going_is}
 use Rattle.pp_laws_crash.proofs.Frames.{recovers}
-use Rattle.pp_laws_crash.proofs.Going.{Ahead, Along, Goes, IfRecovers, MayShut, OnName, Rests, ops_of}
+use Rattle.pp_laws_crash.proofs.Going.{Ahead, Along, IfRecovers, MayShut, OnName, Rests, ops_of}
 use Rattle.pp_laws_crash.proofs.Inv.{AtRest, Busy, InvOf, goes_on, is_shut, planned, rest_of, shut_of}
-use Rattle.pp_laws_crash.proofs.Lying.{Held, Lies, Loose, len_of}
+use Rattle.pp_laws_crash.proofs.Lying.{Held, Loose, len_of}
 use Rattle.pp_laws_crash.proofs.Shutting.{IsStray, shut_ahead}
 use Rattle.pp_laws_crash.proofs.Steps.{Inv, begin_inv, begin_none, empty_is, idle_is}
 use Rattle.pp_laws_crash.proofs.Views.{same_name}

@@ -1,18 +1,18 @@
 -- Gates that are open behind one that is not are closed while a life recovers: each entry holds what it held.
-use Rattle.std.proofs.Common.{◌≡◌, ◌≢◌, ◌⊎◌, ⊎_elim, refl, ℕ, ◌+◌, ◌*◌, ◌<◌, ◌≤◌, Bool, true, false, ◌&&◌, ◌||◌, nat_le, nat_lt, List, [], ◌∷◌, length, max, Option, Some, None, inl, inr, sym, subst, ap, ◌∙◌, arith}
+use Rattle.std.proofs.Common.{◌≡◌, ◌⊎◌, ⊎_elim, refl, ℕ, ◌+◌, ◌<◌, ◌≤◌, Bool, true, false, ◌&&◌, ◌||◌, nat_le, nat_lt, List, [], ◌∷◌, length, max, Option, inl, inr, sym, subst, ap, ◌∙◌, arith}
 use Rattle.std.proofs.lemmas.Bool.Decides.{nat_tests}
-use Rattle.pp_entry.specs.Texts.{body_at, chunks_of}
+use Rattle.pp_entry.specs.Texts.{chunks_of}
 use Rattle.pp_gate.specs.Runs.{During}
 use Rattle.pp_gate.proofs.Images.{length-splice, splice_after, splice_before}
 use Rattle.pp_gate.proofs.Ops.{AllLeft, begun_slot, sync_slot, write_slot}
 use Rattle.pp_gate.proofs.PlaceLemmas.{gates_below}
-use Rattle.pp_world.specs.Disk.{View, Stored, began, done, undone, is_loose, loosened, settled, splice, written}
+use Rattle.pp_world.specs.Disk.{View, Stored, began, done, undone, is_loose, loosened, splice, written}
 use Rattle.pp_world.specs.declared.op.DiskOp.TheVariants.{Write, Sync}
 use Rattle.pp_law.specs.Lists.{Bytes}
-use Rattle.pp_law.specs.State.{Sent, Entry, Todo, Do}
+use Rattle.pp_law.specs.State.{Sent, Entry, Do}
 use Rattle.pp_laws.specs.Runs.{IsIn}
-use Rattle.pp_laws_crash.proofs.Backing.{Backed, BackedAt}
-use Rattle.pp_laws_crash.proofs.Going.{Ahead, IfRecovers, MayShut, Rests}
+use Rattle.pp_laws_crash.proofs.Backing.{BackedAt}
+use Rattle.pp_laws_crash.proofs.Going.{Ahead, MayShut}
 use Rattle.pp_laws_crash.proofs.Lying.{Held, Lies, Loose, LooseAll, SameBut, held_loose, len_of, lies_same, loose_backed}
 use Rattle.pp_laws_crash.proofs.Views.{left_same}
 

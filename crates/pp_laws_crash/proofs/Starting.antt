@@ -1,5 +1,5 @@
 -- A draft and a seal that the law permits are such plans: what they write stands in memory, and was sent.
-use Rattle.std.proofs.Common.{◌≡◌, ◌⊎◌, ⊎_elim, refl, ℕ, zero, suc, ◌+◌, ◌-◌, ◌*◌, ◌/◌, ◌<◌, ◌≤◌, nat_lt, nat_le, Bool, true, false, not, ◌==◌, ◌&&◌, ◌||◌, List, [], ◌∷◌, ◌++◌, length, get_or, replicate, Option, Some, None, inl, inr, sym, subst, ap, ◌∙◌, arith}
+use Rattle.std.proofs.Common.{◌≡◌, ◌⊎◌, ⊎_elim, refl, ℕ, zero, suc, ◌+◌, ◌-◌, ◌*◌, ◌/◌, ◌<◌, ◌≤◌, nat_lt, nat_le, Bool, true, false, not, ◌==◌, ◌&&◌, ◌||◌, List, [], ◌∷◌, length, get_or, replicate, Some, None, inl, inr, sym, subst, ap, ◌∙◌, arith}
 use Rattle.std.specs.Prelude.{min, max}
 use Rattle.std.proofs.lemmas.Bool.Decides.{nat_tests}
 use Rattle.pp_entry.specs.Entries.{Row, row_at}
@@ -11,9 +11,9 @@ use Rattle.pp_target.specs.Name.{name_of}
 use Rattle.pp_world.specs.Disk.{view_of}
 use Rattle.pp_world.specs.declared.op.DiskOp.TheVariants.{Draft, SyncDraft, Publish, Write, Sync}
 use Rattle.pp_law.specs.Chunks.{chunk_len}
-use Rattle.pp_law.specs.Lists.{Bytes, has_text}
-use Rattle.pp_law.specs.State.{State, Sent, Agenda, Chunk, Entry, Instance, Todo, Do, Enter, Acknowledge}
-use Rattle.pp_law.specs.Store.{block_of, drafted_with, drafting, draft_of, end_of_run, file_of, has_first_run, is_full_run, new_entry, noting, run_bytes, run_from, run_len, seal_of, sealing, whole_run}
+use Rattle.pp_law.specs.Lists.{Bytes}
+use Rattle.pp_law.specs.State.{State, Agenda, Chunk, Entry, Instance, Todo, Do, Enter, Acknowledge}
+use Rattle.pp_law.specs.Store.{block_of, drafted_with, drafting, draft_of, end_of_run, file_of, has_first_run, is_full_run, new_entry, run_bytes, run_from, run_len, seal_of, sealing, whole_run}
 use Rattle.pp_law.specs.Table.{is_kept_row_of}
 use Rattle.pp_laws.specs.Runs.{IsIn}
 use Rattle.pp_laws.proofs.Joins.{HeldOf}
@@ -21,7 +21,7 @@ use Rattle.pp_laws.proofs.Lists.{in_find}
 use Rattle.pp_laws.proofs.Tests.{below, first_holds, same_bytes, same_number, second_holds}
 use Rattle.pp_laws_crash.proofs.Backing.{claimed}
 use Rattle.pp_laws_crash.proofs.Begins.{IsFree, MayDraft, MaySeal, ReadsBack, block_full, draft_is, free_is, reads_back, seal_is}
-use Rattle.pp_laws_crash.proofs.Going.{Ahead, OnName, Rests, kept_is_fresh}
+use Rattle.pp_laws_crash.proofs.Going.{Ahead, Rests, kept_is_fresh}
 use Rattle.pp_laws_crash.proofs.Inv.{AtRest, InvOf, planned}
 use Rattle.pp_laws_crash.proofs.Lying.{Held, len_of}
 use Rattle.pp_laws_crash.proofs.Plans.{draft_ahead, draft_noted_ahead, seal_ahead, seal_each}

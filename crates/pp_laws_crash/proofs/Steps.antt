@@ -1,38 +1,31 @@
 -- Each permitted happening keeps what holds of the disk.
-use Rattle.std.proofs.Common.{◌≡◌, ◌⊎◌, ⊎_elim, refl, ℕ, zero, suc, ◌+◌, ◌-◌, ◌*◌, ◌/◌, ◌<◌, ◌≤◌, nat_lt, nat_le, Bool, true, false, not, ◌==◌, ◌&&◌, ◌||◌, List, [], ◌∷◌, ◌++◌, length, take, drop, find, filter, get_or, bytes_eq, Option, Some, None, Result, Ok, Err, inl, inr, sym, subst, ap, ◌∙◌, arith}
+use Rattle.std.proofs.Common.{◌≡◌, refl, ℕ, ◌≤◌, Bool, true, false, not, ◌==◌, ◌&&◌, List, [], ◌∷◌, ◌++◌, drop, find, bytes_eq, Option, Some, None, sym, subst, ap, ◌∙◌}
 use Rattle.std.specs.Prelude.{is_some}
-use Rattle.std.specs.List.{list_any}
-use Rattle.std.proofs.lemmas.Bool.Decides.{nat_tests}
-use Rattle.pp_conf.specs.Conf.{Settings}
 use Rattle.pp_text.specs.Bytes.{is_empty}
-use Rattle.pp_target.specs.Name.{name_of}
-use Rattle.pp_gate.specs.Runs.{IsOn}
 use Rattle.pp_world.specs.Disk.{view_of}
 use Rattle.pp_world.specs.Log.{Log}
 use Rattle.pp_world.specs.declared.happening.Happening.TheVariants.{Began, Did}
 use Rattle.pp_world.specs.declared.op.DiskOp.{DiskOp}
-use Rattle.pp_law.specs.After.{begun_op, ended_op, unread, paid}
+use Rattle.pp_law.specs.After.{ended_op, unread}
 use Rattle.pp_law.specs.Lists.{Bytes, change, has_text, is_some_with, without}
 use Rattle.pp_law.specs.Opening.{is_opening, lose_in_opening}
-use Rattle.pp_law.specs.Phases.{come_to}
-use Rattle.pp_law.specs.State.{State, Sent, Agenda, no_agenda, Entry, Instance, Chunk, Todo, Do, Enter, Acknowledge, Phase, Owed, Free}
+use Rattle.pp_law.specs.State.{State, Sent, Agenda, no_agenda, Entry, Instance, Todo, Do, Enter, Acknowledge}
 use Rattle.pp_world.specs.declared.op.DiskOp.TheVariants.{Draft, SyncDraft, Publish, Write, Sync, Remove}
-use Rattle.pp_law.specs.Store.{agenda_in_turn, begin_in_turn, begin_op, close_name, end_op, enter_next, extended, fail_op, is_of_draft, is_same_op, lose_draft, lose_entry, may_end_op, note_gone, note_kept, plan_of, remove_entry, removing, is_closed, is_named, is_acknowledged_as}
+use Rattle.pp_law.specs.Store.{agenda_in_turn, begin_in_turn, begin_op, close_name, end_op, enter_next, extended, fail_op, is_of_draft, is_same_op, lose_draft, lose_entry, note_gone, note_kept, plan_of, remove_entry, removing, is_closed, is_named, is_acknowledged_as}
 use Rattle.pp_law.specs.Table.{is_entry_of, is_kept_row_of}
-use Rattle.pp_laws.specs.Origin.{IsBackPart}
 use Rattle.pp_laws.specs.Runs.{IsIn}
 use Rattle.pp_laws.proofs.Joins.{HeldOf}
 use Rattle.pp_laws.proofs.Lists.{in_filter, in_find}
 use Rattle.pp_laws.proofs.Tests.{first_holds, same_bytes, same_number, second_holds}
-use Rattle.pp_laws_crash.proofs.Begins.{Begun, IsFirst, begins, begun_is, draft_is, goes_on as begun_goes, not_true, same_op}
+use Rattle.pp_laws_crash.proofs.Begins.{Begun, IsFirst, begins, begun_is, goes_on as begun_goes, not_true, same_op}
 use Rattle.pp_laws_crash.proofs.Frames.{Kept, OwedIn, kept_self, parts_of, recovers}
-use Rattle.pp_laws_crash.proofs.Going.{OnName, Rests}
+use Rattle.pp_laws_crash.proofs.Going.{Rests}
 use Rattle.pp_laws_crash.proofs.Inv.{AtRest, InvOf, began_inv, closed_rest, did_inv, entered_inv, fewer_rest, idle, inv_more, lost_rest, noted_inv, planned, rest_of, shut_rest}
-use Rattle.pp_laws_crash.proofs.Plans.{AreOne, are_one, remove_ahead}
+use Rattle.pp_laws_crash.proofs.Plans.{are_one, remove_ahead}
 use Rattle.pp_laws_crash.proofs.KeptTurns.{paid-kept}
 use Rattle.pp_laws_crash.proofs.Standing.{recovers_opens}
 use Rattle.pp_laws_crash.proofs.Starting.{draft_inv, seal_inv}
-use Rattle.pp_laws_crash.proofs.Views.{differs, name_same, same_name}
+use Rattle.pp_laws_crash.proofs.Views.{differs}
 
 -- what holds of a state
 pub record Inv (s : State) : Type 0 where

@@ -1,5 +1,5 @@
 -- A life begins with files that a crash left, or with none that is an entry.
-use Rattle.std.proofs.Common.{◌≡◌, ◌≢◌, ◌⊎◌, ⊎_elim, refl, ℕ, zero, suc, ◌+◌, ◌*◌, ◌<◌, ◌≤◌, nat_lt, nat_le, Bool, true, false, ◌==◌, ◌&&◌, ◌||◌, not, List, [], ◌∷◌, ◌++◌, length, take, drop, map, get_or, Option, Some, None, inl, inr, sym, subst, ap, ap₂, ◌∙◌, arith, length-append, length-drop}
+use Rattle.std.proofs.Common.{◌≡◌, ◌⊎◌, ⊎_elim, refl, ℕ, zero, suc, ◌+◌, ◌*◌, ◌<◌, ◌≤◌, nat_lt, nat_le, Bool, true, false, ◌==◌, ◌&&◌, ◌||◌, List, [], ◌∷◌, ◌++◌, length, take, drop, map, get_or, Option, Some, None, inl, inr, sym, subst, ap, ap₂, ◌∙◌, arith, length-append, length-drop}
 use Rattle.std.specs.Prelude.{min, cond, filter_map, flat_map, bytes_eq, fold}
 use Rattle.std.specs.List.{cons_option}
 use Rattle.std.proofs.lemmas.List.{get_or-take, get_or-drop, length-take, length-take-le}
@@ -12,7 +12,6 @@ use Rattle.pp_entry.specs.Gates.{leading_open}
 use Rattle.pp_entry.specs.Texts.{body_at, chunks_of}
 use Rattle.pp_gate.specs.Files.{body, extent_in, gate, open_gates}
 use Rattle.pp_gate.proofs.Images.{settled_leaves}
-use Rattle.pp_gate.proofs.Ops.{AllLeft, one_leaves}
 use Rattle.pp_gate.proofs.PlaceLemmas.{gates_below}
 use Rattle.pp_recover.proofs.ShutLemmas.{leads_open, leads_within, stops_shut}
 use Rattle.pp_target.specs.Name.{name_of}
@@ -29,10 +28,9 @@ use Rattle.pp_law.specs.Lists.{Bytes, has_text}
 use Rattle.pp_law.specs.Opening.{is_as_it_was, is_left_behind, leaves, leaves_one, leaves_under, names_of, once}
 use Rattle.pp_law.specs.State.{Sent, Entry}
 use Rattle.pp_laws.specs.Runs.{IsIn}
-use Rattle.pp_laws.proofs.Lists.{in_front}
 use Rattle.pp_laws.proofs.Tests.{below, first_holds, second_holds}
 use Rattle.pp_recover.proofs.NameLemmas.{Distinct, NotIn, distinct}
-use Rattle.pp_laws_crash.proofs.Backing.{Backed, BackedAt, IsEntryIn, body_is, claimed, claims, entry_told, is_sent}
+use Rattle.pp_laws_crash.proofs.Backing.{Backed, BackedAt, IsEntryIn, body_is, claims, entry_told, is_sent}
 use Rattle.pp_laws_crash.proofs.Going.{Rests}
 use Rattle.pp_laws_crash.proofs.Inv.{AtRest}
 use Rattle.pp_laws_crash.proofs.Lying.{Held, len_of}

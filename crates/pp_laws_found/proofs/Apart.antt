@@ -1,9 +1,11 @@
 -- Lists in which each text stands once.
-use Rattle.std.proofs.Common.{◌≡◌, ◌⊎◌, ⊎_elim, refl, ℕ, suc, ◌+◌, ◌<◌, ◌≤◌, Bool, true, false, not, List, [], ◌∷◌, ◌++◌, length, filter, cond, bytes_eq, inl, inr, sym, subst, ap, ◌∙◌, arith, length-append}
+use Rattle.std.proofs.Common.{◌≡◌, refl, suc, ◌+◌, ◌≤◌, Bool, true, false, not, List, [], ◌∷◌, length, map, filter, cond, bytes_eq, inl, inr, sym, subst, ap, ◌∙◌, arith}
 use Rattle.pp_law.specs.Lists.{Bytes, without}
+use Rattle.pp_law.specs.State.{Entry}
 use Rattle.pp_laws.specs.Runs.{IsIn}
 use Rattle.pp_laws.proofs.Lists.{in_filter}
 use Rattle.pp_laws_crash.proofs.Views.{differs, name_same, same_name, unlike}
+use Rattle.pp_laws_found.proofs.FoundInv.{into_filter}
 
 abbrev pub AreApart : List Bytes → Type 0
 AreApart [] = Unit {0}
@@ -46,16 +48,6 @@ one_out n [] i = absurd i
 one_out n (m ∷ ms) (inl eq) = out_by n m ms (bytes_eq n m) refl (λ isnt. let both : true ≡ false = sym (name_same n) ∙ ap (bytes_eq n) eq ∙ isnt in absurd (cc both)) (fewer n ms)
 one_out n (m ∷ ms) (inr i) = out_by n m ms (bytes_eq n m) refl (λ isnt. one_out n ms i) (fewer n ms)
 
-into_by : (p : Bytes → Bool) (n m : Bytes) (ms : List Bytes) (b : Bool) → p m ≡ b → ((n ≡ m) ⊎ IsIn n (filter p ms)) → p n ≡ true → IsIn n (cond b (m ∷ filter p ms) (filter p ms))
-into_by p n m ms true is here holds = here
-into_by p n m ms false is (inl eq) holds = let both : false ≡ true = sym is ∙ ap p (sym eq) ∙ holds in absurd (cc both)
-into_by p n m ms false is (inr i) holds = i
-
-pub into_filter : (p : Bytes → Bool) (n : Bytes) (ms : List Bytes) → IsIn n ms → p n ≡ true → IsIn n (filter p ms)
-into_filter p n [] i holds = absurd i
-into_filter p n (m ∷ ms) (inl eq) holds = into_by p n m ms (p m) refl (inl eq) holds
-into_filter p n (m ∷ ms) (inr i) holds = into_by p n m ms (p m) refl (inr (into_filter p n ms i holds)) holds
-
 pub into_without : (n m : Bytes) (ms : List Bytes) → IsIn m ms → (n ≡ m → ⊥) → IsIn m (without (bytes_eq n) ms)
 into_without n m ms i differ = into_filter (λ k. not (bytes_eq n k)) m ms i (ap not (unlike (bytes_eq n m) (λ is. differ (same_name n m is))))
 
@@ -65,3 +57,17 @@ pigeons [] ms a each = omega arith
 pigeons (n ∷ ns) ms a each =
     let rest = pigeons ns (without (bytes_eq n) ms) a.1 (λ m i. into_without n m ms (each m (inr i)) (λ is. a.0 (subst (λ k. IsIn k ns) (sym is) i))) in
     omega (arith, rest, one_out n ms (each n (inl refl)))
+
+-- ---- the names of entries
+
+abbrev pub entry_name : Entry → Bytes
+entry_name e = e.name
+
+pub entry_named : (e : Entry) (es : List Entry) → IsIn e es → IsIn e.name (map entry_name es)
+entry_named e [] i = absurd i
+entry_named e (x ∷ es) (inl eq) = inl (ap entry_name eq)
+entry_named e (x ∷ es) (inr i) = inr (entry_named e es i)
+
+pub map_length : {A B : Type 0} (f : A → B) (xs : List A) → length (map f xs) ≡ length xs
+map_length f [] = refl
+map_length f (x ∷ xs) = let rest = map_length f xs in omega (arith, rest)

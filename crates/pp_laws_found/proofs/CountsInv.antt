@@ -1,10 +1,10 @@
 -- What holds of the names under which files stand, and how operations keep it.
-use Rattle.std.proofs.Common.{◌≡◌, ◌⊎◌, ⊎_elim, refl, ℕ, suc, ◌+◌, ◌<◌, ◌≤◌, Bool, true, false, ◌||◌, not, List, [], ◌∷◌, ◌++◌, length, map, bytes_eq, Option, Some, None, inl, inr, sym, subst, ap, ◌∙◌, arith}
+use Rattle.std.proofs.Common.{◌≡◌, ◌⊎◌, ⊎_elim, refl, ℕ, ◌<◌, ◌≤◌, Bool, true, false, ◌||◌, not, List, [], ◌∷◌, ◌++◌, length, map, bytes_eq, Option, Some, None, inl, inr, sym, subst, ap, ◌∙◌, arith}
 use Rattle.std.specs.Prelude.{fold}
 use Rattle.std.proofs.lemmas.List.Sums.{fold-append}
 use Rattle.pp_gate.specs.Runs.{During, IsOn}
 use Rattle.pp_gate.proofs.Ops.{AllLeft}
-use Rattle.pp_world.specs.Disk.{LeavesOne, Stored, View, began, done, undone, view_of, where_on}
+use Rattle.pp_world.specs.Disk.{LeavesOne, View, began, done, undone, view_of, where_on}
 use Rattle.pp_world.specs.Log.{Log}
 use Rattle.pp_world.specs.declared.happening.Happening.{Happening}
 use Rattle.pp_world.specs.declared.happening.Happening.TheVariants.{Woke, Began, Did}
@@ -12,12 +12,12 @@ use Rattle.pp_world.specs.declared.op.DiskOp.{DiskOp}
 use Rattle.pp_world.specs.declared.op.DiskOp.TheVariants.{Draft, SyncDraft, Publish, Write, Sync, Remove}
 use Rattle.pp_law.specs.Entries.{entries_in, entry_in}
 use Rattle.pp_law.specs.Lists.{Bytes, has_text, without}
-use Rattle.pp_law.specs.State.{Entry, Agenda, no_agenda, Todo, Do, Enter, Acknowledge}
+use Rattle.pp_law.specs.State.{Entry, Agenda, Todo, Do, Enter, Acknowledge}
 use Rattle.pp_laws.specs.Runs.{IsIn}
 use Rattle.pp_laws.proofs.Lists.{in_filter}
 use Rattle.pp_laws_crash.proofs.Going.{ops_of}
 use Rattle.pp_laws_crash.proofs.Inv.{same_or}
-use Rattle.pp_laws_crash.proofs.Views.{differs, during_now, left_same, name_same, other_began, other_done, undone_slot, view_more}
+use Rattle.pp_laws_crash.proofs.Views.{during_now, left_same, name_same, other_began, other_done, undone_slot, view_more}
 use Rattle.pp_laws_found.proofs.Apart.{AreApart, apart_filter, apart_push, fewer, into_without, out_of}
 use Rattle.pp_laws_found.proofs.FoundInv.{HasEntry, IsKnown, last_entry, pushed_entry}
 

@@ -1,10 +1,9 @@
 -- The law: the folder has few files, whatever a crash leaves.
-use Rattle.std.proofs.Common.{◌≡◌, refl, ℕ, ◌≤◌, Bool, true, false, not, ◌==◌, ◌&&◌, List, [], ◌∷◌, length, map, nat_le, Option, Some, None, Result, Ok, Err, inl, inr, sym, subst, ap, ◌∙◌, arith}
+use Rattle.std.proofs.Common.{◌≡◌, refl, ℕ, ◌≤◌, Bool, true, false, not, ◌&&◌, List, [], ◌∷◌, length, map, nat_le, Option, Some, None, inl, inr, subst, ap, arith}
 use Rattle.std.specs.Prelude.{is_some}
 use Rattle.std.proofs.lemmas.Bool.Decides.{nat_tests}
 use Rattle.pp_conf.specs.Conf.{Settings}
 use Rattle.pp_conf.specs.Words.{reading_of}
-use Rattle.pp_gate.proofs.Ops.{AllLeft}
 use Rattle.pp_recover.proofs.NameLemmas.{Distinct, distinct}
 use Rattle.pp_text.specs.Bytes.{is_empty}
 use Rattle.pp_world.specs.Disk.{LeavesOne, is_rising, view_of}
@@ -16,7 +15,7 @@ use Rattle.pp_world.specs.declared.note.Remark.TheVariants.{Taken, Cut, Kept as 
 use Rattle.pp_world.specs.declared.op.DiskOp.{DiskOp}
 use Rattle.pp_law.specs.After.{after, changed, ended_op, noted}
 use Rattle.pp_law.specs.Entries.{entries_in}
-use Rattle.pp_law.specs.Lawful.{Lawful, LawfulFrom}
+use Rattle.pp_law.specs.Lawful.{LawfulFrom}
 use Rattle.pp_law.specs.Lists.{Bytes}
 use Rattle.pp_law.specs.Opening.{are_texts, begun, configured, is_left_behind, may_fail, names_file, opened_to, permits_image, permits_woke, settings_in, stuck, with_settings, woken}
 use Rattle.pp_law.specs.Permits.{IsPermitted, permits, permits_noted}
@@ -38,9 +37,10 @@ use Rattle.pp_laws_crash.proofs.Steps.{HoldsAll, Inv, at_rest_of, empty_is, idle
 use Rattle.pp_laws_crash.proofs.Waking.{found_in, name_of_file}
 use Rattle.pp_laws_found.specs.Counts.{ImagesAreSmall}
 use Rattle.pp_laws_found.specs.Found.{noted_of}
-use Rattle.pp_laws_found.proofs.CountsInv.{AllCounted, CleanAt, counts_rest, entry_names}
+use Rattle.pp_laws_found.proofs.Apart.{map_length}
+use Rattle.pp_laws_found.proofs.CountsInv.{AllCounted, CleanAt, counts_rest}
 use Rattle.pp_laws_found.proofs.CountsSteps.{Counts, began_counts, counts_kept, done_counts, failed_counts, gone_counts, kept_counts, unread_counts}
-use Rattle.pp_laws_found.proofs.CountsWaking.{IsLeft, entries_few, few_files, map_length, woken_counts}
+use Rattle.pp_laws_found.proofs.CountsWaking.{IsLeft, entries_few, few_files, woken_counts}
 use Rattle.pp_laws_found.proofs.FoundInv.{Acks}
 use Rattle.pp_laws_found.proofs.FoundLaws.{changed_found, start_found}
 use Rattle.pp_laws_found.proofs.FoundSteps.{FoundInv}

@@ -1,6 +1,6 @@
 -- What is planned keeps the files few: a draft, a seal, a repair, a removal.
-use Rattle.std.proofs.Common.{◌≡◌, ◌⊎◌, ⊎_elim, refl, ℕ, ◌+◌, ◌*◌, ◌/◌, ◌<◌, ◌≤◌, nat_lt, Bool, true, false, ◌==◌, ◌&&◌, not, List, [], ◌∷◌, ◌++◌, length, map, filter, bytes_eq, Option, Some, None, inl, inr, sym, subst, ap, ◌∙◌, arith, length-append}
-use Rattle.std.specs.Prelude.{min, count_by}
+use Rattle.std.proofs.Common.{◌≡◌, ⊎_elim, refl, ℕ, ◌+◌, ◌*◌, ◌/◌, ◌<◌, ◌≤◌, Bool, true, false, ◌==◌, ◌&&◌, not, List, [], ◌∷◌, ◌++◌, length, map, filter, Option, Some, None, inl, inr, sym, subst, ap, ◌∙◌, arith, length-append}
+use Rattle.std.specs.Prelude.{min}
 use Rattle.std.specs.List.{list_any}
 use Rattle.std.proofs.lemmas.List.Sums.{length-filter}
 use Rattle.pp_gate.specs.Runs.{During}
@@ -12,28 +12,27 @@ use Rattle.pp_world.specs.declared.op.DiskOp.TheVariants.{Draft, SyncDraft, Publ
 use Rattle.pp_law.specs.Chunks.{chunk_len}
 use Rattle.pp_law.specs.Lists.{Bytes, change, has_text}
 use Rattle.pp_law.specs.State.{State, Sent, Agenda, Entry, Instance, Todo, Do, Enter, Acknowledge}
-use Rattle.pp_law.specs.Store.{drafted_with, drafting, draft_of, extended, file_of, has_free_name, is_closed, is_named, names_taken, new_entry, run_bytes, run_from, seal_of, sealing}
+use Rattle.pp_law.specs.Store.{drafted_with, drafting, draft_of, extended, file_of, is_closed, is_named, names_taken, new_entry, run_bytes, run_from, seal_of, sealing}
 use Rattle.pp_law.specs.Table.{is_kept_row_of}
 use Rattle.pp_laws.specs.Runs.{IsIn}
 use Rattle.pp_laws.proofs.Joins.{HeldOf}
 use Rattle.pp_laws.proofs.Tests.{below, second_holds}
 use Rattle.pp_laws_crash.proofs.Backing.{claimed}
-use Rattle.pp_laws_crash.proofs.Begins.{IsFree, MayDraft, MaySeal, draft_is, free_is, seal_is}
+use Rattle.pp_laws_crash.proofs.Begins.{MayDraft, MaySeal, draft_is, seal_is}
 use Rattle.pp_laws_crash.proofs.Frames.{in_changed}
-use Rattle.pp_laws_crash.proofs.Going.{Rests, entries_after, ops_of}
 use Rattle.pp_laws_crash.proofs.Inv.{AtRest, Busy, InvOf, goes_on, is_shut}
-use Rattle.pp_laws_crash.proofs.Lying.{Held, Loose, len_of}
+use Rattle.pp_laws_crash.proofs.Lying.{Held, len_of}
 use Rattle.pp_laws_crash.proofs.Plans.{one_slot}
 use Rattle.pp_laws_crash.proofs.Repairing.{Repairs}
 use Rattle.pp_laws_crash.proofs.Shutting.{shut_each}
 use Rattle.pp_laws_crash.proofs.Starting.{held as seal_held, seal_keeps, there as seal_there}
 use Rattle.pp_laws_crash.proofs.Views.{during_map, left_map, name_same}
 use Rattle.pp_laws_crash.proofs.Waking.{has_in}
-use Rattle.pp_laws_found.specs.Found.{Acknowledged, IsEntryOf}
-use Rattle.pp_laws_found.proofs.Apart.{AreApart, pigeons}
+use Rattle.pp_laws_found.specs.Found.{Acknowledged}
+use Rattle.pp_laws_found.proofs.Apart.{AreApart, entry_name, entry_named, map_length, pigeons}
 use Rattle.pp_laws_found.proofs.CountsInv.{AllCounted, AllNamed, CleanAt, CountsOf, CountsOn, IsEntryAt, entry_names, moves_next, named_now}
-use Rattle.pp_laws_found.proofs.FoundAt.{Agrees, Found, FoundAt, held_found, honest_found, lies_found, loose_found, loose_itself, settled_itself}
-use Rattle.pp_laws_found.proofs.FoundInv.{HasEntry, IsKnown, into_filter}
+use Rattle.pp_laws_found.proofs.FoundAt.{Agrees, FoundAt, honest_found, lies_found, loose_found, loose_itself, settled_itself}
+use Rattle.pp_laws_found.proofs.FoundInv.{HasEntry, into_filter}
 
 -- ---- an entry of the store is one of the folder
 
@@ -64,18 +63,6 @@ in_append_back : (n : Bytes) (xs ys : List Bytes) → IsIn n ys → IsIn n (xs +
 in_append_back n [] ys i = i
 in_append_back n (x ∷ xs) ys i = inr (in_append_back n xs ys i)
 
-abbrev entry_name : Entry → Bytes
-entry_name e = e.name
-
-named_in : (e : Entry) (es : List Entry) → IsIn e es → IsIn e.name (map entry_name es)
-named_in e [] i = absurd i
-named_in e (x ∷ es) (inl eq) = inl (ap entry_name eq)
-named_in e (x ∷ es) (inr i) = inr (named_in e es i)
-
-map_length : (es : List Entry) → length (map entry_name es) ≡ length es
-map_length [] = refl
-map_length (e ∷ es) = grind (arith, map_length es)
-
 module _ (s : State) (apart : AreApart (entry_names s.disk)) (known : AllNamed s.disk s.closed_names s.entries) where
   abbrev is_open : Entry → Bool
   is_open e = not (is_closed s e.name)
@@ -83,13 +70,13 @@ module _ (s : State) (apart : AreApart (entry_names s.disk)) (known : AllNamed s
   there_by : (n : Bytes) (b : Bool) → has_text n s.closed_names ≡ b → HasEntry s.entries n → IsIn n (s.closed_names ++ map entry_name (filter is_open s.entries))
   there_by n true shut has = in_append_front n s.closed_names _ (has_in n s.closed_names shut)
   there_by n false isnt has = in_append_back n s.closed_names (map entry_name (filter is_open s.entries))
-      (subst (λ m. IsIn m (map entry_name (filter is_open s.entries))) has.named (named_in has.entry (filter is_open s.entries) (into_filter is_open has.entry s.entries has.there (ap not (ap (λ (m : Bytes). has_text m s.closed_names) has.named ∙ isnt)))))
+      (subst (λ m. IsIn m (map entry_name (filter is_open s.entries))) has.named (entry_named has.entry (filter is_open s.entries) (into_filter is_open has.entry s.entries has.there (ap not (ap (λ (m : Bytes). has_text m s.closed_names) has.named ∙ isnt)))))
 
   there : (n : Bytes) → IsIn n (entry_names s.disk) → IsIn n (s.closed_names ++ map entry_name (filter is_open s.entries))
   there n i = ⊎_elim (λ (shut : has_text n s.closed_names ≡ true). in_append_front n s.closed_names _ (has_in n s.closed_names shut)) (λ (has : HasEntry s.entries n). there_by n (has_text n s.closed_names) refl has) (known n i)
 
   taken : length (s.closed_names ++ map entry_name (filter is_open s.entries)) ≡ names_taken s
-  taken = length-append s.closed_names (map entry_name (filter is_open s.entries)) ∙ ap (λ (k : ℕ). length s.closed_names + k) (map_length (filter is_open s.entries) ∙ length-filter is_open s.entries)
+  taken = length-append s.closed_names (map entry_name (filter is_open s.entries)) ∙ ap (λ (k : ℕ). length s.closed_names + k) (map_length entry_name (filter is_open s.entries) ∙ length-filter is_open s.entries)
 
   -- each name under which an entry may stand is taken
   pub names_few : length (entry_names s.disk) ≤ names_taken s

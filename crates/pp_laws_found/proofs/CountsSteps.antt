@@ -1,14 +1,13 @@
 -- Each happening keeps the files few.
-use Rattle.std.proofs.Common.{◌≡◌, ◌⊎◌, ⊎_elim, refl, ℕ, ◌+◌, ◌≤◌, ◌==◌, Bool, true, false, ◌||◌, ◌&&◌, not, List, [], ◌∷◌, ◌++◌, drop, find, filter, bytes_eq, Option, Some, None, inl, inr, sym, subst, ap, ◌∙◌}
+use Rattle.std.proofs.Common.{◌≡◌, ◌⊎◌, ⊎_elim, refl, ℕ, ◌≤◌, Bool, true, false, ◌&&◌, not, List, [], ◌∷◌, ◌++◌, drop, find, bytes_eq, Option, Some, None, inl, inr, sym, subst, ap, ◌∙◌}
 use Rattle.std.specs.Prelude.{is_some}
 use Rattle.std.specs.List.{list_any}
 use Rattle.pp_gate.specs.Runs.{IsOn}
 use Rattle.pp_target.specs.Name.{name_of}
-use Rattle.pp_text.specs.Bytes.{is_empty}
 use Rattle.pp_world.specs.Disk.{view_of}
 use Rattle.pp_world.specs.Log.{Log}
-use Rattle.pp_world.specs.declared.happening.Happening.TheVariants.{Began, Did, Noted}
-use Rattle.pp_world.specs.declared.note.Remark.TheVariants.{Kept as NotedKept, Gone}
+use Rattle.pp_world.specs.declared.happening.Happening.TheVariants.{Began, Did}
+use Rattle.pp_world.specs.declared.note.Remark.TheVariants.{Kept as NotedKept}
 use Rattle.pp_world.specs.declared.op.DiskOp.{DiskOp}
 use Rattle.pp_world.specs.declared.op.DiskOp.TheVariants.{Draft, SyncDraft, Publish, Write, Sync, Remove}
 use Rattle.pp_law.specs.After.{begun_op, ended_op, unread}
@@ -16,8 +15,8 @@ use Rattle.pp_law.specs.Lists.{Bytes, change, has_text, without}
 use Rattle.pp_law.specs.Opening.{is_at, is_opening, lose_in_opening}
 use Rattle.pp_law.specs.Permits.{permits_began, permits_noted}
 use Rattle.pp_law.specs.Phases.{come_to, may_in}
-use Rattle.pp_law.specs.Repairs.{agenda_in_opening, begin_in_opening, closes_strays, has_strays_under, may_begin_in_opening, may_repair, repair_of, sync_of}
-use Rattle.pp_law.specs.State.{State, Sent, Agenda, no_agenda, Entry, Instance, Todo, Do, Enter, Acknowledge, Phase, IsListed, Keeping}
+use Rattle.pp_law.specs.Repairs.{begin_in_opening, closes_strays, has_strays_under, may_begin_in_opening, may_repair, repair_of, sync_of}
+use Rattle.pp_law.specs.State.{State, Agenda, no_agenda, Entry, Instance, Todo, Do, Enter, Acknowledge, IsListed, Keeping}
 use Rattle.pp_law.specs.Store.{agenda_in_turn, begin_in_turn, begin_op, close_name, end_op, enter_next, extended, fail_op, going_on, is_closed, is_named, is_of_draft, lose_draft, lose_entry, may_begin_in_turn, note_gone, note_kept, plan_of, remove_entry, removing}
 use Rattle.pp_law.specs.Table.{is_entry_of, is_kept_row_of}
 use Rattle.pp_laws.specs.Runs.{IsIn}
@@ -29,11 +28,9 @@ use Rattle.pp_laws_crash.proofs.Going.{OnName}
 use Rattle.pp_laws_crash.proofs.Happenings.{either_is, in_so, listed_opens, opens_not, test_so}
 use Rattle.pp_laws_crash.proofs.Inv.{AtRest, InvOf, rest_of}
 use Rattle.pp_laws_crash.proofs.KeptTurns.{come_to-kept, paid-kept}
-use Rattle.pp_laws_crash.proofs.Lying.{Held}
-use Rattle.pp_laws_crash.proofs.Repairing.{Repairs, repair_plan}
+use Rattle.pp_laws_crash.proofs.Repairing.{repair_plan}
 use Rattle.pp_laws_crash.proofs.Standing.{at_IsListed, at_Keeping, opening_still}
-use Rattle.pp_laws_crash.proofs.Steps.{HoldsAll, Inv, at_rest_of, idle_is, inv_kept, planned_by}
-use Rattle.pp_laws_crash.proofs.Views.{same_name}
+use Rattle.pp_laws_crash.proofs.Steps.{HoldsAll, Inv, idle_is, inv_kept, planned_by}
 use Rattle.pp_laws_found.proofs.CountsInv.{AllCounted, AllNamed, CountsOf, CountsOn, counts_began, counts_done, counts_entered, counts_failed, counts_map, counts_noted, counts_planned, counts_rest, entry_names, names_failed, moves, moves_by, moves_next, named_now}
 use Rattle.pp_laws_found.proofs.CountsPlans.{counts_draft, counts_remove, counts_repair, counts_seal}
 use Rattle.pp_laws_found.proofs.FoundInv.{HasEntry, IsKnown, closes, into_filter}

@@ -1,13 +1,11 @@
 -- A life begins with the files that a crash left: they are as few as they were.
-use Rattle.std.proofs.Common.{◌≡◌, ◌⊎◌, ⊎_elim, refl, ℕ, ◌+◌, ◌≤◌, Bool, true, false, ◌||◌, ◌&&◌, not, List, [], ◌∷◌, ◌++◌, length, map, filter, cond, bytes_eq, nat_le, Option, Some, None, inl, inr, sym, subst, ap, ◌∙◌, arith}
+use Rattle.std.proofs.Common.{◌≡◌, refl, ◌≤◌, Bool, true, false, not, List, [], ◌∷◌, length, map, filter, cond, Option, Some, None, inl, inr, sym, subst, ap, ◌∙◌, arith}
 use Rattle.std.specs.Prelude.{filter_map, is_some}
 use Rattle.std.specs.List.{cons_option}
-use Rattle.std.proofs.lemmas.Bool.Decides.{nat_tests}
 use Rattle.pp_gate.proofs.Images.{settled_leaves}
 use Rattle.pp_gate.proofs.Ops.{AllLeft}
-use Rattle.pp_recover.proofs.NameLemmas.{Distinct, NotIn, distinct}
-use Rattle.pp_text.specs.Bytes.{is_empty}
-use Rattle.pp_world.specs.Disk.{LeavesOne, Stored, at_rest, is_rising, settled, view_of, woken as woken_view}
+use Rattle.pp_recover.proofs.NameLemmas.{Distinct, NotIn}
+use Rattle.pp_world.specs.Disk.{LeavesOne, at_rest, view_of, woken as woken_view}
 use Rattle.pp_world.specs.Files.{Files, file_of}
 use Rattle.pp_world.specs.Log.{Log}
 use Rattle.pp_world.specs.declared.happening.Happening.TheVariants.{Woke}
@@ -15,23 +13,14 @@ use Rattle.pp_law.specs.Entries.{entries_in, entry_in}
 use Rattle.pp_law.specs.Lists.{Bytes, has_text}
 use Rattle.pp_law.specs.State.{Entry, no_agenda}
 use Rattle.pp_laws.specs.Runs.{IsIn}
-use Rattle.pp_laws.proofs.Lists.{From, in_filter, in_map}
+use Rattle.pp_laws.proofs.Lists.{in_filter, in_map}
 use Rattle.pp_laws_crash.proofs.Backing.{entry_told}
 use Rattle.pp_laws_crash.proofs.Views.{view_more}
-use Rattle.pp_laws_crash.proofs.Waking.{FromImage, entries_there, entry_at, found_in, has_in, in_entries, in_image, name_of_file}
+use Rattle.pp_laws_crash.proofs.Waking.{entries_there, entry_at, found_in, has_in, in_entries, in_image, name_of_file}
 use Rattle.pp_laws_found.specs.Counts.{HasFewFiles, is_no_entry}
-use Rattle.pp_laws_found.proofs.Apart.{AreApart, pigeons}
+use Rattle.pp_laws_found.proofs.Apart.{AreApart, entry_name, entry_named, map_length, pigeons}
 use Rattle.pp_laws_found.proofs.CountsInv.{AllCounted, CleanAt, CountsOf, IsEntryAt, counts_rest, entry_names}
-use Rattle.pp_laws_found.proofs.FoundInv.{HasEntry}
 use Rattle.pp_laws_found.proofs.FoundWaking.{has_of, named_in}
-
-abbrev pub entry_name : Entry → Bytes
-entry_name e = e.name
-
-entry_named : (e : Entry) (es : List Entry) → IsIn e es → IsIn e.name (map entry_name es)
-entry_named e [] i = absurd i
-entry_named e (x ∷ es) (inl eq) = inl (ap entry_name eq)
-entry_named e (x ∷ es) (inr i) = inr (entry_named e es i)
 
 -- ---- names that are distinct
 
@@ -69,10 +58,6 @@ filter_apart_by p image false none rest = rest
 others_apart : (image : Files) → Distinct (map name_of_file image) → AreApart (map name_of_file (filter is_no_entry image))
 others_apart [] differ = tt
 others_apart (p ∷ image) differ = filter_apart_by p image (is_no_entry p) differ.0 (others_apart image differ.1)
-
-pub map_length : {A B : Type 0} (f : A → B) (xs : List A) → length (map f xs) ≡ length xs
-map_length f [] = refl
-map_length f (x ∷ xs) = let rest = map_length f xs in omega (arith, rest)
 
 -- ---- an image that a crash leaves has few files
 

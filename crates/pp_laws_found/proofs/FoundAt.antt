@@ -1,10 +1,10 @@
 -- A file that is the entry of a key and reaches far enough; and what a crash leaves of such files.
-use Rattle.std.proofs.Common.{◌≡◌, ◌⊎◌, refl, ℕ, ◌+◌, ◌*◌, ◌<◌, ◌≤◌, Bool, true, false, ◌&&◌, List, [], ◌∷◌, length, take, nat_le, bytes_eq, Option, Some, None, inl, inr, sym, subst, ap, ◌∙◌, arith}
+use Rattle.std.proofs.Common.{◌≡◌, refl, ℕ, ◌+◌, ◌*◌, ◌≤◌, Bool, true, false, ◌&&◌, List, length, take, nat_le, bytes_eq, Option, Some, None, inl, sym, subst, ap, ◌∙◌, arith}
 use Rattle.std.specs.Prelude.{min, option_and_then}
 use Rattle.std.proofs.lemmas.Bool.Decides.{nat_tests}
 use Rattle.pp_entry.specs.Entries.{Row, row_at}
 use Rattle.pp_entry.specs.Gates.{has_extent}
-use Rattle.pp_entry.specs.Texts.{body_at, chunks_of}
+use Rattle.pp_entry.specs.Texts.{body_at}
 use Rattle.pp_gate.specs.Files.{extent_in, open_gates}
 use Rattle.pp_gate.specs.Seal.{IsHonest}
 use Rattle.pp_gate.proofs.GateLemmas.{opens_at_most}

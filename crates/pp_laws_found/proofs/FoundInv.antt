@@ -1,6 +1,5 @@
 -- What holds of what was acknowledged, and how operations keep it.
-use Rattle.std.proofs.Common.{◌≡◌, ◌⊎◌, ⊎_elim, refl, ℕ, ◌+◌, Bool, true, false, ◌||◌, not, List, [], ◌∷◌, ◌++◌, filter, cond, bytes_eq, Option, Some, None, inl, inr, sym, subst, ap, ◌∙◌}
-use Rattle.std.specs.List.{list_any}
+use Rattle.std.proofs.Common.{◌≡◌, ◌⊎◌, ⊎_elim, refl, ℕ, Bool, true, false, List, [], ◌∷◌, ◌++◌, filter, cond, bytes_eq, Option, Some, None, inl, inr, sym, subst, ap, ◌∙◌}
 use Rattle.pp_gate.specs.Runs.{During, IsOn}
 use Rattle.pp_target.specs.Name.{name_of}
 use Rattle.pp_world.specs.Disk.{View, began, done, undone, view_of}

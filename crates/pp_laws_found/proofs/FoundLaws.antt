@@ -1,10 +1,11 @@
 -- The law: what was acknowledged is found, whatever a crash leaves.
-use Rattle.std.proofs.Common.{◌≡◌, refl, Bool, true, false, not, ◌==◌, ◌&&◌, List, [], ◌∷◌, bytes_eq, Option, Some, None, sym, subst, ap, ◌∙◌}
+use Rattle.std.proofs.Common.{◌≡◌, refl, Bool, true, false, not, ◌==◌, ◌&&◌, List, [], ◌∷◌, ◌++◌, Option, Some, None, sym, subst, ap, ◌∙◌}
 use Rattle.std.specs.Prelude.{fold, is_some}
-use Rattle.pp_gate.proofs.Ops.{AllLeft}
+use Rattle.pp_conf.specs.Conf.{Settings}
+use Rattle.pp_conf.specs.Words.{reading_of}
 use Rattle.pp_target.specs.Name.{name_of}
 use Rattle.pp_text.specs.Bytes.{is_empty}
-use Rattle.pp_world.specs.Disk.{IsLeftBehind, view_of}
+use Rattle.pp_world.specs.Disk.{view_of}
 use Rattle.pp_world.specs.Files.{Files, file_of}
 use Rattle.pp_world.specs.Log.{Log}
 use Rattle.pp_world.specs.declared.happening.Happening.{Happening}
@@ -14,10 +15,12 @@ use Rattle.pp_world.specs.declared.op.DiskOp.{DiskOp}
 use Rattle.pp_law.specs.After.{after, changed, ended_op, noted}
 use Rattle.pp_law.specs.Lawful.{Lawful, LawfulFrom}
 use Rattle.pp_law.specs.Lists.{Bytes}
-use Rattle.pp_law.specs.Opening.{is_at, may_fail, permits_configured, permits_listens}
-use Rattle.pp_law.specs.Permits.{IsPermitted, permits, permits_noted, permits_unread}
+use Rattle.pp_law.proofs.Prefixes.{front_from}
+use Rattle.pp_law.specs.Entries.{entries_in}
+use Rattle.pp_law.specs.Opening.{are_texts, begun, is_at, may_fail, names_file, permits_configured, permits_listens, settings_in, term_in, with_settings, woken}
+use Rattle.pp_law.specs.Permits.{IsPermitted, permits, permits_noted}
 use Rattle.pp_law.specs.Phases.{come_to}
-use Rattle.pp_law.specs.State.{State, Term, Phase, Before, IsRooted, IsListed, IsListening, IsConfigured, IsWoken, Keeping, no_agenda, start}
+use Rattle.pp_law.specs.State.{State, Term, IsRooted, IsListed, IsListening, IsConfigured, IsWoken, Keeping, no_agenda, start}
 use Rattle.pp_law.specs.Store.{may_end_op}
 use Rattle.pp_laws.specs.Runs.{after_all, state_after}
 use Rattle.pp_laws.proofs.Happenings.{after-sound}
@@ -28,15 +31,16 @@ use Rattle.pp_laws.proofs.Tests.{first_holds, second_holds}
 use Rattle.pp_laws_crash.proofs.CrashLaws.{one_step, since, start_inv}
 use Rattle.pp_laws_crash.proofs.Frames.{kept_self, takes_turns}
 use Rattle.pp_laws_crash.proofs.Inv.{AtRest}
-use Rattle.pp_laws_crash.proofs.Happenings.{MayGo, changed_kept, changes_disk, may_go, permitted, woke_so}
+use Rattle.pp_laws_crash.proofs.Happenings.{changed_kept, changes_disk, may_go, permitted, woke_so}
 use Rattle.pp_laws_crash.proofs.KeptTurns.{come_to-kept}
 use Rattle.pp_laws_crash.proofs.Standing.{at_IsConfigured, at_IsListed, at_IsRooted, at_IsWoken}
+use Rattle.pp_laws_crash.proofs.Waking.{entries_there, found_in}
 use Rattle.pp_laws_crash.proofs.Steps.{HoldsAll, Inv, at_rest_of, idle_is, inv_kept, under_is}
-use Rattle.pp_laws_found.specs.Found.{Acknowledged, AcknowledgedIsFound, IsFoundIn, noted_of}
+use Rattle.pp_laws_found.specs.Found.{Acknowledged, AcknowledgedIsFound, AcknowledgedIsRecovered, HasRow, IsFoundIn, acknowledged, noted_of}
 use Rattle.pp_laws_found.proofs.FoundAt.{FoundAt}
-use Rattle.pp_laws_found.proofs.FoundInv.{Acks, FoundOf, at_rest}
+use Rattle.pp_laws_found.proofs.FoundInv.{Acks, at_rest}
 use Rattle.pp_laws_found.proofs.FoundSteps.{FoundInv, began_found, done_found, failed_found, found_kept, gone_found, kept_found, unread_found}
-use Rattle.pp_laws_found.proofs.FoundWaking.{configured_found, opened_found, opens_of, woke_found}
+use Rattle.pp_laws_found.proofs.FoundWaking.{configured_found, opened_found, opens_of, woke_found, woke_left}
 
 -- ---- each happening
 
@@ -131,7 +135,57 @@ in_image : (image : Files) (key : Bytes) (a : Acknowledged) (file : Option Bytes
 in_image image key a None is none = absurd none
 in_image image key a (Some file) is found = record { file = file; stands = is; entry = found }
 
+found_behind : (terms : List Term) (log : Log) → Lawful terms log → FoundInv (λ key. acknowledged key log) (state_after terms log)
+found_behind terms log lawful = goes_along (start terms) log (λ key. None) lawful (start-sound since terms refl) (start_inv terms) (start_found terms)
+
 pub acknowledged_found : AcknowledgedIsFound
-acknowledged_found terms log image key a lawful left was =
-    let h = goes_along (start terms) log (λ key. None) lawful (start-sound since terms refl) (start_inv terms) (start_found terms) in
-    in_image image key a (file_of (name_of key) image) refl (h.files.found key a was (file_of (name_of key) image) (left (name_of key)))
+acknowledged_found terms log image key a lawful left was = in_image image key a (file_of (name_of key) image) refl ((found_behind terms log lawful).files.found key a was (file_of (name_of key) image) (left (name_of key)))
+
+-- ---- the next life
+
+settled_by : (image : Files) (o : Option Settings) (s : State) → s.entries ≡ entries_in image → (with_settings o s).entries ≡ entries_in image
+unfolding with_settings
+settled_by image None s is = is
+settled_by image (Some c) s is = is
+
+woken_by : (image : Files) (s : State) (texts names : Bool) → s.entries ≡ entries_in image
+    → (elim texts as (λ c. State) [
+      | false ↦ with_settings None s
+      | true ↦ elim names as (λ c. State) [ true ↦ record s { phase = IsWoken } | false ↦ with_settings (settings_in (reading_of s.term.words None)) s ]
+    ]).entries ≡ entries_in image
+woken_by image s false names is = settled_by image None s is
+woken_by image s true true is = is
+woken_by image s true false is = settled_by image (settings_in (reading_of s.term.words None)) s is
+
+woken_entries : (image : Files) (s : State) → (woken image s).entries ≡ entries_in image
+unfolding woken begun
+woken_entries image s = woken_by image _ (are_texts (term_in s.terms)) (names_file (term_in s.terms)) refl
+
+row_of : (image : Files) (key : Bytes) (a : Acknowledged) → IsFoundIn image key a → HasRow (entries_in image) key a
+row_of image key a found = record {
+  entry = found.entry.entry;
+  there = entries_there image (name_of key, found.file) found.entry.entry (found_in image (name_of key) found.file found.stands) found.entry.is;
+  of_key = found.entry.of_key;
+  of_version = found.entry.of_version;
+  reaches = found.entry.reaches;
+}
+
+behind_log : (s : State) (log rest : Log) → LawfulFrom s (log ++ rest) → LawfulFrom (after_all s log) rest
+behind_log s [] rest lawful = lawful
+behind_log s (h ∷ log) rest lawful = behind_log (after s h) log rest lawful.1
+
+after_last : (s : State) (log : Log) (h : Happening) → after_all s (log ++ h ∷ []) ≡ after (after_all s log) h
+after_last s [] h = refl
+after_last s (k ∷ log) h = after_last (after s k) log h
+
+after_woke : (s : State) (image : Files) → after s (Woke image) ≡ woken image s
+unfolding changed
+after_woke s image = refl
+
+pub acknowledged_recovered : AcknowledgedIsRecovered
+acknowledged_recovered terms log image key a lawful was =
+    let front = front_from (start terms) log (Woke image ∷ []) lawful in
+    let s : State = state_after terms log in
+    let left = woke_left s image (woke_so s image (behind_log (start terms) log (Woke image ∷ []) lawful).0) (found_behind terms log front) key a was in
+    subst (λ t. HasRow t.entries key a) (sym (after_last (start terms) log (Woke image) ∙ after_woke s image))
+    (subst (λ es. HasRow es key a) (sym (woken_entries image s)) (row_of image key a (in_image image key a (file_of (name_of key) image) refl left)))

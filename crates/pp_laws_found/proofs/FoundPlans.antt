@@ -1,8 +1,6 @@
 -- What is planned keeps what was acknowledged: a draft, a seal, a repair.
-use Rattle.std.proofs.Common.{◌≡◌, ◌⊎◌, ⊎_elim, refl, ℕ, ◌+◌, ◌*◌, ◌/◌, ◌≤◌, Bool, true, false, ◌==◌, not, List, [], ◌∷◌, ◌++◌, bytes_eq, Option, Some, None, inl, inr, sym, subst, ap, ◌∙◌, arith}
+use Rattle.std.proofs.Common.{◌≡◌, ⊎_elim, refl, ℕ, ◌*◌, ◌/◌, ◌≤◌, Bool, true, false, ◌==◌, not, List, [], ◌∷◌, ◌++◌, Option, Some, None, inl, inr, sym, subst, ap, ◌∙◌, arith}
 use Rattle.std.specs.Prelude.{min}
-use Rattle.pp_entry.specs.Entries.{Row}
-use Rattle.pp_gate.specs.Runs.{During}
 use Rattle.pp_gate.specs.Seal.{IsHonest, seal_ops}
 use Rattle.pp_gate.proofs.Ops.{AllLeft}
 use Rattle.pp_gate.proofs.Views.{done_view}
@@ -19,17 +17,17 @@ use Rattle.pp_laws.proofs.Joins.{HeldOf}
 use Rattle.pp_laws.proofs.Tests.{same_bytes, second_holds}
 use Rattle.pp_laws_crash.proofs.Backing.{claimed}
 use Rattle.pp_laws_crash.proofs.Begins.{IsFree, MayDraft, MaySeal, draft_is, free_is, seal_is}
-use Rattle.pp_laws_crash.proofs.Frames.{in_changed, now_at}
-use Rattle.pp_laws_crash.proofs.Going.{Ahead, Rests, kept_is_fresh, ops_of}
+use Rattle.pp_laws_crash.proofs.Frames.{in_changed}
+use Rattle.pp_laws_crash.proofs.Going.{Rests, kept_is_fresh}
 use Rattle.pp_laws_crash.proofs.Inv.{AtRest, Busy, InvOf, goes_on, is_shut}
-use Rattle.pp_laws_crash.proofs.Lying.{Held, Loose, len_of}
+use Rattle.pp_laws_crash.proofs.Lying.{Held, len_of}
 use Rattle.pp_laws_crash.proofs.Repairing.{Repairs}
 use Rattle.pp_laws_crash.proofs.Shutting.{shut_each}
 use Rattle.pp_laws_crash.proofs.Starting.{held as seal_held, seal_keeps, there as seal_there}
 use Rattle.pp_laws_crash.proofs.Views.{during_map, left_map, name_same}
 use Rattle.pp_laws_found.specs.Found.{Acknowledged}
 use Rattle.pp_laws_found.proofs.FoundAt.{Agrees, Found, FoundAt, held_agrees, held_found, honest_found, loose_agrees, loose_found}
-use Rattle.pp_laws_found.proofs.FoundInv.{Acks, AllFound, AllKnown, FoundOf, HasEntry, Keeps, acked, last_entry}
+use Rattle.pp_laws_found.proofs.FoundInv.{Acks, AllFound, AllKnown, HasEntry, Keeps, acked, last_entry}
 
 -- ---- what is noted
 

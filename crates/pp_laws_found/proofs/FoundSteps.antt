@@ -1,11 +1,10 @@
 -- Each happening that changes the disk keeps what was acknowledged.
-use Rattle.std.proofs.Common.{◌≡◌, ◌⊎◌, ⊎_elim, refl, ℕ, ◌+◌, ◌≤◌, ◌==◌, Bool, true, false, ◌||◌, ◌&&◌, not, List, [], ◌∷◌, ◌++◌, drop, find, filter, bytes_eq, Option, Some, None, inl, inr, sym, subst, ap, ◌∙◌}
+use Rattle.std.proofs.Common.{◌≡◌, ◌⊎◌, ⊎_elim, refl, ℕ, ◌≤◌, ◌==◌, Bool, true, false, ◌||◌, ◌&&◌, not, List, [], ◌∷◌, ◌++◌, drop, find, bytes_eq, Option, Some, None, inl, inr, sym, subst, ap, ◌∙◌}
 use Rattle.std.specs.Prelude.{flat_map, is_some}
 use Rattle.std.specs.List.{list_any}
-use Rattle.pp_gate.specs.Runs.{During, IsOn}
+use Rattle.pp_gate.specs.Runs.{IsOn}
 use Rattle.pp_target.specs.Name.{name_of}
-use Rattle.pp_text.specs.Bytes.{is_empty}
-use Rattle.pp_world.specs.Disk.{View, Stored, began, done, undone, view_of, where_on}
+use Rattle.pp_world.specs.Disk.{View, Stored, began, done, view_of, where_on}
 use Rattle.pp_world.specs.Log.{Log}
 use Rattle.pp_world.specs.declared.happening.Happening.{Happening}
 use Rattle.pp_world.specs.declared.happening.Happening.TheVariants.{Began, Did, Noted}
@@ -17,7 +16,7 @@ use Rattle.pp_law.specs.Lists.{Bytes, change, has_text, without}
 use Rattle.pp_law.specs.Opening.{is_at, is_opening, is_same_phase, lose_in_opening, named_by, names_of}
 use Rattle.pp_law.specs.Permits.{permits_began, permits_noted}
 use Rattle.pp_law.specs.Phases.{come_to, may_in}
-use Rattle.pp_law.specs.Repairs.{agenda_in_opening, begin_in_opening, closes_strays, has_strays_under, may_begin_in_opening, may_repair, repair_of, sync_of}
+use Rattle.pp_law.specs.Repairs.{begin_in_opening, closes_strays, has_strays_under, may_begin_in_opening, may_repair, repair_of, sync_of}
 use Rattle.pp_law.specs.State.{State, Sent, Agenda, no_agenda, Entry, Instance, Todo, Do, Enter, Acknowledge, Phase, Before, IsWoken, IsConfigured, IsRooted, IsListed, IsListening, IsStuck, Awaiting, Handling, Evicting, Keeping, Deciding, Following, Connecting, DecidingAgain}
 use Rattle.pp_law.specs.Store.{agenda_in_turn, begin_in_turn, begin_op, close_name, end_op, enter_next, extended, fail_op, going_on, is_acknowledged_as, is_closed, is_named, is_of_draft, lose_draft, lose_entry, may_begin_in_turn, note_gone, note_kept, plan_of, remove_entry, removing}
 use Rattle.pp_law.specs.Table.{is_entry_of, is_kept_row_of}
@@ -25,18 +24,17 @@ use Rattle.pp_laws.specs.Runs.{IsIn}
 use Rattle.pp_laws.proofs.Lists.{in_find}
 use Rattle.pp_laws.proofs.Tests.{first_holds, same_bytes, same_number, second_holds}
 use Rattle.pp_laws_crash.proofs.Begins.{Begun, IsFirst, begins, begun_is, going_is, goes_on as begun_goes}
-use Rattle.pp_laws_crash.proofs.Frames.{Kept, OwedIn, PartsOf, StaysEntry, in_changed, kept_self, now_at, parts_of, recovers, takes_turns}
-use Rattle.pp_laws_crash.proofs.Going.{OnName, ops_of}
+use Rattle.pp_laws_crash.proofs.Frames.{Kept, OwedIn, PartsOf, in_changed, kept_self, now_at, parts_of, recovers, takes_turns}
+use Rattle.pp_laws_crash.proofs.Going.{OnName}
 use Rattle.pp_laws_crash.proofs.Happenings.{either_is, in_so, listed_opens, opens_not, test_so}
-use Rattle.pp_laws_crash.proofs.Inv.{AtRest, Busy, InvOf, goes_on, is_shut, rest_of, same_or}
+use Rattle.pp_laws_crash.proofs.Inv.{AtRest, Busy, InvOf, goes_on, is_shut, rest_of}
 use Rattle.pp_laws_crash.proofs.KeptTurns.{come_to-kept, paid-kept}
-use Rattle.pp_laws_crash.proofs.Lying.{Held}
-use Rattle.pp_laws_crash.proofs.Repairing.{Repairs, repair_plan}
+use Rattle.pp_laws_crash.proofs.Repairing.{repair_plan}
 use Rattle.pp_laws_crash.proofs.Standing.{at_IsListed, at_Keeping, opening_still}
-use Rattle.pp_laws_crash.proofs.Steps.{HoldsAll, Inv, at_rest_of, empty_is, idle_is, inv_kept, planned_by}
-use Rattle.pp_laws_crash.proofs.Views.{differs, name_same, same_name, undone_slot, view_more}
+use Rattle.pp_laws_crash.proofs.Steps.{HoldsAll, Inv, idle_is, inv_kept, planned_by}
+use Rattle.pp_laws_crash.proofs.Views.{differs, same_name, undone_slot, view_more}
 use Rattle.pp_laws_found.specs.Found.{Acknowledged, noted_of}
-use Rattle.pp_laws_found.proofs.FoundAt.{Agrees, Found, held_agrees}
+use Rattle.pp_laws_found.proofs.FoundAt.{Found, held_agrees}
 use Rattle.pp_laws_found.proofs.FoundInv.{Acks, AllFound, AllKnown, FoundOf, HasEntry, IsKnown, Keeps, at_rest, closes, found_began, found_done, found_entered, found_failed, found_fewer, found_map, found_noted, found_planned, gone_was, into_filter}
 use Rattle.pp_laws_found.proofs.FoundPlans.{draft_found, repair_found, seal_found}
 
@@ -45,7 +43,7 @@ use Rattle.pp_laws_found.proofs.FoundPlans.{draft_found, repair_found, seal_foun
 abbrev pub names_in : Log → List Bytes
 names_in disk = flat_map names_of disk
 
-or_none : (a b : Bool) → (a || b) ≡ false → (a ≡ false) × (b ≡ false)
+pub or_none : (a b : Bool) → (a || b) ≡ false → (a ≡ false) × (b ≡ false)
 or_none true b is = absurd (cc is)
 or_none false b is = (refl, is)
 
@@ -53,7 +51,7 @@ none_or : (a b : Bool) → a ≡ false → b ≡ false → (a || b) ≡ false
 none_or true b one two = absurd (cc one)
 none_or false b one two = two
 
-none_in : (name : Bytes) (xs ys : List Bytes) → has_text name (xs ++ ys) ≡ false → (has_text name xs ≡ false) × (has_text name ys ≡ false)
+pub none_in : (name : Bytes) (xs ys : List Bytes) → has_text name (xs ++ ys) ≡ false → (has_text name xs ≡ false) × (has_text name ys ≡ false)
 none_in name [] ys is = (refl, is)
 none_in name (x ∷ xs) ys is = let parts = or_none (bytes_eq x name) _ is in let rest = none_in name xs ys parts.1 in (none_or (bytes_eq x name) _ parts.0 rest.0, rest.1)
 

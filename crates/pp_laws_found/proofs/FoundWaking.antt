@@ -1,13 +1,11 @@
 -- A life begins with the files that a crash left: what was acknowledged is among them, and among its entries.
-use Rattle.std.proofs.Common.{◌≡◌, ◌⊎◌, ⊎_elim, refl, ℕ, Bool, true, false, ◌||◌, ◌&&◌, not, List, [], ◌∷◌, ◌++◌, map, bytes_eq, nat_le, length, Option, Some, None, Result, Ok, Err, inl, inr, sym, subst, ap, ◌∙◌}
+use Rattle.std.proofs.Common.{◌≡◌, refl, Bool, true, false, List, [], ◌∷◌, ◌++◌, map, bytes_eq, Option, Some, None, inl, inr, sym, subst, ap, ◌∙◌}
 use Rattle.std.specs.Prelude.{flat_map}
-use Rattle.std.specs.List.{list_any}
 use Rattle.pp_conf.specs.Conf.{Settings}
 use Rattle.pp_conf.specs.Words.{reading_of}
 use Rattle.pp_gate.proofs.Images.{settled_leaves}
 use Rattle.pp_gate.proofs.Ops.{AllLeft, one_leaves}
 use Rattle.pp_target.specs.Name.{name_of}
-use Rattle.pp_text.specs.Bytes.{is_empty}
 use Rattle.pp_world.specs.Disk.{IsLeftOf, LeavesOne, Stored, at_rest, is_rising, settled, view_of, woken as woken_view}
 use Rattle.pp_world.specs.Files.{Files, file_of}
 use Rattle.pp_world.specs.Log.{Log}
@@ -15,21 +13,17 @@ use Rattle.pp_world.specs.declared.happening.Happening.TheVariants.{Woke}
 use Rattle.pp_law.specs.Entries.{entries_in}
 use Rattle.pp_law.specs.Lists.{Bytes, has_text}
 use Rattle.pp_law.specs.Opening.{are_texts, begun, configured, is_left_behind, leaves_under, names_file, names_of, once, permits_image, opened_to, permits_woke, settings_in, stuck, with_settings, woken}
-use Rattle.pp_law.specs.State.{State, no_agenda, Entry, Phase, Before, IsWoken, IsConfigured, IsRooted, IsListed, IsListening, IsStuck, Awaiting, Handling, Evicting, Keeping, Deciding, Following, Connecting, DecidingAgain}
+use Rattle.pp_law.specs.State.{State, no_agenda, Phase, Before, IsWoken, IsConfigured, IsRooted, IsListed, IsListening, IsStuck, Awaiting, Handling, Evicting, Keeping, Deciding, Following, Connecting, DecidingAgain}
 use Rattle.pp_laws.specs.Runs.{IsIn}
 use Rattle.pp_laws.proofs.Tests.{second_holds}
 use Rattle.pp_laws_crash.proofs.Backing.{entry_told}
 use Rattle.pp_laws_crash.proofs.Frames.{takes_turns}
 use Rattle.pp_laws_crash.proofs.Views.{name_same, view_more}
 use Rattle.pp_laws_crash.proofs.Waking.{all_in, any_left, entries_there, found_in, has_in, name_of_file, once_in, solid_view}
-use Rattle.pp_laws_found.specs.Found.{Acknowledged, IsEntryOf}
+use Rattle.pp_laws_found.specs.Found.{Acknowledged}
 use Rattle.pp_laws_found.proofs.FoundAt.{Found, FoundAt}
 use Rattle.pp_laws_found.proofs.FoundInv.{Acks, AllFound, AllKnown, FoundOf, HasEntry, at_rest as found_at_rest}
-use Rattle.pp_laws_found.proofs.FoundSteps.{FoundInv, IsNamed, NoDrafts, names_in}
-
-or_none : (a b : Bool) → (a || b) ≡ false → (a ≡ false) × (b ≡ false)
-or_none true b is = absurd (cc is)
-or_none false b is = (refl, is)
+use Rattle.pp_laws_found.proofs.FoundSteps.{FoundInv, IsNamed, NoDrafts, names_in, none_in, or_none}
 
 pub has_of : (name : Bytes) (names : List Bytes) → IsIn name names → has_text name names ≡ false → ⊥
 has_of name [] i none = i
@@ -40,10 +34,6 @@ pub named_in : (p : Bytes × Bytes) (image : Files) → IsIn p image → IsIn p.
 named_in p [] i = absurd i
 named_in p (q ∷ image) (inl eq) = inl (ap name_of_file eq)
 named_in p (q ∷ image) (inr i) = inr (named_in p image i)
-
-none_split : (name : Bytes) (xs ys : List Bytes) → has_text name (xs ++ ys) ≡ false → (has_text name xs ≡ false) × (has_text name ys ≡ false)
-none_split name [] ys is = (refl, is)
-none_split name (x ∷ xs) ys is = let parts = or_none (bytes_eq x name) _ is in let rest = none_split name xs ys parts.1 in (ap (λ (b : Bool). b || has_text name xs) parts.0 ∙ rest.0, rest.1)
 
 -- a name that is in no list has no file in the image
 no_file : (name : Bytes) (image : Files) → has_text name (map name_of_file image) ≡ false → file_of name image ≡ None
@@ -61,7 +51,7 @@ left_all disk image named is name = by (has_text name (flat_map names_of disk ++
     by true there = any_left (file_of name image) (view_of name disk).slot (solid_view name disk)
         (all_in (leaves_under disk image) (once [] (flat_map names_of disk ++ map name_of_file image)) name is (once_in name (flat_map names_of disk ++ map name_of_file image) [] (has_in name (flat_map names_of disk ++ map name_of_file image) there)))
     by false none =
-        let parts = none_split name (flat_map names_of disk) (map name_of_file image) none in
+        let parts = none_in name (flat_map names_of disk) (map name_of_file image) none in
         subst (λ (slot : List (Option Stored)). LeavesOne slot (file_of name image)) (sym (named name parts.0)) (inl (subst (IsLeftOf None) (sym (no_file name image parts.1)) tt))
 
 -- ---- the life that begins
@@ -92,7 +82,7 @@ module _ {acks : Acks} (image : Files) (left : (key : Bytes) (a : Acknowledged) 
   woken_files = found_at_rest woken_found woken_known no_agenda refl
 
   woken_named : IsNamed (Woke image ∷ []) None
-  woken_named name none = (ap (λ v. v.slot) (at name) ∙ ap (λ (f : Option Bytes). at_rest f ∷ []) (no_file name image (none_split name (map name_of_file image) [] none).0), tt)
+  woken_named name none = (ap (λ v. v.slot) (at name) ∙ ap (λ (f : Option Bytes). at_rest f ∷ []) (no_file name image (none_in name (map name_of_file image) [] none).0), tt)
 
 -- ---- to the next place of the opening
 
@@ -165,3 +155,7 @@ left_by {acks} s image phase at may h key a was = by phase at may
 
 pub woke_found : {acks : Acks} (s : State) (image : Files) → permits_woke s image ≡ true → FoundInv acks s → FoundInv acks (woken image s)
 woke_found s image may h = woken_inv image s (left_by s image s.phase refl (second_holds (is_rising (map name_of_file image)) _ may) h)
+
+-- what was acknowledged is in the image that it begins with
+pub woke_left : {acks : Acks} (s : State) (image : Files) → permits_woke s image ≡ true → FoundInv acks s → (key : Bytes) (a : Acknowledged) → acks key ≡ Some a → FoundAt key a (file_of (name_of key) image)
+woke_left s image may h = left_by s image s.phase refl (second_holds (is_rising (map name_of_file image)) _ may) h

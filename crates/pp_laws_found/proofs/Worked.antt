@@ -1,5 +1,5 @@
 -- The laws' words on a worked log: a body of five bytes is fetched, drafted and sealed.
-use Rattle.std.proofs.Common.{◌≡◌, refl, ℕ, Bool, true, false, List, [], ◌∷◌, ◌++◌, map, codes, Option, Some, None}
+use Rattle.std.proofs.Common.{◌≡◌, refl, ℕ, true, false, List, [], ◌∷◌, ◌++◌, map, codes, Some, None}
 use Rattle.std.specs.Prelude.{replicate}
 use Rattle.pp_world.specs.Log.{Log}
 use Rattle.pp_world.specs.declared.happening.Happening.{Happening}
@@ -14,7 +14,7 @@ use Rattle.pp_law.specs.Lists.{Bytes}
 use Rattle.pp_law.specs.Opening.{is_left_behind}
 use Rattle.pp_law.specs.State.{Term, Entry}
 use Rattle.pp_laws.specs.Runs.{state_after}
-use Rattle.pp_laws_found.specs.Found.{Acknowledged, acknowledged}
+use Rattle.pp_laws_found.specs.Found.{acknowledged}
 use Rattle.pp_laws_found.specs.Counts.{is_no_entry}
 
 abbrev wait : List ℕ → List ℕ → Happening

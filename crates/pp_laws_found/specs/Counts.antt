@@ -1,5 +1,5 @@
 -- How many files the folder has, whatever a crash leaves. All of it is ours.
-use Rattle.std.specs.Prelude.{◌≡◌, ℕ, ◌≤◌, Bool, true, not, List, length, map, filter, is_some}
+use Rattle.std.specs.Prelude.{◌≡◌, ◌≤◌, Bool, true, not, List, length, map, filter, is_some}
 use Rattle.pp_world.specs.Disk.{IsLeftBehind, is_rising}
 use Rattle.pp_world.specs.Files.{Files}
 use Rattle.pp_world.specs.Log.{Log}

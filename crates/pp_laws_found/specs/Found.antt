@@ -1,18 +1,18 @@
 -- What was acknowledged is found again. A key's body is acknowledged so far where that is what the log notes of it last.
-use Rattle.std.specs.Prelude.{◌≡◌, ◌≤◌, ℕ, List, fold, bytes_eq, true, false, Option, Some, None}
+use Rattle.std.specs.Prelude.{◌≡◌, ◌≤◌, ℕ, List, [], ◌∷◌, ◌++◌, fold, bytes_eq, true, false, Option, Some, None}
 use Rattle.pp_target.specs.Name.{name_of}
 use Rattle.pp_valid.specs.declared.version.Version.{Version}
 use Rattle.pp_world.specs.Disk.{IsLeftBehind}
 use Rattle.pp_world.specs.Files.{Files, file_of}
 use Rattle.pp_world.specs.Log.{Log}
 use Rattle.pp_world.specs.declared.happening.Happening.{Happening}
-use Rattle.pp_world.specs.declared.happening.Happening.TheVariants.{Noted}
+use Rattle.pp_world.specs.declared.happening.Happening.TheVariants.{Woke, Noted}
 use Rattle.pp_world.specs.declared.note.Remark.TheVariants.{Kept, Gone}
 use Rattle.pp_law.specs.Entries.{entry_in}
 use Rattle.pp_law.specs.Lawful.{Lawful}
 use Rattle.pp_law.specs.Lists.{Bytes}
 use Rattle.pp_law.specs.State.{Term, Entry}
-use Rattle.pp_laws.specs.Runs.{state_after}
+use Rattle.pp_laws.specs.Runs.{IsIn, state_after}
 
 -- so much of the body of this version
 pub record Acknowledged : Type 0 where
@@ -47,3 +47,18 @@ pub record IsFoundIn (image : Files) (key : Bytes) (a : Acknowledged) : Type 0 w
 abbrev pub AcknowledgedIsFound : Type 0
 AcknowledgedIsFound = (terms : List Term) (log : Log) (image : Files) (key : Bytes) (a : Acknowledged)
     → Lawful terms log → IsLeftBehind (state_after terms log).disk image → acknowledged key log ≡ Some a → IsFoundIn image key a
+
+-- ---- the next life
+
+-- a kept row of the key, of that version, that reaches at least so far
+pub record HasRow (entries : List Entry) (key : Bytes) (a : Acknowledged) : Type 0 where
+  pub entry : Entry
+  pub there : IsIn entry entries
+  pub of_key : entry.key ≡ key
+  pub of_version : entry.version ≡ a.version
+  pub reaches : a.extent ≤ entry.extent
+
+-- it begins with all that was acknowledged
+abbrev pub AcknowledgedIsRecovered : Type 0
+AcknowledgedIsRecovered = (terms : List Term) (log : Log) (image : Files) (key : Bytes) (a : Acknowledged)
+    → Lawful terms (log ++ Woke image ∷ []) → acknowledged key log ≡ Some a → HasRow (state_after terms (log ++ Woke image ∷ [])).entries key a
