@@ -75,8 +75,8 @@ unfolding add_exchange
 add_exchange-sound {b} e s number none h = sound (exchange_pushed b s e number none (facts_of h))
 
 pub begin_exchange-sound : {b : Since} (e : Exchange) (s : State) → e.number ≡ s.next_exchange → bound_of e ≡ None → Sound b s → Sound b (begin_exchange e s)
-unfolding begin_exchange forsake
-begin_exchange-sound e s number none h = add_exchange-sound e _ number none (forsake-sound (λ x. is_some_with (λ n. is_of n x) e.asker) s h)
+unfolding begin_exchange leave forsake
+begin_exchange-sound e s number none h = add_exchange-sound e _ number none (leave-sound (λ x. is_some_with (λ n. is_of n x) e.asker) s h)
 
 pub ask_for-sound : {b : Since} (c : Client) (d : Decision) (head : Request) (key : Key) (kind : AskKind) (s : State) → Sound b s → Sound b (ask_for c d head key kind s)
 unfolding ask_for leave forsake on_client

@@ -66,7 +66,7 @@ add_exchange-kept {but} e s none fresh h = kept (exchange_pushed but s e (s.next
 
 begin_exchange-kept : {but : List ℕ} (e : Exchange) (s : State) → e.place ≡ None → e.asked ≡ 0 → Kept but s → Kept but (begin_exchange e s)
 unfolding begin_exchange
-begin_exchange-kept e s none fresh h = add_exchange-kept e _ none fresh (forsake-kept (λ x. is_some_with (λ n. is_of n x) e.asker) s h)
+begin_exchange-kept e s none fresh h = add_exchange-kept e _ none fresh (leave-kept (λ x. is_some_with (λ n. is_of n x) e.asker) s h)
 
 ask_for-kept : {but : List ℕ} (c : Client) (d : Decision) (head : Request) (key : Key) (kind : AskKind) (s : State) → Kept but s → Kept but (ask_for c d head key kind s)
 unfolding ask_for

@@ -65,8 +65,8 @@ unfolding add_exchange
 add_exchange-small {a} e s none fresh h = small (exchange_pushed a s e none fresh (facts_of h))
 
 begin_exchange-small : {a : As} (e : Exchange) (s : State) → e.number ≡ s.next_exchange → bound_of e ≡ None → Small a s → Small a (begin_exchange e s)
-unfolding begin_exchange forsake
-begin_exchange-small e s none fresh h = add_exchange-small e _ none fresh (forsake-small (λ x. is_some_with (λ n. is_of n x) e.asker) s h)
+unfolding begin_exchange leave forsake
+begin_exchange-small e s none fresh h = add_exchange-small e _ none fresh (leave-small (λ x. is_some_with (λ n. is_of n x) e.asker) s h)
 
 ask_for-small : {a : As} (c : Client) (d : Decision) (head : Request) (key : Key) (kind : AskKind) (s : State) → Small a s → Small a (ask_for c d head key kind s)
 unfolding ask_for leave forsake on_client

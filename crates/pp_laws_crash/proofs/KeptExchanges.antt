@@ -47,7 +47,7 @@ add_exchange-kept e s h = kept (parts_of h)
 
 begin_exchange-kept : {o : State} (e : Exchange) (s : State) → Kept o s → Kept o (begin_exchange e s)
 unfolding begin_exchange
-begin_exchange-kept e s h = add_exchange-kept e _ (forsake-kept _ s h)
+begin_exchange-kept e s h = add_exchange-kept e _ (leave-kept _ s h)
 
 ask_for-kept : {o : State} (c : Client) (d : Decision) (head : Request) (key : Key) (kind : AskKind) (s : State) → Kept o s → Kept o (ask_for c d head key kind s)
 unfolding ask_for

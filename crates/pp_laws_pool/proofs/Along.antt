@@ -39,3 +39,7 @@ along_from P step terms front (h ∷ log) lawful now =
 
 pub along : (P : State → Type 0) → ((terms : List Term) → P (start terms)) → Steps P → (terms : List Term) (front rest : Log) → Lawful terms (front ++ rest) → P (state_after terms front)
 along P first step terms front rest lawful = along_from P step terms [] front (front_from (start terms) front rest lawful) (first terms)
+
+-- what a lawful log ends with is permitted
+pub last_of : (terms : List Term) (front : Log) (h : Happening) → Lawful terms (front ++ h ∷ []) → IsPermitted (state_after terms front) h
+last_of terms front h lawful = (back_from (start terms) front (h ∷ []) lawful).0

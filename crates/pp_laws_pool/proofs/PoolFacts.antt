@@ -7,7 +7,7 @@ use Rattle.pp_framing.specs.Rules.{body_of}
 use Rattle.pp_head.specs.Read.{More}
 use Rattle.pp_head.specs.Response.{response_at, find_response}
 use Rattle.pp_law.specs.Chunks.{is_chunk, put_chunk}
-use Rattle.pp_law.specs.Closing.{forsake}
+use Rattle.pp_law.specs.Closing.{forsake, leave}
 use Rattle.pp_law.specs.Connections.{is_conn, on_conn, on_exchange, put_on, unplaced, may_ask_again}
 use Rattle.pp_law.specs.Deciding.{add_exchange, begin_exchange}
 use Rattle.pp_law.specs.State.{State, Answer, Chunk, Conn, Owed, Phase}
@@ -140,7 +140,7 @@ pub pool_uses : (a : As) → Uses (Pool a)
 pool_uses a id i c v found h = with_chunks a v (put_chunk id i c.bytes v.chunks) (used_length id i c.bytes c v.chunks found) (put_apart id i c.bytes v.chunks h.apart) h
 
 pub pool_begins : (a : As) → Begins (Pool a)
-unfolding begin_exchange add_exchange forsake
+unfolding begin_exchange add_exchange leave forsake
 pool_begins a e s is_new h = h
 
 -- where no line is looked at

@@ -169,7 +169,7 @@ add_exchange-quiet e s h = quietly (facts_of h)
 
 pub begin_exchange-quiet : {o : State} (e : Exchange) (s : State) → Quietly o s → Quietly o (begin_exchange e s)
 unfolding begin_exchange
-begin_exchange-quiet e s h = add_exchange-quiet e _ (forsake-quiet _ s h)
+begin_exchange-quiet e s h = add_exchange-quiet e _ (leave-quiet _ s h)
 
 fill_with-quiet : {o : State} (e : Exchange) (c : Client) (s : State) → Quietly o s → Quietly o (fill_with e c s)
 unfolding fill_with
