@@ -64,7 +64,7 @@ pub without_shared_row-by : (most : ℕ) (c : Client) → Quiet (without_shared_
 without_shared_row-by most c = by (c.has_given_up && not (is_begun c))
   where
     by : (again : Bool) → Quiet (elim again as (λ x. Client) [ true ↦ record c { course = lost_one most c.course } | false ↦ without_row c ]) c
-    by true = parts_same _ c refl refl refl refl refl refl refl
+    by true = parts_same _ c refl refl refl refl refl refl refl refl
     by false = without_row-by c (is_begun c || c.has_given_up)
 
 give_up_row-quiet : {o : State} (e : Exchange) (s : State) → Quietly o s → Quietly o (give_up_row e s)
