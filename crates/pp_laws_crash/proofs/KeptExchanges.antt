@@ -25,7 +25,7 @@ use Rattle.pp_law.specs.Deciding.{refuse, add_exchange, begin_exchange, new_exch
 use Rattle.pp_law.specs.Decisions.{kind_of, fits}
 use Rattle.pp_law.specs.Followers.{need_of, filling_exchange, fill_with, fill_span, fill_next, fill_for, fill, give_up_asks}
 use Rattle.pp_law.specs.Lists.{Bytes, is_some_with}
-use Rattle.pp_law.specs.OwnHeads.{key_of, tell, use_body, drop_answer, useless, times_for, renewed, renew, settle_on, renew_row, refresh, known_version, may_refresh, settle_known, names_version, may_join, settle, settle_unchanged, unchanged, forbids_sharing, is_of_another, not_modified, clears_row, cleared_by, is_private_part, is_widened, relay_head, other_head, other_part, own_head, is_bound, lacks_next, count_elsewhere, part_head, filling_head, is_wrong_head, version_in, sent_as, first_offset, note_own, note_sent, join, join_bound}
+use Rattle.pp_law.specs.OwnHeads.{key_of, tell, use_body, drop_answer, useless, times_for, renewed, renew, settle_on, renew_row, refresh, known_version, may_refresh, settle_known, names_version, may_join, settle, settle_unchanged, unchanged, forbids_sharing, is_of_another, not_shared, not_modified, clears_row, cleared_by, is_private_part, is_widened, relay_head, other_head, other_part, own_head, is_bound, lacks_next, count_elsewhere, part_head, filling_head, is_wrong_head, version_in, sent_as, first_offset, note_own, note_sent, join, join_bound}
 use Rattle.pp_law.specs.Passing.{pour, poured}
 use Rattle.pp_law.specs.Requests.{key_in}
 use Rattle.pp_law.specs.Responses.{skip_body, close_this, rested, may_go_on, finish, bad_response, bad_head, by_aim, asks_head, answer_with, answered_by, end_if_empty, begin_answer, answer_for, head_came, Piece, is_early, with_unread, head_piece_of, head_piece, deliver, payload_of, body_piece_of, body_piece, next_piece, got, is_whole_at_end, finish_first, ended}
@@ -189,9 +189,13 @@ unchanged-kept : {o : State} (e : Exchange) (head : Response) (s : State) → Ke
 unfolding unchanged
 unchanged-kept e head s h = when (is_some_with (names_version e) (known_version s (key_of e)) && may_refresh e head s) (settle_unchanged-kept e _ (refresh-kept e head s h)) (useless-kept e s h)
 
+not_shared-kept : {o : State} (e : Exchange) (s : State) → Kept o s → Kept o (not_shared e s)
+unfolding not_shared
+not_shared-kept e s h = on_client_of-kept e _ _ (drop_answer-kept e _ (clear-kept (key_of e) s h))
+
 not_modified-kept : {o : State} (e : Exchange) (head : Response) (s : State) → Kept o s → Kept o (not_modified e head s)
 unfolding not_modified
-not_modified-kept e head s h = when (forbids_sharing head) (drop_answer-kept e _ (clear-kept (key_of e) s h))
+not_modified-kept e head s h = when (forbids_sharing head) (not_shared-kept e s h)
     (when (is_of_another head s (key_of e)) (useless-kept e _ (clear-kept (key_of e) s h)) (unchanged-kept e head s h))
 
 cleared_by-kept : {o : State} (head : Response) (e : Exchange) (s : State) → Kept o s → Kept o (cleared_by head e s)
@@ -208,7 +212,7 @@ other_head-kept e head rule s h = when (is_widened e head) (tell-kept e _ _ (use
 
 other_part-kept : {o : State} (e : Exchange) (head : Response) (rule : BodyRule) (s : State) → Kept o s → Kept o (other_part e head rule s)
 unfolding other_part
-other_part-kept e head rule s h = when (is_private_part head) (drop_answer-kept e _ (clear-kept (key_of e) s h))
+other_part-kept e head rule s h = when (is_private_part head) (not_shared-kept e s h)
     (when (clears_row head) (relay_head-kept e head rule _ (cleared_by-kept head e s h)) (useless-kept e s h))
 
 own_head-kept : {o : State} (e : Exchange) (head : Response) (rule : BodyRule) (s : State) → Kept o s → Kept o (own_head e head rule s)

@@ -4,7 +4,7 @@ use Rattle.pp_peers.specs.declared.placing.Placed.TheVariants.{On, Dial, CloseTh
 use Rattle.pp_peers.specs.declared.placing.Placed.{Placed}
 use Rattle.pp_target.specs.Key.{text_of}
 use Rattle.pp_law.specs.Closing.{left_alone, forsake, leave, leave_one, exchanges_of, close_client}
-use Rattle.pp_law.specs.Connections.{client, conn, exchange, is_client, is_for, each_client, each_conn, each_exchange, on_conn, on_exchange, on_client, on_client_of, attempts_of, lost_one, without_row, is_unfilled, give_up_row, charge, lose_attempt, fail, end_exchange, unplaced, may_ask_again, leave_place, lose_place, close_conn, place_for, put_on, if_unplaced, place_each, placing, Placement, WaitsDial, WaitsDrop}
+use Rattle.pp_law.specs.Connections.{client, conn, exchange, is_client, is_for, each_client, each_conn, each_exchange, on_conn, on_exchange, on_client, on_client_of, attempts_of, lost_one, without_row, without_shared_row, is_unfilled, give_up_row, charge, lose_attempt, fail, end_exchange, unplaced, may_ask_again, leave_place, lose_place, close_conn, place_for, put_on, if_unplaced, place_each, placing, Placement, WaitsDial, WaitsDrop}
 use Rattle.pp_law.specs.Deciding.{add_exchange, begin_exchange}
 use Rattle.pp_law.specs.Followers.{need_of, filling_exchange, fill_with, fill_span, fill_next, fill_for, fill, give_up_asks}
 use Rattle.pp_law.specs.Connections.{is_trying}
@@ -59,6 +59,13 @@ each_exchange-quiet f each (n ∷ ns) s h = each_exchange-quiet f each ns _ (eac
 without_row-by : (c : Client) (begun : Bool) → Quiet (elim begun as (λ x. Client) [ true ↦ c | false ↦ record c { course = Trying 0; has_given_up = true } ]) c
 without_row-by c true = still_same c
 without_row-by c false = parts_same _ c refl refl refl refl refl refl refl refl
+
+pub without_shared_row-by : (most : ℕ) (c : Client) → Quiet (without_shared_row most c) c
+without_shared_row-by most c = by (c.has_given_up && not (is_begun c))
+  where
+    by : (again : Bool) → Quiet (elim again as (λ x. Client) [ true ↦ record c { course = lost_one most c.course } | false ↦ without_row c ]) c
+    by true = parts_same _ c refl refl refl refl refl refl refl refl
+    by false = without_row-by c (is_begun c || c.has_given_up)
 
 give_up_row-quiet : {o : State} (e : Exchange) (s : State) → Quietly o s → Quietly o (give_up_row e s)
 unfolding give_up_row

@@ -128,49 +128,73 @@ abbrev text33 : Bytes
 text33 = (codes "HTTP/1.1 206 Partial Content\r\nETag: \"x\"\r\nCache-Control: private\r\nContent-Range: bytes 0-4095/4100\r\nContent-Length: 4096\r\n\r\n" ++ replicate 4096 112)
 
 abbrev text34 : Bytes
-text34 = (codes "GET http://h/p HTTP/1.1\r\nCache-Control: no-store\r\n\r\n")
+text34 = (codes "GET http://h/c HTTP/1.1\r\nRange: bytes=8-9\r\n\r\n")
+
+abbrev front3 : Log
+front3 = Woke [] ∷ Rooted text0 ∷ Listed true ∷ Listens 8123 true ∷ wait true [] [] ∷ Clock 784111777 ∷ wait true [] [] ∷ Opened 1 ∷ wait true (1 ∷ []) [] ∷ CanRead 1 ∷ Heard 1 text34 ∷ Noted (Taken 1 0 Fetch) ∷ Dialled 2 (codes "h") 80 ∷ wait true [] [] ∷ Reached 2 ∷ []
 
 abbrev text35 : Bytes
-text35 = (codes "GET /p HTTP/1.1\r\nhost: h\r\ncache-control: no-store\r\nvia: 1.1 polipo\r\n\r\n")
+text35 = (codes "GET /c HTTP/1.1\r\nhost: h\r\nrange: bytes=0-9\r\nvia: 1.1 polipo\r\n\r\n")
 
 abbrev text36 : Bytes
-text36 = (codes "GET http://h/q HTTP/1.1\r\nCache-Control: no-store\r\n\r\n")
+text36 = (codes "HTTP/1.1 206 Partial Content\r\nETag: \"x\"\r\nCache-Control: max-age=60\r\nContent-Range: bytes 0-3/10\r\nContent-Length: 4\r\n\r\nhell")
 
 abbrev text37 : Bytes
-text37 = (codes "HTTP/1.1 204 No Content\r\nContent-Length: 5\r\n\r\n")
+text37 = (codes "GET /c HTTP/1.1\r\nhost: h\r\nrange: bytes=4-9\r\nif-range: \"x\"\r\nvia: 1.1 polipo\r\n\r\n")
 
 abbrev text38 : Bytes
-text38 = (codes "GET http://h/s HTTP/1.1\r\nAuthorization: NTLM abc\r\n\r\n")
+text38 = (codes "HTTP/1.1 206 Partial Content\r\nETag: \"x\"\r\nCache-Control: private\r\nContent-Range: bytes 4-9/10\r\nContent-Length: 6\r\n\r\nsecret")
 
 abbrev text39 : Bytes
-text39 = (codes "GET /s HTTP/1.1\r\nhost: h\r\nauthorization: NTLM abc\r\nvia: 1.1 polipo\r\n\r\n")
+text39 = (codes "HTTP/1.1 304 Not Modified\r\nCache-Control: private\r\n\r\n")
 
 abbrev text40 : Bytes
-text40 = (codes "HTTP/1.1 200 OK\r\nContent-Length: 2\r\n\r\nok")
+text40 = (codes "GET http://h/p HTTP/1.1\r\nCache-Control: no-store\r\n\r\n")
 
 abbrev text41 : Bytes
-text41 = (codes "GET http://h/l HTTP/1.1\r\n\r\n")
+text41 = (codes "GET /p HTTP/1.1\r\nhost: h\r\ncache-control: no-store\r\nvia: 1.1 polipo\r\n\r\n")
 
 abbrev text42 : Bytes
-text42 = (codes "GET /l HTTP/1.1\r\nhost: h\r\nvia: 1.1 polipo\r\n\r\n")
+text42 = (codes "GET http://h/q HTTP/1.1\r\nCache-Control: no-store\r\n\r\n")
 
 abbrev text43 : Bytes
-text43 = (codes "HTTP/1.1 200 OK\r\nETag: \"x\"\r\nCache-Control: max-age=60\r\nContent-Length: 4000000\r\n\r\nab")
+text43 = (codes "HTTP/1.1 204 No Content\r\nContent-Length: 5\r\n\r\n")
 
 abbrev text44 : Bytes
-text44 = (codes "GET http://h/l HTTP/1.1\r\nRange: bytes=3000000-3000003\r\n\r\n")
+text44 = (codes "GET http://h/s HTTP/1.1\r\nAuthorization: NTLM abc\r\n\r\n")
 
 abbrev text45 : Bytes
-text45 = (codes "GET http://h/l HTTP/1.1\r\nRange: bytes=1000000-1000003\r\n\r\n")
+text45 = (codes "GET /s HTTP/1.1\r\nhost: h\r\nauthorization: NTLM abc\r\nvia: 1.1 polipo\r\n\r\n")
 
 abbrev text46 : Bytes
-text46 = (codes "GET /l HTTP/1.1\r\nhost: h\r\nrange: bytes=2998272-3000003\r\nvia: 1.1 polipo\r\n\r\n")
+text46 = (codes "HTTP/1.1 200 OK\r\nContent-Length: 2\r\n\r\nok")
 
 abbrev text47 : Bytes
-text47 = (replicate 4094 97)
+text47 = (codes "GET http://h/l HTTP/1.1\r\n\r\n")
 
 abbrev text48 : Bytes
-text48 = (codes "GET /l HTTP/1.1\r\nhost: h\r\nrange: bytes=2998272-3000003\r\nif-range: \"x\"\r\nvia: 1.1 polipo\r\n\r\n")
+text48 = (codes "GET /l HTTP/1.1\r\nhost: h\r\nvia: 1.1 polipo\r\n\r\n")
+
+abbrev text49 : Bytes
+text49 = (codes "HTTP/1.1 200 OK\r\nETag: \"x\"\r\nCache-Control: max-age=60\r\nContent-Length: 4000000\r\n\r\nab")
+
+abbrev text50 : Bytes
+text50 = (codes "GET http://h/l HTTP/1.1\r\nRange: bytes=3000000-3000003\r\n\r\n")
+
+abbrev text51 : Bytes
+text51 = (codes "GET http://h/l HTTP/1.1\r\nRange: bytes=1000000-1000003\r\n\r\n")
+
+abbrev text52 : Bytes
+text52 = (codes "GET /l HTTP/1.1\r\nhost: h\r\nrange: bytes=2998272-3000003\r\nvia: 1.1 polipo\r\n\r\n")
+
+abbrev text53 : Bytes
+text53 = (replicate 4094 97)
+
+abbrev text54 : Bytes
+text54 = (codes "GET /l HTTP/1.1\r\nhost: h\r\nrange: bytes=2998272-3000003\r\nif-range: \"x\"\r\nvia: 1.1 polipo\r\n\r\n")
+
+abbrev text55 : Bytes
+text55 = (codes "HTTP/1.1 200 OK\r\nETag: \"y\"\r\nCache-Control: max-age=60\r\nContent-Length: 4000000\r\n\r\nab")
 
 row42 : fault_from 0 (start (record { words = []; faults = 0 } ∷ [])) (front0 ++ Heard 1 text1 ∷ Noted (Taken 1 0 Fetch) ∷ Dialled 2 (codes "h") 80 ∷ wait true (1 ∷ []) [] ∷ Reached 2 ∷ wait true (1 ∷ 2 ∷ []) (2 ∷ []) ∷ CanWrite 2 ∷ Asked 2 text2 ∷ wait true (1 ∷ 2 ∷ []) [] ∷ CanRead 2 ∷ Got 2 text3 ∷ Noted (Taken 1 0 (Hit 0 5)) ∷ wait true (1 ∷ 2 ∷ []) (1 ∷ []) ∷ CanWrite 1 ∷ Said 1 153 text4 ∷ wait true (1 ∷ 2 ∷ []) (1 ∷ []) ∷ CanWrite 1 ∷ Said 1 5 (codes "hello") ∷ wait true (1 ∷ 2 ∷ []) [] ∷ Clock 784111779 ∷ wait true (1 ∷ 2 ∷ []) [] ∷ Opened 3 ∷ wait true (1 ∷ 2 ∷ 3 ∷ []) [] ∷ CanRead 3 ∷ Heard 3 text1 ∷ Noted (Taken 3 0 Validate) ∷ wait true (1 ∷ 2 ∷ []) (2 ∷ []) ∷ CanWrite 2 ∷ Asked 2 text5 ∷ wait true (1 ∷ 2 ∷ []) [] ∷ CanRead 2 ∷ Got 2 text6 ∷ Noted (Taken 3 0 Fetch) ∷ wait true (1 ∷ []) (2 ∷ []) ∷ []) ≡ None
 unfolding judging
@@ -280,66 +304,94 @@ row345 : fault_from 0 (start (record { words = []; faults = 0 } ∷ [])) (front2
 unfolding judging
 row345 = refl
 
-row354 : fault_from 0 (start (record { words = []; faults = 0 } ∷ [])) (front0 ++ Heard 1 text34 ∷ Noted (Taken 1 0 Pass) ∷ Dialled 2 (codes "h") 80 ∷ wait true (1 ∷ []) [] ∷ Reached 2 ∷ wait true (1 ∷ 2 ∷ []) (2 ∷ []) ∷ CanWrite 2 ∷ Asked 2 text35 ∷ wait true (1 ∷ 2 ∷ []) [] ∷ Opened 3 ∷ wait true (1 ∷ 2 ∷ 3 ∷ []) [] ∷ CanRead 3 ∷ Heard 3 text36 ∷ Noted (Taken 3 0 Pass) ∷ Dialled 4 (codes "h") 80 ∷ wait true (1 ∷ 2 ∷ []) [] ∷ []) ≡ None
+row392 : fault_from 0 (start (record { words = []; faults = 0 } ∷ [])) (front3 ++ wait true [] (2 ∷ []) ∷ CanWrite 2 ∷ Asked 2 text35 ∷ wait true (2 ∷ []) [] ∷ CanRead 2 ∷ Got 2 text36 ∷ Noted (Taken 1 0 (Part 8 10)) ∷ wait true [] (2 ∷ []) ∷ CanWrite 2 ∷ Asked 2 text37 ∷ wait true (2 ∷ []) [] ∷ CanRead 2 ∷ Got 2 text38 ∷ Noted (Taken 1 0 Fetch) ∷ wait true [] (2 ∷ []) ∷ CanWrite 2 ∷ Asked 2 text35 ∷ wait true (2 ∷ []) [] ∷ CanRead 2 ∷ Got 2 text36 ∷ Noted (Taken 1 0 (Part 8 10)) ∷ wait true [] (2 ∷ []) ∷ CanWrite 2 ∷ Asked 2 text37 ∷ wait true (2 ∷ []) [] ∷ CanRead 2 ∷ Got 2 text38 ∷ Noted (Taken 1 0 Fetch) ∷ wait true [] (2 ∷ []) ∷ CanWrite 2 ∷ Asked 2 text35 ∷ wait true (2 ∷ []) [] ∷ CanRead 2 ∷ Got 2 text36 ∷ Noted (Taken 1 0 (Part 8 10)) ∷ wait true [] (2 ∷ []) ∷ CanWrite 2 ∷ Asked 2 text37 ∷ wait true (2 ∷ []) [] ∷ CanRead 2 ∷ Got 2 text38 ∷ Noted (Taken 1 0 Fetch) ∷ wait true [] (2 ∷ []) ∷ CanWrite 2 ∷ Asked 2 text35 ∷ wait true (2 ∷ []) [] ∷ CanRead 2 ∷ Got 2 text36 ∷ Noted (Taken 1 0 (Part 8 10)) ∷ wait true [] (2 ∷ []) ∷ CanWrite 2 ∷ Asked 2 text37 ∷ wait true (2 ∷ []) [] ∷ CanRead 2 ∷ Got 2 text38 ∷ Noted (Taken 1 0 (Refuse 502)) ∷ []) ≡ None
 unfolding judging
-row354 = refl
+row392 = refl
 
-row372 : fault_from 0 (start (record { words = []; faults = 0 } ∷ [])) (front0 ++ Heard 1 text1 ∷ Noted (Taken 1 0 Fetch) ∷ Dialled 2 (codes "h") 80 ∷ wait true (1 ∷ []) [] ∷ Reached 2 ∷ wait true (1 ∷ 2 ∷ []) (2 ∷ []) ∷ CanWrite 2 ∷ Asked 2 text2 ∷ wait true (1 ∷ 2 ∷ []) [] ∷ CanRead 2 ∷ Got 2 text3 ∷ Noted (Taken 1 0 (Hit 0 5)) ∷ wait true (1 ∷ 2 ∷ []) (1 ∷ []) ∷ CanWrite 1 ∷ Said 1 153 text4 ∷ wait true (1 ∷ 2 ∷ []) (1 ∷ []) ∷ CanWrite 1 ∷ Said 1 5 (codes "hello") ∷ wait true (1 ∷ 2 ∷ []) [] ∷ CanRead 1 ∷ Heard 1 text34 ∷ Noted (Taken 1 1 Pass) ∷ wait true (1 ∷ []) (2 ∷ []) ∷ CanWrite 2 ∷ Asked 2 text35 ∷ wait true (1 ∷ 2 ∷ []) [] ∷ CanRead 2 ∷ Got 2 text37 ∷ Dropped 2 ∷ wait true (1 ∷ []) (1 ∷ []) ∷ []) ≡ None
+row396 : fault_from 0 (start (record { words = []; faults = 0 } ∷ [])) (front3 ++ wait true [] (2 ∷ []) ∷ CanWrite 2 ∷ Asked 2 text35 ∷ wait true (2 ∷ []) [] ∷ CanRead 2 ∷ Got 2 text36 ∷ Noted (Taken 1 0 (Part 8 10)) ∷ wait true [] (2 ∷ []) ∷ CanWrite 2 ∷ Asked 2 text37 ∷ wait true (2 ∷ []) [] ∷ CanRead 2 ∷ Got 2 text38 ∷ Noted (Taken 1 0 Fetch) ∷ wait true [] (2 ∷ []) ∷ CanWrite 2 ∷ Asked 2 text35 ∷ wait true (2 ∷ []) [] ∷ CanRead 2 ∷ Got 2 text36 ∷ Noted (Taken 1 0 (Part 8 10)) ∷ wait true [] (2 ∷ []) ∷ CanWrite 2 ∷ Asked 2 text37 ∷ wait true (2 ∷ []) [] ∷ CanRead 2 ∷ Got 2 text38 ∷ Noted (Taken 1 0 Fetch) ∷ wait true [] (2 ∷ []) ∷ CanWrite 2 ∷ Asked 2 text35 ∷ wait true (2 ∷ []) [] ∷ CanRead 2 ∷ Got 2 text36 ∷ Noted (Taken 1 0 (Part 8 10)) ∷ wait true [] (2 ∷ []) ∷ CanWrite 2 ∷ Asked 2 text37 ∷ wait true (2 ∷ []) [] ∷ CanRead 2 ∷ Got 2 text38 ∷ Noted (Taken 1 0 Fetch) ∷ wait true [] (2 ∷ []) ∷ CanWrite 2 ∷ Asked 2 text35 ∷ wait true (2 ∷ []) [] ∷ CanRead 2 ∷ Got 2 text36 ∷ Noted (Taken 1 0 (Part 8 10)) ∷ wait true [] (2 ∷ []) ∷ CanWrite 2 ∷ Asked 2 text37 ∷ wait true (2 ∷ []) [] ∷ CanRead 2 ∷ Got 2 text38 ∷ Noted (Taken 1 0 Fetch) ∷ []) ≡ Some (record { at = 70; rule = WrongDecision })
 unfolding judging
-row372 = refl
+row396 = refl
 
-row398 : fault_from 0 (start (record { words = []; faults = 0 } ∷ [])) (front0 ++ Heard 1 text1 ∷ Noted (Taken 1 0 Fetch) ∷ Dialled 2 (codes "h") 80 ∷ wait true (1 ∷ []) [] ∷ Reached 2 ∷ wait true (1 ∷ 2 ∷ []) (2 ∷ []) ∷ CanWrite 2 ∷ Asked 2 text2 ∷ wait true (1 ∷ 2 ∷ []) [] ∷ CanRead 2 ∷ Got 2 text3 ∷ Noted (Taken 1 0 (Hit 0 5)) ∷ wait true (1 ∷ 2 ∷ []) (1 ∷ []) ∷ CanWrite 1 ∷ Said 1 153 text4 ∷ wait true (1 ∷ 2 ∷ []) (1 ∷ []) ∷ CanWrite 1 ∷ Said 1 5 (codes "hello") ∷ wait true (1 ∷ 2 ∷ []) [] ∷ CanRead 1 ∷ Heard 1 text34 ∷ Noted (Taken 1 1 Pass) ∷ wait true (1 ∷ []) (2 ∷ []) ∷ CanWrite 2 ∷ Asked 2 text35 ∷ wait true (1 ∷ 2 ∷ []) [] ∷ CanRead 2 ∷ Got 2 (codes "hello\r\n") ∷ Dropped 2 ∷ Dialled 3 (codes "h") 80 ∷ wait true (1 ∷ []) [] ∷ []) ≡ None
+row401 : fault_from 0 (start (record { words = []; faults = 0 } ∷ [])) (front3 ++ wait true [] (2 ∷ []) ∷ CanWrite 2 ∷ Asked 2 text35 ∷ wait true (2 ∷ []) [] ∷ CanRead 2 ∷ Got 2 text36 ∷ Noted (Taken 1 0 (Part 8 10)) ∷ wait true [] (2 ∷ []) ∷ CanWrite 2 ∷ Asked 2 text37 ∷ wait true (2 ∷ []) [] ∷ CanRead 2 ∷ Got 2 text38 ∷ Noted (Taken 1 0 Fetch) ∷ wait true [] (2 ∷ []) ∷ CanWrite 2 ∷ Asked 2 text35 ∷ wait true (2 ∷ []) [] ∷ CanRead 2 ∷ Got 2 text36 ∷ Noted (Taken 1 0 (Part 8 10)) ∷ wait true [] (2 ∷ []) ∷ CanWrite 2 ∷ Asked 2 text37 ∷ wait true (2 ∷ []) [] ∷ CanRead 2 ∷ Got 2 text38 ∷ Noted (Taken 1 0 Fetch) ∷ wait true [] (2 ∷ []) ∷ CanWrite 2 ∷ Asked 2 text35 ∷ wait true (2 ∷ []) [] ∷ CanRead 2 ∷ Got 2 text36 ∷ Noted (Taken 1 0 (Part 8 10)) ∷ wait true [] (2 ∷ []) ∷ CanWrite 2 ∷ Asked 2 text37 ∷ wait true (2 ∷ []) [] ∷ CanRead 2 ∷ Got 2 text38 ∷ Noted (Taken 1 0 (Refuse 502)) ∷ []) ≡ Some (record { at = 56; rule = WrongDecision })
 unfolding judging
-row398 = refl
+row401 = refl
 
-row404 : fault_from 0 (start (record { words = []; faults = 0 } ∷ [])) (front0 ++ Heard 1 text1 ∷ Noted (Taken 1 0 Fetch) ∷ Dialled 2 (codes "h") 80 ∷ wait true (1 ∷ []) [] ∷ Reached 2 ∷ wait true (1 ∷ 2 ∷ []) (2 ∷ []) ∷ CanWrite 2 ∷ Asked 2 text2 ∷ wait true (1 ∷ 2 ∷ []) [] ∷ CanRead 2 ∷ Got 2 text3 ∷ Noted (Taken 1 0 (Hit 0 5)) ∷ wait true (1 ∷ 2 ∷ []) (1 ∷ []) ∷ CanWrite 1 ∷ Said 1 153 text4 ∷ wait true (1 ∷ 2 ∷ []) (1 ∷ []) ∷ CanWrite 1 ∷ Said 1 5 (codes "hello") ∷ wait true (1 ∷ 2 ∷ []) [] ∷ CanRead 1 ∷ Heard 1 text34 ∷ Noted (Taken 1 1 Pass) ∷ wait true (1 ∷ []) (2 ∷ []) ∷ CanWrite 2 ∷ Asked 2 text35 ∷ wait true (1 ∷ 2 ∷ []) [] ∷ CanRead 2 ∷ Got 2 (codes "hello\r\n") ∷ Noted (Taken 1 1 (Refuse 502)) ∷ []) ≡ Some (record { at = 38; rule = WrongDecision })
+row406 : fault_from 0 (start (record { words = []; faults = 0 } ∷ [])) (front3 ++ wait true [] (2 ∷ []) ∷ CanWrite 2 ∷ Asked 2 text35 ∷ wait true (2 ∷ []) [] ∷ CanRead 2 ∷ Got 2 text36 ∷ Noted (Taken 1 0 (Part 8 10)) ∷ wait true [] (2 ∷ []) ∷ CanWrite 2 ∷ Asked 2 text37 ∷ wait true (2 ∷ []) [] ∷ CanRead 2 ∷ Got 2 text39 ∷ Noted (Taken 1 0 Fetch) ∷ wait true [] (2 ∷ []) ∷ CanWrite 2 ∷ Asked 2 text35 ∷ wait true (2 ∷ []) [] ∷ CanRead 2 ∷ Got 2 text36 ∷ Noted (Taken 1 0 (Part 8 10)) ∷ wait true [] (2 ∷ []) ∷ CanWrite 2 ∷ Asked 2 text37 ∷ wait true (2 ∷ []) [] ∷ CanRead 2 ∷ Got 2 text39 ∷ Noted (Taken 1 0 Fetch) ∷ wait true [] (2 ∷ []) ∷ CanWrite 2 ∷ Asked 2 text35 ∷ wait true (2 ∷ []) [] ∷ CanRead 2 ∷ Got 2 text36 ∷ Noted (Taken 1 0 (Part 8 10)) ∷ wait true [] (2 ∷ []) ∷ CanWrite 2 ∷ Asked 2 text37 ∷ wait true (2 ∷ []) [] ∷ CanRead 2 ∷ Got 2 text39 ∷ Noted (Taken 1 0 Fetch) ∷ wait true [] (2 ∷ []) ∷ CanWrite 2 ∷ Asked 2 text35 ∷ wait true (2 ∷ []) [] ∷ CanRead 2 ∷ Got 2 text36 ∷ Noted (Taken 1 0 (Part 8 10)) ∷ wait true [] (2 ∷ []) ∷ CanWrite 2 ∷ Asked 2 text37 ∷ wait true (2 ∷ []) [] ∷ CanRead 2 ∷ Got 2 text39 ∷ Noted (Taken 1 0 (Refuse 502)) ∷ []) ≡ None
 unfolding judging
-row404 = refl
+row406 = refl
 
-row424 : fault_from 0 (start (record { words = []; faults = 0 } ∷ [])) (front0 ++ Heard 1 text1 ∷ Noted (Taken 1 0 Fetch) ∷ Dialled 2 (codes "h") 80 ∷ wait true (1 ∷ []) [] ∷ Reached 2 ∷ wait true (1 ∷ 2 ∷ []) (2 ∷ []) ∷ CanWrite 2 ∷ Asked 2 text2 ∷ wait true (1 ∷ 2 ∷ []) [] ∷ CanRead 2 ∷ Got 2 text3 ∷ Noted (Taken 1 0 (Hit 0 5)) ∷ wait true (1 ∷ 2 ∷ []) (1 ∷ []) ∷ CanWrite 1 ∷ Said 1 153 text4 ∷ wait true (1 ∷ 2 ∷ []) (1 ∷ []) ∷ CanWrite 1 ∷ Said 1 5 (codes "hello") ∷ wait true (1 ∷ 2 ∷ []) [] ∷ CanRead 1 ∷ Heard 1 text38 ∷ Noted (Taken 1 1 Pass) ∷ Dialled 3 (codes "h") 80 ∷ wait true (1 ∷ 2 ∷ []) [] ∷ Reached 3 ∷ wait true (1 ∷ 2 ∷ []) (3 ∷ []) ∷ CanWrite 3 ∷ Asked 3 text39 ∷ wait true (1 ∷ 2 ∷ 3 ∷ []) [] ∷ CanRead 3 ∷ Got 3 text40 ∷ Dropped 3 ∷ wait true (1 ∷ 2 ∷ []) (1 ∷ []) ∷ []) ≡ None
+row410 : fault_from 0 (start (record { words = []; faults = 0 } ∷ [])) (front3 ++ wait true [] (2 ∷ []) ∷ CanWrite 2 ∷ Asked 2 text35 ∷ wait true (2 ∷ []) [] ∷ CanRead 2 ∷ Got 2 text36 ∷ Noted (Taken 1 0 (Part 8 10)) ∷ wait true [] (2 ∷ []) ∷ CanWrite 2 ∷ Asked 2 text37 ∷ wait true (2 ∷ []) [] ∷ CanRead 2 ∷ Got 2 text39 ∷ Noted (Taken 1 0 Fetch) ∷ wait true [] (2 ∷ []) ∷ CanWrite 2 ∷ Asked 2 text35 ∷ wait true (2 ∷ []) [] ∷ CanRead 2 ∷ Got 2 text36 ∷ Noted (Taken 1 0 (Part 8 10)) ∷ wait true [] (2 ∷ []) ∷ CanWrite 2 ∷ Asked 2 text37 ∷ wait true (2 ∷ []) [] ∷ CanRead 2 ∷ Got 2 text39 ∷ Noted (Taken 1 0 Fetch) ∷ wait true [] (2 ∷ []) ∷ CanWrite 2 ∷ Asked 2 text35 ∷ wait true (2 ∷ []) [] ∷ CanRead 2 ∷ Got 2 text36 ∷ Noted (Taken 1 0 (Part 8 10)) ∷ wait true [] (2 ∷ []) ∷ CanWrite 2 ∷ Asked 2 text37 ∷ wait true (2 ∷ []) [] ∷ CanRead 2 ∷ Got 2 text39 ∷ Noted (Taken 1 0 Fetch) ∷ wait true [] (2 ∷ []) ∷ CanWrite 2 ∷ Asked 2 text35 ∷ wait true (2 ∷ []) [] ∷ CanRead 2 ∷ Got 2 text36 ∷ Noted (Taken 1 0 (Part 8 10)) ∷ wait true [] (2 ∷ []) ∷ CanWrite 2 ∷ Asked 2 text37 ∷ wait true (2 ∷ []) [] ∷ CanRead 2 ∷ Got 2 text39 ∷ Noted (Taken 1 0 Fetch) ∷ []) ≡ Some (record { at = 70; rule = WrongDecision })
 unfolding judging
-row424 = refl
+row410 = refl
 
-row429 : fault_from 0 (start (record { words = []; faults = 0 } ∷ [])) (front0 ++ Heard 1 text1 ∷ Noted (Taken 1 0 Fetch) ∷ Dialled 2 (codes "h") 80 ∷ wait true (1 ∷ []) [] ∷ Reached 2 ∷ wait true (1 ∷ 2 ∷ []) (2 ∷ []) ∷ CanWrite 2 ∷ Asked 2 text2 ∷ wait true (1 ∷ 2 ∷ []) [] ∷ CanRead 2 ∷ Got 2 text3 ∷ Noted (Taken 1 0 (Hit 0 5)) ∷ wait true (1 ∷ 2 ∷ []) (1 ∷ []) ∷ CanWrite 1 ∷ Said 1 153 text4 ∷ wait true (1 ∷ 2 ∷ []) (1 ∷ []) ∷ CanWrite 1 ∷ Said 1 5 (codes "hello") ∷ wait true (1 ∷ 2 ∷ []) [] ∷ CanRead 1 ∷ Heard 1 text38 ∷ Noted (Taken 1 1 Pass) ∷ Dialled 3 (codes "h") 80 ∷ wait true (1 ∷ 2 ∷ []) [] ∷ Reached 3 ∷ wait true (1 ∷ 2 ∷ []) (3 ∷ []) ∷ CanWrite 3 ∷ Asked 3 text39 ∷ wait true (1 ∷ 2 ∷ 3 ∷ []) [] ∷ CanRead 3 ∷ Got 3 text40 ∷ wait true (1 ∷ 2 ∷ 3 ∷ []) (1 ∷ []) ∷ []) ≡ Some (record { at = 41; rule = StepUnfinished })
+row419 : fault_from 0 (start (record { words = []; faults = 0 } ∷ [])) (front0 ++ Heard 1 text40 ∷ Noted (Taken 1 0 Pass) ∷ Dialled 2 (codes "h") 80 ∷ wait true (1 ∷ []) [] ∷ Reached 2 ∷ wait true (1 ∷ 2 ∷ []) (2 ∷ []) ∷ CanWrite 2 ∷ Asked 2 text41 ∷ wait true (1 ∷ 2 ∷ []) [] ∷ Opened 3 ∷ wait true (1 ∷ 2 ∷ 3 ∷ []) [] ∷ CanRead 3 ∷ Heard 3 text42 ∷ Noted (Taken 3 0 Pass) ∷ Dialled 4 (codes "h") 80 ∷ wait true (1 ∷ 2 ∷ []) [] ∷ []) ≡ None
 unfolding judging
-row429 = refl
+row419 = refl
 
-row455 : fault_from 0 (start (record { words = []; faults = 0 } ∷ [])) (front0 ++ Heard 1 text41 ∷ Noted (Taken 1 0 Fetch) ∷ Dialled 2 (codes "h") 80 ∷ wait true [] [] ∷ Reached 2 ∷ wait true [] (2 ∷ []) ∷ CanWrite 2 ∷ Asked 2 text42 ∷ wait true (2 ∷ []) [] ∷ CanRead 2 ∷ Got 2 text43 ∷ Noted (Taken 1 0 (Part 0 4000000)) ∷ wait true (2 ∷ []) (1 ∷ []) ∷ Opened 3 ∷ wait true (2 ∷ 3 ∷ []) (1 ∷ []) ∷ CanRead 3 ∷ Heard 3 text44 ∷ Noted (Taken 3 0 (Part 3000000 3000004)) ∷ Dialled 4 (codes "h") 80 ∷ wait true (2 ∷ []) (1 ∷ []) ∷ []) ≡ None
+row437 : fault_from 0 (start (record { words = []; faults = 0 } ∷ [])) (front0 ++ Heard 1 text1 ∷ Noted (Taken 1 0 Fetch) ∷ Dialled 2 (codes "h") 80 ∷ wait true (1 ∷ []) [] ∷ Reached 2 ∷ wait true (1 ∷ 2 ∷ []) (2 ∷ []) ∷ CanWrite 2 ∷ Asked 2 text2 ∷ wait true (1 ∷ 2 ∷ []) [] ∷ CanRead 2 ∷ Got 2 text3 ∷ Noted (Taken 1 0 (Hit 0 5)) ∷ wait true (1 ∷ 2 ∷ []) (1 ∷ []) ∷ CanWrite 1 ∷ Said 1 153 text4 ∷ wait true (1 ∷ 2 ∷ []) (1 ∷ []) ∷ CanWrite 1 ∷ Said 1 5 (codes "hello") ∷ wait true (1 ∷ 2 ∷ []) [] ∷ CanRead 1 ∷ Heard 1 text40 ∷ Noted (Taken 1 1 Pass) ∷ wait true (1 ∷ []) (2 ∷ []) ∷ CanWrite 2 ∷ Asked 2 text41 ∷ wait true (1 ∷ 2 ∷ []) [] ∷ CanRead 2 ∷ Got 2 text43 ∷ Dropped 2 ∷ wait true (1 ∷ []) (1 ∷ []) ∷ []) ≡ None
 unfolding judging
-row455 = refl
+row437 = refl
 
-row462 : fault_from 0 (start (record { words = []; faults = 0 } ∷ [])) (front0 ++ Heard 1 text41 ∷ Noted (Taken 1 0 Fetch) ∷ Dialled 2 (codes "h") 80 ∷ wait true [] [] ∷ Reached 2 ∷ wait true [] (2 ∷ []) ∷ CanWrite 2 ∷ Asked 2 text42 ∷ wait true (2 ∷ []) [] ∷ CanRead 2 ∷ Got 2 text43 ∷ Noted (Taken 1 0 (Part 0 4000000)) ∷ wait true (2 ∷ []) (1 ∷ []) ∷ Opened 3 ∷ wait true (2 ∷ 3 ∷ []) (1 ∷ []) ∷ CanRead 3 ∷ Heard 3 text45 ∷ Noted (Taken 3 0 (Part 1000000 1000004)) ∷ wait true (2 ∷ []) (1 ∷ []) ∷ []) ≡ None
+row463 : fault_from 0 (start (record { words = []; faults = 0 } ∷ [])) (front0 ++ Heard 1 text1 ∷ Noted (Taken 1 0 Fetch) ∷ Dialled 2 (codes "h") 80 ∷ wait true (1 ∷ []) [] ∷ Reached 2 ∷ wait true (1 ∷ 2 ∷ []) (2 ∷ []) ∷ CanWrite 2 ∷ Asked 2 text2 ∷ wait true (1 ∷ 2 ∷ []) [] ∷ CanRead 2 ∷ Got 2 text3 ∷ Noted (Taken 1 0 (Hit 0 5)) ∷ wait true (1 ∷ 2 ∷ []) (1 ∷ []) ∷ CanWrite 1 ∷ Said 1 153 text4 ∷ wait true (1 ∷ 2 ∷ []) (1 ∷ []) ∷ CanWrite 1 ∷ Said 1 5 (codes "hello") ∷ wait true (1 ∷ 2 ∷ []) [] ∷ CanRead 1 ∷ Heard 1 text40 ∷ Noted (Taken 1 1 Pass) ∷ wait true (1 ∷ []) (2 ∷ []) ∷ CanWrite 2 ∷ Asked 2 text41 ∷ wait true (1 ∷ 2 ∷ []) [] ∷ CanRead 2 ∷ Got 2 (codes "hello\r\n") ∷ Dropped 2 ∷ Dialled 3 (codes "h") 80 ∷ wait true (1 ∷ []) [] ∷ []) ≡ None
 unfolding judging
-row462 = refl
+row463 = refl
 
-row486 : fault_from 0 (start (record { words = []; faults = 0 } ∷ [])) (front0 ++ Heard 1 text41 ∷ Noted (Taken 1 0 Fetch) ∷ Dialled 2 (codes "h") 80 ∷ wait true [] [] ∷ Reached 2 ∷ wait true [] (2 ∷ []) ∷ CanWrite 2 ∷ Asked 2 text42 ∷ wait true (2 ∷ []) [] ∷ CanRead 2 ∷ Got 2 text43 ∷ Noted (Taken 1 0 (Part 0 4000000)) ∷ wait true (2 ∷ []) (1 ∷ []) ∷ Opened 3 ∷ wait true (2 ∷ 3 ∷ []) (1 ∷ []) ∷ CanRead 3 ∷ Heard 3 text44 ∷ Noted (Taken 3 0 (Part 3000000 3000004)) ∷ Dialled 4 (codes "h") 80 ∷ wait true (2 ∷ []) (1 ∷ []) ∷ CanWrite 1 ∷ HungUp 1 ∷ Shut 1 ∷ Dropped 2 ∷ wait true [] [] ∷ []) ≡ None
+row469 : fault_from 0 (start (record { words = []; faults = 0 } ∷ [])) (front0 ++ Heard 1 text1 ∷ Noted (Taken 1 0 Fetch) ∷ Dialled 2 (codes "h") 80 ∷ wait true (1 ∷ []) [] ∷ Reached 2 ∷ wait true (1 ∷ 2 ∷ []) (2 ∷ []) ∷ CanWrite 2 ∷ Asked 2 text2 ∷ wait true (1 ∷ 2 ∷ []) [] ∷ CanRead 2 ∷ Got 2 text3 ∷ Noted (Taken 1 0 (Hit 0 5)) ∷ wait true (1 ∷ 2 ∷ []) (1 ∷ []) ∷ CanWrite 1 ∷ Said 1 153 text4 ∷ wait true (1 ∷ 2 ∷ []) (1 ∷ []) ∷ CanWrite 1 ∷ Said 1 5 (codes "hello") ∷ wait true (1 ∷ 2 ∷ []) [] ∷ CanRead 1 ∷ Heard 1 text40 ∷ Noted (Taken 1 1 Pass) ∷ wait true (1 ∷ []) (2 ∷ []) ∷ CanWrite 2 ∷ Asked 2 text41 ∷ wait true (1 ∷ 2 ∷ []) [] ∷ CanRead 2 ∷ Got 2 (codes "hello\r\n") ∷ Noted (Taken 1 1 (Refuse 502)) ∷ []) ≡ Some (record { at = 38; rule = WrongDecision })
 unfolding judging
-row486 = refl
+row469 = refl
 
-row491 : fault_from 0 (start (record { words = []; faults = 0 } ∷ [])) (front0 ++ Heard 1 text41 ∷ Noted (Taken 1 0 Fetch) ∷ Dialled 2 (codes "h") 80 ∷ wait true [] [] ∷ Reached 2 ∷ wait true [] (2 ∷ []) ∷ CanWrite 2 ∷ Asked 2 text42 ∷ wait true (2 ∷ []) [] ∷ CanRead 2 ∷ Got 2 text43 ∷ Noted (Taken 1 0 (Part 0 4000000)) ∷ wait true (2 ∷ []) (1 ∷ []) ∷ Opened 3 ∷ wait true (2 ∷ 3 ∷ []) (1 ∷ []) ∷ CanRead 3 ∷ Heard 3 text44 ∷ Noted (Taken 3 0 (Part 3000000 3000004)) ∷ Dialled 4 (codes "h") 80 ∷ wait true (2 ∷ []) (1 ∷ []) ∷ CanWrite 1 ∷ HungUp 1 ∷ Shut 1 ∷ wait true (2 ∷ []) [] ∷ []) ≡ Some (record { at = 33; rule = StepUnfinished })
+row489 : fault_from 0 (start (record { words = []; faults = 0 } ∷ [])) (front0 ++ Heard 1 text1 ∷ Noted (Taken 1 0 Fetch) ∷ Dialled 2 (codes "h") 80 ∷ wait true (1 ∷ []) [] ∷ Reached 2 ∷ wait true (1 ∷ 2 ∷ []) (2 ∷ []) ∷ CanWrite 2 ∷ Asked 2 text2 ∷ wait true (1 ∷ 2 ∷ []) [] ∷ CanRead 2 ∷ Got 2 text3 ∷ Noted (Taken 1 0 (Hit 0 5)) ∷ wait true (1 ∷ 2 ∷ []) (1 ∷ []) ∷ CanWrite 1 ∷ Said 1 153 text4 ∷ wait true (1 ∷ 2 ∷ []) (1 ∷ []) ∷ CanWrite 1 ∷ Said 1 5 (codes "hello") ∷ wait true (1 ∷ 2 ∷ []) [] ∷ CanRead 1 ∷ Heard 1 text44 ∷ Noted (Taken 1 1 Pass) ∷ Dialled 3 (codes "h") 80 ∷ wait true (1 ∷ 2 ∷ []) [] ∷ Reached 3 ∷ wait true (1 ∷ 2 ∷ []) (3 ∷ []) ∷ CanWrite 3 ∷ Asked 3 text45 ∷ wait true (1 ∷ 2 ∷ 3 ∷ []) [] ∷ CanRead 3 ∷ Got 3 text46 ∷ Dropped 3 ∷ wait true (1 ∷ 2 ∷ []) (1 ∷ []) ∷ []) ≡ None
 unfolding judging
-row491 = refl
+row489 = refl
 
-row496 : fault_from 0 (start (record { words = []; faults = 0 } ∷ [])) (front0 ++ Heard 1 text41 ∷ Noted (Taken 1 0 Fetch) ∷ Dialled 2 (codes "h") 80 ∷ wait true [] [] ∷ Reached 2 ∷ wait true [] (2 ∷ []) ∷ CanWrite 2 ∷ Asked 2 text42 ∷ wait true (2 ∷ []) [] ∷ CanRead 2 ∷ Got 2 text43 ∷ Noted (Taken 1 0 (Part 0 4000000)) ∷ wait true (2 ∷ []) (1 ∷ []) ∷ Opened 3 ∷ wait true (2 ∷ 3 ∷ []) (1 ∷ []) ∷ CanRead 3 ∷ Heard 3 text45 ∷ Noted (Taken 3 0 (Part 1000000 1000004)) ∷ wait true (2 ∷ []) (1 ∷ []) ∷ CanWrite 1 ∷ HungUp 1 ∷ Shut 1 ∷ wait true (2 ∷ []) [] ∷ []) ≡ None
+row494 : fault_from 0 (start (record { words = []; faults = 0 } ∷ [])) (front0 ++ Heard 1 text1 ∷ Noted (Taken 1 0 Fetch) ∷ Dialled 2 (codes "h") 80 ∷ wait true (1 ∷ []) [] ∷ Reached 2 ∷ wait true (1 ∷ 2 ∷ []) (2 ∷ []) ∷ CanWrite 2 ∷ Asked 2 text2 ∷ wait true (1 ∷ 2 ∷ []) [] ∷ CanRead 2 ∷ Got 2 text3 ∷ Noted (Taken 1 0 (Hit 0 5)) ∷ wait true (1 ∷ 2 ∷ []) (1 ∷ []) ∷ CanWrite 1 ∷ Said 1 153 text4 ∷ wait true (1 ∷ 2 ∷ []) (1 ∷ []) ∷ CanWrite 1 ∷ Said 1 5 (codes "hello") ∷ wait true (1 ∷ 2 ∷ []) [] ∷ CanRead 1 ∷ Heard 1 text44 ∷ Noted (Taken 1 1 Pass) ∷ Dialled 3 (codes "h") 80 ∷ wait true (1 ∷ 2 ∷ []) [] ∷ Reached 3 ∷ wait true (1 ∷ 2 ∷ []) (3 ∷ []) ∷ CanWrite 3 ∷ Asked 3 text45 ∷ wait true (1 ∷ 2 ∷ 3 ∷ []) [] ∷ CanRead 3 ∷ Got 3 text46 ∷ wait true (1 ∷ 2 ∷ 3 ∷ []) (1 ∷ []) ∷ []) ≡ Some (record { at = 41; rule = StepUnfinished })
 unfolding judging
-row496 = refl
+row494 = refl
 
-row500 : fault_from 0 (start (record { words = []; faults = 0 } ∷ [])) (front0 ++ Heard 1 text41 ∷ Noted (Taken 1 0 Fetch) ∷ Dialled 2 (codes "h") 80 ∷ wait true [] [] ∷ Reached 2 ∷ wait true [] (2 ∷ []) ∷ CanWrite 2 ∷ Asked 2 text42 ∷ wait true (2 ∷ []) [] ∷ CanRead 2 ∷ Got 2 text43 ∷ Noted (Taken 1 0 (Part 0 4000000)) ∷ wait true (2 ∷ []) (1 ∷ []) ∷ Opened 3 ∷ wait true (2 ∷ 3 ∷ []) (1 ∷ []) ∷ CanRead 3 ∷ Heard 3 text45 ∷ Noted (Taken 3 0 (Part 1000000 1000004)) ∷ wait true (2 ∷ []) (1 ∷ []) ∷ CanWrite 1 ∷ HungUp 1 ∷ Shut 1 ∷ Dropped 2 ∷ []) ≡ Some (record { at = 32; rule = NotToBeClosed })
+row520 : fault_from 0 (start (record { words = []; faults = 0 } ∷ [])) (front0 ++ Heard 1 text47 ∷ Noted (Taken 1 0 Fetch) ∷ Dialled 2 (codes "h") 80 ∷ wait true [] [] ∷ Reached 2 ∷ wait true [] (2 ∷ []) ∷ CanWrite 2 ∷ Asked 2 text48 ∷ wait true (2 ∷ []) [] ∷ CanRead 2 ∷ Got 2 text49 ∷ Noted (Taken 1 0 (Part 0 4000000)) ∷ wait true (2 ∷ []) (1 ∷ []) ∷ Opened 3 ∷ wait true (2 ∷ 3 ∷ []) (1 ∷ []) ∷ CanRead 3 ∷ Heard 3 text50 ∷ Noted (Taken 3 0 (Part 3000000 3000004)) ∷ Dialled 4 (codes "h") 80 ∷ wait true (2 ∷ []) (1 ∷ []) ∷ []) ≡ None
 unfolding judging
-row500 = refl
+row520 = refl
 
-row522 : fault_from 0 (start (record { words = []; faults = 0 } ∷ [])) (front0 ++ Heard 1 text44 ∷ Noted (Taken 1 0 Fetch) ∷ Dialled 2 (codes "h") 80 ∷ wait true [] [] ∷ Reached 2 ∷ wait true [] (2 ∷ []) ∷ CanWrite 2 ∷ Asked 2 text46 ∷ wait true (2 ∷ []) [] ∷ CanRead 2 ∷ Got 2 text43 ∷ Noted (Taken 1 0 (Part 3000000 3000004)) ∷ wait true (2 ∷ []) [] ∷ CanRead 2 ∷ Got 2 text47 ∷ wait true (2 ∷ []) [] ∷ []) ≡ None
+row527 : fault_from 0 (start (record { words = []; faults = 0 } ∷ [])) (front0 ++ Heard 1 text47 ∷ Noted (Taken 1 0 Fetch) ∷ Dialled 2 (codes "h") 80 ∷ wait true [] [] ∷ Reached 2 ∷ wait true [] (2 ∷ []) ∷ CanWrite 2 ∷ Asked 2 text48 ∷ wait true (2 ∷ []) [] ∷ CanRead 2 ∷ Got 2 text49 ∷ Noted (Taken 1 0 (Part 0 4000000)) ∷ wait true (2 ∷ []) (1 ∷ []) ∷ Opened 3 ∷ wait true (2 ∷ 3 ∷ []) (1 ∷ []) ∷ CanRead 3 ∷ Heard 3 text51 ∷ Noted (Taken 3 0 (Part 1000000 1000004)) ∷ wait true (2 ∷ []) (1 ∷ []) ∷ []) ≡ None
 unfolding judging
-row522 = refl
+row527 = refl
 
-row529 : fault_from 0 (start (record { words = []; faults = 0 } ∷ [])) (front0 ++ Heard 1 text44 ∷ Noted (Taken 1 0 Fetch) ∷ Dialled 2 (codes "h") 80 ∷ wait true [] [] ∷ Reached 2 ∷ wait true [] (2 ∷ []) ∷ CanWrite 2 ∷ Asked 2 text46 ∷ wait true (2 ∷ []) [] ∷ CanRead 2 ∷ Got 2 text43 ∷ Noted (Taken 1 0 (Part 3000000 3000004)) ∷ Dialled 3 (codes "h") 80 ∷ []) ≡ Some (record { at = 22; rule = NotToBeDialled })
+row551 : fault_from 0 (start (record { words = []; faults = 0 } ∷ [])) (front0 ++ Heard 1 text47 ∷ Noted (Taken 1 0 Fetch) ∷ Dialled 2 (codes "h") 80 ∷ wait true [] [] ∷ Reached 2 ∷ wait true [] (2 ∷ []) ∷ CanWrite 2 ∷ Asked 2 text48 ∷ wait true (2 ∷ []) [] ∷ CanRead 2 ∷ Got 2 text49 ∷ Noted (Taken 1 0 (Part 0 4000000)) ∷ wait true (2 ∷ []) (1 ∷ []) ∷ Opened 3 ∷ wait true (2 ∷ 3 ∷ []) (1 ∷ []) ∷ CanRead 3 ∷ Heard 3 text50 ∷ Noted (Taken 3 0 (Part 3000000 3000004)) ∷ Dialled 4 (codes "h") 80 ∷ wait true (2 ∷ []) (1 ∷ []) ∷ CanWrite 1 ∷ HungUp 1 ∷ Shut 1 ∷ Dropped 2 ∷ wait true [] [] ∷ []) ≡ None
 unfolding judging
-row529 = refl
+row551 = refl
 
-row548 : fault_from 0 (start (record { words = []; faults = 0 } ∷ [])) (front0 ++ Heard 1 text41 ∷ Noted (Taken 1 0 Fetch) ∷ Dialled 2 (codes "h") 80 ∷ wait true [] [] ∷ Reached 2 ∷ wait true [] (2 ∷ []) ∷ CanWrite 2 ∷ Asked 2 text42 ∷ wait true (2 ∷ []) [] ∷ CanRead 2 ∷ Got 2 text43 ∷ Noted (Taken 1 0 (Part 0 4000000)) ∷ wait true (2 ∷ []) (1 ∷ []) ∷ Opened 3 ∷ wait true (2 ∷ 3 ∷ []) (1 ∷ []) ∷ CanRead 3 ∷ Heard 3 text44 ∷ Noted (Taken 3 0 (Part 3000000 3000004)) ∷ Dialled 4 (codes "h") 80 ∷ wait true (2 ∷ []) (1 ∷ []) ∷ Reached 4 ∷ wait true (2 ∷ []) (1 ∷ 4 ∷ []) ∷ CanWrite 4 ∷ Asked 4 text48 ∷ wait true (2 ∷ 4 ∷ []) (1 ∷ []) ∷ CanRead 4 ∷ Got 4 text43 ∷ wait true (2 ∷ 4 ∷ []) (1 ∷ []) ∷ []) ≡ None
+row556 : fault_from 0 (start (record { words = []; faults = 0 } ∷ [])) (front0 ++ Heard 1 text47 ∷ Noted (Taken 1 0 Fetch) ∷ Dialled 2 (codes "h") 80 ∷ wait true [] [] ∷ Reached 2 ∷ wait true [] (2 ∷ []) ∷ CanWrite 2 ∷ Asked 2 text48 ∷ wait true (2 ∷ []) [] ∷ CanRead 2 ∷ Got 2 text49 ∷ Noted (Taken 1 0 (Part 0 4000000)) ∷ wait true (2 ∷ []) (1 ∷ []) ∷ Opened 3 ∷ wait true (2 ∷ 3 ∷ []) (1 ∷ []) ∷ CanRead 3 ∷ Heard 3 text50 ∷ Noted (Taken 3 0 (Part 3000000 3000004)) ∷ Dialled 4 (codes "h") 80 ∷ wait true (2 ∷ []) (1 ∷ []) ∷ CanWrite 1 ∷ HungUp 1 ∷ Shut 1 ∷ wait true (2 ∷ []) [] ∷ []) ≡ Some (record { at = 33; rule = StepUnfinished })
 unfolding judging
-row548 = refl
+row556 = refl
 
-row552 : fault_from 0 (start (record { words = []; faults = 0 } ∷ [])) (front0 ++ Heard 1 text41 ∷ Noted (Taken 1 0 Fetch) ∷ Dialled 2 (codes "h") 80 ∷ wait true [] [] ∷ Reached 2 ∷ wait true [] (2 ∷ []) ∷ CanWrite 2 ∷ Asked 2 text42 ∷ wait true (2 ∷ []) [] ∷ CanRead 2 ∷ Got 2 text43 ∷ Noted (Taken 1 0 (Part 0 4000000)) ∷ wait true (2 ∷ []) (1 ∷ []) ∷ Opened 3 ∷ wait true (2 ∷ 3 ∷ []) (1 ∷ []) ∷ CanRead 3 ∷ Heard 3 text44 ∷ Noted (Taken 3 0 (Part 3000000 3000004)) ∷ Dialled 4 (codes "h") 80 ∷ wait true (2 ∷ []) (1 ∷ []) ∷ Reached 4 ∷ wait true (2 ∷ []) (1 ∷ 4 ∷ []) ∷ CanWrite 4 ∷ Asked 4 text48 ∷ wait true (2 ∷ 4 ∷ []) (1 ∷ []) ∷ CanRead 4 ∷ Got 4 text43 ∷ Dialled 5 (codes "h") 80 ∷ []) ≡ Some (record { at = 37; rule = NotToBeDialled })
+row561 : fault_from 0 (start (record { words = []; faults = 0 } ∷ [])) (front0 ++ Heard 1 text47 ∷ Noted (Taken 1 0 Fetch) ∷ Dialled 2 (codes "h") 80 ∷ wait true [] [] ∷ Reached 2 ∷ wait true [] (2 ∷ []) ∷ CanWrite 2 ∷ Asked 2 text48 ∷ wait true (2 ∷ []) [] ∷ CanRead 2 ∷ Got 2 text49 ∷ Noted (Taken 1 0 (Part 0 4000000)) ∷ wait true (2 ∷ []) (1 ∷ []) ∷ Opened 3 ∷ wait true (2 ∷ 3 ∷ []) (1 ∷ []) ∷ CanRead 3 ∷ Heard 3 text51 ∷ Noted (Taken 3 0 (Part 1000000 1000004)) ∷ wait true (2 ∷ []) (1 ∷ []) ∷ CanWrite 1 ∷ HungUp 1 ∷ Shut 1 ∷ wait true (2 ∷ []) [] ∷ []) ≡ None
 unfolding judging
-row552 = refl
+row561 = refl
+
+row565 : fault_from 0 (start (record { words = []; faults = 0 } ∷ [])) (front0 ++ Heard 1 text47 ∷ Noted (Taken 1 0 Fetch) ∷ Dialled 2 (codes "h") 80 ∷ wait true [] [] ∷ Reached 2 ∷ wait true [] (2 ∷ []) ∷ CanWrite 2 ∷ Asked 2 text48 ∷ wait true (2 ∷ []) [] ∷ CanRead 2 ∷ Got 2 text49 ∷ Noted (Taken 1 0 (Part 0 4000000)) ∷ wait true (2 ∷ []) (1 ∷ []) ∷ Opened 3 ∷ wait true (2 ∷ 3 ∷ []) (1 ∷ []) ∷ CanRead 3 ∷ Heard 3 text51 ∷ Noted (Taken 3 0 (Part 1000000 1000004)) ∷ wait true (2 ∷ []) (1 ∷ []) ∷ CanWrite 1 ∷ HungUp 1 ∷ Shut 1 ∷ Dropped 2 ∷ []) ≡ Some (record { at = 32; rule = NotToBeClosed })
+unfolding judging
+row565 = refl
+
+row587 : fault_from 0 (start (record { words = []; faults = 0 } ∷ [])) (front0 ++ Heard 1 text50 ∷ Noted (Taken 1 0 Fetch) ∷ Dialled 2 (codes "h") 80 ∷ wait true [] [] ∷ Reached 2 ∷ wait true [] (2 ∷ []) ∷ CanWrite 2 ∷ Asked 2 text52 ∷ wait true (2 ∷ []) [] ∷ CanRead 2 ∷ Got 2 text49 ∷ Noted (Taken 1 0 (Part 3000000 3000004)) ∷ wait true (2 ∷ []) [] ∷ CanRead 2 ∷ Got 2 text53 ∷ wait true (2 ∷ []) [] ∷ []) ≡ None
+unfolding judging
+row587 = refl
+
+row594 : fault_from 0 (start (record { words = []; faults = 0 } ∷ [])) (front0 ++ Heard 1 text50 ∷ Noted (Taken 1 0 Fetch) ∷ Dialled 2 (codes "h") 80 ∷ wait true [] [] ∷ Reached 2 ∷ wait true [] (2 ∷ []) ∷ CanWrite 2 ∷ Asked 2 text52 ∷ wait true (2 ∷ []) [] ∷ CanRead 2 ∷ Got 2 text49 ∷ Noted (Taken 1 0 (Part 3000000 3000004)) ∷ Dialled 3 (codes "h") 80 ∷ []) ≡ Some (record { at = 22; rule = NotToBeDialled })
+unfolding judging
+row594 = refl
+
+row621 : fault_from 0 (start (record { words = []; faults = 0 } ∷ [])) (front0 ++ Heard 1 text47 ∷ Noted (Taken 1 0 Fetch) ∷ Dialled 2 (codes "h") 80 ∷ wait true [] [] ∷ Reached 2 ∷ wait true [] (2 ∷ []) ∷ CanWrite 2 ∷ Asked 2 text48 ∷ wait true (2 ∷ []) [] ∷ CanRead 2 ∷ Got 2 text49 ∷ Noted (Taken 1 0 (Part 0 4000000)) ∷ wait true (2 ∷ []) (1 ∷ []) ∷ Opened 3 ∷ wait true (2 ∷ 3 ∷ []) (1 ∷ []) ∷ CanRead 3 ∷ Heard 3 text50 ∷ Noted (Taken 3 0 (Part 3000000 3000004)) ∷ Dialled 4 (codes "h") 80 ∷ wait true (2 ∷ []) (1 ∷ []) ∷ Reached 4 ∷ wait true (2 ∷ []) (1 ∷ 4 ∷ []) ∷ CanWrite 4 ∷ Asked 4 text54 ∷ wait true (2 ∷ 4 ∷ []) (1 ∷ []) ∷ CanRead 4 ∷ Got 4 text49 ∷ wait true (2 ∷ 4 ∷ []) (1 ∷ []) ∷ []) ≡ None
+unfolding judging
+row621 = refl
+
+row625 : fault_from 0 (start (record { words = []; faults = 0 } ∷ [])) (front0 ++ Heard 1 text47 ∷ Noted (Taken 1 0 Fetch) ∷ Dialled 2 (codes "h") 80 ∷ wait true [] [] ∷ Reached 2 ∷ wait true [] (2 ∷ []) ∷ CanWrite 2 ∷ Asked 2 text48 ∷ wait true (2 ∷ []) [] ∷ CanRead 2 ∷ Got 2 text49 ∷ Noted (Taken 1 0 (Part 0 4000000)) ∷ wait true (2 ∷ []) (1 ∷ []) ∷ Opened 3 ∷ wait true (2 ∷ 3 ∷ []) (1 ∷ []) ∷ CanRead 3 ∷ Heard 3 text50 ∷ Noted (Taken 3 0 (Part 3000000 3000004)) ∷ Dialled 4 (codes "h") 80 ∷ wait true (2 ∷ []) (1 ∷ []) ∷ Reached 4 ∷ wait true (2 ∷ []) (1 ∷ 4 ∷ []) ∷ CanWrite 4 ∷ Asked 4 text54 ∷ wait true (2 ∷ 4 ∷ []) (1 ∷ []) ∷ CanRead 4 ∷ Got 4 text49 ∷ Dialled 5 (codes "h") 80 ∷ []) ≡ Some (record { at = 37; rule = NotToBeDialled })
+unfolding judging
+row625 = refl
+
+row630 : fault_from 0 (start (record { words = []; faults = 0 } ∷ [])) (front0 ++ Heard 1 text47 ∷ Noted (Taken 1 0 Fetch) ∷ Dialled 2 (codes "h") 80 ∷ wait true [] [] ∷ Reached 2 ∷ wait true [] (2 ∷ []) ∷ CanWrite 2 ∷ Asked 2 text48 ∷ wait true (2 ∷ []) [] ∷ CanRead 2 ∷ Got 2 text49 ∷ Noted (Taken 1 0 (Part 0 4000000)) ∷ wait true (2 ∷ []) (1 ∷ []) ∷ Opened 3 ∷ wait true (2 ∷ 3 ∷ []) (1 ∷ []) ∷ CanRead 3 ∷ Heard 3 text50 ∷ Noted (Taken 3 0 (Part 3000000 3000004)) ∷ Dialled 4 (codes "h") 80 ∷ wait true (2 ∷ []) (1 ∷ []) ∷ Reached 4 ∷ wait true (2 ∷ []) (1 ∷ 4 ∷ []) ∷ CanWrite 4 ∷ Asked 4 text54 ∷ wait true (2 ∷ 4 ∷ []) (1 ∷ []) ∷ CanRead 4 ∷ Got 4 text55 ∷ Noted (Taken 3 0 (Part 3000000 3000004)) ∷ Dialled 5 (codes "h") 80 ∷ wait true (2 ∷ 4 ∷ []) (1 ∷ []) ∷ []) ≡ None
+unfolding judging
+row630 = refl
+
+row635 : fault_from 0 (start (record { words = []; faults = 0 } ∷ [])) (front0 ++ Heard 1 text47 ∷ Noted (Taken 1 0 Fetch) ∷ Dialled 2 (codes "h") 80 ∷ wait true [] [] ∷ Reached 2 ∷ wait true [] (2 ∷ []) ∷ CanWrite 2 ∷ Asked 2 text48 ∷ wait true (2 ∷ []) [] ∷ CanRead 2 ∷ Got 2 text49 ∷ Noted (Taken 1 0 (Part 0 4000000)) ∷ wait true (2 ∷ []) (1 ∷ []) ∷ Opened 3 ∷ wait true (2 ∷ 3 ∷ []) (1 ∷ []) ∷ CanRead 3 ∷ Heard 3 text50 ∷ Noted (Taken 3 0 (Part 3000000 3000004)) ∷ Dialled 4 (codes "h") 80 ∷ wait true (2 ∷ []) (1 ∷ []) ∷ Reached 4 ∷ wait true (2 ∷ []) (1 ∷ 4 ∷ []) ∷ CanWrite 4 ∷ Asked 4 text54 ∷ wait true (2 ∷ 4 ∷ []) (1 ∷ []) ∷ CanRead 4 ∷ Got 4 text55 ∷ Noted (Taken 3 0 (Part 3000000 3000004)) ∷ wait true (2 ∷ 4 ∷ []) (1 ∷ []) ∷ []) ≡ Some (record { at = 38; rule = StepUnfinished })
+unfolding judging
+row635 = refl
