@@ -519,7 +519,7 @@ opened_by : (s : State) (n : ℕ) (room : Bool) → (elim room as (λ c. Bool) [
 opened_by s n true is = absurd (cc is)
 opened_by s n false is = below s.top n (first_holds (is_new_number s n) (accepts s) (second_holds (is_awaiting s) (may_open s n) is))
 
-opened_above : (s : State) (n : ℕ) → IsPermitted s (Opened n) → s.top < n
+pub opened_above : (s : State) (n : ℕ) → IsPermitted s (Opened n) → s.top < n
 unfolding is_permitted permits
 opened_above s n is = opened_by s n s.has_made_room is
 
