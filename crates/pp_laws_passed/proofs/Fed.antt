@@ -6,7 +6,7 @@ use Rattle.pp_law.specs.Stages.{is_headed, is_passing, passed_of}
 use Rattle.pp_law.specs.State.{State, Answer, Client, Stage, Undecided, Waiting, Passing, Answering, Conn, Exchange, Passed}
 use Rattle.pp_laws.specs.Numbers.{AreRising}
 use Rattle.pp_laws.specs.Runs.{IsIn}
-use Rattle.pp_laws.proofs.Lists.{Changed, From, changed_at, in_change, in_filter, in_map, in_push, other, rise_change, rise_filter, rise_map, rise_push, same}
+use Rattle.pp_laws.proofs.Lists.{Changed, From, in_change, in_filter, in_map, in_push, other, rise_change, rise_filter, rise_map, rise_push, same}
 use Rattle.pp_laws.proofs.Sound.{client_number, exchange_number, first_of, source_in}
 use Rattle.pp_laws_passed.specs.Passed.{is_in_passed}
 use Rattle.pp_laws_passed.proofs.Same.{PartsOf, Same, facts_of as parts_of}

@@ -64,7 +64,7 @@ each_exchange-fed f each (n ∷ ns) s h = each_exchange-fed f each ns _ (each_so
 
 -- ---- attempts
 
-without_row-by : (c : Client) (begun : Bool) → SameClient (elim begun as (λ x. Client) [ true ↦ c | false ↦ record c { course = Trying 0; has_given_up = true } ]) c
+pub without_row-by : (c : Client) (begun : Bool) → SameClient (elim begun as (λ x. Client) [ true ↦ c | false ↦ record c { course = Trying 0; has_given_up = true } ]) c
 without_row-by c true = client_same c
 without_row-by c false = parts_same _ c refl refl refl
 

@@ -1,5 +1,5 @@
 -- Each permitted happening keeps it, and so does a lawful log.
-use Rattle.std.proofs.Common.{◌≡◌, ◌⊎◌, refl, ℕ, ◌+◌, ◌-◌, ◌<◌, Bool, true, false, not, ◌==◌, ◌&&◌, List, [], ◌∷◌, ◌++◌, map, filter, length, Option, Some, None, option_and_then, inl, inr, sym, subst, ap, ◌∙◌, lt_of_le_of_lt}
+use Rattle.std.proofs.Common.{◌≡◌, ◌⊎◌, refl, ℕ, ◌-◌, ◌<◌, Bool, true, false, not, ◌&&◌, List, [], ◌∷◌, ◌++◌, map, filter, length, Option, Some, None, option_and_then, inl, inr, sym, subst, ap, ◌∙◌, lt_of_le_of_lt}
 use Rattle.pp_conf.specs.Conf.{Settings}
 use Rattle.pp_conf.specs.Words.{reading_of}
 use Rattle.pp_peers.specs.declared.placing.Placed.TheVariants.{On, Dial, CloseThenDial, Wait}
@@ -15,17 +15,15 @@ use Rattle.pp_world.specs.declared.op.DiskOp.{DiskOp}
 use Rattle.pp_law.specs.After.{new_client, new_conn, event, opened, owing, reached, paid, said, gone, take_decision, evicted, waits_for_row, refused_row, leave_memory, forgotten_by, noted, begun_op, ended_op, unread, shut, dialled, refused_dial, undialled, out, dropped, changed, after}
 use Rattle.pp_law.specs.Asking.{asking, is_writing, hear, ask_body, ask_next, ask, hang_up, asked_text, asked_body}
 use Rattle.pp_law.specs.Closing.{close_client}
-use Rattle.pp_law.specs.Connections.{client, conn, exchange, is_client, is_conn, is_exchange, is_for, is_outstanding, may_ask_again, on_client, on_client_of, on_exchange, place_for, place_each, placing, put_on, if_unplaced, Placement, Pause, AllPlaced, WaitsDial, WaitsDrop}
-use Rattle.pp_law.specs.Deciding.{decided}
+use Rattle.pp_law.specs.Connections.{client, conn, exchange, is_client, is_conn, is_exchange, is_for, is_outstanding, may_ask_again, place_for, place_each, placing, put_on, if_unplaced, Placement, Pause, AllPlaced, WaitsDial, WaitsDrop}
 use Rattle.pp_law.specs.Hearing.{heard_by}
 use Rattle.pp_law.specs.Lawful.{LawfulFrom}
 use Rattle.pp_law.specs.Leaving.{Leaving, ForAnother, ForMemory, BeforeDecision, leaving_as}
 use Rattle.pp_law.specs.Lists.{Bytes, is_this}
 use Rattle.pp_law.specs.Opening.{woken, begun as opening_begun, with_settings, settings_in, are_texts, names_file, is_opening}
 use Rattle.pp_law.specs.Permits.{IsPermitted, permits_taken}
-use Rattle.pp_law.specs.Phases.{due_victim, come_to, come_to_decide, deciding, ending, in_phase}
-use Rattle.pp_law.specs.Replies.{said_by, use_said, end_replies, regained}
-use Rattle.pp_law.specs.Responses.{ended}
+use Rattle.pp_law.specs.Phases.{due_victim, come_to_decide, deciding, ending, in_phase}
+use Rattle.pp_law.specs.Replies.{said_by, regained}
 use Rattle.pp_law.specs.Stages.{is_begun, is_headed, is_passing, passed_of}
 use Rattle.pp_law.specs.State.{State, Term, RowRefused, Client, Stage, Undecided, Waiting, Passing, Answering, Conn, Exchange, Instance, Passed, IsRooted, IsListed, IsListening, IsWoken, Handling, Evicting, Keeping, Deciding, Following, Connecting, DecidingAgain, Owed, ReadOf, WriteTo, start}
 use Rattle.pp_law.specs.Table.{forget}
@@ -35,7 +33,7 @@ use Rattle.pp_laws.proofs.Happenings.{after-sound}
 use Rattle.pp_laws.proofs.Laws.{start-sound}
 use Rattle.pp_laws.proofs.Lists.{in_filter, in_find, in_push, one_of, rise_filter, rise_push}
 use Rattle.pp_laws.proofs.Sound.{Since, Sound, facts_of as sound_facts, client_number, conn_number, first_of, source_in}
-use Rattle.pp_laws.proofs.Tests.{first_holds, same_number}
+use Rattle.pp_laws.proofs.Tests.{same_number}
 use Rattle.pp_laws_replies.proofs.StoryHappenings.{opened_above}
 use Rattle.pp_laws_replies.proofs.Usable.{TakenFor, due_off, permitted_taken, taken_for}
 use Rattle.pp_laws_passed.specs.Passed.{is_in_passed, IsFedBy, PassedIsOneResponse}

@@ -1,5 +1,5 @@
 -- Heads and bodies of responses: a response that is passed is told to the request of its exchange alone, and with its head.
-use Rattle.std.proofs.Common.{◌≡◌, ◌⊎◌, refl, ℕ, zero, suc, ◌+◌, ◌<◌, Bool, true, false, not, ◌==◌, ◌&&◌, ◌||◌, List, [], ◌∷◌, ◌++◌, map, filter, drop, length, Option, Some, None, Result, Ok, Err, inl, inr, sym, subst, ap, ◌∙◌}
+use Rattle.std.proofs.Common.{◌≡◌, refl, ℕ, zero, suc, ◌+◌, ◌<◌, Bool, true, false, not, ◌==◌, ◌&&◌, ◌||◌, List, [], ◌∷◌, ◌++◌, map, filter, drop, length, Option, Some, None, inl, sym, subst, ap, ◌∙◌}
 use Rattle.std.specs.List.{list_any}
 use Rattle.pp_framing.specs.Body.{Outcome, Done, Going, Bad}
 use Rattle.pp_framing.specs.Framing.{rule_of}
@@ -10,29 +10,29 @@ use Rattle.pp_head.specs.Response.{Response, response_at}
 use Rattle.pp_objects.specs.Kept.{kept_of}
 use Rattle.pp_pass.specs.Pipe.{Pipe, finished}
 use Rattle.pp_pipe.specs.Front.{is_interim}
-use Rattle.pp_target.specs.Key.{Key, text_of}
+use Rattle.pp_target.specs.Key.{text_of}
 use Rattle.pp_text.specs.Bytes.{is_empty}
 use Rattle.pp_valid.specs.declared.version.Version.{Version}
-use Rattle.pp_law.specs.Connections.{conn, exchange, is_client, is_conn, is_exchange, is_for, front_of_line, on_conn, on_exchange, on_client_of, without_ask, without_row, is_unfilled, give_up_row, charge, lose_attempt, lost_one, attempts_of, end_exchange, close_conn}
+use Rattle.pp_law.specs.Connections.{conn, exchange, is_conn, is_exchange, is_for, front_of_line, on_conn, on_exchange, on_client_of, without_ask, without_row, without_shared_row, is_unfilled, give_up_row, charge, lose_attempt, lost_one, attempts_of, end_exchange, close_conn}
 use Rattle.pp_law.specs.Closing.{left_alone}
 use Rattle.pp_law.specs.Lists.{Bytes, change, is_some_with, is_this}
-use Rattle.pp_law.specs.OwnHeads.{key_of, is_asked_by, tell, use_body, span_to_come, drop_answer, useless, times_for, settle_on, refresh, may_refresh, settle_known, known_version, settle, may_join, names_version, nothing_to_come, settle_unchanged, unchanged, is_of_another, forbids_sharing, not_modified, clears_row, cleared_by, is_private_part, is_widened, relayed, relay_head, other_head, other_part, own_head, is_bound, lacks_next, count_elsewhere, part_head, filling_head, version_in, is_wrong_head, note_sent, join, join_bound, moved_on}
+use Rattle.pp_law.specs.OwnHeads.{key_of, is_asked_by, tell, use_body, drop_answer, useless, times_for, settle_on, may_refresh, settle_known, known_version, settle, may_join, names_version, settle_unchanged, unchanged, is_of_another, forbids_sharing, not_shared, not_modified, clears_row, is_private_part, is_widened, relayed, relay_head, other_head, other_part, own_head, is_bound, lacks_next, count_elsewhere, part_head, filling_head, version_in, is_wrong_head, join, join_bound, moved_on}
 use Rattle.pp_law.specs.Passing.{pour, passed_by}
 use Rattle.pp_law.specs.Responses.{skipping, skip_body, rested, close_this, may_go_on, finish, bad_response, bad_head, by_aim, asks_head, answer_with, answered_by, end_if_empty, begin_answer, answer_for, head_came, Piece, is_early, with_unread, head_piece, deliver, payload_of, body_piece_of, body_piece, next_piece, got, is_whole_at_end, finish_first, ended}
-use Rattle.pp_law.specs.Stages.{is_begun, is_headed, is_passing, is_pending, on_passed, passed_of, bound_in, bound_of, reply_of}
+use Rattle.pp_law.specs.Stages.{is_begun, is_headed, is_passing, is_pending, on_passed, passed_of, bound_in, bound_of}
 use Rattle.pp_law.specs.State.{State, Aim, Through, Own, Filling, Answer, Body, Pending, Joining, Relaying, Dropping, Brought, Awaited, Useless, Joins, Passes, TooWide, Client, Stage, Undecided, Waiting, Passing, Answering, Reply, Conn, Exchange, Passed, Bound}
-use Rattle.pp_law.specs.Table.{row, instance, clear, swept}
-use Rattle.pp_law.specs.ThroughHeads.{invalidated, disproved, through_head}
+use Rattle.pp_law.specs.Table.{row, clear, swept}
+use Rattle.pp_law.specs.ThroughHeads.{through_head}
 use Rattle.pp_laws.specs.Numbers.{AreRising}
 use Rattle.pp_laws.specs.Runs.{IsIn}
 use Rattle.pp_laws.proofs.Lists.{Changed, From, in_change, in_filter, in_find, in_map, one_of, other, rise_change, same}
 use Rattle.pp_laws.proofs.Pieces.{front_by, next_piece-sound}
 use Rattle.pp_laws.proofs.Sound.{Since, Sound, facts_of as sound_facts, client_number, conn_number, exchange_number, first_of, source_in}
-use Rattle.pp_laws.proofs.Tests.{first_holds, number_same, same_number, second_holds}
+use Rattle.pp_laws.proofs.Tests.{first_holds, number_same, same_number}
 use Rattle.pp_laws_passed.specs.Passed.{is_in_passed}
-use Rattle.pp_laws_passed.proofs.Cases.{by_outcome, by_result, each_of, each_so, when, when_so}
-use Rattle.pp_laws_passed.proofs.Fed.{Fed, Feeds, FactsOf, FromConn, SameClient, SameExchange, SameHead, client_same, clients_changed, conns_changed, conns_from, exchange_same, exchanges_changed, exchanges_filtered, facts_of, fed, is_in_other, itself_conn, parts_same, still}
-use Rattle.pp_laws_passed.proofs.FedAsks.{clear-fed, close_conn-fed, end_exchange-fed, fail-fed, lose_attempt-fed, on_client_of-fed, on_conn-fed, on_exchange-fed, on_passed-fed}
+use Rattle.pp_laws_passed.proofs.Cases.{by_outcome, by_result, each_of, each_so, when}
+use Rattle.pp_laws_passed.proofs.Fed.{Fed, Feeds, FactsOf, FromConn, SameClient, SameExchange, SameHead, clients_changed, conns_from, exchange_same, exchanges_changed, facts_of, fed, is_in_other, itself_conn, parts_same, still}
+use Rattle.pp_laws_passed.proofs.FedAsks.{close_conn-fed, end_exchange-fed, fail-fed, lose_attempt-fed, on_client_of-fed, on_conn-fed, on_passed-fed, without_row-by}
 use Rattle.pp_laws_passed.proofs.Same.{PartsOf, Same, facts_of as parts_of, itself}
 use Rattle.pp_laws_passed.proofs.SameHeads.{cleared_by-same, disproved-same, invalidated-same, join-same, note_sent-same, refresh-same}
 use Rattle.pp_laws_passed.proofs.SameRows.{clear-same, make_row-same}
@@ -255,11 +255,28 @@ unchanged-over e a head s p h =
     let r = refresh-same e head s (itself s) in
     over_when (is_some_with (names_version e) (known_version s (key_of e)) && may_refresh e head s) (settle_unchanged-over e a _ (along r p) (over_same r h)) (useless-over e a s p h)
 
+without_shared_row_same : (most : ℕ) (c : Client) → SameClient (without_shared_row most c) c
+without_shared_row_same most c = by (c.has_given_up && not (is_begun c))
+  where
+    by : (again : Bool) → SameClient (elim again as (λ x. Client) [ true ↦ record c { course = lost_one most c.course } | false ↦ without_row c ]) c
+    by true = parts_same _ c refl refl refl
+    by false = without_row-by c (is_begun c || c.has_given_up)
+
+on_client_of-over : {ks : List Conn} (e : Exchange) (f : Client → Client) (s : State) → ((c : Client) → SameClient (f c) c) → Over ks s → Over ks (on_client_of e f s)
+unfolding on_client_of
+on_client_of-over e f s kept (over h conns) = over (on_client_of-fed e f s kept h) conns
+
+not_shared-over : {ks : List Conn} (e : Exchange) (a : Answer) (s : State) → Coming e a s → Over ks s → Over ks (not_shared e s)
+unfolding not_shared
+not_shared-over e a s p h =
+    let r = clear-same (key_of e) s (itself s) in
+    on_client_of-over e (without_shared_row (attempts_of e)) _ (without_shared_row_same (attempts_of e)) (drop_answer-over e a _ (along r p) (over_same r h))
+
 not_modified-over : {ks : List Conn} (e : Exchange) (a : Answer) (head : Response) (s : State) → Coming e a s → Over ks s → Over ks (not_modified e head s)
 unfolding not_modified
 not_modified-over e a head s p h =
     let r = clear-same (key_of e) s (itself s) in
-    over_when (forbids_sharing head) (drop_answer-over e a _ (along r p) (over_same r h)) (over_when (is_of_another head s (key_of e)) (useless-over e a _ (along r p) (over_same r h)) (unchanged-over e a head s p h))
+    over_when (forbids_sharing head) (not_shared-over e a s p h) (over_when (is_of_another head s (key_of e)) (useless-over e a _ (along r p) (over_same r h)) (unchanged-over e a head s p h))
 
 relayed_some : (t : Bool) → is_pending (elim t as (λ c. Body) [ true ↦ Relaying | false ↦ Dropping ]) ≡ false
 relayed_some true = refl
@@ -282,8 +299,7 @@ other_part-over : {ks : List Conn} (e : Exchange) (head : Response) (rule : Body
 unfolding other_part
 other_part-over e head rule s p h =
     let r = cleared_by-same head e s (itself s) in
-    let w = clear-same (key_of e) s (itself s) in
-    over_when (is_private_part head) (drop_answer-over e (answer_with e head rule) _ (along w p) (over_same w h)) (over_when (clears_row head) (relay_head-over e head rule _ (along r p) (over_same r h)) (useless-over e (answer_with e head rule) s p h))
+    over_when (is_private_part head) (not_shared-over e (answer_with e head rule) s p h) (over_when (clears_row head) (relay_head-over e head rule _ (along r p) (over_same r h)) (useless-over e (answer_with e head rule) s p h))
 
 own_head-over : {ks : List Conn} (e : Exchange) (head : Response) (rule : BodyRule) (s : State) → Coming e (answer_with e head rule) s → Over ks s → Over ks (own_head e head rule s)
 unfolding own_head

@@ -1,5 +1,5 @@
 -- What is decided, said, begun and ended keeps it.
-use Rattle.std.proofs.Common.{◌≡◌, ◌⊎◌, refl, ℕ, zero, suc, ◌+◌, ◌-◌, ◌<◌, ◌/◌, nat_lt, Bool, true, false, not, ◌==◌, ◌&&◌, ◌||◌, List, [], ◌∷◌, ◌++◌, map, find, drop, length, Option, Some, None, Result, Ok, Err, inl, inr, sym, subst, ap, ◌∙◌}
+use Rattle.std.proofs.Common.{◌≡◌, refl, ℕ, ◌+◌, ◌-◌, ◌<◌, Bool, true, false, not, ◌==◌, ◌&&◌, ◌||◌, List, [], ◌∷◌, ◌++◌, map, drop, length, Option, Some, None, Result, Ok, Err, inl, inr, sym, subst, ap, ◌∙◌}
 use Rattle.std.specs.List.{list_any}
 use Rattle.pp_ask.specs.declared.kind.AskKind.{AskKind}
 use Rattle.pp_head.specs.Request.{Request}
@@ -10,25 +10,25 @@ use Rattle.pp_target.specs.declared.target.TargetFault.{TargetFault}
 use Rattle.pp_text.specs.Bytes.{is_empty}
 use Rattle.pp_world.specs.declared.note.Decision.{Decision}
 use Rattle.pp_world.specs.declared.note.Decision.TheVariants.{Refuse, Hit, Part, Head, NotModified, Unsatisfiable, Relay, Validate, Fetch, Pass}
-use Rattle.pp_law.specs.Closing.{is_of, forsake, leave, left_alone, close_client}
-use Rattle.pp_law.specs.Connections.{client, is_client, is_for, each_client, on_client}
-use Rattle.pp_law.specs.Deciding.{refused_with, refuse, new_exchange, stage_for, asking_with, ask_for, ask_as, ask_origin, reply_by, answering_with, follow_with, follow_row, follow, relay, serves, decided_by, decided, enter_row}
+use Rattle.pp_law.specs.Closing.{is_of, forsake, leave, left_alone}
+use Rattle.pp_law.specs.Connections.{is_client, is_for, on_client}
+use Rattle.pp_law.specs.Deciding.{refused_with, refuse, new_exchange, stage_for, asking_with, ask_for, ask_as, ask_origin, reply_by, answering_with, follow_with, follow_row, follow, relay, decided_by, decided, enter_row}
 use Rattle.pp_law.specs.Decisions.{kind_of}
-use Rattle.pp_law.specs.Hearing.{fronted, with_front, heard_by, what_counts}
+use Rattle.pp_law.specs.Hearing.{fronted, heard_by, what_counts}
 use Rattle.pp_law.specs.Lists.{Bytes, change, is_some_with, is_this}
 use Rattle.pp_law.specs.Replies.{passed_reply, begun_passed, may_begin, begun_reply, begun_instance, begun_decided, begun_by, begun_at_end, begins, is_outrun, begin_replies, said_by, said_of, said_of_body, is_said, next_request, end_reply, end_said, close_finished, end_replies}
 use Rattle.pp_law.specs.Requests.{Front, Parsed, NoHeadYet, NoHead as NoFront, IsRequest, keeps_open, key_in}
 use Rattle.pp_law.specs.Stages.{is_begun, is_headed, is_passing, on_passed, passed_of, reply_of}
 use Rattle.pp_law.specs.State.{State, Client, Stage, Undecided, Waiting, Passing, Answering, Reply, Conn, Exchange, Instance, Passed}
-use Rattle.pp_law.specs.Table.{row, row_for, source_of, swept}
+use Rattle.pp_law.specs.Table.{row, row_for, source_of}
 use Rattle.pp_laws.specs.Runs.{IsIn}
-use Rattle.pp_laws.proofs.Callers.{begun_at_end-same, heard_by-same, next_request-same, said_by-same}
-use Rattle.pp_laws.proofs.Lists.{Changed, From, in_change, in_find, in_map, one_of, other, rise_change, rise_map, same}
+use Rattle.pp_laws.proofs.Callers.{begun_at_end-same, next_request-same}
+use Rattle.pp_laws.proofs.Lists.{Changed, From, in_change, in_map, other, rise_change, rise_map, same}
 use Rattle.pp_laws.proofs.Sound.{client_number, exchange_number, source_in}
-use Rattle.pp_laws.proofs.Tests.{first_holds, number_same, same_number, second_holds}
+use Rattle.pp_laws.proofs.Tests.{first_holds, number_same, same_number}
 use Rattle.pp_laws_passed.specs.Passed.{is_in_passed}
-use Rattle.pp_laws_passed.proofs.Cases.{each_of, when, when_so}
-use Rattle.pp_laws_passed.proofs.Fed.{Fed, Feeds, FactsOf, SameClient, SameHead, client_same, clients_changed, clients_changed_in, exchanges_changed, facts_of, fed, is_in_other, none_passed, parts_same, still}
+use Rattle.pp_laws_passed.proofs.Cases.{each_of, when}
+use Rattle.pp_laws_passed.proofs.Fed.{Fed, Feeds, FactsOf, SameClient, SameHead, client_same, clients_changed_in, facts_of, fed, is_in_other, none_passed, parts_same}
 use Rattle.pp_laws_passed.proofs.FedAsks.{begin_exchange-fed, close_client-fed, each_client-fed, forsake-fed, leave-fed, on_client-fed, on_passed-fed, swept-fed}
 use Rattle.pp_laws_passed.proofs.FedTurns.{close_finished-fed, enter_row-fed, enter_row-same}
 use Rattle.pp_laws_passed.proofs.Same.{facts_of as parts_of, itself}

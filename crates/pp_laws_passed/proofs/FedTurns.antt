@@ -1,5 +1,5 @@
 -- The phases of a turn, its clock and its end keep it.
-use Rattle.std.proofs.Common.{◌≡◌, refl, Option, Some, None, sym, ap, ℕ, zero, suc, ◌+◌, ◌/◌, max, nat_lt, Bool, true, false, not, ◌&&◌, List, [], ◌∷◌, map}
+use Rattle.std.proofs.Common.{◌≡◌, refl, Some, None, sym, ap, ℕ, zero, suc, ◌+◌, ◌/◌, max, nat_lt, Bool, true, false, not, ◌&&◌, List, [], ◌∷◌, map}
 use Rattle.pp_world.specs.declared.event.Wants.{Wants}
 use Rattle.pp_law.specs.Chunks.{chunk_len}
 use Rattle.pp_law.specs.Connections.{front_of_line}

@@ -1,5 +1,5 @@
 -- What a head tells of rows, and the bytes that join them, leave clients, exchanges and connections as they are.
-use Rattle.std.proofs.Common.{refl, ℕ, Bool, true, false, ◌&&◌, List, [], ◌∷◌, Option, Some, None}
+use Rattle.std.proofs.Common.{ℕ, true, ◌&&◌, List, [], ◌∷◌}
 use Rattle.pp_fresh.specs.declared.aging.Times.{Times}
 use Rattle.pp_head.specs.Response.{Response}
 use Rattle.pp_target.specs.Key.{Key, text_of}

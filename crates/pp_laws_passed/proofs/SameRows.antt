@@ -1,5 +1,5 @@
 -- What is done to rows and chunks, to the store and in the opening leaves clients, exchanges and connections as they are.
-use Rattle.std.proofs.Common.{refl, ℕ, nat_lt, Bool, true, false, not, List, find, Option, Some, None}
+use Rattle.std.proofs.Common.{ℕ, nat_lt, Bool, true, false, List, find, Option, Some, None}
 use Rattle.pp_conf.specs.Conf.{Settings}
 use Rattle.pp_conf.specs.Words.{reading_of}
 use Rattle.pp_fresh.specs.declared.aging.Times.{Times}
@@ -12,7 +12,7 @@ use Rattle.pp_law.specs.Opening.{settings_in, with_settings, is_opening, stuck, 
 use Rattle.pp_law.specs.Repairs.{agenda_in_opening, begin_in_opening}
 use Rattle.pp_law.specs.State.{State, Agenda, Entry, Instance, Phase}
 use Rattle.pp_law.specs.Store.{remove_entry, note_gone, agenda_in_turn, begin_op, begin_in_turn, enter_next, close_name, is_of_draft, lose_draft, fail_op, end_op, lose_entry, note_kept, load_from, load}
-use Rattle.pp_law.specs.Table.{is_entry_of, is_instance, is_row_of, is_left_over, row, kept_row, rows, idle_row, on_instance, forget, swept, clear, mark_row, forget_row, with_room, add_row, make_row, enter}
+use Rattle.pp_law.specs.Table.{is_entry_of, row, kept_row, rows, idle_row, on_instance, forget, swept, clear, mark_row, forget_row, with_room, add_row, make_row, enter}
 use Rattle.pp_laws_passed.proofs.SameCases.{by_list, by_todo, each_of, when}
 use Rattle.pp_laws_passed.proofs.Same.{Same, alike, facts_of}
 

@@ -9,8 +9,7 @@ use Rattle.pp_world.specs.declared.note.Remark.TheVariants.{Taken}
 use Rattle.pp_law.proofs.OnLiterals.{pp_law_on_literals}
 use Rattle.pp_law.specs.Connections.{is_for}
 use Rattle.pp_law.specs.Lawful.{first_fault}
-use Rattle.pp_law.specs.Lists.{Bytes}
-use Rattle.pp_law.specs.Stages.{is_headed, is_pending, passed_of}
+use Rattle.pp_law.specs.Stages.{is_pending, passed_of}
 use Rattle.pp_law.specs.State.{State, Term, Pending, Answer, Client, Conn, Exchange, Passed}
 use Rattle.pp_laws.specs.Runs.{IsIn, state_after}
 use Rattle.pp_laws_passed.specs.Passed.{is_in_passed, IsFedBy, IsOneResponse}
