@@ -265,11 +265,21 @@ forsaken e d n s asks i = by (in_change (λ x. is_some_with (λ m. is_of m x) e.
         let both : false ≡ true = sym isnt ∙ hit in cc both
     by (other x j hit eq) is = let both : None ≡ Some n = sym (ap (λ (y : Exchange). y.asker) eq) ∙ is in cc both
 
+left_next : (test : Exchange → Bool) (s : State) → (leave test s).next_exchange ≡ s.next_exchange
+unfolding leave forsake
+left_next test s = refl
+
+left_clients : (test : Exchange → Bool) (s : State) → (leave test s).clients ≡ s.clients
+unfolding leave forsake
+left_clients test s = refl
+
 -- one of which nothing came, of a request that is in no passed reply
 pub begin_exchange-fed : (e : Exchange) (s : State) → e.number ≡ s.next_exchange → is_headed e ≡ false → ((c : Client) → IsIn c s.clients → is_for e c ≡ true → is_in_passed c.stage ≡ false) → Fed s → Fed (begin_exchange e s)
-unfolding begin_exchange add_exchange forsake
+unfolding begin_exchange add_exchange leave
 begin_exchange-fed e s number unheaded waits h =
-    fed (exchange_added (forsake (λ x. is_some_with (λ n. is_of n x) e.asker) s) e number unheaded (λ d n i asks. forsaken e d n s asks i) waits (facts_of (forsake-fed (λ x. is_some_with (λ n. is_of n x) e.asker) s h)))
+    let test : Exchange → Bool = λ x. is_some_with (λ n. is_of n x) e.asker in
+    fed (exchange_added (leave test s) e (number ∙ sym (left_next test s)) unheaded (λ d n i asks. forsaken e d n s asks (in_filter (λ x. not (is_over x)) d (forsake test s).exchanges i).0)
+    (λ c i. waits c (subst (λ cs. IsIn c cs) (left_clients test s) i)) (facts_of (leave-fed test s h)))
 
 -- who follows an instance is in no passed reply
 follows_none : (s : State) (c : Client) (n : Next) → IsIn c s.clients → next_of s c ≡ Some n → Fed s → is_in_passed c.stage ≡ false

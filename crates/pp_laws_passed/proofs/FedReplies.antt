@@ -1,5 +1,5 @@
 -- What is decided, said, begun and ended keeps it.
-use Rattle.std.proofs.Common.{◌≡◌, refl, ℕ, ◌+◌, ◌-◌, ◌<◌, Bool, true, false, not, ◌==◌, ◌&&◌, ◌||◌, List, [], ◌∷◌, ◌++◌, map, drop, length, Option, Some, None, Result, Ok, Err, inl, inr, sym, subst, ap, ◌∙◌}
+use Rattle.std.proofs.Common.{◌≡◌, refl, ℕ, ◌+◌, ◌-◌, ◌<◌, nat_le, Bool, true, false, not, ◌==◌, ◌&&◌, ◌||◌, List, [], ◌∷◌, ◌++◌, map, drop, length, Option, Some, None, Result, Ok, Err, inl, inr, sym, subst, ap, ◌∙◌}
 use Rattle.std.specs.List.{list_any}
 use Rattle.pp_ask.specs.declared.kind.AskKind.{AskKind}
 use Rattle.pp_head.specs.Request.{Request}
@@ -55,26 +55,47 @@ goes_on c r q stage decision begun source = record {
     both : (f : Bool → Decision → Bool) → r.has_begun ≡ q.has_begun → r.decision ≡ q.decision → f r.has_begun r.decision ≡ f q.has_begun q.decision
     both f one two = ap (λ b. f b r.decision) one ∙ ap (λ d. f q.has_begun d) two
 
+-- one change behind another
+same_on : (e d c : Client) → SameClient e d → SameClient d c → SameClient e c
+same_on e d c one two = record {
+  number = one.number ∙ two.number;
+  passing = λ on. two.passing (one.passing on);
+  source = λ on id is. two.source (one.passing on) id (one.source on id is);
+  passed = λ p off is.
+      let f = one.passed p off is in
+      let g = two.passed f.0 f.1 f.2 in
+      (g.0, g.1, g.2, record { head = f.3.head ∙ g.3.head; rule = f.3.rule ∙ g.3.rule });
+}
+
 drained : (n : ℕ) (p : Passed) → SameHead (record p { pipe = without_first n p.pipe }) p
 drained n p = record { head = refl; rule = refl }
 
 pub said_same : (n : ℕ) (c : Client) → SameClient (said_by n c) c
 said_same n c = by_interim (is_empty c.interim_left)
   where
-    by_passing : (r : Reply) (t : Bool) → c.stage ≡ Answering r
-        → SameClient (elim t as (λ x. Client) [ true ↦ on_passed (λ p. record p { pipe = without_first n p.pipe }) c | false ↦ record c { stage = Answering (record r { at = r.at + n }) } ]) c
-    by_passing r true stage = on_passed-fed (λ p. record p { pipe = without_first n p.pipe }) c (drained n)
-    by_passing r false stage = goes_on c r (record r { at = r.at + n }) stage refl refl refl
+    by_passing : (m : ℕ) (r q : Reply) (t : Bool) → c.stage ≡ Answering r → q.decision ≡ r.decision → q.has_begun ≡ r.has_begun → q.source ≡ r.source
+        → SameClient (elim t as (λ x. Client) [
+          | true ↦ on_passed (λ p. record p { pipe = without_first m p.pipe }) (record c { stage = Answering q })
+          | false ↦ record c { stage = Answering (record q { at = q.at + m }) }
+        ]) c
+    by_passing m r q true stage decision begun source =
+        let d : Client = record c { stage = Answering q } in
+        same_on _ d c (on_passed-fed (λ p. record p { pipe = without_first m p.pipe }) d (drained m)) (goes_on c r q stage decision begun source)
+    by_passing m r q false stage decision begun source = goes_on c r (record q { at = q.at + m }) stage decision begun source
 
-    by_head : (r : Reply) (t : Bool) → c.stage ≡ Answering r → SameClient (elim t as (λ x. Client) [ false ↦ record c { stage = Answering (record r { head_left = drop n r.head_left }) } | true ↦ said_of_body n r c ]) c
-    by_head r false stage = goes_on c r (record r { head_left = drop n r.head_left }) stage refl refl refl
-    by_head r true stage = by_passing r (is_passing r.decision) stage
+    by_head : (r : Reply) (t : Bool) → c.stage ≡ Answering r
+        → SameClient (elim t as (λ x. Client) [
+          | true ↦ record c { stage = Answering (record r { head_left = drop n r.head_left }) }
+          | false ↦ said_of_body (n - length r.head_left) (record r { head_left = [] }) c
+        ]) c
+    by_head r true stage = goes_on c r (record r { head_left = drop n r.head_left }) stage refl refl refl
+    by_head r false stage = by_passing (n - length r.head_left) r (record r { head_left = [] }) (is_passing r.decision) stage refl refl refl
 
     by_stage : (stage : Stage) → c.stage ≡ stage → SameClient (elim (elim stage as (λ y. Option Reply) [ Undecided ↦ None | Waiting ↦ None | Passing ↦ None | Answering r ↦ Some r ]) as (λ x. Client) [ None ↦ c | Some r ↦ said_of n r c ]) c
     by_stage Undecided is = client_same c
     by_stage Waiting is = client_same c
     by_stage Passing is = client_same c
-    by_stage (Answering r) is = by_head r (is_empty r.head_left) is
+    by_stage (Answering r) is = by_head r (nat_le n (length r.head_left)) is
 
     by_interim : (t : Bool) → SameClient (elim t as (λ x. Client) [ false ↦ record c { interim_left = drop n c.interim_left } | true ↦ elim (reply_of c) as (λ y. Client) [ None ↦ c | Some r ↦ said_of n r c ] ]) c
     by_interim false = parts_same _ c refl refl refl

@@ -4,10 +4,10 @@ use Rattle.pp_world.specs.declared.event.Wants.{Wants}
 use Rattle.pp_law.specs.Chunks.{chunk_len}
 use Rattle.pp_law.specs.Connections.{front_of_line}
 use Rattle.pp_law.specs.Deciding.{is_for_memory, mark_row_of, enter_row}
-use Rattle.pp_law.specs.Offers.{has_to_say, is_at_body}
+use Rattle.pp_law.specs.Offers.{has_to_say}
 use Rattle.pp_law.specs.Opening.{is_at}
 use Rattle.pp_law.specs.Phases.{phases, in_phase, behind, next, is_done, come, come_to, decides, come_to_decide, deciding}
-use Rattle.pp_law.specs.Replies.{use_chunks, use_from, use_said, is_finished, close_finished, anew, regained_by, regained}
+use Rattle.pp_law.specs.Replies.{use_chunks, use_from, use_said, of_body, is_finished, close_finished, anew, regained_by, regained}
 use Rattle.pp_law.specs.Requests.{key_in}
 use Rattle.pp_law.specs.State.{State, Phase, Before, IsWoken, IsConfigured, IsRooted, IsListed, IsListening, IsStuck, Awaiting, Handling, Evicting, Keeping, Deciding, Following, Connecting, DecidingAgain, Client, Conn, Exchange, Body, Pending, Joining, Relaying, Dropping}
 use Rattle.pp_law.specs.Table.{Next, is_next_held, next_of, row}
@@ -150,7 +150,7 @@ use_from-fed n x s h = use_chunks-fed _ x.source.id (x.at / chunk_len) s h
 
 pub use_said-fed : (n : ℕ) (c : Client) (s : State) → Fed s → Fed (use_said n c s)
 unfolding use_said
-use_said-fed n c s h = when (is_at_body c && nat_lt 0 n) (each_of (next_of s c) h (λ x. use_from-fed n x s h)) h
+use_said-fed n c s h = when (nat_lt 0 (of_body n c)) (each_of (next_of s c) h (λ x. use_from-fed (of_body n c) x s h)) h
 
 pub close_finished-fed : (c : Client) (s : State) → Fed s → Fed (close_finished c s)
 unfolding close_finished
