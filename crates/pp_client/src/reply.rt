@@ -156,9 +156,9 @@ impl Reply {
         ensures within { length result.now ≤ left_next self.now }
         ensures all { result.now ≡ take OFFER_LEN (at_hand self.now (chunks_in pool.now.used)) }
     {
-        let left = self.interim.left();
-        if left > 0 {
-            return last_of_continue(left);
+        let before = self.interim.left();
+        if before > 0 {
+            return last_of_continue(before);
         }
         match self.stage {
             Stage::Due => &[],
