@@ -1,7 +1,7 @@
 // A client, and how far its current request is.
 ghost use Rattle.std.specs.Prelude.{◌≡◌, ◌≤◌};
 ghost use Rattle.pp_client.specs.Replies.{left_next};
-ghost use Rattle.pp_proxy.specs.Courses.{has_begun, without_row};
+ghost use Rattle.pp_proxy.specs.Courses.{has_begun, lost_one, without_row, without_shared_row};
 ghost use Rattle.pp_proxy.specs.Unseen.{answer_in, next_of};
 
 use crate::front::Front;
@@ -119,7 +119,7 @@ pub(crate) struct Seat {
     pub(crate) waits_on: Option<Shared>,
     pub(crate) brought: Brought,
     pub(crate) course: Course,
-    /// A row whose hole nobody filled was cleared for its request.
+    /// A row was cleared for its request: nobody filled its hole, or it may not be shared.
     pub(crate) has_given_up: bool,
     /// Bytes of the interim answer and of the head that are still to be said.
     pub(crate) before_body: usize,
@@ -272,13 +272,14 @@ impl Seat {
     }
 
     /// An attempt is lost, of so many.
-    pub(crate) fn lose_attempt(&mut self, most: u8) {
+    pub(crate) fn lose_attempt(&mut self, most: u8)
+        ensures { self.new ≡ record self.old { course = lost_one most self.old.course } }
+    {
         if let Course::Trying(n) = self.course {
-            let lost = n.saturating_add(1);
-            self.course = if most <= lost {
+            self.course = if u16::from(most) <= u16::from(n) + 1 {
                 Course::OutOfTries
             } else {
-                Course::Trying(lost)
+                Course::Trying(n + 1)
             };
         }
     }
@@ -291,6 +292,18 @@ impl Seat {
         if !self.has_begun() && !self.has_given_up {
             self.course = Course::Trying(0);
             self.has_given_up = true;
+        }
+    }
+
+    /// The row was cleared, since it may not be shared: the same. Where a row was cleared for the request before, an
+    /// attempt is lost: an origin that gives everybody a short part and the rest to one alone would be asked without end.
+    pub(crate) fn lose_shared_row(&mut self, most: u8)
+        ensures { self.new ≡ without_shared_row most self.old }
+    {
+        if self.has_given_up && !self.has_begun() {
+            self.lose_attempt(most);
+        } else {
+            self.lose_row();
         }
     }
 
