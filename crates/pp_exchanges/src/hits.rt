@@ -1,6 +1,6 @@
 // Replies from what is held.
 use pp_play::{
-    ASK, Act, Exchange, GET, Part, REPLY, RESPONSE, Step, T, Wanted, joined_acts, unlike,
+    ASK, Act, Exchange, GET, Part, REPLY, RESPONSE, Sizes, Step, T, Wanted, joined_acts, unlike,
     unlike_through_windows,
 };
 use pp_text::OutOfMemory;
@@ -203,12 +203,43 @@ fn counted(alloc: Global, count: u32) -> Result<Vec<u8>, OutOfMemory> {
     Ok(bytes)
 }
 
+/// Small ones, those about a chunk, about what one write says and about the whole body, and some of all between.
+const SIZES: [Sizes; 5] = [
+    Sizes {
+        first: 1,
+        apart: 1,
+        count: 64,
+    },
+    Sizes {
+        first: 65,
+        apart: 701,
+        count: 100,
+    },
+    Sizes {
+        first: 4_094,
+        apart: 1,
+        count: 5,
+    },
+    Sizes {
+        first: 65_370,
+        apart: 1,
+        count: 170,
+    },
+    Sizes {
+        first: 69_998,
+        apart: 1,
+        count: 3,
+    },
+];
+
 #[test]
-fn windows_of_every_size_let_in_the_same_bytes(rt: HostRuntime) -> Result<(), Fail> {
+fn windows_of_any_size_let_in_the_same_bytes(rt: HostRuntime) -> Result<(), Fail> {
     let body = counted(rt.alloc(), 70_000)?;
     let acts = joined_acts(rt.alloc(), &[LARGE, &[Act::Answer(2, body.as_slice())]])?;
     let reply = [Part::Text(LARGE_HEAD), Part::Text(body.as_slice())];
-    let unlike = unlike_through_windows(rt.alloc(), 70_000, acts.as_slice(), &reply)?;
-    assert_eq!(rt; unlike.as_str(), "");
+    for sizes in SIZES {
+        let unlike = unlike_through_windows(rt.alloc(), sizes, acts.as_slice(), &reply)?;
+        assert_eq!(rt; unlike.as_str(), "");
+    }
     Ok(())
 }

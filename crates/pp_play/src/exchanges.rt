@@ -90,15 +90,27 @@ fn unlike_by(
     Ok(String::new(alloc))
 }
 
-/// Through a window of which sizes client 1 is said anything but these parts: nothing is said where there is none. For each size
-/// up to the last these acts are played, then its connection takes so many bytes, then so many more, and then all.
+/// Sizes of a window, in bytes.
+#[derive(Clone, Copy)]
+pub struct Sizes {
+    pub first: u64,
+    pub apart: u64,
+    pub count: u64,
+}
+
+/// Through a window of which size client 1 is said anything but these parts: nothing is said where there is none. For each size,
+/// so many from the first on and so far apart, these acts are played, then its connection takes so many bytes, then so many
+/// more, and then all.
 pub fn unlike_through_windows(
     alloc: Global,
-    sizes: u64,
+    sizes: Sizes,
     acts: &[Act<'_>],
     parts: &[Part<'_>],
 ) -> Result<String, OutOfMemory> {
-    for size in 1..=sizes {
+    for number in 0..sizes.count {
+        let size = sizes
+            .first
+            .saturating_add(number.saturating_mul(sizes.apart));
         let windows = [
             Act::Window(1, size),
             Act::Window(1, size),
