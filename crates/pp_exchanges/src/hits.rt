@@ -208,27 +208,27 @@ const SIZES: [Sizes; 5] = [
     Sizes {
         first: 1,
         apart: 1,
-        count: 64,
+        count: 4,
     },
     Sizes {
         first: 65,
-        apart: 701,
-        count: 100,
+        apart: 9_973,
+        count: 7,
     },
     Sizes {
-        first: 4_094,
-        apart: 1,
-        count: 5,
-    },
-    Sizes {
-        first: 65_370,
-        apart: 1,
-        count: 170,
-    },
-    Sizes {
-        first: 69_998,
+        first: 4_095,
         apart: 1,
         count: 3,
+    },
+    Sizes {
+        first: 65_373,
+        apart: 81,
+        count: 4,
+    },
+    Sizes {
+        first: 69_999,
+        apart: 1,
+        count: 2,
     },
 ];
 
