@@ -58,7 +58,7 @@ impl State {
 
     /// Nothing that came is left to say to it.
     pub(crate) fn is_dry(&self, seat: &Seat) -> bool {
-        self.cache.offer(&seat.client).is_empty()
+        self.cache.offer(&seat.client).is_empty() && self.next_on_disk(seat).is_none()
     }
 
     fn is_idle(&self, seat: &Seat) -> bool {

@@ -1,10 +1,12 @@
 // The lives of a seed, run.
-use crate::caching::serve;
+ghost use Rattle.std.specs.Prelude.{◌≡◌, IfOk};
+
 use crate::dice::Dice;
 use crate::lives::{Life, Term};
 use crate::quoting::quoted;
 use crate::spelling::spelled;
 use pp_memworld::MemWorld;
+use pp_run::run;
 use pp_text::OutOfMemory;
 use pp_world::{Happening, Image};
 use std::alloc::{AllocError, Global};
@@ -38,6 +40,7 @@ pub fn simulate(alloc: Global, seed: u64) -> Result<Simulation, OutOfMemory> {
     Ok(Simulation { seed, terms, world })
 }
 
+#[tactic(auto, using(pp_shelf::proofs::OpeningLemmas::fresh_first))]
 fn first_life(
     alloc: Global,
     dice: &mut Dice,
@@ -54,11 +57,12 @@ fn first_life(
         alloc,
         MemWorld::new(alloc, script, Image::new(alloc), failing)?,
     )?;
-    serve(alloc, words.as_slice(), &mut *world);
+    let _ = run(alloc, words.as_slice(), &mut *world);
     Ok(world)
 }
 
 /// The life after a crash of this world behind its first `at` happenings.
+#[tactic(auto, using(crate::proofs::Fresh::fresh_crashed))]
 fn next_life(
     alloc: Global,
     dice: &mut Dice,
@@ -80,12 +84,14 @@ fn next_life(
         return Err(OutOfMemory);
     };
     let mut next = boxed(alloc, next)?;
-    serve(alloc, words.as_slice(), &mut *next);
+    let _ = run(alloc, words.as_slice(), &mut *next);
     Ok(next)
 }
 
 /// A world of its own place, so that whoever lets go of it lets go of one thing.
-fn boxed(alloc: Global, world: MemWorld) -> Result<Box<MemWorld>, OutOfMemory> {
+fn boxed(alloc: Global, world: MemWorld) -> Result<Box<MemWorld>, OutOfMemory>
+    ensures { IfOk result (λ b. b.value ≡ world) }
+{
     Box::new(alloc, world).map_err(|_| OutOfMemory)
 }
 
