@@ -10,7 +10,8 @@ import threading
 import time
 
 from caching import now, said
-from harness import Failed, case, equal, holds, lasting, ran, together
+from folders import PUBLISHED, TRACE, called, calls_in, small
+from harness import Failed, case, equal, holds, lasting, need, ran, together
 from kills import kept_in
 from network import free_port, wait_until_it_listens
 from origin import Answer, noise, part, response, span_of
@@ -20,8 +21,10 @@ TAG = b'"x"'
 FRESH = b"Cache-Control: max-age=3600"
 ONLY_KEPT = b"Cache-Control: only-if-cached"
 NO_DISK = b"polipo: cannot list the cache folder\n"
-# So many kills at least, in so many seconds at most.
-KILLS, KILLING_SECONDS = 12, 40
+# So many kills, in so many seconds at most; KILLS=200 in the environment makes more of them.
+KILLS = int(os.environ.get("KILLS", 12))
+KILLING_SECONDS = 4 * KILLS
+CHUNK = 4096
 
 
 def fresh(body, date):
@@ -156,7 +159,7 @@ def random_load(world, paths, bodies, choose, stops):
 
 
 @case
-@lasting(120)
+@lasting(3 * KILLING_SECONDS)
 def no_reply_has_a_wrong_byte_through_kills_at_random_moments(world):
     seed = random.randrange(1 << 32)
     choose = random.Random(seed)
@@ -297,7 +300,7 @@ def a_full_disk_is_seen_by_no_client(world):
 
 
 @case
-def a_folder_that_goes_away_is_seen_by_no_client(world):
+def a_file_that_goes_away_is_seen_by_no_client(world):
     body = noise(300_000)
     with world.anew() as proxy:
         serve_whole(proxy, "/a", body)
@@ -306,3 +309,89 @@ def a_folder_that_goes_away_is_seen_by_no_client(world):
         proxy.restart()
         file_of(proxy, "/a").unlink()
         equal(body_of(said(proxy, "/a")[0]), body, "the body whose file is gone")
+
+
+@case
+def a_disk_that_is_full_keeps_what_it_has_and_goes_on_where_there_is_room(world):
+    bodies = {f"/{number}": noise(20_000, number) for number in range(20)}
+    with small("256k") as place, world.anew(f"diskCacheRoot={place}/cache") as proxy:
+        folder = pathlib.Path(place) / "cache"
+        for path, body in bodies.items():
+            serve_whole(proxy, path, body)
+            equal(body_of(said(proxy, path)[0]), body, f"the body of {path}")
+        proxy.restart()
+        proxy.origin.clear()
+        served = [path for path, body in bodies.items() if body_of(said(proxy, path, ONLY_KEPT)[0]) == body]
+        holds(0 < len(served) < len(bodies), f"some bodies from the disk, and not all ({len(served)})")
+        equal([ask for ask in proxy.origin.asked if ask.path in bodies], [], "asks of the origin")
+        holds(called("mount", "-o", "remount,size=4m", place), "more room")
+        # A draft that failed is followed by none before the next tick.
+        time.sleep(1.5)
+        for path, body in bodies.items():
+            serve_whole(proxy, path, body)
+            equal(body_of(said(proxy, path)[0]), body, f"the body of {path}")
+        kept_now = {file.name: kept_in(file) for file in folder.iterdir() if len(file.name) == 32}
+        for path, body in bodies.items():
+            name = hashlib.md5(proxy.url(path).encode()).hexdigest()
+            equal(kept_now.get(name), (len(body), body), f"the entry of {path}")
+
+
+@case
+def a_folder_that_may_not_be_written_any_more_is_seen_by_no_client(world):
+    bodies = {f"/{number}": noise(20_000, number) for number in range(6)}
+    with small("4m") as place, world.anew(f"diskCacheRoot={place}/cache") as proxy:
+        for path, body in list(bodies.items())[:3]:
+            serve_whole(proxy, path, body)
+            equal(body_of(said(proxy, path)[0]), body, f"the body of {path}")
+        proxy.stop()
+        holds(called("mount", "-o", "remount,ro", place), "a file system that is not written")
+        proxy.start()
+        for path, body in list(bodies.items())[:3]:
+            equal(body_of(said(proxy, path, ONLY_KEPT)[0]), body, f"the body of {path} from the disk")
+        for path, body in list(bodies.items())[3:]:
+            serve_whole(proxy, path, body)
+            for _time in (1, 2):
+                equal(body_of(said(proxy, path)[0]), body, f"the body of {path}, which is not kept")
+
+
+# ---- what is called, and in which order
+
+
+@case
+def what_is_kept_is_synced_in_order_and_a_hit_from_memory_calls_no_file(world):
+    need("strace")
+    with tempfile.TemporaryDirectory() as place:
+        trace, traced = pathlib.Path(place) / "trace", pathlib.Path(place) / "traced"
+        # The tracer stands beside the program, so that a kill is the program's.
+        traced.write_text(f"#!/bin/sh\nexec {' '.join(TRACE)} {trace} -D {world.program} \"$@\"\n")
+        traced.chmod(0o700)
+        proxy = type(world)(str(traced), free_port())
+        try:
+            calls = lambda: calls_in(trace.read_text(), "polipo-cache")
+            before = calls()
+            equal(before, ["sync folder"], "the calls of the opening")
+            serve_whole(proxy, "/small", b"hello")
+            said(proxy, "/small")
+            wait_for_extent(proxy, "/small", 5)
+            small_calls = ["open draft", "write draft 12293", *PUBLISHED]
+            equal(calls()[len(before) :], small_calls, "the calls for a small body")
+            long = noise(16 * CHUNK + 100)
+            serve_whole(proxy, "/long", long)
+            said(proxy, "/long")
+            wait_for_extent(proxy, "/long", len(long))
+            before += small_calls
+            wanted = [
+                "close",
+                *["open draft", "write draft 12288", *PUBLISHED],
+                *["write draft 65536 at 12288", "sync draft", "write draft 16 at 8192", "sync draft"],
+                *["write draft 100 at 77824", "sync draft", "write draft 1 at 8208", "sync draft"],
+            ]
+            came = calls()[len(before) :]
+            equal(sorted(came), sorted(wanted), "the calls for a long body")
+            equal([call for call in came if call != "close"], wanted[1:], "the calls for a long body, in order")
+            before += came
+            for _hit in range(50):
+                equal(body_of(said(proxy, "/small")[0]), b"hello", "a hit")
+            equal(calls()[len(before) :], [], "the calls for hits")
+        finally:
+            proxy.stop()

@@ -126,8 +126,7 @@ impl Desk {
     {
         let mut is_any = self.turn_away(links, world);
         for _due in 0..ROUNDS {
-            self.state.bring_rows(shelf);
-            let Some((i, due)) = self.state.first_due() else {
+            let Some((i, due)) = self.state.first_due(shelf) else {
                 break;
             };
             is_any = true;

@@ -43,10 +43,7 @@ impl Desk {
     {
         match event {
             Event::Stop => self.state.is_stopped = true,
-            Event::Tick(seconds) => {
-                shelf.tick();
-                self.tick(seconds);
-            }
+            Event::Tick(seconds) => self.tick(seconds),
             Event::Accepted(c) => self.accept(c),
             Event::Readable(id) => {
                 self.touch(id);
@@ -106,6 +103,7 @@ impl Desk {
         self.state.renew_marks(now);
         self.state.now = now;
         self.state.is_ticked = true;
+        self.state.has_lost_draft = false;
         for _origin in 0..self.origins.len() {
             let Some(k) = self.idle_origin() else {
                 break;

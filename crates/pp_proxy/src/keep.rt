@@ -7,7 +7,7 @@ ghost use Rattle.pp_world.specs.Log.{Told};
 
 use crate::desk::Desk;
 use crate::disk::withdraw;
-use crate::run::Run;
+use crate::run::{Kept, Run};
 use arrayvec::ArrayVec;
 use pp_flow::KEY_ROOM;
 use pp_links::Links;
@@ -88,8 +88,13 @@ impl Desk {
         ensures holds { Told (W.log world.new) (Holds anything shelf.new) }
         ensures steady { GrowsSteadily (W.log world.old) (W.log world.new) }
     {
-        let run = Run::of(&self.state.cache, id, u64::from(self.state.run));
-        run.keep(self.state.alloc, links, shelf, world, &mut self.file)
+        match Run::of(&self.state, id).keep(links, shelf, world, &mut self.file)? {
+            Kept::To(extent) => Some(extent),
+            Kept::LostDraft => {
+                self.state.has_lost_draft = true;
+                None
+            }
+        }
     }
 }
 

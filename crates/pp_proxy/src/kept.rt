@@ -18,15 +18,9 @@ use pp_world::{Note, World};
 use std::alloc::Global;
 
 impl State {
-    /// Before anything is decided, kept rows come into memory that requests name which may be decided now. Where memory is
-    /// refused for one, its request is refused.
-    pub(crate) fn bring_rows(&mut self, shelf: &Shelf) {
-        for i in 0..self.seats.len() {
-            self.bring_row_of(shelf, i);
-        }
-    }
-
-    fn bring_row_of(&mut self, shelf: &Shelf, i: usize) {
+    /// Where the request of the client at this place may be decided now, the kept row that it names comes into memory. Where
+    /// memory is refused for it, the request is refused.
+    pub(crate) fn bring_row_of(&mut self, shelf: &Shelf, i: usize) {
         let Some(seat) = self.seats.get_mut(i) else {
             return;
         };

@@ -7,15 +7,16 @@ ghost use Rattle.pp_proxy.specs.Anything.{anything};
 ghost use Rattle.pp_store.specs.Held.{Holds};
 ghost use Rattle.pp_world.specs.Log.{Told};
 
-use crate::cache::{CHUNK_LEN, Cache};
+use crate::cache::CHUNK_LEN;
 use crate::disk::{draft, seal};
+use crate::state::State;
 use pp_entry::body_at;
 use pp_links::Links;
 use pp_objects::{ObjectId, RowView};
 use pp_shelf::Shelf;
+use pp_store::KeepFault;
 use pp_valid::Version;
-use pp_world::{Note, World};
-use std::alloc::Global;
+use pp_world::{DiskFault, Note, World};
 
 /// The bytes of the longest body that is kept.
 const BODY_LEN: u64 = 1 << 26;
@@ -23,58 +24,64 @@ const BODY_LEN: u64 = 1 << 26;
 /// The pieces in which a run stands in memory at most.
 const PIECES: u32 = 65;
 
-/// An instance of which a run may be kept, of so many chunks at most.
+/// What became of a run.
+#[derive(Clone, Copy)]
+pub(crate) enum Kept {
+    /// So many bytes of the instance are kept now.
+    To(u64),
+    /// The draft of its entry failed.
+    LostDraft,
+}
+
+/// An instance of which a run may be kept.
 #[derive(Clone, Copy)]
 pub(crate) struct Run<'a> {
-    cache: &'a Cache,
+    state: &'a State,
     id: ObjectId,
-    most: u64,
 }
 
 impl<'a> Run<'a> {
-    pub(crate) fn of(cache: &'a Cache, id: ObjectId, most: u64) -> Run<'a> {
-        Run { cache, id, most }
+    pub(crate) fn of(state: &'a State, id: ObjectId) -> Run<'a> {
+        Run { state, id }
     }
 
-    /// Keeps the next run, where it is full or ends the body, and answers how far the instance is kept then. None where
-    /// nothing is to be kept.
+    /// Keeps the next run, where it is full or ends the body. None where nothing is to be kept.
     pub(crate) fn keep<W: World>(
         self,
-        alloc: Global,
         links: &mut Links,
         shelf: &mut Shelf,
         world: &mut W,
         file: &mut [u8],
-    ) -> Option<u64>
+    ) -> Option<Kept>
         requires linked { IsLinked (W.log world.old) (W.top world.old) links.old }
         requires holds { Told (W.log world.old) (Holds anything shelf.old) }
         ensures linked { IsLinked (W.log world.new) (W.top world.new) links.new }
         ensures holds { Told (W.log world.new) (Holds anything shelf.new) }
         ensures steady { GrowsSteadily (W.log world.old) (W.log world.new) }
     {
-        let row = self.cache.row(self.id)?;
+        let row = self.state.cache.row(self.id)?;
         if row.retired || row.version.length > BODY_LEN {
             return None;
         }
         match extent_of(shelf, &row) {
-            Known::Nothing => self.draft(alloc, links, shelf, world, file, &row),
+            Known::Nothing => self.draft(links, shelf, world, file, &row),
             Known::To(extent) => self.seal(links, shelf, world, file, &row, extent),
             Known::Another => None,
         }
     }
 
     /// An entry is drafted once its first run is full, so that what was given up leaves none; with one chunk a run at once.
-    /// Where that run is the whole body, it is drafted with all of it.
+    /// Where that run is the whole body, it is drafted with all of it. Behind one that failed, as on a full disk, none is tried
+    /// before the next tick.
     #[tactic(auto, using(crate::proofs::DiskLemmas::holds_quietly, pp_shelf::proofs::SteadyLemmas::steady_then, pp_shelf::proofs::SteadyLemmas::steady_none, pp_shelf::proofs::SteadyLemmas::quiet_is_steady, pp_shelf::proofs::SteadyLemmas::quiet_then_steady, pp_shelf::proofs::SteadyLemmas::steady_then_quiet))]
     fn draft<W: World>(
         self,
-        alloc: Global,
         links: &mut Links,
         shelf: &mut Shelf,
         world: &mut W,
         file: &mut [u8],
         row: &RowView<'_>,
-    ) -> Option<u64>
+    ) -> Option<Kept>
         requires sized { row.now.version.now.length ≤ 2 ^ 26 }
         requires linked { IsLinked (W.log world.old) (W.top world.old) links.old }
         requires holds { Told (W.log world.old) (Holds anything shelf.old) }
@@ -83,10 +90,10 @@ impl<'a> Run<'a> {
         ensures steady { GrowsSteadily (W.log world.old) (W.log world.new) }
     {
         let n = row.version.length;
-        if self.most > 1 && self.full_run(n, 0).is_none() {
+        if self.state.has_lost_draft || (self.state.run > 1 && self.full_run(n, 0).is_none()) {
             return None;
         }
-        let whole = if self.most > 1 && n <= self.most.saturating_mul(CHUNK_LEN) {
+        let whole = if self.state.run > 1 && n <= self.most() {
             n
         } else {
             0
@@ -97,14 +104,21 @@ impl<'a> Run<'a> {
         if !self.copy(0, room.get_mut(front..)?) {
             return None;
         }
-        match draft(alloc, links, shelf, world, row, room) {
-            Some(Ok(())) => {
+        match draft(self.state.alloc, links, shelf, world, row, room)? {
+            Ok(()) => {
                 if whole > 0 {
                     note_kept(links, world, row, whole);
                 }
-                Some(whole)
+                Some(Kept::To(whole))
             }
-            Some(Err(_)) | None => None,
+            Err(KeepFault::NoDraft) => Some(Kept::LostDraft),
+            Err(
+                KeepFault::Closed
+                | KeepFault::Full
+                | KeepFault::TooLong
+                | KeepFault::DiskFault
+                | KeepFault::OutOfMemory,
+            ) => None,
         }
     }
 
@@ -118,7 +132,7 @@ impl<'a> Run<'a> {
         file: &mut [u8],
         row: &RowView<'_>,
         extent: u64,
-    ) -> Option<u64>
+    ) -> Option<Kept>
         requires linked { IsLinked (W.log world.old) (W.top world.old) links.old }
         requires holds { Told (W.log world.old) (Holds anything shelf.old) }
         ensures linked { IsLinked (W.log world.new) (W.top world.new) links.new }
@@ -134,20 +148,25 @@ impl<'a> Run<'a> {
             None => None,
             Some(Ok(kept)) => {
                 note_kept(links, world, row, kept);
-                Some(kept)
+                Some(Kept::To(kept))
             }
-            Some(Err(_)) => {
+            Some(Err(DiskFault)) => {
                 links.note(world, &Note::Gone(row.key));
-                Some(0)
+                Some(Kept::To(0))
             }
         }
     }
 
+    /// The bytes of a run at most.
+    fn most(self) -> u64 {
+        CHUNK_LEN.saturating_mul(u64::from(self.state.run))
+    }
+
     /// How many bytes the run behind this offset has, of a body of `n` bytes, where it is full or ends the body.
     fn full_run(self, n: u64, from: u64) -> Option<u64> {
-        let left = n.saturating_sub(from);
-        let run = self.most.saturating_mul(CHUNK_LEN).min(left);
-        let held = self.cache.next_hole(self.id, from).0.saturating_sub(from);
+        let run = self.most().min(n.saturating_sub(from));
+        let hole = self.state.cache.next_hole(self.id, from);
+        let held = hole.0.saturating_sub(from);
         if run > 0 && run <= held {
             Some(run)
         } else {
@@ -165,7 +184,10 @@ impl<'a> Run<'a> {
             if room.is_empty() {
                 return true;
             }
-            let piece = self.cache.piece(self.id, from.saturating_add(at as u64));
+            let piece = self
+                .state
+                .cache
+                .piece(self.id, from.saturating_add(at as u64));
             let count = piece.len().min(room.len());
             if count == 0 {
                 return false;

@@ -32,6 +32,8 @@ pub(crate) struct State {
     pub(crate) cache: Cache,
     /// How many whole chunks are kept on the disk at a time.
     pub(crate) run: u32,
+    /// A draft failed, and the clock has not ticked since.
+    pub(crate) has_lost_draft: bool,
     /// Seconds since 1970, as the last tick told.
     pub(crate) now: u64,
     pub(crate) has_ticked: bool,

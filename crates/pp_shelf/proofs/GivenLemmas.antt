@@ -1,10 +1,9 @@
 -- What is given is what the store asks for.
-use Rattle.std.proofs.Common.{◌≡◌, ◌<◌, ◌≤◌, ◌⊎◌, inl, inr, ℕ, ◌+◌, ◌-◌, ◌*◌, ◌/◌, ◌%◌, min, true, length, drop, arith, length-drop, zero-add}
+use Rattle.std.proofs.Common.{◌≡◌, ◌≤◌, ◌⊎◌, inl, inr, ℕ, ◌-◌, ◌*◌, min, length, drop, arith, length-drop, zero-add}
 use Rattle.pp_world.specs.Disk.{Bytes}
 use Rattle.pp_entry.specs.Texts.{body_at, chunks_of}
 use Rattle.pp_gate.specs.Files.{Sent}
 use Rattle.pp_gate.specs.Seal.{IsFront}
-use Rattle.pp_store.specs.Kept.{IsExtent}
 use Rattle.pp_shelf.specs.Given.{IsWhole, WereSent}
 
 -- nothing of a body, or all of it, is a front of whole chunks

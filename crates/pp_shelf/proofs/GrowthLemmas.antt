@@ -1,7 +1,6 @@
 -- A call of the store adds nothing to the log but operations, and a file that could not be read.
-use Rattle.std.proofs.Common.{◌≡◌, ◌<◌, ◌⊎◌, inl, inr, ℕ, Bool, true, false, List, [], ◌∷◌, ◌++◌, Option, Some, Result, Ok, Err, refl, sym, ◌∙◌, ap}
+use Rattle.std.proofs.Common.{◌≡◌, inl, inr, ℕ, Bool, true, List, [], ◌∷◌, Option, Result, Ok, Err, refl, ◌∙◌, ap}
 use Rattle.std.specs.List.{list_all}
-use Rattle.pp_world.specs.declared.happening.Happening.TheVariants.{Began, Did}
 use Rattle.pp_world.specs.declared.op.DiskOp.{DiskOp}
 use Rattle.pp_world.specs.Disk.{Bytes}
 use Rattle.pp_world.specs.Log.{AppendsAll, Log}

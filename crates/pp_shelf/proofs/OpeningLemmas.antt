@@ -1,14 +1,13 @@
 -- What the log gains where a folder is opened.
-use Rattle.std.proofs.Common.{◌≡◌, ◌⊎◌, inl, inr, Bool, true, false, ◌&&◌, List, [], ◌∷◌, ◌++◌, ℕ, Option, Some, Result, Ok, Err, refl, sym, ◌∙◌, ap, subst, append_assoc}
+use Rattle.std.proofs.Common.{◌≡◌, ◌⊎◌, inl, inr, Bool, true, ◌&&◌, List, [], ◌∷◌, ◌++◌, ℕ, Option, Some, Result, Ok, Err, sym, ◌∙◌, ap, subst, append_assoc}
 use Rattle.std.specs.List.{list_all}
 use Rattle.std.proofs.lemmas.List.Sums.{fold-append}
 use Rattle.std.proofs.lemmas.List.Folds.{list_all-append}
 use Rattle.pp_world.specs.declared.happening.Happening.TheVariants.{Listed, Rooted, Woke}
-use Rattle.pp_world.specs.Disk.{Bytes, image_after, image_of, view_of}
+use Rattle.pp_world.specs.Disk.{Bytes, image_after, image_of}
 use Rattle.pp_world.specs.Files.{Files, file_of}
-use Rattle.pp_world.specs.Log.{Appends, AppendsAll, Log, Told}
+use Rattle.pp_world.specs.Log.{Appends, Log, Told}
 use Rattle.pp_gate.proofs.Views.{view_of-append}
-use Rattle.pp_links.specs.Quiet.{GrowsBy}
 use Rattle.pp_shelf.specs.Steady.{IsOnDisk, is_on_disk}
 use Rattle.pp_gate.specs.Files.{Sent}
 use Rattle.pp_recover.specs.declared.faults.RecoverFault.{RecoverFault}

@@ -1,5 +1,5 @@
 -- Steady steps, one after another and behind a wait; and that what is done on the disk opens and closes no connection.
-use Rattle.std.proofs.Common.{◌≡◌, ◌≤◌, ℕ, Bool, true, false, ◌&&◌, ◌||◌, List, [], ◌∷◌, ◌++◌, Option, Some, refl, sym, ◌∙◌, ap, subst, append_assoc}
+use Rattle.std.proofs.Common.{◌≡◌, ◌≤◌, ℕ, Bool, true, false, ◌&&◌, ◌||◌, List, [], ◌∷◌, ◌++◌, Option, refl, sym, ◌∙◌, ap, subst, append_assoc}
 use Rattle.std.specs.List.{All, list_all}
 use Rattle.std.proofs.lemmas.List.{append-nil}
 use Rattle.std.proofs.lemmas.List.Folds.{list_all-append}
@@ -8,7 +8,7 @@ use Rattle.pp_world.specs.Connections.{side_after, side_of}
 use Rattle.pp_world.specs.declared.event.Side.{Side}
 use Rattle.pp_world.specs.declared.happening.Happening.{Happening}
 use Rattle.pp_world.specs.declared.happening.Happening.TheVariants.{Began, Did, Unread}
-use Rattle.pp_world.specs.Log.{Log, AppendsAll, Told}
+use Rattle.pp_world.specs.Log.{Log, AppendsAll}
 use Rattle.pp_world.proofs.LogLemmas.{side_of-append}
 use Rattle.pp_links.specs.Links.{AreOpen, IsLinked, Link}
 use Rattle.pp_links.specs.Quiet.{GrowsBy, GrowsQuietly, is_quiet}

@@ -1,4 +1,4 @@
-// The entries that are kept, and whether drafts rest.
+// The entries that are kept.
 ghost use Rattle.std.specs.Prelude.{◌≡◌, option_map};
 ghost use Rattle.pp_store.specs.Kept.{kept_of, kept_under};
 ghost use Rattle.pp_store.specs.Views.{shown};
@@ -11,8 +11,6 @@ use std::marker::Model;
 #[derive(Drop)]
 pub struct Shelf {
     pub(crate) store: Store,
-    /// A draft failed since the last tick.
-    pub(crate) rests: bool,
 }
 
 impl Model for Shelf {
@@ -28,10 +26,7 @@ impl Shelf {
     pub fn new(store: Store) -> Shelf
         ensures { result ≡ store }
     {
-        Shelf {
-            store,
-            rests: false,
-        }
+        Shelf { store }
     }
 
     /// The entry that is kept of a key. `None` exactly where the key is not kept.
@@ -46,12 +41,5 @@ impl Shelf {
         ensures { option_map shown result ≡ kept_under name.now self.now }
     {
         self.store.under(name)
-    }
-
-    /// Drafts are tried again.
-    pub fn tick(&mut self)
-        ensures { self.new ≡ self.old }
-    {
-        self.rests = false;
     }
 }

@@ -1,17 +1,15 @@
 // Whether an entry can be written of a row.
-ghost use Rattle.std.specs.Prelude.{◌≡◌, ◌-◌, ◌^◌, ◌<◌, [], filter, length, min, nat_le, true};
+ghost use Rattle.std.specs.Prelude.{◌≡◌, ◌-◌, ◌^◌, ◌<◌, ◌↔◌, [], filter, length, min, nat_le, true};
 ghost use Rattle.std.specs.List.{list_all};
 ghost use Rattle.httparse.specs.Grammar.{is_uri_byte};
 ghost use Rattle.pp_text.specs.Fields.{field_at};
 ghost use Rattle.pp_text.specs.Lines.{line_of, lines_of};
 ghost use Rattle.pp_valid.specs.Kept.{is_written_anew};
-ghost use Rattle.pp_valid.specs.TagStates.{tag_of};
-ghost use Rattle.pp_valid.specs.Versions.{strong_part};
 ghost use Rattle.pp_entry.specs.Entries.{is_sized};
 ghost use Rattle.pp_entry.specs.Fields.{are_allowed, is_passing, may_be_kept};
 ghost use Rattle.pp_entry.specs.Spelling.{CanBeWritten};
 ghost use Rattle.pp_store.specs.Changes.{entry_with};
-ghost use Rattle.pp_shelf.specs.Texts.{is_text, is_trimmed};
+ghost use Rattle.pp_shelf.specs.Texts.{has_tag, is_text, is_trimmed, is_writable};
 
 use httparse::{is_header_value, is_token, is_uri_token};
 use pp_fresh::Times;
@@ -26,25 +24,20 @@ const BODY_LEN: u64 = 1 << 26;
 
 /// Whether an entry can be written of this row. What comes of heads mostly can: it may have more fields that are renewed
 /// than there is room for, or a longer body.
-#[tactic(auto, using(crate::proofs::TextLemmas::can))]
 pub fn can_be_written(key: &[u8], version: &Version, fields: &Fields<'_, '_>, times: &Times) -> bool
-    ensures { result ≡ true → CanBeWritten (entry_with key.now version.now fields.now times.now) }
+    ensures { (result ≡ true) ↔ CanBeWritten (entry_with key.now version.now fields.now times.now) }
 {
-    if !is_target(key) {
-        return false;
-    }
-    if !is_sized(version.length) {
-        return false;
-    }
-    if !are_texts(fields) {
-        return false;
-    }
-    if !are_allowed(fields) {
-        return false;
-    }
     let _response = times.response;
     let _initial = times.initial;
-    has_tag(version, fields)
+    is_writable(key, version, fields)
+}
+
+fn is_writable(key: &[u8], version: &Version, fields: &Fields<'_, '_>) -> bool
+    ensures { result ≡ is_writable key.now version.now fields.now }
+{
+    let is_placed = is_target(key) && is_sized(version.length);
+    let is_kept = are_texts(fields) && are_allowed(fields);
+    is_placed && is_kept && has_tag(version, fields)
 }
 
 /// A key has the bytes of a target.
@@ -62,7 +55,7 @@ fn is_sized(length: u64) -> bool
 
 /// The tag of the version is that of the fields.
 fn has_tag(version: &Version, fields: &Fields<'_, '_>) -> bool
-    ensures { result ≡ true → strong_part (tag_of fields.now) ≡ Some version.now.tag }
+    ensures { result ≡ has_tag version.now fields.now }
 {
     match tag_of(fields) {
         TagState::Strong(tag) => tag.as_slice() == version.tag.as_slice(),

@@ -23,8 +23,11 @@ pub struct Simulation {
 /// So many lives at most.
 const LIVES: u64 = 3;
 
-/// A crash by one of so many choices.
+/// A crash by one of so many choices, and by as many that tear.
 const CHOICES: u64 = 16;
+
+/// From this choice on, a crash tears.
+const FIRST_TORN: u64 = 1 << 63;
 
 /// Runs the lives of this seed.
 pub fn simulate(alloc: Global, seed: u64) -> Result<Simulation, OutOfMemory> {
@@ -78,7 +81,7 @@ fn next_life(
         script,
         failing,
     } = life;
-    let choice = dice.below(CHOICES);
+    let choice = crash_choice(dice);
     let crashed = world.crash(alloc, at, choice, script, failing)?;
     let Some(next) = crashed else {
         return Err(OutOfMemory);
@@ -113,6 +116,16 @@ fn crash_place(dice: &mut Dice, begin: usize, len: usize) -> usize {
     begin
         .saturating_add(1)
         .saturating_add(dice.below(past) as usize)
+}
+
+/// How a crash settles what is loose or in doubt.
+fn crash_choice(dice: &mut Dice) -> u64 {
+    let choice = dice.below(CHOICES);
+    if dice.is_once_in(2) {
+        FIRST_TORN.saturating_add(choice)
+    } else {
+        choice
+    }
 }
 
 impl Simulation {

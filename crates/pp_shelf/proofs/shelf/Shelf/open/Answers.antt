@@ -1,5 +1,4 @@
-use Rattle.std.proofs.Common.{sym, subst, Ok, Err, Result}
-use Rattle.pp_recover.specs.declared.faults.RecoverFault.{RecoverFault}
+use Rattle.std.proofs.Common.{Ok, Err}
 use Rattle.pp_shelf.proofs.OpeningLemmas.{fresh_behind, holds_behind, opens_as}
 use Rattle.pp_shelf.proofs.shelf.Shelf.open.Goals as goal
 
