@@ -19,6 +19,7 @@ FRESH = b"Cache-Control: max-age=60"
 BODY = noise(4100)
 SECONDS = 5
 MOMENT = 0.15  # in which what was sent is read
+PIPE = 65_536  # what is passed to a client is held up to so many bytes
 TEN = b"BBBBBBBBBB"
 
 
@@ -150,6 +151,14 @@ def one_reply_is_one_response_also_where_a_part_is_passed(world):
 
 @lasting(70)
 @case
+def a_long_answer_is_told_whole_whatever_comes_late(world):
+    # what nobody read of it would stop its connection, and then its client too
+    body = noise(3 * PIPE)
+    each(lambda name: equal(told(world, LATE[name], response(body), False), reply(body) + NEXT, "the replies"))
+
+
+@lasting(70)
+@case
 def one_reply_is_one_response_also_in_chunks(world):
     answer = lines(OK, b"Transfer-Encoding: chunked") + chunked(TEN, b"CCCCC")
     head = reply_head(*reply(b"").split(b"\r\n")[1:2], b"transfer-encoding: chunked")
@@ -221,7 +230,7 @@ def nobody_waits_for_what_nobody_reads(world):
                 behind = origin.take("the ask behind another")
                 holds(behind.connection is hole.connection, "the ask behind the one for the rest")
                 origin.always("/r", GONE)
-                hole.say(response(b"e" * 20_000))
+                hole.say(response(b"e" * PIPE + b"e"))
                 BEHIND[then](behind)
                 for other in held:
                     other.say(lines(b"HTTP/1.1 204 No Content"))

@@ -6,7 +6,7 @@ import time
 from harness import case, equal, holds
 from origin import Answer, lines, part, response
 from rules import rule
-from world import Client
+from world import LAST_BAD_GATEWAY, Client
 
 FORBID = [b"Cache-Control: private, max-age=1000", b"Cache-Control: no-store, max-age=1000", b"Vary: Cookie", b"Set-Cookie: a=b", b"Set-Cookie2: a=b"]
 
@@ -80,6 +80,22 @@ def a_part_that_became_private_is_told_to_nobody_else(world):
         before = len(asks(world, path))
         body_told(world, path, b"Range: bytes=0-99")
         holds(len(asks(world, path)) > before, f"the origin is asked again behind a part with {field!r}")
+
+
+@case
+@rule("forbids-sharing")
+def a_rest_that_is_for_one_alone_is_not_asked_for_without_end(world):
+    # a fetch brings the front, for everybody; the rest that is wanted is for one alone, each time
+    body = b"all" * 4_000
+
+    def answer(ask):
+        if ask.field(b"if-range"):
+            return Answer(part(body, ask.field(b"range"), b'ETag: "x"', b"Cache-Control: private"))
+        return Answer(part(body, b"bytes=0-99", b"Date: " + date(), b'ETag: "x"', b"Cache-Control: max-age=1000"))
+
+    world.origin.on("/rest", answer)
+    equal(told(world, "/rest", b"Range: bytes=200-299"), LAST_BAD_GATEWAY.partition(b"\r\n\r\n")[::2], "the answer at the end")
+    equal(len(asks(world, "/rest")), 8, "asks for the front and for the rest")
 
 
 @case

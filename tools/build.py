@@ -7,19 +7,22 @@ build.py stamp    puts on record that what stands in out/ was built of the sourc
 import hashlib
 import os
 import pathlib
+import queue
 import re
 import shutil
 import signal
 import subprocess
 import sys
+import tempfile
 import threading
 import time
 
 TOP = pathlib.Path(__file__).resolve().parent.parent
 PROGRAM = TOP / "crates/polipo/out/polipo"
 STAMP = TOP / "crates/polipo/out/built"
-# By far the largest crate: what it stands on is proved first, a processor a crate; then it, alone, by all of them.
-LARGEST = "pp_proxy"
+PROOF_MEMORY = 2 << 30  # bytes: what one proof takes at most, or about so
+# Where the copies stand in which the crates are proved.
+ROOMS = pathlib.Path(tempfile.gettempdir()) / f"polipo-{os.getuid()}-{hashlib.sha256(bytes(TOP)).hexdigest()[:16]}"
 
 
 def crates():
@@ -40,23 +43,30 @@ def below(name, listed):
     return found
 
 
+def sources(names):
+    """The files that these crates are proved of."""
+    parts = (TOP / "crates" / name / part for name in names for part in ("src", "specs", "proofs"))
+    return [file for part in parts for file in part.rglob("*") if file.is_file()]
+
+
 def copied(names, room, without=()):
-    """Copies these crates into a folder, as a repository that has no other."""
+    """Copies these crates into a folder, as a repository that has no other; what was proved there stays."""
+    room.mkdir(parents=True, exist_ok=True)
     lines = (TOP / "crates.txt").read_text().splitlines(True)
     (room / "crates.txt").write_text("".join(line for line in lines if line.split(":")[0].strip() in names))
     shutil.copy(TOP / "HANDLES", room)
     for name in names:
-        shutil.copytree(TOP / "crates" / name, room / "crates" / name, ignore=shutil.ignore_patterns("out", *without))
+        for part in (room / "crates" / name).glob("*"):
+            if part.is_dir() and part.name != "out":
+                shutil.rmtree(part)
+        shutil.copytree(TOP / "crates" / name, room / "crates" / name, ignore=shutil.ignore_patterns("out", *without), dirs_exist_ok=True)
 
 
 def checksum(names):
     """Of the sources, and of the toolchain that proves them."""
-    files = [TOP / "crates.txt", TOP / "HANDLES"]
-    for name in names:
-        for part in ("src", "specs", "proofs"):
-            files += (TOP / "crates" / name / part).rglob("*")
+    files = [TOP / "crates.txt", TOP / "HANDLES", *sources(names)]
     total = hashlib.sha256(subprocess.run(["rt", "version"], capture_output=True, check=False).stdout)
-    for file in sorted(file for file in files if file.is_file()):
+    for file in sorted(files):
         total.update(str(file.relative_to(TOP)).encode() + b"\0" + file.read_bytes() + b"\0")
     return total.hexdigest()
 
@@ -65,13 +75,13 @@ class Progress:
     """How far the build is, on standard error: on a terminal one line that changes, else a line for each crate."""
 
     def __init__(self, of):
-        self.of, self.crates, self.functions, self.begun = of, 0, 0, time.monotonic()
+        self.of, self.crates, self.functions, self.last, self.begun = of, 0, 0, "", time.monotonic()
         self.is_over = threading.Event()
         self.redraws = sys.stderr.isatty()
 
     def line(self):
         minutes, seconds = divmod(int(time.monotonic() - self.begun), 60)
-        return f"polipo: {self.crates} of {self.of} crates proved, {self.functions} functions, {minutes} min {seconds:02} s"
+        return f"polipo: {self.crates} of {self.of} crates proved{self.last}, {self.functions} functions, {minutes} min {seconds:02} s"
 
     def show(self):
         sys.stderr.write(f"\r\033[K{self.line()}" if self.redraws else f"{self.line()}\n")
@@ -81,8 +91,8 @@ class Progress:
         while not self.is_over.wait(1):
             self.show()
 
-    def proved(self, functions):
-        self.crates, self.functions = min(self.crates + 1, self.of), self.functions + functions
+    def proved(self, name, functions):
+        self.crates, self.functions, self.last = self.crates + 1, self.functions + functions, f" ({name})"
         self.show()
 
     def __enter__(self):
@@ -97,41 +107,90 @@ class Progress:
             sys.stderr.write("\n")
 
 
-def run(crate, words, progress, until=None):
-    """Runs rt in a crate's folder; gives whether it went on to what was wanted, and its last lines, while progress follows what it
-    proves. It is stopped once so many crates are proved."""
-    tail = []
-    with subprocess.Popen(
-        words, cwd=TOP / "crates" / crate, stdout=subprocess.PIPE, stderr=subprocess.STDOUT, text=True, errors="replace", start_new_session=True
-    ) as rt:
-        try:
-            for line in rt.stdout:
-                tail = [*tail[-39:], line]
-                if found := re.match(r"logic=proved functions=(\d+)", line):
-                    progress.proved(int(found.group(1)))
-                if until is not None and progress.crates >= until:
-                    return True, tail
-        finally:
-            if rt.poll() is None:
-                os.killpg(rt.pid, signal.SIGTERM)
-    return rt.returncode == 0, tail
+def order(names, listed):
+    """What is to be proved behind a crate, itself with it: the longest chain, by the bytes of its sources. The crate with the most is
+    begun first."""
+    above = {name: [it for it in names if name in listed[it]] for name in names}
+    size = {name: sum(file.stat().st_size for file in sources([name])) for name in names}
+    chain = {}
+    for name in sorted(names, key=lambda it: len(below(it, listed)), reverse=True):
+        chain[name] = size[name] + max((chain[it] for it in above[name]), default=0)
+    return chain
+
+
+def places():
+    """How many proofs at once: one a processor, and no more than the memory holds."""
+    return max(1, min(len(os.sched_getaffinity(0)), os.sysconf("SC_PAGE_SIZE") * os.sysconf("SC_PHYS_PAGES") // PROOF_MEMORY))
+
+
+class Build:
+    """Proves each crate as soon as those are proved that it stands on, as many at once as there are processors; where fewer can begin,
+    each has more jobs. rt works alone in a crate and in all below it, and takes what it proved in other copies of the same sources: so
+    each proof has a copy of its own."""
+
+    def __init__(self, names, progress):
+        self.listed = {name: deps for name, deps in crates().items() if name in names}
+        self.chain, self.progress = order(names, self.listed), progress
+        self.places = self.free = places()
+        self.rooms = [ROOMS / str(number) for number in range(self.places)]
+        for room in self.rooms:
+            copied(names, room)
+        self.left, self.proved, self.running = set(names), set(), {}
+        self.ended = queue.Queue()
+
+    def ready(self):
+        """Those that can begin, the one with the longest chain behind it first."""
+        return sorted((it for it in self.left if self.proved.issuperset(self.listed[it])), key=self.chain.get, reverse=True)
+
+    def begin(self):
+        while self.free > 0 and (ready := self.ready()):
+            # What stands alone, all that is left waits for: it has all places, though some are not free yet.
+            name, jobs = ready[0], self.places if len(ready) == 1 else max(1, self.free // len(ready))
+            # The program is run once, with a word that it refuses, so that it ends at once.
+            words, top = (["run", "--", "build-only"], TOP) if name == "polipo" else (["lib", "--jobs", str(jobs)], self.rooms.pop())
+            self.left.remove(name)
+            self.free -= jobs
+            rt = subprocess.Popen(
+                ["rt", *words], cwd=top / "crates" / name, stdout=subprocess.PIPE, stderr=subprocess.STDOUT, text=True, errors="replace", start_new_session=True
+            )
+            self.running[name] = rt
+            threading.Thread(target=self.follow, args=(name, jobs, top, rt), daemon=True).start()
+
+    def follow(self, name, jobs, top, rt):
+        self.ended.put((name, jobs, top, rt.communicate()[0]))
+
+    def whole(self):
+        """Gives the last lines of what went wrong, or none."""
+        self.begin()
+        while self.running:
+            name, jobs, top, said = self.ended.get()
+            is_well = PROGRAM.exists() if name == "polipo" else self.running[name].returncode == 0
+            del self.running[name]
+            if not is_well:
+                return said.splitlines(True)[-40:]
+            self.free += jobs
+            self.rooms.append(top)
+            self.proved.add(name)
+            self.progress.proved(name, sum(int(it) for it in re.findall(r"logic=proved functions=(\d+)", said)[-1:]))
+            self.begin()
+        return []
+
+    def stop(self):
+        for rt in self.running.values():
+            os.killpg(rt.pid, signal.SIGTERM)
+        if PROGRAM.exists():
+            shutil.rmtree(ROOMS, ignore_errors=True)
 
 
 def build(names):
     """Proves and builds; gives the last lines of what went wrong, or none."""
     PROGRAM.unlink(missing_ok=True)
-    listed = crates()
-    others = [name for name in names if LARGEST not in below(name, listed)]
     with Progress(len(names)) as progress:
-        is_well, tail = run("polipo", ["rt", "all", "check", "--jobs", str(os.cpu_count() or 1)], progress, len(others))
-        # One by one, since rt reads all sources through once more where more than one is not built.
-        for name in sorted(names - {"polipo", *others}, key=lambda it: len(below(it, listed))):
-            if is_well:
-                is_well, tail = run(name, ["rt", "lib"], progress)
-        if is_well:
-            # It is run once, with a word that it refuses, so that it ends at once.
-            _, tail = run("polipo", ["rt", "run", "--", "build-only"], progress)
-    return [] if PROGRAM.exists() else tail
+        work = Build(names, progress)
+        try:
+            return work.whole()
+        finally:
+            work.stop()
 
 
 def main():

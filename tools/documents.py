@@ -4,6 +4,7 @@
 - each function in the table of what is proved of the program (docs/CLAIMS.md) is reached from `main`, by its name, and
   each crate of the table of what stands beside it is not used by the program;
 - each crate is named by the map (docs/ARCHITECTURE.md), and each file that a document links to is there;
+- each row that docs/DECISIONS.md names stands in the transcript that it names;
 - each script is named by another file: it is run, or told how to run.
 """
 
@@ -112,6 +113,13 @@ def unnamed():
                 yield f"{document.relative_to(TOP)}: there is no {link}"
 
 
+def missing_rows():
+    for file, title in re.findall(r"^\|.*\| `(\w+\.log)` \| (.*?) \|$", (TOP / "docs/DECISIONS.md").read_text(), re.MULTILINE):
+        path = TOP / "transcripts" / file
+        if not path.exists() or f"row {title}" not in path.read_text().splitlines():
+            yield f"docs/DECISIONS.md: no row '{title}' in transcripts/{file}"
+
+
 def idle_scripts():
     listed = subprocess.run(["git", "ls-files"], cwd=TOP, capture_output=True, text=True, check=False).stdout.split()
     texts = {name: (TOP / name).read_text(errors="replace") for name in listed
@@ -125,7 +133,7 @@ def idle_scripts():
 
 def main():
     failed = 0
-    checks = [missing_definitions, false_claims, unnamed, idle_scripts]
+    checks = [missing_definitions, false_claims, unnamed, missing_rows, idle_scripts]
     for check in checks:
         faults = sorted(set(check()))
         failed += bool(faults)

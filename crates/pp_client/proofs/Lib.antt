@@ -1,3 +1,4 @@
+pub mod AtHandLemmas
 pub mod BodyDropped
 pub mod BodyTaken
 pub mod DroppedLemmas
@@ -5,4 +6,5 @@ pub mod FoundLemmas
 pub mod HeadLemmas
 pub mod HeardParts
 pub mod ReadInOrder
+pub mod RunLemmas
 pub mod SaidInOrder

@@ -1,6 +1,6 @@
 -- What is left to be said to a request: the interim answer, the head or page, and the body (RFC 2616, sections 6
 -- and 8.2.3).
-use Rattle.std.specs.Prelude.{ℕ, ◌+◌, ◌-◌, ◌/◌, ◌%◌, ◌≤◌, Bool, true, false, ◌==◌, ◌&&◌, not, nat_lt, nat_le, if◌then◌else◌, cond, List, [], ◌∷◌, ◌++◌, length, take, drop, codes, Option, Some, None, ⊤}
+use Rattle.std.specs.Prelude.{ℕ, zero, suc, ◌+◌, ◌-◌, ◌*◌, ◌/◌, ◌%◌, ◌≤◌, Bool, true, false, ◌==◌, ◌&&◌, not, nat_lt, nat_le, if◌then◌else◌, cond, List, [], ◌∷◌, ◌++◌, length, take, drop, codes, Option, Some, None, ⊤}
 use Rattle.pp_text.specs.Bytes.{is_empty}
 use Rattle.pp_holes.specs.Places.{Chunk, bytes_at}
 use Rattle.pp_objects.specs.declared.id.ObjectId.{ObjectId}
@@ -68,10 +68,9 @@ body_left Page pipe = 0
 body_left (Instance id next to) pipe = to - next
 body_left Passed pipe = length pipe.bytes
 
--- the head or page comes before the body
+-- the head or page comes first, and the body behind it
 abbrev pub reply_left : Begin → List ℕ → Pipe → ℕ
-reply_left reply [] pipe = body_left reply pipe
-reply_left reply (b ∷ text) pipe = length (b ∷ text)
+reply_left reply text pipe = length text + body_left reply pipe
 
 abbrev pub stage_left : Stage → List ℕ → Pipe → ℕ
 stage_left Due text pipe = 0
@@ -83,9 +82,19 @@ left_next r = cond (nat_lt 0 (interim_left r.interim)) (interim_left r.interim) 
 
 -- ---- what of it is at hand
 
--- from the next offset on, what its chunk holds in memory, no further than the span
+-- what chunks in memory hold from an offset on, without a hole, over so many chunks
+unfoldable pub run_at_hand : ℕ → ℕ → ℕ → List Chunk → List ℕ
+run_at_hand zero slot at cs = []
+run_at_hand (suc more) slot at cs =
+    let bytes = bytes_at (slot, at / 4096) cs in
+    drop (at % 4096) bytes ++ (elim (length bytes == 4096) [
+      | true ↦ run_at_hand more slot ((at / 4096 + 1) * 4096) cs
+      | false ↦ []
+    ])
+
+-- ours: from the next offset on, over at most 16 chunks, no further than the span
 abbrev pub span_at_hand : ObjectId → ℕ → ℕ → List Chunk → List ℕ
-span_at_hand id next to cs = take (to - next) (drop (next % 4096) (bytes_at (id.slot, next / 4096) cs))
+span_at_hand id next to cs = take (to - next) (run_at_hand 16 id.slot next cs)
 
 abbrev pub body_at_hand : Begin → Pipe → List Chunk → List ℕ
 body_at_hand Page pipe cs = []
@@ -93,8 +102,7 @@ body_at_hand (Instance id next to) pipe cs = span_at_hand id next to cs
 body_at_hand Passed pipe cs = pipe.bytes
 
 abbrev pub reply_at_hand : Begin → List ℕ → Pipe → List Chunk → List ℕ
-reply_at_hand reply [] pipe cs = body_at_hand reply pipe cs
-reply_at_hand reply (b ∷ text) pipe cs = b ∷ text
+reply_at_hand reply text pipe cs = text ++ body_at_hand reply pipe cs
 
 abbrev pub stage_at_hand : Stage → List ℕ → Pipe → List Chunk → List ℕ
 stage_at_hand Due text pipe cs = []
@@ -104,19 +112,6 @@ abbrev pub at_hand : Reply → List Chunk → List ℕ
 at_hand r cs =
     cond (nat_lt 0 (interim_left r.interim)) (drop (25 - interim_left r.interim) continue_text) (stage_at_hand r.stage r.text r.pipe cs)
 
--- the pipe comes next: its bytes may be lent in two pieces
-abbrev pub is_pipe : Begin → Bool
-is_pipe Page = false
-is_pipe (Instance id next to) = false
-is_pipe Passed = true
-
-abbrev pub is_stage_piped : Stage → Bool
-is_stage_piped Due = false
-is_stage_piped (Begun reply) = is_pipe reply
-
-abbrev pub is_piped : Reply → Bool
-is_piped r = (interim_left r.interim == 0) && (is_empty r.text && is_stage_piped r.stage)
-
 -- ---- so many bytes of it were said
 
 abbrev pub body_said : ℕ → Begin → Reply → Reply
@@ -124,9 +119,9 @@ body_said n Page r = r
 body_said n (Instance id next to) r = record r { stage = Begun (Instance id (next + n) to) }
 body_said n Passed r = record r { pipe = without_first n r.pipe }
 
+-- of the head or page, and behind it of the body
 abbrev pub reply_said : ℕ → Begin → List ℕ → Reply → Reply
-reply_said n reply [] r = body_said n reply r
-reply_said n reply (b ∷ text) r = record r { text = drop n (b ∷ text) }
+reply_said n reply text r = body_said (n - length text) reply (record r { text = drop n text })
 
 abbrev pub stage_said : ℕ → Stage → Reply → Reply
 stage_said n Due r = r

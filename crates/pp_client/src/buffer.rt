@@ -50,12 +50,11 @@ impl Buffer {
         self.bytes.len() - self.taken
     }
 
-    /// Takes the first bytes out.
+    /// Takes the first so many bytes out, or all.
     pub(crate) fn took(&mut self, n: usize)
-        requires { n ≤ length self.old }
         ensures { self.new ≡ drop n self.old }
     {
-        self.taken = self.bytes.len() - (self.len() - n);
+        self.taken = self.bytes.len() - self.len().saturating_sub(n);
     }
 
     /// Takes all bytes out.

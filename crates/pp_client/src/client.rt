@@ -8,11 +8,12 @@ ghost use Rattle.pp_client.specs.Clients.{IsAnswerable, new_client, said_by};
 ghost use Rattle.pp_client.specs.InOrder.{IsReadInOrder};
 ghost use Rattle.pp_client.specs.Saying.{IsFrontOfLeft, IsSaidFirst};
 ghost use Rattle.pp_client.specs.ClientLending.{LendsPass, LendsText};
-ghost use Rattle.pp_client.specs.Replies.{IsBeginning, at_hand, has_begun, is_piped, left_next, may_interim, next_byte, with_begun, with_interim};
+ghost use Rattle.pp_client.specs.Replies.{IsBeginning, at_hand, has_begun, left_next, may_interim, next_byte, with_begun, with_interim};
 ghost use Rattle.pp_client.specs.Requests.{answered, body_dropped, body_in, body_taken, current_of, heard_in, room_of};
 ghost use Rattle.pp_client.specs.Shown.{shown};
 
 use crate::current::Current;
+use crate::gather::{OFFER_LEN, Room};
 use crate::heard::Heard;
 use crate::interim::Interim;
 use crate::reply::{Begin, Reply, Stage};
@@ -183,8 +184,8 @@ impl Client {
         self.reply.has_begun()
     }
 
-    /// What is left to be said and at hand, from its front, lent without a copy: the interim answer,
-    /// else the head, else what the pool or the pass pipe holds of the body.
+    /// The first piece of what is left to be said and at hand, lent without a copy: the interim answer,
+    /// else the head, else what the next chunk or the pass pipe holds of the body.
     pub fn offer<'a>(&'a self, objects: &'a Objects, pool: &'a Pool) -> &'a [u8]
         requires agrees { AllAgree objects.now.instances pool.now.used }
         requires there { IfSome (next_byte self.now.reply) (λ at. is_there at.0 objects.now.instances ≡ true) }
@@ -194,15 +195,32 @@ impl Client {
 
         // It is the front of what is left, where the chunks hold bytes of the instance.
         ensures left { IsFrontOfLeft self.now.reply (chunks_in pool.now.used) }
-
-        // Only what the pipe holds may come in two pieces.
-        ensures all { is_piped self.now.reply ≡ false → result.now ≡ at_hand self.now.reply (chunks_in pool.now.used) }
     {
         self.reply.offer(objects, pool)
     }
 
-    /// The client took so many bytes of what stands next: of the interim answer, else of the head, else
-    /// of the body. Where the reply was begun and all of it was said, its request is answered.
+    /// All that is left to be said and at hand, up to 65,536 bytes, in one piece: the interim answer, else the
+    /// head, and behind it what is there of the body, over at most 16 chunks or all that the pass pipe holds.
+    /// It is copied into the room only where it lies in several pieces.
+    pub fn gather<'a>(
+        &'a self,
+        objects: &'a Objects,
+        pool: &'a Pool,
+        room: &'a mut Room,
+    ) -> &'a [u8]
+        requires agrees { AllAgree objects.now.instances pool.now.used }
+        requires there { IfSome (next_byte self.now.reply) (λ at. is_there at.0 objects.now.instances ≡ true) }
+        ensures within { length result.now ≤ left_next self.now.reply }
+        ensures all { result.now ≡ take OFFER_LEN (at_hand self.now.reply (chunks_in pool.now.used)) }
+
+        // It is the front of what is left, where the chunks hold bytes of the instance.
+        ensures left { IsFrontOfLeft self.now.reply (chunks_in pool.now.used) }
+    {
+        self.reply.gather(objects, pool, room)
+    }
+
+    /// The client took so many bytes of what stands next: of the interim answer, else of the head, and
+    /// behind it of the body. Where the reply was begun and all of it was said, its request is answered.
     pub fn took(&mut self, n: usize)
         requires { n ≤ left_next self.old.reply }
         ensures said { self.new ≡ said_by n self.old }

@@ -18,6 +18,7 @@ mod body; // what the bytes behind a head are
 mod buffer; // bytes that go out at the front
 mod client; // the calls
 mod current; // what stands at the front
+mod gather; // what is at hand, in one piece
 mod heard; // the bytes that were heard
 mod interim; // the interim answer
 mod reply; // the reply under way
@@ -25,6 +26,7 @@ mod span; // a body that is lent
 
 pub use client::Client;
 pub use current::Current;
+pub use gather::{OFFER_LEN, Room};
 pub use heard::HEARD_LEN;
 pub use reply::Begin;
 

@@ -4,13 +4,14 @@ ghost use Rattle.std.specs.Borrow.{sem};
 ghost use Rattle.pp_holes.specs.Places.{shown as chunks_in};
 ghost use Rattle.pp_objects.specs.Agreement.{AllAgree};
 ghost use Rattle.pp_objects.specs.Instances.{is_there};
-ghost use Rattle.pp_client.specs.Replies.{IsBeginning, at_hand, body_left, body_said, ended, has_begun, is_piped, is_said, left_next, may_interim, next_byte, no_reply, said, with_begun, with_interim};
+ghost use Rattle.pp_client.specs.Replies.{IsBeginning, at_hand, body_left, body_said, ended, has_begun, is_said, left_next, may_interim, next_byte, no_reply, said, with_begun, with_interim};
 ghost use Rattle.pp_client.specs.Saying.{IsSaidFirst};
 ghost use Rattle.pp_client.specs.ReplyLending.{LendsPass, LendsText};
 
 use crate::buffer::Buffer;
+use crate::gather::{OFFER_LEN, Room, gather};
 use crate::interim::{Interim, last_of_continue};
-use crate::span::{body_at_hand, is_body_said};
+use crate::span::{first_piece, is_body_said};
 use arrayvec::ArrayVec;
 use pp_objects::{ObjectId, Objects};
 use pp_pass::Pass;
@@ -119,14 +120,13 @@ impl Reply {
         self.stage = Stage::Begun(reply);
     }
 
-    /// What is at hand of what stands next.
+    /// The first piece of what is at hand.
     pub(crate) fn offer<'a>(&'a self, objects: &'a Objects, pool: &'a Pool) -> &'a [u8]
         requires agrees { AllAgree objects.now.instances pool.now.used }
         requires there { IfSome (next_byte self.now) (λ at. is_there at.0 objects.now.instances ≡ true) }
         ensures within { length result.now ≤ left_next self.now }
         ensures front { result.now ≡ take (length result.now) (at_hand self.now (chunks_in pool.now.used)) }
         ensures empty { (result.now ≡ []) ↔ (at_hand self.now (chunks_in pool.now.used) ≡ []) }
-        ensures all { is_piped self.now ≡ false → result.now ≡ at_hand self.now (chunks_in pool.now.used) }
     {
         let left = self.interim.left();
         if left > 0 {
@@ -138,9 +138,38 @@ impl Reply {
                 if self.text.len() > 0 {
                     self.text.as_slice()
                 } else {
-                    body_at_hand(reply, &self.pass, objects, pool)
+                    first_piece(reply, &self.pass, objects, pool)
                 }
             }
+        }
+    }
+
+    /// What is at hand, as far as it fits into the room, in one piece: copied there only where it lies in several.
+    pub(crate) fn gather<'a>(
+        &'a self,
+        objects: &'a Objects,
+        pool: &'a Pool,
+        room: &'a mut Room,
+    ) -> &'a [u8]
+        requires agrees { AllAgree objects.now.instances pool.now.used }
+        requires there { IfSome (next_byte self.now) (λ at. is_there at.0 objects.now.instances ≡ true) }
+        ensures within { length result.now ≤ left_next self.now }
+        ensures all { result.now ≡ take OFFER_LEN (at_hand self.now (chunks_in pool.now.used)) }
+    {
+        let before = self.interim.left();
+        if before > 0 {
+            return last_of_continue(before);
+        }
+        match self.stage {
+            Stage::Due => &[],
+            Stage::Begun(reply) => gather(
+                self.text.as_slice(),
+                reply,
+                &self.pass,
+                objects,
+                pool,
+                room,
+            ),
         }
     }
 
@@ -156,11 +185,9 @@ impl Reply {
             return;
         }
         if let Stage::Begun(reply) = self.stage {
-            if self.text.len() > 0 {
-                self.text.took(n);
-            } else {
-                self.took_body(reply, n);
-            }
+            let of_body = n.saturating_sub(self.text.len());
+            self.text.took(n);
+            self.took_body(reply, of_body);
         }
     }
 

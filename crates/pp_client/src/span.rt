@@ -3,15 +3,15 @@ ghost use Rattle.std.specs.Prelude.{◌≡◌, ◌↔◌, ◌≤◌, [], length,
 ghost use Rattle.pp_holes.specs.Places.{shown as chunks_in};
 ghost use Rattle.pp_objects.specs.Agreement.{AllAgree};
 ghost use Rattle.pp_objects.specs.Instances.{is_there};
-ghost use Rattle.pp_client.specs.Replies.{IsBeginning, body_at_hand, body_left, is_body_said, is_pipe, next_in};
+ghost use Rattle.pp_client.specs.Replies.{IsBeginning, body_at_hand, body_left, is_body_said, next_in};
 
 use crate::reply::Begin;
 use pp_objects::Objects;
 use pp_pass::Pass;
 use pp_pool::Pool;
 
-/// What is at hand of a body.
-pub(crate) fn body_at_hand<'a>(
+/// The first piece of what is at hand of a body.
+pub(crate) fn first_piece<'a>(
     reply: Begin,
     pass: &'a Pass,
     objects: &'a Objects,
@@ -23,7 +23,6 @@ pub(crate) fn body_at_hand<'a>(
     ensures within { length result.now ≤ body_left reply pass.now }
     ensures front { result.now ≡ take (length result.now) (body_at_hand reply pass.now (chunks_in pool.now.used)) }
     ensures empty { (result.now ≡ []) ↔ (body_at_hand reply pass.now (chunks_in pool.now.used) ≡ []) }
-    ensures all { is_pipe reply ≡ false → result.now ≡ body_at_hand reply pass.now (chunks_in pool.now.used) }
 {
     match reply {
         Begin::Page => &[],
@@ -39,7 +38,7 @@ pub(crate) fn body_at_hand<'a>(
 }
 
 /// The first so many bytes, or all.
-fn front(bytes: &[u8], most: u64) -> &[u8]
+pub(crate) fn front(bytes: &[u8], most: u64) -> &[u8]
     ensures { result.now ≡ take most bytes.now }
 {
     if most < bytes.len() as u64 {

@@ -105,6 +105,10 @@ const NO_ANSWERS: &[Exchange<'static>] = &[
         b"HTTP/1.1 200 OK\r\nContent-Length: 18446744073709551616\r\n\r\nhello"
     ),
     answers!("another protocol", b"SSH-2.0-OpenSSH_9.6\r\n"),
+    answers!(
+        "a status below 100 (RFC 9110, section 15)",
+        b"HTTP/1.1 099 Odd\r\nContent-Length: 2\r\n\r\nhi"
+    ),
     answers!("zeros", b"\0\0\0\0"),
     answers!("a folded line", b"HTTP/1.1 200 OK\r\nA: b\r\n c\r\n\r\n"),
     answers!(

@@ -182,6 +182,9 @@ const UNFILLED: &[Exchange<'static>] = &[
 const PRIVATE: &[u8] =
     b"HTTP/1.1 206 Partial Content\r\nETag: \"x\"\r\nCache-Control: private\r\nContent-Range: bytes 4-9/10\r\nContent-Length: 6\r\n\r\nsecret";
 
+/// Nothing new of the rest, which forbids sharing too.
+const PRIVATE_AS_BEFORE: &[u8] = b"HTTP/1.1 304 Not Modified\r\nCache-Control: private\r\n\r\n";
+
 const UNSHARED: &[Exchange<'static>] = &[
     Exchange {
         name: "what is held is not known any more, and its client is answered by an ask of its own",
@@ -223,6 +226,78 @@ const UNSHARED: &[Exchange<'static>] = &[
         wanted: &[
             Wanted::Count(Step::Dialled(80), 4),
             Wanted::Said(3, &[Part::Text(PAGE_502)]),
+        ],
+    },
+    Exchange {
+        name: "the front is for everybody, and the rest for one alone: from the second time on it costs an attempt",
+        acts: &[
+            Act::Tick(T),
+            Act::Connect,
+            Act::Say(1, GET_END),
+            Act::Reach(2),
+            Act::Answer(2, FRONT),
+            Act::Answer(2, PRIVATE),
+            Act::Answer(2, FRONT),
+            Act::Answer(2, PRIVATE),
+            Act::Answer(2, FRONT),
+            Act::Answer(2, PRIVATE_AS_BEFORE),
+            Act::Answer(2, FRONT),
+            Act::Answer(2, PRIVATE),
+        ],
+        wanted: &[
+            Wanted::Count(Step::Dialled(80), 1),
+            Wanted::Asked(
+                2,
+                &[
+                    ASK_END,
+                    ASK_BEHIND_FRONT,
+                    ASK_END,
+                    ASK_BEHIND_FRONT,
+                    ASK_END,
+                    ASK_BEHIND_FRONT,
+                    ASK_END,
+                    ASK_BEHIND_FRONT,
+                ],
+            ),
+            Wanted::Said(1, &[Part::Text(PAGE_502)]),
+        ],
+    },
+    Exchange {
+        name: "so does the first one, where nobody filled a hole of a row before",
+        acts: &[
+            Act::Tick(T),
+            Act::Connect,
+            Act::Say(1, GET_END),
+            Act::Reach(2),
+            Act::Answer(2, FRONT),
+            Act::Answer(2, BUSY),
+            Act::Answer(2, BUSY),
+            Act::Answer(2, BUSY),
+            Act::Answer(2, FRONT),
+            Act::Answer(2, PRIVATE),
+            Act::Answer(2, FRONT),
+            Act::Answer(2, PRIVATE),
+            Act::Answer(2, FRONT),
+            Act::Answer(2, PRIVATE),
+        ],
+        wanted: &[
+            Wanted::Count(Step::Dialled(80), 1),
+            Wanted::Asked(
+                2,
+                &[
+                    ASK_END,
+                    ASK_BEHIND_FRONT,
+                    ASK_BEHIND_FRONT,
+                    ASK_BEHIND_FRONT,
+                    ASK_END,
+                    ASK_BEHIND_FRONT,
+                    ASK_END,
+                    ASK_BEHIND_FRONT,
+                    ASK_END,
+                    ASK_BEHIND_FRONT,
+                ],
+            ),
+            Wanted::Said(1, &[Part::Text(PAGE_502)]),
         ],
     },
 ];

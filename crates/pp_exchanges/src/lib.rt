@@ -33,11 +33,15 @@ mod leaving; // clients that are lost
 #[cfg(test)]
 mod limits; // of clients, connections and buffers
 #[cfg(test)]
+mod one_ask; // connections that are not for the next request
+#[cfg(test)]
 mod pipelining; // asks behind one another on a connection
 #[cfg(test)]
 mod unseen; // what nobody will see
 
 // The cache.
+#[cfg(test)]
+mod for_whom; // whom a response is for, and how long
 #[cfg(test)]
 mod hits; // replies from what is held
 #[cfg(test)]

@@ -70,6 +70,11 @@ const NO_TARGETS: &[Exchange<'static>] = &[
         BAD
     ),
     says!(
+        "a tunnel to a URL (RFC 9110, section 9.3.6)",
+        b"CONNECT http://h/a HTTP/1.1\r\nHost: h\r\n\r\n",
+        BAD
+    ),
+    says!(
         "another scheme",
         b"GET https://h/a HTTP/1.1\r\nHost: h\r\n\r\n",
         BAD

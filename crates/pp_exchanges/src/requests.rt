@@ -242,6 +242,24 @@ const REPLIES: &[Exchange<'static>] = &[
         )],
     },
     Exchange {
+        name: "a whole that looks like several ranges is one body",
+        acts: &[
+            Act::Connect,
+            Act::Say(1, GET),
+            Act::Reach(2),
+            Act::Answer(
+                2,
+                b"HTTP/1.1 200 OK\r\nContent-Type: multipart/byteranges; boundary=b\r\nContent-Length: 7\r\n\r\n--b--\r\n",
+            ),
+        ],
+        wanted: &[Wanted::Said(
+            1,
+            &[Part::Text(
+                b"HTTP/1.1 200 OK\r\ncontent-type: multipart/byteranges; boundary=b\r\nvia: 1.1 polipo\r\ncontent-length: 7\r\nconnection: keep-alive\r\n\r\n--b--\r\n",
+            )],
+        )],
+    },
+    Exchange {
         name: "fields of one connection stay behind, and those that Connection names",
         acts: &[
             Act::Connect,

@@ -1,5 +1,5 @@
 // A log, happening by happening.
-use pp_play::{ASK, Act, GET, Pace, RESPONSE, Step, T, named_step, play};
+use pp_play::{ASK, Act, GET, Pace, REPLY, RESPONSE, Step, T, named_step, play};
 use pp_text::OutOfMemory;
 use pp_world::{Decision, DiskOp, Happening, Remark};
 use std::alloc::{AllocError, Global};
@@ -45,7 +45,7 @@ enum Op {
 }
 
 /// A plain GET: its origin is asked on a new connection, what comes is kept on the disk whole, and the reply is written from
-/// what is kept, its head and its body apart.
+/// what is kept, its head and its body at once.
 const PLAIN: &[Line<'static>] = &[
     Line::Woke,
     Line::Uses(b"polipo-cache"),
@@ -78,14 +78,7 @@ const PLAIN: &[Line<'static>] = &[
     Line::Of(1, Step::Taken(0, Decision::Hit(0, 5))),
     Line::Waits(&[1, 2], &[1]),
     Line::CanWrite(1),
-    Line::Said(
-        1,
-        154,
-        b"HTTP/1.1 200 OK\r\netag: \"x\"\r\ndate: Sun, 06 Nov 1994 08:49:37 GMT\r\ncache-control: max-age=60\r\nvia: 1.1 polipo\r\ncontent-length: 5\r\nconnection: keep-alive\r\n\r\n",
-    ),
-    Line::Waits(&[1, 2], &[1]),
-    Line::CanWrite(1),
-    Line::Said(1, 5, b"hello"),
+    Line::Said(1, 159, REPLY),
     Line::Waits(&[1, 2], &[]),
     Line::Stopped,
     Line::Of(1, Step::Shut),

@@ -44,9 +44,9 @@ left_in e = elim (is_being_asked e) [ true ↦ Some e | false ↦ None ]
 abbrev pub asking : State → ℕ → Option Exchange
 asking s n = elim (conn s n) [ None ↦ None | Some k ↦ first_some (λ m. option_and_then left_in (exchange s m)) k.line ]
 
--- what was heard of the body of its request
+-- what was heard of the body of its request, and of no other
 abbrev pub body_heard : State → Exchange → Bytes
-body_heard s e = elim (find (is_for e) s.clients) [ None ↦ [] | Some c ↦ take e.body_left c.heard ]
+body_heard s e = elim (find (is_for e) s.clients) [ None ↦ [] | Some c ↦ take (min e.body_left c.body_left) c.heard ]
 
 -- what is there to be asked next
 abbrev pub left_to_ask : State → Exchange → Bytes

@@ -96,6 +96,10 @@ is_out course = false
 abbrev pub without_row : Client → Client
 without_row c = elim (is_begun c || c.has_given_up) [ true ↦ c | false ↦ record c { course = Trying 0; has_given_up = true } ]
 
+-- a row that may not be shared is cleared: the same; where a row was cleared for the request before, an attempt is lost
+abbrev pub without_shared_row : ℕ → Client → Client
+without_shared_row most c = elim (c.has_given_up && not (is_begun c)) [ true ↦ record c { course = lost_one most c.course } | false ↦ without_row c ]
+
 abbrev pub is_unfilled : State → Exchange → Bool
 is_unfilled s e = elim e.aim [
   | Through ↦ false

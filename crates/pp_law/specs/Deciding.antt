@@ -12,7 +12,7 @@ use Rattle.pp_reply.specs.Texts.{page}
 use Rattle.pp_target.specs.Key.{Key, text_of}
 use Rattle.pp_world.specs.declared.note.Decision.{Decision}
 use Rattle.pp_world.specs.declared.note.Decision.TheVariants.{Refuse, Hit, Part, Head, NotModified, Unsatisfiable, Relay, Validate, Fetch, Pass}
-use Rattle.pp_law.specs.Closing.{is_of, forsake, leave}
+use Rattle.pp_law.specs.Closing.{is_of, leave}
 use Rattle.pp_law.specs.Connections.{on_client}
 use Rattle.pp_law.specs.Lists.{Bytes, is_some_with}
 use Rattle.pp_law.specs.Requests.{Parsed, NoHeadYet, NoHead, IsRequest, key_in, keeps_after, asks_head, expects_interim}
@@ -52,9 +52,9 @@ refuse c status s = swept (leave (is_of c.number) (on_client c.number (refused_w
 unfoldable pub add_exchange : Exchange → State → State
 add_exchange e s = record s { exchanges = s.exchanges ++ e ∷ []; next_exchange = s.next_exchange + 1 }
 
--- the exchange begun last is the only one of its request
+-- the exchange begun last is the only one of its request: the one before is nobody's, and over where it has no place
 unfoldable pub begin_exchange : Exchange → State → State
-begin_exchange e s = add_exchange e (forsake (λ x. is_some_with (λ n. is_of n x) e.asker) s)
+begin_exchange e s = add_exchange e (leave (λ x. is_some_with (λ n. is_of n x) e.asker) s)
 
 abbrev pub is_pass : Decision → Bool
 is_pass Pass = true

@@ -33,10 +33,10 @@ body_part s c r = elim (is_passing r.decision) [
 abbrev pub reply_part : State → Client → Bytes
 reply_part s c = elim (reply_of c) [
   | None ↦ []
-  | Some r ↦ elim r.has_begun [ false ↦ [] | true ↦ elim (is_empty r.head_left) [ false ↦ r.head_left | true ↦ body_part s c r ] ]
+  | Some r ↦ elim r.has_begun [ false ↦ [] | true ↦ r.head_left ++ body_part s c r ]
 ]
 
--- the interim answer, the head of the reply, and what is there of its body
+-- the interim answer; then the head of the reply, and behind it what is there of its body
 abbrev pub offer : State → Client → Bytes
 offer s c = elim (is_empty c.interim_left) [ false ↦ c.interim_left | true ↦ reply_part s c ]
 

@@ -20,7 +20,7 @@ use Rattle.pp_valid.specs.declared.content_range.ContentRange.{ContentRange}
 use Rattle.pp_valid.specs.declared.content_range.ContentRange.TheVariants.{Span, Unsatisfied}
 use Rattle.pp_valid.specs.declared.version.Version.{Version}
 use Rattle.pp_law.specs.Chunks.{joined, note_use}
-use Rattle.pp_law.specs.Connections.{exchange, on_exchange, is_for, lose_attempt}
+use Rattle.pp_law.specs.Connections.{exchange, on_exchange, on_client_of, is_for, attempts_of, without_shared_row, lose_attempt}
 use Rattle.pp_law.specs.Lists.{Bytes, change, is_some_with}
 use Rattle.pp_law.specs.Passing.{passed_by}
 use Rattle.pp_law.specs.Stages.{is_begun, bound_of}
@@ -154,6 +154,12 @@ settle e head v s = elim (is_some_with (may_join e head v) (known_version s (key
   | false ↦ settle_on e head v (make_row (key_of e) v (kept_of head.fields (times_for e head s)) (times_for e head s) s)
 ]
 
+-- ---- what forbids sharing is never shared
+
+-- its row is cleared, and its request is decided again without it
+unfoldable pub not_shared : Exchange → State → State
+not_shared e s = on_client_of e (without_shared_row (attempts_of e)) (drop_answer e (clear (key_of e) s))
+
 -- ---- 304 (RFC 2616, section 10.3.5)
 
 -- nothing of a body comes
@@ -174,10 +180,9 @@ unchanged e head s = elim (is_some_with (names_version e) (known_version s (key_
 abbrev pub is_of_another : Response → State → Bytes → Bool
 is_of_another head s key = is_some_with (λ v. names_other_tag head.fields v.tag) (known_version s key)
 
--- what forbids sharing is never shared: its row is cleared, and nothing is counted
 unfoldable pub not_modified : Exchange → Response → State → State
 not_modified e head s = elim (forbids_sharing head) [
-  | true ↦ drop_answer e (clear (key_of e) s)
+  | true ↦ not_shared e s
   | false ↦ elim (is_of_another head s (key_of e)) [ true ↦ useless e (clear (key_of e) s) | false ↦ unchanged e head s ]
 ]
 
@@ -211,7 +216,7 @@ other_head e head rule s = elim (is_widened e head) [
 -- to a follower's ask: only where it cleared the row, and is not a part that was asked for another's sake
 unfoldable pub other_part : Exchange → Response → BodyRule → State → State
 other_part e head rule s = elim (is_private_part head) [
-  | true ↦ drop_answer e (clear (key_of e) s)
+  | true ↦ not_shared e s
   | false ↦ elim (clears_row head) [ true ↦ relay_head e head rule (cleared_by head e s) | false ↦ useless e s ]
 ]
 

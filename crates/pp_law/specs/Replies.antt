@@ -1,6 +1,6 @@
 -- How a reply begins, goes on and ends, and the request behind it (RFC 2616, sections 6, 8.1.2.2, 8.2.3 and 13).
 use Rattle.std.specs.List.{list_any}
-use Rattle.std.specs.Prelude.{ℕ, zero, suc, ◌+◌, ◌-◌, ◌/◌, Bool, true, false, ◌==◌, ◌&&◌, ◌||◌, not, nat_lt, List, [], length, drop, map, Option, Some, None}
+use Rattle.std.specs.Prelude.{ℕ, zero, suc, ◌+◌, ◌-◌, ◌/◌, Bool, true, false, ◌==◌, ◌&&◌, ◌||◌, not, nat_lt, nat_le, List, [], length, drop, map, Option, Some, None}
 use Rattle.pp_fresh.specs.Age.{age_of}
 use Rattle.pp_pass.specs.Pipe.{without_first}
 use Rattle.pp_plan.specs.Requests.{is_head}
@@ -18,7 +18,6 @@ use Rattle.pp_law.specs.Closing.{close_client, forsake, is_of}
 use Rattle.pp_law.specs.Hearing.{with_front}
 use Rattle.pp_law.specs.Connections.{on_client, each_client, is_for}
 use Rattle.pp_law.specs.Lists.{Bytes, is_some_with}
-use Rattle.pp_law.specs.Offers.{is_at_body}
 use Rattle.pp_law.specs.Requests.{Parsed, NoHeadYet, NoHead, IsRequest, keeps_open, has_request}
 use Rattle.pp_law.specs.Stages.{is_begun, is_headed, is_passing, on_passed, passed_of, reply_of}
 use Rattle.pp_law.specs.State.{State, Client, Exchange, Instance, Passed, Brought, Awaited, Useless, Joins, Passes, TooWide, Course, Trying, OutOfTries, AskTooLong, RowRefused, Undecided, Waiting, Passing, Answering, Reply}
@@ -122,12 +121,16 @@ begin_replies s = swept (forsake (is_outrun s) (record s { clients = map (begun_
 
 abbrev pub said_of_body : ℕ → Reply → Client → Client
 said_of_body n r c = elim (is_passing r.decision) [
-  | true ↦ on_passed (λ p. record p { pipe = without_first n p.pipe }) c
+  | true ↦ on_passed (λ p. record p { pipe = without_first n p.pipe }) (record c { stage = Answering r })
   | false ↦ record c { stage = Answering (record r { at = r.at + n }) }
 ]
 
+-- of its head, and behind it of its body
 abbrev pub said_of : ℕ → Reply → Client → Client
-said_of n r c = elim (is_empty r.head_left) [ false ↦ record c { stage = Answering (record r { head_left = drop n r.head_left }) } | true ↦ said_of_body n r c ]
+said_of n r c = elim (nat_le n (length r.head_left)) [
+  | true ↦ record c { stage = Answering (record r { head_left = drop n r.head_left }) }
+  | false ↦ said_of_body (n - length r.head_left) (record r { head_left = [] }) c
+]
 
 abbrev pub said_by : ℕ → Client → Client
 said_by n c = elim (is_empty c.interim_left) [
@@ -143,8 +146,12 @@ use_chunks (suc more) id i s = use_chunks more id (i + 1) (use_chunk id i s)
 unfoldable pub use_from : ℕ → Next → State → State
 use_from n x s = use_chunks ((x.at + n - 1) / chunk_len + 1 - x.at / chunk_len) x.source.id (x.at / chunk_len) s
 
+-- how many of the bytes that were said are of the body
+abbrev pub of_body : ℕ → Client → ℕ
+of_body n c = elim (is_empty c.interim_left) [ false ↦ 0 | true ↦ elim (reply_of c) [ None ↦ 0 | Some r ↦ n - length r.head_left ] ]
+
 unfoldable pub use_said : ℕ → Client → State → State
-use_said n c s = elim (is_at_body c && nat_lt 0 n) [ false ↦ s | true ↦ elim (next_of s c) [ None ↦ s | Some x ↦ use_from n x s ] ]
+use_said n c s = elim (nat_lt 0 (of_body n c)) [ false ↦ s | true ↦ elim (next_of s c) [ None ↦ s | Some x ↦ use_from (of_body n c) x s ] ]
 
 -- ---- a reply is over
 

@@ -176,7 +176,7 @@ pub record Client : Type 0 where
   pub waits_on : Option Shared  -- before an exchange of its own
   pub brought : Brought
   pub course : Course
-  pub has_given_up : Bool  -- a row whose hole nobody filled was cleared for its request
+  pub has_given_up : Bool  -- a row was cleared for its request: nobody filled its hole, or it may not be shared
   pub interim_left : Bytes
   pub closes : Bool  -- its reply is the last
   pub is_closing : Bool  -- its cause to be closed has come, and it counts as closed

@@ -1,5 +1,5 @@
 -- What is done to a client keeps the instance that it is answered from, or it is answered from none.
-use Rattle.std.proofs.Common.{◌≡◌, refl, ℕ, ◌+◌, ◌-◌, Bool, true, false, not, ◌==◌, ◌&&◌, ◌++◌, drop, length, Option, Some, None, sym, ap, ◌∙◌}
+use Rattle.std.proofs.Common.{◌≡◌, refl, ℕ, ◌+◌, ◌-◌, Bool, true, false, not, ◌==◌, ◌&&◌, nat_le, [], ◌++◌, drop, length, Option, Some, None, sym, ap, ◌∙◌}
 use Rattle.pp_pass.specs.Pipe.{without_first}
 use Rattle.pp_reply.specs.Keeping.{is_end_known}
 use Rattle.pp_text.specs.Bytes.{is_empty}
@@ -102,22 +102,27 @@ goes_on c r q d has number stage source decision front = record {
     was : c.stage ≡ Answering r
     was = of c.stage has
 
-said_of_body-by : (n : ℕ) (r : Reply) (c : Client) (passing : Bool) → reply_of c ≡ Some r
+said_of_body-by : (n : ℕ) (r q : Reply) (c : Client) (passing : Bool) → reply_of c ≡ Some r → q.source ≡ r.source → q.decision ≡ r.decision
     → SameClient (elim passing as (λ x. Client) [
-      | true ↦ on_passed (λ p. record p { pipe = without_first n p.pipe }) c
-      | false ↦ record c { stage = Answering (record r { at = r.at + n }) }
+      | true ↦ on_passed (λ p. record p { pipe = without_first n p.pipe }) (record c { stage = Answering q })
+      | false ↦ record c { stage = Answering (record q { at = q.at + n }) }
     ]) c
-said_of_body-by n r c true has = on_passed-same (λ p. record p { pipe = without_first n p.pipe }) c
-said_of_body-by n r c false has = goes_on c r (record r { at = r.at + n }) _ has refl refl refl refl refl
+said_of_body-by n r q c true has source decision =
+    let d : Client = record c { stage = Answering q } in
+    same_on _ d c (on_passed-same (λ p. record p { pipe = without_first n p.pipe }) d) (goes_on c r q d has refl refl source decision refl)
+said_of_body-by n r q c false has source decision = goes_on c r (record q { at = q.at + n }) _ has refl refl source decision refl
 
-said_of-by : (n : ℕ) (r : Reply) (c : Client) (empty : Bool) → reply_of c ≡ Some r
-    → SameClient (elim empty as (λ x. Client) [ false ↦ record c { stage = Answering (record r { head_left = drop n r.head_left }) } | true ↦ said_of_body n r c ]) c
-said_of-by n r c false has = goes_on c r (record r { head_left = drop n r.head_left }) _ has refl refl refl refl refl
-said_of-by n r c true has = said_of_body-by n r c (is_passing r.decision) has
+said_of-by : (n : ℕ) (r : Reply) (c : Client) (of_head : Bool) → reply_of c ≡ Some r
+    → SameClient (elim of_head as (λ x. Client) [
+      | true ↦ record c { stage = Answering (record r { head_left = drop n r.head_left }) }
+      | false ↦ said_of_body (n - length r.head_left) (record r { head_left = [] }) c
+    ]) c
+said_of-by n r c true has = goes_on c r (record r { head_left = drop n r.head_left }) _ has refl refl refl refl refl
+said_of-by n r c false has = said_of_body-by (n - length r.head_left) r (record r { head_left = [] }) c (is_passing r.decision) has refl refl
 
 said_reply : (n : ℕ) (c : Client) (reply : Option Reply) → reply_of c ≡ reply → SameClient (elim reply as (λ x. Client) [ None ↦ c | Some r ↦ said_of n r c ]) c
 said_reply n c None has = client_same c
-said_reply n c (Some r) has = said_of-by n r c (is_empty r.head_left) has
+said_reply n c (Some r) has = said_of-by n r c (nat_le n (length r.head_left)) has
 
 said_interim : (n : ℕ) (c : Client) (empty : Bool)
     → SameClient (elim empty as (λ x. Client) [ false ↦ record c { interim_left = drop n c.interim_left } | true ↦ elim (reply_of c) as (λ x. Client) [ None ↦ c | Some r ↦ said_of n r c ] ]) c

@@ -15,9 +15,8 @@ use Rattle.pp_law.specs.Decisions.{kind_of, fits}
 use Rattle.pp_law.specs.Followers.{need_of, filling_exchange, fill_with, fill_span, fill_next, fill_for, fill, is_useless_ask, give_up_asks}
 use Rattle.pp_law.specs.Hearing.{heard_by}
 use Rattle.pp_law.specs.Lists.{Bytes, change, is_some_with}
-use Rattle.pp_law.specs.Offers.{is_at_body}
 use Rattle.pp_law.specs.Passing.{pour}
-use Rattle.pp_law.specs.Replies.{begun_at_end, is_outrun, begin_replies, use_chunks, use_from, use_said, is_said, next_request, end_reply, end_said, is_finished, close_finished, end_replies, regained_by, regained}
+use Rattle.pp_law.specs.Replies.{begun_at_end, is_outrun, begin_replies, use_chunks, use_from, use_said, of_body, is_said, next_request, end_reply, end_said, is_finished, close_finished, end_replies, regained_by, regained}
 use Rattle.pp_law.specs.Requests.{key_in}
 use Rattle.pp_law.specs.Stages.{is_passing, on_passed, bound_of}
 use Rattle.pp_law.specs.State.{State, AskTooLong, Client, Exchange, Instance, Passed}
@@ -76,8 +75,8 @@ unfolding add_exchange
 add_exchange-sound {b} e s number none h = sound (exchange_pushed b s e number none (facts_of h))
 
 pub begin_exchange-sound : {b : Since} (e : Exchange) (s : State) → e.number ≡ s.next_exchange → bound_of e ≡ None → Sound b s → Sound b (begin_exchange e s)
-unfolding begin_exchange forsake
-begin_exchange-sound e s number none h = add_exchange-sound e _ number none (forsake-sound (λ x. is_some_with (λ n. is_of n x) e.asker) s h)
+unfolding begin_exchange leave forsake
+begin_exchange-sound e s number none h = add_exchange-sound e _ number none (leave-sound (λ x. is_some_with (λ n. is_of n x) e.asker) s h)
 
 pub ask_for-sound : {b : Since} (c : Client) (d : Decision) (head : Request) (key : Key) (kind : AskKind) (s : State) → Sound b s → Sound b (ask_for c d head key kind s)
 unfolding ask_for leave forsake on_client
@@ -200,7 +199,7 @@ use_from-sound n x s h = use_chunks-sound _ x.source.id (x.at / chunk_len) s h
 
 pub use_said-sound : {b : Since} (n : ℕ) (c : Client) (s : State) → Sound b s → Sound b (use_said n c s)
 unfolding use_said
-use_said-sound n c s h = when (is_at_body c && nat_lt 0 n) (each_of (next_of s c) h (λ x. use_from-sound n x s h)) h
+use_said-sound n c s h = when (nat_lt 0 (of_body n c)) (each_of (next_of s c) h (λ x. use_from-sound (of_body n c) x s h)) h
 
 pub end_reply-sound : {b : Since} (c : Client) (s : State) → Sound b s → Sound b (end_reply c s)
 unfolding end_reply

@@ -1,7 +1,7 @@
 -- Changes of one connection, exchange or client, and an exchange that is over, keep what is sound.
-use Rattle.std.proofs.Common.{◌≡◌, refl, ℕ, Bool, true, false, ◌||◌, not, ◌==◌, List, [], ◌∷◌, map, filter, cond, Some, None, sym, subst, ap, ◌∙◌}
+use Rattle.std.proofs.Common.{◌≡◌, refl, ℕ, Bool, true, false, ◌&&◌, ◌||◌, not, ◌==◌, List, [], ◌∷◌, map, filter, cond, Some, None, sym, subst, ap, ◌∙◌}
 use Rattle.pp_target.specs.Key.{text_of}
-use Rattle.pp_law.specs.Connections.{client, conn, exchange, is_client, is_conn, is_exchange, is_for, each_client, each_conn, each_exchange, on_conn, on_exchange, on_client, on_client_of, attempts_of, lost_one, without_row, is_unfilled, give_up_row, charge, lose_attempt, fail, without_ask, end_exchange}
+use Rattle.pp_law.specs.Connections.{client, conn, exchange, is_client, is_conn, is_exchange, is_for, each_client, each_conn, each_exchange, on_conn, on_exchange, on_client, on_client_of, attempts_of, lost_one, without_row, without_shared_row, is_unfilled, give_up_row, charge, lose_attempt, fail, without_ask, end_exchange}
 use Rattle.pp_law.specs.Stages.{is_begun}
 use Rattle.pp_law.specs.State.{State, Course, Trying, OutOfTries, Client, Conn, Exchange}
 use Rattle.pp_laws.specs.Runs.{IsIn}
@@ -52,6 +52,13 @@ each_exchange-sound f each (n ∷ ns) s h = each_exchange-sound f each ns _ (eac
 without_row-by : (c : Client) (begun : Bool) → SameClient (elim begun as (λ x. Client) [ true ↦ c | false ↦ record c { course = Trying 0; has_given_up = true } ]) c
 without_row-by c true = client_same c
 without_row-by c false = same_parts _ c refl refl refl
+
+pub without_shared_row-by : (most : ℕ) (c : Client) → SameClient (without_shared_row most c) c
+without_shared_row-by most c = by (c.has_given_up && not (is_begun c))
+  where
+    by : (again : Bool) → SameClient (elim again as (λ x. Client) [ true ↦ record c { course = lost_one most c.course } | false ↦ without_row c ]) c
+    by true = same_parts _ c refl refl refl
+    by false = without_row-by c (is_begun c || c.has_given_up)
 
 pub give_up_row-sound : {b : Since} (e : Exchange) (s : State) → Sound b s → Sound b (give_up_row e s)
 unfolding give_up_row

@@ -9,18 +9,19 @@ use Rattle.pp_objects.specs.Kept.{kept_of}
 use Rattle.pp_target.specs.Key.{Key, text_of}
 use Rattle.pp_text.specs.Fields.{has_field}
 use Rattle.pp_valid.specs.declared.version.Version.{Version}
-use Rattle.pp_law.specs.Connections.{exchange, is_for, attempts_of, lost_one, lose_attempt}
+use Rattle.pp_law.specs.Connections.{exchange, is_for, attempts_of, lost_one, without_shared_row, lose_attempt}
 use Rattle.pp_law.specs.Lists.{Bytes, is_some_with}
-use Rattle.pp_law.specs.OwnHeads.{key_of, first_offset, span_to_come, is_asked_by, tell, useless, times_for, renewed, renew, settle_on, renew_row, refresh, may_refresh, settle_known, known_version, settle, names_version, nothing_to_come, settle_unchanged, not_modified, clears_row, cleared_by, is_widened, relay_head, other_head, other_part, own_head, is_bound, lacks_next, count_elsewhere, part_head, filling_head, drop_answer, use_body, version_in, forbids_sharing, is_private_part, unchanged, is_of_another, is_full_answer, may_join}
+use Rattle.pp_law.specs.OwnHeads.{key_of, first_offset, span_to_come, is_asked_by, tell, useless, times_for, renewed, renew, settle_on, renew_row, refresh, may_refresh, settle_known, known_version, settle, names_version, nothing_to_come, settle_unchanged, not_modified, not_shared, clears_row, cleared_by, is_widened, relay_head, other_head, other_part, own_head, is_bound, lacks_next, count_elsewhere, part_head, filling_head, drop_answer, use_body, version_in, forbids_sharing, is_private_part, unchanged, is_of_another, is_full_answer, may_join}
 use Rattle.pp_law.specs.Passing.{passed_by}
 use Rattle.pp_law.specs.Responses.{answer_with, by_aim, payload_of}
 use Rattle.pp_law.specs.State.{State, Answer, Body, Joining, Relaying, Dropping, Brought, Useless, Joins, Passes, TooWide, Exchange, Instance}
 use Rattle.pp_law.specs.Table.{is_same_version, is_row_of, row, clear, enter}
 use Rattle.pp_law.specs.ThroughHeads.{invalidates, key_named, is_same_host, clear_named, clear_each, places_named, invalidated, disproves, reads, disproved, through_head}
 use Rattle.pp_laws.specs.Runs.{IsIn}
-use Rattle.pp_laws.proofs.Binding.{Before, Behind, BindsTo, before_on, behind_aim, behind_each, behind_on, charge-behind, behind_use, behind_same, behind_when}
+use Rattle.pp_laws.proofs.Binding.{Before, Behind, BindsTo, before_on, behind_aim, behind_each, behind_on, behind_told, charge-behind, behind_use, behind_same, behind_when}
 use Rattle.pp_laws.proofs.Callers.{same_parts}
 use Rattle.pp_laws.proofs.Cases.{each_of, when}
+use Rattle.pp_laws.proofs.Exchanges.{without_shared_row-by}
 use Rattle.pp_laws.proofs.Finds.{RowIs, make_row-is, refresh-is}
 use Rattle.pp_laws.proofs.KeptClients.{clients_changed}
 use Rattle.pp_laws.proofs.Lists.{in_find, the_one}
@@ -165,11 +166,17 @@ unchanged-behind e head rule s noted empty p =
 before_clear : {b : Since} (e : Exchange) (s : State) → Before b e s → Before b e (clear (key_of e) s)
 before_clear e s p = before_on s _ (clear-untouched (key_of e) s) (clear-sound (key_of e) s p.is_sound) p
 
+not_shared-behind : {b : Since} (a : Answer) (e : Exchange) (s : State) → Before b e s → Behind b a e s (not_shared e s)
+unfolding not_shared
+not_shared-behind a e s p =
+    behind_told (without_shared_row (attempts_of e)) s _ (without_shared_row-by (attempts_of e))
+    (behind_on s _ _ (clear-untouched (key_of e) s) (drop_answer-behind a e _ (before_clear e s p)))
+
 not_modified-behind : {b : Since} (e : Exchange) (head : Response) (rule : BodyRule) (s : State) → is_noted e.aim ≡ true → rule ≡ Empty → Before b e s → Behind b (fresh e head rule) e s (not_modified e head s)
 unfolding not_modified
 not_modified-behind e head rule s noted empty p =
     behind_when (forbids_sharing head)
-    (λ is. behind_on s _ _ (clear-untouched (key_of e) s) (drop_answer-behind (fresh e head rule) e _ (before_clear e s p)))
+    (λ is. not_shared-behind (fresh e head rule) e s p)
     (λ isnt. behind_when (is_of_another head s (key_of e))
     (λ is. behind_on s _ _ (clear-untouched (key_of e) s) (useless-behind (fresh e head rule) e _ (before_clear e s p)))
     (λ same. unchanged-behind e head rule s noted empty p))
@@ -198,7 +205,7 @@ other_part-behind : {b : Since} (e : Exchange) (head : Response) (rule : BodyRul
 unfolding other_part
 other_part-behind e head rule s p =
     behind_when (is_private_part head)
-    (λ private. behind_on s _ _ (clear-untouched (key_of e) s) (drop_answer-behind (fresh e head rule) e _ (before_clear e s p)))
+    (λ private. not_shared-behind (fresh e head rule) e s p)
     (λ public. behind_when (clears_row head)
     (λ is. behind_on s _ _ (cleared_by-untouched head e s) (relay_head-behind e head rule _ (before_cleared head e s p)))
     (λ isnt. useless-behind (fresh e head rule) e s p))

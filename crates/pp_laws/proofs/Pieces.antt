@@ -30,7 +30,7 @@ use Rattle.pp_laws.proofs.Tests.{same_number}
 
 -- ---- the exchange whose response comes next
 
-front_by : (s : State) (line : List ℕ) (e : Exchange) → (elim line as (λ c. Option Exchange) [ [] ↦ None | n ∷ ns ↦ exchange s n ]) ≡ Some e → IsIn e s.exchanges × (first_of line ≡ Some e.number)
+pub front_by : (s : State) (line : List ℕ) (e : Exchange) → (elim line as (λ c. Option Exchange) [ [] ↦ None | n ∷ ns ↦ exchange s n ]) ≡ Some e → IsIn e s.exchanges × (first_of line ≡ Some e.number)
 front_by s [] e is = absurd (cc is)
 front_by s (n ∷ ns) e is = let there = in_find (is_exchange n) e s.exchanges is in (there.0, ap (λ m. Some m) (sym (same_number e.number n there.1)))
 
@@ -150,7 +150,7 @@ body_piece-sound {b} k a bytes s none there has h = by (front_of_line s k) refl
         body_piece_by k a e bytes s _ (body_of a.rule (a.raw ++ bytes)).outcome none there (opens k e s there is) h
         (deliver-behind a e bytes s refl (front_by s k.line e is).0 (is_fitting k a e s none there has is h) (set_apart e.number s none h))
 
-next_piece-sound : {b : Since} (k : Conn) (bytes : Bytes) (s : State) → b.excepts ≡ None → IsIn k s.conns → Sound b s → Sound b (next_piece k bytes s).state
+pub next_piece-sound : {b : Since} (k : Conn) (bytes : Bytes) (s : State) → b.excepts ≡ None → IsIn k s.conns → Sound b s → Sound b (next_piece k bytes s).state
 next_piece-sound {b} k bytes s none there h = by k.answer refl
   where
     by : (answer : Option Answer) → k.answer ≡ answer → Sound b (elim answer as (λ c. Piece) [ Some a ↦ body_piece k a bytes s | None ↦ head_piece k bytes s ]).state

@@ -57,7 +57,7 @@ body_of s closing r passed = elim (is_passing r.decision) [
 offered_of : State → Bool → Reply → Bytes → Bytes → Bytes
 offered_of s closing r passed interim = elim (is_empty interim) [
   | false ↦ interim
-  | true ↦ elim r.has_begun [ false ↦ [] | true ↦ elim (is_empty r.head_left) [ false ↦ r.head_left | true ↦ body_of s closing r passed ] ]
+  | true ↦ elim r.has_begun [ false ↦ [] | true ↦ r.head_left ++ body_of s closing r passed ]
 ]
 
 module _ (s : State) (held : HoldsWhatWasSent s) (r : Reply) (x : Instance) (source : source_of s r ≡ Some x) (no_pass : is_passing r.decision ≡ false) where
@@ -118,7 +118,7 @@ module _ (s : State) (held : HoldsWhatWasSent s) (r : Reply) (x : Instance) (sou
   front_sent : (interim head bytes : Bytes) (begun closing : Bool) (passed : Bytes)
       → bytes ≡ take (length bytes) (elim (is_empty interim) as (λ c. Bytes) [
         | false ↦ interim
-        | true ↦ elim begun as (λ c. Bytes) [ false ↦ [] | true ↦ elim (is_empty head) as (λ c. Bytes) [ false ↦ head | true ↦ body_of s closing r passed ] ]
+        | true ↦ elim begun as (λ c. Bytes) [ false ↦ [] | true ↦ head ++ body_of s closing r passed ]
       ])
       → AllSent s.sent x.key x.version r.at (drop (length (interim ++ head)) bytes)
   front_sent (i ∷ interim) head bytes begun closing passed is =
@@ -128,9 +128,14 @@ module _ (s : State) (held : HoldsWhatWasSent s) (r : Reply) (x : Instance) (sou
       nothing : (m : ℕ) → drop m (let l : Bytes = [] in l) ≡ []
       nothing zero = refl
       nothing (suc m) = refl
-  front_sent [] (h ∷ head) bytes true closing passed is = nothing_left _ (ap (drop (length (h ∷ head))) is ∙ drop_front (length bytes) (h ∷ head))
-  front_sent [] [] bytes true closing passed is =
-      subst (λ l. AllSent s.sent x.key x.version r.at l) (sym is) (sent-take s.sent x.key x.version r.at (length bytes) (body_of s closing r passed) (body_sent closing passed))
+  front_sent [] head bytes true closing passed is =
+      subst (λ l. AllSent s.sent x.key x.version r.at l) (sym (ap (drop (length head)) is ∙ behind_head head (body_of s closing r passed) (length bytes)))
+      (sent-take s.sent x.key x.version r.at (length bytes - length head) (body_of s closing r passed) (body_sent closing passed))
+    where
+      behind_head : (front behind : Bytes) (n : ℕ) → drop (length front) (take n (front ++ behind)) ≡ take (n - length front) behind
+      behind_head [] behind n = ap (λ m. take m behind) (let e : n ≡ n - 0 = omega arith in e)
+      behind_head (h ∷ front) behind zero = ap (λ m. take m behind) (let e : 0 ≡ 0 - suc (length front) = omega arith in e)
+      behind_head (h ∷ front) behind (suc n) = behind_head front behind n ∙ ap (λ m. take m behind) (let e : n - length front ≡ suc n - suc (length front) = omega arith in e)
 
 -- ---- what is said
 

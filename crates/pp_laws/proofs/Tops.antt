@@ -4,7 +4,7 @@ use Rattle.pp_target.specs.Key.{text_of}
 use Rattle.pp_peers.specs.declared.placing.Placed.TheVariants.{On, Dial, CloseThenDial, Wait}
 use Rattle.pp_peers.specs.declared.placing.Placed.{Placed}
 use Rattle.pp_law.specs.Connections.{client, conn, exchange, each_client, each_conn, each_exchange, on_conn, on_exchange, on_client, on_client_of, front_of_line, is_unfilled, give_up_row, charge, lose_attempt, may_ask_again, end_exchange, leave_place, lose_place, close_conn, place_for, put_on, if_unplaced, place_each, placing, WaitsDial, WaitsDrop, Placement}
-use Rattle.pp_law.specs.Closing.{forsake}
+use Rattle.pp_law.specs.Closing.{forsake, leave}
 use Rattle.pp_law.specs.Deciding.{add_exchange, begin_exchange}
 use Rattle.pp_law.specs.Followers.{fill_with, fill_span, fill_next, fill_for, fill, give_up_asks}
 use Rattle.pp_law.specs.Lists.{Bytes}
@@ -70,7 +70,7 @@ pub placing-top : (s : State) → (placing s).state.top ≡ s.top
 placing-top s = place_each-top _ s
 
 fill_with-top : (e : Exchange) (c : Client) (s : State) → (fill_with e c s).top ≡ s.top
-unfolding fill_with begin_exchange add_exchange forsake on_client
+unfolding fill_with begin_exchange add_exchange leave forsake on_client
 fill_with-top e c s = grind arith
 
 fill_span-top : (c : Client) (n : Next) (span : ℕ × ℕ) (s : State) → (fill_span c n span s).top ≡ s.top

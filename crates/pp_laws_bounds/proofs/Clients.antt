@@ -15,9 +15,8 @@ use Rattle.pp_law.specs.Decisions.{kind_of, fits}
 use Rattle.pp_law.specs.Followers.{need_of, filling_exchange, fill_with, fill_span, fill_next, fill_for, fill, is_useless_ask, give_up_asks}
 use Rattle.pp_law.specs.Hearing.{heard_by}
 use Rattle.pp_law.specs.Lists.{Bytes, change, is_some_with}
-use Rattle.pp_law.specs.Offers.{is_at_body}
 use Rattle.pp_law.specs.Passing.{pour}
-use Rattle.pp_law.specs.Replies.{begun_at_end, is_outrun, begin_replies, use_chunks, use_from, use_said, is_said, next_request, end_reply, end_said, is_finished, close_finished, end_replies, regained_by, regained}
+use Rattle.pp_law.specs.Replies.{begun_at_end, is_outrun, begin_replies, use_chunks, use_from, use_said, of_body, is_said, next_request, end_reply, end_said, is_finished, close_finished, end_replies, regained_by, regained}
 use Rattle.pp_law.specs.Requests.{key_in}
 use Rattle.pp_law.specs.Stages.{on_passed}
 use Rattle.pp_law.specs.State.{State, AskTooLong, Client, Exchange}
@@ -67,7 +66,7 @@ add_exchange-kept {but} e s none fresh h = kept (exchange_pushed but s e (s.next
 
 begin_exchange-kept : {but : List ℕ} (e : Exchange) (s : State) → e.place ≡ None → e.asked ≡ 0 → Kept but s → Kept but (begin_exchange e s)
 unfolding begin_exchange
-begin_exchange-kept e s none fresh h = add_exchange-kept e _ none fresh (forsake-kept (λ x. is_some_with (λ n. is_of n x) e.asker) s h)
+begin_exchange-kept e s none fresh h = add_exchange-kept e _ none fresh (leave-kept (λ x. is_some_with (λ n. is_of n x) e.asker) s h)
 
 ask_for-kept : {but : List ℕ} (c : Client) (d : Decision) (head : Request) (key : Key) (kind : AskKind) (s : State) → Kept but s → Kept but (ask_for c d head key kind s)
 unfolding ask_for
@@ -137,7 +136,7 @@ use_from-kept n x s h = use_chunks-kept _ x.source.id (x.at / chunk_len) s h
 
 pub use_said-kept : {but : List ℕ} (n : ℕ) (c : Client) (s : State) → Kept but s → Kept but (use_said n c s)
 unfolding use_said
-use_said-kept n c s h = when (is_at_body c && nat_lt 0 n) (each_of (next_of s c) h (λ x. use_from-kept n x s h)) h
+use_said-kept n c s h = when (nat_lt 0 (of_body n c)) (each_of (next_of s c) h (λ x. use_from-kept (of_body n c) x s h)) h
 
 end_reply-kept : {but : List ℕ} (c : Client) (s : State) → Kept but s → Kept but (end_reply c s)
 unfolding end_reply

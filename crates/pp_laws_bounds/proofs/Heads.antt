@@ -8,9 +8,9 @@ use Rattle.pp_objects.specs.Kept.{kept_of}
 use Rattle.pp_target.specs.Key.{Key, text_of}
 use Rattle.pp_text.specs.Fields.{has_field}
 use Rattle.pp_valid.specs.declared.version.Version.{Version}
-use Rattle.pp_law.specs.Connections.{exchange, is_for}
+use Rattle.pp_law.specs.Connections.{exchange, is_for, attempts_of, without_shared_row}
 use Rattle.pp_law.specs.Lists.{Bytes, is_some_with}
-use Rattle.pp_law.specs.OwnHeads.{key_of, span_to_come, is_asked_by, tell, use_body, drop_answer, useless, times_for, renewed, renew, settle_on, renew_row, refresh, may_refresh, settle_known, known_version, settle, names_version, nothing_to_come, settle_unchanged, unchanged, not_modified, clears_row, cleared_by, is_widened, relayed, relay_head, other_head, other_part, own_head, is_bound, lacks_next, count_elsewhere, part_head, filling_head, version_in, forbids_sharing, is_private_part, is_of_another, may_join}
+use Rattle.pp_law.specs.OwnHeads.{key_of, span_to_come, is_asked_by, tell, use_body, drop_answer, useless, times_for, renewed, renew, settle_on, renew_row, refresh, may_refresh, settle_known, known_version, settle, names_version, nothing_to_come, settle_unchanged, unchanged, not_shared, not_modified, clears_row, cleared_by, is_widened, relayed, relay_head, other_head, other_part, own_head, is_bound, lacks_next, count_elsewhere, part_head, filling_head, version_in, forbids_sharing, is_private_part, is_of_another, may_join}
 use Rattle.pp_law.specs.Passing.{passed_by}
 use Rattle.pp_law.specs.Responses.{by_aim}
 use Rattle.pp_law.specs.State.{State, Body, Joining, Dropping, Brought, Useless, Joins, Passes, TooWide, Exchange, Instance}
@@ -18,7 +18,7 @@ use Rattle.pp_law.specs.Table.{row, enter}
 use Rattle.pp_law.specs.ThroughHeads.{invalidates, key_named, is_same_host, clear_named, clear_each, places_named, invalidated, disproves, reads, disproved, through_head}
 use Rattle.pp_laws_bounds.proofs.Cases.{by_aim_of, each_of, when}
 use Rattle.pp_laws_bounds.proofs.Changes.{clients_changed, same_exchange}
-use Rattle.pp_laws_bounds.proofs.Exchanges.{clear-kept, lose_attempt-kept, on_exchange-kept}
+use Rattle.pp_laws_bounds.proofs.Exchanges.{clear-kept, lose_attempt-kept, on_client_of-kept, on_exchange-kept}
 use Rattle.pp_laws_bounds.proofs.Kept.{Kept, facts_of, kept}
 use Rattle.pp_laws_bounds.proofs.Rows.{enter-kept, make_row-kept, mark_row-kept, on_instance-kept}
 
@@ -77,11 +77,15 @@ unchanged-kept : {but : List ℕ} (e : Exchange) (head : Response) (s : State) �
 unfolding unchanged
 unchanged-kept e head s h = when (is_some_with (names_version e) (known_version s (key_of e)) && may_refresh e head s) (settle_unchanged-kept e _ (refresh-kept e head s h)) (useless-kept e s h)
 
+not_shared-kept : {but : List ℕ} (e : Exchange) (s : State) → Kept but s → Kept but (not_shared e s)
+unfolding not_shared
+not_shared-kept e s h = on_client_of-kept e (without_shared_row (attempts_of e)) _ (drop_answer-kept e _ (clear-kept (key_of e) s h))
+
 not_modified-kept : {but : List ℕ} (e : Exchange) (head : Response) (s : State) → Kept but s → Kept but (not_modified e head s)
 unfolding not_modified
 not_modified-kept e head s h =
     when (forbids_sharing head)
-    (drop_answer-kept e _ (clear-kept (key_of e) s h))
+    (not_shared-kept e s h)
     (when (is_of_another head s (key_of e)) (useless-kept e _ (clear-kept (key_of e) s h)) (unchanged-kept e head s h))
 
 -- ---- a response without a version
@@ -105,7 +109,7 @@ other_part-kept : {but : List ℕ} (e : Exchange) (head : Response) (rule : Body
 unfolding other_part
 other_part-kept e head rule s h =
     when (is_private_part head)
-    (drop_answer-kept e _ (clear-kept (key_of e) s h))
+    (not_shared-kept e s h)
     (when (clears_row head) (relay_head-kept e head rule _ (cleared_by-kept head e s h)) (useless-kept e s h))
 
 -- ---- heads by what was asked

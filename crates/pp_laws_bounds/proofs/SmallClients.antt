@@ -15,9 +15,8 @@ use Rattle.pp_law.specs.Decisions.{kind_of, fits}
 use Rattle.pp_law.specs.Followers.{need_of, filling_exchange, fill_with, fill_span, fill_next, fill_for, fill, is_useless_ask, give_up_asks}
 use Rattle.pp_law.specs.Hearing.{heard_by}
 use Rattle.pp_law.specs.Lists.{Bytes, is_some_with}
-use Rattle.pp_law.specs.Offers.{is_at_body}
 use Rattle.pp_law.specs.Passing.{pour}
-use Rattle.pp_law.specs.Replies.{begun_at_end, is_outrun, begin_replies, use_chunks, use_from, use_said, is_said, next_request, end_reply, end_said, is_finished, close_finished, end_replies, regained_by, regained}
+use Rattle.pp_law.specs.Replies.{begun_at_end, is_outrun, begin_replies, use_chunks, use_from, use_said, of_body, is_said, next_request, end_reply, end_said, is_finished, close_finished, end_replies, regained_by, regained}
 use Rattle.pp_law.specs.Requests.{key_in}
 use Rattle.pp_law.specs.Stages.{bound_of, on_passed}
 use Rattle.pp_law.specs.State.{State, AskTooLong, Client, Exchange}
@@ -66,8 +65,8 @@ unfolding add_exchange
 add_exchange-small {a} e s none fresh h = small (exchange_pushed a s e none fresh (facts_of h))
 
 begin_exchange-small : {a : As} (e : Exchange) (s : State) → e.number ≡ s.next_exchange → bound_of e ≡ None → Small a s → Small a (begin_exchange e s)
-unfolding begin_exchange forsake
-begin_exchange-small e s none fresh h = add_exchange-small e _ none fresh (forsake-small (λ x. is_some_with (λ n. is_of n x) e.asker) s h)
+unfolding begin_exchange leave forsake
+begin_exchange-small e s none fresh h = add_exchange-small e _ none fresh (leave-small (λ x. is_some_with (λ n. is_of n x) e.asker) s h)
 
 ask_for-small : {a : As} (c : Client) (d : Decision) (head : Request) (key : Key) (kind : AskKind) (s : State) → Small a s → Small a (ask_for c d head key kind s)
 unfolding ask_for leave forsake on_client
@@ -137,7 +136,7 @@ use_from-small n x s h = use_chunks-small _ x.source.id (x.at / chunk_len) s h
 
 pub use_said-small : {a : As} (n : ℕ) (c : Client) (s : State) → Small a s → Small a (use_said n c s)
 unfolding use_said
-use_said-small n c s h = when (is_at_body c && nat_lt 0 n) (each_of (next_of s c) h (λ x. use_from-small n x s h)) h
+use_said-small n c s h = when (nat_lt 0 (of_body n c)) (each_of (next_of s c) h (λ x. use_from-small (of_body n c) x s h)) h
 
 end_reply-small : {a : As} (c : Client) (s : State) → Small a s → Small a (end_reply c s)
 unfolding end_reply

@@ -8,9 +8,9 @@ use Rattle.pp_objects.specs.Kept.{kept_of}
 use Rattle.pp_target.specs.Key.{Key, text_of}
 use Rattle.pp_text.specs.Fields.{has_field}
 use Rattle.pp_valid.specs.declared.version.Version.{Version}
-use Rattle.pp_law.specs.Connections.{exchange, is_for, on_exchange}
+use Rattle.pp_law.specs.Connections.{exchange, is_for, on_exchange, attempts_of, without_shared_row}
 use Rattle.pp_law.specs.Lists.{Bytes, is_some_with}
-use Rattle.pp_law.specs.OwnHeads.{key_of, span_to_come, is_asked_by, tell, use_body, drop_answer, useless, times_for, renewed, renew, settle_on, renew_row, refresh, may_refresh, settle_known, known_version, settle, names_version, nothing_to_come, settle_unchanged, unchanged, not_modified, clears_row, cleared_by, is_widened, relayed, relay_head, other_head, other_part, own_head, is_bound, lacks_next, count_elsewhere, part_head, filling_head, version_in, forbids_sharing, is_private_part, is_of_another, may_join}
+use Rattle.pp_law.specs.OwnHeads.{key_of, span_to_come, is_asked_by, tell, use_body, drop_answer, useless, times_for, renewed, renew, settle_on, renew_row, refresh, may_refresh, settle_known, known_version, settle, names_version, nothing_to_come, settle_unchanged, unchanged, not_shared, not_modified, clears_row, cleared_by, is_widened, relayed, relay_head, other_head, other_part, own_head, is_bound, lacks_next, count_elsewhere, part_head, filling_head, version_in, forbids_sharing, is_private_part, is_of_another, may_join}
 use Rattle.pp_law.specs.Passing.{passed_by}
 use Rattle.pp_law.specs.Responses.{by_aim}
 use Rattle.pp_law.specs.State.{State, Body, Joining, Dropping, Brought, Useless, Joins, Passes, TooWide, Exchange, Instance}
@@ -18,7 +18,7 @@ use Rattle.pp_law.specs.Table.{row, enter}
 use Rattle.pp_law.specs.ThroughHeads.{invalidates, key_named, is_same_host, clear_named, clear_each, places_named, invalidated, disproves, reads, disproved, through_head}
 use Rattle.pp_laws_bounds.proofs.SmallCases.{by_aim_of, each_of, when}
 use Rattle.pp_laws_bounds.proofs.SmallChanges.{clients_changed, exchange_bound}
-use Rattle.pp_laws_bounds.proofs.SmallExchanges.{lose_attempt-small}
+use Rattle.pp_laws_bounds.proofs.SmallExchanges.{lose_attempt-small, on_client_of-small}
 use Rattle.pp_laws_bounds.proofs.Small.{As, Small, facts_of, small}
 use Rattle.pp_laws_bounds.proofs.SmallRows.{clear-small, enter-small, make_row-small, mark_row-small, on_instance-small}
 
@@ -55,7 +55,7 @@ refresh-small e head s h = renew_row-small e head (enter (key_of e) true s) (ent
 
 settle_on-small : {a : As} (e : Exchange) (head : Response) (v : Version) (s : State) → a.expects ≡ Some e.number → Small a s → Small a (settle_on e head v s)
 unfolding settle_on
-settle_on-small e head v s expects h = each_of (row s (key_of e)) h (λ x. tell-small e (Joins x.id (not (has_field (codes "age") head.fields))) _ (use_body-small e (Joining (span_to_come head v x.id)) s expects h))
+settle_on-small e head v s expects h = each_of (row s (key_of e)) h (λ x. tell-small e (Joins x.id (not (has_field (codes "age") head.fields))) _ (use_body-small e (Joining (span_to_come e head v x.id)) s expects h))
 
 settle_known-small : {a : As} (e : Exchange) (head : Response) (v : Version) (s : State) → a.expects ≡ Some e.number → Small a s → Small a (settle_known e head v s)
 unfolding settle_known
@@ -78,11 +78,15 @@ unchanged-small : {a : As} (e : Exchange) (head : Response) (s : State) → a.ex
 unfolding unchanged
 unchanged-small e head s expects h = when (is_some_with (names_version e) (known_version s (key_of e)) && may_refresh e head s) (settle_unchanged-small e _ expects (refresh-small e head s h)) (useless-small e s expects h)
 
+not_shared-small : {a : As} (e : Exchange) (s : State) → a.expects ≡ Some e.number → Small a s → Small a (not_shared e s)
+unfolding not_shared
+not_shared-small e s expects h = on_client_of-small e (without_shared_row (attempts_of e)) _ (drop_answer-small e _ expects (clear-small (key_of e) s h))
+
 not_modified-small : {a : As} (e : Exchange) (head : Response) (s : State) → a.expects ≡ Some e.number → Small a s → Small a (not_modified e head s)
 unfolding not_modified
 not_modified-small e head s expects h =
     when (forbids_sharing head)
-    (drop_answer-small e _ expects (clear-small (key_of e) s h))
+    (not_shared-small e s expects h)
     (when (is_of_another head s (key_of e)) (useless-small e _ expects (clear-small (key_of e) s h)) (unchanged-small e head s expects h))
 
 -- ---- a response without a version
@@ -106,7 +110,7 @@ other_part-small : {a : As} (e : Exchange) (head : Response) (rule : BodyRule) (
 unfolding other_part
 other_part-small e head rule s expects h =
     when (is_private_part head)
-    (drop_answer-small e _ expects (clear-small (key_of e) s h))
+    (not_shared-small e s expects h)
     (when (clears_row head) (relay_head-small e head rule _ expects (cleared_by-small head e s h)) (useless-small e s expects h))
 
 -- ---- heads by what was asked

@@ -1,12 +1,11 @@
 -- Whether a byte was sent, as a test; and files whose entry holds only what was sent.
-use Rattle.std.proofs.Common.{◌≡◌, refl, ℕ, zero, suc, ◌+◌, ◌-◌, ◌*◌, ◌<◌, ◌≤◌, Bool, true, false, ◌==◌, ◌&&◌, ◌||◌, List, [], ◌∷◌, ◌++◌, length, take, drop, get_or, slice_get, nat_le, bytes_eq, Option, Some, None, inl, inr, sym, subst, ap, ◌∙◌, arith}
-use Rattle.std.specs.Prelude.{min}
+use Rattle.std.proofs.Common.{◌≡◌, refl, ℕ, zero, suc, ◌+◌, ◌-◌, ◌<◌, ◌≤◌, Bool, true, false, ◌==◌, ◌&&◌, ◌||◌, List, [], ◌∷◌, ◌++◌, length, take, get_or, slice_get, nat_le, bytes_eq, Option, Some, None, inl, inr, sym, subst, ap, ◌∙◌, arith}
 use Rattle.std.proofs.lemmas.Bool.Decides.{nat_tests}
 use Rattle.std.proofs.lemmas.Option.{option_and_then_some}
 use Rattle.std.proofs.lemmas.Slice.Eq.{bytes_eq-Decides}
 use Rattle.pp_entry.specs.Entries.{Row, row_at}
 use Rattle.pp_entry.specs.Gates.{has_extent}
-use Rattle.pp_entry.specs.Texts.{body_at, chunks_of}
+use Rattle.pp_entry.specs.Texts.{body_at}
 use Rattle.pp_gate.specs.Files.{open_gates, extent_in, body}
 use Rattle.pp_gate.specs.Seal.{IsHonest}
 use Rattle.pp_gate.proofs.Ops.{AllLeft}

@@ -1,5 +1,5 @@
 -- What the tests of the law tell of an operation that begins.
-use Rattle.std.proofs.Common.{◌≡◌, refl, ℕ, zero, suc, ◌+◌, ◌-◌, ◌*◌, ◌/◌, ◌<◌, ◌≤◌, nat_lt, nat_le, min, Bool, true, false, not, ◌==◌, ◌&&◌, ◌||◌, List, [], ◌∷◌, ◌++◌, length, drop, find, get_or, replicate, bytes_eq, length-append, Option, Some, None, option_and_then, inl, inr, sym, subst, ap, ap₂, ◌∙◌, arith}
+use Rattle.std.proofs.Common.{◌≡◌, refl, ℕ, ◌-◌, ◌<◌, ◌≤◌, nat_lt, nat_le, Bool, true, false, not, ◌==◌, ◌&&◌, ◌||◌, List, [], ◌∷◌, length, replicate, bytes_eq, length-append, Option, Some, None, option_and_then, inl, inr, sym, subst, ap, ◌∙◌, arith}
 use Rattle.std.specs.List.{list_any}
 use Rattle.std.proofs.Math.ListN.{length-replicate}
 use Rattle.std.proofs.lemmas.Bool.Decides.{nat_tests}
@@ -11,12 +11,11 @@ use Rattle.pp_world.specs.declared.op.DiskOp.TheVariants.{Draft, SyncDraft, Publ
 use Rattle.pp_target.specs.Name.{name_of}
 use Rattle.pp_law.specs.Lists.{Bytes, first_some, has_text, is_some_with}
 use Rattle.pp_law.specs.State.{State, Agenda, Entry, Instance, Todo, Do, Enter, Acknowledge}
-use Rattle.pp_law.specs.Store.{is_same_op, is_named, is_closed, names_taken, has_free_name, block_of, has_first_run, is_read_back, may_draft, drafting, draft_of, may_seal, is_full_run, run_from, sealing, seal_with, seal_of, is_first_todo, going_on, plan_of, agenda_in_turn}
-use Rattle.pp_law.specs.Table.{is_entry_of, is_kept_row_of, is_same_version, kept_row}
+use Rattle.pp_law.specs.Store.{is_same_op, is_named, is_closed, has_free_name, block_of, has_first_run, is_read_back, may_draft, drafting, draft_of, may_seal, is_full_run, run_from, sealing, seal_with, seal_of, is_first_todo, going_on, plan_of, agenda_in_turn}
+use Rattle.pp_law.specs.Table.{is_same_version, kept_row}
 use Rattle.pp_laws.specs.Runs.{IsIn}
-use Rattle.pp_laws.proofs.Lists.{in_find}
 use Rattle.pp_laws.proofs.Tests.{below, first_holds, same_bytes, same_number, same_version, second_holds}
-use Rattle.pp_laws_crash.proofs.Views.{name_same, same_name}
+use Rattle.pp_laws_crash.proofs.Views.{name_same}
 
 write_same : (a b : Bytes) (i j : ℕ) (p q : Bytes) → a ≡ b → i ≡ j → p ≡ q → Write a i p ≡ Write b j q
 write_same a b i j p q one two three = ap (λ (n : Bytes). Write n i p) one ∙ ap (λ (k : ℕ). Write b k p) two ∙ ap (λ (x : Bytes). Write b j x) three

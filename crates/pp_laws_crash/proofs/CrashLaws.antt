@@ -1,45 +1,30 @@
 -- The laws: what a crash leaves is backed; and so what is held, and what is said, was sent.
-use Rattle.std.proofs.Common.{◌≡◌, refl, ℕ, zero, suc, ◌+◌, ◌-◌, ◌*◌, ◌/◌, ◌<◌, ◌≤◌, nat_lt, Bool, true, false, not, ◌==◌, ◌&&◌, List, [], ◌∷◌, ◌++◌, length, take, drop, find, get_or, bytes_eq, length-drop, Option, Some, None, inl, inr, sym, subst, ap, ◌∙◌, arith}
-use Rattle.std.specs.Prelude.{is_some, min}
-use Rattle.std.specs.List.{list_any}
+use Rattle.std.proofs.Common.{◌≡◌, refl, ℕ, ◌+◌, ◌<◌, true, false, List, [], ◌∷◌, length, drop, get_or, Option, Some, None, inl, inr, sym, subst, ◌∙◌, arith}
 use Rattle.std.proofs.lemmas.List.{get_or-take, get_or-drop, length-take}
 use Rattle.pp_entry.specs.Texts.{body_at}
-use Rattle.pp_gate.specs.Files.{body}
-use Rattle.pp_target.specs.Name.{name_of}
-use Rattle.pp_text.specs.Bytes.{is_empty}
-use Rattle.pp_world.specs.Disk.{IsLeftBehind, LeavesOne, view_of}
-use Rattle.pp_world.specs.Files.{Files, file_of}
+use Rattle.pp_world.specs.Disk.{LeavesOne, view_of}
 use Rattle.pp_world.specs.Log.{Log}
 use Rattle.pp_world.specs.declared.happening.Happening.{Happening}
 use Rattle.pp_world.specs.declared.happening.Happening.TheVariants.{Woke, Waits, Clock, Opened, CanRead, CanWrite, Heard, HungUp, Said, Shut, Dialled, Undialled, Reached, Ended, Broke, Asked, Got, Dropped, NoneYet, Began, Did, Unread, Noted, Rooted, Listed, Listens, Configured, Printed, Stopped}
 use Rattle.pp_world.specs.declared.note.Remark.TheVariants.{Taken, Cut, Kept, Gone, Forgotten, Evicted, Loaded}
 use Rattle.pp_law.proofs.Prefixes.{front_from}
 use Rattle.pp_law.specs.After.{after}
-use Rattle.pp_law.specs.Chunks.{chunk_len}
-use Rattle.pp_law.specs.Entries.{entry_in}
 use Rattle.pp_law.specs.Lawful.{LawfulFrom, Lawful}
-use Rattle.pp_law.specs.Lists.{Bytes, has_text}
-use Rattle.pp_law.specs.Permits.{IsPermitted, may_load, may_load_at, permits, permits_noted}
-use Rattle.pp_law.specs.Phases.{come_to}
+use Rattle.pp_law.specs.Lists.{Bytes}
+use Rattle.pp_law.specs.Permits.{IsPermitted, permits}
 use Rattle.pp_law.specs.State.{State, Term, Entry, Keeping, no_agenda, start}
-use Rattle.pp_law.specs.Store.{chunk_in_file, is_closed}
-use Rattle.pp_law.specs.Table.{Next, extent_of, is_kept_row_of, is_row_of, kept_row, next_of, row}
-use Rattle.pp_laws.specs.Origin.{AllSent, ChunkWasSent, EntryWasSent, HoldsWhatWasSent, LoadWasSent, LoadsWhatWasSent, SaysWhatWasSent}
-use Rattle.pp_laws.specs.Runs.{IsIn, after_all, state_after}
+use Rattle.pp_laws.specs.Origin.{LoadWasSent, LoadsWhatWasSent}
+use Rattle.pp_laws.specs.Runs.{after_all, state_after}
 use Rattle.pp_laws.proofs.Happenings.{after-sound}
 use Rattle.pp_laws.proofs.Laws.{held_was_sent, said_was_sent, start-sound}
-use Rattle.pp_laws.proofs.Lists.{in_find}
 use Rattle.pp_laws.proofs.Sound.{Rows, Since, Sound, facts_of}
 use Rattle.pp_laws.proofs.Steps.{come_to-sound}
-use Rattle.pp_laws.proofs.Tests.{first_holds, same_bytes, second_holds}
 use Rattle.pp_laws_crash.specs.Crash.{AllHeldWasSent, AllSaidWasSent, EachImageIsBacked, kept_bytes}
 use Rattle.pp_laws_crash.proofs.Backing.{BackedAt, all_of, is_sent}
-use Rattle.pp_laws_crash.proofs.Begins.{not_true}
 use Rattle.pp_laws_crash.proofs.Happenings.{changed_inv, permitted, sixteen}
 use Rattle.pp_laws_crash.proofs.Inv.{AtRest, idle}
-use Rattle.pp_laws_crash.proofs.Lying.{Held, len_of}
 use Rattle.pp_laws_crash.proofs.Loading.{load_was_sent}
-use Rattle.pp_laws_crash.proofs.Steps.{HoldsAll, Inv}
+use Rattle.pp_laws_crash.proofs.Steps.{Inv}
 
 -- ---- along a log
 
@@ -58,7 +43,7 @@ start_rest = record {
     by name (Some c) (inl bad) = absurd bad
     by name (Some c) (inr bad) = absurd bad
 
-start_inv : (terms : List Term) → Inv (start terms)
+pub start_inv : (terms : List Term) → Inv (start terms)
 start_inv terms = record { disk = idle start_rest no_agenda refl; owed = λ isnt. refl; few = sixteen }
 
 load_so : (s : State) (h : Happening) → Rows s.instances s.next_instance s.chunks → Inv s → IsPermitted s h → LoadWasSent s h
@@ -100,14 +85,14 @@ load_so s (Noted (Loaded key tag n i)) rows h is = load_was_sent s key tag n i r
 load_so s Stopped rows h is = tt
 
 -- what is loaded counts
-abbrev since : Since
+abbrev pub since : Since
 since = record { old = []; counts_loads = true; excepts = None }
 
-record Along (s : State) (log : Log) : Type 0 where
-  loads : LoadsWhatWasSent s log
-  inv : Inv (after_all s log)
+pub record Along (s : State) (log : Log) : Type 0 where
+  pub loads : LoadsWhatWasSent s log
+  pub inv : Inv (after_all s log)
 
-one_step : (s : State) (h : Happening) → IsPermitted s h → Sound since s → Inv s → LoadWasSent s h × Inv (after s h)
+pub one_step : (s : State) (h : Happening) → IsPermitted s h → Sound since s → Inv s → LoadWasSent s h × Inv (after s h)
 one_step s h is sound inv = (
   load_so s h (facts_of sound).rows inv is,
   changed_inv s inv h (λ x i. (facts_of (come_to-sound Keeping s sound)).held refl x i) is,
@@ -120,7 +105,7 @@ goes_along s (h ∷ log) lawful sound inv =
     let rest = goes_along (after s h) log lawful.1 (after-sound s h refl (λ counts. step.0) lawful.0 sound) step.1 in
     record { loads = (step.0, rest.loads); inv = rest.inv }
 
-all_along : (terms : List Term) (log : Log) → Lawful terms log → Along (start terms) log
+pub all_along : (terms : List Term) (log : Log) → Lawful terms log → Along (start terms) log
 all_along terms log lawful = goes_along (start terms) log lawful (start-sound since terms refl) (start_inv terms)
 
 -- ---- the laws

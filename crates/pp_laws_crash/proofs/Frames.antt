@@ -1,5 +1,5 @@
 -- What of a state stays as it is while rows, clients, connections and exchanges change: what the disk is about.
-use Rattle.std.proofs.Common.{◌≡◌, refl, ℕ, Bool, true, false, List, [], ◌∷◌, ◌++◌, Option, Some, None, Result, Ok, Err, inl, inr, ap}
+use Rattle.std.proofs.Common.{◌≡◌, ◌⊎◌, refl, ℕ, Bool, true, false, List, [], ◌∷◌, Option, Some, None, Result, Ok, Err, inl, inr, ap}
 use Rattle.pp_conf.specs.Conf.{Settings}
 use Rattle.pp_framing.specs.Body.{Outcome, Done, Going, Bad}
 use Rattle.pp_valid.specs.declared.version.Version.{Version}
@@ -83,6 +83,7 @@ pub record Parts (o : State) (disk : Log) (agenda : Agenda) (under_way : Option 
   pub acknowledged_is : acknowledged ≡ o.acknowledged
   pub settings_is : settings ≡ o.settings
   pub recovers_is : recovers phase ≡ recovers o.phase
+  pub moved : (phase ≡ o.phase) ⊎ (takes_turns phase ≡ true)
   pub owed_in : OwedIn phase owed
   pub were : WereEntries o.entries entries
   pub stay : StayEntries o.entries entries
@@ -113,6 +114,7 @@ kept_self s owed = kept (record {
   acknowledged_is = refl;
   settings_is = refl;
   recovers_is = refl;
+  moved = inl refl;
   owed_in = owed;
   were = λ e i. were_same e s.entries i;
   stay = λ e i. stay_same e s.entries i;

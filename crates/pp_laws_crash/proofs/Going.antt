@@ -1,7 +1,6 @@
 -- What is left to do on the disk, and what holds at each step of it.
-use Rattle.std.proofs.Common.{◌≡◌, ◌⊎◌, ◌+◌, ◌<◌, ℕ, refl, Bool, true, false, ◌&&◌, not, List, [], ◌∷◌, ◌++◌, Option, Some, None, inl, inr, sym, subst, ap, ◌∙◌}
+use Rattle.std.proofs.Common.{◌≡◌, ◌⊎◌, ◌+◌, ◌<◌, ℕ, refl, Bool, true, false, not, List, [], ◌∷◌, ◌++◌, Option, Some, None, inl, inr, sym, subst, ap, ◌∙◌}
 use Rattle.pp_entry.specs.Texts.{chunks_of}
-use Rattle.pp_gate.specs.Files.{gate}
 use Rattle.pp_gate.specs.Runs.{During, IsOn}
 use Rattle.pp_gate.proofs.Views.{done_view}
 use Rattle.pp_target.specs.Name.{name_of}
@@ -16,7 +15,7 @@ use Rattle.pp_laws.proofs.Lists.{Changed, in_change, in_front, in_push, other, s
 use Rattle.pp_laws.proofs.Tests.{first_holds}
 use Rattle.pp_laws_crash.proofs.Backing.{Backed, BackedAt, backed_at_more}
 use Rattle.pp_laws_crash.proofs.Frames.{WasEntry, WereEntries, now_at, in_changed}
-use Rattle.pp_laws_crash.proofs.Lying.{Held, HeldAll, Loose, LooseAll, Lies, held_loose, held_more, len_of, lies_as, loose_more}
+use Rattle.pp_laws_crash.proofs.Lying.{Held, HeldAll, Loose, LooseAll, held_more, lies_as, loose_more}
 use Rattle.pp_laws_crash.proofs.Views.{during_map, left_map}
 
 abbrev pub ops_of : List Todo → List DiskOp

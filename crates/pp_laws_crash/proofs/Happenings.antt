@@ -1,17 +1,14 @@
 -- Each happening of a lawful log keeps what holds of the disk, and what is loaded was sent.
-use Rattle.std.proofs.Common.{◌≡◌, ◌⊎◌, ⊎_elim, refl, ℕ, ◌+◌, ◌-◌, ◌*◌, ◌/◌, ◌<◌, ◌≤◌, nat_lt, Bool, true, false, not, ◌==◌, ◌&&◌, ◌||◌, List, [], ◌∷◌, ◌++◌, length, map, find, nat_le, Option, Some, None, Result, Ok, Err, inl, inr, sym, subst, ap, ◌∙◌, arith}
+use Rattle.std.proofs.Common.{◌≡◌, ◌⊎◌, ⊎_elim, refl, ℕ, ◌+◌, ◌≤◌, Bool, true, false, not, ◌==◌, ◌&&◌, ◌||◌, List, [], ◌∷◌, ◌++◌, length, map, nat_le, Option, Some, None, Result, Ok, Err, inl, inr, sym, subst, ap, ◌∙◌, arith}
 use Rattle.std.specs.Prelude.{is_some}
 use Rattle.std.specs.List.{list_any}
 use Rattle.pp_text.specs.Bytes.{is_empty}
-use Rattle.pp_world.specs.Log.{Log}
 use Rattle.pp_world.specs.declared.happening.Happening.{Happening}
 use Rattle.pp_world.specs.declared.happening.Happening.TheVariants.{Woke, Waits, Clock, Opened, CanRead, CanWrite, Heard, HungUp, Said, Shut, Dialled, Undialled, Reached, Ended, Broke, Asked, Got, Dropped, NoneYet, Began, Did, Unread, Noted, Rooted, Listed, Listens, Configured, Printed, Stopped}
-use Rattle.pp_world.specs.declared.note.Remark.{Remark}
 use Rattle.pp_world.specs.declared.note.Remark.TheVariants.{Taken, Cut, Kept as NotedKept, Gone, Forgotten, Evicted, Loaded}
 use Rattle.pp_world.specs.declared.op.DiskOp.{DiskOp}
-use Rattle.pp_law.specs.After.{begun_op, changed, dialled, dropped, ended_op, event, forgotten_by, leave_memory, new_conn, noted, refused_dial, undialled}
-use Rattle.pp_law.specs.Closing.{close_client}
-use Rattle.pp_law.specs.Connections.{lose_attempt, Pause, AllPlaced, Placement, WaitsDial, WaitsDrop, conn, may_ask_again, placing, put_on}
+use Rattle.pp_law.specs.After.{begun_op, changed, dialled, dropped, ended_op, forgotten_by, leave_memory, new_conn, noted, refused_dial, undialled}
+use Rattle.pp_law.specs.Connections.{lose_attempt, Pause, AllPlaced, WaitsDial, WaitsDrop, conn, may_ask_again, placing, put_on}
 use Rattle.pp_law.specs.Leaving.{Leaving, ForAnother, ForMemory, BeforeDecision, leaving_as}
 use Rattle.pp_law.specs.Lists.{Bytes}
 use Rattle.pp_conf.specs.Conf.{Settings}
@@ -23,10 +20,10 @@ use Rattle.pp_law.specs.Asking.{is_reading, is_writing}
 use Rattle.pp_law.specs.Deciding.{is_for_memory}
 use Rattle.pp_law.specs.Entries.{entries_in}
 use Rattle.pp_law.specs.Opening.{are_texts, begun, configured, is_at, is_opening, is_recovered, is_same_phase, may_fail, names_file, opened_to, permits_configured, permits_image, permits_listens, permits_woke, settings_in, stuck, with_settings, woken}
-use Rattle.pp_law.specs.Permits.{is_permitted, IsPermitted, permits, permits_behind_forgotten, permits_began, permits_broke, permits_noted, permits_taken, permits_cut, permits_dial, permits_unread, permits_waits, has_conn, may_cut, may_take, may_wait, is_owed}
-use Rattle.pp_law.specs.Phases.{come_to, come_to_decide, decides, deciding, ending, is_awaiting, may_decide, may_end, may_in}
+use Rattle.pp_law.specs.Permits.{is_permitted, IsPermitted, permits, permits_behind_forgotten, permits_began, permits_broke, permits_noted, permits_taken, permits_dial, has_conn, may_cut, may_take, may_wait}
+use Rattle.pp_law.specs.Phases.{come_to, come_to_decide, decides, is_awaiting, may_decide, may_end, may_in}
 use Rattle.pp_law.specs.Repairs.{begin_in_opening, has_stray_gates, may_begin_in_opening}
-use Rattle.pp_law.specs.State.{State, no_agenda, Conn, Exchange, Instance, Phase, Before, Awaiting, Deciding, DecidingAgain, Following, Handling, Evicting, Keeping, Connecting, IsWoken, IsConfigured, IsRooted, IsStuck, IsListening, IsListed, Owed, Free, ReadOf, WriteTo}
+use Rattle.pp_law.specs.State.{State, no_agenda, Exchange, Phase, Before, Awaiting, Deciding, DecidingAgain, Following, Handling, Evicting, Keeping, Connecting, IsWoken, IsConfigured, IsRooted, IsStuck, IsListening, IsListed, Free, ReadOf, WriteTo}
 use Rattle.pp_law.specs.Store.{begin_in_turn, load, load_from, may_begin_in_turn, may_end_op}
 use Rattle.pp_law.specs.Table.{kept_row, row}
 use Rattle.pp_laws_crash.proofs.Frames.{Kept, OwedIn, kept, kept_self, parts_of, recovers, takes_turns, when, each_of}
@@ -101,15 +98,15 @@ awaiting s is = at_Awaiting s.phase is
 awaits : (s : State) → is_awaiting s ≡ true → recovers s.phase ≡ false
 awaits s is = ap recovers (awaiting s is)
 
-in_so : (t : State) (phase : Phase) (at test : Bool) → (elim at as (λ c. Bool) [ true ↦ test | false ↦ false ]) ≡ true → at ≡ true
+pub in_so : (t : State) (phase : Phase) (at test : Bool) → (elim at as (λ c. Bool) [ true ↦ test | false ↦ false ]) ≡ true → at ≡ true
 in_so t phase true test is = refl
 in_so t phase false test is = absurd (cc is)
 
-test_so : (at test : Bool) → (elim at as (λ c. Bool) [ true ↦ test | false ↦ false ]) ≡ true → test ≡ true
+pub test_so : (at test : Bool) → (elim at as (λ c. Bool) [ true ↦ test | false ↦ false ]) ≡ true → test ≡ true
 test_so true test is = is
 test_so false test is = absurd (cc is)
 
-come_from : (phase : Phase) (s : State) → OwedIn s.phase s.owed → recovers (come_to phase s).phase ≡ false → recovers s.phase ≡ false
+pub come_from : (phase : Phase) (s : State) → OwedIn s.phase s.owed → recovers (come_to phase s).phase ≡ false → recovers s.phase ≡ false
 come_from phase s owed is = sym (parts_of (come_to-kept phase s (kept_self s owed))).recovers_is ∙ is
 
 decides_at : (t : State) (at done again : Bool) → is_at Deciding t ≡ at → is_at DecidingAgain t ≡ again → (elim at as (λ c. Bool) [ true ↦ done | false ↦ again ]) ≡ true → recovers t.phase ≡ false
@@ -132,31 +129,45 @@ permitted s h none is = permitted_by s.has_made_room (permits s h) (permits_behi
 
 -- ---- notes
 
-noted_inv : (s : State) (remark : Remark) → permits_noted s remark ≡ true → Inv s → Inv (noted remark s)
+kept_inv : (s : State) (key tag : Bytes) (n extent : ℕ) → permits_noted s (NotedKept key tag n extent) ≡ true → Inv s → Inv (noted (NotedKept key tag n extent) s)
 unfolding noted
-noted_inv s (Taken c i d) is h = inv_kept s _ (take_decision-kept c d _ (deciding-kept s (deciding_at s (λ t. may_take t c i d) is) (kept_self s h.owed))) h
-noted_inv s (Cut c cause) is h = inv_kept s _ (close_client-kept c true _ (deciding-kept s (deciding_at s (λ t. may_cut t c cause) is) (kept_self s h.owed))) h
-noted_inv s (NotedKept key tag n extent) is h = kept_step key tag n extent s (first_holds (not (is_some s.under_way)) _ is) (second_holds (not (is_some s.under_way)) _ is) h
-noted_inv s (Gone key) is h =
+kept_inv s key tag n extent is h = kept_step key tag n extent s (first_holds (not (is_some s.under_way)) _ is) (second_holds (not (is_some s.under_way)) _ is) h
+
+-- what is permitted of a row that is gone
+pub record MayGo (s : State) (key : Bytes) : Type 0 where
+  pub turns : recovers (come_to Keeping s).phase ≡ false
+  pub takes : takes_turns (come_to Keeping s).phase ≡ true
+  pub idle_so : not (is_some (come_to Keeping s).under_way) ≡ true
+  pub empty : is_empty (come_to Keeping s).agenda.todo ≡ true
+
+pub may_go : (s : State) (key : Bytes) → permits_noted s (Gone key) ≡ true → MayGo s key
+may_go s key is =
     let t : State = come_to Keeping s in
-    let ht : Inv t = inv_kept s t (come_to-kept Keeping s (kept_self s h.owed)) h in
     let test = test_so (is_at Keeping t) _ is in
     let rest = first_holds (not (is_some t.under_way) && is_empty t.agenda.todo) _ test in
-    gone_step key t (ap recovers (at_Keeping t.phase (in_so s Keeping (is_at Keeping t) _ is))) (first_holds (not (is_some t.under_way)) _ rest) (second_holds (not (is_some t.under_way)) _ rest) ht
-noted_inv s (Forgotten key) is h = inv_kept s _ (forgotten_by-kept key s (kept_self s h.owed)) h
-noted_inv s (Evicted key tag n i) is h = inv_kept s _ (evicted-kept _ (come_to-kept Evicting s (kept_self s h.owed))) h
-noted_inv s (Loaded key tag n i) is h = inv_kept s _ (load-kept key i s (kept_self s h.owed)) h
+    record {
+      turns = ap recovers (at_Keeping t.phase (in_so s Keeping (is_at Keeping t) _ is));
+      takes = ap takes_turns (at_Keeping t.phase (in_so s Keeping (is_at Keeping t) _ is));
+      idle_so = first_holds (not (is_some t.under_way)) _ rest;
+      empty = second_holds (not (is_some t.under_way)) _ rest;
+    }
+
+gone_inv : (s : State) (key : Bytes) → permits_noted s (Gone key) ≡ true → Inv s → Inv (noted (Gone key) s)
+unfolding noted
+gone_inv s key is h =
+    let go = may_go s key is in
+    gone_step key (come_to Keeping s) go.turns go.idle_so go.empty (inv_kept s _ (come_to-kept Keeping s (kept_self s h.owed)) h)
 
 -- ---- operations
 
-either_is : (a b : Bool) → (a || b) ≡ true → (a ≡ true) ⊎ (b ≡ true)
+pub either_is : (a b : Bool) → (a || b) ≡ true → (a ≡ true) ⊎ (b ≡ true)
 either_is true b is = inl refl
 either_is false b is = inr is
 
-opens_not : (s : State) → s.phase ≡ Keeping → is_opening s ≡ false
+pub opens_not : (s : State) → s.phase ≡ Keeping → is_opening s ≡ false
 opens_not s is = ap (λ q. list_any (λ p. is_same_phase p q) (IsWoken ∷ IsConfigured ∷ IsRooted ∷ IsListed ∷ IsListening ∷ IsStuck ∷ [])) is
 
-listed_opens : (s : State) → s.phase ≡ IsListed → is_opening s ≡ true
+pub listed_opens : (s : State) → s.phase ≡ IsListed → is_opening s ≡ true
 listed_opens s is = ap (λ q. list_any (λ p. is_same_phase p q) (IsWoken ∷ IsConfigured ∷ IsRooted ∷ IsListed ∷ IsListening ∷ IsStuck ∷ [])) is
 
 starts_by : (s : State) (op : DiskOp) (opens : Bool) → is_opening s ≡ opens → HoldsAll (come_to Keeping s) → permits_began s op ≡ true → Inv s → Inv (elim opens as (λ c. State) [ true ↦ begin_in_opening op s | false ↦ begin_in_turn op (come_to Keeping s) ])
@@ -329,7 +340,7 @@ woke_by : (s : State) (image : Files) (room : Bool) → (elim room as (λ x. Boo
 woke_by s image true is = is
 woke_by s image false is = is
 
-woke_so : (s : State) (image : Files) → IsPermitted s (Woke image) → permits_woke s image ≡ true
+pub woke_so : (s : State) (image : Files) → IsPermitted s (Woke image) → permits_woke s image ≡ true
 unfolding is_permitted permits
 woke_so s image is = woke_by s image s.has_made_room is
 
@@ -337,45 +348,122 @@ did_inv_so : (s : State) (op : DiskOp) (ok : Bool) → may_end_op s op ≡ true 
 did_inv_so s op true may h = done_step s op h (under_is op s.under_way may)
 did_inv_so s op false may h = failed_step s op h (under_is op s.under_way may)
 
-module _ (s : State) (h : Inv s) where
-  self : Kept s s
-  self = kept_self s h.owed
+-- it changes what the disk is about
+abbrev pub changes_disk : Happening → Bool
+changes_disk (Woke image) = true
+changes_disk (Waits w) = false
+changes_disk (Clock seconds) = false
+changes_disk (Opened n) = false
+changes_disk (CanRead n) = false
+changes_disk (CanWrite n) = false
+changes_disk (Heard c bytes) = false
+changes_disk (HungUp c) = false
+changes_disk (Said c offered bytes) = false
+changes_disk (Shut c) = false
+changes_disk (Dialled n host port) = false
+changes_disk (Undialled host port) = false
+changes_disk (Reached k) = false
+changes_disk (Ended k) = false
+changes_disk (Broke k) = false
+changes_disk (Asked k bytes) = false
+changes_disk (Got k bytes) = false
+changes_disk (Dropped k) = false
+changes_disk (NoneYet n) = false
+changes_disk (Began op) = true
+changes_disk (Did op ok) = true
+changes_disk (Unread name) = true
+changes_disk (Noted (Taken c i d)) = false
+changes_disk (Noted (Cut c cause)) = false
+changes_disk (Noted (NotedKept key tag n extent)) = true
+changes_disk (Noted (Gone key)) = true
+changes_disk (Noted (Forgotten key)) = false
+changes_disk (Noted (Evicted key tag n i)) = false
+changes_disk (Noted (Loaded key tag n i)) = false
+changes_disk (Rooted folder) = true
+changes_disk (Listed ok) = true
+changes_disk (Listens port ok) = true
+changes_disk (Configured file text) = true
+changes_disk (Printed text) = false
+changes_disk Stopped = false
 
+module _ (s : State) (owed : OwedIn s.phase s.owed) where
+  self : Kept s s
+  self = kept_self s owed
+
+  pub changed_kept : (happening : Happening) → changes_disk happening ≡ false → IsPermitted s happening → Kept s (changed s happening)
+  unfolding changed permits noted
+  changed_kept (Waits w) still is = rest_with-kept w _ ((parts_of (ending-kept s self)).recovers_is ∙ ends_turns s owed (in_so s Awaiting (may_wait s) _ (permitted s (Waits w) refl is))) (ending-kept s self)
+  changed_kept (Clock seconds) still is = event-kept _ ((parts_of (tick-kept seconds s self)).recovers_is ∙ awaits s (permitted s (Clock seconds) refl is)) (tick-kept seconds s self)
+  changed_kept (Opened n) still is = event-kept _ ((parts_of (opened-kept n s self)).recovers_is ∙ awaits s (first_holds (is_awaiting s) _ (permitted s (Opened n) refl is))) (opened-kept n s self)
+  changed_kept (CanRead n) still is = let at = awaiting s (permitted s (CanRead n) refl is) in event-kept _ ((parts_of (owing-kept (ReadOf n) n s at self)).recovers_is ∙ ap recovers at) (owing-kept (ReadOf n) n s at self)
+  changed_kept (CanWrite n) still is = let at = awaiting s (permitted s (CanWrite n) refl is) in event-kept _ ((parts_of (owing-kept (WriteTo n) n s at self)).recovers_is ∙ ap recovers at) (owing-kept (WriteTo n) n s at self)
+  changed_kept (Heard c bytes) still is = paid-kept _ (hear-kept c bytes s self)
+  changed_kept (HungUp c) still is = paid-kept _ (hang_up-kept c s self)
+  changed_kept (Said c offered bytes) still is = paid-kept _ (said-kept c (length bytes) s self)
+  changed_kept (Shut c) still is = shut-kept c _ (come_to-kept Connecting s self)
+  changed_kept (Dialled n host port) still is = dialled-kept n host port (come_to Connecting s) (come_to-kept Connecting s self)
+  changed_kept (Undialled host port) still is =
+      undialled-kept (come_to Connecting s) (come_from Connecting s owed (dial_turns s host port (second_holds (may_fail s false) _ (permitted s (Undialled host port) refl is)))) (come_to-kept Connecting s self)
+  changed_kept (Reached k) still is = event-kept _ ((parts_of (reached-kept k s self)).recovers_is ∙ awaits s (first_holds (is_awaiting s) _ (permitted s (Reached k) refl is))) (reached-kept k s self)
+  changed_kept (Ended k) still is = paid-kept _ (gone-kept true k s self)
+  changed_kept (Broke k) still is = paid-kept _ (gone-kept false k _ (event-kept s (broke_turns s k owed (permitted s (Broke k) refl is)) self))
+  changed_kept (Asked k bytes) still is = paid-kept _ (ask-kept k (length bytes) s self)
+  changed_kept (Got k bytes) still is = paid-kept _ (end_replies-kept _ (got-kept (length bytes) k bytes s self))
+  changed_kept (Dropped k) still is = dropped-kept k _ (come_to-kept Connecting s self)
+  changed_kept (NoneYet n) still is = paid-kept s self
+  changed_kept Stopped still is = event-kept (record s { is_stopped = true }) (awaits s (permitted s Stopped refl is)) (kept (parts_of self))
+  changed_kept (Noted (Taken c i d)) still is = take_decision-kept c d _ (deciding-kept s (deciding_at s (λ t. may_take t c i d) (taken_so s c i d is)) self)
+  changed_kept (Noted (Cut c cause)) still is = close_client-kept c true _ (deciding-kept s (deciding_at s (λ t. may_cut t c cause) (permitted s (Noted (Cut c cause)) refl is)) self)
+  changed_kept (Noted (Forgotten key)) still is = forgotten_by-kept key s self
+  changed_kept (Noted (Evicted key tag n i)) still is = evicted-kept _ (come_to-kept Evicting s self)
+  changed_kept (Noted (Loaded key tag n i)) still is = load-kept key i s self
+  changed_kept (Printed text) still is = self
+  changed_kept (Woke image) still is = absurd (cc still)
+  changed_kept (Began op) still is = absurd (cc still)
+  changed_kept (Did op ok) still is = absurd (cc still)
+  changed_kept (Unread name) still is = absurd (cc still)
+  changed_kept (Noted (NotedKept key tag n extent)) still is = absurd (cc still)
+  changed_kept (Noted (Gone key)) still is = absurd (cc still)
+  changed_kept (Rooted folder) still is = absurd (cc still)
+  changed_kept (Listed ok) still is = absurd (cc still)
+  changed_kept (Listens port ok) still is = absurd (cc still)
+  changed_kept (Configured file text) still is = absurd (cc still)
+
+module _ (s : State) (h : Inv s) where
   pub changed_inv : (happening : Happening) → HoldsAll (come_to Keeping s) → IsPermitted s happening → Inv (changed s happening)
   unfolding changed permits
   changed_inv (Woke image) held is = woke_inv s image (woke_so s image is) h
-  changed_inv (Waits w) held is = inv_kept s _ (rest_with-kept w _ ((parts_of (ending-kept s self)).recovers_is ∙ ends_turns s h.owed (in_so s Awaiting (may_wait s) _ (permitted s (Waits w) refl is))) (ending-kept s self)) h
-  changed_inv (Clock seconds) held is = inv_kept s _ (event-kept _ ((parts_of (tick-kept seconds s self)).recovers_is ∙ awaits s (permitted s (Clock seconds) refl is)) (tick-kept seconds s self)) h
-  changed_inv (Opened n) held is = inv_kept s _ (event-kept _ ((parts_of (opened-kept n s self)).recovers_is ∙ awaits s (first_holds (is_awaiting s) _ (permitted s (Opened n) refl is))) (opened-kept n s self)) h
-  changed_inv (CanRead n) held is = let at = awaiting s (permitted s (CanRead n) refl is) in inv_kept s _ (event-kept _ ((parts_of (owing-kept (ReadOf n) n s at self)).recovers_is ∙ ap recovers at) (owing-kept (ReadOf n) n s at self)) h
-  changed_inv (CanWrite n) held is = let at = awaiting s (permitted s (CanWrite n) refl is) in inv_kept s _ (event-kept _ ((parts_of (owing-kept (WriteTo n) n s at self)).recovers_is ∙ ap recovers at) (owing-kept (WriteTo n) n s at self)) h
-  changed_inv (Heard c bytes) held is = inv_kept s _ (paid-kept _ (hear-kept c bytes s self)) h
-  changed_inv (HungUp c) held is = inv_kept s _ (paid-kept _ (hang_up-kept c s self)) h
-  changed_inv (Said c offered bytes) held is = inv_kept s _ (paid-kept _ (said-kept c (length bytes) s self)) h
-  changed_inv (Shut c) held is = inv_kept s _ (shut-kept c _ (come_to-kept Connecting s self)) h
-  changed_inv (Dialled n host port) held is = inv_kept s _ (dialled-kept n host port (come_to Connecting s) (come_to-kept Connecting s self)) h
-  changed_inv (Undialled host port) held is =
-      inv_kept s _ (undialled-kept (come_to Connecting s) (come_from Connecting s h.owed (dial_turns s host port (second_holds (may_fail s false) _ (permitted s (Undialled host port) refl is)))) (come_to-kept Connecting s self)) h
-  changed_inv (Reached k) held is = inv_kept s _ (event-kept _ ((parts_of (reached-kept k s self)).recovers_is ∙ awaits s (first_holds (is_awaiting s) _ (permitted s (Reached k) refl is))) (reached-kept k s self)) h
-  changed_inv (Ended k) held is = inv_kept s _ (paid-kept _ (gone-kept true k s self)) h
-  changed_inv (Broke k) held is = inv_kept s _ (paid-kept _ (gone-kept false k _ (event-kept s (broke_turns s k h.owed (permitted s (Broke k) refl is)) self))) h
-  changed_inv (Asked k bytes) held is = inv_kept s _ (paid-kept _ (ask-kept k (length bytes) s self)) h
-  changed_inv (Got k bytes) held is = inv_kept s _ (paid-kept _ (end_replies-kept _ (got-kept (length bytes) k bytes s self))) h
-  changed_inv (Dropped k) held is = inv_kept s _ (dropped-kept k _ (come_to-kept Connecting s self)) h
-  changed_inv (NoneYet n) held is = inv_kept s _ (paid-kept s self) h
+  changed_inv (Waits w) held is = inv_kept s _ (changed_kept s h.owed (Waits w) refl is) h
+  changed_inv (Clock seconds) held is = inv_kept s _ (changed_kept s h.owed (Clock seconds) refl is) h
+  changed_inv (Opened n) held is = inv_kept s _ (changed_kept s h.owed (Opened n) refl is) h
+  changed_inv (CanRead n) held is = inv_kept s _ (changed_kept s h.owed (CanRead n) refl is) h
+  changed_inv (CanWrite n) held is = inv_kept s _ (changed_kept s h.owed (CanWrite n) refl is) h
+  changed_inv (Heard c bytes) held is = inv_kept s _ (changed_kept s h.owed (Heard c bytes) refl is) h
+  changed_inv (HungUp c) held is = inv_kept s _ (changed_kept s h.owed (HungUp c) refl is) h
+  changed_inv (Said c offered bytes) held is = inv_kept s _ (changed_kept s h.owed (Said c offered bytes) refl is) h
+  changed_inv (Shut c) held is = inv_kept s _ (changed_kept s h.owed (Shut c) refl is) h
+  changed_inv (Dialled n host port) held is = inv_kept s _ (changed_kept s h.owed (Dialled n host port) refl is) h
+  changed_inv (Undialled host port) held is = inv_kept s _ (changed_kept s h.owed (Undialled host port) refl is) h
+  changed_inv (Reached k) held is = inv_kept s _ (changed_kept s h.owed (Reached k) refl is) h
+  changed_inv (Ended k) held is = inv_kept s _ (changed_kept s h.owed (Ended k) refl is) h
+  changed_inv (Broke k) held is = inv_kept s _ (changed_kept s h.owed (Broke k) refl is) h
+  changed_inv (Asked k bytes) held is = inv_kept s _ (changed_kept s h.owed (Asked k bytes) refl is) h
+  changed_inv (Got k bytes) held is = inv_kept s _ (changed_kept s h.owed (Got k bytes) refl is) h
+  changed_inv (Dropped k) held is = inv_kept s _ (changed_kept s h.owed (Dropped k) refl is) h
+  changed_inv (NoneYet n) held is = inv_kept s _ (changed_kept s h.owed (NoneYet n) refl is) h
   changed_inv (Began op) held is = begun_op_inv s op held (permitted s (Began op) refl is) h
   changed_inv (Did op ok) held is = did_inv_so s op ok (first_holds (may_end_op s op) _ (permitted s (Did op ok) refl is)) h
   changed_inv (Unread name) held is =
       let may = second_holds (may_fail s false) _ (permitted s (Unread name) refl is) in
       let rest = first_holds (not (is_some s.under_way) && is_empty s.agenda.todo) _ may in
       unread_step name s (first_holds (not (is_some s.under_way)) _ rest) (second_holds (not (is_some s.under_way)) _ rest) h
-  changed_inv (Noted (Taken c i d)) held is = noted_inv s (Taken c i d) (taken_so s c i d is) h
-  changed_inv (Noted (Cut c cause)) held is = noted_inv s (Cut c cause) (permitted s (Noted (Cut c cause)) refl is) h
-  changed_inv (Noted (NotedKept key tag n extent)) held is = noted_inv s (NotedKept key tag n extent) (permitted s (Noted (NotedKept key tag n extent)) refl is) h
-  changed_inv (Noted (Gone key)) held is = noted_inv s (Gone key) (permitted s (Noted (Gone key)) refl is) h
-  changed_inv (Noted (Forgotten key)) held is = noted_inv s (Forgotten key) (permitted s (Noted (Forgotten key)) refl is) h
-  changed_inv (Noted (Evicted key tag n i)) held is = noted_inv s (Evicted key tag n i) (permitted s (Noted (Evicted key tag n i)) refl is) h
-  changed_inv (Noted (Loaded key tag n i)) held is = noted_inv s (Loaded key tag n i) (permitted s (Noted (Loaded key tag n i)) refl is) h
+  changed_inv (Noted (Taken c i d)) held is = inv_kept s _ (changed_kept s h.owed (Noted (Taken c i d)) refl is) h
+  changed_inv (Noted (Cut c cause)) held is = inv_kept s _ (changed_kept s h.owed (Noted (Cut c cause)) refl is) h
+  changed_inv (Noted (NotedKept key tag n extent)) held is = kept_inv s key tag n extent (permitted s (Noted (NotedKept key tag n extent)) refl is) h
+  changed_inv (Noted (Gone key)) held is = gone_inv s key (permitted s (Noted (Gone key)) refl is) h
+  changed_inv (Noted (Forgotten key)) held is = inv_kept s _ (changed_kept s h.owed (Noted (Forgotten key)) refl is) h
+  changed_inv (Noted (Evicted key tag n i)) held is = inv_kept s _ (changed_kept s h.owed (Noted (Evicted key tag n i)) refl is) h
+  changed_inv (Noted (Loaded key tag n i)) held is = inv_kept s _ (changed_kept s h.owed (Noted (Loaded key tag n i)) refl is) h
   changed_inv (Rooted folder) held is =
       let at = at_IsConfigured s.phase (first_holds (is_at IsConfigured s) _ (permitted s (Rooted folder) refl is)) in
       opened_to_inv s IsRooted true (ap recovers at) refl (h.owed (ap takes_turns at)) h
@@ -391,4 +479,4 @@ module _ (s : State) (h : Inv s) where
       let at = at_IsWoken s.phase (first_holds (is_at IsWoken s) _ (first_holds (permits_configured s file) _ (permitted s (Configured file text) refl is))) in
       configured_inv s text (ap recovers at) (h.owed (ap takes_turns at)) h
   changed_inv (Printed text) held is = h
-  changed_inv Stopped held is = inv_kept s _ (event-kept (record s { is_stopped = true }) (awaits s (permitted s Stopped refl is)) (kept (parts_of self))) h
+  changed_inv Stopped held is = inv_kept s _ (changed_kept s h.owed Stopped refl is) h

@@ -1,8 +1,6 @@
 -- What holds of the disk, its entries and what is left to do, and how operations keep it.
-use Rattle.std.proofs.Common.{◌≡◌, ◌⊎◌, refl, ℕ, Bool, true, false, ◌||◌, not, List, [], ◌∷◌, ◌++◌, filter, cond, bytes_eq, Option, Some, None, inl, inr, sym, subst, ap, ◌∙◌}
-use Rattle.std.specs.List.{list_any}
-use Rattle.pp_gate.specs.Runs.{During, IsOn}
-use Rattle.pp_gate.proofs.Views.{done_view}
+use Rattle.std.proofs.Common.{◌≡◌, refl, ℕ, Bool, true, false, ◌||◌, not, List, [], ◌∷◌, ◌++◌, cond, bytes_eq, Option, Some, None, inl, inr, sym, subst, ap, ◌∙◌}
+use Rattle.pp_gate.specs.Runs.{IsOn}
 use Rattle.pp_target.specs.Name.{name_of}
 use Rattle.pp_world.specs.Disk.{View, began, done, undone, view_of}
 use Rattle.pp_world.specs.Log.{Log}
@@ -17,8 +15,8 @@ use Rattle.pp_laws.proofs.Lists.{Changed, in_change, in_push, other, same}
 use Rattle.pp_laws.proofs.Tests.{second_holds}
 use Rattle.pp_laws_crash.proofs.Backing.{Backed, BackedAt}
 use Rattle.pp_laws_crash.proofs.Frames.{WereEntries}
-use Rattle.pp_laws_crash.proofs.Going.{Ahead, Along, Goes, IfRecovers, MayShut, Midst, OnName, Rests, backed_more, entries_after, goes_more, ops_of, rests_more}
-use Rattle.pp_laws_crash.proofs.Lying.{Held, HeldAll, Loose, held_loose}
+use Rattle.pp_laws_crash.proofs.Going.{Ahead, Along, Goes, MayShut, Midst, OnName, Rests, backed_more, goes_more, ops_of, rests_more}
+use Rattle.pp_laws_crash.proofs.Lying.{Held, held_loose}
 use Rattle.pp_laws_crash.proofs.Views.{began_failed, differs, done_failed, during_now, left_same, other_began, other_done, other_undone, same_name, undone_slot, unlike, view_more}
 
 -- ---- names that are closed
@@ -83,7 +81,7 @@ pub ahead_none : {sent : List Sent} {recovers : Bool} {entries : List Entry} {na
 ahead_none b r = record { during = b; along = λ rec. shut_of r; last = r }
 
 -- by name
-same_or : {A : Type 0} (n m : Bytes) → (n ≡ m → A) → ((n ≡ m → ⊥) → A) → A
+pub same_or : {A : Type 0} (n m : Bytes) → (n ≡ m → A) → ((n ≡ m → ⊥) → A) → A
 same_or {A} n m is isnt = by (bytes_eq n m) refl
   where
     by : (b : Bool) → bytes_eq n m ≡ b → A

@@ -1,7 +1,6 @@
 -- What requests and responses bring keeps what the disk is about.
-use Rattle.std.proofs.Common.{◌≡◌, refl, ℕ, zero, suc, ◌+◌, nat_lt, Bool, true, false, not, ◌==◌, ◌&&◌, ◌||◌, List, [], ◌∷◌, ◌++◌, drop, length, Option, Some, None, Result, Ok, Err, ap, ◌∙◌}
+use Rattle.std.proofs.Common.{ℕ, zero, suc, ◌+◌, Bool, true, false, ◌==◌, ◌&&◌, ◌||◌, List, [], ◌∷◌, ◌++◌, drop, length, Option, Some, None, ap}
 use Rattle.std.specs.List.{list_any}
-use Rattle.std.specs.Prelude.{is_some}
 use Rattle.pp_ask.specs.declared.kind.AskKind.{AskKind}
 use Rattle.pp_framing.specs.Body.{Outcome, Done, Going, Bad}
 use Rattle.pp_framing.specs.Framing.{rule_of}
@@ -20,20 +19,19 @@ use Rattle.pp_valid.specs.declared.version.Version.{Version}
 use Rattle.pp_world.specs.declared.note.Decision.TheVariants.{Refuse, Hit, Part, Head, NotModified, Unsatisfiable, Relay, Validate, Fetch, Pass}
 use Rattle.pp_world.specs.declared.note.Decision.{Decision}
 use Rattle.pp_law.specs.Closing.{is_of}
-use Rattle.pp_law.specs.Connections.{conn, exchange, is_for, front_of_line, on_conn, is_trying, close_conn, end_exchange}
-use Rattle.pp_law.specs.Deciding.{refuse, add_exchange, begin_exchange, new_exchange, ask_for, ask_as, ask_origin, reply_by, serves, follow_with, follow_row, follow, relay, is_for_memory, mark_row_of, enter_row, decided_by, decided}
+use Rattle.pp_law.specs.Connections.{conn, exchange, is_for, front_of_line, on_conn, is_trying, end_exchange}
+use Rattle.pp_law.specs.Deciding.{refuse, add_exchange, begin_exchange, ask_for, ask_as, ask_origin, reply_by, follow_with, follow_row, follow, relay, is_for_memory, mark_row_of, enter_row, decided_by, decided}
 use Rattle.pp_law.specs.Decisions.{kind_of, fits}
 use Rattle.pp_law.specs.Followers.{need_of, filling_exchange, fill_with, fill_span, fill_next, fill_for, fill, give_up_asks}
 use Rattle.pp_law.specs.Lists.{Bytes, is_some_with}
-use Rattle.pp_law.specs.OwnHeads.{key_of, tell, use_body, drop_answer, useless, times_for, renewed, renew, settle_on, renew_row, refresh, known_version, may_refresh, settle_known, names_version, may_join, settle, settle_unchanged, unchanged, forbids_sharing, is_of_another, not_modified, clears_row, cleared_by, is_private_part, is_widened, relay_head, other_head, other_part, own_head, is_bound, lacks_next, count_elsewhere, part_head, filling_head, is_wrong_head, version_in, sent_as, first_offset, note_own, note_sent, join, join_bound}
+use Rattle.pp_law.specs.OwnHeads.{key_of, tell, use_body, drop_answer, useless, times_for, renewed, renew, settle_on, renew_row, refresh, known_version, may_refresh, settle_known, names_version, may_join, settle, settle_unchanged, unchanged, forbids_sharing, is_of_another, not_shared, not_modified, clears_row, cleared_by, is_private_part, is_widened, relay_head, other_head, other_part, own_head, is_bound, lacks_next, count_elsewhere, part_head, filling_head, is_wrong_head, version_in, sent_as, first_offset, note_own, note_sent, join, join_bound}
 use Rattle.pp_law.specs.Passing.{pour, poured}
 use Rattle.pp_law.specs.Requests.{key_in}
 use Rattle.pp_law.specs.Responses.{skip_body, close_this, rested, may_go_on, finish, bad_response, bad_head, by_aim, asks_head, answer_with, answered_by, end_if_empty, begin_answer, answer_for, head_came, Piece, is_early, with_unread, head_piece_of, head_piece, deliver, payload_of, body_piece_of, body_piece, next_piece, got, is_whole_at_end, finish_first, ended}
-use Rattle.pp_law.specs.State.{State, Sent, Brought, Body, Client, Conn, Exchange, Instance, Answer, Reply, Bound, Aim, Through, Own, Filling}
-use Rattle.pp_law.specs.Table.{row, row_for, instance, Next, next_of, clear, mark_row}
+use Rattle.pp_law.specs.State.{State, Sent, Brought, Body, Client, Conn, Exchange, Instance, Answer, Reply, Bound}
+use Rattle.pp_law.specs.Table.{row, row_for, instance, Next, next_of}
 use Rattle.pp_law.specs.ThroughHeads.{invalidates, key_named, is_same_host, clear_named, clear_each, places_named, invalidated, disproves, reads, disproved, through_head}
 use Rattle.pp_law.specs.Unseen.{is_unseen, drop_on, drop_unseen}
-use Rattle.pp_laws.specs.Origin.{IsBackPart}
 use Rattle.pp_laws_crash.proofs.Frames.{Kept, PartsOf, kept, parts_of, when, each_of, by_aim_of, by_outcome, by_front, by_result}
 use Rattle.pp_laws_crash.proofs.KeptTable.{on_instance-kept, swept-kept, clear-kept, mark_row-kept, make_row-kept, enter-kept, note_use-kept, on_conn-kept, on_exchange-kept, on_client-kept, on_client_of-kept, each_client-kept, each_conn-kept, lose_attempt-kept, fail-kept, end_exchange-kept, close_conn-kept, forsake-kept, leave-kept}
 
@@ -49,7 +47,7 @@ add_exchange-kept e s h = kept (parts_of h)
 
 begin_exchange-kept : {o : State} (e : Exchange) (s : State) → Kept o s → Kept o (begin_exchange e s)
 unfolding begin_exchange
-begin_exchange-kept e s h = add_exchange-kept e _ (forsake-kept _ s h)
+begin_exchange-kept e s h = add_exchange-kept e _ (leave-kept _ s h)
 
 ask_for-kept : {o : State} (c : Client) (d : Decision) (head : Request) (key : Key) (kind : AskKind) (s : State) → Kept o s → Kept o (ask_for c d head key kind s)
 unfolding ask_for
@@ -189,9 +187,13 @@ unchanged-kept : {o : State} (e : Exchange) (head : Response) (s : State) → Ke
 unfolding unchanged
 unchanged-kept e head s h = when (is_some_with (names_version e) (known_version s (key_of e)) && may_refresh e head s) (settle_unchanged-kept e _ (refresh-kept e head s h)) (useless-kept e s h)
 
+not_shared-kept : {o : State} (e : Exchange) (s : State) → Kept o s → Kept o (not_shared e s)
+unfolding not_shared
+not_shared-kept e s h = on_client_of-kept e _ _ (drop_answer-kept e _ (clear-kept (key_of e) s h))
+
 not_modified-kept : {o : State} (e : Exchange) (head : Response) (s : State) → Kept o s → Kept o (not_modified e head s)
 unfolding not_modified
-not_modified-kept e head s h = when (forbids_sharing head) (drop_answer-kept e _ (clear-kept (key_of e) s h))
+not_modified-kept e head s h = when (forbids_sharing head) (not_shared-kept e s h)
     (when (is_of_another head s (key_of e)) (useless-kept e _ (clear-kept (key_of e) s h)) (unchanged-kept e head s h))
 
 cleared_by-kept : {o : State} (head : Response) (e : Exchange) (s : State) → Kept o s → Kept o (cleared_by head e s)
@@ -208,7 +210,7 @@ other_head-kept e head rule s h = when (is_widened e head) (tell-kept e _ _ (use
 
 other_part-kept : {o : State} (e : Exchange) (head : Response) (rule : BodyRule) (s : State) → Kept o s → Kept o (other_part e head rule s)
 unfolding other_part
-other_part-kept e head rule s h = when (is_private_part head) (drop_answer-kept e _ (clear-kept (key_of e) s h))
+other_part-kept e head rule s h = when (is_private_part head) (not_shared-kept e s h)
     (when (clears_row head) (relay_head-kept e head rule _ (cleared_by-kept head e s h)) (useless-kept e s h))
 
 own_head-kept : {o : State} (e : Exchange) (head : Response) (rule : BodyRule) (s : State) → Kept o s → Kept o (own_head e head rule s)
@@ -309,6 +311,7 @@ more_sent o s part p = record {
   acknowledged_is = p.acknowledged_is;
   settings_is = p.settings_is;
   recovers_is = p.recovers_is;
+  moved = p.moved;
   owed_in = p.owed_in;
   were = p.were;
   stay = p.stay;

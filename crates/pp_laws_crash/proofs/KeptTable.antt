@@ -1,5 +1,5 @@
 -- Changes of rows, connections and exchanges keep what the disk is about.
-use Rattle.std.proofs.Common.{◌≡◌, refl, ℕ, zero, suc, ◌+◌, nat_lt, Bool, true, false, not, ◌==◌, ◌&&◌, ◌||◌, List, [], ◌∷◌, Option, Some, None, sym, ap, ◌∙◌, option_and_then}
+use Rattle.std.proofs.Common.{◌≡◌, refl, ℕ, nat_lt, Bool, true, false, not, ◌==◌, ◌&&◌, List, [], ◌∷◌, Option, Some, None, sym, ap, ◌∙◌, option_and_then}
 use Rattle.pp_fresh.specs.declared.aging.Times.{Times}
 use Rattle.pp_peers.specs.declared.placing.Placed.TheVariants.{On, Dial, CloseThenDial, Wait}
 use Rattle.pp_peers.specs.declared.placing.Placed.{Placed}
@@ -13,10 +13,9 @@ use Rattle.pp_law.specs.Connections.{client, conn, exchange, on_conn, on_exchang
 use Rattle.pp_law.specs.Lists.{Bytes, change}
 use Rattle.pp_law.specs.Stages.{is_headed}
 use Rattle.pp_law.specs.State.{State, Course, Client, Conn, Exchange, Instance, Entry}
-use Rattle.pp_law.specs.Table.{is_row_of, is_entry_of, row, kept_row, rows, idle_row, on_instance, forget, swept, clear, mark_row, forget_row, with_room, add_row, make_row, enter}
-use Rattle.pp_laws.specs.Runs.{IsIn}
+use Rattle.pp_law.specs.Table.{is_entry_of, row, kept_row, rows, idle_row, on_instance, forget, swept, clear, mark_row, forget_row, with_room, add_row, make_row, enter}
 use Rattle.pp_laws.proofs.Lists.{From, in_map}
-use Rattle.pp_laws_crash.proofs.Frames.{Kept, Parts, PartsOf, WasEntry, StaysEntry, kept, parts_of, now_at, in_changed, when, each_of}
+use Rattle.pp_laws_crash.proofs.Frames.{Kept, PartsOf, WasEntry, StaysEntry, kept, parts_of, now_at, in_changed, when, each_of}
 
 -- ---- rows
 
@@ -67,6 +66,7 @@ staled_parts o s key p = record {
   acknowledged_is = p.acknowledged_is;
   settings_is = p.settings_is;
   recovers_is = p.recovers_is;
+  moved = p.moved;
   owed_in = p.owed_in;
   were = λ e i. were e (in_map (now_at (is_entry_of key) staled) e s.entries i);
   stay = λ e i. stay e (p.stay e i);

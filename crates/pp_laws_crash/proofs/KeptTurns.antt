@@ -1,22 +1,19 @@
 -- Replies, the clock, the phases of a turn and its end keep what the disk is about.
-use Rattle.std.proofs.Common.{◌≡◌, refl, ℕ, zero, suc, ◌+◌, nat_lt, max, Bool, true, false, not, ◌==◌, ◌&&◌, ◌||◌, List, [], ◌∷◌, ◌++◌, map, length, Option, Some, None, sym, subst, ap, ◌∙◌}
-use Rattle.std.specs.List.{list_any}
+use Rattle.std.proofs.Common.{◌≡◌, refl, ℕ, zero, suc, ◌+◌, nat_lt, max, Bool, true, false, not, ◌&&◌, List, [], ◌∷◌, inr, sym, ap, ◌∙◌}
 use Rattle.pp_world.specs.declared.event.Wants.{Wants}
 use Rattle.pp_world.specs.declared.note.Decision.{Decision}
-use Rattle.pp_law.specs.After.{new_client, event, opened, owing, reached, paid, said, gone, take_decision, evicted, refused_row, shut, out}
+use Rattle.pp_law.specs.After.{event, opened, owing, reached, paid, said, gone, take_decision, evicted, refused_row, shut, out}
 use Rattle.pp_law.specs.Asking.{asking, is_writing, hear, ask_body, ask_next, ask, hang_up, asked_text}
-use Rattle.pp_law.specs.Closing.{is_of, close_client, forsake}
-use Rattle.pp_law.specs.Connections.{client, conn, is_client, is_conn, front_of_line, on_client, on_conn, is_outstanding, each_conn, placing, Placement}
+use Rattle.pp_law.specs.Connections.{client, conn, front_of_line, on_client, on_conn, is_outstanding}
 use Rattle.pp_law.specs.Hearing.{heard_by}
 use Rattle.pp_law.specs.Lists.{Bytes}
-use Rattle.pp_law.specs.Offers.{is_at_body}
-use Rattle.pp_law.specs.Opening.{is_at, is_opening, is_same_phase}
-use Rattle.pp_law.specs.Phases.{phases, in_phase, behind, next, passed, due_victim, is_done, come, come_to, come_to_decide, decides, deciding, ending, is_under_way}
-use Rattle.pp_law.specs.Replies.{begin_replies, use_chunks, use_from, use_said, is_said, next_request, end_reply, end_said, is_finished, close_finished, end_replies, regained, said_by}
+use Rattle.pp_law.specs.Opening.{is_at}
+use Rattle.pp_law.specs.Phases.{phases, in_phase, behind, next, due_victim, is_done, come, come_to, come_to_decide, decides, deciding, ending}
+use Rattle.pp_law.specs.Replies.{begin_replies, use_chunks, use_from, use_said, of_body, is_said, next_request, end_reply, end_said, is_finished, close_finished, end_replies, regained, said_by}
 use Rattle.pp_law.specs.State.{State, Phase, Before, IsWoken, IsConfigured, IsRooted, IsListed, IsListening, IsStuck, Awaiting, Handling, Evicting, Keeping, Deciding, Following, Connecting, DecidingAgain, Owed, Free, Client, Conn, Exchange, Instance}
-use Rattle.pp_law.specs.Table.{Next, next_of, forget}
+use Rattle.pp_law.specs.Table.{Next, next_of}
 use Rattle.pp_law.specs.Turn.{marked_client, marked_conn, touch, is_leap, marks_anew, owes_answer, is_idle_conn, end_patience, close_idle_conn, renew_marks, tick_to, tick, rest_with}
-use Rattle.pp_laws_crash.proofs.Frames.{Kept, Parts, PartsOf, OwedIn, kept, parts_of, recovers, takes_turns, when, each_of}
+use Rattle.pp_laws_crash.proofs.Frames.{Kept, PartsOf, kept, parts_of, recovers, takes_turns, when, each_of}
 use Rattle.pp_laws_crash.proofs.KeptTable.{swept-kept, forget-kept, use_chunk-kept, drop_chunk-kept, on_conn-kept, on_exchange-kept, on_client-kept, on_client_of-kept, each_client-kept, each_conn-kept, fail-kept, close_conn-kept, close_client-kept, forsake-kept, placing-kept}
 use Rattle.pp_laws_crash.proofs.KeptExchanges.{decided-kept, drop_unseen-kept, ended-kept, fill-kept, give_up_asks-kept}
 
@@ -37,7 +34,7 @@ use_from-kept n x s h = use_chunks-kept _ _ _ s h
 
 use_said-kept : {o : State} (n : ℕ) (c : Client) (s : State) → Kept o s → Kept o (use_said n c s)
 unfolding use_said
-use_said-kept n c s h = when (is_at_body c && nat_lt 0 n) (each_of (next_of s c) h (λ x. use_from-kept n x s h)) h
+use_said-kept n c s h = when (nat_lt 0 (of_body n c)) (each_of (next_of s c) h (λ x. use_from-kept (of_body n c) x s h)) h
 
 end_reply-kept : {o : State} (c : Client) (s : State) → Kept o s → Kept o (end_reply c s)
 unfolding end_reply
@@ -126,6 +123,7 @@ in_turn phase s owed recovered turns was p = record {
   acknowledged_is = p.acknowledged_is;
   settings_is = p.settings_is;
   recovers_is = recovered ∙ sym was ∙ p.recovers_is;
+  moved = inr turns;
   owed_in = λ isnt. let both : true ≡ false = sym turns ∙ isnt in absurd (cc both);
   were = p.were;
   stay = p.stay;
@@ -201,6 +199,7 @@ owing-kept {o} owed n s is h = kept (record {
   acknowledged_is = (parts_of h).acknowledged_is;
   settings_is = (parts_of h).settings_is;
   recovers_is = (parts_of h).recovers_is;
+  moved = (parts_of h).moved;
   owed_in = λ isnt. let both : true ≡ false = sym (ap takes_turns is) ∙ isnt in absurd (cc both);
   were = (parts_of h).were;
   stay = (parts_of h).stay;
@@ -221,6 +220,7 @@ paid-kept {o} s h = regained-kept _ (kept (record {
   acknowledged_is = (parts_of h).acknowledged_is;
   settings_is = (parts_of h).settings_is;
   recovers_is = (parts_of h).recovers_is;
+  moved = (parts_of h).moved;
   owed_in = λ isnt. refl;
   were = (parts_of h).were;
   stay = (parts_of h).stay;

@@ -1,10 +1,9 @@
 -- A chunk that is read back was sent.
-use Rattle.std.proofs.Common.{◌≡◌, refl, ℕ, ◌+◌, ◌-◌, ◌*◌, ◌/◌, ◌<◌, ◌≤◌, nat_lt, Bool, true, false, not, ◌==◌, ◌&&◌, List, [], ◌∷◌, length, take, drop, find, get_or, bytes_eq, length-drop, Option, Some, None, sym, subst, ap, ◌∙◌, arith}
+use Rattle.std.proofs.Common.{◌≡◌, refl, ℕ, ◌+◌, ◌-◌, ◌*◌, ◌/◌, ◌<◌, ◌≤◌, nat_lt, Bool, true, false, not, ◌==◌, ◌&&◌, length, take, drop, get_or, bytes_eq, Option, Some, None, sym, subst, ap, ◌∙◌, arith}
 use Rattle.std.specs.Prelude.{is_some, min}
-use Rattle.std.specs.List.{list_any}
 use Rattle.std.proofs.lemmas.List.{get_or-take, get_or-drop, length-take}
 use Rattle.pp_entry.specs.Entries.{Row, row_at}
-use Rattle.pp_entry.specs.Texts.{body_at, chunks_of}
+use Rattle.pp_entry.specs.Texts.{body_at}
 use Rattle.pp_gate.specs.Files.{body}
 use Rattle.pp_text.specs.Bytes.{is_empty}
 use Rattle.pp_world.specs.Disk.{settled, view_of}
@@ -13,22 +12,20 @@ use Rattle.pp_law.specs.Asking.{is_writing}
 use Rattle.pp_law.specs.Chunks.{chunk_len, is_in_memory}
 use Rattle.pp_law.specs.Offers.{is_at_body}
 use Rattle.pp_law.specs.Stages.{reply_of}
-use Rattle.pp_law.specs.Connections.{client}
 use Rattle.pp_law.specs.Lists.{Bytes, has_text, is_some_with}
 use Rattle.pp_law.specs.Permits.{is_kept_there, may_load, may_load_at, permits_noted}
 use Rattle.pp_law.specs.State.{State, Client, Entry, Instance, Reply}
 use Rattle.pp_law.specs.Store.{chunk_in_file, file_under, is_closed}
-use Rattle.pp_law.specs.Table.{Next, instance, is_entry_of, is_instance, is_kept_row_of, is_row_of, is_same_version, kept_row, next_from, next_in, next_of, row, source_of}
+use Rattle.pp_law.specs.Table.{Next, instance, is_instance, is_kept_row_of, is_row_of, is_same_version, kept_row, next_from, next_in, next_of, row, source_of}
 use Rattle.pp_laws.specs.Origin.{AllSent, ChunkWasSent, EntryWasSent}
 use Rattle.pp_laws.specs.Runs.{IsIn}
 use Rattle.pp_laws.proofs.Lists.{in_find, the_one}
 use Rattle.pp_laws.proofs.Sound.{Rows, instance_id}
 use Rattle.pp_laws.proofs.Tests.{below, first_holds, same_bytes, same_number, same_version, second_holds}
-use Rattle.pp_laws_crash.proofs.Backing.{all_of, claimed, claims, is_sent}
+use Rattle.pp_laws_crash.proofs.Backing.{all_of, claims, is_sent}
 use Rattle.pp_laws_crash.proofs.Begins.{not_true}
 use Rattle.pp_laws_crash.proofs.Frames.{recovers}
 use Rattle.pp_laws_crash.proofs.Going.{kept_is_fresh}
-use Rattle.pp_laws_crash.proofs.Inv.{AtRest}
 use Rattle.pp_laws_crash.proofs.Lying.{Held, len_of}
 use Rattle.pp_laws_crash.proofs.Repairing.{any_in, file_is, settled_is}
 use Rattle.pp_laws_crash.proofs.Steps.{Inv, at_rest_of}

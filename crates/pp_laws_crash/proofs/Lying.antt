@@ -1,13 +1,12 @@
 -- How the file of an entry stands on the disk, and what a crash leaves of it.
-use Rattle.std.proofs.Common.{◌≡◌, ◌≢◌, ◌⊎◌, ⊎_elim, refl, ℕ, ◌+◌, ◌*◌, ◌<◌, ◌≤◌, Bool, true, false, List, [], ◌∷◌, ◌++◌, length, take, get_or, Option, Some, None, inl, inr, sym, subst, ap, ◌∙◌, arith}
+use Rattle.std.proofs.Common.{◌≡◌, ◌≢◌, ◌⊎◌, ⊎_elim, refl, ℕ, ◌+◌, ◌*◌, ◌<◌, ◌≤◌, Bool, true, false, List, [], ◌∷◌, ◌++◌, length, take, get_or, Some, inl, inr, sym, subst, ap, ◌∙◌, arith}
 use Rattle.std.specs.Prelude.{min}
 use Rattle.pp_entry.specs.Entries.{Row, row_at}
 use Rattle.pp_entry.specs.Texts.{body_at, chunks_of}
 use Rattle.pp_gate.specs.Files.{gate, body}
 use Rattle.pp_gate.specs.Seal.{IsHonest}
 use Rattle.pp_gate.proofs.GateLemmas.{honest_next}
-use Rattle.pp_gate.proofs.Images.{settled_leaves}
-use Rattle.pp_gate.proofs.Ops.{AllLeft, one_leaves}
+use Rattle.pp_gate.proofs.Ops.{one_leaves}
 use Rattle.pp_gate.proofs.PlaceLemmas.{gates_below}
 use Rattle.pp_gate.proofs.SealLemmas.{same_head, gate_same, body_same}
 use Rattle.pp_world.specs.Disk.{View, Stored, settled, is_loose, IsLeft}
@@ -148,23 +147,26 @@ held_more newer sent h = record { gates = h.gates; bytes = h.bytes; slot = h.slo
 pub loose_more : {e : Entry} {v : View} → (newer sent : List Sent) → Loose sent e v → Loose (newer ++ sent) e v
 loose_more newer sent h = record { gates = h.gates; file = h.file; slot = h.slot; lies = lies_more newer sent h.lies; synced_is = h.synced_is; end_is = h.end_is; strays = h.strays }
 
-settled_bytes : (b : Bytes) → (settled b).bytes ≡ b
+pub settled_bytes : (b : Bytes) → (settled b).bytes ≡ b
 unfolding settled
 settled_bytes b = refl
 
-settled_synced : (b : Bytes) → (settled b).synced ≡ length b
+pub settled_synced : (b : Bytes) → (settled b).synced ≡ length b
 unfolding settled
 settled_synced b = refl
 
-settled_end : (b : Bytes) → (settled b).end ≡ length b
+pub settled_end : (b : Bytes) → (settled b).end ≡ length b
 unfolding settled
 settled_end b = refl
 
-settled_tight : (b : Bytes) (o : ℕ) → is_loose o (settled b).loose ≡ false
+pub settled_tight : (b : Bytes) (o : ℕ) → is_loose o (settled b).loose ≡ false
 unfolding settled
 settled_tight b o = refl
 
-pub held_loose : {sent : List Sent} {recovers : Bool} {e : Entry} {v : View} → Held sent recovers e v → Loose sent e v
+pub none_loose : {A : Type 0} {b : Bool} → b ≡ false → b ≡ true → A
+none_loose isnt is = let both : false ≡ true = sym isnt ∙ is in absurd (cc both)
+
+abbrev pub held_loose : {sent : List Sent} {recovers : Bool} {e : Entry} {v : View} → Held sent recovers e v → Loose sent e v
 held_loose {sent} {recovers} {e} {v} h = record {
   gates = h.gates;
   file = settled h.bytes;
@@ -172,7 +174,7 @@ held_loose {sent} {recovers} {e} {v} h = record {
   lies = subst (λ b. Lies sent e h.gates b) (sym (settled_bytes h.bytes)) h.lies;
   synced_is = settled_synced h.bytes ∙ ap (λ (b : Bytes). length b) (sym (settled_bytes h.bytes));
   end_is = settled_end h.bytes ∙ ap (λ (b : Bytes). length b) (sym (settled_bytes h.bytes));
-  strays = λ o is. let none : false ≡ true = sym (settled_tight h.bytes o) ∙ is in absurd (cc none);
+  strays = λ o is. none_loose (settled_tight h.bytes o) is;
 }
 
 -- what a crash leaves of it

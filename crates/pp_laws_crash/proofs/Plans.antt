@@ -1,34 +1,33 @@
 -- What may be begun on a name: at each step a crash leaves only what was sent.
-use Rattle.std.proofs.Common.{◌≡◌, ◌≢◌, ◌⊎◌, ⊎_elim, refl, ℕ, ◌+◌, ◌*◌, ◌<◌, ◌≤◌, Bool, true, false, ◌&&◌, ◌||◌, not, List, [], ◌∷◌, ◌++◌, length, take, get_or, replicate, Option, Some, None, inl, inr, sym, subst, ap, ◌∙◌, arith}
+use Rattle.std.proofs.Common.{◌≡◌, ⊎_elim, refl, ℕ, ◌+◌, ◌*◌, ◌<◌, Bool, true, false, ◌&&◌, ◌||◌, not, List, [], ◌∷◌, ◌++◌, length, take, replicate, Some, None, inl, inr, sym, subst, ap, ◌∙◌, arith}
 use Rattle.std.specs.Prelude.{min, max}
 use Rattle.pp_entry.specs.Entries.{Row, row_at}
 use Rattle.pp_entry.specs.Texts.{body_at, chunks_of}
-use Rattle.pp_gate.specs.Files.{body, gate, whole_file}
+use Rattle.pp_gate.specs.Files.{body, whole_file}
 use Rattle.pp_gate.specs.Runs.{During}
 use Rattle.pp_gate.specs.Seal.{IsFront, IsHonest, IsKept, IsRun, KeepsIn, seal_ops}
-use Rattle.pp_gate.proofs.Images.{settled_leaves}
 use Rattle.pp_gate.proofs.Ops.{AllLeft, IsOldOr, published, published_slot, removed}
 use Rattle.pp_gate.proofs.SealLemmas.{seal_done, seal_during}
 use Rattle.pp_gate.proofs.Views.{done_view}
 use Rattle.pp_gate.proofs.WholeLemmas.{whole_holds, whole_honest, whole_kept}
-use Rattle.pp_world.specs.Disk.{View, Stored, settled, began, done, undone, LeavesOne}
+use Rattle.pp_world.specs.Disk.{View, Stored, settled, began, done}
 use Rattle.pp_world.specs.declared.op.DiskOp.{DiskOp}
 use Rattle.pp_world.specs.declared.op.DiskOp.TheVariants.{Draft, SyncDraft, Publish, Write, Sync, Remove}
-use Rattle.pp_law.specs.Lists.{Bytes, change}
+use Rattle.pp_law.specs.Lists.{Bytes}
 use Rattle.pp_law.specs.State.{Sent, Entry, Todo, Do, Enter, Acknowledge}
 use Rattle.pp_law.specs.Store.{is_of_draft, extended}
 use Rattle.pp_law.specs.Table.{is_entry_of, is_kept_row_of}
 use Rattle.pp_laws.specs.Runs.{IsIn}
-use Rattle.pp_laws.proofs.Lists.{Changed, in_change, in_filter, in_push, other, same}
+use Rattle.pp_laws.proofs.Lists.{Changed, in_change, in_push, other, same}
 use Rattle.pp_laws.proofs.Tests.{second_holds}
 use Rattle.pp_laws_crash.proofs.Backing.{Backed, BackedAt, claimed, honest_backed}
-use Rattle.pp_laws_crash.proofs.Going.{Ahead, Along, IfRecovers, MayShut, Rests, entries_after, kept_is_fresh, ops_of}
-use Rattle.pp_laws_crash.proofs.Lying.{Held, HeldAll, Lies, len_of}
-use Rattle.pp_laws_crash.proofs.Views.{began_failed, done_failed, during_map, left_map, name_same, same_name}
+use Rattle.pp_laws_crash.proofs.Going.{Ahead, Along, IfRecovers, Rests, entries_after, ops_of}
+use Rattle.pp_laws_crash.proofs.Lying.{Held, len_of}
+use Rattle.pp_laws_crash.proofs.Views.{during_map, left_map, name_same, same_name}
 
 -- ---- one file stands under a name
 
-one_slot : (a b : Bytes) → Some (settled a) ∷ [] ≡ Some (settled b) ∷ [] → a ≡ b
+pub one_slot : (a b : Bytes) → Some (settled a) ∷ [] ≡ Some (settled b) ∷ [] → a ≡ b
 unfolding settled
 one_slot a b is = let same : settled a ≡ settled b = cc is in ap (λ (f : Stored). f.bytes) same
 
@@ -109,6 +108,10 @@ module _ {sent : List Sent} {entries : List Entry} {name : Bytes} {v : View} (re
   sealed : KeepsIn (claimed sent) held.lies.block (len_of e) (first + count) (done_view name v (seal_ops name (len_of e) first count bytes))
   sealed = seal_done (claimed sent) held.lies.block (len_of e) first count bytes held.bytes kept holds run name v held.slot rests.sound
 
+  -- at each moment of it a crash leaves an entry that reaches as far
+  pub seal_each : During name v (seal_ops name (len_of e) first count bytes) (AllLeft (IsHonest (claimed sent) held.lies.block (len_of e) least))
+  seal_each = seal_during (claimed sent) held.lies.block (len_of e) first count bytes held.bytes kept holds run name v held.slot rests.sound
+
   -- an entry under the name, once it was extended
   sealed_as : (d x : Entry) → AreOne e x → d.key ≡ x.key → d.version ≡ x.version → (d.is_stale ≡ false → d.extent ≡ end) → Held sent false d (done_view name v (seal_ops name (len_of e) first count bytes))
   sealed_as d x one key version extent =
@@ -123,7 +126,7 @@ module _ {sent : List Sent} {entries : List Entry} {name : Bytes} {v : View} (re
   seal_ahead key tag n is_row = record {
     during = during_map name v (seal_ops name (len_of e) first count bytes) (AllLeft (IsHonest (claimed sent) held.lies.block (len_of e) least)) (Backed sent name)
         (λ w all. left_map (IsHonest (claimed sent) held.lies.block (len_of e) least) (BackedAt sent name) w (λ file h. honest_backed sent held.lies.block (len_of e) least name held.lies.row file held.lies.reads row_length h) all)
-        (seal_during (claimed sent) held.lies.block (len_of e) first count bytes held.bytes kept holds run name v held.slot rests.sound);
+        seal_each;
     along = along_plain sent entries name (Rests sent false entries name) v (seal_ops name (len_of e) first count bytes) (refl, (refl, (refl, (refl, tt))));
     last = record { sound = sealed.sound; held = λ d i is. by d (in_change (is_kept_row_of key) (extended end) d entries i) is };
   }

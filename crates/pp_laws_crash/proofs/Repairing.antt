@@ -1,5 +1,5 @@
 -- In the opening gates are closed that stand open behind one that does not; and recovery is over once there are none.
-use Rattle.std.proofs.Common.{◌≡◌, ◌≢◌, ◌⊎◌, ⊎_elim, refl, ℕ, ◌+◌, ◌-◌, ◌*◌, ◌<◌, ◌≤◌, nat_lt, nat_le, Bool, true, false, not, ◌==◌, ◌&&◌, ◌||◌, List, [], ◌∷◌, length, take, drop, get_or, bytes_eq, length-drop, Option, Some, None, inl, inr, sym, subst, ap, ◌∙◌, arith}
+use Rattle.std.proofs.Common.{◌≡◌, ◌⊎◌, ⊎_elim, refl, ℕ, ◌+◌, ◌-◌, ◌<◌, ◌≤◌, nat_lt, nat_le, Bool, true, false, not, ◌==◌, ◌&&◌, ◌||◌, List, [], ◌∷◌, length, take, drop, get_or, bytes_eq, length-drop, Option, Some, None, inl, inr, sym, subst, ap, ◌∙◌, arith}
 use Rattle.std.specs.Prelude.{is_some}
 use Rattle.std.specs.List.{list_all, list_any}
 use Rattle.std.proofs.lemmas.Bool.Decides.{nat_tests}
@@ -7,7 +7,7 @@ use Rattle.std.proofs.lemmas.List.{get_or-take, get_or-drop, length-take, length
 use Rattle.std.proofs.lemmas.List.Folds.{list_any_at}
 use Rattle.pp_entry.specs.Entries.{Row, row_at}
 use Rattle.pp_entry.specs.Gates.{leading_open}
-use Rattle.pp_entry.specs.Texts.{body_at, chunks_of}
+use Rattle.pp_entry.specs.Texts.{chunks_of}
 use Rattle.pp_gate.specs.Files.{gate, open_gates}
 use Rattle.pp_gate.proofs.GateLemmas.{opens_at_least, opens_at_most}
 use Rattle.pp_gate.proofs.PlaceLemmas.{gates_below}
@@ -17,16 +17,16 @@ use Rattle.pp_world.specs.Log.{Log}
 use Rattle.pp_world.specs.declared.op.DiskOp.{DiskOp}
 use Rattle.pp_world.specs.declared.op.DiskOp.TheVariants.{Draft, SyncDraft, Publish, Write, Sync, Remove}
 use Rattle.pp_law.specs.Lists.{Bytes, has_text}
-use Rattle.pp_law.specs.Repairs.{agenda_in_opening, are_strays, begin_in_opening, closes_strays, gates_of, has_stray_gates, has_strays_under, is_open_gate, may_repair, repair_of, sync_of}
-use Rattle.pp_law.specs.State.{State, Sent, Agenda, Entry, Todo, Do}
+use Rattle.pp_law.specs.Repairs.{are_strays, begin_in_opening, closes_strays, gates_of, has_stray_gates, has_strays_under, is_open_gate, may_repair, repair_of, sync_of}
+use Rattle.pp_law.specs.State.{State, Sent, Agenda, Entry, Do}
 use Rattle.pp_law.specs.Store.{begin_op, file_under, going_on, is_named}
 use Rattle.pp_laws.specs.Runs.{IsIn}
 use Rattle.pp_laws.proofs.Tests.{below, first_holds, second_holds}
 use Rattle.pp_laws_crash.proofs.Begins.{IsFirst, going_is}
 use Rattle.pp_laws_crash.proofs.Frames.{recovers}
-use Rattle.pp_laws_crash.proofs.Going.{Ahead, Along, Goes, IfRecovers, MayShut, OnName, Rests, ops_of}
+use Rattle.pp_laws_crash.proofs.Going.{Ahead, Along, IfRecovers, MayShut, OnName, Rests, ops_of}
 use Rattle.pp_laws_crash.proofs.Inv.{AtRest, Busy, InvOf, goes_on, is_shut, planned, rest_of, shut_of}
-use Rattle.pp_laws_crash.proofs.Lying.{Held, Lies, Loose, len_of}
+use Rattle.pp_laws_crash.proofs.Lying.{Held, Loose, len_of}
 use Rattle.pp_laws_crash.proofs.Shutting.{IsStray, shut_ahead}
 use Rattle.pp_laws_crash.proofs.Steps.{Inv, begin_inv, begin_none, empty_is, idle_is}
 use Rattle.pp_laws_crash.proofs.Views.{same_name}
@@ -107,15 +107,27 @@ either_is : (a b : Bool) → (a || b) ≡ true → (a ≡ true) ⊎ (b ≡ true)
 either_is true b is = inl refl
 either_is false b is = inr is
 
-repair_plan : (s : State) (name : Bytes) (at : ℕ) (bytes : Bytes) → InvOf s.sent s.disk s.agenda None s.closed_names true s.entries → may_repair s name ≡ true → list_any (closes_strays s name at bytes) s.entries ≡ true
-    → InvOf s.sent s.disk (record { name = name; todo = Do (Write name at bytes) ∷ Do (Sync name) ∷ [] }) None s.closed_names true s.entries
+-- an entry has the name, and these are gates behind the one that is next
+pub record Repairs (s : State) (name : Bytes) (at : ℕ) (bytes : Bytes) : Type 0 where
+  pub entry : Entry
+  pub there : IsIn entry s.entries
+  pub named : entry.name ≡ name
+  pub sound : (view_of name s.disk).failed ≡ false
+  pub stands : Loose s.sent entry (view_of name s.disk)
+  pub stray : IsStray name at bytes stands.gates (len_of entry)
+
+pub repair_plan : (s : State) (name : Bytes) (at : ℕ) (bytes : Bytes) → InvOf s.sent s.disk s.agenda None s.closed_names true s.entries → may_repair s name ≡ true → list_any (closes_strays s name at bytes) s.entries ≡ true
+    → InvOf s.sent s.disk (record { name = name; todo = Do (Write name at bytes) ∷ Do (Sync name) ∷ [] }) None s.closed_names true s.entries × Repairs s name at bytes
 repair_plan s name at bytes h may strays = by (any_in (closes_strays s name at bytes) s.entries strays)
   where
     where_is : (s.agenda.todo ≡ []) ⊎ (s.agenda.name ≡ name)
     where_is = ⊎_elim (λ (empty : is_empty s.agenda.todo ≡ true). inl (empty_is s.agenda.todo empty)) (λ (is : bytes_eq s.agenda.name name ≡ true). inr (same_name s.agenda.name name is)) (either_is (is_empty s.agenda.todo) _ may)
 
-    by : (e : Entry) × IsIn e s.entries × (closes_strays s name at bytes e ≡ true) → InvOf s.sent s.disk (record { name = name; todo = Do (Write name at bytes) ∷ Do (Sync name) ∷ [] }) None s.closed_names true s.entries
-    by (e, i, closes) = replanned h _ where_is isnt (refl, (refl, tt)) (shut_ahead at bytes shuts e i named (λ d j is k. stray_of s name at bytes e d named (shuts.loose e i named) k gates))
+    by : (e : Entry) × IsIn e s.entries × (closes_strays s name at bytes e ≡ true) → InvOf s.sent s.disk (record { name = name; todo = Do (Write name at bytes) ∷ Do (Sync name) ∷ [] }) None s.closed_names true s.entries × Repairs s name at bytes
+    by (e, i, closes) = (
+      replanned h _ where_is isnt (refl, (refl, tt)) (shut_ahead at bytes shuts e i named (λ d j is k. stray_of s name at bytes e d named (shuts.loose e i named) k gates)),
+      record { entry = e; there = i; named = named; sound = shuts.sound; stands = shuts.loose e i named; stray = stray_of s name at bytes e e named (shuts.loose e i named) (shuts.loose e i named) gates },
+    )
       where
         three : (is_named name e && nat_lt 0 (length bytes) && list_all (λ b. b == 0) bytes) ≡ true
         three = first_holds (is_named name e && nat_lt 0 (length bytes) && list_all (λ b. b == 0) bytes) _ closes
@@ -147,7 +159,7 @@ module _ (s : State) (listed : recovers s.phase ≡ true) (idle_so : not (is_som
 
       by : (a b : Bool) → may_repair s name ≡ a → list_any (closes_strays s name at bytes) s.entries ≡ b
           → Inv (begin_op (Write name at bytes) (elim (a && b) as (λ c. Option Agenda) [ true ↦ Some (record { name = name; todo = Do (Write name at bytes) ∷ Do (Sync name) ∷ [] }) | false ↦ None ]) s)
-      by true true one two = begin_inv s (Write name at bytes) _ (record { rest = Do (Sync name) ∷ []; todo = refl }) (back (repair_plan s name at bytes now one two)) h.owed h.few
+      by true true one two = begin_inv s (Write name at bytes) _ (record { rest = Do (Sync name) ∷ []; todo = refl }) (back (repair_plan s name at bytes now one two).0) h.owed h.few
       by true false one two = begin_none s (Write name at bytes) h
       by false b one two = begin_none s (Write name at bytes) h
 

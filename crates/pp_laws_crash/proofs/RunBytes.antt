@@ -1,9 +1,7 @@
 -- The bytes of whole chunks, one behind the other.
-use Rattle.std.proofs.Common.{◌≡◌, refl, ℕ, zero, suc, ◌+◌, ◌-◌, ◌*◌, ◌/◌, ◌<◌, ◌≤◌, nat_lt, Bool, true, false, ◌==◌, ◌&&◌, List, [], ◌∷◌, ◌++◌, length, get_or, length-append, Option, Some, None, sym, subst, ap, ◌∙◌, arith}
+use Rattle.std.proofs.Common.{◌≡◌, refl, ℕ, zero, suc, ◌+◌, ◌-◌, ◌*◌, ◌<◌, ◌≤◌, nat_lt, Bool, true, false, List, length, get_or, length-append, Option, Some, sym, subst, ap, ◌∙◌, arith}
 use Rattle.std.specs.Prelude.{min}
-use Rattle.std.proofs.lemmas.Bool.Decides.{nat_tests}
 use Rattle.pp_entry.specs.Entries.{Row, row_at}
-use Rattle.pp_entry.specs.Texts.{chunks_of}
 use Rattle.pp_valid.specs.declared.version.Version.{Version}
 use Rattle.pp_law.specs.Chunks.{chunk_len, chunk_bytes, filled}
 use Rattle.pp_law.specs.Lists.{Bytes}

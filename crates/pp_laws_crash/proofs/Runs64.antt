@@ -1,10 +1,10 @@
 -- A reading never sets runs of more than 64 chunks.
-use Rattle.std.proofs.Common.{◌≡◌, refl, ℕ, ◌<◌, ◌≤◌, nat_le, nat_lt, Bool, true, false, ◌&&◌, List, [], ◌∷◌, ◌++◌, length, cond, Option, Some, None, option_and_then, Result, Ok, Err, sym, subst, ap, ◌∙◌, arith}
-use Rattle.std.specs.Prelude.{fold, unwrap_or}
+use Rattle.std.proofs.Common.{◌≡◌, refl, ℕ, ◌≤◌, nat_le, Bool, true, false, ◌&&◌, List, [], ◌∷◌, ◌++◌, cond, Option, Some, None, option_and_then, Result, Ok, Err, subst, ap, arith}
+use Rattle.std.specs.Prelude.{unwrap_or}
 use Rattle.std.proofs.lemmas.Bool.Decides.{nat_tests}
 use Rattle.pp_conf.specs.Conf.{Assignment, Settings, assigned, defaults, first_refused, in_order, number_or_0, or_refused, out_of_order, settings_of, with_value}
-use Rattle.pp_conf.specs.Settings.{is_padded, number_in}
-use Rattle.pp_conf.specs.Words.{Refusal, NoReading, TooLong, Told, Serves, ShowsDemo, has_reading, is_too_long, or_out_of_range, reading_of, seed_of, served_by, text_assignments, told_by, with_words, word_assignments}
+use Rattle.pp_conf.specs.Settings.{is_padded}
+use Rattle.pp_conf.specs.Words.{NoReading, TooLong, Serves, has_reading, is_too_long, or_out_of_range, reading_of, seed_of, text_assignments, told_by, with_words, word_assignments}
 use Rattle.pp_conf.specs.declared.setting.Setting.{Setting}
 use Rattle.pp_conf.specs.declared.setting.Setting.TheVariants.{ProxyPort, ProxyName, DiskCacheRoot, ChunkLowMark, ChunkHighMark, ChunkCriticalMark, DiskRun, MaxTurns, ShareFetches, PipelineAsks, HostConnections}
 use Rattle.pp_text.specs.Numbers.{number_of}

@@ -1,18 +1,18 @@
 -- Gates that are open behind one that is not are closed while a life recovers: each entry holds what it held.
-use Rattle.std.proofs.Common.{◌≡◌, ◌≢◌, ◌⊎◌, ⊎_elim, refl, ℕ, ◌+◌, ◌*◌, ◌<◌, ◌≤◌, Bool, true, false, ◌&&◌, ◌||◌, nat_le, nat_lt, List, [], ◌∷◌, length, max, Option, Some, None, inl, inr, sym, subst, ap, ◌∙◌, arith}
+use Rattle.std.proofs.Common.{◌≡◌, ◌⊎◌, ⊎_elim, refl, ℕ, ◌+◌, ◌<◌, ◌≤◌, Bool, true, false, ◌&&◌, ◌||◌, nat_le, nat_lt, List, [], ◌∷◌, length, max, Option, inl, inr, sym, subst, ap, ◌∙◌, arith}
 use Rattle.std.proofs.lemmas.Bool.Decides.{nat_tests}
-use Rattle.pp_entry.specs.Texts.{body_at, chunks_of}
+use Rattle.pp_entry.specs.Texts.{chunks_of}
 use Rattle.pp_gate.specs.Runs.{During}
 use Rattle.pp_gate.proofs.Images.{length-splice, splice_after, splice_before}
-use Rattle.pp_gate.proofs.Ops.{begun_slot, sync_slot, write_slot}
+use Rattle.pp_gate.proofs.Ops.{AllLeft, begun_slot, sync_slot, write_slot}
 use Rattle.pp_gate.proofs.PlaceLemmas.{gates_below}
-use Rattle.pp_world.specs.Disk.{View, Stored, began, done, undone, is_loose, loosened, settled, splice, written}
+use Rattle.pp_world.specs.Disk.{View, Stored, began, done, undone, is_loose, loosened, splice, written}
 use Rattle.pp_world.specs.declared.op.DiskOp.TheVariants.{Write, Sync}
 use Rattle.pp_law.specs.Lists.{Bytes}
-use Rattle.pp_law.specs.State.{Sent, Entry, Todo, Do}
+use Rattle.pp_law.specs.State.{Sent, Entry, Do}
 use Rattle.pp_laws.specs.Runs.{IsIn}
-use Rattle.pp_laws_crash.proofs.Backing.{Backed, BackedAt}
-use Rattle.pp_laws_crash.proofs.Going.{Ahead, IfRecovers, MayShut, Rests}
+use Rattle.pp_laws_crash.proofs.Backing.{BackedAt}
+use Rattle.pp_laws_crash.proofs.Going.{Ahead, MayShut}
 use Rattle.pp_laws_crash.proofs.Lying.{Held, Lies, Loose, LooseAll, SameBut, held_loose, len_of, lies_same, loose_backed}
 use Rattle.pp_laws_crash.proofs.Views.{left_same}
 
@@ -65,7 +65,7 @@ module _ (name : Bytes) (at : ℕ) (x : Bytes) where
   abbrev pub IsStray : ℕ → ℕ → Type 0
   IsStray gates n = (8192 + gates < at) × (at + length x ≤ 8192 + chunks_of n)
 
-  loose_began : {sent : List Sent} {e : Entry} {v : View} → (h : Loose sent e v) → IsStray h.gates (len_of e) → Loose sent e (began name (Write name at x) v)
+  abbrev loose_began : {sent : List Sent} {e : Entry} {v : View} → (h : Loose sent e v) → IsStray h.gates (len_of e) → Loose sent e (began name (Write name at x) v)
   loose_began {sent} {e} {v} h stray = record {
     gates = h.gates;
     file = loosened at (at + length x) h.file;
@@ -88,7 +88,7 @@ module _ (name : Bytes) (at : ℕ) (x : Bytes) where
         where_is;
   }
 
-  loose_done : {sent : List Sent} {e : Entry} {v : View} → (h : Loose sent e v) → IsStray h.gates (len_of e) → Loose sent e (done name (Write name at x) (began name (Write name at x) v))
+  abbrev loose_done : {sent : List Sent} {e : Entry} {v : View} → (h : Loose sent e v) → IsStray h.gates (len_of e) → Loose sent e (done name (Write name at x) (began name (Write name at x) v))
   loose_done {sent} {e} {v} h stray = record {
     gates = h.gates;
     file = written at x (loosened at (at + length x) h.file);
@@ -105,15 +105,36 @@ module _ (name : Bytes) (at : ℕ) (x : Bytes) where
       size : length (splice at x h.file.bytes) ≡ length h.file.bytes
       size = (over h stray).size
 
+recovers_not : {A : Type 0} → true ≡ false → A
+recovers_not is = absurd (cc is)
+
 -- a file that is synced is whole
-loose_synced : {sent : List Sent} {e : Entry} {v : View} → (name : Bytes) → v.failed ≡ false → Loose sent e v → Held sent true e (done name (Sync name) (began name (Sync name) v))
+abbrev loose_synced : {sent : List Sent} {e : Entry} {v : View} → (name : Bytes) → v.failed ≡ false → Loose sent e v → Held sent true e (done name (Sync name) (began name (Sync name) v))
 loose_synced {sent} {e} {v} name sound h = record {
   gates = h.gates;
   bytes = h.file.bytes;
   slot = sync_slot name h.file (began name (Sync name) v) h.slot sound;
   lies = h.lies;
-  shut = λ r. absurd (cc r);
+  shut = λ r. recovers_not r;
 }
+
+-- what holds of such files holds at each moment of it
+pub shut_each : {sent : List Sent} {e : Entry} {v : View} → (name : Bytes) (at : ℕ) (x : Bytes) → (h : Loose sent e v) → v.failed ≡ false → IsStray name at x h.gates (len_of e)
+    → (R : Option Bytes → Type 0) → ((w : View) → (k : Loose sent e w) → k.gates ≡ h.gates → AllLeft R w) → During name v (Write name at x ∷ Sync name ∷ []) (AllLeft R)
+shut_each {sent} {e} {v} name at x h sound stray R each = (
+  each v h refl,
+  each (began name (Write name at x) v) (loose_began name at x h stray) refl,
+  left_same R (began name (Write name at x) v) (undone name (Write name at x) (began name (Write name at x) v)) refl (each (began name (Write name at x) v) (loose_began name at x h stray) refl),
+  (
+    written,
+    written,
+    left_same R (done name (Write name at x) (began name (Write name at x) v)) (undone name (Sync name) (done name (Write name at x) (began name (Write name at x) v))) refl written,
+    each (done name (Sync name) (began name (Sync name) (done name (Write name at x) (began name (Write name at x) v)))) (held_loose (loose_synced name sound (loose_done name at x h stray))) refl,
+  ),
+)
+  where
+    written : AllLeft R (done name (Write name at x) (began name (Write name at x) v))
+    written = each (done name (Write name at x) (began name (Write name at x) v)) (loose_done name at x h stray) refl
 
 -- ---- and the plan: a write, and the sync
 

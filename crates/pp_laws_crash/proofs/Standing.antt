@@ -1,8 +1,8 @@
 -- What the tests of a phase tell of it.
-use Rattle.std.proofs.Common.{◌≡◌, refl, Bool, true, false, ◌||◌, List, [], ◌∷◌, sym, ap, ◌∙◌}
+use Rattle.std.proofs.Common.{◌≡◌, refl, Bool, true, false, ◌||◌, List, [], ◌∷◌}
 use Rattle.std.specs.List.{list_any}
 use Rattle.pp_law.specs.Opening.{is_at, is_opening, is_same_phase}
-use Rattle.pp_law.specs.Phases.{come, come_to, is_done, next, passed, phases}
+use Rattle.pp_law.specs.Phases.{come, come_to, passed, phases}
 use Rattle.pp_law.specs.State.{State, Phase, Before, IsWoken, IsConfigured, IsRooted, IsListed, IsListening, IsStuck, Awaiting, Handling, Evicting, Keeping, Deciding, Following, Connecting, DecidingAgain}
 use Rattle.pp_laws_crash.proofs.Frames.{recovers, takes_turns}
 

@@ -1,17 +1,19 @@
 -- A draft and a seal that the law permits are such plans: what they write stands in memory, and was sent.
-use Rattle.std.proofs.Common.{◌≡◌, ◌⊎◌, ⊎_elim, refl, ℕ, zero, suc, ◌+◌, ◌-◌, ◌*◌, ◌/◌, ◌<◌, ◌≤◌, nat_lt, nat_le, Bool, true, false, not, ◌==◌, ◌&&◌, ◌||◌, List, [], ◌∷◌, ◌++◌, length, get_or, replicate, Option, Some, None, inl, inr, sym, subst, ap, ◌∙◌, arith}
+use Rattle.std.proofs.Common.{◌≡◌, ◌⊎◌, ⊎_elim, refl, ℕ, zero, suc, ◌+◌, ◌-◌, ◌*◌, ◌/◌, ◌<◌, ◌≤◌, nat_lt, nat_le, Bool, true, false, not, ◌==◌, ◌&&◌, ◌||◌, List, [], ◌∷◌, length, get_or, replicate, Some, None, inl, inr, sym, subst, ap, ◌∙◌, arith}
 use Rattle.std.specs.Prelude.{min, max}
 use Rattle.std.proofs.lemmas.Bool.Decides.{nat_tests}
 use Rattle.pp_entry.specs.Entries.{Row, row_at}
 use Rattle.pp_entry.specs.Texts.{body_at, chunks_of, padded}
-use Rattle.pp_gate.specs.Seal.{IsFront, IsRun}
+use Rattle.pp_gate.specs.Runs.{During}
+use Rattle.pp_gate.specs.Seal.{IsFront, IsHonest, IsRun, seal_ops}
+use Rattle.pp_gate.proofs.Ops.{AllLeft}
 use Rattle.pp_target.specs.Name.{name_of}
 use Rattle.pp_world.specs.Disk.{view_of}
 use Rattle.pp_world.specs.declared.op.DiskOp.TheVariants.{Draft, SyncDraft, Publish, Write, Sync}
 use Rattle.pp_law.specs.Chunks.{chunk_len}
-use Rattle.pp_law.specs.Lists.{Bytes, has_text}
-use Rattle.pp_law.specs.State.{State, Sent, Agenda, Chunk, Entry, Instance, Todo, Do, Enter, Acknowledge}
-use Rattle.pp_law.specs.Store.{block_of, drafted_with, drafting, draft_of, end_of_run, file_of, has_first_run, is_full_run, new_entry, noting, run_bytes, run_from, run_len, seal_of, sealing, whole_run}
+use Rattle.pp_law.specs.Lists.{Bytes}
+use Rattle.pp_law.specs.State.{State, Agenda, Chunk, Entry, Instance, Todo, Do, Enter, Acknowledge}
+use Rattle.pp_law.specs.Store.{block_of, drafted_with, drafting, draft_of, end_of_run, file_of, has_first_run, is_full_run, new_entry, run_bytes, run_from, run_len, seal_of, sealing, whole_run}
 use Rattle.pp_law.specs.Table.{is_kept_row_of}
 use Rattle.pp_laws.specs.Runs.{IsIn}
 use Rattle.pp_laws.proofs.Joins.{HeldOf}
@@ -19,10 +21,10 @@ use Rattle.pp_laws.proofs.Lists.{in_find}
 use Rattle.pp_laws.proofs.Tests.{below, first_holds, same_bytes, same_number, second_holds}
 use Rattle.pp_laws_crash.proofs.Backing.{claimed}
 use Rattle.pp_laws_crash.proofs.Begins.{IsFree, MayDraft, MaySeal, ReadsBack, block_full, draft_is, free_is, reads_back, seal_is}
-use Rattle.pp_laws_crash.proofs.Going.{Ahead, OnName, Rests, kept_is_fresh}
+use Rattle.pp_laws_crash.proofs.Going.{Ahead, Rests, kept_is_fresh}
 use Rattle.pp_laws_crash.proofs.Inv.{AtRest, InvOf, planned}
 use Rattle.pp_laws_crash.proofs.Lying.{Held, len_of}
-use Rattle.pp_laws_crash.proofs.Plans.{draft_ahead, draft_noted_ahead, seal_ahead}
+use Rattle.pp_laws_crash.proofs.Plans.{draft_ahead, draft_noted_ahead, seal_ahead, seal_each}
 use Rattle.pp_laws_crash.proofs.RunBytes.{AreWhole, run_claimed, run_inside, run_length, run_most, run_whole}
 
 whole_front : (n id : ℕ) (chunks : List Chunk) (i a b : ℕ) → b ≤ a → AreWhole n id chunks i a → AreWhole n id chunks i b
@@ -123,70 +125,78 @@ few_of run critical le = omega (arith, le)
 first_is : (n gates extent : ℕ) → extent ≡ min n (4096 * gates) → extent < n → gates ≡ extent / 4096
 first_is n gates extent is lt = omega (arith, is, lt)
 
+module _ (s : State) (x : Instance) (e : Entry) (few : s.settings.disk_run ≤ 64) (held_bytes : HeldOf s.sent x.key x.version x.id s.chunks) (rest : AtRest s.sent s.disk s.closed_names false s.entries) (may : MaySeal s x e) where
+  pub there : IsIn e s.entries × (is_kept_row_of x.key e ≡ true)
+  there = in_find (is_kept_row_of x.key) e s.entries may.is_kept
+
+  abbrev pub rests : Rests s.sent false s.entries e.name (view_of e.name s.disk)
+  rests = rest.rests e.name may.open_name
+
+  abbrev pub held : Held s.sent false e (view_of e.name s.disk)
+  held = rests.held e there.0 refl
+
+  e_key : e.key ≡ x.key
+  e_key = same_bytes e.key x.key (second_holds (not e.is_stale) _ there.1)
+
+  own : name_of x.key ≡ e.name
+  own = ap name_of (sym e_key) ∙ rest.own e there.0
+
+  size : len_of e ≡ x.version.length
+  size = ap (λ w. w.length) (sym may.version)
+
+  abbrev first : ℕ
+  first = e.extent / chunk_len
+
+  abbrev count : ℕ
+  count = run_from s x e
+
+  abbrev end : ℕ
+  end = end_of_run x e (run_from s x e)
+
+  abbrev bytes : Bytes
+  bytes = run_bytes (run_from s x e) x.id s.chunks (e.extent / chunk_len)
+
+  extent : e.extent ≡ min (len_of e) (4096 * held.gates)
+  extent = held.lies.extent (kept_is_fresh x.key e there.1)
+
+  gates_is : held.gates ≡ e.extent / chunk_len
+  gates_is = first_is (len_of e) held.gates e.extent extent (subst (λ k. e.extent < k) (sym size) may.inside)
+
+  extent_first : e.extent ≡ 4096 * (e.extent / chunk_len)
+  extent_first = omega (arith, extent, gates_is, subst (λ k. e.extent < k) (sym size) may.inside)
+
+  end_is : end_of_run x e (run_from s x e) ≡ min (len_of e) (4096 * (e.extent / chunk_len + run_from s x e))
+  end_is = ap (λ k. min k (e.extent + run_from s x e * 4096)) (sym size) ∙ ap (min (len_of e)) (total (run_from s x e) (e.extent / chunk_len) extent_first)
+    where
+      total : (c f : ℕ) → e.extent ≡ 4096 * f → e.extent + c * 4096 ≡ 4096 * (f + c)
+      total c f eq = omega (arith, eq)
+
+  whole : AreWhole x.version.length x.id s.chunks (e.extent / chunk_len) (run_from s x e)
+  whole = run_whole (run_len s) x.version.length x.id s.chunks (e.extent / chunk_len)
+
+  some : 0 < run_from s x e
+  some = below 0 (run_from s x e) (first_holds (nat_lt 0 (run_from s x e)) _ may.full)
+
+  run : IsRun (claimed s.sent) held.lies.block (len_of e) (e.extent / chunk_len) (run_from s x e) (run_bytes (run_from s x e) x.id s.chunks (e.extent / chunk_len))
+  run = record {
+    some = some;
+    few = omega (arith, run_most (run_len s) x.version.length x.id s.chunks (e.extent / chunk_len), few_of s.settings.disk_run s.settings.critical few);
+    size = run_length x.version.length x.id s.chunks (e.extent / chunk_len) (run_from s x e) whole ∙ ap (λ k. min k (4096 * (e.extent / chunk_len + run_from s x e)) - 4096 * (e.extent / chunk_len)) (sym size);
+    in_body = subst (λ k. 4096 * (e.extent / chunk_len + run_from s x e - 1) < k) (sym size) (run_inside x.version.length x.id s.chunks (e.extent / chunk_len) (run_from s x e) whole some);
+    sent_all = λ o lt. run_claimed s.sent x.key x.version x.version.length x.id s.chunks held_bytes held.lies.block held.lies.row held.lies.reads (held.lies.key ∙ e_key) (held.lies.version ∙ sym may.version) (e.extent / chunk_len) (run_from s x e) whole o lt;
+  }
+
+  sealing_inv : InvOf s.sent s.disk (record { name = e.name; todo = sealing s x e (run_from s x e) }) None s.closed_names false s.entries
+  sealing_inv = planned rest _ may.open_name (refl, (refl, (refl, (refl, (refl, own, refl, tt))))) (subst (λ k. Ahead s.sent false s.entries e.name (Do (Write e.name (body_at k + 4096 * first) bytes) ∷ Do (Sync e.name) ∷ Do (Write e.name (8192 + first) (replicate count 1)) ∷ Do (Sync e.name) ∷ Acknowledge x.key x.version.tag x.version.length end ∷ []) (view_of e.name s.disk)) size
+      (seal_ahead rests e there.0 refl first count end bytes gates_is run end_is x.key x.version.tag x.version.length there.1))
+
+  -- at each moment of it a crash leaves an entry that reaches as far
+  pub seal_keeps : During e.name (view_of e.name s.disk) (seal_ops e.name x.version.length (e.extent / chunk_len) (run_from s x e) (run_bytes (run_from s x e) x.id s.chunks (e.extent / chunk_len)))
+      (AllLeft (IsHonest (claimed s.sent) held.lies.block (len_of e) (min (len_of e) (4096 * held.gates))))
+  seal_keeps =
+      subst (λ g. During e.name (view_of e.name s.disk) (seal_ops e.name x.version.length first count bytes) (AllLeft (IsHonest (claimed s.sent) held.lies.block (len_of e) (min (len_of e) (4096 * g))))) (sym gates_is)
+      (subst (λ k. During e.name (view_of e.name s.disk) (seal_ops e.name k first count bytes) (AllLeft (IsHonest (claimed s.sent) held.lies.block (len_of e) (min (len_of e) (4096 * first))))) size
+      (seal_each rests e there.0 refl first count end bytes gates_is run end_is))
+
 pub seal_inv : (s : State) (x : Instance) (a : Agenda) → s.settings.disk_run ≤ 64 → HeldOf s.sent x.key x.version x.id s.chunks → AtRest s.sent s.disk s.closed_names false s.entries → seal_of s x ≡ Some a → InvOf s.sent s.disk a None s.closed_names false s.entries
-seal_inv s x a few held_bytes rest is = by (seal_is s x a is)
-  where
-    by : (e : Entry) × MaySeal s x e × (record { name = e.name; todo = sealing s x e (run_from s x e) } ≡ a) → InvOf s.sent s.disk a None s.closed_names false s.entries
-    by (e, may, eq) = subst (λ b. InvOf s.sent s.disk b None s.closed_names false s.entries) eq
-        (planned rest _ may.open_name (refl, (refl, (refl, (refl, (refl, own, refl, tt))))) (subst (λ k. Ahead s.sent false s.entries e.name (Do (Write e.name (body_at k + 4096 * first) bytes) ∷ Do (Sync e.name) ∷ Do (Write e.name (8192 + first) (replicate count 1)) ∷ Do (Sync e.name) ∷ Acknowledge x.key x.version.tag x.version.length end ∷ []) (view_of e.name s.disk)) size
-        (seal_ahead rests e there.0 refl first count end bytes gates_is run end_is x.key x.version.tag x.version.length there.1)))
-      where
-        there : IsIn e s.entries × (is_kept_row_of x.key e ≡ true)
-        there = in_find (is_kept_row_of x.key) e s.entries may.is_kept
-
-        rests : Rests s.sent false s.entries e.name (view_of e.name s.disk)
-        rests = rest.rests e.name may.open_name
-
-        held : Held s.sent false e (view_of e.name s.disk)
-        held = rests.held e there.0 refl
-
-        e_key : e.key ≡ x.key
-        e_key = same_bytes e.key x.key (second_holds (not e.is_stale) _ there.1)
-
-        own : name_of x.key ≡ e.name
-        own = ap name_of (sym e_key) ∙ rest.own e there.0
-
-        size : len_of e ≡ x.version.length
-        size = ap (λ w. w.length) (sym may.version)
-
-        first : ℕ
-        first = e.extent / chunk_len
-
-        count : ℕ
-        count = run_from s x e
-
-        end : ℕ
-        end = end_of_run x e (run_from s x e)
-
-        bytes : Bytes
-        bytes = run_bytes (run_from s x e) x.id s.chunks (e.extent / chunk_len)
-
-        extent : e.extent ≡ min (len_of e) (4096 * held.gates)
-        extent = held.lies.extent (kept_is_fresh x.key e there.1)
-
-        gates_is : held.gates ≡ e.extent / chunk_len
-        gates_is = first_is (len_of e) held.gates e.extent extent (subst (λ k. e.extent < k) (sym size) may.inside)
-
-        extent_first : e.extent ≡ 4096 * (e.extent / chunk_len)
-        extent_first = omega (arith, extent, gates_is, subst (λ k. e.extent < k) (sym size) may.inside)
-
-        end_is : end_of_run x e (run_from s x e) ≡ min (len_of e) (4096 * (e.extent / chunk_len + run_from s x e))
-        end_is = ap (λ k. min k (e.extent + run_from s x e * 4096)) (sym size) ∙ ap (min (len_of e)) (total (run_from s x e) (e.extent / chunk_len) extent_first)
-          where
-            total : (c f : ℕ) → e.extent ≡ 4096 * f → e.extent + c * 4096 ≡ 4096 * (f + c)
-            total c f eq = omega (arith, eq)
-
-        whole : AreWhole x.version.length x.id s.chunks (e.extent / chunk_len) (run_from s x e)
-        whole = run_whole (run_len s) x.version.length x.id s.chunks (e.extent / chunk_len)
-
-        some : 0 < run_from s x e
-        some = below 0 (run_from s x e) (first_holds (nat_lt 0 (run_from s x e)) _ may.full)
-
-        run : IsRun (claimed s.sent) held.lies.block (len_of e) (e.extent / chunk_len) (run_from s x e) (run_bytes (run_from s x e) x.id s.chunks (e.extent / chunk_len))
-        run = record {
-          some = some;
-          few = omega (arith, run_most (run_len s) x.version.length x.id s.chunks (e.extent / chunk_len), few_of s.settings.disk_run s.settings.critical few);
-          size = run_length x.version.length x.id s.chunks (e.extent / chunk_len) (run_from s x e) whole ∙ ap (λ k. min k (4096 * (e.extent / chunk_len + run_from s x e)) - 4096 * (e.extent / chunk_len)) (sym size);
-          in_body = subst (λ k. 4096 * (e.extent / chunk_len + run_from s x e - 1) < k) (sym size) (run_inside x.version.length x.id s.chunks (e.extent / chunk_len) (run_from s x e) whole some);
-          sent_all = λ o lt. run_claimed s.sent x.key x.version x.version.length x.id s.chunks held_bytes held.lies.block held.lies.row held.lies.reads (held.lies.key ∙ e_key) (held.lies.version ∙ sym may.version) (e.extent / chunk_len) (run_from s x e) whole o lt;
-        }
+seal_inv s x a few held_bytes rest is = let r = seal_is s x a is in subst (λ b. InvOf s.sent s.disk b None s.closed_names false s.entries) r.2 (sealing_inv s x r.0 few held_bytes rest r.1)

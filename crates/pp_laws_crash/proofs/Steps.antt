@@ -1,38 +1,31 @@
 -- Each permitted happening keeps what holds of the disk.
-use Rattle.std.proofs.Common.{◌≡◌, ◌⊎◌, ⊎_elim, refl, ℕ, zero, suc, ◌+◌, ◌-◌, ◌*◌, ◌/◌, ◌<◌, ◌≤◌, nat_lt, nat_le, Bool, true, false, not, ◌==◌, ◌&&◌, ◌||◌, List, [], ◌∷◌, ◌++◌, length, take, drop, find, filter, get_or, bytes_eq, Option, Some, None, Result, Ok, Err, inl, inr, sym, subst, ap, ◌∙◌, arith}
+use Rattle.std.proofs.Common.{◌≡◌, refl, ℕ, ◌≤◌, Bool, true, false, not, ◌==◌, ◌&&◌, List, [], ◌∷◌, ◌++◌, drop, find, bytes_eq, Option, Some, None, sym, subst, ap, ◌∙◌}
 use Rattle.std.specs.Prelude.{is_some}
-use Rattle.std.specs.List.{list_any}
-use Rattle.std.proofs.lemmas.Bool.Decides.{nat_tests}
-use Rattle.pp_conf.specs.Conf.{Settings}
 use Rattle.pp_text.specs.Bytes.{is_empty}
-use Rattle.pp_target.specs.Name.{name_of}
-use Rattle.pp_gate.specs.Runs.{IsOn}
 use Rattle.pp_world.specs.Disk.{view_of}
 use Rattle.pp_world.specs.Log.{Log}
 use Rattle.pp_world.specs.declared.happening.Happening.TheVariants.{Began, Did}
 use Rattle.pp_world.specs.declared.op.DiskOp.{DiskOp}
-use Rattle.pp_law.specs.After.{begun_op, ended_op, unread, paid}
+use Rattle.pp_law.specs.After.{ended_op, unread}
 use Rattle.pp_law.specs.Lists.{Bytes, change, has_text, is_some_with, without}
 use Rattle.pp_law.specs.Opening.{is_opening, lose_in_opening}
-use Rattle.pp_law.specs.Phases.{come_to}
-use Rattle.pp_law.specs.State.{State, Sent, Agenda, no_agenda, Entry, Instance, Chunk, Todo, Do, Enter, Acknowledge, Phase, Owed, Free}
+use Rattle.pp_law.specs.State.{State, Sent, Agenda, no_agenda, Entry, Instance, Todo, Do, Enter, Acknowledge}
 use Rattle.pp_world.specs.declared.op.DiskOp.TheVariants.{Draft, SyncDraft, Publish, Write, Sync, Remove}
-use Rattle.pp_law.specs.Store.{agenda_in_turn, begin_in_turn, begin_op, close_name, end_op, enter_next, extended, fail_op, is_of_draft, is_same_op, lose_draft, lose_entry, may_end_op, note_gone, note_kept, plan_of, remove_entry, removing, is_closed, is_named, is_acknowledged_as}
+use Rattle.pp_law.specs.Store.{agenda_in_turn, begin_in_turn, begin_op, close_name, end_op, enter_next, extended, fail_op, is_of_draft, is_same_op, lose_draft, lose_entry, note_gone, note_kept, plan_of, remove_entry, removing, is_closed, is_named, is_acknowledged_as}
 use Rattle.pp_law.specs.Table.{is_entry_of, is_kept_row_of}
-use Rattle.pp_laws.specs.Origin.{IsBackPart}
 use Rattle.pp_laws.specs.Runs.{IsIn}
 use Rattle.pp_laws.proofs.Joins.{HeldOf}
 use Rattle.pp_laws.proofs.Lists.{in_filter, in_find}
 use Rattle.pp_laws.proofs.Tests.{first_holds, same_bytes, same_number, second_holds}
-use Rattle.pp_laws_crash.proofs.Begins.{Begun, IsFirst, begins, begun_is, draft_is, goes_on as begun_goes, not_true, same_op}
+use Rattle.pp_laws_crash.proofs.Begins.{Begun, IsFirst, begins, begun_is, goes_on as begun_goes, not_true, same_op}
 use Rattle.pp_laws_crash.proofs.Frames.{Kept, OwedIn, kept_self, parts_of, recovers}
-use Rattle.pp_laws_crash.proofs.Going.{OnName, Rests}
+use Rattle.pp_laws_crash.proofs.Going.{Rests}
 use Rattle.pp_laws_crash.proofs.Inv.{AtRest, InvOf, began_inv, closed_rest, did_inv, entered_inv, fewer_rest, idle, inv_more, lost_rest, noted_inv, planned, rest_of, shut_rest}
-use Rattle.pp_laws_crash.proofs.Plans.{AreOne, are_one, remove_ahead}
+use Rattle.pp_laws_crash.proofs.Plans.{are_one, remove_ahead}
 use Rattle.pp_laws_crash.proofs.KeptTurns.{paid-kept}
 use Rattle.pp_laws_crash.proofs.Standing.{recovers_opens}
 use Rattle.pp_laws_crash.proofs.Starting.{draft_inv, seal_inv}
-use Rattle.pp_laws_crash.proofs.Views.{differs, name_same, same_name}
+use Rattle.pp_laws_crash.proofs.Views.{differs}
 
 -- what holds of a state
 pub record Inv (s : State) : Type 0 where
@@ -193,7 +186,7 @@ pub record IsNoted (key : Bytes) (extent : ℕ) (todo : List Todo) : Type 0 wher
   pub rest : List Todo
   pub is : todo ≡ Acknowledge key tag n extent ∷ rest
 
-noted_by : (key tag : Bytes) (n extent : ℕ) (todo : List Todo) → is_acknowledged_as key tag n extent todo ≡ true → IsNoted key extent todo
+pub noted_by : (key tag : Bytes) (n extent : ℕ) (todo : List Todo) → is_acknowledged_as key tag n extent todo ≡ true → IsNoted key extent todo
 noted_by key tag n extent [] is = absurd (cc is)
 noted_by key tag n extent (Do op ∷ todo) is = absurd (cc is)
 noted_by key tag n extent (Enter e ∷ todo) is = absurd (cc is)
@@ -222,10 +215,10 @@ kept_step key tag n extent s idle_so is h =
 
 -- ---- an entry is gone
 
-not_of : (key : Bytes) (entries : List Entry) (e : Entry) → IsIn e (without (is_entry_of key) entries) → e.key ≡ key → ⊥
+pub not_of : (key : Bytes) (entries : List Entry) (e : Entry) → IsIn e (without (is_entry_of key) entries) → e.key ≡ key → ⊥
 not_of key entries e i is = differs e.key key (not_true (is_entry_of key e) (in_filter (λ d. not (is_entry_of key d)) e entries i).1) is
 
-of_in : (key : Bytes) (entries : List Entry) (e : Entry) → IsIn e (without (is_entry_of key) entries) → IsIn e entries
+pub of_in : (key : Bytes) (entries : List Entry) (e : Entry) → IsIn e (without (is_entry_of key) entries) → IsIn e entries
 of_in key entries e i = (in_filter (λ d. not (is_entry_of key d)) e entries i).0
 
 removed_at : (s : State) (e : Entry) → IsIn e s.entries → AtRest s.sent s.disk s.closed_names false s.entries → (closed : Bool) → has_text e.name s.closed_names ≡ closed
@@ -261,7 +254,7 @@ gone_step key s turns idle_so empty h = by (find (is_entry_of key) s.entries) re
 abbrev pub HoldsAll : State → Type 0
 HoldsAll s = (x : Instance) → IsIn x s.instances → HeldOf s.sent x.key x.version x.id s.chunks
 
-planned_by : (s : State) (op : DiskOp) (x : Instance) (a : Agenda) → IsIn x s.instances → HoldsAll s → s.settings.disk_run ≤ 64 → AtRest s.sent s.disk s.closed_names false s.entries → plan_of s op x ≡ Some a → InvOf s.sent s.disk a None s.closed_names false s.entries
+pub planned_by : (s : State) (op : DiskOp) (x : Instance) (a : Agenda) → IsIn x s.instances → HoldsAll s → s.settings.disk_run ≤ 64 → AtRest s.sent s.disk s.closed_names false s.entries → plan_of s op x ≡ Some a → InvOf s.sent s.disk a None s.closed_names false s.entries
 planned_by s (Draft bytes) x a i held few rest is = draft_inv s x a (held x i) rest is
 planned_by s (Write name at bytes) x a i held few rest is = seal_inv s x a few (held x i) rest is
 planned_by s SyncDraft x a i held few rest is = absurd (cc is)
@@ -269,7 +262,7 @@ planned_by s (Publish name) x a i held few rest is = absurd (cc is)
 planned_by s (Sync name) x a i held few rest is = absurd (cc is)
 planned_by s (Remove name) x a i held few rest is = absurd (cc is)
 
-turn_begun : (s : State) (op : DiskOp) (a : Agenda) → HoldsAll s → recovers s.phase ≡ false → s.under_way ≡ None → Inv s → Begun s op a → Inv (begin_op op (Some a) s)
+pub turn_begun : (s : State) (op : DiskOp) (a : Agenda) → HoldsAll s → recovers s.phase ≡ false → s.under_way ≡ None → Inv s → Begun s op a → Inv (begin_op op (Some a) s)
 turn_begun s op a held turns idle_so h (begun_goes is first) =
     begin_inv s op a first (subst (λ b. InvOf s.sent s.disk b None s.closed_names (recovers s.phase) s.entries) (sym is) (subst (λ u. InvOf s.sent s.disk s.agenda u s.closed_names (recovers s.phase) s.entries) idle_so h.disk)) h.owed h.few
 turn_begun s op a held turns idle_so h (begins empty x i is first) =

@@ -1,5 +1,5 @@
 -- A life begins with files that a crash left, or with none that is an entry.
-use Rattle.std.proofs.Common.{◌≡◌, ◌≢◌, ◌⊎◌, ⊎_elim, refl, ℕ, zero, suc, ◌+◌, ◌*◌, ◌<◌, ◌≤◌, nat_lt, nat_le, Bool, true, false, ◌==◌, ◌&&◌, ◌||◌, not, List, [], ◌∷◌, ◌++◌, length, take, drop, map, get_or, Option, Some, None, inl, inr, sym, subst, ap, ap₂, ◌∙◌, arith, length-append, length-drop}
+use Rattle.std.proofs.Common.{◌≡◌, ◌⊎◌, ⊎_elim, refl, ℕ, zero, suc, ◌+◌, ◌*◌, ◌<◌, ◌≤◌, nat_lt, nat_le, Bool, true, false, ◌==◌, ◌&&◌, ◌||◌, List, [], ◌∷◌, ◌++◌, length, take, drop, map, get_or, Option, Some, None, inl, inr, sym, subst, ap, ap₂, ◌∙◌, arith, length-append, length-drop}
 use Rattle.std.specs.Prelude.{min, cond, filter_map, flat_map, bytes_eq, fold}
 use Rattle.std.specs.List.{cons_option}
 use Rattle.std.proofs.lemmas.List.{get_or-take, get_or-drop, length-take, length-take-le}
@@ -12,7 +12,6 @@ use Rattle.pp_entry.specs.Gates.{leading_open}
 use Rattle.pp_entry.specs.Texts.{body_at, chunks_of}
 use Rattle.pp_gate.specs.Files.{body, extent_in, gate, open_gates}
 use Rattle.pp_gate.proofs.Images.{settled_leaves}
-use Rattle.pp_gate.proofs.Ops.{AllLeft, one_leaves}
 use Rattle.pp_gate.proofs.PlaceLemmas.{gates_below}
 use Rattle.pp_recover.proofs.ShutLemmas.{leads_open, leads_within, stops_shut}
 use Rattle.pp_target.specs.Name.{name_of}
@@ -29,10 +28,9 @@ use Rattle.pp_law.specs.Lists.{Bytes, has_text}
 use Rattle.pp_law.specs.Opening.{is_as_it_was, is_left_behind, leaves, leaves_one, leaves_under, names_of, once}
 use Rattle.pp_law.specs.State.{Sent, Entry}
 use Rattle.pp_laws.specs.Runs.{IsIn}
-use Rattle.pp_laws.proofs.Lists.{in_front}
 use Rattle.pp_laws.proofs.Tests.{below, first_holds, second_holds}
 use Rattle.pp_recover.proofs.NameLemmas.{Distinct, NotIn, distinct}
-use Rattle.pp_laws_crash.proofs.Backing.{Backed, BackedAt, IsEntryIn, body_is, claimed, claims, entry_told, is_sent}
+use Rattle.pp_laws_crash.proofs.Backing.{Backed, BackedAt, IsEntryIn, body_is, claims, entry_told, is_sent}
 use Rattle.pp_laws_crash.proofs.Going.{Rests}
 use Rattle.pp_laws_crash.proofs.Inv.{AtRest}
 use Rattle.pp_laws_crash.proofs.Lying.{Held, len_of}
@@ -104,7 +102,7 @@ either_is : (a b : Bool) → (a || b) ≡ true → (a ≡ true) ⊎ (b ≡ true)
 either_is true b is = inl refl
 either_is false b is = inr is
 
-any_left : (file : Option Bytes) (slot : List (Option Stored)) → AreSolid slot → list_any (leaves_one file) slot ≡ true → LeavesOne slot file
+pub any_left : (file : Option Bytes) (slot : List (Option Stored)) → AreSolid slot → list_any (leaves_one file) slot ≡ true → LeavesOne slot file
 any_left file [] solid is = absurd (cc is)
 any_left file (f ∷ fs) solid is = ⊎_elim (λ (here : leaves_one file f ≡ true). inl (one_left f file solid.0 here)) (λ (there : list_any (leaves_one file) fs ≡ true). inr (any_left file fs solid.1 there)) (either_is (leaves_one file f) _ is)
 
@@ -225,7 +223,7 @@ solid_view name log = (solid_from name (woken name []) log (solid_woken name [])
 
 -- ---- of a name in an image
 
-has_in : (text : Bytes) (texts : List Bytes) → has_text text texts ≡ true → IsIn text texts
+pub has_in : (text : Bytes) (texts : List Bytes) → has_text text texts ≡ true → IsIn text texts
 has_in text [] is = absurd (cc is)
 has_in text (t ∷ texts) is = ⊎_elim (λ (here : bytes_eq t text ≡ true). inl (sym (same_name t text here))) (λ (there : has_text text texts ≡ true). inr (has_in text texts there)) (either_is (bytes_eq t text) _ is)
 
@@ -241,21 +239,21 @@ once_new : (name : Bytes) (seen : List Bytes) (b : Bool) → has_text name seen 
 once_new name seen true is = has_in name seen is
 once_new name seen false is = inl refl
 
-once_in : (x : Bytes) (names seen : List Bytes) → IsIn x names → IsIn x (once seen names)
+pub once_in : (x : Bytes) (names seen : List Bytes) → IsIn x names → IsIn x (once seen names)
 once_in x [] seen i = absurd i
 once_in x (name ∷ names) seen (inl eq) = once_keeps x names _ (subst (λ n. IsIn n (elim (has_text name seen) as (λ c. List Bytes) [ true ↦ seen | false ↦ name ∷ seen ])) (sym eq) (once_new name seen (has_text name seen) refl))
 once_in x (name ∷ names) seen (inr i) = once_in x names _ i
 
-all_in : {A : Type 0} (p : A → Bool) (xs : List A) (x : A) → list_all p xs ≡ true → IsIn x xs → p x ≡ true
+pub all_in : {A : Type 0} (p : A → Bool) (xs : List A) (x : A) → list_all p xs ≡ true → IsIn x xs → p x ≡ true
 all_in p [] x is i = absurd i
 all_in p (y ∷ ys) x is (inl eq) = ap p eq ∙ first_holds (p y) _ is
 all_in p (y ∷ ys) x is (inr i) = all_in p ys x (second_holds (p y) _ is) i
 
-in_back : {A : Type 0} (x : A) (xs ys : List A) → IsIn x ys → IsIn x (xs ++ ys)
+pub in_back : {A : Type 0} (x : A) (xs ys : List A) → IsIn x ys → IsIn x (xs ++ ys)
 in_back x [] ys i = i
 in_back x (y ∷ xs) ys i = inr (in_back x xs ys i)
 
-abbrev name_of_file : Bytes × Bytes → Bytes
+abbrev pub name_of_file : Bytes × Bytes → Bytes
 name_of_file file = file.0
 
 named_in : (p : Bytes × Bytes) (image : Files) → IsIn p image → IsIn p.0 (map name_of_file image)
@@ -286,7 +284,7 @@ in_image (p ∷ image) q differ (inr i) = found_by q.0 p image false (is_eq-name
 abbrev test_at : Bytes → Bytes × Bytes → Bool
 test_at name p = is_eq (name_order name p.0)
 
-found_in : (image : Files) (name file : Bytes) → file_of name image ≡ Some file → IsIn (name, file) image
+pub found_in : (image : Files) (name file : Bytes) → file_of name image ≡ Some file → IsIn (name, file) image
 found_in [] name file is = absurd (cc is)
 found_in (p ∷ image) name file is = by (is_eq (name_order name p.0)) refl (found_in image name file) is
   where
@@ -311,7 +309,7 @@ pub record FromImage (image : Files) (e : Entry) : Type 0 where
   pub there : IsIn file image
   pub is : entry_in file.0 file.1 ≡ Some e
 
-abbrev entry_at : Bytes × Bytes → Option Entry
+abbrev pub entry_at : Bytes × Bytes → Option Entry
 entry_at file = entry_in file.0 file.1
 
 in_entries_by : (p : Bytes × Bytes) (image : Files) (e : Entry) (o : Option Entry) → entry_at p ≡ o → (IsIn e (filter_map entry_at image) → FromImage image e) → IsIn e (cons_option o (filter_map entry_at image)) → FromImage (p ∷ image) e
@@ -331,7 +329,7 @@ skip_by : (e : Entry) (rest : List Entry) (o : Option Entry) → IsIn e rest →
 skip_by e rest None i = i
 skip_by e rest (Some d) i = inr i
 
-entries_there : (image : Files) (p : Bytes × Bytes) (e : Entry) → IsIn p image → entry_at p ≡ Some e → IsIn e (entries_in image)
+pub entries_there : (image : Files) (p : Bytes × Bytes) (e : Entry) → IsIn p image → entry_at p ≡ Some e → IsIn e (entries_in image)
 entries_there [] p e i is = absurd i
 entries_there (q ∷ image) p e (inl eq) is = entries_there_by q e (entries_in image) (entry_at q) (ap entry_at (sym eq) ∙ is)
 entries_there (q ∷ image) p e (inr i) is = skip_by e (entries_in image) (entry_at q) (entries_there image p e i is)

@@ -9,7 +9,7 @@
 //! log has each of them; that a program leaves one is not said here.
 //!
 //! Takes no memory, and does nothing when the program runs. That what was acknowledged is found again
-//! is not said yet.
+//! is for `pp_laws_found`.
 #![tactic(auto)]
 
 mod crash; // what a crash leaves, and what is read back

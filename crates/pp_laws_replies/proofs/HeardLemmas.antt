@@ -1,5 +1,5 @@
 -- Requests that were heard, one behind the other, stay so as more is heard.
-use Rattle.std.proofs.Common.{◌≡◌, ◌⊎◌, refl, ℕ, zero, suc, ◌+◌, ◌-◌, ◌≤◌, Bool, true, false, List, [], ◌∷◌, ◌++◌, length, drop, inl, inr, sym, subst, ap, ◌∙◌, le_refl, le_trans, arith}
+use Rattle.std.proofs.Common.{◌≡◌, ◌⊎◌, refl, ℕ, zero, suc, ◌+◌, ◌-◌, ◌≤◌, Bool, true, false, List, [], ◌∷◌, ◌++◌, length, drop, inl, inr, sym, subst, ap, ◌∙◌, arith}
 use Rattle.std.proofs.lemmas.List.{drop-append-le}
 use Rattle.pp_head.proofs.OnLiterals.{pp_head_on_literals}
 use Rattle.pp_head.proofs.RequestAgrees.{request_stays, request_within}
@@ -8,7 +8,7 @@ use Rattle.pp_head.specs.Read.{Read, Whole, TooLong, Bad, More, Stays}
 use Rattle.pp_head.specs.Request.{Request, request_at}
 use Rattle.pp_law.specs.Lists.{Bytes}
 use Rattle.pp_law.specs.Requests.{Front, Parsed, NoHeadYet, NoHead as NoFront, IsRequest, parsed_of, front_in, front_of}
-use Rattle.pp_laws_replies.specs.Replies.{head_len, IsFrontAt, AreHeardFrom}
+use Rattle.pp_laws_replies.specs.Replies.{next_at, IsFrontAt, AreHeardFrom}
 
 -- ---- bytes
 
@@ -87,26 +87,27 @@ front_within f at heard is = by (le_or at (length heard))
     by (inl le) = le
     by (inr ge) = absurd (no_front f (subst (λ l. IsFrontAt f (front_of l)) (drop_past at heard ge) is))
 
-pub heard_longer : (heard more : Bytes) (from : ℕ) (fs : List Front) (to : ℕ) → AreHeardFrom heard from fs to → AreHeardFrom (heard ++ more) from fs to
-heard_longer heard more from [] to le = le
-heard_longer heard more from (f ∷ fs) to w =
-    (w.0, w.1, subst (λ l. IsFrontAt f (front_of l)) (sym (drop-append-le w.0 heard more (front_within f w.0 heard w.2))) (front_stays (drop w.0 heard) more f w.2), heard_longer heard more (w.0 + head_len f) fs to w.3)
+pub heard_longer : (heard more : Bytes) (at : ℕ) (fs : List Front) → AreHeardFrom heard at fs → AreHeardFrom (heard ++ more) at fs
+heard_longer heard more at [] w = w
+heard_longer heard more at (f ∷ fs) w =
+    (subst (λ l. IsFrontAt f (front_of l)) (sym (drop-append-le at heard more (front_within f at heard w.0))) (front_stays (drop at heard) more f w.0), heard_longer heard more (next_at at f) fs w.1)
 
-pub heard_wider : (heard : Bytes) (from : ℕ) (fs : List Front) (to end : ℕ) → to ≤ end → AreHeardFrom heard from fs to → AreHeardFrom heard from fs end
-heard_wider heard from [] to end le w = le_trans w le
-heard_wider heard from (f ∷ fs) to end le w = (w.0, w.1, w.2, heard_wider heard (w.0 + head_len f) fs to end le w.3)
+-- where the last of them ends
+abbrev pub ends_at : ℕ → List Front → ℕ
+ends_at at [] = at
+ends_at at (f ∷ fs) = ends_at (next_at at f) fs
 
-pub heard_next : (heard : Bytes) (from : ℕ) (fs : List Front) (at : ℕ) (f : Front) → AreHeardFrom heard from fs at → IsFrontAt f (front_of (drop at heard)) → AreHeardFrom heard from (fs ++ f ∷ []) (at + head_len f)
-heard_next heard from [] at f le is = (at, le, is, le_refl (at + head_len f))
-heard_next heard from (g ∷ fs) at f w is = (w.0, w.1, w.2, heard_next heard (w.0 + head_len g) fs at f w.3 is)
+pub ends_push : (at : ℕ) (fs : List Front) (f : Front) → ends_at at (fs ++ f ∷ []) ≡ next_at (ends_at at fs) f
+ends_push at [] f = refl
+ends_push at (g ∷ fs) f = ends_push (next_at at g) fs f
 
-pub heard_first : (heard : Bytes) (from : ℕ) (fs gs : List Front) (to : ℕ) → AreHeardFrom heard from (fs ++ gs) to → AreHeardFrom heard from fs to
-heard_first heard from [] gs to w = spans from gs w
-  where
-    spans : (low : ℕ) (hs : List Front) → AreHeardFrom heard low hs to → low ≤ to
-    spans low [] le = le
-    spans low (h ∷ hs) v = let le : v.0 + head_len h ≤ to = spans (v.0 + head_len h) hs v.3 in let lo : low ≤ v.0 = v.1 in omega arith
-heard_first heard from (f ∷ fs) gs to w = (w.0, w.1, w.2, heard_first heard (w.0 + head_len f) fs gs to w.3)
+pub heard_next : (heard : Bytes) (at : ℕ) (fs : List Front) (f : Front) → AreHeardFrom heard at fs → IsFrontAt f (front_of (drop (ends_at at fs) heard)) → AreHeardFrom heard at (fs ++ f ∷ [])
+heard_next heard at [] f w is = (is, tt)
+heard_next heard at (g ∷ fs) f w is = (w.0, heard_next heard (next_at at g) fs f w.1 is)
+
+pub heard_first : (heard : Bytes) (at : ℕ) (fs gs : List Front) → AreHeardFrom heard at (fs ++ gs) → AreHeardFrom heard at fs
+heard_first heard at [] gs w = tt
+heard_first heard at (f ∷ fs) gs w = (w.0, heard_first heard (next_at at f) fs gs w.1)
 
 -- a request that stands there is as long as it says
 pub head_within : (bytes : Bytes) (r : Parsed) → front_of bytes ≡ IsRequest r → r.head.length ≤ length bytes

@@ -14,3 +14,5 @@ pub mod StorySaid
 pub mod StoryBegins
 pub mod StoryDecided
 pub mod StoryHappenings
+mod Worked
+mod WorkedRows

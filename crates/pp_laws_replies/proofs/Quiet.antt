@@ -9,16 +9,17 @@ use Rattle.pp_laws_replies.proofs.HeardPlaces.{Reads, again, still}
 
 -- ---- a client
 
--- its request, the decision for it, and what is left to say of its interim answer are the same
+-- its request, the decision for it, whether its reply closes, and what is left to say of its interim answer are the same
 pub record Quiet (d c : Client) : Type 0 where
   pub number : d.number ≡ c.number
   pub front : d.front ≡ c.front
   pub stage : d.stage ≡ c.stage
   pub interim : d.interim_left ≡ c.interim_left
+  pub closes : d.closes ≡ c.closes
   pub reads : Reads d c
 
 pub still_same : (c : Client) → Quiet c c
-still_same c = record { number = refl; front = refl; stage = refl; interim = refl; reads = still c c refl refl refl }
+still_same c = record { number = refl; front = refl; stage = refl; interim = refl; closes = refl; reads = still c c refl refl refl }
 
 quiet_on : (e d c : Client) → Quiet e d → Quiet d c → Quiet e c
 quiet_on e d c one two = record {
@@ -26,6 +27,7 @@ quiet_on e d c one two = record {
   front = one.front ∙ two.front;
   stage = one.stage ∙ two.stage;
   interim = one.interim ∙ two.interim;
+  closes = one.closes ∙ two.closes;
   reads = again e d c one.reads two.reads;
 }
 

@@ -1,5 +1,5 @@
 -- What an origin sends leaves what was said of each reply as it is: heads, bodies, ends.
-use Rattle.std.proofs.Common.{refl, ℕ, zero, suc, Bool, true, false, ◌==◌, ◌&&◌, ◌||◌, List, [], ◌∷◌, ◌++◌, drop, length, Option, Some, None, inl, le_refl, zero-le}
+use Rattle.std.proofs.Common.{refl, ℕ, zero, suc, Bool, true, false, ◌==◌, ◌&&◌, ◌||◌, List, [], ◌∷◌, ◌++◌, drop, length, Option, Some, None, le_refl}
 use Rattle.std.specs.List.{list_any}
 use Rattle.pp_framing.specs.Body.{Outcome, Done, Going, Bad}
 use Rattle.pp_framing.specs.Framing.{rule_of}
@@ -14,9 +14,9 @@ use Rattle.pp_pipe.specs.Front.{is_interim}
 use Rattle.pp_target.specs.Key.{Key, text_of}
 use Rattle.pp_text.specs.Bytes.{is_empty}
 use Rattle.pp_valid.specs.declared.version.Version.{Version}
-use Rattle.pp_law.specs.Connections.{conn, exchange, is_for, front_of_line, on_conn, end_exchange, close_conn}
+use Rattle.pp_law.specs.Connections.{conn, exchange, is_for, front_of_line, on_conn, attempts_of, without_shared_row, end_exchange, close_conn}
 use Rattle.pp_law.specs.Lists.{Bytes, is_some_with}
-use Rattle.pp_law.specs.OwnHeads.{key_of, is_asked_by, tell, use_body, drop_answer, useless, times_for, renewed, renew, settle_on, renew_row, refresh, may_refresh, settle_known, known_version, settle, may_join, names_version, settle_unchanged, unchanged, is_of_another, forbids_sharing, not_modified, clears_row, cleared_by, is_private_part, is_widened, relay_head, other_head, other_part, own_head, is_bound, lacks_next, count_elsewhere, part_head, filling_head, version_in, is_wrong_head, note_own, note_sent, join, join_bound}
+use Rattle.pp_law.specs.OwnHeads.{key_of, is_asked_by, tell, use_body, drop_answer, useless, times_for, renewed, renew, settle_on, renew_row, refresh, may_refresh, settle_known, known_version, settle, may_join, names_version, settle_unchanged, unchanged, is_of_another, forbids_sharing, not_shared, not_modified, clears_row, cleared_by, is_private_part, is_widened, relay_head, other_head, other_part, own_head, is_bound, lacks_next, count_elsewhere, part_head, filling_head, version_in, is_wrong_head, note_own, note_sent, join, join_bound}
 use Rattle.pp_law.specs.Passing.{pour}
 use Rattle.pp_law.specs.Responses.{skipping, skip_body, rested, close_this, may_go_on, finish, bad_response, bad_head, by_aim, asks_head, answer_with, end_if_empty, begin_answer, answer_for, head_came, Piece, is_early, with_unread, head_piece, deliver, payload_of, body_piece_of, body_piece, next_piece, got, is_whole_at_end, finish_first, ended}
 use Rattle.pp_law.specs.Stages.{on_passed, bound_of}
@@ -24,16 +24,16 @@ use Rattle.pp_law.specs.State.{State, Answer, Body, Brought, Client, Conn, Excha
 use Rattle.pp_law.specs.Table.{row, instance}
 use Rattle.pp_law.specs.ThroughHeads.{invalidates, key_named, is_same_host, clear_named, clear_each, places_named, invalidated, disproves, reads, disproved, through_head}
 use Rattle.pp_laws_replies.proofs.Cases.{by_aim_of, by_outcome, by_result, each_of, when}
-use Rattle.pp_laws_replies.proofs.HeardPlaces.{read}
+use Rattle.pp_laws_replies.proofs.HeardPlaces.{none_left, read}
 use Rattle.pp_laws_replies.proofs.Quiet.{Quiet, Quietly, clients_changed, facts_of, quietly}
-use Rattle.pp_laws_replies.proofs.QuietAsks.{close_conn-quiet, end_exchange-quiet, fail-quiet, lose_attempt-quiet, on_client_of-quiet, on_conn-quiet, on_exchange-quiet, on_passed-quiet, parts_same}
+use Rattle.pp_laws_replies.proofs.QuietAsks.{close_conn-quiet, end_exchange-quiet, fail-quiet, lose_attempt-quiet, on_client_of-quiet, on_conn-quiet, on_exchange-quiet, on_passed-quiet, parts_same, without_shared_row-by}
 use Rattle.pp_laws_replies.proofs.QuietRows.{clear-quiet, enter-quiet, make_row-quiet, mark_row-quiet, note_use-quiet, on_instance-quiet}
 
 -- ---- what is told
 
 pub tell-quiet : {o : State} (e : Exchange) (brought : Brought) (s : State) → Quietly o s → Quietly o (tell e brought s)
 unfolding tell
-tell-quiet {o} e brought s h = quietly (clients_changed o s (is_asked_by e) (λ c. record c { brought = brought }) (λ c is. parts_same _ c refl refl refl refl refl refl refl) (facts_of h))
+tell-quiet {o} e brought s h = quietly (clients_changed o s (is_asked_by e) (λ c. record c { brought = brought }) (λ c is. parts_same _ c refl refl refl refl refl refl refl refl) (facts_of h))
 
 use_body-quiet : {o : State} (e : Exchange) (body : Body) (s : State) → Quietly o s → Quietly o (use_body e body s)
 unfolding use_body
@@ -85,10 +85,15 @@ unchanged-quiet : {o : State} (e : Exchange) (head : Response) (s : State) → Q
 unfolding unchanged
 unchanged-quiet e head s h = when (is_some_with (names_version e) (known_version s (key_of e)) && may_refresh e head s) (settle_unchanged-quiet e _ (refresh-quiet e head s h)) (useless-quiet e s h)
 
+not_shared-quiet : {o : State} (e : Exchange) (s : State) → Quietly o s → Quietly o (not_shared e s)
+unfolding not_shared
+not_shared-quiet e s h =
+    on_client_of-quiet e (without_shared_row (attempts_of e)) _ (λ c. without_shared_row-by (attempts_of e) c) (drop_answer-quiet e _ (clear-quiet (key_of e) s h))
+
 not_modified-quiet : {o : State} (e : Exchange) (head : Response) (s : State) → Quietly o s → Quietly o (not_modified e head s)
 unfolding not_modified
 not_modified-quiet e head s h =
-    when (forbids_sharing head) (drop_answer-quiet e _ (clear-quiet (key_of e) s h)) (when (is_of_another head s (key_of e)) (useless-quiet e _ (clear-quiet (key_of e) s h)) (unchanged-quiet e head s h))
+    when (forbids_sharing head) (not_shared-quiet e s h) (when (is_of_another head s (key_of e)) (useless-quiet e _ (clear-quiet (key_of e) s h)) (unchanged-quiet e head s h))
 
 cleared_by-quiet : {o : State} (head : Response) (e : Exchange) (s : State) → Quietly o s → Quietly o (cleared_by head e s)
 unfolding cleared_by
@@ -105,7 +110,7 @@ other_head-quiet e head rule s h = when (is_widened e head) (tell-quiet e _ _ (u
 other_part-quiet : {o : State} (e : Exchange) (head : Response) (rule : BodyRule) (s : State) → Quietly o s → Quietly o (other_part e head rule s)
 unfolding other_part
 other_part-quiet e head rule s h =
-    when (is_private_part head) (drop_answer-quiet e _ (clear-quiet (key_of e) s h)) (when (clears_row head) (relay_head-quiet e head rule _ (cleared_by-quiet head e s h)) (useless-quiet e s h))
+    when (is_private_part head) (not_shared-quiet e s h) (when (clears_row head) (relay_head-quiet e head rule _ (cleared_by-quiet head e s h)) (useless-quiet e s h))
 
 own_head-quiet : {o : State} (e : Exchange) (head : Response) (rule : BodyRule) (s : State) → Quietly o s → Quietly o (own_head e head rule s)
 unfolding own_head
@@ -157,7 +162,7 @@ unfolding pour
 pour-quiet e f s h = on_client_of-quiet e (on_passed (λ p. record p { pipe = f p.pipe })) s (on_passed-quiet (λ p. record p { pipe = f p.pipe })) h
 
 skipping-quiet : (c : Client) → Quiet (skipping c) c
-skipping-quiet c = record { number = refl; front = refl; stage = refl; interim = refl; reads = read (skipping c) c c.body_left (inl (le_refl c.body_left)) refl zero-le refl }
+skipping-quiet c = record { number = refl; front = refl; stage = refl; interim = refl; closes = refl; reads = read (skipping c) c c.body_left (le_refl c.body_left) refl (none_left c.body_left) refl }
 
 skip_body-quiet : {o : State} (e : Exchange) (s : State) → Quietly o s → Quietly o (skip_body e s)
 unfolding skip_body

@@ -1,11 +1,12 @@
 -- How the reply to a client's current request stands: what of it was said, and what is left to say.
-use Rattle.std.proofs.Common.{◌≡◌, ◌⊎◌, ℕ, ◌+◌, ◌-◌, ◌<◌, ◌≤◌, Bool, true, false, List, [], ◌++◌, map, length, Some, inl, inr, sym, subst, ap, ◌∙◌, append_assoc, lt_of_lt_of_le, arith, ◌∷◌, drop}
+use Rattle.std.proofs.Common.{◌≡◌, ◌⊎◌, ℕ, ◌+◌, ◌-◌, ◌<◌, ◌≤◌, Bool, true, false, ◌&&◌, not, List, [], ◌++◌, map, length, Some, inl, inr, sym, subst, ap, ◌∙◌, append_assoc, lt_of_lt_of_le, arith, ◌∷◌, drop}
 use Rattle.std.specs.List.{concat}
 use Rattle.pp_law.specs.Deciding.{span_of}
 use Rattle.pp_law.specs.Lists.{Bytes, change}
-use Rattle.pp_law.specs.Requests.{Front, Parsed, NoHeadYet, IsRequest, has_request, keeps_after, asks_head}
+use Rattle.pp_law.specs.Requests.{Front, Parsed, NoHeadYet, IsRequest, has_request, keeps_open, keeps_after, asks_head}
 use Rattle.pp_law.specs.Stages.{is_passing}
 use Rattle.pp_law.specs.State.{State, Client, Undecided, Waiting, Passing, Answering, Reply, Instance}
+use Rattle.pp_reply.specs.Keeping.{is_end_known}
 use Rattle.pp_reply.specs.Texts.{page}
 use Rattle.pp_valid.specs.declared.version.Version.{Version}
 use Rattle.pp_laws.specs.Numbers.{AreRising}
@@ -21,24 +22,24 @@ use Rattle.pp_laws_replies.proofs.Quiet.{FactsOf, FromRow, Quiet, Quietly, facts
 -- ---- definitions
 
 -- a reply that was decided and has not begun: it is passed, or read from an instance of this version, and these bytes of it
-pub data Chosen (instances : List Instance) (next_instance : ℕ) (f : Front) (r : Reply) : Type 0 where
-  to_pass : is_passing r.decision ≡ true → Chosen instances next_instance f r
-  to_show : (q : Parsed) → f ≡ IsRequest q → is_by_row r.decision ≡ true → (v : Version) → SpanOf q.head v r.decision → r.at ≡ (span_of r.decision).0 → r.to ≡ (span_of r.decision).1
-      → (id : ℕ) → r.source ≡ Some id → id < next_instance → ((x : Instance) → IsIn x instances → x.id ≡ id → x.version ≡ v) → Chosen instances next_instance f r
+pub data Chosen (instances : List Instance) (next_instance : ℕ) (f : Front) (closes : Bool) (r : Reply) : Type 0 where
+  to_pass : is_passing r.decision ≡ true → Chosen instances next_instance f closes r
+  to_show : (q : Parsed) → f ≡ IsRequest q → closes ≡ not (keeps_open q) → is_by_row r.decision ≡ true → (v : Version) → SpanOf q.head v r.decision → r.at ≡ (span_of r.decision).0 → r.to ≡ (span_of r.decision).1
+      → (id : ℕ) → r.source ≡ Some id → id < next_instance → ((x : Instance) → IsIn x instances → x.id ≡ id → x.version ≡ v) → Chosen instances next_instance f closes r
 
--- one that has begun, with this head, and this front of its body
-pub data Begun (f : Front) (r : Reply) (head body : Bytes) : Type 0 where
-  a_page : (status : ℕ) → is_passing r.decision ≡ false → r.to ≡ 0 → head ≡ page status (asks_head f) (keeps_after status f) → body ≡ [] → Begun f r head body
-  a_kept : (q : Parsed) → f ≡ IsRequest q → is_passing r.decision ≡ false → (k : IsKeptHead q head) → length body + (r.to - r.at) ≡ shown_len k.kind k.total → Begun f r head body
-  a_passed : (q : Parsed) → f ≡ IsRequest q → is_passing r.decision ≡ true → IsPassedHead q head → Begun f r head body
+-- one that has begun, with this head, and this front of its body; and whether it closes
+pub data Begun (f : Front) (closes : Bool) (r : Reply) (head body : Bytes) : Type 0 where
+  a_page : (status : ℕ) → is_passing r.decision ≡ false → r.to ≡ 0 → head ≡ page status (asks_head f) (keeps_after status f) → body ≡ [] → closes ≡ not (keeps_after status f) → Begun f closes r head body
+  a_kept : (q : Parsed) → f ≡ IsRequest q → is_passing r.decision ≡ false → (k : IsKeptHead q head) → length body + (r.to - r.at) ≡ shown_len k.kind k.total → closes ≡ not (keeps_open q) → Begun f closes r head body
+  a_passed : (q : Parsed) → f ≡ IsRequest q → is_passing r.decision ≡ true → (p : IsPassedHead q head) → closes ≡ not (keeps_open q && is_end_known p.rule q.head.minor) → Begun f closes r head body
 
 -- the reply to the current request, of which this was said last
 pub data Now (instances : List Instance) (next_instance : ℕ) (c : Client) (last : Bytes) : Type 0 where
   undecided : c.stage ≡ Undecided → c.interim_left ≡ [] → last ≡ [] → Now instances next_instance c last
   waiting : (c.stage ≡ Waiting) ⊎ (c.stage ≡ Passing) → has_request c.front ≡ true → last ++ c.interim_left ≡ interim_to c.front → Now instances next_instance c last
-  chosen : (r : Reply) → c.stage ≡ Answering r → r.has_begun ≡ false → has_request c.front ≡ true → last ++ c.interim_left ≡ interim_to c.front → Chosen instances next_instance c.front r → Now instances next_instance c last
+  chosen : (r : Reply) → c.stage ≡ Answering r → r.has_begun ≡ false → has_request c.front ≡ true → last ++ c.interim_left ≡ interim_to c.front → Chosen instances next_instance c.front c.closes r → Now instances next_instance c last
   begun : (r : Reply) → c.stage ≡ Answering r → r.has_begun ≡ true → has_request c.front ≡ true → (head body : Bytes) → (last ++ c.interim_left) ++ r.head_left ≡ (interim_to c.front ++ head) ++ body
-      → (body ≡ []) ⊎ ((c.interim_left ≡ []) × (r.head_left ≡ [])) → Begun c.front r head body → Now instances next_instance c last
+      → (body ≡ []) ⊎ ((c.interim_left ≡ []) × (r.head_left ≡ [])) → Begun c.front c.closes r head body → Now instances next_instance c last
 
 -- what was heard of a client, and what was said to it
 pub record Told : Type 0 where
@@ -74,10 +75,10 @@ order_of (orderly facts) = facts
 
 -- ---- what was told is in order
 
-reply_of : (f : Front) (r : Reply) (head body : Bytes) → Begun f r head body → IsReply f false head body
-reply_of f r head body (a_page status isnt_on to is none) = is_page status is none
-reply_of f r head body (a_kept q front isnt_on k long) = is_kept q front k (omega arith) (λ whole. absurd (cc whole))
-reply_of f r head body (a_passed q front is_on head_is) = is_passed q front head_is
+reply_of : (f : Front) (closes : Bool) (r : Reply) (head body : Bytes) → Begun f closes r head body → IsReply f false closes head body
+reply_of f closes r head body (a_page status isnt_on to is none end) = is_page status is none end
+reply_of f closes r head body (a_kept q front isnt_on k long end) = is_kept q front k (omega arith) (λ whole. absurd (cc whole)) end
+reply_of f closes r head body (a_passed q front is_on head_is end) = is_passed q front head_is end
 
 none_left : (il hl body : Bytes) → (body ≡ []) ⊎ ((il ≡ []) × (hl ≡ [])) → (body ≡ []) ⊎ (il ++ hl ≡ [])
 none_left il hl body (inl none) = inl none
@@ -87,11 +88,11 @@ pub in_order : {instances : List Instance} {next_instance : ℕ} (told : Told) (
 in_order {instances} {next_instance} told c story = by story.now
   where
     are_heard : AreHeard told.heard story.requests
-    are_heard = (story.place.at, before_it told.heard story.requests story.place.at c.front story.place.current)
+    are_heard = before_it told.heard story.requests c.front story.place.current
 
     -- with the current one
     all_heard : has_request c.front ≡ true → AreHeard told.heard (story.requests ++ c.front ∷ [])
-    all_heard has = (story.place.at, with_current told.heard story.requests story.place.at c.front has story.place.current)
+    all_heard has = with_current told.heard story.requests c.front has story.place.current
 
     of : (next : Front) → IsFrontOfReply next story.last → (story.last ≡ []) ⊎ AreHeard told.heard (story.requests ++ next ∷ []) → SaysInOrder told.heard told.said
     of next front heard =
@@ -102,15 +103,16 @@ in_order {instances} {next_instance} told c story = by story.now
     by (waiting stage has is) = of c.front (before c.interim_left is) (inr (all_heard has))
     by (chosen r stage isnt_on has is what) = of c.front (before c.interim_left is) (inr (all_heard has))
     by (begun r stage is_on has head body is rest what) =
-        of c.front (within head body (c.interim_left ++ r.head_left) (sym (append_assoc story.last c.interim_left r.head_left) ∙ is) (none_left c.interim_left r.head_left body rest) (reply_of c.front r head body what)) (inr (all_heard has))
+        of c.front (within c.closes head body (c.interim_left ++ r.head_left) (sym (append_assoc story.last c.interim_left r.head_left) ∙ is) (none_left c.interim_left r.head_left body rest) (reply_of c.front c.closes r head body what)) (inr (all_heard has))
 
 -- ---- what keeps a story
 
--- the same request, stage and interim answer
+-- the same request, stage and interim answer, and the reply closes as it did
 pub record Alike (d c : Client) : Type 0 where
   pub front : d.front ≡ c.front
   pub stage : d.stage ≡ c.stage
   pub interim : d.interim_left ≡ c.interim_left
+  pub closes : d.closes ≡ c.closes
 
 -- instances that keep their versions, and new ones have new numbers
 pub record SameRows (rows : List Instance) (next : ℕ) (instances : List Instance) (next_instance : ℕ) : Type 0 where
@@ -121,10 +123,10 @@ same_version : (rows : List Instance) (next : ℕ) (x : Instance) (id : ℕ) (v 
 same_version rows next x id v lt versions is (old_row y i alike version) = version ∙ versions y i (sym alike ∙ is)
 same_version rows next x id v lt versions is (new_row le) = let eq : x.id ≡ id = is in absurd (omega arith)
 
-chosen_on : (rows : List Instance) (next : ℕ) (instances : List Instance) (next_instance : ℕ) (f : Front) (r : Reply) → SameRows rows next instances next_instance → Chosen rows next f r → Chosen instances next_instance f r
-chosen_on rows next instances next_instance f r alike (to_pass is) = to_pass is
-chosen_on rows next instances next_instance f r alike (to_show q front by v span at to id source lt versions) =
-    to_show q front by v span at to id source (lt_of_lt_of_le lt alike.next_is) (λ x i is. same_version rows next x id v lt versions is (alike.from x i))
+chosen_on : (rows : List Instance) (next : ℕ) (instances : List Instance) (next_instance : ℕ) (f : Front) (closes : Bool) (r : Reply) → SameRows rows next instances next_instance → Chosen rows next f closes r → Chosen instances next_instance f closes r
+chosen_on rows next instances next_instance f closes r alike (to_pass is) = to_pass is
+chosen_on rows next instances next_instance f closes r alike (to_show q front end by v span at to id source lt versions) =
+    to_show q front end by v span at to id source (lt_of_lt_of_le lt alike.next_is) (λ x i is. same_version rows next x id v lt versions is (alike.from x i))
 
 stays : (last : Bytes) (d c : Client) → Alike d c → last ++ c.interim_left ≡ interim_to c.front → last ++ d.interim_left ≡ interim_to d.front
 stays last d c alike is = ap (λ l. last ++ l) alike.interim ∙ is ∙ sym (ap interim_to alike.front)
@@ -134,11 +136,11 @@ now_alike rows next instances next_instance d c last rows_same alike (undecided 
 now_alike rows next instances next_instance d c last rows_same alike (waiting (inl stage) has is) = waiting (inl (alike.stage ∙ stage)) (ap has_request alike.front ∙ has) (stays last d c alike is)
 now_alike rows next instances next_instance d c last rows_same alike (waiting (inr stage) has is) = waiting (inr (alike.stage ∙ stage)) (ap has_request alike.front ∙ has) (stays last d c alike is)
 now_alike rows next instances next_instance d c last rows_same alike (chosen r stage isnt_on has is what) =
-    chosen r (alike.stage ∙ stage) isnt_on (ap has_request alike.front ∙ has) (stays last d c alike is) (subst (λ f. Chosen instances next_instance f r) (sym alike.front) (chosen_on rows next instances next_instance c.front r rows_same what))
+    chosen r (alike.stage ∙ stage) isnt_on (ap has_request alike.front ∙ has) (stays last d c alike is) (subst (λ f. Chosen instances next_instance f d.closes r) (sym alike.front) (subst (λ t. Chosen instances next_instance c.front t r) (sym alike.closes) (chosen_on rows next instances next_instance c.front c.closes r rows_same what)))
 now_alike rows next instances next_instance d c last rows_same alike (begun r stage is_on has head body is rest what) =
     begun r (alike.stage ∙ stage) is_on (ap has_request alike.front ∙ has) head body
     (ap (λ l. (last ++ l) ++ r.head_left) alike.interim ∙ is ∙ sym (ap (λ f. (interim_to f ++ head) ++ body) alike.front))
-    (left rest) (subst (λ f. Begun f r head body) (sym alike.front) what)
+    (left rest) (subst (λ f. Begun f d.closes r head body) (sym alike.front) (subst (λ t. Begun c.front t r head body) (sym alike.closes) what))
   where
     left : (body ≡ []) ⊎ ((c.interim_left ≡ []) × (r.head_left ≡ [])) → (body ≡ []) ⊎ ((d.interim_left ≡ []) × (r.head_left ≡ []))
     left (inl none) = inl none
@@ -152,7 +154,7 @@ pub record Follows (d c : Client) : Type 0 where
 pub still_follows : (d c : Client) → d.front ≡ c.front → d.heard ≡ c.heard → d.body_left ≡ c.body_left → d.skip ≡ c.skip → Follows d c
 still_follows d c front heard left skip = record { front = front; reads = still d c heard left skip }
 
-pub read_follows : (d c : Client) (k : ℕ) → d.front ≡ c.front → (k ≤ c.body_left) ⊎ (k ≤ length c.heard) → d.heard ≡ drop k c.heard → d.body_left ≤ c.body_left → d.skip ≡ c.skip + (k - length c.heard) → Follows d c
+pub read_follows : (d c : Client) (k : ℕ) → d.front ≡ c.front → k ≤ c.body_left → d.heard ≡ drop k c.heard → d.body_left ≡ c.body_left - k → d.skip ≡ c.skip + (k - length c.heard) → Follows d c
 read_follows d c k front taken heard left skip = record { front = front; reads = read d c k taken heard left skip }
 
 pub place_on : (heard : Bytes) (requests : List Front) (d c : Client) → Follows d c → PlaceIn heard requests c.front c → PlaceIn heard requests d.front d
@@ -171,7 +173,7 @@ story_on rows next instances next_instance told d c follows by story = record {
 }
 
 alike_quiet : (d c : Client) → Quiet d c → Alike d c
-alike_quiet d c q = record { front = q.front; stage = q.stage; interim = q.interim }
+alike_quiet d c q = record { front = q.front; stage = q.stage; interim = q.interim; closes = q.closes }
 
 pub quiet_orderly : {n : ℕ} {told : Told} (o s : State) → Quietly o s → Orderly n told o → Orderly n told s
 quiet_orderly {n} {told} o s quiet h = orderly (record {

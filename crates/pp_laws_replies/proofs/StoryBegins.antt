@@ -49,50 +49,50 @@ module _ (s : State) (c : Client) (last : Bytes) where
       by (Some p) =
           let r = passed_reply s q p d in
           begun r refl refl (ap has_request front) r.head_left [] (head_first last c.interim_left r.head_left (interim_to c.front) is) (inl refl)
-          (a_passed q front passing (record { response = p.head; rule = p.rule; name = s.settings.name; spelled = refl }))
+          (a_passed q front passing (record { response = p.head; rule = p.rule; name = s.settings.name; spelled = refl }) refl)
 
   -- ---- a reply that is read from an instance
 
   no_more : (n at to : ℕ) → at ≡ n → to ≡ n → 0 + (to - at) ≡ 0
   no_more n at to one two = omega arith
 
-  shown_head : (q : Parsed) (r : Reply) (x : Instance) (v : Version) (from to : ℕ) → c.front ≡ IsRequest q → is_passing r.decision ≡ false → x.version ≡ v → r.at ≡ from → r.to ≡ to → (res : Resolved) → resolved q.head.fields x.version ≡ res → Shows res v.length from to
-      → Begun c.front (begun_reply s q c r x) (elim (is_part res) as (λ y. Bytes) [
+  shown_head : (q : Parsed) (r : Reply) (x : Instance) (v : Version) (from to : ℕ) → c.front ≡ IsRequest q → c.closes ≡ not (keeps_open q) → is_passing r.decision ≡ false → x.version ≡ v → r.at ≡ from → r.to ≡ to → (res : Resolved) → resolved q.head.fields x.version ≡ res → Shows res v.length from to
+      → Begun c.front c.closes (begun_reply s q c r x) (elim (is_part res) as (λ y. Bytes) [
         | true ↦ part_head from to x.version.length x.fields (age_shown s c x) s.settings.name (keeps_open q)
         | false ↦ whole_head x.version.length x.fields (age_shown s c x) s.settings.name (keeps_open q)
       ]) []
-  shown_head q r x v from to front isnt_on version at to_is OfAll is shows =
-      a_kept q front isnt_on (record { kind = AllOf; total = x.version.length; fields = x.fields; age = age_shown s c x; name = s.settings.name; spelled = refl }) (whole shows.0 shows.1 (ap (λ (w : Version). w.length) version))
+  shown_head q r x v from to front end isnt_on version at to_is OfAll is shows =
+      a_kept q front isnt_on (record { kind = AllOf; total = x.version.length; fields = x.fields; age = age_shown s c x; name = s.settings.name; spelled = refl }) (whole shows.0 shows.1 (ap (λ (w : Version). w.length) version)) end
     where
       whole : from ≡ 0 → to ≡ v.length → x.version.length ≡ v.length → 0 + (r.to - r.at) ≡ x.version.length
       whole f t l = all r.at r.to from to v.length x.version.length at to_is f t l
         where
           all : (a b m n k j : ℕ) → a ≡ m → b ≡ n → m ≡ 0 → n ≡ k → j ≡ k → 0 + (b - a) ≡ j
           all a b m n k j e1 e2 e3 e4 e5 = omega arith
-  shown_head q r x v from to front isnt_on version at to_is (OfPart first end) is shows =
-      a_kept q front isnt_on (record { kind = SomeOf from to; total = x.version.length; fields = x.fields; age = age_shown s c x; name = s.settings.name; spelled = refl }) (part r.at r.to from to at to_is)
+  shown_head q r x v from to front end isnt_on version at to_is (OfPart first behind) is shows =
+      a_kept q front isnt_on (record { kind = SomeOf from to; total = x.version.length; fields = x.fields; age = age_shown s c x; name = s.settings.name; spelled = refl }) (part r.at r.to from to at to_is) end
     where
       part : (a b m n : ℕ) → a ≡ m → b ≡ n → 0 + (b - a) ≡ n - m
       part a b m n e1 e2 = omega arith
-  shown_head q r x v from to front isnt_on version at to_is OfNone is shows = absurd shows
+  shown_head q r x v from to front end isnt_on version at to_is OfNone is shows = absurd shows
 
-  kept_begun : (q : Parsed) (r : Reply) (x : Instance) (v : Version) (d : Decision) → c.front ≡ IsRequest q → r.decision ≡ d → is_by_row d ≡ true → SpanOf q.head v d → r.at ≡ (span_of d).0 → r.to ≡ (span_of d).1 → x.version ≡ v
-      → Begun c.front (begun_reply s q c r x) (instance_head s q c x d) []
-  kept_begun q r x v (Refuse status) front is by span at to version = absurd (cc by)
-  kept_begun q r x v Relay front is by span at to version = absurd (cc by)
-  kept_begun q r x v Validate front is by span at to version = absurd (cc by)
-  kept_begun q r x v Fetch front is by span at to version = absurd (cc by)
-  kept_begun q r x v Pass front is by span at to version = absurd (cc by)
-  kept_begun q r x v (Hit from end) front is by span at to version =
-      shown_head q r x v from end front (ap is_passing is) version at to (resolved q.head.fields x.version) refl (subst (λ (w : Version). Shows (resolved q.head.fields w) v.length from end) (sym version) span)
-  kept_begun q r x v (Part from end) front is by span at to version =
-      shown_head q r x v from end front (ap is_passing is) version at to (resolved q.head.fields x.version) refl (subst (λ (w : Version). Shows (resolved q.head.fields w) v.length from end) (sym version) span)
-  kept_begun q r x v Head front is by span at to version =
-      a_kept q front (ap is_passing is) (record { kind = HeadOf; total = x.version.length; fields = x.fields; age = age_shown s c x; name = s.settings.name; spelled = refl }) (no_more 0 r.at r.to at to)
-  kept_begun q r x v NotModified front is by span at to version =
-      a_kept q front (ap is_passing is) (record { kind = SameAs; total = x.version.length; fields = x.fields; age = age_shown s c x; name = s.settings.name; spelled = refl }) (no_more 0 r.at r.to at to)
-  kept_begun q r x v Unsatisfiable front is by span at to version =
-      a_kept q front (ap is_passing is) (record { kind = NoneOf; total = x.version.length; fields = x.fields; age = age_shown s c x; name = s.settings.name; spelled = refl }) (no_more 0 r.at r.to at to)
+  kept_begun : (q : Parsed) (r : Reply) (x : Instance) (v : Version) (d : Decision) → c.front ≡ IsRequest q → c.closes ≡ not (keeps_open q) → r.decision ≡ d → is_by_row d ≡ true → SpanOf q.head v d → r.at ≡ (span_of d).0 → r.to ≡ (span_of d).1 → x.version ≡ v
+      → Begun c.front c.closes (begun_reply s q c r x) (instance_head s q c x d) []
+  kept_begun q r x v (Refuse status) front end is by span at to version = absurd (cc by)
+  kept_begun q r x v Relay front end is by span at to version = absurd (cc by)
+  kept_begun q r x v Validate front end is by span at to version = absurd (cc by)
+  kept_begun q r x v Fetch front end is by span at to version = absurd (cc by)
+  kept_begun q r x v Pass front end is by span at to version = absurd (cc by)
+  kept_begun q r x v (Hit from upto) front end is by span at to version =
+      shown_head q r x v from upto front end (ap is_passing is) version at to (resolved q.head.fields x.version) refl (subst (λ (w : Version). Shows (resolved q.head.fields w) v.length from upto) (sym version) span)
+  kept_begun q r x v (Part from upto) front end is by span at to version =
+      shown_head q r x v from upto front end (ap is_passing is) version at to (resolved q.head.fields x.version) refl (subst (λ (w : Version). Shows (resolved q.head.fields w) v.length from upto) (sym version) span)
+  kept_begun q r x v Head front end is by span at to version =
+      a_kept q front (ap is_passing is) (record { kind = HeadOf; total = x.version.length; fields = x.fields; age = age_shown s c x; name = s.settings.name; spelled = refl }) (no_more 0 r.at r.to at to) end
+  kept_begun q r x v NotModified front end is by span at to version =
+      a_kept q front (ap is_passing is) (record { kind = SameAs; total = x.version.length; fields = x.fields; age = age_shown s c x; name = s.settings.name; spelled = refl }) (no_more 0 r.at r.to at to) end
+  kept_begun q r x v Unsatisfiable front end is by span at to version =
+      a_kept q front (ap is_passing is) (record { kind = NoneOf; total = x.version.length; fields = x.fields; age = age_shown s c x; name = s.settings.name; spelled = refl }) (no_more 0 r.at r.to at to) end
 
   source_at : (o : Option ℕ) (x : Instance) (id : ℕ) → o ≡ Some id → (elim o as (λ y. Option Instance) [ None ↦ None | Some i ↦ instance s i ]) ≡ Some x → IsIn x s.instances × (x.id ≡ id)
   source_at None x id has is = absurd (cc is)
@@ -101,10 +101,13 @@ module _ (s : State) (c : Client) (last : Bytes) where
   same_front : (q p : Parsed) → c.front ≡ IsRequest q → c.front ≡ IsRequest p → p ≡ q
   same_front q p one two = let both : IsRequest p ≡ IsRequest q = sym two ∙ one in cc
 
-  instance_now : (q : Parsed) (r : Reply) → c.front ≡ IsRequest q → is_passing r.decision ≡ false → last ++ c.interim_left ≡ interim_to c.front → Chosen s.instances s.next_instance c.front r → IsNow c → IsNow (begun_instance s q r c)
+  instance_now : (q : Parsed) (r : Reply) → c.front ≡ IsRequest q → is_passing r.decision ≡ false → last ++ c.interim_left ≡ interim_to c.front → Chosen s.instances s.next_instance c.front c.closes r → IsNow c → IsNow (begun_instance s q r c)
   instance_now q r front isnt_on is (to_pass is_on) now = let both : false ≡ true = sym isnt_on ∙ is_on in absurd (cc both)
-  instance_now q r front isnt_on is (to_show p asks by v span at to id source lt versions) now = by_source (source_of s r) refl
+  instance_now q r front isnt_on is (to_show p asks closing by v span at to id source lt versions) now = by_source (source_of s r) refl
     where
+      end : c.closes ≡ not (keeps_open q)
+      end = closing ∙ ap (λ (y : Parsed). not (keeps_open y)) (same_front q p front asks)
+
       shown : SpanOf q.head v r.decision
       shown = subst (λ (y : Parsed). SpanOf y.head v r.decision) (same_front q p front asks) span
 
@@ -113,7 +116,7 @@ module _ (s : State) (c : Client) (last : Bytes) where
       by_may x true found =
           let there = source_at r.source x id source found in
           begun (begun_reply s q c r x) refl refl (ap has_request front) (instance_head s q c x r.decision) [] (head_first last c.interim_left (instance_head s q c x r.decision) (interim_to c.front) is) (inl refl)
-          (kept_begun q r x v r.decision front refl by shown at to (versions x there.0 there.1))
+          (kept_begun q r x v r.decision front end refl by shown at to (versions x there.0 there.1))
 
       by_source : (o : Option Instance) → source_of s r ≡ o → IsNow (elim o as (λ y. Client) [
         | None ↦ c
@@ -131,20 +134,20 @@ module _ (s : State) (c : Client) (last : Bytes) where
   waits_at at (chosen r stage isnt_on has is what) = let both : Answering r ≡ Passing = sym stage ∙ at in absurd (cc both)
   waits_at at (begun r stage is_on has head body is rest what) = let both : Answering r ≡ Passing = sym stage ∙ at in absurd (cc both)
 
-  chosen_at : (r : Reply) → c.stage ≡ Answering r → r.has_begun ≡ false → IsNow c → (last ++ c.interim_left ≡ interim_to c.front) × Chosen s.instances s.next_instance c.front r
+  chosen_at : (r : Reply) → c.stage ≡ Answering r → r.has_begun ≡ false → IsNow c → (last ++ c.interim_left ≡ interim_to c.front) × Chosen s.instances s.next_instance c.front c.closes r
   chosen_at r at off (undecided stage none is) = let both : Undecided ≡ Answering r = sym stage ∙ at in absurd (cc both)
   chosen_at r at off (waiting (inl stage) has is) = let both : Waiting ≡ Answering r = sym stage ∙ at in absurd (cc both)
   chosen_at r at off (waiting (inr stage) has is) = let both : Passing ≡ Answering r = sym stage ∙ at in absurd (cc both)
   chosen_at r at off (chosen p stage isnt_on has is what) =
       let both : Answering p ≡ Answering r = sym stage ∙ at in
       let eq : p ≡ r = cc in
-      (is, subst (λ (y : Reply). Chosen s.instances s.next_instance c.front y) eq what)
+      (is, subst (λ (y : Reply). Chosen s.instances s.next_instance c.front c.closes y) eq what)
   chosen_at r at off (begun p stage is_on has head body is rest what) =
       let both : Answering p ≡ Answering r = sym stage ∙ at in
       let eq : p ≡ r = cc in
       let on : true ≡ false = sym is_on ∙ ap (λ (y : Reply). y.has_begun) eq ∙ off in absurd (cc on)
 
-  decided_now : (q : Parsed) (r : Reply) (t : Bool) → c.front ≡ IsRequest q → is_passing r.decision ≡ t → last ++ c.interim_left ≡ interim_to c.front → Chosen s.instances s.next_instance c.front r → IsNow c
+  decided_now : (q : Parsed) (r : Reply) (t : Bool) → c.front ≡ IsRequest q → is_passing r.decision ≡ t → last ++ c.interim_left ≡ interim_to c.front → Chosen s.instances s.next_instance c.front c.closes r → IsNow c
       → IsNow (elim t as (λ y. Client) [ true ↦ begun_passed s q r.decision c | false ↦ begun_instance s q r c ])
   decided_now q r true front passing is what now = passed_now q r.decision front passing is now
   decided_now q r false front passing is what now = instance_now q r front passing is what now

@@ -1,9 +1,9 @@
 -- What is decided for a request is a reply of which nothing was said but the interim answer.
-use Rattle.std.proofs.Common.{◌≡◌, ◌⊎◌, refl, ℕ, true, false, ◌==◌, List, [], ◌∷◌, ◌++◌, Option, Some, None, Result, Ok, Err, inl, inr, sym, subst, ap, ◌∙◌, append-nil, le_refl, zero-le}
+use Rattle.std.proofs.Common.{◌≡◌, ◌⊎◌, refl, ℕ, Bool, true, false, ◌==◌, ◌&&◌, not, List, [], ◌∷◌, ◌++◌, Option, Some, None, Result, Ok, Err, inl, inr, sym, subst, ap, ◌∙◌, append-nil, le_refl}
 use Rattle.pp_ask.specs.declared.kind.AskKind.{AskKind}
 use Rattle.pp_head.specs.Request.{Request}
 use Rattle.pp_plan.specs.Row.{Row}
-use Rattle.pp_reply.specs.Texts.{page}
+use Rattle.pp_reply.specs.Texts.{is_last, page}
 use Rattle.pp_target.specs.Key.{Key, text_of}
 use Rattle.pp_target.specs.declared.target.TargetFault.{TargetFault}
 use Rattle.pp_valid.specs.declared.version.Version.{Version}
@@ -14,7 +14,7 @@ use Rattle.pp_law.specs.Connections.{is_client, on_client}
 use Rattle.pp_law.specs.Deciding.{first_interim, refused_with, refuse, new_exchange, stage_for, asking_with, ask_for, ask_as, ask_origin, reply_by, answering_with, follow_with, follow_row, follow, relay, is_for_memory, mark_row_of, enter_row, decided_by, decided}
 use Rattle.pp_law.specs.Decisions.{kind_of}
 use Rattle.pp_law.specs.Lists.{Bytes}
-use Rattle.pp_law.specs.Requests.{Front, Parsed, NoHeadYet, NoHead as NoFront, IsRequest, has_request, key_in, keeps_after, asks_head}
+use Rattle.pp_law.specs.Requests.{Front, Parsed, NoHeadYet, NoHead as NoFront, IsRequest, has_request, key_in, keeps_open, keeps_after, asks_head}
 use Rattle.pp_law.specs.Stages.{is_begun}
 use Rattle.pp_law.specs.State.{State, Client, Stage, Undecided, Waiting, Passing, Answering, Reply, Instance, Entry}
 use Rattle.pp_law.specs.Table.{is_row_of, row, kept_row, row_for, of_instance, of_entry, mark_row, add_row, with_room, enter}
@@ -27,6 +27,7 @@ use Rattle.pp_laws.proofs.Tests.{same_number}
 use Rattle.pp_laws_replies.specs.ByRow.{is_by_row}
 use Rattle.pp_laws_replies.specs.Replies.{interim_to}
 use Rattle.pp_laws_replies.proofs.ByRowLemmas.{SpanOf, span_known}
+use Rattle.pp_laws_replies.proofs.HeardPlaces.{none_left}
 use Rattle.pp_laws_replies.proofs.Quiet.{Quiet, Quietly, facts_of, quiet_same}
 use Rattle.pp_laws_replies.proofs.QuietAsks.{begin_exchange-quiet, leave-quiet}
 use Rattle.pp_laws_replies.proofs.QuietRows.{swept-quiet}
@@ -82,7 +83,7 @@ module _ (instances : List Instance) (next_instance : ℕ) where
       begun (record { decision = Refuse status; source = None; has_begun = true; head_left = page status (asks_head c.front) (keeps_after status c.front); at = 0; to = 0 }) refl refl (has_one instances next_instance c last free now)
       (page status (asks_head c.front) (keeps_after status c.front)) []
       (ap (λ l. l ++ page status (asks_head c.front) (keeps_after status c.front)) (first_is instances next_instance c last free now) ∙ sym (append-nil (interim_to c.front ++ page status (asks_head c.front) (keeps_after status c.front))))
-      (inl refl) (a_page status refl refl refl refl)
+      (inl refl) (a_page status refl refl refl refl refl)
 
   stage_waits : (d : Decision) → (stage_for d ≡ Waiting) ⊎ (stage_for d ≡ Passing)
   stage_waits Pass = inr refl
@@ -99,13 +100,13 @@ module _ (instances : List Instance) (next_instance : ℕ) where
   asking_now : (d : Decision) (c : Client) (last : Bytes) → IsFree c → Now instances next_instance c last → Now instances next_instance (asking_with d c) last
   asking_now d c last free now = waiting (stage_waits d) (has_one instances next_instance c last free now) (first_is instances next_instance c last free now)
 
-  answering_now : (r : Reply) (c : Client) (last : Bytes) → r.has_begun ≡ false → IsFree c → Chosen instances next_instance c.front r → Now instances next_instance c last → Now instances next_instance (answering_with r c) last
+  answering_now : (r : Reply) (c : Client) (last : Bytes) → r.has_begun ≡ false → IsFree c → Chosen instances next_instance c.front (not (keeps_after 200 c.front)) r → Now instances next_instance c last → Now instances next_instance (answering_with r c) last
   answering_now r c last off free what now = chosen r refl off (has_one instances next_instance c last free now) (first_is instances next_instance c last free now) what
 
 -- ---- for the client of that number
 
 refused_follows : (status : ℕ) (c : Client) → Follows (refused_with status c) c
-refused_follows status c = read_follows _ c c.body_left refl (inl (le_refl c.body_left)) refl zero-le refl
+refused_follows status c = read_follows _ c c.body_left refl (le_refl c.body_left) refl (none_left c.body_left) refl
 
 asking_follows : (d : Decision) (c : Client) → Follows (asking_with d c) c
 asking_follows d c = still_follows _ c refl refl refl refl
@@ -166,6 +167,11 @@ pub record IsRowFor (c : Client) (d : Decision) (s : State) : Type 0 where
   pub names : key_in c.front ≡ Some key
   pub shows : (x : Instance) → row s (text_of key) ≡ Some x → SpanOf request.head x.version d
 
+-- a reply by the row closes where the request wants it so
+kept_open : (b : Bool) → not (b && not (is_last 200)) ≡ not b
+kept_open true = refl
+kept_open false = refl
+
 follow-orderly : {n : ℕ} {told : Told} {b : Since} (c : Client) (d : Decision) (s : State) → is_by_row d ≡ true → ((e : Client) → IsIn e s.clients → e.number ≡ c.number → e.front ≡ c.front) → AllFree c.number s → IsRowFor c d s → Sound b s
     → Orderly n told s → Orderly n told (follow c d s)
 unfolding follow follow_row follow_with on_client
@@ -180,7 +186,7 @@ follow-orderly {n} {told} {b} c d s by same_front free w hs h = subst (λ o. Ord
         let there = in_find (is_row_of (text_of w.key)) x s.instances found in
         let number = same_number e.number c.number hit in
         answering_now s.instances s.next_instance (reply_by d (Some x.id)) e last refl (free e i number)
-        (to_show w.request (same_front e i number ∙ w.asks) by x.version (w.shows x found) refl refl x.id refl ((sound_facts hs).rows.given x there.0)
+        (to_show w.request (same_front e i number ∙ w.asks) (ap (λ f. not (keeps_after 200 f)) (same_front e i number ∙ w.asks) ∙ kept_open (keeps_open w.request)) by x.version (w.shows x found) refl refl x.id refl ((sound_facts hs).rows.given x there.0)
         (λ y j id. ap (λ (z : Instance). z.version) (the_one instance_id s.instances y x (sound_facts hs).rows.differ j there.0 id))) now) h)
 
 -- ---- the row that comes into memory for it is the one that was seen

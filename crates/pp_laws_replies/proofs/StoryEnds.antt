@@ -1,12 +1,16 @@
 -- A reply that was said whole is over, and the next request stands.
-use Rattle.std.proofs.Common.{◌≡◌, refl, ℕ, Bool, true, false, not, ◌==◌, ◌&&◌, List, [], ◌∷◌, ◌++◌, Option, Some, None, inl, inr, sym, subst, ap, ◌∙◌, append_assoc, append-nil, arith}
+use Rattle.std.proofs.Common.{◌≡◌, refl, ℕ, Bool, true, false, not, ◌==◌, ◌&&◌, List, [], ◌∷◌, ◌++◌, Option, Some, None, Result, Ok, Err, is_ok, inl, inr, sym, subst, ap, ◌∙◌, append_assoc, append-nil, arith}
 use Rattle.std.specs.List.{concat}
+use Rattle.pp_framing.specs.declared.body.BodyRule.{BodyRule}
+use Rattle.pp_framing.specs.declared.framing.FramingFault.{FramingFault}
+use Rattle.pp_reply.specs.Keeping.{is_end_known, is_kept_open}
+use Rattle.pp_reply.specs.Texts.{is_last}
 use Rattle.pp_text.specs.Bytes.{is_empty}
 use Rattle.pp_law.specs.Closing.{is_of, forsake, close_client}
 use Rattle.pp_law.specs.Connections.{client, is_client, each_client, on_client}
 use Rattle.pp_law.specs.Lists.{Bytes, is_some_with}
 use Rattle.pp_law.specs.Replies.{has_no_more, is_said, next_request, end_reply, end_said, close_finished, end_replies}
-use Rattle.pp_law.specs.Requests.{Front, has_request}
+use Rattle.pp_law.specs.Requests.{Front, Parsed, NoHeadYet, NoHead as NoFront, IsRequest, has_request, keeps_open, keeps_after}
 use Rattle.pp_law.specs.Stages.{reply_of}
 use Rattle.pp_law.specs.State.{State, Client, Stage, Undecided, Waiting, Passing, Answering, Reply, Instance}
 use Rattle.pp_law.specs.Table.{swept}
@@ -16,7 +20,7 @@ use Rattle.pp_laws.proofs.Lists.{in_find, one_of}
 use Rattle.pp_laws.proofs.Sound.{client_number}
 use Rattle.pp_laws.proofs.Tests.{first_holds, same_number, second_holds}
 use Rattle.pp_laws_replies.specs.Replies.{IsReply, is_page, is_kept, is_passed, IsWholeReply, AreReplies}
-use Rattle.pp_laws_replies.proofs.HeardPlaces.{place_next}
+use Rattle.pp_laws_replies.proofs.HeardPlaces.{ends_nowhere, place_next}
 use Rattle.pp_laws_replies.proofs.Quiet.{quiet_same}
 use Rattle.pp_laws_replies.proofs.QuietAsks.{close_client-quiet, forsake-quiet}
 use Rattle.pp_laws_replies.proofs.QuietRows.{swept-quiet}
@@ -55,27 +59,27 @@ said_reply c (Answering r) stage none is =
 said_whole : (c : Client) → is_said c ≡ true → SaidWhole c
 said_whole c is = said_reply c c.stage refl (first_holds (is_empty c.interim_left) _ is) (second_holds (is_empty c.interim_left) (is_some_with (λ r. r.has_begun && is_empty r.head_left && has_no_more c r) (reply_of c)) is)
 
-whole_of : (f : Front) (r : Reply) (head body : Bytes) → r.at ≡ r.to → Begun f r head body → IsReply f true head body
-whole_of f r head body all (a_page status isnt_on to is none) = is_page status is none
-whole_of f r head body all (a_kept q front isnt_on k long) = is_kept q front k (omega arith) (λ whole. omega arith)
-whole_of f r head body all (a_passed q front is_on head_is) = is_passed q front head_is
+whole_of : (f : Front) (closes : Bool) (r : Reply) (head body : Bytes) → r.at ≡ r.to → Begun f closes r head body → IsReply f true closes head body
+whole_of f closes r head body all (a_page status isnt_on to is none end) = is_page status is none end
+whole_of f closes r head body all (a_kept q front isnt_on k long end) = is_kept q front k (omega arith) (λ whole. omega arith) end
+whole_of f closes r head body all (a_passed q front is_on head_is end) = is_passed q front head_is end
 
-whole_reply : (instances : List Instance) (next_instance : ℕ) (c : Client) (last : Bytes) → SaidWhole c → Now instances next_instance c last → IsWholeReply c.front last
-whole_reply instances next_instance c last w (undecided stage none is) = let both : Undecided ≡ Answering w.reply = sym stage ∙ w.stage in absurd (cc both)
-whole_reply instances next_instance c last w (waiting (inl stage) has is) = let both : Waiting ≡ Answering w.reply = sym stage ∙ w.stage in absurd (cc both)
-whole_reply instances next_instance c last w (waiting (inr stage) has is) = let both : Passing ≡ Answering w.reply = sym stage ∙ w.stage in absurd (cc both)
-whole_reply instances next_instance c last w (chosen r stage isnt_on has is what) =
+whole_reply : (instances : List Instance) (next_instance : ℕ) (c : Client) (last : Bytes) → c.closes ≡ false → SaidWhole c → Now instances next_instance c last → IsWholeReply c.front last
+whole_reply instances next_instance c last goes_on w (undecided stage none is) = let both : Undecided ≡ Answering w.reply = sym stage ∙ w.stage in absurd (cc both)
+whole_reply instances next_instance c last goes_on w (waiting (inl stage) has is) = let both : Waiting ≡ Answering w.reply = sym stage ∙ w.stage in absurd (cc both)
+whole_reply instances next_instance c last goes_on w (waiting (inr stage) has is) = let both : Passing ≡ Answering w.reply = sym stage ∙ w.stage in absurd (cc both)
+whole_reply instances next_instance c last goes_on w (chosen r stage isnt_on has is what) =
     let both : Answering r ≡ Answering w.reply = sym stage ∙ w.stage in
     let eq : r ≡ w.reply = cc in
     let off : false ≡ true = sym isnt_on ∙ ap (λ (x : Reply). x.has_begun) eq ∙ w.begun in absurd (cc off)
-whole_reply instances next_instance c last w (begun r stage is_on has head body is rest what) =
+whole_reply instances next_instance c last goes_on w (begun r stage is_on has head body is rest what) =
     let both : Answering r ≡ Answering w.reply = sym stage ∙ w.stage in
     let eq : r ≡ w.reply = cc in
     record {
       head = head;
       body = body;
       spelled = sym (append-nil last) ∙ sym (append-nil (last ++ [])) ∙ ap (λ l. (last ++ l) ++ []) (sym w.interim) ∙ ap (λ l. (last ++ c.interim_left) ++ l) (sym w.head ∙ ap (λ (x : Reply). x.head_left) (sym eq)) ∙ is;
-      is = whole_of c.front r head body (ap (λ (x : Reply). x.at) eq ∙ w.all ∙ ap (λ (x : Reply). x.to) (sym eq)) what;
+      is = subst (λ t. IsReply c.front true t head body) goes_on (whole_of c.front c.closes r head body (ap (λ (x : Reply). x.at) eq ∙ w.all ∙ ap (λ (x : Reply). x.to) (sym eq)) what);
     }
 
 has_one : (instances : List Instance) (next_instance : ℕ) (c : Client) (last : Bytes) → SaidWhole c → Now instances next_instance c last → has_request c.front ≡ true
@@ -83,6 +87,29 @@ has_one instances next_instance c last w (undecided stage none is) = let both : 
 has_one instances next_instance c last w (waiting stage has is) = has
 has_one instances next_instance c last w (chosen r stage isnt_on has is what) = has
 has_one instances next_instance c last w (begun r stage is_on has head body is rest what) = has
+
+-- ---- a reply that does not close is to a request whose end is known
+
+open_end : (r : Parsed) → keeps_open r ≡ true → ends_nowhere (IsRequest r) ≡ false
+open_end r is = by r.rule (second_holds (is_kept_open r.head.minor r.head.fields) (is_ok r.rule) is)
+  where
+    by : (rule : Result BodyRule FramingFault) → is_ok rule ≡ true → (elim rule as (λ x. Bool) [ Ok one ↦ false | Err fault ↦ true ]) ≡ false
+    by (Ok one) ok = refl
+    by (Err fault) ok = absurd (cc ok)
+
+is_open : (b : Bool) → false ≡ not b → b ≡ true
+is_open true is = refl
+is_open false is = absurd (cc is)
+
+page_end : (f : Front) (status : ℕ) → keeps_after status f ≡ true → ends_nowhere f ≡ false
+page_end NoHeadYet status is = refl
+page_end (NoFront other) status is = refl
+page_end (IsRequest r) status is = open_end r (first_holds (keeps_open r) (not (is_last status)) is)
+
+end_known : (f : Front) (head body : Bytes) → IsReply f true false head body → ends_nowhere f ≡ false
+end_known f head body (is_page status is none end) = page_end f status (is_open (keeps_after status f) end)
+end_known f head body (is_kept r front k short long end) = ap ends_nowhere front ∙ open_end r (is_open (keeps_open r) end)
+end_known f head body (is_passed r front p end) = ap ends_nowhere front ∙ open_end r (first_holds (keeps_open r) (is_end_known p.rule r.head.minor) (is_open (keeps_open r && is_end_known p.rule r.head.minor) end))
 
 -- ---- one more reply
 
@@ -96,39 +123,44 @@ pub concat_push : (texts : List Bytes) (text : Bytes) → concat (texts ++ text 
 concat_push [] text = append-nil text
 concat_push (t ∷ texts) text = ap (λ l. t ++ l) (concat_push texts text) ∙ sym (append_assoc t (concat texts) text)
 
-pub next_story : {instances : List Instance} {next_instance : ℕ} (told : Told) (c : Client) → is_said c ≡ true → Story instances next_instance told c → Story instances next_instance told (next_request c)
-next_story {instances} {next_instance} told c is story = record {
+pub next_story : {instances : List Instance} {next_instance : ℕ} (told : Told) (c : Client) → c.closes ≡ false → is_said c ≡ true → Story instances next_instance told c → Story instances next_instance told (next_request c)
+next_story {instances} {next_instance} told c goes_on is story = record {
   requests = story.requests ++ c.front ∷ [];
   replies = story.replies ++ story.last ∷ [];
-  each = one_more story.requests story.replies c.front story.last story.each (whole_reply instances next_instance c story.last (said_whole c is) story.now);
+  each = one_more story.requests story.replies c.front story.last story.each whole;
   last = [];
   all = story.all ∙ sym (concat_push story.replies story.last) ∙ sym (append-nil (concat (story.replies ++ story.last ∷ [])));
-  place = place_next told.heard story.requests c (has_one instances next_instance c story.last (said_whole c is) story.now) story.place;
+  place = place_next told.heard story.requests c (has_one instances next_instance c story.last (said_whole c is) story.now) (end_known c.front whole.head whole.body whole.is) story.place;
   now = undecided refl refl refl;
 }
+  where
+    whole : IsWholeReply c.front story.last
+    whole = whole_reply instances next_instance c story.last goes_on (said_whole c is) story.now
 
 -- ---- the walk over clients
 
-next-orderly : {n : ℕ} {told : Told} (c : Client) (s : State) → IsIn c s.clients → is_said c ≡ true → Orderly n told s → Orderly n told (on_client c.number next_request s)
+next-orderly : {n : ℕ} {told : Told} (c : Client) (s : State) → IsIn c s.clients → c.closes ≡ false → is_said c ≡ true → Orderly n told s → Orderly n told (on_client c.number next_request s)
 unfolding on_client
-next-orderly {n} {told} c s there is h =
+next-orderly {n} {told} c s there goes_on is h =
     changed_orderly told s (is_client c.number) next_request (λ d. (next_request-same d).number)
-    (λ d i hit number story. next_story told d (subst (λ (x : Client). is_said x ≡ true) (sym (one_of client_number s.clients d c (order_of h).rise i there (same_number d.number c.number hit))) is) story)
+    (λ d i hit number story.
+    let eq : d ≡ c = one_of client_number s.clients d c (order_of h).rise i there (same_number d.number c.number hit) in
+    next_story told d (ap (λ (x : Client). x.closes) eq ∙ goes_on) (subst (λ (x : Client). is_said x ≡ true) (sym eq) is) story)
     (λ d i isnt number story. story) (order_of h).absent (order_of h).sofar h
 
 end_reply-orderly : {n : ℕ} {told : Told} (c : Client) (s : State) → IsIn c s.clients → is_said c ≡ true → Orderly n told s → Orderly n told (end_reply c s)
 unfolding end_reply
-end_reply-orderly {n} {told} c s there is h = by c.closes
+end_reply-orderly {n} {told} c s there is h = by c.closes refl
   where
     next : State
     next = on_client c.number next_request s
 
-    by : (closes : Bool) → Orderly n told (elim closes as (λ x. State) [
+    by : (closes : Bool) → c.closes ≡ closes → Orderly n told (elim closes as (λ x. State) [
       | true ↦ close_client c.number false s
       | false ↦ swept (forsake (is_of c.number) (on_client c.number next_request s))
     ])
-    by true = quiet_orderly s _ (close_client-quiet c.number false s (quiet_same s)) h
-    by false = quiet_orderly next _ (swept-quiet _ (forsake-quiet (is_of c.number) next (quiet_same next))) (next-orderly c s there is h)
+    by true ends = quiet_orderly s _ (close_client-quiet c.number false s (quiet_same s)) h
+    by false goes_on = quiet_orderly next _ (swept-quiet _ (forsake-quiet (is_of c.number) next (quiet_same next))) (next-orderly c s there goes_on is h)
 
 end_said-orderly : {n : ℕ} {told : Told} (c : Client) (s : State) → IsIn c s.clients → Orderly n told s → Orderly n told (end_said c s)
 unfolding end_said

@@ -1,7 +1,7 @@
 -- Each permitted happening keeps what was told to each client in order, and so does a lawful log.
-use Rattle.std.proofs.Common.{◌≡◌, ◌⊎◌, refl, ℕ, zero, suc, ◌+◌, ◌-◌, ◌/◌, ◌<◌, ◌≤◌, nat_lt, Bool, true, false, not, ◌==◌, ◌&&◌, List, [], ◌∷◌, ◌++◌, map, find, length, drop, if◌then◌else◌, Option, Some, None, inl, inr, sym, subst, ap, ◌∙◌, append_assoc, append-nil, le_of_lt, le_refl, lt_of_le_of_lt, arith, take, nat_eq, ap₂, le_trans, zero-le, length-take}
+use Rattle.std.proofs.Common.{◌≡◌, ◌⊎◌, refl, ℕ, zero, suc, ◌+◌, ◌-◌, ◌/◌, ◌<◌, ◌≤◌, nat_lt, Bool, true, false, not, ◌==◌, ◌&&◌, List, [], ◌∷◌, ◌++◌, map, find, length, drop, if◌then◌else◌, Option, Some, None, inl, inr, sym, subst, ap, ◌∙◌, append_assoc, append-nil, le_of_lt, le_refl, lt_of_le_of_lt, arith, take, min, nat_eq, ap₂, le_trans, zero-le, length-take}
 use Rattle.std.specs.List.{starts_with}
-use Rattle.std.proofs.Math.Nat.{min-le_right}
+use Rattle.std.proofs.Math.Nat.{min-le_left, min-le_right}
 use Rattle.pp_text.specs.Bytes.{is_empty}
 use Rattle.pp_conf.specs.Conf.{Settings}
 use Rattle.pp_conf.specs.Words.{reading_of}
@@ -25,12 +25,11 @@ use Rattle.pp_law.specs.Hearing.{fronted, heard_by, what_counts}
 use Rattle.pp_law.specs.Lawful.{LawfulFrom}
 use Rattle.pp_law.specs.Leaving.{Leaving, ForAnother, ForMemory, BeforeDecision, leaving_as}
 use Rattle.pp_law.specs.Lists.{Bytes, is_some_with, is_this}
-use Rattle.pp_law.specs.Offers.{is_at_body}
 use Rattle.pp_law.specs.Opening.{woken, begun as opening_begun, with_settings, settings_in, are_texts, names_file, is_opening}
 use Rattle.pp_law.specs.Permits.{is_permitted, IsPermitted, permits, permits_taken, permits_dial, is_new_number, may_open}
 use Rattle.pp_law.specs.Served.{accepts}
 use Rattle.pp_law.specs.Phases.{is_awaiting, due_victim, come_to, come_to_decide, deciding, ending, in_phase}
-use Rattle.pp_law.specs.Replies.{said_by, use_chunks, use_from, use_said, end_replies, regained}
+use Rattle.pp_law.specs.Replies.{said_by, use_chunks, use_from, use_said, of_body, end_replies, regained}
 use Rattle.pp_law.specs.Requests.{Front, NoHeadYet, NoHead as NoFront, IsRequest, has_request}
 use Rattle.pp_law.specs.Responses.{ended}
 use Rattle.pp_law.specs.State.{State, Term, RowRefused, Client, Conn, Exchange, Instance, IsRooted, IsListed, IsListening, IsWoken, Handling, Evicting, Keeping, Deciding, Following, Connecting, DecidingAgain, Owed, ReadOf, WriteTo, start}
@@ -57,7 +56,7 @@ use Rattle.pp_laws_replies.proofs.Stories.{Told, Now, undecided, waiting, chosen
 use Rattle.pp_laws_replies.proofs.StoryBegins.{begin_replies-orderly}
 use Rattle.pp_laws_replies.proofs.StoryDecided.{IsFree, decided-orderly}
 use Rattle.pp_laws_replies.proofs.StoryEnds.{end_replies-orderly}
-use Rattle.pp_laws_replies.proofs.StorySaid.{Step, no_client, said_front, said_some, steps, story_said}
+use Rattle.pp_laws_replies.proofs.StorySaid.{Steps, no_client, said_front, said_some, steps, story_said}
 use Rattle.pp_laws_replies.proofs.Usable.{TakenFor, UsedRow, due_has, due_off, due_used, permitted_taken, taken_for}
 
 -- ---- what says nothing
@@ -85,7 +84,7 @@ evicted-quiet s h = each_of (due_victim s) h (λ place. drop_chunk-quiet place.0
 refused_row-quiet : {o : State} (x : Instance) (s : State) → Quietly o s → Quietly o (refused_row x s)
 unfolding refused_row
 refused_row-quiet {o} x s h =
-    quietly (clients_changed o (forget x.id s) (waits_for_row x.id) (λ c. record c { course = RowRefused }) (λ c is. parts_same _ c refl refl refl refl refl refl refl) (facts_of (forget-quiet x.id s h)))
+    quietly (clients_changed o (forget x.id s) (waits_for_row x.id) (λ c. record c { course = RowRefused }) (λ c is. parts_same _ c refl refl refl refl refl refl refl refl) (facts_of (forget-quiet x.id s h)))
 
 leave_memory-quiet : {o : State} (how : Leaving) (s : State) → Quietly o s → Quietly o (leave_memory how s)
 unfolding leave_memory
@@ -136,22 +135,22 @@ dialled-quiet {o} n host port s le more h = by_pause (placing s).pause p (λ k e
     raised : (e : Exchange) → Quietly o (record (placing s).state { conns = (placing s).state.conns ++ new_conn n host port (placing s).state.clock ∷ []; top = n })
     raised e = let f = facts_of p in quietly (record { numbers = f.numbers; clients_from = f.clients_from; rows_from = f.rows_from; next = f.next; top = omega arith })
 
--- what is asked of a request's body was heard
-asked_quiet : (n : ℕ) (c : Client) → n ≤ length c.heard → Quiet (asked_body n c) c
-asked_quiet n c le = record { number = refl; front = refl; stage = refl; interim = refl; reads = read (asked_body n c) c n (inr le) refl (fewer c.body_left n) (none_more c.skip n (length c.heard) le) }
-  where
-    fewer : (a b : ℕ) → a - b ≤ a
-    fewer a b = omega arith
+-- what is asked of a request's body was heard, and is of that body
+abbrev IsThere : ℕ → Client → Type 0
+IsThere n c = (n ≤ length c.heard) × (n ≤ c.body_left)
 
+asked_quiet : (n : ℕ) (c : Client) → IsThere n c → Quiet (asked_body n c) c
+asked_quiet n c there = record { number = refl; front = refl; stage = refl; interim = refl; closes = refl; reads = read (asked_body n c) c n there.1 refl refl (none_more c.skip n (length c.heard) there.0) }
+  where
     none_more : (s m l : ℕ) → m ≤ l → s ≡ s + (m - l)
     none_more s m l e = omega arith
 
-ask_body-quiet : {o : State} (e : Exchange) (n : ℕ) (s : State) → ((c : Client) → IsIn c s.clients → is_for e c ≡ true → n ≤ length c.heard) → Quietly o s → Quietly o (ask_body e n s)
+ask_body-quiet : {o : State} (e : Exchange) (n : ℕ) (s : State) → ((c : Client) → IsIn c s.clients → is_for e c ≡ true → IsThere n c) → Quietly o s → Quietly o (ask_body e n s)
 unfolding ask_body on_client_of on_exchange
 ask_body-quiet {o} e n s short h =
     quietly (clients_changed_in o (on_exchange e.number (λ x. record x { body_left = x.body_left - n }) s) (is_for e) (asked_body n) (λ c. refl) (λ c i hit. asked_quiet n c (short c i hit)) (facts_of (on_exchange-quiet e.number (λ (x : Exchange). record x { body_left = x.body_left - n }) s h)))
 
-ask-quiet : {o : State} (k n : ℕ) (s : State) → ((e : Exchange) → asking s k ≡ Some e → is_outstanding e ≡ true → (c : Client) → IsIn c s.clients → is_for e c ≡ true → n ≤ length c.heard) → Quietly o s → Quietly o (ask k n s)
+ask-quiet : {o : State} (k n : ℕ) (s : State) → ((e : Exchange) → asking s k ≡ Some e → is_outstanding e ≡ true → (c : Client) → IsIn c s.clients → is_for e c ≡ true → IsThere n c) → Quietly o s → Quietly o (ask k n s)
 unfolding ask ask_next
 ask-quiet {o} k n s short h = by (asking s k) refl
   where
@@ -186,7 +185,7 @@ same_asker s e c d rise i j one two = by e.asker one two
     by (Some m) first second = one_of client_number s.clients c d rise i j (sym (same_number m c.number first) ∙ same_number m d.number second)
 
 asked_short : (s : State) (k : ℕ) (bytes : Bytes) → IsPermitted s (Asked k bytes) → AreRising (map client_number s.clients) → (e : Exchange) → asking s k ≡ Some e → is_outstanding e ≡ true → (c : Client) → IsIn c s.clients → is_for e c ≡ true
-    → length bytes ≤ length c.heard
+    → IsThere (length bytes) c
 asked_short s k bytes is rise e found out c i hit = at (find (is_for e) s.clients) refl body
   where
     body : bytes ≡ take (length bytes) (body_heard s e)
@@ -198,11 +197,17 @@ asked_short s k bytes is rise e found out c i hit = at (find (is_for e) s.client
     within : (n : ℕ) (xs : Bytes) → length (take n xs) ≤ length xs
     within n xs = subst (λ m. m ≤ length xs) (sym (length-take n xs)) (min-le_right n (length xs))
 
-    at : (o : Option Client) → find (is_for e) s.clients ≡ o → bytes ≡ take (length bytes) (elim o as (λ x. Bytes) [ None ↦ [] | Some d ↦ take e.body_left d.heard ]) → length bytes ≤ length c.heard
-    at None none eq = le_trans (front bytes [] eq) zero-le
+    of_body : (n : ℕ) (xs : Bytes) → length (take n xs) ≤ n
+    of_body n xs = subst (λ m. m ≤ n) (sym (length-take n xs)) (min-le_left n (length xs))
+
+    there_by : (d : Client) (m : ℕ) → m ≤ d.body_left → bytes ≡ take (length bytes) (take m d.heard) → IsThere (length bytes) d
+    there_by d m le eq = (le_trans (front bytes (take m d.heard) eq) (within m d.heard), le_trans (front bytes (take m d.heard) eq) (le_trans (of_body m d.heard) le))
+
+    at : (o : Option Client) → find (is_for e) s.clients ≡ o → bytes ≡ take (length bytes) (elim o as (λ x. Bytes) [ None ↦ [] | Some d ↦ take (min e.body_left d.body_left) d.heard ]) → IsThere (length bytes) c
+    at None none eq = (le_trans (front bytes [] eq) zero-le, le_trans (front bytes [] eq) zero-le)
     at (Some d) some eq =
         let there = in_find (is_for e) d s.clients some in
-        subst (λ (x : Client). length bytes ≤ length x.heard) (same_asker s e d c rise there.0 i there.1 hit) (le_trans (front bytes (take e.body_left d.heard) eq) (within e.body_left d.heard))
+        subst (λ (x : Client). IsThere (length bytes) x) (same_asker s e d c rise there.0 i there.1 hit) (there_by d (min e.body_left d.body_left) (min-le_right e.body_left d.body_left) eq)
 
 -- what is read of an origin, and what is read or written elsewhere
 loud_gone : {n : ℕ} {told : Told} (is_clean : Bool) (k : ℕ) (s : State) → Orderly n told s → Orderly n told (gone is_clean k s)
@@ -215,10 +220,10 @@ loud_gone {n} {told} is_clean k s h = by (conn s k)
 
 -- ---- what is heard
 
-heard_stage : (c : Client) (front : Front) → let d : Client = elim front as (λ x. Client) [ NoHeadYet ↦ fronted c | NoFront status ↦ c | IsRequest r ↦ c ] in (d.stage ≡ c.stage) × (d.interim_left ≡ c.interim_left)
-heard_stage c NoHeadYet = (refl, refl)
-heard_stage c (NoFront status) = (refl, refl)
-heard_stage c (IsRequest r) = (refl, refl)
+heard_stage : (c : Client) (front : Front) → let d : Client = elim front as (λ x. Client) [ NoHeadYet ↦ fronted c | NoFront status ↦ c | IsRequest r ↦ c ] in (d.stage ≡ c.stage) × (d.interim_left ≡ c.interim_left) × (d.closes ≡ c.closes)
+heard_stage c NoHeadYet = (refl, refl, refl)
+heard_stage c (NoFront status) = (refl, refl, refl)
+heard_stage c (IsRequest r) = (refl, refl, refl)
 
 heard_front : (c : Client) (front : Front) → has_request front ≡ true → (elim front as (λ x. Client) [ NoHeadYet ↦ fronted c | NoFront status ↦ c | IsRequest r ↦ c ]).front ≡ c.front
 heard_front c NoHeadYet has = absurd (cc has)
@@ -235,7 +240,7 @@ now_heard s bytes c last now = by now
     more = record c { heard = c.heard ++ what_counts c.front (drop c.skip bytes); skip = c.skip - length bytes }
 
     alike : has_request c.front ≡ true → Alike (heard_by bytes c) c
-    alike has = record { front = heard_front more c.front has; stage = (heard_stage more c.front).0; interim = (heard_stage more c.front).1 }
+    alike has = record { front = heard_front more c.front has; stage = (heard_stage more c.front).0; interim = (heard_stage more c.front).1; closes = (heard_stage more c.front).2 }
 
     by : Now s.instances s.next_instance c last → Now s.instances s.next_instance (heard_by bytes c) last
     by (undecided stage none is) = undecided ((heard_stage more c.front).0 ∙ stage) ((heard_stage more c.front).1 ∙ none) is
@@ -313,7 +318,7 @@ hang_up-orderly {n} {told} m s h = by (is_writing s.owed m)
 
     by : (t : Bool) → Orderly n told (elim t as (λ x. State) [ true ↦ close_client m false s | false ↦ end_replies left ])
     by true = quiet_orderly s _ (close_client-quiet m false s (quiet_same s)) h
-    by false = end_replies-orderly left (quiet_orderly s left (on_client-quiet m (λ c. record c { has_hung_up = true }) s (λ c. parts_same _ c refl refl refl refl refl refl refl) (quiet_same s)) h)
+    by false = end_replies-orderly left (quiet_orderly s left (on_client-quiet m (λ c. record c { has_hung_up = true }) s (λ c. parts_same _ c refl refl refl refl refl refl refl refl) (quiet_same s)) h)
 
 -- ---- the end of a turn
 
@@ -351,7 +356,7 @@ opened-orderly {n} {told} m s above h = orderly (record {
       each = tt;
       last = [];
       all = none.1;
-      place = record { at = 0; rest_is = sym (ap (drop 0) none.0); skip_is = zero_less (length told.heard); current = inl (refl, le_refl 0); nowhere = λ on. absurd (cc on) };
+      place = record { at = 0; rest_is = sym (ap (drop 0) none.0); skip_is = zero_less (length told.heard); current = inl (refl, tt); end_is = λ off. refl; none = λ none. refl; nowhere = λ on. absurd (cc on) };
       now = undecided refl refl refl;
     })
 
@@ -420,9 +425,9 @@ use_chunks-clients (suc more) id i s = use_chunks-clients more id (i + 1) (use_c
 
 use_said-clients : (m : ℕ) (c : Client) (s : State) → (use_said m c s).clients ≡ s.clients
 unfolding use_said use_from
-use_said-clients m c s = same_when s (is_at_body c && nat_lt 0 m) _ s (same_each s (next_of s c) s _ refl (λ x. use_chunks-clients _ x.source.id (x.at / chunk_len) s)) refl
+use_said-clients m c s = same_when s (nat_lt 0 (of_body m c)) _ s (same_each s (next_of s c) s _ refl (λ x. use_chunks-clients _ x.source.id (x.at / chunk_len) s)) refl
 
-said_here : {n : ℕ} {told : Told} (m : ℕ) (bytes : Bytes) (x : Client) (u : State) → IsIn x u.clients → x.number ≡ m → ((e : Client) → IsIn e u.clients → e.number ≡ m → e ≡ x) → Step x (said_by (length bytes) x) bytes
+said_here : {n : ℕ} {told : Told} (m : ℕ) (bytes : Bytes) (x : Client) (u : State) → IsIn x u.clients → x.number ≡ m → ((e : Client) → IsIn e u.clients → e.number ≡ m → e ≡ x) → Steps x (said_by (length bytes) x) bytes
     → (t : Bool) → (m == n) ≡ t → Orderly n told u → Orderly n (record told { said = told.said ++ (if t then bytes else []) }) (on_client m (said_by (length bytes)) u)
 unfolding on_client
 said_here {n} {told} m bytes x u there number one step false isnt h =
@@ -514,7 +519,7 @@ opened_by : (s : State) (n : ℕ) (room : Bool) → (elim room as (λ c. Bool) [
 opened_by s n true is = absurd (cc is)
 opened_by s n false is = below s.top n (first_holds (is_new_number s n) (accepts s) (second_holds (is_awaiting s) (may_open s n) is))
 
-opened_above : (s : State) (n : ℕ) → IsPermitted s (Opened n) → s.top < n
+pub opened_above : (s : State) (n : ℕ) → IsPermitted s (Opened n) → s.top < n
 unfolding is_permitted permits
 opened_above s n is = opened_by s n s.has_made_room is
 
@@ -605,7 +610,7 @@ start_orderly n terms = orderly (record {
   given = λ c i. absurd i;
   present = λ c i. absurd i;
   absent = λ lt. (refl, refl);
-  sofar = record { requests = []; are_heard = (0, le_refl 0); replies = []; each = tt; next = NoHeadYet; last = []; front = before [] refl; next_heard = inl refl; all = refl };
+  sofar = record { requests = []; are_heard = tt; replies = []; each = tt; next = NoHeadYet; last = []; front = before [] refl; next_heard = inl refl; all = refl };
 })
 
 -- whatever is loaded

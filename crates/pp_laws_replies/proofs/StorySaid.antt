@@ -1,5 +1,5 @@
 -- What is said goes on with the reply as far as it was said.
-use Rattle.std.proofs.Common.{◌≡◌, ◌⊎◌, refl, ℕ, suc, ◌+◌, ◌-◌, ◌≤◌, nat_lt, nat_le, nat_eq, Bool, true, false, ◌&&◌, List, [], ◌∷◌, ◌++◌, length, take, drop, Option, Some, None, inl, inr, sym, subst, ap, ◌∙◌, append_assoc, append-nil, length-append, zero-le, le_trans, arith}
+use Rattle.std.proofs.Common.{◌≡◌, ◌⊎◌, refl, ℕ, suc, ◌+◌, ◌-◌, ◌≤◌, nat_lt, nat_le, nat_eq, Bool, true, false, ◌&&◌, List, [], ◌∷◌, ◌++◌, length, take, drop, Option, Some, None, inl, inr, sym, subst, ap, ◌∙◌, append_assoc, append-nil, length-append, length-drop, zero-le, le_trans, arith}
 use Rattle.std.specs.List.{concat}
 use Rattle.std.proofs.lemmas.Bool.Decides.{nat_tests}
 use Rattle.std.proofs.Math.Nat.{min-le_left, min-le_right}
@@ -25,14 +25,20 @@ use Rattle.pp_laws_replies.proofs.Stories.{Follows, Told, place_on, still_follow
 
 -- ---- a step: bytes are said
 
--- of the interim answer; of the head; of a body that is passed; or of one that is read from an instance
+-- nothing; of the interim answer; of the head; of a body that is passed; or of one that is read from an instance
 pub data Step (c d : Client) (bytes : Bytes) : Type 0 where
+  of_nothing : d.front ≡ c.front → d.stage ≡ c.stage → d.interim_left ≡ c.interim_left → bytes ≡ [] → Step c d bytes
   of_interim : d.front ≡ c.front → d.stage ≡ c.stage → bytes ++ d.interim_left ≡ c.interim_left → ¬ (c.interim_left ≡ []) → Step c d bytes
   of_head : (r : Reply) (left : Bytes) → d.front ≡ c.front → c.stage ≡ Answering r → r.has_begun ≡ true → d.stage ≡ Answering (record r { head_left = left }) → c.interim_left ≡ [] → d.interim_left ≡ [] → bytes ++ left ≡ r.head_left
       → ¬ (r.head_left ≡ []) → Step c d bytes
   of_passed : (r : Reply) → d.front ≡ c.front → c.stage ≡ Answering r → r.has_begun ≡ true → d.stage ≡ c.stage → c.interim_left ≡ [] → d.interim_left ≡ [] → r.head_left ≡ [] → is_passing r.decision ≡ true → Step c d bytes
   of_body : (r : Reply) → d.front ≡ c.front → c.stage ≡ Answering r → r.has_begun ≡ true → d.stage ≡ Answering (record r { at = r.at + length bytes }) → c.interim_left ≡ [] → d.interim_left ≡ [] → r.head_left ≡ [] → is_passing r.decision ≡ false
       → length bytes ≤ r.to - r.at → Step c d bytes
+
+-- or the last of the head, and behind it of the body
+pub data Steps (c d : Client) (bytes : Bytes) : Type 0 where
+  of_one : Step c d bytes → Steps c d bytes
+  of_both : (e : Client) (head body : Bytes) → e.closes ≡ c.closes → Step c e head → Step e d body → bytes ≡ head ++ body → Steps c d bytes
 
 -- what is said of some bytes, and what is left of them
 and_left : (bytes left : Bytes) → bytes ≡ take (length bytes) left → bytes ++ drop (length bytes) left ≡ left
@@ -88,25 +94,87 @@ body_step s c r bytes false passing is = of_body (record r { has_begun = true; h
     short : length bytes ≤ r.to - r.at
     short = le_trans (front bytes offered is) bounded
 
+-- of what there is of two texts, no more than the first
+of_first : (first second bytes : Bytes) → bytes ≡ take (length bytes) (first ++ second) → length bytes ≤ length first → bytes ≡ take (length bytes) first
+of_first first second [] is le = refl
+of_first [] second (b ∷ bytes) is le = let long : suc (length bytes) ≤ 0 = le in absurd (omega arith)
+of_first (h ∷ first) second (b ∷ bytes) is le =
+    let parts : b ∷ bytes ≡ h ∷ take (length bytes) (first ++ second) = is in
+    let same : b ≡ h = cc in
+    let rest : bytes ≡ take (length bytes) (first ++ second) = cc in
+    let less : suc (length bytes) ≤ suc (length first) = le in
+    ap (λ x. x ∷ bytes) same ∙ ap (λ l. h ∷ l) (of_first first second bytes rest (omega arith))
+
+-- all of the first, and of the second
+of_second : (first second bytes : Bytes) → bytes ≡ take (length bytes) (first ++ second) → length first ≤ length bytes
+    → (bytes ≡ first ++ drop (length first) bytes) × (drop (length first) bytes ≡ take (length (drop (length first) bytes)) second)
+of_second [] second bytes is le = (refl, is)
+of_second (h ∷ first) second [] is le = let long : suc (length first) ≤ 0 = le in absurd (omega arith)
+of_second (h ∷ first) second (b ∷ bytes) is le =
+    let parts : b ∷ bytes ≡ h ∷ take (length bytes) (first ++ second) = is in
+    let same : b ≡ h = cc in
+    let rest : bytes ≡ take (length bytes) (first ++ second) = cc in
+    let less : suc (length first) ≤ suc (length bytes) = le in
+    let both = of_second first second bytes rest (omega arith) in
+    (ap (λ x. x ∷ bytes) same ∙ ap (λ l. h ∷ l) both.0, both.1)
+
+-- a client that is being said this head
+at_head : Client → Reply → Bytes → Client
+at_head c r head = record c { interim_left = []; stage = Answering (record r { has_begun = true; head_left = head }) }
+
+-- what is offered behind the head
+behind_head : State → Client → Reply → Bytes
+behind_head s c r = elim (is_passing r.decision) [ true ↦ passed_part (at_body c r) | false ↦ elim (next_of s (at_body c r)) [ None ↦ [] | Some n ↦ piece s n ] ]
+
+within_head : (c : Client) (r : Reply) (head bytes : Bytes) → bytes ≡ take (length bytes) head → Step (at_head c r head) (at_head c r (drop (length bytes) head)) bytes
+unfolding at_head
+within_head c r [] [] is = of_nothing refl refl refl refl
+within_head c r [] (b ∷ bytes) is = absurd (cc is)
+within_head c r (h ∷ head) bytes is =
+    of_head (record r { has_begun = true; head_left = h ∷ head }) (drop (length bytes) (h ∷ head)) refl refl refl refl refl refl (and_left bytes (h ∷ head) is) (λ none. cc none)
+
+-- where so many bytes of the body were said
+body_taken : ℕ → Client → Reply → Client
+body_taken n c r = elim (is_passing r.decision) [
+  | true ↦ on_passed (λ p. record p { pipe = without_first n p.pipe }) (at_body c r)
+  | false ↦ record (at_body c r) { stage = Answering (record r { has_begun = true; head_left = []; at = r.at + n }) }
+]
+
+past_head : (s : State) (c : Client) (r : Reply) (head body bytes : Bytes) → bytes ≡ head ++ body → body ≡ take (length body) (behind_head s c r) → Steps (at_head c r head) (body_taken (length body) c r) bytes
+unfolding at_head behind_head body_taken
+past_head s c r [] body bytes both is = subst (λ l. Steps (at_body c r) (body_taken (length body) c r) l) (sym both) (of_one (body_step s c r body (is_passing r.decision) refl is))
+past_head s c r (h ∷ head) body bytes both is =
+    of_both (at_body c r) (h ∷ head) body refl
+    (of_head (record r { has_begun = true; head_left = h ∷ head }) [] refl refl refl refl refl refl (append-nil (h ∷ head)) (λ none. cc none))
+    (body_step s c r body (is_passing r.decision) refl is) both
+
+head_step : (s : State) (c : Client) (r : Reply) (head bytes : Bytes) → bytes ≡ take (length bytes) (head ++ behind_head s c r) → (t : Bool) → nat_le (length bytes) (length head) ≡ t
+    → Steps (at_head c r head) (elim t as (λ x. Client) [ true ↦ at_head c r (drop (length bytes) head) | false ↦ body_taken (length bytes - length head) c r ]) bytes
+head_step s c r head bytes is true le = of_one (within_head c r head bytes (of_first head (behind_head s c r) bytes is (grind (arith, nat_tests))))
+head_step s c r head bytes is false le =
+    let more : length head ≤ length bytes = grind (arith, nat_tests) in
+    let both = of_second head (behind_head s c r) bytes is more in
+    subst (λ n. Steps (at_head c r head) (body_taken n c r) bytes) (length-drop (length head) bytes) (past_head s c r head (drop (length head) bytes) bytes both.0 both.1)
+
 reply_step : (s : State) (c : Client) (r : Reply) (b : Bool) (head bytes : Bytes) → let e : Client = record c { interim_left = []; stage = Answering (record r { has_begun = b; head_left = head }) } in
-    bytes ≡ take (length bytes) (offer s e) → ¬ (offer s e ≡ []) → Step e (said_by (length bytes) e) bytes
+    bytes ≡ take (length bytes) (offer s e) → ¬ (offer s e ≡ []) → Steps e (said_by (length bytes) e) bytes
+unfolding at_head behind_head body_taken
 reply_step s c r false head bytes is some = absurd (some refl)
-reply_step s c r true (h ∷ head) bytes is some = of_head (record r { has_begun = true; head_left = h ∷ head }) (drop (length bytes) (h ∷ head)) refl refl refl refl refl refl (and_left bytes (h ∷ head) is) (λ none. cc none)
-reply_step s c r true [] bytes is some = body_step s c r bytes (is_passing r.decision) refl is
+reply_step s c r true head bytes is some = head_step s c r head bytes is (nat_le (length bytes) (length head)) refl
 
 stage_step : (s : State) (c : Client) (stage : Stage) (bytes : Bytes) → let e : Client = record c { interim_left = []; stage = stage } in
-    bytes ≡ take (length bytes) (offer s e) → ¬ (offer s e ≡ []) → Step e (said_by (length bytes) e) bytes
+    bytes ≡ take (length bytes) (offer s e) → ¬ (offer s e ≡ []) → Steps e (said_by (length bytes) e) bytes
 stage_step s c Undecided bytes is some = absurd (some refl)
 stage_step s c Waiting bytes is some = absurd (some refl)
 stage_step s c Passing bytes is some = absurd (some refl)
 stage_step s c (Answering r) bytes is some = reply_step s c r r.has_begun r.head_left bytes is some
 
 interim_step : (s : State) (c : Client) (interim bytes : Bytes) → let e : Client = record c { interim_left = interim } in
-    bytes ≡ take (length bytes) (offer s e) → ¬ (offer s e ≡ []) → Step e (said_by (length bytes) e) bytes
-interim_step s c (i ∷ interim) bytes is some = of_interim refl refl (and_left bytes (i ∷ interim) is) (λ none. cc none)
+    bytes ≡ take (length bytes) (offer s e) → ¬ (offer s e ≡ []) → Steps e (said_by (length bytes) e) bytes
+interim_step s c (i ∷ interim) bytes is some = of_one (of_interim refl refl (and_left bytes (i ∷ interim) is) (λ none. cc none))
 interim_step s c [] bytes is some = stage_step s c c.stage bytes is some
 
-pub steps : (s : State) (c : Client) (bytes : Bytes) → bytes ≡ take (length bytes) (offer s c) → ¬ (offer s c ≡ []) → Step c (said_by (length bytes) c) bytes
+pub steps : (s : State) (c : Client) (bytes : Bytes) → bytes ≡ take (length bytes) (offer s c) → ¬ (offer s c ≡ []) → Steps c (said_by (length bytes) c) bytes
 steps s c bytes is some = interim_step s c c.interim_left bytes is some
 
 -- ---- the reply goes on
@@ -117,28 +185,28 @@ grown last bytes il left is = append_assoc last bytes left ∙ ap (λ l. last ++
 same_reply : (c : Client) (r q : Reply) → c.stage ≡ Answering r → c.stage ≡ Answering q → r ≡ q
 same_reply c r q one two = let both : Answering r ≡ Answering q = sym one ∙ two in cc
 
-head_moved : (f : Front) (r : Reply) (left head body : Bytes) → Begun f r head body → Begun f (record r { head_left = left }) head body
-head_moved f r left head body (a_page status isnt_on to is none) = a_page status isnt_on to is none
-head_moved f r left head body (a_kept q front isnt_on k long) = a_kept q front isnt_on k long
-head_moved f r left head body (a_passed q front is_on is) = a_passed q front is_on is
+head_moved : (f : Front) (closes : Bool) (r : Reply) (left head body : Bytes) → Begun f closes r head body → Begun f closes (record r { head_left = left }) head body
+head_moved f closes r left head body (a_page status isnt_on to is none end) = a_page status isnt_on to is none end
+head_moved f closes r left head body (a_kept q front isnt_on k long end) = a_kept q front isnt_on k long end
+head_moved f closes r left head body (a_passed q front is_on is end) = a_passed q front is_on is end
 
-passed_more : (f : Front) (r : Reply) (head body bytes : Bytes) → is_passing r.decision ≡ true → Begun f r head body → Begun f r head (body ++ bytes)
-passed_more f r head body bytes is_on (a_page status isnt_on to is none) = let both : false ≡ true = sym isnt_on ∙ is_on in absurd (cc both)
-passed_more f r head body bytes is_on (a_kept q front isnt_on k long) = let both : false ≡ true = sym isnt_on ∙ is_on in absurd (cc both)
-passed_more f r head body bytes is_on (a_passed q front too is) = a_passed q front too is
+passed_more : (f : Front) (closes : Bool) (r : Reply) (head body bytes : Bytes) → is_passing r.decision ≡ true → Begun f closes r head body → Begun f closes r head (body ++ bytes)
+passed_more f closes r head body bytes is_on (a_page status isnt_on to is none end) = let both : false ≡ true = sym isnt_on ∙ is_on in absurd (cc both)
+passed_more f closes r head body bytes is_on (a_kept q front isnt_on k long end) = let both : false ≡ true = sym isnt_on ∙ is_on in absurd (cc both)
+passed_more f closes r head body bytes is_on (a_passed q front too is end) = a_passed q front too is end
 
 no_bytes : (bytes : Bytes) (n : ℕ) → length bytes ≤ 0 - n → bytes ≡ []
 no_bytes [] n le = refl
 no_bytes (b ∷ bytes) n le = let long : suc (length bytes) ≤ 0 - n = le in absurd (omega arith)
 
-body_more : (f : Front) (r : Reply) (head body bytes : Bytes) → is_passing r.decision ≡ false → length bytes ≤ r.to - r.at → Begun f r head body → Begun f (record r { at = r.at + length bytes }) head (body ++ bytes)
-body_more f r head body bytes isnt_on le (a_page status off to is none) =
-    a_page status off to is (ap (λ l. l ++ bytes) none ∙ no_bytes bytes r.at (subst (λ n. length bytes ≤ n - r.at) to le))
-body_more f r head body bytes isnt_on le (a_kept q front off k long) = a_kept q front off k (sym (sum (length body) (length bytes) (length (body ++ bytes)) r.to r.at le (length-append body bytes)) ∙ long)
+body_more : (f : Front) (closes : Bool) (r : Reply) (head body bytes : Bytes) → is_passing r.decision ≡ false → length bytes ≤ r.to - r.at → Begun f closes r head body → Begun f closes (record r { at = r.at + length bytes }) head (body ++ bytes)
+body_more f closes r head body bytes isnt_on le (a_page status off to is none end) =
+    a_page status off to is (ap (λ l. l ++ bytes) none ∙ no_bytes bytes r.at (subst (λ n. length bytes ≤ n - r.at) to le)) end
+body_more f closes r head body bytes isnt_on le (a_kept q front off k long end) = a_kept q front off k (sym (sum (length body) (length bytes) (length (body ++ bytes)) r.to r.at le (length-append body bytes)) ∙ long) end
   where
     sum : (a b m to at : ℕ) → b ≤ to - at → m ≡ a + b → a + (to - at) ≡ m + (to - (at + b))
     sum a b m to at small eq = omega arith
-body_more f r head body bytes isnt_on le (a_passed q front is_on is) = let both : false ≡ true = sym isnt_on ∙ is_on in absurd (cc both)
+body_more f closes r head body bytes isnt_on le (a_passed q front is_on is end) = let both : false ≡ true = sym isnt_on ∙ is_on in absurd (cc both)
 
 -- both were said
 both_said : (last il hl whole bytes jl kl : Bytes) → il ≡ [] → hl ≡ [] → jl ≡ [] → kl ≡ [] → (last ++ il) ++ hl ≡ whole → ((last ++ bytes) ++ jl) ++ kl ≡ whole ++ bytes
@@ -154,7 +222,7 @@ pub record InMidst (c : Client) (last : Bytes) (r : Reply) : Type 0 where
   pub body : Bytes
   pub is : (last ++ c.interim_left) ++ r.head_left ≡ (interim_to c.front ++ head) ++ body
   pub rest : (body ≡ []) ⊎ ((c.interim_left ≡ []) × (r.head_left ≡ []))
-  pub what : Begun c.front r head body
+  pub what : Begun c.front c.closes r head body
 
 midst : (instances : List Instance) (next_instance : ℕ) (c : Client) (last : Bytes) (r : Reply) → c.stage ≡ Answering r → r.has_begun ≡ true → Now instances next_instance c last → InMidst c last r
 midst instances next_instance c last r at on (undecided stage none is) = let both : Undecided ≡ Answering r = sym stage ∙ at in absurd (cc both)
@@ -168,18 +236,18 @@ midst instances next_instance c last r at on (begun q stage is_on has head body 
 at_front : (f g : Front) (head body : Bytes) → g ≡ f → (interim_to f ++ head) ++ body ≡ (interim_to g ++ head) ++ body
 at_front f g head body is = sym (ap (λ h. (interim_to h ++ head) ++ body) is)
 
-interim_said : (instances : List Instance) (next_instance : ℕ) (c d : Client) (last bytes : Bytes) → d.front ≡ c.front → d.stage ≡ c.stage → bytes ++ d.interim_left ≡ c.interim_left → ¬ (c.interim_left ≡ [])
+interim_said : (instances : List Instance) (next_instance : ℕ) (c d : Client) (last bytes : Bytes) → d.closes ≡ c.closes → d.front ≡ c.front → d.stage ≡ c.stage → bytes ++ d.interim_left ≡ c.interim_left → ¬ (c.interim_left ≡ [])
     → Now instances next_instance c last → Now instances next_instance d (last ++ bytes)
-interim_said instances next_instance c d last bytes front stage left some (undecided at none is) = absurd (some none)
-interim_said instances next_instance c d last bytes front stage left some (waiting (inl at) has is) =
+interim_said instances next_instance c d last bytes end front stage left some (undecided at none is) = absurd (some none)
+interim_said instances next_instance c d last bytes end front stage left some (waiting (inl at) has is) =
     waiting (inl (stage ∙ at)) (ap has_request front ∙ has) (grown last bytes c.interim_left d.interim_left left ∙ is ∙ sym (ap interim_to front))
-interim_said instances next_instance c d last bytes front stage left some (waiting (inr at) has is) =
+interim_said instances next_instance c d last bytes end front stage left some (waiting (inr at) has is) =
     waiting (inr (stage ∙ at)) (ap has_request front ∙ has) (grown last bytes c.interim_left d.interim_left left ∙ is ∙ sym (ap interim_to front))
-interim_said instances next_instance c d last bytes front stage left some (chosen r at isnt_on has is what) =
-    chosen r (stage ∙ at) isnt_on (ap has_request front ∙ has) (grown last bytes c.interim_left d.interim_left left ∙ is ∙ sym (ap interim_to front)) (subst (λ f. Chosen instances next_instance f r) (sym front) what)
-interim_said instances next_instance c d last bytes front stage left some (begun r at is_on has head body is rest what) =
+interim_said instances next_instance c d last bytes end front stage left some (chosen r at isnt_on has is what) =
+    chosen r (stage ∙ at) isnt_on (ap has_request front ∙ has) (grown last bytes c.interim_left d.interim_left left ∙ is ∙ sym (ap interim_to front)) (subst (λ f. Chosen instances next_instance f d.closes r) (sym front) (subst (λ t. Chosen instances next_instance c.front t r) (sym end) what))
+interim_said instances next_instance c d last bytes end front stage left some (begun r at is_on has head body is rest what) =
     begun r (stage ∙ at) is_on (ap has_request front ∙ has) head body (ap (λ l. l ++ r.head_left) (grown last bytes c.interim_left d.interim_left left) ∙ is ∙ at_front c.front d.front head body front) (inl (none rest))
-    (subst (λ f. Begun f r head body) (sym front) what)
+    (subst (λ f. Begun f d.closes r head body) (sym front) (subst (λ t. Begun c.front t r head body) (sym end) what))
   where
     none : (body ≡ []) ⊎ ((c.interim_left ≡ []) × (r.head_left ≡ [])) → body ≡ []
     none (inl is_none) = is_none
@@ -190,44 +258,75 @@ head_said last il hl bytes left jl whole i j eq is =
     ap (λ l. ((last ++ bytes) ++ l) ++ left) j ∙ ap (λ l. l ++ left) (append-nil (last ++ bytes)) ∙ append_assoc last bytes left ∙ ap (λ l. last ++ l) eq
     ∙ ap (λ l. l ++ hl) (sym (append-nil last) ∙ ap (λ l. last ++ l) (sym i)) ∙ is
 
-pub now_said : (instances : List Instance) (next_instance : ℕ) (c d : Client) (last bytes : Bytes) → Step c d bytes → Now instances next_instance c last → Now instances next_instance d (last ++ bytes)
-now_said instances next_instance c d last bytes (of_interim front stage left some) now = interim_said instances next_instance c d last bytes front stage left some now
-now_said instances next_instance c d last bytes (of_head r left front at on stage il jl eq some) now =
+-- where nothing was said
+nothing_said : (instances : List Instance) (next_instance : ℕ) (c d : Client) (last : Bytes) → d.closes ≡ c.closes → d.front ≡ c.front → d.stage ≡ c.stage → d.interim_left ≡ c.interim_left → Now instances next_instance c last → Now instances next_instance d last
+nothing_said instances next_instance c d last end front stage left (undecided at none is) = undecided (stage ∙ at) (left ∙ none) is
+nothing_said instances next_instance c d last end front stage left (waiting (inl at) has is) =
+    waiting (inl (stage ∙ at)) (ap has_request front ∙ has) (ap (λ l. last ++ l) left ∙ is ∙ sym (ap interim_to front))
+nothing_said instances next_instance c d last end front stage left (waiting (inr at) has is) =
+    waiting (inr (stage ∙ at)) (ap has_request front ∙ has) (ap (λ l. last ++ l) left ∙ is ∙ sym (ap interim_to front))
+nothing_said instances next_instance c d last end front stage left (chosen r at isnt_on has is what) =
+    chosen r (stage ∙ at) isnt_on (ap has_request front ∙ has) (ap (λ l. last ++ l) left ∙ is ∙ sym (ap interim_to front)) (subst (λ f. Chosen instances next_instance f d.closes r) (sym front) (subst (λ t. Chosen instances next_instance c.front t r) (sym end) what))
+nothing_said instances next_instance c d last end front stage left (begun r at is_on has head body is rest what) =
+    begun r (stage ∙ at) is_on (ap has_request front ∙ has) head body (ap (λ l. (last ++ l) ++ r.head_left) left ∙ is ∙ at_front c.front d.front head body front) (at_end rest)
+    (subst (λ f. Begun f d.closes r head body) (sym front) (subst (λ t. Begun c.front t r head body) (sym end) what))
+  where
+    at_end : (body ≡ []) ⊎ ((c.interim_left ≡ []) × (r.head_left ≡ [])) → (body ≡ []) ⊎ ((d.interim_left ≡ []) × (r.head_left ≡ []))
+    at_end (inl none) = inl none
+    at_end (inr both) = inr (left ∙ both.0, both.1)
+
+now_said : (instances : List Instance) (next_instance : ℕ) (c d : Client) (last bytes : Bytes) → d.closes ≡ c.closes → Step c d bytes → Now instances next_instance c last → Now instances next_instance d (last ++ bytes)
+now_said instances next_instance c d last bytes end (of_nothing front stage left none) now =
+    subst (λ l. Now instances next_instance d l) (sym (ap (λ l. last ++ l) none ∙ append-nil last)) (nothing_said instances next_instance c d last end front stage left now)
+now_said instances next_instance c d last bytes end (of_interim front stage left some) now = interim_said instances next_instance c d last bytes end front stage left some now
+now_said instances next_instance c d last bytes end (of_head r left front at on stage il jl eq some) now =
     let m = midst instances next_instance c last r at on now in
     begun (record r { head_left = left }) stage on (ap has_request front ∙ m.has) m.head m.body
     (head_said last c.interim_left r.head_left bytes left d.interim_left _ il jl eq m.is ∙ at_front c.front d.front m.head m.body front) (inl (none m.body m.rest))
-    (subst (λ f. Begun f (record r { head_left = left }) m.head m.body) (sym front) (head_moved c.front r left m.head m.body m.what))
+    (subst (λ f. Begun f d.closes (record r { head_left = left }) m.head m.body) (sym front) (head_moved c.front d.closes r left m.head m.body (subst (λ t. Begun c.front t r m.head m.body) (sym end) m.what)))
   where
     none : (body : Bytes) → (body ≡ []) ⊎ ((c.interim_left ≡ []) × (r.head_left ≡ [])) → body ≡ []
     none body (inl is_none) = is_none
     none body (inr both) = absurd (some both.1)
-now_said instances next_instance c d last bytes (of_passed r front at on stage il jl hl passing) now =
+now_said instances next_instance c d last bytes end (of_passed r front at on stage il jl hl passing) now =
     let m = midst instances next_instance c last r at on now in
     begun r (stage ∙ at) on (ap has_request front ∙ m.has) m.head (m.body ++ bytes)
     (both_said last c.interim_left r.head_left _ bytes d.interim_left r.head_left il hl jl hl m.is ∙ append_assoc (interim_to c.front ++ m.head) m.body bytes ∙ at_front c.front d.front m.head (m.body ++ bytes) front)
     (inr (jl, hl))
-    (subst (λ f. Begun f r m.head (m.body ++ bytes)) (sym front) (passed_more c.front r m.head m.body bytes passing m.what))
-now_said instances next_instance c d last bytes (of_body r front at on stage il jl hl isnt_on le) now =
+    (subst (λ f. Begun f d.closes r m.head (m.body ++ bytes)) (sym front) (passed_more c.front d.closes r m.head m.body bytes passing (subst (λ t. Begun c.front t r m.head m.body) (sym end) m.what)))
+now_said instances next_instance c d last bytes end (of_body r front at on stage il jl hl isnt_on le) now =
     let m = midst instances next_instance c last r at on now in
     begun (record r { at = r.at + length bytes }) stage on (ap has_request front ∙ m.has) m.head (m.body ++ bytes)
     (both_said last c.interim_left r.head_left _ bytes d.interim_left r.head_left il hl jl hl m.is ∙ append_assoc (interim_to c.front ++ m.head) m.body bytes ∙ at_front c.front d.front m.head (m.body ++ bytes) front)
     (inr (jl, hl))
-    (subst (λ f. Begun f (record r { at = r.at + length bytes }) m.head (m.body ++ bytes)) (sym front) (body_more c.front r m.head m.body bytes isnt_on le m.what))
+    (subst (λ f. Begun f d.closes (record r { at = r.at + length bytes }) m.head (m.body ++ bytes)) (sym front) (body_more c.front d.closes r m.head m.body bytes isnt_on le (subst (λ t. Begun c.front t r m.head m.body) (sym end) m.what)))
+
+pub now_are : (instances : List Instance) (next_instance : ℕ) (c d : Client) (last bytes : Bytes) → d.closes ≡ c.closes → Steps c d bytes → Now instances next_instance c last → Now instances next_instance d (last ++ bytes)
+now_are instances next_instance c d last bytes end (of_one step) now = now_said instances next_instance c d last bytes end step now
+now_are instances next_instance c d last bytes end (of_both e head body same one two both) now =
+    subst (λ l. Now instances next_instance d l) (append_assoc last head body ∙ ap (λ l. last ++ l) (sym both))
+    (now_said instances next_instance e d (last ++ head) body (end ∙ sym same) two (now_said instances next_instance c e last head same one now))
 
 -- nothing is read with it
 reply_reads : (n : ℕ) (c : Client) (r : Reply) (passing : Bool)
-    → Follows (elim passing as (λ x. Client) [ true ↦ on_passed (λ p. record p { pipe = without_first n p.pipe }) c | false ↦ record c { stage = Answering (record r { at = r.at + n }) } ]) c
-reply_reads n c r true = let q = on_passed-quiet (λ p. record p { pipe = without_first n p.pipe }) c in record { front = q.front; reads = q.reads }
+    → Follows (elim passing as (λ x. Client) [
+      | true ↦ on_passed (λ p. record p { pipe = without_first n p.pipe }) (record c { stage = Answering r })
+      | false ↦ record c { stage = Answering (record r { at = r.at + n }) }
+    ]) c
+reply_reads n c r true = let q = on_passed-quiet (λ p. record p { pipe = without_first n p.pipe }) (record c { stage = Answering r }) in record { front = q.front; reads = q.reads }
 reply_reads n c r false = still_follows _ c refl refl refl refl
 
-head_reads : (n : ℕ) (c : Client) (r : Reply) (empty : Bool)
-    → Follows (elim empty as (λ x. Client) [ false ↦ record c { stage = Answering (record r { head_left = drop n r.head_left }) } | true ↦ said_of_body n r c ]) c
-head_reads n c r false = still_follows _ c refl refl refl refl
-head_reads n c r true = reply_reads n c r (is_passing r.decision)
+head_reads : (n : ℕ) (c : Client) (r : Reply) (of_head : Bool)
+    → Follows (elim of_head as (λ x. Client) [
+      | true ↦ record c { stage = Answering (record r { head_left = drop n r.head_left }) }
+      | false ↦ said_of_body (n - length r.head_left) (record r { head_left = [] }) c
+    ]) c
+head_reads n c r true = still_follows _ c refl refl refl refl
+head_reads n c r false = reply_reads (n - length r.head_left) c (record r { head_left = [] }) (is_passing r.decision)
 
 stage_reads : (n : ℕ) (c : Client) (reply : Option Reply) → Follows (elim reply as (λ x. Client) [ None ↦ c | Some r ↦ said_of n r c ]) c
 stage_reads n c None = still_follows _ c refl refl refl refl
-stage_reads n c (Some r) = head_reads n c r (is_empty r.head_left)
+stage_reads n c (Some r) = head_reads n c r (nat_le n (length r.head_left))
 
 said_reads : (n : ℕ) (c : Client) (empty : Bool)
     → Follows (elim empty as (λ x. Client) [ false ↦ record c { interim_left = drop n c.interim_left } | true ↦ elim (reply_of c) as (λ y. Client) [ None ↦ c | Some r ↦ said_of n r c ] ]) c
@@ -237,7 +336,36 @@ said_reads n c true = stage_reads n c (reply_of c)
 said_follows : (n : ℕ) (c : Client) → Follows (said_by n c) c
 said_follows n c = said_reads n c (is_empty c.interim_left)
 
-pub story_said : {instances : List Instance} {next_instance : ℕ} (told : Told) (c : Client) (bytes : Bytes) → Step c (said_by (length bytes) c) bytes → Story instances next_instance told c
+-- and the reply closes as it did
+reply_closes : (n : ℕ) (c : Client) (r : Reply) (passing : Bool)
+    → (elim passing as (λ x. Client) [
+      | true ↦ on_passed (λ p. record p { pipe = without_first n p.pipe }) (record c { stage = Answering r })
+      | false ↦ record c { stage = Answering (record r { at = r.at + n }) }
+    ]).closes ≡ c.closes
+reply_closes n c r true = (on_passed-quiet (λ p. record p { pipe = without_first n p.pipe }) (record c { stage = Answering r })).closes
+reply_closes n c r false = refl
+
+head_closes : (n : ℕ) (c : Client) (r : Reply) (of_head : Bool)
+    → (elim of_head as (λ x. Client) [
+      | true ↦ record c { stage = Answering (record r { head_left = drop n r.head_left }) }
+      | false ↦ said_of_body (n - length r.head_left) (record r { head_left = [] }) c
+    ]).closes ≡ c.closes
+head_closes n c r true = refl
+head_closes n c r false = reply_closes (n - length r.head_left) c (record r { head_left = [] }) (is_passing r.decision)
+
+stage_closes : (n : ℕ) (c : Client) (reply : Option Reply) → (elim reply as (λ x. Client) [ None ↦ c | Some r ↦ said_of n r c ]).closes ≡ c.closes
+stage_closes n c None = refl
+stage_closes n c (Some r) = head_closes n c r (nat_le n (length r.head_left))
+
+said_closes_by : (n : ℕ) (c : Client) (empty : Bool)
+    → (elim empty as (λ x. Client) [ false ↦ record c { interim_left = drop n c.interim_left } | true ↦ elim (reply_of c) as (λ y. Client) [ None ↦ c | Some r ↦ said_of n r c ] ]).closes ≡ c.closes
+said_closes_by n c false = refl
+said_closes_by n c true = stage_closes n c (reply_of c)
+
+said_closes : (n : ℕ) (c : Client) → (said_by n c).closes ≡ c.closes
+said_closes n c = said_closes_by n c (is_empty c.interim_left)
+
+pub story_said : {instances : List Instance} {next_instance : ℕ} (told : Told) (c : Client) (bytes : Bytes) → Steps c (said_by (length bytes) c) bytes → Story instances next_instance told c
     → Story instances next_instance (record told { said = told.said ++ bytes }) (said_by (length bytes) c)
 story_said {instances} {next_instance} told c bytes step story = record {
   requests = story.requests;
@@ -246,7 +374,7 @@ story_said {instances} {next_instance} told c bytes step story = record {
   last = story.last ++ bytes;
   all = ap (λ l. l ++ bytes) story.all ∙ append_assoc (concat story.replies) story.last bytes;
   place = place_on told.heard story.requests (said_by (length bytes) c) c (said_follows (length bytes) c) story.place;
-  now = now_said instances next_instance c (said_by (length bytes) c) story.last bytes step story.now;
+  now = now_are instances next_instance c (said_by (length bytes) c) story.last bytes (said_closes (length bytes) c) step story.now;
 }
 
 -- ---- what is permitted

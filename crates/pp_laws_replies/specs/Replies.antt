@@ -1,11 +1,11 @@
--- What is said to each client: whole replies to its requests, one behind the other, and then a front of one more (RFC 2616,
--- sections 6, 8.1.2.2 and 8.2.3).
-use Rattle.std.specs.Prelude.{◌≡◌, ◌⊎◌, ℕ, ◌+◌, ◌-◌, ◌≤◌, Bool, true, false, List, [], ◌∷◌, ◌++◌, length, drop, Option}
+-- What is said to each client: one whole reply to each of its requests, in their order, and then a front of one more, and nothing
+-- behind a reply that closes (RFC 2616, sections 6, 8.1, 8.1.2.2 and 8.2.3).
+use Rattle.std.specs.Prelude.{◌≡◌, ◌⊎◌, ℕ, ◌+◌, ◌-◌, ◌≤◌, Bool, true, false, ◌&&◌, not, List, [], ◌∷◌, ◌++◌, length, drop, Option}
 use Rattle.std.specs.List.{concat}
 use Rattle.pp_framing.specs.declared.body.BodyRule.{BodyRule}
 use Rattle.pp_head.specs.Response.{Response}
 use Rattle.pp_plan.specs.Requests.{is_head}
-use Rattle.pp_reply.specs.Keeping.{interim}
+use Rattle.pp_reply.specs.Keeping.{interim, is_end_known}
 use Rattle.pp_reply.specs.Kept.{kept_reply}
 use Rattle.pp_reply.specs.Texts.{page, passed_head}
 use Rattle.pp_reply.specs.declared.kept.KeptReply.{KeptReply}
@@ -15,7 +15,7 @@ use Rattle.pp_world.specs.Log.{Log}
 use Rattle.pp_world.specs.Streams.{heard, said}
 use Rattle.pp_law.specs.Lawful.{Lawful}
 use Rattle.pp_law.specs.Lists.{Bytes}
-use Rattle.pp_law.specs.Requests.{Front, Parsed, NoHeadYet, NoHead, IsRequest, front_of, keeps_open, keeps_after, asks_head, expects_interim}
+use Rattle.pp_law.specs.Requests.{Front, Parsed, NoHeadYet, NoHead, IsRequest, front_of, body_len, keeps_open, keeps_after, asks_head, expects_interim}
 use Rattle.pp_law.specs.State.{Term}
 
 -- ---- one reply
@@ -51,22 +51,25 @@ pub record IsPassedHead (r : Parsed) (head : Bytes) : Type 0 where
   pub spelled : head ≡ passed_head response rule r.head.minor (is_head r.head.method) name (keeps_open r)
 
 -- head and body of a reply to a request: a page; a reply from a kept response, of which the body has just the bytes that the head
--- shows where it is whole, and no more in any case; or a response that is passed
-pub data IsReply (f : Front) (is_whole : Bool) (head body : Bytes) : Type 0 where
-  is_page : (status : ℕ) → head ≡ page status (asks_head f) (keeps_after status f) → body ≡ [] → IsReply f is_whole head body
-  is_kept : (r : Parsed) → f ≡ IsRequest r → (k : IsKeptHead r head) → length body ≤ shown_len k.kind k.total → (is_whole ≡ true → length body ≡ shown_len k.kind k.total) → IsReply f is_whole head body
-  is_passed : (r : Parsed) → f ≡ IsRequest r → IsPassedHead r head → IsReply f is_whole head body
+-- shows where it is whole, and no more in any case; or a response that is passed. And whether it closes: the connection ends behind
+-- it, as its head says, where the request or the page wants it so, or where nothing but this tells the end of the body (sections 4.4
+-- and 8.1)
+pub data IsReply (f : Front) (is_whole closes : Bool) (head body : Bytes) : Type 0 where
+  is_page : (status : ℕ) → head ≡ page status (asks_head f) (keeps_after status f) → body ≡ [] → closes ≡ not (keeps_after status f) → IsReply f is_whole closes head body
+  is_kept : (r : Parsed) → f ≡ IsRequest r → (k : IsKeptHead r head) → length body ≤ shown_len k.kind k.total → (is_whole ≡ true → length body ≡ shown_len k.kind k.total) → closes ≡ not (keeps_open r) → IsReply f is_whole closes head body
+  is_passed : (r : Parsed) → f ≡ IsRequest r → (p : IsPassedHead r head) → closes ≡ not (keeps_open r && is_end_known p.rule r.head.minor) → IsReply f is_whole closes head body
 
+-- all of a reply, behind which the connection goes on
 pub record IsWholeReply (f : Front) (text : Bytes) : Type 0 where
   pub head : Bytes
   pub body : Bytes
   pub spelled : text ≡ (interim_to f ++ head) ++ body
-  pub is : IsReply f true head body
+  pub is : IsReply f true false head body
 
--- a front of a reply: of what stands before its head; or of its head; or all of its head and a front of its body
+-- a front of a reply, which may close: of what stands before its head; or of its head; or all of its head and a front of its body
 pub data IsFrontOfReply (f : Front) (text : Bytes) : Type 0 where
   before : (left : Bytes) → text ++ left ≡ interim_to f → IsFrontOfReply f text
-  within : (head body left : Bytes) → text ++ left ≡ (interim_to f ++ head) ++ body → (body ≡ []) ⊎ (left ≡ []) → IsReply f false head body → IsFrontOfReply f text
+  within : (closes : Bool) (head body left : Bytes) → text ++ left ≡ (interim_to f ++ head) ++ body → (body ≡ []) ⊎ (left ≡ []) → IsReply f false closes head body → IsFrontOfReply f text
 
 -- ---- the requests that are answered
 
@@ -81,24 +84,30 @@ head_len NoHeadYet = 0
 head_len (NoHead status) = 0
 head_len (IsRequest r) = r.head.length
 
--- each was heard, from an offset on that is not below the end of the head before it; and they end here at the latest
-abbrev pub AreHeardFrom : Bytes → ℕ → List Front → ℕ → Type 0
-AreHeardFrom heard from [] to = from ≤ to
-AreHeardFrom heard from (f ∷ fs) to = (at : ℕ) × (from ≤ at) × IsFrontAt f (front_of (drop at heard)) × AreHeardFrom heard (at + head_len f) fs to
+-- behind its head and its body the next one begins (section 4.4)
+abbrev pub next_at : ℕ → Front → ℕ
+next_at at f = (at + head_len f) + body_len f
 
+-- each stands in what was heard, the first at this offset, and each other one where the one before it ends
+abbrev pub AreHeardFrom : Bytes → ℕ → List Front → Type 0
+AreHeardFrom heard at [] = Unit {0}
+AreHeardFrom heard at (f ∷ fs) = IsFrontAt f (front_of (drop at heard)) × AreHeardFrom heard (next_at at f) fs
+
+-- these are the first requests that were heard: none is passed over
 abbrev pub AreHeard : Bytes → List Front → Type 0
-AreHeard heard fs = (to : ℕ) × AreHeardFrom heard 0 fs to
+AreHeard heard fs = AreHeardFrom heard 0 fs
 
 -- ---- all that is said
 
--- one for each, in their order
+-- one for each, in their order, and none of them closes
 abbrev pub AreReplies : List Front → List Bytes → Type 0
 AreReplies [] [] = Unit {0}
 AreReplies [] (text ∷ texts) = ⊥
 AreReplies (f ∷ fs) [] = ⊥
 AreReplies (f ∷ fs) (text ∷ texts) = IsWholeReply f text × AreReplies fs texts
 
--- to each of some requests a reply, and to the next a front of one, or nothing yet
+-- to each of the first requests a whole reply that does not close; to the next one a front of a reply, or nothing yet; and nothing
+-- else. So a reply that closes is the last
 pub record SaysInOrder (heard told : Bytes) : Type 0 where
   pub requests : List Front
   pub are_heard : AreHeard heard requests

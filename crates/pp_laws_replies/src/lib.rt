@@ -1,8 +1,8 @@
 //! What follows from the law of the proxy for each client's replies, in words that its readers use.
 //!
 //! `pp_law` says which happening may follow which. Here stands what every lawful log then means to a
-//! client: what it is told is whole replies to its requests, in order, and then a front of one more;
-//! and which row a reply is read from.
+//! client: what it is told is one whole reply to each of its first requests, in order, and then a front
+//! of one more, and nothing behind a reply that closes; and which row a reply is read from.
 //!
 //! To the layer above: each law is the clause of a function that does nothing. What leaves a lawful
 //! log has each of them; that a program leaves one is not said here.

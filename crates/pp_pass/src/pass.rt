@@ -1,5 +1,5 @@
 // A bounded pipe: bytes go out in the order in which they went in.
-ghost use Rattle.std.specs.Prelude.{◌≡◌, ◌↔◌, ◌<◌, ◌≤◌, [], false, length, take, IfOk};
+ghost use Rattle.std.specs.Prelude.{◌≡◌, ◌↔◌, ◌<◌, ◌≤◌, ◌++◌, [], false, length, take, IfOk};
 ghost use Rattle.pp_pass.specs.Pipe.{started, room_of, with_data, finished as finished_of, without_first};
 
 use crate::spelling::{put, put_chunk};
@@ -104,8 +104,21 @@ impl Pass {
         ensures front { result.now ≡ take (length result.now) self.now.bytes }
         ensures empty { (result.now ≡ []) ↔ (self.now.bytes ≡ []) }
     {
+        let (first, _) = self.pieces();
+        first
+    }
+
+    /// All bytes, in two pieces, as they are to be taken; the first is empty exactly where the pipe is.
+    pub fn pieces(&self) -> (&[u8], &[u8])
+        ensures all { result.0.now ++ result.1.now ≡ self.now.bytes }
+        ensures empty { (result.0.now ≡ []) ↔ (self.now.bytes ≡ []) }
+    {
         let (front, back) = self.held.as_slices();
-        if front.is_empty() { back } else { front }
+        if front.is_empty() {
+            (back, front)
+        } else {
+            (front, back)
+        }
     }
 
     /// Takes the first bytes out.

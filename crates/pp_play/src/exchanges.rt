@@ -1,8 +1,8 @@
 // What is played, and what is wanted of it.
 use crate::course::Step;
 use crate::fitting::{Fit, Part, fit_of};
-use crate::playing::{Act, PACES, Pace, Played, WORDS, play_with};
-use crate::texts::joined;
+use crate::playing::{Act, PACES, Pace, Played, WORDS, play, play_with};
+use crate::texts::{joined, joined_acts};
 use pp_run::Exit;
 use pp_text::OutOfMemory;
 use pp_world::{Cause, Decision, Happening, Remark};
@@ -85,6 +85,41 @@ fn unlike_by(
             if !is_met(alloc, &played, *wanted)? {
                 return tell(alloc, &played, exchange.name, *wanted);
             }
+        }
+    }
+    Ok(String::new(alloc))
+}
+
+/// Sizes of a window, in bytes.
+#[derive(Clone, Copy)]
+pub struct Sizes {
+    pub first: u64,
+    pub apart: u64,
+    pub count: u64,
+}
+
+/// Through a window of which size client 1 is said anything but these parts: nothing is said where there is none. For each size,
+/// so many from the first on and so far apart, these acts are played, then its connection takes so many bytes, then so many
+/// more, and then all.
+pub fn unlike_through_windows(
+    alloc: Global,
+    sizes: Sizes,
+    acts: &[Act<'_>],
+    parts: &[Part<'_>],
+) -> Result<String, OutOfMemory> {
+    for number in 0..sizes.count {
+        let size = sizes
+            .first
+            .saturating_add(number.saturating_mul(sizes.apart));
+        let windows = [
+            Act::Window(1, size),
+            Act::Window(1, size),
+            Act::Window(1, u64::MAX),
+        ];
+        let acts = joined_acts(alloc, &[acts, &windows])?;
+        let played = play(alloc, Pace::Whole, acts.as_slice())?;
+        if fit_of(played.said(1)?.as_slice(), parts) != Fit::Whole {
+            return Ok(format!(in alloc; "through windows of {size} bytes")?);
         }
     }
     Ok(String::new(alloc))

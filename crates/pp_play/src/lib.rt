@@ -21,7 +21,9 @@ mod texts; // the texts that most exchanges are made of
 
 pub use course::{Step, named_step};
 pub use cuts::{Cut, unlike_when_cut};
-pub use exchanges::{Exchange, Wanted, unlike, unlike_at, unlike_with};
+pub use exchanges::{
+    Exchange, Sizes, Wanted, unlike, unlike_at, unlike_through_windows, unlike_with,
+};
 pub use fitting::{Fit, Part, fit_of};
 pub use playing::{Act, PACES, Pace, Played, WORDS, play, play_failing, play_with};
 pub use texts::{

@@ -7,6 +7,7 @@ use Rattle.pp_flow.specs.declared.entry.Aim.TheVariants.{Own, Hole, Pass as Thro
 use Rattle.pp_fresh.specs.Ready.{may_store}
 use Rattle.pp_objects.specs.Changes.{retired_from}
 use Rattle.pp_objects.specs.Instances.{Rows, row_of}
+use Rattle.pp_objects.specs.declared.id.ObjectId.{ObjectId}
 use Rattle.pp_text.specs.Fields.{Field}
 use Rattle.pp_valid.specs.Conditions.{names_other_tag}
 use Rattle.pp_valid.specs.declared.version.Version.{Version}
@@ -42,14 +43,17 @@ ignores_range (AsHole first last tag) status v = (status == 200) && bytes_eq tag
 ignores_range (Check tag) status v = false
 ignores_range AsPassed status v = false
 
--- a 304 for a row of this version: "If a 304 response indicates an entity not currently cached, then the cache MUST disregard the
+-- a 304 where this is the row, with its version: "If a 304 response indicates an entity not currently cached, then the cache MUST disregard the
 -- response"
-abbrev pub unchanged_for : List Field → Kind → Version → Unchanged
-unchanged_for fields kind v = elim (names_other_tag fields v.tag) [ true ↦ OfAnother | false ↦ elim (names_tag (named_by kind) v.tag) [ true ↦ OfRow | false ↦ OfNothing ] ]
+abbrev pub unchanged_for : List Field → Kind → ObjectId × Version → Unchanged
+unchanged_for fields kind row = elim (names_other_tag fields row.1.tag) [
+  | true ↦ OfAnother
+  | false ↦ elim (names_tag (named_by kind) row.1.tag) [ true ↦ OfRow row.0 | false ↦ OfNothing ]
+]
 
 -- what forbids sharing is never shared
-abbrev pub told_unchanged : List Field → Kind → Option Version → Unchanged
-told_unchanged fields kind known = elim (may_store fields) [ false ↦ NotShared | true ↦ elim known [ None ↦ OfNothing | Some v ↦ unchanged_for fields kind v ] ]
+abbrev pub told_unchanged : List Field → Kind → Option (ObjectId × Version) → Unchanged
+told_unchanged fields kind known = elim (may_store fields) [ false ↦ NotShared | true ↦ elim known [ None ↦ OfNothing | Some row ↦ unchanged_for fields kind row ] ]
 
 -- ---- a row that is cleared
 

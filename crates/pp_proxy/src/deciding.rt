@@ -126,7 +126,6 @@ impl State {
         };
         self.begin_interim(i);
         self.leave_source(i);
-        self.leave_exchange(i);
         let (aim, stage) = if decision == Decision::Pass {
             (Aim::Pass, Stage::Passing)
         } else {
@@ -139,9 +138,9 @@ impl State {
         }
     }
 
-    /// The request asks this exchange. The one begun last is the only one of a request.
+    /// The request asks this exchange. The one begun last is the only one of a request: the one before is left.
     pub(crate) fn begin_exchange(&mut self, i: usize, aim: Aim, errand: &Errand) {
-        self.forsake(i);
+        self.leave_exchange(i);
         let Some(seat) = self.seats.get(i) else {
             return;
         };

@@ -9,6 +9,7 @@ ghost use Rattle.pp_world.specs.Log.{Told};
 use crate::due::Due;
 use crate::origin::Origin;
 use crate::state::State;
+use pp_client::Room;
 use pp_links::Links;
 use pp_peers::Peers;
 use pp_shelf::Shelf;
@@ -32,6 +33,8 @@ pub(crate) struct Desk {
     pub(crate) buffer: Vec<u8>,
     /// The data of a response in what was read.
     pub(crate) data: Vec<u8>,
+    /// What is said at once.
+    pub(crate) room: Box<Room>,
     /// A file of the disk, as it is laid out to be written.
     pub(crate) file: Vec<u8>,
     /// A client that was accepted in this turn, and for whom there is no memory.

@@ -1,7 +1,8 @@
 // A client, and how far its current request is.
 ghost use Rattle.std.specs.Prelude.{◌≡◌, ◌≤◌};
 ghost use Rattle.pp_client.specs.Replies.{left_next};
-ghost use Rattle.pp_proxy.specs.Courses.{has_begun, without_row};
+ghost use Rattle.pp_proxy.specs.Courses.{has_begun, lost_one, without_row, without_shared_row};
+ghost use Rattle.pp_proxy.specs.Said.{used_by};
 ghost use Rattle.pp_proxy.specs.Unseen.{answer_in, next_of};
 
 use crate::front::Front;
@@ -96,7 +97,7 @@ pub(crate) enum Course {
     AskTooLong,
 }
 
-/// The next byte of a client that follows an instance, and the end of its span.
+/// The next byte of a client that follows an instance, and the end of its span, or of what is said of it.
 #[derive(Clone, Copy)]
 pub(crate) struct Next {
     pub(crate) source: ObjectId,
@@ -119,7 +120,7 @@ pub(crate) struct Seat {
     pub(crate) waits_on: Option<Shared>,
     pub(crate) brought: Brought,
     pub(crate) course: Course,
-    /// A row whose hole nobody filled was cleared for its request.
+    /// A row was cleared for its request: nobody filled its hole, or it may not be shared.
     pub(crate) has_given_up: bool,
     /// Bytes of the interim answer and of the head that are still to be said.
     pub(crate) before_body: usize,
@@ -241,13 +242,20 @@ impl Seat {
         }
     }
 
-    /// The byte of an instance that is said first where so many bytes are said next.
-    pub(crate) fn used_by(&self, n: usize) -> Option<Next> {
-        if n > 0 && self.is_at_body() {
-            self.next()
-        } else {
-            None
+    /// The bytes of the instance that it follows among the next so many that are said.
+    pub(crate) fn used_by(&self, n: usize) -> Option<Next>
+        ensures { result ≡ used_by n self.now }
+    {
+        let of_body = n.saturating_sub(self.before_body) as u64;
+        if of_body == 0 || !self.has_begun() {
+            return None;
         }
+        let next = self.next()?;
+        Some(Next {
+            source: next.source,
+            at: next.at,
+            to: next.to.min(next.at.saturating_add(of_body)),
+        })
     }
 
     /// So many bytes were said.
@@ -285,13 +293,14 @@ impl Seat {
     }
 
     /// An attempt is lost, of so many.
-    pub(crate) fn lose_attempt(&mut self, most: u8) {
+    pub(crate) fn lose_attempt(&mut self, most: u8)
+        ensures { self.new ≡ record self.old { course = lost_one most self.old.course } }
+    {
         if let Course::Trying(n) = self.course {
-            let lost = n.saturating_add(1);
-            self.course = if most <= lost {
+            self.course = if u16::from(most) <= u16::from(n) + 1 {
                 Course::OutOfTries
             } else {
-                Course::Trying(lost)
+                Course::Trying(n + 1)
             };
         }
     }
@@ -304,6 +313,18 @@ impl Seat {
         if !self.has_begun() && !self.has_given_up {
             self.course = Course::Trying(0);
             self.has_given_up = true;
+        }
+    }
+
+    /// The row was cleared, since it may not be shared: the same. Where a row was cleared for the request before, an
+    /// attempt is lost: an origin that gives everybody a short part and the rest to one alone would be asked without end.
+    pub(crate) fn lose_shared_row(&mut self, most: u8)
+        ensures { self.new ≡ without_shared_row most self.old }
+    {
+        if self.has_given_up && !self.has_begun() {
+            self.lose_attempt(most);
+        } else {
+            self.lose_row();
         }
     }
 

@@ -86,91 +86,169 @@ abbrev text21 : Bytes
 text21 = (codes "HTTP/1.1 200 OK\r\n\r\nla la la")
 
 abbrev text22 : Bytes
-text22 = (codes "GET http://h/slow HTTP/1.1\r\n\r\n")
+text22 = (codes "GET http://h/d HTTP/1.1\r\nRange: bytes=5000-5004\r\n\r\n")
 
 abbrev text23 : Bytes
-text23 = (codes "GET /slow HTTP/1.1\r\nhost: h\r\nvia: 1.1 polipo\r\n\r\n")
+text23 = (codes "GET /d HTTP/1.1\r\nhost: h\r\nrange: bytes=4096-5004\r\nvia: 1.1 polipo\r\n\r\n")
 
 abbrev text24 : Bytes
-text24 = (codes "HTTP/1.1 200 OK\r\nETag: \"x\"\r\nCache-Control: max-age=60\r\nContent-Length: 5\r\n\r\nhello")
+text24 = (codes "HTTP/1.1 206 Partial Content\r\nContent-Range: bytes 4096-104095/200000\r\nContent-Length: 100000\r\n\r\n")
 
 abbrev text25 : Bytes
-text25 = (codes "GET http://h/b HTTP/1.1\r\nRange: bytes=4096-4099\r\n\r\n")
+text25 = (replicate 32768 100)
 
 abbrev text26 : Bytes
-text26 = (codes "GET /b HTTP/1.1\r\nhost: h\r\nrange: bytes=4096-4099\r\nvia: 1.1 polipo\r\n\r\n")
+text26 = (codes "GET http://h/slow HTTP/1.1\r\n\r\n")
 
 abbrev text27 : Bytes
-text27 = (codes "HTTP/1.1 206 Partial Content\r\nETag: \"x\"\r\nCache-Control: max-age=60\r\nContent-Range: bytes 4096-4099/4100\r\nContent-Length: 4\r\n\r\nlast")
+text27 = (codes "GET /slow HTTP/1.1\r\nhost: h\r\nvia: 1.1 polipo\r\n\r\n")
 
 abbrev text28 : Bytes
-text28 = (codes "HTTP/1.1 206 Partial Content\r\netag: \"x\"\r\ndate: Sun, 06 Nov 1994 08:49:37 GMT\r\ncache-control: max-age=60\r\nvia: 1.1 polipo\r\ncontent-range: bytes 4096-4099/4100\r\ncontent-length: 4\r\nconnection: keep-alive\r\n\r\n")
+text28 = (codes "HTTP/1.1 200 OK\r\nETag: \"x\"\r\nCache-Control: max-age=60\r\nContent-Length: 5\r\n\r\nhello")
 
 abbrev text29 : Bytes
-text29 = (codes "GET http://h/b HTTP/1.1\r\n\r\n")
+text29 = (codes "GET http://h/b HTTP/1.1\r\nRange: bytes=4096-4099\r\n\r\n")
 
 abbrev text30 : Bytes
-text30 = (codes "GET /b HTTP/1.1\r\nhost: h\r\nrange: bytes=0-4095\r\nif-range: \"x\"\r\nvia: 1.1 polipo\r\n\r\n")
+text30 = (codes "GET /b HTTP/1.1\r\nhost: h\r\nrange: bytes=4096-4099\r\nvia: 1.1 polipo\r\n\r\n")
 
 abbrev text31 : Bytes
-text31 = (codes "HTTP/1.1 503 Service Unavailable\r\nContent-Length: 0\r\n\r\n")
-
-abbrev front1 : Log
-front1 = Woke [] ∷ Rooted text0 ∷ Listed true ∷ Listens 8123 true ∷ wait true [] [] ∷ Clock 784111777 ∷ wait true [] [] ∷ Opened 1 ∷ wait true (1 ∷ []) [] ∷ CanRead 1 ∷ Heard 1 text25 ∷ Noted (Taken 1 0 Fetch) ∷ Dialled 2 (codes "h") 80 ∷ wait true (1 ∷ []) [] ∷ Reached 2 ∷ wait true (1 ∷ 2 ∷ []) (2 ∷ []) ∷ CanWrite 2 ∷ Asked 2 text26 ∷ wait true (1 ∷ 2 ∷ []) [] ∷ CanRead 2 ∷ Got 2 text27 ∷ Noted (Taken 1 0 (Hit 4096 4100)) ∷ wait true (1 ∷ 2 ∷ []) (1 ∷ []) ∷ CanWrite 1 ∷ Said 1 204 text28 ∷ wait true (1 ∷ 2 ∷ []) (1 ∷ []) ∷ CanWrite 1 ∷ Said 1 4 (codes "last") ∷ wait true (1 ∷ 2 ∷ []) [] ∷ Opened 3 ∷ wait true (1 ∷ 2 ∷ 3 ∷ []) [] ∷ CanRead 3 ∷ Heard 3 text29 ∷ Noted (Taken 3 0 (Part 0 4100)) ∷ wait true (1 ∷ []) (2 ∷ []) ∷ CanWrite 2 ∷ Asked 2 text30 ∷ wait true (1 ∷ 2 ∷ []) [] ∷ CanRead 2 ∷ Got 2 text31 ∷ wait true (1 ∷ []) (2 ∷ []) ∷ CanWrite 2 ∷ Asked 2 text30 ∷ wait true (1 ∷ 2 ∷ []) [] ∷ CanRead 2 ∷ Got 2 text31 ∷ wait true (1 ∷ []) (2 ∷ []) ∷ CanWrite 2 ∷ Asked 2 text30 ∷ wait true (1 ∷ 2 ∷ []) [] ∷ CanRead 2 ∷ Got 2 text31 ∷ []
+text31 = (codes "HTTP/1.1 206 Partial Content\r\nETag: \"x\"\r\nCache-Control: max-age=60\r\nContent-Range: bytes 4096-4099/4100\r\nContent-Length: 4\r\n\r\nlast")
 
 abbrev text32 : Bytes
-text32 = (codes "GET /b HTTP/1.1\r\nhost: h\r\nvia: 1.1 polipo\r\n\r\n")
-
-abbrev front2 : Log
-front2 = Woke [] ∷ Rooted text0 ∷ Listed true ∷ Listens 8123 true ∷ wait true [] [] ∷ Clock 784111777 ∷ wait true [] [] ∷ Opened 1 ∷ wait true (1 ∷ []) [] ∷ CanRead 1 ∷ Heard 1 text25 ∷ Noted (Taken 1 0 Fetch) ∷ Dialled 2 (codes "h") 80 ∷ wait true (1 ∷ []) [] ∷ Reached 2 ∷ wait true (1 ∷ 2 ∷ []) (2 ∷ []) ∷ CanWrite 2 ∷ Asked 2 text26 ∷ wait true (1 ∷ 2 ∷ []) [] ∷ CanRead 2 ∷ Got 2 text27 ∷ Noted (Taken 1 0 (Hit 4096 4100)) ∷ wait true (1 ∷ 2 ∷ []) (1 ∷ []) ∷ CanWrite 1 ∷ Said 1 204 text28 ∷ wait true (1 ∷ 2 ∷ []) (1 ∷ []) ∷ CanWrite 1 ∷ Said 1 4 (codes "last") ∷ wait true (1 ∷ 2 ∷ []) [] ∷ Opened 3 ∷ wait true (1 ∷ 2 ∷ 3 ∷ []) [] ∷ CanRead 3 ∷ Heard 3 text29 ∷ Noted (Taken 3 0 (Part 0 4100)) ∷ wait true (1 ∷ []) (2 ∷ []) ∷ CanWrite 2 ∷ Asked 2 text30 ∷ wait true (1 ∷ 2 ∷ []) [] ∷ []
+text32 = (codes "HTTP/1.1 206 Partial Content\r\netag: \"x\"\r\ndate: Sun, 06 Nov 1994 08:49:37 GMT\r\ncache-control: max-age=60\r\nvia: 1.1 polipo\r\ncontent-range: bytes 4096-4099/4100\r\ncontent-length: 4\r\nconnection: keep-alive\r\n\r\n")
 
 abbrev text33 : Bytes
-text33 = (codes "HTTP/1.1 206 Partial Content\r\nETag: \"x\"\r\nCache-Control: private\r\nContent-Range: bytes 0-4095/4100\r\nContent-Length: 4096\r\n\r\n" ++ replicate 4096 112)
+text33 = (codes "GET http://h/b HTTP/1.1\r\n\r\n")
 
 abbrev text34 : Bytes
-text34 = (codes "GET http://h/p HTTP/1.1\r\nCache-Control: no-store\r\n\r\n")
+text34 = (codes "GET /b HTTP/1.1\r\nhost: h\r\nrange: bytes=0-4095\r\nif-range: \"x\"\r\nvia: 1.1 polipo\r\n\r\n")
 
 abbrev text35 : Bytes
-text35 = (codes "GET /p HTTP/1.1\r\nhost: h\r\ncache-control: no-store\r\nvia: 1.1 polipo\r\n\r\n")
+text35 = (codes "HTTP/1.1 503 Service Unavailable\r\nContent-Length: 0\r\n\r\n")
+
+abbrev front1 : Log
+front1 = Woke [] ∷ Rooted text0 ∷ Listed true ∷ Listens 8123 true ∷ wait true [] [] ∷ Clock 784111777 ∷ wait true [] [] ∷ Opened 1 ∷ wait true (1 ∷ []) [] ∷ CanRead 1 ∷ Heard 1 text29 ∷ Noted (Taken 1 0 Fetch) ∷ Dialled 2 (codes "h") 80 ∷ wait true (1 ∷ []) [] ∷ Reached 2 ∷ wait true (1 ∷ 2 ∷ []) (2 ∷ []) ∷ CanWrite 2 ∷ Asked 2 text30 ∷ wait true (1 ∷ 2 ∷ []) [] ∷ CanRead 2 ∷ Got 2 text31 ∷ Noted (Taken 1 0 (Hit 4096 4100)) ∷ wait true (1 ∷ 2 ∷ []) (1 ∷ []) ∷ CanWrite 1 ∷ Said 1 204 text32 ∷ wait true (1 ∷ 2 ∷ []) (1 ∷ []) ∷ CanWrite 1 ∷ Said 1 4 (codes "last") ∷ wait true (1 ∷ 2 ∷ []) [] ∷ Opened 3 ∷ wait true (1 ∷ 2 ∷ 3 ∷ []) [] ∷ CanRead 3 ∷ Heard 3 text33 ∷ Noted (Taken 3 0 (Part 0 4100)) ∷ wait true (1 ∷ []) (2 ∷ []) ∷ CanWrite 2 ∷ Asked 2 text34 ∷ wait true (1 ∷ 2 ∷ []) [] ∷ CanRead 2 ∷ Got 2 text35 ∷ wait true (1 ∷ []) (2 ∷ []) ∷ CanWrite 2 ∷ Asked 2 text34 ∷ wait true (1 ∷ 2 ∷ []) [] ∷ CanRead 2 ∷ Got 2 text35 ∷ wait true (1 ∷ []) (2 ∷ []) ∷ CanWrite 2 ∷ Asked 2 text34 ∷ wait true (1 ∷ 2 ∷ []) [] ∷ CanRead 2 ∷ Got 2 text35 ∷ []
 
 abbrev text36 : Bytes
-text36 = (codes "GET http://h/q HTTP/1.1\r\nCache-Control: no-store\r\n\r\n")
+text36 = (codes "GET /b HTTP/1.1\r\nhost: h\r\nvia: 1.1 polipo\r\n\r\n")
+
+abbrev front2 : Log
+front2 = Woke [] ∷ Rooted text0 ∷ Listed true ∷ Listens 8123 true ∷ wait true [] [] ∷ Clock 784111777 ∷ wait true [] [] ∷ Opened 1 ∷ wait true (1 ∷ []) [] ∷ CanRead 1 ∷ Heard 1 text29 ∷ Noted (Taken 1 0 Fetch) ∷ Dialled 2 (codes "h") 80 ∷ wait true (1 ∷ []) [] ∷ Reached 2 ∷ wait true (1 ∷ 2 ∷ []) (2 ∷ []) ∷ CanWrite 2 ∷ Asked 2 text30 ∷ wait true (1 ∷ 2 ∷ []) [] ∷ CanRead 2 ∷ Got 2 text31 ∷ Noted (Taken 1 0 (Hit 4096 4100)) ∷ wait true (1 ∷ 2 ∷ []) (1 ∷ []) ∷ CanWrite 1 ∷ Said 1 204 text32 ∷ wait true (1 ∷ 2 ∷ []) (1 ∷ []) ∷ CanWrite 1 ∷ Said 1 4 (codes "last") ∷ wait true (1 ∷ 2 ∷ []) [] ∷ Opened 3 ∷ wait true (1 ∷ 2 ∷ 3 ∷ []) [] ∷ CanRead 3 ∷ Heard 3 text33 ∷ Noted (Taken 3 0 (Part 0 4100)) ∷ wait true (1 ∷ []) (2 ∷ []) ∷ CanWrite 2 ∷ Asked 2 text34 ∷ wait true (1 ∷ 2 ∷ []) [] ∷ []
 
 abbrev text37 : Bytes
-text37 = (codes "HTTP/1.1 204 No Content\r\nContent-Length: 5\r\n\r\n")
+text37 = (codes "HTTP/1.1 206 Partial Content\r\nETag: \"x\"\r\nCache-Control: private\r\nContent-Range: bytes 0-4095/4100\r\nContent-Length: 4096\r\n\r\n" ++ replicate 4096 112)
 
 abbrev text38 : Bytes
-text38 = (codes "GET http://h/s HTTP/1.1\r\nAuthorization: NTLM abc\r\n\r\n")
+text38 = (codes "GET http://h/c HTTP/1.1\r\nRange: bytes=8-9\r\n\r\n")
+
+abbrev front3 : Log
+front3 = Woke [] ∷ Rooted text0 ∷ Listed true ∷ Listens 8123 true ∷ wait true [] [] ∷ Clock 784111777 ∷ wait true [] [] ∷ Opened 1 ∷ wait true (1 ∷ []) [] ∷ CanRead 1 ∷ Heard 1 text38 ∷ Noted (Taken 1 0 Fetch) ∷ Dialled 2 (codes "h") 80 ∷ wait true [] [] ∷ Reached 2 ∷ []
 
 abbrev text39 : Bytes
-text39 = (codes "GET /s HTTP/1.1\r\nhost: h\r\nauthorization: NTLM abc\r\nvia: 1.1 polipo\r\n\r\n")
+text39 = (codes "GET /c HTTP/1.1\r\nhost: h\r\nrange: bytes=0-9\r\nvia: 1.1 polipo\r\n\r\n")
 
 abbrev text40 : Bytes
-text40 = (codes "HTTP/1.1 200 OK\r\nContent-Length: 2\r\n\r\nok")
+text40 = (codes "HTTP/1.1 206 Partial Content\r\nETag: \"x\"\r\nCache-Control: max-age=60\r\nContent-Range: bytes 0-3/10\r\nContent-Length: 4\r\n\r\nhell")
 
 abbrev text41 : Bytes
-text41 = (codes "GET http://h/l HTTP/1.1\r\n\r\n")
+text41 = (codes "GET /c HTTP/1.1\r\nhost: h\r\nrange: bytes=4-9\r\nif-range: \"x\"\r\nvia: 1.1 polipo\r\n\r\n")
 
 abbrev text42 : Bytes
-text42 = (codes "GET /l HTTP/1.1\r\nhost: h\r\nvia: 1.1 polipo\r\n\r\n")
+text42 = (codes "HTTP/1.1 206 Partial Content\r\nETag: \"x\"\r\nCache-Control: private\r\nContent-Range: bytes 4-9/10\r\nContent-Length: 6\r\n\r\nsecret")
 
 abbrev text43 : Bytes
-text43 = (codes "HTTP/1.1 200 OK\r\nETag: \"x\"\r\nCache-Control: max-age=60\r\nContent-Length: 4000000\r\n\r\nab")
+text43 = (codes "HTTP/1.1 304 Not Modified\r\nCache-Control: private\r\n\r\n")
 
 abbrev text44 : Bytes
-text44 = (codes "GET http://h/l HTTP/1.1\r\nRange: bytes=3000000-3000003\r\n\r\n")
+text44 = (codes "GET http://h/p HTTP/1.1\r\nCache-Control: no-store\r\n\r\n")
 
 abbrev text45 : Bytes
-text45 = (codes "GET http://h/l HTTP/1.1\r\nRange: bytes=1000000-1000003\r\n\r\n")
+text45 = (codes "GET /p HTTP/1.1\r\nhost: h\r\ncache-control: no-store\r\nvia: 1.1 polipo\r\n\r\n")
 
 abbrev text46 : Bytes
-text46 = (codes "GET /l HTTP/1.1\r\nhost: h\r\nrange: bytes=2998272-3000003\r\nvia: 1.1 polipo\r\n\r\n")
+text46 = (codes "GET http://h/q HTTP/1.1\r\nCache-Control: no-store\r\n\r\n")
 
 abbrev text47 : Bytes
-text47 = (replicate 4094 97)
+text47 = (codes "HTTP/1.1 204 No Content\r\nContent-Length: 5\r\n\r\n")
 
 abbrev text48 : Bytes
-text48 = (codes "GET /l HTTP/1.1\r\nhost: h\r\nrange: bytes=2998272-3000003\r\nif-range: \"x\"\r\nvia: 1.1 polipo\r\n\r\n")
+text48 = (codes "GET http://h/s HTTP/1.1\r\nAuthorization: NTLM abc\r\n\r\n")
+
+abbrev text49 : Bytes
+text49 = (codes "GET /s HTTP/1.1\r\nhost: h\r\nauthorization: NTLM abc\r\nvia: 1.1 polipo\r\n\r\n")
+
+abbrev text50 : Bytes
+text50 = (codes "HTTP/1.1 200 OK\r\nContent-Length: 2\r\n\r\nok")
+
+abbrev text51 : Bytes
+text51 = (codes "GET http://h/l HTTP/1.1\r\n\r\n")
+
+abbrev text52 : Bytes
+text52 = (codes "GET /l HTTP/1.1\r\nhost: h\r\nvia: 1.1 polipo\r\n\r\n")
+
+abbrev text53 : Bytes
+text53 = (codes "HTTP/1.1 200 OK\r\nETag: \"x\"\r\nCache-Control: max-age=60\r\nContent-Length: 4000000\r\n\r\nab")
+
+abbrev text54 : Bytes
+text54 = (codes "GET http://h/l HTTP/1.1\r\nRange: bytes=3000000-3000003\r\n\r\n")
+
+abbrev text55 : Bytes
+text55 = (codes "GET http://h/l HTTP/1.1\r\nRange: bytes=1000000-1000003\r\n\r\n")
+
+abbrev text56 : Bytes
+text56 = (codes "GET /l HTTP/1.1\r\nhost: h\r\nrange: bytes=2998272-3000003\r\nvia: 1.1 polipo\r\n\r\n")
+
+abbrev text57 : Bytes
+text57 = (replicate 4094 97)
+
+abbrev text58 : Bytes
+text58 = (codes "GET /l HTTP/1.1\r\nhost: h\r\nrange: bytes=2998272-3000003\r\nif-range: \"x\"\r\nvia: 1.1 polipo\r\n\r\n")
+
+abbrev text59 : Bytes
+text59 = (codes "HTTP/1.1 200 OK\r\nETag: \"y\"\r\nCache-Control: max-age=60\r\nContent-Length: 4000000\r\n\r\nab")
+
+abbrev text60 : Bytes
+text60 = (codes "HTTP/1.1 200 OK\r\nDate: Sun, 06 Nov 1994 08:49:37 GMT\r\nETag: \"x\"\r\nLast-Modified: Thu, 27 Oct 1994 08:49:37 GMT\r\nContent-Length: 5\r\n\r\nhello")
+
+abbrev text61 : Bytes
+text61 = (codes "GET http://h/a?b HTTP/1.1\r\n\r\n")
+
+abbrev text62 : Bytes
+text62 = (codes "GET /a?b HTTP/1.1\r\nhost: h\r\nvia: 1.1 polipo\r\n\r\n")
+
+abbrev text63 : Bytes
+text63 = (codes "GET http://h/a HTTP/1.1\r\nCookie: c=d\r\n\r\n")
+
+abbrev text64 : Bytes
+text64 = (codes "GET /a HTTP/1.1\r\nhost: h\r\ncookie: c=d\r\nvia: 1.1 polipo\r\n\r\n")
+
+abbrev text65 : Bytes
+text65 = (codes "GET http://h/a HTTP/1.1\r\nAccept-Encoding: gzip\r\n\r\n")
+
+abbrev text66 : Bytes
+text66 = (codes "GET /a HTTP/1.1\r\nhost: h\r\naccept-encoding: gzip\r\nvia: 1.1 polipo\r\n\r\n")
+
+abbrev text67 : Bytes
+text67 = (codes "HTTP/1.1 200 OK\r\nETag: \"x\"\r\nCache-Control: max-age=60\r\nContent-Encoding: gzip\r\nContent-Length: 5\r\n\r\nhello")
+
+abbrev text68 : Bytes
+text68 = (codes "CONNECT http://h/a HTTP/1.1\r\n\r\n")
+
+abbrev text69 : Bytes
+text69 = (codes "GET http://h/a HTTP/1.1\r\nHost: h\r\n\r\n")
+
+abbrev front4 : Log
+front4 = Woke [] ∷ Rooted text0 ∷ Listed true ∷ Listens 8123 true ∷ wait true [] [] ∷ Clock 784111777 ∷ wait true [] [] ∷ Opened 1 ∷ wait true (1 ∷ []) [] ∷ CanRead 1 ∷ Heard 1 text69 ∷ Noted (Taken 1 0 Fetch) ∷ Dialled 2 (codes "h") 80 ∷ wait true (1 ∷ []) [] ∷ Reached 2 ∷ wait true (1 ∷ 2 ∷ []) (2 ∷ []) ∷ CanWrite 2 ∷ Asked 2 text2 ∷ wait true (1 ∷ 2 ∷ []) [] ∷ []
+
+abbrev text70 : Bytes
+text70 = (codes "HTTP/1.1 099 Odd\r\nContent-Length: 2\r\n\r\nhi")
+
+abbrev text71 : Bytes
+text71 = (codes "HTTP/1.1 200 OK\r\nContent-Type: multipart/byteranges; boundary=b\r\nContent-Length: 7\r\n\r\n--b--\r\n")
+
+abbrev text72 : Bytes
+text72 = (codes "HTTP/1.1 206 Partial Content\r\nContent-Type: multipart/byteranges; boundary=b\r\nContent-Length: 7\r\n\r\n--b--\r\n")
 
 row42 : fault_from 0 (start (record { words = []; faults = 0 } ∷ [])) (front0 ++ Heard 1 text1 ∷ Noted (Taken 1 0 Fetch) ∷ Dialled 2 (codes "h") 80 ∷ wait true (1 ∷ []) [] ∷ Reached 2 ∷ wait true (1 ∷ 2 ∷ []) (2 ∷ []) ∷ CanWrite 2 ∷ Asked 2 text2 ∷ wait true (1 ∷ 2 ∷ []) [] ∷ CanRead 2 ∷ Got 2 text3 ∷ Noted (Taken 1 0 (Hit 0 5)) ∷ wait true (1 ∷ 2 ∷ []) (1 ∷ []) ∷ CanWrite 1 ∷ Said 1 153 text4 ∷ wait true (1 ∷ 2 ∷ []) (1 ∷ []) ∷ CanWrite 1 ∷ Said 1 5 (codes "hello") ∷ wait true (1 ∷ 2 ∷ []) [] ∷ Clock 784111779 ∷ wait true (1 ∷ 2 ∷ []) [] ∷ Opened 3 ∷ wait true (1 ∷ 2 ∷ 3 ∷ []) [] ∷ CanRead 3 ∷ Heard 3 text1 ∷ Noted (Taken 3 0 Validate) ∷ wait true (1 ∷ 2 ∷ []) (2 ∷ []) ∷ CanWrite 2 ∷ Asked 2 text5 ∷ wait true (1 ∷ 2 ∷ []) [] ∷ CanRead 2 ∷ Got 2 text6 ∷ Noted (Taken 3 0 Fetch) ∷ wait true (1 ∷ []) (2 ∷ []) ∷ []) ≡ None
 unfolding judging
@@ -224,122 +302,198 @@ row181 : fault_from 0 (start (record { words = []; faults = 0 } ∷ [])) (front0
 unfolding judging
 row181 = refl
 
-row217 : fault_from 0 (start (record { words = []; faults = 0 } ∷ [])) (front0 ++ Heard 1 text22 ∷ Noted (Taken 1 0 Fetch) ∷ Dialled 2 (codes "h") 80 ∷ wait true [] [] ∷ Reached 2 ∷ wait true [] (2 ∷ []) ∷ CanWrite 2 ∷ Asked 2 text23 ∷ wait true (2 ∷ []) [] ∷ Clock 784111877 ∷ wait true (2 ∷ []) [] ∷ Clock 784111977 ∷ wait true (2 ∷ []) [] ∷ Clock 784112076 ∷ wait true (2 ∷ []) [] ∷ []) ≡ None
+row212 : fault_from 0 (start (record { words = []; faults = 0 } ∷ [])) (front0 ++ Heard 1 text22 ∷ Noted (Taken 1 0 Fetch) ∷ Dialled 2 (codes "h") 80 ∷ wait true [] [] ∷ Reached 2 ∷ wait true [] (2 ∷ []) ∷ CanWrite 2 ∷ Asked 2 text23 ∷ wait true (2 ∷ []) [] ∷ CanRead 2 ∷ Got 2 text24 ∷ Noted (Taken 1 0 Pass) ∷ Dialled 3 (codes "h") 80 ∷ wait true (2 ∷ []) [] ∷ CanRead 2 ∷ Got 2 text25 ∷ wait true (2 ∷ []) [] ∷ CanRead 2 ∷ Got 2 text25 ∷ wait true (2 ∷ []) [] ∷ CanRead 2 ∷ Got 2 (codes "d") ∷ Dropped 2 ∷ wait true [] [] ∷ []) ≡ None
+unfolding judging
+row212 = refl
+
+row217 : fault_from 0 (start (record { words = []; faults = 0 } ∷ [])) (front0 ++ Heard 1 text22 ∷ Noted (Taken 1 0 Fetch) ∷ Dialled 2 (codes "h") 80 ∷ wait true [] [] ∷ Reached 2 ∷ wait true [] (2 ∷ []) ∷ CanWrite 2 ∷ Asked 2 text23 ∷ wait true (2 ∷ []) [] ∷ CanRead 2 ∷ Got 2 text24 ∷ Noted (Taken 1 0 Pass) ∷ Dialled 3 (codes "h") 80 ∷ wait true (2 ∷ []) [] ∷ CanRead 2 ∷ Got 2 text25 ∷ wait true (2 ∷ []) [] ∷ CanRead 2 ∷ Got 2 text25 ∷ wait true (2 ∷ []) [] ∷ CanRead 2 ∷ Got 2 (codes "d") ∷ wait true (2 ∷ []) [] ∷ []) ≡ Some (record { at = 32; rule = StepUnfinished })
 unfolding judging
 row217 = refl
 
-row222 : fault_from 0 (start (record { words = []; faults = 0 } ∷ [])) (front0 ++ Heard 1 text22 ∷ Noted (Taken 1 0 Fetch) ∷ Dialled 2 (codes "h") 80 ∷ wait true [] [] ∷ Reached 2 ∷ wait true [] (2 ∷ []) ∷ CanWrite 2 ∷ Asked 2 text23 ∷ wait true (2 ∷ []) [] ∷ Clock 784111877 ∷ wait true (2 ∷ []) [] ∷ Clock 784111977 ∷ wait true (2 ∷ []) [] ∷ Clock 784112076 ∷ Dropped 2 ∷ []) ≡ Some (record { at = 24; rule = NotToBeClosed })
+row252 : fault_from 0 (start (record { words = []; faults = 0 } ∷ [])) (front0 ++ Heard 1 text26 ∷ Noted (Taken 1 0 Fetch) ∷ Dialled 2 (codes "h") 80 ∷ wait true [] [] ∷ Reached 2 ∷ wait true [] (2 ∷ []) ∷ CanWrite 2 ∷ Asked 2 text27 ∷ wait true (2 ∷ []) [] ∷ Clock 784111877 ∷ wait true (2 ∷ []) [] ∷ Clock 784111977 ∷ wait true (2 ∷ []) [] ∷ Clock 784112076 ∷ wait true (2 ∷ []) [] ∷ []) ≡ None
 unfolding judging
-row222 = refl
+row252 = refl
 
-row228 : fault_from 0 (start (record { words = []; faults = 0 } ∷ [])) (front0 ++ Heard 1 text22 ∷ Noted (Taken 1 0 Fetch) ∷ Dialled 2 (codes "h") 80 ∷ wait true [] [] ∷ Reached 2 ∷ wait true [] (2 ∷ []) ∷ CanWrite 2 ∷ Asked 2 text23 ∷ wait true (2 ∷ []) [] ∷ Clock 784111877 ∷ wait true (2 ∷ []) [] ∷ Clock 784111977 ∷ wait true (2 ∷ []) [] ∷ Clock 784112077 ∷ Noted (Taken 1 0 (Refuse 502)) ∷ Dropped 2 ∷ wait true [] (1 ∷ []) ∷ []) ≡ None
-unfolding judging
-row228 = refl
-
-row235 : fault_from 0 (start (record { words = []; faults = 0 } ∷ [])) (front0 ++ Heard 1 text22 ∷ Noted (Taken 1 0 Fetch) ∷ Dialled 2 (codes "h") 80 ∷ wait true [] [] ∷ Reached 2 ∷ wait true [] (2 ∷ []) ∷ CanWrite 2 ∷ Asked 2 text23 ∷ wait true (2 ∷ []) [] ∷ Clock 784111877 ∷ wait true (2 ∷ []) [] ∷ Clock 784111977 ∷ wait true (2 ∷ []) [] ∷ Clock 784115577 ∷ wait true (2 ∷ []) [] ∷ CanRead 2 ∷ Got 2 text24 ∷ Noted (Taken 1 0 (Hit 0 5)) ∷ wait true (2 ∷ []) (1 ∷ []) ∷ []) ≡ None
-unfolding judging
-row235 = refl
-
-row238 : fault_from 0 (start (record { words = []; faults = 0 } ∷ [])) (front0 ++ Heard 1 text22 ∷ Noted (Taken 1 0 Fetch) ∷ Dialled 2 (codes "h") 80 ∷ wait true [] [] ∷ Reached 2 ∷ wait true [] (2 ∷ []) ∷ CanWrite 2 ∷ Asked 2 text23 ∷ wait true (2 ∷ []) [] ∷ Clock 784111877 ∷ wait true (2 ∷ []) [] ∷ Clock 784111977 ∷ wait true (2 ∷ []) [] ∷ Clock 784115577 ∷ wait true (2 ∷ []) [] ∷ Clock 784115677 ∷ wait true (2 ∷ []) [] ∷ Clock 784115777 ∷ wait true (2 ∷ []) [] ∷ Clock 784115876 ∷ wait true (2 ∷ []) [] ∷ Clock 784115877 ∷ Noted (Taken 1 0 (Refuse 502)) ∷ Dropped 2 ∷ wait true [] (1 ∷ []) ∷ []) ≡ None
-unfolding judging
-row238 = refl
-
-row251 : fault_from 0 (start (record { words = []; faults = 0 } ∷ [])) (front0 ++ Heard 1 text22 ∷ Noted (Taken 1 0 Fetch) ∷ Dialled 2 (codes "h") 80 ∷ wait true [] [] ∷ Reached 2 ∷ wait true [] (2 ∷ []) ∷ CanWrite 2 ∷ Asked 2 text23 ∷ wait true (2 ∷ []) [] ∷ Clock 784111877 ∷ wait true (2 ∷ []) [] ∷ Clock 784111977 ∷ wait true (2 ∷ []) [] ∷ Clock 784115577 ∷ Noted (Taken 1 0 (Refuse 502)) ∷ []) ≡ Some (record { at = 24; rule = WrongDecision })
-unfolding judging
-row251 = refl
-
-row257 : fault_from 0 (start (record { words = []; faults = 0 } ∷ [])) (front0 ++ Heard 1 text22 ∷ Noted (Taken 1 0 Fetch) ∷ Dialled 2 (codes "h") 80 ∷ wait true [] [] ∷ Reached 2 ∷ wait true [] (2 ∷ []) ∷ CanWrite 2 ∷ Asked 2 text23 ∷ wait true (2 ∷ []) [] ∷ Clock 784111877 ∷ wait true (2 ∷ []) [] ∷ Clock 784111977 ∷ wait true (2 ∷ []) [] ∷ Clock 784112097 ∷ wait true (2 ∷ []) [] ∷ []) ≡ None
+row257 : fault_from 0 (start (record { words = []; faults = 0 } ∷ [])) (front0 ++ Heard 1 text26 ∷ Noted (Taken 1 0 Fetch) ∷ Dialled 2 (codes "h") 80 ∷ wait true [] [] ∷ Reached 2 ∷ wait true [] (2 ∷ []) ∷ CanWrite 2 ∷ Asked 2 text27 ∷ wait true (2 ∷ []) [] ∷ Clock 784111877 ∷ wait true (2 ∷ []) [] ∷ Clock 784111977 ∷ wait true (2 ∷ []) [] ∷ Clock 784112076 ∷ Dropped 2 ∷ []) ≡ Some (record { at = 24; rule = NotToBeClosed })
 unfolding judging
 row257 = refl
 
-row262 : fault_from 0 (start (record { words = []; faults = 0 } ∷ [])) (front0 ++ Heard 1 text22 ∷ Noted (Taken 1 0 Fetch) ∷ Dialled 2 (codes "h") 80 ∷ wait true [] [] ∷ Reached 2 ∷ wait true [] (2 ∷ []) ∷ CanWrite 2 ∷ Asked 2 text23 ∷ wait true (2 ∷ []) [] ∷ Clock 784111877 ∷ wait true (2 ∷ []) [] ∷ Clock 784111977 ∷ wait true (2 ∷ []) [] ∷ Clock 784112096 ∷ wait true (2 ∷ []) [] ∷ []) ≡ Some (record { at = 24; rule = StepUnfinished })
+row263 : fault_from 0 (start (record { words = []; faults = 0 } ∷ [])) (front0 ++ Heard 1 text26 ∷ Noted (Taken 1 0 Fetch) ∷ Dialled 2 (codes "h") 80 ∷ wait true [] [] ∷ Reached 2 ∷ wait true [] (2 ∷ []) ∷ CanWrite 2 ∷ Asked 2 text27 ∷ wait true (2 ∷ []) [] ∷ Clock 784111877 ∷ wait true (2 ∷ []) [] ∷ Clock 784111977 ∷ wait true (2 ∷ []) [] ∷ Clock 784112077 ∷ Noted (Taken 1 0 (Refuse 502)) ∷ Dropped 2 ∷ wait true [] (1 ∷ []) ∷ []) ≡ None
 unfolding judging
-row262 = refl
+row263 = refl
 
-row268 : fault_from 0 (start (record { words = []; faults = 0 } ∷ [])) (front0 ++ Heard 1 text22 ∷ Noted (Taken 1 0 Fetch) ∷ Dialled 2 (codes "h") 80 ∷ wait true [] [] ∷ Reached 2 ∷ wait true [] (2 ∷ []) ∷ CanWrite 2 ∷ Asked 2 text23 ∷ wait true (2 ∷ []) [] ∷ Opened 3 ∷ wait true (2 ∷ 3 ∷ []) [] ∷ CanRead 3 ∷ Heard 3 text22 ∷ wait true (2 ∷ []) [] ∷ Clock 784111781 ∷ wait true (2 ∷ []) [] ∷ Clock 784111782 ∷ Noted (Taken 3 0 Fetch) ∷ Dialled 4 (codes "h") 80 ∷ wait true (2 ∷ []) [] ∷ []) ≡ None
+row270 : fault_from 0 (start (record { words = []; faults = 0 } ∷ [])) (front0 ++ Heard 1 text26 ∷ Noted (Taken 1 0 Fetch) ∷ Dialled 2 (codes "h") 80 ∷ wait true [] [] ∷ Reached 2 ∷ wait true [] (2 ∷ []) ∷ CanWrite 2 ∷ Asked 2 text27 ∷ wait true (2 ∷ []) [] ∷ Clock 784111877 ∷ wait true (2 ∷ []) [] ∷ Clock 784111977 ∷ wait true (2 ∷ []) [] ∷ Clock 784115577 ∷ wait true (2 ∷ []) [] ∷ CanRead 2 ∷ Got 2 text28 ∷ Noted (Taken 1 0 (Hit 0 5)) ∷ wait true (2 ∷ []) (1 ∷ []) ∷ []) ≡ None
 unfolding judging
-row268 = refl
+row270 = refl
 
-row282 : fault_from 0 (start (record { words = []; faults = 0 } ∷ [])) (front0 ++ Heard 1 text22 ∷ Noted (Taken 1 0 Fetch) ∷ Dialled 2 (codes "h") 80 ∷ wait true [] [] ∷ Reached 2 ∷ wait true [] (2 ∷ []) ∷ CanWrite 2 ∷ Asked 2 text23 ∷ wait true (2 ∷ []) [] ∷ Opened 3 ∷ wait true (2 ∷ 3 ∷ []) [] ∷ CanRead 3 ∷ Heard 3 text22 ∷ wait true (2 ∷ []) [] ∷ Clock 784111782 ∷ wait true (2 ∷ []) [] ∷ []) ≡ Some (record { at = 25; rule = StepUnfinished })
+row273 : fault_from 0 (start (record { words = []; faults = 0 } ∷ [])) (front0 ++ Heard 1 text26 ∷ Noted (Taken 1 0 Fetch) ∷ Dialled 2 (codes "h") 80 ∷ wait true [] [] ∷ Reached 2 ∷ wait true [] (2 ∷ []) ∷ CanWrite 2 ∷ Asked 2 text27 ∷ wait true (2 ∷ []) [] ∷ Clock 784111877 ∷ wait true (2 ∷ []) [] ∷ Clock 784111977 ∷ wait true (2 ∷ []) [] ∷ Clock 784115577 ∷ wait true (2 ∷ []) [] ∷ Clock 784115677 ∷ wait true (2 ∷ []) [] ∷ Clock 784115777 ∷ wait true (2 ∷ []) [] ∷ Clock 784115876 ∷ wait true (2 ∷ []) [] ∷ Clock 784115877 ∷ Noted (Taken 1 0 (Refuse 502)) ∷ Dropped 2 ∷ wait true [] (1 ∷ []) ∷ []) ≡ None
 unfolding judging
-row282 = refl
+row273 = refl
 
-row307 : fault_from 0 (start (record { words = []; faults = 0 } ∷ [])) (front1 ++ Noted (Taken 3 0 Fetch) ∷ wait true (1 ∷ []) (2 ∷ []) ∷ CanWrite 2 ∷ Asked 2 text32 ∷ []) ≡ None
+row286 : fault_from 0 (start (record { words = []; faults = 0 } ∷ [])) (front0 ++ Heard 1 text26 ∷ Noted (Taken 1 0 Fetch) ∷ Dialled 2 (codes "h") 80 ∷ wait true [] [] ∷ Reached 2 ∷ wait true [] (2 ∷ []) ∷ CanWrite 2 ∷ Asked 2 text27 ∷ wait true (2 ∷ []) [] ∷ Clock 784111877 ∷ wait true (2 ∷ []) [] ∷ Clock 784111977 ∷ wait true (2 ∷ []) [] ∷ Clock 784115577 ∷ Noted (Taken 1 0 (Refuse 502)) ∷ []) ≡ Some (record { at = 24; rule = WrongDecision })
 unfolding judging
-row307 = refl
+row286 = refl
 
-row313 : fault_from 0 (start (record { words = []; faults = 0 } ∷ [])) (front1 ++ Noted (Taken 3 0 (Refuse 502)) ∷ []) ≡ Some (record { at = 52; rule = WrongDecision })
+row292 : fault_from 0 (start (record { words = []; faults = 0 } ∷ [])) (front0 ++ Heard 1 text26 ∷ Noted (Taken 1 0 Fetch) ∷ Dialled 2 (codes "h") 80 ∷ wait true [] [] ∷ Reached 2 ∷ wait true [] (2 ∷ []) ∷ CanWrite 2 ∷ Asked 2 text27 ∷ wait true (2 ∷ []) [] ∷ Clock 784111877 ∷ wait true (2 ∷ []) [] ∷ Clock 784111977 ∷ wait true (2 ∷ []) [] ∷ Clock 784112097 ∷ wait true (2 ∷ []) [] ∷ []) ≡ None
 unfolding judging
-row313 = refl
+row292 = refl
 
-row339 : fault_from 0 (start (record { words = []; faults = 0 } ∷ [])) (front2 ++ CanRead 2 ∷ Got 2 text33 ∷ Noted (Taken 3 0 Fetch) ∷ wait true (1 ∷ []) (2 ∷ []) ∷ Broke 2 ∷ Dropped 2 ∷ Dialled 4 (codes "h") 80 ∷ wait true (1 ∷ []) [] ∷ Broke 4 ∷ Dropped 4 ∷ Dialled 5 (codes "h") 80 ∷ wait true (1 ∷ []) [] ∷ Broke 5 ∷ Dropped 5 ∷ Dialled 6 (codes "h") 80 ∷ wait true (1 ∷ []) [] ∷ []) ≡ None
+row297 : fault_from 0 (start (record { words = []; faults = 0 } ∷ [])) (front0 ++ Heard 1 text26 ∷ Noted (Taken 1 0 Fetch) ∷ Dialled 2 (codes "h") 80 ∷ wait true [] [] ∷ Reached 2 ∷ wait true [] (2 ∷ []) ∷ CanWrite 2 ∷ Asked 2 text27 ∷ wait true (2 ∷ []) [] ∷ Clock 784111877 ∷ wait true (2 ∷ []) [] ∷ Clock 784111977 ∷ wait true (2 ∷ []) [] ∷ Clock 784112096 ∷ wait true (2 ∷ []) [] ∷ []) ≡ Some (record { at = 24; rule = StepUnfinished })
 unfolding judging
-row339 = refl
+row297 = refl
 
-row345 : fault_from 0 (start (record { words = []; faults = 0 } ∷ [])) (front2 ++ CanRead 2 ∷ Got 2 text33 ∷ Noted (Taken 3 0 Fetch) ∷ wait true (1 ∷ []) (2 ∷ []) ∷ Broke 2 ∷ Dropped 2 ∷ Dialled 4 (codes "h") 80 ∷ wait true (1 ∷ []) [] ∷ Broke 4 ∷ Dropped 4 ∷ Dialled 5 (codes "h") 80 ∷ wait true (1 ∷ []) [] ∷ Broke 5 ∷ Noted (Taken 3 0 (Refuse 502)) ∷ []) ≡ Some (record { at = 51; rule = WrongDecision })
+row303 : fault_from 0 (start (record { words = []; faults = 0 } ∷ [])) (front0 ++ Heard 1 text26 ∷ Noted (Taken 1 0 Fetch) ∷ Dialled 2 (codes "h") 80 ∷ wait true [] [] ∷ Reached 2 ∷ wait true [] (2 ∷ []) ∷ CanWrite 2 ∷ Asked 2 text27 ∷ wait true (2 ∷ []) [] ∷ Opened 3 ∷ wait true (2 ∷ 3 ∷ []) [] ∷ CanRead 3 ∷ Heard 3 text26 ∷ wait true (2 ∷ []) [] ∷ Clock 784111781 ∷ wait true (2 ∷ []) [] ∷ Clock 784111782 ∷ Noted (Taken 3 0 Fetch) ∷ Dialled 4 (codes "h") 80 ∷ wait true (2 ∷ []) [] ∷ []) ≡ None
 unfolding judging
-row345 = refl
+row303 = refl
 
-row354 : fault_from 0 (start (record { words = []; faults = 0 } ∷ [])) (front0 ++ Heard 1 text34 ∷ Noted (Taken 1 0 Pass) ∷ Dialled 2 (codes "h") 80 ∷ wait true (1 ∷ []) [] ∷ Reached 2 ∷ wait true (1 ∷ 2 ∷ []) (2 ∷ []) ∷ CanWrite 2 ∷ Asked 2 text35 ∷ wait true (1 ∷ 2 ∷ []) [] ∷ Opened 3 ∷ wait true (1 ∷ 2 ∷ 3 ∷ []) [] ∷ CanRead 3 ∷ Heard 3 text36 ∷ Noted (Taken 3 0 Pass) ∷ Dialled 4 (codes "h") 80 ∷ wait true (1 ∷ 2 ∷ []) [] ∷ []) ≡ None
+row317 : fault_from 0 (start (record { words = []; faults = 0 } ∷ [])) (front0 ++ Heard 1 text26 ∷ Noted (Taken 1 0 Fetch) ∷ Dialled 2 (codes "h") 80 ∷ wait true [] [] ∷ Reached 2 ∷ wait true [] (2 ∷ []) ∷ CanWrite 2 ∷ Asked 2 text27 ∷ wait true (2 ∷ []) [] ∷ Opened 3 ∷ wait true (2 ∷ 3 ∷ []) [] ∷ CanRead 3 ∷ Heard 3 text26 ∷ wait true (2 ∷ []) [] ∷ Clock 784111782 ∷ wait true (2 ∷ []) [] ∷ []) ≡ Some (record { at = 25; rule = StepUnfinished })
 unfolding judging
-row354 = refl
+row317 = refl
 
-row372 : fault_from 0 (start (record { words = []; faults = 0 } ∷ [])) (front0 ++ Heard 1 text1 ∷ Noted (Taken 1 0 Fetch) ∷ Dialled 2 (codes "h") 80 ∷ wait true (1 ∷ []) [] ∷ Reached 2 ∷ wait true (1 ∷ 2 ∷ []) (2 ∷ []) ∷ CanWrite 2 ∷ Asked 2 text2 ∷ wait true (1 ∷ 2 ∷ []) [] ∷ CanRead 2 ∷ Got 2 text3 ∷ Noted (Taken 1 0 (Hit 0 5)) ∷ wait true (1 ∷ 2 ∷ []) (1 ∷ []) ∷ CanWrite 1 ∷ Said 1 153 text4 ∷ wait true (1 ∷ 2 ∷ []) (1 ∷ []) ∷ CanWrite 1 ∷ Said 1 5 (codes "hello") ∷ wait true (1 ∷ 2 ∷ []) [] ∷ CanRead 1 ∷ Heard 1 text34 ∷ Noted (Taken 1 1 Pass) ∷ wait true (1 ∷ []) (2 ∷ []) ∷ CanWrite 2 ∷ Asked 2 text35 ∷ wait true (1 ∷ 2 ∷ []) [] ∷ CanRead 2 ∷ Got 2 text37 ∷ Dropped 2 ∷ wait true (1 ∷ []) (1 ∷ []) ∷ []) ≡ None
+row342 : fault_from 0 (start (record { words = []; faults = 0 } ∷ [])) (front1 ++ Noted (Taken 3 0 Fetch) ∷ wait true (1 ∷ []) (2 ∷ []) ∷ CanWrite 2 ∷ Asked 2 text36 ∷ []) ≡ None
 unfolding judging
-row372 = refl
+row342 = refl
 
-row398 : fault_from 0 (start (record { words = []; faults = 0 } ∷ [])) (front0 ++ Heard 1 text1 ∷ Noted (Taken 1 0 Fetch) ∷ Dialled 2 (codes "h") 80 ∷ wait true (1 ∷ []) [] ∷ Reached 2 ∷ wait true (1 ∷ 2 ∷ []) (2 ∷ []) ∷ CanWrite 2 ∷ Asked 2 text2 ∷ wait true (1 ∷ 2 ∷ []) [] ∷ CanRead 2 ∷ Got 2 text3 ∷ Noted (Taken 1 0 (Hit 0 5)) ∷ wait true (1 ∷ 2 ∷ []) (1 ∷ []) ∷ CanWrite 1 ∷ Said 1 153 text4 ∷ wait true (1 ∷ 2 ∷ []) (1 ∷ []) ∷ CanWrite 1 ∷ Said 1 5 (codes "hello") ∷ wait true (1 ∷ 2 ∷ []) [] ∷ CanRead 1 ∷ Heard 1 text34 ∷ Noted (Taken 1 1 Pass) ∷ wait true (1 ∷ []) (2 ∷ []) ∷ CanWrite 2 ∷ Asked 2 text35 ∷ wait true (1 ∷ 2 ∷ []) [] ∷ CanRead 2 ∷ Got 2 (codes "hello\r\n") ∷ Dropped 2 ∷ Dialled 3 (codes "h") 80 ∷ wait true (1 ∷ []) [] ∷ []) ≡ None
+row348 : fault_from 0 (start (record { words = []; faults = 0 } ∷ [])) (front1 ++ Noted (Taken 3 0 (Refuse 502)) ∷ []) ≡ Some (record { at = 52; rule = WrongDecision })
 unfolding judging
-row398 = refl
+row348 = refl
 
-row404 : fault_from 0 (start (record { words = []; faults = 0 } ∷ [])) (front0 ++ Heard 1 text1 ∷ Noted (Taken 1 0 Fetch) ∷ Dialled 2 (codes "h") 80 ∷ wait true (1 ∷ []) [] ∷ Reached 2 ∷ wait true (1 ∷ 2 ∷ []) (2 ∷ []) ∷ CanWrite 2 ∷ Asked 2 text2 ∷ wait true (1 ∷ 2 ∷ []) [] ∷ CanRead 2 ∷ Got 2 text3 ∷ Noted (Taken 1 0 (Hit 0 5)) ∷ wait true (1 ∷ 2 ∷ []) (1 ∷ []) ∷ CanWrite 1 ∷ Said 1 153 text4 ∷ wait true (1 ∷ 2 ∷ []) (1 ∷ []) ∷ CanWrite 1 ∷ Said 1 5 (codes "hello") ∷ wait true (1 ∷ 2 ∷ []) [] ∷ CanRead 1 ∷ Heard 1 text34 ∷ Noted (Taken 1 1 Pass) ∷ wait true (1 ∷ []) (2 ∷ []) ∷ CanWrite 2 ∷ Asked 2 text35 ∷ wait true (1 ∷ 2 ∷ []) [] ∷ CanRead 2 ∷ Got 2 (codes "hello\r\n") ∷ Noted (Taken 1 1 (Refuse 502)) ∷ []) ≡ Some (record { at = 38; rule = WrongDecision })
+row374 : fault_from 0 (start (record { words = []; faults = 0 } ∷ [])) (front2 ++ CanRead 2 ∷ Got 2 text37 ∷ Noted (Taken 3 0 Fetch) ∷ wait true (1 ∷ []) (2 ∷ []) ∷ Broke 2 ∷ Dropped 2 ∷ Dialled 4 (codes "h") 80 ∷ wait true (1 ∷ []) [] ∷ Broke 4 ∷ Dropped 4 ∷ Dialled 5 (codes "h") 80 ∷ wait true (1 ∷ []) [] ∷ Broke 5 ∷ Dropped 5 ∷ Dialled 6 (codes "h") 80 ∷ wait true (1 ∷ []) [] ∷ []) ≡ None
 unfolding judging
-row404 = refl
+row374 = refl
 
-row424 : fault_from 0 (start (record { words = []; faults = 0 } ∷ [])) (front0 ++ Heard 1 text1 ∷ Noted (Taken 1 0 Fetch) ∷ Dialled 2 (codes "h") 80 ∷ wait true (1 ∷ []) [] ∷ Reached 2 ∷ wait true (1 ∷ 2 ∷ []) (2 ∷ []) ∷ CanWrite 2 ∷ Asked 2 text2 ∷ wait true (1 ∷ 2 ∷ []) [] ∷ CanRead 2 ∷ Got 2 text3 ∷ Noted (Taken 1 0 (Hit 0 5)) ∷ wait true (1 ∷ 2 ∷ []) (1 ∷ []) ∷ CanWrite 1 ∷ Said 1 153 text4 ∷ wait true (1 ∷ 2 ∷ []) (1 ∷ []) ∷ CanWrite 1 ∷ Said 1 5 (codes "hello") ∷ wait true (1 ∷ 2 ∷ []) [] ∷ CanRead 1 ∷ Heard 1 text38 ∷ Noted (Taken 1 1 Pass) ∷ Dialled 3 (codes "h") 80 ∷ wait true (1 ∷ 2 ∷ []) [] ∷ Reached 3 ∷ wait true (1 ∷ 2 ∷ []) (3 ∷ []) ∷ CanWrite 3 ∷ Asked 3 text39 ∷ wait true (1 ∷ 2 ∷ 3 ∷ []) [] ∷ CanRead 3 ∷ Got 3 text40 ∷ Dropped 3 ∷ wait true (1 ∷ 2 ∷ []) (1 ∷ []) ∷ []) ≡ None
+row380 : fault_from 0 (start (record { words = []; faults = 0 } ∷ [])) (front2 ++ CanRead 2 ∷ Got 2 text37 ∷ Noted (Taken 3 0 Fetch) ∷ wait true (1 ∷ []) (2 ∷ []) ∷ Broke 2 ∷ Dropped 2 ∷ Dialled 4 (codes "h") 80 ∷ wait true (1 ∷ []) [] ∷ Broke 4 ∷ Dropped 4 ∷ Dialled 5 (codes "h") 80 ∷ wait true (1 ∷ []) [] ∷ Broke 5 ∷ Noted (Taken 3 0 (Refuse 502)) ∷ []) ≡ Some (record { at = 51; rule = WrongDecision })
 unfolding judging
-row424 = refl
+row380 = refl
 
-row429 : fault_from 0 (start (record { words = []; faults = 0 } ∷ [])) (front0 ++ Heard 1 text1 ∷ Noted (Taken 1 0 Fetch) ∷ Dialled 2 (codes "h") 80 ∷ wait true (1 ∷ []) [] ∷ Reached 2 ∷ wait true (1 ∷ 2 ∷ []) (2 ∷ []) ∷ CanWrite 2 ∷ Asked 2 text2 ∷ wait true (1 ∷ 2 ∷ []) [] ∷ CanRead 2 ∷ Got 2 text3 ∷ Noted (Taken 1 0 (Hit 0 5)) ∷ wait true (1 ∷ 2 ∷ []) (1 ∷ []) ∷ CanWrite 1 ∷ Said 1 153 text4 ∷ wait true (1 ∷ 2 ∷ []) (1 ∷ []) ∷ CanWrite 1 ∷ Said 1 5 (codes "hello") ∷ wait true (1 ∷ 2 ∷ []) [] ∷ CanRead 1 ∷ Heard 1 text38 ∷ Noted (Taken 1 1 Pass) ∷ Dialled 3 (codes "h") 80 ∷ wait true (1 ∷ 2 ∷ []) [] ∷ Reached 3 ∷ wait true (1 ∷ 2 ∷ []) (3 ∷ []) ∷ CanWrite 3 ∷ Asked 3 text39 ∷ wait true (1 ∷ 2 ∷ 3 ∷ []) [] ∷ CanRead 3 ∷ Got 3 text40 ∷ wait true (1 ∷ 2 ∷ 3 ∷ []) (1 ∷ []) ∷ []) ≡ Some (record { at = 41; rule = StepUnfinished })
+row427 : fault_from 0 (start (record { words = []; faults = 0 } ∷ [])) (front3 ++ wait true [] (2 ∷ []) ∷ CanWrite 2 ∷ Asked 2 text39 ∷ wait true (2 ∷ []) [] ∷ CanRead 2 ∷ Got 2 text40 ∷ Noted (Taken 1 0 (Part 8 10)) ∷ wait true [] (2 ∷ []) ∷ CanWrite 2 ∷ Asked 2 text41 ∷ wait true (2 ∷ []) [] ∷ CanRead 2 ∷ Got 2 text42 ∷ Noted (Taken 1 0 Fetch) ∷ wait true [] (2 ∷ []) ∷ CanWrite 2 ∷ Asked 2 text39 ∷ wait true (2 ∷ []) [] ∷ CanRead 2 ∷ Got 2 text40 ∷ Noted (Taken 1 0 (Part 8 10)) ∷ wait true [] (2 ∷ []) ∷ CanWrite 2 ∷ Asked 2 text41 ∷ wait true (2 ∷ []) [] ∷ CanRead 2 ∷ Got 2 text42 ∷ Noted (Taken 1 0 Fetch) ∷ wait true [] (2 ∷ []) ∷ CanWrite 2 ∷ Asked 2 text39 ∷ wait true (2 ∷ []) [] ∷ CanRead 2 ∷ Got 2 text40 ∷ Noted (Taken 1 0 (Part 8 10)) ∷ wait true [] (2 ∷ []) ∷ CanWrite 2 ∷ Asked 2 text41 ∷ wait true (2 ∷ []) [] ∷ CanRead 2 ∷ Got 2 text42 ∷ Noted (Taken 1 0 Fetch) ∷ wait true [] (2 ∷ []) ∷ CanWrite 2 ∷ Asked 2 text39 ∷ wait true (2 ∷ []) [] ∷ CanRead 2 ∷ Got 2 text40 ∷ Noted (Taken 1 0 (Part 8 10)) ∷ wait true [] (2 ∷ []) ∷ CanWrite 2 ∷ Asked 2 text41 ∷ wait true (2 ∷ []) [] ∷ CanRead 2 ∷ Got 2 text42 ∷ Noted (Taken 1 0 (Refuse 502)) ∷ []) ≡ None
 unfolding judging
-row429 = refl
+row427 = refl
 
-row455 : fault_from 0 (start (record { words = []; faults = 0 } ∷ [])) (front0 ++ Heard 1 text41 ∷ Noted (Taken 1 0 Fetch) ∷ Dialled 2 (codes "h") 80 ∷ wait true [] [] ∷ Reached 2 ∷ wait true [] (2 ∷ []) ∷ CanWrite 2 ∷ Asked 2 text42 ∷ wait true (2 ∷ []) [] ∷ CanRead 2 ∷ Got 2 text43 ∷ Noted (Taken 1 0 (Part 0 4000000)) ∷ wait true (2 ∷ []) (1 ∷ []) ∷ Opened 3 ∷ wait true (2 ∷ 3 ∷ []) (1 ∷ []) ∷ CanRead 3 ∷ Heard 3 text44 ∷ Noted (Taken 3 0 (Part 3000000 3000004)) ∷ Dialled 4 (codes "h") 80 ∷ wait true (2 ∷ []) (1 ∷ []) ∷ []) ≡ None
+row431 : fault_from 0 (start (record { words = []; faults = 0 } ∷ [])) (front3 ++ wait true [] (2 ∷ []) ∷ CanWrite 2 ∷ Asked 2 text39 ∷ wait true (2 ∷ []) [] ∷ CanRead 2 ∷ Got 2 text40 ∷ Noted (Taken 1 0 (Part 8 10)) ∷ wait true [] (2 ∷ []) ∷ CanWrite 2 ∷ Asked 2 text41 ∷ wait true (2 ∷ []) [] ∷ CanRead 2 ∷ Got 2 text42 ∷ Noted (Taken 1 0 Fetch) ∷ wait true [] (2 ∷ []) ∷ CanWrite 2 ∷ Asked 2 text39 ∷ wait true (2 ∷ []) [] ∷ CanRead 2 ∷ Got 2 text40 ∷ Noted (Taken 1 0 (Part 8 10)) ∷ wait true [] (2 ∷ []) ∷ CanWrite 2 ∷ Asked 2 text41 ∷ wait true (2 ∷ []) [] ∷ CanRead 2 ∷ Got 2 text42 ∷ Noted (Taken 1 0 Fetch) ∷ wait true [] (2 ∷ []) ∷ CanWrite 2 ∷ Asked 2 text39 ∷ wait true (2 ∷ []) [] ∷ CanRead 2 ∷ Got 2 text40 ∷ Noted (Taken 1 0 (Part 8 10)) ∷ wait true [] (2 ∷ []) ∷ CanWrite 2 ∷ Asked 2 text41 ∷ wait true (2 ∷ []) [] ∷ CanRead 2 ∷ Got 2 text42 ∷ Noted (Taken 1 0 Fetch) ∷ wait true [] (2 ∷ []) ∷ CanWrite 2 ∷ Asked 2 text39 ∷ wait true (2 ∷ []) [] ∷ CanRead 2 ∷ Got 2 text40 ∷ Noted (Taken 1 0 (Part 8 10)) ∷ wait true [] (2 ∷ []) ∷ CanWrite 2 ∷ Asked 2 text41 ∷ wait true (2 ∷ []) [] ∷ CanRead 2 ∷ Got 2 text42 ∷ Noted (Taken 1 0 Fetch) ∷ []) ≡ Some (record { at = 70; rule = WrongDecision })
 unfolding judging
-row455 = refl
+row431 = refl
 
-row462 : fault_from 0 (start (record { words = []; faults = 0 } ∷ [])) (front0 ++ Heard 1 text41 ∷ Noted (Taken 1 0 Fetch) ∷ Dialled 2 (codes "h") 80 ∷ wait true [] [] ∷ Reached 2 ∷ wait true [] (2 ∷ []) ∷ CanWrite 2 ∷ Asked 2 text42 ∷ wait true (2 ∷ []) [] ∷ CanRead 2 ∷ Got 2 text43 ∷ Noted (Taken 1 0 (Part 0 4000000)) ∷ wait true (2 ∷ []) (1 ∷ []) ∷ Opened 3 ∷ wait true (2 ∷ 3 ∷ []) (1 ∷ []) ∷ CanRead 3 ∷ Heard 3 text45 ∷ Noted (Taken 3 0 (Part 1000000 1000004)) ∷ wait true (2 ∷ []) (1 ∷ []) ∷ []) ≡ None
+row436 : fault_from 0 (start (record { words = []; faults = 0 } ∷ [])) (front3 ++ wait true [] (2 ∷ []) ∷ CanWrite 2 ∷ Asked 2 text39 ∷ wait true (2 ∷ []) [] ∷ CanRead 2 ∷ Got 2 text40 ∷ Noted (Taken 1 0 (Part 8 10)) ∷ wait true [] (2 ∷ []) ∷ CanWrite 2 ∷ Asked 2 text41 ∷ wait true (2 ∷ []) [] ∷ CanRead 2 ∷ Got 2 text42 ∷ Noted (Taken 1 0 Fetch) ∷ wait true [] (2 ∷ []) ∷ CanWrite 2 ∷ Asked 2 text39 ∷ wait true (2 ∷ []) [] ∷ CanRead 2 ∷ Got 2 text40 ∷ Noted (Taken 1 0 (Part 8 10)) ∷ wait true [] (2 ∷ []) ∷ CanWrite 2 ∷ Asked 2 text41 ∷ wait true (2 ∷ []) [] ∷ CanRead 2 ∷ Got 2 text42 ∷ Noted (Taken 1 0 Fetch) ∷ wait true [] (2 ∷ []) ∷ CanWrite 2 ∷ Asked 2 text39 ∷ wait true (2 ∷ []) [] ∷ CanRead 2 ∷ Got 2 text40 ∷ Noted (Taken 1 0 (Part 8 10)) ∷ wait true [] (2 ∷ []) ∷ CanWrite 2 ∷ Asked 2 text41 ∷ wait true (2 ∷ []) [] ∷ CanRead 2 ∷ Got 2 text42 ∷ Noted (Taken 1 0 (Refuse 502)) ∷ []) ≡ Some (record { at = 56; rule = WrongDecision })
 unfolding judging
-row462 = refl
+row436 = refl
 
-row486 : fault_from 0 (start (record { words = []; faults = 0 } ∷ [])) (front0 ++ Heard 1 text41 ∷ Noted (Taken 1 0 Fetch) ∷ Dialled 2 (codes "h") 80 ∷ wait true [] [] ∷ Reached 2 ∷ wait true [] (2 ∷ []) ∷ CanWrite 2 ∷ Asked 2 text42 ∷ wait true (2 ∷ []) [] ∷ CanRead 2 ∷ Got 2 text43 ∷ Noted (Taken 1 0 (Part 0 4000000)) ∷ wait true (2 ∷ []) (1 ∷ []) ∷ Opened 3 ∷ wait true (2 ∷ 3 ∷ []) (1 ∷ []) ∷ CanRead 3 ∷ Heard 3 text44 ∷ Noted (Taken 3 0 (Part 3000000 3000004)) ∷ Dialled 4 (codes "h") 80 ∷ wait true (2 ∷ []) (1 ∷ []) ∷ CanWrite 1 ∷ HungUp 1 ∷ Shut 1 ∷ Dropped 2 ∷ wait true [] [] ∷ []) ≡ None
+row441 : fault_from 0 (start (record { words = []; faults = 0 } ∷ [])) (front3 ++ wait true [] (2 ∷ []) ∷ CanWrite 2 ∷ Asked 2 text39 ∷ wait true (2 ∷ []) [] ∷ CanRead 2 ∷ Got 2 text40 ∷ Noted (Taken 1 0 (Part 8 10)) ∷ wait true [] (2 ∷ []) ∷ CanWrite 2 ∷ Asked 2 text41 ∷ wait true (2 ∷ []) [] ∷ CanRead 2 ∷ Got 2 text43 ∷ Noted (Taken 1 0 Fetch) ∷ wait true [] (2 ∷ []) ∷ CanWrite 2 ∷ Asked 2 text39 ∷ wait true (2 ∷ []) [] ∷ CanRead 2 ∷ Got 2 text40 ∷ Noted (Taken 1 0 (Part 8 10)) ∷ wait true [] (2 ∷ []) ∷ CanWrite 2 ∷ Asked 2 text41 ∷ wait true (2 ∷ []) [] ∷ CanRead 2 ∷ Got 2 text43 ∷ Noted (Taken 1 0 Fetch) ∷ wait true [] (2 ∷ []) ∷ CanWrite 2 ∷ Asked 2 text39 ∷ wait true (2 ∷ []) [] ∷ CanRead 2 ∷ Got 2 text40 ∷ Noted (Taken 1 0 (Part 8 10)) ∷ wait true [] (2 ∷ []) ∷ CanWrite 2 ∷ Asked 2 text41 ∷ wait true (2 ∷ []) [] ∷ CanRead 2 ∷ Got 2 text43 ∷ Noted (Taken 1 0 Fetch) ∷ wait true [] (2 ∷ []) ∷ CanWrite 2 ∷ Asked 2 text39 ∷ wait true (2 ∷ []) [] ∷ CanRead 2 ∷ Got 2 text40 ∷ Noted (Taken 1 0 (Part 8 10)) ∷ wait true [] (2 ∷ []) ∷ CanWrite 2 ∷ Asked 2 text41 ∷ wait true (2 ∷ []) [] ∷ CanRead 2 ∷ Got 2 text43 ∷ Noted (Taken 1 0 (Refuse 502)) ∷ []) ≡ None
 unfolding judging
-row486 = refl
+row441 = refl
 
-row491 : fault_from 0 (start (record { words = []; faults = 0 } ∷ [])) (front0 ++ Heard 1 text41 ∷ Noted (Taken 1 0 Fetch) ∷ Dialled 2 (codes "h") 80 ∷ wait true [] [] ∷ Reached 2 ∷ wait true [] (2 ∷ []) ∷ CanWrite 2 ∷ Asked 2 text42 ∷ wait true (2 ∷ []) [] ∷ CanRead 2 ∷ Got 2 text43 ∷ Noted (Taken 1 0 (Part 0 4000000)) ∷ wait true (2 ∷ []) (1 ∷ []) ∷ Opened 3 ∷ wait true (2 ∷ 3 ∷ []) (1 ∷ []) ∷ CanRead 3 ∷ Heard 3 text44 ∷ Noted (Taken 3 0 (Part 3000000 3000004)) ∷ Dialled 4 (codes "h") 80 ∷ wait true (2 ∷ []) (1 ∷ []) ∷ CanWrite 1 ∷ HungUp 1 ∷ Shut 1 ∷ wait true (2 ∷ []) [] ∷ []) ≡ Some (record { at = 33; rule = StepUnfinished })
+row445 : fault_from 0 (start (record { words = []; faults = 0 } ∷ [])) (front3 ++ wait true [] (2 ∷ []) ∷ CanWrite 2 ∷ Asked 2 text39 ∷ wait true (2 ∷ []) [] ∷ CanRead 2 ∷ Got 2 text40 ∷ Noted (Taken 1 0 (Part 8 10)) ∷ wait true [] (2 ∷ []) ∷ CanWrite 2 ∷ Asked 2 text41 ∷ wait true (2 ∷ []) [] ∷ CanRead 2 ∷ Got 2 text43 ∷ Noted (Taken 1 0 Fetch) ∷ wait true [] (2 ∷ []) ∷ CanWrite 2 ∷ Asked 2 text39 ∷ wait true (2 ∷ []) [] ∷ CanRead 2 ∷ Got 2 text40 ∷ Noted (Taken 1 0 (Part 8 10)) ∷ wait true [] (2 ∷ []) ∷ CanWrite 2 ∷ Asked 2 text41 ∷ wait true (2 ∷ []) [] ∷ CanRead 2 ∷ Got 2 text43 ∷ Noted (Taken 1 0 Fetch) ∷ wait true [] (2 ∷ []) ∷ CanWrite 2 ∷ Asked 2 text39 ∷ wait true (2 ∷ []) [] ∷ CanRead 2 ∷ Got 2 text40 ∷ Noted (Taken 1 0 (Part 8 10)) ∷ wait true [] (2 ∷ []) ∷ CanWrite 2 ∷ Asked 2 text41 ∷ wait true (2 ∷ []) [] ∷ CanRead 2 ∷ Got 2 text43 ∷ Noted (Taken 1 0 Fetch) ∷ wait true [] (2 ∷ []) ∷ CanWrite 2 ∷ Asked 2 text39 ∷ wait true (2 ∷ []) [] ∷ CanRead 2 ∷ Got 2 text40 ∷ Noted (Taken 1 0 (Part 8 10)) ∷ wait true [] (2 ∷ []) ∷ CanWrite 2 ∷ Asked 2 text41 ∷ wait true (2 ∷ []) [] ∷ CanRead 2 ∷ Got 2 text43 ∷ Noted (Taken 1 0 Fetch) ∷ []) ≡ Some (record { at = 70; rule = WrongDecision })
 unfolding judging
-row491 = refl
+row445 = refl
 
-row496 : fault_from 0 (start (record { words = []; faults = 0 } ∷ [])) (front0 ++ Heard 1 text41 ∷ Noted (Taken 1 0 Fetch) ∷ Dialled 2 (codes "h") 80 ∷ wait true [] [] ∷ Reached 2 ∷ wait true [] (2 ∷ []) ∷ CanWrite 2 ∷ Asked 2 text42 ∷ wait true (2 ∷ []) [] ∷ CanRead 2 ∷ Got 2 text43 ∷ Noted (Taken 1 0 (Part 0 4000000)) ∷ wait true (2 ∷ []) (1 ∷ []) ∷ Opened 3 ∷ wait true (2 ∷ 3 ∷ []) (1 ∷ []) ∷ CanRead 3 ∷ Heard 3 text45 ∷ Noted (Taken 3 0 (Part 1000000 1000004)) ∷ wait true (2 ∷ []) (1 ∷ []) ∷ CanWrite 1 ∷ HungUp 1 ∷ Shut 1 ∷ wait true (2 ∷ []) [] ∷ []) ≡ None
+row454 : fault_from 0 (start (record { words = []; faults = 0 } ∷ [])) (front0 ++ Heard 1 text44 ∷ Noted (Taken 1 0 Pass) ∷ Dialled 2 (codes "h") 80 ∷ wait true (1 ∷ []) [] ∷ Reached 2 ∷ wait true (1 ∷ 2 ∷ []) (2 ∷ []) ∷ CanWrite 2 ∷ Asked 2 text45 ∷ wait true (1 ∷ 2 ∷ []) [] ∷ Opened 3 ∷ wait true (1 ∷ 2 ∷ 3 ∷ []) [] ∷ CanRead 3 ∷ Heard 3 text46 ∷ Noted (Taken 3 0 Pass) ∷ Dialled 4 (codes "h") 80 ∷ wait true (1 ∷ 2 ∷ []) [] ∷ []) ≡ None
 unfolding judging
-row496 = refl
+row454 = refl
 
-row500 : fault_from 0 (start (record { words = []; faults = 0 } ∷ [])) (front0 ++ Heard 1 text41 ∷ Noted (Taken 1 0 Fetch) ∷ Dialled 2 (codes "h") 80 ∷ wait true [] [] ∷ Reached 2 ∷ wait true [] (2 ∷ []) ∷ CanWrite 2 ∷ Asked 2 text42 ∷ wait true (2 ∷ []) [] ∷ CanRead 2 ∷ Got 2 text43 ∷ Noted (Taken 1 0 (Part 0 4000000)) ∷ wait true (2 ∷ []) (1 ∷ []) ∷ Opened 3 ∷ wait true (2 ∷ 3 ∷ []) (1 ∷ []) ∷ CanRead 3 ∷ Heard 3 text45 ∷ Noted (Taken 3 0 (Part 1000000 1000004)) ∷ wait true (2 ∷ []) (1 ∷ []) ∷ CanWrite 1 ∷ HungUp 1 ∷ Shut 1 ∷ Dropped 2 ∷ []) ≡ Some (record { at = 32; rule = NotToBeClosed })
+row472 : fault_from 0 (start (record { words = []; faults = 0 } ∷ [])) (front0 ++ Heard 1 text1 ∷ Noted (Taken 1 0 Fetch) ∷ Dialled 2 (codes "h") 80 ∷ wait true (1 ∷ []) [] ∷ Reached 2 ∷ wait true (1 ∷ 2 ∷ []) (2 ∷ []) ∷ CanWrite 2 ∷ Asked 2 text2 ∷ wait true (1 ∷ 2 ∷ []) [] ∷ CanRead 2 ∷ Got 2 text3 ∷ Noted (Taken 1 0 (Hit 0 5)) ∷ wait true (1 ∷ 2 ∷ []) (1 ∷ []) ∷ CanWrite 1 ∷ Said 1 153 text4 ∷ wait true (1 ∷ 2 ∷ []) (1 ∷ []) ∷ CanWrite 1 ∷ Said 1 5 (codes "hello") ∷ wait true (1 ∷ 2 ∷ []) [] ∷ CanRead 1 ∷ Heard 1 text44 ∷ Noted (Taken 1 1 Pass) ∷ wait true (1 ∷ []) (2 ∷ []) ∷ CanWrite 2 ∷ Asked 2 text45 ∷ wait true (1 ∷ 2 ∷ []) [] ∷ CanRead 2 ∷ Got 2 text47 ∷ Dropped 2 ∷ wait true (1 ∷ []) (1 ∷ []) ∷ []) ≡ None
 unfolding judging
-row500 = refl
+row472 = refl
 
-row522 : fault_from 0 (start (record { words = []; faults = 0 } ∷ [])) (front0 ++ Heard 1 text44 ∷ Noted (Taken 1 0 Fetch) ∷ Dialled 2 (codes "h") 80 ∷ wait true [] [] ∷ Reached 2 ∷ wait true [] (2 ∷ []) ∷ CanWrite 2 ∷ Asked 2 text46 ∷ wait true (2 ∷ []) [] ∷ CanRead 2 ∷ Got 2 text43 ∷ Noted (Taken 1 0 (Part 3000000 3000004)) ∷ wait true (2 ∷ []) [] ∷ CanRead 2 ∷ Got 2 text47 ∷ wait true (2 ∷ []) [] ∷ []) ≡ None
+row498 : fault_from 0 (start (record { words = []; faults = 0 } ∷ [])) (front0 ++ Heard 1 text1 ∷ Noted (Taken 1 0 Fetch) ∷ Dialled 2 (codes "h") 80 ∷ wait true (1 ∷ []) [] ∷ Reached 2 ∷ wait true (1 ∷ 2 ∷ []) (2 ∷ []) ∷ CanWrite 2 ∷ Asked 2 text2 ∷ wait true (1 ∷ 2 ∷ []) [] ∷ CanRead 2 ∷ Got 2 text3 ∷ Noted (Taken 1 0 (Hit 0 5)) ∷ wait true (1 ∷ 2 ∷ []) (1 ∷ []) ∷ CanWrite 1 ∷ Said 1 153 text4 ∷ wait true (1 ∷ 2 ∷ []) (1 ∷ []) ∷ CanWrite 1 ∷ Said 1 5 (codes "hello") ∷ wait true (1 ∷ 2 ∷ []) [] ∷ CanRead 1 ∷ Heard 1 text44 ∷ Noted (Taken 1 1 Pass) ∷ wait true (1 ∷ []) (2 ∷ []) ∷ CanWrite 2 ∷ Asked 2 text45 ∷ wait true (1 ∷ 2 ∷ []) [] ∷ CanRead 2 ∷ Got 2 (codes "hello\r\n") ∷ Dropped 2 ∷ Dialled 3 (codes "h") 80 ∷ wait true (1 ∷ []) [] ∷ []) ≡ None
 unfolding judging
-row522 = refl
+row498 = refl
 
-row529 : fault_from 0 (start (record { words = []; faults = 0 } ∷ [])) (front0 ++ Heard 1 text44 ∷ Noted (Taken 1 0 Fetch) ∷ Dialled 2 (codes "h") 80 ∷ wait true [] [] ∷ Reached 2 ∷ wait true [] (2 ∷ []) ∷ CanWrite 2 ∷ Asked 2 text46 ∷ wait true (2 ∷ []) [] ∷ CanRead 2 ∷ Got 2 text43 ∷ Noted (Taken 1 0 (Part 3000000 3000004)) ∷ Dialled 3 (codes "h") 80 ∷ []) ≡ Some (record { at = 22; rule = NotToBeDialled })
+row504 : fault_from 0 (start (record { words = []; faults = 0 } ∷ [])) (front0 ++ Heard 1 text1 ∷ Noted (Taken 1 0 Fetch) ∷ Dialled 2 (codes "h") 80 ∷ wait true (1 ∷ []) [] ∷ Reached 2 ∷ wait true (1 ∷ 2 ∷ []) (2 ∷ []) ∷ CanWrite 2 ∷ Asked 2 text2 ∷ wait true (1 ∷ 2 ∷ []) [] ∷ CanRead 2 ∷ Got 2 text3 ∷ Noted (Taken 1 0 (Hit 0 5)) ∷ wait true (1 ∷ 2 ∷ []) (1 ∷ []) ∷ CanWrite 1 ∷ Said 1 153 text4 ∷ wait true (1 ∷ 2 ∷ []) (1 ∷ []) ∷ CanWrite 1 ∷ Said 1 5 (codes "hello") ∷ wait true (1 ∷ 2 ∷ []) [] ∷ CanRead 1 ∷ Heard 1 text44 ∷ Noted (Taken 1 1 Pass) ∷ wait true (1 ∷ []) (2 ∷ []) ∷ CanWrite 2 ∷ Asked 2 text45 ∷ wait true (1 ∷ 2 ∷ []) [] ∷ CanRead 2 ∷ Got 2 (codes "hello\r\n") ∷ Noted (Taken 1 1 (Refuse 502)) ∷ []) ≡ Some (record { at = 38; rule = WrongDecision })
+unfolding judging
+row504 = refl
+
+row524 : fault_from 0 (start (record { words = []; faults = 0 } ∷ [])) (front0 ++ Heard 1 text1 ∷ Noted (Taken 1 0 Fetch) ∷ Dialled 2 (codes "h") 80 ∷ wait true (1 ∷ []) [] ∷ Reached 2 ∷ wait true (1 ∷ 2 ∷ []) (2 ∷ []) ∷ CanWrite 2 ∷ Asked 2 text2 ∷ wait true (1 ∷ 2 ∷ []) [] ∷ CanRead 2 ∷ Got 2 text3 ∷ Noted (Taken 1 0 (Hit 0 5)) ∷ wait true (1 ∷ 2 ∷ []) (1 ∷ []) ∷ CanWrite 1 ∷ Said 1 153 text4 ∷ wait true (1 ∷ 2 ∷ []) (1 ∷ []) ∷ CanWrite 1 ∷ Said 1 5 (codes "hello") ∷ wait true (1 ∷ 2 ∷ []) [] ∷ CanRead 1 ∷ Heard 1 text48 ∷ Noted (Taken 1 1 Pass) ∷ Dialled 3 (codes "h") 80 ∷ wait true (1 ∷ 2 ∷ []) [] ∷ Reached 3 ∷ wait true (1 ∷ 2 ∷ []) (3 ∷ []) ∷ CanWrite 3 ∷ Asked 3 text49 ∷ wait true (1 ∷ 2 ∷ 3 ∷ []) [] ∷ CanRead 3 ∷ Got 3 text50 ∷ Dropped 3 ∷ wait true (1 ∷ 2 ∷ []) (1 ∷ []) ∷ []) ≡ None
+unfolding judging
+row524 = refl
+
+row529 : fault_from 0 (start (record { words = []; faults = 0 } ∷ [])) (front0 ++ Heard 1 text1 ∷ Noted (Taken 1 0 Fetch) ∷ Dialled 2 (codes "h") 80 ∷ wait true (1 ∷ []) [] ∷ Reached 2 ∷ wait true (1 ∷ 2 ∷ []) (2 ∷ []) ∷ CanWrite 2 ∷ Asked 2 text2 ∷ wait true (1 ∷ 2 ∷ []) [] ∷ CanRead 2 ∷ Got 2 text3 ∷ Noted (Taken 1 0 (Hit 0 5)) ∷ wait true (1 ∷ 2 ∷ []) (1 ∷ []) ∷ CanWrite 1 ∷ Said 1 153 text4 ∷ wait true (1 ∷ 2 ∷ []) (1 ∷ []) ∷ CanWrite 1 ∷ Said 1 5 (codes "hello") ∷ wait true (1 ∷ 2 ∷ []) [] ∷ CanRead 1 ∷ Heard 1 text48 ∷ Noted (Taken 1 1 Pass) ∷ Dialled 3 (codes "h") 80 ∷ wait true (1 ∷ 2 ∷ []) [] ∷ Reached 3 ∷ wait true (1 ∷ 2 ∷ []) (3 ∷ []) ∷ CanWrite 3 ∷ Asked 3 text49 ∷ wait true (1 ∷ 2 ∷ 3 ∷ []) [] ∷ CanRead 3 ∷ Got 3 text50 ∷ wait true (1 ∷ 2 ∷ 3 ∷ []) (1 ∷ []) ∷ []) ≡ Some (record { at = 41; rule = StepUnfinished })
 unfolding judging
 row529 = refl
 
-row548 : fault_from 0 (start (record { words = []; faults = 0 } ∷ [])) (front0 ++ Heard 1 text41 ∷ Noted (Taken 1 0 Fetch) ∷ Dialled 2 (codes "h") 80 ∷ wait true [] [] ∷ Reached 2 ∷ wait true [] (2 ∷ []) ∷ CanWrite 2 ∷ Asked 2 text42 ∷ wait true (2 ∷ []) [] ∷ CanRead 2 ∷ Got 2 text43 ∷ Noted (Taken 1 0 (Part 0 4000000)) ∷ wait true (2 ∷ []) (1 ∷ []) ∷ Opened 3 ∷ wait true (2 ∷ 3 ∷ []) (1 ∷ []) ∷ CanRead 3 ∷ Heard 3 text44 ∷ Noted (Taken 3 0 (Part 3000000 3000004)) ∷ Dialled 4 (codes "h") 80 ∷ wait true (2 ∷ []) (1 ∷ []) ∷ Reached 4 ∷ wait true (2 ∷ []) (1 ∷ 4 ∷ []) ∷ CanWrite 4 ∷ Asked 4 text48 ∷ wait true (2 ∷ 4 ∷ []) (1 ∷ []) ∷ CanRead 4 ∷ Got 4 text43 ∷ wait true (2 ∷ 4 ∷ []) (1 ∷ []) ∷ []) ≡ None
+row555 : fault_from 0 (start (record { words = []; faults = 0 } ∷ [])) (front0 ++ Heard 1 text51 ∷ Noted (Taken 1 0 Fetch) ∷ Dialled 2 (codes "h") 80 ∷ wait true [] [] ∷ Reached 2 ∷ wait true [] (2 ∷ []) ∷ CanWrite 2 ∷ Asked 2 text52 ∷ wait true (2 ∷ []) [] ∷ CanRead 2 ∷ Got 2 text53 ∷ Noted (Taken 1 0 (Part 0 4000000)) ∷ wait true (2 ∷ []) (1 ∷ []) ∷ Opened 3 ∷ wait true (2 ∷ 3 ∷ []) (1 ∷ []) ∷ CanRead 3 ∷ Heard 3 text54 ∷ Noted (Taken 3 0 (Part 3000000 3000004)) ∷ Dialled 4 (codes "h") 80 ∷ wait true (2 ∷ []) (1 ∷ []) ∷ []) ≡ None
 unfolding judging
-row548 = refl
+row555 = refl
 
-row552 : fault_from 0 (start (record { words = []; faults = 0 } ∷ [])) (front0 ++ Heard 1 text41 ∷ Noted (Taken 1 0 Fetch) ∷ Dialled 2 (codes "h") 80 ∷ wait true [] [] ∷ Reached 2 ∷ wait true [] (2 ∷ []) ∷ CanWrite 2 ∷ Asked 2 text42 ∷ wait true (2 ∷ []) [] ∷ CanRead 2 ∷ Got 2 text43 ∷ Noted (Taken 1 0 (Part 0 4000000)) ∷ wait true (2 ∷ []) (1 ∷ []) ∷ Opened 3 ∷ wait true (2 ∷ 3 ∷ []) (1 ∷ []) ∷ CanRead 3 ∷ Heard 3 text44 ∷ Noted (Taken 3 0 (Part 3000000 3000004)) ∷ Dialled 4 (codes "h") 80 ∷ wait true (2 ∷ []) (1 ∷ []) ∷ Reached 4 ∷ wait true (2 ∷ []) (1 ∷ 4 ∷ []) ∷ CanWrite 4 ∷ Asked 4 text48 ∷ wait true (2 ∷ 4 ∷ []) (1 ∷ []) ∷ CanRead 4 ∷ Got 4 text43 ∷ Dialled 5 (codes "h") 80 ∷ []) ≡ Some (record { at = 37; rule = NotToBeDialled })
+row562 : fault_from 0 (start (record { words = []; faults = 0 } ∷ [])) (front0 ++ Heard 1 text51 ∷ Noted (Taken 1 0 Fetch) ∷ Dialled 2 (codes "h") 80 ∷ wait true [] [] ∷ Reached 2 ∷ wait true [] (2 ∷ []) ∷ CanWrite 2 ∷ Asked 2 text52 ∷ wait true (2 ∷ []) [] ∷ CanRead 2 ∷ Got 2 text53 ∷ Noted (Taken 1 0 (Part 0 4000000)) ∷ wait true (2 ∷ []) (1 ∷ []) ∷ Opened 3 ∷ wait true (2 ∷ 3 ∷ []) (1 ∷ []) ∷ CanRead 3 ∷ Heard 3 text55 ∷ Noted (Taken 3 0 (Part 1000000 1000004)) ∷ wait true (2 ∷ []) (1 ∷ []) ∷ []) ≡ None
 unfolding judging
-row552 = refl
+row562 = refl
+
+row586 : fault_from 0 (start (record { words = []; faults = 0 } ∷ [])) (front0 ++ Heard 1 text51 ∷ Noted (Taken 1 0 Fetch) ∷ Dialled 2 (codes "h") 80 ∷ wait true [] [] ∷ Reached 2 ∷ wait true [] (2 ∷ []) ∷ CanWrite 2 ∷ Asked 2 text52 ∷ wait true (2 ∷ []) [] ∷ CanRead 2 ∷ Got 2 text53 ∷ Noted (Taken 1 0 (Part 0 4000000)) ∷ wait true (2 ∷ []) (1 ∷ []) ∷ Opened 3 ∷ wait true (2 ∷ 3 ∷ []) (1 ∷ []) ∷ CanRead 3 ∷ Heard 3 text54 ∷ Noted (Taken 3 0 (Part 3000000 3000004)) ∷ Dialled 4 (codes "h") 80 ∷ wait true (2 ∷ []) (1 ∷ []) ∷ CanWrite 1 ∷ HungUp 1 ∷ Shut 1 ∷ Dropped 2 ∷ wait true [] [] ∷ []) ≡ None
+unfolding judging
+row586 = refl
+
+row591 : fault_from 0 (start (record { words = []; faults = 0 } ∷ [])) (front0 ++ Heard 1 text51 ∷ Noted (Taken 1 0 Fetch) ∷ Dialled 2 (codes "h") 80 ∷ wait true [] [] ∷ Reached 2 ∷ wait true [] (2 ∷ []) ∷ CanWrite 2 ∷ Asked 2 text52 ∷ wait true (2 ∷ []) [] ∷ CanRead 2 ∷ Got 2 text53 ∷ Noted (Taken 1 0 (Part 0 4000000)) ∷ wait true (2 ∷ []) (1 ∷ []) ∷ Opened 3 ∷ wait true (2 ∷ 3 ∷ []) (1 ∷ []) ∷ CanRead 3 ∷ Heard 3 text54 ∷ Noted (Taken 3 0 (Part 3000000 3000004)) ∷ Dialled 4 (codes "h") 80 ∷ wait true (2 ∷ []) (1 ∷ []) ∷ CanWrite 1 ∷ HungUp 1 ∷ Shut 1 ∷ wait true (2 ∷ []) [] ∷ []) ≡ Some (record { at = 33; rule = StepUnfinished })
+unfolding judging
+row591 = refl
+
+row596 : fault_from 0 (start (record { words = []; faults = 0 } ∷ [])) (front0 ++ Heard 1 text51 ∷ Noted (Taken 1 0 Fetch) ∷ Dialled 2 (codes "h") 80 ∷ wait true [] [] ∷ Reached 2 ∷ wait true [] (2 ∷ []) ∷ CanWrite 2 ∷ Asked 2 text52 ∷ wait true (2 ∷ []) [] ∷ CanRead 2 ∷ Got 2 text53 ∷ Noted (Taken 1 0 (Part 0 4000000)) ∷ wait true (2 ∷ []) (1 ∷ []) ∷ Opened 3 ∷ wait true (2 ∷ 3 ∷ []) (1 ∷ []) ∷ CanRead 3 ∷ Heard 3 text55 ∷ Noted (Taken 3 0 (Part 1000000 1000004)) ∷ wait true (2 ∷ []) (1 ∷ []) ∷ CanWrite 1 ∷ HungUp 1 ∷ Shut 1 ∷ wait true (2 ∷ []) [] ∷ []) ≡ None
+unfolding judging
+row596 = refl
+
+row600 : fault_from 0 (start (record { words = []; faults = 0 } ∷ [])) (front0 ++ Heard 1 text51 ∷ Noted (Taken 1 0 Fetch) ∷ Dialled 2 (codes "h") 80 ∷ wait true [] [] ∷ Reached 2 ∷ wait true [] (2 ∷ []) ∷ CanWrite 2 ∷ Asked 2 text52 ∷ wait true (2 ∷ []) [] ∷ CanRead 2 ∷ Got 2 text53 ∷ Noted (Taken 1 0 (Part 0 4000000)) ∷ wait true (2 ∷ []) (1 ∷ []) ∷ Opened 3 ∷ wait true (2 ∷ 3 ∷ []) (1 ∷ []) ∷ CanRead 3 ∷ Heard 3 text55 ∷ Noted (Taken 3 0 (Part 1000000 1000004)) ∷ wait true (2 ∷ []) (1 ∷ []) ∷ CanWrite 1 ∷ HungUp 1 ∷ Shut 1 ∷ Dropped 2 ∷ []) ≡ Some (record { at = 32; rule = NotToBeClosed })
+unfolding judging
+row600 = refl
+
+row622 : fault_from 0 (start (record { words = []; faults = 0 } ∷ [])) (front0 ++ Heard 1 text54 ∷ Noted (Taken 1 0 Fetch) ∷ Dialled 2 (codes "h") 80 ∷ wait true [] [] ∷ Reached 2 ∷ wait true [] (2 ∷ []) ∷ CanWrite 2 ∷ Asked 2 text56 ∷ wait true (2 ∷ []) [] ∷ CanRead 2 ∷ Got 2 text53 ∷ Noted (Taken 1 0 (Part 3000000 3000004)) ∷ wait true (2 ∷ []) [] ∷ CanRead 2 ∷ Got 2 text57 ∷ wait true (2 ∷ []) [] ∷ []) ≡ None
+unfolding judging
+row622 = refl
+
+row629 : fault_from 0 (start (record { words = []; faults = 0 } ∷ [])) (front0 ++ Heard 1 text54 ∷ Noted (Taken 1 0 Fetch) ∷ Dialled 2 (codes "h") 80 ∷ wait true [] [] ∷ Reached 2 ∷ wait true [] (2 ∷ []) ∷ CanWrite 2 ∷ Asked 2 text56 ∷ wait true (2 ∷ []) [] ∷ CanRead 2 ∷ Got 2 text53 ∷ Noted (Taken 1 0 (Part 3000000 3000004)) ∷ Dialled 3 (codes "h") 80 ∷ []) ≡ Some (record { at = 22; rule = NotToBeDialled })
+unfolding judging
+row629 = refl
+
+row656 : fault_from 0 (start (record { words = []; faults = 0 } ∷ [])) (front0 ++ Heard 1 text51 ∷ Noted (Taken 1 0 Fetch) ∷ Dialled 2 (codes "h") 80 ∷ wait true [] [] ∷ Reached 2 ∷ wait true [] (2 ∷ []) ∷ CanWrite 2 ∷ Asked 2 text52 ∷ wait true (2 ∷ []) [] ∷ CanRead 2 ∷ Got 2 text53 ∷ Noted (Taken 1 0 (Part 0 4000000)) ∷ wait true (2 ∷ []) (1 ∷ []) ∷ Opened 3 ∷ wait true (2 ∷ 3 ∷ []) (1 ∷ []) ∷ CanRead 3 ∷ Heard 3 text54 ∷ Noted (Taken 3 0 (Part 3000000 3000004)) ∷ Dialled 4 (codes "h") 80 ∷ wait true (2 ∷ []) (1 ∷ []) ∷ Reached 4 ∷ wait true (2 ∷ []) (1 ∷ 4 ∷ []) ∷ CanWrite 4 ∷ Asked 4 text58 ∷ wait true (2 ∷ 4 ∷ []) (1 ∷ []) ∷ CanRead 4 ∷ Got 4 text53 ∷ wait true (2 ∷ 4 ∷ []) (1 ∷ []) ∷ []) ≡ None
+unfolding judging
+row656 = refl
+
+row660 : fault_from 0 (start (record { words = []; faults = 0 } ∷ [])) (front0 ++ Heard 1 text51 ∷ Noted (Taken 1 0 Fetch) ∷ Dialled 2 (codes "h") 80 ∷ wait true [] [] ∷ Reached 2 ∷ wait true [] (2 ∷ []) ∷ CanWrite 2 ∷ Asked 2 text52 ∷ wait true (2 ∷ []) [] ∷ CanRead 2 ∷ Got 2 text53 ∷ Noted (Taken 1 0 (Part 0 4000000)) ∷ wait true (2 ∷ []) (1 ∷ []) ∷ Opened 3 ∷ wait true (2 ∷ 3 ∷ []) (1 ∷ []) ∷ CanRead 3 ∷ Heard 3 text54 ∷ Noted (Taken 3 0 (Part 3000000 3000004)) ∷ Dialled 4 (codes "h") 80 ∷ wait true (2 ∷ []) (1 ∷ []) ∷ Reached 4 ∷ wait true (2 ∷ []) (1 ∷ 4 ∷ []) ∷ CanWrite 4 ∷ Asked 4 text58 ∷ wait true (2 ∷ 4 ∷ []) (1 ∷ []) ∷ CanRead 4 ∷ Got 4 text53 ∷ Dialled 5 (codes "h") 80 ∷ []) ≡ Some (record { at = 37; rule = NotToBeDialled })
+unfolding judging
+row660 = refl
+
+row665 : fault_from 0 (start (record { words = []; faults = 0 } ∷ [])) (front0 ++ Heard 1 text51 ∷ Noted (Taken 1 0 Fetch) ∷ Dialled 2 (codes "h") 80 ∷ wait true [] [] ∷ Reached 2 ∷ wait true [] (2 ∷ []) ∷ CanWrite 2 ∷ Asked 2 text52 ∷ wait true (2 ∷ []) [] ∷ CanRead 2 ∷ Got 2 text53 ∷ Noted (Taken 1 0 (Part 0 4000000)) ∷ wait true (2 ∷ []) (1 ∷ []) ∷ Opened 3 ∷ wait true (2 ∷ 3 ∷ []) (1 ∷ []) ∷ CanRead 3 ∷ Heard 3 text54 ∷ Noted (Taken 3 0 (Part 3000000 3000004)) ∷ Dialled 4 (codes "h") 80 ∷ wait true (2 ∷ []) (1 ∷ []) ∷ Reached 4 ∷ wait true (2 ∷ []) (1 ∷ 4 ∷ []) ∷ CanWrite 4 ∷ Asked 4 text58 ∷ wait true (2 ∷ 4 ∷ []) (1 ∷ []) ∷ CanRead 4 ∷ Got 4 text59 ∷ Noted (Taken 3 0 (Part 3000000 3000004)) ∷ Dialled 5 (codes "h") 80 ∷ wait true (2 ∷ 4 ∷ []) (1 ∷ []) ∷ []) ≡ None
+unfolding judging
+row665 = refl
+
+row670 : fault_from 0 (start (record { words = []; faults = 0 } ∷ [])) (front0 ++ Heard 1 text51 ∷ Noted (Taken 1 0 Fetch) ∷ Dialled 2 (codes "h") 80 ∷ wait true [] [] ∷ Reached 2 ∷ wait true [] (2 ∷ []) ∷ CanWrite 2 ∷ Asked 2 text52 ∷ wait true (2 ∷ []) [] ∷ CanRead 2 ∷ Got 2 text53 ∷ Noted (Taken 1 0 (Part 0 4000000)) ∷ wait true (2 ∷ []) (1 ∷ []) ∷ Opened 3 ∷ wait true (2 ∷ 3 ∷ []) (1 ∷ []) ∷ CanRead 3 ∷ Heard 3 text54 ∷ Noted (Taken 3 0 (Part 3000000 3000004)) ∷ Dialled 4 (codes "h") 80 ∷ wait true (2 ∷ []) (1 ∷ []) ∷ Reached 4 ∷ wait true (2 ∷ []) (1 ∷ 4 ∷ []) ∷ CanWrite 4 ∷ Asked 4 text58 ∷ wait true (2 ∷ 4 ∷ []) (1 ∷ []) ∷ CanRead 4 ∷ Got 4 text59 ∷ Noted (Taken 3 0 (Part 3000000 3000004)) ∷ wait true (2 ∷ 4 ∷ []) (1 ∷ []) ∷ []) ≡ Some (record { at = 38; rule = StepUnfinished })
+unfolding judging
+row670 = refl
+
+row733 : fault_from 0 (start (record { words = []; faults = 0 } ∷ [])) (front0 ++ Heard 1 text1 ∷ Noted (Taken 1 0 Fetch) ∷ Dialled 2 (codes "h") 80 ∷ wait true [] [] ∷ Reached 2 ∷ wait true [] (2 ∷ []) ∷ CanWrite 2 ∷ Asked 2 text2 ∷ wait true (2 ∷ []) [] ∷ CanRead 2 ∷ Got 2 text60 ∷ Noted (Taken 1 0 (Hit 0 5)) ∷ wait true (2 ∷ []) (1 ∷ []) ∷ Opened 3 ∷ wait true (2 ∷ 3 ∷ []) (1 ∷ []) ∷ CanRead 3 ∷ Heard 3 text1 ∷ Noted (Taken 3 0 (Hit 0 5)) ∷ []) ≡ None
+unfolding judging
+row733 = refl
+
+row738 : fault_from 0 (start (record { words = []; faults = 0 } ∷ [])) (front0 ++ Heard 1 text61 ∷ Noted (Taken 1 0 Fetch) ∷ Dialled 2 (codes "h") 80 ∷ wait true [] [] ∷ Reached 2 ∷ wait true [] (2 ∷ []) ∷ CanWrite 2 ∷ Asked 2 text62 ∷ wait true (2 ∷ []) [] ∷ CanRead 2 ∷ Got 2 text60 ∷ Noted (Taken 1 0 (Hit 0 5)) ∷ wait true (2 ∷ []) (1 ∷ []) ∷ Opened 3 ∷ wait true (2 ∷ 3 ∷ []) (1 ∷ []) ∷ CanRead 3 ∷ Heard 3 text61 ∷ Noted (Taken 3 0 Validate) ∷ []) ≡ None
+unfolding judging
+row738 = refl
+
+row743 : fault_from 0 (start (record { words = []; faults = 0 } ∷ [])) (front0 ++ Heard 1 text63 ∷ Noted (Taken 1 0 Fetch) ∷ Dialled 2 (codes "h") 80 ∷ wait true [] [] ∷ Reached 2 ∷ wait true [] (2 ∷ []) ∷ CanWrite 2 ∷ Asked 2 text64 ∷ wait true (2 ∷ []) [] ∷ CanRead 2 ∷ Got 2 text60 ∷ Noted (Taken 1 0 (Hit 0 5)) ∷ wait true (2 ∷ []) (1 ∷ []) ∷ Opened 3 ∷ wait true (2 ∷ 3 ∷ []) (1 ∷ []) ∷ CanRead 3 ∷ Heard 3 text1 ∷ Noted (Taken 3 0 Validate) ∷ []) ≡ None
+unfolding judging
+row743 = refl
+
+row748 : fault_from 0 (start (record { words = []; faults = 0 } ∷ [])) (front0 ++ Heard 1 text63 ∷ Noted (Taken 1 0 Fetch) ∷ Dialled 2 (codes "h") 80 ∷ wait true [] [] ∷ Reached 2 ∷ wait true [] (2 ∷ []) ∷ CanWrite 2 ∷ Asked 2 text64 ∷ wait true (2 ∷ []) [] ∷ CanRead 2 ∷ Got 2 text60 ∷ Noted (Taken 1 0 (Hit 0 5)) ∷ wait true (2 ∷ []) (1 ∷ []) ∷ Opened 3 ∷ wait true (2 ∷ 3 ∷ []) (1 ∷ []) ∷ CanRead 3 ∷ Heard 3 text1 ∷ Noted (Taken 3 0 (Hit 0 5)) ∷ []) ≡ Some (record { at = 27; rule = WrongDecision })
+unfolding judging
+row748 = refl
+
+row768 : fault_from 0 (start (record { words = []; faults = 0 } ∷ [])) (front0 ++ Heard 1 text65 ∷ Noted (Taken 1 0 Fetch) ∷ Dialled 2 (codes "h") 80 ∷ wait true [] [] ∷ Reached 2 ∷ wait true [] (2 ∷ []) ∷ CanWrite 2 ∷ Asked 2 text66 ∷ wait true (2 ∷ []) [] ∷ CanRead 2 ∷ Got 2 text67 ∷ Noted (Taken 1 0 Relay) ∷ wait true (2 ∷ []) (1 ∷ []) ∷ []) ≡ None
+unfolding judging
+row768 = refl
+
+row773 : fault_from 0 (start (record { words = []; faults = 0 } ∷ [])) (front0 ++ Heard 1 text65 ∷ Noted (Taken 1 0 Fetch) ∷ Dialled 2 (codes "h") 80 ∷ wait true [] [] ∷ Reached 2 ∷ wait true [] (2 ∷ []) ∷ CanWrite 2 ∷ Asked 2 text66 ∷ wait true (2 ∷ []) [] ∷ CanRead 2 ∷ Got 2 text67 ∷ Noted (Taken 1 0 (Hit 0 5)) ∷ []) ≡ Some (record { at = 21; rule = WrongDecision })
+unfolding judging
+row773 = refl
+
+row780 : fault_from 0 (start (record { words = []; faults = 0 } ∷ [])) (front0 ++ Heard 1 text68 ∷ Noted (Taken 1 0 (Refuse 400)) ∷ wait true [] (1 ∷ []) ∷ []) ≡ None
+unfolding judging
+row780 = refl
+
+row787 : fault_from 0 (start (record { words = []; faults = 0 } ∷ [])) (front4 ++ CanRead 2 ∷ Got 2 text70 ∷ Noted (Taken 1 0 (Refuse 502)) ∷ Dropped 2 ∷ wait true (1 ∷ []) (1 ∷ []) ∷ []) ≡ None
+unfolding judging
+row787 = refl
+
+row794 : fault_from 0 (start (record { words = []; faults = 0 } ∷ [])) (front4 ++ CanRead 2 ∷ Got 2 text71 ∷ Noted (Taken 1 0 Relay) ∷ wait true (1 ∷ 2 ∷ []) (1 ∷ []) ∷ []) ≡ None
+unfolding judging
+row794 = refl
+
+row800 : fault_from 0 (start (record { words = []; faults = 0 } ∷ [])) (front4 ++ CanRead 2 ∷ Got 2 text72 ∷ Noted (Taken 1 0 (Refuse 502)) ∷ Dropped 2 ∷ wait true (1 ∷ []) (1 ∷ []) ∷ []) ≡ None
+unfolding judging
+row800 = refl

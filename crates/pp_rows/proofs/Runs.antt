@@ -85,6 +85,15 @@ text18 = (codes "HTTP/1.1 200 OK\r\netag: \"x\"\r\ndate: Sun, 06 Nov 1994 08:49:
 abbrev text19 : Bytes
 text19 = (codes "HTTP/1.1 200 OK\r\netag: \"x\"\r\ndate: Sun, 06 Nov 1994 08:49:37 GMT\r\ncache-control: max-age=60\r\nX-Polipo-Location: http://h/a\r\nX-Polipo-Date: 784111777\r\nX-Polipo-Age: 0\r\nX-Polipo-Length: 12288\r\nX-Polipo-Body-Offset: 12288\r\n\r\n" ++ replicate 7971 0 ++ (1 ∷ 1 ∷ 1 ∷ []) ++ replicate 4093 0 ++ replicate 8192 97)
 
+abbrev text20 : Bytes
+text20 = (codes "chunkLowMark=512")
+
+abbrev text21 : Bytes
+text21 = (codes "chunkHighMark=512")
+
+abbrev text22 : Bytes
+text22 = (codes "chunkCriticalMark=512")
+
 row7 : fault_from 0 (start (record { words = []; faults = 0 } ∷ [])) (front0 ++ CanRead 2 ∷ Got 2 text3 ∷ Began (Draft text4) ∷ Did (Draft text4) true ∷ Began SyncDraft ∷ Did SyncDraft true ∷ Began (Publish text5) ∷ Did (Publish text5) true ∷ Noted (Kept (codes "http://h/a") (codes "\"x\"") 5 5) ∷ Noted (Taken 1 0 (Hit 0 5)) ∷ []) ≡ None
 unfolding judging
 row7 = refl
@@ -152,3 +161,7 @@ row193 = refl
 row200 : fault_from 0 (start (record { words = (codes "diskRun=2") ∷ []; faults = 0 } ∷ record { words = (codes "diskRun=2") ∷ []; faults = 0 } ∷ [])) (front2 ++ Woke ((text5, text19) ∷ []) ∷ []) ≡ Some (record { at = 32; rule = ImageNotLeft })
 unfolding judging
 row200 = refl
+
+row212 : fault_from 0 (start (record { words = text20 ∷ text21 ∷ text22 ∷ []; faults = 0 } ∷ [])) (front0 ++ CanRead 2 ∷ Got 2 text8 ∷ Began (Draft text9) ∷ Did (Draft text9) true ∷ Began SyncDraft ∷ Did SyncDraft true ∷ Began (Publish text5) ∷ Did (Publish text5) true ∷ Began (Write text5 12288 text10) ∷ Did (Write text5 12288 text10) true ∷ Began (Sync text5) ∷ Did (Sync text5) true ∷ Began (Write text5 8192 ((1 ∷ 1 ∷ 1 ∷ 1 ∷ []))) ∷ Did (Write text5 8192 ((1 ∷ 1 ∷ 1 ∷ 1 ∷ []))) true ∷ Began (Sync text5) ∷ Did (Sync text5) true ∷ Noted (Kept (codes "http://h/a") (codes "\"x\"") 16385 16384) ∷ Noted (Taken 1 0 (Part 0 16385)) ∷ wait true (1 ∷ 2 ∷ []) (1 ∷ []) ∷ []) ≡ None
+unfolding judging
+row212 = refl

@@ -62,7 +62,7 @@ abbrev text14 : Bytes
 text14 = (codes "GET /r HTTP/1.1\r\nhost: h\r\nrange: bytes=4096-8191\r\nif-range: \"x\"\r\nvia: 1.1 polipo\r\n\r\n")
 
 abbrev text15 : Bytes
-text15 = (codes "HTTP/1.1 200 OK\r\nContent-Length: 20000\r\n\r\n" ++ replicate 8000 101)
+text15 = (codes "HTTP/1.1 200 OK\r\nContent-Length: 65537\r\n\r\n" ++ replicate 8000 101)
 
 abbrev text16 : Bytes
 text16 = (codes "GET /r HTTP/1.1\r\nhost: h\r\nrange: bytes=4096-8191\r\nvia: 1.1 polipo\r\n\r\n")
@@ -71,16 +71,16 @@ abbrev front0 : Log
 front0 = Woke [] ∷ Rooted text2 ∷ Listed true ∷ Listens 8123 true ∷ wait true [] [] ∷ Clock 784111777 ∷ wait true [] [] ∷ Opened 1 ∷ wait true (1 ∷ []) [] ∷ CanRead 1 ∷ Heard 1 text3 ∷ Noted (Taken 1 0 Fetch) ∷ Dialled 2 (codes "h") 80 ∷ wait true (1 ∷ []) [] ∷ Reached 2 ∷ wait true (1 ∷ 2 ∷ []) (2 ∷ []) ∷ CanWrite 2 ∷ Asked 2 text4 ∷ wait true (1 ∷ 2 ∷ []) [] ∷ CanRead 2 ∷ Got 2 text5 ∷ Noted (Taken 1 0 (Hit 0 4096)) ∷ wait true (1 ∷ 2 ∷ []) (1 ∷ []) ∷ CanWrite 1 ∷ Said 1 204 text6 ∷ wait true (1 ∷ 2 ∷ []) (1 ∷ []) ∷ CanWrite 1 ∷ Said 1 4096 text7 ∷ wait true (1 ∷ 2 ∷ []) [] ∷ Opened 3 ∷ wait true (1 ∷ 2 ∷ 3 ∷ []) [] ∷ CanRead 3 ∷ Heard 3 text8 ∷ Noted (Taken 3 0 (Part 4000 5000)) ∷ wait true (1 ∷ 2 ∷ []) (3 ∷ []) ∷ CanWrite 3 ∷ Said 3 215 text9 ∷ wait true (1 ∷ 2 ∷ []) (3 ∷ []) ∷ CanWrite 3 ∷ Said 3 96 text10 ∷ wait true (1 ∷ []) (2 ∷ []) ∷ CanWrite 2 ∷ Asked 2 text11 ∷ wait true (1 ∷ 2 ∷ []) [] ∷ Opened 11 ∷ wait true (1 ∷ 2 ∷ 11 ∷ []) [] ∷ CanRead 11 ∷ Heard 11 text12 ∷ Noted (Taken 11 0 Pass) ∷ Dialled 12 (codes "h") 80 ∷ wait true (1 ∷ 2 ∷ []) [] ∷ Opened 13 ∷ wait true (1 ∷ 2 ∷ 13 ∷ []) [] ∷ CanRead 13 ∷ Heard 13 text12 ∷ Noted (Taken 13 0 Pass) ∷ Dialled 14 (codes "h") 80 ∷ wait true (1 ∷ 2 ∷ []) [] ∷ Opened 15 ∷ wait true (1 ∷ 2 ∷ 15 ∷ []) [] ∷ CanRead 15 ∷ Heard 15 text12 ∷ Noted (Taken 15 0 Pass) ∷ Dialled 16 (codes "h") 80 ∷ wait true (1 ∷ 2 ∷ []) [] ∷ Opened 20 ∷ wait true (1 ∷ 2 ∷ 20 ∷ []) [] ∷ CanRead 20 ∷ Heard 20 text13 ∷ Noted (Taken 20 0 (Part 5000 8192)) ∷ wait true (1 ∷ 2 ∷ []) (2 ∷ []) ∷ CanWrite 2 ∷ Asked 2 text14 ∷ wait true (1 ∷ 2 ∷ []) [] ∷ CanRead 2 ∷ Got 2 text15 ∷ Noted (Taken 20 0 Fetch) ∷ wait true (1 ∷ 2 ∷ []) (2 ∷ []) ∷ CanWrite 2 ∷ Asked 2 text16 ∷ wait true (1 ∷ 2 ∷ []) [] ∷ []
 
 abbrev text17 : Bytes
-text17 = (replicate 12000 101 ++ codes "HTTP/1.1 206 Partial Content\r\nETag: \"y\"\r\nCache-Control: max-age=60\r\nContent-Range: bytes 4096-8191/8192\r\nContent-Length: 4096\r\n\r\n")
+text17 = (replicate 32768 101)
 
 abbrev text18 : Bytes
-text18 = (replicate 4096 102 ++ codes "HTTP/1.1 206 Partial Content\r\nETag: \"y\"\r\nCache-Control: max-age=60\r\nContent-Range: bytes 4096-8191/8192\r\nContent-Length: 4096\r\n\r\n")
+text18 = (replicate 24768 101)
 
 abbrev text19 : Bytes
-text19 = (replicate 8192 101)
+text19 = (codes "eHTTP/1.1 206 Partial Content\r\nETag: \"y\"\r\nCache-Control: max-age=60\r\nContent-Range: bytes 4096-8191/8192\r\nContent-Length: 4096\r\n\r\n")
 
 abbrev text20 : Bytes
-text20 = (replicate 192 101)
+text20 = (replicate 4096 102 ++ codes "HTTP/1.1 206 Partial Content\r\nETag: \"y\"\r\nCache-Control: max-age=60\r\nContent-Range: bytes 4096-8191/8192\r\nContent-Length: 4096\r\n\r\n")
 
 abbrev text21 : Bytes
 text21 = (codes "GET http://h/b HTTP/1.1\r\nRange: bytes=4096-4099\r\n\r\n")
@@ -112,26 +112,26 @@ text27 = (codes "POST http://h/a HTTP/1.1\r\nTransfer-Encoding: gzip\r\n\r\n" ++
 abbrev text28 : Bytes
 text28 = (replicate 16000 122)
 
-row96 : fault_from 0 (start (record { words = (codes "diskRun=1") ∷ text0 ∷ text1 ∷ []; faults = 0 } ∷ [])) (front0 ++ CanRead 2 ∷ Got 2 text17 ∷ Noted (Cut 3 Superseded) ∷ Shut 3 ∷ wait true (1 ∷ 2 ∷ []) [] ∷ CanRead 2 ∷ Got 2 text18 ∷ Noted (Taken 20 0 (Hit 5000 8192)) ∷ wait true (1 ∷ 2 ∷ []) (20 ∷ []) ∷ []) ≡ None
+row96 : fault_from 0 (start (record { words = (codes "diskRun=1") ∷ text0 ∷ text1 ∷ []; faults = 0 } ∷ [])) (front0 ++ CanRead 2 ∷ Got 2 text17 ∷ wait true (1 ∷ 2 ∷ []) [] ∷ CanRead 2 ∷ Got 2 text18 ∷ wait true (1 ∷ 2 ∷ []) [] ∷ CanRead 2 ∷ Got 2 text19 ∷ Noted (Cut 3 Superseded) ∷ Shut 3 ∷ wait true (1 ∷ 2 ∷ []) [] ∷ CanRead 2 ∷ Got 2 text20 ∷ Noted (Taken 20 0 (Hit 5000 8192)) ∷ wait true (1 ∷ 2 ∷ []) (20 ∷ []) ∷ []) ≡ None
 unfolding judging
 row96 = refl
 
-row107 : fault_from 0 (start (record { words = (codes "diskRun=1") ∷ text0 ∷ text1 ∷ []; faults = 0 } ∷ [])) (front0 ++ CanRead 2 ∷ NoneYet 2 ∷ wait true (1 ∷ []) [] ∷ []) ≡ Some (record { at = 83; rule = ConnectionForgotten })
-unfolding judging
-row107 = refl
-
-row113 : fault_from 0 (start (record { words = (codes "diskRun=1") ∷ text0 ∷ text1 ∷ []; faults = 0 } ∷ [])) (front0 ++ CanRead 2 ∷ Got 2 text19 ∷ wait true (1 ∷ 2 ∷ []) [] ∷ CanRead 2 ∷ Got 2 text20 ∷ wait true (1 ∷ []) [] ∷ []) ≡ Some (record { at = 86; rule = ConnectionForgotten })
+row113 : fault_from 0 (start (record { words = (codes "diskRun=1") ∷ text0 ∷ text1 ∷ []; faults = 0 } ∷ [])) (front0 ++ CanRead 2 ∷ NoneYet 2 ∷ wait true (1 ∷ []) [] ∷ []) ≡ Some (record { at = 83; rule = ConnectionForgotten })
 unfolding judging
 row113 = refl
 
-row126 : fault_from 0 (start (record { words = (codes "diskRun=1") ∷ text0 ∷ text1 ∷ []; faults = 0 } ∷ [])) (front1 ++ Clock 784111896 ∷ wait true (1 ∷ 2 ∷ []) [] ∷ Clock 784111897 ∷ Noted (Cut 1 Idle) ∷ Shut 1 ∷ wait true (2 ∷ []) [] ∷ []) ≡ None
+row119 : fault_from 0 (start (record { words = (codes "diskRun=1") ∷ text0 ∷ text1 ∷ []; faults = 0 } ∷ [])) (front0 ++ CanRead 2 ∷ Got 2 text17 ∷ wait true (1 ∷ 2 ∷ []) [] ∷ CanRead 2 ∷ Got 2 text18 ∷ wait true (1 ∷ []) [] ∷ []) ≡ Some (record { at = 86; rule = ConnectionForgotten })
 unfolding judging
-row126 = refl
+row119 = refl
 
-row134 : fault_from 0 (start (record { words = (codes "diskRun=1") ∷ text0 ∷ text1 ∷ []; faults = 0 } ∷ [])) (front1 ++ Clock 784111896 ∷ wait true (1 ∷ 2 ∷ []) [] ∷ Clock 784111897 ∷ Noted (Cut 1 Idle) ∷ Noted (Cut 3 Idle) ∷ []) ≡ Some (record { at = 42; rule = WrongCut })
+row132 : fault_from 0 (start (record { words = (codes "diskRun=1") ∷ text0 ∷ text1 ∷ []; faults = 0 } ∷ [])) (front1 ++ Clock 784111896 ∷ wait true (1 ∷ 2 ∷ []) [] ∷ Clock 784111897 ∷ Noted (Cut 1 Idle) ∷ Shut 1 ∷ wait true (2 ∷ []) [] ∷ []) ≡ None
 unfolding judging
-row134 = refl
+row132 = refl
 
-row154 : fault_from 0 (start (record { words = (codes "diskRun=1") ∷ text0 ∷ text1 ∷ []; faults = 0 } ∷ [])) (front2 ++ Heard 1 text27 ∷ Noted (Taken 1 0 (Refuse 411)) ∷ wait true (1 ∷ []) (1 ∷ []) ∷ CanRead 1 ∷ Heard 1 text28 ∷ wait true (1 ∷ []) (1 ∷ []) ∷ []) ≡ None
+row140 : fault_from 0 (start (record { words = (codes "diskRun=1") ∷ text0 ∷ text1 ∷ []; faults = 0 } ∷ [])) (front1 ++ Clock 784111896 ∷ wait true (1 ∷ 2 ∷ []) [] ∷ Clock 784111897 ∷ Noted (Cut 1 Idle) ∷ Noted (Cut 3 Idle) ∷ []) ≡ Some (record { at = 42; rule = WrongCut })
 unfolding judging
-row154 = refl
+row140 = refl
+
+row160 : fault_from 0 (start (record { words = (codes "diskRun=1") ∷ text0 ∷ text1 ∷ []; faults = 0 } ∷ [])) (front2 ++ Heard 1 text27 ∷ Noted (Taken 1 0 (Refuse 411)) ∷ wait true (1 ∷ []) (1 ∷ []) ∷ CanRead 1 ∷ Heard 1 text28 ∷ wait true (1 ∷ []) (1 ∷ []) ∷ []) ≡ None
+unfolding judging
+row160 = refl

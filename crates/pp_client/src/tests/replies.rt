@@ -33,7 +33,7 @@ fn the_interim_answer_comes_before_the_reply_and_begins_none(rt: HostRuntime) ->
     assert!(rt; request.len() <= room);
     client.hear(request);
     client.interim();
-    let mut talk = Talk::with(client);
+    let mut talk = Talk::with(&rt, rt.alloc(), client);
     let mut said = Said::new();
     assert_eq!(rt; talk.say(&rt, &cache, 12, &mut said), 12);
     assert!(rt; !talk.client.has_begun());
@@ -86,23 +86,57 @@ fn a_span_is_lent_over_the_borders_of_chunks(rt: HostRuntime) {
 }
 
 #[test]
-fn each_offer_of_a_span_ends_with_its_chunk_or_with_the_span(rt: HostRuntime) {
+fn a_head_and_its_body_are_said_in_one_through_windows_of_any_size(rt: HostRuntime) {
     let mut cache = Cache::new(&rt, rt.alloc());
     let id = cache.settle(&rt, 9000);
     cache.add(&rt, id, 0, part(0, 9000).as_slice());
+    let whole = reply(part(4090, 8200).as_slice());
+    for most in 1..4131 {
+        let mut talk = Talk::new(&rt, rt.alloc());
+        talk.hear(&rt, b"GET /a HTTP/1.1\r\nRange: bytes=4090-8199\r\n\r\n");
+        talk.begin(&rt, HEAD, Begin::Instance(id, 4090, 8200));
+        let said = talk.say_all(&rt, &cache, most);
+        assert_eq!(rt; said.as_slice(), whole.as_slice());
+    }
     let mut talk = Talk::new(&rt, rt.alloc());
     talk.hear(&rt, b"GET /a HTTP/1.1\r\nRange: bytes=4090-8199\r\n\r\n");
     talk.begin(&rt, HEAD, Begin::Instance(id, 4090, 8200));
     let mut said = Said::new();
-    let steps: [(usize, Option<u64>); 4] = [
-        (19, Some(4090)),
-        (6, Some(4096)),
-        (4096, Some(8192)),
-        (8, None),
+    let windows: [(usize, usize, Option<u64>); 5] = [
+        (18, 18, Some(4090)),
+        (4, 4, Some(4093)),
+        (4099, 4099, Some(8192)),
+        (0, 0, Some(8192)),
+        (20000, 8, None),
     ];
-    for (n, next) in steps {
-        assert_eq!(rt; talk.say(&rt, &cache, 20000, &mut said), n);
+    for (window, n, next) in windows {
+        assert_eq!(rt; talk.say(&rt, &cache, window, &mut said), n);
         assert_eq!(rt; talk.client.next_byte().map(|(_, at)| at), next);
+    }
+}
+
+#[test]
+fn sixteen_chunks_are_said_at_once(rt: HostRuntime) {
+    let mut cache = Cache::new(&rt, rt.alloc());
+    let id = cache.settle(&rt, 81920);
+    for at in [0, 16384, 32768, 49152, 65536] {
+        cache.add(&rt, id, at, part(at, at + 16384).as_slice());
+    }
+    // From the first byte, from the last but five of a chunk, and from the first of one, without a head.
+    let cases: [(&[u8], u64, &[(usize, Option<u64>)]); 3] = [
+        (HEAD, 0, &[(65536, Some(65517)), (16403, None)]),
+        (HEAD, 4090, &[(61465, Some(65536)), (16384, None)]),
+        (b"", 4096, &[(65536, Some(69632)), (12288, None)]),
+    ];
+    for (head, from, steps) in cases {
+        let mut talk = Talk::new(&rt, rt.alloc());
+        talk.hear(&rt, b"GET /a HTTP/1.1\r\n\r\n");
+        talk.begin(&rt, head, Begin::Instance(id, from, 81920));
+        for (n, next) in steps {
+            let mut said = Said::new();
+            assert_eq!(rt; talk.say(&rt, &cache, 100000, &mut said), *n);
+            assert_eq!(rt; talk.client.next_byte().map(|(_, at)| at), *next);
+        }
     }
 }
 
@@ -236,6 +270,23 @@ fn a_passed_reply_is_what_its_pipe_brings(rt: HostRuntime) {
     let said = talk.say_all(&rt, &cache, 7);
     assert_eq!(rt; said.as_slice(), b"3\r\nyou\r\n0\r\n\r\n".as_slice());
     assert!(rt; talk.is_at(b"/b"));
+}
+
+#[test]
+fn a_pipe_is_said_in_one_where_it_wrapped(rt: HostRuntime) {
+    let cache = Cache::new(&rt, rt.alloc());
+    let mut talk = Talk::new(&rt, rt.alloc());
+    talk.hear(&rt, b"GET /a HTTP/1.1\r\n\r\n");
+    talk.client.pass().start(false);
+    for at in [0, 20000, 40000] {
+        talk.put(&rt, part(at, at + 20000).as_slice());
+    }
+    talk.begin(&rt, HEAD, Begin::Passed);
+    let mut said = Said::new();
+    assert_eq!(rt; talk.say(&rt, &cache, 50019, &mut said), 50019);
+    talk.put(&rt, part(60000, 70000).as_slice());
+    let said = talk.say_all(&rt, &cache, 20480);
+    assert_eq!(rt; said.as_slice(), part(50000, 70000).as_slice());
 }
 
 #[test]

@@ -6,7 +6,7 @@ ghost use Rattle.pp_client.specs.Requests.{current_of, is_answerable};
 
 use crate::reply::Stage;
 use crate::tests::cache::Cache;
-use crate::{Begin, Client, Current};
+use crate::{Begin, Client, Current, Room};
 use arrayvec::ArrayVec;
 use pp_head::Scratch;
 use pp_objects::Objects;
@@ -20,17 +20,19 @@ pub type Said = ArrayVec<u8, 20480>;
 pub struct Talk {
     pub client: Client,
     scratch: Scratch,
+    room: Box<Room>,
 }
 
 impl Talk {
     pub fn new(rt: &impl Abort, alloc: Global) -> Talk {
-        Talk::with(Client::new(alloc, 1, 0).expect(rt, "no memory"))
+        Talk::with(rt, alloc, Client::new(alloc, 1, 0).expect(rt, "no memory"))
     }
 
-    pub fn with(client: Client) -> Talk {
+    pub fn with(rt: &impl Abort, alloc: Global, client: Client) -> Talk {
         Talk {
             client,
             scratch: Scratch::new(),
+            room: Box::new(alloc, Room::new()).expect(rt, "no memory"),
         }
     }
 
@@ -74,17 +76,19 @@ impl Talk {
         self.client.begin(reply);
     }
 
-    /// Says at most so many bytes of what is offered, and answers how many.
+    /// Says at most so many bytes of what is at hand, and answers how many.
     pub fn say(&mut self, rt: &impl Abort, cache: &Cache, most: usize, said: &mut Said) -> usize {
         assert!(rt; is_next_there(&self.client, &cache.objects));
-        let offer = self.client.offer(&cache.objects, &cache.pool);
+        let offer = self
+            .client
+            .gather(&cache.objects, &cache.pool, &mut self.room);
         let n = most.min(offer.len());
         let _ = said.try_extend_from_slice(&offer[..n]);
         self.client.took(n);
         n
     }
 
-    /// Says all that is offered, in pieces of so many bytes.
+    /// Says all that is at hand, in pieces of so many bytes.
     pub fn say_all(&mut self, rt: &impl Abort, cache: &Cache, most: usize) -> Said {
         let mut said = Said::new();
         for _ in 0..20480 {

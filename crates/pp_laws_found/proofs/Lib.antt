@@ -1,0 +1,13 @@
+pub mod FoundAt
+pub mod FoundInv
+pub mod FoundPlans
+pub mod FoundSteps
+pub mod FoundWaking
+pub mod FoundLaws
+pub mod Apart
+pub mod CountsInv
+pub mod CountsPlans
+pub mod CountsSteps
+pub mod CountsWaking
+pub mod CountsLaws
+pub mod Worked

@@ -1,0 +1,21 @@
+pub mod View
+pub mod WalkCases
+pub mod WalkRows
+pub mod WalkExchanges
+pub mod WalkClosings
+pub mod WalkClients
+pub mod WalkHeads
+pub mod WalkPieces
+pub mod WalkSteps
+pub mod WalkDisk
+pub mod Along
+pub mod Marks
+pub mod ChunkLists
+pub mod Payloads
+pub mod PoolFacts
+pub mod PoolGot
+pub mod PoolTurns
+pub mod PoolLoads
+pub mod PoolHappenings
+pub mod PoolLaws
+mod Worked

@@ -1,0 +1,115 @@
+-- Changes of one connection, exchange or client, and an exchange that is over, keep what is kept by each change.
+use Rattle.std.proofs.Common.{◌≡◌, ◌⊎◌, refl, ℕ, ◌≤◌, Bool, true, false, not, ◌==◌, ◌||◌, List, [], ◌∷◌, map, filter, length, Option, None, inl, le_refl, subst, sym, ap}
+use Rattle.pp_target.specs.Key.{text_of}
+use Rattle.pp_law.specs.Closing.{left_alone}
+use Rattle.pp_law.specs.Connections.{client, conn, exchange, is_client, is_conn, is_exchange, is_for, each_client, each_conn, each_exchange, on_conn, on_exchange, on_client, on_client_of, attempts_of, lost_one, without_row, is_unfilled, give_up_row, charge, lose_attempt, fail, without_ask, end_exchange}
+use Rattle.pp_law.specs.Stages.{is_begun}
+use Rattle.pp_law.specs.State.{State, Course, Trying, OutOfTries, Client, Conn, Exchange}
+use Rattle.pp_laws.specs.Runs.{IsIn}
+use Rattle.pp_laws.proofs.Lists.{changed_at, in_find}
+use Rattle.pp_laws_bounds.proofs.Counts.{length-filter}
+use Rattle.pp_laws_pool.proofs.View.{View, Walk, Holds, holds, facts_of, view, SameAsk, Lesser}
+use Rattle.pp_laws_pool.proofs.WalkCases.{each_so, when}
+use Rattle.pp_laws_pool.proofs.WalkRows.{clear-keeps}
+
+-- ---- what is changed as it is, and what is not
+
+ask_same : (e : Exchange) → SameAsk e e
+ask_same e = record { number = refl; asker = refl; place = refl }
+
+ask_changed : (f : Exchange → Exchange) (e : Exchange) (t : Bool) → SameAsk (f e) e → SameAsk (elim t as (λ c. Exchange) [ true ↦ f e | false ↦ e ]) e
+ask_changed f e true kept = kept
+ask_changed f e false kept = ask_same e
+
+pub same_ask : (d e : Exchange) → d.number ≡ e.number → d.asker ≡ e.asker → d.place ≡ e.place → SameAsk d e
+same_ask d e number asker place = record { number = number; asker = asker; place = place }
+
+conn_same : (k : Conn) → Lesser k k
+conn_same k = record { number = refl; line = le_refl (length k.line); answer = inl refl; unread = inl refl }
+
+conn_changed : (f : Conn → Conn) (k : Conn) (t : Bool) → Lesser (f k) k → Lesser (elim t as (λ c. Conn) [ true ↦ f k | false ↦ k ]) k
+conn_changed f k true kept = kept
+conn_changed f k false kept = conn_same k
+
+pub same_conn : (j k : Conn) → j.number ≡ k.number → j.line ≡ k.line → j.answer ≡ k.answer → j.unread ≡ k.unread → Lesser j k
+same_conn j k number line answer unread = record { number = number; line = subst (λ n. n ≤ length k.line) (sym (ap (λ (ns : List ℕ). length ns) line)) (le_refl (length k.line)); answer = inl answer; unread = inl unread }
+
+pub number_changed : (f : Client → Client) (c : Client) (t : Bool) → (f c).number ≡ c.number → (elim t as (λ d. Client) [ true ↦ f c | false ↦ c ]).number ≡ c.number
+number_changed f c true kept = kept
+number_changed f c false kept = refl
+
+without_row-number : (c : Client) → (without_row c).number ≡ c.number
+without_row-number c = by (is_begun c || c.has_given_up)
+  where
+    by : (t : Bool) → (elim t as (λ d. Client) [ true ↦ c | false ↦ record c { course = Trying 0; has_given_up = true } ]).number ≡ c.number
+    by true = refl
+    by false = refl
+
+-- ---- by number
+
+pub on_conn-keeps : {P : View → Type 0} (w : Walk P) (n : ℕ) (f : Conn → Conn) (s : State) → ((k : Conn) → Lesser (f k) k) → Holds P s → Holds P (on_conn n f s)
+unfolding on_conn
+on_conn-keeps w n f s lesser h = holds (w.conns (changed_at (is_conn n) f) (λ k. conn_changed f k (is_conn n k) (lesser k)) (view s) (facts_of h))
+
+pub on_exchange-keeps : {P : View → Type 0} (w : Walk P) (n : ℕ) (f : Exchange → Exchange) (s : State) → ((e : Exchange) → SameAsk (f e) e) → Holds P s → Holds P (on_exchange n f s)
+unfolding on_exchange
+on_exchange-keeps w n f s kept h = holds (w.asks (changed_at (is_exchange n) f) (λ e. ask_changed f e (is_exchange n e) (kept e)) (view s) (facts_of h))
+
+pub left_by_number : {P : View → Type 0} (w : Walk P) (n : ℕ) (s : State) → Holds P s → Holds P (on_exchange n left_alone s)
+unfolding on_exchange
+left_by_number w n s h = holds (w.left (is_exchange n) (view s) (facts_of h))
+
+pub on_client-keeps : {P : View → Type 0} (w : Walk P) (n : ℕ) (f : Client → Client) (s : State) → ((c : Client) → (f c).number ≡ c.number) → Holds P s → Holds P (on_client n f s)
+unfolding on_client
+on_client-keeps w n f s kept h = holds (w.clients (changed_at (is_client n) f) (λ c. number_changed f c (is_client n c) (kept c)) (view s) (facts_of h))
+
+pub on_client_of-keeps : {P : View → Type 0} (w : Walk P) (e : Exchange) (f : Client → Client) (s : State) → ((c : Client) → (f c).number ≡ c.number) → Holds P s → Holds P (on_client_of e f s)
+unfolding on_client_of
+on_client_of-keeps w e f s kept h = holds (w.clients (changed_at (is_for e) f) (λ c. number_changed f c (is_for e c) (kept c)) (view s) (facts_of h))
+
+pub clients_changed-keeps : {P : View → Type 0} (w : Walk P) (test : Client → Bool) (f : Client → Client) (v : View) → ((c : Client) → (f c).number ≡ c.number) → P v → P (record v { clients = map (changed_at test f) v.clients })
+clients_changed-keeps w test f v kept h = w.clients (changed_at test f) (λ c. number_changed f c (test c) (kept c)) v h
+
+-- ---- of these numbers one behind the other
+
+pub each_client-keeps : {P : View → Type 0} (w : Walk P) (f : Client → State → State) → ((c : Client) (s : State) → IsIn c s.clients → Holds P s → Holds P (f c s)) → (ns : List ℕ) (s : State) → Holds P s → Holds P (each_client f ns s)
+unfolding each_client
+each_client-keeps w f each [] s h = h
+each_client-keeps w f each (n ∷ ns) s h = each_client-keeps w f each ns _ (each_so (client s n) (λ none. h) (λ c found. each c s (in_find (is_client n) c s.clients found).0 h))
+
+pub each_conn-keeps : {P : View → Type 0} (w : Walk P) (f : Conn → State → State) → ((k : Conn) (s : State) → Holds P s → Holds P (f k s)) → (ns : List ℕ) (s : State) → Holds P s → Holds P (each_conn f ns s)
+unfolding each_conn
+each_conn-keeps w f each [] s h = h
+each_conn-keeps w f each (n ∷ ns) s h = each_conn-keeps w f each ns _ (each_so (conn s n) (λ none. h) (λ k found. each k s h))
+
+pub each_exchange-keeps : {P : View → Type 0} (w : Walk P) (f : Exchange → State → State) → ((e : Exchange) (s : State) → Holds P s → Holds P (f e s)) → (ns : List ℕ) (s : State) → Holds P s → Holds P (each_exchange f ns s)
+unfolding each_exchange
+each_exchange-keeps w f each [] s h = h
+each_exchange-keeps w f each (n ∷ ns) s h = each_exchange-keeps w f each ns _ (each_so (exchange s n) (λ none. h) (λ e found. each e s h))
+
+-- ---- attempts
+
+pub give_up_row-keeps : {P : View → Type 0} (w : Walk P) (e : Exchange) (s : State) → Holds P s → Holds P (give_up_row e s)
+unfolding give_up_row
+give_up_row-keeps w e s h = when (is_unfilled s e) (left_by_number w e.number _ (on_client_of-keeps w e without_row _ without_row-number (clear-keeps w (text_of e.key) s h))) h
+
+pub charge-keeps : {P : View → Type 0} (w : Walk P) (cost : Course → Course) (e : Exchange) (s : State) → Holds P s → Holds P (charge cost e s)
+unfolding charge
+charge-keeps w cost e s h = give_up_row-keeps w e _ (on_client_of-keeps w e (λ c. record c { course = cost c.course }) s (λ c. refl) h)
+
+pub lose_attempt-keeps : {P : View → Type 0} (w : Walk P) (e : Exchange) (s : State) → Holds P s → Holds P (lose_attempt e s)
+unfolding lose_attempt
+lose_attempt-keeps w e s h = charge-keeps w (lost_one (attempts_of e)) e s h
+
+pub fail-keeps : {P : View → Type 0} (w : Walk P) (e : Exchange) (s : State) → Holds P s → Holds P (fail e s)
+unfolding fail
+fail-keeps w e s h = charge-keeps w (λ course. OutOfTries) e s h
+
+-- ---- an exchange is over
+
+shorter : (n : ℕ) (k : Conn) → Lesser (without_ask n k) k
+shorter n k = record { number = refl; line = length-filter (λ m. not (m == n)) k.line; answer = inl refl; unread = inl refl }
+
+pub end_exchange-keeps : {P : View → Type 0} (w : Walk P) (n : ℕ) (s : State) → Holds P s → Holds P (end_exchange n s)
+unfolding end_exchange
+end_exchange-keeps w n s h = holds (w.conns (without_ask n) (shorter n) (record (view s) { exchanges = filter (λ e. not (is_exchange n e)) s.exchanges }) (w.over (λ e. not (is_exchange n e)) (view s) (facts_of h)))
