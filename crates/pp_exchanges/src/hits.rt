@@ -203,43 +203,19 @@ fn counted(alloc: Global, count: u32) -> Result<Vec<u8>, OutOfMemory> {
     Ok(bytes)
 }
 
-/// Small ones, those about a chunk, about what one write says and about the whole body, and some of all between.
-const SIZES: [Sizes; 5] = [
-    Sizes {
-        first: 1,
-        apart: 1,
-        count: 4,
-    },
-    Sizes {
-        first: 65,
-        apart: 9_973,
-        count: 7,
-    },
-    Sizes {
-        first: 4_095,
-        apart: 1,
-        count: 3,
-    },
-    Sizes {
-        first: 65_373,
-        apart: 81,
-        count: 4,
-    },
-    Sizes {
-        first: 69_999,
-        apart: 1,
-        count: 2,
-    },
-];
+/// From one byte to the whole body.
+const SIZES: Sizes = Sizes {
+    first: 1,
+    apart: 4_095,
+    count: 18,
+};
 
 #[test]
 fn windows_of_any_size_let_in_the_same_bytes(rt: HostRuntime) -> Result<(), Fail> {
     let body = counted(rt.alloc(), 70_000)?;
     let acts = joined_acts(rt.alloc(), &[LARGE, &[Act::Answer(2, body.as_slice())]])?;
     let reply = [Part::Text(LARGE_HEAD), Part::Text(body.as_slice())];
-    for sizes in SIZES {
-        let unlike = unlike_through_windows(rt.alloc(), sizes, acts.as_slice(), &reply)?;
-        assert_eq!(rt; unlike.as_str(), "");
-    }
+    let unlike = unlike_through_windows(rt.alloc(), SIZES, acts.as_slice(), &reply)?;
+    assert_eq!(rt; unlike.as_str(), "");
     Ok(())
 }
