@@ -104,16 +104,22 @@ def on_a_device_that_runs_out(size):
 CALL = re.compile(r"^(?:\[pid +\d+\] |\d+ +)?(\w+)\((.*)\) += (-?\d+)")
 
 
+# What traces a program's calls, as far as they change files, into a file whose name follows.
+TRACE = ["strace", "-f", "-s", "64", "-e", "trace=openat,write,pread64,pwrite64,fsync,fdatasync,rename,unlink,close", "-o"]
+
+
 def calls_of(folder, *words):
-    """The calls by which the keeper changes files: what is done, to which handle, and where; handles by what they were opened
-    for."""
+    """The calls by which the keeper changes files."""
     need("strace")
-    names = "openat,write,pwrite64,fsync,fdatasync,rename,unlink,close"
     with tempfile.NamedTemporaryFile() as trace:
-        words = ["strace", "-f", "-s", "64", "-e", f"trace={names}", "-o", trace.name, KEEPER, *map(str, words)]
-        ran = subprocess.run(words, capture_output=True, timeout=TOOL_SECONDS)
+        ran = subprocess.run([*TRACE, trace.name, KEEPER, *map(str, words)], capture_output=True, timeout=TOOL_SECONDS)
         equal(ran.returncode, 0, "its status")
-        text = trace.read().decode()
+        return [call for call in calls_in(trace.read().decode(), folder) if call != "read"]
+
+
+def calls_in(text, folder):
+    """The calls of a trace by which files of the folder are changed: what is done, to which handle, and where; handles by what
+    they were opened for."""
     handles, calls = {"1": "output"}, []
     for line in text.splitlines():
         if not (match := CALL.match(line)):
@@ -126,8 +132,8 @@ def calls_of(folder, *words):
                 handles[result] = "draft" if path.endswith("/draft") else "folder" if path.rstrip("/") == str(folder) else path
                 if handles[result] == "draft":
                     calls.append("open draft")
-        elif call == "rename":
-            calls.append("rename")
+        elif call in ("rename", "unlink"):
+            calls.append(call)
         elif first in handles:
             if call == "close":
                 if handles.pop(first) not in ("folder", "output"):
@@ -139,6 +145,8 @@ def calls_of(folder, *words):
                 calls.append("print")
             elif call == "write":
                 calls.append(f"write {handles[first]} {result}")
+            elif call == "pread64":
+                calls.append("read")
             else:
                 calls.append(f"sync {handles[first]}")
     return calls

@@ -35,6 +35,7 @@ SUBJECTS = [
     "kills",
     "folders",
     "caching",
+    "keeping",
     "one_answer",
     "hostile_origins",
     "judged",

@@ -47,12 +47,13 @@ def end_of(world, words, text=b""):
 @contextlib.contextmanager
 def started(world, port, words, text=b""):
     """The program while it listens on that port."""
-    with tempfile.NamedTemporaryFile() as file:
-        file.write(text)
-        file.flush()
-        words = [file.name if word == "f" else word for word in words]
+    with tempfile.TemporaryDirectory() as folder:
+        path = os.path.join(folder, "f")
+        with open(path, "wb") as file:
+            file.write(text)
+        words = [path if word == "f" else word for word in words]
         pipe = subprocess.PIPE
-        process = subprocess.Popen([world.program, *words], stdin=subprocess.DEVNULL, stdout=pipe, stderr=pipe)
+        process = subprocess.Popen([world.program, *words], stdin=subprocess.DEVNULL, stdout=pipe, stderr=pipe, cwd=folder)
         try:
             if why := wait_until_it_listens(process, port):
                 raise Failed(f"    {why}")

@@ -150,6 +150,8 @@ class World:
         self.environment = environment
         self.origin = Origin()
         self.origin.on("/probe", Answer(plain(b"still here")))
+        # Its cache is made in it.
+        self.folder = tempfile.TemporaryDirectory()
         self.start()
 
     def start(self):
@@ -160,6 +162,7 @@ class World:
             stdout=self.output,
             stderr=self.output,
             env=self.environment,
+            cwd=self.folder.name,
         )
         if why := wait_until_it_listens(self.process, self.port):
             self.stop()
@@ -177,7 +180,7 @@ class World:
 
     @contextlib.contextmanager
     def anew(self, *words, environment=None):
-        """The program once more, with these words and nothing in its memory: on a port and with an origin of its own."""
+        """The program once more, with these words and nothing kept: on a port, in a folder and with an origin of its own."""
         other = World(self.program, free_port(), words, environment)
         try:
             yield other

@@ -12,11 +12,13 @@ fn without_words_and_events_it_listens_and_waits(rt: HostRuntime) -> Result<(), 
     Ok(())
 }
 
-/// Whether this is all: it listens, waits for clients alone, and is stopped.
+/// Whether this is all: it lists its folder, listens, waits for clients alone, and is stopped.
 fn is_listening(log: &[Happening]) -> bool {
     match log {
         [
             Happening::Woke(image),
+            Happening::Rooted(_),
+            Happening::Listed(true),
             Happening::Listens(8123, true),
             Happening::Waits(wants),
             Happening::Stopped,

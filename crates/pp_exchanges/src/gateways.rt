@@ -255,12 +255,12 @@ const NOT_REACHED: &[Exchange<'static>] = &[
 #[test]
 fn an_origin_that_is_lost_gives_a_page(rt: HostRuntime) -> Result<(), Fail> {
     assert_eq!(rt; unlike(rt.alloc(), NOT_REACHED)?.as_str(), "");
-    // calls: listen, read, dial, dial, dial
+    // calls: list, listen, read, dial, dial, dial
     let played = play_failing(
         rt.alloc(),
         Pace::Whole,
         &[Act::Connect, Act::Say(1, GET)],
-        &[3, 4, 5],
+        &[4, 5, 6],
     )?;
     assert_eq!(rt; played.said(1)?.as_slice(), PAGE_502);
     assert_eq!(rt; played.count(Step::Dialled(80)), 0);

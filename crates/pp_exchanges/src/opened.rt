@@ -1,4 +1,6 @@
 // A run of the program that ended, and what it did.
+ghost use Rattle.std.specs.Prelude.{◌≡◌, IfOk};
+
 use arrayvec::ArrayVec;
 use pp_memworld::{Cue, MemWorld, Script};
 use pp_run::{Exit, run};
@@ -14,7 +16,8 @@ pub(crate) struct Opened {
 }
 
 /// Runs the program with the words of a line, cut at each space, over a world with this file, whose
-/// clock ticks twice before it is stopped. The call of that number fails, from 1: reading, listening.
+/// clock ticks twice before it is stopped. The call of that number fails, from 1: reading, listing, listening.
+#[tactic(auto, using(pp_shelf::proofs::OpeningLemmas::fresh_first))]
 pub(crate) fn open(
     alloc: Global,
     line: &str,
@@ -45,7 +48,9 @@ pub(crate) fn open(
 }
 
 /// A world of its own place, so that whoever lets go of it lets go of one thing.
-fn boxed(alloc: Global, world: MemWorld) -> Result<Box<MemWorld>, OutOfMemory> {
+fn boxed(alloc: Global, world: MemWorld) -> Result<Box<MemWorld>, OutOfMemory>
+    ensures { IfOk result (λ b. b.value ≡ world) }
+{
     Box::new(alloc, world).map_err(|_| OutOfMemory)
 }
 
@@ -75,6 +80,9 @@ fn put_happening(happening: &Happening, course: &mut Vec<u8>) -> Result<(), OutO
         Happening::Woke(_) => Ok(()),
         Happening::Configured(name, Some(_)) => put(b"reads ", name.as_slice(), course),
         Happening::Configured(name, None) => put(b"cannot read ", name.as_slice(), course),
+        Happening::Rooted(folder) => put(b"uses ", folder.as_slice(), course),
+        Happening::Listed(true) => put(b"lists it", b"", course),
+        Happening::Listed(false) => put(b"cannot list it", b"", course),
         Happening::Listens(port, true) => put_port(b"listens on ", *port, course),
         Happening::Listens(port, false) => put_port(b"may not listen on ", *port, course),
         Happening::Waits(_) => put(b"waits", b"", course),

@@ -10,25 +10,45 @@ const USAGE: &str = "prints usage: polipo [-c FILE] [-g SEED] [name=value ...]\n
 #[test]
 fn words_and_file_say_where_it_listens(rt: HostRuntime) -> Result<(), Fail> {
     let cases: [(&str, &str, &str); 8] = [
-        ("", "nonsense", "listens on 8123\n"),
-        ("proxyPort=1", "", "listens on 1\n"),
-        ("-c f", "", "reads f\nlistens on 8123\n"),
-        ("-c f", "proxyPort = 65535", "reads f\nlistens on 65535\n"),
+        (
+            "",
+            "nonsense",
+            "uses polipo-cache\nlists it\nlistens on 8123\n",
+        ),
+        (
+            "proxyPort=1",
+            "",
+            "uses polipo-cache\nlists it\nlistens on 1\n",
+        ),
+        (
+            "-c f",
+            "",
+            "reads f\nuses polipo-cache\nlists it\nlistens on 8123\n",
+        ),
+        (
+            "-c f",
+            "proxyPort = 65535",
+            "reads f\nuses polipo-cache\nlists it\nlistens on 65535\n",
+        ),
         (
             "-c /e/g",
             "proxyPort=7\nproxyPort=9\n",
-            "reads /e/g\nlistens on 9\n",
+            "reads /e/g\nuses polipo-cache\nlists it\nlistens on 9\n",
         ),
         (
             "proxyPort=11 -c f proxyPort=10",
             "proxyPort=9",
-            "reads f\nlistens on 10\n",
+            "reads f\nuses polipo-cache\nlists it\nlistens on 10\n",
         ),
-        ("proxyPort=10 maxTurns=3", "", "listens on 10\n"),
+        (
+            "proxyPort=10 maxTurns=3",
+            "",
+            "uses polipo-cache\nlists it\nlistens on 10\n",
+        ),
         (
             "-c f",
             "maxTurns=4\nproxyName=p",
-            "reads f\nlistens on 8123\n",
+            "reads f\nuses polipo-cache\nlists it\nlistens on 8123\n",
         ),
     ];
     for (line, text, wanted) in cases {
@@ -44,10 +64,13 @@ fn words_and_file_say_where_it_listens(rt: HostRuntime) -> Result<(), Fail> {
 #[test]
 fn no_more_turns_are_made_than_the_most(rt: HostRuntime) -> Result<(), Fail> {
     let cases: [(&str, &str); 2] = [
-        ("maxTurns=1", "listens on 8123\nwaits\nticks\n"),
+        (
+            "maxTurns=1",
+            "uses polipo-cache\nlists it\nlistens on 8123\nwaits\nticks\n",
+        ),
         (
             "maxTurns=2",
-            "listens on 8123\nwaits\nticks\nwaits\nticks\n",
+            "uses polipo-cache\nlists it\nlistens on 8123\nwaits\nticks\nwaits\nticks\n",
         ),
     ];
     for (line, wanted) in cases {
@@ -176,22 +199,45 @@ fn a_text_above_65536_bytes_is_too_long(rt: HostRuntime) -> Result<(), Fail> {
 }
 
 #[test]
+fn without_its_folder_it_ends(rt: HostRuntime) -> Result<(), Fail> {
+    let cases: [(&str, u64, &str); 2] = [
+        (
+            "",
+            1,
+            "uses polipo-cache\ncannot list it\nprints polipo: cannot list the cache folder\n\n",
+        ),
+        (
+            "-c f diskCacheRoot=d",
+            2,
+            "reads f\nuses d\ncannot list it\nprints polipo: cannot list the cache folder\n\n",
+        ),
+    ];
+    for (line, failing, wanted) in cases {
+        let came = open(rt.alloc(), line, b"proxyPort=7", Some(failing))?;
+        assert_eq!(rt; came.exit, Exit::NoDisk, "{line}");
+        assert_eq!(rt; came.exit.status(), 4, "{line}");
+        assert_eq!(rt; came.course.as_slice(), wanted.as_bytes(), "{line}");
+    }
+    Ok(())
+}
+
+#[test]
 fn without_its_port_it_ends(rt: HostRuntime) -> Result<(), Fail> {
     let cases: [(&str, u64, &str); 3] = [
         (
             "",
-            1,
-            "may not listen on 8123\nprints polipo: cannot listen on port 8123\n\n",
+            2,
+            "uses polipo-cache\nlists it\nmay not listen on 8123\nprints polipo: cannot listen on port 8123\n\n",
         ),
         (
             "proxyPort=65535",
-            1,
-            "may not listen on 65535\nprints polipo: cannot listen on port 65535\n\n",
+            2,
+            "uses polipo-cache\nlists it\nmay not listen on 65535\nprints polipo: cannot listen on port 65535\n\n",
         ),
         (
             "-c f",
-            2,
-            "reads f\nmay not listen on 7\nprints polipo: cannot listen on port 7\n\n",
+            3,
+            "reads f\nuses polipo-cache\nlists it\nmay not listen on 7\nprints polipo: cannot listen on port 7\n\n",
         ),
     ];
     for (line, failing, wanted) in cases {

@@ -1,7 +1,7 @@
 // A log, happening by happening.
 use pp_play::{ASK, Act, GET, Pace, REPLY, RESPONSE, Step, T, named_step, play};
 use pp_text::OutOfMemory;
-use pp_world::{Decision, Happening};
+use pp_world::{Decision, DiskOp, Happening, Remark};
 use std::alloc::{AllocError, Global};
 use std::test::Fail;
 
@@ -10,6 +10,9 @@ use std::test::Fail;
 enum Line<'a> {
     /// The program started, over an empty folder.
     Woke,
+    /// It uses this folder, and lists it.
+    Uses(&'a [u8]),
+    Listed,
     Listens(u16),
     /// New clients are waited for, these connections to be read, and those to be written.
     Waits(&'a [u64], &'a [u64]),
@@ -23,14 +26,30 @@ enum Line<'a> {
     Asked(u64, &'a [u8]),
     Got(u64, &'a [u8]),
     Of(u64, Step),
+    Began(Op),
+    Did(Op),
+    /// So many bytes of a body of so many are kept.
+    Kept(u64, u64),
     Stopped,
     Other,
 }
 
-/// A plain GET: its origin is asked on a new connection, and the reply is written from what is kept, its head and its body
-/// at once.
+/// An operation on the disk.
+#[derive(Clone, Copy, Debug, PartialEq, Eq)]
+enum Op {
+    /// A draft of a file of so many bytes.
+    Draft(usize),
+    SyncDraft,
+    Publish,
+    Other,
+}
+
+/// A plain GET: its origin is asked on a new connection, what comes is kept on the disk whole, and the reply is written from
+/// what is kept, its head and its body at once.
 const PLAIN: &[Line<'static>] = &[
     Line::Woke,
+    Line::Uses(b"polipo-cache"),
+    Line::Listed,
     Line::Listens(8123),
     Line::Waits(&[], &[]),
     Line::Clock(T),
@@ -49,6 +68,13 @@ const PLAIN: &[Line<'static>] = &[
     Line::Waits(&[1, 2], &[]),
     Line::CanRead(2),
     Line::Got(2, RESPONSE),
+    Line::Began(Op::Draft(12_293)),
+    Line::Did(Op::Draft(12_293)),
+    Line::Began(Op::SyncDraft),
+    Line::Did(Op::SyncDraft),
+    Line::Began(Op::Publish),
+    Line::Did(Op::Publish),
+    Line::Kept(5, 5),
     Line::Of(1, Step::Taken(0, Decision::Hit(0, 5))),
     Line::Waits(&[1, 2], &[1]),
     Line::CanWrite(1),
@@ -85,6 +111,8 @@ fn lines_of(alloc: Global, log: &[Happening]) -> Result<Vec<Line<'_>>, OutOfMemo
 fn line_of(happening: &Happening) -> Line<'_> {
     match happening {
         Happening::Woke(image) if image.next_name(None).is_none() => Line::Woke,
+        Happening::Rooted(folder) => Line::Uses(folder.as_slice()),
+        Happening::Listed(true) => Line::Listed,
         Happening::Listens(port, true) => Line::Listens(*port),
         Happening::Waits(wants) if wants.accept => {
             Line::Waits(wants.read.as_slice(), wants.write.as_slice())
@@ -105,9 +133,28 @@ fn text_line_of(happening: &Happening) -> Line<'_> {
         Happening::Dialled(k, host, port) => Line::Dialled(*k, host.as_slice(), *port),
         Happening::Asked(k, bytes) => Line::Asked(*k, bytes.as_slice()),
         Happening::Got(k, bytes) => Line::Got(*k, bytes.as_slice()),
+        other => disk_line_of(other),
+    }
+}
+
+/// Of a happening on the disk, or a step in the course of a connection.
+fn disk_line_of(happening: &Happening) -> Line<'_> {
+    match happening {
+        Happening::Began(op) => Line::Began(op_of(op)),
+        Happening::Did(op, true) => Line::Did(op_of(op)),
+        Happening::Noted(Remark::Kept(_, _, length, extent)) => Line::Kept(*length, *extent),
         other => match named_step(other) {
             Some((id, step)) => Line::Of(id, step),
             None => Line::Other,
         },
+    }
+}
+
+fn op_of(op: &DiskOp) -> Op {
+    match op {
+        DiskOp::Draft(file) => Op::Draft(file.as_slice().len()),
+        DiskOp::SyncDraft => Op::SyncDraft,
+        DiskOp::Publish(_) => Op::Publish,
+        DiskOp::Write(_, _, _) | DiskOp::Sync(_) | DiskOp::Remove(_) => Op::Other,
     }
 }

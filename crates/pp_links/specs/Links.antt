@@ -1,5 +1,5 @@
 -- The connections that are open: each is open in the log, where that is told, and each stands in the list once.
-use Rattle.std.specs.Prelude.{◌≡◌, ◌≢◌, ◌≤◌, ℕ, Bool, true, false, ◌==◌, not, List, [], ◌∷◌, ◌++◌, Option, Some, Result, Ok, Err}
+use Rattle.std.specs.Prelude.{◌≡◌, ◌≢◌, ◌≤◌, ℕ, Bool, ◌==◌, not, List, [], ◌∷◌, ◌++◌, Option, Some, Result, Ok, Err}
 use Rattle.std.specs.List.{All, AllPairs, filter, list_any}
 use Rattle.pp_world.specs.declared.event.Side.{Side}
 use Rattle.pp_world.specs.declared.event.Side.TheVariants.{Origin}

@@ -1,14 +1,18 @@
--- What a call adds to the log behind an event: nothing printed, nothing of the opening, and no other wait or stop.
+-- What a call of the connections adds to the log behind an event: nothing printed, nothing of the opening or of the disk, and no
+-- other wait or stop.
 use Rattle.std.specs.Prelude.{◌≡◌, Bool, true, false, ◌++◌, Option, Some}
 use Rattle.std.specs.List.{list_all}
 use Rattle.pp_world.specs.declared.happening.Happening.{Happening}
-use Rattle.pp_world.specs.declared.happening.Happening.TheVariants.{Woke, Waits, Stopped, Rooted, Listed, Listens, Configured, Printed}
+use Rattle.pp_world.specs.declared.happening.Happening.TheVariants.{Woke, Waits, Stopped, Began, Did, Unread, Rooted, Listed, Listens, Configured, Printed}
 use Rattle.pp_world.specs.Log.{Log}
 
 abbrev pub is_quiet : Happening → Bool
 is_quiet (Woke image) = false
 is_quiet (Waits wants) = false
 is_quiet Stopped = false
+is_quiet (Began op) = false
+is_quiet (Did op ok) = false
+is_quiet (Unread name) = false
 is_quiet (Rooted folder) = false
 is_quiet (Listed ok) = false
 is_quiet (Listens port ok) = false

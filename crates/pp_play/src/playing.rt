@@ -1,4 +1,6 @@
 // What clients and origins do, and the program played against it.
+ghost use Rattle.std.specs.Prelude.{◌≡◌, IfOk};
+
 use pp_memworld::{Cue, MemWorld, Script};
 use pp_run::{Exit, run};
 use pp_text::{Octets, OutOfMemory};
@@ -74,6 +76,7 @@ pub fn play_failing(
 }
 
 /// The same with these words.
+#[tactic(auto, using(pp_shelf::proofs::OpeningLemmas::fresh_first))]
 pub fn play_with(
     alloc: Global,
     words: &[&str],
@@ -105,7 +108,9 @@ fn strings(alloc: Global, words: &[&str]) -> Result<Vec<String>, OutOfMemory> {
 }
 
 /// A world of its own place, so that whoever lets go of it lets go of one thing.
-fn boxed(alloc: Global, world: MemWorld) -> Result<Box<MemWorld>, OutOfMemory> {
+fn boxed(alloc: Global, world: MemWorld) -> Result<Box<MemWorld>, OutOfMemory>
+    ensures { IfOk result (λ b. b.value ≡ world) }
+{
     Box::new(alloc, world).map_err(|_| OutOfMemory)
 }
 

@@ -1,3 +1,4 @@
+pub mod DiskLemmas
 pub mod HeadLimits
 pub mod SiteLemmas
 pub mod UsesLemmas

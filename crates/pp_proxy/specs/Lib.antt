@@ -1,3 +1,4 @@
+pub mod Anything
 pub mod Courses
 pub mod Heads
 pub mod Named

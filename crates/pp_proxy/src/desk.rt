@@ -1,6 +1,10 @@
 // The clients, the origins and the cache, behind the connections that are open, and the steps of a turn.
 ghost use Rattle.pp_links.specs.Links.{IsLinked};
 ghost use Rattle.pp_links.specs.Quiet.{GrowsQuietly};
+ghost use Rattle.pp_shelf.specs.Steady.{GrowsSteadily};
+ghost use Rattle.pp_proxy.specs.Anything.{anything};
+ghost use Rattle.pp_store.specs.Held.{Holds};
+ghost use Rattle.pp_world.specs.Log.{Told};
 
 use crate::due::Due;
 use crate::origin::Origin;
@@ -8,7 +12,8 @@ use crate::state::State;
 use pp_client::Room;
 use pp_links::Links;
 use pp_peers::Peers;
-use pp_world::{Cause, Event, Note, Wire};
+use pp_shelf::Shelf;
+use pp_world::{Cause, Decision, Event, Note, Wire, World};
 
 /// The most clients at once.
 pub(crate) const MAX_CLIENTS: usize = 256;
@@ -30,37 +35,48 @@ pub(crate) struct Desk {
     pub(crate) data: Vec<u8>,
     /// What is said at once.
     pub(crate) room: Box<Room>,
+    /// A file of the disk, as it is laid out to be written.
+    pub(crate) file: Vec<u8>,
     /// A client that was accepted in this turn, and for whom there is no memory.
     pub(crate) turned_away: Option<u64>,
 }
 
 impl Desk {
     /// Handles an event to its end.
-    #[tactic(auto, using(pp_links::proofs::QuietLemmas::quiet_then, pp_links::proofs::QuietLemmas::quiet_none))]
-    pub(crate) fn take_event<W: Wire>(&mut self, links: &mut Links, world: &mut W, event: Event)
-        requires { IsLinked (W.log world.old) (W.top world.old) links.old }
+    #[tactic(auto, using(crate::proofs::DiskLemmas::holds_quietly, pp_shelf::proofs::SteadyLemmas::steady_then, pp_shelf::proofs::SteadyLemmas::quiet_is_steady))]
+    pub(crate) fn take_event<W: World>(
+        &mut self,
+        links: &mut Links,
+        shelf: &mut Shelf,
+        world: &mut W,
+        event: Event,
+    )
+        requires linked { IsLinked (W.log world.old) (W.top world.old) links.old }
+        requires holds { Told (W.log world.old) (Holds anything shelf.old) }
         ensures linked { IsLinked (W.log world.new) (W.top world.new) links.new }
-        ensures quiet { GrowsQuietly (W.log world.old) (W.log world.new) }
+        ensures holds { Told (W.log world.new) (Holds anything shelf.new) }
+        ensures steady { GrowsSteadily (W.log world.old) (W.log world.new) }
     {
-        self.handle(links, world, event);
+        self.handle(links, shelf, world, event);
         self.state.regain();
         self.state.leave_memory(links, world);
         self.state.give_up_asks();
-        self.settle(links, world);
+        self.keep(links, shelf, world);
+        self.settle(links, shelf, world);
     }
 
     /// Decides, and goes on with what was decided; at the end all is closed.
     #[tactic(auto, using(pp_links::proofs::QuietLemmas::quiet_then, pp_links::proofs::QuietLemmas::quiet_none))]
-    fn settle<W: Wire>(&mut self, links: &mut Links, world: &mut W)
+    fn settle<W: Wire>(&mut self, links: &mut Links, shelf: &Shelf, world: &mut W)
         requires { IsLinked (W.log world.old) (W.top world.old) links.old }
         ensures linked { IsLinked (W.log world.new) (W.top world.new) links.new }
         ensures quiet { GrowsQuietly (W.log world.old) (W.log world.new) }
     {
-        let _ = self.decide(links, world);
-        self.go_on(links, world);
+        let _ = self.decide(links, shelf, world);
+        self.go_on(links, shelf, world);
     }
 
-    fn go_on<W: Wire>(&mut self, links: &mut Links, world: &mut W)
+    fn go_on<W: Wire>(&mut self, links: &mut Links, shelf: &Shelf, world: &mut W)
         requires { IsLinked (W.log world.old) (W.top world.old) links.old }
         ensures linked { IsLinked (W.log world.new) (W.top world.new) links.new }
         ensures quiet { GrowsQuietly (W.log world.old) (W.log world.new) }
@@ -68,14 +84,14 @@ impl Desk {
         if self.state.is_stopped {
             self.close_over(links, world);
         } else {
-            self.serve(links, world);
+            self.serve(links, shelf, world);
         }
     }
 
     /// What nobody will see is not read on, followers ask, connections that are over are closed, and exchanges
     /// get their places; where that brings decisions, once more. Then replies begin.
     #[tactic(auto, using(pp_links::proofs::QuietLemmas::quiet_then, pp_links::proofs::QuietLemmas::quiet_none))]
-    fn serve<W: Wire>(&mut self, links: &mut Links, world: &mut W)
+    fn serve<W: Wire>(&mut self, links: &mut Links, shelf: &Shelf, world: &mut W)
         requires { IsLinked (W.log world.old) (W.top world.old) links.old }
         ensures linked { IsLinked (W.log world.new) (W.top world.new) links.new }
         ensures quiet { GrowsQuietly (W.log world.old) (W.log world.new) }
@@ -85,14 +101,14 @@ impl Desk {
             if !is_decided {
                 break;
             }
-            is_decided = self.go_round(links, world);
+            is_decided = self.go_round(links, shelf, world);
         }
         self.state.begin_replies();
     }
 
     /// Whether anything was decided.
     #[tactic(auto, using(pp_links::proofs::QuietLemmas::quiet_then, pp_links::proofs::QuietLemmas::quiet_none))]
-    fn go_round<W: Wire>(&mut self, links: &mut Links, world: &mut W) -> bool
+    fn go_round<W: Wire>(&mut self, links: &mut Links, shelf: &Shelf, world: &mut W) -> bool
         requires { IsLinked (W.log world.old) (W.top world.old) links.old }
         ensures linked { IsLinked (W.log world.new) (W.top world.new) links.new }
         ensures quiet { GrowsQuietly (W.log world.old) (W.log world.new) }
@@ -101,19 +117,19 @@ impl Desk {
         self.state.fill();
         self.close_over(links, world);
         self.place(links, world);
-        self.decide(links, world)
+        self.decide(links, shelf, world)
     }
 
     /// Takes what is due, one after the other. Whether anything was.
     #[tactic(auto, using(pp_links::proofs::QuietLemmas::quiet_then, pp_links::proofs::QuietLemmas::quiet_none))]
-    fn decide<W: Wire>(&mut self, links: &mut Links, world: &mut W) -> bool
+    fn decide<W: Wire>(&mut self, links: &mut Links, shelf: &Shelf, world: &mut W) -> bool
         requires { IsLinked (W.log world.old) (W.top world.old) links.old }
         ensures linked { IsLinked (W.log world.new) (W.top world.new) links.new }
         ensures quiet { GrowsQuietly (W.log world.old) (W.log world.new) }
     {
         let mut is_any = self.turn_away(links, world);
         for _due in 0..ROUNDS {
-            let Some((i, due)) = self.state.first_due() else {
+            let Some((i, due)) = self.state.first_due(shelf) else {
                 break;
             };
             is_any = true;
@@ -135,6 +151,9 @@ impl Desk {
         match due {
             Due::Decide(decision) => {
                 let decision = self.state.afforded(i, decision);
+                if decision != Decision::Refuse(500) {
+                    self.state.give_way(links, world, i);
+                }
                 links.note(world, &Note::Taken(client, index, decision));
                 self.state.take(i, decision);
                 self.state.regain();

@@ -1,6 +1,7 @@
 // Which decision or cut is due, and which comes first (RFC 2616, section 8.1; the order is ours).
 use crate::seat::{Answer, Brought, Course, PassedEnd, Seat, Stage};
 use crate::state::State;
+use pp_shelf::Shelf;
 use pp_world::{Cause, Decision};
 
 /// Ours: a client that is idle for so many seconds is cut.
@@ -14,14 +15,20 @@ pub(crate) enum Due {
 }
 
 impl State {
-    /// The first client, in the order of their numbers, for whom something is due.
-    pub(crate) fn first_due(&self) -> Option<(usize, Due)> {
-        for (i, seat) in self.seats.iter().enumerate() {
-            if let Some(due) = self.due_of(seat) {
+    /// The first client, in the order of their numbers, for whom something is due. Where its request may be decided, the
+    /// kept row that it names comes into memory before.
+    pub(crate) fn first_due(&mut self, shelf: &Shelf) -> Option<(usize, Due)> {
+        for i in 0..self.seats.len() {
+            self.bring_row_of(shelf, i);
+            if let Some(due) = self.due_at(i) {
                 return Some((i, due));
             }
         }
         None
+    }
+
+    fn due_at(&self, i: usize) -> Option<Due> {
+        self.due_of(self.seats.get(i)?)
     }
 
     fn due_of(&self, seat: &Seat) -> Option<Due> {
@@ -58,7 +65,7 @@ impl State {
 
     /// Nothing that came is left to say to it.
     pub(crate) fn is_dry(&self, seat: &Seat) -> bool {
-        self.cache.offer(&seat.client).is_empty()
+        self.cache.offer(&seat.client).is_empty() && self.next_on_disk(seat).is_none()
     }
 
     fn is_idle(&self, seat: &Seat) -> bool {

@@ -1,15 +1,19 @@
 // Step 1: the event, with at most one read or one write.
 ghost use Rattle.std.specs.Prelude.{◌≡◌};
 ghost use Rattle.pp_links.specs.Links.{IsLinked};
-ghost use Rattle.pp_links.specs.Quiet.{GrowsQuietly};
 ghost use Rattle.pp_proxy.specs.Patience.{is_leap};
+ghost use Rattle.pp_shelf.specs.Steady.{GrowsSteadily};
+ghost use Rattle.pp_proxy.specs.Anything.{anything};
+ghost use Rattle.pp_store.specs.Held.{Holds};
+ghost use Rattle.pp_world.specs.Log.{Told};
 
 use crate::desk::Desk;
 use crate::origin::Origin;
 use crate::seat::Seat;
 use pp_client::Client;
 use pp_links::Links;
-use pp_world::{Event, Wire};
+use pp_shelf::Shelf;
+use pp_world::{Event, World};
 
 /// Ours: an origin that did nothing for so many seconds while it was waited for is given up: one that owes an
 /// answer, and any other.
@@ -23,10 +27,19 @@ const LEAP_SECONDS: u64 = 120;
 
 impl Desk {
     /// Takes the event in.
-    pub(crate) fn handle<W: Wire>(&mut self, links: &mut Links, world: &mut W, event: Event)
-        requires { IsLinked (W.log world.old) (W.top world.old) links.old }
+    #[tactic(auto, using(crate::proofs::DiskLemmas::holds_quietly, pp_shelf::proofs::SteadyLemmas::steady_then, pp_shelf::proofs::SteadyLemmas::steady_none, pp_shelf::proofs::SteadyLemmas::quiet_is_steady))]
+    pub(crate) fn handle<W: World>(
+        &mut self,
+        links: &mut Links,
+        shelf: &mut Shelf,
+        world: &mut W,
+        event: Event,
+    )
+        requires linked { IsLinked (W.log world.old) (W.top world.old) links.old }
+        requires holds { Told (W.log world.old) (Holds anything shelf.old) }
         ensures linked { IsLinked (W.log world.new) (W.top world.new) links.new }
-        ensures quiet { GrowsQuietly (W.log world.old) (W.log world.new) }
+        ensures holds { Told (W.log world.new) (Holds anything shelf.new) }
+        ensures steady { GrowsSteadily (W.log world.old) (W.log world.new) }
     {
         match event {
             Event::Stop => self.state.is_stopped = true,
@@ -36,13 +49,13 @@ impl Desk {
                 self.touch(id);
                 match self.state.seat_of(id) {
                     Some(i) => self.hear(links, world, i),
-                    None => self.receive(links, world, id),
+                    None => self.receive(links, shelf, world, id),
                 }
             }
             Event::Writable(id) => {
                 self.touch(id);
                 match self.state.seat_of(id) {
-                    Some(i) => self.say(links, world, i),
+                    Some(i) => self.load_and_say(links, shelf, world, i),
                     None => self.ask(links, world, id),
                 }
             }
@@ -90,6 +103,7 @@ impl Desk {
         self.state.renew_marks(now);
         self.state.now = now;
         self.state.is_ticked = true;
+        self.state.has_lost_draft = false;
         for _origin in 0..self.origins.len() {
             let Some(k) = self.idle_origin() else {
                 break;

@@ -271,6 +271,19 @@ impl Seat {
         self.has_begun() && self.before_body == 0
     }
 
+    /// Its request may be decided now.
+    pub(crate) fn is_to_be_decided(&self) -> bool {
+        if self.is_closing {
+            return false;
+        }
+        match self.stage {
+            Stage::Undecided => self.front.is_there(),
+            Stage::Waiting => self.is_told(),
+            Stage::Passing => false,
+            Stage::Answering(answer) => !answer.has_begun,
+        }
+    }
+
     /// More may be asked for its request.
     pub(crate) fn is_trying(&self) -> bool {
         match self.course {

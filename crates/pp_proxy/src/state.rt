@@ -30,6 +30,10 @@ pub(crate) struct State {
     /// Of the exchanges that are there.
     pub(crate) errands: Vec<Errand>,
     pub(crate) cache: Cache,
+    /// How many whole chunks are kept on the disk at a time.
+    pub(crate) run: u32,
+    /// A draft failed, and the clock has not ticked since.
+    pub(crate) has_lost_draft: bool,
     /// Seconds since 1970, as the last tick told.
     pub(crate) now: u64,
     pub(crate) has_ticked: bool,
@@ -193,7 +197,7 @@ impl State {
         for seat in self.seats.iter_mut() {
             if seat.course != Course::Trying(0) {
                 if let Some(next) = seat.next() {
-                    if self.cache.holds(next.source, next.at) {
+                    if self.cache.is_held(next.source, next.at) {
                         seat.course = Course::Trying(0);
                     }
                 }

@@ -1,4 +1,5 @@
+pub mod Folders
 pub mod Judging
-pub mod Starting
 pub mod LineLemmas
+pub mod Starting
 pub mod TurnByTurn

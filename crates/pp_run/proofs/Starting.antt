@@ -1,14 +1,14 @@
 -- The parts of a run, put together.
-use Rattle.std.proofs.Common.{◌≡◌, ◌≤◌, ◌∙◌, ap, sym, subst, ℕ, List, [], ◌∷◌, ◌++◌, Option, Some, None, true, false, append_assoc, is_some, inr}
-use Rattle.pp_world.specs.declared.happening.Happening.TheVariants.{Configured, Listens, Printed}
+use Rattle.std.proofs.Common.{◌≡◌, ◌≤◌, ◌∙◌, ap, sym, subst, ℕ, List, [], ◌∷◌, ◌++◌, Option, Some, None, Ok, true, false, append_assoc, is_some, inl, inr}
+use Rattle.pp_world.specs.declared.happening.Happening.TheVariants.{Configured, Printed}
 use Rattle.pp_world.specs.Log.{Log, AppendsAll, Rises}
 use Rattle.pp_world.proofs.CallLemmas.{appends_then, rises_earlier, rises_later}
 use Rattle.pp_links.specs.Quiet.{GrowsBy}
-use Rattle.pp_run.specs.Serving.{GoesUpTo}
 use Rattle.pp_run.specs.Lines.{unread_line}
-use Rattle.pp_conf.specs.Words.{file_of, has_reading}
-use Rattle.pp_run.specs.Exits.{EndsAs, IsUnread, JudgesWords, ServesOn, StartsAs, asked_for, asks_to_serve}
-use Rattle.pp_run.proofs.Judging.{file_serves}
+use Rattle.pp_conf.specs.Conf.{Settings}
+use Rattle.pp_conf.specs.Words.{Serves, file_of, has_reading, reading_of}
+use Rattle.pp_run.specs.Exits.{EndsAs, IsUnread, JudgesWords, OpensOn, StartsAs, asked_for, asks_to_serve}
+use Rattle.pp_run.proofs.Judging.{asks, file_serves, judged}
 use Rattle.pp_run.specs.declared.ending.Exit.{Exit}
 use Rattle.pp_run.specs.declared.ending.Exit.TheVariants.{Served, Usage, NoMemory, NoDisk, NoListener, NoConfig}
 
@@ -25,19 +25,35 @@ grows_later P asked first call rest = record {
       (earlier.0, earlier.1, (later.2.0, joined, later.2.2));
 }
 
--- it listened, and then served
-pub serves : {old mid new : Option Log} (port most_turns : ℕ) → AppendsAll old mid (λ l. Listens port true ∷ []) → GrowsBy [] (GoesUpTo most_turns) mid new → ServesOn [] port most_turns old new
-serves port most_turns listened served = grows_later (GoesUpTo most_turns) (Listens port true ∷ []) [] listened served
+pub grows_behind : {old mid new : Option Log} (P : Log → Type 0) (asked : Log) → AppendsAll old mid (λ l. asked) → GrowsBy [] P mid new → GrowsBy asked P old new
+grows_behind P asked first rest = record {
+  was = λ l is.
+      let later = rest.was l is in
+      let earlier = first.was later.0 later.1 in
+      (earlier.0, earlier.1, (later.2.0, later.2.1 ∙ ap (λ (b : Log). b ++ later.2.0) earlier.2 ∙ append_assoc earlier.0 asked later.2.0, later.2.2));
+}
+
+-- what a run came to that has its settings, behind the asking for FILE
+opens_later : {old mid : Option Log} (new : Option Log) (asked : Log) (root : List ℕ) (port most_turns : ℕ) (exit : Exit) (before between now : ℕ)
+    → AppendsAll old mid (λ l. asked) → before ≤ between → OpensOn [] root port most_turns exit mid new between now → OpensOn asked root port most_turns exit old new before now
+opens_later new asked root port most_turns Served before between now first more opens = grows_behind _ asked first opens
+opens_later new asked root port most_turns NoListener before between now first more opens =
+    record { rises = rises_later before between now more opens.rises; told = grows_behind _ asked first opens.told }
+opens_later new asked root port most_turns NoDisk before between now first more opens =
+    record { rises = rises_later before between now more opens.rises; told = grows_behind _ asked first opens.told }
+opens_later new asked root port most_turns NoMemory before between now first more opens = grows_behind _ asked first opens
+opens_later new asked root port most_turns Usage before between now first more opens = opens
+opens_later new asked root port most_turns NoConfig before between now first more opens = opens
 
 -- what a start with this text came to, behind the asking for FILE
 starts_later : {old mid : Option Log} (new : Option Log) (asked : Log) (words : List (List ℕ)) (text : Option (List ℕ)) (exit : Exit) (before between now : ℕ)
     → AppendsAll old mid (λ l. asked) → before ≤ between → StartsAs [] words text exit mid new between now → StartsAs asked words text exit old new before now
-starts_later new asked words text Served before between now first more start = (start.0, start.1, grows_later (GoesUpTo start.0.max_turns) asked _ first start.2)
+starts_later new asked words text Served before between now first more (c, says, opens) = (c, says, opens_later new asked c.root c.port c.max_turns Served before between now first more opens)
 starts_later new asked words text Usage before between now first more start = appends_then (λ l. asked) _ first start
-starts_later new asked words text NoMemory before between now first more start = appends_then (λ l. asked) _ first start
-starts_later new asked words text NoDisk before between now first more start = start
-starts_later new asked words text NoListener before between now first more start =
-    (start.0, start.1, record { rises = rises_later before between now more start.2.rises; told = appends_then (λ l. asked) _ first start.2.told })
+starts_later new asked words text NoMemory before between now first more (inl told) = inl (appends_then (λ l. asked) _ first told)
+starts_later new asked words text NoMemory before between now first more (inr (c, says, opens)) = inr (c, says, opens_later new asked c.root c.port c.max_turns NoMemory before between now first more opens)
+starts_later new asked words text NoDisk before between now first more (c, says, opens) = (c, says, opens_later new asked c.root c.port c.max_turns NoDisk before between now first more opens)
+starts_later new asked words text NoListener before between now first more (c, says, opens) = (c, says, opens_later new asked c.root c.port c.max_turns NoListener before between now first more opens)
 starts_later new asked words text NoConfig before between now first more start =
     (start.0, start.1, record { says = start.2.says; told = appends_then (λ l. asked) _ first start.2.told })
 
@@ -48,7 +64,7 @@ ends_by old new words text Served before now asks named judges start = (Some tex
 ends_by old new words text NoListener before now asks named judges start = (Some text, named, start)
 ends_by old new words text NoConfig before now asks named judges start = inr (Some text, named, start)
 ends_by old new words text NoMemory before now asks named judges start = inr (Some text, named, start)
-ends_by old new words text NoDisk before now asks named judges start = start
+ends_by old new words text NoDisk before now asks named judges start = (Some text, named, start)
 ends_by old new words text Usage before now asks named judges start = let bad : false ≡ true = sym judges ∙ asks in absurd (cc)
 
 -- FILE was asked for, and what came of its text
@@ -70,3 +86,22 @@ unread {old} {mid} words file before between now named first rose printed more =
   rises = rises_earlier _ before between now printed rose more;
   told = appends_then (λ l. asked_for (file_of words) None) _ (subst (λ (f : Option (List ℕ)). AppendsAll old mid (λ l. asked_for f None)) (sym named) first) printed;
 }
+
+-- a run that has its settings
+pub starts_with : (old new : Option Log) (words : List (List ℕ)) (text : Option (List ℕ)) (c : Settings) (exit : Exit) (before now : ℕ) → reading_of words text ≡ Ok (Serves c)
+    → OpensOn [] c.root c.port c.max_turns exit old new before now → StartsAs [] words text exit old new before now
+starts_with old new words text c Served before now says opens = (c, says, opens)
+starts_with old new words text c NoListener before now says opens = (c, says, opens)
+starts_with old new words text c NoDisk before now says opens = (c, says, opens)
+starts_with old new words text c NoMemory before now says opens = inr (c, says, opens)
+starts_with old new words text c Usage before now says opens = absurd opens
+starts_with old new words text c NoConfig before now says opens = absurd opens
+
+pub judges_with : (old new : Option Log) (words : List (List ℕ)) (text : Option (List ℕ)) (c : Settings) (exit : Exit) (before now : ℕ) → reading_of words text ≡ Ok (Serves c)
+    → OpensOn [] c.root c.port c.max_turns exit old new before now → JudgesWords words exit
+judges_with old new words text c Served before now says opens = judged words text ∙ ap asks says
+judges_with old new words text c NoListener before now says opens = judged words text ∙ ap asks says
+judges_with old new words text c NoDisk before now says opens = judged words text ∙ ap asks says
+judges_with old new words text c NoMemory before now says opens = tt
+judges_with old new words text c Usage before now says opens = absurd opens
+judges_with old new words text c NoConfig before now says opens = absurd opens

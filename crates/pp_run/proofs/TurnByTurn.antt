@@ -6,7 +6,8 @@ use Rattle.pp_world.specs.declared.event.Event.{Event}
 use Rattle.pp_world.specs.declared.event.Event.TheVariants.{Stop, Tick, Accepted, Readable, Writable, Reached, Broken}
 use Rattle.pp_world.specs.Log.{Log}
 use Rattle.pp_links.specs.Links.{IsLinked, Link}
-use Rattle.pp_links.specs.Quiet.{GrowsBy, IsQuiet}
+use Rattle.pp_links.specs.Quiet.{GrowsBy}
+use Rattle.pp_shelf.specs.Steady.{IsSteady}
 use Rattle.pp_links.proofs.Keeping.{none_linked}
 use Rattle.pp_proxy.specs.Turns.{TakesTurn, turn_by}
 use Rattle.pp_proxy.specs.declared.proxy.Turn.{Turn}
@@ -49,8 +50,8 @@ unless_stopped Stopped other = absurd (other refl)
 -- one turn more, which was not stopped
 pub goes_then : {old mid new : Option Log} (count clients : ℕ) (result : Turn) → GrowsBy [] (GoesOn count) old mid → TakesTurn clients result mid new → result ≢ Stopped → GrowsBy [] (GoesOn (count + 1)) old new
 goes_then count clients result goes turn other =
-    grows_then (GoesOn count) IsQuiet (GoesOn (count + 1)) _
-    (λ front rest p quiet. goes_more count front (record { wants = turn.wants; event = turn.event; rest = rest }) p (both_true _ _ quiet (ap is_going (sym turn.result_is) ∙ unless_stopped result other)))
+    grows_then (GoesOn count) IsSteady (GoesOn (count + 1)) _
+    (λ front rest p steady. goes_more count front (record { wants = turn.wants; event = turn.event; rest = rest }) p (both_true _ _ steady (ap is_going (sym turn.result_is) ∙ unless_stopped result other)))
     goes turn.grows
 
 stops_by : (event : Event) → Stopped ≡ turn_by event → event ≡ Stop
@@ -65,15 +66,15 @@ stops_by (Broken k) is = absurd (cc)
 -- the turn that was
 pub goes_stopped : {old mid new : Option Log} (count most clients : ℕ) (result : Turn) → count < most → GrowsBy [] (GoesOn count) old mid → TakesTurn clients result mid new → result ≡ Stopped → GrowsBy [] (GoesUpTo most) old new
 goes_stopped count most clients result fewer goes turn stopped =
-    grows_then (GoesOn count) IsQuiet (GoesUpTo most) _
-    (λ front rest p quiet. inr (record {
+    grows_then (GoesOn count) IsSteady (GoesUpTo most) _
+    (λ front rest p steady. inr (record {
       count = count;
       fewer = fewer;
       front = front;
       goes = p;
       last = record { wants = turn.wants; event = turn.event; rest = rest };
       stopped = stops_by turn.event (sym stopped ∙ turn.result_is);
-      quiet = quiet;
+      steady = steady;
       log_is = refl;
     }))
     goes turn.grows

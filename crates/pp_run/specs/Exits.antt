@@ -1,6 +1,6 @@
 -- When each exit comes, and what a told log gained by then.
 use Rattle.std.specs.Prelude.{◌≡◌, ◌⊎◌, ⊤, true, false, ℕ, Bool, ◌&&◌, not, List, [], ◌∷◌, ◌++◌, Option, Some, None, is_some, Ok, Err}
-use Rattle.pp_world.specs.declared.happening.Happening.TheVariants.{Configured, Listens, Printed}
+use Rattle.pp_world.specs.declared.happening.Happening.TheVariants.{Configured, Listed, Listens, Printed, Rooted}
 use Rattle.pp_world.specs.Log.{Log, AppendsAll, Rises}
 use Rattle.pp_conf.specs.declared.fault.ConfFault.{ConfFault}
 use Rattle.pp_conf.specs.declared.fault.ConfFault.TheVariants.{Usage as IsUsage, TooLong, BadLine, BadValue, OutOfMemory}
@@ -8,8 +8,10 @@ use Rattle.pp_conf.specs.Conf.{Settings}
 use Rattle.pp_conf.specs.Words.{Serves, file_of, has_reading, reading_of, seed_of}
 use Rattle.pp_conf.specs.Shown.{Answers}
 use Rattle.pp_links.specs.Quiet.{GrowsBy}
+use Rattle.pp_shelf.specs.Steady.{IsOnDisk}
+use Rattle.pp_shelf.specs.Opening.{MayBeListed}
 use Rattle.pp_run.specs.Serving.{GoesUpTo}
-use Rattle.pp_run.specs.Lines.{fault_line, no_listener_line, no_memory_line, unread_line, usage_line}
+use Rattle.pp_run.specs.Lines.{fault_line, no_disk_line, no_listener_line, no_memory_line, unread_line, usage_line}
 use Rattle.pp_run.specs.declared.ending.Exit.{Exit}
 use Rattle.pp_run.specs.declared.ending.Exit.TheVariants.{Served, Usage, NoMemory, NoDisk, NoListener, NoConfig}
 
@@ -48,23 +50,58 @@ abbrev pub asked_for : Option (List ℕ) → Option (List ℕ) → Log
 asked_for None text = []
 asked_for (Some file) text = Configured file text ∷ []
 
+-- the folder was used and listed, and behind that stray gates were closed, and files may have stayed unread
+abbrev pub IsOpening : List ℕ → Log → Type 0
+IsOpening root hs = (repairs : Log) × (hs ≡ Rooted root ∷ Listed true ∷ repairs) × IsOnDisk repairs
+
+-- it opened its folder, and then this came
+abbrev pub OpensAnd : List ℕ → (Log → Type 0) → Log → Type 0
+OpensAnd root P log = (opening rest : Log) × IsOpening root opening × (log ≡ opening ++ rest) × P rest
+
 -- it listened on this port, and then made turns until the world stopped one, or so many; so nothing was printed
-abbrev pub ServesOn : Log → ℕ → ℕ → Option Log → Option Log → Type 0
-ServesOn asked port most_turns old new = GrowsBy (asked ++ Listens port true ∷ []) (GoesUpTo most_turns) old new
+abbrev pub ListensAndGoes : ℕ → ℕ → Log → Type 0
+ListensAndGoes port most_turns log = (turns : Log) × (log ≡ Listens port true ∷ turns) × GoesUpTo most_turns turns
 
 -- it may not listen on this port, and nothing follows but the line
-pub record MayNotListen (asked : Log) (port : ℕ) (old new : Option Log) (before now : ℕ) : Type 0 where
+abbrev pub MayNot : ℕ → Log → Type 0
+MayNot port log = log ≡ Listens port false ∷ Printed (no_listener_line port) ∷ []
+
+-- how a run ends that has its folder
+abbrev pub ListensAs : ℕ → ℕ → Exit → Option Log → Option Log → ℕ → ℕ → Type 0
+ListensAs port most_turns Served old new before now = GrowsBy [] (ListensAndGoes port most_turns) old new
+ListensAs port most_turns NoListener old new before now = GrowsBy [] (MayNot port) old new × Rises new before now
+ListensAs port most_turns NoMemory old new before now = ⊥
+ListensAs port most_turns Usage old new before now = ⊥
+ListensAs port most_turns NoDisk old new before now = ⊥
+ListensAs port most_turns NoConfig old new before now = ⊥
+
+abbrev pub ServesOn : Log → List ℕ → ℕ → ℕ → Option Log → Option Log → Type 0
+ServesOn asked root port most_turns old new = GrowsBy asked (OpensAnd root (ListensAndGoes port most_turns)) old new
+
+pub record MayNotListen (asked : Log) (root : List ℕ) (port : ℕ) (old new : Option Log) (before now : ℕ) : Type 0 where
   pub rises : Rises new before now
-  pub told : AppendsAll old new (λ l. asked ++ Listens port false ∷ Printed (no_listener_line port) ∷ [])
+  pub told : GrowsBy asked (OpensAnd root (MayNot port)) old new
+
+-- the folder could not be listed, and nothing follows but the line
+pub record HasNoDisk (asked : Log) (root : List ℕ) (old new : Option Log) (before now : ℕ) : Type 0 where
+  pub rises : Rises new before now
+  pub told : GrowsBy asked (λ log. log ≡ Rooted root ∷ Listed false ∷ Printed no_disk_line ∷ []) old new
+
+-- memory was refused, before the folder was used, before it was listed or behind that, and nothing follows but the line
+abbrev pub MayHaveOpened : List ℕ → Log → Type 0
+MayHaveOpened root log = (log ≡ []) ⊎ ((rest : Log) × (log ≡ Rooted root ∷ rest) × MayBeListed rest)
+
+abbrev pub WantsMemory : Log → List ℕ → Option Log → Option Log → Type 0
+WantsMemory asked root old new = GrowsBy asked (λ log. (opening : Log) × (log ≡ opening ++ Printed no_memory_line ∷ []) × MayHaveOpened root opening) old new
 
 -- how a run ends that has its settings
-abbrev pub OpensOn : ℕ → ℕ → Exit → Option Log → Option Log → ℕ → ℕ → Type 0
-OpensOn port most_turns Served old new before now = ServesOn [] port most_turns old new
-OpensOn port most_turns NoListener old new before now = MayNotListen [] port old new before now
-OpensOn port most_turns NoMemory old new before now = AppendsAll old new (λ l. Printed no_memory_line ∷ [])
-OpensOn port most_turns Usage old new before now = ⊥
-OpensOn port most_turns NoDisk old new before now = ⊥
-OpensOn port most_turns NoConfig old new before now = ⊥
+abbrev pub OpensOn : Log → List ℕ → ℕ → ℕ → Exit → Option Log → Option Log → ℕ → ℕ → Type 0
+OpensOn asked root port most_turns Served old new before now = ServesOn asked root port most_turns old new
+OpensOn asked root port most_turns NoListener old new before now = MayNotListen asked root port old new before now
+OpensOn asked root port most_turns NoDisk old new before now = HasNoDisk asked root old new before now
+OpensOn asked root port most_turns NoMemory old new before now = WantsMemory asked root old new
+OpensOn asked root port most_turns Usage old new before now = ⊥
+OpensOn asked root port most_turns NoConfig old new before now = ⊥
 
 -- words and text have this fault, and nothing follows but its line
 pub record IsRefused (asked : Log) (words : List (List ℕ)) (text : Option (List ℕ)) (fault : ConfFault) (old new : Option Log) : Type 0 where
@@ -78,13 +115,17 @@ pub record IsUnread (words : List (List ℕ)) (old new : Option Log) (before now
   pub told : AppendsAll old new (λ l. asked_for (file_of words) None ++ Printed unread_line ∷ [])
 
 -- how a run ends whose settings are read with this text
+abbrev pub WithSettings : Log → List (List ℕ) → Option (List ℕ) → Exit → Option Log → Option Log → ℕ → ℕ → Type 0
+WithSettings asked words text exit old new before now =
+    (c : Settings) × (reading_of words text ≡ Ok (Serves c)) × OpensOn asked c.root c.port c.max_turns exit old new before now
+
 abbrev pub StartsAs : Log → List (List ℕ) → Option (List ℕ) → Exit → Option Log → Option Log → ℕ → ℕ → Type 0
-StartsAs asked words text Served old new before now = (c : Settings) × (reading_of words text ≡ Ok (Serves c)) × ServesOn asked c.port c.max_turns old new
-StartsAs asked words text NoListener old new before now = (c : Settings) × (reading_of words text ≡ Ok (Serves c)) × MayNotListen asked c.port old new before now
+StartsAs asked words text Served old new before now = WithSettings asked words text Served old new before now
+StartsAs asked words text NoListener old new before now = WithSettings asked words text NoListener old new before now
+StartsAs asked words text NoDisk old new before now = WithSettings asked words text NoDisk old new before now
 StartsAs asked words text NoConfig old new before now = (fault : ConfFault) × (exit_of fault ≡ NoConfig) × IsRefused asked words text fault old new
-StartsAs asked words text NoMemory old new before now = AppendsAll old new (λ l. asked ++ Printed no_memory_line ∷ [])
+StartsAs asked words text NoMemory old new before now = AppendsAll old new (λ l. asked ++ Printed no_memory_line ∷ []) ⊎ WithSettings asked words text NoMemory old new before now
 StartsAs asked words text Usage old new before now = AppendsAll old new (λ l. asked ++ Printed usage_line ∷ [])
-StartsAs asked words text NoDisk old new before now = ⊥
 
 -- the same with the text of FILE, or with none where the words name none
 abbrev pub StartsWith : List (List ℕ) → Exit → Option Log → Option Log → ℕ → ℕ → Type 0
@@ -98,4 +139,4 @@ EndsAs words NoListener old new before now = StartsWith words NoListener old new
 EndsAs words NoConfig old new before now = IsUnread words old new before now ⊎ StartsWith words NoConfig old new before now
 EndsAs words NoMemory old new before now = AppendsAll old new (λ l. Printed no_memory_line ∷ []) ⊎ StartsWith words NoMemory old new before now
 EndsAs words Usage old new before now = AppendsAll old new (λ l. Printed usage_line ∷ [])
-EndsAs words NoDisk old new before now = ⊥
+EndsAs words NoDisk old new before now = StartsWith words NoDisk old new before now

@@ -13,6 +13,9 @@ no_memory_line = codes "polipo: out of memory\n"
 abbrev pub unread_line : List ℕ
 unread_line = codes "polipo: cannot read the configuration\n"
 
+abbrev pub no_disk_line : List ℕ
+no_disk_line = codes "polipo: cannot list the cache folder\n"
+
 abbrev pub no_listener_line : ℕ → List ℕ
 no_listener_line port = codes "polipo: cannot listen on port " ++ decimal port ++ codes "\n"
 

@@ -6,7 +6,7 @@ use Rattle.pp_world.specs.declared.event.Event.TheVariants.{Stop}
 use Rattle.pp_world.specs.declared.event.Wants.{Wants}
 use Rattle.pp_world.specs.Log.{Log}
 use Rattle.pp_world.specs.Wire.{wait_happenings}
-use Rattle.pp_links.specs.Quiet.{IsQuiet, is_quiet}
+use Rattle.pp_shelf.specs.Steady.{IsSteady, is_steady}
 use Rattle.pp_proxy.specs.Turns.{turn_by}
 use Rattle.pp_proxy.specs.declared.proxy.Turn.{Turn}
 use Rattle.pp_proxy.specs.declared.proxy.Turn.TheVariants.{Went, Stopped}
@@ -23,9 +23,9 @@ abbrev pub is_going : Turn → Bool
 is_going Went = true
 is_going Stopped = false
 
--- its rest is quiet, and the world did not stop it
+-- its rest is steady, and the world did not stop it
 abbrev pub went_on : LoggedTurn → Bool
-went_on turn = list_all is_quiet turn.rest && is_going (turn_by turn.event)
+went_on turn = list_all is_steady turn.rest && is_going (turn_by turn.event)
 
 -- so many turns, and the world stopped none of them
 pub record GoesOn (count : ℕ) (log : Log) : Type 0 where
@@ -42,7 +42,7 @@ pub record IsStoppedWithin (most : ℕ) (log : Log) : Type 0 where
   pub goes : GoesOn count front
   pub last : LoggedTurn
   pub stopped : last.event ≡ Stop
-  pub quiet : IsQuiet last.rest
+  pub steady : IsSteady last.rest
   pub log_is : log ≡ front ++ turn_happenings last
 
 -- turns until the world stops one, or so many: each waits once, and behind a stop there is none

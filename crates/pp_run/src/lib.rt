@@ -1,7 +1,7 @@
 //! The program over a world: from its words to its exit.
 //!
-//! `run` reads words, the file that they name and the settings of both, takes memory, listens, and makes
-//! turns until the world stops it. What it runs over is the caller's choice: real sockets, or a world in
+//! `run` reads words, the file that they name and the settings of both, takes memory, opens the folder of the
+//! cache, listens, and makes turns until the world stops it. What it runs over is the caller's choice: real sockets, or a world in
 //! memory.
 //!
 //! To the layer above: each exit but `Served` prints its one line and nothing else is ever printed;

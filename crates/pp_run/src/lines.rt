@@ -20,6 +20,9 @@ pub const NO_MEMORY_LINE: &str = "polipo: out of memory\n";
 /// What is printed where the file could not be read.
 pub(crate) const UNREAD_LINE: &str = "polipo: cannot read the configuration\n";
 
+/// What is printed where the folder of the cache cannot be used.
+pub(crate) const NO_DISK_LINE: &str = "polipo: cannot list the cache folder\n";
+
 pub(crate) fn no_listener_line(port: u16) -> Line
     ensures { result.items ≡ no_listener_line port }
 {

@@ -1,7 +1,9 @@
 // From words to exit.
 ghost use Rattle.std.specs.Prelude.{◌≡◌, ◌∷◌, [], true, Some, map, string_bytes};
 ghost use Rattle.pp_world.specs.declared.happening.Happening.TheVariants.{Printed};
-ghost use Rattle.pp_world.specs.Log.{AppendsAll};
+ghost use Rattle.pp_world.specs.Files.{Files};
+ghost use Rattle.pp_world.specs.Log.{AppendsAll, Told};
+ghost use Rattle.pp_recover.specs.Opening.{IsFresh};
 ghost use Rattle.pp_conf.specs.Shown.{shown_text};
 ghost use Rattle.pp_conf.specs.Words.{file_of, has_reading};
 ghost use Rattle.pp_run.specs.Lines.{fault_line};
@@ -15,8 +17,10 @@ use pp_world::{ConfigFault, World};
 use std::alloc::Global;
 
 /// Reads words, the file that they name, and the settings of both, and serves with them until the world
-/// stops it, or for the most turns that they allow. `words` are those after the program's name.
+/// stops it, or for the most turns that they allow. `words` are those after the program's name. The world is as its life
+/// began: nothing was done in its folder yet.
 pub fn run<W: World>(alloc: Global, words: &[String], world: &mut W) -> Exit
+    requires { Told (W.log world.old) (λ l. (files : Files) × IsFresh files l) }
     ensures words { JudgesWords (map string_bytes words.now) result }
     ensures told { EndsAs (map string_bytes words.now) result (W.log world.old) (W.log world.new) (W.faults world.old) (W.faults world.new) }
 {
@@ -31,6 +35,7 @@ pub fn run<W: World>(alloc: Global, words: &[String], world: &mut W) -> Exit
 fn read_file<W: World>(alloc: Global, words: &[String], name: &str, world: &mut W) -> Exit
     requires reads { has_reading (map string_bytes words.now) ≡ true }
     requires named { file_of (map string_bytes words.now) ≡ Some name.now }
+    requires fresh { Told (W.log world.old) (λ l. (files : Files) × IsFresh files l) }
     ensures words { JudgesWords (map string_bytes words.now) result }
     ensures told { EndsAs (map string_bytes words.now) result (W.log world.old) (W.log world.new) (W.faults world.old) (W.faults world.new) }
 {
@@ -49,6 +54,7 @@ fn read_file<W: World>(alloc: Global, words: &[String], name: &str, world: &mut 
 
 /// Reads the settings of words and text, and starts with them.
 fn start<W: World>(alloc: Global, words: &[String], text: Option<&[u8]>, world: &mut W) -> Exit
+    requires { Told (W.log world.old) (λ l. (files : Files) × IsFresh files l) }
     ensures words { JudgesWords (map string_bytes words.now) result }
     ensures told { StartsAs [] (map string_bytes words.now) (shown_text text.entry) result (W.log world.old) (W.log world.new) (W.faults world.old) (W.faults world.new) }
 {

@@ -1,22 +1,30 @@
 // From settings to the end of serving.
 ghost use Rattle.std.specs.Prelude.{◌≡◌, []};
 ghost use Rattle.pp_links.specs.Quiet.{GrowsBy};
-ghost use Rattle.pp_run.specs.Exits.{OpensOn};
+ghost use Rattle.pp_proxy.specs.Anything.{anything};
+ghost use Rattle.pp_recover.specs.Opening.{IsFresh};
+ghost use Rattle.pp_run.specs.Exits.{ListensAs, OpensOn};
 ghost use Rattle.pp_run.specs.Serving.{GoesUpTo};
+ghost use Rattle.pp_store.specs.Held.{Holds};
+ghost use Rattle.pp_world.specs.Files.{Files};
+ghost use Rattle.pp_world.specs.Log.{Told};
 
 use crate::Exit;
-use crate::lines::{NO_MEMORY_LINE, no_listener_line};
+use crate::lines::{NO_DISK_LINE, NO_MEMORY_LINE, no_listener_line};
 use pp_conf::Conf;
 use pp_proxy::{Proxy, Turn};
+use pp_recover::RecoverFault;
+use pp_shelf::Shelf;
 use pp_world::World;
 use std::alloc::Global;
 
-/// Takes the proxy's memory, listens, and serves where it may.
+/// Takes the proxy's memory, opens its folder, listens, and serves where it may.
 pub(crate) fn open<W: World>(alloc: Global, conf: &Conf, world: &mut W) -> Exit
-    ensures told { OpensOn conf.now.port conf.now.max_turns result (W.log world.old) (W.log world.new) (W.faults world.old) (W.faults world.new) }
+    requires { Told (W.log world.old) (λ l. (files : Files) × IsFresh files l) }
+    ensures told { OpensOn [] conf.now.root conf.now.port conf.now.max_turns result (W.log world.old) (W.log world.new) (W.faults world.old) (W.faults world.new) }
 {
     match Proxy::open(alloc, conf) {
-        Ok(proxy) => listen(proxy, conf.port, conf.max_turns, world),
+        Ok(proxy) => open_folder(alloc, proxy, conf, world),
         Err(_) => {
             world.print(NO_MEMORY_LINE.as_bytes());
             Exit::NoMemory
@@ -24,14 +32,34 @@ pub(crate) fn open<W: World>(alloc: Global, conf: &Conf, world: &mut W) -> Exit
     }
 }
 
+/// Opens the folder, listens, and serves where it may.
+fn open_folder<W: World>(alloc: Global, proxy: Proxy, conf: &Conf, world: &mut W) -> Exit
+    requires links { proxy.links ≡ [] }
+    requires fresh { Told (W.log world.old) (λ l. (files : Files) × IsFresh files l) }
+    ensures told { OpensOn [] conf.now.root conf.now.port conf.now.max_turns result (W.log world.old) (W.log world.new) (W.faults world.old) (W.faults world.new) }
+{
+    match Shelf::open(alloc, world, conf.root.as_slice()) {
+        Ok(shelf) => listen(proxy, shelf, conf.port, conf.max_turns, world),
+        Err(RecoverFault::DiskFault) => {
+            world.print(NO_DISK_LINE.as_bytes());
+            Exit::NoDisk
+        }
+        Err(RecoverFault::OutOfMemory) => {
+            world.print(NO_MEMORY_LINE.as_bytes());
+            Exit::NoMemory
+        }
+    }
+}
+
 /// Listens, and serves where it may.
-fn listen<W: World>(proxy: Proxy, port: u16, most_turns: u64, world: &mut W) -> Exit
-    requires { proxy.links ≡ [] }
-    ensures told { OpensOn port most_turns result (W.log world.old) (W.log world.new) (W.faults world.old) (W.faults world.new) }
+fn listen<W: World>(proxy: Proxy, shelf: Shelf, port: u16, most_turns: u64, world: &mut W) -> Exit
+    requires links { proxy.links ≡ [] }
+    requires holds { Told (W.log world.old) (Holds anything shelf) }
+    ensures told { ListensAs port most_turns result (W.log world.old) (W.log world.new) (W.faults world.old) (W.faults world.new) }
 {
     match world.listen(port) {
         Ok(()) => {
-            serve(proxy, most_turns, world);
+            serve(proxy, shelf, most_turns, world);
             Exit::Served
         }
         Err(_) => {
@@ -42,12 +70,13 @@ fn listen<W: World>(proxy: Proxy, port: u16, most_turns: u64, world: &mut W) -> 
 }
 
 /// Makes turns until the world stops it, or for the most turns that there may be.
-fn serve<W: World>(mut proxy: Proxy, most_turns: u64, world: &mut W)
-    requires { proxy.links ≡ [] }
+fn serve<W: World>(mut proxy: Proxy, mut shelf: Shelf, most_turns: u64, world: &mut W)
+    requires links { proxy.links ≡ [] }
+    requires holds { Told (W.log world.old) (Holds anything shelf) }
     ensures { GrowsBy [] (GoesUpTo most_turns) (W.log world.old) (W.log world.new) }
 {
     for _turn in 0..most_turns {
-        if let Turn::Stopped = proxy.turn(world) {
+        if let Turn::Stopped = proxy.turn(&mut shelf, world) {
             return;
         }
     }

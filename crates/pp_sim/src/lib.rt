@@ -1,7 +1,7 @@
 //! Simulated lives: from a number, clients and origins that do anything, and what the proxy did.
 //!
 //! `simulate` makes lives of a seed: the words of each, a script of clients, origins and ticks, which calls fail, and where
-//! the life crashes. It runs the proxy over them, behind an opening of its folder, in a world in memory. What happened can be
+//! the life crashes. It runs the program over them, in a world in memory. What happened can be
 //! read as a transcript, which the law then judges: the rows of some seeds are proved, and `transcripts/judge` tries others.
 //!
 //! To the crates above: a seed gives the same lives always, as long as the proxy does the same.
@@ -9,7 +9,6 @@
 //! What a world does is for `pp_memworld`.
 #![tactic(auto)]
 
-mod caching; // the proxy behind an opening
 mod dice; // numbers of a seed
 mod lives; // how a life is started, what happens outside, and where it ends
 mod quoting; // a text as a transcript quotes it

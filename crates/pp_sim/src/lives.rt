@@ -53,10 +53,12 @@ impl Life {
 
 /// Words that a life is started with: none mostly.
 fn words(alloc: Global, dice: &mut Dice) -> Result<Vec<String>, OutOfMemory> {
-    match dice.below(6) {
+    match dice.below(8) {
         0..=2 => Ok(Vec::new(alloc)),
         3 => owned(alloc, &["shareFetches=0"]),
         4 => owned(alloc, &["proxyPort=8000", "proxyName=p"]),
+        5 => owned(alloc, &["diskRun=1"]),
+        6 => owned(alloc, &["diskRun=2"]),
         _ => owned(alloc, &["chunkHighMark=512", "chunkLowMark=512"]),
     }
 }

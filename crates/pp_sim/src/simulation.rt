@@ -1,10 +1,12 @@
 // The lives of a seed, run.
-use crate::caching::serve;
+ghost use Rattle.std.specs.Prelude.{◌≡◌, IfOk};
+
 use crate::dice::Dice;
 use crate::lives::{Life, Term};
 use crate::quoting::quoted;
 use crate::spelling::spelled;
 use pp_memworld::MemWorld;
+use pp_run::run;
 use pp_text::OutOfMemory;
 use pp_world::{Happening, Image};
 use std::alloc::{AllocError, Global};
@@ -21,8 +23,11 @@ pub struct Simulation {
 /// So many lives at most.
 const LIVES: u64 = 3;
 
-/// A crash by one of so many choices.
+/// A crash by one of so many choices, and by as many that tear.
 const CHOICES: u64 = 16;
+
+/// From this choice on, a crash tears.
+const FIRST_TORN: u64 = 1 << 63;
 
 /// Runs the lives of this seed.
 pub fn simulate(alloc: Global, seed: u64) -> Result<Simulation, OutOfMemory> {
@@ -38,6 +43,7 @@ pub fn simulate(alloc: Global, seed: u64) -> Result<Simulation, OutOfMemory> {
     Ok(Simulation { seed, terms, world })
 }
 
+#[tactic(auto, using(pp_shelf::proofs::OpeningLemmas::fresh_first))]
 fn first_life(
     alloc: Global,
     dice: &mut Dice,
@@ -54,11 +60,12 @@ fn first_life(
         alloc,
         MemWorld::new(alloc, script, Image::new(alloc), failing)?,
     )?;
-    serve(alloc, words.as_slice(), &mut *world);
+    let _ = run(alloc, words.as_slice(), &mut *world);
     Ok(world)
 }
 
 /// The life after a crash of this world behind its first `at` happenings.
+#[tactic(auto, using(crate::proofs::Fresh::fresh_crashed))]
 fn next_life(
     alloc: Global,
     dice: &mut Dice,
@@ -74,18 +81,20 @@ fn next_life(
         script,
         failing,
     } = life;
-    let choice = dice.below(CHOICES);
+    let choice = crash_choice(dice);
     let crashed = world.crash(alloc, at, choice, script, failing)?;
     let Some(next) = crashed else {
         return Err(OutOfMemory);
     };
     let mut next = boxed(alloc, next)?;
-    serve(alloc, words.as_slice(), &mut *next);
+    let _ = run(alloc, words.as_slice(), &mut *next);
     Ok(next)
 }
 
 /// A world of its own place, so that whoever lets go of it lets go of one thing.
-fn boxed(alloc: Global, world: MemWorld) -> Result<Box<MemWorld>, OutOfMemory> {
+fn boxed(alloc: Global, world: MemWorld) -> Result<Box<MemWorld>, OutOfMemory>
+    ensures { IfOk result (λ b. b.value ≡ world) }
+{
     Box::new(alloc, world).map_err(|_| OutOfMemory)
 }
 
@@ -107,6 +116,16 @@ fn crash_place(dice: &mut Dice, begin: usize, len: usize) -> usize {
     begin
         .saturating_add(1)
         .saturating_add(dice.below(past) as usize)
+}
+
+/// How a crash settles what is loose or in doubt.
+fn crash_choice(dice: &mut Dice) -> u64 {
+    let choice = dice.below(CHOICES);
+    if dice.is_once_in(2) {
+        FIRST_TORN.saturating_add(choice)
+    } else {
+        choice
+    }
 }
 
 impl Simulation {

@@ -3,7 +3,14 @@ use Rattle.pp_conf.specs.Shown.{shown_text}
 use Rattle.pp_run.specs.declared.ending.Exit.{Exit}
 use Rattle.pp_run.specs.Exits.{JudgesWords}
 use Rattle.pp_run.proofs.Judging.{demo_refused, fault_judges}
+use Rattle.pp_run.proofs.Starting.{judges_with, starts_with}
 use Rattle.pp_run.proofs.program.start.Goals as goal
+
+pub returns-in-Ok-Serve-clause-words : goal.returns-in-Ok-Serve-clause-words
+returns-in-Ok-Serve-clause-words g c = judges_with _ _ (map string_bytes c.args.words.now) (shown_text c.args.text) _ c.open.result _ _ (rw c.in-Ok-Serve.field-0-is at c.in-Ok-Serve.ensures) c.open.ensures.told
+
+pub returns-in-Ok-Serve-clause-told : goal.returns-in-Ok-Serve-clause-told
+returns-in-Ok-Serve-clause-told g c = starts_with _ _ (map string_bytes c.args.words.now) (shown_text c.args.text) _ c.open.result _ _ (rw c.in-Ok-Serve.field-0-is at c.in-Ok-Serve.ensures) c.open.ensures.told
 
 pub returns-in-Ok-Demo-clause-words : goal.returns-in-Ok-Demo-clause-words
 returns-in-Ok-Demo-clause-words g c =

@@ -1,4 +1,5 @@
+use Rattle.pp_run.proofs.Folders.{wants_memory_first}
 use Rattle.pp_run.proofs.serving.open.Goals as goal
 
 pub returns-in-Err : goal.returns-in-Err
-returns-in-Err g c = record { told = rw c.as_bytes.ensures.value at (c.print.ensures.told) }
+returns-in-Err g c = record { told = wants_memory_first _ (rw c.as_bytes.ensures.value at (c.print.ensures.told)) }

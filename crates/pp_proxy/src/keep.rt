@@ -1,0 +1,119 @@
+// Step 3: what stands no more is taken off the disk, and what is whole is kept there.
+ghost use Rattle.pp_links.specs.Links.{IsLinked};
+ghost use Rattle.pp_shelf.specs.Steady.{GrowsSteadily};
+ghost use Rattle.pp_proxy.specs.Anything.{anything};
+ghost use Rattle.pp_store.specs.Held.{Holds};
+ghost use Rattle.pp_world.specs.Log.{Told};
+
+use crate::desk::Desk;
+use crate::disk::withdraw;
+use crate::run::{Kept, Run};
+use arrayvec::ArrayVec;
+use pp_flow::KEY_ROOM;
+use pp_links::Links;
+use pp_objects::ObjectId;
+use pp_shelf::Shelf;
+use pp_world::{Name, Note, World};
+
+/// The file of an entry with 64 chunks of its body: the head block and the gates of the longest body, and the chunks.
+pub(crate) const FILE_LEN: usize = 24_576 + 262_144;
+
+/// Ours: a run has at most so small a part of the pool, so that many bodies at once keep the fronts of their runs.
+pub(crate) const RUNS_OF_POOL: u32 = 128;
+
+/// The runs of the longest body.
+const RUNS: u32 = 16_384;
+
+/// The instances that grow in one turn.
+const GROWN: u32 = 16;
+
+impl Desk {
+    /// What stands no more is taken away, and what came in this turn is kept as far as it is whole.
+    #[tactic(auto, using(pp_shelf::proofs::SteadyLemmas::steady_then, pp_shelf::proofs::SteadyLemmas::steady_none))]
+    pub(crate) fn keep<W: World>(&mut self, links: &mut Links, shelf: &mut Shelf, world: &mut W)
+        requires linked { IsLinked (W.log world.old) (W.top world.old) links.old }
+        requires holds { Told (W.log world.old) (Holds anything shelf.old) }
+        ensures linked { IsLinked (W.log world.new) (W.top world.new) links.new }
+        ensures holds { Told (W.log world.new) (Holds anything shelf.new) }
+        ensures steady { GrowsSteadily (W.log world.old) (W.log world.new) }
+    {
+        for _name in 0..self.state.cache.outdated() {
+            let Some(name) = self.state.cache.next_outdated() else {
+                break;
+            };
+            take_away(links, shelf, world, &name);
+        }
+        for _row in 0..GROWN {
+            let Some(id) = self.state.cache.next_grown() else {
+                break;
+            };
+            self.keep_row(links, shelf, world, id);
+        }
+    }
+
+    /// Keeps an instance as far as it is whole.
+    #[tactic(auto, using(pp_shelf::proofs::SteadyLemmas::steady_then, pp_shelf::proofs::SteadyLemmas::steady_none))]
+    fn keep_row<W: World>(
+        &mut self,
+        links: &mut Links,
+        shelf: &mut Shelf,
+        world: &mut W,
+        id: ObjectId,
+    )
+        requires linked { IsLinked (W.log world.old) (W.top world.old) links.old }
+        requires holds { Told (W.log world.old) (Holds anything shelf.old) }
+        ensures linked { IsLinked (W.log world.new) (W.top world.new) links.new }
+        ensures holds { Told (W.log world.new) (Holds anything shelf.new) }
+        ensures steady { GrowsSteadily (W.log world.old) (W.log world.new) }
+    {
+        for _run in 0..RUNS {
+            let Some(extent) = self.keep_run(links, shelf, world, id) else {
+                break;
+            };
+            self.state.cache.keep_to(id, extent);
+        }
+    }
+
+    /// Keeps one run of an instance more, and answers how far it is kept then. None where nothing more is to be kept.
+    fn keep_run<W: World>(
+        &mut self,
+        links: &mut Links,
+        shelf: &mut Shelf,
+        world: &mut W,
+        id: ObjectId,
+    ) -> Option<u64>
+        requires linked { IsLinked (W.log world.old) (W.top world.old) links.old }
+        requires holds { Told (W.log world.old) (Holds anything shelf.old) }
+        ensures linked { IsLinked (W.log world.new) (W.top world.new) links.new }
+        ensures holds { Told (W.log world.new) (Holds anything shelf.new) }
+        ensures steady { GrowsSteadily (W.log world.old) (W.log world.new) }
+    {
+        match Run::of(&self.state, id).keep(links, shelf, world, &mut self.file)? {
+            Kept::To(extent) => Some(extent),
+            Kept::LostDraft => {
+                self.state.has_lost_draft = true;
+                None
+            }
+        }
+    }
+}
+
+/// The entry under this name is noted as gone, and taken away.
+#[tactic(auto, using(crate::proofs::DiskLemmas::holds_quietly, pp_shelf::proofs::SteadyLemmas::steady_then, pp_shelf::proofs::SteadyLemmas::steady_none, pp_shelf::proofs::SteadyLemmas::quiet_is_steady, pp_shelf::proofs::SteadyLemmas::quiet_then_steady, pp_shelf::proofs::SteadyLemmas::steady_then_quiet))]
+fn take_away<W: World>(links: &mut Links, shelf: &mut Shelf, world: &mut W, name: &Name)
+    requires linked { IsLinked (W.log world.old) (W.top world.old) links.old }
+    requires holds { Told (W.log world.old) (Holds anything shelf.old) }
+    ensures linked { IsLinked (W.log world.new) (W.top world.new) links.new }
+    ensures holds { Told (W.log world.new) (Holds anything shelf.new) }
+    ensures steady { GrowsSteadily (W.log world.old) (W.log world.new) }
+{
+    let mut key: ArrayVec<u8, KEY_ROOM> = ArrayVec::new();
+    match shelf.under(name) {
+        None => return,
+        Some(view) => {
+            let _ = key.try_extend_from_slice(view.key);
+        }
+    }
+    links.note(world, &Note::Gone(key.as_slice()));
+    withdraw(links, shelf, world, key.as_slice());
+}

@@ -1,0 +1,15 @@
+use Rattle.std.proofs.Common.{Ok, Err}
+use Rattle.pp_shelf.proofs.OpeningLemmas.{fresh_behind, holds_behind, opens_as}
+use Rattle.pp_shelf.proofs.shelf.Shelf.open.Goals as goal
+
+pub open-requires : goal.open-requires
+open-requires g c = record { fresh = fresh_behind c.args.folder.now c.requires.1.0 c.root.ensures.told }
+
+pub returns-in-Ok-clause-opens : goal.returns-in-Ok-clause-opens
+returns-in-Ok-clause-opens g c = opens_as c.args.folder.now (Ok c.in-Ok.store) c.requires.1.0 c.root.ensures.told c.in-Ok.ensures.opens
+
+pub returns-in-Ok-clause-holds : goal.returns-in-Ok-clause-holds
+returns-in-Ok-clause-holds g c = rw c.new.ensures (holds_behind c.args.folder.now g.sent _ c.requires.1.0 c.requires.1.1 c.root.ensures.told c.in-Ok.ensures.holds)
+
+pub returns-in-Err-clause-opens : goal.returns-in-Err-clause-opens
+returns-in-Err-clause-opens g c = opens_as c.args.folder.now (Err c.in-Err.fault) c.requires.1.0 c.root.ensures.told c.in-Err.ensures.opens

@@ -1,0 +1,4 @@
+pub mod Given
+pub mod Opening
+pub mod Steady
+pub mod Texts

@@ -1,0 +1,18 @@
+-- What the log gains where a folder is opened.
+use Rattle.std.specs.Prelude.{◌≡◌, ◌⊎◌, true, false, List, [], ◌∷◌, ℕ, Option, Result, Ok, Err}
+use Rattle.pp_world.specs.declared.happening.Happening.TheVariants.{Listed, Rooted}
+use Rattle.pp_world.specs.Log.{AppendsAll, Log}
+use Rattle.pp_links.specs.Quiet.{GrowsBy}
+use Rattle.pp_shelf.specs.Steady.{IsOnDisk}
+use Rattle.pp_recover.specs.declared.faults.RecoverFault.{RecoverFault}
+use Rattle.pp_recover.specs.declared.faults.RecoverFault.TheVariants.{DiskFault, OutOfMemory}
+
+-- memory was refused before the folder was listed, or behind that
+abbrev pub MayBeListed : Log → Type 0
+MayBeListed log = (log ≡ []) ⊎ ((rest : Log) × (log ≡ Listed true ∷ rest) × IsOnDisk rest)
+
+-- the folder is used and listed, and behind that stray gates are closed and files may stay unread; or it could not be listed
+abbrev pub OpensAs : {A : Type 0} → List ℕ → Result A RecoverFault → Option Log → Option Log → Type 0
+OpensAs folder (Ok shelf) old new = GrowsBy (Rooted folder ∷ Listed true ∷ []) IsOnDisk old new
+OpensAs folder (Err DiskFault) old new = AppendsAll old new (λ l. Rooted folder ∷ Listed false ∷ [])
+OpensAs folder (Err OutOfMemory) old new = GrowsBy (Rooted folder ∷ []) MayBeListed old new

@@ -1,0 +1,160 @@
+// Whether an entry can be written of a row.
+ghost use Rattle.std.specs.Prelude.{◌≡◌, ◌-◌, ◌^◌, ◌<◌, ◌↔◌, [], filter, length, min, nat_le, true};
+ghost use Rattle.std.specs.List.{list_all};
+ghost use Rattle.httparse.specs.Grammar.{is_uri_byte};
+ghost use Rattle.pp_text.specs.Fields.{field_at};
+ghost use Rattle.pp_text.specs.Lines.{line_of, lines_of};
+ghost use Rattle.pp_valid.specs.Kept.{is_written_anew};
+ghost use Rattle.pp_entry.specs.Entries.{is_sized};
+ghost use Rattle.pp_entry.specs.Fields.{are_allowed, is_passing, may_be_kept};
+ghost use Rattle.pp_entry.specs.Spelling.{CanBeWritten};
+ghost use Rattle.pp_store.specs.Changes.{entry_with};
+ghost use Rattle.pp_shelf.specs.Texts.{has_tag, is_text, is_trimmed, is_writable};
+
+use httparse::{is_header_value, is_token, is_uri_token};
+use pp_fresh::Times;
+use pp_text::{Fields, is_forwarded, same, trim};
+use pp_valid::{TagState, Version, tag_of};
+
+/// The bytes that another response of the version may renew.
+const RENEWED_ROOM: usize = 2048;
+
+/// The longest body of an entry.
+const BODY_LEN: u64 = 1 << 26;
+
+/// Whether an entry can be written of this row. What comes of heads mostly can: it may have more fields that are renewed
+/// than there is room for, or a longer body.
+pub fn can_be_written(key: &[u8], version: &Version, fields: &Fields<'_, '_>, times: &Times) -> bool
+    ensures { (result ≡ true) ↔ CanBeWritten (entry_with key.now version.now fields.now times.now) }
+{
+    let _response = times.response;
+    let _initial = times.initial;
+    is_writable(key, version, fields)
+}
+
+fn is_writable(key: &[u8], version: &Version, fields: &Fields<'_, '_>) -> bool
+    ensures { result ≡ is_writable key.now version.now fields.now }
+{
+    let is_placed = is_target(key) && is_sized(version.length);
+    let is_kept = are_texts(fields) && are_allowed(fields);
+    is_placed && is_kept && has_tag(version, fields)
+}
+
+/// A key has the bytes of a target.
+fn is_target(key: &[u8]) -> bool
+    ensures { result ≡ list_all is_uri_byte key.now }
+{
+    key.iter().all(|byte| is_uri_token(*byte))
+}
+
+fn is_sized(length: u64) -> bool
+    ensures { result ≡ is_sized length }
+{
+    1 <= length && length <= BODY_LEN
+}
+
+/// The tag of the version is that of the fields.
+fn has_tag(version: &Version, fields: &Fields<'_, '_>) -> bool
+    ensures { result ≡ has_tag version.now fields.now }
+{
+    match tag_of(fields) {
+        TagState::Strong(tag) => tag.as_slice() == version.tag.as_slice(),
+        TagState::None | TagState::Weak | TagState::Several | TagState::Bad => false,
+    }
+}
+
+// ---- as heads have them
+
+/// Each name is a token, and each value has no control byte but the tab, and no blanks at its ends.
+fn are_texts(fields: &Fields<'_, '_>) -> bool
+    ensures { result ≡ list_all is_text fields.now }
+{
+    for index in 0..fields.len() {
+        if !is_text(fields.name(index), fields.value(index)) {
+            return false;
+        }
+    }
+    true
+}
+
+fn is_text(name: &[u8], value: &[u8]) -> bool
+    ensures { result ≡ is_text (name.now, value.now) }
+{
+    is_token(name) && is_trimmed(value)
+}
+
+fn is_trimmed(value: &[u8]) -> bool
+    ensures { result ≡ is_trimmed value.now }
+{
+    is_header_value(value) && trim(value) == value
+}
+
+// ---- end to end, and with room for what is renewed
+
+fn are_allowed(fields: &Fields<'_, '_>) -> bool
+    ensures { result ≡ are_allowed fields.now }
+{
+    may_all_be_kept(fields) && has_room(fields)
+}
+
+fn may_all_be_kept(fields: &Fields<'_, '_>) -> bool
+    ensures { result ≡ list_all (may_be_kept fields.now) fields.now }
+{
+    for index in 0..fields.len() {
+        if !may_be_kept(fields, index) {
+            return false;
+        }
+    }
+    true
+}
+
+fn may_be_kept(fields: &Fields<'_, '_>, index: usize) -> bool
+    requires { index < length fields.now }
+    ensures { result ≡ may_be_kept fields.now (field_at fields.now index) }
+{
+    let name = fields.name(index);
+    is_forwarded(fields, index) && (same(b"date", name) || !is_written_anew(name))
+}
+
+/// Whether each reply has a field of this name of its own.
+fn is_written_anew(name: &[u8]) -> bool
+    ensures { result ≡ is_written_anew (name.now, []) }
+{
+    let is_of_body = same(b"content-length", name) || same(b"content-range", name);
+    is_of_body || same(b"age", name) || same(b"date", name)
+}
+
+/// Whether the lines of the fields that may be renewed fit the room for them.
+fn has_room(fields: &Fields<'_, '_>) -> bool
+    ensures { result ≡ nat_le (length (lines_of (filter is_passing fields.now))) 2048 }
+{
+    let mut left = RENEWED_ROOM;
+    for index in 0..fields.len() {
+        if is_passing(fields.name(index)) {
+            let len = line_len(fields, index);
+            if len > left {
+                return false;
+            }
+            left -= len;
+        }
+    }
+    true
+}
+
+fn line_len(fields: &Fields<'_, '_>, index: usize) -> usize
+    requires { index < length fields.now }
+    ensures { result ≡ min (length (line_of (field_at fields.now index))) (2 ^ 64 - 1) }
+{
+    let text_len = fields
+        .name(index)
+        .len()
+        .saturating_add(fields.value(index).len());
+    text_len.saturating_add(4)
+}
+
+fn is_passing(name: &[u8]) -> bool
+    ensures { result ≡ is_passing (name.now, []) }
+{
+    let is_renewed = same(b"expires", name) || same(b"cache-control", name);
+    same(b"date", name) || is_renewed
+}

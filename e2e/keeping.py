@@ -1,0 +1,397 @@
+"""What is kept in the folder of the cache outlives the program, and a fault of the folder costs no client anything."""
+
+import hashlib
+import os
+import pathlib
+import random
+import subprocess
+import tempfile
+import threading
+import time
+
+from caching import now, said
+from folders import PUBLISHED, TRACE, called, calls_in, small
+from harness import Failed, case, equal, holds, lasting, need, ran, together
+from kills import kept_in
+from network import free_port, wait_until_it_listens
+from origin import Answer, noise, part, response, span_of
+from world import Client
+
+TAG = b'"x"'
+FRESH = b"Cache-Control: max-age=3600"
+ONLY_KEPT = b"Cache-Control: only-if-cached"
+NO_DISK = b"polipo: cannot list the cache folder\n"
+# So many kills, in so many seconds at most; KILLS=200 in the environment makes more of them.
+KILLS = int(os.environ.get("KILLS", 12))
+KILLING_SECONDS = 4 * KILLS
+CHUNK = 4096
+
+
+def fresh(body, date):
+    return response(body, b"Date: " + date, b"ETag: " + TAG, FRESH)
+
+
+def cache_of(world):
+    return pathlib.Path(world.folder.name) / "polipo-cache"
+
+
+def file_of(world, path):
+    return cache_of(world) / hashlib.md5(world.url(path).encode()).hexdigest()
+
+
+def entries(world):
+    """How much of each body the folder vouches for, and these bytes, by file name: read by the format alone."""
+    return {path.name: kept_in(path) for path in cache_of(world).iterdir() if len(path.name) == 32}
+
+
+def extent_of(world, path):
+    file = file_of(world, path)
+    return kept_in(file)[0] if file.exists() else 0
+
+
+def wait_for_extent(world, path, least):
+    """Waits until so many bytes of a body are in the folder."""
+    deadline = time.monotonic() + 10
+    while extent_of(world, path) < least:
+        holds(time.monotonic() < deadline, f"{least} bytes of {path} in the folder within seconds")
+        time.sleep(0.01)
+
+
+def body_of(text):
+    return text.partition(b"\r\n\r\n")[2]
+
+
+def serve_whole(world, path, body):
+    """The origin has this body: whole, or the range that it is asked for."""
+    date = now()
+
+    def answer(ask):
+        wanted = ask.field(b"range")
+        if wanted is None:
+            return Answer(fresh(body, date))
+        return Answer(part(body, wanted, b"Date: " + date, b"ETag: " + TAG, FRESH))
+
+    world.origin.on(path, answer)
+    return date
+
+
+def asked_for(world, path):
+    return [ask for ask in world.origin.asked if ask.path == path]
+
+
+# ---- from one life to the next
+
+
+@case
+def what_was_kept_is_served_after_a_kill_without_being_asked_again(world):
+    bodies = {"/small": b"hello", "/chunk": noise(4096), "/run": noise(65_536, 1), "/more": noise(65_537, 2), "/long": noise(2_000_000, 3)}
+    with world.anew() as proxy:
+        for path, body in bodies.items():
+            serve_whole(proxy, path, body)
+            equal(body_of(said(proxy, path)[0]), body, f"the body of {path}")
+            wait_for_extent(proxy, path, len(body))
+        proxy.restart()
+        proxy.origin.clear()
+        for path, body in bodies.items():
+            equal(kept_in(file_of(proxy, path)), (len(body), body), f"the entry of {path}")
+            text, age = said(proxy, path, ONLY_KEPT)
+            equal(body_of(text), body, f"the body of {path} from the disk")
+            holds(age is not None and age < 60, f"an age of some seconds in place of {age}")
+            equal(body_of(said(proxy, path, ONLY_KEPT, b"Range: bytes=1-3")[0]), body[1:4], f"a part of {path}")
+        equal(asked_for(proxy, "/small") + asked_for(proxy, "/long"), [], "asks of the origin")
+
+
+@case
+def a_partial_body_goes_on_from_the_disk(world):
+    body = noise(400_000)
+    with world.anew() as proxy:
+        date, goes_on = now(), threading.Event()
+        whole = fresh(body, date)
+        proxy.origin.on("/big", Answer(whole, cuts=[len(whole) - 200_000], goes_on=goes_on))
+        with Client(port=proxy.port) as client:
+            client.say(proxy.request("/big"))
+            client.hear_until(b"\r\n\r\n")
+            equal(client.hear(100_000), body[:100_000], "what came first")
+            wait_for_extent(proxy, "/big", 131_072)
+            proxy.stop()
+        goes_on.set()
+        kept_bytes = extent_of(proxy, "/big")
+        proxy.origin.clear()
+        serve_whole(proxy, "/big", body)
+        proxy.start()
+        equal(body_of(said(proxy, "/big")[0]), body, "the whole body")
+        first, last = span_of(asked_for(proxy, "/big")[0].field(b"range"), len(body))
+        equal((first, last), (kept_bytes, len(body) - 1), "the range that is missing")
+        equal(len(asked_for(proxy, "/big")), 1, "asks of the origin")
+
+
+@case
+def a_version_that_was_replaced_is_not_found_again(world):
+    with world.anew() as proxy:
+        for number in (1, 2):
+            body = b"version %d" % number
+            fields = [b"Date: " + now(), b'ETag: "%d"' % number, b"Cache-Control: no-cache"]
+            proxy.origin.on("/a", Answer(response(body, *fields)))
+            equal(body_of(said(proxy, "/a")[0]), body, f"body {number}")
+            wait_for_extent(proxy, "/a", len(body))
+        proxy.restart()
+        equal(kept_in(file_of(proxy, "/a"))[1], b"version 2", "the entry")
+
+
+# ---- kills under load
+
+
+def random_load(world, paths, bodies, choose, stops):
+    """Reads random bodies and parts until it is told to stop, and sees that no byte is wrong."""
+    while not stops.is_set():
+        path = choose.choice(paths)
+        body = bodies[path]
+        first = choose.randrange(len(body))
+        last = min(len(body) - 1, first + choose.choice((10, 5_000, 100_000, len(body))))
+        fields = [] if choose.random() < 0.5 else [b"Range: bytes=%d-%d" % (first, last)]
+        wanted = body[first : last + 1] if fields else body
+        try:
+            text = said(world, path, *fields)[0]
+        except OSError:
+            continue
+        came = body_of(text)
+        holds(wanted.startswith(came), f"a front of the bytes of {path} from {first} on in place of {came[:40]!r}..")
+
+
+@case
+@lasting(3 * KILLING_SECONDS)
+def no_reply_has_a_wrong_byte_through_kills_at_random_moments(world):
+    seed = random.randrange(1 << 32)
+    choose = random.Random(seed)
+    lengths = [5, 4095, 4096, 4097, 20_000, 65_536, 100_000, 300_000, 1_000_000, 3_000_000]
+    bodies = {f"/{number}": noise(length, 97 * number) for number, length in enumerate(lengths)}
+    try:
+        with world.anew("diskRun=4") as proxy:
+            for path, body in bodies.items():
+                serve_whole(proxy, path, body)
+            kills, deadline = 0, time.monotonic() + KILLING_SECONDS
+            while kills < KILLS and time.monotonic() < deadline:
+                stops = threading.Event()
+                failures = []
+                proxy_kills = lambda: (time.sleep(choose.uniform(0.02, 0.6)), proxy.stop(), stops.set())
+                readers = [lambda n=n: random_load(proxy, list(bodies), bodies, random.Random(seed + n + 100 * kills), stops) for n in range(4)]
+                for number, reader in enumerate(readers):
+                    reader.__name__ = f"reader {number}"
+                proxy_kills.__name__ = "kill"
+                failures = together([*readers, proxy_kills])
+                holds(not failures, f"no failure in place of {failures[:2]}")
+                kills += 1
+                for path, body in bodies.items():
+                    file = file_of(proxy, path)
+                    if file.exists():
+                        extent, data = kept_in(file)
+                        equal(data, body[:extent], f"what the folder vouches for of {path}")
+                before = {path: extent_of(proxy, path) for path in bodies}
+                proxy.start()
+                proxy.origin.clear()
+                for path, extent in before.items():
+                    if extent:
+                        span = b"Range: bytes=0-%d" % (extent - 1)
+                        text = said(proxy, path, ONLY_KEPT, span)[0]
+                        equal(body_of(text), bodies[path][:extent], f"the kept front of {path}")
+                equal([ask.path for ask in proxy.origin.asked if ask.path in bodies], [], "asks of the origin")
+            return f"{kills} kills"
+    except Failed as failure:
+        raise Failed(f"{failure}\n    with seed {seed}")
+
+
+# ---- folders that cannot be used
+
+
+def end_with_root(world, root, cwd):
+    """How the program ends that is to use this folder."""
+    done = ran([world.program, f"proxyPort={free_port()}", f"diskCacheRoot={root}"], cwd=cwd, stdin=subprocess.DEVNULL)
+    return done.returncode, done.stdout, done.stderr
+
+
+@case
+def a_folder_that_cannot_be_used_ends_the_program(world):
+    with tempfile.TemporaryDirectory() as cwd:
+        file = os.path.join(cwd, "file")
+        pathlib.Path(file).write_bytes(b"not a folder")
+        os.symlink("nowhere/at/all", os.path.join(cwd, "link"))
+        for root in (file, "file/below", "not/there", "link", "/proc/polipo", "/dev/null"):
+            equal(end_with_root(world, root, cwd), (4, b"", NO_DISK), f"status, output and complaint with the folder {root}")
+        equal(pathlib.Path(file).read_bytes(), b"not a folder", "the file")
+
+
+@case
+def a_folder_of_another_program_ends_the_program(world):
+    with world.anew() as proxy:
+        root = str(cache_of(proxy))
+        equal(end_with_root(world, root, proxy.folder.name), (4, b"", NO_DISK), "status, output and complaint")
+
+
+@case
+def a_folder_is_the_users_alone(world):
+    with world.anew() as proxy:
+        serve_whole(proxy, "/a", b"hello")
+        said(proxy, "/a")
+        wait_for_extent(proxy, "/a", 5)
+        equal(cache_of(proxy).stat().st_mode & 0o777, 0o700, "the folder's mode")
+        equal(file_of(proxy, "/a").stat().st_mode & 0o777, 0o600, "a file's mode")
+
+
+# ---- what clients do not see
+
+
+@case
+def foreign_and_damaged_files_are_passed_over(world):
+    body = noise(100_000)
+    with world.anew() as proxy:
+        serve_whole(proxy, "/a", body)
+        said(proxy, "/a")
+        wait_for_extent(proxy, "/a", len(body))
+        proxy.stop()
+        whole = file_of(proxy, "/a").read_bytes()
+        foreign = {
+            "0" * 32: b"",
+            "1" * 32: b"12345",
+            "2" * 32: bytes(20_000),
+            "3" * 32: noise(20_000),
+            "4" * 32: whole,
+            "notes": b"mine",
+            "draft.old": b"x",
+        }
+        for name, data in foreign.items():
+            (cache_of(proxy) / name).write_bytes(data)
+        choose = random.Random(11)
+        cuts = [0, 1, 8_191, 8_192, 8_193, 12_287, 12_288, 12_289, 20_000, len(whole) - 1] + [choose.randrange(len(whole)) for _ in range(3)]
+        for cut in cuts:
+            file_of(proxy, "/a").write_bytes(whole[:cut])
+            proxy.start()
+            proxy.origin.clear()
+            equal(body_of(said(proxy, "/a")[0]), body, f"the body where the entry has {cut} bytes")
+            proxy.stop()
+        for name, data in foreign.items():
+            equal((cache_of(proxy) / name).read_bytes(), data, f"the file {name}")
+        proxy.start()
+
+
+@case
+def a_full_disk_is_seen_by_no_client(world):
+    bodies = {f"/{number}": noise(length, number) for number, length in enumerate((5, 30_000, 300_000))}
+    with world.anew() as proxy:
+        proxy.stop()
+        limit = 10_000
+        script = f"ulimit -f {limit // 512}; trap '' XFSZ; exec \"$@\""
+        small = proxy.program
+        proxy.process = subprocess.Popen(
+            ["sh", "-c", script, "sh", small, f"proxyPort={proxy.port}"],
+            stdin=subprocess.DEVNULL,
+            stdout=proxy.output,
+            stderr=proxy.output,
+            cwd=proxy.folder.name,
+        )
+        if why := wait_until_it_listens(proxy.process, proxy.port):
+            raise Failed(f"    {why}")
+        for _time in (1, 2):
+            for path, body in bodies.items():
+                serve_whole(proxy, path, body)
+                equal(body_of(said(proxy, path)[0]), body, f"the body of {path}")
+        equal(len(proxy.origin.asked), len(bodies), "asks of the origin: what is in memory is served from there")
+        for path in bodies:
+            holds(extent_of(proxy, path) == 0, f"nothing of {path} in the folder")
+
+
+@case
+def a_file_that_goes_away_is_seen_by_no_client(world):
+    body = noise(300_000)
+    with world.anew() as proxy:
+        serve_whole(proxy, "/a", body)
+        said(proxy, "/a")
+        wait_for_extent(proxy, "/a", len(body))
+        proxy.restart()
+        file_of(proxy, "/a").unlink()
+        equal(body_of(said(proxy, "/a")[0]), body, "the body whose file is gone")
+
+
+@case
+def a_disk_that_is_full_keeps_what_it_has_and_goes_on_where_there_is_room(world):
+    bodies = {f"/{number}": noise(20_000, number) for number in range(20)}
+    with small("256k") as place, world.anew(f"diskCacheRoot={place}/cache") as proxy:
+        folder = pathlib.Path(place) / "cache"
+        for path, body in bodies.items():
+            serve_whole(proxy, path, body)
+            equal(body_of(said(proxy, path)[0]), body, f"the body of {path}")
+        proxy.restart()
+        proxy.origin.clear()
+        served = [path for path, body in bodies.items() if body_of(said(proxy, path, ONLY_KEPT)[0]) == body]
+        holds(0 < len(served) < len(bodies), f"some bodies from the disk, and not all ({len(served)})")
+        equal([ask for ask in proxy.origin.asked if ask.path in bodies], [], "asks of the origin")
+        holds(called("mount", "-o", "remount,size=4m", place), "more room")
+        # A draft that failed is followed by none before the next tick.
+        time.sleep(1.5)
+        for path, body in bodies.items():
+            serve_whole(proxy, path, body)
+            equal(body_of(said(proxy, path)[0]), body, f"the body of {path}")
+        kept_now = {file.name: kept_in(file) for file in folder.iterdir() if len(file.name) == 32}
+        for path, body in bodies.items():
+            name = hashlib.md5(proxy.url(path).encode()).hexdigest()
+            equal(kept_now.get(name), (len(body), body), f"the entry of {path}")
+
+
+@case
+def a_folder_that_may_not_be_written_any_more_is_seen_by_no_client(world):
+    bodies = {f"/{number}": noise(20_000, number) for number in range(6)}
+    with small("4m") as place, world.anew(f"diskCacheRoot={place}/cache") as proxy:
+        for path, body in list(bodies.items())[:3]:
+            serve_whole(proxy, path, body)
+            equal(body_of(said(proxy, path)[0]), body, f"the body of {path}")
+        proxy.stop()
+        holds(called("mount", "-o", "remount,ro", place), "a file system that is not written")
+        proxy.start()
+        for path, body in list(bodies.items())[:3]:
+            equal(body_of(said(proxy, path, ONLY_KEPT)[0]), body, f"the body of {path} from the disk")
+        for path, body in list(bodies.items())[3:]:
+            serve_whole(proxy, path, body)
+            for _time in (1, 2):
+                equal(body_of(said(proxy, path)[0]), body, f"the body of {path}, which is not kept")
+
+
+# ---- what is called, and in which order
+
+
+@case
+def what_is_kept_is_synced_in_order_and_a_hit_from_memory_calls_no_file(world):
+    need("strace")
+    with tempfile.TemporaryDirectory() as place:
+        trace, traced = pathlib.Path(place) / "trace", pathlib.Path(place) / "traced"
+        # The tracer stands beside the program, so that a kill is the program's.
+        traced.write_text(f"#!/bin/sh\nexec {' '.join(TRACE)} {trace} -D {world.program} \"$@\"\n")
+        traced.chmod(0o700)
+        proxy = type(world)(str(traced), free_port())
+        try:
+            calls = lambda: calls_in(trace.read_text(), "polipo-cache")
+            before = calls()
+            equal(before, ["sync folder"], "the calls of the opening")
+            serve_whole(proxy, "/small", b"hello")
+            said(proxy, "/small")
+            wait_for_extent(proxy, "/small", 5)
+            small_calls = ["open draft", "write draft 12293", *PUBLISHED]
+            equal(calls()[len(before) :], small_calls, "the calls for a small body")
+            long = noise(16 * CHUNK + 100)
+            serve_whole(proxy, "/long", long)
+            said(proxy, "/long")
+            wait_for_extent(proxy, "/long", len(long))
+            before += small_calls
+            wanted = [
+                "close",
+                *["open draft", "write draft 12288", *PUBLISHED],
+                *["write draft 65536 at 12288", "sync draft", "write draft 16 at 8192", "sync draft"],
+                *["write draft 100 at 77824", "sync draft", "write draft 1 at 8208", "sync draft"],
+            ]
+            came = calls()[len(before) :]
+            equal(sorted(came), sorted(wanted), "the calls for a long body")
+            equal([call for call in came if call != "close"], wanted[1:], "the calls for a long body, in order")
+            before += came
+            for _hit in range(50):
+                equal(body_of(said(proxy, "/small")[0]), b"hello", "a hit")
+            equal(calls()[len(before) :], [], "the calls for hits")
+        finally:
+            proxy.stop()
