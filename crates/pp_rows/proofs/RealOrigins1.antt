@@ -218,52 +218,52 @@ abbrev text61 : Bytes
 text61 = (codes "GET http://h/l HTTP/1.1\r\nRange: bytes=1000000-1000003\r\n\r\n")
 
 abbrev text62 : Bytes
-text62 = (codes "GET /l HTTP/1.1\r\nhost: h\r\nrange: bytes=2998272-3000003\r\nvia: 1.1 polipo\r\n\r\n")
+text62 = (codes "GET http://h/l HTTP/1.1\r\nRange: bytes=1499136-1999999\r\n\r\n")
 
 abbrev text63 : Bytes
-text63 = (replicate 4094 97)
+text63 = (codes "GET /l HTTP/1.1\r\nhost: h\r\nrange: bytes=1499136-1999999\r\nif-range: \"x\"\r\nvia: 1.1 polipo\r\n\r\n")
 
 abbrev text64 : Bytes
-text64 = (codes "GET /l HTTP/1.1\r\nhost: h\r\nrange: bytes=2998272-3000003\r\nif-range: \"x\"\r\nvia: 1.1 polipo\r\n\r\n")
+text64 = (codes "HTTP/1.1 206 Partial Content\r\nETag: \"x\"\r\nContent-Range: bytes 1499136-1999999/4000000\r\nContent-Length: 500864\r\n\r\nmm")
 
 abbrev text65 : Bytes
-text65 = (codes "HTTP/1.1 200 OK\r\nETag: \"y\"\r\nCache-Control: max-age=60\r\nContent-Length: 4000000\r\n\r\nab")
+text65 = (codes "GET http://h/l HTTP/1.1\r\nRange: bytes=2998272-\r\n\r\n")
 
 abbrev text66 : Bytes
-text66 = (codes "HTTP/1.1 200 OK\r\nDate: Sun, 06 Nov 1994 08:49:37 GMT\r\nETag: \"x\"\r\nLast-Modified: Thu, 27 Oct 1994 08:49:37 GMT\r\nContent-Length: 5\r\n\r\nhello")
+text66 = (codes "GET /l HTTP/1.1\r\nhost: h\r\nrange: bytes=2998272-3000003\r\nvia: 1.1 polipo\r\n\r\n")
 
 abbrev text67 : Bytes
-text67 = (codes "GET http://h/a?b HTTP/1.1\r\n\r\n")
+text67 = (replicate 4094 97)
 
 abbrev text68 : Bytes
-text68 = (codes "GET /a?b HTTP/1.1\r\nhost: h\r\nvia: 1.1 polipo\r\n\r\n")
+text68 = (codes "GET /l HTTP/1.1\r\nhost: h\r\nrange: bytes=2998272-3000003\r\nif-range: \"x\"\r\nvia: 1.1 polipo\r\n\r\n")
 
 abbrev text69 : Bytes
-text69 = (codes "GET http://h/a HTTP/1.1\r\nCookie: c=d\r\n\r\n")
+text69 = (codes "HTTP/1.1 200 OK\r\nETag: \"y\"\r\nCache-Control: max-age=60\r\nContent-Length: 4000000\r\n\r\nab")
 
 abbrev text70 : Bytes
-text70 = (codes "GET /a HTTP/1.1\r\nhost: h\r\ncookie: c=d\r\nvia: 1.1 polipo\r\n\r\n")
+text70 = (codes "HTTP/1.1 200 OK\r\nDate: Sun, 06 Nov 1994 08:49:37 GMT\r\nETag: \"x\"\r\nLast-Modified: Thu, 27 Oct 1994 08:49:37 GMT\r\nContent-Length: 5\r\n\r\nhello")
 
 abbrev text71 : Bytes
-text71 = (codes "GET http://h/a HTTP/1.1\r\nAccept-Encoding: gzip\r\n\r\n")
+text71 = (codes "GET http://h/a?b HTTP/1.1\r\n\r\n")
 
 abbrev text72 : Bytes
-text72 = (codes "GET /a HTTP/1.1\r\nhost: h\r\naccept-encoding: gzip\r\nvia: 1.1 polipo\r\n\r\n")
+text72 = (codes "GET /a?b HTTP/1.1\r\nhost: h\r\nvia: 1.1 polipo\r\n\r\n")
 
 abbrev text73 : Bytes
-text73 = (codes "HTTP/1.1 200 OK\r\nETag: \"x\"\r\nCache-Control: max-age=60\r\nContent-Encoding: gzip\r\nContent-Length: 5\r\n\r\nhello")
+text73 = (codes "GET http://h/a HTTP/1.1\r\nCookie: c=d\r\n\r\n")
 
 abbrev text74 : Bytes
-text74 = (codes "CONNECT http://h/a HTTP/1.1\r\n\r\n")
+text74 = (codes "GET /a HTTP/1.1\r\nhost: h\r\ncookie: c=d\r\nvia: 1.1 polipo\r\n\r\n")
 
 abbrev text75 : Bytes
-text75 = (codes "GET http://h/a HTTP/1.1\r\nHost: h\r\n\r\n")
-
-abbrev front5 : Log
-front5 = Woke [] ∷ Rooted text0 ∷ Listed true ∷ Listens 8123 true ∷ wait true [] [] ∷ Clock 784111777 ∷ wait true [] [] ∷ Opened 1 ∷ wait true (1 ∷ []) [] ∷ CanRead 1 ∷ Heard 1 text75 ∷ Noted (Taken 1 0 Fetch) ∷ Dialled 2 (codes "h") 80 ∷ wait true (1 ∷ []) [] ∷ Reached 2 ∷ wait true (1 ∷ 2 ∷ []) (2 ∷ []) ∷ CanWrite 2 ∷ Asked 2 text2 ∷ wait true (1 ∷ 2 ∷ []) [] ∷ []
+text75 = (codes "GET http://h/a HTTP/1.1\r\nAccept-Encoding: gzip\r\n\r\n")
 
 abbrev text76 : Bytes
-text76 = (codes "HTTP/1.1 099 Odd\r\nContent-Length: 2\r\n\r\nhi")
+text76 = (codes "GET /a HTTP/1.1\r\nhost: h\r\naccept-encoding: gzip\r\nvia: 1.1 polipo\r\n\r\n")
+
+abbrev text77 : Bytes
+text77 = (codes "HTTP/1.1 200 OK\r\nETag: \"x\"\r\nCache-Control: max-age=60\r\nContent-Encoding: gzip\r\nContent-Length: 5\r\n\r\nhello")
 
 row42 : fault_from 0 (start (record { words = []; faults = 0 } ∷ [])) (front0 ++ Heard 1 text1 ∷ Noted (Taken 1 0 Fetch) ∷ Dialled 2 (codes "h") 80 ∷ wait true (1 ∷ []) [] ∷ Reached 2 ∷ wait true (1 ∷ 2 ∷ []) (2 ∷ []) ∷ CanWrite 2 ∷ Asked 2 text2 ∷ wait true (1 ∷ 2 ∷ []) [] ∷ CanRead 2 ∷ Got 2 text3 ∷ Noted (Taken 1 0 (Hit 0 5)) ∷ wait true (1 ∷ 2 ∷ []) (1 ∷ []) ∷ CanWrite 1 ∷ Said 1 153 text4 ∷ wait true (1 ∷ 2 ∷ []) (1 ∷ []) ∷ CanWrite 1 ∷ Said 1 5 (codes "hello") ∷ wait true (1 ∷ 2 ∷ []) [] ∷ Clock 784111779 ∷ wait true (1 ∷ 2 ∷ []) [] ∷ Opened 3 ∷ wait true (1 ∷ 2 ∷ 3 ∷ []) [] ∷ CanRead 3 ∷ Heard 3 text1 ∷ Noted (Taken 3 0 Validate) ∷ wait true (1 ∷ 2 ∷ []) (2 ∷ []) ∷ CanWrite 2 ∷ Asked 2 text5 ∷ wait true (1 ∷ 2 ∷ []) [] ∷ CanRead 2 ∷ Got 2 text6 ∷ Noted (Taken 3 0 Fetch) ∷ wait true (1 ∷ []) (2 ∷ []) ∷ []) ≡ None
 unfolding judging
@@ -465,58 +465,58 @@ row650 : fault_from 0 (start (record { words = []; faults = 0 } ∷ [])) (front0
 unfolding judging
 row650 = refl
 
-row672 : fault_from 0 (start (record { words = []; faults = 0 } ∷ [])) (front0 ++ Heard 1 text60 ∷ Noted (Taken 1 0 Fetch) ∷ Dialled 2 (codes "h") 80 ∷ wait true [] [] ∷ Reached 2 ∷ wait true [] (2 ∷ []) ∷ CanWrite 2 ∷ Asked 2 text62 ∷ wait true (2 ∷ []) [] ∷ CanRead 2 ∷ Got 2 text59 ∷ Noted (Taken 1 0 (Part 3000000 3000004)) ∷ wait true (2 ∷ []) [] ∷ CanRead 2 ∷ Got 2 text63 ∷ wait true (2 ∷ []) [] ∷ []) ≡ None
+row683 : fault_from 0 (start (record { words = []; faults = 0 } ∷ [])) (front0 ++ Heard 1 text57 ∷ Noted (Taken 1 0 Fetch) ∷ Dialled 2 (codes "h") 80 ∷ wait true [] [] ∷ Reached 2 ∷ wait true [] (2 ∷ []) ∷ CanWrite 2 ∷ Asked 2 text58 ∷ wait true (2 ∷ []) [] ∷ CanRead 2 ∷ Got 2 text59 ∷ Noted (Taken 1 0 (Part 0 4000000)) ∷ wait true (2 ∷ []) (1 ∷ []) ∷ Opened 3 ∷ wait true (2 ∷ 3 ∷ []) (1 ∷ []) ∷ CanRead 3 ∷ Heard 3 text62 ∷ Noted (Taken 3 0 (Part 1499136 2000000)) ∷ Dialled 4 (codes "h") 80 ∷ wait true (2 ∷ []) (1 ∷ []) ∷ Reached 4 ∷ wait true (2 ∷ []) (1 ∷ 4 ∷ []) ∷ CanWrite 4 ∷ Asked 4 text63 ∷ wait true (2 ∷ 4 ∷ []) (1 ∷ []) ∷ CanRead 4 ∷ Got 4 text64 ∷ wait true (2 ∷ 4 ∷ []) (1 ∷ 3 ∷ []) ∷ Opened 5 ∷ wait true (2 ∷ 4 ∷ 5 ∷ []) (1 ∷ 3 ∷ []) ∷ CanRead 5 ∷ Heard 5 text65 ∷ Noted (Taken 5 0 (Part 2998272 4000000)) ∷ Dialled 6 (codes "h") 80 ∷ wait true (2 ∷ 4 ∷ []) (1 ∷ 3 ∷ []) ∷ CanWrite 3 ∷ HungUp 3 ∷ Shut 3 ∷ wait true (2 ∷ []) (1 ∷ []) ∷ []) ≡ None
 unfolding judging
-row672 = refl
+row683 = refl
 
-row679 : fault_from 0 (start (record { words = []; faults = 0 } ∷ [])) (front0 ++ Heard 1 text60 ∷ Noted (Taken 1 0 Fetch) ∷ Dialled 2 (codes "h") 80 ∷ wait true [] [] ∷ Reached 2 ∷ wait true [] (2 ∷ []) ∷ CanWrite 2 ∷ Asked 2 text62 ∷ wait true (2 ∷ []) [] ∷ CanRead 2 ∷ Got 2 text59 ∷ Noted (Taken 1 0 (Part 3000000 3000004)) ∷ Dialled 3 (codes "h") 80 ∷ []) ≡ Some (record { at = 22; rule = NotToBeDialled })
+row687 : fault_from 0 (start (record { words = []; faults = 0 } ∷ [])) (front0 ++ Heard 1 text57 ∷ Noted (Taken 1 0 Fetch) ∷ Dialled 2 (codes "h") 80 ∷ wait true [] [] ∷ Reached 2 ∷ wait true [] (2 ∷ []) ∷ CanWrite 2 ∷ Asked 2 text58 ∷ wait true (2 ∷ []) [] ∷ CanRead 2 ∷ Got 2 text59 ∷ Noted (Taken 1 0 (Part 0 4000000)) ∷ wait true (2 ∷ []) (1 ∷ []) ∷ Opened 3 ∷ wait true (2 ∷ 3 ∷ []) (1 ∷ []) ∷ CanRead 3 ∷ Heard 3 text62 ∷ Noted (Taken 3 0 (Part 1499136 2000000)) ∷ Dialled 4 (codes "h") 80 ∷ wait true (2 ∷ []) (1 ∷ []) ∷ Reached 4 ∷ wait true (2 ∷ []) (1 ∷ 4 ∷ []) ∷ CanWrite 4 ∷ Asked 4 text63 ∷ wait true (2 ∷ 4 ∷ []) (1 ∷ []) ∷ CanRead 4 ∷ Got 4 text64 ∷ wait true (2 ∷ 4 ∷ []) (1 ∷ 3 ∷ []) ∷ Opened 5 ∷ wait true (2 ∷ 4 ∷ 5 ∷ []) (1 ∷ 3 ∷ []) ∷ CanRead 5 ∷ Heard 5 text65 ∷ Noted (Taken 5 0 (Part 2998272 4000000)) ∷ Dialled 6 (codes "h") 80 ∷ wait true (2 ∷ 4 ∷ []) (1 ∷ 3 ∷ []) ∷ CanWrite 3 ∷ HungUp 3 ∷ Shut 3 ∷ wait true (2 ∷ 4 ∷ []) (1 ∷ []) ∷ []) ≡ Some (record { at = 48; rule = ConnectionForgotten })
 unfolding judging
-row679 = refl
+row687 = refl
 
-row706 : fault_from 0 (start (record { words = []; faults = 0 } ∷ [])) (front0 ++ Heard 1 text57 ∷ Noted (Taken 1 0 Fetch) ∷ Dialled 2 (codes "h") 80 ∷ wait true [] [] ∷ Reached 2 ∷ wait true [] (2 ∷ []) ∷ CanWrite 2 ∷ Asked 2 text58 ∷ wait true (2 ∷ []) [] ∷ CanRead 2 ∷ Got 2 text59 ∷ Noted (Taken 1 0 (Part 0 4000000)) ∷ wait true (2 ∷ []) (1 ∷ []) ∷ Opened 3 ∷ wait true (2 ∷ 3 ∷ []) (1 ∷ []) ∷ CanRead 3 ∷ Heard 3 text60 ∷ Noted (Taken 3 0 (Part 3000000 3000004)) ∷ Dialled 4 (codes "h") 80 ∷ wait true (2 ∷ []) (1 ∷ []) ∷ Reached 4 ∷ wait true (2 ∷ []) (1 ∷ 4 ∷ []) ∷ CanWrite 4 ∷ Asked 4 text64 ∷ wait true (2 ∷ 4 ∷ []) (1 ∷ []) ∷ CanRead 4 ∷ Got 4 text59 ∷ wait true (2 ∷ 4 ∷ []) (1 ∷ []) ∷ []) ≡ None
+row709 : fault_from 0 (start (record { words = []; faults = 0 } ∷ [])) (front0 ++ Heard 1 text60 ∷ Noted (Taken 1 0 Fetch) ∷ Dialled 2 (codes "h") 80 ∷ wait true [] [] ∷ Reached 2 ∷ wait true [] (2 ∷ []) ∷ CanWrite 2 ∷ Asked 2 text66 ∷ wait true (2 ∷ []) [] ∷ CanRead 2 ∷ Got 2 text59 ∷ Noted (Taken 1 0 (Part 3000000 3000004)) ∷ wait true (2 ∷ []) [] ∷ CanRead 2 ∷ Got 2 text67 ∷ wait true (2 ∷ []) [] ∷ []) ≡ None
 unfolding judging
-row706 = refl
+row709 = refl
 
-row710 : fault_from 0 (start (record { words = []; faults = 0 } ∷ [])) (front0 ++ Heard 1 text57 ∷ Noted (Taken 1 0 Fetch) ∷ Dialled 2 (codes "h") 80 ∷ wait true [] [] ∷ Reached 2 ∷ wait true [] (2 ∷ []) ∷ CanWrite 2 ∷ Asked 2 text58 ∷ wait true (2 ∷ []) [] ∷ CanRead 2 ∷ Got 2 text59 ∷ Noted (Taken 1 0 (Part 0 4000000)) ∷ wait true (2 ∷ []) (1 ∷ []) ∷ Opened 3 ∷ wait true (2 ∷ 3 ∷ []) (1 ∷ []) ∷ CanRead 3 ∷ Heard 3 text60 ∷ Noted (Taken 3 0 (Part 3000000 3000004)) ∷ Dialled 4 (codes "h") 80 ∷ wait true (2 ∷ []) (1 ∷ []) ∷ Reached 4 ∷ wait true (2 ∷ []) (1 ∷ 4 ∷ []) ∷ CanWrite 4 ∷ Asked 4 text64 ∷ wait true (2 ∷ 4 ∷ []) (1 ∷ []) ∷ CanRead 4 ∷ Got 4 text59 ∷ Dialled 5 (codes "h") 80 ∷ []) ≡ Some (record { at = 37; rule = NotToBeDialled })
+row716 : fault_from 0 (start (record { words = []; faults = 0 } ∷ [])) (front0 ++ Heard 1 text60 ∷ Noted (Taken 1 0 Fetch) ∷ Dialled 2 (codes "h") 80 ∷ wait true [] [] ∷ Reached 2 ∷ wait true [] (2 ∷ []) ∷ CanWrite 2 ∷ Asked 2 text66 ∷ wait true (2 ∷ []) [] ∷ CanRead 2 ∷ Got 2 text59 ∷ Noted (Taken 1 0 (Part 3000000 3000004)) ∷ Dialled 3 (codes "h") 80 ∷ []) ≡ Some (record { at = 22; rule = NotToBeDialled })
 unfolding judging
-row710 = refl
+row716 = refl
 
-row715 : fault_from 0 (start (record { words = []; faults = 0 } ∷ [])) (front0 ++ Heard 1 text57 ∷ Noted (Taken 1 0 Fetch) ∷ Dialled 2 (codes "h") 80 ∷ wait true [] [] ∷ Reached 2 ∷ wait true [] (2 ∷ []) ∷ CanWrite 2 ∷ Asked 2 text58 ∷ wait true (2 ∷ []) [] ∷ CanRead 2 ∷ Got 2 text59 ∷ Noted (Taken 1 0 (Part 0 4000000)) ∷ wait true (2 ∷ []) (1 ∷ []) ∷ Opened 3 ∷ wait true (2 ∷ 3 ∷ []) (1 ∷ []) ∷ CanRead 3 ∷ Heard 3 text60 ∷ Noted (Taken 3 0 (Part 3000000 3000004)) ∷ Dialled 4 (codes "h") 80 ∷ wait true (2 ∷ []) (1 ∷ []) ∷ Reached 4 ∷ wait true (2 ∷ []) (1 ∷ 4 ∷ []) ∷ CanWrite 4 ∷ Asked 4 text64 ∷ wait true (2 ∷ 4 ∷ []) (1 ∷ []) ∷ CanRead 4 ∷ Got 4 text65 ∷ Noted (Taken 3 0 (Part 3000000 3000004)) ∷ Dialled 5 (codes "h") 80 ∷ wait true (2 ∷ 4 ∷ []) (1 ∷ []) ∷ []) ≡ None
+row743 : fault_from 0 (start (record { words = []; faults = 0 } ∷ [])) (front0 ++ Heard 1 text57 ∷ Noted (Taken 1 0 Fetch) ∷ Dialled 2 (codes "h") 80 ∷ wait true [] [] ∷ Reached 2 ∷ wait true [] (2 ∷ []) ∷ CanWrite 2 ∷ Asked 2 text58 ∷ wait true (2 ∷ []) [] ∷ CanRead 2 ∷ Got 2 text59 ∷ Noted (Taken 1 0 (Part 0 4000000)) ∷ wait true (2 ∷ []) (1 ∷ []) ∷ Opened 3 ∷ wait true (2 ∷ 3 ∷ []) (1 ∷ []) ∷ CanRead 3 ∷ Heard 3 text60 ∷ Noted (Taken 3 0 (Part 3000000 3000004)) ∷ Dialled 4 (codes "h") 80 ∷ wait true (2 ∷ []) (1 ∷ []) ∷ Reached 4 ∷ wait true (2 ∷ []) (1 ∷ 4 ∷ []) ∷ CanWrite 4 ∷ Asked 4 text68 ∷ wait true (2 ∷ 4 ∷ []) (1 ∷ []) ∷ CanRead 4 ∷ Got 4 text59 ∷ wait true (2 ∷ 4 ∷ []) (1 ∷ []) ∷ []) ≡ None
 unfolding judging
-row715 = refl
+row743 = refl
 
-row720 : fault_from 0 (start (record { words = []; faults = 0 } ∷ [])) (front0 ++ Heard 1 text57 ∷ Noted (Taken 1 0 Fetch) ∷ Dialled 2 (codes "h") 80 ∷ wait true [] [] ∷ Reached 2 ∷ wait true [] (2 ∷ []) ∷ CanWrite 2 ∷ Asked 2 text58 ∷ wait true (2 ∷ []) [] ∷ CanRead 2 ∷ Got 2 text59 ∷ Noted (Taken 1 0 (Part 0 4000000)) ∷ wait true (2 ∷ []) (1 ∷ []) ∷ Opened 3 ∷ wait true (2 ∷ 3 ∷ []) (1 ∷ []) ∷ CanRead 3 ∷ Heard 3 text60 ∷ Noted (Taken 3 0 (Part 3000000 3000004)) ∷ Dialled 4 (codes "h") 80 ∷ wait true (2 ∷ []) (1 ∷ []) ∷ Reached 4 ∷ wait true (2 ∷ []) (1 ∷ 4 ∷ []) ∷ CanWrite 4 ∷ Asked 4 text64 ∷ wait true (2 ∷ 4 ∷ []) (1 ∷ []) ∷ CanRead 4 ∷ Got 4 text65 ∷ Noted (Taken 3 0 (Part 3000000 3000004)) ∷ wait true (2 ∷ 4 ∷ []) (1 ∷ []) ∷ []) ≡ Some (record { at = 38; rule = StepUnfinished })
+row747 : fault_from 0 (start (record { words = []; faults = 0 } ∷ [])) (front0 ++ Heard 1 text57 ∷ Noted (Taken 1 0 Fetch) ∷ Dialled 2 (codes "h") 80 ∷ wait true [] [] ∷ Reached 2 ∷ wait true [] (2 ∷ []) ∷ CanWrite 2 ∷ Asked 2 text58 ∷ wait true (2 ∷ []) [] ∷ CanRead 2 ∷ Got 2 text59 ∷ Noted (Taken 1 0 (Part 0 4000000)) ∷ wait true (2 ∷ []) (1 ∷ []) ∷ Opened 3 ∷ wait true (2 ∷ 3 ∷ []) (1 ∷ []) ∷ CanRead 3 ∷ Heard 3 text60 ∷ Noted (Taken 3 0 (Part 3000000 3000004)) ∷ Dialled 4 (codes "h") 80 ∷ wait true (2 ∷ []) (1 ∷ []) ∷ Reached 4 ∷ wait true (2 ∷ []) (1 ∷ 4 ∷ []) ∷ CanWrite 4 ∷ Asked 4 text68 ∷ wait true (2 ∷ 4 ∷ []) (1 ∷ []) ∷ CanRead 4 ∷ Got 4 text59 ∷ Dialled 5 (codes "h") 80 ∷ []) ≡ Some (record { at = 37; rule = NotToBeDialled })
 unfolding judging
-row720 = refl
+row747 = refl
 
-row783 : fault_from 0 (start (record { words = []; faults = 0 } ∷ [])) (front0 ++ Heard 1 text1 ∷ Noted (Taken 1 0 Fetch) ∷ Dialled 2 (codes "h") 80 ∷ wait true [] [] ∷ Reached 2 ∷ wait true [] (2 ∷ []) ∷ CanWrite 2 ∷ Asked 2 text2 ∷ wait true (2 ∷ []) [] ∷ CanRead 2 ∷ Got 2 text66 ∷ Noted (Taken 1 0 (Hit 0 5)) ∷ wait true (2 ∷ []) (1 ∷ []) ∷ Opened 3 ∷ wait true (2 ∷ 3 ∷ []) (1 ∷ []) ∷ CanRead 3 ∷ Heard 3 text1 ∷ Noted (Taken 3 0 (Hit 0 5)) ∷ []) ≡ None
+row752 : fault_from 0 (start (record { words = []; faults = 0 } ∷ [])) (front0 ++ Heard 1 text57 ∷ Noted (Taken 1 0 Fetch) ∷ Dialled 2 (codes "h") 80 ∷ wait true [] [] ∷ Reached 2 ∷ wait true [] (2 ∷ []) ∷ CanWrite 2 ∷ Asked 2 text58 ∷ wait true (2 ∷ []) [] ∷ CanRead 2 ∷ Got 2 text59 ∷ Noted (Taken 1 0 (Part 0 4000000)) ∷ wait true (2 ∷ []) (1 ∷ []) ∷ Opened 3 ∷ wait true (2 ∷ 3 ∷ []) (1 ∷ []) ∷ CanRead 3 ∷ Heard 3 text60 ∷ Noted (Taken 3 0 (Part 3000000 3000004)) ∷ Dialled 4 (codes "h") 80 ∷ wait true (2 ∷ []) (1 ∷ []) ∷ Reached 4 ∷ wait true (2 ∷ []) (1 ∷ 4 ∷ []) ∷ CanWrite 4 ∷ Asked 4 text68 ∷ wait true (2 ∷ 4 ∷ []) (1 ∷ []) ∷ CanRead 4 ∷ Got 4 text69 ∷ Noted (Taken 3 0 (Part 3000000 3000004)) ∷ Dialled 5 (codes "h") 80 ∷ wait true (2 ∷ 4 ∷ []) (1 ∷ []) ∷ []) ≡ None
 unfolding judging
-row783 = refl
+row752 = refl
 
-row788 : fault_from 0 (start (record { words = []; faults = 0 } ∷ [])) (front0 ++ Heard 1 text67 ∷ Noted (Taken 1 0 Fetch) ∷ Dialled 2 (codes "h") 80 ∷ wait true [] [] ∷ Reached 2 ∷ wait true [] (2 ∷ []) ∷ CanWrite 2 ∷ Asked 2 text68 ∷ wait true (2 ∷ []) [] ∷ CanRead 2 ∷ Got 2 text66 ∷ Noted (Taken 1 0 (Hit 0 5)) ∷ wait true (2 ∷ []) (1 ∷ []) ∷ Opened 3 ∷ wait true (2 ∷ 3 ∷ []) (1 ∷ []) ∷ CanRead 3 ∷ Heard 3 text67 ∷ Noted (Taken 3 0 Validate) ∷ []) ≡ None
+row757 : fault_from 0 (start (record { words = []; faults = 0 } ∷ [])) (front0 ++ Heard 1 text57 ∷ Noted (Taken 1 0 Fetch) ∷ Dialled 2 (codes "h") 80 ∷ wait true [] [] ∷ Reached 2 ∷ wait true [] (2 ∷ []) ∷ CanWrite 2 ∷ Asked 2 text58 ∷ wait true (2 ∷ []) [] ∷ CanRead 2 ∷ Got 2 text59 ∷ Noted (Taken 1 0 (Part 0 4000000)) ∷ wait true (2 ∷ []) (1 ∷ []) ∷ Opened 3 ∷ wait true (2 ∷ 3 ∷ []) (1 ∷ []) ∷ CanRead 3 ∷ Heard 3 text60 ∷ Noted (Taken 3 0 (Part 3000000 3000004)) ∷ Dialled 4 (codes "h") 80 ∷ wait true (2 ∷ []) (1 ∷ []) ∷ Reached 4 ∷ wait true (2 ∷ []) (1 ∷ 4 ∷ []) ∷ CanWrite 4 ∷ Asked 4 text68 ∷ wait true (2 ∷ 4 ∷ []) (1 ∷ []) ∷ CanRead 4 ∷ Got 4 text69 ∷ Noted (Taken 3 0 (Part 3000000 3000004)) ∷ wait true (2 ∷ 4 ∷ []) (1 ∷ []) ∷ []) ≡ Some (record { at = 38; rule = StepUnfinished })
 unfolding judging
-row788 = refl
+row757 = refl
 
-row793 : fault_from 0 (start (record { words = []; faults = 0 } ∷ [])) (front0 ++ Heard 1 text69 ∷ Noted (Taken 1 0 Fetch) ∷ Dialled 2 (codes "h") 80 ∷ wait true [] [] ∷ Reached 2 ∷ wait true [] (2 ∷ []) ∷ CanWrite 2 ∷ Asked 2 text70 ∷ wait true (2 ∷ []) [] ∷ CanRead 2 ∷ Got 2 text66 ∷ Noted (Taken 1 0 (Hit 0 5)) ∷ wait true (2 ∷ []) (1 ∷ []) ∷ Opened 3 ∷ wait true (2 ∷ 3 ∷ []) (1 ∷ []) ∷ CanRead 3 ∷ Heard 3 text1 ∷ Noted (Taken 3 0 Validate) ∷ []) ≡ None
+row820 : fault_from 0 (start (record { words = []; faults = 0 } ∷ [])) (front0 ++ Heard 1 text1 ∷ Noted (Taken 1 0 Fetch) ∷ Dialled 2 (codes "h") 80 ∷ wait true [] [] ∷ Reached 2 ∷ wait true [] (2 ∷ []) ∷ CanWrite 2 ∷ Asked 2 text2 ∷ wait true (2 ∷ []) [] ∷ CanRead 2 ∷ Got 2 text70 ∷ Noted (Taken 1 0 (Hit 0 5)) ∷ wait true (2 ∷ []) (1 ∷ []) ∷ Opened 3 ∷ wait true (2 ∷ 3 ∷ []) (1 ∷ []) ∷ CanRead 3 ∷ Heard 3 text1 ∷ Noted (Taken 3 0 (Hit 0 5)) ∷ []) ≡ None
 unfolding judging
-row793 = refl
+row820 = refl
 
-row798 : fault_from 0 (start (record { words = []; faults = 0 } ∷ [])) (front0 ++ Heard 1 text69 ∷ Noted (Taken 1 0 Fetch) ∷ Dialled 2 (codes "h") 80 ∷ wait true [] [] ∷ Reached 2 ∷ wait true [] (2 ∷ []) ∷ CanWrite 2 ∷ Asked 2 text70 ∷ wait true (2 ∷ []) [] ∷ CanRead 2 ∷ Got 2 text66 ∷ Noted (Taken 1 0 (Hit 0 5)) ∷ wait true (2 ∷ []) (1 ∷ []) ∷ Opened 3 ∷ wait true (2 ∷ 3 ∷ []) (1 ∷ []) ∷ CanRead 3 ∷ Heard 3 text1 ∷ Noted (Taken 3 0 (Hit 0 5)) ∷ []) ≡ Some (record { at = 27; rule = WrongDecision })
+row825 : fault_from 0 (start (record { words = []; faults = 0 } ∷ [])) (front0 ++ Heard 1 text71 ∷ Noted (Taken 1 0 Fetch) ∷ Dialled 2 (codes "h") 80 ∷ wait true [] [] ∷ Reached 2 ∷ wait true [] (2 ∷ []) ∷ CanWrite 2 ∷ Asked 2 text72 ∷ wait true (2 ∷ []) [] ∷ CanRead 2 ∷ Got 2 text70 ∷ Noted (Taken 1 0 (Hit 0 5)) ∷ wait true (2 ∷ []) (1 ∷ []) ∷ Opened 3 ∷ wait true (2 ∷ 3 ∷ []) (1 ∷ []) ∷ CanRead 3 ∷ Heard 3 text71 ∷ Noted (Taken 3 0 Validate) ∷ []) ≡ None
 unfolding judging
-row798 = refl
+row825 = refl
 
-row818 : fault_from 0 (start (record { words = []; faults = 0 } ∷ [])) (front0 ++ Heard 1 text71 ∷ Noted (Taken 1 0 Fetch) ∷ Dialled 2 (codes "h") 80 ∷ wait true [] [] ∷ Reached 2 ∷ wait true [] (2 ∷ []) ∷ CanWrite 2 ∷ Asked 2 text72 ∷ wait true (2 ∷ []) [] ∷ CanRead 2 ∷ Got 2 text73 ∷ Noted (Taken 1 0 Relay) ∷ wait true (2 ∷ []) (1 ∷ []) ∷ []) ≡ None
-unfolding judging
-row818 = refl
-
-row823 : fault_from 0 (start (record { words = []; faults = 0 } ∷ [])) (front0 ++ Heard 1 text71 ∷ Noted (Taken 1 0 Fetch) ∷ Dialled 2 (codes "h") 80 ∷ wait true [] [] ∷ Reached 2 ∷ wait true [] (2 ∷ []) ∷ CanWrite 2 ∷ Asked 2 text72 ∷ wait true (2 ∷ []) [] ∷ CanRead 2 ∷ Got 2 text73 ∷ Noted (Taken 1 0 (Hit 0 5)) ∷ []) ≡ Some (record { at = 21; rule = WrongDecision })
-unfolding judging
-row823 = refl
-
-row830 : fault_from 0 (start (record { words = []; faults = 0 } ∷ [])) (front0 ++ Heard 1 text74 ∷ Noted (Taken 1 0 (Refuse 400)) ∷ wait true [] (1 ∷ []) ∷ []) ≡ None
+row830 : fault_from 0 (start (record { words = []; faults = 0 } ∷ [])) (front0 ++ Heard 1 text73 ∷ Noted (Taken 1 0 Fetch) ∷ Dialled 2 (codes "h") 80 ∷ wait true [] [] ∷ Reached 2 ∷ wait true [] (2 ∷ []) ∷ CanWrite 2 ∷ Asked 2 text74 ∷ wait true (2 ∷ []) [] ∷ CanRead 2 ∷ Got 2 text70 ∷ Noted (Taken 1 0 (Hit 0 5)) ∷ wait true (2 ∷ []) (1 ∷ []) ∷ Opened 3 ∷ wait true (2 ∷ 3 ∷ []) (1 ∷ []) ∷ CanRead 3 ∷ Heard 3 text1 ∷ Noted (Taken 3 0 Validate) ∷ []) ≡ None
 unfolding judging
 row830 = refl
 
-row837 : fault_from 0 (start (record { words = []; faults = 0 } ∷ [])) (front5 ++ CanRead 2 ∷ Got 2 text76 ∷ Noted (Taken 1 0 (Refuse 502)) ∷ Dropped 2 ∷ wait true (1 ∷ []) (1 ∷ []) ∷ []) ≡ None
+row835 : fault_from 0 (start (record { words = []; faults = 0 } ∷ [])) (front0 ++ Heard 1 text73 ∷ Noted (Taken 1 0 Fetch) ∷ Dialled 2 (codes "h") 80 ∷ wait true [] [] ∷ Reached 2 ∷ wait true [] (2 ∷ []) ∷ CanWrite 2 ∷ Asked 2 text74 ∷ wait true (2 ∷ []) [] ∷ CanRead 2 ∷ Got 2 text70 ∷ Noted (Taken 1 0 (Hit 0 5)) ∷ wait true (2 ∷ []) (1 ∷ []) ∷ Opened 3 ∷ wait true (2 ∷ 3 ∷ []) (1 ∷ []) ∷ CanRead 3 ∷ Heard 3 text1 ∷ Noted (Taken 3 0 (Hit 0 5)) ∷ []) ≡ Some (record { at = 27; rule = WrongDecision })
 unfolding judging
-row837 = refl
+row835 = refl
+
+row855 : fault_from 0 (start (record { words = []; faults = 0 } ∷ [])) (front0 ++ Heard 1 text75 ∷ Noted (Taken 1 0 Fetch) ∷ Dialled 2 (codes "h") 80 ∷ wait true [] [] ∷ Reached 2 ∷ wait true [] (2 ∷ []) ∷ CanWrite 2 ∷ Asked 2 text76 ∷ wait true (2 ∷ []) [] ∷ CanRead 2 ∷ Got 2 text77 ∷ Noted (Taken 1 0 Relay) ∷ wait true (2 ∷ []) (1 ∷ []) ∷ []) ≡ None
+unfolding judging
+row855 = refl
+
+row860 : fault_from 0 (start (record { words = []; faults = 0 } ∷ [])) (front0 ++ Heard 1 text75 ∷ Noted (Taken 1 0 Fetch) ∷ Dialled 2 (codes "h") 80 ∷ wait true [] [] ∷ Reached 2 ∷ wait true [] (2 ∷ []) ∷ CanWrite 2 ∷ Asked 2 text76 ∷ wait true (2 ∷ []) [] ∷ CanRead 2 ∷ Got 2 text77 ∷ Noted (Taken 1 0 (Hit 0 5)) ∷ []) ≡ Some (record { at = 21; rule = WrongDecision })
+unfolding judging
+row860 = refl
