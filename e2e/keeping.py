@@ -10,7 +10,7 @@ import threading
 import time
 
 from caching import now, said
-from folders import PUBLISHED, TRACE, called, calls_in, small
+from folders import PUBLISHED, TRACE, called, calls_in, entry, small
 from harness import Failed, case, equal, holds, lasting, need, ran, together
 from kills import kept_in
 from network import free_port, wait_until_it_listens
@@ -21,6 +21,7 @@ TAG = b'"x"'
 FRESH = b"Cache-Control: max-age=3600"
 ONLY_KEPT = b"Cache-Control: only-if-cached"
 NO_DISK = b"polipo: cannot list the cache folder\n"
+MOVED = b"polipo: the disk cache was moved, and nothing more is kept\n"
 # So many kills, in so many seconds at most; KILLS=200 in the environment makes more of them.
 KILLS = int(os.environ.get("KILLS", 12))
 KILLING_SECONDS = 4 * KILLS
@@ -352,6 +353,51 @@ def a_folder_that_may_not_be_written_any_more_is_seen_by_no_client(world):
             serve_whole(proxy, path, body)
             for _time in (1, 2):
                 equal(body_of(said(proxy, path)[0]), body, f"the body of {path}, which is not kept")
+
+
+@case
+def a_folder_that_is_moved_is_left_with_one_line(world):
+    with world.anew() as proxy:
+        folder = cache_of(proxy)
+        folder.rename(folder.with_name("aside"))
+        folder.mkdir()
+        deadline = time.monotonic() + 10
+        while not proxy.printed() and time.monotonic() < deadline:
+            time.sleep(0.05)
+        serve_whole(proxy, "/a", b"hello")
+        for _time in (1, 2):
+            equal(body_of(said(proxy, "/a")[0]), b"hello", "the body, which is not kept")
+        time.sleep(2.1)
+        equal(proxy.printed(), MOVED, "output and complaints: one line")
+        equal(list(folder.iterdir()), [], "the files of the folder that nobody locked")
+        # In the end all programs are silent.
+        proxy.output.truncate(0)
+
+
+def put_entry(world, path, body):
+    """Writes an entry of at most one chunk by the format alone."""
+    text = (
+        f'HTTP/1.1 200 OK\r\netag: "x"\r\ndate: {now().decode()}\r\ncache-control: max-age=3600\r\n'
+        f"X-Polipo-Location: {world.url(path)}\r\nX-Polipo-Date: {int(time.time())}\r\nX-Polipo-Age: 0\r\n"
+        f"X-Polipo-Length: {len(body)}\r\nX-Polipo-Body-Offset: 12288\r\n\r\n"
+    )
+    file_of(world, path).write_bytes(entry(text.encode(), b"\1", body))
+
+
+@case
+def more_entries_than_rows_in_memory_are_all_served(world):
+    paths = [f"/{number}" for number in range(1_100)]
+    with world.anew() as proxy:
+        proxy.stop()
+        for path in paths:
+            put_entry(proxy, path, path.encode())
+        proxy.start()
+        with Client(port=proxy.port) as client:
+            for path in paths:
+                client.say(proxy.request(path, ONLY_KEPT))
+                head = client.hear_until(b"\r\n\r\n")
+                holds(head.startswith(b"HTTP/1.1 200 "), f"a reply of 200 for {path} in place of {head!r}")
+                equal(client.hear(len(path)), path.encode(), f"the body of {path}")
 
 
 # ---- what is called, and in which order

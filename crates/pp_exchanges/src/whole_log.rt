@@ -1,7 +1,7 @@
 // A log, happening by happening.
-use pp_play::{ASK, Act, GET, Pace, REPLY, RESPONSE, Step, T, named_step, play};
+use pp_play::{ASK, Act, GET, Op, Pace, REPLY, RESPONSE, Step, T, named_step, op_of, play};
 use pp_text::OutOfMemory;
-use pp_world::{Decision, DiskOp, Happening, Remark};
+use pp_world::{Decision, Happening, Remark};
 use std::alloc::{AllocError, Global};
 use std::test::Fail;
 
@@ -31,16 +31,6 @@ enum Line<'a> {
     /// So many bytes of a body of so many are kept.
     Kept(u64, u64),
     Stopped,
-    Other,
-}
-
-/// An operation on the disk.
-#[derive(Clone, Copy, Debug, PartialEq, Eq)]
-enum Op {
-    /// A draft of a file of so many bytes.
-    Draft(usize),
-    SyncDraft,
-    Publish,
     Other,
 }
 
@@ -147,14 +137,5 @@ fn disk_line_of(happening: &Happening) -> Line<'_> {
             Some((id, step)) => Line::Of(id, step),
             None => Line::Other,
         },
-    }
-}
-
-fn op_of(op: &DiskOp) -> Op {
-    match op {
-        DiskOp::Draft(file) => Op::Draft(file.as_slice().len()),
-        DiskOp::SyncDraft => Op::SyncDraft,
-        DiskOp::Publish(_) => Op::Publish,
-        DiskOp::Write(_, _, _) | DiskOp::Sync(_) | DiskOp::Remove(_) => Op::Other,
     }
 }

@@ -1,6 +1,7 @@
 // What is played, and what is wanted of it.
 use crate::course::Step;
 use crate::fitting::{Fit, Part, fit_of};
+use crate::folder::Filed;
 use crate::playing::{Act, PACES, Pace, Played, WORDS, play, play_with};
 use crate::texts::{joined, joined_acts};
 use pp_run::Exit;
@@ -40,6 +41,8 @@ pub enum Wanted<'a> {
     MostOpen(Step, Step, u64),
     /// So many bytes at most were read from some connections, and not yet written to others.
     MostHeld(usize),
+    /// The course of the folder, through all lives.
+    Filed(&'a [Filed]),
     /// The program ends so.
     Exit(Exit),
 }
@@ -73,7 +76,8 @@ pub fn unlike_at(
     unlike_by(alloc, WORDS, pace, exchanges)
 }
 
-fn unlike_by(
+/// The same with these words, at one pace.
+pub fn unlike_by(
     alloc: Global,
     words: &[&str],
     pace: Pace,
@@ -140,6 +144,7 @@ fn is_met(alloc: Global, played: &Played, wanted: Wanted<'_>) -> Result<bool, Ou
         Wanted::Count(step, count) => Ok(played.count(step) == count),
         Wanted::MostOpen(opens, closes, count) => Ok(played.most_open(opens, closes) == count),
         Wanted::MostHeld(bytes) => Ok(played.most_held() <= bytes),
+        Wanted::Filed(steps) => Ok(played.filed()?.as_slice() == steps),
         Wanted::Exit(exit) => Ok(played.exit == exit),
     }
 }
@@ -209,6 +214,7 @@ fn tell(
             played.most_open(opens, closes)
         )?,
         Wanted::MostHeld(_) => format!(in alloc; "{}", played.most_held())?,
+        Wanted::Filed(_) => format!(in alloc; "{:?}", played.filed()?.as_slice())?,
         Wanted::Exit(_) => format!(in alloc; "{:?}", played.exit)?,
         Wanted::Dialled(_, _, _) => String::new(alloc),
     };

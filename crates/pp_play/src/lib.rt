@@ -16,15 +16,17 @@ mod course; // what the log tells of one connection
 mod cuts; // origins that are lost behind each byte
 mod exchanges; // what is played, and what is wanted of it
 mod fitting; // whether a text is a reply, or a front of it
+mod folder; // what the log tells of the folder
 mod playing; // acts, and the program played against them
 mod texts; // the texts that most exchanges are made of
 
 pub use course::{Step, named_step};
 pub use cuts::{Cut, unlike_when_cut};
 pub use exchanges::{
-    Exchange, Sizes, Wanted, unlike, unlike_at, unlike_through_windows, unlike_with,
+    Exchange, Sizes, Wanted, unlike, unlike_at, unlike_by, unlike_through_windows, unlike_with,
 };
 pub use fitting::{Fit, Part, fit_of};
+pub use folder::{Filed, Op, op_of};
 pub use playing::{Act, PACES, Pace, Played, WORDS, play, play_failing, play_with};
 pub use texts::{
     ASK, ASK_B, GET, GET_B, HEAD, HEAD_B, PAGE_400, PAGE_411, PAGE_431, PAGE_502, PASSED, REPLY,

@@ -1,6 +1,7 @@
 // What clients and origins do, and the program played against it.
 ghost use Rattle.std.specs.Prelude.{◌≡◌, IfOk};
 
+use crate::folder::{Op, op_of};
 use pp_memworld::{Cue, MemWorld, Script};
 use pp_run::{Exit, run};
 use pp_text::{Octets, OutOfMemory};
@@ -35,6 +36,11 @@ pub enum Act<'a> {
     Break(u64),
     /// The program is to end.
     Stop,
+    /// The calls of these numbers fail in this life: reads, writes, listening, dials and those of the disk, from 1.
+    Failing(&'a [u64]),
+    /// The machine stops as this operation begins for the first time, or where all that came before was played, and a life more
+    /// begins over what the crash leaves by this choice.
+    Crash(Option<Op>, u64),
 }
 
 /// How texts come.
@@ -75,8 +81,7 @@ pub fn play_failing(
     play_with(alloc, WORDS, pace, acts, failing)
 }
 
-/// The same with these words.
-#[tactic(auto, using(pp_shelf::proofs::OpeningLemmas::fresh_first))]
+/// The same with these words. Lives follow each other where the acts crash.
 pub fn play_with(
     alloc: Global,
     words: &[&str],
@@ -84,18 +89,123 @@ pub fn play_with(
     acts: &[Act<'_>],
     failing: &[u64],
 ) -> Result<Played, OutOfMemory> {
+    let words = strings(alloc, words)?;
+    let mut rest = acts;
+    let (life, mut crash) = next_acts(&mut rest);
+    let mut played = first_life(alloc, words.as_slice(), pace, life, failing)?;
+    for _life in 0..LIVES {
+        let Some(crashed) = crash else {
+            break;
+        };
+        let (life, next) = next_acts(&mut rest);
+        played = next_life(alloc, words.as_slice(), pace, life, &played, crashed)?;
+        crash = next;
+    }
+    Ok(played)
+}
+
+/// So many lives follow the first at most.
+const LIVES: u64 = 4;
+
+/// How a life crashes.
+#[derive(Clone, Copy)]
+struct Crash {
+    begins: Option<Op>,
+    choice: u64,
+}
+
+/// The acts of the life that is next, and how it crashes where another follows: the rest are left.
+fn next_acts<'x, 'a>(acts: &mut &'x [Act<'a>]) -> (&'x [Act<'a>], Option<Crash>) {
+    let all = *acts;
+    for (at, act) in all.iter().enumerate() {
+        if let Act::Crash(begins, choice) = act {
+            *acts = all.get(at.saturating_add(1)..).unwrap_or(&[]);
+            let crash = Crash {
+                begins: *begins,
+                choice: *choice,
+            };
+            return (all.get(..at).unwrap_or(&[]), Some(crash));
+        }
+    }
+    *acts = &[];
+    (all, None)
+}
+
+#[tactic(auto, using(pp_shelf::proofs::OpeningLemmas::fresh_first))]
+fn first_life(
+    alloc: Global,
+    words: &[String],
+    pace: Pace,
+    acts: &[Act<'_>],
+    failing: &[u64],
+) -> Result<Played, OutOfMemory> {
     let script = script_of(alloc, pace, acts)?;
-    let failing = Vec::from_slice(alloc, failing)?;
+    let failing = failing_of(alloc, acts, failing)?;
     let mut world = boxed(
         alloc,
         MemWorld::new(alloc, script, Image::new(alloc), failing)?,
     )?;
-    let exit = run(alloc, strings(alloc, words)?.as_slice(), &mut *world);
-    // The world stops telling where memory was refused.
+    let exit = run(alloc, words, &mut *world);
+    told(alloc, world, exit)
+}
+
+/// The life behind a crash of the one that was played.
+#[tactic(auto, using(crate::proofs::Fresh::fresh_crashed))]
+fn next_life(
+    alloc: Global,
+    words: &[String],
+    pace: Pace,
+    acts: &[Act<'_>],
+    played: &Played,
+    crash: Crash,
+) -> Result<Played, OutOfMemory> {
+    let script = script_of(alloc, pace, acts)?;
+    let failing = failing_of(alloc, acts, &[])?;
+    let at = crash_place(played.log(), crash.begins);
+    let crashed = played
+        .world
+        .crash(alloc, at, crash.choice, script, failing)?;
+    let Some(next) = crashed else {
+        return Err(OutOfMemory);
+    };
+    let mut world = boxed(alloc, next)?;
+    let exit = run(alloc, words, &mut *world);
+    told(alloc, world, exit)
+}
+
+/// A run that ended. The world stops telling where memory was refused.
+fn told(alloc: Global, world: Box<MemWorld>, exit: Exit) -> Result<Played, OutOfMemory> {
     if world.log().is_none() {
         return Err(OutOfMemory);
     }
     Ok(Played { exit, world, alloc })
+}
+
+/// How many happenings there were as this operation began, or all.
+fn crash_place(log: &[Happening], begins: Option<Op>) -> usize {
+    for (at, happening) in log.iter().enumerate() {
+        if let Happening::Began(op) = happening {
+            if begins == Some(op_of(op)) {
+                return at.saturating_add(1);
+            }
+        }
+    }
+    log.len()
+}
+
+/// The numbers of the calls that fail in a life: these, and those that its acts name.
+fn failing_of(
+    alloc: Global,
+    acts: &[Act<'_>],
+    failing: &[u64],
+) -> Result<Vec<u64>, OutOfMemory> {
+    let mut numbers = Vec::from_slice(alloc, failing)?;
+    for act in acts {
+        if let Act::Failing(more) = act {
+            numbers.extend_from_slice(more)?;
+        }
+    }
+    Ok(numbers)
 }
 
 fn strings(alloc: Global, words: &[&str]) -> Result<Vec<String>, OutOfMemory> {
@@ -190,6 +300,7 @@ fn put_cues(
         Act::End(k) => put(Cue::End(k), cues),
         Act::Break(id) => put(Cue::Break(id), cues),
         Act::Stop => put(Cue::Stop, cues),
+        Act::Failing(_) | Act::Crash(_, _) => Ok(()),
     }
 }
 
