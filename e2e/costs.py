@@ -16,6 +16,8 @@ DROPPED = 65_536
 # One read may be under way, and a piece beside it; and it counts in whole chunks.
 MORE = 32_768 + 2 * PIECE + CHUNK
 TAKEN = 100_000
+# So much of a reply the system takes, at most, from which its client does not read.
+BUFFERS = 16 * MB
 
 
 def take_and_go(world, flows, path, go, *fields):
@@ -180,3 +182,20 @@ def a_seek_made_before_the_old_connection_goes_has_nothing_between_fetched(world
     left, sought = flows.wait()
     holds(left <= TAKEN + MORE, f"no more than was under way behind the place that was left in place of {left - TAKEN} bytes")
     holds(sought <= TAKEN + NEAR + MORE, f"256 chunks behind the last place in place of {sought - TAKEN} bytes")
+
+
+@case
+@rule("near-bytes")
+def what_comes_for_a_slow_reader_waits_for_it_though_another_reads_far_ahead(world):
+    # both take what comes at first, and no more: what was fetched for each is read so far ahead of it, and no further
+    far = 150 * MB
+    flows = Flows(world.origin, "/two-readers", 200 * MB, TAG, FRESH)
+    with Client() as slow, Client() as far_off:
+        for client, first in [(slow, 0), (far_off, far)]:
+            client.say(world.request("/two-readers", b"Range: bytes=%d-" % first))
+            client.hear_until(b"\r\n\r\n")
+            equal(client.hear(TAKEN), noise(TAKEN, first), "the bytes that are taken")
+        sent = flows.at_rest()
+        equal(len(sent), 2, "asks: for each reader")
+        most = TAKEN + BUFFERS + NEAR + MORE
+        holds(all(count <= most for count in sent), f"{most} bytes at most, ahead of a reader that takes no more, in place of {sent}")

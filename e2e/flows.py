@@ -106,4 +106,15 @@ class Flows:
     def wait(self):
         """How much each sent, once they are over."""
         holds(all(flow.is_over.wait(PATIENCE) for flow in self.all), "an end of what the origin sends")
+        return self._counts()
+
+    def at_rest(self):
+        """How much each sent, once none sent more for a second."""
+        before, sent = None, self._counts()
+        while sent != before:
+            time.sleep(1)
+            before, sent = sent, self._counts()
+        return sent
+
+    def _counts(self):
         return [flow.sent for flow in self.all]

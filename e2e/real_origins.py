@@ -99,6 +99,19 @@ def a_rest_that_is_for_one_alone_is_not_asked_for_without_end(world):
 
 
 @case
+@rule("holes-nobody-fills")
+def a_rest_of_yet_another_version_is_not_asked_for_without_end(world):
+    # each ask for the rest is answered by the front of one more version, against If-Range (RFC 7233, 3.2)
+    def answer(ask):
+        tag = b'ETag: "%d"' % len(asks(world, "/ever-another"))
+        return Answer(part(b"all" * 4_000, b"bytes=0-99", b"Date: " + date(), tag, b"Cache-Control: max-age=1000"))
+
+    world.origin.on("/ever-another", answer)
+    equal(told(world, "/ever-another", b"Range: bytes=200-299"), LAST_BAD_GATEWAY.partition(b"\r\n\r\n")[::2], "the answer at the end")
+    equal([ask.field(b"if-range") for ask in asks(world, "/ever-another")], [None, b'"0"', b'"1"', b'"2"'], "the versions whose rest is asked for")
+
+
+@case
 @rule("no-guess")
 def nobody_guesses_how_long_an_answer_to_a_query_is_fresh(world):
     # RFC 2616, 13.9 for the query, 14.32 for Pragma

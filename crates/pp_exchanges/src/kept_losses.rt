@@ -302,6 +302,49 @@ const UNSHARED: &[Exchange<'static>] = &[
     },
 ];
 
+/// Each ask for the rest is answered by the front of yet another version.
+const EVER_ANOTHER: &[Exchange<'static>] = &[Exchange {
+    name: "three asks for the rest, and no more",
+    acts: &[
+        Act::Tick(T),
+        Act::Connect,
+        Act::Say(1, GET_END),
+        Act::Reach(2),
+        Act::Answer(2, FRONT),
+        Act::Answer(
+            2,
+            b"HTTP/1.1 206 Partial Content\r\nETag: \"y\"\r\nContent-Range: bytes 0-3/10\r\nContent-Length: 4\r\n\r\nhell",
+        ),
+        Act::Answer(
+            2,
+            b"HTTP/1.1 206 Partial Content\r\nETag: \"z\"\r\nContent-Range: bytes 0-3/10\r\nContent-Length: 4\r\n\r\nhell",
+        ),
+        Act::Answer(
+            2,
+            b"HTTP/1.1 206 Partial Content\r\nETag: \"w\"\r\nContent-Range: bytes 0-3/10\r\nContent-Length: 4\r\n\r\nhell",
+        ),
+    ],
+    wanted: &[
+        Wanted::Count(Step::Dialled(80), 1),
+        Wanted::Asked(
+            2,
+            &[
+                ASK_END,
+                ASK_BEHIND_FRONT,
+                b"GET /a HTTP/1.1\r\nhost: h\r\nrange: bytes=4-9\r\nif-range: \"y\"\r\nvia: 1.1 polipo\r\n\r\n",
+                b"GET /a HTTP/1.1\r\nhost: h\r\nrange: bytes=4-9\r\nif-range: \"z\"\r\nvia: 1.1 polipo\r\n\r\n",
+            ],
+        ),
+        Wanted::Said(1, &[Part::Text(PAGE_502)]),
+    ],
+}];
+
+#[test]
+fn a_rest_of_yet_another_version_is_not_asked_for_without_end(rt: HostRuntime) -> Result<(), Fail> {
+    assert_eq!(rt; unlike_at(rt.alloc(), Pace::Whole, EVER_ANOTHER)?.as_str(), "");
+    Ok(())
+}
+
 #[test]
 fn a_part_that_forbids_sharing_makes_a_page_known_no_more(rt: HostRuntime) -> Result<(), Fail> {
     assert_eq!(rt; unlike_at(rt.alloc(), Pace::Whole, UNSHARED)?.as_str(), "");

@@ -153,6 +153,42 @@ fn a_long_page_is_read_only_so_far_ahead_of_its_client(rt: HostRuntime) -> Resul
     Ok(())
 }
 
+/// One client takes 200 bytes from the front on, another 200 far ahead, and no more, while all comes.
+const NEAR_AND_FAR: &[Exchange<'static>] = &[Exchange {
+    name: "what comes for the near one is read 256 chunks ahead of it, and one read more",
+    acts: &[
+        Act::Tick(T),
+        Act::Connect,
+        Act::Window(1, 200),
+        Act::Say(1, GET),
+        Act::Reach(2),
+        Act::Answer(
+            2,
+            b"HTTP/1.1 200 OK\r\nETag: \"x\"\r\nCache-Control: max-age=60\r\nContent-Length: 4000000\r\n\r\n",
+        ),
+        Act::Connect,
+        Act::Window(3, 200),
+        Act::Say(3, b"GET http://h/a HTTP/1.1\r\nRange: bytes=2998272-\r\n\r\n"),
+        Act::Reach(4),
+        Act::Answer(
+            4,
+            b"HTTP/1.1 206 Partial Content\r\nETag: \"x\"\r\nContent-Range: bytes 2998272-3999999/4000000\r\nContent-Length: 1001728\r\n\r\n",
+        ),
+        Act::Fill(4, b'b', 4096),
+        Act::Fill(2, b'a', 2_000_000),
+    ],
+    wanted: &[
+        Wanted::Count(Step::Dialled(80), 2),
+        Wanted::MostHeld(1_048_576 + 32_768 + 4096 + 500),
+    ],
+}];
+
+#[test]
+fn a_far_reader_lets_nothing_come_far_ahead_of_a_near_one(rt: HostRuntime) -> Result<(), Fail> {
+    assert_eq!(rt; unlike_at(rt.alloc(), Pace::Whole, NEAR_AND_FAR)?.as_str(), "");
+    Ok(())
+}
+
 #[test]
 fn a_long_request_streams_through_a_small_buffer(rt: HostRuntime) -> Result<(), Fail> {
     let alloc = rt.alloc();

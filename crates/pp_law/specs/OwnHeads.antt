@@ -25,7 +25,7 @@ use Rattle.pp_law.specs.Lists.{Bytes, change, is_some_with}
 use Rattle.pp_law.specs.Passing.{passed_by}
 use Rattle.pp_law.specs.Stages.{is_begun, bound_of}
 use Rattle.pp_law.specs.State.{State, Answer, Through, Own, Filling, Bound, Body, Joining, Relaying, Dropping, Brought, Useless, Joins, Passes, TooWide, Client, Exchange, Instance, Sent}
-use Rattle.pp_law.specs.Table.{is_same_version, row, kept_row, instance, extent_of, on_instance, mark_row, make_row, enter, clear, next_of, is_provided}
+use Rattle.pp_law.specs.Table.{is_same_version, row, kept_row, instance, extent_of, on_instance, mark_row, make_row, enter, clear, Next, next_of, is_provided}
 
 abbrev pub key_of : Exchange → Bytes
 key_of e = text_of e.key
@@ -231,11 +231,16 @@ own_head e head rule s = elim (version_in e head) [
 abbrev pub is_bound : Exchange → Bool
 is_bound e = is_some (bound_of e)
 
--- the follower still lacks its next byte, of a row that stands
-abbrev pub lacks_next : State → Client → Bool
-lacks_next s c = is_some_with (λ n. not n.source.is_retired && not (is_provided s n)) (next_of s c)
+-- of the row that stands; a reply that has begun goes on by its own version alone
+abbrev pub lacks_by : State → Client → Next → Instance → Bool
+lacks_by s c n x = not (is_begun c && n.source.is_retired) && not (is_provided s (record n { source = x }))
 
--- what it brings is no use for its own follower; an answer that is of no use at all is counted already
+-- the follower still lacks its next byte
+abbrev pub lacks_next : State → Client → Bool
+lacks_next s c = is_some_with (λ n. is_some_with (lacks_by s c n) (row s n.source.key)) (next_of s c)
+
+-- what it brings is no use for its own follower, of the version that its ask names or of another ("the server SHOULD ignore the
+-- Range header field" then: RFC 7233, section 3.2); an answer that is of no use at all is counted already
 unfoldable pub count_elsewhere : Exchange → State → State
 count_elsewhere e s = elim (is_some_with is_bound (exchange s e.number) && list_any (λ c. is_for e c && lacks_next s c) s.clients) [
   | true ↦ lose_attempt e s

@@ -1,5 +1,5 @@
 -- What has to stand in the wants at the end of a turn, so that nobody waits on nothing. It is ours.
-use Rattle.std.specs.Prelude.{ℕ, ◌+◌, ◌/◌, Bool, true, false, ◌==◌, ◌&&◌, ◌||◌, not, nat_lt, nat_le, length, Some, None}
+use Rattle.std.specs.Prelude.{ℕ, ◌+◌, ◌/◌, Bool, true, false, ◌==◌, ◌&&◌, ◌||◌, not, nat_lt, nat_le, filter_map, length, Option, Some, None}
 use Rattle.std.specs.List.{list_any, list_all}
 use Rattle.pp_peers.specs.declared.placing.Placed.{Placed}
 use Rattle.pp_peers.specs.declared.placing.Placed.TheVariants.{On, Dial, CloseThenDial, Wait}
@@ -13,9 +13,9 @@ use Rattle.pp_law.specs.Offers.{has_to_say}
 use Rattle.pp_law.specs.Requests.{has_request}
 use Rattle.pp_law.specs.Stages.{bound_of}
 use Rattle.pp_law.specs.State.{State, Bound, Client, Conn, Exchange}
-use Rattle.pp_law.specs.Table.{instance, is_held}
+use Rattle.pp_law.specs.Table.{Next, instance, next_of, is_held, is_next_held, is_soon}
 use Rattle.pp_law.specs.Turn.{waits_for_exchange}
-use Rattle.pp_law.specs.Unseen.{at_of, furthest_at}
+use Rattle.pp_law.specs.Unseen.{at_of, furthest}
 
 abbrev pub wants_read : Wants → ℕ → Bool
 wants_read w n = has_number n w.read.items
@@ -52,22 +52,33 @@ is_client_served s w c = elim (has_to_say s c) [
 abbrev pub has_full_pipe : Exchange → Client → Bool
 has_full_pipe e c = is_some_with (λ n. n == 0) (pipe_room e c)
 
+-- it was brought what it says next, or waits for it: who reads on elsewhere, far ahead of what comes, is brought nothing
+abbrev pub is_brought_to : State → Bound → Next → Bool
+is_brought_to s b n = nat_le n.at b.next || (is_soon b n.at && not (is_next_held s n))
+
+abbrev pub read_at : State → Bound → Client → Option ℕ
+read_at s b c = elim (is_some_with (is_brought_to s b) (next_of s c)) [ true ↦ at_of s b c | false ↦ None ]
+
+-- where the furthest of its readers stands
+abbrev pub furthest_read : State → Bound → Option ℕ
+furthest_read s b = furthest (filter_map (read_at s b) s.clients)
+
 abbrev pub is_held_in : State → Bound → ℕ → Bool
 is_held_in s b at = is_some_with (λ x. is_held s x at) (instance s b.instance)
 
--- ours: 256 chunks past that follower, whose next byte is there
+-- ours: 256 chunks past that one, whose next byte is there
 abbrev pub is_past : State → Bound → ℕ → Bool
 is_past s b at = nat_le (at / chunk_len + 256) (b.next / chunk_len) && is_held_in s b at
 
 abbrev pub is_far_ahead : State → Exchange → Bool
-is_far_ahead s e = is_some_with (λ b. is_some_with (is_past s b) (furthest_at s b)) (bound_of e)
+is_far_ahead s e = is_some_with (λ b. is_some_with (is_past s b) (furthest_read s b)) (bound_of e)
 
--- or far ahead of all followers
+-- or far ahead of all its readers
 abbrev pub is_stopped : State → Exchange → Bool
 is_stopped s e = list_any (has_full_pipe e) s.clients || is_far_ahead s e
 
 abbrev pub is_furthest_in : State → Bound → Client → Bool
-is_furthest_in s b c = is_some_with (λ at. is_this at (furthest_at s b)) (at_of s b c)
+is_furthest_in s b c = is_some_with (λ at. is_this at (furthest_read s b)) (read_at s b c)
 
 abbrev pub is_furthest : State → Exchange → Client → Bool
 is_furthest s e c = is_far_ahead s e && is_some_with (λ b. is_furthest_in s b c) (bound_of e)

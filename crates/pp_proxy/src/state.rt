@@ -98,7 +98,7 @@ impl State {
     }
 
     /// The client of the exchange with this number.
-    fn asker_of(&self, number: u64) -> Option<&Seat> {
+    pub(crate) fn asker_of(&self, number: u64) -> Option<&Seat> {
         let e = self.flow.get(number)?;
         self.seats.get(self.seat_for(e)?)
     }

@@ -14,7 +14,8 @@ mod Pages
 mod Passing1
 mod Passing2
 mod Pipelines
-mod RealOrigins
+mod RealOrigins1
+mod RealOrigins2
 mod Runs
 mod Sizes
 mod Waits

@@ -1,0 +1,60 @@
+-- The verdicts of transcripts/real_origins.log, written by transcripts/make_rows.
+use Rattle.std.proofs.Common.{◌≡◌, refl, ℕ, List, [], ◌∷◌, ◌++◌, true, false, Bool, Option, None, Some, codes}
+use Rattle.std.specs.Prelude.{replicate, is_some}
+use Rattle.pp_world.specs.Log.{Log}
+use Rattle.pp_world.specs.declared.happening.Happening.{Happening}
+use Rattle.pp_world.specs.declared.happening.Happening.TheVariants.{Woke, Waits, Clock, Opened, CanRead, CanWrite, Heard, HungUp, Said, Shut, Dialled, Undialled, Reached, Ended, Broke, Asked, Got, Dropped, NoneYet, Began, Did, Unread, Noted, Rooted, Listed, Listens, Configured, Printed, Stopped}
+use Rattle.pp_world.specs.declared.note.Decision.TheVariants.{Refuse, Hit, Part, Head, NotModified, Unsatisfiable, Relay, Validate, Fetch, Pass}
+use Rattle.pp_world.specs.declared.note.Cause.TheVariants.{Superseded, Origin, Short, Idle, Memory, Stop}
+use Rattle.pp_world.specs.declared.note.Remark.TheVariants.{Taken, Cut, Kept, Gone, Forgotten, Evicted, Loaded}
+use Rattle.pp_world.specs.declared.op.DiskOp.TheVariants.{Draft, SyncDraft, Publish, Write, Sync, Remove}
+use Rattle.pp_law.specs.Lists.{Bytes}
+use Rattle.pp_law.specs.State.{State, start}
+use Rattle.pp_law.specs.Lawful.{fault_from, Fault, ImageNotLeft, OpeningOutOfOrder, EventOutOfTurn, ReadNotAskedFor, FailureMadeUp, WrongReply, WrongAsk, WrongDecision, WrongCut, NotToBeClosed, NotToBeDialled, NotToBeEvicted, NotToBeForgotten, NotToBeLoaded, NotSealed, NotGone, WrongDiskOperation, StepUnfinished, AcceptsWrongly, ClientForgotten, ConnectionForgotten, ExchangeForgotten, WantsTooMuch}
+use Rattle.pp_pieces.proofs.Forced.{judge, arrived, judging, told, tell}
+
+abbrev wait : Bool → List ℕ → List ℕ → Happening
+wait accept read write = Waits (record { accept = accept; read = record { items = read }; write = record { items = write } })
+
+abbrev text0 : Bytes
+text0 = (codes "polipo-cache")
+
+abbrev front0 : Log
+front0 = Woke [] ∷ Rooted text0 ∷ Listed true ∷ Listens 8123 true ∷ wait true [] [] ∷ Clock 784111777 ∷ wait true [] [] ∷ Opened 1 ∷ wait true (1 ∷ []) [] ∷ CanRead 1 ∷ []
+
+abbrev text1 : Bytes
+text1 = (codes "CONNECT http://h/a HTTP/1.1\r\n\r\n")
+
+abbrev text2 : Bytes
+text2 = (codes "GET http://h/a HTTP/1.1\r\nHost: h\r\n\r\n")
+
+abbrev text3 : Bytes
+text3 = (codes "GET /a HTTP/1.1\r\nhost: h\r\nvia: 1.1 polipo\r\n\r\n")
+
+abbrev front1 : Log
+front1 = Woke [] ∷ Rooted text0 ∷ Listed true ∷ Listens 8123 true ∷ wait true [] [] ∷ Clock 784111777 ∷ wait true [] [] ∷ Opened 1 ∷ wait true (1 ∷ []) [] ∷ CanRead 1 ∷ Heard 1 text2 ∷ Noted (Taken 1 0 Fetch) ∷ Dialled 2 (codes "h") 80 ∷ wait true (1 ∷ []) [] ∷ Reached 2 ∷ wait true (1 ∷ 2 ∷ []) (2 ∷ []) ∷ CanWrite 2 ∷ Asked 2 text3 ∷ wait true (1 ∷ 2 ∷ []) [] ∷ []
+
+abbrev text4 : Bytes
+text4 = (codes "HTTP/1.1 099 Odd\r\nContent-Length: 2\r\n\r\nhi")
+
+abbrev text5 : Bytes
+text5 = (codes "HTTP/1.1 200 OK\r\nContent-Type: multipart/byteranges; boundary=b\r\nContent-Length: 7\r\n\r\n--b--\r\n")
+
+abbrev text6 : Bytes
+text6 = (codes "HTTP/1.1 206 Partial Content\r\nContent-Type: multipart/byteranges; boundary=b\r\nContent-Length: 7\r\n\r\n--b--\r\n")
+
+row867 : fault_from 0 (start (record { words = []; faults = 0 } ∷ [])) (front0 ++ Heard 1 text1 ∷ Noted (Taken 1 0 (Refuse 400)) ∷ wait true [] (1 ∷ []) ∷ []) ≡ None
+unfolding judging
+row867 = refl
+
+row874 : fault_from 0 (start (record { words = []; faults = 0 } ∷ [])) (front1 ++ CanRead 2 ∷ Got 2 text4 ∷ Noted (Taken 1 0 (Refuse 502)) ∷ Dropped 2 ∷ wait true (1 ∷ []) (1 ∷ []) ∷ []) ≡ None
+unfolding judging
+row874 = refl
+
+row881 : fault_from 0 (start (record { words = []; faults = 0 } ∷ [])) (front1 ++ CanRead 2 ∷ Got 2 text5 ∷ Noted (Taken 1 0 Relay) ∷ wait true (1 ∷ 2 ∷ []) (1 ∷ []) ∷ []) ≡ None
+unfolding judging
+row881 = refl
+
+row887 : fault_from 0 (start (record { words = []; faults = 0 } ∷ [])) (front1 ++ CanRead 2 ∷ Got 2 text6 ∷ Noted (Taken 1 0 (Refuse 502)) ∷ Dropped 2 ∷ wait true (1 ∷ []) (1 ∷ []) ∷ []) ≡ None
+unfolding judging
+row887 = refl
