@@ -151,9 +151,7 @@ impl Desk {
         match due {
             Due::Decide(decision) => {
                 let decision = self.state.afforded(i, decision);
-                if decision != Decision::Refuse(500) {
-                    self.state.give_way(links, world, i);
-                }
+                self.state.give_way(links, world, i, decision);
                 links.note(world, &Note::Taken(client, index, decision));
                 self.state.take(i, decision);
                 self.state.regain();
