@@ -18,7 +18,10 @@ impl State {
     /// The first client, in the order of their numbers, for whom something is due. Where its request may be decided, the
     /// kept row that it names comes into memory before.
     pub(crate) fn first_due(&mut self, shelf: &Shelf) -> Option<(usize, Due)> {
-        for i in 0..self.seats.len() {
+        for turn in 0..self.awake.len() {
+            let Some(i) = self.awake_at(turn) else {
+                break;
+            };
             self.bring_row_of(shelf, i);
             if let Some(due) = self.due_at(i) {
                 return Some((i, due));

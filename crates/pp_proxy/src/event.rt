@@ -42,20 +42,29 @@ impl Desk {
         ensures steady { GrowsSteadily (W.log world.old) (W.log world.new) }
     {
         match event {
-            Event::Stop => self.state.is_stopped = true,
+            Event::Stop => {
+                self.state.is_stopped = true;
+                self.state.wake();
+            }
             Event::Tick(seconds) => self.tick(seconds),
             Event::Accepted(c) => self.accept(c),
             Event::Readable(id) => {
                 self.touch(id);
                 match self.state.seat_of(id) {
-                    Some(i) => self.hear(links, world, i),
+                    Some(i) => {
+                        self.state.rouse(i);
+                        self.hear(links, world, i);
+                    }
                     None => self.receive(links, shelf, world, id),
                 }
             }
             Event::Writable(id) => {
                 self.touch(id);
                 match self.state.seat_of(id) {
-                    Some(i) => self.load_and_say(links, shelf, world, i),
+                    Some(i) => {
+                        self.state.rouse(i);
+                        self.load_and_say(links, shelf, world, i);
+                    }
                     None => self.ask(links, world, id),
                 }
             }
@@ -103,6 +112,7 @@ impl Desk {
         self.state.renew_marks(now);
         self.state.now = now;
         self.state.is_ticked = true;
+        self.state.wake();
         self.state.has_lost_draft = false;
         for _origin in 0..self.origins.len() {
             let Some(k) = self.idle_origin() else {

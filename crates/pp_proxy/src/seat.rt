@@ -328,6 +328,14 @@ impl Seat {
         }
     }
 
+    /// It sent no whole head, and may send more: until it does, or the clock ticks, a turn has nothing to do for it.
+    pub(crate) fn is_silent(&self) -> bool {
+        matches!(self.stage, Stage::Undecided)
+            && !self.front.is_there()
+            && !self.has_hung_up
+            && !self.is_closing
+    }
+
     /// Nothing that it sent is left to answer: no request, or one whose body stays short.
     pub(crate) fn is_finished(&self) -> bool {
         let is_short = (self.client.body().len() as u64) < self.body_left;

@@ -26,6 +26,8 @@ pub(crate) struct State {
     pub(crate) limits: Limits,
     /// In the order of their numbers.
     pub(crate) seats: Vec<Seat>,
+    /// The places of those for whom this turn may do something, in the same order.
+    pub(crate) awake: Vec<usize>,
     pub(crate) flow: Flow,
     /// Of the exchanges that are there.
     pub(crate) errands: Vec<Errand>,
@@ -50,7 +52,36 @@ pub(crate) struct State {
 
 impl State {
     pub(crate) fn seat_of(&self, client: u64) -> Option<usize> {
-        self.seats.iter().position(|seat| seat.id() == client)
+        self.seats
+            .as_slice()
+            .binary_search_by_key(&client, |seat| seat.id())
+            .ok()
+    }
+
+    /// The place among all clients of the one that stands there among those.
+    pub(crate) fn awake_at(&self, turn: usize) -> Option<usize> {
+        self.awake.get(turn).copied()
+    }
+
+    /// All where the clock ticked or all is to be closed, and else those that are not silent.
+    pub(crate) fn wake(&mut self) {
+        self.awake.clear();
+        for i in 0..self.seats.len() {
+            let is_awake = match self.seats.get(i) {
+                None => false,
+                Some(seat) => self.is_ticked || self.is_stopped || !seat.is_silent(),
+            };
+            if is_awake {
+                let _ = self.awake.push(i);
+            }
+        }
+    }
+
+    /// This one too.
+    pub(crate) fn rouse(&mut self, i: usize) {
+        if let Err(place) = self.awake.as_slice().binary_search(&i) {
+            let _ = self.awake.insert(place, i);
+        }
     }
 
     /// The client of an exchange: its request did not leave it.
@@ -194,7 +225,13 @@ impl State {
 
     /// Attempts count anew for those whose next byte is held.
     pub(crate) fn regain(&mut self) {
-        for seat in self.seats.iter_mut() {
+        for turn in 0..self.awake.len() {
+            let Some(i) = self.awake_at(turn) else {
+                break;
+            };
+            let Some(seat) = self.seats.get_mut(i) else {
+                break;
+            };
             if seat.course != Course::Trying(0) {
                 if let Some(next) = seat.next() {
                     if self.cache.is_held(next.source, next.at) {
