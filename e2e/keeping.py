@@ -14,7 +14,7 @@ from folders import PUBLISHED, TRACE, called, calls_in, entry, small
 from harness import Failed, case, equal, holds, lasting, need, ran, together
 from kills import kept_in
 from network import free_port, wait_until_it_listens
-from origin import Answer, noise, part, response, span_of
+from origin import Answer, lines, noise, part, response, span_of
 from world import Client
 
 TAG = b'"x"'
@@ -137,6 +137,84 @@ def a_version_that_was_replaced_is_not_found_again(world):
             wait_for_extent(proxy, "/a", len(body))
         proxy.restart()
         equal(kept_in(file_of(proxy, "/a"))[1], b"version 2", "the entry")
+
+
+@case
+def an_entry_is_checked_and_replaced_as_a_row_in_memory_is(world):
+    with world.anew() as proxy:
+        checked = [b"Date: " + now(), b'ETag: "1"', b"Cache-Control: no-cache"]
+        proxy.origin.on("/a", Answer(response(b"version 1", *checked)))
+        equal(body_of(said(proxy, "/a")[0]), b"version 1", "the body")
+        wait_for_extent(proxy, "/a", 9)
+        proxy.restart()
+        proxy.origin.clear()
+        proxy.origin.on("/a", Answer(lines(b"HTTP/1.1 304 Not Modified", *checked)))
+        equal(body_of(said(proxy, "/a")[0]), b"version 1", "the body that was checked")
+        equal([ask.field(b"if-none-match") for ask in asked_for(proxy, "/a")], [b'"1"'], "what the asks name")
+        proxy.restart()
+        proxy.origin.on("/a", Answer(response(b"version two", b"Date: " + now(), b'ETag: "2"', FRESH)))
+        equal(body_of(said(proxy, "/a")[0]), b"version two", "the body that replaced it")
+        equal(kept_in(file_of(proxy, "/a")), (11, b"version two"), "the entry")
+
+
+@case
+def what_a_request_changes_loses_its_entry_behind_a_restart_too(world):
+    with world.anew() as proxy:
+        for path in ("/a", "/b"):
+            serve_whole(proxy, path, b"hello")
+            said(proxy, path)
+            wait_for_extent(proxy, path, 5)
+        proxy.restart()
+        proxy.origin.clear()
+        proxy.origin.on("/a", Answer(response(b"changed", b"Content-Location: /b")))
+        with Client(port=proxy.port) as client:
+            client.say(proxy.last_request("/a", b"Content-Length: 0", method="POST"))
+            equal(body_of(client.hear_all()), b"changed", "the answer")
+        for path in ("/a", "/b"):
+            holds(not file_of(proxy, path).exists(), f"no entry of {path}")
+            equal(said(proxy, path, ONLY_KEPT)[0].split(b" ")[1], b"504", f"the status for {path}")
+
+
+@case
+def heads_conditions_and_parts_are_answered_from_the_disk(world):
+    body = noise(100_000)
+    with world.anew() as proxy:
+        serve_whole(proxy, "/a", body)
+        said(proxy, "/a")
+        wait_for_extent(proxy, "/a", len(body))
+        proxy.restart()
+        proxy.origin.clear()
+        with Client(port=proxy.port) as client:
+            client.say(proxy.last_request("/a", method="HEAD"))
+            head, _, rest = client.hear_all().partition(b"\r\n\r\n")
+            holds(head.startswith(b"HTTP/1.1 200 ") and b"content-length: 100000" in head, f"its head in place of {head!r}")
+            equal(rest, b"", "no body")
+        equal(said(proxy, "/a", b'If-None-Match: "x"')[0].split(b" ")[1], b"304", "the status of what has it")
+        for first, last in ((0, 0), (4_095, 4_096), (70_000, 99_999)):
+            part_of = said(proxy, "/a", b"Range: bytes=%d-%d" % (first, last))[0]
+            equal(body_of(part_of), body[first : last + 1], f"the part from {first} on")
+        equal(said(proxy, "/a", b"Range: bytes=100000-")[0].split(b" ")[1], b"416", "the status of what is behind it")
+        equal(asked_for(proxy, "/a"), [], "asks of the origin")
+
+
+@case
+def bodies_larger_than_memory_are_read_from_the_disk_by_many(world):
+    body, marks = noise(6_000_000), ("chunkLowMark=512", "chunkHighMark=512", "chunkCriticalMark=1024")
+    with world.anew(*marks) as proxy:
+        serve_whole(proxy, "/a", body)
+        said(proxy, "/a")
+        wait_for_extent(proxy, "/a", len(body))
+        proxy.restart()
+        proxy.origin.clear()
+
+        def reads(first):
+            equal(body_of(said(proxy, "/a", b"Range: bytes=%d-" % first)[0]), body[first:], f"the bytes from {first} on")
+
+        readers = [lambda first=first: reads(first) for first in (0, 1, 2_000_000, 4_000_001)]
+        for number, reader in enumerate(readers):
+            reader.__name__ = f"reader {number}"
+        equal(together(readers), [], "failures")
+        equal(asked_for(proxy, "/a"), [], "asks of the origin")
 
 
 # ---- kills under load
