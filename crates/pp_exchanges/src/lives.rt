@@ -65,8 +65,7 @@ const FETCHED: &[Act<'static>] = &[
 const AGAIN: &[Act<'static>] = &[Act::Tick(T + 10), Act::Connect, Act::Say(3, GET)];
 
 /// The same by a client that wants only what is kept.
-const ONLY: &[u8] =
-    b"GET http://h/a HTTP/1.1\r\nHost: h\r\nCache-Control: only-if-cached\r\n\r\n";
+const ONLY: &[u8] = b"GET http://h/a HTTP/1.1\r\nHost: h\r\nCache-Control: only-if-cached\r\n\r\n";
 
 const ONLY_AGAIN: &[Act<'static>] = &[Act::Tick(T + 10), Act::Connect, Act::Say(3, ONLY)];
 
@@ -232,7 +231,10 @@ const UNREAD: &[Exchange<'static>] = &[
 
 #[test]
 fn what_cannot_be_read_back_is_fetched_again(rt: HostRuntime) -> Result<(), Fail> {
-    assert_eq!(rt; unlike_by(rt.alloc(), SIXTEEN, Pace::Whole, UNREAD)?.as_str(), "");
+    assert_eq!(rt;
+        unlike_by(rt.alloc(), SIXTEEN, Pace::Whole, UNREAD)?.as_str(),
+        ""
+    );
     Ok(())
 }
 
@@ -387,8 +389,10 @@ const FIRST_HEAD: &[u8] =
 const ALL_HEAD: &[u8] =
     b"HTTP/1.1 200 OK\r\netag: \"x\"\r\ndate: Sun, 06 Nov 1994 08:49:37 GMT\r\ncache-control: max-age=60\r\nage: 10\r\nvia: 1.1 polipo\r\ncontent-length: 8192\r\nconnection: keep-alive\r\n\r\n";
 
-const FIRST_SAID: Wanted<'static> =
-    Wanted::Said(3, &[Part::Text(FIRST_HEAD), Part::Fill(b'a', 4_096)]);
+const FIRST_SAID: Wanted<'static> = Wanted::Said(
+    3,
+    &[Part::Text(FIRST_HEAD), Part::Fill(b'a', 4_096)],
+);
 
 const ALL_SAID: Wanted<'static> = Wanted::Said(
     4,

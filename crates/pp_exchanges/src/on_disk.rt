@@ -1,7 +1,7 @@
 // What is kept on the disk, and when.
 use pp_play::{
-    Act, Exchange, Filed, GET, HEAD, Op, Pace, Part, REPLY, RESPONSE, Step, T, Wanted,
-    unlike_by, unlike_with,
+    Act, Exchange, Filed, GET, HEAD, Op, Pace, Part, REPLY, RESPONSE, Step, T, Wanted, unlike_by,
+    unlike_with,
 };
 use pp_world::{Cause, Decision};
 use std::test::Fail;
@@ -90,24 +90,22 @@ const BY_RUNS: &[Exchange<'static>] = &[Exchange {
         Act::Fill(2, b'b', 4_096),
         Act::Fill(2, b'c', 4_096),
     ],
-    wanted: &[
-        Wanted::Filed(&[
-            Filed::Woke(false),
-            Filed::Did(Op::Draft(12_288)),
-            Filed::Did(Op::SyncDraft),
-            Filed::Did(Op::Publish),
-            Filed::Did(Op::Write(12_288, 8_192)),
-            Filed::Did(Op::Sync),
-            Filed::Did(Op::Write(8_192, 2)),
-            Filed::Did(Op::Sync),
-            Filed::Kept(12_288, 8_192),
-            Filed::Did(Op::Write(20_480, 4_096)),
-            Filed::Did(Op::Sync),
-            Filed::Did(Op::Write(8_194, 1)),
-            Filed::Did(Op::Sync),
-            Filed::Kept(12_288, 12_288),
-        ]),
-    ],
+    wanted: &[Wanted::Filed(&[
+        Filed::Woke(false),
+        Filed::Did(Op::Draft(12_288)),
+        Filed::Did(Op::SyncDraft),
+        Filed::Did(Op::Publish),
+        Filed::Did(Op::Write(12_288, 8_192)),
+        Filed::Did(Op::Sync),
+        Filed::Did(Op::Write(8_192, 2)),
+        Filed::Did(Op::Sync),
+        Filed::Kept(12_288, 8_192),
+        Filed::Did(Op::Write(20_480, 4_096)),
+        Filed::Did(Op::Sync),
+        Filed::Did(Op::Write(8_194, 1)),
+        Filed::Did(Op::Sync),
+        Filed::Kept(12_288, 12_288),
+    ])],
 }];
 
 #[test]
@@ -131,15 +129,13 @@ const BY_LONG_RUNS: &[Exchange<'static>] = &[
             ),
             Act::Fill(2, b'a', 65_536),
         ],
-        wanted: &[
-            Wanted::Filed(&[
-                Filed::Woke(false),
-                Filed::Did(Op::Draft(12_288 + 65_536)),
-                Filed::Did(Op::SyncDraft),
-                Filed::Did(Op::Publish),
-                Filed::Kept(65_536, 65_536),
-            ]),
-        ],
+        wanted: &[Wanted::Filed(&[
+            Filed::Woke(false),
+            Filed::Did(Op::Draft(12_288 + 65_536)),
+            Filed::Did(Op::SyncDraft),
+            Filed::Did(Op::Publish),
+            Filed::Kept(65_536, 65_536),
+        ])],
     },
     Exchange {
         name: "what is behind a run ends the body",
@@ -154,24 +150,22 @@ const BY_LONG_RUNS: &[Exchange<'static>] = &[
             ),
             Act::Fill(2, b'a', 65_636),
         ],
-        wanted: &[
-            Wanted::Filed(&[
-                Filed::Woke(false),
-                Filed::Did(Op::Draft(12_288)),
-                Filed::Did(Op::SyncDraft),
-                Filed::Did(Op::Publish),
-                Filed::Did(Op::Write(12_288, 65_536)),
-                Filed::Did(Op::Sync),
-                Filed::Did(Op::Write(8_192, 16)),
-                Filed::Did(Op::Sync),
-                Filed::Kept(65_636, 65_536),
-                Filed::Did(Op::Write(77_824, 100)),
-                Filed::Did(Op::Sync),
-                Filed::Did(Op::Write(8_208, 1)),
-                Filed::Did(Op::Sync),
-                Filed::Kept(65_636, 65_636),
-            ]),
-        ],
+        wanted: &[Wanted::Filed(&[
+            Filed::Woke(false),
+            Filed::Did(Op::Draft(12_288)),
+            Filed::Did(Op::SyncDraft),
+            Filed::Did(Op::Publish),
+            Filed::Did(Op::Write(12_288, 65_536)),
+            Filed::Did(Op::Sync),
+            Filed::Did(Op::Write(8_192, 16)),
+            Filed::Did(Op::Sync),
+            Filed::Kept(65_636, 65_536),
+            Filed::Did(Op::Write(77_824, 100)),
+            Filed::Did(Op::Sync),
+            Filed::Did(Op::Write(8_208, 1)),
+            Filed::Did(Op::Sync),
+            Filed::Kept(65_636, 65_636),
+        ])],
     },
     Exchange {
         name: "a fetch that was lost before its first run was full leaves no entry",
@@ -216,19 +210,17 @@ const LONGEST: &[Exchange<'static>] = &[
             ),
             Act::Fill(2, b'a', 4_096),
         ],
-        wanted: &[
-            Wanted::Filed(&[
-                Filed::Woke(false),
-                Filed::Did(Op::Draft(24_576)),
-                Filed::Did(Op::SyncDraft),
-                Filed::Did(Op::Publish),
-                Filed::Did(Op::Write(24_576, 4_096)),
-                Filed::Did(Op::Sync),
-                Filed::Did(Op::Write(8_192, 1)),
-                Filed::Did(Op::Sync),
-                Filed::Kept(67_108_864, 4_096),
-            ]),
-        ],
+        wanted: &[Wanted::Filed(&[
+            Filed::Woke(false),
+            Filed::Did(Op::Draft(24_576)),
+            Filed::Did(Op::SyncDraft),
+            Filed::Did(Op::Publish),
+            Filed::Did(Op::Write(24_576, 4_096)),
+            Filed::Did(Op::Sync),
+            Filed::Did(Op::Write(8_192, 1)),
+            Filed::Did(Op::Sync),
+            Filed::Kept(67_108_864, 4_096),
+        ])],
     },
     Exchange {
         name: "a longer one is not",
@@ -371,35 +363,36 @@ const FAILING: &[Exchange<'static>] = &[
             Act::Tick(T + 1),
             Act::Fill(2, b'c', 4_096),
         ],
-        wanted: &[
-            Wanted::Filed(&[
-                Filed::Woke(false),
-                Filed::Failed(Op::Draft(12_288)),
-                Filed::Did(Op::Draft(12_288)),
-                Filed::Did(Op::SyncDraft),
-                Filed::Did(Op::Publish),
-                Filed::Did(Op::Write(12_288, 4_096)),
-                Filed::Did(Op::Sync),
-                Filed::Did(Op::Write(8_192, 1)),
-                Filed::Did(Op::Sync),
-                Filed::Kept(12_288, 4_096),
-                Filed::Did(Op::Write(16_384, 4_096)),
-                Filed::Did(Op::Sync),
-                Filed::Did(Op::Write(8_193, 1)),
-                Filed::Did(Op::Sync),
-                Filed::Kept(12_288, 8_192),
-                Filed::Did(Op::Write(20_480, 4_096)),
-                Filed::Did(Op::Sync),
-                Filed::Did(Op::Write(8_194, 1)),
-                Filed::Did(Op::Sync),
-                Filed::Kept(12_288, 12_288),
-            ]),
-        ],
+        wanted: &[Wanted::Filed(&[
+            Filed::Woke(false),
+            Filed::Failed(Op::Draft(12_288)),
+            Filed::Did(Op::Draft(12_288)),
+            Filed::Did(Op::SyncDraft),
+            Filed::Did(Op::Publish),
+            Filed::Did(Op::Write(12_288, 4_096)),
+            Filed::Did(Op::Sync),
+            Filed::Did(Op::Write(8_192, 1)),
+            Filed::Did(Op::Sync),
+            Filed::Kept(12_288, 4_096),
+            Filed::Did(Op::Write(16_384, 4_096)),
+            Filed::Did(Op::Sync),
+            Filed::Did(Op::Write(8_193, 1)),
+            Filed::Did(Op::Sync),
+            Filed::Kept(12_288, 8_192),
+            Filed::Did(Op::Write(20_480, 4_096)),
+            Filed::Did(Op::Sync),
+            Filed::Did(Op::Write(8_194, 1)),
+            Filed::Did(Op::Sync),
+            Filed::Kept(12_288, 12_288),
+        ])],
     },
 ];
 
 #[test]
 fn what_the_disk_cannot_do_no_client_sees(rt: HostRuntime) -> Result<(), Fail> {
-    assert_eq!(rt; unlike_by(rt.alloc(), ONE, Pace::Whole, FAILING)?.as_str(), "");
+    assert_eq!(rt;
+        unlike_by(rt.alloc(), ONE, Pace::Whole, FAILING)?.as_str(),
+        ""
+    );
     Ok(())
 }

@@ -194,11 +194,7 @@ fn crash_place(log: &[Happening], begins: Option<Op>) -> usize {
 }
 
 /// The numbers of the calls that fail in a life: these, and those that its acts name.
-fn failing_of(
-    alloc: Global,
-    acts: &[Act<'_>],
-    failing: &[u64],
-) -> Result<Vec<u64>, OutOfMemory> {
+fn failing_of(alloc: Global, acts: &[Act<'_>], failing: &[u64]) -> Result<Vec<u64>, OutOfMemory> {
     let mut numbers = Vec::from_slice(alloc, failing)?;
     for act in acts {
         if let Act::Failing(more) = act {
