@@ -106,7 +106,7 @@ class Program:
 
     def __init__(self, program, run, delay):
         self.folder = tempfile.mkdtemp(dir=IN_MEMORY)
-        self.words = [*(delayed(delay) if delay else []), program, f"diskRun={run}", f"diskCacheRoot={self.folder}/cache"]
+        self.words = [*([*delayed(delay), "-D"] if delay else []), program, f"diskRun={run}", f"diskCacheRoot={self.folder}/cache"]
         self.start()
 
     def start(self):
