@@ -22,6 +22,7 @@ FRESH = b"Cache-Control: max-age=3600"
 ONLY_KEPT = b"Cache-Control: only-if-cached"
 NO_DISK = b"polipo: cannot list the cache folder\n"
 MOVED = b"polipo: the disk cache was moved, and nothing more is kept\n"
+MOVED = b"polipo: the disk cache was moved, and nothing more is kept\n"
 # So many kills, in so many seconds at most; KILLS=200 in the environment makes more of them.
 KILLS = int(os.environ.get("KILLS", 12))
 KILLING_SECONDS = 4 * KILLS
@@ -314,6 +315,24 @@ def a_folder_is_the_users_alone(world):
         wait_for_extent(proxy, "/a", 5)
         equal(cache_of(proxy).stat().st_mode & 0o777, 0o700, "the folder's mode")
         equal(file_of(proxy, "/a").stat().st_mode & 0o777, 0o600, "a file's mode")
+
+
+@case
+def a_folder_that_is_moved_is_left_with_one_line(world):
+    with world.anew() as proxy:
+        folder = cache_of(proxy)
+        folder.rename(folder.with_name("aside"))
+        folder.mkdir()
+        deadline = time.monotonic() + 10
+        while not proxy.printed() and time.monotonic() < deadline:
+            time.sleep(0.05)
+        serve_whole(proxy, "/a", b"hello")
+        for _time in (1, 2):
+            equal(body_of(said(proxy, "/a")[0]), b"hello", "the body, which is not kept")
+        time.sleep(2.1)
+        equal(proxy.printed(), MOVED, "output and complaints, once")
+        equal(list(folder.iterdir()), [], "what is in the folder that nobody locked")
+        proxy.output.truncate(0)  # `anew` wants silence at its end
 
 
 # ---- what clients do not see
