@@ -341,7 +341,10 @@ const EVER_ANOTHER: &[Exchange<'static>] = &[Exchange {
 
 #[test]
 fn a_rest_of_yet_another_version_is_not_asked_for_without_end(rt: HostRuntime) -> Result<(), Fail> {
-    assert_eq!(rt; unlike_at(rt.alloc(), Pace::Whole, EVER_ANOTHER)?.as_str(), "");
+    assert_eq!(rt;
+        unlike_at(rt.alloc(), Pace::Whole, EVER_ANOTHER)?.as_str(),
+        ""
+    );
     Ok(())
 }
 

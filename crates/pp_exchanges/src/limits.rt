@@ -168,7 +168,10 @@ const NEAR_AND_FAR: &[Exchange<'static>] = &[Exchange {
         ),
         Act::Connect,
         Act::Window(3, 200),
-        Act::Say(3, b"GET http://h/a HTTP/1.1\r\nRange: bytes=2998272-\r\n\r\n"),
+        Act::Say(
+            3,
+            b"GET http://h/a HTTP/1.1\r\nRange: bytes=2998272-\r\n\r\n",
+        ),
         Act::Reach(4),
         Act::Answer(
             4,
@@ -185,7 +188,10 @@ const NEAR_AND_FAR: &[Exchange<'static>] = &[Exchange {
 
 #[test]
 fn a_far_reader_lets_nothing_come_far_ahead_of_a_near_one(rt: HostRuntime) -> Result<(), Fail> {
-    assert_eq!(rt; unlike_at(rt.alloc(), Pace::Whole, NEAR_AND_FAR)?.as_str(), "");
+    assert_eq!(rt;
+        unlike_at(rt.alloc(), Pace::Whole, NEAR_AND_FAR)?.as_str(),
+        ""
+    );
     Ok(())
 }
 
