@@ -1,5 +1,7 @@
 """What the origin is asked for and sends, counted: little where nobody will see it, and nothing twice."""
 
+import socket
+
 from flows import PIECE, Flows
 from harness import case, equal, holds
 from origin import noise
@@ -16,8 +18,9 @@ DROPPED = 65_536
 # One read may be under way, and a piece beside it; and it counts in whole chunks.
 MORE = 32_768 + 2 * PIECE + CHUNK
 TAKEN = 100_000
-# So much of a reply the system takes, at most, from which its client does not read.
-BUFFERS = 16 * MB
+# So much of a reply the system holds, at most, that its client does not take.
+BUFFERS = 6 * MB
+LONG_PIECE = 1 << 18
 
 
 def take_and_go(world, flows, path, go, *fields):
@@ -189,13 +192,14 @@ def a_seek_made_before_the_old_connection_goes_has_nothing_between_fetched(world
 def what_comes_for_a_slow_reader_waits_for_it_though_another_reads_far_ahead(world):
     # both take what comes at first, and no more: what was fetched for each is read so far ahead of it, and no further
     far = 150 * MB
-    flows = Flows(world.origin, "/two-readers", 200 * MB, TAG, FRESH)
+    flows = Flows(world.origin, "/two-readers", 200 * MB, TAG, FRESH, piece=LONG_PIECE)
     with Client() as slow, Client() as far_off:
         for client, first in [(slow, 0), (far_off, far)]:
+            client.socket.setsockopt(socket.SOL_SOCKET, socket.SO_RCVBUF, 65_536)
             client.say(world.request("/two-readers", b"Range: bytes=%d-" % first))
             client.hear_until(b"\r\n\r\n")
             equal(client.hear(TAKEN), noise(TAKEN, first), "the bytes that are taken")
         sent = flows.at_rest()
+        most = TAKEN + BUFFERS + NEAR + MORE + 2 * LONG_PIECE
         equal(len(sent), 2, "asks: for each reader")
-        most = TAKEN + BUFFERS + NEAR + MORE
-        holds(all(count <= most for count in sent), f"{most} bytes at most, ahead of a reader that takes no more, in place of {sent}")
+        holds(all(count <= most for count in sent), f"{most} bytes at most, so far ahead of a reader that takes no more, in place of {sent}")

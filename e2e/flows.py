@@ -71,14 +71,14 @@ class Flow(Answer):
         return count_open([connection]) > 0
 
 
-def flow_from(ask, length, *fields, held_at=None):
+def flow_from(ask, length, *fields, held_at=None, piece=PIECE):
     """What an ask wants of a body of so many bytes: a part where it has a range, else the whole."""
     asked = ask.field(b"range")
     first, last = span_of(asked or b"bytes=0-", length)
     place = [b"Content-Range: bytes %d-%d/%d" % (first, last, length)] if asked else []
     status = b"206 Partial Content" if asked else b"200 OK"
     head = lines(b"HTTP/1.1 " + status, *fields, *place, b"Content-Length: %d" % (last + 1 - first))
-    return Flow(head, last + 1 - first, first, held_at)
+    return Flow(head, last + 1 - first, first, held_at, piece)
 
 
 def whole_flow(length, *fields):
@@ -90,10 +90,10 @@ def whole_flow(length, *fields):
 class Flows:
     """What an origin gives of a body of so many bytes on a path, in the order of its asks; each waits behind so many bytes."""
 
-    def __init__(self, origin, path, length, *fields, held_at=None, gives_ranges=True):
+    def __init__(self, origin, path, length, *fields, held_at=None, piece=PIECE, gives_ranges=True):
         self.all, self.asked = [], []
         if gives_ranges:
-            self._give = lambda ask: flow_from(ask, length, *fields, held_at=held_at)
+            self._give = lambda ask: flow_from(ask, length, *fields, held_at=held_at, piece=piece)
         else:
             self._give = lambda ask: whole_flow(length, *fields)
         origin.on(path, self._answer)
@@ -109,10 +109,10 @@ class Flows:
         return self._counts()
 
     def at_rest(self):
-        """How much each sent, once none sent more for a second."""
+        """How much each sent, once none sent more for some seconds."""
         before, sent = None, self._counts()
         while sent != before:
-            time.sleep(1)
+            time.sleep(3)
             before, sent = sent, self._counts()
         return sent
 
