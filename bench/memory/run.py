@@ -2,8 +2,8 @@
 """What the pool costs, by way of cells: a million touch, touch and oldest, give and take on a pool of 4,096 chunks.
 
 Writes a small program over pp_holes and pp_pool into a temporary folder, proves and builds it there (`rt run`,
-some minutes the first time), and compiles `links.c`, which keeps the same order as links by number in C. Runs both
-in turn, and prints the medians in nanoseconds per call, and their ratio. `oldest` is called behind a `touch`,
+some minutes the first time), and compiles `links.c`, which does the same in C. Runs both in turn, and prints the
+medians in nanoseconds per call, and their ratio. `oldest` is called behind a `touch`,
 as a call that changes nothing would be taken out of its loop. Run it while the machine is quiet.
 
     bench/memory/run.py
@@ -201,7 +201,7 @@ def main() -> None:
         for _ in range(ROUNDS):
             ours.append(our_costs(program))
             links.append(said_by(top / "links"))
-    print(f"{'call':18} {'ours ns':>10} {'links ns':>10} {'ratio':>8}")
+    print(f"{'call':18} {'ours ns':>10} {'in C ns':>10} {'ratio':>8}")
     for call in CALLS:
         mine, theirs = (statistics.median(costs[call] for costs in all_costs) for all_costs in (ours, links))
         print(f"{call:18} {mine:10.1f} {theirs:10.1f} {mine / theirs:8.1f}")
