@@ -60,10 +60,10 @@ use Rattle.pp_law.specs.Connections.{is_conn}
 use Rattle.pp_laws_pool.proofs.WalkExchanges.{same_conn}
 use Rattle.pp_laws_sent.proofs.Came.{Came, Rests, came_walk, no_end, none_apart, rests_added, rests_begin, rests_fewer, rests_place}
 
--- all but what is read of an origin
-abbrev pub IsOfOrigin : Happening → Type 0
-IsOfOrigin (Got n bytes) = ⊥
-IsOfOrigin h = Unit {0}
+-- nothing of an origin is read
+abbrev pub ReadsNothing : Happening → Type 0
+ReadsNothing (Got n bytes) = ⊥
+ReadsNothing h = Unit {0}
 
 module _ (total : ℕ → Bytes) (asked : ℕ → Exchange → Type 0) where
   abbrev P : View → Type 0
@@ -276,7 +276,7 @@ module _ (total : ℕ → Bytes) (asked : ℕ → Exchange → Type 0) where
 
   -- ---- all
 
-  pub changed-rests : (s : State) (h : Happening) → IsOfOrigin h → Holds P s → Holds P (changed s h)
+  pub changed-rests : (s : State) (h : Happening) → ReadsNothing h → Holds P s → Holds P (changed s h)
   unfolding changed
   changed-rests s (Woke image) is h = woken-rests image s h
   changed-rests s (Waits w) is h = rest_with-rests w _ (ending-rests s h)

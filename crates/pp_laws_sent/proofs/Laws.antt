@@ -23,7 +23,7 @@ use Rattle.pp_laws_pool.proofs.View.{Holds, holds, facts_of, view}
 use Rattle.pp_laws_pool.proofs.WalkClients.{end_replies-keeps, regained-keeps}
 use Rattle.pp_laws_sent.specs.Stands.{IsAskedOn, SentStandsInTheLog, StandsIn, WasAskedOn}
 use Rattle.pp_laws_sent.proofs.Came.{Alike, Began as HasBegun, Came, EndsWith, Facts, Rests, WasAsked, came_more, came_walk, no_end, none_apart}
-use Rattle.pp_laws_sent.proofs.Happenings.{IsOfOrigin, changed-rests}
+use Rattle.pp_laws_sent.proofs.Happenings.{ReadsNothing, changed-rests}
 use Rattle.pp_laws_sent.proofs.Pieces.{at_end, got-came}
 
 -- what came on each connection, and what was asked there
@@ -44,7 +44,7 @@ asked_still terms log h number e w = record { front = w.front; behind = w.behind
 
 -- ---- where nothing of an origin is read
 
-quiet : (number : ℕ) (h : Happening) → IsOfOrigin h → got_in number h ≡ []
+quiet : (number : ℕ) (h : Happening) → ReadsNothing h → got_in number h ≡ []
 quiet number (Got n bytes) is = absurd is
 quiet number (Woke image) is = refl
 quiet number (Waits w) is = refl
@@ -79,7 +79,7 @@ quiet number Stopped is = refl
 abbrev Inv : List Term → Log → State → Type 0
 Inv terms log s = Holds (Rests (came_in log) (WasAskedOn terms log)) s
 
-quiet_step : (terms : List Term) (log : Log) (h : Happening) (s : State) → IsOfOrigin h → Inv terms log s → Inv terms (log ++ h ∷ []) (after s h)
+quiet_step : (terms : List Term) (log : Log) (h : Happening) (s : State) → ReadsNothing h → Inv terms log s → Inv terms (log ++ h ∷ []) (after s h)
 quiet_step terms log h s is inv =
     changed-rests (came_in (log ++ h ∷ [])) (WasAskedOn terms (log ++ h ∷ [])) s h is
     (holds (came_more (came_in log) (came_in (log ++ h ∷ [])) no_end (WasAskedOn terms log) (WasAskedOn terms (log ++ h ∷ [])) (λ n. one_more log h n ∙ ap (λ (xs : Bytes). came_in log n ++ xs) (quiet n h is)) (λ n e w. asked_still terms log h n e w) (view s) (facts_of inv)))
