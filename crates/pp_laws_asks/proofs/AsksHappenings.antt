@@ -121,8 +121,8 @@ moved_same : (m : ℕ) (e : Exchange) → SameAsk (moved_on m e) e
 moved_same m e = by (bound_of e)
   where
     by : (o : Option Bound) → SameAsk (elim o as (λ c. Exchange) [ None ↦ e | Some b ↦ record e { body = Joining (record b { next = b.next + m }) } ]) e
-    by None = same_ask e e refl refl refl
-    by (Some b) = same_ask _ e refl refl refl
+    by None = same_ask e e refl refl refl refl refl refl
+    by (Some b) = same_ask _ e refl refl refl refl refl refl
 
 join_bound-asks : (e : Exchange) (bytes : Bytes) (s : State) → Holds Asks s → Holds Asks (join_bound e bytes s)
 unfolding join_bound

@@ -10,11 +10,11 @@ use Rattle.pp_law.specs.State.{State, Term, start}
 use Rattle.pp_law.proofs.Prefixes.{front_from}
 use Rattle.pp_laws.specs.Runs.{after_all, state_after}
 
-after_all-append : (s : State) (front rest : Log) → after_all s (front ++ rest) ≡ after_all (after_all s front) rest
+pub after_all-append : (s : State) (front rest : Log) → after_all s (front ++ rest) ≡ after_all (after_all s front) rest
 after_all-append s [] rest = refl
 after_all-append s (h ∷ front) rest = after_all-append (after s h) front rest
 
-back_from : (s : State) (front rest : Log) → LawfulFrom s (front ++ rest) → LawfulFrom (after_all s front) rest
+pub back_from : (s : State) (front rest : Log) → LawfulFrom s (front ++ rest) → LawfulFrom (after_all s front) rest
 back_from s [] rest lawful = lawful
 back_from s (h ∷ front) rest lawful = back_from (after s h) front rest lawful.1
 

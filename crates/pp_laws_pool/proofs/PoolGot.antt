@@ -1,5 +1,5 @@
 -- What one read of an origin brings: of so many bytes, in as many bodies as asks stand in the line, no more chunks than there is room for.
-use Rattle.std.proofs.Common.{◌≡◌, ◌⊎◌, refl, ℕ, zero, suc, ◌+◌, ◌-◌, ◌*◌, ◌/◌, ◌≤◌, nat_le, Bool, true, false, not, ◌==◌, ◌&&◌, ◌||◌, min, List, [], ◌∷◌, ◌++◌, map, filter, find, cond, take, drop, length, Option, Some, None, Result, Ok, Err, inl, inr, sym, subst, ap, ◌∙◌, zero-le, le_refl, le_trans, length-append, arith}
+use Rattle.std.proofs.Common.{◌≡◌, ◌⊎◌, refl, ℕ, zero, suc, ◌+◌, ◌-◌, ◌*◌, ◌/◌, ◌<◌, ◌≤◌, nat_le, Bool, true, false, not, ◌==◌, ◌&&◌, ◌||◌, min, List, [], ◌∷◌, ◌++◌, map, filter, find, cond, take, drop, length, Option, Some, None, Result, Ok, Err, inl, inr, sym, subst, ap, ◌∙◌, zero-le, le_refl, le_trans, length-append, arith}
 use Rattle.std.proofs.Math.Nat.{min-le_right, mul-div-le}
 use Rattle.std.proofs.lemmas.List.{length-drop, take-append-le, take-append-drop}
 use Rattle.std.proofs.lemmas.Bool.Decides.{nat_tests}
@@ -44,16 +44,16 @@ use Rattle.pp_laws_pool.proofs.WalkPieces.{bad_head-keeps, bad_response-keeps, c
 
 -- ---- changes of one connection
 
-same_in : {A : Type 0} {x y : A} → Some x ≡ Some y → x ≡ y
+pub same_in : {A : Type 0} {x y : A} → Some x ≡ Some y → x ≡ y
 same_in e = cc e
 
-abbrev paired : {B : Type 0} → ℕ → B → Option (ℕ × B)
+abbrev pub paired : {B : Type 0} → ℕ → B → Option (ℕ × B)
 paired m x = Some (m, x)
 
-same_first : {B : Type 0} {m n : ℕ} {x y : B} → paired m x ≡ paired n y → m ≡ n
+pub same_first : {B : Type 0} {m n : ℕ} {x y : B} → paired m x ≡ paired n y → m ≡ n
 same_first {B} e = ap (λ (p : ℕ × B). p.0) (same_in e)
 
-same_second : {B : Type 0} {m n : ℕ} {x y : B} → paired m x ≡ paired n y → x ≡ y
+pub same_second : {B : Type 0} {m n : ℕ} {x y : B} → paired m x ≡ paired n y → x ≡ y
 same_second {B} e = ap (λ (p : ℕ × B). p.1) (same_in e)
 
 -- a connection of that number, and no other
@@ -253,8 +253,8 @@ moved_same : (m : ℕ) (e : Exchange) → SameAsk (moved_on m e) e
 moved_same m e = by (bound_of e)
   where
     by : (o : Option Bound) → SameAsk (elim o as (λ c. Exchange) [ None ↦ e | Some b ↦ record e { body = Joining (record b { next = b.next + m }) } ]) e
-    by None = same_ask e e refl refl refl
-    by (Some b) = same_ask _ e refl refl refl
+    by None = same_ask e e refl refl refl refl refl refl
+    by (Some b) = same_ask _ e refl refl refl refl refl refl
 
 join_bound-pool : (a : As) (n asks most : ℕ) (e : Exchange) (bytes : Bytes) (s : State) → Holds (Pool (reading a n asks most)) s → Holds (Pool (reading a n asks (with_data most bytes))) (join_bound e bytes s)
 unfolding join_bound
@@ -314,7 +314,7 @@ join_bound-conns : (e : Exchange) (bytes : Bytes) (s : State) → (join_bound e 
 unfolding join_bound on_exchange
 join_bound-conns e bytes s = same_each s (bound_of e) _ _ refl (λ b. join-conns b bytes s)
 
-deliver-conns : (e : Exchange) (x : Answer) (at : ℕ) (bytes : Bytes) (s : State) → (deliver e x at bytes s).conns ≡ s.conns
+pub deliver-conns : (e : Exchange) (x : Answer) (at : ℕ) (bytes : Bytes) (s : State) → (deliver e x at bytes s).conns ≡ s.conns
 unfolding deliver
 deliver-conns e x at bytes s = pour-conns e (poured bytes) _ ∙ join_bound-conns e bytes _ ∙ note_sent-conns e x at bytes s
 
@@ -430,12 +430,12 @@ quiet_piece a n critical asks most p bytes room le h = record { asks = asks; mos
 at_most : (m n : ℕ) → nat_le m n ≡ true → m ≤ n
 at_most m n is = grind (arith, nat_tests)
 
-at_least : (m n : ℕ) → nat_le m n ≡ false → n ≤ m
-at_least m n isnt = grind (arith, nat_tests)
+beyond : (m n : ℕ) → nat_le m n ≡ false → n < m
+beyond m n isnt = grind (arith, nat_tests)
 
--- a head that more bytes made whole ends among them
-head_ends : (unread bytes : Bytes) (head : Response) → response_at unread ≡ More → response_at (unread ++ bytes) ≡ Whole head → length (drop head.length (unread ++ bytes)) ≤ length bytes
-head_ends unread bytes head more whole = by (nat_le head.length (length unread)) refl
+-- a head that more bytes made whole takes some of them
+pub head_beyond : (unread bytes : Bytes) (head : Response) → response_at unread ≡ More → response_at (unread ++ bytes) ≡ Whole head → length unread < head.length
+head_beyond unread bytes head more whole = by (nat_le head.length (length unread)) refl
   where
     taken : response_at (take head.length (unread ++ bytes)) ≡ Whole head
     taken = (response_cut (unread ++ bytes) head whole).enough
@@ -451,9 +451,13 @@ head_ends unread bytes head more whole = by (nat_le head.length (length unread))
         subst (λ (xs : Bytes). response_at xs ≡ Whole head) (ap (λ (xs : Bytes). xs ++ drop head.length unread) (take-append-le head.length unread bytes le) ∙ take-append-drop head.length unread)
         (stays (response_at (take head.length (unread ++ bytes))) refl (response_stays (take head.length (unread ++ bytes))) taken (drop head.length unread))
 
-    by : (t : Bool) → nat_le head.length (length unread) ≡ t → length (drop head.length (unread ++ bytes)) ≤ length bytes
+    by : (t : Bool) → nat_le head.length (length unread) ≡ t → length unread < head.length
     by true is = let both : Whole head ≡ More = sym (earlier (at_most head.length (length unread) is)) ∙ more in absurd (cc both)
-    by false isnt = let gt : length unread ≤ head.length = at_least head.length (length unread) isnt in omega (arith, length-drop head.length (unread ++ bytes), length-append unread bytes)
+    by false isnt = beyond head.length (length unread) isnt
+
+-- and ends among them
+head_ends : (unread bytes : Bytes) (head : Response) → response_at unread ≡ More → response_at (unread ++ bytes) ≡ Whole head → length (drop head.length (unread ++ bytes)) ≤ length bytes
+head_ends unread bytes head more whole = let gt : length unread < head.length = head_beyond unread bytes head more whole in omega (arith, length-drop head.length (unread ++ bytes), length-append unread bytes)
 
 piece_when : (a : As) (n critical : ℕ) (t : Bool) (p q : Piece) → Fits a n critical p → Fits a n critical q → Fits a n critical (elim t as (λ c. Piece) [ true ↦ p | false ↦ q ])
 piece_when a n critical true p q hp hq = hp

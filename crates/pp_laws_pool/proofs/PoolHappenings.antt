@@ -93,7 +93,7 @@ opened-held n s c p o m h = holds (facts_of h)
 
 reached-pool : (n : ℕ) (s : State) → Keeps s (reached n s)
 unfolding reached
-reached-pool n s c p o m h = let w = pool_walk (Where c p o m) in touch-keeps w n _ (on_conn-keeps w n (λ k. record k { is_reached = true }) s (λ k. same_conn _ k refl refl refl refl) h)
+reached-pool n s c p o m h = let w = pool_walk (Where c p o m) in touch-keeps w n _ (on_conn-keeps w n (λ k. record k { is_reached = true }) s (λ k. same_conn _ k refl refl refl refl refl) h)
 
 -- what happens to an awaiting state, and then the event
 handled_by : (f : State → State) (s : State) → is_awaiting s ≡ true → Keeps s (f s) → Quiet s → Quiet (event (f s))

@@ -6,11 +6,12 @@ use Rattle.pp_law.specs.Closing.{left_alone}
 use Rattle.pp_law.specs.Connections.{may_ask_again, on_exchange, put_on, unplaced}
 use Rattle.pp_law.specs.Deciding.{begin_exchange}
 use Rattle.pp_law.specs.Lists.{change}
-use Rattle.pp_law.specs.State.{State, Chunk, Client, Conn, Exchange, Owed, Phase}
+use Rattle.pp_law.specs.State.{State, Chunk, Client, Conn, Exchange, Owed, Phase, Sent}
 use Rattle.pp_laws.specs.Runs.{IsIn}
 use Rattle.pp_laws.proofs.Sound.{client_number}
 
 pub record View : Type 0 where
+  pub sent : List Sent
   pub settings : Settings
   pub phase : Phase
   pub owed : Owed
@@ -24,6 +25,7 @@ pub record View : Type 0 where
 
 abbrev pub view : State → View
 view s = record {
+  sent = s.sent;
   settings = s.settings;
   phase = s.phase;
   owed = s.owed;
@@ -47,13 +49,19 @@ pub record SameAsk (d e : Exchange) : Type 0 where
   pub number : d.number ≡ e.number
   pub asker : d.asker ≡ e.asker
   pub place : d.place ≡ e.place
+  pub key : d.key ≡ e.key
+  pub head : d.head ≡ e.head
+  pub aim : d.aim ≡ e.aim
 
--- its line is no longer than it was; its answer and what is not read of a head are the same, or none
+-- its line is no longer than it was, and has no other exchange; its answer and what is not read of a head are the same, or none; and
+-- it has neither once it is closing
 pub record Lesser (j k : Conn) : Type 0 where
   pub number : j.number ≡ k.number
   pub line : length j.line ≤ length k.line
+  pub within : (n : ℕ) → IsIn n j.line → IsIn n k.line
   pub answer : (j.answer ≡ k.answer) ⊎ (j.answer ≡ None)
   pub unread : (j.unread ≡ k.unread) ⊎ (j.unread ≡ [])
+  pub closing : (j.is_closing ≡ k.is_closing) ⊎ ((j.answer ≡ None) × (j.unread ≡ []))
 
 -- it has the number that is next, no place, and is for a client that is there
 pub record IsNew (e : Exchange) (clients : List Client) (next_exchange : ℕ) : Type 0 where

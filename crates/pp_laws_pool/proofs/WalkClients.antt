@@ -226,14 +226,14 @@ hang_up-keeps w n s h = when (is_writing s.owed n) (close_client-keeps w n false
 
 ask_body-keeps : {P : View → Type 0} (w : Walk P) (e : Exchange) (n : ℕ) (s : State) → Holds P s → Holds P (ask_body e n s)
 unfolding ask_body
-ask_body-keeps w e n s h = on_client_of-keeps w e (asked_body n) _ (λ c. refl) (on_exchange-keeps w e.number (λ x. record x { body_left = x.body_left - n }) s (λ x. same_ask _ x refl refl refl) h)
+ask_body-keeps w e n s h = on_client_of-keeps w e (asked_body n) _ (λ c. refl) (on_exchange-keeps w e.number (λ x. record x { body_left = x.body_left - n }) s (λ x. same_ask _ x refl refl refl refl refl refl) h)
 
 ask_next-keeps : {P : View → Type 0} (w : Walk P) (e : Exchange) (n : ℕ) (s : State) → Holds P s → Holds P (ask_next e n s)
 unfolding ask_next
 ask_next-keeps {P} w e n s h = by (is_outstanding e)
   where
     by : (t : Bool) → Holds P (elim t as (λ c. State) [ false ↦ on_exchange e.number (asked_text n s.clock) s | true ↦ ask_body e n s ])
-    by false = on_exchange-keeps w e.number (asked_text n s.clock) s (λ x. same_ask _ x refl refl refl) h
+    by false = on_exchange-keeps w e.number (asked_text n s.clock) s (λ x. same_ask _ x refl refl refl refl refl refl) h
     by true = ask_body-keeps w e n s h
 
 pub ask-keeps : {P : View → Type 0} (w : Walk P) (k n : ℕ) (s : State) → Holds P s → Holds P (ask k n s)

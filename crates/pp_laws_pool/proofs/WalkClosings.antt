@@ -21,16 +21,16 @@ leave_place-keeps w e s h =
     shortened : Passed → Passed
     shortened p = record p { is_short = true }
 
-lose_place-keeps : {P : View → Type 0} (w : Walk P) (counts : Bool) (e : Exchange) (s : State) → Holds P s → Holds P (lose_place counts e s)
+pub lose_place-keeps : {P : View → Type 0} (w : Walk P) (counts : Bool) (e : Exchange) (s : State) → Holds P s → Holds P (lose_place counts e s)
 unfolding lose_place
 lose_place-keeps w counts e s h = when counts (leave_place-keeps w e _ (lose_attempt-keeps w e s h)) (leave_place-keeps w e s h)
 
 -- a connection that is closed has no line and no answer
-abbrev off : Conn → Conn
+abbrev pub off : Conn → Conn
 off k = record k { is_closing = true; line = []; answer = None; unread = [] }
 
 lesser_off : (k : Conn) → Lesser (off k) k
-lesser_off k = record { number = refl; line = zero-le; answer = inr refl; unread = inr refl }
+lesser_off k = record { number = refl; line = zero-le; within = λ n i. absurd i; answer = inr refl; unread = inr refl; closing = inr (refl, refl) }
 
 pub close_conn-keeps : {P : View → Type 0} (w : Walk P) (counts : Bool) (k : Conn) (s : State) → Holds P s → Holds P (close_conn counts k s)
 unfolding close_conn

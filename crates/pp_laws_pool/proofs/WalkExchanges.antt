@@ -6,7 +6,7 @@ use Rattle.pp_law.specs.Connections.{client, conn, exchange, is_client, is_conn,
 use Rattle.pp_law.specs.Stages.{is_begun}
 use Rattle.pp_law.specs.State.{State, Course, Trying, OutOfTries, Client, Conn, Exchange}
 use Rattle.pp_laws.specs.Runs.{IsIn}
-use Rattle.pp_laws.proofs.Lists.{changed_at, in_find}
+use Rattle.pp_laws.proofs.Lists.{changed_at, in_filter, in_find}
 use Rattle.pp_laws_bounds.proofs.Counts.{length-filter}
 use Rattle.pp_laws_pool.proofs.View.{View, Walk, Holds, holds, facts_of, view, SameAsk, Lesser}
 use Rattle.pp_laws_pool.proofs.WalkCases.{each_so, when}
@@ -15,24 +15,31 @@ use Rattle.pp_laws_pool.proofs.WalkRows.{clear-keeps}
 -- ---- what is changed as it is, and what is not
 
 ask_same : (e : Exchange) → SameAsk e e
-ask_same e = record { number = refl; asker = refl; place = refl }
+ask_same e = record { number = refl; asker = refl; place = refl; key = refl; head = refl; aim = refl }
 
 ask_changed : (f : Exchange → Exchange) (e : Exchange) (t : Bool) → SameAsk (f e) e → SameAsk (elim t as (λ c. Exchange) [ true ↦ f e | false ↦ e ]) e
 ask_changed f e true kept = kept
 ask_changed f e false kept = ask_same e
 
-pub same_ask : (d e : Exchange) → d.number ≡ e.number → d.asker ≡ e.asker → d.place ≡ e.place → SameAsk d e
-same_ask d e number asker place = record { number = number; asker = asker; place = place }
+pub same_ask : (d e : Exchange) → d.number ≡ e.number → d.asker ≡ e.asker → d.place ≡ e.place → d.key ≡ e.key → d.head ≡ e.head → d.aim ≡ e.aim → SameAsk d e
+same_ask d e number asker place key head aim = record { number = number; asker = asker; place = place; key = key; head = head; aim = aim }
 
 conn_same : (k : Conn) → Lesser k k
-conn_same k = record { number = refl; line = le_refl (length k.line); answer = inl refl; unread = inl refl }
+conn_same k = record { number = refl; line = le_refl (length k.line); within = λ n i. i; answer = inl refl; unread = inl refl; closing = inl refl }
 
 conn_changed : (f : Conn → Conn) (k : Conn) (t : Bool) → Lesser (f k) k → Lesser (elim t as (λ c. Conn) [ true ↦ f k | false ↦ k ]) k
 conn_changed f k true kept = kept
 conn_changed f k false kept = conn_same k
 
-pub same_conn : (j k : Conn) → j.number ≡ k.number → j.line ≡ k.line → j.answer ≡ k.answer → j.unread ≡ k.unread → Lesser j k
-same_conn j k number line answer unread = record { number = number; line = subst (λ n. n ≤ length k.line) (sym (ap (λ (ns : List ℕ). length ns) line)) (le_refl (length k.line)); answer = inl answer; unread = inl unread }
+pub same_conn : (j k : Conn) → j.number ≡ k.number → j.line ≡ k.line → j.answer ≡ k.answer → j.unread ≡ k.unread → j.is_closing ≡ k.is_closing → Lesser j k
+same_conn j k number line answer unread closing = record {
+  number = number;
+  line = subst (λ n. n ≤ length k.line) (sym (ap (λ (ns : List ℕ). length ns) line)) (le_refl (length k.line));
+  within = λ n i. subst (λ ns. IsIn n ns) line i;
+  answer = inl answer;
+  unread = inl unread;
+  closing = inl closing;
+}
 
 pub number_changed : (f : Client → Client) (c : Client) (t : Bool) → (f c).number ≡ c.number → (elim t as (λ d. Client) [ true ↦ f c | false ↦ c ]).number ≡ c.number
 number_changed f c true kept = kept
@@ -108,7 +115,7 @@ fail-keeps w e s h = charge-keeps w (λ course. OutOfTries) e s h
 -- ---- an exchange is over
 
 shorter : (n : ℕ) (k : Conn) → Lesser (without_ask n k) k
-shorter n k = record { number = refl; line = length-filter (λ m. not (m == n)) k.line; answer = inl refl; unread = inl refl }
+shorter n k = record { number = refl; line = length-filter (λ m. not (m == n)) k.line; within = λ m i. (in_filter (λ x. not (x == n)) m k.line i).0; answer = inl refl; unread = inl refl; closing = inl refl }
 
 pub end_exchange-keeps : {P : View → Type 0} (w : Walk P) (n : ℕ) (s : State) → Holds P s → Holds P (end_exchange n s)
 unfolding end_exchange

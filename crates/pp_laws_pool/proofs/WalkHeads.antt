@@ -28,7 +28,7 @@ tell-keeps w e brought s h = holds (clients_changed-keeps w (is_asked_by e) (λ 
 
 use_body-keeps : {P : View → Type 0} (w : Walk P) (e : Exchange) (body : Body) (s : State) → Holds P s → Holds P (use_body e body s)
 unfolding use_body
-use_body-keeps w e body s h = on_exchange-keeps w e.number (λ x. record x { body = body }) s (λ x. same_ask _ x refl refl refl) h
+use_body-keeps w e body s h = on_exchange-keeps w e.number (λ x. record x { body = body }) s (λ x. same_ask _ x refl refl refl refl refl refl) h
 
 drop_answer-keeps : {P : View → Type 0} (w : Walk P) (e : Exchange) (s : State) → Holds P s → Holds P (drop_answer e s)
 unfolding drop_answer

@@ -1,5 +1,5 @@
 -- The ends of responses and of connections keep what is kept by each change.
-use Rattle.std.proofs.Common.{◌≡◌, refl, ℕ, Bool, true, false, ◌&&◌, inr, le_refl, length, List, Option, Some, None}
+use Rattle.std.proofs.Common.{◌≡◌, refl, ℕ, Bool, true, false, ◌&&◌, inl, inr, le_refl, length, List, Option, Some, None}
 use Rattle.pp_head.specs.Response.{Response}
 use Rattle.pp_pass.specs.Pipe.{finished}
 use Rattle.pp_law.specs.Connections.{conn, on_conn, front_of_line, close_conn, end_exchange, lose_attempt}
@@ -21,7 +21,7 @@ unfolding close_this
 close_this-keeps w n s h = each_of (conn s n) h (λ k. close_conn-keeps w true k s h)
 
 pub lesser_rested : (head : Response) (k : Conn) → Lesser (rested head k) k
-lesser_rested head k = record { number = refl; line = le_refl (length k.line); answer = inr refl; unread = inr refl }
+lesser_rested head k = record { number = refl; line = le_refl (length k.line); within = λ n i. i; answer = inr refl; unread = inr refl; closing = inl refl }
 
 -- the exchange is over, and its answer is
 pub done-keeps : {P : View → Type 0} (w : Walk P) (k : Conn) (e : Exchange) (a : Answer) (s : State) → Holds P s

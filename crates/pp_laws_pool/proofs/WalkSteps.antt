@@ -30,14 +30,14 @@ drop_unseen-keeps w s h = each_conn-keeps w drop_on (drop_on-keeps w) _ s h
 
 pub touch-keeps : {P : View → Type 0} (w : Walk P) (n : ℕ) (s : State) → Holds P s → Holds P (touch n s)
 unfolding touch
-touch-keeps w n s h = on_conn-keeps w n (marked_conn s.clock) _ (λ k. same_conn _ k refl refl refl refl) (on_client-keeps w n (marked_client s.clock) s (λ c. refl) h)
+touch-keeps w n s h = on_conn-keeps w n (marked_conn s.clock) _ (λ k. same_conn _ k refl refl refl refl refl) (on_client-keeps w n (marked_client s.clock) s (λ c. refl) h)
 
 marks_anew-keeps : {P : View → Type 0} (w : Walk P) (now : ℕ) (s : State) → Holds P s → Holds P (marks_anew now s)
 unfolding marks_anew
 marks_anew-keeps {P} w now s h = when (is_leap now s) marked h
   where
     marked : Holds P (record s { has_ticked = true; clients = map (marked_client now) s.clients; conns = map (marked_conn now) s.conns })
-    marked = holds (w.conns (marked_conn now) (λ k. same_conn _ k refl refl refl refl) (record (view s) { clients = map (marked_client now) s.clients }) (w.clients (marked_client now) (λ c. refl) (view s) (facts_of h)))
+    marked = holds (w.conns (marked_conn now) (λ k. same_conn _ k refl refl refl refl refl) (record (view s) { clients = map (marked_client now) s.clients }) (w.clients (marked_client now) (λ c. refl) (view s) (facts_of h)))
 
 end_patience-keeps : {P : View → Type 0} (w : Walk P) (k : Conn) (s : State) → Holds P s → Holds P (end_patience k s)
 unfolding end_patience
@@ -79,12 +79,12 @@ rested_ask : (s : State) (e : Exchange) → SameAsk (rested_exchange s e) e
 rested_ask s e = by (bound_of e)
   where
     by : (o : Option Bound) → SameAsk (elim o as (λ c. Exchange) [ None ↦ e | Some b ↦ record e { body = Joining (wanted_to s b) } ]) e
-    by None = same_ask e e refl refl refl
-    by (Some b) = same_ask _ e refl refl refl
+    by None = same_ask e e refl refl refl refl refl refl
+    by (Some b) = same_ask _ e refl refl refl refl refl refl
 
 -- clients, connections and exchanges as they rest
 pub rested-keeps : {P : View → Type 0} (w : Walk P) (wants : Wants) (s : State) → Holds P s → P (record (view s) { clients = map (rested_client s) s.clients; conns = map (rested_conn s wants) s.conns; exchanges = map (rested_exchange s) s.exchanges })
 rested-keeps w wants s h =
     w.asks (rested_exchange s) (rested_ask s) (record (view s) { clients = map (rested_client s) s.clients; conns = map (rested_conn s wants) s.conns })
-    (w.conns (rested_conn s wants) (λ k. same_conn _ k refl refl refl refl) (record (view s) { clients = map (rested_client s) s.clients })
+    (w.conns (rested_conn s wants) (λ k. same_conn _ k refl refl refl refl refl) (record (view s) { clients = map (rested_client s) s.clients })
     (w.clients (rested_client s) (λ c. refl) (view s) (facts_of h)))

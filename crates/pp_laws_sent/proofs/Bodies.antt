@@ -1,0 +1,73 @@
+-- What more text leaves of a body and of a head, and how much of it they take.
+use Rattle.std.proofs.Common.{◌≡◌, refl, ℕ, ◌+◌, ◌<◌, List, [], ◌∷◌, ◌++◌, length, sym, ap, ◌∙◌, append_assoc, length-append, arith}
+use Rattle.pp_framing.proofs.BodiesExact.{read_from-first_place}
+use Rattle.pp_framing.specs.Body.{Body, Outcome, Done, Going, Bad}
+use Rattle.pp_framing.specs.Places.{first_place, datum, step, read_from}
+use Rattle.pp_framing.specs.Rules.{body_of}
+use Rattle.pp_framing.specs.declared.body.BodyRule.{BodyRule}
+use Rattle.pp_framing.specs.declared.place.Place.TheVariants.{Over, Wrong}
+use Rattle.pp_framing.specs.declared.place.Place.{Place}
+use Rattle.pp_head.proofs.ResponseAgrees.{response_stays}
+use Rattle.pp_head.specs.Read.{Read, Stays, Whole, TooLong, Bad as NoHead, More}
+use Rattle.pp_head.specs.Response.{Response, response_at}
+use Rattle.pp_law.specs.Lists.{Bytes}
+
+-- ---- bodies
+
+read_more : (place : Place) (text more : List ℕ) → (later : List ℕ) × ((read_from place (text ++ more)).payload ≡ (read_from place text).payload ++ later)
+read_more Over text more = ([], refl)
+read_more Wrong text more = ([], refl)
+read_more place [] more = ((read_from place more).payload, refl)
+read_more place (b ∷ text) more =
+    let r = read_more (step place b) text more in
+    (r.0, ap (λ (xs : List ℕ). datum place b ++ xs) r.1 ∙ sym (append_assoc (datum place b) (read_from (step place b) text).payload r.0))
+
+-- the data of a text are the front of those of a longer one
+pub payload_more : (rule : BodyRule) (text more : List ℕ) → (later : List ℕ) × ((body_of rule (text ++ more)).payload ≡ (body_of rule text).payload ++ later)
+payload_more rule text more =
+    let r = read_more (first_place rule) text more in
+    (r.0, ap (λ (b : Body). b.payload) (sym (read_from-first_place rule (text ++ more))) ∙ r.1 ∙ ap (λ (b : Body). b.payload ++ r.0) (read_from-first_place rule text))
+
+same_rest : {xs ys : List ℕ} → Done xs ≡ Done ys → xs ≡ ys
+same_rest e = cc e
+
+read_done : (place : Place) (text rest : List ℕ) → (read_from place text).outcome ≡ Done rest → (used : List ℕ) × (text ≡ used ++ rest)
+read_done Over text rest is = ([], same_rest is)
+read_done Wrong text rest is = absurd (cc is)
+read_done place [] rest is = absurd (cc is)
+read_done place (b ∷ text) rest is = let r = read_done (step place b) text rest is in (b ∷ r.0, ap (λ (xs : List ℕ). b ∷ xs) r.1)
+
+-- what follows a body is the end of its text
+pub done_ends : (rule : BodyRule) (text rest : List ℕ) → (body_of rule text).outcome ≡ Done rest → (used : List ℕ) × (text ≡ used ++ rest)
+done_ends rule text rest is = read_done (first_place rule) text rest (ap (λ (b : Body). b.outcome) (read_from-first_place rule text) ∙ is)
+
+fewer : (place : Place) (text rest : List ℕ) → (read_from place []).outcome ≡ Going → (read_from place text).outcome ≡ Done rest → length rest < length text
+fewer Over text rest going is = absurd (cc going)
+fewer Wrong text rest going is = absurd (cc going)
+fewer place [] rest going is = absurd (cc is)
+fewer place (b ∷ text) rest going is =
+    let r = read_done (step place b) text rest is in
+    let long : length text ≡ length r.0 + length rest = ap length r.1 ∙ length-append r.0 rest in omega arith
+
+read_less : (place : Place) (text more rest : List ℕ) → (read_from place text).outcome ≡ Going → (read_from place (text ++ more)).outcome ≡ Done rest → length rest < length more
+read_less Over text more rest going is = absurd (cc going)
+read_less Wrong text more rest going is = absurd (cc going)
+read_less place [] more rest going is = fewer place more rest going is
+read_less place (b ∷ text) more rest going is = read_less (step place b) text more rest going is
+
+-- a body that went on takes some of what follows
+pub body_less : (rule : BodyRule) (text more rest : List ℕ) → (body_of rule text).outcome ≡ Going → (body_of rule (text ++ more)).outcome ≡ Done rest → length rest < length more
+body_less rule text more rest going is =
+    read_less (first_place rule) text more rest (ap (λ (b : Body). b.outcome) (read_from-first_place rule text) ∙ going) (ap (λ (b : Body). b.outcome) (read_from-first_place rule (text ++ more)) ∙ is)
+
+-- ---- heads
+
+-- what follows a whole head leaves it as it is
+pub whole_more : (text more : Bytes) (head : Response) → response_at text ≡ Whole head → response_at (text ++ more) ≡ Whole head
+whole_more text more head is = by (response_at text) (response_stays text) is
+  where
+    by : (o : Read Response) → Stays response_at text o → o ≡ Whole head → response_at (text ++ more) ≡ Whole head
+    by (Whole q) all e = all more ∙ e
+    by TooLong all e = absurd (cc e)
+    by NoHead all e = absurd (cc e)
+    by More all e = absurd (cc e)

@@ -1,0 +1,183 @@
+-- The law: what is on record as sent stands in the log.
+use Rattle.std.proofs.Common.{◌≡◌, ◌⊎◌, refl, ℕ, Bool, true, false, ◌==◌, List, [], ◌∷◌, ◌++◌, map, length, sym, subst, ap, ◌∙◌, append_assoc, le_refl}
+use Rattle.std.proofs.lemmas.List.{append-nil}
+use Rattle.std.specs.Prelude.{if◌then◌else◌}
+use Rattle.pp_world.proofs.LogLemmas.{got-append}
+use Rattle.pp_world.specs.Log.{Log}
+use Rattle.pp_world.specs.Streams.{got as got_of, got_in}
+use Rattle.pp_world.specs.declared.happening.Happening.{Happening}
+use Rattle.pp_world.specs.declared.happening.Happening.TheVariants.{Woke, Waits, Clock, Opened, CanRead, CanWrite, Heard, HungUp, Said, Shut, Dialled, Undialled, Reached, Ended, Broke, Asked, Got, Dropped, NoneYet, Began, Did, Unread, Noted, Rooted, Listed, Listens, Configured, Printed, Stopped}
+use Rattle.pp_law.proofs.Prefixes.{front_from}
+use Rattle.pp_law.specs.After.{after, changed, paid}
+use Rattle.pp_law.specs.Lawful.{Lawful}
+use Rattle.pp_law.specs.Lists.{Bytes}
+use Rattle.pp_law.specs.Responses.{got}
+use Rattle.pp_law.specs.State.{State, Sent, Term, Conn, Exchange, start}
+use Rattle.pp_laws.specs.Numbers.{AreRising, HasOwnNumbers}
+use Rattle.pp_laws.specs.Runs.{IsIn, state_after}
+use Rattle.pp_laws.proofs.Laws.{own_numbers}
+use Rattle.pp_laws.proofs.Sound.{conn_number}
+use Rattle.pp_laws.proofs.Tests.{number_same, same_number}
+use Rattle.pp_laws_pool.proofs.Along.{after_all-append}
+use Rattle.pp_laws_pool.proofs.View.{Holds, holds, facts_of, view}
+use Rattle.pp_laws_pool.proofs.WalkClients.{end_replies-keeps, regained-keeps}
+use Rattle.pp_laws_sent.specs.Stands.{IsAskedOn, SentStandsInTheLog, StandsIn, WasAskedOn}
+use Rattle.pp_laws_sent.proofs.Came.{Alike, Began as HasBegun, Came, EndsWith, Facts, Rests, WasAsked, came_more, came_walk, no_end, none_apart}
+use Rattle.pp_laws_sent.proofs.Happenings.{ReadsNothing, changed-rests}
+use Rattle.pp_laws_sent.proofs.Pieces.{at_end, got-came}
+
+-- what came on each connection, and what was asked there
+abbrev came_in : Log → ℕ → Bytes
+came_in log number = got_of number log
+
+-- ---- a log grows
+
+once : (number : ℕ) (h : Happening) → got_of number (h ∷ []) ≡ got_in number h ++ []
+unfolding got_of
+once number h = refl
+
+one_more : (log : Log) (h : Happening) (number : ℕ) → came_in (log ++ h ∷ []) number ≡ came_in log number ++ got_in number h
+one_more log h number = got-append number log (h ∷ []) ∙ ap (λ (xs : Bytes). came_in log number ++ xs) (once number h ∙ append-nil (got_in number h))
+
+asked_still : (terms : List Term) (log : Log) (h : Happening) (number : ℕ) (e : Exchange) → WasAskedOn terms log number e → WasAskedOn terms (log ++ h ∷ []) number e
+asked_still terms log h number e w = record { front = w.front; behind = w.behind ++ h ∷ []; parts = sym (append_assoc w.front w.behind (h ∷ [])) ∙ ap (λ (l : Log). l ++ h ∷ []) w.parts; then = w.then }
+
+-- ---- where nothing of an origin is read
+
+quiet : (number : ℕ) (h : Happening) → ReadsNothing h → got_in number h ≡ []
+quiet number (Got n bytes) is = absurd is
+quiet number (Woke image) is = refl
+quiet number (Waits w) is = refl
+quiet number (Clock seconds) is = refl
+quiet number (Opened n) is = refl
+quiet number (CanRead n) is = refl
+quiet number (CanWrite n) is = refl
+quiet number (Heard c bytes) is = refl
+quiet number (HungUp c) is = refl
+quiet number (Said c offered bytes) is = refl
+quiet number (Shut c) is = refl
+quiet number (Dialled n host port) is = refl
+quiet number (Undialled host port) is = refl
+quiet number (Reached n) is = refl
+quiet number (Ended n) is = refl
+quiet number (Broke n) is = refl
+quiet number (Asked n bytes) is = refl
+quiet number (Dropped n) is = refl
+quiet number (NoneYet n) is = refl
+quiet number (Began op) is = refl
+quiet number (Did op ok) is = refl
+quiet number (Unread name) is = refl
+quiet number (Noted remark) is = refl
+quiet number (Rooted folder) is = refl
+quiet number (Listed ok) is = refl
+quiet number (Listens port ok) is = refl
+quiet number (Configured file text) is = refl
+quiet number (Printed text) is = refl
+quiet number Stopped is = refl
+
+-- behind a log, in a state
+abbrev Inv : List Term → Log → State → Type 0
+Inv terms log s = Holds (Rests (came_in log) (WasAskedOn terms log)) s
+
+quiet_step : (terms : List Term) (log : Log) (h : Happening) (s : State) → ReadsNothing h → Inv terms log s → Inv terms (log ++ h ∷ []) (after s h)
+quiet_step terms log h s is inv =
+    changed-rests (came_in (log ++ h ∷ [])) (WasAskedOn terms (log ++ h ∷ [])) s h is
+    (holds (came_more (came_in log) (came_in (log ++ h ∷ [])) no_end (WasAskedOn terms log) (WasAskedOn terms (log ++ h ∷ [])) (λ n. one_more log h n ∙ ap (λ (xs : Bytes). came_in log n ++ xs) (quiet n h is)) (λ n e w. asked_still terms log h n e w) (view s) (facts_of inv)))
+
+-- ---- where it is
+
+got_end : (n number : ℕ) (bytes : Bytes) → got_in number (Got n bytes) ≡ at_end n bytes number
+got_end n number bytes = by (n == number) (number == n) refl refl
+  where
+    by : (t u : Bool) → (n == number) ≡ t → (number == n) ≡ u → (if t then bytes else []) ≡ (elim u as (λ c. Bytes) [ true ↦ bytes | false ↦ [] ])
+    by true true one two = refl
+    by false false one two = refl
+    by true false one two = let both : true ≡ false = sym (number_same n) ∙ ap (λ m. m == n) (same_number n number one) ∙ two in absurd (cc both)
+    by false true one two = let both : true ≡ false = sym (number_same number) ∙ ap (λ m. m == number) (same_number number n two) ∙ one in absurd (cc both)
+
+nothing_left : (n number : ℕ) → at_end n [] number ≡ []
+nothing_left n number = by (number == n)
+  where
+    by : (t : Bool) → (elim t as (λ c. Bytes) [ true ↦ [] | false ↦ [] ]) ≡ []
+    by true = refl
+    by false = refl
+
+put_down : (total : ℕ → Bytes) (asked : ℕ → Exchange → Type 0) (n : ℕ) (s : State) → Holds (Came total (at_end n []) asked true none_apart) s → Holds (Rests total asked) s
+put_down total asked n s h = holds (record {
+  stand = f.stand;
+  read = λ k i. subst (λ (e : Bytes). EndsWith (total k.number) (k.unread ++ e)) (nothing_left n k.number) (f.read k i);
+  more = f.more;
+  past = f.past;
+  shut = f.shut;
+  begun = λ k a i is. subst (λ (e : Bytes). HasBegun (total k.number) e (asked k.number) a) (nothing_left n k.number) (f.begun k a i is);
+  going = f.going;
+  rise = λ on. absurd (cc on);
+  from = λ on. absurd (cc on);
+})
+  where
+    f : Came total (at_end n []) asked true none_apart (view s)
+    f = facts_of h
+
+got_step : (terms : List Term) (log : Log) (n : ℕ) (bytes : Bytes) → AreRising (map conn_number (state_after terms log).conns) → Inv terms log (state_after terms log) → Inv terms (log ++ Got n bytes ∷ []) (after (state_after terms log) (Got n bytes))
+unfolding changed paid
+got_step terms log n bytes rise inv =
+    let total : ℕ → Bytes = came_in (log ++ Got n bytes ∷ []) in
+    let asked : ℕ → Exchange → Type 0 = WasAskedOn terms (log ++ Got n bytes ∷ []) in
+    let w = came_walk total no_end asked false none_apart in
+    regained-keeps w _ (holds (facts_of (end_replies-keeps w _ (put_down total asked n _ (got-came total asked (length bytes) n bytes s (le_refl (length bytes)) reading)))))
+  where
+    s : State
+    s = state_after terms log
+
+    f : Came (came_in (log ++ Got n bytes ∷ [])) (at_end n bytes) (WasAskedOn terms (log ++ Got n bytes ∷ [])) false none_apart (view s)
+    f = came_more (came_in log) (came_in (log ++ Got n bytes ∷ [])) (at_end n bytes) (WasAskedOn terms log) (WasAskedOn terms (log ++ Got n bytes ∷ [])) (λ m. one_more log (Got n bytes) m ∙ ap (λ (xs : Bytes). came_in log m ++ xs) (got_end n m bytes)) (λ m e w. asked_still terms log (Got n bytes) m e w) (view s) (facts_of inv)
+
+    reading : Holds (Came (came_in (log ++ Got n bytes ∷ [])) (at_end n bytes) (WasAskedOn terms (log ++ Got n bytes ∷ [])) true none_apart) s
+    reading = holds (record {
+      stand = f.stand;
+      read = f.read;
+      more = f.more;
+      past = f.past;
+      shut = f.shut;
+      begun = f.begun;
+      going = f.going;
+      rise = λ on. rise;
+      from = λ on k e i j l. record {
+        was = e;
+        asks = record { front = log; behind = Got n bytes ∷ []; parts = refl; then = record { exchange = j; conn = k; there = i; numbered = refl; line = l } };
+        is = record { number = refl; key = refl; head = refl; aim = refl };
+      };
+    })
+
+-- ---- all
+
+step : (terms : List Term) (log : Log) (h : Happening) → Lawful terms log → Inv terms log (state_after terms log) → Inv terms (log ++ h ∷ []) (after (state_after terms log) h)
+step terms log h lawful inv = by h
+  where
+    by : (h : Happening) → Inv terms (log ++ h ∷ []) (after (state_after terms log) h)
+    by (Got n bytes) = got_step terms log n bytes (own_numbers terms log lawful).conns_rise inv
+    by h = quiet_step terms log h (state_after terms log) tt inv
+
+inv_from : (terms : List Term) (front log : Log) → Lawful terms (front ++ log) → Inv terms front (state_after terms front) → Inv terms (front ++ log) (state_after terms (front ++ log))
+inv_from terms front [] lawful now = subst (λ (l : Log). Inv terms l (state_after terms l)) (sym (append-nil front)) now
+inv_from terms front (h ∷ log) lawful now =
+    let joined : (front ++ h ∷ []) ++ log ≡ front ++ h ∷ log = append_assoc front (h ∷ []) log in
+    let whole : Lawful terms ((front ++ h ∷ []) ++ log) = subst (λ (l : Log). Lawful terms l) (sym joined) lawful in
+    let next : Inv terms (front ++ h ∷ []) (state_after terms (front ++ h ∷ [])) = subst (λ (s : State). Inv terms (front ++ h ∷ []) s) (sym (after_all-append (start terms) front (h ∷ []))) (step terms front h (front_from (start terms) front (h ∷ log) lawful) now) in
+    subst (λ (l : Log). Inv terms l (state_after terms l)) joined (inv_from terms (front ++ h ∷ []) log whole next)
+
+first : (terms : List Term) → Inv terms [] (start terms)
+first terms = holds (record {
+  stand = λ p i. absurd i;
+  read = λ k i. absurd i;
+  more = λ k i. absurd i;
+  past = λ k a i. absurd i;
+  shut = λ k i. absurd i;
+  begun = λ k a i. absurd i;
+  going = λ k a i. absurd i;
+  rise = λ on. absurd (cc on);
+  from = λ on. absurd (cc on);
+})
+
+pub sent_stands : SentStandsInTheLog
+sent_stands terms log part lawful i = (facts_of (inv_from terms [] log lawful (first terms))).stand part i

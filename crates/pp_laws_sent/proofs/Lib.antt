@@ -1,0 +1,6 @@
+mod Bodies
+mod Came
+mod Pieces
+mod Happenings
+mod Laws
+mod Worked

@@ -1,0 +1,15 @@
+//! What follows from the law of the proxy for what origins sent: it stands in what came on their connections.
+//!
+//! `pp_law` puts on record what each origin sent, for which key, at which offset and under which version.
+//! Here stands that each of these bytes is a part of the data of a response, as the readers of heads and
+//! bodies find it in the joined bytes of a connection.
+//!
+//! To the layer above: the law is the clause of a function that does nothing. What leaves a lawful log
+//! has it; that a program leaves one is not said here.
+//!
+//! Takes no memory, and does nothing when the program runs.
+#![tactic(auto)]
+
+mod stands; // what was sent, in the log
+
+pub use stands::sent_stands_in_the_log;
