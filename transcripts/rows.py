@@ -4,15 +4,16 @@
     unfolding judging
     row7 = refl
 
-A declaration may take 50 million steps, some 2,000 to 3,000 plain happenings. So a front of some length, and a log of more, is
-computed in pieces (forcing.py). A row has the number of the line where it begins in its file; a change its name and place too.
+A declaration may take 50 million steps, some 2,000 to 3,000 plain happenings, or 800 of a life that keeps much on the disk. So
+a front of some length, and a log of more, is computed in pieces (forcing.py). A row has the number of the line where it begins
+in its file; a change its name and place too.
 """
 
 import terms
 
 PIECE = 240  # happenings between two states that are written out
 FRONT_FROM = 200  # a front of so many is computed once for all logs of a module
-ROW_TO = 1500  # a log of more is computed in pieces
+ROW_TO = 600  # a log of more is computed in pieces
 MODULE = 64  # rows in a module
 
 USES = terms.USES + """use Rattle.pp_law.specs.State.{State, start}

@@ -874,20 +874,64 @@ text284 = (codes "HTTP/1.1 206 Partial Content\r\netag: \"c\"\r\ndate: Sun, 06 N
 abbrev text285 : Bytes
 text285 = (replicate 68 114 ++ replicate 32 115)
 
-row5 : fault_from 0 (start (record { words = (codes "diskRun=2") ∷ []; faults = 0 } ∷ record { words = (codes "diskRun=1") ∷ []; faults = 0 } ∷ record { words = (codes "diskRun=2") ∷ []; faults = 0 } ∷ [])) (Woke [] ∷ Rooted text0 ∷ Listed true ∷ Listens 8123 true ∷ wait true [] [] ∷ Clock 784111777 ∷ wait true [] [] ∷ Opened 1 ∷ wait true (1 ∷ []) [] ∷ CanRead 1 ∷ Heard 1 text1 ∷ Noted (Taken 1 0 Fetch) ∷ Dialled 2 (codes "t") 80 ∷ wait true (1 ∷ []) [] ∷ Reached 2 ∷ wait true (1 ∷ 2 ∷ []) (2 ∷ []) ∷ CanWrite 2 ∷ Asked 2 text2 ∷ wait true (1 ∷ 2 ∷ []) [] ∷ CanRead 2 ∷ Got 2 text3 ∷ Noted (Taken 1 0 (Hit 12000 20000)) ∷ wait true (1 ∷ 2 ∷ []) (1 ∷ []) ∷ CanWrite 1 ∷ Said 1 8212 text4 ∷ wait true (1 ∷ 2 ∷ []) [] ∷ Opened 3 ∷ wait true (1 ∷ 3 ∷ 2 ∷ []) [] ∷ CanRead 3 ∷ Heard 3 text5 ∷ Noted (Taken 3 0 (Hit 19900 20000)) ∷ wait true (1 ∷ 3 ∷ 2 ∷ []) (3 ∷ []) ∷ CanWrite 3 ∷ Said 3 319 text6 ∷ wait true (1 ∷ 3 ∷ 2 ∷ []) [] ∷ Clock 784111796 ∷ wait true (1 ∷ 3 ∷ 2 ∷ []) [] ∷ Opened 4 ∷ wait true (1 ∷ 3 ∷ 4 ∷ 2 ∷ []) [] ∷ CanRead 4 ∷ Heard 4 text7 ∷ Noted (Taken 4 0 Fetch) ∷ Dialled 5 (codes "s") 80 ∷ wait true (1 ∷ 3 ∷ 4 ∷ 2 ∷ []) [] ∷ Reached 5 ∷ wait true (1 ∷ 3 ∷ 4 ∷ 2 ∷ 5 ∷ []) (5 ∷ []) ∷ CanWrite 5 ∷ Asked 5 text8 ∷ wait true (1 ∷ 3 ∷ 4 ∷ 2 ∷ 5 ∷ []) [] ∷ CanRead 5 ∷ Got 5 text9 ∷ Noted (Taken 4 0 (Hit 0 0)) ∷ wait true (1 ∷ 3 ∷ 4 ∷ 2 ∷ 5 ∷ []) (4 ∷ []) ∷ CanWrite 4 ∷ Said 4 156 text10 ∷ wait true (1 ∷ 3 ∷ 4 ∷ 2 ∷ 5 ∷ []) [] ∷ Reached 2 ∷ wait true (1 ∷ 3 ∷ 4 ∷ 2 ∷ 5 ∷ []) [] ∷ Reached 5 ∷ wait true (1 ∷ 3 ∷ 4 ∷ 2 ∷ 5 ∷ []) [] ∷ Opened 6 ∷ wait true (1 ∷ 3 ∷ 4 ∷ 6 ∷ 2 ∷ 5 ∷ []) [] ∷ CanRead 6 ∷ Heard 6 text11 ∷ wait true (1 ∷ 3 ∷ 4 ∷ 6 ∷ 2 ∷ 5 ∷ []) [] ∷ CanRead 6 ∷ Heard 6 (codes "-Forwards:") ∷ wait true (1 ∷ 3 ∷ 4 ∷ 6 ∷ 2 ∷ 5 ∷ []) [] ∷ CanRead 6 ∷ Heard 6 (codes " 0\r\n\r\n") ∷ Noted (Taken 6 0 Pass) ∷ Dialled 7 (codes "h") 80 ∷ wait true (1 ∷ 3 ∷ 4 ∷ 6 ∷ 2 ∷ 5 ∷ []) [] ∷ Clock 784111830 ∷ wait true (1 ∷ 3 ∷ 4 ∷ 6 ∷ 2 ∷ 5 ∷ []) [] ∷ CanRead 1 ∷ Heard 1 text12 ∷ wait true (1 ∷ 3 ∷ 4 ∷ 6 ∷ 2 ∷ 5 ∷ []) [] ∷ CanRead 1 ∷ Heard 1 (codes "ch: \"x") ∷ wait true (1 ∷ 3 ∷ 4 ∷ 6 ∷ 2 ∷ 5 ∷ []) [] ∷ CanRead 1 ∷ Heard 1 (codes "\"") ∷ wait true (1 ∷ 3 ∷ 4 ∷ 6 ∷ 2 ∷ 5 ∷ []) [] ∷ CanRead 1 ∷ Heard 1 (codes "\r") ∷ wait true (1 ∷ 3 ∷ 4 ∷ 6 ∷ 2 ∷ 5 ∷ []) [] ∷ CanRead 1 ∷ Heard 1 (codes "\n") ∷ wait true (1 ∷ 3 ∷ 4 ∷ 6 ∷ 2 ∷ 5 ∷ []) [] ∷ CanRead 1 ∷ Heard 1 (codes "\r\n") ∷ Noted (Taken 1 1 Pass) ∷ wait true (1 ∷ 3 ∷ 4 ∷ 6 ∷ 2 ∷ 5 ∷ []) (5 ∷ []) ∷ CanWrite 5 ∷ Asked 5 text13 ∷ wait true (1 ∷ 3 ∷ 4 ∷ 6 ∷ 2 ∷ 5 ∷ []) [] ∷ CanRead 5 ∷ Got 5 text14 ∷ wait true (1 ∷ 3 ∷ 4 ∷ 6 ∷ 2 ∷ 5 ∷ []) (1 ∷ []) ∷ CanWrite 1 ∷ Said 1 81 text15 ∷ wait true (1 ∷ 3 ∷ 4 ∷ 6 ∷ 2 ∷ 5 ∷ []) [] ∷ Broke 2 ∷ Dropped 2 ∷ wait true (1 ∷ 3 ∷ 4 ∷ 6 ∷ 5 ∷ []) [] ∷ Opened 8 ∷ wait true (1 ∷ 3 ∷ 4 ∷ 6 ∷ 8 ∷ 5 ∷ []) [] ∷ CanRead 8 ∷ Heard 8 text16 ∷ Noted (Taken 8 0 Pass) ∷ wait true (1 ∷ 3 ∷ 4 ∷ 6 ∷ 8 ∷ 5 ∷ []) (5 ∷ []) ∷ CanWrite 5 ∷ Asked 5 text17 ∷ wait true (1 ∷ 3 ∷ 4 ∷ 6 ∷ 8 ∷ 5 ∷ []) [] ∷ CanRead 5 ∷ Got 5 text18 ∷ wait true (1 ∷ 3 ∷ 4 ∷ 6 ∷ 8 ∷ 5 ∷ []) (8 ∷ []) ∷ CanWrite 8 ∷ Said 8 124 text19 ∷ wait true (1 ∷ 3 ∷ 4 ∷ 6 ∷ 8 ∷ 5 ∷ []) [] ∷ Opened 9 ∷ wait true (1 ∷ 3 ∷ 4 ∷ 6 ∷ 8 ∷ 9 ∷ 5 ∷ []) [] ∷ CanRead 9 ∷ Heard 9 text20 ∷ Noted (Taken 9 0 Fetch) ∷ wait true (1 ∷ 3 ∷ 4 ∷ 6 ∷ 8 ∷ 9 ∷ 5 ∷ []) (5 ∷ []) ∷ CanWrite 5 ∷ Asked 5 text21 ∷ wait true (1 ∷ 3 ∷ 4 ∷ 6 ∷ 8 ∷ 9 ∷ 5 ∷ []) [] ∷ CanRead 5 ∷ Got 5 text22 ∷ Began (Draft text23) ∷ Did (Draft text23) true ∷ Began SyncDraft ∷ Did SyncDraft true ∷ Began (Publish text24) ∷ Did (Publish text24) true ∷ Began (Write text24 12288 text25) ∷ Did (Write text24 12288 text25) true ∷ Began (Sync text24) ∷ Did (Sync text24) true ∷ Began (Write text24 8192 ((1 ∷ 1 ∷ []))) ∷ Did (Write text24 8192 ((1 ∷ 1 ∷ []))) true ∷ Began (Sync text24) ∷ Did (Sync text24) true ∷ Noted (Kept (codes "http://s/b") (codes "\"y\"") 9000 8192) ∷ Began (Write text24 20480 text26) ∷ Did (Write text24 20480 text26) true ∷ Began (Sync text24) ∷ Did (Sync text24) true ∷ Began (Write text24 8194 ((1 ∷ []))) ∷ Did (Write text24 8194 ((1 ∷ []))) true ∷ Began (Sync text24) ∷ Did (Sync text24) true ∷ Noted (Kept (codes "http://s/b") (codes "\"y\"") 9000 9000) ∷ Noted (Taken 9 0 (Hit 0 9000)) ∷ wait true (1 ∷ 3 ∷ 4 ∷ 6 ∷ 8 ∷ 9 ∷ 5 ∷ []) (9 ∷ []) ∷ CanWrite 9 ∷ Said 9 9154 text27 ∷ Shut 9 ∷ wait true (1 ∷ 3 ∷ 4 ∷ 6 ∷ 8 ∷ 5 ∷ []) [] ∷ CanRead 8 ∷ Heard 8 text28 ∷ Noted (Taken 8 1 (Refuse 400)) ∷ wait true (1 ∷ 3 ∷ 4 ∷ 6 ∷ 8 ∷ 5 ∷ []) (8 ∷ []) ∷ CanWrite 8 ∷ Said 8 109 text29 ∷ Shut 8 ∷ wait true (1 ∷ 3 ∷ 4 ∷ 6 ∷ 5 ∷ []) [] ∷ Opened 10 ∷ wait true (1 ∷ 3 ∷ 4 ∷ 6 ∷ 10 ∷ 5 ∷ []) [] ∷ CanRead 10 ∷ Heard 10 text30 ∷ Noted (Taken 10 0 Fetch) ∷ wait true (1 ∷ 3 ∷ 4 ∷ 6 ∷ 10 ∷ 5 ∷ []) (5 ∷ []) ∷ CanWrite 5 ∷ Asked 5 text31 ∷ wait true (1 ∷ 3 ∷ 4 ∷ 6 ∷ 10 ∷ 5 ∷ []) [] ∷ CanRead 5 ∷ Got 5 text18 ∷ Began (Draft text32) ∷ Did (Draft text32) true ∷ Began SyncDraft ∷ Did SyncDraft true ∷ Began (Publish text33) ∷ Did (Publish text33) true ∷ Noted (Kept (codes "http://s/a") (codes "\"x\"") 5 5) ∷ Noted (Taken 10 0 (Hit 0 5)) ∷ wait true (1 ∷ 3 ∷ 4 ∷ 6 ∷ 10 ∷ 5 ∷ []) (10 ∷ []) ∷ CanWrite 10 ∷ Said 10 161 text34 ∷ wait true (1 ∷ 3 ∷ 4 ∷ 6 ∷ 10 ∷ 5 ∷ []) [] ∷ Reached 5 ∷ wait true (1 ∷ 3 ∷ 4 ∷ 6 ∷ 10 ∷ 5 ∷ []) [] ∷ Reached 7 ∷ wait true (1 ∷ 3 ∷ 4 ∷ 6 ∷ 10 ∷ 5 ∷ 7 ∷ []) (7 ∷ []) ∷ CanWrite 7 ∷ Asked 7 text35 ∷ wait true (1 ∷ 3 ∷ 4 ∷ 6 ∷ 10 ∷ 5 ∷ 7 ∷ []) [] ∷ Reached 5 ∷ wait true (1 ∷ 3 ∷ 4 ∷ 6 ∷ 10 ∷ 5 ∷ 7 ∷ []) [] ∷ Reached 7 ∷ wait true (1 ∷ 3 ∷ 4 ∷ 6 ∷ 10 ∷ 5 ∷ 7 ∷ []) [] ∷ CanRead 7 ∷ Got 7 text36 ∷ wait true (1 ∷ 3 ∷ 4 ∷ 6 ∷ 10 ∷ 5 ∷ 7 ∷ []) (6 ∷ []) ∷ CanWrite 6 ∷ Said 6 98 text37 ∷ wait true (1 ∷ 3 ∷ 4 ∷ 6 ∷ 10 ∷ 5 ∷ 7 ∷ []) [] ∷ Opened 11 ∷ wait true (1 ∷ 3 ∷ 4 ∷ 6 ∷ 10 ∷ 11 ∷ 5 ∷ 7 ∷ []) [] ∷ CanRead 11 ∷ Heard 11 text20 ∷ Noted (Taken 11 0 (Hit 0 9000)) ∷ wait true (1 ∷ 3 ∷ 4 ∷ 6 ∷ 10 ∷ 11 ∷ 5 ∷ 7 ∷ []) (11 ∷ []) ∷ CanWrite 11 ∷ Said 11 9162 text38 ∷ Shut 11 ∷ wait true (1 ∷ 3 ∷ 4 ∷ 6 ∷ 10 ∷ 5 ∷ 7 ∷ []) [] ∷ Clock 784111831 ∷ wait true (1 ∷ 3 ∷ 4 ∷ 6 ∷ 10 ∷ 5 ∷ 7 ∷ []) [] ∷ Stopped ∷ Noted (Cut 6 Stop) ∷ Shut 1 ∷ Shut 3 ∷ Shut 4 ∷ Shut 6 ∷ Shut 10 ∷ Dropped 5 ∷ Dropped 7 ∷ Woke ((text24, text39) ∷ (text33, text32) ∷ []) ∷ Rooted text0 ∷ Listed true ∷ Listens 8123 true ∷ wait true [] [] ∷ Clock 784112777 ∷ wait true [] [] ∷ Opened 12 ∷ wait true (12 ∷ []) [] ∷ CanRead 12 ∷ Heard 12 text40 ∷ wait true (12 ∷ []) [] ∷ Opened 13 ∷ wait true (12 ∷ 13 ∷ []) [] ∷ CanRead 13 ∷ Heard 13 text41 ∷ Noted (Taken 13 0 Pass) ∷ Dialled 14 (codes "h") 80 ∷ wait true (12 ∷ 13 ∷ []) [] ∷ Opened 15 ∷ wait true (12 ∷ 13 ∷ 15 ∷ []) [] ∷ CanRead 15 ∷ Heard 15 text1 ∷ Noted (Taken 15 0 Fetch) ∷ Dialled 16 (codes "t") 80 ∷ wait true (12 ∷ 13 ∷ 15 ∷ []) [] ∷ Reached 16 ∷ wait true (12 ∷ 13 ∷ 15 ∷ 16 ∷ []) (16 ∷ []) ∷ CanWrite 16 ∷ Asked 16 text2 ∷ wait true (12 ∷ 13 ∷ 15 ∷ 16 ∷ []) [] ∷ CanRead 16 ∷ Got 16 text3 ∷ Began (Draft text42) ∷ Did (Draft text42) true ∷ Began SyncDraft ∷ Did SyncDraft true ∷ Began (Publish text43) ∷ Did (Publish text43) true ∷ Noted (Taken 15 0 (Hit 12000 20000)) ∷ wait true (12 ∷ 13 ∷ 15 ∷ 16 ∷ []) (15 ∷ []) ∷ CanWrite 15 ∷ Said 15 8212 text44 ∷ wait true (12 ∷ 13 ∷ 15 ∷ 16 ∷ []) [] ∷ Opened 17 ∷ wait true (12 ∷ 13 ∷ 15 ∷ 17 ∷ 16 ∷ []) [] ∷ CanRead 17 ∷ Heard 17 text45 ∷ Noted (Taken 17 0 Pass) ∷ Dialled 18 (codes "h") 80 ∷ wait true (12 ∷ 13 ∷ 15 ∷ 17 ∷ 16 ∷ []) [] ∷ CanRead 17 ∷ Heard 17 text46 ∷ wait true (12 ∷ 13 ∷ 15 ∷ 17 ∷ 16 ∷ []) [] ∷ CanRead 17 ∷ Heard 17 (codes "\r") ∷ wait true (12 ∷ 13 ∷ 15 ∷ 17 ∷ 16 ∷ []) [] ∷ CanRead 17 ∷ Heard 17 (codes "\n") ∷ wait true (12 ∷ 13 ∷ 15 ∷ 17 ∷ 16 ∷ []) [] ∷ Reached 14 ∷ wait true (12 ∷ 13 ∷ 15 ∷ 17 ∷ 14 ∷ 16 ∷ []) (14 ∷ []) ∷ CanWrite 14 ∷ Asked 14 text35 ∷ wait true (12 ∷ 13 ∷ 15 ∷ 17 ∷ 14 ∷ 16 ∷ []) [] ∷ Reached 16 ∷ wait true (12 ∷ 13 ∷ 15 ∷ 17 ∷ 14 ∷ 16 ∷ []) [] ∷ CanRead 17 ∷ Heard 17 text47 ∷ wait true (12 ∷ 13 ∷ 15 ∷ 17 ∷ 14 ∷ 16 ∷ []) [] ∷ CanRead 17 ∷ Heard 17 (codes "\r\n") ∷ wait true (12 ∷ 13 ∷ 15 ∷ 17 ∷ 14 ∷ 16 ∷ []) [] ∷ CanRead 17 ∷ Heard 17 (codes "\r") ∷ wait true (12 ∷ 13 ∷ 15 ∷ 17 ∷ 14 ∷ 16 ∷ []) [] ∷ CanRead 17 ∷ Heard 17 (codes "\n") ∷ wait true (12 ∷ 13 ∷ 15 ∷ 17 ∷ 14 ∷ 16 ∷ []) [] ∷ Clock 784112817 ∷ wait true (12 ∷ 13 ∷ 15 ∷ 17 ∷ 14 ∷ 16 ∷ []) [] ∷ Clock 784112823 ∷ wait true (12 ∷ 13 ∷ 15 ∷ 17 ∷ 14 ∷ 16 ∷ []) [] ∷ Opened 19 ∷ wait true (12 ∷ 13 ∷ 15 ∷ 17 ∷ 19 ∷ 14 ∷ 16 ∷ []) [] ∷ CanRead 19 ∷ Heard 19 text48 ∷ wait true (12 ∷ 13 ∷ 15 ∷ 17 ∷ 19 ∷ 14 ∷ 16 ∷ []) [] ∷ CanRead 19 ∷ Heard 19 (codes "Host: ") ∷ wait true (12 ∷ 13 ∷ 15 ∷ 17 ∷ 19 ∷ 14 ∷ 16 ∷ []) [] ∷ CanRead 19 ∷ Heard 19 (codes "h\r\n") ∷ wait true (12 ∷ 13 ∷ 15 ∷ 17 ∷ 19 ∷ 14 ∷ 16 ∷ []) [] ∷ CanRead 19 ∷ Heard 19 (codes "\r\n") ∷ Noted (Taken 19 0 Fetch) ∷ Dialled 20 (codes "h") 8080 ∷ wait true (12 ∷ 13 ∷ 15 ∷ 17 ∷ 19 ∷ 14 ∷ 16 ∷ []) [] ∷ Reached 14 ∷ wait true (12 ∷ 13 ∷ 15 ∷ 17 ∷ 19 ∷ 14 ∷ 16 ∷ []) [] ∷ Reached 16 ∷ wait true (12 ∷ 13 ∷ 15 ∷ 17 ∷ 19 ∷ 14 ∷ 16 ∷ []) [] ∷ CanRead 16 ∷ Got 16 text49 ∷ Dropped 16 ∷ wait true (12 ∷ 13 ∷ 15 ∷ 17 ∷ 19 ∷ 14 ∷ []) [] ∷ Opened 21 ∷ wait true (12 ∷ 13 ∷ 15 ∷ 17 ∷ 19 ∷ 21 ∷ 14 ∷ []) [] ∷ CanRead 21 ∷ Heard 21 text50 ∷ Noted (Taken 21 0 (Hit 1 4)) ∷ wait true (12 ∷ 13 ∷ 15 ∷ 17 ∷ 19 ∷ 21 ∷ 14 ∷ []) (21 ∷ []) ∷ CanWrite 21 ∷ Said 21 207 text51 ∷ wait true (12 ∷ 13 ∷ 15 ∷ 17 ∷ 19 ∷ 21 ∷ 14 ∷ []) (21 ∷ []) ∷ CanWrite 21 ∷ Noted (Loaded (codes "http://s/a") (codes "\"x\"") 5 0) ∷ Said 21 3 (codes "aaa") ∷ wait true (12 ∷ 13 ∷ 15 ∷ 17 ∷ 19 ∷ 21 ∷ 14 ∷ []) [] ∷ CanRead 21 ∷ Heard 21 text52 ∷ wait true (12 ∷ 13 ∷ 15 ∷ 17 ∷ 19 ∷ 21 ∷ 14 ∷ []) [] ∷ CanRead 21 ∷ Heard 21 (codes "ed\r\n\r\n") ∷ Noted (Taken 21 1 (Hit 0 5)) ∷ wait true (12 ∷ 13 ∷ 15 ∷ 17 ∷ 19 ∷ 21 ∷ 14 ∷ []) (21 ∷ []) ∷ CanWrite 21 ∷ Said 21 171 text53 ∷ wait true (12 ∷ 13 ∷ 15 ∷ 17 ∷ 19 ∷ 21 ∷ 14 ∷ []) [] ∷ Opened 22 ∷ wait true (12 ∷ 13 ∷ 15 ∷ 17 ∷ 19 ∷ 21 ∷ 22 ∷ 14 ∷ []) [] ∷ CanRead 22 ∷ Heard 22 text5 ∷ Noted (Taken 22 0 (Hit 19900 20000)) ∷ wait true (12 ∷ 13 ∷ 15 ∷ 17 ∷ 19 ∷ 21 ∷ 22 ∷ 14 ∷ []) (22 ∷ []) ∷ CanWrite 22 ∷ Said 22 320 text54 ∷ wait true (12 ∷ 13 ∷ 15 ∷ 17 ∷ 19 ∷ 21 ∷ 22 ∷ 14 ∷ []) [] ∷ Opened 23 ∷ wait true (12 ∷ 13 ∷ 15 ∷ 17 ∷ 19 ∷ 21 ∷ 22 ∷ 23 ∷ 14 ∷ []) [] ∷ CanRead 23 ∷ Heard 23 text55 ∷ Noted (Taken 23 0 (Part 0 20000)) ∷ Dialled 24 (codes "t") 80 ∷ wait true (12 ∷ 13 ∷ 15 ∷ 17 ∷ 19 ∷ 21 ∷ 22 ∷ 23 ∷ 14 ∷ []) [] ∷ Reached 24 ∷ wait true (12 ∷ 13 ∷ 15 ∷ 17 ∷ 19 ∷ 21 ∷ 22 ∷ 23 ∷ 14 ∷ 24 ∷ []) (24 ∷ []) ∷ CanWrite 24 ∷ Asked 24 text56 ∷ wait true (12 ∷ 13 ∷ 15 ∷ 17 ∷ 19 ∷ 21 ∷ 22 ∷ 23 ∷ 14 ∷ 24 ∷ []) [] ∷ CanRead 24 ∷ Got 24 text57 ∷ Began (Write text43 12288 text58) ∷ Did (Write text43 12288 text58) true ∷ Began (Sync text43) ∷ Did (Sync text43) true ∷ Began (Write text43 8192 ((1 ∷ []))) ∷ Did (Write text43 8192 ((1 ∷ []))) true ∷ Began (Sync text43) ∷ Did (Sync text43) true ∷ Noted (Kept (codes "http://t/c") (codes "\"c\"") 20000 4096) ∷ Began (Write text43 16384 text59) ∷ Did (Write text43 16384 text59) true ∷ Began (Sync text43) ∷ Did (Sync text43) true ∷ Began (Write text43 8193 ((1 ∷ []))) ∷ Did (Write text43 8193 ((1 ∷ []))) true ∷ Began (Sync text43) ∷ Did (Sync text43) true ∷ Noted (Kept (codes "http://t/c") (codes "\"c\"") 20000 8192) ∷ Began (Write text43 20480 text60) ∷ Did (Write text43 20480 text60) true ∷ Began (Sync text43) ∷ Did (Sync text43) true ∷ Began (Write text43 8194 ((1 ∷ []))) ∷ Did (Write text43 8194 ((1 ∷ []))) true ∷ Began (Sync text43) ∷ Did (Sync text43) true ∷ Noted (Kept (codes "http://t/c") (codes "\"c\"") 20000 12288) ∷ Began (Write text43 24576 text61) ∷ Did (Write text43 24576 text61) true ∷ Began (Sync text43) ∷ Did (Sync text43) true ∷ Began (Write text43 8195 ((1 ∷ []))) ∷ Did (Write text43 8195 ((1 ∷ []))) true ∷ Began (Sync text43) ∷ Did (Sync text43) true ∷ Noted (Kept (codes "http://t/c") (codes "\"c\"") 20000 16384) ∷ Began (Write text43 28672 text62) ∷ Did (Write text43 28672 text62) true ∷ Began (Sync text43) ∷ Did (Sync text43) true ∷ Began (Write text43 8196 ((1 ∷ []))) ∷ Did (Write text43 8196 ((1 ∷ []))) true ∷ Began (Sync text43) ∷ Did (Sync text43) true ∷ Noted (Kept (codes "http://t/c") (codes "\"c\"") 20000 20000) ∷ wait true (12 ∷ 13 ∷ 15 ∷ 17 ∷ 19 ∷ 21 ∷ 22 ∷ 23 ∷ 14 ∷ 24 ∷ []) (23 ∷ []) ∷ CanWrite 23 ∷ Said 23 20160 text63 ∷ wait true (12 ∷ 13 ∷ 15 ∷ 17 ∷ 19 ∷ 21 ∷ 22 ∷ 23 ∷ 14 ∷ 24 ∷ []) [] ∷ Opened 25 ∷ wait true (12 ∷ 13 ∷ 15 ∷ 17 ∷ 19 ∷ 21 ∷ 22 ∷ 23 ∷ 25 ∷ 14 ∷ 24 ∷ []) [] ∷ CanRead 25 ∷ Heard 25 text64 ∷ wait true (12 ∷ 13 ∷ 15 ∷ 17 ∷ 19 ∷ 21 ∷ 22 ∷ 23 ∷ 25 ∷ 14 ∷ 24 ∷ []) [] ∷ CanRead 25 ∷ Heard 25 (codes "es=-100\r\n") ∷ wait true (12 ∷ 13 ∷ 15 ∷ 17 ∷ 19 ∷ 21 ∷ 22 ∷ 23 ∷ 25 ∷ 14 ∷ 24 ∷ []) [] ∷ CanRead 25 ∷ Heard 25 (codes "\r") ∷ wait true (12 ∷ 13 ∷ 15 ∷ 17 ∷ 19 ∷ 21 ∷ 22 ∷ 23 ∷ 25 ∷ 14 ∷ 24 ∷ []) [] ∷ CanRead 25 ∷ Heard 25 (codes "\n") ∷ Noted (Taken 25 0 (Hit 19900 20000)) ∷ wait true (12 ∷ 13 ∷ 15 ∷ 17 ∷ 19 ∷ 21 ∷ 22 ∷ 23 ∷ 25 ∷ 14 ∷ 24 ∷ []) (25 ∷ []) ∷ CanWrite 25 ∷ Said 25 319 text65 ∷ wait true (12 ∷ 13 ∷ 15 ∷ 17 ∷ 19 ∷ 21 ∷ 22 ∷ 23 ∷ 25 ∷ 14 ∷ 24 ∷ []) [] ∷ Reached 14 ∷ wait true (12 ∷ 13 ∷ 15 ∷ 17 ∷ 19 ∷ 21 ∷ 22 ∷ 23 ∷ 25 ∷ 14 ∷ 24 ∷ []) [] ∷ Opened 26 ∷ wait true (12 ∷ 13 ∷ 15 ∷ 17 ∷ 19 ∷ 21 ∷ 22 ∷ 23 ∷ 25 ∷ 26 ∷ 14 ∷ 24 ∷ []) [] ∷ CanRead 26 ∷ Heard 26 text66 ∷ Noted (Taken 26 0 (Hit 5000 6000)) ∷ wait true (12 ∷ 13 ∷ 15 ∷ 17 ∷ 19 ∷ 21 ∷ 22 ∷ 23 ∷ 25 ∷ 26 ∷ 14 ∷ 24 ∷ []) (26 ∷ []) ∷ CanWrite 26 ∷ Said 26 219 text67 ∷ wait true (12 ∷ 13 ∷ 15 ∷ 17 ∷ 19 ∷ 21 ∷ 22 ∷ 23 ∷ 25 ∷ 26 ∷ 14 ∷ 24 ∷ []) (26 ∷ []) ∷ CanWrite 26 ∷ Noted (Loaded (codes "http://s/b") (codes "\"y\"") 9000 1) ∷ Said 26 1000 text68 ∷ wait true (12 ∷ 13 ∷ 15 ∷ 17 ∷ 19 ∷ 21 ∷ 22 ∷ 23 ∷ 25 ∷ 26 ∷ 14 ∷ 24 ∷ []) [] ∷ CanRead 26 ∷ Heard 26 text16 ∷ Noted (Taken 26 1 Pass) ∷ Dialled 27 (codes "s") 80 ∷ wait true (12 ∷ 13 ∷ 15 ∷ 17 ∷ 19 ∷ 21 ∷ 22 ∷ 23 ∷ 25 ∷ 26 ∷ 14 ∷ 24 ∷ []) [] ∷ Reached 27 ∷ wait true (12 ∷ 13 ∷ 15 ∷ 17 ∷ 19 ∷ 21 ∷ 22 ∷ 23 ∷ 25 ∷ 26 ∷ 14 ∷ 24 ∷ 27 ∷ []) (27 ∷ []) ∷ CanWrite 27 ∷ Asked 27 text17 ∷ wait true (12 ∷ 13 ∷ 15 ∷ 17 ∷ 19 ∷ 21 ∷ 22 ∷ 23 ∷ 25 ∷ 26 ∷ 14 ∷ 24 ∷ 27 ∷ []) [] ∷ CanRead 27 ∷ Got 27 text18 ∷ wait true (12 ∷ 13 ∷ 15 ∷ 17 ∷ 19 ∷ 21 ∷ 22 ∷ 23 ∷ 25 ∷ 26 ∷ 14 ∷ 24 ∷ 27 ∷ []) (26 ∷ []) ∷ CanWrite 26 ∷ Said 26 124 text19 ∷ wait true (12 ∷ 13 ∷ 15 ∷ 17 ∷ 19 ∷ 21 ∷ 22 ∷ 23 ∷ 25 ∷ 26 ∷ 14 ∷ 24 ∷ 27 ∷ []) [] ∷ Opened 28 ∷ wait true (12 ∷ 13 ∷ 15 ∷ 17 ∷ 19 ∷ 21 ∷ 22 ∷ 23 ∷ 25 ∷ 26 ∷ 28 ∷ 14 ∷ 24 ∷ 27 ∷ []) [] ∷ CanRead 28 ∷ Heard 28 text30 ∷ Noted (Taken 28 0 (Hit 0 5)) ∷ wait true (12 ∷ 13 ∷ 15 ∷ 17 ∷ 19 ∷ 21 ∷ 22 ∷ 23 ∷ 25 ∷ 26 ∷ 28 ∷ 14 ∷ 24 ∷ 27 ∷ []) (28 ∷ []) ∷ CanWrite 28 ∷ Said 28 171 text53 ∷ wait true (12 ∷ 13 ∷ 15 ∷ 17 ∷ 19 ∷ 21 ∷ 22 ∷ 23 ∷ 25 ∷ 26 ∷ 28 ∷ 14 ∷ 24 ∷ 27 ∷ []) [] ∷ Opened 29 ∷ wait true (12 ∷ 13 ∷ 15 ∷ 17 ∷ 19 ∷ 21 ∷ 22 ∷ 23 ∷ 25 ∷ 26 ∷ 28 ∷ 29 ∷ 14 ∷ 24 ∷ 27 ∷ []) [] ∷ CanRead 29 ∷ Heard 29 text55 ∷ Noted (Taken 29 0 (Hit 0 20000)) ∷ wait true (12 ∷ 13 ∷ 15 ∷ 17 ∷ 19 ∷ 21 ∷ 22 ∷ 23 ∷ 25 ∷ 26 ∷ 28 ∷ 29 ∷ 14 ∷ 24 ∷ 27 ∷ []) (29 ∷ []) ∷ CanWrite 29 ∷ Said 29 20168 text69 ∷ wait true (12 ∷ 13 ∷ 15 ∷ 17 ∷ 19 ∷ 21 ∷ 22 ∷ 23 ∷ 25 ∷ 26 ∷ 28 ∷ 29 ∷ 14 ∷ 24 ∷ 27 ∷ []) [] ∷ Opened 30 ∷ wait true (12 ∷ 13 ∷ 15 ∷ 17 ∷ 19 ∷ 21 ∷ 22 ∷ 23 ∷ 25 ∷ 26 ∷ 28 ∷ 29 ∷ 30 ∷ 14 ∷ 24 ∷ 27 ∷ []) [] ∷ CanRead 30 ∷ Heard 30 text70 ∷ wait true (12 ∷ 13 ∷ 15 ∷ 17 ∷ 19 ∷ 21 ∷ 22 ∷ 23 ∷ 25 ∷ 26 ∷ 28 ∷ 29 ∷ 30 ∷ 14 ∷ 24 ∷ 27 ∷ []) [] ∷ CanRead 30 ∷ Heard 30 (codes "t: ") ∷ wait true (12 ∷ 13 ∷ 15 ∷ 17 ∷ 19 ∷ 21 ∷ 22 ∷ 23 ∷ 25 ∷ 26 ∷ 28 ∷ 29 ∷ 30 ∷ 14 ∷ 24 ∷ 27 ∷ []) [] ∷ CanRead 30 ∷ Heard 30 (codes "t\r\n") ∷ wait true (12 ∷ 13 ∷ 15 ∷ 17 ∷ 19 ∷ 21 ∷ 22 ∷ 23 ∷ 25 ∷ 26 ∷ 28 ∷ 29 ∷ 30 ∷ 14 ∷ 24 ∷ 27 ∷ []) [] ∷ CanRead 30 ∷ Heard 30 (codes "\r\n") ∷ Noted (Taken 30 0 (Hit 0 20000)) ∷ wait true (12 ∷ 13 ∷ 15 ∷ 17 ∷ 19 ∷ 21 ∷ 22 ∷ 23 ∷ 25 ∷ 26 ∷ 28 ∷ 29 ∷ 30 ∷ 14 ∷ 24 ∷ 27 ∷ []) (30 ∷ []) ∷ CanWrite 30 ∷ Said 30 20168 text69 ∷ wait true (12 ∷ 13 ∷ 15 ∷ 17 ∷ 19 ∷ 21 ∷ 22 ∷ 23 ∷ 25 ∷ 26 ∷ 28 ∷ 29 ∷ 30 ∷ 14 ∷ 24 ∷ 27 ∷ []) [] ∷ Reached 14 ∷ wait true (12 ∷ 13 ∷ 15 ∷ 17 ∷ 19 ∷ 21 ∷ 22 ∷ 23 ∷ 25 ∷ 26 ∷ 28 ∷ 29 ∷ 30 ∷ 14 ∷ 24 ∷ 27 ∷ []) [] ∷ Clock 784112839 ∷ Noted (Taken 17 0 (Refuse 502)) ∷ Dropped 18 ∷ wait true (12 ∷ 13 ∷ 15 ∷ 17 ∷ 19 ∷ 21 ∷ 22 ∷ 23 ∷ 25 ∷ 26 ∷ 28 ∷ 29 ∷ 30 ∷ 14 ∷ 24 ∷ 27 ∷ []) (17 ∷ []) ∷ CanWrite 17 ∷ Said 17 114 text71 ∷ Noted (Taken 17 1 (Hit 5000 6000)) ∷ wait true (12 ∷ 13 ∷ 15 ∷ 17 ∷ 19 ∷ 21 ∷ 22 ∷ 23 ∷ 25 ∷ 26 ∷ 28 ∷ 29 ∷ 30 ∷ 14 ∷ 24 ∷ 27 ∷ []) (17 ∷ []) ∷ CanWrite 17 ∷ Said 17 1220 text72 ∷ Noted (Taken 17 2 Fetch) ∷ wait true (12 ∷ 13 ∷ 15 ∷ 17 ∷ 19 ∷ 21 ∷ 22 ∷ 23 ∷ 25 ∷ 26 ∷ 28 ∷ 29 ∷ 30 ∷ 14 ∷ 24 ∷ 27 ∷ []) (27 ∷ []) ∷ CanWrite 27 ∷ Asked 27 text8 ∷ wait true (12 ∷ 13 ∷ 15 ∷ 17 ∷ 19 ∷ 21 ∷ 22 ∷ 23 ∷ 25 ∷ 26 ∷ 28 ∷ 29 ∷ 30 ∷ 14 ∷ 24 ∷ 27 ∷ []) [] ∷ CanRead 27 ∷ Got 27 text9 ∷ Noted (Taken 17 2 (Hit 0 0)) ∷ wait true (12 ∷ 13 ∷ 15 ∷ 17 ∷ 19 ∷ 21 ∷ 22 ∷ 23 ∷ 25 ∷ 26 ∷ 28 ∷ 29 ∷ 30 ∷ 14 ∷ 24 ∷ 27 ∷ []) (17 ∷ []) ∷ CanWrite 17 ∷ Said 17 156 text73 ∷ wait true (12 ∷ 13 ∷ 15 ∷ 17 ∷ 19 ∷ 21 ∷ 22 ∷ 23 ∷ 25 ∷ 26 ∷ 28 ∷ 29 ∷ 30 ∷ 14 ∷ 24 ∷ 27 ∷ []) [] ∷ CanRead 30 ∷ Heard 30 text74 ∷ wait true (12 ∷ 13 ∷ 15 ∷ 17 ∷ 19 ∷ 21 ∷ 22 ∷ 23 ∷ 25 ∷ 26 ∷ 28 ∷ 29 ∷ 30 ∷ 14 ∷ 24 ∷ 27 ∷ []) [] ∷ CanRead 30 ∷ Heard 30 (codes "HTTP/1.1") ∷ wait true (12 ∷ 13 ∷ 15 ∷ 17 ∷ 19 ∷ 21 ∷ 22 ∷ 23 ∷ 25 ∷ 26 ∷ 28 ∷ 29 ∷ 30 ∷ 14 ∷ 24 ∷ 27 ∷ []) [] ∷ CanRead 30 ∷ Heard 30 (codes "\r") ∷ wait true (12 ∷ 13 ∷ 15 ∷ 17 ∷ 19 ∷ 21 ∷ 22 ∷ 23 ∷ 25 ∷ 26 ∷ 28 ∷ 29 ∷ 30 ∷ 14 ∷ 24 ∷ 27 ∷ []) [] ∷ CanRead 30 ∷ Heard 30 (codes "\nH") ∷ wait true (12 ∷ 13 ∷ 15 ∷ 17 ∷ 19 ∷ 21 ∷ 22 ∷ 23 ∷ 25 ∷ 26 ∷ 28 ∷ 29 ∷ 30 ∷ 14 ∷ 24 ∷ 27 ∷ []) [] ∷ CanRead 30 ∷ Heard 30 (codes "ost: ") ∷ wait true (12 ∷ 13 ∷ 15 ∷ 17 ∷ 19 ∷ 21 ∷ 22 ∷ 23 ∷ 25 ∷ 26 ∷ 28 ∷ 29 ∷ 30 ∷ 14 ∷ 24 ∷ 27 ∷ []) [] ∷ CanRead 30 ∷ Heard 30 (codes "s") ∷ wait true (12 ∷ 13 ∷ 15 ∷ 17 ∷ 19 ∷ 21 ∷ 22 ∷ 23 ∷ 25 ∷ 26 ∷ 28 ∷ 29 ∷ 30 ∷ 14 ∷ 24 ∷ 27 ∷ []) [] ∷ CanRead 30 ∷ Heard 30 (codes "\r") ∷ wait true (12 ∷ 13 ∷ 15 ∷ 17 ∷ 19 ∷ 21 ∷ 22 ∷ 23 ∷ 25 ∷ 26 ∷ 28 ∷ 29 ∷ 30 ∷ 14 ∷ 24 ∷ 27 ∷ []) [] ∷ CanRead 30 ∷ Heard 30 (codes "\n") ∷ wait true (12 ∷ 13 ∷ 15 ∷ 17 ∷ 19 ∷ 21 ∷ 22 ∷ 23 ∷ 25 ∷ 26 ∷ 28 ∷ 29 ∷ 30 ∷ 14 ∷ 24 ∷ 27 ∷ []) [] ∷ CanRead 30 ∷ Heard 30 (codes "\r") ∷ wait true (12 ∷ 13 ∷ 15 ∷ 17 ∷ 19 ∷ 21 ∷ 22 ∷ 23 ∷ 25 ∷ 26 ∷ 28 ∷ 29 ∷ 30 ∷ 14 ∷ 24 ∷ 27 ∷ []) [] ∷ CanRead 30 ∷ Heard 30 (codes "\n") ∷ Noted (Taken 30 1 (Hit 0 0)) ∷ wait true (12 ∷ 13 ∷ 15 ∷ 17 ∷ 19 ∷ 21 ∷ 22 ∷ 23 ∷ 25 ∷ 26 ∷ 28 ∷ 29 ∷ 30 ∷ 14 ∷ 24 ∷ 27 ∷ []) (30 ∷ []) ∷ CanWrite 30 ∷ Said 30 164 text75 ∷ wait true (12 ∷ 13 ∷ 15 ∷ 17 ∷ 19 ∷ 21 ∷ 22 ∷ 23 ∷ 25 ∷ 26 ∷ 28 ∷ 29 ∷ 30 ∷ 14 ∷ 24 ∷ 27 ∷ []) [] ∷ Reached 14 ∷ wait true (12 ∷ 13 ∷ 15 ∷ 17 ∷ 19 ∷ 21 ∷ 22 ∷ 23 ∷ 25 ∷ 26 ∷ 28 ∷ 29 ∷ 30 ∷ 14 ∷ 24 ∷ 27 ∷ []) [] ∷ CanRead 30 ∷ Heard 30 (codes "GET htt") ∷ wait true (12 ∷ 13 ∷ 15 ∷ 17 ∷ 19 ∷ 21 ∷ 22 ∷ 23 ∷ 25 ∷ 26 ∷ 28 ∷ 29 ∷ 30 ∷ 14 ∷ 24 ∷ 27 ∷ []) [] ∷ CanRead 30 ∷ Heard 30 text76 ∷ Noted (Taken 30 2 (Hit 0 0)) ∷ wait true (12 ∷ 13 ∷ 15 ∷ 17 ∷ 19 ∷ 21 ∷ 22 ∷ 23 ∷ 25 ∷ 26 ∷ 28 ∷ 29 ∷ 30 ∷ 14 ∷ 24 ∷ 27 ∷ []) (30 ∷ []) ∷ CanWrite 30 ∷ Said 30 164 text75 ∷ wait true (12 ∷ 13 ∷ 15 ∷ 17 ∷ 19 ∷ 21 ∷ 22 ∷ 23 ∷ 25 ∷ 26 ∷ 28 ∷ 29 ∷ 30 ∷ 14 ∷ 24 ∷ 27 ∷ []) [] ∷ Reached 14 ∷ wait true (12 ∷ 13 ∷ 15 ∷ 17 ∷ 19 ∷ 21 ∷ 22 ∷ 23 ∷ 25 ∷ 26 ∷ 28 ∷ 29 ∷ 30 ∷ 14 ∷ 24 ∷ 27 ∷ []) [] ∷ Clock 784112846 ∷ wait true (12 ∷ 13 ∷ 15 ∷ 17 ∷ 19 ∷ 21 ∷ 22 ∷ 23 ∷ 25 ∷ 26 ∷ 28 ∷ 29 ∷ 30 ∷ 14 ∷ 24 ∷ 27 ∷ []) [] ∷ Opened 31 ∷ wait true (12 ∷ 13 ∷ 15 ∷ 17 ∷ 19 ∷ 21 ∷ 22 ∷ 23 ∷ 25 ∷ 26 ∷ 28 ∷ 29 ∷ 30 ∷ 31 ∷ 14 ∷ 24 ∷ 27 ∷ []) [] ∷ CanRead 31 ∷ Heard 31 text50 ∷ Noted (Taken 31 0 (Hit 1 4)) ∷ wait true (12 ∷ 13 ∷ 15 ∷ 17 ∷ 19 ∷ 21 ∷ 22 ∷ 23 ∷ 25 ∷ 26 ∷ 28 ∷ 29 ∷ 30 ∷ 31 ∷ 14 ∷ 24 ∷ 27 ∷ []) (31 ∷ []) ∷ CanWrite 31 ∷ Said 31 211 text77 ∷ wait true (12 ∷ 13 ∷ 15 ∷ 17 ∷ 19 ∷ 21 ∷ 22 ∷ 23 ∷ 25 ∷ 26 ∷ 28 ∷ 29 ∷ 30 ∷ 31 ∷ 14 ∷ 24 ∷ 27 ∷ []) [] ∷ Opened 32 ∷ wait true (12 ∷ 13 ∷ 15 ∷ 17 ∷ 19 ∷ 21 ∷ 22 ∷ 23 ∷ 25 ∷ 26 ∷ 28 ∷ 29 ∷ 30 ∷ 31 ∷ 32 ∷ 14 ∷ 24 ∷ 27 ∷ []) [] ∷ CanRead 32 ∷ Heard 32 (codes "\r") ∷ wait true (12 ∷ 13 ∷ 15 ∷ 17 ∷ 19 ∷ 21 ∷ 22 ∷ 23 ∷ 25 ∷ 26 ∷ 28 ∷ 29 ∷ 30 ∷ 31 ∷ 32 ∷ 14 ∷ 24 ∷ 27 ∷ []) [] ∷ CanRead 32 ∷ Heard 32 (codes "\n") ∷ wait true (12 ∷ 13 ∷ 15 ∷ 17 ∷ 19 ∷ 21 ∷ 22 ∷ 23 ∷ 25 ∷ 26 ∷ 28 ∷ 29 ∷ 30 ∷ 31 ∷ 32 ∷ 14 ∷ 24 ∷ 27 ∷ []) [] ∷ CanRead 32 ∷ Heard 32 (codes "\r") ∷ wait true (12 ∷ 13 ∷ 15 ∷ 17 ∷ 19 ∷ 21 ∷ 22 ∷ 23 ∷ 25 ∷ 26 ∷ 28 ∷ 29 ∷ 30 ∷ 31 ∷ 32 ∷ 14 ∷ 24 ∷ 27 ∷ []) [] ∷ CanRead 32 ∷ Heard 32 (codes "\n") ∷ wait true (12 ∷ 13 ∷ 15 ∷ 17 ∷ 19 ∷ 21 ∷ 22 ∷ 23 ∷ 25 ∷ 26 ∷ 28 ∷ 29 ∷ 30 ∷ 31 ∷ 32 ∷ 14 ∷ 24 ∷ 27 ∷ []) [] ∷ CanRead 32 ∷ Heard 32 text78 ∷ wait true (12 ∷ 13 ∷ 15 ∷ 17 ∷ 19 ∷ 21 ∷ 22 ∷ 23 ∷ 25 ∷ 26 ∷ 28 ∷ 29 ∷ 30 ∷ 31 ∷ 32 ∷ 14 ∷ 24 ∷ 27 ∷ []) [] ∷ CanRead 32 ∷ Heard 32 (codes "1.1\r\nRang") ∷ wait true (12 ∷ 13 ∷ 15 ∷ 17 ∷ 19 ∷ 21 ∷ 22 ∷ 23 ∷ 25 ∷ 26 ∷ 28 ∷ 29 ∷ 30 ∷ 31 ∷ 32 ∷ 14 ∷ 24 ∷ 27 ∷ []) [] ∷ CanRead 32 ∷ Heard 32 text79 ∷ Noted (Taken 32 0 (Hit 0 100)) ∷ wait true (12 ∷ 13 ∷ 15 ∷ 17 ∷ 19 ∷ 21 ∷ 22 ∷ 23 ∷ 25 ∷ 26 ∷ 28 ∷ 29 ∷ 30 ∷ 31 ∷ 32 ∷ 14 ∷ 24 ∷ 27 ∷ []) (32 ∷ []) ∷ CanWrite 32 ∷ Said 32 214 text80 ∷ wait true (12 ∷ 13 ∷ 15 ∷ 17 ∷ 19 ∷ 21 ∷ 22 ∷ 23 ∷ 25 ∷ 26 ∷ 28 ∷ 29 ∷ 30 ∷ 31 ∷ 32 ∷ 14 ∷ 24 ∷ 27 ∷ []) (32 ∷ []) ∷ CanWrite 32 ∷ Noted (Loaded (codes "http://s/b") (codes "\"y\"") 9000 0) ∷ Said 32 100 text81 ∷ wait true (12 ∷ 13 ∷ 15 ∷ 17 ∷ 19 ∷ 21 ∷ 22 ∷ 23 ∷ 25 ∷ 26 ∷ 28 ∷ 29 ∷ 30 ∷ 31 ∷ 32 ∷ 14 ∷ 24 ∷ 27 ∷ []) [] ∷ Clock 784112847 ∷ wait true (12 ∷ 13 ∷ 15 ∷ 17 ∷ 19 ∷ 21 ∷ 22 ∷ 23 ∷ 25 ∷ 26 ∷ 28 ∷ 29 ∷ 30 ∷ 31 ∷ 32 ∷ 14 ∷ 24 ∷ 27 ∷ []) [] ∷ Stopped ∷ Shut 12 ∷ Shut 13 ∷ Shut 15 ∷ Shut 17 ∷ Shut 19 ∷ Shut 21 ∷ Shut 22 ∷ Shut 23 ∷ Shut 25 ∷ Shut 26 ∷ Shut 28 ∷ Shut 29 ∷ Shut 30 ∷ Shut 31 ∷ Shut 32 ∷ Dropped 14 ∷ Dropped 20 ∷ Dropped 24 ∷ Dropped 27 ∷ Woke ((text24, text39) ∷ (text43, text82) ∷ (text33, text32) ∷ []) ∷ Rooted text0 ∷ Listed true ∷ Listens 8123 true ∷ wait true [] [] ∷ Clock 784113777 ∷ wait true [] [] ∷ Clock 784113835 ∷ wait true [] [] ∷ Clock 784113879 ∷ wait true [] [] ∷ Opened 33 ∷ wait true (33 ∷ []) [] ∷ CanRead 33 ∷ Heard 33 text83 ∷ wait true (33 ∷ []) [] ∷ CanRead 33 ∷ Heard 33 (codes ": s\r\n") ∷ wait true (33 ∷ []) [] ∷ CanRead 33 ∷ Heard 33 (codes "\r\n") ∷ Noted (Taken 33 0 Fetch) ∷ Dialled 34 (codes "s") 80 ∷ wait true (33 ∷ []) [] ∷ Reached 34 ∷ wait true (33 ∷ 34 ∷ []) (34 ∷ []) ∷ CanWrite 34 ∷ Asked 34 text8 ∷ wait true (33 ∷ 34 ∷ []) [] ∷ CanRead 34 ∷ Got 34 text9 ∷ Noted (Taken 33 0 (Hit 0 0)) ∷ wait true (33 ∷ 34 ∷ []) (33 ∷ []) ∷ CanWrite 33 ∷ Said 33 156 text84 ∷ wait true (33 ∷ 34 ∷ []) [] ∷ CanRead 33 ∷ Heard 33 text16 ∷ Noted (Taken 33 1 Pass) ∷ wait true (33 ∷ 34 ∷ []) (34 ∷ []) ∷ CanWrite 34 ∷ Asked 34 text17 ∷ wait true (33 ∷ 34 ∷ []) [] ∷ CanRead 34 ∷ Got 34 text18 ∷ wait true (33 ∷ 34 ∷ []) (33 ∷ []) ∷ CanWrite 33 ∷ Said 33 124 text19 ∷ wait true (33 ∷ 34 ∷ []) [] ∷ Opened 35 ∷ wait true (33 ∷ 35 ∷ 34 ∷ []) [] ∷ CanRead 35 ∷ Heard 35 (codes "GET htt") ∷ wait true (33 ∷ 35 ∷ 34 ∷ []) [] ∷ CanRead 35 ∷ Heard 35 text85 ∷ wait true (33 ∷ 35 ∷ 34 ∷ []) [] ∷ CanRead 35 ∷ Heard 35 (codes "1\r\nA") ∷ wait true (33 ∷ 35 ∷ 34 ∷ []) [] ∷ Opened 36 ∷ wait true (33 ∷ 35 ∷ 36 ∷ 34 ∷ []) [] ∷ CanRead 36 ∷ Heard 36 (codes "G") ∷ wait true (33 ∷ 35 ∷ 36 ∷ 34 ∷ []) [] ∷ CanRead 36 ∷ Heard 36 (codes "E") ∷ wait true (33 ∷ 35 ∷ 36 ∷ 34 ∷ []) [] ∷ CanRead 36 ∷ Heard 36 (codes "T") ∷ wait true (33 ∷ 35 ∷ 36 ∷ 34 ∷ []) [] ∷ CanRead 36 ∷ Heard 36 (codes " ") ∷ wait true (33 ∷ 35 ∷ 36 ∷ 34 ∷ []) [] ∷ CanRead 36 ∷ Heard 36 (codes "h") ∷ wait true (33 ∷ 35 ∷ 36 ∷ 34 ∷ []) [] ∷ CanRead 36 ∷ Heard 36 (codes "t") ∷ wait true (33 ∷ 35 ∷ 36 ∷ 34 ∷ []) [] ∷ CanRead 36 ∷ Heard 36 (codes "t") ∷ wait true (33 ∷ 35 ∷ 36 ∷ 34 ∷ []) [] ∷ CanRead 36 ∷ Heard 36 (codes "p") ∷ wait true (33 ∷ 35 ∷ 36 ∷ 34 ∷ []) [] ∷ CanRead 36 ∷ Heard 36 (codes ":") ∷ wait true (33 ∷ 35 ∷ 36 ∷ 34 ∷ []) [] ∷ CanRead 36 ∷ Heard 36 (codes "/") ∷ wait true (33 ∷ 35 ∷ 36 ∷ 34 ∷ []) [] ∷ CanRead 36 ∷ Heard 36 (codes "/") ∷ wait true (33 ∷ 35 ∷ 36 ∷ 34 ∷ []) [] ∷ CanRead 36 ∷ Heard 36 (codes "s") ∷ wait true (33 ∷ 35 ∷ 36 ∷ 34 ∷ []) [] ∷ CanRead 36 ∷ Heard 36 (codes "/") ∷ wait true (33 ∷ 35 ∷ 36 ∷ 34 ∷ []) [] ∷ CanRead 36 ∷ Heard 36 (codes "e") ∷ wait true (33 ∷ 35 ∷ 36 ∷ 34 ∷ []) [] ∷ CanRead 36 ∷ Heard 36 (codes " ") ∷ wait true (33 ∷ 35 ∷ 36 ∷ 34 ∷ []) [] ∷ CanRead 36 ∷ Heard 36 (codes "H") ∷ wait true (33 ∷ 35 ∷ 36 ∷ 34 ∷ []) [] ∷ CanRead 36 ∷ Heard 36 (codes "T") ∷ wait true (33 ∷ 35 ∷ 36 ∷ 34 ∷ []) [] ∷ CanRead 36 ∷ Heard 36 (codes "T") ∷ wait true (33 ∷ 35 ∷ 36 ∷ 34 ∷ []) [] ∷ CanRead 36 ∷ Heard 36 (codes "P") ∷ wait true (33 ∷ 35 ∷ 36 ∷ 34 ∷ []) [] ∷ CanRead 36 ∷ Heard 36 (codes "/") ∷ wait true (33 ∷ 35 ∷ 36 ∷ 34 ∷ []) [] ∷ CanRead 36 ∷ Heard 36 (codes "1") ∷ wait true (33 ∷ 35 ∷ 36 ∷ 34 ∷ []) [] ∷ CanRead 36 ∷ Heard 36 (codes ".") ∷ wait true (33 ∷ 35 ∷ 36 ∷ 34 ∷ []) [] ∷ CanRead 36 ∷ Heard 36 (codes "1") ∷ wait true (33 ∷ 35 ∷ 36 ∷ 34 ∷ []) [] ∷ CanRead 36 ∷ Heard 36 (codes "\r") ∷ wait true (33 ∷ 35 ∷ 36 ∷ 34 ∷ []) [] ∷ CanRead 36 ∷ Heard 36 (codes "\n") ∷ wait true (33 ∷ 35 ∷ 36 ∷ 34 ∷ []) [] ∷ CanRead 36 ∷ Heard 36 (codes "H") ∷ wait true (33 ∷ 35 ∷ 36 ∷ 34 ∷ []) [] ∷ CanRead 36 ∷ Heard 36 (codes "o") ∷ wait true (33 ∷ 35 ∷ 36 ∷ 34 ∷ []) [] ∷ CanRead 36 ∷ Heard 36 (codes "s") ∷ wait true (33 ∷ 35 ∷ 36 ∷ 34 ∷ []) [] ∷ CanRead 36 ∷ Heard 36 (codes "t") ∷ wait true (33 ∷ 35 ∷ 36 ∷ 34 ∷ []) [] ∷ CanRead 36 ∷ Heard 36 (codes ":") ∷ wait true (33 ∷ 35 ∷ 36 ∷ 34 ∷ []) [] ∷ CanRead 36 ∷ Heard 36 (codes " ") ∷ wait true (33 ∷ 35 ∷ 36 ∷ 34 ∷ []) [] ∷ CanRead 36 ∷ Heard 36 (codes "s") ∷ wait true (33 ∷ 35 ∷ 36 ∷ 34 ∷ []) [] ∷ CanRead 36 ∷ Heard 36 (codes "\r") ∷ wait true (33 ∷ 35 ∷ 36 ∷ 34 ∷ []) [] ∷ CanRead 36 ∷ Heard 36 (codes "\n") ∷ wait true (33 ∷ 35 ∷ 36 ∷ 34 ∷ []) [] ∷ CanRead 36 ∷ Heard 36 (codes "\r") ∷ wait true (33 ∷ 35 ∷ 36 ∷ 34 ∷ []) [] ∷ CanRead 36 ∷ Heard 36 (codes "\n") ∷ Noted (Taken 36 0 (Hit 0 0)) ∷ wait true (33 ∷ 35 ∷ 36 ∷ 34 ∷ []) (36 ∷ []) ∷ CanWrite 36 ∷ Said 36 164 text86 ∷ wait true (33 ∷ 35 ∷ 36 ∷ 34 ∷ []) [] ∷ CanRead 36 ∷ Heard 36 (codes "GE") ∷ wait true (33 ∷ 35 ∷ 36 ∷ 34 ∷ []) [] ∷ CanRead 36 ∷ Heard 36 text87 ∷ wait true (33 ∷ 35 ∷ 36 ∷ 34 ∷ []) [] ∷ CanRead 36 ∷ Heard 36 (codes "HTTP") ∷ wait true (33 ∷ 35 ∷ 36 ∷ 34 ∷ []) [] ∷ CanRead 36 ∷ Heard 36 text88 ∷ Noted (Taken 36 1 (Hit 0 100)) ∷ wait true (33 ∷ 35 ∷ 36 ∷ 34 ∷ []) (36 ∷ []) ∷ CanWrite 36 ∷ Said 36 214 text89 ∷ wait true (33 ∷ 35 ∷ 36 ∷ 34 ∷ []) (36 ∷ []) ∷ CanWrite 36 ∷ Noted (Loaded (codes "http://s/b") (codes "\"y\"") 9000 0) ∷ Said 36 100 text81 ∷ wait true (33 ∷ 35 ∷ 36 ∷ 34 ∷ []) [] ∷ Clock 784113940 ∷ Dropped 34 ∷ wait true (33 ∷ 35 ∷ 36 ∷ []) [] ∷ Opened 37 ∷ wait true (33 ∷ 35 ∷ 36 ∷ 37 ∷ []) [] ∷ CanRead 37 ∷ Heard 37 text90 ∷ wait true (33 ∷ 35 ∷ 36 ∷ 37 ∷ []) [] ∷ CanRead 37 ∷ Heard 37 (codes "\n") ∷ Noted (Taken 37 0 (Hit 5000 6000)) ∷ wait true (33 ∷ 35 ∷ 36 ∷ 37 ∷ []) (37 ∷ []) ∷ CanWrite 37 ∷ Said 37 220 text91 ∷ wait true (33 ∷ 35 ∷ 36 ∷ 37 ∷ []) (37 ∷ []) ∷ CanWrite 37 ∷ Noted (Loaded (codes "http://s/b") (codes "\"y\"") 9000 1) ∷ Said 37 1000 text68 ∷ wait true (33 ∷ 35 ∷ 36 ∷ 37 ∷ []) [] ∷ Clock 784113988 ∷ wait true (33 ∷ 35 ∷ 36 ∷ 37 ∷ []) [] ∷ Opened 38 ∷ wait true (33 ∷ 35 ∷ 36 ∷ 37 ∷ 38 ∷ []) [] ∷ CanRead 38 ∷ Heard 38 text50 ∷ Noted (Taken 38 0 (Hit 1 4)) ∷ wait true (33 ∷ 35 ∷ 36 ∷ 37 ∷ 38 ∷ []) (38 ∷ []) ∷ CanWrite 38 ∷ Said 38 208 text92 ∷ wait true (33 ∷ 35 ∷ 36 ∷ 37 ∷ 38 ∷ []) (38 ∷ []) ∷ CanWrite 38 ∷ Noted (Loaded (codes "http://s/a") (codes "\"x\"") 5 0) ∷ Said 38 3 (codes "aaa") ∷ wait true (33 ∷ 35 ∷ 36 ∷ 37 ∷ 38 ∷ []) [] ∷ CanRead 38 ∷ Heard 38 text93 ∷ wait true (33 ∷ 35 ∷ 36 ∷ 37 ∷ 38 ∷ []) [] ∷ CanRead 38 ∷ Heard 38 text94 ∷ wait true (33 ∷ 35 ∷ 36 ∷ 37 ∷ 38 ∷ []) [] ∷ CanRead 38 ∷ Heard 38 (codes "000-\r\n") ∷ wait true (33 ∷ 35 ∷ 36 ∷ 37 ∷ 38 ∷ []) [] ∷ CanRead 38 ∷ Heard 38 (codes "\r") ∷ wait true (33 ∷ 35 ∷ 36 ∷ 37 ∷ 38 ∷ []) [] ∷ CanRead 38 ∷ Heard 38 (codes "\n") ∷ Noted (Taken 38 1 (Hit 12000 20000)) ∷ wait true (33 ∷ 35 ∷ 36 ∷ 37 ∷ 38 ∷ []) (38 ∷ []) ∷ CanWrite 38 ∷ Said 38 223 text95 ∷ wait true (33 ∷ 35 ∷ 36 ∷ 37 ∷ 38 ∷ []) (38 ∷ []) ∷ CanWrite 38 ∷ Noted (Loaded (codes "http://t/c") (codes "\"c\"") 20000 2) ∷ Said 38 288 text96 ∷ wait true (33 ∷ 35 ∷ 36 ∷ 37 ∷ 38 ∷ []) (38 ∷ []) ∷ CanWrite 38 ∷ Noted (Loaded (codes "http://t/c") (codes "\"c\"") 20000 3) ∷ Said 38 4096 text61 ∷ wait true (33 ∷ 35 ∷ 36 ∷ 37 ∷ 38 ∷ []) (38 ∷ []) ∷ CanWrite 38 ∷ Noted (Loaded (codes "http://t/c") (codes "\"c\"") 20000 4) ∷ Said 38 3616 text62 ∷ wait true (33 ∷ 35 ∷ 36 ∷ 37 ∷ 38 ∷ []) [] ∷ Opened 39 ∷ wait true (33 ∷ 35 ∷ 36 ∷ 37 ∷ 38 ∷ 39 ∷ []) [] ∷ CanRead 39 ∷ Heard 39 text7 ∷ Noted (Taken 39 0 (Hit 0 0)) ∷ wait true (33 ∷ 35 ∷ 36 ∷ 37 ∷ 38 ∷ 39 ∷ []) (39 ∷ []) ∷ CanWrite 39 ∷ Said 39 166 text97 ∷ wait true (33 ∷ 35 ∷ 36 ∷ 37 ∷ 38 ∷ 39 ∷ []) [] ∷ Clock 784114006 ∷ Noted (Cut 33 Idle) ∷ Noted (Cut 35 Idle) ∷ Noted (Cut 36 Idle) ∷ Shut 33 ∷ Shut 35 ∷ Shut 36 ∷ wait true (37 ∷ 38 ∷ 39 ∷ []) [] ∷ CanRead 39 ∷ Heard 39 text98 ∷ wait true (37 ∷ 38 ∷ 39 ∷ []) [] ∷ CanRead 39 ∷ Heard 39 (codes "/a HTTP/1.1") ∷ wait true (37 ∷ 38 ∷ 39 ∷ []) [] ∷ CanRead 39 ∷ Heard 39 text99 ∷ wait true (37 ∷ 38 ∷ 39 ∷ []) [] ∷ CanRead 39 ∷ Heard 39 (codes "\n\r") ∷ wait true (37 ∷ 38 ∷ 39 ∷ []) [] ∷ CanRead 39 ∷ Heard 39 (codes "\n") ∷ Noted (Taken 39 1 (Hit 0 5)) ∷ wait true (37 ∷ 38 ∷ 39 ∷ []) (39 ∷ []) ∷ CanWrite 39 ∷ Said 39 172 text100 ∷ wait true (37 ∷ 38 ∷ 39 ∷ []) [] ∷ Clock 784114007 ∷ wait true (37 ∷ 38 ∷ 39 ∷ []) [] ∷ Stopped ∷ Shut 37 ∷ Shut 38 ∷ Shut 39 ∷ []) ≡ None
+row5x0 : (s : State) × (arrived s ≡ judge 0 (start (record { words = (codes "diskRun=2") ∷ []; faults = 0 } ∷ record { words = (codes "diskRun=1") ∷ []; faults = 0 } ∷ record { words = (codes "diskRun=2") ∷ []; faults = 0 } ∷ [])) (Woke [] ∷ Rooted text0 ∷ Listed true ∷ Listens 8123 true ∷ wait true [] [] ∷ Clock 784111777 ∷ wait true [] [] ∷ Opened 1 ∷ wait true (1 ∷ []) [] ∷ CanRead 1 ∷ Heard 1 text1 ∷ Noted (Taken 1 0 Fetch) ∷ Dialled 2 (codes "t") 80 ∷ wait true (1 ∷ []) [] ∷ Reached 2 ∷ wait true (1 ∷ 2 ∷ []) (2 ∷ []) ∷ CanWrite 2 ∷ Asked 2 text2 ∷ wait true (1 ∷ 2 ∷ []) [] ∷ CanRead 2 ∷ Got 2 text3 ∷ Noted (Taken 1 0 (Hit 12000 20000)) ∷ wait true (1 ∷ 2 ∷ []) (1 ∷ []) ∷ CanWrite 1 ∷ Said 1 8212 text4 ∷ wait true (1 ∷ 2 ∷ []) [] ∷ Opened 3 ∷ wait true (1 ∷ 3 ∷ 2 ∷ []) [] ∷ CanRead 3 ∷ Heard 3 text5 ∷ Noted (Taken 3 0 (Hit 19900 20000)) ∷ wait true (1 ∷ 3 ∷ 2 ∷ []) (3 ∷ []) ∷ CanWrite 3 ∷ Said 3 319 text6 ∷ wait true (1 ∷ 3 ∷ 2 ∷ []) [] ∷ Clock 784111796 ∷ wait true (1 ∷ 3 ∷ 2 ∷ []) [] ∷ Opened 4 ∷ wait true (1 ∷ 3 ∷ 4 ∷ 2 ∷ []) [] ∷ CanRead 4 ∷ Heard 4 text7 ∷ Noted (Taken 4 0 Fetch) ∷ Dialled 5 (codes "s") 80 ∷ wait true (1 ∷ 3 ∷ 4 ∷ 2 ∷ []) [] ∷ Reached 5 ∷ wait true (1 ∷ 3 ∷ 4 ∷ 2 ∷ 5 ∷ []) (5 ∷ []) ∷ CanWrite 5 ∷ Asked 5 text8 ∷ wait true (1 ∷ 3 ∷ 4 ∷ 2 ∷ 5 ∷ []) [] ∷ CanRead 5 ∷ Got 5 text9 ∷ Noted (Taken 4 0 (Hit 0 0)) ∷ wait true (1 ∷ 3 ∷ 4 ∷ 2 ∷ 5 ∷ []) (4 ∷ []) ∷ CanWrite 4 ∷ Said 4 156 text10 ∷ wait true (1 ∷ 3 ∷ 4 ∷ 2 ∷ 5 ∷ []) [] ∷ Reached 2 ∷ wait true (1 ∷ 3 ∷ 4 ∷ 2 ∷ 5 ∷ []) [] ∷ Reached 5 ∷ wait true (1 ∷ 3 ∷ 4 ∷ 2 ∷ 5 ∷ []) [] ∷ Opened 6 ∷ wait true (1 ∷ 3 ∷ 4 ∷ 6 ∷ 2 ∷ 5 ∷ []) [] ∷ CanRead 6 ∷ Heard 6 text11 ∷ wait true (1 ∷ 3 ∷ 4 ∷ 6 ∷ 2 ∷ 5 ∷ []) [] ∷ CanRead 6 ∷ Heard 6 (codes "-Forwards:") ∷ wait true (1 ∷ 3 ∷ 4 ∷ 6 ∷ 2 ∷ 5 ∷ []) [] ∷ CanRead 6 ∷ Heard 6 (codes " 0\r\n\r\n") ∷ Noted (Taken 6 0 Pass) ∷ Dialled 7 (codes "h") 80 ∷ wait true (1 ∷ 3 ∷ 4 ∷ 6 ∷ 2 ∷ 5 ∷ []) [] ∷ Clock 784111830 ∷ wait true (1 ∷ 3 ∷ 4 ∷ 6 ∷ 2 ∷ 5 ∷ []) [] ∷ CanRead 1 ∷ Heard 1 text12 ∷ wait true (1 ∷ 3 ∷ 4 ∷ 6 ∷ 2 ∷ 5 ∷ []) [] ∷ CanRead 1 ∷ Heard 1 (codes "ch: \"x") ∷ wait true (1 ∷ 3 ∷ 4 ∷ 6 ∷ 2 ∷ 5 ∷ []) [] ∷ CanRead 1 ∷ Heard 1 (codes "\"") ∷ wait true (1 ∷ 3 ∷ 4 ∷ 6 ∷ 2 ∷ 5 ∷ []) [] ∷ CanRead 1 ∷ Heard 1 (codes "\r") ∷ wait true (1 ∷ 3 ∷ 4 ∷ 6 ∷ 2 ∷ 5 ∷ []) [] ∷ CanRead 1 ∷ Heard 1 (codes "\n") ∷ wait true (1 ∷ 3 ∷ 4 ∷ 6 ∷ 2 ∷ 5 ∷ []) [] ∷ CanRead 1 ∷ Heard 1 (codes "\r\n") ∷ Noted (Taken 1 1 Pass) ∷ wait true (1 ∷ 3 ∷ 4 ∷ 6 ∷ 2 ∷ 5 ∷ []) (5 ∷ []) ∷ CanWrite 5 ∷ Asked 5 text13 ∷ wait true (1 ∷ 3 ∷ 4 ∷ 6 ∷ 2 ∷ 5 ∷ []) [] ∷ CanRead 5 ∷ Got 5 text14 ∷ wait true (1 ∷ 3 ∷ 4 ∷ 6 ∷ 2 ∷ 5 ∷ []) (1 ∷ []) ∷ CanWrite 1 ∷ Said 1 81 text15 ∷ wait true (1 ∷ 3 ∷ 4 ∷ 6 ∷ 2 ∷ 5 ∷ []) [] ∷ Broke 2 ∷ Dropped 2 ∷ wait true (1 ∷ 3 ∷ 4 ∷ 6 ∷ 5 ∷ []) [] ∷ Opened 8 ∷ wait true (1 ∷ 3 ∷ 4 ∷ 6 ∷ 8 ∷ 5 ∷ []) [] ∷ CanRead 8 ∷ Heard 8 text16 ∷ Noted (Taken 8 0 Pass) ∷ wait true (1 ∷ 3 ∷ 4 ∷ 6 ∷ 8 ∷ 5 ∷ []) (5 ∷ []) ∷ CanWrite 5 ∷ Asked 5 text17 ∷ wait true (1 ∷ 3 ∷ 4 ∷ 6 ∷ 8 ∷ 5 ∷ []) [] ∷ CanRead 5 ∷ Got 5 text18 ∷ wait true (1 ∷ 3 ∷ 4 ∷ 6 ∷ 8 ∷ 5 ∷ []) (8 ∷ []) ∷ CanWrite 8 ∷ Said 8 124 text19 ∷ wait true (1 ∷ 3 ∷ 4 ∷ 6 ∷ 8 ∷ 5 ∷ []) [] ∷ Opened 9 ∷ wait true (1 ∷ 3 ∷ 4 ∷ 6 ∷ 8 ∷ 9 ∷ 5 ∷ []) [] ∷ CanRead 9 ∷ Heard 9 text20 ∷ Noted (Taken 9 0 Fetch) ∷ wait true (1 ∷ 3 ∷ 4 ∷ 6 ∷ 8 ∷ 9 ∷ 5 ∷ []) (5 ∷ []) ∷ CanWrite 5 ∷ Asked 5 text21 ∷ wait true (1 ∷ 3 ∷ 4 ∷ 6 ∷ 8 ∷ 9 ∷ 5 ∷ []) [] ∷ CanRead 5 ∷ Got 5 text22 ∷ Began (Draft text23) ∷ Did (Draft text23) true ∷ Began SyncDraft ∷ Did SyncDraft true ∷ Began (Publish text24) ∷ Did (Publish text24) true ∷ Began (Write text24 12288 text25) ∷ Did (Write text24 12288 text25) true ∷ Began (Sync text24) ∷ Did (Sync text24) true ∷ Began (Write text24 8192 ((1 ∷ 1 ∷ []))) ∷ Did (Write text24 8192 ((1 ∷ 1 ∷ []))) true ∷ Began (Sync text24) ∷ Did (Sync text24) true ∷ Noted (Kept (codes "http://s/b") (codes "\"y\"") 9000 8192) ∷ Began (Write text24 20480 text26) ∷ Did (Write text24 20480 text26) true ∷ Began (Sync text24) ∷ Did (Sync text24) true ∷ Began (Write text24 8194 ((1 ∷ []))) ∷ Did (Write text24 8194 ((1 ∷ []))) true ∷ Began (Sync text24) ∷ Did (Sync text24) true ∷ Noted (Kept (codes "http://s/b") (codes "\"y\"") 9000 9000) ∷ Noted (Taken 9 0 (Hit 0 9000)) ∷ wait true (1 ∷ 3 ∷ 4 ∷ 6 ∷ 8 ∷ 9 ∷ 5 ∷ []) (9 ∷ []) ∷ CanWrite 9 ∷ Said 9 9154 text27 ∷ Shut 9 ∷ wait true (1 ∷ 3 ∷ 4 ∷ 6 ∷ 8 ∷ 5 ∷ []) [] ∷ CanRead 8 ∷ Heard 8 text28 ∷ Noted (Taken 8 1 (Refuse 400)) ∷ wait true (1 ∷ 3 ∷ 4 ∷ 6 ∷ 8 ∷ 5 ∷ []) (8 ∷ []) ∷ CanWrite 8 ∷ Said 8 109 text29 ∷ Shut 8 ∷ wait true (1 ∷ 3 ∷ 4 ∷ 6 ∷ 5 ∷ []) [] ∷ Opened 10 ∷ wait true (1 ∷ 3 ∷ 4 ∷ 6 ∷ 10 ∷ 5 ∷ []) [] ∷ CanRead 10 ∷ Heard 10 text30 ∷ Noted (Taken 10 0 Fetch) ∷ wait true (1 ∷ 3 ∷ 4 ∷ 6 ∷ 10 ∷ 5 ∷ []) (5 ∷ []) ∷ CanWrite 5 ∷ Asked 5 text31 ∷ wait true (1 ∷ 3 ∷ 4 ∷ 6 ∷ 10 ∷ 5 ∷ []) [] ∷ CanRead 5 ∷ Got 5 text18 ∷ Began (Draft text32) ∷ Did (Draft text32) true ∷ Began SyncDraft ∷ Did SyncDraft true ∷ Began (Publish text33) ∷ Did (Publish text33) true ∷ Noted (Kept (codes "http://s/a") (codes "\"x\"") 5 5) ∷ Noted (Taken 10 0 (Hit 0 5)) ∷ wait true (1 ∷ 3 ∷ 4 ∷ 6 ∷ 10 ∷ 5 ∷ []) (10 ∷ []) ∷ CanWrite 10 ∷ Said 10 161 text34 ∷ wait true (1 ∷ 3 ∷ 4 ∷ 6 ∷ 10 ∷ 5 ∷ []) [] ∷ Reached 5 ∷ wait true (1 ∷ 3 ∷ 4 ∷ 6 ∷ 10 ∷ 5 ∷ []) [] ∷ Reached 7 ∷ wait true (1 ∷ 3 ∷ 4 ∷ 6 ∷ 10 ∷ 5 ∷ 7 ∷ []) (7 ∷ []) ∷ CanWrite 7 ∷ Asked 7 text35 ∷ wait true (1 ∷ 3 ∷ 4 ∷ 6 ∷ 10 ∷ 5 ∷ 7 ∷ []) [] ∷ Reached 5 ∷ wait true (1 ∷ 3 ∷ 4 ∷ 6 ∷ 10 ∷ 5 ∷ 7 ∷ []) [] ∷ Reached 7 ∷ wait true (1 ∷ 3 ∷ 4 ∷ 6 ∷ 10 ∷ 5 ∷ 7 ∷ []) [] ∷ CanRead 7 ∷ Got 7 text36 ∷ wait true (1 ∷ 3 ∷ 4 ∷ 6 ∷ 10 ∷ 5 ∷ 7 ∷ []) (6 ∷ []) ∷ CanWrite 6 ∷ Said 6 98 text37 ∷ wait true (1 ∷ 3 ∷ 4 ∷ 6 ∷ 10 ∷ 5 ∷ 7 ∷ []) [] ∷ Opened 11 ∷ wait true (1 ∷ 3 ∷ 4 ∷ 6 ∷ 10 ∷ 11 ∷ 5 ∷ 7 ∷ []) [] ∷ CanRead 11 ∷ Heard 11 text20 ∷ Noted (Taken 11 0 (Hit 0 9000)) ∷ wait true (1 ∷ 3 ∷ 4 ∷ 6 ∷ 10 ∷ 11 ∷ 5 ∷ 7 ∷ []) (11 ∷ []) ∷ CanWrite 11 ∷ Said 11 9162 text38 ∷ Shut 11 ∷ wait true (1 ∷ 3 ∷ 4 ∷ 6 ∷ 10 ∷ 5 ∷ 7 ∷ []) [] ∷ Clock 784111831 ∷ wait true (1 ∷ 3 ∷ 4 ∷ 6 ∷ 10 ∷ 5 ∷ 7 ∷ []) [] ∷ Stopped ∷ Noted (Cut 6 Stop) ∷ Shut 1 ∷ Shut 3 ∷ Shut 4 ∷ Shut 6 ∷ Shut 10 ∷ Dropped 5 ∷ Dropped 7 ∷ Woke ((text24, text39) ∷ (text33, text32) ∷ []) ∷ Rooted text0 ∷ Listed true ∷ Listens 8123 true ∷ wait true [] [] ∷ Clock 784112777 ∷ wait true [] [] ∷ Opened 12 ∷ wait true (12 ∷ []) [] ∷ []))
 unfolding judging
+row5x0 = (_, refl)
+
+row5x1 : (s : State) × (arrived s ≡ judge 240 row5x0.0 (CanRead 12 ∷ Heard 12 text40 ∷ wait true (12 ∷ []) [] ∷ Opened 13 ∷ wait true (12 ∷ 13 ∷ []) [] ∷ CanRead 13 ∷ Heard 13 text41 ∷ Noted (Taken 13 0 Pass) ∷ Dialled 14 (codes "h") 80 ∷ wait true (12 ∷ 13 ∷ []) [] ∷ Opened 15 ∷ wait true (12 ∷ 13 ∷ 15 ∷ []) [] ∷ CanRead 15 ∷ Heard 15 text1 ∷ Noted (Taken 15 0 Fetch) ∷ Dialled 16 (codes "t") 80 ∷ wait true (12 ∷ 13 ∷ 15 ∷ []) [] ∷ Reached 16 ∷ wait true (12 ∷ 13 ∷ 15 ∷ 16 ∷ []) (16 ∷ []) ∷ CanWrite 16 ∷ Asked 16 text2 ∷ wait true (12 ∷ 13 ∷ 15 ∷ 16 ∷ []) [] ∷ CanRead 16 ∷ Got 16 text3 ∷ Began (Draft text42) ∷ Did (Draft text42) true ∷ Began SyncDraft ∷ Did SyncDraft true ∷ Began (Publish text43) ∷ Did (Publish text43) true ∷ Noted (Taken 15 0 (Hit 12000 20000)) ∷ wait true (12 ∷ 13 ∷ 15 ∷ 16 ∷ []) (15 ∷ []) ∷ CanWrite 15 ∷ Said 15 8212 text44 ∷ wait true (12 ∷ 13 ∷ 15 ∷ 16 ∷ []) [] ∷ Opened 17 ∷ wait true (12 ∷ 13 ∷ 15 ∷ 17 ∷ 16 ∷ []) [] ∷ CanRead 17 ∷ Heard 17 text45 ∷ Noted (Taken 17 0 Pass) ∷ Dialled 18 (codes "h") 80 ∷ wait true (12 ∷ 13 ∷ 15 ∷ 17 ∷ 16 ∷ []) [] ∷ CanRead 17 ∷ Heard 17 text46 ∷ wait true (12 ∷ 13 ∷ 15 ∷ 17 ∷ 16 ∷ []) [] ∷ CanRead 17 ∷ Heard 17 (codes "\r") ∷ wait true (12 ∷ 13 ∷ 15 ∷ 17 ∷ 16 ∷ []) [] ∷ CanRead 17 ∷ Heard 17 (codes "\n") ∷ wait true (12 ∷ 13 ∷ 15 ∷ 17 ∷ 16 ∷ []) [] ∷ Reached 14 ∷ wait true (12 ∷ 13 ∷ 15 ∷ 17 ∷ 14 ∷ 16 ∷ []) (14 ∷ []) ∷ CanWrite 14 ∷ Asked 14 text35 ∷ wait true (12 ∷ 13 ∷ 15 ∷ 17 ∷ 14 ∷ 16 ∷ []) [] ∷ Reached 16 ∷ wait true (12 ∷ 13 ∷ 15 ∷ 17 ∷ 14 ∷ 16 ∷ []) [] ∷ CanRead 17 ∷ Heard 17 text47 ∷ wait true (12 ∷ 13 ∷ 15 ∷ 17 ∷ 14 ∷ 16 ∷ []) [] ∷ CanRead 17 ∷ Heard 17 (codes "\r\n") ∷ wait true (12 ∷ 13 ∷ 15 ∷ 17 ∷ 14 ∷ 16 ∷ []) [] ∷ CanRead 17 ∷ Heard 17 (codes "\r") ∷ wait true (12 ∷ 13 ∷ 15 ∷ 17 ∷ 14 ∷ 16 ∷ []) [] ∷ CanRead 17 ∷ Heard 17 (codes "\n") ∷ wait true (12 ∷ 13 ∷ 15 ∷ 17 ∷ 14 ∷ 16 ∷ []) [] ∷ Clock 784112817 ∷ wait true (12 ∷ 13 ∷ 15 ∷ 17 ∷ 14 ∷ 16 ∷ []) [] ∷ Clock 784112823 ∷ wait true (12 ∷ 13 ∷ 15 ∷ 17 ∷ 14 ∷ 16 ∷ []) [] ∷ Opened 19 ∷ wait true (12 ∷ 13 ∷ 15 ∷ 17 ∷ 19 ∷ 14 ∷ 16 ∷ []) [] ∷ CanRead 19 ∷ Heard 19 text48 ∷ wait true (12 ∷ 13 ∷ 15 ∷ 17 ∷ 19 ∷ 14 ∷ 16 ∷ []) [] ∷ CanRead 19 ∷ Heard 19 (codes "Host: ") ∷ wait true (12 ∷ 13 ∷ 15 ∷ 17 ∷ 19 ∷ 14 ∷ 16 ∷ []) [] ∷ CanRead 19 ∷ Heard 19 (codes "h\r\n") ∷ wait true (12 ∷ 13 ∷ 15 ∷ 17 ∷ 19 ∷ 14 ∷ 16 ∷ []) [] ∷ CanRead 19 ∷ Heard 19 (codes "\r\n") ∷ Noted (Taken 19 0 Fetch) ∷ Dialled 20 (codes "h") 8080 ∷ wait true (12 ∷ 13 ∷ 15 ∷ 17 ∷ 19 ∷ 14 ∷ 16 ∷ []) [] ∷ Reached 14 ∷ wait true (12 ∷ 13 ∷ 15 ∷ 17 ∷ 19 ∷ 14 ∷ 16 ∷ []) [] ∷ Reached 16 ∷ wait true (12 ∷ 13 ∷ 15 ∷ 17 ∷ 19 ∷ 14 ∷ 16 ∷ []) [] ∷ CanRead 16 ∷ Got 16 text49 ∷ Dropped 16 ∷ wait true (12 ∷ 13 ∷ 15 ∷ 17 ∷ 19 ∷ 14 ∷ []) [] ∷ Opened 21 ∷ wait true (12 ∷ 13 ∷ 15 ∷ 17 ∷ 19 ∷ 21 ∷ 14 ∷ []) [] ∷ CanRead 21 ∷ Heard 21 text50 ∷ Noted (Taken 21 0 (Hit 1 4)) ∷ wait true (12 ∷ 13 ∷ 15 ∷ 17 ∷ 19 ∷ 21 ∷ 14 ∷ []) (21 ∷ []) ∷ CanWrite 21 ∷ Said 21 207 text51 ∷ wait true (12 ∷ 13 ∷ 15 ∷ 17 ∷ 19 ∷ 21 ∷ 14 ∷ []) (21 ∷ []) ∷ CanWrite 21 ∷ Noted (Loaded (codes "http://s/a") (codes "\"x\"") 5 0) ∷ Said 21 3 (codes "aaa") ∷ wait true (12 ∷ 13 ∷ 15 ∷ 17 ∷ 19 ∷ 21 ∷ 14 ∷ []) [] ∷ CanRead 21 ∷ Heard 21 text52 ∷ wait true (12 ∷ 13 ∷ 15 ∷ 17 ∷ 19 ∷ 21 ∷ 14 ∷ []) [] ∷ CanRead 21 ∷ Heard 21 (codes "ed\r\n\r\n") ∷ Noted (Taken 21 1 (Hit 0 5)) ∷ wait true (12 ∷ 13 ∷ 15 ∷ 17 ∷ 19 ∷ 21 ∷ 14 ∷ []) (21 ∷ []) ∷ CanWrite 21 ∷ Said 21 171 text53 ∷ wait true (12 ∷ 13 ∷ 15 ∷ 17 ∷ 19 ∷ 21 ∷ 14 ∷ []) [] ∷ Opened 22 ∷ wait true (12 ∷ 13 ∷ 15 ∷ 17 ∷ 19 ∷ 21 ∷ 22 ∷ 14 ∷ []) [] ∷ CanRead 22 ∷ Heard 22 text5 ∷ Noted (Taken 22 0 (Hit 19900 20000)) ∷ wait true (12 ∷ 13 ∷ 15 ∷ 17 ∷ 19 ∷ 21 ∷ 22 ∷ 14 ∷ []) (22 ∷ []) ∷ CanWrite 22 ∷ Said 22 320 text54 ∷ wait true (12 ∷ 13 ∷ 15 ∷ 17 ∷ 19 ∷ 21 ∷ 22 ∷ 14 ∷ []) [] ∷ Opened 23 ∷ wait true (12 ∷ 13 ∷ 15 ∷ 17 ∷ 19 ∷ 21 ∷ 22 ∷ 23 ∷ 14 ∷ []) [] ∷ CanRead 23 ∷ Heard 23 text55 ∷ Noted (Taken 23 0 (Part 0 20000)) ∷ Dialled 24 (codes "t") 80 ∷ wait true (12 ∷ 13 ∷ 15 ∷ 17 ∷ 19 ∷ 21 ∷ 22 ∷ 23 ∷ 14 ∷ []) [] ∷ Reached 24 ∷ wait true (12 ∷ 13 ∷ 15 ∷ 17 ∷ 19 ∷ 21 ∷ 22 ∷ 23 ∷ 14 ∷ 24 ∷ []) (24 ∷ []) ∷ CanWrite 24 ∷ Asked 24 text56 ∷ wait true (12 ∷ 13 ∷ 15 ∷ 17 ∷ 19 ∷ 21 ∷ 22 ∷ 23 ∷ 14 ∷ 24 ∷ []) [] ∷ CanRead 24 ∷ Got 24 text57 ∷ Began (Write text43 12288 text58) ∷ Did (Write text43 12288 text58) true ∷ Began (Sync text43) ∷ Did (Sync text43) true ∷ Began (Write text43 8192 ((1 ∷ []))) ∷ Did (Write text43 8192 ((1 ∷ []))) true ∷ Began (Sync text43) ∷ Did (Sync text43) true ∷ Noted (Kept (codes "http://t/c") (codes "\"c\"") 20000 4096) ∷ Began (Write text43 16384 text59) ∷ Did (Write text43 16384 text59) true ∷ Began (Sync text43) ∷ Did (Sync text43) true ∷ Began (Write text43 8193 ((1 ∷ []))) ∷ Did (Write text43 8193 ((1 ∷ []))) true ∷ Began (Sync text43) ∷ Did (Sync text43) true ∷ Noted (Kept (codes "http://t/c") (codes "\"c\"") 20000 8192) ∷ Began (Write text43 20480 text60) ∷ Did (Write text43 20480 text60) true ∷ Began (Sync text43) ∷ Did (Sync text43) true ∷ Began (Write text43 8194 ((1 ∷ []))) ∷ Did (Write text43 8194 ((1 ∷ []))) true ∷ Began (Sync text43) ∷ Did (Sync text43) true ∷ Noted (Kept (codes "http://t/c") (codes "\"c\"") 20000 12288) ∷ Began (Write text43 24576 text61) ∷ Did (Write text43 24576 text61) true ∷ Began (Sync text43) ∷ Did (Sync text43) true ∷ Began (Write text43 8195 ((1 ∷ []))) ∷ Did (Write text43 8195 ((1 ∷ []))) true ∷ Began (Sync text43) ∷ Did (Sync text43) true ∷ Noted (Kept (codes "http://t/c") (codes "\"c\"") 20000 16384) ∷ Began (Write text43 28672 text62) ∷ Did (Write text43 28672 text62) true ∷ Began (Sync text43) ∷ Did (Sync text43) true ∷ Began (Write text43 8196 ((1 ∷ []))) ∷ Did (Write text43 8196 ((1 ∷ []))) true ∷ Began (Sync text43) ∷ Did (Sync text43) true ∷ Noted (Kept (codes "http://t/c") (codes "\"c\"") 20000 20000) ∷ wait true (12 ∷ 13 ∷ 15 ∷ 17 ∷ 19 ∷ 21 ∷ 22 ∷ 23 ∷ 14 ∷ 24 ∷ []) (23 ∷ []) ∷ CanWrite 23 ∷ Said 23 20160 text63 ∷ wait true (12 ∷ 13 ∷ 15 ∷ 17 ∷ 19 ∷ 21 ∷ 22 ∷ 23 ∷ 14 ∷ 24 ∷ []) [] ∷ Opened 25 ∷ wait true (12 ∷ 13 ∷ 15 ∷ 17 ∷ 19 ∷ 21 ∷ 22 ∷ 23 ∷ 25 ∷ 14 ∷ 24 ∷ []) [] ∷ CanRead 25 ∷ Heard 25 text64 ∷ wait true (12 ∷ 13 ∷ 15 ∷ 17 ∷ 19 ∷ 21 ∷ 22 ∷ 23 ∷ 25 ∷ 14 ∷ 24 ∷ []) [] ∷ CanRead 25 ∷ Heard 25 (codes "es=-100\r\n") ∷ wait true (12 ∷ 13 ∷ 15 ∷ 17 ∷ 19 ∷ 21 ∷ 22 ∷ 23 ∷ 25 ∷ 14 ∷ 24 ∷ []) [] ∷ CanRead 25 ∷ Heard 25 (codes "\r") ∷ wait true (12 ∷ 13 ∷ 15 ∷ 17 ∷ 19 ∷ 21 ∷ 22 ∷ 23 ∷ 25 ∷ 14 ∷ 24 ∷ []) [] ∷ CanRead 25 ∷ Heard 25 (codes "\n") ∷ Noted (Taken 25 0 (Hit 19900 20000)) ∷ wait true (12 ∷ 13 ∷ 15 ∷ 17 ∷ 19 ∷ 21 ∷ 22 ∷ 23 ∷ 25 ∷ 14 ∷ 24 ∷ []) (25 ∷ []) ∷ CanWrite 25 ∷ Said 25 319 text65 ∷ wait true (12 ∷ 13 ∷ 15 ∷ 17 ∷ 19 ∷ 21 ∷ 22 ∷ 23 ∷ 25 ∷ 14 ∷ 24 ∷ []) [] ∷ Reached 14 ∷ wait true (12 ∷ 13 ∷ 15 ∷ 17 ∷ 19 ∷ 21 ∷ 22 ∷ 23 ∷ 25 ∷ 14 ∷ 24 ∷ []) [] ∷ Opened 26 ∷ wait true (12 ∷ 13 ∷ 15 ∷ 17 ∷ 19 ∷ 21 ∷ 22 ∷ 23 ∷ 25 ∷ 26 ∷ 14 ∷ 24 ∷ []) [] ∷ CanRead 26 ∷ Heard 26 text66 ∷ Noted (Taken 26 0 (Hit 5000 6000)) ∷ wait true (12 ∷ 13 ∷ 15 ∷ 17 ∷ 19 ∷ 21 ∷ 22 ∷ 23 ∷ 25 ∷ 26 ∷ 14 ∷ 24 ∷ []) (26 ∷ []) ∷ CanWrite 26 ∷ Said 26 219 text67 ∷ wait true (12 ∷ 13 ∷ 15 ∷ 17 ∷ 19 ∷ 21 ∷ 22 ∷ 23 ∷ 25 ∷ 26 ∷ 14 ∷ 24 ∷ []) (26 ∷ []) ∷ CanWrite 26 ∷ Noted (Loaded (codes "http://s/b") (codes "\"y\"") 9000 1) ∷ Said 26 1000 text68 ∷ wait true (12 ∷ 13 ∷ 15 ∷ 17 ∷ 19 ∷ 21 ∷ 22 ∷ 23 ∷ 25 ∷ 26 ∷ 14 ∷ 24 ∷ []) [] ∷ CanRead 26 ∷ Heard 26 text16 ∷ Noted (Taken 26 1 Pass) ∷ Dialled 27 (codes "s") 80 ∷ wait true (12 ∷ 13 ∷ 15 ∷ 17 ∷ 19 ∷ 21 ∷ 22 ∷ 23 ∷ 25 ∷ 26 ∷ 14 ∷ 24 ∷ []) [] ∷ Reached 27 ∷ wait true (12 ∷ 13 ∷ 15 ∷ 17 ∷ 19 ∷ 21 ∷ 22 ∷ 23 ∷ 25 ∷ 26 ∷ 14 ∷ 24 ∷ 27 ∷ []) (27 ∷ []) ∷ CanWrite 27 ∷ Asked 27 text17 ∷ wait true (12 ∷ 13 ∷ 15 ∷ 17 ∷ 19 ∷ 21 ∷ 22 ∷ 23 ∷ 25 ∷ 26 ∷ 14 ∷ 24 ∷ 27 ∷ []) [] ∷ CanRead 27 ∷ Got 27 text18 ∷ wait true (12 ∷ 13 ∷ 15 ∷ 17 ∷ 19 ∷ 21 ∷ 22 ∷ 23 ∷ 25 ∷ 26 ∷ 14 ∷ 24 ∷ 27 ∷ []) (26 ∷ []) ∷ CanWrite 26 ∷ []))
+unfolding judging row5x0
+row5x1 = (_, refl)
+
+row5x2 : (s : State) × (arrived s ≡ judge 480 row5x1.0 (Said 26 124 text19 ∷ wait true (12 ∷ 13 ∷ 15 ∷ 17 ∷ 19 ∷ 21 ∷ 22 ∷ 23 ∷ 25 ∷ 26 ∷ 14 ∷ 24 ∷ 27 ∷ []) [] ∷ Opened 28 ∷ wait true (12 ∷ 13 ∷ 15 ∷ 17 ∷ 19 ∷ 21 ∷ 22 ∷ 23 ∷ 25 ∷ 26 ∷ 28 ∷ 14 ∷ 24 ∷ 27 ∷ []) [] ∷ CanRead 28 ∷ Heard 28 text30 ∷ Noted (Taken 28 0 (Hit 0 5)) ∷ wait true (12 ∷ 13 ∷ 15 ∷ 17 ∷ 19 ∷ 21 ∷ 22 ∷ 23 ∷ 25 ∷ 26 ∷ 28 ∷ 14 ∷ 24 ∷ 27 ∷ []) (28 ∷ []) ∷ CanWrite 28 ∷ Said 28 171 text53 ∷ wait true (12 ∷ 13 ∷ 15 ∷ 17 ∷ 19 ∷ 21 ∷ 22 ∷ 23 ∷ 25 ∷ 26 ∷ 28 ∷ 14 ∷ 24 ∷ 27 ∷ []) [] ∷ Opened 29 ∷ wait true (12 ∷ 13 ∷ 15 ∷ 17 ∷ 19 ∷ 21 ∷ 22 ∷ 23 ∷ 25 ∷ 26 ∷ 28 ∷ 29 ∷ 14 ∷ 24 ∷ 27 ∷ []) [] ∷ CanRead 29 ∷ Heard 29 text55 ∷ Noted (Taken 29 0 (Hit 0 20000)) ∷ wait true (12 ∷ 13 ∷ 15 ∷ 17 ∷ 19 ∷ 21 ∷ 22 ∷ 23 ∷ 25 ∷ 26 ∷ 28 ∷ 29 ∷ 14 ∷ 24 ∷ 27 ∷ []) (29 ∷ []) ∷ CanWrite 29 ∷ Said 29 20168 text69 ∷ wait true (12 ∷ 13 ∷ 15 ∷ 17 ∷ 19 ∷ 21 ∷ 22 ∷ 23 ∷ 25 ∷ 26 ∷ 28 ∷ 29 ∷ 14 ∷ 24 ∷ 27 ∷ []) [] ∷ Opened 30 ∷ wait true (12 ∷ 13 ∷ 15 ∷ 17 ∷ 19 ∷ 21 ∷ 22 ∷ 23 ∷ 25 ∷ 26 ∷ 28 ∷ 29 ∷ 30 ∷ 14 ∷ 24 ∷ 27 ∷ []) [] ∷ CanRead 30 ∷ Heard 30 text70 ∷ wait true (12 ∷ 13 ∷ 15 ∷ 17 ∷ 19 ∷ 21 ∷ 22 ∷ 23 ∷ 25 ∷ 26 ∷ 28 ∷ 29 ∷ 30 ∷ 14 ∷ 24 ∷ 27 ∷ []) [] ∷ CanRead 30 ∷ Heard 30 (codes "t: ") ∷ wait true (12 ∷ 13 ∷ 15 ∷ 17 ∷ 19 ∷ 21 ∷ 22 ∷ 23 ∷ 25 ∷ 26 ∷ 28 ∷ 29 ∷ 30 ∷ 14 ∷ 24 ∷ 27 ∷ []) [] ∷ CanRead 30 ∷ Heard 30 (codes "t\r\n") ∷ wait true (12 ∷ 13 ∷ 15 ∷ 17 ∷ 19 ∷ 21 ∷ 22 ∷ 23 ∷ 25 ∷ 26 ∷ 28 ∷ 29 ∷ 30 ∷ 14 ∷ 24 ∷ 27 ∷ []) [] ∷ CanRead 30 ∷ Heard 30 (codes "\r\n") ∷ Noted (Taken 30 0 (Hit 0 20000)) ∷ wait true (12 ∷ 13 ∷ 15 ∷ 17 ∷ 19 ∷ 21 ∷ 22 ∷ 23 ∷ 25 ∷ 26 ∷ 28 ∷ 29 ∷ 30 ∷ 14 ∷ 24 ∷ 27 ∷ []) (30 ∷ []) ∷ CanWrite 30 ∷ Said 30 20168 text69 ∷ wait true (12 ∷ 13 ∷ 15 ∷ 17 ∷ 19 ∷ 21 ∷ 22 ∷ 23 ∷ 25 ∷ 26 ∷ 28 ∷ 29 ∷ 30 ∷ 14 ∷ 24 ∷ 27 ∷ []) [] ∷ Reached 14 ∷ wait true (12 ∷ 13 ∷ 15 ∷ 17 ∷ 19 ∷ 21 ∷ 22 ∷ 23 ∷ 25 ∷ 26 ∷ 28 ∷ 29 ∷ 30 ∷ 14 ∷ 24 ∷ 27 ∷ []) [] ∷ Clock 784112839 ∷ Noted (Taken 17 0 (Refuse 502)) ∷ Dropped 18 ∷ wait true (12 ∷ 13 ∷ 15 ∷ 17 ∷ 19 ∷ 21 ∷ 22 ∷ 23 ∷ 25 ∷ 26 ∷ 28 ∷ 29 ∷ 30 ∷ 14 ∷ 24 ∷ 27 ∷ []) (17 ∷ []) ∷ CanWrite 17 ∷ Said 17 114 text71 ∷ Noted (Taken 17 1 (Hit 5000 6000)) ∷ wait true (12 ∷ 13 ∷ 15 ∷ 17 ∷ 19 ∷ 21 ∷ 22 ∷ 23 ∷ 25 ∷ 26 ∷ 28 ∷ 29 ∷ 30 ∷ 14 ∷ 24 ∷ 27 ∷ []) (17 ∷ []) ∷ CanWrite 17 ∷ Said 17 1220 text72 ∷ Noted (Taken 17 2 Fetch) ∷ wait true (12 ∷ 13 ∷ 15 ∷ 17 ∷ 19 ∷ 21 ∷ 22 ∷ 23 ∷ 25 ∷ 26 ∷ 28 ∷ 29 ∷ 30 ∷ 14 ∷ 24 ∷ 27 ∷ []) (27 ∷ []) ∷ CanWrite 27 ∷ Asked 27 text8 ∷ wait true (12 ∷ 13 ∷ 15 ∷ 17 ∷ 19 ∷ 21 ∷ 22 ∷ 23 ∷ 25 ∷ 26 ∷ 28 ∷ 29 ∷ 30 ∷ 14 ∷ 24 ∷ 27 ∷ []) [] ∷ CanRead 27 ∷ Got 27 text9 ∷ Noted (Taken 17 2 (Hit 0 0)) ∷ wait true (12 ∷ 13 ∷ 15 ∷ 17 ∷ 19 ∷ 21 ∷ 22 ∷ 23 ∷ 25 ∷ 26 ∷ 28 ∷ 29 ∷ 30 ∷ 14 ∷ 24 ∷ 27 ∷ []) (17 ∷ []) ∷ CanWrite 17 ∷ Said 17 156 text73 ∷ wait true (12 ∷ 13 ∷ 15 ∷ 17 ∷ 19 ∷ 21 ∷ 22 ∷ 23 ∷ 25 ∷ 26 ∷ 28 ∷ 29 ∷ 30 ∷ 14 ∷ 24 ∷ 27 ∷ []) [] ∷ CanRead 30 ∷ Heard 30 text74 ∷ wait true (12 ∷ 13 ∷ 15 ∷ 17 ∷ 19 ∷ 21 ∷ 22 ∷ 23 ∷ 25 ∷ 26 ∷ 28 ∷ 29 ∷ 30 ∷ 14 ∷ 24 ∷ 27 ∷ []) [] ∷ CanRead 30 ∷ Heard 30 (codes "HTTP/1.1") ∷ wait true (12 ∷ 13 ∷ 15 ∷ 17 ∷ 19 ∷ 21 ∷ 22 ∷ 23 ∷ 25 ∷ 26 ∷ 28 ∷ 29 ∷ 30 ∷ 14 ∷ 24 ∷ 27 ∷ []) [] ∷ CanRead 30 ∷ Heard 30 (codes "\r") ∷ wait true (12 ∷ 13 ∷ 15 ∷ 17 ∷ 19 ∷ 21 ∷ 22 ∷ 23 ∷ 25 ∷ 26 ∷ 28 ∷ 29 ∷ 30 ∷ 14 ∷ 24 ∷ 27 ∷ []) [] ∷ CanRead 30 ∷ Heard 30 (codes "\nH") ∷ wait true (12 ∷ 13 ∷ 15 ∷ 17 ∷ 19 ∷ 21 ∷ 22 ∷ 23 ∷ 25 ∷ 26 ∷ 28 ∷ 29 ∷ 30 ∷ 14 ∷ 24 ∷ 27 ∷ []) [] ∷ CanRead 30 ∷ Heard 30 (codes "ost: ") ∷ wait true (12 ∷ 13 ∷ 15 ∷ 17 ∷ 19 ∷ 21 ∷ 22 ∷ 23 ∷ 25 ∷ 26 ∷ 28 ∷ 29 ∷ 30 ∷ 14 ∷ 24 ∷ 27 ∷ []) [] ∷ CanRead 30 ∷ Heard 30 (codes "s") ∷ wait true (12 ∷ 13 ∷ 15 ∷ 17 ∷ 19 ∷ 21 ∷ 22 ∷ 23 ∷ 25 ∷ 26 ∷ 28 ∷ 29 ∷ 30 ∷ 14 ∷ 24 ∷ 27 ∷ []) [] ∷ CanRead 30 ∷ Heard 30 (codes "\r") ∷ wait true (12 ∷ 13 ∷ 15 ∷ 17 ∷ 19 ∷ 21 ∷ 22 ∷ 23 ∷ 25 ∷ 26 ∷ 28 ∷ 29 ∷ 30 ∷ 14 ∷ 24 ∷ 27 ∷ []) [] ∷ CanRead 30 ∷ Heard 30 (codes "\n") ∷ wait true (12 ∷ 13 ∷ 15 ∷ 17 ∷ 19 ∷ 21 ∷ 22 ∷ 23 ∷ 25 ∷ 26 ∷ 28 ∷ 29 ∷ 30 ∷ 14 ∷ 24 ∷ 27 ∷ []) [] ∷ CanRead 30 ∷ Heard 30 (codes "\r") ∷ wait true (12 ∷ 13 ∷ 15 ∷ 17 ∷ 19 ∷ 21 ∷ 22 ∷ 23 ∷ 25 ∷ 26 ∷ 28 ∷ 29 ∷ 30 ∷ 14 ∷ 24 ∷ 27 ∷ []) [] ∷ CanRead 30 ∷ Heard 30 (codes "\n") ∷ Noted (Taken 30 1 (Hit 0 0)) ∷ wait true (12 ∷ 13 ∷ 15 ∷ 17 ∷ 19 ∷ 21 ∷ 22 ∷ 23 ∷ 25 ∷ 26 ∷ 28 ∷ 29 ∷ 30 ∷ 14 ∷ 24 ∷ 27 ∷ []) (30 ∷ []) ∷ CanWrite 30 ∷ Said 30 164 text75 ∷ wait true (12 ∷ 13 ∷ 15 ∷ 17 ∷ 19 ∷ 21 ∷ 22 ∷ 23 ∷ 25 ∷ 26 ∷ 28 ∷ 29 ∷ 30 ∷ 14 ∷ 24 ∷ 27 ∷ []) [] ∷ Reached 14 ∷ wait true (12 ∷ 13 ∷ 15 ∷ 17 ∷ 19 ∷ 21 ∷ 22 ∷ 23 ∷ 25 ∷ 26 ∷ 28 ∷ 29 ∷ 30 ∷ 14 ∷ 24 ∷ 27 ∷ []) [] ∷ CanRead 30 ∷ Heard 30 (codes "GET htt") ∷ wait true (12 ∷ 13 ∷ 15 ∷ 17 ∷ 19 ∷ 21 ∷ 22 ∷ 23 ∷ 25 ∷ 26 ∷ 28 ∷ 29 ∷ 30 ∷ 14 ∷ 24 ∷ 27 ∷ []) [] ∷ CanRead 30 ∷ Heard 30 text76 ∷ Noted (Taken 30 2 (Hit 0 0)) ∷ wait true (12 ∷ 13 ∷ 15 ∷ 17 ∷ 19 ∷ 21 ∷ 22 ∷ 23 ∷ 25 ∷ 26 ∷ 28 ∷ 29 ∷ 30 ∷ 14 ∷ 24 ∷ 27 ∷ []) (30 ∷ []) ∷ CanWrite 30 ∷ Said 30 164 text75 ∷ wait true (12 ∷ 13 ∷ 15 ∷ 17 ∷ 19 ∷ 21 ∷ 22 ∷ 23 ∷ 25 ∷ 26 ∷ 28 ∷ 29 ∷ 30 ∷ 14 ∷ 24 ∷ 27 ∷ []) [] ∷ Reached 14 ∷ wait true (12 ∷ 13 ∷ 15 ∷ 17 ∷ 19 ∷ 21 ∷ 22 ∷ 23 ∷ 25 ∷ 26 ∷ 28 ∷ 29 ∷ 30 ∷ 14 ∷ 24 ∷ 27 ∷ []) [] ∷ Clock 784112846 ∷ wait true (12 ∷ 13 ∷ 15 ∷ 17 ∷ 19 ∷ 21 ∷ 22 ∷ 23 ∷ 25 ∷ 26 ∷ 28 ∷ 29 ∷ 30 ∷ 14 ∷ 24 ∷ 27 ∷ []) [] ∷ Opened 31 ∷ wait true (12 ∷ 13 ∷ 15 ∷ 17 ∷ 19 ∷ 21 ∷ 22 ∷ 23 ∷ 25 ∷ 26 ∷ 28 ∷ 29 ∷ 30 ∷ 31 ∷ 14 ∷ 24 ∷ 27 ∷ []) [] ∷ CanRead 31 ∷ Heard 31 text50 ∷ Noted (Taken 31 0 (Hit 1 4)) ∷ wait true (12 ∷ 13 ∷ 15 ∷ 17 ∷ 19 ∷ 21 ∷ 22 ∷ 23 ∷ 25 ∷ 26 ∷ 28 ∷ 29 ∷ 30 ∷ 31 ∷ 14 ∷ 24 ∷ 27 ∷ []) (31 ∷ []) ∷ CanWrite 31 ∷ Said 31 211 text77 ∷ wait true (12 ∷ 13 ∷ 15 ∷ 17 ∷ 19 ∷ 21 ∷ 22 ∷ 23 ∷ 25 ∷ 26 ∷ 28 ∷ 29 ∷ 30 ∷ 31 ∷ 14 ∷ 24 ∷ 27 ∷ []) [] ∷ Opened 32 ∷ wait true (12 ∷ 13 ∷ 15 ∷ 17 ∷ 19 ∷ 21 ∷ 22 ∷ 23 ∷ 25 ∷ 26 ∷ 28 ∷ 29 ∷ 30 ∷ 31 ∷ 32 ∷ 14 ∷ 24 ∷ 27 ∷ []) [] ∷ CanRead 32 ∷ Heard 32 (codes "\r") ∷ wait true (12 ∷ 13 ∷ 15 ∷ 17 ∷ 19 ∷ 21 ∷ 22 ∷ 23 ∷ 25 ∷ 26 ∷ 28 ∷ 29 ∷ 30 ∷ 31 ∷ 32 ∷ 14 ∷ 24 ∷ 27 ∷ []) [] ∷ CanRead 32 ∷ Heard 32 (codes "\n") ∷ wait true (12 ∷ 13 ∷ 15 ∷ 17 ∷ 19 ∷ 21 ∷ 22 ∷ 23 ∷ 25 ∷ 26 ∷ 28 ∷ 29 ∷ 30 ∷ 31 ∷ 32 ∷ 14 ∷ 24 ∷ 27 ∷ []) [] ∷ CanRead 32 ∷ Heard 32 (codes "\r") ∷ wait true (12 ∷ 13 ∷ 15 ∷ 17 ∷ 19 ∷ 21 ∷ 22 ∷ 23 ∷ 25 ∷ 26 ∷ 28 ∷ 29 ∷ 30 ∷ 31 ∷ 32 ∷ 14 ∷ 24 ∷ 27 ∷ []) [] ∷ CanRead 32 ∷ Heard 32 (codes "\n") ∷ wait true (12 ∷ 13 ∷ 15 ∷ 17 ∷ 19 ∷ 21 ∷ 22 ∷ 23 ∷ 25 ∷ 26 ∷ 28 ∷ 29 ∷ 30 ∷ 31 ∷ 32 ∷ 14 ∷ 24 ∷ 27 ∷ []) [] ∷ CanRead 32 ∷ Heard 32 text78 ∷ wait true (12 ∷ 13 ∷ 15 ∷ 17 ∷ 19 ∷ 21 ∷ 22 ∷ 23 ∷ 25 ∷ 26 ∷ 28 ∷ 29 ∷ 30 ∷ 31 ∷ 32 ∷ 14 ∷ 24 ∷ 27 ∷ []) [] ∷ CanRead 32 ∷ Heard 32 (codes "1.1\r\nRang") ∷ wait true (12 ∷ 13 ∷ 15 ∷ 17 ∷ 19 ∷ 21 ∷ 22 ∷ 23 ∷ 25 ∷ 26 ∷ 28 ∷ 29 ∷ 30 ∷ 31 ∷ 32 ∷ 14 ∷ 24 ∷ 27 ∷ []) [] ∷ CanRead 32 ∷ Heard 32 text79 ∷ Noted (Taken 32 0 (Hit 0 100)) ∷ wait true (12 ∷ 13 ∷ 15 ∷ 17 ∷ 19 ∷ 21 ∷ 22 ∷ 23 ∷ 25 ∷ 26 ∷ 28 ∷ 29 ∷ 30 ∷ 31 ∷ 32 ∷ 14 ∷ 24 ∷ 27 ∷ []) (32 ∷ []) ∷ CanWrite 32 ∷ Said 32 214 text80 ∷ wait true (12 ∷ 13 ∷ 15 ∷ 17 ∷ 19 ∷ 21 ∷ 22 ∷ 23 ∷ 25 ∷ 26 ∷ 28 ∷ 29 ∷ 30 ∷ 31 ∷ 32 ∷ 14 ∷ 24 ∷ 27 ∷ []) (32 ∷ []) ∷ CanWrite 32 ∷ Noted (Loaded (codes "http://s/b") (codes "\"y\"") 9000 0) ∷ Said 32 100 text81 ∷ wait true (12 ∷ 13 ∷ 15 ∷ 17 ∷ 19 ∷ 21 ∷ 22 ∷ 23 ∷ 25 ∷ 26 ∷ 28 ∷ 29 ∷ 30 ∷ 31 ∷ 32 ∷ 14 ∷ 24 ∷ 27 ∷ []) [] ∷ Clock 784112847 ∷ wait true (12 ∷ 13 ∷ 15 ∷ 17 ∷ 19 ∷ 21 ∷ 22 ∷ 23 ∷ 25 ∷ 26 ∷ 28 ∷ 29 ∷ 30 ∷ 31 ∷ 32 ∷ 14 ∷ 24 ∷ 27 ∷ []) [] ∷ Stopped ∷ Shut 12 ∷ Shut 13 ∷ Shut 15 ∷ Shut 17 ∷ Shut 19 ∷ Shut 21 ∷ Shut 22 ∷ Shut 23 ∷ Shut 25 ∷ Shut 26 ∷ Shut 28 ∷ Shut 29 ∷ Shut 30 ∷ Shut 31 ∷ Shut 32 ∷ Dropped 14 ∷ Dropped 20 ∷ Dropped 24 ∷ Dropped 27 ∷ Woke ((text24, text39) ∷ (text43, text82) ∷ (text33, text32) ∷ []) ∷ Rooted text0 ∷ Listed true ∷ Listens 8123 true ∷ wait true [] [] ∷ Clock 784113777 ∷ wait true [] [] ∷ Clock 784113835 ∷ wait true [] [] ∷ Clock 784113879 ∷ wait true [] [] ∷ Opened 33 ∷ wait true (33 ∷ []) [] ∷ CanRead 33 ∷ Heard 33 text83 ∷ wait true (33 ∷ []) [] ∷ CanRead 33 ∷ Heard 33 (codes ": s\r\n") ∷ wait true (33 ∷ []) [] ∷ CanRead 33 ∷ Heard 33 (codes "\r\n") ∷ Noted (Taken 33 0 Fetch) ∷ Dialled 34 (codes "s") 80 ∷ wait true (33 ∷ []) [] ∷ Reached 34 ∷ wait true (33 ∷ 34 ∷ []) (34 ∷ []) ∷ CanWrite 34 ∷ Asked 34 text8 ∷ wait true (33 ∷ 34 ∷ []) [] ∷ CanRead 34 ∷ Got 34 text9 ∷ Noted (Taken 33 0 (Hit 0 0)) ∷ wait true (33 ∷ 34 ∷ []) (33 ∷ []) ∷ CanWrite 33 ∷ Said 33 156 text84 ∷ wait true (33 ∷ 34 ∷ []) [] ∷ CanRead 33 ∷ Heard 33 text16 ∷ Noted (Taken 33 1 Pass) ∷ wait true (33 ∷ 34 ∷ []) (34 ∷ []) ∷ CanWrite 34 ∷ Asked 34 text17 ∷ wait true (33 ∷ 34 ∷ []) [] ∷ CanRead 34 ∷ Got 34 text18 ∷ wait true (33 ∷ 34 ∷ []) (33 ∷ []) ∷ CanWrite 33 ∷ Said 33 124 text19 ∷ wait true (33 ∷ 34 ∷ []) [] ∷ Opened 35 ∷ wait true (33 ∷ 35 ∷ 34 ∷ []) [] ∷ CanRead 35 ∷ Heard 35 (codes "GET htt") ∷ wait true (33 ∷ 35 ∷ 34 ∷ []) [] ∷ CanRead 35 ∷ Heard 35 text85 ∷ wait true (33 ∷ 35 ∷ 34 ∷ []) [] ∷ CanRead 35 ∷ Heard 35 (codes "1\r\nA") ∷ wait true (33 ∷ 35 ∷ 34 ∷ []) [] ∷ Opened 36 ∷ wait true (33 ∷ 35 ∷ 36 ∷ 34 ∷ []) [] ∷ CanRead 36 ∷ Heard 36 (codes "G") ∷ wait true (33 ∷ 35 ∷ 36 ∷ 34 ∷ []) [] ∷ CanRead 36 ∷ []))
+unfolding judging row5x1
+row5x2 = (_, refl)
+
+row5 : fault_from 720 row5x2.0 (Heard 36 (codes "E") ∷ wait true (33 ∷ 35 ∷ 36 ∷ 34 ∷ []) [] ∷ CanRead 36 ∷ Heard 36 (codes "T") ∷ wait true (33 ∷ 35 ∷ 36 ∷ 34 ∷ []) [] ∷ CanRead 36 ∷ Heard 36 (codes " ") ∷ wait true (33 ∷ 35 ∷ 36 ∷ 34 ∷ []) [] ∷ CanRead 36 ∷ Heard 36 (codes "h") ∷ wait true (33 ∷ 35 ∷ 36 ∷ 34 ∷ []) [] ∷ CanRead 36 ∷ Heard 36 (codes "t") ∷ wait true (33 ∷ 35 ∷ 36 ∷ 34 ∷ []) [] ∷ CanRead 36 ∷ Heard 36 (codes "t") ∷ wait true (33 ∷ 35 ∷ 36 ∷ 34 ∷ []) [] ∷ CanRead 36 ∷ Heard 36 (codes "p") ∷ wait true (33 ∷ 35 ∷ 36 ∷ 34 ∷ []) [] ∷ CanRead 36 ∷ Heard 36 (codes ":") ∷ wait true (33 ∷ 35 ∷ 36 ∷ 34 ∷ []) [] ∷ CanRead 36 ∷ Heard 36 (codes "/") ∷ wait true (33 ∷ 35 ∷ 36 ∷ 34 ∷ []) [] ∷ CanRead 36 ∷ Heard 36 (codes "/") ∷ wait true (33 ∷ 35 ∷ 36 ∷ 34 ∷ []) [] ∷ CanRead 36 ∷ Heard 36 (codes "s") ∷ wait true (33 ∷ 35 ∷ 36 ∷ 34 ∷ []) [] ∷ CanRead 36 ∷ Heard 36 (codes "/") ∷ wait true (33 ∷ 35 ∷ 36 ∷ 34 ∷ []) [] ∷ CanRead 36 ∷ Heard 36 (codes "e") ∷ wait true (33 ∷ 35 ∷ 36 ∷ 34 ∷ []) [] ∷ CanRead 36 ∷ Heard 36 (codes " ") ∷ wait true (33 ∷ 35 ∷ 36 ∷ 34 ∷ []) [] ∷ CanRead 36 ∷ Heard 36 (codes "H") ∷ wait true (33 ∷ 35 ∷ 36 ∷ 34 ∷ []) [] ∷ CanRead 36 ∷ Heard 36 (codes "T") ∷ wait true (33 ∷ 35 ∷ 36 ∷ 34 ∷ []) [] ∷ CanRead 36 ∷ Heard 36 (codes "T") ∷ wait true (33 ∷ 35 ∷ 36 ∷ 34 ∷ []) [] ∷ CanRead 36 ∷ Heard 36 (codes "P") ∷ wait true (33 ∷ 35 ∷ 36 ∷ 34 ∷ []) [] ∷ CanRead 36 ∷ Heard 36 (codes "/") ∷ wait true (33 ∷ 35 ∷ 36 ∷ 34 ∷ []) [] ∷ CanRead 36 ∷ Heard 36 (codes "1") ∷ wait true (33 ∷ 35 ∷ 36 ∷ 34 ∷ []) [] ∷ CanRead 36 ∷ Heard 36 (codes ".") ∷ wait true (33 ∷ 35 ∷ 36 ∷ 34 ∷ []) [] ∷ CanRead 36 ∷ Heard 36 (codes "1") ∷ wait true (33 ∷ 35 ∷ 36 ∷ 34 ∷ []) [] ∷ CanRead 36 ∷ Heard 36 (codes "\r") ∷ wait true (33 ∷ 35 ∷ 36 ∷ 34 ∷ []) [] ∷ CanRead 36 ∷ Heard 36 (codes "\n") ∷ wait true (33 ∷ 35 ∷ 36 ∷ 34 ∷ []) [] ∷ CanRead 36 ∷ Heard 36 (codes "H") ∷ wait true (33 ∷ 35 ∷ 36 ∷ 34 ∷ []) [] ∷ CanRead 36 ∷ Heard 36 (codes "o") ∷ wait true (33 ∷ 35 ∷ 36 ∷ 34 ∷ []) [] ∷ CanRead 36 ∷ Heard 36 (codes "s") ∷ wait true (33 ∷ 35 ∷ 36 ∷ 34 ∷ []) [] ∷ CanRead 36 ∷ Heard 36 (codes "t") ∷ wait true (33 ∷ 35 ∷ 36 ∷ 34 ∷ []) [] ∷ CanRead 36 ∷ Heard 36 (codes ":") ∷ wait true (33 ∷ 35 ∷ 36 ∷ 34 ∷ []) [] ∷ CanRead 36 ∷ Heard 36 (codes " ") ∷ wait true (33 ∷ 35 ∷ 36 ∷ 34 ∷ []) [] ∷ CanRead 36 ∷ Heard 36 (codes "s") ∷ wait true (33 ∷ 35 ∷ 36 ∷ 34 ∷ []) [] ∷ CanRead 36 ∷ Heard 36 (codes "\r") ∷ wait true (33 ∷ 35 ∷ 36 ∷ 34 ∷ []) [] ∷ CanRead 36 ∷ Heard 36 (codes "\n") ∷ wait true (33 ∷ 35 ∷ 36 ∷ 34 ∷ []) [] ∷ CanRead 36 ∷ Heard 36 (codes "\r") ∷ wait true (33 ∷ 35 ∷ 36 ∷ 34 ∷ []) [] ∷ CanRead 36 ∷ Heard 36 (codes "\n") ∷ Noted (Taken 36 0 (Hit 0 0)) ∷ wait true (33 ∷ 35 ∷ 36 ∷ 34 ∷ []) (36 ∷ []) ∷ CanWrite 36 ∷ Said 36 164 text86 ∷ wait true (33 ∷ 35 ∷ 36 ∷ 34 ∷ []) [] ∷ CanRead 36 ∷ Heard 36 (codes "GE") ∷ wait true (33 ∷ 35 ∷ 36 ∷ 34 ∷ []) [] ∷ CanRead 36 ∷ Heard 36 text87 ∷ wait true (33 ∷ 35 ∷ 36 ∷ 34 ∷ []) [] ∷ CanRead 36 ∷ Heard 36 (codes "HTTP") ∷ wait true (33 ∷ 35 ∷ 36 ∷ 34 ∷ []) [] ∷ CanRead 36 ∷ Heard 36 text88 ∷ Noted (Taken 36 1 (Hit 0 100)) ∷ wait true (33 ∷ 35 ∷ 36 ∷ 34 ∷ []) (36 ∷ []) ∷ CanWrite 36 ∷ Said 36 214 text89 ∷ wait true (33 ∷ 35 ∷ 36 ∷ 34 ∷ []) (36 ∷ []) ∷ CanWrite 36 ∷ Noted (Loaded (codes "http://s/b") (codes "\"y\"") 9000 0) ∷ Said 36 100 text81 ∷ wait true (33 ∷ 35 ∷ 36 ∷ 34 ∷ []) [] ∷ Clock 784113940 ∷ Dropped 34 ∷ wait true (33 ∷ 35 ∷ 36 ∷ []) [] ∷ Opened 37 ∷ wait true (33 ∷ 35 ∷ 36 ∷ 37 ∷ []) [] ∷ CanRead 37 ∷ Heard 37 text90 ∷ wait true (33 ∷ 35 ∷ 36 ∷ 37 ∷ []) [] ∷ CanRead 37 ∷ Heard 37 (codes "\n") ∷ Noted (Taken 37 0 (Hit 5000 6000)) ∷ wait true (33 ∷ 35 ∷ 36 ∷ 37 ∷ []) (37 ∷ []) ∷ CanWrite 37 ∷ Said 37 220 text91 ∷ wait true (33 ∷ 35 ∷ 36 ∷ 37 ∷ []) (37 ∷ []) ∷ CanWrite 37 ∷ Noted (Loaded (codes "http://s/b") (codes "\"y\"") 9000 1) ∷ Said 37 1000 text68 ∷ wait true (33 ∷ 35 ∷ 36 ∷ 37 ∷ []) [] ∷ Clock 784113988 ∷ wait true (33 ∷ 35 ∷ 36 ∷ 37 ∷ []) [] ∷ Opened 38 ∷ wait true (33 ∷ 35 ∷ 36 ∷ 37 ∷ 38 ∷ []) [] ∷ CanRead 38 ∷ Heard 38 text50 ∷ Noted (Taken 38 0 (Hit 1 4)) ∷ wait true (33 ∷ 35 ∷ 36 ∷ 37 ∷ 38 ∷ []) (38 ∷ []) ∷ CanWrite 38 ∷ Said 38 208 text92 ∷ wait true (33 ∷ 35 ∷ 36 ∷ 37 ∷ 38 ∷ []) (38 ∷ []) ∷ CanWrite 38 ∷ Noted (Loaded (codes "http://s/a") (codes "\"x\"") 5 0) ∷ Said 38 3 (codes "aaa") ∷ wait true (33 ∷ 35 ∷ 36 ∷ 37 ∷ 38 ∷ []) [] ∷ CanRead 38 ∷ Heard 38 text93 ∷ wait true (33 ∷ 35 ∷ 36 ∷ 37 ∷ 38 ∷ []) [] ∷ CanRead 38 ∷ Heard 38 text94 ∷ wait true (33 ∷ 35 ∷ 36 ∷ 37 ∷ 38 ∷ []) [] ∷ CanRead 38 ∷ Heard 38 (codes "000-\r\n") ∷ wait true (33 ∷ 35 ∷ 36 ∷ 37 ∷ 38 ∷ []) [] ∷ CanRead 38 ∷ Heard 38 (codes "\r") ∷ wait true (33 ∷ 35 ∷ 36 ∷ 37 ∷ 38 ∷ []) [] ∷ CanRead 38 ∷ Heard 38 (codes "\n") ∷ Noted (Taken 38 1 (Hit 12000 20000)) ∷ wait true (33 ∷ 35 ∷ 36 ∷ 37 ∷ 38 ∷ []) (38 ∷ []) ∷ CanWrite 38 ∷ Said 38 223 text95 ∷ wait true (33 ∷ 35 ∷ 36 ∷ 37 ∷ 38 ∷ []) (38 ∷ []) ∷ CanWrite 38 ∷ Noted (Loaded (codes "http://t/c") (codes "\"c\"") 20000 2) ∷ Said 38 288 text96 ∷ wait true (33 ∷ 35 ∷ 36 ∷ 37 ∷ 38 ∷ []) (38 ∷ []) ∷ CanWrite 38 ∷ Noted (Loaded (codes "http://t/c") (codes "\"c\"") 20000 3) ∷ Said 38 4096 text61 ∷ wait true (33 ∷ 35 ∷ 36 ∷ 37 ∷ 38 ∷ []) (38 ∷ []) ∷ CanWrite 38 ∷ Noted (Loaded (codes "http://t/c") (codes "\"c\"") 20000 4) ∷ Said 38 3616 text62 ∷ wait true (33 ∷ 35 ∷ 36 ∷ 37 ∷ 38 ∷ []) [] ∷ Opened 39 ∷ wait true (33 ∷ 35 ∷ 36 ∷ 37 ∷ 38 ∷ 39 ∷ []) [] ∷ CanRead 39 ∷ Heard 39 text7 ∷ Noted (Taken 39 0 (Hit 0 0)) ∷ wait true (33 ∷ 35 ∷ 36 ∷ 37 ∷ 38 ∷ 39 ∷ []) (39 ∷ []) ∷ CanWrite 39 ∷ Said 39 166 text97 ∷ wait true (33 ∷ 35 ∷ 36 ∷ 37 ∷ 38 ∷ 39 ∷ []) [] ∷ Clock 784114006 ∷ Noted (Cut 33 Idle) ∷ Noted (Cut 35 Idle) ∷ Noted (Cut 36 Idle) ∷ Shut 33 ∷ Shut 35 ∷ Shut 36 ∷ wait true (37 ∷ 38 ∷ 39 ∷ []) [] ∷ CanRead 39 ∷ Heard 39 text98 ∷ wait true (37 ∷ 38 ∷ 39 ∷ []) [] ∷ CanRead 39 ∷ Heard 39 (codes "/a HTTP/1.1") ∷ wait true (37 ∷ 38 ∷ 39 ∷ []) [] ∷ CanRead 39 ∷ Heard 39 text99 ∷ wait true (37 ∷ 38 ∷ 39 ∷ []) [] ∷ CanRead 39 ∷ Heard 39 (codes "\n\r") ∷ wait true (37 ∷ 38 ∷ 39 ∷ []) [] ∷ CanRead 39 ∷ Heard 39 (codes "\n") ∷ Noted (Taken 39 1 (Hit 0 5)) ∷ wait true (37 ∷ 38 ∷ 39 ∷ []) (39 ∷ []) ∷ CanWrite 39 ∷ Said 39 172 text100 ∷ wait true (37 ∷ 38 ∷ 39 ∷ []) [] ∷ Clock 784114007 ∷ wait true (37 ∷ 38 ∷ 39 ∷ []) [] ∷ Stopped ∷ Shut 37 ∷ Shut 38 ∷ Shut 39 ∷ []) ≡ None
+unfolding judging row5x2
 row5 = refl
 
-row964 : fault_from 0 (start (record { words = text101 ∷ text102 ∷ []; faults = 0 } ∷ record { words = (codes "diskRun=1") ∷ []; faults = 0 } ∷ [])) (Woke [] ∷ Rooted text0 ∷ Listed true ∷ Listens 8123 true ∷ wait true [] [] ∷ Clock 784111777 ∷ wait true [] [] ∷ Opened 1 ∷ wait true (1 ∷ []) [] ∷ CanRead 1 ∷ Heard 1 text103 ∷ Noted (Taken 1 0 Pass) ∷ Dialled 2 (codes "s") 80 ∷ wait true (1 ∷ []) [] ∷ Reached 2 ∷ wait true (1 ∷ 2 ∷ []) (2 ∷ []) ∷ CanWrite 2 ∷ Asked 2 text13 ∷ wait true (1 ∷ 2 ∷ []) [] ∷ CanRead 2 ∷ Got 2 text14 ∷ wait true (1 ∷ 2 ∷ []) (1 ∷ []) ∷ CanWrite 1 ∷ Said 1 81 text15 ∷ wait true (1 ∷ 2 ∷ []) [] ∷ Reached 2 ∷ wait true (1 ∷ 2 ∷ []) [] ∷ Reached 2 ∷ wait true (1 ∷ 2 ∷ []) [] ∷ Opened 3 ∷ wait true (1 ∷ 3 ∷ 2 ∷ []) [] ∷ CanRead 3 ∷ Heard 3 text16 ∷ Noted (Taken 3 0 Pass) ∷ wait true (1 ∷ 3 ∷ 2 ∷ []) (2 ∷ []) ∷ CanWrite 2 ∷ Asked 2 text17 ∷ wait true (1 ∷ 3 ∷ 2 ∷ []) [] ∷ CanRead 2 ∷ Woke [] ∷ Rooted text0 ∷ Listed true ∷ Listens 8123 true ∷ wait true [] [] ∷ Clock 784112777 ∷ wait true [] [] ∷ Opened 4 ∷ wait true (4 ∷ []) [] ∷ CanRead 4 ∷ Heard 4 text20 ∷ Noted (Taken 4 0 Fetch) ∷ Dialled 5 (codes "s") 80 ∷ wait true (4 ∷ []) [] ∷ Reached 5 ∷ wait true (4 ∷ 5 ∷ []) (5 ∷ []) ∷ CanWrite 5 ∷ Asked 5 text21 ∷ wait true (4 ∷ 5 ∷ []) [] ∷ CanRead 5 ∷ Got 5 text22 ∷ Began (Draft text104) ∷ Did (Draft text104) true ∷ Began SyncDraft ∷ Did SyncDraft true ∷ Began (Publish text24) ∷ Did (Publish text24) true ∷ Began (Write text24 12288 text58) ∷ Did (Write text24 12288 text58) true ∷ Began (Sync text24) ∷ Did (Sync text24) true ∷ Began (Write text24 8192 ((1 ∷ []))) ∷ Did (Write text24 8192 ((1 ∷ []))) true ∷ Began (Sync text24) ∷ Did (Sync text24) true ∷ Noted (Kept (codes "http://s/b") (codes "\"y\"") 9000 4096) ∷ Began (Write text24 16384 text59) ∷ Did (Write text24 16384 text59) true ∷ Began (Sync text24) ∷ Did (Sync text24) true ∷ Began (Write text24 8193 ((1 ∷ []))) ∷ Did (Write text24 8193 ((1 ∷ []))) true ∷ Began (Sync text24) ∷ Did (Sync text24) true ∷ Noted (Kept (codes "http://s/b") (codes "\"y\"") 9000 8192) ∷ Began (Write text24 20480 text26) ∷ Did (Write text24 20480 text26) true ∷ Began (Sync text24) ∷ Did (Sync text24) true ∷ Began (Write text24 8194 ((1 ∷ []))) ∷ Did (Write text24 8194 ((1 ∷ []))) true ∷ Began (Sync text24) ∷ Did (Sync text24) true ∷ Noted (Kept (codes "http://s/b") (codes "\"y\"") 9000 9000) ∷ Noted (Taken 4 0 (Hit 0 9000)) ∷ wait true (4 ∷ 5 ∷ []) (4 ∷ []) ∷ CanWrite 4 ∷ Said 4 9154 text105 ∷ Shut 4 ∷ wait true (5 ∷ []) [] ∷ Clock 784112846 ∷ Dropped 5 ∷ wait true [] [] ∷ Opened 6 ∷ wait true (6 ∷ []) [] ∷ CanRead 6 ∷ Heard 6 text106 ∷ wait true (6 ∷ []) [] ∷ CanRead 6 ∷ Heard 6 text107 ∷ wait true (6 ∷ []) [] ∷ CanRead 6 ∷ Heard 6 (codes "\r\n\r") ∷ wait true (6 ∷ []) [] ∷ CanRead 6 ∷ Heard 6 (codes "\n") ∷ Noted (Taken 6 0 Fetch) ∷ Dialled 7 (codes "s") 80 ∷ wait true (6 ∷ []) [] ∷ Reached 7 ∷ wait true (6 ∷ 7 ∷ []) (7 ∷ []) ∷ CanWrite 7 ∷ Asked 7 text31 ∷ wait true (6 ∷ 7 ∷ []) [] ∷ CanRead 7 ∷ Got 7 text18 ∷ Began (Draft text108) ∷ Did (Draft text108) true ∷ Began SyncDraft ∷ Did SyncDraft true ∷ Began (Publish text33) ∷ Did (Publish text33) true ∷ Began (Write text33 12288 (codes "aaaaa")) ∷ Did (Write text33 12288 (codes "aaaaa")) true ∷ Began (Sync text33) ∷ Did (Sync text33) true ∷ Began (Write text33 8192 ((1 ∷ []))) ∷ Did (Write text33 8192 ((1 ∷ []))) true ∷ Began (Sync text33) ∷ Did (Sync text33) true ∷ Noted (Kept (codes "http://s/a") (codes "\"x\"") 5 5) ∷ Noted (Taken 6 0 (Hit 0 5)) ∷ wait true (6 ∷ 7 ∷ []) (6 ∷ []) ∷ CanWrite 6 ∷ Said 6 161 text109 ∷ wait true (6 ∷ 7 ∷ []) [] ∷ Reached 7 ∷ wait true (6 ∷ 7 ∷ []) [] ∷ Opened 8 ∷ wait true (6 ∷ 8 ∷ 7 ∷ []) [] ∷ CanRead 8 ∷ Heard 8 (codes "H") ∷ wait true (6 ∷ 8 ∷ 7 ∷ []) [] ∷ CanRead 8 ∷ Heard 8 (codes "E") ∷ wait true (6 ∷ 8 ∷ 7 ∷ []) [] ∷ CanRead 8 ∷ Heard 8 (codes "A") ∷ wait true (6 ∷ 8 ∷ 7 ∷ []) [] ∷ CanRead 8 ∷ Heard 8 (codes "D") ∷ wait true (6 ∷ 8 ∷ 7 ∷ []) [] ∷ CanRead 8 ∷ Heard 8 (codes " ") ∷ wait true (6 ∷ 8 ∷ 7 ∷ []) [] ∷ CanRead 8 ∷ Heard 8 (codes "h") ∷ wait true (6 ∷ 8 ∷ 7 ∷ []) [] ∷ CanRead 8 ∷ Heard 8 (codes "t") ∷ wait true (6 ∷ 8 ∷ 7 ∷ []) [] ∷ CanRead 8 ∷ Heard 8 (codes "t") ∷ wait true (6 ∷ 8 ∷ 7 ∷ []) [] ∷ CanRead 8 ∷ Heard 8 (codes "p") ∷ wait true (6 ∷ 8 ∷ 7 ∷ []) [] ∷ CanRead 8 ∷ Heard 8 (codes ":") ∷ wait true (6 ∷ 8 ∷ 7 ∷ []) [] ∷ CanRead 8 ∷ Heard 8 (codes "/") ∷ wait true (6 ∷ 8 ∷ 7 ∷ []) [] ∷ CanRead 8 ∷ Heard 8 (codes "/") ∷ wait true (6 ∷ 8 ∷ 7 ∷ []) [] ∷ CanRead 8 ∷ Heard 8 (codes "s") ∷ wait true (6 ∷ 8 ∷ 7 ∷ []) [] ∷ CanRead 8 ∷ Heard 8 (codes "/") ∷ wait true (6 ∷ 8 ∷ 7 ∷ []) [] ∷ CanRead 8 ∷ Heard 8 (codes "b") ∷ wait true (6 ∷ 8 ∷ 7 ∷ []) [] ∷ CanRead 8 ∷ Heard 8 (codes " ") ∷ wait true (6 ∷ 8 ∷ 7 ∷ []) [] ∷ CanRead 8 ∷ Heard 8 (codes "H") ∷ wait true (6 ∷ 8 ∷ 7 ∷ []) [] ∷ CanRead 8 ∷ Heard 8 (codes "T") ∷ wait true (6 ∷ 8 ∷ 7 ∷ []) [] ∷ CanRead 8 ∷ Heard 8 (codes "T") ∷ wait true (6 ∷ 8 ∷ 7 ∷ []) [] ∷ CanRead 8 ∷ Heard 8 (codes "P") ∷ wait true (6 ∷ 8 ∷ 7 ∷ []) [] ∷ CanRead 8 ∷ Heard 8 (codes "/") ∷ wait true (6 ∷ 8 ∷ 7 ∷ []) [] ∷ CanRead 8 ∷ Heard 8 (codes "1") ∷ wait true (6 ∷ 8 ∷ 7 ∷ []) [] ∷ CanRead 8 ∷ Heard 8 (codes ".") ∷ wait true (6 ∷ 8 ∷ 7 ∷ []) [] ∷ CanRead 8 ∷ Heard 8 (codes "1") ∷ wait true (6 ∷ 8 ∷ 7 ∷ []) [] ∷ CanRead 8 ∷ Heard 8 (codes "\r") ∷ wait true (6 ∷ 8 ∷ 7 ∷ []) [] ∷ CanRead 8 ∷ Heard 8 (codes "\n") ∷ wait true (6 ∷ 8 ∷ 7 ∷ []) [] ∷ CanRead 8 ∷ Heard 8 (codes "H") ∷ wait true (6 ∷ 8 ∷ 7 ∷ []) [] ∷ CanRead 8 ∷ Heard 8 (codes "o") ∷ wait true (6 ∷ 8 ∷ 7 ∷ []) [] ∷ CanRead 8 ∷ Heard 8 (codes "s") ∷ wait true (6 ∷ 8 ∷ 7 ∷ []) [] ∷ CanRead 8 ∷ Heard 8 (codes "t") ∷ wait true (6 ∷ 8 ∷ 7 ∷ []) [] ∷ CanRead 8 ∷ Heard 8 (codes ":") ∷ wait true (6 ∷ 8 ∷ 7 ∷ []) [] ∷ CanRead 8 ∷ Heard 8 (codes " ") ∷ wait true (6 ∷ 8 ∷ 7 ∷ []) [] ∷ CanRead 8 ∷ Heard 8 (codes "s") ∷ wait true (6 ∷ 8 ∷ 7 ∷ []) [] ∷ CanRead 8 ∷ Heard 8 (codes "\r") ∷ wait true (6 ∷ 8 ∷ 7 ∷ []) [] ∷ CanRead 8 ∷ Heard 8 (codes "\n") ∷ wait true (6 ∷ 8 ∷ 7 ∷ []) [] ∷ CanRead 8 ∷ Heard 8 (codes "\r") ∷ wait true (6 ∷ 8 ∷ 7 ∷ []) [] ∷ CanRead 8 ∷ Heard 8 (codes "\n") ∷ Noted (Taken 8 0 Head) ∷ wait true (6 ∷ 8 ∷ 7 ∷ []) (8 ∷ []) ∷ CanWrite 8 ∷ Said 8 168 text110 ∷ wait true (6 ∷ 8 ∷ 7 ∷ []) [] ∷ CanRead 8 ∷ Heard 8 text111 ∷ Noted (Taken 8 1 (Refuse 400)) ∷ wait true (6 ∷ 8 ∷ 7 ∷ []) (8 ∷ []) ∷ CanWrite 8 ∷ Said 8 109 text29 ∷ Shut 8 ∷ wait true (6 ∷ 7 ∷ []) [] ∷ Reached 7 ∷ wait true (6 ∷ 7 ∷ []) [] ∷ Opened 9 ∷ wait true (6 ∷ 9 ∷ 7 ∷ []) [] ∷ CanRead 9 ∷ Heard 9 text78 ∷ wait true (6 ∷ 9 ∷ 7 ∷ []) [] ∷ CanRead 9 ∷ Heard 9 (codes "1.1") ∷ wait true (6 ∷ 9 ∷ 7 ∷ []) [] ∷ CanRead 9 ∷ Heard 9 (codes "\r\nRange: ") ∷ wait true (6 ∷ 9 ∷ 7 ∷ []) [] ∷ CanRead 9 ∷ Heard 9 (codes "bytes=0-9") ∷ wait true (6 ∷ 9 ∷ 7 ∷ []) [] ∷ CanRead 9 ∷ Heard 9 (codes "9\r\n\r\n") ∷ Noted (Taken 9 0 (Hit 0 100)) ∷ wait true (6 ∷ 9 ∷ 7 ∷ []) (9 ∷ []) ∷ CanWrite 9 ∷ Said 9 312 text112 ∷ wait true (6 ∷ 9 ∷ 7 ∷ []) [] ∷ Clock 784112891 ∷ wait true (6 ∷ 9 ∷ 7 ∷ []) [] ∷ CanRead 9 ∷ Heard 9 (codes "G") ∷ wait true (6 ∷ 9 ∷ 7 ∷ []) [] ∷ CanRead 9 ∷ Heard 9 (codes "E") ∷ wait true (6 ∷ 9 ∷ 7 ∷ []) [] ∷ CanRead 9 ∷ Heard 9 (codes "T") ∷ wait true (6 ∷ 9 ∷ 7 ∷ []) [] ∷ CanRead 9 ∷ Heard 9 (codes " ") ∷ wait true (6 ∷ 9 ∷ 7 ∷ []) [] ∷ CanRead 9 ∷ Heard 9 (codes "h") ∷ wait true (6 ∷ 9 ∷ 7 ∷ []) [] ∷ CanRead 9 ∷ Heard 9 (codes "t") ∷ wait true (6 ∷ 9 ∷ 7 ∷ []) [] ∷ CanRead 9 ∷ Heard 9 (codes "t") ∷ wait true (6 ∷ 9 ∷ 7 ∷ []) [] ∷ CanRead 9 ∷ Heard 9 (codes "p") ∷ wait true (6 ∷ 9 ∷ 7 ∷ []) [] ∷ CanRead 9 ∷ Heard 9 (codes ":") ∷ wait true (6 ∷ 9 ∷ 7 ∷ []) [] ∷ CanRead 9 ∷ Heard 9 (codes "/") ∷ wait true (6 ∷ 9 ∷ 7 ∷ []) [] ∷ CanRead 9 ∷ Heard 9 (codes "/") ∷ wait true (6 ∷ 9 ∷ 7 ∷ []) [] ∷ CanRead 9 ∷ Heard 9 (codes "t") ∷ wait true (6 ∷ 9 ∷ 7 ∷ []) [] ∷ CanRead 9 ∷ Heard 9 (codes "/") ∷ wait true (6 ∷ 9 ∷ 7 ∷ []) [] ∷ CanRead 9 ∷ Heard 9 (codes "c") ∷ wait true (6 ∷ 9 ∷ 7 ∷ []) [] ∷ CanRead 9 ∷ Heard 9 (codes " ") ∷ wait true (6 ∷ 9 ∷ 7 ∷ []) [] ∷ CanRead 9 ∷ Heard 9 (codes "H") ∷ wait true (6 ∷ 9 ∷ 7 ∷ []) [] ∷ CanRead 9 ∷ Heard 9 (codes "T") ∷ wait true (6 ∷ 9 ∷ 7 ∷ []) [] ∷ CanRead 9 ∷ Heard 9 (codes "T") ∷ wait true (6 ∷ 9 ∷ 7 ∷ []) [] ∷ CanRead 9 ∷ Heard 9 (codes "P") ∷ wait true (6 ∷ 9 ∷ 7 ∷ []) [] ∷ CanRead 9 ∷ Heard 9 (codes "/") ∷ wait true (6 ∷ 9 ∷ 7 ∷ []) [] ∷ CanRead 9 ∷ Heard 9 (codes "1") ∷ wait true (6 ∷ 9 ∷ 7 ∷ []) [] ∷ CanRead 9 ∷ Heard 9 (codes ".") ∷ wait true (6 ∷ 9 ∷ 7 ∷ []) [] ∷ CanRead 9 ∷ Heard 9 (codes "1") ∷ wait true (6 ∷ 9 ∷ 7 ∷ []) [] ∷ CanRead 9 ∷ Heard 9 (codes "\r") ∷ wait true (6 ∷ 9 ∷ 7 ∷ []) [] ∷ CanRead 9 ∷ Heard 9 (codes "\n") ∷ wait true (6 ∷ 9 ∷ 7 ∷ []) [] ∷ CanRead 9 ∷ Heard 9 (codes "H") ∷ wait true (6 ∷ 9 ∷ 7 ∷ []) [] ∷ CanRead 9 ∷ Heard 9 (codes "o") ∷ wait true (6 ∷ 9 ∷ 7 ∷ []) [] ∷ CanRead 9 ∷ Heard 9 (codes "s") ∷ wait true (6 ∷ 9 ∷ 7 ∷ []) [] ∷ CanRead 9 ∷ Heard 9 (codes "t") ∷ wait true (6 ∷ 9 ∷ 7 ∷ []) [] ∷ CanRead 9 ∷ Heard 9 (codes ":") ∷ wait true (6 ∷ 9 ∷ 7 ∷ []) [] ∷ CanRead 9 ∷ Heard 9 (codes " ") ∷ wait true (6 ∷ 9 ∷ 7 ∷ []) [] ∷ CanRead 9 ∷ Heard 9 (codes "t") ∷ wait true (6 ∷ 9 ∷ 7 ∷ []) [] ∷ CanRead 9 ∷ Heard 9 (codes "\r") ∷ wait true (6 ∷ 9 ∷ 7 ∷ []) [] ∷ CanRead 9 ∷ Heard 9 (codes "\n") ∷ wait true (6 ∷ 9 ∷ 7 ∷ []) [] ∷ CanRead 9 ∷ Heard 9 (codes "\r") ∷ wait true (6 ∷ 9 ∷ 7 ∷ []) [] ∷ CanRead 9 ∷ Heard 9 (codes "\n") ∷ Noted (Taken 9 1 Fetch) ∷ Dialled 10 (codes "t") 80 ∷ wait true (6 ∷ 9 ∷ 7 ∷ []) [] ∷ Reached 10 ∷ wait true (6 ∷ 9 ∷ 7 ∷ 10 ∷ []) (10 ∷ []) ∷ CanWrite 10 ∷ Asked 10 text113 ∷ wait true (6 ∷ 9 ∷ 7 ∷ 10 ∷ []) [] ∷ CanRead 10 ∷ Got 10 text114 ∷ Began (Draft text115) ∷ Did (Draft text115) true ∷ Began SyncDraft ∷ Did SyncDraft true ∷ Began (Publish text43) ∷ Did (Publish text43) true ∷ Began (Write text43 12288 text58) ∷ Did (Write text43 12288 text58) true ∷ Began (Sync text43) ∷ Did (Sync text43) true ∷ Began (Write text43 8192 ((1 ∷ []))) ∷ Did (Write text43 8192 ((1 ∷ []))) true ∷ Began (Sync text43) ∷ Did (Sync text43) true ∷ Noted (Kept (codes "http://t/c") (codes "\"c\"") 20000 4096) ∷ Began (Write text43 16384 text59) ∷ Did (Write text43 16384 text59) true ∷ Began (Sync text43) ∷ Did (Sync text43) true ∷ Began (Write text43 8193 ((1 ∷ []))) ∷ Did (Write text43 8193 ((1 ∷ []))) true ∷ Began (Sync text43) ∷ Did (Sync text43) true ∷ Noted (Kept (codes "http://t/c") (codes "\"c\"") 20000 8192) ∷ Began (Write text43 20480 text60) ∷ Did (Write text43 20480 text60) true ∷ Began (Sync text43) ∷ Did (Sync text43) true ∷ Began (Write text43 8194 ((1 ∷ []))) ∷ Did (Write text43 8194 ((1 ∷ []))) true ∷ Began (Sync text43) ∷ Did (Sync text43) true ∷ Noted (Kept (codes "http://t/c") (codes "\"c\"") 20000 12288) ∷ Began (Write text43 24576 text61) ∷ Did (Write text43 24576 text61) true ∷ Began (Sync text43) ∷ Did (Sync text43) true ∷ Began (Write text43 8195 ((1 ∷ []))) ∷ Did (Write text43 8195 ((1 ∷ []))) true ∷ Began (Sync text43) ∷ Did (Sync text43) true ∷ Noted (Kept (codes "http://t/c") (codes "\"c\"") 20000 16384) ∷ Began (Write text43 28672 text62) ∷ Did (Write text43 28672 text62) true ∷ Began (Sync text43) ∷ Did (Sync text43) true ∷ Began (Write text43 8196 ((1 ∷ []))) ∷ Did (Write text43 8196 ((1 ∷ []))) true ∷ Began (Sync text43) ∷ Did (Sync text43) true ∷ Noted (Kept (codes "http://t/c") (codes "\"c\"") 20000 20000) ∷ Noted (Taken 9 1 (Hit 0 20000)) ∷ wait true (6 ∷ 9 ∷ 7 ∷ 10 ∷ []) (9 ∷ []) ∷ CanWrite 9 ∷ Said 9 20160 text116 ∷ wait true (6 ∷ 9 ∷ 7 ∷ 10 ∷ []) [] ∷ CanRead 9 ∷ Heard 9 text117 ∷ Noted (Taken 9 2 Head) ∷ wait true (6 ∷ 9 ∷ 7 ∷ 10 ∷ []) (9 ∷ []) ∷ CanWrite 9 ∷ Said 9 169 text118 ∷ wait true (6 ∷ 9 ∷ 7 ∷ 10 ∷ []) [] ∷ Reached 7 ∷ wait true (6 ∷ 9 ∷ 7 ∷ 10 ∷ []) [] ∷ Reached 10 ∷ wait true (6 ∷ 9 ∷ 7 ∷ 10 ∷ []) [] ∷ CanRead 9 ∷ HungUp 9 ∷ Shut 9 ∷ wait true (6 ∷ 7 ∷ 10 ∷ []) [] ∷ Reached 7 ∷ wait true (6 ∷ 7 ∷ 10 ∷ []) [] ∷ Reached 10 ∷ wait true (6 ∷ 7 ∷ 10 ∷ []) [] ∷ Opened 11 ∷ wait true (6 ∷ 11 ∷ 7 ∷ 10 ∷ []) [] ∷ CanRead 11 ∷ Heard 11 text103 ∷ Noted (Taken 11 0 NotModified) ∷ wait true (6 ∷ 11 ∷ 7 ∷ 10 ∷ []) (11 ∷ []) ∷ CanWrite 11 ∷ Said 11 156 text119 ∷ wait true (6 ∷ 11 ∷ 7 ∷ 10 ∷ []) [] ∷ Clock 784112898 ∷ wait true (6 ∷ 11 ∷ 7 ∷ 10 ∷ []) [] ∷ Reached 7 ∷ wait true (6 ∷ 11 ∷ 7 ∷ 10 ∷ []) [] ∷ Reached 10 ∷ wait true (6 ∷ 11 ∷ 7 ∷ 10 ∷ []) [] ∷ Clock 784112927 ∷ wait true (6 ∷ 11 ∷ 7 ∷ 10 ∷ []) [] ∷ Opened 12 ∷ wait true (6 ∷ 11 ∷ 12 ∷ 7 ∷ 10 ∷ []) [] ∷ CanRead 12 ∷ Heard 12 text120 ∷ wait true (6 ∷ 11 ∷ 12 ∷ 7 ∷ 10 ∷ []) [] ∷ CanRead 12 ∷ Heard 12 text121 ∷ wait true (6 ∷ 11 ∷ 12 ∷ 7 ∷ 10 ∷ []) [] ∷ CanRead 12 ∷ Heard 12 (codes "\n\r\n") ∷ Noted (Taken 12 0 Fetch) ∷ Dialled 13 (codes "h") 8080 ∷ wait true (6 ∷ 11 ∷ 12 ∷ 7 ∷ 10 ∷ []) [] ∷ Reached 7 ∷ wait true (6 ∷ 11 ∷ 12 ∷ 7 ∷ 10 ∷ []) [] ∷ Reached 10 ∷ wait true (6 ∷ 11 ∷ 12 ∷ 7 ∷ 10 ∷ []) [] ∷ Reached 13 ∷ wait true (6 ∷ 11 ∷ 12 ∷ 7 ∷ 10 ∷ 13 ∷ []) (13 ∷ []) ∷ CanWrite 13 ∷ Asked 13 text122 ∷ wait true (6 ∷ 11 ∷ 12 ∷ 7 ∷ 10 ∷ 13 ∷ []) [] ∷ Reached 7 ∷ wait true (6 ∷ 11 ∷ 12 ∷ 7 ∷ 10 ∷ 13 ∷ []) [] ∷ Reached 10 ∷ wait true (6 ∷ 11 ∷ 12 ∷ 7 ∷ 10 ∷ 13 ∷ []) [] ∷ Reached 13 ∷ wait true (6 ∷ 11 ∷ 12 ∷ 7 ∷ 10 ∷ 13 ∷ []) [] ∷ Clock 784112956 ∷ wait true (6 ∷ 11 ∷ 12 ∷ 7 ∷ 10 ∷ 13 ∷ []) [] ∷ CanRead 10 ∷ Broke 10 ∷ Dropped 10 ∷ wait true (6 ∷ 11 ∷ 12 ∷ 7 ∷ 13 ∷ []) [] ∷ CanRead 12 ∷ Heard 12 text123 ∷ wait true (6 ∷ 11 ∷ 12 ∷ 7 ∷ 13 ∷ []) [] ∷ Opened 14 ∷ wait true (6 ∷ 11 ∷ 12 ∷ 14 ∷ 7 ∷ 13 ∷ []) [] ∷ CanRead 14 ∷ Heard 14 text124 ∷ Noted (Taken 14 0 Validate) ∷ wait true (6 ∷ 11 ∷ 12 ∷ 14 ∷ 7 ∷ 13 ∷ []) (7 ∷ []) ∷ CanWrite 7 ∷ Asked 7 text125 ∷ wait true (6 ∷ 11 ∷ 12 ∷ 14 ∷ 7 ∷ 13 ∷ []) [] ∷ CanRead 7 ∷ Got 7 text126 ∷ Noted (Taken 14 0 (Hit 0 9000)) ∷ wait true (6 ∷ 11 ∷ 12 ∷ 14 ∷ 7 ∷ 13 ∷ []) (14 ∷ []) ∷ CanWrite 14 ∷ Said 14 9167 text127 ∷ wait true (6 ∷ 11 ∷ 12 ∷ 14 ∷ 7 ∷ 13 ∷ []) [] ∷ CanRead 14 ∷ Heard 14 text50 ∷ Noted (Taken 14 1 (Hit 1 4)) ∷ wait true (6 ∷ 11 ∷ 12 ∷ 14 ∷ 7 ∷ 13 ∷ []) (14 ∷ []) ∷ CanWrite 14 ∷ Said 14 210 text128 ∷ wait true (6 ∷ 11 ∷ 12 ∷ 14 ∷ 7 ∷ 13 ∷ []) [] ∷ Opened 15 ∷ wait true (6 ∷ 11 ∷ 12 ∷ 14 ∷ 15 ∷ 7 ∷ 13 ∷ []) [] ∷ CanRead 15 ∷ Heard 15 text20 ∷ Noted (Taken 15 0 (Hit 0 9000)) ∷ wait true (6 ∷ 11 ∷ 12 ∷ 14 ∷ 15 ∷ 7 ∷ 13 ∷ []) (15 ∷ []) ∷ CanWrite 15 ∷ Said 15 9162 text129 ∷ Shut 15 ∷ wait true (6 ∷ 11 ∷ 12 ∷ 14 ∷ 7 ∷ 13 ∷ []) [] ∷ Reached 7 ∷ wait true (6 ∷ 11 ∷ 12 ∷ 14 ∷ 7 ∷ 13 ∷ []) [] ∷ Reached 13 ∷ wait true (6 ∷ 11 ∷ 12 ∷ 14 ∷ 7 ∷ 13 ∷ []) [] ∷ Opened 16 ∷ wait true (6 ∷ 11 ∷ 12 ∷ 14 ∷ 16 ∷ 7 ∷ 13 ∷ []) [] ∷ CanRead 16 ∷ Heard 16 text130 ∷ wait true (6 ∷ 11 ∷ 12 ∷ 14 ∷ 16 ∷ 7 ∷ 13 ∷ []) [] ∷ CanRead 16 ∷ Heard 16 text131 ∷ wait true (6 ∷ 11 ∷ 12 ∷ 14 ∷ 16 ∷ 7 ∷ 13 ∷ []) [] ∷ CanRead 16 ∷ Heard 16 (codes "0\r") ∷ wait true (6 ∷ 11 ∷ 12 ∷ 14 ∷ 16 ∷ 7 ∷ 13 ∷ []) [] ∷ CanRead 16 ∷ Heard 16 (codes "\n\r") ∷ wait true (6 ∷ 11 ∷ 12 ∷ 14 ∷ 16 ∷ 7 ∷ 13 ∷ []) [] ∷ CanRead 16 ∷ Heard 16 (codes "\n") ∷ Noted (Taken 16 0 (Hit 19900 20000)) ∷ wait true (6 ∷ 11 ∷ 12 ∷ 14 ∷ 16 ∷ 7 ∷ 13 ∷ []) (16 ∷ []) ∷ CanWrite 16 ∷ Said 16 320 text132 ∷ wait true (6 ∷ 11 ∷ 12 ∷ 14 ∷ 16 ∷ 7 ∷ 13 ∷ []) [] ∷ Reached 7 ∷ wait true (6 ∷ 11 ∷ 12 ∷ 14 ∷ 16 ∷ 7 ∷ 13 ∷ []) [] ∷ Reached 13 ∷ wait true (6 ∷ 11 ∷ 12 ∷ 14 ∷ 16 ∷ 7 ∷ 13 ∷ []) [] ∷ Opened 17 ∷ wait true (6 ∷ 11 ∷ 12 ∷ 14 ∷ 16 ∷ 17 ∷ 7 ∷ 13 ∷ []) [] ∷ CanRead 17 ∷ Heard 17 text7 ∷ Noted (Taken 17 0 Fetch) ∷ wait true (6 ∷ 11 ∷ 12 ∷ 14 ∷ 16 ∷ 17 ∷ 7 ∷ 13 ∷ []) (7 ∷ []) ∷ CanWrite 7 ∷ Asked 7 text8 ∷ wait true (6 ∷ 11 ∷ 12 ∷ 14 ∷ 16 ∷ 17 ∷ 7 ∷ 13 ∷ []) [] ∷ CanRead 7 ∷ Got 7 text9 ∷ Noted (Taken 17 0 (Hit 0 0)) ∷ wait true (6 ∷ 11 ∷ 12 ∷ 14 ∷ 16 ∷ 17 ∷ 7 ∷ 13 ∷ []) (17 ∷ []) ∷ CanWrite 17 ∷ Said 17 156 text133 ∷ wait true (6 ∷ 11 ∷ 12 ∷ 14 ∷ 16 ∷ 17 ∷ 7 ∷ 13 ∷ []) [] ∷ Opened 18 ∷ wait true (6 ∷ 11 ∷ 12 ∷ 14 ∷ 16 ∷ 17 ∷ 18 ∷ 7 ∷ 13 ∷ []) [] ∷ CanRead 18 ∷ Heard 18 text134 ∷ wait true (6 ∷ 11 ∷ 12 ∷ 14 ∷ 16 ∷ 17 ∷ 18 ∷ 7 ∷ 13 ∷ []) [] ∷ CanRead 18 ∷ Heard 18 (codes "\r\n") ∷ Noted (Taken 18 0 (Hit 12000 20000)) ∷ wait true (6 ∷ 11 ∷ 12 ∷ 14 ∷ 16 ∷ 17 ∷ 18 ∷ 7 ∷ 13 ∷ []) (18 ∷ []) ∷ CanWrite 18 ∷ Said 18 8221 text135 ∷ wait true (6 ∷ 11 ∷ 12 ∷ 14 ∷ 16 ∷ 17 ∷ 18 ∷ 7 ∷ 13 ∷ []) [] ∷ Clock 784112962 ∷ wait true (6 ∷ 11 ∷ 12 ∷ 14 ∷ 16 ∷ 17 ∷ 18 ∷ 7 ∷ 13 ∷ []) [] ∷ Opened 19 ∷ wait true (6 ∷ 11 ∷ 12 ∷ 14 ∷ 16 ∷ 17 ∷ 18 ∷ 19 ∷ 7 ∷ 13 ∷ []) [] ∷ CanRead 19 ∷ Heard 19 text136 ∷ Noted (Taken 19 0 (Refuse 400)) ∷ wait true (6 ∷ 11 ∷ 12 ∷ 14 ∷ 16 ∷ 17 ∷ 18 ∷ 19 ∷ 7 ∷ 13 ∷ []) (19 ∷ []) ∷ CanWrite 19 ∷ Said 19 109 text29 ∷ Shut 19 ∷ wait true (6 ∷ 11 ∷ 12 ∷ 14 ∷ 16 ∷ 17 ∷ 18 ∷ 7 ∷ 13 ∷ []) [] ∷ Reached 7 ∷ wait true (6 ∷ 11 ∷ 12 ∷ 14 ∷ 16 ∷ 17 ∷ 18 ∷ 7 ∷ 13 ∷ []) [] ∷ Reached 13 ∷ wait true (6 ∷ 11 ∷ 12 ∷ 14 ∷ 16 ∷ 17 ∷ 18 ∷ 7 ∷ 13 ∷ []) [] ∷ Opened 20 ∷ wait true (6 ∷ 11 ∷ 12 ∷ 14 ∷ 16 ∷ 17 ∷ 18 ∷ 20 ∷ 7 ∷ 13 ∷ []) [] ∷ CanRead 20 ∷ Heard 20 text123 ∷ Noted (Taken 20 0 (Hit 0 100)) ∷ wait true (6 ∷ 11 ∷ 12 ∷ 14 ∷ 16 ∷ 17 ∷ 18 ∷ 20 ∷ 7 ∷ 13 ∷ []) (20 ∷ []) ∷ CanWrite 20 ∷ Said 20 311 text137 ∷ wait true (6 ∷ 11 ∷ 12 ∷ 14 ∷ 16 ∷ 17 ∷ 18 ∷ 20 ∷ 7 ∷ 13 ∷ []) [] ∷ Reached 7 ∷ wait true (6 ∷ 11 ∷ 12 ∷ 14 ∷ 16 ∷ 17 ∷ 18 ∷ 20 ∷ 7 ∷ 13 ∷ []) [] ∷ Reached 13 ∷ wait true (6 ∷ 11 ∷ 12 ∷ 14 ∷ 16 ∷ 17 ∷ 18 ∷ 20 ∷ 7 ∷ 13 ∷ []) [] ∷ CanRead 14 ∷ HungUp 14 ∷ Shut 14 ∷ wait true (6 ∷ 11 ∷ 12 ∷ 16 ∷ 17 ∷ 18 ∷ 20 ∷ 7 ∷ 13 ∷ []) [] ∷ CanRead 6 ∷ HungUp 6 ∷ Shut 6 ∷ wait true (11 ∷ 12 ∷ 16 ∷ 17 ∷ 18 ∷ 20 ∷ 7 ∷ 13 ∷ []) [] ∷ Clock 784113019 ∷ Noted (Cut 11 Idle) ∷ Shut 11 ∷ wait true (12 ∷ 16 ∷ 17 ∷ 18 ∷ 20 ∷ 7 ∷ 13 ∷ []) [] ∷ CanRead 12 ∷ Heard 12 text138 ∷ wait true (12 ∷ 16 ∷ 17 ∷ 18 ∷ 20 ∷ 7 ∷ 13 ∷ []) [] ∷ Opened 21 ∷ wait true (12 ∷ 16 ∷ 17 ∷ 18 ∷ 20 ∷ 21 ∷ 7 ∷ 13 ∷ []) [] ∷ CanRead 21 ∷ Heard 21 text139 ∷ wait true (12 ∷ 16 ∷ 17 ∷ 18 ∷ 20 ∷ 21 ∷ 7 ∷ 13 ∷ []) [] ∷ CanRead 21 ∷ Heard 21 text140 ∷ wait true (12 ∷ 16 ∷ 17 ∷ 18 ∷ 20 ∷ 21 ∷ 7 ∷ 13 ∷ []) [] ∷ CanRead 21 ∷ Heard 21 (codes " bytes=1200") ∷ wait true (12 ∷ 16 ∷ 17 ∷ 18 ∷ 20 ∷ 21 ∷ 7 ∷ 13 ∷ []) [] ∷ CanRead 21 ∷ Heard 21 (codes "0-") ∷ wait true (12 ∷ 16 ∷ 17 ∷ 18 ∷ 20 ∷ 21 ∷ 7 ∷ 13 ∷ []) [] ∷ CanRead 21 ∷ Heard 21 (codes "\r") ∷ wait true (12 ∷ 16 ∷ 17 ∷ 18 ∷ 20 ∷ 21 ∷ 7 ∷ 13 ∷ []) [] ∷ CanRead 21 ∷ Heard 21 (codes "\n") ∷ wait true (12 ∷ 16 ∷ 17 ∷ 18 ∷ 20 ∷ 21 ∷ 7 ∷ 13 ∷ []) [] ∷ CanRead 21 ∷ Heard 21 (codes "\r\n") ∷ Noted (Taken 21 0 (Hit 12000 20000)) ∷ wait true (12 ∷ 16 ∷ 17 ∷ 18 ∷ 20 ∷ 21 ∷ 7 ∷ 13 ∷ []) (21 ∷ []) ∷ CanWrite 21 ∷ Said 21 8222 text141 ∷ wait true (12 ∷ 16 ∷ 17 ∷ 18 ∷ 20 ∷ 21 ∷ 7 ∷ 13 ∷ []) [] ∷ Opened 22 ∷ wait true (12 ∷ 16 ∷ 17 ∷ 18 ∷ 20 ∷ 21 ∷ 22 ∷ 7 ∷ 13 ∷ []) [] ∷ CanRead 22 ∷ Heard 22 text7 ∷ Noted (Taken 22 0 (Hit 0 0)) ∷ wait true (12 ∷ 16 ∷ 17 ∷ 18 ∷ 20 ∷ 21 ∷ 22 ∷ 7 ∷ 13 ∷ []) (22 ∷ []) ∷ CanWrite 22 ∷ Said 22 165 text142 ∷ wait true (12 ∷ 16 ∷ 17 ∷ 18 ∷ 20 ∷ 21 ∷ 22 ∷ 7 ∷ 13 ∷ []) [] ∷ Clock 784113020 ∷ wait true (12 ∷ 16 ∷ 17 ∷ 18 ∷ 20 ∷ 21 ∷ 22 ∷ 7 ∷ 13 ∷ []) [] ∷ Stopped ∷ Shut 12 ∷ Shut 16 ∷ Shut 17 ∷ Shut 18 ∷ Shut 20 ∷ Shut 21 ∷ Shut 22 ∷ Dropped 7 ∷ Dropped 13 ∷ []) ≡ None
+row964x0 : (s : State) × (arrived s ≡ judge 0 (start (record { words = text101 ∷ text102 ∷ []; faults = 0 } ∷ record { words = (codes "diskRun=1") ∷ []; faults = 0 } ∷ [])) (Woke [] ∷ Rooted text0 ∷ Listed true ∷ Listens 8123 true ∷ wait true [] [] ∷ Clock 784111777 ∷ wait true [] [] ∷ Opened 1 ∷ wait true (1 ∷ []) [] ∷ CanRead 1 ∷ Heard 1 text103 ∷ Noted (Taken 1 0 Pass) ∷ Dialled 2 (codes "s") 80 ∷ wait true (1 ∷ []) [] ∷ Reached 2 ∷ wait true (1 ∷ 2 ∷ []) (2 ∷ []) ∷ CanWrite 2 ∷ Asked 2 text13 ∷ wait true (1 ∷ 2 ∷ []) [] ∷ CanRead 2 ∷ Got 2 text14 ∷ wait true (1 ∷ 2 ∷ []) (1 ∷ []) ∷ CanWrite 1 ∷ Said 1 81 text15 ∷ wait true (1 ∷ 2 ∷ []) [] ∷ Reached 2 ∷ wait true (1 ∷ 2 ∷ []) [] ∷ Reached 2 ∷ wait true (1 ∷ 2 ∷ []) [] ∷ Opened 3 ∷ wait true (1 ∷ 3 ∷ 2 ∷ []) [] ∷ CanRead 3 ∷ Heard 3 text16 ∷ Noted (Taken 3 0 Pass) ∷ wait true (1 ∷ 3 ∷ 2 ∷ []) (2 ∷ []) ∷ CanWrite 2 ∷ Asked 2 text17 ∷ wait true (1 ∷ 3 ∷ 2 ∷ []) [] ∷ CanRead 2 ∷ Woke [] ∷ Rooted text0 ∷ Listed true ∷ Listens 8123 true ∷ wait true [] [] ∷ Clock 784112777 ∷ wait true [] [] ∷ Opened 4 ∷ wait true (4 ∷ []) [] ∷ CanRead 4 ∷ Heard 4 text20 ∷ Noted (Taken 4 0 Fetch) ∷ Dialled 5 (codes "s") 80 ∷ wait true (4 ∷ []) [] ∷ Reached 5 ∷ wait true (4 ∷ 5 ∷ []) (5 ∷ []) ∷ CanWrite 5 ∷ Asked 5 text21 ∷ wait true (4 ∷ 5 ∷ []) [] ∷ CanRead 5 ∷ Got 5 text22 ∷ Began (Draft text104) ∷ Did (Draft text104) true ∷ Began SyncDraft ∷ Did SyncDraft true ∷ Began (Publish text24) ∷ Did (Publish text24) true ∷ Began (Write text24 12288 text58) ∷ Did (Write text24 12288 text58) true ∷ Began (Sync text24) ∷ Did (Sync text24) true ∷ Began (Write text24 8192 ((1 ∷ []))) ∷ Did (Write text24 8192 ((1 ∷ []))) true ∷ Began (Sync text24) ∷ Did (Sync text24) true ∷ Noted (Kept (codes "http://s/b") (codes "\"y\"") 9000 4096) ∷ Began (Write text24 16384 text59) ∷ Did (Write text24 16384 text59) true ∷ Began (Sync text24) ∷ Did (Sync text24) true ∷ Began (Write text24 8193 ((1 ∷ []))) ∷ Did (Write text24 8193 ((1 ∷ []))) true ∷ Began (Sync text24) ∷ Did (Sync text24) true ∷ Noted (Kept (codes "http://s/b") (codes "\"y\"") 9000 8192) ∷ Began (Write text24 20480 text26) ∷ Did (Write text24 20480 text26) true ∷ Began (Sync text24) ∷ Did (Sync text24) true ∷ Began (Write text24 8194 ((1 ∷ []))) ∷ Did (Write text24 8194 ((1 ∷ []))) true ∷ Began (Sync text24) ∷ Did (Sync text24) true ∷ Noted (Kept (codes "http://s/b") (codes "\"y\"") 9000 9000) ∷ Noted (Taken 4 0 (Hit 0 9000)) ∷ wait true (4 ∷ 5 ∷ []) (4 ∷ []) ∷ CanWrite 4 ∷ Said 4 9154 text105 ∷ Shut 4 ∷ wait true (5 ∷ []) [] ∷ Clock 784112846 ∷ Dropped 5 ∷ wait true [] [] ∷ Opened 6 ∷ wait true (6 ∷ []) [] ∷ CanRead 6 ∷ Heard 6 text106 ∷ wait true (6 ∷ []) [] ∷ CanRead 6 ∷ Heard 6 text107 ∷ wait true (6 ∷ []) [] ∷ CanRead 6 ∷ Heard 6 (codes "\r\n\r") ∷ wait true (6 ∷ []) [] ∷ CanRead 6 ∷ Heard 6 (codes "\n") ∷ Noted (Taken 6 0 Fetch) ∷ Dialled 7 (codes "s") 80 ∷ wait true (6 ∷ []) [] ∷ Reached 7 ∷ wait true (6 ∷ 7 ∷ []) (7 ∷ []) ∷ CanWrite 7 ∷ Asked 7 text31 ∷ wait true (6 ∷ 7 ∷ []) [] ∷ CanRead 7 ∷ Got 7 text18 ∷ Began (Draft text108) ∷ Did (Draft text108) true ∷ Began SyncDraft ∷ Did SyncDraft true ∷ Began (Publish text33) ∷ Did (Publish text33) true ∷ Began (Write text33 12288 (codes "aaaaa")) ∷ Did (Write text33 12288 (codes "aaaaa")) true ∷ Began (Sync text33) ∷ Did (Sync text33) true ∷ Began (Write text33 8192 ((1 ∷ []))) ∷ Did (Write text33 8192 ((1 ∷ []))) true ∷ Began (Sync text33) ∷ Did (Sync text33) true ∷ Noted (Kept (codes "http://s/a") (codes "\"x\"") 5 5) ∷ Noted (Taken 6 0 (Hit 0 5)) ∷ wait true (6 ∷ 7 ∷ []) (6 ∷ []) ∷ CanWrite 6 ∷ Said 6 161 text109 ∷ wait true (6 ∷ 7 ∷ []) [] ∷ Reached 7 ∷ wait true (6 ∷ 7 ∷ []) [] ∷ Opened 8 ∷ wait true (6 ∷ 8 ∷ 7 ∷ []) [] ∷ CanRead 8 ∷ Heard 8 (codes "H") ∷ wait true (6 ∷ 8 ∷ 7 ∷ []) [] ∷ CanRead 8 ∷ Heard 8 (codes "E") ∷ wait true (6 ∷ 8 ∷ 7 ∷ []) [] ∷ CanRead 8 ∷ Heard 8 (codes "A") ∷ wait true (6 ∷ 8 ∷ 7 ∷ []) [] ∷ CanRead 8 ∷ Heard 8 (codes "D") ∷ wait true (6 ∷ 8 ∷ 7 ∷ []) [] ∷ CanRead 8 ∷ Heard 8 (codes " ") ∷ wait true (6 ∷ 8 ∷ 7 ∷ []) [] ∷ CanRead 8 ∷ Heard 8 (codes "h") ∷ wait true (6 ∷ 8 ∷ 7 ∷ []) [] ∷ CanRead 8 ∷ Heard 8 (codes "t") ∷ wait true (6 ∷ 8 ∷ 7 ∷ []) [] ∷ CanRead 8 ∷ Heard 8 (codes "t") ∷ wait true (6 ∷ 8 ∷ 7 ∷ []) [] ∷ CanRead 8 ∷ Heard 8 (codes "p") ∷ wait true (6 ∷ 8 ∷ 7 ∷ []) [] ∷ CanRead 8 ∷ Heard 8 (codes ":") ∷ wait true (6 ∷ 8 ∷ 7 ∷ []) [] ∷ CanRead 8 ∷ Heard 8 (codes "/") ∷ wait true (6 ∷ 8 ∷ 7 ∷ []) [] ∷ CanRead 8 ∷ Heard 8 (codes "/") ∷ wait true (6 ∷ 8 ∷ 7 ∷ []) [] ∷ CanRead 8 ∷ Heard 8 (codes "s") ∷ wait true (6 ∷ 8 ∷ 7 ∷ []) [] ∷ CanRead 8 ∷ Heard 8 (codes "/") ∷ wait true (6 ∷ 8 ∷ 7 ∷ []) [] ∷ CanRead 8 ∷ Heard 8 (codes "b") ∷ wait true (6 ∷ 8 ∷ 7 ∷ []) [] ∷ CanRead 8 ∷ Heard 8 (codes " ") ∷ wait true (6 ∷ 8 ∷ 7 ∷ []) [] ∷ CanRead 8 ∷ Heard 8 (codes "H") ∷ wait true (6 ∷ 8 ∷ 7 ∷ []) [] ∷ CanRead 8 ∷ Heard 8 (codes "T") ∷ wait true (6 ∷ 8 ∷ 7 ∷ []) [] ∷ CanRead 8 ∷ Heard 8 (codes "T") ∷ wait true (6 ∷ 8 ∷ 7 ∷ []) [] ∷ CanRead 8 ∷ Heard 8 (codes "P") ∷ wait true (6 ∷ 8 ∷ 7 ∷ []) [] ∷ CanRead 8 ∷ Heard 8 (codes "/") ∷ wait true (6 ∷ 8 ∷ 7 ∷ []) [] ∷ CanRead 8 ∷ Heard 8 (codes "1") ∷ wait true (6 ∷ 8 ∷ 7 ∷ []) [] ∷ CanRead 8 ∷ Heard 8 (codes ".") ∷ wait true (6 ∷ 8 ∷ 7 ∷ []) [] ∷ CanRead 8 ∷ Heard 8 (codes "1") ∷ wait true (6 ∷ 8 ∷ 7 ∷ []) [] ∷ CanRead 8 ∷ Heard 8 (codes "\r") ∷ wait true (6 ∷ 8 ∷ 7 ∷ []) [] ∷ CanRead 8 ∷ Heard 8 (codes "\n") ∷ wait true (6 ∷ 8 ∷ 7 ∷ []) [] ∷ CanRead 8 ∷ Heard 8 (codes "H") ∷ wait true (6 ∷ 8 ∷ 7 ∷ []) [] ∷ CanRead 8 ∷ Heard 8 (codes "o") ∷ wait true (6 ∷ 8 ∷ 7 ∷ []) [] ∷ CanRead 8 ∷ Heard 8 (codes "s") ∷ wait true (6 ∷ 8 ∷ 7 ∷ []) [] ∷ CanRead 8 ∷ Heard 8 (codes "t") ∷ wait true (6 ∷ 8 ∷ 7 ∷ []) [] ∷ CanRead 8 ∷ []))
 unfolding judging
+row964x0 = (_, refl)
+
+row964x1 : (s : State) × (arrived s ≡ judge 240 row964x0.0 (Heard 8 (codes ":") ∷ wait true (6 ∷ 8 ∷ 7 ∷ []) [] ∷ CanRead 8 ∷ Heard 8 (codes " ") ∷ wait true (6 ∷ 8 ∷ 7 ∷ []) [] ∷ CanRead 8 ∷ Heard 8 (codes "s") ∷ wait true (6 ∷ 8 ∷ 7 ∷ []) [] ∷ CanRead 8 ∷ Heard 8 (codes "\r") ∷ wait true (6 ∷ 8 ∷ 7 ∷ []) [] ∷ CanRead 8 ∷ Heard 8 (codes "\n") ∷ wait true (6 ∷ 8 ∷ 7 ∷ []) [] ∷ CanRead 8 ∷ Heard 8 (codes "\r") ∷ wait true (6 ∷ 8 ∷ 7 ∷ []) [] ∷ CanRead 8 ∷ Heard 8 (codes "\n") ∷ Noted (Taken 8 0 Head) ∷ wait true (6 ∷ 8 ∷ 7 ∷ []) (8 ∷ []) ∷ CanWrite 8 ∷ Said 8 168 text110 ∷ wait true (6 ∷ 8 ∷ 7 ∷ []) [] ∷ CanRead 8 ∷ Heard 8 text111 ∷ Noted (Taken 8 1 (Refuse 400)) ∷ wait true (6 ∷ 8 ∷ 7 ∷ []) (8 ∷ []) ∷ CanWrite 8 ∷ Said 8 109 text29 ∷ Shut 8 ∷ wait true (6 ∷ 7 ∷ []) [] ∷ Reached 7 ∷ wait true (6 ∷ 7 ∷ []) [] ∷ Opened 9 ∷ wait true (6 ∷ 9 ∷ 7 ∷ []) [] ∷ CanRead 9 ∷ Heard 9 text78 ∷ wait true (6 ∷ 9 ∷ 7 ∷ []) [] ∷ CanRead 9 ∷ Heard 9 (codes "1.1") ∷ wait true (6 ∷ 9 ∷ 7 ∷ []) [] ∷ CanRead 9 ∷ Heard 9 (codes "\r\nRange: ") ∷ wait true (6 ∷ 9 ∷ 7 ∷ []) [] ∷ CanRead 9 ∷ Heard 9 (codes "bytes=0-9") ∷ wait true (6 ∷ 9 ∷ 7 ∷ []) [] ∷ CanRead 9 ∷ Heard 9 (codes "9\r\n\r\n") ∷ Noted (Taken 9 0 (Hit 0 100)) ∷ wait true (6 ∷ 9 ∷ 7 ∷ []) (9 ∷ []) ∷ CanWrite 9 ∷ Said 9 312 text112 ∷ wait true (6 ∷ 9 ∷ 7 ∷ []) [] ∷ Clock 784112891 ∷ wait true (6 ∷ 9 ∷ 7 ∷ []) [] ∷ CanRead 9 ∷ Heard 9 (codes "G") ∷ wait true (6 ∷ 9 ∷ 7 ∷ []) [] ∷ CanRead 9 ∷ Heard 9 (codes "E") ∷ wait true (6 ∷ 9 ∷ 7 ∷ []) [] ∷ CanRead 9 ∷ Heard 9 (codes "T") ∷ wait true (6 ∷ 9 ∷ 7 ∷ []) [] ∷ CanRead 9 ∷ Heard 9 (codes " ") ∷ wait true (6 ∷ 9 ∷ 7 ∷ []) [] ∷ CanRead 9 ∷ Heard 9 (codes "h") ∷ wait true (6 ∷ 9 ∷ 7 ∷ []) [] ∷ CanRead 9 ∷ Heard 9 (codes "t") ∷ wait true (6 ∷ 9 ∷ 7 ∷ []) [] ∷ CanRead 9 ∷ Heard 9 (codes "t") ∷ wait true (6 ∷ 9 ∷ 7 ∷ []) [] ∷ CanRead 9 ∷ Heard 9 (codes "p") ∷ wait true (6 ∷ 9 ∷ 7 ∷ []) [] ∷ CanRead 9 ∷ Heard 9 (codes ":") ∷ wait true (6 ∷ 9 ∷ 7 ∷ []) [] ∷ CanRead 9 ∷ Heard 9 (codes "/") ∷ wait true (6 ∷ 9 ∷ 7 ∷ []) [] ∷ CanRead 9 ∷ Heard 9 (codes "/") ∷ wait true (6 ∷ 9 ∷ 7 ∷ []) [] ∷ CanRead 9 ∷ Heard 9 (codes "t") ∷ wait true (6 ∷ 9 ∷ 7 ∷ []) [] ∷ CanRead 9 ∷ Heard 9 (codes "/") ∷ wait true (6 ∷ 9 ∷ 7 ∷ []) [] ∷ CanRead 9 ∷ Heard 9 (codes "c") ∷ wait true (6 ∷ 9 ∷ 7 ∷ []) [] ∷ CanRead 9 ∷ Heard 9 (codes " ") ∷ wait true (6 ∷ 9 ∷ 7 ∷ []) [] ∷ CanRead 9 ∷ Heard 9 (codes "H") ∷ wait true (6 ∷ 9 ∷ 7 ∷ []) [] ∷ CanRead 9 ∷ Heard 9 (codes "T") ∷ wait true (6 ∷ 9 ∷ 7 ∷ []) [] ∷ CanRead 9 ∷ Heard 9 (codes "T") ∷ wait true (6 ∷ 9 ∷ 7 ∷ []) [] ∷ CanRead 9 ∷ Heard 9 (codes "P") ∷ wait true (6 ∷ 9 ∷ 7 ∷ []) [] ∷ CanRead 9 ∷ Heard 9 (codes "/") ∷ wait true (6 ∷ 9 ∷ 7 ∷ []) [] ∷ CanRead 9 ∷ Heard 9 (codes "1") ∷ wait true (6 ∷ 9 ∷ 7 ∷ []) [] ∷ CanRead 9 ∷ Heard 9 (codes ".") ∷ wait true (6 ∷ 9 ∷ 7 ∷ []) [] ∷ CanRead 9 ∷ Heard 9 (codes "1") ∷ wait true (6 ∷ 9 ∷ 7 ∷ []) [] ∷ CanRead 9 ∷ Heard 9 (codes "\r") ∷ wait true (6 ∷ 9 ∷ 7 ∷ []) [] ∷ CanRead 9 ∷ Heard 9 (codes "\n") ∷ wait true (6 ∷ 9 ∷ 7 ∷ []) [] ∷ CanRead 9 ∷ Heard 9 (codes "H") ∷ wait true (6 ∷ 9 ∷ 7 ∷ []) [] ∷ CanRead 9 ∷ Heard 9 (codes "o") ∷ wait true (6 ∷ 9 ∷ 7 ∷ []) [] ∷ CanRead 9 ∷ Heard 9 (codes "s") ∷ wait true (6 ∷ 9 ∷ 7 ∷ []) [] ∷ CanRead 9 ∷ Heard 9 (codes "t") ∷ wait true (6 ∷ 9 ∷ 7 ∷ []) [] ∷ CanRead 9 ∷ Heard 9 (codes ":") ∷ wait true (6 ∷ 9 ∷ 7 ∷ []) [] ∷ CanRead 9 ∷ Heard 9 (codes " ") ∷ wait true (6 ∷ 9 ∷ 7 ∷ []) [] ∷ CanRead 9 ∷ Heard 9 (codes "t") ∷ wait true (6 ∷ 9 ∷ 7 ∷ []) [] ∷ CanRead 9 ∷ Heard 9 (codes "\r") ∷ wait true (6 ∷ 9 ∷ 7 ∷ []) [] ∷ CanRead 9 ∷ Heard 9 (codes "\n") ∷ wait true (6 ∷ 9 ∷ 7 ∷ []) [] ∷ CanRead 9 ∷ Heard 9 (codes "\r") ∷ wait true (6 ∷ 9 ∷ 7 ∷ []) [] ∷ CanRead 9 ∷ Heard 9 (codes "\n") ∷ Noted (Taken 9 1 Fetch) ∷ Dialled 10 (codes "t") 80 ∷ wait true (6 ∷ 9 ∷ 7 ∷ []) [] ∷ Reached 10 ∷ wait true (6 ∷ 9 ∷ 7 ∷ 10 ∷ []) (10 ∷ []) ∷ CanWrite 10 ∷ Asked 10 text113 ∷ wait true (6 ∷ 9 ∷ 7 ∷ 10 ∷ []) [] ∷ CanRead 10 ∷ Got 10 text114 ∷ Began (Draft text115) ∷ Did (Draft text115) true ∷ Began SyncDraft ∷ Did SyncDraft true ∷ Began (Publish text43) ∷ Did (Publish text43) true ∷ Began (Write text43 12288 text58) ∷ Did (Write text43 12288 text58) true ∷ Began (Sync text43) ∷ Did (Sync text43) true ∷ Began (Write text43 8192 ((1 ∷ []))) ∷ Did (Write text43 8192 ((1 ∷ []))) true ∷ Began (Sync text43) ∷ Did (Sync text43) true ∷ Noted (Kept (codes "http://t/c") (codes "\"c\"") 20000 4096) ∷ Began (Write text43 16384 text59) ∷ Did (Write text43 16384 text59) true ∷ Began (Sync text43) ∷ Did (Sync text43) true ∷ Began (Write text43 8193 ((1 ∷ []))) ∷ Did (Write text43 8193 ((1 ∷ []))) true ∷ Began (Sync text43) ∷ Did (Sync text43) true ∷ Noted (Kept (codes "http://t/c") (codes "\"c\"") 20000 8192) ∷ Began (Write text43 20480 text60) ∷ Did (Write text43 20480 text60) true ∷ Began (Sync text43) ∷ Did (Sync text43) true ∷ Began (Write text43 8194 ((1 ∷ []))) ∷ Did (Write text43 8194 ((1 ∷ []))) true ∷ Began (Sync text43) ∷ Did (Sync text43) true ∷ Noted (Kept (codes "http://t/c") (codes "\"c\"") 20000 12288) ∷ Began (Write text43 24576 text61) ∷ Did (Write text43 24576 text61) true ∷ Began (Sync text43) ∷ Did (Sync text43) true ∷ Began (Write text43 8195 ((1 ∷ []))) ∷ Did (Write text43 8195 ((1 ∷ []))) true ∷ Began (Sync text43) ∷ Did (Sync text43) true ∷ Noted (Kept (codes "http://t/c") (codes "\"c\"") 20000 16384) ∷ Began (Write text43 28672 text62) ∷ Did (Write text43 28672 text62) true ∷ Began (Sync text43) ∷ Did (Sync text43) true ∷ Began (Write text43 8196 ((1 ∷ []))) ∷ Did (Write text43 8196 ((1 ∷ []))) true ∷ Began (Sync text43) ∷ Did (Sync text43) true ∷ Noted (Kept (codes "http://t/c") (codes "\"c\"") 20000 20000) ∷ Noted (Taken 9 1 (Hit 0 20000)) ∷ wait true (6 ∷ 9 ∷ 7 ∷ 10 ∷ []) (9 ∷ []) ∷ CanWrite 9 ∷ Said 9 20160 text116 ∷ wait true (6 ∷ 9 ∷ 7 ∷ 10 ∷ []) [] ∷ CanRead 9 ∷ Heard 9 text117 ∷ Noted (Taken 9 2 Head) ∷ wait true (6 ∷ 9 ∷ 7 ∷ 10 ∷ []) (9 ∷ []) ∷ CanWrite 9 ∷ Said 9 169 text118 ∷ wait true (6 ∷ 9 ∷ 7 ∷ 10 ∷ []) [] ∷ Reached 7 ∷ wait true (6 ∷ 9 ∷ 7 ∷ 10 ∷ []) [] ∷ Reached 10 ∷ []))
+unfolding judging row964x0
+row964x1 = (_, refl)
+
+row964x2 : (s : State) × (arrived s ≡ judge 480 row964x1.0 (wait true (6 ∷ 9 ∷ 7 ∷ 10 ∷ []) [] ∷ CanRead 9 ∷ HungUp 9 ∷ Shut 9 ∷ wait true (6 ∷ 7 ∷ 10 ∷ []) [] ∷ Reached 7 ∷ wait true (6 ∷ 7 ∷ 10 ∷ []) [] ∷ Reached 10 ∷ wait true (6 ∷ 7 ∷ 10 ∷ []) [] ∷ Opened 11 ∷ wait true (6 ∷ 11 ∷ 7 ∷ 10 ∷ []) [] ∷ CanRead 11 ∷ Heard 11 text103 ∷ Noted (Taken 11 0 NotModified) ∷ wait true (6 ∷ 11 ∷ 7 ∷ 10 ∷ []) (11 ∷ []) ∷ CanWrite 11 ∷ Said 11 156 text119 ∷ wait true (6 ∷ 11 ∷ 7 ∷ 10 ∷ []) [] ∷ Clock 784112898 ∷ wait true (6 ∷ 11 ∷ 7 ∷ 10 ∷ []) [] ∷ Reached 7 ∷ wait true (6 ∷ 11 ∷ 7 ∷ 10 ∷ []) [] ∷ Reached 10 ∷ wait true (6 ∷ 11 ∷ 7 ∷ 10 ∷ []) [] ∷ Clock 784112927 ∷ wait true (6 ∷ 11 ∷ 7 ∷ 10 ∷ []) [] ∷ Opened 12 ∷ wait true (6 ∷ 11 ∷ 12 ∷ 7 ∷ 10 ∷ []) [] ∷ CanRead 12 ∷ Heard 12 text120 ∷ wait true (6 ∷ 11 ∷ 12 ∷ 7 ∷ 10 ∷ []) [] ∷ CanRead 12 ∷ Heard 12 text121 ∷ wait true (6 ∷ 11 ∷ 12 ∷ 7 ∷ 10 ∷ []) [] ∷ CanRead 12 ∷ Heard 12 (codes "\n\r\n") ∷ Noted (Taken 12 0 Fetch) ∷ Dialled 13 (codes "h") 8080 ∷ wait true (6 ∷ 11 ∷ 12 ∷ 7 ∷ 10 ∷ []) [] ∷ Reached 7 ∷ wait true (6 ∷ 11 ∷ 12 ∷ 7 ∷ 10 ∷ []) [] ∷ Reached 10 ∷ wait true (6 ∷ 11 ∷ 12 ∷ 7 ∷ 10 ∷ []) [] ∷ Reached 13 ∷ wait true (6 ∷ 11 ∷ 12 ∷ 7 ∷ 10 ∷ 13 ∷ []) (13 ∷ []) ∷ CanWrite 13 ∷ Asked 13 text122 ∷ wait true (6 ∷ 11 ∷ 12 ∷ 7 ∷ 10 ∷ 13 ∷ []) [] ∷ Reached 7 ∷ wait true (6 ∷ 11 ∷ 12 ∷ 7 ∷ 10 ∷ 13 ∷ []) [] ∷ Reached 10 ∷ wait true (6 ∷ 11 ∷ 12 ∷ 7 ∷ 10 ∷ 13 ∷ []) [] ∷ Reached 13 ∷ wait true (6 ∷ 11 ∷ 12 ∷ 7 ∷ 10 ∷ 13 ∷ []) [] ∷ Clock 784112956 ∷ wait true (6 ∷ 11 ∷ 12 ∷ 7 ∷ 10 ∷ 13 ∷ []) [] ∷ CanRead 10 ∷ Broke 10 ∷ Dropped 10 ∷ wait true (6 ∷ 11 ∷ 12 ∷ 7 ∷ 13 ∷ []) [] ∷ CanRead 12 ∷ Heard 12 text123 ∷ wait true (6 ∷ 11 ∷ 12 ∷ 7 ∷ 13 ∷ []) [] ∷ Opened 14 ∷ wait true (6 ∷ 11 ∷ 12 ∷ 14 ∷ 7 ∷ 13 ∷ []) [] ∷ CanRead 14 ∷ Heard 14 text124 ∷ Noted (Taken 14 0 Validate) ∷ wait true (6 ∷ 11 ∷ 12 ∷ 14 ∷ 7 ∷ 13 ∷ []) (7 ∷ []) ∷ CanWrite 7 ∷ Asked 7 text125 ∷ wait true (6 ∷ 11 ∷ 12 ∷ 14 ∷ 7 ∷ 13 ∷ []) [] ∷ CanRead 7 ∷ Got 7 text126 ∷ Noted (Taken 14 0 (Hit 0 9000)) ∷ wait true (6 ∷ 11 ∷ 12 ∷ 14 ∷ 7 ∷ 13 ∷ []) (14 ∷ []) ∷ CanWrite 14 ∷ Said 14 9167 text127 ∷ wait true (6 ∷ 11 ∷ 12 ∷ 14 ∷ 7 ∷ 13 ∷ []) [] ∷ CanRead 14 ∷ Heard 14 text50 ∷ Noted (Taken 14 1 (Hit 1 4)) ∷ wait true (6 ∷ 11 ∷ 12 ∷ 14 ∷ 7 ∷ 13 ∷ []) (14 ∷ []) ∷ CanWrite 14 ∷ Said 14 210 text128 ∷ wait true (6 ∷ 11 ∷ 12 ∷ 14 ∷ 7 ∷ 13 ∷ []) [] ∷ Opened 15 ∷ wait true (6 ∷ 11 ∷ 12 ∷ 14 ∷ 15 ∷ 7 ∷ 13 ∷ []) [] ∷ CanRead 15 ∷ Heard 15 text20 ∷ Noted (Taken 15 0 (Hit 0 9000)) ∷ wait true (6 ∷ 11 ∷ 12 ∷ 14 ∷ 15 ∷ 7 ∷ 13 ∷ []) (15 ∷ []) ∷ CanWrite 15 ∷ Said 15 9162 text129 ∷ Shut 15 ∷ wait true (6 ∷ 11 ∷ 12 ∷ 14 ∷ 7 ∷ 13 ∷ []) [] ∷ Reached 7 ∷ wait true (6 ∷ 11 ∷ 12 ∷ 14 ∷ 7 ∷ 13 ∷ []) [] ∷ Reached 13 ∷ wait true (6 ∷ 11 ∷ 12 ∷ 14 ∷ 7 ∷ 13 ∷ []) [] ∷ Opened 16 ∷ wait true (6 ∷ 11 ∷ 12 ∷ 14 ∷ 16 ∷ 7 ∷ 13 ∷ []) [] ∷ CanRead 16 ∷ Heard 16 text130 ∷ wait true (6 ∷ 11 ∷ 12 ∷ 14 ∷ 16 ∷ 7 ∷ 13 ∷ []) [] ∷ CanRead 16 ∷ Heard 16 text131 ∷ wait true (6 ∷ 11 ∷ 12 ∷ 14 ∷ 16 ∷ 7 ∷ 13 ∷ []) [] ∷ CanRead 16 ∷ Heard 16 (codes "0\r") ∷ wait true (6 ∷ 11 ∷ 12 ∷ 14 ∷ 16 ∷ 7 ∷ 13 ∷ []) [] ∷ CanRead 16 ∷ Heard 16 (codes "\n\r") ∷ wait true (6 ∷ 11 ∷ 12 ∷ 14 ∷ 16 ∷ 7 ∷ 13 ∷ []) [] ∷ CanRead 16 ∷ Heard 16 (codes "\n") ∷ Noted (Taken 16 0 (Hit 19900 20000)) ∷ wait true (6 ∷ 11 ∷ 12 ∷ 14 ∷ 16 ∷ 7 ∷ 13 ∷ []) (16 ∷ []) ∷ CanWrite 16 ∷ Said 16 320 text132 ∷ wait true (6 ∷ 11 ∷ 12 ∷ 14 ∷ 16 ∷ 7 ∷ 13 ∷ []) [] ∷ Reached 7 ∷ wait true (6 ∷ 11 ∷ 12 ∷ 14 ∷ 16 ∷ 7 ∷ 13 ∷ []) [] ∷ Reached 13 ∷ wait true (6 ∷ 11 ∷ 12 ∷ 14 ∷ 16 ∷ 7 ∷ 13 ∷ []) [] ∷ Opened 17 ∷ wait true (6 ∷ 11 ∷ 12 ∷ 14 ∷ 16 ∷ 17 ∷ 7 ∷ 13 ∷ []) [] ∷ CanRead 17 ∷ Heard 17 text7 ∷ Noted (Taken 17 0 Fetch) ∷ wait true (6 ∷ 11 ∷ 12 ∷ 14 ∷ 16 ∷ 17 ∷ 7 ∷ 13 ∷ []) (7 ∷ []) ∷ CanWrite 7 ∷ Asked 7 text8 ∷ wait true (6 ∷ 11 ∷ 12 ∷ 14 ∷ 16 ∷ 17 ∷ 7 ∷ 13 ∷ []) [] ∷ CanRead 7 ∷ Got 7 text9 ∷ Noted (Taken 17 0 (Hit 0 0)) ∷ wait true (6 ∷ 11 ∷ 12 ∷ 14 ∷ 16 ∷ 17 ∷ 7 ∷ 13 ∷ []) (17 ∷ []) ∷ CanWrite 17 ∷ Said 17 156 text133 ∷ wait true (6 ∷ 11 ∷ 12 ∷ 14 ∷ 16 ∷ 17 ∷ 7 ∷ 13 ∷ []) [] ∷ Opened 18 ∷ wait true (6 ∷ 11 ∷ 12 ∷ 14 ∷ 16 ∷ 17 ∷ 18 ∷ 7 ∷ 13 ∷ []) [] ∷ CanRead 18 ∷ Heard 18 text134 ∷ wait true (6 ∷ 11 ∷ 12 ∷ 14 ∷ 16 ∷ 17 ∷ 18 ∷ 7 ∷ 13 ∷ []) [] ∷ CanRead 18 ∷ Heard 18 (codes "\r\n") ∷ Noted (Taken 18 0 (Hit 12000 20000)) ∷ wait true (6 ∷ 11 ∷ 12 ∷ 14 ∷ 16 ∷ 17 ∷ 18 ∷ 7 ∷ 13 ∷ []) (18 ∷ []) ∷ CanWrite 18 ∷ Said 18 8221 text135 ∷ wait true (6 ∷ 11 ∷ 12 ∷ 14 ∷ 16 ∷ 17 ∷ 18 ∷ 7 ∷ 13 ∷ []) [] ∷ Clock 784112962 ∷ wait true (6 ∷ 11 ∷ 12 ∷ 14 ∷ 16 ∷ 17 ∷ 18 ∷ 7 ∷ 13 ∷ []) [] ∷ Opened 19 ∷ wait true (6 ∷ 11 ∷ 12 ∷ 14 ∷ 16 ∷ 17 ∷ 18 ∷ 19 ∷ 7 ∷ 13 ∷ []) [] ∷ CanRead 19 ∷ Heard 19 text136 ∷ Noted (Taken 19 0 (Refuse 400)) ∷ wait true (6 ∷ 11 ∷ 12 ∷ 14 ∷ 16 ∷ 17 ∷ 18 ∷ 19 ∷ 7 ∷ 13 ∷ []) (19 ∷ []) ∷ CanWrite 19 ∷ Said 19 109 text29 ∷ Shut 19 ∷ wait true (6 ∷ 11 ∷ 12 ∷ 14 ∷ 16 ∷ 17 ∷ 18 ∷ 7 ∷ 13 ∷ []) [] ∷ Reached 7 ∷ wait true (6 ∷ 11 ∷ 12 ∷ 14 ∷ 16 ∷ 17 ∷ 18 ∷ 7 ∷ 13 ∷ []) [] ∷ Reached 13 ∷ wait true (6 ∷ 11 ∷ 12 ∷ 14 ∷ 16 ∷ 17 ∷ 18 ∷ 7 ∷ 13 ∷ []) [] ∷ Opened 20 ∷ wait true (6 ∷ 11 ∷ 12 ∷ 14 ∷ 16 ∷ 17 ∷ 18 ∷ 20 ∷ 7 ∷ 13 ∷ []) [] ∷ CanRead 20 ∷ Heard 20 text123 ∷ Noted (Taken 20 0 (Hit 0 100)) ∷ wait true (6 ∷ 11 ∷ 12 ∷ 14 ∷ 16 ∷ 17 ∷ 18 ∷ 20 ∷ 7 ∷ 13 ∷ []) (20 ∷ []) ∷ CanWrite 20 ∷ Said 20 311 text137 ∷ wait true (6 ∷ 11 ∷ 12 ∷ 14 ∷ 16 ∷ 17 ∷ 18 ∷ 20 ∷ 7 ∷ 13 ∷ []) [] ∷ Reached 7 ∷ wait true (6 ∷ 11 ∷ 12 ∷ 14 ∷ 16 ∷ 17 ∷ 18 ∷ 20 ∷ 7 ∷ 13 ∷ []) [] ∷ Reached 13 ∷ wait true (6 ∷ 11 ∷ 12 ∷ 14 ∷ 16 ∷ 17 ∷ 18 ∷ 20 ∷ 7 ∷ 13 ∷ []) [] ∷ CanRead 14 ∷ HungUp 14 ∷ Shut 14 ∷ wait true (6 ∷ 11 ∷ 12 ∷ 16 ∷ 17 ∷ 18 ∷ 20 ∷ 7 ∷ 13 ∷ []) [] ∷ CanRead 6 ∷ HungUp 6 ∷ Shut 6 ∷ wait true (11 ∷ 12 ∷ 16 ∷ 17 ∷ 18 ∷ 20 ∷ 7 ∷ 13 ∷ []) [] ∷ Clock 784113019 ∷ Noted (Cut 11 Idle) ∷ Shut 11 ∷ wait true (12 ∷ 16 ∷ 17 ∷ 18 ∷ 20 ∷ 7 ∷ 13 ∷ []) [] ∷ CanRead 12 ∷ Heard 12 text138 ∷ wait true (12 ∷ 16 ∷ 17 ∷ 18 ∷ 20 ∷ 7 ∷ 13 ∷ []) [] ∷ Opened 21 ∷ wait true (12 ∷ 16 ∷ 17 ∷ 18 ∷ 20 ∷ 21 ∷ 7 ∷ 13 ∷ []) [] ∷ CanRead 21 ∷ Heard 21 text139 ∷ wait true (12 ∷ 16 ∷ 17 ∷ 18 ∷ 20 ∷ 21 ∷ 7 ∷ 13 ∷ []) [] ∷ CanRead 21 ∷ Heard 21 text140 ∷ wait true (12 ∷ 16 ∷ 17 ∷ 18 ∷ 20 ∷ 21 ∷ 7 ∷ 13 ∷ []) [] ∷ CanRead 21 ∷ Heard 21 (codes " bytes=1200") ∷ wait true (12 ∷ 16 ∷ 17 ∷ 18 ∷ 20 ∷ 21 ∷ 7 ∷ 13 ∷ []) [] ∷ CanRead 21 ∷ Heard 21 (codes "0-") ∷ wait true (12 ∷ 16 ∷ 17 ∷ 18 ∷ 20 ∷ 21 ∷ 7 ∷ 13 ∷ []) [] ∷ CanRead 21 ∷ Heard 21 (codes "\r") ∷ wait true (12 ∷ 16 ∷ 17 ∷ 18 ∷ 20 ∷ 21 ∷ 7 ∷ 13 ∷ []) [] ∷ CanRead 21 ∷ Heard 21 (codes "\n") ∷ wait true (12 ∷ 16 ∷ 17 ∷ 18 ∷ 20 ∷ 21 ∷ 7 ∷ 13 ∷ []) [] ∷ CanRead 21 ∷ Heard 21 (codes "\r\n") ∷ Noted (Taken 21 0 (Hit 12000 20000)) ∷ wait true (12 ∷ 16 ∷ 17 ∷ 18 ∷ 20 ∷ 21 ∷ 7 ∷ 13 ∷ []) (21 ∷ []) ∷ CanWrite 21 ∷ Said 21 8222 text141 ∷ wait true (12 ∷ 16 ∷ 17 ∷ 18 ∷ 20 ∷ 21 ∷ 7 ∷ 13 ∷ []) [] ∷ Opened 22 ∷ wait true (12 ∷ 16 ∷ 17 ∷ 18 ∷ 20 ∷ 21 ∷ 22 ∷ 7 ∷ 13 ∷ []) [] ∷ CanRead 22 ∷ Heard 22 text7 ∷ Noted (Taken 22 0 (Hit 0 0)) ∷ wait true (12 ∷ 16 ∷ 17 ∷ 18 ∷ 20 ∷ 21 ∷ 22 ∷ 7 ∷ 13 ∷ []) (22 ∷ []) ∷ CanWrite 22 ∷ Said 22 165 text142 ∷ wait true (12 ∷ 16 ∷ 17 ∷ 18 ∷ 20 ∷ 21 ∷ 22 ∷ 7 ∷ 13 ∷ []) [] ∷ Clock 784113020 ∷ wait true (12 ∷ 16 ∷ 17 ∷ 18 ∷ 20 ∷ 21 ∷ 22 ∷ 7 ∷ 13 ∷ []) [] ∷ Stopped ∷ Shut 12 ∷ Shut 16 ∷ Shut 17 ∷ Shut 18 ∷ []))
+unfolding judging row964x1
+row964x2 = (_, refl)
+
+row964 : fault_from 720 row964x2.0 (Shut 20 ∷ Shut 21 ∷ Shut 22 ∷ Dropped 7 ∷ Dropped 13 ∷ []) ≡ None
+unfolding judging row964x2
 row964 = refl
 
-row1694 : fault_from 0 (start (record { words = text143 ∷ (codes "proxyName=p") ∷ []; faults = 0 } ∷ record { words = (codes "diskRun=1") ∷ []; faults = 0 } ∷ record { words = text101 ∷ text102 ∷ []; faults = 0 } ∷ [])) (Woke [] ∷ Rooted text0 ∷ Listed true ∷ Listens 8000 true ∷ wait true [] [] ∷ Clock 784111777 ∷ wait true [] [] ∷ Clock 784111821 ∷ wait true [] [] ∷ Opened 1 ∷ wait true (1 ∷ []) [] ∷ CanRead 1 ∷ Heard 1 text144 ∷ wait true (1 ∷ []) [] ∷ CanRead 1 ∷ Heard 1 (codes "P/1.1\r\n") ∷ wait true (1 ∷ []) [] ∷ CanRead 1 ∷ Heard 1 (codes "\r\n") ∷ Noted (Taken 1 0 (Refuse 400)) ∷ wait true (1 ∷ []) (1 ∷ []) ∷ CanWrite 1 ∷ Said 1 109 text29 ∷ Shut 1 ∷ wait true [] [] ∷ Opened 2 ∷ wait true (2 ∷ []) [] ∷ CanRead 2 ∷ Heard 2 text7 ∷ Noted (Taken 2 0 Fetch) ∷ Dialled 3 (codes "s") 80 ∷ wait true (2 ∷ []) [] ∷ Reached 3 ∷ wait true (2 ∷ 3 ∷ []) (3 ∷ []) ∷ CanWrite 3 ∷ Asked 3 text145 ∷ wait true (2 ∷ 3 ∷ []) [] ∷ CanRead 3 ∷ Got 3 text9 ∷ Noted (Taken 2 0 (Hit 0 0)) ∷ wait true (2 ∷ 3 ∷ []) (2 ∷ []) ∷ CanWrite 2 ∷ Said 2 151 text146 ∷ wait true (2 ∷ 3 ∷ []) [] ∷ CanRead 2 ∷ Heard 2 text147 ∷ wait true (2 ∷ 3 ∷ []) [] ∷ CanRead 2 ∷ Heard 2 (codes "se\r") ∷ wait true (2 ∷ 3 ∷ []) [] ∷ CanRead 2 ∷ Heard 2 (codes "\n") ∷ wait true (2 ∷ 3 ∷ []) [] ∷ CanRead 2 ∷ Heard 2 (codes "\r\n") ∷ Noted (Taken 2 1 Fetch) ∷ wait true (2 ∷ 3 ∷ []) (3 ∷ []) ∷ CanWrite 3 ∷ Asked 3 text148 ∷ wait true (2 ∷ 3 ∷ []) [] ∷ CanRead 3 ∷ Got 3 text18 ∷ Began (Draft text149) ∷ Did (Draft text149) true ∷ Began SyncDraft ∷ Did SyncDraft true ∷ Began (Publish text33) ∷ Did (Publish text33) true ∷ Noted (Kept (codes "http://s/a") (codes "\"x\"") 5 5) ∷ Noted (Taken 2 1 (Hit 0 5)) ∷ wait true (2 ∷ 3 ∷ []) (2 ∷ []) ∷ CanWrite 2 ∷ Said 2 151 text150 ∷ Shut 2 ∷ wait true (3 ∷ []) [] ∷ Clock 784111864 ∷ wait true (3 ∷ []) [] ∷ Reached 3 ∷ wait true (3 ∷ []) [] ∷ Reached 3 ∷ wait true (3 ∷ []) [] ∷ Clock 784111899 ∷ wait true (3 ∷ []) [] ∷ Reached 3 ∷ wait true (3 ∷ []) [] ∷ Opened 4 ∷ wait true (4 ∷ 3 ∷ []) [] ∷ CanRead 4 ∷ Heard 4 text5 ∷ Noted (Taken 4 0 Pass) ∷ Dialled 5 (codes "t") 80 ∷ wait true (4 ∷ 3 ∷ []) [] ∷ Reached 5 ∷ wait true (4 ∷ 3 ∷ 5 ∷ []) (5 ∷ []) ∷ CanWrite 5 ∷ Asked 5 text151 ∷ wait true (4 ∷ 3 ∷ 5 ∷ []) [] ∷ CanRead 5 ∷ Got 5 text114 ∷ wait true (4 ∷ 3 ∷ 5 ∷ []) (4 ∷ []) ∷ CanWrite 4 ∷ Said 4 20118 text152 ∷ wait true (4 ∷ 3 ∷ 5 ∷ []) [] ∷ Opened 6 ∷ wait true (4 ∷ 6 ∷ 3 ∷ 5 ∷ []) [] ∷ CanRead 6 ∷ Heard 6 text55 ∷ Noted (Taken 6 0 Fetch) ∷ wait true (4 ∷ 6 ∷ 3 ∷ 5 ∷ []) (5 ∷ []) ∷ CanWrite 5 ∷ Asked 5 text153 ∷ wait true (4 ∷ 6 ∷ 3 ∷ 5 ∷ []) [] ∷ CanRead 5 ∷ Got 5 text114 ∷ Began (Draft text154) ∷ Did (Draft text154) true ∷ Began SyncDraft ∷ Did SyncDraft true ∷ Began (Publish text43) ∷ Did (Publish text43) true ∷ Noted (Kept (codes "http://t/c") (codes "\"c\"") 20000 20000) ∷ Noted (Taken 6 0 (Hit 0 20000)) ∷ wait true (4 ∷ 6 ∷ 3 ∷ 5 ∷ []) (6 ∷ []) ∷ CanWrite 6 ∷ Said 6 20155 text155 ∷ wait true (4 ∷ 6 ∷ 3 ∷ 5 ∷ []) [] ∷ Opened 7 ∷ Woke ((text43, text154) ∷ (text33, text149) ∷ []) ∷ Rooted text0 ∷ Listed true ∷ Listens 8123 true ∷ wait true [] [] ∷ Clock 784112777 ∷ wait true [] [] ∷ Opened 8 ∷ wait true (8 ∷ []) [] ∷ CanRead 8 ∷ Heard 8 text103 ∷ Noted (Taken 8 0 NotModified) ∷ wait true (8 ∷ []) (8 ∷ []) ∷ CanWrite 8 ∷ Said 8 157 text156 ∷ wait true (8 ∷ []) [] ∷ Clock 784112795 ∷ wait true (8 ∷ []) [] ∷ CanRead 8 ∷ Heard 8 (codes "G") ∷ wait true (8 ∷ []) [] ∷ CanRead 8 ∷ Heard 8 text157 ∷ wait true (8 ∷ []) [] ∷ CanRead 8 ∷ Heard 8 (codes "o") ∷ wait true (8 ∷ []) [] ∷ CanRead 8 ∷ Heard 8 (codes "re\r\n\r") ∷ wait true (8 ∷ []) [] ∷ CanRead 8 ∷ Heard 8 (codes "\n") ∷ Noted (Taken 8 1 Pass) ∷ Dialled 9 (codes "s") 80 ∷ wait true (8 ∷ []) [] ∷ Reached 9 ∷ wait true (8 ∷ 9 ∷ []) (9 ∷ []) ∷ CanWrite 9 ∷ Asked 9 text17 ∷ wait true (8 ∷ 9 ∷ []) [] ∷ CanRead 9 ∷ Got 9 text18 ∷ wait true (8 ∷ 9 ∷ []) (8 ∷ []) ∷ CanWrite 8 ∷ Said 8 124 text19 ∷ wait true (8 ∷ 9 ∷ []) [] ∷ Reached 9 ∷ wait true (8 ∷ 9 ∷ []) [] ∷ Opened 10 ∷ wait true (8 ∷ 10 ∷ 9 ∷ []) [] ∷ CanRead 10 ∷ Heard 10 text158 ∷ Noted (Taken 10 0 (Hit 0 5)) ∷ wait true (8 ∷ 10 ∷ 9 ∷ []) (10 ∷ []) ∷ CanWrite 10 ∷ Said 10 166 text159 ∷ wait true (8 ∷ 10 ∷ 9 ∷ []) (10 ∷ []) ∷ CanWrite 10 ∷ Noted (Loaded (codes "http://s/a") (codes "\"x\"") 5 0) ∷ Said 10 5 (codes "aaaaa") ∷ wait true (8 ∷ 10 ∷ 9 ∷ []) [] ∷ CanRead 10 ∷ Heard 10 text7 ∷ Noted (Taken 10 1 Fetch) ∷ wait true (8 ∷ 10 ∷ 9 ∷ []) (9 ∷ []) ∷ CanWrite 9 ∷ Asked 9 text8 ∷ wait true (8 ∷ 10 ∷ 9 ∷ []) [] ∷ CanRead 9 ∷ Got 9 text9 ∷ Noted (Taken 10 1 (Hit 0 0)) ∷ wait true (8 ∷ 10 ∷ 9 ∷ []) (10 ∷ []) ∷ CanWrite 10 ∷ Said 10 156 text160 ∷ wait true (8 ∷ 10 ∷ 9 ∷ []) [] ∷ Clock 784112814 ∷ wait true (8 ∷ 10 ∷ 9 ∷ []) [] ∷ Clock 784112857 ∷ Dropped 9 ∷ wait true (8 ∷ 10 ∷ []) [] ∷ Opened 11 ∷ wait true (8 ∷ 10 ∷ 11 ∷ []) [] ∷ CanRead 11 ∷ Heard 11 (codes "G") ∷ wait true (8 ∷ 10 ∷ 11 ∷ []) [] ∷ CanRead 11 ∷ Heard 11 (codes "E") ∷ wait true (8 ∷ 10 ∷ 11 ∷ []) [] ∷ CanRead 11 ∷ Heard 11 (codes "T") ∷ wait true (8 ∷ 10 ∷ 11 ∷ []) [] ∷ CanRead 11 ∷ Heard 11 (codes " ") ∷ wait true (8 ∷ 10 ∷ 11 ∷ []) [] ∷ CanRead 11 ∷ Heard 11 (codes "h") ∷ wait true (8 ∷ 10 ∷ 11 ∷ []) [] ∷ CanRead 11 ∷ Heard 11 (codes "t") ∷ wait true (8 ∷ 10 ∷ 11 ∷ []) [] ∷ CanRead 11 ∷ Heard 11 (codes "t") ∷ wait true (8 ∷ 10 ∷ 11 ∷ []) [] ∷ CanRead 11 ∷ Heard 11 (codes "p") ∷ wait true (8 ∷ 10 ∷ 11 ∷ []) [] ∷ CanRead 11 ∷ Heard 11 (codes ":") ∷ wait true (8 ∷ 10 ∷ 11 ∷ []) [] ∷ CanRead 11 ∷ Heard 11 (codes "/") ∷ wait true (8 ∷ 10 ∷ 11 ∷ []) [] ∷ CanRead 11 ∷ Heard 11 (codes "/") ∷ wait true (8 ∷ 10 ∷ 11 ∷ []) [] ∷ CanRead 11 ∷ Heard 11 (codes "t") ∷ wait true (8 ∷ 10 ∷ 11 ∷ []) [] ∷ CanRead 11 ∷ Heard 11 (codes "/") ∷ wait true (8 ∷ 10 ∷ 11 ∷ []) [] ∷ CanRead 11 ∷ Heard 11 (codes "c") ∷ wait true (8 ∷ 10 ∷ 11 ∷ []) [] ∷ CanRead 11 ∷ Heard 11 (codes " ") ∷ wait true (8 ∷ 10 ∷ 11 ∷ []) [] ∷ CanRead 11 ∷ Heard 11 (codes "H") ∷ wait true (8 ∷ 10 ∷ 11 ∷ []) [] ∷ CanRead 11 ∷ Heard 11 (codes "T") ∷ wait true (8 ∷ 10 ∷ 11 ∷ []) [] ∷ CanRead 11 ∷ Heard 11 (codes "T") ∷ wait true (8 ∷ 10 ∷ 11 ∷ []) [] ∷ CanRead 11 ∷ Heard 11 (codes "P") ∷ wait true (8 ∷ 10 ∷ 11 ∷ []) [] ∷ CanRead 11 ∷ Heard 11 (codes "/") ∷ wait true (8 ∷ 10 ∷ 11 ∷ []) [] ∷ CanRead 11 ∷ Heard 11 (codes "1") ∷ wait true (8 ∷ 10 ∷ 11 ∷ []) [] ∷ CanRead 11 ∷ Heard 11 (codes ".") ∷ wait true (8 ∷ 10 ∷ 11 ∷ []) [] ∷ CanRead 11 ∷ Heard 11 (codes "1") ∷ wait true (8 ∷ 10 ∷ 11 ∷ []) [] ∷ CanRead 11 ∷ Heard 11 (codes "\r") ∷ wait true (8 ∷ 10 ∷ 11 ∷ []) [] ∷ CanRead 11 ∷ Heard 11 (codes "\n") ∷ wait true (8 ∷ 10 ∷ 11 ∷ []) [] ∷ CanRead 11 ∷ Heard 11 (codes "R") ∷ wait true (8 ∷ 10 ∷ 11 ∷ []) [] ∷ CanRead 11 ∷ Heard 11 (codes "a") ∷ wait true (8 ∷ 10 ∷ 11 ∷ []) [] ∷ CanRead 11 ∷ Heard 11 (codes "n") ∷ wait true (8 ∷ 10 ∷ 11 ∷ []) [] ∷ CanRead 11 ∷ Heard 11 (codes "g") ∷ wait true (8 ∷ 10 ∷ 11 ∷ []) [] ∷ CanRead 11 ∷ Heard 11 (codes "e") ∷ wait true (8 ∷ 10 ∷ 11 ∷ []) [] ∷ CanRead 11 ∷ Heard 11 (codes ":") ∷ wait true (8 ∷ 10 ∷ 11 ∷ []) [] ∷ CanRead 11 ∷ Heard 11 (codes " ") ∷ wait true (8 ∷ 10 ∷ 11 ∷ []) [] ∷ CanRead 11 ∷ Heard 11 (codes "b") ∷ wait true (8 ∷ 10 ∷ 11 ∷ []) [] ∷ CanRead 11 ∷ Heard 11 (codes "y") ∷ wait true (8 ∷ 10 ∷ 11 ∷ []) [] ∷ CanRead 11 ∷ Heard 11 (codes "t") ∷ wait true (8 ∷ 10 ∷ 11 ∷ []) [] ∷ CanRead 11 ∷ Heard 11 (codes "e") ∷ wait true (8 ∷ 10 ∷ 11 ∷ []) [] ∷ CanRead 11 ∷ Heard 11 (codes "s") ∷ wait true (8 ∷ 10 ∷ 11 ∷ []) [] ∷ CanRead 11 ∷ Heard 11 (codes "=") ∷ wait true (8 ∷ 10 ∷ 11 ∷ []) [] ∷ CanRead 11 ∷ Heard 11 (codes "-") ∷ wait true (8 ∷ 10 ∷ 11 ∷ []) [] ∷ CanRead 11 ∷ Heard 11 (codes "1") ∷ wait true (8 ∷ 10 ∷ 11 ∷ []) [] ∷ CanRead 11 ∷ Heard 11 (codes "0") ∷ wait true (8 ∷ 10 ∷ 11 ∷ []) [] ∷ CanRead 11 ∷ Heard 11 (codes "0") ∷ wait true (8 ∷ 10 ∷ 11 ∷ []) [] ∷ CanRead 11 ∷ Heard 11 (codes "\r") ∷ wait true (8 ∷ 10 ∷ 11 ∷ []) [] ∷ CanRead 11 ∷ Heard 11 (codes "\n") ∷ wait true (8 ∷ 10 ∷ 11 ∷ []) [] ∷ CanRead 11 ∷ Heard 11 (codes "\r") ∷ wait true (8 ∷ 10 ∷ 11 ∷ []) [] ∷ CanRead 11 ∷ Woke ((text43, text154) ∷ (text33, text149) ∷ []) ∷ Rooted text0 ∷ Listed true ∷ Listens 8123 true ∷ wait true [] [] ∷ Clock 784113777 ∷ wait true [] [] ∷ Opened 12 ∷ wait true (12 ∷ []) [] ∷ CanRead 12 ∷ Heard 12 (codes "GET h") ∷ wait true (12 ∷ []) [] ∷ CanRead 12 ∷ Heard 12 text161 ∷ wait true (12 ∷ []) [] ∷ CanRead 12 ∷ Heard 12 (codes "-3\r") ∷ wait true (12 ∷ []) [] ∷ CanRead 12 ∷ Heard 12 (codes "\n\r") ∷ wait true (12 ∷ []) [] ∷ CanRead 12 ∷ Heard 12 (codes "\n") ∷ Noted (Taken 12 0 (Hit 1 4)) ∷ wait true (12 ∷ []) (12 ∷ []) ∷ CanWrite 12 ∷ Said 12 208 text162 ∷ wait true (12 ∷ []) (12 ∷ []) ∷ CanWrite 12 ∷ Noted (Loaded (codes "http://s/a") (codes "\"x\"") 5 0) ∷ Said 12 3 (codes "aaa") ∷ wait true (12 ∷ []) [] ∷ Opened 13 ∷ wait true (12 ∷ 13 ∷ []) [] ∷ CanRead 13 ∷ Heard 13 text55 ∷ Noted (Taken 13 0 (Hit 0 20000)) ∷ wait true (12 ∷ 13 ∷ []) (13 ∷ []) ∷ CanWrite 13 ∷ Said 13 171 text163 ∷ wait true (12 ∷ 13 ∷ []) (13 ∷ []) ∷ CanWrite 13 ∷ Noted (Loaded (codes "http://t/c") (codes "\"c\"") 20000 0) ∷ Said 13 4096 text58 ∷ wait true (12 ∷ 13 ∷ []) (13 ∷ []) ∷ CanWrite 13 ∷ Noted (Loaded (codes "http://t/c") (codes "\"c\"") 20000 1) ∷ Said 13 4096 text59 ∷ wait true (12 ∷ 13 ∷ []) (13 ∷ []) ∷ CanWrite 13 ∷ Noted (Loaded (codes "http://t/c") (codes "\"c\"") 20000 2) ∷ Said 13 4096 text60 ∷ wait true (12 ∷ 13 ∷ []) (13 ∷ []) ∷ CanWrite 13 ∷ Noted (Loaded (codes "http://t/c") (codes "\"c\"") 20000 3) ∷ Said 13 4096 text61 ∷ wait true (12 ∷ 13 ∷ []) (13 ∷ []) ∷ CanWrite 13 ∷ Noted (Loaded (codes "http://t/c") (codes "\"c\"") 20000 4) ∷ Said 13 3616 text62 ∷ wait true (12 ∷ 13 ∷ []) [] ∷ CanRead 13 ∷ Heard 13 text164 ∷ wait true (12 ∷ 13 ∷ []) [] ∷ CanRead 13 ∷ Heard 13 (codes ".1\r") ∷ wait true (12 ∷ 13 ∷ []) [] ∷ CanRead 13 ∷ Heard 13 (codes "\nHost") ∷ wait true (12 ∷ 13 ∷ []) [] ∷ CanRead 13 ∷ Heard 13 (codes ":") ∷ wait true (12 ∷ 13 ∷ []) [] ∷ CanRead 13 ∷ Heard 13 (codes " s\r\n\r\n") ∷ Noted (Taken 13 1 Fetch) ∷ Dialled 14 (codes "s") 80 ∷ wait true (12 ∷ 13 ∷ []) [] ∷ Reached 14 ∷ wait true (12 ∷ 13 ∷ 14 ∷ []) (14 ∷ []) ∷ CanWrite 14 ∷ Asked 14 text165 ∷ wait true (12 ∷ 13 ∷ 14 ∷ []) [] ∷ CanRead 14 ∷ Got 14 text166 ∷ Noted (Taken 13 1 Relay) ∷ wait true (12 ∷ 13 ∷ 14 ∷ []) (13 ∷ []) ∷ CanWrite 13 ∷ Said 13 86 text167 ∷ wait true (12 ∷ 13 ∷ 14 ∷ []) [] ∷ CanRead 13 ∷ Heard 13 text158 ∷ Noted (Taken 13 2 (Hit 0 5)) ∷ wait true (12 ∷ 13 ∷ 14 ∷ []) (13 ∷ []) ∷ CanWrite 13 ∷ Said 13 172 text168 ∷ wait true (12 ∷ 13 ∷ 14 ∷ []) [] ∷ Opened 15 ∷ wait true (12 ∷ 13 ∷ 15 ∷ 14 ∷ []) [] ∷ CanRead 15 ∷ Heard 15 text169 ∷ wait true (12 ∷ 13 ∷ 15 ∷ 14 ∷ []) [] ∷ CanRead 15 ∷ Heard 15 (codes "HTTP/1.1") ∷ wait true (12 ∷ 13 ∷ 15 ∷ 14 ∷ []) [] ∷ CanRead 15 ∷ Heard 15 (codes "\r\n") ∷ wait true (12 ∷ 13 ∷ 15 ∷ 14 ∷ []) [] ∷ CanRead 15 ∷ Heard 15 (codes "Range: byte") ∷ wait true (12 ∷ 13 ∷ 15 ∷ 14 ∷ []) [] ∷ CanRead 15 ∷ Heard 15 (codes "s=0-99\r\n") ∷ wait true (12 ∷ 13 ∷ 15 ∷ 14 ∷ []) [] ∷ CanRead 15 ∷ Heard 15 (codes "\r") ∷ wait true (12 ∷ 13 ∷ 15 ∷ 14 ∷ []) [] ∷ CanRead 15 ∷ Heard 15 (codes "\n") ∷ Noted (Taken 15 0 Fetch) ∷ wait true (12 ∷ 13 ∷ 15 ∷ 14 ∷ []) (14 ∷ []) ∷ CanWrite 14 ∷ Asked 14 text170 ∷ wait true (12 ∷ 13 ∷ 15 ∷ 14 ∷ []) [] ∷ CanRead 14 ∷ Got 14 text171 ∷ Noted (Taken 15 0 (Hit 0 100)) ∷ wait true (12 ∷ 13 ∷ 15 ∷ 14 ∷ []) (15 ∷ []) ∷ CanWrite 15 ∷ Said 15 303 text172 ∷ wait true (12 ∷ 13 ∷ 15 ∷ 14 ∷ []) [] ∷ Opened 16 ∷ wait true (12 ∷ 13 ∷ 15 ∷ 16 ∷ 14 ∷ []) [] ∷ CanRead 16 ∷ Heard 16 text173 ∷ wait true (12 ∷ 13 ∷ 15 ∷ 16 ∷ 14 ∷ []) [] ∷ CanRead 16 ∷ Heard 16 (codes "1\r\nRange") ∷ wait true (12 ∷ 13 ∷ 15 ∷ 16 ∷ 14 ∷ []) [] ∷ CanRead 16 ∷ Heard 16 text174 ∷ wait true (12 ∷ 13 ∷ 15 ∷ 16 ∷ 14 ∷ []) [] ∷ CanRead 16 ∷ Heard 16 (codes "\r\n") ∷ Noted (Taken 16 0 (Hit 0 100)) ∷ wait true (12 ∷ 13 ∷ 15 ∷ 16 ∷ 14 ∷ []) (16 ∷ []) ∷ CanWrite 16 ∷ Said 16 311 text175 ∷ wait true (12 ∷ 13 ∷ 15 ∷ 16 ∷ 14 ∷ []) [] ∷ Opened 17 ∷ wait true (12 ∷ 13 ∷ 15 ∷ 16 ∷ 17 ∷ 14 ∷ []) [] ∷ CanRead 17 ∷ Heard 17 text106 ∷ wait true (12 ∷ 13 ∷ 15 ∷ 16 ∷ 17 ∷ 14 ∷ []) [] ∷ CanRead 17 ∷ Heard 17 text176 ∷ wait true (12 ∷ 13 ∷ 15 ∷ 16 ∷ 17 ∷ 14 ∷ []) [] ∷ CanRead 17 ∷ Heard 17 (codes "re\r") ∷ wait true (12 ∷ 13 ∷ 15 ∷ 16 ∷ 17 ∷ 14 ∷ []) [] ∷ CanRead 17 ∷ Heard 17 (codes "\n") ∷ wait true (12 ∷ 13 ∷ 15 ∷ 16 ∷ 17 ∷ 14 ∷ []) [] ∷ CanRead 17 ∷ Heard 17 (codes "\r") ∷ wait true (12 ∷ 13 ∷ 15 ∷ 16 ∷ 17 ∷ 14 ∷ []) [] ∷ CanRead 17 ∷ Heard 17 (codes "\n") ∷ Noted (Taken 17 0 Pass) ∷ wait true (12 ∷ 13 ∷ 15 ∷ 16 ∷ 17 ∷ 14 ∷ []) (14 ∷ []) ∷ CanWrite 14 ∷ Asked 14 text17 ∷ wait true (12 ∷ 13 ∷ 15 ∷ 16 ∷ 17 ∷ 14 ∷ []) [] ∷ CanRead 14 ∷ Got 14 text18 ∷ wait true (12 ∷ 13 ∷ 15 ∷ 16 ∷ 17 ∷ 14 ∷ []) (17 ∷ []) ∷ CanWrite 17 ∷ Said 17 124 text19 ∷ wait true (12 ∷ 13 ∷ 15 ∷ 16 ∷ 17 ∷ 14 ∷ []) [] ∷ Reached 14 ∷ wait true (12 ∷ 13 ∷ 15 ∷ 16 ∷ 17 ∷ 14 ∷ []) [] ∷ CanRead 14 ∷ Ended 14 ∷ Dropped 14 ∷ wait true (12 ∷ 13 ∷ 15 ∷ 16 ∷ 17 ∷ []) [] ∷ CanRead 16 ∷ HungUp 16 ∷ Shut 16 ∷ wait true (12 ∷ 13 ∷ 15 ∷ 17 ∷ []) [] ∷ Opened 18 ∷ wait true (12 ∷ 13 ∷ 15 ∷ 17 ∷ 18 ∷ []) [] ∷ CanRead 18 ∷ Heard 18 (codes "G") ∷ wait true (12 ∷ 13 ∷ 15 ∷ 17 ∷ 18 ∷ []) [] ∷ CanRead 18 ∷ Heard 18 (codes "E") ∷ wait true (12 ∷ 13 ∷ 15 ∷ 17 ∷ 18 ∷ []) [] ∷ CanRead 18 ∷ Heard 18 (codes "T") ∷ wait true (12 ∷ 13 ∷ 15 ∷ 17 ∷ 18 ∷ []) [] ∷ CanRead 18 ∷ Heard 18 (codes " ") ∷ wait true (12 ∷ 13 ∷ 15 ∷ 17 ∷ 18 ∷ []) [] ∷ CanRead 18 ∷ Heard 18 (codes "h") ∷ wait true (12 ∷ 13 ∷ 15 ∷ 17 ∷ 18 ∷ []) [] ∷ CanRead 18 ∷ Heard 18 (codes "t") ∷ wait true (12 ∷ 13 ∷ 15 ∷ 17 ∷ 18 ∷ []) [] ∷ CanRead 18 ∷ Heard 18 (codes "t") ∷ wait true (12 ∷ 13 ∷ 15 ∷ 17 ∷ 18 ∷ []) [] ∷ CanRead 18 ∷ Heard 18 (codes "p") ∷ wait true (12 ∷ 13 ∷ 15 ∷ 17 ∷ 18 ∷ []) [] ∷ CanRead 18 ∷ Heard 18 (codes ":") ∷ wait true (12 ∷ 13 ∷ 15 ∷ 17 ∷ 18 ∷ []) [] ∷ CanRead 18 ∷ Heard 18 (codes "/") ∷ wait true (12 ∷ 13 ∷ 15 ∷ 17 ∷ 18 ∷ []) [] ∷ CanRead 18 ∷ Heard 18 (codes "/") ∷ wait true (12 ∷ 13 ∷ 15 ∷ 17 ∷ 18 ∷ []) [] ∷ CanRead 18 ∷ Heard 18 (codes "s") ∷ wait true (12 ∷ 13 ∷ 15 ∷ 17 ∷ 18 ∷ []) [] ∷ CanRead 18 ∷ Heard 18 (codes "/") ∷ wait true (12 ∷ 13 ∷ 15 ∷ 17 ∷ 18 ∷ []) [] ∷ CanRead 18 ∷ Heard 18 (codes "a") ∷ wait true (12 ∷ 13 ∷ 15 ∷ 17 ∷ 18 ∷ []) [] ∷ CanRead 18 ∷ Heard 18 (codes " ") ∷ wait true (12 ∷ 13 ∷ 15 ∷ 17 ∷ 18 ∷ []) [] ∷ CanRead 18 ∷ Heard 18 (codes "H") ∷ wait true (12 ∷ 13 ∷ 15 ∷ 17 ∷ 18 ∷ []) [] ∷ CanRead 18 ∷ Heard 18 (codes "T") ∷ wait true (12 ∷ 13 ∷ 15 ∷ 17 ∷ 18 ∷ []) [] ∷ CanRead 18 ∷ Heard 18 (codes "T") ∷ wait true (12 ∷ 13 ∷ 15 ∷ 17 ∷ 18 ∷ []) [] ∷ CanRead 18 ∷ Heard 18 (codes "P") ∷ wait true (12 ∷ 13 ∷ 15 ∷ 17 ∷ 18 ∷ []) [] ∷ CanRead 18 ∷ Heard 18 (codes "/") ∷ wait true (12 ∷ 13 ∷ 15 ∷ 17 ∷ 18 ∷ []) [] ∷ CanRead 18 ∷ Heard 18 (codes "1") ∷ wait true (12 ∷ 13 ∷ 15 ∷ 17 ∷ 18 ∷ []) [] ∷ CanRead 18 ∷ Heard 18 (codes ".") ∷ wait true (12 ∷ 13 ∷ 15 ∷ 17 ∷ 18 ∷ []) [] ∷ CanRead 18 ∷ Heard 18 (codes "1") ∷ wait true (12 ∷ 13 ∷ 15 ∷ 17 ∷ 18 ∷ []) [] ∷ CanRead 18 ∷ Heard 18 (codes "\r") ∷ wait true (12 ∷ 13 ∷ 15 ∷ 17 ∷ 18 ∷ []) [] ∷ CanRead 18 ∷ Heard 18 (codes "\n") ∷ wait true (12 ∷ 13 ∷ 15 ∷ 17 ∷ 18 ∷ []) [] ∷ CanRead 18 ∷ Heard 18 (codes "C") ∷ wait true (12 ∷ 13 ∷ 15 ∷ 17 ∷ 18 ∷ []) [] ∷ CanRead 18 ∷ Heard 18 (codes "a") ∷ wait true (12 ∷ 13 ∷ 15 ∷ 17 ∷ 18 ∷ []) [] ∷ CanRead 18 ∷ Heard 18 (codes "c") ∷ wait true (12 ∷ 13 ∷ 15 ∷ 17 ∷ 18 ∷ []) [] ∷ CanRead 18 ∷ Heard 18 (codes "h") ∷ wait true (12 ∷ 13 ∷ 15 ∷ 17 ∷ 18 ∷ []) [] ∷ CanRead 18 ∷ Heard 18 (codes "e") ∷ wait true (12 ∷ 13 ∷ 15 ∷ 17 ∷ 18 ∷ []) [] ∷ CanRead 18 ∷ Heard 18 (codes "-") ∷ wait true (12 ∷ 13 ∷ 15 ∷ 17 ∷ 18 ∷ []) [] ∷ CanRead 18 ∷ Heard 18 (codes "C") ∷ wait true (12 ∷ 13 ∷ 15 ∷ 17 ∷ 18 ∷ []) [] ∷ CanRead 18 ∷ Heard 18 (codes "o") ∷ wait true (12 ∷ 13 ∷ 15 ∷ 17 ∷ 18 ∷ []) [] ∷ CanRead 18 ∷ Heard 18 (codes "n") ∷ wait true (12 ∷ 13 ∷ 15 ∷ 17 ∷ 18 ∷ []) [] ∷ CanRead 18 ∷ Heard 18 (codes "t") ∷ wait true (12 ∷ 13 ∷ 15 ∷ 17 ∷ 18 ∷ []) [] ∷ CanRead 18 ∷ Heard 18 (codes "r") ∷ wait true (12 ∷ 13 ∷ 15 ∷ 17 ∷ 18 ∷ []) [] ∷ CanRead 18 ∷ Heard 18 (codes "o") ∷ wait true (12 ∷ 13 ∷ 15 ∷ 17 ∷ 18 ∷ []) [] ∷ CanRead 18 ∷ Heard 18 (codes "l") ∷ wait true (12 ∷ 13 ∷ 15 ∷ 17 ∷ 18 ∷ []) [] ∷ CanRead 18 ∷ Heard 18 (codes ":") ∷ wait true (12 ∷ 13 ∷ 15 ∷ 17 ∷ 18 ∷ []) [] ∷ CanRead 18 ∷ Heard 18 (codes " ") ∷ wait true (12 ∷ 13 ∷ 15 ∷ 17 ∷ 18 ∷ []) [] ∷ CanRead 18 ∷ Heard 18 (codes "n") ∷ wait true (12 ∷ 13 ∷ 15 ∷ 17 ∷ 18 ∷ []) [] ∷ CanRead 18 ∷ Heard 18 (codes "o") ∷ wait true (12 ∷ 13 ∷ 15 ∷ 17 ∷ 18 ∷ []) [] ∷ CanRead 18 ∷ Heard 18 (codes "-") ∷ wait true (12 ∷ 13 ∷ 15 ∷ 17 ∷ 18 ∷ []) [] ∷ CanRead 18 ∷ Heard 18 (codes "s") ∷ wait true (12 ∷ 13 ∷ 15 ∷ 17 ∷ 18 ∷ []) [] ∷ CanRead 18 ∷ Heard 18 (codes "t") ∷ wait true (12 ∷ 13 ∷ 15 ∷ 17 ∷ 18 ∷ []) [] ∷ CanRead 18 ∷ Heard 18 (codes "o") ∷ wait true (12 ∷ 13 ∷ 15 ∷ 17 ∷ 18 ∷ []) [] ∷ CanRead 18 ∷ Heard 18 (codes "r") ∷ wait true (12 ∷ 13 ∷ 15 ∷ 17 ∷ 18 ∷ []) [] ∷ CanRead 18 ∷ Heard 18 (codes "e") ∷ wait true (12 ∷ 13 ∷ 15 ∷ 17 ∷ 18 ∷ []) [] ∷ CanRead 18 ∷ Heard 18 (codes "\r") ∷ wait true (12 ∷ 13 ∷ 15 ∷ 17 ∷ 18 ∷ []) [] ∷ CanRead 18 ∷ Heard 18 (codes "\n") ∷ wait true (12 ∷ 13 ∷ 15 ∷ 17 ∷ 18 ∷ []) [] ∷ CanRead 18 ∷ Heard 18 (codes "\r") ∷ wait true (12 ∷ 13 ∷ 15 ∷ 17 ∷ 18 ∷ []) [] ∷ CanRead 18 ∷ Heard 18 (codes "\n") ∷ Noted (Taken 18 0 Pass) ∷ Dialled 19 (codes "s") 80 ∷ wait true (12 ∷ 13 ∷ 15 ∷ 17 ∷ 18 ∷ []) [] ∷ Reached 19 ∷ wait true (12 ∷ 13 ∷ 15 ∷ 17 ∷ 18 ∷ 19 ∷ []) (19 ∷ []) ∷ CanWrite 19 ∷ Asked 19 text17 ∷ wait true (12 ∷ 13 ∷ 15 ∷ 17 ∷ 18 ∷ 19 ∷ []) [] ∷ CanRead 19 ∷ Got 19 text18 ∷ wait true (12 ∷ 13 ∷ 15 ∷ 17 ∷ 18 ∷ 19 ∷ []) (18 ∷ []) ∷ CanWrite 18 ∷ Said 18 124 text19 ∷ wait true (12 ∷ 13 ∷ 15 ∷ 17 ∷ 18 ∷ 19 ∷ []) [] ∷ Opened 20 ∷ wait true (12 ∷ 13 ∷ 15 ∷ 17 ∷ 18 ∷ 20 ∷ 19 ∷ []) [] ∷ CanRead 20 ∷ Heard 20 text5 ∷ Noted (Taken 20 0 (Hit 19900 20000)) ∷ wait true (12 ∷ 13 ∷ 15 ∷ 17 ∷ 18 ∷ 20 ∷ 19 ∷ []) (20 ∷ []) ∷ CanWrite 20 ∷ Said 20 322 text177 ∷ wait true (12 ∷ 13 ∷ 15 ∷ 17 ∷ 18 ∷ 20 ∷ 19 ∷ []) [] ∷ Opened 21 ∷ wait true (12 ∷ 13 ∷ 15 ∷ 17 ∷ 18 ∷ 20 ∷ 21 ∷ 19 ∷ []) [] ∷ CanRead 21 ∷ Heard 21 text178 ∷ wait true (12 ∷ 13 ∷ 15 ∷ 17 ∷ 18 ∷ 20 ∷ 21 ∷ 19 ∷ []) [] ∷ CanRead 21 ∷ Heard 21 text179 ∷ wait true (12 ∷ 13 ∷ 15 ∷ 17 ∷ 18 ∷ 20 ∷ 21 ∷ 19 ∷ []) [] ∷ CanRead 21 ∷ Heard 21 (codes "\r") ∷ wait true (12 ∷ 13 ∷ 15 ∷ 17 ∷ 18 ∷ 20 ∷ 21 ∷ 19 ∷ []) [] ∷ CanRead 21 ∷ Heard 21 (codes "\n") ∷ Noted (Taken 21 0 Pass) ∷ wait true (12 ∷ 13 ∷ 15 ∷ 17 ∷ 18 ∷ 20 ∷ 21 ∷ 19 ∷ []) (19 ∷ []) ∷ CanWrite 19 ∷ Asked 19 text17 ∷ wait true (12 ∷ 13 ∷ 15 ∷ 17 ∷ 18 ∷ 20 ∷ 21 ∷ 19 ∷ []) [] ∷ CanRead 19 ∷ Got 19 text18 ∷ wait true (12 ∷ 13 ∷ 15 ∷ 17 ∷ 18 ∷ 20 ∷ 21 ∷ 19 ∷ []) (21 ∷ []) ∷ CanWrite 21 ∷ Said 21 124 text19 ∷ wait true (12 ∷ 13 ∷ 15 ∷ 17 ∷ 18 ∷ 20 ∷ 21 ∷ 19 ∷ []) [] ∷ Opened 22 ∷ wait true (12 ∷ 13 ∷ 15 ∷ 17 ∷ 18 ∷ 20 ∷ 21 ∷ 22 ∷ 19 ∷ []) [] ∷ CanRead 22 ∷ Heard 22 text1 ∷ Noted (Taken 22 0 (Hit 12000 20000)) ∷ wait true (12 ∷ 13 ∷ 15 ∷ 17 ∷ 18 ∷ 20 ∷ 21 ∷ 22 ∷ 19 ∷ []) (22 ∷ []) ∷ CanWrite 22 ∷ Said 22 8223 text180 ∷ wait true (12 ∷ 13 ∷ 15 ∷ 17 ∷ 18 ∷ 20 ∷ 21 ∷ 22 ∷ 19 ∷ []) [] ∷ CanRead 22 ∷ Heard 22 (codes "G") ∷ wait true (12 ∷ 13 ∷ 15 ∷ 17 ∷ 18 ∷ 20 ∷ 21 ∷ 22 ∷ 19 ∷ []) [] ∷ CanRead 22 ∷ Heard 22 (codes "E") ∷ wait true (12 ∷ 13 ∷ 15 ∷ 17 ∷ 18 ∷ 20 ∷ 21 ∷ 22 ∷ 19 ∷ []) [] ∷ CanRead 22 ∷ Heard 22 (codes "T") ∷ wait true (12 ∷ 13 ∷ 15 ∷ 17 ∷ 18 ∷ 20 ∷ 21 ∷ 22 ∷ 19 ∷ []) [] ∷ CanRead 22 ∷ Heard 22 (codes " ") ∷ wait true (12 ∷ 13 ∷ 15 ∷ 17 ∷ 18 ∷ 20 ∷ 21 ∷ 22 ∷ 19 ∷ []) [] ∷ CanRead 22 ∷ Heard 22 (codes "h") ∷ wait true (12 ∷ 13 ∷ 15 ∷ 17 ∷ 18 ∷ 20 ∷ 21 ∷ 22 ∷ 19 ∷ []) [] ∷ CanRead 22 ∷ Heard 22 (codes "t") ∷ wait true (12 ∷ 13 ∷ 15 ∷ 17 ∷ 18 ∷ 20 ∷ 21 ∷ 22 ∷ 19 ∷ []) [] ∷ CanRead 22 ∷ Heard 22 (codes "t") ∷ wait true (12 ∷ 13 ∷ 15 ∷ 17 ∷ 18 ∷ 20 ∷ 21 ∷ 22 ∷ 19 ∷ []) [] ∷ CanRead 22 ∷ Heard 22 (codes "p") ∷ wait true (12 ∷ 13 ∷ 15 ∷ 17 ∷ 18 ∷ 20 ∷ 21 ∷ 22 ∷ 19 ∷ []) [] ∷ CanRead 22 ∷ Heard 22 (codes ":") ∷ wait true (12 ∷ 13 ∷ 15 ∷ 17 ∷ 18 ∷ 20 ∷ 21 ∷ 22 ∷ 19 ∷ []) [] ∷ CanRead 22 ∷ Heard 22 (codes "/") ∷ wait true (12 ∷ 13 ∷ 15 ∷ 17 ∷ 18 ∷ 20 ∷ 21 ∷ 22 ∷ 19 ∷ []) [] ∷ CanRead 22 ∷ Heard 22 (codes "/") ∷ wait true (12 ∷ 13 ∷ 15 ∷ 17 ∷ 18 ∷ 20 ∷ 21 ∷ 22 ∷ 19 ∷ []) [] ∷ CanRead 22 ∷ Heard 22 (codes "s") ∷ wait true (12 ∷ 13 ∷ 15 ∷ 17 ∷ 18 ∷ 20 ∷ 21 ∷ 22 ∷ 19 ∷ []) [] ∷ CanRead 22 ∷ Heard 22 (codes "/") ∷ wait true (12 ∷ 13 ∷ 15 ∷ 17 ∷ 18 ∷ 20 ∷ 21 ∷ 22 ∷ 19 ∷ []) [] ∷ CanRead 22 ∷ Heard 22 (codes "a") ∷ wait true (12 ∷ 13 ∷ 15 ∷ 17 ∷ 18 ∷ 20 ∷ 21 ∷ 22 ∷ 19 ∷ []) [] ∷ CanRead 22 ∷ Heard 22 (codes " ") ∷ wait true (12 ∷ 13 ∷ 15 ∷ 17 ∷ 18 ∷ 20 ∷ 21 ∷ 22 ∷ 19 ∷ []) [] ∷ CanRead 22 ∷ Heard 22 (codes "H") ∷ wait true (12 ∷ 13 ∷ 15 ∷ 17 ∷ 18 ∷ 20 ∷ 21 ∷ 22 ∷ 19 ∷ []) [] ∷ CanRead 22 ∷ Heard 22 (codes "T") ∷ wait true (12 ∷ 13 ∷ 15 ∷ 17 ∷ 18 ∷ 20 ∷ 21 ∷ 22 ∷ 19 ∷ []) [] ∷ CanRead 22 ∷ Heard 22 (codes "T") ∷ wait true (12 ∷ 13 ∷ 15 ∷ 17 ∷ 18 ∷ 20 ∷ 21 ∷ 22 ∷ 19 ∷ []) [] ∷ CanRead 22 ∷ Heard 22 (codes "P") ∷ wait true (12 ∷ 13 ∷ 15 ∷ 17 ∷ 18 ∷ 20 ∷ 21 ∷ 22 ∷ 19 ∷ []) [] ∷ CanRead 22 ∷ Heard 22 (codes "/") ∷ wait true (12 ∷ 13 ∷ 15 ∷ 17 ∷ 18 ∷ 20 ∷ 21 ∷ 22 ∷ 19 ∷ []) [] ∷ CanRead 22 ∷ Heard 22 (codes "1") ∷ wait true (12 ∷ 13 ∷ 15 ∷ 17 ∷ 18 ∷ 20 ∷ 21 ∷ 22 ∷ 19 ∷ []) [] ∷ CanRead 22 ∷ Heard 22 (codes ".") ∷ wait true (12 ∷ 13 ∷ 15 ∷ 17 ∷ 18 ∷ 20 ∷ 21 ∷ 22 ∷ 19 ∷ []) [] ∷ CanRead 22 ∷ Heard 22 (codes "1") ∷ wait true (12 ∷ 13 ∷ 15 ∷ 17 ∷ 18 ∷ 20 ∷ 21 ∷ 22 ∷ 19 ∷ []) [] ∷ CanRead 22 ∷ Heard 22 (codes "\r") ∷ wait true (12 ∷ 13 ∷ 15 ∷ 17 ∷ 18 ∷ 20 ∷ 21 ∷ 22 ∷ 19 ∷ []) [] ∷ CanRead 22 ∷ Heard 22 (codes "\n") ∷ wait true (12 ∷ 13 ∷ 15 ∷ 17 ∷ 18 ∷ 20 ∷ 21 ∷ 22 ∷ 19 ∷ []) [] ∷ CanRead 22 ∷ Heard 22 (codes "I") ∷ wait true (12 ∷ 13 ∷ 15 ∷ 17 ∷ 18 ∷ 20 ∷ 21 ∷ 22 ∷ 19 ∷ []) [] ∷ CanRead 22 ∷ Heard 22 (codes "f") ∷ wait true (12 ∷ 13 ∷ 15 ∷ 17 ∷ 18 ∷ 20 ∷ 21 ∷ 22 ∷ 19 ∷ []) [] ∷ CanRead 22 ∷ Heard 22 (codes "-") ∷ wait true (12 ∷ 13 ∷ 15 ∷ 17 ∷ 18 ∷ 20 ∷ 21 ∷ 22 ∷ 19 ∷ []) [] ∷ CanRead 22 ∷ Heard 22 (codes "N") ∷ wait true (12 ∷ 13 ∷ 15 ∷ 17 ∷ 18 ∷ 20 ∷ 21 ∷ 22 ∷ 19 ∷ []) [] ∷ CanRead 22 ∷ Heard 22 (codes "o") ∷ wait true (12 ∷ 13 ∷ 15 ∷ 17 ∷ 18 ∷ 20 ∷ 21 ∷ 22 ∷ 19 ∷ []) [] ∷ CanRead 22 ∷ Heard 22 (codes "n") ∷ wait true (12 ∷ 13 ∷ 15 ∷ 17 ∷ 18 ∷ 20 ∷ 21 ∷ 22 ∷ 19 ∷ []) [] ∷ CanRead 22 ∷ Heard 22 (codes "e") ∷ wait true (12 ∷ 13 ∷ 15 ∷ 17 ∷ 18 ∷ 20 ∷ 21 ∷ 22 ∷ 19 ∷ []) [] ∷ CanRead 22 ∷ Heard 22 (codes "-") ∷ wait true (12 ∷ 13 ∷ 15 ∷ 17 ∷ 18 ∷ 20 ∷ 21 ∷ 22 ∷ 19 ∷ []) [] ∷ CanRead 22 ∷ Heard 22 (codes "M") ∷ wait true (12 ∷ 13 ∷ 15 ∷ 17 ∷ 18 ∷ 20 ∷ 21 ∷ 22 ∷ 19 ∷ []) [] ∷ CanRead 22 ∷ Heard 22 (codes "a") ∷ wait true (12 ∷ 13 ∷ 15 ∷ 17 ∷ 18 ∷ 20 ∷ 21 ∷ 22 ∷ 19 ∷ []) [] ∷ CanRead 22 ∷ Heard 22 (codes "t") ∷ wait true (12 ∷ 13 ∷ 15 ∷ 17 ∷ 18 ∷ 20 ∷ 21 ∷ 22 ∷ 19 ∷ []) [] ∷ CanRead 22 ∷ Heard 22 (codes "c") ∷ wait true (12 ∷ 13 ∷ 15 ∷ 17 ∷ 18 ∷ 20 ∷ 21 ∷ 22 ∷ 19 ∷ []) [] ∷ CanRead 22 ∷ Heard 22 (codes "h") ∷ wait true (12 ∷ 13 ∷ 15 ∷ 17 ∷ 18 ∷ 20 ∷ 21 ∷ 22 ∷ 19 ∷ []) [] ∷ CanRead 22 ∷ Heard 22 (codes ":") ∷ wait true (12 ∷ 13 ∷ 15 ∷ 17 ∷ 18 ∷ 20 ∷ 21 ∷ 22 ∷ 19 ∷ []) [] ∷ CanRead 22 ∷ Heard 22 (codes " ") ∷ wait true (12 ∷ 13 ∷ 15 ∷ 17 ∷ 18 ∷ 20 ∷ 21 ∷ 22 ∷ 19 ∷ []) [] ∷ CanRead 22 ∷ Heard 22 (codes "\"") ∷ wait true (12 ∷ 13 ∷ 15 ∷ 17 ∷ 18 ∷ 20 ∷ 21 ∷ 22 ∷ 19 ∷ []) [] ∷ CanRead 22 ∷ Heard 22 (codes "x") ∷ wait true (12 ∷ 13 ∷ 15 ∷ 17 ∷ 18 ∷ 20 ∷ 21 ∷ 22 ∷ 19 ∷ []) [] ∷ CanRead 22 ∷ Heard 22 (codes "\"") ∷ wait true (12 ∷ 13 ∷ 15 ∷ 17 ∷ 18 ∷ 20 ∷ 21 ∷ 22 ∷ 19 ∷ []) [] ∷ CanRead 22 ∷ Heard 22 (codes "\r") ∷ wait true (12 ∷ 13 ∷ 15 ∷ 17 ∷ 18 ∷ 20 ∷ 21 ∷ 22 ∷ 19 ∷ []) [] ∷ CanRead 22 ∷ Heard 22 (codes "\n") ∷ wait true (12 ∷ 13 ∷ 15 ∷ 17 ∷ 18 ∷ 20 ∷ 21 ∷ 22 ∷ 19 ∷ []) [] ∷ CanRead 22 ∷ Heard 22 (codes "\r") ∷ wait true (12 ∷ 13 ∷ 15 ∷ 17 ∷ 18 ∷ 20 ∷ 21 ∷ 22 ∷ 19 ∷ []) [] ∷ CanRead 22 ∷ Heard 22 (codes "\n") ∷ Noted (Taken 22 1 NotModified) ∷ wait true (12 ∷ 13 ∷ 15 ∷ 17 ∷ 18 ∷ 20 ∷ 21 ∷ 22 ∷ 19 ∷ []) (22 ∷ []) ∷ CanWrite 22 ∷ Said 22 158 text181 ∷ wait true (12 ∷ 13 ∷ 15 ∷ 17 ∷ 18 ∷ 20 ∷ 21 ∷ 22 ∷ 19 ∷ []) [] ∷ Clock 784113778 ∷ wait true (12 ∷ 13 ∷ 15 ∷ 17 ∷ 18 ∷ 20 ∷ 21 ∷ 22 ∷ 19 ∷ []) [] ∷ Stopped ∷ Shut 12 ∷ Shut 13 ∷ Shut 15 ∷ Shut 17 ∷ Shut 18 ∷ Shut 20 ∷ Shut 21 ∷ Shut 22 ∷ Dropped 19 ∷ []) ≡ None
+row1694x0 : (s : State) × (arrived s ≡ judge 0 (start (record { words = text143 ∷ (codes "proxyName=p") ∷ []; faults = 0 } ∷ record { words = (codes "diskRun=1") ∷ []; faults = 0 } ∷ record { words = text101 ∷ text102 ∷ []; faults = 0 } ∷ [])) (Woke [] ∷ Rooted text0 ∷ Listed true ∷ Listens 8000 true ∷ wait true [] [] ∷ Clock 784111777 ∷ wait true [] [] ∷ Clock 784111821 ∷ wait true [] [] ∷ Opened 1 ∷ wait true (1 ∷ []) [] ∷ CanRead 1 ∷ Heard 1 text144 ∷ wait true (1 ∷ []) [] ∷ CanRead 1 ∷ Heard 1 (codes "P/1.1\r\n") ∷ wait true (1 ∷ []) [] ∷ CanRead 1 ∷ Heard 1 (codes "\r\n") ∷ Noted (Taken 1 0 (Refuse 400)) ∷ wait true (1 ∷ []) (1 ∷ []) ∷ CanWrite 1 ∷ Said 1 109 text29 ∷ Shut 1 ∷ wait true [] [] ∷ Opened 2 ∷ wait true (2 ∷ []) [] ∷ CanRead 2 ∷ Heard 2 text7 ∷ Noted (Taken 2 0 Fetch) ∷ Dialled 3 (codes "s") 80 ∷ wait true (2 ∷ []) [] ∷ Reached 3 ∷ wait true (2 ∷ 3 ∷ []) (3 ∷ []) ∷ CanWrite 3 ∷ Asked 3 text145 ∷ wait true (2 ∷ 3 ∷ []) [] ∷ CanRead 3 ∷ Got 3 text9 ∷ Noted (Taken 2 0 (Hit 0 0)) ∷ wait true (2 ∷ 3 ∷ []) (2 ∷ []) ∷ CanWrite 2 ∷ Said 2 151 text146 ∷ wait true (2 ∷ 3 ∷ []) [] ∷ CanRead 2 ∷ Heard 2 text147 ∷ wait true (2 ∷ 3 ∷ []) [] ∷ CanRead 2 ∷ Heard 2 (codes "se\r") ∷ wait true (2 ∷ 3 ∷ []) [] ∷ CanRead 2 ∷ Heard 2 (codes "\n") ∷ wait true (2 ∷ 3 ∷ []) [] ∷ CanRead 2 ∷ Heard 2 (codes "\r\n") ∷ Noted (Taken 2 1 Fetch) ∷ wait true (2 ∷ 3 ∷ []) (3 ∷ []) ∷ CanWrite 3 ∷ Asked 3 text148 ∷ wait true (2 ∷ 3 ∷ []) [] ∷ CanRead 3 ∷ Got 3 text18 ∷ Began (Draft text149) ∷ Did (Draft text149) true ∷ Began SyncDraft ∷ Did SyncDraft true ∷ Began (Publish text33) ∷ Did (Publish text33) true ∷ Noted (Kept (codes "http://s/a") (codes "\"x\"") 5 5) ∷ Noted (Taken 2 1 (Hit 0 5)) ∷ wait true (2 ∷ 3 ∷ []) (2 ∷ []) ∷ CanWrite 2 ∷ Said 2 151 text150 ∷ Shut 2 ∷ wait true (3 ∷ []) [] ∷ Clock 784111864 ∷ wait true (3 ∷ []) [] ∷ Reached 3 ∷ wait true (3 ∷ []) [] ∷ Reached 3 ∷ wait true (3 ∷ []) [] ∷ Clock 784111899 ∷ wait true (3 ∷ []) [] ∷ Reached 3 ∷ wait true (3 ∷ []) [] ∷ Opened 4 ∷ wait true (4 ∷ 3 ∷ []) [] ∷ CanRead 4 ∷ Heard 4 text5 ∷ Noted (Taken 4 0 Pass) ∷ Dialled 5 (codes "t") 80 ∷ wait true (4 ∷ 3 ∷ []) [] ∷ Reached 5 ∷ wait true (4 ∷ 3 ∷ 5 ∷ []) (5 ∷ []) ∷ CanWrite 5 ∷ Asked 5 text151 ∷ wait true (4 ∷ 3 ∷ 5 ∷ []) [] ∷ CanRead 5 ∷ Got 5 text114 ∷ wait true (4 ∷ 3 ∷ 5 ∷ []) (4 ∷ []) ∷ CanWrite 4 ∷ Said 4 20118 text152 ∷ wait true (4 ∷ 3 ∷ 5 ∷ []) [] ∷ Opened 6 ∷ wait true (4 ∷ 6 ∷ 3 ∷ 5 ∷ []) [] ∷ CanRead 6 ∷ Heard 6 text55 ∷ Noted (Taken 6 0 Fetch) ∷ wait true (4 ∷ 6 ∷ 3 ∷ 5 ∷ []) (5 ∷ []) ∷ CanWrite 5 ∷ Asked 5 text153 ∷ wait true (4 ∷ 6 ∷ 3 ∷ 5 ∷ []) [] ∷ CanRead 5 ∷ Got 5 text114 ∷ Began (Draft text154) ∷ Did (Draft text154) true ∷ Began SyncDraft ∷ Did SyncDraft true ∷ Began (Publish text43) ∷ Did (Publish text43) true ∷ Noted (Kept (codes "http://t/c") (codes "\"c\"") 20000 20000) ∷ Noted (Taken 6 0 (Hit 0 20000)) ∷ wait true (4 ∷ 6 ∷ 3 ∷ 5 ∷ []) (6 ∷ []) ∷ CanWrite 6 ∷ Said 6 20155 text155 ∷ wait true (4 ∷ 6 ∷ 3 ∷ 5 ∷ []) [] ∷ Opened 7 ∷ Woke ((text43, text154) ∷ (text33, text149) ∷ []) ∷ Rooted text0 ∷ Listed true ∷ Listens 8123 true ∷ wait true [] [] ∷ Clock 784112777 ∷ wait true [] [] ∷ Opened 8 ∷ wait true (8 ∷ []) [] ∷ CanRead 8 ∷ Heard 8 text103 ∷ Noted (Taken 8 0 NotModified) ∷ wait true (8 ∷ []) (8 ∷ []) ∷ CanWrite 8 ∷ Said 8 157 text156 ∷ wait true (8 ∷ []) [] ∷ Clock 784112795 ∷ wait true (8 ∷ []) [] ∷ CanRead 8 ∷ Heard 8 (codes "G") ∷ wait true (8 ∷ []) [] ∷ CanRead 8 ∷ Heard 8 text157 ∷ wait true (8 ∷ []) [] ∷ CanRead 8 ∷ Heard 8 (codes "o") ∷ wait true (8 ∷ []) [] ∷ CanRead 8 ∷ Heard 8 (codes "re\r\n\r") ∷ wait true (8 ∷ []) [] ∷ CanRead 8 ∷ Heard 8 (codes "\n") ∷ Noted (Taken 8 1 Pass) ∷ Dialled 9 (codes "s") 80 ∷ wait true (8 ∷ []) [] ∷ Reached 9 ∷ wait true (8 ∷ 9 ∷ []) (9 ∷ []) ∷ CanWrite 9 ∷ Asked 9 text17 ∷ wait true (8 ∷ 9 ∷ []) [] ∷ CanRead 9 ∷ Got 9 text18 ∷ wait true (8 ∷ 9 ∷ []) (8 ∷ []) ∷ CanWrite 8 ∷ Said 8 124 text19 ∷ wait true (8 ∷ 9 ∷ []) [] ∷ Reached 9 ∷ wait true (8 ∷ 9 ∷ []) [] ∷ Opened 10 ∷ wait true (8 ∷ 10 ∷ 9 ∷ []) [] ∷ CanRead 10 ∷ Heard 10 text158 ∷ Noted (Taken 10 0 (Hit 0 5)) ∷ wait true (8 ∷ 10 ∷ 9 ∷ []) (10 ∷ []) ∷ CanWrite 10 ∷ Said 10 166 text159 ∷ wait true (8 ∷ 10 ∷ 9 ∷ []) (10 ∷ []) ∷ CanWrite 10 ∷ Noted (Loaded (codes "http://s/a") (codes "\"x\"") 5 0) ∷ Said 10 5 (codes "aaaaa") ∷ wait true (8 ∷ 10 ∷ 9 ∷ []) [] ∷ CanRead 10 ∷ Heard 10 text7 ∷ Noted (Taken 10 1 Fetch) ∷ wait true (8 ∷ 10 ∷ 9 ∷ []) (9 ∷ []) ∷ CanWrite 9 ∷ Asked 9 text8 ∷ wait true (8 ∷ 10 ∷ 9 ∷ []) [] ∷ CanRead 9 ∷ Got 9 text9 ∷ Noted (Taken 10 1 (Hit 0 0)) ∷ wait true (8 ∷ 10 ∷ 9 ∷ []) (10 ∷ []) ∷ CanWrite 10 ∷ Said 10 156 text160 ∷ wait true (8 ∷ 10 ∷ 9 ∷ []) [] ∷ Clock 784112814 ∷ wait true (8 ∷ 10 ∷ 9 ∷ []) [] ∷ Clock 784112857 ∷ Dropped 9 ∷ wait true (8 ∷ 10 ∷ []) [] ∷ Opened 11 ∷ wait true (8 ∷ 10 ∷ 11 ∷ []) [] ∷ CanRead 11 ∷ Heard 11 (codes "G") ∷ wait true (8 ∷ 10 ∷ 11 ∷ []) [] ∷ CanRead 11 ∷ Heard 11 (codes "E") ∷ wait true (8 ∷ 10 ∷ 11 ∷ []) [] ∷ CanRead 11 ∷ Heard 11 (codes "T") ∷ wait true (8 ∷ 10 ∷ 11 ∷ []) [] ∷ CanRead 11 ∷ Heard 11 (codes " ") ∷ wait true (8 ∷ 10 ∷ 11 ∷ []) [] ∷ CanRead 11 ∷ Heard 11 (codes "h") ∷ wait true (8 ∷ 10 ∷ 11 ∷ []) [] ∷ CanRead 11 ∷ Heard 11 (codes "t") ∷ wait true (8 ∷ 10 ∷ 11 ∷ []) [] ∷ CanRead 11 ∷ Heard 11 (codes "t") ∷ wait true (8 ∷ 10 ∷ 11 ∷ []) [] ∷ CanRead 11 ∷ Heard 11 (codes "p") ∷ wait true (8 ∷ 10 ∷ 11 ∷ []) [] ∷ CanRead 11 ∷ Heard 11 (codes ":") ∷ wait true (8 ∷ 10 ∷ 11 ∷ []) [] ∷ CanRead 11 ∷ Heard 11 (codes "/") ∷ wait true (8 ∷ 10 ∷ 11 ∷ []) [] ∷ CanRead 11 ∷ []))
 unfolding judging
+row1694x0 = (_, refl)
+
+row1694x1 : (s : State) × (arrived s ≡ judge 240 row1694x0.0 (Heard 11 (codes "/") ∷ wait true (8 ∷ 10 ∷ 11 ∷ []) [] ∷ CanRead 11 ∷ Heard 11 (codes "t") ∷ wait true (8 ∷ 10 ∷ 11 ∷ []) [] ∷ CanRead 11 ∷ Heard 11 (codes "/") ∷ wait true (8 ∷ 10 ∷ 11 ∷ []) [] ∷ CanRead 11 ∷ Heard 11 (codes "c") ∷ wait true (8 ∷ 10 ∷ 11 ∷ []) [] ∷ CanRead 11 ∷ Heard 11 (codes " ") ∷ wait true (8 ∷ 10 ∷ 11 ∷ []) [] ∷ CanRead 11 ∷ Heard 11 (codes "H") ∷ wait true (8 ∷ 10 ∷ 11 ∷ []) [] ∷ CanRead 11 ∷ Heard 11 (codes "T") ∷ wait true (8 ∷ 10 ∷ 11 ∷ []) [] ∷ CanRead 11 ∷ Heard 11 (codes "T") ∷ wait true (8 ∷ 10 ∷ 11 ∷ []) [] ∷ CanRead 11 ∷ Heard 11 (codes "P") ∷ wait true (8 ∷ 10 ∷ 11 ∷ []) [] ∷ CanRead 11 ∷ Heard 11 (codes "/") ∷ wait true (8 ∷ 10 ∷ 11 ∷ []) [] ∷ CanRead 11 ∷ Heard 11 (codes "1") ∷ wait true (8 ∷ 10 ∷ 11 ∷ []) [] ∷ CanRead 11 ∷ Heard 11 (codes ".") ∷ wait true (8 ∷ 10 ∷ 11 ∷ []) [] ∷ CanRead 11 ∷ Heard 11 (codes "1") ∷ wait true (8 ∷ 10 ∷ 11 ∷ []) [] ∷ CanRead 11 ∷ Heard 11 (codes "\r") ∷ wait true (8 ∷ 10 ∷ 11 ∷ []) [] ∷ CanRead 11 ∷ Heard 11 (codes "\n") ∷ wait true (8 ∷ 10 ∷ 11 ∷ []) [] ∷ CanRead 11 ∷ Heard 11 (codes "R") ∷ wait true (8 ∷ 10 ∷ 11 ∷ []) [] ∷ CanRead 11 ∷ Heard 11 (codes "a") ∷ wait true (8 ∷ 10 ∷ 11 ∷ []) [] ∷ CanRead 11 ∷ Heard 11 (codes "n") ∷ wait true (8 ∷ 10 ∷ 11 ∷ []) [] ∷ CanRead 11 ∷ Heard 11 (codes "g") ∷ wait true (8 ∷ 10 ∷ 11 ∷ []) [] ∷ CanRead 11 ∷ Heard 11 (codes "e") ∷ wait true (8 ∷ 10 ∷ 11 ∷ []) [] ∷ CanRead 11 ∷ Heard 11 (codes ":") ∷ wait true (8 ∷ 10 ∷ 11 ∷ []) [] ∷ CanRead 11 ∷ Heard 11 (codes " ") ∷ wait true (8 ∷ 10 ∷ 11 ∷ []) [] ∷ CanRead 11 ∷ Heard 11 (codes "b") ∷ wait true (8 ∷ 10 ∷ 11 ∷ []) [] ∷ CanRead 11 ∷ Heard 11 (codes "y") ∷ wait true (8 ∷ 10 ∷ 11 ∷ []) [] ∷ CanRead 11 ∷ Heard 11 (codes "t") ∷ wait true (8 ∷ 10 ∷ 11 ∷ []) [] ∷ CanRead 11 ∷ Heard 11 (codes "e") ∷ wait true (8 ∷ 10 ∷ 11 ∷ []) [] ∷ CanRead 11 ∷ Heard 11 (codes "s") ∷ wait true (8 ∷ 10 ∷ 11 ∷ []) [] ∷ CanRead 11 ∷ Heard 11 (codes "=") ∷ wait true (8 ∷ 10 ∷ 11 ∷ []) [] ∷ CanRead 11 ∷ Heard 11 (codes "-") ∷ wait true (8 ∷ 10 ∷ 11 ∷ []) [] ∷ CanRead 11 ∷ Heard 11 (codes "1") ∷ wait true (8 ∷ 10 ∷ 11 ∷ []) [] ∷ CanRead 11 ∷ Heard 11 (codes "0") ∷ wait true (8 ∷ 10 ∷ 11 ∷ []) [] ∷ CanRead 11 ∷ Heard 11 (codes "0") ∷ wait true (8 ∷ 10 ∷ 11 ∷ []) [] ∷ CanRead 11 ∷ Heard 11 (codes "\r") ∷ wait true (8 ∷ 10 ∷ 11 ∷ []) [] ∷ CanRead 11 ∷ Heard 11 (codes "\n") ∷ wait true (8 ∷ 10 ∷ 11 ∷ []) [] ∷ CanRead 11 ∷ Heard 11 (codes "\r") ∷ wait true (8 ∷ 10 ∷ 11 ∷ []) [] ∷ CanRead 11 ∷ Woke ((text43, text154) ∷ (text33, text149) ∷ []) ∷ Rooted text0 ∷ Listed true ∷ Listens 8123 true ∷ wait true [] [] ∷ Clock 784113777 ∷ wait true [] [] ∷ Opened 12 ∷ wait true (12 ∷ []) [] ∷ CanRead 12 ∷ Heard 12 (codes "GET h") ∷ wait true (12 ∷ []) [] ∷ CanRead 12 ∷ Heard 12 text161 ∷ wait true (12 ∷ []) [] ∷ CanRead 12 ∷ Heard 12 (codes "-3\r") ∷ wait true (12 ∷ []) [] ∷ CanRead 12 ∷ Heard 12 (codes "\n\r") ∷ wait true (12 ∷ []) [] ∷ CanRead 12 ∷ Heard 12 (codes "\n") ∷ Noted (Taken 12 0 (Hit 1 4)) ∷ wait true (12 ∷ []) (12 ∷ []) ∷ CanWrite 12 ∷ Said 12 208 text162 ∷ wait true (12 ∷ []) (12 ∷ []) ∷ CanWrite 12 ∷ Noted (Loaded (codes "http://s/a") (codes "\"x\"") 5 0) ∷ Said 12 3 (codes "aaa") ∷ wait true (12 ∷ []) [] ∷ Opened 13 ∷ wait true (12 ∷ 13 ∷ []) [] ∷ CanRead 13 ∷ Heard 13 text55 ∷ Noted (Taken 13 0 (Hit 0 20000)) ∷ wait true (12 ∷ 13 ∷ []) (13 ∷ []) ∷ CanWrite 13 ∷ Said 13 171 text163 ∷ wait true (12 ∷ 13 ∷ []) (13 ∷ []) ∷ CanWrite 13 ∷ Noted (Loaded (codes "http://t/c") (codes "\"c\"") 20000 0) ∷ Said 13 4096 text58 ∷ wait true (12 ∷ 13 ∷ []) (13 ∷ []) ∷ CanWrite 13 ∷ Noted (Loaded (codes "http://t/c") (codes "\"c\"") 20000 1) ∷ Said 13 4096 text59 ∷ wait true (12 ∷ 13 ∷ []) (13 ∷ []) ∷ CanWrite 13 ∷ Noted (Loaded (codes "http://t/c") (codes "\"c\"") 20000 2) ∷ Said 13 4096 text60 ∷ wait true (12 ∷ 13 ∷ []) (13 ∷ []) ∷ CanWrite 13 ∷ Noted (Loaded (codes "http://t/c") (codes "\"c\"") 20000 3) ∷ Said 13 4096 text61 ∷ wait true (12 ∷ 13 ∷ []) (13 ∷ []) ∷ CanWrite 13 ∷ Noted (Loaded (codes "http://t/c") (codes "\"c\"") 20000 4) ∷ Said 13 3616 text62 ∷ wait true (12 ∷ 13 ∷ []) [] ∷ CanRead 13 ∷ Heard 13 text164 ∷ wait true (12 ∷ 13 ∷ []) [] ∷ CanRead 13 ∷ Heard 13 (codes ".1\r") ∷ wait true (12 ∷ 13 ∷ []) [] ∷ CanRead 13 ∷ Heard 13 (codes "\nHost") ∷ wait true (12 ∷ 13 ∷ []) [] ∷ CanRead 13 ∷ Heard 13 (codes ":") ∷ wait true (12 ∷ 13 ∷ []) [] ∷ CanRead 13 ∷ Heard 13 (codes " s\r\n\r\n") ∷ Noted (Taken 13 1 Fetch) ∷ Dialled 14 (codes "s") 80 ∷ wait true (12 ∷ 13 ∷ []) [] ∷ Reached 14 ∷ wait true (12 ∷ 13 ∷ 14 ∷ []) (14 ∷ []) ∷ CanWrite 14 ∷ Asked 14 text165 ∷ wait true (12 ∷ 13 ∷ 14 ∷ []) [] ∷ CanRead 14 ∷ Got 14 text166 ∷ Noted (Taken 13 1 Relay) ∷ wait true (12 ∷ 13 ∷ 14 ∷ []) (13 ∷ []) ∷ CanWrite 13 ∷ Said 13 86 text167 ∷ wait true (12 ∷ 13 ∷ 14 ∷ []) [] ∷ CanRead 13 ∷ Heard 13 text158 ∷ Noted (Taken 13 2 (Hit 0 5)) ∷ wait true (12 ∷ 13 ∷ 14 ∷ []) (13 ∷ []) ∷ CanWrite 13 ∷ Said 13 172 text168 ∷ wait true (12 ∷ 13 ∷ 14 ∷ []) [] ∷ Opened 15 ∷ wait true (12 ∷ 13 ∷ 15 ∷ 14 ∷ []) [] ∷ CanRead 15 ∷ Heard 15 text169 ∷ wait true (12 ∷ 13 ∷ 15 ∷ 14 ∷ []) [] ∷ CanRead 15 ∷ Heard 15 (codes "HTTP/1.1") ∷ wait true (12 ∷ 13 ∷ 15 ∷ 14 ∷ []) [] ∷ CanRead 15 ∷ Heard 15 (codes "\r\n") ∷ wait true (12 ∷ 13 ∷ 15 ∷ 14 ∷ []) [] ∷ CanRead 15 ∷ Heard 15 (codes "Range: byte") ∷ wait true (12 ∷ 13 ∷ 15 ∷ 14 ∷ []) [] ∷ CanRead 15 ∷ Heard 15 (codes "s=0-99\r\n") ∷ wait true (12 ∷ 13 ∷ 15 ∷ 14 ∷ []) [] ∷ CanRead 15 ∷ Heard 15 (codes "\r") ∷ wait true (12 ∷ 13 ∷ 15 ∷ 14 ∷ []) [] ∷ CanRead 15 ∷ Heard 15 (codes "\n") ∷ Noted (Taken 15 0 Fetch) ∷ wait true (12 ∷ 13 ∷ 15 ∷ 14 ∷ []) (14 ∷ []) ∷ CanWrite 14 ∷ Asked 14 text170 ∷ wait true (12 ∷ 13 ∷ 15 ∷ 14 ∷ []) [] ∷ CanRead 14 ∷ Got 14 text171 ∷ Noted (Taken 15 0 (Hit 0 100)) ∷ wait true (12 ∷ 13 ∷ 15 ∷ 14 ∷ []) (15 ∷ []) ∷ CanWrite 15 ∷ Said 15 303 text172 ∷ wait true (12 ∷ 13 ∷ 15 ∷ 14 ∷ []) [] ∷ Opened 16 ∷ wait true (12 ∷ 13 ∷ 15 ∷ 16 ∷ 14 ∷ []) [] ∷ CanRead 16 ∷ Heard 16 text173 ∷ []))
+unfolding judging row1694x0
+row1694x1 = (_, refl)
+
+row1694x2 : (s : State) × (arrived s ≡ judge 480 row1694x1.0 (wait true (12 ∷ 13 ∷ 15 ∷ 16 ∷ 14 ∷ []) [] ∷ CanRead 16 ∷ Heard 16 (codes "1\r\nRange") ∷ wait true (12 ∷ 13 ∷ 15 ∷ 16 ∷ 14 ∷ []) [] ∷ CanRead 16 ∷ Heard 16 text174 ∷ wait true (12 ∷ 13 ∷ 15 ∷ 16 ∷ 14 ∷ []) [] ∷ CanRead 16 ∷ Heard 16 (codes "\r\n") ∷ Noted (Taken 16 0 (Hit 0 100)) ∷ wait true (12 ∷ 13 ∷ 15 ∷ 16 ∷ 14 ∷ []) (16 ∷ []) ∷ CanWrite 16 ∷ Said 16 311 text175 ∷ wait true (12 ∷ 13 ∷ 15 ∷ 16 ∷ 14 ∷ []) [] ∷ Opened 17 ∷ wait true (12 ∷ 13 ∷ 15 ∷ 16 ∷ 17 ∷ 14 ∷ []) [] ∷ CanRead 17 ∷ Heard 17 text106 ∷ wait true (12 ∷ 13 ∷ 15 ∷ 16 ∷ 17 ∷ 14 ∷ []) [] ∷ CanRead 17 ∷ Heard 17 text176 ∷ wait true (12 ∷ 13 ∷ 15 ∷ 16 ∷ 17 ∷ 14 ∷ []) [] ∷ CanRead 17 ∷ Heard 17 (codes "re\r") ∷ wait true (12 ∷ 13 ∷ 15 ∷ 16 ∷ 17 ∷ 14 ∷ []) [] ∷ CanRead 17 ∷ Heard 17 (codes "\n") ∷ wait true (12 ∷ 13 ∷ 15 ∷ 16 ∷ 17 ∷ 14 ∷ []) [] ∷ CanRead 17 ∷ Heard 17 (codes "\r") ∷ wait true (12 ∷ 13 ∷ 15 ∷ 16 ∷ 17 ∷ 14 ∷ []) [] ∷ CanRead 17 ∷ Heard 17 (codes "\n") ∷ Noted (Taken 17 0 Pass) ∷ wait true (12 ∷ 13 ∷ 15 ∷ 16 ∷ 17 ∷ 14 ∷ []) (14 ∷ []) ∷ CanWrite 14 ∷ Asked 14 text17 ∷ wait true (12 ∷ 13 ∷ 15 ∷ 16 ∷ 17 ∷ 14 ∷ []) [] ∷ CanRead 14 ∷ Got 14 text18 ∷ wait true (12 ∷ 13 ∷ 15 ∷ 16 ∷ 17 ∷ 14 ∷ []) (17 ∷ []) ∷ CanWrite 17 ∷ Said 17 124 text19 ∷ wait true (12 ∷ 13 ∷ 15 ∷ 16 ∷ 17 ∷ 14 ∷ []) [] ∷ Reached 14 ∷ wait true (12 ∷ 13 ∷ 15 ∷ 16 ∷ 17 ∷ 14 ∷ []) [] ∷ CanRead 14 ∷ Ended 14 ∷ Dropped 14 ∷ wait true (12 ∷ 13 ∷ 15 ∷ 16 ∷ 17 ∷ []) [] ∷ CanRead 16 ∷ HungUp 16 ∷ Shut 16 ∷ wait true (12 ∷ 13 ∷ 15 ∷ 17 ∷ []) [] ∷ Opened 18 ∷ wait true (12 ∷ 13 ∷ 15 ∷ 17 ∷ 18 ∷ []) [] ∷ CanRead 18 ∷ Heard 18 (codes "G") ∷ wait true (12 ∷ 13 ∷ 15 ∷ 17 ∷ 18 ∷ []) [] ∷ CanRead 18 ∷ Heard 18 (codes "E") ∷ wait true (12 ∷ 13 ∷ 15 ∷ 17 ∷ 18 ∷ []) [] ∷ CanRead 18 ∷ Heard 18 (codes "T") ∷ wait true (12 ∷ 13 ∷ 15 ∷ 17 ∷ 18 ∷ []) [] ∷ CanRead 18 ∷ Heard 18 (codes " ") ∷ wait true (12 ∷ 13 ∷ 15 ∷ 17 ∷ 18 ∷ []) [] ∷ CanRead 18 ∷ Heard 18 (codes "h") ∷ wait true (12 ∷ 13 ∷ 15 ∷ 17 ∷ 18 ∷ []) [] ∷ CanRead 18 ∷ Heard 18 (codes "t") ∷ wait true (12 ∷ 13 ∷ 15 ∷ 17 ∷ 18 ∷ []) [] ∷ CanRead 18 ∷ Heard 18 (codes "t") ∷ wait true (12 ∷ 13 ∷ 15 ∷ 17 ∷ 18 ∷ []) [] ∷ CanRead 18 ∷ Heard 18 (codes "p") ∷ wait true (12 ∷ 13 ∷ 15 ∷ 17 ∷ 18 ∷ []) [] ∷ CanRead 18 ∷ Heard 18 (codes ":") ∷ wait true (12 ∷ 13 ∷ 15 ∷ 17 ∷ 18 ∷ []) [] ∷ CanRead 18 ∷ Heard 18 (codes "/") ∷ wait true (12 ∷ 13 ∷ 15 ∷ 17 ∷ 18 ∷ []) [] ∷ CanRead 18 ∷ Heard 18 (codes "/") ∷ wait true (12 ∷ 13 ∷ 15 ∷ 17 ∷ 18 ∷ []) [] ∷ CanRead 18 ∷ Heard 18 (codes "s") ∷ wait true (12 ∷ 13 ∷ 15 ∷ 17 ∷ 18 ∷ []) [] ∷ CanRead 18 ∷ Heard 18 (codes "/") ∷ wait true (12 ∷ 13 ∷ 15 ∷ 17 ∷ 18 ∷ []) [] ∷ CanRead 18 ∷ Heard 18 (codes "a") ∷ wait true (12 ∷ 13 ∷ 15 ∷ 17 ∷ 18 ∷ []) [] ∷ CanRead 18 ∷ Heard 18 (codes " ") ∷ wait true (12 ∷ 13 ∷ 15 ∷ 17 ∷ 18 ∷ []) [] ∷ CanRead 18 ∷ Heard 18 (codes "H") ∷ wait true (12 ∷ 13 ∷ 15 ∷ 17 ∷ 18 ∷ []) [] ∷ CanRead 18 ∷ Heard 18 (codes "T") ∷ wait true (12 ∷ 13 ∷ 15 ∷ 17 ∷ 18 ∷ []) [] ∷ CanRead 18 ∷ Heard 18 (codes "T") ∷ wait true (12 ∷ 13 ∷ 15 ∷ 17 ∷ 18 ∷ []) [] ∷ CanRead 18 ∷ Heard 18 (codes "P") ∷ wait true (12 ∷ 13 ∷ 15 ∷ 17 ∷ 18 ∷ []) [] ∷ CanRead 18 ∷ Heard 18 (codes "/") ∷ wait true (12 ∷ 13 ∷ 15 ∷ 17 ∷ 18 ∷ []) [] ∷ CanRead 18 ∷ Heard 18 (codes "1") ∷ wait true (12 ∷ 13 ∷ 15 ∷ 17 ∷ 18 ∷ []) [] ∷ CanRead 18 ∷ Heard 18 (codes ".") ∷ wait true (12 ∷ 13 ∷ 15 ∷ 17 ∷ 18 ∷ []) [] ∷ CanRead 18 ∷ Heard 18 (codes "1") ∷ wait true (12 ∷ 13 ∷ 15 ∷ 17 ∷ 18 ∷ []) [] ∷ CanRead 18 ∷ Heard 18 (codes "\r") ∷ wait true (12 ∷ 13 ∷ 15 ∷ 17 ∷ 18 ∷ []) [] ∷ CanRead 18 ∷ Heard 18 (codes "\n") ∷ wait true (12 ∷ 13 ∷ 15 ∷ 17 ∷ 18 ∷ []) [] ∷ CanRead 18 ∷ Heard 18 (codes "C") ∷ wait true (12 ∷ 13 ∷ 15 ∷ 17 ∷ 18 ∷ []) [] ∷ CanRead 18 ∷ Heard 18 (codes "a") ∷ wait true (12 ∷ 13 ∷ 15 ∷ 17 ∷ 18 ∷ []) [] ∷ CanRead 18 ∷ Heard 18 (codes "c") ∷ wait true (12 ∷ 13 ∷ 15 ∷ 17 ∷ 18 ∷ []) [] ∷ CanRead 18 ∷ Heard 18 (codes "h") ∷ wait true (12 ∷ 13 ∷ 15 ∷ 17 ∷ 18 ∷ []) [] ∷ CanRead 18 ∷ Heard 18 (codes "e") ∷ wait true (12 ∷ 13 ∷ 15 ∷ 17 ∷ 18 ∷ []) [] ∷ CanRead 18 ∷ Heard 18 (codes "-") ∷ wait true (12 ∷ 13 ∷ 15 ∷ 17 ∷ 18 ∷ []) [] ∷ CanRead 18 ∷ Heard 18 (codes "C") ∷ wait true (12 ∷ 13 ∷ 15 ∷ 17 ∷ 18 ∷ []) [] ∷ CanRead 18 ∷ Heard 18 (codes "o") ∷ wait true (12 ∷ 13 ∷ 15 ∷ 17 ∷ 18 ∷ []) [] ∷ CanRead 18 ∷ Heard 18 (codes "n") ∷ wait true (12 ∷ 13 ∷ 15 ∷ 17 ∷ 18 ∷ []) [] ∷ CanRead 18 ∷ Heard 18 (codes "t") ∷ wait true (12 ∷ 13 ∷ 15 ∷ 17 ∷ 18 ∷ []) [] ∷ CanRead 18 ∷ Heard 18 (codes "r") ∷ wait true (12 ∷ 13 ∷ 15 ∷ 17 ∷ 18 ∷ []) [] ∷ CanRead 18 ∷ Heard 18 (codes "o") ∷ wait true (12 ∷ 13 ∷ 15 ∷ 17 ∷ 18 ∷ []) [] ∷ CanRead 18 ∷ Heard 18 (codes "l") ∷ wait true (12 ∷ 13 ∷ 15 ∷ 17 ∷ 18 ∷ []) [] ∷ CanRead 18 ∷ Heard 18 (codes ":") ∷ wait true (12 ∷ 13 ∷ 15 ∷ 17 ∷ 18 ∷ []) [] ∷ CanRead 18 ∷ Heard 18 (codes " ") ∷ wait true (12 ∷ 13 ∷ 15 ∷ 17 ∷ 18 ∷ []) [] ∷ CanRead 18 ∷ Heard 18 (codes "n") ∷ wait true (12 ∷ 13 ∷ 15 ∷ 17 ∷ 18 ∷ []) [] ∷ CanRead 18 ∷ Heard 18 (codes "o") ∷ wait true (12 ∷ 13 ∷ 15 ∷ 17 ∷ 18 ∷ []) [] ∷ CanRead 18 ∷ Heard 18 (codes "-") ∷ wait true (12 ∷ 13 ∷ 15 ∷ 17 ∷ 18 ∷ []) [] ∷ CanRead 18 ∷ Heard 18 (codes "s") ∷ wait true (12 ∷ 13 ∷ 15 ∷ 17 ∷ 18 ∷ []) [] ∷ CanRead 18 ∷ Heard 18 (codes "t") ∷ wait true (12 ∷ 13 ∷ 15 ∷ 17 ∷ 18 ∷ []) [] ∷ CanRead 18 ∷ Heard 18 (codes "o") ∷ wait true (12 ∷ 13 ∷ 15 ∷ 17 ∷ 18 ∷ []) [] ∷ CanRead 18 ∷ Heard 18 (codes "r") ∷ wait true (12 ∷ 13 ∷ 15 ∷ 17 ∷ 18 ∷ []) [] ∷ CanRead 18 ∷ Heard 18 (codes "e") ∷ wait true (12 ∷ 13 ∷ 15 ∷ 17 ∷ 18 ∷ []) [] ∷ CanRead 18 ∷ Heard 18 (codes "\r") ∷ wait true (12 ∷ 13 ∷ 15 ∷ 17 ∷ 18 ∷ []) [] ∷ CanRead 18 ∷ Heard 18 (codes "\n") ∷ wait true (12 ∷ 13 ∷ 15 ∷ 17 ∷ 18 ∷ []) [] ∷ CanRead 18 ∷ Heard 18 (codes "\r") ∷ wait true (12 ∷ 13 ∷ 15 ∷ 17 ∷ 18 ∷ []) [] ∷ CanRead 18 ∷ Heard 18 (codes "\n") ∷ Noted (Taken 18 0 Pass) ∷ Dialled 19 (codes "s") 80 ∷ wait true (12 ∷ 13 ∷ 15 ∷ 17 ∷ 18 ∷ []) [] ∷ Reached 19 ∷ wait true (12 ∷ 13 ∷ 15 ∷ 17 ∷ 18 ∷ 19 ∷ []) (19 ∷ []) ∷ CanWrite 19 ∷ Asked 19 text17 ∷ wait true (12 ∷ 13 ∷ 15 ∷ 17 ∷ 18 ∷ 19 ∷ []) [] ∷ CanRead 19 ∷ Got 19 text18 ∷ wait true (12 ∷ 13 ∷ 15 ∷ 17 ∷ 18 ∷ 19 ∷ []) (18 ∷ []) ∷ CanWrite 18 ∷ Said 18 124 text19 ∷ wait true (12 ∷ 13 ∷ 15 ∷ 17 ∷ 18 ∷ 19 ∷ []) [] ∷ Opened 20 ∷ wait true (12 ∷ 13 ∷ 15 ∷ 17 ∷ 18 ∷ 20 ∷ 19 ∷ []) [] ∷ CanRead 20 ∷ Heard 20 text5 ∷ Noted (Taken 20 0 (Hit 19900 20000)) ∷ wait true (12 ∷ 13 ∷ 15 ∷ 17 ∷ 18 ∷ 20 ∷ 19 ∷ []) (20 ∷ []) ∷ CanWrite 20 ∷ Said 20 322 text177 ∷ wait true (12 ∷ 13 ∷ 15 ∷ 17 ∷ 18 ∷ 20 ∷ 19 ∷ []) [] ∷ Opened 21 ∷ wait true (12 ∷ 13 ∷ 15 ∷ 17 ∷ 18 ∷ 20 ∷ 21 ∷ 19 ∷ []) [] ∷ CanRead 21 ∷ Heard 21 text178 ∷ wait true (12 ∷ 13 ∷ 15 ∷ 17 ∷ 18 ∷ 20 ∷ 21 ∷ 19 ∷ []) [] ∷ CanRead 21 ∷ []))
+unfolding judging row1694x1
+row1694x2 = (_, refl)
+
+row1694 : fault_from 720 row1694x2.0 (Heard 21 text179 ∷ wait true (12 ∷ 13 ∷ 15 ∷ 17 ∷ 18 ∷ 20 ∷ 21 ∷ 19 ∷ []) [] ∷ CanRead 21 ∷ Heard 21 (codes "\r") ∷ wait true (12 ∷ 13 ∷ 15 ∷ 17 ∷ 18 ∷ 20 ∷ 21 ∷ 19 ∷ []) [] ∷ CanRead 21 ∷ Heard 21 (codes "\n") ∷ Noted (Taken 21 0 Pass) ∷ wait true (12 ∷ 13 ∷ 15 ∷ 17 ∷ 18 ∷ 20 ∷ 21 ∷ 19 ∷ []) (19 ∷ []) ∷ CanWrite 19 ∷ Asked 19 text17 ∷ wait true (12 ∷ 13 ∷ 15 ∷ 17 ∷ 18 ∷ 20 ∷ 21 ∷ 19 ∷ []) [] ∷ CanRead 19 ∷ Got 19 text18 ∷ wait true (12 ∷ 13 ∷ 15 ∷ 17 ∷ 18 ∷ 20 ∷ 21 ∷ 19 ∷ []) (21 ∷ []) ∷ CanWrite 21 ∷ Said 21 124 text19 ∷ wait true (12 ∷ 13 ∷ 15 ∷ 17 ∷ 18 ∷ 20 ∷ 21 ∷ 19 ∷ []) [] ∷ Opened 22 ∷ wait true (12 ∷ 13 ∷ 15 ∷ 17 ∷ 18 ∷ 20 ∷ 21 ∷ 22 ∷ 19 ∷ []) [] ∷ CanRead 22 ∷ Heard 22 text1 ∷ Noted (Taken 22 0 (Hit 12000 20000)) ∷ wait true (12 ∷ 13 ∷ 15 ∷ 17 ∷ 18 ∷ 20 ∷ 21 ∷ 22 ∷ 19 ∷ []) (22 ∷ []) ∷ CanWrite 22 ∷ Said 22 8223 text180 ∷ wait true (12 ∷ 13 ∷ 15 ∷ 17 ∷ 18 ∷ 20 ∷ 21 ∷ 22 ∷ 19 ∷ []) [] ∷ CanRead 22 ∷ Heard 22 (codes "G") ∷ wait true (12 ∷ 13 ∷ 15 ∷ 17 ∷ 18 ∷ 20 ∷ 21 ∷ 22 ∷ 19 ∷ []) [] ∷ CanRead 22 ∷ Heard 22 (codes "E") ∷ wait true (12 ∷ 13 ∷ 15 ∷ 17 ∷ 18 ∷ 20 ∷ 21 ∷ 22 ∷ 19 ∷ []) [] ∷ CanRead 22 ∷ Heard 22 (codes "T") ∷ wait true (12 ∷ 13 ∷ 15 ∷ 17 ∷ 18 ∷ 20 ∷ 21 ∷ 22 ∷ 19 ∷ []) [] ∷ CanRead 22 ∷ Heard 22 (codes " ") ∷ wait true (12 ∷ 13 ∷ 15 ∷ 17 ∷ 18 ∷ 20 ∷ 21 ∷ 22 ∷ 19 ∷ []) [] ∷ CanRead 22 ∷ Heard 22 (codes "h") ∷ wait true (12 ∷ 13 ∷ 15 ∷ 17 ∷ 18 ∷ 20 ∷ 21 ∷ 22 ∷ 19 ∷ []) [] ∷ CanRead 22 ∷ Heard 22 (codes "t") ∷ wait true (12 ∷ 13 ∷ 15 ∷ 17 ∷ 18 ∷ 20 ∷ 21 ∷ 22 ∷ 19 ∷ []) [] ∷ CanRead 22 ∷ Heard 22 (codes "t") ∷ wait true (12 ∷ 13 ∷ 15 ∷ 17 ∷ 18 ∷ 20 ∷ 21 ∷ 22 ∷ 19 ∷ []) [] ∷ CanRead 22 ∷ Heard 22 (codes "p") ∷ wait true (12 ∷ 13 ∷ 15 ∷ 17 ∷ 18 ∷ 20 ∷ 21 ∷ 22 ∷ 19 ∷ []) [] ∷ CanRead 22 ∷ Heard 22 (codes ":") ∷ wait true (12 ∷ 13 ∷ 15 ∷ 17 ∷ 18 ∷ 20 ∷ 21 ∷ 22 ∷ 19 ∷ []) [] ∷ CanRead 22 ∷ Heard 22 (codes "/") ∷ wait true (12 ∷ 13 ∷ 15 ∷ 17 ∷ 18 ∷ 20 ∷ 21 ∷ 22 ∷ 19 ∷ []) [] ∷ CanRead 22 ∷ Heard 22 (codes "/") ∷ wait true (12 ∷ 13 ∷ 15 ∷ 17 ∷ 18 ∷ 20 ∷ 21 ∷ 22 ∷ 19 ∷ []) [] ∷ CanRead 22 ∷ Heard 22 (codes "s") ∷ wait true (12 ∷ 13 ∷ 15 ∷ 17 ∷ 18 ∷ 20 ∷ 21 ∷ 22 ∷ 19 ∷ []) [] ∷ CanRead 22 ∷ Heard 22 (codes "/") ∷ wait true (12 ∷ 13 ∷ 15 ∷ 17 ∷ 18 ∷ 20 ∷ 21 ∷ 22 ∷ 19 ∷ []) [] ∷ CanRead 22 ∷ Heard 22 (codes "a") ∷ wait true (12 ∷ 13 ∷ 15 ∷ 17 ∷ 18 ∷ 20 ∷ 21 ∷ 22 ∷ 19 ∷ []) [] ∷ CanRead 22 ∷ Heard 22 (codes " ") ∷ wait true (12 ∷ 13 ∷ 15 ∷ 17 ∷ 18 ∷ 20 ∷ 21 ∷ 22 ∷ 19 ∷ []) [] ∷ CanRead 22 ∷ Heard 22 (codes "H") ∷ wait true (12 ∷ 13 ∷ 15 ∷ 17 ∷ 18 ∷ 20 ∷ 21 ∷ 22 ∷ 19 ∷ []) [] ∷ CanRead 22 ∷ Heard 22 (codes "T") ∷ wait true (12 ∷ 13 ∷ 15 ∷ 17 ∷ 18 ∷ 20 ∷ 21 ∷ 22 ∷ 19 ∷ []) [] ∷ CanRead 22 ∷ Heard 22 (codes "T") ∷ wait true (12 ∷ 13 ∷ 15 ∷ 17 ∷ 18 ∷ 20 ∷ 21 ∷ 22 ∷ 19 ∷ []) [] ∷ CanRead 22 ∷ Heard 22 (codes "P") ∷ wait true (12 ∷ 13 ∷ 15 ∷ 17 ∷ 18 ∷ 20 ∷ 21 ∷ 22 ∷ 19 ∷ []) [] ∷ CanRead 22 ∷ Heard 22 (codes "/") ∷ wait true (12 ∷ 13 ∷ 15 ∷ 17 ∷ 18 ∷ 20 ∷ 21 ∷ 22 ∷ 19 ∷ []) [] ∷ CanRead 22 ∷ Heard 22 (codes "1") ∷ wait true (12 ∷ 13 ∷ 15 ∷ 17 ∷ 18 ∷ 20 ∷ 21 ∷ 22 ∷ 19 ∷ []) [] ∷ CanRead 22 ∷ Heard 22 (codes ".") ∷ wait true (12 ∷ 13 ∷ 15 ∷ 17 ∷ 18 ∷ 20 ∷ 21 ∷ 22 ∷ 19 ∷ []) [] ∷ CanRead 22 ∷ Heard 22 (codes "1") ∷ wait true (12 ∷ 13 ∷ 15 ∷ 17 ∷ 18 ∷ 20 ∷ 21 ∷ 22 ∷ 19 ∷ []) [] ∷ CanRead 22 ∷ Heard 22 (codes "\r") ∷ wait true (12 ∷ 13 ∷ 15 ∷ 17 ∷ 18 ∷ 20 ∷ 21 ∷ 22 ∷ 19 ∷ []) [] ∷ CanRead 22 ∷ Heard 22 (codes "\n") ∷ wait true (12 ∷ 13 ∷ 15 ∷ 17 ∷ 18 ∷ 20 ∷ 21 ∷ 22 ∷ 19 ∷ []) [] ∷ CanRead 22 ∷ Heard 22 (codes "I") ∷ wait true (12 ∷ 13 ∷ 15 ∷ 17 ∷ 18 ∷ 20 ∷ 21 ∷ 22 ∷ 19 ∷ []) [] ∷ CanRead 22 ∷ Heard 22 (codes "f") ∷ wait true (12 ∷ 13 ∷ 15 ∷ 17 ∷ 18 ∷ 20 ∷ 21 ∷ 22 ∷ 19 ∷ []) [] ∷ CanRead 22 ∷ Heard 22 (codes "-") ∷ wait true (12 ∷ 13 ∷ 15 ∷ 17 ∷ 18 ∷ 20 ∷ 21 ∷ 22 ∷ 19 ∷ []) [] ∷ CanRead 22 ∷ Heard 22 (codes "N") ∷ wait true (12 ∷ 13 ∷ 15 ∷ 17 ∷ 18 ∷ 20 ∷ 21 ∷ 22 ∷ 19 ∷ []) [] ∷ CanRead 22 ∷ Heard 22 (codes "o") ∷ wait true (12 ∷ 13 ∷ 15 ∷ 17 ∷ 18 ∷ 20 ∷ 21 ∷ 22 ∷ 19 ∷ []) [] ∷ CanRead 22 ∷ Heard 22 (codes "n") ∷ wait true (12 ∷ 13 ∷ 15 ∷ 17 ∷ 18 ∷ 20 ∷ 21 ∷ 22 ∷ 19 ∷ []) [] ∷ CanRead 22 ∷ Heard 22 (codes "e") ∷ wait true (12 ∷ 13 ∷ 15 ∷ 17 ∷ 18 ∷ 20 ∷ 21 ∷ 22 ∷ 19 ∷ []) [] ∷ CanRead 22 ∷ Heard 22 (codes "-") ∷ wait true (12 ∷ 13 ∷ 15 ∷ 17 ∷ 18 ∷ 20 ∷ 21 ∷ 22 ∷ 19 ∷ []) [] ∷ CanRead 22 ∷ Heard 22 (codes "M") ∷ wait true (12 ∷ 13 ∷ 15 ∷ 17 ∷ 18 ∷ 20 ∷ 21 ∷ 22 ∷ 19 ∷ []) [] ∷ CanRead 22 ∷ Heard 22 (codes "a") ∷ wait true (12 ∷ 13 ∷ 15 ∷ 17 ∷ 18 ∷ 20 ∷ 21 ∷ 22 ∷ 19 ∷ []) [] ∷ CanRead 22 ∷ Heard 22 (codes "t") ∷ wait true (12 ∷ 13 ∷ 15 ∷ 17 ∷ 18 ∷ 20 ∷ 21 ∷ 22 ∷ 19 ∷ []) [] ∷ CanRead 22 ∷ Heard 22 (codes "c") ∷ wait true (12 ∷ 13 ∷ 15 ∷ 17 ∷ 18 ∷ 20 ∷ 21 ∷ 22 ∷ 19 ∷ []) [] ∷ CanRead 22 ∷ Heard 22 (codes "h") ∷ wait true (12 ∷ 13 ∷ 15 ∷ 17 ∷ 18 ∷ 20 ∷ 21 ∷ 22 ∷ 19 ∷ []) [] ∷ CanRead 22 ∷ Heard 22 (codes ":") ∷ wait true (12 ∷ 13 ∷ 15 ∷ 17 ∷ 18 ∷ 20 ∷ 21 ∷ 22 ∷ 19 ∷ []) [] ∷ CanRead 22 ∷ Heard 22 (codes " ") ∷ wait true (12 ∷ 13 ∷ 15 ∷ 17 ∷ 18 ∷ 20 ∷ 21 ∷ 22 ∷ 19 ∷ []) [] ∷ CanRead 22 ∷ Heard 22 (codes "\"") ∷ wait true (12 ∷ 13 ∷ 15 ∷ 17 ∷ 18 ∷ 20 ∷ 21 ∷ 22 ∷ 19 ∷ []) [] ∷ CanRead 22 ∷ Heard 22 (codes "x") ∷ wait true (12 ∷ 13 ∷ 15 ∷ 17 ∷ 18 ∷ 20 ∷ 21 ∷ 22 ∷ 19 ∷ []) [] ∷ CanRead 22 ∷ Heard 22 (codes "\"") ∷ wait true (12 ∷ 13 ∷ 15 ∷ 17 ∷ 18 ∷ 20 ∷ 21 ∷ 22 ∷ 19 ∷ []) [] ∷ CanRead 22 ∷ Heard 22 (codes "\r") ∷ wait true (12 ∷ 13 ∷ 15 ∷ 17 ∷ 18 ∷ 20 ∷ 21 ∷ 22 ∷ 19 ∷ []) [] ∷ CanRead 22 ∷ Heard 22 (codes "\n") ∷ wait true (12 ∷ 13 ∷ 15 ∷ 17 ∷ 18 ∷ 20 ∷ 21 ∷ 22 ∷ 19 ∷ []) [] ∷ CanRead 22 ∷ Heard 22 (codes "\r") ∷ wait true (12 ∷ 13 ∷ 15 ∷ 17 ∷ 18 ∷ 20 ∷ 21 ∷ 22 ∷ 19 ∷ []) [] ∷ CanRead 22 ∷ Heard 22 (codes "\n") ∷ Noted (Taken 22 1 NotModified) ∷ wait true (12 ∷ 13 ∷ 15 ∷ 17 ∷ 18 ∷ 20 ∷ 21 ∷ 22 ∷ 19 ∷ []) (22 ∷ []) ∷ CanWrite 22 ∷ Said 22 158 text181 ∷ wait true (12 ∷ 13 ∷ 15 ∷ 17 ∷ 18 ∷ 20 ∷ 21 ∷ 22 ∷ 19 ∷ []) [] ∷ Clock 784113778 ∷ wait true (12 ∷ 13 ∷ 15 ∷ 17 ∷ 18 ∷ 20 ∷ 21 ∷ 22 ∷ 19 ∷ []) [] ∷ Stopped ∷ Shut 12 ∷ Shut 13 ∷ Shut 15 ∷ Shut 17 ∷ Shut 18 ∷ Shut 20 ∷ Shut 21 ∷ Shut 22 ∷ Dropped 19 ∷ []) ≡ None
+unfolding judging row1694x2
 row1694 = refl
 
-row2603 : fault_from 0 (start (record { words = text182 ∷ []; faults = 0 } ∷ record { words = []; faults = 1 } ∷ record { words = []; faults = 2 } ∷ [])) (Woke [] ∷ Rooted text0 ∷ Listed true ∷ Listens 8123 true ∷ wait true [] [] ∷ Clock 784111777 ∷ wait true [] [] ∷ Opened 1 ∷ wait true (1 ∷ []) [] ∷ CanRead 1 ∷ Heard 1 text117 ∷ Noted (Taken 1 0 Pass) ∷ Dialled 2 (codes "s") 80 ∷ wait true (1 ∷ []) [] ∷ Reached 2 ∷ wait true (1 ∷ 2 ∷ []) (2 ∷ []) ∷ CanWrite 2 ∷ Asked 2 text183 ∷ wait true (1 ∷ 2 ∷ []) [] ∷ CanRead 2 ∷ Got 2 text166 ∷ wait true (1 ∷ 2 ∷ []) (1 ∷ []) ∷ CanWrite 1 ∷ Said 1 86 text167 ∷ wait true (1 ∷ 2 ∷ []) [] ∷ Clock 784111800 ∷ wait true (1 ∷ 2 ∷ []) [] ∷ CanRead 1 ∷ Heard 1 text123 ∷ Noted (Taken 1 1 Fetch) ∷ wait true (1 ∷ 2 ∷ []) (2 ∷ []) ∷ CanWrite 2 ∷ Asked 2 text170 ∷ wait true (1 ∷ 2 ∷ []) [] ∷ CanRead 2 ∷ Got 2 text171 ∷ Noted (Taken 1 1 (Hit 0 100)) ∷ wait true (1 ∷ 2 ∷ []) (1 ∷ []) ∷ CanWrite 1 ∷ Said 1 303 text184 ∷ wait true (1 ∷ 2 ∷ []) [] ∷ Reached 2 ∷ wait true (1 ∷ 2 ∷ []) [] ∷ Opened 3 ∷ wait true (1 ∷ 3 ∷ 2 ∷ []) [] ∷ CanRead 3 ∷ Heard 3 (codes "GE") ∷ wait true (1 ∷ 3 ∷ 2 ∷ []) [] ∷ CanRead 3 ∷ Heard 3 text185 ∷ wait true (1 ∷ 3 ∷ 2 ∷ []) [] ∷ CanRead 3 ∷ Heard 3 (codes " H") ∷ wait true (1 ∷ 3 ∷ 2 ∷ []) [] ∷ CanRead 3 ∷ Heard 3 (codes "TTP/1.0") ∷ wait true (1 ∷ 3 ∷ 2 ∷ []) [] ∷ CanRead 3 ∷ Heard 3 (codes "\r\n\r\n") ∷ Noted (Taken 3 0 (Part 0 9000)) ∷ wait true (1 ∷ 3 ∷ 2 ∷ []) (3 ∷ []) ∷ CanWrite 3 ∷ Said 3 262 text186 ∷ wait true (1 ∷ 3 ∷ 2 ∷ []) (2 ∷ []) ∷ CanWrite 2 ∷ Asked 2 text187 ∷ wait true (1 ∷ 3 ∷ 2 ∷ []) [] ∷ CanRead 2 ∷ Got 2 text188 ∷ Began (Draft text189) ∷ Did (Draft text189) true ∷ Began SyncDraft ∷ Did SyncDraft true ∷ Began (Publish text24) ∷ Did (Publish text24) true ∷ Noted (Kept (codes "http://s/b") (codes "\"y\"") 9000 9000) ∷ wait true (1 ∷ 3 ∷ 2 ∷ []) (3 ∷ []) ∷ CanWrite 3 ∷ Said 3 8900 text190 ∷ Shut 3 ∷ wait true (1 ∷ 2 ∷ []) [] ∷ CanRead 1 ∷ Heard 1 text117 ∷ Noted (Taken 1 2 Head) ∷ wait true (1 ∷ 2 ∷ []) (1 ∷ []) ∷ CanWrite 1 ∷ Said 1 167 text191 ∷ wait true (1 ∷ 2 ∷ []) [] ∷ Clock 784111826 ∷ wait true (1 ∷ 2 ∷ []) [] ∷ Opened 4 ∷ wait true (1 ∷ 4 ∷ 2 ∷ []) [] ∷ CanRead 4 ∷ Heard 4 text7 ∷ Noted (Taken 4 0 Fetch) ∷ wait true (1 ∷ 4 ∷ 2 ∷ []) (2 ∷ []) ∷ CanWrite 2 ∷ Asked 2 text8 ∷ wait true (1 ∷ 4 ∷ 2 ∷ []) [] ∷ CanRead 2 ∷ Got 2 text9 ∷ Noted (Taken 4 0 (Hit 0 0)) ∷ wait true (1 ∷ 4 ∷ 2 ∷ []) (4 ∷ []) ∷ CanWrite 4 ∷ Said 4 156 text192 ∷ wait true (1 ∷ 4 ∷ 2 ∷ []) [] ∷ CanRead 4 ∷ Heard 4 (codes "G") ∷ wait true (1 ∷ 4 ∷ 2 ∷ []) [] ∷ CanRead 4 ∷ Heard 4 text193 ∷ wait true (1 ∷ 4 ∷ 2 ∷ []) [] ∷ CanRead 4 ∷ Heard 4 (codes "he-Contro") ∷ wait true (1 ∷ 4 ∷ 2 ∷ []) [] ∷ CanRead 4 ∷ Heard 4 (codes "l: only-if-") ∷ wait true (1 ∷ 4 ∷ 2 ∷ []) [] ∷ CanRead 4 ∷ Heard 4 (codes "cached\r\n\r\n") ∷ Noted (Taken 4 1 (Refuse 504)) ∷ wait true (1 ∷ 4 ∷ 2 ∷ []) (4 ∷ []) ∷ CanWrite 4 ∷ Said 4 122 text194 ∷ wait true (1 ∷ 4 ∷ 2 ∷ []) [] ∷ Clock 784111827 ∷ wait true (1 ∷ 4 ∷ 2 ∷ []) [] ∷ Stopped ∷ Shut 1 ∷ Shut 4 ∷ Dropped 2 ∷ Woke ((text24, text189) ∷ []) ∷ Rooted text0 ∷ Listed true ∷ Listens 8123 true ∷ wait true [] [] ∷ Clock 784112777 ∷ wait true [] [] ∷ Clock 784112780 ∷ wait true [] [] ∷ Opened 5 ∷ wait true (5 ∷ []) [] ∷ CanRead 5 ∷ Heard 5 text195 ∷ Noted (Taken 5 0 Fetch) ∷ Dialled 6 (codes "s") 80 ∷ wait true (5 ∷ []) [] ∷ Reached 6 ∷ wait true (5 ∷ 6 ∷ []) (6 ∷ []) ∷ CanWrite 6 ∷ Asked 6 text31 ∷ wait true (5 ∷ 6 ∷ []) [] ∷ CanRead 6 ∷ Got 6 text18 ∷ Began (Draft text196) ∷ Did (Draft text196) true ∷ Began SyncDraft ∷ Did SyncDraft true ∷ Began (Publish text33) ∷ Did (Publish text33) true ∷ Noted (Kept (codes "http://s/a") (codes "\"x\"") 5 5) ∷ Noted (Taken 5 0 (Hit 0 5)) ∷ wait true (5 ∷ 6 ∷ []) (5 ∷ []) ∷ CanWrite 5 ∷ Said 5 156 text197 ∷ Shut 5 ∷ wait true (6 ∷ []) [] ∷ Reached 6 ∷ wait true (6 ∷ []) [] ∷ Opened 7 ∷ wait true (7 ∷ 6 ∷ []) [] ∷ CanRead 7 ∷ Heard 7 text123 ∷ Noted (Taken 7 0 (Hit 0 100)) ∷ wait true (7 ∷ 6 ∷ []) (7 ∷ []) ∷ CanWrite 7 ∷ Said 7 213 text198 ∷ wait true (7 ∷ 6 ∷ []) (7 ∷ []) ∷ CanWrite 7 ∷ Noted (Loaded (codes "http://s/b") (codes "\"y\"") 9000 0) ∷ Said 7 100 text81 ∷ wait true (7 ∷ 6 ∷ []) [] ∷ Opened 8 ∷ wait true (7 ∷ 8 ∷ 6 ∷ []) [] ∷ CanRead 8 ∷ Heard 8 text199 ∷ wait true (7 ∷ 8 ∷ 6 ∷ []) [] ∷ CanRead 8 ∷ Heard 8 (codes "ontrol") ∷ wait true (7 ∷ 8 ∷ 6 ∷ []) [] ∷ CanRead 8 ∷ Heard 8 text200 ∷ Noted (Taken 8 0 Pass) ∷ wait true (7 ∷ 8 ∷ 6 ∷ []) (6 ∷ []) ∷ CanWrite 6 ∷ Asked 6 text17 ∷ wait true (7 ∷ 8 ∷ 6 ∷ []) [] ∷ CanRead 6 ∷ Got 6 text18 ∷ wait true (7 ∷ 8 ∷ 6 ∷ []) (8 ∷ []) ∷ CanWrite 8 ∷ Said 8 124 text19 ∷ wait true (7 ∷ 8 ∷ 6 ∷ []) [] ∷ Opened 9 ∷ wait true (7 ∷ 8 ∷ 9 ∷ 6 ∷ []) [] ∷ CanRead 9 ∷ Heard 9 (codes "HEA") ∷ wait true (7 ∷ 8 ∷ 9 ∷ 6 ∷ []) [] ∷ CanRead 9 ∷ Heard 9 text201 ∷ wait true (7 ∷ 8 ∷ 9 ∷ 6 ∷ []) [] ∷ CanRead 9 ∷ Heard 9 (codes "P/") ∷ wait true (7 ∷ 8 ∷ 9 ∷ 6 ∷ []) [] ∷ CanRead 9 ∷ Heard 9 text202 ∷ Noted (Taken 9 0 Head) ∷ wait true (7 ∷ 8 ∷ 9 ∷ 6 ∷ []) (9 ∷ []) ∷ CanWrite 9 ∷ Said 9 169 text203 ∷ wait true (7 ∷ 8 ∷ 9 ∷ 6 ∷ []) [] ∷ Clock 784112829 ∷ wait true (7 ∷ 8 ∷ 9 ∷ 6 ∷ []) [] ∷ Reached 6 ∷ wait true (7 ∷ 8 ∷ 9 ∷ 6 ∷ []) [] ∷ Opened 10 ∷ wait true (7 ∷ 8 ∷ 9 ∷ 10 ∷ 6 ∷ []) [] ∷ CanRead 10 ∷ Heard 10 text204 ∷ wait true (7 ∷ 8 ∷ 9 ∷ 10 ∷ 6 ∷ []) [] ∷ CanRead 10 ∷ Heard 10 (codes "Host: h\r\n\r\n") ∷ Noted (Taken 10 0 (Refuse 400)) ∷ wait true (7 ∷ 8 ∷ 9 ∷ 10 ∷ 6 ∷ []) (10 ∷ []) ∷ CanWrite 10 ∷ Said 10 109 text29 ∷ Shut 10 ∷ wait true (7 ∷ 8 ∷ 9 ∷ 6 ∷ []) [] ∷ Opened 11 ∷ wait true (7 ∷ 8 ∷ 9 ∷ 11 ∷ 6 ∷ []) [] ∷ CanRead 11 ∷ Heard 11 text30 ∷ Noted (Taken 11 0 (Hit 0 5)) ∷ wait true (7 ∷ 8 ∷ 9 ∷ 11 ∷ 6 ∷ []) (11 ∷ []) ∷ CanWrite 11 ∷ Said 11 170 text205 ∷ wait true (7 ∷ 8 ∷ 9 ∷ 11 ∷ 6 ∷ []) [] ∷ Clock 784112830 ∷ wait true (7 ∷ 8 ∷ 9 ∷ 11 ∷ 6 ∷ []) [] ∷ Stopped ∷ Shut 7 ∷ Shut 8 ∷ Shut 9 ∷ Shut 11 ∷ Dropped 6 ∷ Woke ((text24, text189) ∷ (text33, text196) ∷ []) ∷ Rooted text0 ∷ Listed true ∷ Listens 8123 true ∷ wait true [] [] ∷ Clock 784113777 ∷ wait true [] [] ∷ Opened 12 ∷ wait true (12 ∷ []) [] ∷ CanRead 12 ∷ Heard 12 text20 ∷ Noted (Taken 12 0 (Hit 0 9000)) ∷ wait true (12 ∷ []) (12 ∷ []) ∷ CanWrite 12 ∷ Said 12 165 text206 ∷ wait true (12 ∷ []) (12 ∷ []) ∷ CanWrite 12 ∷ Noted (Loaded (codes "http://s/b") (codes "\"y\"") 9000 0) ∷ Said 12 4096 text58 ∷ wait true (12 ∷ []) (12 ∷ []) ∷ CanWrite 12 ∷ Noted (Loaded (codes "http://s/b") (codes "\"y\"") 9000 1) ∷ Said 12 4096 text59 ∷ wait true (12 ∷ []) (12 ∷ []) ∷ CanWrite 12 ∷ Noted (Loaded (codes "http://s/b") (codes "\"y\"") 9000 2) ∷ Said 12 808 text26 ∷ Shut 12 ∷ wait true [] [] ∷ Opened 13 ∷ wait true (13 ∷ []) [] ∷ CanRead 13 ∷ Heard 13 (codes "GE") ∷ wait true (13 ∷ []) [] ∷ CanRead 13 ∷ Heard 13 text207 ∷ wait true (13 ∷ []) [] ∷ CanRead 13 ∷ Heard 13 text208 ∷ wait true (13 ∷ []) [] ∷ CanRead 13 ∷ Heard 13 (codes " s\r") ∷ wait true (13 ∷ []) [] ∷ CanRead 13 ∷ Heard 13 (codes "\n\r") ∷ wait true (13 ∷ []) [] ∷ CanRead 13 ∷ Heard 13 (codes "\n") ∷ Noted (Taken 13 0 (Hit 0 9000)) ∷ wait true (13 ∷ []) (13 ∷ []) ∷ CanWrite 13 ∷ Said 13 9170 text209 ∷ wait true (13 ∷ []) [] ∷ Opened 14 ∷ wait true (13 ∷ 14 ∷ []) [] ∷ CanRead 14 ∷ Heard 14 text46 ∷ wait true (13 ∷ 14 ∷ []) [] ∷ CanRead 14 ∷ Heard 14 (codes "\r") ∷ wait true (13 ∷ 14 ∷ []) [] ∷ CanRead 14 ∷ Heard 14 (codes "\n") ∷ Noted (Taken 14 0 (Hit 5000 6000)) ∷ wait true (13 ∷ 14 ∷ []) (14 ∷ []) ∷ CanWrite 14 ∷ Said 14 1220 text210 ∷ wait true (13 ∷ 14 ∷ []) [] ∷ Clock 784113793 ∷ wait true (13 ∷ 14 ∷ []) [] ∷ Opened 15 ∷ wait true (13 ∷ 14 ∷ 15 ∷ []) [] ∷ CanRead 15 ∷ Heard 15 text211 ∷ wait true (13 ∷ 14 ∷ 15 ∷ []) [] ∷ CanRead 15 ∷ Heard 15 text212 ∷ wait true (13 ∷ 14 ∷ 15 ∷ []) [] ∷ CanRead 15 ∷ HungUp 15 ∷ Shut 15 ∷ wait true (13 ∷ 14 ∷ []) [] ∷ Opened 16 ∷ wait true (13 ∷ 14 ∷ 16 ∷ []) [] ∷ CanRead 16 ∷ Heard 16 text5 ∷ Noted (Taken 16 0 Pass) ∷ Dialled 17 (codes "t") 80 ∷ wait true (13 ∷ 14 ∷ 16 ∷ []) [] ∷ Reached 17 ∷ wait true (13 ∷ 14 ∷ 16 ∷ 17 ∷ []) (17 ∷ []) ∷ CanWrite 17 ∷ Broke 17 ∷ Dropped 17 ∷ Dialled 18 (codes "t") 80 ∷ wait true (13 ∷ 14 ∷ 16 ∷ []) [] ∷ Reached 18 ∷ wait true (13 ∷ 14 ∷ 16 ∷ 18 ∷ []) (18 ∷ []) ∷ CanWrite 18 ∷ Asked 18 text213 ∷ wait true (13 ∷ 14 ∷ 16 ∷ 18 ∷ []) [] ∷ CanRead 18 ∷ Got 18 text114 ∷ wait true (13 ∷ 14 ∷ 16 ∷ 18 ∷ []) (16 ∷ []) ∷ CanWrite 16 ∷ Said 16 20123 text214 ∷ wait true (13 ∷ 14 ∷ 16 ∷ 18 ∷ []) [] ∷ Opened 19 ∷ wait true (13 ∷ 14 ∷ 16 ∷ 19 ∷ 18 ∷ []) [] ∷ CanRead 19 ∷ Heard 19 text50 ∷ Noted (Taken 19 0 (Hit 1 4)) ∷ wait true (13 ∷ 14 ∷ 16 ∷ 19 ∷ 18 ∷ []) (19 ∷ []) ∷ CanWrite 19 ∷ Said 19 208 text215 ∷ wait true (13 ∷ 14 ∷ 16 ∷ 19 ∷ 18 ∷ []) (19 ∷ []) ∷ CanWrite 19 ∷ Noted (Loaded (codes "http://s/a") (codes "\"x\"") 5 0) ∷ Said 19 3 (codes "aaa") ∷ wait true (13 ∷ 14 ∷ 16 ∷ 19 ∷ 18 ∷ []) [] ∷ Clock 784113819 ∷ wait true (13 ∷ 14 ∷ 16 ∷ 19 ∷ 18 ∷ []) [] ∷ Opened 20 ∷ wait true (13 ∷ 14 ∷ 16 ∷ 19 ∷ 20 ∷ 18 ∷ []) [] ∷ CanRead 20 ∷ Heard 20 text16 ∷ Noted (Taken 20 0 Pass) ∷ Dialled 21 (codes "s") 80 ∷ wait true (13 ∷ 14 ∷ 16 ∷ 19 ∷ 20 ∷ 18 ∷ []) [] ∷ Reached 21 ∷ wait true (13 ∷ 14 ∷ 16 ∷ 19 ∷ 20 ∷ 18 ∷ 21 ∷ []) (21 ∷ []) ∷ CanWrite 21 ∷ Asked 21 text17 ∷ wait true (13 ∷ 14 ∷ 16 ∷ 19 ∷ 20 ∷ 18 ∷ 21 ∷ []) [] ∷ CanRead 21 ∷ Got 21 text18 ∷ wait true (13 ∷ 14 ∷ 16 ∷ 19 ∷ 20 ∷ 18 ∷ 21 ∷ []) (20 ∷ []) ∷ CanWrite 20 ∷ Said 20 124 text19 ∷ wait true (13 ∷ 14 ∷ 16 ∷ 19 ∷ 20 ∷ 18 ∷ 21 ∷ []) [] ∷ Clock 784113845 ∷ wait true (13 ∷ 14 ∷ 16 ∷ 19 ∷ 20 ∷ 18 ∷ 21 ∷ []) [] ∷ CanRead 13 ∷ HungUp 13 ∷ Shut 13 ∷ wait true (14 ∷ 16 ∷ 19 ∷ 20 ∷ 18 ∷ 21 ∷ []) [] ∷ Clock 784113895 ∷ Dropped 18 ∷ Dropped 21 ∷ wait true (14 ∷ 16 ∷ 19 ∷ 20 ∷ []) [] ∷ Opened 22 ∷ wait true (14 ∷ 16 ∷ 19 ∷ 20 ∷ 22 ∷ []) [] ∷ CanRead 22 ∷ Heard 22 text216 ∷ Noted (Taken 22 0 Pass) ∷ Dialled 23 (codes "h") 80 ∷ wait true (14 ∷ 16 ∷ 19 ∷ 20 ∷ 22 ∷ []) (22 ∷ []) ∷ CanWrite 22 ∷ Said 22 25 text217 ∷ wait true (14 ∷ 16 ∷ 19 ∷ 20 ∷ 22 ∷ []) [] ∷ Opened 24 ∷ wait true (14 ∷ 16 ∷ 19 ∷ 20 ∷ 22 ∷ 24 ∷ []) [] ∷ CanRead 24 ∷ Heard 24 (codes "G") ∷ wait true (14 ∷ 16 ∷ 19 ∷ 20 ∷ 22 ∷ 24 ∷ []) [] ∷ CanRead 24 ∷ Heard 24 (codes "E") ∷ wait true (14 ∷ 16 ∷ 19 ∷ 20 ∷ 22 ∷ 24 ∷ []) [] ∷ CanRead 24 ∷ Heard 24 (codes "T") ∷ wait true (14 ∷ 16 ∷ 19 ∷ 20 ∷ 22 ∷ 24 ∷ []) [] ∷ CanRead 24 ∷ Heard 24 (codes " ") ∷ wait true (14 ∷ 16 ∷ 19 ∷ 20 ∷ 22 ∷ 24 ∷ []) [] ∷ CanRead 24 ∷ Heard 24 (codes "h") ∷ wait true (14 ∷ 16 ∷ 19 ∷ 20 ∷ 22 ∷ 24 ∷ []) [] ∷ CanRead 24 ∷ Heard 24 (codes "t") ∷ wait true (14 ∷ 16 ∷ 19 ∷ 20 ∷ 22 ∷ 24 ∷ []) [] ∷ CanRead 24 ∷ Heard 24 (codes "t") ∷ wait true (14 ∷ 16 ∷ 19 ∷ 20 ∷ 22 ∷ 24 ∷ []) [] ∷ CanRead 24 ∷ Heard 24 (codes "p") ∷ wait true (14 ∷ 16 ∷ 19 ∷ 20 ∷ 22 ∷ 24 ∷ []) [] ∷ CanRead 24 ∷ Heard 24 (codes ":") ∷ wait true (14 ∷ 16 ∷ 19 ∷ 20 ∷ 22 ∷ 24 ∷ []) [] ∷ CanRead 24 ∷ Heard 24 (codes "/") ∷ wait true (14 ∷ 16 ∷ 19 ∷ 20 ∷ 22 ∷ 24 ∷ []) [] ∷ CanRead 24 ∷ Heard 24 (codes "/") ∷ wait true (14 ∷ 16 ∷ 19 ∷ 20 ∷ 22 ∷ 24 ∷ []) [] ∷ CanRead 24 ∷ Heard 24 (codes "s") ∷ wait true (14 ∷ 16 ∷ 19 ∷ 20 ∷ 22 ∷ 24 ∷ []) [] ∷ CanRead 24 ∷ Heard 24 (codes "/") ∷ wait true (14 ∷ 16 ∷ 19 ∷ 20 ∷ 22 ∷ 24 ∷ []) [] ∷ CanRead 24 ∷ Heard 24 (codes "b") ∷ wait true (14 ∷ 16 ∷ 19 ∷ 20 ∷ 22 ∷ 24 ∷ []) [] ∷ CanRead 24 ∷ Heard 24 (codes " ") ∷ wait true (14 ∷ 16 ∷ 19 ∷ 20 ∷ 22 ∷ 24 ∷ []) [] ∷ CanRead 24 ∷ Heard 24 (codes "H") ∷ wait true (14 ∷ 16 ∷ 19 ∷ 20 ∷ 22 ∷ 24 ∷ []) [] ∷ CanRead 24 ∷ Heard 24 (codes "T") ∷ wait true (14 ∷ 16 ∷ 19 ∷ 20 ∷ 22 ∷ 24 ∷ []) [] ∷ CanRead 24 ∷ Heard 24 (codes "T") ∷ wait true (14 ∷ 16 ∷ 19 ∷ 20 ∷ 22 ∷ 24 ∷ []) [] ∷ CanRead 24 ∷ Heard 24 (codes "P") ∷ wait true (14 ∷ 16 ∷ 19 ∷ 20 ∷ 22 ∷ 24 ∷ []) [] ∷ CanRead 24 ∷ Heard 24 (codes "/") ∷ wait true (14 ∷ 16 ∷ 19 ∷ 20 ∷ 22 ∷ 24 ∷ []) [] ∷ CanRead 24 ∷ Heard 24 (codes "1") ∷ wait true (14 ∷ 16 ∷ 19 ∷ 20 ∷ 22 ∷ 24 ∷ []) [] ∷ CanRead 24 ∷ Heard 24 (codes ".") ∷ wait true (14 ∷ 16 ∷ 19 ∷ 20 ∷ 22 ∷ 24 ∷ []) [] ∷ CanRead 24 ∷ Heard 24 (codes "1") ∷ wait true (14 ∷ 16 ∷ 19 ∷ 20 ∷ 22 ∷ 24 ∷ []) [] ∷ CanRead 24 ∷ Heard 24 (codes "\r") ∷ wait true (14 ∷ 16 ∷ 19 ∷ 20 ∷ 22 ∷ 24 ∷ []) [] ∷ CanRead 24 ∷ Heard 24 (codes "\n") ∷ wait true (14 ∷ 16 ∷ 19 ∷ 20 ∷ 22 ∷ 24 ∷ []) [] ∷ CanRead 24 ∷ Heard 24 (codes "H") ∷ wait true (14 ∷ 16 ∷ 19 ∷ 20 ∷ 22 ∷ 24 ∷ []) [] ∷ CanRead 24 ∷ Heard 24 (codes "o") ∷ wait true (14 ∷ 16 ∷ 19 ∷ 20 ∷ 22 ∷ 24 ∷ []) [] ∷ CanRead 24 ∷ Heard 24 (codes "s") ∷ wait true (14 ∷ 16 ∷ 19 ∷ 20 ∷ 22 ∷ 24 ∷ []) [] ∷ CanRead 24 ∷ Heard 24 (codes "t") ∷ wait true (14 ∷ 16 ∷ 19 ∷ 20 ∷ 22 ∷ 24 ∷ []) [] ∷ CanRead 24 ∷ Heard 24 (codes ":") ∷ wait true (14 ∷ 16 ∷ 19 ∷ 20 ∷ 22 ∷ 24 ∷ []) [] ∷ CanRead 24 ∷ Heard 24 (codes " ") ∷ wait true (14 ∷ 16 ∷ 19 ∷ 20 ∷ 22 ∷ 24 ∷ []) [] ∷ CanRead 24 ∷ Heard 24 (codes "s") ∷ wait true (14 ∷ 16 ∷ 19 ∷ 20 ∷ 22 ∷ 24 ∷ []) [] ∷ CanRead 24 ∷ Heard 24 (codes "\r") ∷ wait true (14 ∷ 16 ∷ 19 ∷ 20 ∷ 22 ∷ 24 ∷ []) [] ∷ CanRead 24 ∷ Heard 24 (codes "\n") ∷ wait true (14 ∷ 16 ∷ 19 ∷ 20 ∷ 22 ∷ 24 ∷ []) [] ∷ CanRead 24 ∷ Heard 24 (codes "\r") ∷ wait true (14 ∷ 16 ∷ 19 ∷ 20 ∷ 22 ∷ 24 ∷ []) [] ∷ CanRead 24 ∷ Heard 24 (codes "\n") ∷ Noted (Taken 24 0 (Hit 0 9000)) ∷ wait true (14 ∷ 16 ∷ 19 ∷ 20 ∷ 22 ∷ 24 ∷ []) (24 ∷ []) ∷ CanWrite 24 ∷ Said 24 9170 text218 ∷ wait true (14 ∷ 16 ∷ 19 ∷ 20 ∷ 22 ∷ 24 ∷ []) [] ∷ Opened 25 ∷ wait true (14 ∷ 16 ∷ 19 ∷ 20 ∷ 22 ∷ 24 ∷ 25 ∷ []) [] ∷ CanRead 25 ∷ Heard 25 text219 ∷ wait true (14 ∷ 16 ∷ 19 ∷ 20 ∷ 22 ∷ 24 ∷ 25 ∷ []) [] ∷ CanRead 25 ∷ Heard 25 (codes "c") ∷ wait true (14 ∷ 16 ∷ 19 ∷ 20 ∷ 22 ∷ 24 ∷ 25 ∷ []) [] ∷ CanRead 25 ∷ Heard 25 (codes "lo") ∷ wait true (14 ∷ 16 ∷ 19 ∷ 20 ∷ 22 ∷ 24 ∷ 25 ∷ []) [] ∷ CanRead 25 ∷ Heard 25 (codes "se") ∷ wait true (14 ∷ 16 ∷ 19 ∷ 20 ∷ 22 ∷ 24 ∷ 25 ∷ []) [] ∷ CanRead 25 ∷ Heard 25 (codes "\r\n\r") ∷ wait true (14 ∷ 16 ∷ 19 ∷ 20 ∷ 22 ∷ 24 ∷ 25 ∷ []) [] ∷ CanRead 25 ∷ Heard 25 (codes "\n") ∷ Noted (Taken 25 0 (Hit 0 5)) ∷ wait true (14 ∷ 16 ∷ 19 ∷ 20 ∷ 22 ∷ 24 ∷ 25 ∷ []) (25 ∷ []) ∷ CanWrite 25 ∷ Said 25 167 text220 ∷ Shut 25 ∷ wait true (14 ∷ 16 ∷ 19 ∷ 20 ∷ 22 ∷ 24 ∷ []) [] ∷ CanRead 16 ∷ Heard 16 text41 ∷ Noted (Taken 16 1 Pass) ∷ Dialled 26 (codes "h") 80 ∷ wait true (14 ∷ 16 ∷ 19 ∷ 20 ∷ 22 ∷ 24 ∷ []) [] ∷ Opened 27 ∷ wait true (14 ∷ 16 ∷ 19 ∷ 20 ∷ 22 ∷ 24 ∷ 27 ∷ []) [] ∷ CanRead 27 ∷ Heard 27 text221 ∷ Noted (Taken 27 0 (Hit 0 9000)) ∷ wait true (14 ∷ 16 ∷ 19 ∷ 20 ∷ 22 ∷ 24 ∷ 27 ∷ []) (27 ∷ []) ∷ CanWrite 27 ∷ Said 27 9170 text218 ∷ wait true (14 ∷ 16 ∷ 19 ∷ 20 ∷ 22 ∷ 24 ∷ 27 ∷ []) [] ∷ Opened 28 ∷ wait true (14 ∷ 16 ∷ 19 ∷ 20 ∷ 22 ∷ 24 ∷ 27 ∷ 28 ∷ []) [] ∷ CanRead 28 ∷ Heard 28 text147 ∷ wait true (14 ∷ 16 ∷ 19 ∷ 20 ∷ 22 ∷ 24 ∷ 27 ∷ 28 ∷ []) [] ∷ CanRead 28 ∷ Heard 28 (codes "se\r\n\r") ∷ wait true (14 ∷ 16 ∷ 19 ∷ 20 ∷ 22 ∷ 24 ∷ 27 ∷ 28 ∷ []) [] ∷ CanRead 28 ∷ Heard 28 (codes "\n") ∷ Noted (Taken 28 0 (Hit 0 5)) ∷ wait true (14 ∷ 16 ∷ 19 ∷ 20 ∷ 22 ∷ 24 ∷ 27 ∷ 28 ∷ []) (28 ∷ []) ∷ CanWrite 28 ∷ Said 28 167 text220 ∷ Shut 28 ∷ wait true (14 ∷ 16 ∷ 19 ∷ 20 ∷ 22 ∷ 24 ∷ 27 ∷ []) [] ∷ Clock 784113949 ∷ Noted (Cut 14 Idle) ∷ Noted (Cut 19 Idle) ∷ Noted (Cut 20 Idle) ∷ Shut 14 ∷ Shut 19 ∷ Shut 20 ∷ wait true (16 ∷ 22 ∷ 24 ∷ 27 ∷ []) [] ∷ Clock 784113962 ∷ Noted (Taken 16 1 (Refuse 502)) ∷ Noted (Taken 22 0 (Refuse 502)) ∷ Dropped 23 ∷ Dropped 26 ∷ wait true (16 ∷ 22 ∷ 24 ∷ 27 ∷ []) (16 ∷ 22 ∷ []) ∷ CanWrite 16 ∷ Said 16 114 text71 ∷ wait true (16 ∷ 22 ∷ 24 ∷ 27 ∷ []) (22 ∷ []) ∷ CanWrite 22 ∷ Said 22 114 text71 ∷ wait true (16 ∷ 22 ∷ 24 ∷ 27 ∷ []) [] ∷ Clock 784114031 ∷ Noted (Cut 24 Idle) ∷ Noted (Cut 27 Idle) ∷ Shut 24 ∷ Shut 27 ∷ wait true (16 ∷ 22 ∷ []) [] ∷ Opened 29 ∷ wait true (16 ∷ 22 ∷ 29 ∷ []) [] ∷ CanRead 29 ∷ Heard 29 text66 ∷ Noted (Taken 29 0 (Hit 5000 6000)) ∷ wait true (16 ∷ 22 ∷ 29 ∷ []) (29 ∷ []) ∷ CanWrite 29 ∷ Said 29 1220 text222 ∷ wait true (16 ∷ 22 ∷ 29 ∷ []) [] ∷ Opened 30 ∷ wait true (16 ∷ 22 ∷ 29 ∷ 30 ∷ []) [] ∷ CanRead 30 ∷ Heard 30 (codes "GET http://") ∷ wait true (16 ∷ 22 ∷ 29 ∷ 30 ∷ []) [] ∷ CanRead 30 ∷ Heard 30 (codes "s/b HTTP/") ∷ wait true (16 ∷ 22 ∷ 29 ∷ 30 ∷ []) [] ∷ CanRead 30 ∷ Heard 30 (codes "1.0") ∷ wait true (16 ∷ 22 ∷ 29 ∷ 30 ∷ []) [] ∷ CanRead 30 ∷ Heard 30 (codes "\r\n\r") ∷ wait true (16 ∷ 22 ∷ 29 ∷ 30 ∷ []) [] ∷ CanRead 30 ∷ Heard 30 (codes "\n") ∷ Noted (Taken 30 0 (Hit 0 9000)) ∷ wait true (16 ∷ 22 ∷ 29 ∷ 30 ∷ []) (30 ∷ []) ∷ CanWrite 30 ∷ Said 30 9165 text223 ∷ Shut 30 ∷ wait true (16 ∷ 22 ∷ 29 ∷ []) [] ∷ Clock 784114088 ∷ Noted (Cut 16 Idle) ∷ Noted (Cut 22 Idle) ∷ Shut 16 ∷ Shut 22 ∷ wait true (29 ∷ []) [] ∷ Clock 784114089 ∷ wait true (29 ∷ []) [] ∷ Stopped ∷ Shut 29 ∷ []) ≡ None
+row2603x0 : (s : State) × (arrived s ≡ judge 0 (start (record { words = text182 ∷ []; faults = 0 } ∷ record { words = []; faults = 1 } ∷ record { words = []; faults = 2 } ∷ [])) (Woke [] ∷ Rooted text0 ∷ Listed true ∷ Listens 8123 true ∷ wait true [] [] ∷ Clock 784111777 ∷ wait true [] [] ∷ Opened 1 ∷ wait true (1 ∷ []) [] ∷ CanRead 1 ∷ Heard 1 text117 ∷ Noted (Taken 1 0 Pass) ∷ Dialled 2 (codes "s") 80 ∷ wait true (1 ∷ []) [] ∷ Reached 2 ∷ wait true (1 ∷ 2 ∷ []) (2 ∷ []) ∷ CanWrite 2 ∷ Asked 2 text183 ∷ wait true (1 ∷ 2 ∷ []) [] ∷ CanRead 2 ∷ Got 2 text166 ∷ wait true (1 ∷ 2 ∷ []) (1 ∷ []) ∷ CanWrite 1 ∷ Said 1 86 text167 ∷ wait true (1 ∷ 2 ∷ []) [] ∷ Clock 784111800 ∷ wait true (1 ∷ 2 ∷ []) [] ∷ CanRead 1 ∷ Heard 1 text123 ∷ Noted (Taken 1 1 Fetch) ∷ wait true (1 ∷ 2 ∷ []) (2 ∷ []) ∷ CanWrite 2 ∷ Asked 2 text170 ∷ wait true (1 ∷ 2 ∷ []) [] ∷ CanRead 2 ∷ Got 2 text171 ∷ Noted (Taken 1 1 (Hit 0 100)) ∷ wait true (1 ∷ 2 ∷ []) (1 ∷ []) ∷ CanWrite 1 ∷ Said 1 303 text184 ∷ wait true (1 ∷ 2 ∷ []) [] ∷ Reached 2 ∷ wait true (1 ∷ 2 ∷ []) [] ∷ Opened 3 ∷ wait true (1 ∷ 3 ∷ 2 ∷ []) [] ∷ CanRead 3 ∷ Heard 3 (codes "GE") ∷ wait true (1 ∷ 3 ∷ 2 ∷ []) [] ∷ CanRead 3 ∷ Heard 3 text185 ∷ wait true (1 ∷ 3 ∷ 2 ∷ []) [] ∷ CanRead 3 ∷ Heard 3 (codes " H") ∷ wait true (1 ∷ 3 ∷ 2 ∷ []) [] ∷ CanRead 3 ∷ Heard 3 (codes "TTP/1.0") ∷ wait true (1 ∷ 3 ∷ 2 ∷ []) [] ∷ CanRead 3 ∷ Heard 3 (codes "\r\n\r\n") ∷ Noted (Taken 3 0 (Part 0 9000)) ∷ wait true (1 ∷ 3 ∷ 2 ∷ []) (3 ∷ []) ∷ CanWrite 3 ∷ Said 3 262 text186 ∷ wait true (1 ∷ 3 ∷ 2 ∷ []) (2 ∷ []) ∷ CanWrite 2 ∷ Asked 2 text187 ∷ wait true (1 ∷ 3 ∷ 2 ∷ []) [] ∷ CanRead 2 ∷ Got 2 text188 ∷ Began (Draft text189) ∷ Did (Draft text189) true ∷ Began SyncDraft ∷ Did SyncDraft true ∷ Began (Publish text24) ∷ Did (Publish text24) true ∷ Noted (Kept (codes "http://s/b") (codes "\"y\"") 9000 9000) ∷ wait true (1 ∷ 3 ∷ 2 ∷ []) (3 ∷ []) ∷ CanWrite 3 ∷ Said 3 8900 text190 ∷ Shut 3 ∷ wait true (1 ∷ 2 ∷ []) [] ∷ CanRead 1 ∷ Heard 1 text117 ∷ Noted (Taken 1 2 Head) ∷ wait true (1 ∷ 2 ∷ []) (1 ∷ []) ∷ CanWrite 1 ∷ Said 1 167 text191 ∷ wait true (1 ∷ 2 ∷ []) [] ∷ Clock 784111826 ∷ wait true (1 ∷ 2 ∷ []) [] ∷ Opened 4 ∷ wait true (1 ∷ 4 ∷ 2 ∷ []) [] ∷ CanRead 4 ∷ Heard 4 text7 ∷ Noted (Taken 4 0 Fetch) ∷ wait true (1 ∷ 4 ∷ 2 ∷ []) (2 ∷ []) ∷ CanWrite 2 ∷ Asked 2 text8 ∷ wait true (1 ∷ 4 ∷ 2 ∷ []) [] ∷ CanRead 2 ∷ Got 2 text9 ∷ Noted (Taken 4 0 (Hit 0 0)) ∷ wait true (1 ∷ 4 ∷ 2 ∷ []) (4 ∷ []) ∷ CanWrite 4 ∷ Said 4 156 text192 ∷ wait true (1 ∷ 4 ∷ 2 ∷ []) [] ∷ CanRead 4 ∷ Heard 4 (codes "G") ∷ wait true (1 ∷ 4 ∷ 2 ∷ []) [] ∷ CanRead 4 ∷ Heard 4 text193 ∷ wait true (1 ∷ 4 ∷ 2 ∷ []) [] ∷ CanRead 4 ∷ Heard 4 (codes "he-Contro") ∷ wait true (1 ∷ 4 ∷ 2 ∷ []) [] ∷ CanRead 4 ∷ Heard 4 (codes "l: only-if-") ∷ wait true (1 ∷ 4 ∷ 2 ∷ []) [] ∷ CanRead 4 ∷ Heard 4 (codes "cached\r\n\r\n") ∷ Noted (Taken 4 1 (Refuse 504)) ∷ wait true (1 ∷ 4 ∷ 2 ∷ []) (4 ∷ []) ∷ CanWrite 4 ∷ Said 4 122 text194 ∷ wait true (1 ∷ 4 ∷ 2 ∷ []) [] ∷ Clock 784111827 ∷ wait true (1 ∷ 4 ∷ 2 ∷ []) [] ∷ Stopped ∷ Shut 1 ∷ Shut 4 ∷ Dropped 2 ∷ Woke ((text24, text189) ∷ []) ∷ Rooted text0 ∷ Listed true ∷ Listens 8123 true ∷ wait true [] [] ∷ Clock 784112777 ∷ wait true [] [] ∷ Clock 784112780 ∷ wait true [] [] ∷ Opened 5 ∷ wait true (5 ∷ []) [] ∷ CanRead 5 ∷ Heard 5 text195 ∷ Noted (Taken 5 0 Fetch) ∷ Dialled 6 (codes "s") 80 ∷ wait true (5 ∷ []) [] ∷ Reached 6 ∷ wait true (5 ∷ 6 ∷ []) (6 ∷ []) ∷ CanWrite 6 ∷ Asked 6 text31 ∷ wait true (5 ∷ 6 ∷ []) [] ∷ CanRead 6 ∷ Got 6 text18 ∷ Began (Draft text196) ∷ Did (Draft text196) true ∷ Began SyncDraft ∷ Did SyncDraft true ∷ Began (Publish text33) ∷ Did (Publish text33) true ∷ Noted (Kept (codes "http://s/a") (codes "\"x\"") 5 5) ∷ Noted (Taken 5 0 (Hit 0 5)) ∷ wait true (5 ∷ 6 ∷ []) (5 ∷ []) ∷ CanWrite 5 ∷ Said 5 156 text197 ∷ Shut 5 ∷ wait true (6 ∷ []) [] ∷ Reached 6 ∷ wait true (6 ∷ []) [] ∷ Opened 7 ∷ wait true (7 ∷ 6 ∷ []) [] ∷ CanRead 7 ∷ Heard 7 text123 ∷ Noted (Taken 7 0 (Hit 0 100)) ∷ wait true (7 ∷ 6 ∷ []) (7 ∷ []) ∷ CanWrite 7 ∷ Said 7 213 text198 ∷ wait true (7 ∷ 6 ∷ []) (7 ∷ []) ∷ CanWrite 7 ∷ Noted (Loaded (codes "http://s/b") (codes "\"y\"") 9000 0) ∷ Said 7 100 text81 ∷ wait true (7 ∷ 6 ∷ []) [] ∷ Opened 8 ∷ wait true (7 ∷ 8 ∷ 6 ∷ []) [] ∷ CanRead 8 ∷ Heard 8 text199 ∷ wait true (7 ∷ 8 ∷ 6 ∷ []) [] ∷ CanRead 8 ∷ Heard 8 (codes "ontrol") ∷ wait true (7 ∷ 8 ∷ 6 ∷ []) [] ∷ CanRead 8 ∷ Heard 8 text200 ∷ Noted (Taken 8 0 Pass) ∷ wait true (7 ∷ 8 ∷ 6 ∷ []) (6 ∷ []) ∷ CanWrite 6 ∷ Asked 6 text17 ∷ wait true (7 ∷ 8 ∷ 6 ∷ []) [] ∷ CanRead 6 ∷ Got 6 text18 ∷ wait true (7 ∷ 8 ∷ 6 ∷ []) (8 ∷ []) ∷ CanWrite 8 ∷ Said 8 124 text19 ∷ wait true (7 ∷ 8 ∷ 6 ∷ []) [] ∷ Opened 9 ∷ wait true (7 ∷ 8 ∷ 9 ∷ 6 ∷ []) [] ∷ CanRead 9 ∷ Heard 9 (codes "HEA") ∷ wait true (7 ∷ 8 ∷ 9 ∷ 6 ∷ []) [] ∷ CanRead 9 ∷ Heard 9 text201 ∷ wait true (7 ∷ 8 ∷ 9 ∷ 6 ∷ []) [] ∷ CanRead 9 ∷ Heard 9 (codes "P/") ∷ wait true (7 ∷ 8 ∷ 9 ∷ 6 ∷ []) [] ∷ CanRead 9 ∷ Heard 9 text202 ∷ Noted (Taken 9 0 Head) ∷ wait true (7 ∷ 8 ∷ 9 ∷ 6 ∷ []) (9 ∷ []) ∷ CanWrite 9 ∷ Said 9 169 text203 ∷ wait true (7 ∷ 8 ∷ 9 ∷ 6 ∷ []) [] ∷ Clock 784112829 ∷ wait true (7 ∷ 8 ∷ 9 ∷ 6 ∷ []) [] ∷ Reached 6 ∷ wait true (7 ∷ 8 ∷ 9 ∷ 6 ∷ []) [] ∷ Opened 10 ∷ wait true (7 ∷ 8 ∷ 9 ∷ 10 ∷ 6 ∷ []) [] ∷ CanRead 10 ∷ Heard 10 text204 ∷ wait true (7 ∷ 8 ∷ 9 ∷ 10 ∷ 6 ∷ []) [] ∷ CanRead 10 ∷ Heard 10 (codes "Host: h\r\n\r\n") ∷ Noted (Taken 10 0 (Refuse 400)) ∷ wait true (7 ∷ 8 ∷ 9 ∷ 10 ∷ 6 ∷ []) (10 ∷ []) ∷ CanWrite 10 ∷ Said 10 109 text29 ∷ Shut 10 ∷ wait true (7 ∷ 8 ∷ 9 ∷ 6 ∷ []) [] ∷ Opened 11 ∷ wait true (7 ∷ 8 ∷ 9 ∷ 11 ∷ 6 ∷ []) [] ∷ []))
 unfolding judging
+row2603x0 = (_, refl)
+
+row2603x1 : (s : State) × (arrived s ≡ judge 240 row2603x0.0 (CanRead 11 ∷ Heard 11 text30 ∷ Noted (Taken 11 0 (Hit 0 5)) ∷ wait true (7 ∷ 8 ∷ 9 ∷ 11 ∷ 6 ∷ []) (11 ∷ []) ∷ CanWrite 11 ∷ Said 11 170 text205 ∷ wait true (7 ∷ 8 ∷ 9 ∷ 11 ∷ 6 ∷ []) [] ∷ Clock 784112830 ∷ wait true (7 ∷ 8 ∷ 9 ∷ 11 ∷ 6 ∷ []) [] ∷ Stopped ∷ Shut 7 ∷ Shut 8 ∷ Shut 9 ∷ Shut 11 ∷ Dropped 6 ∷ Woke ((text24, text189) ∷ (text33, text196) ∷ []) ∷ Rooted text0 ∷ Listed true ∷ Listens 8123 true ∷ wait true [] [] ∷ Clock 784113777 ∷ wait true [] [] ∷ Opened 12 ∷ wait true (12 ∷ []) [] ∷ CanRead 12 ∷ Heard 12 text20 ∷ Noted (Taken 12 0 (Hit 0 9000)) ∷ wait true (12 ∷ []) (12 ∷ []) ∷ CanWrite 12 ∷ Said 12 165 text206 ∷ wait true (12 ∷ []) (12 ∷ []) ∷ CanWrite 12 ∷ Noted (Loaded (codes "http://s/b") (codes "\"y\"") 9000 0) ∷ Said 12 4096 text58 ∷ wait true (12 ∷ []) (12 ∷ []) ∷ CanWrite 12 ∷ Noted (Loaded (codes "http://s/b") (codes "\"y\"") 9000 1) ∷ Said 12 4096 text59 ∷ wait true (12 ∷ []) (12 ∷ []) ∷ CanWrite 12 ∷ Noted (Loaded (codes "http://s/b") (codes "\"y\"") 9000 2) ∷ Said 12 808 text26 ∷ Shut 12 ∷ wait true [] [] ∷ Opened 13 ∷ wait true (13 ∷ []) [] ∷ CanRead 13 ∷ Heard 13 (codes "GE") ∷ wait true (13 ∷ []) [] ∷ CanRead 13 ∷ Heard 13 text207 ∷ wait true (13 ∷ []) [] ∷ CanRead 13 ∷ Heard 13 text208 ∷ wait true (13 ∷ []) [] ∷ CanRead 13 ∷ Heard 13 (codes " s\r") ∷ wait true (13 ∷ []) [] ∷ CanRead 13 ∷ Heard 13 (codes "\n\r") ∷ wait true (13 ∷ []) [] ∷ CanRead 13 ∷ Heard 13 (codes "\n") ∷ Noted (Taken 13 0 (Hit 0 9000)) ∷ wait true (13 ∷ []) (13 ∷ []) ∷ CanWrite 13 ∷ Said 13 9170 text209 ∷ wait true (13 ∷ []) [] ∷ Opened 14 ∷ wait true (13 ∷ 14 ∷ []) [] ∷ CanRead 14 ∷ Heard 14 text46 ∷ wait true (13 ∷ 14 ∷ []) [] ∷ CanRead 14 ∷ Heard 14 (codes "\r") ∷ wait true (13 ∷ 14 ∷ []) [] ∷ CanRead 14 ∷ Heard 14 (codes "\n") ∷ Noted (Taken 14 0 (Hit 5000 6000)) ∷ wait true (13 ∷ 14 ∷ []) (14 ∷ []) ∷ CanWrite 14 ∷ Said 14 1220 text210 ∷ wait true (13 ∷ 14 ∷ []) [] ∷ Clock 784113793 ∷ wait true (13 ∷ 14 ∷ []) [] ∷ Opened 15 ∷ wait true (13 ∷ 14 ∷ 15 ∷ []) [] ∷ CanRead 15 ∷ Heard 15 text211 ∷ wait true (13 ∷ 14 ∷ 15 ∷ []) [] ∷ CanRead 15 ∷ Heard 15 text212 ∷ wait true (13 ∷ 14 ∷ 15 ∷ []) [] ∷ CanRead 15 ∷ HungUp 15 ∷ Shut 15 ∷ wait true (13 ∷ 14 ∷ []) [] ∷ Opened 16 ∷ wait true (13 ∷ 14 ∷ 16 ∷ []) [] ∷ CanRead 16 ∷ Heard 16 text5 ∷ Noted (Taken 16 0 Pass) ∷ Dialled 17 (codes "t") 80 ∷ wait true (13 ∷ 14 ∷ 16 ∷ []) [] ∷ Reached 17 ∷ wait true (13 ∷ 14 ∷ 16 ∷ 17 ∷ []) (17 ∷ []) ∷ CanWrite 17 ∷ Broke 17 ∷ Dropped 17 ∷ Dialled 18 (codes "t") 80 ∷ wait true (13 ∷ 14 ∷ 16 ∷ []) [] ∷ Reached 18 ∷ wait true (13 ∷ 14 ∷ 16 ∷ 18 ∷ []) (18 ∷ []) ∷ CanWrite 18 ∷ Asked 18 text213 ∷ wait true (13 ∷ 14 ∷ 16 ∷ 18 ∷ []) [] ∷ CanRead 18 ∷ Got 18 text114 ∷ wait true (13 ∷ 14 ∷ 16 ∷ 18 ∷ []) (16 ∷ []) ∷ CanWrite 16 ∷ Said 16 20123 text214 ∷ wait true (13 ∷ 14 ∷ 16 ∷ 18 ∷ []) [] ∷ Opened 19 ∷ wait true (13 ∷ 14 ∷ 16 ∷ 19 ∷ 18 ∷ []) [] ∷ CanRead 19 ∷ Heard 19 text50 ∷ Noted (Taken 19 0 (Hit 1 4)) ∷ wait true (13 ∷ 14 ∷ 16 ∷ 19 ∷ 18 ∷ []) (19 ∷ []) ∷ CanWrite 19 ∷ Said 19 208 text215 ∷ wait true (13 ∷ 14 ∷ 16 ∷ 19 ∷ 18 ∷ []) (19 ∷ []) ∷ CanWrite 19 ∷ Noted (Loaded (codes "http://s/a") (codes "\"x\"") 5 0) ∷ Said 19 3 (codes "aaa") ∷ wait true (13 ∷ 14 ∷ 16 ∷ 19 ∷ 18 ∷ []) [] ∷ Clock 784113819 ∷ wait true (13 ∷ 14 ∷ 16 ∷ 19 ∷ 18 ∷ []) [] ∷ Opened 20 ∷ wait true (13 ∷ 14 ∷ 16 ∷ 19 ∷ 20 ∷ 18 ∷ []) [] ∷ CanRead 20 ∷ Heard 20 text16 ∷ Noted (Taken 20 0 Pass) ∷ Dialled 21 (codes "s") 80 ∷ wait true (13 ∷ 14 ∷ 16 ∷ 19 ∷ 20 ∷ 18 ∷ []) [] ∷ Reached 21 ∷ wait true (13 ∷ 14 ∷ 16 ∷ 19 ∷ 20 ∷ 18 ∷ 21 ∷ []) (21 ∷ []) ∷ CanWrite 21 ∷ Asked 21 text17 ∷ wait true (13 ∷ 14 ∷ 16 ∷ 19 ∷ 20 ∷ 18 ∷ 21 ∷ []) [] ∷ CanRead 21 ∷ Got 21 text18 ∷ wait true (13 ∷ 14 ∷ 16 ∷ 19 ∷ 20 ∷ 18 ∷ 21 ∷ []) (20 ∷ []) ∷ CanWrite 20 ∷ Said 20 124 text19 ∷ wait true (13 ∷ 14 ∷ 16 ∷ 19 ∷ 20 ∷ 18 ∷ 21 ∷ []) [] ∷ Clock 784113845 ∷ wait true (13 ∷ 14 ∷ 16 ∷ 19 ∷ 20 ∷ 18 ∷ 21 ∷ []) [] ∷ CanRead 13 ∷ HungUp 13 ∷ Shut 13 ∷ wait true (14 ∷ 16 ∷ 19 ∷ 20 ∷ 18 ∷ 21 ∷ []) [] ∷ Clock 784113895 ∷ Dropped 18 ∷ Dropped 21 ∷ wait true (14 ∷ 16 ∷ 19 ∷ 20 ∷ []) [] ∷ Opened 22 ∷ wait true (14 ∷ 16 ∷ 19 ∷ 20 ∷ 22 ∷ []) [] ∷ CanRead 22 ∷ Heard 22 text216 ∷ Noted (Taken 22 0 Pass) ∷ Dialled 23 (codes "h") 80 ∷ wait true (14 ∷ 16 ∷ 19 ∷ 20 ∷ 22 ∷ []) (22 ∷ []) ∷ CanWrite 22 ∷ Said 22 25 text217 ∷ wait true (14 ∷ 16 ∷ 19 ∷ 20 ∷ 22 ∷ []) [] ∷ Opened 24 ∷ wait true (14 ∷ 16 ∷ 19 ∷ 20 ∷ 22 ∷ 24 ∷ []) [] ∷ CanRead 24 ∷ Heard 24 (codes "G") ∷ wait true (14 ∷ 16 ∷ 19 ∷ 20 ∷ 22 ∷ 24 ∷ []) [] ∷ CanRead 24 ∷ Heard 24 (codes "E") ∷ wait true (14 ∷ 16 ∷ 19 ∷ 20 ∷ 22 ∷ 24 ∷ []) [] ∷ CanRead 24 ∷ Heard 24 (codes "T") ∷ wait true (14 ∷ 16 ∷ 19 ∷ 20 ∷ 22 ∷ 24 ∷ []) [] ∷ CanRead 24 ∷ Heard 24 (codes " ") ∷ wait true (14 ∷ 16 ∷ 19 ∷ 20 ∷ 22 ∷ 24 ∷ []) [] ∷ CanRead 24 ∷ Heard 24 (codes "h") ∷ wait true (14 ∷ 16 ∷ 19 ∷ 20 ∷ 22 ∷ 24 ∷ []) [] ∷ CanRead 24 ∷ Heard 24 (codes "t") ∷ wait true (14 ∷ 16 ∷ 19 ∷ 20 ∷ 22 ∷ 24 ∷ []) [] ∷ CanRead 24 ∷ Heard 24 (codes "t") ∷ wait true (14 ∷ 16 ∷ 19 ∷ 20 ∷ 22 ∷ 24 ∷ []) [] ∷ CanRead 24 ∷ Heard 24 (codes "p") ∷ wait true (14 ∷ 16 ∷ 19 ∷ 20 ∷ 22 ∷ 24 ∷ []) [] ∷ CanRead 24 ∷ Heard 24 (codes ":") ∷ wait true (14 ∷ 16 ∷ 19 ∷ 20 ∷ 22 ∷ 24 ∷ []) [] ∷ CanRead 24 ∷ Heard 24 (codes "/") ∷ wait true (14 ∷ 16 ∷ 19 ∷ 20 ∷ 22 ∷ 24 ∷ []) [] ∷ CanRead 24 ∷ Heard 24 (codes "/") ∷ wait true (14 ∷ 16 ∷ 19 ∷ 20 ∷ 22 ∷ 24 ∷ []) [] ∷ CanRead 24 ∷ Heard 24 (codes "s") ∷ wait true (14 ∷ 16 ∷ 19 ∷ 20 ∷ 22 ∷ 24 ∷ []) [] ∷ CanRead 24 ∷ Heard 24 (codes "/") ∷ wait true (14 ∷ 16 ∷ 19 ∷ 20 ∷ 22 ∷ 24 ∷ []) [] ∷ CanRead 24 ∷ Heard 24 (codes "b") ∷ wait true (14 ∷ 16 ∷ 19 ∷ 20 ∷ 22 ∷ 24 ∷ []) [] ∷ CanRead 24 ∷ Heard 24 (codes " ") ∷ wait true (14 ∷ 16 ∷ 19 ∷ 20 ∷ 22 ∷ 24 ∷ []) [] ∷ CanRead 24 ∷ Heard 24 (codes "H") ∷ wait true (14 ∷ 16 ∷ 19 ∷ 20 ∷ 22 ∷ 24 ∷ []) [] ∷ CanRead 24 ∷ Heard 24 (codes "T") ∷ wait true (14 ∷ 16 ∷ 19 ∷ 20 ∷ 22 ∷ 24 ∷ []) [] ∷ CanRead 24 ∷ Heard 24 (codes "T") ∷ wait true (14 ∷ 16 ∷ 19 ∷ 20 ∷ 22 ∷ 24 ∷ []) [] ∷ CanRead 24 ∷ Heard 24 (codes "P") ∷ wait true (14 ∷ 16 ∷ 19 ∷ 20 ∷ 22 ∷ 24 ∷ []) [] ∷ CanRead 24 ∷ Heard 24 (codes "/") ∷ wait true (14 ∷ 16 ∷ 19 ∷ 20 ∷ 22 ∷ 24 ∷ []) [] ∷ CanRead 24 ∷ Heard 24 (codes "1") ∷ wait true (14 ∷ 16 ∷ 19 ∷ 20 ∷ 22 ∷ 24 ∷ []) [] ∷ []))
+unfolding judging row2603x0
+row2603x1 = (_, refl)
+
+row2603 : fault_from 480 row2603x1.0 (CanRead 24 ∷ Heard 24 (codes ".") ∷ wait true (14 ∷ 16 ∷ 19 ∷ 20 ∷ 22 ∷ 24 ∷ []) [] ∷ CanRead 24 ∷ Heard 24 (codes "1") ∷ wait true (14 ∷ 16 ∷ 19 ∷ 20 ∷ 22 ∷ 24 ∷ []) [] ∷ CanRead 24 ∷ Heard 24 (codes "\r") ∷ wait true (14 ∷ 16 ∷ 19 ∷ 20 ∷ 22 ∷ 24 ∷ []) [] ∷ CanRead 24 ∷ Heard 24 (codes "\n") ∷ wait true (14 ∷ 16 ∷ 19 ∷ 20 ∷ 22 ∷ 24 ∷ []) [] ∷ CanRead 24 ∷ Heard 24 (codes "H") ∷ wait true (14 ∷ 16 ∷ 19 ∷ 20 ∷ 22 ∷ 24 ∷ []) [] ∷ CanRead 24 ∷ Heard 24 (codes "o") ∷ wait true (14 ∷ 16 ∷ 19 ∷ 20 ∷ 22 ∷ 24 ∷ []) [] ∷ CanRead 24 ∷ Heard 24 (codes "s") ∷ wait true (14 ∷ 16 ∷ 19 ∷ 20 ∷ 22 ∷ 24 ∷ []) [] ∷ CanRead 24 ∷ Heard 24 (codes "t") ∷ wait true (14 ∷ 16 ∷ 19 ∷ 20 ∷ 22 ∷ 24 ∷ []) [] ∷ CanRead 24 ∷ Heard 24 (codes ":") ∷ wait true (14 ∷ 16 ∷ 19 ∷ 20 ∷ 22 ∷ 24 ∷ []) [] ∷ CanRead 24 ∷ Heard 24 (codes " ") ∷ wait true (14 ∷ 16 ∷ 19 ∷ 20 ∷ 22 ∷ 24 ∷ []) [] ∷ CanRead 24 ∷ Heard 24 (codes "s") ∷ wait true (14 ∷ 16 ∷ 19 ∷ 20 ∷ 22 ∷ 24 ∷ []) [] ∷ CanRead 24 ∷ Heard 24 (codes "\r") ∷ wait true (14 ∷ 16 ∷ 19 ∷ 20 ∷ 22 ∷ 24 ∷ []) [] ∷ CanRead 24 ∷ Heard 24 (codes "\n") ∷ wait true (14 ∷ 16 ∷ 19 ∷ 20 ∷ 22 ∷ 24 ∷ []) [] ∷ CanRead 24 ∷ Heard 24 (codes "\r") ∷ wait true (14 ∷ 16 ∷ 19 ∷ 20 ∷ 22 ∷ 24 ∷ []) [] ∷ CanRead 24 ∷ Heard 24 (codes "\n") ∷ Noted (Taken 24 0 (Hit 0 9000)) ∷ wait true (14 ∷ 16 ∷ 19 ∷ 20 ∷ 22 ∷ 24 ∷ []) (24 ∷ []) ∷ CanWrite 24 ∷ Said 24 9170 text218 ∷ wait true (14 ∷ 16 ∷ 19 ∷ 20 ∷ 22 ∷ 24 ∷ []) [] ∷ Opened 25 ∷ wait true (14 ∷ 16 ∷ 19 ∷ 20 ∷ 22 ∷ 24 ∷ 25 ∷ []) [] ∷ CanRead 25 ∷ Heard 25 text219 ∷ wait true (14 ∷ 16 ∷ 19 ∷ 20 ∷ 22 ∷ 24 ∷ 25 ∷ []) [] ∷ CanRead 25 ∷ Heard 25 (codes "c") ∷ wait true (14 ∷ 16 ∷ 19 ∷ 20 ∷ 22 ∷ 24 ∷ 25 ∷ []) [] ∷ CanRead 25 ∷ Heard 25 (codes "lo") ∷ wait true (14 ∷ 16 ∷ 19 ∷ 20 ∷ 22 ∷ 24 ∷ 25 ∷ []) [] ∷ CanRead 25 ∷ Heard 25 (codes "se") ∷ wait true (14 ∷ 16 ∷ 19 ∷ 20 ∷ 22 ∷ 24 ∷ 25 ∷ []) [] ∷ CanRead 25 ∷ Heard 25 (codes "\r\n\r") ∷ wait true (14 ∷ 16 ∷ 19 ∷ 20 ∷ 22 ∷ 24 ∷ 25 ∷ []) [] ∷ CanRead 25 ∷ Heard 25 (codes "\n") ∷ Noted (Taken 25 0 (Hit 0 5)) ∷ wait true (14 ∷ 16 ∷ 19 ∷ 20 ∷ 22 ∷ 24 ∷ 25 ∷ []) (25 ∷ []) ∷ CanWrite 25 ∷ Said 25 167 text220 ∷ Shut 25 ∷ wait true (14 ∷ 16 ∷ 19 ∷ 20 ∷ 22 ∷ 24 ∷ []) [] ∷ CanRead 16 ∷ Heard 16 text41 ∷ Noted (Taken 16 1 Pass) ∷ Dialled 26 (codes "h") 80 ∷ wait true (14 ∷ 16 ∷ 19 ∷ 20 ∷ 22 ∷ 24 ∷ []) [] ∷ Opened 27 ∷ wait true (14 ∷ 16 ∷ 19 ∷ 20 ∷ 22 ∷ 24 ∷ 27 ∷ []) [] ∷ CanRead 27 ∷ Heard 27 text221 ∷ Noted (Taken 27 0 (Hit 0 9000)) ∷ wait true (14 ∷ 16 ∷ 19 ∷ 20 ∷ 22 ∷ 24 ∷ 27 ∷ []) (27 ∷ []) ∷ CanWrite 27 ∷ Said 27 9170 text218 ∷ wait true (14 ∷ 16 ∷ 19 ∷ 20 ∷ 22 ∷ 24 ∷ 27 ∷ []) [] ∷ Opened 28 ∷ wait true (14 ∷ 16 ∷ 19 ∷ 20 ∷ 22 ∷ 24 ∷ 27 ∷ 28 ∷ []) [] ∷ CanRead 28 ∷ Heard 28 text147 ∷ wait true (14 ∷ 16 ∷ 19 ∷ 20 ∷ 22 ∷ 24 ∷ 27 ∷ 28 ∷ []) [] ∷ CanRead 28 ∷ Heard 28 (codes "se\r\n\r") ∷ wait true (14 ∷ 16 ∷ 19 ∷ 20 ∷ 22 ∷ 24 ∷ 27 ∷ 28 ∷ []) [] ∷ CanRead 28 ∷ Heard 28 (codes "\n") ∷ Noted (Taken 28 0 (Hit 0 5)) ∷ wait true (14 ∷ 16 ∷ 19 ∷ 20 ∷ 22 ∷ 24 ∷ 27 ∷ 28 ∷ []) (28 ∷ []) ∷ CanWrite 28 ∷ Said 28 167 text220 ∷ Shut 28 ∷ wait true (14 ∷ 16 ∷ 19 ∷ 20 ∷ 22 ∷ 24 ∷ 27 ∷ []) [] ∷ Clock 784113949 ∷ Noted (Cut 14 Idle) ∷ Noted (Cut 19 Idle) ∷ Noted (Cut 20 Idle) ∷ Shut 14 ∷ Shut 19 ∷ Shut 20 ∷ wait true (16 ∷ 22 ∷ 24 ∷ 27 ∷ []) [] ∷ Clock 784113962 ∷ Noted (Taken 16 1 (Refuse 502)) ∷ Noted (Taken 22 0 (Refuse 502)) ∷ Dropped 23 ∷ Dropped 26 ∷ wait true (16 ∷ 22 ∷ 24 ∷ 27 ∷ []) (16 ∷ 22 ∷ []) ∷ CanWrite 16 ∷ Said 16 114 text71 ∷ wait true (16 ∷ 22 ∷ 24 ∷ 27 ∷ []) (22 ∷ []) ∷ CanWrite 22 ∷ Said 22 114 text71 ∷ wait true (16 ∷ 22 ∷ 24 ∷ 27 ∷ []) [] ∷ Clock 784114031 ∷ Noted (Cut 24 Idle) ∷ Noted (Cut 27 Idle) ∷ Shut 24 ∷ Shut 27 ∷ wait true (16 ∷ 22 ∷ []) [] ∷ Opened 29 ∷ wait true (16 ∷ 22 ∷ 29 ∷ []) [] ∷ CanRead 29 ∷ Heard 29 text66 ∷ Noted (Taken 29 0 (Hit 5000 6000)) ∷ wait true (16 ∷ 22 ∷ 29 ∷ []) (29 ∷ []) ∷ CanWrite 29 ∷ Said 29 1220 text222 ∷ wait true (16 ∷ 22 ∷ 29 ∷ []) [] ∷ Opened 30 ∷ wait true (16 ∷ 22 ∷ 29 ∷ 30 ∷ []) [] ∷ CanRead 30 ∷ Heard 30 (codes "GET http://") ∷ wait true (16 ∷ 22 ∷ 29 ∷ 30 ∷ []) [] ∷ CanRead 30 ∷ Heard 30 (codes "s/b HTTP/") ∷ wait true (16 ∷ 22 ∷ 29 ∷ 30 ∷ []) [] ∷ CanRead 30 ∷ Heard 30 (codes "1.0") ∷ wait true (16 ∷ 22 ∷ 29 ∷ 30 ∷ []) [] ∷ CanRead 30 ∷ Heard 30 (codes "\r\n\r") ∷ wait true (16 ∷ 22 ∷ 29 ∷ 30 ∷ []) [] ∷ CanRead 30 ∷ Heard 30 (codes "\n") ∷ Noted (Taken 30 0 (Hit 0 9000)) ∷ wait true (16 ∷ 22 ∷ 29 ∷ 30 ∷ []) (30 ∷ []) ∷ CanWrite 30 ∷ Said 30 9165 text223 ∷ Shut 30 ∷ wait true (16 ∷ 22 ∷ 29 ∷ []) [] ∷ Clock 784114088 ∷ Noted (Cut 16 Idle) ∷ Noted (Cut 22 Idle) ∷ Shut 16 ∷ Shut 22 ∷ wait true (29 ∷ []) [] ∷ Clock 784114089 ∷ wait true (29 ∷ []) [] ∷ Stopped ∷ Shut 29 ∷ []) ≡ None
+unfolding judging row2603x1
 row2603 = refl
 
 row3258 : fault_from 0 (start (record { words = []; faults = 0 } ∷ record { words = []; faults = 3 } ∷ [])) (Woke [] ∷ Rooted text0 ∷ Listed true ∷ Listens 8123 true ∷ wait true [] [] ∷ Clock 784111777 ∷ wait true [] [] ∷ Opened 1 ∷ wait true (1 ∷ []) [] ∷ CanRead 1 ∷ Heard 1 text20 ∷ Noted (Taken 1 0 Fetch) ∷ Dialled 2 (codes "s") 80 ∷ wait true (1 ∷ []) [] ∷ Reached 2 ∷ wait true (1 ∷ 2 ∷ []) (2 ∷ []) ∷ CanWrite 2 ∷ Asked 2 text21 ∷ wait true (1 ∷ 2 ∷ []) [] ∷ CanRead 2 ∷ Got 2 text22 ∷ Began (Draft text224) ∷ Did (Draft text224) true ∷ Began SyncDraft ∷ Did SyncDraft true ∷ Began (Publish text24) ∷ Did (Publish text24) true ∷ Noted (Kept (codes "http://s/b") (codes "\"y\"") 9000 9000) ∷ Noted (Taken 1 0 (Hit 0 9000)) ∷ wait true (1 ∷ 2 ∷ []) (1 ∷ []) ∷ CanWrite 1 ∷ Said 1 9154 text225 ∷ Shut 1 ∷ wait true (2 ∷ []) [] ∷ CanRead 2 ∷ Got 2 text226 ∷ Dropped 2 ∷ wait true [] [] ∷ Clock 784111808 ∷ wait true [] [] ∷ Opened 3 ∷ wait true (3 ∷ []) [] ∷ CanRead 3 ∷ Heard 3 text227 ∷ wait true (3 ∷ []) [] ∷ CanRead 3 ∷ Heard 3 (codes "\n") ∷ wait true (3 ∷ []) [] ∷ CanRead 3 ∷ Heard 3 (codes "A") ∷ wait true (3 ∷ []) [] ∷ Opened 4 ∷ wait true (3 ∷ 4 ∷ []) [] ∷ CanRead 4 ∷ Heard 4 text228 ∷ wait true (3 ∷ 4 ∷ []) [] ∷ CanRead 4 ∷ Heard 4 (codes "st: s\r\n\r") ∷ wait true (3 ∷ 4 ∷ []) [] ∷ CanRead 4 ∷ Heard 4 (codes "\n") ∷ Noted (Taken 4 0 Head) ∷ wait true (3 ∷ 4 ∷ []) (4 ∷ []) ∷ CanWrite 4 ∷ Said 4 168 text229 ∷ wait true (3 ∷ 4 ∷ []) [] ∷ Opened 5 ∷ wait true (3 ∷ 4 ∷ 5 ∷ []) [] ∷ CanRead 5 ∷ Heard 5 text90 ∷ wait true (3 ∷ 4 ∷ 5 ∷ []) [] ∷ CanRead 5 ∷ Heard 5 (codes "\n") ∷ Noted (Taken 5 0 (Hit 5000 6000)) ∷ wait true (3 ∷ 4 ∷ 5 ∷ []) (5 ∷ []) ∷ CanWrite 5 ∷ Said 5 1218 text230 ∷ wait true (3 ∷ 4 ∷ 5 ∷ []) [] ∷ Clock 784111865 ∷ wait true (3 ∷ 4 ∷ 5 ∷ []) [] ∷ Opened 6 ∷ wait true (3 ∷ 4 ∷ 5 ∷ 6 ∷ []) [] ∷ CanRead 6 ∷ Heard 6 (codes "GE") ∷ wait true (3 ∷ 4 ∷ 5 ∷ 6 ∷ []) [] ∷ CanRead 6 ∷ Heard 6 (codes "T http:/") ∷ wait true (3 ∷ 4 ∷ 5 ∷ 6 ∷ []) [] ∷ CanRead 6 ∷ Heard 6 text231 ∷ wait true (3 ∷ 4 ∷ 5 ∷ 6 ∷ []) [] ∷ CanRead 6 ∷ Heard 6 (codes "Hos") ∷ wait true (3 ∷ 4 ∷ 5 ∷ 6 ∷ []) [] ∷ CanRead 6 ∷ Heard 6 (codes "t: s\r\n\r") ∷ wait true (3 ∷ 4 ∷ 5 ∷ 6 ∷ []) [] ∷ CanRead 6 ∷ Heard 6 (codes "\n") ∷ Noted (Taken 6 0 Fetch) ∷ Dialled 7 (codes "s") 80 ∷ wait true (3 ∷ 4 ∷ 5 ∷ 6 ∷ []) [] ∷ Reached 7 ∷ wait true (3 ∷ 4 ∷ 5 ∷ 6 ∷ 7 ∷ []) (7 ∷ []) ∷ CanWrite 7 ∷ Asked 7 text8 ∷ wait true (3 ∷ 4 ∷ 5 ∷ 6 ∷ 7 ∷ []) [] ∷ CanRead 7 ∷ Got 7 text9 ∷ Noted (Taken 6 0 (Hit 0 0)) ∷ wait true (3 ∷ 4 ∷ 5 ∷ 6 ∷ 7 ∷ []) (6 ∷ []) ∷ CanWrite 6 ∷ Said 6 156 text232 ∷ wait true (3 ∷ 4 ∷ 5 ∷ 6 ∷ 7 ∷ []) [] ∷ CanRead 6 ∷ Heard 6 text20 ∷ Noted (Taken 6 1 (Hit 0 9000)) ∷ wait true (3 ∷ 4 ∷ 5 ∷ 6 ∷ 7 ∷ []) (6 ∷ []) ∷ CanWrite 6 ∷ Said 6 9163 text233 ∷ Shut 6 ∷ wait true (3 ∷ 4 ∷ 5 ∷ 7 ∷ []) [] ∷ Opened 8 ∷ wait true (3 ∷ 4 ∷ 5 ∷ 8 ∷ 7 ∷ []) [] ∷ CanRead 8 ∷ Heard 8 text234 ∷ wait true (3 ∷ 4 ∷ 5 ∷ 8 ∷ 7 ∷ []) [] ∷ CanRead 8 ∷ Heard 8 (codes " HT") ∷ wait true (3 ∷ 4 ∷ 5 ∷ 8 ∷ 7 ∷ []) [] ∷ CanRead 8 ∷ Heard 8 text235 ∷ wait true (3 ∷ 4 ∷ 5 ∷ 8 ∷ 7 ∷ []) [] ∷ CanRead 8 ∷ Heard 8 (codes "\r\n\r\n") ∷ Noted (Taken 8 0 (Hit 0 9000)) ∷ wait true (3 ∷ 4 ∷ 5 ∷ 8 ∷ 7 ∷ []) (8 ∷ []) ∷ CanWrite 8 ∷ Said 8 9168 text236 ∷ wait true (3 ∷ 4 ∷ 5 ∷ 8 ∷ 7 ∷ []) [] ∷ CanRead 8 ∷ Heard 8 text237 ∷ wait true (3 ∷ 4 ∷ 5 ∷ 8 ∷ 7 ∷ []) [] ∷ CanRead 8 ∷ Heard 8 (codes "ost: s\r") ∷ wait true (3 ∷ 4 ∷ 5 ∷ 8 ∷ 7 ∷ []) [] ∷ CanRead 8 ∷ Heard 8 (codes "\n\r\n") ∷ Noted (Taken 8 1 Head) ∷ wait true (3 ∷ 4 ∷ 5 ∷ 8 ∷ 7 ∷ []) (8 ∷ []) ∷ CanWrite 8 ∷ Said 8 168 text238 ∷ wait true (3 ∷ 4 ∷ 5 ∷ 8 ∷ 7 ∷ []) [] ∷ Opened 9 ∷ wait true (3 ∷ 4 ∷ 5 ∷ 8 ∷ 9 ∷ 7 ∷ []) [] ∷ CanRead 9 ∷ Heard 9 text239 ∷ Noted (Taken 9 0 Fetch) ∷ Dialled 10 (codes "h") 80 ∷ wait true (3 ∷ 4 ∷ 5 ∷ 8 ∷ 9 ∷ 7 ∷ []) [] ∷ Clock 784111870 ∷ wait true (3 ∷ 4 ∷ 5 ∷ 8 ∷ 9 ∷ 7 ∷ []) [] ∷ Opened 11 ∷ wait true (3 ∷ 4 ∷ 5 ∷ 8 ∷ 9 ∷ 11 ∷ 7 ∷ []) [] ∷ CanRead 11 ∷ Heard 11 text124 ∷ Noted (Taken 11 0 Validate) ∷ wait true (3 ∷ 4 ∷ 5 ∷ 8 ∷ 9 ∷ 11 ∷ 7 ∷ []) (7 ∷ []) ∷ CanWrite 7 ∷ Asked 7 text125 ∷ wait true (3 ∷ 4 ∷ 5 ∷ 8 ∷ 9 ∷ 11 ∷ 7 ∷ []) [] ∷ CanRead 7 ∷ Got 7 text126 ∷ Noted (Taken 11 0 (Hit 0 9000)) ∷ wait true (3 ∷ 4 ∷ 5 ∷ 8 ∷ 9 ∷ 11 ∷ 7 ∷ []) (11 ∷ []) ∷ CanWrite 11 ∷ Said 11 9167 text240 ∷ wait true (3 ∷ 4 ∷ 5 ∷ 8 ∷ 9 ∷ 11 ∷ 7 ∷ []) [] ∷ Opened 12 ∷ wait true (3 ∷ 4 ∷ 5 ∷ 8 ∷ 9 ∷ 11 ∷ 12 ∷ 7 ∷ []) [] ∷ CanRead 12 ∷ Heard 12 text241 ∷ Noted (Taken 12 0 (Refuse 400)) ∷ wait true (3 ∷ 4 ∷ 5 ∷ 8 ∷ 9 ∷ 11 ∷ 12 ∷ 7 ∷ []) (12 ∷ []) ∷ CanWrite 12 ∷ Said 12 109 text29 ∷ Shut 12 ∷ wait true (3 ∷ 4 ∷ 5 ∷ 8 ∷ 9 ∷ 11 ∷ 7 ∷ []) [] ∷ Reached 7 ∷ wait true (3 ∷ 4 ∷ 5 ∷ 8 ∷ 9 ∷ 11 ∷ 7 ∷ []) [] ∷ Reached 10 ∷ wait true (3 ∷ 4 ∷ 5 ∷ 8 ∷ 9 ∷ 11 ∷ 7 ∷ 10 ∷ []) (10 ∷ []) ∷ CanRead 10 ∷ Ended 10 ∷ Dropped 10 ∷ Dialled 13 (codes "h") 80 ∷ wait true (3 ∷ 4 ∷ 5 ∷ 8 ∷ 9 ∷ 11 ∷ 7 ∷ []) [] ∷ Reached 13 ∷ wait true (3 ∷ 4 ∷ 5 ∷ 8 ∷ 9 ∷ 11 ∷ 7 ∷ 13 ∷ []) (13 ∷ []) ∷ CanWrite 13 ∷ Asked 13 text242 ∷ wait true (3 ∷ 4 ∷ 5 ∷ 8 ∷ 9 ∷ 11 ∷ 7 ∷ 13 ∷ []) [] ∷ Opened 14 ∷ wait true (3 ∷ 4 ∷ 5 ∷ 8 ∷ 9 ∷ 11 ∷ 14 ∷ 7 ∷ 13 ∷ []) [] ∷ CanRead 14 ∷ Heard 14 text243 ∷ wait true (3 ∷ 4 ∷ 5 ∷ 8 ∷ 9 ∷ 11 ∷ 14 ∷ 7 ∷ 13 ∷ []) [] ∷ CanRead 14 ∷ Heard 14 (codes "s=1") ∷ wait true (3 ∷ 4 ∷ 5 ∷ 8 ∷ 9 ∷ 11 ∷ 14 ∷ 7 ∷ 13 ∷ []) [] ∷ Woke ((text24, text224) ∷ []) ∷ Rooted text0 ∷ Listed true ∷ Listens 8123 true ∷ wait true [] [] ∷ Clock 784112777 ∷ wait true [] [] ∷ Opened 15 ∷ wait true (15 ∷ []) [] ∷ CanRead 15 ∷ Heard 15 (codes "GET http") ∷ wait true (15 ∷ []) [] ∷ CanRead 15 ∷ Heard 15 (codes "://s/e HT") ∷ wait true (15 ∷ []) [] ∷ CanRead 15 ∷ Heard 15 text244 ∷ wait true (15 ∷ []) [] ∷ CanRead 15 ∷ Heard 15 (codes "s\r\n\r") ∷ wait true (15 ∷ []) [] ∷ CanRead 15 ∷ Heard 15 (codes "\n") ∷ Noted (Taken 15 0 Fetch) ∷ Dialled 16 (codes "s") 80 ∷ wait true (15 ∷ []) [] ∷ Reached 16 ∷ wait true (15 ∷ 16 ∷ []) (16 ∷ []) ∷ CanWrite 16 ∷ Asked 16 text8 ∷ wait true (15 ∷ 16 ∷ []) [] ∷ CanRead 16 ∷ Got 16 text9 ∷ Noted (Taken 15 0 (Hit 0 0)) ∷ wait true (15 ∷ 16 ∷ []) (15 ∷ []) ∷ CanWrite 15 ∷ Said 15 156 text245 ∷ wait true (15 ∷ 16 ∷ []) [] ∷ Opened 17 ∷ wait true (15 ∷ 17 ∷ 16 ∷ []) [] ∷ CanRead 17 ∷ Heard 17 text30 ∷ Noted (Taken 17 0 Fetch) ∷ wait true (15 ∷ 17 ∷ 16 ∷ []) (16 ∷ []) ∷ CanWrite 16 ∷ Asked 16 text31 ∷ wait true (15 ∷ 17 ∷ 16 ∷ []) [] ∷ CanRead 16 ∷ Got 16 text18 ∷ Began (Draft text246) ∷ Did (Draft text246) true ∷ Began SyncDraft ∷ Did SyncDraft true ∷ Began (Publish text33) ∷ Did (Publish text33) true ∷ Noted (Kept (codes "http://s/a") (codes "\"x\"") 5 5) ∷ Noted (Taken 17 0 (Hit 0 5)) ∷ wait true (15 ∷ 17 ∷ 16 ∷ []) (17 ∷ []) ∷ CanWrite 17 ∷ Said 17 161 text247 ∷ wait true (15 ∷ 17 ∷ 16 ∷ []) [] ∷ Clock 784112778 ∷ wait true (15 ∷ 17 ∷ 16 ∷ []) [] ∷ Stopped ∷ Shut 15 ∷ Shut 17 ∷ Dropped 16 ∷ []) ≡ None
