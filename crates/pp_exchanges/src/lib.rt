@@ -57,12 +57,6 @@ mod sharing; // one fetch for many
 #[cfg(test)]
 mod validation; // rows that are refreshed or replaced
 
-// The disk.
-#[cfg(test)]
-mod lives; // from one life to the next
-#[cfg(test)]
-mod on_disk; // what is kept on the disk, and when
-
 // Origins that are lost, or answer wrongly.
 #[cfg(test)]
 mod gateways; // answers that cannot be passed

@@ -1,7 +1,7 @@
 // From one life to the next: what was kept is there behind a crash.
 use pp_play::{
-    ASK, Act, Exchange, Filed, GET, Op, Pace, Part, REPLY, RESPONSE, Step, T, Wanted, joined_acts,
-    unlike_by, unlike_with,
+    ASK, Act, Exchange, Filed, GET, Op, Pace, Part, REPLY, RESPONSE, Step, T, Wanted, unlike_by,
+    unlike_with,
 };
 use pp_text::OutOfMemory;
 use pp_world::Decision;
@@ -28,17 +28,18 @@ const LEAVES_7: u64 = 71;
 const LEAVES_1: u64 = 342;
 
 /// Two lives: acts before a crash and behind it. The crash comes as this operation begins, or at the end.
-fn unlike_behind(
+fn unlike_behind<'a>(
     alloc: Global,
     words: &[&str],
     choices: &[u64],
     crash: Option<Op>,
-    lives: (&[Act<'_>], &[Act<'_>]),
+    lives: (&[Act<'a>], &[Act<'a>]),
     wanted: &[Wanted<'_>],
 ) -> Result<String, OutOfMemory> {
     for choice in choices {
-        let crashed = [Act::Crash(crash, *choice)];
-        let acts = joined_acts(alloc, &[lives.0, &crashed, lives.1])?;
+        let mut acts = Vec::from_slice(alloc, lives.0)?;
+        acts.extend_from_slice(&[Act::Crash(crash, *choice)])?;
+        acts.extend_from_slice(lives.1)?;
         let exchange = Exchange {
             name: "behind a crash",
             acts: acts.as_slice(),
