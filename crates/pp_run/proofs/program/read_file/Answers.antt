@@ -1,6 +1,10 @@
 use Rattle.std.proofs.Common.{map, string_bytes, inl}
+use Rattle.pp_run.proofs.Folders.{fresh_later}
 use Rattle.pp_run.proofs.Starting.{ends_later, unread}
 use Rattle.pp_run.proofs.program.read_file.Goals as goal
+
+pub start-requires : goal.start-requires
+start-requires g c = fresh_later c.args.name.now _ c.in-Ok.ensures.told c.requires.fresh
 
 pub returns-in-Ok-clause-told : goal.returns-in-Ok-clause-told
 returns-in-Ok-clause-told g c =

@@ -2,6 +2,9 @@ use Rattle.pp_world.proofs.CallLemmas.{rises_earlier}
 use Rattle.pp_run.proofs.Folders.{holds_listened, listens_and_goes, may_not}
 use Rattle.pp_run.proofs.serving.listen.Goals as goal
 
+pub serve-requires-clause-holds : goal.serve-requires-clause-holds
+serve-requires-clause-holds g c = holds_listened c.args.port c.args.shelf c.in-Ok.ensures.told c.requires.holds
+
 pub returns-in-Ok : goal.returns-in-Ok
 returns-in-Ok g c = record { told = listens_and_goes c.args.port c.args.most_turns c.in-Ok.ensures.told c.serve.ensures }
 

@@ -1,0 +1,26 @@
+use Rattle.pp_run.proofs.Folders.{no_disk, opens_then, wants_memory}
+use Rattle.pp_run.proofs.serving.open_folder.Goals as goal
+
+pub returns-in-Ok : goal.returns-in-Ok
+returns-in-Ok g c = record {
+  told = opens_then _ c.args.conf.now.root c.args.conf.now.port c.args.conf.now.max_turns c.listen.result _ _ _
+      (rw c.as_slice.ensures at (c.in-Ok.ensures.opens)) c.in-Ok.ensures.faults c.listen.ensures.told;
+}
+
+pub returns-in-Err-DiskFault : goal.returns-in-Err-DiskFault
+returns-in-Err-DiskFault g c =
+    let failed = c.in-Err-DiskFault in
+    record {
+      told = no_disk c.args.conf.now.root _ _ _
+          (rw c.as_slice.ensures at (rw failed.field-0-is at (failed.ensures.opens))) (rw failed.field-0-is at (failed.ensures.cause))
+          (rw c.as_bytes.ensures.value at (c.print.ensures.told)) c.print.ensures.faults;
+    }
+
+pub returns : goal.returns
+returns g c =
+    let refused = c.in-Err-OutOfMemory in
+    record {
+      told = wants_memory c.args.conf.now.root
+          (rw c.as_slice.ensures at (rw refused.field-0-is at (refused.ensures.opens)))
+          (rw c.as_bytes-in-Err-OutOfMemory.ensures.value at (c.print-in-Err-OutOfMemory.ensures.told));
+    }
