@@ -6,7 +6,8 @@
 //! read, listened on and printed.
 //!
 //! Nothing stands on this crate. What each part promises is proved in the crate of that part; here the parts are tried together,
-//! on texts from the standards, hostile ones among them.
+//! on texts from the standards, hostile ones among them. Those of the cache stand beside it in `pp_cache_exchanges`, and those of
+//! the disk in `pp_disk_exchanges`, so that all are proved at the same time.
 #![tactic(auto)]
 
 // Requests and their replies.
@@ -36,38 +37,6 @@ mod limits; // of clients, connections and buffers
 mod one_ask; // connections that are not for the next request
 #[cfg(test)]
 mod pipelining; // asks behind one another on a connection
-#[cfg(test)]
-mod unseen; // what nobody will see
-
-// The cache.
-#[cfg(test)]
-mod for_whom; // whom a response is for, and how long
-#[cfg(test)]
-mod hits; // replies from what is held
-#[cfg(test)]
-mod holes; // what is missing, and asked for
-#[cfg(test)]
-mod near; // clients that read far ahead of what comes
-#[cfg(test)]
-mod not_kept; // what the cache does not answer
-#[cfg(test)]
-mod outdated; // what passed responses tell of rows
-#[cfg(test)]
-mod sharing; // one fetch for many
-#[cfg(test)]
-mod validation; // rows that are refreshed or replaced
-
-// Origins that are lost, or answer wrongly.
-#[cfg(test)]
-mod gateways; // answers that cannot be passed
-#[cfg(test)]
-mod one_answer; // what is still out for a request that asks anew
-#[cfg(test)]
-mod origin_ends; // origins that end, speak too early, or are slow
-#[cfg(test)]
-mod kept_losses; // what a lost origin sent is kept, unless nobody gives the rest
-#[cfg(test)]
-mod losses; // lost origins are asked again
 
 // The program's beginning and end.
 #[cfg(test)]
