@@ -90,15 +90,18 @@ pub fn play_with(
     failing: &[u64],
 ) -> Result<Played, OutOfMemory> {
     let words = strings(alloc, words)?;
-    let mut rest = acts;
-    let (life, mut crash) = next_acts(&mut rest);
+    let (mut end, mut crash) = life_end(acts, 0);
+    let life = acts.get(..end).unwrap_or(&[]);
     let mut played = first_life(alloc, words.as_slice(), pace, life, failing)?;
     for _life in 0..LIVES {
         let Some(crashed) = crash else {
             break;
         };
-        let (life, next) = next_acts(&mut rest);
+        let from = end.saturating_add(1);
+        let (at, next) = life_end(acts, from);
+        let life = acts.get(from..at).unwrap_or(&[]);
         played = next_life(alloc, words.as_slice(), pace, life, &played, crashed)?;
+        end = at;
         crash = next;
     }
     Ok(played)
@@ -114,21 +117,20 @@ struct Crash {
     choice: u64,
 }
 
-/// The acts of the life that is next, and how it crashes where another follows: the rest are left.
-fn next_acts<'x, 'a>(acts: &mut &'x [Act<'a>]) -> (&'x [Act<'a>], Option<Crash>) {
-    let all = *acts;
-    for (at, act) in all.iter().enumerate() {
+/// Where the life ends that begins with the act at this place, and how it crashes where another follows.
+fn life_end(acts: &[Act<'_>], from: usize) -> (usize, Option<Crash>) {
+    for (at, act) in acts.iter().enumerate() {
         if let Act::Crash(begins, choice) = act {
-            *acts = all.get(at.saturating_add(1)..).unwrap_or(&[]);
-            let crash = Crash {
-                begins: *begins,
-                choice: *choice,
-            };
-            return (all.get(..at).unwrap_or(&[]), Some(crash));
+            if from <= at {
+                let crash = Crash {
+                    begins: *begins,
+                    choice: *choice,
+                };
+                return (at, Some(crash));
+            }
         }
     }
-    *acts = &[];
-    (all, None)
+    (acts.len(), None)
 }
 
 #[tactic(auto, using(pp_shelf::proofs::OpeningLemmas::fresh_first))]
