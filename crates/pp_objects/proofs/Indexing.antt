@@ -1,10 +1,10 @@
 -- The index has the slot of each row under its key, whatever changes.
-use Rattle.std.proofs.Common.{ℕ, ◌≡◌, Bool, true, false, ◌==◌, ◌&&◌, not, cond, List, [], ◌∷◌, map, set, arith, refl, sym, ◌∙◌, ap, subst, Option, Some, None, ◌⊎◌, inl, inr}
-use Rattle.std.specs.Prelude.{is_some, option_map, bytes_eq}
+use Rattle.std.proofs.Common.{ℕ, ◌≡◌, Bool, true, false, ◌==◌, ◌&&◌, not, cond, List, [], ◌∷◌, map, set, arith, refl, sym, ◌∙◌, ap, Option, Some, None, ◌⊎◌, inl, inr}
+use Rattle.std.specs.Prelude.{option_map, bytes_eq}
 use Rattle.std.specs.List.{find}
 use Rattle.std.specs.BTreeMap.{BTreeMap, UpdatesBy}
 use Rattle.std.specs.Map.{lookup, IsKeyTest, AreApart, KeepsOthers}
-use Rattle.std.specs.Ordering.{is_eq, nat_cmp, eq_by_cmp}
+use Rattle.std.specs.Ordering.{is_eq, nat_cmp}
 use Rattle.std.specs.Cmp.{eq_by_cmp_equiv}
 use Rattle.std.specs.Cmp.Lexicographic.{slice_cmp, nat_list_cmp_total, nat_list_eq_equiv}
 use Rattle.std.specs.declared.vec.Vec.{Vec}
@@ -12,7 +12,6 @@ use Rattle.std.proofs.lemmas.Grind.{common_steps}
 use Rattle.std.proofs.lemmas.Bool.{cases_eq}
 use Rattle.std.proofs.lemmas.Map.Text.{is_eq-slice_cmp}
 use Rattle.std.proofs.lemmas.Slice.Eq.{bytes_eq-Decides}
-use Rattle.pp_objects.specs.declared.id.ObjectId.{ObjectId}
 use Rattle.pp_objects.specs.declared.row.Row.{Row}
 use Rattle.pp_objects.specs.declared.objects.Objects.TheInside.{Inside}
 use Rattle.pp_objects.specs.ByKey.{slot_for}
@@ -75,7 +74,7 @@ module _ {Z : Type 0} (ix : BTreeMap (Vec ℕ Z) ℕ) where
   row_in_slot o v key s ixd e some =
       ap (λ (w : Rows). row_of key w.instances) (sym e)
       ∙ find_alike (is_row_of key) (is_in_slot s) (instance_at o.rows.slots) o.order.items
-        (λ n. ixd key n ∙ ap (is_at n) some ∙ ap (λ m. m == s) (sym (slot_shown o.rows.slots n)))
+      (λ n. ixd key n ∙ ap (is_at n) some ∙ ap (λ m. m == s) (sym (slot_shown o.rows.slots n)))
       ∙ ap (λ (w : Rows). in_slot s w.instances) e
 
   pub is_row_there : (rs : List (Option Row)) (key : List ℕ) (s : ℕ) → IsIndexed rs ix → slot_for key ix ≡ Some s → is_row_of key (instance_at rs s) ≡ true

@@ -14,7 +14,7 @@ ghost use Rattle.pp_objects.specs.Kept.{has_room, kept_of};
 ghost use Rattle.pp_objects.specs.Views.{ShowsRow};
 
 use crate::id::ObjectId;
-use crate::index::{leave_index, put, slot_of_key, Index};
+use crate::index::{Index, leave_index, put, slot_of_key};
 use crate::kept::KeptFields;
 use crate::room::has_room;
 use crate::row::Row;

@@ -1,9 +1,9 @@
-use Rattle.std.proofs.Common.{arith, ◌≡◌, ◌<◌, ◌+◌, ◌++◌, ◌∷◌, [], length, map, ℕ, Option, None, Some, refl, sym, ◌∙◌, ap, subst}
+use Rattle.std.proofs.Common.{arith, ◌≡◌, ◌<◌, ◌+◌, ◌++◌, ◌∷◌, [], length, ℕ, Option, None, Some, refl, sym, ◌∙◌, ap, subst}
 use Rattle.std.proofs.lemmas.List.{length-map}
 use Rattle.slab.specs.Slab.{Updates}
 use Rattle.pp_objects.specs.declared.id.ObjectId.{ObjectId}
 use Rattle.pp_objects.specs.Instances.{Rows, row_of}
-use Rattle.pp_objects.specs.Changes.{new_row, set_aside}
+use Rattle.pp_objects.specs.Changes.{set_aside}
 use Rattle.pp_objects.specs.Kept.{kept_of}
 use Rattle.pp_objects.specs.Inside.{row_at, instance_at, is_at, IsAside}
 use Rattle.pp_objects.proofs.Slots.{seen_row}

@@ -19,7 +19,7 @@ push_reserved-requires c =
 pub invariant_of-self : goal.invariant_of-self
 invariant_of-self c = record {
   sound = sound-moved c.self.inside _ c.args.id.slot c.self.invariant.sound (in_order c.self.inside c.args.self.now c.args.id c.self.invariant.sound c.self.view_is c.requires)
-    refl (c.push_reserved.ensures.items ∙ ap (λ ns. ns ++ c.args.id.slot ∷ []) c.leave_order.ensures.items) (c.push_reserved.ensures.capacity ∙ c.leave_order.ensures.capacity);
+      refl (c.push_reserved.ensures.items ∙ ap (λ ns. ns ++ c.args.id.slot ∷ []) c.leave_order.ensures.items) (c.push_reserved.ensures.capacity ∙ c.leave_order.ensures.capacity);
   indexed = c.self.invariant.indexed;
 }
 

@@ -1,4 +1,4 @@
-use Rattle.std.proofs.Common.{List, ◌≡◌, ◌++◌, ◌∷◌, [], refl, sym, ◌∙◌, ap, subst}
+use Rattle.std.proofs.Common.{List, ◌++◌, ◌∷◌, [], refl, sym, ◌∙◌, ap, subst}
 use Rattle.pp_holes.specs.Places.{shown}
 use Rattle.pp_holes.specs.Cells.{chunks_of}
 use Rattle.pp_objects.specs.Instances.{Instance, Rows, in_slot, is_there, row_of}
