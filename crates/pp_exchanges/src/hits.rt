@@ -1,6 +1,11 @@
 // Replies from what is held.
-use pp_play::{ASK, Act, Exchange, GET, Part, REPLY, RESPONSE, Step, T, Wanted, unlike};
+use pp_play::{
+    ASK, Act, Exchange, GET, Part, REPLY, RESPONSE, Sizes, Step, T, Wanted, unlike,
+    unlike_through_windows,
+};
+use pp_text::OutOfMemory;
 use pp_world::Decision;
+use std::alloc::{AllocError, Global};
 use std::test::Fail;
 
 const FIRST: &[Exchange<'static>] = &[Exchange {
@@ -169,5 +174,59 @@ const EMPTY: &[Exchange<'static>] = &[Exchange {
 #[test]
 fn a_page_without_a_byte_is_held(rt: HostRuntime) -> Result<(), Fail> {
     assert_eq!(rt; unlike(rt.alloc(), EMPTY)?.as_str(), "");
+    Ok(())
+}
+
+/// A page of which more is there than one write says, for a client whose connection takes nothing yet, up to the body of its
+/// response.
+const LARGE: &[Act<'static>] = &[
+    Act::Tick(T),
+    Act::Connect,
+    Act::Window(1, 0),
+    Act::Say(1, GET),
+    Act::Reach(2),
+    Act::Answer(
+        2,
+        b"HTTP/1.1 200 OK\r\nDate: Sun, 06 Nov 1994 08:49:37 GMT\r\nETag: \"x\"\r\nContent-Length: 70000\r\n\r\n",
+    ),
+];
+
+const LARGE_HEAD: &[u8] =
+    b"HTTP/1.1 200 OK\r\netag: \"x\"\r\ndate: Sun, 06 Nov 1994 08:49:37 GMT\r\nvia: 1.1 polipo\r\ncontent-length: 70000\r\nconnection: keep-alive\r\n\r\n";
+
+/// So many bytes, each of which tells where it stands.
+fn counted(alloc: Global, count: u32) -> Result<Vec<u8>, OutOfMemory> {
+    let mut bytes = Vec::new(alloc);
+    for at in 0..count {
+        bytes.push((at % 251) as u8).map_err(AllocError::from)?;
+    }
+    Ok(bytes)
+}
+
+/// These acts, and then the body of the response.
+fn answered<'a>(
+    alloc: Global,
+    acts: &[Act<'a>],
+    body: &'a [u8],
+) -> Result<Vec<Act<'a>>, OutOfMemory> {
+    let mut all = Vec::from_slice(alloc, acts)?;
+    all.extend_from_slice(&[Act::Answer(2, body)])?;
+    Ok(all)
+}
+
+/// From one byte to the whole body.
+const SIZES: Sizes = Sizes {
+    first: 1,
+    apart: 4_095,
+    count: 18,
+};
+
+#[test]
+fn windows_of_any_size_let_in_the_same_bytes(rt: HostRuntime) -> Result<(), Fail> {
+    let body = counted(rt.alloc(), 70_000)?;
+    let acts = answered(rt.alloc(), LARGE, body.as_slice())?;
+    let reply = [Part::Text(LARGE_HEAD), Part::Text(body.as_slice())];
+    let unlike = unlike_through_windows(rt.alloc(), SIZES, acts.as_slice(), &reply)?;
+    assert_eq!(rt; unlike.as_str(), "");
     Ok(())
 }
