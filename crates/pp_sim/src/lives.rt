@@ -1,5 +1,6 @@
 // How a life is started, what happens outside, and where it ends.
 use crate::dice::Dice;
+use crate::late;
 use crate::scripts::script;
 use pp_memworld::Script;
 use pp_text::{Octets, OutOfMemory};
@@ -33,6 +34,16 @@ impl Life {
             words: words(alloc, dice)?,
             script: script(alloc, dice, number, steps)?,
             failing: failing(alloc, dice)?,
+        })
+    }
+
+    /// A life of one page, whose origins answer late.
+    pub(crate) fn late(alloc: Global, dice: &mut Dice) -> Result<Life, OutOfMemory> {
+        let steps = 20_u64.saturating_add(dice.below(60));
+        Ok(Life {
+            words: owned(alloc, &["hostConnections=2", "pipelineAsks=1"])?,
+            script: late::script(alloc, dice, steps)?,
+            failing: Vec::new(alloc),
         })
     }
 
