@@ -27,30 +27,45 @@ const LEAVES_7: u64 = 71;
 
 const LEAVES_1: u64 = 342;
 
-/// Two lives: acts before a crash and behind it. The crash comes as this operation begins, or at the end.
-fn unlike_behind<'a>(
-    alloc: Global,
-    words: &[&str],
-    choices: &[u64],
+/// Two lives: acts before a crash and behind it.
+struct Behind {
+    /// What is left of what was in doubt, one after the other.
+    choices: &'static [u64],
+    /// The crash comes as this operation begins, or at the end.
     crash: Option<Op>,
-    lives: (&[Act<'a>], &[Act<'a>]),
-    wanted: &[Wanted<'_>],
-) -> Result<String, OutOfMemory> {
-    for choice in choices {
-        let mut acts = Vec::from_slice(alloc, lives.0)?;
-        acts.extend_from_slice(&[Act::Crash(crash, *choice)])?;
-        acts.extend_from_slice(lives.1)?;
-        let exchange = Exchange {
-            name: "behind a crash",
-            acts: acts.as_slice(),
-            wanted,
-        };
-        let said = unlike_with(alloc, words, &[exchange])?;
-        if !said.is_empty() {
-            return Ok(format!(in alloc; "choice {choice}: {said}")?);
+    before: &'static [Act<'static>],
+    after: &'static [Act<'static>],
+    wanted: &'static [Wanted<'static>],
+}
+
+/// Plays lives with these words, and says what was not as wanted, or nothing.
+fn unlike_behind(alloc: Global, words: &[&str], all: &[Behind]) -> Result<String, OutOfMemory> {
+    for behind in all {
+        for choice in behind.choices {
+            let said = unlike_by_choice(alloc, words, behind, *choice)?;
+            if !said.is_empty() {
+                return Ok(format!(in alloc; "choice {choice}: {said}")?);
+            }
         }
     }
     Ok(String::new(alloc))
+}
+
+fn unlike_by_choice(
+    alloc: Global,
+    words: &[&str],
+    behind: &Behind,
+    choice: u64,
+) -> Result<String, OutOfMemory> {
+    let mut acts = Vec::from_slice(alloc, behind.before)?;
+    acts.extend_from_slice(&[Act::Crash(behind.crash, choice)])?;
+    acts.extend_from_slice(behind.after)?;
+    let exchange = Exchange {
+        name: "behind a crash",
+        acts: acts.as_slice(),
+        wanted: behind.wanted,
+    };
+    unlike_with(alloc, words, &[exchange])
 }
 
 /// A page is fetched.
@@ -76,9 +91,12 @@ const REPLY_AGED: &[u8] =
 const PAGE_504: &[u8] =
     b"HTTP/1.1 504 Gateway Timeout\r\ncontent-type: text/plain\r\ncontent-length: 20\r\nconnection: keep-alive\r\n\r\n504 Gateway Timeout\n";
 
-#[test]
-fn what_was_kept_is_served_behind_a_crash(rt: HostRuntime) -> Result<(), Fail> {
-    let wanted = [
+const SERVED: &[Behind] = &[Behind {
+    choices: &[OLD, NEW, LEAVES_7, TORN, TORN + 1],
+    crash: None,
+    before: FETCHED,
+    after: AGAIN,
+    wanted: &[
         Wanted::Said(1, &[Part::Text(REPLY)]),
         Wanted::Said(3, &[Part::Text(REPLY_AGED)]),
         Wanted::Taken(3, Decision::Hit(0, 5)),
@@ -92,17 +110,12 @@ fn what_was_kept_is_served_behind_a_crash(rt: HostRuntime) -> Result<(), Fail> {
             Filed::Woke(true),
             Filed::Loaded(0),
         ]),
-    ];
-    let choices = [OLD, NEW, LEAVES_7, TORN, TORN + 1];
-    let said = unlike_behind(
-        rt.alloc(),
-        SIXTEEN,
-        &choices,
-        None,
-        (FETCHED, AGAIN),
-        &wanted,
-    )?;
-    assert_eq!(rt; said.as_str(), "");
+    ],
+}];
+
+#[test]
+fn what_was_kept_is_served_behind_a_crash(rt: HostRuntime) -> Result<(), Fail> {
+    assert_eq!(rt; unlike_behind(rt.alloc(), SIXTEEN, SERVED)?.as_str(), "");
     Ok(())
 }
 
@@ -241,70 +254,67 @@ fn what_cannot_be_read_back_is_fetched_again(rt: HostRuntime) -> Result<(), Fail
 
 // ---- crashes while an entry is made
 
-#[test]
-fn a_draft_is_no_entry(rt: HostRuntime) -> Result<(), Fail> {
-    let wanted = [
+const DRAFTED: &[Behind] = &[Behind {
+    choices: &[OLD, NEW, TORN],
+    crash: Some(Op::Draft(12_288)),
+    before: FETCHED,
+    after: ONLY_AGAIN,
+    wanted: &[
         Wanted::Said(3, &[Part::Text(PAGE_504)]),
         Wanted::Filed(&[
             Filed::Woke(false),
             Filed::Began(Op::Draft(12_288)),
             Filed::Woke(false),
         ]),
-    ];
-    let said = unlike_behind(
-        rt.alloc(),
-        ONE,
-        &[OLD, NEW, TORN],
-        Some(Op::Draft(12_288)),
-        (FETCHED, ONLY_AGAIN),
-        &wanted,
-    )?;
-    assert_eq!(rt; said.as_str(), "");
+    ],
+}];
+
+#[test]
+fn a_draft_is_no_entry(rt: HostRuntime) -> Result<(), Fail> {
+    assert_eq!(rt; unlike_behind(rt.alloc(), ONE, DRAFTED)?.as_str(), "");
     Ok(())
 }
 
+const PUBLISHED: &[Behind] = &[
+    Behind {
+        choices: &[OLD],
+        crash: Some(Op::Publish),
+        before: FETCHED,
+        after: ONLY_AGAIN,
+        wanted: &[
+            Wanted::Said(3, &[Part::Text(PAGE_504)]),
+            Wanted::Taken(3, Decision::Refuse(504)),
+            Wanted::Filed(&[
+                Filed::Woke(false),
+                Filed::Did(Op::Draft(12_288)),
+                Filed::Did(Op::SyncDraft),
+                Filed::Began(Op::Publish),
+                Filed::Woke(false),
+            ]),
+        ],
+    },
+    Behind {
+        choices: &[NEW],
+        crash: Some(Op::Publish),
+        before: FETCHED,
+        after: ONLY_AGAIN,
+        wanted: &[
+            Wanted::Said(3, &[Part::Text(PAGE_504)]),
+            Wanted::Taken(3, Decision::Refuse(504)),
+            Wanted::Filed(&[
+                Filed::Woke(false),
+                Filed::Did(Op::Draft(12_288)),
+                Filed::Did(Op::SyncDraft),
+                Filed::Began(Op::Publish),
+                Filed::Woke(true),
+            ]),
+        ],
+    },
+];
+
 #[test]
 fn an_entry_that_is_being_published_is_there_or_not(rt: HostRuntime) -> Result<(), Fail> {
-    let none = [
-        Wanted::Said(3, &[Part::Text(PAGE_504)]),
-        Wanted::Taken(3, Decision::Refuse(504)),
-        Wanted::Filed(&[
-            Filed::Woke(false),
-            Filed::Did(Op::Draft(12_288)),
-            Filed::Did(Op::SyncDraft),
-            Filed::Began(Op::Publish),
-            Filed::Woke(false),
-        ]),
-    ];
-    let said = unlike_behind(
-        rt.alloc(),
-        ONE,
-        &[OLD],
-        Some(Op::Publish),
-        (FETCHED, ONLY_AGAIN),
-        &none,
-    )?;
-    assert_eq!(rt; said.as_str(), "");
-    let empty = [
-        Wanted::Said(3, &[Part::Text(PAGE_504)]),
-        Wanted::Taken(3, Decision::Refuse(504)),
-        Wanted::Filed(&[
-            Filed::Woke(false),
-            Filed::Did(Op::Draft(12_288)),
-            Filed::Did(Op::SyncDraft),
-            Filed::Began(Op::Publish),
-            Filed::Woke(true),
-        ]),
-    ];
-    let said = unlike_behind(
-        rt.alloc(),
-        ONE,
-        &[NEW],
-        Some(Op::Publish),
-        (FETCHED, ONLY_AGAIN),
-        &empty,
-    )?;
-    assert_eq!(rt; said.as_str(), "");
+    assert_eq!(rt; unlike_behind(rt.alloc(), ONE, PUBLISHED)?.as_str(), "");
     Ok(())
 }
 
@@ -406,9 +416,12 @@ const ALL_SAID: Wanted<'static> = Wanted::Said(
 
 const ALL_REFUSED: Wanted<'static> = Wanted::Said(4, &[Part::Text(PAGE_504)]);
 
-#[test]
-fn of_a_chunk_that_is_being_written_nothing_is_kept(rt: HostRuntime) -> Result<(), Fail> {
-    let wanted = [
+const WRITTEN: &[Behind] = &[Behind {
+    choices: &[OLD, NEW, TORN],
+    crash: Some(Op::Write(16_384, 4_096)),
+    before: TWO_CHUNKS,
+    after: FIRST_AND_ALL,
+    wanted: &[
         FIRST_SAID,
         ALL_REFUSED,
         Wanted::Filed(&[
@@ -425,139 +438,131 @@ fn of_a_chunk_that_is_being_written_nothing_is_kept(rt: HostRuntime) -> Result<(
             Filed::Woke(true),
             Filed::Loaded(0),
         ]),
-    ];
-    let said = unlike_behind(
-        rt.alloc(),
-        ONE,
-        &[OLD, NEW, TORN],
-        Some(Op::Write(16_384, 4_096)),
-        (TWO_CHUNKS, FIRST_AND_ALL),
-        &wanted,
-    )?;
-    assert_eq!(rt; said.as_str(), "");
+    ],
+}];
+
+#[test]
+fn of_a_chunk_that_is_being_written_nothing_is_kept(rt: HostRuntime) -> Result<(), Fail> {
+    assert_eq!(rt; unlike_behind(rt.alloc(), ONE, WRITTEN)?.as_str(), "");
     Ok(())
 }
 
+const OPENED: &[Behind] = &[
+    Behind {
+        choices: &[OLD, LEAVES_7, TORN],
+        crash: Some(Op::Write(8_193, 1)),
+        before: TWO_CHUNKS,
+        after: FIRST_AND_ALL,
+        wanted: &[
+            FIRST_SAID,
+            ALL_REFUSED,
+            Wanted::Filed(&[
+                Filed::Woke(false),
+                Filed::Did(Op::Draft(12_288)),
+                Filed::Did(Op::SyncDraft),
+                Filed::Did(Op::Publish),
+                Filed::Did(Op::Write(12_288, 4_096)),
+                Filed::Did(Op::Sync),
+                Filed::Did(Op::Write(8_192, 1)),
+                Filed::Did(Op::Sync),
+                Filed::Kept(8_192, 4_096),
+                Filed::Did(Op::Write(16_384, 4_096)),
+                Filed::Did(Op::Sync),
+                Filed::Began(Op::Write(8_193, 1)),
+                Filed::Woke(true),
+                Filed::Loaded(0),
+            ]),
+        ],
+    },
+    Behind {
+        choices: &[NEW, LEAVES_1, TORN + 1],
+        crash: Some(Op::Write(8_193, 1)),
+        before: TWO_CHUNKS,
+        after: FIRST_AND_ALL,
+        wanted: &[
+            FIRST_SAID,
+            ALL_SAID,
+            Wanted::Filed(&[
+                Filed::Woke(false),
+                Filed::Did(Op::Draft(12_288)),
+                Filed::Did(Op::SyncDraft),
+                Filed::Did(Op::Publish),
+                Filed::Did(Op::Write(12_288, 4_096)),
+                Filed::Did(Op::Sync),
+                Filed::Did(Op::Write(8_192, 1)),
+                Filed::Did(Op::Sync),
+                Filed::Kept(8_192, 4_096),
+                Filed::Did(Op::Write(16_384, 4_096)),
+                Filed::Did(Op::Sync),
+                Filed::Began(Op::Write(8_193, 1)),
+                Filed::Woke(true),
+                Filed::Loaded(0),
+                Filed::Loaded(1),
+            ]),
+        ],
+    },
+];
+
 #[test]
 fn a_chunk_is_kept_where_its_gate_is_open_behind_the_crash(rt: HostRuntime) -> Result<(), Fail> {
-    let shut = [
-        FIRST_SAID,
-        ALL_REFUSED,
-        Wanted::Filed(&[
-            Filed::Woke(false),
-            Filed::Did(Op::Draft(12_288)),
-            Filed::Did(Op::SyncDraft),
-            Filed::Did(Op::Publish),
-            Filed::Did(Op::Write(12_288, 4_096)),
-            Filed::Did(Op::Sync),
-            Filed::Did(Op::Write(8_192, 1)),
-            Filed::Did(Op::Sync),
-            Filed::Kept(8_192, 4_096),
-            Filed::Did(Op::Write(16_384, 4_096)),
-            Filed::Did(Op::Sync),
-            Filed::Began(Op::Write(8_193, 1)),
-            Filed::Woke(true),
-            Filed::Loaded(0),
-        ]),
-    ];
-    let said = unlike_behind(
-        rt.alloc(),
-        ONE,
-        &[OLD, LEAVES_7, TORN],
-        Some(Op::Write(8_193, 1)),
-        (TWO_CHUNKS, FIRST_AND_ALL),
-        &shut,
-    )?;
-    assert_eq!(rt; said.as_str(), "");
-    let open = [
-        FIRST_SAID,
-        ALL_SAID,
-        Wanted::Filed(&[
-            Filed::Woke(false),
-            Filed::Did(Op::Draft(12_288)),
-            Filed::Did(Op::SyncDraft),
-            Filed::Did(Op::Publish),
-            Filed::Did(Op::Write(12_288, 4_096)),
-            Filed::Did(Op::Sync),
-            Filed::Did(Op::Write(8_192, 1)),
-            Filed::Did(Op::Sync),
-            Filed::Kept(8_192, 4_096),
-            Filed::Did(Op::Write(16_384, 4_096)),
-            Filed::Did(Op::Sync),
-            Filed::Began(Op::Write(8_193, 1)),
-            Filed::Woke(true),
-            Filed::Loaded(0),
-            Filed::Loaded(1),
-        ]),
-    ];
-    let said = unlike_behind(
-        rt.alloc(),
-        ONE,
-        &[NEW, LEAVES_1, TORN + 1],
-        Some(Op::Write(8_193, 1)),
-        (TWO_CHUNKS, FIRST_AND_ALL),
-        &open,
-    )?;
-    assert_eq!(rt; said.as_str(), "");
+    assert_eq!(rt; unlike_behind(rt.alloc(), ONE, OPENED)?.as_str(), "");
     Ok(())
 }
 
 /// The gates of a run of two chunks are being opened.
+const RUN_OPENED: &[Behind] = &[
+    Behind {
+        choices: &[OLD],
+        crash: Some(Op::Write(8_192, 2)),
+        before: THREE_CHUNKS,
+        after: FIRST_TWO,
+        wanted: &[
+            Wanted::Said(3, &[Part::Text(PAGE_504)]),
+            Wanted::Filed(&[
+                Filed::Woke(false),
+                Filed::Did(Op::Draft(12_288)),
+                Filed::Did(Op::SyncDraft),
+                Filed::Did(Op::Publish),
+                Filed::Did(Op::Write(12_288, 8_192)),
+                Filed::Did(Op::Sync),
+                Filed::Began(Op::Write(8_192, 2)),
+                Filed::Woke(true),
+            ]),
+        ],
+    },
+    Behind {
+        choices: &[NEW],
+        crash: Some(Op::Write(8_192, 2)),
+        before: THREE_CHUNKS,
+        after: FIRST_TWO,
+        wanted: &[
+            Wanted::Said(
+                3,
+                &[
+                    Part::Text(FIRST_TWO_HEAD),
+                    Part::Fill(b'a', 4_096),
+                    Part::Fill(b'b', 4_096),
+                ],
+            ),
+            Wanted::Filed(&[
+                Filed::Woke(false),
+                Filed::Did(Op::Draft(12_288)),
+                Filed::Did(Op::SyncDraft),
+                Filed::Did(Op::Publish),
+                Filed::Did(Op::Write(12_288, 8_192)),
+                Filed::Did(Op::Sync),
+                Filed::Began(Op::Write(8_192, 2)),
+                Filed::Woke(true),
+                Filed::Loaded(0),
+                Filed::Loaded(1),
+            ]),
+        ],
+    },
+];
+
 #[test]
 fn a_run_is_kept_where_its_gates_are_open_behind_the_crash(rt: HostRuntime) -> Result<(), Fail> {
-    let shut = [
-        Wanted::Said(3, &[Part::Text(PAGE_504)]),
-        Wanted::Filed(&[
-            Filed::Woke(false),
-            Filed::Did(Op::Draft(12_288)),
-            Filed::Did(Op::SyncDraft),
-            Filed::Did(Op::Publish),
-            Filed::Did(Op::Write(12_288, 8_192)),
-            Filed::Did(Op::Sync),
-            Filed::Began(Op::Write(8_192, 2)),
-            Filed::Woke(true),
-        ]),
-    ];
-    let said = unlike_behind(
-        rt.alloc(),
-        TWO,
-        &[OLD],
-        Some(Op::Write(8_192, 2)),
-        (THREE_CHUNKS, FIRST_TWO),
-        &shut,
-    )?;
-    assert_eq!(rt; said.as_str(), "");
-    let open = [
-        Wanted::Said(
-            3,
-            &[
-                Part::Text(FIRST_TWO_HEAD),
-                Part::Fill(b'a', 4_096),
-                Part::Fill(b'b', 4_096),
-            ],
-        ),
-        Wanted::Filed(&[
-            Filed::Woke(false),
-            Filed::Did(Op::Draft(12_288)),
-            Filed::Did(Op::SyncDraft),
-            Filed::Did(Op::Publish),
-            Filed::Did(Op::Write(12_288, 8_192)),
-            Filed::Did(Op::Sync),
-            Filed::Began(Op::Write(8_192, 2)),
-            Filed::Woke(true),
-            Filed::Loaded(0),
-            Filed::Loaded(1),
-        ]),
-    ];
-    let said = unlike_behind(
-        rt.alloc(),
-        TWO,
-        &[NEW],
-        Some(Op::Write(8_192, 2)),
-        (THREE_CHUNKS, FIRST_TWO),
-        &open,
-    )?;
-    assert_eq!(rt; said.as_str(), "");
+    assert_eq!(rt; unlike_behind(rt.alloc(), TWO, RUN_OPENED)?.as_str(), "");
     Ok(())
 }
 
