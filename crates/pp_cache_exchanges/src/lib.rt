@@ -7,7 +7,6 @@
 //! Nothing stands on this crate. It stands beside `pp_exchanges`, so that both are proved at the same time.
 #![tactic(auto)]
 
-// What is held.
 #[cfg(test)]
 mod for_whom; // whom a response is for, and how long
 #[cfg(test)]
@@ -26,15 +25,3 @@ mod sharing; // one fetch for many
 mod unseen; // what nobody will see
 #[cfg(test)]
 mod validation; // rows that are refreshed or replaced
-
-// Origins that are lost, or answer wrongly.
-#[cfg(test)]
-mod gateways; // answers that cannot be passed
-#[cfg(test)]
-mod one_answer; // what is still out for a request that asks anew
-#[cfg(test)]
-mod origin_ends; // origins that end, speak too early, or are slow
-#[cfg(test)]
-mod kept_losses; // what a lost origin sent is kept, unless nobody gives the rest
-#[cfg(test)]
-mod losses; // lost origins are asked again

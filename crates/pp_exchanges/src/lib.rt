@@ -6,8 +6,8 @@
 //! read, listened on and printed.
 //!
 //! Nothing stands on this crate. What each part promises is proved in the crate of that part; here the parts are tried together,
-//! on texts from the standards, hostile ones among them. Those of the cache stand beside it in `pp_cache_exchanges`, and those of
-//! the disk in `pp_disk_exchanges`, so that all are proved at the same time.
+//! on texts from the standards, hostile ones among them. Those of connections, of the cache, of lost
+//! origins and of the disk stand in crates beside it, so that all are proved at the same time.
 #![tactic(auto)]
 
 // Requests and their replies.
@@ -21,22 +21,6 @@ mod refusals; // requests that are refused with a page
 mod requests; // plain requests, and their replies
 #[cfg(test)]
 mod whole_log; // a log, happening by happening
-
-// Connections.
-#[cfg(test)]
-mod connections; // whether a client's connection goes on
-#[cfg(test)]
-mod half_closed; // clients that end, and wait for their replies
-#[cfg(test)]
-mod idle; // clients and origins that do nothing
-#[cfg(test)]
-mod leaving; // clients that are lost
-#[cfg(test)]
-mod limits; // of clients, connections and buffers
-#[cfg(test)]
-mod one_ask; // connections that are not for the next request
-#[cfg(test)]
-mod pipelining; // asks behind one another on a connection
 
 // The program's beginning and end.
 #[cfg(test)]
