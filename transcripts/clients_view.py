@@ -79,8 +79,10 @@ class Life:
 def lives_of(happenings):
     """The lives of a log, each with its streams."""
     lives = []
-    for before, happening in zip((("Woke", ()), *happenings), happenings):
+    event = None  # the last one that could be read or written to
+    for happening in happenings:
         name = happening[0]
+        event = happening if name in ("CanRead", "CanWrite") else event
         if name == "Woke" or not lives:
             lives.append(Life(happening[1] if name == "Woke" else ()))
         life = lives[-1]
@@ -102,7 +104,7 @@ def lives_of(happenings):
             life.is_stopped = True
         elif name == "Shut" and not life.is_stopped:
             life.shut.add(happening[1])
-        elif name == "HungUp" and before == ("CanWrite", happening[1]):
+        elif name == "HungUp" and event == ("CanWrite", happening[1]):
             life.lost.add(happening[1])
         elif happening[:1] == ("Noted",) and happening[1][0] == "Cut":
             life.cut.add(happening[1][1])
