@@ -2,15 +2,13 @@
 //!
 //! Each table writes down what clients and origins do, and the bytes that each of them is sent, the course of each
 //! connection, and where it matters the whole log. All are played twice, with each text whole and with every byte alone, since
-//! the two must end alike. Openings write down the words, the text of the file and which call of the world fails, and what was
-//! read, listened on and printed.
+//! the two must end alike.
 //!
 //! Nothing stands on this crate. What each part promises is proved in the crate of that part; here the parts are tried together,
 //! on texts from the standards, hostile ones among them. Those of connections, of the cache, of lost
-//! origins and of the disk stand in crates beside it, so that all are proved at the same time.
+//! origins, of the disk, and of the program's beginning and end stand in crates beside it, so that all are proved at the same time.
 #![tactic(auto)]
 
-// Requests and their replies.
 #[cfg(test)]
 mod framing; // responses however they are delimited
 #[cfg(test)]
@@ -21,11 +19,3 @@ mod refusals; // requests that are refused with a page
 mod requests; // plain requests, and their replies
 #[cfg(test)]
 mod whole_log; // a log, happening by happening
-
-// The program's beginning and end.
-#[cfg(test)]
-mod exits; // the listener, and the end
-#[cfg(test)]
-mod opened; // a run, and what it did
-#[cfg(test)]
-mod openings; // words and texts, and what comes of them

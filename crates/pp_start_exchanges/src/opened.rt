@@ -37,11 +37,9 @@ pub(crate) fn open(
     if let Some(call) = failing {
         calls.push(call).map_err(AllocError::from)?;
     }
-    let mut world = boxed(
-        alloc,
-        MemWorld::new(alloc, script, Image::new(alloc), calls)?,
-    )?;
+    let mut world = MemWorld::new(alloc, script, Image::new(alloc), calls)?;
     world.set_config(Octets::copy(alloc, text)?);
+    let mut world = boxed(alloc, world)?;
     let exit = run(alloc, words.as_slice(), &mut *world);
     let course = course_of(alloc, world.log().unwrap_or(&[]))?;
     Ok(Opened { exit, course })
