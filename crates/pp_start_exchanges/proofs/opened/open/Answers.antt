@@ -1,5 +1,6 @@
 use Rattle.std.proofs.Common.{◌∙◌, ap}
-use Rattle.pp_memworld.specs.MemWorld.{record_log, told_log}
+use Rattle.pp_memworld.specs.MemWorld.{told_log}
+use Rattle.pp_memworld.specs.Record.{record_log}
 use Rattle.pp_shelf.proofs.OpeningLemmas.{fresh_first}
 use Rattle.pp_start_exchanges.proofs.opened.open.Goals as goal
 
