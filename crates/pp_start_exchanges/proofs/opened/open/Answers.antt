@@ -6,4 +6,4 @@ use Rattle.pp_start_exchanges.proofs.opened.open.Goals as goal
 
 pub run-exit-requires : goal.run-exit-requires
 run-exit-requires c =
-    fresh_first _ (ap told_log (c.deref_mut.ensures.value ∙ c.in_ok-world.ensures) ∙ ap record_log c.set_config.ensures.record ∙ c.in_ok-new.ensures.told)
+    fresh_first _ (ap told_log (c.deref_mut.ensures.value ∙ c.in_ok-world-2.ensures) ∙ ap record_log c.set_config.ensures.record ∙ c.in_ok-world.ensures.told)
