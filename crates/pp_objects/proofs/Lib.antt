@@ -1,6 +1,8 @@
 pub mod Agreeing
 pub mod DateLemmas
+pub mod Indexing
 pub mod KeptLemmas
+pub mod Making
 pub mod OneRow
 pub mod Refreshing
 pub mod Search

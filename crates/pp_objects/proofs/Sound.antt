@@ -1,6 +1,6 @@
 -- Each change keeps the slab and the order together, and does to the instances what its clause says.
 use Rattle.std.proofs.Common.{ℕ, ◌+◌, ◌<◌, ◌≡◌, Bool, true, false, cond, List, [], ◌∷◌, ◌++◌, length, map, set, arith, refl, sym, ◌∙◌, ap, subst, zero, suc, Option, Some, None, ◌⊎◌, inl, inr, vec_capacity}
-use Rattle.std.specs.Prelude.{is_some, count_by}
+use Rattle.std.specs.Prelude.{is_some, count_by, option_map}
 use Rattle.std.specs.List.{filter}
 use Rattle.std.proofs.lemmas.Grind.{common_steps}
 use Rattle.std.proofs.lemmas.Bool.{cases_eq}
@@ -12,9 +12,9 @@ use Rattle.pp_pool.proofs.Order.{seen-left, seen-changed, seen-joined, seen-move
 use Rattle.pp_holes.specs.declared.cell.Cell.{Cell}
 use Rattle.pp_objects.specs.declared.row.Row.{Row}
 use Rattle.pp_objects.specs.declared.objects.Objects.TheInside.{Inside}
-use Rattle.pp_objects.specs.Instances.{Instance, Rows, is_in_slot, is_row}
-use Rattle.pp_objects.specs.Changes.{changed_in, without_slot, marked, face, faces}
-use Rattle.pp_objects.specs.Inside.{row_at, instance_as, instance_at, rows_in, IsSound, IsOwned}
+use Rattle.pp_objects.specs.Instances.{Instance, Rows, id_of, is_in_slot, is_row}
+use Rattle.pp_objects.specs.Changes.{changed_in, without_slot, marked, retired, set_aside, face, faces}
+use Rattle.pp_objects.specs.Inside.{row_at, instance_as, instance_at, rows_in, IsSound, IsOwned, IsAside}
 use Rattle.pp_objects.proofs.Slots.{number_of, slot_shown, set_same, set_other}
 
 count_set : (rs : List (Option Row)) (k : ℕ) (r s : Row) → row_at rs k ≡ Some r → count_by is_some (set rs k (Some s)) ≡ count_by is_some rs
@@ -73,6 +73,48 @@ view-set o p v k r s change sound e is rows order lives changes =
     ∙ seen-changed number_of (instance_at o.rows.slots) (instance_at p.rows.slots) change k o.order.items (slot_shown o.rows.slots)
     (shown_other o.rows.slots p.rows.slots k (λ n apart. ap (λ qs. row_at qs n) slots ∙ set_other o.rows.slots k n s apart)) here in
     rw (← e) (ap (λ (is : List Instance). record { instances = is; lives = p.lives }) seen ∙ ap (λ n. record { instances = changed_in k change (map (instance_at o.rows.slots) o.order.items); lives = n }) lives)
+
+-- nothing but the index and the count of lives is another
+pub sound-same : (o p : Inside) → IsSound o → p.rows ≡ o.rows → p.order ≡ o.order → IsSound p
+sound-same o p sound rows order =
+    let slots : p.rows.slots ≡ o.rows.slots = ap (λ (b : Slab Row). b.slots) rows in
+    record {
+      distinct = rw order sound.distinct;
+      there = λ n. rw order (sound.there n) ∙ ap (λ qs. is_some (row_at qs n)) (sym slots);
+      owned = λ n t e. sound.owned n t (ap (λ qs. row_at qs n) (sym slots) ∙ e);
+      count = ap slab_len rows ∙ sound.count ∙ rw order refl;
+      few = rw order sound.few;
+      room = rw rows sound.room;
+      order_room = rw order sound.order_room;
+    }
+
+-- the former row of a key is set aside
+aside_owned : (o : Inside) (k : ℕ) (r : Row) → IsSound o → row_at o.rows.slots k ≡ Some r → IsOwned k (record r { is_retired = true })
+aside_owned o k r sound is = record { owner = (sound.owned k r is).owner; total = (sound.owned k r is).total }
+
+sound_by : (o p : Inside) (k : ℕ) (x : Option Row) → IsSound o → row_at o.rows.slots k ≡ x → is_some x ≡ true
+    → ((r : Row) → row_at o.rows.slots k ≡ Some r → p.rows ≡ with_value o.rows k (record r { is_retired = true })) → p.order ≡ o.order → IsSound p
+sound_by o p k None sound is there aside order = absurd cc
+sound_by o p k (Some r) sound is there aside order = sound-set o p k r (record r { is_retired = true }) sound is (aside_owned o k r sound is) (aside r is) order
+
+pub sound-aside : (o p : Inside) (x : Option Instance) → IsSound o → ((i : Instance) → x ≡ Some i → is_some (row_at o.rows.slots i.slot) ≡ true)
+    → IsAside o.rows p.rows (option_map id_of x) → p.order ≡ o.order → IsSound p
+sound-aside o p None sound there aside order = sound-same o p sound aside order
+sound-aside o p (Some i) sound there aside order = sound_by o p i.slot (row_at o.rows.slots i.slot) sound refl (there i refl) aside order
+
+view_by : (o p : Inside) (v : Rows) (k : ℕ) (x : Option Row) → IsSound o → rows_in o ≡ v → row_at o.rows.slots k ≡ x → is_some x ≡ true
+    → ((r : Row) → row_at o.rows.slots k ≡ Some r → p.rows ≡ with_value o.rows k (record r { is_retired = true })) → p.order ≡ o.order → p.lives ≡ o.lives
+    → rows_in p ≡ record v { instances = changed_in k retired v.instances }
+view_by o p v k None sound e is there aside order lives = absurd cc
+view_by o p v k (Some r) sound e is there aside order lives = view-set o p v k r (record r { is_retired = true }) retired sound e is (aside r is) order lives refl
+
+same_view : (o p : Inside) (v : Rows) → rows_in o ≡ v → p.rows ≡ o.rows → p.order ≡ o.order → p.lives ≡ o.lives → rows_in p ≡ v
+same_view o p v e rows order lives = rw (rows, order, lives) e
+
+pub view-aside : (o p : Inside) (v : Rows) (x : Option Instance) → IsSound o → rows_in o ≡ v → ((i : Instance) → x ≡ Some i → is_some (row_at o.rows.slots i.slot) ≡ true)
+    → IsAside o.rows p.rows (option_map id_of x) → p.order ≡ o.order → p.lives ≡ o.lives → rows_in p ≡ record v { instances = set_aside x v.instances }
+view-aside o p v None sound e there aside order lives = same_view o p v e aside order lives
+view-aside o p v (Some i) sound e there aside order lives = view_by o p v i.slot (row_at o.rows.slots i.slot) sound e refl (there i refl) aside order lives
 
 -- an instance moves to the end of the order
 moved_in : (k n : ℕ) (ns : List ℕ) → is_in k ns ≡ true → (n ≡ k) ⊎ (n ≡ k → ⊥) → is_in n (filter (is_not k) ns ++ k ∷ []) ≡ is_in n ns

@@ -37,7 +37,7 @@ itself : (k : ℕ) → (k == k) ≡ true
 itself k = grind (arith, common_steps)
 
 -- what was put last is found in its slot
-found_last : (is : List Instance) (i : Instance) (k : ℕ) → i.slot ≡ k → in_slot k is ≡ None → in_slot k (is ++ i ∷ []) ≡ Some i
+pub found_last : (is : List Instance) (i : Instance) (k : ℕ) → i.slot ≡ k → in_slot k is ≡ None → in_slot k (is ++ i ∷ []) ≡ Some i
 found_last [] i k at e = ap (λ b. cond b (Some i) None) (ap (λ n. n == k) at ∙ itself k)
 found_last (j ∷ is) i k at e = last_by (j.slot == k) j i (in_slot k is) (in_slot k (is ++ i ∷ [])) e (found_last is i k at)
 

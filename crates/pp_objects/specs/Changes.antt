@@ -62,6 +62,11 @@ new_row id key version fields times = record {
   cells = replicate (chunks_of version.length) None;
 }
 
+-- the former row of a key counts as retired
+abbrev pub set_aside : Option Instance → List Instance → List Instance
+set_aside None is = is
+set_aside (Some i) is = changed_in i.slot retired is
+
 -- a new row of a key is the most recently used, and a former one is retired
 abbrev pub settled : ObjectId → List ℕ → Version → List Field → Times → List Instance → List Instance
 settled id key version fields times is = retired_from (row_of key is) (is ++ new_row id key version fields times ∷ [])

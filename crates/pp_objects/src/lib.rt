@@ -16,6 +16,7 @@
 
 mod choice; // which fields are kept, and which are renewed
 mod id; // which instance is meant
+mod index; // the rows by their keys
 mod kept; // the fields of a row, and the room for a refresh
 mod objects; // the instances, and the order of their use
 mod renewal; // what a response renews

@@ -6,14 +6,15 @@ ghost use Rattle.pp_holes.specs.Places.{shown, bytes_at, without, touched, witho
 ghost use Rattle.pp_holes.specs.Adding.{added};
 ghost use Rattle.pp_holes.specs.Cells.{cell_of, filled_of, is_in_memory};
 ghost use Rattle.pp_holes.specs.Holes.{IsFirstHole};
-ghost use Rattle.pp_objects.specs.Inside.{instance_at, IsNew};
-ghost use Rattle.pp_objects.specs.Instances.{id_of, in_slot, is_there, is_row, is_row_of, row_of, is_idle, is_same_id, followers_of, cells_at, total_at, table_at, fields_at};
-ghost use Rattle.pp_objects.specs.Changes.{changed_in, without_slot, marked, refreshed, followed, left, retired, settled, retired_from, is_last, left_from, given_back, given_back_by, faces};
+ghost use Rattle.pp_objects.specs.Inside.{instance_at, IsNew, IsAside};
+ghost use Rattle.pp_objects.specs.Instances.{id_of, in_slot, is_there, is_row, row_of, is_idle, is_same_id, followers_of, cells_at, total_at, table_at, fields_at};
+ghost use Rattle.pp_objects.specs.Changes.{changed_in, without_slot, marked, refreshed, followed, left, retired, new_row, set_aside, settled, retired_from, is_last, left_from, given_back, given_back_by, faces};
 ghost use Rattle.pp_objects.specs.Agreement.{AllAgree};
 ghost use Rattle.pp_objects.specs.Kept.{has_room, kept_of};
 ghost use Rattle.pp_objects.specs.Views.{ShowsRow};
 
 use crate::id::ObjectId;
+use crate::index::{Index, leave_index, put, slot_of_key};
 use crate::kept::KeptFields;
 use crate::room::has_room;
 use crate::row::Row;
@@ -25,6 +26,7 @@ use pp_text::{Fields, Octets, OutOfMemory};
 use pp_valid::Version;
 use slab::Slab;
 use std::alloc::Global;
+use std::collections::BTreeMap;
 use std::marker::Model;
 
 /// Instances that there may be at once: 1,025 rows and 320 retired versions.
@@ -41,6 +43,7 @@ const NOTHING_ADDED: Added = Added {
 pub struct Objects {
     rows: Slab<Row>,
     order: Vec<u32>,
+    index: Index,
     lives: u64,
 }
 
@@ -49,11 +52,11 @@ impl Model for Objects {
 
     ghost Value = { Rows };
 
-    ghost use Rattle.pp_objects.specs.Inside.{rows_in, IsSound};
+    ghost use Rattle.pp_objects.specs.Inside.{rows_in, IsWhole};
 
     ghost view = { rows_in };
 
-    ghost invariant = { IsSound };
+    ghost invariant = { IsWhole };
 }
 
 /// What is known of an instance.
@@ -79,6 +82,7 @@ impl Objects {
         Ok(Objects {
             rows,
             order,
+            index: BTreeMap::new(alloc),
             lives: 0,
         })
     }
@@ -102,12 +106,8 @@ impl Objects {
         ensures current { result ≡ option_map id_of (row_of key.now self.now.instances) }
         ensures there { IfSome result (λ id. in_slot id.slot self.now.instances ≡ row_of key.now self.now.instances) }
     {
-        for slot in &self.order {
-            if is_row_of_key(&self.rows, *slot, key) {
-                return Some(id_in(&self.rows, *slot));
-            }
-        }
-        None
+        let slot = slot_of_key(&self.index, key)?;
+        Some(id_in(&self.rows, slot))
     }
 
     /// The least recently used row without follower that is not busy. `None` exactly where every row has a
@@ -228,19 +228,11 @@ impl Objects {
         ensures given { OnOk result (shown pool.new.used ≡ given_back_by (row_of key.now self.old.instances) (shown pool.old.used)) }
     {
         let former = self.current(key);
-        let life = self.lives;
-        if life == u64::MAX {
-            return Err(OutOfMemory);
-        }
-        let slot = slot_of(self.rows.vacant_key())?;
-        let row = new_row(alloc, slot, life, key, version, fields, times)?;
-        self.rows.insert_reserved(row);
-        self.order.push_reserved(slot);
-        self.lives += 1;
+        let id = self.make_row(alloc, former, key, version, fields, times)?;
         if let Some(former) = former {
             self.retire_id(pool, former);
         }
-        Ok(ObjectId { slot, life })
+        Ok(id)
     }
 
     /// Retires the row of a key: it is out at once where nobody follows it. Nothing changes where the key has
@@ -369,6 +361,40 @@ impl Objects {
 }
 
 impl Objects {
+    /// Makes a new row of a key, with nothing in memory, as the most recently used, and sets the former one
+    /// aside: it counts as retired. All memory is taken before anything changes.
+    fn make_row(
+        &mut self,
+        alloc: Global,
+        former: Option<ObjectId>,
+        key: &[u8],
+        version: &Version,
+        fields: &Fields<'_, '_>,
+        times: Times,
+    ) -> Result<ObjectId, OutOfMemory>
+        requires few { length self.old.instances < 1345 }
+        requires long { version.now.length ≤ 1073741824 }
+        requires former { former ≡ option_map id_of (row_of key.now self.old.instances) }
+        ensures refused { OnErr result (self.new ≡ self.old) }
+        ensures vacant { IfOk result (λ id. in_slot id.slot self.old.instances ≡ None) }
+        ensures life { IfOk result (λ id. id.life ≡ self.old.lives) }
+        ensures lives { OnOk result (self.new.lives ≡ self.old.lives + 1) }
+        ensures made { IfOk result (λ id. self.new.instances ≡ set_aside (row_of key.now self.old.instances) (self.old.instances ++ new_row id key.now version.now (kept_of fields.now times) times ∷ [])) }
+    {
+        let life = self.lives;
+        if life == u64::MAX {
+            return Err(OutOfMemory);
+        }
+        let slot = slot_of(self.rows.vacant_key())?;
+        let row = new_row(alloc, slot, life, key, version, fields, times)?;
+        put(&mut self.index, alloc, key, slot)?;
+        self.rows.insert_reserved(row);
+        self.order.push_reserved(slot);
+        self.lives += 1;
+        put_aside(&mut self.rows, former);
+        Ok(ObjectId { slot, life })
+    }
+
     /// Retires an instance: it is out at once where nobody follows it.
     fn retire_id(&mut self, pool: &mut Pool, id: ObjectId)
         requires there { is_there id self.old.instances ≡ true }
@@ -407,6 +433,7 @@ impl Objects {
         let Some(row) = self.rows.get_mut(id.slot as usize) else {
             return;
         };
+        leave_index(&mut self.index, row);
         row.retire();
     }
 
@@ -434,6 +461,7 @@ impl Objects {
         let Some(mut row) = self.rows.try_remove(slot as usize) else {
             return;
         };
+        leave_index(&mut self.index, &row);
         leave_order(&mut self.order, slot);
         row.cells.drop_all(pool);
     }
@@ -462,6 +490,19 @@ fn new_row(
         followers: 0,
         cells: Cells::new(alloc, slot, version.length)?,
     })
+}
+
+/// The former row of a key is retired where it stands.
+fn put_aside(rows: &mut Slab<Row>, former: Option<ObjectId>)
+    ensures { IsAside rows.old rows.new former }
+{
+    let Some(id) = former else {
+        return;
+    };
+    let Some(row) = rows.get_mut(id.slot as usize) else {
+        return;
+    };
+    row.retire();
 }
 
 /// Slots are numbered with 32 bits; past them there is no memory for a row.
@@ -517,15 +558,6 @@ fn is_row_in(rows: &Slab<Row>, slot: u32) -> bool
 {
     match rows.get(slot as usize) {
         Some(row) => !row.is_retired,
-        None => false,
-    }
-}
-
-fn is_row_of_key(rows: &Slab<Row>, slot: u32, key: &[u8]) -> bool
-    ensures { result ≡ is_row_of key.now (instance_at rows.now.slots slot) }
-{
-    match rows.get(slot as usize) {
-        Some(row) => !row.is_retired && row.key.as_slice() == key,
         None => false,
     }
 }

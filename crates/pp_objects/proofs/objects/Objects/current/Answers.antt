@@ -1,16 +1,23 @@
-use Rattle.std.proofs.Common.{◌≡◌, ◌<◌, length, get_or, true, sym, ◌∙◌, ap}
-use Rattle.std.specs.List.{find}
+use Rattle.std.proofs.Common.{Some, sym, ◌∙◌, ap}
+use Rattle.std.specs.Prelude.{option_map}
 use Rattle.pp_objects.specs.declared.id.ObjectId.{ObjectId}
-use Rattle.pp_objects.specs.Instances.{Rows, in_slot, is_row_of}
-use Rattle.pp_objects.specs.Inside.{instance_at}
-use Rattle.pp_objects.proofs.Slots.{found_at}
-use Rattle.pp_objects.proofs.Search.{found}
+use Rattle.pp_objects.specs.Instances.{id_of, in_slot}
+use Rattle.pp_objects.proofs.Slots.{slot_shown}
+use Rattle.pp_objects.proofs.Indexing.{row_missing, row_in_slot, id_shown}
 use Rattle.pp_objects.proofs.objects.Objects.current.Goals as goal
 
-pub returns-then-is_row_of_key-clause-there : goal.returns-then-is_row_of_key-clause-there
-returns-then-is_row_of_key-clause-there c =
-    let lt : c.loop-slot.slot-index < length c.self.inside.order.items = rw (← c.deref-slot-items.ensures.value) c.loop-slot-test.true in
-    let is : (is_row_of c.args.key.now (instance_at c.self.inside.rows.slots (get_or c.self.inside.order.items c.loop-slot.slot-index 0))) ≡ true = rw (← c.deref-slot-items.ensures.value) (sym c.is_row_of_key.ensures ∙ c.if-is_row_of_key.true) in
-    ap (λ (d : ObjectId). in_slot d.slot c.args.self.now.instances) (c.id_in.ensures)
-    ∙ (rw c.deref-slot-items.ensures.value (found_at c.self.inside c.args.self.now c.loop-slot.slot-index c.self.view_is lt
-    ∙ found (is_row_of c.args.key.now) (instance_at c.self.inside.rows.slots) c.self.inside.order.items c.loop-slot.slot-index _ lt is (c.loop-slot.invariant ∙ ap (λ (w : Rows). find (is_row_of c.args.key.now) w.instances) c.self.view_is)))
+pub returns-in_err-slot-clause-current : goal.returns-in_err-slot-clause-current
+returns-in_err-slot-clause-current c =
+    c.from_residual.ensures
+    ∙ sym (ap (option_map id_of) (row_missing c.self.inside.index c.self.inside c.args.self.now c.args.key.now c.self.invariant.indexed c.self.view_is (sym c.in_err-slot.ensures)))
+
+pub returns-clause-current : goal.returns-clause-current
+returns-clause-current c =
+    ap Some c.id_in.ensures
+    ∙ id_shown c.self.inside.index c.self.inside c.args.self.now c.args.key.now c.in_ok-slot.slot c.self.invariant.sound c.self.invariant.indexed c.self.view_is (sym c.in_ok-slot.ensures)
+
+pub returns-clause-there : goal.returns-clause-there
+returns-clause-there c =
+    ap (λ (d : ObjectId). in_slot d.slot c.args.self.now.instances) c.id_in.ensures
+    ∙ ap (λ n. in_slot n c.args.self.now.instances) (slot_shown c.self.inside.rows.slots c.in_ok-slot.slot)
+    ∙ sym (row_in_slot c.self.inside.index c.self.inside c.args.self.now c.args.key.now c.in_ok-slot.slot c.self.invariant.indexed c.self.view_is (sym c.in_ok-slot.ensures))

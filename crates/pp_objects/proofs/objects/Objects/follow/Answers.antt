@@ -8,24 +8,27 @@ use Rattle.pp_objects.specs.Inside.{instance_as, IsOwned}
 use Rattle.pp_objects.proofs.Slots.{none_there, seen_row}
 use Rattle.pp_objects.proofs.Sound.{sound-set, view-set}
 use Rattle.pp_objects.proofs.Agreeing.{same_faces}
+use Rattle.pp_objects.proofs.Indexing.{indexed-set}
 use Rattle.pp_objects.proofs.objects.Objects.follow.Goals as goal
 
 pub returns-in_default-clause-followed : goal.returns-in_default-clause-followed
-returns-in_default-clause-followed c = absurd (none_there c.self.inside c.args.self.now c.args.id c.self.invariant c.self.view_is c.requires.there (ap option_copied_mut (sym c.in_default.is) ∙ c.get_mut.ensures.value))
+returns-in_default-clause-followed c = absurd (none_there c.self.inside c.args.self.now c.args.id c.self.invariant.sound c.self.view_is c.requires.there (ap option_copied_mut (sym c.in_default.is) ∙ c.get_mut.ensures.value))
 
 pub add_follower-requires : goal.add_follower-requires
-add_follower-requires c = omega (arith, c.requires.few, ap followers_of (seen_row c.self.inside c.args.self.now c.args.id.slot (Some c.in-Some.row.now) c.self.invariant c.self.view_is c.in-Some.ensures.value))
+add_follower-requires c = omega (arith, c.requires.few, ap followers_of (seen_row c.self.inside c.args.self.now c.args.id.slot (Some c.in-Some.row.now) c.self.invariant.sound c.self.view_is c.in-Some.ensures.value))
 
 pub invariant_of-self-2 : goal.invariant_of-self-2
-invariant_of-self-2 c =
-    sound-set c.self.inside (record { rows = with_value c.self.inside.rows c.args.id.slot c.add_follower.new.self; order = c.self.inside.order; lives = c.self.inside.lives }) c.args.id.slot c.in-Some.row.now c.add_follower.new.self c.self.invariant (sym c.in-Some.ensures.value) (let P : Row → Type 0 = λ r. IsOwned c.args.id.slot r in subst P (sym c.add_follower.ensures) (record { owner = (c.self.invariant.owned c.args.id.slot c.in-Some.row.now (sym c.in-Some.ensures.value)).owner; total = (c.self.invariant.owned c.args.id.slot c.in-Some.row.now (sym c.in-Some.ensures.value)).total })) refl refl
+invariant_of-self-2 c = record {
+  sound = sound-set c.self.inside (record { rows = with_value c.self.inside.rows c.args.id.slot c.add_follower.new.self; order = c.self.inside.order; index = c.self.inside.index; lives = c.self.inside.lives }) c.args.id.slot c.in-Some.row.now c.add_follower.new.self c.self.invariant.sound (sym c.in-Some.ensures.value) (let P : Row → Type 0 = λ r. IsOwned c.args.id.slot r in subst P (sym c.add_follower.ensures) (record { owner = (c.self.invariant.sound.owned c.args.id.slot c.in-Some.row.now (sym c.in-Some.ensures.value)).owner; total = (c.self.invariant.sound.owned c.args.id.slot c.in-Some.row.now (sym c.in-Some.ensures.value)).total })) refl refl;
+  indexed = indexed-set c.self.inside.index c.self.inside.rows.slots c.args.id.slot c.in-Some.row.now c.add_follower.new.self (sym c.in-Some.ensures.value) (ap (λ (r : Row). r.key) c.add_follower.ensures) (ap (λ (r : Row). r.is_retired) c.add_follower.ensures) c.self.invariant.indexed;
+}
 
 pub returns-clause-followed : goal.returns-clause-followed
 returns-clause-followed c =
-    view-set c.self.inside (record { rows = with_value c.self.inside.rows c.args.id.slot c.add_follower.new.self; order = c.self.inside.order; lives = c.self.inside.lives }) c.args.self.now c.args.id.slot c.in-Some.row.now c.add_follower.new.self followed c.self.invariant c.self.view_is (sym c.in-Some.ensures.value) refl refl refl (ap (λ (r : Row). instance_as c.args.id.slot (Some r)) c.add_follower.ensures)
+    view-set c.self.inside (record { rows = with_value c.self.inside.rows c.args.id.slot c.add_follower.new.self; order = c.self.inside.order; index = c.self.inside.index; lives = c.self.inside.lives }) c.args.self.now c.args.id.slot c.in-Some.row.now c.add_follower.new.self followed c.self.invariant.sound c.self.view_is (sym c.in-Some.ensures.value) refl refl refl (ap (λ (r : Row). instance_as c.args.id.slot (Some r)) c.add_follower.ensures)
 
 pub returns-in_default-clause-cells : goal.returns-in_default-clause-cells
-returns-in_default-clause-cells c s = absurd (none_there c.self.inside c.args.self.now c.args.id c.self.invariant c.self.view_is c.requires.there (ap option_copied_mut (sym c.in_default.is) ∙ c.get_mut.ensures.value))
+returns-in_default-clause-cells c s = absurd (none_there c.self.inside c.args.self.now c.args.id c.self.invariant.sound c.self.view_is c.requires.there (ap option_copied_mut (sym c.in_default.is) ∙ c.get_mut.ensures.value))
 
 pub returns-clause-cells : goal.returns-clause-cells
-returns-clause-cells c = same_faces c.self.inside (record { rows = with_value c.self.inside.rows c.args.id.slot c.add_follower.new.self; order = c.self.inside.order; lives = c.self.inside.lives }) c.args.self.now _ c.args.id.slot c.in-Some.row.now c.add_follower.new.self c.self.invariant (sound-set c.self.inside (record { rows = with_value c.self.inside.rows c.args.id.slot c.add_follower.new.self; order = c.self.inside.order; lives = c.self.inside.lives }) c.args.id.slot c.in-Some.row.now c.add_follower.new.self c.self.invariant (sym c.in-Some.ensures.value) (let P : Row → Type 0 = λ r. IsOwned c.args.id.slot r in subst P (sym c.add_follower.ensures) (record { owner = (c.self.invariant.owned c.args.id.slot c.in-Some.row.now (sym c.in-Some.ensures.value)).owner; total = (c.self.invariant.owned c.args.id.slot c.in-Some.row.now (sym c.in-Some.ensures.value)).total })) refl refl) c.self.view_is refl (sym c.in-Some.ensures.value) refl (ap (λ (r : Row). r.cells.cells) c.add_follower.ensures)
+returns-clause-cells c = same_faces c.self.inside (record { rows = with_value c.self.inside.rows c.args.id.slot c.add_follower.new.self; order = c.self.inside.order; index = c.self.inside.index; lives = c.self.inside.lives }) c.args.self.now _ c.args.id.slot c.in-Some.row.now c.add_follower.new.self c.self.invariant.sound (sound-set c.self.inside (record { rows = with_value c.self.inside.rows c.args.id.slot c.add_follower.new.self; order = c.self.inside.order; index = c.self.inside.index; lives = c.self.inside.lives }) c.args.id.slot c.in-Some.row.now c.add_follower.new.self c.self.invariant.sound (sym c.in-Some.ensures.value) (let P : Row → Type 0 = λ r. IsOwned c.args.id.slot r in subst P (sym c.add_follower.ensures) (record { owner = (c.self.invariant.sound.owned c.args.id.slot c.in-Some.row.now (sym c.in-Some.ensures.value)).owner; total = (c.self.invariant.sound.owned c.args.id.slot c.in-Some.row.now (sym c.in-Some.ensures.value)).total })) refl refl) c.self.view_is refl (sym c.in-Some.ensures.value) refl (ap (λ (r : Row). r.cells.cells) c.add_follower.ensures)

@@ -6,7 +6,7 @@ use Rattle.pp_objects.proofs.Sound.{count_seen}
 use Rattle.pp_objects.proofs.objects.Objects.rows.Goals as goal
 
 pub overflow_cast-result : goal.overflow_cast-result
-overflow_cast-result c = omega (arith, c.count_rows.ensures.within, ap length c.deref.ensures.value, c.self.invariant.few)
+overflow_cast-result c = omega (arith, c.count_rows.ensures.within, ap length c.deref.ensures.value, c.self.invariant.sound.few)
 
 pub returns : goal.returns
 returns c =
