@@ -6,12 +6,14 @@ ghost use Rattle.pp_ask.specs.Texts.{field_line, line, via_line};
 
 use arrayvec::ArrayVec;
 use itoa::Buffer;
+use thiserror::Error;
 
 /// Room for the text of an ask, in bytes.
 pub const ASK_LEN: usize = 16_384;
 
 /// The text of an ask exceeds 16,384 bytes.
-#[derive(Clone, Copy, Debug, PartialEq, Eq)]
+#[derive(Clone, Copy, Debug, PartialEq, Eq, Error)]
+#[error("the text of an ask exceeds 16,384 bytes")]
 pub struct TooLong;
 
 pub fn put(text: &[u8], out: &mut ArrayVec<u8, ASK_LEN>) -> Result<(), TooLong>

@@ -7,12 +7,14 @@ ghost use Rattle.pp_entry.specs.Texts.{own_line};
 
 use arrayvec::ArrayVec;
 use itoa::Buffer;
+use thiserror::Error;
 
 /// The bytes of a head block.
 pub const HEAD_LEN: usize = 8192;
 
 /// The text of an entry exceeds its head block, or has more than 95 kept fields.
-#[derive(Clone, Copy, Debug, PartialEq, Eq)]
+#[derive(Clone, Copy, Debug, PartialEq, Eq, Error)]
+#[error("an entry exceeds its head block")]
 pub struct TooLong;
 
 pub(crate) fn put(text: &[u8], out: &mut ArrayVec<u8, HEAD_LEN>) -> Result<(), TooLong>

@@ -5,24 +5,30 @@ ghost use Rattle.pp_framing.specs.Framing.{coding_of, with_coding, length_of, is
 
 use crate::body::BodyRule;
 use pp_text::{Fields, read_u64, same};
+use thiserror::Error;
 
 /// Why the fields of a head delimit no body.
-#[derive(Clone, Copy, Debug, PartialEq, Eq)]
+#[derive(Clone, Copy, Debug, PartialEq, Eq, Error)]
 pub enum FramingFault {
     /// Two of its lengths differ.
+    #[error("two lengths of a body differ")]
     TwoLengths,
     /// A length is no number.
+    #[error("the length of a body is no number")]
     BadLength,
     /// A transfer coding is there that is not read here.
+    #[error("a transfer coding is not known")]
     OtherCoding,
 }
 
 /// Why a head is none of a response with a body that can be read.
-#[derive(Clone, Copy, Debug, PartialEq, Eq)]
+#[derive(Clone, Copy, Debug, PartialEq, Eq, Error)]
 pub enum ResponseFault {
     /// Its status is below 100: it is no response (RFC 9110, section 15).
+    #[error("a status is below 100")]
     NoStatus,
     /// Its fields delimit no body.
+    #[error(transparent)]
     Framing(FramingFault),
 }
 

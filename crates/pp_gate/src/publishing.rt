@@ -9,6 +9,7 @@ ghost use Rattle.pp_gate.specs.Seal.{IsFront, IsKept, Keeps, OldOrHonest};
 
 use pp_entry::{HEAD_LEN, body_at};
 use pp_world::{Disk, DiskFault, Name};
+use thiserror::Error;
 
 /// The gate of a chunk that is kept.
 const OPEN: u8 = 0x01;
@@ -17,11 +18,13 @@ const OPEN: u8 = 0x01;
 const CLOSED: u8 = 0x00;
 
 /// Why an entry was not published.
-#[derive(Clone, Copy, Debug, PartialEq, Eq)]
+#[derive(Clone, Copy, Debug, PartialEq, Eq, Error)]
 pub enum PublishFault {
     /// The draft was not written, or not synced: no name was touched.
+    #[error("an entry was not written")]
     NoDraft,
     /// The draft was not named: the old file stands under the name, or the new one.
+    #[error("an entry was not named")]
     DiskFault,
 }
 

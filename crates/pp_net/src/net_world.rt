@@ -19,16 +19,19 @@ use std::io::ErrorKind;
 use std::net::{Net, SocketAddr};
 use std::rt::Runtime;
 use std::time::Duration;
+use thiserror::Error;
 
 /// How many reports one question to the system brings at most.
 const REPORTS: usize = 256;
 
 /// Why there is no world of sockets.
-#[derive(Clone, Copy, Debug, PartialEq, Eq)]
+#[derive(Clone, Copy, Debug, PartialEq, Eq, Error)]
 pub enum NetFault {
     /// The system gave no poller.
+    #[error("the system gave no poller")]
     NoPoller,
     /// Memory was asked for and not given.
+    #[error("memory was asked for and not given")]
     OutOfMemory,
 }
 

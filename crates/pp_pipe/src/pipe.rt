@@ -21,9 +21,11 @@ use pp_head::{ResponseHead, Scratch};
 use pp_text::OutOfMemory;
 use std::alloc::Global;
 use std::marker::Model;
+use thiserror::Error;
 
 /// As many asks are there as there may be.
-#[derive(Clone, Copy, Debug, PartialEq, Eq)]
+#[derive(Clone, Copy, Debug, PartialEq, Eq, Error)]
+#[error("the pipe has no room")]
 pub struct Full;
 
 /// A connection to an origin. Contracts see it as a `Line`.

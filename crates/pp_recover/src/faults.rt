@@ -5,13 +5,16 @@ ghost use Rattle.pp_recover.specs.Faults.{fault_of};
 
 use pp_text::OutOfMemory;
 use pp_world::NamesFault;
+use thiserror::Error;
 
 /// Why a folder was not opened.
-#[derive(Clone, Copy, Debug, PartialEq, Eq)]
+#[derive(Clone, Copy, Debug, PartialEq, Eq, Error)]
 pub enum RecoverFault {
     /// The folder could not be listed.
+    #[error("the folder could not be listed")]
     DiskFault,
     /// Memory was asked for and not given.
+    #[error("memory was asked for and not given")]
     OutOfMemory,
 }
 

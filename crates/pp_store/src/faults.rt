@@ -4,21 +4,28 @@ ghost use Rattle.pp_store.specs.declared.faults.KeepFault.TheVariants.{OutOfMemo
 
 use pp_text::OutOfMemory;
 use std::alloc::AllocError;
+use thiserror::Error;
 
 /// Why an entry is not kept.
-#[derive(Clone, Copy, Debug, PartialEq, Eq)]
+#[derive(Clone, Copy, Debug, PartialEq, Eq, Error)]
 pub enum KeepFault {
     /// An operation on the key's file name failed in this life.
+    #[error("the name of an entry is closed")]
     Closed,
     /// 10,000 names or more are kept or closed.
+    #[error("10,000 entries are kept")]
     Full,
     /// The head block has no room for the entry, or it has more than 95 fields.
+    #[error("an entry exceeds its head block")]
     TooLong,
     /// The disk failed before the entry had its name. Nothing is changed.
+    #[error("an entry was not written")]
     NoDraft,
     /// The disk failed to name the entry, and the name is closed.
+    #[error("an entry was not named")]
     DiskFault,
     /// Memory was asked for and not given.
+    #[error("memory was asked for and not given")]
     OutOfMemory,
 }
 
@@ -47,11 +54,13 @@ impl From<pp_entry::TooLong> for KeepFault {
 }
 
 /// Why a chunk was not read.
-#[derive(Clone, Copy, Debug, PartialEq, Eq)]
+#[derive(Clone, Copy, Debug, PartialEq, Eq, Error)]
 pub enum LoadFault {
     /// The disk failed.
+    #[error("the disk failed")]
     DiskFault,
     /// The file has fewer bytes than were kept.
+    #[error("a chunk has {wanted} bytes, and {got} were read")]
     Short {
         /// How many bytes the chunk has.
         wanted: u64,

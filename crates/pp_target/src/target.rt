@@ -12,6 +12,7 @@ use http_uri::Uri;
 use itoa::Buffer;
 use pp_text::read_u64;
 use std::alloc::Global;
+use thiserror::Error;
 
 /// Where the parts of a key stand in it, as byte offsets.
 #[derive(Clone, Copy, Debug, PartialEq, Eq)]
@@ -25,19 +26,25 @@ pub struct Place {
 }
 
 /// Why a target has no key. Of several the first is answered.
-#[derive(Clone, Copy, Debug, PartialEq, Eq)]
+#[derive(Clone, Copy, Debug, PartialEq, Eq, Error)]
 pub enum TargetFault {
     /// It has no scheme and authority (RFC 2616, section 5.1.2).
+    #[error("the target has no scheme and authority")]
     NotAbsolute,
     /// The scheme is not `http`, in any case (section 3.2.2).
+    #[error("the target's scheme is not http")]
     NotHttp,
     /// The host is empty or above 255 bytes, or there is an `@` or a `[`.
+    #[error("the target's host is not understood")]
     BadHost,
     /// What follows the colon is neither empty nor a number from 1 to 65535 (section 3.2.2).
+    #[error("the target's port is not understood")]
     BadPort,
     /// The key would exceed 8,192 bytes.
+    #[error("the target's key exceeds 8,192 bytes")]
     TooLong,
     /// Memory was asked for and not given.
+    #[error("memory was asked for and not given")]
     OutOfMemory,
 }
 

@@ -7,17 +7,21 @@ ghost use Rattle.pp_world.specs.Log.{Appends, AppendsAll, Rises, Told};
 
 use crate::{Logged, Name};
 use std::alloc::Global;
+use thiserror::Error;
 
 /// A file or the folder failed.
-#[derive(Clone, Copy, Debug, PartialEq, Eq)]
+#[derive(Clone, Copy, Debug, PartialEq, Eq, Error)]
+#[error("a file or the folder failed")]
 pub struct DiskFault;
 
 /// Why the folder was not listed.
-#[derive(Clone, Copy, Debug, PartialEq, Eq)]
+#[derive(Clone, Copy, Debug, PartialEq, Eq, Error)]
 pub enum NamesFault {
     /// The folder is not there, or could not be read.
+    #[error("the folder could not be read")]
     Disk,
     /// Memory was asked for and not given.
+    #[error("memory was asked for and not given")]
     OutOfMemory,
 }
 

@@ -9,17 +9,21 @@ ghost use Rattle.pp_world.specs.Wire.{ConfigCause, IsNewNumber, IsNumbered, IsOn
 use crate::{Disk, Event, Got, Note, Wants};
 use pp_text::Octets;
 use std::alloc::Global;
+use thiserror::Error;
 
 /// A socket failed.
-#[derive(Clone, Copy, Debug, PartialEq, Eq)]
+#[derive(Clone, Copy, Debug, PartialEq, Eq, Error)]
+#[error("a socket failed")]
 pub struct WireFault;
 
 /// Why a configuration file gave no text.
-#[derive(Clone, Copy, Debug, PartialEq, Eq)]
+#[derive(Clone, Copy, Debug, PartialEq, Eq, Error)]
 pub enum ConfigFault {
     /// The file is not there, or could not be read.
+    #[error("the configuration could not be read")]
     Unreadable,
     /// Memory was asked for and not given.
+    #[error("memory was asked for and not given")]
     OutOfMemory,
 }
 
