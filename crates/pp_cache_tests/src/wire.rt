@@ -3,7 +3,7 @@ ghost use Rattle.std.specs.Prelude.{◌≡◌, None};
 
 use arrayvec::ArrayVec;
 use pp_text::Octets;
-use pp_world::{ConfigFault, Event, Got, Logged, Note, Wants, Wire, WireFault};
+use pp_world::{ConfigFault, Door, Event, Got, Logged, Note, Wants, Wire, WireFault};
 use std::alloc::Global;
 
 /// A call on the outside.
@@ -72,7 +72,7 @@ impl Wire for Counted {
         Ok(bytes.len())
     }
 
-    fn listen(&mut self, _port: u16) -> Result<(), WireFault> {
+    fn listen(&mut self, _door: &Door<'_>) -> Result<(), WireFault> {
         Ok(())
     }
 

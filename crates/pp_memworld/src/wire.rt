@@ -11,7 +11,9 @@ ghost use Rattle.pp_memworld.specs.Peer.{IsFresh, IsReadBy, IsWrittenBy, found, 
 use crate::parts::front_of;
 use crate::{MemWorld, Page};
 use pp_text::{Octets, OutOfMemory};
-use pp_world::{CONFIG_READ_LEN, ConfigFault, Event, Got, Happening, Note, Wants, Wire, WireFault};
+use pp_world::{
+    CONFIG_READ_LEN, ConfigFault, Door, Event, Got, Happening, Note, Wants, Wire, WireFault,
+};
 use std::alloc::Global;
 
 impl Wire for MemWorld {
@@ -89,8 +91,8 @@ impl Wire for MemWorld {
         Ok(count)
     }
 
-    fn listen(&mut self, port: u16) -> Result<(), WireFault>
-        ensures told { Appends (told_log self.old) (told_log self.new) (λ l. listen_happening port result) }
+    fn listen(&mut self, door: &Door<'_>) -> Result<(), WireFault>
+        ensures told { Appends (told_log self.old) (told_log self.new) (λ l. listen_happening door.now.port result) }
         ensures fails { is_err result ≡ fails self.old }
         ensures faults { faults_of self.old ≤ faults_of self.new }
         ensures count { faults_of self.new ≡ faults_after (faults_of self.old) (is_err result) }
@@ -102,10 +104,10 @@ impl Wire for MemWorld {
         let is_failing = self.calls.is_failing();
         self.calls.count();
         if is_failing {
-            self.record.fail(Happening::Listens(port, false));
+            self.record.fail(Happening::Listens(door.port, false));
             return Err(WireFault);
         }
-        self.record.tell(Happening::Listens(port, true));
+        self.record.tell(Happening::Listens(door.port, true));
         Ok(())
     }
 

@@ -1,5 +1,6 @@
 pub mod Connections
 pub mod Disk
+pub mod Doors
 pub mod Files
 pub mod Life
 pub mod Log

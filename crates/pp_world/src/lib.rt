@@ -17,6 +17,7 @@
 #![tactic(auto)]
 
 mod disk; // a folder of files
+mod door; // where clients are listened for
 mod event; // what the poller reports, and what it is asked for
 mod happening; // an entry of the log
 mod image; // the files of a folder, by name
@@ -25,6 +26,7 @@ mod op; // an operation that changes the disk
 mod wire; // connections, the clock and the console
 
 pub use disk::{Disk, DiskFault, NamesFault};
+pub use door::{AddressRange, Door};
 pub use event::{Event, Got, Side, Wants};
 pub use happening::Happening;
 pub use image::{Image, Name};

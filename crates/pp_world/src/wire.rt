@@ -6,7 +6,7 @@ ghost use Rattle.pp_world.specs.Connections.{IsOpen};
 ghost use Rattle.pp_world.specs.Log.{Appends, AppendsAll, Rises, Told};
 ghost use Rattle.pp_world.specs.Wire.{ConfigCause, IsNewNumber, IsNumbered, IsOnDialled, IsWithin, close_happening, config_happenings, dial_happening, is_wanted, listen_happening, note_happening, print_happening, read_happening, top_after, wait_happenings, write_happening};
 
-use crate::{Disk, Event, Got, Note, Wants};
+use crate::{Disk, Door, Event, Got, Note, Wants};
 use pp_text::Octets;
 use std::alloc::Global;
 use thiserror::Error;
@@ -76,9 +76,9 @@ pub trait Wire: Logged {
         ensures cause { OnErr result (Rises (Self.log self.new) (Self.faults self.old) (Self.faults self.new)) }
         ensures top { Self.top self.new ≡ Self.top self.old };
 
-    /// Listens for clients on this port.
-    fn listen(&mut self, port: u16) -> Result<(), WireFault>
-        ensures told { Appends (Self.log self.old) (Self.log self.new) (λ l. listen_happening port result) }
+    /// Listens for clients at this door.
+    fn listen(&mut self, door: &Door<'_>) -> Result<(), WireFault>
+        ensures told { Appends (Self.log self.old) (Self.log self.new) (λ l. listen_happening door.now.port result) }
         ensures faults { Self.faults self.old ≤ Self.faults self.new }
         ensures cause { OnErr result (Rises (Self.log self.new) (Self.faults self.old) (Self.faults self.new)) }
         ensures top { Self.top self.new ≡ Self.top self.old };

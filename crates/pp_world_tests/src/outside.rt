@@ -7,8 +7,8 @@ use crate::calls::{Call, Gives, Shelf, first_unlike};
 use arrayvec::ArrayVec;
 use pp_text::Octets;
 use pp_world::{
-    Cause, ConfigFault, Disk, DiskFault, Event, Got, Image, Logged, Name, NamesFault, Note, Wants,
-    Wire, WireFault, World,
+    Cause, ConfigFault, Disk, DiskFault, Door, Event, Got, Image, Logged, Name, NamesFault, Note,
+    Wants, Wire, WireFault, World,
 };
 use std::alloc::Global;
 use std::test::Fail;
@@ -45,7 +45,7 @@ impl Wire for Silent {
         Ok(0)
     }
 
-    fn listen(&mut self, _port: u16) -> Result<(), WireFault> {
+    fn listen(&mut self, _door: &Door<'_>) -> Result<(), WireFault> {
         Ok(())
     }
 
