@@ -5,11 +5,11 @@ ghost use Rattle.pp_proxy.specs.Anything.{anything};
 ghost use Rattle.pp_store.specs.Held.{Holds};
 ghost use Rattle.pp_world.specs.Log.{Told};
 
-use crate::cache::{CHUNK_LEN, Cache};
 use crate::desk::Desk;
 use crate::disk::load;
 use crate::seat::{Brought, Next, Seat};
 use crate::state::State;
+use pp_cache::{CHUNK_LEN, Cache};
 use pp_links::Links;
 use pp_shelf::Shelf;
 use pp_target::file_name;

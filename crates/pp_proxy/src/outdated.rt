@@ -1,10 +1,10 @@
 // Rows that a passed response outdates: what an unsafe method changed, and what GET and HEAD show (RFC 2616,
 // sections 9.4 and 13.10).
 use crate::errand::Errand;
-use crate::named::{is_spelled_at, write_named};
 use crate::rows::clear_key;
 use crate::state::State;
 use arrayvec::ArrayVec;
+use pp_cache::{is_spelled_at, write_named};
 use pp_client::Current;
 use pp_flow::Exchange;
 use pp_head::{ResponseHead, Scratch};

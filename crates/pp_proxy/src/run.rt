@@ -7,9 +7,9 @@ ghost use Rattle.pp_proxy.specs.Anything.{anything};
 ghost use Rattle.pp_store.specs.Held.{Holds};
 ghost use Rattle.pp_world.specs.Log.{Told};
 
-use crate::cache::CHUNK_LEN;
 use crate::disk::{draft, seal};
 use crate::state::State;
+use pp_cache::CHUNK_LEN;
 use pp_entry::body_at;
 use pp_links::Links;
 use pp_objects::{ObjectId, RowView};

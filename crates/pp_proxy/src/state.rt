@@ -3,11 +3,10 @@ ghost use Rattle.std.specs.Prelude.{◌≡◌};
 ghost use Rattle.pp_proxy.specs.Courses.{is_unfilled};
 ghost use Rattle.pp_proxy.specs.Heads.{cleared, key_of};
 
-use crate::cache::Cache;
 use crate::errand::Errand;
-use crate::noted::Noted;
 use crate::seat::{Course, Seat, Stage};
 use arrayvec::ArrayVec;
+use pp_cache::{Cache, Noted};
 use pp_flow::{Aim, EXCHANGES, Exchange, Flow};
 use pp_peers::Limits;
 use pp_valid::Version;

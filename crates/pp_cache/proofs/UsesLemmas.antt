@@ -4,7 +4,7 @@ use Rattle.std.specs.Prelude.{cond}
 use Rattle.std.proofs.lemmas.Bool.Decides.{nat_tests}
 use Rattle.pp_holes.specs.Places.{Chunk, bytes_at, touched}
 use Rattle.pp_text.specs.Bytes.{is_empty}
-use Rattle.pp_proxy.specs.Uses.{used_at, used_run}
+use Rattle.pp_cache.specs.Uses.{used_at, used_run}
 
 pub used_next : (slot index to : ℕ) (cs : List Chunk) → index < to → used_run (to - index) slot index cs ≡ used_run (to - (index + 1)) slot (index + 1) (used_at (slot, index) cs)
 unfolding used_run

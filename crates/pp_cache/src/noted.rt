@@ -12,14 +12,14 @@ const MOST: usize = 16;
 
 /// Keys, each once, in the order in which they came in.
 #[derive(Drop)]
-pub(crate) struct Noted {
+pub struct Noted {
     keys: Vec<Box<ArrayVec<u8, KEY_ROOM>>>,
     spare: Vec<Box<ArrayVec<u8, KEY_ROOM>>>,
 }
 
 impl Noted {
     /// None, and the room for all.
-    pub(crate) fn new(alloc: Global) -> Result<Noted, OutOfMemory> {
+    pub fn new(alloc: Global) -> Result<Noted, OutOfMemory> {
         let keys = Vec::with_capacity(alloc, MOST)?;
         let mut spare = Vec::with_capacity(alloc, MOST)?;
         for _key in 0..MOST {
@@ -29,23 +29,25 @@ impl Noted {
         Ok(Noted { keys, spare })
     }
 
-    pub(crate) fn len(&self) -> usize
+    /// How many there are.
+    pub fn len(&self) -> usize
         ensures { result ≡ length self.now.keys.items }
     {
         self.keys.len()
     }
 
     /// The key at this place.
-    pub(crate) fn get(&self, place: usize) -> Option<&[u8]> {
+    pub fn get(&self, place: usize) -> Option<&[u8]> {
         Some(self.keys.get(place)?.as_slice())
     }
 
-    pub(crate) fn has(&self, key: &[u8]) -> bool {
+    /// Whether this key is noted.
+    pub fn has(&self, key: &[u8]) -> bool {
         self.keys.iter().any(|noted| noted.as_slice() == key)
     }
 
     /// Notes a key, where it is not noted yet.
-    pub(crate) fn note(&mut self, key: &[u8]) {
+    pub fn note(&mut self, key: &[u8]) {
         if self.has(key) {
             return;
         }
@@ -57,7 +59,7 @@ impl Noted {
     }
 
     /// Forgets a key.
-    pub(crate) fn forget(&mut self, key: &[u8]) {
+    pub fn forget(&mut self, key: &[u8]) {
         if let Some(place) = self.keys.iter().position(|noted| noted.as_slice() == key) {
             if place < self.keys.len() {
                 let room = self.keys.remove(place);
@@ -66,7 +68,8 @@ impl Noted {
         }
     }
 
-    pub(crate) fn clear(&mut self) {
+    /// Forgets all.
+    pub fn clear(&mut self) {
         for _key in 0..MOST {
             if let Some(room) = self.keys.pop() {
                 let _ = self.spare.push(room);

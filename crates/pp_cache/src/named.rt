@@ -1,6 +1,6 @@
 // The keys that Location and Content-Location name (RFC 2616, sections 13.10, 14.14 and 14.30).
 ghost use Rattle.std.specs.Prelude.{◌≡◌, IfOk, bytes_eq};
-ghost use Rattle.pp_proxy.specs.Named.{key_named, path_named, site_of, some_if};
+ghost use Rattle.pp_cache.specs.Named.{key_named, path_named, site_of, some_if};
 ghost use Rattle.pp_target.specs.Key.{IsPlaceIn, key_in};
 
 use arrayvec::ArrayVec;
@@ -11,7 +11,7 @@ use std::alloc::Global;
 
 /// Writes the key that a text names of a site, which is how its keys begin: scheme, host and port. The text is a
 /// URL, or a path from the root. False where it names none of the site's.
-pub(crate) fn write_named(
+pub fn write_named(
     alloc: Global,
     site: &[u8],
     text: &[u8],
@@ -50,6 +50,6 @@ fn write_path(site: &[u8], text: &[u8], out: &mut ArrayVec<u8, KEY_ROOM>) -> boo
 }
 
 /// Whether the text stands for a key of the site as it is spelled.
-pub(crate) fn is_spelled_at(site: &[u8], text: &[u8]) -> bool {
+pub fn is_spelled_at(site: &[u8], text: &[u8]) -> bool {
     text.starts_with(site) && text.get(site.len()) == Some(&b'/')
 }

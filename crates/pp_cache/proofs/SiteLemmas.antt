@@ -1,7 +1,7 @@
 -- Scheme, host and port are the front of a key.
 use Rattle.std.proofs.Common.{◌≡◌, ℕ, ◌+◌, List, ◌++◌, length, take, codes, ap, ◌∙◌, arith}
 use Rattle.std.proofs.Math.Seq.{take-append_seam, take-append-add}
-use Rattle.pp_proxy.specs.Named.{site_of}
+use Rattle.pp_cache.specs.Named.{site_of}
 use Rattle.pp_target.specs.Key.{IsPlaceIn, Key, key_in, place_of, port_text, text_of}
 use Rattle.pp_target.specs.declared.target.Place.{Place}
 

@@ -1,7 +1,7 @@
 use Rattle.std.proofs.Common.{sym, ap, ◌*◌, ◌∙◌}
 use Rattle.pp_holes.specs.Places.{shown}
-use Rattle.pp_proxy.proofs.UsesLemmas.{none_of, used_of_none}
-use Rattle.pp_proxy.proofs.cache.touch_chunk.Goals as goal
+use Rattle.pp_cache.proofs.UsesLemmas.{none_of, used_of_none}
+use Rattle.pp_cache.proofs.cache.touch_chunk.Goals as goal
 
 pub returns-then-is_empty-clause-used : goal.returns-then-is_empty-clause-used
 returns-then-is_empty-clause-used c =

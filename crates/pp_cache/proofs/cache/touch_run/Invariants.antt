@@ -1,8 +1,8 @@
 use Rattle.std.proofs.Common.{◌≡◌, ◌-◌}
 use Rattle.pp_holes.specs.Places.{shown}
 use Rattle.pp_objects.specs.Agreement.{AllAgree}
-use Rattle.pp_proxy.specs.Uses.{used_run}
-use Rattle.pp_proxy.proofs.cache.touch_run.Given as goal
+use Rattle.pp_cache.specs.Uses.{used_run}
+use Rattle.pp_cache.proofs.cache.touch_run.Given as goal
 
 -- what is left to be used, of the pool as it is now, comes to what is asked for
 abbrev pub invariant-loop-index : goal.invariant-loop-index
