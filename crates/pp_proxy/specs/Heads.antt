@@ -11,18 +11,11 @@ use Rattle.pp_objects.specs.declared.id.ObjectId.{ObjectId}
 use Rattle.pp_text.specs.Fields.{Field}
 use Rattle.pp_valid.specs.Conditions.{names_other_tag}
 use Rattle.pp_valid.specs.declared.version.Version.{Version}
-use Rattle.pp_proxy.specs.declared.errand.Kind.{Kind}
-use Rattle.pp_proxy.specs.declared.errand.Kind.TheVariants.{Whole, Range, Hole as AsHole, Check, Pass as AsPassed}
+use Rattle.pp_seats.specs.declared.errand.Kind.{Kind}
+use Rattle.pp_seats.specs.declared.errand.Kind.TheVariants.{Whole, Range, Hole as AsHole, Check, Pass as AsPassed}
+use Rattle.pp_seats.specs.Errands.{named_by}
 use Rattle.pp_proxy.specs.declared.rows.Unchanged.{Unchanged}
 use Rattle.pp_proxy.specs.declared.rows.Unchanged.TheVariants.{NotShared, OfAnother, OfRow, OfNothing}
-
--- the tag that an ask names
-abbrev pub named_by : Kind → Option (List ℕ)
-named_by Whole = None
-named_by (Range first last) = None
-named_by (AsHole first last tag) = Some tag
-named_by (Check tag) = Some tag
-named_by AsPassed = None
 
 abbrev pub names_tag : Option (List ℕ) → List ℕ → Bool
 names_tag None tag = false

@@ -1,7 +1,5 @@
 pub mod Anything
-pub mod Courses
 pub mod Heads
 pub mod Patience
-pub mod Said
 pub mod Turns
 pub mod Unseen

@@ -1,9 +1,5 @@
 // What is decided for a request, by what is known of its key (RFC 2616, sections 13 and 14; RFC 6585,
 // section 5).
-use crate::errand::Kind;
-use crate::front::Front;
-use crate::key::Key;
-use crate::seat::{Brought, Seat};
 use crate::state::State;
 use arrayvec::ArrayVec;
 use pp_ask::{ASK_LEN, write_ask};
@@ -11,6 +7,7 @@ use pp_client::Current;
 use pp_head::{RequestHead, Scratch};
 use pp_objects::ObjectId;
 use pp_plan::{Begun, PlanRow, decide, span};
+use pp_seats::{Brought, Front, Key, Kind, Seat};
 use pp_valid::Version;
 use pp_world::Decision;
 

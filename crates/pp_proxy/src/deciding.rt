@@ -3,10 +3,6 @@ ghost use Rattle.std.specs.Prelude.{IsTrue};
 ghost use Rattle.pp_reply.specs.Texts.{has_page};
 
 use crate::decide::kind_of;
-use crate::errand::{Body, Errand, Kind};
-use crate::front::{Asked, is_answerable};
-use crate::key::Key;
-use crate::seat::{Answer, Brought, Course, Seat, Stage};
 use crate::state::State;
 use crate::unseen::is_soon;
 use pp_client::{Begin, Current};
@@ -16,6 +12,7 @@ use pp_head::{RequestHead, Scratch};
 use pp_objects::ObjectId;
 use pp_ranges::{Range, read_range};
 use pp_reply::{CONTINUE, ReplyKind, write_reply};
+use pp_seats::{Answer, Asked, Body, Brought, Course, Errand, Key, Kind, Seat, Stage, is_answerable};
 use pp_valid::accepts_only_identity;
 use pp_world::Decision;
 

@@ -1,6 +1,6 @@
 // Which decision or cut is due, and which comes first (RFC 2616, section 8.1; the order is ours).
-use crate::seat::{Answer, Brought, Course, PassedEnd, Seat, Stage};
 use crate::state::State;
+use pp_seats::{Answer, Brought, Course, PassedEnd, Seat, Stage};
 use pp_shelf::Shelf;
 use pp_world::{Cause, Decision};
 

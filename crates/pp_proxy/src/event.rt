@@ -9,9 +9,9 @@ ghost use Rattle.pp_world.specs.Log.{Told};
 
 use crate::desk::Desk;
 use crate::origin::Origin;
-use crate::seat::Seat;
 use pp_client::Client;
 use pp_links::Links;
+use pp_seats::Seat;
 use pp_shelf::Shelf;
 use pp_world::{Event, World};
 

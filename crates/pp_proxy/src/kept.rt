@@ -7,10 +7,10 @@ ghost use Rattle.pp_world.specs.Log.{Told};
 
 use crate::desk::Desk;
 use crate::disk::load;
-use crate::seat::{Brought, Next, Seat};
 use crate::state::State;
 use pp_cache::{CHUNK_LEN, Cache};
 use pp_links::Links;
+use pp_seats::{Brought, Next, Seat};
 use pp_shelf::Shelf;
 use pp_target::file_name;
 use pp_text::OutOfMemory;

@@ -1,6 +1,5 @@
 // Rows that a passed response outdates: what an unsafe method changed, and what GET and HEAD show (RFC 2616,
 // sections 9.4 and 13.10).
-use crate::errand::Errand;
 use crate::rows::clear_key;
 use crate::state::State;
 use arrayvec::ArrayVec;
@@ -8,6 +7,7 @@ use pp_cache::{is_spelled_at, write_named};
 use pp_client::Current;
 use pp_flow::Exchange;
 use pp_head::{ResponseHead, Scratch};
+use pp_seats::Errand;
 use pp_text::OutOfMemory;
 use pp_valid::{Version, body_length, names_other_tag};
 

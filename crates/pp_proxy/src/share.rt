@@ -2,9 +2,9 @@
 ghost use Rattle.std.specs.Prelude.{◌≡◌};
 ghost use Rattle.pp_proxy.specs.Patience.{is_patient};
 
-use crate::seat::{Seat, Shared, Stage};
 use crate::state::State;
 use pp_flow::Aim;
+use pp_seats::{Seat, Shared, Stage};
 use pp_world::Decision;
 
 /// Ours: a request waits for another's fetch for so many seconds.

@@ -1,14 +1,13 @@
 // What the steps of a turn change together: clients, exchanges and the cache.
 ghost use Rattle.std.specs.Prelude.{◌≡◌};
-ghost use Rattle.pp_proxy.specs.Courses.{is_unfilled};
+ghost use Rattle.pp_seats.specs.Courses.{is_unfilled};
 ghost use Rattle.pp_proxy.specs.Heads.{cleared, key_of};
 
-use crate::errand::Errand;
-use crate::seat::{Course, Seat, Stage};
 use arrayvec::ArrayVec;
 use pp_cache::{Cache, Noted};
 use pp_flow::{Aim, EXCHANGES, Exchange, Flow};
 use pp_peers::Limits;
+use pp_seats::{Course, Errand, Seat, Stage};
 use pp_valid::Version;
 use std::alloc::Global;
 

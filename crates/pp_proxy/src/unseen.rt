@@ -3,15 +3,15 @@
 ghost use Rattle.std.specs.Prelude.{◌≡◌};
 ghost use Rattle.pp_objects.specs.Instances.{is_same_id};
 ghost use Rattle.pp_flow.specs.Brings.{is_soon};
-ghost use Rattle.pp_proxy.specs.Unseen.{has_reader_near, is_next_near, is_unseen, is_worth_keeping, next_of};
+ghost use Rattle.pp_proxy.specs.Unseen.{has_reader_near, is_next_near, is_unseen, is_worth_keeping};
+ghost use Rattle.pp_seats.specs.Follows.{next_of};
 
 use crate::desk::Desk;
-use crate::errand::Body;
-use crate::seat::Seat;
 use crate::state::State;
 use pp_flow::{Aim, Exchange};
 use pp_objects::ObjectId;
 use pp_plan::is_near;
+use pp_seats::{Body, Seat};
 
 /// Ours: what is dropped as it comes is read for so many bytes, to spare the connection.
 const DROP_LIMIT: u64 = 65_536;

@@ -1,9 +1,9 @@
 -- What is said of an instance (RFC 2616, section 6): its bytes stand behind the interim answer and the head.
 use Rattle.std.specs.Prelude.{ℕ, ◌+◌, ◌-◌, Bool, true, false, ◌&&◌, nat_lt, min, Option, Some, None, option_map}
-use Rattle.pp_proxy.specs.declared.seat.Next.{Next}
-use Rattle.pp_proxy.specs.declared.seat.Seat.{Seat}
-use Rattle.pp_proxy.specs.Courses.{has_begun}
-use Rattle.pp_proxy.specs.Unseen.{next_of}
+use Rattle.pp_seats.specs.declared.seat.Next.{Next}
+use Rattle.pp_seats.specs.declared.seat.Seat.{Seat}
+use Rattle.pp_seats.specs.Courses.{has_begun}
+use Rattle.pp_seats.specs.Follows.{next_of}
 
 -- so many bytes of it, no further than its span
 abbrev pub first_of : ℕ → Next → Next

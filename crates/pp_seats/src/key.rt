@@ -8,7 +8,7 @@ use std::alloc::Global;
 
 /// What a target names: a text, and where host, port and path stand in it.
 #[derive(Drop)]
-pub(crate) struct Key {
+pub struct Key {
     text: Vec<u8>,
     place: Place,
     ghost within: { IsPlaceIn text.items place },
@@ -16,7 +16,7 @@ pub(crate) struct Key {
 
 impl Key {
     /// The key of a target, or the first fault that applies.
-    pub(crate) fn at(alloc: Global, target: &[u8]) -> Result<Key, TargetFault> {
+    pub fn at(alloc: Global, target: &[u8]) -> Result<Key, TargetFault> {
         let mut text = ArrayVec::new();
         let place = key(alloc, target, &mut text)?;
         let Ok(text) = Vec::from_slice(alloc, text.as_slice()) else {
@@ -25,24 +25,17 @@ impl Key {
         Ok(Key { text, place })
     }
 
-    pub(crate) fn text(&self) -> &[u8]
+    /// The key as it is spelled.
+    pub fn text(&self) -> &[u8]
         ensures { result.now ≡ self.now.text.items }
     {
         self.text.as_slice()
     }
 
     /// Where its parts stand in its text.
-    pub(crate) fn place(&self) -> &Place
+    pub fn place(&self) -> &Place
         ensures { IsPlaceIn self.now.text.items result.now }
     {
         &self.place
-    }
-
-    pub(crate) fn host(&self) -> &[u8] {
-        &self.text[self.place.host.0..self.place.host.1]
-    }
-
-    pub(crate) fn port(&self) -> u16 {
-        self.place.port
     }
 }

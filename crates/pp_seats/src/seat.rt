@@ -1,9 +1,9 @@
 // A client, and how far its current request is.
 ghost use Rattle.std.specs.Prelude.{◌≡◌, ◌≤◌};
 ghost use Rattle.pp_client.specs.Replies.{left_next};
-ghost use Rattle.pp_proxy.specs.Courses.{has_begun, lost_one, without_row, without_shared_row};
-ghost use Rattle.pp_proxy.specs.Said.{used_by};
-ghost use Rattle.pp_proxy.specs.Unseen.{answer_in, next_of};
+ghost use Rattle.pp_seats.specs.Courses.{has_begun, lost_one, without_row, without_shared_row};
+ghost use Rattle.pp_seats.specs.Said.{used_by};
+ghost use Rattle.pp_seats.specs.Follows.{answer_in, next_of};
 
 use crate::front::Front;
 use pp_client::Client;
@@ -21,7 +21,7 @@ use pp_world::Decision;
 /// Answering -> Undecided          all was said: the next one stands   [next_request]
 /// ```
 #[derive(Clone, Copy)]
-pub(crate) enum Stage {
+pub enum Stage {
     Undecided,
     /// Decided again when the head of its exchange's response came.
     Waiting,
@@ -32,7 +32,7 @@ pub(crate) enum Stage {
 
 /// What the exchange of the request brought, by the head of its response.
 #[derive(Clone, Copy)]
-pub(crate) enum Brought {
+pub enum Brought {
     /// Nothing yet.
     Awaited,
     /// Nothing of use.
@@ -49,16 +49,18 @@ pub(crate) enum Brought {
 
 /// A response that is passed: its head is written already, and its body goes through the client's pipe.
 #[derive(Clone, Copy)]
-pub(crate) struct Passed {
-    pub(crate) rule: BodyRule,
+pub struct Passed {
+    /// Where its body ends.
+    pub rule: BodyRule,
     /// Bytes of the head that was written.
-    pub(crate) head_len: usize,
-    pub(crate) end: PassedEnd,
+    pub head_len: usize,
+    /// How much of its body came.
+    pub end: PassedEnd,
 }
 
 /// How much of the body of a response that is passed came.
 #[derive(Clone, Copy, Debug, PartialEq, Eq)]
-pub(crate) enum PassedEnd {
+pub enum PassedEnd {
     /// More of it is to come.
     Coming,
     /// All of it is in the pipe.
@@ -69,26 +71,31 @@ pub(crate) enum PassedEnd {
 
 /// A reply that was decided.
 #[derive(Clone, Copy)]
-pub(crate) struct Answer {
-    pub(crate) decision: Decision,
+pub struct Answer {
+    /// What was decided.
+    pub decision: Decision,
     /// The instance that is followed.
-    pub(crate) source: Option<ObjectId>,
+    pub source: Option<ObjectId>,
     /// The half-open span of its offsets; of a reply that has begun the client knows how far it is.
-    pub(crate) from: u64,
-    pub(crate) to: u64,
-    pub(crate) has_begun: bool,
+    pub from: u64,
+    /// The end of that span.
+    pub to: u64,
+    /// Its head was written, and goes out.
+    pub has_begun: bool,
 }
 
 /// The exchange of another client that a request waits for, and the second in which it began to.
 #[derive(Clone, Copy)]
-pub(crate) struct Shared {
-    pub(crate) exchange: u64,
-    pub(crate) since: u64,
+pub struct Shared {
+    /// The number of the exchange.
+    pub exchange: u64,
+    /// The second.
+    pub since: u64,
 }
 
 /// How a request fares (RFC 2616, section 8.1.4).
 #[derive(Clone, Copy, Debug, PartialEq, Eq)]
-pub(crate) enum Course {
+pub enum Course {
     /// So many attempts were lost.
     Trying(u8),
     /// They ended.
@@ -99,40 +106,49 @@ pub(crate) enum Course {
 
 /// The next byte of a client that follows an instance, and the end of its span, or of what is said of it.
 #[derive(Clone, Copy)]
-pub(crate) struct Next {
-    pub(crate) source: ObjectId,
-    pub(crate) at: u64,
-    pub(crate) to: u64,
+pub struct Next {
+    /// The instance.
+    pub source: ObjectId,
+    /// The offset of the next byte.
+    pub at: u64,
+    /// The end of the span.
+    pub to: u64,
 }
 
+/// A client, and how far its current request is.
 #[derive(Drop)]
-pub(crate) struct Seat {
-    pub(crate) client: Client,
+pub struct Seat {
+    /// What it sent, and what is said to it.
+    pub client: Client,
     /// It sends no more.
-    pub(crate) has_hung_up: bool,
-    pub(crate) front: Front,
+    pub has_hung_up: bool,
+    /// Its current request.
+    pub front: Front,
     /// Bytes of that request's body that are still to be asked.
-    pub(crate) body_left: u64,
+    pub body_left: u64,
     /// The number of the request.
-    pub(crate) index: u64,
-    pub(crate) stage: Stage,
+    pub index: u64,
+    /// Where that is.
+    pub stage: Stage,
     /// The exchange of another client that it waits for, before its own.
-    pub(crate) waits_on: Option<Shared>,
-    pub(crate) brought: Brought,
-    pub(crate) course: Course,
+    pub waits_on: Option<Shared>,
+    /// What the exchange of the request brought.
+    pub brought: Brought,
+    /// How the request fares.
+    pub course: Course,
     /// A row was cleared for its request: nobody filled its hole, or it may not be shared.
-    pub(crate) has_given_up: bool,
+    pub has_given_up: bool,
     /// Bytes of the interim answer and of the head that are still to be said.
-    pub(crate) before_body: usize,
+    pub before_body: usize,
     /// Its reply is the last.
-    pub(crate) closes: bool,
+    pub closes: bool,
     /// Its cause to be closed has come, and it counts as closed.
-    pub(crate) is_closing: bool,
+    pub is_closing: bool,
 }
 
 impl Seat {
     /// A client that was accepted in this turn.
-    pub(crate) fn new(client: Client) -> Seat {
+    pub fn new(client: Client) -> Seat {
         Seat {
             client,
             has_hung_up: false,
@@ -150,11 +166,13 @@ impl Seat {
         }
     }
 
-    pub(crate) fn id(&self) -> u64 {
+    /// The number of the connection.
+    pub fn id(&self) -> u64 {
         self.client.id()
     }
 
-    pub(crate) fn answer(&self) -> Option<Answer>
+    /// The reply that was decided.
+    pub fn answer(&self) -> Option<Answer>
         ensures { result ≡ answer_in self.now.stage }
     {
         match self.stage {
@@ -164,7 +182,7 @@ impl Seat {
     }
 
     /// That is the key of its request.
-    pub(crate) fn has_key(&self, key: &[u8]) -> bool {
+    pub fn has_key(&self, key: &[u8]) -> bool {
         match self.front.key() {
             None => false,
             Some(own) => own.text() == key,
@@ -172,7 +190,7 @@ impl Seat {
     }
 
     /// The head of its exchange's response came.
-    pub(crate) fn is_told(&self) -> bool {
+    pub fn is_told(&self) -> bool {
         match self.brought {
             Brought::Awaited => false,
             Brought::Useless
@@ -184,7 +202,7 @@ impl Seat {
     }
 
     /// The response that its exchange passes to it.
-    pub(crate) fn passed(&self) -> Option<Passed> {
+    pub fn passed(&self) -> Option<Passed> {
         match self.brought {
             Brought::Passes(passed) => Some(passed),
             Brought::Awaited
@@ -196,14 +214,14 @@ impl Seat {
     }
 
     /// The body of that response came to this.
-    pub(crate) fn end_passed(&mut self, end: PassedEnd) {
+    pub fn end_passed(&mut self, end: PassedEnd) {
         if let Brought::Passes(passed) = &mut self.brought {
             passed.end = end;
         }
     }
 
     /// The client is in the midst of a reply.
-    pub(crate) fn has_begun(&self) -> bool
+    pub fn has_begun(&self) -> bool
         ensures { result ≡ has_begun self.now }
     {
         match self.answer() {
@@ -212,13 +230,8 @@ impl Seat {
         }
     }
 
-    /// The instance that it follows.
-    pub(crate) fn source(&self) -> Option<ObjectId> {
-        self.answer()?.source
-    }
-
     /// Its next byte of the instance that it follows.
-    pub(crate) fn next(&self) -> Option<Next>
+    pub fn next(&self) -> Option<Next>
         ensures { result ≡ next_of self.now }
     {
         if self.is_closing {
@@ -243,7 +256,7 @@ impl Seat {
     }
 
     /// The bytes of the instance that it follows among the next so many that are said.
-    pub(crate) fn used_by(&self, n: usize) -> Option<Next>
+    pub fn used_by(&self, n: usize) -> Option<Next>
         ensures { result ≡ used_by n self.now }
     {
         let of_body = n.saturating_sub(self.before_body) as u64;
@@ -259,7 +272,7 @@ impl Seat {
     }
 
     /// So many bytes were said.
-    pub(crate) fn took(&mut self, n: usize)
+    pub fn took(&mut self, n: usize)
         requires { n ≤ left_next self.old.client.reply }
     {
         self.before_body = self.before_body.saturating_sub(n);
@@ -267,12 +280,12 @@ impl Seat {
     }
 
     /// Its reply is past its head.
-    pub(crate) fn is_at_body(&self) -> bool {
+    pub fn is_at_body(&self) -> bool {
         self.has_begun() && self.before_body == 0
     }
 
     /// Its request may be decided now.
-    pub(crate) fn is_to_be_decided(&self) -> bool {
+    pub fn is_to_be_decided(&self) -> bool {
         if self.is_closing {
             return false;
         }
@@ -285,7 +298,7 @@ impl Seat {
     }
 
     /// More may be asked for its request.
-    pub(crate) fn is_trying(&self) -> bool {
+    pub fn is_trying(&self) -> bool {
         match self.course {
             Course::Trying(_) => true,
             Course::OutOfTries | Course::AskTooLong => false,
@@ -293,7 +306,7 @@ impl Seat {
     }
 
     /// An attempt is lost, of so many.
-    pub(crate) fn lose_attempt(&mut self, most: u8)
+    pub fn lose_attempt(&mut self, most: u8)
         ensures { self.new ≡ record self.old { course = lost_one most self.old.course } }
     {
         if let Course::Trying(n) = self.course {
@@ -307,7 +320,7 @@ impl Seat {
 
     /// The row whose hole nobody filled was cleared. Where the reply has not begun, its request is decided again
     /// without it, once, and its attempts count anew.
-    pub(crate) fn lose_row(&mut self)
+    pub fn lose_row(&mut self)
         ensures { self.new ≡ without_row self.old }
     {
         if !self.has_begun() && !self.has_given_up {
@@ -318,7 +331,7 @@ impl Seat {
 
     /// The row was cleared, since it may not be shared: the same. Where a row was cleared for the request before, an
     /// attempt is lost: an origin that gives everybody a short part and the rest to one alone would be asked without end.
-    pub(crate) fn lose_shared_row(&mut self, most: u8)
+    pub fn lose_shared_row(&mut self, most: u8)
         ensures { self.new ≡ without_shared_row most self.old }
     {
         if self.has_given_up && !self.has_begun() {
@@ -329,7 +342,7 @@ impl Seat {
     }
 
     /// It sent no whole head, and may send more: until it does, or the clock ticks, a turn has nothing to do for it.
-    pub(crate) fn is_silent(&self) -> bool {
+    pub fn is_silent(&self) -> bool {
         matches!(self.stage, Stage::Undecided)
             && !self.front.is_there()
             && !self.has_hung_up
@@ -337,19 +350,19 @@ impl Seat {
     }
 
     /// Nothing that it sent is left to answer: no request, or one whose body stays short.
-    pub(crate) fn is_finished(&self) -> bool {
+    pub fn is_finished(&self) -> bool {
         let is_short = (self.client.body().len() as u64) < self.body_left;
         self.has_hung_up && !self.is_closing && (!self.front.is_there() || is_short)
     }
 
     /// The rest of the request's body, which nobody reads, is dropped as it comes.
-    pub(crate) fn drop_body(&mut self) {
+    pub fn drop_body(&mut self) {
         self.client.drop_body();
         self.body_left = 0;
     }
 
     /// Its reply is over: the next request stands.
-    pub(crate) fn next_request(&mut self) {
+    pub fn next_request(&mut self) {
         self.front = Front::NoHeadYet;
         self.body_left = 0;
         self.index = self.index.saturating_add(1);

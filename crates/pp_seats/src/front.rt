@@ -14,7 +14,7 @@ use std::alloc::Global;
 
 /// What stands at the front of what a client sent.
 #[derive(Drop)]
-pub(crate) enum Front {
+pub enum Front {
     /// No whole head yet.
     NoHeadYet,
     /// No head, whatever follows: it is refused with this status.
@@ -24,31 +24,32 @@ pub(crate) enum Front {
 
 /// What was asked.
 #[derive(Drop)]
-pub(crate) struct Asked {
+pub struct Asked {
     /// None where the target has none.
-    pub(crate) key: Option<Key>,
+    pub key: Option<Key>,
     /// The status that it is refused with for its head alone.
-    pub(crate) refusal: Option<u16>,
+    pub refusal: Option<u16>,
     /// The minor version of its HTTP.
-    pub(crate) minor: u8,
+    pub minor: u8,
     /// Bytes of its body.
-    pub(crate) body_len: u64,
-    pub(crate) is_head: bool,
+    pub body_len: u64,
+    /// Whether HEAD is asked.
+    pub is_head: bool,
     /// Whether it changes nothing at the origin (section 9.1).
-    pub(crate) is_safe: bool,
+    pub is_safe: bool,
     /// Whether it may change something, or has a body, and is asked once (section 8.1.4).
-    pub(crate) is_asked_once: bool,
+    pub is_asked_once: bool,
     /// Whether it authenticates that connection, so that nobody else may be asked on it (RFC 4559, section 6).
-    pub(crate) binds_connection: bool,
+    pub binds_connection: bool,
     /// Whether the client's connection goes on behind the reply.
-    pub(crate) keeps_open: bool,
+    pub keeps_open: bool,
     /// Whether it waits for the interim answer (section 8.2.3).
-    pub(crate) expects_interim: bool,
+    pub expects_interim: bool,
 }
 
 impl Front {
     /// What stands at the front now.
-    pub(crate) fn of(alloc: Global, client: &Client) -> Front {
+    pub fn of(alloc: Global, client: &Client) -> Front {
         let mut scratch = Scratch::new();
         match client.current(&mut scratch) {
             Current::Nothing | Current::More => Front::NoHeadYet,
@@ -57,22 +58,26 @@ impl Front {
         }
     }
 
-    pub(crate) fn is_there(&self) -> bool {
+    /// There is something to answer.
+    pub fn is_there(&self) -> bool {
         !matches!(self, Front::NoHeadYet)
     }
 
-    pub(crate) fn asked(&self) -> Option<&Asked> {
+    /// What was asked, where a request stands there.
+    pub fn asked(&self) -> Option<&Asked> {
         match self {
             Front::NoHeadYet | Front::NoHead(_) => None,
             Front::Request(asked) => Some(asked),
         }
     }
 
-    pub(crate) fn key(&self) -> Option<&Key> {
+    /// The key of that request.
+    pub fn key(&self) -> Option<&Key> {
         self.asked()?.key.as_ref()
     }
 
-    pub(crate) fn asks_head(&self) -> bool {
+    /// Whether HEAD is asked.
+    pub fn asks_head(&self) -> bool {
         match self.asked() {
             None => false,
             Some(asked) => asked.is_head,
@@ -81,7 +86,7 @@ impl Front {
 
     /// Whether the connection goes on behind a page with this status. Ours: behind these no other request
     /// is read, since where theirs ends is not known.
-    pub(crate) fn keeps_after(&self, status: u16) -> bool {
+    pub fn keeps_after(&self, status: u16) -> bool {
         match self.asked() {
             None => false,
             Some(asked) => asked.keeps_open && !matches!(status, 400 | 411 | 431),
@@ -124,7 +129,7 @@ fn is_other_safe(method: &[u8]) -> bool {
 }
 
 /// Whether a request, or what is none, waits for its reply.
-pub(crate) fn is_answerable(client: &Client) -> bool
+pub fn is_answerable(client: &Client) -> bool
     ensures is { IsTrue result → IsAnswerable client.now }
     ensures only { IsAnswerable client.now → IsTrue result }
 {

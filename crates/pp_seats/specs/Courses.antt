@@ -3,11 +3,11 @@ use Rattle.std.specs.Prelude.{ℕ, ◌+◌, Bool, true, false, ◌==◌, ◌&&�
 use Rattle.pp_flow.specs.declared.entry.Aim.{Aim}
 use Rattle.pp_flow.specs.declared.entry.Aim.TheVariants.{Own, Hole, Pass as Through}
 use Rattle.pp_valid.specs.declared.version.Version.{Version}
-use Rattle.pp_proxy.specs.declared.seat.Answer.{Answer}
-use Rattle.pp_proxy.specs.declared.seat.Course.{Course}
-use Rattle.pp_proxy.specs.declared.seat.Course.TheVariants.{Trying, OutOfTries, AskTooLong}
-use Rattle.pp_proxy.specs.declared.seat.Seat.{Seat}
-use Rattle.pp_proxy.specs.Unseen.{answer_in}
+use Rattle.pp_seats.specs.declared.seat.Answer.{Answer}
+use Rattle.pp_seats.specs.declared.seat.Course.{Course}
+use Rattle.pp_seats.specs.declared.seat.Course.TheVariants.{Trying, OutOfTries, AskTooLong}
+use Rattle.pp_seats.specs.declared.seat.Seat.{Seat}
+use Rattle.pp_seats.specs.Follows.{answer_in}
 
 -- the client is in the midst of a reply
 abbrev pub has_begun_in : Option Answer → Bool
