@@ -9,7 +9,7 @@ const IDLE_SECONDS: u64 = 120;
 
 /// What is due to a client.
 #[derive(Clone, Copy, Debug, PartialEq, Eq)]
-pub(crate) enum Due {
+pub enum Due {
     Decide(Decision),
     CutOff(Cause),
 }
@@ -17,7 +17,7 @@ pub(crate) enum Due {
 impl State {
     /// The first client, in the order of their numbers, for whom something is due. Where its request may be decided, the
     /// kept row that it names comes into memory before.
-    pub(crate) fn first_due(&mut self, shelf: &Shelf) -> Option<(usize, Due)> {
+    pub fn first_due(&mut self, shelf: &Shelf) -> Option<(usize, Due)> {
         for turn in 0..self.awake.len() {
             let Some(i) = self.awake_at(turn) else {
                 break;

@@ -1,7 +1,7 @@
 // What the steps of a turn change together: clients, exchanges and the cache.
 ghost use Rattle.std.specs.Prelude.{◌≡◌};
 ghost use Rattle.pp_seats.specs.Courses.{is_unfilled};
-ghost use Rattle.pp_proxy.specs.Heads.{cleared, key_of};
+ghost use Rattle.pp_steps.specs.Heads.{cleared, key_of};
 
 use arrayvec::ArrayVec;
 use pp_cache::{Cache, Noted};
@@ -11,45 +11,54 @@ use pp_seats::{Course, Errand, Seat, Stage};
 use pp_valid::Version;
 use std::alloc::Global;
 
+/// What the steps of a turn change together.
 #[derive(Drop)]
-pub(crate) struct State {
-    pub(crate) alloc: Global,
+pub struct State {
+    /// Where memory comes from.
+    pub alloc: Global,
     /// The name of this proxy.
-    pub(crate) name: ArrayVec<u8, 64>,
-    /// Chunks: eviction begins at the trigger, and ends at the floor.
-    pub(crate) trigger: u32,
-    pub(crate) floor: u32,
-    pub(crate) shares_fetches: bool,
+    pub name: ArrayVec<u8, 64>,
+    /// Eviction begins where so many chunks are used,
+    pub trigger: u32,
+    /// and ends at so many.
+    pub floor: u32,
+    /// Many requests wait for one fetch.
+    pub shares_fetches: bool,
     /// What the connections of a host may be used for.
-    pub(crate) limits: Limits,
+    pub limits: Limits,
     /// In the order of their numbers.
-    pub(crate) seats: Vec<Seat>,
+    pub seats: Vec<Seat>,
     /// The places of those for whom this turn may do something, in the same order.
-    pub(crate) awake: Vec<usize>,
-    pub(crate) flow: Flow,
+    pub awake: Vec<usize>,
+    /// The exchanges that are under way.
+    pub flow: Flow,
     /// Of the exchanges that are there.
-    pub(crate) errands: Vec<Errand>,
-    pub(crate) cache: Cache,
+    pub errands: Vec<Errand>,
+    /// What is in memory.
+    pub cache: Cache,
     /// How many whole chunks are kept on the disk at a time.
-    pub(crate) run: u32,
+    pub run: u32,
     /// A draft failed, and the clock has not ticked since.
-    pub(crate) has_lost_draft: bool,
+    pub has_lost_draft: bool,
     /// Seconds since 1970, as the last tick told.
-    pub(crate) now: u64,
-    pub(crate) has_ticked: bool,
-    // Of this turn.
-    pub(crate) is_ticked: bool,
-    pub(crate) is_stopped: bool,
-    /// The trigger was reached.
-    pub(crate) is_evicting: bool,
+    pub now: u64,
+    /// The clock ticked in this life.
+    pub has_ticked: bool,
+    /// It ticked in this turn.
+    pub is_ticked: bool,
+    /// The event of this turn is Stop.
+    pub is_stopped: bool,
+    /// The trigger was reached in this turn.
+    pub is_evicting: bool,
     /// Keys of rows that left memory and are not noted yet.
-    pub(crate) forgotten: Noted,
+    pub forgotten: Noted,
     /// Keys of rows that memory was refused for.
-    pub(crate) refused: Noted,
+    pub refused: Noted,
 }
 
 impl State {
-    pub(crate) fn seat_of(&self, client: u64) -> Option<usize> {
+    /// The place of a client.
+    pub fn seat_of(&self, client: u64) -> Option<usize> {
         self.seats
             .as_slice()
             .binary_search_by_key(&client, |seat| seat.id())
@@ -57,12 +66,12 @@ impl State {
     }
 
     /// The place among all clients of the one that stands there among those.
-    pub(crate) fn awake_at(&self, turn: usize) -> Option<usize> {
+    pub fn awake_at(&self, turn: usize) -> Option<usize> {
         self.awake.get(turn).copied()
     }
 
     /// All where the clock ticked or all is to be closed, and else those that are not silent.
-    pub(crate) fn wake(&mut self) {
+    pub fn wake(&mut self) {
         self.awake.clear();
         for i in 0..self.seats.len() {
             let is_awake = match self.seats.get(i) {
@@ -76,7 +85,7 @@ impl State {
     }
 
     /// This one too.
-    pub(crate) fn rouse(&mut self, i: usize) {
+    pub fn rouse(&mut self, i: usize) {
         if let Err(place) = self.awake.as_slice().binary_search(&i) {
             let _ = self.awake.insert(place, i);
         }
@@ -101,18 +110,21 @@ impl State {
         self.seats.get(self.seat_for(e)?)
     }
 
-    pub(crate) fn exchange(&self, number: u64) -> Option<Exchange> {
+    /// The exchange with this number.
+    pub fn exchange(&self, number: u64) -> Option<Exchange> {
         match self.flow.get(number) {
             None => None,
             Some(e) => Some(*e),
         }
     }
 
-    pub(crate) fn errand(&self, number: u64) -> Option<&Errand> {
+    /// What it asks.
+    pub fn errand(&self, number: u64) -> Option<&Errand> {
         self.errands.iter().find(|errand| errand.number == number)
     }
 
-    pub(crate) fn errand_mut(&mut self, number: u64) -> Option<&mut Errand> {
+    /// The same, to be changed.
+    pub fn errand_mut(&mut self, number: u64) -> Option<&mut Errand> {
         self.errands
             .iter_mut()
             .find(|errand| errand.number == number)
@@ -124,19 +136,19 @@ impl State {
     }
 
     /// The exchange is over.
-    pub(crate) fn end(&mut self, number: u64) {
+    pub fn end(&mut self, number: u64) {
         self.flow.over(number);
         self.errands.retain(|errand| errand.number != number);
     }
 
     /// The exchange of the request of the client at this place.
-    pub(crate) fn exchange_of(&self, i: usize) -> Option<Exchange> {
+    pub fn exchange_of(&self, i: usize) -> Option<Exchange> {
         let seat = self.seats.get(i)?;
         self.exchange(self.flow.asked_by(seat.id())?)
     }
 
     /// The request leaves its exchange: that is nobody's from now on, and is read to its end.
-    pub(crate) fn forsake(&mut self, i: usize) {
+    pub fn forsake(&mut self, i: usize) {
         if let Some(e) = self.exchange_of(i) {
             self.flow.leave(e.number);
         }
@@ -155,7 +167,7 @@ impl State {
     }
 
     /// An attempt of the exchange is lost.
-    pub(crate) fn lose_attempt(&mut self, e: &Exchange) {
+    pub fn lose_attempt(&mut self, e: &Exchange) {
         let most = match self.errand(e.number) {
             None => return,
             Some(errand) => errand.attempts(),
@@ -170,7 +182,7 @@ impl State {
     }
 
     /// The attempts of the exchange end at once.
-    pub(crate) fn fail(&mut self, e: &Exchange) {
+    pub fn fail(&mut self, e: &Exchange) {
         let Some(i) = self.seat_for(e) else {
             return;
         };
@@ -207,7 +219,7 @@ impl State {
     }
 
     /// The client follows nothing any more.
-    pub(crate) fn leave_source(&mut self, i: usize) {
+    pub fn leave_source(&mut self, i: usize) {
         let Some(seat) = self.seats.get_mut(i) else {
             return;
         };
@@ -222,7 +234,7 @@ impl State {
     }
 
     /// Attempts count anew for those whose next byte is held.
-    pub(crate) fn regain(&mut self) {
+    pub fn regain(&mut self) {
         for turn in 0..self.awake.len() {
             let Some(i) = self.awake_at(turn) else {
                 break;
@@ -241,7 +253,7 @@ impl State {
     }
 
     /// Eviction begins where as many chunks are used as the trigger says.
-    pub(crate) fn note_use(&mut self) {
+    pub fn note_use(&mut self) {
         self.is_evicting = self.is_evicting || self.trigger <= self.cache.used();
     }
 }

@@ -1,6 +1,6 @@
 // One fetch for many (ours): a request waits once for what another has asked for already.
 ghost use Rattle.std.specs.Prelude.{◌≡◌};
-ghost use Rattle.pp_proxy.specs.Patience.{is_patient};
+ghost use Rattle.pp_steps.specs.Patience.{is_patient};
 
 use crate::state::State;
 use pp_flow::Aim;

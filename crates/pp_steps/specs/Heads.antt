@@ -14,8 +14,8 @@ use Rattle.pp_valid.specs.declared.version.Version.{Version}
 use Rattle.pp_seats.specs.declared.errand.Kind.{Kind}
 use Rattle.pp_seats.specs.declared.errand.Kind.TheVariants.{Whole, Range, Hole as AsHole, Check, Pass as AsPassed}
 use Rattle.pp_seats.specs.Errands.{named_by}
-use Rattle.pp_proxy.specs.declared.rows.Unchanged.{Unchanged}
-use Rattle.pp_proxy.specs.declared.rows.Unchanged.TheVariants.{NotShared, OfAnother, OfRow, OfNothing}
+use Rattle.pp_steps.specs.declared.rows.Unchanged.{Unchanged}
+use Rattle.pp_steps.specs.declared.rows.Unchanged.TheVariants.{NotShared, OfAnother, OfRow, OfNothing}
 
 abbrev pub names_tag : Option (List ℕ) → List ℕ → Bool
 names_tag None tag = false

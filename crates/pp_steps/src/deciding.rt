@@ -12,13 +12,15 @@ use pp_head::{RequestHead, Scratch};
 use pp_objects::ObjectId;
 use pp_ranges::{Range, read_range};
 use pp_reply::{CONTINUE, ReplyKind, write_reply};
-use pp_seats::{Answer, Asked, Body, Brought, Course, Errand, Key, Kind, Seat, Stage, is_answerable};
+use pp_seats::{
+    Answer, Asked, Body, Brought, Course, Errand, Key, Kind, Seat, Stage, is_answerable,
+};
 use pp_valid::accepts_only_identity;
 use pp_world::Decision;
 
 impl State {
     /// The decision that is taken: where there is no memory to ask, a refusal.
-    pub(crate) fn afforded(&self, i: usize, decision: Decision) -> Decision {
+    pub fn afforded(&self, i: usize, decision: Decision) -> Decision {
         let asks = matches!(
             decision,
             Decision::Pass | Decision::Fetch | Decision::Validate
@@ -39,7 +41,7 @@ impl State {
     }
 
     /// Each decision but one for want of memory marks the row of its key.
-    pub(crate) fn take(&mut self, i: usize, decision: Decision) {
+    pub fn take(&mut self, i: usize, decision: Decision) {
         if decision != Decision::Refuse(500) {
             self.mark_row_of(i);
         }
