@@ -7,13 +7,13 @@ ghost use Rattle.pp_proxy.specs.Anything.{anything};
 ghost use Rattle.pp_store.specs.Held.{Holds};
 ghost use Rattle.pp_world.specs.Log.{Told};
 
-use crate::cache::CHUNK_LEN;
 use crate::disk::{draft, seal};
-use crate::state::State;
+use pp_cache::CHUNK_LEN;
 use pp_entry::body_at;
 use pp_links::Links;
 use pp_objects::{ObjectId, RowView};
 use pp_shelf::Shelf;
+use pp_steps::State;
 use pp_store::KeepFault;
 use pp_valid::Version;
 use pp_world::{DiskFault, Note, World};
