@@ -83,8 +83,11 @@ impl Desk {
             self.turned_away = Some(c);
             return;
         };
+        let place = self.state.seats.len();
         if self.state.seats.push(Seat::new(client)).is_err() {
             self.turned_away = Some(c);
+        } else {
+            self.state.rouse(place);
         }
     }
 

@@ -28,7 +28,8 @@ pub struct State {
     pub limits: Limits,
     /// In the order of their numbers.
     pub seats: Vec<Seat>,
-    /// The places of those for whom this turn may do something, in the same order.
+    /// The places of those for whom this turn may do something, in the same order. Whoever is not there is silent, and
+    /// stands in the wants of the last wait if and only if it is to be read: this turn changes nothing of it.
     pub awake: Vec<usize>,
     /// The exchanges that are under way.
     pub flow: Flow,
@@ -70,17 +71,11 @@ impl State {
         self.awake.get(turn).copied()
     }
 
-    /// All where the clock ticked or all is to be closed, and else those that are not silent.
+    /// All may be looked at: the clock ticked, all is to be closed, or one left, and the others have other places.
     pub fn wake(&mut self) {
         self.awake.clear();
         for i in 0..self.seats.len() {
-            let is_awake = match self.seats.get(i) {
-                None => false,
-                Some(seat) => self.is_ticked || self.is_stopped || !seat.is_silent(),
-            };
-            if is_awake {
-                let _ = self.awake.push(i);
-            }
+            let _ = self.awake.push(i);
         }
     }
 

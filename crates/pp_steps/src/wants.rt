@@ -11,21 +11,45 @@ use pp_world::Wants;
 const CHUNKS_AHEAD: u64 = 256;
 
 impl State {
-    /// Writes down what is waited for of the client at this place, and that it is not silent.
-    pub fn note_wants_of_client(&mut self, wants: &mut Wants, i: usize) {
+    /// Writes down what is waited for of the clients, and which of them are not silent.
+    ///
+    /// Who is not awake is silent, and is read or not as at the last wait: so only those who are awake are put in or taken
+    /// out. Where all are, as behind a tick or where a client left, the list is written anew.
+    pub fn note_clients(&mut self, wants: &mut Wants) {
+        if self.awake.len() == self.seats.len() {
+            wants.read.clear();
+        }
+        for turn in 0..self.awake.len() {
+            let Some(i) = self.awake_at(turn) else {
+                break;
+            };
+            self.note_client(wants, i);
+        }
+        let seats = &self.seats;
+        self.awake.retain(|i| match seats.get(*i) {
+            None => false,
+            Some(seat) => !seat.is_silent(),
+        });
+    }
+
+    fn note_client(&self, wants: &mut Wants, i: usize) {
         let Some(seat) = self.seats.get(i) else {
             return;
         };
-        if !seat.has_hung_up && seat.client.room() > 0 {
-            let _ = wants.read.try_push(seat.id());
+        let id = seat.id();
+        let is_read = !seat.has_hung_up && seat.client.room() > 0;
+        match wants.read.as_slice().binary_search(&id) {
+            Ok(place) if !is_read => {
+                let _ = wants.read.pop_at(place);
+            }
+            Err(place) if is_read => {
+                let _ = wants.read.try_insert(place, id);
+            }
+            Ok(_) | Err(_) => {}
         }
-        if seat.is_silent() {
-            return;
+        if !seat.is_silent() && !self.is_dry(seat) {
+            let _ = wants.write.try_push(id);
         }
-        if !self.is_dry(seat) {
-            let _ = wants.write.try_push(seat.id());
-        }
-        let _ = self.awake.push(i);
     }
 
     /// What a wait changes of the client at this place: it waits for the exchange that it shares.
@@ -97,14 +121,19 @@ impl State {
     /// Where the furthest of the readers stands to whom an exchange brings this instance from this offset on.
     fn furthest_read(&self, id: ObjectId, from: u64, all: bool) -> Option<u64> {
         let mut furthest: Option<u64> = None;
-        for seat in self.seats.iter() {
-            if let Some(next) = seat.next() {
+        for i in self.awake.iter() {
+            if let Some(next) = self.next_at(*i) {
                 if next.source == id && self.is_brought_to(&next, from, all) {
                     furthest = Some(furthest.unwrap_or(0).max(next.at));
                 }
             }
         }
         furthest
+    }
+
+    /// Who is silent has none.
+    fn next_at(&self, i: usize) -> Option<Next> {
+        self.seats.get(i)?.next()
     }
 
     /// It was brought what it says next, or waits for it: who reads on elsewhere, far ahead of what comes, is brought
@@ -117,8 +146,8 @@ impl State {
     /// Where the furthest of the instance's followers stands.
     pub(crate) fn furthest(&self, id: ObjectId) -> Option<u64> {
         let mut furthest: Option<u64> = None;
-        for seat in self.seats.iter() {
-            if let Some(next) = seat.next() {
+        for i in self.awake.iter() {
+            if let Some(next) = self.next_at(*i) {
                 if next.source == id {
                     furthest = Some(furthest.unwrap_or(0).max(next.at));
                 }
