@@ -4,7 +4,6 @@ ghost use Rattle.pp_world.specs.declared.event.Event.TheVariants.{Tick};
 ghost use Rattle.pp_world.specs.declared.event.Wants.{Wants};
 ghost use Rattle.pp_net.specs.Found.{Finds, IsFoundFor};
 
-use crate::connection::Direction;
 use crate::folder::Folder;
 use crate::net_world::NetWorld;
 use crate::rotation::Turn;
@@ -123,7 +122,7 @@ impl<R: Runtime + AllocGlobal + Net> NetWorld<R> {
     {
         let ids = wants.write.as_slice();
         let last = self.rotation.last_written;
-        let id = self.connections.next_ready(ids, Direction::Write, last)?;
+        let id = self.connections.next_writable(ids, last)?;
         self.rotation.last_written = id;
         Some(Event::Writable(id))
     }
@@ -132,10 +131,7 @@ impl<R: Runtime + AllocGlobal + Net> NetWorld<R> {
         ensures found { Finds wants.now self.old.top self.new.top result }
         ensures faults { self.new.faults ≡ self.old.faults }
     {
-        let ids = wants.read.as_slice();
-        let last = self.rotation.last_read;
-        let id = self.connections.next_ready(ids, Direction::Read, last)?;
-        self.rotation.last_read = id;
+        let id = self.connections.next_readable(wants.read.as_slice())?;
         Some(Event::Readable(id))
     }
 
