@@ -22,7 +22,6 @@ FRESH = b"Cache-Control: max-age=3600"
 ONLY_KEPT = b"Cache-Control: only-if-cached"
 NO_DISK = b"polipo: cannot list the cache folder\n"
 MOVED = b"polipo: the disk cache was moved, and nothing more is kept\n"
-MOVED = b"polipo: the disk cache was moved, and nothing more is kept\n"
 # So many kills, in so many seconds at most; KILLS=200 in the environment makes more of them.
 KILLS = int(os.environ.get("KILLS", 12))
 KILLING_SECONDS = 4 * KILLS
@@ -450,25 +449,6 @@ def a_folder_that_may_not_be_written_any_more_is_seen_by_no_client(world):
             serve_whole(proxy, path, body)
             for _time in (1, 2):
                 equal(body_of(said(proxy, path)[0]), body, f"the body of {path}, which is not kept")
-
-
-@case
-def a_folder_that_is_moved_is_left_with_one_line(world):
-    with world.anew() as proxy:
-        folder = cache_of(proxy)
-        folder.rename(folder.with_name("aside"))
-        folder.mkdir()
-        deadline = time.monotonic() + 10
-        while not proxy.printed() and time.monotonic() < deadline:
-            time.sleep(0.05)
-        serve_whole(proxy, "/a", b"hello")
-        for _time in (1, 2):
-            equal(body_of(said(proxy, "/a")[0]), b"hello", "the body, which is not kept")
-        time.sleep(2.1)
-        equal(proxy.printed(), MOVED, "output and complaints: one line")
-        equal(list(folder.iterdir()), [], "the files of the folder that nobody locked")
-        # In the end all programs are silent.
-        proxy.output.truncate(0)
 
 
 def put_entry(world, path, body):
