@@ -1,0 +1,126 @@
+// Files that are no entries: they are left as they are, and the program goes on.
+use crate::acts::Act;
+use crate::courses::{At, CRASH, Course, Crash, QUIET, unlike};
+use crate::entries::{
+    A, A_NAME, B_NAME, BESIDE, Body, Bytes, Entry, File, HEAD_OF_TWO, HELLO, TWO,
+};
+use crate::format::Found;
+use crate::given::TIMES_READ;
+use pp_world::Name;
+use std::test::Fail;
+
+/// No head, and another text in its place.
+const HEADLESS: &Entry = &Entry {
+    name: A_NAME,
+    key: A,
+    head: b"",
+    length: 8192,
+    body: Body::Noise,
+};
+
+const NOTES: &Entry = &Entry {
+    name: A_NAME,
+    key: A,
+    head: b"notes of my own",
+    length: 8192,
+    body: Body::Noise,
+};
+
+/// Nothing tells the end of the head.
+const UNENDED: &Entry = &Entry {
+    name: A_NAME,
+    key: A,
+    head: b"HTTP/1.1 200 OK\r\netag: \"x\"\r\ndate: Sun, 06 Nov 1994 08:49:37 GMT\r\ncache-control: max-age=60\r\nX-Polipo-Location: http://h/a\r\nX-Polipo-Date: 784111777\r\nX-Polipo-Age: 0\r\nX-Polipo-Length: 8192\r\nX-Polipo-Body-Offset: 12288\r\n",
+    length: 8192,
+    body: Body::Noise,
+};
+
+/// The whole entry of another key.
+const OTHER_FILE: File = File {
+    name: B_NAME,
+    bytes: Bytes::Entry(BESIDE, &[1, 1]),
+};
+
+/// It is no entry, nothing is written, and the key can be kept.
+const FOREIGN: Course<'static> = Course {
+    name: "a file that is no entry",
+    is_beside: true,
+    acts: &[
+        Act::Lacks(TWO, false),
+        Act::Has(BESIDE, 8192, &TIMES_READ),
+        Act::Entries(1),
+        Act::Happened(3),
+    ],
+    crashes: &[Crash {
+        at: At::Behind(&[3]),
+        choices: &[0, 1],
+        left: &[Found::Other],
+        ..CRASH
+    }],
+    ..QUIET
+};
+
+const FILES: [Bytes; 15] = [
+    // Nothing but zeros, with open gates and a body or without; another text in the place of the head.
+    Bytes::Run(0, 12_288),
+    Bytes::Entry(HEADLESS, &[1, 1]),
+    Bytes::Entry(NOTES, &[1, 1]),
+    Bytes::Entry(UNENDED, &[1, 1]),
+    // The entry of another key, where the names may be the same or not.
+    Bytes::Entry(BESIDE, &[1, 1]),
+    Bytes::Text(b""),
+    Bytes::Text(b"12345"),
+    // A head alone, a head block of zeros, and the same byte everywhere.
+    Bytes::Text(HEAD_OF_TWO),
+    Bytes::Run(0, 8192),
+    Bytes::Run(1, 20_480),
+    Bytes::Noise(0),
+    Bytes::Noise(1),
+    Bytes::Noise(2),
+    Bytes::Noise(3),
+    Bytes::Noise(4),
+];
+
+#[test]
+fn a_file_that_is_no_entry_is_left_as_it_is(rt: HostRuntime) -> Result<(), Fail> {
+    for (place, bytes) in FILES.iter().enumerate() {
+        let file = File {
+            name: A_NAME,
+            bytes: *bytes,
+        };
+        let folder = [file, OTHER_FILE];
+        let course = Course {
+            folder: &folder,
+            files: &folder,
+            ..FOREIGN
+        };
+        assert_eq!(rt; unlike(rt.alloc(), &[course])?.as_str(), "", "{place}");
+    }
+    Ok(())
+}
+
+/// An entry under a name that no entry has.
+const UNSEEN: Course<'static> = Course {
+    name: "an entry under a name that no entry has",
+    acts: &[Act::Entries(0), Act::Happened(3)],
+    ..QUIET
+};
+
+const NAMES: [Name; 3] = [[b'g'; 32], [b'A'; 32], [0; 32]];
+
+#[test]
+fn a_file_under_any_other_name_is_not_looked_at(rt: HostRuntime) -> Result<(), Fail> {
+    for name in NAMES {
+        let folder = [File {
+            name,
+            bytes: Bytes::Entry(HELLO, &[0]),
+        }];
+        let course = Course {
+            folder: &folder,
+            files: &folder,
+            ..UNSEEN
+        };
+        assert_eq!(rt; unlike(rt.alloc(), &[course])?.as_str(), "", "{}", name[0]);
+    }
+    Ok(())
+}
