@@ -101,7 +101,7 @@ fn is_kept(alloc: Global, put: &Put) -> Result<bool, Fail> {
     };
     let mut file = made.bytes(alloc, &noise(99))?;
     let (from, to, step) = put.places;
-    for place in (from..to).step_by(step) {
+    for place in (from..to).step_by(step.max(1)) {
         let old = *file.get(place).ok_or("a place")?;
         for byte in put.bytes.0..=put.bytes.1 {
             *file.get_mut(place).ok_or("a place")? = byte;
