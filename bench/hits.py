@@ -15,10 +15,11 @@ sys.path.insert(0, os.path.join(os.path.dirname(os.path.abspath(__file__)), ".."
 
 from network import raise_loopback  # noqa: E402
 from origin import noise  # noqa: E402
-from ways import ALL_IN_MEMORY, Way, describe_machine, report, start_nginx, start_polipo, start_squid  # noqa: E402
+from ways import ALL_IN_MEMORY, Way, describe_machine, origin_of, report, start_nginx, start_polipo, start_squid  # noqa: E402
 
 ROUNDS = 3
 SECONDS = 2.0
+ORIGINS = 48
 IDLE = 200
 READERS = 64
 NEW_LEN = 50_000_000
@@ -30,23 +31,17 @@ def fresh(body):
     return FRESH.format(email.utils.formatdate(usegmt=True), len(body)).encode() + body
 
 
-def serve(listener, replies, new, asked):
-    """One origin process. What is new under each path is counted as it is asked for."""
-    while True:
-        connection, _ = listener.accept()
-        try:
-            waiting = b""
-            while more := connection.recv(65536):
-                *heads, waiting = (waiting + more).split(b"\r\n\r\n")
-                for head in heads:
-                    path = head.split(b" ", 2)[1].decode()
-                    if path not in replies:
-                        with asked.get_lock():
-                            asked.value += 1
-                    connection.sendall(replies.get(path, new))
-        except OSError:
-            pass
-        connection.close()
+def answers(replies, new, asked):
+    """What is answered to a head. What is new under each path is counted as it is asked for."""
+
+    def answer_to(head):
+        path = head.split(b" ", 2)[1].decode()
+        if path not in replies:
+            with asked.get_lock():
+                asked.value += 1
+        return replies.get(path, new)
+
+    return answer_to
 
 
 def seconds_of(process):
@@ -135,12 +130,9 @@ def main():
     print(f"{ROUNDS} rounds of {SECONDS} s, interleaved; medians; client (in C) and origin (in Python) on the same machine")
     replies = {path: fresh(noise(length)) for path, (length, _) in SIZES.items()}
     new, asked = fresh(noise(NEW_LEN)), multiprocessing.Value("q", 0)
-    with tempfile.TemporaryDirectory() as folder, socket.create_server(("127.0.0.1", 0), backlog=1024) as listener:
+    with tempfile.TemporaryDirectory() as folder, origin_of(ORIGINS, answers(replies, new, asked)) as address:
         os.chmod(folder, 0o777)
-        origins = [multiprocessing.Process(target=serve, args=(listener, replies, new, asked), daemon=True) for _ in range(48)]
-        for process in origins:
-            process.start()
-        address, loads = listener.getsockname(), Loads(folder)
+        loads = Loads(folder)
         ways = [Way("direct", address, f"127.0.0.1:{address[1]}")]
         try:
             start_polipo(os.path.abspath(sys.argv[1]), ways)
@@ -161,8 +153,6 @@ def main():
         finally:
             for way in ways:
                 way.stop()
-            for process in origins:
-                process.kill()
 
 
 if __name__ == "__main__":

@@ -16,11 +16,12 @@ sys.path.insert(0, os.path.join(os.path.dirname(os.path.abspath(__file__)), ".."
 
 from disk import IN_MEMORY, SLOW_SYNC, delayed  # noqa: E402
 from network import free_port, raise_loopback, wait_until_it_listens  # noqa: E402
-from ways import describe_machine, stop  # noqa: E402
+from ways import describe_machine, origin_of, stop  # noqa: E402
 
 ROUNDS = 3
 SECONDS = 2.0
 CLIENTS = 8
+ORIGINS = 16
 RUNS = (1, 16, 64)
 SMALL, LARGE = 4096, 10_000_000
 # So many small bodies are more than memory has chunks for.
@@ -30,22 +31,6 @@ HEAD = "HTTP/1.1 200 OK\r\nDate: {}\r\nCache-Control: max-age=86400\r\nETag: \"v
 
 def fresh(length):
     return HEAD.format(email.utils.formatdate(usegmt=True), length).encode() + bytes(range(256)) * (length // 256) + bytes(length % 256)
-
-
-def serve(listener, small, large):
-    """One origin process: each path has a body, a large one below /large."""
-    while True:
-        connection, _ = listener.accept()
-        connection.setsockopt(socket.IPPROTO_TCP, socket.TCP_NODELAY, 1)
-        try:
-            waiting = b""
-            while more := connection.recv(65536):
-                *heads, waiting = (waiting + more).split(b"\r\n\r\n")
-                for head in heads:
-                    connection.sendall(large if b" /large" in head[:12] else small)
-        except OSError:
-            pass
-        connection.close()
 
 
 class Reader:
@@ -162,11 +147,9 @@ def main():
     describe_machine()
     program = os.path.abspath(sys.argv[1])
     small, large = fresh(SMALL), fresh(LARGE)
-    with socket.create_server(("127.0.0.1", 0), backlog=1024) as listener:
-        origins = [multiprocessing.Process(target=serve, args=(listener, small, large), daemon=True) for _ in range(16)]
-        for process in origins:
-            process.start()
-        authority = f"127.0.0.1:{listener.getsockname()[1]}"
+    # Each path has a body, a large one below /large.
+    with origin_of(ORIGINS, lambda head: large if b" /large" in head[:12] else small) as (host, port):
+        authority = f"{host}:{port}"
         print(f"{ROUNDS} rounds, medians; {CLIENTS} clients, new bodies of {SMALL} bytes for {SECONDS} s; then one of {LARGE:,}")
         for delay in (0, SLOW_SYNC):
             for run in RUNS:
@@ -175,8 +158,6 @@ def main():
                 print(f"a sync takes {delay / 1000:.0f} ms, {run:>2} chunks a run: {rate:8,.0f} /s, {kept:4.0%} kept; {volume:7.1f} MB/s", flush=True)
         rate, volume = (statistics.median(values) for values in zip(*(hits(program, authority) for _ in range(ROUNDS))))
         print(f"from the disk: {rate:,.0f} /s of {KEPT_SMALL} bodies; {volume:.1f} MB/s of one of {LARGE:,}")
-        for process in origins:
-            process.kill()
 
 
 if __name__ == "__main__":

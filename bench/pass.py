@@ -1,6 +1,5 @@
 """Measures an origin on 127.0.0.1 direct and through proxies: pass.py PROGRAM."""
 
-import contextlib
 import multiprocessing
 import os
 import signal
@@ -13,7 +12,7 @@ sys.path.insert(0, os.path.join(os.path.dirname(os.path.abspath(__file__)), ".."
 
 from network import raise_loopback  # noqa: E402
 from origin import noise, plain  # noqa: E402
-from ways import NOTHING, Way, describe_machine, report, start_polipo, start_squid, start_tinyproxy  # noqa: E402
+from ways import NOTHING, Way, describe_machine, origin_of, report, start_polipo, start_squid, start_tinyproxy  # noqa: E402
 
 ROUNDS = 5
 SECONDS = 2.0
@@ -24,20 +23,8 @@ LARGE_LEN = 200_000_000
 SMALL, LARGE = plain(noise(1024)), plain(noise(LARGE_LEN))
 
 
-def serve(listener):
-    """One origin process: it serves one connection after the other."""
-    while True:
-        connection, _ = listener.accept()
-        connection.setsockopt(socket.IPPROTO_TCP, socket.TCP_NODELAY, 1)
-        try:
-            waiting = b""
-            while more := connection.recv(65536):
-                *heads, waiting = (waiting + more).split(b"\r\n\r\n")
-                for head in heads:
-                    connection.sendall(LARGE if b"/large " in head else SMALL)
-        except OSError:
-            pass
-        connection.close()
+def answer_to(head):
+    return LARGE if b"/large " in head else SMALL
 
 
 def length_of(head):
@@ -147,25 +134,11 @@ def compare(ways, title, unit, path, clients, which):
             print(f"  {name}: {count} requests failed")
 
 
-@contextlib.contextmanager
-def origin_processes():
-    """The address of an origin, while its processes run."""
-    with socket.create_server(("127.0.0.1", 0), backlog=1024) as listener:
-        origins = [multiprocessing.Process(target=serve, args=(listener,), daemon=True) for _ in range(ORIGINS)]
-        for process in origins:
-            process.start()
-        try:
-            yield listener.getsockname()
-        finally:
-            for process in origins:
-                process.kill()
-
-
 def main():
     raise_loopback()
     describe_machine()
     print(f"{ROUNDS} rounds of {SECONDS} s, interleaved; medians; client and origin on the same machine, in Python")
-    with tempfile.TemporaryDirectory() as folder, origin_processes() as address:
+    with tempfile.TemporaryDirectory() as folder, origin_of(ORIGINS, answer_to) as address:
         ways = [Way("direct", address, f"127.0.0.1:{address[1]}")]
         try:
             start_polipo(os.path.abspath(sys.argv[1]), ways)

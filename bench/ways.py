@@ -1,8 +1,11 @@
-"""The ways to an origin that benchmarks compare: direct, and through proxies that are started where they are there."""
+"""An origin, and the ways to it that benchmarks compare: direct, and through proxies that are started where they are there."""
 
+import contextlib
+import multiprocessing
 import os
 import platform
 import shutil
+import socket
 import statistics
 import subprocess
 import sys
@@ -55,6 +58,36 @@ http {{
     }}
 }}
 """
+
+
+def serve(listener, answer_to):
+    """One process of an origin: it serves one connection after the other, and sends what the function of a head gives."""
+    while True:
+        connection, _ = listener.accept()
+        connection.setsockopt(socket.IPPROTO_TCP, socket.TCP_NODELAY, 1)
+        try:
+            waiting = b""
+            while more := connection.recv(65536):
+                *heads, waiting = (waiting + more).split(b"\r\n\r\n")
+                for head in heads:
+                    connection.sendall(answer_to(head))
+        except OSError:
+            pass
+        connection.close()
+
+
+@contextlib.contextmanager
+def origin_of(count, answer_to):
+    """The address of an origin, while its processes run, so many of them."""
+    with socket.create_server(("127.0.0.1", 0), backlog=1024) as listener:
+        processes = [multiprocessing.Process(target=serve, args=(listener, answer_to), daemon=True) for _ in range(count)]
+        for process in processes:
+            process.start()
+        try:
+            yield listener.getsockname()
+        finally:
+            for process in processes:
+                process.kill()
 
 
 class Way:

@@ -1,7 +1,9 @@
 """What was fetched once is served from memory, and what is missing is completed by ranges."""
 
 import email.utils
+import itertools
 import re
+import socket
 import threading
 
 from harness import case, environment, equal, holds, need, ran, together
@@ -107,6 +109,39 @@ def thirty_readers_of_one_new_object_are_one_fetch(world):
         failures = together([read] * 30 + [let_go])
         holds(not failures, f"no failure in place of {failures[:2]}")
         equal(len(proxy.origin.asked), 1, "asks of the origin")
+
+
+@case
+def a_reader_that_takes_a_byte_a_second_holds_nobody(world):
+    # its body is longer than what the system takes for it and what is read ahead of it: at first nothing comes but for this reader
+    body = noise(10_000_000)
+    with world.anew() as proxy:
+        date, are_served = now(), threading.Event()
+        proxy.origin.on("/slow", Answer(fresh(body, date)))
+        wanted = reply(body, *kept(date), connection=b"close")
+
+        def take_byte_by_byte():
+            with Client(port=proxy.port) as slow:
+                slow.socket.setsockopt(socket.SOL_SOCKET, socket.SO_RCVBUF, 4_096)
+                slow.say(proxy.last_request("/slow"))
+                for at in itertools.count():
+                    equal(slow.hear(1), wanted[at : at + 1], "a byte of the slow reader")
+                    if are_served.wait(1):
+                        return
+
+        def read():
+            equal(said(proxy, "/slow")[0], wanted, "the reply to another reader")
+            proxy.check_still_served()
+
+        def read_meanwhile():
+            try:
+                are_served.wait(2)
+                equal(together([read] * 8), [], "failures of the others")
+            finally:
+                are_served.set()
+
+        equal(together([take_byte_by_byte, read_meanwhile]), [], "failures")
+        equal(sum(ask.path == "/slow" for ask in proxy.origin.asked), 1, "asks for the body")
 
 
 @case

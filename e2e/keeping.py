@@ -20,8 +20,8 @@ from world import Client
 TAG = b'"x"'
 FRESH = b"Cache-Control: max-age=3600"
 ONLY_KEPT = b"Cache-Control: only-if-cached"
+CHECKED = b"Cache-Control: no-cache"
 NO_DISK = b"polipo: cannot list the cache folder\n"
-MOVED = b"polipo: the disk cache was moved, and nothing more is kept\n"
 MOVED = b"polipo: the disk cache was moved, and nothing more is kept\n"
 # So many kills, in so many seconds at most; KILLS=200 in the environment makes more of them.
 KILLS = int(os.environ.get("KILLS", 12))
@@ -132,9 +132,8 @@ def a_version_that_was_replaced_is_not_found_again(world):
     with world.anew() as proxy:
         for number in (1, 2):
             body = b"version %d" % number
-            fields = [b"Date: " + now(), b'ETag: "%d"' % number, b"Cache-Control: no-cache"]
-            proxy.origin.on("/a", Answer(response(body, *fields)))
-            equal(body_of(said(proxy, "/a")[0]), body, f"body {number}")
+            proxy.origin.on("/a", Answer(response(body, b"Date: " + now(), b'ETag: "%d"' % number, FRESH)))
+            equal(body_of(said(proxy, "/a", CHECKED)[0]), body, f"body {number}")
             wait_for_extent(proxy, "/a", len(body))
         proxy.restart()
         equal(kept_in(file_of(proxy, "/a"))[1], b"version 2", "the entry")
@@ -143,19 +142,29 @@ def a_version_that_was_replaced_is_not_found_again(world):
 @case
 def an_entry_is_checked_and_replaced_as_a_row_in_memory_is(world):
     with world.anew() as proxy:
-        checked = [b"Date: " + now(), b'ETag: "1"', b"Cache-Control: no-cache"]
-        proxy.origin.on("/a", Answer(response(b"version 1", *checked)))
+        fields = [b"Date: " + now(), b'ETag: "1"', FRESH]
+        proxy.origin.on("/a", Answer(response(b"version 1", *fields)))
         equal(body_of(said(proxy, "/a")[0]), b"version 1", "the body")
         wait_for_extent(proxy, "/a", 9)
         proxy.restart()
         proxy.origin.clear()
-        proxy.origin.on("/a", Answer(lines(b"HTTP/1.1 304 Not Modified", *checked)))
-        equal(body_of(said(proxy, "/a")[0]), b"version 1", "the body that was checked")
+        proxy.origin.on("/a", Answer(lines(b"HTTP/1.1 304 Not Modified", *fields)))
+        equal(body_of(said(proxy, "/a", CHECKED)[0]), b"version 1", "the body that was checked")
         equal([ask.field(b"if-none-match") for ask in asked_for(proxy, "/a")], [b'"1"'], "what the asks name")
         proxy.restart()
         proxy.origin.on("/a", Answer(response(b"version two", b"Date: " + now(), b'ETag: "2"', FRESH)))
-        equal(body_of(said(proxy, "/a")[0]), b"version two", "the body that replaced it")
+        equal(body_of(said(proxy, "/a", CHECKED)[0]), b"version two", "the body that replaced it")
         equal(kept_in(file_of(proxy, "/a")), (11, b"version two"), "the entry")
+
+
+@case
+def a_page_that_each_use_must_check_is_not_written_anew_at_each(world):
+    with world.anew() as proxy:
+        proxy.origin.on("/a", lambda ask: Answer(response(b"hello", b"Date: " + now(), b"ETag: " + TAG, b"Cache-Control: no-cache")))
+        for number in range(1, 41):
+            equal(body_of(said(proxy, "/a")[0]), b"hello", f"body {number}")
+        equal(len(asked_for(proxy, "/a")), 40, "asks of the origin")
+        equal(list(cache_of(proxy).iterdir()), [], "what is in the folder")
 
 
 @case
@@ -450,25 +459,6 @@ def a_folder_that_may_not_be_written_any_more_is_seen_by_no_client(world):
             serve_whole(proxy, path, body)
             for _time in (1, 2):
                 equal(body_of(said(proxy, path)[0]), body, f"the body of {path}, which is not kept")
-
-
-@case
-def a_folder_that_is_moved_is_left_with_one_line(world):
-    with world.anew() as proxy:
-        folder = cache_of(proxy)
-        folder.rename(folder.with_name("aside"))
-        folder.mkdir()
-        deadline = time.monotonic() + 10
-        while not proxy.printed() and time.monotonic() < deadline:
-            time.sleep(0.05)
-        serve_whole(proxy, "/a", b"hello")
-        for _time in (1, 2):
-            equal(body_of(said(proxy, "/a")[0]), b"hello", "the body, which is not kept")
-        time.sleep(2.1)
-        equal(proxy.printed(), MOVED, "output and complaints: one line")
-        equal(list(folder.iterdir()), [], "the files of the folder that nobody locked")
-        # In the end all programs are silent.
-        proxy.output.truncate(0)
 
 
 def put_entry(world, path, body):

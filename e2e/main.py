@@ -32,6 +32,7 @@ SUBJECTS = [
     "tools",
     "packages",
     "words",
+    "household",
     "kills",
     "folders",
     "caching",

@@ -31,6 +31,15 @@ ENDS = [
     (["-c", "f"], b"diskCacheRoot=\xff\n", 6, b"polipo: bad value for diskCacheRoot\n"),
     (["-c", "f", "proxyPort=0"], b"diskRun=65\n", 6, b"polipo: bad value for diskRun\n"),
     (["proxyPort=0"], b"", 6, b"polipo: bad value for proxyPort\n"),
+    (["proxyAddress=localhost"], b"", 6, b"polipo: bad value for proxyAddress\n"),
+    (["-c", "f"], b"proxyAddress = 01.2.3.4\n", 6, b"polipo: bad value for proxyAddress\n"),
+    (["allowedClients="], b"", 6, b"polipo: bad value for allowedClients\n"),
+    (["allowedClients=1.2.3.4/33"], b"", 6, b"polipo: bad value for allowedClients\n"),
+    (["-c", "f"], b"allowedClients = 192.168.1.7/16\n", 6, b"polipo: bad value for allowedClients\n"),
+    (["-c", "f"], b"allowedClients = 10.0.0.0/8 127.0.0.1\n", 6, b"polipo: bad value for allowedClients\n"),
+    (["allowedClients=" + ",".join(["10.0.0.1"] * 17)], b"", 6, b"polipo: bad value for allowedClients\n"),
+    (["proxyAddress=0.0.0.0"], b"", 6, b"polipo: bad value for allowedClients\n"),
+    (["-c", "f", "allowedClients=127.0.0.1"], b"proxyAddress = 0.0.0.0\n", 6, b"polipo: bad value for allowedClients\n"),
     (["chunkHighMark=3000", "chunkLowMark=3001"], b"", 6, b"polipo: bad value for chunkHighMark\n"),
 ]
 

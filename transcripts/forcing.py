@@ -33,8 +33,9 @@ DECLARED = {
     "TargetFault": "pp_target.target",
     "Decision": "pp_world.note",
     "DiskOp": "pp_world.op",
+    "AddressRange": "pp_world.door",
 }
-RUST = {"u64": "ℕ", "u16": "ℕ", "bool": "Bool", "Octets": "Bytes", "Name": "Bytes", "Tag": "Bytes"}
+RUST = {"u64": "ℕ", "u32": "ℕ", "u16": "ℕ", "bool": "Bool", "Octets": "Bytes", "Name": "Bytes", "Tag": "Bytes"}
 
 HEAD = """-- What computes a state of the law to its end, so that a log can be judged in pieces. Written by transcripts/make_rows.
 use Rattle.std.specs.Prelude.{⊤}
@@ -108,7 +109,7 @@ def types_in(text):
 def declared_in(text, name):
     """The struct or enum of this name in a file of Rust: its fields, or its variants with what they take."""
     kind, body = re.search(rf"^pub (struct|enum) {name} {{\n(.*?)^}}", text, re.M | re.S).groups()
-    lines = [line.strip().removeprefix("pub ").rstrip(",") for line in body.splitlines() if not line.strip().startswith("//")]
+    lines = [line.strip().removeprefix("pub ").rstrip(",") for line in body.splitlines() if not line.strip().startswith(("//", "#["))]
     if kind == "struct":
         return [(field, RUST[type_]) for field, type_ in [line.split(": ") for line in lines]]
     cases = [re.fullmatch(r"(\w+)(?:\((.*)\))?", line).groups() for line in lines]

@@ -1,6 +1,10 @@
 // One instance's chunks, and one pool.
+use crate::cache::Cache;
 use pp_holes::{Added, Cells};
+use pp_objects::ObjectId;
 use pp_pool::{Pins, Pool};
+use pp_text::Fields;
+use std::process::Abort;
 use std::test::Fail;
 
 #[test]
@@ -77,4 +81,29 @@ fn a_chunk_has_what_was_put_into_it_until_it_is_given_back(rt: HostRuntime) -> R
     assert_eq!(rt; pool.used(), 0);
     assert_eq!(rt; pool.oldest(&Pins::new()), None);
     Ok(())
+}
+
+/// The chunks of the largest pool.
+const CHUNKS: u32 = 65536;
+
+/// Uses all chunks of an instance, the first one first, and then all of them, the last one first.
+fn use_up_and_down(cache: &mut Cache, rt: &impl Abort, id: ObjectId) {
+    for index in 0..CHUNKS {
+        cache.touch(rt, id, index);
+    }
+    for index in 0..CHUNKS {
+        cache.touch(rt, id, CHUNKS - 1 - index);
+    }
+}
+
+#[test]
+fn what_was_used_up_and_down_256_times_is_oldest_at_its_end(rt: HostRuntime) {
+    let mut cache = Cache::new(&rt, rt.alloc(), CHUNKS);
+    let fields = Fields::new(&[], &[]);
+    let id = cache.settle(&rt, b"http://h/a", b"\"v\"", 268435456, &fields);
+    cache.fill(&rt, id, CHUNKS);
+    for _passes in 0..128 {
+        use_up_and_down(&mut cache, &rt, id);
+    }
+    assert_eq!(rt; cache.pool.oldest(&Pins::new()), Some((0, 65535)));
 }

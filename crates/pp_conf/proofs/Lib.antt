@@ -1,3 +1,4 @@
+mod AddressLemmas
 pub mod Lines
 pub mod Reading
 pub mod Words

@@ -6,14 +6,17 @@ use Rattle.std.specs.Prelude.{⊤}
 use Rattle.std.specs.Str.{is_utf8, chars}
 use lib.Utf8.{encode}
 use Rattle.pp_text.proofs.Table.{Rows}
+use Rattle.std.specs.Net.Reader.{read_ipv4, read_octet, read_number}
+use Rattle.pp_world.specs.declared.door.AddressRange.{AddressRange}
+use Rattle.pp_conf.specs.Addresses.{address_of, are_ranges, range_of, ranges_of}
 use Rattle.pp_conf.specs.Settings.{accepts}
 use Rattle.pp_conf.specs.Words.{file_of, has_reading, reading_of, Told, Serves, ShowsDemo, Refusal, NoReading, TooLong, NotUnderstood, OutOfRange}
 use Rattle.pp_conf.specs.declared.setting.Setting.{Setting}
-use Rattle.pp_conf.specs.declared.setting.Setting.TheVariants.{ProxyPort, ProxyName, DiskCacheRoot, ChunkLowMark, ChunkHighMark, ChunkCriticalMark, DiskRun, MaxTurns, ShareFetches, PipelineAsks, HostConnections}
+use Rattle.pp_conf.specs.declared.setting.Setting.TheVariants.{ProxyPort, ProxyAddress, AllowedClients, ProxyName, DiskCacheRoot, ChunkLowMark, ChunkHighMark, ChunkCriticalMark, DiskRun, MaxTurns, ShareFetches, PipelineAsks, HostConnections}
 
 -- what a definition of text has to unfold on a literal
 unfoldable on_literals : ⊤
-unfolding clap_on_literals is_utf8 chars encode
+unfolding clap_on_literals is_utf8 chars encode address_of read_ipv4 read_octet read_number
 on_literals = tt
 
 -- the port to listen on, or the seed of a demo
@@ -31,6 +34,8 @@ of_text text = came (reading_of [] (Some text))
 
 without_words_each_setting_has_its_default : reading_of [] None ≡ Ok (Serves (record {
   port = 8123;
+  address = 2130706433;
+  allowed = record { address = 2130706432; bits = 8 } ∷ [];
   name = codes "polipo";
   root = codes "polipo-cache";
   low = 2560;
@@ -53,6 +58,17 @@ a_value_outside_its_range_is_named : Rows of_text (
     ∷ (codes "proxyPort=08", Err (OutOfRange ProxyPort))
     ∷ (codes "proxyPort=-8", Err (OutOfRange ProxyPort))
     ∷ (codes "proxyPort=", Err (OutOfRange ProxyPort))
+    ∷ (codes "proxyAddress=", Err (OutOfRange ProxyAddress))
+    ∷ (codes "proxyAddress=localhost", Err (OutOfRange ProxyAddress))
+    ∷ (codes "proxyAddress=127.0.0.2", Ok 8123)
+    ∷ (codes "proxyAddress=127.0.0.0/8", Err (OutOfRange ProxyAddress))
+    ∷ (codes "proxyAddress=0.0.0.0", Err (OutOfRange AllowedClients))
+    ∷ (codes "proxyAddress=192.168.1.5\nallowedClients=127.0.0.0/8", Err (OutOfRange AllowedClients))
+    ∷ (codes "allowedClients=192.168.0.0/16\nproxyAddress=0.0.0.0", Ok 8123)
+    ∷ (codes "proxyAddress=192.168.1.5\nallowedClients=127.0.0.1, 192.168.1.6", Ok 8123)
+    ∷ (codes "proxyAddress=128.0.0.1\nallowedClients=126.0.0.0/7", Ok 8123)
+    ∷ (codes "allowedClients=", Err (OutOfRange AllowedClients))
+    ∷ (codes "allowedClients=192.168.1.7/16", Err (OutOfRange AllowedClients))
     ∷ (codes "proxyName=", Err (OutOfRange ProxyName))
     ∷ (codes "proxyName=az.AZ-09_", Ok 8123)
     ∷ (codes "proxyName=a/b", Err (OutOfRange ProxyName))
@@ -97,6 +113,58 @@ a_value_outside_its_range_is_named : Rows of_text (
     ∷ [])
 unfolding on_literals
 a_value_outside_its_range_is_named = refl
+
+an_address_is_four_numbers_from_0_to_255 : Rows address_of (
+    (codes "127.0.0.1", Some 2130706433)
+    ∷ (codes "0.0.0.0", Some 0)
+    ∷ (codes "255.255.255.255", Some 4294967295)
+    ∷ (codes "1.2.3.256", None)
+    ∷ (codes "1.2.3", None)
+    ∷ (codes "1.2.3.4.5", None)
+    ∷ (codes "1.2..4", None)
+    ∷ (codes "01.2.3.4", None)
+    ∷ (codes "1.2.3.04", None)
+    ∷ (codes "1.2.3.4 ", None)
+    ∷ (codes "0x1.2.3.4", None)
+    ∷ (codes "::1", None)
+    ∷ (codes "", None)
+    ∷ [])
+unfolding on_literals
+an_address_is_four_numbers_from_0_to_255 = refl
+
+a_range_is_an_address_and_the_length_of_its_prefix : Rows range_of (
+    (codes "192.168.0.0/16", Some (record { address = 3232235520; bits = 16 }))
+    ∷ (codes "192.168.1.7", Some (record { address = 3232235783; bits = 32 }))
+    ∷ (codes "192.168.1.7/32", Some (record { address = 3232235783; bits = 32 }))
+    ∷ (codes "0.0.0.0/0", Some (record { address = 0; bits = 0 }))
+    ∷ (codes "128.0.0.0/0", None)
+    ∷ (codes "192.168.1.7/31", None)
+    ∷ (codes "1.2.3.4/33", None)
+    ∷ (codes "10.0.0.0/08", None)
+    ∷ (codes "10.0.0.0/", None)
+    ∷ (codes "10.0.0.0/8/8", None)
+    ∷ (codes "10.0.0.0 /8", None)
+    ∷ (codes "10/8", None)
+    ∷ [])
+unfolding on_literals
+a_range_is_an_address_and_the_length_of_its_prefix = refl
+
+clients_are_1_to_16_ranges_between_commas : Rows {B = Bool × List AddressRange} (λ (t : List ℕ). (are_ranges t, ranges_of t)) (
+    (codes "", (false, []))
+    ∷ (codes " , ", (false, []))
+    ∷ (codes "10.0.0.0/8", (true, record { address = 167772160; bits = 8 } ∷ []))
+    ∷ (codes "10.0.0.0/8, 127.0.0.1", (true, record { address = 167772160; bits = 8 } ∷ record { address = 2130706433; bits = 32 } ∷ []))
+    ∷ (codes "10.0.0.0/8 127.0.0.1", (false, []))
+    ∷ [])
+unfolding on_literals
+clients_are_1_to_16_ranges_between_commas = refl
+
+seventeen_are_too_many : Rows are_ranges (
+    (codes "10.0.0.1,10.0.0.2,10.0.0.3,10.0.0.4,10.0.0.5,10.0.0.6,10.0.0.7,10.0.0.8,10.0.0.9,10.0.0.10,10.0.0.11,10.0.0.12,10.0.0.13,10.0.0.14,10.0.0.15,10.0.0.16", true)
+    ∷ (codes "10.0.0.1,10.0.0.2,10.0.0.3,10.0.0.4,10.0.0.5,10.0.0.6,10.0.0.7,10.0.0.8,10.0.0.9,10.0.0.10,10.0.0.11,10.0.0.12,10.0.0.13,10.0.0.14,10.0.0.15,10.0.0.16,10.0.0.17", false)
+    ∷ [])
+unfolding on_literals
+seventeen_are_too_many = refl
 
 a_text_is_lines_of_a_name_and_a_value : Rows of_text (
     (codes "", Ok 8123)

@@ -1,3 +1,5 @@
+pub mod Numbers
+pub mod Addresses
 pub mod Settings
 pub mod Conf
 pub mod Text

@@ -1,14 +1,17 @@
 -- The settings: their names, and the values that each takes. All of them are ours.
-use Rattle.std.specs.Prelude.{ℕ, Bool, ◌==◌, ◌&&◌, ◌||◌, not, nat_le, nat_lt, List, [], ◌∷◌, length, slice_index, Option, is_some, option_and_then, Some, None, cond, find, codes, bytes_eq}
+use Rattle.std.specs.Prelude.{ℕ, Bool, ◌==◌, ◌&&◌, ◌||◌, not, nat_le, List, [], ◌∷◌, length, Option, is_some, find, codes, bytes_eq}
 use Rattle.std.specs.List.{list_all}
 use Rattle.std.specs.Char.{is_ascii_alphanumeric}
 use Rattle.std.specs.Str.{is_utf8}
-use Rattle.pp_text.specs.Numbers.{number_of}
+use Rattle.pp_conf.specs.Addresses.{are_ranges, is_address}
+use Rattle.pp_conf.specs.Numbers.{number_in}
 use Rattle.pp_conf.specs.declared.setting.Setting.{Setting}
-use Rattle.pp_conf.specs.declared.setting.Setting.TheVariants.{ProxyPort, ProxyName, DiskCacheRoot, ChunkLowMark, ChunkHighMark, ChunkCriticalMark, DiskRun, MaxTurns, ShareFetches, PipelineAsks, HostConnections}
+use Rattle.pp_conf.specs.declared.setting.Setting.TheVariants.{ProxyPort, ProxyAddress, AllowedClients, ProxyName, DiskCacheRoot, ChunkLowMark, ChunkHighMark, ChunkCriticalMark, DiskRun, MaxTurns, ShareFetches, PipelineAsks, HostConnections}
 
 abbrev pub name_of : Setting → List ℕ
 name_of ProxyPort = codes "proxyPort"
+name_of ProxyAddress = codes "proxyAddress"
+name_of AllowedClients = codes "allowedClients"
 name_of ProxyName = codes "proxyName"
 name_of DiskCacheRoot = codes "diskCacheRoot"
 name_of ChunkLowMark = codes "chunkLowMark"
@@ -21,20 +24,11 @@ name_of PipelineAsks = codes "pipelineAsks"
 name_of HostConnections = codes "hostConnections"
 
 abbrev pub all_settings : List Setting
-all_settings = ProxyPort ∷ ProxyName ∷ DiskCacheRoot ∷ ChunkLowMark ∷ ChunkHighMark ∷ ChunkCriticalMark ∷ DiskRun ∷ MaxTurns ∷ ShareFetches ∷ PipelineAsks ∷ HostConnections ∷ []
+all_settings = ProxyPort ∷ ProxyAddress ∷ AllowedClients ∷ ProxyName ∷ DiskCacheRoot ∷ ChunkLowMark ∷ ChunkHighMark ∷ ChunkCriticalMark ∷ DiskRun ∷ MaxTurns ∷ ShareFetches ∷ PipelineAsks ∷ HostConnections ∷ []
 
 -- the setting of that name, letter for letter
 abbrev pub setting_named : List ℕ → Option Setting
 setting_named name = find (λ s. bytes_eq (name_of s) name) all_settings
-
--- more digits than one, of which the first is 0
-abbrev pub is_padded : List ℕ → Bool
-is_padded text = nat_lt 1 (length text) && (slice_index text 0 == 48)
-
--- a decimal number from low to high, without sign or leading zero
-abbrev pub number_in : ℕ → ℕ → List ℕ → Option ℕ
-number_in low high text =
-    cond (is_padded text) None (option_and_then (λ n. cond (nat_le low n && nat_le n high) (Some n) None) (number_of text))
 
 -- a letter, a digit, a dot, a hyphen or an underscore
 abbrev pub is_name_byte : ℕ → Bool
@@ -54,6 +48,8 @@ is_root text = nat_le 1 (length text) && nat_le (length text) 255 && is_path tex
 -- the numbers that a setting takes by itself, whatever the others are
 abbrev pub least_of : Setting → ℕ
 least_of ProxyPort = 1
+least_of ProxyAddress = 0
+least_of AllowedClients = 0
 least_of ProxyName = 0
 least_of DiskCacheRoot = 0
 least_of ChunkLowMark = 512
@@ -67,6 +63,8 @@ least_of HostConnections = 1
 
 abbrev pub most_of : Setting → ℕ
 most_of ProxyPort = 65535
+most_of ProxyAddress = 0
+most_of AllowedClients = 0
 most_of ProxyName = 0
 most_of DiskCacheRoot = 0
 most_of ChunkLowMark = 65536
@@ -84,6 +82,8 @@ number_for s text = number_in (least_of s) (most_of s) text
 -- the value is in the setting's own range
 abbrev pub accepts : Setting → List ℕ → Bool
 accepts ProxyPort text = is_some (number_for ProxyPort text)
+accepts ProxyAddress text = is_address text
+accepts AllowedClients text = are_ranges text
 accepts ProxyName text = is_proxy_name text
 accepts DiskCacheRoot text = is_root text
 accepts ChunkLowMark text = is_some (number_for ChunkLowMark text)

@@ -3,6 +3,7 @@ use Rattle.std.specs.Prelude.{◌≡◌, ◌++◌, ℕ, ◌+◌, List, [], lengt
 use Rattle.std.specs.Borrow.{Bor}
 use Rattle.clap.specs.Walk.{Text}
 use Rattle.pp_text.specs.Numbers.{number_of}
+use Rattle.pp_conf.specs.Addresses.{ranges_of}
 use Rattle.pp_conf.specs.Conf.{Assignment, Settings}
 use Rattle.pp_conf.specs.declared.setting.Setting.{Setting}
 use Rattle.pp_conf.specs.declared.command.Line.{Line}
@@ -56,6 +57,8 @@ Collects old new r (Err (BadValue s)) = ⊥
 abbrev pub shown_draft : Draft → Settings
 shown_draft d = record {
   port = d.port;
+  address = d.address;
+  allowed = ranges_of d.allowed.now;
   name = d.name.items;
   root = d.root.now;
   low = d.low;
@@ -71,6 +74,8 @@ shown_draft d = record {
 abbrev pub shown_conf : Conf → Settings
 shown_conf c = record {
   port = c.port;
+  address = c.address;
+  allowed = c.allowed.items;
   name = c.name.items;
   root = c.root;
   low = c.low;

@@ -1,20 +1,24 @@
 // The settings in force, and how assignments change them.
 ghost use Rattle.std.specs.Prelude.{◌≡◌, ◌≤◌, IfOk, IfErr, true, length};
 ghost use Rattle.pp_conf.specs.Settings.{accepts};
-ghost use Rattle.pp_conf.specs.Conf.{defaults, with_value, out_of_order};
+ghost use Rattle.pp_conf.specs.Conf.{defaults, misfit, with_value};
 ghost use Rattle.pp_conf.specs.Shown.{shown_draft, shown_conf};
 ghost use Rattle.pp_conf.specs.declared.fault.ConfFault.TheVariants.{OutOfMemory};
 
+use crate::addresses::{LOCALHOST, address_of, ranges_of, shuts_all_out};
 use crate::fault::ConfFault;
 use crate::setting::Setting;
 use arrayvec::ArrayVec;
 use pp_text::Octets;
+use pp_world::AddressRange;
 use std::alloc::Global;
 
 /// The settings in force; `Setting` has their units and ranges.
 #[derive(Drop)]
 pub struct Conf {
     pub port: u16,
+    pub address: u32,
+    pub allowed: Vec<AddressRange>,
     pub name: ArrayVec<u8, 64>,
     pub root: Octets,
     pub low: u32,
@@ -31,6 +35,8 @@ pub struct Conf {
 #[derive(Drop)]
 pub(crate) struct Draft<'a> {
     pub port: u16,
+    pub address: u32,
+    pub allowed: &'a [u8],
     pub name: ArrayVec<u8, 64>,
     pub root: &'a [u8],
     pub low: u32,
@@ -49,6 +55,8 @@ impl<'a> Draft<'a> {
     {
         Draft {
             port: 8123,
+            address: LOCALHOST,
+            allowed: b"127.0.0.0/8",
             name: name_from(b"polipo"),
             root: b"polipo-cache",
             low: 2560,
@@ -70,6 +78,8 @@ impl<'a> Draft<'a> {
         let number = setting.number(value).unwrap_or(0);
         match setting {
             Setting::ProxyPort => self.port = number as u16,
+            Setting::ProxyAddress => self.address = address_of(value).unwrap_or(0),
+            Setting::AllowedClients => self.allowed = value,
             Setting::ProxyName => self.name = name_from(value),
             Setting::DiskCacheRoot => self.root = value,
             Setting::ChunkLowMark => self.low = number as u32,
@@ -91,8 +101,13 @@ impl<'a> Draft<'a> {
         let Ok(root) = Octets::copy(alloc, self.root) else {
             return Err(ConfFault::OutOfMemory);
         };
+        let Ok(allowed) = ranges_of(alloc, self.allowed) else {
+            return Err(ConfFault::OutOfMemory);
+        };
         Ok(Conf {
             port: self.port,
+            address: self.address,
+            allowed,
             name: self.name,
             root,
             low: self.low,
@@ -106,14 +121,17 @@ impl<'a> Draft<'a> {
         })
     }
 
-    /// The first mark that breaks their order: low, high, critical.
-    pub fn out_of_order(&self) -> Option<Setting>
-        ensures { result ≡ out_of_order (shown_draft self.now) }
+    /// The first setting that does not go with the others: the marks are in order, and who listens for other machines
+    /// says which.
+    pub fn misfit(&self) -> Option<Setting>
+        ensures { result ≡ misfit (shown_draft self.now) }
     {
         if self.high < self.low {
             Some(Setting::ChunkHighMark)
         } else if self.critical < self.high {
             Some(Setting::ChunkCriticalMark)
+        } else if shuts_all_out(self.address, self.allowed) {
+            Some(Setting::AllowedClients)
         } else {
             None
         }

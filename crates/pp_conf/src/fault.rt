@@ -18,7 +18,7 @@ pub enum ConfFault {
     /// This line of the text, counted from 1, is the first that is not understood.
     #[error("line {0} of the configuration is not understood")]
     BadLine(u64),
-    /// This setting is the first whose value is outside its range, or that breaks the order of the marks.
+    /// This setting is the first whose value is outside its range, or that does not go with the others.
     #[error("the value of {} is not understood", .0.name())]
     BadValue(Setting),
     #[error("memory was asked for and not given")]

@@ -7,13 +7,15 @@
 //! To the layer above: `Conf::read` is `reading_of` of `specs/Words.antt`, faults in their order;
 //! `config_name` is the FILE of `-c`. The form of the text and the settings are ours.
 //!
-//! Takes memory for clap's tables, the assignments and the folder. Opening the file is for the program.
+//! Takes memory for clap's tables, the assignments, the folder and the ranges of clients. Opening the file is for the program.
 #![tactic(auto)]
 
+mod addresses; // addresses and ranges of clients
 mod assignments; // settings with the texts of their values
 mod command; // the command line
 mod conf; // the settings as they are in force
 mod fault; // why there are none
+mod numbers; // numbers in decimal
 mod read; // from words and text to settings
 mod setting; // the table of settings
 mod text; // the lines of the text

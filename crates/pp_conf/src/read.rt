@@ -78,8 +78,8 @@ fn settle<'a>(assignments: &[Assignment<'a>]) -> Result<Draft<'a>, Setting>
         }
         draft.set(assignment.setting, assignment.value);
     }
-    match draft.out_of_order() {
-        Some(mark) => Err(mark),
+    match draft.misfit() {
+        Some(setting) => Err(setting),
         None => Ok(draft),
     }
 }

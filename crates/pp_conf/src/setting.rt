@@ -2,15 +2,20 @@
 ghost use Rattle.std.specs.Prelude.{◌≡◌, ◌==◌, not};
 ghost use Rattle.std.specs.List.{list_all};
 ghost use Rattle.std.specs.Str.{is_utf8};
-ghost use Rattle.pp_conf.specs.Settings.{accepts, is_name_byte, is_padded, is_path, is_proxy_name, is_root, least_of, most_of, name_of, number_for, number_in, setting_named};
+ghost use Rattle.pp_conf.specs.Settings.{accepts, is_name_byte, is_path, is_proxy_name, is_root, least_of, most_of, name_of, number_for, setting_named};
 
-use pp_text::read_u64;
+use crate::addresses::{address_of, are_ranges};
+use crate::numbers::number_between;
 
 /// A setting of the program.
 #[derive(Clone, Copy, Debug, PartialEq, Eq)]
 pub enum Setting {
     /// The TCP port to listen on: 1 to 65,535.
     ProxyPort,
+    /// The IPv4 address to listen at, as four numbers parted by dots; 0.0.0.0 is each of this machine.
+    ProxyAddress,
+    /// Who may come, 1 to 16 addresses and ranges of them, parted by commas.
+    AllowedClients,
     /// The proxy's name in Via: 1 to 64 letters, digits, `.`, `-` and `_`.
     ProxyName,
     /// The folder of the cache: 1 to 255 bytes of UTF-8 without NUL.
@@ -34,8 +39,10 @@ pub enum Setting {
 }
 
 impl Setting {
-    pub const ALL: [Setting; 11] = [
+    pub const ALL: [Setting; 13] = [
         Setting::ProxyPort,
+        Setting::ProxyAddress,
+        Setting::AllowedClients,
         Setting::ProxyName,
         Setting::DiskCacheRoot,
         Setting::ChunkLowMark,
@@ -54,6 +61,8 @@ impl Setting {
     {
         match self {
             Setting::ProxyPort => "proxyPort",
+            Setting::ProxyAddress => "proxyAddress",
+            Setting::AllowedClients => "allowedClients",
             Setting::ProxyName => "proxyName",
             Setting::DiskCacheRoot => "diskCacheRoot",
             Setting::ChunkLowMark => "chunkLowMark",
@@ -84,7 +93,10 @@ impl Setting {
     {
         match self {
             Setting::ProxyPort => (1, 65_535),
-            Setting::ProxyName | Setting::DiskCacheRoot => (0, 0),
+            Setting::ProxyAddress
+            | Setting::AllowedClients
+            | Setting::ProxyName
+            | Setting::DiskCacheRoot => (0, 0),
             Setting::ChunkLowMark | Setting::ChunkHighMark | Setting::ChunkCriticalMark => {
                 (512, 65_536)
             }
@@ -107,6 +119,8 @@ impl Setting {
         ensures { result ≡ accepts self text.now }
     {
         match self {
+            Setting::ProxyAddress => address_of(text).is_some(),
+            Setting::AllowedClients => are_ranges(text),
             Setting::ProxyName => is_proxy_name(text),
             Setting::DiskCacheRoot => is_root(text),
             Setting::ProxyPort
@@ -120,25 +134,6 @@ impl Setting {
             | Setting::HostConnections => self.number(text).is_some(),
         }
     }
-}
-
-fn number_between(low: u64, high: u64, text: &[u8]) -> Option<u64>
-    ensures { result ≡ number_in low high text.now }
-{
-    if is_padded(text) {
-        return None;
-    }
-    match read_u64(text) {
-        Some(n) => { if low <= n && n <= high { Some(n) } else { None } }
-        None => None,
-    }
-}
-
-/// Whether the text begins with a zero that a number does not have.
-fn is_padded(text: &[u8]) -> bool
-    ensures { result ≡ is_padded text.now }
-{
-    1 < text.len() && text[0] == b'0'
 }
 
 fn is_name_byte(b: u8) -> bool

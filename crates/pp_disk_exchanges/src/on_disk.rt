@@ -125,7 +125,7 @@ const BY_LONG_RUNS: &[Exchange<'static>] = &[
             Act::Reach(2),
             Act::Answer(
                 2,
-                b"HTTP/1.1 200 OK\r\nETag: \"x\"\r\nContent-Length: 65536\r\n\r\n",
+                b"HTTP/1.1 200 OK\r\nETag: \"x\"\r\nCache-Control: max-age=60\r\nContent-Length: 65536\r\n\r\n",
             ),
             Act::Fill(2, b'a', 65_536),
         ],
@@ -138,7 +138,22 @@ const BY_LONG_RUNS: &[Exchange<'static>] = &[
         ])],
     },
     Exchange {
-        name: "what is behind a run ends the body",
+        name: "a body of one run whose next use must check it is not kept",
+        acts: &[
+            Act::Tick(T),
+            Act::Connect,
+            Act::Say(1, GET),
+            Act::Reach(2),
+            Act::Answer(
+                2,
+                b"HTTP/1.1 200 OK\r\nETag: \"x\"\r\nCache-Control: no-cache, max-age=60\r\nContent-Length: 65536\r\n\r\n",
+            ),
+            Act::Fill(2, b'a', 65_536),
+        ],
+        wanted: &[Wanted::Filed(&[Filed::Woke(false)])],
+    },
+    Exchange {
+        name: "what is behind a run ends the body, which is kept though it has no lifetime",
         acts: &[
             Act::Tick(T),
             Act::Connect,

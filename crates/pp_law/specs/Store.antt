@@ -4,6 +4,7 @@ use Rattle.std.specs.Prelude.{ℕ, zero, suc, ◌+◌, ◌-◌, ◌*◌, ◌/◌
 use Rattle.std.specs.List.{list_any}
 use Rattle.pp_entry.specs.Entries.{is_sized, row_at}
 use Rattle.pp_entry.specs.Texts.{body_at, chunks_of, fits, head_text, padded}
+use Rattle.pp_fresh.specs.Ready.{is_ready}
 use Rattle.pp_gate.specs.Files.{whole_file}
 use Rattle.pp_gate.specs.Gate.{publish_ops}
 use Rattle.pp_gate.specs.Seal.{seal_ops}
@@ -92,16 +93,21 @@ has_first_run s x = (run_len s == 1) || is_full_run s x (new_entry x 0) (run_fro
 abbrev pub is_read_back : Instance → Bool
 is_read_back x = is_some_with (λ r. bytes_eq r.key x.key && is_same_version r.version x.version) (row_at (padded (block_of x)))
 
+-- a first run that is the whole body is drafted with all of it
+abbrev pub drafted_with : State → Instance → ℕ
+drafted_with s x = elim (nat_lt 1 (run_len s) && nat_le (chunks_of x.version.length) (run_len s)) [ true ↦ x.version.length | false ↦ 0 ]
+
+-- ours: of what is drafted with all of its body a plain request could be served now, without asking its origin: what its next use
+-- must check anyway costs one answer more after a restart, and an entry of it costs three syncs
+abbrev pub is_worth_a_draft : State → Instance → Bool
+is_worth_a_draft s x = (drafted_with s x == 0) || is_ready [] x.fields x.times s.clock
+
 -- one that failed is followed by none before the next tick
 abbrev pub may_draft : State → Instance → Bool
 may_draft s x = elim (not s.has_lost_draft && not x.is_retired && is_sized x.version.length && fits x.fields (block_of x) && has_first_run s x) [
-  | true ↦ has_free_name s (name_of x.key) && is_read_back x
+  | true ↦ has_free_name s (name_of x.key) && is_read_back x && is_worth_a_draft s x
   | false ↦ false
 ]
-
--- and where that run is the whole body, it is drafted with all of it
-abbrev pub drafted_with : State → Instance → ℕ
-drafted_with s x = elim (nat_lt 1 (run_len s) && nat_le (chunks_of x.version.length) (run_len s)) [ true ↦ x.version.length | false ↦ 0 ]
 
 abbrev pub file_of : State → Instance → Bytes
 file_of s x = whole_file (padded (block_of x)) x.version.length (run_bytes (chunks_of (drafted_with s x)) x.id s.chunks 0)
@@ -148,7 +154,7 @@ is_gone s e = e.is_stale || is_closed s e.name
 -- a row of another key, that may be drafted, may take its name; but one whose own name was taken takes none back in this life
 abbrev pub takes_name : State → Entry → Instance → Bool
 takes_name s e x =
-    not s.has_lost_draft && not x.is_retired && bytes_eq (name_of x.key) e.name && not (bytes_eq x.key e.key) && not (has_text x.key s.displaced) && is_sized x.version.length && fits x.fields (block_of x)
+    not s.has_lost_draft && not x.is_retired && bytes_eq (name_of x.key) e.name && not (bytes_eq x.key e.key) && not (has_text x.key s.displaced) && is_sized x.version.length && fits x.fields (block_of x) && is_worth_a_draft s x
 
 abbrev pub is_displaced : State → Entry → Bool
 is_displaced s e = list_any (takes_name s e) s.instances

@@ -29,13 +29,13 @@ asked_whole e is = by (is_outstanding e) (nat_lt 0 e.body_left) refl refl is
     by false u out none at = absurd (cc at)
 
 -- the first of a line that is being asked
-record Found (s : State) (line : List ℕ) (e : Exchange) : Type 0 where
-  before : List ℕ
-  number : ℕ
-  behind : List ℕ
-  parts : line ≡ before ++ number ∷ behind
-  whole : AreAskedWhole s before
-  there : exchange s number ≡ Some e
+pub record Found (s : State) (line : List ℕ) (e : Exchange) : Type 0 where
+  pub before : List ℕ
+  pub number : ℕ
+  pub behind : List ℕ
+  pub parts : line ≡ before ++ number ∷ behind
+  pub whole : AreAskedWhole s before
+  pub there : exchange s number ≡ Some e
 
 further : (s : State) (n : ℕ) (line : List ℕ) (e : Exchange) → ((d : Exchange) → exchange s n ≡ Some d → IsAskedWhole d) → Found s line e → Found s (n ∷ line) e
 further s n line e first f = record {
@@ -51,7 +51,7 @@ further s n line e first f = record {
     by m d (inl eq) is = first d (ap (exchange s) (sym eq) ∙ is)
     by m d (inr i) is = f.whole m d i is
 
-found_in : (s : State) (line : List ℕ) (e : Exchange) → first_some (λ m. option_and_then left_in (exchange s m)) line ≡ Some e → Found s line e
+pub found_in : (s : State) (line : List ℕ) (e : Exchange) → first_some (λ m. option_and_then left_in (exchange s m)) line ≡ Some e → Found s line e
 found_in s [] e is = absurd (cc is)
 found_in s (n ∷ line) e is = by (exchange s n) refl is (found_in s line e)
   where
@@ -74,7 +74,7 @@ found_in s (n ∷ line) e is = by (exchange s n) refl is (found_in s line e)
 
 -- ---- what is a front
 
-front_of : (bytes left : Bytes) → starts_with nat_eq left bytes ≡ true → (rest : Bytes) × (left ≡ bytes ++ rest)
+pub front_of : (bytes left : Bytes) → starts_with nat_eq left bytes ≡ true → (rest : Bytes) × (left ≡ bytes ++ rest)
 front_of [] left is = (left, refl)
 front_of (b ∷ bytes) [] is = absurd (cc is)
 front_of (b ∷ bytes) (x ∷ left) is = by (nat_eq b x) refl is (front_of bytes left)
@@ -92,7 +92,7 @@ unhampered : (made : Bool) (t : Bool) → (elim made as (λ c. Bool) [ true ↦ 
 unhampered true t is = absurd (cc is)
 unhampered false t is = is
 
-asked_so : (s : State) (n : ℕ) (bytes : Bytes) → IsPermitted s (Asked n bytes) → permits_asked s n bytes ≡ true
+pub asked_so : (s : State) (n : ℕ) (bytes : Bytes) → IsPermitted s (Asked n bytes) → permits_asked s n bytes ≡ true
 unfolding is_permitted permits
 asked_so s n bytes is = unhampered s.has_made_room (permits_asked s n bytes) is
 

@@ -4,8 +4,8 @@
 //! has one at most, one that nobody waits for has a place, and so there are never more than 768; on a
 //! connection they are asked in the order of its line; and one fetch is enough for many requests.
 //!
-//! To the layer above: each law is the clause of a function that does nothing. What was asked on a
-//! connection is not said as one stream: each piece is said to be the next.
+//! To the layer above: each law is the clause of a function that does nothing. Of what was asked on a
+//! connection each piece is said to be the next; `pp_laws_lines` says it as one stream.
 //!
 //! Takes no memory, and does nothing when the program runs.
 #![tactic(auto)]

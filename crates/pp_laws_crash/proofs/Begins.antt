@@ -11,7 +11,7 @@ use Rattle.pp_world.specs.declared.op.DiskOp.TheVariants.{Draft, SyncDraft, Publ
 use Rattle.pp_target.specs.Name.{name_of}
 use Rattle.pp_law.specs.Lists.{Bytes, first_some, has_text, is_some_with}
 use Rattle.pp_law.specs.State.{State, Agenda, Entry, Instance, Todo, Do, Enter, Acknowledge}
-use Rattle.pp_law.specs.Store.{is_same_op, is_named, is_closed, has_free_name, block_of, has_first_run, is_read_back, may_draft, drafting, draft_of, may_seal, is_full_run, run_from, sealing, seal_with, seal_of, is_first_todo, going_on, plan_of, agenda_in_turn}
+use Rattle.pp_law.specs.Store.{is_same_op, is_named, is_closed, has_free_name, block_of, has_first_run, is_read_back, is_worth_a_draft, may_draft, drafting, draft_of, may_seal, is_full_run, run_from, sealing, seal_with, seal_of, is_first_todo, going_on, plan_of, agenda_in_turn}
 use Rattle.pp_law.specs.Table.{is_same_version, kept_row}
 use Rattle.pp_laws.specs.Runs.{IsIn}
 use Rattle.pp_laws.proofs.Tests.{below, first_holds, same_bytes, same_number, same_version, second_holds}
@@ -129,8 +129,10 @@ pub record MayDraft (s : State) (x : Instance) : Type 0 where
   pub read_back : is_read_back x ≡ true
 
 may_by : (s : State) (x : Instance) (c d e f : Bool) → fits x.fields (block_of x) ≡ d → has_first_run s x ≡ e
-    → (elim (c && d && e) as (λ b. Bool) [ true ↦ has_free_name s (name_of x.key) && is_read_back x | false ↦ false ]) ≡ true → MayDraft s x
-may_by s x true true true f one two is = record { fits_block = one; first_run = two; free = first_holds (has_free_name s (name_of x.key)) _ is; read_back = second_holds (has_free_name s (name_of x.key)) _ is }
+    → (elim (c && d && e) as (λ b. Bool) [ true ↦ has_free_name s (name_of x.key) && is_read_back x && is_worth_a_draft s x | false ↦ false ]) ≡ true → MayDraft s x
+may_by s x true true true f one two is =
+    let both = first_holds (has_free_name s (name_of x.key) && is_read_back x) _ is in
+    record { fits_block = one; first_run = two; free = first_holds (has_free_name s (name_of x.key)) _ both; read_back = second_holds (has_free_name s (name_of x.key)) _ both }
 may_by s x true true false f one two is = absurd (cc is)
 may_by s x true false e f one two is = absurd (cc is)
 may_by s x false d e f one two is = absurd (cc is)

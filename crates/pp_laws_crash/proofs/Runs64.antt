@@ -2,11 +2,11 @@
 use Rattle.std.proofs.Common.{◌≡◌, refl, ℕ, ◌≤◌, nat_le, Bool, true, false, ◌&&◌, List, [], ◌∷◌, ◌++◌, cond, Option, Some, None, option_and_then, Result, Ok, Err, subst, ap, arith}
 use Rattle.std.specs.Prelude.{unwrap_or}
 use Rattle.std.proofs.lemmas.Bool.Decides.{nat_tests}
-use Rattle.pp_conf.specs.Conf.{Assignment, Settings, assigned, defaults, first_refused, in_order, number_or_0, or_refused, out_of_order, settings_of, with_value}
-use Rattle.pp_conf.specs.Settings.{is_padded}
+use Rattle.pp_conf.specs.Conf.{Assignment, Settings, assigned, defaults, first_refused, fitting, number_or_0, or_refused, misfit, settings_of, with_value}
+use Rattle.pp_conf.specs.Numbers.{is_padded}
 use Rattle.pp_conf.specs.Words.{NoReading, TooLong, Serves, has_reading, is_too_long, or_out_of_range, reading_of, seed_of, text_assignments, told_by, with_words, word_assignments}
 use Rattle.pp_conf.specs.declared.setting.Setting.{Setting}
-use Rattle.pp_conf.specs.declared.setting.Setting.TheVariants.{ProxyPort, ProxyName, DiskCacheRoot, ChunkLowMark, ChunkHighMark, ChunkCriticalMark, DiskRun, MaxTurns, ShareFetches, PipelineAsks, HostConnections}
+use Rattle.pp_conf.specs.declared.setting.Setting.TheVariants.{ProxyPort, ProxyAddress, AllowedClients, ProxyName, DiskCacheRoot, ChunkLowMark, ChunkHighMark, ChunkCriticalMark, DiskRun, MaxTurns, ShareFetches, PipelineAsks, HostConnections}
 use Rattle.pp_text.specs.Numbers.{number_of}
 use Rattle.pp_law.specs.Lists.{Bytes}
 use Rattle.pp_laws.proofs.Tests.{second_holds}
@@ -31,6 +31,8 @@ run_few text = of_text (is_padded text) (number_of text)
 
 value_few : (c : Settings) (s : Setting) (text : List ℕ) → c.disk_run ≤ 64 → (with_value c s text).disk_run ≤ 64
 value_few c ProxyPort text few = few
+value_few c ProxyAddress text few = few
+value_few c AllowedClients text few = few
 value_few c ProxyName text few = few
 value_few c DiskCacheRoot text few = few
 value_few c ChunkLowMark text few = few
@@ -52,8 +54,8 @@ or_few (Some s) r c is = absurd (cc is)
 
 settings_few : (as_ : List Assignment) (c : Settings) → settings_of as_ ≡ Ok c → c.disk_run ≤ 64
 settings_few as_ c is =
-    let one : in_order (assigned defaults as_) ≡ Ok c = or_few (first_refused as_) (in_order (assigned defaults as_)) c is in
-    let two : Ok (assigned defaults as_) ≡ Ok c = or_few (out_of_order (assigned defaults as_)) (Ok (assigned defaults as_)) c one in
+    let one : fitting (assigned defaults as_) ≡ Ok c = or_few (first_refused as_) (fitting (assigned defaults as_)) c is in
+    let two : Ok (assigned defaults as_) ≡ Ok c = or_few (misfit (assigned defaults as_)) (Ok (assigned defaults as_)) c one in
     let same : assigned defaults as_ ≡ c = cc two in
     subst (λ (x : Settings). x.disk_run ≤ 64) same (assigned_few defaults as_ (omega arith))
 

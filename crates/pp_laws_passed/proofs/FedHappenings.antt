@@ -257,12 +257,12 @@ unfolding opening_begun with_settings
 opening_same s = by (are_texts s.term) (names_file s.term)
   where
     by_settings : (o : Option Settings) → Same s (with_settings o s)
-    by_settings None = alike (record { clients_same = refl; exchanges_same = refl; conns_same = refl; next_same = refl })
-    by_settings (Some c) = alike (record { clients_same = refl; exchanges_same = refl; conns_same = refl; next_same = refl })
+    by_settings None = alike (record { clients_same = refl; exchanges_same = refl; conns_same = refl; next_same = refl; top_same = refl })
+    by_settings (Some c) = alike (record { clients_same = refl; exchanges_same = refl; conns_same = refl; next_same = refl; top_same = refl })
 
     by : (a b : Bool) → Same s (elim a as (λ x. State) [ false ↦ with_settings None s | true ↦ elim b as (λ x. State) [ true ↦ record s { phase = IsWoken } | false ↦ with_settings (settings_in (reading_of s.term.words None)) s ] ])
     by false b = by_settings None
-    by true true = alike (record { clients_same = refl; exchanges_same = refl; conns_same = refl; next_same = refl })
+    by true true = alike (record { clients_same = refl; exchanges_same = refl; conns_same = refl; next_same = refl; top_same = refl })
     by true false = by_settings (settings_in (reading_of s.term.words None))
 
 woken-fed : (image : Files) (s : State) → Fed (woken image s)

@@ -2,11 +2,12 @@
 use Rattle.std.proofs.Common.{◌≡◌, refl, ℕ, ◌≤◌, Bool, true, false, ◌&&◌, not, nat_le, cond, List, [], ◌∷◌, ◌++◌, fold, find, is_some, unwrap_or, Option, Some, None, option_map, option_and_then, Result, Ok, Err, sym, ap, subst, ◌∙◌, arith}
 use Rattle.std.proofs.lemmas.Bool.Decides.{nat_tests}
 use Rattle.pp_text.specs.Numbers.{number_of}
-use Rattle.pp_conf.specs.Conf.{Assignment, Settings, number_or_0, with_value, assigned, first_refused, in_order, out_of_order, or_refused, settings_of, defaults}
-use Rattle.pp_conf.specs.Settings.{accepts, is_padded, number_in, number_for, least_of, most_of}
+use Rattle.pp_conf.specs.Conf.{Assignment, Settings, number_or_0, with_value, assigned, first_refused, fitting, misfit, or_refused, settings_of, defaults}
+use Rattle.pp_conf.specs.Numbers.{is_padded, number_in}
+use Rattle.pp_conf.specs.Settings.{accepts, number_for, least_of, most_of}
 use Rattle.pp_conf.specs.Words.{Told, Serves, ShowsDemo, Refusal, NoReading, TooLong, has_reading, seed_of, is_too_long, or_out_of_range, reading_of, served_by, told_by, text_assignments, with_words, word_assignments}
 use Rattle.pp_conf.specs.declared.setting.Setting.{Setting}
-use Rattle.pp_conf.specs.declared.setting.Setting.TheVariants.{ProxyPort, ProxyName, DiskCacheRoot, ChunkLowMark, ChunkHighMark, ChunkCriticalMark, DiskRun, MaxTurns, ShareFetches, PipelineAsks, HostConnections}
+use Rattle.pp_conf.specs.declared.setting.Setting.TheVariants.{ProxyPort, ProxyAddress, AllowedClients, ProxyName, DiskCacheRoot, ChunkLowMark, ChunkHighMark, ChunkCriticalMark, DiskRun, MaxTurns, ShareFetches, PipelineAsks, HostConnections}
 use Rattle.pp_law.specs.Lists.{Bytes}
 use Rattle.pp_law.specs.Opening.{settings_in}
 
@@ -38,6 +39,8 @@ IsMarked c = 512 ≤ c.critical
 
 one_marked : (c : Settings) (s : Setting) (text : List ℕ) → accepts s text ≡ true → IsMarked c → IsMarked (with_value c s text)
 one_marked c ProxyPort text is h = h
+one_marked c ProxyAddress text is h = h
+one_marked c AllowedClients text is h = h
 one_marked c ProxyName text is h = h
 one_marked c DiskCacheRoot text is h = h
 one_marked c ChunkLowMark text is h = h
@@ -59,9 +62,9 @@ all_marked (a ∷ as_) c none h =
     let w = accepted a (find (λ (b : Assignment). not (accepts b.0 b.1)) as_) (accepts a.0 a.1) refl none in
     all_marked as_ (with_value c a.0 a.1) w.1 (one_marked c a.0 a.1 w.0 h)
 
-in_order-same : (c d : Settings) (o : Option Setting) → or_refused o (Ok c) ≡ Ok d → c ≡ d
-in_order-same c d None is = cc
-in_order-same c d (Some s) is = absurd (cc is)
+fitting-same : (c d : Settings) (o : Option Setting) → or_refused o (Ok c) ≡ Ok d → c ≡ d
+fitting-same c d None is = cc
+fitting-same c d (Some s) is = absurd (cc is)
 
 enough : 512 ≤ 4096
 enough = omega arith
@@ -69,8 +72,8 @@ enough = omega arith
 settings_marked : (as_ : List Assignment) (c : Settings) → settings_of as_ ≡ Ok c → IsMarked c
 settings_marked as_ c is = by (first_refused as_) refl is
   where
-    by : (o : Option Setting) → first_refused as_ ≡ o → or_refused o (in_order (assigned defaults as_)) ≡ Ok c → IsMarked c
-    by None none found = subst IsMarked (in_order-same (assigned defaults as_) c (out_of_order (assigned defaults as_)) found) (all_marked as_ defaults none enough)
+    by : (o : Option Setting) → first_refused as_ ≡ o → or_refused o (fitting (assigned defaults as_)) ≡ Ok c → IsMarked c
+    by None none found = subst IsMarked (fitting-same (assigned defaults as_) c (misfit (assigned defaults as_)) found) (all_marked as_ defaults none enough)
     by (Some s) some found = absurd (cc found)
 
 -- ---- words and a text

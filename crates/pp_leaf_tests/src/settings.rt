@@ -1,5 +1,6 @@
 // Words and a text, and the settings or the fault that come of them.
 use pp_conf::{Command, Conf, ConfFault, Setting, config_name};
+use pp_world::AddressRange;
 use std::alloc::{AllocError, Global};
 use std::test::Fail;
 
@@ -10,6 +11,10 @@ proxyPort=10|proxyPort=9=>Port(10)
 -g 18446744073709551615|=>Seed(18446744073709551615)
 proxyPort=0|diskRun=65=>Fault(BadValue(DiskRun
 pipelineAsks=2|=>Fault(BadValue(PipelineAsks
+proxyAddress=1.2.3|=>Fault(BadValue(ProxyAddress
+allowedClients=10.0.0.1/8|=>Fault(BadValue(AllowedClients
+proxyAddress=0.0.0.0|=>Fault(BadValue(AllowedClients
+proxyAddress=0.0.0.0|allowedClients = 127.0.0.1, 192.168.0.0/16=>Port(8123)
 hostConnections=0|=>Fault(BadValue(HostConnections
 |~~nonsense=>Fault(BadLine(3))
 -g 7 -c f|=>Fault(Usage)";
@@ -78,6 +83,14 @@ fn each_setting_has_its_default_and_its_name(rt: HostRuntime) -> Result<(), Fail
     assert_eq!(rt;
         (conf.port, conf.name.as_slice()),
         (8123, b"polipo".as_slice())
+    );
+    let loopback = AddressRange {
+        address: 0x7f00_0000,
+        bits: 8,
+    };
+    assert_eq!(rt;
+        (conf.address, conf.allowed.as_slice()),
+        (0x7f00_0001, [loopback].as_slice())
     );
     assert_eq!(rt; conf.root.as_slice(), b"polipo-cache".as_slice());
     assert_eq!(rt; (conf.low, conf.high, conf.critical), (2560, 3072, 4096));

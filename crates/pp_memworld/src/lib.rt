@@ -23,6 +23,7 @@ mod copies; // a log again
 mod crash; // a crash, and the life that follows it
 mod disk; // the world, as a Disk
 mod draft; // the one draft
+mod fields; // the fields of an ask
 mod file; // one file, and what a crash may leave of it
 mod folder; // the files of a folder, as the log leaves them
 mod image; // the files that a life woke to

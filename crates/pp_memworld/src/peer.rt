@@ -182,6 +182,7 @@ impl Peer {
         self.asked.extend_from_slice(bytes)?;
         let mut answers = Vec::new(alloc);
         answer_all(
+            alloc,
             site,
             site[page].host.as_slice(),
             &mut self.asked,

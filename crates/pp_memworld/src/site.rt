@@ -2,41 +2,43 @@
 ghost use Rattle.std.specs.Prelude.{◌≡◌, ◌<◌, ◌≤◌, ◌+◌, length, IfSome};
 
 use crate::Page;
+use crate::fields::{field, fields_of};
+use http_header::HeaderMap;
 use itoa::Buffer;
-use pp_text::{OutOfMemory, read_u64, same};
+use pp_text::{OutOfMemory, read_u64};
+use std::alloc::Global;
 
 const NOT_FOUND: &[u8] = b"HTTP/1.1 404 Not Found\r\nContent-Length: 0\r\n\r\n";
 
 /// Answers each whole ask at the front of `asked`, and leaves what is not whole yet.
 pub(crate) fn answer_all(
+    alloc: Global,
     site: &[Page],
     host: &[u8],
     asked: &mut Vec<u8>,
     answers: &mut Vec<u8>,
 ) -> Result<(), OutOfMemory> {
     for _ in 0..asked.len() {
-        let Some(ask_len) = ask_len(asked.as_slice()) else {
+        let Some(head_len) = head_len(asked.as_slice()) else {
             break;
         };
-        answer(site, host, &asked.as_slice()[..ask_len], answers)?;
+        let head = &asked.as_slice()[..head_len];
+        let fields = fields_of(alloc, head)?;
+        let ask_len = body_len(&fields).saturating_add(head_len);
+        if ask_len > asked.len() {
+            break;
+        }
+        answer(site, host, head, &fields, answers)?;
         asked.drain(..ask_len);
     }
     Ok(())
 }
 
-/// The length of the whole ask at the front: its head, and its body by Content-Length.
-fn ask_len(bytes: &[u8]) -> Option<usize>
-    ensures { IfSome result (λ n. n ≤ length bytes.now) }
-{
-    let head = head_len(bytes)?;
-    let body = match field(&bytes[..head], b"content-length") {
-        Some(value) => read_u64(value).unwrap_or(0),
+/// The length of an ask's body, by Content-Length.
+fn body_len(fields: &HeaderMap) -> usize {
+    match field(fields, "content-length") {
+        Some(value) => read_u64(value).unwrap_or(0) as usize,
         None => 0,
-    };
-    if body <= (bytes.len() - head) as u64 {
-        Some(head + body as usize)
-    } else {
-        None
     }
 }
 
@@ -52,28 +54,16 @@ fn head_len(bytes: &[u8]) -> Option<usize>
     None
 }
 
-/// The value of the first field of this name.
-fn field<'a>(head: &'a [u8], name: &[u8]) -> Option<&'a [u8]> {
-    for line in head.split(|b| *b == b'\n') {
-        if let Some(colon) = line.iter().position(|b| *b == b':') {
-            if same(&line[..colon], name) {
-                return Some(line[colon + 1..].trim_ascii());
-            }
-        }
-    }
-    None
-}
-
 /// What stands between the first two spaces, and before the first.
-fn method_and_target(ask: &[u8]) -> Option<(&[u8], &[u8])> {
-    let method = ask.iter().position(|b| *b == b' ')?;
-    let rest = &ask[method + 1..];
+fn method_and_target(head: &[u8]) -> Option<(&[u8], &[u8])> {
+    let method = head.iter().position(|b| *b == b' ')?;
+    let rest = &head[method + 1..];
     let target = rest.iter().position(|b| *b == b' ')?;
-    Some((&ask[..method], &rest[..target]))
+    Some((&head[..method], &rest[..target]))
 }
 
-fn page_for<'a>(site: &'a [Page], host: &[u8], ask: &[u8]) -> Option<&'a Page> {
-    let (method, target) = method_and_target(ask)?;
+fn page_for<'a>(site: &'a [Page], host: &[u8], head: &[u8]) -> Option<&'a Page> {
+    let (method, target) = method_and_target(head)?;
     if method != b"GET".as_slice() {
         return None;
     }
@@ -105,18 +95,19 @@ fn span_of(range: &[u8], len: usize) -> Option<(usize, usize)>
 fn answer(
     site: &[Page],
     host: &[u8],
-    ask: &[u8],
+    head: &[u8],
+    fields: &HeaderMap,
     answers: &mut Vec<u8>,
 ) -> Result<(), OutOfMemory> {
-    let Some(page) = page_for(site, host, ask) else {
+    let Some(page) = page_for(site, host, head) else {
         answers.extend_from_slice(NOT_FOUND)?;
         return Ok(());
     };
     let tag = page.tag.as_slice();
-    if let Some((from, to)) = part_of(page, ask) {
+    if let Some((from, to)) = part_of(page, fields) {
         return answer_part(page, from, to, answers);
     }
-    if field(ask, b"if-none-match").is_some_and(|named| named == tag) {
+    if field(fields, "if-none-match").is_some_and(|named| named == tag) {
         answers.extend_from_slice(b"HTTP/1.1 304 Not Modified\r\nETag: ")?;
         answers.extend_from_slice(tag)?;
         answers.extend_from_slice(b"\r\n\r\n")?;
@@ -126,11 +117,11 @@ fn answer(
 }
 
 /// The span that is asked for, where the asker has no other version.
-fn part_of(page: &Page, ask: &[u8]) -> Option<(usize, usize)>
+fn part_of(page: &Page, fields: &HeaderMap) -> Option<(usize, usize)>
     ensures { IfSome result (λ s. (s.0 < s.1) × (s.1 ≤ length page.now.body)) }
 {
-    let range = field(ask, b"range")?;
-    match field(ask, b"if-range") {
+    let range = field(fields, "range")?;
+    match field(fields, "if-range") {
         Some(named) if named != page.tag.as_slice() => None,
         Some(_) | None => span_of(range, page.body.as_slice().len()),
     }

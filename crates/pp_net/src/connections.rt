@@ -34,6 +34,8 @@ fn distance(last: u64, id: u64) -> u64 {
 #[derive(Drop)]
 pub struct Connections {
     places: Vec<Option<Connection>>,
+    // The places of those that can be read, and maybe of others, each once: who was read last stands behind all others.
+    readable: Vec<u64>,
     // A dial may have ended that nobody looked at yet.
     has_answer: bool,
 }
@@ -46,6 +48,7 @@ impl Connections {
         }
         Ok(Connections {
             places,
+            readable: Vec::with_capacity(alloc, PLACES as usize)?,
             has_answer: false,
         })
     }
@@ -78,8 +81,16 @@ impl Connections {
 
     /// Puts a connection into the place of its number.
     pub fn put(&mut self, connection: Connection) {
-        if let Some(place) = self.places.get_mut(place_of(connection.id()) as usize) {
+        let id = connection.id();
+        if let Some(place) = self.places.get_mut(place_of(id) as usize) {
             *place = Some(connection);
+        }
+        self.note_readable(place_of(id));
+    }
+
+    fn note_readable(&mut self, place: u64) {
+        if self.readable_at(place).is_some() && !self.readable.as_slice().contains(&place) {
+            let _ = self.readable.push(place);
         }
     }
 
@@ -132,6 +143,7 @@ impl Connections {
             Phase::Lingering(_) if connection.drain() => *place = None,
             _ => {}
         }
+        self.note_readable(place_of(id));
     }
 
     /// A dialled connection whose dial has ended, and that nobody looked at yet.
@@ -159,18 +171,52 @@ impl Connections {
         }
     }
 
-    /// Of these connections the one that is ready, and whose place comes first after that of `last`.
-    pub fn next_ready(&self, ids: &[u64], direction: Direction, last: u64) -> Option<u64>
+    /// Of these connections the one that can be written, and whose place comes first after that of `last`.
+    pub fn next_writable(&self, ids: &[u64], last: u64) -> Option<u64>
         ensures { IfSome result (λ id. IsTrue (has_number id ids.now)) }
     {
         ids.iter()
             .copied()
-            .filter(|id| self.is_ready(*id, direction))
+            .filter(|id| self.is_writable(*id))
             .min_by_key(|id| distance(last, *id))
     }
 
-    fn is_ready(&self, id: u64, direction: Direction) -> bool {
+    fn is_writable(&self, id: u64) -> bool {
         self.get(id)
-            .is_some_and(|connection| connection.is_ready(direction))
+            .is_some_and(|connection| connection.is_ready(Direction::Write))
+    }
+
+    /// Of these connections the one that can be read, and was read longest ago. There may be many of them, so only those
+    /// that can be read are looked at.
+    pub fn next_readable(&mut self, ids: &[u64]) -> Option<u64>
+        ensures { IfSome result (λ id. IsTrue (has_number id ids.now)) }
+    {
+        let mut at = 0;
+        for _ in 0..PLACES {
+            let place = *self.readable.get(at)?;
+            match self.readable_at(place) {
+                None => {
+                    self.readable.remove(at);
+                }
+                Some(id) if ids.contains(&id) => {
+                    self.readable.remove(at);
+                    let _ = self.readable.push(place);
+                    return Some(id);
+                }
+                Some(_) => at += 1,
+            }
+        }
+        None
+    }
+
+    /// The connection in this place, where it is open and can be read.
+    fn readable_at(&self, place: u64) -> Option<u64> {
+        let connection = self.places.get(place as usize)?.as_ref()?;
+        let id = connection.id();
+        if connection.is_open(id) && connection.is_ready(Direction::Read) {
+            Some(id)
+        } else {
+            None
+        }
     }
 }

@@ -11,7 +11,7 @@
 //! To the layer above: `NetWorld` is a `Wire` and a `Disk` that tells no log. Its count of faults rises at
 //! each fault, and no number is given twice. What the sockets and the files hold, no clause can say.
 //!
-//! Takes memory in `new`, for the text of a configuration and for the names in the folder. What is wanted is
+//! Takes memory in `new`, for who may come, for the text of a configuration and for the names in the folder. What is wanted is
 //! for the turn, and what stands in a file for those who keep it.
 #![tactic(auto)]
 
@@ -19,7 +19,7 @@ mod connection; // one connection: its phase, and its bytes
 mod connections; // all of them, by number
 mod console; // what is printed, and where
 mod disk; // the calls on files
-mod door; // the listener
+mod door; // the listener, and who may come
 mod files; // the front of a configuration
 mod folder; // the folder of files, its lock, and the calls on its files
 mod held; // a file that is held open

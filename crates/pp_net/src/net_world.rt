@@ -6,13 +6,13 @@ ghost use Rattle.pp_world.specs.Wire.{IsNewNumber};
 
 use crate::connection::{Connection, Phase};
 use crate::connections::{Connections, next_number};
-use crate::door::Door;
+use crate::door::OpenDoor;
 use crate::folder::Folder;
 use crate::hosts::Hosts;
 use crate::rotation::Rotation;
 use mio::net::TcpStream;
 use mio::{Events, Interest, Poll, Token};
-use pp_world::{Logged, WireFault};
+use pp_world::{Door, Logged, WireFault};
 use std::alloc::{AllocError, Global};
 use std::io;
 use std::io::ErrorKind;
@@ -35,7 +35,7 @@ pub enum NetFault {
     OutOfMemory,
 }
 
-/// Sockets on 127.0.0.1, the clock, the console and files, as the runtime `R` gives them.
+/// Sockets of IPv4, the clock, the console and files, as the runtime `R` gives them.
 ///
 /// The log is not told. The count of faults rises at each fault of a socket, a file, the clock or the
 /// console, but not for what befalls a connection that is closed.
@@ -44,7 +44,7 @@ pub struct NetWorld<R: Drop> {
     pub(crate) rt: R,
     poll: Poll,
     reports: Events,
-    pub(crate) door: Option<Door>,
+    pub(crate) door: Option<OpenDoor>,
     pub(crate) connections: Connections,
     pub(crate) rotation: Rotation,
     hosts: Hosts,
@@ -128,7 +128,7 @@ impl<R: Runtime + AllocGlobal + Net> NetWorld<R> {
             self.fault();
         }
         for report in self.reports.iter() {
-            if report.token() != Door::TOKEN {
+            if report.token() != OpenDoor::TOKEN {
                 self.connections.hear(report);
             } else if let Some(door) = self.door.as_mut() {
                 door.knock();
@@ -136,11 +136,11 @@ impl<R: Runtime + AllocGlobal + Net> NetWorld<R> {
         }
     }
 
-    pub(crate) fn open_door(&mut self, port: u16) -> io::Result<()>
+    pub(crate) fn open_door(&mut self, door: &Door<'_>) -> io::Result<()>
         ensures faults { self.new.faults ≡ self.old.faults }
         ensures top { self.new.top ≡ self.old.top }
     {
-        self.door = Some(Door::open(&self.rt, self.poll.registry(), port)?);
+        self.door = Some(OpenDoor::open(&self.rt, self.rt.alloc(), self.poll.registry(), door)?);
         Ok(())
     }
 

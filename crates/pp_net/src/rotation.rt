@@ -1,7 +1,8 @@
 // Whose turn it is, so that nobody waits for ever while others are served.
 //
-// Writing, reading and accepting come in turn. In each direction the connection in the place after the one
-// that was served last comes first, in whatever order the wanted connections are named.
+// Writing, reading and accepting come in turn. Of those that are written the connection in the place after the
+// one that was written last comes first, in whatever order the wanted connections are named; of those that are
+// read the one that was read longest ago.
 ghost use Rattle.std.specs.Prelude.{◌≡◌};
 
 /// What is tried first.
@@ -27,15 +28,12 @@ pub struct Rotation {
     pub turn: Turn,
     /// The number of the connection that was written to last, or 0.
     pub last_written: u64,
-    /// The number of the connection that was read last, or 0.
-    pub last_read: u64,
 }
 
 impl Rotation {
     pub const START: Rotation = Rotation {
         turn: Turn::Write,
         last_written: 0,
-        last_read: 0,
     };
 
     /// Whose turn it is, and with the next call that of the next.

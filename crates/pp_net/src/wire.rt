@@ -4,13 +4,12 @@ ghost use Rattle.pp_world.specs.declared.event.Event.TheVariants.{Tick};
 ghost use Rattle.pp_world.specs.declared.event.Wants.{Wants};
 ghost use Rattle.pp_net.specs.Found.{Finds, IsFoundFor};
 
-use crate::connection::Direction;
 use crate::folder::Folder;
 use crate::net_world::NetWorld;
 use crate::rotation::Turn;
 use crate::{console, files};
 use pp_text::Octets;
-use pp_world::{ConfigFault, Event, Got, Note, Wants, Wire, WireFault};
+use pp_world::{ConfigFault, Door, Event, Got, Note, Wants, Wire, WireFault};
 use std::alloc::Global;
 use std::net::Net;
 use std::rt::Runtime;
@@ -53,6 +52,22 @@ impl<R: Runtime + AllocGlobal + Net> NetWorld<R> {
         if self.folder.is_moved(&self.rt) {
             self.folder = Folder::Closed;
             self.print(MOVED_LINE);
+        }
+    }
+
+    // How long the system is waited for: to the end of the second, and not at all where somebody may wait unreported.
+    fn patience(&mut self, now: Duration) -> Duration
+        ensures faults { self.new.faults ≡ self.old.faults }
+        ensures top { self.new.top ≡ self.old.top }
+    {
+        let is_crowded = match self.door.as_mut() {
+            Some(door) => door.take_crowd(),
+            None => false,
+        };
+        if is_crowded {
+            Duration::ZERO
+        } else {
+            rest_of_second(now)
         }
     }
 
@@ -107,7 +122,7 @@ impl<R: Runtime + AllocGlobal + Net> NetWorld<R> {
     {
         let ids = wants.write.as_slice();
         let last = self.rotation.last_written;
-        let id = self.connections.next_ready(ids, Direction::Write, last)?;
+        let id = self.connections.next_writable(ids, last)?;
         self.rotation.last_written = id;
         Some(Event::Writable(id))
     }
@@ -116,10 +131,7 @@ impl<R: Runtime + AllocGlobal + Net> NetWorld<R> {
         ensures found { Finds wants.now self.old.top self.new.top result }
         ensures faults { self.new.faults ≡ self.old.faults }
     {
-        let ids = wants.read.as_slice();
-        let last = self.rotation.last_read;
-        let id = self.connections.next_ready(ids, Direction::Read, last)?;
-        self.rotation.last_read = id;
+        let id = self.connections.next_readable(wants.read.as_slice())?;
         Some(Event::Readable(id))
     }
 
@@ -156,7 +168,8 @@ impl<R: Runtime + AllocGlobal + Net> Wire for NetWorld<R> {
                 self.found = self.found.saturating_add(1);
                 return event;
             }
-            self.ask(rest_of_second(now));
+            let patience = self.patience(now);
+            self.ask(patience);
         }
         Event::Stop
     }
@@ -181,8 +194,8 @@ impl<R: Runtime + AllocGlobal + Net> Wire for NetWorld<R> {
         }
     }
 
-    fn listen(&mut self, port: u16) -> Result<(), WireFault> {
-        match self.open_door(port) {
+    fn listen(&mut self, door: &Door<'_>) -> Result<(), WireFault> {
+        match self.open_door(door) {
             Ok(()) => Ok(()),
             Err(_) => Err(self.fault()),
         }

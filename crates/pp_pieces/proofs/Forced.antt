@@ -18,6 +18,7 @@ use Rattle.pp_world.specs.declared.note.Decision.{Decision}
 use Rattle.pp_world.specs.declared.note.Decision.TheVariants.{Refuse, Hit, Part, Head, NotModified, Unsatisfiable, Relay, Validate, Fetch, Pass}
 use Rattle.pp_world.specs.declared.op.DiskOp.{DiskOp}
 use Rattle.pp_world.specs.declared.op.DiskOp.TheVariants.{Draft, SyncDraft, Publish, Write, Sync, Remove}
+use Rattle.pp_world.specs.declared.door.AddressRange.{AddressRange}
 use Rattle.pp_text.specs.Fields.{Field}
 use Rattle.pp_world.specs.Log.{Log}
 use Rattle.pp_world.specs.declared.happening.Happening.{Happening}
@@ -87,8 +88,11 @@ forced_Entry x k = (forced_list forced_nat) x.name (λ name'. (forced_list force
 unfoldable pub forced_Term : Term → (Term → Out) → Out
 forced_Term x k = (forced_list (forced_list forced_nat)) x.words (λ words'. forced_nat x.faults (λ faults'. k (record { words = words'; faults = faults' })))
 
+unfoldable pub forced_AddressRange : AddressRange → (AddressRange → Out) → Out
+forced_AddressRange x k = forced_nat x.address (λ address'. forced_nat x.bits (λ bits'. k (record { address = address'; bits = bits' })))
+
 unfoldable pub forced_Settings : Settings → (Settings → Out) → Out
-forced_Settings x k = forced_nat x.port (λ port'. (forced_list forced_nat) x.name (λ name'. (forced_list forced_nat) x.root (λ root'. forced_nat x.low (λ low'. forced_nat x.high (λ high'. forced_nat x.critical (λ critical'. forced_nat x.disk_run (λ disk_run'. forced_nat x.max_turns (λ max_turns'. forced_Bool x.shares_fetches (λ shares_fetches'. forced_Bool x.pipelines_asks (λ pipelines_asks'. forced_nat x.host_connections (λ host_connections'. k (record { port = port'; name = name'; root = root'; low = low'; high = high'; critical = critical'; disk_run = disk_run'; max_turns = max_turns'; shares_fetches = shares_fetches'; pipelines_asks = pipelines_asks'; host_connections = host_connections' }))))))))))))
+forced_Settings x k = forced_nat x.port (λ port'. forced_nat x.address (λ address'. (forced_list forced_AddressRange) x.allowed (λ allowed'. (forced_list forced_nat) x.name (λ name'. (forced_list forced_nat) x.root (λ root'. forced_nat x.low (λ low'. forced_nat x.high (λ high'. forced_nat x.critical (λ critical'. forced_nat x.disk_run (λ disk_run'. forced_nat x.max_turns (λ max_turns'. forced_Bool x.shares_fetches (λ shares_fetches'. forced_Bool x.pipelines_asks (λ pipelines_asks'. forced_nat x.host_connections (λ host_connections'. k (record { port = port'; address = address'; allowed = allowed'; name = name'; root = root'; low = low'; high = high'; critical = critical'; disk_run = disk_run'; max_turns = max_turns'; shares_fetches = shares_fetches'; pipelines_asks = pipelines_asks'; host_connections = host_connections' }))))))))))))))
 
 unfoldable pub forced_Phase : Phase → (Phase → Out) → Out
 forced_Phase Before k = k Before
@@ -276,11 +280,11 @@ tell (Some f) = tell_rule f.rule f.at
 unfoldable pub judging : ⊤
 unfolding pp_law_on_literals judge tell tell_rule
     forced_DiskOp forced_Version forced_Sent forced_Times forced_Entry forced_Term
-    forced_Settings forced_Phase forced_Request forced_Key forced_TargetFault forced_BodyRule
-    forced_FramingFault forced_Parsed forced_Front forced_Decision forced_Reply forced_Stage
-    forced_Shared forced_Response forced_Pipe forced_Passed forced_Brought forced_Course
-    forced_Client forced_Answer forced_Conn forced_Aim forced_Bound forced_Body
-    forced_Exchange forced_Instance forced_Chunk forced_Owed forced_Todo forced_Agenda
-    forced_State forced_nat forced_Bool forced_list forced_option forced_result
-    forced_field forced_Happening
+    forced_AddressRange forced_Settings forced_Phase forced_Request forced_Key forced_TargetFault
+    forced_BodyRule forced_FramingFault forced_Parsed forced_Front forced_Decision forced_Reply
+    forced_Stage forced_Shared forced_Response forced_Pipe forced_Passed forced_Brought
+    forced_Course forced_Client forced_Answer forced_Conn forced_Aim forced_Bound
+    forced_Body forced_Exchange forced_Instance forced_Chunk forced_Owed forced_Todo
+    forced_Agenda forced_State forced_nat forced_Bool forced_list forced_option
+    forced_result forced_field forced_Happening
 judging = tt

@@ -216,7 +216,7 @@ fn strings(alloc: Global, words: &[&str]) -> Result<Vec<String>, OutOfMemory> {
 }
 
 /// A world of its own place, so that whoever lets go of it lets go of one thing.
-fn boxed(alloc: Global, world: MemWorld) -> Result<Box<MemWorld>, OutOfMemory>
+pub fn boxed(alloc: Global, world: MemWorld) -> Result<Box<MemWorld>, OutOfMemory>
     ensures { IfOk result (λ b. b.value ≡ world) }
 {
     Box::new(alloc, world).map_err(|_| OutOfMemory)

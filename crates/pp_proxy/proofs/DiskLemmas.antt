@@ -1,6 +1,7 @@
 -- What the shelf promises of the disk holds on over calls of the connections.
-use Rattle.std.proofs.Common.{◌≡◌, ℕ, Bool, true, false, ◌&&◌, List, [], ◌∷◌, ◌++◌, Option, Some, refl, sym, subst}
-use Rattle.std.specs.List.{list_all}
+use Rattle.std.proofs.Common.{◌≡◌, ℕ, Bool, true, false, ◌&&◌, List, [], ◌∷◌, ◌++◌, Option, Some, None, Result, Ok, Err, cond, refl, sym, ap, ◌∙◌, subst}
+use Rattle.std.specs.Prelude.{IfNone, IfSome, is_some, not}
+use Rattle.std.specs.List.{filter, find, list_all}
 use Rattle.pp_world.specs.declared.event.Event.{Event}
 use Rattle.pp_world.specs.declared.event.Event.TheVariants.{Stop, Tick, Accepted, Readable, Writable, Reached, Broken}
 use Rattle.pp_world.specs.declared.event.Wants.{Wants}
@@ -10,7 +11,8 @@ use Rattle.pp_world.specs.Log.{Log, AppendsAll, Told}
 use Rattle.pp_world.specs.Wire.{wait_happenings}
 use Rattle.pp_links.specs.Quiet.{GrowsQuietly, is_quiet}
 use Rattle.pp_store.specs.Held.{Holds}
-use Rattle.pp_store.specs.Kept.{KeptMap}
+use Rattle.pp_store.specs.Changes.{is_other, withdrawn_after}
+use Rattle.pp_store.specs.Kept.{Kept, KeptMap, is_of, kept_of}
 use Rattle.pp_store.specs.Lasting.{AreApart, IsApart}
 use Rattle.pp_store.proofs.Backing.{outlast-others}
 use Rattle.pp_proxy.specs.Anything.{anything}
@@ -65,3 +67,26 @@ holds_turned_away wants c store call known = record {
       let w = call.was l is in
       subst (Holds anything store) (sym w.2) ((outlast-others _ (tt, (tt, (tt, tt))) anything store w.0).0 (known.at w.0 w.1));
 }
+
+-- ---- an entry that is taken away
+
+skipped : (key : List ℕ) (row : Kept) (rest : List Kept) (b : Bool) → is_of key row ≡ b → find (is_of key) rest ≡ None → find (is_of key) (cond (not b) (row ∷ rest) rest) ≡ None
+skipped key row rest true is none = none
+skipped key row rest false is none = ap (λ (t : Bool). cond t (Some row) (find (is_of key) rest)) is ∙ none
+
+none_left : (key : List ℕ) (rows : List Kept) → find (is_of key) (filter (is_other key) rows) ≡ None
+none_left key [] = refl
+none_left key (row ∷ rows) = skipped key row (filter (is_other key) rows) (is_of key row) refl (none_left key rows)
+
+-- the key is not kept, whatever the answer was
+pub gone_behind : {A E : Type 0} (result : Result A E) (key : List ℕ) (store : KeptMap) → kept_of key (withdrawn_after result key store) ≡ None
+gone_behind (Ok done) key store = none_left key store.rows
+gone_behind (Err fault) key store = none_left key store.rows
+
+nothing : (kept : Option Kept) → false ≡ is_some kept → kept ≡ None
+nothing None is = refl
+nothing (Some row) is = absurd (let bad : false ≡ true = is in cc)
+
+pub gone_once : {A E : Type 0} (result : Option (Result A E)) (key : List ℕ) (old new : KeptMap) → is_some result ≡ is_some (kept_of key old) → IfNone result (new ≡ old) → IfSome result (λ r. new ≡ withdrawn_after r key old) → kept_of key new ≡ None
+gone_once None key old new answered none some = ap (kept_of key) none ∙ nothing (kept_of key old) answered
+gone_once (Some r) key old new answered none some = ap (kept_of key) some ∙ gone_behind r key old

@@ -1,4 +1,2 @@
 pub mod DiskLemmas
 pub mod HeadLimits
-pub mod SiteLemmas
-pub mod UsesLemmas

@@ -6,13 +6,12 @@ ghost use Rattle.pp_proxy.specs.Anything.{anything};
 ghost use Rattle.pp_store.specs.Held.{Holds};
 ghost use Rattle.pp_world.specs.Log.{Told};
 
-use crate::due::Due;
 use crate::origin::Origin;
-use crate::state::State;
 use pp_client::Room;
 use pp_links::Links;
 use pp_peers::Peers;
 use pp_shelf::Shelf;
+use pp_steps::{Due, State};
 use pp_world::{Cause, Decision, Event, Note, Wire, World};
 
 /// The most clients at once.

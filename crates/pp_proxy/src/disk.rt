@@ -1,9 +1,12 @@
 // Calls of the disk in a turn: they open and close no connection.
-ghost use Rattle.std.specs.Prelude.{◌≤◌, IfOk, IfSome};
+ghost use Rattle.std.specs.Prelude.{◌≡◌, ◌≤◌, ◌*◌, ◌↔◌, IfNone, IfOk, IfSome, IsSome, is_some, length, None};
 ghost use Rattle.pp_links.specs.Links.{IsLinked};
 ghost use Rattle.pp_proxy.specs.Anything.{anything};
+ghost use Rattle.pp_shelf.specs.Given.{MayBeDrafted, is_more_of, keeps_byte};
 ghost use Rattle.pp_shelf.specs.Steady.{GrowsSteadily};
+ghost use Rattle.pp_store.specs.Changes.{entry_with, extended_after, loaded_after};
 ghost use Rattle.pp_store.specs.Held.{Holds};
+ghost use Rattle.pp_store.specs.Kept.{kept_of};
 ghost use Rattle.pp_world.specs.Log.{Told};
 
 use pp_links::Links;
@@ -13,7 +16,7 @@ use pp_store::{KeepFault, LoadFault};
 use pp_world::{DiskFault, World};
 use std::alloc::Global;
 
-/// Reads a chunk of a row.
+/// Reads a chunk of a row. None exactly where it is not kept.
 pub(crate) fn load<W: World>(
     _links: &Links,
     shelf: &mut Shelf,
@@ -24,6 +27,9 @@ pub(crate) fn load<W: World>(
 ) -> Option<Result<usize, LoadFault>>
     requires linked { IsLinked (W.log world.old) (W.top world.old) _links.now }
     requires holds { Told (W.log world.old) (Holds anything shelf.old) }
+    ensures answered { is_some result ≡ keeps_byte (4096 * index) (kept_of row.now.key.now shelf.old) }
+    ensures none { IfNone result (shelf.new ≡ shelf.old) }
+    ensures map { IfSome result (λ r. shelf.new ≡ loaded_after r row.now.key.now shelf.old) }
     ensures within { IfSome result (λ r. IfOk r (λ n. n ≤ 4096)) }
     ensures linked { IsLinked (W.log world.new) (W.top world.new) _links.now }
     ensures holds { Told (W.log world.new) (Holds anything shelf.new) }
@@ -32,7 +38,8 @@ pub(crate) fn load<W: World>(
     shelf.load(world, row.key, index, out)
 }
 
-/// Puts the entry of a row on the disk, as it is laid out in `room`.
+/// Puts the entry of a row on the disk, as it is laid out in `room`. None exactly where an entry is kept under the name, none
+/// can be written of the row, or what stands in the room is neither nothing nor all of the body.
 pub(crate) fn draft<W: World>(
     alloc: Global,
     _links: &Links,
@@ -43,6 +50,8 @@ pub(crate) fn draft<W: World>(
 ) -> Option<Result<(), KeepFault>>
     requires linked { IsLinked (W.log world.old) (W.top world.old) _links.now }
     requires holds { Told (W.log world.old) (Holds anything shelf.old) }
+    ensures answered { IsSome result ↔ MayBeDrafted shelf.old (entry_with row.now.key.now row.now.version.now row.now.fields row.now.times) (length room.old) }
+    ensures none { IfNone result (shelf.new ≡ shelf.old) }
     ensures linked { IsLinked (W.log world.new) (W.top world.new) _links.now }
     ensures holds { Told (W.log world.new) (Holds anything shelf.new) }
     ensures steady { GrowsSteadily (W.log world.old) (W.log world.new) }
@@ -58,7 +67,7 @@ pub(crate) fn draft<W: World>(
     )
 }
 
-/// Keeps more of the body of a row.
+/// Keeps more of the body of a row. None exactly where its key is not kept, or these are not whole chunks behind what is.
 pub(crate) fn seal<W: World>(
     _links: &Links,
     shelf: &mut Shelf,
@@ -68,6 +77,9 @@ pub(crate) fn seal<W: World>(
 ) -> Option<Result<u64, DiskFault>>
     requires linked { IsLinked (W.log world.old) (W.top world.old) _links.now }
     requires holds { Told (W.log world.old) (Holds anything shelf.old) }
+    ensures answered { is_some result ≡ is_more_of (length bytes.now) (kept_of row.now.key.now shelf.old) }
+    ensures none { IfNone result (shelf.new ≡ shelf.old) }
+    ensures map { IfSome result (λ r. shelf.new ≡ extended_after r row.now.key.now shelf.old) }
     ensures linked { IsLinked (W.log world.new) (W.top world.new) _links.now }
     ensures holds { Told (W.log world.new) (Holds anything shelf.new) }
     ensures steady { GrowsSteadily (W.log world.old) (W.log world.new) }
@@ -79,6 +91,7 @@ pub(crate) fn seal<W: World>(
 pub(crate) fn withdraw<W: World>(_links: &Links, shelf: &mut Shelf, world: &mut W, key: &[u8])
     requires linked { IsLinked (W.log world.old) (W.top world.old) _links.now }
     requires holds { Told (W.log world.old) (Holds anything shelf.old) }
+    ensures gone { kept_of key.now shelf.new ≡ None }
     ensures linked { IsLinked (W.log world.new) (W.top world.new) _links.now }
     ensures holds { Told (W.log world.new) (Holds anything shelf.new) }
     ensures steady { GrowsSteadily (W.log world.old) (W.log world.new) }

@@ -1,7 +1,7 @@
 // Step 1: the event, with at most one read or one write.
 ghost use Rattle.std.specs.Prelude.{◌≡◌};
 ghost use Rattle.pp_links.specs.Links.{IsLinked};
-ghost use Rattle.pp_proxy.specs.Patience.{is_leap};
+ghost use Rattle.pp_steps.specs.Patience.{is_leap};
 ghost use Rattle.pp_shelf.specs.Steady.{GrowsSteadily};
 ghost use Rattle.pp_proxy.specs.Anything.{anything};
 ghost use Rattle.pp_store.specs.Held.{Holds};
@@ -9,9 +9,9 @@ ghost use Rattle.pp_world.specs.Log.{Told};
 
 use crate::desk::Desk;
 use crate::origin::Origin;
-use crate::seat::Seat;
 use pp_client::Client;
 use pp_links::Links;
+use pp_seats::Seat;
 use pp_shelf::Shelf;
 use pp_world::{Event, World};
 
@@ -83,8 +83,11 @@ impl Desk {
             self.turned_away = Some(c);
             return;
         };
+        let place = self.state.seats.len();
         if self.state.seats.push(Seat::new(client)).is_err() {
             self.turned_away = Some(c);
+        } else {
+            self.state.rouse(place);
         }
     }
 

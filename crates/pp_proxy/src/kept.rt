@@ -1,91 +1,17 @@
-// Rows and chunks that come from the disk.
+// Chunks that come from the disk.
 ghost use Rattle.pp_links.specs.Links.{IsLinked};
 ghost use Rattle.pp_shelf.specs.Steady.{GrowsSteadily};
 ghost use Rattle.pp_proxy.specs.Anything.{anything};
 ghost use Rattle.pp_store.specs.Held.{Holds};
 ghost use Rattle.pp_world.specs.Log.{Told};
 
-use crate::cache::{CHUNK_LEN, Cache};
 use crate::desk::Desk;
 use crate::disk::load;
-use crate::seat::{Brought, Next, Seat};
-use crate::state::State;
+use pp_cache::CHUNK_LEN;
 use pp_links::Links;
+use pp_seats::Next;
 use pp_shelf::Shelf;
-use pp_target::file_name;
-use pp_text::OutOfMemory;
 use pp_world::{Note, World};
-use std::alloc::Global;
-
-impl State {
-    /// Where the request of the client at this place may be decided now, the kept row that it names comes into memory. Where
-    /// memory is refused for it, the request is refused.
-    pub(crate) fn bring_row_of(&mut self, shelf: &Shelf, i: usize) {
-        let Some(seat) = self.seats.get_mut(i) else {
-            return;
-        };
-        if !seat.is_to_be_decided() {
-            return;
-        }
-        let Some(key) = seat.front.key() else {
-            return;
-        };
-        if bring(self.alloc, &mut self.cache, shelf, key.text()).is_err() {
-            seat.brought = Brought::Refused;
-        }
-    }
-
-    /// The same of the key of an exchange whose response came, with room for it.
-    pub(crate) fn bring_row_for(&mut self, shelf: &Shelf, number: u64) {
-        let Some(key) = self.flow.key(number) else {
-            return;
-        };
-        let _ = bring(self.alloc, &mut self.cache, shelf, key);
-        if self.cache.is_over() {
-            self.make_room_for_row();
-        }
-    }
-
-    /// The next byte of the client at this place, where it is on the disk alone and is said next.
-    fn next_to_load(&self, i: usize) -> Option<Next> {
-        self.next_on_disk(self.seats.get(i)?)
-    }
-
-    /// The same of this client.
-    pub(crate) fn next_on_disk(&self, seat: &Seat) -> Option<Next> {
-        if !seat.is_at_body() {
-            return None;
-        }
-        let next = seat.next()?;
-        if next.at < self.cache.extent(next.source) && !self.cache.holds(next.source, next.at) {
-            Some(next)
-        } else {
-            None
-        }
-    }
-}
-
-/// The row of a key comes into memory, where it is kept on the disk alone.
-fn bring(alloc: Global, cache: &mut Cache, shelf: &Shelf, key: &[u8]) -> Result<(), OutOfMemory> {
-    if cache.current(key).is_some() {
-        return Ok(());
-    }
-    let Some(view) = shelf.kept(key) else {
-        return Ok(());
-    };
-    if cache.is_outdated(&file_name(key)) {
-        return Ok(());
-    }
-    cache.enter(
-        alloc,
-        key,
-        view.version,
-        &view.fields,
-        view.times,
-        view.extent,
-    )?;
-    Ok(())
-}
 
 impl Desk {
     /// Offers the client at this place what is there for it: where its next byte is on the disk alone, its chunk is read

@@ -1,5 +1,6 @@
 // Step 3: a run of chunks of one instance that is kept.
-ghost use Rattle.std.specs.Prelude.{◌≤◌, ◌^◌};
+ghost use Rattle.std.specs.Prelude.{◌≡◌, ◌≤◌, ◌^◌, []};
+ghost use Rattle.pp_fresh.specs.Ready.{is_ready};
 ghost use Rattle.pp_links.specs.Links.{IsLinked};
 ghost use Rattle.pp_links.specs.Quiet.{GrowsQuietly};
 ghost use Rattle.pp_shelf.specs.Steady.{GrowsSteadily};
@@ -7,14 +8,16 @@ ghost use Rattle.pp_proxy.specs.Anything.{anything};
 ghost use Rattle.pp_store.specs.Held.{Holds};
 ghost use Rattle.pp_world.specs.Log.{Told};
 
-use crate::cache::CHUNK_LEN;
 use crate::disk::{draft, seal};
-use crate::state::State;
+use pp_cache::CHUNK_LEN;
 use pp_entry::body_at;
+use pp_fresh::ready;
 use pp_links::Links;
 use pp_objects::{ObjectId, RowView};
 use pp_shelf::Shelf;
+use pp_steps::State;
 use pp_store::KeepFault;
+use pp_text::Fields;
 use pp_valid::Version;
 use pp_world::{DiskFault, Note, World};
 
@@ -71,7 +74,8 @@ impl<'a> Run<'a> {
     }
 
     /// An entry is drafted once its first run is full, so that what was given up leaves none; with one chunk a run at once.
-    /// Where that run is the whole body, it is drafted with all of it. Behind one that failed, as on a full disk, none is tried
+    /// Where that run is the whole body, it is drafted with all of it, and only while it can be served as it is: what its next
+    /// use must check anyway is not worth the three syncs of an entry. Behind one that failed, as on a full disk, none is tried
     /// before the next tick.
     #[tactic(auto, using(crate::proofs::DiskLemmas::holds_quietly, pp_shelf::proofs::SteadyLemmas::steady_then, pp_shelf::proofs::SteadyLemmas::steady_none, pp_shelf::proofs::SteadyLemmas::quiet_is_steady, pp_shelf::proofs::SteadyLemmas::quiet_then_steady, pp_shelf::proofs::SteadyLemmas::steady_then_quiet))]
     fn draft<W: World>(
@@ -98,6 +102,9 @@ impl<'a> Run<'a> {
         } else {
             0
         };
+        if whole > 0 && !is_servable(row, self.state.now) {
+            return None;
+        }
         let front = body_at(n) as usize;
         let len = usize::try_from(whole).ok()?;
         let room = file.get_mut(..front.checked_add(len)?)?;
@@ -207,6 +214,13 @@ enum Known {
     /// So many bytes of this version.
     To(u64),
     Another,
+}
+
+/// Whether a plain request can be served from the row now, without a word from its origin.
+fn is_servable(row: &RowView<'_>, now: u64) -> bool
+    ensures { result ≡ is_ready [] row.now.fields row.now.times now }
+{
+    ready(&Fields::new(&[], &[]), &row.fields, &row.times, now)
 }
 
 fn extent_of(shelf: &Shelf, row: &RowView<'_>) -> Known {

@@ -94,6 +94,27 @@ text21 = (codes "chunkHighMark=512")
 abbrev text22 : Bytes
 text22 = (codes "chunkCriticalMark=512")
 
+abbrev text23 : Bytes
+text23 = (codes "HTTP/1.1 200 OK\r\nDate: Sun, 06 Nov 1994 08:49:37 GMT\r\nETag: \"x\"\r\nCache-Control: no-cache\r\nContent-Length: 5\r\n\r\nhello")
+
+abbrev text24 : Bytes
+text24 = (codes "HTTP/1.1 200 OK\r\netag: \"x\"\r\ndate: Sun, 06 Nov 1994 08:49:37 GMT\r\ncache-control: no-cache\r\nX-Polipo-Location: http://h/a\r\nX-Polipo-Date: 784111777\r\nX-Polipo-Age: 0\r\nX-Polipo-Length: 5\r\nX-Polipo-Body-Offset: 12288\r\n\r\n" ++ replicate 7977 0 ++ (1 ∷ []) ++ replicate 4095 0 ++ codes "hello")
+
+abbrev text25 : Bytes
+text25 = (codes "HTTP/1.1 200 OK\r\nDate: Sun, 06 Nov 1994 08:49:37 GMT\r\nETag: \"x\"\r\nContent-Length: 5\r\n\r\nhello")
+
+abbrev text26 : Bytes
+text26 = (codes "HTTP/1.1 200 OK\r\netag: \"x\"\r\ndate: Sun, 06 Nov 1994 08:49:37 GMT\r\nX-Polipo-Location: http://h/a\r\nX-Polipo-Date: 784111777\r\nX-Polipo-Age: 0\r\nX-Polipo-Length: 5\r\nX-Polipo-Body-Offset: 12288\r\n\r\n" ++ replicate 8002 0 ++ (1 ∷ []) ++ replicate 4095 0 ++ codes "hello")
+
+abbrev text27 : Bytes
+text27 = (codes "HTTP/1.1 200 OK\r\nDate: Sun, 06 Nov 1994 08:49:37 GMT\r\nETag: \"x\"\r\nCache-Control: no-cache\r\nContent-Length: 12288\r\n\r\n" ++ replicate 8192 97)
+
+abbrev text28 : Bytes
+text28 = (codes "HTTP/1.1 200 OK\r\netag: \"x\"\r\ndate: Sun, 06 Nov 1994 08:49:37 GMT\r\ncache-control: no-cache\r\nX-Polipo-Location: http://h/a\r\nX-Polipo-Date: 784111777\r\nX-Polipo-Age: 0\r\nX-Polipo-Length: 12288\r\nX-Polipo-Body-Offset: 12288\r\n\r\n" ++ replicate 12069 0)
+
+abbrev text29 : Bytes
+text29 = (codes "HTTP/1.1 200 OK\r\netag: \"x\"\r\ndate: Sun, 06 Nov 1994 08:49:37 GMT\r\ncache-control: no-cache\r\nX-Polipo-Location: http://h/a\r\nX-Polipo-Date: 784111777\r\nX-Polipo-Age: 0\r\nX-Polipo-Length: 5\r\nX-Polipo-Body-Offset: 12288\r\n\r\n" ++ replicate 12073 0)
+
 row7 : fault_from 0 (start (record { words = []; faults = 0 } ∷ [])) (front0 ++ CanRead 2 ∷ Got 2 text3 ∷ Began (Draft text4) ∷ Did (Draft text4) true ∷ Began SyncDraft ∷ Did SyncDraft true ∷ Began (Publish text5) ∷ Did (Publish text5) true ∷ Noted (Kept (codes "http://h/a") (codes "\"x\"") 5 5) ∷ Noted (Taken 1 0 (Hit 0 5)) ∷ []) ≡ None
 unfolding judging
 row7 = refl
@@ -165,3 +186,23 @@ row200 = refl
 row212 : fault_from 0 (start (record { words = text20 ∷ text21 ∷ text22 ∷ []; faults = 0 } ∷ [])) (front0 ++ CanRead 2 ∷ Got 2 text8 ∷ Began (Draft text9) ∷ Did (Draft text9) true ∷ Began SyncDraft ∷ Did SyncDraft true ∷ Began (Publish text5) ∷ Did (Publish text5) true ∷ Began (Write text5 12288 text10) ∷ Did (Write text5 12288 text10) true ∷ Began (Sync text5) ∷ Did (Sync text5) true ∷ Began (Write text5 8192 ((1 ∷ 1 ∷ 1 ∷ 1 ∷ []))) ∷ Did (Write text5 8192 ((1 ∷ 1 ∷ 1 ∷ 1 ∷ []))) true ∷ Began (Sync text5) ∷ Did (Sync text5) true ∷ Noted (Kept (codes "http://h/a") (codes "\"x\"") 16385 16384) ∷ Noted (Taken 1 0 (Part 0 16385)) ∷ wait true (1 ∷ 2 ∷ []) (1 ∷ []) ∷ []) ≡ None
 unfolding judging
 row212 = refl
+
+row239 : fault_from 0 (start (record { words = (codes "diskRun=2") ∷ []; faults = 0 } ∷ [])) (front0 ++ CanRead 2 ∷ Got 2 text23 ∷ Noted (Taken 1 0 (Hit 0 5)) ∷ wait true (1 ∷ 2 ∷ []) (1 ∷ []) ∷ []) ≡ None
+unfolding judging
+row239 = refl
+
+row245 : fault_from 0 (start (record { words = (codes "diskRun=2") ∷ []; faults = 0 } ∷ [])) (front0 ++ CanRead 2 ∷ Got 2 text23 ∷ Began (Draft text24) ∷ []) ≡ Some (record { at = 21; rule = WrongDiskOperation })
+unfolding judging
+row245 = refl
+
+row251 : fault_from 0 (start (record { words = (codes "diskRun=2") ∷ []; faults = 0 } ∷ [])) (front0 ++ CanRead 2 ∷ Got 2 text25 ∷ Began (Draft text26) ∷ []) ≡ Some (record { at = 21; rule = WrongDiskOperation })
+unfolding judging
+row251 = refl
+
+row257 : fault_from 0 (start (record { words = (codes "diskRun=2") ∷ []; faults = 0 } ∷ [])) (front0 ++ CanRead 2 ∷ Got 2 text27 ∷ Began (Draft text28) ∷ Did (Draft text28) true ∷ Began SyncDraft ∷ Did SyncDraft true ∷ Began (Publish text5) ∷ Did (Publish text5) true ∷ Began (Write text5 12288 text14) ∷ []) ≡ None
+unfolding judging
+row257 = refl
+
+row273 : fault_from 0 (start (record { words = (codes "diskRun=1") ∷ []; faults = 0 } ∷ [])) (front0 ++ CanRead 2 ∷ Got 2 text23 ∷ Began (Draft text29) ∷ Did (Draft text29) true ∷ []) ≡ None
+unfolding judging
+row273 = refl

@@ -15,7 +15,7 @@ use pp_conf::Conf;
 use pp_proxy::{Proxy, Turn};
 use pp_recover::RecoverFault;
 use pp_shelf::Shelf;
-use pp_world::World;
+use pp_world::{Door, World};
 use std::alloc::Global;
 
 /// Takes the proxy's memory, opens its folder, listens, and serves where it may.
@@ -39,7 +39,7 @@ fn open_folder<W: World>(alloc: Global, proxy: Proxy, conf: &Conf, world: &mut W
     ensures told { OpensOn [] conf.now.root conf.now.port conf.now.max_turns result (W.log world.old) (W.log world.new) (W.faults world.old) (W.faults world.new) }
 {
     match Shelf::open(alloc, world, conf.root.as_slice()) {
-        Ok(shelf) => listen(proxy, shelf, conf.port, conf.max_turns, world),
+        Ok(shelf) => listen(proxy, shelf, &door_of(conf), conf.max_turns, world),
         Err(RecoverFault::DiskFault) => {
             world.print(NO_DISK_LINE.as_bytes());
             Exit::NoDisk
@@ -51,19 +51,38 @@ fn open_folder<W: World>(alloc: Global, proxy: Proxy, conf: &Conf, world: &mut W
     }
 }
 
+/// Where the settings say that clients are listened for.
+fn door_of(conf: &Conf) -> Door<'_>
+    ensures port { result.port ≡ conf.now.port }
+    ensures address { result.address ≡ conf.now.address }
+    ensures allowed { result.allowed.now ≡ conf.now.allowed.items }
+{
+    Door {
+        address: conf.address,
+        port: conf.port,
+        allowed: conf.allowed.as_slice(),
+    }
+}
+
 /// Listens, and serves where it may.
-fn listen<W: World>(proxy: Proxy, shelf: Shelf, port: u16, most_turns: u64, world: &mut W) -> Exit
+fn listen<W: World>(
+    proxy: Proxy,
+    shelf: Shelf,
+    door: &Door<'_>,
+    most_turns: u64,
+    world: &mut W,
+) -> Exit
     requires links { proxy.links ≡ [] }
     requires holds { Told (W.log world.old) (Holds anything shelf) }
-    ensures told { ListensAs port most_turns result (W.log world.old) (W.log world.new) (W.faults world.old) (W.faults world.new) }
+    ensures told { ListensAs door.now.port most_turns result (W.log world.old) (W.log world.new) (W.faults world.old) (W.faults world.new) }
 {
-    match world.listen(port) {
+    match world.listen(door) {
         Ok(()) => {
             serve(proxy, shelf, most_turns, world);
             Exit::Served
         }
         Err(_) => {
-            world.print(no_listener_line(port).as_slice());
+            world.print(no_listener_line(door.port).as_slice());
             Exit::NoListener
         }
     }

@@ -1,11 +1,11 @@
 // The lives of a seed, run.
-ghost use Rattle.std.specs.Prelude.{◌≡◌, IfOk};
 
 use crate::dice::Dice;
 use crate::lives::{Life, Term};
 use crate::quoting::quoted;
 use crate::spelling::spelled;
 use pp_memworld::MemWorld;
+use pp_play::boxed;
 use pp_run::run;
 use pp_text::OutOfMemory;
 use pp_world::{Happening, Image};
@@ -65,7 +65,7 @@ fn first_life(
 }
 
 /// The life after a crash of this world behind its first `at` happenings.
-#[tactic(auto, using(crate::proofs::Fresh::fresh_crashed))]
+#[tactic(auto, using(pp_play::proofs::Fresh::fresh_crashed))]
 fn next_life(
     alloc: Global,
     dice: &mut Dice,
@@ -89,13 +89,6 @@ fn next_life(
     let mut next = boxed(alloc, next)?;
     let _ = run(alloc, words.as_slice(), &mut *next);
     Ok(next)
-}
-
-/// A world of its own place, so that whoever lets go of it lets go of one thing.
-fn boxed(alloc: Global, world: MemWorld) -> Result<Box<MemWorld>, OutOfMemory>
-    ensures { IfOk result (λ b. b.value ≡ world) }
-{
-    Box::new(alloc, world).map_err(|_| OutOfMemory)
 }
 
 /// What happened; the world tells it as long as there is memory.

@@ -1,8 +1,8 @@
 // A run of the program that ended, and what it did.
-ghost use Rattle.std.specs.Prelude.{◌≡◌, IfOk};
 
 use arrayvec::ArrayVec;
 use pp_memworld::{Cue, MemWorld, Script};
+use pp_play::boxed;
 use pp_run::{Exit, run};
 use pp_text::{Octets, OutOfMemory, put_u64};
 use pp_world::{Happening, Image};
@@ -43,13 +43,6 @@ pub(crate) fn open(
     let exit = run(alloc, words.as_slice(), &mut *world);
     let course = course_of(alloc, world.log().unwrap_or(&[]))?;
     Ok(Opened { exit, course })
-}
-
-/// A world of its own place, so that whoever lets go of it lets go of one thing.
-fn boxed(alloc: Global, world: MemWorld) -> Result<Box<MemWorld>, OutOfMemory>
-    ensures { IfOk result (λ b. b.value ≡ world) }
-{
-    Box::new(alloc, world).map_err(|_| OutOfMemory)
 }
 
 /// The words of a line; an empty line has none.

@@ -160,7 +160,12 @@ fn a_wire_that_tells_nothing_serves_any_caller(rt: HostRuntime) -> Result<(), Fa
     let mut buf = [0; 4];
     assert_eq!(rt; count_read(&mut silent, 1, &mut buf), Ok(0));
     assert_eq!(rt; Wire::write(&mut silent, 1, b"GET"), Ok(0));
-    assert_eq!(rt; silent.listen(8123), Ok(()));
+    let door = Door {
+        address: 0,
+        port: 8123,
+        allowed: &[],
+    };
+    assert_eq!(rt; silent.listen(&door), Ok(()));
     assert_eq!(rt; silent.dial(b"h", 80), Err(WireFault));
     silent.note(&Note::Cut(1, Cause::Stop));
     silent.print(b"polipo: out of memory\n");

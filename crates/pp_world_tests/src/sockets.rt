@@ -1,7 +1,7 @@
 // Real sockets on free ports of 127.0.0.1, act by act.
 use crate::turns::wants;
 use pp_net::NetWorld;
-use pp_world::{Cause, Event, Got, Note, Wants, Wire, WireFault};
+use pp_world::{AddressRange, Cause, Door, Event, Got, Note, Wants, Wire, WireFault};
 use std::io;
 use std::io::{ErrorKind, Read, Write};
 use std::net::{Shutdown, TcpListener, TcpStream};
@@ -26,6 +26,10 @@ enum Act<'a> {
     Listen,
     /// It may not, since the port is taken.
     ListenInVain,
+    /// The program listens for another machine alone.
+    ListenForOther,
+    /// A client connects and is closed, and no event tells of it.
+    IsTurnedAway,
     /// A client connects, and is accepted.
     Join,
     Says(usize, &'a [u8]),
@@ -84,6 +88,25 @@ fn bind(rt: &HostRuntime) -> io::Result<(TcpListener, u16)> {
     Ok((listener, port))
 }
 
+/// 127.0.0.1, from where these clients come, and another address.
+const HERE: AddressRange = AddressRange {
+    address: 0x7f00_0001,
+    bits: 32,
+};
+
+const OTHER: AddressRange = AddressRange {
+    address: 0x7f00_0002,
+    bits: 32,
+};
+
+fn door(port: u16, allowed: &[AddressRange]) -> Door<'_> {
+    Door {
+        address: 0x7f00_0001,
+        port,
+        allowed,
+    }
+}
+
 // The first event that is no tick, within some seconds.
 fn next_event(world: &mut NetWorld<HostRuntime>, wants: &Wants) -> Event {
     for _ in 0..10 {
@@ -112,6 +135,8 @@ impl Scene {
         match act {
             Act::Listen => self.listens(),
             Act::ListenInVain => self.listens_in_vain(),
+            Act::ListenForOther => self.listens_for_other(),
+            Act::IsTurnedAway => self.is_turned_away(),
             Act::Join => self.joins(),
             Act::Says(client, bytes) => self.says(client, bytes),
             Act::Shuts(client) => self.shuts(client),
@@ -157,15 +182,35 @@ impl Scene {
     }
 
     fn listens(&mut self) -> Result<bool, Fail> {
+        self.listens_for(HERE)
+    }
+
+    fn listens_for_other(&mut self) -> Result<bool, Fail> {
+        self.listens_for(OTHER)
+    }
+
+    fn listens_for(&mut self, client: AddressRange) -> Result<bool, Fail> {
         let (listener, port) = bind(&self.rt)?;
         drop(listener);
         self.port = port;
-        Ok(self.world.listen(port) == Ok(()))
+        Ok(self.world.listen(&door(port, &[client])) == Ok(()))
+    }
+
+    fn is_turned_away(&mut self) -> Result<bool, Fail> {
+        let mut client = TcpStream::connect(&self.rt, ("127.0.0.1", self.port))?;
+        client.set_read_timeout(Some(Duration::from_secs(PATIENCE_SECONDS)))?;
+        for _ in 0..2 {
+            match self.world.next(&wants(true, &[], &[])) {
+                Event::Tick(_) => {}
+                _ => return Ok(false),
+            }
+        }
+        Ok(client.read(&mut [0; 1])? == 0)
     }
 
     fn listens_in_vain(&mut self) -> Result<bool, Fail> {
         let (_listener, port) = bind(&self.rt)?;
-        Ok(self.world.listen(port) == Err(WireFault))
+        Ok(self.world.listen(&door(port, &[HERE])) == Err(WireFault))
     }
 
     fn joins(&mut self) -> Result<bool, Fail> {
@@ -364,6 +409,10 @@ const CLIENTS: &[Course<'static>] = &[
     Course {
         name: "a port that is taken is refused",
         acts: &[Act::ListenInVain, Act::Listen],
+    },
+    Course {
+        name: "who is not allowed is closed, and is no client",
+        acts: &[Act::ListenForOther, Act::IsTurnedAway, Act::IsTurnedAway],
     },
     Course {
         name: "a client is read, answered and closed",

@@ -4,7 +4,9 @@ use crate::telling::tells;
 use arrayvec::ArrayVec;
 use pp_memworld::{Cue, MemWorld, Page, Script};
 use pp_text::{Octets, OutOfMemory};
-use pp_world::{Cause, ConfigFault, Event, Got, Happening, Image, Note, Wants, Wire, WireFault};
+use pp_world::{
+    Cause, ConfigFault, Door, Event, Got, Happening, Image, Note, Wants, Wire, WireFault,
+};
 use std::alloc::Global;
 
 /// How many bytes a read takes at most.
@@ -143,7 +145,14 @@ fn is_met(world: &mut MemWorld, alloc: Global, turn: Turn<'_>) -> Result<bool, O
         Turn::Ask(id, ask, wanted) => Ok(is_answered(world, id, ask, wanted)),
         Turn::Close(id, wanted) => Ok(close(world, id) == wanted),
         Turn::Dial(host, port, wanted) => Ok(world.dial(host, port) == wanted),
-        Turn::Listen(port, wanted) => Ok(world.listen(port) == wanted),
+        Turn::Listen(port, wanted) => {
+            let door = Door {
+                address: 0,
+                port,
+                allowed: &[],
+            };
+            Ok(world.listen(&door) == wanted)
+        },
         Turn::Config(wanted) => Ok(is_config(world.config(alloc, "f"), wanted)),
         Turn::Note => {
             world.note(&Note::Cut(1, Cause::Stop));

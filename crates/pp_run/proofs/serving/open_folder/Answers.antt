@@ -4,7 +4,7 @@ use Rattle.pp_run.proofs.serving.open_folder.Goals as goal
 pub returns-in-Ok : goal.returns-in-Ok
 returns-in-Ok g c = record {
   told = opens_then _ c.args.conf.now.root c.args.conf.now.port c.args.conf.now.max_turns c.listen.result _ _ _
-      (rw c.as_slice.ensures at (c.in-Ok.ensures.opens)) c.in-Ok.ensures.faults c.listen.ensures.told;
+      (rw c.as_slice.ensures at (c.in-Ok.ensures.opens)) c.in-Ok.ensures.faults (rw c.door_of.ensures.port at (c.listen.ensures.told));
 }
 
 pub returns-in-Err-DiskFault : goal.returns-in-Err-DiskFault

@@ -1,0 +1,9 @@
+pub mod Stands
+pub mod Lined
+pub mod Cases
+pub mod LinedAsks
+pub mod LinedTurns
+pub mod LinedHeads
+pub mod LinedReplies
+pub mod LinedHappenings
+pub mod Stream

@@ -1,0 +1,4 @@
+pub mod Courses
+pub mod Errands
+pub mod Follows
+pub mod Said

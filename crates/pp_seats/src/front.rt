@@ -1,0 +1,141 @@
+// The current request of a client, as far as decisions and replies rest on it (RFC 2616, sections 5, 4.4
+// and 8.2.3).
+ghost use Rattle.std.specs.Prelude.{IsTrue};
+ghost use Rattle.pp_client.specs.Clients.{IsAnswerable};
+
+use crate::key::Key;
+use pp_client::{Client, Current};
+use pp_framing::{BodyRule, request_rule};
+use pp_head::{RequestHead, Scratch};
+use pp_pipe::binds_connection;
+use pp_reply::{is_kept_open, wants_interim};
+use pp_target::TargetFault;
+use std::alloc::Global;
+
+/// What stands at the front of what a client sent.
+#[derive(Drop)]
+pub enum Front {
+    /// No whole head yet.
+    NoHeadYet,
+    /// No head, whatever follows: it is refused with this status.
+    NoHead(u16),
+    Request(Asked),
+}
+
+/// What was asked.
+#[derive(Drop)]
+pub struct Asked {
+    /// None where the target has none.
+    pub key: Option<Key>,
+    /// The status that it is refused with for its head alone.
+    pub refusal: Option<u16>,
+    /// The minor version of its HTTP.
+    pub minor: u8,
+    /// Bytes of its body.
+    pub body_len: u64,
+    /// Whether HEAD is asked.
+    pub is_head: bool,
+    /// Whether it changes nothing at the origin (section 9.1).
+    pub is_safe: bool,
+    /// Whether it may change something, or has a body, and is asked once (section 8.1.4).
+    pub is_asked_once: bool,
+    /// Whether it authenticates that connection, so that nobody else may be asked on it (RFC 4559, section 6).
+    pub binds_connection: bool,
+    /// Whether the client's connection goes on behind the reply.
+    pub keeps_open: bool,
+    /// Whether it waits for the interim answer (section 8.2.3).
+    pub expects_interim: bool,
+}
+
+impl Front {
+    /// What stands at the front now.
+    pub fn of(alloc: Global, client: &Client) -> Front {
+        let mut scratch = Scratch::new();
+        match client.current(&mut scratch) {
+            Current::Nothing | Current::More => Front::NoHeadYet,
+            Current::Refuse(status) => Front::NoHead(status),
+            Current::Request(head, fault) => Front::Request(asked_of(alloc, &head, fault)),
+        }
+    }
+
+    /// There is something to answer.
+    pub fn is_there(&self) -> bool {
+        !matches!(self, Front::NoHeadYet)
+    }
+
+    /// What was asked, where a request stands there.
+    pub fn asked(&self) -> Option<&Asked> {
+        match self {
+            Front::NoHeadYet | Front::NoHead(_) => None,
+            Front::Request(asked) => Some(asked),
+        }
+    }
+
+    /// The key of that request.
+    pub fn key(&self) -> Option<&Key> {
+        self.asked()?.key.as_ref()
+    }
+
+    /// Whether HEAD is asked.
+    pub fn asks_head(&self) -> bool {
+        match self.asked() {
+            None => false,
+            Some(asked) => asked.is_head,
+        }
+    }
+
+    /// Whether the connection goes on behind a page with this status. Ours: behind these no other request
+    /// is read, since where theirs ends is not known.
+    pub fn keeps_after(&self, status: u16) -> bool {
+        match self.asked() {
+            None => false,
+            Some(asked) => asked.keeps_open && !matches!(status, 400 | 411 | 431),
+        }
+    }
+}
+
+fn asked_of(alloc: Global, head: &RequestHead<'_, '_>, fault: Option<u16>) -> Asked {
+    let (key, refusal) = match Key::at(alloc, head.target) {
+        Ok(key) => (Some(key), fault),
+        Err(TargetFault::OutOfMemory) => (None, Some(500)),
+        Err(_) => (None, Some(400)),
+    };
+    let rule = request_rule(&head.fields);
+    let body_len = match rule {
+        Ok(BodyRule::Length(n)) => n,
+        Ok(BodyRule::Empty | BodyRule::Chunked | BodyRule::ToEnd) | Err(_) => 0,
+    };
+    let is_plain = head.method == b"GET".as_slice() || head.method == b"HEAD".as_slice();
+    let waits = match rule {
+        Ok(rule) => wants_interim(head.minor, rule, &head.fields),
+        Err(_) => false,
+    };
+    Asked {
+        key,
+        refusal,
+        minor: head.minor,
+        body_len,
+        is_head: head.method == b"HEAD".as_slice(),
+        is_safe: is_plain || is_other_safe(head.method),
+        is_asked_once: !is_plain || body_len > 0,
+        binds_connection: binds_connection(&head.fields),
+        keeps_open: is_kept_open(head.minor, &head.fields) && rule.is_ok(),
+        expects_interim: refusal.is_none() && waits,
+    }
+}
+
+fn is_other_safe(method: &[u8]) -> bool {
+    method == b"OPTIONS".as_slice() || method == b"TRACE".as_slice()
+}
+
+/// Whether a request, or what is none, waits for its reply.
+pub fn is_answerable(client: &Client) -> bool
+    ensures is { IsTrue result → IsAnswerable client.now }
+    ensures only { IsAnswerable client.now → IsTrue result }
+{
+    let mut scratch = Scratch::new();
+    match client.current(&mut scratch) {
+        Current::Nothing | Current::More => false,
+        Current::Request(_, _) | Current::Refuse(_) => !client.has_begun(),
+    }
+}

@@ -1,0 +1,25 @@
+//! A client with how far its current request is, and what an exchange with an origin is for.
+//!
+//! A seat is a client, what it asks (its front), and where that stands: not decided, waiting for an exchange, or answered, and
+//! how much of the reply was said. An errand stands beside an exchange: what it asks, how much of that was asked, and what
+//! becomes of the body that it brings.
+//!
+//! To the layer above: the next byte of a client that follows an instance (`specs/Follows.antt`), which of an instance's bytes
+//! are said (`specs/Said.antt`), how often a request may lose an attempt, and what it is where its row is lost
+//! (`specs/Courses.antt`; RFC 2616, section 8.1.4); which tag an ask names (`specs/Errands.antt`).
+//!
+//! A seat takes memory for the key of its request alone. Where a request's head ends is for `pp_client`, what a request gets
+//! for `pp_plan`, and what a turn makes of both for `pp_steps`.
+#![tactic(auto)]
+
+mod errand; // an exchange, beside its place
+mod front; // the current request of a client
+mod key; // owned keys
+mod limits; // heads within the limits
+mod seat; // a client, and how far its request is
+
+pub use errand::{Body, Errand, Kind};
+pub use front::{Asked, Front, is_answerable};
+pub use key::Key;
+pub use limits::keeps_line_limits;
+pub use seat::{Answer, Brought, Course, Next, Passed, PassedEnd, Seat, Shared, Stage};

@@ -1,0 +1,123 @@
+// What is decided for a request, by what is known of its key (RFC 2616, sections 13 and 14; RFC 6585,
+// section 5).
+use crate::state::State;
+use arrayvec::ArrayVec;
+use pp_ask::{ASK_LEN, write_ask};
+use pp_client::Current;
+use pp_head::{RequestHead, Scratch};
+use pp_objects::ObjectId;
+use pp_plan::{Begun, PlanRow, decide, span};
+use pp_seats::{Brought, Front, Key, Kind, Seat};
+use pp_valid::Version;
+use pp_world::Decision;
+
+impl State {
+    /// None while no request is there.
+    pub(crate) fn decide(&self, seat: &Seat) -> Option<Decision> {
+        match &seat.front {
+            Front::NoHeadYet => None,
+            Front::NoHead(status) => Some(Decision::Refuse(*status)),
+            Front::Request(asked) => match (asked.refusal, &asked.key) {
+                (Some(status), _) => Some(Decision::Refuse(status)),
+                (None, Some(key)) => Some(self.decide_for(seat, key)),
+                (None, None) => Some(Decision::Refuse(400)),
+            },
+        }
+    }
+
+    /// What is asked has to fit into an ask.
+    fn decide_for(&self, seat: &Seat, key: &Key) -> Decision {
+        let mut scratch = Scratch::new();
+        let Current::Request(head, _) = seat.client.current(&mut scratch) else {
+            return Decision::Refuse(400);
+        };
+        let decision = self.decide_by_row(seat, &head, key);
+        match kind_of(&head, self.cache.version(key.text()), decision) {
+            Some(kind) if self.text_len(&head, key, &kind).is_none() => Decision::Refuse(431),
+            _ => decision,
+        }
+    }
+
+    fn decide_by_row(&self, seat: &Seat, head: &RequestHead<'_, '_>, key: &Key) -> Decision {
+        let id = self.cache.current(key.text());
+        let begun = begun_now(seat, id);
+        let Some(id) = id else {
+            return decide(head, None, begun, self.now);
+        };
+        let Some(row) = self.cache.row(id) else {
+            return decide(head, None, begun, self.now);
+        };
+        let plan = PlanRow {
+            version: row.version,
+            fields: row.fields,
+            times: row.times,
+            held: self.is_span_held(id, span(head, row.version)),
+        };
+        decide(head, Some(&plan), begun, self.now)
+    }
+
+    /// How long the text of an ask is. None where it does not fit.
+    pub(crate) fn text_len(
+        &self,
+        head: &RequestHead<'_, '_>,
+        key: &Key,
+        kind: &Kind,
+    ) -> Option<usize> {
+        let mut text = ArrayVec::new();
+        if self.write_text(head, key, kind, &mut text) {
+            Some(text.len())
+        } else {
+            None
+        }
+    }
+
+    /// Writes the text of an ask. False where it does not fit.
+    pub(crate) fn write_text(
+        &self,
+        head: &RequestHead<'_, '_>,
+        key: &Key,
+        kind: &Kind,
+        text: &mut ArrayVec<u8, ASK_LEN>,
+    ) -> bool {
+        write_ask(
+            &kind.as_ask(),
+            head,
+            key.text(),
+            key.place(),
+            self.name.as_slice(),
+            text,
+        )
+        .is_ok()
+    }
+}
+
+/// What a decision asks of an origin.
+pub(crate) fn kind_of(
+    head: &RequestHead<'_, '_>,
+    version: Option<Version>,
+    decision: Decision,
+) -> Option<Kind> {
+    match decision {
+        Decision::Fetch => Some(Kind::fetch(head)),
+        Decision::Validate => Some(Kind::Check(version?.tag)),
+        Decision::Pass => Some(Kind::Pass),
+        Decision::Refuse(_)
+        | Decision::Hit(_, _)
+        | Decision::Part(_, _)
+        | Decision::Head
+        | Decision::NotModified
+        | Decision::Unsatisfiable
+        | Decision::Relay => None,
+    }
+}
+
+/// What its exchange brought; a body counts as long as it belongs to the row of the key.
+fn begun_now(seat: &Seat, id: Option<ObjectId>) -> Begun {
+    match seat.brought {
+        Brought::Joins(joined, _) if id == Some(joined) => Begun::Settled,
+        Brought::Awaited | Brought::Useless | Brought::Joins(_, _) | Brought::Refused =>
+            Begun::Nothing,
+        Brought::Passes(_) => Begun::Other,
+        Brought::TooWide => Begun::Widened,
+    }
+}

@@ -1,0 +1,292 @@
+// What a decision does: a page, an exchange, or a reply by the row (RFC 2616, sections 13 and 14).
+ghost use Rattle.std.specs.Prelude.{IsTrue};
+ghost use Rattle.pp_reply.specs.Texts.{has_page};
+
+use crate::decide::kind_of;
+use crate::state::State;
+use crate::unseen::is_soon;
+use pp_client::{Begin, Current};
+use pp_flow::{Aim, EXCHANGES, Exchange};
+use pp_fresh::allows_guess;
+use pp_head::{RequestHead, Scratch};
+use pp_objects::ObjectId;
+use pp_ranges::{Range, read_range};
+use pp_reply::{CONTINUE, ReplyKind, write_reply};
+use pp_seats::{
+    Answer, Asked, Body, Brought, Course, Errand, Key, Kind, Seat, Stage, is_answerable,
+};
+use pp_valid::accepts_only_identity;
+use pp_world::Decision;
+
+impl State {
+    /// The decision that is taken: where there is no memory to ask, a refusal.
+    pub fn afforded(&self, i: usize, decision: Decision) -> Decision {
+        let asks = matches!(
+            decision,
+            Decision::Pass | Decision::Fetch | Decision::Validate
+        );
+        if asks && !self.may_ask_for(i) {
+            Decision::Refuse(500)
+        } else {
+            decision
+        }
+    }
+
+    fn may_ask_for(&self, i: usize) -> bool {
+        let has_key = match self.seats.get(i) {
+            None => false,
+            Some(seat) => seat.front.key().is_some(),
+        };
+        has_key && self.may_ask()
+    }
+
+    /// Each decision but one for want of memory marks the row of its key.
+    pub fn take(&mut self, i: usize, decision: Decision) {
+        if decision != Decision::Refuse(500) {
+            self.mark_row_of(i);
+        }
+        match decision {
+            Decision::Refuse(status) => self.refuse(i, status),
+            Decision::Pass | Decision::Fetch | Decision::Validate => self.ask_origin(i, decision),
+            Decision::Relay => self.relay(i),
+            Decision::Hit(from, to) | Decision::Part(from, to) => {
+                self.follow_row(i, decision, (from, to));
+            }
+            Decision::Head | Decision::NotModified | Decision::Unsatisfiable => {
+                self.follow_row(i, decision, (0, 0));
+            }
+        }
+    }
+
+    fn mark_row_of(&mut self, i: usize) {
+        let Some(seat) = self.seats.get(i) else {
+            return;
+        };
+        let Some(key) = seat.front.key() else {
+            return;
+        };
+        if let Some(id) = self.cache.current(key.text()) {
+            self.cache.mark(id);
+        }
+    }
+
+    /// The interim answer comes before the reply, once.
+    fn begin_interim(&mut self, i: usize) {
+        let Some(seat) = self.seats.get_mut(i) else {
+            return;
+        };
+        let expects = match seat.front.asked() {
+            None => false,
+            Some(asked) => asked.expects_interim,
+        };
+        let is_first = matches!(seat.stage, Stage::Undecided) && seat.client.may_interim();
+        if expects && is_first {
+            seat.client.interim();
+            seat.before_body = seat.before_body.saturating_add(CONTINUE.len());
+        }
+    }
+
+    // ---- a page
+
+    fn refuse(&mut self, i: usize, status: u16) {
+        self.begin_interim(i);
+        self.leave_source(i);
+        self.leave_exchange(i);
+        let Some(seat) = self.seats.get_mut(i) else {
+            return;
+        };
+        if !is_answerable(&seat.client) {
+            return;
+        }
+        let keep = seat.front.keeps_after(status);
+        let kind = ReplyKind::Refusal(shown_status(status), seat.front.asks_head());
+        let text = seat.client.head_room();
+        write_reply(&kind, None, b"", keep, text);
+        seat.before_body = seat.before_body.saturating_add(text.len());
+        seat.client.begin(Begin::Page);
+        seat.stage = Stage::Answering(Answer {
+            decision: Decision::Refuse(status),
+            source: None,
+            from: 0,
+            to: 0,
+            has_begun: true,
+        });
+        seat.closes = !keep;
+        seat.brought = Brought::Awaited;
+        seat.course = Course::Trying(0);
+        seat.drop_body();
+    }
+
+    // ---- an exchange
+
+    fn ask_origin(&mut self, i: usize, decision: Decision) {
+        let Some(errand) = self.errand_for(i, decision) else {
+            return;
+        };
+        self.begin_interim(i);
+        self.leave_source(i);
+        let (aim, stage) = if decision == Decision::Pass {
+            (Aim::Pass, Stage::Passing)
+        } else {
+            (Aim::Own, Stage::Waiting)
+        };
+        self.begin_exchange(i, aim, &errand);
+        if let Some(seat) = self.seats.get_mut(i) {
+            seat.stage = stage;
+            seat.brought = Brought::Awaited;
+        }
+    }
+
+    /// The request asks this exchange. The one begun last is the only one of a request: the one before is left.
+    pub(crate) fn begin_exchange(&mut self, i: usize, aim: Aim, errand: &Errand) {
+        self.leave_exchange(i);
+        let Some(seat) = self.seats.get(i) else {
+            return;
+        };
+        let Some(key) = seat.front.key() else {
+            return;
+        };
+        if self.flow.len() >= EXCHANGES || self.flow.begun() == u64::MAX {
+            return;
+        }
+        let number = self.flow.begin(seat.client.id(), key.text(), aim);
+        let _ = self.errands.push(Errand { number, ..*errand });
+    }
+
+    /// The errand of a decision that asks an origin.
+    fn errand_for(&self, i: usize, decision: Decision) -> Option<Errand> {
+        let seat = self.seats.get(i)?;
+        let asked = seat.front.asked()?;
+        let key = asked.key.as_ref()?;
+        let mut scratch = Scratch::new();
+        let Current::Request(head, _) = seat.client.current(&mut scratch) else {
+            return None;
+        };
+        let kind = kind_of(&head, self.cache.version(key.text()), decision)?;
+        let is_pass = kind.is_pass();
+        let errand = self.errand_of(asked, key, &head, kind)?;
+        Some(Errand {
+            is_moved: kind.is_range() && is_moved(&head),
+            asks_head: is_pass && asked.is_head,
+            body_left: if is_pass { seat.body_left } else { 0 },
+            ..errand
+        })
+    }
+
+    /// The errand of an exchange that asks this for a request. None where its text does not fit.
+    pub(crate) fn errand_of(
+        &self,
+        asked: &Asked,
+        key: &Key,
+        head: &RequestHead<'_, '_>,
+        kind: Kind,
+    ) -> Option<Errand> {
+        Some(Errand {
+            number: 0,
+            kind,
+            place: *key.place(),
+            is_moved: false,
+            is_asked_once: asked.is_asked_once,
+            asks_head: false,
+            is_safe: asked.is_safe,
+            binds_connection: asked.binds_connection,
+            accepts_only_identity: accepts_only_identity(&head.fields),
+            allows_guess: allows_guess(key.text(), &head.fields),
+            text_len: self.text_len(head, key, &kind)?,
+            asked: 0,
+            body_left: 0,
+            requested: 0,
+            body: Body::Pending,
+        })
+    }
+
+    // ---- a reply by the row
+
+    fn follow_row(&mut self, i: usize, decision: Decision, span: (u64, u64)) {
+        self.begin_interim(i);
+        let Some(seat) = self.seats.get(i) else {
+            return;
+        };
+        let Some(key) = seat.front.key() else {
+            return;
+        };
+        let Some(id) = self.cache.current(key.text()) else {
+            return;
+        };
+        self.cache.follow(id);
+        self.leave_source(i);
+        self.answer(i, decision, Some(id), span);
+        self.leave_useless(i);
+    }
+
+    fn relay(&mut self, i: usize) {
+        self.begin_interim(i);
+        self.leave_source(i);
+        self.answer(i, Decision::Relay, None, (0, 0));
+    }
+
+    fn answer(&mut self, i: usize, decision: Decision, source: Option<ObjectId>, span: (u64, u64)) {
+        let Some(seat) = self.seats.get_mut(i) else {
+            return;
+        };
+        seat.stage = Stage::Answering(Answer {
+            decision,
+            source,
+            from: span.0,
+            to: span.1,
+            has_begun: false,
+        });
+        seat.closes = !seat.front.keeps_after(200);
+    }
+
+    /// The request leaves an exchange that brings nothing of what its reply follows.
+    fn leave_useless(&mut self, i: usize) {
+        let Some(e) = self.exchange_of(i) else {
+            return;
+        };
+        let is_served = match self.seats.get(i) {
+            None => false,
+            Some(seat) => self.serves(&e, seat),
+        };
+        if !is_served {
+            self.leave_exchange(i);
+        }
+    }
+
+    /// Of what the follower still wants, something is still to come by the exchange, soon enough.
+    fn serves(&self, e: &Exchange, seat: &Seat) -> bool {
+        let Some(next) = seat.next() else {
+            return false;
+        };
+        match e.bound {
+            Some((id, from, to, all)) => {
+                id == next.source
+                    && from.max(next.at) < to.min(next.to)
+                    && is_soon(all, from, next.at)
+            }
+            None => !e.headed && self.asks_for(e, &next),
+        }
+    }
+}
+
+/// One without a page of its own has that of 504.
+fn shown_status(status: u16) -> u16
+    ensures { IsTrue (has_page result) }
+{
+    match status {
+        400 => 400,
+        411 => 411,
+        431 => 431,
+        500 => 500,
+        502 => 502,
+        _ => 504,
+    }
+}
+
+/// Ours: a range is asked for from the front of a chunk on.
+fn is_moved(head: &RequestHead<'_, '_>) -> bool {
+    match read_range(&head.fields) {
+        None | Some(Range::Last(_)) => false,
+        Some(Range::Span(first, _) | Range::From(first)) => first % 4096 != 0,
+    }
+}

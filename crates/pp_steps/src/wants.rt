@@ -1,0 +1,158 @@
+// What is waited for of the clients, and what a wait changes. It is ours.
+use crate::state::State;
+use crate::unseen::is_soon;
+use pp_cache::CHUNK_LEN;
+use pp_flow::Exchange;
+use pp_objects::ObjectId;
+use pp_seats::{Next, Seat, Shared};
+use pp_world::Wants;
+
+/// Ours: so many chunks past the furthest reader, reading stops.
+const CHUNKS_AHEAD: u64 = 256;
+
+impl State {
+    /// Writes down what is waited for of the clients, and which of them are not silent.
+    ///
+    /// Who is not awake is silent, and is read or not as at the last wait: so only those who are awake are put in or taken
+    /// out. Where all are, as behind a tick or where a client left, the list is written anew.
+    pub fn note_clients(&mut self, wants: &mut Wants) {
+        if self.awake.len() == self.seats.len() {
+            wants.read.clear();
+        }
+        for turn in 0..self.awake.len() {
+            let Some(i) = self.awake_at(turn) else {
+                break;
+            };
+            self.note_client(wants, i);
+        }
+        let seats = &self.seats;
+        self.awake.retain(|i| match seats.get(*i) {
+            None => false,
+            Some(seat) => !seat.is_silent(),
+        });
+    }
+
+    fn note_client(&self, wants: &mut Wants, i: usize) {
+        let Some(seat) = self.seats.get(i) else {
+            return;
+        };
+        let id = seat.id();
+        let is_read = !seat.has_hung_up && seat.client.room() > 0;
+        match wants.read.as_slice().binary_search(&id) {
+            Ok(place) if !is_read => {
+                let _ = wants.read.pop_at(place);
+            }
+            Err(place) if is_read => {
+                let _ = wants.read.try_insert(place, id);
+            }
+            Ok(_) | Err(_) => {}
+        }
+        if !seat.is_silent() && !self.is_dry(seat) {
+            let _ = wants.write.try_push(id);
+        }
+    }
+
+    /// What a wait changes of the client at this place: it waits for the exchange that it shares.
+    pub fn rest_client(&mut self, i: usize) {
+        let Some(seat) = self.seats.get(i) else {
+            return;
+        };
+        if seat.waits_on.is_some() || !self.is_sharing(seat) {
+            return;
+        }
+        let Some(exchange) = self.shared_ask(seat) else {
+            return;
+        };
+        let since = self.now;
+        if let Some(seat) = self.seats.get_mut(i) {
+            seat.waits_on = Some(Shared { exchange, since });
+        }
+    }
+
+    /// Who waited for an exchange, and was not written to, is not idle, however long the clock stood still.
+    pub fn renew_marks(&mut self, now: u64) {
+        for i in 0..self.seats.len() {
+            let is_waiting = match self.seats.get(i) {
+                None => false,
+                Some(seat) => self.waits_for_exchange(seat) && self.is_dry(seat),
+            };
+            if let Some(seat) = self.seats.get_mut(i) {
+                if is_waiting {
+                    seat.client.set_mark(now);
+                }
+            }
+        }
+    }
+
+    /// It waits for the exchange that brings its next byte; where it follows nothing, for that of its request, or
+    /// for one that it shares.
+    fn waits_for_exchange(&self, seat: &Seat) -> bool {
+        match seat.next() {
+            Some(next) => self.is_brought_by_any(&next),
+            None => self.flow.asked_by(seat.id()).is_some() || self.is_sharing(seat),
+        }
+    }
+
+    fn is_brought_by_any(&self, next: &Next) -> bool {
+        for errand in self.errands.iter() {
+            if let Some(e) = self.flow.get(errand.number) {
+                if self.brings(e, next) {
+                    return true;
+                }
+            }
+        }
+        false
+    }
+
+    /// What comes of the exchange is far ahead of all its readers.
+    pub fn is_far_ahead(&self, e: &Exchange) -> bool {
+        let Some((id, from, _, all)) = e.bound else {
+            return false;
+        };
+        match self.furthest_read(id, from, all) {
+            None => false,
+            Some(at) => {
+                let least = (at / CHUNK_LEN).saturating_add(CHUNKS_AHEAD);
+                least <= from / CHUNK_LEN && self.cache.is_held(id, at)
+            }
+        }
+    }
+
+    /// Where the furthest of the readers stands to whom an exchange brings this instance from this offset on.
+    fn furthest_read(&self, id: ObjectId, from: u64, all: bool) -> Option<u64> {
+        let mut furthest: Option<u64> = None;
+        for i in self.awake.iter() {
+            if let Some(next) = self.next_at(*i) {
+                if next.source == id && self.is_brought_to(&next, from, all) {
+                    furthest = Some(furthest.unwrap_or(0).max(next.at));
+                }
+            }
+        }
+        furthest
+    }
+
+    /// Who is silent has none.
+    fn next_at(&self, i: usize) -> Option<Next> {
+        self.seats.get(i)?.next()
+    }
+
+    /// It was brought what it says next, or waits for it: who reads on elsewhere, far ahead of what comes, is brought
+    /// nothing.
+    fn is_brought_to(&self, next: &Next, from: u64, all: bool) -> bool {
+        next.at <= from
+            || (is_soon(all, from, next.at) && !self.cache.is_held(next.source, next.at))
+    }
+
+    /// Where the furthest of the instance's followers stands.
+    pub(crate) fn furthest(&self, id: ObjectId) -> Option<u64> {
+        let mut furthest: Option<u64> = None;
+        for i in self.awake.iter() {
+            if let Some(next) = self.next_at(*i) {
+                if next.source == id {
+                    furthest = Some(furthest.unwrap_or(0).max(next.at));
+                }
+            }
+        }
+        furthest
+    }
+}
