@@ -29,7 +29,7 @@ pub data Rule : Type 0 where
   NotToBeEvicted NotToBeForgotten NotToBeLoaded NotSealed NotGone WrongDiskOperation : Rule
   StepUnfinished AcceptsWrongly ClientForgotten ConnectionForgotten ExchangeForgotten WantsTooMuch : Rule
 
--- of the duties of a wait, in their order
+-- which rule each duty of a wait is, in their order
 abbrev pub waiting_rules : List Rule
 waiting_rules = AcceptsWrongly ∷ ClientForgotten ∷ ConnectionForgotten ∷ ExchangeForgotten ∷ WantsTooMuch ∷ []
 

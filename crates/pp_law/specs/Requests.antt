@@ -27,6 +27,7 @@ pub data Front : Type 0 where
   NoHead : ℕ → Front
   IsRequest : Parsed → Front
 
+-- the request of a head that was heard whole
 abbrev pub parsed_in : Front → Option Parsed
 parsed_in (IsRequest r) = Some r
 parsed_in front = None

@@ -18,7 +18,7 @@ may_share d = false
 
 -- an ask for the whole of the key, or a check of it, whose answer has not come
 abbrev pub is_shared : Bytes → Exchange → Bool
-is_shared key e = is_own e && not (is_headed e) && not e.is_ranged && bytes_eq (text_of e.key) key
+is_shared key e = elim (is_own e) [ true ↦ not (is_headed e) && not e.is_ranged && bytes_eq (text_of e.key) key | false ↦ false ]
 
 abbrev pub shared_ask : State → Client → Option ℕ
 shared_ask s c = elim (key_in c.front) [ None ↦ None | Some key ↦ option_map (λ e. e.number) (find (is_shared (text_of key)) s.exchanges) ]
@@ -43,4 +43,4 @@ due_undecided s c = elim c.waits_on [
 
 -- it waits for the answer to another client's ask
 abbrev pub is_sharing : State → Client → Bool
-is_sharing s c = is_undecided c.stage && has_request c.front && not (is_some (due_undecided s c))
+is_sharing s c = elim (is_undecided c.stage) [ true ↦ has_request c.front && not (is_some (due_undecided s c)) | false ↦ false ]

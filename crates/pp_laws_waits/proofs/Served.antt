@@ -105,13 +105,12 @@ decided_for s c has none = by c.front has none
     by (NoHead status) at is = cc is
     by (IsRequest r) at is = cc is
 
-second_of_four : (a b c d : Bool) → (a && not b && c && d) ≡ true → b ≡ false
-second_of_four false b c d is = absurd (cc is)
-second_of_four true true c d is = absurd (cc is)
-second_of_four true false c d is = refl
+first_of_three : (a b c : Bool) → (not a && b && c) ≡ true → a ≡ false
+first_of_three true b c is = absurd (cc is)
+first_of_three false b c is = refl
 
 not_headed : (key : Bytes) (e : Exchange) → is_shared key e ≡ true → is_headed e ≡ false
-not_headed key e is = second_of_four (is_own e) (is_headed e) (not e.is_ranged) (bytes_eq (text_of e.key) key) is
+not_headed key e is = first_of_three (is_headed e) (not e.is_ranged) (bytes_eq (text_of e.key) key) (chosen (is_own e) _ is).1
 
 -- it is there, and another asked for both by it
 pub IsSharedThere : State → Client → Type 0
@@ -163,13 +162,9 @@ nothing_due None is = refl
 nothing_due (Some d) is = absurd (cc is)
 
 shared_there : (s : State) (c : Client) → is_sharing s c ≡ true → IsSharedThere s c
-shared_there s c is = by (is_undecided c.stage) (has_request c.front) refl (not (is_some (due_undecided s c))) refl is
-  where
-    by : (t u : Bool) → has_request c.front ≡ u → (v : Bool) → not (is_some (due_undecided s c)) ≡ v → (t && u && v) ≡ true → IsSharedThere s c
-    by false u has v none at = absurd (cc at)
-    by true false has v none at = absurd (cc at)
-    by true true has false none at = absurd (cc at)
-    by true true has true none at = shared_undecided s c has (nothing_due (due_undecided s c) none)
+shared_there s c is =
+    let both = (chosen (is_undecided c.stage) _ is).1 in
+    shared_undecided s c (first_holds (has_request c.front) (not (is_some (due_undecided s c))) both) (nothing_due (due_undecided s c) (second_holds (has_request c.front) (not (is_some (due_undecided s c))) both))
 
 for_exchange : (s : State) (w : Wants) (c : Client) → waits_for_exchange s c ≡ true → IsServed s w c
 unfolding IsSharedThere
