@@ -20,7 +20,7 @@ use Rattle.pp_law.specs.Replies.{said_by, use_said, end_replies, regained}
 use Rattle.pp_law.specs.Repairs.{begin_in_opening}
 use Rattle.pp_law.specs.Requests.{NoHeadYet}
 use Rattle.pp_law.specs.Responses.{got, ended}
-use Rattle.pp_law.specs.State.{State, Client, Conn, Exchange, Instance, Brought, Awaited, Useless, Joins, Passes, TooWide, Trying, RowRefused, Undecided, IsRooted, IsListed, IsListening, Handling, Evicting, Keeping, Following, Connecting, Owed, Free, ReadOf, WriteTo}
+use Rattle.pp_law.specs.State.{State, Client, Conn, Exchange, Instance, Brought, Awaited, Joins, Trying, RowRefused, Undecided, IsRooted, IsListed, IsListening, Handling, Evicting, Keeping, Following, Connecting, Owed, Free, ReadOf, WriteTo}
 use Rattle.pp_law.specs.Store.{begin_in_turn, end_op, close_name, note_kept, note_gone, load}
 use Rattle.pp_law.specs.Table.{forget}
 use Rattle.pp_law.specs.Turn.{touch, tick, rest_with}
@@ -98,11 +98,8 @@ unfoldable pub evicted : State → State
 evicted s = elim (due_victim s) [ None ↦ s | Some place ↦ drop_chunk place.0 place.1 s ]
 
 abbrev pub joins : ℕ → Brought → Bool
-joins id Awaited = false
-joins id Useless = false
 joins id (Joins x plain) = x == id
-joins id (Passes p) = false
-joins id TooWide = false
+joins id brought = false
 
 -- it waits for that row: the response to the exchange of its request made it, or brought it in
 abbrev pub waits_for_row : ℕ → Client → Bool

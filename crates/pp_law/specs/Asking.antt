@@ -10,7 +10,7 @@ use Rattle.pp_law.specs.Connections.{client, conn, exchange, is_for, on_client, 
 use Rattle.pp_law.specs.Lists.{Bytes, first_some, is_some_with}
 use Rattle.pp_law.specs.Replies.{end_replies}
 use Rattle.pp_law.specs.Stages.{passed_of}
-use Rattle.pp_law.specs.State.{State, Client, Exchange, Owed, Free, ReadOf, WriteTo}
+use Rattle.pp_law.specs.State.{State, Client, Exchange, Owed, ReadOf, WriteTo}
 
 -- ---- of a client
 
@@ -80,14 +80,12 @@ read_room s n = elim (conn s n) [ None ↦ 0 | Some k ↦ elim (front_of_line s 
 -- ---- what the event asks for
 
 abbrev pub is_reading : Owed → ℕ → Bool
-is_reading Free n = false
 is_reading (ReadOf m) n = m == n
-is_reading (WriteTo m) n = false
+is_reading owed n = false
 
 abbrev pub is_writing : Owed → ℕ → Bool
-is_writing Free n = false
-is_writing (ReadOf m) n = false
 is_writing (WriteTo m) n = m == n
+is_writing owed n = false
 
 -- ours: a client whose writing fails is lost; one that sends no more is answered what it asked before
 unfoldable pub hang_up : ℕ → State → State

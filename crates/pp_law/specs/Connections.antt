@@ -9,8 +9,8 @@ use Rattle.pp_peers.specs.declared.placing.Placed.{Placed}
 use Rattle.pp_peers.specs.declared.placing.Placed.TheVariants.{On, Dial, CloseThenDial, Wait}
 use Rattle.pp_law.specs.Lists.{change, without, is_some_with, is_this}
 use Rattle.pp_law.specs.Requests.{goes_alone, is_asked_once}
-use Rattle.pp_law.specs.Stages.{is_begun, is_headed, on_passed}
-use Rattle.pp_law.specs.State.{State, Through, Own, Filling, Client, Conn, Exchange, Course, Trying, OutOfTries}
+use Rattle.pp_law.specs.Stages.{is_begun, is_headed, on_passed, filled_of}
+use Rattle.pp_law.specs.State.{State, Client, Conn, Exchange, Course, Trying, OutOfTries}
 use Rattle.pp_law.specs.Table.{clear, is_same_version, row}
 use Rattle.pp_target.specs.Key.{text_of}
 
@@ -101,11 +101,9 @@ abbrev pub without_shared_row : ℕ → Client → Client
 without_shared_row most c = elim (c.has_given_up && not (is_begun c)) [ true ↦ record c { course = lost_one most c.course } | false ↦ without_row c ]
 
 abbrev pub is_unfilled : State → Exchange → Bool
-is_unfilled s e = elim e.aim [
-  | Through ↦ false
-  | Own ↦ false
-  | Filling v from to ↦ is_some_with (λ x. is_same_version v x.version) (row s (text_of e.key)) && list_any (λ c. is_for e c && is_out c.course) s.clients
-]
+is_unfilled s e =
+    is_some_with (λ v. is_some_with (λ x. is_same_version v x.version) (row s (text_of e.key))) (filled_of e)
+    && list_any (λ c. is_for e c && is_out c.course) s.clients
 
 unfoldable pub give_up_row : Exchange → State → State
 give_up_row e s = elim (is_unfilled s e) [

@@ -6,19 +6,19 @@ use Rattle.pp_head.specs.Request.{Request}
 use Rattle.pp_plan.specs.Row.{Row}
 use Rattle.pp_ranges.specs.Ranges.{range_of}
 use Rattle.pp_ranges.specs.declared.range.Range.{Range}
-use Rattle.pp_ranges.specs.declared.range.Range.TheVariants.{Span, From, Last}
+use Rattle.pp_ranges.specs.declared.range.Range.TheVariants.{Span, From}
 use Rattle.pp_reply.specs.Keeping.{interim}
 use Rattle.pp_reply.specs.Texts.{page}
 use Rattle.pp_target.specs.Key.{Key, text_of}
 use Rattle.pp_world.specs.declared.note.Decision.{Decision}
-use Rattle.pp_world.specs.declared.note.Decision.TheVariants.{Refuse, Hit, Part, Head, NotModified, Unsatisfiable, Relay, Validate, Fetch, Pass}
+use Rattle.pp_world.specs.declared.note.Decision.TheVariants.{Refuse, Hit, Part, Relay, Validate, Fetch, Pass}
 use Rattle.pp_law.specs.Closing.{is_of, leave}
 use Rattle.pp_law.specs.Connections.{on_client}
 use Rattle.pp_law.specs.Lists.{Bytes, is_some_with}
 use Rattle.pp_law.specs.Requests.{Parsed, NoHeadYet, NoHead, IsRequest, key_in, keeps_after, asks_head, expects_interim}
 use Rattle.pp_law.specs.Responses.{skipping}
-use Rattle.pp_law.specs.Stages.{bound_of}
-use Rattle.pp_law.specs.State.{State, Through, Own, Pending, Awaited, Trying, Client, Exchange, Instance, Stage, Undecided, Waiting, Passing, Answering, Reply}
+use Rattle.pp_law.specs.Stages.{bound_of, is_undecided}
+use Rattle.pp_law.specs.State.{State, Through, Own, Pending, Awaited, Trying, Client, Exchange, Instance, Stage, Waiting, Passing, Answering, Reply, Aim}
 use Rattle.pp_law.specs.Table.{row, row_for, swept, mark_row, enter, must_forget, asks_for, is_soon}
 use Rattle.pp_law.specs.Decisions.{kind_of, text_for}
 
@@ -27,12 +27,7 @@ page_with status text = Answering (record { decision = Refuse status; source = N
 
 -- the interim answer comes before the reply, once
 abbrev pub interim_for : Client → Parsed → Bytes
-interim_for c r = elim c.stage [
-  | Undecided ↦ elim (expects_interim r) [ true ↦ interim | false ↦ [] ]
-  | Waiting ↦ c.interim_left
-  | Passing ↦ c.interim_left
-  | Answering reply ↦ c.interim_left
-]
+interim_for c r = elim (is_undecided c.stage) [ true ↦ elim (expects_interim r) [ true ↦ interim | false ↦ [] ] | false ↦ c.interim_left ]
 
 abbrev pub first_interim : Client → Bytes
 first_interim c = elim c.front [ NoHeadYet ↦ [] | NoHead status ↦ [] | IsRequest r ↦ interim_for c r ]
@@ -70,27 +65,35 @@ is_range (AsRange first last) = true
 is_range kind = false
 
 abbrev pub is_moved_in : Option Range → Bool
-is_moved_in None = false
 is_moved_in (Some (Span first last)) = not (first % 4096 == 0)
 is_moved_in (Some (From first)) = not (first % 4096 == 0)
-is_moved_in (Some (Last n)) = false
+is_moved_in range = false
 
-abbrev pub new_exchange : State → Client → Request → Key → Decision → AskKind → Exchange
-new_exchange s c head key d kind = record {
+-- nothing is asked of it yet
+abbrev pub unasked : State → Client → Request → Key → Aim → Bytes → Exchange
+unasked s c head key aim text = record {
   number = s.next_exchange;
   asker = Some c.number;
   head = head;
   key = key;
-  aim = elim (is_pass d) [ true ↦ Through | false ↦ Own ];
-  named = tag_named (row_for s head (text_of key)) d;
-  is_ranged = is_range kind;
-  is_moved = is_range kind && is_moved_in (range_of head.fields);
-  text = text_for s head key kind;
+  aim = aim;
+  named = None;
+  is_ranged = false;
+  is_moved = false;
+  text = text;
   asked = 0;
-  body_left = elim (is_pass d) [ true ↦ c.body_left | false ↦ 0 ];
+  body_left = 0;
   requested = 0;
   place = None;
   body = Pending;
+}
+
+abbrev pub new_exchange : State → Client → Request → Key → Decision → AskKind → Exchange
+new_exchange s c head key d kind = record (unasked s c head key (elim (is_pass d) [ true ↦ Through | false ↦ Own ]) (text_for s head key kind)) {
+  named = tag_named (row_for s head (text_of key)) d;
+  is_ranged = is_range kind;
+  is_moved = is_range kind && is_moved_in (range_of head.fields);
+  body_left = elim (is_pass d) [ true ↦ c.body_left | false ↦ 0 ];
 }
 
 abbrev pub stage_for : Decision → Stage
@@ -172,11 +175,7 @@ decided_by c Pass s = ask_origin c Pass s
 decided_by c Fetch s = ask_origin c Fetch s
 decided_by c Validate s = ask_origin c Validate s
 decided_by c Relay s = relay c s
-decided_by c (Hit from to) s = follow c (Hit from to) s
-decided_by c (Part from to) s = follow c (Part from to) s
-decided_by c Head s = follow c Head s
-decided_by c NotModified s = follow c NotModified s
-decided_by c Unsatisfiable s = follow c Unsatisfiable s
+decided_by c d s = follow c d s
 
 unfoldable pub decided : Client → Decision → State → State
 decided c d s = decided_by c d (enter_row c d s)

@@ -8,7 +8,7 @@ use Rattle.pp_law.specs.Connections.{is_trying}
 use Rattle.pp_law.specs.Lists.{first_some, is_some_with}
 use Rattle.pp_law.specs.Offers.{has_to_say}
 use Rattle.pp_law.specs.Stages.{is_begun, is_followed_by, is_page, passed_of}
-use Rattle.pp_law.specs.State.{State, Client, Course, Trying, OutOfTries, AskTooLong, RowRefused, Brought, Awaited, Useless, Joins, Passes, TooWide, Undecided, Waiting, Passing, Answering, Reply}
+use Rattle.pp_law.specs.State.{State, Client, Course, Trying, OutOfTries, AskTooLong, RowRefused, Brought, Awaited, Undecided, Waiting, Passing, Answering, Reply}
 use Rattle.pp_law.specs.Table.{source_of, next_of, is_provided}
 use Rattle.pp_law.specs.Decisions.{decide}
 use Rattle.pp_law.specs.Sharing.{due_undecided}
@@ -23,10 +23,7 @@ give_up RowRefused other = Some (Refuse 500)
 -- the head of its exchange's response came
 abbrev pub is_told : Brought → Bool
 is_told Awaited = false
-is_told Useless = true
-is_told (Joins id plain) = true
-is_told (Passes p) = true
-is_told TooWide = true
+is_told brought = true
 
 -- the row that it was decided by was replaced or cleared
 abbrev pub has_lost_row : State → Reply → Bool

@@ -6,12 +6,13 @@ use Rattle.pp_head.specs.Request.{Request}
 use Rattle.pp_plan.specs.Need.{need}
 use Rattle.pp_target.specs.Key.{Key}
 use Rattle.pp_law.specs.Chunks.{chunk_len}
-use Rattle.pp_law.specs.Deciding.{begin_exchange}
+use Rattle.pp_law.specs.Deciding.{begin_exchange, unasked}
 use Rattle.pp_law.specs.Decisions.{fits, lent, text_for}
 use Rattle.pp_law.specs.Connections.{on_client, each_client, is_for, is_trying}
 use Rattle.pp_law.specs.Lists.{Bytes, is_some_with, without}
 use Rattle.pp_law.specs.Requests.{NoHeadYet, NoHead, IsRequest}
-use Rattle.pp_law.specs.State.{State, Through, Own, Filling, Pending, AskTooLong, Client, Exchange}
+use Rattle.pp_law.specs.Stages.{filled_of}
+use Rattle.pp_law.specs.State.{State, Filling, AskTooLong, Client, Exchange}
 use Rattle.pp_law.specs.Table.{next_of, Next, is_brought, brings, held_to, next_held}
 
 -- ---- step 5
@@ -30,21 +31,9 @@ abbrev pub hole_text : State → Request → Key → Next → ℕ × ℕ → Byt
 hole_text s head key n span = text_for s head key (AsHole span.0 (span.1 - 1) (lent n.source.version.tag))
 
 abbrev pub filling_exchange : State → Client → Request → Key → Next → ℕ × ℕ → Exchange
-filling_exchange s c head key n span = record {
-  number = s.next_exchange;
-  asker = Some c.number;
-  head = head;
-  key = key;
-  aim = Filling n.source.version span.0 span.1;
+filling_exchange s c head key n span = record (unasked s c head key (Filling n.source.version span.0 span.1) (hole_text s head key n span)) {
   named = Some n.source.version.tag;
   is_ranged = true;
-  is_moved = false;
-  text = hole_text s head key n span;
-  asked = 0;
-  body_left = 0;
-  requested = 0;
-  place = None;
-  body = Pending;
 }
 
 unfoldable pub fill_with : Exchange → Client → State → State
@@ -71,11 +60,8 @@ fill s = elim s.is_stopped [ true ↦ s | false ↦ each_client fill_for (map (�
 abbrev pub is_wanted_by : State → Exchange → Client → Bool
 is_wanted_by s e c = is_for e c && is_some_with (λ n. brings s n.source n.at e) (next_of s c)
 
-abbrev pub is_filling : Exchange → Bool
-is_filling e = elim e.aim [ Through ↦ false | Own ↦ false | Filling v from to ↦ true ]
-
 abbrev pub is_useless_ask : State → Exchange → Bool
-is_useless_ask s e = is_filling e && not (is_some e.place) && not (list_any (is_wanted_by s e) s.clients)
+is_useless_ask s e = is_some (filled_of e) && not (is_some e.place) && not (list_any (is_wanted_by s e) s.clients)
 
 unfoldable pub give_up_asks : State → State
 give_up_asks s = record s { exchanges = without (is_useless_ask s) s.exchanges }

@@ -1,14 +1,12 @@
 -- What a client sends is read as requests (RFC 2616, section 5).
-use Rattle.std.specs.Prelude.{◌-◌, [], ◌++◌, length, drop, Ok, Err}
+use Rattle.std.specs.Prelude.{◌-◌, [], ◌++◌, length, drop, Some, None, Ok, Err}
 use Rattle.pp_law.specs.Lists.{Bytes}
-use Rattle.pp_law.specs.Requests.{Front, NoHeadYet, NoHead, IsRequest, front_of, behind_head, body_len}
+use Rattle.pp_law.specs.Requests.{Front, NoHeadYet, NoHead, IsRequest, parsed_in, front_of, behind_head, body_len}
 use Rattle.pp_law.specs.State.{Client}
 
 -- behind a head whose body has no end nothing that comes counts (section 4.4)
 abbrev pub what_counts : Front → Bytes → Bytes
-what_counts NoHeadYet bytes = bytes
-what_counts (NoHead status) bytes = bytes
-what_counts (IsRequest r) bytes = elim r.rule [ Ok rule ↦ bytes | Err fault ↦ [] ]
+what_counts front bytes = elim (parsed_in front) [ None ↦ bytes | Some r ↦ elim r.rule [ Ok rule ↦ bytes | Err fault ↦ [] ] ]
 
 -- what stands at the front of the bytes is its current request
 abbrev pub fronted : Client → Client

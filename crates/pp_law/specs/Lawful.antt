@@ -1,9 +1,8 @@
 -- A lawful log, and the first happening that makes a log unlawful.
-use Rattle.std.specs.Prelude.{◌≡◌, ℕ, ◌+◌, true, false, List, [], ◌∷◌, ◌++◌, Option, Some, None, not, find, Bool}
-use Rattle.std.specs.List.{list_all}
+use Rattle.std.specs.Prelude.{◌≡◌, ℕ, ◌+◌, true, false, List, [], ◌∷◌, ◌++◌, Option, Some, None, not, find, zip}
 use Rattle.pp_world.specs.declared.event.Wants.{Wants}
 use Rattle.pp_world.specs.declared.happening.Happening.{Happening}
-use Rattle.pp_world.specs.declared.happening.Happening.TheVariants.{Woke, Waits, Clock, Opened, CanRead, CanWrite, Heard, HungUp, Said, Shut, Dialled, Undialled, Reached, Ended, Broke, Asked, Got, Dropped, NoneYet, Began, Did, Unread, Noted, Rooted, Listed, Listens, Configured, Printed, Stopped}
+use Rattle.pp_world.specs.declared.happening.Happening.TheVariants.{Woke, Waits, Heard, HungUp, Said, Shut, Dialled, Undialled, Ended, Broke, Asked, Got, Dropped, NoneYet, Began, Did, Unread, Noted, Rooted, Listed, Listens, Configured, Printed}
 use Rattle.pp_world.specs.declared.note.Remark.{Remark}
 use Rattle.pp_world.specs.declared.note.Remark.TheVariants.{Taken, Cut, Kept, Gone, Forgotten, Evicted, Loaded}
 use Rattle.pp_world.specs.Log.{Log}
@@ -11,7 +10,7 @@ use Rattle.pp_law.specs.After.{after}
 use Rattle.pp_law.specs.Opening.{may_fail}
 use Rattle.pp_law.specs.Permits.{is_permitted, IsPermitted, may_wait}
 use Rattle.pp_law.specs.Phases.{ending}
-use Rattle.pp_law.specs.Served.{accepts_rightly, is_client_served, is_conn_served, is_exchange_served, wants_no_more}
+use Rattle.pp_law.specs.Served.{duties}
 use Rattle.pp_law.specs.State.{State, Term, start}
 
 -- each happening is permitted in the state before it
@@ -30,19 +29,13 @@ pub data Rule : Type 0 where
   NotToBeEvicted NotToBeForgotten NotToBeLoaded NotSealed NotGone WrongDiskOperation : Rule
   StepUnfinished AcceptsWrongly ClientForgotten ConnectionForgotten ExchangeForgotten WantsTooMuch : Rule
 
--- what a wait has to meet, in this order
-abbrev pub waiting_rules : State → Wants → List (Bool × Rule)
-waiting_rules s w =
-    (accepts_rightly s w, AcceptsWrongly)
-    ∷ (list_all (is_client_served s w) s.clients, ClientForgotten)
-    ∷ (list_all (is_conn_served s w) s.conns, ConnectionForgotten)
-    ∷ (list_all (is_exchange_served s w) s.exchanges, ExchangeForgotten)
-    ∷ (wants_no_more s w, WantsTooMuch)
-    ∷ []
+-- which rule each duty of a wait is, in their order
+abbrev pub waiting_rules : List Rule
+waiting_rules = AcceptsWrongly ∷ ClientForgotten ∷ ConnectionForgotten ∷ ExchangeForgotten ∷ WantsTooMuch ∷ []
 
 -- the first that it does not meet
 abbrev pub served_rule : State → Wants → Rule
-served_rule s w = elim (find (λ rule. not rule.0) (waiting_rules s w)) [ None ↦ WantsTooMuch | Some rule ↦ rule.1 ]
+served_rule s w = elim (find (λ rule. not rule.0) (zip (duties s w) waiting_rules)) [ None ↦ WantsTooMuch | Some rule ↦ rule.1 ]
 
 abbrev pub wait_rule : State → Wants → Rule
 wait_rule s w = elim (may_wait s) [ false ↦ StepUnfinished | true ↦ served_rule (ending s) w ]
@@ -62,17 +55,12 @@ failure_rule s other = elim (may_fail s false) [ false ↦ FailureMadeUp | true 
 unfoldable pub rule_of : State → Happening → Rule
 rule_of s (Woke image) = ImageNotLeft
 rule_of s (Waits w) = wait_rule s w
-rule_of s (Clock seconds) = EventOutOfTurn
-rule_of s (Opened n) = EventOutOfTurn
-rule_of s (CanRead n) = EventOutOfTurn
-rule_of s (CanWrite n) = EventOutOfTurn
 rule_of s (Heard c bytes) = ReadNotAskedFor
 rule_of s (HungUp c) = ReadNotAskedFor
 rule_of s (Said c offered bytes) = WrongReply
 rule_of s (Shut c) = NotToBeClosed
 rule_of s (Dialled n host port) = NotToBeDialled
 rule_of s (Undialled host port) = failure_rule s NotToBeDialled
-rule_of s (Reached k) = EventOutOfTurn
 rule_of s (Ended k) = ReadNotAskedFor
 rule_of s (Broke k) = ReadNotAskedFor
 rule_of s (Asked k bytes) = WrongAsk
@@ -89,7 +77,7 @@ rule_of s (Listed ok) = OpeningOutOfOrder
 rule_of s (Listens port ok) = OpeningOutOfOrder
 rule_of s (Configured file text) = OpeningOutOfOrder
 rule_of s (Printed text) = OpeningOutOfOrder
-rule_of s Stopped = EventOutOfTurn
+rule_of s event = EventOutOfTurn
 
 -- the place of the happening in the log, from 0, and the rule that it breaks
 pub record Fault : Type 0 where

@@ -4,7 +4,7 @@ use Rattle.std.specs.Prelude.{Bool, true, false, ◌&&◌, not, List, [], ◌∷
 use Rattle.pp_text.specs.Bytes.{is_empty}
 use Rattle.pp_law.specs.Connections.{client}
 use Rattle.pp_law.specs.Deciding.{has_to_forget}
-use Rattle.pp_law.specs.Due.{Due, Decide, CutOff, first_due}
+use Rattle.pp_law.specs.Due.{Due, Decide, first_due}
 use Rattle.pp_law.specs.Lists.{Bytes, is_some_with}
 use Rattle.pp_law.specs.State.{State, Instance, Evicting}
 use Rattle.pp_law.specs.Table.{row, idle_row}
@@ -32,9 +32,8 @@ refused_memory s key = elim (may_in Evicting (λ t. is_empty t.forgotten) s) [
 
 -- the client whose decision is next brings a row in, where as many are there as may be
 abbrev pub forgets_next : State → Option Due → Bool
-forgets_next s None = false
-forgets_next s (Some (CutOff n cause)) = false
 forgets_next s (Some (Decide n i d)) = is_some_with (has_to_forget s) (client s n)
+forgets_next s other = false
 
 abbrev pub makes_room : State → Bytes → Option Instance
 makes_room s key = elim (forgets_next s (first_due s)) [ true ↦ if_so (λ x. bytes_eq x.key key && not x.is_new) (idle_row s) | false ↦ None ]

@@ -1,9 +1,9 @@
 -- How a life begins: the files that it finds, its words and settings, and the order of its first calls. All of it is ours.
-use Rattle.std.specs.Prelude.{ℕ, ◌+◌, Bool, true, false, ◌==◌, ◌&&◌, ◌||◌, not, nat_lt, nat_le, List, [], ◌∷◌, ◌++◌, length, map, flat_map, is_some, bytes_eq, Option, Some, None, Result, Ok, Err}
+use Rattle.std.specs.Prelude.{ℕ, ◌+◌, Bool, true, false, ◌==◌, ◌&&◌, ◌||◌, not, nat_lt, nat_le, List, [], ◌∷◌, ◌++◌, length, map, flat_map, is_some, bytes_eq, Option, Some, None, Result, Ok, drop}
 use Rattle.std.specs.List.{list_any, list_all}
 use Rattle.std.specs.Str.{is_utf8}
 use Rattle.pp_conf.specs.Conf.{Settings}
-use Rattle.pp_conf.specs.Words.{file_of, has_reading, reading_of, Told, Serves, ShowsDemo, Refusal}
+use Rattle.pp_conf.specs.Words.{file_of, has_reading, reading_of, Told, Serves, Refusal}
 use Rattle.pp_text.specs.Bytes.{is_empty}
 use Rattle.pp_world.specs.Disk.{Stored, view_of, is_loose, is_rising}
 use Rattle.pp_world.specs.Files.{Files, file_of as file_in}
@@ -39,9 +39,8 @@ leaves f bytes = nat_le f.synced (length bytes) && nat_le (length bytes) f.end &
 
 abbrev pub leaves_one : Option Bytes → Option Stored → Bool
 leaves_one None None = true
-leaves_one None (Some f) = false
-leaves_one (Some bytes) None = false
 leaves_one (Some bytes) (Some f) = leaves f bytes
+leaves_one file stored = false
 
 abbrev pub leaves_under : Log → Files → Bytes → Bool
 leaves_under log image name = list_any (leaves_one (file_in name image)) (view_of name log).slot
@@ -82,14 +81,12 @@ term_in [] = no_term
 term_in (t ∷ ts) = t
 
 abbrev pub terms_behind : List Term → List Term
-terms_behind [] = []
-terms_behind (t ∷ ts) = ts
+terms_behind terms = drop 1 terms
 
 -- the settings that words and text give, where they ask to serve
 abbrev pub settings_in : Result Told Refusal → Option Settings
 settings_in (Ok (Serves c)) = Some c
-settings_in (Ok (ShowsDemo seed)) = None
-settings_in (Err refusal) = None
+settings_in told = None
 
 unfoldable pub with_settings : Option Settings → State → State
 with_settings None s = record s { phase = IsStuck }

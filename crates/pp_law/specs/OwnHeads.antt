@@ -17,13 +17,13 @@ use Rattle.pp_valid.specs.Codings.{accepts_only_identity}
 use Rattle.pp_valid.specs.Conditions.{names_other_tag}
 use Rattle.pp_valid.specs.Versions.{version_of}
 use Rattle.pp_valid.specs.declared.content_range.ContentRange.{ContentRange}
-use Rattle.pp_valid.specs.declared.content_range.ContentRange.TheVariants.{Span, Unsatisfied}
+use Rattle.pp_valid.specs.declared.content_range.ContentRange.TheVariants.{Span}
 use Rattle.pp_valid.specs.declared.version.Version.{Version}
 use Rattle.pp_law.specs.Chunks.{joined, note_use}
 use Rattle.pp_law.specs.Connections.{exchange, on_exchange, on_client_of, is_for, attempts_of, without_shared_row, lose_attempt}
 use Rattle.pp_law.specs.Lists.{Bytes, change, is_some_with}
 use Rattle.pp_law.specs.Passing.{passed_by}
-use Rattle.pp_law.specs.Stages.{is_begun, bound_of}
+use Rattle.pp_law.specs.Stages.{is_begun, bound_of, is_own, is_through}
 use Rattle.pp_law.specs.State.{State, Answer, Through, Own, Filling, Bound, Body, Joining, Relaying, Dropping, Brought, Useless, Joins, Passes, TooWide, Client, Exchange, Instance, Sent}
 use Rattle.pp_law.specs.Table.{is_same_version, row, kept_row, instance, extent_of, on_instance, mark_row, make_row, enter, clear, Next, next_of, is_provided}
 
@@ -33,14 +33,12 @@ key_of e = text_of e.key
 -- ---- offsets
 
 abbrev pub first_in : Option ContentRange → ℕ
-first_in None = 0
-first_in (Some (Unsatisfied n)) = 0
 first_in (Some (Span first last n)) = first
+first_in range = 0
 
 abbrev pub end_in : Option ContentRange → ℕ → ℕ
-end_in None n = n
-end_in (Some (Unsatisfied m)) n = n
 end_in (Some (Span first last m)) n = last + 1
+end_in range n = n
 
 -- of a part these are in Content-Range, and else it is all (RFC 7233, section 4.2)
 abbrev pub range_in : Response → Option ContentRange
@@ -266,11 +264,8 @@ is_wrong_part head = (head.status == 206) && is_multipart head
 
 -- ours: 101 would leave HTTP; one range was asked for; only what was named can be unchanged
 abbrev pub is_wrong_head : Exchange → Response → Bool
-is_wrong_head e head = (head.status == 101) || (elim e.aim [
-  | Through ↦ false
-  | Own ↦ is_wrong_part head || ((head.status == 304) && not (is_some e.named))
-  | Filling v from to ↦ is_wrong_part head
-])
+is_wrong_head e head =
+    (head.status == 101) || (not (is_through e) && is_wrong_part head) || (is_own e && (head.status == 304) && not (is_some e.named))
 
 -- ---- bytes
 

@@ -1,7 +1,7 @@
 -- A response that is passed to a client, spelled anew (RFC 2616, sections 3.6.1 and 13.5).
 use Rattle.std.specs.Prelude.{ℕ, Bool, true, false, not}
 use Rattle.pp_framing.specs.declared.body.BodyRule.{BodyRule}
-use Rattle.pp_framing.specs.declared.body.BodyRule.TheVariants.{Empty, Length, Chunked, ToEnd}
+use Rattle.pp_framing.specs.declared.body.BodyRule.TheVariants.{Empty, Length}
 use Rattle.pp_head.specs.Response.{Response}
 use Rattle.pp_pass.specs.Pipe.{Pipe, started, with_data}
 use Rattle.pp_reply.specs.Keeping.{is_old}
@@ -15,8 +15,7 @@ use Rattle.pp_law.specs.State.{State, Exchange, Passed}
 abbrev pub is_coded : BodyRule → ℕ → Bool
 is_coded Empty minor = false
 is_coded (Length n) minor = false
-is_coded Chunked minor = not (is_old minor)
-is_coded ToEnd minor = not (is_old minor)
+is_coded rule minor = not (is_old minor)
 
 abbrev pub passed_by : Exchange → Response → BodyRule → Passed
 passed_by e head rule = record { head = head; rule = rule; pipe = started (is_coded rule e.head.minor); is_short = false }

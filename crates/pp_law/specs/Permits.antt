@@ -1,5 +1,5 @@
 -- What may happen next: a test for each happening.
-use Rattle.std.specs.Prelude.{◌≡◌, ℕ, Bool, true, false, ◌==◌, ◌&&◌, ◌||◌, not, nat_lt, nat_le, nat_eq, ◌/◌, length, bytes_eq, is_some, Option, Some, None}
+use Rattle.std.specs.Prelude.{◌≡◌, ℕ, Bool, true, false, ◌==◌, ◌&&◌, ◌||◌, not, nat_lt, nat_le, nat_eq, ◌/◌, length, bytes_eq, is_some, Option, Some}
 use Rattle.std.specs.List.{list_any, starts_with}
 use Rattle.pp_text.specs.Bytes.{is_empty}
 use Rattle.pp_world.specs.declared.event.Wants.{Wants}
@@ -16,12 +16,12 @@ use Rattle.pp_law.specs.Asking.{is_reading, is_writing, permits_heard, permits_g
 use Rattle.pp_law.specs.Chunks.{chunk_len, is_in_memory}
 use Rattle.pp_law.specs.Deciding.{is_for_memory, has_to_forget}
 use Rattle.pp_law.specs.Due.{Due, Decide, CutOff, first_due}
-use Rattle.pp_law.specs.Connections.{client, conn, is_client, is_conn, placing, Pause, AllPlaced, WaitsDial, WaitsDrop}
+use Rattle.pp_law.specs.Connections.{client, conn, is_client, is_conn, placing, Pause, WaitsDial, WaitsDrop}
 use Rattle.pp_law.specs.Lists.{Bytes, is_some_with}
 use Rattle.pp_law.specs.Opening.{permits_woke, permits_configured, permits_rooted, permits_listens, is_at, is_opening, may_fail}
 use Rattle.pp_law.specs.Offers.{offer, is_at_body}
 use Rattle.pp_law.specs.Phases.{is_awaiting, is_under_way, due_victim, has_closings, may_in, may_decide, may_end, ending}
-use Rattle.pp_law.specs.Requests.{Front, NoHeadYet, NoHead, IsRequest}
+use Rattle.pp_law.specs.Requests.{parsed_in}
 use Rattle.pp_law.specs.Leaving.{leaving_as}
 use Rattle.pp_law.specs.Repairs.{may_begin_in_opening}
 use Rattle.pp_law.specs.Served.{accepts, is_served}
@@ -54,25 +54,18 @@ is_same_cause Stop Stop = true
 is_same_cause cause other = false
 
 -- a request has a key and a row that memory may be refused for, and a place that is none has not
-abbrev pub is_request : Front → Bool
-is_request NoHeadYet = false
-is_request (NoHead status) = false
-is_request (IsRequest r) = true
-
 abbrev pub may_want_memory : State → ℕ → Bool
-may_want_memory s c = is_some_with (λ x. is_request x.front) (client s c)
+may_want_memory s c = is_some_with (λ x. is_some (parsed_in x.front)) (client s c)
 
 -- it is the decision that is due; or memory was refused
 abbrev pub is_due_decision : State → Option Due → ℕ → ℕ → Decision → Bool
-is_due_decision s None c i d = false
-is_due_decision s (Some (CutOff n cause)) c i d = false
 is_due_decision s (Some (Decide n j due)) c i d =
     (n == c) && (j == i) && (is_same_decision due d || (is_same_decision d (Refuse 500) && may_want_memory s c))
+is_due_decision s other c i d = false
 
 abbrev pub is_due_cut : Option Due → ℕ → Cause → Bool
-is_due_cut None c cause = false
 is_due_cut (Some (CutOff n due)) c cause = (n == c) && is_same_cause due cause
-is_due_cut (Some (Decide n j d)) c cause = false
+is_due_cut other c cause = false
 
 -- the row of its key has room in memory
 abbrev pub has_room_for : State → ℕ → Decision → Bool
@@ -90,9 +83,6 @@ is_newcomer n c = is_client n c && c.is_new && not c.is_closing
 
 abbrev pub may_cut : State → ℕ → Cause → Bool
 may_cut s c cause = is_due_cut (first_due s) c cause || (is_same_cause cause Memory && list_any (is_newcomer c) s.clients)
-
-abbrev pub permits_cut : State → ℕ → Cause → Bool
-permits_cut s c cause = may_decide (λ t. may_cut t c cause) s
 
 -- ---- chunks leave memory
 
@@ -140,7 +130,7 @@ permits_unread s name = is_at_rest s && (may_fail_to_recover s name || list_any 
 
 abbrev pub permits_noted : State → Remark → Bool
 permits_noted s (Taken c i d) = permits_taken s c i d
-permits_noted s (Cut c cause) = permits_cut s c cause
+permits_noted s (Cut c cause) = may_decide (λ t. may_cut t c cause) s
 permits_noted s (Kept key tag n extent) = is_idle_disk s && is_acknowledged_as key tag n extent s.agenda.todo
 permits_noted s (Gone key) = may_in Keeping (λ t. may_note_gone t key) s
 permits_noted s (Forgotten key) = is_some (leaving_as s key)
@@ -161,13 +151,9 @@ permits_said s c offered bytes = is_writing s.owed c && is_some_with (λ x. is_s
 abbrev pub may_shut : State → ℕ → Client → Bool
 may_shut s n c = is_client n c && (c.is_closing || s.is_stopped)
 
-abbrev pub permits_shut : State → ℕ → Bool
-permits_shut s c = may_in Connecting (λ t. list_any (may_shut t c) t.clients) s
-
 abbrev pub is_dial_of : Pause → Bytes → ℕ → Bool
-is_dial_of AllPlaced host port = false
-is_dial_of (WaitsDrop k e) host port = false
 is_dial_of (WaitsDial e) host port = bytes_eq e.key.host host && (e.key.port == port)
+is_dial_of pause host port = false
 
 -- the dial of the first exchange that needs one, behind all closings
 abbrev pub may_dial : State → Bytes → ℕ → Bool
@@ -177,9 +163,8 @@ abbrev pub permits_dial : State → Bytes → ℕ → Bool
 permits_dial s host port = may_in Connecting (λ t. may_dial t host port) s
 
 abbrev pub is_drop_of : Pause → ℕ → Bool
-is_drop_of AllPlaced n = false
 is_drop_of (WaitsDrop k e) n = k == n
-is_drop_of (WaitsDial e) n = false
+is_drop_of pause n = false
 
 -- it gives way to the dial of the first exchange that needs one
 abbrev pub gives_way : State → ℕ → Bool
@@ -188,13 +173,7 @@ gives_way s n = not (has_closings s) && is_drop_of (placing s).pause n
 abbrev pub may_drop : State → ℕ → Bool
 may_drop s n = list_any (λ k. is_conn n k && (k.is_closing || s.is_stopped)) s.conns || gives_way s n
 
-abbrev pub permits_dropped : State → ℕ → Bool
-permits_dropped s n = may_in Connecting (λ t. may_drop t n) s
-
 -- ---- the outside
-
-abbrev pub has_client : State → ℕ → Bool
-has_client s n = is_some (client s n)
 
 abbrev pub has_conn : State → ℕ → Bool
 has_conn s n = is_some (conn s n)
@@ -233,9 +212,9 @@ permits s (Opened n) = is_awaiting s && may_open s n
 permits s (CanRead n) = is_awaiting s
 permits s (CanWrite n) = is_awaiting s
 permits s (Heard c bytes) = permits_heard s c bytes
-permits s (HungUp c) = is_owed s c && has_client s c
+permits s (HungUp c) = is_owed s c && is_some (client s c)
 permits s (Said c offered bytes) = permits_said s c offered bytes
-permits s (Shut c) = permits_shut s c
+permits s (Shut c) = may_in Connecting (λ t. list_any (may_shut t c) t.clients) s
 permits s (Dialled n host port) = is_new_number s n && permits_dial s host port
 permits s (Undialled host port) = may_fail s false && permits_dial s host port
 permits s (Reached k) = is_awaiting s && has_conn s k
@@ -243,7 +222,7 @@ permits s (Ended k) = is_reading s.owed k && has_conn s k
 permits s (Broke k) = permits_broke s k
 permits s (Asked k bytes) = permits_asked s k bytes
 permits s (Got k bytes) = permits_got s k bytes
-permits s (Dropped k) = permits_dropped s k
+permits s (Dropped k) = may_in Connecting (λ t. may_drop t k) s
 permits s (NoneYet n) = is_reading s.owed n
 permits s (Began op) = permits_began s op
 permits s (Did op ok) = may_end_op s op && may_fail s ok

@@ -3,12 +3,12 @@ use Rattle.std.specs.Prelude.{ℕ, Bool, true, false, ◌&&◌, ◌||◌, not, L
 use Rattle.std.specs.List.{list_any}
 use Rattle.pp_text.specs.Bytes.{is_empty}
 use Rattle.pp_law.specs.Chunks.{victim}
-use Rattle.pp_law.specs.Connections.{placing, Pause, AllPlaced, WaitsDial, WaitsDrop}
+use Rattle.pp_law.specs.Connections.{placing, Pause, AllPlaced}
 use Rattle.pp_law.specs.Due.{first_due}
 use Rattle.pp_law.specs.Followers.{fill, give_up_asks}
 use Rattle.pp_law.specs.Opening.{is_at}
 use Rattle.pp_law.specs.Replies.{begin_replies}
-use Rattle.pp_law.specs.State.{State, Phase, Awaiting, Handling, Evicting, Keeping, Deciding, Following, Connecting, DecidingAgain, Owed, Free, ReadOf, WriteTo}
+use Rattle.pp_law.specs.State.{State, Phase, Awaiting, Handling, Evicting, Keeping, Deciding, Following, Connecting, DecidingAgain, Owed, Free}
 use Rattle.pp_law.specs.Store.{is_done_on_disk}
 use Rattle.pp_law.specs.Table.{pins}
 use Rattle.pp_law.specs.Unseen.{drop_unseen}
@@ -47,8 +47,7 @@ next s = behind s.phase s
 
 abbrev pub is_free : Owed → Bool
 is_free Free = true
-is_free (ReadOf n) = false
-is_free (WriteTo n) = false
+is_free owed = false
 
 -- the chunk that has to go next
 abbrev pub due_victim : State → Option (ℕ × ℕ)
@@ -59,8 +58,7 @@ has_closings s = list_any (λ c. c.is_closing) s.clients || list_any (λ k. k.is
 
 abbrev pub is_placed : Pause → Bool
 is_placed AllPlaced = true
-is_placed (WaitsDial e) = false
-is_placed (WaitsDrop k e) = false
+is_placed pause = false
 
 -- what was owed to the event was read or written; who left memory is noted, and no chunk has to go; the disk is at rest; nothing
 -- is due; nobody is left to be closed, and each exchange has its place, or none to go to

@@ -6,7 +6,7 @@ use Rattle.pp_pass.specs.Pipe.{without_first}
 use Rattle.pp_plan.specs.Requests.{is_head}
 use Rattle.pp_plan.specs.Spans.{resolved}
 use Rattle.pp_ranges.specs.declared.range.Resolved.{Resolved}
-use Rattle.pp_ranges.specs.declared.range.Resolved.TheVariants.{Whole as OfAll, Part as OfPart, Unsatisfiable as OfNone}
+use Rattle.pp_ranges.specs.declared.range.Resolved.TheVariants.{Part as OfPart}
 use Rattle.pp_reply.specs.Keeping.{is_end_known}
 use Rattle.pp_reply.specs.Kept.{whole_head, part_head, not_modified_head, unsatisfiable_page}
 use Rattle.pp_reply.specs.Texts.{passed_head}
@@ -20,7 +20,7 @@ use Rattle.pp_law.specs.Connections.{on_client, each_client, is_for}
 use Rattle.pp_law.specs.Lists.{Bytes, is_some_with}
 use Rattle.pp_law.specs.Requests.{Parsed, NoHeadYet, NoHead, IsRequest, keeps_open, has_request}
 use Rattle.pp_law.specs.Stages.{is_begun, is_headed, is_passing, on_passed, passed_of, reply_of}
-use Rattle.pp_law.specs.State.{State, Client, Exchange, Instance, Passed, Brought, Awaited, Useless, Joins, Passes, TooWide, Course, Trying, OutOfTries, AskTooLong, RowRefused, Undecided, Waiting, Passing, Answering, Reply}
+use Rattle.pp_law.specs.State.{State, Client, Exchange, Instance, Passed, Brought, Awaited, Joins, Course, Trying, RowRefused, Undecided, Waiting, Passing, Answering, Reply}
 use Rattle.pp_law.specs.Table.{source_of, next_of, Next, is_held, is_next_held, swept}
 
 -- ---- a reply begins at the end of a turn
@@ -45,20 +45,16 @@ begun_passed s r d c = elim (passed_of c) [
 -- ---- a reply by a row begins with the head that the table and the clock of then give
 
 abbrev pub has_plain_age : ℕ → Brought → Bool
-has_plain_age id Awaited = false
-has_plain_age id Useless = false
 has_plain_age id (Joins x plain) = (x == id) && plain
-has_plain_age id (Passes p) = false
-has_plain_age id TooWide = false
+has_plain_age id brought = false
 
 -- no age where the exchange of this very request just brought it, and told none
 abbrev pub age_shown : State → Client → Instance → Option ℕ
 age_shown s c x = elim (has_plain_age x.id c.brought) [ true ↦ None | false ↦ Some (age_of x.times s.clock) ]
 
 abbrev pub is_part : Resolved → Bool
-is_part OfAll = false
 is_part (OfPart from to) = true
-is_part OfNone = false
+is_part resolved = false
 
 abbrev pub body_head : State → Parsed → Client → Instance → ℕ × ℕ → Bytes
 body_head s r c x span = elim (is_part (resolved r.head.fields x.version)) [
@@ -205,10 +201,8 @@ end_replies s =
 -- ---- attempts
 
 abbrev pub anew : Course → Course
-anew (Trying n) = Trying 0
-anew OutOfTries = Trying 0
-anew AskTooLong = Trying 0
 anew RowRefused = RowRefused
+anew course = Trying 0
 
 -- ours: they count anew once the next byte is held
 abbrev pub regained_by : State → Client → Client

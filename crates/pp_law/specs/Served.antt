@@ -1,8 +1,8 @@
 -- What has to stand in the wants at the end of a turn, so that nobody waits on nothing. It is ours.
-use Rattle.std.specs.Prelude.{ℕ, ◌+◌, ◌/◌, Bool, true, false, ◌==◌, ◌&&◌, ◌||◌, not, nat_lt, nat_le, filter_map, length, Option, Some, None}
-use Rattle.std.specs.List.{list_any, list_all}
+use Rattle.std.specs.Prelude.{ℕ, ◌+◌, ◌/◌, Bool, true, false, ◌==◌, ◌&&◌, ◌||◌, not, nat_lt, nat_le, filter_map, length, Option, Some, None, max, List, [], ◌∷◌}
+use Rattle.std.specs.List.{list_any, list_all, reduce}
 use Rattle.pp_peers.specs.declared.placing.Placed.{Placed}
-use Rattle.pp_peers.specs.declared.placing.Placed.TheVariants.{On, Dial, CloseThenDial, Wait}
+use Rattle.pp_peers.specs.declared.placing.Placed.TheVariants.{Wait}
 use Rattle.pp_text.specs.Bytes.{is_empty}
 use Rattle.pp_world.specs.declared.event.Wants.{Wants}
 use Rattle.pp_law.specs.Asking.{has_room, left_to_ask, pipe_room}
@@ -15,7 +15,7 @@ use Rattle.pp_law.specs.Stages.{bound_of}
 use Rattle.pp_law.specs.State.{State, Bound, Client, Conn, Exchange}
 use Rattle.pp_law.specs.Table.{Next, instance, next_of, is_held, is_next_held, is_soon}
 use Rattle.pp_law.specs.Turn.{waits_for_exchange}
-use Rattle.pp_law.specs.Unseen.{at_of, furthest}
+use Rattle.pp_law.specs.Unseen.{at_of}
 
 abbrev pub wants_read : Wants → ℕ → Bool
 wants_read w n = has_number n w.read.items
@@ -61,7 +61,7 @@ read_at s b c = elim (is_some_with (is_brought_to s b) (next_of s c)) [ true ↦
 
 -- where the furthest of its readers stands
 abbrev pub furthest_read : State → Bound → Option ℕ
-furthest_read s b = furthest (filter_map (read_at s b) s.clients)
+furthest_read s b = reduce max (filter_map (read_at s b) s.clients)
 
 abbrev pub is_held_in : State → Bound → ℕ → Bool
 is_held_in s b at = is_some_with (λ x. is_held s x at) (instance s b.instance)
@@ -101,18 +101,13 @@ abbrev pub has_to_ask : State → Conn → Bool
 has_to_ask s k = list_any (λ n. is_some_with (λ e. not (is_empty (left_to_ask s e))) (exchange s n)) k.line
 
 abbrev pub is_conn_served : State → Wants → Conn → Bool
-is_conn_served s w k = elim k.is_reached [
-  | true ↦ same (has_to_ask s k) (wants_write w k.number) && reads_rightly s w k
-  | false ↦ true
-]
+is_conn_served s w k = not k.is_reached || (same (has_to_ask s k) (wants_write w k.number) && reads_rightly s w k)
 
 -- ---- exchanges
 
 abbrev pub is_nowhere : Placed → Bool
 is_nowhere Wait = true
-is_nowhere (On k) = false
-is_nowhere Dial = false
-is_nowhere (CloseThenDial k) = false
+is_nowhere placed = false
 
 -- it waits for more of the request's body
 abbrev pub waits_for_body : State → Exchange → Bool
@@ -138,10 +133,15 @@ may_write s n =
 abbrev pub wants_no_more : State → Wants → Bool
 wants_no_more s w = list_all (may_read s) w.read.items && list_all (may_write s) w.write.items
 
-abbrev pub is_served : State → Wants → Bool
-is_served s w =
+-- what a wait has to meet, in this order
+abbrev pub duties : State → Wants → List Bool
+duties s w =
     accepts_rightly s w
-    && (list_all (is_client_served s w) s.clients
-    && (list_all (is_conn_served s w) s.conns
-    && (list_all (is_exchange_served s w) s.exchanges
-    && wants_no_more s w)))
+    ∷ list_all (is_client_served s w) s.clients
+    ∷ list_all (is_conn_served s w) s.conns
+    ∷ list_all (is_exchange_served s w) s.exchanges
+    ∷ wants_no_more s w
+    ∷ []
+
+abbrev pub is_served : State → Wants → Bool
+is_served s w = list_all (λ is_met. is_met) (duties s w)

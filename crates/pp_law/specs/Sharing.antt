@@ -6,8 +6,8 @@ use Rattle.pp_world.specs.declared.note.Decision.{Decision}
 use Rattle.pp_world.specs.declared.note.Decision.TheVariants.{Validate, Fetch}
 use Rattle.pp_law.specs.Lists.{Bytes}
 use Rattle.pp_law.specs.Requests.{has_request, key_in}
-use Rattle.pp_law.specs.Stages.{is_headed}
-use Rattle.pp_law.specs.State.{State, Shared, Through, Own, Filling, Client, Exchange, Undecided, Waiting, Passing, Answering}
+use Rattle.pp_law.specs.Stages.{is_headed, is_own, is_undecided}
+use Rattle.pp_law.specs.State.{State, Shared, Client, Exchange}
 use Rattle.pp_law.specs.Decisions.{decide}
 
 -- it asks for what the cache may use for others
@@ -18,11 +18,7 @@ may_share d = false
 
 -- an ask for the whole of the key, or a check of it, whose answer has not come
 abbrev pub is_shared : Bytes → Exchange → Bool
-is_shared key e = elim e.aim [
-  | Own ↦ not (is_headed e) && not e.is_ranged && bytes_eq (text_of e.key) key
-  | Through ↦ false
-  | Filling v from to ↦ false
-]
+is_shared key e = elim (is_own e) [ true ↦ not (is_headed e) && not e.is_ranged && bytes_eq (text_of e.key) key | false ↦ false ]
 
 abbrev pub shared_ask : State → Client → Option ℕ
 shared_ask s c = elim (key_in c.front) [ None ↦ None | Some key ↦ option_map (λ e. e.number) (find (is_shared (text_of key)) s.exchanges) ]
@@ -47,9 +43,4 @@ due_undecided s c = elim c.waits_on [
 
 -- it waits for the answer to another client's ask
 abbrev pub is_sharing : State → Client → Bool
-is_sharing s c = elim c.stage [
-  | Undecided ↦ has_request c.front && not (is_some (due_undecided s c))
-  | Waiting ↦ false
-  | Passing ↦ false
-  | Answering r ↦ false
-]
+is_sharing s c = elim (is_undecided c.stage) [ true ↦ has_request c.front && not (is_some (due_undecided s c)) | false ↦ false ]

@@ -1,9 +1,10 @@
 -- Where the current request of a client is, and the response to an exchange.
 use Rattle.std.specs.Prelude.{Bool, true, false, not, Option, Some, None}
+use Rattle.pp_valid.specs.declared.version.Version.{Version}
 use Rattle.pp_world.specs.declared.note.Decision.{Decision}
 use Rattle.pp_world.specs.declared.note.Decision.TheVariants.{Refuse, Hit, Part, Relay, Pass}
 use Rattle.pp_law.specs.Lists.{is_some_with}
-use Rattle.pp_law.specs.State.{Client, Undecided, Waiting, Passing, Answering, Reply, Awaited, Useless, Joins, Passes, TooWide, Passed, Exchange, Bound, Body, Pending, Joining, Relaying, Dropping}
+use Rattle.pp_law.specs.State.{Client, Undecided, Waiting, Passing, Answering, Reply, Awaited, Useless, Joins, Passes, TooWide, Passed, Exchange, Bound, Body, Pending, Joining, Through, Own, Filling, Stage}
 
 abbrev pub reply_of : Client → Option Reply
 reply_of c = elim c.stage [ Undecided ↦ None | Waiting ↦ None | Passing ↦ None | Answering r ↦ Some r ]
@@ -33,21 +34,33 @@ passed_of c = elim c.brought [ Awaited ↦ None | Useless ↦ None | Joins id pl
 abbrev pub on_passed : (Passed → Passed) → Client → Client
 on_passed f c = elim (passed_of c) [ None ↦ c | Some p ↦ record c { brought = Passes (f p) } ]
 
+abbrev pub is_undecided : Stage → Bool
+is_undecided Undecided = true
+is_undecided stage = false
+
 -- ---- of an exchange
+
+abbrev pub is_through : Exchange → Bool
+is_through e = elim e.aim [ Through ↦ true | Own ↦ false | Filling v from to ↦ false ]
+
+abbrev pub is_own : Exchange → Bool
+is_own e = elim e.aim [ Through ↦ false | Own ↦ true | Filling v from to ↦ false ]
 
 abbrev pub is_pending : Body → Bool
 is_pending Pending = true
 is_pending body = false
+
+-- the version that it fills a hole of
+abbrev pub filled_of : Exchange → Option Version
+filled_of e = elim e.aim [ Through ↦ None | Own ↦ None | Filling v from to ↦ Some v ]
 
 -- the head of its final response came
 abbrev pub is_headed : Exchange → Bool
 is_headed e = not (is_pending e.body)
 
 abbrev pub bound_in : Body → Option Bound
-bound_in Pending = None
 bound_in (Joining b) = Some b
-bound_in Relaying = None
-bound_in Dropping = None
+bound_in body = None
 
 abbrev pub bound_of : Exchange → Option Bound
 bound_of e = bound_in e.body

@@ -189,10 +189,8 @@ may_note_gone s key = is_idle_disk s && is_empty s.agenda.todo && list_any (λ e
 -- ---- operations
 
 abbrev pub is_first_todo : DiskOp → List Todo → Bool
-is_first_todo op [] = false
 is_first_todo op (Do next ∷ todo) = is_same_op next op
-is_first_todo op (Enter e ∷ todo) = false
-is_first_todo op (Acknowledge key tag n extent ∷ todo) = false
+is_first_todo op todo = false
 
 -- what may be begun of a row: its draft, or the sealing of a run
 abbrev pub plan_of : State → DiskOp → Instance → Option Agenda
@@ -242,10 +240,7 @@ close_name name s = record s { closed_names = name ∷ without (bytes_eq name) s
 abbrev pub is_of_draft : DiskOp → Bool
 is_of_draft (Draft bytes) = true
 is_of_draft SyncDraft = true
-is_of_draft (Publish name) = false
-is_of_draft (Write name at bytes) = false
-is_of_draft (Sync name) = false
-is_of_draft (Remove name) = false
+is_of_draft op = false
 
 unfoldable pub lose_draft : State → State
 lose_draft s = record s { has_lost_draft = true; agenda = no_agenda; failures = s.failures + 1 }
@@ -267,10 +262,8 @@ lose_entry name s = record s { entries = without (is_named name) s.entries }
 -- ---- how far an entry reaches
 
 abbrev pub is_acknowledged_as : Bytes → Bytes → ℕ → ℕ → List Todo → Bool
-is_acknowledged_as key tag n extent [] = false
-is_acknowledged_as key tag n extent (Do op ∷ todo) = false
-is_acknowledged_as key tag n extent (Enter e ∷ todo) = false
 is_acknowledged_as key tag n extent (Acknowledge k t m end ∷ todo) = bytes_eq k key && bytes_eq t tag && (m == n) && (end == extent)
+is_acknowledged_as key tag n extent todo = false
 
 abbrev pub extended : ℕ → Entry → Entry
 extended extent e = record e { extent = extent }

@@ -1,5 +1,6 @@
 -- What a response that is passed tells of rows: what an unsafe method changed, and what HEAD and GET show (RFC 2616, sections 9.4 and 13.10).
-use Rattle.std.specs.Prelude.{Bool, true, false, ◌==◌, ◌&&◌, ◌||◌, not, nat_lt, nat_le, List, [], ◌∷◌, ◌++◌, bytes_eq, codes, Option, Some, None, Ok, Err}
+use Rattle.std.specs.Prelude.{Bool, true, false, ◌==◌, ◌&&◌, ◌||◌, not, nat_lt, nat_le, List, [], ◌∷◌, ◌++◌, bytes_eq, codes, Option, Some, None, Ok, Err, nat_eq}
+use Rattle.std.specs.List.{starts_with}
 use Rattle.pp_framing.specs.declared.body.BodyRule.{BodyRule}
 use Rattle.pp_head.specs.Response.{Response}
 use Rattle.pp_plan.specs.Requests.{is_get, is_head}
@@ -20,8 +21,7 @@ invalidates e head = not (is_safe e.head) && nat_le 200 head.status && nat_lt he
 
 -- Location and Content-Location: a URL, or a path of the same host
 abbrev pub path_named : Key → Bytes → Option Key
-path_named key [] = None
-path_named key (b ∷ text) = elim (b == 47) [ true ↦ Some (record key { path = b ∷ text }) | false ↦ None ]
+path_named key text = elim (starts_with nat_eq text (codes "/")) [ true ↦ Some (record key { path = text }) | false ↦ None ]
 
 abbrev pub key_named : Key → Bytes → Option Key
 key_named key text = elim (key_at text) [ Ok named ↦ Some named | Err fault ↦ path_named key text ]

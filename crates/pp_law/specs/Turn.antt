@@ -86,10 +86,7 @@ abbrev pub awaited_by : State → Client → Option Shared
 awaited_by s c = elim c.waits_on [ Some w ↦ Some w | None ↦ shared_with s c ]
 
 abbrev pub rested_client : State → Client → Client
-rested_client s c = record c {
-  waits_on = awaited_by s c;
-  is_new = false;
-}
+rested_client s c = record c { waits_on = awaited_by s c; is_new = false }
 
 abbrev pub is_waited_for : Wants → Conn → Bool
 is_waited_for w k = not k.is_reached || has_number k.number w.read.items || has_number k.number w.write.items

@@ -1,12 +1,12 @@
 -- What nobody will see is not read: its connection is closed, and the others of its line are asked elsewhere (RFC 2616, section 8.1.4).
-use Rattle.std.specs.Prelude.{ℕ, Bool, true, false, ◌==◌, ◌&&◌, ◌||◌, not, nat_lt, max, List, [], ◌∷◌, fold, filter_map, length, map, is_some, Option, Some, None}
-use Rattle.std.specs.List.{list_any}
+use Rattle.std.specs.Prelude.{ℕ, Bool, true, false, ◌==◌, ◌&&◌, ◌||◌, not, nat_lt, max, filter_map, length, map, is_some, Option, Some, None}
+use Rattle.std.specs.List.{list_any, reduce}
 use Rattle.pp_plan.specs.Need.{is_near}
 use Rattle.pp_law.specs.Connections.{each_conn, front_of_line, close_conn, end_exchange}
 use Rattle.pp_law.specs.Lists.{is_some_with}
 use Rattle.pp_law.specs.Responses.{payload_of}
-use Rattle.pp_law.specs.Stages.{bound_of}
-use Rattle.pp_law.specs.State.{State, Through, Own, Filling, Bound, Pending, Joining, Relaying, Dropping, Client, Conn, Exchange}
+use Rattle.pp_law.specs.Stages.{bound_of, is_through}
+use Rattle.pp_law.specs.State.{State, Bound, Pending, Joining, Relaying, Dropping, Client, Conn, Exchange}
 use Rattle.pp_law.specs.Table.{next_of, is_soon}
 
 -- ---- how far a body is wanted
@@ -15,12 +15,8 @@ use Rattle.pp_law.specs.Table.{next_of, is_soon}
 abbrev pub at_of : State → Bound → Client → Option ℕ
 at_of s b c = elim (next_of s c) [ None ↦ None | Some n ↦ elim (n.source.id == b.instance) [ true ↦ Some n.at | false ↦ None ] ]
 
-abbrev pub furthest : List ℕ → Option ℕ
-furthest [] = None
-furthest (at ∷ ats) = Some (fold max at ats)
-
 abbrev pub furthest_at : State → Bound → Option ℕ
-furthest_at s b = furthest (filter_map (at_of s b) s.clients)
+furthest_at s b = reduce max (filter_map (at_of s b) s.clients)
 
 -- where the furthest of them stood at the last wait, or the first offset where nobody ever followed
 abbrev pub wanted_to : State → Bound → Bound
@@ -45,9 +41,6 @@ drop_limit = 65536
 
 abbrev pub came_of : Conn → ℕ
 came_of k = elim k.answer [ None ↦ 0 | Some a ↦ length (payload_of a) ]
-
-abbrev pub is_through : Exchange → Bool
-is_through e = elim e.aim [ Through ↦ true | Own ↦ false | Filling v from to ↦ false ]
 
 -- of the first exchange of a line
 abbrev pub is_unseen : State → Conn → Exchange → Bool

@@ -21,9 +21,9 @@ use Rattle.pp_law.specs.Offers.{has_to_say}
 use Rattle.pp_law.specs.Permits.{is_permitted, IsPermitted, permits, may_wait}
 use Rattle.pp_law.specs.Phases.{ending}
 use Rattle.pp_law.specs.Requests.{Front, NoHeadYet, NoHead, IsRequest, has_request, key_in}
-use Rattle.pp_law.specs.Served.{accepts_rightly, has_full_pipe, has_to_ask, is_client_served, is_conn_served, is_exchange_served, is_furthest, is_held_back, is_nowhere, is_served, is_stopped, is_waiting, reads_first, reads_rightly, same, waits_for_body, wants_no_more, wants_read, wants_write}
+use Rattle.pp_law.specs.Served.{duties, has_full_pipe, has_to_ask, is_client_served, is_conn_served, is_exchange_served, is_furthest, is_held_back, is_nowhere, is_served, is_stopped, is_waiting, reads_first, reads_rightly, same, waits_for_body, wants_no_more, wants_read, wants_write}
 use Rattle.pp_law.specs.Sharing.{due_first, due_undecided, is_awaited, is_patient, is_shared, is_sharing, may_share, shared_ask}
-use Rattle.pp_law.specs.Stages.{is_headed}
+use Rattle.pp_law.specs.Stages.{is_headed, is_own, is_undecided}
 use Rattle.pp_law.specs.State.{State, Aim, Through, Own, Filling, Shared, Client, Conn, Exchange, Stage, Undecided, Waiting, Passing, Answering}
 use Rattle.pp_law.specs.Table.{Next, brings, next_of}
 use Rattle.pp_law.specs.Turn.{waits_for, waits_for_exchange}
@@ -31,6 +31,11 @@ use Rattle.pp_laws.specs.Runs.{after_all, IsIn}
 use Rattle.pp_laws.proofs.Lists.{in_find}
 use Rattle.pp_laws.proofs.Tests.{first_holds, same_number, second_holds}
 use Rattle.pp_laws_waits.specs.Waits.{GoesOn, IsAskedForBoth, IsHeldBack, IsPlaced, IsServed, WaitsFor, dialled, held_back, in_line, its_next, its_own, may_ask, nowhere, read, shared, waits, written, written_to}
+
+pub all_in : {A : Type 0} (p : A → Bool) (x : A) (xs : List A) → list_all p xs ≡ true → IsIn x xs → p x ≡ true
+all_in p x [] all i = absurd i
+all_in p x (y ∷ ys) all (inl e) = ap p e ∙ first_holds (p y) (list_all p ys) all
+all_in p x (y ∷ ys) all (inr i) = all_in p x ys (second_holds (p y) (list_all p ys) all) i
 
 -- ---- what was permitted
 
@@ -58,21 +63,13 @@ pub record Parts (s : State) (w : Wants) : Type 0 where
 
 pub parts_of : (s : State) (w : Wants) → is_served s w ≡ true → Parts s w
 parts_of s w is =
-    let one = second_holds (accepts_rightly s w) (list_all (is_client_served s w) s.clients && (list_all (is_conn_served s w) s.conns && (list_all (is_exchange_served s w) s.exchanges && wants_no_more s w))) is in
-    let two = second_holds (list_all (is_client_served s w) s.clients) (list_all (is_conn_served s w) s.conns && (list_all (is_exchange_served s w) s.exchanges && wants_no_more s w)) one in
-    let three = second_holds (list_all (is_conn_served s w) s.conns) (list_all (is_exchange_served s w) s.exchanges && wants_no_more s w) two in
     record {
-      clients = first_holds (list_all (is_client_served s w) s.clients) _ one;
-      conns = first_holds (list_all (is_conn_served s w) s.conns) _ two;
-      exchanges = first_holds (list_all (is_exchange_served s w) s.exchanges) _ three;
+      clients = all_in (λ is_met. is_met) _ (duties s w) is (inr (inl refl));
+      conns = all_in (λ is_met. is_met) _ (duties s w) is (inr (inr (inl refl)));
+      exchanges = all_in (λ is_met. is_met) _ (duties s w) is (inr (inr (inr (inl refl))));
     }
 
 -- ---- lists
-
-pub all_in : {A : Type 0} (p : A → Bool) (x : A) (xs : List A) → list_all p xs ≡ true → IsIn x xs → p x ≡ true
-all_in p x [] all i = absurd i
-all_in p x (y ∷ ys) all (inl e) = ap p e ∙ first_holds (p y) (list_all p ys) all
-all_in p x (y ∷ ys) all (inr i) = all_in p x ys (second_holds (p y) (list_all p ys) all) i
 
 pub either : (a b : Bool) → (a || b) ≡ true → (a ≡ true) ⊎ (b ≡ true)
 either true b is = inl refl
@@ -113,12 +110,7 @@ first_of_three true b c is = absurd (cc is)
 first_of_three false b c is = refl
 
 not_headed : (key : Bytes) (e : Exchange) → is_shared key e ≡ true → is_headed e ≡ false
-not_headed key e is = by e.aim is
-  where
-    by : (a : Aim) → (elim a as (λ x. Bool) [ Own ↦ not (is_headed e) && not e.is_ranged && bytes_eq (text_of e.key) key | Through ↦ false | Filling v from to ↦ false ]) ≡ true → is_headed e ≡ false
-    by Through at = absurd (cc at)
-    by Own at = first_of_three (is_headed e) (not e.is_ranged) (bytes_eq (text_of e.key) key) at
-    by (Filling v from to) at = absurd (cc at)
+not_headed key e is = first_of_three (is_headed e) (not e.is_ranged) (bytes_eq (text_of e.key) key) (chosen (is_own e) _ is).1
 
 -- it is there, and another asked for both by it
 pub IsSharedThere : State → Client → Type 0
@@ -170,13 +162,9 @@ nothing_due None is = refl
 nothing_due (Some d) is = absurd (cc is)
 
 shared_there : (s : State) (c : Client) → is_sharing s c ≡ true → IsSharedThere s c
-shared_there s c is = by c.stage is
-  where
-    by : (stage : Stage) → (elim stage as (λ x. Bool) [ Undecided ↦ has_request c.front && not (is_some (due_undecided s c)) | Waiting ↦ false | Passing ↦ false | Answering r ↦ false ]) ≡ true → IsSharedThere s c
-    by Undecided at = shared_undecided s c (first_holds (has_request c.front) (not (is_some (due_undecided s c))) at) (nothing_due (due_undecided s c) (second_holds (has_request c.front) (not (is_some (due_undecided s c))) at))
-    by Waiting at = absurd (cc at)
-    by Passing at = absurd (cc at)
-    by (Answering r) at = absurd (cc at)
+shared_there s c is =
+    let both = (chosen (is_undecided c.stage) _ is).1 in
+    shared_undecided s c (first_holds (has_request c.front) (not (is_some (due_undecided s c))) both) (nothing_due (due_undecided s c) (second_holds (has_request c.front) (not (is_some (due_undecided s c))) both))
 
 for_exchange : (s : State) (w : Wants) (c : Client) → waits_for_exchange s c ≡ true → IsServed s w c
 unfolding IsSharedThere
@@ -269,6 +257,6 @@ conn_served s w k well is = by k.is_reached refl is
     rightly writes None none at = read at
     rightly writes (Some e) first at = asking e first writes (either (not (is_outstanding e)) (reads_first s w k e) at)
 
-    by : (t : Bool) → k.is_reached ≡ t → (elim t as (λ x. Bool) [ true ↦ same (has_to_ask s k) (wants_write w k.number) && reads_rightly s w k | false ↦ true ]) ≡ true → GoesOn s w k
+    by : (t : Bool) → k.is_reached ≡ t → (not t || (same (has_to_ask s k) (wants_write w k.number) && reads_rightly s w k)) ≡ true → GoesOn s w k
     by true reached at = rightly (first_holds (same (has_to_ask s k) (wants_write w k.number)) (reads_rightly s w k) at) (front_of_line s k) refl (second_holds (same (has_to_ask s k) (wants_write w k.number)) (reads_rightly s w k) at)
     by false isnt at = dialled isnt
