@@ -62,18 +62,18 @@ def body_of(text):
     return text.partition(b"\r\n\r\n")[2]
 
 
-def serve_whole(world, path, body):
-    """The origin has this body: whole, or the range that it is asked for (RFC 7233, section 4)."""
+def serve_whole(world, path, body, **pace):
+    """The origin has this body: whole, or the range that it is asked for (RFC 7233, section 4), sent at once or at this pace."""
     date = now()
 
     def answer(ask):
         wanted = ask.field(b"range")
         if wanted is None:
-            return Answer(fresh(body, date))
+            return Answer(fresh(body, date), **pace)
         first, last = span_of(wanted, len(body))
         if first > last:
             return Answer(response(b"", b"Content-Range: bytes */%d" % len(body), status=b"416 Range Not Satisfiable"))
-        return Answer(part(body, wanted, b"Date: " + date, b"ETag: " + TAG, FRESH))
+        return Answer(part(body, wanted, b"Date: " + date, b"ETag: " + TAG, FRESH), **pace)
 
     world.origin.on(path, answer)
     return date
@@ -253,8 +253,8 @@ def random_load(world, bodies, choose, is_killed):
 
 
 def watch_folder(world, extents, is_killed):
-    """Reads the folder again and again until the program is killed, and notes how much of each body it vouches for: never less than
-    before, since no page changes, and nothing that is kept is replaced or withdrawn."""
+    """Reads the folder again and again until the program is killed, and notes how much of each body it vouches for: never less
+    than before, since no page changes, and so nothing that is kept is replaced or withdrawn."""
     while not is_killed.is_set():
         for path, before in list(extents.items()):
             extent = extent_of(world, path)
@@ -264,12 +264,15 @@ def watch_folder(world, extents, is_killed):
 
 
 def kill_under_load(world, bodies, extents, choose):
-    """Loads the program, watches its folder, and kills it at a random moment. Answers how much of each body was seen to be
-    acknowledged before that."""
+    """Loads the program, watches its folder, and kills it after a random time, or before where so much is kept. Answers how much
+    of each body was seen to be acknowledged before that."""
     is_killed, seen = threading.Event(), {}
+    enough = choose.randint(sum(extents.values()), sum(map(len, bodies.values())))
+    latest = time.monotonic() + choose.uniform(0.02, 0.6)
 
     def kill():
-        time.sleep(choose.uniform(0.02, 0.6))
+        while time.monotonic() < latest and sum(extents.values()) < enough:
+            time.sleep(0.001)
         seen.update(extents)
         is_killed.set()
         world.stop()
@@ -317,7 +320,8 @@ def what_was_acknowledged_outlives_kills_under_load_and_no_reply_has_a_wrong_byt
     try:
         with world.anew("diskRun=4") as proxy:
             for path, body in bodies.items():
-                serve_whole(proxy, path, body)
+                # Slowly enough that a kill finds bodies that came in part, on the fastest disk too.
+                serve_whole(proxy, path, body, piece=50_000, pause=0.002)
             extents, deadline = dict.fromkeys(bodies, 0), time.monotonic() + KILLING_SECONDS
             while kills < KILLS and time.monotonic() < deadline:
                 if all(extents[path] == len(body) for path, body in bodies.items()):
@@ -337,8 +341,8 @@ def what_was_acknowledged_outlives_kills_under_load_and_no_reply_has_a_wrong_byt
         raise Failed(f"{failure}\n    with seed {seed}")
     holds(growing, "kills while some body was kept in part")
     return (
-        f"{kills} kills, {growing} of them where a body was kept in part; demanded {len(demanded)} extents of {sum(demanded)} bytes, "
-        f"{new_bytes} of which were acknowledged in the life that was killed"
+        f"{kills} kills, {growing} of them where a body was kept in part; demanded {len(demanded)} extents of {sum(demanded)} "
+        f"bytes, {new_bytes} of which were acknowledged in the life that was killed"
     )
 
 
