@@ -1,7 +1,7 @@
 -- What the law refuses: bytes on record of which nothing came, and bytes of a response that has not so many.
-use Rattle.std.proofs.Common.{◌≡◌, refl, ℕ, List, [], ◌∷◌, ◌++◌, sym, ap, ◌∙◌}
-use Rattle.pp_head.specs.Read.{Read, Whole, More}
-use Rattle.pp_head.specs.Response.{Response, response_at}
+use Rattle.std.proofs.Common.{◌≡◌, refl, ℕ, [], ◌∷◌, ◌++◌, sym, ap, ◌∙◌}
+use Rattle.pp_head.specs.Read.{Whole, More}
+use Rattle.pp_head.specs.Response.{response_at}
 use Rattle.pp_law.specs.Lists.{Bytes}
 use Rattle.pp_law.specs.State.{Sent, Exchange}
 use Rattle.pp_laws_pool.proofs.PoolFacts.{nothing_read}
