@@ -1,0 +1,5 @@
+pub mod Dues
+pub mod Fates
+pub mod Fronts
+pub mod Nexts
+pub mod Stages
