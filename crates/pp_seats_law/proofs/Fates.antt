@@ -46,6 +46,7 @@ open_with name owed seat c new course given_up shows stays same = record {
   mark = shows.mark;
   heard = shows.heard;
   body = shows.body;
+  over = shows.over;
   front = shows.front;
   body_left = shows.body_left;
   index = shows.index;

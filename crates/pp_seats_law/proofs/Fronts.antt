@@ -99,7 +99,7 @@ shows_asked key refusal framing head of is = record {
 
 -- ---- what stands at the front
 
-abbrev front_from : Heading → Front
+abbrev pub front_from : Heading → Front
 front_from Nothing = NoHeadYet
 front_from Begun = NoHeadYet
 front_from (IsAsked head fault) = IsRequest (parsed_of head)

@@ -1,5 +1,7 @@
+pub mod Begins
 pub mod Dues
 pub mod Fates
 pub mod Fronts
 pub mod Nexts
 pub mod Stages
+pub mod Uses

@@ -103,7 +103,7 @@ answer_next s said a r (Some id) is shows there = by (there (number_of id) (sym 
 abbrev pub reply_in : Stage → Option Reply
 reply_in stage = elim stage [ Undecided ↦ None | Waiting ↦ None | Passing ↦ None | Answering r ↦ Some r ]
 
-abbrev next_in_stage : State → Stage → Option Next
+abbrev pub next_in_stage : State → Stage → Option Next
 next_in_stage s stage = elim (reply_in stage) [ None ↦ None | Some r ↦ next_in s r ]
 
 stage_next : (s : State) (said : Said) (stage : SeatStage) (other : Stage) → ShowsStage said stage other → ((r : Reply) (id : ℕ) → reply_in other ≡ Some r → r.source ≡ Some id → (x : Instance) × (instance s id ≡ Some x))

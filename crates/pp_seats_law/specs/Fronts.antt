@@ -1,13 +1,13 @@
 -- How what a client sent stands for its current request in the law (RFC 2616, sections 4.4, 5 and 8.2.3).
-use Rattle.std.specs.Prelude.{◌≡◌, ◌⊎◌, ℕ, false, is_ok, ◌++◌, Option, Some, None, Ok, ⊤}
+use Rattle.std.specs.Prelude.{◌≡◌, ◌⊎◌, ℕ, Bool, true, false, not, is_ok, ◌++◌, Option, Some, None, Ok, ⊤}
 use Rattle.pp_client.specs.Requests.{Heard}
 use Rattle.pp_client.specs.declared.body.Body.{Body}
 use Rattle.pp_client.specs.declared.body.Body.TheVariants.{Unread, Dropped, Over}
 use Rattle.pp_pipe.specs.Authentication.{binds_connection}
 use Rattle.pp_plan.specs.Requests.{is_head}
 use Rattle.pp_target.specs.Key.{key_in}
-use Rattle.pp_law.specs.Lists.{Bytes}
-use Rattle.pp_law.specs.Requests.{Front, Parsed, NoHeadYet, NoHead, IsRequest, body_len_by, expects_interim, front_of, is_asked_once, is_safe, keeps_open, refusal_of}
+use Rattle.pp_law.specs.Lists.{Bytes, is_some_with}
+use Rattle.pp_law.specs.Requests.{Front, Parsed, NoHeadYet, NoHead, IsRequest, body_len_by, expects_interim, front_of, is_asked_once, is_safe, keeps_open, parsed_in, refusal_of}
 use Rattle.pp_seats.specs.declared.front.Asked.{Asked}
 use Rattle.pp_seats.specs.declared.front.Front.{Front as SeatFront}
 use Rattle.pp_seats.specs.declared.front.Front.TheVariants.{NoHeadYet as NoneYet, NoHead as NoneThere, Request}
@@ -43,6 +43,15 @@ abbrev pub ShowsBody : Body → ℕ → ℕ → Type 0
 ShowsBody (Unread n) left skip = (left ≡ n) × (skip ≡ 0)
 ShowsBody (Dropped n) left skip = (left ≡ 0) × (skip ≡ n)
 ShowsBody Over left skip = (left ≡ 0) × (skip ≡ 0)
+
+-- the end of its body cannot be told
+abbrev pub is_over : Body → Bool
+is_over (Unread n) = false
+is_over (Dropped n) = false
+is_over Over = true
+
+abbrev pub has_no_end : Front → Bool
+has_no_end front = is_some_with (λ r. not (is_ok r.rule)) (parsed_in front)
 
 -- the current request stands at the front of what was heard, and behind its head what counts
 pub record ShowsHeard (h : Heard) (front : Front) (heard : Bytes) : Type 0 where

@@ -1,3 +1,4 @@
+pub mod Begins
 pub mod Dues
 pub mod Fates
 pub mod Fronts

@@ -4,7 +4,7 @@ use Rattle.pp_law.specs.Lists.{Bytes}
 use Rattle.pp_law.specs.Stages.{reply_of}
 use Rattle.pp_law.specs.State.{Client, Reply}
 use Rattle.pp_seats.specs.declared.seat.Seat.{Seat}
-use Rattle.pp_seats_law.specs.Fronts.{ShowsBody, ShowsFront, ShowsHeard}
+use Rattle.pp_seats_law.specs.Fronts.{ShowsBody, ShowsFront, ShowsHeard, has_no_end, is_over}
 use Rattle.pp_seats_law.specs.Replies.{ShowsFate, ShowsInterim, ShowsStage, shared_of}
 
 -- what of its reply is said before the body
@@ -19,6 +19,7 @@ pub record ShowsOpen (name : Bytes) (owed : List Bytes) (seat : Seat) (c : Clien
   pub mark : seat.client.mark ≡ c.mark
   pub heard : ShowsHeard seat.client.heard c.front c.heard
   pub body : ShowsBody seat.client.heard.body c.body_left c.skip
+  pub over : is_over seat.client.heard.body ≡ has_no_end c.front
   pub front : ShowsFront seat.front c.front
   pub body_left : seat.body_left ≡ c.body_left
   pub index : seat.index ≡ c.index

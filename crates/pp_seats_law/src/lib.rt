@@ -19,4 +19,4 @@ mod words; // how far a request and its reply are
 pub use courses::{courses_are_the_laws, rows_leave_as_the_laws};
 pub use deciding::dues_are_the_laws;
 pub use heads::fronts_are_the_laws;
-pub use words::{nexts_are_the_laws, stages_are_the_laws};
+pub use words::{nexts_are_the_laws, seats_begin_as_the_laws, stages_are_the_laws};
