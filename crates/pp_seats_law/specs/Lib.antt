@@ -1,5 +1,6 @@
 pub mod Begins
 pub mod Dues
+pub mod Errands
 pub mod Fates
 pub mod Fronts
 pub mod Heads

@@ -13,10 +13,12 @@
 
 mod courses; // how a request fares
 mod deciding; // what is due
+mod exchanges; // what an exchange is for
 mod heads; // what is kept of a head
 mod words; // how far a request and its reply are
 
 pub use courses::{courses_are_the_laws, rows_leave_as_the_laws};
 pub use deciding::dues_are_the_laws;
+pub use exchanges::errands_are_the_laws;
 pub use heads::fronts_are_the_laws;
 pub use words::{nexts_are_the_laws, seats_begin_as_the_laws, stages_are_the_laws};
