@@ -44,7 +44,7 @@ pub record IsBegunAs (text : Bytes) (at to : ℕ) (a : Answer) (r : Reply) : Typ
   pub next : r.at ≡ at
   pub end : r.to ≡ to
 
--- where the answer began is not read any more: the client knows how far it is
+-- where the answer begins, and of one without a body where it ends, is not read any more: the client knows how far it is
 abbrev pub ShowsBegin : Begin → Bytes → Answer → Reply → Type 0
 ShowsBegin Page text a r = IsBegunAs text r.to r.to a r × (a.source ≡ None) × (is_passing r.decision ≡ false)
 ShowsBegin (Instance id next to) text a r = IsBegunAs text next to a r × (a.source ≡ Some id) × (a.to ≡ to) × (is_passing r.decision ≡ false)
