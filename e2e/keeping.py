@@ -4,6 +4,7 @@ import hashlib
 import os
 import pathlib
 import random
+import re
 import subprocess
 import tempfile
 import threading
@@ -12,7 +13,7 @@ import time
 from caching import now, said
 from folders import PUBLISHED, TRACE, called, calls_in, entry, small
 from harness import Failed, case, equal, holds, lasting, need, ran, together
-from kills import kept_in
+from kills import CHUNK, GATES_AT, extent_in, gates_in, kept_in
 from network import free_port, wait_until_it_listens
 from origin import Answer, lines, noise, part, response, span_of
 from world import Client
@@ -26,7 +27,6 @@ MOVED = b"polipo: the disk cache was moved, and nothing more is kept\n"
 # So many kills, in so many seconds at most; KILLS=200 in the environment makes more of them.
 KILLS = int(os.environ.get("KILLS", 12))
 KILLING_SECONDS = 4 * KILLS
-CHUNK = 4096
 
 
 def fresh(body, date):
@@ -47,8 +47,7 @@ def entries(world):
 
 
 def extent_of(world, path):
-    file = file_of(world, path)
-    return kept_in(file)[0] if file.exists() else 0
+    return extent_in(file_of(world, path))
 
 
 def wait_for_extent(world, path, least):
@@ -63,15 +62,18 @@ def body_of(text):
     return text.partition(b"\r\n\r\n")[2]
 
 
-def serve_whole(world, path, body):
-    """The origin has this body: whole, or the range that it is asked for."""
+def serve_whole(world, path, body, **pace):
+    """The origin has this body: whole, or the range that it is asked for (RFC 7233, section 4), sent at once or at this pace."""
     date = now()
 
     def answer(ask):
         wanted = ask.field(b"range")
         if wanted is None:
-            return Answer(fresh(body, date))
-        return Answer(part(body, wanted, b"Date: " + date, b"ETag: " + TAG, FRESH))
+            return Answer(fresh(body, date), **pace)
+        first, last = span_of(wanted, len(body))
+        if first > last:
+            return Answer(response(b"", b"Content-Range: bytes */%d" % len(body), status=b"416 Range Not Satisfiable"))
+        return Answer(part(body, wanted, b"Date: " + date, b"ETag: " + TAG, FRESH), **pace)
 
     world.origin.on(path, answer)
     return date
@@ -229,64 +231,119 @@ def bodies_larger_than_memory_are_read_from_the_disk_by_many(world):
 
 # ---- kills under load
 
+LENGTHS = [5, 4095, 4096, 4097, 20_000, 65_536, 100_000, 300_000, 1_000_000, 3_000_000]
 
-def random_load(world, paths, bodies, choose, stops):
-    """Reads random bodies and parts until it is told to stop, and sees that no byte is wrong."""
-    while not stops.is_set():
-        path = choose.choice(paths)
+
+def random_load(world, bodies, choose, is_killed):
+    """Reads random bodies and parts until the program is killed, and sees that no byte is wrong, and until then none missing."""
+    while not is_killed.is_set():
+        path = choose.choice(list(bodies))
         body = bodies[path]
         first = choose.randrange(len(body))
         last = min(len(body) - 1, first + choose.choice((10, 5_000, 100_000, len(body))))
         fields = [] if choose.random() < 0.5 else [b"Range: bytes=%d-%d" % (first, last)]
         wanted = body[first : last + 1] if fields else body
         try:
-            text = said(world, path, *fields)[0]
+            came = body_of(said(world, path, *fields)[0])
         except OSError:
+            holds(is_killed.is_set(), f"a reply for {path} before the kill")
             continue
-        came = body_of(text)
         holds(wanted.startswith(came), f"a front of the bytes of {path} from {first} on in place of {came[:40]!r}..")
+        holds(came == wanted or is_killed.is_set(), f"the bytes of {path} from {first} on, whole before the kill")
+
+
+def watch_folder(world, extents, is_killed):
+    """Reads the folder again and again until the program is killed, and notes how much of each body it vouches for: never less
+    than before, since no page changes, and so nothing that is kept is replaced or withdrawn."""
+    while not is_killed.is_set():
+        for path, before in list(extents.items()):
+            extent = extent_of(world, path)
+            holds(extent >= before, f"{before} bytes of {path} in the folder, as before, in place of {extent}")
+            extents[path] = extent
+        time.sleep(0.001)
+
+
+def kill_under_load(world, bodies, extents, choose):
+    """Loads the program, watches its folder, and kills it after a random time, or before where so much is kept. Answers how much
+    of each body was seen to be acknowledged before that."""
+    is_killed, seen = threading.Event(), {}
+    enough = choose.randint(sum(extents.values()), sum(map(len, bodies.values())))
+    latest = time.monotonic() + choose.uniform(0.02, 0.6)
+
+    def kill():
+        while time.monotonic() < latest and sum(extents.values()) < enough:
+            time.sleep(0.001)
+        seen.update(extents)
+        is_killed.set()
+        world.stop()
+
+    def watch():
+        watch_folder(world, extents, is_killed)
+
+    def reader(seed):
+        def read():
+            random_load(world, bodies, random.Random(seed), is_killed)
+
+        return read
+
+    readers = [reader(choose.randrange(1 << 32)) for _ in range(4)]
+    equal(together([*readers, watch, kill]), [], "failures")
+    return seen
+
+
+def expect_kept(world, bodies, seen):
+    """The folder of the stopped program has what was seen in it, and no wrong byte; started, it serves that, and asks nobody for
+    it. Answers how much of each body there is."""
+    extents = {}
+    for path, body in bodies.items():
+        file = file_of(world, path)
+        extents[path], data = kept_in(file) if file.exists() else (0, b"")
+        equal(data, body[: extents[path]], f"what the folder vouches for of {path}")
+        holds(extents[path] >= seen[path], f"{seen[path]} bytes of {path}, which were acknowledged, in place of {extents[path]}")
+    world.start()
+    world.origin.clear()
+    for path, extent in extents.items():
+        if extent:
+            text = said(world, path, ONLY_KEPT, b"Range: bytes=0-%d" % (extent - 1))[0]
+            equal(body_of(text), bodies[path][:extent], f"the kept front of {path}")
+    equal([ask.path for ask in world.origin.asked if ask.path in bodies], [], "asks of the origin")
+    return extents
 
 
 @case
 @lasting(3 * KILLING_SECONDS)
-def no_reply_has_a_wrong_byte_through_kills_at_random_moments(world):
+def what_was_acknowledged_outlives_kills_under_load_and_no_reply_has_a_wrong_byte(world):
     seed = random.randrange(1 << 32)
     choose = random.Random(seed)
-    lengths = [5, 4095, 4096, 4097, 20_000, 65_536, 100_000, 300_000, 1_000_000, 3_000_000]
-    bodies = {f"/{number}": noise(length, 97 * number) for number, length in enumerate(lengths)}
+    bodies = {f"/{number}": noise(length, 97 * number) for number, length in enumerate(LENGTHS)}
+    kills, growing, demanded, new_bytes = 0, 0, [], 0
     try:
         with world.anew("diskRun=4") as proxy:
             for path, body in bodies.items():
-                serve_whole(proxy, path, body)
-            kills, deadline = 0, time.monotonic() + KILLING_SECONDS
+                # Slowly enough that a kill finds bodies that came in part, on the fastest disk too.
+                serve_whole(proxy, path, body, piece=50_000, pause=0.002)
+            extents, deadline = dict.fromkeys(bodies, 0), time.monotonic() + KILLING_SECONDS
             while kills < KILLS and time.monotonic() < deadline:
-                stops = threading.Event()
-                failures = []
-                proxy_kills = lambda: (time.sleep(choose.uniform(0.02, 0.6)), proxy.stop(), stops.set())
-                readers = [lambda n=n: random_load(proxy, list(bodies), bodies, random.Random(seed + n + 100 * kills), stops) for n in range(4)]
-                for number, reader in enumerate(readers):
-                    reader.__name__ = f"reader {number}"
-                proxy_kills.__name__ = "kill"
-                failures = together([*readers, proxy_kills])
-                holds(not failures, f"no failure in place of {failures[:2]}")
-                kills += 1
-                for path, body in bodies.items():
-                    file = file_of(proxy, path)
-                    if file.exists():
-                        extent, data = kept_in(file)
-                        equal(data, body[:extent], f"what the folder vouches for of {path}")
-                before = {path: extent_of(proxy, path) for path in bodies}
-                proxy.start()
-                proxy.origin.clear()
-                for path, extent in before.items():
-                    if extent:
-                        span = b"Range: bytes=0-%d" % (extent - 1)
-                        text = said(proxy, path, ONLY_KEPT, span)[0]
-                        equal(body_of(text), bodies[path][:extent], f"the kept front of {path}")
-                equal([ask.path for ask in proxy.origin.asked if ask.path in bodies], [], "asks of the origin")
-            return f"{kills} kills"
+                if all(extents[path] == len(body) for path, body in bodies.items()):
+                    # All is kept: once more from the beginning.
+                    proxy.stop()
+                    for path in bodies:
+                        file_of(proxy, path).unlink()
+                    extents = dict.fromkeys(bodies, 0)
+                    proxy.start()
+                before = sum(extents.values())
+                seen = kill_under_load(proxy, bodies, extents, choose)
+                extents = expect_kept(proxy, bodies, seen)
+                kills, growing = kills + 1, growing + any(0 < seen[path] < len(body) for path, body in bodies.items())
+                demanded += [extent for extent in seen.values() if extent]
+                new_bytes += sum(seen.values()) - before
     except Failed as failure:
         raise Failed(f"{failure}\n    with seed {seed}")
+    holds(growing, "kills while some body was kept in part")
+    return (
+        f"{kills} kills, {growing} of them where a body was kept in part; demanded {len(demanded)} extents of {sum(demanded)} "
+        f"bytes, {new_bytes} of which were acknowledged in the life that was killed"
+    )
 
 
 # ---- folders that cannot be used
@@ -485,6 +542,132 @@ def more_entries_than_rows_in_memory_are_all_served(world):
                 head = client.hear_until(b"\r\n\r\n")
                 holds(head.startswith(b"HTTP/1.1 200 "), f"a reply of 200 for {path} in place of {head!r}")
                 equal(client.hear(len(path)), path.encode(), f"the body of {path}")
+
+
+# ---- flipped bits
+
+TWO_CHUNKS = 2 * CHUNK
+# In these a flipped bit may make another entry: what its origin said, and numbers that are the proxy's own.
+MAY_BE_OTHERS = re.compile(rb'etag: "(.)"|(date: [^\r]*|cache-control: [^\r]*)|X-Polipo-(?:Date|Age|Length): (\d+)')
+# All bits of these are flipped, and one bit of each other byte.
+ALL_BITS = re.compile(rb"(etag: [^\r]*|X-Polipo-Length: [^\r]*|\r\n\r\n)")
+PLAIN = (None, None, None)
+
+
+def places(pattern, text):
+    """The places of what the groups of a pattern find in a text."""
+    spans = [found.span(group) for found in pattern.finditer(text) for group in range(1, pattern.groups + 1) if found[group]]
+    return {at for first, end in spans for at in range(first, end)}
+
+
+def block_that_it_writes(proxy):
+    """The head block that the program writes for /0000, with a body of two chunks; it is stopped behind that."""
+    serve_whole(proxy, "/0000", noise(TWO_CHUNKS))
+    said(proxy, "/0000")
+    wait_for_extent(proxy, "/0000", TWO_CHUNKS)
+    proxy.stop()
+    return file_of(proxy, "/0000").read_bytes()[:GATES_AT]
+
+
+def put_flipped(world, path, data, at, bit):
+    flipped = bytearray(data)
+    flipped[at] ^= 1 << bit
+    file_of(world, path).write_bytes(flipped)
+    return bytes(flipped)
+
+
+def conditions(asks):
+    """What these ask for, and under which conditions: PLAIN where they ask for the whole."""
+    return [(ask.field(b"range"), ask.field(b"if-range"), ask.field(b"if-none-match")) for ask in asks]
+
+
+@case
+@lasting(120)
+def a_bit_that_flips_in_the_head_of_a_kept_entry_makes_no_byte_of_a_reply_wrong(world):
+    seed = random.randrange(1 << 32)
+    choose, others, longer = random.Random(seed), 0, 0
+    try:
+        with world.anew() as proxy:
+            block = block_that_it_writes(proxy)
+            text = block.rstrip(b"\0")
+            every_bit, may_be_other = places(ALL_BITS, text), places(MAY_BE_OTHERS, text)
+            flips = [(at, bit) for at in range(len(text)) for bit in (range(8) if at in every_bit else [choose.randrange(8)])]
+            flips += [(len(text), 0), (GATES_AT - 1, 0)]
+            bodies = {f"/{number:04}": noise(TWO_CHUNKS, 97 * number) for number in range(1, len(flips) + 1)}
+            for (path, body), flip in zip(bodies.items(), flips):
+                serve_whole(proxy, path, body)
+                put_flipped(proxy, path, entry(block.replace(b"/0000", path.encode()), b"\1\1", body), *flip)
+            proxy.start()
+            proxy.origin.clear()
+            for (path, body), (at, bit) in zip(bodies.items(), flips):
+                of_what = f"behind a flip of bit {bit} of byte {at} of {text!r}"
+                reply = said(proxy, path)[0]
+                equal(body_of(reply), body, f"the body {of_what}")
+                if (asks := conditions(asked_for(proxy, path))) != [PLAIN]:
+                    holds(at in may_be_other, f"an ask anew for what is no entry, {of_what}, in place of {asks}")
+                    others += 1
+                if b"content-length: %d\r\n" % TWO_CHUNKS not in reply:
+                    # An entry of a longer body, of which nobody has more: the reply is cut behind these chunks.
+                    holds(text.index(b"X-Polipo-Length") < at < text.index(b"X-Polipo-Body"), f"the length {of_what}")
+                    longer += 1
+                    again = said(proxy, path)[0]
+                    equal(body_of(again), body, f"the next body {of_what}")
+                    holds(b"content-length: %d\r\n" % TWO_CHUNKS in again, f"the length of the next {of_what}")
+                wait_for_extent(proxy, path, TWO_CHUNKS)
+                equal(kept_in(file_of(proxy, path))[1], body, f"what is kept {of_what}")
+    except Failed as failure:
+        raise Failed(f"{failure}\n    with seed {seed}")
+    return f"of {len(flips)} flips {others} make another entry, {longer} of them of a longer body"
+
+
+def flips_of_gates(chunks, choose):
+    """How many gates are open, how many chunks of the body are there, which gate is changed, and in which bit: each gate, and one
+    behind them, where the file ends with its extent, and where a crash left more."""
+    for opened in range(chunks + 1):
+        for there in {opened, chunks}:
+            for at in range(chunks + 1):
+                for bit in (0, choose.randrange(1, 8)):
+                    yield opened, there, at, bit
+
+
+@case
+@lasting(120)
+def a_gate_that_changes_in_a_kept_entry_makes_no_byte_of_a_reply_wrong_but_what_it_opens(world):
+    chunks, length, seed = 5, 5 * CHUNK - 100, random.randrange(1 << 32)
+    files, none, taken = {}, 0, 0
+    try:
+        with world.anew() as proxy:
+            block = block_that_it_writes(proxy).rstrip(b"\0")
+            block = block.replace(b"X-Polipo-Length: %d\r" % TWO_CHUNKS, b"X-Polipo-Length: %d\r" % length)
+            for number, (opened, there, at, bit) in enumerate(flips_of_gates(chunks, random.Random(seed)), start=1):
+                path, body = f"/{number:04}", noise(length, 97 * number)
+                serve_whole(proxy, path, body)
+                # What stands behind the extent is none of the body's bytes.
+                written = body[: opened * CHUNK].ljust(min(length, there * CHUNK), b"?")
+                data = entry(block.replace(b"/0000", path.encode()), b"\1" * opened, written)
+                data = put_flipped(proxy, path, data, GATES_AT + at, bit)
+                files[path] = body, written, data, f"behind {opened} gates, {there} chunks and a flip of bit {bit} of gate {at}"
+                taken += there > opened == at and bit == 0
+            proxy.start()
+            proxy.origin.clear()
+            for path, (body, written, data, of_what) in files.items():
+                extent, gates = gates_in(data)[0], data[GATES_AT : GATES_AT + chunks]
+                if extent > len(written):
+                    extent, asks, none = 0, [PLAIN], none + 1
+                else:
+                    leading = -(-extent // CHUNK)
+                    gates = gates[:leading] + gates[leading:].replace(b"\1", b"\0")
+                    asks = [(b"bytes=%d-%d" % (extent, length - 1), TAG, None)] if extent < length else []
+                equal(file_of(proxy, path).read_bytes()[GATES_AT : GATES_AT + chunks], gates, f"the gates {of_what}")
+                wanted = written[:extent] + body[extent:]
+                equal(body_of(said(proxy, path)[0]), wanted, f"the body {of_what}")
+                equal(conditions(asked_for(proxy, path)), asks, f"the asks {of_what}")
+                wait_for_extent(proxy, path, length)
+                equal(kept_in(file_of(proxy, path))[1], wanted, f"what is kept {of_what}")
+            equal((none, taken), (chunks, chunks), "how many make it no entry, and how many open a chunk that was being sealed")
+    except Failed as failure:
+        raise Failed(f"{failure}\n    with seed {seed}")
+    return f"of {len(files)} changes {none} make it no entry, and {taken} open a chunk that was being sealed"
 
 
 # ---- what is called, and in which order

@@ -16,6 +16,8 @@ from harness import TOOL_SECONDS, Failed, case, equal, holds
 KEEPER = pathlib.Path(__file__).resolve().parent.parent / "crates/pp_keeper/out/pp_keeper"
 CHUNK = 4096
 GATES_AT = 8192
+# The block and the gates of the longest body.
+FRONT = GATES_AT + (1 << 14)
 # So many times it is killed at least, in so many folders at most.
 KILLS = 10
 FOLDERS = 10
@@ -31,16 +33,31 @@ def file_name(number):
     return hashlib.md5(b"http://h/%d" % number).hexdigest()
 
 
-def kept_in(path):
-    """How much of a body an entry's file vouches for, and these bytes: read by the format alone."""
-    data = path.read_bytes()
-    head = data[:GATES_AT].rstrip(b"\0").split(b"\r\n")
+def gates_in(front):
+    """How much of a body an entry's gates vouch for, and where the body stands: read from the front of its file by the format
+    alone."""
+    head = front[:GATES_AT].rstrip(b"\0").split(b"\r\n")
     own = dict(line.split(b": ", 1) for line in head[1:] if line)
     length, body_at = int(own[b"X-Polipo-Length"]), int(own[b"X-Polipo-Body-Offset"])
-    gates = data[GATES_AT : GATES_AT + -(-length // CHUNK)]
+    gates = front[GATES_AT : GATES_AT + -(-length // CHUNK)]
     leading = len(gates) - len(gates.lstrip(b"\1"))
-    extent = min(length, leading * CHUNK)
+    return min(length, leading * CHUNK), body_at
+
+
+def kept_in(path):
+    """How much of a body an entry's file vouches for, and these bytes."""
+    data = path.read_bytes()
+    extent, body_at = gates_in(data)
     return extent, data[body_at : body_at + extent]
+
+
+def extent_in(path):
+    """How much of a body an entry's file vouches for, 0 where there is no file: its body is not read."""
+    try:
+        with open(path, "rb") as file:
+            return gates_in(file.read(FRONT))[0]
+    except FileNotFoundError:
+        return 0
 
 
 def keeper(*words):

@@ -1,12 +1,10 @@
 -- A state that is chosen by cases is lined rightly where each case is.
-use Rattle.std.proofs.Common.{◌≡◌, refl, ℕ, Bool, true, false, List, [], ◌∷◌, Option, Some, None, Result, Ok, Err}
+use Rattle.std.proofs.Common.{◌≡◌, refl, ℕ, Bool, true, false, Option, Some, None, Result, Ok, Err}
 use Rattle.pp_framing.specs.Body.{Outcome, Done, Going, Bad}
 use Rattle.pp_valid.specs.declared.version.Version.{Version}
-use Rattle.pp_world.specs.declared.op.DiskOp.{DiskOp}
-use Rattle.pp_law.specs.Connections.{Pause, AllPlaced, WaitsDial, WaitsDrop}
 use Rattle.pp_law.specs.Lists.{Bytes}
 use Rattle.pp_law.specs.Requests.{Front, Parsed, NoHeadYet, NoHead as NoFront, IsRequest}
-use Rattle.pp_law.specs.State.{State, Aim, Through, Own, Filling, Exchange, Entry, Todo, Do, Enter, Acknowledge}
+use Rattle.pp_law.specs.State.{State, Aim, Through, Own, Filling}
 use Rattle.pp_laws_lines.proofs.Lined.{Lined}
 use Rattle.pp_laws_lines.proofs.Stands.{Since}
 
@@ -34,12 +32,6 @@ by_aim_of Through hx hy hz = hx
 by_aim_of Own hx hy hz = hy
 by_aim_of (Filling v from to) hx hy hz = hz v from to
 
-pub by_pause : {b : Since} (p : Pause) {x : State} {y : ℕ → Exchange → State} {z : Exchange → State} → Lined b x → ((k : ℕ) (e : Exchange) → Lined b (y k e)) → ((e : Exchange) → Lined b (z e))
-    → Lined b (elim p as (λ c. State) [ AllPlaced ↦ x | WaitsDrop k e ↦ y k e | WaitsDial e ↦ z e ])
-by_pause AllPlaced hx hy hz = hx
-by_pause (WaitsDrop k e) hx hy hz = hy k e
-by_pause (WaitsDial e) hx hy hz = hz e
-
 pub by_outcome : {b : Since} (o : Outcome) {x : Bytes → State} {y z : State} → ((rest : Bytes) → Lined b (x rest)) → Lined b y → Lined b z
     → Lined b (elim o as (λ c. State) [ Done rest ↦ x rest | Going ↦ y | Bad ↦ z ])
 by_outcome (Done rest) hx hy hz = hx rest
@@ -56,15 +48,3 @@ pub by_result : {b : Since} {A E : Type 0} (r : Result A E) {x : A → State} {y
     → Lined b (elim r as (λ c. State) [ Ok a ↦ x a | Err e ↦ y e ])
 by_result (Ok a) hx hy = hx a
 by_result (Err e) hx hy = hy e
-
-pub by_list : {b : Since} {A : Type 0} (xs : List A) {x : State} {y : A → List A → State} → Lined b x → ((a : A) (as_ : List A) → Lined b (y a as_))
-    → Lined b (elim xs as (λ c. State) [ [] ↦ x | a ∷ as_ ↦ y a as_ ])
-by_list [] hx hy = hx
-by_list (a ∷ as_) hx hy = hy a as_
-
-pub by_todo : {b : Since} (t : Todo) {x : DiskOp → State} {y : Entry → State} {z : Bytes → Bytes → ℕ → ℕ → State} → ((op : DiskOp) → Lined b (x op)) → ((e : Entry) → Lined b (y e))
-    → ((key tag : Bytes) (n extent : ℕ) → Lined b (z key tag n extent))
-    → Lined b (elim t as (λ c. State) [ Do op ↦ x op | Enter e ↦ y e | Acknowledge key tag n extent ↦ z key tag n extent ])
-by_todo (Do op) hx hy hz = hx op
-by_todo (Enter e) hx hy hz = hy e
-by_todo (Acknowledge key tag n extent) hx hy hz = hz key tag n extent

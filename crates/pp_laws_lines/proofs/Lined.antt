@@ -14,9 +14,10 @@ use Rattle.pp_laws_bounds.proofs.Counts.{in_filter_of}
 use Rattle.pp_laws_passed.proofs.Same.{PartsOf, Same, facts_of as parts_of}
 use Rattle.pp_laws_lines.proofs.Stands.{Follows, MayGo, SameAsk, Since, Tells, WholeIn, ask_same, asked_whole, fresh_stands, others, stands_push, tells_by, tells_fewer, unasked}
 
--- a connection that is answered: all of the first of its line was asked
-pub record Heads (xs : List Exchange) (k : Conn) : Type 0 where
+-- a connection that is answered: all of the first of its line was asked, and the response is of that one
+pub record Heads (expects : Option ℕ) (xs : List Exchange) (k : Conn) : Type 0 where
   pub number : ℕ
+  pub expected : expects ≡ Some number
   pub first : first_of k.line ≡ Some number
   pub out : (e : Exchange) → IsIn e xs → e.number ≡ number → e.asked ≡ length e.text
 
@@ -37,7 +38,7 @@ pub record Facts (b : Since) (exchanges : List Exchange) (next_exchange : ℕ) (
   pub distinct : (k : Conn) → IsIn k conns → AreDistinct k.line
   pub closed : (k : Conn) → IsIn k conns → k.is_closing ≡ true → (k.line ≡ []) × (k.answer ≡ None)
   pub streams : (k : Conn) → IsIn k conns → k.is_closing ≡ false → (b.gone ≡ Some k.number → ⊥) → Tells b.terms b.log k.number (asked k.number b.log) exchanges k.line
-  pub answers : (k : Conn) (a : Answer) → IsIn k conns → k.answer ≡ Some a → (b.but ≡ Some k.number → ⊥) → Heads exchanges k
+  pub answers : (k : Conn) (a : Answer) → IsIn k conns → k.answer ≡ Some a → (b.but ≡ Some k.number → ⊥) → Heads (b.firsts k.number) exchanges k
   pub kept : (w x : Exchange) → b.kept ≡ Some w → IsIn x exchanges → x.number ≡ w.number → SameLeft x w
 
 abbrev pub FactsOf : Since → State → Type 0
@@ -81,7 +82,7 @@ exchanges_from b s ys rise back forth kept h = record {
   distinct = h.distinct;
   closed = h.closed;
   streams = λ k i isnt on. tells_by b.terms b.log k.number (asked k.number b.log) s.exchanges ys k.line (follows k i) (h.streams k i isnt on);
-  answers = λ k a i is on. let w = h.answers k a i is on in record { number = w.number; first = w.first; out = λ e j at. out_by k i w e j at };
+  answers = λ k a i is on. let w = h.answers k a i is on in record { number = w.number; expected = w.expected; first = w.first; out = λ e j at. out_by k i w e j at };
   kept = kept;
 }
   where
@@ -98,7 +99,7 @@ exchanges_from b s ys rise back forth kept h = record {
       forth = λ d j l lt. forth k d i j l lt;
     }
 
-    out_by : (k : Conn) → IsIn k s.conns → (w : Heads s.exchanges k) → (e : Exchange) → IsIn e ys → e.number ≡ w.number → e.asked ≡ length e.text
+    out_by : (k : Conn) → IsIn k s.conns → (w : Heads (b.firsts k.number) s.exchanges k) → (e : Exchange) → IsIn e ys → e.number ≡ w.number → e.asked ≡ length e.text
     out_by k i w e j at =
         let f = back e j in
         let g = in_line k e i j (subst (λ n. IsIn n k.line) (sym at) (first_in k.line w.number w.first)) in
@@ -190,7 +191,7 @@ exchange_added b s e none number spelled h = record {
   distinct = h.distinct;
   closed = h.closed;
   streams = λ k i isnt on. tells_by b.terms b.log k.number (asked k.number b.log) s.exchanges (s.exchanges ++ e ∷ []) k.line (follows k i) (h.streams k i isnt on);
-  answers = λ k a i is on. let w = h.answers k a i is on in record { number = w.number; first = w.first; out = λ d j at. out_by k i w d (in_push d s.exchanges e j) at };
+  answers = λ k a i is on. let w = h.answers k a i is on in record { number = w.number; expected = w.expected; first = w.first; out = λ d j at. out_by k i w d (in_push d s.exchanges e j) at };
   kept = λ w x is i at. let both : None ≡ Some w = sym none ∙ is in absurd (cc both);
 }
   where
@@ -228,7 +229,7 @@ exchange_added b s e none number spelled h = record {
         back_by d (inl j) l = (d, j, ask_same d)
         back_by d (inr eq) l = absurd (never k d i eq l)
 
-    out_by : (k : Conn) → IsIn k s.conns → (w : Heads s.exchanges k) → (d : Exchange) → IsIn d s.exchanges ⊎ (d ≡ e) → d.number ≡ w.number → d.asked ≡ length d.text
+    out_by : (k : Conn) → IsIn k s.conns → (w : Heads (b.firsts k.number) s.exchanges k) → (d : Exchange) → IsIn d s.exchanges ⊎ (d ≡ e) → d.number ≡ w.number → d.asked ≡ length d.text
     out_by k i w d (inl j) at = w.out d j at
     out_by k i w d (inr eq) at = absurd (never k d i eq (subst (λ n. IsIn n k.line) (sym at) (first_in k.line w.number w.first)))
 
@@ -280,8 +281,8 @@ conns_from b s conns apart from h = record {
         by (inl e) = e ∙ none
         by (inr e) = e
 
-    answer_by : (k : Conn) (a : Answer) (f : FromConn s.conns k) → (k.answer ≡ f.was.answer) ⊎ (k.answer ≡ None) → k.answer ≡ Some a → (b.but ≡ Some k.number → ⊥) → Heads s.exchanges k
-    answer_by k a f (inl e) is on = let w = h.answers f.was a f.there (sym e ∙ is) (λ eq. on (eq ∙ ap (λ n. Some n) (sym f.number))) in record { number = w.number; first = ap first_of f.line ∙ w.first; out = w.out }
+    answer_by : (k : Conn) (a : Answer) (f : FromConn s.conns k) → (k.answer ≡ f.was.answer) ⊎ (k.answer ≡ None) → k.answer ≡ Some a → (b.but ≡ Some k.number → ⊥) → Heads (b.firsts k.number) s.exchanges k
+    answer_by k a f (inl e) is on = let w = h.answers f.was a f.there (sym e ∙ is) (λ eq. on (eq ∙ ap (λ n. Some n) (sym f.number))) in record { number = w.number; expected = ap b.firsts f.number ∙ w.expected; first = ap first_of f.line ∙ w.first; out = w.out }
     answer_by k a f (inr e) is on = let both : None ≡ Some a = sym e ∙ is in absurd (cc both)
 
 pub conns_changed : (b : Since) (s : State) (p : Conn → Bool) (f : Conn → Conn) → ((k : Conn) → SameConn (f k) k) → FactsOf b s → FactsOf b (record s { conns = change p f s.conns })
@@ -345,13 +346,13 @@ conns_off b s n h = record {
     streams_by k (same i isnt) open_one on = h.streams k i open_one on
     streams_by k (other j i hit eq) open_one on = let both : true ≡ false = sym (ap (λ (x : Conn). x.is_closing) eq) ∙ open_one in absurd (cc both)
 
-    answers_by : (k : Conn) (a : Answer) → Changed (is_conn n) off s.conns k → k.answer ≡ Some a → (b.but ≡ Some k.number → ⊥) → Heads s.exchanges k
+    answers_by : (k : Conn) (a : Answer) → Changed (is_conn n) off s.conns k → k.answer ≡ Some a → (b.but ≡ Some k.number → ⊥) → Heads (b.firsts k.number) s.exchanges k
     answers_by k a (same i isnt) is on = h.answers k a i is on
     answers_by k a (other j i hit eq) is on = let both : None ≡ Some a = sym (ap (λ (x : Conn). x.answer) eq) ∙ is in absurd (cc both)
 
 -- a head came for the first of its line, of which all was asked
 pub conns_answered : (b : Since) (s : State) (n : ℕ) (f : Conn → Conn) → ((k : Conn) → (f k).number ≡ k.number) → ((k : Conn) → (f k).line ≡ k.line) → ((k : Conn) → (f k).is_closing ≡ k.is_closing)
-    → ((k : Conn) → IsIn k s.conns → k.number ≡ n → (k.is_closing ≡ false) × Heads s.exchanges k) → FactsOf b s → FactsOf b (record s { conns = change (is_conn n) f s.conns })
+    → ((k : Conn) → IsIn k s.conns → k.number ≡ n → (k.is_closing ≡ false) × Heads (b.firsts k.number) s.exchanges k) → FactsOf b s → FactsOf b (record s { conns = change (is_conn n) f s.conns })
 conns_answered b s n f number line closing heads h = record {
   low = h.low;
   apart = rise_change conn_number (is_conn n) f number s.conns h.apart;
@@ -400,9 +401,9 @@ conns_answered b s n f number line closing heads h = record {
         subst (λ r. Tells b.terms b.log r (asked r b.log) s.exchanges k.line) (sym m)
         (subst (λ ns. Tells b.terms b.log j.number (asked j.number b.log) s.exchanges ns) (sym l) (h.streams j i (heads j i (same_number j.number n hit)).0 (λ is. on (is ∙ ap (λ r. Some r) (sym m)))))
 
-    answers_by : (k : Conn) (a : Answer) → Changed (is_conn n) f s.conns k → k.answer ≡ Some a → (b.but ≡ Some k.number → ⊥) → Heads s.exchanges k
+    answers_by : (k : Conn) (a : Answer) → Changed (is_conn n) f s.conns k → k.answer ≡ Some a → (b.but ≡ Some k.number → ⊥) → Heads (b.firsts k.number) s.exchanges k
     answers_by k a (same i isnt) is on = h.answers k a i is on
-    answers_by k a (other j i hit eq) is on = let w = (heads j i (same_number j.number n hit)).1 in record { number = w.number; first = ap first_of (ap (λ (x : Conn). x.line) eq ∙ line j) ∙ w.first; out = w.out }
+    answers_by k a (other j i hit eq) is on = let w = (heads j i (same_number j.number n hit)).1 in record { number = w.number; expected = ap b.firsts (ap conn_number eq ∙ number j) ∙ w.expected; first = ap first_of (ap (λ (x : Conn). x.line) eq ∙ line j) ∙ w.first; out = w.out }
 
 -- ---- an exchange is over
 
@@ -497,13 +498,13 @@ ended_facts b n s may h = record {
     first_others m [] isnt is = absurd (cc is)
     first_others m (x ∷ ns) isnt is = let e : x ≡ m = cc in subst (λ t. first_of (cond (not t) (x ∷ others n ns) (others n ns)) ≡ Some m) (sym (ap (λ y. y == n) e ∙ isnt)) is
 
-    answers_by : (k : Conn) (a : Answer) → From (without_ask n) s.conns k → k.answer ≡ Some a → (b.but ≡ Some k.number → ⊥) → Heads ys k
+    answers_by : (k : Conn) (a : Answer) → From (without_ask n) s.conns k → k.answer ≡ Some a → (b.but ≡ Some k.number → ⊥) → Heads (b.firsts k.number) ys k
     answers_by k a r is on =
         let off_but : b.but ≡ Some r.was.number → ⊥ = λ eq. on (eq ∙ ap (λ m. Some m) (sym (number k r))) in
         by (h.answers r.was a r.there (sym (ap (λ (x : Conn). x.answer) r.is) ∙ is) off_but) off_but
       where
-        by : Heads s.exchanges r.was → (b.but ≡ Some r.was.number → ⊥) → Heads ys k
-        by w off_but = record { number = w.number; first = ap first_of (line k r) ∙ first_others w.number r.was.line (apart_from (w.number == n) refl) w.first; out = λ e i at_e. w.out e (was e i).0 at_e }
+        by : Heads (b.firsts r.was.number) s.exchanges r.was → (b.but ≡ Some r.was.number → ⊥) → Heads (b.firsts k.number) ys k
+        by w off_but = record { number = w.number; expected = ap b.firsts (number k r) ∙ w.expected; first = ap first_of (line k r) ∙ first_others w.number r.was.line (apart_from (w.number == n) refl) w.first; out = λ e i at_e. w.out e (was e i).0 at_e }
           where
             never : w.number ≡ n → MayEnd b n s.exchanges r.was → ⊥
             never eq (on_gone gone_is but_is) = off_but but_is
@@ -596,11 +597,11 @@ pushed_facts b n k s given fresh_one open_one no_line h = record {
         later : Tells b.terms b.log g.number (asked g.number b.log) s.exchanges g.line → Tells b.terms b.log g.number (asked g.number b.log) s.exchanges (g.line ++ n ∷ [])
         later t = record { asks = t.asks; are_whole = t.are_whole; last = t.last; all = t.all; stands = stands_push b.terms b.log g.number s.exchanges t.last g.line n (λ e x e_is. (fresh_one e x e_is).0) t.stands }
 
-    answers_by : (j : Conn) (a : Answer) → Changed (is_conn k) (λ g. record g { line = g.line ++ n ∷ [] }) s.conns j → j.answer ≡ Some a → (b.but ≡ Some j.number → ⊥) → Heads s.exchanges j
+    answers_by : (j : Conn) (a : Answer) → Changed (is_conn k) (λ g. record g { line = g.line ++ n ∷ [] }) s.conns j → j.answer ≡ Some a → (b.but ≡ Some j.number → ⊥) → Heads (b.firsts j.number) s.exchanges j
     answers_by j a (same i isnt) is on = h.answers j a i is on
     answers_by j a (other g i hit eq) is on =
         let w = h.answers g a i (sym (ap (λ (x : Conn). x.answer) eq) ∙ is) (λ e. on (e ∙ ap (λ m. Some m) (sym (ap conn_number eq)))) in
-        record { number = w.number; first = ap (λ (x : Conn). first_of x.line) eq ∙ first_push n w.number g.line w.first; out = w.out }
+        record { number = w.number; expected = ap (λ (x : Conn). b.firsts x.number) eq ∙ w.expected; first = ap (λ (x : Conn). first_of x.line) eq ∙ first_push n w.number g.line w.first; out = w.out }
 
 -- a connection that is new, of which nothing was asked
 pub conn_added : (b : Since) (s : State) (k : Conn) → s.top < k.number → k.line ≡ [] → k.answer ≡ None → asked k.number b.log ≡ [] → FactsOf b s → FactsOf b (record s { conns = s.conns ++ k ∷ []; top = k.number })
@@ -653,7 +654,7 @@ conn_added b s k above none no_answer silent h = record {
       stands = fresh_stands b.terms b.log k.number s.exchanges [] k.line refl (λ m d l i is. absurd (subst (λ ns. IsIn m ns) none l));
     })
 
-    answers_by : (j : Conn) (a : Answer) → IsIn j s.conns ⊎ (j ≡ k) → j.answer ≡ Some a → (b.but ≡ Some j.number → ⊥) → Heads s.exchanges j
+    answers_by : (j : Conn) (a : Answer) → IsIn j s.conns ⊎ (j ≡ k) → j.answer ≡ Some a → (b.but ≡ Some j.number → ⊥) → Heads (b.firsts j.number) s.exchanges j
     answers_by j a (inl i) is on = h.answers j a i is on
     answers_by j a (inr e) is on = let both : None ≡ Some a = sym (ap (λ (x : Conn). x.answer) e ∙ no_answer) ∙ is in absurd (cc both)
 
@@ -689,7 +690,7 @@ abbrev pub watching : Since → ℕ → Exchange → Since
 watching b n e = record b { gone = None; but = Some n; kept = Some e }
 
 facts_so : (b c : Since) (s : State) → c.terms ≡ b.terms → c.log ≡ b.log → c.low ≡ b.low → ((k : Conn) → IsIn k s.conns → k.is_closing ≡ false → (c.gone ≡ Some k.number → ⊥) → Tells b.terms b.log k.number (asked k.number b.log) s.exchanges k.line)
-    → ((k : Conn) (a : Answer) → IsIn k s.conns → k.answer ≡ Some a → (c.but ≡ Some k.number → ⊥) → Heads s.exchanges k) → ((w x : Exchange) → c.kept ≡ Some w → IsIn x s.exchanges → x.number ≡ w.number → SameLeft x w) → FactsOf b s → FactsOf c s
+    → ((k : Conn) (a : Answer) → IsIn k s.conns → k.answer ≡ Some a → (c.but ≡ Some k.number → ⊥) → Heads (c.firsts k.number) s.exchanges k) → ((w x : Exchange) → c.kept ≡ Some w → IsIn x s.exchanges → x.number ≡ w.number → SameLeft x w) → FactsOf b s → FactsOf c s
 facts_so b c s terms log low streams answers kept f = record {
   low = subst (λ n. n ≤ s.top) (sym low) f.low;
   apart = f.apart;
@@ -735,16 +736,50 @@ watched {b} n e s p there h =
         record { asked = ap (λ (y : Exchange). y.asked) it; left = ap (λ (y : Exchange). y.body_left) it; text = ap (λ (y : Exchange). y.text) it }
 
 -- where it has no answer any more, or one of the first of its line
-pub unwatched : {b : Since} (n : ℕ) (e : Exchange) (s : State) → IsPlain b → ((k : Conn) (a : Answer) → IsIn k s.conns → k.number ≡ n → k.answer ≡ Some a → Heads s.exchanges k) → Lined (watching b n e) s → Lined b s
+pub unwatched : {b : Since} (n : ℕ) (e : Exchange) (s : State) → IsPlain b → ((k : Conn) (a : Answer) → IsIn k s.conns → k.number ≡ n → k.answer ≡ Some a → Heads (b.firsts k.number) s.exchanges k) → Lined (watching b n e) s → Lined b s
 unwatched {b} n e s p heads h =
     lined (facts_so (watching b n e) b s refl refl refl (λ k i isnt on. f.streams k i isnt (λ is. cc is)) (λ k a i is on. by k a i is (k.number == n) refl) (λ w x is i at. absurd (never_none b.kept p.kept is)) f)
   where
     f : FactsOf (watching b n e) s
     f = facts_of h
 
-    by : (k : Conn) (a : Answer) → IsIn k s.conns → k.answer ≡ Some a → (t : Bool) → (k.number == n) ≡ t → Heads s.exchanges k
+    by : (k : Conn) (a : Answer) → IsIn k s.conns → k.answer ≡ Some a → (t : Bool) → (k.number == n) ≡ t → Heads (b.firsts k.number) s.exchanges k
     by k a i is true hit = heads k a i (same_number k.number n hit) is
     by k a i is false isnt = f.answers k a i is (λ e2. let eq : n ≡ k.number = cc in let both : true ≡ false = sym (number_same n) ∙ ap (λ m. m == n) eq ∙ isnt in cc both)
 
 pub watched_apart : (b : Since) (n : ℕ) (e : Exchange) (s : State) → Lined (watching b n e) s → Lined (set_apart b n) s
 watched_apart b n e s h = lined (facts_so (watching b n e) (set_apart b n) s refl refl refl (λ k i isnt on. (facts_of h).streams k i isnt (λ is. cc is)) (facts_of h).answers (λ w x is i at. absurd (cc is)) (facts_of h))
+
+-- ---- whose response comes on a connection
+
+abbrev pub naming : Since → ℕ → Option ℕ → Since
+naming b n to = record b { firsts = λ m. elim (m == n) [ true ↦ to | false ↦ b.firsts m ] }
+
+pub plain_named : {b : Since} (n : ℕ) (to : Option ℕ) → IsPlain b → IsPlain (naming b n to)
+plain_named n to p = record { gone = p.gone; but = p.but; kept = p.kept }
+
+pub named_here : (b : Since) (n : ℕ) (to : Option ℕ) → (naming b n to).firsts n ≡ to
+named_here b n to = ap (λ (t : Bool). elim t as (λ c. Option ℕ) [ true ↦ to | false ↦ b.firsts n ]) (number_same n)
+
+-- of one that is not answered
+pub renamed : {b : Since} (n : ℕ) (to : Option ℕ) (s : State) → IsPlain b → ((k : Conn) (a : Answer) → IsIn k s.conns → k.number ≡ n → k.answer ≡ Some a → ⊥) → Lined b s → Lined (naming b n to) s
+renamed {b} n to s p none h =
+    lined (facts_so b (naming b n to) s refl refl refl (λ k i isnt on. (facts_of h).streams k i isnt (never_none b.gone p.gone)) (λ k a i is on. by k a i is (k.number == n) refl) (λ w x is. absurd (never_none b.kept p.kept is)) (facts_of h))
+  where
+    by : (k : Conn) (a : Answer) → IsIn k s.conns → k.answer ≡ Some a → (t : Bool) → (k.number == n) ≡ t → Heads ((naming b n to).firsts k.number) s.exchanges k
+    by k a i is true hit = absurd (none k a i (same_number k.number n hit) is)
+    by k a i is false isnt =
+        let w = (facts_of h).answers k a i is (never_none b.but p.but) in
+        record { number = w.number; expected = ap (λ (t : Bool). elim t as (λ c. Option ℕ) [ true ↦ to | false ↦ b.firsts k.number ]) isnt ∙ w.expected; first = w.first; out = w.out }
+
+-- with other words on whose response it is
+pub record Renamed (b : Since) (s : State) : Type 0 where
+  pub firsts : ℕ → Option ℕ
+  pub lines : Lined (record b { firsts = firsts }) s
+
+pub same_names : {b : Since} (s : State) → IsPlain b → Lined b s → Lined (record b { firsts = b.firsts }) s
+same_names {b} s p h =
+    lined (facts_so b (record b { firsts = b.firsts }) s refl refl refl (λ k i isnt on. (facts_of h).streams k i isnt (never_none b.gone p.gone)) (λ k a i is on. (facts_of h).answers k a i is (never_none b.but p.but)) (λ w x is. absurd (never_none b.kept p.kept is)) (facts_of h))
+
+pub as_named : {b : Since} (s : State) → IsPlain b → Lined b s → Renamed b s
+as_named {b} s p h = record { firsts = b.firsts; lines = same_names s p h }

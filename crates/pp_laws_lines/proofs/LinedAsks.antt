@@ -12,9 +12,9 @@ use Rattle.pp_law.specs.Closing.{is_of, is_over, left_alone, forsake, leave, lea
 use Rattle.pp_law.specs.Connections.{without_ask, client, conn, exchange, is_conn, is_exchange, is_trying, each_client, each_conn, each_exchange, on_conn, on_exchange, on_client, on_client_of, attempts_of, lost_one, without_row, is_unfilled, give_up_row, charge, lose_attempt, fail, end_exchange, unplaced, may_ask_again, leave_place, lose_place, close_conn, place_for, put_on, if_unplaced, place_each, placing, Placement, WaitsDial, WaitsDrop}
 use Rattle.pp_law.specs.Deciding.{add_exchange, begin_exchange}
 use Rattle.pp_law.specs.Decisions.{fits, lent}
-use Rattle.pp_law.specs.Followers.{need_of, filling_exchange, fill_with, fill_span, fill_next, fill_for, fill, is_filling, is_useless_ask, is_wanted_by, give_up_asks}
+use Rattle.pp_law.specs.Followers.{need_of, filling_exchange, fill_with, fill_span, fill_next, fill_for, fill, is_useless_ask, is_wanted_by, give_up_asks}
 use Rattle.pp_law.specs.Lists.{Bytes, change, is_some_with}
-use Rattle.pp_law.specs.Stages.{is_headed, on_passed}
+use Rattle.pp_law.specs.Stages.{filled_of, is_headed, on_passed}
 use Rattle.pp_law.specs.State.{State, AskTooLong, Course, OutOfTries, Client, Conn, Exchange}
 use Rattle.std.specs.List.{list_any}
 use Rattle.pp_law.specs.Table.{Next, clear, next_of, swept}
@@ -358,7 +358,7 @@ unfolding fill
 fill-lined s none h = when s.is_stopped h (each_client-lined fill_for (λ c t ht. fill_for-lined c t none ht) _ s h)
 
 useless_nowhere : (s : State) (e : Exchange) → not (is_useless_ask s e) ≡ false → e.place ≡ None
-useless_nowhere s e is = by (is_filling e) e.place (list_any (is_wanted_by s e) s.clients) refl is
+useless_nowhere s e is = by (is_some (filled_of e)) e.place (list_any (is_wanted_by s e) s.clients) refl is
   where
     by : (a : Bool) (p : Option ℕ) (w : Bool) → e.place ≡ p → not (a && not (is_some p) && not w) ≡ false → e.place ≡ None
     by a None w place at = place

@@ -1,4 +1,4 @@
--- Each happening but an ask keeps the lines.
+-- Each happening keeps the lines, but an ask, and what is read of an origin.
 use Rattle.std.proofs.Common.{◌≡◌, ◌⊎◌, refl, ℕ, ◌+◌, ◌<◌, ◌≤◌, Bool, true, false, not, List, [], ◌∷◌, ◌++◌, map, length, Option, Some, None, inl, inr, sym, subst, ap, ◌∙◌, le_trans, le_of_lt, le_refl, arith}
 use Rattle.pp_conf.specs.Conf.{Settings}
 use Rattle.pp_conf.specs.Words.{reading_of}
@@ -34,7 +34,7 @@ use Rattle.pp_laws_passed.proofs.SameRows.{begin_in_opening-same, begin_in_turn-
 use Rattle.pp_laws_lines.proofs.Cases.{each_of, each_so, when}
 use Rattle.pp_laws_lines.proofs.Lined.{FactsOf, IsPlain, Lined, conn_added, conns_fewer, facts_of, lined, still}
 use Rattle.pp_laws_lines.proofs.LinedAsks.{Settles, close_client-lined, end_exchange-lined, lose_attempt-lined, on_client-lined, on_conn-lined, placing-lined, put_on-lined}
-use Rattle.pp_laws_lines.proofs.LinedHeads.{ended-lined, got-lined}
+use Rattle.pp_laws_lines.proofs.LinedHeads.{ended-lined}
 use Rattle.pp_laws_lines.proofs.LinedReplies.{begin_replies-lined, decided-lined, end_replies-lined}
 use Rattle.pp_laws_lines.proofs.LinedTurns.{come_to-lined, come_to_decide-lined, deciding-lined, in_phase-lined, regained-lined, rest_with-lined, tick-lined, touch-lined, use_said-lined}
 use Rattle.pp_laws_lines.proofs.Stands.{Since}
@@ -252,12 +252,13 @@ dialled_above s n host port is = below s.top n (first_holds (is_new_number s n) 
 
 -- ---- all
 
--- nothing is asked
-abbrev pub AsksNothing : Happening → Type 0
-AsksNothing (Asked n bytes) = ⊥
-AsksNothing h = Unit {0}
+-- nothing is asked of an origin, and nothing of one is read
+abbrev pub IsQuiet : Happening → Type 0
+IsQuiet (Asked n bytes) = ⊥
+IsQuiet (Got n bytes) = ⊥
+IsQuiet h = Unit {0}
 
-pub changed-lined : {b : Since} (s : State) (happening : Happening) → AsksNothing happening → IsPlain b → b.low ≡ s.top → ((n : ℕ) → s.top < n → asked_on n b.log ≡ []) → IsPermitted s happening → Lined b s → Lined b (changed s happening)
+pub changed-lined : {b : Since} (s : State) (happening : Happening) → IsQuiet happening → IsPlain b → b.low ≡ s.top → ((n : ℕ) → s.top < n → asked_on n b.log ≡ []) → IsPermitted s happening → Lined b s → Lined b (changed s happening)
 unfolding changed
 changed-lined s (Woke image) nothing p low silent is h = woken-lined image s p (subst (λ n. n ≤ s.top) (sym low) (le_refl s.top))
 changed-lined s (Waits w) nothing p low silent is h = rest_with-lined w _ (ending-lined s p h)
@@ -277,7 +278,7 @@ changed-lined s (Reached k) nothing p low silent is h = event-lined _ (reached-l
 changed-lined s (Ended k) nothing p low silent is h = paid-lined _ (gone-lined true k s p h)
 changed-lined s (Broke k) nothing p low silent is h = paid-lined _ (gone-lined false k _ p (event-lined s h))
 changed-lined s (Asked k bytes) nothing p low silent is h = absurd nothing
-changed-lined s (Got k bytes) nothing p low silent is h = paid-lined _ (end_replies-lined _ (got-lined (length bytes) k bytes s p h))
+changed-lined s (Got k bytes) nothing p low silent is h = absurd nothing
 changed-lined s (Dropped k) nothing p low silent is h = dropped-lined k _ p (come_to-lined Connecting s p h)
 changed-lined s (NoneYet m) nothing p low silent is h = paid-lined s h
 changed-lined s (Began op) nothing p low silent is h = begun_op-lined op s p h

@@ -37,7 +37,7 @@ use Rattle.pp_laws_pool.proofs.PoolGot.{deliver-conns}
 use Rattle.pp_laws_pool.proofs.View.{View, Walk, holds, facts_of as view_facts, view, Lesser}
 use Rattle.pp_laws_pool.proofs.WalkHeads.{by_aim-keeps}
 use Rattle.pp_laws_lines.proofs.Cases.{by_aim_of, by_outcome, by_result, each_of, each_so, when, when_so}
-use Rattle.pp_laws_lines.proofs.Lined.{Heads, IsPlain, Lined, SameConn, conns_answered, facts_of, first_in, lined, of_whole, on_gone, set_apart, still, together, unwatched, watched, watched_apart, watching}
+use Rattle.pp_laws_lines.proofs.Lined.{Heads, IsPlain, Lined, Renamed, SameConn, conns_answered, facts_of, first_in, lined, named_here, naming, of_whole, on_gone, plain_named, renamed, set_apart, still, together, as_named, unwatched, watched, watched_apart, watching}
 use Rattle.pp_laws_lines.proofs.LinedAsks.{close_conn-lined, closed_shut, end_exchange-lined, fail-lined, lose_attempt-lined, on_client_of-lined, on_conn-lined, on_exchange-lined, own_line}
 use Rattle.pp_laws_lines.proofs.LinedTurns.{closed_behind}
 use Rattle.pp_laws_lines.proofs.Stands.{SameAsk, Since, WholeIn, ask_same}
@@ -238,10 +238,10 @@ finish-lined {b} k e a s p out mine hs = when_so (may_go_on e a.head) goes_on st
         let zero_left : e.body_left ≡ 0 = same_number e.body_left 0 (middle (stays_open a.head) (e.body_left == 0) (not (binds_connection e.head.fields)) go) in
         (w.asked ∙ out ∙ ap (λ (t : Bytes). length t) (sym w.text), w.left ∙ zero_left)
 
-    unanswered : (j : Conn) (x : Answer) → IsIn j done.conns → j.number ≡ k.number → j.answer ≡ Some x → Heads done.exchanges j
+    unanswered : (j : Conn) (x : Answer) → IsIn j done.conns → j.number ≡ k.number → j.answer ≡ Some x → Heads (b.firsts j.number) done.exchanges j
     unanswered j x i number is = by (in_change (is_conn k.number) (rested a.head) j (end_exchange e.number v).conns i)
       where
-        by : Changed (is_conn k.number) (rested a.head) (end_exchange e.number v).conns j → Heads done.exchanges j
+        by : Changed (is_conn k.number) (rested a.head) (end_exchange e.number v).conns j → Heads (b.firsts j.number) done.exchanges j
         by (same l isnt) = let both : true ≡ false = sym (number_same k.number) ∙ ap (λ m. m == k.number) (sym number) ∙ isnt in absurd (cc both)
         by (other g l hit eq) = let both : None ≡ Some x = sym (ap (λ (y : Conn). y.answer) eq) ∙ is in absurd (cc both)
 
@@ -272,18 +272,19 @@ bad_head-lined k s p there h =
 
 -- ---- heads
 
-module _ {b : Since} (k : Conn) (e : Exchange) (s : State) (p : IsPlain b) (there : IsIn k s.conns) (is_open : k.is_closing ≡ false) (front : front_of_line s k ≡ Some e) (out : e.asked ≡ length e.text) (h : Lined b s) where
+module _ {b : Since} (k : Conn) (e : Exchange) (s : State) (p : IsPlain b) (there : IsIn k s.conns) (is_open : k.is_closing ≡ false) (front : front_of_line s k ≡ Some e) (out : e.asked ≡ length e.text) (h : Lined b s) (named : b.firsts k.number ≡ first_of k.line) where
   given : IsIn e s.exchanges × (first_of k.line ≡ Some e.number)
   given = front_by s k.line e front
 
   it : (j : Conn) → IsIn j s.conns → j.number ≡ k.number → j ≡ k
   it j i number = one_of conn_number s.conns j k (facts_of h).apart i there number
 
-  heads : (j : Conn) → IsIn j s.conns → j.number ≡ k.number → (j.is_closing ≡ false) × Heads s.exchanges j
+  heads : (j : Conn) → IsIn j s.conns → j.number ≡ k.number → (j.is_closing ≡ false) × Heads (b.firsts j.number) s.exchanges j
   heads j i number = (
     ap (λ (x : Conn). x.is_closing) (it j i number) ∙ is_open,
     record {
       number = e.number;
+      expected = ap (λ (x : Conn). b.firsts x.number) (it j i number) ∙ named ∙ given.1;
       first = ap (λ (x : Conn). first_of x.line) (it j i number) ∙ given.1;
       out = λ x m at. let one : x ≡ e = one_of exchange_number s.exchanges x e (facts_of h).rise m given.0 at in ap (λ (y : Exchange). y.asked) one ∙ out ∙ ap (λ (y : Exchange). length y.text) (sym one);
     },
@@ -343,10 +344,10 @@ outstanding s k e early front = same_number e.asked (length e.text) (true_of (is
         by true is = refl
         by false is = absurd (cc is)
 
-head_came-lined : {b : Since} (k : Conn) (head : Response) (s : State) → IsPlain b → IsIn k s.conns → k.is_closing ≡ false → is_early s k ≡ false → Lined b s → Lined b (head_came k head s)
+head_came-lined : {b : Since} (k : Conn) (head : Response) (s : State) → IsPlain b → IsIn k s.conns → k.is_closing ≡ false → is_early s k ≡ false → b.firsts k.number ≡ first_of k.line → Lined b s → Lined b (head_came k head s)
 unfolding head_came
-head_came-lined k head s p there is_open early h =
-    each_so (front_of_line s k) (λ none. close_conn-lined false k s p.kept (own_line k s there h) h) (λ e front. answer_for-lined k e s p there is_open front (outstanding s k e early front) h head)
+head_came-lined k head s p there is_open early named h =
+    each_so (front_of_line s k) (λ none. close_conn-lined false k s p.kept (own_line k s there h) h) (λ e front. answer_for-lined k e s p there is_open front (outstanding s k e early front) h named head)
 
 piece_when : {b : Since} (t : Bool) (x y : Piece) → (t ≡ true → Lined b x.state) → (t ≡ false → Lined b y.state) → Lined b (elim t as (λ c. Piece) [ true ↦ x | false ↦ y ]).state
 piece_when true x y hx hy = hx refl
@@ -355,7 +356,7 @@ piece_when false x y hx hy = hy refl
 with_unread-lined : {b : Since} (k : Conn) (bytes : Bytes) (s : State) → Lined b s → Lined b (on_conn k.number (with_unread bytes) s)
 with_unread-lined k bytes s h = on_conn-lined k.number (with_unread bytes) s (λ j. record { number = refl; line = refl; answer = inl refl; closing = refl }) h
 
-head_piece_by : {b : Since} (k : Conn) (bytes : Bytes) (s : State) (read : Read Response) → IsPlain b → IsIn k s.conns → k.is_closing ≡ false → is_early s k ≡ false → Lined b s
+head_piece_by : {b : Since} (k : Conn) (bytes : Bytes) (s : State) (read : Read Response) → IsPlain b → IsIn k s.conns → k.is_closing ≡ false → is_early s k ≡ false → b.firsts k.number ≡ first_of k.line → Lined b s
     → Lined b (elim read as (λ c. Piece) [
       | More ↦ record { state = on_conn k.number (with_unread bytes) s; rest = [] }
       | TooLong ↦ record { state = bad_head k s; rest = [] }
@@ -365,14 +366,14 @@ head_piece_by : {b : Since} (k : Conn) (bytes : Bytes) (s : State) (read : Read 
         | false ↦ record { state = head_came k head s; rest = drop head.length bytes }
       ]
     ]).state
-head_piece_by k bytes s More p there is_open early h = with_unread-lined k bytes s h
-head_piece_by k bytes s TooLong p there is_open early h = bad_head-lined k s p there h
-head_piece_by k bytes s NoHead p there is_open early h = bad_head-lined k s p there h
-head_piece_by k bytes s (Whole head) p there is_open early h = piece_when (is_interim head.status) _ _ (λ is. with_unread-lined k [] s h) (λ is. head_came-lined k head s p there is_open early h)
+head_piece_by k bytes s More p there is_open early named h = with_unread-lined k bytes s h
+head_piece_by k bytes s TooLong p there is_open early named h = bad_head-lined k s p there h
+head_piece_by k bytes s NoHead p there is_open early named h = bad_head-lined k s p there h
+head_piece_by k bytes s (Whole head) p there is_open early named h = piece_when (is_interim head.status) _ _ (λ is. with_unread-lined k [] s h) (λ is. head_came-lined k head s p there is_open early named h)
 
-head_piece-lined : {b : Since} (k : Conn) (bytes : Bytes) (s : State) → IsPlain b → IsIn k s.conns → k.is_closing ≡ false → Lined b s → Lined b (head_piece k bytes s).state
-head_piece-lined k bytes s p there is_open h =
-    piece_when (is_early s k) _ _ (λ is. close_conn-lined true k s p.kept (own_line k s there h) h) (λ isnt. head_piece_by k (k.unread ++ bytes) s (response_at (k.unread ++ bytes)) p there is_open isnt h)
+head_piece-lined : {b : Since} (k : Conn) (bytes : Bytes) (s : State) → IsPlain b → IsIn k s.conns → k.is_closing ≡ false → b.firsts k.number ≡ first_of k.line → Lined b s → Lined b (head_piece k bytes s).state
+head_piece-lined k bytes s p there is_open named h =
+    piece_when (is_early s k) _ _ (λ is. close_conn-lined true k s p.kept (own_line k s there h) h) (λ isnt. head_piece_by k (k.unread ++ bytes) s (response_at (k.unread ++ bytes)) p there is_open isnt named h)
 
 -- ---- bodies
 
@@ -438,7 +439,7 @@ body_piece-lined {b} k a bytes s p there has h = by (front_of_line s k) refl
         mine_t : (j : Conn) → IsIn j t.conns → IsIn e.number j.line → j.number ≡ k.number
         mine_t j i l = own_line k s there h e j f.0 (first_in k.line e.number f.1) (subst (λ ks. IsIn j ks) conns i) l
 
-        heads : (j : Conn) → IsIn j t.conns → j.number ≡ k.number → (j.is_closing ≡ false) × Heads t.exchanges j
+        heads : (j : Conn) → IsIn j t.conns → j.number ≡ k.number → (j.is_closing ≡ false) × Heads (b.firsts j.number) t.exchanges j
         heads j i number =
             let it : j ≡ k = one_of conn_number t.conns j k (facts_of ht).apart i there_t number in
             (ap (λ (x : Conn). x.is_closing) it ∙ open_answered k a s there has h, (facts_of ht).answers j a i (ap (λ (x : Conn). x.answer) it ∙ has) (λ is. let both : None ≡ Some j.number = sym p.but ∙ is in cc both))
@@ -459,25 +460,44 @@ body_piece-lined {b} k a bytes s p there has h = by (front_of_line s k) refl
     by None none = close_conn-lined false k s p.kept (own_line k s there h) h
     by (Some e) front = of_front e front
 
-next_piece-lined : {b : Since} (k : Conn) (bytes : Bytes) (s : State) → IsPlain b → IsIn k s.conns → k.is_closing ≡ false → Lined b s → Lined b (next_piece k bytes s).state
+-- whose response comes, where a head is to come
+abbrev pub names_at : Since → Conn → Since
+names_at b k = elim k.answer [ Some a ↦ b | None ↦ naming b k.number (first_of k.line) ]
+
+pub next_piece-lined : {b : Since} (k : Conn) (bytes : Bytes) (s : State) → IsPlain b → IsIn k s.conns → k.is_closing ≡ false → Lined b s → Lined (names_at b k) (next_piece k bytes s).state
 next_piece-lined {b} k bytes s p there is_open h = by k.answer refl
   where
-    by : (o : Option Answer) → k.answer ≡ o → Lined b (elim o as (λ c. Piece) [ Some a ↦ body_piece k a bytes s | None ↦ head_piece k bytes s ]).state
-    by None none = head_piece-lined k bytes s p there is_open h
+    unanswered : k.answer ≡ None → (j : Conn) (a : Answer) → IsIn j s.conns → j.number ≡ k.number → j.answer ≡ Some a → ⊥
+    unanswered none j a i number is =
+        let it : j ≡ k = one_of conn_number s.conns j k (facts_of h).apart i there number in
+        let both : None ≡ Some a = sym (ap (λ (x : Conn). x.answer) it ∙ none) ∙ is in cc both
+
+    by : (o : Option Answer) → k.answer ≡ o → Lined (elim o as (λ c. Since) [ Some a ↦ b | None ↦ naming b k.number (first_of k.line) ]) (elim o as (λ c. Piece) [ Some a ↦ body_piece k a bytes s | None ↦ head_piece k bytes s ]).state
+    by None none = head_piece-lined k bytes s (plain_named k.number (first_of k.line) p) there is_open (named_here b k.number (first_of k.line)) (renamed k.number (first_of k.line) s p (unanswered none) h)
     by (Some a) has = body_piece-lined k a bytes s p there has h
 
-pub got-lined : {b : Since} (more n : ℕ) (bytes : Bytes) (s : State) → IsPlain b → Lined b s → Lined b (got more n bytes s)
+pub got-lined : {b : Since} (more n : ℕ) (bytes : Bytes) (s : State) → IsPlain b → Lined b s → Renamed b (got more n bytes s)
 unfolding got
-got-lined zero n bytes s p h = h
-got-lined {b} (suc more) n bytes s p h =
-    each_so (conn s n) (λ none. h)
-    (λ k found. open_by k (in_find (is_conn n) k s.conns found).0 k.is_closing (is_empty bytes) refl (λ t ht. got-lined more n (next_piece k bytes s).rest t p ht))
+got-lined zero n bytes s p h = as_named s p h
+got-lined {b} (suc more) n bytes s p h = by (conn s n) refl (λ c rest u q hu. got-lined {b = c} more n rest u q hu)
   where
-    open_by : (k : Conn) → IsIn k s.conns → (t e : Bool) → k.is_closing ≡ t → ((u : State) → Lined b u → Lined b (got more n (next_piece k bytes s).rest u))
-        → Lined b (elim (t || e) as (λ c. State) [ true ↦ s | false ↦ got more n (next_piece k bytes s).rest (next_piece k bytes s).state ])
-    open_by k there true e is later = h
-    open_by k there false true is later = h
-    open_by k there false false is later = later (next_piece k bytes s).state (next_piece-lined k bytes s p there is h)
+    piece : (k : Conn) (o : Option Answer) → ((x : Since) (rest : Bytes) (u : State) → IsPlain x → Lined x u → Renamed x (got more n rest u)) → Lined (elim o as (λ x. Since) [ Some a ↦ b | None ↦ naming b k.number (first_of k.line) ]) (next_piece k bytes s).state
+        → Renamed b (got more n (next_piece k bytes s).rest (next_piece k bytes s).state)
+    piece k (Some a) later hu = later b (next_piece k bytes s).rest (next_piece k bytes s).state p hu
+    piece k None later hu =
+        let r = later (naming b k.number (first_of k.line)) (next_piece k bytes s).rest (next_piece k bytes s).state (plain_named k.number (first_of k.line) p) hu in
+        record { firsts = r.firsts; lines = r.lines }
+
+    at : (k : Conn) → IsIn k s.conns → (t e : Bool) → k.is_closing ≡ t → ((x : Since) (rest : Bytes) (u : State) → IsPlain x → Lined x u → Renamed x (got more n rest u))
+        → Renamed b (elim (t || e) as (λ c. State) [ true ↦ s | false ↦ got more n (next_piece k bytes s).rest (next_piece k bytes s).state ])
+    at k there true e is later = as_named s p h
+    at k there false true is later = as_named s p h
+    at k there false false is later = piece k k.answer later (next_piece-lined k bytes s p there is h)
+
+    by : (o : Option Conn) → conn s n ≡ o → ((x : Since) (rest : Bytes) (u : State) → IsPlain x → Lined x u → Renamed x (got more n rest u))
+        → Renamed b (elim o as (λ c. State) [ None ↦ s | Some k ↦ elim (k.is_closing || is_empty bytes) as (λ c. State) [ true ↦ s | false ↦ got more n (next_piece k bytes s).rest (next_piece k bytes s).state ] ])
+    by None none later = as_named s p h
+    by (Some k) found later = at k (in_find (is_conn n) k s.conns found).0 k.is_closing (is_empty bytes) refl later
 
 finish_first-lined : {b : Since} (k : Conn) (a : Answer) (s : State) → IsPlain b → IsIn k s.conns → k.answer ≡ Some a → Lined b s → Lined b (finish_first k a s)
 unfolding finish_first

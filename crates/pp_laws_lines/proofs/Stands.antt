@@ -11,12 +11,13 @@ use Rattle.pp_laws.proofs.Tests.{same_number}
 use Rattle.pp_laws_asks.specs.Orders.{IsAskedWhole}
 use Rattle.pp_laws_lines.specs.Lines.{Ask, AreWhole, IsFront, IsOneStream, IsWhole, WasToAsk, joined, nothing, of_body, of_text}
 
--- of these lives and this log, and of a number that was given; a connection whose line is not looked at, one whose answer is not, and
--- an exchange of which nothing is asked
+-- of these lives and this log, and of a number that was given; whose response comes on each connection that is answered; a connection
+-- whose line is not looked at, one whose answer is not, and an exchange of which nothing is asked
 pub record Since : Type 0 where
   pub terms : List Term
   pub log : Log
   pub low : ℕ
+  pub firsts : ℕ → Option ℕ
   pub gone : Option ℕ
   pub but : Option ℕ
   pub kept : Option Exchange

@@ -9,6 +9,7 @@ use Rattle.pp_world.specs.Streams.{asked as asked_on, asked_in}
 use Rattle.pp_world.specs.declared.happening.Happening.{Happening}
 use Rattle.pp_world.specs.declared.happening.Happening.TheVariants.{Woke, Waits, Clock, Opened, CanRead, CanWrite, Heard, HungUp, Said, Shut, Dialled, Undialled, Reached, Ended, Broke, Asked, Got, Dropped, NoneYet, Began, Did, Unread, Noted, Rooted, Listed, Listens, Configured, Printed, Stopped}
 use Rattle.pp_law.specs.After.{after, changed}
+use Rattle.pp_law.specs.Responses.{got}
 use Rattle.pp_law.specs.Asking.{ask, ask_body, ask_next, asked_text, asking, body_heard, is_front, is_writing, left_in, left_to_ask, permits_asked}
 use Rattle.pp_law.specs.Connections.{conn, exchange, is_conn, is_exchange, is_for, is_outstanding, on_client_of, on_exchange}
 use Rattle.pp_law.specs.Lawful.{Lawful}
@@ -27,20 +28,22 @@ use Rattle.pp_laws_asks.proofs.InOrder.{Found, asked_so, found_in, front_of}
 use Rattle.pp_laws_pool.proofs.Along.{after_all-append, back_from}
 use Rattle.pp_laws_lines.specs.Lines.{AsksAreOneStream, IsFront, IsOneStream, WasToAsk, joined, nothing, of_body, of_text}
 use Rattle.pp_laws_lines.proofs.Lined.{FactsOf, Heads, IsPlain, Lined, facts_of, lined}
-use Rattle.pp_laws_lines.proofs.LinedHappenings.{AsksNothing, changed-lined, nobody, paid-lined}
+use Rattle.pp_laws_lines.proofs.LinedHeads.{got-lined}
+use Rattle.pp_laws_lines.proofs.LinedReplies.{end_replies-lined}
+use Rattle.pp_laws_lines.proofs.LinedHappenings.{IsQuiet, changed-lined, nobody, paid-lined}
 use Rattle.pp_laws_lines.proofs.Stands.{AllFresh, IsNextOf, Located, Since, SoFar, Stands, Tells, WholeIn, ask_same, at_its_front, in_back, in_body, in_its_midst, in_text, located, next_still, one_by, settled_all, stands_before, tells_by, tells_still, whole_append, whole_still}
 
-abbrev plain : List Term → Log → ℕ → Since
-plain terms log low = record { terms = terms; log = log; low = low; gone = None; but = None; kept = None }
+abbrev pub plain : List Term → Log → ℕ → (ℕ → Option ℕ) → Since
+plain terms log low fs = record { terms = terms; log = log; low = low; firsts = fs; gone = None; but = None; kept = None }
 
-is_plain : (terms : List Term) (log : Log) (low : ℕ) → IsPlain (plain terms log low)
-is_plain terms log low = record { gone = refl; but = refl; kept = refl }
+pub is_plain : (terms : List Term) (log : Log) (low : ℕ) (fs : ℕ → Option ℕ) → IsPlain (plain terms log low fs)
+is_plain terms log low fs = record { gone = refl; but = refl; kept = refl }
 
--- behind a log
-record Inv (terms : List Term) (log : Log) (s : State) : Type 0 where
-  lines : Lined (plain terms log s.top) s
-  silent : (n : ℕ) → s.top < n → asked_on n log ≡ []
-  one : (n : ℕ) → IsOneStream terms log n (asked_on n log)
+-- behind a log; and whose response comes on each connection that is answered
+pub record Inv (terms : List Term) (log : Log) (fs : ℕ → Option ℕ) (s : State) : Type 0 where
+  pub lines : Lined (plain terms log s.top fs) s
+  pub silent : (n : ℕ) → s.top < n → asked_on n log ≡ []
+  pub one : (n : ℕ) → IsOneStream terms log n (asked_on n log)
 
 once : (n : ℕ) (h : Happening) → asked_on n (h ∷ []) ≡ asked_in n h ++ []
 unfolding asked_on
@@ -71,8 +74,9 @@ tells_grown terms log h n xs line none t =
 
 -- ---- where nothing is asked
 
-quiet : (n : ℕ) (h : Happening) → AsksNothing h → asked_in n h ≡ []
+quiet : (n : ℕ) (h : Happening) → IsQuiet h → asked_in n h ≡ []
 quiet n (Asked k bytes) is = absurd is
+quiet n (Got k bytes) is = absurd is
 quiet n (Woke image) is = refl
 quiet n (Waits w) is = refl
 quiet n (Clock seconds) is = refl
@@ -88,7 +92,6 @@ quiet n (Undialled host port) is = refl
 quiet n (Reached m) is = refl
 quiet n (Ended m) is = refl
 quiet n (Broke m) is = refl
-quiet n (Got m bytes) is = refl
 quiet n (Dropped m) is = refl
 quiet n (NoneYet m) is = refl
 quiet n (Began op) is = refl
@@ -103,8 +106,8 @@ quiet n (Printed text) is = refl
 quiet n Stopped is = refl
 
 -- with other words on what was asked
-restated : (b c : Since) (s : State) → c.low ≤ s.top → c.kept ≡ None → ((k : Conn) → IsIn k s.conns → k.is_closing ≡ false → Tells c.terms c.log k.number (asked_on k.number c.log) s.exchanges k.line) → b.but ≡ None → FactsOf b s → FactsOf c s
-restated b c s low none streams no_but f = record {
+restated : (b c : Since) (s : State) → c.low ≤ s.top → c.kept ≡ None → ((k : Conn) → IsIn k s.conns → k.is_closing ≡ false → Tells c.terms c.log k.number (asked_on k.number c.log) s.exchanges k.line) → ((k : Conn) (a : Answer) → IsIn k s.conns → k.answer ≡ Some a → Heads (c.firsts k.number) s.exchanges k) → FactsOf b s → FactsOf c s
+restated b c s low none streams answers f = record {
   low = low;
   apart = f.apart;
   known = f.known;
@@ -116,31 +119,48 @@ restated b c s low none streams no_but f = record {
   distinct = f.distinct;
   closed = f.closed;
   streams = λ k i isnt on. streams k i isnt;
-  answers = λ k a i is on. f.answers k a i is (λ e. let both : None ≡ Some k.number = sym no_but ∙ e in cc both);
+  answers = λ k a i is on. answers k a i is;
   kept = λ w x is. let both : None ≡ Some w = sym none ∙ is in absurd (cc both);
 }
 
 -- of the number that was given last
-settled_top : (terms : List Term) (log : Log) (low : ℕ) (s : State) → Lined (plain terms log low) s → Lined (plain terms log s.top) s
-settled_top terms log low s h = lined (restated (plain terms log low) (plain terms log s.top) s (le_refl s.top) refl (λ k i isnt. (facts_of h).streams k i isnt (λ is. cc is)) refl (facts_of h))
+settled_top : (terms : List Term) (log : Log) (low : ℕ) (fs : ℕ → Option ℕ) (s : State) → Lined (plain terms log low fs) s → Lined (plain terms log s.top fs) s
+settled_top terms log low fs s h =
+    lined (restated (plain terms log low fs) (plain terms log s.top fs) s (le_refl s.top) refl (λ k i isnt. (facts_of h).streams k i isnt (λ is. cc is)) (λ k a i is. (facts_of h).answers k a i is (λ x. cc x)) (facts_of h))
 
-quiet_step : (terms : List Term) (log : Log) (h : Happening) (s : State) → AsksNothing h → IsPermitted s h → Inv terms log s → Inv terms (log ++ h ∷ []) (after s h)
-quiet_step terms log h s none permitted inv = record {
-  lines = settled_top terms (log ++ h ∷ []) s.top (after s h) now;
-  silent = λ n above. unasked n (lt_of_le_of_lt (facts_of now).low above);
+-- the log grows by a happening that asks nothing
+unasked_still : (terms : List Term) (log : Log) (fs : ℕ → Option ℕ) (h : Happening) (s : State) → ((n : ℕ) → asked_in n h ≡ []) → Inv terms log fs s → (n : ℕ) → s.top < n → asked_on n (log ++ h ∷ []) ≡ []
+unasked_still terms log fs h s none inv n above = one_more log h n ∙ ap (λ (xs : Bytes). asked_on n log ++ xs) (none n) ∙ append-nil (asked_on n log) ∙ inv.silent n above
+
+grown : (terms : List Term) (log : Log) (fs : ℕ → Option ℕ) (h : Happening) (s : State) → ((n : ℕ) → asked_in n h ≡ []) → Inv terms log fs s → Lined (plain terms (log ++ h ∷ []) s.top fs) s
+grown terms log fs h s none inv =
+    let f = facts_of inv.lines in
+    lined (restated (plain terms log s.top fs) (plain terms (log ++ h ∷ []) s.top fs) s (le_refl s.top) refl (λ k i isnt. tells_grown terms log h k.number s.exchanges k.line (none k.number) (f.streams k i isnt (λ is. cc is))) (λ k a i is. f.answers k a i is (λ x. cc x)) f)
+
+pub quiet_step : (terms : List Term) (log : Log) (fs : ℕ → Option ℕ) (h : Happening) (s : State) → IsQuiet h → IsPermitted s h → Inv terms log fs s → Inv terms (log ++ h ∷ []) fs (after s h)
+quiet_step terms log fs h s none permitted inv = record {
+  lines = settled_top terms (log ++ h ∷ []) s.top fs (after s h) now;
+  silent = λ n above. unasked_still terms log fs h s (λ m. quiet m h none) inv n (lt_of_le_of_lt (facts_of now).low above);
   one = λ n. one_still terms log h n (quiet n h none) (inv.one n);
 }
   where
-    unasked : (n : ℕ) → s.top < n → asked_on n (log ++ h ∷ []) ≡ []
-    unasked n above = one_more log h n ∙ ap (λ (xs : Bytes). asked_on n log ++ xs) (quiet n h none) ∙ append-nil (asked_on n log) ∙ inv.silent n above
+    now : Lined (plain terms (log ++ h ∷ []) s.top fs) (after s h)
+    now = changed-lined s h none (is_plain terms (log ++ h ∷ []) s.top fs) refl (unasked_still terms log fs h s (λ m. quiet m h none) inv) permitted (grown terms log fs h s (λ m. quiet m h none) inv)
 
-    grown : Lined (plain terms (log ++ h ∷ []) s.top) s
-    grown =
-        let f = facts_of inv.lines in
-        lined (restated (plain terms log s.top) (plain terms (log ++ h ∷ []) s.top) s (le_refl s.top) refl (λ k i isnt. tells_grown terms log h k.number s.exchanges k.line (quiet k.number h none) (f.streams k i isnt (λ is. cc is))) refl f)
+-- what is read of an origin
+pub got_grown : (terms : List Term) (log : Log) (fs : ℕ → Option ℕ) (m : ℕ) (bytes : Bytes) (s : State) → Inv terms log fs s → Lined (plain terms (log ++ Got m bytes ∷ []) s.top fs) s
+got_grown terms log fs m bytes s inv = grown terms log fs (Got m bytes) s (λ n. refl) inv
 
-    now : Lined (plain terms (log ++ h ∷ []) s.top) (after s h)
-    now = changed-lined s h none (is_plain terms (log ++ h ∷ []) s.top) refl unasked permitted grown
+pub got_over : (terms : List Term) (log : Log) (fs gs : ℕ → Option ℕ) (m : ℕ) (bytes : Bytes) (s : State) → Inv terms log fs s → Lined (plain terms (log ++ Got m bytes ∷ []) s.top gs) (got (length bytes) m bytes s) → Inv terms (log ++ Got m bytes ∷ []) gs (after s (Got m bytes))
+unfolding changed
+got_over terms log fs gs m bytes s inv read = record {
+  lines = settled_top terms (log ++ Got m bytes ∷ []) s.top gs (after s (Got m bytes)) now;
+  silent = λ n above. unasked_still terms log fs (Got m bytes) s (λ x. refl) inv n (lt_of_le_of_lt (facts_of now).low above);
+  one = λ n. one_still terms log (Got m bytes) n refl (inv.one n);
+}
+  where
+    now : Lined (plain terms (log ++ Got m bytes ∷ []) s.top gs) (after s (Got m bytes))
+    now = paid-lined _ (end_replies-lined _ read)
 
 -- ---- words on lists
 
@@ -197,8 +217,8 @@ module _ (terms : List Term) (log : Log) (m : ℕ) (bytes : Bytes) (k : Conn) (e
   abbrev ys : List Exchange
   ys = change (is_exchange e.number) (asked_more (is_outstanding e) (length bytes) s.clock) s.exchanges
 
-  module _ (st : Step) (inv : Inv terms log (state_after terms log)) where
-    facts : FactsOf (plain terms log s.top) s
+  module _ (st : Step) (fs : ℕ → Option ℕ) (inv : Inv terms log fs (state_after terms log)) where
+    facts : FactsOf (plain terms log s.top fs) s
     facts = facts_of inv.lines
 
     there_e : IsIn e s.exchanges × (e.number ≡ st.found.number)
@@ -464,14 +484,14 @@ module _ (terms : List Term) (log : Log) (m : ℕ) (bytes : Bytes) (k : Conn) (e
             at (x ∷ xs) (inl eq) = inl (ap (λ (b : Bool). elim b as (λ c. Exchange) [ true ↦ f d | false ↦ d ]) (sym miss) ∙ ap (λ (y : Exchange). elim (is_exchange e.number y) as (λ c. Exchange) [ true ↦ f y | false ↦ y ]) eq)
             at (x ∷ xs) (inr q) = inr (at xs q)
 
-    answers_by : (j : Conn) (a : Answer) → IsIn j s.conns → j.answer ≡ Some a → Heads ys j
-    answers_by j a i is = let w = facts.answers j a i is (λ x. cc x) in record { number = w.number; first = w.first; out = λ x l at. by w x at (in_change (is_exchange e.number) f x s.exchanges l) }
+    answers_by : (j : Conn) (a : Answer) → IsIn j s.conns → j.answer ≡ Some a → Heads (fs j.number) ys j
+    answers_by j a i is = let w = facts.answers j a i is (λ x. cc x) in record { number = w.number; expected = w.expected; first = w.first; out = λ x l at. by w x at (in_change (is_exchange e.number) f x s.exchanges l) }
       where
         still_out : (o : Bool) → is_outstanding e ≡ o → e.asked ≡ length e.text → (asked_more o (length bytes) s.clock e).asked ≡ length (asked_more o (length bytes) s.clock e).text
         still_out true o_is out = out
         still_out false o_is out = let both : true ≡ false = sym (ap (λ n. n == length e.text) out ∙ number_same (length e.text)) ∙ o_is in absurd (cc both)
 
-        by : (w : Heads s.exchanges j) (x : Exchange) → x.number ≡ w.number → Changed (is_exchange e.number) f s.exchanges x → x.asked ≡ length x.text
+        by : (w : Heads (fs j.number) s.exchanges j) (x : Exchange) → x.number ≡ w.number → Changed (is_exchange e.number) f s.exchanges x → x.asked ≡ length x.text
         by w x at (same l isnt) = w.out x l at
         by w x at (other y l hit eq) =
             let it : y ≡ e = only y l (same_number y.number e.number hit) in
@@ -479,7 +499,7 @@ module _ (terms : List Term) (log : Log) (m : ℕ) (bytes : Bytes) (k : Conn) (e
             let number : e.number ≡ w.number = sym (ap exchange_number now ∙ number_now (is_outstanding e)) ∙ at in
             subst (λ (z : Exchange). z.asked ≡ length z.text) (sym now) (still_out (is_outstanding e) refl (w.out e there_e.0 number))
 
-    asked_facts : FactsOf (plain terms longer s.top) (record s { exchanges = ys })
+    asked_facts : FactsOf (plain terms longer s.top fs) (record s { exchanges = ys })
     asked_facts = record {
       low = le_refl s.top;
       apart = facts.apart;
@@ -511,8 +531,8 @@ module _ (terms : List Term) (log : Log) (m : ℕ) (bytes : Bytes) (k : Conn) (e
 
 -- ---- the step
 
-opened_by : (terms : List Term) (log : Log) (k : Conn) (e : Exchange) → Inv terms log (state_after terms log) → IsIn k (state_after terms log).conns → Found (state_after terms log) k.line e → k.is_closing ≡ false
-opened_by terms log k e inv there found = by k.is_closing refl
+opened_by : (terms : List Term) (log : Log) (fs : ℕ → Option ℕ) (k : Conn) (e : Exchange) → Inv terms log fs (state_after terms log) → IsIn k (state_after terms log).conns → Found (state_after terms log) k.line e → k.is_closing ≡ false
+opened_by terms log fs k e inv there found = by k.is_closing refl
   where
     never : (ns : List ℕ) (n : ℕ) (ms : List ℕ) → [] ≡ ns ++ n ∷ ms → ⊥
     never [] n ms is = cc is
@@ -532,8 +552,8 @@ record Asks (terms : List Term) (log : Log) (m : ℕ) (bytes : Bytes) : Type 0 w
   asks : asking (state_after terms log) m ≡ Some exchange
   step : Step terms log m bytes conn exchange
 
-asks_of : (terms : List Term) (log : Log) (m : ℕ) (bytes : Bytes) → permits_asked (state_after terms log) m bytes ≡ true → Inv terms log (state_after terms log) → Asks terms log m bytes
-asks_of terms log m bytes is inv = by (conn (state_after terms log) m) refl
+asks_of : (terms : List Term) (log : Log) (fs : ℕ → Option ℕ) (m : ℕ) (bytes : Bytes) → permits_asked (state_after terms log) m bytes ≡ true → Inv terms log fs (state_after terms log) → Asks terms log m bytes
+asks_of terms log fs m bytes is inv = by (conn (state_after terms log) m) refl
   where
     s : State
     s = state_after terms log
@@ -559,7 +579,7 @@ asks_of terms log m bytes is inv = by (conn (state_after terms log) m) refl
           step = record {
             number = same_number k.number m there.1;
             there = there.0;
-            is_open = opened_by terms log k e inv there.0 f;
+            is_open = opened_by terms log fs k e inv there.0 f;
             found = f;
             rest = w.0;
             left = w.1;
@@ -582,55 +602,66 @@ asked-lined : (b : Since) (s : State) (e : Exchange) (m n : ℕ) → asking s m 
 unfolding ask ask_next
 asked-lined b s e m n is f = subst (λ (o : Option Exchange). Lined b (elim o as (λ c. State) [ None ↦ s | Some x ↦ elim (is_outstanding x) as (λ c. State) [ false ↦ on_exchange x.number (asked_text n s.clock) s | true ↦ ask_body x n s ] ])) (sym is) (next_lined b s e n (is_outstanding e) f)
 
-asked_step : (terms : List Term) (log : Log) (m : ℕ) (bytes : Bytes) → IsPermitted (state_after terms log) (Asked m bytes) → Inv terms log (state_after terms log) → Inv terms (log ++ Asked m bytes ∷ []) (after (state_after terms log) (Asked m bytes))
+pub asked_step : (terms : List Term) (log : Log) (fs : ℕ → Option ℕ) (m : ℕ) (bytes : Bytes) → IsPermitted (state_after terms log) (Asked m bytes) → Inv terms log fs (state_after terms log) → Inv terms (log ++ Asked m bytes ∷ []) fs (after (state_after terms log) (Asked m bytes))
 unfolding changed
-asked_step terms log m bytes permitted inv = record {
-  lines = settled_top terms (log ++ Asked m bytes ∷ []) (state_after terms log).top (after (state_after terms log) (Asked m bytes)) now;
+asked_step terms log fs m bytes permitted inv = record {
+  lines = settled_top terms (log ++ Asked m bytes ∷ []) (state_after terms log).top fs (after (state_after terms log) (Asked m bytes)) now;
   silent = λ n above. unasked n (lt_of_le_of_lt (facts_of now).low above);
   one = λ n. one_by_number n (n == m) refl;
 }
   where
     a : Asks terms log m bytes
-    a = asks_of terms log m bytes (asked_so (state_after terms log) m bytes permitted) inv
+    a = asks_of terms log fs m bytes (asked_so (state_after terms log) m bytes permitted) inv
 
-    now : Lined (plain terms (log ++ Asked m bytes ∷ []) (state_after terms log).top) (after (state_after terms log) (Asked m bytes))
-    now = paid-lined _ (asked-lined (plain terms (log ++ Asked m bytes ∷ []) (state_after terms log).top) (state_after terms log) a.exchange m (length bytes) a.asks (asked_facts terms log m bytes a.conn a.exchange a.step inv))
+    now : Lined (plain terms (log ++ Asked m bytes ∷ []) (state_after terms log).top fs) (after (state_after terms log) (Asked m bytes))
+    now = paid-lined _ (asked-lined (plain terms (log ++ Asked m bytes ∷ []) (state_after terms log).top fs) (state_after terms log) a.exchange m (length bytes) a.asks (asked_facts terms log m bytes a.conn a.exchange a.step fs inv))
 
     unasked : (n : ℕ) → (state_after terms log).top < n → asked_on n (log ++ Asked m bytes ∷ []) ≡ []
     unasked n above =
         let known : a.conn.number ≤ (state_after terms log).top = (facts_of inv.lines).known a.conn a.step.there in
         let number : a.conn.number ≡ m = a.step.number in
-        one_more log (Asked m bytes) n ∙ ap (λ (xs : Bytes). asked_on n log ++ xs) (elsewhere terms log m bytes a.conn a.exchange a.step inv n (λ eq. differ n eq above known number)) ∙ append-nil (asked_on n log) ∙ inv.silent n above
+        one_more log (Asked m bytes) n ∙ ap (λ (xs : Bytes). asked_on n log ++ xs) (elsewhere terms log m bytes a.conn a.exchange a.step fs inv n (λ eq. differ n eq above known number)) ∙ append-nil (asked_on n log) ∙ inv.silent n above
       where
         differ : (x : ℕ) → x ≡ m → (state_after terms log).top < x → a.conn.number ≤ (state_after terms log).top → a.conn.number ≡ m → ⊥
         differ x eq lt le number = omega arith
 
     one_by_number : (n : ℕ) (b : Bool) → (n == m) ≡ b → IsOneStream terms (log ++ Asked m bytes ∷ []) n (asked_on n (log ++ Asked m bytes ∷ []))
-    one_by_number n true is = subst (λ x. IsOneStream terms (log ++ Asked m bytes ∷ []) x (asked_on x (log ++ Asked m bytes ∷ []))) (sym (same_number n m is)) (one_by terms (log ++ Asked m bytes ∷ []) m _ _ a.conn.line (now_tells terms log m bytes a.conn a.exchange a.step inv))
-    one_by_number n false is = one_still terms log (Asked m bytes) n (elsewhere terms log m bytes a.conn a.exchange a.step inv n (λ eq. let both : true ≡ false = sym (number_same m) ∙ ap (λ x. x == m) (sym eq) ∙ is in cc both)) (inv.one n)
+    one_by_number n true is = subst (λ x. IsOneStream terms (log ++ Asked m bytes ∷ []) x (asked_on x (log ++ Asked m bytes ∷ []))) (sym (same_number n m is)) (one_by terms (log ++ Asked m bytes ∷ []) m _ _ a.conn.line (now_tells terms log m bytes a.conn a.exchange a.step fs inv))
+    one_by_number n false is = one_still terms log (Asked m bytes) n (elsewhere terms log m bytes a.conn a.exchange a.step fs inv n (λ eq. let both : true ≡ false = sym (number_same m) ∙ ap (λ x. x == m) (sym eq) ∙ is in cc both)) (inv.one n)
 
-step : (terms : List Term) (log : Log) (h : Happening) → IsPermitted (state_after terms log) h → Inv terms log (state_after terms log) → Inv terms (log ++ h ∷ []) (after (state_after terms log) h)
-step terms log (Asked m bytes) permitted inv = asked_step terms log m bytes permitted inv
-step terms log h permitted inv = quiet_step terms log h (state_after terms log) tt permitted inv
+-- whoever it is whose response comes
+record Behind (terms : List Term) (log : Log) (s : State) : Type 0 where
+  firsts : ℕ → Option ℕ
+  inv : Inv terms log firsts s
 
-inv_from : (terms : List Term) (front log : Log) → Lawful terms (front ++ log) → Inv terms front (state_after terms front) → Inv terms (front ++ log) (state_after terms (front ++ log))
-inv_from terms front [] lawful now = subst (λ (l : Log). Inv terms l (state_after terms l)) (sym (append-nil front)) now
+got_step : (terms : List Term) (log : Log) (m : ℕ) (bytes : Bytes) (s : State) → Behind terms log s → Behind terms (log ++ Got m bytes ∷ []) (after s (Got m bytes))
+got_step terms log m bytes s w =
+    let r = got-lined (length bytes) m bytes s (is_plain terms (log ++ Got m bytes ∷ []) s.top w.firsts) (got_grown terms log w.firsts m bytes s w.inv) in
+    record { firsts = r.firsts; inv = got_over terms log w.firsts r.firsts m bytes s w.inv r.lines }
+
+step : (terms : List Term) (log : Log) (h : Happening) → IsPermitted (state_after terms log) h → Behind terms log (state_after terms log) → Behind terms (log ++ h ∷ []) (after (state_after terms log) h)
+step terms log (Asked m bytes) permitted w = record { firsts = w.firsts; inv = asked_step terms log w.firsts m bytes permitted w.inv }
+step terms log (Got m bytes) permitted w = got_step terms log m bytes (state_after terms log) w
+step terms log h permitted w = record { firsts = w.firsts; inv = quiet_step terms log w.firsts h (state_after terms log) tt permitted w.inv }
+
+inv_from : (terms : List Term) (front log : Log) → Lawful terms (front ++ log) → Behind terms front (state_after terms front) → Behind terms (front ++ log) (state_after terms (front ++ log))
+inv_from terms front [] lawful now = subst (λ (l : Log). Behind terms l (state_after terms l)) (sym (append-nil front)) now
 inv_from terms front (h ∷ log) lawful now =
     let joined_logs : (front ++ h ∷ []) ++ log ≡ front ++ h ∷ log = append_assoc front (h ∷ []) log in
     let whole : Lawful terms ((front ++ h ∷ []) ++ log) = subst (λ (l : Log). Lawful terms l) (sym joined_logs) lawful in
-    let next : Inv terms (front ++ h ∷ []) (state_after terms (front ++ h ∷ [])) = subst (λ (s : State). Inv terms (front ++ h ∷ []) s) (sym (after_all-append (start terms) front (h ∷ []))) (step terms front h (back_from (start terms) front (h ∷ log) lawful).0 now) in
-    subst (λ (l : Log). Inv terms l (state_after terms l)) joined_logs (inv_from terms (front ++ h ∷ []) log whole next)
+    let next : Behind terms (front ++ h ∷ []) (state_after terms (front ++ h ∷ [])) = subst (λ (s : State). Behind terms (front ++ h ∷ []) s) (sym (after_all-append (start terms) front (h ∷ []))) (step terms front h (back_from (start terms) front (h ∷ log) lawful).0 now) in
+    subst (λ (l : Log). Behind terms l (state_after terms l)) joined_logs (inv_from terms (front ++ h ∷ []) log whole next)
 
 none_asked : (n : ℕ) → asked_on n [] ≡ []
 unfolding asked_on
 none_asked n = refl
 
-first : (terms : List Term) → Inv terms [] (start terms)
-first terms = record {
-  lines = nobody (plain terms [] 0) (start terms) (le_refl 0) refl refl refl;
+pub first : (terms : List Term) (fs : ℕ → Option ℕ) → Inv terms [] fs (start terms)
+first terms fs = record {
+  lines = nobody (plain terms [] 0 fs) (start terms) (le_refl 0) refl refl refl;
   silent = λ n above. none_asked n;
   one = λ n. record { asks = []; whole = tt; last = []; front = nothing refl; all = none_asked n };
 }
 
 pub one_stream : AsksAreOneStream
-one_stream terms log number lawful = (inv_from terms [] log lawful (first terms)).one number
+one_stream terms log number lawful = (inv_from terms [] log lawful (record { firsts = λ n. None; inv = first terms (λ n. None) })).inv.one number

@@ -1,24 +1,25 @@
 -- What each step of the law keeps of what came on connections: how far it was read, and what of it is on record.
-use Rattle.std.proofs.Common.{◌≡◌, ◌⊎◌, refl, ℕ, Bool, true, false, not, ◌==◌, List, [], ◌∷◌, ◌++◌, map, filter, length, Option, Some, None, Ok, inl, inr, sym, subst, ap, ◌∙◌, append_assoc}
+use Rattle.std.proofs.Common.{◌≡◌, ◌⊎◌, refl, ℕ, Bool, true, false, ◌==◌, List, [], ◌∷◌, ◌++◌, map, filter, length, Option, Some, None, Ok, inl, inr, sym, subst, ap, ◌∙◌, append_assoc}
 use Rattle.std.proofs.lemmas.List.{append-nil}
 use Rattle.pp_framing.specs.Framing.{rule_of}
 use Rattle.pp_head.specs.Read.{Whole, More}
-use Rattle.pp_head.specs.Response.{Response, response_at}
+use Rattle.pp_head.specs.Response.{response_at}
 use Rattle.pp_pipe.specs.Front.{is_interim}
 use Rattle.pp_law.specs.Closing.{left_alone}
-use Rattle.pp_law.specs.Connections.{is_conn, is_exchange, on_conn, on_exchange, put_on, may_ask_again, unplaced}
+use Rattle.pp_law.specs.Connections.{is_conn, is_exchange, on_conn, on_exchange, put_on, unplaced}
 use Rattle.pp_law.specs.Deciding.{add_exchange, begin_exchange}
 use Rattle.pp_law.specs.Closing.{forsake, leave}
 use Rattle.pp_law.specs.Lists.{Bytes, change}
-use Rattle.pp_law.specs.OwnHeads.{key_of, version_in}
+use Rattle.pp_law.specs.OwnHeads.{version_in}
 use Rattle.pp_law.specs.Responses.{asks_head}
-use Rattle.pp_law.specs.State.{State, Sent, Answer, Conn, Exchange}
+use Rattle.pp_law.specs.State.{Sent, Answer, Conn, Exchange}
 use Rattle.pp_laws.specs.Numbers.{AreRising}
 use Rattle.pp_laws.specs.Runs.{IsIn}
 use Rattle.pp_laws.proofs.Lists.{changed_at, in_filter, in_map, in_push, rise_map}
 use Rattle.pp_laws.proofs.Sound.{conn_number}
+use Rattle.pp_laws.proofs.Tests.{same_number}
 use Rattle.pp_laws_pool.proofs.PoolFacts.{GoesOn, nothing_read}
-use Rattle.pp_laws_pool.proofs.View.{View, Walk, Places, Begins, Holds, holds, facts_of, view, SameAsk, Lesser}
+use Rattle.pp_laws_pool.proofs.View.{View, Walk, Places, Begins, view, Lesser}
 use Rattle.pp_laws_sent.specs.Stands.{StandsIn}
 use Rattle.pp_laws_sent.proofs.Bodies.{payload_more, whole_more}
 
@@ -28,7 +29,7 @@ abbrev pub EndsWith : Bytes → Bytes → Type 0
 EndsWith whole end = (before : Bytes) × (whole ≡ before ++ end)
 
 -- the head of an answer came, and behind it what was read of its body, and then this end
-pub record Began (whole end : Bytes) (asked : Exchange → Type 0) (a : Answer) : Type 0 where
+pub record Began (whole end : Bytes) (asked : Exchange → Type 0) (expects : Option ℕ) (a : Answer) : Type 0 where
   pub before : Bytes
   pub head : Bytes
   pub stream : whole ≡ before ++ head ++ (a.raw ++ end)
@@ -37,6 +38,7 @@ pub record Began (whole end : Bytes) (asked : Exchange → Type 0) (a : Answer) 
   pub final : is_interim a.head.status ≡ false
   pub ask : Exchange
   pub asks : asked ask
+  pub expected : expects ≡ Some ask.number
   pub ruled : rule_of (asks_head ask) a.head.status a.head.fields ≡ Ok a.rule
   pub version : version_in ask a.head ≡ a.version
 
@@ -53,19 +55,19 @@ pub record WasAsked (asked : Exchange → Type 0) (e : Exchange) : Type 0 where
   pub is : Alike e was
 
 -- of all that came, this end was not read. While a connection is read, each exchange of its line is one that was asked
-pub record Facts (total end : ℕ → Bytes) (asked : ℕ → Exchange → Type 0) (reads : Bool) (but : Option (ℕ × Answer)) (sent : List Sent) (conns : List Conn) (exchanges : List Exchange) : Type 0 where
+pub record Facts (total end : ℕ → Bytes) (asked : ℕ → Exchange → Type 0) (firsts : ℕ → Option ℕ) (reads : Bool) (but : Option (ℕ × Answer)) (sent : List Sent) (conns : List Conn) (exchanges : List Exchange) : Type 0 where
   pub stand : (p : Sent) → IsIn p sent → StandsIn total asked p
   pub read : (k : Conn) → IsIn k conns → EndsWith (total k.number) (k.unread ++ end k.number)
   pub more : (k : Conn) → IsIn k conns → response_at k.unread ≡ More
   pub past : (k : Conn) (a : Answer) → IsIn k conns → k.answer ≡ Some a → k.unread ≡ []
   pub shut : (k : Conn) → IsIn k conns → k.is_closing ≡ true → (k.answer ≡ None) × (k.unread ≡ [])
-  pub begun : (k : Conn) (a : Answer) → IsIn k conns → k.answer ≡ Some a → Began (total k.number) (end k.number) (asked k.number) a
+  pub begun : (k : Conn) (a : Answer) → IsIn k conns → k.answer ≡ Some a → Began (total k.number) (end k.number) (asked k.number) (firsts k.number) a
   pub going : (k : Conn) (a : Answer) → IsIn k conns → k.answer ≡ Some a → GoesOn a ⊎ (but ≡ Some (k.number, a))
   pub rise : reads ≡ true → AreRising (map conn_number conns)
   pub from : reads ≡ true → (k : Conn) (e : Exchange) → IsIn k conns → IsIn e exchanges → IsIn e.number k.line → WasAsked (asked k.number) e
 
-abbrev pub Came : (ℕ → Bytes) → (ℕ → Bytes) → (ℕ → Exchange → Type 0) → Bool → Option (ℕ × Answer) → View → Type 0
-Came total end asked reads but v = Facts total end asked reads but v.sent v.conns v.exchanges
+abbrev pub Came : (ℕ → Bytes) → (ℕ → Bytes) → (ℕ → Exchange → Type 0) → (ℕ → Option ℕ) → Bool → Option (ℕ × Answer) → View → Type 0
+Came total end asked firsts reads but v = Facts total end asked firsts reads but v.sent v.conns v.exchanges
 
 abbrev pub no_end : ℕ → Bytes
 no_end n = []
@@ -91,18 +93,18 @@ pub record Still (j k : Conn) : Type 0 where
   pub unread : (j.unread ≡ k.unread) ⊎ (j.unread ≡ [])
   pub closing : (j.is_closing ≡ k.is_closing) ⊎ ((j.answer ≡ None) × (j.unread ≡ []))
 
-module _ (total end : ℕ → Bytes) (asked : ℕ → Exchange → Type 0) (reads : Bool) (but : Option (ℕ × Answer)) where
+module _ (total end : ℕ → Bytes) (asked : ℕ → Exchange → Type 0) (firsts : ℕ → Option ℕ) (reads : Bool) (but : Option (ℕ × Answer)) where
   abbrev Here : View → Type 0
-  Here v = Came total end asked reads but v
+  Here v = Came total end asked firsts reads but v
 
-  pub conns_kept : (f : Conn → Conn) → ((k : Conn) → Still (f k) k) → (reads ≡ true → (k : Conn) (n : ℕ) → IsIn n (f k).line → IsIn n k.line) → (v : View) → Came total end asked reads but v → Came total end asked reads but (record v { conns = map f v.conns })
+  pub conns_kept : (f : Conn → Conn) → ((k : Conn) → Still (f k) k) → (reads ≡ true → (k : Conn) (n : ℕ) → IsIn n (f k).line → IsIn n k.line) → (v : View) → Came total end asked firsts reads but v → Came total end asked firsts reads but (record v { conns = map f v.conns })
   conns_kept f still within v h = record {
     stand = h.stand;
     read = of_map (λ (x : Conn). EndsWith (total x.number) (x.unread ++ end x.number)) f v.conns (λ j i. read_by j i (still j).unread);
     more = of_map (λ (x : Conn). response_at x.unread ≡ More) f v.conns (λ j i. more_by j i (still j).unread);
     past = λ k a i. of_map (λ (x : Conn). x.answer ≡ Some a → x.unread ≡ []) f v.conns (λ j i2. past_by a j i2 (still j).answer (still j).unread) k i;
     shut = of_map (λ (x : Conn). x.is_closing ≡ true → (x.answer ≡ None) × (x.unread ≡ [])) f v.conns (λ j i. shut_by j i (still j).closing);
-    begun = λ k a i. of_map (λ (x : Conn). x.answer ≡ Some a → Began (total x.number) (end x.number) (asked x.number) a) f v.conns (λ j i2. begun_by a j i2 (still j).answer) k i;
+    begun = λ k a i. of_map (λ (x : Conn). x.answer ≡ Some a → Began (total x.number) (end x.number) (asked x.number) (firsts x.number) a) f v.conns (λ j i2. begun_by a j i2 (still j).answer) k i;
     going = λ k a i. of_map (λ (x : Conn). x.answer ≡ Some a → GoesOn a ⊎ (but ≡ Some (x.number, a))) f v.conns (λ j i2. going_by a j i2 (still j).answer) k i;
     rise = λ on. rise_map conn_number f (λ k. (still k).number) v.conns (h.rise on);
     from = λ on k e i j. of_map (λ (x : Conn). IsIn e.number x.line → WasAsked (asked x.number) e) f v.conns (λ g i2 l. subst (λ n. WasAsked (asked n) e) (sym (still g).number) (h.from on g e i2 j (within on g e.number l))) k i;
@@ -136,15 +138,15 @@ module _ (total end : ℕ → Bytes) (asked : ℕ → Exchange → Type 0) (read
       shut_by j i (inl e) is = let w = h.shut j i (sym e ∙ is) in (answer_by j w.0 (still j).answer, unread_by j w.1 (still j).unread)
       shut_by j i (inr w) is = w
 
-      begun_by : (a : Answer) (j : Conn) → IsIn j v.conns → ((f j).answer ≡ j.answer) ⊎ ((f j).answer ≡ None) → (f j).answer ≡ Some a → Began (total (f j).number) (end (f j).number) (asked (f j).number) a
-      begun_by a j i (inl e) is = subst (λ n. Began (total n) (end n) (asked n) a) (sym (still j).number) (h.begun j a i (sym e ∙ is))
+      begun_by : (a : Answer) (j : Conn) → IsIn j v.conns → ((f j).answer ≡ j.answer) ⊎ ((f j).answer ≡ None) → (f j).answer ≡ Some a → Began (total (f j).number) (end (f j).number) (asked (f j).number) (firsts (f j).number) a
+      begun_by a j i (inl e) is = subst (λ n. Began (total n) (end n) (asked n) (firsts n) a) (sym (still j).number) (h.begun j a i (sym e ∙ is))
       begun_by a j i (inr none) is = let both : None ≡ Some a = sym none ∙ is in absurd (cc both)
 
       going_by : (a : Answer) (j : Conn) → IsIn j v.conns → ((f j).answer ≡ j.answer) ⊎ ((f j).answer ≡ None) → (f j).answer ≡ Some a → GoesOn a ⊎ (but ≡ Some ((f j).number, a))
       going_by a j i (inl e) is = subst (λ n. GoesOn a ⊎ (but ≡ Some (n, a))) (sym (still j).number) (h.going j a i (sym e ∙ is))
       going_by a j i (inr none) is = let both : None ≡ Some a = sym none ∙ is in absurd (cc both)
 
-  pub exchanges_kept : (f : Exchange → Exchange) → ((e : Exchange) → Alike (f e) e) → (v : View) → Came total end asked reads but v → Came total end asked reads but (record v { exchanges = map f v.exchanges })
+  pub exchanges_kept : (f : Exchange → Exchange) → ((e : Exchange) → Alike (f e) e) → (v : View) → Came total end asked firsts reads but v → Came total end asked firsts reads but (record v { exchanges = map f v.exchanges })
   exchanges_kept f alike v h = record {
     stand = h.stand;
     read = h.read;
@@ -160,7 +162,7 @@ module _ (total end : ℕ → Bytes) (asked : ℕ → Exchange → Type 0) (read
       of_was : reads ≡ true → (k : Conn) → IsIn k v.conns → (d : Exchange) → IsIn d v.exchanges → IsIn (f d).number k.line → WasAsked (asked k.number) (f d)
       of_was on k i d j l = alike_asked (f d) d (alike d) (h.from on k d i j (subst (λ n. IsIn n k.line) (alike d).number l))
 
-  pub exchanges_fewer : (test : Exchange → Bool) → (v : View) → Came total end asked reads but v → Came total end asked reads but (record v { exchanges = filter test v.exchanges })
+  pub exchanges_fewer : (test : Exchange → Bool) → (v : View) → Came total end asked firsts reads but v → Came total end asked firsts reads but (record v { exchanges = filter test v.exchanges })
   exchanges_fewer test v h = record {
     stand = h.stand;
     read = h.read;
@@ -183,7 +185,7 @@ module _ (total end : ℕ → Bytes) (asked : ℕ → Exchange → Type 0) (read
   still_lesser : (f : Conn → Conn) → ((k : Conn) → Lesser (f k) k) → (k : Conn) → Still (f k) k
   still_lesser f lesser k = let l = lesser k in record { number = l.number; answer = l.answer; unread = l.unread; closing = l.closing }
 
-  pub came_walk : Walk (Came total end asked reads but)
+  pub came_walk : Walk (Came total end asked firsts reads but)
   unfolding on_exchange
   came_walk = record {
     clients = λ f kept v h. h;
@@ -197,9 +199,9 @@ module _ (total end : ℕ → Bytes) (asked : ℕ → Exchange → Type 0) (read
 
 -- ---- while nothing is read
 
-module _ (total : ℕ → Bytes) (asked : ℕ → Exchange → Type 0) where
+module _ (total : ℕ → Bytes) (asked : ℕ → Exchange → Type 0) (firsts : ℕ → Option ℕ) where
   abbrev pub Rests : View → Type 0
-  Rests v = Came total no_end asked false none_apart v
+  Rests v = Came total no_end asked firsts false none_apart v
 
   -- exchanges and lines may change
   pub rests_any : (v : View) (exchanges : List Exchange) → Rests v → Rests (record v { exchanges = exchanges })
@@ -226,7 +228,7 @@ module _ (total : ℕ → Bytes) (asked : ℕ → Exchange → Type 0) where
   pub rests_place : Places Rests
   unfolding put_on on_conn on_exchange
   rests_place n k s h =
-      conns_kept total no_end asked false none_apart (changed_at (is_conn k) (λ j. record j { line = j.line ++ n ∷ [] })) (λ j. lined n k j (is_conn k j)) (λ on. absurd (cc on))
+      conns_kept total no_end asked firsts false none_apart (changed_at (is_conn k) (λ j. record j { line = j.line ++ n ∷ [] })) (λ j. lined n k j (is_conn k j)) (λ on. absurd (cc on))
       (record (view s) { exchanges = change (is_exchange n) (λ e. record e { place = Some k; asked = 0 }) s.exchanges }) (rests_any (view s) _ h)
 
   -- a connection that is new
@@ -237,7 +239,7 @@ module _ (total : ℕ → Bytes) (asked : ℕ → Exchange → Type 0) where
     more = λ j i. by (λ (x : Conn). response_at x.unread ≡ More) j (in_push j v.conns k i) h.more (ap response_at none ∙ nothing_read);
     past = λ j a i. by (λ (x : Conn). x.answer ≡ Some a → x.unread ≡ []) j (in_push j v.conns k i) (λ g i2. h.past g a i2) (λ is. none);
     shut = λ j i. by (λ (x : Conn). x.is_closing ≡ true → (x.answer ≡ None) × (x.unread ≡ [])) j (in_push j v.conns k i) h.shut (λ is. (no_answer, none));
-    begun = λ j a i. by (λ (x : Conn). x.answer ≡ Some a → Began (total x.number) [] (asked x.number) a) j (in_push j v.conns k i) (λ g i2. h.begun g a i2) (λ is. let both : None ≡ Some a = sym no_answer ∙ is in absurd (cc both));
+    begun = λ j a i. by (λ (x : Conn). x.answer ≡ Some a → Began (total x.number) [] (asked x.number) (firsts x.number) a) j (in_push j v.conns k i) (λ g i2. h.begun g a i2) (λ is. let both : None ≡ Some a = sym no_answer ∙ is in absurd (cc both));
     going = λ j a i. by (λ (x : Conn). x.answer ≡ Some a → GoesOn a ⊎ (none_apart ≡ Some (x.number, a))) j (in_push j v.conns k i) (λ g i2. h.going g a i2) (λ is. let both : None ≡ Some a = sym no_answer ∙ is in absurd (cc both));
     rise = λ on. absurd (cc on);
     from = λ on. absurd (cc on);
@@ -263,7 +265,7 @@ module _ (total : ℕ → Bytes) (asked : ℕ → Exchange → Type 0) where
 
 -- ---- more comes
 
-module _ (total total2 more : ℕ → Bytes) (asked asked2 : ℕ → Exchange → Type 0) (longer : (n : ℕ) → total2 n ≡ total n ++ more n) (kept_ask : (n : ℕ) (e : Exchange) → asked n e → asked2 n e) where
+module _ (total total2 more : ℕ → Bytes) (asked asked2 : ℕ → Exchange → Type 0) (firsts : ℕ → Option ℕ) (longer : (n : ℕ) → total2 n ≡ total n ++ more n) (kept_ask : (n : ℕ) (e : Exchange) → asked n e → asked2 n e) where
   stands_still : (p : Sent) → StandsIn total asked p → StandsIn total2 asked2 p
   stands_still p w =
       let zs = payload_more w.rule w.body (more w.number) in
@@ -288,10 +290,11 @@ module _ (total total2 more : ℕ → Bytes) (asked asked2 : ℕ → Exchange �
         offset = w.offset;
         keyed = w.keyed;
         keyed_there = kept_ask w.number w.keyed w.keyed_there;
+        one = w.one;
         key = w.key;
       }
 
-  begun_still : (n : ℕ) (a : Answer) → Began (total n) [] (asked n) a → Began (total2 n) (more n) (asked2 n) a
+  begun_still : (n : ℕ) (a : Answer) → Began (total n) [] (asked n) (firsts n) a → Began (total2 n) (more n) (asked2 n) (firsts n) a
   begun_still n a w =
       let join : (a.raw ++ []) ++ more n ≡ a.raw ++ more n = ap (λ (xs : Bytes). xs ++ more n) (append-nil a.raw) in
       record {
@@ -303,11 +306,12 @@ module _ (total total2 more : ℕ → Bytes) (asked asked2 : ℕ → Exchange �
         final = w.final;
         ask = w.ask;
         asks = kept_ask n w.ask w.asks;
+        expected = w.expected;
         ruled = w.ruled;
         version = w.version;
       }
 
-  pub came_more : (v : View) → Came total no_end asked false none_apart v → Came total2 more asked2 false none_apart v
+  pub came_more : (v : View) → Came total no_end asked firsts false none_apart v → Came total2 more asked2 firsts false none_apart v
   came_more v h = record {
     stand = λ p i. stands_still p (h.stand p i);
     read = λ k i.
@@ -321,3 +325,26 @@ module _ (total total2 more : ℕ → Bytes) (asked asked2 : ℕ → Exchange �
     rise = λ on. absurd (cc on);
     from = λ on. absurd (cc on);
   }
+
+-- ---- whose response comes on a connection that is not answered
+
+abbrev pub named : (ℕ → Option ℕ) → ℕ → Option ℕ → ℕ → Option ℕ
+named firsts n to m = elim (m == n) [ true ↦ to | false ↦ firsts m ]
+
+pub came_named : (total end : ℕ → Bytes) (asked : ℕ → Exchange → Type 0) (firsts : ℕ → Option ℕ) (reads : Bool) (but : Option (ℕ × Answer)) (n : ℕ) (to : Option ℕ) (v : View) → ((k : Conn) (a : Answer) → IsIn k v.conns → k.number ≡ n → k.answer ≡ Some a → ⊥)
+    → Came total end asked firsts reads but v → Came total end asked (named firsts n to) reads but v
+came_named total end asked firsts reads but n to v none h = record {
+  stand = h.stand;
+  read = h.read;
+  more = h.more;
+  past = h.past;
+  shut = h.shut;
+  begun = λ k a i is. by k a i is (k.number == n) refl;
+  going = h.going;
+  rise = h.rise;
+  from = h.from;
+}
+  where
+    by : (k : Conn) (a : Answer) → IsIn k v.conns → k.answer ≡ Some a → (t : Bool) → (k.number == n) ≡ t → Began (total k.number) (end k.number) (asked k.number) (named firsts n to k.number) a
+    by k a i is true hit = absurd (none k a i (same_number k.number n hit) is)
+    by k a i is false isnt = subst (λ o. Began (total k.number) (end k.number) (asked k.number) o a) (sym (ap (λ (t : Bool). elim t as (λ c. Option ℕ) [ true ↦ to | false ↦ firsts k.number ]) isnt)) (h.begun k a i is)

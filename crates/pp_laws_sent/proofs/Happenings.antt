@@ -1,17 +1,7 @@
 -- Each happening but what is read of an origin keeps how far that was read, and that what is on record stands in it.
-use Rattle.std.proofs.Common.{◌≡◌, ◌⊎◌, refl, ℕ, zero, suc, ◌+◌, ◌<◌, ◌≤◌, nat_lt, Bool, true, false, not, ◌==◌, ◌&&◌, ◌||◌, List, [], ◌∷◌, ◌++◌, map, filter, find, cond, drop, length, Option, Some, None, Result, Ok, Err, inl, inr, sym, subst, ap, ◌∙◌, le_trans, zero-le, arith}
-use Rattle.std.proofs.lemmas.List.{map-append}
+use Rattle.std.proofs.Common.{refl, ℕ, ◌+◌, Bool, true, false, not, List, [], ◌∷◌, length, Option, Some, None}
 use Rattle.pp_conf.specs.Conf.{Settings}
 use Rattle.pp_conf.specs.Words.{reading_of}
-use Rattle.pp_framing.specs.Body.{Outcome, Done, Going, Bad}
-use Rattle.pp_framing.specs.Framing.{rule_of}
-use Rattle.pp_framing.specs.Rules.{body_of}
-use Rattle.pp_framing.specs.declared.body.BodyRule.{BodyRule}
-use Rattle.pp_framing.specs.declared.framing.ResponseFault.{ResponseFault}
-use Rattle.pp_head.specs.Read.{Read, Whole, TooLong, Bad as NoHead, More}
-use Rattle.pp_head.specs.Response.{Response, response_at}
-use Rattle.pp_pipe.specs.Front.{is_interim}
-use Rattle.pp_text.specs.Bytes.{is_empty}
 use Rattle.pp_world.specs.Files.{Files}
 use Rattle.pp_world.specs.declared.event.Wants.{Wants}
 use Rattle.pp_world.specs.declared.happening.Happening.TheVariants.{Woke, Waits, Clock, Opened, CanRead, CanWrite, Heard, HungUp, Said, Shut, Dialled, Undialled, Reached, Ended, Broke, Asked, Got, Dropped, NoneYet, Began, Did, Unread, Noted, Rooted, Listed, Listens, Configured, Printed, Stopped}
@@ -20,57 +10,44 @@ use Rattle.pp_world.specs.declared.note.Decision.{Decision}
 use Rattle.pp_world.specs.declared.note.Remark.TheVariants.{Taken, Cut, Kept, Gone, Forgotten, Evicted, Loaded}
 use Rattle.pp_world.specs.declared.note.Remark.{Remark}
 use Rattle.pp_world.specs.declared.op.DiskOp.{DiskOp}
-use Rattle.pp_law.specs.After.{waits_for_row, new_client, event, opened, owing, reached, paid, said, gone, take_decision, evicted, refused_row, leave_memory, forgotten_by, noted, begun_op, ended_op, unread, shut, dialled, refused_dial, undialled, out, dropped, changed, after}
+use Rattle.pp_law.specs.After.{waits_for_row, event, opened, owing, reached, paid, said, gone, take_decision, evicted, refused_row, leave_memory, forgotten_by, noted, begun_op, ended_op, unread, shut, dialled, refused_dial, undialled, out, dropped, changed}
 use Rattle.pp_law.specs.Chunks.{note_use}
-use Rattle.pp_law.specs.Closing.{close_client, exchanges_of, is_of, leave_one, left_alone}
-use Rattle.pp_law.specs.Connections.{client, conn, each_exchange, end_exchange, exchange, front_of_line, is_client, is_exchange, lose_attempt, may_ask_again, on_client, on_conn, on_exchange, close_conn, placing, Placement}
+use Rattle.pp_law.specs.Connections.{client, conn, is_client, lose_attempt, may_ask_again, placing, Placement}
 use Rattle.pp_law.specs.Leaving.{Leaving, ForAnother, ForMemory, BeforeDecision, leaving_as}
-use Rattle.pp_law.specs.Lists.{Bytes, is_this}
-use Rattle.pp_law.specs.Opening.{terms_behind, are_texts, begun, configured, is_at, is_opening, lose_in_opening, names_file, opened_to, settings_in, stuck, with_settings, woken}
-use Rattle.pp_law.specs.OwnHeads.{is_wrong_head, join, join_bound, moved_on, note_own, note_sent}
-use Rattle.pp_law.specs.Passing.{poured}
-use Rattle.pp_law.specs.Permits.{is_new_number, is_permitted, IsPermitted, permits, may_open}
-use Rattle.pp_law.specs.Phases.{phases, in_phase, is_awaiting, is_done, behind, next, come, come_to, come_to_decide, decides, deciding, due_victim, ending}
-use Rattle.pp_law.specs.Replies.{end_replies, said_by}
-use Rattle.pp_law.specs.Responses.{bad_head, bad_response, finish, asks_head, answer_with, end_if_empty, begin_answer, answer_for, head_came, Piece, is_early, with_unread, head_piece, deliver, payload_of, body_piece_of, body_piece, next_piece, got}
-use Rattle.pp_law.specs.Served.{accepts}
-use Rattle.pp_law.specs.Stages.{bound_of}
-use Rattle.pp_law.specs.State.{State, Term, start, RowRefused, Phase, Before, IsWoken, IsConfigured, IsRooted, IsListed, IsListening, IsStuck, Awaiting, Handling, Evicting, Keeping, Deciding, Following, Connecting, DecidingAgain, Owed, Free, ReadOf, WriteTo, Joining, Answer, Bound, Client, Conn, Exchange, Instance}
-use Rattle.pp_law.specs.Table.{forget, instance, kept_row, row, swept}
+use Rattle.pp_law.specs.Lists.{Bytes}
+use Rattle.pp_law.specs.Opening.{are_texts, begun, configured, is_at, is_opening, names_file, opened_to, settings_in, stuck, with_settings, woken}
+use Rattle.pp_law.specs.Phases.{phases, is_done, behind, next, come, come_to, come_to_decide, decides, deciding, due_victim, ending}
+use Rattle.pp_law.specs.Replies.{said_by}
+use Rattle.pp_law.specs.State.{State, RowRefused, Phase, Before, IsWoken, IsConfigured, IsRooted, IsListed, IsListening, IsStuck, Awaiting, Handling, Evicting, Keeping, Deciding, Following, Connecting, DecidingAgain, Owed, ReadOf, WriteTo, Exchange, Instance}
+use Rattle.pp_law.specs.Table.{forget, kept_row, row}
 use Rattle.pp_law.specs.Store.{load, load_from}
 use Rattle.pp_law.specs.Turn.{rest_with}
-use Rattle.pp_laws.specs.Runs.{IsIn}
 use Rattle.pp_laws.proofs.Callers.{said_by-same}
-use Rattle.pp_laws.proofs.Lists.{Changed, in_change, in_filter, in_find, in_map, other, same}
-use Rattle.pp_laws.proofs.Sound.{client_number, exchange_number}
-use Rattle.pp_laws.proofs.Tests.{below, first_holds, number_same, same_number, second_holds}
-use Rattle.pp_laws_bounds.proofs.Counts.{in_filter_of, in_map_of, length-filter, length-push}
-use Rattle.pp_laws_pool.proofs.View.{View, Walk, Holds, holds, facts_of, view, SameAsk}
-use Rattle.pp_laws_pool.proofs.WalkCases.{by_aim_of, by_outcome, by_pause, each_of, each_so, when}
-use Rattle.pp_laws_pool.proofs.WalkClients.{ask-keeps, begin_replies-keeps, close_client-keeps, decided-keeps, end_replies-keeps, fill-keeps, give_up_asks-keeps, hang_up-keeps, hear-keeps, pour-keeps, regained-keeps, use_said-keeps}
-use Rattle.pp_laws_pool.proofs.WalkClosings.{close_conn-keeps}
+use Rattle.pp_laws.proofs.Lists.{in_find}
+use Rattle.pp_laws_pool.proofs.View.{View, Walk, Holds, holds, facts_of, view}
+use Rattle.pp_laws_pool.proofs.WalkCases.{by_pause, each_of, each_so, when}
+use Rattle.pp_laws_pool.proofs.WalkClients.{ask-keeps, begin_replies-keeps, close_client-keeps, decided-keeps, end_replies-keeps, fill-keeps, give_up_asks-keeps, hang_up-keeps, hear-keeps, regained-keeps, use_said-keeps}
 use Rattle.pp_laws_pool.proofs.WalkDisk.{begin_in_opening-keeps, begin_in_turn-keeps, close_name-keeps, end_op-keeps, lose_in_opening-keeps, note_gone-keeps, note_kept-keeps}
-use Rattle.pp_laws_pool.proofs.WalkExchanges.{clients_changed-keeps, end_exchange-keeps, lose_attempt-keeps, on_client-keeps, on_conn-keeps, on_exchange-keeps, same_ask}
-use Rattle.pp_laws_pool.proofs.WalkHeads.{by_aim-keeps}
-use Rattle.pp_laws_pool.proofs.WalkPieces.{bad_head-keeps, bad_response-keeps, ended-keeps, finish-keeps}
+use Rattle.pp_laws_pool.proofs.WalkExchanges.{clients_changed-keeps, end_exchange-keeps, lose_attempt-keeps, on_client-keeps, on_conn-keeps}
+use Rattle.pp_laws_pool.proofs.WalkPieces.{ended-keeps}
 use Rattle.pp_laws_pool.proofs.WalkRows.{drop_chunk-keeps, forget-keeps}
 use Rattle.pp_laws_pool.proofs.WalkSteps.{drop_unseen-keeps, placing-keeps, rested-keeps, tick-keeps, touch-keeps}
 use Rattle.pp_law.specs.After.{new_conn}
 use Rattle.pp_law.specs.Connections.{is_conn}
 use Rattle.pp_laws_pool.proofs.WalkExchanges.{same_conn}
-use Rattle.pp_laws_sent.proofs.Came.{Came, Rests, came_walk, no_end, none_apart, rests_added, rests_begin, rests_fewer, rests_place}
+use Rattle.pp_laws_sent.proofs.Came.{Rests, came_walk, no_end, none_apart, rests_added, rests_begin, rests_fewer, rests_place}
 
 -- nothing of an origin is read
 abbrev pub ReadsNothing : Happening → Type 0
 ReadsNothing (Got n bytes) = ⊥
 ReadsNothing h = Unit {0}
 
-module _ (total : ℕ → Bytes) (asked : ℕ → Exchange → Type 0) where
+module _ (total : ℕ → Bytes) (asked : ℕ → Exchange → Type 0) (firsts : ℕ → Option ℕ) where
   abbrev P : View → Type 0
-  P v = Rests total asked v
+  P v = Rests total asked firsts v
 
   steps : Walk P
-  steps = came_walk total no_end asked false none_apart
+  steps = came_walk total no_end asked firsts false none_apart
 
   -- ---- phases
 
@@ -87,8 +64,8 @@ module _ (total : ℕ → Bytes) (asked : ℕ → Exchange → Type 0) where
   behind-rests Evicting s h = give_up_asks-keeps steps _ (holds (facts_of h))
   behind-rests Keeping s h = holds (facts_of h)
   behind-rests Deciding s h = holds (facts_of h)
-  behind-rests Following s h = fill-keeps steps (rests_begin total asked) _ (drop_unseen-keeps steps _ (holds (facts_of h)))
-  behind-rests Connecting s h = placing-keeps (rests_place total asked) _ (holds (facts_of h))
+  behind-rests Following s h = fill-keeps steps (rests_begin total asked firsts) _ (drop_unseen-keeps steps _ (holds (facts_of h)))
+  behind-rests Connecting s h = placing-keeps (rests_place total asked firsts) _ (holds (facts_of h))
   behind-rests DecidingAgain s h = h
 
   next-rests : (s : State) → Holds P s → Holds P (next s)
@@ -138,7 +115,7 @@ module _ (total : ℕ → Bytes) (asked : ℕ → Exchange → Type 0) where
 
   take_decision-rests : (n : ℕ) (d : Decision) (s : State) → Holds P s → Holds P (take_decision n d s)
   unfolding take_decision
-  take_decision-rests n d s h = each_so (client s n) (λ none. h) (λ c found. regained-keeps steps _ (holds (facts_of (decided-keeps steps (rests_begin total asked) c d s (in_find (is_client n) c s.clients found).0 h))))
+  take_decision-rests n d s h = each_so (client s n) (λ none. h) (λ c found. regained-keeps steps _ (holds (facts_of (decided-keeps steps (rests_begin total asked firsts) c d s (in_find (is_client n) c s.clients found).0 h))))
 
   evicted-rests : (s : State) → Holds P s → Holds P (evicted s)
   unfolding evicted
@@ -264,15 +241,15 @@ module _ (total : ℕ → Bytes) (asked : ℕ → Exchange → Type 0) where
 
   dialled-rests : (n : ℕ) (host : Bytes) (port : ℕ) (p : Placement) → Holds P p.state → Holds P (dialled n host port p)
   unfolding dialled
-  dialled-rests n host port p h = by_pause p.pause h (λ k e. h) (λ e. holds (rests_place total asked e.number n _ (rests_added total asked (view p.state) (new_conn n host port p.state.clock) refl refl (facts_of h))))
+  dialled-rests n host port p h = by_pause p.pause h (λ k e. h) (λ e. holds (rests_place total asked firsts e.number n _ (rests_added total asked firsts (view p.state) (new_conn n host port p.state.clock) refl refl (facts_of h))))
 
   out-rests : (n : ℕ) (s : State) → Holds P s → Holds P (out n s)
   unfolding out
-  out-rests n s h = holds (rests_fewer total asked (λ k. not (is_conn n k)) (view s) (facts_of h))
+  out-rests n s h = holds (rests_fewer total asked firsts (λ k. not (is_conn n k)) (view s) (facts_of h))
 
   dropped-rests : (n : ℕ) (s : State) → Holds P s → Holds P (dropped n s)
   unfolding dropped
-  dropped-rests n s h = each_of (conn s n) h (λ k. when k.is_closing (out-rests n s h) (out-rests n _ (placing-keeps (rests_place total asked) s h)))
+  dropped-rests n s h = each_of (conn s n) h (λ k. when k.is_closing (out-rests n s h) (out-rests n _ (placing-keeps (rests_place total asked firsts) s h)))
 
   -- ---- all
 
@@ -288,8 +265,8 @@ module _ (total : ℕ → Bytes) (asked : ℕ → Exchange → Type 0) where
   changed-rests s (HungUp c) is h = paid-rests _ (hang_up-keeps steps c s h)
   changed-rests s (Said c offered bytes) is h = paid-rests _ (said-rests c (length bytes) s h)
   changed-rests s (Shut c) is h = shut-rests c _ (come_to-rests Connecting s h)
-  changed-rests s (Dialled n host port) is h = dialled-rests n host port (placing (come_to Connecting s)) (placing-keeps (rests_place total asked) _ (come_to-rests Connecting s h))
-  changed-rests s (Undialled host port) is h = undialled-rests (placing (come_to Connecting s)) (placing-keeps (rests_place total asked) _ (come_to-rests Connecting s h))
+  changed-rests s (Dialled n host port) is h = dialled-rests n host port (placing (come_to Connecting s)) (placing-keeps (rests_place total asked firsts) _ (come_to-rests Connecting s h))
+  changed-rests s (Undialled host port) is h = undialled-rests (placing (come_to Connecting s)) (placing-keeps (rests_place total asked firsts) _ (come_to-rests Connecting s h))
   changed-rests s (Reached n) is h = event-rests _ (reached-rests n s h)
   changed-rests s (Ended n) is h = paid-rests _ (gone-rests true n s h)
   changed-rests s (Broke n) is h = paid-rests _ (gone-rests false n _ (event-rests s h))

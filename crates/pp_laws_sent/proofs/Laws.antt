@@ -1,5 +1,5 @@
 -- The law: what is on record as sent stands in the log.
-use Rattle.std.proofs.Common.{◌≡◌, ◌⊎◌, refl, ℕ, Bool, true, false, ◌==◌, List, [], ◌∷◌, ◌++◌, map, length, sym, subst, ap, ◌∙◌, append_assoc, le_refl}
+use Rattle.std.proofs.Common.{◌≡◌, refl, ℕ, Option, None, Bool, true, false, ◌==◌, List, [], ◌∷◌, ◌++◌, map, length, sym, subst, ap, ◌∙◌, append_assoc, le_refl}
 use Rattle.std.proofs.lemmas.List.{append-nil}
 use Rattle.std.specs.Prelude.{if◌then◌else◌}
 use Rattle.pp_world.proofs.LogLemmas.{got-append}
@@ -11,23 +11,25 @@ use Rattle.pp_law.proofs.Prefixes.{front_from}
 use Rattle.pp_law.specs.After.{after, changed, paid}
 use Rattle.pp_law.specs.Lawful.{Lawful}
 use Rattle.pp_law.specs.Lists.{Bytes}
+use Rattle.pp_law.specs.Permits.{IsPermitted}
 use Rattle.pp_law.specs.Responses.{got}
-use Rattle.pp_law.specs.State.{State, Sent, Term, Conn, Exchange, start}
-use Rattle.pp_laws.specs.Numbers.{AreRising, HasOwnNumbers}
-use Rattle.pp_laws.specs.Runs.{IsIn, state_after}
+use Rattle.pp_law.specs.State.{State, Term, Exchange, start}
+use Rattle.pp_laws.specs.Numbers.{AreRising}
+use Rattle.pp_laws.specs.Runs.{state_after}
 use Rattle.pp_laws.proofs.Laws.{own_numbers}
 use Rattle.pp_laws.proofs.Sound.{conn_number}
 use Rattle.pp_laws.proofs.Tests.{number_same, same_number}
-use Rattle.pp_laws_pool.proofs.Along.{after_all-append}
-use Rattle.pp_laws_pool.proofs.View.{Holds, holds, facts_of, view}
+use Rattle.pp_laws_pool.proofs.Along.{after_all-append, back_from}
+use Rattle.pp_laws_pool.proofs.View.{Walk, Holds, holds, facts_of, view}
 use Rattle.pp_laws_pool.proofs.WalkClients.{end_replies-keeps, regained-keeps}
-use Rattle.pp_laws_sent.specs.Stands.{IsAskedOn, SentStandsInTheLog, StandsIn, WasAskedOn}
-use Rattle.pp_laws_sent.proofs.Came.{Alike, Began as HasBegun, Came, EndsWith, Facts, Rests, WasAsked, came_more, came_walk, no_end, none_apart}
+use Rattle.pp_laws_lines.proofs.Stream.{Inv as Lines, asked_step, first, got_grown, got_over, is_plain, plain, quiet_step as quiet_lines}
+use Rattle.pp_laws_sent.specs.Stands.{SentStandsInTheLog, WasAskedOn}
+use Rattle.pp_laws_sent.proofs.Came.{Began as HasBegun, Came, EndsWith, Rests, came_more, came_walk, no_end, none_apart}
 use Rattle.pp_laws_sent.proofs.Happenings.{ReadsNothing, changed-rests}
-use Rattle.pp_laws_sent.proofs.Pieces.{at_end, got-came}
+use Rattle.pp_laws_sent.proofs.Pieces.{HasRead, at_end, got-came}
 
 -- what came on each connection, and what was asked there
-abbrev came_in : Log → ℕ → Bytes
+abbrev pub came_in : Log → ℕ → Bytes
 came_in log number = got_of number log
 
 -- ---- a log grows
@@ -75,14 +77,16 @@ quiet number (Configured file text) is = refl
 quiet number (Printed text) is = refl
 quiet number Stopped is = refl
 
--- behind a log, in a state
-abbrev Inv : List Term → Log → State → Type 0
-Inv terms log s = Holds (Rests (came_in log) (WasAskedOn terms log)) s
+-- behind a log, in a state, with whose response comes on each connection that is answered
+pub record Inv (terms : List Term) (log : Log) (s : State) : Type 0 where
+  pub firsts : ℕ → Option ℕ
+  pub lines : Lines terms log firsts s
+  pub came : Holds (Rests (came_in log) (WasAskedOn terms log) firsts) s
 
-quiet_step : (terms : List Term) (log : Log) (h : Happening) (s : State) → ReadsNothing h → Inv terms log s → Inv terms (log ++ h ∷ []) (after s h)
-quiet_step terms log h s is inv =
-    changed-rests (came_in (log ++ h ∷ [])) (WasAskedOn terms (log ++ h ∷ [])) s h is
-    (holds (came_more (came_in log) (came_in (log ++ h ∷ [])) no_end (WasAskedOn terms log) (WasAskedOn terms (log ++ h ∷ [])) (λ n. one_more log h n ∙ ap (λ (xs : Bytes). came_in log n ++ xs) (quiet n h is)) (λ n e w. asked_still terms log h n e w) (view s) (facts_of inv)))
+quiet_step : (terms : List Term) (log : Log) (firsts : ℕ → Option ℕ) (h : Happening) (s : State) → ReadsNothing h → Holds (Rests (came_in log) (WasAskedOn terms log) firsts) s → Holds (Rests (came_in (log ++ h ∷ [])) (WasAskedOn terms (log ++ h ∷ [])) firsts) (after s h)
+quiet_step terms log firsts h s is came =
+    changed-rests (came_in (log ++ h ∷ [])) (WasAskedOn terms (log ++ h ∷ [])) firsts s h is
+    (holds (came_more (came_in log) (came_in (log ++ h ∷ [])) no_end (WasAskedOn terms log) (WasAskedOn terms (log ++ h ∷ [])) firsts (λ n. one_more log h n ∙ ap (λ (xs : Bytes). came_in log n ++ xs) (quiet n h is)) (λ n e w. asked_still terms log h n e w) (view s) (facts_of came)))
 
 -- ---- where it is
 
@@ -102,37 +106,37 @@ nothing_left n number = by (number == n)
     by true = refl
     by false = refl
 
-put_down : (total : ℕ → Bytes) (asked : ℕ → Exchange → Type 0) (n : ℕ) (s : State) → Holds (Came total (at_end n []) asked true none_apart) s → Holds (Rests total asked) s
-put_down total asked n s h = holds (record {
+put_down : (total : ℕ → Bytes) (asked : ℕ → Exchange → Type 0) (firsts : ℕ → Option ℕ) (n : ℕ) (s : State) → Holds (Came total (at_end n []) asked firsts true none_apart) s → Holds (Rests total asked firsts) s
+put_down total asked firsts n s h = holds (record {
   stand = f.stand;
   read = λ k i. subst (λ (e : Bytes). EndsWith (total k.number) (k.unread ++ e)) (nothing_left n k.number) (f.read k i);
   more = f.more;
   past = f.past;
   shut = f.shut;
-  begun = λ k a i is. subst (λ (e : Bytes). HasBegun (total k.number) e (asked k.number) a) (nothing_left n k.number) (f.begun k a i is);
+  begun = λ k a i is. subst (λ (e : Bytes). HasBegun (total k.number) e (asked k.number) (firsts k.number) a) (nothing_left n k.number) (f.begun k a i is);
   going = f.going;
   rise = λ on. absurd (cc on);
   from = λ on. absurd (cc on);
 })
   where
-    f : Came total (at_end n []) asked true none_apart (view s)
+    f : Came total (at_end n []) asked firsts true none_apart (view s)
     f = facts_of h
 
 got_step : (terms : List Term) (log : Log) (n : ℕ) (bytes : Bytes) → AreRising (map conn_number (state_after terms log).conns) → Inv terms log (state_after terms log) → Inv terms (log ++ Got n bytes ∷ []) (after (state_after terms log) (Got n bytes))
 unfolding changed paid
-got_step terms log n bytes rise inv =
-    let total : ℕ → Bytes = came_in (log ++ Got n bytes ∷ []) in
-    let asked : ℕ → Exchange → Type 0 = WasAskedOn terms (log ++ Got n bytes ∷ []) in
-    let w = came_walk total no_end asked false none_apart in
-    regained-keeps w _ (holds (facts_of (end_replies-keeps w _ (put_down total asked n _ (got-came total asked (length bytes) n bytes s (le_refl (length bytes)) reading)))))
+got_step terms log n bytes rise inv = record {
+  firsts = read.firsts;
+  lines = got_over terms log inv.firsts read.firsts n bytes s inv.lines read.lines;
+  came = regained-keeps w _ (holds (facts_of (end_replies-keeps w _ (put_down (came_in (log ++ Got n bytes ∷ [])) (WasAskedOn terms (log ++ Got n bytes ∷ [])) read.firsts n _ read.came))));
+}
   where
     s : State
     s = state_after terms log
 
-    f : Came (came_in (log ++ Got n bytes ∷ [])) (at_end n bytes) (WasAskedOn terms (log ++ Got n bytes ∷ [])) false none_apart (view s)
-    f = came_more (came_in log) (came_in (log ++ Got n bytes ∷ [])) (at_end n bytes) (WasAskedOn terms log) (WasAskedOn terms (log ++ Got n bytes ∷ [])) (λ m. one_more log (Got n bytes) m ∙ ap (λ (xs : Bytes). came_in log m ++ xs) (got_end n m bytes)) (λ m e w. asked_still terms log (Got n bytes) m e w) (view s) (facts_of inv)
+    f : Came (came_in (log ++ Got n bytes ∷ [])) (at_end n bytes) (WasAskedOn terms (log ++ Got n bytes ∷ [])) inv.firsts false none_apart (view s)
+    f = came_more (came_in log) (came_in (log ++ Got n bytes ∷ [])) (at_end n bytes) (WasAskedOn terms log) (WasAskedOn terms (log ++ Got n bytes ∷ [])) inv.firsts (λ m. one_more log (Got n bytes) m ∙ ap (λ (xs : Bytes). came_in log m ++ xs) (got_end n m bytes)) (λ m e v. asked_still terms log (Got n bytes) m e v) (view s) (facts_of inv.came)
 
-    reading : Holds (Came (came_in (log ++ Got n bytes ∷ [])) (at_end n bytes) (WasAskedOn terms (log ++ Got n bytes ∷ [])) true none_apart) s
+    reading : Holds (Came (came_in (log ++ Got n bytes ∷ [])) (at_end n bytes) (WasAskedOn terms (log ++ Got n bytes ∷ [])) inv.firsts true none_apart) s
     reading = holds (record {
       stand = f.stand;
       read = f.read;
@@ -149,25 +153,36 @@ got_step terms log n bytes rise inv =
       };
     })
 
+    read : HasRead (came_in (log ++ Got n bytes ∷ [])) (WasAskedOn terms (log ++ Got n bytes ∷ [])) (plain terms (log ++ Got n bytes ∷ []) s.top inv.firsts) n (got (length bytes) n bytes s)
+    read =
+        got-came (came_in (log ++ Got n bytes ∷ [])) (WasAskedOn terms (log ++ Got n bytes ∷ [])) (length bytes) n bytes (plain terms (log ++ Got n bytes ∷ []) s.top inv.firsts) s (le_refl (length bytes)) (is_plain terms (log ++ Got n bytes ∷ []) s.top inv.firsts)
+        (got_grown terms log inv.firsts n bytes s inv.lines) reading
+
+    w : Walk (Rests (came_in (log ++ Got n bytes ∷ [])) (WasAskedOn terms (log ++ Got n bytes ∷ [])) read.firsts)
+    w = came_walk (came_in (log ++ Got n bytes ∷ [])) no_end (WasAskedOn terms (log ++ Got n bytes ∷ [])) read.firsts false none_apart
+
 -- ---- all
 
-step : (terms : List Term) (log : Log) (h : Happening) → Lawful terms log → Inv terms log (state_after terms log) → Inv terms (log ++ h ∷ []) (after (state_after terms log) h)
-step terms log h lawful inv = by h
-  where
-    by : (h : Happening) → Inv terms (log ++ h ∷ []) (after (state_after terms log) h)
-    by (Got n bytes) = got_step terms log n bytes (own_numbers terms log lawful).conns_rise inv
-    by h = quiet_step terms log h (state_after terms log) tt inv
+step : (terms : List Term) (log : Log) (h : Happening) → Lawful terms log → IsPermitted (state_after terms log) h → Inv terms log (state_after terms log) → Inv terms (log ++ h ∷ []) (after (state_after terms log) h)
+step terms log (Got n bytes) lawful permitted inv = got_step terms log n bytes (own_numbers terms log lawful).conns_rise inv
+step terms log (Asked n bytes) lawful permitted inv =
+    record { firsts = inv.firsts; lines = asked_step terms log inv.firsts n bytes permitted inv.lines; came = quiet_step terms log inv.firsts (Asked n bytes) (state_after terms log) tt inv.came }
+step terms log h lawful permitted inv =
+    record { firsts = inv.firsts; lines = quiet_lines terms log inv.firsts h (state_after terms log) tt permitted inv.lines; came = quiet_step terms log inv.firsts h (state_after terms log) tt inv.came }
 
 inv_from : (terms : List Term) (front log : Log) → Lawful terms (front ++ log) → Inv terms front (state_after terms front) → Inv terms (front ++ log) (state_after terms (front ++ log))
 inv_from terms front [] lawful now = subst (λ (l : Log). Inv terms l (state_after terms l)) (sym (append-nil front)) now
 inv_from terms front (h ∷ log) lawful now =
     let joined : (front ++ h ∷ []) ++ log ≡ front ++ h ∷ log = append_assoc front (h ∷ []) log in
     let whole : Lawful terms ((front ++ h ∷ []) ++ log) = subst (λ (l : Log). Lawful terms l) (sym joined) lawful in
-    let next : Inv terms (front ++ h ∷ []) (state_after terms (front ++ h ∷ [])) = subst (λ (s : State). Inv terms (front ++ h ∷ []) s) (sym (after_all-append (start terms) front (h ∷ []))) (step terms front h (front_from (start terms) front (h ∷ log) lawful) now) in
+    let next : Inv terms (front ++ h ∷ []) (state_after terms (front ++ h ∷ [])) = subst (λ (s : State). Inv terms (front ++ h ∷ []) s) (sym (after_all-append (start terms) front (h ∷ []))) (step terms front h (front_from (start terms) front (h ∷ log) lawful) (back_from (start terms) front (h ∷ log) lawful).0 now) in
     subst (λ (l : Log). Inv terms l (state_after terms l)) joined (inv_from terms (front ++ h ∷ []) log whole next)
 
-first : (terms : List Term) → Inv terms [] (start terms)
-first terms = holds (record {
+nobody : ℕ → Option ℕ
+nobody n = None
+
+first_came : (terms : List Term) → Holds (Rests (came_in []) (WasAskedOn terms []) nobody) (start terms)
+first_came terms = holds (record {
   stand = λ p i. absurd i;
   read = λ k i. absurd i;
   more = λ k i. absurd i;
@@ -179,5 +194,8 @@ first terms = holds (record {
   from = λ on. absurd (cc on);
 })
 
+pub inv_after : (terms : List Term) (log : Log) → Lawful terms log → Inv terms log (state_after terms log)
+inv_after terms log lawful = inv_from terms [] log lawful (record { firsts = nobody; lines = first terms nobody; came = first_came terms })
+
 pub sent_stands : SentStandsInTheLog
-sent_stands terms log part lawful i = (facts_of (inv_from terms [] log lawful (first terms))).stand part i
+sent_stands terms log part lawful i = (facts_of (inv_after terms log lawful).came).stand part i

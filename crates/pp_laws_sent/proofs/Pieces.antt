@@ -1,12 +1,12 @@
 -- What one read brings, piece by piece: how far it was read, and that what is put on record stands there.
-use Rattle.std.proofs.Common.{◌≡◌, ◌⊎◌, refl, ℕ, zero, suc, ◌+◌, ◌-◌, ◌<◌, ◌≤◌, Bool, true, false, not, ◌==◌, ◌&&◌, ◌||◌, List, [], ◌∷◌, ◌++◌, map, filter, find, take, drop, length, Option, Some, None, Result, Ok, Err, inl, inr, nat_le, cond, sym, subst, ap, ap₂, ◌∙◌, append_assoc, arith, length-append}
+use Rattle.std.proofs.Common.{◌≡◌, ◌⊎◌, refl, ℕ, zero, suc, ◌+◌, ◌<◌, ◌≤◌, Bool, true, false, not, ◌==◌, ◌&&◌, ◌||◌, List, [], ◌∷◌, ◌++◌, map, find, take, drop, length, Option, Some, None, Result, Ok, Err, inl, inr, nat_le, cond, sym, subst, ap, ap₂, ◌∙◌, append_assoc, arith, length-append}
 use Rattle.std.proofs.lemmas.List.{append-nil, length-drop, length-take-le, take-append-drop}
 use Rattle.pp_framing.specs.Body.{Body, Outcome, Done, Going, Bad}
 use Rattle.pp_framing.specs.Framing.{rule_of}
 use Rattle.pp_framing.specs.Rules.{body_of}
 use Rattle.pp_framing.specs.declared.body.BodyRule.{BodyRule}
 use Rattle.pp_framing.specs.declared.framing.ResponseFault.{ResponseFault}
-use Rattle.pp_head.proofs.ResponseAgrees.{response_cut, response_stays}
+use Rattle.pp_head.proofs.ResponseAgrees.{response_cut}
 use Rattle.std.proofs.lemmas.Bool.Decides.{nat_tests}
 use Rattle.pp_head.specs.Request.{Request}
 use Rattle.pp_plan.specs.Requests.{is_head}
@@ -21,17 +21,17 @@ use Rattle.pp_pipe.specs.Front.{is_interim}
 use Rattle.pp_text.specs.Bytes.{is_empty}
 use Rattle.pp_valid.specs.declared.version.Version.{Version}
 use Rattle.pp_law.specs.Chunks.{note_use}
-use Rattle.pp_law.specs.Connections.{conn, exchange, is_conn, is_exchange, each_exchange, on_conn, on_exchange, front_of_line, close_conn, end_exchange, lose_place, fail, lose_attempt}
-use Rattle.pp_law.specs.Lists.{Bytes, change, is_some_with}
+use Rattle.pp_law.specs.Connections.{conn, is_conn, on_conn, on_exchange, front_of_line, close_conn, end_exchange, lose_place, lose_attempt}
+use Rattle.pp_law.specs.Lists.{Bytes, change}
 use Rattle.pp_law.specs.OwnHeads.{key_of, first_offset, version_in, is_wrong_head, sent_as, note_own, note_sent, join, join_bound, moved_on}
 use Rattle.pp_law.specs.Passing.{pour, poured}
-use Rattle.pp_law.specs.Responses.{skip_body, rested, close_this, may_go_on, finish, bad_response, bad_head, asks_head, by_aim, answer_with, answered_by, end_if_empty, begin_answer, answer_for, head_came, Piece, is_early, with_unread, head_piece_of, head_piece, deliver, payload_of, body_piece_of, body_piece, next_piece, got}
+use Rattle.pp_law.specs.Responses.{skip_body, rested, may_go_on, finish, bad_response, bad_head, asks_head, by_aim, answer_with, answered_by, end_if_empty, begin_answer, answer_for, head_came, Piece, is_early, with_unread, head_piece_of, head_piece, deliver, payload_of, body_piece_of, body_piece, next_piece, got}
 use Rattle.pp_law.specs.Stages.{bound_of}
 use Rattle.pp_law.specs.State.{State, Sent, Aim, Through, Own, Filling, Joining, Answer, Bound, Chunk, Conn, Exchange}
 use Rattle.pp_law.specs.Table.{instance}
 use Rattle.pp_laws.specs.Runs.{IsIn}
 use Rattle.pp_laws.proofs.Lists.{Changed, in_change, in_find, one_of, other, rise_change, same}
-use Rattle.pp_laws.proofs.Payloads.{payload-grows, payload-nothing}
+use Rattle.pp_laws.proofs.Payloads.{payload-grows}
 use Rattle.pp_laws.proofs.Pieces.{front_by}
 use Rattle.pp_laws.proofs.Sound.{conn_number, first_of}
 use Rattle.pp_laws.proofs.Tests.{number_same, same_number}
@@ -42,12 +42,15 @@ use Rattle.pp_laws_pool.proofs.View.{View, Walk, Holds, holds, facts_of, view, S
 use Rattle.pp_laws_pool.proofs.WalkCases.{by_aim_of, each_of, when}
 use Rattle.pp_laws_pool.proofs.WalkClients.{pour-keeps}
 use Rattle.pp_laws_pool.proofs.WalkClosings.{close_conn-keeps, lose_place-keeps, off}
-use Rattle.pp_laws_pool.proofs.WalkExchanges.{each_exchange-keeps, end_exchange-keeps, fail-keeps, lose_attempt-keeps, on_exchange-keeps, same_ask}
+use Rattle.pp_laws_pool.proofs.WalkExchanges.{each_exchange-keeps, on_exchange-keeps, same_ask}
 use Rattle.pp_laws_pool.proofs.WalkHeads.{by_aim-keeps}
 use Rattle.pp_laws_pool.proofs.WalkPieces.{bad_head-keeps, bad_response-keeps, close_this-keeps, finish-keeps}
 use Rattle.pp_laws_sent.specs.Stands.{StandsIn}
 use Rattle.pp_laws_sent.proofs.Bodies.{body_less, done_ends}
-use Rattle.pp_laws_sent.proofs.Came.{Alike, Began, Came, EndsWith, Facts, WasAsked, came_walk, none_apart, of_map}
+use Rattle.pp_laws_lines.proofs.Lined.{IsPlain, Lined, facts_of as lines_of, named_here, naming, plain_named, same_names}
+use Rattle.pp_laws_lines.proofs.LinedHeads.{next_piece-lined}
+use Rattle.pp_laws_lines.proofs.Stands.{Since}
+use Rattle.pp_laws_sent.proofs.Came.{Alike, Began, Came, EndsWith, WasAsked, came_named, came_walk, none_apart, of_map}
 
 -- ---- a connection that has neither an answer nor unread bytes
 
@@ -196,12 +199,12 @@ join_bound-keeps : {P : View → Type 0} (w : Walk P) (e : Exchange) (bytes : By
 unfolding join_bound
 join_bound-keeps w e bytes s free h = each_of (bound_of e) h (λ b. on_exchange-keeps w e.number (moved_on (length bytes)) _ (moved_same (length bytes)) (join-keeps b bytes s free h))
 
-module _ (total : ℕ → Bytes) (asked : ℕ → Exchange → Type 0) where
+module _ (total : ℕ → Bytes) (asked : ℕ → Exchange → Type 0) (firsts : ℕ → Option ℕ) where
   abbrev pub Reading : ℕ → Bytes → Option (ℕ × Answer) → View → Type 0
-  Reading n rest but v = Came total (at_end n rest) asked true but v
+  Reading n rest but v = Came total (at_end n rest) asked firsts true but v
 
   walk : (n : ℕ) (rest : Bytes) (but : Option (ℕ × Answer)) → Walk (Reading n rest but)
-  walk n rest but = came_walk total (at_end n rest) asked true but
+  walk n rest but = came_walk total (at_end n rest) asked firsts true but
 
   -- ---- one that was changed
 
@@ -211,7 +214,7 @@ module _ (total : ℕ → Bytes) (asked : ℕ → Exchange → Type 0) where
     more : response_at x.unread ≡ More
     past : (a : Answer) → x.answer ≡ Some a → x.unread ≡ []
     shut : x.is_closing ≡ true → (x.answer ≡ None) × (x.unread ≡ [])
-    begun : (a : Answer) → x.answer ≡ Some a → Began (total x.number) rest (asked x.number) a
+    begun : (a : Answer) → x.answer ≡ Some a → Began (total x.number) rest (asked x.number) (firsts x.number) a
     going : (a : Answer) → x.answer ≡ Some a → GoesOn a ⊎ (but ≡ Some (x.number, a))
 
   stood_of : (n : ℕ) (rest : Bytes) (but : Option (ℕ × Answer)) (v : View) (k : Conn) → IsIn k v.conns → Reading n rest but v → Stood but (at_end n rest k.number) k
@@ -316,7 +319,7 @@ module _ (total : ℕ → Bytes) (asked : ℕ → Exchange → Type 0) where
   -- ---- a head
 
   -- of the connection that is read
-  module _ (k : Conn) (bytes : Bytes) (s : State) (there : IsIn k s.conns) (no_answer : k.answer ≡ None) (is_open : k.is_closing ≡ false) (h : Holds (Reading k.number bytes none_apart) s) where
+  module _ (k : Conn) (bytes : Bytes) (s : State) (there : IsIn k s.conns) (no_answer : k.answer ≡ None) (is_open : k.is_closing ≡ false) (h : Holds (Reading k.number bytes none_apart) s) (named_first : firsts k.number ≡ first_of k.line) where
     abbrev all : Bytes
     all = k.unread ++ bytes
 
@@ -372,7 +375,7 @@ module _ (total : ℕ → Bytes) (asked : ℕ → Exchange → Type 0) where
         was : WasAsked (asked k.number) e
         was = let w = front_by s k.line e front in facts.from refl k e there w.0 (in_line k.line e.number w.1)
 
-        began : Began (total k.number) rest (asked k.number) a
+        began : Began (total k.number) rest (asked k.number) (firsts k.number) a
         began = record {
           before = ends.0;
           head = take head.length all;
@@ -382,6 +385,7 @@ module _ (total : ℕ → Bytes) (asked : ℕ → Exchange → Type 0) where
           final = is_final;
           ask = was.was;
           asks = was.asks;
+          expected = named_first ∙ (front_by s k.line e front).1 ∙ ap (λ n. Some n) was.is.number;
           ruled = ap (λ (t : Bool). rule_of t head.status head.fields) (sym (asks_head_same e was.was was.is)) ∙ ruled;
           version = sym (version_in_same e was.was head was.is);
         }
@@ -392,7 +396,7 @@ module _ (total : ℕ → Bytes) (asked : ℕ → Exchange → Type 0) where
           more = nothing_read;
           past = λ b is. refl;
           shut = λ is. open_still is;
-          begun = λ b is. subst (Began (total k.number) rest (asked k.number)) (same_in is) began;
+          begun = λ b is. subst (Began (total k.number) rest (asked k.number) (firsts k.number)) (same_in is) began;
           going = λ b is. inr (ap (set_apart k.number) (same_in is));
         }) (none_only k.number) h
 
@@ -499,7 +503,7 @@ module _ (total : ℕ → Bytes) (asked : ℕ → Exchange → Type 0) where
   unfolding deliver
   deliver-came n rest e a at bytes s stands h = pour-keeps (walk n rest none_apart) e (poured bytes) _ (join_bound-keeps (walk n rest none_apart) e bytes _ (λ v is_evicting chunks g. g) (note_sent-came n rest e a at bytes s stands h))
 
-  module _ (k : Conn) (a : Answer) (bytes : Bytes) (s : State) (there : IsIn k s.conns) (has : k.answer ≡ Some a) (is_open : k.is_closing ≡ false) (some : 0 < length bytes) (h : Holds (Reading k.number bytes none_apart) s) where
+  module _ (k : Conn) (a : Answer) (bytes : Bytes) (s : State) (there : IsIn k s.conns) (has : k.answer ≡ Some a) (is_open : k.is_closing ≡ false) (some : 0 < length bytes) (h : Holds (Reading k.number bytes none_apart) s) (named_first : firsts k.number ≡ first_of k.line) where
     facts_now : Reading k.number bytes none_apart (view s)
     facts_now = facts_of h
 
@@ -515,8 +519,8 @@ module _ (total : ℕ → Bytes) (asked : ℕ → Exchange → Type 0) where
     abbrev fresh : Bytes
     fresh = drop at body.payload
 
-    came_so : Began (total k.number) bytes (asked k.number) a
-    came_so = subst (λ (e : Bytes). Began (total k.number) e (asked k.number) a) (end_here k.number bytes) (facts_now.begun k a there has)
+    came_so : Began (total k.number) bytes (asked k.number) (firsts k.number) a
+    came_so = subst (λ (e : Bytes). Began (total k.number) e (asked k.number) (firsts k.number) a) (end_here k.number bytes) (facts_now.begun k a there has)
 
     on : GoesOn a
     on = by (facts_now.going k a there has)
@@ -527,6 +531,10 @@ module _ (total : ℕ → Bytes) (asked : ℕ → Exchange → Type 0) where
 
     no_more : EndsWith (total k.number) []
     no_more = (total k.number, sym (append-nil (total k.number)))
+
+    -- the first of the line is the one whose head came
+    same_one : (n m : ℕ) → n ≡ m → first_of k.line ≡ Some n → m ≡ came_so.ask.number
+    same_one n m is front = let both : Some n ≡ Some came_so.ask.number = sym front ∙ sym named_first ∙ came_so.expected in let eq : n ≡ came_so.ask.number = cc in sym is ∙ eq
 
     stands : (e : Exchange) → front_of_line s k ≡ Some e → (v : Version) → a.version ≡ Some v → StandsIn total asked (record { key = key_of e; version = v; at = first_offset a.head + at; bytes = fresh })
     stands e front v version =
@@ -553,6 +561,7 @@ module _ (total : ℕ → Bytes) (asked : ℕ → Exchange → Type 0) where
           offset = ap (λ n. first_offset a.head + n) (sym (length-take-le at body.payload (payload-grows a.rule a.raw bytes)));
           keyed = named.was;
           keyed_there = named.asks;
+          one = same_one e.number named.was.number named.is.number w.1;
           key = ap text_of named.is.key;
         }
 
@@ -577,7 +586,7 @@ module _ (total : ℕ → Bytes) (asked : ℕ → Exchange → Type 0) where
           more = facts_now.more k there;
           past = λ b same_b. facts_now.past k a there has;
           shut = λ closing. let both : false ≡ true = sym is_open ∙ closing in absurd (cc both);
-          begun = λ b same_b. subst (Began (total k.number) [] (asked k.number)) (same_in same_b) (record {
+          begun = λ b same_b. subst (Began (total k.number) [] (asked k.number) (firsts k.number)) (same_in same_b) (record {
             before = came_so.before;
             head = came_so.head;
             stream = came_so.stream ∙ ap (λ (xs : Bytes). came_so.before ++ came_so.head ++ xs) (sym (append-nil text));
@@ -586,6 +595,7 @@ module _ (total : ℕ → Bytes) (asked : ℕ → Exchange → Type 0) where
             final = came_so.final;
             ask = came_so.ask;
             asks = came_so.asks;
+            expected = came_so.expected;
             ruled = came_so.ruled;
             version = came_so.version;
           });
@@ -613,12 +623,12 @@ module _ (total : ℕ → Bytes) (asked : ℕ → Exchange → Type 0) where
         by None none = record { kept = now_shut k.number bytes [] none_apart _ no_more (none_only k.number) (close_conn-shut false k s) (close_conn-keeps (walk k.number bytes none_apart) false k s h); less = some }
         by (Some e) front = body_piece_of-came e front
 
-  next_piece-came : (k : Conn) (bytes : Bytes) (s : State) → IsIn k s.conns → k.is_closing ≡ false → 0 < length bytes → Holds (Reading k.number bytes none_apart) s → ReadOn k.number bytes (next_piece k bytes s)
-  next_piece-came k bytes s there is_open some h = by k.answer refl
+  next_piece-came : (k : Conn) (bytes : Bytes) (s : State) → IsIn k s.conns → k.is_closing ≡ false → 0 < length bytes → Holds (Reading k.number bytes none_apart) s → firsts k.number ≡ first_of k.line → ReadOn k.number bytes (next_piece k bytes s)
+  next_piece-came k bytes s there is_open some h named_first = by k.answer refl
     where
       by : (o : Option Answer) → k.answer ≡ o → ReadOn k.number bytes (elim o as (λ c. Piece) [ Some a ↦ body_piece k a bytes s | None ↦ head_piece k bytes s ])
-      by None none = head_piece-came k bytes s there none is_open h some
-      by (Some a) has = body_piece-came k a bytes s there has is_open some h
+      by None none = head_piece-came k bytes s there none is_open h named_first some
+      by (Some a) has = body_piece-came k a bytes s there has is_open some h named_first
 
   -- ---- the read
 
@@ -630,30 +640,59 @@ module _ (total : ℕ → Bytes) (asked : ℕ → Exchange → Type 0) where
 
   closing_there : (n : ℕ) (k : Conn) (bytes : Bytes) (s : State) → IsIn k s.conns → k.number ≡ n → k.is_closing ≡ true → Holds (Reading n bytes none_apart) s → Holds (Shut n) s
   closing_there n k bytes s there number closing h = holds (λ j i is. let e : j ≡ k = one_of conn_number s.conns j k ((facts_of h).rise refl) i there (is ∙ sym number) in subst (λ (x : Conn). (x.answer ≡ None) × (x.unread ≡ [])) (sym e) ((facts_of h).shut k there closing))
+  -- ---- one piece behind the other
 
-  pub got-came : (more n : ℕ) (bytes : Bytes) (s : State) → length bytes ≤ more → Holds (Reading n bytes none_apart) s → Holds (Reading n [] none_apart) (got more n bytes s)
-  unfolding got
-  got-came zero n [] s le h = h
-  got-came zero n (b ∷ bytes) s le h = let none : ⊥ = omega arith in absurd none
-  got-came (suc more) n bytes s le h = by (conn s n) refl (λ k piece. goes_on k piece (λ rest t le2 h2. got-came more n rest t le2 h2))
+pub record HasRead (total : ℕ → Bytes) (asked : ℕ → Exchange → Type 0) (b : Since) (n : ℕ) (s : State) : Type 0 where
+  pub firsts : ℕ → Option ℕ
+  pub lines : Lined (record b { firsts = firsts }) s
+  pub came : Holds (Reading total asked firsts n [] none_apart) s
+
+module _ (total : ℕ → Bytes) (asked : ℕ → Exchange → Type 0) where
+  all_read : (b : Since) (n : ℕ) (s : State) → IsPlain b → Lined b s → Holds (Reading total asked b.firsts n [] none_apart) s → HasRead total asked b n s
+  all_read b n s p l h = record { firsts = b.firsts; lines = same_names s p l; came = h }
+
+  read_piece : (more n : ℕ) (bytes : Bytes) (b : Since) (s : State) (k : Conn) → length bytes ≤ suc more → IsPlain b → IsIn k s.conns → k.number ≡ n → k.is_closing ≡ false → 0 < length bytes → Lined b s → Holds (Reading total asked b.firsts n bytes none_apart) s
+      → ((c : Since) (rest : Bytes) (u : State) → length rest ≤ more → IsPlain c → Lined c u → Holds (Reading total asked c.firsts n rest none_apart) u → HasRead total asked c n (got more n rest u)) → HasRead total asked b n (got more n (next_piece k bytes s).rest (next_piece k bytes s).state)
+  read_piece more n bytes b s k le p there number is_open some l h later = by k.answer refl (next_piece-lined k bytes s p there is_open l)
     where
-      Rest : Type 0
-      Rest = (rest : Bytes) (t : State) → length rest ≤ more → Holds (Reading n rest none_apart) t → Holds (Reading n [] none_apart) (got more n rest t)
+      here : Holds (Reading total asked b.firsts k.number bytes none_apart) s
+      here = subst (λ m. Holds (Reading total asked b.firsts m bytes none_apart) s) (sym number) h
 
-      goes_on : (k : Conn) → ReadOn n bytes (next_piece k bytes s) → Rest → Holds (Reading n [] none_apart) (got more n (next_piece k bytes s).rest (next_piece k bytes s).state)
-      goes_on k piece later = let less : length (next_piece k bytes s).rest < length bytes = piece.less in later (next_piece k bytes s).rest (next_piece k bytes s).state (omega arith) piece.kept
+      unanswered : k.answer ≡ None → (j : Conn) (a : Answer) → IsIn j s.conns → j.number ≡ k.number → j.answer ≡ Some a → ⊥
+      unanswered none j a i same_n is =
+          let it : j ≡ k = one_of conn_number s.conns j k (lines_of l).apart i there same_n in
+          let both : None ≡ Some a = sym (ap (λ (x : Conn). x.answer) it ∙ none) ∙ is in cc both
 
-      reads_on : (k : Conn) → conn s n ≡ Some k → (closing : Bool) → k.is_closing ≡ closing → (xs : Bytes) → bytes ≡ xs → ((k : Conn) → ReadOn n bytes (next_piece k bytes s) → Holds (Reading n [] none_apart) (got more n (next_piece k bytes s).rest (next_piece k bytes s).state))
-          → Holds (Reading n [] none_apart) (elim (closing || is_empty xs) as (λ c. State) [ true ↦ s | false ↦ got more n (next_piece k bytes s).rest (next_piece k bytes s).state ])
-      reads_on k found true is xs same_xs later = let there = in_find (is_conn n) k s.conns found in stopped n bytes s (closing_there n k bytes s there.0 (same_number k.number n there.1) is h) h
-      reads_on k found false is [] same_xs later = subst (λ (ys : Bytes). Holds (Reading n ys none_apart) s) same_xs h
-      reads_on k found false is (b ∷ xs) same_xs later =
+      by : (o : Option Answer) → k.answer ≡ o → Lined (elim o as (λ x. Since) [ Some a ↦ b | None ↦ naming b k.number (first_of k.line) ]) (next_piece k bytes s).state → HasRead total asked b n (got more n (next_piece k bytes s).rest (next_piece k bytes s).state)
+      by None none lu =
+          let c : Since = naming b k.number (first_of k.line) in
+          let w = next_piece-came total asked (naming b k.number (first_of k.line)).firsts k bytes s there is_open some (holds (came_named total (at_end k.number bytes) asked b.firsts true none_apart k.number (first_of k.line) (view s) (unanswered none) (facts_of here))) (named_here b k.number (first_of k.line)) in
+          let less : length (next_piece k bytes s).rest < length bytes = w.less in
+          let r = later (naming b k.number (first_of k.line)) (next_piece k bytes s).rest (next_piece k bytes s).state (omega arith) (plain_named k.number (first_of k.line) p) lu (subst (λ m. Holds (Reading total asked (naming b k.number (first_of k.line)).firsts m (next_piece k bytes s).rest none_apart) (next_piece k bytes s).state) number w.kept) in
+          record { firsts = r.firsts; lines = r.lines; came = r.came }
+      by (Some a) has lu =
+          let heads = (lines_of l).answers k a there has (λ is. let both : None ≡ Some k.number = sym p.but ∙ is in cc both) in
+          let w = next_piece-came total asked b.firsts k bytes s there is_open some here (heads.expected ∙ sym heads.first) in
+          let less : length (next_piece k bytes s).rest < length bytes = w.less in
+          later b (next_piece k bytes s).rest (next_piece k bytes s).state (omega arith) p lu (subst (λ m. Holds (Reading total asked b.firsts m (next_piece k bytes s).rest none_apart) (next_piece k bytes s).state) number w.kept)
+
+  pub got-came : (more n : ℕ) (bytes : Bytes) (b : Since) (s : State) → length bytes ≤ more → IsPlain b → Lined b s → Holds (Reading total asked b.firsts n bytes none_apart) s → HasRead total asked b n (got more n bytes s)
+  unfolding got
+  got-came zero n [] b s le p l h = all_read b n s p l h
+  got-came zero n (x ∷ bytes) b s le p l h = let none : ⊥ = omega arith in absurd none
+  got-came (suc more) n bytes b s le p l h = by (conn s n) refl (λ c rest u le2 q lu hu. got-came more n rest c u le2 q lu hu)
+    where
+      reads_on : (k : Conn) → conn s n ≡ Some k → (closing : Bool) → k.is_closing ≡ closing → (xs : Bytes) → bytes ≡ xs
+          → ((c : Since) (rest : Bytes) (u : State) → length rest ≤ more → IsPlain c → Lined c u → Holds (Reading total asked c.firsts n rest none_apart) u → HasRead total asked c n (got more n rest u))
+          → HasRead total asked b n (elim (closing || is_empty xs) as (λ c. State) [ true ↦ s | false ↦ got more n (next_piece k bytes s).rest (next_piece k bytes s).state ])
+      reads_on k found true is xs same_xs later = let there = in_find (is_conn n) k s.conns found in all_read b n s p l (stopped total asked b.firsts n bytes s (closing_there total asked b.firsts n k bytes s there.0 (same_number k.number n there.1) is h) h)
+      reads_on k found false is [] same_xs later = all_read b n s p l (subst (λ (ys : Bytes). Holds (Reading total asked b.firsts n ys none_apart) s) same_xs h)
+      reads_on k found false is (x ∷ xs) same_xs later =
           let there = in_find (is_conn n) k s.conns found in
-          let number : k.number ≡ n = same_number k.number n there.1 in
-          let long : length bytes ≡ length (b ∷ xs) = ap (λ (ys : Bytes). length ys) same_xs in
-          later k (subst (λ m. ReadOn m bytes (next_piece k bytes s)) number (next_piece-came k bytes s there.0 is (omega arith) (subst (λ m. Holds (Reading m bytes none_apart) s) (sym number) h)))
+          let long : length bytes ≡ length (x ∷ xs) = ap (λ (ys : Bytes). length ys) same_xs in
+          read_piece more n bytes b s k le p there.0 (same_number k.number n there.1) is (omega arith) l h later
 
-      by : (o : Option Conn) → conn s n ≡ o → ((k : Conn) → ReadOn n bytes (next_piece k bytes s) → Holds (Reading n [] none_apart) (got more n (next_piece k bytes s).rest (next_piece k bytes s).state))
-          → Holds (Reading n [] none_apart) (elim o as (λ c. State) [ None ↦ s | Some k ↦ elim (k.is_closing || is_empty bytes) as (λ c. State) [ true ↦ s | false ↦ got more n (next_piece k bytes s).rest (next_piece k bytes s).state ] ])
-      by None none later = stopped n bytes s (nobody_there n s none) h
+      by : (o : Option Conn) → conn s n ≡ o → ((c : Since) (rest : Bytes) (u : State) → length rest ≤ more → IsPlain c → Lined c u → Holds (Reading total asked c.firsts n rest none_apart) u → HasRead total asked c n (got more n rest u))
+          → HasRead total asked b n (elim o as (λ c. State) [ None ↦ s | Some k ↦ elim (k.is_closing || is_empty bytes) as (λ c. State) [ true ↦ s | false ↦ got more n (next_piece k bytes s).rest (next_piece k bytes s).state ] ])
+      by None none later = all_read b n s p l (stopped total asked b.firsts n bytes s (nobody_there total asked b.firsts n s none) h)
       by (Some k) found later = reads_on k found k.is_closing refl bytes refl later

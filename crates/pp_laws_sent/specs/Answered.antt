@@ -1,10 +1,9 @@
 -- Who is answered, where origins answer: a statement that is not proved (RFC 2616, section 8.1.4). What is missing is said in docs/LAW.md.
-use Rattle.std.specs.Prelude.{◌≡◌, ℕ, zero, suc, ◌-◌, Bool, true, false, ◌==◌, ◌&&◌, ◌||◌, not, List, [], ◌∷◌, ◌++◌, length, Some, None, Ok, Err, max}
+use Rattle.std.specs.Prelude.{◌≡◌, ℕ, zero, suc, Bool, true, false, ◌==◌, ◌&&◌, ◌||◌, not, List, [], ◌∷◌, ◌++◌, length, Some, None, Ok, Err, max}
 use Rattle.std.specs.List.{list_any, list_all}
 use Rattle.pp_framing.specs.Body.{Done, Going, Bad}
 use Rattle.pp_framing.specs.Framing.{rule_of}
 use Rattle.pp_framing.specs.Rules.{body_of}
-use Rattle.pp_framing.specs.declared.body.BodyRule.{BodyRule}
 use Rattle.pp_head.specs.Read.{Whole, TooLong, Bad as NoHead, More}
 use Rattle.pp_head.specs.Response.{Response, response_at}
 use Rattle.pp_pipe.specs.Front.{is_interim}
@@ -12,7 +11,7 @@ use Rattle.pp_text.specs.Bytes.{is_empty}
 use Rattle.pp_world.specs.Log.{Log}
 use Rattle.pp_world.specs.declared.happening.Happening.{Happening}
 use Rattle.pp_world.specs.declared.happening.Happening.TheVariants.{Clock, Undialled, Ended, Broke, Got, Noted, Stopped}
-use Rattle.pp_world.specs.declared.note.Cause.TheVariants.{Superseded, Origin, Short, Idle, Memory, Stop}
+use Rattle.pp_world.specs.declared.note.Cause.TheVariants.{Superseded, Origin, Short, Idle}
 use Rattle.pp_world.specs.declared.note.Decision.TheVariants.{Refuse}
 use Rattle.pp_world.specs.declared.note.Remark.TheVariants.{Taken, Cut}
 use Rattle.pp_law.specs.After.{after}

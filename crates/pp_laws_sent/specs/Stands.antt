@@ -31,7 +31,7 @@ pub record WasAskedOn (terms : List Term) (log : Log) (number : ℕ) (e : Exchan
   pub then : IsAskedOn (state_after terms front) number e
 
 -- on a connection came a final head, as an exchange of its line asked, and behind it a body. Of that body's data these bytes are a
--- part, at the offset and under the version that the head tells; and they are of the key of an exchange of that line
+-- part, at the offset and under the version that the head tells; and they are of the key of that very exchange, as it stood then
 pub record StandsIn (came : ℕ → Bytes) (was_asked : ℕ → Exchange → Type 0) (part : Sent) : Type 0 where
   pub number : ℕ
   pub before : Bytes
@@ -53,6 +53,7 @@ pub record StandsIn (came : ℕ → Bytes) (was_asked : ℕ → Exchange → Typ
   pub offset : part.at ≡ first_offset response + length earlier
   pub keyed : Exchange
   pub keyed_there : was_asked number keyed
+  pub one : keyed.number ≡ ask.number
   pub key : part.key ≡ key_of keyed
 
 -- each part of what is on record
