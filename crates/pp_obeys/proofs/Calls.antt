@@ -1,19 +1,20 @@
 -- Calls of the world, and phases that are done, between what stands before and what stands behind.
-use Rattle.std.proofs.Common.{◌≡◌, refl, ℕ, ◌+◌, ◌<◌, ◌≤◌, Bool, true, false, not, ◌||◌, List, [], ◌∷◌, ◌++◌, Option, sym, subst, ap, ◌∙◌, arith, le_trans}
+use Rattle.std.proofs.Common.{◌≡◌, refl, ℕ, ◌+◌, ◌<◌, ◌≤◌, Bool, true, false, [], ◌∷◌, ◌++◌, Option, sym, subst, ap, ◌∙◌, arith, le_trans}
 use Rattle.std.specs.Prelude.{nat_lt}
 use Rattle.std.proofs.lemmas.Bool.Decides.{nat_tests}
-use Rattle.pp_world.specs.Log.{Log, Appends, Told}
+use Rattle.pp_world.specs.Log.{Log, Appends}
 use Rattle.pp_world.specs.declared.happening.Happening.{Happening}
 use Rattle.pp_law.specs.After.{after}
 use Rattle.pp_law.specs.Opening.{may_fail}
 use Rattle.pp_law.specs.Permits.{IsPermitted}
-use Rattle.pp_law.specs.Phases.{is_done, next}
+use Rattle.pp_law.specs.Phases.{next}
 use Rattle.pp_law.specs.State.{State, Term}
 use Rattle.pp_obeys.specs.Failures.{GoesOnIn, Rose, counted, fails, wakes}
-use Rattle.pp_obeys.specs.Obeys.{Allows, From, Keeps, Life, Obeys, Stands}
-use Rattle.pp_obeys.proofs.Frames.{Frame, frame}
+use Rattle.pp_obeys.specs.Moves.{Goes, Leaves, Moves}
+use Rattle.pp_obeys.specs.Obeys.{Allows, From, Keeps, Life, Stands}
+use Rattle.pp_obeys.proofs.Frames.{Frame}
 use Rattle.pp_obeys.proofs.Obeying.{life_goes_on, obeys_good, obeys_more, obeys_silently}
-use Rattle.pp_obeys.proofs.StaysTurns.{next-frame, unphased}
+use Rattle.pp_obeys.proofs.StaysTurns.{next-frame}
 
 pub keeps_none : (log : Option Log) (n : ℕ) (P : State → Type 0) → Keeps log log n n P P
 keeps_none log n P = record { keeps = λ life known. known }
@@ -54,17 +55,11 @@ may_fail_now false s life a b budget rose enough allows is = absurd (cc is)
 
 -- ---- a call
 
--- it may come, where the outside may fail if it failed in it; and what is known behind it
-pub record Moves (P Q : State → Type 0) (h : Happening) (s : State) : Type 0 where
-  pub awake : wakes h ≡ false
-  pub may : (fails h ≡ true → may_fail s false ≡ true) → IsPermitted s h
-  pub holds : Q (after s h)
-
-from_more : {life : Life} {budget a b : ℕ} {P Q : State → Type 0} {log : Log} (h : Happening) → Rose (fails h) a b → b ≤ budget + life.base → From life budget a P log → ((s : State) → P s → Moves P Q h s)
+from_more : {life : Life} {budget a b : ℕ} {P Q : State → Type 0} {log : Log} (h : Happening) → Rose (fails h) a b → b ≤ budget + life.base → From life budget a P log → ((s : State) → P s → Moves Q h s)
     → From life budget b Q (log ++ h ∷ [])
 from_more {life} {budget} {a} {b} {P} {Q} {log} h rose enough from step = by (step from.state from.holds)
   where
-    by : Moves P Q h from.state → From life budget b Q (log ++ h ∷ [])
+    by : Moves Q h from.state → From life budget b Q (log ++ h ∷ [])
     by there =
         let may : IsPermitted from.state h = there.may (may_fail_now (fails h) from.state life a b budget rose enough from.allows) in
         let goes : GoesOnIn from.state (after from.state h) (fails h) = life_goes_on from.state h there.awake may (obeys_good from.obeys) in
@@ -79,7 +74,7 @@ from_more {life} {budget} {a} {b} {P} {Q} {log} h rose enough from step = by (st
         }
 
 -- a call that appends what is permitted
-pub keeps_more : {old new : Option Log} {a b : ℕ} {P Q : State → Type 0} (h : Log → Happening) → Appends old new h → ((l : Log) → Rose (fails (h l)) a b) → ((l : Log) (s : State) → P s → Moves P Q (h l) s) → Keeps old new a b P Q
+pub keeps_more : {old new : Option Log} {a b : ℕ} {P Q : State → Type 0} (h : Log → Happening) → Appends old new h → ((l : Log) → Rose (fails (h l)) a b) → ((l : Log) (s : State) → P s → Moves Q (h l) s) → Keeps old new a b P Q
 keeps_more {old} {new} {a} {b} {P} {Q} h call rose step = record {
   keeps = λ life known. record {
     at = λ l is.
@@ -91,12 +86,11 @@ keeps_more {old} {new} {a} {b} {P} {Q} h call rose step = record {
   };
 }
 
--- ---- a phase that is done
+-- a call whose happening leads there
+pub moves_to : {Q : State → Type 0} {s : State} {h : Happening} {t : State} → wakes h ≡ false → Goes s h t → Q t → Moves Q h s
+moves_to {Q} awake goes holds = record { awake = awake; may = goes.may; holds = subst Q (sym goes.leads) holds }
 
--- and what is known of the next
-pub record Leaves (Q : State → Type 0) (s : State) : Type 0 where
-  pub done : is_done s ≡ true
-  pub holds : Q (next s)
+-- ---- a phase that is done
 
 pub keeps_silently : (log : Option Log) (n : ℕ) {P Q : State → Type 0} → ((s : State) → P s → Leaves Q s) → Keeps log log n n P Q
 keeps_silently log n {P} {Q} silent = record {

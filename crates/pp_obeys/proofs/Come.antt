@@ -1,12 +1,10 @@
 -- How a state comes to a phase: from each that is done to the next, and never back.
-use Rattle.std.proofs.Common.{◌≡◌, refl, ℕ, ◌+◌, ◌<◌, ◌≤◌, Bool, true, false, not, ◌&&◌, ◌||◌, List, [], ◌∷◌, ◌++◌, sym, subst, ap, ◌∙◌, le_refl, le_trans, arith}
+use Rattle.std.proofs.Common.{◌≡◌, refl, ℕ, ◌<◌, ◌≤◌, Bool, true, false, not, ◌||◌, List, [], ◌∷◌, ◌++◌, sym, subst, ap, ◌∙◌, le_refl, le_trans, arith}
 use Rattle.std.specs.List.{list_any}
-use Rattle.pp_world.specs.Log.{Log}
-use Rattle.pp_world.specs.Files.{Files}
-use Rattle.pp_law.specs.Opening.{is_at, is_same_phase, is_left_behind, permits_image}
-use Rattle.pp_law.specs.Phases.{phases, in_phase, behind, next, is_done, is_done_with, come, come_to, come_to_decide, decides, may_in, may_decide, passed, is_under_way}
+use Rattle.pp_law.specs.Opening.{is_at, is_same_phase}
+use Rattle.pp_law.specs.Phases.{phases, in_phase, behind, next, is_done, is_done_with, come, come_to, come_to_decide, decides, may_in, passed}
 use Rattle.pp_law.specs.State.{State, Phase, Before, IsWoken, IsConfigured, IsRooted, IsListed, IsListening, IsStuck, Awaiting, Handling, Evicting, Keeping, Deciding, Following, Connecting, DecidingAgain}
-use Rattle.pp_obeys.proofs.Frames.{Frame, frame}
+use Rattle.pp_obeys.proofs.Frames.{Frame}
 use Rattle.pp_obeys.proofs.StaysTurns.{followed-frame, give_up_asks-frame, placing-frame}
 
 -- ---- which one is next

@@ -1,17 +1,17 @@
 -- No phase makes a row: those that there are behind one were there before it.
-use Rattle.std.proofs.Common.{◌≡◌, refl, ℕ, Bool, true, false, not, ◌&&◌, ◌||◌, ◌==◌, List, [], ◌∷◌, Option, Some, None, Result, Ok, Err, option_and_then, sym, ap, ◌∙◌, subst}
+use Rattle.std.proofs.Common.{◌≡◌, ℕ, Bool, true, false, not, ◌&&◌, List, [], ◌∷◌, Option, Some, None, Result, Ok, Err, option_and_then, sym, ap, ◌∙◌}
 use Rattle.pp_law.specs.Requests.{Front, Parsed, NoHeadYet, NoHead as NoFront, IsRequest}
 use Rattle.pp_law.specs.Closing.{forsake, leave}
 use Rattle.pp_law.specs.Connections.{client, conn, exchange, on_conn, on_exchange, on_client, on_client_of, each_client, each_conn, each_exchange, is_unfilled, give_up_row, charge, lose_attempt, may_ask_again, end_exchange, leave_place, lose_place, close_conn, attempts_of, lost_one, place_for, put_on, if_unplaced, place_each, placing, WaitsDial, WaitsDrop, Placement, front_of_line, is_trying}
 use Rattle.pp_law.specs.Deciding.{add_exchange, begin_exchange}
 use Rattle.pp_law.specs.Decisions.{fits}
 use Rattle.pp_law.specs.Followers.{need_of, filling_exchange, fill_with, fill_span, fill_next, fill_for, fill, give_up_asks}
-use Rattle.pp_law.specs.Lists.{Bytes, change}
+use Rattle.pp_law.specs.Lists.{Bytes}
 use Rattle.pp_law.specs.Opening.{is_at}
 use Rattle.pp_law.specs.Phases.{behind, come, come_to_decide, decides, in_phase, is_done, next, phases}
 use Rattle.pp_law.specs.Stages.{is_headed}
 use Rattle.pp_law.specs.State.{State, Course, Client, Conn, Exchange, Instance, Phase, Before, IsWoken, IsConfigured, IsRooted, IsListed, IsListening, IsStuck, Awaiting, Handling, Evicting, Keeping, Deciding, Following, Connecting, DecidingAgain}
-use Rattle.pp_law.specs.Table.{Next, next_of, is_row_of, is_entry_of, is_left_over, swept, clear}
+use Rattle.pp_law.specs.Table.{Next, next_of, is_row_of, is_left_over, swept, clear}
 use Rattle.pp_law.specs.Unseen.{is_unseen, drop_on, drop_unseen}
 use Rattle.pp_laws.proofs.Lists.{Changed, in_change, in_filter, other, same}
 use Rattle.pp_laws.specs.Runs.{IsIn}

@@ -1,30 +1,30 @@
 -- A row that leaves memory: where it may behind a phase that is done, it may before that is left, and leads to what goes on as the same.
-use Rattle.std.proofs.Common.{◌≡◌, refl, ℕ, ◌<◌, ◌≤◌, Bool, true, false, not, ◌&&◌, List, [], ◌∷◌, drop, map, bytes_eq, is_some, Option, Some, None, option_map, sym, subst, ap, ap₂, ◌∙◌, arith}
+use Rattle.std.proofs.Common.{◌≡◌, refl, ◌<◌, Bool, true, false, not, ◌&&◌, List, [], ◌∷◌, drop, bytes_eq, is_some, Option, Some, None, option_map, sym, subst, ap, ap₂, ◌∙◌, arith}
 use Rattle.pp_text.specs.Bytes.{is_empty}
 use Rattle.pp_world.specs.declared.happening.Happening.TheVariants.{Noted}
 use Rattle.pp_world.specs.declared.note.Remark.TheVariants.{Forgotten}
 use Rattle.pp_law.specs.After.{after, changed, forgotten_by, leave_memory, noted, refused_row}
 use Rattle.pp_law.specs.Due.{first_due}
-use Rattle.pp_law.specs.Leaving.{Leaving, ForAnother, ForMemory, BeforeDecision, before_decision, forgets_next, if_so, is_first, leaving_as, makes_room, refused_memory}
+use Rattle.pp_law.specs.Leaving.{Leaving, ForAnother, ForMemory, BeforeDecision, before_decision, forgets_next, if_so, is_first, leaving_as, makes_room}
 use Rattle.pp_law.specs.Lists.{Bytes}
 use Rattle.pp_law.specs.Opening.{is_at, is_same_phase}
 use Rattle.pp_law.specs.Permits.{permits}
-use Rattle.pp_law.specs.Phases.{behind, come_to, come_to_decide, decides, due_victim, in_phase, is_done, is_done_with, is_free, may_in, next, phases}
+use Rattle.pp_law.specs.Phases.{behind, come_to, come_to_decide, decides, in_phase, is_done, is_done_with, is_free, may_in, next, phases}
 use Rattle.pp_law.specs.State.{State, Instance, Phase, Before, IsWoken, IsConfigured, IsRooted, IsListed, IsListening, IsStuck, Awaiting, Handling, Evicting, Keeping, Deciding, Following, Connecting, DecidingAgain, Free}
-use Rattle.pp_law.specs.Table.{forget, idle_row, is_idle_row, is_followed, is_bound_to, is_row_of, row}
+use Rattle.pp_law.specs.Table.{forget, idle_row, is_idle_row, is_followed, is_row_of, row}
 use Rattle.pp_laws.specs.Runs.{IsIn}
 use Rattle.pp_laws.proofs.Lists.{in_find, the_one}
 use Rattle.pp_laws.proofs.Sound.{Since, Sound, facts_of, instance_id}
 use Rattle.pp_laws.proofs.Tests.{first_holds, second_holds}
 use Rattle.pp_obeys.specs.Obeys.{GoesAs}
 use Rattle.pp_obeys.proofs.Come.{IsDone, come-stopped, come_to-next, come_to_decide-next, may_in-past, next-beyond, place_of}
-use Rattle.pp_obeys.proofs.Fewer.{Fewer, fewer, rows_of, come_to_decide-fewer, next-fewer}
-use Rattle.pp_obeys.proofs.GoesOn.{goes_equal, goes_from, goes_same}
-use Rattle.pp_obeys.proofs.Silent.{Follows, IsLeft, IsQuiet, RowsFollow, both_hold, follows}
+use Rattle.pp_obeys.proofs.Fewer.{fewer, rows_of, come_to_decide-fewer, next-fewer}
+use Rattle.pp_obeys.proofs.GoesOn.{goes_equal, goes_from}
+use Rattle.pp_obeys.proofs.Silent.{Follows, IsLeft, RowsFollow, both_hold, follows}
 
 -- ---- how it leaves, by what that depends on
 
-abbrev leaving_with : Bool → Bool → Option Instance → Option Instance → Option Leaving
+abbrev pub leaving_with : Bool → Bool → Option Instance → Option Instance → Option Leaving
 leaving_with first none r decided = elim first [
   | true ↦ Some ForAnother
   | false ↦ elim (elim none as (λ c. Option Instance) [ true ↦ if_so (λ x. x.is_new) r | false ↦ None ]) [ Some x ↦ Some (ForMemory x) | None ↦ option_map BeforeDecision decided ]
@@ -36,7 +36,7 @@ leaving_is s key = refl
 before_same : (s : State) (key : Bytes) → IsDone s → before_decision s key ≡ before_decision (next s) key
 before_same s key d = ap (λ (t : State). elim (decides t) as (λ c. Option Instance) [ true ↦ makes_room t key | false ↦ None ]) (come_to_decide-next s d)
 
-after_by : (s : State) (key : Bytes) (how : Leaving) → leaving_as s key ≡ Some how → after s (Noted (Forgotten key)) ≡ leave_memory how s
+pub after_by : (s : State) (key : Bytes) (how : Leaving) → leaving_as s key ≡ Some how → after s (Noted (Forgotten key)) ≡ leave_memory how s
 unfolding changed noted forgotten_by
 after_by s key how is = ap (λ (o : Option Leaving). elim o as (λ c. State) [ None ↦ s | Some l ↦ leave_memory l s ]) is
 

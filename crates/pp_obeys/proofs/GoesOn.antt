@@ -1,5 +1,5 @@
 -- Going on silently: from a state to itself, and over one phase behind the other.
-use Rattle.std.proofs.Common.{◌≡◌, refl, ℕ, zero, suc, ◌+◌, true, sym, subst, ap, ◌∙◌, arith}
+use Rattle.std.proofs.Common.{◌≡◌, refl, ℕ, zero, suc, true, sym, subst}
 use Rattle.pp_law.specs.Phases.{is_done, next}
 use Rattle.pp_law.specs.State.{State}
 use Rattle.pp_obeys.specs.Obeys.{AreDone, GoesAs, phases_on}

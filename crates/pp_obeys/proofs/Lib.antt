@@ -13,3 +13,5 @@ pub mod Steps
 pub mod Obeying
 pub mod Calls
 pub mod Laws
+pub mod Happenings
+pub mod TurnHappenings

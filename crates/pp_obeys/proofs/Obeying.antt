@@ -1,14 +1,14 @@
 -- A lawful log goes on by what is permitted, and by what is silent.
-use Rattle.std.proofs.Common.{◌≡◌, refl, ℕ, zero, suc, ◌+◌, ◌<◌, ◌≤◌, Bool, true, false, ◌&&◌, ◌||◌, List, [], ◌∷◌, ◌++◌, None, sym, subst, ap, ◌∙◌, arith}
+use Rattle.std.proofs.Common.{◌≡◌, refl, ℕ, zero, suc, ◌<◌, ◌≤◌, Bool, true, false, List, [], ◌∷◌, ◌++◌, None, sym, subst, ap, ◌∙◌, arith}
 use Rattle.std.specs.List.{list_any}
 use Rattle.pp_world.specs.Log.{Log}
 use Rattle.pp_world.specs.declared.happening.Happening.{Happening}
-use Rattle.pp_world.specs.declared.happening.Happening.TheVariants.{Woke, Waits, Clock, Opened, CanRead, CanWrite, Heard, HungUp, Said, Shut, Dialled, Undialled, Reached, Ended, Broke, Asked, Got, Dropped, NoneYet, Began, Did, Unread, Noted, Rooted, Listed, Listens, Configured, Printed, Stopped}
+use Rattle.pp_world.specs.declared.happening.Happening.TheVariants.{Woke}
 use Rattle.pp_law.specs.After.{after, changed}
 use Rattle.pp_law.specs.Lawful.{Lawful, LawfulFrom}
 use Rattle.pp_law.specs.Opening.{is_at, is_same_phase}
-use Rattle.pp_law.specs.Permits.{IsPermitted, is_permitted, permits, permits_behind_forgotten}
-use Rattle.pp_law.specs.Phases.{behind, come_to, is_done, is_done_with, is_under_way, next, phases}
+use Rattle.pp_law.specs.Permits.{IsPermitted}
+use Rattle.pp_law.specs.Phases.{behind, come_to, is_done, is_done_with, next, phases}
 use Rattle.pp_law.specs.State.{State, Term, Phase, Before, IsWoken, IsConfigured, IsRooted, IsListed, IsListening, IsStuck, Awaiting, Handling, Evicting, Keeping, Deciding, Following, Connecting, DecidingAgain, start}
 use Rattle.pp_laws.specs.Runs.{after_all, state_after}
 use Rattle.pp_laws.proofs.Happenings.{after-sound}
@@ -21,8 +21,8 @@ use Rattle.pp_obeys.proofs.Come.{IsDone, come-stopped, come_to-next, next-phase,
 use Rattle.pp_obeys.proofs.Forgetting.{rows_follow}
 use Rattle.pp_obeys.proofs.GoesOn.{goes_equal, goes_next, goes_same, goes_then}
 use Rattle.pp_obeys.proofs.Settled.{Settled, at_phase, next-settled, quiet_done, settled_quiet}
-use Rattle.pp_obeys.proofs.Silent.{Comes, InTurn, IsLeft, comes, permitted_wide, turns_at}
-use Rattle.pp_obeys.proofs.Steps.{Step, after_step, woken_settled}
+use Rattle.pp_obeys.proofs.Silent.{Comes, IsLeft, comes, permitted_wide, turns_at}
+use Rattle.pp_obeys.proofs.Steps.{after_step, woken_settled}
 
 -- ---- what holds behind each lawful log
 

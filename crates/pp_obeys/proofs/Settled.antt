@@ -1,17 +1,13 @@
 -- Behind each permitted happening nothing is owed but while the event is handled, and the disk is at rest but in its phase and in recovery.
-use Rattle.std.proofs.Common.{◌≡◌, ◌⊎◌, refl, ℕ, Bool, true, false, not, ◌&&◌, ◌||◌, List, [], ◌∷◌, length, Option, Some, None, is_some, inl, inr, sym, subst, ap, ap₂, ◌∙◌}
-use Rattle.std.specs.Prelude.{find}
+use Rattle.std.proofs.Common.{◌≡◌, refl, ℕ, Bool, true, false, not, ◌&&◌, ◌||◌, List, [], ◌∷◌, Option, Some, None, is_some, sym, ap, ◌∙◌}
 use Rattle.std.specs.List.{list_any}
-use Rattle.pp_conf.specs.Conf.{Settings}
 use Rattle.pp_text.specs.Bytes.{is_empty}
-use Rattle.pp_world.specs.Files.{Files}
 use Rattle.pp_world.specs.declared.op.DiskOp.{DiskOp}
 use Rattle.pp_law.specs.Asking.{is_reading, is_writing}
-use Rattle.pp_law.specs.Lists.{Bytes, is_some_with}
-use Rattle.pp_law.specs.Opening.{is_at, is_opening, is_same_phase}
-use Rattle.pp_law.specs.Phases.{phases, come, come_to, come_to_decide, decides, in_phase, is_done, is_done_with, is_free, is_under_way, may_in, next}
+use Rattle.pp_law.specs.Opening.{is_at, is_same_phase}
+use Rattle.pp_law.specs.Phases.{phases, come, come_to, come_to_decide, decides, is_done, is_done_with, is_free, may_in, next}
 use Rattle.pp_law.specs.State.{State, Phase, Before, IsWoken, IsConfigured, IsRooted, IsListed, IsListening, IsStuck, Awaiting, Handling, Evicting, Keeping, Deciding, Following, Connecting, DecidingAgain, Owed, Free, ReadOf, WriteTo, Todo}
-use Rattle.pp_law.specs.Store.{is_at_rest, is_done_on_disk, is_idle_disk, is_gone, has_to_seal}
+use Rattle.pp_law.specs.Store.{is_at_rest, is_done_on_disk, is_idle_disk, is_gone}
 use Rattle.pp_laws.proofs.Tests.{first_holds, second_holds}
 use Rattle.pp_obeys.proofs.Come.{same_phase}
 use Rattle.pp_obeys.proofs.Frames.{Frame, frame}

@@ -1,8 +1,7 @@
 -- What may come behind a phase that is done may come before it is left, and leads to the same.
-use Rattle.std.proofs.Common.{◌≡◌, refl, ℕ, Bool, true, false, not, ◌&&◌, ◌||◌, List, [], ◌∷◌, Option, Some, None, is_some, sym, subst, ap, ap₂, ◌∙◌}
+use Rattle.std.proofs.Common.{◌≡◌, refl, ℕ, Bool, true, false, not, ◌&&◌, ◌||◌, List, [], ◌∷◌, Option, None, is_some, sym, ap, ap₂, ◌∙◌}
 use Rattle.std.specs.List.{list_any}
-use Rattle.std.specs.Prelude.{nat_lt, length, map, bytes_eq, ◌==◌}
-use Rattle.pp_text.specs.Bytes.{is_empty}
+use Rattle.std.specs.Prelude.{nat_lt, map, bytes_eq, ◌==◌}
 use Rattle.pp_world.specs.Files.{Files}
 use Rattle.pp_world.specs.Log.{Log}
 use Rattle.pp_world.specs.Disk.{is_rising}
@@ -23,17 +22,17 @@ use Rattle.pp_law.specs.Closing.{close_client}
 use Rattle.pp_law.specs.Connections.{client, placing}
 use Rattle.pp_law.specs.Lists.{Bytes, is_some_with}
 use Rattle.pp_law.specs.Opening.{begun, is_at, is_opening, is_same_phase, is_left_behind, may_fail, permits_image, term_in, terms_behind, woken, is_recovered}
-use Rattle.pp_law.specs.Permits.{IsPermitted, has_conn, is_new_number, is_owed, is_permitted, may_cut, may_dial, may_drop, may_evict, may_fail_to_load, may_fail_to_recover, may_load, may_shut, may_take, permits, permits_behind_forgotten, loads_from, is_said_of, may_load_at, permits_taken}
-use Rattle.pp_law.specs.Phases.{phases, come_to, come_to_decide, decides, deciding, ending, in_phase, is_done, is_under_way, may_decide, may_end, may_in, next}
+use Rattle.pp_law.specs.Permits.{IsPermitted, has_conn, is_new_number, is_permitted, may_cut, may_dial, may_drop, may_evict, may_fail_to_load, may_fail_to_recover, may_load, may_shut, may_take, permits, permits_behind_forgotten, loads_from, is_said_of, may_load_at, permits_taken}
+use Rattle.pp_law.specs.Phases.{phases, come_to, decides, deciding, ending, in_phase, is_done, is_under_way, may_end, next}
 use Rattle.pp_law.specs.Replies.{begin_replies}
 use Rattle.pp_law.specs.Repairs.{begin_in_opening, may_begin_in_opening}
 use Rattle.pp_law.specs.Served.{is_served}
-use Rattle.pp_law.specs.State.{State, Client, Phase, Before, IsWoken, IsConfigured, IsRooted, IsListed, IsListening, IsStuck, Awaiting, Handling, Evicting, Keeping, Deciding, Following, Connecting, DecidingAgain, Owed, Free, Todo, start}
-use Rattle.pp_law.specs.Store.{begin_in_turn, is_acknowledged_as, is_at_rest, is_idle_disk, is_same_op, may_begin_in_turn, may_end_op, may_note_gone, note_gone, is_closed}
+use Rattle.pp_law.specs.State.{State, Phase, Before, IsWoken, IsConfigured, IsRooted, IsListed, IsListening, IsStuck, Awaiting, Handling, Evicting, Keeping, Deciding, Following, Connecting, DecidingAgain, Owed, Free, Todo, start}
+use Rattle.pp_law.specs.Store.{begin_in_turn, is_acknowledged_as, is_at_rest, is_idle_disk, is_same_op, may_begin_in_turn, may_note_gone, note_gone, is_closed}
 use Rattle.pp_law.specs.Turn.{rest_with}
 use Rattle.pp_laws.proofs.Tests.{first_holds, second_holds}
 use Rattle.pp_obeys.specs.Obeys.{GoesAs}
-use Rattle.pp_obeys.proofs.Come.{IsDone, come_to-next, come_to_decide-next, enters, next-beyond, under_way_so}
+use Rattle.pp_obeys.proofs.Come.{IsDone, come_to_decide-next, enters}
 use Rattle.pp_obeys.proofs.Frames.{Frame, frame}
 use Rattle.pp_obeys.proofs.GoesOn.{goes_equal}
 use Rattle.pp_obeys.proofs.StaysTurns.{next-frame, unphased}

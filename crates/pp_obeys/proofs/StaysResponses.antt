@@ -1,14 +1,12 @@
 -- What requests and responses bring leaves the rest of a state as it is.
-use Rattle.std.proofs.Common.{ℕ, zero, suc, ◌+◌, Bool, true, false, ◌==◌, ◌&&◌, ◌||◌, List, [], ◌∷◌, ◌++◌, drop, length, Option, Some, None, ap}
+use Rattle.std.proofs.Common.{ℕ, zero, suc, Bool, true, false, ◌==◌, ◌&&◌, ◌||◌, List, [], ◌∷◌, ◌++◌, drop, length, Option, Some, None}
 use Rattle.std.specs.List.{list_any}
-use Rattle.pp_ask.specs.declared.kind.AskKind.{AskKind}
 use Rattle.pp_framing.specs.Body.{Outcome, Done, Going, Bad}
 use Rattle.pp_framing.specs.Framing.{rule_of}
 use Rattle.pp_framing.specs.Rules.{body_of}
 use Rattle.pp_framing.specs.declared.body.BodyRule.{BodyRule}
 use Rattle.pp_fresh.specs.declared.aging.Times.{Times}
 use Rattle.pp_head.specs.Read.{Read, Whole, TooLong, Bad as NoHead, More}
-use Rattle.pp_head.specs.Request.{Request}
 use Rattle.pp_head.specs.Response.{Response, response_at}
 use Rattle.pp_objects.specs.Kept.{kept_of}
 use Rattle.pp_pass.specs.Pipe.{Pipe, finished}
@@ -16,24 +14,16 @@ use Rattle.pp_pipe.specs.Front.{is_interim}
 use Rattle.pp_target.specs.Key.{Key, text_of}
 use Rattle.pp_text.specs.Bytes.{is_empty}
 use Rattle.pp_valid.specs.declared.version.Version.{Version}
-use Rattle.pp_world.specs.declared.note.Decision.TheVariants.{Refuse, Hit, Part, Head, NotModified, Unsatisfiable, Relay, Validate, Fetch, Pass}
-use Rattle.pp_world.specs.declared.note.Decision.{Decision}
-use Rattle.pp_law.specs.Closing.{is_of}
-use Rattle.pp_law.specs.Connections.{conn, exchange, is_for, front_of_line, on_conn, is_trying, end_exchange}
-use Rattle.pp_law.specs.Deciding.{refuse, add_exchange, begin_exchange, ask_for, ask_as, ask_origin, reply_by, follow_with, follow_row, follow, relay, is_for_memory, mark_row_of, enter_row, decided_by, decided}
-use Rattle.pp_law.specs.Decisions.{kind_of, fits}
-use Rattle.pp_law.specs.Followers.{need_of, filling_exchange, fill_with, fill_span, fill_next, fill_for, fill, give_up_asks}
+use Rattle.pp_law.specs.Connections.{conn, exchange, is_for, front_of_line, on_conn, end_exchange}
 use Rattle.pp_law.specs.Lists.{Bytes, is_some_with}
-use Rattle.pp_law.specs.OwnHeads.{key_of, tell, use_body, drop_answer, useless, times_for, renewed, renew, settle_on, renew_row, refresh, known_version, may_refresh, settle_known, names_version, may_join, settle, settle_unchanged, unchanged, forbids_sharing, is_of_another, not_shared, not_modified, clears_row, cleared_by, is_private_part, is_widened, relay_head, other_head, other_part, own_head, is_bound, lacks_next, count_elsewhere, part_head, filling_head, is_wrong_head, version_in, sent_as, first_offset, note_own, note_sent, join, join_bound}
+use Rattle.pp_law.specs.OwnHeads.{key_of, tell, use_body, drop_answer, useless, times_for, renewed, renew, settle_on, renew_row, refresh, known_version, may_refresh, settle_known, names_version, may_join, settle, settle_unchanged, unchanged, forbids_sharing, is_of_another, not_shared, not_modified, clears_row, cleared_by, is_private_part, is_widened, relay_head, other_head, other_part, own_head, is_bound, lacks_next, count_elsewhere, part_head, filling_head, is_wrong_head, version_in, note_own, note_sent, join, join_bound}
 use Rattle.pp_law.specs.Passing.{pour, poured}
-use Rattle.pp_law.specs.Requests.{key_in}
 use Rattle.pp_law.specs.Responses.{skip_body, close_this, rested, may_go_on, finish, bad_response, bad_head, by_aim, asks_head, answer_with, answered_by, end_if_empty, begin_answer, answer_for, head_came, Piece, is_early, with_unread, head_piece_of, head_piece, deliver, payload_of, body_piece_of, body_piece, next_piece, got, is_whole_at_end, finish_first, ended}
-use Rattle.pp_law.specs.State.{State, Sent, Brought, Body, Client, Conn, Exchange, Instance, Answer, Reply, Bound}
-use Rattle.pp_law.specs.Table.{row, row_for, instance, Next, next_of}
+use Rattle.pp_law.specs.State.{State, Brought, Body, Conn, Exchange, Instance, Answer, Bound}
+use Rattle.pp_law.specs.Table.{row, instance}
 use Rattle.pp_law.specs.ThroughHeads.{invalidates, key_named, is_same_host, clear_named, clear_each, places_named, invalidated, disproves, reads, disproved, through_head}
-use Rattle.pp_law.specs.Unseen.{is_unseen, drop_on, drop_unseen}
-use Rattle.pp_obeys.proofs.Frames.{Frame, Stays, stays, frame_of, when, each_of, by_aim_of, by_outcome, by_front, by_result}
-use Rattle.pp_obeys.proofs.StaysTable.{on_instance-stays, swept-stays, clear-stays, mark_row-stays, make_row-stays, enter-stays, note_use-stays, on_conn-stays, on_exchange-stays, on_client-stays, on_client_of-stays, each_client-stays, each_conn-stays, lose_attempt-stays, fail-stays, end_exchange-stays, close_conn-stays, forsake-stays, leave-stays}
+use Rattle.pp_obeys.proofs.Frames.{Frame, Stays, stays, frame_of, when, each_of, by_aim_of, by_outcome, by_result}
+use Rattle.pp_obeys.proofs.StaysTable.{on_instance-stays, clear-stays, mark_row-stays, make_row-stays, enter-stays, note_use-stays, on_conn-stays, on_exchange-stays, on_client_of-stays, lose_attempt-stays, fail-stays, end_exchange-stays, close_conn-stays}
 
 -- ---- heads
 

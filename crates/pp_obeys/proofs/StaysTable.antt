@@ -1,5 +1,5 @@
 -- Changes of rows, connections and exchanges leave the rest of a state as it is.
-use Rattle.std.proofs.Common.{◌≡◌, refl, ℕ, nat_lt, Bool, true, false, not, ◌==◌, ◌&&◌, List, [], ◌∷◌, Option, Some, None, option_and_then}
+use Rattle.std.proofs.Common.{ℕ, nat_lt, Bool, true, not, ◌==◌, ◌&&◌, List, [], ◌∷◌, Option, Some, None, option_and_then}
 use Rattle.pp_fresh.specs.declared.aging.Times.{Times}
 use Rattle.pp_peers.specs.declared.placing.Placed.TheVariants.{On, Dial, CloseThenDial, Wait}
 use Rattle.pp_peers.specs.declared.placing.Placed.{Placed}

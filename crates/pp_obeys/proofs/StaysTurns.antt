@@ -1,23 +1,21 @@
 -- Replies, asks, the clock and the phases of a turn leave the rest of a state as it is.
 use Rattle.std.proofs.Common.{◌≡◌, refl, ℕ, zero, suc, ◌+◌, nat_lt, max, Bool, true, false, not, ◌&&◌, List, [], ◌∷◌, map, ap, ◌∙◌}
-use Rattle.pp_world.specs.declared.event.Wants.{Wants}
-use Rattle.pp_world.specs.declared.note.Decision.{Decision}
-use Rattle.pp_law.specs.After.{event, opened, owing, reached, paid, said, gone, take_decision, evicted, refused_row, shut, out}
+use Rattle.pp_law.specs.After.{reached, said, gone, evicted, refused_row, shut, out}
 use Rattle.pp_law.specs.Asking.{asking, is_writing, hear, ask_body, ask_next, ask, hang_up, asked_text}
-use Rattle.pp_law.specs.Connections.{placing, client, conn, front_of_line, on_client, on_conn, is_outstanding}
+use Rattle.pp_law.specs.Connections.{placing, client, conn, front_of_line, is_outstanding}
 use Rattle.pp_law.specs.Hearing.{heard_by}
 use Rattle.pp_law.specs.Lists.{Bytes}
 use Rattle.pp_law.specs.Opening.{is_at}
 use Rattle.pp_law.specs.Phases.{phases, in_phase, behind, next, due_victim, is_done, come, come_to, come_to_decide, decides, deciding, ending}
 use Rattle.pp_law.specs.Replies.{begin_replies, use_chunks, use_from, use_said, of_body, is_said, next_request, end_reply, end_said, is_finished, close_finished, end_replies, regained, said_by}
-use Rattle.pp_law.specs.State.{State, Phase, Before, IsWoken, IsConfigured, IsRooted, IsListed, IsListening, IsStuck, Awaiting, Handling, Evicting, Keeping, Deciding, Following, Connecting, DecidingAgain, Owed, Free, Client, Conn, Exchange, Instance}
+use Rattle.pp_law.specs.State.{State, Phase, Before, IsWoken, IsConfigured, IsRooted, IsListed, IsListening, IsStuck, Awaiting, Handling, Evicting, Keeping, Deciding, Following, Connecting, DecidingAgain, Client, Conn, Exchange, Instance}
 use Rattle.pp_law.specs.Followers.{fill, give_up_asks}
 use Rattle.pp_law.specs.Table.{Next, next_of}
 use Rattle.pp_law.specs.Unseen.{drop_unseen}
-use Rattle.pp_law.specs.Turn.{marked_client, marked_conn, touch, is_leap, marks_anew, owes_answer, is_idle_conn, end_patience, close_idle_conn, renew_marks, tick_to, tick, rest_with}
+use Rattle.pp_law.specs.Turn.{marked_client, marked_conn, touch, is_leap, marks_anew, owes_answer, is_idle_conn, end_patience, close_idle_conn, renew_marks, tick_to, tick}
 use Rattle.pp_obeys.proofs.Frames.{Frame, Stays, frame, stays, frame_of, when, each_of}
 use Rattle.pp_obeys.proofs.StaysTable.{swept-stays, forget-stays, use_chunk-stays, drop_chunk-stays, on_conn-stays, on_exchange-stays, on_client-stays, on_client_of-stays, each_client-stays, each_conn-stays, fail-stays, close_conn-stays, close_client-stays, forsake-stays, placing-stays}
-use Rattle.pp_obeys.proofs.StaysAsks.{decided-stays, drop_unseen-stays, fill-stays, give_up_asks-stays}
+use Rattle.pp_obeys.proofs.StaysAsks.{drop_unseen-stays, fill-stays, give_up_asks-stays}
 use Rattle.pp_obeys.proofs.StaysResponses.{ended-stays}
 
 -- ---- replies

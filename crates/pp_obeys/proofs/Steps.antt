@@ -1,7 +1,7 @@
 -- What a permitted happening leaves: what is owed, the disk, the failures and how the life was started.
-use Rattle.std.proofs.Common.{◌≡◌, ◌⊎◌, refl, ℕ, ◌+◌, Bool, true, false, not, ◌&&◌, ◌||◌, ◌==◌, List, [], ◌∷◌, ◌++◌, length, find, Option, Some, None, is_some, inl, inr, sym, subst, ap, ap₂, ◌∙◌}
+use Rattle.std.proofs.Common.{◌≡◌, ◌⊎◌, refl, ℕ, ◌+◌, Bool, true, false, not, ◌&&◌, ◌||◌, ◌==◌, List, [], ◌∷◌, ◌++◌, length, find, Option, Some, None, is_some, inl, inr, sym, ap, ◌∙◌}
 use Rattle.std.specs.List.{list_any}
-use Rattle.std.specs.Prelude.{bytes_eq, drop, Result}
+use Rattle.std.specs.Prelude.{bytes_eq}
 use Rattle.pp_conf.specs.Conf.{Settings}
 use Rattle.pp_conf.specs.Words.{file_of, reading_of}
 use Rattle.pp_text.specs.Bytes.{is_empty}
@@ -14,36 +14,33 @@ use Rattle.pp_world.specs.declared.note.Decision.{Decision}
 use Rattle.pp_world.specs.declared.note.Remark.{Remark}
 use Rattle.pp_world.specs.declared.note.Remark.TheVariants.{Taken, Cut, Kept, Gone, Forgotten, Evicted, Loaded}
 use Rattle.pp_world.specs.declared.op.DiskOp.{DiskOp}
-use Rattle.pp_law.specs.After.{after, begun_op, changed, dialled, dropped, ended_op, event, evicted, forgotten_by, gone, leave_memory, new_conn, noted, opened, out, owing, paid, reached, refused_dial, refused_row, said, shut, take_decision, undialled, unread}
-use Rattle.pp_law.specs.Asking.{ask, hang_up, hear, is_reading, is_writing, is_read, read_limit, fits_heard, asking, is_front, left_to_ask, read_room}
+use Rattle.pp_law.specs.After.{after, begun_op, changed, dialled, dropped, ended_op, event, forgotten_by, leave_memory, new_conn, noted, opened, out, owing, paid, refused_dial, take_decision, undialled, unread}
+use Rattle.pp_law.specs.Asking.{is_reading, is_writing, is_read, read_limit}
 use Rattle.pp_law.specs.Chunks.{note_use}
-use Rattle.pp_law.specs.Closing.{close_client}
 use Rattle.pp_law.specs.Connections.{client, conn, end_exchange, lose_attempt, may_ask_again, on_client, on_conn, on_exchange, placing, put_on, Placement, Pause, AllPlaced, WaitsDial, WaitsDrop}
 use Rattle.pp_law.specs.Deciding.{decided}
-use Rattle.pp_law.specs.Leaving.{Leaving, ForAnother, ForMemory, BeforeDecision, leaving_as, before_decision, makes_room}
+use Rattle.pp_law.specs.Leaving.{Leaving, ForAnother, ForMemory, BeforeDecision, leaving_as}
 use Rattle.pp_law.specs.Lists.{Bytes, is_some_with}
-use Rattle.pp_law.specs.Offers.{offer}
 use Rattle.pp_law.specs.Opening.{are_texts, begun, configured, is_at, is_opening, is_recovered, is_same_phase, lose_in_opening, may_fail, names_file, opened_to, settings_in, stuck, with_settings, woken}
-use Rattle.pp_law.specs.Permits.{IsPermitted, has_conn, is_dial_of, is_new_number, is_owed, is_permitted, is_said_of, may_cut, may_dial, may_drop, may_evict, may_shut, may_take, permits, permits_dial, permits_unread}
+use Rattle.pp_law.specs.Permits.{has_conn, is_dial_of, is_new_number, is_owed, may_cut, may_dial, may_drop, may_shut, may_take, permits}
 use Rattle.pp_law.specs.Phases.{phases, come, come_to, come_to_decide, decides, deciding, ending, has_closings, in_phase, is_done, may_end, may_in}
-use Rattle.pp_law.specs.Replies.{end_replies, regained}
+use Rattle.pp_law.specs.Replies.{regained}
 use Rattle.pp_law.specs.Repairs.{begin_in_opening, may_begin_in_opening, agenda_in_opening}
-use Rattle.pp_law.specs.Responses.{got}
 use Rattle.pp_law.specs.Served.{is_served}
-use Rattle.pp_law.specs.State.{State, Agenda, Client, Conn, Entry, Exchange, Instance, Phase, Before, IsWoken, IsConfigured, IsRooted, IsListed, IsListening, IsStuck, Awaiting, Handling, Evicting, Keeping, Deciding, Following, Connecting, DecidingAgain, Owed, Free, ReadOf, WriteTo, Todo, Do, Enter, Acknowledge}
+use Rattle.pp_law.specs.State.{State, Agenda, Client, Conn, Entry, Exchange, Instance, Phase, Before, IsWoken, IsConfigured, IsRooted, IsListed, IsListening, IsStuck, Awaiting, Handling, Evicting, Keeping, Deciding, Following, Connecting, DecidingAgain, Owed, ReadOf, WriteTo, Todo, Do, Enter, Acknowledge}
 use Rattle.pp_law.specs.Store.{agenda_in_turn, begin_in_turn, begin_op, close_name, end_op, enter_next, fail_op, is_acknowledged_as, is_at_rest, is_idle_disk, is_of_draft, is_same_op, load, load_from, lose_draft, lose_entry, left_todo, may_begin_in_turn, may_end_op, may_note_gone, note_gone, note_kept, remove_entry}
 use Rattle.pp_law.specs.Table.{forget, is_entry_of, kept_row, row}
-use Rattle.pp_law.specs.Turn.{rest_with, tick, touch}
+use Rattle.pp_law.specs.Turn.{rest_with, touch}
 use Rattle.pp_laws.proofs.Tests.{first_holds, second_holds}
 use Rattle.pp_obeys.specs.Failures.{GoesOnIn, counted, fails, wakes}
 use Rattle.pp_obeys.proofs.Come.{skip}
 use Rattle.pp_obeys.proofs.Frames.{Frame, frame, Stays, frame_of, stays}
-use Rattle.pp_obeys.proofs.Settled.{AtRest, Settled, at_phase, come_at, come_to-settled, come_to_decide-settled, idle_so, nothing_so, owed_owes, quiet_as, quiet_at, quiet_by, quiet_decides, quiet_in, reading_owes, rest_as, rest_owing, rest_so, settled_as, settled_quiet, settled_working, working, works, writing_owes}
+use Rattle.pp_obeys.proofs.Settled.{AtRest, Settled, at_phase, come_at, come_to-settled, come_to_decide-settled, owed_owes, quiet_as, quiet_at, quiet_by, quiet_decides, quiet_in, reading_owes, rest_as, rest_owing, rest_so, settled_as, settled_quiet, settled_working, working, works, writing_owes}
 use Rattle.pp_obeys.proofs.Silent.{IsQuiet}
 use Rattle.pp_obeys.proofs.StaysAsks.{decided-stays}
 use Rattle.pp_obeys.proofs.StaysResponses.{got-stays}
-use Rattle.pp_obeys.proofs.StaysTable.{close_client-stays, end_exchange-stays, forget-stays, lose_attempt-stays, put_on-stays}
-use Rattle.pp_obeys.proofs.StaysTurns.{ask-stays, begin_replies-stays, come_to-frame, come_to_decide-frame, deciding-frame, end_replies-stays, ending-frame, evicted-stays, gone-stays, hang_up-stays, hear-stays, out-stays, placing-frame, reached-stays, refused_row-stays, regained-stays, said-stays, shut-stays, tick-frame, touch-stays, unphased, untimed}
+use Rattle.pp_obeys.proofs.StaysTable.{close_client-stays, forget-stays, lose_attempt-stays}
+use Rattle.pp_obeys.proofs.StaysTurns.{ask-stays, come_to-frame, come_to_decide-frame, deciding-frame, end_replies-stays, ending-frame, evicted-stays, gone-stays, hang_up-stays, hear-stays, out-stays, placing-frame, reached-stays, refused_row-stays, said-stays, shut-stays, tick-frame, unphased, untimed}
 
 -- ---- the same life
 
@@ -456,7 +453,7 @@ opening_off Following is = absurd (cc is)
 opening_off Connecting is = absurd (cc is)
 opening_off DecidingAgain is = absurd (cc is)
 
-come_off : (p : Phase) (s : State) → list_any (λ q. is_at q s) phases ≡ false → come_to p s ≡ s
+pub come_off : (p : Phase) (s : State) → list_any (λ q. is_at q s) phases ≡ false → come_to p s ≡ s
 unfolding come_to come
 come_off p s off = skip (is_at p) phases [] s off
 
