@@ -5,7 +5,7 @@
 //! state, which is the one that it leads to, or one some phases on. The laws of this crate take it on:
 //! over a happening that the state permits, and over a phase that is done, which no happening shows.
 //!
-//! To the layer above: these laws are the clauses of functions that do nothing. `proofs/Steps.antt`
+//! To the layer above: these laws are the clauses of functions that do nothing. `proofs/Happenings.antt`
 //! has, for each happening, what permits it and where it leads; `proofs/Calls.antt` the same for calls of
 //! the world, with the failures that the outside counts: `Keeps` is the contract of such a call.
 //!
