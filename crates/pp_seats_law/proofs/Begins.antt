@@ -1,20 +1,18 @@
 -- A seat begins as its client does.
-use Rattle.std.proofs.Common.{◌≡◌, refl, sym, ap, ◌∙◌, ℕ, true, false, [], ◌∷◌, ◌++◌, None}
-use Rattle.pp_client.specs.Clients.{IsAnswerable, new_client as new_side}
+use Rattle.std.proofs.Common.{◌≡◌, refl, sym, ap, ◌∙◌, true, false, [], ◌++◌}
 use Rattle.pp_client.specs.Replies.{Reply as Said}
 use Rattle.pp_client.specs.Requests.{Front as Heading, Nothing, Begun as More, Asked as IsAsked, Refused, current_of, is_answerable}
 use Rattle.pp_client.specs.declared.reply.Begin.TheVariants.{Page, Instance as OfInstance, Passed as IsPassed}
 use Rattle.pp_client.specs.declared.reply.Stage.{Stage as SaidStage}
 use Rattle.pp_client.specs.declared.reply.Stage.TheVariants.{Due, Begun}
 use Rattle.pp_head.proofs.OnLiterals.{pp_head_on_literals}
-use Rattle.pp_law.specs.After.{new_client}
 use Rattle.pp_law.specs.Lists.{Bytes, is_some_with}
 use Rattle.pp_law.specs.Requests.{NoHeadYet, front_of, has_request}
 use Rattle.pp_law.specs.State.{Reply, Stage, Undecided, Waiting, Passing, Answering}
 use Rattle.pp_seats.specs.declared.seat.Answer.{Answer}
 use Rattle.pp_seats.specs.declared.seat.Stage.{Stage as SeatStage}
 use Rattle.pp_seats.specs.declared.seat.Stage.TheVariants.{Undecided as IsUndecided, Waiting as IsWaiting, Passing as IsPassing, Answering as IsAnswering}
-use Rattle.pp_seats_law.specs.Begins.{NewSeatsShow, RepliesMayBegin, new_seat}
+use Rattle.pp_seats_law.specs.Begins.{NewSeatsShow, RepliesMayBegin}
 use Rattle.pp_seats_law.specs.Replies.{ShowsSaid, ShowsStage}
 use Rattle.pp_seats_law.proofs.Fronts.{front_from, same_front}
 use Rattle.pp_seats_law.proofs.Nexts.{reply_in}

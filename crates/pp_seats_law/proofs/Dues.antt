@@ -1,6 +1,11 @@
 -- What is due of a seat is what is due of its client.
-use Rattle.std.proofs.Common.{◌≡◌, ◌⊎◌, inl, inr, refl, sym, ap, ap₂, ◌∙◌, ℕ, ◌-◌, nat_le, Bool, true, false, not, ◌&&◌, ◌||◌, find, [], ◌∷◌, Option, Some, None, option_map}
+use Rattle.std.proofs.Common.{◌≡◌, ◌⊎◌, inl, inr, refl, sym, ap, ap₂, ◌∙◌, ℕ, ◌-◌, ◌≤◌, nat_lt, nat_le, min, length, take, length-take, is_some, arith, Bool, true, false, not, ◌&&◌, ◌||◌, find, List, [], ◌∷◌, Option, Some, None, option_map}
+use Rattle.std.proofs.lemmas.Bool.Decides.{nat_tests}
+use Rattle.pp_client.specs.Bodies.{unread}
 use Rattle.pp_client.specs.Replies.{Reply as Said}
+use Rattle.pp_client.specs.Requests.{body_in}
+use Rattle.pp_client.specs.declared.body.Body.{Body}
+use Rattle.pp_client.specs.declared.body.Body.TheVariants.{Unread, Dropped, Over}
 use Rattle.pp_world.specs.declared.note.Cause.{Cause}
 use Rattle.pp_world.specs.declared.note.Cause.TheVariants.{Superseded, Origin, Short as ShortOf, Idle, Stop}
 use Rattle.pp_world.specs.declared.note.Decision.{Decision}
@@ -10,10 +15,12 @@ use Rattle.pp_law.specs.Decisions.{decide}
 use Rattle.pp_law.specs.Due.{Due, Decide, CutOff, cut_in, due_by_stage, give_up, has_lost_row, is_dry, is_idle, is_short, is_superseded, is_told}
 use Rattle.pp_law.specs.Lists.{Bytes, is_some_with}
 use Rattle.pp_law.specs.Offers.{has_to_say}
-use Rattle.pp_law.specs.Requests.{Front}
-use Rattle.pp_law.specs.Sharing.{due_undecided}
-use Rattle.pp_law.specs.Stages.{is_begun, is_page, passed_of}
-use Rattle.pp_law.specs.State.{Client, Course, RowRefused, Passed, Reply, Stage, Undecided, Waiting, Passing, Answering}
+use Rattle.pp_law.specs.Requests.{Front, has_request}
+use Rattle.pp_law.specs.Sharing.{due_undecided, is_patient, may_share, shared_ask}
+use Rattle.pp_law.specs.Stages.{is_begun, is_followed_by, is_page, passed_of}
+use Rattle.pp_law.specs.State.{State, Client, Course, RowRefused, Passed, Reply, Shared, Stage, Undecided, Waiting, Passing, Answering}
+use Rattle.pp_law.specs.Table.{source_of}
+use Rattle.pp_seats.specs.declared.front.Front.{Front as SeatFront}
 use Rattle.pp_seats.specs.declared.seat.Brought.{Brought as SeatBrought}
 use Rattle.pp_seats.specs.declared.seat.Brought.TheVariants.{Awaited as NoneYet, Useless as NoneOfUse, Joins as JoinsRow, Passes as PassesOn, TooWide as IsTooWide, Refused}
 use Rattle.pp_seats.specs.declared.seat.Course.{Course as SeatCourse}
@@ -21,12 +28,19 @@ use Rattle.pp_seats.specs.declared.seat.Course.TheVariants.{Trying as IsTrying, 
 use Rattle.pp_seats.specs.declared.seat.Passed.{Passed as SeatPassed}
 use Rattle.pp_seats.specs.declared.seat.PassedEnd.{PassedEnd}
 use Rattle.pp_seats.specs.declared.seat.PassedEnd.TheVariants.{Coming, Whole, Short}
+use Rattle.pp_seats.specs.declared.seat.Seat.{Seat}
+use Rattle.pp_seats.specs.declared.seat.Shared.{Shared as SeatShared}
 use Rattle.pp_seats.specs.declared.seat.Stage.{Stage as SeatStage}
 use Rattle.pp_seats.specs.declared.seat.Stage.TheVariants.{Undecided as IsUndecided, Waiting as IsWaiting, Passing as IsPassing, Answering as IsAnswering}
 use Rattle.pp_seats.specs.Courses.{has_begun}
-use Rattle.pp_seats_law.specs.Dues.{CutIsTheLaws, DecisionIsTheLaws, DueIsTheLaws, WaitingIsTheLaws, by_stage_in, cut_of, decision_in, ends_short, give_up_in, has_lost_its_row, is_idle_in, is_refused_in, is_short_in, is_trying_in, still_waits_in}
-use Rattle.pp_seats_law.specs.Replies.{IsOwed, IsRefusedRow, ShowsFate, ShowsStage, course_of}
+use Rattle.pp_seats.specs.Follows.{answer_in}
+use Rattle.pp_seats_law.specs.Dues.{CutIsTheLaws, DecisionIsTheLaws, DueIsTheLaws, FinishedIsTheLaws, LostIsTheLaws, SharingIsTheLaws, WaitingIsTheLaws, by_stage_in, cut_of, decision_in, ends_short, give_up_in, has_lost_its_row, is_idle_in, is_refused_in, is_short_in, is_trying_in, lost_in, still_waits_in, undecided_in}
+use Rattle.pp_seats_law.specs.Fronts.{ShowsBody, ShowsFront}
+use Rattle.pp_seats_law.specs.Heads.{is_there_in}
+use Rattle.pp_seats_law.specs.Replies.{IsOwed, IsRefusedRow, ShowsFate, ShowsStage, course_of, shared_of}
+use Rattle.pp_seats_law.specs.Seats.{ShowsOpen}
 use Rattle.pp_seats_law.specs.Words.{ShowsMaybePassed, is_told_in, passed_in}
+use Rattle.pp_seats_law.proofs.Fronts.{fronts_read}
 use Rattle.pp_seats_law.proofs.Nexts.{reply_in}
 use Rattle.pp_seats_law.proofs.Stages.{begun, passed, told}
 
@@ -121,6 +135,79 @@ fate_decision lost said stage course IsTooWide c undecided decided name at shows
 pub decisions : DecisionIsTheLaws
 decisions s name seat c shows =
     fate_decision (has_lost_row s) seat.client.reply seat.stage seat.course seat.brought c (due_undecided s c) (decide s c) name shows.stage shows.fate (told name [] seat c shows)
+
+-- ---- what is shared, and lost
+
+stage_lost : (s : State) (said : Said) (stage : SeatStage) (other : Stage) → ShowsStage said stage other
+    → lost_in (answer_in stage) (is_some_with (λ r. is_some_with (λ x. not x.is_retired) (source_of s r)) (reply_in other)) ≡ is_some_with (has_lost_row s) (reply_in other)
+stage_lost s said IsUndecided Undecided shows = refl
+stage_lost s said IsWaiting Waiting shows = refl
+stage_lost s said IsPassing Passing shows = refl
+stage_lost s said (IsAnswering a) (Answering r) shows = ap (λ (d : Decision). is_followed_by d && not (is_some_with (λ x. not x.is_retired) (source_of s r))) shows.decision
+stage_lost s said stage other shows = absurd shows
+
+pub lost : LostIsTheLaws
+lost s name owed seat c shows = stage_lost s seat.client.reply seat.stage c.stage shows.stage
+
+-- the law's, by its parts
+abbrev first_due_by : Bool → Bool → Option Decision → Option Decision
+first_due_by shares asked decided = elim decided [ None ↦ None | Some d ↦ elim (shares && may_share d && asked) [ true ↦ None | false ↦ Some d ] ]
+
+abbrev shared_due : State → Option Shared → Bool → Bool → Option Decision → Option Decision
+shared_due s waits shares asked decided = elim waits [ Some w ↦ elim (is_patient s w) [ true ↦ None | false ↦ decided ] | None ↦ first_due_by shares asked decided ]
+
+shared_by : (s : State) (waits : Option SeatShared) (shares asked : Bool) (decided : Option Decision)
+    → undecided_in waits (λ w. is_patient s (shared_of w)) shares asked decided ≡ shared_due s (option_map shared_of waits) shares asked decided
+shared_by s (Some w) shares asked decided = refl
+shared_by s None shares asked None = refl
+shared_by s None shares asked (Some d) = refl
+
+pub sharing : SharingIsTheLaws
+sharing s name owed seat c shows =
+    shared_by s seat.waits_on s.settings.shares_fetches (is_some (shared_ask s c)) (decide s c)
+    ∙ ap (λ (waits : Option Shared). shared_due s waits s.settings.shares_fetches (is_some (shared_ask s c)) (decide s c)) shows.waits_on
+
+-- ---- the end of a client that sends no more
+
+same_there : (front : SeatFront) (f : Front) → ShowsFront front f → is_there_in front ≡ has_request f
+same_there front f shows = (fronts_read front f shows).there
+
+less_same : (m n left : ℕ) (t u : Bool) → left ≤ n → nat_lt (min n m) left ≡ t → nat_lt m left ≡ u → t ≡ u
+less_same m n left true true few first second = refl
+less_same m n left false false few first second = refl
+less_same m n left true false few first second = absurd (grind (arith, nat_tests))
+less_same m n left false true few first second = absurd (grind (arith, nat_tests))
+
+-- of the body no more is there than was heard
+short_body : (body : Body) (rest : Bytes) (left skip : ℕ) → ShowsBody body left skip → nat_lt (length (take (unread body) rest)) left ≡ nat_lt (length rest) left
+short_body body rest left skip shows =
+    ap (λ (m : ℕ). nat_lt m left) (length-take (unread body) rest) ∙ less_same (length rest) (unread body) left (nat_lt (min (unread body) (length rest)) left) (nat_lt (length rest) left) (few body left skip shows) refl refl
+  where
+    few : (body : Body) (left skip : ℕ) → ShowsBody body left skip → left ≤ unread body
+    few (Unread n) left skip shows = let is = shows.0 in omega (arith, is)
+    few (Dropped n) left skip shows = let is = shows.0 in omega (arith, is)
+    few Over left skip shows = let is = shows.0 in omega (arith, is)
+
+both_closing : (a b v w x y : Bool) → a ≡ b → (b ≡ false → v ≡ w) → (b ≡ false → x ≡ y) → (v && not a && x) ≡ (w && not b && y)
+both_closing true true true true x y same first second = refl
+both_closing true true true false x y same first second = refl
+both_closing true true false true x y same first second = refl
+both_closing true true false false x y same first second = refl
+both_closing false false v w x y same first second = ap₂ (λ (s t : Bool). s && true && t) (first refl) (second refl)
+both_closing true false v w x y same first second = absurd (cc same)
+both_closing false true v w x y same first second = absurd (cc same)
+
+left_over : (name : Bytes) (owed : List Bytes) (seat : Seat) (c : Client) → ShowsOpen name owed seat c
+    → (not (is_there_in seat.front) || nat_lt (length (body_in seat.client.heard)) seat.body_left) ≡ (not (has_request c.front) || nat_lt (length c.heard) c.body_left)
+left_over name owed seat c shows =
+    ap₂ (λ (a b : Bool). not a || b) (same_there seat.front c.front shows.front)
+    (ap (λ (n : ℕ). nat_lt (length (body_in seat.client.heard)) n) shows.body_left ∙ short_body seat.client.heard.body seat.client.heard.rest c.body_left c.skip shows.body
+    ∙ ap (λ (bytes : Bytes). nat_lt (length bytes) c.body_left) shows.heard.behind)
+
+pub finished : FinishedIsTheLaws
+finished name owed seat c shows =
+    both_closing seat.is_closing c.is_closing seat.has_hung_up c.has_hung_up (not (is_there_in seat.front) || nat_lt (length (body_in seat.client.heard)) seat.body_left)
+    (not (has_request c.front) || nat_lt (length c.heard) c.body_left) shows.closing (λ going. (shows.going going).hung_up) (λ going. left_over name owed seat c (shows.going going))
 
 -- ---- cuts
 

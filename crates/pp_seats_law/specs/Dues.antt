@@ -1,6 +1,7 @@
 -- What is due of a seat is what is due of its client (RFC 2616, section 8.1; the order is ours). What the table, the exchanges and
 -- the row of its key tell of it stands as the law says it.
-use Rattle.std.specs.Prelude.{◌≡◌, ℕ, ◌-◌, Bool, true, false, ◌&&◌, not, nat_le, List, [], Option, Some, None, option_map}
+use Rattle.std.specs.Prelude.{◌≡◌, ℕ, ◌-◌, Bool, true, false, ◌&&◌, ◌||◌, not, nat_lt, nat_le, List, [], length, is_some, Option, Some, None, option_map}
+use Rattle.pp_client.specs.Requests.{body_in}
 use Rattle.pp_world.specs.declared.note.Cause.{Cause}
 use Rattle.pp_world.specs.declared.note.Cause.TheVariants.{Superseded, Origin, Short as ShortOf, Idle, Stop}
 use Rattle.pp_world.specs.declared.note.Decision.{Decision}
@@ -9,9 +10,12 @@ use Rattle.pp_law.specs.Decisions.{decide}
 use Rattle.pp_law.specs.Due.{Due, Decide, CutOff, cut_in, due_by_stage, due_of, has_lost_row, is_superseded, still_waits}
 use Rattle.pp_law.specs.Lists.{Bytes, is_some_with}
 use Rattle.pp_law.specs.Offers.{has_to_say}
-use Rattle.pp_law.specs.Sharing.{due_undecided}
-use Rattle.pp_law.specs.Stages.{is_page, reply_of}
+use Rattle.pp_law.specs.Replies.{is_finished}
+use Rattle.pp_law.specs.Sharing.{due_undecided, is_patient, may_share, shared_ask}
+use Rattle.pp_law.specs.Stages.{is_followed_by, is_page, reply_of}
 use Rattle.pp_law.specs.State.{State, Client}
+use Rattle.pp_law.specs.Table.{source_of}
+use Rattle.pp_seats.specs.declared.seat.Answer.{Answer}
 use Rattle.pp_seats.specs.declared.seat.Brought.{Brought as SeatBrought}
 use Rattle.pp_seats.specs.declared.seat.Brought.TheVariants.{Awaited as NoneYet, Useless as NoneOfUse, Joins as JoinsRow, Passes as PassesOn, TooWide as IsTooWide, Refused}
 use Rattle.pp_seats.specs.declared.seat.Course.{Course as SeatCourse}
@@ -19,11 +23,15 @@ use Rattle.pp_seats.specs.declared.seat.Course.TheVariants.{Trying as IsTrying, 
 use Rattle.pp_seats.specs.declared.seat.PassedEnd.{PassedEnd}
 use Rattle.pp_seats.specs.declared.seat.PassedEnd.TheVariants.{Coming, Whole, Short}
 use Rattle.pp_seats.specs.declared.seat.Seat.{Seat}
+use Rattle.pp_seats.specs.declared.seat.Shared.{Shared as SeatShared}
 use Rattle.pp_seats.specs.declared.seat.Stage.{Stage as SeatStage}
 use Rattle.pp_seats.specs.declared.seat.Stage.TheVariants.{Undecided as IsUndecided, Waiting as IsWaiting, Passing as IsPassing, Answering as IsAnswering}
 use Rattle.pp_seats.specs.Courses.{has_begun}
+use Rattle.pp_seats.specs.Follows.{answer_in}
+use Rattle.pp_seats_law.specs.Heads.{is_there_in}
+use Rattle.pp_seats_law.specs.Replies.{shared_of}
 use Rattle.pp_seats_law.specs.Seats.{ShowsOpen, ShowsSeat}
-use Rattle.pp_seats_law.specs.Words.{is_told_in, passed_in}
+use Rattle.pp_seats_law.specs.Words.{OfOpen, is_told_in, passed_in}
 
 -- ---- decisions
 
@@ -58,8 +66,29 @@ decision_in seat lost undecided decided = elim (is_refused_in seat.brought) [
   | false ↦ by_stage_in seat.stage seat.course (is_told_in seat.brought) lost undecided decided
 ]
 
+-- the row that it was decided by is replaced or cleared, by whether the instance that it follows still stands
+abbrev pub lost_in : Option Answer → Bool → Bool
+lost_in None stands = false
+lost_in (Some a) stands = is_followed_by a.decision && not stands
+
+abbrev pub has_source_standing : State → Client → Bool
+has_source_standing s c = is_some_with (λ r. is_some_with (λ x. not x.is_retired) (source_of s r)) (reply_of c)
+
 abbrev pub has_lost_its_row : State → Client → Bool
 has_lost_its_row s c = is_some_with (has_lost_row s) (reply_of c)
+
+abbrev pub LostIsTheLaws : Type 0
+LostIsTheLaws = (s : State) → OfOpen (λ name owed seat c. lost_in (answer_in seat.stage) (has_source_standing s c) ≡ has_lost_its_row s c)
+
+-- a request waits once for what is asked already, by whether it is patient still, whether fetches are shared, and whether it is asked
+abbrev pub undecided_in : Option SeatShared → (SeatShared → Bool) → Bool → Bool → Option Decision → Option Decision
+undecided_in (Some w) is_patient shares is_asked decided = elim (is_patient w) [ true ↦ None | false ↦ decided ]
+undecided_in None is_patient shares is_asked None = None
+undecided_in None is_patient shares is_asked (Some d) = elim (shares && may_share d && is_asked) [ true ↦ None | false ↦ Some d ]
+
+abbrev pub SharingIsTheLaws : Type 0
+SharingIsTheLaws = (s : State)
+    → OfOpen (λ name owed seat c. undecided_in seat.waits_on (λ w. is_patient s (shared_of w)) s.settings.shares_fetches (is_some (shared_ask s c)) (decide s c) ≡ due_undecided s c)
 
 abbrev pub DecisionIsTheLaws : Type 0
 DecisionIsTheLaws = (s : State) (name : Bytes) (seat : Seat) (c : Client) → ShowsOpen name [] seat c → decision_in seat (has_lost_its_row s c) (due_undecided s c) (decide s c) ≡ due_by_stage s c
@@ -73,6 +102,15 @@ still_waits_in (IsAnswering a) = not a.has_begun && not (is_page a.decision)
 
 abbrev pub WaitingIsTheLaws : Type 0
 WaitingIsTheLaws = (name : Bytes) (owed : List Bytes) (seat : Seat) (c : Client) → ShowsOpen name owed seat c → still_waits_in seat.stage ≡ still_waits c
+
+-- ---- the end of a client that sends no more
+
+-- nothing that it sent is left to answer: no request, or one whose body stays short
+abbrev pub finished_in : Seat → Bool
+finished_in seat = seat.has_hung_up && not seat.is_closing && (not (is_there_in seat.front) || nat_lt (length (body_in seat.client.heard)) seat.body_left)
+
+abbrev pub FinishedIsTheLaws : Type 0
+FinishedIsTheLaws = (name : Bytes) (owed : List Bytes) (seat : Seat) (c : Client) → ShowsSeat name owed seat c → finished_in seat ≡ is_finished c
 
 -- ---- cuts
 

@@ -1,5 +1,5 @@
 -- How an exchange of the program, with its errand, stands for one of the law (RFC 2616, sections 8.1.4 and 9.1; RFC 7233, section 3).
-use Rattle.std.specs.Prelude.{◌≡◌, ℕ, Bool, true, false, ◌==◌, ◌||◌, List, length, Option, Some, None, ⊤}
+use Rattle.std.specs.Prelude.{◌≡◌, ℕ, Bool, true, false, ◌==◌, ◌||◌, length, Option, Some, None, ⊤}
 use Rattle.pp_flow.specs.declared.entry.Exchange.{Exchange as Entered}
 use Rattle.pp_fresh.specs.Guessing.{allows_guess}
 use Rattle.pp_objects.specs.declared.id.ObjectId.{ObjectId}
