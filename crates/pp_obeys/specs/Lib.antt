@@ -1,0 +1,4 @@
+pub mod Obeys
+pub mod Failures
+pub mod Moves
+pub mod Laws
