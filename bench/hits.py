@@ -96,17 +96,20 @@ def compare(loads, ways, title, path, connections, unit):
             print(f"  {way.name:<10} {statistics.median(spent[way.name]):.3f} processor seconds for 10,000 of them")
         if failed[way.name]:
             print(f"  {way.name}: {failed[way.name]} requests failed")
-    return results
 
 
-def beside_idle_clients(loads, way, alone):
-    """How fast hits are while so many clients are connected and say nothing, of what they are without."""
-    idle = [socket.create_connection(way.address) for _ in range(IDLE)]
-    time.sleep(0.2)
-    rates = [loads.run(way, "/1k", 32, SECONDS)[0] for _ in range(ROUNDS)]
-    for client in idle:
-        client.close()
-    print(f"  {way.name:<10} {statistics.median(rates) / alone:.2f} of it beside {IDLE} clients that say nothing")
+def beside_idle_clients(loads, way):
+    """How fast hits are while so many clients are connected and say nothing, of what they are without: by turns."""
+    alone, beside = [], []
+    for _ in range(ROUNDS):
+        alone.append(loads.run(way, "/1k", 32, SECONDS)[0])
+        idle = [socket.create_connection(way.address) for _ in range(IDLE)]
+        time.sleep(0.2)
+        beside.append(loads.run(way, "/1k", 32, SECONDS)[0])
+        for client in idle:
+            client.close()
+    ratio = statistics.median(after / before for before, after in zip(alone, beside))
+    print(f"  {way.name:<10} {ratio:.2f} of it beside {IDLE} clients that say nothing")
 
 
 def read_by_many(loads, ways, asked):
@@ -138,14 +141,12 @@ def main():
             start_polipo(os.path.abspath(sys.argv[1]), ways)
             start_squid(folder, ways, ALL_IN_MEMORY)
             start_nginx(folder, ways)
-            small = None
             for path, (length, connections) in SIZES.items():
                 unit = "/s" if length < 100_000 else "MB/s"
-                results = compare(loads, ways, f"hits of {length:,} bytes, {connections} connections", path, connections, unit)
-                small = small or results
+                compare(loads, ways, f"hits of {length:,} bytes, {connections} connections", path, connections, unit)
             print()
             for way in ways[1:]:
-                beside_idle_clients(loads, way, statistics.median(small[way.name]))
+                beside_idle_clients(loads, way)
             read_by_many(loads, ways, asked)
             print()
             for way in ways[1:]:

@@ -13,6 +13,7 @@ import contextlib
 import os
 import pathlib
 import random
+import re
 import socket
 import sys
 import threading
@@ -185,10 +186,12 @@ def describe(session, why):
     lines = [f"{why} (a client that is {session.manner})"]
     lines += [f"  asked {request[3]!r}" for request in session.requests]
     text = session.heard
-    lines.append(f"  heard {text[:1500]!r}{' .. of %d' % len(text) if len(text) > 1500 else ''}")
+    lines.append(f"  heard {text!r}" if len(text) < 3_000 else f"  heard {text[:1500]!r} .. {text[-1500:]!r}, {len(text)} bytes")
+    lines += [f"  reply at {found.start()}: {found[0]!r}" for found in re.finditer(rb"HTTP/1\.1 \d{3} [^\r]*\r\n(?:[^\r]+\r\n)*", text)]
+    lines.append(f"  over after {time.monotonic() - session.started:.3f} s; answers of its origin, from ten seconds before it began:")
     paths = {request[1].encode() for request in session.requests}
-    for at, connection, head, answer, kind in session.origin.log[-400:]:
-        if at > session.started - 2 and head.split(b" ")[1] in paths:
+    for at, connection, head, answer, kind in session.origin.log[-2_000:]:
+        if at > session.started - 10 and head.split(b" ")[1] in paths:
             lines.append(f"  {at - session.started:+.3f} on {connection} {kind}: {head!r}\n      {answer!r}")
     return "\n".join(lines)
 

@@ -29,7 +29,7 @@ use Rattle.pp_laws_sent.proofs.Happenings.{ReadsNothing, changed-rests}
 use Rattle.pp_laws_sent.proofs.Pieces.{HasRead, at_end, got-came}
 
 -- what came on each connection, and what was asked there
-abbrev came_in : Log → ℕ → Bytes
+abbrev pub came_in : Log → ℕ → Bytes
 came_in log number = got_of number log
 
 -- ---- a log grows
@@ -78,10 +78,10 @@ quiet number (Printed text) is = refl
 quiet number Stopped is = refl
 
 -- behind a log, in a state, with whose response comes on each connection that is answered
-record Inv (terms : List Term) (log : Log) (s : State) : Type 0 where
-  firsts : ℕ → Option ℕ
-  lines : Lines terms log firsts s
-  came : Holds (Rests (came_in log) (WasAskedOn terms log) firsts) s
+pub record Inv (terms : List Term) (log : Log) (s : State) : Type 0 where
+  pub firsts : ℕ → Option ℕ
+  pub lines : Lines terms log firsts s
+  pub came : Holds (Rests (came_in log) (WasAskedOn terms log) firsts) s
 
 quiet_step : (terms : List Term) (log : Log) (firsts : ℕ → Option ℕ) (h : Happening) (s : State) → ReadsNothing h → Holds (Rests (came_in log) (WasAskedOn terms log) firsts) s → Holds (Rests (came_in (log ++ h ∷ [])) (WasAskedOn terms (log ++ h ∷ [])) firsts) (after s h)
 quiet_step terms log firsts h s is came =
@@ -194,5 +194,8 @@ first_came terms = holds (record {
   from = λ on. absurd (cc on);
 })
 
+pub inv_after : (terms : List Term) (log : Log) → Lawful terms log → Inv terms log (state_after terms log)
+inv_after terms log lawful = inv_from terms [] log lawful (record { firsts = nobody; lines = first terms nobody; came = first_came terms })
+
 pub sent_stands : SentStandsInTheLog
-sent_stands terms log part lawful i = (facts_of (inv_from terms [] log lawful (record { firsts = nobody; lines = first terms nobody; came = first_came terms })).came).stand part i
+sent_stands terms log part lawful i = (facts_of (inv_after terms log lawful).came).stand part i

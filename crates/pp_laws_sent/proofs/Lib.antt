@@ -3,4 +3,5 @@ mod Came
 mod Pieces
 mod Happenings
 mod Laws
+mod Relayed
 mod Worked

@@ -2,7 +2,8 @@
 //!
 //! `pp_law` puts on record what each origin sent, for which key, at which offset and under which version.
 //! Here stands that each of these bytes is a part of the data of a response, as the readers of heads and
-//! bodies find it in the joined bytes of a connection.
+//! bodies find it in the joined bytes of a connection; and that a response that is passed to a client is
+//! the one with which all that came on its connection ends, while it comes.
 //!
 //! To the layer above: the law is the clause of a function that does nothing. What leaves a lawful log
 //! has it; that a program leaves one is not said here.
@@ -10,6 +11,6 @@
 //! Takes no memory, and does nothing when the program runs.
 #![tactic(auto)]
 
-mod stands; // what was sent, in the log
+mod stands; // what was sent and what is passed, in the log
 
-pub use stands::sent_stands_in_the_log;
+pub use stands::{passed_stands_in_the_log, sent_stands_in_the_log};

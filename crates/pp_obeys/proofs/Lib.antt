@@ -1,0 +1,15 @@
+pub mod Frames
+pub mod StaysTable
+pub mod StaysAsks
+pub mod StaysResponses
+pub mod StaysTurns
+pub mod Come
+pub mod GoesOn
+pub mod Silent
+pub mod Fewer
+pub mod Forgetting
+pub mod Settled
+pub mod Steps
+pub mod Obeying
+pub mod Calls
+pub mod Laws

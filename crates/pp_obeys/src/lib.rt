@@ -1,0 +1,19 @@
+//! How a program shows that it obeys the law: its log goes on by what is permitted, and by phases
+//! that are done.
+//!
+//! `Obeys` stands between a log and a state of the law: the log is lawful, and may go on as from that
+//! state, which is the one that it leads to, or one some phases on. The laws of this crate take it on:
+//! over a happening that the state permits, and over a phase that is done, which no happening shows.
+//!
+//! To the layer above: these laws are the clauses of functions that do nothing. `proofs/Steps.antt`
+//! has, for each happening, what permits it and where it leads; `proofs/Calls.antt` the same for calls of
+//! the world, with the failures that the outside counts: `Keeps` is the contract of such a call.
+//!
+//! Takes no memory, and does nothing when the program runs.
+#![tactic(auto)]
+
+mod going; // how a log goes on
+
+pub use going::{
+    failures_are_counted, phases_are_left, silent_steps_go, what_is_permitted_goes_on,
+};
