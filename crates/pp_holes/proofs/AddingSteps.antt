@@ -1,10 +1,10 @@
 -- Adding goes run by run: the first run, then the rest.
-use Rattle.std.proofs.Common.{ℕ, ◌+◌, ◌-◌, ◌≤◌, ◌<◌, ◌≡◌, ◌/◌, ◌%◌, ◌||◌, ◌==◌, Bool, true, false, cond, min, List, [], ◌∷◌, length, take, drop, arith, refl, sym, ◌∙◌, ap, zero, suc, ◌⊎◌, inl, inr}
+use Rattle.std.proofs.Common.{ℕ, ◌+◌, ◌-◌, ◌≤◌, ◌<◌, ◌≡◌, ◌==◌, Bool, true, false, cond, min, List, [], ◌∷◌, length, take, drop, arith, refl, sym, ◌∙◌, ap, zero, suc, ◌⊎◌, inl, inr}
 use Rattle.std.proofs.lemmas.Grind.{common_steps}
 use Rattle.std.proofs.lemmas.Bool.{cases_lt}
 use Rattle.std.proofs.lemmas.List.{drop_all, take_all, length-drop}
 use Rattle.pp_holes.specs.Places.{Chunk}
-use Rattle.pp_holes.specs.Adding.{Run, room_at, runs, runs_up_to, Adding, add_run, add_runs, is_stopped, join_run, part_of_run}
+use Rattle.pp_holes.specs.Adding.{Run, room_at, runs, runs_up_to, Adding, add_runs, is_stopped, join_run, part_of_run}
 
 some_room : (at : ℕ) → 0 < room_at at
 some_room at = omega arith

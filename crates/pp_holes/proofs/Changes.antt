@@ -1,15 +1,15 @@
 -- What a change of one place does to the other places, and to the chunks that are shown.
-use Rattle.std.proofs.Common.{ℕ, ◌+◌, ◌-◌, ◌≤◌, ◌<◌, ◌≡◌, Bool, true, false, ◌==◌, ◌&&◌, ◌||◌, not, cond, List, [], ◌∷◌, ◌++◌, length, map, get_or, set, drop, arith, refl, sym, ◌∙◌, ap, zero, suc, subst, Option, Some, None, ◌⊎◌, inl, inr}
+use Rattle.std.proofs.Common.{ℕ, ◌<◌, ◌≡◌, Bool, true, false, not, cond, List, [], ◌∷◌, ◌++◌, length, map, get_or, set, arith, refl, sym, ◌∙◌, ap, zero, suc, Option, Some, None, ◌⊎◌, inl, inr}
 use Rattle.std.proofs.lemmas.Grind.{common_steps}
 use Rattle.std.proofs.lemmas.Bool.{cases_eq}
-use Rattle.std.proofs.lemmas.List.{map-append, append-nil, get_or-set_same, get_or-set_other, get_or_past, drop_all, length-append, length-set}
+use Rattle.std.proofs.lemmas.List.{map-append, append-nil, get_or-set_same, get_or-set_other}
 use Rattle.std.proofs.lemmas.List.Elements.{filter-append}
-use Rattle.std.specs.List.{filter, find}
-use Rattle.pp_pool.specs.Chunks.{Used, is_in, is_chunk, is_other, is_place, AreDistinct, numbers, bytes_in, bytes_found, extended, used_last}
+use Rattle.std.specs.List.{filter}
+use Rattle.pp_pool.specs.Chunks.{Used, is_in, is_chunk, is_other, is_place, AreDistinct, numbers, bytes_in, bytes_found, used_last}
 use Rattle.pp_holes.specs.declared.cell.Cell.{Cell}
-use Rattle.pp_holes.specs.Places.{Chunk, show, shown, is_at, is_elsewhere, bytes_at, first_bytes, joined, without, touched}
-use Rattle.pp_holes.specs.Cells.{mark, marks, cell_of, OwnsItsChunks, filled_of}
-use Rattle.pp_holes.proofs.Owned.{is_not_place, shown_at, shown_else, none_at, one_at, Is, present, Singled, singled, nothing_at}
+use Rattle.pp_holes.specs.Places.{show, shown, is_elsewhere, bytes_at, first_bytes, without, touched}
+use Rattle.pp_holes.specs.Cells.{mark, marks, cell_of, OwnsItsChunks}
+use Rattle.pp_holes.proofs.Owned.{is_not_place, shown_at, shown_else, none_at, one_at, present, singled, nothing_at}
 
 not_there : (o i j : ℕ) (u : Used) → (j ≡ i → ⊥) → is_place (o, i) u ≡ true → is_place (o, j) u ≡ false
 not_there o i j u apart e = grind (arith, common_steps)

@@ -1,13 +1,13 @@
 -- A change at a place of one owner leaves the chunks of the others.
-use Rattle.std.proofs.Common.{ℕ, ◌≡◌, ◌<◌, ◌≤◌, ◌⊎◌, inl, inr, length, Bool, true, false, ◌==◌, ◌&&◌, not, cond, List, [], ◌∷◌, ◌++◌, map, arith, refl, sym, ◌∙◌, ap, Option, Some, None}
+use Rattle.std.proofs.Common.{ℕ, ◌≡◌, ◌<◌, ◌≤◌, ◌⊎◌, inl, inr, length, Bool, true, false, ◌==◌, not, cond, List, [], ◌∷◌, ◌++◌, map, arith, refl, sym, ◌∙◌, ap, Option, Some, None}
 use Rattle.std.proofs.lemmas.Grind.{common_steps}
 use Rattle.std.proofs.lemmas.Bool.{cases_lt}
 use Rattle.std.proofs.lemmas.List.{append-nil, get_or_past}
 use Rattle.std.proofs.lemmas.List.Elements.{filter-append}
 use Rattle.std.specs.List.{filter}
-use Rattle.pp_pool.specs.Chunks.{Used, is_in, is_chunk, is_other, is_place, AreDistinct, numbers, extended, used_last}
+use Rattle.pp_pool.specs.Chunks.{Used, is_in, is_other, is_place, AreDistinct, numbers, extended, used_last}
 use Rattle.pp_holes.specs.declared.cell.Cell.{Cell}
-use Rattle.pp_holes.specs.Cells.{mark, marks, cell_of, OwnsItsChunks, is_foreign, foreign}
+use Rattle.pp_holes.specs.Cells.{mark, cell_of, OwnsItsChunks, is_foreign, foreign}
 use Rattle.pp_holes.proofs.Owned.{is_not_place, one_at, none_at}
 use Rattle.pp_holes.proofs.Changes.{gives, moves, place_true}
 use Rattle.pp_holes.proofs.Joins.{taken_filled, filled_moved, fresh, more, place_same}

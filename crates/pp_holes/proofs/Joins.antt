@@ -1,15 +1,14 @@
 -- Bytes that join a chunk.
-use Rattle.std.proofs.Common.{ℕ, ◌+◌, ◌-◌, ◌≤◌, ◌<◌, ◌≡◌, Bool, true, false, ◌==◌, ◌&&◌, ◌||◌, not, cond, List, [], ◌∷◌, ◌++◌, length, map, get_or, set, drop, arith, refl, sym, ◌∙◌, ap, zero, suc, subst, Option, Some, None, ◌⊎◌, inl, inr}
+use Rattle.std.proofs.Common.{ℕ, ◌+◌, ◌<◌, ◌≡◌, Bool, true, false, ◌==◌, ◌&&◌, ◌||◌, cond, List, [], ◌∷◌, ◌++◌, length, map, set, arith, refl, sym, ◌∙◌, ap, Option, Some, None}
 use Rattle.std.proofs.lemmas.Grind.{common_steps}
-use Rattle.std.proofs.lemmas.Bool.{cases_eq}
-use Rattle.std.proofs.lemmas.List.{map-append, append-nil, length-append, get_or-set_same, get_or-set_other, length-set, get_or_past}
-use Rattle.std.specs.List.{filter, find}
+use Rattle.std.proofs.lemmas.List.{map-append, length-append, get_or-set_same, get_or-set_other, length-set}
+use Rattle.std.specs.List.{filter}
 use Rattle.pp_pool.specs.Chunks.{Used, is_in, is_chunk, is_other, is_place, AreDistinct, numbers, bytes_in, extended, used_last}
 use Rattle.pp_holes.specs.declared.cell.Cell.{Cell}
-use Rattle.pp_holes.specs.Places.{Chunk, show, shown, is_at, is_elsewhere, bytes_at, first_bytes, joined}
-use Rattle.pp_holes.specs.Cells.{mark, marks, cell_of, OwnsItsChunks}
-use Rattle.pp_holes.proofs.Owned.{is_not_place, shown_at, shown_else, none_at, one_at, Is, present, Singled, singled, nothing_at}
-use Rattle.pp_holes.proofs.Changes.{Changed, changed_set, owns_in, place_true, reads_none, reads}
+use Rattle.pp_holes.specs.Places.{show, shown, is_elsewhere, bytes_at, first_bytes, joined}
+use Rattle.pp_holes.specs.Cells.{cell_of, OwnsItsChunks}
+use Rattle.pp_holes.proofs.Owned.{is_not_place, shown_at, shown_else, none_at, one_at, singled, nothing_at}
+use Rattle.pp_holes.proofs.Changes.{Changed, changed_set, owns_in, place_true, reads_none}
 
 abbrev pub more : List ℕ → Used → Used
 more bs u = record u { bytes = u.bytes ++ bs }

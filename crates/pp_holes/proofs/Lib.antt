@@ -8,3 +8,4 @@ pub mod Map
 pub mod Pieces
 pub mod AddingSteps
 pub mod SpanLemmas
+pub mod Counting

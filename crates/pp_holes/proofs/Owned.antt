@@ -1,13 +1,10 @@
 -- Cells and the pool: each cell is the one chunk of its place.
-use Rattle.std.proofs.Common.{ℕ, ◌+◌, ◌≤◌, ◌<◌, ◌≡◌, Bool, true, false, ◌==◌, ◌&&◌, ◌||◌, not, cond, List, [], ◌∷◌, ◌++◌, length, map, get_or, set, drop, arith, refl, sym, ◌∙◌, ap, zero, suc, subst, Option, Some, None, ◌⊎◌, inl, inr}
+use Rattle.std.proofs.Common.{ℕ, ◌≡◌, Bool, true, false, ◌==◌, not, cond, List, [], ◌∷◌, length, map, get_or, arith, refl, sym, ◌∙◌, ap, Option, Some, None}
 use Rattle.std.proofs.lemmas.Grind.{common_steps}
-use Rattle.std.proofs.lemmas.Bool.{cases_eq}
-use Rattle.std.proofs.lemmas.List.{map-append, append-nil, get_or-set_same, get_or-set_other}
-use Rattle.std.proofs.lemmas.List.Elements.{filter-append}
 use Rattle.std.specs.List.{filter, find}
-use Rattle.pp_pool.specs.Chunks.{Used, is_in, is_chunk, is_other, is_place, AreDistinct, numbers, bytes_in, bytes_found, extended, used_last}
+use Rattle.pp_pool.specs.Chunks.{Used, is_in, is_chunk, is_other, is_place, AreDistinct, numbers}
 use Rattle.pp_holes.specs.declared.cell.Cell.{Cell}
-use Rattle.pp_holes.specs.Places.{Chunk, show, shown, is_at, is_elsewhere, bytes_at, first_bytes, joined, without, touched}
+use Rattle.pp_holes.specs.Places.{show, shown, is_at, is_elsewhere}
 use Rattle.pp_holes.specs.Cells.{mark, marks, cell_of, OwnsItsChunks}
 
 abbrev pub is_not_place : ℕ × ℕ → Used → Bool

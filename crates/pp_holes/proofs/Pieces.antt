@@ -1,5 +1,5 @@
 -- A piece is empty exactly where its offset is not in memory.
-use Rattle.std.proofs.Common.{ℕ, ◌-◌, ◌≤◌, ◌<◌, ◌≡◌, ◌/◌, ◌%◌, Bool, false, List, [], length, drop, arith, refl, sym, ◌∙◌, ap, Option}
+use Rattle.std.proofs.Common.{ℕ, ◌≤◌, ◌≡◌, ◌/◌, ◌%◌, false, List, [], length, drop, arith, sym, ◌∙◌, ap, Option}
 use Rattle.std.specs.Prelude.{nat_lt, ◌↔◌}
 use Rattle.std.proofs.lemmas.Grind.{common_steps}
 use Rattle.std.proofs.lemmas.List.{drop_all, length-drop}

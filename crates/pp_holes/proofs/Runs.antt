@@ -1,5 +1,5 @@
 -- A run inside one chunk: what joins of it, and where adding stops.
-use Rattle.std.proofs.Common.{ℕ, ◌+◌, ◌-◌, ◌≤◌, ◌<◌, ◌≡◌, ◌/◌, ◌%◌, Bool, true, false, ◌&&◌, not, cond, List, [], ◌∷◌, ◌++◌, length, map, drop, arith, refl, sym, ◌∙◌, ap, Option, Some, None, IsSome}
+use Rattle.std.proofs.Common.{ℕ, ◌-◌, ◌≤◌, ◌<◌, ◌≡◌, ◌/◌, ◌%◌, Bool, true, false, ◌&&◌, not, List, [], ◌∷◌, length, drop, arith, refl, sym, ◌∙◌, ap, Option, Some, None, IsSome}
 use Rattle.std.proofs.lemmas.Grind.{common_steps}
 use Rattle.std.specs.Prelude.{nat_le}
 use Rattle.std.proofs.lemmas.List.{drop_all, length-map}
@@ -7,7 +7,7 @@ use Rattle.pp_text.specs.Bytes.{is_empty}
 use Rattle.pp_pool.specs.Chunks.{Used}
 use Rattle.pp_holes.specs.declared.cell.Cell.{Cell}
 use Rattle.pp_holes.specs.Places.{Chunk, show, shown, bytes_at, first_bytes, joined}
-use Rattle.pp_holes.specs.Adding.{Run, joining, joined_if, part_of_run, join_run, is_stopped}
+use Rattle.pp_holes.specs.Adding.{joining, joined_if, part_of_run, join_run, is_stopped}
 use Rattle.pp_holes.specs.Cells.{cell_of, filled_of, OwnsItsChunks, IsFront}
 use Rattle.pp_holes.proofs.Owned.{shown_at, one_at}
 use Rattle.pp_holes.proofs.Changes.{reads_none}

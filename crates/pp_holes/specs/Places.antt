@@ -1,5 +1,5 @@
 -- What the cache holds in memory: chunks by place, each with the front of its bytes, least recently used first.
-use Rattle.std.specs.Prelude.{ℕ, ◌-◌, ◌/◌, ◌%◌, Bool, ◌==◌, ◌&&◌, not, cond, nat_le, List, [], ◌∷◌, ◌++◌, length, drop, Option, map, slice_get}
+use Rattle.std.specs.Prelude.{ℕ, ◌/◌, ◌%◌, Bool, ◌==◌, ◌&&◌, not, List, [], ◌∷◌, ◌++◌, Option, map, slice_get}
 use Rattle.std.specs.List.{filter}
 use Rattle.pp_pool.specs.Chunks.{Used}
 

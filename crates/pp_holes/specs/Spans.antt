@@ -1,10 +1,16 @@
 -- What is known of the offsets in memory beside the cells, and how it changes.
 use Rattle.std.specs.Prelude.{ℕ, ◌≡◌, ◌≤◌, ◌<◌, true, false, List, Option}
+use Rattle.std.specs.List.{sum_by}
 use Rattle.pp_holes.specs.declared.cell.Cell.{Cell}
 use Rattle.pp_holes.specs.Cells.{cell_of, filled_of, is_in_memory}
 
--- the leading run in memory ends at `lead`, and nothing is in memory from `reach` on
-pub record AreKnown (cs : List (Option Cell)) (total lead reach : ℕ) : Type 0 where
+-- how many offsets are in memory
+abbrev pub held_in : List (Option Cell) → ℕ
+held_in cs = sum_by filled_of cs
+
+-- so many offsets are in memory; the leading run of them ends at `lead`, and none is from `reach` on
+pub record AreKnown (cs : List (Option Cell)) (total held lead reach : ℕ) : Type 0 where
+  pub count : held ≡ held_in cs
   pub within : lead ≤ total
   pub led : (o : ℕ) → o < lead → is_in_memory cs o ≡ true
   pub ends : lead < total → is_in_memory cs lead ≡ false

@@ -4,8 +4,9 @@ ghost use Rattle.pp_holes.specs.Places.{shown, bytes_at, without, touched};
 ghost use Rattle.pp_holes.specs.Adding.{added};
 ghost use Rattle.pp_holes.specs.Cells.{Agrees, empty_table, cell_of, filled_of, is_in_memory, foreign};
 ghost use Rattle.pp_holes.specs.Holes.{IsFirstHole};
+ghost use Rattle.pp_holes.specs.Spans.{held_in};
 
-use crate::cell::{Cell, cell_in, take_cell};
+use crate::cell::{Cell, cell_in, filled_in, take_cell};
 use crate::hole::{first_missing, held_from, missing_from};
 use crate::join::{Added, add_bytes};
 use pp_pool::Pool;
@@ -22,6 +23,8 @@ pub struct Cells {
     owner: u32,
     total: u64,
     cells: Vec<Option<Cell>>,
+    /// How many offsets are in memory.
+    held: u64,
     /// The length of the leading run in memory.
     lead: u64,
     /// From here on nothing is in memory.
@@ -37,7 +40,7 @@ impl Model for Cells {
 
     ghost view = { λ c. record { owner = c.owner; total = c.total; cells = c.cells.items } };
 
-    ghost invariant = { λ c. (c.total ≤ 1073741824) × (length c.cells.items ≡ chunks_of c.total) × AreKnown c.cells.items c.total c.lead c.reach };
+    ghost invariant = { λ c. (c.total ≤ 1073741824) × (length c.cells.items ≡ chunks_of c.total) × AreKnown c.cells.items c.total c.held c.lead c.reach };
 }
 
 impl Cells {
@@ -55,6 +58,7 @@ impl Cells {
             owner,
             total: length,
             cells,
+            held: 0,
             lead: 0,
             reach: 0,
         })
@@ -76,6 +80,7 @@ impl Cells {
         ensures need_chunk { result.need_chunk ≡ (added pool.old.size self.old.owner at bytes.now (shown pool.old.used)).need_chunk }
     {
         let added = add_bytes(&mut self.cells, pool, self.owner, at, bytes);
+        self.held += added.joined;
         self.lead = first_missing(&self.cells, self.total, self.lead);
         self.reach = self.reach.max(at + bytes.len() as u64);
         added
@@ -125,6 +130,7 @@ impl Cells {
         ensures others { foreign self.old.owner pool.new.used ≡ foreign self.old.owner pool.old.used }
         ensures dropped { shown pool.new.used ≡ without (self.old.owner, index) (shown pool.old.used) }
     {
+        self.held -= u64::from(filled_in(&self.cells, index as usize));
         give_at(&mut self.cells, pool, self.owner, index);
         self.lead = self.lead.min(u64::from(index) * CHUNK_LEN);
         self.lead = first_missing(&self.cells, self.total, self.lead);
@@ -139,7 +145,8 @@ impl Cells {
         ensures size { pool.new.size ≡ pool.old.size }
         ensures dropped { pool.new.used ≡ foreign self.old.owner pool.old.used }
     {
-        give_all(&mut self.cells, pool, self.owner);
+        give_all(&mut self.cells, pool, self.owner, self.held);
+        self.held = 0;
         self.lead = 0;
         self.reach = 0;
     }
@@ -185,8 +192,10 @@ fn give_at(cells: &mut Vec<Option<Cell>>, pool: &mut Pool, owner: u32, index: u3
     pool.give(chunk);
 }
 
-fn give_all(cells: &mut Vec<Option<Cell>>, pool: &mut Pool, owner: u32)
+/// Gives all chunks back, where so many offsets are in memory: no cell is looked at where none is.
+fn give_all(cells: &mut Vec<Option<Cell>>, pool: &mut Pool, owner: u32, held: u64)
     requires agrees { Agrees owner cells.old.items pool.old.used }
+    requires held { held ≡ held_in cells.old.items }
     requires few { length cells.old.items ≤ 262144 }
     ensures agrees { Agrees owner cells.new.items pool.new.used }
     ensures count { length cells.new.items ≡ length cells.old.items }
@@ -194,6 +203,9 @@ fn give_all(cells: &mut Vec<Option<Cell>>, pool: &mut Pool, owner: u32)
     ensures dropped { pool.new.used ≡ foreign owner pool.old.used }
     ensures gone { (i : ℕ) → cell_of cells.new.items i ≡ None }
 {
+    if held == 0 {
+        return;
+    }
     for index in 0..cells.len() {
         give_at(cells, pool, owner, index as u32);
     }

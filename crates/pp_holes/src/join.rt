@@ -3,7 +3,7 @@ ghost use Rattle.std.specs.Prelude.{◌≡◌, ◌<◌, ◌≤◌, ◌+◌, ◌-
 ghost use Rattle.pp_holes.specs.Places.{shown, joined};
 ghost use Rattle.pp_holes.specs.Adding.{part_of_run, join_run, is_stopped, added, room_at};
 ghost use Rattle.pp_holes.specs.Cells.{Agrees, cell_of, filled_of, foreign};
-ghost use Rattle.pp_holes.specs.Spans.{Grows, IsRaised};
+ghost use Rattle.pp_holes.specs.Spans.{Grows, IsRaised, held_in};
 
 use crate::cell::{Cell, filled_in, take_cell};
 use pp_pool::Pool;
@@ -39,6 +39,7 @@ pub(crate) fn add_bytes(
     ensures ignored { result.ignored ≡ (added pool.old.size owner at bytes.now (shown pool.old.used)).ignored }
     ensures need_chunk { result.need_chunk ≡ (added pool.old.size owner at bytes.now (shown pool.old.used)).need_chunk }
     ensures grows { Grows cells.old.items cells.new.items (at + length bytes.now) }
+    ensures held { held_in cells.new.items ≡ held_in cells.old.items + result.joined }
 {
     let mut joined = 0u64;
     let mut ignored = 0u64;
@@ -90,6 +91,8 @@ fn join(
     ensures stops { IfNone result (is_stopped pool.old.size owner (at, run.now) (shown pool.old.used) ≡ true) }
     ensures unchanged { IfNone result (pool.new ≡ pool.old) }
     ensures grows { Grows cells.old.items cells.new.items (at + length run.now) }
+    ensures held { IfSome result (λ n. held_in cells.new.items ≡ held_in cells.old.items + n) }
+    ensures same { IfNone result (held_in cells.new.items ≡ held_in cells.old.items) }
 {
     let index = (at / CHUNK_LEN) as usize;
     let front = (at % CHUNK_LEN) as usize;

@@ -1,4 +1,4 @@
-use Rattle.std.proofs.Common.{◌≡◌, None, Some, sym, ◌∙◌, ap}
+use Rattle.std.proofs.Common.{sym, ◌∙◌, ap}
 use Rattle.pp_pool.specs.Chunks.{Chunks}
 use Rattle.pp_holes.specs.Places.{shown}
 use Rattle.pp_holes.specs.Cells.{foreign}

@@ -1,4 +1,4 @@
-use Rattle.std.proofs.Common.{◌≡◌, Some, sym, ◌∙◌, ap}
+use Rattle.std.proofs.Common.{sym, ◌∙◌, ap}
 use Rattle.pp_holes.specs.Places.{shown}
 use Rattle.pp_holes.specs.Cells.{foreign}
 use Rattle.pp_pool.specs.Chunks.{Chunks}

@@ -49,6 +49,7 @@ loop-rest-preserved c =
       small = omega (arith, c.split_at.ensures.front_len, c.split_at.ensures.back_len, c.loop-rest.invariant.small);
       sum = omega (arith, c.split_at.ensures.front_len, c.split_at.ensures.back_len, c.loop-rest.invariant.sum);
       grows = grows_on _ _ _ _ _ c.loop-rest.invariant.grows c.in-Some.ensures.grows (omega arith);
+      held = omega (arith, c.in-Some.ensures.held, c.loop-rest.invariant.held);
       counted = omega (arith, c.loop-rest.invariant.counted, c.in-Some.ensures.bound);
       so_far = ap (λ z. add_runs z c.args.owner (record { chunks = shown c.join.new.pool.used; joined = c.loop-rest.joined + c.in-Some.count; ignored = c.loop-rest.ignored + (length c.split_at.result.0.now - c.in-Some.count); need_chunk = false }) (runs (c.loop-rest.from + length c.split_at.result.0.now) c.split_at.result.1.now)) c.in-Some.ensures.size ∙ step;
     }

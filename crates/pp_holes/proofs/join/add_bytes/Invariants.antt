@@ -2,7 +2,7 @@ use Rattle.std.proofs.Common.{◌≡◌, ◌≤◌, ◌+◌, ◌*◌, false, len
 use Rattle.pp_holes.specs.Places.{shown}
 use Rattle.pp_holes.specs.Adding.{add_runs, added, runs}
 use Rattle.pp_holes.specs.Cells.{Agrees, foreign}
-use Rattle.pp_holes.specs.Spans.{Grows}
+use Rattle.pp_holes.specs.Spans.{Grows, held_in}
 use Rattle.pp_holes.proofs.join.add_bytes.Given as goal
 
 abbrev pub invariant-loop-rest : goal.invariant-loop-rest
@@ -15,6 +15,7 @@ invariant-loop-rest l = record {
   small : l.from + length l.rest ≤ 1073741824;
   sum : l.from + length l.rest ≡ l.initial.from + length l.initial.rest;
   grows : Grows l.initial.cells.items l.cells.items l.from;
+  held : held_in l.cells.items ≡ held_in l.initial.cells.items + l.joined;
   counted : l.joined + l.ignored ≤ l.from;
   so_far : add_runs l.pool.size l.owner (record { chunks = shown l.pool.used; joined = l.joined; ignored = l.ignored; need_chunk = false }) (runs l.from l.rest)
       ≡ added l.initial.pool.size l.owner l.initial.from l.initial.rest (shown l.initial.pool.used);

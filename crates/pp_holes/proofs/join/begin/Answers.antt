@@ -1,8 +1,7 @@
-use Rattle.std.proofs.Common.{arith, ◌≡◌, ◌++◌, ◌∷◌, [], length, map, Some, refl, sym, ◌∙◌, ap}
-use Rattle.pp_pool.specs.Chunks.{Chunks, extended}
+use Rattle.std.proofs.Common.{arith, length, refl, ◌∙◌, ap}
 use Rattle.pp_holes.specs.Places.{shown}
 use Rattle.pp_holes.specs.Cells.{foreign}
-use Rattle.pp_holes.proofs.Joins.{shows_opened, taken_bytes, fresh}
+use Rattle.pp_holes.proofs.Joins.{shows_opened, taken_bytes}
 use Rattle.pp_holes.proofs.Agreement.{agrees_begun, used_begun}
 use Rattle.pp_holes.proofs.Foreign.{opened_foreign}
 use Rattle.pp_holes.proofs.join.begin.Goals as goal

@@ -1,5 +1,5 @@
-use Rattle.std.proofs.Common.{arith, ◌≡◌, ◌≤◌, ◌<◌, ◌+◌, length, map, Some, refl, sym, ◌∙◌, ap}
-use Rattle.pp_pool.specs.Chunks.{Chunks, extended, used_last, numbers, is_in}
+use Rattle.std.proofs.Common.{arith, ◌≡◌, ◌<◌, ◌+◌, length, Some, refl, sym, ◌∙◌, ap}
+use Rattle.pp_pool.specs.Chunks.{Chunks, numbers, is_in}
 use Rattle.pp_holes.specs.Places.{shown}
 use Rattle.pp_holes.specs.Cells.{cell_of, filled_of, foreign}
 use Rattle.pp_holes.proofs.Changes.{is_there, fills, in_table}

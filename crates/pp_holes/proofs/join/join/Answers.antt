@@ -1,10 +1,10 @@
-use Rattle.std.proofs.Common.{arith, ◌≡◌, ◌<◌, ◌≤◌, ◌-◌, ◌/◌, ◌%◌, [], length, drop, List, ℕ, None, refl, sym, ◌∙◌, ap}
+use Rattle.std.proofs.Common.{arith, ◌≡◌, ◌+◌, ◌-◌, ◌/◌, ◌%◌, [], length, drop, sym, ◌∙◌, ap}
 use Rattle.std.proofs.lemmas.List.{take_rest, length-drop}
 use Rattle.pp_holes.specs.Places.{shown, bytes_at, joined}
 use Rattle.pp_holes.specs.Adding.{part_of_run}
 use Rattle.pp_holes.specs.Cells.{cell_of, filled_of}
-use Rattle.pp_holes.proofs.Changes.{reads_none}
-use Rattle.pp_holes.proofs.Runs.{held_length, no_front, some_front, part_far, part_near, part_known, joined_none, joined_some, goes_none, goes_held, goes_room, stops, nothing_known, no_bytes}
+use Rattle.pp_holes.proofs.Counting.{held_raised}
+use Rattle.pp_holes.proofs.Runs.{held_length, part_far, part_near, part_known, joined_none, joined_some, goes_none, goes_held, stops, nothing_known, no_bytes}
 use Rattle.pp_holes.proofs.join.join.Goals as goal
 
 pub returns-then-filled-front-clause-joined : goal.returns-then-filled-front-clause-joined
@@ -80,3 +80,13 @@ pub returns-else-filled-eq0-clause-goes : goal.returns-else-filled-eq0-clause-go
 returns-else-filled-eq0-clause-goes c =
     let held : length (bytes_at (c.args.owner, c.args.at / 4096) (shown c.args.pool.now.used)) ≡ c.filled_in-filled.result = held_length c.args.cells.now.items c.args.owner (c.args.at / 4096) c.args.pool.now.used c.requires.agrees.owns ∙ sym (c.filled_in-filled.ensures ∙ ap (λ l. filled_of (cell_of l (c.args.at / 4096))) c.deref.ensures.value) in
     goes_held c.args.pool.now.size c.args.owner c.args.at c.args.run.now (shown c.args.pool.now.used) (omega (arith, held, c.if-filled-eq0.false))
+
+pub returns-then-begin-clause-held : goal.returns-then-begin-clause-held
+returns-then-begin-clause-held c =
+    let known : filled_of (cell_of c.args.cells.now.items (c.args.at / 4096)) ≡ c.filled_in-filled.result = sym (c.filled_in-filled.ensures ∙ ap (λ l. filled_of (cell_of l (c.args.at / 4096))) c.deref.ensures.value) in
+    held_raised c.args.cells.now.items c.begin.new.cells.items (c.args.at / 4096) (length c.args.run.now) (length c.args.run.now) (c.begin.ensures.raised c.if-begin.true) c.begin.ensures.length c.requires.inside (omega (arith, known, c.if-filled-eq0.true))
+
+pub returns-else-filled-eq0-clause-held : goal.returns-else-filled-eq0-clause-held
+returns-else-filled-eq0-clause-held c =
+    held_raised c.args.cells.now.items c.extend.new.cells.items (c.args.at / 4096) _ (length c.args.run.now - (c.filled_in-filled.result - c.args.at % 4096)) c.extend.ensures.raised c.extend.ensures.length c.requires.inside
+    (ap (λ n. filled_of (cell_of c.args.cells.now.items (c.args.at / 4096)) + n) (sym (ap length (take_rest c.args.run.now (c.filled_in-filled.result - c.args.at % 4096)) ∙ length-drop (c.filled_in-filled.result - c.args.at % 4096) c.args.run.now)))
