@@ -3,7 +3,7 @@ ghost use Rattle.std.specs.Prelude.{◌≡◌, None};
 
 use arrayvec::ArrayVec;
 use pp_text::Octets;
-use pp_world::{ConfigFault, Door, Event, Got, Logged, Note, Wants, Wire, WireFault};
+use pp_world::{ConfigFault, Door, Event, Got, Logged, Note, Replied, Wants, Wire, WireFault};
 use std::alloc::Global;
 
 /// A call on the outside.
@@ -93,6 +93,8 @@ impl Wire for Counted {
     fn note(&mut self, _note: &Note<'_>) {
         let _ = self.calls.try_push(Call::Noted);
     }
+
+    fn log_reply(&mut self, _reply: &Replied<'_>) {}
 
     fn print(&mut self, _bytes: &[u8]) {}
 

@@ -12,7 +12,7 @@ use crate::parts::front_of;
 use crate::{MemWorld, Page};
 use pp_text::{Octets, OutOfMemory};
 use pp_world::{
-    CONFIG_READ_LEN, ConfigFault, Door, Event, Got, Happening, Note, Wants, Wire, WireFault,
+    CONFIG_READ_LEN, ConfigFault, Door, Event, Got, Happening, Note, Replied, Wants, Wire, WireFault,
 };
 use std::alloc::Global;
 
@@ -170,6 +170,16 @@ impl Wire for MemWorld {
         ensures ends { EndsStay self.old self.new }
     {
         self.record.print(bytes);
+    }
+
+    /// The operator's log is kept nowhere.
+    fn log_reply(&mut self, _reply: &Replied<'_>)
+        ensures told { told_log self.new ≡ told_log self.old }
+        ensures faults { faults_of self.new ≡ faults_of self.old }
+        ensures top { top_number self.new ≡ top_number self.old }
+        ensures calls { SameCalls self.old self.new }
+        ensures ends { EndsStay self.old self.new }
+    {
     }
 
     fn config(&mut self, alloc: Global, name: &str) -> Result<Octets, ConfigFault>

@@ -4,7 +4,7 @@ ghost use Rattle.pp_net.specs.Doors.{may_come};
 
 use mio::net::{TcpListener, TcpStream};
 use mio::{Interest, Registry, Token};
-use pp_world::{AddressRange, Door};
+use pp_world::{AccessLog, AddressRange, Door};
 use std::alloc::Global;
 use std::io::ErrorKind;
 use std::net::{Ipv4Addr, Net, SocketAddr};
@@ -105,6 +105,7 @@ impl OpenDoor {
             address: self.address,
             port: self.port,
             allowed: self.allowed.as_slice(),
+            access_log: AccessLog::Nowhere,
         }
     }
 }

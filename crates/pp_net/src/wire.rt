@@ -9,7 +9,7 @@ use crate::net_world::NetWorld;
 use crate::rotation::Turn;
 use crate::{console, files};
 use pp_text::Octets;
-use pp_world::{ConfigFault, Door, Event, Got, Note, Wants, Wire, WireFault};
+use pp_world::{ConfigFault, Door, Event, Got, Note, Replied, Wants, Wire, WireFault};
 use std::alloc::Global;
 use std::net::Net;
 use std::rt::Runtime;
@@ -221,6 +221,8 @@ impl<R: Runtime + AllocGlobal + Net> Wire for NetWorld<R> {
             self.fault();
         }
     }
+
+    fn log_reply(&mut self, _reply: &Replied<'_>) {}
 
     fn config(&mut self, alloc: Global, name: &str) -> Result<Octets, ConfigFault> {
         let front = files::read_front(&self.rt, alloc, name);

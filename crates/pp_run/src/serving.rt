@@ -15,7 +15,7 @@ use pp_conf::Conf;
 use pp_proxy::{Proxy, Turn};
 use pp_recover::RecoverFault;
 use pp_shelf::Shelf;
-use pp_world::{Door, World};
+use pp_world::{AccessLog, Door, World};
 use std::alloc::Global;
 
 /// Takes the proxy's memory, opens its folder, listens, and serves where it may.
@@ -61,6 +61,7 @@ fn door_of(conf: &Conf) -> Door<'_>
         address: conf.address,
         port: conf.port,
         allowed: conf.allowed.as_slice(),
+        access_log: AccessLog::Nowhere,
     }
 }
 

@@ -3,6 +3,8 @@ ghost use Rattle.std.specs.Prelude.{◌≡◌, ◌≤◌, ◌&&◌};
 ghost use Rattle.std.specs.List.{list_any};
 ghost use Rattle.pp_world.specs.Doors.{is_in};
 
+use crate::AccessLog;
+
 /// IPv4 addresses: those whose first `bits` bits are those of `address` (RFC 4632, section 3.1). An address stands as a
 /// number here, its first octet the highest.
 #[derive(Clone, Copy, Debug, PartialEq, Eq)]
@@ -30,6 +32,8 @@ pub struct Door<'a> {
     pub port: u16,
     /// Who comes from elsewhere is no client: it is closed before a byte of it is read.
     pub allowed: &'a [AddressRange],
+    /// Where a line for each reply is written.
+    pub access_log: AccessLog<'a>,
 }
 
 impl Door<'_> {

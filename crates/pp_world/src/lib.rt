@@ -16,6 +16,7 @@
 //! knows of it.
 #![tactic(auto)]
 
+mod access; // what the operator's log says
 mod disk; // a folder of files
 mod door; // where clients are listened for
 mod event; // what the poller reports, and what it is asked for
@@ -25,6 +26,7 @@ mod note; // what the proxy itself puts on record
 mod op; // an operation that changes the disk
 mod wire; // connections, the clock and the console
 
+pub use access::{AccessLog, Replied, Source};
 pub use disk::{Disk, DiskFault, NamesFault};
 pub use door::{AddressRange, Door};
 pub use event::{Event, Got, Side, Wants};

@@ -6,7 +6,7 @@ ghost use Rattle.pp_world.specs.Connections.{IsOpen};
 ghost use Rattle.pp_world.specs.Log.{Appends, AppendsAll, Rises, Told};
 ghost use Rattle.pp_world.specs.Wire.{ConfigCause, IsNewNumber, IsNumbered, IsOnDialled, IsWithin, close_happening, config_happenings, dial_happening, is_wanted, listen_happening, note_happening, print_happening, read_happening, top_after, wait_happenings, write_happening};
 
-use crate::{Disk, Door, Event, Got, Note, Wants};
+use crate::{Disk, Door, Event, Got, Note, Replied, Wants};
 use pp_text::Octets;
 use std::alloc::Global;
 use thiserror::Error;
@@ -109,6 +109,13 @@ pub trait Wire: Logged {
     fn print(&mut self, bytes: &[u8])
         ensures told { Appends (Self.log self.old) (Self.log self.new) (λ l. print_happening bytes.now) }
         ensures faults { Self.faults self.old ≤ Self.faults self.new }
+        ensures top { Self.top self.new ≡ Self.top self.old };
+
+    /// Tells the operator of a reply, in the log that was named with the door. This is no happening, and never
+    /// fails: of what cannot be written the operator is told once.
+    fn log_reply(&mut self, reply: &Replied<'_>)
+        ensures told { Self.log self.new ≡ Self.log self.old }
+        ensures faults { Self.faults self.new ≡ Self.faults self.old }
         ensures top { Self.top self.new ≡ Self.top self.old };
 
     /// Reads a configuration file, up to `CONFIG_READ_LEN` bytes. Where memory was refused, nothing

@@ -8,7 +8,7 @@ use arrayvec::ArrayVec;
 use pp_text::Octets;
 use pp_world::{
     Cause, ConfigFault, Disk, DiskFault, Door, Event, Got, Image, Logged, Name, NamesFault, Note,
-    Wants, Wire, WireFault, World,
+    Replied, Wants, Wire, WireFault, World,
 };
 use std::alloc::Global;
 use std::test::Fail;
@@ -57,6 +57,8 @@ impl Wire for Silent {
     fn close(&mut self, _id: u64) {}
 
     fn note(&mut self, _note: &Note<'_>) {}
+
+    fn log_reply(&mut self, _reply: &Replied<'_>) {}
 
     fn print(&mut self, _bytes: &[u8]) {}
 

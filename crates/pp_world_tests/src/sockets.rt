@@ -1,7 +1,7 @@
 // Real sockets on free ports of 127.0.0.1, act by act.
 use crate::turns::wants;
 use pp_net::NetWorld;
-use pp_world::{AddressRange, Cause, Door, Event, Got, Note, Wants, Wire, WireFault};
+use pp_world::{AccessLog, AddressRange, Cause, Door, Event, Got, Note, Wants, Wire, WireFault};
 use std::io;
 use std::io::{ErrorKind, Read, Write};
 use std::net::{Shutdown, TcpListener, TcpStream};
@@ -104,6 +104,7 @@ fn door(port: u16, allowed: &[AddressRange]) -> Door<'_> {
         address: 0x7f00_0001,
         port,
         allowed,
+        access_log: AccessLog::Nowhere,
     }
 }
 
