@@ -12,7 +12,8 @@ use crate::parts::front_of;
 use crate::{MemWorld, Page};
 use pp_text::{Octets, OutOfMemory};
 use pp_world::{
-    CONFIG_READ_LEN, ConfigFault, Door, Event, Got, Happening, Note, Replied, Wants, Wire, WireFault,
+    CONFIG_READ_LEN, ConfigFault, Door, Event, Got, Happening, Note, Replied, Wants, Wire,
+    WireFault,
 };
 use std::alloc::Global;
 
@@ -179,8 +180,7 @@ impl Wire for MemWorld {
         ensures top { top_number self.new ≡ top_number self.old }
         ensures calls { SameCalls self.old self.new }
         ensures ends { EndsStay self.old self.new }
-    {
-    }
+    {}
 
     fn config(&mut self, alloc: Global, name: &str) -> Result<Octets, ConfigFault>
         ensures told { AppendsAll (told_log self.old) (told_log self.new) (λ l. config_happenings name.now result) }
