@@ -70,6 +70,9 @@ front1 = Woke [] ∷ Rooted text2 ∷ Listed true ∷ Listens 8123 true ∷ wait
 abbrev text15 : Bytes
 text15 = (codes "HTTP/1.1 404 Not Found\r\nvia: 1.1 polipo\r\ncontent-length: 1\r\nconnection: keep-alive\r\n\r\n")
 
+abbrev front2 : Log
+front2 = Woke [] ∷ Rooted text2 ∷ Listed true ∷ Listens 8123 true ∷ wait true [] [] ∷ Clock 784111777 ∷ wait true [] [] ∷ Opened 1 ∷ wait true (1 ∷ []) [] ∷ CanRead 1 ∷ Heard 1 text3 ∷ Noted (Taken 1 0 Fetch) ∷ Dialled 2 (codes "h") 80 ∷ wait true (1 ∷ []) [] ∷ Reached 2 ∷ wait true (1 ∷ 2 ∷ []) (2 ∷ []) ∷ CanWrite 2 ∷ Asked 2 text4 ∷ wait true (1 ∷ 2 ∷ []) [] ∷ CanRead 2 ∷ Got 2 text5 ∷ Noted (Taken 1 0 Relay) ∷ wait true (2 ∷ []) (1 ∷ []) ∷ CanWrite 1 ∷ Said 1 86 text6 ∷ wait true (1 ∷ 2 ∷ []) [] ∷ CanRead 1 ∷ Heard 1 text7 ∷ Noted (Taken 1 1 Fetch) ∷ wait true (2 ∷ []) (2 ∷ []) ∷ CanWrite 2 ∷ Asked 2 text8 ∷ wait true (2 ∷ []) [] ∷ Opened 3 ∷ wait true (2 ∷ 3 ∷ []) [] ∷ CanRead 3 ∷ Heard 3 text9 ∷ Noted (Taken 3 0 Fetch) ∷ Dialled 4 (codes "h") 80 ∷ wait true (2 ∷ []) [] ∷ Opened 5 ∷ wait true (2 ∷ 5 ∷ []) [] ∷ CanRead 5 ∷ Heard 5 text10 ∷ Noted (Taken 5 0 Fetch) ∷ Dialled 6 (codes "h") 80 ∷ wait true (2 ∷ []) [] ∷ Opened 7 ∷ wait true (2 ∷ 7 ∷ []) [] ∷ CanRead 7 ∷ Heard 7 text11 ∷ Noted (Taken 7 0 Fetch) ∷ Dialled 8 (codes "h") 80 ∷ wait true (2 ∷ []) [] ∷ Opened 9 ∷ wait true (2 ∷ 9 ∷ []) [] ∷ CanRead 9 ∷ Heard 9 text12 ∷ Noted (Taken 9 0 Fetch) ∷ []
+
 row75 : fault_from 0 (start (record { words = (codes "diskRun=1") ∷ text0 ∷ text1 ∷ []; faults = 0 } ∷ [])) (front0 ++ Opened 9 ∷ wait true (2 ∷ 9 ∷ []) [] ∷ CanRead 9 ∷ Heard 9 text12 ∷ Noted (Taken 9 0 Fetch) ∷ wait true (2 ∷ []) (2 ∷ []) ∷ CanWrite 2 ∷ Asked 2 text13 ∷ wait true (2 ∷ []) [] ∷ CanRead 2 ∷ Got 2 (codes "HTTP/1.") ∷ wait true (2 ∷ []) [] ∷ CanRead 2 ∷ Ended 2 ∷ Dropped 2 ∷ Dialled 10 (codes "h") 80 ∷ wait true [] [] ∷ []) ≡ None
 unfolding judging
 row75 = refl
@@ -109,3 +112,11 @@ row133 = refl
 row144 : fault_from 0 (start (record { words = (codes "diskRun=1") ∷ text0 ∷ text1 ∷ []; faults = 0 } ∷ [])) (front1 ++ Noted (Taken 9 0 Relay) ∷ []) ≡ Some (record { at = 65; rule = WrongDecision })
 unfolding judging
 row144 = refl
+
+row155 : fault_from 0 (start (record { words = (codes "diskRun=1") ∷ text1 ∷ []; faults = 0 } ∷ [])) (front2 ++ wait true (2 ∷ []) [] ∷ []) ≡ None
+unfolding judging
+row155 = refl
+
+row158 : fault_from 0 (start (record { words = (codes "diskRun=1") ∷ text1 ∷ []; faults = 0 } ∷ [])) (front2 ++ wait true (2 ∷ []) (2 ∷ []) ∷ []) ≡ Some (record { at = 59; rule = ConnectionForgotten })
+unfolding judging
+row158 = refl
