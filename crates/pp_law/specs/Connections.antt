@@ -159,14 +159,11 @@ close_conn counts k s =
 abbrev pub open_conns : State → List Conn
 open_conns s = without (λ k. k.is_closing) s.conns
 
-abbrev pub carries_alone : State → Conn → Bool
-carries_alone s k = list_any (λ n. is_some_with (λ e. goes_alone e.head) (exchange s n)) k.line
-
 abbrev pub load_of : State → Conn → Load
 load_of s k = record {
   asks = length k.line;
   outstanding = count_by (λ n. is_some_with is_outstanding (exchange s n)) k.line;
-  may_pipeline = k.may_pipeline && not (carries_alone s k);
+  may_pipeline = k.may_pipeline && not (list_any (λ n. is_some_with (λ e. goes_alone e.head) (exchange s n)) k.line);
 }
 
 -- a connection as far as places depend on it

@@ -97,8 +97,7 @@ new_exchange s c head key d kind = record (unasked s c head key (elim (is_pass d
 }
 
 abbrev pub stage_for : Decision → Stage
-stage_for Pass = Passing
-stage_for d = Waiting
+stage_for d = elim (is_pass d) [ true ↦ Passing | false ↦ Waiting ]
 
 abbrev pub asking_with : Decision → Client → Client
 asking_with d c = record c { interim_left = first_interim c; stage = stage_for d; brought = Awaited }

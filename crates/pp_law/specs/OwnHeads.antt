@@ -1,6 +1,6 @@
 -- What the head of a response to an exchange of the cache's own does to the row of its key (RFC 2616, sections 10.3.5 and 13.5;
 -- RFC 7233, sections 4.1 and 4.3; RFC 7234, section 4.3.3).
-use Rattle.std.specs.Prelude.{ℕ, ◌+◌, Bool, true, false, ◌==◌, ◌&&◌, ◌||◌, not, nat_eq, List, [], ◌∷◌, length, bytes_eq, is_some, codes, Option, Some, None}
+use Rattle.std.specs.Prelude.{ℕ, ◌+◌, Bool, true, false, ◌==◌, ◌&&◌, ◌||◌, not, nat_eq, nat_lt, List, [], ◌∷◌, length, bytes_eq, is_some, codes, Option, Some, None}
 use Rattle.std.specs.List.{list_any, starts_with}
 use Rattle.pp_fresh.specs.Age.{times_of}
 use Rattle.pp_fresh.specs.Guessing.{allows_guess}
@@ -23,9 +23,10 @@ use Rattle.pp_law.specs.Chunks.{joined, note_use}
 use Rattle.pp_law.specs.Connections.{exchange, on_exchange, on_client_of, is_for, attempts_of, without_shared_row, lose_attempt}
 use Rattle.pp_law.specs.Lists.{Bytes, change, is_some_with}
 use Rattle.pp_law.specs.Passing.{passed_by}
+use Rattle.pp_law.specs.Requests.{parsed_in}
 use Rattle.pp_law.specs.Stages.{is_begun, bound_of, is_own, is_through}
 use Rattle.pp_law.specs.State.{State, Answer, Through, Own, Filling, Bound, Body, Joining, Relaying, Dropping, Brought, Useless, Joins, Passes, TooWide, Client, Exchange, Instance, Sent}
-use Rattle.pp_law.specs.Table.{is_same_version, row, kept_row, instance, extent_of, on_instance, mark_row, make_row, enter, clear, Next, next_of, is_provided}
+use Rattle.pp_law.specs.Table.{is_same_version, row, kept_row, instance, extent_of, on_instance, mark_row, make_row, enter, clear, Next, next_of, shown_span, is_provided}
 
 abbrev pub key_of : Exchange → Bytes
 key_of e = text_of e.key
@@ -229,9 +230,15 @@ own_head e head rule s = elim (version_in e head) [
 abbrev pub is_bound : Exchange → Bool
 is_bound e = is_some (bound_of e)
 
--- of the row that stands; a reply that has begun goes on by its own version alone
+-- what it is to be said of the row that stands: what its request is shown of it, and where its reply has begun the rest of that
+abbrev pub rest_by : Client → Next → Instance → ℕ × ℕ
+rest_by c n x = elim (is_begun c) [ true ↦ (n.at, n.to) | false ↦ elim (parsed_in c.front) [ None ↦ (0, 0) | Some r ↦ shown_span r.head x.version ] ]
+
+-- of that row; a reply that has begun goes on by its own version alone
 abbrev pub lacks_by : State → Client → Next → Instance → Bool
-lacks_by s c n x = not (is_begun c && n.source.is_retired) && not (is_provided s (record n { source = x }))
+lacks_by s c n x =
+    let span = rest_by c n x in
+    not (is_begun c && n.source.is_retired) && nat_lt span.0 span.1 && not (is_provided s (record { source = x; at = span.0; to = span.1 }))
 
 -- the follower still lacks its next byte
 abbrev pub lacks_next : State → Client → Bool

@@ -167,11 +167,8 @@ is_provided s n = is_next_held s n || is_brought s n.source n.at
 
 -- ---- pins
 
-abbrev pub pin_of_next : Next → ℕ × ℕ
-pin_of_next n = (n.source.id, n.at / chunk_len)
-
 abbrev pub pin_of_client : State → Client → Option (ℕ × ℕ)
-pin_of_client s c = elim (next_of s c) [ None ↦ None | Some n ↦ Some (pin_of_next n) ]
+pin_of_client s c = elim (next_of s c) [ None ↦ None | Some n ↦ Some (n.source.id, n.at / chunk_len) ]
 
 abbrev pub pin_of_exchange : Exchange → Option (ℕ × ℕ)
 pin_of_exchange e = elim (bound_of e) [ None ↦ None | Some b ↦ elim (nat_lt b.next b.to) [ true ↦ Some (b.instance, b.next / chunk_len) | false ↦ None ] ]

@@ -302,42 +302,113 @@ const UNSHARED: &[Exchange<'static>] = &[
     },
 ];
 
-/// Each ask for the rest is answered by the front of yet another version.
-const EVER_ANOTHER: &[Exchange<'static>] = &[Exchange {
-    name: "three asks for the rest, and no more",
-    acts: &[
-        Act::Tick(T),
-        Act::Connect,
-        Act::Say(1, GET_END),
-        Act::Reach(2),
-        Act::Answer(2, FRONT),
-        Act::Answer(
-            2,
-            b"HTTP/1.1 206 Partial Content\r\nETag: \"y\"\r\nContent-Range: bytes 0-3/10\r\nContent-Length: 4\r\n\r\nhell",
-        ),
-        Act::Answer(
-            2,
-            b"HTTP/1.1 206 Partial Content\r\nETag: \"z\"\r\nContent-Range: bytes 0-3/10\r\nContent-Length: 4\r\n\r\nhell",
-        ),
-        Act::Answer(
-            2,
-            b"HTTP/1.1 206 Partial Content\r\nETag: \"w\"\r\nContent-Range: bytes 0-3/10\r\nContent-Length: 4\r\n\r\nhell",
-        ),
-    ],
-    wanted: &[
-        Wanted::Count(Step::Dialled(80), 1),
-        Wanted::Asked(
-            2,
-            &[
-                ASK_END,
-                ASK_BEHIND_FRONT,
-                b"GET /a HTTP/1.1\r\nhost: h\r\nrange: bytes=4-9\r\nif-range: \"y\"\r\nvia: 1.1 polipo\r\n\r\n",
-                b"GET /a HTTP/1.1\r\nhost: h\r\nrange: bytes=4-9\r\nif-range: \"z\"\r\nvia: 1.1 polipo\r\n\r\n",
-            ],
-        ),
-        Wanted::Said(1, &[Part::Text(PAGE_502)]),
-    ],
-}];
+/// The rest is not given: each ask for it is answered by the front of yet another version, or the last by one that answers the request.
+const EVER_ANOTHER: &[Exchange<'static>] = &[
+    Exchange {
+        name: "three asks for the rest, and no more",
+        acts: &[
+            Act::Tick(T),
+            Act::Connect,
+            Act::Say(1, GET_END),
+            Act::Reach(2),
+            Act::Answer(2, FRONT),
+            Act::Answer(
+                2,
+                b"HTTP/1.1 206 Partial Content\r\nETag: \"y\"\r\nContent-Range: bytes 0-3/10\r\nContent-Length: 4\r\n\r\nhell",
+            ),
+            Act::Answer(
+                2,
+                b"HTTP/1.1 206 Partial Content\r\nETag: \"z\"\r\nContent-Range: bytes 0-3/10\r\nContent-Length: 4\r\n\r\nhell",
+            ),
+            Act::Answer(
+                2,
+                b"HTTP/1.1 206 Partial Content\r\nETag: \"w\"\r\nContent-Range: bytes 0-3/10\r\nContent-Length: 4\r\n\r\nhell",
+            ),
+        ],
+        wanted: &[
+            Wanted::Count(Step::Dialled(80), 1),
+            Wanted::Asked(
+                2,
+                &[
+                    ASK_END,
+                    ASK_BEHIND_FRONT,
+                    b"GET /a HTTP/1.1\r\nhost: h\r\nrange: bytes=4-9\r\nif-range: \"y\"\r\nvia: 1.1 polipo\r\n\r\n",
+                    b"GET /a HTTP/1.1\r\nhost: h\r\nrange: bytes=4-9\r\nif-range: \"z\"\r\nvia: 1.1 polipo\r\n\r\n",
+                ],
+            ),
+            Wanted::Said(1, &[Part::Text(PAGE_502)]),
+        ],
+    },
+    Exchange {
+        name: "a third version that ends before what is wanted is the answer",
+        acts: &[
+            Act::Tick(T),
+            Act::Connect,
+            Act::Say(1, GET_END),
+            Act::Reach(2),
+            Act::Answer(2, FRONT),
+            Act::Answer(2, BUSY),
+            Act::Answer(2, BUSY),
+            Act::Answer(
+                2,
+                b"HTTP/1.1 200 OK\r\nETag: \"w\"\r\nContent-Length: 5\r\n\r\nhello",
+            ),
+        ],
+        wanted: &[
+            Wanted::Asked(
+                2,
+                &[
+                    ASK_END,
+                    ASK_BEHIND_FRONT,
+                    ASK_BEHIND_FRONT,
+                    ASK_BEHIND_FRONT,
+                ],
+            ),
+            Wanted::Said(
+                1,
+                &[Part::Text(
+                    b"HTTP/1.1 416 Requested Range Not Satisfiable\r\ncontent-range: bytes */5\r\ncontent-type: text/plain\r\ncontent-length: 36\r\nconnection: keep-alive\r\n\r\n416 Requested Range Not Satisfiable\n",
+                )],
+            ),
+        ],
+    },
+    Exchange {
+        name: "so is one of no bytes, where all is wanted",
+        acts: &[
+            Act::Tick(T),
+            Act::Connect,
+            Act::Say(1, GET),
+            Act::Reach(2),
+            Act::Answer(
+                2,
+                b"HTTP/1.1 200 OK\r\nETag: \"x\"\r\nCache-Control: max-age=60\r\nContent-Length: 10\r\n\r\n",
+            ),
+            Act::End(2),
+            Act::Reach(3),
+            Act::Answer(3, BUSY),
+            Act::Answer(
+                3,
+                b"HTTP/1.1 200 OK\r\nDate: Sun, 06 Nov 1994 08:49:37 GMT\r\nETag: \"w\"\r\nCache-Control: max-age=60\r\nContent-Length: 0\r\n\r\n",
+            ),
+        ],
+        wanted: &[
+            Wanted::Asked(2, &[ASK]),
+            Wanted::Asked(
+                3,
+                &[
+                    b"GET /a HTTP/1.1\r\nhost: h\r\nrange: bytes=0-9\r\nif-range: \"x\"\r\nvia: 1.1 polipo\r\n\r\n",
+                    b"GET /a HTTP/1.1\r\nhost: h\r\nrange: bytes=0-9\r\nif-range: \"x\"\r\nvia: 1.1 polipo\r\n\r\n",
+                ],
+            ),
+            Wanted::Said(
+                1,
+                &[Part::Text(
+                    b"HTTP/1.1 200 OK\r\netag: \"w\"\r\ndate: Sun, 06 Nov 1994 08:49:37 GMT\r\ncache-control: max-age=60\r\nvia: 1.1 polipo\r\ncontent-length: 0\r\nconnection: keep-alive\r\n\r\n",
+                )],
+            ),
+        ],
+    },
+];
 
 #[test]
 fn a_rest_of_yet_another_version_is_not_asked_for_without_end(rt: HostRuntime) -> Result<(), Fail> {

@@ -182,88 +182,82 @@ abbrev text49 : Bytes
 text49 = (codes "HTTP/1.1 206 Partial Content\r\nETag: \"w\"\r\nCache-Control: max-age=60\r\nContent-Range: bytes 0-9/10\r\nContent-Length: 10\r\n\r\nhello worl")
 
 abbrev text50 : Bytes
-text50 = (codes "GET http://h/p HTTP/1.1\r\nCache-Control: no-store\r\n\r\n")
+text50 = (codes "HTTP/1.1 200 OK\r\nETag: \"w\"\r\nCache-Control: max-age=60\r\nContent-Length: 5\r\n\r\nhello")
 
 abbrev text51 : Bytes
-text51 = (codes "GET /p HTTP/1.1\r\nhost: h\r\ncache-control: no-store\r\nvia: 1.1 polipo\r\n\r\n")
+text51 = (codes "GET http://h/p HTTP/1.1\r\nCache-Control: no-store\r\n\r\n")
 
 abbrev text52 : Bytes
-text52 = (codes "GET http://h/q HTTP/1.1\r\nCache-Control: no-store\r\n\r\n")
+text52 = (codes "GET /p HTTP/1.1\r\nhost: h\r\ncache-control: no-store\r\nvia: 1.1 polipo\r\n\r\n")
 
 abbrev text53 : Bytes
-text53 = (codes "HTTP/1.1 204 No Content\r\nContent-Length: 5\r\n\r\n")
+text53 = (codes "GET http://h/q HTTP/1.1\r\nCache-Control: no-store\r\n\r\n")
 
 abbrev text54 : Bytes
-text54 = (codes "GET http://h/s HTTP/1.1\r\nAuthorization: NTLM abc\r\n\r\n")
+text54 = (codes "HTTP/1.1 204 No Content\r\nContent-Length: 5\r\n\r\n")
 
 abbrev text55 : Bytes
-text55 = (codes "GET /s HTTP/1.1\r\nhost: h\r\nauthorization: NTLM abc\r\nvia: 1.1 polipo\r\n\r\n")
+text55 = (codes "GET http://h/s HTTP/1.1\r\nAuthorization: NTLM abc\r\n\r\n")
 
 abbrev text56 : Bytes
-text56 = (codes "HTTP/1.1 200 OK\r\nContent-Length: 2\r\n\r\nok")
+text56 = (codes "GET /s HTTP/1.1\r\nhost: h\r\nauthorization: NTLM abc\r\nvia: 1.1 polipo\r\n\r\n")
 
 abbrev text57 : Bytes
-text57 = (codes "GET http://h/l HTTP/1.1\r\n\r\n")
+text57 = (codes "HTTP/1.1 200 OK\r\nContent-Length: 2\r\n\r\nok")
 
 abbrev text58 : Bytes
-text58 = (codes "GET /l HTTP/1.1\r\nhost: h\r\nvia: 1.1 polipo\r\n\r\n")
+text58 = (codes "GET http://h/l HTTP/1.1\r\n\r\n")
 
 abbrev text59 : Bytes
-text59 = (codes "HTTP/1.1 200 OK\r\nETag: \"x\"\r\nCache-Control: max-age=60\r\nContent-Length: 4000000\r\n\r\nab")
+text59 = (codes "GET /l HTTP/1.1\r\nhost: h\r\nvia: 1.1 polipo\r\n\r\n")
 
 abbrev text60 : Bytes
-text60 = (codes "GET http://h/l HTTP/1.1\r\nRange: bytes=3000000-3000003\r\n\r\n")
+text60 = (codes "HTTP/1.1 200 OK\r\nETag: \"x\"\r\nCache-Control: max-age=60\r\nContent-Length: 4000000\r\n\r\nab")
 
 abbrev text61 : Bytes
-text61 = (codes "GET http://h/l HTTP/1.1\r\nRange: bytes=1000000-1000003\r\n\r\n")
+text61 = (codes "GET http://h/l HTTP/1.1\r\nRange: bytes=3000000-3000003\r\n\r\n")
 
 abbrev text62 : Bytes
-text62 = (codes "GET http://h/l HTTP/1.1\r\nRange: bytes=1499136-1999999\r\n\r\n")
+text62 = (codes "GET http://h/l HTTP/1.1\r\nRange: bytes=1000000-1000003\r\n\r\n")
 
 abbrev text63 : Bytes
-text63 = (codes "GET /l HTTP/1.1\r\nhost: h\r\nrange: bytes=1499136-1999999\r\nif-range: \"x\"\r\nvia: 1.1 polipo\r\n\r\n")
+text63 = (codes "GET http://h/l HTTP/1.1\r\nRange: bytes=1499136-1999999\r\n\r\n")
 
 abbrev text64 : Bytes
-text64 = (codes "HTTP/1.1 206 Partial Content\r\nETag: \"x\"\r\nContent-Range: bytes 1499136-1999999/4000000\r\nContent-Length: 500864\r\n\r\nmm")
+text64 = (codes "GET /l HTTP/1.1\r\nhost: h\r\nrange: bytes=1499136-1999999\r\nif-range: \"x\"\r\nvia: 1.1 polipo\r\n\r\n")
 
 abbrev text65 : Bytes
-text65 = (codes "GET http://h/l HTTP/1.1\r\nRange: bytes=2998272-\r\n\r\n")
+text65 = (codes "HTTP/1.1 206 Partial Content\r\nETag: \"x\"\r\nContent-Range: bytes 1499136-1999999/4000000\r\nContent-Length: 500864\r\n\r\nmm")
 
 abbrev text66 : Bytes
-text66 = (codes "GET /l HTTP/1.1\r\nhost: h\r\nrange: bytes=2998272-3000003\r\nvia: 1.1 polipo\r\n\r\n")
+text66 = (codes "GET http://h/l HTTP/1.1\r\nRange: bytes=2998272-\r\n\r\n")
 
 abbrev text67 : Bytes
-text67 = (replicate 4094 97)
+text67 = (codes "GET /l HTTP/1.1\r\nhost: h\r\nrange: bytes=2998272-3000003\r\nvia: 1.1 polipo\r\n\r\n")
 
 abbrev text68 : Bytes
-text68 = (codes "GET /l HTTP/1.1\r\nhost: h\r\nrange: bytes=2998272-3000003\r\nif-range: \"x\"\r\nvia: 1.1 polipo\r\n\r\n")
+text68 = (replicate 4094 97)
 
 abbrev text69 : Bytes
-text69 = (codes "HTTP/1.1 200 OK\r\nETag: \"y\"\r\nCache-Control: max-age=60\r\nContent-Length: 4000000\r\n\r\nab")
+text69 = (codes "GET /l HTTP/1.1\r\nhost: h\r\nrange: bytes=2998272-3000003\r\nif-range: \"x\"\r\nvia: 1.1 polipo\r\n\r\n")
 
 abbrev text70 : Bytes
-text70 = (codes "HTTP/1.1 200 OK\r\nDate: Sun, 06 Nov 1994 08:49:37 GMT\r\nETag: \"x\"\r\nLast-Modified: Thu, 27 Oct 1994 08:49:37 GMT\r\nContent-Length: 5\r\n\r\nhello")
+text70 = (codes "HTTP/1.1 200 OK\r\nETag: \"y\"\r\nCache-Control: max-age=60\r\nContent-Length: 4000000\r\n\r\nab")
 
 abbrev text71 : Bytes
-text71 = (codes "GET http://h/a?b HTTP/1.1\r\n\r\n")
+text71 = (codes "HTTP/1.1 200 OK\r\nDate: Sun, 06 Nov 1994 08:49:37 GMT\r\nETag: \"x\"\r\nLast-Modified: Thu, 27 Oct 1994 08:49:37 GMT\r\nContent-Length: 5\r\n\r\nhello")
 
 abbrev text72 : Bytes
-text72 = (codes "GET /a?b HTTP/1.1\r\nhost: h\r\nvia: 1.1 polipo\r\n\r\n")
+text72 = (codes "GET http://h/a?b HTTP/1.1\r\n\r\n")
 
 abbrev text73 : Bytes
-text73 = (codes "GET http://h/a HTTP/1.1\r\nCookie: c=d\r\n\r\n")
+text73 = (codes "GET /a?b HTTP/1.1\r\nhost: h\r\nvia: 1.1 polipo\r\n\r\n")
 
 abbrev text74 : Bytes
-text74 = (codes "GET /a HTTP/1.1\r\nhost: h\r\ncookie: c=d\r\nvia: 1.1 polipo\r\n\r\n")
+text74 = (codes "GET http://h/a HTTP/1.1\r\nCookie: c=d\r\n\r\n")
 
 abbrev text75 : Bytes
-text75 = (codes "GET http://h/a HTTP/1.1\r\nAccept-Encoding: gzip\r\n\r\n")
-
-abbrev text76 : Bytes
-text76 = (codes "GET /a HTTP/1.1\r\nhost: h\r\naccept-encoding: gzip\r\nvia: 1.1 polipo\r\n\r\n")
-
-abbrev text77 : Bytes
-text77 = (codes "HTTP/1.1 200 OK\r\nETag: \"x\"\r\nCache-Control: max-age=60\r\nContent-Encoding: gzip\r\nContent-Length: 5\r\n\r\nhello")
+text75 = (codes "GET /a HTTP/1.1\r\nhost: h\r\ncookie: c=d\r\nvia: 1.1 polipo\r\n\r\n")
 
 row42 : fault_from 0 (start (record { words = []; faults = 0 } ∷ [])) (front0 ++ Heard 1 text1 ∷ Noted (Taken 1 0 Fetch) ∷ Dialled 2 (codes "h") 80 ∷ wait true (1 ∷ []) [] ∷ Reached 2 ∷ wait true (1 ∷ 2 ∷ []) (2 ∷ []) ∷ CanWrite 2 ∷ Asked 2 text2 ∷ wait true (1 ∷ 2 ∷ []) [] ∷ CanRead 2 ∷ Got 2 text3 ∷ Noted (Taken 1 0 (Hit 0 5)) ∷ wait true (1 ∷ 2 ∷ []) (1 ∷ []) ∷ CanWrite 1 ∷ Said 1 153 text4 ∷ wait true (1 ∷ 2 ∷ []) (1 ∷ []) ∷ CanWrite 1 ∷ Said 1 5 (codes "hello") ∷ wait true (1 ∷ 2 ∷ []) [] ∷ Clock 784111779 ∷ wait true (1 ∷ 2 ∷ []) [] ∷ Opened 3 ∷ wait true (1 ∷ 2 ∷ 3 ∷ []) [] ∷ CanRead 3 ∷ Heard 3 text1 ∷ Noted (Taken 3 0 Validate) ∷ wait true (1 ∷ 2 ∷ []) (2 ∷ []) ∷ CanWrite 2 ∷ Asked 2 text5 ∷ wait true (1 ∷ 2 ∷ []) [] ∷ CanRead 2 ∷ Got 2 text6 ∷ Noted (Taken 3 0 Fetch) ∷ wait true (1 ∷ []) (2 ∷ []) ∷ []) ≡ None
 unfolding judging
@@ -417,106 +411,106 @@ row494 : fault_from 0 (start (record { words = []; faults = 0 } ∷ [])) (front4
 unfolding judging
 row494 = refl
 
-row504 : fault_from 0 (start (record { words = []; faults = 0 } ∷ [])) (front0 ++ Heard 1 text50 ∷ Noted (Taken 1 0 Pass) ∷ Dialled 2 (codes "h") 80 ∷ wait true (1 ∷ []) [] ∷ Reached 2 ∷ wait true (1 ∷ 2 ∷ []) (2 ∷ []) ∷ CanWrite 2 ∷ Asked 2 text51 ∷ wait true (1 ∷ 2 ∷ []) [] ∷ Opened 3 ∷ wait true (1 ∷ 2 ∷ 3 ∷ []) [] ∷ CanRead 3 ∷ Heard 3 text52 ∷ Noted (Taken 3 0 Pass) ∷ Dialled 4 (codes "h") 80 ∷ wait true (1 ∷ 2 ∷ []) [] ∷ []) ≡ None
+row504 : fault_from 0 (start (record { words = []; faults = 0 } ∷ [])) (front4 ++ Noted (Taken 1 0 (Part 8 10)) ∷ wait true [] (2 ∷ []) ∷ CanWrite 2 ∷ Asked 2 text47 ∷ wait true (2 ∷ []) [] ∷ CanRead 2 ∷ Got 2 text50 ∷ Noted (Taken 1 0 Unsatisfiable) ∷ wait true (2 ∷ []) (1 ∷ []) ∷ []) ≡ None
 unfolding judging
 row504 = refl
 
-row522 : fault_from 0 (start (record { words = []; faults = 0 } ∷ [])) (front0 ++ Heard 1 text1 ∷ Noted (Taken 1 0 Fetch) ∷ Dialled 2 (codes "h") 80 ∷ wait true (1 ∷ []) [] ∷ Reached 2 ∷ wait true (1 ∷ 2 ∷ []) (2 ∷ []) ∷ CanWrite 2 ∷ Asked 2 text2 ∷ wait true (1 ∷ 2 ∷ []) [] ∷ CanRead 2 ∷ Got 2 text3 ∷ Noted (Taken 1 0 (Hit 0 5)) ∷ wait true (1 ∷ 2 ∷ []) (1 ∷ []) ∷ CanWrite 1 ∷ Said 1 153 text4 ∷ wait true (1 ∷ 2 ∷ []) (1 ∷ []) ∷ CanWrite 1 ∷ Said 1 5 (codes "hello") ∷ wait true (1 ∷ 2 ∷ []) [] ∷ CanRead 1 ∷ Heard 1 text50 ∷ Noted (Taken 1 1 Pass) ∷ wait true (1 ∷ []) (2 ∷ []) ∷ CanWrite 2 ∷ Asked 2 text51 ∷ wait true (1 ∷ 2 ∷ []) [] ∷ CanRead 2 ∷ Got 2 text53 ∷ Dropped 2 ∷ wait true (1 ∷ []) (1 ∷ []) ∷ []) ≡ None
+row509 : fault_from 0 (start (record { words = []; faults = 0 } ∷ [])) (front4 ++ Noted (Taken 1 0 (Part 8 10)) ∷ wait true [] (2 ∷ []) ∷ CanWrite 2 ∷ Asked 2 text47 ∷ wait true (2 ∷ []) [] ∷ CanRead 2 ∷ Got 2 text50 ∷ Noted (Taken 1 0 (Refuse 502)) ∷ []) ≡ Some (record { at = 42; rule = WrongDecision })
 unfolding judging
-row522 = refl
+row509 = refl
 
-row548 : fault_from 0 (start (record { words = []; faults = 0 } ∷ [])) (front0 ++ Heard 1 text1 ∷ Noted (Taken 1 0 Fetch) ∷ Dialled 2 (codes "h") 80 ∷ wait true (1 ∷ []) [] ∷ Reached 2 ∷ wait true (1 ∷ 2 ∷ []) (2 ∷ []) ∷ CanWrite 2 ∷ Asked 2 text2 ∷ wait true (1 ∷ 2 ∷ []) [] ∷ CanRead 2 ∷ Got 2 text3 ∷ Noted (Taken 1 0 (Hit 0 5)) ∷ wait true (1 ∷ 2 ∷ []) (1 ∷ []) ∷ CanWrite 1 ∷ Said 1 153 text4 ∷ wait true (1 ∷ 2 ∷ []) (1 ∷ []) ∷ CanWrite 1 ∷ Said 1 5 (codes "hello") ∷ wait true (1 ∷ 2 ∷ []) [] ∷ CanRead 1 ∷ Heard 1 text50 ∷ Noted (Taken 1 1 Pass) ∷ wait true (1 ∷ []) (2 ∷ []) ∷ CanWrite 2 ∷ Asked 2 text51 ∷ wait true (1 ∷ 2 ∷ []) [] ∷ CanRead 2 ∷ Got 2 (codes "hello\r\n") ∷ Dropped 2 ∷ Dialled 3 (codes "h") 80 ∷ wait true (1 ∷ []) [] ∷ []) ≡ None
+row518 : fault_from 0 (start (record { words = []; faults = 0 } ∷ [])) (front0 ++ Heard 1 text51 ∷ Noted (Taken 1 0 Pass) ∷ Dialled 2 (codes "h") 80 ∷ wait true (1 ∷ []) [] ∷ Reached 2 ∷ wait true (1 ∷ 2 ∷ []) (2 ∷ []) ∷ CanWrite 2 ∷ Asked 2 text52 ∷ wait true (1 ∷ 2 ∷ []) [] ∷ Opened 3 ∷ wait true (1 ∷ 2 ∷ 3 ∷ []) [] ∷ CanRead 3 ∷ Heard 3 text53 ∷ Noted (Taken 3 0 Pass) ∷ Dialled 4 (codes "h") 80 ∷ wait true (1 ∷ 2 ∷ []) [] ∷ []) ≡ None
 unfolding judging
-row548 = refl
+row518 = refl
 
-row554 : fault_from 0 (start (record { words = []; faults = 0 } ∷ [])) (front0 ++ Heard 1 text1 ∷ Noted (Taken 1 0 Fetch) ∷ Dialled 2 (codes "h") 80 ∷ wait true (1 ∷ []) [] ∷ Reached 2 ∷ wait true (1 ∷ 2 ∷ []) (2 ∷ []) ∷ CanWrite 2 ∷ Asked 2 text2 ∷ wait true (1 ∷ 2 ∷ []) [] ∷ CanRead 2 ∷ Got 2 text3 ∷ Noted (Taken 1 0 (Hit 0 5)) ∷ wait true (1 ∷ 2 ∷ []) (1 ∷ []) ∷ CanWrite 1 ∷ Said 1 153 text4 ∷ wait true (1 ∷ 2 ∷ []) (1 ∷ []) ∷ CanWrite 1 ∷ Said 1 5 (codes "hello") ∷ wait true (1 ∷ 2 ∷ []) [] ∷ CanRead 1 ∷ Heard 1 text50 ∷ Noted (Taken 1 1 Pass) ∷ wait true (1 ∷ []) (2 ∷ []) ∷ CanWrite 2 ∷ Asked 2 text51 ∷ wait true (1 ∷ 2 ∷ []) [] ∷ CanRead 2 ∷ Got 2 (codes "hello\r\n") ∷ Noted (Taken 1 1 (Refuse 502)) ∷ []) ≡ Some (record { at = 38; rule = WrongDecision })
+row536 : fault_from 0 (start (record { words = []; faults = 0 } ∷ [])) (front0 ++ Heard 1 text1 ∷ Noted (Taken 1 0 Fetch) ∷ Dialled 2 (codes "h") 80 ∷ wait true (1 ∷ []) [] ∷ Reached 2 ∷ wait true (1 ∷ 2 ∷ []) (2 ∷ []) ∷ CanWrite 2 ∷ Asked 2 text2 ∷ wait true (1 ∷ 2 ∷ []) [] ∷ CanRead 2 ∷ Got 2 text3 ∷ Noted (Taken 1 0 (Hit 0 5)) ∷ wait true (1 ∷ 2 ∷ []) (1 ∷ []) ∷ CanWrite 1 ∷ Said 1 153 text4 ∷ wait true (1 ∷ 2 ∷ []) (1 ∷ []) ∷ CanWrite 1 ∷ Said 1 5 (codes "hello") ∷ wait true (1 ∷ 2 ∷ []) [] ∷ CanRead 1 ∷ Heard 1 text51 ∷ Noted (Taken 1 1 Pass) ∷ wait true (1 ∷ []) (2 ∷ []) ∷ CanWrite 2 ∷ Asked 2 text52 ∷ wait true (1 ∷ 2 ∷ []) [] ∷ CanRead 2 ∷ Got 2 text54 ∷ Dropped 2 ∷ wait true (1 ∷ []) (1 ∷ []) ∷ []) ≡ None
 unfolding judging
-row554 = refl
+row536 = refl
 
-row574 : fault_from 0 (start (record { words = []; faults = 0 } ∷ [])) (front0 ++ Heard 1 text1 ∷ Noted (Taken 1 0 Fetch) ∷ Dialled 2 (codes "h") 80 ∷ wait true (1 ∷ []) [] ∷ Reached 2 ∷ wait true (1 ∷ 2 ∷ []) (2 ∷ []) ∷ CanWrite 2 ∷ Asked 2 text2 ∷ wait true (1 ∷ 2 ∷ []) [] ∷ CanRead 2 ∷ Got 2 text3 ∷ Noted (Taken 1 0 (Hit 0 5)) ∷ wait true (1 ∷ 2 ∷ []) (1 ∷ []) ∷ CanWrite 1 ∷ Said 1 153 text4 ∷ wait true (1 ∷ 2 ∷ []) (1 ∷ []) ∷ CanWrite 1 ∷ Said 1 5 (codes "hello") ∷ wait true (1 ∷ 2 ∷ []) [] ∷ CanRead 1 ∷ Heard 1 text54 ∷ Noted (Taken 1 1 Pass) ∷ Dialled 3 (codes "h") 80 ∷ wait true (1 ∷ 2 ∷ []) [] ∷ Reached 3 ∷ wait true (1 ∷ 2 ∷ []) (3 ∷ []) ∷ CanWrite 3 ∷ Asked 3 text55 ∷ wait true (1 ∷ 2 ∷ 3 ∷ []) [] ∷ CanRead 3 ∷ Got 3 text56 ∷ Dropped 3 ∷ wait true (1 ∷ 2 ∷ []) (1 ∷ []) ∷ []) ≡ None
+row562 : fault_from 0 (start (record { words = []; faults = 0 } ∷ [])) (front0 ++ Heard 1 text1 ∷ Noted (Taken 1 0 Fetch) ∷ Dialled 2 (codes "h") 80 ∷ wait true (1 ∷ []) [] ∷ Reached 2 ∷ wait true (1 ∷ 2 ∷ []) (2 ∷ []) ∷ CanWrite 2 ∷ Asked 2 text2 ∷ wait true (1 ∷ 2 ∷ []) [] ∷ CanRead 2 ∷ Got 2 text3 ∷ Noted (Taken 1 0 (Hit 0 5)) ∷ wait true (1 ∷ 2 ∷ []) (1 ∷ []) ∷ CanWrite 1 ∷ Said 1 153 text4 ∷ wait true (1 ∷ 2 ∷ []) (1 ∷ []) ∷ CanWrite 1 ∷ Said 1 5 (codes "hello") ∷ wait true (1 ∷ 2 ∷ []) [] ∷ CanRead 1 ∷ Heard 1 text51 ∷ Noted (Taken 1 1 Pass) ∷ wait true (1 ∷ []) (2 ∷ []) ∷ CanWrite 2 ∷ Asked 2 text52 ∷ wait true (1 ∷ 2 ∷ []) [] ∷ CanRead 2 ∷ Got 2 (codes "hello\r\n") ∷ Dropped 2 ∷ Dialled 3 (codes "h") 80 ∷ wait true (1 ∷ []) [] ∷ []) ≡ None
 unfolding judging
-row574 = refl
+row562 = refl
 
-row579 : fault_from 0 (start (record { words = []; faults = 0 } ∷ [])) (front0 ++ Heard 1 text1 ∷ Noted (Taken 1 0 Fetch) ∷ Dialled 2 (codes "h") 80 ∷ wait true (1 ∷ []) [] ∷ Reached 2 ∷ wait true (1 ∷ 2 ∷ []) (2 ∷ []) ∷ CanWrite 2 ∷ Asked 2 text2 ∷ wait true (1 ∷ 2 ∷ []) [] ∷ CanRead 2 ∷ Got 2 text3 ∷ Noted (Taken 1 0 (Hit 0 5)) ∷ wait true (1 ∷ 2 ∷ []) (1 ∷ []) ∷ CanWrite 1 ∷ Said 1 153 text4 ∷ wait true (1 ∷ 2 ∷ []) (1 ∷ []) ∷ CanWrite 1 ∷ Said 1 5 (codes "hello") ∷ wait true (1 ∷ 2 ∷ []) [] ∷ CanRead 1 ∷ Heard 1 text54 ∷ Noted (Taken 1 1 Pass) ∷ Dialled 3 (codes "h") 80 ∷ wait true (1 ∷ 2 ∷ []) [] ∷ Reached 3 ∷ wait true (1 ∷ 2 ∷ []) (3 ∷ []) ∷ CanWrite 3 ∷ Asked 3 text55 ∷ wait true (1 ∷ 2 ∷ 3 ∷ []) [] ∷ CanRead 3 ∷ Got 3 text56 ∷ wait true (1 ∷ 2 ∷ 3 ∷ []) (1 ∷ []) ∷ []) ≡ Some (record { at = 41; rule = StepUnfinished })
+row568 : fault_from 0 (start (record { words = []; faults = 0 } ∷ [])) (front0 ++ Heard 1 text1 ∷ Noted (Taken 1 0 Fetch) ∷ Dialled 2 (codes "h") 80 ∷ wait true (1 ∷ []) [] ∷ Reached 2 ∷ wait true (1 ∷ 2 ∷ []) (2 ∷ []) ∷ CanWrite 2 ∷ Asked 2 text2 ∷ wait true (1 ∷ 2 ∷ []) [] ∷ CanRead 2 ∷ Got 2 text3 ∷ Noted (Taken 1 0 (Hit 0 5)) ∷ wait true (1 ∷ 2 ∷ []) (1 ∷ []) ∷ CanWrite 1 ∷ Said 1 153 text4 ∷ wait true (1 ∷ 2 ∷ []) (1 ∷ []) ∷ CanWrite 1 ∷ Said 1 5 (codes "hello") ∷ wait true (1 ∷ 2 ∷ []) [] ∷ CanRead 1 ∷ Heard 1 text51 ∷ Noted (Taken 1 1 Pass) ∷ wait true (1 ∷ []) (2 ∷ []) ∷ CanWrite 2 ∷ Asked 2 text52 ∷ wait true (1 ∷ 2 ∷ []) [] ∷ CanRead 2 ∷ Got 2 (codes "hello\r\n") ∷ Noted (Taken 1 1 (Refuse 502)) ∷ []) ≡ Some (record { at = 38; rule = WrongDecision })
 unfolding judging
-row579 = refl
+row568 = refl
 
-row605 : fault_from 0 (start (record { words = []; faults = 0 } ∷ [])) (front0 ++ Heard 1 text57 ∷ Noted (Taken 1 0 Fetch) ∷ Dialled 2 (codes "h") 80 ∷ wait true [] [] ∷ Reached 2 ∷ wait true [] (2 ∷ []) ∷ CanWrite 2 ∷ Asked 2 text58 ∷ wait true (2 ∷ []) [] ∷ CanRead 2 ∷ Got 2 text59 ∷ Noted (Taken 1 0 (Part 0 4000000)) ∷ wait true (2 ∷ []) (1 ∷ []) ∷ Opened 3 ∷ wait true (2 ∷ 3 ∷ []) (1 ∷ []) ∷ CanRead 3 ∷ Heard 3 text60 ∷ Noted (Taken 3 0 (Part 3000000 3000004)) ∷ Dialled 4 (codes "h") 80 ∷ wait true (2 ∷ []) (1 ∷ []) ∷ []) ≡ None
+row588 : fault_from 0 (start (record { words = []; faults = 0 } ∷ [])) (front0 ++ Heard 1 text1 ∷ Noted (Taken 1 0 Fetch) ∷ Dialled 2 (codes "h") 80 ∷ wait true (1 ∷ []) [] ∷ Reached 2 ∷ wait true (1 ∷ 2 ∷ []) (2 ∷ []) ∷ CanWrite 2 ∷ Asked 2 text2 ∷ wait true (1 ∷ 2 ∷ []) [] ∷ CanRead 2 ∷ Got 2 text3 ∷ Noted (Taken 1 0 (Hit 0 5)) ∷ wait true (1 ∷ 2 ∷ []) (1 ∷ []) ∷ CanWrite 1 ∷ Said 1 153 text4 ∷ wait true (1 ∷ 2 ∷ []) (1 ∷ []) ∷ CanWrite 1 ∷ Said 1 5 (codes "hello") ∷ wait true (1 ∷ 2 ∷ []) [] ∷ CanRead 1 ∷ Heard 1 text55 ∷ Noted (Taken 1 1 Pass) ∷ Dialled 3 (codes "h") 80 ∷ wait true (1 ∷ 2 ∷ []) [] ∷ Reached 3 ∷ wait true (1 ∷ 2 ∷ []) (3 ∷ []) ∷ CanWrite 3 ∷ Asked 3 text56 ∷ wait true (1 ∷ 2 ∷ 3 ∷ []) [] ∷ CanRead 3 ∷ Got 3 text57 ∷ Dropped 3 ∷ wait true (1 ∷ 2 ∷ []) (1 ∷ []) ∷ []) ≡ None
 unfolding judging
-row605 = refl
+row588 = refl
 
-row612 : fault_from 0 (start (record { words = []; faults = 0 } ∷ [])) (front0 ++ Heard 1 text57 ∷ Noted (Taken 1 0 Fetch) ∷ Dialled 2 (codes "h") 80 ∷ wait true [] [] ∷ Reached 2 ∷ wait true [] (2 ∷ []) ∷ CanWrite 2 ∷ Asked 2 text58 ∷ wait true (2 ∷ []) [] ∷ CanRead 2 ∷ Got 2 text59 ∷ Noted (Taken 1 0 (Part 0 4000000)) ∷ wait true (2 ∷ []) (1 ∷ []) ∷ Opened 3 ∷ wait true (2 ∷ 3 ∷ []) (1 ∷ []) ∷ CanRead 3 ∷ Heard 3 text61 ∷ Noted (Taken 3 0 (Part 1000000 1000004)) ∷ wait true (2 ∷ []) (1 ∷ []) ∷ []) ≡ None
+row593 : fault_from 0 (start (record { words = []; faults = 0 } ∷ [])) (front0 ++ Heard 1 text1 ∷ Noted (Taken 1 0 Fetch) ∷ Dialled 2 (codes "h") 80 ∷ wait true (1 ∷ []) [] ∷ Reached 2 ∷ wait true (1 ∷ 2 ∷ []) (2 ∷ []) ∷ CanWrite 2 ∷ Asked 2 text2 ∷ wait true (1 ∷ 2 ∷ []) [] ∷ CanRead 2 ∷ Got 2 text3 ∷ Noted (Taken 1 0 (Hit 0 5)) ∷ wait true (1 ∷ 2 ∷ []) (1 ∷ []) ∷ CanWrite 1 ∷ Said 1 153 text4 ∷ wait true (1 ∷ 2 ∷ []) (1 ∷ []) ∷ CanWrite 1 ∷ Said 1 5 (codes "hello") ∷ wait true (1 ∷ 2 ∷ []) [] ∷ CanRead 1 ∷ Heard 1 text55 ∷ Noted (Taken 1 1 Pass) ∷ Dialled 3 (codes "h") 80 ∷ wait true (1 ∷ 2 ∷ []) [] ∷ Reached 3 ∷ wait true (1 ∷ 2 ∷ []) (3 ∷ []) ∷ CanWrite 3 ∷ Asked 3 text56 ∷ wait true (1 ∷ 2 ∷ 3 ∷ []) [] ∷ CanRead 3 ∷ Got 3 text57 ∷ wait true (1 ∷ 2 ∷ 3 ∷ []) (1 ∷ []) ∷ []) ≡ Some (record { at = 41; rule = StepUnfinished })
 unfolding judging
-row612 = refl
+row593 = refl
 
-row636 : fault_from 0 (start (record { words = []; faults = 0 } ∷ [])) (front0 ++ Heard 1 text57 ∷ Noted (Taken 1 0 Fetch) ∷ Dialled 2 (codes "h") 80 ∷ wait true [] [] ∷ Reached 2 ∷ wait true [] (2 ∷ []) ∷ CanWrite 2 ∷ Asked 2 text58 ∷ wait true (2 ∷ []) [] ∷ CanRead 2 ∷ Got 2 text59 ∷ Noted (Taken 1 0 (Part 0 4000000)) ∷ wait true (2 ∷ []) (1 ∷ []) ∷ Opened 3 ∷ wait true (2 ∷ 3 ∷ []) (1 ∷ []) ∷ CanRead 3 ∷ Heard 3 text60 ∷ Noted (Taken 3 0 (Part 3000000 3000004)) ∷ Dialled 4 (codes "h") 80 ∷ wait true (2 ∷ []) (1 ∷ []) ∷ CanWrite 1 ∷ HungUp 1 ∷ Shut 1 ∷ Dropped 2 ∷ wait true [] [] ∷ []) ≡ None
+row619 : fault_from 0 (start (record { words = []; faults = 0 } ∷ [])) (front0 ++ Heard 1 text58 ∷ Noted (Taken 1 0 Fetch) ∷ Dialled 2 (codes "h") 80 ∷ wait true [] [] ∷ Reached 2 ∷ wait true [] (2 ∷ []) ∷ CanWrite 2 ∷ Asked 2 text59 ∷ wait true (2 ∷ []) [] ∷ CanRead 2 ∷ Got 2 text60 ∷ Noted (Taken 1 0 (Part 0 4000000)) ∷ wait true (2 ∷ []) (1 ∷ []) ∷ Opened 3 ∷ wait true (2 ∷ 3 ∷ []) (1 ∷ []) ∷ CanRead 3 ∷ Heard 3 text61 ∷ Noted (Taken 3 0 (Part 3000000 3000004)) ∷ Dialled 4 (codes "h") 80 ∷ wait true (2 ∷ []) (1 ∷ []) ∷ []) ≡ None
 unfolding judging
-row636 = refl
+row619 = refl
 
-row641 : fault_from 0 (start (record { words = []; faults = 0 } ∷ [])) (front0 ++ Heard 1 text57 ∷ Noted (Taken 1 0 Fetch) ∷ Dialled 2 (codes "h") 80 ∷ wait true [] [] ∷ Reached 2 ∷ wait true [] (2 ∷ []) ∷ CanWrite 2 ∷ Asked 2 text58 ∷ wait true (2 ∷ []) [] ∷ CanRead 2 ∷ Got 2 text59 ∷ Noted (Taken 1 0 (Part 0 4000000)) ∷ wait true (2 ∷ []) (1 ∷ []) ∷ Opened 3 ∷ wait true (2 ∷ 3 ∷ []) (1 ∷ []) ∷ CanRead 3 ∷ Heard 3 text60 ∷ Noted (Taken 3 0 (Part 3000000 3000004)) ∷ Dialled 4 (codes "h") 80 ∷ wait true (2 ∷ []) (1 ∷ []) ∷ CanWrite 1 ∷ HungUp 1 ∷ Shut 1 ∷ wait true (2 ∷ []) [] ∷ []) ≡ Some (record { at = 33; rule = StepUnfinished })
+row626 : fault_from 0 (start (record { words = []; faults = 0 } ∷ [])) (front0 ++ Heard 1 text58 ∷ Noted (Taken 1 0 Fetch) ∷ Dialled 2 (codes "h") 80 ∷ wait true [] [] ∷ Reached 2 ∷ wait true [] (2 ∷ []) ∷ CanWrite 2 ∷ Asked 2 text59 ∷ wait true (2 ∷ []) [] ∷ CanRead 2 ∷ Got 2 text60 ∷ Noted (Taken 1 0 (Part 0 4000000)) ∷ wait true (2 ∷ []) (1 ∷ []) ∷ Opened 3 ∷ wait true (2 ∷ 3 ∷ []) (1 ∷ []) ∷ CanRead 3 ∷ Heard 3 text62 ∷ Noted (Taken 3 0 (Part 1000000 1000004)) ∷ wait true (2 ∷ []) (1 ∷ []) ∷ []) ≡ None
 unfolding judging
-row641 = refl
+row626 = refl
 
-row646 : fault_from 0 (start (record { words = []; faults = 0 } ∷ [])) (front0 ++ Heard 1 text57 ∷ Noted (Taken 1 0 Fetch) ∷ Dialled 2 (codes "h") 80 ∷ wait true [] [] ∷ Reached 2 ∷ wait true [] (2 ∷ []) ∷ CanWrite 2 ∷ Asked 2 text58 ∷ wait true (2 ∷ []) [] ∷ CanRead 2 ∷ Got 2 text59 ∷ Noted (Taken 1 0 (Part 0 4000000)) ∷ wait true (2 ∷ []) (1 ∷ []) ∷ Opened 3 ∷ wait true (2 ∷ 3 ∷ []) (1 ∷ []) ∷ CanRead 3 ∷ Heard 3 text61 ∷ Noted (Taken 3 0 (Part 1000000 1000004)) ∷ wait true (2 ∷ []) (1 ∷ []) ∷ CanWrite 1 ∷ HungUp 1 ∷ Shut 1 ∷ wait true (2 ∷ []) [] ∷ []) ≡ None
-unfolding judging
-row646 = refl
-
-row650 : fault_from 0 (start (record { words = []; faults = 0 } ∷ [])) (front0 ++ Heard 1 text57 ∷ Noted (Taken 1 0 Fetch) ∷ Dialled 2 (codes "h") 80 ∷ wait true [] [] ∷ Reached 2 ∷ wait true [] (2 ∷ []) ∷ CanWrite 2 ∷ Asked 2 text58 ∷ wait true (2 ∷ []) [] ∷ CanRead 2 ∷ Got 2 text59 ∷ Noted (Taken 1 0 (Part 0 4000000)) ∷ wait true (2 ∷ []) (1 ∷ []) ∷ Opened 3 ∷ wait true (2 ∷ 3 ∷ []) (1 ∷ []) ∷ CanRead 3 ∷ Heard 3 text61 ∷ Noted (Taken 3 0 (Part 1000000 1000004)) ∷ wait true (2 ∷ []) (1 ∷ []) ∷ CanWrite 1 ∷ HungUp 1 ∷ Shut 1 ∷ Dropped 2 ∷ []) ≡ Some (record { at = 32; rule = NotToBeClosed })
+row650 : fault_from 0 (start (record { words = []; faults = 0 } ∷ [])) (front0 ++ Heard 1 text58 ∷ Noted (Taken 1 0 Fetch) ∷ Dialled 2 (codes "h") 80 ∷ wait true [] [] ∷ Reached 2 ∷ wait true [] (2 ∷ []) ∷ CanWrite 2 ∷ Asked 2 text59 ∷ wait true (2 ∷ []) [] ∷ CanRead 2 ∷ Got 2 text60 ∷ Noted (Taken 1 0 (Part 0 4000000)) ∷ wait true (2 ∷ []) (1 ∷ []) ∷ Opened 3 ∷ wait true (2 ∷ 3 ∷ []) (1 ∷ []) ∷ CanRead 3 ∷ Heard 3 text61 ∷ Noted (Taken 3 0 (Part 3000000 3000004)) ∷ Dialled 4 (codes "h") 80 ∷ wait true (2 ∷ []) (1 ∷ []) ∷ CanWrite 1 ∷ HungUp 1 ∷ Shut 1 ∷ Dropped 2 ∷ wait true [] [] ∷ []) ≡ None
 unfolding judging
 row650 = refl
 
-row683 : fault_from 0 (start (record { words = []; faults = 0 } ∷ [])) (front0 ++ Heard 1 text57 ∷ Noted (Taken 1 0 Fetch) ∷ Dialled 2 (codes "h") 80 ∷ wait true [] [] ∷ Reached 2 ∷ wait true [] (2 ∷ []) ∷ CanWrite 2 ∷ Asked 2 text58 ∷ wait true (2 ∷ []) [] ∷ CanRead 2 ∷ Got 2 text59 ∷ Noted (Taken 1 0 (Part 0 4000000)) ∷ wait true (2 ∷ []) (1 ∷ []) ∷ Opened 3 ∷ wait true (2 ∷ 3 ∷ []) (1 ∷ []) ∷ CanRead 3 ∷ Heard 3 text62 ∷ Noted (Taken 3 0 (Part 1499136 2000000)) ∷ Dialled 4 (codes "h") 80 ∷ wait true (2 ∷ []) (1 ∷ []) ∷ Reached 4 ∷ wait true (2 ∷ []) (1 ∷ 4 ∷ []) ∷ CanWrite 4 ∷ Asked 4 text63 ∷ wait true (2 ∷ 4 ∷ []) (1 ∷ []) ∷ CanRead 4 ∷ Got 4 text64 ∷ wait true (2 ∷ 4 ∷ []) (1 ∷ 3 ∷ []) ∷ Opened 5 ∷ wait true (2 ∷ 4 ∷ 5 ∷ []) (1 ∷ 3 ∷ []) ∷ CanRead 5 ∷ Heard 5 text65 ∷ Noted (Taken 5 0 (Part 2998272 4000000)) ∷ Dialled 6 (codes "h") 80 ∷ wait true (2 ∷ 4 ∷ []) (1 ∷ 3 ∷ []) ∷ CanWrite 3 ∷ HungUp 3 ∷ Shut 3 ∷ wait true (2 ∷ []) (1 ∷ []) ∷ []) ≡ None
+row655 : fault_from 0 (start (record { words = []; faults = 0 } ∷ [])) (front0 ++ Heard 1 text58 ∷ Noted (Taken 1 0 Fetch) ∷ Dialled 2 (codes "h") 80 ∷ wait true [] [] ∷ Reached 2 ∷ wait true [] (2 ∷ []) ∷ CanWrite 2 ∷ Asked 2 text59 ∷ wait true (2 ∷ []) [] ∷ CanRead 2 ∷ Got 2 text60 ∷ Noted (Taken 1 0 (Part 0 4000000)) ∷ wait true (2 ∷ []) (1 ∷ []) ∷ Opened 3 ∷ wait true (2 ∷ 3 ∷ []) (1 ∷ []) ∷ CanRead 3 ∷ Heard 3 text61 ∷ Noted (Taken 3 0 (Part 3000000 3000004)) ∷ Dialled 4 (codes "h") 80 ∷ wait true (2 ∷ []) (1 ∷ []) ∷ CanWrite 1 ∷ HungUp 1 ∷ Shut 1 ∷ wait true (2 ∷ []) [] ∷ []) ≡ Some (record { at = 33; rule = StepUnfinished })
 unfolding judging
-row683 = refl
+row655 = refl
 
-row687 : fault_from 0 (start (record { words = []; faults = 0 } ∷ [])) (front0 ++ Heard 1 text57 ∷ Noted (Taken 1 0 Fetch) ∷ Dialled 2 (codes "h") 80 ∷ wait true [] [] ∷ Reached 2 ∷ wait true [] (2 ∷ []) ∷ CanWrite 2 ∷ Asked 2 text58 ∷ wait true (2 ∷ []) [] ∷ CanRead 2 ∷ Got 2 text59 ∷ Noted (Taken 1 0 (Part 0 4000000)) ∷ wait true (2 ∷ []) (1 ∷ []) ∷ Opened 3 ∷ wait true (2 ∷ 3 ∷ []) (1 ∷ []) ∷ CanRead 3 ∷ Heard 3 text62 ∷ Noted (Taken 3 0 (Part 1499136 2000000)) ∷ Dialled 4 (codes "h") 80 ∷ wait true (2 ∷ []) (1 ∷ []) ∷ Reached 4 ∷ wait true (2 ∷ []) (1 ∷ 4 ∷ []) ∷ CanWrite 4 ∷ Asked 4 text63 ∷ wait true (2 ∷ 4 ∷ []) (1 ∷ []) ∷ CanRead 4 ∷ Got 4 text64 ∷ wait true (2 ∷ 4 ∷ []) (1 ∷ 3 ∷ []) ∷ Opened 5 ∷ wait true (2 ∷ 4 ∷ 5 ∷ []) (1 ∷ 3 ∷ []) ∷ CanRead 5 ∷ Heard 5 text65 ∷ Noted (Taken 5 0 (Part 2998272 4000000)) ∷ Dialled 6 (codes "h") 80 ∷ wait true (2 ∷ 4 ∷ []) (1 ∷ 3 ∷ []) ∷ CanWrite 3 ∷ HungUp 3 ∷ Shut 3 ∷ wait true (2 ∷ 4 ∷ []) (1 ∷ []) ∷ []) ≡ Some (record { at = 48; rule = ConnectionForgotten })
+row660 : fault_from 0 (start (record { words = []; faults = 0 } ∷ [])) (front0 ++ Heard 1 text58 ∷ Noted (Taken 1 0 Fetch) ∷ Dialled 2 (codes "h") 80 ∷ wait true [] [] ∷ Reached 2 ∷ wait true [] (2 ∷ []) ∷ CanWrite 2 ∷ Asked 2 text59 ∷ wait true (2 ∷ []) [] ∷ CanRead 2 ∷ Got 2 text60 ∷ Noted (Taken 1 0 (Part 0 4000000)) ∷ wait true (2 ∷ []) (1 ∷ []) ∷ Opened 3 ∷ wait true (2 ∷ 3 ∷ []) (1 ∷ []) ∷ CanRead 3 ∷ Heard 3 text62 ∷ Noted (Taken 3 0 (Part 1000000 1000004)) ∷ wait true (2 ∷ []) (1 ∷ []) ∷ CanWrite 1 ∷ HungUp 1 ∷ Shut 1 ∷ wait true (2 ∷ []) [] ∷ []) ≡ None
 unfolding judging
-row687 = refl
+row660 = refl
 
-row709 : fault_from 0 (start (record { words = []; faults = 0 } ∷ [])) (front0 ++ Heard 1 text60 ∷ Noted (Taken 1 0 Fetch) ∷ Dialled 2 (codes "h") 80 ∷ wait true [] [] ∷ Reached 2 ∷ wait true [] (2 ∷ []) ∷ CanWrite 2 ∷ Asked 2 text66 ∷ wait true (2 ∷ []) [] ∷ CanRead 2 ∷ Got 2 text59 ∷ Noted (Taken 1 0 (Part 3000000 3000004)) ∷ wait true (2 ∷ []) [] ∷ CanRead 2 ∷ Got 2 text67 ∷ wait true (2 ∷ []) [] ∷ []) ≡ None
+row664 : fault_from 0 (start (record { words = []; faults = 0 } ∷ [])) (front0 ++ Heard 1 text58 ∷ Noted (Taken 1 0 Fetch) ∷ Dialled 2 (codes "h") 80 ∷ wait true [] [] ∷ Reached 2 ∷ wait true [] (2 ∷ []) ∷ CanWrite 2 ∷ Asked 2 text59 ∷ wait true (2 ∷ []) [] ∷ CanRead 2 ∷ Got 2 text60 ∷ Noted (Taken 1 0 (Part 0 4000000)) ∷ wait true (2 ∷ []) (1 ∷ []) ∷ Opened 3 ∷ wait true (2 ∷ 3 ∷ []) (1 ∷ []) ∷ CanRead 3 ∷ Heard 3 text62 ∷ Noted (Taken 3 0 (Part 1000000 1000004)) ∷ wait true (2 ∷ []) (1 ∷ []) ∷ CanWrite 1 ∷ HungUp 1 ∷ Shut 1 ∷ Dropped 2 ∷ []) ≡ Some (record { at = 32; rule = NotToBeClosed })
 unfolding judging
-row709 = refl
+row664 = refl
 
-row716 : fault_from 0 (start (record { words = []; faults = 0 } ∷ [])) (front0 ++ Heard 1 text60 ∷ Noted (Taken 1 0 Fetch) ∷ Dialled 2 (codes "h") 80 ∷ wait true [] [] ∷ Reached 2 ∷ wait true [] (2 ∷ []) ∷ CanWrite 2 ∷ Asked 2 text66 ∷ wait true (2 ∷ []) [] ∷ CanRead 2 ∷ Got 2 text59 ∷ Noted (Taken 1 0 (Part 3000000 3000004)) ∷ Dialled 3 (codes "h") 80 ∷ []) ≡ Some (record { at = 22; rule = NotToBeDialled })
+row697 : fault_from 0 (start (record { words = []; faults = 0 } ∷ [])) (front0 ++ Heard 1 text58 ∷ Noted (Taken 1 0 Fetch) ∷ Dialled 2 (codes "h") 80 ∷ wait true [] [] ∷ Reached 2 ∷ wait true [] (2 ∷ []) ∷ CanWrite 2 ∷ Asked 2 text59 ∷ wait true (2 ∷ []) [] ∷ CanRead 2 ∷ Got 2 text60 ∷ Noted (Taken 1 0 (Part 0 4000000)) ∷ wait true (2 ∷ []) (1 ∷ []) ∷ Opened 3 ∷ wait true (2 ∷ 3 ∷ []) (1 ∷ []) ∷ CanRead 3 ∷ Heard 3 text63 ∷ Noted (Taken 3 0 (Part 1499136 2000000)) ∷ Dialled 4 (codes "h") 80 ∷ wait true (2 ∷ []) (1 ∷ []) ∷ Reached 4 ∷ wait true (2 ∷ []) (1 ∷ 4 ∷ []) ∷ CanWrite 4 ∷ Asked 4 text64 ∷ wait true (2 ∷ 4 ∷ []) (1 ∷ []) ∷ CanRead 4 ∷ Got 4 text65 ∷ wait true (2 ∷ 4 ∷ []) (1 ∷ 3 ∷ []) ∷ Opened 5 ∷ wait true (2 ∷ 4 ∷ 5 ∷ []) (1 ∷ 3 ∷ []) ∷ CanRead 5 ∷ Heard 5 text66 ∷ Noted (Taken 5 0 (Part 2998272 4000000)) ∷ Dialled 6 (codes "h") 80 ∷ wait true (2 ∷ 4 ∷ []) (1 ∷ 3 ∷ []) ∷ CanWrite 3 ∷ HungUp 3 ∷ Shut 3 ∷ wait true (2 ∷ []) (1 ∷ []) ∷ []) ≡ None
 unfolding judging
-row716 = refl
+row697 = refl
 
-row743 : fault_from 0 (start (record { words = []; faults = 0 } ∷ [])) (front0 ++ Heard 1 text57 ∷ Noted (Taken 1 0 Fetch) ∷ Dialled 2 (codes "h") 80 ∷ wait true [] [] ∷ Reached 2 ∷ wait true [] (2 ∷ []) ∷ CanWrite 2 ∷ Asked 2 text58 ∷ wait true (2 ∷ []) [] ∷ CanRead 2 ∷ Got 2 text59 ∷ Noted (Taken 1 0 (Part 0 4000000)) ∷ wait true (2 ∷ []) (1 ∷ []) ∷ Opened 3 ∷ wait true (2 ∷ 3 ∷ []) (1 ∷ []) ∷ CanRead 3 ∷ Heard 3 text60 ∷ Noted (Taken 3 0 (Part 3000000 3000004)) ∷ Dialled 4 (codes "h") 80 ∷ wait true (2 ∷ []) (1 ∷ []) ∷ Reached 4 ∷ wait true (2 ∷ []) (1 ∷ 4 ∷ []) ∷ CanWrite 4 ∷ Asked 4 text68 ∷ wait true (2 ∷ 4 ∷ []) (1 ∷ []) ∷ CanRead 4 ∷ Got 4 text59 ∷ wait true (2 ∷ 4 ∷ []) (1 ∷ []) ∷ []) ≡ None
+row701 : fault_from 0 (start (record { words = []; faults = 0 } ∷ [])) (front0 ++ Heard 1 text58 ∷ Noted (Taken 1 0 Fetch) ∷ Dialled 2 (codes "h") 80 ∷ wait true [] [] ∷ Reached 2 ∷ wait true [] (2 ∷ []) ∷ CanWrite 2 ∷ Asked 2 text59 ∷ wait true (2 ∷ []) [] ∷ CanRead 2 ∷ Got 2 text60 ∷ Noted (Taken 1 0 (Part 0 4000000)) ∷ wait true (2 ∷ []) (1 ∷ []) ∷ Opened 3 ∷ wait true (2 ∷ 3 ∷ []) (1 ∷ []) ∷ CanRead 3 ∷ Heard 3 text63 ∷ Noted (Taken 3 0 (Part 1499136 2000000)) ∷ Dialled 4 (codes "h") 80 ∷ wait true (2 ∷ []) (1 ∷ []) ∷ Reached 4 ∷ wait true (2 ∷ []) (1 ∷ 4 ∷ []) ∷ CanWrite 4 ∷ Asked 4 text64 ∷ wait true (2 ∷ 4 ∷ []) (1 ∷ []) ∷ CanRead 4 ∷ Got 4 text65 ∷ wait true (2 ∷ 4 ∷ []) (1 ∷ 3 ∷ []) ∷ Opened 5 ∷ wait true (2 ∷ 4 ∷ 5 ∷ []) (1 ∷ 3 ∷ []) ∷ CanRead 5 ∷ Heard 5 text66 ∷ Noted (Taken 5 0 (Part 2998272 4000000)) ∷ Dialled 6 (codes "h") 80 ∷ wait true (2 ∷ 4 ∷ []) (1 ∷ 3 ∷ []) ∷ CanWrite 3 ∷ HungUp 3 ∷ Shut 3 ∷ wait true (2 ∷ 4 ∷ []) (1 ∷ []) ∷ []) ≡ Some (record { at = 48; rule = ConnectionForgotten })
 unfolding judging
-row743 = refl
+row701 = refl
 
-row747 : fault_from 0 (start (record { words = []; faults = 0 } ∷ [])) (front0 ++ Heard 1 text57 ∷ Noted (Taken 1 0 Fetch) ∷ Dialled 2 (codes "h") 80 ∷ wait true [] [] ∷ Reached 2 ∷ wait true [] (2 ∷ []) ∷ CanWrite 2 ∷ Asked 2 text58 ∷ wait true (2 ∷ []) [] ∷ CanRead 2 ∷ Got 2 text59 ∷ Noted (Taken 1 0 (Part 0 4000000)) ∷ wait true (2 ∷ []) (1 ∷ []) ∷ Opened 3 ∷ wait true (2 ∷ 3 ∷ []) (1 ∷ []) ∷ CanRead 3 ∷ Heard 3 text60 ∷ Noted (Taken 3 0 (Part 3000000 3000004)) ∷ Dialled 4 (codes "h") 80 ∷ wait true (2 ∷ []) (1 ∷ []) ∷ Reached 4 ∷ wait true (2 ∷ []) (1 ∷ 4 ∷ []) ∷ CanWrite 4 ∷ Asked 4 text68 ∷ wait true (2 ∷ 4 ∷ []) (1 ∷ []) ∷ CanRead 4 ∷ Got 4 text59 ∷ Dialled 5 (codes "h") 80 ∷ []) ≡ Some (record { at = 37; rule = NotToBeDialled })
+row723 : fault_from 0 (start (record { words = []; faults = 0 } ∷ [])) (front0 ++ Heard 1 text61 ∷ Noted (Taken 1 0 Fetch) ∷ Dialled 2 (codes "h") 80 ∷ wait true [] [] ∷ Reached 2 ∷ wait true [] (2 ∷ []) ∷ CanWrite 2 ∷ Asked 2 text67 ∷ wait true (2 ∷ []) [] ∷ CanRead 2 ∷ Got 2 text60 ∷ Noted (Taken 1 0 (Part 3000000 3000004)) ∷ wait true (2 ∷ []) [] ∷ CanRead 2 ∷ Got 2 text68 ∷ wait true (2 ∷ []) [] ∷ []) ≡ None
 unfolding judging
-row747 = refl
+row723 = refl
 
-row752 : fault_from 0 (start (record { words = []; faults = 0 } ∷ [])) (front0 ++ Heard 1 text57 ∷ Noted (Taken 1 0 Fetch) ∷ Dialled 2 (codes "h") 80 ∷ wait true [] [] ∷ Reached 2 ∷ wait true [] (2 ∷ []) ∷ CanWrite 2 ∷ Asked 2 text58 ∷ wait true (2 ∷ []) [] ∷ CanRead 2 ∷ Got 2 text59 ∷ Noted (Taken 1 0 (Part 0 4000000)) ∷ wait true (2 ∷ []) (1 ∷ []) ∷ Opened 3 ∷ wait true (2 ∷ 3 ∷ []) (1 ∷ []) ∷ CanRead 3 ∷ Heard 3 text60 ∷ Noted (Taken 3 0 (Part 3000000 3000004)) ∷ Dialled 4 (codes "h") 80 ∷ wait true (2 ∷ []) (1 ∷ []) ∷ Reached 4 ∷ wait true (2 ∷ []) (1 ∷ 4 ∷ []) ∷ CanWrite 4 ∷ Asked 4 text68 ∷ wait true (2 ∷ 4 ∷ []) (1 ∷ []) ∷ CanRead 4 ∷ Got 4 text69 ∷ Noted (Taken 3 0 (Part 3000000 3000004)) ∷ Dialled 5 (codes "h") 80 ∷ wait true (2 ∷ 4 ∷ []) (1 ∷ []) ∷ []) ≡ None
+row730 : fault_from 0 (start (record { words = []; faults = 0 } ∷ [])) (front0 ++ Heard 1 text61 ∷ Noted (Taken 1 0 Fetch) ∷ Dialled 2 (codes "h") 80 ∷ wait true [] [] ∷ Reached 2 ∷ wait true [] (2 ∷ []) ∷ CanWrite 2 ∷ Asked 2 text67 ∷ wait true (2 ∷ []) [] ∷ CanRead 2 ∷ Got 2 text60 ∷ Noted (Taken 1 0 (Part 3000000 3000004)) ∷ Dialled 3 (codes "h") 80 ∷ []) ≡ Some (record { at = 22; rule = NotToBeDialled })
 unfolding judging
-row752 = refl
+row730 = refl
 
-row757 : fault_from 0 (start (record { words = []; faults = 0 } ∷ [])) (front0 ++ Heard 1 text57 ∷ Noted (Taken 1 0 Fetch) ∷ Dialled 2 (codes "h") 80 ∷ wait true [] [] ∷ Reached 2 ∷ wait true [] (2 ∷ []) ∷ CanWrite 2 ∷ Asked 2 text58 ∷ wait true (2 ∷ []) [] ∷ CanRead 2 ∷ Got 2 text59 ∷ Noted (Taken 1 0 (Part 0 4000000)) ∷ wait true (2 ∷ []) (1 ∷ []) ∷ Opened 3 ∷ wait true (2 ∷ 3 ∷ []) (1 ∷ []) ∷ CanRead 3 ∷ Heard 3 text60 ∷ Noted (Taken 3 0 (Part 3000000 3000004)) ∷ Dialled 4 (codes "h") 80 ∷ wait true (2 ∷ []) (1 ∷ []) ∷ Reached 4 ∷ wait true (2 ∷ []) (1 ∷ 4 ∷ []) ∷ CanWrite 4 ∷ Asked 4 text68 ∷ wait true (2 ∷ 4 ∷ []) (1 ∷ []) ∷ CanRead 4 ∷ Got 4 text69 ∷ Noted (Taken 3 0 (Part 3000000 3000004)) ∷ wait true (2 ∷ 4 ∷ []) (1 ∷ []) ∷ []) ≡ Some (record { at = 38; rule = StepUnfinished })
+row757 : fault_from 0 (start (record { words = []; faults = 0 } ∷ [])) (front0 ++ Heard 1 text58 ∷ Noted (Taken 1 0 Fetch) ∷ Dialled 2 (codes "h") 80 ∷ wait true [] [] ∷ Reached 2 ∷ wait true [] (2 ∷ []) ∷ CanWrite 2 ∷ Asked 2 text59 ∷ wait true (2 ∷ []) [] ∷ CanRead 2 ∷ Got 2 text60 ∷ Noted (Taken 1 0 (Part 0 4000000)) ∷ wait true (2 ∷ []) (1 ∷ []) ∷ Opened 3 ∷ wait true (2 ∷ 3 ∷ []) (1 ∷ []) ∷ CanRead 3 ∷ Heard 3 text61 ∷ Noted (Taken 3 0 (Part 3000000 3000004)) ∷ Dialled 4 (codes "h") 80 ∷ wait true (2 ∷ []) (1 ∷ []) ∷ Reached 4 ∷ wait true (2 ∷ []) (1 ∷ 4 ∷ []) ∷ CanWrite 4 ∷ Asked 4 text69 ∷ wait true (2 ∷ 4 ∷ []) (1 ∷ []) ∷ CanRead 4 ∷ Got 4 text60 ∷ wait true (2 ∷ 4 ∷ []) (1 ∷ []) ∷ []) ≡ None
 unfolding judging
 row757 = refl
 
-row820 : fault_from 0 (start (record { words = []; faults = 0 } ∷ [])) (front0 ++ Heard 1 text1 ∷ Noted (Taken 1 0 Fetch) ∷ Dialled 2 (codes "h") 80 ∷ wait true [] [] ∷ Reached 2 ∷ wait true [] (2 ∷ []) ∷ CanWrite 2 ∷ Asked 2 text2 ∷ wait true (2 ∷ []) [] ∷ CanRead 2 ∷ Got 2 text70 ∷ Noted (Taken 1 0 (Hit 0 5)) ∷ wait true (2 ∷ []) (1 ∷ []) ∷ Opened 3 ∷ wait true (2 ∷ 3 ∷ []) (1 ∷ []) ∷ CanRead 3 ∷ Heard 3 text1 ∷ Noted (Taken 3 0 (Hit 0 5)) ∷ []) ≡ None
+row761 : fault_from 0 (start (record { words = []; faults = 0 } ∷ [])) (front0 ++ Heard 1 text58 ∷ Noted (Taken 1 0 Fetch) ∷ Dialled 2 (codes "h") 80 ∷ wait true [] [] ∷ Reached 2 ∷ wait true [] (2 ∷ []) ∷ CanWrite 2 ∷ Asked 2 text59 ∷ wait true (2 ∷ []) [] ∷ CanRead 2 ∷ Got 2 text60 ∷ Noted (Taken 1 0 (Part 0 4000000)) ∷ wait true (2 ∷ []) (1 ∷ []) ∷ Opened 3 ∷ wait true (2 ∷ 3 ∷ []) (1 ∷ []) ∷ CanRead 3 ∷ Heard 3 text61 ∷ Noted (Taken 3 0 (Part 3000000 3000004)) ∷ Dialled 4 (codes "h") 80 ∷ wait true (2 ∷ []) (1 ∷ []) ∷ Reached 4 ∷ wait true (2 ∷ []) (1 ∷ 4 ∷ []) ∷ CanWrite 4 ∷ Asked 4 text69 ∷ wait true (2 ∷ 4 ∷ []) (1 ∷ []) ∷ CanRead 4 ∷ Got 4 text60 ∷ Dialled 5 (codes "h") 80 ∷ []) ≡ Some (record { at = 37; rule = NotToBeDialled })
 unfolding judging
-row820 = refl
+row761 = refl
 
-row825 : fault_from 0 (start (record { words = []; faults = 0 } ∷ [])) (front0 ++ Heard 1 text71 ∷ Noted (Taken 1 0 Fetch) ∷ Dialled 2 (codes "h") 80 ∷ wait true [] [] ∷ Reached 2 ∷ wait true [] (2 ∷ []) ∷ CanWrite 2 ∷ Asked 2 text72 ∷ wait true (2 ∷ []) [] ∷ CanRead 2 ∷ Got 2 text70 ∷ Noted (Taken 1 0 (Hit 0 5)) ∷ wait true (2 ∷ []) (1 ∷ []) ∷ Opened 3 ∷ wait true (2 ∷ 3 ∷ []) (1 ∷ []) ∷ CanRead 3 ∷ Heard 3 text71 ∷ Noted (Taken 3 0 Validate) ∷ []) ≡ None
+row766 : fault_from 0 (start (record { words = []; faults = 0 } ∷ [])) (front0 ++ Heard 1 text58 ∷ Noted (Taken 1 0 Fetch) ∷ Dialled 2 (codes "h") 80 ∷ wait true [] [] ∷ Reached 2 ∷ wait true [] (2 ∷ []) ∷ CanWrite 2 ∷ Asked 2 text59 ∷ wait true (2 ∷ []) [] ∷ CanRead 2 ∷ Got 2 text60 ∷ Noted (Taken 1 0 (Part 0 4000000)) ∷ wait true (2 ∷ []) (1 ∷ []) ∷ Opened 3 ∷ wait true (2 ∷ 3 ∷ []) (1 ∷ []) ∷ CanRead 3 ∷ Heard 3 text61 ∷ Noted (Taken 3 0 (Part 3000000 3000004)) ∷ Dialled 4 (codes "h") 80 ∷ wait true (2 ∷ []) (1 ∷ []) ∷ Reached 4 ∷ wait true (2 ∷ []) (1 ∷ 4 ∷ []) ∷ CanWrite 4 ∷ Asked 4 text69 ∷ wait true (2 ∷ 4 ∷ []) (1 ∷ []) ∷ CanRead 4 ∷ Got 4 text70 ∷ Noted (Taken 3 0 (Part 3000000 3000004)) ∷ Dialled 5 (codes "h") 80 ∷ wait true (2 ∷ 4 ∷ []) (1 ∷ []) ∷ []) ≡ None
 unfolding judging
-row825 = refl
+row766 = refl
 
-row830 : fault_from 0 (start (record { words = []; faults = 0 } ∷ [])) (front0 ++ Heard 1 text73 ∷ Noted (Taken 1 0 Fetch) ∷ Dialled 2 (codes "h") 80 ∷ wait true [] [] ∷ Reached 2 ∷ wait true [] (2 ∷ []) ∷ CanWrite 2 ∷ Asked 2 text74 ∷ wait true (2 ∷ []) [] ∷ CanRead 2 ∷ Got 2 text70 ∷ Noted (Taken 1 0 (Hit 0 5)) ∷ wait true (2 ∷ []) (1 ∷ []) ∷ Opened 3 ∷ wait true (2 ∷ 3 ∷ []) (1 ∷ []) ∷ CanRead 3 ∷ Heard 3 text1 ∷ Noted (Taken 3 0 Validate) ∷ []) ≡ None
+row771 : fault_from 0 (start (record { words = []; faults = 0 } ∷ [])) (front0 ++ Heard 1 text58 ∷ Noted (Taken 1 0 Fetch) ∷ Dialled 2 (codes "h") 80 ∷ wait true [] [] ∷ Reached 2 ∷ wait true [] (2 ∷ []) ∷ CanWrite 2 ∷ Asked 2 text59 ∷ wait true (2 ∷ []) [] ∷ CanRead 2 ∷ Got 2 text60 ∷ Noted (Taken 1 0 (Part 0 4000000)) ∷ wait true (2 ∷ []) (1 ∷ []) ∷ Opened 3 ∷ wait true (2 ∷ 3 ∷ []) (1 ∷ []) ∷ CanRead 3 ∷ Heard 3 text61 ∷ Noted (Taken 3 0 (Part 3000000 3000004)) ∷ Dialled 4 (codes "h") 80 ∷ wait true (2 ∷ []) (1 ∷ []) ∷ Reached 4 ∷ wait true (2 ∷ []) (1 ∷ 4 ∷ []) ∷ CanWrite 4 ∷ Asked 4 text69 ∷ wait true (2 ∷ 4 ∷ []) (1 ∷ []) ∷ CanRead 4 ∷ Got 4 text70 ∷ Noted (Taken 3 0 (Part 3000000 3000004)) ∷ wait true (2 ∷ 4 ∷ []) (1 ∷ []) ∷ []) ≡ Some (record { at = 38; rule = StepUnfinished })
 unfolding judging
-row830 = refl
+row771 = refl
 
-row835 : fault_from 0 (start (record { words = []; faults = 0 } ∷ [])) (front0 ++ Heard 1 text73 ∷ Noted (Taken 1 0 Fetch) ∷ Dialled 2 (codes "h") 80 ∷ wait true [] [] ∷ Reached 2 ∷ wait true [] (2 ∷ []) ∷ CanWrite 2 ∷ Asked 2 text74 ∷ wait true (2 ∷ []) [] ∷ CanRead 2 ∷ Got 2 text70 ∷ Noted (Taken 1 0 (Hit 0 5)) ∷ wait true (2 ∷ []) (1 ∷ []) ∷ Opened 3 ∷ wait true (2 ∷ 3 ∷ []) (1 ∷ []) ∷ CanRead 3 ∷ Heard 3 text1 ∷ Noted (Taken 3 0 (Hit 0 5)) ∷ []) ≡ Some (record { at = 27; rule = WrongDecision })
+row834 : fault_from 0 (start (record { words = []; faults = 0 } ∷ [])) (front0 ++ Heard 1 text1 ∷ Noted (Taken 1 0 Fetch) ∷ Dialled 2 (codes "h") 80 ∷ wait true [] [] ∷ Reached 2 ∷ wait true [] (2 ∷ []) ∷ CanWrite 2 ∷ Asked 2 text2 ∷ wait true (2 ∷ []) [] ∷ CanRead 2 ∷ Got 2 text71 ∷ Noted (Taken 1 0 (Hit 0 5)) ∷ wait true (2 ∷ []) (1 ∷ []) ∷ Opened 3 ∷ wait true (2 ∷ 3 ∷ []) (1 ∷ []) ∷ CanRead 3 ∷ Heard 3 text1 ∷ Noted (Taken 3 0 (Hit 0 5)) ∷ []) ≡ None
 unfolding judging
-row835 = refl
+row834 = refl
 
-row855 : fault_from 0 (start (record { words = []; faults = 0 } ∷ [])) (front0 ++ Heard 1 text75 ∷ Noted (Taken 1 0 Fetch) ∷ Dialled 2 (codes "h") 80 ∷ wait true [] [] ∷ Reached 2 ∷ wait true [] (2 ∷ []) ∷ CanWrite 2 ∷ Asked 2 text76 ∷ wait true (2 ∷ []) [] ∷ CanRead 2 ∷ Got 2 text77 ∷ Noted (Taken 1 0 Relay) ∷ wait true (2 ∷ []) (1 ∷ []) ∷ []) ≡ None
+row839 : fault_from 0 (start (record { words = []; faults = 0 } ∷ [])) (front0 ++ Heard 1 text72 ∷ Noted (Taken 1 0 Fetch) ∷ Dialled 2 (codes "h") 80 ∷ wait true [] [] ∷ Reached 2 ∷ wait true [] (2 ∷ []) ∷ CanWrite 2 ∷ Asked 2 text73 ∷ wait true (2 ∷ []) [] ∷ CanRead 2 ∷ Got 2 text71 ∷ Noted (Taken 1 0 (Hit 0 5)) ∷ wait true (2 ∷ []) (1 ∷ []) ∷ Opened 3 ∷ wait true (2 ∷ 3 ∷ []) (1 ∷ []) ∷ CanRead 3 ∷ Heard 3 text72 ∷ Noted (Taken 3 0 Validate) ∷ []) ≡ None
 unfolding judging
-row855 = refl
+row839 = refl
 
-row860 : fault_from 0 (start (record { words = []; faults = 0 } ∷ [])) (front0 ++ Heard 1 text75 ∷ Noted (Taken 1 0 Fetch) ∷ Dialled 2 (codes "h") 80 ∷ wait true [] [] ∷ Reached 2 ∷ wait true [] (2 ∷ []) ∷ CanWrite 2 ∷ Asked 2 text76 ∷ wait true (2 ∷ []) [] ∷ CanRead 2 ∷ Got 2 text77 ∷ Noted (Taken 1 0 (Hit 0 5)) ∷ []) ≡ Some (record { at = 21; rule = WrongDecision })
+row844 : fault_from 0 (start (record { words = []; faults = 0 } ∷ [])) (front0 ++ Heard 1 text74 ∷ Noted (Taken 1 0 Fetch) ∷ Dialled 2 (codes "h") 80 ∷ wait true [] [] ∷ Reached 2 ∷ wait true [] (2 ∷ []) ∷ CanWrite 2 ∷ Asked 2 text75 ∷ wait true (2 ∷ []) [] ∷ CanRead 2 ∷ Got 2 text71 ∷ Noted (Taken 1 0 (Hit 0 5)) ∷ wait true (2 ∷ []) (1 ∷ []) ∷ Opened 3 ∷ wait true (2 ∷ 3 ∷ []) (1 ∷ []) ∷ CanRead 3 ∷ Heard 3 text1 ∷ Noted (Taken 3 0 Validate) ∷ []) ≡ None
 unfolding judging
-row860 = refl
+row844 = refl
+
+row849 : fault_from 0 (start (record { words = []; faults = 0 } ∷ [])) (front0 ++ Heard 1 text74 ∷ Noted (Taken 1 0 Fetch) ∷ Dialled 2 (codes "h") 80 ∷ wait true [] [] ∷ Reached 2 ∷ wait true [] (2 ∷ []) ∷ CanWrite 2 ∷ Asked 2 text75 ∷ wait true (2 ∷ []) [] ∷ CanRead 2 ∷ Got 2 text71 ∷ Noted (Taken 1 0 (Hit 0 5)) ∷ wait true (2 ∷ []) (1 ∷ []) ∷ Opened 3 ∷ wait true (2 ∷ 3 ∷ []) (1 ∷ []) ∷ CanRead 3 ∷ Heard 3 text1 ∷ Noted (Taken 3 0 (Hit 0 5)) ∷ []) ≡ Some (record { at = 27; rule = WrongDecision })
+unfolding judging
+row849 = refl
