@@ -10,6 +10,7 @@
 #![tactic(auto)]
 
 mod dice; // numbers of a seed
+mod late; // origins that answer late, and otherwise than before
 mod lives; // how a life is started, what happens outside, and where it ends
 mod quoting; // a text as a transcript quotes it
 mod scripts; // clients and origins that do anything

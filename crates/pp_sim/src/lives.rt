@@ -1,5 +1,6 @@
 // How a life is started, what happens outside, and where it ends.
 use crate::dice::Dice;
+use crate::late;
 use crate::scripts::script;
 use pp_memworld::Script;
 use pp_text::{Octets, OutOfMemory};
@@ -36,6 +37,16 @@ impl Life {
         })
     }
 
+    /// A life of one page, whose origins answer late.
+    pub(crate) fn late(alloc: Global, dice: &mut Dice) -> Result<Life, OutOfMemory> {
+        let steps = 20_u64.saturating_add(dice.below(60));
+        Ok(Life {
+            words: late_words(alloc, dice)?,
+            script: late::script(alloc, dice, steps)?,
+            failing: Vec::new(alloc),
+        })
+    }
+
     /// How it is started: its words, and how many calls of it fail at most.
     pub(crate) fn term(&self, alloc: Global) -> Result<Term, OutOfMemory> {
         let mut words = Vec::new(alloc);
@@ -60,6 +71,15 @@ fn words(alloc: Global, dice: &mut Dice) -> Result<Vec<String>, OutOfMemory> {
         5 => owned(alloc, &["diskRun=1"]),
         6 => owned(alloc, &["diskRun=2"]),
         _ => owned(alloc, &["chunkHighMark=512", "chunkLowMark=512"]),
+    }
+}
+
+/// Asks stand behind slow ones where there are few connections.
+fn late_words(alloc: Global, dice: &mut Dice) -> Result<Vec<String>, OutOfMemory> {
+    match dice.below(3) {
+        0 => Ok(Vec::new(alloc)),
+        1 => owned(alloc, &["hostConnections=2", "pipelineAsks=1"]),
+        _ => owned(alloc, &["hostConnections=4", "pipelineAsks=1"]),
     }
 }
 

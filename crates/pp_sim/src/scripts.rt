@@ -6,13 +6,13 @@ use pp_text::{Octets, OutOfMemory};
 use std::alloc::{AllocError, Global};
 
 /// Sun, 06 Nov 1994 08:49:37 GMT
-const BEGIN: u64 = 784_111_777;
+pub(crate) const BEGIN: u64 = 784_111_777;
 
 /// Cues are for connections of these numbers, from 1: as many as come in most scripts.
-const NUMBERS: u64 = 16;
+pub(crate) const NUMBERS: u64 = 16;
 
 /// More than any script says.
-const ALL: u64 = 1_000_000;
+pub(crate) const ALL: u64 = 1_000_000;
 
 /// So many equal bytes follow each other in a page.
 const RUN: usize = 128;
@@ -80,7 +80,7 @@ fn put_step(
 }
 
 /// All that are dialled are reached.
-fn put_reached(cues: &mut Vec<Cue>) -> Result<(), OutOfMemory> {
+pub(crate) fn put_reached(cues: &mut Vec<Cue>) -> Result<(), OutOfMemory> {
     for number in 1..=NUMBERS {
         put(Cue::Reach(number), cues)?;
     }
@@ -134,7 +134,7 @@ fn told(alloc: Global, teller: Teller, piece: &[u8]) -> Result<Cue, OutOfMemory>
     })
 }
 
-fn put(cue: Cue, cues: &mut Vec<Cue>) -> Result<(), OutOfMemory> {
+pub(crate) fn put(cue: Cue, cues: &mut Vec<Cue>) -> Result<(), OutOfMemory> {
     cues.push(cue).map_err(AllocError::from)?;
     Ok(())
 }

@@ -29,12 +29,21 @@ const CHOICES: u64 = 16;
 /// From this choice on, a crash tears.
 const FIRST_TORN: u64 = 1 << 63;
 
+/// From this seed on, each has one life, of one page whose origins answer late.
+const FIRST_LATE: u64 = 1_000_000;
+
 /// Runs the lives of this seed.
 pub fn simulate(alloc: Global, seed: u64) -> Result<Simulation, OutOfMemory> {
     let mut dice = Dice::new(seed);
-    let lives = 1_u64.saturating_add(dice.below(LIVES));
     let mut terms = Vec::new(alloc);
-    let mut world = first_life(alloc, &mut dice, &mut terms)?;
+    if FIRST_LATE <= seed {
+        let life = Life::late(alloc, &mut dice)?;
+        let world = first_life(alloc, life, &mut terms)?;
+        return Ok(Simulation { seed, terms, world });
+    }
+    let lives = 1_u64.saturating_add(dice.below(LIVES));
+    let life = Life::new(alloc, &mut dice, 0)?;
+    let mut world = first_life(alloc, life, &mut terms)?;
     let mut begin = 0;
     for number in 1..lives {
         begin = crash_place(&mut dice, begin, log_of(&*world)?.len());
@@ -46,10 +55,9 @@ pub fn simulate(alloc: Global, seed: u64) -> Result<Simulation, OutOfMemory> {
 #[tactic(auto, using(pp_shelf::proofs::OpeningLemmas::fresh_first))]
 fn first_life(
     alloc: Global,
-    dice: &mut Dice,
+    life: Life,
     terms: &mut Vec<Term>,
 ) -> Result<Box<MemWorld>, OutOfMemory> {
-    let life = Life::new(alloc, dice, 0)?;
     terms.push(life.term(alloc)?).map_err(AllocError::from)?;
     let Life {
         words,
