@@ -1,0 +1,19 @@
+// Where the operator's log of replies is written.
+ghost use Rattle.std.specs.Prelude.{◌≡◌, string_bytes};
+ghost use Rattle.pp_conf.specs.Logs.{log_place, shown_place};
+
+use crate::conf::Conf;
+use pp_world::AccessLog;
+
+impl Conf {
+    /// Where the operator's log of replies is written.
+    pub fn log_place(&self) -> AccessLog<'_>
+        ensures { shown_place result ≡ log_place (string_bytes self.now.access_log) }
+    {
+        match self.access_log.as_str() {
+            "" => AccessLog::Nowhere,
+            "-" => AccessLog::Console,
+            name => AccessLog::File(name),
+        }
+    }
+}
