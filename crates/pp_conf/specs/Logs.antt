@@ -1,5 +1,5 @@
 -- Where the operator's log of replies is written. Ours.
-use Rattle.std.specs.Prelude.{ℕ, List, [], ◌∷◌}
+use Rattle.std.specs.Prelude.{ℕ, List, [], cond, codes, bytes_eq}
 use Rattle.pp_world.specs.declared.access.AccessLog.{AccessLog}
 use Rattle.pp_world.specs.declared.access.AccessLog.TheVariants.{Nowhere, Console, File}
 
@@ -9,9 +9,7 @@ pub data LogPlace : Type 0 where
 
 -- nothing: nowhere; a hyphen: the console; else the file of that name
 abbrev pub log_place : List ℕ → LogPlace
-log_place [] = NoLog
-log_place (45 ∷ []) = OnConsole
-log_place name = InFile name
+log_place name = cond (bytes_eq name []) NoLog (cond (bytes_eq name (codes "-")) OnConsole (InFile name))
 
 abbrev pub shown_place : AccessLog → LogPlace
 shown_place Nowhere = NoLog

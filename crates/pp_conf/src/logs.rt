@@ -10,10 +10,13 @@ impl Conf {
     pub fn log_place(&self) -> AccessLog<'_>
         ensures { shown_place result ≡ log_place (string_bytes self.now.access_log) }
     {
-        match self.access_log.as_str() {
-            "" => AccessLog::Nowhere,
-            "-" => AccessLog::Console,
-            name => AccessLog::File(name),
+        let name = self.access_log.as_str();
+        if name.as_bytes() == b"".as_slice() {
+            AccessLog::Nowhere
+        } else if name.as_bytes() == b"-".as_slice() {
+            AccessLog::Console
+        } else {
+            AccessLog::File(name)
         }
     }
 }
