@@ -1,4 +1,6 @@
+pub mod Accounts
 pub mod Courses
 pub mod Errands
 pub mod Follows
+pub mod Opened
 pub mod Said

@@ -8,16 +8,19 @@
 //! are said (`specs/Said.antt`), how often a request may lose an attempt, and what it is where its row is lost
 //! (`specs/Courses.antt`; RFC 2616, section 8.1.4); which tag an ask names (`specs/Errands.antt`).
 //!
-//! A seat takes memory for the key of its request alone. Where a request's head ends is for `pp_client`, what a request gets
+//! A seat takes memory for the key of its request, and for the first line of it where the operator keeps a log
+//! (`specs/Accounts.antt`). Where a request's head ends is for `pp_client`, what a request gets
 //! for `pp_plan`, and what a turn makes of both for `pp_steps`.
 #![tactic(auto)]
 
+mod account; // what the operator's log is to say
 mod errand; // an exchange, beside its place
 mod front; // the current request of a client
 mod key; // owned keys
 mod limits; // heads within the limits
 mod seat; // a client, and how far its request is
 
+pub use account::{Account, Told};
 pub use errand::{Body, Errand, Kind};
 pub use front::{Asked, Front, is_answerable};
 pub use key::Key;

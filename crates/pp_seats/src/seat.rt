@@ -4,12 +4,15 @@ ghost use Rattle.pp_client.specs.Replies.{left_next};
 ghost use Rattle.pp_seats.specs.Courses.{has_begun, lost_one, without_row, without_shared_row};
 ghost use Rattle.pp_seats.specs.Said.{used_by};
 ghost use Rattle.pp_seats.specs.Follows.{answer_in, next_of};
+ghost use Rattle.pp_seats.specs.Opened.{IsBegunAs};
 
+use crate::account::{Account, line_of};
 use crate::front::Front;
 use pp_client::Client;
 use pp_framing::BodyRule;
 use pp_objects::ObjectId;
 use pp_world::Decision;
+use std::alloc::Global;
 
 /// Where the current request is. The exchange that it waits for is the one that names its client.
 ///
@@ -50,6 +53,8 @@ pub enum Brought {
 /// A response that is passed: its head is written already, and its body goes through the client's pipe.
 #[derive(Clone, Copy)]
 pub struct Passed {
+    /// Its status.
+    pub status: u16,
     /// Where its body ends.
     pub rule: BodyRule,
     /// Bytes of the head that was written.
@@ -144,6 +149,8 @@ pub struct Seat {
     pub closes: bool,
     /// Its cause to be closed has come, and it counts as closed.
     pub is_closing: bool,
+    /// What the operator's log is to say of its current reply.
+    pub account: Account,
 }
 
 impl Seat {
@@ -163,6 +170,7 @@ impl Seat {
             before_body: 0,
             closes: false,
             is_closing: false,
+            account: Account::Unkept,
         }
     }
 
@@ -271,11 +279,24 @@ impl Seat {
         })
     }
 
+    /// Its reply begins with this status, and so many bytes of its head behind what is left of the interim answer. Where
+    /// the operator keeps a log, that is what it is to say.
+    pub fn begin_account(&mut self, alloc: Global, status: u16, head_len: usize)
+        ensures { IsBegunAs status head_len self.old self.new }
+    {
+        if self.account.is_kept() {
+            let line = line_of(alloc, &self.client);
+            let head_left = self.before_body.saturating_add(head_len);
+            self.account.begin(line, status, head_left);
+        }
+    }
+
     /// So many bytes were said.
     pub fn took(&mut self, n: usize)
         requires { n ≤ left_next self.old.client.reply }
     {
         self.before_body = self.before_body.saturating_sub(n);
+        self.account.say(n);
         self.client.took(n);
     }
 
@@ -373,5 +394,6 @@ impl Seat {
         self.has_given_up = false;
         self.before_body = 0;
         self.closes = false;
+        self.account.renew();
     }
 }
