@@ -1,5 +1,5 @@
 -- What the operator's log is to say of a reply. Ours: it is beside the replies, and none rests on it.
-use Rattle.std.specs.Prelude.{ℕ, ◌+◌, ◌-◌, ◌^◌, List, [], ◌∷◌, ◌++◌, min, Option, Some, None, codes}
+use Rattle.std.specs.Prelude.{◌≡◌, ◌⊎◌, ⊤, ℕ, ◌+◌, ◌-◌, ◌^◌, List, [], ◌∷◌, ◌++◌, min, codes}
 use Rattle.pp_world.specs.declared.access.Source.{Source}
 use Rattle.pp_world.specs.declared.access.Source.TheVariants.{Hit as AllHeld, Part as SomeHeld, Checked, Fetched, Passed as PassedOn, Refused as OwnPage}
 use Rattle.pp_world.specs.declared.note.Decision.{Decision}
@@ -64,11 +64,17 @@ begun line status head Unkept = Unkept
 begun line status head (Due due) = Begun (record { line = line; status = status; source = due; head_left = head; body_len = 0 })
 begun line status head (Begun told) = Begun told
 
--- what is told of it once it is over
-abbrev pub told_in : Account → Option Told
-told_in Unkept = None
-told_in (Due due) = None
-told_in (Begun told) = Some told
+-- the first line of its request
+abbrev pub line_in : Account → List ℕ
+line_in Unkept = []
+line_in (Due due) = []
+line_in (Begun told) = told.line
+
+-- where a reply begins, the line is this, or memory was refused for it
+abbrev pub HasLine : Account → List ℕ → List ℕ → Type 0
+HasLine Unkept line wanted = ⊤
+HasLine (Due due) line wanted = (line ≡ []) ⊎ (line ≡ wanted)
+HasLine (Begun told) line wanted = ⊤
 
 -- Request-Line = Method SP Request-URI SP HTTP-Version (RFC 2616, section 5.1)
 abbrev pub version_text : ℕ → List ℕ

@@ -2,5 +2,4 @@ pub mod Accounts
 pub mod Courses
 pub mod Errands
 pub mod Follows
-pub mod Opened
 pub mod Said

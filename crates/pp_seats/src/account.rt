@@ -45,14 +45,6 @@ pub struct Told {
 }
 
 impl Account {
-    /// Whether a line is written for each reply.
-    pub fn is_kept(&self) -> bool {
-        match self {
-            Account::Unkept => false,
-            Account::Due(_) | Account::Begun(_) => true,
-        }
-    }
-
     /// This is decided for the request.
     pub fn decide(&mut self, decision: Decision)
         ensures { self.new ≡ decided decision self.old }

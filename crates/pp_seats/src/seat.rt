@@ -1,10 +1,12 @@
 // A client, and how far its current request is.
-ghost use Rattle.std.specs.Prelude.{◌≡◌, ◌≤◌};
+ghost use Rattle.std.specs.Prelude.{◌≡◌, ◌≤◌, ◌+◌, ◌-◌, ◌^◌, min};
 ghost use Rattle.pp_client.specs.Replies.{left_next};
+ghost use Rattle.pp_client.specs.Requests.{current_of};
+ghost use Rattle.pp_seats.specs.Accounts.{HasLine, anew, begun, line_in, line_of, said};
 ghost use Rattle.pp_seats.specs.Courses.{has_begun, lost_one, without_row, without_shared_row};
 ghost use Rattle.pp_seats.specs.Said.{used_by};
+ghost use Rattle.pp_seats.specs.declared.account.Account.TheVariants.{Unkept};
 ghost use Rattle.pp_seats.specs.Follows.{answer_in, next_of};
-ghost use Rattle.pp_seats.specs.Opened.{IsBegunAs};
 
 use crate::account::{Account, line_of};
 use crate::front::Front;
@@ -155,7 +157,9 @@ pub struct Seat {
 
 impl Seat {
     /// A client that was accepted in this turn.
-    pub fn new(client: Client) -> Seat {
+    pub fn new(client: Client) -> Seat
+        ensures account { result.account ≡ Unkept }
+    {
         Seat {
             client,
             has_hung_up: false,
@@ -280,20 +284,25 @@ impl Seat {
     }
 
     /// Its reply begins with this status, and so many bytes of its head behind what is left of the interim answer. Where
-    /// the operator keeps a log, that is what it is to say.
+    /// the operator keeps a log, that is what it is to say; the line is empty where memory is refused for it.
     pub fn begin_account(&mut self, alloc: Global, status: u16, head_len: usize)
-        ensures { IsBegunAs status head_len self.old self.new }
+        ensures account { self.new ≡ record self.old { account = begun (line_in self.new.account) status (min (self.old.before_body + head_len) (2 ^ 64 - 1)) self.old.account } }
+        ensures line { HasLine self.old.account (line_in self.new.account) (line_of (current_of self.old.client.heard)) }
     {
-        if self.account.is_kept() {
-            let line = line_of(alloc, &self.client);
-            let head_left = self.before_body.saturating_add(head_len);
-            self.account.begin(line, status, head_left);
+        match self.account {
+            Account::Unkept | Account::Begun(_) => {}
+            Account::Due(_) => {
+                let line = line_of(alloc, &self.client);
+                let head_left = self.before_body.saturating_add(head_len);
+                self.account.begin(line, status, head_left);
+            }
         }
     }
 
     /// So many bytes were said.
     pub fn took(&mut self, n: usize)
         requires { n ≤ left_next self.old.client.reply }
+        ensures account { self.new.account ≡ said n self.old.account }
     {
         self.before_body = self.before_body.saturating_sub(n);
         self.account.say(n);
@@ -383,7 +392,9 @@ impl Seat {
     }
 
     /// Its reply is over: the next request stands.
-    pub fn next_request(&mut self) {
+    pub fn next_request(&mut self)
+        ensures account { self.new.account ≡ anew self.old.account }
+    {
         self.front = Front::NoHeadYet;
         self.body_left = 0;
         self.index = self.index.saturating_add(1);
