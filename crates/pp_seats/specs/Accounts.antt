@@ -1,5 +1,5 @@
 -- What the operator's log is to say of a reply. Ours: it is beside the replies, and none rests on it.
-use Rattle.std.specs.Prelude.{◌≡◌, ◌⊎◌, ⊤, ℕ, ◌+◌, ◌-◌, ◌^◌, List, [], ◌∷◌, ◌++◌, min, codes}
+use Rattle.std.specs.Prelude.{◌≡◌, ◌⊎◌, ⊤, ℕ, ◌+◌, ◌-◌, ◌^◌, ◌==◌, List, [], ◌++◌, min, cond, codes}
 use Rattle.pp_world.specs.declared.access.Source.{Source}
 use Rattle.pp_world.specs.declared.access.Source.TheVariants.{Hit as AllHeld, Part as SomeHeld, Checked, Fetched, Passed as PassedOn, Refused as OwnPage}
 use Rattle.pp_world.specs.declared.note.Decision.{Decision}
@@ -78,11 +78,10 @@ HasLine (Begun told) line wanted = ⊤
 
 -- Request-Line = Method SP Request-URI SP HTTP-Version (RFC 2616, section 5.1)
 abbrev pub version_text : ℕ → List ℕ
-version_text 0 = codes "HTTP/1.0"
-version_text minor = codes "HTTP/1.1"
+version_text minor = cond (minor == 0) (codes " HTTP/1.0") (codes " HTTP/1.1")
 
 abbrev pub request_line : Request → List ℕ
-request_line r = r.method ++ 32 ∷ r.target ++ 32 ∷ version_text r.minor
+request_line r = r.method ++ codes " " ++ r.target ++ version_text r.minor
 
 -- what is no request has no such line
 abbrev pub line_of : Front → List ℕ

@@ -2,7 +2,7 @@
 ghost use Rattle.std.specs.Prelude.{◌≡◌, ◌⊎◌, [], IfOk};
 ghost use Rattle.pp_client.specs.Requests.{current_of};
 ghost use Rattle.pp_head.specs.Shown.{shown_request};
-ghost use Rattle.pp_seats.specs.Accounts.{anew, begun, brought, decided, line_of, request_line, said, source_after, with_rest};
+ghost use Rattle.pp_seats.specs.Accounts.{anew, begun, brought, decided, line_of, request_line, said, source_after, version_text, with_rest};
 
 use pp_client::{Client, Current};
 use pp_head::{RequestHead, Scratch};
@@ -146,9 +146,16 @@ fn request_line(alloc: Global, head: &RequestHead<'_, '_>) -> Result<Octets, Out
     let mut line = Octets::copy(alloc, head.method)?;
     line.append(b" ")?;
     line.append(head.target)?;
-    line.append(match head.minor {
-        0 => b" HTTP/1.0".as_slice(),
-        _ => b" HTTP/1.1".as_slice(),
-    })?;
+    line.append(version_text(head.minor))?;
     Ok(line)
+}
+
+fn version_text(minor: u8) -> &'static [u8]
+    ensures { result.now ≡ version_text minor }
+{
+    if minor == 0 {
+        b" HTTP/1.0"
+    } else {
+        b" HTTP/1.1"
+    }
 }
