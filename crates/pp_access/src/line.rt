@@ -110,7 +110,7 @@ fn put_byte(byte: u8, out: &mut Vec<u8>) -> Result<(), AllocError>
     if byte == b'"' || byte == b'\\' {
         out.extend_from_slice(&[b'\\', byte])
     } else if is_plain(byte) {
-        out.push(byte)
+        out.extend_from_slice(&[byte])
     } else {
         out.extend_from_slice(&[b'\\', b'x', hex_digit(byte / 16), hex_digit(byte % 16)])
     }

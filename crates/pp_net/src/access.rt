@@ -202,11 +202,12 @@ fn write_lines<R: Runtime + Files<File = File>>(
             lines.clear();
         }
         Place::File(name, file) => {
-            let file = match file {
-                Some(file) => file,
-                None => file.insert(open_at_end(rt, name.as_str())?),
-            };
-            write_to(file, lines)?;
+            if file.is_none() {
+                *file = Some(open_at_end(rt, name.as_str())?);
+            }
+            if let Some(file) = file {
+                write_to(file, lines)?;
+            }
         }
     }
     Ok(())
