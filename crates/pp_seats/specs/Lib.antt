@@ -1,3 +1,4 @@
+pub mod Accounts
 pub mod Courses
 pub mod Dues
 pub mod Errands

@@ -2,6 +2,7 @@
 use Rattle.std.specs.Prelude.{◌≡◌, ℕ, ◌+◌, ◌-◌, ◌^◌, min, Bool, true, false, ◌==◌, ◌&&◌, ◌||◌, not, nat_lt, length, List, Option, Some, None}
 use Rattle.pp_client.specs.Clients.{Client, said_by}
 use Rattle.pp_client.specs.Requests.{body_dropped, body_in, current_of}
+use Rattle.pp_seats.specs.declared.account.Account.TheVariants.{Unkept}
 use Rattle.pp_seats.specs.declared.front.Front.{Front}
 use Rattle.pp_seats.specs.declared.front.Front.TheVariants.{NoHeadYet, NoHead, Request as IsThere}
 use Rattle.pp_seats.specs.declared.seat.Brought.{Brought}
@@ -12,6 +13,7 @@ use Rattle.pp_seats.specs.declared.seat.PassedEnd.{PassedEnd}
 use Rattle.pp_seats.specs.declared.seat.Seat.{Seat}
 use Rattle.pp_seats.specs.declared.seat.Stage.{Stage}
 use Rattle.pp_seats.specs.declared.seat.Stage.TheVariants.{Undecided, Waiting, Passing, Answering}
+use Rattle.pp_seats.specs.Accounts.{anew, said}
 use Rattle.pp_seats.specs.Courses.{has_begun}
 use Rattle.pp_seats.specs.Heads.{IsFrontOf, asked_in, body_len_in, is_key_text, is_there_in, owned_in}
 
@@ -94,6 +96,7 @@ new_seat client = record {
   before_body = 0;
   closes = false;
   is_closing = false;
+  account = Unkept;
 }
 
 -- what stands at the front of what its client sent is its request, by what stood there before
@@ -107,7 +110,7 @@ IsRead old new = IsReadBehind old.front old new
 
 -- so many bytes were said
 abbrev pub told_by : ℕ → Seat → Seat
-told_by n seat = record seat { client = said_by n seat.client; before_body = seat.before_body - n }
+told_by n seat = record seat { client = said_by n seat.client; before_body = seat.before_body - n; account = said n seat.account }
 
 -- the rest of the request's body is dropped as it comes
 abbrev pub without_body : Seat → Seat
@@ -126,4 +129,5 @@ at_next_request seat = record seat {
   has_given_up = false;
   before_body = 0;
   closes = false;
+  account = anew seat.account;
 }

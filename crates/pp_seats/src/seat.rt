@@ -1,16 +1,20 @@
 // A client, and how far its current request is.
-ghost use Rattle.std.specs.Prelude.{◌≡◌, ◌≤◌};
+ghost use Rattle.std.specs.Prelude.{◌≡◌, ◌≤◌, ◌+◌, ◌-◌, ◌^◌, min};
 ghost use Rattle.pp_client.specs.Replies.{left_next};
+ghost use Rattle.pp_client.specs.Requests.{current_of};
+ghost use Rattle.pp_seats.specs.Accounts.{HasLine, begun, line_in, line_of, said};
 ghost use Rattle.pp_seats.specs.Courses.{has_begun, is_trying_in, lost_one, without_row, without_shared_row};
 ghost use Rattle.pp_seats.specs.Said.{used_by};
 ghost use Rattle.pp_seats.specs.Follows.{answer_in, next_of};
 ghost use Rattle.pp_seats.specs.Seats.{at_next_request, brought_to, has_key, is_at_body, is_silent, is_to_be_decided, is_told_in, new_seat, passed_in};
 
+use crate::account::{Account, line_of};
 use crate::front::Front;
 use pp_client::Client;
 use pp_framing::BodyRule;
 use pp_objects::ObjectId;
 use pp_world::Decision;
+use std::alloc::Global;
 
 /// Where the current request is. The exchange that it waits for is the one that names its client.
 ///
@@ -51,6 +55,8 @@ pub enum Brought {
 /// A response that is passed: its head is written already, and its body goes through the client's pipe.
 #[derive(Clone, Copy)]
 pub struct Passed {
+    /// Its status.
+    pub status: u16,
     /// Where its body ends.
     pub rule: BodyRule,
     /// Bytes of the head that was written.
@@ -145,6 +151,8 @@ pub struct Seat {
     pub closes: bool,
     /// Its cause to be closed has come, and it counts as closed.
     pub is_closing: bool,
+    /// What the operator's log is to say of its current reply.
+    pub account: Account,
 }
 
 impl Seat {
@@ -166,6 +174,7 @@ impl Seat {
             before_body: 0,
             closes: false,
             is_closing: false,
+            account: Account::Unkept,
         }
     }
 
@@ -284,11 +293,29 @@ impl Seat {
         })
     }
 
+    /// Its reply begins with this status, and so many bytes of its head behind what is left of the interim answer. Where
+    /// the operator keeps a log, that is what it is to say; the line is empty where memory is refused for it.
+    pub fn begin_account(&mut self, alloc: Global, status: u16, head_len: usize)
+        ensures account { self.new ≡ record self.old { account = begun (line_in self.new.account) status (min (self.old.before_body + head_len) (2 ^ 64 - 1)) self.old.account } }
+        ensures line { HasLine self.old.account (line_in self.new.account) (line_of (current_of self.old.client.heard)) }
+    {
+        match self.account {
+            Account::Unkept | Account::Begun(_) => {}
+            Account::Due(_) => {
+                let line = line_of(alloc, &self.client);
+                let head_left = self.before_body.saturating_add(head_len);
+                self.account.begin(line, status, head_left);
+            }
+        }
+    }
+
     /// So many bytes were said.
     pub fn took(&mut self, n: usize)
         requires { n ≤ left_next self.old.client.reply }
+        ensures account { self.new.account ≡ said n self.old.account }
     {
         self.before_body = self.before_body.saturating_sub(n);
+        self.account.say(n);
         self.client.took(n);
     }
 
@@ -396,5 +423,6 @@ impl Seat {
         self.has_given_up = false;
         self.before_body = 0;
         self.closes = false;
+        self.account.renew();
     }
 }
