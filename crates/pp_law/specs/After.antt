@@ -112,8 +112,8 @@ refused_row x s =
     record t { clients = change (waits_for_row x.id) (λ c. record c { course = RowRefused }) t.clients }
 
 unfoldable pub leave_memory : Leaving → State → State
-leave_memory ForAnother s = record s { forgotten = drop 1 s.forgotten }
-leave_memory (ForMemory x) s = refused_row x s
+leave_memory ForAnother s = let t : State = come_to Evicting s in record t { forgotten = drop 1 t.forgotten }
+leave_memory (ForMemory x) s = refused_row x (come_to Evicting s)
 leave_memory (BeforeDecision x) s = record (forget x.id (come_to_decide s)) { has_made_room = true }
 
 unfoldable pub forgotten_by : Bytes → State → State

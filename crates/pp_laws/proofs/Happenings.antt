@@ -89,8 +89,8 @@ refused_row-sound {b} x s h = sound (clients_changed b (forget x.id s) (waits_fo
 
 leave_memory-sound : {b : Since} (how : Leaving) (s : State) → Sound b s → Sound b (leave_memory how s)
 unfolding leave_memory
-leave_memory-sound ForAnother s h = sound (facts_of h)
-leave_memory-sound (ForMemory x) s h = refused_row-sound x s h
+leave_memory-sound ForAnother s h = sound (facts_of (come_to-sound Evicting s h))
+leave_memory-sound (ForMemory x) s h = refused_row-sound x _ (come_to-sound Evicting s h)
 leave_memory-sound (BeforeDecision x) s h = sound (facts_of (forget-sound x.id _ (come_to_decide-sound s h)))
 
 forgotten_by-sound : {b : Since} (key : Bytes) (s : State) → Sound b s → Sound b (forgotten_by key s)

@@ -265,8 +265,8 @@ refused_row-asks x s h = holds (clients_changed-keeps asks_walk (waits_for_row x
 
 leave_memory-asks : (how : Leaving) (s : State) → Holds Asks s → Holds Asks (leave_memory how s)
 unfolding leave_memory
-leave_memory-asks ForAnother s h = holds (facts_of h)
-leave_memory-asks (ForMemory x) s h = refused_row-asks x s h
+leave_memory-asks ForAnother s h = holds (facts_of (come_to-asks Evicting s h))
+leave_memory-asks (ForMemory x) s h = refused_row-asks x _ (come_to-asks Evicting s h)
 leave_memory-asks (BeforeDecision x) s h = holds (facts_of (forget-keeps asks_walk x.id _ (come_to_decide-asks s h)))
 
 forgotten_by-asks : (key : Bytes) (s : State) → Holds Asks s → Holds Asks (forgotten_by key s)

@@ -91,8 +91,8 @@ refused_row-kept x s h = kept (clients_changed [] (forget x.id s) (waits_for_row
 
 leave_memory-kept : (how : Leaving) (s : State) → Kept [] s → Kept [] (leave_memory how s)
 unfolding leave_memory
-leave_memory-kept ForAnother s h = kept (facts_of h)
-leave_memory-kept (ForMemory x) s h = refused_row-kept x s h
+leave_memory-kept ForAnother s h = kept (facts_of (come_to-kept Evicting s h))
+leave_memory-kept (ForMemory x) s h = refused_row-kept x _ (come_to-kept Evicting s h)
 leave_memory-kept (BeforeDecision x) s h = kept (facts_of (forget-kept x.id _ (come_to_decide-kept s h)))
 
 forgotten_by-kept : (key : Bytes) (s : State) → Kept [] s → Kept [] (forgotten_by key s)

@@ -115,8 +115,8 @@ refused_row-small {a} x s h = small (clients_changed a (forget x.id s) (waits_fo
 
 leave_memory-small : {a : As} (how : Leaving) (s : State) → Small a s → Small a (leave_memory how s)
 unfolding leave_memory
-leave_memory-small ForAnother s h = small (facts_of h)
-leave_memory-small (ForMemory x) s h = refused_row-small x s h
+leave_memory-small ForAnother s h = small (facts_of (come_to-small Evicting s h))
+leave_memory-small (ForMemory x) s h = refused_row-small x _ (come_to-small Evicting s h)
 leave_memory-small (BeforeDecision x) s h = small (facts_of (forget-small x.id _ (come_to_decide-small s h)))
 
 forgotten_by-small : {a : As} (key : Bytes) (s : State) → Small a s → Small a (forgotten_by key s)

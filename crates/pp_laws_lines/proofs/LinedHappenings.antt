@@ -65,8 +65,8 @@ refused_row-lined x s h = lined (facts_of (still (forget-same x.id s (itself s))
 
 leave_memory-lined : {b : Since} (how : Leaving) (s : State) → IsPlain b → Lined b s → Lined b (leave_memory how s)
 unfolding leave_memory
-leave_memory-lined ForAnother s p h = lined (facts_of h)
-leave_memory-lined (ForMemory x) s p h = refused_row-lined x s h
+leave_memory-lined ForAnother s p h = lined (facts_of (come_to-lined Evicting s p h))
+leave_memory-lined (ForMemory x) s p h = refused_row-lined x _ (come_to-lined Evicting s p h)
 leave_memory-lined (BeforeDecision x) s p h = lined (facts_of (still (forget-same x.id _ (itself _)) (come_to_decide-lined s p h)))
 
 forgotten_by-lined : {b : Since} (key : Bytes) (s : State) → IsPlain b → Lined b s → Lined b (forgotten_by key s)

@@ -73,8 +73,8 @@ refused_row-fed x s h =
 
 leave_memory-fed : (how : Leaving) (s : State) → Fed s → Fed (leave_memory how s)
 unfolding leave_memory
-leave_memory-fed ForAnother s h = fed (facts_of h)
-leave_memory-fed (ForMemory x) s h = refused_row-fed x s h
+leave_memory-fed ForAnother s h = fed (facts_of (come_to-fed Evicting s h))
+leave_memory-fed (ForMemory x) s h = refused_row-fed x _ (come_to-fed Evicting s h)
 leave_memory-fed (BeforeDecision x) s h = fed (facts_of (still (forget-same x.id _ (itself _)) (come_to_decide-fed s h)))
 
 forgotten_by-fed : (key : Bytes) (s : State) → Fed s → Fed (forgotten_by key s)

@@ -127,8 +127,8 @@ module _ (total : ℕ → Bytes) (asked : ℕ → Exchange → Type 0) (firsts :
 
   leave_memory-rests : (how : Leaving) (s : State) → Holds P s → Holds P (leave_memory how s)
   unfolding leave_memory
-  leave_memory-rests ForAnother s h = holds (facts_of h)
-  leave_memory-rests (ForMemory x) s h = refused_row-rests x s h
+  leave_memory-rests ForAnother s h = holds (facts_of (come_to-rests Evicting s h))
+  leave_memory-rests (ForMemory x) s h = refused_row-rests x _ (come_to-rests Evicting s h)
   leave_memory-rests (BeforeDecision x) s h = holds (facts_of (forget-keeps steps x.id _ (come_to_decide-rests s h)))
 
   forgotten_by-rests : (key : Bytes) (s : State) → Holds P s → Holds P (forgotten_by key s)
