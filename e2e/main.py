@@ -28,6 +28,7 @@ SUBJECTS = [
     "broken_origins",
     "hostile_clients",
     "many_clients",
+    "hardship",
     "random_exchanges",
     "tools",
     "packages",

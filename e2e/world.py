@@ -155,18 +155,22 @@ class World:
         self.start()
 
     def start(self):
+        if why := self.launch():
+            self.stop()
+            raise Failed(f"    {why}")
+
+    def launch(self, before=":"):
+        """Starts it behind these commands of a shell, whose limits it has. Answers why it does not listen, or nothing."""
         self.output = tempfile.TemporaryFile()
         self.process = subprocess.Popen(
-            [self.program, f"proxyPort={self.port}", *self.words],
+            ["sh", "-c", f'{before}; exec "$@"', "sh", self.program, f"proxyPort={self.port}", *self.words],
             stdin=subprocess.DEVNULL,
             stdout=self.output,
             stderr=self.output,
             env=self.environment,
             cwd=self.folder.name,
         )
-        if why := wait_until_it_listens(self.process, self.port):
-            self.stop()
-            raise Failed(f"    {why}")
+        return wait_until_it_listens(self.process, self.port)
 
     def stop(self):
         if self.process.poll() is None:
