@@ -45,11 +45,12 @@ SUBJECTS = [
     "real_hosts",
     "costs",
     "idling",
+    "clocks",
     "browsing",
     "readme",
 ]
 # These take longest, and are begun first.
-LONGEST = ["hostile_origins", "idling", "packages", "real_hosts"]
+LONGEST = ["hostile_origins", "idling", "clocks", "packages", "real_hosts"]
 # Most of them wait most of the time.
 AT_ONCE = 4
 
