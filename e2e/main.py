@@ -26,6 +26,7 @@ SUBJECTS = [
     "refusals",
     "smuggling",
     "broken_origins",
+    "useless_answers",
     "hostile_clients",
     "many_clients",
     "hardship",
