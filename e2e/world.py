@@ -159,11 +159,12 @@ class World:
             self.stop()
             raise Failed(f"    {why}")
 
-    def launch(self, before=":"):
-        """Starts it behind these commands of a shell, whose limits it has. Answers why it does not listen, or nothing."""
+    def launch(self, before=None):
+        """Starts it, maybe behind commands of a shell, whose limits it has. Answers why it does not listen, or nothing."""
+        shell = ["sh", "-c", f'{before}; exec "$@"', "sh"] if before else []
         self.output = tempfile.TemporaryFile()
         self.process = subprocess.Popen(
-            ["sh", "-c", f'{before}; exec "$@"', "sh", self.program, f"proxyPort={self.port}", *self.words],
+            [*shell, self.program, f"proxyPort={self.port}", *self.words],
             stdin=subprocess.DEVNULL,
             stdout=self.output,
             stderr=self.output,

@@ -1,0 +1,273 @@
+#!/usr/bin/env python3
+"""Each call of the system fails once, while the program starts and while it serves: who is told something is told what is right, a
+front of it, or a page that says what is lacking; and everybody is told all behind that.
+
+    failing_calls.py PROGRAM [SEED]
+
+In the gate some calls fail, drawn at random. By itself it has each of them fail in turn, some minutes long; with a seed, some.
+"""
+
+import collections
+import contextlib
+import hashlib
+import mmap
+import os
+import pathlib
+import random
+import re
+import struct
+import sys
+import tempfile
+import time
+
+from caching import FRESH, now, said
+from harness import Failed, case, environment, equal, holds, need, ran
+from keeping import entries, serve_whole
+from kills import CHUNK
+from network import free_port
+from origin import Answer, noise, response
+from world import BAD_GATEWAY, Client, page
+
+SHIM = pathlib.Path(__file__).resolve().parent / "failing.c"
+# In the order of the numbers in failing.c, from 1 on.
+CALLS = (
+    "malloc realloc clock_gettime epoll_create1 epoll_wait epoll_ctl accept4 socket connect getsockopt setsockopt recv send shutdown "
+    "close open openat read write pread pwrite fdatasync fsync rename unlink statx flock getdents64 mkdir bind listen"
+).split()
+FIRST_COUNT = 4
+# The ends that USAGE.md has, but for those that words make.
+ENDS = {
+    (3, b"polipo: out of memory\n"),
+    (4, b"polipo: cannot list the cache folder\n"),
+    (7, b"polipo: no poller\n"),
+}
+REFUSED = page(b"500 Internal Server Error", b"keep-alive")
+SMALL, LONG = b"hello", 5 * CHUNK + 100
+# So many failures in the gate.
+DRAWN = 60
+
+
+class Calls:
+    """The calls of a program: how often each was made, and which one is to fail."""
+
+    def __init__(self, path):
+        path.write_bytes(bytes(CHUNK))
+        with open(path, "r+b") as file:
+            self._numbers = mmap.mmap(file.fileno(), CHUNK)
+
+    def made(self, call):
+        return struct.unpack_from("Q", self._numbers, 8 * (FIRST_COUNT + CALLS.index(call)))[0]
+
+    def counts(self):
+        return {call: self.made(call) for call in CALLS}
+
+    def fail(self, call, number):
+        """The one with this number, from the program's start on, fails, and no other."""
+        struct.pack_into("QQQ", self._numbers, 0, CALLS.index(call) + 1, number, number)
+
+    def fail_none(self):
+        struct.pack_into("Q", self._numbers, 0, 0)
+
+    def forget(self):
+        self._numbers[:] = bytes(CHUNK)
+
+
+@contextlib.contextmanager
+def counted(world):
+    """The program once more, whose calls are counted and may fail."""
+    need("cc")
+    with tempfile.TemporaryDirectory() as folder:
+        library, file = f"{folder}/failing.so", pathlib.Path(folder, "calls")
+        equal(ran(["cc", "-shared", "-fPIC", "-o", library, SHIM]).returncode, 0, "cc's status")
+        calls = Calls(file)
+        with world.anew("diskRun=2", environment=environment(LD_PRELOAD=library, CALLS_FILE=str(file))) as proxy:
+            yield proxy, calls
+
+
+def in_turn(calls, before, after):
+    """Each call that was made between two counts."""
+    return [(call, number) for call in CALLS for number in range(1, after[call] - before[call] + 1)]
+
+
+# ---- while it serves
+
+
+def reply_to(client, text):
+    """What a client hears that says this; less where it is closed before."""
+    heard = b""
+    with contextlib.suppress(ConnectionError):
+        client.say(text)
+        heard = re.sub(rb"\r\nage: \d+", b"", client.hear_until(b"\r\n\r\n"))
+        if length := re.search(rb"\r\ncontent-length: (\d+)\r\n", heard):
+            heard += client.hear(int(length[1]))
+    return heard
+
+
+class Script:
+    """What some clients ask, each time under names of its own, and what is right."""
+
+    def __init__(self, proxy):
+        self.proxy, self.bodies, self.number = proxy, {}, 0
+
+    def new(self):
+        """The origin has a small body and a long one, under new names, and takes a POST."""
+        self.number += 1
+        date = now()
+        paths = {"small": SMALL, "long": noise(LONG, 97 * self.number)}
+        self.right = {}
+        for name, body in paths.items():
+            path = f"/{self.number}/{name}"
+            self.bodies[hashlib.md5(self.proxy.url(path).encode()).hexdigest()] = body
+            serve_whole(self.proxy, path, body)
+            self.right[path] = body
+        self.proxy.origin.on(f"/{self.number}/post", Answer(response(b"posted", b"X: y")))
+
+    def asks(self):
+        """What is asked in turn: its name, its text, and the body that is right."""
+        small, long = self.right
+        text = self.proxy.request(f"/{self.number}/post", b"Content-Length: 1000", method="POST") + b"p" * 1_000
+        return [
+            *((path, self.proxy.request(path), body) for path, body in self.right.items()),
+            (f"a part of {long}", self.proxy.request(long, b"Range: bytes=5000-5999"), self.right[long][5_000:6_000]),
+            ("a POST", text, b"posted"),
+        ]
+
+    def play(self):
+        """Two clients after each other, each as long as it is not closed. Answers what each heard, and the body that is right."""
+        heard = []
+        for _client in (1, 2):
+            with Client(port=self.proxy.port) as client:
+                for name, text, body in self.asks():
+                    heard.append((name, reply_to(client, text), body))
+                    if not heard[-1][1].endswith((body, REFUSED, BAD_GATEWAY)):
+                        break
+        return heard
+
+    def judge(self, heard, of_what):
+        """Each reply is right, or a front of that, or a page that says what is lacking. Answers what it is."""
+        told = collections.Counter()
+        for path, text, body in heard:
+            head, end, came = text.partition(b"\r\n\r\n")
+            status = head[:12]
+            if text in (REFUSED, BAD_GATEWAY):
+                told["page"] += 1
+                holds(text == REFUSED or path == "a POST", f"no 502 for {path}, {of_what}")
+            elif status in (b"HTTP/1.1 200", b"HTTP/1.1 206"):
+                holds((status[-3:] == b"206") == path.startswith("a part"), f"the status for {path}, {of_what}, in place of {head}")
+                equal(came, body[: len(came)], f"the body of {path}, {of_what}")
+                told["right" if came == body else "front"] += 1
+            else:
+                holds(not end and b"HTTP/1.1 20".startswith(text[:11]), f"a front of a reply for {path}, {of_what}, in place of {text}")
+                told["front"] += 1
+        return told
+
+
+def serve_while_calls_fail(world, choose=None):
+    """Each call fails in turn, or those that are drawn."""
+    told = collections.Counter()
+    with counted(world) as (proxy, calls):
+        script = Script(proxy)
+        script.new()
+        before = calls.counts()
+        equal(script.judge(script.play(), "before"), {"right": 8}, "what is told where nothing fails")
+        after = calls.counts()
+        turns = in_turn(calls, before, after)
+        for call, number in choose(turns) if choose else turns:
+            of_what = f"where call {number} of {call} fails"
+            script.new()
+            calls.fail(call, calls.made(call) + number)
+            told += script.judge(script.play(), of_what)
+            calls.fail_none()
+            equal(script.judge(script.play(), f"behind {of_what}"), {"right": 8}, f"what is told {of_what}, once it is over")
+        proxy.stop()
+        for name, entry in entries(proxy).items():
+            equal(entry[1], script.bodies[name][: entry[0]], "what an entry vouches for")
+        proxy.start()
+    return f"{len(turns)} calls in all; {', '.join(f'{count} {what}' for what, count in told.items())}"
+
+
+# ---- while it starts
+
+
+def start_while_calls_fail(world, choose=None):
+    """Each call fails in turn as the program starts, or those that are drawn, over a folder with entries."""
+    ends, serves = collections.Counter(), 0
+    with counted(world) as (proxy, calls):
+        script = Script(proxy)
+        script.new()
+        script.play()
+        proxy.stop()
+        calls.forget()
+        proxy.start()
+        turns = in_turn(calls, dict.fromkeys(CALLS, 0), calls.counts())
+        wanted = ENDS | {(5, b"polipo: cannot listen on port %d\n" % proxy.port)}
+        for call, number in choose(turns) if choose else turns:
+            of_what = f"where call {number} of {call} fails at the start"
+            proxy.stop()
+            calls.forget()
+            calls.fail(call, number)
+            if proxy.launch():
+                end = proxy.process.returncode, proxy.printed()
+                holds(end in wanted, f"an end that has its line {of_what}, in place of {end}")
+                ends[end[0]] += 1
+            else:
+                script.judge(script.play(), of_what)
+                calls.fail_none()
+                equal(script.judge(script.play(), of_what), {"right": 8}, f"what is told {of_what}")
+                serves += 1
+        proxy.stop()
+        calls.forget()
+        proxy.start()
+    return f"{len(turns)} calls in all; {serves} times it serves, and ends with {dict(ends)}"
+
+
+def some(seed):
+    """Draws some of the turns, of each call at least one."""
+    generator = random.Random(seed)
+
+    def choose(turns):
+        by_call = collections.defaultdict(list)
+        for turn in turns:
+            by_call[turn[0]].append(turn)
+        drawn = [generator.choice(of_call) for of_call in by_call.values()]
+        return drawn + generator.sample(turns, min(len(turns), max(0, DRAWN - len(drawn))))
+
+    return choose
+
+
+def with_seed(run, world):
+    seed = random.randrange(1 << 32)
+    try:
+        return run(world, some(seed))
+    except Failed as failure:
+        raise Failed(f"{failure}\n    with seed {seed}")
+
+
+@case
+def a_call_that_fails_while_it_serves_costs_at_most_a_reply(world):
+    return with_seed(serve_while_calls_fail, world)
+
+
+@case
+def a_call_that_fails_as_it_starts_ends_it_with_a_line_or_costs_nothing(world):
+    return with_seed(start_while_calls_fail, world)
+
+
+def main():
+    from network import raise_loopback
+    from world import World
+
+    raise_loopback()
+    choose = some(int(sys.argv[2])) if len(sys.argv) == 3 else None
+    world = World(os.path.realpath(sys.argv[1]))
+    try:
+        for run in (serve_while_calls_fail, start_while_calls_fail):
+            print(f"{run.__name__}: {run(world, choose)}", flush=True)
+    finally:
+        world.stop()
+
+
+if __name__ == "__main__":
+    if len(sys.argv) not in (2, 3):
+        sys.exit(__doc__)
+    main()
