@@ -18,13 +18,10 @@ import re
 import struct
 import sys
 import tempfile
-import time
 
-from caching import FRESH, now, said
 from harness import Failed, case, environment, equal, holds, need, ran
 from keeping import entries, serve_whole
 from kills import CHUNK
-from network import free_port
 from origin import Answer, noise, response
 from world import BAD_GATEWAY, Client, page
 
@@ -43,8 +40,8 @@ ENDS = {
 }
 REFUSED = page(b"500 Internal Server Error", b"keep-alive")
 SMALL, LONG = b"hello", 5 * CHUNK + 100
-# So many failures in the gate.
-DRAWN = 60
+# So many of each call fail in the gate.
+DRAWN = 3
 
 
 class Calls:
@@ -112,19 +109,15 @@ class Script:
     def new(self):
         """The origin has a small body and a long one, under new names, and takes a POST."""
         self.number += 1
-        date = now()
-        paths = {"small": SMALL, "long": noise(LONG, 97 * self.number)}
-        self.right = {}
-        for name, body in paths.items():
-            path = f"/{self.number}/{name}"
+        self.right = {f"/{self.number}/small": SMALL, f"/{self.number}/long": noise(LONG, 97 * self.number)}
+        for path, body in self.right.items():
             self.bodies[hashlib.md5(self.proxy.url(path).encode()).hexdigest()] = body
             serve_whole(self.proxy, path, body)
-            self.right[path] = body
         self.proxy.origin.on(f"/{self.number}/post", Answer(response(b"posted", b"X: y")))
 
     def asks(self):
         """What is asked in turn: its name, its text, and the body that is right."""
-        small, long = self.right
+        _small, long = self.right
         text = self.proxy.request(f"/{self.number}/post", b"Content-Length: 1000", method="POST") + b"p" * 1_000
         return [
             *((path, self.proxy.request(path), body) for path, body in self.right.items()),
@@ -222,15 +215,14 @@ def start_while_calls_fail(world, choose=None):
 
 
 def some(seed):
-    """Draws some of the turns, of each call at least one."""
+    """Draws some turns of each call."""
     generator = random.Random(seed)
 
     def choose(turns):
         by_call = collections.defaultdict(list)
         for turn in turns:
             by_call[turn[0]].append(turn)
-        drawn = [generator.choice(of_call) for of_call in by_call.values()]
-        return drawn + generator.sample(turns, min(len(turns), max(0, DRAWN - len(drawn))))
+        return [turn for of_call in by_call.values() for turn in generator.sample(of_call, min(DRAWN, len(of_call)))]
 
     return choose
 

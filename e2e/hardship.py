@@ -2,7 +2,6 @@
 on, and tells no client a wrong byte; or it says why it ends."""
 
 import contextlib
-import hashlib
 import itertools
 import os
 import pathlib
@@ -12,34 +11,26 @@ import resource
 import shutil
 import socket
 import subprocess
-import tempfile
 import threading
 import time
 
 from caching import now, said
 from flows import Flows
 from folders import called, mounted, on_a_device_that_runs_out, small
-from harness import Failed, case, equal, holds, together
+from harness import case, equal, holds, together
 from keeping import (
     FRESH, MOVED, ONLY_KEPT, TAG, asked_for, body_of, cache_of, entries, file_of, fresh, put_entry, random_load, serve_whole,
     wait_for_extent,
 )
 from kills import GATES_AT, extent_in, kept_in
-from network import free_port
-from origin import Answer, noise, plain, response
-from words import USAGE, end_of
-from world import VIA, Client, page, passed, reply, reply_head
+from origin import Answer, noise, plain
+from words import USAGE
+from world import Client, page, passed, reply
 
 NO_MEMORY = (3, b"polipo: out of memory\n")
 REFUSED = page(b"500 Internal Server Error", b"keep-alive")
 NOTHING = b""
 MB = 1 << 20
-
-
-def name_of(proxy, path):
-    """The name of the file of what the origin has on this path."""
-    return hashlib.md5(proxy.url(path).encode()).hexdigest()
-
 
 # ---- memory
 
@@ -256,7 +247,7 @@ def expect_found(proxy, bodies, folder):
     extents = {}
     files = {path.name: kept_in(path) for path in folder.iterdir() if len(path.name) == 32}
     for path, body in bodies.items():
-        extents[path], data = files.get(name_of(proxy, path), (0, b""))
+        extents[path], data = files.get(file_of(proxy, path).name, (0, b""))
         equal(data, body[: extents[path]], f"what the folder vouches for of {path}")
     proxy.start()
     proxy.origin.clear()
@@ -290,7 +281,7 @@ def a_file_system_that_fills_up_under_load_is_seen_by_no_client(world):
             # another program takes what is left, and gives it back
             for _time in range(3):
                 time.sleep(0.4)
-                whole.update(path for path, body in bodies.items() if extent_in(folder / name_of(proxy, path)) == len(body))
+                whole.update(path for path, body in bodies.items() if extent_in(folder / file_of(proxy, path).name) == len(body))
                 with contextlib.suppress(OSError), open(other, "wb", buffering=0) as file:
                     while file.write(bytes(4_096)):
                         pass
@@ -309,7 +300,7 @@ def a_file_system_that_fills_up_under_load_is_seen_by_no_client(world):
         for path, body in bodies.items():
             equal(body_of(said(proxy, path)[0]), body, f"the body of {path}")
         deadline = time.monotonic() + 10
-        while any(extent_in(folder / name_of(proxy, path)) < len(body) for path, body in bodies.items()):
+        while any(extent_in(folder / file_of(proxy, path).name) < len(body) for path, body in bodies.items()):
             holds(time.monotonic() < deadline, "all in the folder, once there is room")
             time.sleep(0.05)
         return f"{sum(extents.values())} bytes kept of {sum(map(len, bodies.values()))}"
@@ -321,8 +312,8 @@ def a_device_whose_blocks_run_out_is_seen_by_no_client(world):
     with on_a_device_that_runs_out("6m") as (below, folder):
         root = pathlib.Path(folder) / "cache"
         with world.anew(f"diskCacheRoot={root}", "diskRun=4") as proxy:
-            bodies = serve_all(proxy, SIZES)
-            read_by_many(proxy, bodies, 1.5, seed)
+            bodies = serve_all(proxy, SIZES * 2)
+            read_by_many(proxy, bodies, 2, seed)
             proxy.stop()
             # what the device took is all that counts from here on
             holds(called("umount", folder), "it is mounted no more")
@@ -333,7 +324,9 @@ def a_device_whose_blocks_run_out_is_seen_by_no_client(world):
                     holds(any(body.startswith(data) for body in bodies.values()), f"{extent} bytes of a body that was sent")
             proxy.words = ()
             proxy.start()
-        return f"{len(files)} entries, {sum(extent for extent, _ in files)} bytes"
+        kept, whole = sum(extent for extent, _ in files), sum(map(len, bodies.values()))
+        holds(0 < kept < whole, f"some bytes on the device, and not all {whole}, in place of {kept}")
+        return f"{kept} bytes kept of {whole}"
 
 
 # ---- files that go away
