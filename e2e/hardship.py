@@ -18,6 +18,7 @@ from caching import now, said
 from flows import Flows
 from folders import called, mounted, on_a_device_that_runs_out, small
 from harness import case, equal, holds, together
+from idling import has_news
 from keeping import (
     FRESH, MOVED, ONLY_KEPT, TAG, asked_for, body_of, cache_of, entries, file_of, fresh, put_entry, random_load, serve_whole,
     wait_for_extent,
@@ -25,7 +26,7 @@ from keeping import (
 from kills import GATES_AT, extent_in, kept_in
 from origin import Answer, noise, plain
 from words import USAGE
-from world import Client, page, passed, reply
+from world import BAD_GATEWAY, Client, page, passed, reply
 
 NO_MEMORY = (3, b"polipo: out of memory\n")
 REFUSED = page(b"500 Internal Server Error", b"keep-alive")
@@ -215,6 +216,23 @@ def memory_that_comes_and_goes_under_load_costs_no_wrong_byte(world):
             with Client(port=proxy.port) as client:
                 equal(reply_of(proxy, client, path), right, f"the reply for {path[:9]} once it is over, with seed {seed}")
     return ", ".join(f"{count} {told}" for told, count in lack.told.items())
+
+
+@case
+def with_few_handles_who_finds_none_is_told_502_or_waits_and_all_are_served_once_others_leave(world):
+    with world.anew() as proxy:
+        proxy.stop()
+        equal(proxy.launch("ulimit -n 60"), None, "why it does not listen")
+        proxy.origin.on("/a", Answer(plain(b"hello")))
+        clients = [Client(port=proxy.port) for _ in range(100)]
+        for client in clients:
+            client.say(proxy.request("/a"))
+        time.sleep(1.5)
+        told = [next_reply(client) for client in clients if has_news(client)]
+        holds(all(heard in (passed(b"hello"), BAD_GATEWAY) for heard in told), f"the body or 502 in place of {set(told)}")
+        holds(0 < len(told) < len(clients), f"some that are answered, and some that wait ({len(told)})")
+        for client in clients:
+            client.socket.close()
 
 
 # ---- a disk that fills up
