@@ -30,6 +30,7 @@ SUBJECTS = [
     "hostile_clients",
     "many_clients",
     "hardship",
+    "failing_calls",
     "random_exchanges",
     "tools",
     "packages",
@@ -51,9 +52,9 @@ SUBJECTS = [
     "readme",
 ]
 # These take longest, and are begun first.
-LONGEST = ["hostile_origins", "idling", "clocks", "packages", "real_hosts"]
+LONGEST = ["hostile_origins", "keeping", "hardship", "clocks", "packages", "idling", "real_hosts"]
 # Most of them wait most of the time.
-AT_ONCE = 4
+AT_ONCE = 5
 
 
 def speaks_of(subject, wanted):
