@@ -6,14 +6,15 @@
 ghost use Rattle.std.specs.Prelude.{◌≤◌, ◌<◌, ◌+◌, IfSome};
 
 /// Where the clock is found so many seconds off, it was set. What is less is waited out.
-const STEP_SECONDS: u64 = 120;
+pub const STEP_SECONDS: u64 = 120;
 
 /// What was told, and how far it is ahead of the system's clock.
 #[derive(Clone, Copy, Debug)]
 pub struct Seconds {
-    ahead: u64,
+    /// How far it is ahead.
+    pub ahead: u64,
     /// The latest that was told.
-    latest: Option<u64>,
+    pub latest: Option<u64>,
 }
 
 impl Seconds {
