@@ -1,5 +1,5 @@
 #!/usr/bin/env python3
-"""Each call of the system fails once, while the program starts and while it serves: who is told something is told what is right, a
+"""Each call of the system fails, while the program starts and while it serves: who is told something is told what is right, a
 front of it, or a page that says what is lacking; and everybody is told all behind that.
 
     failing_calls.py PROGRAM [SEED]
@@ -40,8 +40,10 @@ ENDS = {
 }
 REFUSED = page(b"500 Internal Server Error", b"keep-alive")
 SMALL, LONG = b"hello", 5 * CHUNK + 100
-# So many of each call fail in the gate.
-DRAWN = 3
+# So many of each kind fail in the gate.
+DRAWN = 2
+# More than an exchange has attempts.
+TOGETHER = 4
 
 
 class Calls:
@@ -58,9 +60,9 @@ class Calls:
     def counts(self):
         return {call: self.made(call) for call in CALLS}
 
-    def fail(self, call, number):
-        """The one with this number, from the program's start on, fails, and no other."""
-        struct.pack_into("QQQ", self._numbers, 0, CALLS.index(call) + 1, number, number)
+    def fail(self, call, first, times):
+        """The one with this number, from the program's start on, fails, and those behind it, so many in all."""
+        struct.pack_into("QQQ", self._numbers, 0, CALLS.index(call) + 1, first, first + times - 1)
 
     def fail_none(self):
         struct.pack_into("Q", self._numbers, 0, 0)
@@ -81,9 +83,11 @@ def counted(world):
             yield proxy, calls
 
 
-def in_turn(calls, before, after):
-    """Each call that was made between two counts."""
-    return [(call, number) for call in CALLS for number in range(1, after[call] - before[call] + 1)]
+def in_turn(before, after):
+    """Each call that was made between two counts, by itself, and the first some of each kind together."""
+    made = {call: after[call] - before[call] for call in CALLS if after[call] > before[call]}
+    alone = [(call, number, 1) for call, count in made.items() for number in range(1, count + 1)]
+    return alone + [(call, 1, TOGETHER) for call in made]
 
 
 # ---- while it serves
@@ -136,15 +140,16 @@ class Script:
                         break
         return heard
 
-    def judge(self, heard, of_what):
-        """Each reply is right, or a front of that, or a page that says what is lacking. Answers what it is."""
+    def judge(self, heard, of_what, is_reached=True):
+        """Each reply is right, or a front of that, or a page that says what is lacking. That one failure costs no more than an
+        attempt shows where the origin is reached all the same. Answers what they are."""
         told = collections.Counter()
         for path, text, body in heard:
             head, end, came = text.partition(b"\r\n\r\n")
             status = head[:12]
             if text in (REFUSED, BAD_GATEWAY):
                 told["page"] += 1
-                holds(text == REFUSED or path == "a POST", f"no 502 for {path}, {of_what}")
+                holds(text == REFUSED or path == "a POST" or not is_reached, f"no 502 for {path}, {of_what}")
             elif status in (b"HTTP/1.1 200", b"HTTP/1.1 206"):
                 holds((status[-3:] == b"206") == path.startswith("a part"), f"the status for {path}, {of_what}, in place of {head}")
                 equal(came, body[: len(came)], f"the body of {path}, {of_what}")
@@ -164,19 +169,19 @@ def serve_while_calls_fail(world, choose=None):
         before = calls.counts()
         equal(script.judge(script.play(), "before"), {"right": 8}, "what is told where nothing fails")
         after = calls.counts()
-        turns = in_turn(calls, before, after)
-        for call, number in choose(turns) if choose else turns:
-            of_what = f"where call {number} of {call} fails"
+        turns = in_turn(before, after)
+        for call, number, times in choose(turns) if choose else turns:
+            of_what = f"where call {number} of {call} fails, and {times} in all"
             script.new()
-            calls.fail(call, calls.made(call) + number)
-            told += script.judge(script.play(), of_what)
+            calls.fail(call, calls.made(call) + number, times)
+            told += script.judge(script.play(), of_what, is_reached=times == 1)
             calls.fail_none()
             equal(script.judge(script.play(), f"behind {of_what}"), {"right": 8}, f"what is told {of_what}, once it is over")
         proxy.stop()
         for name, entry in entries(proxy).items():
             equal(entry[1], script.bodies[name][: entry[0]], "what an entry vouches for")
         proxy.start()
-    return f"{len(turns)} calls in all; {', '.join(f'{count} {what}' for what, count in told.items())}"
+    return f"{len(turns)} ways; {', '.join(f'{count} {what}' for what, count in told.items())}"
 
 
 # ---- while it starts
@@ -192,37 +197,37 @@ def start_while_calls_fail(world, choose=None):
         proxy.stop()
         calls.forget()
         proxy.start()
-        turns = in_turn(calls, dict.fromkeys(CALLS, 0), calls.counts())
+        turns = in_turn(dict.fromkeys(CALLS, 0), calls.counts())
         wanted = ENDS | {(5, b"polipo: cannot listen on port %d\n" % proxy.port)}
-        for call, number in choose(turns) if choose else turns:
-            of_what = f"where call {number} of {call} fails at the start"
+        for call, number, times in choose(turns) if choose else turns:
+            of_what = f"where call {number} of {call} fails at the start, and {times} in all"
             proxy.stop()
             calls.forget()
-            calls.fail(call, number)
+            calls.fail(call, number, times)
             if proxy.launch():
                 end = proxy.process.returncode, proxy.printed()
                 holds(end in wanted, f"an end that has its line {of_what}, in place of {end}")
                 ends[end[0]] += 1
             else:
-                script.judge(script.play(), of_what)
+                script.judge(script.play(), of_what, is_reached=times == 1)
                 calls.fail_none()
                 equal(script.judge(script.play(), of_what), {"right": 8}, f"what is told {of_what}")
                 serves += 1
         proxy.stop()
         calls.forget()
         proxy.start()
-    return f"{len(turns)} calls in all; {serves} times it serves, and ends with {dict(ends)}"
+    return f"{len(turns)} ways; {serves} times it serves, and ends with {dict(ends)}"
 
 
 def some(seed):
-    """Draws some turns of each call."""
+    """Draws some calls of each kind, and those together."""
     generator = random.Random(seed)
 
     def choose(turns):
         by_call = collections.defaultdict(list)
         for turn in turns:
             by_call[turn[0]].append(turn)
-        return [turn for of_call in by_call.values() for turn in generator.sample(of_call, min(DRAWN, len(of_call)))]
+        return [turn for *alone, all_of_them in by_call.values() for turn in [*generator.sample(alone, min(DRAWN, len(alone))), all_of_them]]
 
     return choose
 
