@@ -38,6 +38,8 @@ pub(crate) struct Desk {
     pub(crate) file: Vec<u8>,
     /// A client that was accepted in this turn, and for whom there is no memory.
     pub(crate) turned_away: Option<u64>,
+    /// The operator keeps a log of replies.
+    pub(crate) logs_replies: bool,
 }
 
 impl Desk {

@@ -9,6 +9,7 @@ use pp_flow::{EXCHANGES, Flow};
 use pp_peers::{Limits, PEERS, Peers};
 use pp_steps::State;
 use pp_text::OutOfMemory;
+use pp_world::AccessLog;
 use std::alloc::{AllocError, Global};
 
 impl Desk {
@@ -24,6 +25,7 @@ impl Desk {
             room: Box::new(alloc, Room::new()).map_err(AllocError::from)?,
             file: vec![in alloc; 0; FILE_LEN]?,
             turned_away: None,
+            logs_replies: !matches!(conf.log_place(), AccessLog::Nowhere),
         })
     }
 }
