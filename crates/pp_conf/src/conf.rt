@@ -33,6 +33,16 @@ pub struct Conf {
     pub access_log: String,
 }
 
+impl Conf {
+    /// The settings of no words and no text.
+    pub fn plain(alloc: Global) -> Result<Conf, ConfFault>
+        ensures kept { IfOk result (λ c. shown_conf c ≡ defaults) }
+        ensures memory { IfErr result (λ e. e ≡ OutOfMemory) }
+    {
+        Draft::new().keep(alloc)
+    }
+}
+
 /// The settings while assignments are applied; texts still stand where they came from.
 #[derive(Drop)]
 pub(crate) struct Draft<'a> {

@@ -5,7 +5,8 @@
 //! replaces an earlier one.
 //!
 //! To the layer above: `Conf::read` is `reading_of` of `specs/Words.antt`, faults in their order;
-//! `config_name` is the FILE of `-c`. The form of the text and the settings are ours.
+//! `config_name` is the FILE of `-c`, and `Conf::plain` has the settings of no words. The form of the text and the settings
+//! are ours.
 //!
 //! Takes memory for clap's tables, the assignments, the folder, the log's name and the ranges of clients. Opening the file is for the program.
 #![tactic(auto)]

@@ -2,11 +2,11 @@
 ghost use Rattle.std.specs.Prelude.{◌≡◌, ◌≤◌, ◌+◌, ◌-◌, ◌^◌, min};
 ghost use Rattle.pp_client.specs.Replies.{left_next};
 ghost use Rattle.pp_client.specs.Requests.{current_of};
-ghost use Rattle.pp_seats.specs.Accounts.{HasLine, anew, begun, line_in, line_of, said};
-ghost use Rattle.pp_seats.specs.Courses.{has_begun, lost_one, without_row, without_shared_row};
+ghost use Rattle.pp_seats.specs.Accounts.{HasLine, begun, line_in, line_of, said};
+ghost use Rattle.pp_seats.specs.Courses.{has_begun, is_trying_in, lost_one, without_row, without_shared_row};
 ghost use Rattle.pp_seats.specs.Said.{used_by};
-ghost use Rattle.pp_seats.specs.declared.account.Account.TheVariants.{Unkept};
 ghost use Rattle.pp_seats.specs.Follows.{answer_in, next_of};
+ghost use Rattle.pp_seats.specs.Seats.{at_next_request, brought_to, has_key, is_at_body, is_silent, is_to_be_decided, is_told_in, new_seat, passed_in};
 
 use crate::account::{Account, line_of};
 use crate::front::Front;
@@ -158,7 +158,7 @@ pub struct Seat {
 impl Seat {
     /// A client that was accepted in this turn.
     pub fn new(client: Client) -> Seat
-        ensures account { result.account ≡ Unkept }
+        ensures { result ≡ new_seat client }
     {
         Seat {
             client,
@@ -179,7 +179,9 @@ impl Seat {
     }
 
     /// The number of the connection.
-    pub fn id(&self) -> u64 {
+    pub fn id(&self) -> u64
+        ensures { result ≡ self.now.client.id }
+    {
         self.client.id()
     }
 
@@ -194,7 +196,9 @@ impl Seat {
     }
 
     /// That is the key of its request.
-    pub fn has_key(&self, key: &[u8]) -> bool {
+    pub fn has_key(&self, key: &[u8]) -> bool
+        ensures { result ≡ has_key key.now self.now }
+    {
         match self.front.key() {
             None => false,
             Some(own) => own.text() == key,
@@ -202,7 +206,9 @@ impl Seat {
     }
 
     /// The head of its exchange's response came.
-    pub fn is_told(&self) -> bool {
+    pub fn is_told(&self) -> bool
+        ensures { result ≡ is_told_in self.now.brought }
+    {
         match self.brought {
             Brought::Awaited => false,
             Brought::Useless
@@ -214,7 +220,9 @@ impl Seat {
     }
 
     /// The response that its exchange passes to it.
-    pub fn passed(&self) -> Option<Passed> {
+    pub fn passed(&self) -> Option<Passed>
+        ensures { result ≡ passed_in self.now.brought }
+    {
         match self.brought {
             Brought::Passes(passed) => Some(passed),
             Brought::Awaited
@@ -226,7 +234,9 @@ impl Seat {
     }
 
     /// The body of that response came to this.
-    pub fn end_passed(&mut self, end: PassedEnd) {
+    pub fn end_passed(&mut self, end: PassedEnd)
+        ensures { self.new ≡ record self.old { brought = brought_to end self.old.brought } }
+    {
         if let Brought::Passes(passed) = &mut self.brought {
             passed.end = end;
         }
@@ -310,12 +320,16 @@ impl Seat {
     }
 
     /// Its reply is past its head.
-    pub fn is_at_body(&self) -> bool {
+    pub fn is_at_body(&self) -> bool
+        ensures { result ≡ is_at_body self.now }
+    {
         self.has_begun() && self.before_body == 0
     }
 
     /// Its request may be decided now.
-    pub fn is_to_be_decided(&self) -> bool {
+    pub fn is_to_be_decided(&self) -> bool
+        ensures { result ≡ is_to_be_decided self.now }
+    {
         if self.is_closing {
             return false;
         }
@@ -328,7 +342,9 @@ impl Seat {
     }
 
     /// More may be asked for its request.
-    pub fn is_trying(&self) -> bool {
+    pub fn is_trying(&self) -> bool
+        ensures { result ≡ is_trying_in self.now.course }
+    {
         match self.course {
             Course::Trying(_) => true,
             Course::OutOfTries | Course::AskTooLong => false,
@@ -372,7 +388,9 @@ impl Seat {
     }
 
     /// It sent no whole head, and may send more: until it does, or the clock ticks, a turn has nothing to do for it.
-    pub fn is_silent(&self) -> bool {
+    pub fn is_silent(&self) -> bool
+        ensures { result ≡ is_silent self.now }
+    {
         matches!(self.stage, Stage::Undecided)
             && !self.front.is_there()
             && !self.has_hung_up
@@ -393,7 +411,7 @@ impl Seat {
 
     /// Its reply is over: the next request stands.
     pub fn next_request(&mut self)
-        ensures account { self.new.account ≡ anew self.old.account }
+        ensures { self.new ≡ at_next_request self.old }
     {
         self.front = Front::NoHeadYet;
         self.body_left = 0;
