@@ -30,6 +30,11 @@ impl State {
         None
     }
 
+    /// A decision is due to it, by what is in memory of its key.
+    pub(crate) fn is_to_decide(&self, seat: &Seat) -> bool {
+        self.decision_of(seat).is_some()
+    }
+
     fn due_at(&self, i: usize) -> Option<Due> {
         self.due_of(self.seats.get(i)?)
     }
