@@ -11,7 +11,8 @@ use std::test::Fail;
 /// Where the course goes otherwise than it may, with one call that fails, whichever that is: nothing is said where it does
 /// not. Behind the last call none fails.
 fn unlike_with_a_failure(alloc: Global, words: &[&str]) -> Result<String, OutOfMemory> {
-    let calls = calls_in(first_life(alloc, words, COURSE, &[])?.log());
+    let plain = first_life(alloc, words, COURSE, &[])?;
+    let calls = calls_in(plain.log());
     for call in 1..calls.saturating_add(2) {
         let life = first_life(alloc, words, COURSE, &[call])?;
         let failures = if call <= calls { 1 } else { 0 };

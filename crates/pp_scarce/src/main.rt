@@ -6,15 +6,15 @@
 //! It ends with 0, and with 1 where it came to what it may not.
 #![tactic(auto)]
 
-mod outcome; // what the course came to
+mod judging; // what the course came to
 
-use outcome::{Outcome, outcome};
+use judging::{Outcome, played};
 use pp_text::OutOfMemory;
 use std::io;
 use std::process::ExitCode;
 
 fn main(rt: HostRuntime) -> io::Result<ExitCode> {
-    let outcome = match outcome(rt.alloc()) {
+    let outcome = match played(rt.alloc()) {
         Ok(outcome) => outcome,
         Err(OutOfMemory) => Outcome::Unplayed,
     };

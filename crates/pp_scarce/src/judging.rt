@@ -43,7 +43,7 @@ impl Outcome {
 }
 
 /// Plays the course, and judges it.
-pub(crate) fn outcome(alloc: Global) -> Result<Outcome, OutOfMemory> {
+pub(crate) fn played(alloc: Global) -> Result<Outcome, OutOfMemory> {
     let life = first_life(alloc, ALONE, COURSE, &[])?;
     match life.exit {
         Exit::Served => served(alloc, &life),
