@@ -1,5 +1,4 @@
 pub mod Folders
-pub mod Fresh
 pub mod Judging
 pub mod LineLemmas
 pub mod Starting

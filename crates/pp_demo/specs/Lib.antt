@@ -1,5 +1,0 @@
-pub mod Generator
-pub mod Pages
-pub mod Asking
-pub mod Summary
-pub mod Script
