@@ -1,4 +1,5 @@
-"""The rules for real origins and real clients, by name, and which of them the program does not follow yet: none."""
+"""The rules for real origins and real clients, by name, and which of them the program does not follow yet: where the clock is set
+back, ages and patience stand still until it has caught up."""
 
 import functools
 import os
@@ -6,7 +7,7 @@ import os
 from harness import Skipped
 
 # The tests of these are skipped by name; with ALSO_NOT_YET=1 in the environment they run.
-NOT_YET = set()
+NOT_YET = {"clock-set-back"}
 
 
 def rule(name):
