@@ -157,8 +157,7 @@ impl<R: Runtime + AllocGlobal + Net> Wire for NetWorld<R> {
     fn next(&mut self, wants: &Wants) -> Event {
         for _ in 0..u64::MAX {
             let now = self.clock();
-            let second = self.seconds.tell(now.as_secs());
-            if let Some(tick) = self.find_tick(second) {
+            if let Some(tick) = self.find_tick(now.as_secs()) {
                 self.leave_moved_folder();
                 return tick;
             }
