@@ -36,6 +36,7 @@ SUBJECTS = [
     "packages",
     "words",
     "household",
+    "access",
     "kills",
     "folders",
     "caching",

@@ -1,5 +1,4 @@
-"""The rules for real origins and real clients, by name, and which of them the program does not follow yet: where the clock is set
-back, ages and patience stand still until it has caught up."""
+"""The rules for real origins and real clients, by name, and which of them the program does not follow yet: none."""
 
 import functools
 import os
@@ -7,7 +6,7 @@ import os
 from harness import Skipped
 
 # The tests of these are skipped by name; with ALSO_NOT_YET=1 in the environment they run.
-NOT_YET = {"clock-set-back"}
+NOT_YET = set()
 
 
 def rule(name):
