@@ -1,5 +1,5 @@
 -- What one more piece of a body brings, and that it goes into the pipe behind what went in before.
-use Rattle.std.proofs.Common.{◌≡◌, refl, ℕ, Bool, true, false, List, [], ◌∷◌, ◌++◌, length, drop, sym, ap, ◌∙◌, append_assoc}
+use Rattle.std.proofs.Common.{◌≡◌, ◌⊎◌, refl, inl, inr, ℕ, Bool, true, false, List, [], ◌∷◌, ◌++◌, length, drop, sym, ap, ◌∙◌, append_assoc}
 use Rattle.std.proofs.lemmas.List.{append-nil}
 use Rattle.std.proofs.lemmas.List.Folds.{concat-append}
 use Rattle.std.specs.List.{concat}
@@ -16,6 +16,8 @@ use Rattle.pp_law.specs.Lists.{Bytes}
 use Rattle.pp_law.specs.Passing.{poured}
 use Rattle.pp_law.specs.State.{Client, Passed}
 use Rattle.pp_laws_passed.specs.Passed.{all_spelled, head_left, is_in_passed, to_say}
+use Rattle.pp_laws.specs.Runs.{IsIn}
+use Rattle.pp_laws.proofs.Lists.{in_push}
 use Rattle.pp_laws_passed.proofs.Fed.{Relays}
 
 -- ---- the data of a longer text
@@ -54,8 +56,8 @@ one_piece : (piece : Bytes) → concat (piece ∷ []) ≡ piece
 one_piece piece = append-nil piece
 
 -- a client that was as this one, but for the pipe
-pub relays_poured : (said now : Bytes) (c d : Client) (p : Passed) (fresh data : Bytes) → now ≡ said → c.stage ≡ d.stage → c.interim_left ≡ d.interim_left → Relays said d p data → Relays now c (record p { pipe = poured fresh p.pipe }) (data ++ fresh)
-relays_poured said now c d p fresh data same_said stage left r = by fresh
+pub relays_poured : (said now : Bytes) (c d : Client) (p : Passed) (fresh content : Bytes) → now ≡ said → c.stage ≡ d.stage → c.interim_left ≡ d.interim_left → Relays said d p content → Relays now c (record p { pipe = poured fresh p.pipe }) (content ++ fresh)
+relays_poured said now c d p fresh content same_said stage left r = by fresh
   where
     left_same : to_say c ≡ to_say d
     left_same = ap (λ (xs : Bytes). xs ++ head_left c.stage) left ∙ ap (λ st. d.interim_left ++ head_left st) stage
@@ -75,16 +77,18 @@ relays_poured said now c d p fresh data same_said stage left r = by fresh
         ap (λ (xs : Bytes). before ++ xs) (sym (append_assoc say pipe more)) ∙ sym (append_assoc before (say ++ pipe) more) ∙ ap (λ (xs : Bytes). xs ++ more) is
         ∙ append_assoc earlier (head ++ text) more ∙ ap (λ (xs : Bytes). earlier ++ xs) (append_assoc head text more)
 
-    by : (xs : Bytes) → Relays now c (record p { pipe = poured xs p.pipe }) (data ++ xs)
+    by : (xs : Bytes) → Relays now c (record p { pipe = poured xs p.pipe }) (content ++ xs)
     by [] = record {
       pieces = r.pieces;
-      all = r.all ∙ sym (append-nil data);
+      all = r.all ∙ sym (append-nil content);
+      full = r.full;
       waiting = λ off. r.waiting (off_it off);
       shown = λ on. let w = r.shown (on_it on) in record { earlier = w.earlier; head = w.head; minor = w.minor; is_head = w.is_head; name = w.name; keeps = w.keeps; spelled = w.spelled; stream = same_left p.pipe.bytes ∙ w.stream };
     }
     by (b ∷ bytes) = record {
       pieces = r.pieces ++ (b ∷ bytes) ∷ [];
       all = concat-append r.pieces ((b ∷ bytes) ∷ []) ∙ ap (λ (xs : Bytes). concat r.pieces ++ xs) (one_piece (b ∷ bytes)) ∙ ap (λ (xs : Bytes). xs ++ b ∷ bytes) r.all;
+      full = λ piece i. more piece (in_push piece r.pieces (b ∷ bytes) i);
       waiting = λ off. ap (λ (xs : Bytes). xs ++ spelled p.pipe.is_coded (b ∷ bytes)) (r.waiting (off_it off)) ∙ sym (spelled_push p.pipe.is_coded r.pieces (b ∷ bytes));
       shown = λ on.
           let w = r.shown (on_it on) in
@@ -101,3 +105,7 @@ relays_poured said now c d p fresh data same_said stage left r = by fresh
                 ∙ ap (λ (xs : Bytes). w.earlier ++ (w.head ++ xs)) (sym (spelled_push p.pipe.is_coded r.pieces (b ∷ bytes)));
           };
     }
+      where
+        more : (piece : Bytes) → IsIn piece r.pieces ⊎ (piece ≡ b ∷ bytes) → piece ≡ [] → ⊥
+        more piece (inl i) none = r.full piece i none
+        more piece (inr is) none = let both : b ∷ bytes ≡ [] = sym is ∙ none in cc both

@@ -38,9 +38,10 @@ pub record Tale : Type 0 where
   pub but : Option ℕ
 
 -- these data went into the pipe, piece by piece. Nothing of them was said where the reply has not begun
-pub record Relays (said : Bytes) (c : Client) (p : Passed) (data : Bytes) : Type 0 where
+pub record Relays (said : Bytes) (c : Client) (p : Passed) (content : Bytes) : Type 0 where
   pub pieces : List Bytes
-  pub all : concat pieces ≡ data
+  pub all : concat pieces ≡ content
+  pub full : (piece : Bytes) → IsIn piece pieces → piece ≡ [] → ⊥
   pub waiting : is_in_passed c.stage ≡ false → p.pipe.bytes ≡ all_spelled p.pipe.is_coded pieces
   pub shown : is_in_passed c.stage ≡ true → IsShown said (to_say c) p (all_spelled p.pipe.is_coded pieces)
 
@@ -80,21 +81,21 @@ facts_of (fed facts) = facts
 -- ---- where each comes from
 
 -- the same response, and what is to be said of it
-pub record SameHead (tale then : Tale) (d c : Client) (p q : Passed) : Type 0 where
+pub record SameHead (tale later : Tale) (d c : Client) (p q : Passed) : Type 0 where
   pub head : p.head ≡ q.head
   pub rule : p.rule ≡ q.rule
-  pub relays : (data : Bytes) → Relays (tale.said c.number) c q data → Relays (then.said d.number) d p data
+  pub relays : (content : Bytes) → Relays (tale.said c.number) c q content → Relays (later.said d.number) d p content
 
-pub record SameClient (tale then : Tale) (d c : Client) : Type 0 where
+pub record SameClient (tale later : Tale) (d c : Client) : Type 0 where
   pub number : d.number ≡ c.number
   pub passing : is_in_passed d.stage ≡ true → is_in_passed c.stage ≡ true
   pub source : is_in_passed d.stage ≡ true → (id : ℕ) → source_in d.stage ≡ Some id → source_in c.stage ≡ Some id
-  pub passed : (p : Passed) → is_in_other d.stage ≡ false → passed_of d ≡ Some p → (q : Passed) × (is_in_other c.stage ≡ false) × (passed_of c ≡ Some q) × SameHead tale then d c p q
+  pub passed : (p : Passed) → is_in_other d.stage ≡ false → passed_of d ≡ Some p → (q : Passed) × (is_in_other c.stage ≡ false) × (passed_of c ≡ Some q) × SameHead tale later d c p q
 
-pub record FromClient (tale then : Tale) (clients : List Client) (d : Client) : Type 0 where
+pub record FromClient (tale later : Tale) (clients : List Client) (d : Client) : Type 0 where
   pub was : Client
   pub there : IsIn was clients
-  pub is : SameClient tale then d was
+  pub is : SameClient tale later d was
 
 pub record SameExchange (e d : Exchange) : Type 0 where
   pub number : e.number ≡ d.number
@@ -117,10 +118,11 @@ pub record FromConn (conns : List Conn) (k : Conn) : Type 0 where
 
 -- where what was said, and behind it what is left to say, is as it was
 pub relays_by : (was now : Bytes) (d c : Client) (p q : Passed) → is_in_passed d.stage ≡ is_in_passed c.stage → p.head ≡ q.head → p.rule ≡ q.rule → p.pipe.is_coded ≡ q.pipe.is_coded → (is_in_passed c.stage ≡ false → p.pipe.bytes ≡ q.pipe.bytes)
-    → (is_in_passed c.stage ≡ true → now ++ (to_say d ++ p.pipe.bytes) ≡ was ++ (to_say c ++ q.pipe.bytes)) → (data : Bytes) → Relays was c q data → Relays now d p data
-relays_by was now d c p q on head rule coded bytes stream data r = record {
+    → (is_in_passed c.stage ≡ true → now ++ (to_say d ++ p.pipe.bytes) ≡ was ++ (to_say c ++ q.pipe.bytes)) → (content : Bytes) → Relays was c q content → Relays now d p content
+relays_by was now d c p q on head rule coded bytes stream content r = record {
   pieces = r.pieces;
   all = r.all;
+  full = r.full;
   waiting = λ off. let off_it : is_in_passed c.stage ≡ false = sym on ∙ off in bytes off_it ∙ r.waiting off_it ∙ ap (λ b. all_spelled b r.pieces) (sym coded);
   shown = λ is. let on_it : is_in_passed c.stage ≡ true = sym on ∙ is in let w = r.shown on_it in record {
     earlier = w.earlier;
@@ -136,16 +138,16 @@ relays_by was now d c p q on head rule coded bytes stream data r = record {
 
 -- where nothing changed that this speaks of
 pub relays_on : (was now : Bytes) (d c : Client) (p q : Passed) → now ≡ was → is_in_passed d.stage ≡ is_in_passed c.stage → (is_in_passed c.stage ≡ true → to_say d ≡ to_say c) → p.head ≡ q.head → p.rule ≡ q.rule → p.pipe ≡ q.pipe
-    → (data : Bytes) → Relays was c q data → Relays now d p data
+    → (content : Bytes) → Relays was c q content → Relays now d p content
 relays_on was now d c p q said on left head rule pipe =
     relays_by was now d c p q on head rule (ap (λ (x : Pipe). x.is_coded) pipe) (λ off. ap (λ (x : Pipe). x.bytes) pipe)
     (λ is. ap (λ (xs : Bytes). xs ++ (to_say d ++ p.pipe.bytes)) said ∙ ap (λ (xs : Bytes). was ++ (xs ++ p.pipe.bytes)) (left is) ∙ ap (λ (x : Pipe). was ++ (to_say c ++ x.bytes)) pipe)
 
 pub client_same : {tale : Tale} (c : Client) → SameClient tale tale c c
-client_same c = record { number = refl; passing = λ is. is; source = λ on id is. is; passed = λ p off is. (p, off, is, record { head = refl; rule = refl; relays = λ data r. r }) }
+client_same c = record { number = refl; passing = λ is. is; source = λ on id is. is; passed = λ p off is. (p, off, is, record { head = refl; rule = refl; relays = λ content r. r }) }
 
 -- one that is told nothing, and is in no reply that is passed
-pub none_passed : {tale then : Tale} (d c : Client) → d.number ≡ c.number → is_in_passed d.stage ≡ false → source_in d.stage ≡ None → passed_of d ≡ None → SameClient tale then d c
+pub none_passed : {tale later : Tale} (d c : Client) → d.number ≡ c.number → is_in_passed d.stage ≡ false → source_in d.stage ≡ None → passed_of d ≡ None → SameClient tale later d c
 none_passed d c number off sourceless none = record {
   number = number;
   passing = λ on. let both : false ≡ true = sym off ∙ on in absurd (cc both);
@@ -153,15 +155,15 @@ none_passed d c number off sourceless none = record {
   passed = λ p isnt is. let both : None ≡ Some p = sym none ∙ is in absurd (cc both);
 }
 
-pub parts_across : {tale then : Tale} (d c : Client) → d.number ≡ c.number → d.stage ≡ c.stage → d.brought ≡ c.brought → d.interim_left ≡ c.interim_left → then.said d.number ≡ tale.said c.number → SameClient tale then d c
-parts_across {tale} {then} d c number stage brought left said = record {
+pub parts_across : {tale later : Tale} (d c : Client) → d.number ≡ c.number → d.stage ≡ c.stage → d.brought ≡ c.brought → d.interim_left ≡ c.interim_left → later.said d.number ≡ tale.said c.number → SameClient tale later d c
+parts_across {tale} {later} d c number stage brought left said = record {
   number = number;
   passing = λ is. sym (ap is_in_passed stage) ∙ is;
   source = λ on id is. sym (ap source_in stage) ∙ is;
   passed = λ p off is. (p, ap is_in_other (sym stage) ∙ off, sym (ap (λ b. passed_of (record c { brought = b })) brought) ∙ is, record {
     head = refl;
     rule = refl;
-    relays = relays_on (tale.said c.number) (then.said d.number) d c p p said (ap is_in_passed stage) (λ on. ap (λ (xs : Bytes). xs ++ head_left d.stage) left ∙ ap (λ st. c.interim_left ++ head_left st) stage) refl refl refl;
+    relays = relays_on (tale.said c.number) (later.said d.number) d c p p said (ap is_in_passed stage) (λ on. ap (λ (xs : Bytes). xs ++ head_left d.stage) left ∙ ap (λ st. c.interim_left ++ head_left st) stage) refl refl refl;
   });
 }
 
@@ -182,9 +184,9 @@ for_from e w d c asker number is = by e.asker refl is
     by (Some m) eq h = ap (λ a. is_this c.number a) (asker m eq) ∙ ap (λ k. m == k) (sym number) ∙ h
 
 -- all comes from what was there
-pub facts_across : {tale then : Tale} (o s : State) → ((n : ℕ) → (then.but ≡ Some n → ⊥) → tale.but ≡ Some n → ⊥) → AreRising (map client_number s.clients) → AreRising (map exchange_number s.exchanges) → o.next_exchange ≡ s.next_exchange
-    → ((d : Client) → IsIn d s.clients → FromClient tale then o.clients d) → ((e : Exchange) → IsIn e s.exchanges → FromExchange o.exchanges e) → ((k : Conn) → IsIn k s.conns → FromConn o.conns k) → FactsOf tale o → FactsOf then s
-facts_across {tale} {then} o s but apart rise next clients exchanges conns h = record {
+pub facts_across : {tale later : Tale} (o s : State) → ((n : ℕ) → (later.but ≡ Some n → ⊥) → tale.but ≡ Some n → ⊥) → AreRising (map client_number s.clients) → AreRising (map exchange_number s.exchanges) → o.next_exchange ≡ s.next_exchange
+    → ((d : Client) → IsIn d s.clients → FromClient tale later o.clients d) → ((e : Exchange) → IsIn e s.exchanges → FromExchange o.exchanges e) → ((k : Conn) → IsIn k s.conns → FromConn o.conns k) → FactsOf tale o → FactsOf later s
+facts_across {tale} {later} o s but apart rise next clients exchanges conns h = record {
   apart = apart;
   rise = rise;
   given = λ e i. let f = exchanges e i in subst (λ n. e.number < n) next (subst (λ n. n < o.next_exchange) (sym f.is.number) (h.given f.was f.there));
@@ -197,7 +199,7 @@ facts_across {tale} {then} o s but apart rise next clients exchanges conns h = r
       by k e c g.was p f w q.0 q.3 m (h.fed_by w.was f.was g.was q.0 w.there f.there (subst (λ n. IsIn n w.was.line) f.is.number (w.line e.number m)) (sym f.is.headed ∙ is) g.there (for_from e f.was c g.was f.is.asker g.is.number hit) q.1 q.2);
 }
   where
-    by : (k : Conn) (e : Exchange) (c was : Client) (p : Passed) (f : FromExchange o.exchanges e) (w : FromConn o.conns k) (q : Passed) → SameHead tale then c was p q → IsIn e.number k.line → Feeds tale w.was f.was was q → Feeds then k e c p
+    by : (k : Conn) (e : Exchange) (c was : Client) (p : Passed) (f : FromExchange o.exchanges e) (w : FromConn o.conns k) (q : Passed) → SameHead tale later c was p q → IsIn e.number k.line → Feeds tale w.was f.was was q → Feeds later k e c p
     by k e c was p f w q heads m v = record {
       front = w.front e.number m (v.front ∙ ap (λ n. Some n) (sym f.is.number));
       answer = v.answer;

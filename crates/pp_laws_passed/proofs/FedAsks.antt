@@ -77,9 +77,10 @@ module _ {tale : Tale} where
   without_row-by c true = client_same c
   without_row-by c false = parts_same _ c refl refl refl refl
 
-  left_alone-same : (e : Exchange) → SameExchange (left_alone e) e
-  left_alone-same e = record { number = refl; asker = λ n is. absurd (cc is); headed = refl; place = λ is none. none }
+left_alone-same : (e : Exchange) → SameExchange (left_alone e) e
+left_alone-same e = record { number = refl; asker = λ n is. absurd (cc is); headed = refl; place = λ is none. none }
 
+module _ {tale : Tale} where
   give_up_row-fed : (e : Exchange) (s : State) → Fed tale s → Fed tale (give_up_row e s)
   unfolding give_up_row
   give_up_row-fed e s h =
@@ -97,10 +98,11 @@ module _ {tale : Tale} where
   unfolding fail
   fail-fed e s h = charge-fed (λ course. OutOfTries) e s h
 
-  first_filter : (p : ℕ → Bool) (n : ℕ) (ns : List ℕ) → p n ≡ true → first_of ns ≡ Some n → first_of (filter p ns) ≡ Some n
-  first_filter p n [] holds is = absurd (cc is)
-  first_filter p n (m ∷ ms) holds is = let e : m ≡ n = cc in subst (λ t. first_of (cond t (m ∷ filter p ms) (filter p ms)) ≡ Some n) (sym (ap p e ∙ holds)) is
+first_filter : (p : ℕ → Bool) (n : ℕ) (ns : List ℕ) → p n ≡ true → first_of ns ≡ Some n → first_of (filter p ns) ≡ Some n
+first_filter p n [] holds is = absurd (cc is)
+first_filter p n (m ∷ ms) holds is = let e : m ≡ n = cc in subst (λ t. first_of (cond t (m ∷ filter p ms) (filter p ms)) ≡ Some n) (sym (ap p e ∙ holds)) is
 
+module _ {tale : Tale} where
   pub end_exchange-fed : (n : ℕ) (s : State) → Fed tale s → Fed tale (end_exchange n s)
   unfolding end_exchange
   end_exchange-fed n s h = fed (conns_from (record s { exchanges = filter (λ e. not (is_exchange n e)) s.exchanges }) (map (without_ask n) s.conns) (λ k i. from k (in_map (without_ask n) k s.conns i)) (exchanges_filtered s (λ e. not (is_exchange n e)) (facts_of h)))
@@ -168,23 +170,24 @@ module _ {tale : Tale} where
       (λ is. end_exchange-fed e.number _ (on_client_of-fed e (on_passed (λ p. record p { is_short = true })) s (λ c. on_passed-fed (λ p. record p { is_short = true }) c (short_same c)) h))
       (λ isnt. when (may_ask_again s e.number) (unplaced-fed e s isnt headed h) (end_exchange-fed e.number s h))
 
-  -- to lose an attempt changes no head
-  given_up_headed : (e d : Exchange) (s : State) → HeadedAs d s → HeadedAs d (give_up_row e s)
-  unfolding give_up_row on_exchange on_client_of clear swept
-  given_up_headed e d s headed = by (is_unfilled s e)
-    where
-      by : (t : Bool) → HeadedAs d (elim t as (λ x. State) [ false ↦ s | true ↦ on_exchange e.number left_alone (on_client_of e without_row (clear (text_of e.key) s)) ])
-      by false x i number = headed x i number
-      by true x i number = at (in_change (is_exchange e.number) left_alone x s.exchanges i)
-        where
-          at : Changed (is_exchange e.number) left_alone s.exchanges x → is_headed x ≡ is_headed d
-          at (same j isnt) = headed x j number
-          at (other y j hit eq) = ap (λ (z : Exchange). is_headed z) eq ∙ headed y j (sym (ap exchange_number eq) ∙ number)
+-- to lose an attempt changes no head
+given_up_headed : (e d : Exchange) (s : State) → HeadedAs d s → HeadedAs d (give_up_row e s)
+unfolding give_up_row on_exchange on_client_of clear swept
+given_up_headed e d s headed = by (is_unfilled s e)
+  where
+    by : (t : Bool) → HeadedAs d (elim t as (λ x. State) [ false ↦ s | true ↦ on_exchange e.number left_alone (on_client_of e without_row (clear (text_of e.key) s)) ])
+    by false x i number = headed x i number
+    by true x i number = at (in_change (is_exchange e.number) left_alone x s.exchanges i)
+      where
+        at : Changed (is_exchange e.number) left_alone s.exchanges x → is_headed x ≡ is_headed d
+        at (same j isnt) = headed x j number
+        at (other y j hit eq) = ap (λ (z : Exchange). is_headed z) eq ∙ headed y j (sym (ap exchange_number eq) ∙ number)
 
-  lost_headed : (e d : Exchange) (s : State) → HeadedAs d s → HeadedAs d (lose_attempt e s)
-  unfolding lose_attempt charge on_client_of
-  lost_headed e d s headed = given_up_headed e d (on_client_of e (λ c. record c { course = lost_one (attempts_of e) c.course }) s) headed
+lost_headed : (e d : Exchange) (s : State) → HeadedAs d s → HeadedAs d (lose_attempt e s)
+unfolding lose_attempt charge on_client_of
+lost_headed e d s headed = given_up_headed e d (on_client_of e (λ c. record c { course = lost_one (attempts_of e) c.course }) s) headed
 
+module _ {tale : Tale} where
   lose_place-fed : (counts : Bool) (e : Exchange) (s : State) → IsIn e s.exchanges → Fed tale s → Fed tale (lose_place counts e s)
   unfolding lose_place
   lose_place-fed counts e s there h = when counts (leave_place-fed e _ (lost_headed e e s (headed_as e s there h)) (lose_attempt-fed e s h)) (leave_place-fed e s (headed_as e s there h) h)
@@ -209,10 +212,11 @@ module _ {tale : Tale} where
       by e (same i isnt) number = unheaded e i number
       by e (other d i hit eq) number = ap (λ (x : Exchange). is_headed x) eq ∙ unheaded d i (same_number d.number n hit)
 
-  headless : (e : Exchange) (b : Bool) → is_headed e ≡ b → (is_headed e ≡ true → ⊥) → is_headed e ≡ false
-  headless e true is isnt = absurd (isnt is)
-  headless e false is isnt = is
+headless : (e : Exchange) (b : Bool) → is_headed e ≡ b → (is_headed e ≡ true → ⊥) → is_headed e ≡ false
+headless e true is isnt = absurd (isnt is)
+headless e false is isnt = is
 
+module _ {tale : Tale} where
   pub unplaced_unheaded : (n : ℕ) (e : Exchange) (s : State) → option_and_then if_unplaced (exchange s n) ≡ Some e → Fed tale s → IsUnheaded n s
   unplaced_unheaded n e s is h = by (exchange s n) refl is
     where
@@ -256,24 +260,25 @@ module _ {tale : Tale} where
 
   -- ---- what followers ask for
 
-  forsaken : (e d : Exchange) (n : ℕ) (s : State) → e.asker ≡ Some n → IsIn d (forsake (λ x. is_some_with (λ m. is_of m x) e.asker) s).exchanges → ¬ (d.asker ≡ Some n)
-  unfolding forsake
-  forsaken e d n s asks i = by (in_change (λ x. is_some_with (λ m. is_of m x) e.asker) left_alone d s.exchanges i)
-    where
-      by : Changed (λ x. is_some_with (λ m. is_of m x) e.asker) left_alone s.exchanges d → ¬ (d.asker ≡ Some n)
-      by (same j isnt) is =
-          let hit : is_some_with (λ m. is_of m d) e.asker ≡ true = ap (λ o. is_some_with (λ m. is_of m d) o) asks ∙ ap (λ o. is_this n o) is ∙ number_same n in
-          let both : false ≡ true = sym isnt ∙ hit in cc both
-      by (other x j hit eq) is = let both : None ≡ Some n = sym (ap (λ (y : Exchange). y.asker) eq) ∙ is in cc both
+forsaken : (e d : Exchange) (n : ℕ) (s : State) → e.asker ≡ Some n → IsIn d (forsake (λ x. is_some_with (λ m. is_of m x) e.asker) s).exchanges → ¬ (d.asker ≡ Some n)
+unfolding forsake
+forsaken e d n s asks i = by (in_change (λ x. is_some_with (λ m. is_of m x) e.asker) left_alone d s.exchanges i)
+  where
+    by : Changed (λ x. is_some_with (λ m. is_of m x) e.asker) left_alone s.exchanges d → ¬ (d.asker ≡ Some n)
+    by (same j isnt) is =
+        let hit : is_some_with (λ m. is_of m d) e.asker ≡ true = ap (λ o. is_some_with (λ m. is_of m d) o) asks ∙ ap (λ o. is_this n o) is ∙ number_same n in
+        let both : false ≡ true = sym isnt ∙ hit in cc both
+    by (other x j hit eq) is = let both : None ≡ Some n = sym (ap (λ (y : Exchange). y.asker) eq) ∙ is in cc both
 
-  left_next : (test : Exchange → Bool) (s : State) → (leave test s).next_exchange ≡ s.next_exchange
-  unfolding leave forsake
-  left_next test s = refl
+left_next : (test : Exchange → Bool) (s : State) → (leave test s).next_exchange ≡ s.next_exchange
+unfolding leave forsake
+left_next test s = refl
 
-  left_clients : (test : Exchange → Bool) (s : State) → (leave test s).clients ≡ s.clients
-  unfolding leave forsake
-  left_clients test s = refl
+left_clients : (test : Exchange → Bool) (s : State) → (leave test s).clients ≡ s.clients
+unfolding leave forsake
+left_clients test s = refl
 
+module _ {tale : Tale} where
   -- one of which nothing came, of a request that is in no passed reply
   pub begin_exchange-fed : (e : Exchange) (s : State) → e.number ≡ s.next_exchange → is_headed e ≡ false → ((c : Client) → IsIn c s.clients → is_for e c ≡ true → is_in_passed c.stage ≡ false) → Fed tale s → Fed tale (begin_exchange e s)
   unfolding begin_exchange add_exchange leave
@@ -304,10 +309,11 @@ module _ {tale : Tale} where
       by true has = absurd (cc has)
       by false has = of_stage c.stage refl has
 
-  -- of the clients with its number
-  abbrev IsOff : Client → State → Type 0
-  IsOff c s = (d : Client) → IsIn d s.clients → d.number ≡ c.number → is_in_passed d.stage ≡ false
+-- of the clients with its number
+abbrev IsOff : Client → State → Type 0
+IsOff c s = (d : Client) → IsIn d s.clients → d.number ≡ c.number → is_in_passed d.stage ≡ false
 
+module _ {tale : Tale} where
   fill_with-fed : (e : Exchange) (c : Client) (s : State) → e.asker ≡ Some c.number → e.number ≡ s.next_exchange → is_headed e ≡ false → IsOff c s → Fed tale s → Fed tale (fill_with e c s)
   unfolding fill_with
   fill_with-fed e c s asks number unheaded off h =

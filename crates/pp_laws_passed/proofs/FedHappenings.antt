@@ -18,7 +18,7 @@ use Rattle.pp_world.specs.declared.op.DiskOp.{DiskOp}
 use Rattle.pp_law.specs.After.{new_client, new_conn, event, opened, owing, reached, paid, said, gone, take_decision, evicted, waits_for_row, refused_row, leave_memory, forgotten_by, noted, begun_op, ended_op, unread, shut, dialled, refused_dial, undialled, out, dropped, changed, after}
 use Rattle.pp_law.specs.Asking.{asking, is_writing, hear, ask_body, ask_next, ask, hang_up, asked_text, asked_body}
 use Rattle.pp_law.specs.Closing.{close_client}
-use Rattle.pp_law.specs.Connections.{client, conn, exchange, is_client, is_conn, is_exchange, is_for, is_outstanding, may_ask_again, place_for, place_each, placing, put_on, if_unplaced, Placement, Pause, AllPlaced, WaitsDial, WaitsDrop}
+use Rattle.pp_law.specs.Connections.{client, conn, exchange, is_client, is_conn, is_exchange, is_for, is_outstanding, on_client, may_ask_again, place_for, place_each, placing, put_on, if_unplaced, Placement, Pause, AllPlaced, WaitsDial, WaitsDrop}
 use Rattle.pp_law.specs.Hearing.{heard_by}
 use Rattle.pp_law.specs.Lawful.{LawfulFrom}
 use Rattle.pp_law.specs.Leaving.{Leaving, ForAnother, ForMemory, BeforeDecision, leaving_as}
@@ -28,7 +28,7 @@ use Rattle.pp_law.specs.Responses.{payload_of}
 use Rattle.pp_law.specs.Opening.{woken, begun as opening_begun, with_settings, settings_in, are_texts, names_file, is_opening}
 use Rattle.pp_law.specs.Permits.{IsPermitted, permits_taken}
 use Rattle.pp_law.specs.Phases.{due_victim, come_to_decide, deciding, ending, in_phase}
-use Rattle.pp_law.specs.Replies.{said_by, regained}
+use Rattle.pp_law.specs.Replies.{said_by, regained, use_said}
 use Rattle.pp_law.specs.Stages.{is_begun, is_headed, is_passing, passed_of}
 use Rattle.pp_law.specs.State.{State, Term, RowRefused, Client, Stage, Undecided, Waiting, Passing, Answering, Conn, Exchange, Instance, Passed, IsRooted, IsListed, IsListening, IsWoken, Handling, Evicting, Keeping, Deciding, Following, Connecting, DecidingAgain, Owed, ReadOf, WriteTo, start}
 use Rattle.pp_law.specs.Table.{forget}
@@ -173,9 +173,10 @@ module _ {tale : Tale} where
       by (WaitsDrop k e) is = p
       by (WaitsDial e) is = put_on-fed e.number n with_conn (paused _ s e h is) (fed (conn_added (placing s).state (new_conn n host port (placing s).state.clock) refl (facts_of p)))
 
-  asked_some : (n : ℕ) (e : Exchange) (now : ℕ) → SameExchange (asked_text n now e) e
-  asked_some n e now = record { number = refl; asker = λ m has. has; headed = refl; place = λ on none. none }
+asked_some : (n : ℕ) (e : Exchange) (now : ℕ) → SameExchange (asked_text n now e) e
+asked_some n e now = record { number = refl; asker = λ m has. has; headed = refl; place = λ on none. none }
 
+module _ {tale : Tale} where
   ask-fed : (k n : ℕ) (s : State) → Fed tale s → Fed tale (ask k n s)
   unfolding ask ask_next ask_body
   ask-fed k n s h =
@@ -187,10 +188,11 @@ module _ {tale : Tale} where
   unfolding gone
   gone-fed is_clean k s calm rise h = each_so (conn s k) (λ none. h) (λ j found. end_replies-fed _ (ended-fed is_clean j s calm (in_find (is_conn k) j s.conns found).0 rise h))
 
-  event_conns : (s : State) → (event s).conns ≡ s.conns
-  unfolding event regained
-  event_conns s = refl
+event_conns : (s : State) → (event s).conns ≡ s.conns
+unfolding event regained
+event_conns s = refl
 
+module _ {tale : Tale} where
   hear-fed : (n : ℕ) (bytes : Bytes) (s : State) → Fed tale s → Fed tale (hear n bytes s)
   unfolding hear
   hear-fed n bytes s h = end_replies-fed _ (on_client-fed n (heard_by bytes) s (heard_same bytes) h)
@@ -257,19 +259,20 @@ module _ {tale : Tale} where
     fed_by = λ k e c p l. absurd (subst (λ ks. IsIn k ks) conns l);
   })
 
-  opening_same : (s : State) → Same s (opening_begun s)
-  unfolding opening_begun with_settings
-  opening_same s = by (are_texts s.term) (names_file s.term)
-    where
-      by_settings : (o : Option Settings) → Same s (with_settings o s)
-      by_settings None = alike (record { clients_same = refl; exchanges_same = refl; conns_same = refl; next_same = refl; top_same = refl })
-      by_settings (Some c) = alike (record { clients_same = refl; exchanges_same = refl; conns_same = refl; next_same = refl; top_same = refl })
+opening_same : (s : State) → Same s (opening_begun s)
+unfolding opening_begun with_settings
+opening_same s = by (are_texts s.term) (names_file s.term)
+  where
+    by_settings : (o : Option Settings) → Same s (with_settings o s)
+    by_settings None = alike (record { clients_same = refl; exchanges_same = refl; conns_same = refl; next_same = refl; top_same = refl })
+    by_settings (Some c) = alike (record { clients_same = refl; exchanges_same = refl; conns_same = refl; next_same = refl; top_same = refl })
 
-      by : (a b : Bool) → Same s (elim a as (λ x. State) [ false ↦ with_settings None s | true ↦ elim b as (λ x. State) [ true ↦ record s { phase = IsWoken } | false ↦ with_settings (settings_in (reading_of s.term.words None)) s ] ])
-      by false b = by_settings None
-      by true true = alike (record { clients_same = refl; exchanges_same = refl; conns_same = refl; next_same = refl; top_same = refl })
-      by true false = by_settings (settings_in (reading_of s.term.words None))
+    by : (a b : Bool) → Same s (elim a as (λ x. State) [ false ↦ with_settings None s | true ↦ elim b as (λ x. State) [ true ↦ record s { phase = IsWoken } | false ↦ with_settings (settings_in (reading_of s.term.words None)) s ] ])
+    by false b = by_settings None
+    by true true = alike (record { clients_same = refl; exchanges_same = refl; conns_same = refl; next_same = refl; top_same = refl })
+    by true false = by_settings (settings_in (reading_of s.term.words None))
 
+module _ {tale : Tale} where
   woken-fed : (image : Files) (s : State) → Fed tale (woken image s)
   unfolding woken
   woken-fed image s = still (opening_same _) (nobody _ refl refl refl)
@@ -317,9 +320,9 @@ said_off n c bytes isnt = by (n == c) refl
     by true hit = let both : false ≡ true = sym isnt ∙ ap (λ m. m == n) (sym (same_number n c hit)) ∙ number_same n in absurd (cc both)
 
 -- the same is told in other words
-retold : (tale then : Tale) (s : State) → ((n : ℕ) → then.said n ≡ tale.said n) → tale.but ≡ then.but → Fed tale s → Fed then s
-retold tale then s said but h =
-    fed (facts_across {tale = tale} {then = then} s s (λ n isnt so. isnt (sym but ∙ so)) (facts_of h).apart (facts_of h).rise refl (λ d i. record { was = d; there = i; is = parts_across d d refl refl refl refl (said d.number) }) (itself_exchange s) (itself_conn s) (facts_of h))
+retold : (tale later : Tale) (s : State) → ((n : ℕ) → later.said n ≡ tale.said n) → tale.but ≡ later.but → Fed tale s → Fed later s
+retold tale later s said but h =
+    fed (facts_across {tale = tale} {later = later} s s (λ n isnt so. isnt (sym but ∙ so)) (facts_of h).apart (facts_of h).rise refl (λ d i. record { was = d; there = i; is = parts_across d d refl refl refl refl (said d.number) }) (itself_exchange s) (itself_conn s) (facts_of h))
 
 abbrev told_more : Tale → Happening → Tale
 told_more tale happening = record { said = λ n. tale.said n ++ said_in n happening; but = tale.but }
@@ -332,8 +335,8 @@ untold tale s h = retold tale (told_none tale) s (λ n. append-nil (tale.said n)
 
 -- the client of that number, in a state with the same clients
 module _ (tale : Tale) (n offered : ℕ) (bytes : Bytes) (s u : State) (is : IsPermitted s (Said n offered bytes)) (x : Client) (found : client s n ≡ Some x) (apart : AreRising (map client_number s.clients)) (clients : u.clients ≡ s.clients) where
-  abbrev then : Tale
-  then = told_more tale (Said n offered bytes)
+  abbrev later : Tale
+  later = told_more tale (Said n offered bytes)
 
   there : IsIn x s.clients × (is_client n x ≡ true)
   there = in_find (is_client n) x s.clients found
@@ -341,18 +344,18 @@ module _ (tale : Tale) (n offered : ℕ) (bytes : Bytes) (s u : State) (is : IsP
   only : (c : Client) → IsIn c u.clients → is_client n c ≡ true → c ≡ x
   only c i hit = one_of client_number s.clients c x apart (subst (λ cs. IsIn c cs) clients i) there.0 (same_number c.number n hit ∙ sym (same_number x.number n there.1))
 
-  of_said : (d : Client) → Changed (is_client n) (said_by (length bytes)) u.clients d → FromClient tale then u.clients d
+  of_said : (d : Client) → Changed (is_client n) (said_by (length bytes)) u.clients d → FromClient tale later u.clients d
   of_said d (same i isnt) = record { was = d; there = i; is = parts_across d d refl refl refl refl (ap (λ (xs : Bytes). tale.said d.number ++ xs) (said_off n d.number bytes isnt) ∙ append-nil (tale.said d.number)) }
   of_said d (other c i hit eq) = record {
     was = c;
     there = i;
-    is = subst (λ (y : Client). SameClient tale then y c) (sym eq)
-        (said_same tale then s bytes c (ap (λ (xs : Bytes). tale.said c.number ++ xs) (said_at n c.number bytes (same_number c.number n hit))) (subst (λ (y : Client). bytes ≡ take (length bytes) (offer s y)) (sym (only c i hit)) (said_front s n offered bytes x found is)));
+    is = subst (λ (y : Client). SameClient tale later y c) (sym eq)
+        (said_same tale later s bytes c (ap (λ (xs : Bytes). tale.said c.number ++ xs) (said_at n c.number bytes (same_number c.number n hit))) (subst (λ (y : Client). bytes ≡ take (length bytes) (offer s y)) (sym (only c i hit)) (said_front s n offered bytes x found is)));
   }
 
-  said_facts : FactsOf tale u → FactsOf then (record u { clients = change (is_client n) (said_by (length bytes)) u.clients })
+  said_facts : FactsOf tale u → FactsOf later (record u { clients = change (is_client n) (said_by (length bytes)) u.clients })
   said_facts hu =
-      facts_across {tale = tale} {then = then} u (record u { clients = change (is_client n) (said_by (length bytes)) u.clients }) (λ m isnt so. isnt so)
+      facts_across {tale = tale} {later = later} u (record u { clients = change (is_client n) (said_by (length bytes)) u.clients }) (λ m isnt so. isnt so)
       (rise_change client_number (is_client n) (said_by (length bytes)) (λ c. (said_by-same (length bytes) c).number) u.clients hu.apart) hu.rise refl (λ d i. of_said d (in_change (is_client n) (said_by (length bytes)) d u.clients i)) (itself_exchange u) (itself_conn u) hu
 
 said-fed : (tale : Tale) (n offered : ℕ) (bytes : Bytes) (s : State) → IsPermitted s (Said n offered bytes) → Fed tale s → Fed (told_more tale (Said n offered bytes)) (said n (length bytes) s)
@@ -460,7 +463,7 @@ passed_is_one terms log lawful c p l on has = record {
     f = facts_of (fed_after terms log lawful)
 
 pub passed_is_all : PassedIsAllThatCame
-passed_is_all terms log lawful c p l on has k e a i j m hit answered = record { pieces = r.pieces; all = r.all ∙ ap payload_of same_answer; shown = r.shown on }
+passed_is_all terms log lawful c p l on has k e a i j m hit answered = record { pieces = r.pieces; all = r.all ∙ ap payload_of same_answer; full = r.full; shown = r.shown on }
   where
     f : FactsOf (tale_of log) (state_after terms log)
     f = facts_of (fed_after terms log lawful)

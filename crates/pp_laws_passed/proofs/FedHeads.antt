@@ -16,7 +16,7 @@ use Rattle.pp_valid.specs.declared.version.Version.{Version}
 use Rattle.pp_law.specs.Connections.{conn, exchange, is_conn, is_exchange, is_for, front_of_line, on_conn, on_exchange, on_client_of, without_ask, without_row, without_shared_row, is_unfilled, give_up_row, charge, lose_attempt, lost_one, attempts_of, end_exchange, close_conn}
 use Rattle.pp_law.specs.Closing.{left_alone}
 use Rattle.pp_law.specs.Lists.{Bytes, change, is_some_with, is_this}
-use Rattle.pp_law.specs.OwnHeads.{key_of, is_asked_by, tell, use_body, drop_answer, useless, times_for, settle_on, may_refresh, settle_known, known_version, settle, may_join, names_version, settle_unchanged, unchanged, is_of_another, forbids_sharing, not_shared, not_modified, clears_row, is_private_part, is_widened, relayed, relay_head, other_head, other_part, own_head, is_bound, lacks_next, count_elsewhere, part_head, filling_head, version_in, is_wrong_head, join, join_bound, moved_on}
+use Rattle.pp_law.specs.OwnHeads.{key_of, is_asked_by, tell, use_body, drop_answer, useless, times_for, settle_on, may_refresh, settle_known, known_version, settle, may_join, names_version, settle_unchanged, unchanged, is_of_another, forbids_sharing, not_shared, not_modified, clears_row, is_private_part, is_widened, relayed, relay_head, other_head, other_part, own_head, is_bound, lacks_next, count_elsewhere, part_head, filling_head, version_in, is_wrong_head, join, join_bound, moved_on, note_sent}
 use Rattle.pp_law.specs.Passing.{pour, poured, passed_by}
 use Rattle.pp_law.specs.Responses.{skipping, skip_body, rested, close_this, may_go_on, finish, bad_response, bad_head, by_aim, asks_head, answer_with, answered_by, end_if_empty, begin_answer, answer_for, head_came, Piece, is_early, with_unread, head_piece, deliver, payload_of, body_piece_of, body_piece, next_piece, got, is_whole_at_end, finish_first, ended}
 use Rattle.pp_law.specs.Stages.{is_begun, is_headed, is_passing, is_pending, on_passed, passed_of, bound_in, bound_of}
@@ -241,6 +241,7 @@ module _ {tale : Tale} where
       told_nothing d q asked none = record {
         pieces = [];
         all = sym (parts p).nothing;
+        full = λ piece i. absurd i;
         waiting = λ off. none;
         shown = λ on. let both : false ≡ true = sym (not_passed d (not_begun (is_for e d) (is_begun d) asked)) ∙ on in absurd (cc both);
       }
@@ -270,28 +271,29 @@ module _ {tale : Tale} where
   unfolding tell use_body on_exchange
   told_over {ground} e a b body s came tells p (over h conns from) = over (told e a b body s came tells p h) conns (descend_changed ground.exchanges s.exchanges (is_exchange e.number) (λ x. record x { body = body }) (λ x. refl) (λ x n is. is) from)
 
-  -- nothing is passed
-  no_pass : (a : Answer) (b : Brought) → ((p : Passed) → b ≡ Passes p → ⊥) → Tells a b
-  no_pass a b none p is = absurd (none p is)
+-- nothing is passed
+no_pass : (a : Answer) (b : Brought) → ((p : Passed) → b ≡ Passes p → ⊥) → Tells a b
+no_pass a b none p is = absurd (none p is)
 
-  -- ---- what the head of an exchange of the cache's own does
+-- ---- what the head of an exchange of the cache's own does
 
-  given_up_conns : (e : Exchange) (s : State) → (give_up_row e s).conns ≡ s.conns
-  unfolding give_up_row on_exchange on_client_of clear swept
-  given_up_conns e s = by (is_unfilled s e)
-    where
-      by : (t : Bool) → (elim t as (λ x. State) [ false ↦ s | true ↦ on_exchange e.number left_alone (on_client_of e without_row (clear (text_of e.key) s)) ]).conns ≡ s.conns
-      by false = refl
-      by true = refl
+given_up_conns : (e : Exchange) (s : State) → (give_up_row e s).conns ≡ s.conns
+unfolding give_up_row on_exchange on_client_of clear swept
+given_up_conns e s = by (is_unfilled s e)
+  where
+    by : (t : Bool) → (elim t as (λ x. State) [ false ↦ s | true ↦ on_exchange e.number left_alone (on_client_of e without_row (clear (text_of e.key) s)) ]).conns ≡ s.conns
+    by false = refl
+    by true = refl
 
-  given_up_from : (es : List Exchange) (e : Exchange) (s : State) → Descend es s.exchanges → Descend es (give_up_row e s).exchanges
-  unfolding give_up_row on_exchange on_client_of clear swept
-  given_up_from es e s from = by (is_unfilled s e)
-    where
-      by : (t : Bool) → Descend es (elim t as (λ x. State) [ false ↦ s | true ↦ on_exchange e.number left_alone (on_client_of e without_row (clear (text_of e.key) s)) ]).exchanges
-      by false = from
-      by true = descend_changed es s.exchanges (is_exchange e.number) left_alone (λ x. refl) (λ x n is. absurd (cc is)) from
+given_up_from : (es : List Exchange) (e : Exchange) (s : State) → Descend es s.exchanges → Descend es (give_up_row e s).exchanges
+unfolding give_up_row on_exchange on_client_of clear swept
+given_up_from es e s from = by (is_unfilled s e)
+  where
+    by : (t : Bool) → Descend es (elim t as (λ x. State) [ false ↦ s | true ↦ on_exchange e.number left_alone (on_client_of e without_row (clear (text_of e.key) s)) ]).exchanges
+    by false = from
+    by true = descend_changed es s.exchanges (is_exchange e.number) left_alone (λ x. refl) (λ x n is. absurd (cc is)) from
 
+module _ {tale : Tale} where
   lose_attempt-over : {ground : Ground} (e : Exchange) (s : State) → Over tale ground s → Over tale ground (lose_attempt e s)
   unfolding lose_attempt charge on_client_of
   lose_attempt-over {ground} e s (over h conns from) = over (lose_attempt-fed e s h) (given_up_conns e _ ∙ conns) (given_up_from ground.exchanges e _ from)
@@ -353,10 +355,11 @@ module _ {tale : Tale} where
       let r = clear-same (key_of e) s (itself s) in
       over_when (forbids_sharing head) (not_shared-over e a s p h) (over_when (is_of_another head s (key_of e)) (useless-over e a _ (along r p) (over_same r h)) (unchanged-over e a head s p h))
 
-  relayed_some : (t : Bool) → is_pending (elim t as (λ c. Body) [ true ↦ Relaying | false ↦ Dropping ]) ≡ false
-  relayed_some true = refl
-  relayed_some false = refl
+relayed_some : (t : Bool) → is_pending (elim t as (λ c. Body) [ true ↦ Relaying | false ↦ Dropping ]) ≡ false
+relayed_some true = refl
+relayed_some false = refl
 
+module _ {tale : Tale} where
   relay_head-over : {ground : Ground} (e : Exchange) (head : Response) (rule : BodyRule) (s : State) → Coming e (answer_with e head rule) s → Over tale ground s → Over tale ground (relay_head e head rule s)
   unfolding relay_head
   relay_head-over e head rule s p h = told_over e (answer_with e head rule) (Passes (passed_by e head rule)) (relayed e s) s (relayed_some (list_any (is_asked_by e) s.clients)) tells p h
@@ -419,10 +422,11 @@ module _ {tale : Tale} where
   unfolding close_this
   close_this-fed n s h = each_of (conn s n) h (λ k. close_conn-fed true k s h)
 
-  -- it is the first of its line
-  abbrev pub IsFirstOn : Conn → Exchange → List Conn → Type 0
-  IsFirstOn k e ks = (j : Conn) → IsIn j ks → j.number ≡ k.number → first_of j.line ≡ Some e.number
+-- it is the first of its line
+abbrev pub IsFirstOn : Conn → Exchange → List Conn → Type 0
+IsFirstOn k e ks = (j : Conn) → IsIn j ks → j.number ≡ k.number → first_of j.line ≡ Some e.number
 
+module _ {tale : Tale} where
   -- a response is over
   done-fed : (k : Conn) (e : Exchange) (head : Response) (s : State) → IsFirstOn k e s.conns → Fed tale s → Fed tale (on_conn k.number (rested head) (end_exchange e.number s))
   unfolding on_conn end_exchange
@@ -488,71 +492,72 @@ stands_first : (ns : List ℕ) (m : ℕ) → first_of ns ≡ Some m → IsIn m n
 stands_first [] m is = absurd (cc is)
 stands_first (n ∷ ns) m is = let eq : n ≡ m = cc in inl (sym eq)
 
+-- more of the response to this exchange, before it is noted of its connection
+pour-amid : (tale : Tale) (e : Exchange) (f : Pipe → Pipe) (s : State) → Lone e s.exchanges → Fed (amid e.number tale) s → Fed (amid e.number tale) (pour e f s)
+unfolding pour on_client_of
+pour-amid tale e f s lone hs = fed (record {
+  apart = rise_change client_number (is_for e) (into_pipe f) (λ c. (poured_same f c).number) s.clients h.apart;
+  rise = h.rise;
+  given = h.given;
+  one = h.one;
+  headed = h.headed;
+  sourced = λ c id i on is. sourced_by c id (of c i) on is;
+  begun = λ x c i j hit on. begun_by x c i (of c j) hit on;
+  fed_by = λ k x c q l i m is j hit off has. fed_at k x c q l i m is (of c j) hit off has;
+})
+  where
+    h : FactsOf (amid e.number tale) s
+    h = facts_of hs
+
+    of : (c : Client) → IsIn c (change (is_for e) (into_pipe f) s.clients) → Changed (is_for e) (into_pipe f) s.clients c
+    of c i = in_change (is_for e) (into_pipe f) c s.clients i
+
+    stage_of : (c d : Client) → c ≡ into_pipe f d → c.stage ≡ d.stage
+    stage_of c d eq = ap (λ (z : Client). z.stage) eq ∙ (poured_same f d).stage
+
+    for_of : (x : Exchange) (c d : Client) → c ≡ into_pipe f d → is_for x c ≡ true → is_for x d ≡ true
+    for_of x c d eq hit = ap (λ n. is_this n x.asker) (sym (ap client_number eq ∙ (poured_same f d).number)) ∙ hit
+
+    sourced_by : (c : Client) (id : ℕ) → Changed (is_for e) (into_pipe f) s.clients c → is_in_passed c.stage ≡ true → source_in c.stage ≡ Some id → ⊥
+    sourced_by c id (same i isnt) on is = h.sourced c id i on is
+    sourced_by c id (other d i hit eq) on is = h.sourced d id i (sym (ap is_in_passed (stage_of c d eq)) ∙ on) (sym (ap source_in (stage_of c d eq)) ∙ is)
+
+    begun_by : (x : Exchange) (c : Client) → IsIn x s.exchanges → Changed (is_for e) (into_pipe f) s.clients c → is_for x c ≡ true → is_in_passed c.stage ≡ true → is_headed x ≡ true
+    begun_by x c i (same j isnt) hit on = h.begun x c i j hit on
+    begun_by x c i (other d j its eq) hit on = h.begun x d i j (for_of x c d eq hit) (sym (ap is_in_passed (stage_of c d eq)) ∙ on)
+
+    fed_at : (k : Conn) (x : Exchange) (c : Client) (q : Passed) → IsIn k s.conns → IsIn x s.exchanges → IsIn x.number k.line → is_headed x ≡ true → Changed (is_for e) (into_pipe f) s.clients c → is_for x c ≡ true → is_in_other c.stage ≡ false → passed_of c ≡ Some q → Feeds (amid e.number tale) k x c q
+    fed_at k x c q l i m is (same j isnt) hit off has = h.fed_by k x c q l i m is j hit off has
+    fed_at k x c q l i m is (other d j its eq) hit off has =
+        let w = poured_of f d q (sym (ap passed_of eq) ∙ has) in
+        let its_too = for_of x c d eq hit in
+        let v = h.fed_by k x d w.0 l i m is j its_too (sym (ap is_in_other (stage_of c d eq)) ∙ off) w.1 in
+        record {
+          front = v.front;
+          answer = v.answer;
+          is = v.is;
+          head = ap (λ (y : Passed). y.head) w.2 ∙ v.head;
+          rule = ap (λ (y : Passed). y.rule) w.2 ∙ v.rule;
+          relayed = λ isnt. absurd (isnt (ap (λ n. Some n) (sym (lone x d i its_too its))));
+        }
+
+pour-over : (tale : Tale) {ground : Ground} (e : Exchange) (f : Pipe → Pipe) (s : State) → Lone e s.exchanges → Over (amid e.number tale) ground s → Over (amid e.number tale) ground (pour e f s)
+unfolding pour on_client_of
+pour-over tale e f s lone (over h conns from) = over (pour-amid tale e f s lone h) conns from
+
 module _ {tale : Tale} where
-  -- more of the response to this exchange, before it is noted of its connection
-  pour-amid : (e : Exchange) (f : Pipe → Pipe) (s : State) → Lone e s.exchanges → Fed (amid e.number tale) s → Fed (amid e.number tale) (pour e f s)
-  unfolding pour on_client_of
-  pour-amid e f s lone hs = fed (record {
-    apart = rise_change client_number (is_for e) (into_pipe f) (λ c. (poured_same f c).number) s.clients h.apart;
-    rise = h.rise;
-    given = h.given;
-    one = h.one;
-    headed = h.headed;
-    sourced = λ c id i on is. sourced_by c id (of c i) on is;
-    begun = λ x c i j hit on. begun_by x c i (of c j) hit on;
-    fed_by = λ k x c q l i m is j hit off has. fed_at k x c q l i m is (of c j) hit off has;
-  })
-    where
-      h : FactsOf (amid e.number tale) s
-      h = facts_of hs
-
-      of : (c : Client) → IsIn c (change (is_for e) (into_pipe f) s.clients) → Changed (is_for e) (into_pipe f) s.clients c
-      of c i = in_change (is_for e) (into_pipe f) c s.clients i
-
-      stage_of : (c d : Client) → c ≡ into_pipe f d → c.stage ≡ d.stage
-      stage_of c d eq = ap (λ (z : Client). z.stage) eq ∙ (poured_same f d).stage
-
-      for_of : (x : Exchange) (c d : Client) → c ≡ into_pipe f d → is_for x c ≡ true → is_for x d ≡ true
-      for_of x c d eq hit = ap (λ n. is_this n x.asker) (sym (ap client_number eq ∙ (poured_same f d).number)) ∙ hit
-
-      sourced_by : (c : Client) (id : ℕ) → Changed (is_for e) (into_pipe f) s.clients c → is_in_passed c.stage ≡ true → source_in c.stage ≡ Some id → ⊥
-      sourced_by c id (same i isnt) on is = h.sourced c id i on is
-      sourced_by c id (other d i hit eq) on is = h.sourced d id i (sym (ap is_in_passed (stage_of c d eq)) ∙ on) (sym (ap source_in (stage_of c d eq)) ∙ is)
-
-      begun_by : (x : Exchange) (c : Client) → IsIn x s.exchanges → Changed (is_for e) (into_pipe f) s.clients c → is_for x c ≡ true → is_in_passed c.stage ≡ true → is_headed x ≡ true
-      begun_by x c i (same j isnt) hit on = h.begun x c i j hit on
-      begun_by x c i (other d j its eq) hit on = h.begun x d i j (for_of x c d eq hit) (sym (ap is_in_passed (stage_of c d eq)) ∙ on)
-
-      fed_at : (k : Conn) (x : Exchange) (c : Client) (q : Passed) → IsIn k s.conns → IsIn x s.exchanges → IsIn x.number k.line → is_headed x ≡ true → Changed (is_for e) (into_pipe f) s.clients c → is_for x c ≡ true → is_in_other c.stage ≡ false → passed_of c ≡ Some q → Feeds (amid e.number tale) k x c q
-      fed_at k x c q l i m is (same j isnt) hit off has = h.fed_by k x c q l i m is j hit off has
-      fed_at k x c q l i m is (other d j its eq) hit off has =
-          let w = poured_of f d q (sym (ap passed_of eq) ∙ has) in
-          let its_too = for_of x c d eq hit in
-          let v = h.fed_by k x d w.0 l i m is j its_too (sym (ap is_in_other (stage_of c d eq)) ∙ off) w.1 in
-          record {
-            front = v.front;
-            answer = v.answer;
-            is = v.is;
-            head = ap (λ (y : Passed). y.head) w.2 ∙ v.head;
-            rule = ap (λ (y : Passed). y.rule) w.2 ∙ v.rule;
-            relayed = λ isnt. absurd (isnt (ap (λ n. Some n) (sym (lone x d i its_too its))));
-          }
-
-  pour-over : {ground : Ground} (e : Exchange) (f : Pipe → Pipe) (s : State) → Lone e s.exchanges → Over (amid e.number tale) ground s → Over (amid e.number tale) ground (pour e f s)
-  unfolding pour on_client_of
-  pour-over e f s lone (over h conns from) = over (pour-amid e f s lone h) conns from
-
   -- where nothing is noted apart
   pour-begins : {ground : Ground} (e : Exchange) (f : Pipe → Pipe) (s : State) → Lone e s.exchanges → tale.but ≡ None → Over tale ground s → Over (amid e.number tale) ground (pour e f s)
-  pour-begins e f s lone calm (over h conns from) = pour-over e f s lone (over (weaker e.number s calm h) conns from)
+  pour-begins e f s lone calm (over h conns from) = pour-over tale e f s lone (over (weaker e.number s calm h) conns from)
 
   -- ---- an exchange that is over
 
-  filtered_out : (n : ℕ) (x : Exchange) (xs : List Exchange) → IsIn x (filter (λ y. not (is_exchange n y)) xs) → x.number ≡ n → ⊥
-  filtered_out n x xs i number =
-      let off_it : not (x.number == n) ≡ false = ap not (ap (λ m. m == n) number ∙ number_same n) in
-      let both : false ≡ true = sym off_it ∙ (in_filter (λ y. not (is_exchange n y)) x xs i).1 in cc both
+filtered_out : (n : ℕ) (x : Exchange) (xs : List Exchange) → IsIn x (filter (λ y. not (is_exchange n y)) xs) → x.number ≡ n → ⊥
+filtered_out n x xs i number =
+    let off_it : not (x.number == n) ≡ false = ap not (ap (λ m. m == n) number ∙ number_same n) in
+    let both : false ≡ true = sym off_it ∙ (in_filter (λ y. not (is_exchange n y)) x xs i).1 in cc both
 
+module _ {tale : Tale} where
   end_exchange-over : (n : ℕ) (s : State) → Fed (amid n tale) s → Fed tale (end_exchange n s)
   unfolding end_exchange
   end_exchange-over n s h = over_amid n _ (λ x i number. filtered_out n x s.exchanges i number) (end_exchange-fed n s h)
@@ -569,28 +574,29 @@ module _ {tale : Tale} where
       ground = record { conns = s.conns; exchanges = s.exchanges }
 
       skipped : Over (amid e.number tale) ground (skip_body e (pour e finished s))
-      skipped = skip_body-over e _ (pour-over e finished s lone (over h refl (descend_self s.exchanges)))
+      skipped = skip_body-over e _ (pour-over tale e finished s lone (over h refl (descend_self s.exchanges)))
 
       done : Fed tale (on_conn k.number (rested a.head) (end_exchange e.number (skip_body e (pour e finished s))))
       done = rested-over k e a.head (skip_body e (pour e finished s)) (λ j i. first j (subst (λ ks. IsIn j ks) (over_conns skipped) i)) (over_fed skipped)
 
-  -- none of that number is there
-  absent : (n : ℕ) (xs : List Exchange) (x : Exchange) → find (is_exchange n) xs ≡ None → IsIn x xs → x.number ≡ n → ⊥
-  absent n [] x none i number = i
-  absent n (y ∷ ys) x none i number = by (is_exchange n y) refl none i (λ rest j. absent n ys x rest j number)
-    where
-      by : (t : Bool) → is_exchange n y ≡ t → cond t (Some y) (find (is_exchange n) ys) ≡ None → (x ≡ y) ⊎ IsIn x ys → (find (is_exchange n) ys ≡ None → IsIn x ys → ⊥) → ⊥
-      by true is rest j more = cc rest
-      by false is rest (inl eq) more = let both : true ≡ false = sym (number_same n) ∙ ap (λ m. m == n) (sym (sym (ap exchange_number eq) ∙ number)) ∙ is in cc both
-      by false is rest (inr j) more = more rest j
+-- none of that number is there
+absent : (n : ℕ) (xs : List Exchange) (x : Exchange) → find (is_exchange n) xs ≡ None → IsIn x xs → x.number ≡ n → ⊥
+absent n [] x none i number = i
+absent n (y ∷ ys) x none i number = by (is_exchange n y) refl none i (λ rest j. absent n ys x rest j number)
+  where
+    by : (t : Bool) → is_exchange n y ≡ t → cond t (Some y) (find (is_exchange n) ys) ≡ None → (x ≡ y) ⊎ IsIn x ys → (find (is_exchange n) ys ≡ None → IsIn x ys → ⊥) → ⊥
+    by true is rest j more = cc rest
+    by false is rest (inl eq) more = let both : true ≡ false = sym (number_same n) ∙ ap (λ m. m == n) (sym (sym (ap exchange_number eq) ∙ number)) ∙ is in cc both
+    by false is rest (inr j) more = more rest j
 
-  first_absent : (n : ℕ) (k : Conn) (s : State) → first_of k.line ≡ Some n → front_of_line s k ≡ None → (x : Exchange) → IsIn x s.exchanges → x.number ≡ n → ⊥
-  first_absent n k s first none x i number = by k.line first none
-    where
-      by : (line : List ℕ) → first_of line ≡ Some n → (elim line as (λ y. Option Exchange) [ [] ↦ None | m ∷ ms ↦ exchange s m ]) ≡ None → ⊥
-      by [] is gone = cc is
-      by (m ∷ ms) is gone = let eq : m ≡ n = cc in absent m s.exchanges x gone i (number ∙ sym eq)
+first_absent : (n : ℕ) (k : Conn) (s : State) → first_of k.line ≡ Some n → front_of_line s k ≡ None → (x : Exchange) → IsIn x s.exchanges → x.number ≡ n → ⊥
+first_absent n k s first none x i number = by k.line first none
+  where
+    by : (line : List ℕ) → first_of line ≡ Some n → (elim line as (λ y. Option Exchange) [ [] ↦ None | m ∷ ms ↦ exchange s m ]) ≡ None → ⊥
+    by [] is gone = cc is
+    by (m ∷ ms) is gone = let eq : m ≡ n = cc in absent m s.exchanges x gone i (number ∙ sym eq)
 
+module _ {tale : Tale} where
   bad_response-amid : (n : ℕ) (k : Conn) (s : State) → first_of k.line ≡ Some n → Fed (amid n tale) s → Fed tale (bad_response k s)
   unfolding bad_response
   bad_response-amid n k s first h =
@@ -611,24 +617,25 @@ module _ {tale : Tale} where
 
   -- ---- heads
 
-  begun_cases : (c : Client) → is_begun c ≡ true → is_in_other c.stage ≡ false → is_in_passed c.stage ≡ true
-  begun_cases c on off = by c.stage on off
-    where
-      of_reply : (b d : Bool) → b ≡ true → (b && not d) ≡ false → (b && d) ≡ true
-      of_reply true true on isnt = refl
-      of_reply true false on isnt = absurd (cc isnt)
-      of_reply false d on isnt = absurd (cc on)
+begun_cases : (c : Client) → is_begun c ≡ true → is_in_other c.stage ≡ false → is_in_passed c.stage ≡ true
+begun_cases c on off = by c.stage on off
+  where
+    of_reply : (b d : Bool) → b ≡ true → (b && not d) ≡ false → (b && d) ≡ true
+    of_reply true true on isnt = refl
+    of_reply true false on isnt = absurd (cc isnt)
+    of_reply false d on isnt = absurd (cc on)
 
-      by : (stage : Stage) → is_some_with (λ r. r.has_begun) (elim stage as (λ y. Option Reply) [ Undecided ↦ None | Waiting ↦ None | Passing ↦ None | Answering r ↦ Some r ]) ≡ true → is_in_other stage ≡ false → is_in_passed stage ≡ true
-      by Undecided begun isnt = absurd (cc begun)
-      by Waiting begun isnt = absurd (cc begun)
-      by Passing begun isnt = absurd (cc begun)
-      by (Answering r) begun isnt = of_reply r.has_begun (is_passing r.decision) begun isnt
+    by : (stage : Stage) → is_some_with (λ r. r.has_begun) (elim stage as (λ y. Option Reply) [ Undecided ↦ None | Waiting ↦ None | Passing ↦ None | Answering r ↦ Some r ]) ≡ true → is_in_other stage ≡ false → is_in_passed stage ≡ true
+    by Undecided begun isnt = absurd (cc begun)
+    by Waiting begun isnt = absurd (cc begun)
+    by Passing begun isnt = absurd (cc begun)
+    by (Answering r) begun isnt = of_reply r.has_begun (is_passing r.decision) begun isnt
 
-  none_begun : (b : Bool) → (b ≡ true → ⊥) → b ≡ false
-  none_begun true isnt = absurd (isnt refl)
-  none_begun false isnt = refl
+none_begun : (b : Bool) → (b ≡ true → ⊥) → b ≡ false
+none_begun true isnt = absurd (isnt refl)
+none_begun false isnt = refl
 
+module _ {tale : Tale} where
   module _ {b : Since} (k : Conn) (e : Exchange) (a : Answer) (s : State) (there : IsIn k s.conns) (no_answer : k.answer ≡ None) (front : front_of_line s k ≡ Some e) (hs : Sound b s) (h : Fed tale s) where
     given : IsIn e s.exchanges × (first_of k.line ≡ Some e.number)
     given = front_by s k.line e front
@@ -756,15 +763,16 @@ module _ {tale : Tale} where
   head_piece-fed : {b : Since} (k : Conn) (bytes : Bytes) (s : State) → tale.but ≡ None → IsIn k s.conns → k.answer ≡ None → Sound b s → Fed tale s → Fed tale (head_piece k bytes s).state
   head_piece-fed k bytes s calm there no_answer hs h = piece_when (is_early s k) _ _ (close_conn-fed true k s h) (head_piece_by k (k.unread ++ bytes) s (response_at (k.unread ++ bytes)) calm there no_answer hs h)
 
-  moved_same : (n : ℕ) (e : Exchange) → SameExchange (moved_on n e) e
-  moved_same n e = by e.body refl
-    where
-      by : (body : Body) → e.body ≡ body → SameExchange (elim (bound_in body) as (λ y. Exchange) [ None ↦ e | Some to ↦ record e { body = Joining (record to { next = to.next + n }) } ]) e
-      by Pending is = exchange_same e
-      by (Joining to) is = record { number = refl; asker = λ m has. has; headed = sym (ap (λ x. not (is_pending x)) is); place = λ on none. none }
-      by Relaying is = exchange_same e
-      by Dropping is = exchange_same e
+moved_same : (n : ℕ) (e : Exchange) → SameExchange (moved_on n e) e
+moved_same n e = by e.body refl
+  where
+    by : (body : Body) → e.body ≡ body → SameExchange (elim (bound_in body) as (λ y. Exchange) [ None ↦ e | Some to ↦ record e { body = Joining (record to { next = to.next + n }) } ]) e
+    by Pending is = exchange_same e
+    by (Joining to) is = record { number = refl; asker = λ m has. has; headed = sym (ap (λ x. not (is_pending x)) is); place = λ on none. none }
+    by Relaying is = exchange_same e
+    by Dropping is = exchange_same e
 
+module _ {tale : Tale} where
   join_bound-over : {ground : Ground} (e : Exchange) (bytes : Bytes) (s : State) → Over tale ground s → Over tale ground (join_bound e bytes s)
   unfolding join_bound on_exchange
   join_bound-over {ground} e bytes s h = over_each (bound_of e) h (λ to. moved to (over_same (join-same to bytes s (itself s)) h))
@@ -794,8 +802,8 @@ module _ {tale : Tale} where
     abbrev to : Conn → Conn
     to i = record i { answer = Some longer }
 
-    it : (g : Conn) → IsIn g t.conns → is_conn k.number g ≡ true → g ≡ k
-    it g i hit = one_of conn_number s.conns g k (sound_facts hs).lines.rise (subst (λ ks. IsIn g ks) conns i) there (same_number g.number k.number hit)
+    one_conn : (g : Conn) → IsIn g t.conns → is_conn k.number g ≡ true → g ≡ k
+    one_conn g i hit = one_of conn_number s.conns g k (sound_facts hs).lines.rise (subst (λ ks. IsIn g ks) conns i) there (same_number g.number k.number hit)
 
     -- it stands in no other line
     elsewhere : (j : Conn) (x : Exchange) → IsIn j t.conns → is_conn k.number j ≡ false → x.number ≡ e.number → IsIn x.number j.line → ⊥
@@ -841,7 +849,7 @@ module _ {tale : Tale} where
       relayed = λ isnt.
           let w = v.relayed isnt in
           subst (λ (y : Passed). Relays (tale.said c.number) c y (payload_of longer)) (sym piped)
-          (subst (λ (data : Bytes). Relays (tale.said c.number) c (record p { pipe = poured fresh p.pipe }) data) (sym grown)
+          (subst (λ (content : Bytes). Relays (tale.said c.number) c (record p { pipe = poured fresh p.pipe }) content) (sym grown)
           (relays_poured (tale.said d.number) (tale.said c.number) c d p fresh (payload_of a) (ap tale.said (ap client_number eq ∙ (poured_same (poured fresh) d).number)) (stage_of c d eq) (ap (λ (z : Client). z.interim_left) eq ∙ (poured_same (poured fresh) d).left)
           (subst (λ (y : Answer). Relays (tale.said d.number) d p (payload_of y)) same_answer w)));
     }
@@ -869,7 +877,7 @@ module _ {tale : Tale} where
     fed_at : (j : Conn) (x : Exchange) (c : Client) (q : Passed) → Changed (is_conn k.number) to t.conns j → IsIn x t.exchanges → IsIn x.number j.line → is_headed x ≡ true → Changed (is_for e) (into_pipe (poured fresh)) t.clients c → is_for x c ≡ true → is_in_other c.stage ≡ false → passed_of c ≡ Some q → Feeds tale j x c q
     fed_at j x c q (same l isnt) i m is o hit off some = fed_away j x c q l isnt i m is o hit off some
     fed_at j x c q (other g l hers eq) i m is o hit off some =
-        subst (λ (y : Conn). Feeds tale y x c q) (sym eq) (fed_here g x c q l (it g l hers) i (subst (λ (y : Conn). IsIn x.number y.line) eq m) is o hit off some)
+        subst (λ (y : Conn). Feeds tale y x c q) (sym eq) (fed_here g x c q l (one_conn g l hers) i (subst (λ (y : Conn). IsIn x.number y.line) eq m) is o hit off some)
 
     going-poured : Fed tale (on_conn k.number (λ i. record i { answer = Some (record a { raw = more }) }) (pour e (poured fresh) t))
     unfolding on_conn pour on_client_of
@@ -885,6 +893,7 @@ module _ {tale : Tale} where
     })
 
   body_piece-fed : {b : Since} (k : Conn) (a : Answer) (bytes : Bytes) (s : State) → tale.but ≡ None → IsIn k s.conns → k.answer ≡ Some a → Sound b s → Fed tale s → Fed tale (body_piece k a bytes s).state
+  unfolding deliver
   body_piece-fed k a bytes s calm there has hs h = by (front_of_line s k) refl
     where
       ground : Ground
@@ -923,7 +932,6 @@ module _ {tale : Tale} where
           first j i number = ap (λ (y : Conn). first_of y.line) (one_of conn_number s.conns j k (sound_facts hs).lines.rise (subst (λ ks. IsIn j ks) (over_conns now) i) there number) ∙ itself_there.1
 
           goes_on : Fed tale (on_conn k.number (λ i. record i { answer = Some (record a { raw = a.raw ++ bytes }) }) t)
-          unfolding deliver
           goes_on =
               going-poured k a (a.raw ++ bytes) fresh e s _ there has hs itself_there.0 itself_there.1 (stands_first k.line e.number itself_there.1) (facts_of h).rise (payload_grown a.rule a.raw bytes) lone (over_conns readied) (over_from readied) (over_fed readied)
 

@@ -63,48 +63,48 @@ nothing_within : (n m : ℕ) → n ≡ 0 → nat_le n m ≡ false → ⊥
 nothing_within n m none isnt = grind (arith, nat_tests)
 
 -- the client, of whom these bytes were said
-module _ (tale then : Tale) (s : State) (bytes : Bytes) (c : Client) (told : then.said c.number ≡ tale.said c.number ++ bytes) where
+module _ (tale later : Tale) (s : State) (bytes : Bytes) (c : Client) (told : later.said c.number ≡ tale.said c.number ++ bytes) where
   -- where nothing of it is passed
-  told_off : (d : Client) → d.number ≡ c.number → is_in_passed d.stage ≡ false → is_in_passed c.stage ≡ false → (is_in_other d.stage ≡ false → is_in_other c.stage ≡ false) → d.brought ≡ c.brought → SameClient tale then d c
-  told_off d number off was_off other brought = record {
+  told_off : (d : Client) → d.number ≡ c.number → is_in_passed d.stage ≡ false → is_in_passed c.stage ≡ false → (is_in_other d.stage ≡ false → is_in_other c.stage ≡ false) → d.brought ≡ c.brought → SameClient tale later d c
+  told_off d number off was_off others brought = record {
     number = number;
     passing = λ on. let both : false ≡ true = sym off ∙ on in absurd (cc both);
     source = λ on. let both : false ≡ true = sym off ∙ on in absurd (cc both);
-    passed = λ p isnt is. (p, other isnt, sym (ap (λ b. passed_of (record c { brought = b })) brought) ∙ is, record {
+    passed = λ p isnt is. (p, others isnt, sym (ap (λ b. passed_of (record c { brought = b })) brought) ∙ is, record {
       head = refl;
       rule = refl;
-      relays = relays_by (tale.said c.number) (then.said d.number) d c p p (off ∙ sym was_off) refl refl refl (λ isnt2. refl) (λ on. let both : false ≡ true = sym was_off ∙ on in absurd (cc both));
+      relays = relays_by (tale.said c.number) (later.said d.number) d c p p (off ∙ sym was_off) refl refl refl (λ isnt2. refl) (λ on. let both : false ≡ true = sym was_off ∙ on in absurd (cc both));
     });
   }
 
   -- where a reply goes on that is not passed
-  told_other : (d : Client) → d.number ≡ c.number → is_in_passed d.stage ≡ false → is_in_other d.stage ≡ true → SameClient tale then d c
-  told_other d number off other = record {
+  told_other : (d : Client) → d.number ≡ c.number → is_in_passed d.stage ≡ false → is_in_other d.stage ≡ true → SameClient tale later d c
+  told_other d number off others = record {
     number = number;
     passing = λ on. let both : false ≡ true = sym off ∙ on in absurd (cc both);
     source = λ on. let both : false ≡ true = sym off ∙ on in absurd (cc both);
-    passed = λ p isnt. let both : true ≡ false = sym other ∙ isnt in absurd (cc both);
+    passed = λ p isnt. let both : true ≡ false = sym others ∙ isnt in absurd (cc both);
   }
 
   -- where a reply goes on that is passed
   told_on : (d : Client) → d.number ≡ c.number → is_in_passed d.stage ≡ is_in_passed c.stage → is_in_other d.stage ≡ is_in_other c.stage → source_in d.stage ≡ source_in c.stage
       → ((p : Passed) → passed_of d ≡ Some p → (q : Passed) × (passed_of c ≡ Some q) × (p.head ≡ q.head) × (p.rule ≡ q.rule) × (p.pipe.is_coded ≡ q.pipe.is_coded) × (is_in_passed c.stage ≡ false → p.pipe.bytes ≡ q.pipe.bytes) × (bytes ++ (to_say d ++ p.pipe.bytes) ≡ to_say c ++ q.pipe.bytes))
-      → SameClient tale then d c
-  told_on d number on other source piped = record {
+      → SameClient tale later d c
+  told_on d number on others source piped = record {
     number = number;
     passing = λ is. sym on ∙ is;
     source = λ is id has. sym source ∙ has;
     passed = λ p isnt is.
         let w = piped p is in
-        (w.0, sym other ∙ isnt, w.1, record {
+        (w.0, sym others ∙ isnt, w.1, record {
           head = w.2;
           rule = w.3;
-          relays = relays_by (tale.said c.number) (then.said d.number) d c p w.0 on w.2 w.3 w.4 w.5 (λ so. said_on (tale.said c.number) (then.said d.number) bytes (to_say d ++ p.pipe.bytes) (to_say c ++ w.0.pipe.bytes) (ap then.said number ∙ told) w.6);
+          relays = relays_by (tale.said c.number) (later.said d.number) d c p w.0 on w.2 w.3 w.4 w.5 (λ so. said_on (tale.said c.number) (later.said d.number) bytes (to_say d ++ p.pipe.bytes) (to_say c ++ w.0.pipe.bytes) (ap later.said number ∙ told) w.6);
         });
   }
 
   -- of the interim answer
-  of_interim : (left : Bytes) → c.interim_left ≡ left → bytes ≡ take (length bytes) left → SameClient tale then (record c { interim_left = drop (length bytes) left }) c
+  of_interim : (left : Bytes) → c.interim_left ≡ left → bytes ≡ take (length bytes) left → SameClient tale later (record c { interim_left = drop (length bytes) left }) c
   of_interim left some is = told_on (record c { interim_left = drop (length bytes) left }) refl refl refl refl (λ p has. (p, has, refl, refl, refl, λ off. refl, stream p))
     where
       stream : (p : Passed) → bytes ++ ((drop (length bytes) left ++ head_left c.stage) ++ p.pipe.bytes) ≡ (c.interim_left ++ head_left c.stage) ++ p.pipe.bytes
@@ -123,7 +123,7 @@ module _ (tale then : Tale) (s : State) (bytes : Bytes) (c : Client) (told : the
     left_to_say : to_say c ≡ r.head_left
     left_to_say = ap (λ (xs : Bytes). xs ++ head_left c.stage) none ∙ ap head_left stage
 
-    of_head : (part : Bytes) → bytes ≡ take (length bytes) (r.head_left ++ part) → length bytes ≤ length r.head_left → SameClient tale then (record c { stage = Answering (record r { head_left = drop (length bytes) r.head_left }) }) c
+    of_head : (part : Bytes) → bytes ≡ take (length bytes) (r.head_left ++ part) → length bytes ≤ length r.head_left → SameClient tale later (record c { stage = Answering (record r { head_left = drop (length bytes) r.head_left }) }) c
     of_head part is le =
         told_on (record c { stage = Answering (record r { head_left = drop (length bytes) r.head_left }) }) refl (is_on (record r { head_left = drop (length bytes) r.head_left }) refl refl) (isnt_other (record r { head_left = drop (length bytes) r.head_left }) refl refl) (sym (ap source_in stage))
         (λ p has. (p, has, refl, refl, refl, λ off. refl, stream p))
@@ -137,14 +137,13 @@ module _ (tale then : Tale) (s : State) (bytes : Bytes) (c : Client) (told : the
     abbrev behind : ℕ
     behind = length bytes - length r.head_left
 
-    headless : Client
+    abbrev headless : Client
     headless = record c { stage = Answering (record r { head_left = [] }) }
 
-    drained : Client
+    abbrev drained : Client
     drained = on_passed (λ p. record p { pipe = without_first behind p.pipe }) headless
 
-    of_pipe : bytes ≡ take (length bytes) (r.head_left ++ passed_part c) → length r.head_left ≤ length bytes → SameClient tale then drained c
-    unfolding drained headless
+    of_pipe : bytes ≡ take (length bytes) (r.head_left ++ passed_part c) → length r.head_left ≤ length bytes → SameClient tale later drained c
     of_pipe is le = by (passed_of c) refl
       where
         parts : (bytes ≡ r.head_left ++ drop (length r.head_left) bytes) × (drop (length r.head_left) bytes ≡ take (length (drop (length r.head_left) bytes)) (passed_part c))
@@ -163,7 +162,7 @@ module _ (tale then : Tale) (s : State) (bytes : Bytes) (c : Client) (told : the
             ap (λ (xs : Bytes). bytes ++ ((xs ++ []) ++ drop behind q.pipe.bytes)) none ∙ ap (λ (xs : Bytes). xs ++ drop behind q.pipe.bytes) parts.0 ∙ append_assoc r.head_left (drop (length r.head_left) bytes) (drop behind q.pipe.bytes)
             ∙ ap (λ (xs : Bytes). r.head_left ++ xs) left ∙ ap (λ (xs : Bytes). xs ++ q.pipe.bytes) (sym left_to_say)
 
-        by : (o : Option Passed) → passed_of c ≡ o → SameClient tale then (elim o as (λ x. Client) [ None ↦ record c { stage = Answering (record r { head_left = [] }) } | Some p ↦ record c { stage = Answering (record r { head_left = [] }); brought = Passes (record p { pipe = without_first behind p.pipe }) } ]) c
+        by : (o : Option Passed) → passed_of c ≡ o → SameClient tale later (elim o as (λ x. Client) [ None ↦ record c { stage = Answering (record r { head_left = [] }) } | Some p ↦ record c { stage = Answering (record r { head_left = [] }); brought = Passes (record p { pipe = without_first behind p.pipe }) } ]) c
         by None has = told_on (record c { stage = Answering (record r { head_left = [] }) }) refl (is_on (record r { head_left = [] }) refl refl) (isnt_other (record r { head_left = [] }) refl refl) (sym (ap source_in stage)) (λ p some. let both : None ≡ Some p = sym has ∙ some in absurd (cc both))
         by (Some q) has =
             told_on (record c { stage = Answering (record r { head_left = [] }); brought = Passes (record q { pipe = without_first behind q.pipe }) }) refl (is_on (record r { head_left = [] }) refl refl) (isnt_other (record r { head_left = [] }) refl refl) (sym (ap source_in stage))
@@ -175,11 +174,11 @@ module _ (tale then : Tale) (s : State) (bytes : Bytes) (c : Client) (told : the
             passed_now off = let both : true ≡ false = sym (ap is_in_passed stage ∙ ap (λ t. t && is_passing r.decision) begun ∙ passing) ∙ off in cc both
 
   -- of a reply
-  of_reply : c.interim_left ≡ [] → (r : Reply) → c.stage ≡ Answering r → bytes ≡ take (length bytes) (elim r.has_begun as (λ x. Bytes) [ false ↦ [] | true ↦ r.head_left ++ body_part s c r ]) → SameClient tale then (said_of (length bytes) r c) c
+  of_reply : c.interim_left ≡ [] → (r : Reply) → c.stage ≡ Answering r → bytes ≡ take (length bytes) (elim r.has_begun as (λ x. Bytes) [ false ↦ [] | true ↦ r.head_left ++ body_part s c r ]) → SameClient tale later (said_of (length bytes) r c) c
   of_reply none r stage is = by_begun r.has_begun refl is
     where
       by_idle : (t : Bool) → nat_le (length bytes) (length r.head_left) ≡ t → r.has_begun ≡ false → bytes ≡ []
-          → SameClient tale then (elim t as (λ x. Client) [
+          → SameClient tale later (elim t as (λ x. Client) [
             | true ↦ record c { stage = Answering (record r { head_left = drop (length bytes) r.head_left }) }
             | false ↦ said_of_body (length bytes - length r.head_left) (record r { head_left = [] }) c
           ]) c
@@ -188,7 +187,7 @@ module _ (tale then : Tale) (s : State) (bytes : Bytes) (c : Client) (told : the
       by_idle false holds off nothing = absurd (nothing_within (length bytes) (length r.head_left) (ap length nothing) holds)
 
       by_decision : (p t : Bool) → is_passing r.decision ≡ p → nat_le (length bytes) (length r.head_left) ≡ t → r.has_begun ≡ true → bytes ≡ take (length bytes) (r.head_left ++ (elim p as (λ x. Bytes) [ true ↦ passed_part c | false ↦ body_part s c r ]))
-          → SameClient tale then (elim t as (λ x. Client) [
+          → SameClient tale later (elim t as (λ x. Client) [
             | true ↦ record c { stage = Answering (record r { head_left = drop (length bytes) r.head_left }) }
             | false ↦ elim p as (λ y. Client) [
               | true ↦ on_passed (λ q. record q { pipe = without_first (length bytes - length r.head_left) q.pipe }) (record c { stage = Answering (record r { head_left = [] }) })
@@ -198,8 +197,7 @@ module _ (tale then : Tale) (s : State) (bytes : Bytes) (c : Client) (told : the
       by_decision true true passing holds begun front = of_head none r stage begun passing (passed_part c) front (within (length bytes) (length r.head_left) holds)
       by_decision true false passing holds begun front = piped
         where
-          piped : SameClient tale then (on_passed (λ q. record q { pipe = without_first (length bytes - length r.head_left) q.pipe }) (record c { stage = Answering (record r { head_left = [] }) })) c
-          unfolding drained headless
+          piped : SameClient tale later (on_passed (λ q. record q { pipe = without_first (length bytes - length r.head_left) q.pipe }) (record c { stage = Answering (record r { head_left = [] }) })) c
           piped = of_pipe none r stage begun passing front (past (length bytes) (length r.head_left) holds)
       by_decision false true off holds begun front =
           told_other (record c { stage = Answering (record r { head_left = drop (length bytes) r.head_left }) }) refl (ap (λ t. t && is_passing r.decision) begun ∙ off) (ap (λ t. t && not (is_passing r.decision)) begun ∙ ap not off)
@@ -214,26 +212,26 @@ module _ (tale then : Tale) (s : State) (bytes : Bytes) (c : Client) (told : the
           part_of false so = absurd (cc so)
       by_part false off front = front
 
-      by_begun : (b : Bool) → r.has_begun ≡ b → bytes ≡ take (length bytes) (elim b as (λ x. Bytes) [ false ↦ [] | true ↦ r.head_left ++ body_part s c r ]) → SameClient tale then (said_of (length bytes) r c) c
+      by_begun : (b : Bool) → r.has_begun ≡ b → bytes ≡ take (length bytes) (elim b as (λ x. Bytes) [ false ↦ [] | true ↦ r.head_left ++ body_part s c r ]) → SameClient tale later (said_of (length bytes) r c) c
       by_begun false off front = by_idle (nat_le (length bytes) (length r.head_left)) refl off (no_bytes bytes front)
       by_begun true begun front = by_decision (is_passing r.decision) (nat_le (length bytes) (length r.head_left)) refl refl begun (by_part (is_passing r.decision) refl front)
 
-  pub said_same : bytes ≡ take (length bytes) (offer s c) → SameClient tale then (said_by (length bytes) c) c
+  pub said_same : bytes ≡ take (length bytes) (offer s c) → SameClient tale later (said_by (length bytes) c) c
   said_same is = by c.interim_left refl is
     where
-      idle : is_in_passed c.stage ≡ false → SameClient tale then c c
+      idle : is_in_passed c.stage ≡ false → SameClient tale later c c
       idle off = told_off c refl off off (λ isnt. isnt) refl
 
       by_stage : (stage : Stage) → c.stage ≡ stage → c.interim_left ≡ []
           → bytes ≡ take (length bytes) (elim (elim stage as (λ y. Option Reply) [ Undecided ↦ None | Waiting ↦ None | Passing ↦ None | Answering r ↦ Some r ]) as (λ x. Bytes) [ None ↦ [] | Some r ↦ elim r.has_begun as (λ y. Bytes) [ false ↦ [] | true ↦ r.head_left ++ body_part s c r ] ])
-          → SameClient tale then (elim (elim stage as (λ y. Option Reply) [ Undecided ↦ None | Waiting ↦ None | Passing ↦ None | Answering r ↦ Some r ]) as (λ x. Client) [ None ↦ c | Some r ↦ said_of (length bytes) r c ]) c
+          → SameClient tale later (elim (elim stage as (λ y. Option Reply) [ Undecided ↦ None | Waiting ↦ None | Passing ↦ None | Answering r ↦ Some r ]) as (λ x. Client) [ None ↦ c | Some r ↦ said_of (length bytes) r c ]) c
       by_stage Undecided stage none front = idle (ap is_in_passed stage)
       by_stage Waiting stage none front = idle (ap is_in_passed stage)
       by_stage Passing stage none front = idle (ap is_in_passed stage)
       by_stage (Answering r) stage none front = of_reply none r stage front
 
       by : (left : Bytes) → c.interim_left ≡ left → bytes ≡ take (length bytes) (elim (is_empty left) as (λ x. Bytes) [ false ↦ left | true ↦ reply_part s c ])
-          → SameClient tale then (elim (is_empty left) as (λ x. Client) [ false ↦ record c { interim_left = drop (length bytes) left } | true ↦ elim (reply_of c) as (λ y. Client) [ None ↦ c | Some r ↦ said_of (length bytes) r c ] ]) c
+          → SameClient tale later (elim (is_empty left) as (λ x. Client) [ false ↦ record c { interim_left = drop (length bytes) left } | true ↦ elim (reply_of c) as (λ y. Client) [ None ↦ c | Some r ↦ said_of (length bytes) r c ] ]) c
       by (x ∷ left) some front = of_interim (x ∷ left) some front
       by [] none front = by_stage c.stage refl none front
 
@@ -274,18 +272,19 @@ module _ {tale : Tale} where
   unfolding refuse
   refuse-fed c status s h = swept-fed _ (leave-fed (is_of c.number) _ (on_client-fed c.number (refused_with status) s (refused_same status) h))
 
-  stage_waits : (d : Decision) → (is_in_passed (stage_for d) ≡ false) × (source_in (stage_for d) ≡ None)
-  stage_waits Pass = (refl, refl)
-  stage_waits (Refuse status) = (refl, refl)
-  stage_waits (Hit from to) = (refl, refl)
-  stage_waits (Part from to) = (refl, refl)
-  stage_waits Head = (refl, refl)
-  stage_waits NotModified = (refl, refl)
-  stage_waits Unsatisfiable = (refl, refl)
-  stage_waits Relay = (refl, refl)
-  stage_waits Validate = (refl, refl)
-  stage_waits Fetch = (refl, refl)
+stage_waits : (d : Decision) → (is_in_passed (stage_for d) ≡ false) × (source_in (stage_for d) ≡ None)
+stage_waits Pass = (refl, refl)
+stage_waits (Refuse status) = (refl, refl)
+stage_waits (Hit from to) = (refl, refl)
+stage_waits (Part from to) = (refl, refl)
+stage_waits Head = (refl, refl)
+stage_waits NotModified = (refl, refl)
+stage_waits Unsatisfiable = (refl, refl)
+stage_waits Relay = (refl, refl)
+stage_waits Validate = (refl, refl)
+stage_waits Fetch = (refl, refl)
 
+module _ {tale : Tale} where
   asking_same : (d : Decision) (c : Client) → SameClient tale tale (asking_with d c) c
   asking_same d c = none_passed (asking_with d c) c refl (stage_waits d).0 (stage_waits d).1 refl
 
@@ -322,13 +321,14 @@ module _ {tale : Tale} where
       by_front (NoFront status) = h
       by_front (IsRequest r) = by_key r r.key
 
-  -- who is in no reply is in none that is not passed
-  not_other : (stage : Stage) → is_some_with (λ r. r.has_begun) (elim stage as (λ y. Option Reply) [ Undecided ↦ None | Waiting ↦ None | Passing ↦ None | Answering r ↦ Some r ]) ≡ false → is_in_other stage ≡ false
-  not_other Undecided off = refl
-  not_other Waiting off = refl
-  not_other Passing off = refl
-  not_other (Answering r) off = ap (λ b. b && not (is_passing r.decision)) off
+-- who is in no reply is in none that is not passed
+not_other : (stage : Stage) → is_some_with (λ r. r.has_begun) (elim stage as (λ y. Option Reply) [ Undecided ↦ None | Waiting ↦ None | Passing ↦ None | Answering r ↦ Some r ]) ≡ false → is_in_other stage ≡ false
+not_other Undecided off = refl
+not_other Waiting off = refl
+not_other Passing off = refl
+not_other (Answering r) off = ap (λ b. b && not (is_passing r.decision)) off
 
+module _ {tale : Tale} where
   -- a reply that is decided has not begun
   answering_same : (r : Reply) (c : Client) → r.has_begun ≡ false → is_begun c ≡ false → SameClient tale tale (answering_with r c) c
   answering_same r c off free = record {
@@ -537,10 +537,11 @@ module _ {tale : Tale} where
               head_or e r.was (is_headed e) refl r.there its (ap (λ b. not b && is_begun (begun_at_end s r.was)) free ∙ begun_passing (begun_at_end s r.was) on_now) there.1
 
       -- its data are in the pipe, and nothing of them was said
-      begins_with : (c d : Client) (p : Passed) (data : Bytes) → is_begun c ≡ false → d.number ≡ c.number → d.interim_left ≡ c.interim_left → (is_in_passed d.stage ≡ true → IsHeadOf c d) → passed_of c ≡ Some p → Relays (tale.said c.number) c p data → Relays (tale.said d.number) d p data
-      begins_with c d p data free number left begins has w = record {
+      begins_with : (c d : Client) (p : Passed) (content : Bytes) → is_begun c ≡ false → d.number ≡ c.number → d.interim_left ≡ c.interim_left → (is_in_passed d.stage ≡ true → IsHeadOf c d) → passed_of c ≡ Some p → Relays (tale.said c.number) c p content → Relays (tale.said d.number) d p content
+      begins_with c d p content free number left begins has w = record {
         pieces = w.pieces;
         all = w.all;
+        full = w.full;
         waiting = λ off. w.waiting (not_passed c free);
         shown = λ on.
             let b = begins on in
@@ -561,7 +562,7 @@ module _ {tale : Tale} where
             };
       }
 
-      feeds_as : (k : Conn) (e : Exchange) (c d : Client) (p : Passed) → Feeds tale k e c p → ((data : Bytes) → Relays (tale.said c.number) c p data → Relays (tale.said d.number) d p data) → Feeds tale k e d p
+      feeds_as : (k : Conn) (e : Exchange) (c d : Client) (p : Passed) → Feeds tale k e c p → ((content : Bytes) → Relays (tale.said c.number) c p content → Relays (tale.said d.number) d p content) → Feeds tale k e d p
       feeds_as k e c d p v on = record { front = v.front; answer = v.answer; is = v.is; head = v.head; rule = v.rule; relayed = λ isnt. on (payload_of v.answer) (v.relayed isnt) }
 
       fed_in : (k : Conn) (e : Exchange) (c : Client) (p : Passed) → IsIn k s.conns → Changed (is_outrun s) left_alone s.exchanges e → IsIn e.number k.line → is_headed e ≡ true → From (begun_at_end s) s.clients c → is_for e c ≡ true → is_in_other c.stage ≡ false → passed_of c ≡ Some p → Feeds tale k e c p
@@ -581,4 +582,4 @@ module _ {tale : Tale} where
               let was_passed : passed_of r.was ≡ Some p = ap (λ b. passed_of (record r.was { brought = b })) (sym (ap (λ (x : Client). x.brought) r.is ∙ brought)) ∙ has in
               subst (λ (x : Client). Feeds tale k e x p) (sym r.is)
               (feeds_as k e r.was (begun_at_end s r.was) p (h.fed_by k e r.was p l there m is r.there its (not_other r.was.stage free) was_passed)
-              (λ data v. begins_with r.was (begun_at_end s r.was) p data free number left begins was_passed v))
+              (λ content v. begins_with r.was (begun_at_end s r.was) p content free number left begins was_passed v))

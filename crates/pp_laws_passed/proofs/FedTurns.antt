@@ -135,15 +135,16 @@ module _ {tale : Tale} where
   unfolding tick
   tick-fed now s h = tick_to-fed (max s.clock now) s h
 
-  rested_same : (s : State) (e : Exchange) → SameExchange (rested_exchange s e) e
-  rested_same s e = by e.body refl
-    where
-      by : (body : Body) → e.body ≡ body → SameExchange (elim (bound_in body) as (λ y. Exchange) [ None ↦ e | Some b ↦ record e { body = Joining (wanted_to s b) } ]) e
-      by Pending is = exchange_same e
-      by (Joining b) is = record { number = refl; asker = λ m has. has; headed = sym (ap (λ x. not (is_pending x)) is); place = λ on none. none }
-      by Relaying is = exchange_same e
-      by Dropping is = exchange_same e
+rested_same : (s : State) (e : Exchange) → SameExchange (rested_exchange s e) e
+rested_same s e = by e.body refl
+  where
+    by : (body : Body) → e.body ≡ body → SameExchange (elim (bound_in body) as (λ y. Exchange) [ None ↦ e | Some b ↦ record e { body = Joining (wanted_to s b) } ]) e
+    by Pending is = exchange_same e
+    by (Joining b) is = record { number = refl; asker = λ m has. has; headed = sym (ap (λ x. not (is_pending x)) is); place = λ on none. none }
+    by Relaying is = exchange_same e
+    by Dropping is = exchange_same e
 
+module _ {tale : Tale} where
   pub rest_with-fed : (w : Wants) (s : State) → Fed tale s → Fed tale (rest_with w s)
   unfolding rest_with
   rest_with-fed w s h =

@@ -51,10 +51,11 @@ pub record IsShown (said left : Bytes) (p : Passed) (text : Bytes) : Type 0 wher
   pub spelled : head ≡ passed_head p.head p.rule minor is_head name keeps
   pub stream : said ++ (left ++ p.pipe.bytes) ≡ earlier ++ (head ++ text)
 
--- the text is these data, in order and without a gap, spelled piece by piece
-pub record IsRelayed (said left : Bytes) (p : Passed) (data : Bytes) : Type 0 where
+-- the text is these data, in order and without a gap, spelled piece by piece. None of them is empty: such a chunk would be the last
+pub record IsRelayed (said left : Bytes) (p : Passed) (content : Bytes) : Type 0 where
   pub pieces : List Bytes
-  pub all : concat pieces ≡ data
+  pub all : concat pieces ≡ content
+  pub full : (piece : Bytes) → IsIn piece pieces → piece ≡ [] → ⊥
   pub shown : IsShown said left p (all_spelled p.pipe.is_coded pieces)
 
 -- ---- the one response

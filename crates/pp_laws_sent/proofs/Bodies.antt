@@ -14,20 +14,6 @@ use Rattle.pp_law.specs.Lists.{Bytes}
 
 -- ---- bodies
 
-read_more : (place : Place) (text more : List ℕ) → (later : List ℕ) × ((read_from place (text ++ more)).payload ≡ (read_from place text).payload ++ later)
-read_more Over text more = ([], refl)
-read_more Wrong text more = ([], refl)
-read_more place [] more = ((read_from place more).payload, refl)
-read_more place (b ∷ text) more =
-    let r = read_more (step place b) text more in
-    (r.0, ap (λ (xs : List ℕ). datum place b ++ xs) r.1 ∙ sym (append_assoc (datum place b) (read_from (step place b) text).payload r.0))
-
--- the data of a text are the front of those of a longer one
-pub payload_more : (rule : BodyRule) (text more : List ℕ) → (later : List ℕ) × ((body_of rule (text ++ more)).payload ≡ (body_of rule text).payload ++ later)
-payload_more rule text more =
-    let r = read_more (first_place rule) text more in
-    (r.0, ap (λ (b : Body). b.payload) (sym (read_from-first_place rule (text ++ more))) ∙ r.1 ∙ ap (λ (b : Body). b.payload ++ r.0) (read_from-first_place rule text))
-
 same_rest : {xs ys : List ℕ} → Done xs ≡ Done ys → xs ≡ ys
 same_rest e = cc e
 
