@@ -33,6 +33,7 @@ SUBJECTS = [
     "packages",
     "words",
     "household",
+    "access",
     "kills",
     "folders",
     "caching",

@@ -36,7 +36,11 @@ fn words_of(rt: &HostRuntime) -> io::Result<Vec<String>> {
 fn serve(rt: HostRuntime, words: &[String]) -> io::Result<ExitCode> {
     let alloc = rt.alloc();
     match NetWorld::new(rt.clone()?) {
-        Ok(mut world) => Ok(ExitCode::from(run(alloc, words, &mut world).status())),
+        Ok(mut world) => {
+            let exit = run(alloc, words, &mut world);
+            world.end();
+            Ok(ExitCode::from(exit.status()))
+        }
         Err(NetFault::NoPoller) => end(&rt, "polipo: no poller\n", NO_POLLER),
         Err(NetFault::OutOfMemory) => end(&rt, NO_MEMORY_LINE, Exit::NoMemory.status()),
     }

@@ -12,7 +12,7 @@ use Rattle.pp_conf.specs.Addresses.{address_of, are_ranges, range_of, ranges_of}
 use Rattle.pp_conf.specs.Settings.{accepts}
 use Rattle.pp_conf.specs.Words.{file_of, has_reading, reading_of, Told, Serves, ShowsDemo, Refusal, NoReading, TooLong, NotUnderstood, OutOfRange}
 use Rattle.pp_conf.specs.declared.setting.Setting.{Setting}
-use Rattle.pp_conf.specs.declared.setting.Setting.TheVariants.{ProxyPort, ProxyAddress, AllowedClients, ProxyName, DiskCacheRoot, ChunkLowMark, ChunkHighMark, ChunkCriticalMark, DiskRun, MaxTurns, ShareFetches, PipelineAsks, HostConnections}
+use Rattle.pp_conf.specs.declared.setting.Setting.TheVariants.{ProxyPort, ProxyAddress, AllowedClients, ProxyName, DiskCacheRoot, ChunkLowMark, ChunkHighMark, ChunkCriticalMark, DiskRun, MaxTurns, ShareFetches, PipelineAsks, HostConnections, AccessLog}
 
 -- what a definition of text has to unfold on a literal
 unfoldable on_literals : ⊤
@@ -46,6 +46,7 @@ without_words_each_setting_has_its_default : reading_of [] None ≡ Ok (Serves (
   shares_fetches = true;
   pipelines_asks = false;
   host_connections = 8;
+  access_log = [];
 }))
 unfolding on_literals
 without_words_each_setting_has_its_default = refl
@@ -107,6 +108,13 @@ a_value_outside_its_range_is_named : Rows of_text (
     ∷ (codes "hostConnections=1", Ok 8123)
     ∷ (codes "hostConnections=64", Ok 8123)
     ∷ (codes "hostConnections=65", Err (OutOfRange HostConnections))
+    ∷ (codes "accessLog=\ndiskCacheRoot=", Err (OutOfRange DiskCacheRoot))
+    ∷ (codes "accessLog=-", Ok 8123)
+    ∷ (codes "accessLog=/var/log/a=b " ++ (195 ∷ 169 ∷ []), Ok 8123)
+    ∷ (codes "accessLog=a" ++ (0 ∷ codes "b"), Err (OutOfRange AccessLog))
+    ∷ (codes "accessLog=" ++ (233 ∷ []), Err (OutOfRange AccessLog))
+    ∷ (codes "accessLog=" ++ replicate 255 97, Ok 8123)
+    ∷ (codes "accessLog=" ++ replicate 256 97, Err (OutOfRange AccessLog))
     ∷ (codes "chunkHighMark=3000\nchunkLowMark=3001", Err (OutOfRange ChunkHighMark))
     ∷ (codes "chunkLowMark=4000\nchunkHighMark=4000", Ok 8123)
     ∷ (codes "diskRun=65\nproxyPort=0\ndiskRun=1", Err (OutOfRange DiskRun))

@@ -6,7 +6,7 @@ use Rattle.pp_world.specs.Doors.{is_in}
 use Rattle.pp_conf.specs.Addresses.{address_of, is_local, loopback, ranges_of}
 use Rattle.pp_conf.specs.Settings.{accepts, number_for}
 use Rattle.pp_conf.specs.declared.setting.Setting.{Setting}
-use Rattle.pp_conf.specs.declared.setting.Setting.TheVariants.{ProxyPort, ProxyAddress, AllowedClients, ProxyName, DiskCacheRoot, ChunkLowMark, ChunkHighMark, ChunkCriticalMark, DiskRun, MaxTurns, ShareFetches, PipelineAsks, HostConnections}
+use Rattle.pp_conf.specs.declared.setting.Setting.TheVariants.{ProxyPort, ProxyAddress, AllowedClients, ProxyName, DiskCacheRoot, ChunkLowMark, ChunkHighMark, ChunkCriticalMark, DiskRun, MaxTurns, ShareFetches, PipelineAsks, HostConnections, AccessLog}
 
 -- a setting and the text of its value
 abbrev pub Assignment : Type 0
@@ -26,6 +26,7 @@ pub record Settings : Type 0 where
   pub shares_fetches : Bool
   pub pipelines_asks : Bool
   pub host_connections : ℕ
+  pub access_log : List ℕ
 
 abbrev pub defaults : Settings
 defaults = record {
@@ -42,6 +43,7 @@ defaults = record {
   shares_fetches = true;
   pipelines_asks = false;
   host_connections = 8;
+  access_log = [];
 }
 
 abbrev pub number_or_0 : Setting → List ℕ → ℕ
@@ -62,6 +64,7 @@ with_value c MaxTurns text = record c { max_turns = number_or_0 MaxTurns text }
 with_value c ShareFetches text = record c { shares_fetches = number_or_0 ShareFetches text == 1 }
 with_value c PipelineAsks text = record c { pipelines_asks = number_or_0 PipelineAsks text == 1 }
 with_value c HostConnections text = record c { host_connections = number_or_0 HostConnections text }
+with_value c AccessLog text = record c { access_log = text }
 
 abbrev pub assigned : Settings → List Assignment → Settings
 assigned c assignments = fold (λ c a. with_value c a.0 a.1) c assignments

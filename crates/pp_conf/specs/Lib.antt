@@ -4,4 +4,5 @@ pub mod Settings
 pub mod Conf
 pub mod Text
 pub mod Words
+pub mod Logs
 pub mod Shown

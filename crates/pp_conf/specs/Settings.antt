@@ -6,7 +6,7 @@ use Rattle.std.specs.Str.{is_utf8}
 use Rattle.pp_conf.specs.Addresses.{are_ranges, is_address}
 use Rattle.pp_conf.specs.Numbers.{number_in}
 use Rattle.pp_conf.specs.declared.setting.Setting.{Setting}
-use Rattle.pp_conf.specs.declared.setting.Setting.TheVariants.{ProxyPort, ProxyAddress, AllowedClients, ProxyName, DiskCacheRoot, ChunkLowMark, ChunkHighMark, ChunkCriticalMark, DiskRun, MaxTurns, ShareFetches, PipelineAsks, HostConnections}
+use Rattle.pp_conf.specs.declared.setting.Setting.TheVariants.{ProxyPort, ProxyAddress, AllowedClients, ProxyName, DiskCacheRoot, ChunkLowMark, ChunkHighMark, ChunkCriticalMark, DiskRun, MaxTurns, ShareFetches, PipelineAsks, HostConnections, AccessLog}
 
 abbrev pub name_of : Setting → List ℕ
 name_of ProxyPort = codes "proxyPort"
@@ -22,9 +22,10 @@ name_of MaxTurns = codes "maxTurns"
 name_of ShareFetches = codes "shareFetches"
 name_of PipelineAsks = codes "pipelineAsks"
 name_of HostConnections = codes "hostConnections"
+name_of AccessLog = codes "accessLog"
 
 abbrev pub all_settings : List Setting
-all_settings = ProxyPort ∷ ProxyAddress ∷ AllowedClients ∷ ProxyName ∷ DiskCacheRoot ∷ ChunkLowMark ∷ ChunkHighMark ∷ ChunkCriticalMark ∷ DiskRun ∷ MaxTurns ∷ ShareFetches ∷ PipelineAsks ∷ HostConnections ∷ []
+all_settings = ProxyPort ∷ ProxyAddress ∷ AllowedClients ∷ ProxyName ∷ DiskCacheRoot ∷ ChunkLowMark ∷ ChunkHighMark ∷ ChunkCriticalMark ∷ DiskRun ∷ MaxTurns ∷ ShareFetches ∷ PipelineAsks ∷ HostConnections ∷ AccessLog ∷ []
 
 -- the setting of that name, letter for letter
 abbrev pub setting_named : List ℕ → Option Setting
@@ -45,6 +46,10 @@ is_path text = is_utf8 text && list_all (λ b. not (b == 0)) text
 abbrev pub is_root : List ℕ → Bool
 is_root text = nat_le 1 (length text) && nat_le (length text) 255 && is_path text
 
+-- nothing, or a name
+abbrev pub is_log : List ℕ → Bool
+is_log text = nat_le (length text) 255 && is_path text
+
 -- the numbers that a setting takes by itself, whatever the others are
 abbrev pub least_of : Setting → ℕ
 least_of ProxyPort = 1
@@ -60,6 +65,7 @@ least_of MaxTurns = 1
 least_of ShareFetches = 0
 least_of PipelineAsks = 0
 least_of HostConnections = 1
+least_of AccessLog = 0
 
 abbrev pub most_of : Setting → ℕ
 most_of ProxyPort = 65535
@@ -75,6 +81,7 @@ most_of MaxTurns = 140737488355327
 most_of ShareFetches = 1
 most_of PipelineAsks = 1
 most_of HostConnections = 64
+most_of AccessLog = 0
 
 abbrev pub number_for : Setting → List ℕ → Option ℕ
 number_for s text = number_in (least_of s) (most_of s) text
@@ -94,3 +101,4 @@ accepts MaxTurns text = is_some (number_for MaxTurns text)
 accepts ShareFetches text = is_some (number_for ShareFetches text)
 accepts PipelineAsks text = is_some (number_for PipelineAsks text)
 accepts HostConnections text = is_some (number_for HostConnections text)
+accepts AccessLog text = is_log text

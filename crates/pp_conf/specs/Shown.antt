@@ -69,6 +69,7 @@ shown_draft d = record {
   shares_fetches = d.share_fetches;
   pipelines_asks = d.pipeline_asks;
   host_connections = d.host_connections;
+  access_log = d.access_log.now;
 }
 
 abbrev pub shown_conf : Conf → Settings
@@ -86,6 +87,7 @@ shown_conf c = record {
   shares_fetches = c.share_fetches;
   pipelines_asks = c.pipeline_asks;
   host_connections = c.host_connections;
+  access_log = string_bytes c.access_log;
 }
 
 abbrev pub shown_command : Command → Told

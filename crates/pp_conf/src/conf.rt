@@ -1,5 +1,6 @@
 // The settings in force, and how assignments change them.
 ghost use Rattle.std.specs.Prelude.{◌≡◌, ◌≤◌, IfOk, IfErr, true, length};
+ghost use Rattle.std.specs.Str.{is_utf8};
 ghost use Rattle.pp_conf.specs.Settings.{accepts};
 ghost use Rattle.pp_conf.specs.Conf.{defaults, misfit, with_value};
 ghost use Rattle.pp_conf.specs.Shown.{shown_draft, shown_conf};
@@ -29,6 +30,17 @@ pub struct Conf {
     pub share_fetches: bool,
     pub pipeline_asks: bool,
     pub host_connections: u32,
+    pub access_log: String,
+}
+
+impl Conf {
+    /// The settings of no words and no text.
+    pub fn plain(alloc: Global) -> Result<Conf, ConfFault>
+        ensures kept { IfOk result (λ c. shown_conf c ≡ defaults) }
+        ensures memory { IfErr result (λ e. e ≡ OutOfMemory) }
+    {
+        Draft::new().keep(alloc)
+    }
 }
 
 /// The settings while assignments are applied; texts still stand where they came from.
@@ -47,6 +59,7 @@ pub(crate) struct Draft<'a> {
     pub share_fetches: bool,
     pub pipeline_asks: bool,
     pub host_connections: u32,
+    pub access_log: &'a str,
 }
 
 impl<'a> Draft<'a> {
@@ -67,6 +80,7 @@ impl<'a> Draft<'a> {
             share_fetches: true,
             pipeline_asks: false,
             host_connections: 8,
+            access_log: "",
         }
     }
 
@@ -90,6 +104,7 @@ impl<'a> Draft<'a> {
             Setting::ShareFetches => self.share_fetches = number == 1,
             Setting::PipelineAsks => self.pipeline_asks = number == 1,
             Setting::HostConnections => self.host_connections = number as u32,
+            Setting::AccessLog => self.access_log = text_of(value),
         }
     }
 
@@ -102,6 +117,9 @@ impl<'a> Draft<'a> {
             return Err(ConfFault::OutOfMemory);
         };
         let Ok(allowed) = ranges_of(alloc, self.allowed) else {
+            return Err(ConfFault::OutOfMemory);
+        };
+        let Ok(access_log) = String::from_str(alloc, self.access_log) else {
             return Err(ConfFault::OutOfMemory);
         };
         Ok(Conf {
@@ -118,6 +136,7 @@ impl<'a> Draft<'a> {
             share_fetches: self.share_fetches,
             pipeline_asks: self.pipeline_asks,
             host_connections: self.host_connections,
+            access_log,
         })
     }
 
@@ -145,4 +164,14 @@ fn name_from(text: &[u8]) -> ArrayVec<u8, 64>
     let mut name = ArrayVec::new();
     let _ = name.try_extend_from_slice(text);
     name
+}
+
+fn text_of(text: &[u8]) -> &str
+    requires { is_utf8 text.now ≡ true }
+    ensures { result.now ≡ text.now }
+{
+    match str::from_utf8(text) {
+        Ok(text) => text,
+        Err(_) => "",
+    }
 }

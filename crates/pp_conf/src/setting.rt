@@ -2,7 +2,7 @@
 ghost use Rattle.std.specs.Prelude.{◌≡◌, ◌==◌, not};
 ghost use Rattle.std.specs.List.{list_all};
 ghost use Rattle.std.specs.Str.{is_utf8};
-ghost use Rattle.pp_conf.specs.Settings.{accepts, is_name_byte, is_path, is_proxy_name, is_root, least_of, most_of, name_of, number_for, setting_named};
+ghost use Rattle.pp_conf.specs.Settings.{accepts, is_log, is_name_byte, is_path, is_proxy_name, is_root, least_of, most_of, name_of, number_for, setting_named};
 
 use crate::addresses::{address_of, are_ranges};
 use crate::numbers::number_between;
@@ -36,10 +36,13 @@ pub enum Setting {
     PipelineAsks,
     /// How many connections one host may have: 1 to 64.
     HostConnections,
+    /// Where the operator's log of replies is written, up to 255 bytes of UTF-8 without NUL: nowhere where it is empty,
+    /// to standard error where it is `-`, else to the file of this name.
+    AccessLog,
 }
 
 impl Setting {
-    pub const ALL: [Setting; 13] = [
+    pub const ALL: [Setting; 14] = [
         Setting::ProxyPort,
         Setting::ProxyAddress,
         Setting::AllowedClients,
@@ -53,6 +56,7 @@ impl Setting {
         Setting::ShareFetches,
         Setting::PipelineAsks,
         Setting::HostConnections,
+        Setting::AccessLog,
     ];
 
     /// The name that words and text use.
@@ -73,6 +77,7 @@ impl Setting {
             Setting::ShareFetches => "shareFetches",
             Setting::PipelineAsks => "pipelineAsks",
             Setting::HostConnections => "hostConnections",
+            Setting::AccessLog => "accessLog",
         }
     }
 
@@ -96,7 +101,8 @@ impl Setting {
             Setting::ProxyAddress
             | Setting::AllowedClients
             | Setting::ProxyName
-            | Setting::DiskCacheRoot => (0, 0),
+            | Setting::DiskCacheRoot
+            | Setting::AccessLog => (0, 0),
             Setting::ChunkLowMark | Setting::ChunkHighMark | Setting::ChunkCriticalMark => {
                 (512, 65_536)
             }
@@ -123,6 +129,7 @@ impl Setting {
             Setting::AllowedClients => are_ranges(text),
             Setting::ProxyName => is_proxy_name(text),
             Setting::DiskCacheRoot => is_root(text),
+            Setting::AccessLog => is_log(text),
             Setting::ProxyPort
             | Setting::ChunkLowMark
             | Setting::ChunkHighMark
@@ -154,6 +161,12 @@ fn is_root(text: &[u8]) -> bool
 {
     let fits = 1 <= text.len() && text.len() <= 255;
     fits && is_path(text)
+}
+
+fn is_log(text: &[u8]) -> bool
+    ensures { result ≡ is_log text.now }
+{
+    text.len() <= 255 && is_path(text)
 }
 
 fn is_path(text: &[u8]) -> bool

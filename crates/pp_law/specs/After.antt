@@ -13,14 +13,15 @@ use Rattle.pp_law.specs.Deciding.{decided}
 use Rattle.pp_law.specs.Due.{still_waits}
 use Rattle.pp_law.specs.Connections.{client, conn, on_client, on_conn, is_client, is_conn, put_on, lose_attempt, may_ask_again, end_exchange, placing, Placement, AllPlaced, WaitsDial, WaitsDrop}
 use Rattle.pp_law.specs.Leaving.{Leaving, ForAnother, ForMemory, BeforeDecision, leaving_as}
-use Rattle.pp_law.specs.Lists.{Bytes, change, without}
+use Rattle.pp_law.specs.Lists.{Bytes, change, is_some_with, without}
 use Rattle.pp_law.specs.Opening.{woken, configured, opened_to, is_opening, lose_in_opening}
 use Rattle.pp_law.specs.Phases.{in_phase, due_victim, come_to, come_to_decide, deciding, ending}
 use Rattle.pp_law.specs.Replies.{said_by, use_said, end_replies, regained}
 use Rattle.pp_law.specs.Repairs.{begin_in_opening}
 use Rattle.pp_law.specs.Requests.{NoHeadYet}
 use Rattle.pp_law.specs.Responses.{got, ended}
-use Rattle.pp_law.specs.State.{State, Client, Conn, Exchange, Instance, Brought, Awaited, Joins, Trying, RowRefused, Undecided, IsRooted, IsListed, IsListening, Handling, Evicting, Keeping, Following, Connecting, Owed, Free, ReadOf, WriteTo}
+use Rattle.pp_law.specs.Stages.{bound_of}
+use Rattle.pp_law.specs.State.{State, Client, Conn, Exchange, Instance, Dropping, Brought, Awaited, Joins, Trying, RowRefused, Undecided, IsRooted, IsListed, IsListening, Handling, Evicting, Keeping, Following, Connecting, Owed, Free, ReadOf, WriteTo}
 use Rattle.pp_law.specs.Store.{begin_in_turn, end_op, close_name, note_kept, note_gone, load}
 use Rattle.pp_law.specs.Table.{forget}
 use Rattle.pp_law.specs.Turn.{touch, tick, rest_with}
@@ -105,15 +106,24 @@ joins id brought = false
 abbrev pub waits_for_row : ℕ → Client → Bool
 waits_for_row id c = not c.is_closing && joins id c.brought && still_waits c
 
--- a row for which memory was refused
+abbrev pub brings_to : ℕ → Exchange → Bool
+brings_to id e = is_some_with (λ b. b.instance == id) (bound_of e)
+
+abbrev pub dropping_body : Exchange → Exchange
+dropping_body e = record e { body = Dropping }
+
+-- a row for which memory was refused: what comes for it is dropped
 unfoldable pub refused_row : Instance → State → State
 refused_row x s =
     let t : State = forget x.id s in
-    record t { clients = change (waits_for_row x.id) (λ c. record c { course = RowRefused }) t.clients }
+    record t {
+      clients = change (waits_for_row x.id) (λ c. record c { course = RowRefused }) t.clients;
+      exchanges = change (brings_to x.id) dropping_body t.exchanges;
+    }
 
 unfoldable pub leave_memory : Leaving → State → State
-leave_memory ForAnother s = record s { forgotten = drop 1 s.forgotten }
-leave_memory (ForMemory x) s = refused_row x s
+leave_memory ForAnother s = let t : State = come_to Evicting s in record t { forgotten = drop 1 t.forgotten }
+leave_memory (ForMemory x) s = refused_row x (come_to Evicting s)
 leave_memory (BeforeDecision x) s = record (forget x.id (come_to_decide s)) { has_made_room = true }
 
 unfoldable pub forgotten_by : Bytes → State → State

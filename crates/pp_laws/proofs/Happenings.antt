@@ -7,12 +7,12 @@ use Rattle.pp_world.specs.declared.note.Remark.TheVariants.{Taken, Cut, Kept, Go
 use Rattle.pp_world.specs.declared.note.Decision.{Decision}
 use Rattle.pp_world.specs.declared.note.Remark.{Remark}
 use Rattle.pp_world.specs.declared.op.DiskOp.{DiskOp}
-use Rattle.pp_law.specs.After.{new_client, new_conn, event, opened, owing, reached, paid, said, gone, take_decision, evicted, waits_for_row, refused_row, leave_memory, forgotten_by, noted, begun_op, ended_op, unread, shut, dialled, refused_dial, undialled, out, dropped, changed, after}
+use Rattle.pp_law.specs.After.{new_client, new_conn, event, opened, owing, reached, paid, said, gone, take_decision, evicted, waits_for_row, brings_to, dropping_body, refused_row, leave_memory, forgotten_by, noted, begun_op, ended_op, unread, shut, dialled, refused_dial, undialled, out, dropped, changed, after}
 use Rattle.pp_law.specs.Closing.{close_client}
 use Rattle.pp_law.specs.Connections.{client, conn, is_client, is_conn, may_ask_again, put_on, placing, Placement, Pause, AllPlaced, WaitsDial, WaitsDrop}
 use Rattle.pp_law.specs.Lawful.{LawfulFrom}
 use Rattle.pp_law.specs.Leaving.{Leaving, ForAnother, ForMemory, BeforeDecision, leaving_as}
-use Rattle.pp_law.specs.Lists.{Bytes}
+use Rattle.pp_law.specs.Lists.{Bytes, change}
 use Rattle.pp_law.specs.Opening.{is_opening}
 use Rattle.pp_law.specs.Permits.{is_permitted, IsPermitted, permits, permits_dial, is_new_number, may_open}
 use Rattle.pp_law.specs.Phases.{is_awaiting, due_victim, come_to}
@@ -29,6 +29,7 @@ use Rattle.pp_laws.proofs.Disk.{begin_in_opening-sound, begin_in_turn-sound, clo
 use Rattle.pp_laws.proofs.Exchanges.{end_exchange-sound, lose_attempt-sound, on_client-sound, on_conn-sound}
 use Rattle.pp_laws.proofs.KeptClients.{client_pushed, clients_changed, clients_filtered}
 use Rattle.pp_laws.proofs.KeptConns.{conn_pushed, conns_filtered, top_raised}
+use Rattle.pp_laws.proofs.KeptExchanges.{exchanges_unbound}
 use Rattle.pp_laws.proofs.Lists.{in_find, in_push}
 use Rattle.pp_laws.proofs.Pieces.{ended-sound, got-sound}
 use Rattle.pp_laws.proofs.Places.{IsReady, placing-dial, placing-sound, put_on-sound}
@@ -85,12 +86,14 @@ evicted-sound s h = each_of (due_victim s) h (λ place. drop_chunk-sound place.0
 
 refused_row-sound : {b : Since} (x : Instance) (s : State) → Sound b s → Sound b (refused_row x s)
 unfolding refused_row
-refused_row-sound {b} x s h = sound (clients_changed b (forget x.id s) (waits_for_row x.id) (λ c. record c { course = RowRefused }) (λ c. same_parts _ c refl refl refl) (facts_of (forget-sound x.id s h)))
+refused_row-sound {b} x s h =
+    sound (clients_changed b (record (forget x.id s) { exchanges = change (brings_to x.id) dropping_body (forget x.id s).exchanges }) (waits_for_row x.id) (λ c. record c { course = RowRefused }) (λ c. same_parts _ c refl refl refl)
+    (exchanges_unbound b (forget x.id s) (brings_to x.id) dropping_body (λ e. record { number = refl; key = refl; aim = refl; place = refl; none = refl }) (facts_of (forget-sound x.id s h))))
 
 leave_memory-sound : {b : Since} (how : Leaving) (s : State) → Sound b s → Sound b (leave_memory how s)
 unfolding leave_memory
-leave_memory-sound ForAnother s h = sound (facts_of h)
-leave_memory-sound (ForMemory x) s h = refused_row-sound x s h
+leave_memory-sound ForAnother s h = sound (facts_of (come_to-sound Evicting s h))
+leave_memory-sound (ForMemory x) s h = refused_row-sound x _ (come_to-sound Evicting s h)
 leave_memory-sound (BeforeDecision x) s h = sound (facts_of (forget-sound x.id _ (come_to_decide-sound s h)))
 
 forgotten_by-sound : {b : Since} (key : Bytes) (s : State) → Sound b s → Sound b (forgotten_by key s)

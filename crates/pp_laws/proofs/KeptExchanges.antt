@@ -69,6 +69,67 @@ exchanges_changed b s p f kept h = exchanges_kept b s (change p f s.exchanges) (
     from e (same i isnt) = exchange_from s.exchanges e e i (exchange_same e)
     from e (other d i is eq) = exchange_from s.exchanges e d i (subst (λ (x : Exchange). SameExchange x d) (sym eq) (kept d))
 
+-- one that is bound no more
+pub record Unbinds (e d : Exchange) : Type 0 where
+  pub number : e.number ≡ d.number
+  pub key : key_of e ≡ key_of d
+  pub aim : e.aim ≡ d.aim
+  pub place : e.place ≡ d.place
+  pub none : bound_of e ≡ None
+
+-- it was there, and is bound to that or to nothing
+record LooseFrom (exchanges : List Exchange) (e : Exchange) : Type 0 where
+  was : Exchange
+  there : IsIn was exchanges
+  number : e.number ≡ was.number
+  key : key_of e ≡ key_of was
+  aim : e.aim ≡ was.aim
+  place : e.place ≡ was.place
+  bound : (to : Bound) → bound_of e ≡ Some to → bound_of was ≡ Some to
+  none : bound_of was ≡ None → bound_of e ≡ None
+  unheaded : is_headed e ≡ false → bound_of e ≡ None
+
+loose_from : (exchanges : List Exchange) (e d : Exchange) → IsIn d exchanges → Unbinds e d → LooseFrom exchanges e
+loose_from exchanges e d i u = record {
+  was = d;
+  there = i;
+  number = u.number;
+  key = u.key;
+  aim = u.aim;
+  place = u.place;
+  bound = λ to is. let both : None ≡ Some to = sym u.none ∙ is in absurd (cc both);
+  none = λ is. u.none;
+  unheaded = λ is. u.none;
+}
+
+pub exchanges_unbound : (b : Since) (s : State) (p : Exchange → Bool) (f : Exchange → Exchange) → ((e : Exchange) → Unbinds (f e) e) → FactsOf b s → FactsOf b (record s { exchanges = change p f s.exchanges })
+exchanges_unbound b s p f unbinds h = record {
+  grew = h.grew;
+  lines = h.lines;
+  asks = record {
+    rise = rise_change exchange_number p f (λ e. (unbinds e).number) s.exchanges h.asks.rise;
+    given = λ e i. let g = from e i in subst (λ n. n < s.next_exchange) (sym g.number) (h.asks.given g.was g.there);
+    bounds = λ e to i is. let g = from e i in h.asks.bounds g.was to g.there (g.bound to is);
+    noted = λ e to i is. let g = from e i in ap is_noted g.aim ∙ h.asks.noted g.was to g.there (g.bound to is);
+    unplaced = λ e i is. let g = from e i in g.none (h.asks.unplaced g.was g.there (sym g.place ∙ is));
+    unheaded = λ e i is. let g = from e i in g.unheaded is;
+  };
+  rows = h.rows;
+  placed = λ k e i j l. let g = from e j in g.place ∙ h.placed k g.was i g.there (subst (λ n. IsIn n k.line) g.number l);
+  brings = λ k e to i j l is isnt. let g = from e j in
+      brings_same s.instances k e g.was to g.number (h.brings k g.was to i g.there (subst (λ n. IsIn n k.line) g.number l) (g.bound to is) (λ x. isnt (x ∙ ap (λ n. Some n) (sym g.number))));
+  keyed = λ e to x i is j id. let g = from e i in h.keyed g.was to x g.there (g.bound to is) j id ∙ sym g.key;
+  callers = h.callers;
+  held = h.held;
+}
+  where
+    by : (e : Exchange) → Changed p f s.exchanges e → LooseFrom s.exchanges e
+    by e (same i isnt) = record { was = e; there = i; number = refl; key = refl; aim = refl; place = refl; bound = λ to is. is; none = λ is. is; unheaded = λ is. h.asks.unheaded e i is }
+    by e (other d i is eq) = loose_from s.exchanges e d i (subst (λ (x : Exchange). Unbinds x d) (sym eq) (unbinds d))
+
+    from : (e : Exchange) → IsIn e (change p f s.exchanges) → LooseFrom s.exchanges e
+    from e i = by e (in_change p f e s.exchanges i)
+
 pub exchanges_filtered : (b : Since) (s : State) (p : Exchange → Bool) → FactsOf b s → FactsOf b (record s { exchanges = filter p s.exchanges })
 exchanges_filtered b s p h =
     exchanges_kept b s (filter p s.exchanges) (rise_filter exchange_number p s.exchanges h.asks.rise) (λ e i. exchange_from s.exchanges e e (in_filter p e s.exchanges i).0 (exchange_same e)) h

@@ -20,7 +20,7 @@ use Rattle.pp_world.specs.declared.note.Decision.{Decision}
 use Rattle.pp_world.specs.declared.note.Remark.TheVariants.{Taken, Cut, Kept, Gone, Forgotten, Evicted, Loaded}
 use Rattle.pp_world.specs.declared.note.Remark.{Remark}
 use Rattle.pp_world.specs.declared.op.DiskOp.{DiskOp}
-use Rattle.pp_law.specs.After.{waits_for_row, new_client, event, opened, owing, reached, paid, said, gone, take_decision, evicted, refused_row, leave_memory, forgotten_by, noted, begun_op, ended_op, unread, shut, dialled, refused_dial, undialled, out, dropped, changed, after}
+use Rattle.pp_law.specs.After.{waits_for_row, new_client, event, opened, owing, reached, paid, said, gone, take_decision, evicted, brings_to, dropping_body, refused_row, leave_memory, forgotten_by, noted, begun_op, ended_op, unread, shut, dialled, refused_dial, undialled, out, dropped, changed, after}
 use Rattle.pp_law.specs.Chunks.{note_use}
 use Rattle.pp_law.specs.Closing.{close_client, exchanges_of, is_of, leave_one, left_alone}
 use Rattle.pp_law.specs.Connections.{client, conn, each_exchange, end_exchange, exchange, front_of_line, is_client, is_exchange, lose_attempt, may_ask_again, on_client, on_conn, on_exchange, close_conn, placing, Placement}
@@ -50,7 +50,7 @@ use Rattle.pp_laws_pool.proofs.WalkCases.{by_aim_of, by_outcome, by_pause, each_
 use Rattle.pp_laws_pool.proofs.WalkClients.{ask-keeps, begin_replies-keeps, close_client-keeps, decided-keeps, end_replies-keeps, fill-keeps, give_up_asks-keeps, hang_up-keeps, hear-keeps, pour-keeps, regained-keeps, use_said-keeps}
 use Rattle.pp_laws_pool.proofs.WalkClosings.{close_conn-keeps}
 use Rattle.pp_laws_pool.proofs.WalkDisk.{begin_in_opening-keeps, begin_in_turn-keeps, close_name-keeps, end_op-keeps, lose_in_opening-keeps, note_gone-keeps, note_kept-keeps}
-use Rattle.pp_laws_pool.proofs.WalkExchanges.{clients_changed-keeps, end_exchange-keeps, lose_attempt-keeps, on_client-keeps, on_conn-keeps, on_exchange-keeps, same_ask}
+use Rattle.pp_laws_pool.proofs.WalkExchanges.{clients_changed-keeps, exchanges_changed-keeps, end_exchange-keeps, lose_attempt-keeps, on_client-keeps, on_conn-keeps, on_exchange-keeps, same_ask}
 use Rattle.pp_laws_pool.proofs.WalkHeads.{by_aim-keeps}
 use Rattle.pp_laws_pool.proofs.WalkPieces.{bad_head-keeps, bad_response-keeps, ended-keeps, finish-keeps}
 use Rattle.pp_laws_pool.proofs.WalkRows.{drop_chunk-keeps, forget-keeps}
@@ -261,12 +261,14 @@ evicted-asks s h = each_of (due_victim s) h (λ place. drop_chunk-keeps asks_wal
 
 refused_row-asks : (x : Instance) (s : State) → Holds Asks s → Holds Asks (refused_row x s)
 unfolding refused_row
-refused_row-asks x s h = holds (clients_changed-keeps asks_walk (waits_for_row x.id) (λ c. record c { course = RowRefused }) (view (forget x.id s)) (λ c. refl) (facts_of (forget-keeps asks_walk x.id s h)))
+refused_row-asks x s h =
+    holds (exchanges_changed-keeps asks_walk (brings_to x.id) dropping_body _ (λ e. same_ask _ e refl refl refl refl refl refl)
+    (clients_changed-keeps asks_walk (waits_for_row x.id) (λ c. record c { course = RowRefused }) (view (forget x.id s)) (λ c. refl) (facts_of (forget-keeps asks_walk x.id s h))))
 
 leave_memory-asks : (how : Leaving) (s : State) → Holds Asks s → Holds Asks (leave_memory how s)
 unfolding leave_memory
-leave_memory-asks ForAnother s h = holds (facts_of h)
-leave_memory-asks (ForMemory x) s h = refused_row-asks x s h
+leave_memory-asks ForAnother s h = holds (facts_of (come_to-asks Evicting s h))
+leave_memory-asks (ForMemory x) s h = refused_row-asks x _ (come_to-asks Evicting s h)
 leave_memory-asks (BeforeDecision x) s h = holds (facts_of (forget-keeps asks_walk x.id _ (come_to_decide-asks s h)))
 
 forgotten_by-asks : (key : Bytes) (s : State) → Holds Asks s → Holds Asks (forgotten_by key s)

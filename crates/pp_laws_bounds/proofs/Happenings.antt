@@ -8,12 +8,12 @@ use Rattle.pp_world.specs.declared.note.Remark.TheVariants.{Taken, Cut, Kept as 
 use Rattle.pp_world.specs.declared.note.Decision.{Decision}
 use Rattle.pp_world.specs.declared.note.Remark.{Remark}
 use Rattle.pp_world.specs.declared.op.DiskOp.{DiskOp}
-use Rattle.pp_law.specs.After.{new_client, new_conn, event, opened, owing, reached, paid, said, gone, take_decision, evicted, waits_for_row, refused_row, leave_memory, forgotten_by, noted, begun_op, ended_op, unread, shut, dialled, refused_dial, undialled, out, dropped, changed, after}
+use Rattle.pp_law.specs.After.{new_client, new_conn, event, opened, owing, reached, paid, said, gone, take_decision, evicted, waits_for_row, brings_to, dropping_body, refused_row, leave_memory, forgotten_by, noted, begun_op, ended_op, unread, shut, dialled, refused_dial, undialled, out, dropped, changed, after}
 use Rattle.pp_law.specs.Closing.{close_client}
 use Rattle.pp_law.specs.Connections.{client, conn, is_client, is_conn, may_ask_again, put_on, placing, Placement, Pause, AllPlaced, WaitsDial, WaitsDrop}
 use Rattle.pp_law.specs.Lawful.{LawfulFrom}
 use Rattle.pp_law.specs.Leaving.{Leaving, ForAnother, ForMemory, BeforeDecision, leaving_as}
-use Rattle.pp_law.specs.Lists.{Bytes}
+use Rattle.pp_law.specs.Lists.{Bytes, change}
 use Rattle.pp_law.specs.Opening.{is_at, is_opening, is_recovered, is_same_phase, may_fail, permits_configured, permits_listens}
 use Rattle.pp_law.specs.Permits.{is_permitted, IsPermitted, permits, permits_dial, is_new_number, may_open, is_dial_of, may_dial, may_drop, gives_way, is_drop_of}
 use Rattle.pp_law.specs.Phases.{is_awaiting, due_victim, come_to, has_closings}
@@ -32,7 +32,7 @@ use Rattle.pp_laws.proofs.Tests.{below, first_holds, same_bytes, same_number, se
 use Rattle.pp_laws.proofs.Tops.{come_to-top, placing-top}
 use Rattle.pp_laws_bounds.specs.Bounds.{goes_to}
 use Rattle.pp_laws_bounds.proofs.Cases.{by_pause, each_of, each_so, when}
-use Rattle.pp_laws_bounds.proofs.Changes.{client_pushed, clients_changed, clients_filtered, conns_filtered}
+use Rattle.pp_laws_bounds.proofs.Changes.{client_pushed, clients_changed, clients_filtered, conns_filtered, exchanges_changed, same_exchange}
 use Rattle.pp_laws_bounds.proofs.Clients.{ask-kept, close_client-kept, decided-kept, end_replies-kept, hang_up-kept, hear-kept, regained-kept, use_said-kept}
 use Rattle.pp_laws_bounds.proofs.Counts.{count-push, in_last, length-push}
 use Rattle.pp_laws_bounds.proofs.Disk.{begin_in_opening-kept, begin_in_turn-kept, close_name-kept, configured-kept, end_op-kept, load-kept, lose_in_opening-kept, note_gone-kept, note_kept-kept, opened_to-kept, woken-kept}
@@ -87,12 +87,14 @@ evicted-kept s h = each_of (due_victim s) h (λ place. drop_chunk-kept place.0 p
 
 refused_row-kept : (x : Instance) (s : State) → Kept [] s → Kept [] (refused_row x s)
 unfolding refused_row
-refused_row-kept x s h = kept (clients_changed [] (forget x.id s) (waits_for_row x.id) (λ c. record c { course = RowRefused }) (facts_of (forget-kept x.id s h)))
+refused_row-kept x s h =
+    kept (clients_changed [] (record (forget x.id s) { exchanges = change (brings_to x.id) dropping_body (forget x.id s).exchanges }) (waits_for_row x.id) (λ c. record c { course = RowRefused })
+    (exchanges_changed [] (forget x.id s) (brings_to x.id) dropping_body (λ e. same_exchange _ e refl refl refl refl) (facts_of (forget-kept x.id s h))))
 
 leave_memory-kept : (how : Leaving) (s : State) → Kept [] s → Kept [] (leave_memory how s)
 unfolding leave_memory
-leave_memory-kept ForAnother s h = kept (facts_of h)
-leave_memory-kept (ForMemory x) s h = refused_row-kept x s h
+leave_memory-kept ForAnother s h = kept (facts_of (come_to-kept Evicting s h))
+leave_memory-kept (ForMemory x) s h = refused_row-kept x _ (come_to-kept Evicting s h)
 leave_memory-kept (BeforeDecision x) s h = kept (facts_of (forget-kept x.id _ (come_to_decide-kept s h)))
 
 forgotten_by-kept : (key : Bytes) (s : State) → Kept [] s → Kept [] (forgotten_by key s)

@@ -1,5 +1,5 @@
 -- Each permitted happening keeps rows few, and exchanges whose bodies belong to one; and so does a lawful log.
-use Rattle.std.proofs.Common.{◌≡◌, refl, ℕ, ◌<◌, Bool, true, false, not, ◌&&◌, ◌||◌, [], ◌∷◌, length, sym, ap, ◌∙◌, arith}
+use Rattle.std.proofs.Common.{◌≡◌, refl, ℕ, ◌<◌, Bool, true, false, not, ◌&&◌, ◌||◌, [], ◌∷◌, length, is_some, sym, ap, ◌∙◌, arith}
 use Rattle.pp_world.specs.Log.{Log}
 use Rattle.pp_world.specs.declared.event.Wants.{Wants}
 use Rattle.pp_world.specs.declared.happening.Happening.TheVariants.{Woke, Waits, Clock, Opened, CanRead, CanWrite, Heard, HungUp, Said, Shut, Dialled, Undialled, Reached, Ended, Broke, Asked, Got, Dropped, NoneYet, Began, Did, Unread, Noted, Rooted, Listed, Listens, Configured, Printed, Stopped}
@@ -8,19 +8,20 @@ use Rattle.pp_world.specs.declared.note.Remark.TheVariants.{Taken, Cut, Kept as 
 use Rattle.pp_world.specs.declared.note.Decision.{Decision}
 use Rattle.pp_world.specs.declared.note.Remark.{Remark}
 use Rattle.pp_world.specs.declared.op.DiskOp.{DiskOp}
-use Rattle.pp_law.specs.After.{new_client, event, opened, owing, reached, paid, said, gone, take_decision, evicted, waits_for_row, refused_row, leave_memory, forgotten_by, noted, begun_op, ended_op, unread, shut, dialled, refused_dial, undialled, out, dropped, changed, after}
+use Rattle.pp_law.specs.After.{new_client, event, opened, owing, reached, paid, said, gone, take_decision, evicted, waits_for_row, brings_to, dropping_body, refused_row, leave_memory, forgotten_by, noted, begun_op, ended_op, unread, shut, dialled, refused_dial, undialled, out, dropped, changed, after}
 use Rattle.pp_law.specs.Asking.{is_read, is_reading, permits_got, read_room}
 use Rattle.pp_law.specs.Closing.{close_client}
 use Rattle.pp_law.specs.Connections.{client, conn, is_client, may_ask_again, placing, Placement}
 use Rattle.pp_law.specs.Lawful.{LawfulFrom}
 use Rattle.pp_law.specs.Leaving.{Leaving, ForAnother, ForMemory, BeforeDecision, leaving_as}
-use Rattle.pp_law.specs.Lists.{Bytes}
+use Rattle.pp_law.specs.Lists.{Bytes, change, is_this}
 use Rattle.pp_law.specs.Opening.{is_at, is_opening, is_same_phase}
 use Rattle.pp_law.specs.Permits.{is_permitted, IsPermitted, permits, may_wait}
 use Rattle.pp_law.specs.Phases.{is_awaiting, due_victim, come_to, ending, may_end}
 use Rattle.pp_law.specs.Replies.{said_by, end_replies}
 use Rattle.pp_law.specs.Responses.{got}
 use Rattle.pp_law.specs.Served.{is_served}
+use Rattle.pp_law.specs.Stages.{bound_of}
 use Rattle.pp_law.specs.State.{State, RowRefused, Phase, Exchange, Instance, IsRooted, IsListed, IsListening, Handling, Evicting, Keeping, Following, Connecting, Owed, Free, ReadOf, WriteTo}
 use Rattle.pp_law.specs.Table.{forget}
 use Rattle.pp_law.specs.Turn.{touch}
@@ -32,7 +33,7 @@ use Rattle.pp_laws_bounds.proofs.Happenings.{after-kept, from_now, opened_so}
 use Rattle.pp_laws_bounds.proofs.Kept.{Kept, is_early, facts_of as kept_facts}
 use Rattle.pp_laws_bounds.proofs.Small.{As, FactsOf, Small, facts_of, small}
 use Rattle.pp_laws_bounds.proofs.SmallCases.{by_pause, each_of, when}
-use Rattle.pp_laws_bounds.proofs.SmallChanges.{client_pushed, clients_changed, clients_filtered}
+use Rattle.pp_laws_bounds.proofs.SmallChanges.{NotBound, client_pushed, clients_changed, clients_filtered, exchanges_changed}
 use Rattle.pp_laws_bounds.proofs.SmallClients.{ask-small, close_client-small, decided-small, end_replies-small, hang_up-small, hear-small, regained-small, use_said-small}
 use Rattle.pp_laws_bounds.proofs.SmallDisk.{begin_in_opening-small, begin_in_turn-small, close_name-small, configured-small, end_op-small, load-small, lose_in_opening-small, note_gone-small, note_kept-small, opened_to-small, woken-small}
 use Rattle.pp_laws_bounds.proofs.SmallExchanges.{end_exchange-small, lose_attempt-small, on_client-small, on_conn-small}
@@ -109,14 +110,23 @@ evicted-small : {a : As} (s : State) → Small a s → Small a (evicted s)
 unfolding evicted
 evicted-small s h = each_of (due_victim s) h (λ place. drop_chunk-small place.0 place.1 s h)
 
+or_right : (a b : Bool) → b ≡ true → (a || b) ≡ true
+or_right true b is = refl
+or_right false b is = is
+
+dropped_not_bound : NotBound dropping_body
+dropped_not_bound expects e is = or_right (is_some (bound_of e)) (is_this e.number expects) is
+
 refused_row-small : {a : As} (x : Instance) (s : State) → Small a s → Small a (refused_row x s)
 unfolding refused_row
-refused_row-small {a} x s h = small (clients_changed a (forget x.id s) (waits_for_row x.id) (λ c. record c { course = RowRefused }) (facts_of (forget-small x.id s h)))
+refused_row-small {a} x s h =
+    small (clients_changed a (record (forget x.id s) { exchanges = change (brings_to x.id) dropping_body (forget x.id s).exchanges }) (waits_for_row x.id) (λ c. record c { course = RowRefused })
+    (exchanges_changed a (forget x.id s) (brings_to x.id) dropping_body dropped_not_bound (facts_of (forget-small x.id s h))))
 
 leave_memory-small : {a : As} (how : Leaving) (s : State) → Small a s → Small a (leave_memory how s)
 unfolding leave_memory
-leave_memory-small ForAnother s h = small (facts_of h)
-leave_memory-small (ForMemory x) s h = refused_row-small x s h
+leave_memory-small ForAnother s h = small (facts_of (come_to-small Evicting s h))
+leave_memory-small (ForMemory x) s h = refused_row-small x _ (come_to-small Evicting s h)
 leave_memory-small (BeforeDecision x) s h = small (facts_of (forget-small x.id _ (come_to_decide-small s h)))
 
 forgotten_by-small : {a : As} (key : Bytes) (s : State) → Small a s → Small a (forgotten_by key s)

@@ -78,8 +78,8 @@ dropped-kept n s h = each_of (conn s n) h (λ k. when k.is_closing (out-kept n s
 
 leave_memory-kept : {o : State} (how : Leaving) (s : State) → Kept o s → Kept o (leave_memory how s)
 unfolding leave_memory
-leave_memory-kept ForAnother s h = kept (parts_of h)
-leave_memory-kept (ForMemory x) s h = refused_row-kept x s h
+leave_memory-kept ForAnother s h = kept (parts_of (come_to-kept Evicting s h))
+leave_memory-kept (ForMemory x) s h = refused_row-kept x _ (come_to-kept Evicting s h)
 leave_memory-kept (BeforeDecision x) s h = kept (parts_of (forget-kept x.id _ (come_to_decide-kept s h)))
 
 forgotten_by-kept : {o : State} (key : Bytes) (s : State) → Kept o s → Kept o (forgotten_by key s)

@@ -6,7 +6,7 @@ use Rattle.pp_conf.specs.Conf.{Assignment, Settings, assigned, defaults, first_r
 use Rattle.pp_conf.specs.Numbers.{is_padded}
 use Rattle.pp_conf.specs.Words.{NoReading, TooLong, Serves, has_reading, is_too_long, or_out_of_range, reading_of, seed_of, text_assignments, told_by, with_words, word_assignments}
 use Rattle.pp_conf.specs.declared.setting.Setting.{Setting}
-use Rattle.pp_conf.specs.declared.setting.Setting.TheVariants.{ProxyPort, ProxyAddress, AllowedClients, ProxyName, DiskCacheRoot, ChunkLowMark, ChunkHighMark, ChunkCriticalMark, DiskRun, MaxTurns, ShareFetches, PipelineAsks, HostConnections}
+use Rattle.pp_conf.specs.declared.setting.Setting.TheVariants.{ProxyPort, ProxyAddress, AllowedClients, ProxyName, DiskCacheRoot, ChunkLowMark, ChunkHighMark, ChunkCriticalMark, DiskRun, MaxTurns, ShareFetches, PipelineAsks, HostConnections, AccessLog}
 use Rattle.pp_text.specs.Numbers.{number_of}
 use Rattle.pp_law.specs.Lists.{Bytes}
 use Rattle.pp_laws.proofs.Tests.{second_holds}
@@ -43,6 +43,7 @@ value_few c MaxTurns text few = few
 value_few c ShareFetches text few = few
 value_few c PipelineAsks text few = few
 value_few c HostConnections text few = few
+value_few c AccessLog text few = few
 
 assigned_few : (c : Settings) (as_ : List Assignment) → c.disk_run ≤ 64 → (assigned c as_).disk_run ≤ 64
 assigned_few c [] few = few

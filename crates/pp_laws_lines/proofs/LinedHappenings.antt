@@ -10,7 +10,7 @@ use Rattle.pp_world.specs.declared.note.Remark.TheVariants.{Taken, Cut, Kept, Go
 use Rattle.pp_world.specs.declared.note.Decision.{Decision}
 use Rattle.pp_world.specs.declared.note.Remark.{Remark}
 use Rattle.pp_world.specs.declared.op.DiskOp.{DiskOp}
-use Rattle.pp_law.specs.After.{new_conn, event, opened, owing, reached, paid, said, gone, take_decision, evicted, refused_row, leave_memory, forgotten_by, noted, begun_op, ended_op, unread, shut, dialled, refused_dial, undialled, out, dropped, changed}
+use Rattle.pp_law.specs.After.{new_conn, event, opened, owing, reached, paid, said, gone, take_decision, evicted, brings_to, dropping_body, refused_row, leave_memory, forgotten_by, noted, begun_op, ended_op, unread, shut, dialled, refused_dial, undialled, out, dropped, changed}
 use Rattle.pp_law.specs.Asking.{is_writing, hear, hang_up}
 use Rattle.pp_law.specs.Connections.{client, conn, is_conn, may_ask_again, placing, put_on, lose_attempt, Placement, Pause, AllPlaced, WaitsDial, WaitsDrop}
 use Rattle.pp_law.specs.Hearing.{heard_by}
@@ -32,7 +32,7 @@ use Rattle.pp_laws.proofs.Tops.{come_to-top, placing-top}
 use Rattle.pp_laws_passed.proofs.Same.{Same, alike, itself}
 use Rattle.pp_laws_passed.proofs.SameRows.{begin_in_opening-same, begin_in_turn-same, close_name-same, configured-same, drop_chunk-same, end_op-same, forget-same, load-same, lose_in_opening-same, note_gone-same, note_kept-same, opened_to-same}
 use Rattle.pp_laws_lines.proofs.Cases.{each_of, each_so, when}
-use Rattle.pp_laws_lines.proofs.Lined.{FactsOf, IsPlain, Lined, conn_added, conns_fewer, facts_of, lined, still}
+use Rattle.pp_laws_lines.proofs.Lined.{FactsOf, IsPlain, Lined, conn_added, conns_fewer, exchanges_changed, facts_of, lined, still}
 use Rattle.pp_laws_lines.proofs.LinedAsks.{Settles, close_client-lined, end_exchange-lined, lose_attempt-lined, on_client-lined, on_conn-lined, placing-lined, put_on-lined}
 use Rattle.pp_laws_lines.proofs.LinedHeads.{ended-lined}
 use Rattle.pp_laws_lines.proofs.LinedReplies.{begin_replies-lined, decided-lined, end_replies-lined}
@@ -61,12 +61,12 @@ evicted-lined s h = each_of (due_victim s) h (λ place. still (drop_chunk-same p
 
 refused_row-lined : {b : Since} (x : Instance) (s : State) → Lined b s → Lined b (refused_row x s)
 unfolding refused_row
-refused_row-lined x s h = lined (facts_of (still (forget-same x.id s (itself s)) h))
+refused_row-lined {b} x s h = lined (exchanges_changed b (forget x.id s) (brings_to x.id) dropping_body (λ e. record { number = refl; place = refl; text = refl; asked = refl; left = refl; key = refl; head = refl; aim = refl }) (facts_of (still (forget-same x.id s (itself s)) h)))
 
 leave_memory-lined : {b : Since} (how : Leaving) (s : State) → IsPlain b → Lined b s → Lined b (leave_memory how s)
 unfolding leave_memory
-leave_memory-lined ForAnother s p h = lined (facts_of h)
-leave_memory-lined (ForMemory x) s p h = refused_row-lined x s h
+leave_memory-lined ForAnother s p h = lined (facts_of (come_to-lined Evicting s p h))
+leave_memory-lined (ForMemory x) s p h = refused_row-lined x _ (come_to-lined Evicting s p h)
 leave_memory-lined (BeforeDecision x) s p h = lined (facts_of (still (forget-same x.id _ (itself _)) (come_to_decide-lined s p h)))
 
 forgotten_by-lined : {b : Since} (key : Bytes) (s : State) → IsPlain b → Lined b s → Lined b (forgotten_by key s)

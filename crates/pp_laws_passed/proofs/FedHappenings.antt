@@ -15,22 +15,22 @@ use Rattle.pp_world.specs.declared.note.Remark.TheVariants.{Taken, Cut, Kept, Go
 use Rattle.pp_world.specs.declared.note.Decision.{Decision}
 use Rattle.pp_world.specs.declared.note.Remark.{Remark}
 use Rattle.pp_world.specs.declared.op.DiskOp.{DiskOp}
-use Rattle.pp_law.specs.After.{new_client, new_conn, event, opened, owing, reached, paid, said, gone, take_decision, evicted, waits_for_row, refused_row, leave_memory, forgotten_by, noted, begun_op, ended_op, unread, shut, dialled, refused_dial, undialled, out, dropped, changed, after}
+use Rattle.pp_law.specs.After.{new_client, new_conn, event, opened, owing, reached, paid, said, gone, take_decision, evicted, waits_for_row, brings_to, dropping_body, refused_row, leave_memory, forgotten_by, noted, begun_op, ended_op, unread, shut, dialled, refused_dial, undialled, out, dropped, changed, after}
 use Rattle.pp_law.specs.Asking.{asking, is_writing, hear, ask_body, ask_next, ask, hang_up, asked_text, asked_body}
 use Rattle.pp_law.specs.Closing.{close_client}
 use Rattle.pp_law.specs.Connections.{client, conn, exchange, is_client, is_conn, is_exchange, is_for, is_outstanding, on_client, may_ask_again, place_for, place_each, placing, put_on, if_unplaced, Placement, Pause, AllPlaced, WaitsDial, WaitsDrop}
 use Rattle.pp_law.specs.Hearing.{heard_by}
 use Rattle.pp_law.specs.Lawful.{LawfulFrom}
 use Rattle.pp_law.specs.Leaving.{Leaving, ForAnother, ForMemory, BeforeDecision, leaving_as}
-use Rattle.pp_law.specs.Lists.{Bytes, change, is_this}
+use Rattle.pp_law.specs.Lists.{Bytes, change, is_some_with, is_this}
 use Rattle.pp_law.specs.Offers.{offer}
 use Rattle.pp_law.specs.Responses.{payload_of}
 use Rattle.pp_law.specs.Opening.{woken, begun as opening_begun, with_settings, settings_in, are_texts, names_file, is_opening}
 use Rattle.pp_law.specs.Permits.{IsPermitted, permits_taken}
 use Rattle.pp_law.specs.Phases.{due_victim, come_to_decide, deciding, ending, in_phase}
 use Rattle.pp_law.specs.Replies.{said_by, regained, use_said}
-use Rattle.pp_law.specs.Stages.{is_begun, is_headed, is_passing, passed_of}
-use Rattle.pp_law.specs.State.{State, Term, RowRefused, Client, Stage, Undecided, Waiting, Passing, Answering, Conn, Exchange, Instance, Passed, IsRooted, IsListed, IsListening, IsWoken, Handling, Evicting, Keeping, Deciding, Following, Connecting, DecidingAgain, Owed, ReadOf, WriteTo, start}
+use Rattle.pp_law.specs.Stages.{bound_in, is_begun, is_headed, is_passing, is_pending, passed_of}
+use Rattle.pp_law.specs.State.{State, Term, RowRefused, Body, Pending, Joining, Relaying, Dropping, Client, Stage, Undecided, Waiting, Passing, Answering, Conn, Exchange, Instance, Passed, IsRooted, IsListed, IsListening, IsWoken, Handling, Evicting, Keeping, Deciding, Following, Connecting, DecidingAgain, Owed, ReadOf, WriteTo, start}
 use Rattle.pp_law.specs.Table.{forget}
 use Rattle.pp_laws.specs.Numbers.{AreRising}
 use Rattle.pp_laws.specs.Runs.{IsIn, after_all, state_after}
@@ -46,13 +46,20 @@ use Rattle.pp_laws_replies.proofs.StorySaid.{no_client, said_front}
 use Rattle.pp_laws_passed.specs.Passed.{is_in_passed, IsFedBy, IsRelayed, PassedIsOneResponse, PassedIsAllThatCame, PiecesJoin}
 use Rattle.pp_laws_passed.proofs.Delivered.{payload_grown}
 use Rattle.pp_laws_passed.proofs.Cases.{by_pause, each_of, each_so, when}
-use Rattle.pp_laws_passed.proofs.Fed.{Fed, Feeds, FactsOf, FromClient, Relays, SameClient, SameExchange, Tale, clients_changed, conn_added, conns_from, facts_across, facts_from, facts_of, fed, is_in_other, itself_client, itself_conn, itself_exchange, parts_across, parts_same, still}
+use Rattle.pp_laws_passed.proofs.Fed.{Fed, Feeds, FactsOf, FromClient, Relays, SameClient, SameExchange, Tale, clients_changed, conn_added, conns_from, exchanges_changed, facts_across, facts_from, facts_of, fed, is_in_other, itself_client, itself_conn, itself_exchange, parts_across, parts_same, still}
 use Rattle.pp_laws_passed.proofs.FedAsks.{IsUnheaded, close_client-fed, end_exchange-fed, lose_attempt-fed, on_client-fed, on_client_of-fed, on_conn-fed, on_exchange-fed, placing-fed, put_on-fed, unplaced_unheaded}
 use Rattle.pp_laws_passed.proofs.FedHeads.{ended-fed, got-fed}
 use Rattle.pp_laws_passed.proofs.FedReplies.{IsFree, begin_replies-fed, decided-fed, end_replies-fed, heard_same, said_same}
 use Rattle.pp_laws_passed.proofs.FedTurns.{come_to-fed, come_to_decide-fed, deciding-fed, in_phase-fed, regained-fed, rest_with-fed, tick-fed, touch-fed, use_said-fed, use_said-same}
 use Rattle.pp_laws_passed.proofs.Same.{Same, alike, facts_of as parts_of, itself}
 use Rattle.pp_laws_passed.proofs.SameRows.{begin_in_opening-same, begin_in_turn-same, close_name-same, configured-same, drop_chunk-same, end_op-same, forget-same, load-same, lose_in_opening-same, note_gone-same, note_kept-same, opened_to-same}
+
+-- what brings something has its head
+bringing_headed : (id : ℕ) (body : Body) → is_some_with (λ b. b.instance == id) (bound_in body) ≡ true → not (is_pending body) ≡ true
+bringing_headed id Pending is = absurd (cc is)
+bringing_headed id (Joining b) is = refl
+bringing_headed id Relaying is = refl
+bringing_headed id Dropping is = refl
 
 module _ {tale : Tale} where
   event-fed : (s : State) → Fed tale s → Fed tale (event s)
@@ -78,12 +85,13 @@ module _ {tale : Tale} where
   refused_row-fed : (x : Instance) (s : State) → Fed tale s → Fed tale (refused_row x s)
   unfolding refused_row
   refused_row-fed x s h =
-      fed (clients_changed (forget x.id s) (waits_for_row x.id) (λ c. record c { course = RowRefused }) (λ c. parts_same _ c refl refl refl refl) (facts_of (still (forget-same x.id s (itself s)) h)))
+      fed (clients_changed (record (forget x.id s) { exchanges = change (brings_to x.id) dropping_body (forget x.id s).exchanges }) (waits_for_row x.id) (λ c. record c { course = RowRefused }) (λ c. parts_same _ c refl refl refl refl)
+      (exchanges_changed (forget x.id s) (brings_to x.id) dropping_body (λ e i is. record { number = refl; asker = λ n g. g; headed = sym (bringing_headed x.id e.body is); place = λ g none. none }) (λ e. refl) (facts_of (still (forget-same x.id s (itself s)) h))))
 
   leave_memory-fed : (how : Leaving) (s : State) → Fed tale s → Fed tale (leave_memory how s)
   unfolding leave_memory
-  leave_memory-fed ForAnother s h = fed (facts_of h)
-  leave_memory-fed (ForMemory x) s h = refused_row-fed x s h
+  leave_memory-fed ForAnother s h = fed (facts_of (come_to-fed Evicting s h))
+  leave_memory-fed (ForMemory x) s h = refused_row-fed x _ (come_to-fed Evicting s h)
   leave_memory-fed (BeforeDecision x) s h = fed (facts_of (still (forget-same x.id _ (itself _)) (come_to_decide-fed s h)))
 
   forgotten_by-fed : (key : Bytes) (s : State) → Fed tale s → Fed tale (forgotten_by key s)

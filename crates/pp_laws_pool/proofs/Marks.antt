@@ -7,7 +7,7 @@ use Rattle.pp_conf.specs.Numbers.{is_padded, number_in}
 use Rattle.pp_conf.specs.Settings.{accepts, number_for, least_of, most_of}
 use Rattle.pp_conf.specs.Words.{Told, Serves, ShowsDemo, Refusal, NoReading, TooLong, has_reading, seed_of, is_too_long, or_out_of_range, reading_of, served_by, told_by, text_assignments, with_words, word_assignments}
 use Rattle.pp_conf.specs.declared.setting.Setting.{Setting}
-use Rattle.pp_conf.specs.declared.setting.Setting.TheVariants.{ProxyPort, ProxyAddress, AllowedClients, ProxyName, DiskCacheRoot, ChunkLowMark, ChunkHighMark, ChunkCriticalMark, DiskRun, MaxTurns, ShareFetches, PipelineAsks, HostConnections}
+use Rattle.pp_conf.specs.declared.setting.Setting.TheVariants.{ProxyPort, ProxyAddress, AllowedClients, ProxyName, DiskCacheRoot, ChunkLowMark, ChunkHighMark, ChunkCriticalMark, DiskRun, MaxTurns, ShareFetches, PipelineAsks, HostConnections, AccessLog}
 use Rattle.pp_law.specs.Lists.{Bytes}
 use Rattle.pp_law.specs.Opening.{settings_in}
 
@@ -51,6 +51,7 @@ one_marked c MaxTurns text is h = h
 one_marked c ShareFetches text is h = h
 one_marked c PipelineAsks text is h = h
 one_marked c HostConnections text is h = h
+one_marked c AccessLog text is h = h
 
 accepted : (a : Assignment) (rest : Option Assignment) (t : Bool) → accepts a.0 a.1 ≡ t → option_map (λ (b : Assignment). b.0) (cond (not t) (Some a) rest) ≡ None → (t ≡ true) × (option_map (λ (b : Assignment). b.0) rest ≡ None)
 accepted a rest true is none = (refl, none)

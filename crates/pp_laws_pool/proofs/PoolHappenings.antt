@@ -370,8 +370,8 @@ forgotten_quiet key s w = leaving (leaving_as s key)
   where
     leaving : (o : Option Leaving) → Quiet (elim o as (λ c. State) [ None ↦ s | Some how ↦ leave_memory how s ])
     leaving None = w.inv
-    leaving (Some ForAnother) = stays _ (λ c p o m h. holds (facts_of h)) w.inv
-    leaving (Some (ForMemory x)) = stays _ (refused_row-pool x s) w.inv
+    leaving (Some ForAnother) = stays _ (λ c p o m h. holds (facts_of h)) (come_to-went Evicting s w).inv
+    leaving (Some (ForMemory x)) = stays _ (refused_row-pool x _) (come_to-went Evicting s w).inv
     leaving (Some (BeforeDecision x)) = stays _ (λ c p o m h. holds (facts_of (forget-keeps (pool_walk (Where c p o m)) x.id _ h))) (come_to_decide-went s w).inv
 
 -- ---- the disk

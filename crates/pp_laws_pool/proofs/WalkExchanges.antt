@@ -74,6 +74,9 @@ pub on_client_of-keeps : {P : View → Type 0} (w : Walk P) (e : Exchange) (f : 
 unfolding on_client_of
 on_client_of-keeps w e f s kept h = holds (w.clients (changed_at (is_for e) f) (λ c. number_changed f c (is_for e c) (kept c)) (view s) (facts_of h))
 
+pub exchanges_changed-keeps : {P : View → Type 0} (w : Walk P) (test : Exchange → Bool) (f : Exchange → Exchange) (v : View) → ((e : Exchange) → SameAsk (f e) e) → P v → P (record v { exchanges = map (changed_at test f) v.exchanges })
+exchanges_changed-keeps w test f v kept h = w.asks (changed_at test f) (λ e. ask_changed f e (test e) (kept e)) v h
+
 pub clients_changed-keeps : {P : View → Type 0} (w : Walk P) (test : Client → Bool) (f : Client → Client) (v : View) → ((c : Client) → (f c).number ≡ c.number) → P v → P (record v { clients = map (changed_at test f) v.clients })
 clients_changed-keeps w test f v kept h = w.clients (changed_at test f) (λ c. number_changed f c (test c) (kept c)) v h
 

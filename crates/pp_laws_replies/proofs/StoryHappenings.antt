@@ -88,8 +88,8 @@ refused_row-quiet {o} x s h =
 
 leave_memory-quiet : {o : State} (how : Leaving) (s : State) → Quietly o s → Quietly o (leave_memory how s)
 unfolding leave_memory
-leave_memory-quiet ForAnother s h = quietly (facts_of h)
-leave_memory-quiet (ForMemory x) s h = refused_row-quiet x s h
+leave_memory-quiet ForAnother s h = quietly (facts_of (come_to-quiet Evicting s h))
+leave_memory-quiet (ForMemory x) s h = refused_row-quiet x _ (come_to-quiet Evicting s h)
 leave_memory-quiet (BeforeDecision x) s h = quietly (facts_of (forget-quiet x.id _ (come_to_decide-quiet s h)))
 
 forgotten_by-quiet : {o : State} (key : Bytes) (s : State) → Quietly o s → Quietly o (forgotten_by key s)

@@ -10,7 +10,7 @@ use Rattle.pp_world.specs.declared.note.Decision.{Decision}
 use Rattle.pp_world.specs.declared.note.Remark.TheVariants.{Taken, Cut, Kept, Gone, Forgotten, Evicted, Loaded}
 use Rattle.pp_world.specs.declared.note.Remark.{Remark}
 use Rattle.pp_world.specs.declared.op.DiskOp.{DiskOp}
-use Rattle.pp_law.specs.After.{waits_for_row, event, opened, owing, reached, paid, said, gone, take_decision, evicted, refused_row, leave_memory, forgotten_by, noted, begun_op, ended_op, unread, shut, dialled, refused_dial, undialled, out, dropped, changed}
+use Rattle.pp_law.specs.After.{waits_for_row, event, opened, owing, reached, paid, said, gone, take_decision, evicted, brings_to, dropping_body, refused_row, leave_memory, forgotten_by, noted, begun_op, ended_op, unread, shut, dialled, refused_dial, undialled, out, dropped, changed}
 use Rattle.pp_law.specs.Chunks.{note_use}
 use Rattle.pp_law.specs.Connections.{client, conn, is_client, lose_attempt, may_ask_again, placing, Placement}
 use Rattle.pp_law.specs.Leaving.{Leaving, ForAnother, ForMemory, BeforeDecision, leaving_as}
@@ -28,13 +28,13 @@ use Rattle.pp_laws_pool.proofs.View.{View, Walk, Holds, holds, facts_of, view}
 use Rattle.pp_laws_pool.proofs.WalkCases.{by_pause, each_of, each_so, when}
 use Rattle.pp_laws_pool.proofs.WalkClients.{ask-keeps, begin_replies-keeps, close_client-keeps, decided-keeps, end_replies-keeps, fill-keeps, give_up_asks-keeps, hang_up-keeps, hear-keeps, regained-keeps, use_said-keeps}
 use Rattle.pp_laws_pool.proofs.WalkDisk.{begin_in_opening-keeps, begin_in_turn-keeps, close_name-keeps, end_op-keeps, lose_in_opening-keeps, note_gone-keeps, note_kept-keeps}
-use Rattle.pp_laws_pool.proofs.WalkExchanges.{clients_changed-keeps, end_exchange-keeps, lose_attempt-keeps, on_client-keeps, on_conn-keeps}
+use Rattle.pp_laws_pool.proofs.WalkExchanges.{clients_changed-keeps, exchanges_changed-keeps, end_exchange-keeps, lose_attempt-keeps, on_client-keeps, on_conn-keeps}
 use Rattle.pp_laws_pool.proofs.WalkPieces.{ended-keeps}
 use Rattle.pp_laws_pool.proofs.WalkRows.{drop_chunk-keeps, forget-keeps}
 use Rattle.pp_laws_pool.proofs.WalkSteps.{drop_unseen-keeps, placing-keeps, rested-keeps, tick-keeps, touch-keeps}
 use Rattle.pp_law.specs.After.{new_conn}
 use Rattle.pp_law.specs.Connections.{is_conn}
-use Rattle.pp_laws_pool.proofs.WalkExchanges.{same_conn}
+use Rattle.pp_laws_pool.proofs.WalkExchanges.{same_ask, same_conn}
 use Rattle.pp_laws_sent.proofs.Came.{Rests, came_walk, no_end, none_apart, rests_added, rests_begin, rests_fewer, rests_place}
 
 -- nothing of an origin is read
@@ -123,12 +123,14 @@ module _ (total : ℕ → Bytes) (asked : ℕ → Exchange → Type 0) (firsts :
 
   refused_row-rests : (x : Instance) (s : State) → Holds P s → Holds P (refused_row x s)
   unfolding refused_row
-  refused_row-rests x s h = holds (clients_changed-keeps steps (waits_for_row x.id) (λ c. record c { course = RowRefused }) (view (forget x.id s)) (λ c. refl) (facts_of (forget-keeps steps x.id s h)))
+  refused_row-rests x s h =
+      holds (exchanges_changed-keeps steps (brings_to x.id) dropping_body _ (λ e. same_ask _ e refl refl refl refl refl refl)
+      (clients_changed-keeps steps (waits_for_row x.id) (λ c. record c { course = RowRefused }) (view (forget x.id s)) (λ c. refl) (facts_of (forget-keeps steps x.id s h))))
 
   leave_memory-rests : (how : Leaving) (s : State) → Holds P s → Holds P (leave_memory how s)
   unfolding leave_memory
-  leave_memory-rests ForAnother s h = holds (facts_of h)
-  leave_memory-rests (ForMemory x) s h = refused_row-rests x s h
+  leave_memory-rests ForAnother s h = holds (facts_of (come_to-rests Evicting s h))
+  leave_memory-rests (ForMemory x) s h = refused_row-rests x _ (come_to-rests Evicting s h)
   leave_memory-rests (BeforeDecision x) s h = holds (facts_of (forget-keeps steps x.id _ (come_to_decide-rests s h)))
 
   forgotten_by-rests : (key : Bytes) (s : State) → Holds P s → Holds P (forgotten_by key s)

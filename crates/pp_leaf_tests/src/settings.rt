@@ -1,6 +1,6 @@
 // Words and a text, and the settings or the fault that come of them.
 use pp_conf::{Command, Conf, ConfFault, Setting, config_name};
-use pp_world::AddressRange;
+use pp_world::{AccessLog, AddressRange};
 use std::alloc::{AllocError, Global};
 use std::test::Fail;
 
@@ -16,7 +16,9 @@ allowedClients=10.0.0.1/8|=>Fault(BadValue(AllowedClients
 proxyAddress=0.0.0.0|=>Fault(BadValue(AllowedClients
 proxyAddress=0.0.0.0|allowedClients = 127.0.0.1, 192.168.0.0/16=>Port(8123)
 hostConnections=0|=>Fault(BadValue(HostConnections
+accessLog=-|accessLog = ""=>Port(8123)
 |~~nonsense=>Fault(BadLine(3))
+-g x|=>Fault(Usage)
 -g 7 -c f|=>Fault(Usage)";
 
 /// What came of words and a text.
@@ -103,6 +105,7 @@ fn each_setting_has_its_default_and_its_name(rt: HostRuntime) -> Result<(), Fail
         ),
         (true, false, 8)
     );
+    assert!(rt; matches!(conf.log_place(), AccessLog::Nowhere));
     for setting in Setting::ALL {
         assert_eq!(rt; Setting::named(setting.name().as_bytes()), Some(setting));
     }
@@ -110,6 +113,24 @@ fn each_setting_has_its_default_and_its_name(rt: HostRuntime) -> Result<(), Fail
     match config_name(rt.alloc(), words.as_slice()) {
         Ok(Some(name)) => assert_eq!(rt; name.as_str(), "f"),
         Ok(None) | Err(_) => return Err(Fail::from("no file")),
+    }
+    Ok(())
+}
+
+#[test]
+fn replies_are_logged_where_the_setting_says(rt: HostRuntime) -> Result<(), Fail> {
+    for (line, wanted) in [
+        ("accessLog=", "Nowhere"),
+        ("accessLog=-", "Console"),
+        ("accessLog=--", "File(\"--\")"),
+        ("accessLog=log/polipo", "File(\"log/polipo\")"),
+    ] {
+        let words = words_of(rt.alloc(), line)?;
+        let Ok(Command::Serve(conf)) = Conf::read(rt.alloc(), words.as_slice(), None) else {
+            return Err(Fail::from("no settings"));
+        };
+        let shown = format!(in rt.alloc(); "{:?}", conf.log_place())?;
+        assert_eq!(rt; shown.as_str(), wanted);
     }
     Ok(())
 }

@@ -6,12 +6,14 @@ ghost use Rattle.std.specs.Bool.{OnTrue};
 ghost use Rattle.pp_net.specs.Readiness.{wakes_writer};
 
 use crate::readiness::Readiness;
+use crate::visit::Visit;
 use mio::event::Event as Report;
 use mio::net::TcpStream;
 use pp_world::Got;
 use std::io;
 use std::io::{ErrorKind, Read, Write};
 use std::net::Shutdown;
+use std::time::Instant;
 
 /// How long a closed client may linger, in seconds.
 const LINGER_SECONDS: u64 = 5;
@@ -59,11 +61,13 @@ pub struct Connection {
     stream: TcpStream,
     phase: Phase,
     readiness: Readiness,
+    // Of a client.
+    visit: Option<Visit>,
 }
 
 impl Connection {
     /// A client may have sent something already. Of an origin nothing is known before the system tells it.
-    pub fn new(id: u64, stream: TcpStream, phase: Phase) -> Connection
+    pub fn new(id: u64, stream: TcpStream, phase: Phase, visit: Option<Visit>) -> Connection
         ensures id { result.id ≡ id }
         ensures phase { result.phase ≡ phase }
     {
@@ -80,6 +84,7 @@ impl Connection {
             stream,
             phase,
             readiness,
+            visit,
         }
     }
 
@@ -93,6 +98,19 @@ impl Connection {
         ensures { result ≡ self.now.phase }
     {
         self.phase
+    }
+
+    /// Bytes were read of it, or none.
+    pub fn note_read(&mut self, got: Got, now: Instant) {
+        match (got, &mut self.visit) {
+            (Got::Bytes(_), Some(visit)) => visit.hear(now),
+            (Got::Bytes(_), None) | (Got::NotYet, _) | (Got::End, _) => {}
+        }
+    }
+
+    /// What the operator's log tells of a client.
+    pub fn visit_mut(&mut self) -> Option<&mut Visit> {
+        self.visit.as_mut()
     }
 
     /// It has this number, and is not closed.

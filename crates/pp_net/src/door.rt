@@ -64,14 +64,14 @@ impl OpenDoor {
         mem::take(&mut self.is_crowded)
     }
 
-    /// The client that waits longest. Who may not come is closed before a byte is read. Where there is none, or a fault,
+    /// The client that waits longest, and its address. Who may not come is closed before a byte is read. Where there is none, or a fault,
     /// the next knock is waited for.
-    pub fn accept(&mut self) -> io::Result<Option<TcpStream>> {
+    pub fn accept(&mut self) -> io::Result<Option<(TcpStream, u32)>> {
         for _ in 0..MOST_TURNED_AWAY {
             match self.listener.accept() {
                 Ok((stream, from)) => {
                     if self.allows(from) {
-                        return Ok(Some(stream));
+                        return Ok(Some((stream, address_of(from))));
                     }
                 }
                 Err(e) => {
@@ -107,5 +107,13 @@ impl OpenDoor {
             allowed: self.allowed.as_slice(),
             access_log: AccessLog::Nowhere,
         }
+    }
+}
+
+/// An address of IPv4 as a number, the first octet the highest. No client has another.
+fn address_of(from: SocketAddr) -> u32 {
+    match from {
+        SocketAddr::V4(from) => from.ip().to_bits(),
+        SocketAddr::V6(_) => 0,
     }
 }

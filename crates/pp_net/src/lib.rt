@@ -11,10 +11,14 @@
 //! To the layer above: `NetWorld` is a `Wire` and a `Disk` that tells no log. Its count of faults rises at
 //! each fault, and no number is given twice. What the sockets and the files hold, no clause can say.
 //!
-//! Takes memory in `new`, for who may come, for the text of a configuration and for the names in the folder. What is wanted is
+//! The operator's log of replies is written behind all that is promised of the world: what of it cannot be written is counted,
+//! and said.
+//!
+//! Takes memory in `new`, for the lines of the log, for who may come, for the text of a configuration and for the names in the folder. What is wanted is
 //! for the turn, and what stands in a file for those who keep it.
 #![tactic(auto)]
 
+mod access; // the operator's log
 mod connection; // one connection: its phase, and its bytes
 mod connections; // all of them, by number
 mod console; // what is printed, and where
@@ -29,6 +33,7 @@ mod net_world; // the tables, the counts, and how the system is asked
 mod place; // where the folder stands, and how it is made
 mod readiness; // in which directions a call need not wait
 mod rotation; // whose turn it is
+mod visit; // what the log tells of a client
 mod wire; // the calls on connections
 
 pub use hosts::Hosts;

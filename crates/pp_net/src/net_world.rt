@@ -4,12 +4,14 @@ ghost use Rattle.std.specs.Result.{result_unwrap_or};
 ghost use Rattle.pp_world.specs.Log.{Rises};
 ghost use Rattle.pp_world.specs.Wire.{IsNewNumber};
 
+use crate::access::Access;
 use crate::connection::{Connection, Phase};
 use crate::connections::{Connections, next_number};
 use crate::door::OpenDoor;
 use crate::folder::Folder;
 use crate::hosts::Hosts;
 use crate::rotation::Rotation;
+use crate::visit::Visit;
 use mio::net::TcpStream;
 use mio::{Events, Interest, Poll, Token};
 use pp_world::{Door, Logged, WireFault};
@@ -45,6 +47,7 @@ pub struct NetWorld<R: Drop> {
     poll: Poll,
     reports: Events,
     pub(crate) door: Option<OpenDoor>,
+    pub(crate) access: Access,
     pub(crate) connections: Connections,
     pub(crate) rotation: Rotation,
     hosts: Hosts,
@@ -78,11 +81,13 @@ impl<R: Runtime + AllocGlobal + Net> NetWorld<R> {
         let Ok((reports, connections, hosts)) = make_tables(rt.alloc()) else {
             return Err(NetFault::OutOfMemory);
         };
+        let access = Access::nowhere(rt.alloc());
         Ok(NetWorld {
             rt,
             poll,
             reports,
             door: None,
+            access,
             connections,
             rotation: Rotation::START,
             hosts,
@@ -159,7 +164,7 @@ impl<R: Runtime + AllocGlobal + Net> NetWorld<R> {
         let now = self.second.unwrap_or(0);
         let address = self.hosts.address(&self.rt, host, now)?;
         let stream = TcpStream::connect(&self.rt, SocketAddr::new(address, port))?;
-        self.admit(id, stream, Phase::Dialled)
+        self.admit(id, stream, Phase::Dialled, None)
     }
 
     /// Takes the client that waits longest, if there is a place for it.
@@ -177,15 +182,22 @@ impl<R: Runtime + AllocGlobal + Net> NetWorld<R> {
         let Some(door) = self.door.as_mut() else {
             return Ok(None);
         };
-        let Some(stream) = door.accept()? else {
+        let Some((stream, address)) = door.accept()? else {
             return Ok(None);
         };
-        let id = self.admit(id, stream, Phase::Accepted)?;
+        let visit = Some(Visit::of(address));
+        let id = self.admit(id, stream, Phase::Accepted, visit)?;
         Ok(Some(id))
     }
 
     // Registers a connection under this number, once and for both directions.
-    fn admit(&mut self, id: u64, stream: TcpStream, phase: Phase) -> io::Result<u64>
+    fn admit(
+        &mut self,
+        id: u64,
+        stream: TcpStream,
+        phase: Phase,
+        visit: Option<Visit>,
+    ) -> io::Result<u64>
         ensures number { IfOk result (λ given. given ≡ id) }
         ensures faults { self.new.faults ≡ self.old.faults }
         ensures top { self.new.top ≡ result_unwrap_or result self.old.top }
@@ -196,7 +208,8 @@ impl<R: Runtime + AllocGlobal + Net> NetWorld<R> {
         self.poll
             .registry()
             .register(&mut stream, Token(id as usize), both)?;
-        self.connections.put(Connection::new(id, stream, phase));
+        self.connections
+            .put(Connection::new(id, stream, phase, visit));
         self.top = id;
         Ok(id)
     }

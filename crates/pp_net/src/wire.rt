@@ -8,12 +8,15 @@ use crate::folder::Folder;
 use crate::net_world::NetWorld;
 use crate::rotation::Turn;
 use crate::{console, files};
+use httpdate::HttpDate;
+use pp_access::Line;
 use pp_text::Octets;
 use pp_world::{ConfigFault, Door, Event, Got, Note, Replied, Wants, Wire, WireFault};
 use std::alloc::Global;
+use std::fs::File;
 use std::net::Net;
-use std::rt::Runtime;
-use std::time::Duration;
+use std::rt::{Files, Runtime};
+use std::time::{Duration, Instant};
 
 /// After so many events the system is asked again, though more are known.
 const MOST_FOUND: u32 = 256;
@@ -21,12 +24,24 @@ const MOST_FOUND: u32 = 256;
 /// Said once, where the folder of files is no longer at its path.
 const MOVED_LINE: &[u8] = b"polipo: the disk cache was moved, and nothing more is kept\n";
 
+/// The last second of the year 9999, the last that a line can tell.
+const LAST_SECOND: u64 = 253_402_300_799;
+
+fn millis_of(duration: Duration) -> u64 {
+    u64::try_from(duration.as_millis()).unwrap_or(u64::MAX)
+}
+
 /// What is left of the second that has begun.
 fn rest_of_second(now: Duration) -> Duration {
     Duration::from_millis(1000 - u64::from(now.subsec_millis()).min(1000))
 }
 
-impl<R: Runtime + AllocGlobal + Net> NetWorld<R> {
+impl<R: Runtime + AllocGlobal + Net + Files<File = File>> NetWorld<R> {
+    /// The program ends: what waits of the operator's log is written.
+    pub fn end(&mut self) {
+        self.access.end(&self.rt);
+    }
+
     // A second that was not told yet.
     fn find_tick(&mut self, now: u64) -> Option<Event>
         ensures tick { IfSome result (λ event. event ≡ Tick now) }
@@ -53,6 +68,34 @@ impl<R: Runtime + AllocGlobal + Net> NetWorld<R> {
             self.folder = Folder::Closed;
             self.print(MOVED_LINE);
         }
+    }
+
+    // Writes a line for the reply to this client.
+    fn put_reply(&mut self, reply: &Replied<'_>, now: Instant)
+        ensures faults { self.new.faults ≡ self.old.faults }
+        ensures top { self.new.top ≡ self.old.top }
+    {
+        let Some(connection) = self.connections.get_mut(reply.client) else {
+            return;
+        };
+        let Some(visit) = connection.visit_mut() else {
+            return;
+        };
+        let second = self.second.unwrap_or(0).min(LAST_SECOND);
+        let Ok(date) = HttpDate::from_unix_secs(second) else {
+            return;
+        };
+        let line = Line {
+            address: visit.address,
+            date,
+            request: reply.request,
+            status: reply.status,
+            body_len: reply.body_len,
+            source: reply.source,
+            is_cut: reply.is_cut,
+            millis: millis_of(visit.answer(now)),
+        };
+        self.access.put(&self.rt, &line);
     }
 
     // How long the system is waited for: to the end of the second, and not at all where somebody may wait unreported.
@@ -153,21 +196,24 @@ impl<R: Runtime + AllocGlobal + Net> NetWorld<R> {
     }
 }
 
-impl<R: Runtime + AllocGlobal + Net> Wire for NetWorld<R> {
+impl<R: Runtime + AllocGlobal + Net + Files<File = File>> Wire for NetWorld<R> {
     fn next(&mut self, wants: &Wants) -> Event {
         for _ in 0..u64::MAX {
             let now = self.clock();
             if let Some(tick) = self.find_tick(now.as_secs()) {
                 self.leave_moved_folder();
+                self.access.tick(&self.rt);
                 return tick;
             }
             if self.found >= MOST_FOUND {
+                self.access.flush(&self.rt);
                 self.ask(Duration::ZERO);
             }
             if let Some(event) = self.find(wants) {
                 self.found = self.found.saturating_add(1);
                 return event;
             }
+            self.access.flush(&self.rt);
             let patience = self.patience(now);
             self.ask(patience);
         }
@@ -179,7 +225,12 @@ impl<R: Runtime + AllocGlobal + Net> Wire for NetWorld<R> {
             return Err(self.fault());
         };
         match connection.read(buf) {
-            Ok(got) => Ok(got),
+            Ok(got) => {
+                if let Some(now) = self.access.now(&self.rt) {
+                    connection.note_read(got, now);
+                }
+                Ok(got)
+            }
             Err(_) => Err(self.fault()),
         }
     }
@@ -196,7 +247,10 @@ impl<R: Runtime + AllocGlobal + Net> Wire for NetWorld<R> {
 
     fn listen(&mut self, door: &Door<'_>) -> Result<(), WireFault> {
         match self.open_door(door) {
-            Ok(()) => Ok(()),
+            Ok(()) => {
+                self.access.open(&self.rt, door.access_log);
+                Ok(())
+            }
             Err(_) => Err(self.fault()),
         }
     }
@@ -222,7 +276,11 @@ impl<R: Runtime + AllocGlobal + Net> Wire for NetWorld<R> {
         }
     }
 
-    fn log_reply(&mut self, _reply: &Replied<'_>) {}
+    fn log_reply(&mut self, reply: &Replied<'_>) {
+        if let Some(now) = self.access.now(&self.rt) {
+            self.put_reply(reply, now);
+        }
+    }
 
     fn config(&mut self, alloc: Global, name: &str) -> Result<Octets, ConfigFault> {
         let front = files::read_front(&self.rt, alloc, name);

@@ -1,5 +1,5 @@
 -- A row that leaves memory: where it may behind a phase that is done, it may before that is left, and leads to what goes on as the same.
-use Rattle.std.proofs.Common.{◌≡◌, refl, ◌<◌, Bool, true, false, not, ◌&&◌, List, [], ◌∷◌, drop, bytes_eq, is_some, Option, Some, None, option_map, sym, subst, ap, ap₂, ◌∙◌, arith}
+use Rattle.std.proofs.Common.{◌≡◌, refl, ◌<◌, Bool, true, false, not, ◌&&◌, List, ◌∷◌, drop, bytes_eq, is_some, Option, Some, None, option_map, sym, subst, ap, ap₂, ◌∙◌, arith}
 use Rattle.pp_text.specs.Bytes.{is_empty}
 use Rattle.pp_world.specs.declared.happening.Happening.TheVariants.{Noted}
 use Rattle.pp_world.specs.declared.note.Remark.TheVariants.{Forgotten}
@@ -9,17 +9,15 @@ use Rattle.pp_law.specs.Leaving.{Leaving, ForAnother, ForMemory, BeforeDecision,
 use Rattle.pp_law.specs.Lists.{Bytes}
 use Rattle.pp_law.specs.Opening.{is_at, is_same_phase}
 use Rattle.pp_law.specs.Permits.{permits}
-use Rattle.pp_law.specs.Phases.{behind, come_to, come_to_decide, decides, in_phase, is_done, is_done_with, is_free, may_in, next, phases}
-use Rattle.pp_law.specs.State.{State, Instance, Phase, Before, IsWoken, IsConfigured, IsRooted, IsListed, IsListening, IsStuck, Awaiting, Handling, Evicting, Keeping, Deciding, Following, Connecting, DecidingAgain, Free}
+use Rattle.pp_law.specs.Phases.{behind, come_to, come_to_decide, decides, in_phase, is_done_with, may_in, next, phases}
+use Rattle.pp_law.specs.State.{State, Instance, Phase, Before, IsWoken, IsConfigured, IsRooted, IsListed, IsListening, IsStuck, Awaiting, Handling, Evicting, Keeping, Deciding, Following, Connecting, DecidingAgain}
 use Rattle.pp_law.specs.Table.{forget, idle_row, is_idle_row, is_followed, is_row_of, row}
 use Rattle.pp_laws.specs.Runs.{IsIn}
 use Rattle.pp_laws.proofs.Lists.{in_find, the_one}
 use Rattle.pp_laws.proofs.Sound.{Since, Sound, facts_of, instance_id}
 use Rattle.pp_laws.proofs.Tests.{first_holds, second_holds}
-use Rattle.pp_obeys.specs.Obeys.{GoesAs}
 use Rattle.pp_obeys.proofs.Come.{IsDone, come-stopped, come_to-next, come_to_decide-next, may_in-past, next-beyond, place_of}
 use Rattle.pp_obeys.proofs.Fewer.{fewer, rows_of, come_to_decide-fewer, next-fewer}
-use Rattle.pp_obeys.proofs.GoesOn.{goes_equal, goes_from}
 use Rattle.pp_obeys.proofs.Silent.{Follows, IsLeft, RowsFollow, both_hold, follows}
 
 -- ---- how it leaves, by what that depends on
@@ -54,18 +52,11 @@ handled_next : (s : State) → s.phase ≡ Handling → next s ≡ in_phase Evic
 unfolding next
 handled_next s is = ap (λ (p : Phase). behind p s) is
 
-is_handled : (s : State) → s.phase ≡ Handling → s.owed ≡ Free → is_done s ≡ true
-is_handled s is free = ap (λ (p : Phase). is_done_with p s) is ∙ ap is_free free
-
-leads_on : (s t : State) → s.phase ≡ Handling → s.owed ≡ Free → in_phase Evicting s ≡ t → GoesAs s t
-leads_on s t is free then = goes_from (is_handled s is free) (goes_equal (handled_next s is ∙ then))
-
-leads_by : (s : State) (how : Leaving) → IsDone s → s.phase ≡ Handling → s.owed ≡ Free → GoesAs (leave_memory how s) (leave_memory how (next s))
-unfolding leave_memory refused_row forget
-leads_by s ForAnother d is free =
-    leads_on (record s { forgotten = drop 1 s.forgotten }) _ is free (ap (λ (t : State). record t { forgotten = drop 1 t.forgotten }) (sym (handled_next s is)))
-leads_by s (ForMemory x) d is free = leads_on (refused_row x s) _ is free (ap (refused_row x) (sym (handled_next s is)))
-leads_by s (BeforeDecision x) d is free = goes_equal (ap (λ (t : State). record (forget x.id t) { has_made_room = true }) (come_to_decide-next s d))
+leads_by : (s : State) (how : Leaving) → IsDone s → is_at Evicting s ≡ false → leave_memory how s ≡ leave_memory how (next s)
+unfolding leave_memory
+leads_by s ForAnother d isnt = ap (λ (t : State). record t { forgotten = drop 1 t.forgotten }) (come_to-next Evicting s d isnt)
+leads_by s (ForMemory x) d isnt = ap (refused_row x) (come_to-next Evicting s d isnt)
+leads_by s (BeforeDecision x) d isnt = ap (λ (t : State). record (forget x.id t) { has_made_room = true }) (come_to_decide-next s d)
 
 may_same : (s : State) (test : State → Bool) → IsDone s → is_at Evicting s ≡ false → may_in Evicting test s ≡ may_in Evicting test (next s)
 may_same s test d isnt = ap (λ (t : State). elim (is_at Evicting t) as (λ c. Bool) [ true ↦ test t | false ↦ false ]) (come_to-next Evicting s d isnt)
@@ -81,12 +72,9 @@ unfolding permits
 handled s key l is may =
     let same = leaving_same s key l.done is in
     let w = way_of (leaving_as (next s) key) may in
-    record {
-      may = ap (λ (o : Option Leaving). is_some o) same ∙ may;
-      leads =
-          subst (λ (t : State). GoesAs t (after (next s) (Noted (Forgotten key)))) (sym (after_by s key w.way (same ∙ w.is)))
-          (subst (λ (t : State). GoesAs (leave_memory w.way s) t) (sym (after_by (next s) key w.way w.is)) (leads_by s w.way l.done is l.quiet.free));
-    }
+    follows
+    (ap (λ (o : Option Leaving). is_some o) same ∙ may)
+    (after_by s key w.way (same ∙ w.is) ∙ leads_by s w.way l.done (ap (is_same_phase Evicting) is) ∙ sym (after_by (next s) key w.way w.is))
 
 -- ---- behind that, one leaves for a decision alone
 

@@ -1,5 +1,5 @@
 -- What a permitted happening leaves: what is owed, the disk, the failures and how the life was started.
-use Rattle.std.proofs.Common.{◌≡◌, ◌⊎◌, refl, ℕ, ◌+◌, Bool, true, false, not, ◌&&◌, ◌||◌, ◌==◌, List, [], ◌∷◌, ◌++◌, length, find, Option, Some, None, is_some, inl, inr, sym, ap, ◌∙◌}
+use Rattle.std.proofs.Common.{◌≡◌, ◌⊎◌, refl, ℕ, ◌+◌, Bool, true, false, not, ◌&&◌, ◌||◌, ◌==◌, List, [], ◌∷◌, ◌++◌, length, drop, find, Option, Some, None, is_some, inl, inr, sym, ap, ◌∙◌}
 use Rattle.std.specs.List.{list_any}
 use Rattle.std.specs.Prelude.{bytes_eq}
 use Rattle.pp_conf.specs.Conf.{Settings}
@@ -261,10 +261,17 @@ evicted_step : (s : State) (key tag : Bytes) (n i : ℕ) → Settled s → Step 
 unfolding changed noted
 evicted_step s key tag n i h = moved_step (come_to-frame false Evicting s) (same (come_to Evicting s) _ (evicted-stays (come_to Evicting s) (stays refl))) (come_to-settled Evicting s h)
 
+left_step : (s u : State) → unphased (frame false u) ≡ unphased (frame false s) → Settled u → Step s (record u { forgotten = drop 1 u.forgotten }) false
+left_step s u on h =
+    then_step (life_moved on) (record {
+      settled = record { free = h.free; rests = λ isnt. let r = h.rests isnt in record { idle = r.idle; nothing = r.nothing } };
+      life = record { failures = refl; term = refl };
+    })
+
 leave_step : (s : State) (how : Leaving) → Settled s → Step s (leave_memory how s) false
 unfolding leave_memory
-leave_step s ForAnother h = record { settled = record { free = h.free; rests = λ isnt. let r = h.rests isnt in record { idle = r.idle; nothing = r.nothing } }; life = record { failures = refl; term = refl } }
-leave_step s (ForMemory x) h = same_step (same s _ (refused_row-stays x s (stays refl))) h
+leave_step s ForAnother h = left_step s (come_to Evicting s) (come_to-frame false Evicting s) (come_to-settled Evicting s h)
+leave_step s (ForMemory x) h = moved_step (come_to-frame false Evicting s) (same (come_to Evicting s) _ (refused_row-stays x (come_to Evicting s) (stays refl))) (come_to-settled Evicting s h)
 leave_step s (BeforeDecision x) h = made_room (come_to_decide s) (come_to_decide-frame false s) (come_to_decide-settled s h)
   where
     made_room : (u : State) → unphased (frame false u) ≡ unphased (frame false s) → Settled u → Step s (record (forget x.id u) { has_made_room = true }) false

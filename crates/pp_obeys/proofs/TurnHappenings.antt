@@ -59,8 +59,10 @@ goes_forgotten s key how none is = goes_by none (ap (λ (o : Option Leaving). is
 pub goes_forgotten_for_another : (s : State) (key : Bytes) → s.has_made_room ≡ false → s.phase ≡ Evicting → is_first key s.forgotten ≡ true → Goes s (Noted (Forgotten key)) (record s { forgotten = drop 1 s.forgotten })
 unfolding leave_memory
 goes_forgotten_for_another s key none at first =
-    goes_forgotten s key ForAnother none
-    (ap (λ (b : Bool). leaving_with b (may_in Evicting (λ t. is_empty t.forgotten) s) (row s key) (before_decision s key)) (may_here Evicting (λ t. is_first key t.forgotten) s (ap (is_same_phase Evicting) at) first))
+    let is = ap (is_same_phase Evicting) at in
+    let how = goes_forgotten s key ForAnother none
+    (ap (λ (b : Bool). leaving_with b (may_in Evicting (λ t. is_empty t.forgotten) s) (row s key) (before_decision s key)) (may_here Evicting (λ t. is_first key t.forgotten) s is first)) in
+    record { may = how.may; leads = how.leads ∙ ap (λ (t : State). record t { forgotten = drop 1 t.forgotten }) (here Evicting s is) }
 
 none_first : (key : Bytes) (keys : List Bytes) → is_empty keys ≡ true → is_first key keys ≡ false
 none_first key [] is = refl
@@ -71,10 +73,11 @@ pub goes_forgotten_for_memory : (s : State) (key : Bytes) (x : Instance) → s.h
     → Goes s (Noted (Forgotten key)) (refused_row x s)
 unfolding leave_memory
 goes_forgotten_for_memory s key x none at nobody there new =
-    goes_forgotten s key (ForMemory x) none
+    let how = goes_forgotten s key (ForMemory x) none
     (ap₂ (λ (a b : Bool). leaving_with a b (row s key) (before_decision s key)) not_first (may_here Evicting (λ t. is_empty t.forgotten) s is nobody)
     ∙ ap (λ (o : Option Instance). leaving_with false true o (before_decision s key)) there
-    ∙ ap (λ (b : Bool). elim (elim b as (λ c. Option Instance) [ true ↦ Some x | false ↦ None ]) as (λ c. Option Leaving) [ Some y ↦ Some (ForMemory y) | None ↦ option_map BeforeDecision (before_decision s key) ]) new)
+    ∙ ap (λ (b : Bool). elim (elim b as (λ c. Option Instance) [ true ↦ Some x | false ↦ None ]) as (λ c. Option Leaving) [ Some y ↦ Some (ForMemory y) | None ↦ option_map BeforeDecision (before_decision s key) ]) new) in
+    record { may = how.may; leads = how.leads ∙ ap (refused_row x) (here Evicting s is) }
   where
     is : is_at Evicting s ≡ true
     is = ap (is_same_phase Evicting) at

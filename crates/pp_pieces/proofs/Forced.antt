@@ -92,7 +92,7 @@ unfoldable pub forced_AddressRange : AddressRange → (AddressRange → Out) →
 forced_AddressRange x k = forced_nat x.address (λ address'. forced_nat x.bits (λ bits'. k (record { address = address'; bits = bits' })))
 
 unfoldable pub forced_Settings : Settings → (Settings → Out) → Out
-forced_Settings x k = forced_nat x.port (λ port'. forced_nat x.address (λ address'. (forced_list forced_AddressRange) x.allowed (λ allowed'. (forced_list forced_nat) x.name (λ name'. (forced_list forced_nat) x.root (λ root'. forced_nat x.low (λ low'. forced_nat x.high (λ high'. forced_nat x.critical (λ critical'. forced_nat x.disk_run (λ disk_run'. forced_nat x.max_turns (λ max_turns'. forced_Bool x.shares_fetches (λ shares_fetches'. forced_Bool x.pipelines_asks (λ pipelines_asks'. forced_nat x.host_connections (λ host_connections'. k (record { port = port'; address = address'; allowed = allowed'; name = name'; root = root'; low = low'; high = high'; critical = critical'; disk_run = disk_run'; max_turns = max_turns'; shares_fetches = shares_fetches'; pipelines_asks = pipelines_asks'; host_connections = host_connections' }))))))))))))))
+forced_Settings x k = forced_nat x.port (λ port'. forced_nat x.address (λ address'. (forced_list forced_AddressRange) x.allowed (λ allowed'. (forced_list forced_nat) x.name (λ name'. (forced_list forced_nat) x.root (λ root'. forced_nat x.low (λ low'. forced_nat x.high (λ high'. forced_nat x.critical (λ critical'. forced_nat x.disk_run (λ disk_run'. forced_nat x.max_turns (λ max_turns'. forced_Bool x.shares_fetches (λ shares_fetches'. forced_Bool x.pipelines_asks (λ pipelines_asks'. forced_nat x.host_connections (λ host_connections'. (forced_list forced_nat) x.access_log (λ access_log'. k (record { port = port'; address = address'; allowed = allowed'; name = name'; root = root'; low = low'; high = high'; critical = critical'; disk_run = disk_run'; max_turns = max_turns'; shares_fetches = shares_fetches'; pipelines_asks = pipelines_asks'; host_connections = host_connections'; access_log = access_log' })))))))))))))))
 
 unfoldable pub forced_Phase : Phase → (Phase → Out) → Out
 forced_Phase Before k = k Before

@@ -1,2 +1,3 @@
+pub mod AccessLemmas
 pub mod DiskLemmas
 pub mod HeadLimits

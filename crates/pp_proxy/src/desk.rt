@@ -38,11 +38,13 @@ pub(crate) struct Desk {
     pub(crate) file: Vec<u8>,
     /// A client that was accepted in this turn, and for whom there is no memory.
     pub(crate) turned_away: Option<u64>,
+    /// The operator keeps a log of replies.
+    pub(crate) logs_replies: bool,
 }
 
 impl Desk {
     /// Handles an event to its end.
-    #[tactic(auto, using(crate::proofs::DiskLemmas::holds_quietly, pp_shelf::proofs::SteadyLemmas::steady_then, pp_shelf::proofs::SteadyLemmas::quiet_is_steady))]
+    #[tactic(auto, using(crate::proofs::DiskLemmas::holds_quietly))]
     pub(crate) fn take_event<W: World>(
         &mut self,
         links: &mut Links,

@@ -11,9 +11,9 @@ use crate::desk::Desk;
 use crate::origin::Origin;
 use pp_client::Client;
 use pp_links::Links;
-use pp_seats::Seat;
+use pp_seats::{Account, Seat};
 use pp_shelf::Shelf;
-use pp_world::{Event, World};
+use pp_world::{Event, Source, World};
 
 /// Ours: an origin that did nothing for so many seconds while it was waited for is given up: one that owes an
 /// answer, and any other.
@@ -27,7 +27,7 @@ const LEAP_SECONDS: u64 = 120;
 
 impl Desk {
     /// Takes the event in.
-    #[tactic(auto, using(crate::proofs::DiskLemmas::holds_quietly, pp_shelf::proofs::SteadyLemmas::steady_then, pp_shelf::proofs::SteadyLemmas::steady_none, pp_shelf::proofs::SteadyLemmas::quiet_is_steady))]
+    #[tactic(auto, using(crate::proofs::DiskLemmas::holds_quietly, pp_shelf::proofs::SteadyLemmas::steady_none, pp_shelf::proofs::SteadyLemmas::quiet_is_steady))]
     pub(crate) fn handle<W: World>(
         &mut self,
         links: &mut Links,
@@ -74,7 +74,7 @@ impl Desk {
                     origin.is_reached = true;
                 }
             }
-            Event::Broken(k) => self.gone(k, false),
+            Event::Broken(k) => self.gone(links, world, k, false),
         }
     }
 
@@ -84,7 +84,11 @@ impl Desk {
             return;
         };
         let place = self.state.seats.len();
-        if self.state.seats.push(Seat::new(client)).is_err() {
+        let mut seat = Seat::new(client);
+        if self.logs_replies {
+            seat.account = Account::Due(Source::Hit);
+        }
+        if self.state.seats.push(seat).is_err() {
             self.turned_away = Some(c);
         } else {
             self.state.rouse(place);

@@ -23,55 +23,75 @@ abbrev front0 : Log
 front0 = Woke [] ∷ Rooted text0 ∷ Listed true ∷ Listens 8123 true ∷ wait true [] [] ∷ Clock 784111777 ∷ wait true [] [] ∷ Opened 1 ∷ wait true (1 ∷ []) [] ∷ CanRead 1 ∷ []
 
 abbrev text1 : Bytes
-text1 = (codes "GET http://h/a HTTP/1.1\r\nAccept-Encoding: gzip\r\n\r\n")
+text1 = (codes "GET http://h/a HTTP/1.1\r\nCookie: c=d\r\n\r\n")
 
 abbrev text2 : Bytes
-text2 = (codes "GET /a HTTP/1.1\r\nhost: h\r\naccept-encoding: gzip\r\nvia: 1.1 polipo\r\n\r\n")
+text2 = (codes "GET /a HTTP/1.1\r\nhost: h\r\ncookie: c=d\r\nvia: 1.1 polipo\r\n\r\n")
 
 abbrev text3 : Bytes
-text3 = (codes "HTTP/1.1 200 OK\r\nETag: \"x\"\r\nCache-Control: max-age=60\r\nContent-Encoding: gzip\r\nContent-Length: 5\r\n\r\nhello")
+text3 = (codes "HTTP/1.1 200 OK\r\nDate: Sun, 06 Nov 1994 08:49:37 GMT\r\nETag: \"x\"\r\nLast-Modified: Thu, 27 Oct 1994 08:49:37 GMT\r\nContent-Length: 5\r\n\r\nhello")
 
 abbrev text4 : Bytes
-text4 = (codes "CONNECT http://h/a HTTP/1.1\r\n\r\n")
+text4 = (codes "GET http://h/a HTTP/1.1\r\n\r\n")
 
 abbrev text5 : Bytes
-text5 = (codes "GET http://h/a HTTP/1.1\r\nHost: h\r\n\r\n")
+text5 = (codes "GET http://h/a HTTP/1.1\r\nAccept-Encoding: gzip\r\n\r\n")
 
 abbrev text6 : Bytes
-text6 = (codes "GET /a HTTP/1.1\r\nhost: h\r\nvia: 1.1 polipo\r\n\r\n")
-
-abbrev front1 : Log
-front1 = Woke [] ∷ Rooted text0 ∷ Listed true ∷ Listens 8123 true ∷ wait true [] [] ∷ Clock 784111777 ∷ wait true [] [] ∷ Opened 1 ∷ wait true (1 ∷ []) [] ∷ CanRead 1 ∷ Heard 1 text5 ∷ Noted (Taken 1 0 Fetch) ∷ Dialled 2 (codes "h") 80 ∷ wait true (1 ∷ []) [] ∷ Reached 2 ∷ wait true (1 ∷ 2 ∷ []) (2 ∷ []) ∷ CanWrite 2 ∷ Asked 2 text6 ∷ wait true (1 ∷ 2 ∷ []) [] ∷ []
+text6 = (codes "GET /a HTTP/1.1\r\nhost: h\r\naccept-encoding: gzip\r\nvia: 1.1 polipo\r\n\r\n")
 
 abbrev text7 : Bytes
-text7 = (codes "HTTP/1.1 099 Odd\r\nContent-Length: 2\r\n\r\nhi")
+text7 = (codes "HTTP/1.1 200 OK\r\nETag: \"x\"\r\nCache-Control: max-age=60\r\nContent-Encoding: gzip\r\nContent-Length: 5\r\n\r\nhello")
 
 abbrev text8 : Bytes
-text8 = (codes "HTTP/1.1 200 OK\r\nContent-Type: multipart/byteranges; boundary=b\r\nContent-Length: 7\r\n\r\n--b--\r\n")
+text8 = (codes "CONNECT http://h/a HTTP/1.1\r\n\r\n")
 
 abbrev text9 : Bytes
-text9 = (codes "HTTP/1.1 206 Partial Content\r\nContent-Type: multipart/byteranges; boundary=b\r\nContent-Length: 7\r\n\r\n--b--\r\n")
+text9 = (codes "GET http://h/a HTTP/1.1\r\nHost: h\r\n\r\n")
 
-row869 : fault_from 0 (start (record { words = []; faults = 0 } ∷ [])) (front0 ++ Heard 1 text1 ∷ Noted (Taken 1 0 Fetch) ∷ Dialled 2 (codes "h") 80 ∷ wait true [] [] ∷ Reached 2 ∷ wait true [] (2 ∷ []) ∷ CanWrite 2 ∷ Asked 2 text2 ∷ wait true (2 ∷ []) [] ∷ CanRead 2 ∷ Got 2 text3 ∷ Noted (Taken 1 0 Relay) ∷ wait true (2 ∷ []) (1 ∷ []) ∷ []) ≡ None
-unfolding judging
-row869 = refl
+abbrev text10 : Bytes
+text10 = (codes "GET /a HTTP/1.1\r\nhost: h\r\nvia: 1.1 polipo\r\n\r\n")
 
-row874 : fault_from 0 (start (record { words = []; faults = 0 } ∷ [])) (front0 ++ Heard 1 text1 ∷ Noted (Taken 1 0 Fetch) ∷ Dialled 2 (codes "h") 80 ∷ wait true [] [] ∷ Reached 2 ∷ wait true [] (2 ∷ []) ∷ CanWrite 2 ∷ Asked 2 text2 ∷ wait true (2 ∷ []) [] ∷ CanRead 2 ∷ Got 2 text3 ∷ Noted (Taken 1 0 (Hit 0 5)) ∷ []) ≡ Some (record { at = 21; rule = WrongDecision })
-unfolding judging
-row874 = refl
+abbrev front1 : Log
+front1 = Woke [] ∷ Rooted text0 ∷ Listed true ∷ Listens 8123 true ∷ wait true [] [] ∷ Clock 784111777 ∷ wait true [] [] ∷ Opened 1 ∷ wait true (1 ∷ []) [] ∷ CanRead 1 ∷ Heard 1 text9 ∷ Noted (Taken 1 0 Fetch) ∷ Dialled 2 (codes "h") 80 ∷ wait true (1 ∷ []) [] ∷ Reached 2 ∷ wait true (1 ∷ 2 ∷ []) (2 ∷ []) ∷ CanWrite 2 ∷ Asked 2 text10 ∷ wait true (1 ∷ 2 ∷ []) [] ∷ []
 
-row881 : fault_from 0 (start (record { words = []; faults = 0 } ∷ [])) (front0 ++ Heard 1 text4 ∷ Noted (Taken 1 0 (Refuse 400)) ∷ wait true [] (1 ∷ []) ∷ []) ≡ None
-unfolding judging
-row881 = refl
+abbrev text11 : Bytes
+text11 = (codes "HTTP/1.1 099 Odd\r\nContent-Length: 2\r\n\r\nhi")
 
-row888 : fault_from 0 (start (record { words = []; faults = 0 } ∷ [])) (front1 ++ CanRead 2 ∷ Got 2 text7 ∷ Noted (Taken 1 0 (Refuse 502)) ∷ Dropped 2 ∷ wait true (1 ∷ []) (1 ∷ []) ∷ []) ≡ None
-unfolding judging
-row888 = refl
+abbrev text12 : Bytes
+text12 = (codes "HTTP/1.1 200 OK\r\nContent-Type: multipart/byteranges; boundary=b\r\nContent-Length: 7\r\n\r\n--b--\r\n")
 
-row895 : fault_from 0 (start (record { words = []; faults = 0 } ∷ [])) (front1 ++ CanRead 2 ∷ Got 2 text8 ∷ Noted (Taken 1 0 Relay) ∷ wait true (1 ∷ 2 ∷ []) (1 ∷ []) ∷ []) ≡ None
-unfolding judging
-row895 = refl
+abbrev text13 : Bytes
+text13 = (codes "HTTP/1.1 206 Partial Content\r\nContent-Type: multipart/byteranges; boundary=b\r\nContent-Length: 7\r\n\r\n--b--\r\n")
 
-row901 : fault_from 0 (start (record { words = []; faults = 0 } ∷ [])) (front1 ++ CanRead 2 ∷ Got 2 text9 ∷ Noted (Taken 1 0 (Refuse 502)) ∷ Dropped 2 ∷ wait true (1 ∷ []) (1 ∷ []) ∷ []) ≡ None
+row879 : fault_from 0 (start (record { words = []; faults = 0 } ∷ [])) (front0 ++ Heard 1 text1 ∷ Noted (Taken 1 0 Fetch) ∷ Dialled 2 (codes "h") 80 ∷ wait true [] [] ∷ Reached 2 ∷ wait true [] (2 ∷ []) ∷ CanWrite 2 ∷ Asked 2 text2 ∷ wait true (2 ∷ []) [] ∷ CanRead 2 ∷ Got 2 text3 ∷ Noted (Taken 1 0 (Hit 0 5)) ∷ wait true (2 ∷ []) (1 ∷ []) ∷ Opened 3 ∷ wait true (2 ∷ 3 ∷ []) (1 ∷ []) ∷ CanRead 3 ∷ Heard 3 text4 ∷ Noted (Taken 3 0 Validate) ∷ []) ≡ None
 unfolding judging
-row901 = refl
+row879 = refl
+
+row884 : fault_from 0 (start (record { words = []; faults = 0 } ∷ [])) (front0 ++ Heard 1 text1 ∷ Noted (Taken 1 0 Fetch) ∷ Dialled 2 (codes "h") 80 ∷ wait true [] [] ∷ Reached 2 ∷ wait true [] (2 ∷ []) ∷ CanWrite 2 ∷ Asked 2 text2 ∷ wait true (2 ∷ []) [] ∷ CanRead 2 ∷ Got 2 text3 ∷ Noted (Taken 1 0 (Hit 0 5)) ∷ wait true (2 ∷ []) (1 ∷ []) ∷ Opened 3 ∷ wait true (2 ∷ 3 ∷ []) (1 ∷ []) ∷ CanRead 3 ∷ Heard 3 text4 ∷ Noted (Taken 3 0 (Hit 0 5)) ∷ []) ≡ Some (record { at = 27; rule = WrongDecision })
+unfolding judging
+row884 = refl
+
+row904 : fault_from 0 (start (record { words = []; faults = 0 } ∷ [])) (front0 ++ Heard 1 text5 ∷ Noted (Taken 1 0 Fetch) ∷ Dialled 2 (codes "h") 80 ∷ wait true [] [] ∷ Reached 2 ∷ wait true [] (2 ∷ []) ∷ CanWrite 2 ∷ Asked 2 text6 ∷ wait true (2 ∷ []) [] ∷ CanRead 2 ∷ Got 2 text7 ∷ Noted (Taken 1 0 Relay) ∷ wait true (2 ∷ []) (1 ∷ []) ∷ []) ≡ None
+unfolding judging
+row904 = refl
+
+row909 : fault_from 0 (start (record { words = []; faults = 0 } ∷ [])) (front0 ++ Heard 1 text5 ∷ Noted (Taken 1 0 Fetch) ∷ Dialled 2 (codes "h") 80 ∷ wait true [] [] ∷ Reached 2 ∷ wait true [] (2 ∷ []) ∷ CanWrite 2 ∷ Asked 2 text6 ∷ wait true (2 ∷ []) [] ∷ CanRead 2 ∷ Got 2 text7 ∷ Noted (Taken 1 0 (Hit 0 5)) ∷ []) ≡ Some (record { at = 21; rule = WrongDecision })
+unfolding judging
+row909 = refl
+
+row916 : fault_from 0 (start (record { words = []; faults = 0 } ∷ [])) (front0 ++ Heard 1 text8 ∷ Noted (Taken 1 0 (Refuse 400)) ∷ wait true [] (1 ∷ []) ∷ []) ≡ None
+unfolding judging
+row916 = refl
+
+row923 : fault_from 0 (start (record { words = []; faults = 0 } ∷ [])) (front1 ++ CanRead 2 ∷ Got 2 text11 ∷ Noted (Taken 1 0 (Refuse 502)) ∷ Dropped 2 ∷ wait true (1 ∷ []) (1 ∷ []) ∷ []) ≡ None
+unfolding judging
+row923 = refl
+
+row930 : fault_from 0 (start (record { words = []; faults = 0 } ∷ [])) (front1 ++ CanRead 2 ∷ Got 2 text12 ∷ Noted (Taken 1 0 Relay) ∷ wait true (1 ∷ 2 ∷ []) (1 ∷ []) ∷ []) ≡ None
+unfolding judging
+row930 = refl
+
+row936 : fault_from 0 (start (record { words = []; faults = 0 } ∷ [])) (front1 ++ CanRead 2 ∷ Got 2 text13 ∷ Noted (Taken 1 0 (Refuse 502)) ∷ Dropped 2 ∷ wait true (1 ∷ []) (1 ∷ []) ∷ []) ≡ None
+unfolding judging
+row936 = refl

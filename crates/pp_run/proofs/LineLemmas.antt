@@ -2,7 +2,7 @@
 use Rattle.std.proofs.Common.{◌≤◌, length, arith}
 use Rattle.pp_conf.specs.Settings.{name_of}
 use Rattle.pp_conf.specs.declared.setting.Setting.{Setting}
-use Rattle.pp_conf.specs.declared.setting.Setting.TheVariants.{ProxyPort, ProxyAddress, AllowedClients, ProxyName, DiskCacheRoot, ChunkLowMark, ChunkHighMark, ChunkCriticalMark, DiskRun, MaxTurns, ShareFetches, PipelineAsks, HostConnections}
+use Rattle.pp_conf.specs.declared.setting.Setting.TheVariants.{ProxyPort, ProxyAddress, AllowedClients, ProxyName, DiskCacheRoot, ChunkLowMark, ChunkHighMark, ChunkCriticalMark, DiskRun, MaxTurns, ShareFetches, PipelineAsks, HostConnections, AccessLog}
 
 pub name_fits : (s : Setting) → length (name_of s) ≤ 17
 name_fits ProxyPort = omega arith
@@ -18,3 +18,4 @@ name_fits MaxTurns = omega arith
 name_fits ShareFetches = omega arith
 name_fits PipelineAsks = omega arith
 name_fits HostConnections = omega arith
+name_fits AccessLog = omega arith

@@ -1,5 +1,6 @@
 // From settings to the end of serving.
-ghost use Rattle.std.specs.Prelude.{◌≡◌, []};
+ghost use Rattle.std.specs.Prelude.{◌≡◌, [], string_bytes};
+ghost use Rattle.pp_conf.specs.Logs.{log_place, shown_place};
 ghost use Rattle.pp_links.specs.Quiet.{GrowsBy};
 ghost use Rattle.pp_proxy.specs.Anything.{anything};
 ghost use Rattle.pp_recover.specs.Opening.{IsFresh};
@@ -15,7 +16,7 @@ use pp_conf::Conf;
 use pp_proxy::{Proxy, Turn};
 use pp_recover::RecoverFault;
 use pp_shelf::Shelf;
-use pp_world::{AccessLog, Door, World};
+use pp_world::{Door, World};
 use std::alloc::Global;
 
 /// Takes the proxy's memory, opens its folder, listens, and serves where it may.
@@ -56,12 +57,13 @@ fn door_of(conf: &Conf) -> Door<'_>
     ensures port { result.port ≡ conf.now.port }
     ensures address { result.address ≡ conf.now.address }
     ensures allowed { result.allowed.now ≡ conf.now.allowed.items }
+    ensures log { shown_place result.access_log ≡ log_place (string_bytes conf.now.access_log) }
 {
     Door {
         address: conf.address,
         port: conf.port,
         allowed: conf.allowed.as_slice(),
-        access_log: AccessLog::Nowhere,
+        access_log: conf.log_place(),
     }
 }
 

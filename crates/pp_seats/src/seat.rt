@@ -1,15 +1,20 @@
 // A client, and how far its current request is.
-ghost use Rattle.std.specs.Prelude.{◌≡◌, ◌≤◌};
+ghost use Rattle.std.specs.Prelude.{◌≡◌, ◌≤◌, ◌+◌, ◌-◌, ◌^◌, min};
 ghost use Rattle.pp_client.specs.Replies.{left_next};
-ghost use Rattle.pp_seats.specs.Courses.{has_begun, lost_one, without_row, without_shared_row};
+ghost use Rattle.pp_client.specs.Requests.{current_of};
+ghost use Rattle.pp_seats.specs.Accounts.{HasLine, begun, line_in, line_of, said};
+ghost use Rattle.pp_seats.specs.Courses.{has_begun, is_trying_in, lost_one, without_row, without_shared_row};
 ghost use Rattle.pp_seats.specs.Said.{used_by};
 ghost use Rattle.pp_seats.specs.Follows.{answer_in, next_of};
+ghost use Rattle.pp_seats.specs.Seats.{at_next_request, brought_to, has_key, is_at_body, is_silent, is_to_be_decided, is_told_in, new_seat, passed_in};
 
+use crate::account::{Account, line_of};
 use crate::front::Front;
 use pp_client::Client;
 use pp_framing::BodyRule;
 use pp_objects::ObjectId;
 use pp_world::Decision;
+use std::alloc::Global;
 
 /// Where the current request is. The exchange that it waits for is the one that names its client.
 ///
@@ -50,6 +55,8 @@ pub enum Brought {
 /// A response that is passed: its head is written already, and its body goes through the client's pipe.
 #[derive(Clone, Copy)]
 pub struct Passed {
+    /// Its status.
+    pub status: u16,
     /// Where its body ends.
     pub rule: BodyRule,
     /// Bytes of the head that was written.
@@ -144,11 +151,15 @@ pub struct Seat {
     pub closes: bool,
     /// Its cause to be closed has come, and it counts as closed.
     pub is_closing: bool,
+    /// What the operator's log is to say of its current reply.
+    pub account: Account,
 }
 
 impl Seat {
     /// A client that was accepted in this turn.
-    pub fn new(client: Client) -> Seat {
+    pub fn new(client: Client) -> Seat
+        ensures { result ≡ new_seat client }
+    {
         Seat {
             client,
             has_hung_up: false,
@@ -163,11 +174,14 @@ impl Seat {
             before_body: 0,
             closes: false,
             is_closing: false,
+            account: Account::Unkept,
         }
     }
 
     /// The number of the connection.
-    pub fn id(&self) -> u64 {
+    pub fn id(&self) -> u64
+        ensures { result ≡ self.now.client.id }
+    {
         self.client.id()
     }
 
@@ -182,7 +196,9 @@ impl Seat {
     }
 
     /// That is the key of its request.
-    pub fn has_key(&self, key: &[u8]) -> bool {
+    pub fn has_key(&self, key: &[u8]) -> bool
+        ensures { result ≡ has_key key.now self.now }
+    {
         match self.front.key() {
             None => false,
             Some(own) => own.text() == key,
@@ -190,7 +206,9 @@ impl Seat {
     }
 
     /// The head of its exchange's response came.
-    pub fn is_told(&self) -> bool {
+    pub fn is_told(&self) -> bool
+        ensures { result ≡ is_told_in self.now.brought }
+    {
         match self.brought {
             Brought::Awaited => false,
             Brought::Useless
@@ -202,7 +220,9 @@ impl Seat {
     }
 
     /// The response that its exchange passes to it.
-    pub fn passed(&self) -> Option<Passed> {
+    pub fn passed(&self) -> Option<Passed>
+        ensures { result ≡ passed_in self.now.brought }
+    {
         match self.brought {
             Brought::Passes(passed) => Some(passed),
             Brought::Awaited
@@ -214,7 +234,9 @@ impl Seat {
     }
 
     /// The body of that response came to this.
-    pub fn end_passed(&mut self, end: PassedEnd) {
+    pub fn end_passed(&mut self, end: PassedEnd)
+        ensures { self.new ≡ record self.old { brought = brought_to end self.old.brought } }
+    {
         if let Brought::Passes(passed) = &mut self.brought {
             passed.end = end;
         }
@@ -271,21 +293,43 @@ impl Seat {
         })
     }
 
+    /// Its reply begins with this status, and so many bytes of its head behind what is left of the interim answer. Where
+    /// the operator keeps a log, that is what it is to say; the line is empty where memory is refused for it.
+    pub fn begin_account(&mut self, alloc: Global, status: u16, head_len: usize)
+        ensures account { self.new ≡ record self.old { account = begun (line_in self.new.account) status (min (self.old.before_body + head_len) (2 ^ 64 - 1)) self.old.account } }
+        ensures line { HasLine self.old.account (line_in self.new.account) (line_of (current_of self.old.client.heard)) }
+    {
+        match self.account {
+            Account::Unkept | Account::Begun(_) => {}
+            Account::Due(_) => {
+                let line = line_of(alloc, &self.client);
+                let head_left = self.before_body.saturating_add(head_len);
+                self.account.begin(line, status, head_left);
+            }
+        }
+    }
+
     /// So many bytes were said.
     pub fn took(&mut self, n: usize)
         requires { n ≤ left_next self.old.client.reply }
+        ensures account { self.new.account ≡ said n self.old.account }
     {
         self.before_body = self.before_body.saturating_sub(n);
+        self.account.say(n);
         self.client.took(n);
     }
 
     /// Its reply is past its head.
-    pub fn is_at_body(&self) -> bool {
+    pub fn is_at_body(&self) -> bool
+        ensures { result ≡ is_at_body self.now }
+    {
         self.has_begun() && self.before_body == 0
     }
 
     /// Its request may be decided now.
-    pub fn is_to_be_decided(&self) -> bool {
+    pub fn is_to_be_decided(&self) -> bool
+        ensures { result ≡ is_to_be_decided self.now }
+    {
         if self.is_closing {
             return false;
         }
@@ -298,7 +342,9 @@ impl Seat {
     }
 
     /// More may be asked for its request.
-    pub fn is_trying(&self) -> bool {
+    pub fn is_trying(&self) -> bool
+        ensures { result ≡ is_trying_in self.now.course }
+    {
         match self.course {
             Course::Trying(_) => true,
             Course::OutOfTries | Course::AskTooLong => false,
@@ -342,7 +388,9 @@ impl Seat {
     }
 
     /// It sent no whole head, and may send more: until it does, or the clock ticks, a turn has nothing to do for it.
-    pub fn is_silent(&self) -> bool {
+    pub fn is_silent(&self) -> bool
+        ensures { result ≡ is_silent self.now }
+    {
         matches!(self.stage, Stage::Undecided)
             && !self.front.is_there()
             && !self.has_hung_up
@@ -362,7 +410,9 @@ impl Seat {
     }
 
     /// Its reply is over: the next request stands.
-    pub fn next_request(&mut self) {
+    pub fn next_request(&mut self)
+        ensures { self.new ≡ at_next_request self.old }
+    {
         self.front = Front::NoHeadYet;
         self.body_left = 0;
         self.index = self.index.saturating_add(1);
@@ -373,5 +423,6 @@ impl Seat {
         self.has_given_up = false;
         self.before_body = 0;
         self.closes = false;
+        self.account.renew();
     }
 }

@@ -1,3 +1,4 @@
+pub mod Accounts
 pub mod Heads
 pub mod Patience
 pub mod Unseen

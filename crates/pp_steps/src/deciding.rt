@@ -2,6 +2,7 @@
 ghost use Rattle.std.specs.Prelude.{IsTrue};
 ghost use Rattle.pp_reply.specs.Texts.{has_page};
 
+use crate::account::head_in;
 use crate::decide::kind_of;
 use crate::state::State;
 use crate::unseen::is_soon;
@@ -45,6 +46,7 @@ impl State {
         if decision != Decision::Refuse(500) {
             self.mark_row_of(i);
         }
+        self.account_for(i, decision);
         match decision {
             Decision::Refuse(status) => self.refuse(i, status),
             Decision::Pass | Decision::Fetch | Decision::Validate => self.ask_origin(i, decision),
@@ -99,10 +101,13 @@ impl State {
             return;
         }
         let keep = seat.front.keeps_after(status);
-        let kind = ReplyKind::Refusal(shown_status(status), seat.front.asks_head());
+        let shown = shown_status(status);
+        let kind = ReplyKind::Refusal(shown, seat.front.asks_head());
         let text = seat.client.head_room();
         write_reply(&kind, None, b"", keep, text);
-        seat.before_body = seat.before_body.saturating_add(text.len());
+        let (head_len, len) = (head_in(text.as_slice()), text.len());
+        seat.begin_account(self.alloc, shown, head_len);
+        seat.before_body = seat.before_body.saturating_add(len);
         seat.client.begin(Begin::Page);
         seat.stage = Stage::Answering(Answer {
             decision: Decision::Refuse(status),

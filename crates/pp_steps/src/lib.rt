@@ -14,6 +14,7 @@
 //! `pp_pipe`, what is kept of a response for `pp_objects`; the order of the steps, and the connections, are for `pp_proxy`.
 #![tactic(auto)]
 
+mod account; // what the operator's log is told
 mod answers; // what the head of a response does
 mod asking; // what is left to ask on a connection
 mod begin; // replies begin at the end of a turn

@@ -1,0 +1,46 @@
+// What the operator's log is told of decisions and of what exchanges brought (ours).
+use crate::state::State;
+use pp_flow::{Aim, Exchange};
+use pp_world::{Decision, Source};
+
+impl State {
+    /// This is decided for the request of the client at this place.
+    pub(crate) fn account_for(&mut self, i: usize, decision: Decision)
+        ensures { self.new.cache ≡ self.old.cache }
+    {
+        if let Some(seat) = self.seats.get_mut(i) {
+            seat.account.decide(decision);
+        }
+    }
+
+    /// The exchange of a request itself brought this. One of a follower brings the rest of what is there.
+    pub(crate) fn account_brought(&mut self, e: &Exchange, source: Source)
+        ensures { self.new.cache ≡ self.old.cache }
+    {
+        match e.aim {
+            Aim::Own => self.account_with(e, source),
+            Aim::Hole(_, _, _) | Aim::Pass => {}
+        }
+    }
+
+    fn account_with(&mut self, e: &Exchange, source: Source)
+        ensures { self.new.cache ≡ self.old.cache }
+    {
+        let Some(i) = self.seat_for(e) else {
+            return;
+        };
+        if let Some(seat) = self.seats.get_mut(i) {
+            seat.account.bring(source);
+        }
+    }
+}
+
+/// Bytes of the head at the front of this text, through the empty line that ends it.
+pub(crate) fn head_in(text: &[u8]) -> usize {
+    for at in 0..text.len() {
+        if text[at..].starts_with(b"\r\n\r\n") {
+            return at + 4;
+        }
+    }
+    text.len()
+}
