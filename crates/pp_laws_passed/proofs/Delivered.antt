@@ -10,8 +10,7 @@ use Rattle.pp_framing.specs.Rules.{body_of}
 use Rattle.pp_framing.specs.declared.body.BodyRule.{BodyRule}
 use Rattle.pp_framing.specs.declared.place.Place.TheVariants.{Over, Wrong}
 use Rattle.pp_framing.specs.declared.place.Place.{Place}
-use Rattle.pp_pass.specs.Pipe.{Pipe, spelled, with_data}
-use Rattle.pp_text.specs.Bytes.{is_empty}
+use Rattle.pp_pass.specs.Pipe.{spelled}
 use Rattle.pp_law.specs.Lists.{Bytes}
 use Rattle.pp_law.specs.Passing.{poured}
 use Rattle.pp_law.specs.State.{Client, Passed}

@@ -160,11 +160,16 @@ parts_across {tale} {later} d c number stage brought left said = record {
   number = number;
   passing = λ is. sym (ap is_in_passed stage) ∙ is;
   source = λ on id is. sym (ap source_in stage) ∙ is;
-  passed = λ p off is. (p, ap is_in_other (sym stage) ∙ off, sym (ap (λ b. passed_of (record c { brought = b })) brought) ∙ is, record {
-    head = refl;
-    rule = refl;
-    relays = relays_on (tale.said c.number) (later.said d.number) d c p p said (ap is_in_passed stage) (λ on. ap (λ (xs : Bytes). xs ++ head_left d.stage) left ∙ ap (λ st. c.interim_left ++ head_left st) stage) refl refl refl;
-  });
+  passed = λ p off is. (
+    p,
+    ap is_in_other (sym stage) ∙ off,
+    sym (ap (λ b. passed_of (record c { brought = b })) brought) ∙ is,
+    record {
+      head = refl;
+      rule = refl;
+      relays = relays_on (tale.said c.number) (later.said d.number) d c p p said (ap is_in_passed stage) (λ on. ap (λ (xs : Bytes). xs ++ head_left d.stage) left ∙ ap (λ st. c.interim_left ++ head_left st) stage) refl refl refl;
+    },
+  );
 }
 
 pub parts_same : {tale : Tale} (d c : Client) → d.number ≡ c.number → d.stage ≡ c.stage → d.brought ≡ c.brought → d.interim_left ≡ c.interim_left → SameClient tale tale d c

@@ -257,7 +257,6 @@ module _ {tale : Tale} where
 
   pub placing-fed : (s : State) → Fed tale s → Fed tale (placing s).state
   placing-fed s h = place_each-fed _ s h
-
   -- ---- what followers ask for
 
 forsaken : (e d : Exchange) (n : ℕ) (s : State) → e.asker ≡ Some n → IsIn d (forsake (λ x. is_some_with (λ m. is_of m x) e.asker) s).exchanges → ¬ (d.asker ≡ Some n)

@@ -43,7 +43,7 @@ use Rattle.pp_laws.proofs.Callers.{said_by-same}
 use Rattle.pp_laws_replies.proofs.StoryHappenings.{opened_above}
 use Rattle.pp_laws_replies.proofs.Usable.{TakenFor, due_off, permitted_taken, taken_for}
 use Rattle.pp_laws_replies.proofs.StorySaid.{no_client, said_front}
-use Rattle.pp_laws_passed.specs.Passed.{is_in_passed, IsFedBy, IsRelayed, PassedIsOneResponse, PassedIsAllThatCame, PiecesJoin}
+use Rattle.pp_laws_passed.specs.Passed.{is_in_passed, IsFedBy, PassedIsOneResponse, PassedIsAllThatCame, PiecesJoin}
 use Rattle.pp_laws_passed.proofs.Delivered.{payload_grown}
 use Rattle.pp_laws_passed.proofs.Cases.{by_pause, each_of, each_so, when}
 use Rattle.pp_laws_passed.proofs.Fed.{Fed, Feeds, FactsOf, FromClient, Relays, SameClient, SameExchange, Tale, clients_changed, conn_added, conns_from, exchanges_changed, facts_across, facts_from, facts_of, fed, is_in_other, itself_client, itself_conn, itself_exchange, parts_across, parts_same, still}

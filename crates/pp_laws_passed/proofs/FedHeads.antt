@@ -549,7 +549,6 @@ module _ {tale : Tale} where
   -- where nothing is noted apart
   pour-begins : {ground : Ground} (e : Exchange) (f : Pipe → Pipe) (s : State) → Lone e s.exchanges → tale.but ≡ None → Over tale ground s → Over (amid e.number tale) ground (pour e f s)
   pour-begins e f s lone calm (over h conns from) = pour-over tale e f s lone (over (weaker e.number s calm h) conns from)
-
   -- ---- an exchange that is over
 
 filtered_out : (n : ℕ) (x : Exchange) (xs : List Exchange) → IsIn x (filter (λ y. not (is_exchange n y)) xs) → x.number ≡ n → ⊥
@@ -614,7 +613,6 @@ module _ {tale : Tale} where
   bad_head-fed : (k : Conn) (s : State) → Fed tale s → Fed tale (bad_head k s)
   unfolding bad_head
   bad_head-fed k s h = when k.has_brought (each_of (front_of_line s k) (close_conn-fed false k s h) (λ e. close_conn-fed false k _ (lose_attempt-fed e s h))) (bad_response-fed k s h)
-
   -- ---- heads
 
 begun_cases : (c : Client) → is_begun c ≡ true → is_in_other c.stage ≡ false → is_in_passed c.stage ≡ true

@@ -1,10 +1,10 @@
 -- What is decided, said, begun and ended keeps it.
-use Rattle.std.proofs.Common.{◌≡◌, refl, ℕ, zero, suc, ◌+◌, ◌-◌, ◌<◌, ◌≤◌, nat_le, Bool, true, false, not, ◌==◌, ◌&&◌, ◌||◌, List, [], ◌∷◌, ◌++◌, map, drop, take, length, Option, Some, None, Result, Ok, Err, inl, inr, sym, subst, ap, ◌∙◌, append_assoc, arith, length-drop}
+use Rattle.std.proofs.Common.{◌≡◌, refl, ℕ, ◌+◌, ◌-◌, ◌<◌, ◌≤◌, nat_le, Bool, true, false, not, ◌==◌, ◌&&◌, ◌||◌, List, [], ◌∷◌, ◌++◌, map, drop, take, length, Option, Some, None, Result, Ok, Err, inl, inr, sym, subst, ap, ◌∙◌, append_assoc, arith, length-drop}
 use Rattle.std.specs.List.{list_any}
 use Rattle.std.proofs.lemmas.Bool.Decides.{nat_tests}
 use Rattle.pp_ask.specs.declared.kind.AskKind.{AskKind}
 use Rattle.pp_head.specs.Request.{Request}
-use Rattle.pp_pass.specs.Pipe.{Pipe, without_first}
+use Rattle.pp_pass.specs.Pipe.{without_first}
 use Rattle.pp_reply.specs.Keeping.{is_end_known}
 use Rattle.pp_reply.specs.Texts.{passed_head}
 use Rattle.pp_law.specs.Offers.{body_part, offer, passed_part, piece, reply_part}
@@ -24,7 +24,7 @@ use Rattle.pp_law.specs.Replies.{passed_reply, begun_passed, may_begin, begun_re
 use Rattle.pp_law.specs.Requests.{Front, Parsed, NoHeadYet, NoHead as NoFront, IsRequest, keeps_open, key_in}
 use Rattle.pp_law.specs.Responses.{payload_of}
 use Rattle.pp_law.specs.Stages.{is_begun, is_headed, is_passing, on_passed, passed_of, reply_of}
-use Rattle.pp_law.specs.State.{State, Brought, Client, Stage, Undecided, Waiting, Passing, Answering, Reply, Conn, Exchange, Instance, Passed, Passes}
+use Rattle.pp_law.specs.State.{State, Client, Stage, Undecided, Waiting, Passing, Answering, Reply, Conn, Exchange, Instance, Passed, Passes}
 use Rattle.pp_law.specs.Table.{next_of, row, row_for, source_of}
 use Rattle.pp_laws.specs.Runs.{IsIn}
 use Rattle.pp_laws.proofs.Callers.{begun_at_end-same, next_request-same}
@@ -34,8 +34,8 @@ use Rattle.pp_laws.proofs.Tests.{first_holds, number_same, same_number}
 use Rattle.pp_laws_replies.proofs.StorySaid.{and_left, of_first, of_second}
 use Rattle.pp_laws_passed.specs.Passed.{all_spelled, head_left, is_in_passed, to_say}
 use Rattle.pp_laws_passed.proofs.Cases.{each_of, when}
-use Rattle.pp_laws_passed.proofs.Fed.{FactsOf, Fed, Feeds, Relays, SameClient, Tale, client_same, clients_changed_in, facts_of, fed, is_in_other, none_passed, not_passed, parts_same, relays_by}
-use Rattle.pp_laws_passed.proofs.FedAsks.{begin_exchange-fed, close_client-fed, each_client-fed, forsake-fed, leave-fed, on_client-fed, on_passed-fed, swept-fed}
+use Rattle.pp_laws_passed.proofs.Fed.{FactsOf, Fed, Feeds, Relays, SameClient, Tale, clients_changed_in, facts_of, fed, is_in_other, none_passed, not_passed, parts_same, relays_by}
+use Rattle.pp_laws_passed.proofs.FedAsks.{begin_exchange-fed, close_client-fed, each_client-fed, forsake-fed, leave-fed, on_client-fed, swept-fed}
 use Rattle.pp_laws_passed.proofs.FedTurns.{close_finished-fed, enter_row-fed, enter_row-same}
 use Rattle.pp_laws_passed.proofs.Same.{facts_of as parts_of, itself}
 
@@ -70,11 +70,16 @@ module _ (tale later : Tale) (s : State) (bytes : Bytes) (c : Client) (told : la
     number = number;
     passing = λ on. let both : false ≡ true = sym off ∙ on in absurd (cc both);
     source = λ on. let both : false ≡ true = sym off ∙ on in absurd (cc both);
-    passed = λ p isnt is. (p, others isnt, sym (ap (λ b. passed_of (record c { brought = b })) brought) ∙ is, record {
-      head = refl;
-      rule = refl;
-      relays = relays_by (tale.said c.number) (later.said d.number) d c p p (off ∙ sym was_off) refl refl refl (λ isnt2. refl) (λ on. let both : false ≡ true = sym was_off ∙ on in absurd (cc both));
-    });
+    passed = λ p isnt is. (
+      p,
+      others isnt,
+      sym (ap (λ b. passed_of (record c { brought = b })) brought) ∙ is,
+      record {
+        head = refl;
+        rule = refl;
+        relays = relays_by (tale.said c.number) (later.said d.number) d c p p (off ∙ sym was_off) refl refl refl (λ isnt2. refl) (λ on. let both : false ≡ true = sym was_off ∙ on in absurd (cc both));
+      },
+    );
   }
 
   -- where a reply goes on that is not passed
@@ -95,12 +100,16 @@ module _ (tale later : Tale) (s : State) (bytes : Bytes) (c : Client) (told : la
     passing = λ is. sym on ∙ is;
     source = λ is id has. sym source ∙ has;
     passed = λ p isnt is.
-        let w = piped p is in
-        (w.0, sym others ∙ isnt, w.1, record {
-          head = w.2;
-          rule = w.3;
-          relays = relays_by (tale.said c.number) (later.said d.number) d c p w.0 on w.2 w.3 w.4 w.5 (λ so. said_on (tale.said c.number) (later.said d.number) bytes (to_say d ++ p.pipe.bytes) (to_say c ++ w.0.pipe.bytes) (ap later.said number ∙ told) w.6);
-        });
+        let w = piped p is in (
+          w.0,
+          sym others ∙ isnt,
+          w.1,
+          record {
+            head = w.2;
+            rule = w.3;
+            relays = relays_by (tale.said c.number) (later.said d.number) d c p w.0 on w.2 w.3 w.4 w.5 (λ so. said_on (tale.said c.number) (later.said d.number) bytes (to_say d ++ p.pipe.bytes) (to_say c ++ w.0.pipe.bytes) (ap later.said number ∙ told) w.6);
+          },
+        );
   }
 
   -- of the interim answer
@@ -335,11 +344,16 @@ module _ {tale : Tale} where
     number = refl;
     passing = λ on. absurd (no_begun on);
     source = λ on. absurd (no_begun on);
-    passed = λ p isnt is. (p, not_other c.stage free, is, record {
-      head = refl;
-      rule = refl;
-      relays = relays_by (tale.said c.number) (tale.said c.number) (answering_with r c) c p p (ap (λ b. b && is_passing r.decision) off ∙ sym (not_passed c free)) refl refl refl (λ isnt2. refl) (λ on. let both : false ≡ true = sym (not_passed c free) ∙ on in absurd (cc both));
-    });
+    passed = λ p isnt is. (
+      p,
+      not_other c.stage free,
+      is,
+      record {
+        head = refl;
+        rule = refl;
+        relays = relays_by (tale.said c.number) (tale.said c.number) (answering_with r c) c p p (ap (λ b. b && is_passing r.decision) off ∙ sym (not_passed c free)) refl refl refl (λ isnt2. refl) (λ on. let both : false ≡ true = sym (not_passed c free) ∙ on in absurd (cc both));
+      },
+    );
   }
     where
       no_begun : is_in_passed (Answering r) ≡ true → ⊥

@@ -1,8 +1,8 @@
 -- What more text leaves of a body and of a head, and how much of it they take.
-use Rattle.std.proofs.Common.{◌≡◌, refl, ℕ, ◌+◌, ◌<◌, List, [], ◌∷◌, ◌++◌, length, sym, ap, ◌∙◌, append_assoc, length-append, arith}
+use Rattle.std.proofs.Common.{◌≡◌, ℕ, ◌+◌, ◌<◌, List, [], ◌∷◌, ◌++◌, length, ap, ◌∙◌, length-append, arith}
 use Rattle.pp_framing.proofs.BodiesExact.{read_from-first_place}
 use Rattle.pp_framing.specs.Body.{Body, Done, Going}
-use Rattle.pp_framing.specs.Places.{first_place, datum, step, read_from}
+use Rattle.pp_framing.specs.Places.{first_place, step, read_from}
 use Rattle.pp_framing.specs.Rules.{body_of}
 use Rattle.pp_framing.specs.declared.body.BodyRule.{BodyRule}
 use Rattle.pp_framing.specs.declared.place.Place.TheVariants.{Over, Wrong}
