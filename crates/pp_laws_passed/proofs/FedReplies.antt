@@ -1,7 +1,8 @@
 -- What is decided, said, begun and ended keeps it.
-use Rattle.std.proofs.Common.{◌≡◌, refl, ℕ, ◌+◌, ◌-◌, ◌<◌, ◌≤◌, nat_le, Bool, true, false, not, ◌==◌, ◌&&◌, ◌||◌, List, [], ◌∷◌, ◌++◌, map, drop, take, length, Option, Some, None, Result, Ok, Err, inl, inr, sym, subst, ap, ◌∙◌, append_assoc, arith, length-drop}
+use Rattle.std.proofs.Common.{◌≡◌, refl, ℕ, suc, ◌+◌, ◌-◌, ◌<◌, ◌≤◌, nat_le, Bool, true, false, not, ◌==◌, ◌&&◌, ◌||◌, List, [], ◌∷◌, ◌++◌, map, drop, take, length, Option, Some, None, Result, Ok, Err, inl, inr, sym, subst, ap, ◌∙◌, append_assoc, arith, length-drop}
 use Rattle.std.specs.List.{list_any}
 use Rattle.std.proofs.lemmas.Bool.Decides.{nat_tests}
+use Rattle.std.proofs.lemmas.List.{take-append-drop}
 use Rattle.pp_ask.specs.declared.kind.AskKind.{AskKind}
 use Rattle.pp_head.specs.Request.{Request}
 use Rattle.pp_pass.specs.Pipe.{without_first}
@@ -31,7 +32,6 @@ use Rattle.pp_laws.proofs.Callers.{begun_at_end-same, next_request-same}
 use Rattle.pp_laws.proofs.Lists.{Changed, From, in_change, in_map, other, rise_change, rise_map, same}
 use Rattle.pp_laws.proofs.Sound.{client_number, exchange_number, source_in}
 use Rattle.pp_laws.proofs.Tests.{first_holds, number_same, same_number}
-use Rattle.pp_laws_replies.proofs.StorySaid.{and_left, of_first, of_second}
 use Rattle.pp_laws_passed.specs.Passed.{all_spelled, head_left, is_in_passed, to_say}
 use Rattle.pp_laws_passed.proofs.Cases.{each_of, when}
 use Rattle.pp_laws_passed.proofs.Fed.{FactsOf, Fed, Feeds, Relays, SameClient, Tale, clients_changed_in, facts_of, fed, is_in_other, none_passed, not_passed, parts_same, relays_by}
@@ -44,6 +44,34 @@ abbrev pub IsFree : Client → State → Type 0
 IsFree c s = (d : Client) → IsIn d s.clients → d.number ≡ c.number → is_begun d ≡ false
 
 -- ---- what is said
+
+-- what is said of some bytes, and what is left of them
+and_left : (bytes left : Bytes) → bytes ≡ take (length bytes) left → bytes ++ drop (length bytes) left ≡ left
+and_left bytes left is = ap (λ l. l ++ drop (length bytes) left) is ∙ take-append-drop (length bytes) left
+
+-- of what there is of two texts, no more than the first
+of_first : (first second bytes : Bytes) → bytes ≡ take (length bytes) (first ++ second) → length bytes ≤ length first → bytes ≡ take (length bytes) first
+of_first first second [] is le = refl
+of_first [] second (b ∷ bytes) is le = let long : suc (length bytes) ≤ 0 = le in absurd (omega arith)
+of_first (h ∷ first) second (b ∷ bytes) is le =
+    let parts : b ∷ bytes ≡ h ∷ take (length bytes) (first ++ second) = is in
+    let same : b ≡ h = cc in
+    let rest : bytes ≡ take (length bytes) (first ++ second) = cc in
+    let less : suc (length bytes) ≤ suc (length first) = le in
+    ap (λ x. x ∷ bytes) same ∙ ap (λ l. h ∷ l) (of_first first second bytes rest (omega arith))
+
+-- all of the first, and of the second
+of_second : (first second bytes : Bytes) → bytes ≡ take (length bytes) (first ++ second) → length first ≤ length bytes
+    → (bytes ≡ first ++ drop (length first) bytes) × (drop (length first) bytes ≡ take (length (drop (length first) bytes)) second)
+of_second [] second bytes is le = (refl, is)
+of_second (h ∷ first) second [] is le = let long : suc (length first) ≤ 0 = le in absurd (omega arith)
+of_second (h ∷ first) second (b ∷ bytes) is le =
+    let parts : b ∷ bytes ≡ h ∷ take (length bytes) (first ++ second) = is in
+    let same : b ≡ h = cc in
+    let rest : bytes ≡ take (length bytes) (first ++ second) = cc in
+    let less : suc (length first) ≤ suc (length bytes) = le in
+    let both = of_second first second bytes rest (omega arith) in
+    (ap (λ x. x ∷ bytes) same ∙ ap (λ l. h ∷ l) both.0, both.1)
 
 -- what was said, and what is left, stays the same text
 said_on : (was now bytes left all : Bytes) → now ≡ was ++ bytes → bytes ++ left ≡ all → now ++ left ≡ was ++ all

@@ -41,7 +41,7 @@ pub data Steps (c d : Client) (bytes : Bytes) : Type 0 where
   of_both : (e : Client) (head body : Bytes) → e.closes ≡ c.closes → Step c e head → Step e d body → bytes ≡ head ++ body → Steps c d bytes
 
 -- what is said of some bytes, and what is left of them
-pub and_left : (bytes left : Bytes) → bytes ≡ take (length bytes) left → bytes ++ drop (length bytes) left ≡ left
+and_left : (bytes left : Bytes) → bytes ≡ take (length bytes) left → bytes ++ drop (length bytes) left ≡ left
 and_left bytes left is = ap (λ l. l ++ drop (length bytes) left) is ∙ take-append-drop (length bytes) left
 
 -- what is offered of a body is no longer than what is left of it
@@ -95,7 +95,7 @@ body_step s c r bytes false passing is = of_body (record r { has_begun = true; h
     short = le_trans (front bytes offered is) bounded
 
 -- of what there is of two texts, no more than the first
-pub of_first : (first second bytes : Bytes) → bytes ≡ take (length bytes) (first ++ second) → length bytes ≤ length first → bytes ≡ take (length bytes) first
+of_first : (first second bytes : Bytes) → bytes ≡ take (length bytes) (first ++ second) → length bytes ≤ length first → bytes ≡ take (length bytes) first
 of_first first second [] is le = refl
 of_first [] second (b ∷ bytes) is le = let long : suc (length bytes) ≤ 0 = le in absurd (omega arith)
 of_first (h ∷ first) second (b ∷ bytes) is le =
@@ -106,7 +106,7 @@ of_first (h ∷ first) second (b ∷ bytes) is le =
     ap (λ x. x ∷ bytes) same ∙ ap (λ l. h ∷ l) (of_first first second bytes rest (omega arith))
 
 -- all of the first, and of the second
-pub of_second : (first second bytes : Bytes) → bytes ≡ take (length bytes) (first ++ second) → length first ≤ length bytes
+of_second : (first second bytes : Bytes) → bytes ≡ take (length bytes) (first ++ second) → length first ≤ length bytes
     → (bytes ≡ first ++ drop (length first) bytes) × (drop (length first) bytes ≡ take (length (drop (length first) bytes)) second)
 of_second [] second bytes is le = (refl, is)
 of_second (h ∷ first) second [] is le = let long : suc (length first) ≤ 0 = le in absurd (omega arith)
