@@ -1,0 +1,4 @@
+mod Crash
+mod Held
+mod Lines
+mod Waits
