@@ -1,4 +1,4 @@
--- A reply that is passed comes from one response: that to the exchange of its request (RFC 2616, sections 6, 8.1.2.2 and 13.5).
+-- A reply that is passed comes from one response, that to the exchange of its request, and is all that came of it (RFC 2616, sections 6, 8.1.2.2 and 13.5).
 use Rattle.std.specs.Prelude.{◌≡◌, ℕ, Bool, true, false, ◌&&◌, List, [], ◌∷◌, ◌++◌, length, drop, Some}
 use Rattle.std.specs.List.{concat}
 use Rattle.pp_framing.specs.Rules.{body_of}
