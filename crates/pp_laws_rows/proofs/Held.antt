@@ -48,7 +48,7 @@ one_chunk = refl
 
 -- each byte of it was sent
 hello_was_sent : AllSent (part ∷ []) part.key part.version 0 (codes "hello")
-hello_was_sent = (inl (refl, refl, zero-le, refl), inl (refl, refl, zero-le, refl), inl (refl, refl, zero-le, refl), inl (refl, refl, zero-le, refl), inl (refl, refl, zero-le, refl), tt)
+hello_was_sent = (inl (refl, refl, zero-le, refl), (inl (refl, refl, zero-le, refl), (inl (refl, refl, zero-le, refl), (inl (refl, refl, zero-le, refl), (inl (refl, refl, zero-le, refl), tt)))))
 
 -- ---- and nothing else
 
