@@ -1,10 +1,11 @@
 """Origins that answer wrongly, in part, or not at all."""
 
 import threading
+import time
 
-from harness import case, equal, holds
-from origin import Answer, lines, noise, plain
-from world import LAST_BAD_GATEWAY, Client, passed
+from harness import case, equal, holds, together
+from origin import Answer, lines, noise, plain, response
+from world import LAST_BAD_GATEWAY, Client, passed, reply
 
 OK = b"HTTP/1.1 200 OK"
 
@@ -117,3 +118,48 @@ def a_slow_origin_holds_up_nobody_else(world):
         world.check_still_served()
     slow.join(15)
     holds(done, "the slow origin's client gets its reply")
+
+
+def a_byte_a_second(text, first, end):
+    """It sends this, but from its first to its end byte one a second."""
+    return Answer(text, cuts=range(first, end), pause=1.0)
+
+
+@case
+def origins_that_send_a_byte_a_second_hold_nobody_else_and_each_byte_is_passed_at_once(world):
+    # with one more, as many as a host has connections
+    body = b"abcdef"
+    told = {"kept": (plain(body), passed(body)), "untagged": (response(body, b"X: y"), reply(body, b"x: y"))}
+    told = {f"/second/{name}/{number}": both for name, both in told.items() for number in range(3)}
+    for path, (text, _wanted) in told.items():
+        world.origin.on(path, a_byte_a_second(text, len(text) - len(body), len(text)))
+    told["/second/head"] = plain(body), passed(body)
+    world.origin.on("/second/head", a_byte_a_second(plain(body), 9, 14))
+    slowest = 0
+
+    def listener(path, wanted):
+        def listen():
+            with Client() as client:
+                client.say(world.request(path))
+                client.expect(wanted[: -len(body)], f"the head for {path}")
+                times = []
+                for byte in body:
+                    client.expect(bytes([byte]), f"a byte for {path}")
+                    times.append(time.monotonic())
+            holds(path.endswith("head") or times[-1] - times[0] > len(body) - 2, f"each byte of {path} as it comes, at {times}")
+
+        return listen
+
+    def probe():
+        nonlocal slowest
+        # before any of them is done: their origin is silent for a second behind its last byte too
+        end = time.monotonic() + len(body) - 2
+        while time.monotonic() < end:
+            start = time.monotonic()
+            world.check_still_served()
+            slowest = max(slowest, time.monotonic() - start)
+            time.sleep(0.02)
+
+    equal(together([probe, *(listener(path, wanted) for path, (_text, wanted) in told.items())]), [], "failures")
+    holds(slowest < 1, f"less than a second for who asks for something else, in place of {slowest:.1f}")
+    return f"{slowest:.3f} s at most for the others"

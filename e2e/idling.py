@@ -26,10 +26,14 @@ class Clock:
             self._ahead = mmap.mmap(file.fileno(), 8)
         self._leapt = 0
 
+    def set(self, ahead):
+        """It is ahead by so many seconds."""
+        self._leapt = ahead
+        struct.pack_into("q", self._ahead, 0, ahead)
+
     def leap(self, seconds):
         """So many seconds pass at once. The program looks at its clock each second."""
-        self._leapt += seconds
-        struct.pack_into("q", self._ahead, 0, self._leapt)
+        self.set(self._leapt + seconds)
         time.sleep(1.1)
 
     def leap_until(self, is_over):

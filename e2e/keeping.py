@@ -14,7 +14,7 @@ from caching import now, said
 from folders import PUBLISHED, TRACE, called, calls_in, entry, small
 from harness import Failed, case, equal, holds, lasting, need, ran, together
 from kills import CHUNK, GATES_AT, extent_in, gates_in, kept_in
-from network import free_port, wait_until_it_listens
+from network import free_port
 from origin import Answer, lines, noise, part, response, span_of
 from world import Client
 
@@ -443,16 +443,7 @@ def a_full_disk_is_seen_by_no_client(world):
     with world.anew() as proxy:
         proxy.stop()
         limit = 10_000
-        script = f"ulimit -f {limit // 512}; trap '' XFSZ; exec \"$@\""
-        small = proxy.program
-        proxy.process = subprocess.Popen(
-            ["sh", "-c", script, "sh", small, f"proxyPort={proxy.port}"],
-            stdin=subprocess.DEVNULL,
-            stdout=proxy.output,
-            stderr=proxy.output,
-            cwd=proxy.folder.name,
-        )
-        if why := wait_until_it_listens(proxy.process, proxy.port):
+        if why := proxy.launch(f"ulimit -f {limit // 512}; trap '' XFSZ"):
             raise Failed(f"    {why}")
         for _time in (1, 2):
             for path, body in bodies.items():

@@ -26,8 +26,11 @@ SUBJECTS = [
     "refusals",
     "smuggling",
     "broken_origins",
+    "useless_answers",
     "hostile_clients",
     "many_clients",
+    "hardship",
+    "failing_calls",
     "random_exchanges",
     "tools",
     "packages",
@@ -45,13 +48,14 @@ SUBJECTS = [
     "real_hosts",
     "costs",
     "idling",
+    "clocks",
     "browsing",
     "readme",
 ]
 # These take longest, and are begun first.
-LONGEST = ["hostile_origins", "idling", "packages", "real_hosts"]
+LONGEST = ["hostile_origins", "keeping", "hardship", "clocks", "packages", "idling", "real_hosts"]
 # Most of them wait most of the time.
-AT_ONCE = 4
+AT_ONCE = 5
 
 
 def speaks_of(subject, wanted):

@@ -3,11 +3,14 @@
 import threading
 import time
 
+from caching import now
 from harness import case, equal, holds, together
-from origin import Answer, noise, plain
-from world import Client, passed
+from origin import Answer, noise, plain, response
+from world import PATIENCE, Client, passed
 
 CLIENTS = 50
+# More than have a place at once.
+CROWD, PLACES = 300, 256
 BODY = noise(200_000)
 
 
@@ -83,3 +86,66 @@ def a_client_with_endless_requests_does_not_hold_up_the_others(world):
 
     equal(together([hurry, hurry, hurry, others]), [], "failures")
     holds(len(replies) >= 3, "the hurried are served too")
+
+
+@case
+def three_hundred_clients_at_once_are_all_answered_and_each_is_asked_for_once(world):
+    bodies = {number: b"%d " % number * 100 for number in range(CROWD)}
+    goes_on = threading.Event()
+    for number, body in bodies.items():
+        world.origin.on(f"/crowd/{number}", Answer(plain(body), cuts=[0], goes_on=goes_on))
+    world.origin.clear()
+    clients = {number: Client() for number in bodies}
+    for number, client in clients.items():
+        client.say(world.last_request(f"/crowd/{number}"))
+    # nothing is answered before all have asked
+    time.sleep(0.5)
+    goes_on.set()
+    for number, client in clients.items():
+        client.expect_last(passed(bodies[number], b"close"), f"the reply to client {number}")
+        client.socket.close()
+    asked = sorted(ask.path for ask in world.origin.asked if ask.path.startswith("/crowd/"))
+    equal(asked, sorted(f"/crowd/{number}" for number in bodies), "what the origin is asked for")
+
+
+@case
+def of_three_hundred_clients_that_stay_the_last_are_answered_as_soon_as_others_leave(world):
+    world.origin.on("/stay", Answer(plain(b"hello")))
+    clients = [Client() for _ in range(CROWD)]
+    for client in clients:
+        client.say(world.request("/stay"))
+    for client in clients[:PLACES]:
+        client.expect(passed(b"hello"), "the reply to one that has a place")
+    for client in clients[PLACES:]:
+        client.expect_silence(0.01)
+    for leaving, waiting in zip(clients, clients[PLACES:]):
+        leaving.socket.close()
+        waiting.expect(passed(b"hello"), "the reply to one that waited for a place")
+        waiting.say(world.request("/stay"))
+        waiting.expect(passed(b"hello"), "its next reply")
+    for client in clients:
+        client.socket.close()
+
+
+@case
+def three_hundred_clients_that_want_one_new_body_all_get_the_whole(world):
+    body, goes_on = noise(300_000), threading.Event()
+    with world.anew() as proxy:
+        text = response(body, b"Date: " + now(), b'ETag: "x"', b"Cache-Control: max-age=60")
+        proxy.origin.on("/one", Answer(text, cuts=[1_000], goes_on=goes_on))
+        clients = [Client(port=proxy.port) for _ in range(CROWD)]
+        for client in clients:
+            client.say(proxy.last_request("/one"))
+        time.sleep(0.5)
+        goes_on.set()
+
+        def reader(some):
+            def read():
+                for client in some:
+                    equal(client.hear_all().partition(b"\r\n\r\n")[2], body, "the body")
+                    client.socket.close()
+
+            return read
+
+        equal(together([reader(clients[at::6]) for at in range(6)], PATIENCE), [], "failures")
+        equal(len(proxy.origin.asked), 1, "asks of the origin")

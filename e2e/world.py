@@ -155,18 +155,23 @@ class World:
         self.start()
 
     def start(self):
+        if why := self.launch():
+            self.stop()
+            raise Failed(f"    {why}")
+
+    def launch(self, before=None):
+        """Starts it, maybe behind commands of a shell, whose limits it has. Answers why it does not listen, or nothing."""
+        shell = ["sh", "-c", f'{before}; exec "$@"', "sh"] if before else []
         self.output = tempfile.TemporaryFile()
         self.process = subprocess.Popen(
-            [self.program, f"proxyPort={self.port}", *self.words],
+            [*shell, self.program, f"proxyPort={self.port}", *self.words],
             stdin=subprocess.DEVNULL,
             stdout=self.output,
             stderr=self.output,
             env=self.environment,
             cwd=self.folder.name,
         )
-        if why := wait_until_it_listens(self.process, self.port):
-            self.stop()
-            raise Failed(f"    {why}")
+        return wait_until_it_listens(self.process, self.port)
 
     def stop(self):
         if self.process.poll() is None:

@@ -25,7 +25,7 @@ use Rattle.pp_law.specs.Chunks.{note_use}
 use Rattle.pp_law.specs.Closing.{close_client, exchanges_of, is_of, leave_one, left_alone}
 use Rattle.pp_law.specs.Connections.{client, conn, each_exchange, end_exchange, exchange, front_of_line, is_client, is_exchange, lose_attempt, may_ask_again, on_client, on_conn, on_exchange, close_conn, placing, Placement}
 use Rattle.pp_law.specs.Leaving.{Leaving, ForAnother, ForMemory, BeforeDecision, leaving_as}
-use Rattle.pp_law.specs.Lists.{Bytes, is_this}
+use Rattle.pp_law.specs.Lists.{Bytes, change, is_this}
 use Rattle.pp_law.specs.Opening.{terms_behind, are_texts, begun, configured, is_at, is_opening, lose_in_opening, names_file, opened_to, settings_in, stuck, with_settings, woken}
 use Rattle.pp_law.specs.OwnHeads.{is_wrong_head, join, join_bound, moved_on, note_own, note_sent}
 use Rattle.pp_law.specs.Passing.{poured}
@@ -262,7 +262,8 @@ evicted-asks s h = each_of (due_victim s) h (λ place. drop_chunk-keeps asks_wal
 refused_row-asks : (x : Instance) (s : State) → Holds Asks s → Holds Asks (refused_row x s)
 unfolding refused_row
 refused_row-asks x s h =
-    holds (exchanges_changed-keeps asks_walk (brings_to x.id) dropping_body _ (λ e. same_ask _ e refl refl refl refl refl refl)
+    let told : State = record (forget x.id s) { clients = change (waits_for_row x.id) (λ c. record c { course = RowRefused }) (forget x.id s).clients } in
+    holds (exchanges_changed-keeps asks_walk (brings_to x.id) dropping_body (view told) (λ e. same_ask _ e refl refl refl refl refl refl)
     (clients_changed-keeps asks_walk (waits_for_row x.id) (λ c. record c { course = RowRefused }) (view (forget x.id s)) (λ c. refl) (facts_of (forget-keeps asks_walk x.id s h))))
 
 leave_memory-asks : (how : Leaving) (s : State) → Holds Asks s → Holds Asks (leave_memory how s)

@@ -14,7 +14,7 @@ use Rattle.pp_law.specs.After.{waits_for_row, event, opened, owing, reached, pai
 use Rattle.pp_law.specs.Chunks.{note_use}
 use Rattle.pp_law.specs.Connections.{client, conn, is_client, lose_attempt, may_ask_again, placing, Placement}
 use Rattle.pp_law.specs.Leaving.{Leaving, ForAnother, ForMemory, BeforeDecision, leaving_as}
-use Rattle.pp_law.specs.Lists.{Bytes}
+use Rattle.pp_law.specs.Lists.{Bytes, change}
 use Rattle.pp_law.specs.Opening.{are_texts, begun, configured, is_at, is_opening, names_file, opened_to, settings_in, stuck, with_settings, woken}
 use Rattle.pp_law.specs.Phases.{phases, is_done, behind, next, come, come_to, come_to_decide, decides, deciding, due_victim, ending}
 use Rattle.pp_law.specs.Replies.{said_by}
@@ -124,7 +124,8 @@ module _ (total : ℕ → Bytes) (asked : ℕ → Exchange → Type 0) (firsts :
   refused_row-rests : (x : Instance) (s : State) → Holds P s → Holds P (refused_row x s)
   unfolding refused_row
   refused_row-rests x s h =
-      holds (exchanges_changed-keeps steps (brings_to x.id) dropping_body _ (λ e. same_ask _ e refl refl refl refl refl refl)
+      let told : State = record (forget x.id s) { clients = change (waits_for_row x.id) (λ c. record c { course = RowRefused }) (forget x.id s).clients } in
+      holds (exchanges_changed-keeps steps (brings_to x.id) dropping_body (view told) (λ e. same_ask _ e refl refl refl refl refl refl)
       (clients_changed-keeps steps (waits_for_row x.id) (λ c. record c { course = RowRefused }) (view (forget x.id s)) (λ c. refl) (facts_of (forget-keeps steps x.id s h))))
 
   leave_memory-rests : (how : Leaving) (s : State) → Holds P s → Holds P (leave_memory how s)

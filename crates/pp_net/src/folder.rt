@@ -178,7 +178,7 @@ impl Folder {
     pub fn sync<R: Files<File = File>>(&mut self, files: &R, name: &Name) -> io::Result<()> {
         let root = self.root()?;
         if !is_held(&root.written, name) {
-            return File::open(files, root.path(name)?.as_str())?.sync_data();
+            return open_file(files, root.path(name)?.as_str())?.sync_data();
         }
         let held = root.writer(files, name)?;
         held.file.sync_data()?;
@@ -224,7 +224,7 @@ impl Root {
             Some(held) => Ok(held),
             None => {
                 let path = self.path(name)?;
-                Ok(Held::of(*name, File::open(files, path.as_str())?))
+                Ok(Held::of(*name, open_file(files, path.as_str())?))
             }
         }
     }
@@ -242,6 +242,7 @@ impl Root {
             Some(held) => Ok(held),
             None => {
                 let path = self.path(name)?;
+                expect_file(files, path.as_str())?;
                 let file = OpenOptions::new().write(true).open(files, path.as_str())?;
                 Ok(Held::of(*name, file))
             }
@@ -257,6 +258,20 @@ impl Root {
             self.read = None;
         }
     }
+}
+
+/// What is no file, as a folder or a pipe that was put in its place, is not opened: to open it might wait.
+fn expect_file<R: Files>(files: &R, path: &str) -> io::Result<()> {
+    if fs::metadata(files, path)?.is_file() {
+        Ok(())
+    } else {
+        Err(io::Error::from(ErrorKind::InvalidInput))
+    }
+}
+
+fn open_file<R: Files<File = File>>(files: &R, path: &str) -> io::Result<File> {
+    expect_file(files, path)?;
+    File::open(files, path)
 }
 
 fn read_from(file: &File, at: u64, buf: &mut [u8]) -> io::Result<usize>

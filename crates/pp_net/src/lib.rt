@@ -8,6 +8,8 @@
 //! where its path names another. What is to stand through a crash is synced: a file by the handle that wrote
 //! it, the names in the folder by the folder itself. What a life finds is synced once at its begin.
 //!
+//! The seconds that are told go on where the system's clock is set back, and follow it where it is set forth.
+//!
 //! To the layer above: `NetWorld` is a `Wire` and a `Disk` that tells no log. Its count of faults rises at
 //! each fault, and no number is given twice. What the sockets and the files hold, no clause can say.
 //!
@@ -33,8 +35,10 @@ mod net_world; // the tables, the counts, and how the system is asked
 mod place; // where the folder stands, and how it is made
 mod readiness; // in which directions a call need not wait
 mod rotation; // whose turn it is
+mod seconds; // the seconds that are told, whoever sets the clock
 mod visit; // what the log tells of a client
 mod wire; // the calls on connections
 
 pub use hosts::Hosts;
 pub use net_world::{NetFault, NetWorld};
+pub use seconds::Seconds;

@@ -11,6 +11,7 @@ use crate::door::OpenDoor;
 use crate::folder::Folder;
 use crate::hosts::Hosts;
 use crate::rotation::Rotation;
+use crate::seconds::Seconds;
 use crate::visit::Visit;
 use mio::net::TcpStream;
 use mio::{Events, Interest, Poll, Token};
@@ -52,6 +53,7 @@ pub struct NetWorld<R: Drop> {
     pub(crate) rotation: Rotation,
     hosts: Hosts,
     pub(crate) folder: Folder,
+    pub(crate) seconds: Seconds,
     // The second that was told last.
     pub(crate) second: Option<u64>,
     // How many events were found since the system was asked.
@@ -92,6 +94,7 @@ impl<R: Runtime + AllocGlobal + Net> NetWorld<R> {
             rotation: Rotation::START,
             hosts,
             folder: Folder::Closed,
+            seconds: Seconds::START,
             second: None,
             found: 0,
             faults: 0,
@@ -109,7 +112,7 @@ impl<R: Runtime + AllocGlobal + Net> NetWorld<R> {
         WireFault
     }
 
-    /// The time since 1970, or the last second that was told where the clock fails.
+    /// The time since 1970 by the system's clock, or the last second that was told where that fails.
     pub(crate) fn clock(&mut self) -> Duration
         ensures faults { self.old.faults ≤ self.new.faults }
         ensures top { self.new.top ≡ self.old.top }

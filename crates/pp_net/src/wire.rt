@@ -200,7 +200,8 @@ impl<R: Runtime + AllocGlobal + Net + Files<File = File>> Wire for NetWorld<R> {
     fn next(&mut self, wants: &Wants) -> Event {
         for _ in 0..u64::MAX {
             let now = self.clock();
-            if let Some(tick) = self.find_tick(now.as_secs()) {
+            let second = self.seconds.tell(now.as_secs());
+            if let Some(tick) = self.find_tick(second) {
                 self.leave_moved_folder();
                 self.access.tick(&self.rt);
                 return tick;

@@ -1,5 +1,5 @@
 -- A row that leaves memory: where it may behind a phase that is done, it may before that is left, and leads to what goes on as the same.
-use Rattle.std.proofs.Common.{◌≡◌, refl, ◌<◌, Bool, true, false, not, ◌&&◌, List, ◌∷◌, drop, bytes_eq, is_some, Option, Some, None, option_map, sym, subst, ap, ap₂, ◌∙◌, arith}
+use Rattle.std.proofs.Common.{◌≡◌, refl, ◌<◌, Bool, true, false, not, ◌&&◌, List, [], ◌∷◌, drop, bytes_eq, is_some, Option, Some, None, option_map, sym, subst, ap, ap₂, ◌∙◌, arith}
 use Rattle.pp_text.specs.Bytes.{is_empty}
 use Rattle.pp_world.specs.declared.happening.Happening.TheVariants.{Noted}
 use Rattle.pp_world.specs.declared.note.Remark.TheVariants.{Forgotten}

@@ -263,7 +263,8 @@ evicted_step s key tag n i h = moved_step (come_to-frame false Evicting s) (same
 
 left_step : (s u : State) → unphased (frame false u) ≡ unphased (frame false s) → Settled u → Step s (record u { forgotten = drop 1 u.forgotten }) false
 left_step s u on h =
-    then_step (life_moved on) (record {
+    let moved : SameLife s u = life_moved on in
+    then_step moved (record {
       settled = record { free = h.free; rests = λ isnt. let r = h.rests isnt in record { idle = r.idle; nothing = r.nothing } };
       life = record { failures = refl; term = refl };
     })

@@ -25,15 +25,25 @@ impl State {
         }
     }
 
-    /// What is asked has to fit into an ask.
     fn decide_for(&self, seat: &Seat, key: &Key) -> Decision {
         let mut scratch = Scratch::new();
         let Current::Request(head, _) = seat.client.current(&mut scratch) else {
             return Decision::Refuse(400);
         };
         let decision = self.decide_by_row(seat, &head, key);
-        match kind_of(&head, self.cache.version(key.text()), decision) {
-            Some(kind) if self.text_len(&head, key, &kind).is_none() => Decision::Refuse(431),
+        self.if_fits(&head, key, self.cache.version(key.text()), decision)
+    }
+
+    /// What is asked has to fit into an ask.
+    pub(crate) fn if_fits(
+        &self,
+        head: &RequestHead<'_, '_>,
+        key: &Key,
+        version: Option<Version>,
+        decision: Decision,
+    ) -> Decision {
+        match kind_of(head, version, decision) {
+            Some(kind) if self.text_len(head, key, &kind).is_none() => Decision::Refuse(431),
             _ => decision,
         }
     }

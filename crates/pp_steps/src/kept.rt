@@ -1,17 +1,21 @@
 // Rows that come from the disk, and bytes that stand there alone.
 use crate::state::State;
 use pp_cache::Cache;
-use pp_seats::{Brought, Next, Seat};
+use pp_client::Current;
+use pp_head::Scratch;
+use pp_plan::{Begun, PlanRow, decide, span};
+use pp_seats::{Brought, Next, Seat, Stage};
 use pp_shelf::Shelf;
 use pp_target::file_name;
 use pp_text::OutOfMemory;
+use pp_world::Decision;
 use std::alloc::Global;
 
 impl State {
     /// Where the request of the client at this place may be decided now, the kept row that it names comes into memory. Where
-    /// memory is refused for it, the request is refused.
+    /// memory is refused for it, and a decision is due, the request is refused.
     pub(crate) fn bring_row_of(&mut self, shelf: &Shelf, i: usize) {
-        let Some(seat) = self.seats.get_mut(i) else {
+        let Some(seat) = self.seats.get(i) else {
             return;
         };
         if !seat.is_to_be_decided() {
@@ -21,7 +25,7 @@ impl State {
             return;
         };
         if bring(self.alloc, &mut self.cache, shelf, key.text()).is_err() {
-            seat.brought = Brought::Refused;
+            self.refuse_kept(shelf, i);
         }
     }
 
@@ -34,6 +38,59 @@ impl State {
         if self.cache.is_over() {
             self.make_room_for_row();
         }
+    }
+
+    /// Memory was refused for the kept row of its key.
+    fn refuse_kept(&mut self, shelf: &Shelf, i: usize) {
+        let is_due = match self.seats.get(i) {
+            None => false,
+            Some(seat) => self.is_due_by_kept(shelf, seat),
+        };
+        if !is_due {
+            return;
+        }
+        if let Some(seat) = self.seats.get_mut(i) {
+            seat.brought = Brought::Refused;
+        }
+    }
+
+    /// A decision is due by the kept row of its key: one that waits for the answer to another's ask has none.
+    fn is_due_by_kept(&self, shelf: &Shelf, seat: &Seat) -> bool {
+        let is_first = matches!(seat.stage, Stage::Undecided) && seat.waits_on.is_none();
+        if is_first && self.shares_fetches && self.shared_ask(seat).is_some() {
+            !self.asks_by_kept(shelf, seat)
+        } else {
+            self.is_to_decide(seat)
+        }
+    }
+
+    /// By the kept row of its key it is to ask what another may have asked already.
+    fn asks_by_kept(&self, shelf: &Shelf, seat: &Seat) -> bool {
+        let Some(asked) = seat.front.asked() else {
+            return false;
+        };
+        let (None, Some(key)) = (asked.refusal, &asked.key) else {
+            return false;
+        };
+        let Some(view) = shelf.kept(key.text()) else {
+            return false;
+        };
+        let mut scratch = Scratch::new();
+        let Current::Request(head, _) = seat.client.current(&mut scratch) else {
+            return false;
+        };
+        let (from, to) = span(&head, view.version);
+        let plan = PlanRow {
+            version: view.version,
+            fields: view.fields,
+            times: view.times,
+            held: to <= from || to <= view.extent,
+        };
+        let decision = decide(&head, Some(&plan), Begun::Nothing, self.now);
+        matches!(
+            self.if_fits(&head, key, Some(*view.version), decision),
+            Decision::Fetch | Decision::Validate
+        )
     }
 
     /// The next byte of the client at this place, where it is on the disk alone and is said next.

@@ -1,5 +1,5 @@
 // What the system is asked beside sockets and folders: a configuration file, and the addresses of names.
-use pp_net::{Hosts, NetWorld};
+use pp_net::{Hosts, NetWorld, Seconds};
 use pp_text::Octets;
 use pp_world::{CONFIG_READ_LEN, ConfigFault, Wire};
 use std::cell::Cell;
@@ -94,5 +94,50 @@ fn a_name_is_looked_up_once_in_some_seconds_and_an_address_never(
     rt: HostRuntime,
 ) -> Result<(), Fail> {
     assert_eq!(rt; first_unlike(&rt)?, None);
+    Ok(())
+}
+
+/// What the system's clock shows, and the second that is told.
+const SHOWN: &[(u64, u64)] = &[
+    (1_000_000, 1_000_000),
+    (1_000_001, 1_000_001),
+    // set back by less than two minutes, which is waited out
+    (999_902, 999_902),
+    (1_000_002, 1_000_002),
+    // set back by an hour, and it goes on from there
+    (996_403, 1_000_002),
+    (996_404, 1_000_003),
+    (996_464, 1_000_063),
+    // set right
+    (1_000_065, 1_000_065),
+    // set forth by a day, and right again
+    (1_086_466, 1_086_466),
+    (1_000_067, 1_086_466),
+    (1_000_117, 1_086_516),
+    // set to where the world began, and right again
+    (0, 1_086_516),
+    (50, 1_086_566),
+    (1_000_168, 1_086_566),
+    (1_086_700, 1_086_700),
+    (u64::MAX, u64::MAX),
+    (1, u64::MAX),
+];
+
+// The first line of the table that goes otherwise.
+fn first_told_otherwise() -> Option<usize> {
+    let mut seconds = Seconds::START;
+    for (place, (shown, wanted)) in SHOWN.iter().enumerate() {
+        if seconds.tell(*shown) != *wanted {
+            return Some(place);
+        }
+    }
+    None
+}
+
+#[test]
+fn the_seconds_go_on_where_the_clock_is_set_back_and_follow_it_where_it_is_set_forth(
+    rt: HostRuntime,
+) -> Result<(), Fail> {
+    assert_eq!(rt; first_told_otherwise(), None);
     Ok(())
 }

@@ -1,0 +1,450 @@
+"""What a machine may do to the program while it serves: it is refused memory, its disk fills up, and its files go away. It serves
+on, and tells no client a wrong byte; or it says why it ends."""
+
+import contextlib
+import itertools
+import os
+import pathlib
+import random
+import re
+import resource
+import shutil
+import socket
+import subprocess
+import threading
+import time
+
+from caching import now, said
+from flows import Flows
+from folders import called, mounted, on_a_device_that_runs_out, small
+from harness import case, equal, holds, together
+from idling import has_news
+from keeping import (
+    FRESH, MOVED, ONLY_KEPT, TAG, asked_for, body_of, cache_of, entries, file_of, fresh, put_entry, random_load, serve_whole,
+    wait_for_extent,
+)
+from kills import GATES_AT, extent_in, kept_in
+from origin import Answer, noise, plain
+from words import USAGE
+from world import BAD_GATEWAY, Client, page, passed, reply
+
+NO_MEMORY = (3, b"polipo: out of memory\n")
+REFUSED = page(b"500 Internal Server Error", b"keep-alive")
+NOTHING = b""
+MB = 1 << 20
+
+# ---- memory
+
+
+def addresses_of(proxy):
+    """How many bytes of addresses it has: those that `ulimit -v` limits."""
+    text = pathlib.Path(f"/proc/{proxy.process.pid}/status").read_text()
+    return int(re.search(r"VmSize:\s+(\d+) kB", text)[1]) * 1024
+
+
+def let_have(proxy, count):
+    """From now on it has no more bytes of addresses than these."""
+    resource.prlimit(proxy.process.pid, resource.RLIMIT_AS, (count, resource.RLIM_INFINITY))
+
+
+def is_loaded(proxy, limit):
+    """Whether the system can start the program within this limit: it refuses a word that is none."""
+    words = ["sh", "-c", f'{limit}; exec "$@"', "sh", proxy.program, "nonsense"]
+    done = subprocess.run(words, capture_output=True, cwd=proxy.folder.name)
+    return (done.returncode, done.stderr) == (2, USAGE)
+
+
+def next_reply(client):
+    """The next reply, without its age; nothing where the client is closed before it."""
+    try:
+        head = re.sub(rb"\r\nage: \d+", b"", client.hear_until(b"\r\n\r\n"))
+        length = re.search(rb"\r\ncontent-length: (\d+)\r\n", head)
+        return head + client.hear(int(length[1])) if length else head
+    except ConnectionResetError:
+        return NOTHING
+
+
+def reply_of(proxy, client, path):
+    """What a client is told that asks for this; nothing where it is closed before."""
+    try:
+        client.say(proxy.request(path))
+    except OSError:
+        return NOTHING
+    return next_reply(client)
+
+
+@case
+def started_with_less_memory_it_serves_or_ends_with_a_line(world):
+    with world.anew() as proxy:
+        proxy.stop()
+        for number in range(300):
+            put_entry(proxy, f"/{number}", b"hello")
+        proxy.start()
+        whole = addresses_of(proxy) // 1024
+        proxy.stop()
+        ends = serves = 0
+        limits = [f"ulimit -v {kilobytes}" for kilobytes in [*range(3_000, whole, 4_000), *range(whole - 200, whole + 600, 100)]]
+        for limit in itertools.dropwhile(lambda limit: not is_loaded(proxy, limit), limits):
+            if proxy.launch(limit):
+                equal((proxy.process.returncode, proxy.printed()), NO_MEMORY, f"the end behind {limit}")
+                ends += 1
+            else:
+                serves += 1
+                for number in range(8):
+                    with Client(port=proxy.port) as client:
+                        heard = reply_of(proxy, client, f"/{number}")
+                    is_right = heard.startswith(b"HTTP/1.1 200 ") and heard.endswith(b"\r\n\r\nhello")
+                    holds(is_right or heard in (REFUSED, NOTHING), f"5 bytes, a refusal or an end in place of {heard}")
+                equal((proxy.process.poll(), proxy.printed()), (None, b""), f"its end, and output, behind {limit}")
+                proxy.stop()
+        proxy.start()
+        holds(ends and serves, f"some that end, and some that serve ({ends}, {serves})")
+        return f"{ends} end, {serves} serve"
+
+
+class Lack:
+    """What clients are told while memory is refused, and afterwards: what is right, a refusal, or nothing."""
+
+    def __init__(self, proxy):
+        self.proxy, self.date = proxy, now()
+        self.told = {"right": 0, "refused": 0, "nothing": 0}
+
+    def serve(self, path, body):
+        """The origin has this body."""
+        self.proxy.origin.on(path, Answer(fresh(body, self.date)))
+        return reply(body, b"etag: " + TAG, b"date: " + self.date, FRESH.lower())
+
+    def count(self, heard, right, of_what):
+        told = "right" if heard == right else "refused" if heard == REFUSED else "nothing"
+        if told == "nothing":
+            equal(heard, NOTHING, f"{of_what}, where it is neither right nor refused")
+        self.told[told] += 1
+
+
+@case
+def memory_that_is_refused_while_it_serves_costs_a_refusal_or_a_client_and_no_byte(world):
+    # each of these rows takes memory for its key alone of 7,000 bytes
+    paths = {f"/{number}/{'k' * 7_000}": b"body %d" % number * 50 for number in range(100)}
+    with world.anew() as proxy:
+        lack = Lack(proxy)
+        rights = {path: lack.serve(path, body) for path, body in paths.items()}
+        hit = lack.serve("/hit", b"hello")
+        seated = [Client(port=proxy.port) for _ in range(20)]
+        for client in seated:
+            equal(reply_of(proxy, client, "/hit"), hit, "a reply before the lack")
+
+        def ask_for_all():
+            for number, (path, right) in enumerate(rights.items()):
+                lack.count(reply_of(proxy, seated[number % len(seated)], path), right, f"the reply for {path[:9]}")
+            for client in seated:
+                lack.count(reply_of(proxy, client, "/hit"), hit, "a hit")
+            newcomers = [Client(port=proxy.port) for _ in range(40)]
+            for client in newcomers:
+                lack.count(reply_of(proxy, client, "/hit"), hit, "the reply to a newcomer")
+                client.socket.close()
+
+        let_have(proxy, addresses_of(proxy))
+        ask_for_all()
+        told = dict(lack.told)
+        holds(told["refused"] and told["nothing"], f"refusals, and clients that were turned away, in place of {told}")
+        let_have(proxy, resource.RLIM_INFINITY)
+        lack.told = dict.fromkeys(told, 0)
+        ask_for_all()
+        equal(lack.told, {"right": 160, "refused": 0, "nothing": 0}, "what is told once the lack is over")
+        for client in seated:
+            client.socket.close()
+        bodies = {file_of(proxy, path).name: (len(body), body) for path, body in [*paths.items(), ("/hit", b"hello")]}
+        for name, entry in entries(proxy).items():
+            equal(entry, bodies[name], "an entry in the folder")
+        return f"{told['right']} right, {told['refused']} refused, {told['nothing']} turned away"
+
+
+@case
+def a_long_body_for_whose_table_memory_is_refused_is_refused_and_comes_once_it_is_there(world):
+    # 12 bytes a chunk of 4,096: 3 MiB
+    with world.anew() as proxy, Client(port=proxy.port) as client:
+        proxy.origin.on("/hit", Answer(plain(b"hello")))
+        flows = Flows(proxy.origin, "/long", 1 << 30, b"ETag: " + TAG, FRESH)
+        equal(reply_of(proxy, client, "/hit"), passed(b"hello"), "a reply before the lack")
+        let_have(proxy, addresses_of(proxy))
+        for _time in (1, 2):
+            equal(reply_of(proxy, client, "/long"), REFUSED, "the reply under the lack")
+        equal(len(flows.all), 2, "asks of the origin")
+        let_have(proxy, resource.RLIM_INFINITY)
+        client.say(proxy.request("/long"))
+        holds(b"\r\ncontent-length: 1073741824\r\n" in client.hear_until(b"\r\n\r\n"), "the whole length")
+        equal(client.hear(100_000), noise(100_000), "what comes of it")
+
+
+@case
+def memory_that_comes_and_goes_under_load_costs_no_wrong_byte(world):
+    seed = random.randrange(1 << 32)
+    choose = random.Random(seed)
+    with world.anew() as proxy:
+        lack, lock, is_over = Lack(proxy), threading.Lock(), threading.Event()
+        rights = {f"/{number}/{'k' * 1_000}": None for number in range(300)}
+        for number, path in enumerate(rights):
+            rights[path] = lack.serve(path, noise((1 << number % 18) + number, number))
+        whole = addresses_of(proxy)
+
+        def squeeze():
+            end = time.monotonic() + 3
+            while time.monotonic() < end:
+                let_have(proxy, whole + choose.choice([0, 0, 100_000, MB, 4 * MB]))
+                time.sleep(choose.uniform(0, 0.2))
+                let_have(proxy, resource.RLIM_INFINITY)
+                time.sleep(choose.uniform(0, 0.05))
+            is_over.set()
+
+        def reader(number):
+            mine = random.Random(seed + number)
+
+            def read():
+                while not is_over.is_set():
+                    with Client(port=proxy.port) as client:
+                        for path in mine.choices(list(rights), k=mine.randrange(1, 8)):
+                            heard = reply_of(proxy, client, path)
+                            with lock:
+                                lack.count(heard, rights[path], f"the reply for {path[:9]}")
+                            if heard == NOTHING:
+                                break
+
+            return read
+
+        equal(together([squeeze, *(reader(number) for number in range(8))]), [], f"failures, with seed {seed}")
+        for path, right in rights.items():
+            with Client(port=proxy.port) as client:
+                equal(reply_of(proxy, client, path), right, f"the reply for {path[:9]} once it is over, with seed {seed}")
+    return ", ".join(f"{count} {told}" for told, count in lack.told.items())
+
+
+@case
+def with_few_handles_who_finds_none_is_told_502_or_waits_and_all_are_served_once_others_leave(world):
+    with world.anew() as proxy:
+        proxy.stop()
+        equal(proxy.launch("ulimit -n 60"), None, "why it does not listen")
+        proxy.origin.on("/a", Answer(plain(b"hello")))
+        clients = [Client(port=proxy.port) for _ in range(100)]
+        for client in clients:
+            client.say(proxy.request("/a"))
+        time.sleep(1.5)
+        told = [next_reply(client) for client in clients if has_news(client)]
+        holds(all(heard in (passed(b"hello"), BAD_GATEWAY) for heard in told), f"the body or 502 in place of {set(told)}")
+        holds(0 < len(told) < len(clients), f"some that are answered, and some that wait ({len(told)})")
+        for client in clients:
+            client.socket.close()
+
+
+# ---- a disk that fills up
+
+
+def read_by_many(proxy, bodies, seconds, seed, beside=()):
+    """Reads random bodies and parts for so long, beside other jobs, and sees that none is wrong and none missing."""
+    is_over = threading.Event()
+
+    def end():
+        try:
+            for job in beside:
+                job()
+            time.sleep(seconds)
+        finally:
+            is_over.set()
+
+    def reader(number):
+        def read():
+            random_load(proxy, bodies, random.Random(seed + number), is_over)
+
+        return read
+
+    equal(together([end, *map(reader, range(4))]), [], f"failures, with seed {seed}")
+
+
+def expect_found(proxy, bodies, folder):
+    """The stopped program's folder vouches for no wrong byte; started, it serves all that, and asks nobody for it. Answers how
+    much of each body there is."""
+    extents = {}
+    files = {path.name: kept_in(path) for path in folder.iterdir() if len(path.name) == 32}
+    for path, body in bodies.items():
+        extents[path], data = files.get(file_of(proxy, path).name, (0, b""))
+        equal(data, body[: extents[path]], f"what the folder vouches for of {path}")
+    proxy.start()
+    proxy.origin.clear()
+    for path, extent in extents.items():
+        if extent:
+            text = said(proxy, path, ONLY_KEPT, b"Range: bytes=0-%d" % (extent - 1))[0]
+            equal(body_of(text), bodies[path][:extent], f"the kept front of {path}")
+    equal([ask.path for ask in proxy.origin.asked if ask.path in bodies], [], "asks of the origin")
+    return extents
+
+
+def serve_all(proxy, lengths):
+    """The origin has bodies of these lengths."""
+    bodies = {f"/{number}": noise(length, 97 * number) for number, length in enumerate(lengths)}
+    for path, body in bodies.items():
+        serve_whole(proxy, path, body)
+    return bodies
+
+
+SIZES = [5, 4_096, 20_000, 65_537, 100_000, 200_000, 300_000, 400_000] * 3
+
+
+@case
+def a_file_system_that_fills_up_under_load_is_seen_by_no_client(world):
+    seed = random.randrange(1 << 32)
+    with small("2m") as place, world.anew(f"diskCacheRoot={place}/cache", "diskRun=4") as proxy:
+        folder, other = pathlib.Path(place) / "cache", pathlib.Path(place) / "other"
+        bodies, whole = serve_all(proxy, SIZES), set()
+
+        def fill_and_free():
+            # another program takes what is left, and gives it back
+            for _time in range(3):
+                time.sleep(0.4)
+                whole.update(path for path, body in bodies.items() if extent_in(folder / file_of(proxy, path).name) == len(body))
+                with contextlib.suppress(OSError), open(other, "wb", buffering=0) as file:
+                    while file.write(bytes(4_096)):
+                        pass
+                time.sleep(0.2)
+                other.unlink()
+
+        read_by_many(proxy, bodies, 0.5, seed, [fill_and_free])
+        proxy.stop()
+        extents = expect_found(proxy, bodies, folder)
+        holds(0 < sum(extents.values()) < 2 * MB, f"some bytes that are kept, and not all ({sum(extents.values())})")
+        lost = [path for path in whole if extents[path] < len(bodies[path])]
+        holds(whole and not lost, f"what was kept whole before the disk was full, but {lost} of {len(whole)}")
+        holds(called("mount", "-o", "remount,size=16m", place), "more room")
+        # behind this start no name is closed
+        read_by_many(proxy, bodies, 0.5, seed)
+        for path, body in bodies.items():
+            equal(body_of(said(proxy, path)[0]), body, f"the body of {path}")
+        deadline = time.monotonic() + 10
+        while any(extent_in(folder / file_of(proxy, path).name) < len(body) for path, body in bodies.items()):
+            holds(time.monotonic() < deadline, "all in the folder, once there is room")
+            time.sleep(0.05)
+        return f"{sum(extents.values())} bytes kept of {sum(map(len, bodies.values()))}"
+
+
+@case
+def a_device_whose_blocks_run_out_is_seen_by_no_client(world):
+    seed = random.randrange(1 << 32)
+    with on_a_device_that_runs_out("6m") as (below, folder):
+        root = pathlib.Path(folder) / "cache"
+        with world.anew(f"diskCacheRoot={root}", "diskRun=4") as proxy:
+            bodies = serve_all(proxy, SIZES * 2)
+            read_by_many(proxy, bodies, 2, seed)
+            proxy.stop()
+            # what the device took is all that counts from here on
+            holds(called("umount", folder), "it is mounted no more")
+            holds(called("mount", "-o", "remount,size=64m", below), "a device with room")
+            with mounted("-o", "loop", os.path.join(below, "image")) as again:
+                files = [kept_in(path) for path in (pathlib.Path(again) / "cache").iterdir() if len(path.name) == 32]
+                for extent, data in files:
+                    holds(any(body.startswith(data) for body in bodies.values()), f"{extent} bytes of a body that was sent")
+            proxy.words = ()
+            proxy.start()
+        kept, whole = sum(extent for extent, _ in files), sum(map(len, bodies.values()))
+        holds(0 < kept < whole, f"some bytes on the device, and not all {whole}, in place of {kept}")
+        return f"{kept} bytes kept of {whole}"
+
+
+# ---- files that go away
+
+
+def replaced_by_a_folder(file):
+    file.unlink()
+    file.mkdir()
+
+
+def replaced_by_a_link(file):
+    file.unlink()
+    file.symlink_to("nowhere/at/all")
+
+
+# What is done to a file.
+WAYS = {
+    "it is removed": lambda file: file.unlink(),
+    "it is moved": lambda file: file.rename(file.with_name("aside." + file.name)),
+    "it is emptied": lambda file: os.truncate(file, 0),
+    "it is cut in its head": lambda file: os.truncate(file, 100),
+    "it is cut in its gates": lambda file: os.truncate(file, GATES_AT + 1),
+    "it is cut in its body": lambda file: os.truncate(file, 12_288 + 50_000),
+    "a short file replaces it": lambda file: file.write_bytes(b"not an entry"),
+    "a folder replaces it": replaced_by_a_folder,
+    "a link to nowhere replaces it": replaced_by_a_link,
+}
+# Less than what is kept on the disk, so that it is read back.
+SMALL_POOL = ("chunkLowMark=512", "chunkHighMark=512", "chunkCriticalMark=1024")
+LONG = 500_000
+
+
+def kept_on_disk(proxy, paths, length=LONG):
+    """The origin has a body of this length on each of these paths, and the program keeps them, and has them in its memory no
+    more: it asked for nothing yet."""
+    bodies = {path: noise(length, 97 * number) for number, path in enumerate(paths)}
+    for path, body in bodies.items():
+        serve_whole(proxy, path, body)
+        equal(body_of(said(proxy, path)[0]), body, f"the body of {path}")
+        wait_for_extent(proxy, path, length)
+    proxy.restart()
+    proxy.origin.clear()
+    return bodies
+
+
+@case
+def files_that_go_away_beneath_it_are_seen_by_no_client(world):
+    # of each way one file that was read before, and maybe is held open, and one that was not
+    paths = {f"/{number}/{state}": way for number, way in enumerate(WAYS) for state in ("read", "new")}
+    with world.anew(*SMALL_POOL) as proxy:
+        bodies = kept_on_disk(proxy, paths)
+        for path, way in paths.items():
+            if path.endswith("read"):
+                equal(body_of(said(proxy, path, b"Range: bytes=0-99")[0]), bodies[path][:100], f"a part of {path}")
+            WAYS[way](file_of(proxy, path))
+        for time_of in ("first", "second"):
+            for path, way in paths.items():
+                equal(body_of(said(proxy, path)[0]), bodies[path], f"the body of {path}, where {way}, the {time_of} time")
+        proxy.restart()
+        for path, way in paths.items():
+            equal(body_of(said(proxy, path)[0]), bodies[path], f"the body of {path}, where {way}, in the next life")
+
+
+@case
+def a_file_that_goes_away_while_it_is_read_costs_its_reader_nothing(world):
+    ways = ["it is removed", "it is cut in its body"]
+    # more than the system holds for a client that takes little
+    length = 7 * MB
+    with world.anew(*SMALL_POOL) as proxy:
+        bodies = kept_on_disk(proxy, [f"/{number}" for number in range(len(ways))], length)
+        for (path, body), way in zip(bodies.items(), ways):
+            with Client(port=proxy.port) as client:
+                client.socket.setsockopt(socket.SOL_SOCKET, socket.SO_RCVBUF, 4_096)
+                client.say(proxy.last_request(path))
+                client.hear_until(b"\r\n\r\n")
+                front = client.hear(10_000)
+                WAYS[way](file_of(proxy, path))
+                client.socket.setsockopt(socket.SOL_SOCKET, socket.SO_RCVBUF, MB)
+                equal(front + client.hear_all(), body, f"the body of {path}, where {way} while it is read")
+        counts = [len(asked_for(proxy, path)) for path in bodies]
+        # a handle goes on where its name is gone, but not where the bytes are
+        equal(counts, [0, 1], "asks of the origin")
+
+
+@case
+def a_folder_that_is_removed_is_left_with_one_line(world):
+    with world.anew(*SMALL_POOL) as proxy:
+        bodies = kept_on_disk(proxy, [f"/{number}" for number in range(6)])
+        for path, body in bodies.items():
+            equal(body_of(said(proxy, path, b"Range: bytes=0-99")[0]), body[:100], f"a part of {path}")
+        shutil.rmtree(cache_of(proxy))
+        for path, body in bodies.items():
+            equal(body_of(said(proxy, path)[0]), body, f"the body of {path}")
+        time.sleep(2.2)
+        for path, body in bodies.items():
+            equal(body_of(said(proxy, path)[0]), body, f"the body of {path}, which is not kept")
+        equal(proxy.printed(), MOVED, "output and complaints, once")
+        holds(not cache_of(proxy).exists(), "no folder made anew")
+        # the next start makes it
+        proxy.restart()
+        serve_whole(proxy, "/0", bodies["/0"])
+        equal(body_of(said(proxy, "/0")[0]), bodies["/0"], "the body")
+        wait_for_extent(proxy, "/0", LONG)
