@@ -1,5 +1,5 @@
 -- What the law says nothing of: a file that is no entry; and what it refuses: kept bytes that nobody sent.
-use Rattle.std.proofs.Common.{◌≡◌, refl, ℕ, List, [], ◌∷◌, codes, Some, None, subst}
+use Rattle.std.proofs.Common.{◌≡◌, refl, ℕ, [], ◌∷◌, codes, Some, subst}
 use Rattle.pp_world.specs.Files.{Files, file_of}
 use Rattle.pp_law.proofs.OnLiterals.{pp_law_on_literals}
 use Rattle.pp_law.specs.Entries.{entry_in, entries_in}
