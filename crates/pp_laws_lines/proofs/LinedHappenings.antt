@@ -22,6 +22,7 @@ use Rattle.pp_law.specs.Phases.{come_to, due_victim, ending, is_awaiting}
 use Rattle.pp_law.specs.Replies.{said_by}
 use Rattle.pp_law.specs.Served.{accepts}
 use Rattle.pp_law.specs.State.{State, Conn, Exchange, Instance, IsRooted, IsListed, IsListening, IsWoken, Handling, Evicting, Keeping, Connecting, DecidingAgain, Owed, ReadOf, WriteTo}
+use Rattle.pp_law.specs.Table.{forget}
 use Rattle.pp_laws.specs.Numbers.{AreRising}
 use Rattle.pp_laws.specs.Runs.{IsIn}
 use Rattle.pp_laws.proofs.Lists.{in_find}

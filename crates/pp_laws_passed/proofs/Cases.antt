@@ -7,63 +7,64 @@ use Rattle.pp_law.specs.Connections.{Pause, AllPlaced, WaitsDial, WaitsDrop}
 use Rattle.pp_law.specs.Lists.{Bytes}
 use Rattle.pp_law.specs.Requests.{Front, Parsed, NoHeadYet, NoHead as NoFront, IsRequest}
 use Rattle.pp_law.specs.State.{State, Aim, Through, Own, Filling, Exchange, Entry, Todo, Do, Enter, Acknowledge}
-use Rattle.pp_laws_passed.proofs.Fed.{Fed}
+use Rattle.pp_laws_passed.proofs.Fed.{Fed, Tale}
 
-pub when : (t : Bool) {x y : State} → Fed x → Fed y → Fed (elim t as (λ c. State) [ true ↦ x | false ↦ y ])
-when true hx hy = hx
-when false hx hy = hy
+module _ {tale : Tale} where
+  pub when : (t : Bool) {x y : State} → Fed tale x → Fed tale y → Fed tale (elim t as (λ c. State) [ true ↦ x | false ↦ y ])
+  when true hx hy = hx
+  when false hx hy = hy
 
--- where the test's answer is of use
-pub when_so : (t : Bool) {x y : State} → (t ≡ true → Fed x) → (t ≡ false → Fed y) → Fed (elim t as (λ c. State) [ true ↦ x | false ↦ y ])
-when_so true hx hy = hx refl
-when_so false hx hy = hy refl
+  -- where the test's answer is of use
+  pub when_so : (t : Bool) {x y : State} → (t ≡ true → Fed tale x) → (t ≡ false → Fed tale y) → Fed tale (elim t as (λ c. State) [ true ↦ x | false ↦ y ])
+  when_so true hx hy = hx refl
+  when_so false hx hy = hy refl
 
-pub each_of : {A : Type 0} (o : Option A) {x : State} {y : A → State} → Fed x → ((a : A) → Fed (y a)) → Fed (elim o as (λ c. State) [ None ↦ x | Some a ↦ y a ])
-each_of None hx hy = hx
-each_of (Some a) hx hy = hy a
+  pub each_of : {A : Type 0} (o : Option A) {x : State} {y : A → State} → Fed tale x → ((a : A) → Fed tale (y a)) → Fed tale (elim o as (λ c. State) [ None ↦ x | Some a ↦ y a ])
+  each_of None hx hy = hx
+  each_of (Some a) hx hy = hy a
 
--- where it is of use which one is there
-pub each_so : {A : Type 0} (o : Option A) {x : State} {y : A → State} → (o ≡ None → Fed x) → ((a : A) → o ≡ Some a → Fed (y a)) → Fed (elim o as (λ c. State) [ None ↦ x | Some a ↦ y a ])
-each_so None hx hy = hx refl
-each_so (Some a) hx hy = hy a refl
+  -- where it is of use which one is there
+  pub each_so : {A : Type 0} (o : Option A) {x : State} {y : A → State} → (o ≡ None → Fed tale x) → ((a : A) → o ≡ Some a → Fed tale (y a)) → Fed tale (elim o as (λ c. State) [ None ↦ x | Some a ↦ y a ])
+  each_so None hx hy = hx refl
+  each_so (Some a) hx hy = hy a refl
 
-pub by_aim_of : (a : Aim) {x y : State} {z : Version → ℕ → ℕ → State} → Fed x → Fed y → ((v : Version) (from to : ℕ) → Fed (z v from to))
-    → Fed (elim a as (λ c. State) [ Through ↦ x | Own ↦ y | Filling v from to ↦ z v from to ])
-by_aim_of Through hx hy hz = hx
-by_aim_of Own hx hy hz = hy
-by_aim_of (Filling v from to) hx hy hz = hz v from to
+  pub by_aim_of : (a : Aim) {x y : State} {z : Version → ℕ → ℕ → State} → Fed tale x → Fed tale y → ((v : Version) (from to : ℕ) → Fed tale (z v from to))
+      → Fed tale (elim a as (λ c. State) [ Through ↦ x | Own ↦ y | Filling v from to ↦ z v from to ])
+  by_aim_of Through hx hy hz = hx
+  by_aim_of Own hx hy hz = hy
+  by_aim_of (Filling v from to) hx hy hz = hz v from to
 
-pub by_pause : (p : Pause) {x : State} {y : ℕ → Exchange → State} {z : Exchange → State} → Fed x → ((k : ℕ) (e : Exchange) → Fed (y k e)) → ((e : Exchange) → Fed (z e))
-    → Fed (elim p as (λ c. State) [ AllPlaced ↦ x | WaitsDrop k e ↦ y k e | WaitsDial e ↦ z e ])
-by_pause AllPlaced hx hy hz = hx
-by_pause (WaitsDrop k e) hx hy hz = hy k e
-by_pause (WaitsDial e) hx hy hz = hz e
+  pub by_pause : (p : Pause) {x : State} {y : ℕ → Exchange → State} {z : Exchange → State} → Fed tale x → ((k : ℕ) (e : Exchange) → Fed tale (y k e)) → ((e : Exchange) → Fed tale (z e))
+      → Fed tale (elim p as (λ c. State) [ AllPlaced ↦ x | WaitsDrop k e ↦ y k e | WaitsDial e ↦ z e ])
+  by_pause AllPlaced hx hy hz = hx
+  by_pause (WaitsDrop k e) hx hy hz = hy k e
+  by_pause (WaitsDial e) hx hy hz = hz e
 
-pub by_outcome : (o : Outcome) {x : Bytes → State} {y z : State} → ((rest : Bytes) → Fed (x rest)) → Fed y → Fed z
-    → Fed (elim o as (λ c. State) [ Done rest ↦ x rest | Going ↦ y | Bad ↦ z ])
-by_outcome (Done rest) hx hy hz = hx rest
-by_outcome Going hx hy hz = hy
-by_outcome Bad hx hy hz = hz
+  pub by_outcome : (o : Outcome) {x : Bytes → State} {y z : State} → ((rest : Bytes) → Fed tale (x rest)) → Fed tale y → Fed tale z
+      → Fed tale (elim o as (λ c. State) [ Done rest ↦ x rest | Going ↦ y | Bad ↦ z ])
+  by_outcome (Done rest) hx hy hz = hx rest
+  by_outcome Going hx hy hz = hy
+  by_outcome Bad hx hy hz = hz
 
-pub by_front : (f : Front) {x : State} {y : ℕ → State} {z : Parsed → State} → Fed x → ((n : ℕ) → Fed (y n)) → ((r : Parsed) → Fed (z r))
-    → Fed (elim f as (λ c. State) [ NoHeadYet ↦ x | NoFront n ↦ y n | IsRequest r ↦ z r ])
-by_front NoHeadYet hx hy hz = hx
-by_front (NoFront n) hx hy hz = hy n
-by_front (IsRequest r) hx hy hz = hz r
+  pub by_front : (f : Front) {x : State} {y : ℕ → State} {z : Parsed → State} → Fed tale x → ((n : ℕ) → Fed tale (y n)) → ((r : Parsed) → Fed tale (z r))
+      → Fed tale (elim f as (λ c. State) [ NoHeadYet ↦ x | NoFront n ↦ y n | IsRequest r ↦ z r ])
+  by_front NoHeadYet hx hy hz = hx
+  by_front (NoFront n) hx hy hz = hy n
+  by_front (IsRequest r) hx hy hz = hz r
 
-pub by_result : {A E : Type 0} (r : Result A E) {x : A → State} {y : E → State} → ((a : A) → Fed (x a)) → ((e : E) → Fed (y e))
-    → Fed (elim r as (λ c. State) [ Ok a ↦ x a | Err e ↦ y e ])
-by_result (Ok a) hx hy = hx a
-by_result (Err e) hx hy = hy e
+  pub by_result : {A E : Type 0} (r : Result A E) {x : A → State} {y : E → State} → ((a : A) → Fed tale (x a)) → ((e : E) → Fed tale (y e))
+      → Fed tale (elim r as (λ c. State) [ Ok a ↦ x a | Err e ↦ y e ])
+  by_result (Ok a) hx hy = hx a
+  by_result (Err e) hx hy = hy e
 
-pub by_list : {A : Type 0} (xs : List A) {x : State} {y : A → List A → State} → Fed x → ((a : A) (as_ : List A) → Fed (y a as_))
-    → Fed (elim xs as (λ c. State) [ [] ↦ x | a ∷ as_ ↦ y a as_ ])
-by_list [] hx hy = hx
-by_list (a ∷ as_) hx hy = hy a as_
+  pub by_list : {A : Type 0} (xs : List A) {x : State} {y : A → List A → State} → Fed tale x → ((a : A) (as_ : List A) → Fed tale (y a as_))
+      → Fed tale (elim xs as (λ c. State) [ [] ↦ x | a ∷ as_ ↦ y a as_ ])
+  by_list [] hx hy = hx
+  by_list (a ∷ as_) hx hy = hy a as_
 
-pub by_todo : (t : Todo) {x : DiskOp → State} {y : Entry → State} {z : Bytes → Bytes → ℕ → ℕ → State} → ((op : DiskOp) → Fed (x op)) → ((e : Entry) → Fed (y e))
-    → ((key tag : Bytes) (n extent : ℕ) → Fed (z key tag n extent))
-    → Fed (elim t as (λ c. State) [ Do op ↦ x op | Enter e ↦ y e | Acknowledge key tag n extent ↦ z key tag n extent ])
-by_todo (Do op) hx hy hz = hx op
-by_todo (Enter e) hx hy hz = hy e
-by_todo (Acknowledge key tag n extent) hx hy hz = hz key tag n extent
+  pub by_todo : (t : Todo) {x : DiskOp → State} {y : Entry → State} {z : Bytes → Bytes → ℕ → ℕ → State} → ((op : DiskOp) → Fed tale (x op)) → ((e : Entry) → Fed tale (y e))
+      → ((key tag : Bytes) (n extent : ℕ) → Fed tale (z key tag n extent))
+      → Fed tale (elim t as (λ c. State) [ Do op ↦ x op | Enter e ↦ y e | Acknowledge key tag n extent ↦ z key tag n extent ])
+  by_todo (Do op) hx hy hz = hx op
+  by_todo (Enter e) hx hy hz = hy e
+  by_todo (Acknowledge key tag n extent) hx hy hz = hz key tag n extent

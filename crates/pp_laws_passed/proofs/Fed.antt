@@ -1,14 +1,18 @@
 -- What is passed to a client comes from one response: what keeps it so.
 use Rattle.std.proofs.Common.{◌≡◌, ◌⊎◌, refl, ℕ, ◌+◌, ◌<◌, Bool, true, false, not, ◌==◌, ◌&&◌, List, [], ◌∷◌, ◌++◌, map, filter, Option, Some, None, inl, inr, sym, subst, ap, ◌∙◌, arith}
 use Rattle.pp_law.specs.Connections.{is_for}
-use Rattle.pp_law.specs.Lists.{change, is_this}
-use Rattle.pp_law.specs.Stages.{is_headed, is_passing, passed_of}
-use Rattle.pp_law.specs.State.{State, Answer, Client, Stage, Undecided, Waiting, Passing, Answering, Conn, Exchange, Passed}
+use Rattle.std.specs.List.{concat}
+use Rattle.pp_law.specs.Lists.{Bytes, change, is_some_with, is_this}
+use Rattle.pp_law.specs.Responses.{payload_of}
+use Rattle.pp_pass.specs.Pipe.{Pipe}
+use Rattle.pp_reply.specs.Texts.{passed_head}
+use Rattle.pp_law.specs.Stages.{is_begun, is_headed, is_passing, passed_of}
+use Rattle.pp_law.specs.State.{State, Answer, Client, Stage, Undecided, Waiting, Passing, Answering, Conn, Exchange, Passed, Reply}
 use Rattle.pp_laws.specs.Numbers.{AreRising}
 use Rattle.pp_laws.specs.Runs.{IsIn}
 use Rattle.pp_laws.proofs.Lists.{Changed, From, in_change, in_filter, in_map, in_push, other, rise_change, rise_filter, rise_map, rise_push, same}
 use Rattle.pp_laws.proofs.Sound.{client_number, exchange_number, first_of, source_in}
-use Rattle.pp_laws_passed.specs.Passed.{is_in_passed}
+use Rattle.pp_laws_passed.specs.Passed.{IsShown, all_spelled, head_left, is_in_passed, to_say}
 use Rattle.pp_laws_passed.proofs.Same.{PartsOf, Same, facts_of as parts_of}
 
 -- in the midst of a reply that is not passed
@@ -18,15 +22,40 @@ is_in_other Waiting = false
 is_in_other Passing = false
 is_in_other (Answering r) = r.has_begun && not (is_passing r.decision)
 
--- the exchange is the first of the line, and the response that comes to it is the one that is passed
-pub record Feeds (k : Conn) (e : Exchange) (p : Passed) : Type 0 where
+-- who is in no reply is in none that is passed
+pub not_passed : (c : Client) → is_begun c ≡ false → is_in_passed c.stage ≡ false
+not_passed c free = by c.stage free
+  where
+    by : (stage : Stage) → is_some_with (λ r. r.has_begun) (elim stage as (λ y. Option Reply) [ Undecided ↦ None | Waiting ↦ None | Passing ↦ None | Answering r ↦ Some r ]) ≡ false → is_in_passed stage ≡ false
+    by Undecided off = refl
+    by Waiting off = refl
+    by Passing off = refl
+    by (Answering r) off = ap (λ b. b && is_passing r.decision) off
+
+-- what was said to each client; and the exchange to whose response more just came, if that is not yet noted of its connection
+pub record Tale : Type 0 where
+  pub said : ℕ → Bytes
+  pub but : Option ℕ
+
+-- these data went into the pipe, piece by piece. Nothing of them was said where the reply has not begun
+pub record Relays (said : Bytes) (c : Client) (p : Passed) (content : Bytes) : Type 0 where
+  pub pieces : List Bytes
+  pub all : concat pieces ≡ content
+  pub full : (piece : Bytes) → IsIn piece pieces → piece ≡ [] → ⊥
+  pub waiting : is_in_passed c.stage ≡ false → p.pipe.bytes ≡ all_spelled p.pipe.is_coded pieces
+  pub shown : is_in_passed c.stage ≡ true → IsShown said (to_say c) p (all_spelled p.pipe.is_coded pieces)
+
+-- the exchange is the first of the line, the response that comes to it is the one that is passed, and all of its data that came went
+-- into the pipe
+pub record Feeds (tale : Tale) (k : Conn) (e : Exchange) (c : Client) (p : Passed) : Type 0 where
   pub front : first_of k.line ≡ Some e.number
   pub answer : Answer
   pub is : k.answer ≡ Some answer
   pub head : p.head ≡ answer.head
   pub rule : p.rule ≡ answer.rule
+  pub relayed : (tale.but ≡ Some e.number → ⊥) → Relays (tale.said c.number) c p (payload_of answer)
 
-pub record Facts (clients : List Client) (exchanges : List Exchange) (conns : List Conn) (next_exchange : ℕ) : Type 0 where
+pub record Facts (tale : Tale) (clients : List Client) (exchanges : List Exchange) (conns : List Conn) (next_exchange : ℕ) : Type 0 where
   pub apart : AreRising (map client_number clients)
   pub rise : AreRising (map exchange_number exchanges)
   pub given : (e : Exchange) → IsIn e exchanges → e.number < next_exchange
@@ -38,33 +67,35 @@ pub record Facts (clients : List Client) (exchanges : List Exchange) (conns : Li
   pub sourced : (c : Client) (id : ℕ) → IsIn c clients → is_in_passed c.stage ≡ true → source_in c.stage ≡ Some id → ⊥
   -- who is in the midst of a reply that is passed waits for no head
   pub begun : (e : Exchange) (c : Client) → IsIn e exchanges → IsIn c clients → is_for e c ≡ true → is_in_passed c.stage ≡ true → is_headed e ≡ true
-  pub fed_by : (k : Conn) (e : Exchange) (c : Client) (p : Passed) → IsIn k conns → IsIn e exchanges → IsIn e.number k.line → is_headed e ≡ true → IsIn c clients → is_for e c ≡ true → is_in_other c.stage ≡ false → passed_of c ≡ Some p → Feeds k e p
+  pub fed_by : (k : Conn) (e : Exchange) (c : Client) (p : Passed) → IsIn k conns → IsIn e exchanges → IsIn e.number k.line → is_headed e ≡ true → IsIn c clients → is_for e c ≡ true → is_in_other c.stage ≡ false → passed_of c ≡ Some p → Feeds tale k e c p
 
-abbrev pub FactsOf : State → Type 0
-FactsOf s = Facts s.clients s.exchanges s.conns s.next_exchange
+abbrev pub FactsOf : Tale → State → Type 0
+FactsOf tale s = Facts tale s.clients s.exchanges s.conns s.next_exchange
 
-pub data Fed (s : State) : Type 0 where
-  fed : FactsOf s → Fed s
+pub data Fed (tale : Tale) (s : State) : Type 0 where
+  fed : FactsOf tale s → Fed tale s
 
-pub facts_of : {s : State} → Fed s → FactsOf s
+pub facts_of : {tale : Tale} {s : State} → Fed tale s → FactsOf tale s
 facts_of (fed facts) = facts
 
 -- ---- where each comes from
 
-pub record SameHead (p q : Passed) : Type 0 where
+-- the same response, and what is to be said of it
+pub record SameHead (tale later : Tale) (d c : Client) (p q : Passed) : Type 0 where
   pub head : p.head ≡ q.head
   pub rule : p.rule ≡ q.rule
+  pub relays : (content : Bytes) → Relays (tale.said c.number) c q content → Relays (later.said d.number) d p content
 
-pub record SameClient (d c : Client) : Type 0 where
+pub record SameClient (tale later : Tale) (d c : Client) : Type 0 where
   pub number : d.number ≡ c.number
   pub passing : is_in_passed d.stage ≡ true → is_in_passed c.stage ≡ true
   pub source : is_in_passed d.stage ≡ true → (id : ℕ) → source_in d.stage ≡ Some id → source_in c.stage ≡ Some id
-  pub passed : (p : Passed) → is_in_other d.stage ≡ false → passed_of d ≡ Some p → (q : Passed) × (is_in_other c.stage ≡ false) × (passed_of c ≡ Some q) × SameHead p q
+  pub passed : (p : Passed) → is_in_other d.stage ≡ false → passed_of d ≡ Some p → (q : Passed) × (is_in_other c.stage ≡ false) × (passed_of c ≡ Some q) × SameHead tale later d c p q
 
-pub record FromClient (clients : List Client) (d : Client) : Type 0 where
+pub record FromClient (tale later : Tale) (clients : List Client) (d : Client) : Type 0 where
   pub was : Client
   pub there : IsIn was clients
-  pub is : SameClient d was
+  pub is : SameClient tale later d was
 
 pub record SameExchange (e d : Exchange) : Type 0 where
   pub number : e.number ≡ d.number
@@ -83,13 +114,40 @@ pub record FromConn (conns : List Conn) (k : Conn) : Type 0 where
   pub there : IsIn was conns
   pub line : (n : ℕ) → IsIn n k.line → IsIn n was.line
   pub front : (n : ℕ) → IsIn n k.line → first_of was.line ≡ Some n → first_of k.line ≡ Some n
-  pub answer : (n : ℕ) (a : Answer) → IsIn n k.line → was.answer ≡ Some a → (b : Answer) × (k.answer ≡ Some b) × (b.head ≡ a.head) × (b.rule ≡ a.rule)
+  pub answer : (n : ℕ) (a : Answer) → IsIn n k.line → was.answer ≡ Some a → k.answer ≡ Some a
 
-pub client_same : (c : Client) → SameClient c c
-client_same c = record { number = refl; passing = λ is. is; source = λ on id is. is; passed = λ p off is. (p, off, is, record { head = refl; rule = refl }) }
+-- where what was said, and behind it what is left to say, is as it was
+pub relays_by : (was now : Bytes) (d c : Client) (p q : Passed) → is_in_passed d.stage ≡ is_in_passed c.stage → p.head ≡ q.head → p.rule ≡ q.rule → p.pipe.is_coded ≡ q.pipe.is_coded → (is_in_passed c.stage ≡ false → p.pipe.bytes ≡ q.pipe.bytes)
+    → (is_in_passed c.stage ≡ true → now ++ (to_say d ++ p.pipe.bytes) ≡ was ++ (to_say c ++ q.pipe.bytes)) → (content : Bytes) → Relays was c q content → Relays now d p content
+relays_by was now d c p q on head rule coded bytes stream content r = record {
+  pieces = r.pieces;
+  all = r.all;
+  full = r.full;
+  waiting = λ off. let off_it : is_in_passed c.stage ≡ false = sym on ∙ off in bytes off_it ∙ r.waiting off_it ∙ ap (λ b. all_spelled b r.pieces) (sym coded);
+  shown = λ is. let on_it : is_in_passed c.stage ≡ true = sym on ∙ is in let w = r.shown on_it in record {
+    earlier = w.earlier;
+    head = w.head;
+    minor = w.minor;
+    is_head = w.is_head;
+    name = w.name;
+    keeps = w.keeps;
+    spelled = w.spelled ∙ ap (λ h. passed_head h q.rule w.minor w.is_head w.name w.keeps) (sym head) ∙ ap (λ x. passed_head p.head x w.minor w.is_head w.name w.keeps) (sym rule);
+    stream = stream on_it ∙ w.stream ∙ ap (λ b. w.earlier ++ (w.head ++ all_spelled b r.pieces)) (sym coded);
+  };
+}
+
+-- where nothing changed that this speaks of
+pub relays_on : (was now : Bytes) (d c : Client) (p q : Passed) → now ≡ was → is_in_passed d.stage ≡ is_in_passed c.stage → (is_in_passed c.stage ≡ true → to_say d ≡ to_say c) → p.head ≡ q.head → p.rule ≡ q.rule → p.pipe ≡ q.pipe
+    → (content : Bytes) → Relays was c q content → Relays now d p content
+relays_on was now d c p q said on left head rule pipe =
+    relays_by was now d c p q on head rule (ap (λ (x : Pipe). x.is_coded) pipe) (λ off. ap (λ (x : Pipe). x.bytes) pipe)
+    (λ is. ap (λ (xs : Bytes). xs ++ (to_say d ++ p.pipe.bytes)) said ∙ ap (λ (xs : Bytes). was ++ (xs ++ p.pipe.bytes)) (left is) ∙ ap (λ (x : Pipe). was ++ (to_say c ++ x.bytes)) pipe)
+
+pub client_same : {tale : Tale} (c : Client) → SameClient tale tale c c
+client_same c = record { number = refl; passing = λ is. is; source = λ on id is. is; passed = λ p off is. (p, off, is, record { head = refl; rule = refl; relays = λ content r. r }) }
 
 -- one that is told nothing, and is in no reply that is passed
-pub none_passed : (d c : Client) → d.number ≡ c.number → is_in_passed d.stage ≡ false → source_in d.stage ≡ None → passed_of d ≡ None → SameClient d c
+pub none_passed : {tale later : Tale} (d c : Client) → d.number ≡ c.number → is_in_passed d.stage ≡ false → source_in d.stage ≡ None → passed_of d ≡ None → SameClient tale later d c
 none_passed d c number off sourceless none = record {
   number = number;
   passing = λ on. let both : false ≡ true = sym off ∙ on in absurd (cc both);
@@ -97,19 +155,31 @@ none_passed d c number off sourceless none = record {
   passed = λ p isnt is. let both : None ≡ Some p = sym none ∙ is in absurd (cc both);
 }
 
-pub parts_same : (d c : Client) → d.number ≡ c.number → d.stage ≡ c.stage → d.brought ≡ c.brought → SameClient d c
-parts_same d c number stage brought = record {
+pub parts_across : {tale later : Tale} (d c : Client) → d.number ≡ c.number → d.stage ≡ c.stage → d.brought ≡ c.brought → d.interim_left ≡ c.interim_left → later.said d.number ≡ tale.said c.number → SameClient tale later d c
+parts_across {tale} {later} d c number stage brought left said = record {
   number = number;
   passing = λ is. sym (ap is_in_passed stage) ∙ is;
   source = λ on id is. sym (ap source_in stage) ∙ is;
-  passed = λ p off is. (p, ap is_in_other (sym stage) ∙ off, sym (ap (λ b. passed_of (record c { brought = b })) brought) ∙ is, record { head = refl; rule = refl });
+  passed = λ p off is. (
+    p,
+    ap is_in_other (sym stage) ∙ off,
+    sym (ap (λ b. passed_of (record c { brought = b })) brought) ∙ is,
+    record {
+      head = refl;
+      rule = refl;
+      relays = relays_on (tale.said c.number) (later.said d.number) d c p p said (ap is_in_passed stage) (λ on. ap (λ (xs : Bytes). xs ++ head_left d.stage) left ∙ ap (λ st. c.interim_left ++ head_left st) stage) refl refl refl;
+    },
+  );
 }
+
+pub parts_same : {tale : Tale} (d c : Client) → d.number ≡ c.number → d.stage ≡ c.stage → d.brought ≡ c.brought → d.interim_left ≡ c.interim_left → SameClient tale tale d c
+parts_same {tale} d c number stage brought left = parts_across d c number stage brought left (ap tale.said number)
 
 pub exchange_same : (e : Exchange) → SameExchange e e
 exchange_same e = record { number = refl; asker = λ n is. is; headed = refl; place = λ is none. none }
 
 pub conn_same : (conns : List Conn) (k : Conn) → IsIn k conns → FromConn conns k
-conn_same conns k i = record { was = k; there = i; line = λ n l. l; front = λ n l is. is; answer = λ n a l is. (a, is, refl, refl) }
+conn_same conns k i = record { was = k; there = i; line = λ n l. l; front = λ n l is. is; answer = λ n a l is. is }
 
 pub for_from : (e w : Exchange) (d c : Client) → ((n : ℕ) → e.asker ≡ Some n → w.asker ≡ Some n) → d.number ≡ c.number → is_for e d ≡ true → is_for w c ≡ true
 for_from e w d c asker number is = by e.asker refl is
@@ -119,9 +189,9 @@ for_from e w d c asker number is = by e.asker refl is
     by (Some m) eq h = ap (λ a. is_this c.number a) (asker m eq) ∙ ap (λ k. m == k) (sym number) ∙ h
 
 -- all comes from what was there
-pub facts_from : (o s : State) → AreRising (map client_number s.clients) → AreRising (map exchange_number s.exchanges) → o.next_exchange ≡ s.next_exchange → ((d : Client) → IsIn d s.clients → FromClient o.clients d) → ((e : Exchange) → IsIn e s.exchanges → FromExchange o.exchanges e)
-    → ((k : Conn) → IsIn k s.conns → FromConn o.conns k) → FactsOf o → FactsOf s
-facts_from o s apart rise next clients exchanges conns h = record {
+pub facts_across : {tale later : Tale} (o s : State) → ((n : ℕ) → (later.but ≡ Some n → ⊥) → tale.but ≡ Some n → ⊥) → AreRising (map client_number s.clients) → AreRising (map exchange_number s.exchanges) → o.next_exchange ≡ s.next_exchange
+    → ((d : Client) → IsIn d s.clients → FromClient tale later o.clients d) → ((e : Exchange) → IsIn e s.exchanges → FromExchange o.exchanges e) → ((k : Conn) → IsIn k s.conns → FromConn o.conns k) → FactsOf tale o → FactsOf later s
+facts_across {tale} {later} o s but apart rise next clients exchanges conns h = record {
   apart = apart;
   rise = rise;
   given = λ e i. let f = exchanges e i in subst (λ n. e.number < n) next (subst (λ n. n < o.next_exchange) (sym f.is.number) (h.given f.was f.there));
@@ -131,22 +201,25 @@ facts_from o s apart rise next clients exchanges conns h = record {
   begun = λ e c i j hit on. let f = exchanges e i in let g = clients c j in f.is.headed ∙ h.begun f.was g.was f.there g.there (for_from e f.was c g.was f.is.asker g.is.number hit) (g.is.passing on);
   fed_by = λ k e c p l i m is j hit off has.
       let f = exchanges e i in let g = clients c j in let w = conns k l in let q = g.is.passed p off has in
-      by k e p f w q.0 q.3 m (h.fed_by w.was f.was g.was q.0 w.there f.there (subst (λ n. IsIn n w.was.line) f.is.number (w.line e.number m)) (sym f.is.headed ∙ is) g.there (for_from e f.was c g.was f.is.asker g.is.number hit) q.1 q.2);
+      by k e c g.was p f w q.0 q.3 m (h.fed_by w.was f.was g.was q.0 w.there f.there (subst (λ n. IsIn n w.was.line) f.is.number (w.line e.number m)) (sym f.is.headed ∙ is) g.there (for_from e f.was c g.was f.is.asker g.is.number hit) q.1 q.2);
 }
   where
-    by : (k : Conn) (e : Exchange) (p : Passed) (f : FromExchange o.exchanges e) (w : FromConn o.conns k) (q : Passed) → SameHead p q → IsIn e.number k.line → Feeds w.was f.was q → Feeds k e p
-    by k e p f w q heads m v =
-        let a = w.answer e.number v.answer m v.is in
-        record {
-          front = w.front e.number m (v.front ∙ ap (λ n. Some n) (sym f.is.number));
-          answer = a.0;
-          is = a.1;
-          head = heads.head ∙ v.head ∙ sym a.2;
-          rule = heads.rule ∙ v.rule ∙ sym a.3;
-        }
+    by : (k : Conn) (e : Exchange) (c was : Client) (p : Passed) (f : FromExchange o.exchanges e) (w : FromConn o.conns k) (q : Passed) → SameHead tale later c was p q → IsIn e.number k.line → Feeds tale w.was f.was was q → Feeds later k e c p
+    by k e c was p f w q heads m v = record {
+      front = w.front e.number m (v.front ∙ ap (λ n. Some n) (sym f.is.number));
+      answer = v.answer;
+      is = w.answer e.number v.answer m v.is;
+      head = heads.head ∙ v.head;
+      rule = heads.rule ∙ v.rule;
+      relayed = λ isnt. heads.relays (payload_of v.answer) (v.relayed (λ so. but e.number isnt (so ∙ ap (λ n. Some n) (sym f.is.number))));
+    }
 
-pub itself_client : (s : State) (d : Client) → IsIn d s.clients → FromClient s.clients d
-itself_client s d i = record { was = d; there = i; is = client_same d }
+pub facts_from : {tale : Tale} (o s : State) → AreRising (map client_number s.clients) → AreRising (map exchange_number s.exchanges) → o.next_exchange ≡ s.next_exchange → ((d : Client) → IsIn d s.clients → FromClient tale tale o.clients d)
+    → ((e : Exchange) → IsIn e s.exchanges → FromExchange o.exchanges e) → ((k : Conn) → IsIn k s.conns → FromConn o.conns k) → FactsOf tale o → FactsOf tale s
+facts_from o s apart rise next clients exchanges conns h = facts_across o s (λ n isnt. isnt) apart rise next clients exchanges conns h
+
+pub itself_client : {tale : Tale} (s : State) (d : Client) → IsIn d s.clients → FromClient tale tale s.clients d
+itself_client {tale} s d i = record { was = d; there = i; is = client_same d }
 
 pub itself_exchange : (s : State) (e : Exchange) → IsIn e s.exchanges → FromExchange s.exchanges e
 itself_exchange s e i = record { was = e; there = i; is = exchange_same e }
@@ -154,8 +227,8 @@ itself_exchange s e i = record { was = e; there = i; is = exchange_same e }
 pub itself_conn : (s : State) (k : Conn) → IsIn k s.conns → FromConn s.conns k
 itself_conn s k i = conn_same s.conns k i
 
-pub still : {o s : State} → Same o s → Fed o → Fed s
-still {o} {s} same_ h = fed (facts_from o s (subst (λ cs. AreRising (map client_number cs)) (sym p.clients_same) (facts_of h).apart) (subst (λ es. AreRising (map exchange_number es)) (sym p.exchanges_same) (facts_of h).rise) (sym p.next_same)
+pub still : {tale : Tale} {o s : State} → Same o s → Fed tale o → Fed tale s
+still {tale} {o} {s} same_ h = fed (facts_from o s (subst (λ cs. AreRising (map client_number cs)) (sym p.clients_same) (facts_of h).apart) (subst (λ es. AreRising (map exchange_number es)) (sym p.exchanges_same) (facts_of h).rise) (sym p.next_same)
     (λ d i. itself_client o d (subst (λ cs. IsIn d cs) p.clients_same i))
     (λ e i. itself_exchange o e (subst (λ es. IsIn e es) p.exchanges_same i))
     (λ k i. itself_conn o k (subst (λ ks. IsIn k ks) p.conns_same i)) (facts_of h))
@@ -163,49 +236,78 @@ still {o} {s} same_ h = fed (facts_from o s (subst (λ cs. AreRising (map client
     p : PartsOf o s
     p = parts_of same_
 
+-- ---- while more of a response comes
+
+abbrev pub amid : ℕ → Tale → Tale
+amid n tale = record tale { but = Some n }
+
+pub weaker : {tale : Tale} (n : ℕ) (s : State) → tale.but ≡ None → Fed tale s → Fed (amid n tale) s
+weaker {tale} n s none h = fed (facts_across s s (λ m isnt so. let both : None ≡ Some m = sym none ∙ so in cc both) f.apart f.rise refl (λ d i. record { was = d; there = i; is = parts_across d d refl refl refl refl refl }) (itself_exchange s) (itself_conn s) f)
+  where
+    f : FactsOf tale s
+    f = facts_of h
+
+-- the exchange is gone
+pub over_amid : {tale : Tale} (n : ℕ) (s : State) → ((e : Exchange) → IsIn e s.exchanges → e.number ≡ n → ⊥) → Fed (amid n tale) s → Fed tale s
+over_amid {tale} n s gone h = fed (record {
+  apart = f.apart;
+  rise = f.rise;
+  given = f.given;
+  one = f.one;
+  headed = f.headed;
+  sourced = f.sourced;
+  begun = f.begun;
+  fed_by = λ k e c p l i m is j hit off has.
+      let v = f.fed_by k e c p l i m is j hit off has in
+      record { front = v.front; answer = v.answer; is = v.is; head = v.head; rule = v.rule; relayed = λ isnt. v.relayed (λ so. let number : n ≡ e.number = cc in gone e i (sym number)) };
+})
+  where
+    f : FactsOf (amid n tale) s
+    f = facts_of h
+
 -- ---- clients
 
-pub clients_mapped : (s : State) (f : Client → Client) → ((c : Client) → SameClient (f c) c) → FactsOf s → FactsOf (record s { clients = map f s.clients })
-clients_mapped s f kept h = facts_from s (record s { clients = map f s.clients }) (rise_map client_number f (λ c. (kept c).number) s.clients h.apart) h.rise refl (λ d i. by d (in_map f d s.clients i)) (itself_exchange s) (itself_conn s) h
+pub clients_mapped : {tale : Tale} (s : State) (f : Client → Client) → ((c : Client) → SameClient tale tale (f c) c) → FactsOf tale s → FactsOf tale (record s { clients = map f s.clients })
+clients_mapped {tale} s f kept h = facts_from s (record s { clients = map f s.clients }) (rise_map client_number f (λ c. (kept c).number) s.clients h.apart) h.rise refl (λ d i. by d (in_map f d s.clients i)) (itself_exchange s) (itself_conn s) h
   where
-    by : (d : Client) → From f s.clients d → FromClient s.clients d
-    by d r = record { was = r.was; there = r.there; is = subst (λ (x : Client). SameClient x r.was) (sym r.is) (kept r.was) }
+    by : (d : Client) → From f s.clients d → FromClient tale tale s.clients d
+    by d r = record { was = r.was; there = r.there; is = subst (λ (x : Client). SameClient tale tale x r.was) (sym r.is) (kept r.was) }
 
-pub clients_changed_in : (s : State) (p : Client → Bool) (f : Client → Client) → ((c : Client) → (f c).number ≡ c.number) → ((c : Client) → IsIn c s.clients → p c ≡ true → SameClient (f c) c) → FactsOf s → FactsOf (record s { clients = change p f s.clients })
-clients_changed_in s p f number kept h = facts_from s (record s { clients = change p f s.clients }) (rise_change client_number p f number s.clients h.apart) h.rise refl (λ d i. by d (in_change p f d s.clients i)) (itself_exchange s) (itself_conn s) h
+pub clients_changed_in : {tale : Tale} (s : State) (p : Client → Bool) (f : Client → Client) → ((c : Client) → (f c).number ≡ c.number) → ((c : Client) → IsIn c s.clients → p c ≡ true → SameClient tale tale (f c) c) → FactsOf tale s → FactsOf tale (record s { clients = change p f s.clients })
+clients_changed_in {tale} s p f number kept h = facts_from s (record s { clients = change p f s.clients }) (rise_change client_number p f number s.clients h.apart) h.rise refl (λ d i. by d (in_change p f d s.clients i)) (itself_exchange s) (itself_conn s) h
   where
-    by : (d : Client) → Changed p f s.clients d → FromClient s.clients d
+    by : (d : Client) → Changed p f s.clients d → FromClient tale tale s.clients d
     by d (same i isnt) = itself_client s d i
-    by d (other c i hit eq) = record { was = c; there = i; is = subst (λ (x : Client). SameClient x c) (sym eq) (kept c i hit) }
+    by d (other c i hit eq) = record { was = c; there = i; is = subst (λ (x : Client). SameClient tale tale x c) (sym eq) (kept c i hit) }
 
-pub clients_changed : (s : State) (p : Client → Bool) (f : Client → Client) → ((c : Client) → SameClient (f c) c) → FactsOf s → FactsOf (record s { clients = change p f s.clients })
-clients_changed s p f kept h = clients_changed_in s p f (λ c. (kept c).number) (λ c i is. kept c) h
+pub clients_changed : {tale : Tale} (s : State) (p : Client → Bool) (f : Client → Client) → ((c : Client) → SameClient tale tale (f c) c) → FactsOf tale s → FactsOf tale (record s { clients = change p f s.clients })
+clients_changed {tale} s p f kept h = clients_changed_in s p f (λ c. (kept c).number) (λ c i is. kept c) h
 
 -- ---- exchanges
 
-pub exchanges_changed : (s : State) (p : Exchange → Bool) (f : Exchange → Exchange) → ((e : Exchange) → IsIn e s.exchanges → p e ≡ true → SameExchange (f e) e) → ((e : Exchange) → (f e).number ≡ e.number) → FactsOf s → FactsOf (record s { exchanges = change p f s.exchanges })
-exchanges_changed s p f kept number h =
+pub exchanges_changed : {tale : Tale} (s : State) (p : Exchange → Bool) (f : Exchange → Exchange) → ((e : Exchange) → IsIn e s.exchanges → p e ≡ true → SameExchange (f e) e) → ((e : Exchange) → (f e).number ≡ e.number) → FactsOf tale s → FactsOf tale (record s { exchanges = change p f s.exchanges })
+exchanges_changed {tale} s p f kept number h =
     facts_from s (record s { exchanges = change p f s.exchanges }) h.apart (rise_change exchange_number p f number s.exchanges h.rise) refl (itself_client s) (λ e i. by e (in_change p f e s.exchanges i)) (itself_conn s) h
   where
     by : (e : Exchange) → Changed p f s.exchanges e → FromExchange s.exchanges e
     by e (same i isnt) = itself_exchange s e i
     by e (other d i hit eq) = record { was = d; there = i; is = subst (λ (x : Exchange). SameExchange x d) (sym eq) (kept d i hit) }
 
-pub exchanges_mapped : (s : State) (f : Exchange → Exchange) → ((e : Exchange) → SameExchange (f e) e) → FactsOf s → FactsOf (record s { exchanges = map f s.exchanges })
-exchanges_mapped s f kept h =
+pub exchanges_mapped : {tale : Tale} (s : State) (f : Exchange → Exchange) → ((e : Exchange) → SameExchange (f e) e) → FactsOf tale s → FactsOf tale (record s { exchanges = map f s.exchanges })
+exchanges_mapped {tale} s f kept h =
     facts_from s (record s { exchanges = map f s.exchanges }) h.apart (rise_map exchange_number f (λ e. (kept e).number) s.exchanges h.rise) refl (itself_client s) (λ e i. by e (in_map f e s.exchanges i)) (itself_conn s) h
   where
     by : (e : Exchange) → From f s.exchanges e → FromExchange s.exchanges e
     by e r = record { was = r.was; there = r.there; is = subst (λ (x : Exchange). SameExchange x r.was) (sym r.is) (kept r.was) }
 
-pub exchanges_filtered : (s : State) (p : Exchange → Bool) → FactsOf s → FactsOf (record s { exchanges = filter p s.exchanges })
-exchanges_filtered s p h =
+pub exchanges_filtered : {tale : Tale} (s : State) (p : Exchange → Bool) → FactsOf tale s → FactsOf tale (record s { exchanges = filter p s.exchanges })
+exchanges_filtered {tale} s p h =
     facts_from s (record s { exchanges = filter p s.exchanges }) h.apart (rise_filter exchange_number p s.exchanges h.rise) refl (itself_client s) (λ e i. itself_exchange s e (in_filter p e s.exchanges i).0) (itself_conn s) h
 
 -- ---- connections
 
-pub conns_from : (s : State) (conns : List Conn) → ((k : Conn) → IsIn k conns → FromConn s.conns k) → FactsOf s → FactsOf (record s { conns = conns })
-conns_from s conns from h = facts_from s (record s { conns = conns }) h.apart h.rise refl (itself_client s) (itself_exchange s) from h
+pub conns_from : {tale : Tale} (s : State) (conns : List Conn) → ((k : Conn) → IsIn k conns → FromConn s.conns k) → FactsOf tale s → FactsOf tale (record s { conns = conns })
+conns_from {tale} s conns from h = facts_from s (record s { conns = conns }) h.apart h.rise refl (itself_client s) (itself_exchange s) from h
 
 pub record SameConn (k j : Conn) : Type 0 where
   pub line : k.line ≡ j.line
@@ -217,25 +319,25 @@ conn_by conns k j i kept = record {
   there = i;
   line = λ n l. subst (λ ns. IsIn n ns) kept.line l;
   front = λ n l is. ap first_of kept.line ∙ is;
-  answer = λ n a l is. (a, kept.answer ∙ is, refl, refl);
+  answer = λ n a l is. kept.answer ∙ is;
 }
 
-pub conns_changed : (s : State) (p : Conn → Bool) (f : Conn → Conn) → ((k : Conn) → SameConn (f k) k) → FactsOf s → FactsOf (record s { conns = change p f s.conns })
-conns_changed s p f kept h = conns_from s (change p f s.conns) (λ k i. by k (in_change p f k s.conns i)) h
+pub conns_changed : {tale : Tale} (s : State) (p : Conn → Bool) (f : Conn → Conn) → ((k : Conn) → SameConn (f k) k) → FactsOf tale s → FactsOf tale (record s { conns = change p f s.conns })
+conns_changed {tale} s p f kept h = conns_from s (change p f s.conns) (λ k i. by k (in_change p f k s.conns i)) h
   where
     by : (k : Conn) → Changed p f s.conns k → FromConn s.conns k
     by k (same i isnt) = itself_conn s k i
     by k (other j i hit eq) = subst (λ (x : Conn). FromConn s.conns x) (sym eq) (conn_by s.conns (f j) j i (kept j))
 
-pub conns_mapped : (s : State) (f : Conn → Conn) → ((k : Conn) → SameConn (f k) k) → FactsOf s → FactsOf (record s { conns = map f s.conns })
-conns_mapped s f kept h = conns_from s (map f s.conns) (λ k i. by k (in_map f k s.conns i)) h
+pub conns_mapped : {tale : Tale} (s : State) (f : Conn → Conn) → ((k : Conn) → SameConn (f k) k) → FactsOf tale s → FactsOf tale (record s { conns = map f s.conns })
+conns_mapped {tale} s f kept h = conns_from s (map f s.conns) (λ k i. by k (in_map f k s.conns i)) h
   where
     by : (k : Conn) → From f s.conns k → FromConn s.conns k
     by k r = subst (λ (x : Conn). FromConn s.conns x) (sym r.is) (conn_by s.conns (f r.was) r.was r.there (kept r.was))
 
 -- its line is emptied
-pub conns_emptied : (s : State) (p : Conn → Bool) (f : Conn → Conn) → ((k : Conn) → (f k).line ≡ []) → FactsOf s → FactsOf (record s { conns = change p f s.conns })
-conns_emptied s p f none h = conns_from s (change p f s.conns) (λ k i. by k (in_change p f k s.conns i)) h
+pub conns_emptied : {tale : Tale} (s : State) (p : Conn → Bool) (f : Conn → Conn) → ((k : Conn) → (f k).line ≡ []) → FactsOf tale s → FactsOf tale (record s { conns = change p f s.conns })
+conns_emptied {tale} s p f none h = conns_from s (change p f s.conns) (λ k i. by k (in_change p f k s.conns i)) h
   where
     by : (k : Conn) → Changed p f s.conns k → FromConn s.conns k
     by k (same i isnt) = itself_conn s k i
@@ -248,8 +350,8 @@ first_append : (n : ℕ) (ns ms : List ℕ) → first_of ns ≡ Some n → first
 first_append n [] ms is = absurd (cc is)
 first_append n (m ∷ ns) ms is = is
 
-pub conns_pushed : (s : State) (p : Conn → Bool) (n : ℕ) → ((e : Exchange) → IsIn e s.exchanges → e.number ≡ n → is_headed e ≡ false) → FactsOf s → FactsOf (record s { conns = change p (λ k. record k { line = k.line ++ n ∷ [] }) s.conns })
-conns_pushed s p n unheaded h = record {
+pub conns_pushed : {tale : Tale} (s : State) (p : Conn → Bool) (n : ℕ) → ((e : Exchange) → IsIn e s.exchanges → e.number ≡ n → is_headed e ≡ false) → FactsOf tale s → FactsOf tale (record s { conns = change p (λ k. record k { line = k.line ++ n ∷ [] }) s.conns })
+conns_pushed {tale} s p n unheaded h = record {
   apart = h.apart;
   rise = h.rise;
   given = h.given;
@@ -261,19 +363,19 @@ conns_pushed s p n unheaded h = record {
 }
   where
     by : (k : Conn) (e : Exchange) (c : Client) (q : Passed) → Changed p (λ g. record g { line = g.line ++ n ∷ [] }) s.conns k → IsIn e s.exchanges → IsIn e.number k.line → is_headed e ≡ true → IsIn c s.clients → is_for e c ≡ true → is_in_other c.stage ≡ false
-        → passed_of c ≡ Some q → Feeds k e q
+        → passed_of c ≡ Some q → Feeds tale k e c q
     by k e c q (same l isnt) i m is j hit off has = h.fed_by k e c q l i m is j hit off has
     by k e c q (other g l hold eq) i m is j hit off has = at (in_push e.number g.line n (subst (λ (x : Conn). IsIn e.number x.line) eq m))
       where
-        at : IsIn e.number g.line ⊎ (e.number ≡ n) → Feeds k e q
+        at : IsIn e.number g.line ⊎ (e.number ≡ n) → Feeds tale k e c q
         at (inr new) = let both : false ≡ true = sym (unheaded e i new) ∙ is in absurd (cc both)
         at (inl old) =
             let v = h.fed_by g e c q l i old is j hit off has in
-            record { front = ap (λ (x : Conn). first_of x.line) eq ∙ first_append e.number g.line (n ∷ []) v.front; answer = v.answer; is = ap (λ (x : Conn). x.answer) eq ∙ v.is; head = v.head; rule = v.rule }
+            record { front = ap (λ (x : Conn). first_of x.line) eq ∙ first_append e.number g.line (n ∷ []) v.front; answer = v.answer; is = ap (λ (x : Conn). x.answer) eq ∙ v.is; head = v.head; rule = v.rule; relayed = v.relayed }
 
 -- a connection without a line
-pub conn_added : (s : State) (k : Conn) → k.line ≡ [] → FactsOf s → FactsOf (record s { conns = s.conns ++ k ∷ [] })
-conn_added s k none h = record {
+pub conn_added : {tale : Tale} (s : State) (k : Conn) → k.line ≡ [] → FactsOf tale s → FactsOf tale (record s { conns = s.conns ++ k ∷ [] })
+conn_added {tale} s k none h = record {
   apart = h.apart;
   rise = h.rise;
   given = h.given;
@@ -284,14 +386,14 @@ conn_added s k none h = record {
   fed_by = λ j e c q l i m is o hit off has. by j e c q (in_push j s.conns k l) i m is o hit off has;
 }
   where
-    by : (j : Conn) (e : Exchange) (c : Client) (q : Passed) → IsIn j s.conns ⊎ (j ≡ k) → IsIn e s.exchanges → IsIn e.number j.line → is_headed e ≡ true → IsIn c s.clients → is_for e c ≡ true → is_in_other c.stage ≡ false → passed_of c ≡ Some q → Feeds j e q
+    by : (j : Conn) (e : Exchange) (c : Client) (q : Passed) → IsIn j s.conns ⊎ (j ≡ k) → IsIn e s.exchanges → IsIn e.number j.line → is_headed e ≡ true → IsIn c s.clients → is_for e c ≡ true → is_in_other c.stage ≡ false → passed_of c ≡ Some q → Feeds tale j e c q
     by j e c q (inl l) i m is o hit off has = h.fed_by j e c q l i m is o hit off has
     by j e c q (inr eq) i m is o hit off has = absurd (subst (λ ns. IsIn e.number ns) (ap (λ (x : Conn). x.line) eq ∙ none) m)
 
 -- an exchange of which nothing came, the only one of its request
-pub exchange_added : (s : State) (e : Exchange) → e.number ≡ s.next_exchange → is_headed e ≡ false → ((d : Exchange) (n : ℕ) → IsIn d s.exchanges → e.asker ≡ Some n → ¬ (d.asker ≡ Some n)) → ((c : Client) → IsIn c s.clients → is_for e c ≡ true → is_in_passed c.stage ≡ false)
-    → FactsOf s → FactsOf (record s { exchanges = s.exchanges ++ e ∷ []; next_exchange = s.next_exchange + 1 })
-exchange_added s e number unheaded alone waits h = record {
+pub exchange_added : {tale : Tale} (s : State) (e : Exchange) → e.number ≡ s.next_exchange → is_headed e ≡ false → ((d : Exchange) (n : ℕ) → IsIn d s.exchanges → e.asker ≡ Some n → ¬ (d.asker ≡ Some n)) → ((c : Client) → IsIn c s.clients → is_for e c ≡ true → is_in_passed c.stage ≡ false)
+    → FactsOf tale s → FactsOf tale (record s { exchanges = s.exchanges ++ e ∷ []; next_exchange = s.next_exchange + 1 })
+exchange_added {tale} s e number unheaded alone waits h = record {
   apart = h.apart;
   rise = rise_push exchange_number s.exchanges e h.rise (λ d i. subst (λ n. d.number < n) (sym number) (h.given d i));
   given = λ d i. given_by d (in_push d s.exchanges e i);
@@ -323,6 +425,6 @@ exchange_added s e number unheaded alone waits h = record {
     begun_by d c (inl i) j hit on = h.begun d c i j hit on
     begun_by d c (inr eq) j hit on = let both : false ≡ true = sym (waits c j (subst (λ (x : Exchange). is_for x c ≡ true) eq hit)) ∙ on in absurd (cc both)
 
-    fed_at : (k : Conn) (d : Exchange) (c : Client) (p : Passed) → IsIn k s.conns → IsIn d s.exchanges ⊎ (d ≡ e) → IsIn d.number k.line → is_headed d ≡ true → IsIn c s.clients → is_for d c ≡ true → is_in_other c.stage ≡ false → passed_of c ≡ Some p → Feeds k d p
+    fed_at : (k : Conn) (d : Exchange) (c : Client) (p : Passed) → IsIn k s.conns → IsIn d s.exchanges ⊎ (d ≡ e) → IsIn d.number k.line → is_headed d ≡ true → IsIn c s.clients → is_for d c ≡ true → is_in_other c.stage ≡ false → passed_of c ≡ Some p → Feeds tale k d c p
     fed_at k d c p l (inl i) m is j hit off has = h.fed_by k d c p l i m is j hit off has
     fed_at k d c p l (inr eq) m is j hit off has = absurd (no_head d eq is)

@@ -1,5 +1,5 @@
 -- Heads and bodies of responses: a response that is passed is told to the request of its exchange alone, and with its head.
-use Rattle.std.proofs.Common.{◌≡◌, refl, ℕ, zero, suc, ◌+◌, ◌<◌, Bool, true, false, not, ◌==◌, ◌&&◌, ◌||◌, List, [], ◌∷◌, ◌++◌, map, filter, drop, length, Option, Some, None, inl, sym, subst, ap, ◌∙◌}
+use Rattle.std.proofs.Common.{◌≡◌, ◌⊎◌, refl, ℕ, zero, suc, ◌+◌, ◌<◌, Bool, true, false, not, ◌==◌, ◌&&◌, ◌||◌, List, [], ◌∷◌, ◌++◌, map, filter, find, cond, drop, length, Option, Some, None, inl, inr, sym, subst, ap, ◌∙◌}
 use Rattle.std.specs.List.{list_any}
 use Rattle.pp_framing.specs.Body.{Outcome, Done, Going, Bad}
 use Rattle.pp_framing.specs.Framing.{rule_of}
@@ -16,8 +16,8 @@ use Rattle.pp_valid.specs.declared.version.Version.{Version}
 use Rattle.pp_law.specs.Connections.{conn, exchange, is_conn, is_exchange, is_for, front_of_line, on_conn, on_exchange, on_client_of, without_ask, without_row, without_shared_row, is_unfilled, give_up_row, charge, lose_attempt, lost_one, attempts_of, end_exchange, close_conn}
 use Rattle.pp_law.specs.Closing.{left_alone}
 use Rattle.pp_law.specs.Lists.{Bytes, change, is_some_with, is_this}
-use Rattle.pp_law.specs.OwnHeads.{key_of, is_asked_by, tell, use_body, drop_answer, useless, times_for, settle_on, may_refresh, settle_known, known_version, settle, may_join, names_version, settle_unchanged, unchanged, is_of_another, forbids_sharing, not_shared, not_modified, clears_row, is_private_part, is_widened, relayed, relay_head, other_head, other_part, own_head, is_bound, lacks_next, count_elsewhere, part_head, filling_head, version_in, is_wrong_head, join, join_bound, moved_on}
-use Rattle.pp_law.specs.Passing.{pour, passed_by}
+use Rattle.pp_law.specs.OwnHeads.{key_of, is_asked_by, tell, use_body, drop_answer, useless, times_for, settle_on, may_refresh, settle_known, known_version, settle, may_join, names_version, settle_unchanged, unchanged, is_of_another, forbids_sharing, not_shared, not_modified, clears_row, is_private_part, is_widened, relayed, relay_head, other_head, other_part, own_head, is_bound, lacks_next, count_elsewhere, part_head, filling_head, version_in, is_wrong_head, join, join_bound, moved_on, note_sent}
+use Rattle.pp_law.specs.Passing.{pour, poured, passed_by}
 use Rattle.pp_law.specs.Responses.{skipping, skip_body, rested, close_this, may_go_on, finish, bad_response, bad_head, by_aim, asks_head, answer_with, answered_by, end_if_empty, begin_answer, answer_for, head_came, Piece, is_early, with_unread, head_piece, deliver, payload_of, body_piece_of, body_piece, next_piece, got, is_whole_at_end, finish_first, ended}
 use Rattle.pp_law.specs.Stages.{is_begun, is_headed, is_passing, is_pending, on_passed, passed_of, bound_in, bound_of}
 use Rattle.pp_law.specs.State.{State, Aim, Through, Own, Filling, Answer, Body, Pending, Joining, Relaying, Dropping, Brought, Awaited, Useless, Joins, Passes, TooWide, Client, Stage, Undecided, Waiting, Passing, Answering, Reply, Conn, Exchange, Passed, Bound}
@@ -31,33 +31,83 @@ use Rattle.pp_laws.proofs.Sound.{Since, Sound, facts_of as sound_facts, client_n
 use Rattle.pp_laws.proofs.Tests.{first_holds, number_same, same_number}
 use Rattle.pp_laws_passed.specs.Passed.{is_in_passed}
 use Rattle.pp_laws_passed.proofs.Cases.{by_outcome, by_result, each_of, each_so, when}
-use Rattle.pp_laws_passed.proofs.Fed.{Fed, Feeds, FactsOf, FromConn, SameClient, SameExchange, SameHead, clients_changed, conns_from, exchange_same, exchanges_changed, facts_of, fed, is_in_other, itself_conn, parts_same, still}
-use Rattle.pp_laws_passed.proofs.FedAsks.{close_conn-fed, end_exchange-fed, fail-fed, lose_attempt-fed, on_client_of-fed, on_conn-fed, on_passed-fed, without_row-by}
+use Rattle.pp_laws_passed.proofs.Fed.{Fed, Feeds, FactsOf, FromConn, Relays, SameClient, SameExchange, Tale, amid, clients_changed, conns_from, exchange_same, exchanges_changed, facts_of, fed, is_in_other, itself_conn, not_passed, over_amid, parts_same, still, weaker}
+use Rattle.pp_laws_passed.proofs.Delivered.{payload_grown, relays_poured}
+use Rattle.pp_laws.proofs.Payloads.{payload-nothing}
+use Rattle.pp_laws_passed.proofs.FedAsks.{close_conn-fed, end_exchange-fed, fail-fed, lose_attempt-fed, on_client_of-fed, on_conn-fed, without_row-by}
 use Rattle.pp_laws_passed.proofs.Same.{PartsOf, Same, facts_of as parts_of, itself}
 use Rattle.pp_laws_passed.proofs.SameHeads.{cleared_by-same, disproved-same, invalidated-same, join-same, note_sent-same, refresh-same}
 use Rattle.pp_laws_passed.proofs.SameRows.{clear-same, make_row-same}
 
--- ---- with these connections
+-- ---- with these connections, and exchanges that come from these
 
-pub data Over (ks : List Conn) (s : State) : Type 0 where
-  over : Fed s → s.conns ≡ ks → Over ks s
+-- an exchange with this asker comes from one of that number and asker
+pub record Descent (es : List Exchange) (x : Exchange) (n : ℕ) : Type 0 where
+  pub was : Exchange
+  pub there : IsIn was es
+  pub number : x.number ≡ was.number
+  pub asker : was.asker ≡ Some n
 
-over_fed : {ks : List Conn} {s : State} → Over ks s → Fed s
-over_fed (over h conns) = h
+abbrev pub Descend : List Exchange → List Exchange → Type 0
+Descend es xs = (x : Exchange) (n : ℕ) → IsIn x xs → x.asker ≡ Some n → Descent es x n
 
-over_conns : {ks : List Conn} {s : State} → Over ks s → s.conns ≡ ks
-over_conns (over h conns) = conns
+descend_self : (es : List Exchange) → Descend es es
+descend_self es x n i is = record { was = x; there = i; number = refl; asker = is }
 
-over_same : {ks : List Conn} {o s : State} → Same o s → Over ks o → Over ks s
-over_same so (over h conns) = over (still so h) ((parts_of so).conns_same ∙ conns)
+descend_changed : (es xs : List Exchange) (p : Exchange → Bool) (f : Exchange → Exchange) → ((x : Exchange) → (f x).number ≡ x.number) → ((x : Exchange) (n : ℕ) → (f x).asker ≡ Some n → x.asker ≡ Some n) → Descend es xs → Descend es (change p f xs)
+descend_changed es xs p f number asker from x n i is = by (in_change p f x xs i)
+  where
+    by : Changed p f xs x → Descent es x n
+    by (same j isnt) = from x n j is
+    by (other y j hit eq) =
+        let w = from y n j (asker y n (sym (ap (λ (z : Exchange). z.asker) eq) ∙ is)) in
+        record { was = w.was; there = w.there; number = ap exchange_number eq ∙ number y ∙ w.number; asker = w.asker }
 
-over_when : {ks : List Conn} (t : Bool) {x y : State} → Over ks x → Over ks y → Over ks (elim t as (λ c. State) [ true ↦ x | false ↦ y ])
-over_when true hx hy = hx
-over_when false hx hy = hy
+pub record Ground : Type 0 where
+  pub conns : List Conn
+  pub exchanges : List Exchange
 
-over_each : {A : Type 0} {ks : List Conn} (o : Option A) {x : State} {y : A → State} → Over ks x → ((a : A) → Over ks (y a)) → Over ks (elim o as (λ c. State) [ None ↦ x | Some a ↦ y a ])
-over_each None hx hy = hx
-over_each (Some a) hx hy = hy a
+pub data Over (tale : Tale) (ground : Ground) (s : State) : Type 0 where
+  over : Fed tale s → s.conns ≡ ground.conns → Descend ground.exchanges s.exchanges → Over tale ground s
+
+module _ {tale : Tale} where
+  over_fed : {ground : Ground} {s : State} → Over tale ground s → Fed tale s
+  over_fed (over h conns from) = h
+
+  over_conns : {ground : Ground} {s : State} → Over tale ground s → s.conns ≡ ground.conns
+  over_conns (over h conns from) = conns
+
+  over_from : {ground : Ground} {s : State} → Over tale ground s → Descend ground.exchanges s.exchanges
+  over_from (over h conns from) = from
+
+  over_same : {ground : Ground} {o s : State} → Same o s → Over tale ground o → Over tale ground s
+  over_same {ground} so (over h conns from) = over (still so h) ((parts_of so).conns_same ∙ conns) (subst (λ es. Descend ground.exchanges es) (sym (parts_of so).exchanges_same) from)
+
+  over_when : {ground : Ground} (t : Bool) {x y : State} → Over tale ground x → Over tale ground y → Over tale ground (elim t as (λ c. State) [ true ↦ x | false ↦ y ])
+  over_when true hx hy = hx
+  over_when false hx hy = hy
+
+  over_each : {A : Type 0} {ground : Ground} (o : Option A) {x : State} {y : A → State} → Over tale ground x → ((a : A) → Over tale ground (y a)) → Over tale ground (elim o as (λ c. State) [ None ↦ x | Some a ↦ y a ])
+  over_each None hx hy = hx
+  over_each (Some a) hx hy = hy a
+
+-- ---- a request has one exchange
+
+-- an exchange of the same client is this one
+abbrev pub Lone : Exchange → List Exchange → Type 0
+Lone e xs = (x : Exchange) (c : Client) → IsIn x xs → is_for x c ≡ true → is_for e c ≡ true → x.number ≡ e.number
+
+pub asker_of : (e : Exchange) (c : Client) → is_for e c ≡ true → e.asker ≡ Some c.number
+asker_of e c hit = by e.asker refl hit
+  where
+    by : (o : Option ℕ) → e.asker ≡ o → is_this c.number o ≡ true → e.asker ≡ Some c.number
+    by None is has = absurd (cc has)
+    by (Some m) is has = is ∙ ap (λ n. Some n) (same_number m c.number has)
+
+pub lone_by : {tale : Tale} (e : Exchange) (s : State) (xs : List Exchange) → IsIn e s.exchanges → Descend s.exchanges xs → Fed tale s → Lone e xs
+lone_by e s xs there from h x c i one two =
+    let w = from x c.number i (asker_of x c one) in
+    w.number ∙ (facts_of h).one w.was e c.number w.there there w.asker (asker_of e c two)
 
 -- ---- an answer whose head came is told
 
@@ -65,6 +115,7 @@ over_each (Some a) hx hy = hy a
 pub record Parts (e : Exchange) (a : Answer) (clients : List Client) (exchanges : List Exchange) (conns : List Conn) : Type 0 where
   pub there : IsIn e exchanges
   pub placed : ¬ (e.place ≡ None)
+  pub nothing : payload_of a ≡ []
   pub line : (j : Conn) → IsIn j conns → IsIn e.number j.line → (first_of j.line ≡ Some e.number) × (j.answer ≡ Some a)
   pub waits : (c : Client) (p : Passed) → IsIn c clients → is_for e c ≡ true → is_in_other c.stage ≡ false → passed_of c ≡ Some p → is_begun c ≡ false
 
@@ -78,6 +129,7 @@ along : {e : Exchange} {a : Answer} {o s : State} → Same o s → Coming e a o 
 along {e} {a} {o} {s} so p = coming (record {
   there = subst (λ es. IsIn e es) (sym q.exchanges_same) (parts p).there;
   placed = (parts p).placed;
+  nothing = (parts p).nothing;
   line = λ j i. (parts p).line j (subst (λ ks. IsIn j ks) q.conns_same i);
   waits = λ c x i. (parts p).waits c x (subst (λ cs. IsIn c cs) q.clients_same i);
 })
@@ -92,9 +144,14 @@ passes_it c (Joins id plain) p is = absurd (cc is)
 passes_it c (Passes q) p is = let eq : q ≡ p = cc in ap Passes eq
 passes_it c TooWide p is = absurd (cc is)
 
--- of the head that is told
+-- of the head that is told; nothing of its body is in the pipe
 abbrev pub Tells : Answer → Brought → Type 0
-Tells a b = (p : Passed) → b ≡ Passes p → (p.head ≡ a.head) × (p.rule ≡ a.rule)
+Tells a b = (p : Passed) → b ≡ Passes p → (p.head ≡ a.head) × (p.rule ≡ a.rule) × (p.pipe.bytes ≡ [])
+
+not_begun : (t b : Bool) → (t && not b) ≡ true → b ≡ false
+not_begun true true is = absurd (cc is)
+not_begun true false is = refl
+not_begun false b is = absurd (cc is)
 
 asked_off : (e : Exchange) (c : Client) → is_asked_by e c ≡ false → is_for e c ≡ true → is_begun c ≡ false → ⊥
 asked_off e c off hit isnt = by (is_for e c) (is_begun c) off hit isnt
@@ -104,104 +161,115 @@ asked_off e c off hit isnt = by (is_for e c) (is_begun c) off hit isnt
     by true true is one two = cc two
     by false b is one two = cc one
 
-told : (e : Exchange) (a : Answer) (b : Brought) (body : Body) (s : State) → is_pending body ≡ false → Tells a b → Coming e a s → Fed s → Fed (tell e b (use_body e body s))
-unfolding tell use_body on_exchange
-told e a b body s came tells p hs = fed (record {
-  apart = rise_change client_number (is_asked_by e) with_it (λ c. refl) s.clients h.apart;
-  rise = rise_change exchange_number (is_exchange e.number) with_body (λ x. refl) s.exchanges h.rise;
-  given = λ x i. given_by x (at x i);
-  one = λ x y n i j one two. one_by x y n (at x i) (at y j) one two;
-  headed = λ x i is. headed_by x (at x i) is;
-  sourced = λ c id i on is. sourced_by c id (of c i) on is;
-  begun = λ x c i j hit on. begun_by x c (at x i) (of c j) hit on;
-  fed_by = λ k x c q l i m is j hit off has. fed_at k x c q l (at x i) m is (of c j) hit off has;
-})
-  where
-    h : FactsOf s
-    h = facts_of hs
+module _ {tale : Tale} where
+  told : (e : Exchange) (a : Answer) (b : Brought) (body : Body) (s : State) → is_pending body ≡ false → Tells a b → Coming e a s → Fed tale s → Fed tale (tell e b (use_body e body s))
+  unfolding tell use_body on_exchange
+  told e a b body s came tells p hs = fed (record {
+    apart = rise_change client_number (is_asked_by e) with_it (λ c. refl) s.clients h.apart;
+    rise = rise_change exchange_number (is_exchange e.number) with_body (λ x. refl) s.exchanges h.rise;
+    given = λ x i. given_by x (at x i);
+    one = λ x y n i j one two. one_by x y n (at x i) (at y j) one two;
+    headed = λ x i is. headed_by x (at x i) is;
+    sourced = λ c id i on is. sourced_by c id (of c i) on is;
+    begun = λ x c i j hit on. begun_by x c (at x i) (of c j) hit on;
+    fed_by = λ k x c q l i m is j hit off has. fed_at k x c q l (at x i) m is (of c j) hit off has;
+  })
+    where
+      h : FactsOf tale s
+      h = facts_of hs
 
-    with_it : Client → Client
-    with_it c = record c { brought = b }
+      with_it : Client → Client
+      with_it c = record c { brought = b }
 
-    with_body : Exchange → Exchange
-    with_body x = record x { body = body }
+      with_body : Exchange → Exchange
+      with_body x = record x { body = body }
 
-    at : (x : Exchange) → IsIn x (change (is_exchange e.number) (λ y. record y { body = body }) s.exchanges) → Changed (is_exchange e.number) (λ y. record y { body = body }) s.exchanges x
-    at x i = in_change (is_exchange e.number) (λ y. record y { body = body }) x s.exchanges i
+      at : (x : Exchange) → IsIn x (change (is_exchange e.number) (λ y. record y { body = body }) s.exchanges) → Changed (is_exchange e.number) (λ y. record y { body = body }) s.exchanges x
+      at x i = in_change (is_exchange e.number) (λ y. record y { body = body }) x s.exchanges i
 
-    of : (c : Client) → IsIn c (change (is_asked_by e) (λ d. record d { brought = b }) s.clients) → Changed (is_asked_by e) (λ d. record d { brought = b }) s.clients c
-    of c i = in_change (is_asked_by e) (λ d. record d { brought = b }) c s.clients i
+      of : (c : Client) → IsIn c (change (is_asked_by e) (λ d. record d { brought = b }) s.clients) → Changed (is_asked_by e) (λ d. record d { brought = b }) s.clients c
+      of c i = in_change (is_asked_by e) (λ d. record d { brought = b }) c s.clients i
 
-    -- the one of that number is it
-    it : (y : Exchange) → IsIn y s.exchanges → is_exchange e.number y ≡ true → y ≡ e
-    it y i hit = one_of exchange_number s.exchanges y e h.rise i (parts p).there (same_number y.number e.number hit)
+      -- the one of that number is it
+      it : (y : Exchange) → IsIn y s.exchanges → is_exchange e.number y ≡ true → y ≡ e
+      it y i hit = one_of exchange_number s.exchanges y e h.rise i (parts p).there (same_number y.number e.number hit)
 
-    given_by : (x : Exchange) → Changed (is_exchange e.number) (λ y. record y { body = body }) s.exchanges x → x.number < s.next_exchange
-    given_by x (same i isnt) = h.given x i
-    given_by x (other y i hit eq) = subst (λ n. n < s.next_exchange) (sym (ap exchange_number eq)) (h.given y i)
+      given_by : (x : Exchange) → Changed (is_exchange e.number) (λ y. record y { body = body }) s.exchanges x → x.number < s.next_exchange
+      given_by x (same i isnt) = h.given x i
+      given_by x (other y i hit eq) = subst (λ n. n < s.next_exchange) (sym (ap exchange_number eq)) (h.given y i)
 
-    one_by : (x y : Exchange) (n : ℕ) → Changed (is_exchange e.number) (λ z. record z { body = body }) s.exchanges x → Changed (is_exchange e.number) (λ z. record z { body = body }) s.exchanges y → x.asker ≡ Some n → y.asker ≡ Some n → x.number ≡ y.number
-    one_by x y n (same i isnt) (same j isnt2) one two = h.one x y n i j one two
-    one_by x y n (same i isnt) (other z j hit eq) one two = h.one x z n i j one (sym (ap (λ (w : Exchange). w.asker) eq) ∙ two) ∙ sym (ap exchange_number eq)
-    one_by x y n (other z i hit eq) (same j isnt) one two = ap exchange_number eq ∙ h.one z y n i j (sym (ap (λ (w : Exchange). w.asker) eq) ∙ one) two
-    one_by x y n (other z i hit eq) (other w j hit2 eq2) one two =
-        ap exchange_number eq ∙ h.one z w n i j (sym (ap (λ (v : Exchange). v.asker) eq) ∙ one) (sym (ap (λ (v : Exchange). v.asker) eq2) ∙ two) ∙ sym (ap exchange_number eq2)
+      one_by : (x y : Exchange) (n : ℕ) → Changed (is_exchange e.number) (λ z. record z { body = body }) s.exchanges x → Changed (is_exchange e.number) (λ z. record z { body = body }) s.exchanges y → x.asker ≡ Some n → y.asker ≡ Some n → x.number ≡ y.number
+      one_by x y n (same i isnt) (same j isnt2) one two = h.one x y n i j one two
+      one_by x y n (same i isnt) (other z j hit eq) one two = h.one x z n i j one (sym (ap (λ (w : Exchange). w.asker) eq) ∙ two) ∙ sym (ap exchange_number eq)
+      one_by x y n (other z i hit eq) (same j isnt) one two = ap exchange_number eq ∙ h.one z y n i j (sym (ap (λ (w : Exchange). w.asker) eq) ∙ one) two
+      one_by x y n (other z i hit eq) (other w j hit2 eq2) one two =
+          ap exchange_number eq ∙ h.one z w n i j (sym (ap (λ (v : Exchange). v.asker) eq) ∙ one) (sym (ap (λ (v : Exchange). v.asker) eq2) ∙ two) ∙ sym (ap exchange_number eq2)
 
-    headed_by : (x : Exchange) → Changed (is_exchange e.number) (λ y. record y { body = body }) s.exchanges x → is_headed x ≡ true → ¬ (x.place ≡ None)
-    headed_by x (same i isnt) is none = h.headed x i is none
-    headed_by x (other y i hit eq) is none = (parts p).placed (sym (ap (λ (z : Exchange). z.place) (it y i hit)) ∙ sym (ap (λ (z : Exchange). z.place) eq) ∙ none)
+      headed_by : (x : Exchange) → Changed (is_exchange e.number) (λ y. record y { body = body }) s.exchanges x → is_headed x ≡ true → ¬ (x.place ≡ None)
+      headed_by x (same i isnt) is none = h.headed x i is none
+      headed_by x (other y i hit eq) is none = (parts p).placed (sym (ap (λ (z : Exchange). z.place) (it y i hit)) ∙ sym (ap (λ (z : Exchange). z.place) eq) ∙ none)
 
-    sourced_by : (c : Client) (id : ℕ) → Changed (is_asked_by e) (λ d. record d { brought = b }) s.clients c → is_in_passed c.stage ≡ true → source_in c.stage ≡ Some id → ⊥
-    sourced_by c id (same i isnt) on is = h.sourced c id i on is
-    sourced_by c id (other d i hit eq) on is = h.sourced d id i (sym (ap (λ (x : Client). is_in_passed x.stage) eq) ∙ on) (sym (ap (λ (x : Client). source_in x.stage) eq) ∙ is)
+      sourced_by : (c : Client) (id : ℕ) → Changed (is_asked_by e) (λ d. record d { brought = b }) s.clients c → is_in_passed c.stage ≡ true → source_in c.stage ≡ Some id → ⊥
+      sourced_by c id (same i isnt) on is = h.sourced c id i on is
+      sourced_by c id (other d i hit eq) on is = h.sourced d id i (sym (ap (λ (x : Client). is_in_passed x.stage) eq) ∙ on) (sym (ap (λ (x : Client). source_in x.stage) eq) ∙ is)
 
-    -- it has its head
-    headed_now : (x y : Exchange) → x ≡ record y { body = body } → is_headed x ≡ true
-    headed_now x y eq = ap (λ (z : Exchange). is_headed z) eq ∙ ap not came
+      -- it has its head
+      headed_now : (x y : Exchange) → x ≡ record y { body = body } → is_headed x ≡ true
+      headed_now x y eq = ap (λ (z : Exchange). is_headed z) eq ∙ ap not came
 
-    begun_in : (x : Exchange) (c : Client) → Changed (is_exchange e.number) (λ y. record y { body = body }) s.exchanges x → IsIn c s.clients → is_for x c ≡ true → is_in_passed c.stage ≡ true → is_headed x ≡ true
-    begun_in x c (same i isnt) j hit on = h.begun x c i j hit on
-    begun_in x c (other y i it_is eq) j hit on = headed_now x y eq
+      begun_in : (x : Exchange) (c : Client) → Changed (is_exchange e.number) (λ y. record y { body = body }) s.exchanges x → IsIn c s.clients → is_for x c ≡ true → is_in_passed c.stage ≡ true → is_headed x ≡ true
+      begun_in x c (same i isnt) j hit on = h.begun x c i j hit on
+      begun_in x c (other y i it_is eq) j hit on = headed_now x y eq
 
-    begun_by : (x : Exchange) (c : Client) → Changed (is_exchange e.number) (λ y. record y { body = body }) s.exchanges x → Changed (is_asked_by e) (λ d. record d { brought = b }) s.clients c → is_for x c ≡ true → is_in_passed c.stage ≡ true → is_headed x ≡ true
-    begun_by x c w (same j isnt) hit on = begun_in x c w j hit on
-    begun_by x c w (other d j asked eq) hit on = begun_in x d w j (sym (ap (λ (z : Client). is_for x z) eq) ∙ hit) (sym (ap (λ (z : Client). is_in_passed z.stage) eq) ∙ on)
+      begun_by : (x : Exchange) (c : Client) → Changed (is_exchange e.number) (λ y. record y { body = body }) s.exchanges x → Changed (is_asked_by e) (λ d. record d { brought = b }) s.clients c → is_for x c ≡ true → is_in_passed c.stage ≡ true → is_headed x ≡ true
+      begun_by x c w (same j isnt) hit on = begun_in x c w j hit on
+      begun_by x c w (other d j asked eq) hit on = begun_in x d w j (sym (ap (λ (z : Client). is_for x z) eq) ∙ hit) (sym (ap (λ (z : Client). is_in_passed z.stage) eq) ∙ on)
 
-    -- a request has one exchange
-    alone : (x : Exchange) (c : Client) → IsIn x s.exchanges → is_exchange e.number x ≡ false → is_for x c ≡ true → is_for e c ≡ true → ⊥
-    alone x c i isnt one two = by x.asker e.asker refl refl one two
-      where
-        by : (m n : Option ℕ) → x.asker ≡ m → e.asker ≡ n → is_this c.number m ≡ true → is_this c.number n ≡ true → ⊥
-        by None n a b first second = cc first
-        by (Some m) None a b first second = cc second
-        by (Some m) (Some n) a b first second =
-            let number : x.number ≡ e.number = h.one x e c.number i (parts p).there (a ∙ ap (λ k. Some k) (same_number m c.number first)) (b ∙ ap (λ k. Some k) (same_number n c.number second)) in
-            let both : false ≡ true = sym isnt ∙ ap (λ k. k == e.number) number ∙ number_same e.number in cc both
+      -- a request has one exchange
+      alone : (x : Exchange) (c : Client) → IsIn x s.exchanges → is_exchange e.number x ≡ false → is_for x c ≡ true → is_for e c ≡ true → ⊥
+      alone x c i isnt one two = by x.asker e.asker refl refl one two
+        where
+          by : (m n : Option ℕ) → x.asker ≡ m → e.asker ≡ n → is_this c.number m ≡ true → is_this c.number n ≡ true → ⊥
+          by None n a b first second = cc first
+          by (Some m) None a b first second = cc second
+          by (Some m) (Some n) a b first second =
+              let number : x.number ≡ e.number = h.one x e c.number i (parts p).there (a ∙ ap (λ k. Some k) (same_number m c.number first)) (b ∙ ap (λ k. Some k) (same_number n c.number second)) in
+              let both : false ≡ true = sym isnt ∙ ap (λ k. k == e.number) number ∙ number_same e.number in cc both
 
-    fed_told : (k : Conn) (x : Exchange) (c : Client) (q : Passed) → IsIn k s.conns → Changed (is_exchange e.number) (λ y. record y { body = body }) s.exchanges x → IsIn x.number k.line → is_for x c ≡ true → is_for e c ≡ true → b ≡ Passes q → Feeds k x q
-    fed_told k x c q l (same i isnt) m hit its has = absurd (alone x c i isnt hit its)
-    fed_told k x c q l (other y i it_is eq) m hit its has =
-        let number : x.number ≡ e.number = ap exchange_number eq ∙ same_number y.number e.number it_is in
-        let w = (parts p).line k l (subst (λ n. IsIn n k.line) number m) in
-        let t = tells q has in
-        record { front = w.0 ∙ ap (λ n. Some n) (sym number); answer = a; is = w.1; head = t.0; rule = t.1 }
+      -- nothing of its data came
+      told_nothing : (d : Client) (q : Passed) → is_asked_by e d ≡ true → q.pipe.bytes ≡ [] → Relays (tale.said d.number) (record d { brought = b }) q (payload_of a)
+      told_nothing d q asked none = record {
+        pieces = [];
+        all = sym (parts p).nothing;
+        full = λ piece i. absurd i;
+        waiting = λ off. none;
+        shown = λ on. let both : false ≡ true = sym (not_passed d (not_begun (is_for e d) (is_begun d) asked)) ∙ on in absurd (cc both);
+      }
 
-    fed_same : (k : Conn) (x : Exchange) (c : Client) (q : Passed) → IsIn k s.conns → Changed (is_exchange e.number) (λ y. record y { body = body }) s.exchanges x → IsIn x.number k.line → is_headed x ≡ true → IsIn c s.clients → is_asked_by e c ≡ false → is_for x c ≡ true
-        → is_in_other c.stage ≡ false → passed_of c ≡ Some q → Feeds k x q
-    fed_same k x c q l (same i isnt) m is j asked hit off has = h.fed_by k x c q l i m is j hit off has
-    fed_same k x c q l (other y i it_is eq) m is j asked hit off has =
-        let its : is_for e c ≡ true = ap (λ (z : Exchange). is_for z c) (sym (it y i it_is)) ∙ sym (ap (λ (z : Exchange). is_for z c) eq) ∙ hit in
-        absurd (asked_off e c asked its ((parts p).waits c q j its off has))
+      fed_told : (k : Conn) (x : Exchange) (d : Client) (q : Passed) → IsIn k s.conns → Changed (is_exchange e.number) (λ y. record y { body = body }) s.exchanges x → IsIn x.number k.line → is_for x d ≡ true → is_asked_by e d ≡ true → b ≡ Passes q → Feeds tale k x (record d { brought = b }) q
+      fed_told k x d q l (same i isnt) m hit asked has = absurd (alone x d i isnt hit (first_holds (is_for e d) (not (is_begun d)) asked))
+      fed_told k x d q l (other y i it_is eq) m hit asked has =
+          let number : x.number ≡ e.number = ap exchange_number eq ∙ same_number y.number e.number it_is in
+          let w = (parts p).line k l (subst (λ n. IsIn n k.line) number m) in
+          let t = tells q has in
+          record { front = w.0 ∙ ap (λ n. Some n) (sym number); answer = a; is = w.1; head = t.0; rule = t.1; relayed = λ isnt. told_nothing d q asked t.2 }
 
-    fed_at : (k : Conn) (x : Exchange) (c : Client) (q : Passed) → IsIn k s.conns → Changed (is_exchange e.number) (λ y. record y { body = body }) s.exchanges x → IsIn x.number k.line → is_headed x ≡ true → Changed (is_asked_by e) (λ d. record d { brought = b }) s.clients c
-        → is_for x c ≡ true → is_in_other c.stage ≡ false → passed_of c ≡ Some q → Feeds k x q
-    fed_at k x c q l w m is (same j isnt) hit off has = fed_same k x c q l w m is j isnt hit off has
-    fed_at k x c q l w m is (other d j asked eq) hit off has =
-        fed_told k x d q l w m (sym (ap (λ (z : Client). is_for x z) eq) ∙ hit) (first_holds (is_for e d) (not (is_begun d)) asked) (passes_it d b q (sym (ap passed_of eq) ∙ has))
+      fed_same : (k : Conn) (x : Exchange) (c : Client) (q : Passed) → IsIn k s.conns → Changed (is_exchange e.number) (λ y. record y { body = body }) s.exchanges x → IsIn x.number k.line → is_headed x ≡ true → IsIn c s.clients → is_asked_by e c ≡ false → is_for x c ≡ true
+          → is_in_other c.stage ≡ false → passed_of c ≡ Some q → Feeds tale k x c q
+      fed_same k x c q l (same i isnt) m is j asked hit off has = h.fed_by k x c q l i m is j hit off has
+      fed_same k x c q l (other y i it_is eq) m is j asked hit off has =
+          let its : is_for e c ≡ true = ap (λ (z : Exchange). is_for z c) (sym (it y i it_is)) ∙ sym (ap (λ (z : Exchange). is_for z c) eq) ∙ hit in
+          absurd (asked_off e c asked its ((parts p).waits c q j its off has))
 
-told_over : {ks : List Conn} (e : Exchange) (a : Answer) (b : Brought) (body : Body) (s : State) → is_pending body ≡ false → Tells a b → Coming e a s → Over ks s → Over ks (tell e b (use_body e body s))
-unfolding tell use_body on_exchange
-told_over e a b body s came tells p (over h conns) = over (told e a b body s came tells p h) conns
+      fed_at : (k : Conn) (x : Exchange) (c : Client) (q : Passed) → IsIn k s.conns → Changed (is_exchange e.number) (λ y. record y { body = body }) s.exchanges x → IsIn x.number k.line → is_headed x ≡ true → Changed (is_asked_by e) (λ d. record d { brought = b }) s.clients c
+          → is_for x c ≡ true → is_in_other c.stage ≡ false → passed_of c ≡ Some q → Feeds tale k x c q
+      fed_at k x c q l w m is (same j isnt) hit off has = fed_same k x c q l w m is j isnt hit off has
+      fed_at k x c q l w m is (other d j asked eq) hit off has =
+          subst (λ (z : Client). Feeds tale k x z q) (sym eq) (fed_told k x d q l w m (sym (ap (λ (z : Client). is_for x z) eq) ∙ hit) asked (passes_it d b q (sym (ap passed_of eq) ∙ has)))
+
+  told_over : {ground : Ground} (e : Exchange) (a : Answer) (b : Brought) (body : Body) (s : State) → is_pending body ≡ false → Tells a b → Coming e a s → Over tale ground s → Over tale ground (tell e b (use_body e body s))
+  unfolding tell use_body on_exchange
+  told_over {ground} e a b body s came tells p (over h conns from) = over (told e a b body s came tells p h) conns (descend_changed ground.exchanges s.exchanges (is_exchange e.number) (λ x. record x { body = body }) (λ x. refl) (λ x n is. is) from)
 
 -- nothing is passed
 no_pass : (a : Answer) (b : Brought) → ((p : Passed) → b ≡ Passes p → ⊥) → Tells a b
@@ -217,199 +285,335 @@ given_up_conns e s = by (is_unfilled s e)
     by false = refl
     by true = refl
 
-lose_attempt-over : {ks : List Conn} (e : Exchange) (s : State) → Over ks s → Over ks (lose_attempt e s)
-unfolding lose_attempt charge on_client_of
-lose_attempt-over e s (over h conns) = over (lose_attempt-fed e s h) (given_up_conns e _ ∙ conns)
-
-drop_answer-over : {ks : List Conn} (e : Exchange) (a : Answer) (s : State) → Coming e a s → Over ks s → Over ks (drop_answer e s)
-unfolding drop_answer
-drop_answer-over e a s p h = told_over e a Useless Dropping s refl (no_pass a Useless (λ q is. cc is)) p h
-
-useless-over : {ks : List Conn} (e : Exchange) (a : Answer) (s : State) → Coming e a s → Over ks s → Over ks (useless e s)
-unfolding useless
-useless-over e a s p h = lose_attempt-over e _ (drop_answer-over e a s p h)
-
-settle_on-over : {ks : List Conn} (e : Exchange) (a : Answer) (head : Response) (v : Version) (s : State) → Coming e a s → Over ks s → Over ks (settle_on e head v s)
-unfolding settle_on
-settle_on-over e a head v s p h = over_each (row s (key_of e)) h (λ x. told_over e a _ _ s refl (no_pass a _ (λ q is. cc is)) p h)
-
-settle_known-over : {ks : List Conn} (e : Exchange) (a : Answer) (head : Response) (v : Version) (s : State) → Coming e a s → Over ks s → Over ks (settle_known e head v s)
-unfolding settle_known
-settle_known-over e a head v s p h =
-    let r = refresh-same e head s (itself s) in
-    over_when (may_refresh e head s) (settle_on-over e a head v _ (along r p) (over_same r h)) (useless-over e a s p h)
-
-settle-over : {ks : List Conn} (e : Exchange) (a : Answer) (head : Response) (v : Version) (s : State) → Coming e a s → Over ks s → Over ks (settle e head v s)
-unfolding settle
-settle-over e a head v s p h =
-    let r = make_row-same (key_of e) v (kept_of head.fields (times_for e head s)) (times_for e head s) s (itself s) in
-    over_when (is_some_with (may_join e head v) (known_version s (key_of e))) (settle_known-over e a head v s p h) (settle_on-over e a head v _ (along r p) (over_same r h))
-
-settle_unchanged-over : {ks : List Conn} (e : Exchange) (a : Answer) (s : State) → Coming e a s → Over ks s → Over ks (settle_unchanged e s)
-unfolding settle_unchanged
-settle_unchanged-over e a s p h = over_each (row s (key_of e)) h (λ x. told_over e a _ _ s refl (no_pass a _ (λ q is. cc is)) p h)
-
-unchanged-over : {ks : List Conn} (e : Exchange) (a : Answer) (head : Response) (s : State) → Coming e a s → Over ks s → Over ks (unchanged e head s)
-unfolding unchanged
-unchanged-over e a head s p h =
-    let r = refresh-same e head s (itself s) in
-    over_when (is_some_with (names_version e) (known_version s (key_of e)) && may_refresh e head s) (settle_unchanged-over e a _ (along r p) (over_same r h)) (useless-over e a s p h)
-
-without_shared_row_same : (most : ℕ) (c : Client) → SameClient (without_shared_row most c) c
-without_shared_row_same most c = by (c.has_given_up && not (is_begun c))
+given_up_from : (es : List Exchange) (e : Exchange) (s : State) → Descend es s.exchanges → Descend es (give_up_row e s).exchanges
+unfolding give_up_row on_exchange on_client_of clear swept
+given_up_from es e s from = by (is_unfilled s e)
   where
-    by : (again : Bool) → SameClient (elim again as (λ x. Client) [ true ↦ record c { course = lost_one most c.course } | false ↦ without_row c ]) c
-    by true = parts_same _ c refl refl refl
-    by false = without_row-by c (is_begun c || c.has_given_up)
+    by : (t : Bool) → Descend es (elim t as (λ x. State) [ false ↦ s | true ↦ on_exchange e.number left_alone (on_client_of e without_row (clear (text_of e.key) s)) ]).exchanges
+    by false = from
+    by true = descend_changed es s.exchanges (is_exchange e.number) left_alone (λ x. refl) (λ x n is. absurd (cc is)) from
 
-on_client_of-over : {ks : List Conn} (e : Exchange) (f : Client → Client) (s : State) → ((c : Client) → SameClient (f c) c) → Over ks s → Over ks (on_client_of e f s)
-unfolding on_client_of
-on_client_of-over e f s kept (over h conns) = over (on_client_of-fed e f s kept h) conns
+module _ {tale : Tale} where
+  lose_attempt-over : {ground : Ground} (e : Exchange) (s : State) → Over tale ground s → Over tale ground (lose_attempt e s)
+  unfolding lose_attempt charge on_client_of
+  lose_attempt-over {ground} e s (over h conns from) = over (lose_attempt-fed e s h) (given_up_conns e _ ∙ conns) (given_up_from ground.exchanges e _ from)
 
-not_shared-over : {ks : List Conn} (e : Exchange) (a : Answer) (s : State) → Coming e a s → Over ks s → Over ks (not_shared e s)
-unfolding not_shared
-not_shared-over e a s p h =
-    let r = clear-same (key_of e) s (itself s) in
-    on_client_of-over e (without_shared_row (attempts_of e)) _ (without_shared_row_same (attempts_of e)) (drop_answer-over e a _ (along r p) (over_same r h))
+  drop_answer-over : {ground : Ground} (e : Exchange) (a : Answer) (s : State) → Coming e a s → Over tale ground s → Over tale ground (drop_answer e s)
+  unfolding drop_answer
+  drop_answer-over e a s p h = told_over e a Useless Dropping s refl (no_pass a Useless (λ q is. cc is)) p h
 
-not_modified-over : {ks : List Conn} (e : Exchange) (a : Answer) (head : Response) (s : State) → Coming e a s → Over ks s → Over ks (not_modified e head s)
-unfolding not_modified
-not_modified-over e a head s p h =
-    let r = clear-same (key_of e) s (itself s) in
-    over_when (forbids_sharing head) (not_shared-over e a s p h) (over_when (is_of_another head s (key_of e)) (useless-over e a _ (along r p) (over_same r h)) (unchanged-over e a head s p h))
+  useless-over : {ground : Ground} (e : Exchange) (a : Answer) (s : State) → Coming e a s → Over tale ground s → Over tale ground (useless e s)
+  unfolding useless
+  useless-over e a s p h = lose_attempt-over e _ (drop_answer-over e a s p h)
+
+  settle_on-over : {ground : Ground} (e : Exchange) (a : Answer) (head : Response) (v : Version) (s : State) → Coming e a s → Over tale ground s → Over tale ground (settle_on e head v s)
+  unfolding settle_on
+  settle_on-over e a head v s p h = over_each (row s (key_of e)) h (λ x. told_over e a _ _ s refl (no_pass a _ (λ q is. cc is)) p h)
+
+  settle_known-over : {ground : Ground} (e : Exchange) (a : Answer) (head : Response) (v : Version) (s : State) → Coming e a s → Over tale ground s → Over tale ground (settle_known e head v s)
+  unfolding settle_known
+  settle_known-over e a head v s p h =
+      let r = refresh-same e head s (itself s) in
+      over_when (may_refresh e head s) (settle_on-over e a head v _ (along r p) (over_same r h)) (useless-over e a s p h)
+
+  settle-over : {ground : Ground} (e : Exchange) (a : Answer) (head : Response) (v : Version) (s : State) → Coming e a s → Over tale ground s → Over tale ground (settle e head v s)
+  unfolding settle
+  settle-over e a head v s p h =
+      let r = make_row-same (key_of e) v (kept_of head.fields (times_for e head s)) (times_for e head s) s (itself s) in
+      over_when (is_some_with (may_join e head v) (known_version s (key_of e))) (settle_known-over e a head v s p h) (settle_on-over e a head v _ (along r p) (over_same r h))
+
+  settle_unchanged-over : {ground : Ground} (e : Exchange) (a : Answer) (s : State) → Coming e a s → Over tale ground s → Over tale ground (settle_unchanged e s)
+  unfolding settle_unchanged
+  settle_unchanged-over e a s p h = over_each (row s (key_of e)) h (λ x. told_over e a _ _ s refl (no_pass a _ (λ q is. cc is)) p h)
+
+  unchanged-over : {ground : Ground} (e : Exchange) (a : Answer) (head : Response) (s : State) → Coming e a s → Over tale ground s → Over tale ground (unchanged e head s)
+  unfolding unchanged
+  unchanged-over e a head s p h =
+      let r = refresh-same e head s (itself s) in
+      over_when (is_some_with (names_version e) (known_version s (key_of e)) && may_refresh e head s) (settle_unchanged-over e a _ (along r p) (over_same r h)) (useless-over e a s p h)
+
+  without_shared_row_same : (most : ℕ) (c : Client) → SameClient tale tale (without_shared_row most c) c
+  without_shared_row_same most c = by (c.has_given_up && not (is_begun c))
+    where
+      by : (again : Bool) → SameClient tale tale (elim again as (λ x. Client) [ true ↦ record c { course = lost_one most c.course } | false ↦ without_row c ]) c
+      by true = parts_same _ c refl refl refl refl
+      by false = without_row-by c (is_begun c || c.has_given_up)
+
+  on_client_of-over : {ground : Ground} (e : Exchange) (f : Client → Client) (s : State) → ((c : Client) → SameClient tale tale (f c) c) → Over tale ground s → Over tale ground (on_client_of e f s)
+  unfolding on_client_of
+  on_client_of-over e f s kept (over h conns from) = over (on_client_of-fed e f s kept h) conns from
+
+  not_shared-over : {ground : Ground} (e : Exchange) (a : Answer) (s : State) → Coming e a s → Over tale ground s → Over tale ground (not_shared e s)
+  unfolding not_shared
+  not_shared-over e a s p h =
+      let r = clear-same (key_of e) s (itself s) in
+      on_client_of-over e (without_shared_row (attempts_of e)) _ (without_shared_row_same (attempts_of e)) (drop_answer-over e a _ (along r p) (over_same r h))
+
+  not_modified-over : {ground : Ground} (e : Exchange) (a : Answer) (head : Response) (s : State) → Coming e a s → Over tale ground s → Over tale ground (not_modified e head s)
+  unfolding not_modified
+  not_modified-over e a head s p h =
+      let r = clear-same (key_of e) s (itself s) in
+      over_when (forbids_sharing head) (not_shared-over e a s p h) (over_when (is_of_another head s (key_of e)) (useless-over e a _ (along r p) (over_same r h)) (unchanged-over e a head s p h))
 
 relayed_some : (t : Bool) → is_pending (elim t as (λ c. Body) [ true ↦ Relaying | false ↦ Dropping ]) ≡ false
 relayed_some true = refl
 relayed_some false = refl
 
-relay_head-over : {ks : List Conn} (e : Exchange) (head : Response) (rule : BodyRule) (s : State) → Coming e (answer_with e head rule) s → Over ks s → Over ks (relay_head e head rule s)
-unfolding relay_head
-relay_head-over e head rule s p h = told_over e (answer_with e head rule) (Passes (passed_by e head rule)) (relayed e s) s (relayed_some (list_any (is_asked_by e) s.clients)) tells p h
-  where
-    tells : Tells (answer_with e head rule) (Passes (passed_by e head rule))
-    tells q is = let eq : passed_by e head rule ≡ q = cc in (sym (ap (λ (x : Passed). x.head) eq), sym (ap (λ (x : Passed). x.rule) eq))
+module _ {tale : Tale} where
+  relay_head-over : {ground : Ground} (e : Exchange) (head : Response) (rule : BodyRule) (s : State) → Coming e (answer_with e head rule) s → Over tale ground s → Over tale ground (relay_head e head rule s)
+  unfolding relay_head
+  relay_head-over e head rule s p h = told_over e (answer_with e head rule) (Passes (passed_by e head rule)) (relayed e s) s (relayed_some (list_any (is_asked_by e) s.clients)) tells p h
+    where
+      tells : Tells (answer_with e head rule) (Passes (passed_by e head rule))
+      tells q is = let eq : passed_by e head rule ≡ q = cc in (sym (ap (λ (x : Passed). x.head) eq), sym (ap (λ (x : Passed). x.rule) eq), sym (ap (λ (x : Passed). x.pipe.bytes) eq))
 
-other_head-over : {ks : List Conn} (e : Exchange) (head : Response) (rule : BodyRule) (s : State) → Coming e (answer_with e head rule) s → Over ks s → Over ks (other_head e head rule s)
-unfolding other_head
-other_head-over e head rule s p h =
-    let r = cleared_by-same head e s (itself s) in
-    over_when (is_widened e head) (told_over e (answer_with e head rule) TooWide Dropping _ refl (no_pass (answer_with e head rule) TooWide (λ q is. cc is)) (along r p) (over_same r h)) (relay_head-over e head rule _ (along r p) (over_same r h))
+  other_head-over : {ground : Ground} (e : Exchange) (head : Response) (rule : BodyRule) (s : State) → Coming e (answer_with e head rule) s → Over tale ground s → Over tale ground (other_head e head rule s)
+  unfolding other_head
+  other_head-over e head rule s p h =
+      let r = cleared_by-same head e s (itself s) in
+      over_when (is_widened e head) (told_over e (answer_with e head rule) TooWide Dropping _ refl (no_pass (answer_with e head rule) TooWide (λ q is. cc is)) (along r p) (over_same r h)) (relay_head-over e head rule _ (along r p) (over_same r h))
 
-other_part-over : {ks : List Conn} (e : Exchange) (head : Response) (rule : BodyRule) (s : State) → Coming e (answer_with e head rule) s → Over ks s → Over ks (other_part e head rule s)
-unfolding other_part
-other_part-over e head rule s p h =
-    let r = cleared_by-same head e s (itself s) in
-    over_when (is_private_part head) (not_shared-over e (answer_with e head rule) s p h) (over_when (clears_row head) (relay_head-over e head rule _ (along r p) (over_same r h)) (useless-over e (answer_with e head rule) s p h))
+  other_part-over : {ground : Ground} (e : Exchange) (head : Response) (rule : BodyRule) (s : State) → Coming e (answer_with e head rule) s → Over tale ground s → Over tale ground (other_part e head rule s)
+  unfolding other_part
+  other_part-over e head rule s p h =
+      let r = cleared_by-same head e s (itself s) in
+      over_when (is_private_part head) (not_shared-over e (answer_with e head rule) s p h) (over_when (clears_row head) (relay_head-over e head rule _ (along r p) (over_same r h)) (useless-over e (answer_with e head rule) s p h))
 
-own_head-over : {ks : List Conn} (e : Exchange) (head : Response) (rule : BodyRule) (s : State) → Coming e (answer_with e head rule) s → Over ks s → Over ks (own_head e head rule s)
-unfolding own_head
-own_head-over e head rule s p h =
-    over_each (version_in e head) (over_when (head.status == 304) (not_modified-over e (answer_with e head rule) head s p h) (other_head-over e head rule s p h)) (λ v. settle-over e (answer_with e head rule) head v s p h)
+  own_head-over : {ground : Ground} (e : Exchange) (head : Response) (rule : BodyRule) (s : State) → Coming e (answer_with e head rule) s → Over tale ground s → Over tale ground (own_head e head rule s)
+  unfolding own_head
+  own_head-over e head rule s p h =
+      over_each (version_in e head) (over_when (head.status == 304) (not_modified-over e (answer_with e head rule) head s p h) (other_head-over e head rule s p h)) (λ v. settle-over e (answer_with e head rule) head v s p h)
 
-count_elsewhere-over : {ks : List Conn} (e : Exchange) (s : State) → Over ks s → Over ks (count_elsewhere e s)
-unfolding count_elsewhere
-count_elsewhere-over e s h = over_when (is_some_with is_bound (exchange s e.number) && list_any (λ c. is_for e c && lacks_next s c) s.clients) (lose_attempt-over e s h) h
+  count_elsewhere-over : {ground : Ground} (e : Exchange) (s : State) → Over tale ground s → Over tale ground (count_elsewhere e s)
+  unfolding count_elsewhere
+  count_elsewhere-over e s h = over_when (is_some_with is_bound (exchange s e.number) && list_any (λ c. is_for e c && lacks_next s c) s.clients) (lose_attempt-over e s h) h
 
-part_head-over : {ks : List Conn} (e : Exchange) (head : Response) (rule : BodyRule) (s : State) → Coming e (answer_with e head rule) s → Over ks s → Over ks (part_head e head rule s)
-unfolding part_head
-part_head-over e head rule s p h =
-    over_each (version_in e head) (over_when (head.status == 304) (not_modified-over e (answer_with e head rule) head s p h) (other_part-over e head rule s p h)) (λ v. settle-over e (answer_with e head rule) head v s p h)
+  part_head-over : {ground : Ground} (e : Exchange) (head : Response) (rule : BodyRule) (s : State) → Coming e (answer_with e head rule) s → Over tale ground s → Over tale ground (part_head e head rule s)
+  unfolding part_head
+  part_head-over e head rule s p h =
+      over_each (version_in e head) (over_when (head.status == 304) (not_modified-over e (answer_with e head rule) head s p h) (other_part-over e head rule s p h)) (λ v. settle-over e (answer_with e head rule) head v s p h)
 
-filling_head-over : {ks : List Conn} (e : Exchange) (head : Response) (rule : BodyRule) (s : State) → Coming e (answer_with e head rule) s → Over ks s → Over ks (filling_head e head rule s)
-unfolding filling_head
-filling_head-over e head rule s p h = count_elsewhere-over e _ (part_head-over e head rule s p h)
+  filling_head-over : {ground : Ground} (e : Exchange) (head : Response) (rule : BodyRule) (s : State) → Coming e (answer_with e head rule) s → Over tale ground s → Over tale ground (filling_head e head rule s)
+  unfolding filling_head
+  filling_head-over e head rule s p h = count_elsewhere-over e _ (part_head-over e head rule s p h)
 
-through_head-over : {ks : List Conn} (e : Exchange) (head : Response) (rule : BodyRule) (s : State) → Coming e (answer_with e head rule) s → Over ks s → Over ks (through_head e head rule s)
-unfolding through_head
-through_head-over e head rule s p h =
-    let r = disproved-same e head _ (invalidated-same e head s (itself s)) in
-    relay_head-over e head rule _ (along r p) (over_same r h)
+  through_head-over : {ground : Ground} (e : Exchange) (head : Response) (rule : BodyRule) (s : State) → Coming e (answer_with e head rule) s → Over tale ground s → Over tale ground (through_head e head rule s)
+  unfolding through_head
+  through_head-over e head rule s p h =
+      let r = disproved-same e head _ (invalidated-same e head s (itself s)) in
+      relay_head-over e head rule _ (along r p) (over_same r h)
 
-over_aim : {ks : List Conn} (aim : Aim) {x y : State} {z : Version → ℕ → ℕ → State} → Over ks x → Over ks y → ((v : Version) (from to : ℕ) → Over ks (z v from to)) → Over ks (elim aim as (λ c. State) [ Through ↦ x | Own ↦ y | Filling v from to ↦ z v from to ])
-over_aim Through hx hy hz = hx
-over_aim Own hx hy hz = hy
-over_aim (Filling v from to) hx hy hz = hz v from to
+  over_aim : {ground : Ground} (aim : Aim) {x y : State} {z : Version → ℕ → ℕ → State} → Over tale ground x → Over tale ground y → ((v : Version) (from to : ℕ) → Over tale ground (z v from to)) → Over tale ground (elim aim as (λ c. State) [ Through ↦ x | Own ↦ y | Filling v from to ↦ z v from to ])
+  over_aim Through hx hy hz = hx
+  over_aim Own hx hy hz = hy
+  over_aim (Filling v from to) hx hy hz = hz v from to
 
-by_aim-over : {ks : List Conn} (e : Exchange) (head : Response) (rule : BodyRule) (s : State) → Coming e (answer_with e head rule) s → Over ks s → Over ks (by_aim e head rule s)
-unfolding by_aim
-by_aim-over e head rule s p h = over_aim e.aim (through_head-over e head rule s p h) (own_head-over e head rule s p h) (λ v from to. filling_head-over e head rule s p h)
+  by_aim-over : {ground : Ground} (e : Exchange) (head : Response) (rule : BodyRule) (s : State) → Coming e (answer_with e head rule) s → Over tale ground s → Over tale ground (by_aim e head rule s)
+  unfolding by_aim
+  by_aim-over e head rule s p h = over_aim e.aim (through_head-over e head rule s p h) (own_head-over e head rule s p h) (λ v from to. filling_head-over e head rule s p h)
 
--- ---- ends
+  -- ---- ends
 
-piped : (f : Pipe → Pipe) (p : Passed) → SameHead (record p { pipe = f p.pipe }) p
-piped f p = record { head = refl; rule = refl }
+  skip_body-over : {ground : Ground} (e : Exchange) (s : State) → Over tale ground s → Over tale ground (skip_body e s)
+  unfolding skip_body on_client_of
+  skip_body-over e s (over h conns came) = over_aim e.aim (over (fed (clients_changed s (is_for e) skipping (λ c. parts_same _ c refl refl refl refl) (facts_of h))) conns came) (over h conns came) (λ v from to. over h conns came)
 
-pour-over : {ks : List Conn} (e : Exchange) (f : Pipe → Pipe) (s : State) → Over ks s → Over ks (pour e f s)
-unfolding pour on_client_of
-pour-over e f s (over h conns) = over (fed (clients_changed s (is_for e) (on_passed (λ p. record p { pipe = f p.pipe })) (λ c. on_passed-fed (λ p. record p { pipe = f p.pipe }) c (piped f)) (facts_of h))) conns
-
-skip_body-over : {ks : List Conn} (e : Exchange) (s : State) → Over ks s → Over ks (skip_body e s)
-unfolding skip_body on_client_of
-skip_body-over e s (over h conns) = over_aim e.aim (over (fed (clients_changed s (is_for e) skipping (λ c. parts_same _ c refl refl refl) (facts_of h))) conns) (over h conns) (λ v from to. over h conns)
-
-close_this-fed : (n : ℕ) (s : State) → Fed s → Fed (close_this n s)
-unfolding close_this
-close_this-fed n s h = each_of (conn s n) h (λ k. close_conn-fed true k s h)
+  close_this-fed : (n : ℕ) (s : State) → Fed tale s → Fed tale (close_this n s)
+  unfolding close_this
+  close_this-fed n s h = each_of (conn s n) h (λ k. close_conn-fed true k s h)
 
 -- it is the first of its line
 abbrev pub IsFirstOn : Conn → Exchange → List Conn → Type 0
 IsFirstOn k e ks = (j : Conn) → IsIn j ks → j.number ≡ k.number → first_of j.line ≡ Some e.number
 
--- a response is over
-done-fed : (k : Conn) (e : Exchange) (head : Response) (s : State) → IsFirstOn k e s.conns → Fed s → Fed (on_conn k.number (rested head) (end_exchange e.number s))
-unfolding on_conn end_exchange
-done-fed k e head s first hs = fed (record {
-  apart = f.apart;
-  rise = f.rise;
-  given = f.given;
-  one = f.one;
-  headed = f.headed;
-  sourced = f.sourced;
-  begun = f.begun;
-  fed_by = λ j x c q l i m is o hit off has. by j x c q (in_change (is_conn k.number) (rested head) j t.conns l) i m is o hit off has;
+module _ {tale : Tale} where
+  -- a response is over
+  done-fed : (k : Conn) (e : Exchange) (head : Response) (s : State) → IsFirstOn k e s.conns → Fed tale s → Fed tale (on_conn k.number (rested head) (end_exchange e.number s))
+  unfolding on_conn end_exchange
+  done-fed k e head s first hs = fed (record {
+    apart = f.apart;
+    rise = f.rise;
+    given = f.given;
+    one = f.one;
+    headed = f.headed;
+    sourced = f.sourced;
+    begun = f.begun;
+    fed_by = λ j x c q l i m is o hit off has. by j x c q (in_change (is_conn k.number) (rested head) j t.conns l) i m is o hit off has;
+  })
+    where
+      t : State
+      t = record s { exchanges = filter (λ x. not (is_exchange e.number x)) s.exchanges; conns = map (without_ask e.number) s.conns }
+
+      f : FactsOf tale t
+      f = facts_of (end_exchange-fed e.number s hs)
+
+      -- none of those left was fed by it
+      behind : (g : Conn) (x : Exchange) (c : Client) (q : Passed) → From (without_ask e.number) s.conns g → g.number ≡ k.number → IsIn x t.exchanges → IsIn x.number g.line → is_headed x ≡ true → IsIn c s.clients → is_for x c ≡ true → is_in_other c.stage ≡ false → passed_of c ≡ Some q → ⊥
+      behind g x c q r number i m is o hit off has =
+          let w = in_filter (λ y. not (is_exchange e.number y)) x s.exchanges i in
+          let l = in_filter (λ n. not (n == e.number)) x.number r.was.line (subst (λ (y : Conn). IsIn x.number y.line) r.is m) in
+          let v = (facts_of hs).fed_by r.was x c q r.there w.0 l.0 is o hit off has in
+          let both : Some e.number ≡ Some x.number = sym (first r.was r.there (sym (ap conn_number r.is) ∙ number)) ∙ v.front in
+          let eq : e.number ≡ x.number = cc in
+          let off_it : not (x.number == e.number) ≡ false = ap not (ap (λ n. n == e.number) (sym eq) ∙ number_same e.number) in
+          let clash : false ≡ true = sym off_it ∙ w.1 in cc clash
+
+      by : (j : Conn) (x : Exchange) (c : Client) (q : Passed) → Changed (is_conn k.number) (rested head) t.conns j → IsIn x t.exchanges → IsIn x.number j.line → is_headed x ≡ true → IsIn c s.clients → is_for x c ≡ true → is_in_other c.stage ≡ false → passed_of c ≡ Some q → Feeds tale j x c q
+      by j x c q (same l isnt) i m is o hit off has = f.fed_by j x c q l i m is o hit off has
+      by j x c q (other g l it_is eq) i m is o hit off has =
+          absurd (behind g x c q (in_map (without_ask e.number) g s.conns l) (same_number g.number k.number it_is) i (subst (λ (y : Conn). IsIn x.number y.line) eq m) is o hit off has)
+
+-- ---- into the pipe
+
+-- the same client, but for the pipe
+pub record SamePoured (d c : Client) : Type 0 where
+  pub number : d.number ≡ c.number
+  pub stage : d.stage ≡ c.stage
+  pub left : d.interim_left ≡ c.interim_left
+
+abbrev pub into_pipe : (Pipe → Pipe) → Client → Client
+into_pipe f c = on_passed (λ p. record p { pipe = f p.pipe }) c
+
+poured_same : (f : Pipe → Pipe) (c : Client) → SamePoured (into_pipe f c) c
+poured_same f c = by (passed_of c)
+  where
+    by : (o : Option Passed) → SamePoured (elim o as (λ x. Client) [ None ↦ c | Some p ↦ record c { brought = Passes (record p { pipe = f p.pipe }) } ]) c
+    by None = record { number = refl; stage = refl; left = refl }
+    by (Some p) = record { number = refl; stage = refl; left = refl }
+
+poured_of : (f : Pipe → Pipe) (c : Client) (q : Passed) → passed_of (into_pipe f c) ≡ Some q → (p : Passed) × (passed_of c ≡ Some p) × (q ≡ record p { pipe = f p.pipe })
+poured_of f c q is = by (passed_of c) refl is
+  where
+    by : (o : Option Passed) → passed_of c ≡ o → passed_of (elim o as (λ x. Client) [ None ↦ c | Some p ↦ record c { brought = Passes (record p { pipe = f p.pipe }) } ]) ≡ Some q → (p : Passed) × (passed_of c ≡ Some p) × (q ≡ record p { pipe = f p.pipe })
+    by None has some = let both : None ≡ Some q = sym has ∙ some in absurd (cc both)
+    by (Some p) has some = let eq : record p { pipe = f p.pipe } ≡ q = cc in (p, has, sym eq)
+
+stands_first : (ns : List ℕ) (m : ℕ) → first_of ns ≡ Some m → IsIn m ns
+stands_first [] m is = absurd (cc is)
+stands_first (n ∷ ns) m is = let eq : n ≡ m = cc in inl (sym eq)
+
+-- more of the response to this exchange, before it is noted of its connection
+pour-amid : (tale : Tale) (e : Exchange) (f : Pipe → Pipe) (s : State) → Lone e s.exchanges → Fed (amid e.number tale) s → Fed (amid e.number tale) (pour e f s)
+unfolding pour on_client_of
+pour-amid tale e f s lone hs = fed (record {
+  apart = rise_change client_number (is_for e) (into_pipe f) (λ c. (poured_same f c).number) s.clients h.apart;
+  rise = h.rise;
+  given = h.given;
+  one = h.one;
+  headed = h.headed;
+  sourced = λ c id i on is. sourced_by c id (of c i) on is;
+  begun = λ x c i j hit on. begun_by x c i (of c j) hit on;
+  fed_by = λ k x c q l i m is j hit off has. fed_at k x c q l i m is (of c j) hit off has;
 })
   where
-    t : State
-    t = record s { exchanges = filter (λ x. not (is_exchange e.number x)) s.exchanges; conns = map (without_ask e.number) s.conns }
+    h : FactsOf (amid e.number tale) s
+    h = facts_of hs
 
-    f : FactsOf t
-    f = facts_of (end_exchange-fed e.number s hs)
+    of : (c : Client) → IsIn c (change (is_for e) (into_pipe f) s.clients) → Changed (is_for e) (into_pipe f) s.clients c
+    of c i = in_change (is_for e) (into_pipe f) c s.clients i
 
-    -- none of those left was fed by it
-    behind : (g : Conn) (x : Exchange) (c : Client) (q : Passed) → From (without_ask e.number) s.conns g → g.number ≡ k.number → IsIn x t.exchanges → IsIn x.number g.line → is_headed x ≡ true → IsIn c s.clients → is_for x c ≡ true → is_in_other c.stage ≡ false → passed_of c ≡ Some q → ⊥
-    behind g x c q r number i m is o hit off has =
-        let w = in_filter (λ y. not (is_exchange e.number y)) x s.exchanges i in
-        let l = in_filter (λ n. not (n == e.number)) x.number r.was.line (subst (λ (y : Conn). IsIn x.number y.line) r.is m) in
-        let v = (facts_of hs).fed_by r.was x c q r.there w.0 l.0 is o hit off has in
-        let both : Some e.number ≡ Some x.number = sym (first r.was r.there (sym (ap conn_number r.is) ∙ number)) ∙ v.front in
-        let eq : e.number ≡ x.number = cc in
-        let off_it : not (x.number == e.number) ≡ false = ap not (ap (λ n. n == e.number) (sym eq) ∙ number_same e.number) in
-        let clash : false ≡ true = sym off_it ∙ w.1 in cc clash
+    stage_of : (c d : Client) → c ≡ into_pipe f d → c.stage ≡ d.stage
+    stage_of c d eq = ap (λ (z : Client). z.stage) eq ∙ (poured_same f d).stage
 
-    by : (j : Conn) (x : Exchange) (c : Client) (q : Passed) → Changed (is_conn k.number) (rested head) t.conns j → IsIn x t.exchanges → IsIn x.number j.line → is_headed x ≡ true → IsIn c s.clients → is_for x c ≡ true → is_in_other c.stage ≡ false → passed_of c ≡ Some q → Feeds j x q
-    by j x c q (same l isnt) i m is o hit off has = f.fed_by j x c q l i m is o hit off has
-    by j x c q (other g l it_is eq) i m is o hit off has =
-        absurd (behind g x c q (in_map (without_ask e.number) g s.conns l) (same_number g.number k.number it_is) i (subst (λ (y : Conn). IsIn x.number y.line) eq m) is o hit off has)
+    for_of : (x : Exchange) (c d : Client) → c ≡ into_pipe f d → is_for x c ≡ true → is_for x d ≡ true
+    for_of x c d eq hit = ap (λ n. is_this n x.asker) (sym (ap client_number eq ∙ (poured_same f d).number)) ∙ hit
 
-finish-fed : (k : Conn) (e : Exchange) (a : Answer) (s : State) → IsFirstOn k e s.conns → Fed s → Fed (finish k e a s)
-unfolding finish
-finish-fed k e a s first h = when (may_go_on e a.head) done (close_this-fed k.number _ done)
+    sourced_by : (c : Client) (id : ℕ) → Changed (is_for e) (into_pipe f) s.clients c → is_in_passed c.stage ≡ true → source_in c.stage ≡ Some id → ⊥
+    sourced_by c id (same i isnt) on is = h.sourced c id i on is
+    sourced_by c id (other d i hit eq) on is = h.sourced d id i (sym (ap is_in_passed (stage_of c d eq)) ∙ on) (sym (ap source_in (stage_of c d eq)) ∙ is)
+
+    begun_by : (x : Exchange) (c : Client) → IsIn x s.exchanges → Changed (is_for e) (into_pipe f) s.clients c → is_for x c ≡ true → is_in_passed c.stage ≡ true → is_headed x ≡ true
+    begun_by x c i (same j isnt) hit on = h.begun x c i j hit on
+    begun_by x c i (other d j its eq) hit on = h.begun x d i j (for_of x c d eq hit) (sym (ap is_in_passed (stage_of c d eq)) ∙ on)
+
+    fed_at : (k : Conn) (x : Exchange) (c : Client) (q : Passed) → IsIn k s.conns → IsIn x s.exchanges → IsIn x.number k.line → is_headed x ≡ true → Changed (is_for e) (into_pipe f) s.clients c → is_for x c ≡ true → is_in_other c.stage ≡ false → passed_of c ≡ Some q → Feeds (amid e.number tale) k x c q
+    fed_at k x c q l i m is (same j isnt) hit off has = h.fed_by k x c q l i m is j hit off has
+    fed_at k x c q l i m is (other d j its eq) hit off has =
+        let w = poured_of f d q (sym (ap passed_of eq) ∙ has) in
+        let its_too = for_of x c d eq hit in
+        let v = h.fed_by k x d w.0 l i m is j its_too (sym (ap is_in_other (stage_of c d eq)) ∙ off) w.1 in
+        record {
+          front = v.front;
+          answer = v.answer;
+          is = v.is;
+          head = ap (λ (y : Passed). y.head) w.2 ∙ v.head;
+          rule = ap (λ (y : Passed). y.rule) w.2 ∙ v.rule;
+          relayed = λ isnt. absurd (isnt (ap (λ n. Some n) (sym (lone x d i its_too its))));
+        }
+
+pour-over : (tale : Tale) {ground : Ground} (e : Exchange) (f : Pipe → Pipe) (s : State) → Lone e s.exchanges → Over (amid e.number tale) ground s → Over (amid e.number tale) ground (pour e f s)
+unfolding pour on_client_of
+pour-over tale e f s lone (over h conns from) = over (pour-amid tale e f s lone h) conns from
+
+module _ {tale : Tale} where
+  -- where nothing is noted apart
+  pour-begins : {ground : Ground} (e : Exchange) (f : Pipe → Pipe) (s : State) → Lone e s.exchanges → tale.but ≡ None → Over tale ground s → Over (amid e.number tale) ground (pour e f s)
+  pour-begins e f s lone calm (over h conns from) = pour-over tale e f s lone (over (weaker e.number s calm h) conns from)
+  -- ---- an exchange that is over
+
+filtered_out : (n : ℕ) (x : Exchange) (xs : List Exchange) → IsIn x (filter (λ y. not (is_exchange n y)) xs) → x.number ≡ n → ⊥
+filtered_out n x xs i number =
+    let off_it : not (x.number == n) ≡ false = ap not (ap (λ m. m == n) number ∙ number_same n) in
+    let both : false ≡ true = sym off_it ∙ (in_filter (λ y. not (is_exchange n y)) x xs i).1 in cc both
+
+module _ {tale : Tale} where
+  end_exchange-over : (n : ℕ) (s : State) → Fed (amid n tale) s → Fed tale (end_exchange n s)
+  unfolding end_exchange
+  end_exchange-over n s h = over_amid n _ (λ x i number. filtered_out n x s.exchanges i number) (end_exchange-fed n s h)
+
+  rested-over : (k : Conn) (e : Exchange) (head : Response) (s : State) → IsFirstOn k e s.conns → Fed (amid e.number tale) s → Fed tale (on_conn k.number (rested head) (end_exchange e.number s))
+  unfolding on_conn end_exchange
+  rested-over k e head s first h = over_amid e.number _ (λ x i number. filtered_out e.number x s.exchanges i number) (done-fed k e head s first h)
+
+  finish-fed : (k : Conn) (e : Exchange) (a : Answer) (s : State) → IsFirstOn k e s.conns → Lone e s.exchanges → Fed (amid e.number tale) s → Fed tale (finish k e a s)
+  unfolding finish
+  finish-fed k e a s first lone h = when (may_go_on e a.head) done (close_this-fed k.number _ done)
+    where
+      ground : Ground
+      ground = record { conns = s.conns; exchanges = s.exchanges }
+
+      skipped : Over (amid e.number tale) ground (skip_body e (pour e finished s))
+      skipped = skip_body-over e _ (pour-over tale e finished s lone (over h refl (descend_self s.exchanges)))
+
+      done : Fed tale (on_conn k.number (rested a.head) (end_exchange e.number (skip_body e (pour e finished s))))
+      done = rested-over k e a.head (skip_body e (pour e finished s)) (λ j i. first j (subst (λ ks. IsIn j ks) (over_conns skipped) i)) (over_fed skipped)
+
+-- none of that number is there
+absent : (n : ℕ) (xs : List Exchange) (x : Exchange) → find (is_exchange n) xs ≡ None → IsIn x xs → x.number ≡ n → ⊥
+absent n [] x none i number = i
+absent n (y ∷ ys) x none i number = by (is_exchange n y) refl none i (λ rest j. absent n ys x rest j number)
   where
-    skipped : Over s.conns (skip_body e (pour e finished s))
-    skipped = skip_body-over e _ (pour-over e finished s (over h refl))
+    by : (t : Bool) → is_exchange n y ≡ t → cond t (Some y) (find (is_exchange n) ys) ≡ None → (x ≡ y) ⊎ IsIn x ys → (find (is_exchange n) ys ≡ None → IsIn x ys → ⊥) → ⊥
+    by true is rest j more = cc rest
+    by false is rest (inl eq) more = let both : true ≡ false = sym (number_same n) ∙ ap (λ m. m == n) (sym (sym (ap exchange_number eq) ∙ number)) ∙ is in cc both
+    by false is rest (inr j) more = more rest j
 
-    done : Fed (on_conn k.number (rested a.head) (end_exchange e.number (skip_body e (pour e finished s))))
-    done = done-fed k e a.head (skip_body e (pour e finished s)) (λ j i. first j (subst (λ ks. IsIn j ks) (over_conns skipped) i)) (over_fed skipped)
+first_absent : (n : ℕ) (k : Conn) (s : State) → first_of k.line ≡ Some n → front_of_line s k ≡ None → (x : Exchange) → IsIn x s.exchanges → x.number ≡ n → ⊥
+first_absent n k s first none x i number = by k.line first none
+  where
+    by : (line : List ℕ) → first_of line ≡ Some n → (elim line as (λ y. Option Exchange) [ [] ↦ None | m ∷ ms ↦ exchange s m ]) ≡ None → ⊥
+    by [] is gone = cc is
+    by (m ∷ ms) is gone = let eq : m ≡ n = cc in absent m s.exchanges x gone i (number ∙ sym eq)
 
-bad_response-fed : (k : Conn) (s : State) → Fed s → Fed (bad_response k s)
-unfolding bad_response
-bad_response-fed k s h = each_of (front_of_line s k) (close_conn-fed false k s h) (λ e. close_conn-fed false k _ (end_exchange-fed e.number _ (fail-fed e s h)))
+module _ {tale : Tale} where
+  bad_response-amid : (n : ℕ) (k : Conn) (s : State) → first_of k.line ≡ Some n → Fed (amid n tale) s → Fed tale (bad_response k s)
+  unfolding bad_response
+  bad_response-amid n k s first h =
+      each_so (front_of_line s k) (λ none. close_conn-fed false k s (over_amid n s (first_absent n k s first none) h))
+      (λ e front. close_conn-fed false k _ (end_exchange-over e.number _ (fail-fed e s (subst (λ m. Fed (amid m tale) s) (same_first e front) h))))
+    where
+      same_first : (e : Exchange) → front_of_line s k ≡ Some e → n ≡ e.number
+      same_first e front = let both : Some n ≡ Some e.number = sym first ∙ (front_by s k.line e front).1 in cc both
 
-bad_head-fed : (k : Conn) (s : State) → Fed s → Fed (bad_head k s)
-unfolding bad_head
-bad_head-fed k s h = when k.has_brought (each_of (front_of_line s k) (close_conn-fed false k s h) (λ e. close_conn-fed false k _ (lose_attempt-fed e s h))) (bad_response-fed k s h)
+module _ {tale : Tale} where
+  bad_response-fed : (k : Conn) (s : State) → Fed tale s → Fed tale (bad_response k s)
+  unfolding bad_response
+  bad_response-fed k s h = each_of (front_of_line s k) (close_conn-fed false k s h) (λ e. close_conn-fed false k _ (end_exchange-fed e.number _ (fail-fed e s h)))
 
--- ---- heads
+  bad_head-fed : (k : Conn) (s : State) → Fed tale s → Fed tale (bad_head k s)
+  unfolding bad_head
+  bad_head-fed k s h = when k.has_brought (each_of (front_of_line s k) (close_conn-fed false k s h) (λ e. close_conn-fed false k _ (lose_attempt-fed e s h))) (bad_response-fed k s h)
+  -- ---- heads
 
 begun_cases : (c : Client) → is_begun c ≡ true → is_in_other c.stage ≡ false → is_in_passed c.stage ≡ true
 begun_cases c on off = by c.stage on off
@@ -429,125 +633,133 @@ none_begun : (b : Bool) → (b ≡ true → ⊥) → b ≡ false
 none_begun true isnt = absurd (isnt refl)
 none_begun false isnt = refl
 
-module _ {b : Since} (k : Conn) (e : Exchange) (a : Answer) (s : State) (there : IsIn k s.conns) (no_answer : k.answer ≡ None) (front : front_of_line s k ≡ Some e) (hs : Sound b s) (h : Fed s) where
-  given : IsIn e s.exchanges × (first_of k.line ≡ Some e.number)
-  given = front_by s k.line e front
+module _ {tale : Tale} where
+  module _ {b : Since} (k : Conn) (e : Exchange) (a : Answer) (s : State) (there : IsIn k s.conns) (no_answer : k.answer ≡ None) (front : front_of_line s k ≡ Some e) (hs : Sound b s) (h : Fed tale s) where
+    given : IsIn e s.exchanges × (first_of k.line ≡ Some e.number)
+    given = front_by s k.line e front
 
-  in_line : IsIn e.number k.line
-  in_line = by k.line given.1
+    in_line : IsIn e.number k.line
+    in_line = by k.line given.1
+      where
+        by : (ns : List ℕ) → first_of ns ≡ Some e.number → IsIn e.number ns
+        by [] is = absurd (cc is)
+        by (n ∷ ns) is = let eq : n ≡ e.number = cc in inl (sym eq)
+
+    place : e.place ≡ Some k.number
+    place = (sound_facts hs).placed k e there given.0 in_line
+
+    it : (j : Conn) → IsIn j s.conns → j.number ≡ k.number → j ≡ k
+    it j i number = one_of conn_number s.conns j k (sound_facts hs).lines.rise i there number
+
+    nobody : (j : Conn) (n : ℕ) (x : Answer) → IsIn j s.conns → j.number ≡ k.number → j.answer ≡ Some x → ⊥
+    nobody j n x i number is = let both : None ≡ Some x = sym no_answer ∙ sym (ap (λ (y : Conn). y.answer) (it j i number)) ∙ is in cc both
+
+    answered : Fed tale (on_conn k.number (answered_by a) s)
+    unfolding on_conn
+    answered = fed (conns_from s (change (is_conn k.number) (answered_by a) s.conns) (λ j i. by j (in_change (is_conn k.number) (answered_by a) j s.conns i)) (facts_of h))
+      where
+        by : (j : Conn) → Changed (is_conn k.number) (answered_by a) s.conns j → FromConn s.conns j
+        by j (same i isnt) = itself_conn s j i
+        by j (other g i hit eq) = record {
+          was = g;
+          there = i;
+          line = λ n l. subst (λ (y : Conn). IsIn n y.line) eq l;
+          front = λ n l is. ap (λ (y : Conn). first_of y.line) eq ∙ is;
+          answer = λ n x l is. absurd (nobody g n x i (same_number g.number k.number hit) is);
+        }
+
+    comes : payload_of a ≡ [] → Coming e a (on_conn k.number (answered_by a) s)
+    unfolding on_conn
+    comes nothing = coming (record {
+      nothing = nothing;
+      there = given.0;
+      placed = λ none. let both : Some k.number ≡ None = sym place ∙ none in cc both;
+      line = λ j i l. line_by j (in_change (is_conn k.number) (answered_by a) j s.conns i) l;
+      waits = λ c p i hit off has. none_begun (is_begun c) (λ on. waits_by c p i hit off has on);
+    })
+      where
+        line_by : (j : Conn) → Changed (is_conn k.number) (answered_by a) s.conns j → IsIn e.number j.line → (first_of j.line ≡ Some e.number) × (j.answer ≡ Some a)
+        line_by j (same i isnt) l =
+            let both : Some j.number ≡ Some k.number = sym ((sound_facts hs).placed j e i given.0 l) ∙ place in
+            let eq : j.number ≡ k.number = cc in
+            let clash : false ≡ true = sym isnt ∙ ap (λ n. n == k.number) eq ∙ number_same k.number in absurd (cc clash)
+        line_by j (other g i hit eq) l =
+            (ap (λ (y : Conn). first_of y.line) eq ∙ ap (λ (y : Conn). first_of y.line) (it g i (same_number g.number k.number hit)) ∙ given.1, ap (λ (y : Conn). y.answer) eq)
+
+        waits_by : (c : Client) (p : Passed) → IsIn c s.clients → is_for e c ≡ true → is_in_other c.stage ≡ false → passed_of c ≡ Some p → is_begun c ≡ true → ⊥
+        waits_by c p i hit off has on =
+            let headed = (facts_of h).begun e c given.0 i hit (begun_cases c on off) in
+            let v = (facts_of h).fed_by k e c p there given.0 in_line headed i hit off has in
+            nobody k e.number v.answer there refl v.is
+
+    first_on : IsFirstOn k e (on_conn k.number (answered_by a) s).conns
+    unfolding on_conn
+    first_on j i number = by (in_change (is_conn k.number) (answered_by a) j s.conns i)
+      where
+        by : Changed (is_conn k.number) (answered_by a) s.conns j → first_of j.line ≡ Some e.number
+        by (same l isnt) = ap (λ (y : Conn). first_of y.line) (it j l number) ∙ given.1
+        by (other g l hit eq) = ap (λ (y : Conn). first_of y.line) eq ∙ ap (λ (y : Conn). first_of y.line) (it g l (same_number g.number k.number hit)) ∙ given.1
+
+  begin_answer-fed : {b : Since} (k : Conn) (e : Exchange) (head : Response) (rule : BodyRule) (s : State) → tale.but ≡ None → IsIn k s.conns → k.answer ≡ None → front_of_line s k ≡ Some e → Sound b s → Fed tale s → Fed tale (begin_answer k e head rule s)
+  unfolding begin_answer end_if_empty on_conn
+  begin_answer-fed k e head rule s calm there no_answer front hs h = by_outcome (body_of rule []).outcome (λ rest. finish-fed k e a u first lone (weaker e.number u calm (over_fed now))) (over_fed now) (over_fed now)
     where
-      by : (ns : List ℕ) → first_of ns ≡ Some e.number → IsIn e.number ns
-      by [] is = absurd (cc is)
-      by (n ∷ ns) is = let eq : n ≡ e.number = cc in inl (sym eq)
+      a : Answer
+      a = answer_with e head rule
 
-  place : e.place ≡ Some k.number
-  place = (sound_facts hs).placed k e there given.0 in_line
+      t : State
+      t = record s { conns = change (is_conn k.number) (answered_by (answer_with e head rule)) s.conns }
 
-  it : (j : Conn) → IsIn j s.conns → j.number ≡ k.number → j ≡ k
-  it j i number = one_of conn_number s.conns j k (sound_facts hs).lines.rise i there number
+      ground : Ground
+      ground = record { conns = change (is_conn k.number) (answered_by (answer_with e head rule)) s.conns; exchanges = s.exchanges }
 
-  nobody : (j : Conn) (n : ℕ) (x : Answer) → IsIn j s.conns → j.number ≡ k.number → j.answer ≡ Some x → ⊥
-  nobody j n x i number is = let both : None ≡ Some x = sym no_answer ∙ sym (ap (λ (y : Conn). y.answer) (it j i number)) ∙ is in cc both
+      u : State
+      u = by_aim e head rule (record s { conns = change (is_conn k.number) (answered_by (answer_with e head rule)) s.conns })
 
-  answered : Fed (on_conn k.number (answered_by a) s)
-  unfolding on_conn
-  answered = fed (conns_from s (change (is_conn k.number) (answered_by a) s.conns) (λ j i. by j (in_change (is_conn k.number) (answered_by a) j s.conns i)) (facts_of h))
-    where
-      by : (j : Conn) → Changed (is_conn k.number) (answered_by a) s.conns j → FromConn s.conns j
-      by j (same i isnt) = itself_conn s j i
-      by j (other g i hit eq) = record {
-        was = g;
-        there = i;
-        line = λ n l. subst (λ (y : Conn). IsIn n y.line) eq l;
-        front = λ n l is. ap (λ (y : Conn). first_of y.line) eq ∙ is;
-        answer = λ n x l is. absurd (nobody g n x i (same_number g.number k.number hit) is);
-      }
+      now : Over tale ground u
+      now = by_aim-over e head rule _ (comes k e (answer_with e head rule) s there no_answer front hs h (payload-nothing rule)) (over (answered k e (answer_with e head rule) s there no_answer front hs h) refl (descend_self s.exchanges))
 
-  comes : Coming e a (on_conn k.number (answered_by a) s)
-  unfolding on_conn
-  comes = coming (record {
-    there = given.0;
-    placed = λ none. let both : Some k.number ≡ None = sym place ∙ none in cc both;
-    line = λ j i l. line_by j (in_change (is_conn k.number) (answered_by a) j s.conns i) l;
-    waits = λ c p i hit off has. none_begun (is_begun c) (λ on. waits_by c p i hit off has on);
-  })
-    where
-      line_by : (j : Conn) → Changed (is_conn k.number) (answered_by a) s.conns j → IsIn e.number j.line → (first_of j.line ≡ Some e.number) × (j.answer ≡ Some a)
-      line_by j (same i isnt) l =
-          let both : Some j.number ≡ Some k.number = sym ((sound_facts hs).placed j e i given.0 l) ∙ place in
-          let eq : j.number ≡ k.number = cc in
-          let clash : false ≡ true = sym isnt ∙ ap (λ n. n == k.number) eq ∙ number_same k.number in absurd (cc clash)
-      line_by j (other g i hit eq) l =
-          (ap (λ (y : Conn). first_of y.line) eq ∙ ap (λ (y : Conn). first_of y.line) (it g i (same_number g.number k.number hit)) ∙ given.1, ap (λ (y : Conn). y.answer) eq)
+      first : IsFirstOn k e u.conns
+      first j i number = first_on k e (answer_with e head rule) s there no_answer front hs h j (subst (λ ks. IsIn j ks) (over_conns now) i) number
 
-      waits_by : (c : Client) (p : Passed) → IsIn c s.clients → is_for e c ≡ true → is_in_other c.stage ≡ false → passed_of c ≡ Some p → is_begun c ≡ true → ⊥
-      waits_by c p i hit off has on =
-          let headed = (facts_of h).begun e c given.0 i hit (begun_cases c on off) in
-          let v = (facts_of h).fed_by k e c p there given.0 in_line headed i hit off has in
-          nobody k e.number v.answer there refl v.is
+      lone : Lone e u.exchanges
+      lone = lone_by e s u.exchanges (front_by s k.line e front).0 (over_from now) h
 
-  first_on : IsFirstOn k e (on_conn k.number (answered_by a) s).conns
-  unfolding on_conn
-  first_on j i number = by (in_change (is_conn k.number) (answered_by a) j s.conns i)
-    where
-      by : Changed (is_conn k.number) (answered_by a) s.conns j → first_of j.line ≡ Some e.number
-      by (same l isnt) = ap (λ (y : Conn). first_of y.line) (it j l number) ∙ given.1
-      by (other g l hit eq) = ap (λ (y : Conn). first_of y.line) eq ∙ ap (λ (y : Conn). first_of y.line) (it g l (same_number g.number k.number hit)) ∙ given.1
+  answer_for-fed : {b : Since} (k : Conn) (e : Exchange) (head : Response) (s : State) → tale.but ≡ None → IsIn k s.conns → k.answer ≡ None → front_of_line s k ≡ Some e → Sound b s → Fed tale s → Fed tale (answer_for k e head s)
+  unfolding answer_for
+  answer_for-fed k e head s calm there no_answer front hs h =
+      when (is_wrong_head e head) (bad_head-fed k s h) (by_result (rule_of (asks_head e) head.status head.fields) (λ rule. begin_answer-fed k e head rule s calm there no_answer front hs h) (λ fault. bad_head-fed k s h))
 
-begin_answer-fed : {b : Since} (k : Conn) (e : Exchange) (head : Response) (rule : BodyRule) (s : State) → IsIn k s.conns → k.answer ≡ None → front_of_line s k ≡ Some e → Sound b s → Fed s → Fed (begin_answer k e head rule s)
-unfolding begin_answer end_if_empty
-begin_answer-fed k e head rule s there no_answer front hs h = by_outcome (body_of rule []).outcome (λ rest. finish-fed k e a u first (over_fed now)) (over_fed now) (over_fed now)
-  where
-    a : Answer
-    a = answer_with e head rule
+  head_came-fed : {b : Since} (k : Conn) (head : Response) (s : State) → tale.but ≡ None → IsIn k s.conns → k.answer ≡ None → Sound b s → Fed tale s → Fed tale (head_came k head s)
+  unfolding head_came
+  head_came-fed k head s calm there no_answer hs h = each_so (front_of_line s k) (λ none. close_conn-fed false k s h) (λ e front. answer_for-fed k e head s calm there no_answer front hs h)
 
-    t : State
-    t = on_conn k.number (answered_by a) s
+  -- ---- bytes
 
-    u : State
-    u = by_aim e head rule t
+  piece_when : (t : Bool) (p q : Piece) → Fed tale p.state → Fed tale q.state → Fed tale (elim t as (λ c. Piece) [ true ↦ p | false ↦ q ]).state
+  piece_when true p q hp hq = hp
+  piece_when false p q hp hq = hq
 
-    now : Over t.conns u
-    now = by_aim-over e head rule t (comes k e a s there no_answer front hs h) (over (answered k e a s there no_answer front hs h) refl)
+  with_unread-fed : (k : Conn) (bytes : Bytes) (s : State) → Fed tale s → Fed tale (on_conn k.number (with_unread bytes) s)
+  with_unread-fed k bytes s h = on_conn-fed k.number (with_unread bytes) s (λ j. record { line = refl; answer = refl }) h
 
-    first : IsFirstOn k e u.conns
-    first j i number = first_on k e a s there no_answer front hs h j (subst (λ ks. IsIn j ks) (over_conns now) i) number
+  head_piece_by : {b : Since} (k : Conn) (bytes : Bytes) (s : State) (read : Read Response) → tale.but ≡ None → IsIn k s.conns → k.answer ≡ None → Sound b s → Fed tale s
+      → Fed tale (elim read as (λ c. Piece) [
+        | More ↦ record { state = on_conn k.number (with_unread bytes) s; rest = [] }
+        | TooLong ↦ record { state = bad_head k s; rest = [] }
+        | NoHead ↦ record { state = bad_head k s; rest = [] }
+        | Whole head ↦ elim (is_interim head.status) as (λ c. Piece) [
+          | true ↦ record { state = on_conn k.number (with_unread []) s; rest = drop head.length bytes }
+          | false ↦ record { state = head_came k head s; rest = drop head.length bytes }
+        ]
+      ]).state
+  head_piece_by k bytes s More calm there no_answer hs h = with_unread-fed k bytes s h
+  head_piece_by k bytes s TooLong calm there no_answer hs h = bad_head-fed k s h
+  head_piece_by k bytes s NoHead calm there no_answer hs h = bad_head-fed k s h
+  head_piece_by k bytes s (Whole head) calm there no_answer hs h = piece_when (is_interim head.status) _ _ (with_unread-fed k [] s h) (head_came-fed k head s calm there no_answer hs h)
 
-answer_for-fed : {b : Since} (k : Conn) (e : Exchange) (head : Response) (s : State) → IsIn k s.conns → k.answer ≡ None → front_of_line s k ≡ Some e → Sound b s → Fed s → Fed (answer_for k e head s)
-unfolding answer_for
-answer_for-fed k e head s there no_answer front hs h =
-    when (is_wrong_head e head) (bad_head-fed k s h) (by_result (rule_of (asks_head e) head.status head.fields) (λ rule. begin_answer-fed k e head rule s there no_answer front hs h) (λ fault. bad_head-fed k s h))
-
-head_came-fed : {b : Since} (k : Conn) (head : Response) (s : State) → IsIn k s.conns → k.answer ≡ None → Sound b s → Fed s → Fed (head_came k head s)
-unfolding head_came
-head_came-fed k head s there no_answer hs h = each_so (front_of_line s k) (λ none. close_conn-fed false k s h) (λ e front. answer_for-fed k e head s there no_answer front hs h)
-
--- ---- bytes
-
-piece_when : (t : Bool) (p q : Piece) → Fed p.state → Fed q.state → Fed (elim t as (λ c. Piece) [ true ↦ p | false ↦ q ]).state
-piece_when true p q hp hq = hp
-piece_when false p q hp hq = hq
-
-with_unread-fed : (k : Conn) (bytes : Bytes) (s : State) → Fed s → Fed (on_conn k.number (with_unread bytes) s)
-with_unread-fed k bytes s h = on_conn-fed k.number (with_unread bytes) s (λ j. record { line = refl; answer = refl }) h
-
-head_piece_by : {b : Since} (k : Conn) (bytes : Bytes) (s : State) (read : Read Response) → IsIn k s.conns → k.answer ≡ None → Sound b s → Fed s
-    → Fed (elim read as (λ c. Piece) [
-      | More ↦ record { state = on_conn k.number (with_unread bytes) s; rest = [] }
-      | TooLong ↦ record { state = bad_head k s; rest = [] }
-      | NoHead ↦ record { state = bad_head k s; rest = [] }
-      | Whole head ↦ elim (is_interim head.status) as (λ c. Piece) [
-        | true ↦ record { state = on_conn k.number (with_unread []) s; rest = drop head.length bytes }
-        | false ↦ record { state = head_came k head s; rest = drop head.length bytes }
-      ]
-    ]).state
-head_piece_by k bytes s More there no_answer hs h = with_unread-fed k bytes s h
-head_piece_by k bytes s TooLong there no_answer hs h = bad_head-fed k s h
-head_piece_by k bytes s NoHead there no_answer hs h = bad_head-fed k s h
-head_piece_by k bytes s (Whole head) there no_answer hs h = piece_when (is_interim head.status) _ _ (with_unread-fed k [] s h) (head_came-fed k head s there no_answer hs h)
-
-head_piece-fed : {b : Since} (k : Conn) (bytes : Bytes) (s : State) → IsIn k s.conns → k.answer ≡ None → Sound b s → Fed s → Fed (head_piece k bytes s).state
-head_piece-fed k bytes s there no_answer hs h = piece_when (is_early s k) _ _ (close_conn-fed true k s h) (head_piece_by k (k.unread ++ bytes) s (response_at (k.unread ++ bytes)) there no_answer hs h)
+  head_piece-fed : {b : Since} (k : Conn) (bytes : Bytes) (s : State) → tale.but ≡ None → IsIn k s.conns → k.answer ≡ None → Sound b s → Fed tale s → Fed tale (head_piece k bytes s).state
+  head_piece-fed k bytes s calm there no_answer hs h = piece_when (is_early s k) _ _ (close_conn-fed true k s h) (head_piece_by k (k.unread ++ bytes) s (response_at (k.unread ++ bytes)) calm there no_answer hs h)
 
 moved_same : (n : ℕ) (e : Exchange) → SameExchange (moved_on n e) e
 moved_same n e = by e.body refl
@@ -558,95 +770,206 @@ moved_same n e = by e.body refl
     by Relaying is = exchange_same e
     by Dropping is = exchange_same e
 
-join_bound-over : {ks : List Conn} (e : Exchange) (bytes : Bytes) (s : State) → Over ks s → Over ks (join_bound e bytes s)
-unfolding join_bound on_exchange
-join_bound-over {ks} e bytes s h = over_each (bound_of e) h (λ to. moved to (over_same (join-same to bytes s (itself s)) h))
-  where
-    moved : (to : Bound) → Over ks (join to bytes s) → Over ks (record (join to bytes s) { exchanges = change (is_exchange e.number) (moved_on (length bytes)) (join to bytes s).exchanges })
-    moved to (over g conns) = over (fed (exchanges_changed (join to bytes s) (is_exchange e.number) (moved_on (length bytes)) (λ x i hit. moved_same (length bytes) x) (λ x. (moved_same (length bytes) x).number) (facts_of g))) conns
+module _ {tale : Tale} where
+  join_bound-over : {ground : Ground} (e : Exchange) (bytes : Bytes) (s : State) → Over tale ground s → Over tale ground (join_bound e bytes s)
+  unfolding join_bound on_exchange
+  join_bound-over {ground} e bytes s h = over_each (bound_of e) h (λ to. moved to (over_same (join-same to bytes s (itself s)) h))
+    where
+      moved : (to : Bound) → Over tale ground (join to bytes s) → Over tale ground (record (join to bytes s) { exchanges = change (is_exchange e.number) (moved_on (length bytes)) (join to bytes s).exchanges })
+      moved to (over g conns from) =
+          over (fed (exchanges_changed (join to bytes s) (is_exchange e.number) (moved_on (length bytes)) (λ x i hit. moved_same (length bytes) x) (λ x. (moved_same (length bytes) x).number) (facts_of g))) conns
+          (descend_changed ground.exchanges (join to bytes s).exchanges (is_exchange e.number) (moved_on (length bytes)) (λ x. (moved_same (length bytes) x).number) (λ x n is. (moved_same (length bytes) x).asker n is) from)
 
-deliver-over : {ks : List Conn} (e : Exchange) (a : Answer) (at : ℕ) (bytes : Bytes) (s : State) → Over ks s → Over ks (deliver e a at bytes s)
-unfolding deliver
-deliver-over e a at bytes s h = pour-over e _ _ (join_bound-over e bytes _ (over_same (note_sent-same e a at bytes s (itself s)) h))
+  -- its bytes are on record, and joined
+  readied-over : {ground : Ground} (e : Exchange) (a : Answer) (at : ℕ) (bytes : Bytes) (s : State) → Over tale ground s → Over tale ground (join_bound e bytes (note_sent e a at bytes s))
+  readied-over e a at bytes s h = join_bound-over e bytes _ (over_same (note_sent-same e a at bytes s (itself s)) h)
 
--- more of the same answer
-going-fed : {b : Since} (k : Conn) (a : Answer) (more : Bytes) (s t : State) → IsIn k s.conns → k.answer ≡ Some a → Sound b s → t.conns ≡ s.conns → Fed t → Fed (on_conn k.number (λ i. record i { answer = Some (record a { raw = more }) }) t)
-unfolding on_conn
-going-fed k a more s t there has hs conns h =
-    fed (conns_from t (change (is_conn k.number) (λ i. record i { answer = Some (record a { raw = more }) }) t.conns) (λ j i. by j (in_change (is_conn k.number) (λ g. record g { answer = Some (record a { raw = more }) }) j t.conns i)) (facts_of h))
-  where
-    by : (j : Conn) → Changed (is_conn k.number) (λ i. record i { answer = Some (record a { raw = more }) }) t.conns j → FromConn t.conns j
-    by j (same i isnt) = itself_conn t j i
-    by j (other g i hit eq) =
-        let it : g ≡ k = one_of conn_number s.conns g k (sound_facts hs).lines.rise (subst (λ ks. IsIn g ks) conns i) there (same_number g.number k.number hit) in
-        record {
-          was = g;
-          there = i;
-          line = λ n l. subst (λ (y : Conn). IsIn n y.line) eq l;
-          front = λ n l is. ap (λ (y : Conn). first_of y.line) eq ∙ is;
-          answer = λ n x l is.
-              let both : Some a ≡ Some x = sym (ap (λ (y : Conn). y.answer) it ∙ has) ∙ is in
-              let same_one : a ≡ x = cc in
-              (record a { raw = more }, ap (λ (y : Conn). y.answer) eq, ap (λ (y : Answer). y.head) same_one, ap (λ (y : Answer). y.rule) same_one);
-        }
+  deliver-over : {ground : Ground} (e : Exchange) (a : Answer) (at : ℕ) (bytes : Bytes) (s : State) → Lone e (join_bound e bytes (note_sent e a at bytes s)).exchanges → tale.but ≡ None → Over tale ground s → Over (amid e.number tale) ground (deliver e a at bytes s)
+  unfolding deliver
+  deliver-over e a at bytes s lone calm h = pour-begins e (poured bytes) _ lone calm (readied-over e a at bytes s h)
 
-body_piece-fed : {b : Since} (k : Conn) (a : Answer) (bytes : Bytes) (s : State) → IsIn k s.conns → k.answer ≡ Some a → Sound b s → Fed s → Fed (body_piece k a bytes s).state
-body_piece-fed k a bytes s there has hs h = by (front_of_line s k) refl
-  where
-    by_outcome_of : (e : Exchange) (outcome : Outcome) → front_of_line s k ≡ Some e → let t : State = deliver e a (length (payload_of a)) (drop (length (payload_of a)) (body_of a.rule (a.raw ++ bytes)).payload) s in
-        Fed (elim outcome as (λ c. Piece) [
-          | Going ↦ record { state = on_conn k.number (λ i. record i { answer = Some (record a { raw = a.raw ++ bytes }) }) t; rest = [] }
-          | Bad ↦ record { state = bad_response k t; rest = [] }
-          | Done rest ↦ record { state = finish k e a t; rest = rest }
-        ]).state
-    by_outcome_of e outcome front = at outcome
+  -- more of the same answer: these data went into the pipe
+  module _ {b : Since} (k : Conn) (a : Answer) (more fresh : Bytes) (e : Exchange) (s t : State) (there : IsIn k s.conns) (has : k.answer ≡ Some a) (hs : Sound b s) (its : IsIn e s.exchanges) (first : first_of k.line ≡ Some e.number) (in_it : IsIn e.number k.line)
+      (rise : AreRising (map exchange_number s.exchanges)) (grown : (body_of a.rule more).payload ≡ payload_of a ++ fresh) (lone : Lone e t.exchanges) (conns : t.conns ≡ s.conns) (from : Descend s.exchanges t.exchanges) (ht : Fed tale t) where
+    h : FactsOf tale t
+    h = facts_of ht
+
+    abbrev longer : Answer
+    longer = record a { raw = more }
+
+    abbrev to : Conn → Conn
+    to i = record i { answer = Some longer }
+
+    one_conn : (g : Conn) → IsIn g t.conns → is_conn k.number g ≡ true → g ≡ k
+    one_conn g i hit = one_of conn_number s.conns g k (sound_facts hs).lines.rise (subst (λ ks. IsIn g ks) conns i) there (same_number g.number k.number hit)
+
+    -- it stands in no other line
+    elsewhere : (j : Conn) (x : Exchange) → IsIn j t.conns → is_conn k.number j ≡ false → x.number ≡ e.number → IsIn x.number j.line → ⊥
+    elsewhere j x l isnt number m =
+        let here = (sound_facts hs).placed k e there its in_it in
+        let there_too = (sound_facts hs).placed j e (subst (λ ks. IsIn j ks) conns l) its (subst (λ n. IsIn n j.line) number m) in
+        let both : Some j.number ≡ Some k.number = sym there_too ∙ here in
+        let eq : j.number ≡ k.number = cc in
+        let clash : false ≡ true = sym isnt ∙ ap (λ n. n == k.number) eq ∙ number_same k.number in cc clash
+
+    -- an exchange of that number with an asker is it
+    for_it : (x : Exchange) (c : Client) → IsIn x t.exchanges → x.number ≡ e.number → is_for x c ≡ true → is_for e c ≡ true
+    for_it x c i number hit =
+        let w = from x c.number i (asker_of x c hit) in
+        let eq : w.was ≡ e = one_of exchange_number s.exchanges w.was e rise w.there its (sym w.number ∙ number) in
+        ap (λ o. is_this c.number o) (ap (λ (z : Exchange). z.asker) (sym eq) ∙ w.asker) ∙ number_same c.number
+
+    of : (c : Client) → IsIn c (change (is_for e) (into_pipe (poured fresh)) t.clients) → Changed (is_for e) (into_pipe (poured fresh)) t.clients c
+    of c i = in_change (is_for e) (into_pipe (poured fresh)) c t.clients i
+
+    stage_of : (c d : Client) → c ≡ into_pipe (poured fresh) d → c.stage ≡ d.stage
+    stage_of c d eq = ap (λ (z : Client). z.stage) eq ∙ (poured_same (poured fresh) d).stage
+
+    for_of : (x : Exchange) (c d : Client) → c ≡ into_pipe (poured fresh) d → is_for x c ≡ true → is_for x d ≡ true
+    for_of x c d eq hit = ap (λ n. is_this n x.asker) (sym (ap client_number eq ∙ (poured_same (poured fresh) d).number)) ∙ hit
+
+    sourced_by : (c : Client) (id : ℕ) → Changed (is_for e) (into_pipe (poured fresh)) t.clients c → is_in_passed c.stage ≡ true → source_in c.stage ≡ Some id → ⊥
+    sourced_by c id (same i isnt) on is = h.sourced c id i on is
+    sourced_by c id (other d i hit eq) on is = h.sourced d id i (sym (ap is_in_passed (stage_of c d eq)) ∙ on) (sym (ap source_in (stage_of c d eq)) ∙ is)
+
+    begun_by : (x : Exchange) (c : Client) → IsIn x t.exchanges → Changed (is_for e) (into_pipe (poured fresh)) t.clients c → is_for x c ≡ true → is_in_passed c.stage ≡ true → is_headed x ≡ true
+    begun_by x c i (same j isnt) hit on = h.begun x c i j hit on
+    begun_by x c i (other d j hers eq) hit on = h.begun x d i j (for_of x c d eq hit) (sym (ap is_in_passed (stage_of c d eq)) ∙ on)
+
+    -- the client is as it was, but for the pipe
+    behind_it : (g : Conn) (x : Exchange) (c d : Client) (p q : Passed) → g ≡ k → c ≡ into_pipe (poured fresh) d → q ≡ record p { pipe = poured fresh p.pipe } → Feeds tale g x d p → Feeds tale (to g) x c q
+    behind_it g x c d p q same_conn eq piped v = record {
+      front = v.front;
+      answer = longer;
+      is = refl;
+      head = ap (λ (y : Passed). y.head) piped ∙ v.head ∙ ap (λ (y : Answer). y.head) same_answer;
+      rule = ap (λ (y : Passed). y.rule) piped ∙ v.rule ∙ ap (λ (y : Answer). y.rule) same_answer;
+      relayed = λ isnt.
+          let w = v.relayed isnt in
+          subst (λ (y : Passed). Relays (tale.said c.number) c y (payload_of longer)) (sym piped)
+          (subst (λ (content : Bytes). Relays (tale.said c.number) c (record p { pipe = poured fresh p.pipe }) content) (sym grown)
+          (relays_poured (tale.said d.number) (tale.said c.number) c d p fresh (payload_of a) (ap tale.said (ap client_number eq ∙ (poured_same (poured fresh) d).number)) (stage_of c d eq) (ap (λ (z : Client). z.interim_left) eq ∙ (poured_same (poured fresh) d).left)
+          (subst (λ (y : Answer). Relays (tale.said d.number) d p (payload_of y)) same_answer w)));
+    }
       where
-        t : State
-        t = deliver e a (length (payload_of a)) (drop (length (payload_of a)) (body_of a.rule (a.raw ++ bytes)).payload) s
+        same_answer : v.answer ≡ a
+        same_answer = let both : Some v.answer ≡ Some a = sym v.is ∙ ap (λ (y : Conn). y.answer) same_conn ∙ has in cc both
 
-        now : Over s.conns t
-        now = deliver-over e a (length (payload_of a)) (drop (length (payload_of a)) (body_of a.rule (a.raw ++ bytes)).payload) s (over h refl)
+    its_number : (g : Conn) (x : Exchange) → g ≡ k → first_of g.line ≡ Some x.number → x.number ≡ e.number
+    its_number g x same_conn front = let both : Some x.number ≡ Some e.number = sym front ∙ ap (λ (y : Conn). first_of y.line) same_conn ∙ first in cc both
 
-        first : IsFirstOn k e t.conns
-        first j i number = ap (λ (y : Conn). first_of y.line) (one_of conn_number s.conns j k (sound_facts hs).lines.rise (subst (λ ks. IsIn j ks) (over_conns now) i) there number) ∙ (front_by s k.line e front).1
+    fed_here : (g : Conn) (x : Exchange) (c : Client) (q : Passed) → IsIn g t.conns → g ≡ k → IsIn x t.exchanges → IsIn x.number g.line → is_headed x ≡ true → Changed (is_for e) (into_pipe (poured fresh)) t.clients c → is_for x c ≡ true → is_in_other c.stage ≡ false → passed_of c ≡ Some q
+        → Feeds tale (to g) x c q
+    fed_here g x c q l same_conn i m is (same j isnt) hit off some =
+        let v = h.fed_by g x c q l i m is j hit off some in
+        let both : false ≡ true = sym isnt ∙ for_it x c i (its_number g x same_conn v.front) hit in absurd (cc both)
+    fed_here g x c q l same_conn i m is (other d j hers eq) hit off some =
+        let w = poured_of (poured fresh) d q (sym (ap passed_of eq) ∙ some) in
+        behind_it g x c d w.0 q same_conn eq w.2 (h.fed_by g x d w.0 l i m is j (for_of x c d eq hit) (sym (ap is_in_other (stage_of c d eq)) ∙ off) w.1)
 
-        at : (o : Outcome) → Fed (elim o as (λ c. Piece) [
-          | Going ↦ record { state = on_conn k.number (λ i. record i { answer = Some (record a { raw = a.raw ++ bytes }) }) t; rest = [] }
-          | Bad ↦ record { state = bad_response k t; rest = [] }
-          | Done rest ↦ record { state = finish k e a t; rest = rest }
-        ]).state
-        at Going = going-fed k a (a.raw ++ bytes) s t there has hs (over_conns now) (over_fed now)
-        at Bad = bad_response-fed k t (over_fed now)
-        at (Done rest) = finish-fed k e a t first (over_fed now)
+    fed_away : (j : Conn) (x : Exchange) (c : Client) (q : Passed) → IsIn j t.conns → is_conn k.number j ≡ false → IsIn x t.exchanges → IsIn x.number j.line → is_headed x ≡ true → Changed (is_for e) (into_pipe (poured fresh)) t.clients c → is_for x c ≡ true → is_in_other c.stage ≡ false → passed_of c ≡ Some q
+        → Feeds tale j x c q
+    fed_away j x c q l isnt i m is (same g isnt2) hit off some = h.fed_by j x c q l i m is g hit off some
+    fed_away j x c q l isnt i m is (other d g hers eq) hit off some = absurd (elsewhere j x l isnt (lone x d i (for_of x c d eq hit) hers) m)
 
-    by : (found : Option Exchange) → front_of_line s k ≡ found → Fed (elim found as (λ c. Piece) [ None ↦ record { state = close_conn false k s; rest = [] } | Some e ↦ body_piece_of k a e bytes s ]).state
-    by None is = close_conn-fed false k s h
-    by (Some e) is = by_outcome_of e (body_of a.rule (a.raw ++ bytes)).outcome is
+    fed_at : (j : Conn) (x : Exchange) (c : Client) (q : Passed) → Changed (is_conn k.number) to t.conns j → IsIn x t.exchanges → IsIn x.number j.line → is_headed x ≡ true → Changed (is_for e) (into_pipe (poured fresh)) t.clients c → is_for x c ≡ true → is_in_other c.stage ≡ false → passed_of c ≡ Some q → Feeds tale j x c q
+    fed_at j x c q (same l isnt) i m is o hit off some = fed_away j x c q l isnt i m is o hit off some
+    fed_at j x c q (other g l hers eq) i m is o hit off some =
+        subst (λ (y : Conn). Feeds tale y x c q) (sym eq) (fed_here g x c q l (one_conn g l hers) i (subst (λ (y : Conn). IsIn x.number y.line) eq m) is o hit off some)
 
-next_piece-fed : {b : Since} (k : Conn) (bytes : Bytes) (s : State) → IsIn k s.conns → Sound b s → Fed s → Fed (next_piece k bytes s).state
-next_piece-fed k bytes s there hs h = by k.answer refl
-  where
-    by : (answer : Option Answer) → k.answer ≡ answer → Fed (elim answer as (λ c. Piece) [ Some a ↦ body_piece k a bytes s | None ↦ head_piece k bytes s ]).state
-    by None is = head_piece-fed k bytes s there is hs h
-    by (Some a) is = body_piece-fed k a bytes s there is hs h
+    going-poured : Fed tale (on_conn k.number (λ i. record i { answer = Some (record a { raw = more }) }) (pour e (poured fresh) t))
+    unfolding on_conn pour on_client_of
+    going-poured = fed (record {
+      apart = rise_change client_number (is_for e) (into_pipe (poured fresh)) (λ c. (poured_same (poured fresh) c).number) t.clients h.apart;
+      rise = h.rise;
+      given = h.given;
+      one = h.one;
+      headed = h.headed;
+      sourced = λ c id i on is. sourced_by c id (of c i) on is;
+      begun = λ x c i j hit on. begun_by x c i (of c j) hit on;
+      fed_by = λ j x c q l i m is o hit off some. fed_at j x c q (in_change (is_conn k.number) to j t.conns l) i m is (of c o) hit off some;
+    })
 
-pub got-fed : {b : Since} (more n : ℕ) (bytes : Bytes) (s : State) → b.excepts ≡ None → Sound b s → Fed s → Fed (got more n bytes s)
-unfolding got
-got-fed zero n bytes s none hs h = h
-got-fed {b} (suc more) n bytes s none hs h =
-    each_so (conn s n) (λ isnt. h)
-    (λ k found.
-    let there = (in_find (is_conn n) k s.conns found).0 in
-    when (k.is_closing || is_empty bytes) h
-    (got-fed more n (next_piece k bytes s).rest (next_piece k bytes s).state none (next_piece-sound k bytes s none there hs) (next_piece-fed k bytes s there hs h)))
+  body_piece-fed : {b : Since} (k : Conn) (a : Answer) (bytes : Bytes) (s : State) → tale.but ≡ None → IsIn k s.conns → k.answer ≡ Some a → Sound b s → Fed tale s → Fed tale (body_piece k a bytes s).state
+  unfolding deliver
+  body_piece-fed k a bytes s calm there has hs h = by (front_of_line s k) refl
+    where
+      ground : Ground
+      ground = record { conns = s.conns; exchanges = s.exchanges }
 
-finish_first-fed : (k : Conn) (a : Answer) (s : State) → IsIn k s.conns → AreRising (map conn_number s.conns) → Fed s → Fed (finish_first k a s)
-unfolding finish_first
-finish_first-fed k a s there rise h =
-    each_so (front_of_line s k) (λ isnt. h)
-    (λ e front. finish-fed k e a s (λ j i number. ap (λ (y : Conn). first_of y.line) (one_of conn_number s.conns j k rise i there number) ∙ (front_by s k.line e front).1) h)
+      by_outcome_of : (e : Exchange) (outcome : Outcome) → front_of_line s k ≡ Some e → let t : State = deliver e a (length (payload_of a)) (drop (length (payload_of a)) (body_of a.rule (a.raw ++ bytes)).payload) s in
+          Fed tale (elim outcome as (λ c. Piece) [
+            | Going ↦ record { state = on_conn k.number (λ i. record i { answer = Some (record a { raw = a.raw ++ bytes }) }) t; rest = [] }
+            | Bad ↦ record { state = bad_response k t; rest = [] }
+            | Done rest ↦ record { state = finish k e a t; rest = rest }
+          ]).state
+      by_outcome_of e outcome front = at outcome
+        where
+          at_len : ℕ
+          at_len = length (payload_of a)
 
-pub ended-fed : (is_clean : Bool) (k : Conn) (s : State) → IsIn k s.conns → AreRising (map conn_number s.conns) → Fed s → Fed (ended is_clean k s)
-unfolding ended
-ended-fed is_clean k s there rise h =
-    each_of k.answer (close_conn-fed true k s h) (λ a. when (is_clean && is_whole_at_end a) (close_this-fed k.number _ (finish_first-fed k a s there rise h)) (close_conn-fed true k s h))
+          fresh : Bytes
+          fresh = drop (length (payload_of a)) (body_of a.rule (a.raw ++ bytes)).payload
+
+          t : State
+          t = deliver e a (length (payload_of a)) (drop (length (payload_of a)) (body_of a.rule (a.raw ++ bytes)).payload) s
+
+          itself_there : IsIn e s.exchanges × (first_of k.line ≡ Some e.number)
+          itself_there = front_by s k.line e front
+
+          readied : Over tale ground (join_bound e fresh (note_sent e a at_len fresh s))
+          readied = readied-over e a at_len fresh s (over h refl (descend_self s.exchanges))
+
+          lone : Lone e (join_bound e fresh (note_sent e a at_len fresh s)).exchanges
+          lone = lone_by e s _ itself_there.0 (over_from readied) h
+
+          now : Over (amid e.number tale) ground t
+          now = deliver-over e a at_len fresh s lone calm (over h refl (descend_self s.exchanges))
+
+          first : IsFirstOn k e t.conns
+          first j i number = ap (λ (y : Conn). first_of y.line) (one_of conn_number s.conns j k (sound_facts hs).lines.rise (subst (λ ks. IsIn j ks) (over_conns now) i) there number) ∙ itself_there.1
+
+          goes_on : Fed tale (on_conn k.number (λ i. record i { answer = Some (record a { raw = a.raw ++ bytes }) }) t)
+          goes_on =
+              going-poured k a (a.raw ++ bytes) fresh e s _ there has hs itself_there.0 itself_there.1 (stands_first k.line e.number itself_there.1) (facts_of h).rise (payload_grown a.rule a.raw bytes) lone (over_conns readied) (over_from readied) (over_fed readied)
+
+          at : (o : Outcome) → Fed tale (elim o as (λ c. Piece) [
+            | Going ↦ record { state = on_conn k.number (λ i. record i { answer = Some (record a { raw = a.raw ++ bytes }) }) t; rest = [] }
+            | Bad ↦ record { state = bad_response k t; rest = [] }
+            | Done rest ↦ record { state = finish k e a t; rest = rest }
+          ]).state
+          at Going = goes_on
+          at Bad = bad_response-amid e.number k t itself_there.1 (over_fed now)
+          at (Done rest) = finish-fed k e a t first (lone_by e s _ itself_there.0 (over_from now) h) (over_fed now)
+
+      by : (found : Option Exchange) → front_of_line s k ≡ found → Fed tale (elim found as (λ c. Piece) [ None ↦ record { state = close_conn false k s; rest = [] } | Some e ↦ body_piece_of k a e bytes s ]).state
+      by None is = close_conn-fed false k s h
+      by (Some e) is = by_outcome_of e (body_of a.rule (a.raw ++ bytes)).outcome is
+
+  next_piece-fed : {b : Since} (k : Conn) (bytes : Bytes) (s : State) → tale.but ≡ None → IsIn k s.conns → Sound b s → Fed tale s → Fed tale (next_piece k bytes s).state
+  next_piece-fed k bytes s calm there hs h = by k.answer refl
+    where
+      by : (answer : Option Answer) → k.answer ≡ answer → Fed tale (elim answer as (λ c. Piece) [ Some a ↦ body_piece k a bytes s | None ↦ head_piece k bytes s ]).state
+      by None is = head_piece-fed k bytes s calm there is hs h
+      by (Some a) is = body_piece-fed k a bytes s calm there is hs h
+
+  pub got-fed : {b : Since} (more n : ℕ) (bytes : Bytes) (s : State) → tale.but ≡ None → b.excepts ≡ None → Sound b s → Fed tale s → Fed tale (got more n bytes s)
+  unfolding got
+  got-fed zero n bytes s calm none hs h = h
+  got-fed {b} (suc more) n bytes s calm none hs h =
+      each_so (conn s n) (λ isnt. h)
+      (λ k found.
+      let there = (in_find (is_conn n) k s.conns found).0 in
+      when (k.is_closing || is_empty bytes) h
+      (got-fed more n (next_piece k bytes s).rest (next_piece k bytes s).state calm none (next_piece-sound k bytes s none there hs) (next_piece-fed k bytes s calm there hs h)))
+
+  finish_first-fed : (k : Conn) (a : Answer) (s : State) → tale.but ≡ None → IsIn k s.conns → AreRising (map conn_number s.conns) → Fed tale s → Fed tale (finish_first k a s)
+  unfolding finish_first
+  finish_first-fed k a s calm there rise h =
+      each_so (front_of_line s k) (λ isnt. h)
+      (λ e front. finish-fed k e a s (λ j i number. ap (λ (y : Conn). first_of y.line) (one_of conn_number s.conns j k rise i there number) ∙ (front_by s k.line e front).1) (lone_by e s s.exchanges (front_by s k.line e front).0 (descend_self s.exchanges) h) (weaker e.number s calm h))
+
+  pub ended-fed : (is_clean : Bool) (k : Conn) (s : State) → tale.but ≡ None → IsIn k s.conns → AreRising (map conn_number s.conns) → Fed tale s → Fed tale (ended is_clean k s)
+  unfolding ended
+  ended-fed is_clean k s calm there rise h =
+      each_of k.answer (close_conn-fed true k s h) (λ a. when (is_clean && is_whole_at_end a) (close_this-fed k.number _ (finish_first-fed k a s calm there rise h)) (close_conn-fed true k s h))

@@ -5,6 +5,7 @@ pub mod Fed
 pub mod Cases
 pub mod FedAsks
 pub mod SameHeads
+pub mod Delivered
 pub mod FedHeads
 pub mod FedTurns
 pub mod FedReplies

@@ -1,8 +1,8 @@
 -- What more text leaves of a body and of a head, and how much of it they take.
-use Rattle.std.proofs.Common.{◌≡◌, refl, ℕ, ◌+◌, ◌<◌, List, [], ◌∷◌, ◌++◌, length, sym, ap, ◌∙◌, append_assoc, length-append, arith}
+use Rattle.std.proofs.Common.{◌≡◌, ℕ, ◌+◌, ◌<◌, List, [], ◌∷◌, ◌++◌, length, ap, ◌∙◌, length-append, arith}
 use Rattle.pp_framing.proofs.BodiesExact.{read_from-first_place}
 use Rattle.pp_framing.specs.Body.{Body, Done, Going}
-use Rattle.pp_framing.specs.Places.{first_place, datum, step, read_from}
+use Rattle.pp_framing.specs.Places.{first_place, step, read_from}
 use Rattle.pp_framing.specs.Rules.{body_of}
 use Rattle.pp_framing.specs.declared.body.BodyRule.{BodyRule}
 use Rattle.pp_framing.specs.declared.place.Place.TheVariants.{Over, Wrong}
@@ -13,20 +13,6 @@ use Rattle.pp_head.specs.Response.{Response, response_at}
 use Rattle.pp_law.specs.Lists.{Bytes}
 
 -- ---- bodies
-
-read_more : (place : Place) (text more : List ℕ) → (later : List ℕ) × ((read_from place (text ++ more)).payload ≡ (read_from place text).payload ++ later)
-read_more Over text more = ([], refl)
-read_more Wrong text more = ([], refl)
-read_more place [] more = ((read_from place more).payload, refl)
-read_more place (b ∷ text) more =
-    let r = read_more (step place b) text more in
-    (r.0, ap (λ (xs : List ℕ). datum place b ++ xs) r.1 ∙ sym (append_assoc (datum place b) (read_from (step place b) text).payload r.0))
-
--- the data of a text are the front of those of a longer one
-pub payload_more : (rule : BodyRule) (text more : List ℕ) → (later : List ℕ) × ((body_of rule (text ++ more)).payload ≡ (body_of rule text).payload ++ later)
-payload_more rule text more =
-    let r = read_more (first_place rule) text more in
-    (r.0, ap (λ (b : Body). b.payload) (sym (read_from-first_place rule (text ++ more))) ∙ r.1 ∙ ap (λ (b : Body). b.payload ++ r.0) (read_from-first_place rule text))
 
 same_rest : {xs ys : List ℕ} → Done xs ≡ Done ys → xs ≡ ys
 same_rest e = cc e

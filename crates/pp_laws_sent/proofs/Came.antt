@@ -21,7 +21,8 @@ use Rattle.pp_laws.proofs.Tests.{same_number}
 use Rattle.pp_laws_pool.proofs.PoolFacts.{GoesOn, nothing_read}
 use Rattle.pp_laws_pool.proofs.View.{View, Walk, Places, Begins, view, Lesser}
 use Rattle.pp_laws_sent.specs.Stands.{StandsIn}
-use Rattle.pp_laws_sent.proofs.Bodies.{payload_more, whole_more}
+use Rattle.pp_laws_passed.proofs.Delivered.{payload_more}
+use Rattle.pp_laws_sent.proofs.Bodies.{whole_more}
 
 -- ---- definitions
 

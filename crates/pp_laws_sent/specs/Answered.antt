@@ -15,10 +15,11 @@ use Rattle.pp_world.specs.declared.note.Cause.TheVariants.{Superseded, Origin, S
 use Rattle.pp_world.specs.declared.note.Decision.TheVariants.{Refuse}
 use Rattle.pp_world.specs.declared.note.Remark.TheVariants.{Taken, Cut}
 use Rattle.pp_law.specs.After.{after}
-use Rattle.pp_law.specs.Connections.{conn, front_of_line}
+use Rattle.pp_law.specs.Connections.{client, conn, front_of_line, is_out}
 use Rattle.pp_law.specs.Lawful.{Lawful}
 use Rattle.pp_law.specs.Lists.{Bytes, is_some_with}
 use Rattle.pp_law.specs.OwnHeads.{is_wrong_head}
+use Rattle.pp_law.specs.Phases.{come_to_decide}
 use Rattle.pp_law.specs.Responses.{asks_head, by_aim, is_early, is_whole_at_end, next_piece}
 use Rattle.pp_law.specs.State.{State, Term, Course, Trying, OutOfTries, AskTooLong, RowRefused, Answer, Conn, Exchange, start}
 use Rattle.pp_law.specs.Turn.{is_idle_conn}
@@ -87,17 +88,22 @@ is_answered s h = true
 
 -- ---- nobody is turned away for an origin
 
-abbrev pub is_turned_away : Happening → Bool
-is_turned_away (Noted (Taken c i (Refuse status))) = status == 502
-is_turned_away (Noted (Cut c Origin)) = true
-is_turned_away (Noted (Cut c Short)) = true
-is_turned_away h = false
+-- its attempts ended. A reply is also cut so where an ask for its rest would be too long, or where its row is refused memory
+abbrev pub has_no_tries : State → ℕ → Bool
+has_no_tries s n = is_some_with (λ c. is_out c.course) (client (come_to_decide s) n)
+
+abbrev pub is_turned_away : State → Happening → Bool
+is_turned_away s (Noted (Taken c i (Refuse status))) = status == 502
+is_turned_away s (Noted (Cut c Origin)) = has_no_tries s c
+is_turned_away s (Noted (Cut c Short)) = true
+is_turned_away s h = false
 
 -- each happening, along the log
 abbrev pub All : (State → Happening → Bool) → State → Log → Type 0
 All test s [] = Unit {0}
 All test s (h ∷ log) = (test s h ≡ true) × All test (after s h) log
 
--- so all that is said to a request is the reply that it was decided to have, or a front of it, or that memory was wanted
+-- so all that is said to a request that is refused nowhere, and whose asks are not too long, is the reply that it was decided to have,
+-- or a front of it, or that memory was wanted
 abbrev pub EachIsAnswered : Type 0
-EachIsAnswered = (terms : List Term) (log : Log) → Lawful terms log → All (λ s h. is_calm h && is_answered s h) (start terms) log → All (λ s h. not (is_turned_away h)) (start terms) log
+EachIsAnswered = (terms : List Term) (log : Log) → Lawful terms log → All (λ s h. is_calm h && is_answered s h) (start terms) log → All (λ s h. not (is_turned_away s h)) (start terms) log

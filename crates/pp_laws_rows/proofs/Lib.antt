@@ -1,0 +1,5 @@
+mod Crash
+mod Held
+mod Lines
+mod Passed
+mod Waits
