@@ -7,8 +7,8 @@ use crate::calls::{Call, Gives, Shelf, first_unlike};
 use arrayvec::ArrayVec;
 use pp_text::Octets;
 use pp_world::{
-    Cause, ConfigFault, Disk, DiskFault, Door, Event, Got, Image, Logged, Name, NamesFault, Note,
-    Replied, Wants, Wire, WireFault, World,
+    AccessLog, Cause, ConfigFault, Disk, DiskFault, Door, Event, Got, Image, Logged, Name,
+    NamesFault, Note, Replied, Wants, Wire, WireFault, World,
 };
 use std::alloc::Global;
 use std::test::Fail;
@@ -166,6 +166,7 @@ fn a_wire_that_tells_nothing_serves_any_caller(rt: HostRuntime) -> Result<(), Fa
         address: 0,
         port: 8123,
         allowed: &[],
+        access_log: AccessLog::Nowhere,
     };
     assert_eq!(rt; silent.listen(&door), Ok(()));
     assert_eq!(rt; silent.dial(b"h", 80), Err(WireFault));

@@ -5,7 +5,7 @@ use arrayvec::ArrayVec;
 use pp_memworld::{Cue, MemWorld, Page, Script};
 use pp_text::{Octets, OutOfMemory};
 use pp_world::{
-    Cause, ConfigFault, Door, Event, Got, Happening, Image, Note, Wants, Wire, WireFault,
+    AccessLog, Cause, ConfigFault, Door, Event, Got, Happening, Image, Note, Wants, Wire, WireFault,
 };
 use std::alloc::Global;
 
@@ -150,6 +150,7 @@ fn is_met(world: &mut MemWorld, alloc: Global, turn: Turn<'_>) -> Result<bool, O
                 address: 0,
                 port,
                 allowed: &[],
+                access_log: AccessLog::Nowhere,
             };
             Ok(world.listen(&door) == wanted)
         },
