@@ -113,7 +113,10 @@ abbrev text28 : Bytes
 text28 = (codes "HTTP/1.1 200 OK\r\netag: \"x\"\r\ndate: Sun, 06 Nov 1994 08:49:37 GMT\r\ncache-control: no-cache\r\nX-Polipo-Location: http://h/a\r\nX-Polipo-Date: 784111777\r\nX-Polipo-Age: 0\r\nX-Polipo-Length: 12288\r\nX-Polipo-Body-Offset: 12288\r\n\r\n" ++ replicate 12069 0)
 
 abbrev text29 : Bytes
-text29 = (codes "HTTP/1.1 200 OK\r\netag: \"x\"\r\ndate: Sun, 06 Nov 1994 08:49:37 GMT\r\ncache-control: no-cache\r\nX-Polipo-Location: http://h/a\r\nX-Polipo-Date: 784111777\r\nX-Polipo-Age: 0\r\nX-Polipo-Length: 5\r\nX-Polipo-Body-Offset: 12288\r\n\r\n" ++ replicate 12073 0)
+text29 = (codes "HTTP/1.1 200 OK\r\nDate: Sun, 06 Nov 1994 08:49:37 GMT\r\nETag: \"x\"\r\nCache-Control: no-cache\r\nContent-Length: 12288\r\n\r\n" ++ replicate 4096 97)
+
+abbrev text30 : Bytes
+text30 = (codes "HTTP/1.1 200 OK\r\netag: \"x\"\r\ndate: Sun, 06 Nov 1994 08:49:37 GMT\r\ncache-control: no-cache\r\nX-Polipo-Location: http://h/a\r\nX-Polipo-Date: 784111777\r\nX-Polipo-Age: 0\r\nX-Polipo-Length: 5\r\nX-Polipo-Body-Offset: 12288\r\n\r\n" ++ replicate 12073 0)
 
 row7 : fault_from 0 (start (record { words = []; faults = 0 } ∷ [])) (front0 ++ CanRead 2 ∷ Got 2 text3 ∷ Began (Draft text4) ∷ Did (Draft text4) true ∷ Began SyncDraft ∷ Did SyncDraft true ∷ Began (Publish text5) ∷ Did (Publish text5) true ∷ Noted (Kept (codes "http://h/a") (codes "\"x\"") 5 5) ∷ Noted (Taken 1 0 (Hit 0 5)) ∷ []) ≡ None
 unfolding judging
@@ -203,6 +206,10 @@ row257 : fault_from 0 (start (record { words = (codes "diskRun=2") ∷ []; fault
 unfolding judging
 row257 = refl
 
-row273 : fault_from 0 (start (record { words = (codes "diskRun=1") ∷ []; faults = 0 } ∷ [])) (front0 ++ CanRead 2 ∷ Got 2 text23 ∷ Began (Draft text29) ∷ Did (Draft text29) true ∷ []) ≡ None
+row268 : fault_from 0 (start (record { words = (codes "diskRun=2") ∷ []; faults = 0 } ∷ [])) (front0 ++ CanRead 2 ∷ Got 2 text29 ∷ Began (Draft text28) ∷ []) ≡ Some (record { at = 21; rule = WrongDiskOperation })
 unfolding judging
-row273 = refl
+row268 = refl
+
+row279 : fault_from 0 (start (record { words = (codes "diskRun=1") ∷ []; faults = 0 } ∷ [])) (front0 ++ CanRead 2 ∷ Got 2 text23 ∷ Began (Draft text30) ∷ Did (Draft text30) true ∷ []) ≡ None
+unfolding judging
+row279 = refl
