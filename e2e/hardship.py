@@ -355,6 +355,11 @@ def replaced_by_a_folder(file):
     file.mkdir()
 
 
+def replaced_by_a_pipe(file):
+    file.unlink()
+    os.mkfifo(file)
+
+
 def replaced_by_a_link(file):
     file.unlink()
     file.symlink_to("nowhere/at/all")
@@ -370,6 +375,7 @@ WAYS = {
     "it is cut in its body": lambda file: os.truncate(file, 12_288 + 50_000),
     "a short file replaces it": lambda file: file.write_bytes(b"not an entry"),
     "a folder replaces it": replaced_by_a_folder,
+    "a pipe replaces it": replaced_by_a_pipe,
     "a link to nowhere replaces it": replaced_by_a_link,
 }
 # Less than what is kept on the disk, so that it is read back.
