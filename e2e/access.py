@@ -12,7 +12,7 @@ import threading
 import time
 
 from harness import case, equal, holds
-from keeping import serve_whole
+from keeping import TAG, serve_whole
 from network import free_port, wait_until_it_listens
 from origin import DATE, Answer, lines, noise, plain, response
 from words import started
@@ -86,14 +86,14 @@ def answered_by_date(ask):
 def each_reply_has_a_line_with_what_it_was_made_of(world):
     body = noise(20_000)
     with logging(world) as (proxy, log):
-        proxy.origin.on("/a", Answer(plain(b"hello")))
+        serve_whole(proxy, "/a", b"hello")
         serve_whole(proxy, "/parts", body)
         proxy.origin.on("/checked", answered_by_date)
         proxy.origin.on("/gone", Answer(b"", then="end"))
         asks = [
             (proxy.last_request("/a"), (200, 5, "fetched", False)),
             (proxy.last_request("/a"), (200, 5, "hit", False)),
-            (proxy.last_request("/a", b'If-None-Match: "x"'), (304, 0, "hit", False)),
+            (proxy.last_request("/a", b"If-None-Match: " + TAG), (304, 0, "hit", False)),
             (proxy.last_request("/a", method="HEAD"), (200, 0, "hit", False)),
             (proxy.last_request("/a", b"Range: bytes=1-2"), (206, 2, "hit", False)),
             (proxy.last_request("/parts", b"Range: bytes=0-4095"), (206, 4_096, "fetched", False)),
@@ -172,7 +172,7 @@ def nothing_is_written_where_nothing_is_said(world):
 
 @case
 def lines_go_to_standard_error_where_a_hyphen_is_said(world):
-    world.origin.on("/a", Answer(plain(b"hello")))
+    serve_whole(world, "/a", b"hello")
     port = free_port()
     with started(world, port, [f"proxyPort={port}", "accessLog=-"]) as process:
         for _ in range(3):
