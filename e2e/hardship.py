@@ -36,15 +36,16 @@ MB = 1 << 20
 # ---- memory
 
 
-def addresses_of(proxy):
-    """How many bytes of addresses it has: those that `ulimit -v` limits."""
+def held_by(proxy, what="VmData"):
+    """How many bytes it has: of memory that it asked for, or of addresses (`VmSize`), which `ulimit -v` limits."""
     text = pathlib.Path(f"/proc/{proxy.process.pid}/status").read_text()
-    return int(re.search(r"VmSize:\s+(\d+) kB", text)[1]) * 1024
+    return int(re.search(rf"{what}:\s+(\d+) kB", text)[1]) * 1024
 
 
 def let_have(proxy, count):
-    """From now on it has no more bytes of addresses than these."""
-    resource.prlimit(proxy.process.pid, resource.RLIMIT_AS, (count, resource.RLIM_INFINITY))
+    """From now on it is given no more bytes than these. Its stack is not counted, as it is by `ulimit -v`: the system ends a
+    program by a signal whose stack may not grow, and no program can answer that."""
+    resource.prlimit(proxy.process.pid, resource.RLIMIT_DATA, (count, resource.RLIM_INFINITY))
 
 
 def is_loaded(proxy, limit):
@@ -80,7 +81,7 @@ def started_with_less_memory_it_serves_or_ends_with_a_line(world):
         for number in range(300):
             put_entry(proxy, f"/{number}", b"hello")
         proxy.start()
-        whole = addresses_of(proxy) // 1024
+        whole = held_by(proxy, "VmSize") // 1024
         proxy.stop()
         ends = serves = 0
         limits = [f"ulimit -v {kilobytes}" for kilobytes in [*range(3_000, whole, 4_000), *range(whole - 200, whole + 600, 100)]]
@@ -143,7 +144,7 @@ def memory_that_is_refused_while_it_serves_costs_a_refusal_or_a_client_and_no_by
                 lack.count(reply_of(proxy, client, "/hit"), hit, "the reply to a newcomer")
                 client.socket.close()
 
-        let_have(proxy, addresses_of(proxy))
+        let_have(proxy, held_by(proxy))
         ask_for_all()
         told = dict(lack.told)
         holds(told["refused"] and told["nothing"], f"refusals, and clients that were turned away, in place of {told}")
@@ -166,7 +167,7 @@ def a_long_body_for_whose_table_memory_is_refused_is_refused_and_comes_once_it_i
         proxy.origin.on("/hit", Answer(plain(b"hello")))
         flows = Flows(proxy.origin, "/long", 1 << 30, b"ETag: " + TAG, FRESH)
         equal(reply_of(proxy, client, "/hit"), passed(b"hello"), "a reply before the lack")
-        let_have(proxy, addresses_of(proxy))
+        let_have(proxy, held_by(proxy))
         for _time in (1, 2):
             equal(reply_of(proxy, client, "/long"), REFUSED, "the reply under the lack")
         equal(len(flows.all), 2, "asks of the origin")
@@ -185,7 +186,7 @@ def memory_that_comes_and_goes_under_load_costs_no_wrong_byte(world):
         rights = {f"/{number}/{'k' * 1_000}": None for number in range(300)}
         for number, path in enumerate(rights):
             rights[path] = lack.serve(path, noise((1 << number % 18) + number, number))
-        whole = addresses_of(proxy)
+        whole = held_by(proxy)
 
         def squeeze():
             end = time.monotonic() + 3
