@@ -8,12 +8,12 @@ use Rattle.pp_world.specs.declared.access.Source.TheVariants.{Hit, Part, Checked
 use Rattle.pp_access.specs.declared.line.Line.{Line}
 
 -- an address of IPv4 in dotted decimal
-abbrev pub address_text : ℕ → List ℕ
+unfoldable pub address_text : ℕ → List ℕ
 address_text address =
     decimal (address / 2 ^ 24) ++ codes "." ++ decimal (address / 2 ^ 16 % 256) ++ codes "." ++ decimal (address / 2 ^ 8 % 256) ++ codes "." ++ decimal (address % 256)
 
 -- "[day/month/year:hour:minute:second zone]" of `Sun, 06 Nov 1994 08:49:37 GMT`
-abbrev pub time_of : List ℕ → List ℕ
+unfoldable pub time_of : List ℕ → List ℕ
 time_of date = take 2 (drop 5 date) ++ codes "/" ++ take 3 (drop 8 date) ++ codes "/" ++ take 4 (drop 12 date) ++ codes ":" ++ take 8 (drop 17 date) ++ codes " +0000"
 
 abbrev pub hex_digit : ℕ → ℕ
@@ -29,7 +29,7 @@ escaped b =
     cond ((b == 34) || (b == 92)) (92 ∷ b ∷ []) (cond (is_plain b) (b ∷ []) (92 ∷ 120 ∷ hex_digit (b / 16) ∷ hex_digit (b % 16) ∷ []))
 
 -- where there is none, a hyphen
-abbrev pub request_text : List ℕ → List ℕ
+unfoldable pub request_text : List ℕ → List ℕ
 request_text [] = codes "-"
 request_text (b ∷ request) = flat_map escaped (b ∷ request)
 
@@ -47,12 +47,16 @@ cut_text true = codes ":cut "
 cut_text false = codes " "
 
 -- the client, and when
-abbrev pub front_of : Line → List ℕ
+unfoldable pub front_of : Line → List ℕ
 front_of l = address_text l.address ++ codes " - - [" ++ time_of (date_text l.date) ++ codes "] \""
 
--- what was said of the reply, and its milliseconds
-abbrev pub rest_of : Line → List ℕ
-rest_of l = codes "\" " ++ decimal l.status ++ codes " " ++ decimal l.body_len ++ codes " " ++ word_of l.source ++ cut_text l.is_cut ++ decimal l.millis ++ codes "\n"
+-- its status, and what was said of its body
+unfoldable pub counts_of : Line → List ℕ
+counts_of l = codes "\" " ++ decimal l.status ++ codes " " ++ decimal l.body_len ++ codes " "
+
+-- what it was made of, and its milliseconds
+unfoldable pub making_of : Line → List ℕ
+making_of l = word_of l.source ++ cut_text l.is_cut ++ decimal l.millis ++ codes "\n"
 
 abbrev pub line_text : Line → List ℕ
-line_text l = front_of l ++ request_text l.request.now ++ rest_of l
+line_text l = front_of l ++ request_text l.request.now ++ counts_of l ++ making_of l

@@ -1,7 +1,7 @@
 // A line of the log.
 ghost use Rattle.std.specs.Prelude.{◌≡◌, ◌++◌, ◌<◌, flat_map, decimal, OnOk};
 ghost use Rattle.httpdate.specs.Date.{date_text};
-ghost use Rattle.pp_access.specs.Lines.{address_text, cut_text, escaped, front_of, hex_digit, is_plain, line_text, request_text, rest_of, time_of, word_of};
+ghost use Rattle.pp_access.specs.Lines.{address_text, counts_of, cut_text, escaped, front_of, hex_digit, is_plain, line_text, making_of, request_text, time_of, word_of};
 
 use httpdate::HttpDate;
 use itoa::Buffer;
@@ -33,9 +33,11 @@ pub fn put_line(line: &Line<'_>, out: &mut Vec<u8>) -> Result<(), AllocError>
 {
     put_front(line, out)?;
     put_request(line.request, out)?;
-    put_rest(line, out)
+    put_counts(line, out)?;
+    put_making(line, out)
 }
 
+#[tactic(auto, unfolding(crate::specs::Lines::front_of))]
 fn put_front(line: &Line<'_>, out: &mut Vec<u8>) -> Result<(), AllocError>
     ensures { OnOk result (out.new.items ≡ out.old.items ++ front_of line.now) }
 {
@@ -45,20 +47,28 @@ fn put_front(line: &Line<'_>, out: &mut Vec<u8>) -> Result<(), AllocError>
     out.extend_from_slice(b"] \"")
 }
 
-fn put_rest(line: &Line<'_>, out: &mut Vec<u8>) -> Result<(), AllocError>
-    ensures { OnOk result (out.new.items ≡ out.old.items ++ rest_of line.now) }
+#[tactic(auto, unfolding(crate::specs::Lines::counts_of))]
+fn put_counts(line: &Line<'_>, out: &mut Vec<u8>) -> Result<(), AllocError>
+    ensures { OnOk result (out.new.items ≡ out.old.items ++ counts_of line.now) }
 {
     out.extend_from_slice(b"\" ")?;
     put_number(u64::from(line.status), out)?;
     out.extend_from_slice(b" ")?;
     put_number(line.body_len, out)?;
-    out.extend_from_slice(b" ")?;
+    out.extend_from_slice(b" ")
+}
+
+#[tactic(auto, unfolding(crate::specs::Lines::making_of))]
+fn put_making(line: &Line<'_>, out: &mut Vec<u8>) -> Result<(), AllocError>
+    ensures { OnOk result (out.new.items ≡ out.old.items ++ making_of line.now) }
+{
     out.extend_from_slice(word_of(line.source))?;
     out.extend_from_slice(cut_text(line.is_cut))?;
     put_number(line.millis, out)?;
     out.extend_from_slice(b"\n")
 }
 
+#[tactic(auto, unfolding(crate::specs::Lines::address_text))]
 fn put_address(address: u32, out: &mut Vec<u8>) -> Result<(), AllocError>
     ensures { OnOk result (out.new.items ≡ out.old.items ++ address_text address) }
 {
@@ -71,6 +81,7 @@ fn put_address(address: u32, out: &mut Vec<u8>) -> Result<(), AllocError>
     put_number(u64::from(address % 256), out)
 }
 
+#[tactic(auto, unfolding(crate::specs::Lines::time_of))]
 fn put_time(date: &HttpDate, out: &mut Vec<u8>) -> Result<(), AllocError>
     ensures { OnOk result (out.new.items ≡ out.old.items ++ time_of (date_text date.now)) }
 {
@@ -85,6 +96,7 @@ fn put_time(date: &HttpDate, out: &mut Vec<u8>) -> Result<(), AllocError>
     out.extend_from_slice(b" +0000")
 }
 
+#[tactic(auto, unfolding(crate::specs::Lines::request_text))]
 fn put_request(request: &[u8], out: &mut Vec<u8>) -> Result<(), AllocError>
     ensures { OnOk result (out.new.items ≡ out.old.items ++ request_text request.now) }
 {

@@ -58,6 +58,20 @@ const FOREIGN: &[Folder] = &[
         }],
     },
     Folder {
+        name: "a file of five bytes",
+        files: &[File {
+            name: A_NAME,
+            bytes: Bytes::Text(b"hello"),
+        }],
+    },
+    Folder {
+        name: "a head of zeros, the open gate of a chunk, and a body",
+        files: &[File {
+            name: A_NAME,
+            bytes: Bytes::Entry(b"", b"hello"),
+        }],
+    },
+    Folder {
         name: "a response as it came, and notes",
         files: &[
             File {

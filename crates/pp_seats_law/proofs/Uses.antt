@@ -29,7 +29,7 @@ use Rattle.pp_seats_law.proofs.Nexts.{next_in_stage, nexts, reply_in}
 -- ---- the interim answer
 
 -- it was said, or is none; or so many bytes of it are left
-interim_by : (i : Interim) (left : Bytes) → ShowsInterim i left → ((left ≡ []) × (interim_left i ≡ 0)) ⊎ ((length left ≡ interim_left i) × (0 < interim_left i))
+pub interim_by : (i : Interim) (left : Bytes) → ShowsInterim i left → ((left ≡ []) × (interim_left i ≡ 0)) ⊎ ((length left ≡ interim_left i) × (0 < interim_left i))
 interim_by Unasked left shows = inl (shows, refl)
 interim_by (Left zero) left shows = inl (shows.1, refl)
 interim_by (Left (suc n)) left shows =
@@ -83,7 +83,7 @@ facts_said n said (IsAnswering a) (Answering r) shows few = facts_answer n said.
 facts_said n said stage other shows few = absurd shows
 
 -- as long as the interim answer is not said
-not_empty : (left : Bytes) → 0 < length left → is_empty left ≡ false
+pub not_empty : (left : Bytes) → 0 < length left → is_empty left ≡ false
 not_empty [] some = absurd (omega (arith, some))
 not_empty (b ∷ left) some = refl
 
@@ -149,7 +149,7 @@ used_by_facts n k s seat c next facts fits =
 going_law : (s : State) (c : Client) → c.is_closing ≡ false → next_of s c ≡ next_in_stage s c.stage
 going_law s c going = ap (λ (b : Bool). elim b as (λ x. Option Next) [ true ↦ None | false ↦ next_in_stage s c.stage ]) going
 
-first_few : (n m rest : ℕ) → 0 < m → n ≤ cond (nat_lt 0 m) m rest → n ≤ m
+pub first_few : (n m rest : ℕ) → 0 < m → n ≤ cond (nat_lt 0 m) m rest → n ≤ m
 first_few n m rest some few = by (nat_lt 0 m) refl few
   where
     by : (b : Bool) → nat_lt 0 m ≡ b → n ≤ cond b m rest → n ≤ m

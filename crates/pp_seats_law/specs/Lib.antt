@@ -1,9 +1,12 @@
 pub mod Begins
+pub mod Clients
 pub mod Dues
 pub mod Errands
 pub mod Fates
 pub mod Fronts
 pub mod Heads
+pub mod Reads
 pub mod Replies
+pub mod Saying
 pub mod Seats
 pub mod Words

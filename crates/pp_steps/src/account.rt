@@ -1,4 +1,6 @@
 // What the operator's log is told of decisions and of what exchanges brought (ours).
+ghost use Rattle.std.specs.Prelude.{◌≡◌};
+
 use crate::state::State;
 use pp_flow::{Aim, Exchange};
 use pp_world::{Decision, Source};

@@ -24,9 +24,8 @@ impl State {
         let Some(key) = seat.front.key() else {
             return;
         };
-        let is_refused = bring(self.alloc, &mut self.cache, shelf, key.text()).is_err();
-        if is_refused && self.is_due_by_kept(shelf, seat) {
-            self.refuse_kept(i);
+        if bring(self.alloc, &mut self.cache, shelf, key.text()).is_err() {
+            self.refuse_kept(shelf, i);
         }
     }
 
@@ -41,7 +40,15 @@ impl State {
         }
     }
 
-    fn refuse_kept(&mut self, i: usize) {
+    /// Memory was refused for the kept row of its key.
+    fn refuse_kept(&mut self, shelf: &Shelf, i: usize) {
+        let is_due = match self.seats.get(i) {
+            None => false,
+            Some(seat) => self.is_due_by_kept(shelf, seat),
+        };
+        if !is_due {
+            return;
+        }
         if let Some(seat) = self.seats.get_mut(i) {
             seat.brought = Brought::Refused;
         }
