@@ -85,6 +85,7 @@ next_shows name owed seat c nf shows few there front = record {
   waits_on = refl;
   fate = (refl, tt);
   asked = brought_anew (front_of (drop c.body_left c.heard));
+  piped = tt;
   given_up = refl;
   interim = refl;
   before_body = refl;

@@ -39,6 +39,7 @@ new_seats name n now = record {
     waits_on = refl;
     fate = (refl, tt);
     asked = tt;
+    piped = tt;
     given_up = refl;
     interim = refl;
     before_body = refl;

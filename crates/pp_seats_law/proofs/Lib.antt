@@ -8,5 +8,6 @@ pub mod Fronts
 pub mod Hears
 pub mod Nexts
 pub mod SaidOn
+pub mod SaidWhole
 pub mod Stages
 pub mod Uses

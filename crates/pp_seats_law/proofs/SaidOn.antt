@@ -30,7 +30,7 @@ use Rattle.pp_seats.specs.declared.seat.Seat.{Seat}
 use Rattle.pp_seats.specs.declared.seat.Stage.{Stage as SeatStage}
 use Rattle.pp_seats.specs.declared.seat.Stage.TheVariants.{Undecided as IsUndecided, Waiting as IsWaiting, Passing as IsPassing, Answering as IsAnswering}
 use Rattle.pp_seats.specs.Accounts.{said as said_account}
-use Rattle.pp_seats_law.specs.Replies.{IsHeadKept, IsRefusedRow, ShowsAnswer, ShowsBegin, ShowsBrought, ShowsFate, ShowsInterim, ShowsStage}
+use Rattle.pp_seats_law.specs.Replies.{IsHeadKept, IsPipedFor, IsRefusedRow, ShowsAnswer, ShowsBegin, ShowsBrought, ShowsFate, ShowsInterim, ShowsStage}
 use Rattle.pp_seats_law.specs.Saying.{SayingsAreTheLaws}
 use Rattle.pp_seats_law.specs.Seats.{ShowsOpen, ShowsSeat, head_left}
 use Rattle.pp_seats_law.proofs.Nexts.{reply_in}
@@ -38,19 +38,19 @@ use Rattle.pp_seats_law.proofs.Uses.{first_few, interim_by, not_empty}
 
 -- ---- the seat, with another reply
 
-abbrev parts : Interim → SaidStage → Bytes → Pipe → Said
+abbrev pub parts : Interim → SaidStage → Bytes → Pipe → Said
 parts i stage text pipe = record { interim = i; stage = stage; text = text; pipe = pipe }
 
-abbrev told_with : Said → ℕ → Account → Seat → Seat
+abbrev pub told_with : Said → ℕ → Account → Seat → Seat
 told_with reply before account seat = record seat { client = record seat.client { reply = reply }; before_body = before; account = account }
 
 abbrev now_with : Stage → Bytes → Brought → Client → Client
 now_with stage left brought c = record c { stage = stage; interim_left = left; brought = brought }
 
 said_with : (name : Bytes) (owed : List Bytes) (seat : Seat) (c : Client) (reply : Said) (stage : Stage) (left : Bytes) (brought : Brought) (before : ℕ) (account : Account) → ShowsOpen name owed seat c → ShowsStage reply seat.stage stage
-    → ShowsFate name owed reply seat.course seat.brought (now_with stage left brought c) → ShowsInterim reply.interim left → before ≡ length left + head_left (reply_in stage)
+    → ShowsFate name owed reply seat.course seat.brought (now_with stage left brought c) → ShowsInterim reply.interim left → IsPipedFor reply.stage seat.brought → before ≡ length left + head_left (reply_in stage)
     → ShowsOpen name owed (told_with reply before account seat) (now_with stage left brought c)
-said_with name owed seat c reply stage left brought before account shows at fate interim same = record {
+said_with name owed seat c reply stage left brought before account shows at fate interim piped same = record {
   hung_up = shows.hung_up;
   mark = shows.mark;
   heard = shows.heard;
@@ -63,6 +63,7 @@ said_with name owed seat c reply stage left brought before account shows at fate
   waits_on = shows.waits_on;
   fate = fate;
   asked = shows.asked;
+  piped = piped;
   given_up = shows.given_up;
   interim = interim;
   before_body = same;
@@ -125,7 +126,7 @@ interim_told n name owed seat c account shows some len few =
     (stage_kept seat.client.reply (Left (interim_left seat.client.reply.interim - n)) seat.stage c.stage some shows.stage)
     (fate_kept name owed seat.client.reply (record seat.client.reply { interim = Left (interim_left seat.client.reply.interim - n) }) seat.course seat.brought c c.stage (drop n c.interim_left) refl
     (λ x p kept. head_kept name seat.client.reply.stage seat.client.reply (Left (interim_left seat.client.reply.interim - n)) c.front x p kept) refl shows.fate)
-    (interim_less seat.client.reply.interim c.interim_left n shows.interim some few)
+    (interim_less seat.client.reply.interim c.interim_left n shows.interim some few) shows.piped
     (let before = shows.before_body in let dropped = length-drop n c.interim_left in omega (arith, before, dropped, len, few))
 
 -- ---- of a head, and of what stands behind it
@@ -142,7 +143,7 @@ waits_kept c r other left is begun decision =
 
 begin_dropped : (n : ℕ) (b : Begin) (text : Bytes) (a : Answer) (r : Reply) → ShowsBegin b text a r → ShowsBegin b (drop n text) a (record r { head_left = drop n r.head_left })
 begin_dropped n Page text a r shows = (record { begun = shows.0.begun; left = ap (λ (x : Bytes). drop n x) shows.0.left; next = shows.0.next; end = shows.0.end }, shows.1, shows.2)
-begin_dropped n (OfInstance id next to) text a r shows = (record { begun = shows.0.begun; left = ap (λ (x : Bytes). drop n x) shows.0.left; next = shows.0.next; end = shows.0.end }, shows.1, shows.2, shows.3)
+begin_dropped n (OfInstance id next to) text a r shows = (record { begun = shows.0.begun; left = ap (λ (x : Bytes). drop n x) shows.0.left; next = shows.0.next; end = shows.0.end }, shows.1, shows.2, shows.3, shows.4)
 begin_dropped n IsPassed text a r shows = (record { begun = shows.0.begun; left = ap (λ (x : Bytes). drop n x) shows.0.left; next = shows.0.next; end = shows.0.end }, shows.1, shows.2)
 
 -- what is known of a client in the midst of a reply
@@ -161,16 +162,19 @@ pipe_same reply i stage text pipe is = sym (ap (λ (x : Said). x.pipe) is)
 interim_same : (name : Bytes) (owed : List Bytes) (seat : Seat) (c : Client) (i : Interim) (stage : SaidStage) (text : Bytes) (pipe : Pipe) → ShowsOpen name owed seat c → seat.client.reply ≡ parts i stage text pipe → ShowsInterim i c.interim_left
 interim_same name owed seat c i stage text pipe shows is = subst (λ (x : Said). ShowsInterim x.interim c.interim_left) is shows.interim
 
+piped_same : (reply : Said) (i : Interim) (b : Begin) (text : Bytes) (pipe : Pipe) (brought : SeatBrought) → reply ≡ parts i (Begun b) text pipe → IsPipedFor reply.stage brought → IsPipedFor (Begun b) brought
+piped_same reply i b text pipe brought is piped = subst (λ (x : Said). IsPipedFor x.stage brought) is piped
+
 -- another reply of it, with the same pipe
 midst_with : (n : ℕ) (name : Bytes) (owed : List Bytes) (seat : Seat) (c : Client) (i : Interim) (b d : Begin) (text more : Bytes) (pipe : Pipe) (a : Answer) (r other : Reply) (account : Account) → Midst name owed seat c i b text pipe a r
-    → ShowsAnswer (parts i (Begun d) more pipe) a other → other.has_begun ≡ r.has_begun → other.decision ≡ r.decision → length other.head_left ≡ length r.head_left - n
+    → ShowsAnswer (parts i (Begun d) more pipe) a other → other.has_begun ≡ r.has_begun → other.decision ≡ r.decision → IsPipedFor (Begun d) seat.brought → length other.head_left ≡ length r.head_left - n
     → ShowsOpen name owed (told_with (parts i (Begun d) more pipe) (seat.before_body - n) account seat) (record c { stage = Answering other })
-midst_with n name owed seat c i b d text more pipe a r other account midst answers begun decision len =
+midst_with n name owed seat c i b d text more pipe a r other account midst answers begun decision piped len =
     said_with name owed seat c (parts i (Begun d) more pipe) (Answering other) c.interim_left c.brought (seat.before_body - n) account midst.shows
     (subst (λ (s : SeatStage). ShowsStage (parts i (Begun d) more pipe) s (Answering other)) (sym midst.seat_at) answers)
     (fate_kept name owed seat.client.reply (parts i (Begun d) more pipe) seat.course seat.brought c (Answering other) c.interim_left (pipe_same seat.client.reply i (Begun b) text pipe midst.reply) (λ x p kept. tt)
     (waits_kept c r other c.interim_left midst.client_at begun decision) midst.shows.fate)
-    (interim_same name owed seat c i (Begun b) text pipe midst.shows midst.reply)
+    (interim_same name owed seat c i (Begun b) text pipe midst.shows midst.reply) piped
     (let before = before_of name owed seat c r midst.shows midst.client_at in
     let nothing : length c.interim_left ≡ 0 = ap (λ (x : Bytes). length x) midst.none in
     omega (arith, before, nothing, len))
@@ -180,23 +184,24 @@ head_told : (n : ℕ) (name : Bytes) (owed : List Bytes) (seat : Seat) (c : Clie
 head_told n name owed seat c i b text pipe a r account midst =
     midst_with n name owed seat c i b b text (drop n text) pipe a r (record r { head_left = drop n r.head_left }) account midst
     (record { decision = midst.answers.decision; source = midst.answers.source; begun = midst.answers.begun; says = begin_dropped n b text a r midst.begins }) refl refl
-    (length-drop n r.head_left)
+    (piped_same seat.client.reply i b text pipe seat.brought midst.reply midst.shows.piped) (length-drop n r.head_left)
 
 -- of the body of an instance
 body_told : (n : ℕ) (name : Bytes) (owed : List Bytes) (seat : Seat) (c : Client) (i : Interim) (id : ObjectId) (next to : ℕ) (text : Bytes) (pipe : Pipe) (a : Answer) (r : Reply) (account : Account)
-    → Midst name owed seat c i (OfInstance id next to) text pipe a r → length text < n
+    → Midst name owed seat c i (OfInstance id next to) text pipe a r → length text < n → n ≤ length text + (to - next)
     → ShowsOpen name owed (told_with (parts i (Begun (OfInstance id (next + (n - length text)) to)) (drop n text) pipe) (seat.before_body - n) account seat)
     (record c { stage = Answering (record (record r { head_left = [] }) { at = r.at + (n - length r.head_left) }) })
-body_told n name owed seat c i id next to text pipe a r account midst past =
+body_told n name owed seat c i id next to text pipe a r account midst past few =
     let same : length r.head_left ≡ length text = ap (λ (x : Bytes). length x) midst.begins.0.left in
     let from = midst.begins.0.next in
+    let ordered = midst.begins.4 in
     midst_with n name owed seat c i (OfInstance id next to) (OfInstance id (next + (n - length text)) to) text (drop n text) pipe a r (record (record r { head_left = [] }) { at = r.at + (n - length r.head_left) }) account midst
     (record {
       decision = midst.answers.decision;
       source = midst.answers.source;
       begun = midst.answers.begun;
-      says = (record { begun = midst.begins.0.begun; left = sym (drop_all n text (omega (arith, past))); next = omega (arith, same, from); end = midst.begins.0.end }, midst.begins.1, midst.begins.2, midst.begins.3);
-    }) refl refl
+      says = (record { begun = midst.begins.0.begun; left = sym (drop_all n text (omega (arith, past))); next = omega (arith, same, from); end = midst.begins.0.end }, midst.begins.1, midst.begins.2, midst.begins.3, omega (arith, past, few, ordered));
+    }) refl refl tt
     (omega (arith, same, past))
 
 -- ---- of the body of a response that is passed
@@ -263,7 +268,7 @@ pipe_told n name owed seat c i text pipe a r account midst past =
     }))
     (fate_piped name owed (n - length r.head_left) seat.client.reply new seat.course seat.brought c (Answering (record r { head_left = [] })) over (λ x p. tt)
     (waits_kept c r (record r { head_left = [] }) c.interim_left midst.client_at refl refl) midst.shows.fate)
-    (interim_same name owed seat c i (Begun IsPassed) text pipe midst.shows midst.reply)
+    (interim_same name owed seat c i (Begun IsPassed) text pipe midst.shows midst.reply) (piped_same seat.client.reply i IsPassed text pipe seat.brought midst.reply midst.shows.piped)
     (let before = before_of name owed seat c r midst.shows midst.client_at in
     let nothing : length c.interim_left ≡ 0 = ap (λ (x : Bytes). length x) midst.none in
     omega (arith, before, nothing, same, past))
@@ -312,20 +317,22 @@ head_alone IsPassed i text pipe k none = ap (λ (m : ℕ). parts i (Begun IsPass
 
 -- ---- the reply
 
-record IsTold (name : Bytes) (owed : List Bytes) (seat new : Seat) (c said : Client) : Type 0 where
-  number : said.number ≡ c.number
-  closing : said.is_closing ≡ c.is_closing
-  shows : ShowsOpen name owed new said
+pub record IsTold (name : Bytes) (owed : List Bytes) (seat new : Seat) (c said : Client) : Type 0 where
+  pub number : said.number ≡ c.number
+  pub closing : said.is_closing ≡ c.is_closing
+  pub front : said.front ≡ c.front
+  pub shows : ShowsOpen name owed new said
 
-abbrev IsToldBy : ℕ → Bytes → List Bytes → Seat → Client → Account → Said → Type 0
+abbrev pub IsToldBy : ℕ → Bytes → List Bytes → Seat → Client → Account → Said → Type 0
 IsToldBy n name owed seat c account reply = IsTold name owed seat (told_with reply (seat.before_body - n) account seat) c (said_by n c)
 
-to_law : (n : ℕ) (name : Bytes) (owed : List Bytes) (seat : Seat) (c to : Client) (account : Account) (old new : Said) → old ≡ new → to ≡ said_by n c → to.number ≡ c.number → to.is_closing ≡ c.is_closing
+to_law : (n : ℕ) (name : Bytes) (owed : List Bytes) (seat : Seat) (c to : Client) (account : Account) (old new : Said) → old ≡ new → to ≡ said_by n c → to.number ≡ c.number → to.is_closing ≡ c.is_closing → to.front ≡ c.front
     → ShowsOpen name owed (told_with old (seat.before_body - n) account seat) to → IsToldBy n name owed seat c account new
-to_law n name owed seat c to account old new reply client number closing shows =
+to_law n name owed seat c to account old new reply client number closing front shows =
     subst (λ (x : Client). IsTold name owed seat (told_with new (seat.before_body - n) account seat) c x) client (record {
       number = number;
       closing = closing;
+      front = front;
       shows = subst (λ (x : Said). ShowsOpen name owed (told_with x (seat.before_body - n) account seat) to) reply shows;
     })
 
@@ -340,15 +347,15 @@ midst_told n name owed seat c i b text pipe a r account midst same none few = by
         subst (λ (x : Begin). IsToldBy n name owed seat c account (said n (parts i (Begun x) text pipe))) is
         (to_law n name owed seat c (record c { stage = Answering (record (record r { head_left = [] }) { at = r.at + (n - length r.head_left) }) }) account (parts i (Begun (OfInstance id (next + (n - length text)) to)) (drop n text) pipe)
         (said n (parts i (Begun (OfInstance id next to)) text pipe)) (no_interim n i (Begun (OfInstance id next to)) text pipe none)
-        (law_body (n - length r.head_left) c (record r { head_left = [] }) false at.begins.3 ∙ law_said n c r false at.none at.client_at test) refl refl
-        (body_told n name owed seat c i id next to text pipe a r account at (omega (arith, past, same))))
+        (law_body (n - length r.head_left) c (record r { head_left = [] }) false at.begins.3 ∙ law_said n c r false at.none at.client_at test) refl refl refl
+        (body_told n name owed seat c i id next to text pipe a r account at (omega (arith, past, same)) (subst (λ (x : Begin). n ≤ length text + body_left x pipe) (sym is) few)))
     behind IsPassed is past test =
         let at : Midst name owed seat c i IsPassed text pipe a r = subst (λ (x : Begin). Midst name owed seat c i x text pipe a r) (sym is) midst in
         subst (λ (x : Begin). IsToldBy n name owed seat c account (said n (parts i (Begun x) text pipe))) is
         (to_law n name owed seat c (now_with (Answering (record r { head_left = [] })) c.interim_left (brought_on (n - length r.head_left) c.brought) c) account (parts i (Begun IsPassed) (drop n text) (without_first (n - length text) pipe))
         (said n (parts i (Begun IsPassed) text pipe)) (no_interim n i (Begun IsPassed) text pipe none)
         (sym (on_passed_by (n - length r.head_left) (record c { stage = Answering (record r { head_left = [] }) }) c.brought refl) ∙ law_body (n - length r.head_left) c (record r { head_left = [] }) true at.begins.2
-        ∙ law_said n c r false at.none at.client_at test) refl refl
+        ∙ law_said n c r false at.none at.client_at test) refl refl refl
         (pipe_told n name owed seat c i text pipe a r account at (omega (arith, past, same))))
 
     by : ((n ≤ length r.head_left) × (nat_le n (length r.head_left) ≡ true)) ⊎ ((length r.head_left < n) × (nat_le n (length r.head_left) ≡ false)) → IsToldBy n name owed seat c account (said n (parts i (Begun b) text pipe))
@@ -356,7 +363,7 @@ midst_told n name owed seat c i b text pipe a r account midst same none few = by
         let short = within.0 in
         to_law n name owed seat c (record c { stage = Answering (record r { head_left = drop n r.head_left }) }) account (parts i (Begun b) (drop n text) pipe) (said n (parts i (Begun b) text pipe))
         (head_alone b i (drop n text) pipe (n - length text) (omega (arith, short, same)) ∙ no_interim n i (Begun b) text pipe none)
-        (law_said n c r true midst.none midst.client_at within.1) refl refl (head_told n name owed seat c i b text pipe a r account midst)
+        (law_said n c r true midst.none midst.client_at within.1) refl refl refl (head_told n name owed seat c i b text pipe a r account midst)
     by (inr past) = behind b refl past.0 past.1
 
 head_same : (b : Begin) (text : Bytes) (a : Answer) (r : Reply) → ShowsBegin b text a r → length r.head_left ≡ length text
@@ -384,8 +391,8 @@ nothing_told : (n : ℕ) (name : Bytes) (owed : List Bytes) (seat : Seat) (c : C
     → IsToldBy n name owed seat c account (said n (parts i Due text pipe))
 nothing_told n name owed seat c i text pipe account shows reply none left few =
     subst (λ (m : ℕ). IsToldBy m name owed seat c account (said m (parts i Due text pipe))) (omega (arith, few))
-    (to_law 0 name owed seat c c account seat.client.reply (said 0 (parts i Due text pipe)) (reply ∙ no_interim 0 i Due text pipe left) (law_none c c.stage refl none) refl refl
-    (said_with name owed seat c seat.client.reply c.stage c.interim_left c.brought (seat.before_body - 0) account shows shows.stage shows.fate shows.interim (let before = shows.before_body in omega (arith, before))))
+    (to_law 0 name owed seat c c account seat.client.reply (said 0 (parts i Due text pipe)) (reply ∙ no_interim 0 i Due text pipe left) (law_none c c.stage refl none) refl refl refl
+    (said_with name owed seat c seat.client.reply c.stage c.interim_left c.brought (seat.before_body - 0) account shows shows.stage shows.fate shows.interim shows.piped (let before = shows.before_body in omega (arith, before))))
 
 -- ---- all
 
@@ -404,7 +411,7 @@ parts_told n name owed seat c i Due text pipe account shows reply none left few 
 parts_told n name owed seat c i (Begun b) text pipe account shows reply none left few =
     begun_told n name owed seat c i b text pipe account seat.stage c.stage shows reply refl refl (subst (λ (x : Said). ShowsStage x seat.stage c.stage) reply shows.stage) none left few
 
-open_told : (n : ℕ) (name : Bytes) (owed : List Bytes) (seat : Seat) (c : Client) (account : Account) → ShowsOpen name owed seat c → n ≤ left_next seat.client.reply → IsToldBy n name owed seat c account (said n seat.client.reply)
+pub open_told : (n : ℕ) (name : Bytes) (owed : List Bytes) (seat : Seat) (c : Client) (account : Account) → ShowsOpen name owed seat c → n ≤ left_next seat.client.reply → IsToldBy n name owed seat c account (said n seat.client.reply)
 open_told n name owed seat c account shows few = by (interim_by seat.client.reply.interim c.interim_left shows.interim)
   where
     by : ((c.interim_left ≡ []) × (interim_left seat.client.reply.interim ≡ 0)) ⊎ ((length c.interim_left ≡ interim_left seat.client.reply.interim) × (0 < interim_left seat.client.reply.interim)) → IsToldBy n name owed seat c account (said n seat.client.reply)
@@ -418,7 +425,7 @@ open_told n name owed seat c account shows few = by (interim_by seat.client.repl
         to_law n name owed seat c (record c { interim_left = drop n c.interim_left }) account (record seat.client.reply { interim = Left (interim_left seat.client.reply.interim - n) }) (said n seat.client.reply)
         (with_interim n seat.client.reply some)
         (sym (ap (λ (b : Bool). elim b as (λ y. Client) [ false ↦ record c { interim_left = drop n c.interim_left } | true ↦ elim (reply_of c) as (λ y. Client) [ None ↦ c | Some y ↦ said_of n y c ] ]) (not_empty c.interim_left (omega (arith, same, some)))))
-        refl refl (interim_told n name owed seat c account shows some same first)
+        refl refl refl (interim_told n name owed seat c account shows some same first)
 
 pub sayings : SayingsAreTheLaws
 sayings n name owed seat c shows going few left =

@@ -47,7 +47,7 @@ pub record IsBegunAs (text : Bytes) (at to : ℕ) (a : Answer) (r : Reply) : Typ
 -- where the answer begins, and of one without a body where it ends, is not read any more: the client knows how far it is
 abbrev pub ShowsBegin : Begin → Bytes → Answer → Reply → Type 0
 ShowsBegin Page text a r = IsBegunAs text r.to r.to a r × (a.source ≡ None) × (is_passing r.decision ≡ false)
-ShowsBegin (Instance id next to) text a r = IsBegunAs text next to a r × (a.source ≡ Some id) × (a.to ≡ to) × (is_passing r.decision ≡ false)
+ShowsBegin (Instance id next to) text a r = IsBegunAs text next to a r × (a.source ≡ Some id) × (a.to ≡ to) × (is_passing r.decision ≡ false) × (next ≤ to)
 ShowsBegin IsPassed text a r = IsBegunAs text r.to r.to a r × (a.source ≡ None) × (is_passing r.decision ≡ true)
 
 -- before it begins its span is that of the decision
@@ -131,6 +131,12 @@ ShowsBrought name said front brought other = ⊥
 abbrev pub ShowsFate : Bytes → List Bytes → Said → SeatCourse → SeatBrought → Client → Type 0
 ShowsFate name owed said course Refused c = IsRefusedRow owed c
 ShowsFate name owed said course brought c = (course_of course ≡ c.course) × ShowsBrought name said c.front brought c.brought
+
+-- what a pipe says is a response that is passed
+abbrev pub IsPipedFor : SaidStage → SeatBrought → Type 0
+IsPipedFor (Begun IsPassed) (PassesOn x) = ⊤
+IsPipedFor (Begun IsPassed) brought = ⊥
+IsPipedFor stage brought = ⊤
 
 -- as long as no request stands there nothing was brought
 abbrev pub IsBroughtFor : Front → SeatBrought → Type 0

@@ -1,0 +1,89 @@
+-- Bytes that are said to a client are what the law permits, and lead where the law leads.
+use Rattle.std.proofs.Common.{◌≡◌, ◌+◌, ℕ, zero, suc, Bool, true, false, List, length, refl, sym, ◌∙◌, ap, subst, Option, Some, None}
+use Rattle.std.specs.Prelude.{find, nat_lt, slice_get, slice_set}
+use Rattle.pp_world.specs.declared.happening.Happening.TheVariants.{Said}
+use Rattle.pp_law.specs.After.{paid, said}
+use Rattle.pp_law.specs.Chunks.{is_chunk, put_chunk, use_chunk}
+use Rattle.pp_law.specs.Connections.{client, on_client}
+use Rattle.pp_law.specs.Lists.{Bytes}
+use Rattle.pp_law.specs.Replies.{end_replies, of_body, said_by, use_chunks, use_from, use_said}
+use Rattle.pp_law.specs.State.{State, Chunk, Client}
+use Rattle.pp_law.specs.Table.{Next, next_of}
+use Rattle.pp_obeys.specs.Moves.{Moves}
+use Rattle.pp_obeys.proofs.Calls.{keeps_more, moves_to}
+use Rattle.pp_obeys.proofs.Happenings.{goes_said}
+use Rattle.pp_seats.specs.declared.seat.Seat.{Seat}
+use Rattle.pp_seats.specs.Seats.{told_by}
+use Rattle.pp_seats_law.specs.Clients.{AreShown, IsFound}
+use Rattle.pp_seats_law.specs.Seats.{ShowsSeat}
+use Rattle.pp_seats_law.proofs.AllSeats.{changes, places}
+use Rattle.pp_seats_law.proofs.SaidOn.{sayings}
+use Rattle.pp_clients_obey.specs.Hearing.{Sits, WasRead}
+use Rattle.pp_clients_obey.specs.Saying.{LeavesSome, OwesWrite, WritesKeep}
+use Rattle.pp_clients_obey.proofs.Hears.{same_seat}
+
+-- ---- chunks that are used leave the clients as they are
+
+abbrev seen : State → Bytes × List Client
+seen s = (s.settings.name, s.clients)
+
+seen_found : (id i : ℕ) (s : State) (o : Option Chunk) → seen (elim o as (λ x. State) [ None ↦ s | Some c ↦ record s { chunks = put_chunk id i c.bytes s.chunks } ]) ≡ seen s
+seen_found id i s None = refl
+seen_found id i s (Some c) = refl
+
+seen_chunk : (id i : ℕ) (s : State) → seen (use_chunk id i s) ≡ seen s
+unfolding use_chunk
+seen_chunk id i s = seen_found id i s (find (is_chunk id i) s.chunks)
+
+seen_chunks : (more id i : ℕ) (s : State) → seen (use_chunks more id i s) ≡ seen s
+unfolding use_chunks
+seen_chunks zero id i s = refl
+seen_chunks (suc more) id i s = seen_chunks more id (i + 1) (use_chunk id i s) ∙ seen_chunk id i s
+
+seen_from : (n : ℕ) (x : Next) (s : State) → seen (use_from n x s) ≡ seen s
+unfolding use_from
+seen_from n x s = seen_chunks _ _ _ s
+
+seen_next : (n : ℕ) (s : State) (b : Bool) (o : Option Next) → seen (elim b as (λ x. State) [ false ↦ s | true ↦ elim o as (λ x. State) [ None ↦ s | Some x ↦ use_from n x s ] ]) ≡ seen s
+seen_next n s false o = refl
+seen_next n s true None = refl
+seen_next n s true (Some x) = seen_from n x s
+
+seen_said : (n : ℕ) (c : Client) (s : State) → seen (use_said n c s) ≡ seen s
+unfolding use_said
+seen_said n c s = seen_next (of_body n c) s (nat_lt 0 (of_body n c)) (next_of s c)
+
+-- ---- the bytes
+
+said_one : (name : Bytes) (owed : List Bytes) (n i : ℕ) (seats : List Seat) (seat : Seat) (bytes : Bytes) → Sits n i seats seat → LeavesSome seat bytes
+    → (other : Seat) (c : Client) → slice_get seats i ≡ Some other → ShowsSeat name owed other c → ShowsSeat name owed (told_by (length bytes) seat) (said_by (length bytes) c)
+said_one name owed n i seats seat bytes sits leaves other c at shows =
+    let same : other ≡ seat = same_seat seat other (sym sits.there ∙ at) in
+    let here : ShowsSeat name owed seat c = subst (λ (x : Seat). ShowsSeat name owed x c) same shows in
+    sayings (length bytes) name owed seat c here (sym here.closing ∙ sits.going) leaves.few leaves.more
+
+shown_on : (name : Bytes) (owed : List Bytes) (n i : ℕ) (seats : List Seat) (seat : Seat) (bytes : Bytes) (s : State) → Sits n i seats seat → LeavesSome seat bytes → AreShown s.settings.name owed seats s.clients
+    → AreShown (on_client n (said_by (length bytes)) s).settings.name owed (slice_set seats i (told_by (length bytes) seat)) (on_client n (said_by (length bytes)) s).clients
+unfolding on_client
+shown_on name owed n i seats seat bytes s sits leaves shown =
+    changes s.settings.name owed seats s.clients n i (told_by (length bytes) seat) (said_by (length bytes)) shown sits.at (said_one s.settings.name owed n i seats seat bytes sits leaves)
+
+said_is : (n k : ℕ) (x : Client) (s : State) → client s n ≡ Some x → paid (said n k s) ≡ paid (end_replies (on_client n (said_by k) (use_said k x s)))
+unfolding said
+said_is n k x s found = ap (λ (o : Option Client). paid (elim o as (λ y. State) [ None ↦ s | Some y ↦ end_replies (on_client n (said_by k) (use_said k y s)) ])) found
+
+said_moves : (owed : List Bytes) (n i offered : ℕ) (seats : List Seat) (seat : Seat) (bytes : Bytes) → Sits n i seats seat → LeavesSome seat bytes → (s : State) → OwesWrite owed n offered bytes seats s
+    → Moves (WasRead owed (slice_set seats i (told_by (length bytes) seat))) (Said n offered bytes) s
+said_moves owed n i offered seats seat bytes sits leaves s owes =
+    let found : IsFound s.settings.name owed seat n s.clients = places s.settings.name owed seats s.clients n i seat owes.shown sits.at sits.there in
+    let used : State = use_said (length bytes) found.client s in
+    moves_to refl (goes_said s n offered bytes found.client owes.none owes.writes found.there (owes.first found.client found.there))
+    (record {
+      before = on_client n (said_by (length bytes)) used;
+      shown = shown_on s.settings.name owed n i seats seat bytes used sits leaves
+          (subst (λ (p : Bytes × List Client). AreShown p.0 owed seats p.1) (sym (seen_said (length bytes) found.client s)) owes.shown);
+      ended = said_is n (length bytes) found.client s found.there;
+    })
+
+pub writes_keep : WritesKeep
+writes_keep old new before now n i offered owed seats seat bytes call rose sits leaves = keeps_more (λ l. Said n offered bytes) call (λ l. rose) (λ l. said_moves owed n i offered seats seat bytes sits leaves)
