@@ -17,6 +17,12 @@ has_begun_in (Some a) = a.has_begun
 abbrev pub has_begun : Seat → Bool
 has_begun seat = has_begun_in (answer_in seat.stage)
 
+-- more may be asked for its request
+abbrev pub is_trying_in : Course → Bool
+is_trying_in (Trying n) = true
+is_trying_in OutOfTries = false
+is_trying_in AskTooLong = false
+
 -- the attempts of the request for a hole of the row's version ended
 abbrev pub is_out : Course → Bool
 is_out (Trying n) = false

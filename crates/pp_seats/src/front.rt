@@ -1,7 +1,10 @@
 // The current request of a client, as far as decisions and replies rest on it (RFC 2616, sections 5, 4.4
 // and 8.2.3).
-ghost use Rattle.std.specs.Prelude.{IsTrue};
+ghost use Rattle.std.specs.Prelude.{◌≡◌, IsTrue, option_map};
 ghost use Rattle.pp_client.specs.Clients.{IsAnswerable};
+ghost use Rattle.pp_client.specs.Requests.{current_of};
+ghost use Rattle.pp_head.specs.Shown.{shown_request};
+ghost use Rattle.pp_seats.specs.Heads.{IsFrontOf, IsKeptOf, asked_in, head_asked_in, is_other_safe, is_there_in, keeps_in, owned_in};
 
 use crate::key::Key;
 use pp_client::{Client, Current};
@@ -49,7 +52,9 @@ pub struct Asked {
 
 impl Front {
     /// What stands at the front now.
-    pub fn of(alloc: Global, client: &Client) -> Front {
+    pub fn of(alloc: Global, client: &Client) -> Front
+        ensures { IsFrontOf result (current_of client.now.heard) }
+    {
         let mut scratch = Scratch::new();
         match client.current(&mut scratch) {
             Current::Nothing | Current::More => Front::NoHeadYet,
@@ -59,12 +64,16 @@ impl Front {
     }
 
     /// There is something to answer.
-    pub fn is_there(&self) -> bool {
+    pub fn is_there(&self) -> bool
+        ensures { result ≡ is_there_in self.now }
+    {
         !matches!(self, Front::NoHeadYet)
     }
 
     /// What was asked, where a request stands there.
-    pub fn asked(&self) -> Option<&Asked> {
+    pub fn asked(&self) -> Option<&Asked>
+        ensures { option_map (λ asked. asked.now) result ≡ asked_in self.now }
+    {
         match self {
             Front::NoHeadYet | Front::NoHead(_) => None,
             Front::Request(asked) => Some(asked),
@@ -72,12 +81,16 @@ impl Front {
     }
 
     /// The key of that request.
-    pub fn key(&self) -> Option<&Key> {
+    pub fn key(&self) -> Option<&Key>
+        ensures { option_map (λ key. key.now) result ≡ owned_in (asked_in self.now) }
+    {
         self.asked()?.key.as_ref()
     }
 
     /// Whether HEAD is asked.
-    pub fn asks_head(&self) -> bool {
+    pub fn asks_head(&self) -> bool
+        ensures { result ≡ head_asked_in (asked_in self.now) }
+    {
         match self.asked() {
             None => false,
             Some(asked) => asked.is_head,
@@ -86,7 +99,9 @@ impl Front {
 
     /// Whether the connection goes on behind a page with this status. Ours: behind these no other request
     /// is read, since where theirs ends is not known.
-    pub fn keeps_after(&self, status: u16) -> bool {
+    pub fn keeps_after(&self, status: u16) -> bool
+        ensures { result ≡ keeps_in status (asked_in self.now) }
+    {
         match self.asked() {
             None => false,
             Some(asked) => asked.keeps_open && !matches!(status, 400 | 411 | 431),
@@ -94,7 +109,9 @@ impl Front {
     }
 }
 
-fn asked_of(alloc: Global, head: &RequestHead<'_, '_>, fault: Option<u16>) -> Asked {
+fn asked_of(alloc: Global, head: &RequestHead<'_, '_>, fault: Option<u16>) -> Asked
+    ensures { IsKeptOf result (shown_request head.now) fault }
+{
     let (key, refusal) = match Key::at(alloc, head.target) {
         Ok(key) => (Some(key), fault),
         Err(TargetFault::OutOfMemory) => (None, Some(500)),
@@ -124,7 +141,9 @@ fn asked_of(alloc: Global, head: &RequestHead<'_, '_>, fault: Option<u16>) -> As
     }
 }
 
-fn is_other_safe(method: &[u8]) -> bool {
+fn is_other_safe(method: &[u8]) -> bool
+    ensures { result ≡ is_other_safe method.now }
+{
     method == b"OPTIONS".as_slice() || method == b"TRACE".as_slice()
 }
 

@@ -1,15 +1,17 @@
 // A client, and how far its current request is.
 ghost use Rattle.std.specs.Prelude.{◌≡◌, ◌≤◌};
 ghost use Rattle.pp_client.specs.Replies.{left_next};
-ghost use Rattle.pp_seats.specs.Courses.{has_begun, lost_one, without_row, without_shared_row};
+ghost use Rattle.pp_seats.specs.Courses.{has_begun, is_trying_in, lost_one, without_row, without_shared_row};
 ghost use Rattle.pp_seats.specs.Said.{used_by};
 ghost use Rattle.pp_seats.specs.Follows.{answer_in, next_of};
+ghost use Rattle.pp_seats.specs.Seats.{IsRead, at_next_request, brought_to, finished_in, has_key, is_at_body, is_silent, is_to_be_decided, is_told_in, new_seat, passed_in, told_by, without_body};
 
 use crate::front::Front;
 use pp_client::Client;
 use pp_framing::BodyRule;
 use pp_objects::ObjectId;
 use pp_world::Decision;
+use std::alloc::Global;
 
 /// Where the current request is. The exchange that it waits for is the one that names its client.
 ///
@@ -148,7 +150,9 @@ pub struct Seat {
 
 impl Seat {
     /// A client that was accepted in this turn.
-    pub fn new(client: Client) -> Seat {
+    pub fn new(client: Client) -> Seat
+        ensures { result ≡ new_seat client }
+    {
         Seat {
             client,
             has_hung_up: false,
@@ -166,8 +170,25 @@ impl Seat {
         }
     }
 
+    /// What the client sent is read as a request, where there is none.
+    pub fn look(&mut self, alloc: Global)
+        ensures { IsRead self.old self.new }
+    {
+        match self.front {
+            Front::NoHeadYet => {}
+            Front::NoHead(_) | Front::Request(_) => return,
+        }
+        self.front = Front::of(alloc, &self.client);
+        self.body_left = match self.front.asked() {
+            None => 0,
+            Some(asked) => asked.body_len,
+        };
+    }
+
     /// The number of the connection.
-    pub fn id(&self) -> u64 {
+    pub fn id(&self) -> u64
+        ensures { result ≡ self.now.client.id }
+    {
         self.client.id()
     }
 
@@ -182,7 +203,9 @@ impl Seat {
     }
 
     /// That is the key of its request.
-    pub fn has_key(&self, key: &[u8]) -> bool {
+    pub fn has_key(&self, key: &[u8]) -> bool
+        ensures { result ≡ has_key key.now self.now }
+    {
         match self.front.key() {
             None => false,
             Some(own) => own.text() == key,
@@ -190,7 +213,9 @@ impl Seat {
     }
 
     /// The head of its exchange's response came.
-    pub fn is_told(&self) -> bool {
+    pub fn is_told(&self) -> bool
+        ensures { result ≡ is_told_in self.now.brought }
+    {
         match self.brought {
             Brought::Awaited => false,
             Brought::Useless
@@ -202,7 +227,9 @@ impl Seat {
     }
 
     /// The response that its exchange passes to it.
-    pub fn passed(&self) -> Option<Passed> {
+    pub fn passed(&self) -> Option<Passed>
+        ensures { result ≡ passed_in self.now.brought }
+    {
         match self.brought {
             Brought::Passes(passed) => Some(passed),
             Brought::Awaited
@@ -214,7 +241,9 @@ impl Seat {
     }
 
     /// The body of that response came to this.
-    pub fn end_passed(&mut self, end: PassedEnd) {
+    pub fn end_passed(&mut self, end: PassedEnd)
+        ensures { self.new ≡ record self.old { brought = brought_to end self.old.brought } }
+    {
         if let Brought::Passes(passed) = &mut self.brought {
             passed.end = end;
         }
@@ -274,18 +303,23 @@ impl Seat {
     /// So many bytes were said.
     pub fn took(&mut self, n: usize)
         requires { n ≤ left_next self.old.client.reply }
+        ensures { self.new ≡ told_by n self.old }
     {
         self.before_body = self.before_body.saturating_sub(n);
         self.client.took(n);
     }
 
     /// Its reply is past its head.
-    pub fn is_at_body(&self) -> bool {
+    pub fn is_at_body(&self) -> bool
+        ensures { result ≡ is_at_body self.now }
+    {
         self.has_begun() && self.before_body == 0
     }
 
     /// Its request may be decided now.
-    pub fn is_to_be_decided(&self) -> bool {
+    pub fn is_to_be_decided(&self) -> bool
+        ensures { result ≡ is_to_be_decided self.now }
+    {
         if self.is_closing {
             return false;
         }
@@ -298,7 +332,9 @@ impl Seat {
     }
 
     /// More may be asked for its request.
-    pub fn is_trying(&self) -> bool {
+    pub fn is_trying(&self) -> bool
+        ensures { result ≡ is_trying_in self.now.course }
+    {
         match self.course {
             Course::Trying(_) => true,
             Course::OutOfTries | Course::AskTooLong => false,
@@ -342,7 +378,9 @@ impl Seat {
     }
 
     /// It sent no whole head, and may send more: until it does, or the clock ticks, a turn has nothing to do for it.
-    pub fn is_silent(&self) -> bool {
+    pub fn is_silent(&self) -> bool
+        ensures { result ≡ is_silent self.now }
+    {
         matches!(self.stage, Stage::Undecided)
             && !self.front.is_there()
             && !self.has_hung_up
@@ -350,19 +388,25 @@ impl Seat {
     }
 
     /// Nothing that it sent is left to answer: no request, or one whose body stays short.
-    pub fn is_finished(&self) -> bool {
+    pub fn is_finished(&self) -> bool
+        ensures { result ≡ finished_in self.now }
+    {
         let is_short = (self.client.body().len() as u64) < self.body_left;
         self.has_hung_up && !self.is_closing && (!self.front.is_there() || is_short)
     }
 
     /// The rest of the request's body, which nobody reads, is dropped as it comes.
-    pub fn drop_body(&mut self) {
+    pub fn drop_body(&mut self)
+        ensures { self.new ≡ without_body self.old }
+    {
         self.client.drop_body();
         self.body_left = 0;
     }
 
     /// Its reply is over: the next request stands.
-    pub fn next_request(&mut self) {
+    pub fn next_request(&mut self)
+        ensures { self.new ≡ at_next_request self.old }
+    {
         self.front = Front::NoHeadYet;
         self.body_left = 0;
         self.index = self.index.saturating_add(1);

@@ -7,12 +7,13 @@ use Rattle.pp_client.specs.declared.reply.Stage.{Stage as SaidStage}
 use Rattle.pp_client.specs.declared.reply.Stage.TheVariants.{Due, Begun}
 use Rattle.pp_head.proofs.OnLiterals.{pp_head_on_literals}
 use Rattle.pp_law.specs.Lists.{Bytes, is_some_with}
-use Rattle.pp_law.specs.Requests.{NoHeadYet, front_of, has_request}
+use Rattle.pp_law.specs.Requests.{Front, IsRequest, NoHead, NoHeadYet, front_of, has_request}
 use Rattle.pp_law.specs.State.{Reply, Stage, Undecided, Waiting, Passing, Answering}
 use Rattle.pp_seats.specs.declared.seat.Answer.{Answer}
 use Rattle.pp_seats.specs.declared.seat.Stage.{Stage as SeatStage}
 use Rattle.pp_seats.specs.declared.seat.Stage.TheVariants.{Undecided as IsUndecided, Waiting as IsWaiting, Passing as IsPassing, Answering as IsAnswering}
 use Rattle.pp_seats_law.specs.Begins.{NewSeatsShow, RepliesMayBegin}
+use Rattle.pp_seats_law.specs.Fronts.{StandsStill}
 use Rattle.pp_seats_law.specs.Replies.{ShowsSaid, ShowsStage}
 use Rattle.pp_seats_law.proofs.Fronts.{front_from, same_front}
 use Rattle.pp_seats_law.proofs.Nexts.{reply_in}
@@ -28,7 +29,7 @@ new_seats name n now = record {
   going = λ going. record {
     hung_up = refl;
     mark = refl;
-    heard = record { is_front = nothing_heard; behind = refl };
+    heard = record { is_front = nothing_heard; head = tt; behind = refl; kept = tt; idle = tt };
     body = (refl, refl);
     over = refl;
     front = tt;
@@ -37,6 +38,7 @@ new_seats name n now = record {
     stage = (refl, refl);
     waits_on = refl;
     fate = (refl, tt);
+    asked = tt;
     given_up = refl;
     interim = refl;
     before_body = refl;
@@ -68,8 +70,14 @@ reply_due said IsPassing Passing shows isnt = shows
 reply_due said (IsAnswering a) (Answering r) shows isnt = due_by said.stage said.text a r shows.says shows.begun isnt
 reply_due said stage other shows isnt = absurd shows
 
+still_there : (front now : Front) → StandsStill front now → has_request front ≡ true → has_request now ≡ true
+still_there NoHeadYet now still there = absurd (cc there)
+still_there (NoHead status) now still there = ap has_request still.1
+still_there (IsRequest r) now still there = ap has_request still
+
 pub may_begin : RepliesMayBegin
 may_begin name owed seat c shows there isnt = record {
-  current = there_same (current_of seat.client.heard) ∙ ap has_request (sym (same_front (seat.client.heard.head ++ seat.client.heard.rest)) ∙ shows.heard.is_front) ∙ there;
+  current = there_same (current_of seat.client.heard) ∙ ap has_request (sym (same_front (seat.client.heard.head ++ seat.client.heard.rest)))
+      ∙ still_there c.front (front_of (seat.client.heard.head ++ seat.client.heard.rest)) shows.heard.is_front there;
   due = reply_due seat.client.reply seat.stage c.stage shows.stage isnt;
 }

@@ -32,14 +32,16 @@ use Rattle.pp_seats.specs.declared.seat.Seat.{Seat}
 use Rattle.pp_seats.specs.declared.seat.Shared.{Shared as SeatShared}
 use Rattle.pp_seats.specs.declared.seat.Stage.{Stage as SeatStage}
 use Rattle.pp_seats.specs.declared.seat.Stage.TheVariants.{Undecided as IsUndecided, Waiting as IsWaiting, Passing as IsPassing, Answering as IsAnswering}
-use Rattle.pp_seats.specs.Courses.{has_begun}
 use Rattle.pp_seats.specs.Follows.{answer_in}
-use Rattle.pp_seats_law.specs.Dues.{CutIsTheLaws, DecisionIsTheLaws, DueIsTheLaws, FinishedIsTheLaws, LostIsTheLaws, SharingIsTheLaws, WaitingIsTheLaws, by_stage_in, cut_of, decision_in, ends_short, give_up_in, has_lost_its_row, is_idle_in, is_refused_in, is_short_in, is_trying_in, lost_in, still_waits_in, undecided_in}
+use Rattle.pp_seats.specs.Courses.{has_begun, is_trying_in}
+use Rattle.pp_seats.specs.Dues.{by_stage_in, decision_in, ends_short, give_up_in, is_end_short, is_idle_in, is_refused_in, is_short_in}
+use Rattle.pp_seats.specs.Heads.{is_there_in}
+use Rattle.pp_seats.specs.Seats.{is_told_in, passed_in}
+use Rattle.pp_seats_law.specs.Dues.{CutIsTheLaws, DecisionIsTheLaws, DueIsTheLaws, FinishedIsTheLaws, LostIsTheLaws, SharingIsTheLaws, WaitingIsTheLaws, cut_of, has_lost_its_row, lost_in, still_waits_in, undecided_in}
 use Rattle.pp_seats_law.specs.Fronts.{ShowsBody, ShowsFront}
-use Rattle.pp_seats_law.specs.Heads.{is_there_in}
 use Rattle.pp_seats_law.specs.Replies.{IsOwed, IsRefusedRow, ShowsFate, ShowsStage, course_of, shared_of}
 use Rattle.pp_seats_law.specs.Seats.{ShowsOpen}
-use Rattle.pp_seats_law.specs.Words.{ShowsMaybePassed, is_told_in, passed_in}
+use Rattle.pp_seats_law.specs.Words.{ShowsMaybePassed}
 use Rattle.pp_seats_law.proofs.Fronts.{fronts_read}
 use Rattle.pp_seats_law.proofs.Nexts.{reply_in}
 use Rattle.pp_seats_law.proofs.Stages.{begun, passed, told}
@@ -244,7 +246,7 @@ short_end_by false true = refl
 short_end_by false false = refl
 
 short_same : (name : Bytes) (said : Said) (front : Front) (x : Option SeatPassed) (p : Option Passed) → ShowsMaybePassed name said front x p
-    → is_some_with (λ y. ends_short y.end) x ≡ is_some_with (λ q. q.is_short && not q.pipe.is_finished) p
+    → is_end_short x ≡ is_some_with (λ q. q.is_short && not q.pipe.is_finished) p
 short_same name said front None None shows = refl
 short_same name said front (Some x) (Some p) shows = ap ends_short shows.end ∙ short_end_by p.pipe.is_finished p.is_short
 short_same name said front x p shows = absurd shows

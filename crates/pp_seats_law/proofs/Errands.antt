@@ -4,7 +4,8 @@ use Rattle.pp_law.specs.Stages.{bound_in, is_pending}
 use Rattle.pp_law.specs.State.{Body, Pending, Joining, Relaying, Dropping}
 use Rattle.pp_seats.specs.declared.errand.Body.{Body as ErrandBody}
 use Rattle.pp_seats.specs.declared.errand.Body.TheVariants.{Pending as IsPending, Joining as IsJoining, Relaying as IsRelaying, Dropping as IsDropping}
-use Rattle.pp_seats_law.specs.Errands.{Binding, ErrandsAreTheLaws, ShowsBody, ShowsBound, attempts_in}
+use Rattle.pp_seats.specs.Errands.{attempts_in}
+use Rattle.pp_seats_law.specs.Errands.{Binding, ErrandsAreTheLaws, ShowsBody, ShowsBound}
 
 body_headed : (body : ErrandBody) (headed : Bool) (bound : Option Binding) (other : Body) → ShowsBody body headed bound other → headed ≡ not (is_pending other)
 body_headed IsPending false None Pending shows = refl

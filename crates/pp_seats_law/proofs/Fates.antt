@@ -53,6 +53,7 @@ open_with name owed seat c new course given_up shows stays same = record {
   stage = shows.stage;
   waits_on = shows.waits_on;
   fate = fate_with name owed seat.client.reply seat.course new seat.brought c course given_up shows.fate stays same;
+  asked = shows.asked;
   given_up = refl;
   interim = shows.interim;
   before_body = shows.before_body;

@@ -23,7 +23,8 @@ use Rattle.pp_seats.specs.declared.front.Front.{Front as SeatFront}
 use Rattle.pp_seats.specs.declared.front.Front.TheVariants.{NoHeadYet as NoneYet, NoHead as NoneThere, Request as IsThere}
 use Rattle.pp_seats.specs.declared.key.Key.{Key as OwnedKey}
 use Rattle.pp_seats_law.specs.Fronts.{ShowsAsked, ShowsFront, ShowsKey}
-use Rattle.pp_seats_law.specs.Heads.{FrontsAreReadAsTheLaws, FrontsAreTheLaws, IsFrontOf, IsKeyed, asked_by, length_in, waits_by}
+use Rattle.pp_seats.specs.Heads.{IsFrontOf, IsKeyed, asked_by, length_in, waits_by}
+use Rattle.pp_seats_law.specs.Heads.{FrontsAreReadAsTheLaws, FrontsAreTheLaws}
 
 -- ---- the head
 

@@ -13,8 +13,9 @@ use Rattle.pp_seats.specs.declared.seat.Stage.{Stage as SeatStage}
 use Rattle.pp_seats.specs.declared.seat.Stage.TheVariants.{Undecided as IsUndecided, Waiting as IsWaiting, Passing as IsPassing, Answering as IsAnswering}
 use Rattle.pp_seats.specs.Courses.{has_begun_in}
 use Rattle.pp_seats.specs.Follows.{answer_in}
+use Rattle.pp_seats.specs.Seats.{is_told_in, is_undecided_in, passed_in}
 use Rattle.pp_seats_law.specs.Replies.{ShowsBrought, ShowsFate, ShowsStage}
-use Rattle.pp_seats_law.specs.Words.{BegunIsTheLaws, PassedIsTheLaws, RepliesAreTheLaws, ShowsMaybePassed, ShowsReply, ToldIsTheLaws, UndecidedIsTheLaws, is_told_in, is_undecided_in, passed_in}
+use Rattle.pp_seats_law.specs.Words.{BegunIsTheLaws, PassedIsTheLaws, RepliesAreTheLaws, ShowsMaybePassed, ShowsReply, ToldIsTheLaws, UndecidedIsTheLaws}
 use Rattle.pp_seats_law.proofs.Nexts.{reply_in}
 
 stage_reply : (said : Said) (stage : SeatStage) (other : Stage) → ShowsStage said stage other → ShowsReply said (answer_in stage) (reply_in other)

@@ -1,36 +1,15 @@
 -- A seat begins as its client does, and its reply may begin where that of its client may.
-use Rattle.std.specs.Prelude.{◌≡◌, ℕ, true, false, [], None}
-use Rattle.pp_client.specs.Clients.{Client as Side, IsAnswerable, new_client as new_side}
+use Rattle.std.specs.Prelude.{◌≡◌, ℕ, true, false, []}
+use Rattle.pp_client.specs.Clients.{IsAnswerable, new_client as new_side}
 use Rattle.pp_law.specs.After.{new_client}
 use Rattle.pp_law.specs.Lists.{Bytes}
 use Rattle.pp_law.specs.Requests.{has_request}
 use Rattle.pp_law.specs.Stages.{is_begun}
-use Rattle.pp_seats.specs.declared.front.Front.TheVariants.{NoHeadYet as NoneYet}
-use Rattle.pp_seats.specs.declared.seat.Brought.TheVariants.{Awaited}
-use Rattle.pp_seats.specs.declared.seat.Course.TheVariants.{Trying}
-use Rattle.pp_seats.specs.declared.seat.Seat.{Seat}
-use Rattle.pp_seats.specs.declared.seat.Stage.TheVariants.{Undecided}
+use Rattle.pp_seats.specs.Seats.{new_seat}
 use Rattle.pp_seats_law.specs.Seats.{ShowsSeat}
 use Rattle.pp_seats_law.specs.Words.{OfOpen}
 
 -- of a client that was accepted
-abbrev pub new_seat : Side → Seat
-new_seat client = record {
-  client = client;
-  has_hung_up = false;
-  front = NoneYet;
-  body_left = 0;
-  index = 0;
-  stage = Undecided;
-  waits_on = None;
-  brought = Awaited;
-  course = Trying 0;
-  has_given_up = false;
-  before_body = 0;
-  closes = false;
-  is_closing = false;
-}
-
 abbrev pub NewSeatsShow : Type 0
 NewSeatsShow = (name : Bytes) (n now : ℕ) → ShowsSeat name [] (new_seat (new_side n now)) (new_client n now)
 

@@ -12,7 +12,7 @@ use Rattle.pp_law.specs.Lists.{Bytes}
 use Rattle.pp_law.specs.Requests.{goes_alone, is_asked_once, is_safe}
 use Rattle.pp_law.specs.Stages.{bound_of, is_headed, is_through}
 use Rattle.pp_law.specs.State.{Body, Pending, Joining, Relaying, Dropping, Bound, Exchange}
-use Rattle.pp_seats.specs.Errands.{named_by}
+use Rattle.pp_seats.specs.Errands.{attempts_in, named_by}
 use Rattle.pp_seats.specs.declared.errand.Body.{Body as ErrandBody}
 use Rattle.pp_seats.specs.declared.errand.Body.TheVariants.{Pending as IsPending, Joining as IsJoining, Relaying as IsRelaying, Dropping as IsDropping}
 use Rattle.pp_seats.specs.declared.errand.Errand.{Errand}
@@ -82,9 +82,6 @@ abbrev pub ShowsBound : Option Binding → Option Bound → Type 0
 ShowsBound None None = ⊤
 ShowsBound (Some x) (Some b) = (far : ℕ) × IsBoundAs x far b
 ShowsBound x b = ⊥
-
-abbrev pub attempts_in : Bool → ℕ
-attempts_in once = elim once [ true ↦ 1 | false ↦ 3 ]
 
 pub record IsTheLaws (x : Entered) (errand : Errand) (e : Exchange) : Type 0 where
   pub headed : x.headed ≡ is_headed e

@@ -1,8 +1,11 @@
 -- How what a client sent stands for its current request in the law (RFC 2616, sections 4.4, 5 and 8.2.3).
-use Rattle.std.specs.Prelude.{◌≡◌, ◌⊎◌, ℕ, Bool, true, false, not, is_ok, ◌++◌, Option, Some, None, Ok, ⊤}
+use Rattle.std.specs.Prelude.{◌≡◌, ◌⊎◌, ℕ, Bool, true, false, not, is_ok, [], ◌∷◌, ◌++◌, Option, Some, None, Ok, ⊤}
+use Rattle.pp_client.specs.Bodies.{IsIdle, IsKept}
 use Rattle.pp_client.specs.Requests.{Heard}
 use Rattle.pp_client.specs.declared.body.Body.{Body}
 use Rattle.pp_client.specs.declared.body.Body.TheVariants.{Unread, Dropped, Over}
+use Rattle.pp_head.specs.Read.{Whole}
+use Rattle.pp_head.specs.Request.{request_at}
 use Rattle.pp_pipe.specs.Authentication.{binds_connection}
 use Rattle.pp_plan.specs.Requests.{is_head}
 use Rattle.pp_target.specs.Key.{key_in}
@@ -53,7 +56,24 @@ is_over Over = true
 abbrev pub has_no_end : Front → Bool
 has_no_end front = is_some_with (λ r. not (is_ok r.rule)) (parsed_in front)
 
+-- a head is taken as soon as it is whole
+abbrev pub IsHeadTaken : Bytes → Front → Type 0
+IsHeadTaken [] NoHeadYet = ⊤
+IsHeadTaken [] (NoHead status) = ⊤
+IsHeadTaken [] (IsRequest r) = ⊥
+IsHeadTaken (b ∷ head) NoHeadYet = ⊥
+IsHeadTaken (b ∷ head) (NoHead status) = ⊥
+IsHeadTaken (b ∷ head) (IsRequest r) = request_at (b ∷ head) ≡ Whole r.head
+
+-- it stands there still; of what is no head the status was told when it came, and more of it may be too long
+abbrev pub StandsStill : Front → Front → Type 0
+StandsStill (NoHead status) now = (other : ℕ) × (now ≡ NoHead other)
+StandsStill front now = now ≡ front
+
 -- the current request stands at the front of what was heard, and behind its head what counts
 pub record ShowsHeard (h : Heard) (front : Front) (heard : Bytes) : Type 0 where
-  pub is_front : front_of (h.head ++ h.rest) ≡ front
+  pub is_front : StandsStill front (front_of (h.head ++ h.rest))
+  pub head : IsHeadTaken h.head front
   pub behind : h.rest ≡ heard
+  pub kept : IsKept h.rest h.body
+  pub idle : IsIdle h.head h.body

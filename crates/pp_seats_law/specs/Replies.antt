@@ -132,6 +132,12 @@ abbrev pub ShowsFate : Bytes → List Bytes → Said → SeatCourse → SeatBrou
 ShowsFate name owed said course Refused c = IsRefusedRow owed c
 ShowsFate name owed said course brought c = (course_of course ≡ c.course) × ShowsBrought name said c.front brought c.brought
 
+-- as long as no request stands there nothing was brought
+abbrev pub IsBroughtFor : Front → SeatBrought → Type 0
+IsBroughtFor NoHeadYet NoneYet = ⊤
+IsBroughtFor NoHeadYet brought = ⊥
+IsBroughtFor front brought = ⊤
+
 -- the exchange of another client that it waits for, and since when
 abbrev pub shared_of : SeatShared → Shared
 shared_of x = record { exchange = x.exchange; since = x.since }

@@ -5,7 +5,7 @@ use Rattle.pp_law.specs.Stages.{reply_of}
 use Rattle.pp_law.specs.State.{Client, Reply}
 use Rattle.pp_seats.specs.declared.seat.Seat.{Seat}
 use Rattle.pp_seats_law.specs.Fronts.{ShowsBody, ShowsFront, ShowsHeard, has_no_end, is_over}
-use Rattle.pp_seats_law.specs.Replies.{ShowsFate, ShowsInterim, ShowsStage, shared_of}
+use Rattle.pp_seats_law.specs.Replies.{IsBroughtFor, ShowsFate, ShowsInterim, ShowsStage, shared_of}
 
 -- what of its reply is said before the body
 abbrev pub head_left : Option Reply → ℕ
@@ -26,6 +26,7 @@ pub record ShowsOpen (name : Bytes) (owed : List Bytes) (seat : Seat) (c : Clien
   pub stage : ShowsStage seat.client.reply seat.stage c.stage
   pub waits_on : option_map shared_of seat.waits_on ≡ c.waits_on
   pub fate : ShowsFate name owed seat.client.reply seat.course seat.brought c
+  pub asked : IsBroughtFor c.front seat.brought
   pub given_up : seat.has_given_up ≡ c.has_given_up
   pub interim : ShowsInterim seat.client.reply.interim c.interim_left
   pub before_body : seat.before_body ≡ length c.interim_left + head_left (reply_of c)

@@ -9,16 +9,13 @@ use Rattle.pp_law.specs.Stages.{is_begun, is_undecided, passed_of, reply_of}
 use Rattle.pp_law.specs.State.{State, Client, Instance, Passed, Reply}
 use Rattle.pp_law.specs.Table.{Next, instance, next_of}
 use Rattle.pp_seats.specs.declared.seat.Answer.{Answer}
-use Rattle.pp_seats.specs.declared.seat.Brought.{Brought as SeatBrought}
-use Rattle.pp_seats.specs.declared.seat.Brought.TheVariants.{Awaited as NoneYet, Useless as NoneOfUse, Joins as JoinsRow, Passes as PassesOn, TooWide as IsTooWide, Refused}
 use Rattle.pp_seats.specs.declared.seat.Next.{Next as SeatNext}
 use Rattle.pp_seats.specs.declared.seat.Passed.{Passed as SeatPassed}
 use Rattle.pp_seats.specs.declared.seat.Seat.{Seat}
-use Rattle.pp_seats.specs.declared.seat.Stage.{Stage as SeatStage}
-use Rattle.pp_seats.specs.declared.seat.Stage.TheVariants.{Undecided as IsUndecided, Waiting as IsWaiting, Passing as IsPassing, Answering as IsAnswering}
 use Rattle.pp_seats.specs.Courses.{has_begun}
 use Rattle.pp_seats.specs.Follows.{answer_in, next_of as seat_next}
 use Rattle.pp_seats.specs.Said.{used_by}
+use Rattle.pp_seats.specs.Seats.{is_told_in, is_undecided_in, passed_in}
 use Rattle.pp_seats_law.specs.Replies.{ShowsAnswer, ShowsPassed, number_of}
 use Rattle.pp_seats_law.specs.Seats.{ShowsOpen, ShowsSeat}
 
@@ -58,36 +55,14 @@ BegunIsTheLaws = OfOpen (λ name owed seat c. has_begun seat ≡ is_begun c)
 
 -- ---- where its request is
 
-abbrev pub is_undecided_in : SeatStage → Bool
-is_undecided_in IsUndecided = true
-is_undecided_in IsWaiting = false
-is_undecided_in IsPassing = false
-is_undecided_in (IsAnswering a) = false
-
 abbrev pub UndecidedIsTheLaws : Type 0
 UndecidedIsTheLaws = OfOpen (λ name owed seat c. is_undecided_in seat.stage ≡ is_undecided c.stage)
 
 -- the head of its exchange's response came
-abbrev pub is_told_in : SeatBrought → Bool
-is_told_in NoneYet = false
-is_told_in NoneOfUse = true
-is_told_in (JoinsRow id plain) = true
-is_told_in (PassesOn x) = true
-is_told_in IsTooWide = true
-is_told_in Refused = true
-
 abbrev pub ToldIsTheLaws : Type 0
 ToldIsTheLaws = OfOpen (λ name owed seat c. is_told_in seat.brought ≡ is_told c.brought)
 
 -- the response that its exchange passes to it
-abbrev pub passed_in : SeatBrought → Option SeatPassed
-passed_in NoneYet = None
-passed_in NoneOfUse = None
-passed_in (JoinsRow id plain) = None
-passed_in (PassesOn x) = Some x
-passed_in IsTooWide = None
-passed_in Refused = None
-
 abbrev pub ShowsMaybePassed : Bytes → Said → Front → Option SeatPassed → Option Passed → Type 0
 ShowsMaybePassed name said front None None = ⊤
 ShowsMaybePassed name said front (Some x) (Some p) = ShowsPassed name said front x p

@@ -1,4 +1,7 @@
 // Which decision or cut is due, and which comes first (RFC 2616, section 8.1; the order is ours).
+ghost use Rattle.std.specs.Prelude.{◌≡◌};
+ghost use Rattle.pp_seats.specs.Dues.{cause_in, decision_in, follows, give_up_in, is_idle_in, is_read_in, is_short_in};
+
 use crate::state::State;
 use pp_seats::{Answer, Brought, Course, PassedEnd, Seat, Stage};
 use pp_shelf::Shelf;
@@ -47,32 +50,22 @@ impl State {
         Some(Due::Decide(self.decision_of(seat)?))
     }
 
-    /// The causes of a cut, in their order: the first that applies. What came is said before a reply is cut
-    /// for its origin.
+    /// What came is said before a reply is cut for its origin.
     fn cut_of(&self, seat: &Seat) -> Option<Cause> {
-        let begun = seat.has_begun();
-        if begun && self.is_stopped {
-            Some(Cause::Stop)
-        } else if begun && is_short(seat) && self.is_dry(seat) {
-            Some(Cause::Short)
-        } else if begun && !seat.is_trying() && self.is_dry(seat) {
-            Some(Cause::Origin)
-        } else if begun && self.is_superseded(seat) {
-            Some(Cause::Superseded)
-        } else if self.is_ticked && self.is_idle(seat) {
-            Some(Cause::Idle)
-        } else {
-            None
-        }
+        let has_begun = seat.has_begun();
+        let may_run_dry = has_begun && (is_short(seat) || !seat.is_trying());
+        cause_of(
+            seat,
+            self.is_stopped,
+            is_idle(seat, self.is_ticked, self.now),
+            may_run_dry && self.is_dry(seat),
+            has_begun && self.is_superseded(seat),
+        )
     }
 
     /// Nothing that came is left to say to it.
     pub(crate) fn is_dry(&self, seat: &Seat) -> bool {
         self.cache.offer(&seat.client).is_empty() && self.next_on_disk(seat).is_none()
-    }
-
-    fn is_idle(&self, seat: &Seat) -> bool {
-        IDLE_SECONDS <= self.now.saturating_sub(seat.client.mark())
     }
 
     /// Another version stands, and of this one nothing more comes.
@@ -83,36 +76,22 @@ impl State {
         }
     }
 
+    /// One that waits, and a reply that has not begun and whose row is replaced, are decided by the row of now.
     fn decision_of(&self, seat: &Seat) -> Option<Decision> {
-        if matches!(seat.brought, Brought::Refused) {
-            return Some(Decision::Refuse(500));
-        }
-        match seat.stage {
+        let is_lost = match seat.answer() {
+            None => false,
+            Some(answer) => !answer.has_begun && self.has_lost_row(answer),
+        };
+        let undecided = match seat.stage {
             Stage::Undecided => self.due_undecided(seat),
-            Stage::Waiting => {
-                let told = if seat.is_told() {
-                    self.decide(seat)
-                } else {
-                    None
-                };
-                give_up(seat, told)
-            }
-            Stage::Passing => give_up(seat, None),
-            Stage::Answering(answer) => self.decided_again(seat, answer),
-        }
-    }
-
-    /// A reply that has not begun is decided again where the row that it was decided by is replaced.
-    fn decided_again(&self, seat: &Seat, answer: Answer) -> Option<Decision> {
-        if answer.has_begun {
-            return None;
-        }
-        let again = if self.has_lost_row(answer) {
+            Stage::Waiting | Stage::Passing | Stage::Answering(_) => None,
+        };
+        let decided = if is_read(seat.stage, seat.is_told(), is_lost) {
             self.decide(seat)
         } else {
             None
         };
-        give_up(seat, again)
+        decision_by(seat, is_lost, undecided, decided)
     }
 
     /// The row by which it was decided is replaced or cleared.
@@ -121,23 +100,104 @@ impl State {
             None => false,
             Some(id) => !self.cache.is_retired(id),
         };
-        matches!(answer.decision, Decision::Hit(_, _) | Decision::Part(_, _)) && !has_row
+        follows(answer.decision) && !has_row
+    }
+}
+
+/// The causes of a cut, in their order: the first that applies.
+fn cause_of(
+    seat: &Seat,
+    is_stopped: bool,
+    is_idle: bool,
+    is_dry: bool,
+    is_superseded: bool,
+) -> Option<Cause>
+    ensures { result ≡ cause_in is_stopped is_idle seat.now is_dry is_superseded }
+{
+    let has_begun = seat.has_begun();
+    if has_begun && is_stopped {
+        Some(Cause::Stop)
+    } else if has_begun && is_short(seat) && is_dry {
+        Some(Cause::Short)
+    } else if has_begun && !seat.is_trying() && is_dry {
+        Some(Cause::Origin)
+    } else if has_begun && is_superseded {
+        Some(Cause::Superseded)
+    } else if is_idle {
+        Some(Cause::Idle)
+    } else {
+        None
+    }
+}
+
+fn is_idle(seat: &Seat, is_ticked: bool, now: u64) -> bool
+    ensures { result ≡ is_idle_in is_ticked now seat.now }
+{
+    is_ticked && IDLE_SECONDS <= now.saturating_sub(seat.client.mark())
+}
+
+/// Its response ended early.
+fn is_short(seat: &Seat) -> bool
+    ensures { result ≡ is_short_in seat.now.brought }
+{
+    match seat.passed() {
+        None => false,
+        Some(passed) => passed.end == PassedEnd::Short,
+    }
+}
+
+/// By whether its row is lost, and by what is decided of one that may wait for another's answer, and of any.
+fn decision_by(
+    seat: &Seat,
+    is_lost: bool,
+    undecided: Option<Decision>,
+    decided: Option<Decision>,
+) -> Option<Decision>
+    ensures { result ≡ decision_in seat.now is_lost undecided decided }
+{
+    if matches!(seat.brought, Brought::Refused) {
+        return Some(Decision::Refuse(500));
+    }
+    match seat.stage {
+        Stage::Undecided => undecided,
+        Stage::Waiting => {
+            let told = if seat.is_told() { decided } else { None };
+            give_up(seat.course, told)
+        }
+        Stage::Passing => give_up(seat.course, None),
+        Stage::Answering(answer) if answer.has_begun => None,
+        Stage::Answering(_) => {
+            let again = if is_lost { decided } else { None };
+            give_up(seat.course, again)
+        }
+    }
+}
+
+/// The row of its key is read: it waits, and the head of a response came, or its reply has not begun, and has lost its row.
+fn is_read(stage: Stage, is_told: bool, is_lost: bool) -> bool
+    ensures { result ≡ is_read_in stage is_told is_lost }
+{
+    match stage {
+        Stage::Undecided | Stage::Passing => false,
+        Stage::Waiting => is_told,
+        Stage::Answering(answer) => !answer.has_begun && is_lost,
     }
 }
 
 /// Its attempts ended, or its ask as a follower is too long.
-fn give_up(seat: &Seat, other: Option<Decision>) -> Option<Decision> {
-    match seat.course {
+fn give_up(course: Course, other: Option<Decision>) -> Option<Decision>
+    ensures { result ≡ give_up_in course other }
+{
+    match course {
         Course::Trying(_) => other,
         Course::OutOfTries => Some(Decision::Refuse(502)),
         Course::AskTooLong => Some(Decision::Refuse(431)),
     }
 }
 
-/// Its response ended early.
-fn is_short(seat: &Seat) -> bool {
-    match seat.passed() {
-        None => false,
-        Some(passed) => passed.end == PassedEnd::Short,
-    }
+/// An instance is followed.
+fn follows(decision: Decision) -> bool
+    ensures { result ≡ follows decision }
+{
+    matches!(decision, Decision::Hit(_, _) | Decision::Part(_, _))
 }

@@ -1,5 +1,6 @@
 // One fetch for many (ours): a request waits once for what another has asked for already.
 ghost use Rattle.std.specs.Prelude.{◌≡◌};
+ghost use Rattle.pp_seats.specs.Dues.{may_share};
 ghost use Rattle.pp_steps.specs.Patience.{is_patient};
 
 use crate::state::State;
@@ -44,8 +45,8 @@ impl State {
             Some(_) => self.decide(seat),
             None => {
                 let decision = self.decide(seat)?;
-                let may_share = matches!(decision, Decision::Fetch | Decision::Validate);
-                if self.shares_fetches && may_share && self.shared_ask(seat).is_some() {
+                let may_share = self.shares_fetches && may_share(decision);
+                if may_share && self.shared_ask(seat).is_some() {
                     None
                 } else {
                     Some(decision)
@@ -67,4 +68,11 @@ fn is_patient(is_awaited: bool, now: u64, since: u64) -> bool
     ensures { result ≡ is_patient is_awaited now since }
 {
     is_awaited && now.saturating_sub(since) < PATIENCE
+}
+
+/// What it asks may be what another has asked for already.
+fn may_share(decision: Decision) -> bool
+    ensures { result ≡ may_share decision }
+{
+    matches!(decision, Decision::Fetch | Decision::Validate)
 }
