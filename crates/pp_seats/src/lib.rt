@@ -6,7 +6,9 @@
 //!
 //! To the layer above: the next byte of a client that follows an instance (`specs/Follows.antt`), which of an instance's bytes
 //! are said (`specs/Said.antt`), how often a request may lose an attempt, and what it is where its row is lost
-//! (`specs/Courses.antt`; RFC 2616, section 8.1.4); which tag an ask names (`specs/Errands.antt`).
+//! (`specs/Courses.antt`; RFC 2616, section 8.1.4); what is kept of a head (`specs/Heads.antt`), and how far its request is
+//! (`specs/Seats.antt`); what an exchange asks (`specs/Errands.antt`). `specs/Dues.antt` says what is due to a client, by what
+//! a turn knows of the row of its key: that is for `pp_steps`.
 //!
 //! A seat takes memory for the key of its request alone. Where a request's head ends is for `pp_client`, what a request gets
 //! for `pp_plan`, and what a turn makes of both for `pp_steps`.

@@ -1,8 +1,10 @@
 pub mod Begins
+pub mod Clients
 pub mod Dues
 pub mod Errands
 pub mod Fates
 pub mod Fronts
+pub mod Hears
 pub mod Nexts
 pub mod Stages
 pub mod Uses

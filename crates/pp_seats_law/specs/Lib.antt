@@ -1,9 +1,11 @@
 pub mod Begins
+pub mod Clients
 pub mod Dues
 pub mod Errands
 pub mod Fates
 pub mod Fronts
 pub mod Heads
+pub mod Reads
 pub mod Replies
 pub mod Seats
 pub mod Words

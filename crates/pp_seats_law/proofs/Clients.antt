@@ -1,0 +1,61 @@
+-- The seats show the clients, one each, in their order.
+use Rattle.std.proofs.Common.{◌≡◌, refl, sym, subst, ap, ◌∙◌, ℕ, zero, suc, Bool, true, false, ◌==◌, find, List, [], ◌∷◌, Option, Some}
+use Rattle.std.specs.Prelude.{slice_get, slice_set}
+use Rattle.pp_law.specs.Connections.{is_client}
+use Rattle.pp_law.specs.Lists.{Bytes, change}
+use Rattle.pp_law.specs.State.{Client}
+use Rattle.pp_seats.specs.declared.seat.Seat.{Seat}
+use Rattle.pp_seats_law.specs.Clients.{AreShown, ChangesAreTheLaws, IsAt, IsFound, IsNowhere, PlacesAreTheLaws}
+use Rattle.pp_seats_law.specs.Seats.{ShowsSeat}
+
+number_is : (name : Bytes) (owed : List Bytes) (seat : Seat) (c : Client) (n : ℕ) (b : Bool) → ShowsSeat name owed seat c → (seat.client.id == n) ≡ b → is_client n c ≡ b
+number_is name owed seat c n b shows is = ap (λ (m : ℕ). m == n) (sym shows.number) ∙ is
+
+-- one that is not of that number stays
+stays : (name : Bytes) (owed : List Bytes) (seat : Seat) (c : Client) (n : ℕ) (f : Client → Client) → ShowsSeat name owed seat c → (seat.client.id == n) ≡ false
+    → ShowsSeat name owed seat (elim (is_client n c) as (λ b. Client) [ true ↦ f c | false ↦ c ])
+stays name owed seat c n f shows isnt =
+    subst (λ (b : Bool). ShowsSeat name owed seat (elim b as (λ x. Client) [ true ↦ f c | false ↦ c ])) (sym (number_is name owed seat c n false shows isnt)) shows
+
+changed : (name : Bytes) (owed : List Bytes) (seat new : Seat) (c : Client) (n : ℕ) (f : Client → Client) → ShowsSeat name owed seat c → (seat.client.id == n) ≡ true → ShowsSeat name owed new (f c)
+    → ShowsSeat name owed new (elim (is_client n c) as (λ b. Client) [ true ↦ f c | false ↦ c ])
+changed name owed seat new c n f shows is there =
+    subst (λ (b : Bool). ShowsSeat name owed new (elim b as (λ x. Client) [ true ↦ f c | false ↦ c ])) (sym (number_is name owed seat c n true shows is)) there
+
+elsewhere : (name : Bytes) (owed : List Bytes) (seats : List Seat) (cs : List Client) (n : ℕ) (f : Client → Client) → AreShown name owed seats cs → IsNowhere n seats → AreShown name owed seats (change (is_client n) f cs)
+elsewhere name owed [] [] n f shown none = tt
+elsewhere name owed [] (c ∷ cs) n f shown none = absurd shown
+elsewhere name owed (seat ∷ seats) [] n f shown none = absurd shown
+elsewhere name owed (seat ∷ seats) (c ∷ cs) n f shown none = (stays name owed seat c n f shown.0 none.0, elsewhere name owed seats cs n f shown.1 none.1)
+
+pub changes : ChangesAreTheLaws
+changes name owed [] cs n i new f shown at here = absurd at
+changes name owed (seat ∷ seats) [] n i new f shown at here = absurd shown
+changes name owed (seat ∷ seats) (c ∷ cs) n zero new f shown at here =
+    (changed name owed seat new c n f shown.0 at.0 (here seat c refl shown.0), elsewhere name owed seats cs n f shown.1 at.1)
+changes name owed (seat ∷ seats) (c ∷ cs) n (suc i) new f shown at here = (stays name owed seat c n f shown.0 at.0, changes name owed seats cs n i new f shown.1 at.1 here)
+
+-- the first of that number
+found_first : (c : Client) (cs : List Client) (n : ℕ) → is_client n c ≡ true → find (is_client n) (c ∷ cs) ≡ Some c
+found_first c cs n is = ap (λ (b : Bool). elim b as (λ x. Option Client) [ true ↦ Some c | false ↦ find (is_client n) cs ]) is
+
+found_later : (c : Client) (cs : List Client) (n : ℕ) → is_client n c ≡ false → find (is_client n) (c ∷ cs) ≡ find (is_client n) cs
+found_later c cs n isnt = ap (λ (b : Bool). elim b as (λ x. Option Client) [ true ↦ Some c | false ↦ find (is_client n) cs ]) isnt
+
+same_seat : (seat other : Seat) → Some seat ≡ Some other → seat ≡ other
+same_seat seat other is = cc is
+
+pub places : PlacesAreTheLaws
+places name owed [] cs n i seat shown at is = absurd at
+places name owed (first ∷ seats) [] n i seat shown at is = absurd shown
+places name owed (first ∷ seats) (c ∷ cs) n zero seat shown at is = record {
+  client = c;
+  there = found_first c cs n (number_is name owed first c n true shown.0 at.0);
+  shows = subst (λ (s : Seat). ShowsSeat name owed s c) (same_seat first seat is) shown.0;
+}
+places name owed (first ∷ seats) (c ∷ cs) n (suc i) seat shown at is =
+    let more : IsFound name owed seat n cs = places name owed seats cs n i seat shown.1 at.1 is in record {
+      client = more.client;
+      there = found_later c cs n (number_is name owed first c n false shown.0 at.0) ∙ more.there;
+      shows = more.shows;
+    }
