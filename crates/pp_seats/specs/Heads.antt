@@ -12,6 +12,7 @@ use Rattle.pp_reply.specs.Keeping.{is_kept_open, wants_interim}
 use Rattle.pp_reply.specs.Texts.{is_last}
 use Rattle.pp_target.specs.Key.{key_at, key_in}
 use Rattle.pp_target.specs.declared.target.TargetFault.{TargetFault}
+use Rattle.pp_target.specs.declared.target.TargetFault.TheVariants.{NotAbsolute, NotHttp, BadHost, BadPort, TooLong, OutOfMemory}
 use Rattle.pp_text.specs.Fields.{Field}
 use Rattle.pp_seats.specs.declared.front.Asked.{Asked}
 use Rattle.pp_seats.specs.declared.front.Front.{Front}
@@ -24,6 +25,15 @@ use Rattle.pp_seats.specs.declared.key.Key.{Key}
 abbrev pub IsKeyed : Option Key → Option ℕ → List ℕ → Option ℕ → Type 0
 IsKeyed (Some key) refusal target framing = (key_at target ≡ Ok (key_in key.text.items key.place)) × (refusal ≡ framing)
 IsKeyed None refusal target framing = ((fault : TargetFault) × (key_at target ≡ Err fault) × (refusal ≡ Some 400)) ⊎ (refusal ≡ Some 500)
+
+-- of one whose target names nothing
+abbrev pub status_of : TargetFault → ℕ
+status_of NotAbsolute = 400
+status_of NotHttp = 400
+status_of BadHost = 400
+status_of BadPort = 400
+status_of TooLong = 400
+status_of OutOfMemory = 500
 
 abbrev pub length_in : Result BodyRule FramingFault → ℕ
 length_in (Ok (Length n)) = n
