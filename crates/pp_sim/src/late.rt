@@ -17,6 +17,7 @@ struct Burst {
 
 /// Half of the page, which has 8,192 bytes, and what it is.
 const FRONT: &[u8] = b"GET http://h/r HTTP/1.1\r\nRange: bytes=0-4095\r\n\r\n";
+
 const KNOWN: Burst = Burst {
     text: b"HTTP/1.1 206 Partial Content\r\nETag: \"x\"\r\nCache-Control: max-age=60\r\nContent-Range: bytes 0-4095/8192\r\nContent-Length: 4096\r\n\r\n",
     runs: &[(b'a', 4096)],
