@@ -2,11 +2,14 @@
 // and 8.2.3).
 ghost use Rattle.std.specs.Prelude.{◌≡◌, IsTrue, option_map};
 ghost use Rattle.pp_client.specs.Clients.{IsAnswerable};
-ghost use Rattle.pp_seats.specs.Heads.{asked_in, head_asked_in, is_other_safe, is_there_in, keeps_in, owned_in};
+ghost use Rattle.pp_client.specs.Requests.{current_of};
+ghost use Rattle.pp_head.specs.Shown.{shown_request};
+ghost use Rattle.pp_plan.specs.Requests.{is_head};
+ghost use Rattle.pp_seats.specs.Heads.{IsFrontOf, IsKeptOf, IsKeyed, asked_in, head_asked_in, is_other_safe, is_plain, is_there_in, keeps_in, length_in, owned_in, status_of, waits_by};
 
 use crate::key::Key;
 use pp_client::{Client, Current};
-use pp_framing::{BodyRule, request_rule};
+use pp_framing::{BodyRule, FramingFault, request_rule};
 use pp_head::{RequestHead, Scratch};
 use pp_pipe::binds_connection;
 use pp_reply::{is_kept_open, wants_interim};
@@ -50,10 +53,14 @@ pub struct Asked {
 
 impl Front {
     /// What stands at the front now.
-    pub fn of(alloc: Global, client: &Client) -> Front {
+    #[tactic(auto, using(crate::proofs::HeadLemmas::begun_is, crate::proofs::HeadLemmas::nothing_is, crate::proofs::HeadLemmas::refused_is, crate::proofs::HeadLemmas::request_is))]
+    pub fn of(alloc: Global, client: &Client) -> Front
+        ensures { IsFrontOf result (current_of client.now.heard) }
+    {
         let mut scratch = Scratch::new();
         match client.current(&mut scratch) {
-            Current::Nothing | Current::More => Front::NoHeadYet,
+            Current::Nothing => Front::NoHeadYet,
+            Current::More => Front::NoHeadYet,
             Current::Refuse(status) => Front::NoHead(status),
             Current::Request(head, fault) => Front::Request(asked_of(alloc, &head, fault)),
         }
@@ -105,34 +112,80 @@ impl Front {
     }
 }
 
-fn asked_of(alloc: Global, head: &RequestHead<'_, '_>, fault: Option<u16>) -> Asked {
-    let (key, refusal) = match Key::at(alloc, head.target) {
-        Ok(key) => (Some(key), fault),
-        Err(TargetFault::OutOfMemory) => (None, Some(500)),
-        Err(_) => (None, Some(400)),
-    };
+fn asked_of(alloc: Global, head: &RequestHead<'_, '_>, fault: Option<u16>) -> Asked
+    ensures { IsKeptOf result (shown_request head.now) fault }
+{
+    let (key, refusal) = key_and_refusal(alloc, head.target, fault);
     let rule = request_rule(&head.fields);
-    let body_len = match rule {
-        Ok(BodyRule::Length(n)) => n,
-        Ok(BodyRule::Empty | BodyRule::Chunked | BodyRule::ToEnd) | Err(_) => 0,
-    };
-    let is_plain = head.method == b"GET".as_slice() || head.method == b"HEAD".as_slice();
-    let waits = match rule {
-        Ok(rule) => wants_interim(head.minor, rule, &head.fields),
-        Err(_) => false,
-    };
+    let body_len = length_of(rule);
+    let is_plain = is_plain(head.method);
     Asked {
         key,
         refusal,
         minor: head.minor,
         body_len,
-        is_head: head.method == b"HEAD".as_slice(),
+        is_head: is_head(head.method),
         is_safe: is_plain || is_other_safe(head.method),
         is_asked_once: !is_plain || body_len > 0,
         binds_connection: binds_connection(&head.fields),
         keeps_open: is_kept_open(head.minor, &head.fields) && rule.is_ok(),
-        expects_interim: refusal.is_none() && waits,
+        expects_interim: refusal.is_none() && waits(head, rule),
     }
+}
+
+/// The key, where there is one, and the status that the request is refused with: that of its target comes first.
+#[tactic(auto, using(crate::proofs::HeadLemmas::keyed_by, crate::proofs::HeadLemmas::keyed_well))]
+fn key_and_refusal(alloc: Global, target: &[u8], fault: Option<u16>) -> (Option<Key>, Option<u16>)
+    ensures { IsKeyed result.0 result.1 target.now fault }
+{
+    match Key::at(alloc, target) {
+        Ok(key) => (Some(key), fault),
+        Err(none) => (None, Some(status_of(none))),
+    }
+}
+
+/// The status of a request whose target names nothing.
+fn status_of(fault: TargetFault) -> u16
+    ensures { result ≡ status_of fault }
+{
+    match fault {
+        TargetFault::OutOfMemory => 500,
+        TargetFault::NotAbsolute
+        | TargetFault::NotHttp
+        | TargetFault::BadHost
+        | TargetFault::BadPort
+        | TargetFault::TooLong => 400,
+    }
+}
+
+fn length_of(rule: Result<BodyRule, FramingFault>) -> u64
+    ensures { result ≡ length_in rule }
+{
+    match rule {
+        Ok(BodyRule::Length(n)) => n,
+        Ok(BodyRule::Empty | BodyRule::Chunked | BodyRule::ToEnd) | Err(_) => 0,
+    }
+}
+
+fn waits(head: &RequestHead<'_, '_>, rule: Result<BodyRule, FramingFault>) -> bool
+    ensures { result ≡ waits_by head.now.minor head.now.fields rule }
+{
+    match rule {
+        Ok(rule) => wants_interim(head.minor, rule, &head.fields),
+        Err(_) => false,
+    }
+}
+
+fn is_head(method: &[u8]) -> bool
+    ensures { result ≡ is_head method.now }
+{
+    method == b"HEAD".as_slice()
+}
+
+fn is_plain(method: &[u8]) -> bool
+    ensures { result ≡ is_plain method.now }
+{
+    method == b"GET".as_slice() || is_head(method)
 }
 
 fn is_other_safe(method: &[u8]) -> bool

@@ -1,6 +1,6 @@
 // Owned keys (RFC 2616, sections 3.2.2, 3.2.3 and 5.1.2).
-ghost use Rattle.std.specs.Prelude.{◌≡◌};
-ghost use Rattle.pp_target.specs.Key.{IsPlaceIn};
+ghost use Rattle.std.specs.Prelude.{◌≡◌, ◌⊎◌, IfOk, IfErr};
+ghost use Rattle.pp_target.specs.Key.{IsPlaceIn, key_at, key_in};
 
 use arrayvec::ArrayVec;
 use pp_target::{Place, TargetFault, key};
@@ -16,7 +16,10 @@ pub struct Key {
 
 impl Key {
     /// The key of a target, or the first fault that applies.
-    pub fn at(alloc: Global, target: &[u8]) -> Result<Key, TargetFault> {
+    pub fn at(alloc: Global, target: &[u8]) -> Result<Key, TargetFault>
+        ensures key { IfOk result (λ k. key_at target.now ≡ Ok (key_in k.text.items k.place)) }
+        ensures fault { IfErr result (λ fault. (fault ≡ TargetFault.OutOfMemory) ⊎ (key_at target.now ≡ Err fault)) }
+    {
         let mut text = ArrayVec::new();
         let place = key(alloc, target, &mut text)?;
         let Ok(text) = Vec::from_slice(alloc, text.as_slice()) else {

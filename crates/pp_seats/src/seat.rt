@@ -2,11 +2,11 @@
 ghost use Rattle.std.specs.Prelude.{◌≡◌, ◌≤◌, ◌+◌, ◌-◌, ◌^◌, min};
 ghost use Rattle.pp_client.specs.Replies.{left_next};
 ghost use Rattle.pp_client.specs.Requests.{current_of};
-ghost use Rattle.pp_seats.specs.Accounts.{HasLine, begun, line_in, line_of, said};
+ghost use Rattle.pp_seats.specs.Accounts.{HasLine, begun, line_in, line_of};
 ghost use Rattle.pp_seats.specs.Courses.{has_begun, is_trying_in, lost_one, without_row, without_shared_row};
 ghost use Rattle.pp_seats.specs.Said.{used_by};
 ghost use Rattle.pp_seats.specs.Follows.{answer_in, next_of};
-ghost use Rattle.pp_seats.specs.Seats.{at_next_request, brought_to, has_key, is_at_body, is_silent, is_to_be_decided, is_told_in, new_seat, passed_in};
+ghost use Rattle.pp_seats.specs.Seats.{IsRead, at_next_request, brought_to, finished_in, has_key, is_at_body, is_silent, is_to_be_decided, is_told_in, new_seat, passed_in, told_by, without_body};
 
 use crate::account::{Account, line_of};
 use crate::front::Front;
@@ -178,6 +178,21 @@ impl Seat {
         }
     }
 
+    /// What the client sent is read as a request, where there is none.
+    pub fn look(&mut self, alloc: Global)
+        ensures { IsRead self.old self.new }
+    {
+        match self.front {
+            Front::NoHeadYet => {}
+            Front::NoHead(_) | Front::Request(_) => return,
+        }
+        self.front = Front::of(alloc, &self.client);
+        self.body_left = match self.front.asked() {
+            None => 0,
+            Some(asked) => asked.body_len,
+        };
+    }
+
     /// The number of the connection.
     pub fn id(&self) -> u64
         ensures { result ≡ self.now.client.id }
@@ -312,7 +327,7 @@ impl Seat {
     /// So many bytes were said.
     pub fn took(&mut self, n: usize)
         requires { n ≤ left_next self.old.client.reply }
-        ensures account { self.new.account ≡ said n self.old.account }
+        ensures { self.new ≡ told_by n self.old }
     {
         self.before_body = self.before_body.saturating_sub(n);
         self.account.say(n);
@@ -398,13 +413,17 @@ impl Seat {
     }
 
     /// Nothing that it sent is left to answer: no request, or one whose body stays short.
-    pub fn is_finished(&self) -> bool {
+    pub fn is_finished(&self) -> bool
+        ensures { result ≡ finished_in self.now }
+    {
         let is_short = (self.client.body().len() as u64) < self.body_left;
         self.has_hung_up && !self.is_closing && (!self.front.is_there() || is_short)
     }
 
     /// The rest of the request's body, which nobody reads, is dropped as it comes.
-    pub fn drop_body(&mut self) {
+    pub fn drop_body(&mut self)
+        ensures { self.new ≡ without_body self.old }
+    {
         self.client.drop_body();
         self.body_left = 0;
     }

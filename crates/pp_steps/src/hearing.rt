@@ -1,21 +1,13 @@
 // Step 1: a request that came, and a reply that was said (RFC 2616, sections 5 and 6).
 use crate::state::State;
-use pp_seats::{Front, PassedEnd};
+use pp_seats::PassedEnd;
 
 impl State {
     /// What the client sent is read as a request, where there is none.
     pub fn look(&mut self, i: usize) {
-        let Some(seat) = self.seats.get_mut(i) else {
-            return;
-        };
-        if !matches!(seat.front, Front::NoHeadYet) {
-            return;
+        if let Some(seat) = self.seats.get_mut(i) {
+            seat.look(self.alloc);
         }
-        seat.front = Front::of(self.alloc, &seat.client);
-        seat.body_left = match seat.front.asked() {
-            None => 0,
-            Some(asked) => asked.body_len,
-        };
     }
 
     /// All of the client's reply was said. One that is passed may end without a byte.
