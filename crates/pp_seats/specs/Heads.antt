@@ -1,5 +1,5 @@
 -- What is kept of a head that was heard whole, and what is read of that (RFC 2616, sections 4.4, 5, 8.2.3 and 9.1).
-use Rattle.std.specs.Prelude.{◌≡◌, ◌⊎◌, ℕ, Bool, true, false, ◌&&◌, ◌||◌, not, nat_lt, is_ok, bytes_eq, codes, List, Option, Some, None, is_some, Result, Ok, Err, ⊤}
+use Rattle.std.specs.Prelude.{◌≡◌, ◌⊎◌, ℕ, Bool, true, false, ◌==◌, ◌&&◌, ◌||◌, not, nat_lt, is_ok, bytes_eq, codes, List, Option, Some, None, Result, Ok, Err, ⊤}
 use Rattle.pp_client.specs.Requests.{Front as Heading, Nothing, Begun, Asked as IsAsked, Refused}
 use Rattle.pp_framing.specs.Framing.{request_rule_of}
 use Rattle.pp_framing.specs.declared.body.BodyRule.{BodyRule}
@@ -53,6 +53,11 @@ abbrev pub waits_by : ℕ → List Field → Result BodyRule FramingFault → Bo
 waits_by minor fields (Ok rule) = wants_interim minor rule fields
 waits_by minor fields (Err fault) = false
 
+-- a head that is refused for itself waits for no interim answer; where memory is refused for its key, it waits as its framing says
+abbrev pub may_wait : Option ℕ → Bool
+may_wait None = true
+may_wait (Some status) = status == 500
+
 -- all that is kept of it
 abbrev pub asked_by : Option Key → Option ℕ → Request → Asked
 asked_by key refusal head = record {
@@ -65,7 +70,7 @@ asked_by key refusal head = record {
   is_asked_once = not (is_plain head.method) || nat_lt 0 (length_in (request_rule_of head.fields));
   binds_connection = binds_connection head.fields;
   keeps_open = is_kept_open head.minor head.fields && is_ok (request_rule_of head.fields);
-  expects_interim = not (is_some refusal) && waits_by head.minor head.fields (request_rule_of head.fields);
+  expects_interim = may_wait refusal && waits_by head.minor head.fields (request_rule_of head.fields);
 }
 
 -- by what its framing is refused with

@@ -5,7 +5,7 @@ ghost use Rattle.pp_client.specs.Clients.{IsAnswerable};
 ghost use Rattle.pp_client.specs.Requests.{current_of};
 ghost use Rattle.pp_head.specs.Shown.{shown_request};
 ghost use Rattle.pp_plan.specs.Requests.{is_head};
-ghost use Rattle.pp_seats.specs.Heads.{IsFrontOf, IsKeptOf, IsKeyed, asked_in, head_asked_in, is_other_safe, is_plain, is_there_in, keeps_in, length_in, owned_in, status_of, waits_by};
+ghost use Rattle.pp_seats.specs.Heads.{IsFrontOf, IsKeptOf, IsKeyed, asked_in, head_asked_in, is_other_safe, is_plain, is_there_in, keeps_in, length_in, may_wait, owned_in, status_of, waits_by};
 
 use crate::key::Key;
 use pp_client::{Client, Current};
@@ -129,7 +129,7 @@ fn asked_of(alloc: Global, head: &RequestHead<'_, '_>, fault: Option<u16>) -> As
         is_asked_once: !is_plain || body_len > 0,
         binds_connection: binds_connection(&head.fields),
         keeps_open: is_kept_open(head.minor, &head.fields) && rule.is_ok(),
-        expects_interim: refusal.is_none() && waits(head, rule),
+        expects_interim: may_wait(refusal) && waits(head, rule),
     }
 }
 
@@ -141,6 +141,17 @@ fn key_and_refusal(alloc: Global, target: &[u8], fault: Option<u16>) -> (Option<
     match Key::at(alloc, target) {
         Ok(key) => (Some(key), fault),
         Err(none) => (None, Some(status_of(none))),
+    }
+}
+
+/// Whether a head with this refusal may wait for the interim answer. Ours: where memory is refused for its key it may, since the
+/// client sends its body all the same, and another request behind it.
+fn may_wait(refusal: Option<u16>) -> bool
+    ensures { result ≡ may_wait refusal }
+{
+    match refusal {
+        None => true,
+        Some(status) => status == 500,
     }
 }
 

@@ -1,5 +1,5 @@
 -- What is kept of a head is what the law reads in it.
-use Rattle.std.proofs.Common.{◌≡◌, ◌⊎◌, inl, inr, refl, sym, subst, ap, ap₂, ◌∙◌, ℕ, Bool, true, false, not, ◌&&◌, ◌||◌, nat_lt, is_ok, bytes_eq, codes, List, [], ◌∷◌, ◌++◌, Option, Some, None, is_some, Result, Ok, Err}
+use Rattle.std.proofs.Common.{◌≡◌, ◌⊎◌, inl, inr, refl, sym, subst, ap, ◌∙◌, ℕ, Bool, true, false, not, ◌&&◌, ◌||◌, nat_lt, is_ok, bytes_eq, codes, List, [], ◌∷◌, ◌++◌, Option, Some, None, Result, Ok, Err}
 use Rattle.std.specs.Prelude.{⊤}
 use Rattle.pp_client.specs.Requests.{Front as Heading, Nothing, Begun, Asked as IsAsked, Refused, current_of, fault_of, front_in as heading_in, front_of as heading_of}
 use Rattle.pp_framing.specs.Framing.{request_rule_of}
@@ -14,7 +14,7 @@ use Rattle.pp_plan.specs.Requests.{is_get, is_head}
 use Rattle.pp_reply.specs.Keeping.{wants_interim}
 use Rattle.pp_reply.specs.Texts.{is_last}
 use Rattle.pp_text.specs.Fields.{Field}
-use Rattle.pp_target.specs.Key.{Key, key_in}
+use Rattle.pp_target.specs.Key.{Key, key_at, key_in}
 use Rattle.pp_target.specs.declared.target.TargetFault.{TargetFault}
 use Rattle.pp_law.specs.Lists.{Bytes}
 use Rattle.pp_law.specs.Requests.{Front, Parsed, NoHeadYet, NoHead, IsRequest, body_len_by, expects_interim, front_in, front_of, key_in as key_of, parsed_of, refusal_by_rule, refusal_of}
@@ -23,7 +23,7 @@ use Rattle.pp_seats.specs.declared.front.Front.{Front as SeatFront}
 use Rattle.pp_seats.specs.declared.front.Front.TheVariants.{NoHeadYet as NoneYet, NoHead as NoneThere, Request as IsThere}
 use Rattle.pp_seats.specs.declared.key.Key.{Key as OwnedKey}
 use Rattle.pp_seats_law.specs.Fronts.{ShowsAsked, ShowsFront, ShowsKey}
-use Rattle.pp_seats.specs.Heads.{IsFrontOf, IsKeyed, asked_by, length_in, waits_by}
+use Rattle.pp_seats.specs.Heads.{IsFrontOf, IsKeyed, asked_by, length_in, may_wait, waits_by}
 use Rattle.pp_seats_law.specs.Heads.{FrontsAreReadAsTheLaws, FrontsAreTheLaws}
 
 -- ---- the head
@@ -43,13 +43,6 @@ shows_key (Some key) refusal framing head of is =
 shows_key None refusal framing head of (inl bad) = inl (ap (λ (k : Result Key TargetFault). is_ok k) bad.1, bad.2)
 shows_key None refusal framing head of (inr refused) = inr refused
 
--- it is that of the head, or that for memory
-refusal_same : (key : Option OwnedKey) (refusal framing : Option ℕ) (head : Request) → framing ≡ fault_of (request_rule_of head.fields) → IsKeyed key refusal head.target framing
-    → (refusal ≡ Some 500) ⊎ (refusal ≡ refusal_of (parsed_of head))
-refusal_same (Some key) refusal framing head of is = inr (shows_key (Some key) refusal framing head of is).1
-refusal_same None refusal framing head of (inl bad) = inr (bad.2 ∙ sym (ap (λ (k : Result Key TargetFault). refusal_with k (refusal_by_rule (request_rule_of head.fields))) bad.1))
-refusal_same None refusal framing head of (inr refused) = inl refused
-
 same_length : (rule : Result BodyRule FramingFault) → length_in rule ≡ body_len_by rule
 same_length (Ok Empty) = refl
 same_length (Ok (Length n)) = refl
@@ -61,28 +54,41 @@ either_way : (a b c : Bool) → ((a || b) || c) ≡ (a || (b || c))
 either_way true b c = refl
 either_way false b c = refl
 
--- what waits, by the refusal
-abbrev expects_with : Option ℕ → Bool → Bool
-expects_with refusal waits = elim refusal [ Some status ↦ false | None ↦ waits ]
+-- what the law expects, by the framing and by the target
+abbrev expects_framed : ℕ → List Field → Result BodyRule FramingFault → Option ℕ → Bool
+expects_framed minor fields rule refusal = elim refusal [ Some status ↦ false | None ↦ elim rule [ Ok r ↦ wants_interim minor r fields | Err fault ↦ false ] ]
 
-expects_by : (refusal : Option ℕ) (waits : Bool) → (not (is_some refusal) && waits) ≡ expects_with refusal waits
-expects_by None waits = refl
-expects_by (Some status) waits = refl
+abbrev expects_keyed : Request → Result Key TargetFault → Bool
+expects_keyed head key = expects_framed head.minor head.fields (request_rule_of head.fields) (refusal_with key (refusal_by_rule (request_rule_of head.fields)))
 
-waits_same : (minor : ℕ) (fields : List Field) (rule : Result BodyRule FramingFault) → waits_by minor fields rule ≡ (elim rule as (λ c. Bool) [ Ok r ↦ wants_interim minor r fields | Err fault ↦ false ])
-waits_same minor fields (Ok rule) = refl
-waits_same minor fields (Err fault) = refl
+owned_expects : (minor : ℕ) (fields : List Field) (rule : Result BodyRule FramingFault) → (may_wait (refusal_by_rule rule) && waits_by minor fields rule) ≡ expects_framed minor fields rule (refusal_by_rule rule)
+owned_expects minor fields (Ok rule) = refl
+owned_expects minor fields (Err TwoLengths) = refl
+owned_expects minor fields (Err BadLength) = refl
+owned_expects minor fields (Err OtherCoding) = refl
 
-expects_same : (head : Request) (refusal : Option ℕ) → refusal ≡ refusal_of (parsed_of head)
-    → (not (is_some refusal) && waits_by head.minor head.fields (request_rule_of head.fields)) ≡ expects_interim (parsed_of head)
-expects_same head refusal is =
-    expects_by refusal (waits_by head.minor head.fields (request_rule_of head.fields)) ∙ ap₂ expects_with is (waits_same head.minor head.fields (request_rule_of head.fields))
+refused_expects : (minor : ℕ) (fields : List Field) (rule : Result BodyRule FramingFault) → waits_by minor fields rule ≡ expects_framed minor fields rule (refusal_by_rule rule)
+refused_expects minor fields (Ok rule) = refl
+refused_expects minor fields (Err TwoLengths) = refl
+refused_expects minor fields (Err BadLength) = refl
+refused_expects minor fields (Err OtherCoding) = refl
 
--- the refusal is that for memory, or the interim answer is expected as the law says
-expects : (head : Request) (refusal : Option ℕ) → (refusal ≡ Some 500) ⊎ (refusal ≡ refusal_of (parsed_of head))
-    → (refusal ≡ Some 500) ⊎ ((not (is_some refusal) && waits_by head.minor head.fields (request_rule_of head.fields)) ≡ expects_interim (parsed_of head))
-expects head refusal (inl memory) = inl memory
-expects head refusal (inr is) = inr (expects_same head refusal is)
+-- memory was refused for its key
+expects_unowned : (refusal : Option ℕ) (head : Request) (key : Result Key TargetFault) → key_at head.target ≡ key → refusal ≡ Some 500
+    → ((is_ok (key_at head.target) ≡ false) × (refusal ≡ Some 500)) ⊎ ((may_wait refusal && waits_by head.minor head.fields (request_rule_of head.fields)) ≡ expects_interim (parsed_of head))
+expects_unowned refusal head (Err fault) at refused = inl (ap (λ (k : Result Key TargetFault). is_ok k) at, refused)
+expects_unowned refusal head (Ok key) at refused =
+    inr (ap (λ (r : Option ℕ). may_wait r && waits_by head.minor head.fields (request_rule_of head.fields)) refused ∙ refused_expects head.minor head.fields (request_rule_of head.fields) ∙ sym (ap (expects_keyed head) at))
+
+-- the interim answer is expected as the law says, unless memory was refused for a target that has no key
+expects : (key : Option OwnedKey) (refusal framing : Option ℕ) (head : Request) → framing ≡ fault_of (request_rule_of head.fields) → IsKeyed key refusal head.target framing
+    → ((is_ok (key_at head.target) ≡ false) × (refusal ≡ Some 500)) ⊎ ((may_wait refusal && waits_by head.minor head.fields (request_rule_of head.fields)) ≡ expects_interim (parsed_of head))
+expects (Some key) refusal framing head of is =
+    inr (ap (λ (r : Option ℕ). may_wait r && waits_by head.minor head.fields (request_rule_of head.fields)) (is.1 ∙ of ∙ same_fault (request_rule_of head.fields))
+    ∙ owned_expects head.minor head.fields (request_rule_of head.fields) ∙ sym (ap (expects_keyed head) is.0))
+expects None refusal framing head of (inl bad) =
+    inr (ap (λ (r : Option ℕ). may_wait r && waits_by head.minor head.fields (request_rule_of head.fields)) bad.2 ∙ sym (ap (expects_keyed head) bad.1))
+expects None refusal framing head of (inr refused) = expects_unowned refusal head (key_at head.target) refl refused
 
 shows_asked : (key : Option OwnedKey) (refusal framing : Option ℕ) (head : Request) → framing ≡ fault_of (request_rule_of head.fields) → IsKeyed key refusal head.target framing
     → ShowsAsked (asked_by key refusal head) (parsed_of head)
@@ -95,7 +101,7 @@ shows_asked key refusal framing head of is = record {
   is_asked_once = ap (λ (n : ℕ). not (is_get head.method || is_head head.method) || nat_lt 0 n) (same_length (request_rule_of head.fields));
   binds_connection = refl;
   keeps_open = refl;
-  expects = expects head refusal (refusal_same key refusal framing head of is);
+  expects = expects key refusal framing head of is;
 }
 
 -- ---- what stands at the front

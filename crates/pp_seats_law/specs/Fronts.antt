@@ -32,7 +32,8 @@ pub record ShowsAsked (a : Asked) (r : Parsed) : Type 0 where
   pub is_asked_once : a.is_asked_once ≡ is_asked_once r.head
   pub binds_connection : a.binds_connection ≡ binds_connection r.head.fields
   pub keeps_open : a.keeps_open ≡ keeps_open r
-  pub expects : (a.refusal ≡ Some 500) ⊎ (a.expects_interim ≡ expects_interim r)
+  -- where memory was refused, it is not known that the target has no key
+  pub expects : ((is_ok r.key ≡ false) × (a.refusal ≡ Some 500)) ⊎ (a.expects_interim ≡ expects_interim r)
 
 abbrev pub ShowsFront : SeatFront → Front → Type 0
 ShowsFront NoneYet NoHeadYet = ⊤
