@@ -99,7 +99,7 @@ impl Desk {
 }
 
 /// The entry under this name is noted as gone, and taken away.
-#[tactic(auto, using(crate::proofs::DiskLemmas::holds_quietly, pp_shelf::proofs::SteadyLemmas::steady_then, pp_shelf::proofs::SteadyLemmas::steady_none, pp_shelf::proofs::SteadyLemmas::quiet_is_steady, pp_shelf::proofs::SteadyLemmas::quiet_then_steady, pp_shelf::proofs::SteadyLemmas::steady_then_quiet))]
+#[tactic(auto, using(crate::proofs::DiskLemmas::holds_quietly, pp_shelf::proofs::SteadyLemmas::steady_none, pp_shelf::proofs::SteadyLemmas::quiet_then_steady))]
 fn take_away<W: World>(links: &mut Links, shelf: &mut Shelf, world: &mut W, name: &Name)
     requires linked { IsLinked (W.log world.old) (W.top world.old) links.old }
     requires holds { Told (W.log world.old) (Holds anything shelf.old) }

@@ -16,7 +16,7 @@ use pp_world::{Note, World};
 impl Desk {
     /// Offers the client at this place what is there for it: where its next byte is on the disk alone, its chunk is read
     /// before.
-    #[tactic(auto, using(crate::proofs::DiskLemmas::holds_quietly, pp_shelf::proofs::SteadyLemmas::steady_then, pp_shelf::proofs::SteadyLemmas::steady_none, pp_shelf::proofs::SteadyLemmas::quiet_is_steady, pp_shelf::proofs::SteadyLemmas::quiet_then_steady, pp_shelf::proofs::SteadyLemmas::steady_then_quiet))]
+    #[tactic(auto, using(crate::proofs::DiskLemmas::holds_quietly))]
     pub(crate) fn load_and_say<W: World>(
         &mut self,
         links: &mut Links,
@@ -34,7 +34,7 @@ impl Desk {
         self.say(links, world, i);
     }
 
-    #[tactic(auto, using(crate::proofs::DiskLemmas::holds_quietly, pp_shelf::proofs::SteadyLemmas::steady_then, pp_shelf::proofs::SteadyLemmas::steady_none, pp_shelf::proofs::SteadyLemmas::quiet_is_steady, pp_shelf::proofs::SteadyLemmas::quiet_then_steady, pp_shelf::proofs::SteadyLemmas::steady_then_quiet))]
+    #[tactic(auto, using(pp_shelf::proofs::SteadyLemmas::steady_none))]
     fn load_next<W: World>(&mut self, links: &mut Links, shelf: &mut Shelf, world: &mut W, i: usize)
         requires linked { IsLinked (W.log world.old) (W.top world.old) links.old }
         requires holds { Told (W.log world.old) (Holds anything shelf.old) }
@@ -48,7 +48,7 @@ impl Desk {
     }
 
     /// Reads the chunk of this byte. Where it cannot be read its entry is gone, and it is fetched again.
-    #[tactic(auto, using(crate::proofs::DiskLemmas::holds_quietly, pp_shelf::proofs::SteadyLemmas::steady_then, pp_shelf::proofs::SteadyLemmas::steady_none, pp_shelf::proofs::SteadyLemmas::quiet_is_steady, pp_shelf::proofs::SteadyLemmas::quiet_then_steady, pp_shelf::proofs::SteadyLemmas::steady_then_quiet))]
+    #[tactic(auto, using(crate::proofs::DiskLemmas::holds_quietly, pp_shelf::proofs::SteadyLemmas::steady_none))]
     fn load<W: World>(&mut self, links: &mut Links, shelf: &mut Shelf, world: &mut W, next: Next)
         requires linked { IsLinked (W.log world.old) (W.top world.old) links.old }
         requires holds { Told (W.log world.old) (Holds anything shelf.old) }

@@ -77,7 +77,7 @@ impl<'a> Run<'a> {
     /// Where that run is the whole body, it is drafted with all of it, and only while it can be served as it is: what its next
     /// use must check anyway is not worth the three syncs of an entry. Behind one that failed, as on a full disk, none is tried
     /// before the next tick.
-    #[tactic(auto, using(crate::proofs::DiskLemmas::holds_quietly, pp_shelf::proofs::SteadyLemmas::steady_then, pp_shelf::proofs::SteadyLemmas::steady_none, pp_shelf::proofs::SteadyLemmas::quiet_is_steady, pp_shelf::proofs::SteadyLemmas::quiet_then_steady, pp_shelf::proofs::SteadyLemmas::steady_then_quiet))]
+    #[tactic(auto, using(crate::proofs::DiskLemmas::holds_quietly, pp_shelf::proofs::SteadyLemmas::steady_none))]
     fn draft<W: World>(
         self,
         links: &mut Links,
@@ -130,7 +130,7 @@ impl<'a> Run<'a> {
     }
 
     /// Of one that is kept so far a run is sealed. Where the disk fails, its entry is gone.
-    #[tactic(auto, using(crate::proofs::DiskLemmas::holds_quietly, pp_shelf::proofs::SteadyLemmas::steady_then, pp_shelf::proofs::SteadyLemmas::steady_none, pp_shelf::proofs::SteadyLemmas::quiet_is_steady, pp_shelf::proofs::SteadyLemmas::quiet_then_steady, pp_shelf::proofs::SteadyLemmas::steady_then_quiet))]
+    #[tactic(auto, using(crate::proofs::DiskLemmas::holds_quietly, pp_shelf::proofs::SteadyLemmas::steady_none, pp_shelf::proofs::SteadyLemmas::steady_then_quiet))]
     fn seal<W: World>(
         self,
         links: &mut Links,
