@@ -3,8 +3,8 @@
 //! One course of clients and an origin is played again and again: each call that can fail fails once, and the machine stops
 //! behind each happening. Beside it stand tables of input that is no HTTP, or not what was asked for.
 //!
-//! To whoever plays it otherwise: the course, what each client may be said, and a life over it. The tests stand beside
-//! `pp_exchanges`, so that both are proved at the same time.
+//! To `pp_scarce`: the course, what each client may be said, and a life over it. The tests stand beside `pp_exchanges`, so that
+//! both are proved at the same time.
 #![tactic(auto)]
 
 #[cfg(test)]
