@@ -65,7 +65,7 @@ fn ended(alloc: Global, life: &Life) -> Result<Outcome, OutOfMemory> {
             _ => {}
         }
     }
-    if printed.as_slice() == b"polipo: out of memory\n" {
+    if printed.as_slice() == b"polipo: out of memory\n".as_slice() {
         Ok(Outcome::Ended)
     } else {
         Ok(Outcome::Wrong)
