@@ -2,6 +2,7 @@
 
 import contextlib
 import os
+import re
 import signal
 import socket
 import subprocess
@@ -19,7 +20,9 @@ ENDS = [
     (["nonsense"], b"", 2, USAGE),
     (["-c", "f", "-c", "f"], b"", 2, USAGE),
     (["-c"], b"", 2, USAGE),
-    (["-g", "7"], b"", 2, USAGE),
+    (["-g", "x"], b"", 2, USAGE),
+    (["-g", "01"], b"", 2, USAGE),
+    (["-g", "7", "proxyPort=1"], b"", 2, USAGE),
     (["--help"], b"", 2, USAGE),
     ([""], b"", 2, USAGE),
     ([b"proxyName=\xff"], b"", 2, USAGE),
@@ -86,6 +89,18 @@ def hear_end(client):
 def each_end_has_its_status_and_its_line(world):
     for words, text, status, line in ENDS:
         equal(end_of(world, words, text), (status, b"", line), f"status, output and complaint of {words}")
+
+
+@case
+def the_demo_prints_the_same_five_lines_each_time_and_makes_no_file(world):
+    with tempfile.TemporaryDirectory() as folder:
+        runs = [ran([world.program, "-g", "1"], cwd=folder, stdin=subprocess.DEVNULL) for _ in range(2)]
+        equal(os.listdir(folder), [], "files in the folder that it is started in")
+    ends = [(run.returncode, run.stdout, run.stderr) for run in runs]
+    equal(ends[1], ends[0], "status, output and complaint of the second run")
+    status, output, complaint = ends[0]
+    equal((status, complaint), (0, b""), "status and complaint")
+    holds(re.fullmatch(rb"lives 5\nreplies [0-9]+\ncuts 0\nasks [0-9]+\nkept [1-9][0-9]*\n", output), f"five lines: {output}")
 
 
 @case

@@ -33,7 +33,7 @@ pub fn first_life(
 }
 
 /// The life behind a crash of that one behind its first `at` happenings, by this choice of what is left.
-#[tactic(auto, using(pp_play::proofs::Fresh::fresh_crashed))]
+#[tactic(auto, using(pp_run::proofs::Fresh::fresh_crashed))]
 pub fn next_life(
     alloc: Global,
     before: &Life,

@@ -152,7 +152,7 @@ fn first_life(
 }
 
 /// The life behind a crash of the one that was played.
-#[tactic(auto, using(crate::proofs::Fresh::fresh_crashed))]
+#[tactic(auto, using(pp_run::proofs::Fresh::fresh_crashed))]
 fn next_life(
     alloc: Global,
     words: &[String],

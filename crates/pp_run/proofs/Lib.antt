@@ -1,4 +1,5 @@
 pub mod Folders
+pub mod Fresh
 pub mod Judging
 pub mod LineLemmas
 pub mod Starting

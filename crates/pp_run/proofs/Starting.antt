@@ -6,9 +6,9 @@ use Rattle.pp_world.proofs.CallLemmas.{appends_then, rises_earlier, rises_later}
 use Rattle.pp_links.specs.Quiet.{GrowsBy}
 use Rattle.pp_run.specs.Lines.{unread_line}
 use Rattle.pp_conf.specs.Conf.{Settings}
-use Rattle.pp_conf.specs.Words.{Serves, file_of, has_reading, reading_of}
-use Rattle.pp_run.specs.Exits.{EndsAs, IsUnread, JudgesWords, OpensOn, StartsAs, asked_for, asks_to_serve}
-use Rattle.pp_run.proofs.Judging.{asks, file_serves, judged}
+use Rattle.pp_conf.specs.Words.{Serves, ShowsDemo, file_of, has_reading, reading_of}
+use Rattle.pp_run.specs.Exits.{EndsAs, IsUnread, JudgesWords, OpensOn, ShowsAs, StartsAs, asked_for}
+use Rattle.pp_run.proofs.Judging.{asks, judged, read, reads}
 use Rattle.pp_run.specs.declared.ending.Exit.{Exit}
 use Rattle.pp_run.specs.declared.ending.Exit.TheVariants.{Served, Usage, NoMemory, NoDisk, NoListener, NoConfig}
 
@@ -48,7 +48,9 @@ opens_later new asked root port most_turns NoConfig before between now first mor
 -- what a start with this text came to, behind the asking for FILE
 starts_later : {old mid : Option Log} (new : Option Log) (asked : Log) (words : List (List ℕ)) (text : Option (List ℕ)) (exit : Exit) (before between now : ℕ)
     → AppendsAll old mid (λ l. asked) → before ≤ between → StartsAs [] words text exit mid new between now → StartsAs asked words text exit old new before now
-starts_later new asked words text Served before between now first more (c, says, opens) = (c, says, opens_later new asked c.root c.port c.max_turns Served before between now first more opens)
+starts_later new asked words text Served before between now first more (inl (c, says, opens)) = inl (c, says, opens_later new asked c.root c.port c.max_turns Served before between now first more opens)
+starts_later new asked words text Served before between now first more (inr shown) =
+    inr (record { seed = shown.seed; says = shown.says; summary = shown.summary; told = appends_then (λ l. asked) _ first shown.told })
 starts_later new asked words text Usage before between now first more start = appends_then (λ l. asked) _ first start
 starts_later new asked words text NoMemory before between now first more (inl told) = inl (appends_then (λ l. asked) _ first told)
 starts_later new asked words text NoMemory before between now first more (inr (c, says, opens)) = inr (c, says, opens_later new asked c.root c.port c.max_turns NoMemory before between now first more opens)
@@ -58,14 +60,14 @@ starts_later new asked words text NoConfig before between now first more start =
     (start.0, start.1, record { says = start.2.says; told = appends_then (λ l. asked) _ first start.2.told })
 
 ends_by : (old new : Option Log) (words : List (List ℕ)) (text : List ℕ) (exit : Exit) (before now : ℕ)
-    → asks_to_serve words ≡ true → true ≡ is_some (file_of words) → JudgesWords words exit
+    → has_reading words ≡ true → true ≡ is_some (file_of words) → JudgesWords words exit
     → StartsAs (asked_for (file_of words) (Some text)) words (Some text) exit old new before now → EndsAs words exit old new before now
-ends_by old new words text Served before now asks named judges start = (Some text, named, start)
-ends_by old new words text NoListener before now asks named judges start = (Some text, named, start)
-ends_by old new words text NoConfig before now asks named judges start = inr (Some text, named, start)
-ends_by old new words text NoMemory before now asks named judges start = inr (Some text, named, start)
-ends_by old new words text NoDisk before now asks named judges start = (Some text, named, start)
-ends_by old new words text Usage before now asks named judges start = let bad : false ≡ true = sym judges ∙ asks in absurd (cc)
+ends_by old new words text Served before now reads named judges start = (Some text, named, start)
+ends_by old new words text NoListener before now reads named judges start = (Some text, named, start)
+ends_by old new words text NoConfig before now reads named judges start = inr (Some text, named, start)
+ends_by old new words text NoMemory before now reads named judges start = inr (Some text, named, start)
+ends_by old new words text NoDisk before now reads named judges start = (Some text, named, start)
+ends_by old new words text Usage before now reads named judges start = let bad : false ≡ true = sym judges ∙ reads in absurd (cc)
 
 -- FILE was asked for, and what came of its text
 pub ends_later : {old mid : Option Log} (new : Option Log) (words : List (List ℕ)) (file text : List ℕ) (exit : Exit) (before between now : ℕ)
@@ -76,7 +78,7 @@ ends_later {old} {mid} new words file text exit before between now reads named f
     = subst (λ (f : Option (List ℕ)). AppendsAll old mid (λ l. asked_for f (Some text))) (sym named) first in
     let whole : StartsAs (asked_for (file_of words) (Some text)) words (Some text) exit old new before now
     = starts_later new (asked_for (file_of words) (Some text)) words (Some text) exit before between now asked more start in
-    ends_by old new words text exit before now (file_serves words file reads named) (sym (ap is_some named)) judges whole
+    ends_by old new words text exit before now reads (sym (ap is_some named)) judges whole
 
 -- FILE was asked for and could not be read
 pub unread : {old mid new : Option Log} (words : List (List ℕ)) (file : List ℕ) (before between now : ℕ) → file_of words ≡ Some file
@@ -90,7 +92,7 @@ unread {old} {mid} words file before between now named first rose printed more =
 -- a run that has its settings
 pub starts_with : (old new : Option Log) (words : List (List ℕ)) (text : Option (List ℕ)) (c : Settings) (exit : Exit) (before now : ℕ) → reading_of words text ≡ Ok (Serves c)
     → OpensOn [] c.root c.port c.max_turns exit old new before now → StartsAs [] words text exit old new before now
-starts_with old new words text c Served before now says opens = (c, says, opens)
+starts_with old new words text c Served before now says opens = inl (c, says, opens)
 starts_with old new words text c NoListener before now says opens = (c, says, opens)
 starts_with old new words text c NoDisk before now says opens = (c, says, opens)
 starts_with old new words text c NoMemory before now says opens = inr (c, says, opens)
@@ -99,9 +101,27 @@ starts_with old new words text c NoConfig before now says opens = absurd opens
 
 pub judges_with : (old new : Option Log) (words : List (List ℕ)) (text : Option (List ℕ)) (c : Settings) (exit : Exit) (before now : ℕ) → reading_of words text ≡ Ok (Serves c)
     → OpensOn [] c.root c.port c.max_turns exit old new before now → JudgesWords words exit
-judges_with old new words text c Served before now says opens = judged words text ∙ ap asks says
+judges_with old new words text c Served before now says opens = read words text ∙ ap reads says
 judges_with old new words text c NoListener before now says opens = judged words text ∙ ap asks says
 judges_with old new words text c NoDisk before now says opens = judged words text ∙ ap asks says
 judges_with old new words text c NoMemory before now says opens = tt
 judges_with old new words text c Usage before now says opens = absurd opens
 judges_with old new words text c NoConfig before now says opens = absurd opens
+
+-- a run that shows the demo
+pub starts_shown : (old new : Option Log) (words : List (List ℕ)) (text : Option (List ℕ)) (seed : ℕ) (exit : Exit) (before now : ℕ) → reading_of words text ≡ Ok (ShowsDemo seed)
+    → ShowsAs exit old new → StartsAs [] words text exit old new before now
+starts_shown old new words text seed Served before now says (summary, told) = inr (record { seed = seed; says = says; summary = summary; told = told })
+starts_shown old new words text seed NoMemory before now says told = inl told
+starts_shown old new words text seed NoListener before now says shows = absurd shows
+starts_shown old new words text seed NoDisk before now says shows = absurd shows
+starts_shown old new words text seed Usage before now says shows = absurd shows
+starts_shown old new words text seed NoConfig before now says shows = absurd shows
+
+pub judges_shown : (old new : Option Log) (words : List (List ℕ)) (exit : Exit) → has_reading words ≡ true → ShowsAs exit old new → JudgesWords words exit
+judges_shown old new words Served read shows = read
+judges_shown old new words NoMemory read shows = tt
+judges_shown old new words NoListener read shows = absurd shows
+judges_shown old new words NoDisk read shows = absurd shows
+judges_shown old new words Usage read shows = absurd shows
+judges_shown old new words NoConfig read shows = absurd shows

@@ -5,8 +5,10 @@ use Rattle.pp_world.specs.Log.{Log, AppendsAll, Rises}
 use Rattle.pp_conf.specs.declared.fault.ConfFault.{ConfFault}
 use Rattle.pp_conf.specs.declared.fault.ConfFault.TheVariants.{Usage as IsUsage, TooLong, BadLine, BadValue, OutOfMemory}
 use Rattle.pp_conf.specs.Conf.{Settings}
-use Rattle.pp_conf.specs.Words.{Serves, file_of, has_reading, reading_of, seed_of}
+use Rattle.pp_conf.specs.Words.{Serves, ShowsDemo, file_of, has_reading, reading_of, seed_of}
 use Rattle.pp_conf.specs.Shown.{Answers}
+use Rattle.pp_demo.specs.Summary.{summary_text}
+use Rattle.pp_demo.specs.declared.summary.Summary.{Summary}
 use Rattle.pp_links.specs.Quiet.{GrowsBy}
 use Rattle.pp_shelf.specs.Steady.{IsOnDisk}
 use Rattle.pp_shelf.specs.Opening.{MayBeListed}
@@ -32,15 +34,15 @@ exit_of (BadLine k) = NoConfig
 exit_of (BadValue s) = NoConfig
 exit_of OutOfMemory = NoMemory
 
--- the words have a reading, and not with a seed: the demo is not there yet
+-- the words have a reading, and not with a seed, which asks for the demo
 abbrev pub asks_to_serve : List (List ℕ) → Bool
 asks_to_serve words = has_reading words && not (is_some (seed_of words))
 
--- Usage exactly where the words do not ask to serve, want of memory aside
+-- Usage exactly where the words have no reading, want of memory aside; and only who asks to serve wants a file, a folder or a port
 abbrev pub JudgesWords : List (List ℕ) → Exit → Type 0
-JudgesWords words Usage = asks_to_serve words ≡ false
+JudgesWords words Usage = has_reading words ≡ false
 JudgesWords words NoMemory = ⊤
-JudgesWords words Served = asks_to_serve words ≡ true
+JudgesWords words Served = has_reading words ≡ true
 JudgesWords words NoDisk = asks_to_serve words ≡ true
 JudgesWords words NoListener = asks_to_serve words ≡ true
 JudgesWords words NoConfig = asks_to_serve words ≡ true
@@ -119,8 +121,24 @@ abbrev pub WithSettings : Log → List (List ℕ) → Option (List ℕ) → Exit
 WithSettings asked words text exit old new before now =
     (c : Settings) × (reading_of words text ≡ Ok (Serves c)) × OpensOn asked c.root c.port c.max_turns exit old new before now
 
+-- the words ask for the demo, and nothing happens but that the five lines of a summary are printed
+pub record IsShown (asked : Log) (words : List (List ℕ)) (text : Option (List ℕ)) (old new : Option Log) : Type 0 where
+  pub seed : ℕ
+  pub says : reading_of words text ≡ Ok (ShowsDemo seed)
+  pub summary : Summary
+  pub told : AppendsAll old new (λ l. asked ++ Printed (summary_text summary) ∷ [])
+
+-- how a demo ends
+abbrev pub ShowsAs : Exit → Option Log → Option Log → Type 0
+ShowsAs Served old new = (summary : Summary) × AppendsAll old new (λ l. Printed (summary_text summary) ∷ [])
+ShowsAs NoMemory old new = AppendsAll old new (λ l. Printed no_memory_line ∷ [])
+ShowsAs Usage old new = ⊥
+ShowsAs NoDisk old new = ⊥
+ShowsAs NoListener old new = ⊥
+ShowsAs NoConfig old new = ⊥
+
 abbrev pub StartsAs : Log → List (List ℕ) → Option (List ℕ) → Exit → Option Log → Option Log → ℕ → ℕ → Type 0
-StartsAs asked words text Served old new before now = WithSettings asked words text Served old new before now
+StartsAs asked words text Served old new before now = WithSettings asked words text Served old new before now ⊎ IsShown asked words text old new
 StartsAs asked words text NoListener old new before now = WithSettings asked words text NoListener old new before now
 StartsAs asked words text NoDisk old new before now = WithSettings asked words text NoDisk old new before now
 StartsAs asked words text NoConfig old new before now = (fault : ConfFault) × (exit_of fault ≡ NoConfig) × IsRefused asked words text fault old new
@@ -132,7 +150,7 @@ abbrev pub StartsWith : List (List ℕ) → Exit → Option Log → Option Log �
 StartsWith words exit old new before now =
     (text : Option (List ℕ)) × (is_some text ≡ is_some (file_of words)) × StartsAs (asked_for (file_of words) text) words text exit old new before now
 
--- ours: each exit but Served prints its one line, and nothing happens behind it
+-- ours: each exit but Served prints its one line, and nothing happens behind it; Served prints nothing but for the demo
 abbrev pub EndsAs : List (List ℕ) → Exit → Option Log → Option Log → ℕ → ℕ → Type 0
 EndsAs words Served old new before now = StartsWith words Served old new before now
 EndsAs words NoListener old new before now = StartsWith words NoListener old new before now

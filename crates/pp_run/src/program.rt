@@ -7,17 +7,19 @@ ghost use Rattle.pp_recover.specs.Opening.{IsFresh};
 ghost use Rattle.pp_conf.specs.Shown.{shown_text};
 ghost use Rattle.pp_conf.specs.Words.{file_of, has_reading};
 ghost use Rattle.pp_run.specs.Lines.{fault_line};
-ghost use Rattle.pp_run.specs.Exits.{exit_of, EndsAs, JudgesWords, StartsAs};
+ghost use Rattle.pp_run.specs.Exits.{exit_of, EndsAs, JudgesWords, ShowsAs, StartsAs};
 
 use crate::Exit;
 use crate::lines::{NO_MEMORY_LINE, UNREAD_LINE, fault_line};
 use crate::serving::open;
+use crate::showing::demo;
 use pp_conf::{Command, Conf, ConfFault, config_name};
 use pp_world::{ConfigFault, World};
 use std::alloc::Global;
 
 /// Reads words, the file that they name, and the settings of both, and serves with them until the world
-/// stops it, or for the most turns that they allow. `words` are those after the program's name. The world is as its life
+/// stops it, or for the most turns that they allow. Words with a seed have the demo shown: it serves in a world of its own, and
+/// this one is only printed to. `words` are those after the program's name. The world is as its life
 /// began: nothing was done in its folder yet.
 pub fn run<W: World>(alloc: Global, words: &[String], world: &mut W) -> Exit
     requires { Told (W.log world.old) (λ l. (files : Files) × IsFresh files l) }
@@ -60,8 +62,24 @@ fn start<W: World>(alloc: Global, words: &[String], text: Option<&[u8]>, world: 
 {
     match Conf::read(alloc, words, text) {
         Ok(Command::Serve(conf)) => open(alloc, &conf, world),
-        Ok(Command::Demo(_)) => refuse(ConfFault::Usage, world),
+        Ok(Command::Demo(seed)) => show(alloc, seed, world),
         Err(fault) => refuse(fault, world),
+    }
+}
+
+/// Prints what the lives of the demo of this seed come to, in numbers.
+fn show<W: World>(alloc: Global, seed: u64, world: &mut W) -> Exit
+    ensures { ShowsAs result (W.log world.old) (W.log world.new) }
+{
+    match demo(alloc, seed) {
+        Ok(shown) => {
+            world.print(shown.summary.text().as_slice());
+            Exit::Served
+        }
+        Err(_) => {
+            world.print(NO_MEMORY_LINE.as_bytes());
+            Exit::NoMemory
+        }
     }
 }
 

@@ -4,6 +4,8 @@
 //! the life crashes. It runs the program over them, in a world in memory. What happened can be
 //! read as a transcript, which the law then judges: the rows of some seeds are proved, and `transcripts/judge` tries others.
 //!
+//! `demo_lives` has the lives of the program's demo in the same form.
+//!
 //! To the crates above: a seed gives the same lives always, as long as the proxy does the same.
 //!
 //! What a world does is for `pp_memworld`.
@@ -21,4 +23,4 @@ mod tests;
 mod texts; // what clients ask, and origins answer
 
 pub use lives::Term;
-pub use simulation::{Simulation, simulate};
+pub use simulation::{Simulation, demo_lives, simulate};

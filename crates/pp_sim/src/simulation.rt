@@ -6,7 +6,7 @@ use crate::quoting::quoted;
 use crate::spelling::spelled;
 use pp_memworld::MemWorld;
 use pp_play::boxed;
-use pp_run::run;
+use pp_run::{Shown, demo, run};
 use pp_text::OutOfMemory;
 use pp_world::{Happening, Image};
 use std::alloc::{AllocError, Global};
@@ -52,6 +52,21 @@ pub fn simulate(alloc: Global, seed: u64) -> Result<Simulation, OutOfMemory> {
     Ok(Simulation { seed, terms, world })
 }
 
+/// So many lives a demo has.
+const DEMO_LIVES: u64 = 5;
+
+/// The lives of the demo of this seed, each with no words, and in none of which the outside fails.
+pub fn demo_lives(alloc: Global, seed: u64) -> Result<Simulation, OutOfMemory> {
+    let mut terms = Vec::new(alloc);
+    for _ in 0..DEMO_LIVES {
+        let words = Vec::new(alloc);
+        let term = Term { words, faults: 0 };
+        terms.push(term).map_err(AllocError::from)?;
+    }
+    let Shown { world, .. } = demo(alloc, seed)?;
+    Ok(Simulation { seed, terms, world })
+}
+
 #[tactic(auto, using(pp_shelf::proofs::OpeningLemmas::fresh_first))]
 fn first_life(
     alloc: Global,
@@ -73,7 +88,7 @@ fn first_life(
 }
 
 /// The life after a crash of this world behind its first `at` happenings.
-#[tactic(auto, using(pp_play::proofs::Fresh::fresh_crashed))]
+#[tactic(auto, using(pp_run::proofs::Fresh::fresh_crashed))]
 fn next_life(
     alloc: Global,
     dice: &mut Dice,

@@ -94,7 +94,7 @@ fn words_without_a_reading_are_refused_before_anything_is_read(
         "-c f nonsense",
         "-g",
         "-g x",
-        "-g 7",
+        "-g 18446744073709551616",
         "-g 7 -c f",
         "-g 7 proxyPort=1",
         "--help",

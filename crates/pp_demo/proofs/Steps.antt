@@ -1,0 +1,80 @@
+-- One step more of what is drawn and put together step by step.
+use Rattle.std.proofs.Common.{◌≡◌, ℕ, ◌+◌, ◌%◌, List, [], ◌∷◌, ◌++◌, slice_index, add-one, refl}
+use Rattle.std.proofs.Math.Nat.{mod-add-mod}
+use Rattle.pp_memworld.specs.declared.script.Cue.{Cue}
+use Rattle.pp_memworld.specs.declared.script.Cue.TheVariants.{Connect, Say}
+use Rattle.pp_memworld.specs.declared.script.Page.{Page}
+use Rattle.pp_demo.specs.Generator.{next_state, state_behind, value_in}
+use Rattle.pp_demo.specs.Pages.{last_offsets, page_of, pages_up_to}
+use Rattle.pp_demo.specs.Asking.{behind_client, behind_clients, cues_of_clients, request_of, request_text}
+use Rattle.pp_demo.specs.Script.{begin_of}
+
+pub state_behind-none : (state : ℕ) → state_behind 0 state ≡ state
+unfolding state_behind
+state_behind-none state = refl
+
+pub state_behind-one : (state : ℕ) → state_behind 1 state ≡ next_state state
+unfolding state_behind
+state_behind-one state = refl
+
+pub state_behind-two : (state : ℕ) → state_behind 2 state ≡ next_state (next_state state)
+unfolding state_behind
+state_behind-two state = refl
+
+pub state_behind-more : (n state : ℕ) → state_behind (n + 1) state ≡ next_state (state_behind n state)
+unfolding state_behind
+state_behind-more n state = rw add-one refl
+
+pub last_offsets-none : (state : ℕ) → last_offsets 0 state ≡ []
+unfolding last_offsets
+last_offsets-none state = refl
+
+pub last_offsets-more : (n state : ℕ) → last_offsets (n + 1) state ≡ last_offsets n state ++ value_in (next_state (state_behind n state)) % 100000 ∷ []
+unfolding last_offsets state_behind
+last_offsets-more n state = rw add-one refl
+
+pub pages_up_to-none : (last : List ℕ) → pages_up_to 0 last ≡ []
+unfolding pages_up_to
+pages_up_to-none last = refl
+
+pub pages_up_to-more : (n : ℕ) (last : List ℕ) → pages_up_to (n + 1) last ≡ pages_up_to n last ++ page_of n (slice_index last n) ∷ []
+unfolding pages_up_to
+pages_up_to-more n last = rw add-one refl
+
+pub behind_clients-none : (state : ℕ) → behind_clients 0 state ≡ state
+unfolding behind_clients
+behind_clients-none state = refl
+
+pub behind_clients-more : (n state : ℕ) → behind_clients (n + 1) state ≡ behind_client (behind_clients n state)
+unfolding behind_clients
+behind_clients-more n state = rw add-one refl
+
+pub cues_of_clients-none : (last : List ℕ) (state : ℕ) → cues_of_clients 0 last state ≡ []
+unfolding cues_of_clients
+cues_of_clients-none last state = refl
+
+pub cues_of_clients-more : (n : ℕ) (last : List ℕ) (state : ℕ) → cues_of_clients (n + 1) last state ≡ cues_of_clients n last state ++ Connect ∷ Say 0 (request_text (request_of last (behind_clients n state))) ∷ []
+unfolding cues_of_clients
+cues_of_clients-more n last state = rw add-one refl
+
+pub begin_of-none : (state : ℕ) → begin_of 0 state ≡ state
+unfolding begin_of
+begin_of-none state = refl
+
+pub begin_of-more : (life state : ℕ) → begin_of (life + 1) state ≡ next_state (next_state (behind_clients 40 (begin_of life state)))
+unfolding begin_of
+begin_of-more life state = rw add-one refl
+
+pub ruleset moduli = (mod-add-mod)
+
+pub ruleset values = (state_behind-none, state_behind-one, state_behind-two, state_behind-more)
+
+pub ruleset lengths = (state_behind-none, state_behind-more, last_offsets-none, last_offsets-more)
+
+pub ruleset pages = (pages_up_to-none, pages_up_to-more)
+
+pub ruleset clients = (behind_clients-none, behind_clients-more)
+
+pub ruleset cues = (behind_clients-none, behind_clients-more, cues_of_clients-none, cues_of_clients-more)
+
+pub ruleset lives = (begin_of-none, begin_of-more)
