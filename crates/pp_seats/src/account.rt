@@ -159,3 +159,13 @@ fn version_text(minor: u8) -> &'static [u8]
         b" HTTP/1.1"
     }
 }
+
+/// Bytes of the head at the front of this text, through the empty line that ends it.
+pub fn head_in(text: &[u8]) -> usize {
+    for at in 0..text.len() {
+        if text[at..].starts_with(b"\r\n\r\n") {
+            return at + 4;
+        }
+    }
+    text.len()
+}

@@ -36,13 +36,3 @@ impl State {
         }
     }
 }
-
-/// Bytes of the head at the front of this text, through the empty line that ends it.
-pub(crate) fn head_in(text: &[u8]) -> usize {
-    for at in 0..text.len() {
-        if text[at..].starts_with(b"\r\n\r\n") {
-            return at + 4;
-        }
-    }
-    text.len()
-}
