@@ -1,2 +1,4 @@
+pub mod Closing
+pub mod Ending
 pub mod Hearing
 pub mod Saying

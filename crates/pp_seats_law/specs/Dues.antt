@@ -1,35 +1,62 @@
 -- What is due of a seat is what is due of its client (RFC 2616, section 8.1; the order is ours). What the table, the exchanges and
 -- the row of its key tell of it stands as the law says it.
-use Rattle.std.specs.Prelude.{◌≡◌, Bool, true, false, ◌&&◌, not, List, [], is_some, Option, Some, None, option_map}
+use Rattle.std.specs.Prelude.{◌≡◌, ◌⊎◌, ℕ, Bool, true, false, ◌&&◌, not, List, [], is_some, Option, Some, None, option_map}
+use Rattle.pp_objects.specs.declared.id.ObjectId.{ObjectId}
+use Rattle.pp_target.specs.Key.{Key, key_in}
 use Rattle.pp_world.specs.declared.note.Cause.{Cause}
-use Rattle.pp_world.specs.declared.note.Decision.{Decision}
-use Rattle.pp_law.specs.Decisions.{decide}
+use Rattle.pp_world.specs.declared.note.Decision.TheVariants.{Refuse}
+use Rattle.pp_law.specs.Decisions.{begun_now, decide, decide_for}
 use Rattle.pp_law.specs.Due.{Due, Decide, CutOff, cut_in, due_by_stage, due_of, has_lost_row, is_superseded, still_waits}
 use Rattle.pp_law.specs.Lists.{Bytes, is_some_with}
 use Rattle.pp_law.specs.Offers.{has_to_say}
 use Rattle.pp_law.specs.Replies.{is_finished}
-use Rattle.pp_law.specs.Sharing.{due_undecided, is_patient, may_share, shared_ask}
-use Rattle.pp_law.specs.Stages.{is_followed_by, is_page, reply_of}
+use Rattle.pp_law.specs.Requests.{IsRequest, Parsed}
+use Rattle.pp_law.specs.Sharing.{due_undecided, is_patient, shared_ask}
+use Rattle.pp_law.specs.Stages.{is_page, reply_of}
 use Rattle.pp_law.specs.State.{State, Client}
-use Rattle.pp_law.specs.Table.{source_of}
-use Rattle.pp_seats.specs.declared.seat.Answer.{Answer}
+use Rattle.pp_law.specs.Table.{row as row_of, source_of}
+use Rattle.pp_seats.specs.declared.due.Due.{Due as SeatDue}
+use Rattle.pp_seats.specs.declared.due.Due.TheVariants.{Decide as IsDecided, CutOff as IsCut}
+use Rattle.pp_seats.specs.declared.key.Key.{Key as OwnedKey}
+use Rattle.pp_seats.specs.declared.seat.Brought.{Brought}
+use Rattle.pp_seats.specs.declared.seat.Brought.TheVariants.{Joins}
 use Rattle.pp_seats.specs.declared.seat.Seat.{Seat}
 use Rattle.pp_seats.specs.declared.seat.Shared.{Shared as SeatShared}
 use Rattle.pp_seats.specs.declared.seat.Stage.{Stage as SeatStage}
 use Rattle.pp_seats.specs.declared.seat.Stage.TheVariants.{Undecided as IsUndecided, Waiting as IsWaiting, Passing as IsPassing, Answering as IsAnswering}
-use Rattle.pp_seats.specs.Dues.{cause_in, decision_in, is_idle_in}
+use Rattle.pp_seats.specs.Dues.{begun_in, cause_in, decision_in, due_in, is_idle_in, is_refused_in, lost_in, refused_in, undecided_in}
 use Rattle.pp_seats.specs.Follows.{answer_in}
+use Rattle.pp_seats.specs.Heads.{asked_in, owned_in}
 use Rattle.pp_seats.specs.Seats.{finished_in}
-use Rattle.pp_seats_law.specs.Replies.{shared_of}
+use Rattle.pp_seats_law.specs.Replies.{shared_of, source_number}
 use Rattle.pp_seats_law.specs.Seats.{ShowsOpen, ShowsSeat}
 use Rattle.pp_seats_law.specs.Words.{OfOpen}
 
--- ---- decisions
+-- ---- what is decided of a request
 
--- the row that it was decided by is replaced or cleared, by whether the instance that it follows still stands
-abbrev pub lost_in : Option Answer → Bool → Bool
-lost_in None stands = false
-lost_in (Some a) stands = is_followed_by a.decision && not stands
+-- by its head alone; where memory was refused for its key, that is refused with 500, and the law waits for no more
+abbrev pub HeadsAreTheLaws : Type 0
+HeadsAreTheLaws = (s : State) (status : ℕ) → OfOpen (λ name owed seat c. refused_in seat.front ≡ Some status → (status ≡ 500) ⊎ (decide s c ≡ Some (Refuse status)))
+
+-- by the row of its key, where its head is not refused
+pub record IsByRow (s : State) (c : Client) (key : Key) : Type 0 where
+  pub request : Parsed
+  pub front : c.front ≡ IsRequest request
+  pub decides : decide s c ≡ Some (decide_for s c request.head key)
+
+abbrev pub RowsDecideAsTheLaws : Type 0
+RowsDecideAsTheLaws = (s : State) (key : OwnedKey) → OfOpen (λ name owed seat c. refused_in seat.front ≡ None → owned_in (asked_in seat.front) ≡ Some key → IsByRow s c (key_in key.text.items key.place))
+
+-- no two instances have one life
+abbrev pub AreApart : Option ObjectId → Brought → Type 0
+AreApart row brought = (id joined : ObjectId) (plain : Bool) → row ≡ Some id → brought ≡ Joins joined plain → id.life ≡ joined.life → id.slot ≡ joined.slot
+
+-- what its exchange brought counts as long as it belongs to the row of its key
+abbrev pub BroughtCountsAsTheLaws : Type 0
+BroughtCountsAsTheLaws = (s : State) (row : Option ObjectId) (key : Bytes)
+    → OfOpen (λ name owed seat c. is_refused_in seat.brought ≡ false → source_number row ≡ option_map (λ x. x.id) (row_of s key) → AreApart row seat.brought → begun_in seat.brought row ≡ begun_now s c key)
+
+-- ---- decisions
 
 abbrev pub has_source_standing : State → Client → Bool
 has_source_standing s c = is_some_with (λ r. is_some_with (λ x. not x.is_retired) (source_of s r)) (reply_of c)
@@ -40,15 +67,13 @@ has_lost_its_row s c = is_some_with (has_lost_row s) (reply_of c)
 abbrev pub LostIsTheLaws : Type 0
 LostIsTheLaws = (s : State) → OfOpen (λ name owed seat c. lost_in (answer_in seat.stage) (has_source_standing s c) ≡ has_lost_its_row s c)
 
--- a request waits once for what is asked already, by whether it is patient still, whether fetches are shared, and whether it is asked
-abbrev pub undecided_in : Option SeatShared → (SeatShared → Bool) → Bool → Bool → Option Decision → Option Decision
-undecided_in (Some w) is_patient shares is_asked decided = elim (is_patient w) [ true ↦ None | false ↦ decided ]
-undecided_in None is_patient shares is_asked None = None
-undecided_in None is_patient shares is_asked (Some d) = elim (shares && may_share d && is_asked) [ true ↦ None | false ↦ Some d ]
+-- it waits for another's answer, and may wait on
+abbrev pub waits_on_still : State → Option SeatShared → Bool
+waits_on_still s waits = is_some_with (λ w. is_patient s (shared_of w)) waits
 
 abbrev pub SharingIsTheLaws : Type 0
 SharingIsTheLaws = (s : State)
-    → OfOpen (λ name owed seat c. undecided_in seat.waits_on (λ w. is_patient s (shared_of w)) s.settings.shares_fetches (is_some (shared_ask s c)) (decide s c) ≡ due_undecided s c)
+    → OfOpen (λ name owed seat c. undecided_in seat.waits_on (waits_on_still s seat.waits_on) s.settings.shares_fetches (is_some (shared_ask s c)) (decide s c) ≡ due_undecided s c)
 
 abbrev pub DecisionIsTheLaws : Type 0
 DecisionIsTheLaws = (s : State) (name : Bytes) (seat : Seat) (c : Client) → ShowsOpen name [] seat c → decision_in seat (has_lost_its_row s c) (due_undecided s c) (decide s c) ≡ due_by_stage s c
@@ -79,16 +104,11 @@ CutIsTheLaws = (s : State) (name : Bytes) (seat : Seat) (c : Client) → ShowsOp
 
 -- ---- both
 
--- of one that is closing nothing, and once it was stopped no decision
-abbrev pub due_in : Bool → Seat → Option Cause → Option Decision → Option Due
-due_in is_stopped seat cut decision = elim seat.is_closing [
-  | true ↦ None
-  | false ↦ elim cut [
-    | Some cause ↦ Some (CutOff seat.client.id cause)
-    | None ↦ elim is_stopped [ true ↦ None | false ↦ option_map (Decide seat.client.id seat.index) decision ]
-  ]
-]
+-- of that client, and of the request of that number
+abbrev pub due_as : ℕ → ℕ → SeatDue → Due
+due_as n i (IsDecided d) = Decide n i d
+due_as n i (IsCut cause) = CutOff n cause
 
 abbrev pub DueIsTheLaws : Type 0
 DueIsTheLaws = (s : State) (name : Bytes) (seat : Seat) (c : Client) → ShowsSeat name [] seat c
-    → due_in s.is_stopped seat (cut_of s seat c) (decision_in seat (has_lost_its_row s c) (due_undecided s c) (decide s c)) ≡ due_of s c
+    → option_map (due_as seat.client.id seat.index) (due_in seat.is_closing s.is_stopped (cut_of s seat c) (decision_in seat (has_lost_its_row s c) (due_undecided s c) (decide s c))) ≡ due_of s c
