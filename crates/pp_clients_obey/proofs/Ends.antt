@@ -95,7 +95,7 @@ not_finished c is =
     ap (λ (b : Bool). c.has_hung_up && not b && (not (has_request c.front) || nat_lt (length c.heard) c.body_left)) is
     ∙ ap (λ (b : Bool). b && (not (has_request c.front) || nat_lt (length c.heard) c.body_left)) (and_false c.has_hung_up)
 
-number_found : (n : ℕ) (cs : List Client) (c : Client) → find (is_client n) cs ≡ Some c → c.number ≡ n
+pub number_found : (n : ℕ) (cs : List Client) (c : Client) → find (is_client n) cs ≡ Some c → c.number ≡ n
 number_found n cs c found = same_number c.number n (found_holds (is_client n) c cs found)
 
 closed_has : (name : Bytes) (cs : List Client) (n : ℕ) (t : State) → Has name cs t → Has name (change (is_client n) (closing_by false) cs) (close_client n false t)

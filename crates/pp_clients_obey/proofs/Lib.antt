@@ -1,4 +1,5 @@
 pub mod Closes
+pub mod Decides
 pub mod Ends
 pub mod Hears
 pub mod Says
