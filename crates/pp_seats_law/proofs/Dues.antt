@@ -311,7 +311,7 @@ first_cause false false false true e = refl
 first_cause false false false false true = refl
 first_cause false false false false false = refl
 
-abbrev cause_by : Bool → Bool → Bool → Bool → Bool → Option Cause
+abbrev pub cause_by : Bool → Bool → Bool → Bool → Bool → Option Cause
 cause_by a b c d e =
     elim a [ true ↦ Some Stop | false ↦ elim b [ true ↦ Some ShortOf | false ↦ elim c [ true ↦ Some Origin | false ↦ elim d [ true ↦ Some Superseded | false ↦ elim e [ true ↦ Some Idle | false ↦ None ] ] ] ] ]
 

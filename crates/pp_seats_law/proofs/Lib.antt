@@ -9,6 +9,7 @@ pub mod Fronts
 pub mod HeadDues
 pub mod Hears
 pub mod Nexts
+pub mod ReadDues
 pub mod SaidOn
 pub mod SaidWhole
 pub mod Stages

@@ -1,6 +1,6 @@
 -- What is due of a seat is what is due of its client (RFC 2616, section 8.1; the order is ours). What the table, the exchanges and
 -- the row of its key tell of it stands as the law says it.
-use Rattle.std.specs.Prelude.{◌≡◌, ◌⊎◌, ℕ, Bool, true, false, ◌&&◌, not, List, [], is_some, Option, Some, None, option_map}
+use Rattle.std.specs.Prelude.{◌≡◌, ◌⊎◌, ℕ, Bool, true, false, ◌&&◌, ◌||◌, not, List, [], is_some, Option, Some, None, option_map}
 use Rattle.pp_objects.specs.declared.id.ObjectId.{ObjectId}
 use Rattle.pp_target.specs.Key.{Key, key_in}
 use Rattle.pp_world.specs.declared.note.Cause.{Cause}
@@ -24,10 +24,11 @@ use Rattle.pp_seats.specs.declared.seat.Seat.{Seat}
 use Rattle.pp_seats.specs.declared.seat.Shared.{Shared as SeatShared}
 use Rattle.pp_seats.specs.declared.seat.Stage.{Stage as SeatStage}
 use Rattle.pp_seats.specs.declared.seat.Stage.TheVariants.{Undecided as IsUndecided, Waiting as IsWaiting, Passing as IsPassing, Answering as IsAnswering}
-use Rattle.pp_seats.specs.Dues.{begun_in, cause_in, decision_in, due_in, is_idle_in, is_refused_in, lost_in, refused_in, undecided_in}
+use Rattle.pp_seats.specs.Courses.{has_begun, is_trying_in}
+use Rattle.pp_seats.specs.Dues.{begun_in, cause_in, decision_in, due_in, is_idle_in, is_read_in, is_refused_in, is_short_in, lost_in, may_share as may_share_in, refused_in, undecided_in}
 use Rattle.pp_seats.specs.Follows.{answer_in}
 use Rattle.pp_seats.specs.Heads.{asked_in, owned_in}
-use Rattle.pp_seats.specs.Seats.{finished_in}
+use Rattle.pp_seats.specs.Seats.{finished_in, is_told_in, is_undecided_in}
 use Rattle.pp_seats_law.specs.Replies.{shared_of, source_number}
 use Rattle.pp_seats_law.specs.Seats.{ShowsOpen, ShowsSeat}
 use Rattle.pp_seats_law.specs.Words.{OfOpen}
@@ -112,3 +113,41 @@ due_as n i (IsCut cause) = CutOff n cause
 abbrev pub DueIsTheLaws : Type 0
 DueIsTheLaws = (s : State) (name : Bytes) (seat : Seat) (c : Client) → ShowsSeat name [] seat c
     → option_map (due_as seat.client.id seat.index) (due_in seat.is_closing s.is_stopped (cut_of s seat c) (decision_in seat (has_lost_its_row s c) (due_undecided s c) (decide s c))) ≡ due_of s c
+
+-- ---- as a turn reads it: what does not count is not asked for
+
+-- whether something is left to say, where a reply may be cut for its origin
+abbrev pub dry_read : Seat → Bool → Bool
+dry_read seat dry = has_begun seat && (is_short_in seat.brought || not (is_trying_in seat.course)) && dry
+
+abbrev pub cut_read : State → Seat → Client → Option Cause
+cut_read s seat c = cause_in s.is_stopped (is_idle_in s.is_ticked s.clock seat) seat (dry_read seat (not (has_to_say s c))) (has_begun seat && is_superseded s c)
+
+-- whether it is asked already, where fetches are shared, and what is decided may be another's
+abbrev pub asked_read : Bool → Option Decision → Bool → Bool
+asked_read shares None asked = false
+asked_read shares (Some d) asked = shares && may_share_in d && asked
+
+abbrev pub if_so : Bool → Option Decision → Option Decision
+if_so b decided = elim b [ true ↦ decided | false ↦ None ]
+
+-- what is decided is read where it does not wait on
+abbrev pub undecided_read : State → Seat → Client → Option Decision
+undecided_read s seat c =
+    let decided : Option Decision = if_so (not (waits_on_still s seat.waits_on)) (decide s c) in
+    undecided_in seat.waits_on (waits_on_still s seat.waits_on) s.settings.shares_fetches (not (is_some seat.waits_on) && asked_read s.settings.shares_fetches decided (is_some (shared_ask s c))) decided
+
+abbrev pub decision_read : State → Seat → Client → Option Decision
+decision_read s seat c =
+    let lost : Bool = lost_in (answer_in seat.stage) (has_source_standing s c) in
+    decision_in seat lost (if_so (is_undecided_in seat.stage) (undecided_read s seat c)) (if_so (is_read_in seat.stage (is_told_in seat.brought) lost) (decide s c))
+
+abbrev pub cut_if_open : State → Seat → Client → Option Cause
+cut_if_open s seat c = elim seat.is_closing [ true ↦ None | false ↦ cut_read s seat c ]
+
+abbrev pub due_read : State → Seat → Client → Option SeatDue
+due_read s seat c =
+    due_in seat.is_closing s.is_stopped (cut_if_open s seat c) (if_so (not seat.is_closing && not s.is_stopped && not (is_some (cut_if_open s seat c))) (decision_read s seat c))
+
+abbrev pub DueAsReadIsTheLaws : Type 0
+DueAsReadIsTheLaws = (s : State) (name : Bytes) (seat : Seat) (c : Client) → ShowsSeat name [] seat c → option_map (due_as seat.client.id seat.index) (due_read s seat c) ≡ due_of s c
