@@ -230,8 +230,6 @@ ending_with : (owed : List Bytes) (n i k : ℕ) (seats : List Seat) (seat : Seat
     → Has s.settings.name (change (is_client n) g (change (is_client n) (said_by k) s.clients)) t → end_reply (said_by k c) (said_state k n c s) ≡ t → (is_over (g (said_by k c)) && not (g (said_by k c)).is_closing) ≡ false
     → Changes end_said n (said_state k n c s) t
 ending_with owed n i k seats seat s c g t w kept has leads isnt =
-    let cs : List Client = change (is_client n) (said_by k) s.clients in
-    let mid : State = said_state k n c s in
     let here : find (is_client n) (change (is_client n) (said_by k) s.clients) ≡ Some (said_by k c) = found_in (said_by k) (said_number k) n s.clients c w.found in
     let rest : AllRestBut n (said_state k n c s).clients = rest_in s.settings.name (change (is_client n) (said_by k) s.clients) n (said_state k n c s) (said_has k n c s) (said_rest owed n i k seats seat s c w) in
     let then : AllRestBut n t.clients
@@ -245,6 +243,13 @@ ending_with owed n i k seats seat s c g t w kept has leads isnt =
       others = λ m x other there. end_none x (said_state k n c s) (found_rests n m (said_state k n c s).clients x rest there other).said;
       others_then = λ m x other there. end_none x t (found_rests n m t.clients x then there other).said;
     }
+
+-- it is there still
+again_so : (owed : List Bytes) (n i k : ℕ) (seats : List Seat) (seat : Seat) (s : State) (c : Client) (g : Client → Client) (t : State) → Writes owed n i k seats seat s c → ((x : Client) → (g x).number ≡ x.number)
+    → Has s.settings.name (change (is_client n) g (change (is_client n) (said_by k) s.clients)) t → client t n ≡ Some (g (said_by k c))
+again_so owed n i k seats seat s c g t w kept has =
+    client_in s.settings.name (change (is_client n) g (change (is_client n) (said_by k) s.clients)) n (g (said_by k c)) t has
+    (found_in g kept n (change (is_client n) (said_by k) s.clients) (said_by k c) (found_in (said_by k) (said_number k) n s.clients c w.found))
 
 then_rest : (owed : List Bytes) (n i k : ℕ) (seats : List Seat) (seat : Seat) (s : State) (c : Client) (g : Client → Client) (t : State) → Writes owed n i k seats seat s c → ((x : Client) → (g x).number ≡ x.number)
     → Has s.settings.name (change (is_client n) g (change (is_client n) (said_by k) s.clients)) t → AllRestBut n t.clients
@@ -308,12 +313,8 @@ ended_next : (owed : List Bytes) (n i offered : ℕ) (seats : List Seat) (seat n
     → IsLeftAs (finished_in next) next after → (s : State) → OwesWrite owed n offered bytes seats s → Moves (WasOwed owed (slice_set seats i after)) (Said n offered bytes) s
 ended_next owed n i offered seats seat next after bytes sits settled leaves goes read left s owes =
     let found : IsFound s.settings.name owed seat n s.clients = places s.settings.name owed seats s.clients n i seat owes.shown sits.at sits.there in
-    let c : Client = found.client in
-    let k : ℕ = length bytes in
     let w : Writes owed n i (length bytes) seats seat s found.client
     = record { shown = owes.shown; at = sits.at; there = sits.there; going = sits.going; settled = settled; few = leaves.few; all = leaves.all; found = found.there; shows = found.shows } in
-    let mid : State = said_state (length bytes) n found.client s in
-    let t : State = swept (forsake (is_of n) (on_client n next_request (said_state (length bytes) n found.client s))) in
     let has : Has s.settings.name (change (is_client n) next_request (change (is_client n) (said_by (length bytes)) s.clients)) (swept (forsake (is_of n) (on_client n next_request (said_state (length bytes) n found.client s))))
     = next_has s.settings.name (change (is_client n) (said_by (length bytes)) s.clients) n (said_state (length bytes) n found.client s) (said_has (length bytes) n found.client s) in
     let leads : end_reply (said_by (length bytes) found.client) (said_state (length bytes) n found.client s) ≡ swept (forsake (is_of n) (on_client n next_request (said_state (length bytes) n found.client s)))
@@ -362,7 +363,8 @@ ended_last owed n i offered seats seat after bytes sits settled leaves closes cl
     let over : Changes end_said n (said_state (length bytes) n found.client s) (close_client n false (said_state (length bytes) n found.client s))
     = ending_with owed n i (length bytes) seats seat s found.client (closing_by false) (close_client n false (said_state (length bytes) n found.client s)) w (λ x. refl) has leads (closed_silent (said_by (length bytes) found.client)) in
     let none : Changes close_finished n (close_client n false (said_state (length bytes) n found.client s)) (close_client n false (said_state (length bytes) n found.client s))
-    = stays_then n (close_client n false (said_state (length bytes) n found.client s)) over.now over.again
+    = stays_then n (close_client n false (said_state (length bytes) n found.client s)) (closing_by false (said_by (length bytes) found.client))
+    (again_so owed n i (length bytes) seats seat s found.client (closing_by false) (close_client n false (said_state (length bytes) n found.client s)) w (λ x. refl) has)
     (then_rest owed n i (length bytes) seats seat s found.client (closing_by false) (close_client n false (said_state (length bytes) n found.client s)) w (λ x. refl) has) (not_finished (closing_by false (said_by (length bytes) found.client)) refl) in
     moves_to refl (goes_said s n offered bytes found.client owes.none owes.writes found.there (owes.first found.client found.there))
     (record {
