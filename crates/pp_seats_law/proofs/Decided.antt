@@ -121,10 +121,6 @@ before_now name owed seat c shows isnt =
 abbrev interimed : Interim → ℕ → Seat → Seat
 interimed i before seat = record seat { client = record seat.client { reply = record seat.client.reply { interim = i } }; before_body = before }
 
--- of those that show it, this one
-abbrev Shows : Bytes → List Bytes → (Seat → Seat) → Client → Seat → Type 0
-Shows name owed f d seat = ShowsOpen name owed (f seat) d
-
 -- as it is before the reply
 record IsInterim (seat : Seat) (left : Bytes) (i : Interim) (before : ℕ) : Type 0 where
   shown : ShowsInterim i left

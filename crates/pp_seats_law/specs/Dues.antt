@@ -35,7 +35,7 @@ use Rattle.pp_seats_law.specs.Words.{OfOpen}
 
 -- ---- what is decided of a request
 
--- by its head alone; where memory was refused for its key, that is refused with 500, and the law waits for no more
+-- by its head alone, unless memory was refused for its key: then it is refused with 500, whatever the law has
 abbrev pub HeadsAreTheLaws : Type 0
 HeadsAreTheLaws = (s : State) (status : ℕ) → OfOpen (λ name owed seat c. refused_in seat.front ≡ Some status → (status ≡ 500) ⊎ (decide s c ≡ Some (Refuse status)))
 
