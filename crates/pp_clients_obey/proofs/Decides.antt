@@ -1,5 +1,5 @@
 -- A decision is what the law permits, and leads where the law leads.
-use Rattle.std.proofs.Common.{◌≡◌, refl, sym, subst, ap, ap₂, ◌∙◌, ℕ, ◌≤◌, nat_lt, Bool, true, false, ◌==◌, ◌||◌, is_some, List, [], ◌∷◌, ◌++◌, length, Option, Some, None, Result, Ok, Err}
+use Rattle.std.proofs.Common.{◌≡◌, refl, sym, subst, ap, ap₂, ◌∙◌, ℕ, ◌≤◌, nat_lt, Bool, true, false, not, ◌==◌, ◌&&◌, ◌||◌, is_some, List, [], ◌∷◌, ◌++◌, length, Option, Some, None, option_map, Result, Ok, Err}
 use Rattle.std.specs.Prelude.{slice_get, slice_set}
 use Rattle.pp_ask.specs.declared.kind.AskKind.{AskKind}
 use Rattle.pp_fresh.specs.declared.aging.Times.{Times}
@@ -16,13 +16,13 @@ use Rattle.pp_world.specs.declared.note.Remark.TheVariants.{Taken}
 use Rattle.pp_law.specs.After.{take_decision}
 use Rattle.pp_law.specs.Closing.{forsake, is_of, leave}
 use Rattle.pp_law.specs.Connections.{client, is_client, on_client}
-use Rattle.pp_law.specs.Deciding.{add_exchange, ask_as, ask_for, ask_origin, asking_with, begin_exchange, decided, decided_by, enter_row, is_for_memory, is_pass, mark_row_of, new_exchange, refuse, refused_with}
+use Rattle.pp_law.specs.Deciding.{add_exchange, ask_as, ask_for, ask_origin, asking_with, answering_with, begin_exchange, decided, decided_by, enter_row, follow, follow_row, follow_with, is_for_memory, is_pass, mark_row_of, new_exchange, refuse, refused_with, relay, reply_by, serves, span_of}
 use Rattle.pp_law.specs.Decisions.{kind_of}
 use Rattle.pp_law.specs.Lists.{Bytes, change, is_some_with}
 use Rattle.pp_law.specs.Phases.{in_phase}
 use Rattle.pp_law.specs.Replies.{regained}
 use Rattle.pp_law.specs.Requests.{Front, Parsed, NoHeadYet, NoHead, IsRequest, key_in, parsed_in}
-use Rattle.pp_law.specs.State.{State, Client, Deciding, Entry, Exchange, Instance}
+use Rattle.pp_law.specs.State.{State, Client, Deciding, Entry, Exchange, Instance, Reply}
 use Rattle.pp_law.specs.Table.{add_row, enter, forget, forget_row, idle_row, kept_row, mark_row, row, row_for, rows, swept, with_room}
 use Rattle.pp_obeys.specs.Moves.{Goes, Moves}
 use Rattle.pp_obeys.proofs.Calls.{keeps_more, moves_to}
@@ -33,7 +33,7 @@ use Rattle.pp_seats.specs.declared.account.Account.{Account}
 use Rattle.pp_seats.specs.declared.front.Front.{Front as SeatFront}
 use Rattle.pp_seats.specs.declared.front.Front.TheVariants.{NoHeadYet as NoneYet, NoHead as NoneThere, Request as IsThere}
 use Rattle.pp_seats.specs.declared.seat.Seat.{Seat}
-use Rattle.pp_seats.specs.Decided.{asking, expects_in, page_for, paged, with_interim}
+use Rattle.pp_seats.specs.Decided.{answering, asking, expects_in, page_for, paged, with_interim}
 use Rattle.pp_seats.specs.Dues.{is_refused_in}
 use Rattle.pp_seats.specs.Heads.{asked_in}
 use Rattle.pp_seats.specs.Seats.{is_undecided_in}
@@ -42,9 +42,10 @@ use Rattle.pp_seats_law.specs.Decided.{MayBeDecided, expects_of}
 use Rattle.pp_seats_law.specs.Fronts.{ShowsFront}
 use Rattle.pp_seats_law.specs.Seats.{ShowsOpen, ShowsSeat}
 use Rattle.pp_seats_law.proofs.AllSeats.{changes_there, places}
-use Rattle.pp_seats_law.proofs.Decided.{asks, pages}
+use Rattle.pp_seats_law.specs.Replies.{number_of}
+use Rattle.pp_seats_law.proofs.Decided.{answers, asks, pages}
 use Rattle.pp_seats_law.proofs.Stages.{begun, undecided}
-use Rattle.pp_clients_obey.specs.Deciding.{AsksKeep, IsOpen, IsToAsk, IsToTake, PagesKeep, WasTaken, has_ask, is_ask}
+use Rattle.pp_clients_obey.specs.Deciding.{AsksKeep, FollowsKeep, IsOpen, IsToAsk, IsToFollow, IsToTake, PagesKeep, RelaysKeep, WasTaken, has_ask, is_ask, is_by_row, row_of_key}
 use Rattle.pp_clients_obey.specs.Hearing.{Sits}
 use Rattle.pp_clients_obey.proofs.Closes.{seen_forsaken, seen_on, seen_swept}
 use Rattle.pp_clients_obey.proofs.Ends.{number_found}
@@ -173,6 +174,52 @@ unfolding decided
 ask_decided c d s is there =
     changed_on c.number (asking_with d) s (enter_row c d s) (decided_by c d (enter_row c d s)) (seen_entered c d s) (ap seen (asks_of c d (enter_row c d s) is) ∙ origin_changes c d (enter_row c d s) there)
 
+with_changes : (c : Client) (r : Reply) (x : Instance) (s : State) → IsChangedBy c.number (answering_with r) s (follow_with c r x s)
+unfolding follow_with
+with_changes c r x s =
+    seen_swept (leave (λ e. is_of c.number e && not (serves x r e)) (on_client c.number (answering_with r) s)) ∙ seen_leave (λ e. is_of c.number e && not (serves x r e)) (on_client c.number (answering_with r) s) ∙ seen_on c.number (answering_with r) s
+
+row_changes : (c : Client) (d : Decision) (id : ℕ) (s : State) (o : Option Instance) → option_map (λ (x : Instance). x.id) o ≡ Some id
+    → IsChangedBy c.number (answering_with (reply_by d (Some id))) s (elim o as (λ x. State) [ None ↦ s | Some x ↦ follow_with c (reply_by d (Some x.id)) x s ])
+row_changes c d id s None there = absurd (cc there)
+row_changes c d id s (Some x) there =
+    subst (λ (o : Option ℕ). IsChangedBy c.number (answering_with (reply_by d o)) s (follow_with c (reply_by d (Some x.id)) x s)) there (with_changes c (reply_by d (Some x.id)) x s)
+
+follow_row_changes : (c : Client) (d : Decision) (id : ℕ) (key : Bytes) (s : State) → option_map (λ (x : Instance). x.id) (row s key) ≡ Some id → IsChangedBy c.number (answering_with (reply_by d (Some id))) s (follow_row c d key s)
+unfolding follow_row
+follow_row_changes c d id key s there = row_changes c d id s (row s key) there
+
+keyed_changes : (c : Client) (d : Decision) (id : ℕ) (s : State) (o : Option Key) → (elim o as (λ x. Option ℕ) [ None ↦ None | Some key ↦ option_map (λ (x : Instance). x.id) (row s (text_of key)) ]) ≡ Some id
+    → IsChangedBy c.number (answering_with (reply_by d (Some id))) s (elim o as (λ x. State) [ None ↦ s | Some key ↦ follow_row c d (text_of key) s ])
+keyed_changes c d id s None there = absurd (cc there)
+keyed_changes c d id s (Some key) there = follow_row_changes c d id (text_of key) s there
+
+follow_changes : (c : Client) (d : Decision) (id : ℕ) (s : State) → row_of_key s c ≡ Some id → IsChangedBy c.number (answering_with (reply_by d (Some id))) s (follow c d s)
+unfolding follow
+follow_changes c d id s there = keyed_changes c d id s (key_in c.front) there
+
+follows_of : (c : Client) (d : Decision) (s : State) → is_by_row d ≡ true → decided_by c d s ≡ follow c d s
+unfolding decided_by
+follows_of c (Refuse status) s is = absurd (cc is)
+follows_of c (Hit from to) s is = refl
+follows_of c (Part from to) s is = refl
+follows_of c Head s is = refl
+follows_of c NotModified s is = refl
+follows_of c Unsatisfiable s is = refl
+follows_of c Relay s is = absurd (cc is)
+follows_of c Validate s is = absurd (cc is)
+follows_of c Fetch s is = absurd (cc is)
+follows_of c Pass s is = absurd (cc is)
+
+follow_decided : (c : Client) (d : Decision) (id : ℕ) (s : State) → is_by_row d ≡ true → row_of_key (enter_row c d s) c ≡ Some id → IsChangedBy c.number (answering_with (reply_by d (Some id))) s (decided c d s)
+unfolding decided
+follow_decided c d id s is there =
+    changed_on c.number (answering_with (reply_by d (Some id))) s (enter_row c d s) (decided_by c d (enter_row c d s)) (seen_entered c d s) (ap seen (follows_of c d (enter_row c d s) is) ∙ follow_changes c d id (enter_row c d s) there)
+
+relay_decided : (c : Client) (s : State) → IsChangedBy c.number (answering_with (reply_by Relay None)) s (decided c Relay s)
+unfolding decided decided_by relay
+relay_decided c s = changed_on c.number (answering_with (reply_by Relay None)) s (enter_row c Relay s) (on_client c.number (answering_with (reply_by Relay None)) (enter_row c Relay s)) (seen_entered c Relay s) (seen_on c.number (answering_with (reply_by Relay None)) (enter_row c Relay s))
+
 -- ---- the seat of that client
 
 same_request : (front : SeatFront) (f : Front) → ShowsFront front f → is_some (asked_in front) ≡ is_some (parsed_in f)
@@ -252,3 +299,25 @@ asks_keep old new before now n i index d owed seats seat call rose sits open_sea
     (λ c found shows.
     let going : c.is_closing ≡ false = sym shows.closing ∙ sits.going in
     asks d s.settings.name owed seat c shows going (may_decide s.settings.name owed seat c (shows.going going) open_seat (to.take.expects c found)) isnt))
+
+-- ---- a reply by the row
+
+pub follows_keep : FollowsKeep
+follows_keep old new before now n i index d id owed seats seat call rose sits open_seat is isnt =
+    keeps_more (λ l. Noted (Taken n index d)) call (λ l. rose)
+    (λ l s to.
+    taken_moves owed n i index d seats seat (answering d (Some id) (span_of d) (with_interim seat)) (answering_with (reply_by d (Some (number_of id)))) sits s to.take
+    (λ c found shows. follow_decided c d (number_of id) (in_phase Deciding s) is (to.known c found))
+    (λ c found shows.
+    let going : c.is_closing ≡ false = sym shows.closing ∙ sits.going in
+    answers d (Some id) s.settings.name owed seat c shows going (may_decide s.settings.name owed seat c (shows.going going) open_seat (to.take.expects c found)) isnt))
+
+pub relays_keep : RelaysKeep
+relays_keep old new before now n i index owed seats seat call rose sits open_seat isnt =
+    keeps_more (λ l. Noted (Taken n index Relay)) call (λ l. rose)
+    (λ l s to.
+    taken_moves owed n i index Relay seats seat (answering Relay None (0, 0) (with_interim seat)) (answering_with (reply_by Relay None)) sits s to
+    (λ c found shows. relay_decided c (in_phase Deciding s))
+    (λ c found shows.
+    let going : c.is_closing ≡ false = sym shows.closing ∙ sits.going in
+    answers Relay None s.settings.name owed seat c shows going (may_decide s.settings.name owed seat c (shows.going going) open_seat (to.expects c found)) isnt))

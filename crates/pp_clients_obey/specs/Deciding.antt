@@ -1,5 +1,6 @@
 -- A decision is what the law permits, and leads where the law leads, as far as its client alone goes (RFC 2616, sections 6 and 13).
-use Rattle.std.specs.Prelude.{◌≡◌, ◌≤◌, ℕ, Bool, true, false, ◌||◌, is_some, length, List, Option, Some, None, Ok, Err, slice_set}
+use Rattle.std.specs.Prelude.{◌≡◌, ◌≤◌, ℕ, Bool, true, false, ◌||◌, is_some, length, List, Option, Some, None, option_map, Ok, Err, slice_set}
+use Rattle.pp_objects.specs.declared.id.ObjectId.{ObjectId}
 use Rattle.pp_reply.specs.Texts.{has_page}
 use Rattle.pp_target.specs.Key.{text_of}
 use Rattle.pp_world.specs.Log.{Appends, Log}
@@ -8,25 +9,26 @@ use Rattle.pp_world.specs.declared.note.Decision.{Decision}
 use Rattle.pp_world.specs.declared.note.Decision.TheVariants.{Refuse, Hit, Part, Head, NotModified, Unsatisfiable, Relay, Validate, Fetch, Pass}
 use Rattle.pp_world.specs.declared.note.Remark.TheVariants.{Taken}
 use Rattle.pp_law.specs.Connections.{client}
-use Rattle.pp_law.specs.Deciding.{enter_row, is_for_memory, is_pass}
+use Rattle.pp_law.specs.Deciding.{enter_row, is_for_memory, is_pass, span_of}
 use Rattle.pp_law.specs.Decisions.{kind_of}
 use Rattle.pp_law.specs.Lists.{Bytes, is_some_with}
 use Rattle.pp_law.specs.Permits.{may_take}
 use Rattle.pp_law.specs.Phases.{decides, in_phase}
 use Rattle.pp_law.specs.Replies.{regained}
-use Rattle.pp_law.specs.Requests.{parsed_in}
+use Rattle.pp_law.specs.Requests.{key_in, parsed_in}
 use Rattle.pp_law.specs.State.{State, Client, Deciding}
-use Rattle.pp_law.specs.Table.{row_for}
+use Rattle.pp_law.specs.Table.{row, row_for}
 use Rattle.pp_obeys.specs.Obeys.{Keeps}
 use Rattle.pp_seats.specs.declared.account.Account.{Account}
 use Rattle.pp_seats.specs.declared.seat.Seat.{Seat}
 use Rattle.pp_seats.specs.Courses.{has_begun}
-use Rattle.pp_seats.specs.Decided.{asking, expects_in, page_for, paged, with_interim}
+use Rattle.pp_seats.specs.Decided.{answering, asking, expects_in, page_for, paged, with_interim}
 use Rattle.pp_seats.specs.Dues.{is_refused_in}
 use Rattle.pp_seats.specs.Heads.{asked_in}
 use Rattle.pp_seats.specs.Seats.{is_undecided_in}
 use Rattle.pp_seats_law.specs.Clients.{AreShown}
 use Rattle.pp_seats_law.specs.Decided.{expects_of}
+use Rattle.pp_seats_law.specs.Replies.{number_of}
 use Rattle.pp_clients_obey.specs.Hearing.{Sits}
 
 -- decisions are taken, this one may be, and the seats show the clients; its interim answer is expected as the law has it, which is so
@@ -83,3 +85,33 @@ pub record IsToAsk (owed : List Bytes) (n index : ℕ) (d : Decision) (seat : Se
 abbrev pub AsksKeep : Type 0
 AsksKeep = (old new : Option Log) (before now n i index : ℕ) (d : Decision) (owed : List Bytes) (seats : List Seat) (seat : Seat) → Appends old new (λ l. Noted (Taken n index d)) → before ≤ now → Sits n i seats seat → IsOpen seat
     → is_ask d ≡ true → is_refused_in seat.brought ≡ false → Keeps old new before now (IsToAsk owed n index d seat seats) (WasTaken owed (slice_set seats i (asking (is_pass d) (with_interim seat))))
+
+-- ---- a reply by the row, or by the response that is passed
+
+abbrev pub is_by_row : Decision → Bool
+is_by_row (Refuse status) = false
+is_by_row (Hit from to) = true
+is_by_row (Part from to) = true
+is_by_row Head = true
+is_by_row NotModified = true
+is_by_row Unsatisfiable = true
+is_by_row Relay = false
+is_by_row Validate = false
+is_by_row Fetch = false
+is_by_row Pass = false
+
+-- the row of its key
+abbrev pub row_of_key : State → Client → Option ℕ
+row_of_key s c = elim (key_in c.front) [ None ↦ None | Some key ↦ option_map (λ x. x.id) (row s (text_of key)) ]
+
+pub record IsToFollow (owed : List Bytes) (n index : ℕ) (d : Decision) (id : ObjectId) (seat : Seat) (seats : List Seat) (s : State) : Type 0 where
+  pub take : IsToTake owed n index d seat seats s
+  pub known : (c : Client) → client s n ≡ Some c → row_of_key (enter_row c d (in_phase Deciding s)) c ≡ Some (number_of id)
+
+abbrev pub FollowsKeep : Type 0
+FollowsKeep = (old new : Option Log) (before now n i index : ℕ) (d : Decision) (id : ObjectId) (owed : List Bytes) (seats : List Seat) (seat : Seat) → Appends old new (λ l. Noted (Taken n index d)) → before ≤ now → Sits n i seats seat → IsOpen seat
+    → is_by_row d ≡ true → is_refused_in seat.brought ≡ false → Keeps old new before now (IsToFollow owed n index d id seat seats) (WasTaken owed (slice_set seats i (answering d (Some id) (span_of d) (with_interim seat))))
+
+abbrev pub RelaysKeep : Type 0
+RelaysKeep = (old new : Option Log) (before now n i index : ℕ) (owed : List Bytes) (seats : List Seat) (seat : Seat) → Appends old new (λ l. Noted (Taken n index Relay)) → before ≤ now → Sits n i seats seat → IsOpen seat
+    → is_refused_in seat.brought ≡ false → Keeps old new before now (IsToTake owed n index Relay seat seats) (WasTaken owed (slice_set seats i (answering Relay None (0, 0) (with_interim seat))))
