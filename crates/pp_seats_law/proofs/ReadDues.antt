@@ -1,11 +1,11 @@
 -- What is due of a seat, as a turn reads it, is what is due of its client.
-use Rattle.std.proofs.Common.{◌≡◌, refl, sym, ap, ap₂, ◌∙◌, ℕ, Bool, true, false, not, ◌&&◌, ◌||◌, is_some, List, [], Option, Some, None, option_map}
+use Rattle.std.proofs.Common.{◌≡◌, refl, sym, ap, ap₂, ◌∙◌, ℕ, Bool, true, false, not, ◌&&◌, ◌||◌, is_some, List, [], ◌∷◌, Option, Some, None, option_map}
 use Rattle.pp_world.specs.declared.note.Cause.{Cause}
 use Rattle.pp_world.specs.declared.note.Decision.{Decision}
 use Rattle.pp_world.specs.declared.note.Decision.TheVariants.{Refuse}
 use Rattle.pp_law.specs.Decisions.{decide}
-use Rattle.pp_law.specs.Due.{due_of, is_superseded}
-use Rattle.pp_law.specs.Lists.{Bytes}
+use Rattle.pp_law.specs.Due.{Due, due_of, is_superseded}
+use Rattle.pp_law.specs.Lists.{Bytes, first_some}
 use Rattle.pp_law.specs.Offers.{has_to_say}
 use Rattle.pp_law.specs.Sharing.{due_undecided, shared_ask}
 use Rattle.pp_law.specs.State.{State, Client}
@@ -19,7 +19,7 @@ use Rattle.pp_seats.specs.Courses.{has_begun, is_trying_in}
 use Rattle.pp_seats.specs.Dues.{again_in, by_stage_in, decision_in, due_in, give_up_in, is_idle_in, is_read_in, is_refused_in, is_short_in, lost_in, may_share as may_share_in, undecided_in}
 use Rattle.pp_seats.specs.Follows.{answer_in}
 use Rattle.pp_seats.specs.Seats.{is_told_in, is_undecided_in}
-use Rattle.pp_seats_law.specs.Dues.{DueAsReadIsTheLaws, asked_read, cut_if_open, cut_of, cut_read, decision_read, due_as, due_read, dry_read, has_lost_its_row, has_source_standing, if_so, undecided_read, waits_on_still}
+use Rattle.pp_seats_law.specs.Dues.{AreDue, DueAsReadIsTheLaws, FirstDueIsTheLaws, asked_read, cut_if_open, cut_of, cut_read, decision_read, due_as, due_read, dry_read, has_lost_its_row, has_source_standing, if_so, undecided_read, waits_on_still}
 use Rattle.pp_seats_law.specs.Seats.{ShowsOpen, ShowsSeat}
 use Rattle.pp_seats_law.proofs.Dues.{cause_by, dues, lost, sharing}
 
@@ -109,3 +109,14 @@ dues_as_read s name seat c shows =
     ∙ open_so seat.is_closing c.is_closing s.is_stopped (cut_read s seat c) (cut_of s seat c) (decision_read s seat c) (decision_in seat (has_lost_its_row s c) (due_undecided s c) (decide s c)) shows.closing
     (λ going. same_cut s seat c) (λ going. same_decision s name seat c (shows.going going)))
     ∙ dues s name seat c shows
+
+-- ---- which comes first
+
+first_same : (s : State) (due : Seat → Option SeatDue) (seats : List Seat) (cs : List Client) → AreDue s due seats cs → first_some (λ (seat : Seat). option_map (due_as seat.client.id seat.index) (due seat)) seats ≡ first_some (due_of s) cs
+first_same s due [] [] same = refl
+first_same s due [] (c ∷ cs) same = absurd same
+first_same s due (seat ∷ seats) [] same = absurd same
+first_same s due (seat ∷ seats) (c ∷ cs) same = ap₂ (λ (o r : Option Due). elim o as (λ x. Option Due) [ Some y ↦ Some y | None ↦ r ]) same.0 (first_same s due seats cs same.1)
+
+pub first_dues : FirstDueIsTheLaws
+first_dues s due seats same = first_same s due seats s.clients same

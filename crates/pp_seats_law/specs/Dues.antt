@@ -1,13 +1,13 @@
 -- What is due of a seat is what is due of its client (RFC 2616, section 8.1; the order is ours). What the table, the exchanges and
 -- the row of its key tell of it stands as the law says it.
-use Rattle.std.specs.Prelude.{◌≡◌, ◌⊎◌, ℕ, Bool, true, false, ◌&&◌, ◌||◌, not, List, [], is_some, Option, Some, None, option_map}
+use Rattle.std.specs.Prelude.{◌≡◌, ◌⊎◌, ℕ, Bool, true, false, ◌&&◌, ◌||◌, not, List, [], ◌∷◌, is_some, Option, Some, None, option_map, ⊤}
 use Rattle.pp_objects.specs.declared.id.ObjectId.{ObjectId}
 use Rattle.pp_target.specs.Key.{Key, key_in}
 use Rattle.pp_world.specs.declared.note.Cause.{Cause}
 use Rattle.pp_world.specs.declared.note.Decision.TheVariants.{Refuse}
 use Rattle.pp_law.specs.Decisions.{begun_now, decide, decide_for}
-use Rattle.pp_law.specs.Due.{Due, Decide, CutOff, cut_in, due_by_stage, due_of, has_lost_row, is_superseded, still_waits}
-use Rattle.pp_law.specs.Lists.{Bytes, is_some_with}
+use Rattle.pp_law.specs.Due.{Due, Decide, CutOff, cut_in, due_by_stage, due_of, first_due, has_lost_row, is_superseded, still_waits}
+use Rattle.pp_law.specs.Lists.{Bytes, first_some, is_some_with}
 use Rattle.pp_law.specs.Offers.{has_to_say}
 use Rattle.pp_law.specs.Replies.{is_finished}
 use Rattle.pp_law.specs.Requests.{IsRequest, Parsed}
@@ -151,3 +151,14 @@ due_read s seat c =
 
 abbrev pub DueAsReadIsTheLaws : Type 0
 DueAsReadIsTheLaws = (s : State) (name : Bytes) (seat : Seat) (c : Client) → ShowsSeat name [] seat c → option_map (due_as seat.client.id seat.index) (due_read s seat c) ≡ due_of s c
+
+-- ---- which comes first
+
+-- what is due of each seat is what is due of its client
+abbrev pub AreDue : State → (Seat → Option SeatDue) → List Seat → List Client → Type 0
+AreDue s due [] [] = ⊤
+AreDue s due (seat ∷ seats) (c ∷ cs) = (option_map (due_as seat.client.id seat.index) (due seat) ≡ due_of s c) × AreDue s due seats cs
+AreDue s due seats cs = ⊥
+
+abbrev pub FirstDueIsTheLaws : Type 0
+FirstDueIsTheLaws = (s : State) (due : Seat → Option SeatDue) (seats : List Seat) → AreDue s due seats s.clients → first_some (λ seat. option_map (due_as seat.client.id seat.index) (due seat)) seats ≡ first_due s
