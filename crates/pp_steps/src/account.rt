@@ -1,7 +1,7 @@
 // What the operator's log is told of decisions and of what exchanges brought (ours).
 ghost use Rattle.std.specs.Prelude.{◌≡◌};
 ghost use Rattle.pp_seats.specs.Accounts.{decided};
-ghost use Rattle.pp_steps.specs.Accounts.{accounts_at, head_len_in};
+ghost use Rattle.pp_steps.specs.Accounts.{accounts_at};
 
 use crate::state::State;
 use pp_flow::{Aim, Exchange};
@@ -38,16 +38,4 @@ impl State {
             seat.account.bring(source);
         }
     }
-}
-
-/// Bytes of the head at the front of this text, through the empty line that ends it.
-pub(crate) fn head_in(text: &[u8]) -> usize
-    ensures { result ≡ head_len_in text.now }
-{
-    for at in 0..text.len() {
-        if text[at..].starts_with(b"\r\n\r\n") {
-            return at + 4;
-        }
-    }
-    text.len()
 }

@@ -4,7 +4,7 @@ use Rattle.std.proofs.Math.Seq.{drop-cons}
 use Rattle.std.proofs.lemmas.Bool.{false≢true}
 use Rattle.std.proofs.lemmas.List.{drop_all}
 use Rattle.std.specs.List.{starts_with}
-use Rattle.pp_steps.specs.Accounts.{head_len_in}
+use Rattle.pp_seats.specs.Accounts.{head_len_in}
 
 abbrev pub ends : List ℕ → Bool
 ends text = starts_with nat_eq text (13 ∷ 10 ∷ 13 ∷ 10 ∷ [])

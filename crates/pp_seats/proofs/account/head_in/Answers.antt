@@ -1,7 +1,7 @@
 use Rattle.std.proofs.Common.{◌≡◌, ap, sym, ◌∙◌}
 use Rattle.std.proofs.lemmas.List.{take_rest}
-use Rattle.pp_steps.proofs.HeadLens.{all_passed, ends, ends_here, goes_on}
-use Rattle.pp_steps.proofs.account.head_in.Goals as goal
+use Rattle.pp_seats.proofs.HeadLens.{all_passed, ends, ends_here, goes_on}
+use Rattle.pp_seats.proofs.account.head_in.Goals as goal
 
 pub returns-then-starts_with : goal.returns-then-starts_with
 returns-then-starts_with c = ends_here c.loop-at.at c.args.text.now c.loop-at.invariant (ap ends (sym (take_rest c.args.text.now c.loop-at.at)) ∙ (sym c.starts_with.ensures.value ∙ c.if-starts_with.true))
