@@ -1,5 +1,5 @@
 -- One step more of what is drawn and put together step by step.
-use Rattle.std.proofs.Common.{◌≡◌, ℕ, ◌+◌, ◌%◌, List, [], ◌∷◌, ◌++◌, slice_index, add-one, refl}
+use Rattle.std.proofs.Common.{◌≡◌, ℕ, ◌+◌, ◌*◌, ◌%◌, ◌^◌, List, [], ◌∷◌, ◌++◌, slice_index, add-one, refl}
 use Rattle.std.proofs.Math.Nat.{mod-add-mod}
 use Rattle.pp_memworld.specs.declared.script.Cue.{Cue}
 use Rattle.pp_memworld.specs.declared.script.Cue.TheVariants.{Connect, Say}
@@ -8,6 +8,10 @@ use Rattle.pp_demo.specs.Generator.{next_state, state_behind, value_in}
 use Rattle.pp_demo.specs.Pages.{last_offsets, page_of, pages_up_to}
 use Rattle.pp_demo.specs.Asking.{behind_client, behind_clients, cues_of_clients, request_of, request_text}
 use Rattle.pp_demo.specs.Script.{begin_of}
+
+pub next_by : (state : ℕ) → ((state * 6364136223846793005) % 2 ^ 64 + 1442695040888963407) % 2 ^ 64 ≡ next_state state
+unfolding next_state
+next_by state = mod-add-mod (state * 6364136223846793005) (2 ^ 64) 1442695040888963407
 
 pub state_behind-none : (state : ℕ) → state_behind 0 state ≡ state
 unfolding state_behind
@@ -64,8 +68,6 @@ begin_of-none state = refl
 pub begin_of-more : (life state : ℕ) → begin_of (life + 1) state ≡ next_state (next_state (behind_clients 40 (begin_of life state)))
 unfolding begin_of
 begin_of-more life state = rw add-one refl
-
-pub ruleset moduli = (mod-add-mod)
 
 pub ruleset values = (state_behind-none, state_behind-one, state_behind-two, state_behind-more)
 

@@ -62,9 +62,8 @@ fn next_life(
     let script = demo_script(alloc, seed, life)?;
     let (lost, choice) = demo_crash(seed, life - 1);
     let at = crash_place(log_of(before)?, lost);
-    let crashed = before.crash(alloc, at, choice, script, Vec::new(alloc))?;
-    let Some(world) = crashed else {
-        return Err(OutOfMemory);
+    let Some(world) = before.crash(alloc, at, choice, script, Vec::new(alloc))? else {
+        unreachable!();
     };
     live(alloc, conf, boxed(alloc, world)?)
 }
@@ -75,7 +74,8 @@ fn live(alloc: Global, conf: &Conf, mut world: Box<MemWorld>) -> Result<Box<MemW
 {
     match open(alloc, conf, &mut *world) {
         Exit::NoMemory => Err(OutOfMemory),
-        Exit::Served | Exit::Usage | Exit::NoDisk | Exit::NoListener | Exit::NoConfig => Ok(world),
+        Exit::Served | Exit::NoDisk | Exit::NoListener => Ok(world),
+        Exit::Usage | Exit::NoConfig => unreachable!(),
     }
 }
 
