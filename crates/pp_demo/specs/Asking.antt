@@ -45,8 +45,11 @@ range_line (Between a b) = codes "Range: bytes=" ++ decimal a ++ codes "-" ++ de
 abbrev pub request_text : Request → List ℕ
 request_text r = codes "GET http://demo/" ++ decimal r.page ++ codes " HTTP/1.1\r\nHost: demo\r\n" ++ range_line r.range ++ codes "\r\n"
 
+-- a client connects, and says its request
+unfoldable pub cues_of_client : List ℕ → ℕ → List Cue
+cues_of_client last_offsets state = Connect ∷ Say 0 (request_text (request_of last_offsets state)) ∷ []
+
 -- so many clients
 unfoldable pub cues_of_clients : ℕ → List ℕ → ℕ → List Cue
 cues_of_clients zero last_offsets state = []
-cues_of_clients (suc n) last_offsets state =
-    cues_of_clients n last_offsets state ++ Connect ∷ Say 0 (request_text (request_of last_offsets (behind_clients n state))) ∷ []
+cues_of_clients (suc n) last_offsets state = cues_of_clients n last_offsets state ++ cues_of_client last_offsets (behind_clients n state)

@@ -1,6 +1,6 @@
 // What the clients ask for.
 ghost use Rattle.std.specs.Prelude.{◌≡◌, ◌<◌, ◌≤◌, ◌^◌, ◌++◌, IfOk, OnOk, decimal};
-ghost use Rattle.pp_demo.specs.Asking.{behind_client, behind_clients, cues_of_clients, range_behind, range_line, request_of, request_text};
+ghost use Rattle.pp_demo.specs.Asking.{behind_client, behind_clients, cues_of_client, cues_of_clients, range_behind, range_line, request_of, request_text};
 ghost use Rattle.pp_demo.specs.Generator.{state_behind};
 
 use crate::generator::Generator;
@@ -87,8 +87,7 @@ pub(crate) fn skip_clients(generator: &mut Generator)
     }
 }
 
-/// Adds the cues of the clients of a life: each connects, and says its request.
-#[tactic(auto, using(crate::proofs::Steps::cues))]
+/// Adds the cues of the clients of a life.
 pub(crate) fn put_clients(
     alloc: Global,
     generator: &mut Generator,
@@ -98,11 +97,26 @@ pub(crate) fn put_clients(
     ensures { OnOk result (cues.new.items ≡ cues.old.items ++ cues_of_clients 40 last_offsets.now generator.old.state) }
 {
     for _client in 0..CLIENTS {
-        let request = draw_request(generator, last_offsets);
-        let text = text_of(alloc, request)?;
-        cues.push(Cue::Connect).map_err(AllocError::from)?;
-        cues.push(Cue::Say(0, text)).map_err(AllocError::from)?;
+        put_client(alloc, generator, last_offsets, cues)?;
     }
+    Ok(())
+}
+
+/// Adds the cues of a client: it connects, and says its request.
+#[tactic(auto, unfolding(crate::specs::Asking::cues_of_client))]
+fn put_client(
+    alloc: Global,
+    generator: &mut Generator,
+    last_offsets: &LastOffsets,
+    cues: &mut Vec<Cue>,
+) -> Result<(), OutOfMemory>
+    ensures state { generator.new.state ≡ behind_client generator.old.state }
+    ensures cues { OnOk result (cues.new.items ≡ cues.old.items ++ cues_of_client last_offsets.now generator.old.state) }
+{
+    let request = draw_request(generator, last_offsets);
+    let text = text_of(alloc, request)?;
+    cues.push(Cue::Connect).map_err(AllocError::from)?;
+    cues.push(Cue::Say(0, text)).map_err(AllocError::from)?;
     Ok(())
 }
 
