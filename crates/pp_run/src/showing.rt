@@ -44,8 +44,12 @@ pub fn demo(alloc: Global, seed: u64) -> Result<Shown, OutOfMemory>
 #[tactic(auto, using(pp_shelf::proofs::OpeningLemmas::fresh_first))]
 fn first_life(alloc: Global, seed: u64, conf: &Conf) -> Result<Box<MemWorld>, OutOfMemory> {
     let script = demo_script(alloc, seed, 0)?;
-    let world = MemWorld::new(alloc, script, Image::new(alloc), Vec::new(alloc))?;
-    live(alloc, conf, boxed(alloc, world)?)
+    let mut world = boxed(
+        alloc,
+        MemWorld::new(alloc, script, Image::new(alloc), Vec::new(alloc))?,
+    )?;
+    live(alloc, conf, &mut *world)?;
+    Ok(world)
 }
 
 /// The life of this number, behind a crash of the one before.
@@ -62,20 +66,22 @@ fn next_life(
     let script = demo_script(alloc, seed, life)?;
     let (lost, choice) = demo_crash(seed, life - 1);
     let at = crash_place(log_of(before)?, lost);
-    let Some(world) = before.crash(alloc, at, choice, script, Vec::new(alloc))? else {
-        unreachable!();
+    let crashed = before.crash(alloc, at, choice, script, Vec::new(alloc))?;
+    let Some(next) = crashed else {
+        return Err(OutOfMemory);
     };
-    live(alloc, conf, boxed(alloc, world)?)
+    let mut world = boxed(alloc, next)?;
+    live(alloc, conf, &mut *world)?;
+    Ok(world)
 }
 
 /// Serves to the end of the world's script.
-fn live(alloc: Global, conf: &Conf, mut world: Box<MemWorld>) -> Result<Box<MemWorld>, OutOfMemory>
-    requires { Told (told_log world.value) (λ l. (files : Files) × IsFresh files l) }
+fn live(alloc: Global, conf: &Conf, world: &mut MemWorld) -> Result<(), OutOfMemory>
+    requires { Told (told_log world.old) (λ l. (files : Files) × IsFresh files l) }
 {
-    match open(alloc, conf, &mut *world) {
+    match open(alloc, conf, world) {
         Exit::NoMemory => Err(OutOfMemory),
-        Exit::Served | Exit::NoDisk | Exit::NoListener => Ok(world),
-        Exit::Usage | Exit::NoConfig => unreachable!(),
+        Exit::Served | Exit::Usage | Exit::NoDisk | Exit::NoListener | Exit::NoConfig => Ok(()),
     }
 }
 
