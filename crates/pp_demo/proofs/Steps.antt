@@ -1,11 +1,13 @@
 -- One step more of what is drawn and put together step by step.
-use Rattle.std.proofs.Common.{◌≡◌, ℕ, ◌+◌, ◌*◌, ◌%◌, ◌^◌, List, [], ◌∷◌, ◌++◌, slice_index, add-one, ap, refl}
+use Rattle.std.proofs.Common.{◌≡◌, ℕ, ◌+◌, ◌*◌, ◌%◌, ◌^◌, List, [], ◌∷◌, ◌++◌, slice_index, add-one, ap, append_assoc, refl, sym}
 use Rattle.std.proofs.Math.Nat.{mod-add-mod}
+use Rattle.std.proofs.lemmas.Grind.{common_steps}
 use Rattle.pp_memworld.specs.declared.script.Cue.{Cue}
+use Rattle.pp_memworld.specs.declared.script.Cue.TheVariants.{Connect, Say}
 use Rattle.pp_memworld.specs.declared.script.Page.{Page}
 use Rattle.pp_demo.specs.Generator.{next_state, state_behind, value_in}
 use Rattle.pp_demo.specs.Pages.{byte_at, bytes_up_to, last_offsets, page_of, pages_up_to}
-use Rattle.pp_demo.specs.Asking.{behind_client, behind_clients, cues_of_client, cues_of_clients}
+use Rattle.pp_demo.specs.Asking.{behind_client, behind_clients, cues_of_client, cues_of_clients, request_of, request_text}
 use Rattle.pp_demo.specs.Script.{begin_of}
 
 pub next_by : (state : ℕ) → ((state * 6364136223846793005) % 2 ^ 64 + 1442695040888963407) % 2 ^ 64 ≡ next_state state
@@ -68,6 +70,10 @@ pub cues_of_clients-more : (n : ℕ) (last : List ℕ) (state : ℕ) → cues_of
 unfolding cues_of_clients
 cues_of_clients-more n last state = rw add-one refl
 
+pub client_put : (before : List Cue) (last : List ℕ) (state : ℕ) → before ++ cues_of_client last state ≡ (before ++ Connect ∷ []) ++ Say 0 (request_text (request_of last state)) ∷ []
+unfolding cues_of_client
+client_put before last state = sym (append_assoc before (Connect ∷ []) (Say 0 (request_text (request_of last state)) ∷ []))
+
 pub begin_of-none : (state : ℕ) → begin_of 0 state ≡ state
 unfolding begin_of
 begin_of-none state = refl
@@ -78,7 +84,7 @@ begin_of-more life state = rw add-one refl
 
 pub ruleset values = (state_behind-none, state_behind-one, state_behind-two, state_behind-more)
 
-pub ruleset lengths = (state_behind-none, state_behind-more, last_offsets-none, last_offsets-more)
+pub ruleset lengths = (common_steps, state_behind-none, state_behind-more, last_offsets-none, last_offsets-more)
 
 pub ruleset bytes = (bytes_up_to-none, bytes_up_to-more)
 

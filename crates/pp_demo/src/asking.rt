@@ -103,7 +103,7 @@ pub(crate) fn put_clients(
 }
 
 /// Adds the cues of a client: it connects, and says its request.
-#[tactic(auto, unfolding(crate::specs::Asking::cues_of_client))]
+#[tactic(auto, using(crate::proofs::Steps::client_put))]
 fn put_client(
     alloc: Global,
     generator: &mut Generator,
