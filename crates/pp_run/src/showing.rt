@@ -35,9 +35,9 @@ pub fn demo(alloc: Global, seed: u64) -> Result<Shown, OutOfMemory>
     };
     let mut world = first_life(alloc, seed, &conf)?;
     for life in 1..LIVES {
-        world = next_life(alloc, seed, life, &conf, &world)?;
+        world = next_life(alloc, seed, life, &conf, &*world)?;
     }
-    let summary = summary_of(log_of(&world)?);
+    let summary = summary_of(log_of(&*world)?);
     Ok(Shown { world, summary })
 }
 
