@@ -1,8 +1,7 @@
 // Requests that are none, or have just the form that they may have. More of them stand in the refusals of `pp_exchanges`.
 use crate::filled::{Filled, text_of};
 use pp_play::{
-    Act, Exchange, PAGE_400, PAGE_431, Pace, Part, REPLY, RESPONSE, Step, T, Wanted, unlike,
-    unlike_at,
+    Act, Exchange, PAGE_400, PAGE_431, Pace, Part, REPLY, RESPONSE, Step, T, Wanted, play, unlike,
 };
 use pp_text::OutOfMemory;
 use pp_world::Decision;
@@ -64,12 +63,13 @@ fn a_request_is_one_or_gets_a_page(rt: HostRuntime) -> Result<(), Fail> {
     Ok(())
 }
 
-/// A request, what its origin is asked, and what else is wanted.
+/// A request, what its origin is asked, what its client is said, and the course of that.
 struct Head {
     name: &'static str,
     request: Filled,
     ask: Filled,
-    wanted: &'static [Wanted<'static>],
+    said: &'static [u8],
+    course: &'static [Step],
 }
 
 /// The front of a head: 67 bytes.
@@ -81,11 +81,12 @@ const NOT_ASKED: Filled = Filled {
     end: b"",
 };
 
-const TOO_LONG: &[Wanted<'static>] = &[
-    Wanted::Said(1, &[Part::Text(PAGE_431)]),
-    Wanted::Taken(1, Decision::Refuse(431)),
-    Wanted::Shut(1),
-    Wanted::Count(Step::Dialled(80), 0),
+const TOO_LONG: &[Step] = &[
+    Step::Opened,
+    Step::Taken(0, Decision::Refuse(431)),
+    Step::Said(149),
+    Step::Shut,
+    Step::Stopped,
 ];
 
 const HEADS: &[Head] = &[
@@ -101,7 +102,15 @@ const HEADS: &[Head] = &[
             count: 16_313,
             end: b"\r\nvia: 1.1 polipo\r\n\r\n",
         },
-        wanted: &[Wanted::Said(1, &[Part::Text(REPLY)])],
+        said: REPLY,
+        course: &[
+            Step::Opened,
+            Step::Taken(0, Decision::Fetch),
+            Step::Taken(0, Decision::Hit(0, 5)),
+            Step::Said(159),
+            Step::Stopped,
+            Step::Shut,
+        ],
     },
     Head {
         name: "a byte more gets a page",
@@ -111,7 +120,8 @@ const HEADS: &[Head] = &[
             end: b"\r\n\r\n",
         },
         ask: NOT_ASKED,
-        wanted: TOO_LONG,
+        said: PAGE_431,
+        course: TOO_LONG,
     },
     Head {
         name: "16,384 bytes without an end get a page",
@@ -121,60 +131,55 @@ const HEADS: &[Head] = &[
             end: b"",
         },
         ask: NOT_ASKED,
-        wanted: TOO_LONG,
+        said: PAGE_431,
+        course: TOO_LONG,
     },
     Head {
-        name: "and with a byte less the end is waited for",
+        name: "with a byte less the end is waited for",
         request: Filled {
             front: FRONT,
             count: 16_316,
             end: b"",
         },
         ask: NOT_ASKED,
-        wanted: &[Wanted::Course(1, &[Step::Opened, Step::Stopped, Step::Shut])],
+        said: b"",
+        course: &[Step::Opened, Step::Stopped, Step::Shut],
     },
 ];
 
 /// Where one of these goes otherwise: nothing is said where none does.
 fn unlike_heads(alloc: Global, heads: &[Head]) -> Result<String, OutOfMemory> {
     for head in heads {
-        let request = text_of(alloc, &head.request)?;
-        let ask = text_of(alloc, &head.ask)?;
-        let said = unlike_head(alloc, head, request.as_slice(), &[ask.as_slice()])?;
-        if !said.is_empty() {
-            return Ok(said);
+        let part = first_unlike(alloc, head)?;
+        if !part.is_empty() {
+            return Ok(format!(in alloc; "{}: {part}", head.name)?);
         }
     }
     Ok(String::new(alloc))
 }
 
-fn unlike_head(
-    alloc: Global,
-    head: &Head,
-    request: &[u8],
-    asks: &[&[u8]],
-) -> Result<String, OutOfMemory> {
+/// What goes otherwise, or nothing.
+fn first_unlike(alloc: Global, head: &Head) -> Result<&'static str, OutOfMemory> {
+    let request = text_of(alloc, &head.request)?;
+    let ask = text_of(alloc, &head.ask)?;
     let acts = [
         Act::Tick(T),
         Act::Connect,
-        Act::Say(1, request),
+        Act::Say(1, request.as_slice()),
         Act::Reach(2),
         Act::Answer(2, RESPONSE),
     ];
-    let asked = [Wanted::Asked(2, asks)];
-    let exchanges = [
-        Exchange {
-            name: head.name,
-            acts: &acts,
-            wanted: head.wanted,
-        },
-        Exchange {
-            name: head.name,
-            acts: &acts,
-            wanted: &asked,
-        },
-    ];
-    unlike_at(alloc, Pace::Whole, &exchanges)
+    let played = play(alloc, Pace::Whole, &acts)?;
+    if played.asked(2)?.as_slice() != ask.as_slice() {
+        return Ok("what is asked");
+    }
+    if played.said(1)?.as_slice() != head.said {
+        return Ok("what is said");
+    }
+    if played.course(1)?.as_slice() != head.course {
+        return Ok("its course");
+    }
+    Ok("")
 }
 
 #[test]

@@ -86,9 +86,7 @@ const CHUNKS: &[Chunk] = &[
 /// Where one of these goes otherwise: nothing is said where none does.
 fn unlike_chunks(alloc: Global, chunks: &[Chunk]) -> Result<String, OutOfMemory> {
     for chunk in chunks {
-        let text = text_of(alloc, &chunk.text)?;
-        let whole = joined(alloc, &[CHUNKED, text.as_slice()])?;
-        let said = unlike_chunk(alloc, chunk, text.as_slice(), whole.as_slice())?;
+        let said = unlike_chunk(alloc, chunk)?;
         if !said.is_empty() {
             return Ok(said);
         }
@@ -96,38 +94,57 @@ fn unlike_chunks(alloc: Global, chunks: &[Chunk]) -> Result<String, OutOfMemory>
     Ok(String::new(alloc))
 }
 
-fn unlike_chunk(
+fn unlike_chunk(alloc: Global, chunk: &Chunk) -> Result<String, OutOfMemory> {
+    let text = text_of(alloc, &chunk.text)?;
+    let whole = joined(alloc, &[CHUNKED, text.as_slice()])?;
+    let said = unlike_behind(alloc, chunk.name, text.as_slice(), chunk.behind)?;
+    if !said.is_empty() {
+        return Ok(said);
+    }
+    unlike_within(alloc, chunk.name, whole.as_slice(), chunk.within)
+}
+
+/// The chunk comes in a turn behind the head.
+fn unlike_behind(
     alloc: Global,
-    chunk: &Chunk,
+    name: &'static str,
     text: &[u8],
-    whole: &[u8],
+    wanted: &'static [Wanted<'static>],
 ) -> Result<String, OutOfMemory> {
-    let behind = [
+    let acts = [
         Act::Connect,
         Act::Say(1, GET),
         Act::Reach(2),
         Act::Answer(2, CHUNKED),
         Act::Answer(2, text),
     ];
-    let within = [
+    let exchange = [Exchange {
+        name,
+        acts: &acts,
+        wanted,
+    }];
+    unlike_at(alloc, Pace::Whole, &exchange)
+}
+
+/// It comes in that of the head.
+fn unlike_within(
+    alloc: Global,
+    name: &'static str,
+    whole: &[u8],
+    wanted: &'static [Wanted<'static>],
+) -> Result<String, OutOfMemory> {
+    let acts = [
         Act::Connect,
         Act::Say(1, GET),
         Act::Reach(2),
         Act::Answer(2, whole),
     ];
-    let exchanges = [
-        Exchange {
-            name: chunk.name,
-            acts: &behind,
-            wanted: chunk.behind,
-        },
-        Exchange {
-            name: chunk.name,
-            acts: &within,
-            wanted: chunk.within,
-        },
-    ];
-    unlike_at(alloc, Pace::Whole, &exchanges)
+    let exchange = [Exchange {
+        name,
+        acts: &acts,
+        wanted,
+    }];
+    unlike_at(alloc, Pace::Whole, &exchange)
 }
 
 #[test]
