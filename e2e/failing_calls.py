@@ -20,7 +20,7 @@ import sys
 import tempfile
 
 from harness import Failed, case, environment, equal, holds, need, ran
-from keeping import entries, serve_whole
+from keeping import cache_of, entries, serve_whole
 from kills import CHUNK
 from origin import Answer, noise, response
 from world import BAD_GATEWAY, Client, page
@@ -178,7 +178,7 @@ def serve_while_calls_fail(world, choose=None):
             calls.fail_none()
             equal(script.judge(script.play(), f"behind {of_what}"), {"right": 8}, f"what is told {of_what}, once it is over")
         proxy.stop()
-        for name, entry in entries(proxy).items():
+        for name, entry in entries(cache_of(proxy)).items():
             equal(entry[1], script.bodies[name][: entry[0]], "what an entry vouches for")
         proxy.start()
     return f"{len(turns)} ways; {', '.join(f'{count} {what}' for what, count in told.items())}"

@@ -20,10 +20,10 @@ from folders import called, mounted, on_a_device_that_runs_out, small
 from harness import case, equal, holds, together
 from idling import has_news
 from keeping import (
-    FRESH, MOVED, ONLY_KEPT, TAG, asked_for, body_of, cache_of, entries, file_of, fresh, put_entry, random_load, serve_whole,
-    wait_for_extent,
+    FRESH, MOVED, TAG, asked_for, body_of, cache_of, entries, expect_kept, extent_of, file_of, fresh, put_entry, read_during,
+    serve_all, serve_whole, wait_for_extent,
 )
-from kills import GATES_AT, extent_in, kept_in
+from kills import GATES_AT
 from origin import Answer, noise, plain
 from words import USAGE
 from world import BAD_GATEWAY, Client, page, passed, reply
@@ -155,7 +155,7 @@ def memory_that_is_refused_while_it_serves_costs_a_refusal_or_a_client_and_no_by
         for client in seated:
             client.socket.close()
         bodies = {file_of(proxy, path).name: (len(body), body) for path, body in [*paths.items(), ("/hit", b"hello")]}
-        for name, entry in entries(proxy).items():
+        for name, entry in entries(cache_of(proxy)).items():
             equal(entry, bodies[name], "an entry in the folder")
         return f"{told['right']} right, {told['refused']} refused, {told['nothing']} turned away"
 
@@ -238,54 +238,6 @@ def with_few_handles_who_finds_none_is_told_502_or_waits_and_all_are_served_once
 
 # ---- a disk that fills up
 
-
-def read_by_many(proxy, bodies, seconds, seed, beside=()):
-    """Reads random bodies and parts for so long, beside other jobs, and sees that none is wrong and none missing."""
-    is_over = threading.Event()
-
-    def end():
-        try:
-            for job in beside:
-                job()
-            time.sleep(seconds)
-        finally:
-            is_over.set()
-
-    def reader(number):
-        def read():
-            random_load(proxy, bodies, random.Random(seed + number), is_over)
-
-        return read
-
-    equal(together([end, *map(reader, range(4))]), [], f"failures, with seed {seed}")
-
-
-def expect_found(proxy, bodies, folder):
-    """The stopped program's folder vouches for no wrong byte; started, it serves all that, and asks nobody for it. Answers how
-    much of each body there is."""
-    extents = {}
-    files = {path.name: kept_in(path) for path in folder.iterdir() if len(path.name) == 32}
-    for path, body in bodies.items():
-        extents[path], data = files.get(file_of(proxy, path).name, (0, b""))
-        equal(data, body[: extents[path]], f"what the folder vouches for of {path}")
-    proxy.start()
-    proxy.origin.clear()
-    for path, extent in extents.items():
-        if extent:
-            text = said(proxy, path, ONLY_KEPT, b"Range: bytes=0-%d" % (extent - 1))[0]
-            equal(body_of(text), bodies[path][:extent], f"the kept front of {path}")
-    equal([ask.path for ask in proxy.origin.asked if ask.path in bodies], [], "asks of the origin")
-    return extents
-
-
-def serve_all(proxy, lengths):
-    """The origin has bodies of these lengths."""
-    bodies = {f"/{number}": noise(length, 97 * number) for number, length in enumerate(lengths)}
-    for path, body in bodies.items():
-        serve_whole(proxy, path, body)
-    return bodies
-
-
 SIZES = [5, 4_096, 20_000, 65_537, 100_000, 200_000, 300_000, 400_000] * 3
 
 
@@ -293,33 +245,34 @@ SIZES = [5, 4_096, 20_000, 65_537, 100_000, 200_000, 300_000, 400_000] * 3
 def a_file_system_that_fills_up_under_load_is_seen_by_no_client(world):
     seed = random.randrange(1 << 32)
     with small("2m") as place, world.anew(f"diskCacheRoot={place}/cache", "diskRun=4") as proxy:
-        folder, other = pathlib.Path(place) / "cache", pathlib.Path(place) / "other"
-        bodies, whole = serve_all(proxy, SIZES), set()
+        other = pathlib.Path(place) / "other"
+        bodies = serve_all(proxy, SIZES)
+        whole = dict.fromkeys(bodies, 0)
 
         def fill_and_free():
             # another program takes what is left, and gives it back
             for _time in range(3):
                 time.sleep(0.4)
-                whole.update(path for path, body in bodies.items() if extent_in(folder / file_of(proxy, path).name) == len(body))
+                whole.update((path, len(body)) for path, body in bodies.items() if extent_of(proxy, path) == len(body))
                 with contextlib.suppress(OSError), open(other, "wb", buffering=0) as file:
                     while file.write(bytes(4_096)):
                         pass
                 time.sleep(0.2)
                 other.unlink()
+            time.sleep(0.5)
 
-        read_by_many(proxy, bodies, 0.5, seed, [fill_and_free])
+        read_during(fill_and_free, proxy, bodies, seed)
         proxy.stop()
-        extents = expect_found(proxy, bodies, folder)
+        holds(any(whole.values()), "bodies that were kept whole before the disk was full")
+        extents = expect_kept(proxy, bodies, whole)
         holds(0 < sum(extents.values()) < 2 * MB, f"some bytes that are kept, and not all ({sum(extents.values())})")
-        lost = [path for path in whole if extents[path] < len(bodies[path])]
-        holds(whole and not lost, f"what was kept whole before the disk was full, but {lost} of {len(whole)}")
         holds(called("mount", "-o", "remount,size=16m", place), "more room")
         # behind this start no name is closed
-        read_by_many(proxy, bodies, 0.5, seed)
+        read_during(lambda: time.sleep(0.5), proxy, bodies, seed)
         for path, body in bodies.items():
             equal(body_of(said(proxy, path)[0]), body, f"the body of {path}")
         deadline = time.monotonic() + 10
-        while any(extent_in(folder / file_of(proxy, path).name) < len(body) for path, body in bodies.items()):
+        while any(extent_of(proxy, path) < len(body) for path, body in bodies.items()):
             holds(time.monotonic() < deadline, "all in the folder, once there is room")
             time.sleep(0.05)
         return f"{sum(extents.values())} bytes kept of {sum(map(len, bodies.values()))}"
@@ -332,13 +285,13 @@ def a_device_whose_blocks_run_out_is_seen_by_no_client(world):
         root = pathlib.Path(folder) / "cache"
         with world.anew(f"diskCacheRoot={root}", "diskRun=4") as proxy:
             bodies = serve_all(proxy, SIZES * 2)
-            read_by_many(proxy, bodies, 2, seed)
+            read_during(lambda: time.sleep(2), proxy, bodies, seed)
             proxy.stop()
             # what the device took is all that counts from here on
             holds(called("umount", folder), "it is mounted no more")
             holds(called("mount", "-o", "remount,size=64m", below), "a device with room")
             with mounted("-o", "loop", os.path.join(below, "image")) as again:
-                files = [kept_in(path) for path in (pathlib.Path(again) / "cache").iterdir() if len(path.name) == 32]
+                files = entries(pathlib.Path(again) / "cache").values()
                 for extent, data in files:
                     holds(any(body.startswith(data) for body in bodies.values()), f"{extent} bytes of a body that was sent")
             proxy.words = ()

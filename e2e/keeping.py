@@ -34,16 +34,18 @@ def fresh(body, date):
 
 
 def cache_of(world):
-    return pathlib.Path(world.folder.name) / "polipo-cache"
+    """The folder of its cache, which a word may name."""
+    named = [word.removeprefix("diskCacheRoot=") for word in world.words if word.startswith("diskCacheRoot=")]
+    return pathlib.Path(world.folder.name) / (named or ["polipo-cache"])[-1]
 
 
 def file_of(world, path):
     return cache_of(world) / hashlib.md5(world.url(path).encode()).hexdigest()
 
 
-def entries(world):
-    """How much of each body the folder vouches for, and these bytes, by file name: read by the format alone."""
-    return {path.name: kept_in(path) for path in cache_of(world).iterdir() if len(path.name) == 32}
+def entries(folder):
+    """How much of each body a folder vouches for, and these bytes, by file name: read by the format alone."""
+    return {path.name: kept_in(path) for path in folder.iterdir() if len(path.name) == 32}
 
 
 def extent_of(world, path):
@@ -77,6 +79,14 @@ def serve_whole(world, path, body, **pace):
 
     world.origin.on(path, answer)
     return date
+
+
+def serve_all(world, lengths, **pace):
+    """The origin has a body of each of these lengths, at this pace."""
+    bodies = {f"/{number}": noise(length, 97 * number) for number, length in enumerate(lengths)}
+    for path, body in bodies.items():
+        serve_whole(world, path, body, **pace)
+    return bodies
 
 
 def asked_for(world, path):
@@ -229,14 +239,12 @@ def bodies_larger_than_memory_are_read_from_the_disk_by_many(world):
         equal(asked_for(proxy, "/a"), [], "asks of the origin")
 
 
-# ---- kills under load
-
-LENGTHS = [5, 4095, 4096, 4097, 20_000, 65_536, 100_000, 300_000, 1_000_000, 3_000_000]
+# ---- readers at random
 
 
-def random_load(world, bodies, choose, is_killed):
-    """Reads random bodies and parts until the program is killed, and sees that no byte is wrong, and until then none missing."""
-    while not is_killed.is_set():
+def random_load(world, bodies, choose, is_over):
+    """Reads random bodies and parts until it is over, and sees that no byte is wrong, and until then none missing."""
+    while not is_over.is_set():
         path = choose.choice(list(bodies))
         body = bodies[path]
         first = choose.randrange(len(body))
@@ -246,10 +254,40 @@ def random_load(world, bodies, choose, is_killed):
         try:
             came = body_of(said(world, path, *fields)[0])
         except OSError:
-            holds(is_killed.is_set(), f"a reply for {path} before the kill")
+            holds(is_over.is_set(), f"a reply for {path} before it is over")
             continue
         holds(wanted.startswith(came), f"a front of the bytes of {path} from {first} on in place of {came[:40]!r}..")
-        holds(came == wanted or is_killed.is_set(), f"the bytes of {path} from {first} on, whole before the kill")
+        holds(came == wanted or is_over.is_set(), f"the bytes of {path} from {first} on, whole before it is over")
+
+
+def readers(world, bodies, seed, is_over):
+    """Some that read at random until it is over."""
+
+    def reader(number):
+        def read():
+            random_load(world, bodies, random.Random(seed + number), is_over)
+
+        return read
+
+    return [reader(number) for number in range(4)]
+
+
+def read_during(job, world, bodies, seed):
+    """Some read at random while this is done; no byte is wrong, and none missing."""
+    is_over = threading.Event()
+
+    def to_its_end():
+        try:
+            job()
+        finally:
+            is_over.set()
+
+    equal(together([to_its_end, *readers(world, bodies, seed, is_over)]), [], f"failures, with seed {seed}")
+
+
+# ---- kills under load
+
+LENGTHS = [5, 4095, 4096, 4097, 20_000, 65_536, 100_000, 300_000, 1_000_000, 3_000_000]
 
 
 def watch_folder(world, extents, is_killed):
@@ -280,24 +318,17 @@ def kill_under_load(world, bodies, extents, choose):
     def watch():
         watch_folder(world, extents, is_killed)
 
-    def reader(seed):
-        def read():
-            random_load(world, bodies, random.Random(seed), is_killed)
-
-        return read
-
-    readers = [reader(choose.randrange(1 << 32)) for _ in range(4)]
-    equal(together([*readers, watch, kill]), [], "failures")
+    load = readers(world, bodies, choose.randrange(1 << 32), is_killed)
+    equal(together([*load, watch, kill]), [], "failures")
     return seen
 
 
 def expect_kept(world, bodies, seen):
     """The folder of the stopped program has what was seen in it, and no wrong byte; started, it serves that, and asks nobody for
     it. Answers how much of each body there is."""
-    extents = {}
+    kept, extents = entries(cache_of(world)), {}
     for path, body in bodies.items():
-        file = file_of(world, path)
-        extents[path], data = kept_in(file) if file.exists() else (0, b"")
+        extents[path], data = kept.get(file_of(world, path).name, (0, b""))
         equal(data, body[: extents[path]], f"what the folder vouches for of {path}")
         holds(extents[path] >= seen[path], f"{seen[path]} bytes of {path}, which were acknowledged, in place of {extents[path]}")
     world.start()
@@ -315,13 +346,11 @@ def expect_kept(world, bodies, seen):
 def what_was_acknowledged_outlives_kills_under_load_and_no_reply_has_a_wrong_byte(world):
     seed = random.randrange(1 << 32)
     choose = random.Random(seed)
-    bodies = {f"/{number}": noise(length, 97 * number) for number, length in enumerate(LENGTHS)}
     kills, growing, demanded, new_bytes = 0, 0, [], 0
     try:
         with world.anew("diskRun=4") as proxy:
-            for path, body in bodies.items():
-                # Slowly enough that a kill finds bodies that came in part, on the fastest disk too.
-                serve_whole(proxy, path, body, piece=50_000, pause=0.002)
+            # Slowly enough that a kill finds bodies that came in part, on the fastest disk too.
+            bodies = serve_all(proxy, LENGTHS, piece=50_000, pause=0.002)
             extents, deadline = dict.fromkeys(bodies, 0), time.monotonic() + KILLING_SECONDS
             while kills < KILLS and time.monotonic() < deadline:
                 if all(extents[path] == len(body) for path, body in bodies.items()):
@@ -470,7 +499,6 @@ def a_file_that_goes_away_is_seen_by_no_client(world):
 def a_disk_that_is_full_keeps_what_it_has_and_goes_on_where_there_is_room(world):
     bodies = {f"/{number}": noise(20_000, number) for number in range(20)}
     with small("256k") as place, world.anew(f"diskCacheRoot={place}/cache") as proxy:
-        folder = pathlib.Path(place) / "cache"
         for path, body in bodies.items():
             serve_whole(proxy, path, body)
             equal(body_of(said(proxy, path)[0]), body, f"the body of {path}")
@@ -485,10 +513,9 @@ def a_disk_that_is_full_keeps_what_it_has_and_goes_on_where_there_is_room(world)
         for path, body in bodies.items():
             serve_whole(proxy, path, body)
             equal(body_of(said(proxy, path)[0]), body, f"the body of {path}")
-        kept_now = {file.name: kept_in(file) for file in folder.iterdir() if len(file.name) == 32}
+        kept = entries(cache_of(proxy))
         for path, body in bodies.items():
-            name = hashlib.md5(proxy.url(path).encode()).hexdigest()
-            equal(kept_now.get(name), (len(body), body), f"the entry of {path}")
+            equal(kept.get(file_of(proxy, path).name), (len(body), body), f"the entry of {path}")
 
 
 @case
