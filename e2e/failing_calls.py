@@ -10,22 +10,19 @@ In the gate some calls fail, drawn at random. By itself it has each of them fail
 import collections
 import contextlib
 import hashlib
-import mmap
 import os
-import pathlib
 import random
 import re
 import struct
 import sys
-import tempfile
 
-from harness import Failed, case, environment, equal, holds, need, ran
+from harness import Failed, case, equal, holds
 from keeping import cache_of, entries, serve_whole
 from kills import CHUNK
 from origin import Answer, noise, response
+from shims import between, shared
 from world import BAD_GATEWAY, Client, page
 
-SHIM = pathlib.Path(__file__).resolve().parent / "failing.c"
 # In the order of the numbers in failing.c, from 1 on.
 CALLS = (
     "malloc realloc clock_gettime epoll_create1 epoll_wait epoll_ctl accept4 socket connect getsockopt setsockopt recv send shutdown "
@@ -50,9 +47,7 @@ class Calls:
     """The calls of a program: how often each was made, and which one is to fail."""
 
     def __init__(self, path):
-        path.write_bytes(bytes(CHUNK))
-        with open(path, "r+b") as file:
-            self._numbers = mmap.mmap(file.fileno(), CHUNK)
+        self._numbers = shared(path, CHUNK)
 
     def made(self, call):
         return struct.unpack_from("Q", self._numbers, 8 * (FIRST_COUNT + CALLS.index(call)))[0]
@@ -71,16 +66,9 @@ class Calls:
         self._numbers[:] = bytes(CHUNK)
 
 
-@contextlib.contextmanager
 def counted(world):
     """The program once more, whose calls are counted and may fail."""
-    need("cc")
-    with tempfile.TemporaryDirectory() as folder:
-        library, file = f"{folder}/failing.so", pathlib.Path(folder, "calls")
-        equal(ran(["cc", "-shared", "-fPIC", "-o", library, SHIM]).returncode, 0, "cc's status")
-        calls = Calls(file)
-        with world.anew("diskRun=2", environment=environment(LD_PRELOAD=library, CALLS_FILE=str(file))) as proxy:
-            yield proxy, calls
+    return between(world, "failing.c", "CALLS_FILE", Calls, "diskRun=2")
 
 
 def in_turn(before, after):
