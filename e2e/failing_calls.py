@@ -8,11 +8,9 @@ In the gate some calls fail, drawn at random. By itself it has each of them fail
 """
 
 import collections
-import contextlib
 import hashlib
 import os
 import random
-import re
 import struct
 import sys
 
@@ -21,7 +19,7 @@ from keeping import cache_of, entries, serve_whole
 from kills import CHUNK
 from origin import Answer, noise, response
 from shims import between, shared
-from world import BAD_GATEWAY, Client, page
+from world import BAD_GATEWAY, INTERNAL_ERROR, Client
 
 # In the order of the numbers in failing.c, from 1 on.
 CALLS = (
@@ -35,7 +33,6 @@ ENDS = {
     (4, b"polipo: cannot list the cache folder\n"),
     (7, b"polipo: no poller\n"),
 }
-REFUSED = page(b"500 Internal Server Error", b"keep-alive")
 SMALL, LONG = b"hello", 5 * CHUNK + 100
 # So many of each kind fail in the gate.
 DRAWN = 2
@@ -81,17 +78,6 @@ def in_turn(before, after):
 # ---- while it serves
 
 
-def reply_to(client, text):
-    """What a client hears that says this; less where it is closed before."""
-    heard = b""
-    with contextlib.suppress(ConnectionError):
-        client.say(text)
-        heard = re.sub(rb"\r\nage: \d+", b"", client.hear_until(b"\r\n\r\n"))
-        if length := re.search(rb"\r\ncontent-length: (\d+)\r\n", heard):
-            heard += client.hear(int(length[1]))
-    return heard
-
-
 class Script:
     """What some clients ask, each time under names of its own, and what is right."""
 
@@ -123,8 +109,8 @@ class Script:
         for _client in (1, 2):
             with Client(port=self.proxy.port) as client:
                 for name, text, body in self.asks():
-                    heard.append((name, reply_to(client, text), body))
-                    if not heard[-1][1].endswith((body, REFUSED, BAD_GATEWAY)):
+                    heard.append((name, client.reply_to(text), body))
+                    if not heard[-1][1].endswith((body, INTERNAL_ERROR, BAD_GATEWAY)):
                         break
         return heard
 
@@ -135,9 +121,9 @@ class Script:
         for path, text, body in heard:
             head, end, came = text.partition(b"\r\n\r\n")
             status = head[:12]
-            if text in (REFUSED, BAD_GATEWAY):
+            if text in (INTERNAL_ERROR, BAD_GATEWAY):
                 told["page"] += 1
-                holds(text == REFUSED or path == "a POST" or not is_reached, f"no 502 for {path}, {of_what}")
+                holds(text == INTERNAL_ERROR or path == "a POST" or not is_reached, f"no 502 for {path}, {of_what}")
             elif status in (b"HTTP/1.1 200", b"HTTP/1.1 206"):
                 holds((status[-3:] == b"206") == path.startswith("a part"), f"the status for {path}, {of_what}, in place of {head}")
                 equal(came, body[: len(came)], f"the body of {path}, {of_what}")

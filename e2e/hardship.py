@@ -26,10 +26,9 @@ from keeping import (
 from kills import GATES_AT
 from origin import Answer, noise, plain
 from words import USAGE
-from world import BAD_GATEWAY, Client, page, passed, reply
+from world import BAD_GATEWAY, INTERNAL_ERROR, Client, passed, reply
 
 NO_MEMORY = (3, b"polipo: out of memory\n")
-REFUSED = page(b"500 Internal Server Error", b"keep-alive")
 NOTHING = b""
 MB = 1 << 20
 
@@ -55,25 +54,6 @@ def is_loaded(proxy, limit):
     return (done.returncode, done.stderr) == (2, USAGE)
 
 
-def next_reply(client):
-    """The next reply, without its age; nothing where the client is closed before it."""
-    try:
-        head = re.sub(rb"\r\nage: \d+", b"", client.hear_until(b"\r\n\r\n"))
-        length = re.search(rb"\r\ncontent-length: (\d+)\r\n", head)
-        return head + client.hear(int(length[1])) if length else head
-    except ConnectionResetError:
-        return NOTHING
-
-
-def reply_of(proxy, client, path):
-    """What a client is told that asks for this; nothing where it is closed before."""
-    try:
-        client.say(proxy.request(path))
-    except OSError:
-        return NOTHING
-    return next_reply(client)
-
-
 @case
 def started_with_less_memory_it_serves_or_ends_with_a_line(world):
     with world.anew() as proxy:
@@ -93,9 +73,9 @@ def started_with_less_memory_it_serves_or_ends_with_a_line(world):
                 serves += 1
                 for number in range(8):
                     with Client(port=proxy.port) as client:
-                        heard = reply_of(proxy, client, f"/{number}")
+                        heard = client.reply_to(proxy.request(f"/{number}"))
                     is_right = heard.startswith(b"HTTP/1.1 200 ") and heard.endswith(b"\r\n\r\nhello")
-                    holds(is_right or heard in (REFUSED, NOTHING), f"5 bytes, a refusal or an end in place of {heard}")
+                    holds(is_right or heard in (INTERNAL_ERROR, NOTHING), f"5 bytes, a refusal or an end in place of {heard}")
                 equal((proxy.process.poll(), proxy.printed()), (None, b""), f"its end, and output, behind {limit}")
                 proxy.stop()
         proxy.start()
@@ -116,7 +96,7 @@ class Lack:
         return reply(body, b"etag: " + TAG, b"date: " + self.date, FRESH.lower())
 
     def count(self, heard, right, of_what):
-        told = "right" if heard == right else "refused" if heard == REFUSED else "nothing"
+        told = "right" if heard == right else "refused" if heard == INTERNAL_ERROR else "nothing"
         if told == "nothing":
             equal(heard, NOTHING, f"{of_what}, where it is neither right nor refused")
         self.told[told] += 1
@@ -132,16 +112,16 @@ def memory_that_is_refused_while_it_serves_costs_a_refusal_or_a_client_and_no_by
         hit = lack.serve("/hit", b"hello")
         seated = [Client(port=proxy.port) for _ in range(20)]
         for client in seated:
-            equal(reply_of(proxy, client, "/hit"), hit, "a reply before the lack")
+            equal(client.reply_to(proxy.request("/hit")), hit, "a reply before the lack")
 
         def ask_for_all():
             for number, (path, right) in enumerate(rights.items()):
-                lack.count(reply_of(proxy, seated[number % len(seated)], path), right, f"the reply for {path[:9]}")
+                lack.count(seated[number % len(seated)].reply_to(proxy.request(path)), right, f"the reply for {path[:9]}")
             for client in seated:
-                lack.count(reply_of(proxy, client, "/hit"), hit, "a hit")
+                lack.count(client.reply_to(proxy.request("/hit")), hit, "a hit")
             newcomers = [Client(port=proxy.port) for _ in range(40)]
             for client in newcomers:
-                lack.count(reply_of(proxy, client, "/hit"), hit, "the reply to a newcomer")
+                lack.count(client.reply_to(proxy.request("/hit")), hit, "the reply to a newcomer")
                 client.socket.close()
 
         let_have(proxy, held_by(proxy))
@@ -166,10 +146,10 @@ def a_long_body_for_whose_table_memory_is_refused_is_refused_and_comes_once_it_i
     with world.anew() as proxy, Client(port=proxy.port) as client:
         proxy.origin.on("/hit", Answer(plain(b"hello")))
         flows = Flows(proxy.origin, "/long", 1 << 30, b"ETag: " + TAG, FRESH)
-        equal(reply_of(proxy, client, "/hit"), passed(b"hello"), "a reply before the lack")
+        equal(client.reply_to(proxy.request("/hit")), passed(b"hello"), "a reply before the lack")
         let_have(proxy, held_by(proxy))
         for _time in (1, 2):
-            equal(reply_of(proxy, client, "/long"), REFUSED, "the reply under the lack")
+            equal(client.reply_to(proxy.request("/long")), INTERNAL_ERROR, "the reply under the lack")
         equal(len(flows.all), 2, "asks of the origin")
         let_have(proxy, resource.RLIM_INFINITY)
         client.say(proxy.request("/long"))
@@ -204,7 +184,7 @@ def memory_that_comes_and_goes_under_load_costs_no_wrong_byte(world):
                 while not is_over.is_set():
                     with Client(port=proxy.port) as client:
                         for path in mine.choices(list(rights), k=mine.randrange(1, 8)):
-                            heard = reply_of(proxy, client, path)
+                            heard = client.reply_to(proxy.request(path))
                             with lock:
                                 lack.count(heard, rights[path], f"the reply for {path[:9]}")
                             if heard == NOTHING:
@@ -215,7 +195,7 @@ def memory_that_comes_and_goes_under_load_costs_no_wrong_byte(world):
         equal(together([squeeze, *(reader(number) for number in range(8))]), [], f"failures, with seed {seed}")
         for path, right in rights.items():
             with Client(port=proxy.port) as client:
-                equal(reply_of(proxy, client, path), right, f"the reply for {path[:9]} once it is over, with seed {seed}")
+                equal(client.reply_to(proxy.request(path)), right, f"the reply for {path[:9]} once it is over, with seed {seed}")
     return ", ".join(f"{count} {told}" for told, count in lack.told.items())
 
 
@@ -229,7 +209,7 @@ def with_few_handles_who_finds_none_is_told_502_or_waits_and_all_are_served_once
         for client in clients:
             client.say(proxy.request("/a"))
         time.sleep(1.5)
-        told = [next_reply(client) for client in clients if has_news(client)]
+        told = [client.hear_reply() for client in clients if has_news(client)]
         holds(all(heard in (passed(b"hello"), BAD_GATEWAY) for heard in told), f"the body or 502 in place of {set(told)}")
         holds(0 < len(told) < len(clients), f"some that are answered, and some that wait ({len(told)})")
         for client in clients:
