@@ -20,8 +20,8 @@ from folders import called, mounted, on_a_device_that_runs_out, small
 from harness import case, equal, holds, together
 from idling import has_news
 from keeping import (
-    FRESH, MOVED, TAG, asked_for, body_of, cache_of, entries, expect_kept, extent_of, file_of, fresh, put_entry, read_during,
-    serve_all, serve_whole, wait_for_extent,
+    FRESH, MOVED, TAG, asked_for, body_of, cache_of, entries, expect_kept, extent_of, file_of, fresh, keep, put_entry,
+    read_during, serve_all,
 )
 from kills import GATES_AT
 from origin import Answer, noise, plain
@@ -322,9 +322,7 @@ def kept_on_disk(proxy, paths, length=LONG):
     more: it asked for nothing yet."""
     bodies = {path: noise(length, 97 * number) for number, path in enumerate(paths)}
     for path, body in bodies.items():
-        serve_whole(proxy, path, body)
-        equal(body_of(said(proxy, path)[0]), body, f"the body of {path}")
-        wait_for_extent(proxy, path, length)
+        keep(proxy, path, body)
     proxy.restart()
     proxy.origin.clear()
     return bodies
@@ -385,6 +383,4 @@ def a_folder_that_is_removed_is_left_with_one_line(world):
         holds(not cache_of(proxy).exists(), "no folder made anew")
         # the next start makes it
         proxy.restart()
-        serve_whole(proxy, "/0", bodies["/0"])
-        equal(body_of(said(proxy, "/0")[0]), bodies["/0"], "the body")
-        wait_for_extent(proxy, "/0", LONG)
+        keep(proxy, "/0", bodies["/0"])

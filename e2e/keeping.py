@@ -81,6 +81,18 @@ def serve_whole(world, path, body, **pace):
     return date
 
 
+def fetch(world, path, body):
+    """The origin has this body, and a client is said it."""
+    serve_whole(world, path, body)
+    equal(body_of(said(world, path)[0]), body, f"the body of {path}")
+
+
+def keep(world, path, body):
+    """The same, and all of it comes to be in the folder."""
+    fetch(world, path, body)
+    wait_for_extent(world, path, len(body))
+
+
 def serve_all(world, lengths, **pace):
     """The origin has a body of each of these lengths, at this pace."""
     bodies = {f"/{number}": noise(length, 97 * number) for number, length in enumerate(lengths)}
@@ -101,9 +113,7 @@ def what_was_kept_is_served_after_a_kill_without_being_asked_again(world):
     bodies = {"/small": b"hello", "/chunk": noise(4096), "/run": noise(65_536, 1), "/more": noise(65_537, 2), "/long": noise(2_000_000, 3)}
     with world.anew() as proxy:
         for path, body in bodies.items():
-            serve_whole(proxy, path, body)
-            equal(body_of(said(proxy, path)[0]), body, f"the body of {path}")
-            wait_for_extent(proxy, path, len(body))
+            keep(proxy, path, body)
         proxy.restart()
         proxy.origin.clear()
         for path, body in bodies.items():
@@ -183,9 +193,7 @@ def a_page_that_each_use_must_check_is_not_written_anew_at_each(world):
 def what_a_request_changes_loses_its_entry_behind_a_restart_too(world):
     with world.anew() as proxy:
         for path in ("/a", "/b"):
-            serve_whole(proxy, path, b"hello")
-            said(proxy, path)
-            wait_for_extent(proxy, path, 5)
+            keep(proxy, path, b"hello")
         proxy.restart()
         proxy.origin.clear()
         proxy.origin.on("/a", Answer(response(b"changed", b"Content-Location: /b")))
@@ -201,9 +209,7 @@ def what_a_request_changes_loses_its_entry_behind_a_restart_too(world):
 def heads_conditions_and_parts_are_answered_from_the_disk(world):
     body = noise(100_000)
     with world.anew() as proxy:
-        serve_whole(proxy, "/a", body)
-        said(proxy, "/a")
-        wait_for_extent(proxy, "/a", len(body))
+        keep(proxy, "/a", body)
         proxy.restart()
         proxy.origin.clear()
         with Client(port=proxy.port) as client:
@@ -223,9 +229,7 @@ def heads_conditions_and_parts_are_answered_from_the_disk(world):
 def bodies_larger_than_memory_are_read_from_the_disk_by_many(world):
     body, marks = noise(6_000_000), ("chunkLowMark=512", "chunkHighMark=512", "chunkCriticalMark=1024")
     with world.anew(*marks) as proxy:
-        serve_whole(proxy, "/a", body)
-        said(proxy, "/a")
-        wait_for_extent(proxy, "/a", len(body))
+        keep(proxy, "/a", body)
         proxy.restart()
         proxy.origin.clear()
 
@@ -405,9 +409,7 @@ def a_folder_of_another_program_ends_the_program(world):
 @case
 def a_folder_is_the_users_alone(world):
     with world.anew() as proxy:
-        serve_whole(proxy, "/a", b"hello")
-        said(proxy, "/a")
-        wait_for_extent(proxy, "/a", 5)
+        keep(proxy, "/a", b"hello")
         equal(cache_of(proxy).stat().st_mode & 0o777, 0o700, "the folder's mode")
         equal(file_of(proxy, "/a").stat().st_mode & 0o777, 0o600, "a file's mode")
 
@@ -437,9 +439,7 @@ def a_folder_that_is_moved_is_left_with_one_line(world):
 def foreign_and_damaged_files_are_passed_over(world):
     body = noise(100_000)
     with world.anew() as proxy:
-        serve_whole(proxy, "/a", body)
-        said(proxy, "/a")
-        wait_for_extent(proxy, "/a", len(body))
+        keep(proxy, "/a", body)
         proxy.stop()
         whole = file_of(proxy, "/a").read_bytes()
         foreign = {
@@ -476,8 +476,7 @@ def a_full_disk_is_seen_by_no_client(world):
             raise Failed(f"    {why}")
         for _time in (1, 2):
             for path, body in bodies.items():
-                serve_whole(proxy, path, body)
-                equal(body_of(said(proxy, path)[0]), body, f"the body of {path}")
+                fetch(proxy, path, body)
         equal(len(proxy.origin.asked), len(bodies), "asks of the origin: what is in memory is served from there")
         for path in bodies:
             holds(extent_of(proxy, path) == 0, f"nothing of {path} in the folder")
@@ -487,9 +486,7 @@ def a_full_disk_is_seen_by_no_client(world):
 def a_file_that_goes_away_is_seen_by_no_client(world):
     body = noise(300_000)
     with world.anew() as proxy:
-        serve_whole(proxy, "/a", body)
-        said(proxy, "/a")
-        wait_for_extent(proxy, "/a", len(body))
+        keep(proxy, "/a", body)
         proxy.restart()
         file_of(proxy, "/a").unlink()
         equal(body_of(said(proxy, "/a")[0]), body, "the body whose file is gone")
@@ -500,8 +497,7 @@ def a_disk_that_is_full_keeps_what_it_has_and_goes_on_where_there_is_room(world)
     bodies = {f"/{number}": noise(20_000, number) for number in range(20)}
     with small("256k") as place, world.anew(f"diskCacheRoot={place}/cache") as proxy:
         for path, body in bodies.items():
-            serve_whole(proxy, path, body)
-            equal(body_of(said(proxy, path)[0]), body, f"the body of {path}")
+            fetch(proxy, path, body)
         proxy.restart()
         proxy.origin.clear()
         served = [path for path, body in bodies.items() if body_of(said(proxy, path, ONLY_KEPT)[0]) == body]
@@ -511,8 +507,7 @@ def a_disk_that_is_full_keeps_what_it_has_and_goes_on_where_there_is_room(world)
         # A draft that failed is followed by none before the next tick.
         time.sleep(1.5)
         for path, body in bodies.items():
-            serve_whole(proxy, path, body)
-            equal(body_of(said(proxy, path)[0]), body, f"the body of {path}")
+            fetch(proxy, path, body)
         kept = entries(cache_of(proxy))
         for path, body in bodies.items():
             equal(kept.get(file_of(proxy, path).name), (len(body), body), f"the entry of {path}")
@@ -523,8 +518,7 @@ def a_folder_that_may_not_be_written_any_more_is_seen_by_no_client(world):
     bodies = {f"/{number}": noise(20_000, number) for number in range(6)}
     with small("4m") as place, world.anew(f"diskCacheRoot={place}/cache") as proxy:
         for path, body in list(bodies.items())[:3]:
-            serve_whole(proxy, path, body)
-            equal(body_of(said(proxy, path)[0]), body, f"the body of {path}")
+            fetch(proxy, path, body)
         proxy.stop()
         holds(called("mount", "-o", "remount,ro", place), "a file system that is not written")
         proxy.start()
@@ -580,9 +574,7 @@ def places(pattern, text):
 
 def block_that_it_writes(proxy):
     """The head block that the program writes for /0000, with a body of two chunks; it is stopped behind that."""
-    serve_whole(proxy, "/0000", noise(TWO_CHUNKS))
-    said(proxy, "/0000")
-    wait_for_extent(proxy, "/0000", TWO_CHUNKS)
+    keep(proxy, "/0000", noise(TWO_CHUNKS))
     proxy.stop()
     return file_of(proxy, "/0000").read_bytes()[:GATES_AT]
 
@@ -704,15 +696,11 @@ def what_is_kept_is_synced_in_order_and_a_hit_from_memory_calls_no_file(world):
             calls = lambda: calls_in(trace.read_text(), "polipo-cache")
             before = calls()
             equal(before, ["sync folder"], "the calls of the opening")
-            serve_whole(proxy, "/small", b"hello")
-            said(proxy, "/small")
-            wait_for_extent(proxy, "/small", 5)
+            keep(proxy, "/small", b"hello")
             small_calls = ["open draft", "write draft 12293", *PUBLISHED]
             equal(calls()[len(before) :], small_calls, "the calls for a small body")
             long = noise(16 * CHUNK + 100)
-            serve_whole(proxy, "/long", long)
-            said(proxy, "/long")
-            wait_for_extent(proxy, "/long", len(long))
+            keep(proxy, "/long", long)
             before += small_calls
             wanted = [
                 "close",
