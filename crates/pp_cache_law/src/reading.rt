@@ -1,0 +1,27 @@
+// What is read of the cache is what the law reads of its table.
+ghost use Rattle.pp_cache_law.specs.Reads.{BytesAreTheLaws, ExtentsAreTheLaws, GonePinsAreNone, HeldIsTheLaws, IdleRowsAreTheLaws, InstancesAreTheLaws, PinsAreTheLaws, RetiredIsTheLaws, RoomIsTheLaws, RowsAreTheLaws, UsedIsTheLaws, VersionsAreTheLaws, VictimsAreTheLaws};
+
+/// The row of a key with its version; an instance by its id, whether it stands for its key, and how far it is kept on the disk.
+pub fn instances_are_the_laws()
+    ensures rows { RowsAreTheLaws }
+    ensures versions { VersionsAreTheLaws }
+    ensures instances { InstancesAreTheLaws }
+    ensures retired { RetiredIsTheLaws }
+    ensures extents { ExtentsAreTheLaws }
+{}
+
+/// What is held of a chunk, and whether a byte is held.
+pub fn bytes_are_the_laws()
+    ensures bytes { BytesAreTheLaws }
+    ensures held { HeldIsTheLaws }
+{}
+
+/// How many rows and chunks there are, and which of them is next to leave memory, where the same chunks are pinned.
+pub fn leavings_are_the_laws()
+    ensures room { RoomIsTheLaws }
+    ensures idle { IdleRowsAreTheLaws }
+    ensures used { UsedIsTheLaws }
+    ensures victims { VictimsAreTheLaws }
+    ensures pins { PinsAreTheLaws }
+    ensures gone { GonePinsAreNone }
+{}
