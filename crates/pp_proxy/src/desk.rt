@@ -10,8 +10,9 @@ use crate::origin::Origin;
 use pp_client::Room;
 use pp_links::Links;
 use pp_peers::Peers;
+use pp_seats::Due;
 use pp_shelf::Shelf;
-use pp_steps::{Due, State};
+use pp_steps::State;
 use pp_world::{Cause, Decision, Event, Note, Wire, World};
 
 /// The most clients at once.

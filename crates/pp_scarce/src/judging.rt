@@ -119,7 +119,8 @@ fn of_reply(said: &[u8], reply: &Reply, cause: Option<Cause>) -> Outcome {
     }
 }
 
-/// Whether all is kept, where each client is served. What could not be kept of the first page is tried anew when more of it comes.
+/// Whether all is kept, where each client is served. What could not be kept of the first page is tried anew when more of it
+/// comes.
 fn kept_in(log: &[Happening]) -> Outcome {
     let is_first_kept = log.iter().any(|happening| matches!(
         happening,
