@@ -250,7 +250,7 @@ unfolding regained
 regained_phase s = refl
 
 decided_phase : (c : Client) (d : Decision) (s : State) → (decided c d s).phase ≡ s.phase
-decided_phase c d s = let same : frame true (decided c d s) ≡ frame true s = frame_of (decided-stays c d s (stays refl)) in ap (λ (o : Frame). o.phase) same
+decided_phase c d s = let same : frame true (decided c d s) ≡ frame true s = frame_of {all = true} (decided-stays c d s (stays refl)) in ap (λ (o : Frame). o.phase) same
 
 goes_by_room : (s : State) (n index : ℕ) (d : Decision) (owed : List Bytes) (seat : Seat) (seats : List Seat) (b : Bool) → s.has_made_room ≡ b → IsToTake owed n index d seat seats s → Goes s (Noted (Taken n index d)) (take_decision n d (in_phase Deciding s))
 goes_by_room s n index d owed seat seats true made to = goes_taken_behind s n index d made to.taking to.may (to.behind made)
