@@ -1,5 +1,5 @@
 -- The closing of a client is what the law permits, and leads where the law leads.
-use Rattle.std.proofs.Common.{◌≡◌, refl, sym, subst, ap, ◌∙◌, ℕ, zero, suc, Bool, true, false, not, cond, ◌==◌, ◌&&◌, ◌||◌, find, filter, List, [], ◌∷◌, Option, Some, None, is_some}
+use Rattle.std.proofs.Common.{◌≡◌, refl, sym, subst, ap, ◌∙◌, ℕ, Bool, true, false, not, cond, ◌==◌, ◌&&◌, ◌||◌, find, List, [], ◌∷◌, Option, Some, None, is_some}
 use Rattle.std.specs.List.{list_any}
 use Rattle.std.specs.Prelude.{slice_get, slice_set}
 use Rattle.pp_world.specs.declared.happening.Happening.TheVariants.{HungUp, Noted, Shut}
@@ -13,7 +13,7 @@ use Rattle.pp_law.specs.Lists.{Bytes, change, without}
 use Rattle.pp_law.specs.Permits.{is_owed, may_shut}
 use Rattle.pp_law.specs.Phases.{in_phase}
 use Rattle.pp_law.specs.Replies.{end_replies}
-use Rattle.pp_law.specs.State.{State, Client, Exchange, Owed, WriteTo, Phase, Connecting, Deciding}
+use Rattle.pp_law.specs.State.{State, Client, Exchange, Owed, WriteTo, Deciding}
 use Rattle.pp_law.specs.Table.{swept}
 use Rattle.pp_laws.proofs.Tests.{number_same}
 use Rattle.pp_obeys.specs.Moves.{Moves}

@@ -7,9 +7,8 @@ use Rattle.pp_law.specs.Connections.{client, each_client, is_client}
 use Rattle.pp_law.specs.Lists.{Bytes, change, has_number}
 use Rattle.pp_law.specs.Replies.{close_finished, end_replies, end_reply, end_said, is_finished, is_said as is_over}
 use Rattle.pp_law.specs.State.{State, Client}
-use Rattle.pp_laws.proofs.Tests.{number_same, same_number}
+use Rattle.pp_laws.proofs.Tests.{same_number}
 use Rattle.pp_seats.specs.declared.seat.Seat.{Seat}
-use Rattle.pp_seats.specs.Seats.{finished_in}
 use Rattle.pp_seats_law.specs.Clients.{AreShown}
 use Rattle.pp_seats_law.specs.Seats.{ShowsSeat}
 use Rattle.pp_seats_law.proofs.Dues.{finished}
