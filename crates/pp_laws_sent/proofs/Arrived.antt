@@ -1,5 +1,5 @@
 -- That a response came for a request of a client: as a log grows, and as a connection is read.
-use Rattle.std.proofs.Common.{◌≡◌, refl, ℕ, Bool, true, false, List, [], ◌∷◌, ◌++◌, drop, length, Option, Some, None, Ok, sym, subst, ap, ◌∙◌, append_assoc}
+use Rattle.std.proofs.Common.{◌≡◌, refl, ℕ, ◌==◌, Bool, true, false, List, [], ◌∷◌, ◌++◌, drop, length, Option, Some, None, Ok, sym, subst, ap, ◌∙◌, append_assoc}
 use Rattle.std.proofs.lemmas.List.{append-nil}
 use Rattle.pp_framing.proofs.BodiesExact.{read_from-first_place}
 use Rattle.pp_framing.specs.Body.{Body, Outcome, Done, Going, Bad}

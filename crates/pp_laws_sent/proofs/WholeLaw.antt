@@ -61,12 +61,12 @@ record Kept (terms : List Term) (log : Log) (s : State) : Type 0 where
   sounds : Sound from_start s
   fed : Fed (tale_with terms log (told_in log) inv.firsts) s
 
+once : (n : ℕ) (h : Happening) → said_to n (h ∷ []) ≡ said_in n h
+unfolding said_to
+once n h = append-nil (said_in n h)
+
 said_once : (log : Log) (h : Happening) (n : ℕ) → said_to n (log ++ h ∷ []) ≡ said_to n log ++ said_in n h
 said_once log h n = said-append n log (h ∷ []) ∙ ap (λ (xs : Bytes). said_to n log ++ xs) (once n h)
-  where
-    once : (m : ℕ) (x : Happening) → said_to m (x ∷ []) ≡ said_in m x
-    unfolding said_to
-    once m x = append-nil (said_in m x)
 
 module _ (terms : List Term) (log : Log) (h : Happening) (k : Kept terms log (state_after terms log)) where
   abbrev s : State
