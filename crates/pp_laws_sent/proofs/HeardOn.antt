@@ -63,21 +63,21 @@ module _ (terms : List Term) (front behind log : Log) (parts : front ++ behind �
 
   module _ (firsts : ℕ → Option ℕ) (k : Conn) (bytes : Bytes) (s : State) (there : IsIn k s.conns) (is_open : k.is_closing ≡ false) (h : Holds (Reading total asked firsts k.number bytes none_apart) s) (named : firsts k.number ≡ first_of k.line) (quiet : Quietly o s) (ours : Holds (Ours o) s) where
     stood : (e : Exchange) (d : Client) → front_of_line s k ≡ Some e → IsIn d s.clients → is_for e d ≡ true → Stood o k.number e.number d.number
-    stood e d front i hit = let w = front_by s k.line e front in facts_of ours k e d.number there w.0 (in_line k.line e.number w.1) (asker_of e d hit)
+    stood e d first i hit = let w = front_by s k.line e first in facts_of ours k e d.number there w.0 (in_line k.line e.number w.1) (asker_of e d hit)
       where
         in_line : (line : List ℕ) (n : ℕ) → first_of line ≡ Some n → IsIn n line
         in_line [] n is = absurd (cc is)
         in_line (m ∷ line) n is = let eq : m ≡ n = cc in inl (sym eq)
 
     expected : (e : Exchange) (n : ℕ) → front_of_line s k ≡ Some e → n ≡ e.number → firsts k.number ≡ Some n
-    expected e n front is = named ∙ (front_by s k.line e front).1 ∙ ap (λ m. Some m) (sym is)
+    expected e n first is = named ∙ (front_by s k.line e first).1 ∙ ap (λ m. Some m) (sym is)
 
     begins : (e : Exchange) (head : Response) (rule : BodyRule) → k.answer ≡ None → front_of_line s k ≡ Some e → response_at (k.unread ++ bytes) ≡ Whole head → is_interim head.status ≡ false → rule_of (asks_head e) head.status head.fields ≡ Ok rule → (is_whole : Bool) → (is_whole ≡ true → IsDone (body_of rule []).outcome)
         → Comes (tale_with terms log told firsts) e s.clients head rule [] is_whole
-    begins e head rule none front whole final ruled is_whole done d i hit =
-        let own = its_own_now terms front behind log parts k.number e d (stood e d front i hit) (stems_quiet o s quiet d i) in
+    begins e head rule none first whole final ruled is_whole done d i hit =
+        let own = its_own_now terms front behind log parts k.number e d (stood e d first i hit) (stems_quiet o s quiet d i) in
         subst (λ xs. HasArrived terms log d.number d.index head rule xs is_whole) (payload-nothing rule)
-        (arrived_by terms log k.number (drop head.length (k.unread ++ bytes)) (firsts k.number) (answer_with e head rule) d.number d.index own.0 (began total asked firsts k bytes s there none is_open h named head whole final e front rule ruled) own.1 (expected e own.0.number front own.2) [] (drop head.length (k.unread ++ bytes)) refl is_whole
+        (arrived_by terms log k.number (drop head.length (k.unread ++ bytes)) (firsts k.number) (answer_with e head rule) d.number d.index own.0 (began total asked firsts k bytes s there none is_open h named head whole final e first rule ruled) own.1 (expected e own.0.number first own.2) [] (drop head.length (k.unread ++ bytes)) refl is_whole
         (λ stream came so. by_itself (ends (done so))))
       where
         ends : IsDone (body_of rule []).outcome → (body_of rule []).outcome ≡ Done []
@@ -88,21 +88,21 @@ module _ (terms : List Term) (front behind log : Log) (parts : front ++ behind �
             nothing (x ∷ xs) ys eq = absurd (cc eq)
 
     goes : (e : Exchange) (a : Answer) → k.answer ≡ Some a → front_of_line s k ≡ Some e → (is_whole : Bool) → (is_whole ≡ true → IsDone (body_of a.rule (a.raw ++ bytes)).outcome) → Comes (tale_with terms log told firsts) e s.clients a.head a.rule (body_of a.rule (a.raw ++ bytes)).payload is_whole
-    goes e a has front is_whole done d i hit = by is_whole done
+    goes e a has first is_whole done d i hit = by is_whole done
       where
         came_so : Began (total k.number) bytes (asked k.number) (firsts k.number) a
         came_so = subst (λ (x : Bytes). Began (total k.number) x (asked k.number) (firsts k.number) a) (end_here k.number bytes) ((facts_of h).begun k a there has)
 
         by : (t : Bool) → (t ≡ true → IsDone (body_of a.rule (a.raw ++ bytes)).outcome) → HasArrived terms log d.number d.index a.head a.rule (body_of a.rule (a.raw ++ bytes)).payload t
         by false is =
-            let own = its_own_now terms front behind log parts k.number e d (stood e d front i hit) (stems_quiet o s quiet d i) in
-            arrived_by terms log k.number bytes (firsts k.number) a d.number d.index own.0 came_so own.1 (expected e own.0.number front own.2) (a.raw ++ bytes) [] (sym (append-nil (a.raw ++ bytes))) false (λ stream came so. absurd (cc so))
+            let own = its_own_now terms front behind log parts k.number e d (stood e d first i hit) (stems_quiet o s quiet d i) in
+            arrived_by terms log k.number bytes (firsts k.number) a d.number d.index own.0 came_so own.1 (expected e own.0.number first own.2) (a.raw ++ bytes) [] (sym (append-nil (a.raw ++ bytes))) false (λ stream came so. absurd (cc so))
         by true is =
-            let own = its_own_now terms front behind log parts k.number e d (stood e d front i hit) (stems_quiet o s quiet d i) in
+            let own = its_own_now terms front behind log parts k.number e d (stood e d first i hit) (stems_quiet o s quiet d i) in
             let end = is refl in
             let c = done_cut a.rule (a.raw ++ bytes) end.0 end.1 in
             subst (λ xs. HasArrived terms log d.number d.index a.head a.rule xs true) c.same
-            (arrived_by terms log k.number bytes (firsts k.number) a d.number d.index own.0 came_so own.1 (expected e own.0.number front own.2) c.used end.0 c.parts true (λ stream came so. by_itself c.ends))
+            (arrived_by terms log k.number bytes (firsts k.number) a d.number d.index own.0 came_so own.1 (expected e own.0.number first own.2) c.used end.0 c.parts true (λ stream came so. by_itself c.ends))
 
     heard : Hears (tale_with terms log told firsts) k bytes s
     heard = record { named = named; begins = begins; goes = goes }
@@ -168,8 +168,8 @@ module _ (terms : List Term) (front behind log : Log) (parts : front ++ behind �
         by : (a : Option Answer) → k.answer ≡ a → Lined (elim a as (λ x. Since) [ Some x ↦ b | None ↦ naming b k.number (first_of k.line) ]) (next_piece k bytes s).state → HasHeard terms log told b n (got more n (next_piece k bytes s).rest (next_piece k bytes s).state)
         by None none lu =
             let r = goes_on (naming b k.number (first_of k.line)) (plain_named k.number (first_of k.line) w.plain) (named_here b k.number (first_of k.line)) lu
-                (holds (came_named total (at_end k.number bytes) asked b.firsts true none_apart k.number (first_of k.line) (view s) (unanswered none) (facts_of w.came)))
-                (renamed-fed b.firsts k.number (first_of k.line) s (unanswered none) w.fed) in
+            (holds (came_named total (at_end k.number bytes) asked b.firsts true none_apart k.number (first_of k.line) (view s) (unanswered none) (facts_of w.came)))
+            (renamed-fed b.firsts k.number (first_of k.line) s (unanswered none) w.fed) in
             record { firsts = r.firsts; lines = r.lines; came = r.came; fed = r.fed }
         by (Some a) has lu =
             let heads = (lines_of w.lines).answers k a there has (λ is. let both : None ≡ Some k.number = sym w.plain.but ∙ is in cc both) in

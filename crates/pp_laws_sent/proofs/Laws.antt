@@ -83,7 +83,7 @@ pub record Inv (terms : List Term) (log : Log) (s : State) : Type 0 where
   pub lines : Lines terms log firsts s
   pub came : Holds (Rests (came_in log) (WasAskedOn terms log) firsts) s
 
-quiet_step : (terms : List Term) (log : Log) (firsts : ℕ → Option ℕ) (h : Happening) (s : State) → ReadsNothing h → Holds (Rests (came_in log) (WasAskedOn terms log) firsts) s → Holds (Rests (came_in (log ++ h ∷ [])) (WasAskedOn terms (log ++ h ∷ [])) firsts) (after s h)
+pub quiet_step : (terms : List Term) (log : Log) (firsts : ℕ → Option ℕ) (h : Happening) (s : State) → ReadsNothing h → Holds (Rests (came_in log) (WasAskedOn terms log) firsts) s → Holds (Rests (came_in (log ++ h ∷ [])) (WasAskedOn terms (log ++ h ∷ [])) firsts) (after s h)
 quiet_step terms log firsts h s is came =
     changed-rests (came_in (log ++ h ∷ [])) (WasAskedOn terms (log ++ h ∷ [])) firsts s h is
     (holds (came_more (came_in log) (came_in (log ++ h ∷ [])) no_end (WasAskedOn terms log) (WasAskedOn terms (log ++ h ∷ [])) firsts (λ n. one_more log h n ∙ ap (λ (xs : Bytes). came_in log n ++ xs) (quiet n h is)) (λ n e w. asked_still terms log h n e w) (view s) (facts_of came)))
@@ -106,7 +106,7 @@ nothing_left n number = by (number == n)
     by true = refl
     by false = refl
 
-put_down : (total : ℕ → Bytes) (asked : ℕ → Exchange → Type 0) (firsts : ℕ → Option ℕ) (n : ℕ) (s : State) → Holds (Came total (at_end n []) asked firsts true none_apart) s → Holds (Rests total asked firsts) s
+pub put_down : (total : ℕ → Bytes) (asked : ℕ → Exchange → Type 0) (firsts : ℕ → Option ℕ) (n : ℕ) (s : State) → Holds (Came total (at_end n []) asked firsts true none_apart) s → Holds (Rests total asked firsts) s
 put_down total asked firsts n s h = holds (record {
   stand = f.stand;
   read = λ k i. subst (λ (e : Bytes). EndsWith (total k.number) (k.unread ++ e)) (nothing_left n k.number) (f.read k i);
@@ -147,7 +147,7 @@ reading_now terms log n bytes rise inv = holds (record {
     f = came_more (came_in log) (came_in (log ++ Got n bytes ∷ [])) (at_end n bytes) (WasAskedOn terms log) (WasAskedOn terms (log ++ Got n bytes ∷ [])) inv.firsts (λ m. one_more log (Got n bytes) m ∙ ap (λ (xs : Bytes). came_in log m ++ xs) (got_end n m bytes)) (λ m e v. asked_still terms log (Got n bytes) m e v) (view s) (facts_of inv.came)
 
 -- and where it is over
-pub got_over_inv : (terms : List Term) (log : Log) (n : ℕ) (bytes : Bytes) (inv : Inv terms log (state_after terms log))
+unfoldable pub got_over_inv : (terms : List Term) (log : Log) (n : ℕ) (bytes : Bytes) (inv : Inv terms log (state_after terms log))
     → HasRead (came_in (log ++ Got n bytes ∷ [])) (WasAskedOn terms (log ++ Got n bytes ∷ [])) (plain terms (log ++ Got n bytes ∷ []) (state_after terms log).top inv.firsts) n (got (length bytes) n bytes (state_after terms log)) → Inv terms (log ++ Got n bytes ∷ []) (after (state_after terms log) (Got n bytes))
 unfolding changed paid
 got_over_inv terms log n bytes inv read = record {
@@ -159,7 +159,7 @@ got_over_inv terms log n bytes inv read = record {
     w : Walk (Rests (came_in (log ++ Got n bytes ∷ [])) (WasAskedOn terms (log ++ Got n bytes ∷ [])) read.firsts)
     w = came_walk (came_in (log ++ Got n bytes ∷ [])) no_end (WasAskedOn terms (log ++ Got n bytes ∷ [])) read.firsts false none_apart
 
-got_step : (terms : List Term) (log : Log) (n : ℕ) (bytes : Bytes) → AreRising (map conn_number (state_after terms log).conns) → Inv terms log (state_after terms log) → Inv terms (log ++ Got n bytes ∷ []) (after (state_after terms log) (Got n bytes))
+pub got_step : (terms : List Term) (log : Log) (n : ℕ) (bytes : Bytes) → AreRising (map conn_number (state_after terms log).conns) → Inv terms log (state_after terms log) → Inv terms (log ++ Got n bytes ∷ []) (after (state_after terms log) (Got n bytes))
 got_step terms log n bytes rise inv =
     got_over_inv terms log n bytes inv
     (got-came (came_in (log ++ Got n bytes ∷ [])) (WasAskedOn terms (log ++ Got n bytes ∷ [])) (length bytes) n bytes (plain terms (log ++ Got n bytes ∷ []) (state_after terms log).top inv.firsts) (state_after terms log) (le_refl (length bytes)) (is_plain terms (log ++ Got n bytes ∷ []) (state_after terms log).top inv.firsts)
@@ -167,7 +167,7 @@ got_step terms log n bytes rise inv =
 
 -- ---- all
 
-pub step : (terms : List Term) (log : Log) (h : Happening) → Lawful terms log → IsPermitted (state_after terms log) h → Inv terms log (state_after terms log) → Inv terms (log ++ h ∷ []) (after (state_after terms log) h)
+unfoldable pub step : (terms : List Term) (log : Log) (h : Happening) → Lawful terms log → IsPermitted (state_after terms log) h → Inv terms log (state_after terms log) → Inv terms (log ++ h ∷ []) (after (state_after terms log) h)
 step terms log (Got n bytes) lawful permitted inv = got_step terms log n bytes (own_numbers terms log lawful).conns_rise inv
 step terms log (Asked n bytes) lawful permitted inv =
     record { firsts = inv.firsts; lines = asked_step terms log inv.firsts n bytes permitted inv.lines; came = quiet_step terms log inv.firsts (Asked n bytes) (state_after terms log) tt inv.came }

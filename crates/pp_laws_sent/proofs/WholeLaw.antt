@@ -30,7 +30,7 @@ use Rattle.pp_laws.proofs.Happenings.{after-sound}
 use Rattle.pp_laws.proofs.Laws.{own_numbers, start-sound}
 use Rattle.pp_laws.proofs.Lists.{in_find}
 use Rattle.pp_laws.proofs.Pieces.{front_by}
-use Rattle.pp_laws.proofs.Sound.{Sound, conn_number, first_of}
+use Rattle.pp_laws.proofs.Sound.{Since, Sound, conn_number, first_of}
 use Rattle.pp_laws.proofs.Tests.{first_holds, same_number, second_holds}
 use Rattle.pp_laws_pool.proofs.Along.{after_all-append, back_from}
 use Rattle.pp_laws_pool.proofs.View.{facts_of, view}
@@ -40,7 +40,7 @@ use Rattle.pp_laws_lines.proofs.Stream.{first, got_grown, is_plain, plain}
 use Rattle.pp_laws_passed.specs.Passed.{IsShown, all_spelled, head_left, is_in_passed, last_of, to_say}
 use Rattle.pp_laws_passed.proofs.Fed.{Fed, Grows, Keeps, Tale, facts_of as fed_facts, is_in_other, parts_same}
 use Rattle.pp_laws_passed.proofs.FedAsks.{on_client-fed}
-use Rattle.pp_laws_passed.proofs.FedHappenings.{EndsAs, changed-fed, event-fed, event_conns, from_start, grows_said, nobody as nobody-fed, not_other, paid-fed, retold, said_seen-fed, told_more}
+use Rattle.pp_laws_passed.proofs.FedHappenings.{EndsAs, changed-fed, event-fed, event_conns, grows_said, nobody as nobody-fed, not_other, paid-fed, retold, said_seen-fed, told_more}
 use Rattle.pp_laws_passed.proofs.FedHeads.{EndsWell, Stem, asker_of, ended-fed}
 use Rattle.pp_laws_passed.proofs.FedReplies.{end_replies-fed, heard_same}
 use Rattle.pp_laws_sent.specs.Stands.{WasAskedOn}
@@ -54,6 +54,10 @@ use Rattle.pp_laws_sent.proofs.Ours.{Stood, ours_now}
 -- what was said, by the log
 abbrev told_in : Log → ℕ → Bytes
 told_in log n = said_to n log
+
+-- whatever is loaded
+abbrev from_start : Since
+from_start = record { old = []; counts_loads = false; excepts = None }
 
 -- behind a log
 record Kept (terms : List Term) (log : Log) (s : State) : Type 0 where
@@ -132,7 +136,6 @@ module _ (terms : List Term) (log : Log) (h : Happening) (k : Kept terms log (st
 
 module _ (terms : List Term) (log : Log) (n : ℕ) (bytes : Bytes) (k : Kept terms log (state_after terms log)) (rise : AreRising (map conn_number (state_after terms log).conns)) where
   heard_now : HasHeard terms (log ++ Got n bytes ∷ []) (told_in log) (plain terms (log ++ Got n bytes ∷ []) (state_after terms log).top k.inv.firsts) n (got (length bytes) n bytes (state_after terms log))
-  unfolding from_start
   heard_now =
       got-heard terms log (Got n bytes ∷ []) (log ++ Got n bytes ∷ []) refl (told_in log) from_start refl (length bytes) n bytes (plain terms (log ++ Got n bytes ∷ []) (state_after terms log).top k.inv.firsts) (state_after terms log) (le_refl (length bytes)) (record {
         plain = is_plain terms (log ++ Got n bytes ∷ []) (state_after terms log).top k.inv.firsts;
@@ -157,7 +160,7 @@ module _ (terms : List Term) (log : Log) (n : ℕ) (bytes : Bytes) (k : Kept ter
 -- ---- a log grows
 
 kept_step : (terms : List Term) (log : Log) (h : Happening) → Lawful terms log → IsPermitted (state_after terms log) h → Kept terms log (state_after terms log) → Kept terms (log ++ h ∷ []) (after (state_after terms log) h)
-unfolding from_start
+unfolding got_over_inv got_step inv_step
 kept_step terms log (Got n bytes) lawful permitted k =
     let rise = (own_numbers terms log lawful).conns_rise in
     record { inv = got_step terms log n bytes k rise; sounds = after-sound (state_after terms log) (Got n bytes) refl (λ counts. absurd (cc counts)) permitted k.sounds; fed = got_fed terms log n bytes k rise }
@@ -186,7 +189,6 @@ kept_from terms front (h ∷ log) lawful k =
     subst (λ (l : Log). Kept terms l (state_after terms l)) joined (kept_from terms (front ++ h ∷ []) log whole next)
 
 kept_after : (terms : List Term) (log : Log) → Lawful terms log → Kept terms log (state_after terms log)
-unfolding from_start
 kept_after terms log lawful =
     kept_from terms [] log lawful (record {
       inv = record { firsts = nobody; lines = first terms nobody; came = first_came terms };
@@ -224,7 +226,7 @@ seen_fed terms log (Broke m) lawful permitted k = by (conn (event (state_after t
     by (Some j) found = (
       k.inv.firsts,
       silent_now terms log (Broke m) k k.inv.firsts _ (λ x. refl)
-      (ended-fed false j (event (state_after terms log)) refl (in_find (is_conn m) j (event (state_after terms log)).conns found).0 (λ clean. absurd (cc clean)) (subst (λ ks. AreRising (map conn_number ks)) (sym (event_conns (state_after terms log))) (own_numbers terms log lawful).conns_rise) (event-fed (state_after terms log) (fed_now terms log (Broke m) k))),
+          (ended-fed false j (event (state_after terms log)) refl (in_find (is_conn m) j (event (state_after terms log)).conns found).0 (λ clean. absurd (cc clean)) (subst (λ ks. AreRising (map conn_number ks)) (sym (event_conns (state_after terms log))) (own_numbers terms log lawful).conns_rise) (event-fed (state_after terms log) (fed_now terms log (Broke m) k))),
     )
 seen_fed terms log h lawful permitted k = let w = kept_step terms log h lawful permitted k in (w.inv.firsts, w.fed)
 
