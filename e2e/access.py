@@ -5,7 +5,6 @@ import datetime
 import os
 import pathlib
 import re
-import socket
 import subprocess
 import tempfile
 import threading
@@ -176,10 +175,9 @@ def lines_go_to_standard_error_where_a_hyphen_is_said(world):
     port = free_port()
     with started(world, port, [f"proxyPort={port}", "accessLog=-"]) as process:
         for _ in range(3):
-            with socket.create_connection(("127.0.0.1", port), timeout=10) as client:
-                client.sendall(world.last_request("/a"))
-                while client.recv(65536):
-                    pass
+            with Client(port=port) as client:
+                client.say(world.last_request("/a"))
+                client.hear_all()
         time.sleep(0.5)
         process.kill()
         output, complaint = process.communicate()
@@ -241,11 +239,19 @@ def a_log_that_is_there_is_gone_on_with(world):
         told(log, 2)
 
 
+@contextlib.contextmanager
+def complaining(world, name):
+    """The program with a log that cannot be written: it need not be silent."""
+    proxy = type(world)(world.program, free_port(), [f"accessLog={name}"])
+    try:
+        yield proxy
+    finally:
+        proxy.stop()
+
+
 @case
 def a_log_that_cannot_be_made_is_complained_of_once_and_written_later(world):
-    world.origin.on("/a", Answer(plain(b"hello")))
-    proxy = type(world)(world.program, free_port(), ["accessLog=logs/log"])
-    try:
+    with complaining(world, "logs/log") as proxy:
         proxy.origin.on("/a", Answer(plain(b"hello")))
         for _ in range(3):
             holds(heard(proxy, proxy.last_request("/a")).endswith(b"hello"), "a reply")
@@ -255,15 +261,12 @@ def a_log_that_cannot_be_made_is_complained_of_once_and_written_later(world):
         folder.mkdir()
         told(folder / "log", 3)
         equal(came(proxy.printed, 2), FAILS + AGAIN % 0, "what is said behind it")
-    finally:
-        proxy.stop()
 
 
 @case
 def a_log_on_a_full_disk_fails_no_reply(world):
     for name in ["/dev/full", "pipe"]:
-        proxy = type(world)(world.program, free_port(), [f"accessLog={name}"])
-        try:
+        with complaining(world, name) as proxy:
             if name == "pipe":
                 proxy.stop()
                 (path := pathlib.Path(proxy.folder.name) / name).unlink()
@@ -275,14 +278,11 @@ def a_log_on_a_full_disk_fails_no_reply(world):
                 time.sleep(0.7)
             proxy.check_still_served()
             equal(proxy.printed().count(FAILS), 1, f"how often it is said of {name}")
-        finally:
-            proxy.stop()
 
 
 @case
 def lines_that_find_no_room_are_counted(world):
-    proxy = type(world)(world.program, free_port(), ["accessLog=logs/log"])
-    try:
+    with complaining(world, "logs/log") as proxy:
         proxy.origin.on("/a", Answer(plain(b"hello")))
         path = "/a?" + "a" * 4_000
         proxy.origin.on(path, Answer(plain(b"hello")))
@@ -299,8 +299,6 @@ def lines_that_find_no_room_are_counted(world):
         lost = int(found[1])
         holds(lost > 0, "some lines are lost")
         told(folder / "log", count - lost)
-    finally:
-        proxy.stop()
 
 
 @case
@@ -314,12 +312,9 @@ def at_the_last_turn_no_line_is_lost(world):
         replies = 0
         with contextlib.suppress(OSError):
             while process.poll() is None:
-                with socket.create_connection(("127.0.0.1", port), timeout=5) as client:
-                    client.sendall(world.last_request("/a"))
-                    text = b""
-                    while piece := client.recv(65536):
-                        text += piece
-                    replies += text.endswith(b"hello")
+                with Client(5, port) as client:
+                    client.say(world.last_request("/a"))
+                    replies += client.hear_all().endswith(b"hello")
         equal(process.wait(timeout=20), 0, "the status")
         found = len(parsed(read(pathlib.Path(folder) / "log")))
     holds(0 < replies <= found <= replies + 1, f"a line for each of {replies} replies in place of {found}")

@@ -3,13 +3,12 @@ waits for ever, and what is old is as old as time that passed made it (RFC 9111,
 
 import contextlib
 import random
-import threading
 import time
 
 from caching import now, said
 from harness import case, equal, holds, together
 from idling import has_news, leaping
-from keeping import TAG, asked_for, body_of, random_load, serve_whole
+from keeping import TAG, asked_for, body_of, read_during, serve_all
 from origin import Answer, lines, noise, response
 from played import Played
 from rules import rule
@@ -138,26 +137,14 @@ def under_load_a_clock_that_is_set_again_and_again_costs_no_byte_and_no_client(w
     seed = random.randrange(1 << 32)
     choose = random.Random(seed)
     with leaping(world) as (proxy, clock):
-        bodies = {f"/{number}": noise(length, 97 * number) for number, length in enumerate((5, 4_097, 70_000, 300_000, 1_000_000))}
-        for path, body in bodies.items():
-            serve_whole(proxy, path, body)
-        is_over = threading.Event()
+        bodies = serve_all(proxy, (5, 4_097, 70_000, 300_000, 1_000_000))
 
         def set_clock():
-            try:
-                for _time in range(12):
-                    clock.set(choose.choice([-YEAR, -DAY, -HOUR, -50, 0, 50, HOUR, DAY, YEAR]))
-                    time.sleep(choose.uniform(0.1, 0.5))
-            finally:
-                is_over.set()
+            for _time in range(12):
+                clock.set(choose.choice([-YEAR, -DAY, -HOUR, -50, 0, 50, HOUR, DAY, YEAR]))
+                time.sleep(choose.uniform(0.1, 0.5))
 
-        def reader(number):
-            def read():
-                random_load(proxy, bodies, random.Random(seed + number), is_over)
-
-            return read
-
-        equal(together([set_clock, *map(reader, range(4))]), [], f"failures, with seed {seed}")
+        read_during(set_clock, proxy, bodies, seed)
 
 
 @case

@@ -8,24 +8,19 @@ In the gate some calls fail, drawn at random. By itself it has each of them fail
 """
 
 import collections
-import contextlib
 import hashlib
-import mmap
 import os
-import pathlib
 import random
-import re
 import struct
 import sys
-import tempfile
 
-from harness import Failed, case, environment, equal, holds, need, ran
-from keeping import entries, serve_whole
+from harness import Failed, case, equal, holds
+from keeping import cache_of, entries, serve_whole
 from kills import CHUNK
 from origin import Answer, noise, response
-from world import BAD_GATEWAY, Client, page
+from shims import between, shared
+from world import BAD_GATEWAY, INTERNAL_ERROR, Client
 
-SHIM = pathlib.Path(__file__).resolve().parent / "failing.c"
 # In the order of the numbers in failing.c, from 1 on.
 CALLS = (
     "malloc realloc clock_gettime epoll_create1 epoll_wait epoll_ctl accept4 socket connect getsockopt setsockopt recv send shutdown "
@@ -38,7 +33,6 @@ ENDS = {
     (4, b"polipo: cannot list the cache folder\n"),
     (7, b"polipo: no poller\n"),
 }
-REFUSED = page(b"500 Internal Server Error", b"keep-alive")
 SMALL, LONG = b"hello", 5 * CHUNK + 100
 # So many of each kind fail in the gate.
 DRAWN = 2
@@ -50,9 +44,7 @@ class Calls:
     """The calls of a program: how often each was made, and which one is to fail."""
 
     def __init__(self, path):
-        path.write_bytes(bytes(CHUNK))
-        with open(path, "r+b") as file:
-            self._numbers = mmap.mmap(file.fileno(), CHUNK)
+        self._numbers = shared(path, CHUNK)
 
     def made(self, call):
         return struct.unpack_from("Q", self._numbers, 8 * (FIRST_COUNT + CALLS.index(call)))[0]
@@ -71,16 +63,9 @@ class Calls:
         self._numbers[:] = bytes(CHUNK)
 
 
-@contextlib.contextmanager
 def counted(world):
     """The program once more, whose calls are counted and may fail."""
-    need("cc")
-    with tempfile.TemporaryDirectory() as folder:
-        library, file = f"{folder}/failing.so", pathlib.Path(folder, "calls")
-        equal(ran(["cc", "-shared", "-fPIC", "-o", library, SHIM]).returncode, 0, "cc's status")
-        calls = Calls(file)
-        with world.anew("diskRun=2", environment=environment(LD_PRELOAD=library, CALLS_FILE=str(file))) as proxy:
-            yield proxy, calls
+    return between(world, "failing.c", "CALLS_FILE", Calls, "diskRun=2")
 
 
 def in_turn(before, after):
@@ -91,17 +76,6 @@ def in_turn(before, after):
 
 
 # ---- while it serves
-
-
-def reply_to(client, text):
-    """What a client hears that says this; less where it is closed before."""
-    heard = b""
-    with contextlib.suppress(ConnectionError):
-        client.say(text)
-        heard = re.sub(rb"\r\nage: \d+", b"", client.hear_until(b"\r\n\r\n"))
-        if length := re.search(rb"\r\ncontent-length: (\d+)\r\n", heard):
-            heard += client.hear(int(length[1]))
-    return heard
 
 
 class Script:
@@ -135,8 +109,8 @@ class Script:
         for _client in (1, 2):
             with Client(port=self.proxy.port) as client:
                 for name, text, body in self.asks():
-                    heard.append((name, reply_to(client, text), body))
-                    if not heard[-1][1].endswith((body, REFUSED, BAD_GATEWAY)):
+                    heard.append((name, client.reply_to(text), body))
+                    if not heard[-1][1].endswith((body, INTERNAL_ERROR, BAD_GATEWAY)):
                         break
         return heard
 
@@ -147,9 +121,9 @@ class Script:
         for path, text, body in heard:
             head, end, came = text.partition(b"\r\n\r\n")
             status = head[:12]
-            if text in (REFUSED, BAD_GATEWAY):
+            if text in (INTERNAL_ERROR, BAD_GATEWAY):
                 told["page"] += 1
-                holds(text == REFUSED or path == "a POST" or not is_reached, f"no 502 for {path}, {of_what}")
+                holds(text == INTERNAL_ERROR or path == "a POST" or not is_reached, f"no 502 for {path}, {of_what}")
             elif status in (b"HTTP/1.1 200", b"HTTP/1.1 206"):
                 holds((status[-3:] == b"206") == path.startswith("a part"), f"the status for {path}, {of_what}, in place of {head}")
                 equal(came, body[: len(came)], f"the body of {path}, {of_what}")
@@ -178,7 +152,7 @@ def serve_while_calls_fail(world, choose=None):
             calls.fail_none()
             equal(script.judge(script.play(), f"behind {of_what}"), {"right": 8}, f"what is told {of_what}, once it is over")
         proxy.stop()
-        for name, entry in entries(proxy).items():
+        for name, entry in entries(cache_of(proxy)).items():
             equal(entry[1], script.bodies[name][: entry[0]], "what an entry vouches for")
         proxy.start()
     return f"{len(turns)} ways; {', '.join(f'{count} {what}' for what, count in told.items())}"

@@ -20,16 +20,15 @@ from folders import called, mounted, on_a_device_that_runs_out, small
 from harness import case, equal, holds, together
 from idling import has_news
 from keeping import (
-    FRESH, MOVED, ONLY_KEPT, TAG, asked_for, body_of, cache_of, entries, file_of, fresh, put_entry, random_load, serve_whole,
-    wait_for_extent,
+    FRESH, MOVED, TAG, asked_for, body_of, cache_of, entries, expect_kept, extent_of, file_of, fresh, keep, put_entry,
+    read_during, serve_all,
 )
-from kills import GATES_AT, extent_in, kept_in
+from kills import GATES_AT
 from origin import Answer, noise, plain
 from words import USAGE
-from world import BAD_GATEWAY, Client, page, passed, reply
+from world import BAD_GATEWAY, INTERNAL_ERROR, Client, passed, reply
 
 NO_MEMORY = (3, b"polipo: out of memory\n")
-REFUSED = page(b"500 Internal Server Error", b"keep-alive")
 NOTHING = b""
 MB = 1 << 20
 
@@ -55,25 +54,6 @@ def is_loaded(proxy, limit):
     return (done.returncode, done.stderr) == (2, USAGE)
 
 
-def next_reply(client):
-    """The next reply, without its age; nothing where the client is closed before it."""
-    try:
-        head = re.sub(rb"\r\nage: \d+", b"", client.hear_until(b"\r\n\r\n"))
-        length = re.search(rb"\r\ncontent-length: (\d+)\r\n", head)
-        return head + client.hear(int(length[1])) if length else head
-    except ConnectionResetError:
-        return NOTHING
-
-
-def reply_of(proxy, client, path):
-    """What a client is told that asks for this; nothing where it is closed before."""
-    try:
-        client.say(proxy.request(path))
-    except OSError:
-        return NOTHING
-    return next_reply(client)
-
-
 @case
 def started_with_less_memory_it_serves_or_ends_with_a_line(world):
     with world.anew() as proxy:
@@ -93,9 +73,9 @@ def started_with_less_memory_it_serves_or_ends_with_a_line(world):
                 serves += 1
                 for number in range(8):
                     with Client(port=proxy.port) as client:
-                        heard = reply_of(proxy, client, f"/{number}")
+                        heard = client.reply_to(proxy.request(f"/{number}"))
                     is_right = heard.startswith(b"HTTP/1.1 200 ") and heard.endswith(b"\r\n\r\nhello")
-                    holds(is_right or heard in (REFUSED, NOTHING), f"5 bytes, a refusal or an end in place of {heard}")
+                    holds(is_right or heard in (INTERNAL_ERROR, NOTHING), f"5 bytes, a refusal or an end in place of {heard}")
                 equal((proxy.process.poll(), proxy.printed()), (None, b""), f"its end, and output, behind {limit}")
                 proxy.stop()
         proxy.start()
@@ -116,7 +96,7 @@ class Lack:
         return reply(body, b"etag: " + TAG, b"date: " + self.date, FRESH.lower())
 
     def count(self, heard, right, of_what):
-        told = "right" if heard == right else "refused" if heard == REFUSED else "nothing"
+        told = "right" if heard == right else "refused" if heard == INTERNAL_ERROR else "nothing"
         if told == "nothing":
             equal(heard, NOTHING, f"{of_what}, where it is neither right nor refused")
         self.told[told] += 1
@@ -132,16 +112,16 @@ def memory_that_is_refused_while_it_serves_costs_a_refusal_or_a_client_and_no_by
         hit = lack.serve("/hit", b"hello")
         seated = [Client(port=proxy.port) for _ in range(20)]
         for client in seated:
-            equal(reply_of(proxy, client, "/hit"), hit, "a reply before the lack")
+            equal(client.reply_to(proxy.request("/hit")), hit, "a reply before the lack")
 
         def ask_for_all():
             for number, (path, right) in enumerate(rights.items()):
-                lack.count(reply_of(proxy, seated[number % len(seated)], path), right, f"the reply for {path[:9]}")
+                lack.count(seated[number % len(seated)].reply_to(proxy.request(path)), right, f"the reply for {path[:9]}")
             for client in seated:
-                lack.count(reply_of(proxy, client, "/hit"), hit, "a hit")
+                lack.count(client.reply_to(proxy.request("/hit")), hit, "a hit")
             newcomers = [Client(port=proxy.port) for _ in range(40)]
             for client in newcomers:
-                lack.count(reply_of(proxy, client, "/hit"), hit, "the reply to a newcomer")
+                lack.count(client.reply_to(proxy.request("/hit")), hit, "the reply to a newcomer")
                 client.socket.close()
 
         let_have(proxy, held_by(proxy))
@@ -155,7 +135,7 @@ def memory_that_is_refused_while_it_serves_costs_a_refusal_or_a_client_and_no_by
         for client in seated:
             client.socket.close()
         bodies = {file_of(proxy, path).name: (len(body), body) for path, body in [*paths.items(), ("/hit", b"hello")]}
-        for name, entry in entries(proxy).items():
+        for name, entry in entries(cache_of(proxy)).items():
             equal(entry, bodies[name], "an entry in the folder")
         return f"{told['right']} right, {told['refused']} refused, {told['nothing']} turned away"
 
@@ -166,10 +146,10 @@ def a_long_body_for_whose_table_memory_is_refused_is_refused_and_comes_once_it_i
     with world.anew() as proxy, Client(port=proxy.port) as client:
         proxy.origin.on("/hit", Answer(plain(b"hello")))
         flows = Flows(proxy.origin, "/long", 1 << 30, b"ETag: " + TAG, FRESH)
-        equal(reply_of(proxy, client, "/hit"), passed(b"hello"), "a reply before the lack")
+        equal(client.reply_to(proxy.request("/hit")), passed(b"hello"), "a reply before the lack")
         let_have(proxy, held_by(proxy))
         for _time in (1, 2):
-            equal(reply_of(proxy, client, "/long"), REFUSED, "the reply under the lack")
+            equal(client.reply_to(proxy.request("/long")), INTERNAL_ERROR, "the reply under the lack")
         equal(len(flows.all), 2, "asks of the origin")
         let_have(proxy, resource.RLIM_INFINITY)
         client.say(proxy.request("/long"))
@@ -204,7 +184,7 @@ def memory_that_comes_and_goes_under_load_costs_no_wrong_byte(world):
                 while not is_over.is_set():
                     with Client(port=proxy.port) as client:
                         for path in mine.choices(list(rights), k=mine.randrange(1, 8)):
-                            heard = reply_of(proxy, client, path)
+                            heard = client.reply_to(proxy.request(path))
                             with lock:
                                 lack.count(heard, rights[path], f"the reply for {path[:9]}")
                             if heard == NOTHING:
@@ -215,7 +195,7 @@ def memory_that_comes_and_goes_under_load_costs_no_wrong_byte(world):
         equal(together([squeeze, *(reader(number) for number in range(8))]), [], f"failures, with seed {seed}")
         for path, right in rights.items():
             with Client(port=proxy.port) as client:
-                equal(reply_of(proxy, client, path), right, f"the reply for {path[:9]} once it is over, with seed {seed}")
+                equal(client.reply_to(proxy.request(path)), right, f"the reply for {path[:9]} once it is over, with seed {seed}")
     return ", ".join(f"{count} {told}" for told, count in lack.told.items())
 
 
@@ -229,7 +209,7 @@ def with_few_handles_who_finds_none_is_told_502_or_waits_and_all_are_served_once
         for client in clients:
             client.say(proxy.request("/a"))
         time.sleep(1.5)
-        told = [next_reply(client) for client in clients if has_news(client)]
+        told = [client.hear_reply() for client in clients if has_news(client)]
         holds(all(heard in (passed(b"hello"), BAD_GATEWAY) for heard in told), f"the body or 502 in place of {set(told)}")
         holds(0 < len(told) < len(clients), f"some that are answered, and some that wait ({len(told)})")
         for client in clients:
@@ -238,54 +218,6 @@ def with_few_handles_who_finds_none_is_told_502_or_waits_and_all_are_served_once
 
 # ---- a disk that fills up
 
-
-def read_by_many(proxy, bodies, seconds, seed, beside=()):
-    """Reads random bodies and parts for so long, beside other jobs, and sees that none is wrong and none missing."""
-    is_over = threading.Event()
-
-    def end():
-        try:
-            for job in beside:
-                job()
-            time.sleep(seconds)
-        finally:
-            is_over.set()
-
-    def reader(number):
-        def read():
-            random_load(proxy, bodies, random.Random(seed + number), is_over)
-
-        return read
-
-    equal(together([end, *map(reader, range(4))]), [], f"failures, with seed {seed}")
-
-
-def expect_found(proxy, bodies, folder):
-    """The stopped program's folder vouches for no wrong byte; started, it serves all that, and asks nobody for it. Answers how
-    much of each body there is."""
-    extents = {}
-    files = {path.name: kept_in(path) for path in folder.iterdir() if len(path.name) == 32}
-    for path, body in bodies.items():
-        extents[path], data = files.get(file_of(proxy, path).name, (0, b""))
-        equal(data, body[: extents[path]], f"what the folder vouches for of {path}")
-    proxy.start()
-    proxy.origin.clear()
-    for path, extent in extents.items():
-        if extent:
-            text = said(proxy, path, ONLY_KEPT, b"Range: bytes=0-%d" % (extent - 1))[0]
-            equal(body_of(text), bodies[path][:extent], f"the kept front of {path}")
-    equal([ask.path for ask in proxy.origin.asked if ask.path in bodies], [], "asks of the origin")
-    return extents
-
-
-def serve_all(proxy, lengths):
-    """The origin has bodies of these lengths."""
-    bodies = {f"/{number}": noise(length, 97 * number) for number, length in enumerate(lengths)}
-    for path, body in bodies.items():
-        serve_whole(proxy, path, body)
-    return bodies
-
-
 SIZES = [5, 4_096, 20_000, 65_537, 100_000, 200_000, 300_000, 400_000] * 3
 
 
@@ -293,33 +225,34 @@ SIZES = [5, 4_096, 20_000, 65_537, 100_000, 200_000, 300_000, 400_000] * 3
 def a_file_system_that_fills_up_under_load_is_seen_by_no_client(world):
     seed = random.randrange(1 << 32)
     with small("2m") as place, world.anew(f"diskCacheRoot={place}/cache", "diskRun=4") as proxy:
-        folder, other = pathlib.Path(place) / "cache", pathlib.Path(place) / "other"
-        bodies, whole = serve_all(proxy, SIZES), set()
+        other = pathlib.Path(place) / "other"
+        bodies = serve_all(proxy, SIZES)
+        whole = dict.fromkeys(bodies, 0)
 
         def fill_and_free():
             # another program takes what is left, and gives it back
             for _time in range(3):
                 time.sleep(0.4)
-                whole.update(path for path, body in bodies.items() if extent_in(folder / file_of(proxy, path).name) == len(body))
+                whole.update((path, len(body)) for path, body in bodies.items() if extent_of(proxy, path) == len(body))
                 with contextlib.suppress(OSError), open(other, "wb", buffering=0) as file:
                     while file.write(bytes(4_096)):
                         pass
                 time.sleep(0.2)
                 other.unlink()
+            time.sleep(0.5)
 
-        read_by_many(proxy, bodies, 0.5, seed, [fill_and_free])
+        read_during(fill_and_free, proxy, bodies, seed)
         proxy.stop()
-        extents = expect_found(proxy, bodies, folder)
+        holds(any(whole.values()), "bodies that were kept whole before the disk was full")
+        extents = expect_kept(proxy, bodies, whole)
         holds(0 < sum(extents.values()) < 2 * MB, f"some bytes that are kept, and not all ({sum(extents.values())})")
-        lost = [path for path in whole if extents[path] < len(bodies[path])]
-        holds(whole and not lost, f"what was kept whole before the disk was full, but {lost} of {len(whole)}")
         holds(called("mount", "-o", "remount,size=16m", place), "more room")
         # behind this start no name is closed
-        read_by_many(proxy, bodies, 0.5, seed)
+        read_during(lambda: time.sleep(0.5), proxy, bodies, seed)
         for path, body in bodies.items():
             equal(body_of(said(proxy, path)[0]), body, f"the body of {path}")
         deadline = time.monotonic() + 10
-        while any(extent_in(folder / file_of(proxy, path).name) < len(body) for path, body in bodies.items()):
+        while any(extent_of(proxy, path) < len(body) for path, body in bodies.items()):
             holds(time.monotonic() < deadline, "all in the folder, once there is room")
             time.sleep(0.05)
         return f"{sum(extents.values())} bytes kept of {sum(map(len, bodies.values()))}"
@@ -332,13 +265,13 @@ def a_device_whose_blocks_run_out_is_seen_by_no_client(world):
         root = pathlib.Path(folder) / "cache"
         with world.anew(f"diskCacheRoot={root}", "diskRun=4") as proxy:
             bodies = serve_all(proxy, SIZES * 2)
-            read_by_many(proxy, bodies, 2, seed)
+            read_during(lambda: time.sleep(2), proxy, bodies, seed)
             proxy.stop()
             # what the device took is all that counts from here on
             holds(called("umount", folder), "it is mounted no more")
             holds(called("mount", "-o", "remount,size=64m", below), "a device with room")
             with mounted("-o", "loop", os.path.join(below, "image")) as again:
-                files = [kept_in(path) for path in (pathlib.Path(again) / "cache").iterdir() if len(path.name) == 32]
+                files = entries(pathlib.Path(again) / "cache").values()
                 for extent, data in files:
                     holds(any(body.startswith(data) for body in bodies.values()), f"{extent} bytes of a body that was sent")
             proxy.words = ()
@@ -389,9 +322,7 @@ def kept_on_disk(proxy, paths, length=LONG):
     more: it asked for nothing yet."""
     bodies = {path: noise(length, 97 * number) for number, path in enumerate(paths)}
     for path, body in bodies.items():
-        serve_whole(proxy, path, body)
-        equal(body_of(said(proxy, path)[0]), body, f"the body of {path}")
-        wait_for_extent(proxy, path, length)
+        keep(proxy, path, body)
     proxy.restart()
     proxy.origin.clear()
     return bodies
@@ -452,6 +383,4 @@ def a_folder_that_is_removed_is_left_with_one_line(world):
         holds(not cache_of(proxy).exists(), "no folder made anew")
         # the next start makes it
         proxy.restart()
-        serve_whole(proxy, "/0", bodies["/0"])
-        equal(body_of(said(proxy, "/0")[0]), bodies["/0"], "the body")
-        wait_for_extent(proxy, "/0", LONG)
+        keep(proxy, "/0", bodies["/0"])

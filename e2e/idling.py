@@ -1,29 +1,22 @@
 """Who does nothing for long, by a clock that leaps."""
 
-import contextlib
-import mmap
-import pathlib
 import select
 import struct
-import tempfile
 import time
 
-from harness import case, environment, equal, holds, need, ran
+from harness import case, equal, holds
 from origin import Answer, plain, response
 from played import Played
 from rules import rule
+from shims import between, shared
 from world import BAD_GATEWAY, Client, passed, reply
-
-SHIM = pathlib.Path(__file__).resolve().parent / "clock.c"
 
 
 class Clock:
     """The clock of a program, which is ahead by as much as it is told to."""
 
     def __init__(self, path):
-        path.write_bytes(bytes(8))
-        with open(path, "r+b") as file:
-            self._ahead = mmap.mmap(file.fileno(), 8)
+        self._ahead = shared(path, 8)
         self._leapt = 0
 
     def set(self, ahead):
@@ -44,16 +37,9 @@ class Clock:
         return self._leapt - before + time.monotonic() - start
 
 
-@contextlib.contextmanager
 def leaping(world):
     """The program once more, and its clock."""
-    need("cc")
-    with tempfile.TemporaryDirectory() as folder:
-        library, file = f"{folder}/clock.so", pathlib.Path(folder, "ahead")
-        equal(ran(["cc", "-shared", "-fPIC", "-o", library, SHIM]).returncode, 0, "cc's status")
-        clock = Clock(file)
-        with world.anew(environment=environment(LD_PRELOAD=library, CLOCK_FILE=str(file))) as proxy:
-            yield proxy, clock
+    return between(world, "clock.c", "CLOCK_FILE", Clock)
 
 
 def has_news(client):

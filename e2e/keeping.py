@@ -34,16 +34,18 @@ def fresh(body, date):
 
 
 def cache_of(world):
-    return pathlib.Path(world.folder.name) / "polipo-cache"
+    """The folder of its cache, which a word may name."""
+    named = [word.removeprefix("diskCacheRoot=") for word in world.words if word.startswith("diskCacheRoot=")]
+    return pathlib.Path(world.folder.name) / (named or ["polipo-cache"])[-1]
 
 
 def file_of(world, path):
     return cache_of(world) / hashlib.md5(world.url(path).encode()).hexdigest()
 
 
-def entries(world):
-    """How much of each body the folder vouches for, and these bytes, by file name: read by the format alone."""
-    return {path.name: kept_in(path) for path in cache_of(world).iterdir() if len(path.name) == 32}
+def entries(folder):
+    """How much of each body a folder vouches for, and these bytes, by file name: read by the format alone."""
+    return {path.name: kept_in(path) for path in folder.iterdir() if len(path.name) == 32}
 
 
 def extent_of(world, path):
@@ -79,6 +81,26 @@ def serve_whole(world, path, body, **pace):
     return date
 
 
+def fetch(world, path, body):
+    """The origin has this body, and a client is said it."""
+    serve_whole(world, path, body)
+    equal(body_of(said(world, path)[0]), body, f"the body of {path}")
+
+
+def keep(world, path, body):
+    """The same, and all of it comes to be in the folder."""
+    fetch(world, path, body)
+    wait_for_extent(world, path, len(body))
+
+
+def serve_all(world, lengths, **pace):
+    """The origin has a body of each of these lengths, at this pace."""
+    bodies = {f"/{number}": noise(length, 97 * number) for number, length in enumerate(lengths)}
+    for path, body in bodies.items():
+        serve_whole(world, path, body, **pace)
+    return bodies
+
+
 def asked_for(world, path):
     return [ask for ask in world.origin.asked if ask.path == path]
 
@@ -91,9 +113,7 @@ def what_was_kept_is_served_after_a_kill_without_being_asked_again(world):
     bodies = {"/small": b"hello", "/chunk": noise(4096), "/run": noise(65_536, 1), "/more": noise(65_537, 2), "/long": noise(2_000_000, 3)}
     with world.anew() as proxy:
         for path, body in bodies.items():
-            serve_whole(proxy, path, body)
-            equal(body_of(said(proxy, path)[0]), body, f"the body of {path}")
-            wait_for_extent(proxy, path, len(body))
+            keep(proxy, path, body)
         proxy.restart()
         proxy.origin.clear()
         for path, body in bodies.items():
@@ -173,9 +193,7 @@ def a_page_that_each_use_must_check_is_not_written_anew_at_each(world):
 def what_a_request_changes_loses_its_entry_behind_a_restart_too(world):
     with world.anew() as proxy:
         for path in ("/a", "/b"):
-            serve_whole(proxy, path, b"hello")
-            said(proxy, path)
-            wait_for_extent(proxy, path, 5)
+            keep(proxy, path, b"hello")
         proxy.restart()
         proxy.origin.clear()
         proxy.origin.on("/a", Answer(response(b"changed", b"Content-Location: /b")))
@@ -191,9 +209,7 @@ def what_a_request_changes_loses_its_entry_behind_a_restart_too(world):
 def heads_conditions_and_parts_are_answered_from_the_disk(world):
     body = noise(100_000)
     with world.anew() as proxy:
-        serve_whole(proxy, "/a", body)
-        said(proxy, "/a")
-        wait_for_extent(proxy, "/a", len(body))
+        keep(proxy, "/a", body)
         proxy.restart()
         proxy.origin.clear()
         with Client(port=proxy.port) as client:
@@ -213,9 +229,7 @@ def heads_conditions_and_parts_are_answered_from_the_disk(world):
 def bodies_larger_than_memory_are_read_from_the_disk_by_many(world):
     body, marks = noise(6_000_000), ("chunkLowMark=512", "chunkHighMark=512", "chunkCriticalMark=1024")
     with world.anew(*marks) as proxy:
-        serve_whole(proxy, "/a", body)
-        said(proxy, "/a")
-        wait_for_extent(proxy, "/a", len(body))
+        keep(proxy, "/a", body)
         proxy.restart()
         proxy.origin.clear()
 
@@ -229,14 +243,12 @@ def bodies_larger_than_memory_are_read_from_the_disk_by_many(world):
         equal(asked_for(proxy, "/a"), [], "asks of the origin")
 
 
-# ---- kills under load
-
-LENGTHS = [5, 4095, 4096, 4097, 20_000, 65_536, 100_000, 300_000, 1_000_000, 3_000_000]
+# ---- readers at random
 
 
-def random_load(world, bodies, choose, is_killed):
-    """Reads random bodies and parts until the program is killed, and sees that no byte is wrong, and until then none missing."""
-    while not is_killed.is_set():
+def random_load(world, bodies, choose, is_over):
+    """Reads random bodies and parts until it is over, and sees that no byte is wrong, and until then none missing."""
+    while not is_over.is_set():
         path = choose.choice(list(bodies))
         body = bodies[path]
         first = choose.randrange(len(body))
@@ -246,10 +258,40 @@ def random_load(world, bodies, choose, is_killed):
         try:
             came = body_of(said(world, path, *fields)[0])
         except OSError:
-            holds(is_killed.is_set(), f"a reply for {path} before the kill")
+            holds(is_over.is_set(), f"a reply for {path} before it is over")
             continue
         holds(wanted.startswith(came), f"a front of the bytes of {path} from {first} on in place of {came[:40]!r}..")
-        holds(came == wanted or is_killed.is_set(), f"the bytes of {path} from {first} on, whole before the kill")
+        holds(came == wanted or is_over.is_set(), f"the bytes of {path} from {first} on, whole before it is over")
+
+
+def readers(world, bodies, seed, is_over):
+    """Some that read at random until it is over."""
+
+    def reader(number):
+        def read():
+            random_load(world, bodies, random.Random(seed + number), is_over)
+
+        return read
+
+    return [reader(number) for number in range(4)]
+
+
+def read_during(job, world, bodies, seed):
+    """Some read at random while this is done; no byte is wrong, and none missing."""
+    is_over = threading.Event()
+
+    def to_its_end():
+        try:
+            job()
+        finally:
+            is_over.set()
+
+    equal(together([to_its_end, *readers(world, bodies, seed, is_over)]), [], f"failures, with seed {seed}")
+
+
+# ---- kills under load
+
+LENGTHS = [5, 4095, 4096, 4097, 20_000, 65_536, 100_000, 300_000, 1_000_000, 3_000_000]
 
 
 def watch_folder(world, extents, is_killed):
@@ -280,24 +322,17 @@ def kill_under_load(world, bodies, extents, choose):
     def watch():
         watch_folder(world, extents, is_killed)
 
-    def reader(seed):
-        def read():
-            random_load(world, bodies, random.Random(seed), is_killed)
-
-        return read
-
-    readers = [reader(choose.randrange(1 << 32)) for _ in range(4)]
-    equal(together([*readers, watch, kill]), [], "failures")
+    load = readers(world, bodies, choose.randrange(1 << 32), is_killed)
+    equal(together([*load, watch, kill]), [], "failures")
     return seen
 
 
 def expect_kept(world, bodies, seen):
     """The folder of the stopped program has what was seen in it, and no wrong byte; started, it serves that, and asks nobody for
     it. Answers how much of each body there is."""
-    extents = {}
+    kept, extents = entries(cache_of(world)), {}
     for path, body in bodies.items():
-        file = file_of(world, path)
-        extents[path], data = kept_in(file) if file.exists() else (0, b"")
+        extents[path], data = kept.get(file_of(world, path).name, (0, b""))
         equal(data, body[: extents[path]], f"what the folder vouches for of {path}")
         holds(extents[path] >= seen[path], f"{seen[path]} bytes of {path}, which were acknowledged, in place of {extents[path]}")
     world.start()
@@ -315,13 +350,11 @@ def expect_kept(world, bodies, seen):
 def what_was_acknowledged_outlives_kills_under_load_and_no_reply_has_a_wrong_byte(world):
     seed = random.randrange(1 << 32)
     choose = random.Random(seed)
-    bodies = {f"/{number}": noise(length, 97 * number) for number, length in enumerate(LENGTHS)}
     kills, growing, demanded, new_bytes = 0, 0, [], 0
     try:
         with world.anew("diskRun=4") as proxy:
-            for path, body in bodies.items():
-                # Slowly enough that a kill finds bodies that came in part, on the fastest disk too.
-                serve_whole(proxy, path, body, piece=50_000, pause=0.002)
+            # Slowly enough that a kill finds bodies that came in part, on the fastest disk too.
+            bodies = serve_all(proxy, LENGTHS, piece=50_000, pause=0.002)
             extents, deadline = dict.fromkeys(bodies, 0), time.monotonic() + KILLING_SECONDS
             while kills < KILLS and time.monotonic() < deadline:
                 if all(extents[path] == len(body) for path, body in bodies.items()):
@@ -376,9 +409,7 @@ def a_folder_of_another_program_ends_the_program(world):
 @case
 def a_folder_is_the_users_alone(world):
     with world.anew() as proxy:
-        serve_whole(proxy, "/a", b"hello")
-        said(proxy, "/a")
-        wait_for_extent(proxy, "/a", 5)
+        keep(proxy, "/a", b"hello")
         equal(cache_of(proxy).stat().st_mode & 0o777, 0o700, "the folder's mode")
         equal(file_of(proxy, "/a").stat().st_mode & 0o777, 0o600, "a file's mode")
 
@@ -408,9 +439,7 @@ def a_folder_that_is_moved_is_left_with_one_line(world):
 def foreign_and_damaged_files_are_passed_over(world):
     body = noise(100_000)
     with world.anew() as proxy:
-        serve_whole(proxy, "/a", body)
-        said(proxy, "/a")
-        wait_for_extent(proxy, "/a", len(body))
+        keep(proxy, "/a", body)
         proxy.stop()
         whole = file_of(proxy, "/a").read_bytes()
         foreign = {
@@ -447,8 +476,7 @@ def a_full_disk_is_seen_by_no_client(world):
             raise Failed(f"    {why}")
         for _time in (1, 2):
             for path, body in bodies.items():
-                serve_whole(proxy, path, body)
-                equal(body_of(said(proxy, path)[0]), body, f"the body of {path}")
+                fetch(proxy, path, body)
         equal(len(proxy.origin.asked), len(bodies), "asks of the origin: what is in memory is served from there")
         for path in bodies:
             holds(extent_of(proxy, path) == 0, f"nothing of {path} in the folder")
@@ -458,9 +486,7 @@ def a_full_disk_is_seen_by_no_client(world):
 def a_file_that_goes_away_is_seen_by_no_client(world):
     body = noise(300_000)
     with world.anew() as proxy:
-        serve_whole(proxy, "/a", body)
-        said(proxy, "/a")
-        wait_for_extent(proxy, "/a", len(body))
+        keep(proxy, "/a", body)
         proxy.restart()
         file_of(proxy, "/a").unlink()
         equal(body_of(said(proxy, "/a")[0]), body, "the body whose file is gone")
@@ -470,10 +496,8 @@ def a_file_that_goes_away_is_seen_by_no_client(world):
 def a_disk_that_is_full_keeps_what_it_has_and_goes_on_where_there_is_room(world):
     bodies = {f"/{number}": noise(20_000, number) for number in range(20)}
     with small("256k") as place, world.anew(f"diskCacheRoot={place}/cache") as proxy:
-        folder = pathlib.Path(place) / "cache"
         for path, body in bodies.items():
-            serve_whole(proxy, path, body)
-            equal(body_of(said(proxy, path)[0]), body, f"the body of {path}")
+            fetch(proxy, path, body)
         proxy.restart()
         proxy.origin.clear()
         served = [path for path, body in bodies.items() if body_of(said(proxy, path, ONLY_KEPT)[0]) == body]
@@ -483,12 +507,10 @@ def a_disk_that_is_full_keeps_what_it_has_and_goes_on_where_there_is_room(world)
         # A draft that failed is followed by none before the next tick.
         time.sleep(1.5)
         for path, body in bodies.items():
-            serve_whole(proxy, path, body)
-            equal(body_of(said(proxy, path)[0]), body, f"the body of {path}")
-        kept_now = {file.name: kept_in(file) for file in folder.iterdir() if len(file.name) == 32}
+            fetch(proxy, path, body)
+        kept = entries(cache_of(proxy))
         for path, body in bodies.items():
-            name = hashlib.md5(proxy.url(path).encode()).hexdigest()
-            equal(kept_now.get(name), (len(body), body), f"the entry of {path}")
+            equal(kept.get(file_of(proxy, path).name), (len(body), body), f"the entry of {path}")
 
 
 @case
@@ -496,8 +518,7 @@ def a_folder_that_may_not_be_written_any_more_is_seen_by_no_client(world):
     bodies = {f"/{number}": noise(20_000, number) for number in range(6)}
     with small("4m") as place, world.anew(f"diskCacheRoot={place}/cache") as proxy:
         for path, body in list(bodies.items())[:3]:
-            serve_whole(proxy, path, body)
-            equal(body_of(said(proxy, path)[0]), body, f"the body of {path}")
+            fetch(proxy, path, body)
         proxy.stop()
         holds(called("mount", "-o", "remount,ro", place), "a file system that is not written")
         proxy.start()
@@ -553,9 +574,7 @@ def places(pattern, text):
 
 def block_that_it_writes(proxy):
     """The head block that the program writes for /0000, with a body of two chunks; it is stopped behind that."""
-    serve_whole(proxy, "/0000", noise(TWO_CHUNKS))
-    said(proxy, "/0000")
-    wait_for_extent(proxy, "/0000", TWO_CHUNKS)
+    keep(proxy, "/0000", noise(TWO_CHUNKS))
     proxy.stop()
     return file_of(proxy, "/0000").read_bytes()[:GATES_AT]
 
@@ -677,15 +696,11 @@ def what_is_kept_is_synced_in_order_and_a_hit_from_memory_calls_no_file(world):
             calls = lambda: calls_in(trace.read_text(), "polipo-cache")
             before = calls()
             equal(before, ["sync folder"], "the calls of the opening")
-            serve_whole(proxy, "/small", b"hello")
-            said(proxy, "/small")
-            wait_for_extent(proxy, "/small", 5)
+            keep(proxy, "/small", b"hello")
             small_calls = ["open draft", "write draft 12293", *PUBLISHED]
             equal(calls()[len(before) :], small_calls, "the calls for a small body")
             long = noise(16 * CHUNK + 100)
-            serve_whole(proxy, "/long", long)
-            said(proxy, "/long")
-            wait_for_extent(proxy, "/long", len(long))
+            keep(proxy, "/long", long)
             before += small_calls
             wanted = [
                 "close",

@@ -11,7 +11,7 @@ import tempfile
 from harness import TOOL_SECONDS, Failed, case, equal, holds, ran
 from network import free_port, wait_until_it_listens
 from origin import Answer, plain
-from world import PORT, WORDS
+from world import PORT, WORDS, Client
 
 USAGE = b"usage: polipo [-c FILE] [-g SEED] [name=value ...]\n"
 
@@ -115,11 +115,9 @@ def it_listens_where_words_and_file_say_and_tells_its_name(world):
     port, other = free_port(), free_port()
     text = b"proxyPort = %d\nproxyName = \"house-1.local\"\n" % other
     with started(world, port, ["-c", "f", f"proxyPort={port}"], text):
-        with socket.create_connection(("127.0.0.1", port), timeout=10) as client:
-            client.sendall(world.last_request("/named"))
-            heard = b""
-            while piece := client.recv(65536):
-                heard += piece
+        with Client(port=port) as client:
+            client.say(world.last_request("/named"))
+            heard = client.hear_all()
         holds(b"\r\nvia: 1.1 house-1.local\r\n" in heard.lower(), "its name in Via")
         holds(heard.endswith(b"\r\n\r\nhello"), "the body")
 

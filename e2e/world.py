@@ -46,6 +46,7 @@ def page(status, connection=b"close"):
 BAD_REQUEST = page(b"400 Bad Request")
 LENGTH_REQUIRED = page(b"411 Length Required")
 TOO_LONG = page(b"431 Request Header Fields Too Large")
+INTERNAL_ERROR = page(b"500 Internal Server Error", b"keep-alive")
 BAD_GATEWAY = page(b"502 Bad Gateway", b"keep-alive")
 LAST_BAD_GATEWAY = page(b"502 Bad Gateway")
 CONTINUE = lines(b"HTTP/1.1 100 Continue")
@@ -109,6 +110,21 @@ class Client:
             self._unread += piece
         text, found, self._unread = self._unread.partition(mark)
         return text + found
+
+    def hear_reply(self):
+        """The next reply, whose head tells its length, without its age; less where the proxy ends or breaks off before."""
+        heard = b""
+        with contextlib.suppress(ConnectionError):
+            heard = re.sub(rb"\r\nage: \d+", b"", self.hear_until(b"\r\n\r\n"))
+            if length := re.search(rb"\r\ncontent-length: (\d+)\r\n", heard):
+                heard += self.hear(int(length[1]))
+        return heard
+
+    def reply_to(self, text):
+        """The reply to this, as far as it comes: maybe the proxy has closed the connection before."""
+        with contextlib.suppress(ConnectionError):
+            self.say(text)
+        return self.hear_reply()
 
     def hear_chunks(self):
         """The data of a chunked body, to its last chunk; each chunk as the proxy spells it."""

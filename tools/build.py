@@ -142,10 +142,13 @@ class Build:
         """Those that can begin, the one with the longest chain behind it first."""
         return sorted((it for it in self.left if self.proved.issuperset(self.listed[it])), key=self.chain.get, reverse=True)
 
+    def is_waited_for(self, name):
+        return all(name in below(it, self.listed) for it in self.left)
+
     def begin(self):
         while self.free > 0 and (ready := self.ready()):
-            # What stands alone, all that is left waits for: it has all places, though some are not free yet.
-            name, jobs = ready[0], self.places if len(ready) == 1 else max(1, self.free // len(ready))
+            # What all that is left waits for has all places, though some are not free yet.
+            name, jobs = ready[0], self.places if self.is_waited_for(ready[0]) else max(1, self.free // len(ready))
             # The program is run once, with a word that it refuses, so that it ends at once.
             words, top = (["run", "--", "build-only"], TOP) if name == "polipo" else (["lib", "--jobs", str(jobs)], self.rooms.pop())
             self.left.remove(name)

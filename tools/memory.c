@@ -1,5 +1,5 @@
-/* The memory of a program that is started with this before its C library (LD_PRELOAD): the allocation of the number in REFUSED, from
-   1, is refused. At the end it says on standard error how many were asked for. */
+/* The memory of a program that is started with this before its C library (LD_PRELOAD): the allocation of the number in
+   REFUSED, from 1, is refused. At the end it says on standard error how many were asked for. */
 #include <stdio.h>
 #include <stdlib.h>
 

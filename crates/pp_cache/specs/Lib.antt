@@ -1,2 +1,4 @@
+pub mod Memory
 pub mod Named
+pub mod OnDisk
 pub mod Uses

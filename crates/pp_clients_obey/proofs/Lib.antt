@@ -1,2 +1,6 @@
+pub mod Closes
+pub mod Decides
+pub mod Ends
 pub mod Hears
 pub mod Says
+pub mod Walks

@@ -24,7 +24,7 @@ use Rattle.pp_clients_obey.proofs.Hears.{same_seat}
 
 -- ---- chunks that are used leave the clients as they are
 
-abbrev seen : State → Bytes × List Client
+abbrev pub seen : State → Bytes × List Client
 seen s = (s.settings.name, s.clients)
 
 seen_found : (id i : ℕ) (s : State) (o : Option Chunk) → seen (elim o as (λ x. State) [ None ↦ s | Some c ↦ record s { chunks = put_chunk id i c.bytes s.chunks } ]) ≡ seen s
@@ -49,7 +49,7 @@ seen_next n s false o = refl
 seen_next n s true None = refl
 seen_next n s true (Some x) = seen_from n x s
 
-seen_said : (n : ℕ) (c : Client) (s : State) → seen (use_said n c s) ≡ seen s
+pub seen_said : (n : ℕ) (c : Client) (s : State) → seen (use_said n c s) ≡ seen s
 unfolding use_said
 seen_said n c s = seen_next (of_body n c) s (nat_lt 0 (of_body n c)) (next_of s c)
 
@@ -68,7 +68,7 @@ unfolding on_client
 shown_on name owed n i seats seat bytes s sits leaves shown =
     changes s.settings.name owed seats s.clients n i (told_by (length bytes) seat) (said_by (length bytes)) shown sits.at (said_one s.settings.name owed n i seats seat bytes sits leaves)
 
-said_is : (n k : ℕ) (x : Client) (s : State) → client s n ≡ Some x → paid (said n k s) ≡ paid (end_replies (on_client n (said_by k) (use_said k x s)))
+pub said_is : (n k : ℕ) (x : Client) (s : State) → client s n ≡ Some x → paid (said n k s) ≡ paid (end_replies (on_client n (said_by k) (use_said k x s)))
 unfolding said
 said_is n k x s found = ap (λ (o : Option Client). paid (elim o as (λ y. State) [ None ↦ s | Some y ↦ end_replies (on_client n (said_by k) (use_said k y s)) ])) found
 

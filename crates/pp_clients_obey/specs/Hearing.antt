@@ -25,7 +25,7 @@ pub record WasRead (owed : List Bytes) (seats : List Seat) (s : State) : Type 0 
   pub shown : AreShown before.settings.name owed seats before.clients
   pub ended : s ≡ paid (end_replies before)
 
--- nothing came of it
+-- nothing more is owed, and the seats show the clients as they are before attempts count anew
 pub record WasOwed (owed : List Bytes) (seats : List Seat) (s : State) : Type 0 where
   pub before : State
   pub shown : AreShown before.settings.name owed seats before.clients

@@ -1,2 +1,5 @@
+pub mod Closing
+pub mod Deciding
+pub mod Ending
 pub mod Hearing
 pub mod Saying

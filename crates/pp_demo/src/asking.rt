@@ -1,6 +1,7 @@
 // What the clients ask for.
-ghost use Rattle.std.specs.Prelude.{◌≡◌, ◌++◌, IfOk, OnOk, decimal};
-ghost use Rattle.pp_demo.specs.Asking.{behind_client, behind_clients, cues_of_clients, range_line, request_of, request_text};
+ghost use Rattle.std.specs.Prelude.{◌≡◌, ◌<◌, ◌≤◌, ◌^◌, ◌++◌, IfOk, OnOk, decimal};
+ghost use Rattle.pp_demo.specs.Asking.{behind_client, behind_clients, cues_of_client, cues_of_clients, range_behind, range_line, request_of, request_text};
+ghost use Rattle.pp_demo.specs.Generator.{state_behind};
 
 use crate::generator::Generator;
 use crate::pages::{LastOffsets, PAGES};
@@ -33,14 +34,27 @@ pub(crate) struct Request {
 }
 
 /// Draws a request for one of the pages.
-#[tactic(auto, using(crate::proofs::Steps::values))]
 pub(crate) fn draw_request(generator: &mut Generator, last_offsets: &LastOffsets) -> Request
     ensures state { generator.new.state ≡ behind_client generator.old.state }
     ensures request { result ≡ request_of last_offsets.now generator.old.state }
 {
     let page = generator.draw_below(PAGES as u32);
+    let form = generator.draw_below(3);
     let len = u64::from(last_offsets[page as usize]) + 1;
-    let range = match generator.draw_below(3) {
+    let range = draw_range(generator, form, len);
+    Request { page, range }
+}
+
+/// Draws which bytes of a page of this length are asked for: all, those from an offset on, or a span.
+#[tactic(auto, using(crate::proofs::Steps::values))]
+fn draw_range(generator: &mut Generator, form: u32, len: u64) -> Range
+    requires form { form < 3 }
+    requires some { 0 < len }
+    requires short { len ≤ 2 ^ 32 }
+    ensures state { generator.new.state ≡ state_behind form generator.old.state }
+    ensures range { result ≡ range_behind len form generator.old.state }
+{
+    match form {
         0 => Range::Whole,
         1 => Range::From(u64::from(generator.draw()) % len),
         _ => {
@@ -48,8 +62,7 @@ pub(crate) fn draw_request(generator: &mut Generator, last_offsets: &LastOffsets
             let more = u64::from(generator.draw_below(MOST_SPAN));
             Range::Between(from, from + more)
         }
-    };
-    Request { page, range }
+    }
 }
 
 /// Draws what a client asks for, and leaves it.
@@ -74,8 +87,7 @@ pub(crate) fn skip_clients(generator: &mut Generator)
     }
 }
 
-/// Adds the cues of the clients of a life: each connects, and says its request.
-#[tactic(auto, using(crate::proofs::Steps::cues))]
+/// Adds the cues of the clients of a life.
 pub(crate) fn put_clients(
     alloc: Global,
     generator: &mut Generator,
@@ -85,11 +97,26 @@ pub(crate) fn put_clients(
     ensures { OnOk result (cues.new.items ≡ cues.old.items ++ cues_of_clients 40 last_offsets.now generator.old.state) }
 {
     for _client in 0..CLIENTS {
-        let request = draw_request(generator, last_offsets);
-        let text = text_of(alloc, request)?;
-        cues.push(Cue::Connect).map_err(AllocError::from)?;
-        cues.push(Cue::Say(0, text)).map_err(AllocError::from)?;
+        put_client(alloc, generator, last_offsets, cues)?;
     }
+    Ok(())
+}
+
+/// Adds the cues of a client: it connects, and says its request.
+#[tactic(auto, using(crate::proofs::Steps::client_put))]
+fn put_client(
+    alloc: Global,
+    generator: &mut Generator,
+    last_offsets: &LastOffsets,
+    cues: &mut Vec<Cue>,
+) -> Result<(), OutOfMemory>
+    ensures state { generator.new.state ≡ behind_client generator.old.state }
+    ensures cues { OnOk result (cues.new.items ≡ cues.old.items ++ cues_of_client last_offsets.now generator.old.state) }
+{
+    let request = draw_request(generator, last_offsets);
+    let text = text_of(alloc, request)?;
+    cues.push(Cue::Connect).map_err(AllocError::from)?;
+    cues.push(Cue::Say(0, text)).map_err(AllocError::from)?;
     Ok(())
 }
 

@@ -1,5 +1,5 @@
 // Where and how a life crashes.
-ghost use Rattle.std.specs.Prelude.{◌≡◌, ◌-◌, min, length};
+ghost use Rattle.std.specs.Prelude.{◌≡◌, ◌≤◌, ◌-◌, min, length};
 ghost use Rattle.pp_demo.specs.Generator.{next_state};
 ghost use Rattle.pp_demo.specs.Script.{begin_of, crash_in, crash_of, past_woke};
 
@@ -47,10 +47,16 @@ fn draw_crash(generator: &mut Generator) -> (u64, u64)
 pub fn crash_place(log: &[Happening], lost: u64) -> usize
     ensures { result ≡ length log.now - min lost (past_woke log.now) }
 {
-    let past = log
-        .iter()
+    log.len() - past_woke(log).min(lost as usize)
+}
+
+/// How many happenings stand behind the last `Woke`.
+fn past_woke(log: &[Happening]) -> usize
+    ensures past { result ≡ past_woke log.now }
+    ensures within { result ≤ length log.now }
+{
+    log.iter()
         .rev()
         .position(|happening| is_woke(happening))
-        .unwrap_or(log.len());
-    log.len() - past.min(lost as usize)
+        .unwrap_or(log.len())
 }

@@ -14,7 +14,7 @@ pub(crate) struct Generator {
 
 impl Generator {
     /// The next value: the low bits of such a state repeat soon, so they are left out.
-    #[tactic(auto, using(crate::proofs::Steps::moduli), unfolding(crate::specs::Generator::next_state, crate::specs::Generator::value_in))]
+    #[tactic(auto, using(crate::proofs::Steps::next_by), unfolding(crate::specs::Generator::value_in))]
     pub(crate) fn draw(&mut self) -> u32
         ensures state { self.new.state ≡ next_state self.old.state }
         ensures value { result ≡ value_in self.new.state }

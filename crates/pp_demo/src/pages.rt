@@ -1,7 +1,7 @@
 // What the origin has.
-ghost use Rattle.std.specs.Prelude.{◌≡◌, ◌<◌, ◌++◌, IfOk, decimal};
+ghost use Rattle.std.specs.Prelude.{◌≡◌, ◌<◌, ◌+◌, ◌^◌, ◌++◌, IfOk, decimal};
 ghost use Rattle.pp_demo.specs.Generator.{state_behind};
-ghost use Rattle.pp_demo.specs.Pages.{body_of, byte_at, last_offsets, page_of, pages_up_to};
+ghost use Rattle.pp_demo.specs.Pages.{byte_at, bytes_up_to, last_offsets, page_of, pages_up_to};
 
 use crate::generator::Generator;
 use itoa::Buffer;
@@ -70,20 +70,24 @@ fn numbered(alloc: Global, before: &[u8], number: u64, behind: &[u8]) -> Result<
 }
 
 /// The bytes of the page of this number.
+#[tactic(auto, using(crate::proofs::Steps::bytes))]
 fn body_of(alloc: Global, number: u8, last: u32) -> Result<Octets, OutOfMemory>
-    ensures { IfOk result (λ body. body ≡ body_of number last) }
+    ensures { IfOk result (λ body. body ≡ bytes_up_to number (last + 1)) }
 {
-    let bytes: Vec<u8> = (0..=last)
-        .map(|offset| byte_at(number, offset))
-        .collect(alloc)?;
+    let mut bytes = Vec::new(alloc);
+    let len = u64::from(last) + 1;
+    for offset in 0..len {
+        let byte = byte_at(number, offset);
+        bytes.push(byte).map_err(AllocError::from)?;
+    }
     Octets::copy(alloc, bytes.as_slice())
 }
 
 /// The byte at an offset of the page of this number.
-fn byte_at(number: u8, offset: u32) -> u8
+fn byte_at(number: u8, offset: u64) -> u8
+    requires { offset < 2 ^ 32 }
     ensures { result ≡ byte_at number offset }
 {
-    let offset = u64::from(offset);
     let sum = 31 * u64::from(number) + 7 * offset + offset / 4096;
     (sum % 256) as u8
 }

@@ -26,12 +26,42 @@ pub fn summary_of(log: &[Happening]) -> Summary
     ensures { result ≡ summary_of log.now }
 {
     Summary {
-        lives: log.iter().filter(|happening| is_woke(*happening)).count() as u64,
-        replies: log.iter().filter(|happening| is_reply(*happening)).count() as u64,
-        cuts: log.iter().filter(|happening| is_cut(*happening)).count() as u64,
-        asks: log.iter().filter(|happening| is_asked(*happening)).count() as u64,
-        kept: log.iter().filter(|happening| is_kept(*happening)).count() as u64,
+        lives: lives_in(log),
+        replies: replies_in(log),
+        cuts: cuts_in(log),
+        asks: asks_in(log),
+        kept: kept_in(log),
     }
+}
+
+fn lives_in(log: &[Happening]) -> u64
+    ensures { result ≡ count_by is_woke log.now }
+{
+    log.iter().filter(|happening| is_woke(*happening)).count() as u64
+}
+
+fn replies_in(log: &[Happening]) -> u64
+    ensures { result ≡ count_by is_reply log.now }
+{
+    log.iter().filter(|happening| is_reply(*happening)).count() as u64
+}
+
+fn cuts_in(log: &[Happening]) -> u64
+    ensures { result ≡ count_by is_cut log.now }
+{
+    log.iter().filter(|happening| is_cut(*happening)).count() as u64
+}
+
+fn asks_in(log: &[Happening]) -> u64
+    ensures { result ≡ count_by is_asked log.now }
+{
+    log.iter().filter(|happening| is_asked(*happening)).count() as u64
+}
+
+fn kept_in(log: &[Happening]) -> u64
+    ensures { result ≡ count_by is_kept log.now }
+{
+    log.iter().filter(|happening| is_kept(*happening)).count() as u64
 }
 
 pub(crate) fn is_woke(happening: &Happening) -> bool

@@ -8,12 +8,16 @@
 #![tactic(auto)]
 
 #[cfg(test)]
-mod bad_input; // what is no HTTP, or not what was asked for
+mod bad_requests; // requests that are none
+#[cfg(test)]
+mod bad_responses; // responses that are none
 mod course; // what clients and the origin do, and may be said
 #[cfg(test)]
 mod crashes; // the machine stops behind each happening
 #[cfg(test)]
 mod failing; // each call that can fail fails once
+#[cfg(test)]
+mod filled; // texts that are as long as may be
 mod lives; // a life of the program, and one more behind a crash
 #[cfg(test)]
 mod useless; // answers that bring nothing of what was asked for

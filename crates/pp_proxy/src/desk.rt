@@ -10,8 +10,9 @@ use crate::origin::Origin;
 use pp_client::Room;
 use pp_links::Links;
 use pp_peers::Peers;
+use pp_seats::Due;
 use pp_shelf::Shelf;
-use pp_steps::{Due, State};
+use pp_steps::State;
 use pp_world::{Cause, Decision, Event, Note, Wire, World};
 
 /// The most clients at once.
@@ -44,7 +45,7 @@ pub(crate) struct Desk {
 
 impl Desk {
     /// Handles an event to its end.
-    #[tactic(auto, using(crate::proofs::DiskLemmas::holds_quietly))]
+    #[tactic(auto, using(crate::proofs::DiskLemmas::holds_quietly, pp_shelf::proofs::SteadyLemmas::steady_then, pp_shelf::proofs::SteadyLemmas::quiet_is_steady))]
     pub(crate) fn take_event<W: World>(
         &mut self,
         links: &mut Links,

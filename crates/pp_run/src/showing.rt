@@ -1,5 +1,5 @@
 // Five lives over a world in memory.
-ghost use Rattle.std.specs.Prelude.{◌≡◌, Some, IfOk, option_map};
+ghost use Rattle.std.specs.Prelude.{◌≡◌, ◌<◌, Some, IfOk, option_map};
 ghost use Rattle.pp_demo.specs.Summary.{summary_of};
 ghost use Rattle.pp_memworld.specs.MemWorld.{told_log};
 ghost use Rattle.pp_recover.specs.Opening.{IsFresh};
@@ -35,17 +35,21 @@ pub fn demo(alloc: Global, seed: u64) -> Result<Shown, OutOfMemory>
     };
     let mut world = first_life(alloc, seed, &conf)?;
     for life in 1..LIVES {
-        world = next_life(alloc, seed, life, &conf, &world)?;
+        world = next_life(alloc, seed, life, &conf, &*world)?;
     }
-    let summary = summary_of(log_of(&world)?);
+    let summary = summary_of(log_of(&*world)?);
     Ok(Shown { world, summary })
 }
 
 #[tactic(auto, using(pp_shelf::proofs::OpeningLemmas::fresh_first))]
 fn first_life(alloc: Global, seed: u64, conf: &Conf) -> Result<Box<MemWorld>, OutOfMemory> {
     let script = demo_script(alloc, seed, 0)?;
-    let world = MemWorld::new(alloc, script, Image::new(alloc), Vec::new(alloc))?;
-    live(alloc, conf, boxed(alloc, world)?)
+    let mut world = boxed(
+        alloc,
+        MemWorld::new(alloc, script, Image::new(alloc), Vec::new(alloc))?,
+    )?;
+    live(alloc, conf, &mut *world)?;
+    Ok(world)
 }
 
 /// The life of this number, behind a crash of the one before.
@@ -63,19 +67,21 @@ fn next_life(
     let (lost, choice) = demo_crash(seed, life - 1);
     let at = crash_place(log_of(before)?, lost);
     let crashed = before.crash(alloc, at, choice, script, Vec::new(alloc))?;
-    let Some(world) = crashed else {
+    let Some(next) = crashed else {
         return Err(OutOfMemory);
     };
-    live(alloc, conf, boxed(alloc, world)?)
+    let mut world = boxed(alloc, next)?;
+    live(alloc, conf, &mut *world)?;
+    Ok(world)
 }
 
 /// Serves to the end of the world's script.
-fn live(alloc: Global, conf: &Conf, mut world: Box<MemWorld>) -> Result<Box<MemWorld>, OutOfMemory>
-    requires { Told (told_log world.value) (λ l. (files : Files) × IsFresh files l) }
+fn live(alloc: Global, conf: &Conf, world: &mut MemWorld) -> Result<(), OutOfMemory>
+    requires { Told (told_log world.old) (λ l. (files : Files) × IsFresh files l) }
 {
-    match open(alloc, conf, &mut *world) {
+    match open(alloc, conf, world) {
         Exit::NoMemory => Err(OutOfMemory),
-        Exit::Served | Exit::Usage | Exit::NoDisk | Exit::NoListener | Exit::NoConfig => Ok(world),
+        Exit::Served | Exit::Usage | Exit::NoDisk | Exit::NoListener | Exit::NoConfig => Ok(()),
     }
 }
 

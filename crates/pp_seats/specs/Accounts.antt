@@ -1,5 +1,6 @@
 -- What the operator's log is to say of a reply. Ours: it is beside the replies, and none rests on it.
-use Rattle.std.specs.Prelude.{◌≡◌, ◌⊎◌, ⊤, ℕ, ◌+◌, ◌-◌, ◌^◌, ◌==◌, List, [], ◌++◌, min, cond, codes}
+use Rattle.std.specs.Prelude.{◌≡◌, ◌⊎◌, ⊤, ℕ, ◌+◌, ◌-◌, ◌^◌, ◌==◌, List, [], ◌∷◌, ◌++◌, min, nat_eq, cond, codes}
+use Rattle.std.specs.List.{starts_with}
 use Rattle.pp_world.specs.declared.access.Source.{Source}
 use Rattle.pp_world.specs.declared.access.Source.TheVariants.{Hit as AllHeld, Part as SomeHeld, Checked, Fetched, Passed as PassedOn, Refused as OwnPage}
 use Rattle.pp_world.specs.declared.note.Decision.{Decision}
@@ -89,3 +90,8 @@ line_of Nothing = []
 line_of More = []
 line_of (Asked request fault) = request_line request
 line_of (Refused status) = []
+
+-- bytes through the empty line that ends the head at the front of a text; all of them where it has none
+unfoldable pub head_len_in : List ℕ → ℕ
+head_len_in [] = 0
+head_len_in (b ∷ bs) = cond (starts_with nat_eq (b ∷ bs) (13 ∷ 10 ∷ 13 ∷ 10 ∷ [])) 4 (1 + head_len_in bs)

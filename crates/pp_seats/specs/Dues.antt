@@ -1,9 +1,19 @@
 -- What is due to a client, by what is known of the row of its key and of the exchanges (RFC 2616, section 8.1; the order is ours).
-use Rattle.std.specs.Prelude.{ℕ, ◌-◌, Bool, true, false, ◌&&◌, not, nat_le, Option, Some, None}
+use Rattle.std.specs.Prelude.{ℕ, ◌-◌, Bool, true, false, ◌&&◌, not, nat_le, Option, Some, None, option_map}
+use Rattle.pp_objects.specs.Instances.{is_same_id}
+use Rattle.pp_objects.specs.declared.id.ObjectId.{ObjectId}
+use Rattle.pp_plan.specs.declared.table.Begun.{Begun}
+use Rattle.pp_plan.specs.declared.table.Begun.TheVariants.{Nothing, Settled, Other, Widened}
 use Rattle.pp_world.specs.declared.note.Cause.{Cause}
 use Rattle.pp_world.specs.declared.note.Cause.TheVariants.{Superseded, Origin, Short as ShortOf, Idle, Stop}
 use Rattle.pp_world.specs.declared.note.Decision.{Decision}
 use Rattle.pp_world.specs.declared.note.Decision.TheVariants.{Fetch, Hit, Part, Refuse, Validate}
+use Rattle.pp_seats.specs.declared.due.Due.{Due}
+use Rattle.pp_seats.specs.declared.due.Due.TheVariants.{Decide, CutOff}
+use Rattle.pp_seats.specs.declared.front.Front.{Front}
+use Rattle.pp_seats.specs.declared.front.Front.TheVariants.{NoHeadYet, NoHead, Request as IsThere}
+use Rattle.pp_seats.specs.declared.key.Key.{Key}
+use Rattle.pp_seats.specs.declared.seat.Answer.{Answer}
 use Rattle.pp_seats.specs.declared.seat.Brought.{Brought}
 use Rattle.pp_seats.specs.declared.seat.Brought.TheVariants.{Awaited, Useless, Joins, Passes, TooWide, Refused}
 use Rattle.pp_seats.specs.declared.seat.Course.{Course}
@@ -12,10 +22,37 @@ use Rattle.pp_seats.specs.declared.seat.Passed.{Passed}
 use Rattle.pp_seats.specs.declared.seat.PassedEnd.{PassedEnd}
 use Rattle.pp_seats.specs.declared.seat.PassedEnd.TheVariants.{Coming, Whole, Short}
 use Rattle.pp_seats.specs.declared.seat.Seat.{Seat}
+use Rattle.pp_seats.specs.declared.seat.Shared.{Shared}
 use Rattle.pp_seats.specs.declared.seat.Stage.{Stage}
 use Rattle.pp_seats.specs.declared.seat.Stage.TheVariants.{Undecided, Waiting, Passing, Answering}
 use Rattle.pp_seats.specs.Courses.{has_begun, is_trying_in}
 use Rattle.pp_seats.specs.Seats.{is_told_in, passed_in}
+
+-- ---- what is decided of a request
+
+-- by its head alone: what is no head, one that is refused for itself, and one whose target has no key
+abbrev pub refused_for : Option ℕ → Option Key → Option ℕ
+refused_for (Some status) key = Some status
+refused_for None (Some key) = None
+refused_for None None = Some 400
+
+abbrev pub refused_in : Front → Option ℕ
+refused_in NoHeadYet = None
+refused_in (NoHead status) = Some status
+refused_in (IsThere a) = refused_for a.refusal a.key
+
+-- by the row of its key and by what its exchange brought: a body counts as long as it belongs to that row
+abbrev pub is_row_joined : ObjectId → Option ObjectId → Bool
+is_row_joined joined None = false
+is_row_joined joined (Some id) = is_same_id id joined
+
+abbrev pub begun_in : Brought → Option ObjectId → Begun
+begun_in Awaited row = Nothing
+begun_in Useless row = Nothing
+begun_in (Joins joined plain) row = elim (is_row_joined joined row) [ true ↦ Settled | false ↦ Nothing ]
+begun_in (Passes x) row = Other
+begun_in TooWide row = Widened
+begun_in Refused row = Nothing
 
 -- ---- decisions
 
@@ -69,6 +106,17 @@ may_share Fetch = true
 may_share Validate = true
 may_share d = false
 
+-- the row that it was decided by is replaced or cleared, by whether the instance that it follows still stands
+abbrev pub lost_in : Option Answer → Bool → Bool
+lost_in None stands = false
+lost_in (Some a) stands = follows a.decision && not stands
+
+-- a request waits once for what is asked already, by whether it is patient still, whether fetches are shared, and whether it is asked
+abbrev pub undecided_in : Option Shared → Bool → Bool → Bool → Option Decision → Option Decision
+undecided_in (Some w) is_patient shares is_asked decided = elim is_patient [ true ↦ None | false ↦ decided ]
+undecided_in None is_patient shares is_asked None = None
+undecided_in None is_patient shares is_asked (Some d) = elim (shares && may_share d && is_asked) [ true ↦ None | false ↦ Some d ]
+
 -- ---- cuts
 
 abbrev pub ends_short : PassedEnd → Bool
@@ -108,3 +156,12 @@ cause_in is_stopped is_idle seat dry superseded =
                 ]
           ]
     ]
+
+-- ---- both
+
+-- a cut comes first; of one that is closing nothing is due, and once all is to be closed no decision
+abbrev pub due_in : Bool → Bool → Option Cause → Option Decision → Option Due
+due_in is_closing is_stopped cut decision = elim is_closing [
+  | true ↦ None
+  | false ↦ elim cut [ Some cause ↦ Some (CutOff cause) | None ↦ elim is_stopped [ true ↦ None | false ↦ option_map Decide decision ] ]
+]

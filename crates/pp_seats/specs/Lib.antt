@@ -1,5 +1,6 @@
 pub mod Accounts
 pub mod Courses
+pub mod Decided
 pub mod Dues
 pub mod Errands
 pub mod Follows

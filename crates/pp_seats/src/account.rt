@@ -2,7 +2,7 @@
 ghost use Rattle.std.specs.Prelude.{◌≡◌, ◌⊎◌, [], IfOk};
 ghost use Rattle.pp_client.specs.Requests.{current_of};
 ghost use Rattle.pp_head.specs.Shown.{shown_request};
-ghost use Rattle.pp_seats.specs.Accounts.{anew, begun, brought, decided, line_of, request_line, said, source_after, version_text, with_rest};
+ghost use Rattle.pp_seats.specs.Accounts.{anew, begun, brought, decided, head_len_in, line_of, request_line, said, source_after, version_text, with_rest};
 
 use pp_client::{Client, Current};
 use pp_head::{RequestHead, Scratch};
@@ -158,4 +158,16 @@ fn version_text(minor: u8) -> &'static [u8]
     } else {
         b" HTTP/1.1"
     }
+}
+
+/// Bytes of the head at the front of this text, through the empty line that ends it.
+pub fn head_in(text: &[u8]) -> usize
+    ensures { result ≡ head_len_in text.now }
+{
+    for at in 0..text.len() {
+        if text[at..].starts_with(b"\r\n\r\n") {
+            return at + 4;
+        }
+    }
+    text.len()
 }

@@ -7,8 +7,8 @@
 //! To the layer above: the next byte of a client that follows an instance (`specs/Follows.antt`), which of an instance's bytes
 //! are said (`specs/Said.antt`), how often a request may lose an attempt, and what it is where its row is lost
 //! (`specs/Courses.antt`; RFC 2616, section 8.1.4); what is kept of a head (`specs/Heads.antt`), and how far its request is
-//! (`specs/Seats.antt`); what an exchange asks (`specs/Errands.antt`). `specs/Dues.antt` says what is due to a client, by what
-//! a turn knows of the row of its key: that is for `pp_steps`.
+//! (`specs/Seats.antt`); what a decision makes of it (`specs/Decided.antt`); what an exchange asks (`specs/Errands.antt`).
+//! `specs/Dues.antt` says what is due to a client, by what a turn knows of the row of its key: that is for `pp_steps`.
 //!
 //! A seat takes memory for the key of its request, and for the first line of it where the operator keeps a log
 //! (`specs/Accounts.antt`). Where a request's head ends is for `pp_client`, what a request gets
@@ -16,13 +16,16 @@
 #![tactic(auto)]
 
 mod account; // what the operator's log is to say
+mod deciding; // what a decision makes of a client
+mod due; // what is due to a client
 mod errand; // an exchange, beside its place
 mod front; // the current request of a client
 mod key; // owned keys
 mod limits; // heads within the limits
 mod seat; // a client, and how far its request is
 
-pub use account::{Account, Told};
+pub use account::{Account, Told, head_in};
+pub use due::Due;
 pub use errand::{Body, Errand, Kind};
 pub use front::{Asked, Front, is_answerable};
 pub use key::Key;

@@ -1,10 +1,11 @@
 -- The seats show the clients, one each, in their order.
 use Rattle.std.proofs.Common.{◌≡◌, refl, sym, subst, ap, ◌∙◌, ℕ, zero, suc, Bool, true, false, cond, ◌==◌, find, List, [], ◌∷◌, Some}
+use Rattle.std.specs.Prelude.{slice_get, slice_set}
 use Rattle.pp_law.specs.Connections.{is_client}
 use Rattle.pp_law.specs.Lists.{Bytes, change}
 use Rattle.pp_law.specs.State.{Client}
 use Rattle.pp_seats.specs.declared.seat.Seat.{Seat}
-use Rattle.pp_seats_law.specs.Clients.{AreShown, ChangesAreTheLaws, IsFound, IsNowhere, PlacesAreTheLaws}
+use Rattle.pp_seats_law.specs.Clients.{AreShown, ChangesAreTheLaws, IsAt, IsFound, IsNowhere, PlacesAreTheLaws}
 use Rattle.pp_seats_law.specs.Seats.{ShowsSeat}
 
 number_is : (name : Bytes) (owed : List Bytes) (seat : Seat) (c : Client) (n : ℕ) (b : Bool) → ShowsSeat name owed seat c → (seat.client.id == n) ≡ b → is_client n c ≡ b
@@ -27,19 +28,27 @@ elsewhere name owed [] (c ∷ cs) n f shown none = absurd shown
 elsewhere name owed (seat ∷ seats) [] n f shown none = absurd shown
 elsewhere name owed (seat ∷ seats) (c ∷ cs) n f shown none = (stays name owed seat c n f shown.0 none.0, elsewhere name owed seats cs n f shown.1 none.1)
 
-pub changes : ChangesAreTheLaws
-changes name owed [] cs n i new f shown at here = absurd at
-changes name owed (seat ∷ seats) [] n i new f shown at here = absurd shown
-changes name owed (seat ∷ seats) (c ∷ cs) n zero new f shown at here =
-    (changed name owed seat new c n f shown.0 at.0 (here seat c refl shown.0), elsewhere name owed seats cs n f shown.1 at.1)
-changes name owed (seat ∷ seats) (c ∷ cs) n (suc i) new f shown at here = (stays name owed seat c n f shown.0 at.0, changes name owed seats cs n i new f shown.1 at.1 here)
-
 -- the first of that number
 found_first : (c : Client) (cs : List Client) (n : ℕ) → is_client n c ≡ true → find (is_client n) (c ∷ cs) ≡ Some c
 found_first c cs n is = ap (λ (b : Bool). cond b (Some c) (find (is_client n) cs)) is
 
 found_later : (c : Client) (cs : List Client) (n : ℕ) → is_client n c ≡ false → find (is_client n) (c ∷ cs) ≡ find (is_client n) cs
 found_later c cs n isnt = ap (λ (b : Bool). cond b (Some c) (find (is_client n) cs)) isnt
+
+-- where one is changed that is the client of that number
+pub changes_there : (name : Bytes) (owed : List Bytes) (seats : List Seat) (cs : List Client) (n i : ℕ) (new : Seat) (f : Client → Client) → AreShown name owed seats cs → IsAt n i seats
+    → ((seat : Seat) (c : Client) → slice_get seats i ≡ Some seat → find (is_client n) cs ≡ Some c → ShowsSeat name owed seat c → ShowsSeat name owed new (f c)) → AreShown name owed (slice_set seats i new) (change (is_client n) f cs)
+changes_there name owed [] cs n i new f shown at here = absurd at
+changes_there name owed (seat ∷ seats) [] n i new f shown at here = absurd shown
+changes_there name owed (seat ∷ seats) (c ∷ cs) n zero new f shown at here =
+    (changed name owed seat new c n f shown.0 at.0 (here seat c refl (found_first c cs n (number_is name owed seat c n true shown.0 at.0)) shown.0), elsewhere name owed seats cs n f shown.1 at.1)
+changes_there name owed (seat ∷ seats) (c ∷ cs) n (suc i) new f shown at here = (
+  stays name owed seat c n f shown.0 at.0,
+  changes_there name owed seats cs n i new f shown.1 at.1 (λ other d there found shows. here other d there (found_later c cs n (number_is name owed seat c n false shown.0 at.0) ∙ found) shows),
+)
+
+pub changes : ChangesAreTheLaws
+changes name owed seats cs n i new f shown at here = changes_there name owed seats cs n i new f shown at (λ seat c there found shows. here seat c there shows)
 
 same_seat : (seat other : Seat) → Some seat ≡ Some other → seat ≡ other
 same_seat seat other is = cc is

@@ -23,7 +23,7 @@ use Rattle.pp_seats.specs.declared.seat.Brought.TheVariants.{Awaited as NoneYet}
 
 -- ---- what was heard behind the request
 
-dropped_in_order : (n : ℕ) (rest : Bytes) → IsKept (drop n rest) (Dropped (n - length rest))
+pub dropped_in_order : (n : ℕ) (rest : Bytes) → IsKept (drop n rest) (Dropped (n - length rest))
 dropped_in_order n rest = by (cases_lt n (length rest))
   where
     none : (bytes : Bytes) (m : ℕ) → m ≡ 0 → IsKept bytes (Dropped m)
@@ -59,7 +59,7 @@ answered_as h r heard left skip shows ok =
 
 -- ---- the seat
 
-brought_anew : (f : Front) → IsBroughtFor f NoneYet
+pub brought_anew : (f : Front) → IsBroughtFor f NoneYet
 brought_anew NoHeadYet = tt
 brought_anew (NoHead status) = tt
 brought_anew (IsRequest r) = tt

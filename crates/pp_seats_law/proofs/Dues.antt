@@ -9,7 +9,7 @@ use Rattle.pp_client.specs.declared.body.Body.TheVariants.{Unread, Dropped, Over
 use Rattle.pp_world.specs.declared.note.Cause.{Cause}
 use Rattle.pp_world.specs.declared.note.Cause.TheVariants.{Superseded, Origin, Short as ShortOf, Idle, Stop}
 use Rattle.pp_world.specs.declared.note.Decision.{Decision}
-use Rattle.pp_world.specs.declared.note.Decision.TheVariants.{Refuse}
+use Rattle.pp_world.specs.declared.note.Decision.TheVariants.{Refuse, Hit, Part, Head, NotModified, Unsatisfiable, Relay, Validate, Fetch, Pass}
 use Rattle.pp_law.specs.Connections.{is_trying}
 use Rattle.pp_law.specs.Decisions.{decide}
 use Rattle.pp_law.specs.Due.{Due, Decide, CutOff, cut_in, due_by_stage, give_up, has_lost_row, is_dry, is_idle, is_short, is_superseded, is_told}
@@ -34,10 +34,10 @@ use Rattle.pp_seats.specs.declared.seat.Stage.{Stage as SeatStage}
 use Rattle.pp_seats.specs.declared.seat.Stage.TheVariants.{Undecided as IsUndecided, Waiting as IsWaiting, Passing as IsPassing, Answering as IsAnswering}
 use Rattle.pp_seats.specs.Follows.{answer_in}
 use Rattle.pp_seats.specs.Courses.{has_begun, is_trying_in}
-use Rattle.pp_seats.specs.Dues.{by_stage_in, decision_in, ends_short, give_up_in, is_end_short, is_idle_in, is_refused_in, is_short_in}
+use Rattle.pp_seats.specs.Dues.{by_stage_in, decision_in, due_in, ends_short, follows, give_up_in, is_end_short, is_idle_in, is_refused_in, is_short_in, lost_in, may_share as may_share_in, undecided_in}
 use Rattle.pp_seats.specs.Heads.{is_there_in}
 use Rattle.pp_seats.specs.Seats.{is_told_in, passed_in}
-use Rattle.pp_seats_law.specs.Dues.{CutIsTheLaws, DecisionIsTheLaws, DueIsTheLaws, FinishedIsTheLaws, LostIsTheLaws, SharingIsTheLaws, WaitingIsTheLaws, cut_of, has_lost_its_row, lost_in, still_waits_in, undecided_in}
+use Rattle.pp_seats_law.specs.Dues.{CutIsTheLaws, DecisionIsTheLaws, DueIsTheLaws, FinishedIsTheLaws, LostIsTheLaws, SharingIsTheLaws, WaitingIsTheLaws, cut_of, due_as, has_lost_its_row, still_waits_in, waits_on_still}
 use Rattle.pp_seats_law.specs.Fronts.{ShowsBody, ShowsFront}
 use Rattle.pp_seats_law.specs.Replies.{IsOwed, IsRefusedRow, ShowsFate, ShowsStage, course_of, shared_of}
 use Rattle.pp_seats_law.specs.Seats.{ShowsOpen}
@@ -140,12 +140,25 @@ decisions s name seat c shows =
 
 -- ---- what is shared, and lost
 
+same_follows : (d : Decision) → follows d ≡ is_followed_by d
+same_follows (Refuse status) = refl
+same_follows (Hit from to) = refl
+same_follows (Part from to) = refl
+same_follows Head = refl
+same_follows NotModified = refl
+same_follows Unsatisfiable = refl
+same_follows Relay = refl
+same_follows Validate = refl
+same_follows Fetch = refl
+same_follows Pass = refl
+
 stage_lost : (s : State) (said : Said) (stage : SeatStage) (other : Stage) → ShowsStage said stage other
     → lost_in (answer_in stage) (is_some_with (λ r. is_some_with (λ x. not x.is_retired) (source_of s r)) (reply_in other)) ≡ is_some_with (has_lost_row s) (reply_in other)
 stage_lost s said IsUndecided Undecided shows = refl
 stage_lost s said IsWaiting Waiting shows = refl
 stage_lost s said IsPassing Passing shows = refl
-stage_lost s said (IsAnswering a) (Answering r) shows = ap (λ (d : Decision). is_followed_by d && not (is_some_with (λ x. not x.is_retired) (source_of s r))) shows.decision
+stage_lost s said (IsAnswering a) (Answering r) shows =
+    ap (λ (b : Bool). b && not (is_some_with (λ x. not x.is_retired) (source_of s r))) (same_follows a.decision ∙ ap is_followed_by shows.decision)
 stage_lost s said stage other shows = absurd shows
 
 pub lost : LostIsTheLaws
@@ -158,11 +171,23 @@ first_due_by shares asked decided = elim decided [ None ↦ None | Some d ↦ el
 abbrev shared_due : State → Option Shared → Bool → Bool → Option Decision → Option Decision
 shared_due s waits shares asked decided = elim waits [ Some w ↦ elim (is_patient s w) [ true ↦ None | false ↦ decided ] | None ↦ first_due_by shares asked decided ]
 
+same_share : (d : Decision) → may_share_in d ≡ may_share d
+same_share (Refuse status) = refl
+same_share (Hit from to) = refl
+same_share (Part from to) = refl
+same_share Head = refl
+same_share NotModified = refl
+same_share Unsatisfiable = refl
+same_share Relay = refl
+same_share Validate = refl
+same_share Fetch = refl
+same_share Pass = refl
+
 shared_by : (s : State) (waits : Option SeatShared) (shares asked : Bool) (decided : Option Decision)
-    → undecided_in waits (λ w. is_patient s (shared_of w)) shares asked decided ≡ shared_due s (option_map shared_of waits) shares asked decided
+    → undecided_in waits (waits_on_still s waits) shares asked decided ≡ shared_due s (option_map shared_of waits) shares asked decided
 shared_by s (Some w) shares asked decided = refl
 shared_by s None shares asked None = refl
-shared_by s None shares asked (Some d) = refl
+shared_by s None shares asked (Some d) = ap (λ (b : Bool). elim (shares && b && asked) as (λ c. Option Decision) [ true ↦ None | false ↦ Some d ]) (same_share d)
 
 pub sharing : SharingIsTheLaws
 sharing s name owed seat c shows =
@@ -286,7 +311,7 @@ first_cause false false false true e = refl
 first_cause false false false false true = refl
 first_cause false false false false false = refl
 
-abbrev cause_by : Bool → Bool → Bool → Bool → Bool → Option Cause
+abbrev pub cause_by : Bool → Bool → Bool → Bool → Bool → Option Cause
 cause_by a b c d e =
     elim a [ true ↦ Some Stop | false ↦ elim b [ true ↦ Some ShortOf | false ↦ elim c [ true ↦ Some Origin | false ↦ elim d [ true ↦ Some Superseded | false ↦ elim e [ true ↦ Some Idle | false ↦ None ] ] ] ] ]
 
@@ -316,10 +341,7 @@ cuts s name seat c shows =
 -- ---- both
 
 abbrev due_by : Bool → Bool → ℕ → ℕ → Option Cause → Option Decision → Option Due
-due_by closing stopped n i cut decision = elim closing [
-  | true ↦ None
-  | false ↦ elim cut [ Some cause ↦ Some (CutOff n cause) | None ↦ elim stopped [ true ↦ None | false ↦ option_map (Decide n i) decision ] ]
-]
+due_by closing stopped n i cut decision = option_map (due_as n i) (due_in closing stopped cut decision)
 
 abbrev law_due : Bool → Bool → ℕ → ℕ → Option Cause → Option Decision → Option Due
 law_due closing stopped n i cut decision = elim (elim closing as (λ c. Option Cause) [ true ↦ None | false ↦ cut ]) [

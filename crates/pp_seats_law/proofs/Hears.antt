@@ -221,7 +221,7 @@ unread_kept : (rest : Bytes) (n : ℕ) → IsKept rest (Unread n)
 unread_kept [] n = tt
 unread_kept (b ∷ rest) n = tt
 
-request_still : (head : Bytes) (r : Request) (more : Bytes) → request_at head ≡ Whole r → front_of (head ++ more) ≡ IsRequest (parsed_of r)
+pub request_still : (head : Bytes) (r : Request) (more : Bytes) → request_at head ≡ Whole r → front_of (head ++ more) ≡ IsRequest (parsed_of r)
 unfolding front_of
 request_still head r more is = ap front_in (whole_stays head r is more)
 

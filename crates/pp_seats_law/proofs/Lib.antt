@@ -1,12 +1,15 @@
 pub mod AllSeats
 pub mod Answered
 pub mod Begins
+pub mod Decided
 pub mod Dues
 pub mod Errands
 pub mod Fates
 pub mod Fronts
+pub mod HeadDues
 pub mod Hears
 pub mod Nexts
+pub mod ReadDues
 pub mod SaidOn
 pub mod SaidWhole
 pub mod Stages

@@ -72,7 +72,7 @@ said_with name owed seat c reply stage left brought before account shows at fate
 
 -- ---- what its exchange brought
 
-brought_kept : (name : Bytes) (old new : Said) (front : Front) (brought : SeatBrought) (other : Brought) → new.pipe ≡ old.pipe
+pub brought_kept : (name : Bytes) (old new : Said) (front : Front) (brought : SeatBrought) (other : Brought) → new.pipe ≡ old.pipe
     → ((x : SeatPassed) (p : Passed) → IsHeadKept name old.stage old front x p → IsHeadKept name new.stage new front x p) → ShowsBrought name old front brought other → ShowsBrought name new front brought other
 brought_kept name old new front NoneYet Awaited pipe head shows = tt
 brought_kept name old new front NoneOfUse Useless pipe head shows = tt
@@ -96,7 +96,7 @@ fate_kept name owed old new course IsTooWide c stage left pipe head same shows =
 
 -- ---- of the interim answer
 
-head_kept : (name : Bytes) (stage : SaidStage) (old : Said) (i : Interim) (front : Front) (x : SeatPassed) (p : Passed) → IsHeadKept name stage old front x p → IsHeadKept name stage (record old { interim = i }) front x p
+pub head_kept : (name : Bytes) (stage : SaidStage) (old : Said) (i : Interim) (front : Front) (x : SeatPassed) (p : Passed) → IsHeadKept name stage old front x p → IsHeadKept name stage (record old { interim = i }) front x p
 head_kept name Due old i front x p kept = kept
 head_kept name (Begun reply) old i front x p kept = tt
 

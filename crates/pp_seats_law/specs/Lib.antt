@@ -1,5 +1,6 @@
 pub mod Begins
 pub mod Clients
+pub mod Decided
 pub mod Dues
 pub mod Errands
 pub mod Fates

@@ -24,7 +24,7 @@ mod words; // how far a request and its reply are
 
 pub use clients::clients_are_the_laws;
 pub use courses::{courses_are_the_laws, rows_leave_as_the_laws};
-pub use deciding::dues_are_the_laws;
+pub use deciding::{decisions_are_the_laws, dues_are_the_laws, requests_are_decided_as_the_laws};
 pub use exchanges::errands_are_the_laws;
 pub use heads::fronts_are_the_laws;
 pub use reading::reads_are_the_laws;

@@ -1,7 +1,9 @@
--- What the operator's log is told of a reply (ours): its status, and where its body begins.
-use Rattle.std.specs.Prelude.{ℕ, ◌+◌, List, [], ◌∷◌}
+-- What the operator's log is told of a reply (ours): what it is made of, and its status.
+use Rattle.std.specs.Prelude.{ℕ, List, Some, None, slice_get, slice_set}
 use Rattle.pp_reply.specs.declared.kept.KeptReply.{KeptReply}
 use Rattle.pp_reply.specs.declared.kept.KeptReply.TheVariants.{Whole, Part, Head, NotModified, Unsatisfiable}
+use Rattle.pp_seats.specs.declared.account.Account.{Account}
+use Rattle.pp_seats.specs.declared.seat.Seat.{Seat}
 
 -- the status line of each (RFC 2616, section 10)
 abbrev pub status_of : KeptReply → ℕ
@@ -10,3 +12,9 @@ status_of (Part from to) = 206
 status_of Head = 200
 status_of NotModified = 304
 status_of Unsatisfiable = 416
+
+-- ---- the account of one client
+
+-- of the client at this place, where there is one
+abbrev pub accounts_at : ℕ → (Account → Account) → List Seat → List Seat
+accounts_at i f seats = elim (slice_get seats i) [ None ↦ seats | Some seat ↦ slice_set seats i (record seat { account = f seat.account }) ]

@@ -1,12 +1,11 @@
 -- What the head of a response to an exchange of the cache's own does to the row of its key (RFC 2616, sections 10.3.5 and 14.9;
 -- RFC 7234, section 4.3.3).
 use Rattle.std.specs.Prelude.{ℕ, Bool, true, false, ◌==◌, ◌&&◌, ◌||◌, List, bytes_eq, Option, Some, None, option_map}
+use Rattle.pp_cache.specs.Memory.{Memory, retired_at}
 use Rattle.pp_flow.specs.Changes.{Exchanges, entry_of}
 use Rattle.pp_flow.specs.declared.entry.Aim.{Aim}
 use Rattle.pp_flow.specs.declared.entry.Aim.TheVariants.{Own, Hole, Pass as Through}
 use Rattle.pp_fresh.specs.Ready.{may_store}
-use Rattle.pp_objects.specs.Changes.{retired_from}
-use Rattle.pp_objects.specs.Instances.{Rows, row_of}
 use Rattle.pp_objects.specs.declared.id.ObjectId.{ObjectId}
 use Rattle.pp_text.specs.Fields.{Field}
 use Rattle.pp_valid.specs.Conditions.{names_other_tag}
@@ -54,6 +53,6 @@ abbrev pub key_of : ℕ → Exchanges → Option (List ℕ)
 key_of number flow = option_map (λ e. e.key.items) (entry_of number flow)
 
 -- the row of the key is not known any more
-abbrev pub cleared : Option (List ℕ) → Rows → Rows
-cleared None rows = rows
-cleared (Some key) rows = record rows { instances = retired_from (row_of key rows.instances) rows.instances }
+abbrev pub cleared : Option (List ℕ) → Memory → Memory
+cleared None memory = memory
+cleared (Some key) memory = retired_at key memory

@@ -1,5 +1,7 @@
 // What the operator's log is told of decisions and of what exchanges brought (ours).
 ghost use Rattle.std.specs.Prelude.{◌≡◌};
+ghost use Rattle.pp_seats.specs.Accounts.{decided};
+ghost use Rattle.pp_steps.specs.Accounts.{accounts_at};
 
 use crate::state::State;
 use pp_flow::{Aim, Exchange};
@@ -8,7 +10,8 @@ use pp_world::{Decision, Source};
 impl State {
     /// This is decided for the request of the client at this place.
     pub(crate) fn account_for(&mut self, i: usize, decision: Decision)
-        ensures { self.new.cache ≡ self.old.cache }
+        ensures is { self.new.seats.items ≡ accounts_at i (decided decision) self.old.seats.items }
+        ensures rest { record self.new { seats = self.old.seats } ≡ self.old }
     {
         if let Some(seat) = self.seats.get_mut(i) {
             seat.account.decide(decision);
@@ -17,7 +20,7 @@ impl State {
 
     /// The exchange of a request itself brought this. One of a follower brings the rest of what is there.
     pub(crate) fn account_brought(&mut self, e: &Exchange, source: Source)
-        ensures { self.new.cache ≡ self.old.cache }
+        ensures { record self.new { seats = self.old.seats } ≡ self.old }
     {
         match e.aim {
             Aim::Own => self.account_with(e, source),
@@ -26,7 +29,7 @@ impl State {
     }
 
     fn account_with(&mut self, e: &Exchange, source: Source)
-        ensures { self.new.cache ≡ self.old.cache }
+        ensures { record self.new { seats = self.old.seats } ≡ self.old }
     {
         let Some(i) = self.seat_for(e) else {
             return;
@@ -35,14 +38,4 @@ impl State {
             seat.account.bring(source);
         }
     }
-}
-
-/// Bytes of the head at the front of this text, through the empty line that ends it.
-pub(crate) fn head_in(text: &[u8]) -> usize {
-    for at in 0..text.len() {
-        if text[at..].starts_with(b"\r\n\r\n") {
-            return at + 4;
-        }
-    }
-    text.len()
 }

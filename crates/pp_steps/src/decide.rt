@@ -1,6 +1,10 @@
 // What is decided for a request, by what is known of its key (RFC 2616, sections 13 and 14; RFC 6585,
 // section 5).
+ghost use Rattle.std.specs.Prelude.{◌≡◌};
+ghost use Rattle.pp_seats.specs.Dues.{begun_in, is_row_joined, refused_for, refused_in};
+
 use crate::state::State;
+use crate::unseen::is_same;
 use arrayvec::ArrayVec;
 use pp_ask::{ASK_LEN, write_ask};
 use pp_client::Current;
@@ -14,14 +18,9 @@ use pp_world::Decision;
 impl State {
     /// None while no request is there.
     pub(crate) fn decide(&self, seat: &Seat) -> Option<Decision> {
-        match &seat.front {
-            Front::NoHeadYet => None,
-            Front::NoHead(status) => Some(Decision::Refuse(*status)),
-            Front::Request(asked) => match (asked.refusal, &asked.key) {
-                (Some(status), _) => Some(Decision::Refuse(status)),
-                (None, Some(key)) => Some(self.decide_for(seat, key)),
-                (None, None) => Some(Decision::Refuse(400)),
-            },
+        match refusal_of(&seat.front) {
+            Some(status) => Some(Decision::Refuse(status)),
+            None => Some(self.decide_for(seat, seat.front.key()?)),
         }
     }
 
@@ -121,13 +120,51 @@ pub(crate) fn kind_of(
     }
 }
 
+/// The status that its head alone is refused with: what is no head, one that is refused for itself, and one whose target has
+/// no key.
+fn refusal_of(front: &Front) -> Option<u16>
+    ensures { result ≡ refused_in front.now }
+{
+    match front {
+        Front::NoHeadYet => None,
+        Front::NoHead(status) => Some(*status),
+        Front::Request(asked) => refused_for(asked.refusal, &asked.key),
+    }
+}
+
+fn refused_for(refusal: Option<u16>, key: &Option<Key>) -> Option<u16>
+    ensures { result ≡ refused_for refusal key.now }
+{
+    match refusal {
+        Some(status) => Some(status),
+        None => match key {
+            Some(_) => None,
+            None => Some(400),
+        },
+    }
+}
+
 /// What its exchange brought; a body counts as long as it belongs to the row of the key.
-fn begun_now(seat: &Seat, id: Option<ObjectId>) -> Begun {
+fn begun_now(seat: &Seat, row: Option<ObjectId>) -> Begun
+    ensures { result ≡ begun_in seat.now.brought row }
+{
     match seat.brought {
-        Brought::Joins(joined, _) if id == Some(joined) => Begun::Settled,
-        Brought::Awaited | Brought::Useless | Brought::Joins(_, _) | Brought::Refused =>
-            Begun::Nothing,
+        Brought::Awaited | Brought::Useless | Brought::Refused => Begun::Nothing,
+        Brought::Joins(joined, _) => if is_row_joined(joined, row) {
+            Begun::Settled
+        } else {
+            Begun::Nothing
+        }
         Brought::Passes(_) => Begun::Other,
         Brought::TooWide => Begun::Widened,
+    }
+}
+
+fn is_row_joined(joined: ObjectId, row: Option<ObjectId>) -> bool
+    ensures { result ≡ is_row_joined joined row }
+{
+    match row {
+        None => false,
+        Some(id) => is_same(id, joined),
     }
 }

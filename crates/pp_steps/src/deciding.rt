@@ -1,21 +1,14 @@
 // What a decision does: a page, an exchange, or a reply by the row (RFC 2616, sections 13 and 14).
-ghost use Rattle.std.specs.Prelude.{IsTrue};
-ghost use Rattle.pp_reply.specs.Texts.{has_page};
-
-use crate::account::head_in;
 use crate::decide::kind_of;
 use crate::state::State;
 use crate::unseen::is_soon;
-use pp_client::{Begin, Current};
+use pp_client::Current;
 use pp_flow::{Aim, EXCHANGES, Exchange};
 use pp_fresh::allows_guess;
 use pp_head::{RequestHead, Scratch};
 use pp_objects::ObjectId;
 use pp_ranges::{Range, read_range};
-use pp_reply::{CONTINUE, ReplyKind, write_reply};
-use pp_seats::{
-    Answer, Asked, Body, Brought, Course, Errand, Key, Kind, Seat, Stage, is_answerable,
-};
+use pp_seats::{Asked, Body, Errand, Key, Kind, Seat, is_answerable};
 use pp_valid::accepts_only_identity;
 use pp_world::Decision;
 
@@ -72,19 +65,9 @@ impl State {
         }
     }
 
-    /// The interim answer comes before the reply, once.
     fn begin_interim(&mut self, i: usize) {
-        let Some(seat) = self.seats.get_mut(i) else {
-            return;
-        };
-        let expects = match seat.front.asked() {
-            None => false,
-            Some(asked) => asked.expects_interim,
-        };
-        let is_first = matches!(seat.stage, Stage::Undecided) && seat.client.may_interim();
-        if expects && is_first {
-            seat.client.interim();
-            seat.before_body = seat.before_body.saturating_add(CONTINUE.len());
+        if let Some(seat) = self.seats.get_mut(i) {
+            seat.begin_interim();
         }
     }
 
@@ -97,29 +80,9 @@ impl State {
         let Some(seat) = self.seats.get_mut(i) else {
             return;
         };
-        if !is_answerable(&seat.client) {
-            return;
+        if is_answerable(&seat.client) {
+            seat.give_page(self.alloc, status);
         }
-        let keep = seat.front.keeps_after(status);
-        let shown = shown_status(status);
-        let kind = ReplyKind::Refusal(shown, seat.front.asks_head());
-        let text = seat.client.head_room();
-        write_reply(&kind, None, b"", keep, text);
-        let (head_len, len) = (head_in(text.as_slice()), text.len());
-        seat.begin_account(self.alloc, shown, head_len);
-        seat.before_body = seat.before_body.saturating_add(len);
-        seat.client.begin(Begin::Page);
-        seat.stage = Stage::Answering(Answer {
-            decision: Decision::Refuse(status),
-            source: None,
-            from: 0,
-            to: 0,
-            has_begun: true,
-        });
-        seat.closes = !keep;
-        seat.brought = Brought::Awaited;
-        seat.course = Course::Trying(0);
-        seat.drop_body();
     }
 
     // ---- an exchange
@@ -130,15 +93,11 @@ impl State {
         };
         self.begin_interim(i);
         self.leave_source(i);
-        let (aim, stage) = if decision == Decision::Pass {
-            (Aim::Pass, Stage::Passing)
-        } else {
-            (Aim::Own, Stage::Waiting)
-        };
+        let passes = decision == Decision::Pass;
+        let aim = if passes { Aim::Pass } else { Aim::Own };
         self.begin_exchange(i, aim, &errand);
         if let Some(seat) = self.seats.get_mut(i) {
-            seat.stage = stage;
-            seat.brought = Brought::Awaited;
+            seat.ask(passes);
         }
     }
 
@@ -231,17 +190,9 @@ impl State {
     }
 
     fn answer(&mut self, i: usize, decision: Decision, source: Option<ObjectId>, span: (u64, u64)) {
-        let Some(seat) = self.seats.get_mut(i) else {
-            return;
-        };
-        seat.stage = Stage::Answering(Answer {
-            decision,
-            source,
-            from: span.0,
-            to: span.1,
-            has_begun: false,
-        });
-        seat.closes = !seat.front.keeps_after(200);
+        if let Some(seat) = self.seats.get_mut(i) {
+            seat.decide(decision, source, span);
+        }
     }
 
     /// The request leaves an exchange that brings nothing of what its reply follows.
@@ -271,20 +222,6 @@ impl State {
             }
             None => !e.headed && self.asks_for(e, &next),
         }
-    }
-}
-
-/// One without a page of its own has that of 504.
-fn shown_status(status: u16) -> u16
-    ensures { IsTrue (has_page result) }
-{
-    match status {
-        400 => 400,
-        411 => 411,
-        431 => 431,
-        500 => 500,
-        502 => 502,
-        _ => 504,
     }
 }
 

@@ -1,21 +1,14 @@
 // Which decision or cut is due, and which comes first (RFC 2616, section 8.1; the order is ours).
 ghost use Rattle.std.specs.Prelude.{◌≡◌};
-ghost use Rattle.pp_seats.specs.Dues.{cause_in, decision_in, follows, give_up_in, is_idle_in, is_read_in, is_short_in};
+ghost use Rattle.pp_seats.specs.Dues.{cause_in, decision_in, due_in, follows, give_up_in, is_idle_in, is_read_in, is_short_in, lost_in};
 
 use crate::state::State;
-use pp_seats::{Answer, Brought, Course, PassedEnd, Seat, Stage};
+use pp_seats::{Answer, Brought, Course, Due, PassedEnd, Seat, Stage};
 use pp_shelf::Shelf;
 use pp_world::{Cause, Decision};
 
 /// Ours: a client that is idle for so many seconds is cut.
 const IDLE_SECONDS: u64 = 120;
-
-/// What is due to a client.
-#[derive(Clone, Copy, Debug, PartialEq, Eq)]
-pub enum Due {
-    Decide(Decision),
-    CutOff(Cause),
-}
 
 impl State {
     /// The first client, in the order of their numbers, for whom something is due. Where its request may be decided, the
@@ -43,16 +36,18 @@ impl State {
     }
 
     fn due_of(&self, seat: &Seat) -> Option<Due> {
-        if seat.is_closing {
-            return None;
-        }
-        if let Some(cause) = self.cut_of(seat) {
-            return Some(Due::CutOff(cause));
-        }
-        if self.is_stopped {
-            return None;
-        }
-        Some(Due::Decide(self.decision_of(seat)?))
+        let cut = if seat.is_closing {
+            None
+        } else {
+            self.cut_of(seat)
+        };
+        let may_decide = !seat.is_closing && !self.is_stopped && cut.is_none();
+        let decision = if may_decide {
+            self.decision_of(seat)
+        } else {
+            None
+        };
+        due_by(seat.is_closing, self.is_stopped, cut, decision)
     }
 
     /// What came is said before a reply is cut for its origin.
@@ -83,10 +78,7 @@ impl State {
 
     /// One that waits, and a reply that has not begun and whose row is replaced, are decided by the row of now.
     fn decision_of(&self, seat: &Seat) -> Option<Decision> {
-        let is_lost = match seat.answer() {
-            None => false,
-            Some(answer) => !answer.has_begun && self.has_lost_row(answer),
-        };
+        let is_lost = is_lost(seat.answer(), self.has_source_standing(seat));
         let undecided = match seat.stage {
             Stage::Undecided => self.due_undecided(seat),
             Stage::Waiting | Stage::Passing | Stage::Answering(_) => None,
@@ -99,13 +91,50 @@ impl State {
         decision_by(seat, is_lost, undecided, decided)
     }
 
-    /// The row by which it was decided is replaced or cleared.
-    fn has_lost_row(&self, answer: Answer) -> bool {
-        let has_row = match answer.source {
+    /// The instance that it follows still stands as the row of its key.
+    fn has_source_standing(&self, seat: &Seat) -> bool {
+        match seat.answer() {
             None => false,
-            Some(id) => !self.cache.is_retired(id),
-        };
-        follows(answer.decision) && !has_row
+            Some(answer) => match answer.source {
+                None => false,
+                Some(id) => !self.cache.is_retired(id),
+            },
+        }
+    }
+}
+
+/// A cut comes before a decision; of one that is closing nothing is due, and once all is to be closed no decision.
+fn due_by(
+    is_closing: bool,
+    is_stopped: bool,
+    cut: Option<Cause>,
+    decision: Option<Decision>,
+) -> Option<Due>
+    ensures { result ≡ due_in is_closing is_stopped cut decision }
+{
+    if is_closing {
+        return None;
+    }
+    match cut {
+        Some(cause) => Some(Due::CutOff(cause)),
+        None => if is_stopped {
+            None
+        } else {
+            match decision {
+                None => None,
+                Some(decision) => Some(Due::Decide(decision)),
+            }
+        }
+    }
+}
+
+/// The row by which it was decided is replaced or cleared, by whether the instance that it follows still stands.
+fn is_lost(answer: Option<Answer>, stands: bool) -> bool
+    ensures { result ≡ lost_in answer stands }
+{
+    match answer {
+        None => false,
+        Some(answer) => follows(answer.decision) && !stands,
     }
 }
 

@@ -38,5 +38,4 @@ mod unseen; // step 5: what nobody will see
 mod wants; // what is waited for of the clients
 
 pub use asking::Asking;
-pub use due::Due;
 pub use state::State;

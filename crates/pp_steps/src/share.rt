@@ -1,6 +1,6 @@
 // One fetch for many (ours): a request waits once for what another has asked for already.
 ghost use Rattle.std.specs.Prelude.{◌≡◌};
-ghost use Rattle.pp_seats.specs.Dues.{may_share};
+ghost use Rattle.pp_seats.specs.Dues.{may_share, undecided_in};
 ghost use Rattle.pp_steps.specs.Patience.{is_patient};
 
 use crate::state::State;
@@ -34,25 +34,36 @@ impl State {
         }
     }
 
-    fn is_patient(&self, shared: &Shared) -> bool {
-        is_patient(self.is_awaited(shared.exchange), self.now, shared.since)
+    /// It waits for another's answer, and may wait on.
+    fn is_patient(&self, seat: &Seat) -> bool {
+        match &seat.waits_on {
+            None => false,
+            Some(shared) => is_patient(self.is_awaited(shared.exchange), self.now, shared.since),
+        }
+    }
+
+    /// What it asks is asked already, where that counts: fetches are shared, and it may be another's.
+    fn is_asked(&self, seat: &Seat, decided: Option<Decision>) -> bool {
+        match decided {
+            None => false,
+            Some(decision) => self.shares_fetches
+                && may_share(decision)
+                && self.shared_ask(seat).is_some(),
+        }
     }
 
     /// A request waits once for what is asked already.
     pub(crate) fn due_undecided(&self, seat: &Seat) -> Option<Decision> {
-        match &seat.waits_on {
-            Some(shared) if self.is_patient(shared) => None,
-            Some(_) => self.decide(seat),
-            None => {
-                let decision = self.decide(seat)?;
-                let may_share = self.shares_fetches && may_share(decision);
-                if may_share && self.shared_ask(seat).is_some() {
-                    None
-                } else {
-                    Some(decision)
-                }
-            }
-        }
+        let is_patient = self.is_patient(seat);
+        let decided = if is_patient { None } else { self.decide(seat) };
+        let is_asked = seat.waits_on.is_none() && self.is_asked(seat, decided);
+        undecided_by(
+            seat.waits_on,
+            is_patient,
+            self.shares_fetches,
+            is_asked,
+            decided,
+        )
     }
 
     /// It waits for the answer to another client's ask.
@@ -68,6 +79,32 @@ fn is_patient(is_awaited: bool, now: u64, since: u64) -> bool
     ensures { result ≡ is_patient is_awaited now since }
 {
     is_awaited && now.saturating_sub(since) < PATIENCE
+}
+
+/// By whether it is patient still, whether fetches are shared, and whether what it asks is asked already.
+fn undecided_by(
+    waits_on: Option<Shared>,
+    is_patient: bool,
+    shares: bool,
+    is_asked: bool,
+    decided: Option<Decision>,
+) -> Option<Decision>
+    ensures { result ≡ undecided_in waits_on is_patient shares is_asked decided }
+{
+    match waits_on {
+        Some(_) => if is_patient { None } else { decided }
+        None => match decided {
+            None => None,
+            Some(decision) => {
+                let is_shared = shares && may_share(decision);
+                if is_shared && is_asked {
+                    None
+                } else {
+                    Some(decision)
+                }
+            }
+        },
+    }
 }
 
 /// What it asks may be what another has asked for already.

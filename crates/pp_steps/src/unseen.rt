@@ -111,7 +111,7 @@ pub(crate) fn is_soon(all: bool, from: u64, at: u64) -> bool
     all || is_near(from, at)
 }
 
-fn is_same(a: ObjectId, b: ObjectId) -> bool
+pub(crate) fn is_same(a: ObjectId, b: ObjectId) -> bool
     ensures { result ≡ is_same_id a b }
 {
     a.slot == b.slot && a.life == b.life

@@ -8,5 +8,6 @@ use Rattle.pp_cache.proofs.cache.touch_run.Given as goal
 abbrev pub invariant-loop-index : goal.invariant-loop-index
 invariant-loop-index l = record {
   agrees : AllAgree l.objects.instances l.pool.used;
+  size : l.pool.size ≡ l.fn.pool.size;
   used : used_run (l.to - l.index) l.id.slot l.index (shown l.pool.used) ≡ used_run (l.to - l.from) l.id.slot l.from (shown l.fn.pool.used);
 }

@@ -6,5 +6,5 @@ use Rattle.pp_demo.proofs.pages.draw_lengths.Given as goal
 abbrev pub invariant-loop-last : goal.invariant-loop-last
 invariant-loop-last l = record {
   state : l.generator.state ≡ state_behind l.last-index l.fn.generator.state;
-  lengths : take l.last-index l.last_offsets ≡ last_offsets l.last-index l.fn.generator.state;
+  lengths : take l.last-index l.last-items ≡ last_offsets l.last-index l.fn.generator.state;
 }

@@ -1,0 +1,380 @@
+-- The last bytes of a reply are what the law permits, and behind them the next request stands, or the client is closed.
+use Rattle.std.proofs.Common.{◌≡◌, refl, sym, subst, ap, ◌∙◌, ℕ, zero, suc, ◌-◌, ◌≤◌, nat_lt, Bool, true, false, not, ◌==◌, ◌&&◌, ◌||◌, is_ok, find, List, [], ◌∷◌, length, Some}
+use Rattle.std.specs.Prelude.{slice_get, slice_set}
+use Rattle.pp_client.specs.Clients.{Client as Side, said_by as side_said}
+use Rattle.pp_client.specs.Replies.{ended as ended_reply, is_said, left_next, said as said_in}
+use Rattle.pp_client.specs.Requests.{answered}
+use Rattle.pp_reply.specs.Keeping.{is_kept_open}
+use Rattle.pp_world.specs.declared.happening.Happening.TheVariants.{Said}
+use Rattle.pp_law.specs.After.{paid}
+use Rattle.pp_law.specs.Closing.{close_client, forsake, is_of}
+use Rattle.pp_law.specs.Connections.{client, is_client, on_client}
+use Rattle.pp_law.specs.Lists.{Bytes, change}
+use Rattle.pp_law.specs.Replies.{close_finished, end_reply, end_said, is_finished, is_said as is_over, next_request, said_by, use_said}
+use Rattle.pp_law.specs.Requests.{Front, IsRequest, NoHead, NoHeadYet, Parsed, has_request}
+use Rattle.pp_law.specs.State.{State, Client}
+use Rattle.pp_law.specs.Table.{swept}
+use Rattle.pp_laws.proofs.Callers.{next_request-same, said_by-same}
+use Rattle.pp_laws.proofs.Tests.{same_number, second_holds}
+use Rattle.pp_obeys.specs.Moves.{Moves}
+use Rattle.pp_obeys.proofs.Calls.{keeps_as, keeps_more, moves_to}
+use Rattle.pp_obeys.proofs.Happenings.{goes_said}
+use Rattle.pp_seats.specs.Accounts.{said as said_account}
+use Rattle.pp_seats.specs.declared.front.Front.{Front as SeatFront}
+use Rattle.pp_seats.specs.declared.front.Front.TheVariants.{NoHeadYet as NoneYet, NoHead as NoneThere, Request as IsThere}
+use Rattle.pp_seats.specs.declared.seat.Seat.{Seat}
+use Rattle.pp_seats.specs.Heads.{asked_in}
+use Rattle.pp_seats.specs.Seats.{IsRead, at_next_request, finished_in, told_by}
+use Rattle.pp_seats_law.specs.Clients.{AreShown, IsAt, IsFound}
+use Rattle.pp_seats_law.specs.Fronts.{ShowsFront}
+use Rattle.pp_seats_law.specs.Saying.{IsNext}
+use Rattle.pp_seats_law.specs.Seats.{ShowsSeat}
+use Rattle.pp_seats_law.proofs.AllSeats.{changes, places}
+use Rattle.pp_seats_law.proofs.Dues.{finished}
+use Rattle.pp_seats_law.proofs.Nexts.{found_holds}
+use Rattle.pp_seats_law.proofs.SaidOn.{IsToldBy, open_told, told_with}
+use Rattle.pp_seats_law.proofs.SaidWhole.{endings, ends_same}
+use Rattle.pp_clients_obey.specs.Closing.{IsClosed}
+use Rattle.pp_clients_obey.specs.Ending.{AreSettledBut, EndsKeep, GoesOn, IsLeftAs, LastsKeep, LeavesNone, RestsKeep, keeps_open_in}
+use Rattle.pp_clients_obey.specs.Hearing.{Sits, WasOwed, WasRead}
+use Rattle.pp_clients_obey.specs.Saying.{OwesWrite}
+use Rattle.pp_clients_obey.proofs.Closes.{closed_all, closed_shows, closing_by, seen_closed, seen_forsaken, seen_on, seen_swept}
+use Rattle.pp_clients_obey.proofs.Hears.{same_seat}
+use Rattle.pp_clients_obey.proofs.Says.{said_is, seen, seen_said}
+use Rattle.pp_clients_obey.proofs.Walks.{AllRestBut, Changes, all_rest, change_rest, change_twice, close_none, close_one, end_none, end_one, ends_by, found_in, found_rests, not_over}
+
+-- ---- a state whose clients are these
+
+-- by its name and clients alone
+record Has (name : Bytes) (cs : List Client) (s : State) : Type 0 where
+  same : seen s ≡ (name, cs)
+
+clients_of : (name : Bytes) (cs : List Client) (s : State) → Has name cs s → s.clients ≡ cs
+clients_of name cs s has = ap (λ (p : Bytes × List Client). p.1) has.same
+
+shown_in : (name : Bytes) (owed : List Bytes) (seats : List Seat) (cs : List Client) (s : State) → Has name cs s → AreShown name owed seats cs → AreShown s.settings.name owed seats s.clients
+shown_in name owed seats cs s has shown = subst (λ (p : Bytes × List Client). AreShown p.0 owed seats p.1) (sym has.same) shown
+
+rest_in : (name : Bytes) (cs : List Client) (n : ℕ) (s : State) → Has name cs s → AllRestBut n cs → AllRestBut n s.clients
+rest_in name cs n s has all = subst (λ (xs : List Client). AllRestBut n xs) (sym (clients_of name cs s has)) all
+
+client_in : (name : Bytes) (cs : List Client) (n : ℕ) (c : Client) (s : State) → Has name cs s → find (is_client n) cs ≡ Some c → client s n ≡ Some c
+client_in name cs n c s has found = ap (λ (xs : List Client). find (is_client n) xs) (clients_of name cs s has) ∙ found
+
+-- ---- a seat among the others
+
+at_set : (n i : ℕ) (seats : List Seat) (seat new : Seat) → IsAt n i seats → slice_get seats i ≡ Some seat → new.client.id ≡ seat.client.id → IsAt n i (slice_set seats i new)
+at_set n i [] seat new at there same = absurd at
+at_set n zero (first ∷ seats) seat new at there same = (ap (λ (m : ℕ). m == n) (same ∙ ap (λ (x : Seat). x.client.id) (same_seat first seat there)) ∙ at.0, at.1)
+at_set n (suc i) (first ∷ seats) seat new at there same = (at.0, at_set n i seats seat new at.1 there same)
+
+get_set : (n i : ℕ) (seats : List Seat) (new : Seat) → IsAt n i seats → slice_get (slice_set seats i new) i ≡ Some new
+get_set n i [] new at = absurd at
+get_set n zero (first ∷ seats) new at = refl
+get_set n (suc i) (first ∷ seats) new at = get_set n i seats new at.1
+
+set_set : (n i : ℕ) (seats : List Seat) (new after : Seat) → IsAt n i seats → slice_set (slice_set seats i new) i after ≡ slice_set seats i after
+set_set n i [] new after at = absurd at
+set_set n zero (first ∷ seats) new after at = refl
+set_set n (suc i) (first ∷ seats) new after at = ap (λ (rest : List Seat). first ∷ rest) (set_set n i seats new after at.1)
+
+shown_again : (name : Bytes) (owed : List Bytes) (seats : List Seat) (cs : List Client) (n i : ℕ) (seat : Seat) → AreShown name owed seats cs → IsAt n i seats → slice_get seats i ≡ Some seat → AreShown name owed (slice_set seats i seat) cs
+shown_again name owed [] cs n i seat shown at there = absurd at
+shown_again name owed (first ∷ seats) [] n i seat shown at there = absurd shown
+shown_again name owed (first ∷ seats) (c ∷ cs) n zero seat shown at there = (subst (λ (x : Seat). ShowsSeat name owed x c) (sym (same_seat first seat there)) shown.0, shown.1)
+shown_again name owed (first ∷ seats) (c ∷ cs) n (suc i) seat shown at there = (shown.0, shown_again name owed seats cs n i seat shown.1 at.1 there)
+
+-- ---- nothing is left of it to answer, or something is
+
+and_false : (b : Bool) → (b && false) ≡ false
+and_false true = refl
+and_false false = refl
+
+not_finished : (c : Client) → c.is_closing ≡ true → is_finished c ≡ false
+not_finished c is =
+    ap (λ (b : Bool). c.has_hung_up && not b && (not (has_request c.front) || nat_lt (length c.heard) c.body_left)) is
+    ∙ ap (λ (b : Bool). b && (not (has_request c.front) || nat_lt (length c.heard) c.body_left)) (and_false c.has_hung_up)
+
+pub number_found : (n : ℕ) (cs : List Client) (c : Client) → find (is_client n) cs ≡ Some c → c.number ≡ n
+number_found n cs c found = same_number c.number n (found_holds (is_client n) c cs found)
+
+closed_has : (name : Bytes) (cs : List Client) (n : ℕ) (t : State) → Has name cs t → Has name (change (is_client n) (closing_by false) cs) (close_client n false t)
+closed_has name cs n t has = record { same = seen_closed n false t ∙ ap (λ (p : Bytes × List Client). (p.0, change (is_client n) (closing_by false) p.1)) has.same }
+
+-- it stays
+stays_then : (n : ℕ) (t : State) (c : Client) → client t n ≡ Some c → AllRestBut n t.clients → is_finished c ≡ false → Changes close_finished n t t
+stays_then n t c found all isnt = record {
+  here = c;
+  found = found;
+  leads = close_none c t isnt;
+  now = c;
+  again = found;
+  stays = close_none c t isnt;
+  others = λ m x other there. close_none x t (found_rests n m t.clients x all there other).finished;
+  others_then = λ m x other there. close_none x t (found_rests n m t.clients x all there other).finished;
+}
+
+-- it is closed
+closed_then : (n : ℕ) (t : State) (c : Client) → client t n ≡ Some c → AllRestBut n t.clients → is_finished c ≡ true → Changes close_finished n t (close_client n false t)
+closed_then n t c found all is =
+    let has : Has t.settings.name (change (is_client n) (closing_by false) t.clients) (close_client n false t) = closed_has t.settings.name t.clients n t (record { same = refl }) in
+    let then : AllRestBut n (close_client n false t).clients
+    = rest_in t.settings.name (change (is_client n) (closing_by false) t.clients) n (close_client n false t) has (change_rest (closing_by false) (λ x. refl) n t.clients all) in record {
+      here = c;
+      found = found;
+      leads = close_one c t is ∙ ap (λ (m : ℕ). close_client m false t) (number_found n t.clients c found);
+      now = closing_by false c;
+      again = client_in t.settings.name (change (is_client n) (closing_by false) t.clients) n (closing_by false c) (close_client n false t) has (found_in (closing_by false) (λ x. refl) n t.clients c found);
+      stays = close_none (closing_by false c) (close_client n false t) (not_finished (closing_by false c) refl);
+      others = λ m x other there. close_none x t (found_rests n m t.clients x all there other).finished;
+      others_then = λ m x other there. close_none x (close_client n false t) (found_rests n m (close_client n false t).clients x then there other).finished;
+    }
+
+-- it stays, or is closed where nothing is left
+record Finishes (owed : List Bytes) (seats : List Seat) (n : ℕ) (t : State) : Type 0 where
+  last : State
+  closes : Changes close_finished n t last
+  shown : AreShown last.settings.name owed seats last.clients
+
+finishes : (owed : List Bytes) (n i : ℕ) (seats : List Seat) (seat new : Seat) (t : State) (b : Bool) → AreShown t.settings.name owed seats t.clients → IsAt n i seats → slice_get seats i ≡ Some seat → AllRestBut n t.clients → finished_in seat ≡ b
+    → IsLeftAs b seat new → Finishes owed (slice_set seats i new) n t
+finishes owed n i seats seat new t true shown at there all is left =
+    let here : IsFound t.settings.name owed seat n t.clients = places t.settings.name owed seats t.clients n i seat shown at there in record {
+      last = close_client n false t;
+      closes = closed_then n t here.client here.there all (sym (finished t.settings.name owed seat here.client here.shows) ∙ is);
+      shown = closed_all owed n i seats seat new false t shown at there left;
+    }
+finishes owed n i seats seat new t false shown at there all isnt left =
+    let here : IsFound t.settings.name owed seat n t.clients = places t.settings.name owed seats t.clients n i seat shown at there in record {
+      last = t;
+      closes = stays_then n t here.client here.there all (sym (finished t.settings.name owed seat here.client here.shows) ∙ isnt);
+      shown = subst (λ (x : Seat). AreShown t.settings.name owed (slice_set seats i x) t.clients) (sym left) (shown_again t.settings.name owed seats t.clients n i seat shown at there);
+    }
+
+-- ---- where no reply is over
+
+none_end : (n : ℕ) (t : State) (c : Client) → client t n ≡ Some c → AllRestBut n t.clients → (is_over c && not c.is_closing) ≡ false → Changes end_said n t t
+none_end n t c found all isnt = record {
+  here = c;
+  found = found;
+  leads = end_none c t isnt;
+  now = c;
+  again = found;
+  stays = end_none c t isnt;
+  others = λ m x other there. end_none x t (found_rests n m t.clients x all there other).said;
+  others_then = λ m x other there. end_none x t (found_rests n m t.clients x all there other).said;
+}
+
+rested : (owed : List Bytes) (n i : ℕ) (seats : List Seat) (seat new : Seat) → IsAt n i seats → slice_get seats i ≡ Some seat → AreSettledBut n seats → (seat.is_closing ≡ false → is_said seat.client.reply ≡ false)
+    → IsLeftAs (finished_in seat) seat new → (s : State) → WasRead owed seats s → WasOwed owed (slice_set seats i new) s
+rested owed n i seats seat new at there settled unsaid left s was =
+    let t : State = was.before in
+    let here : IsFound t.settings.name owed seat n t.clients = places t.settings.name owed seats t.clients n i seat was.shown at there in
+    let all : AllRestBut n t.clients = all_rest t.settings.name owed seats t.clients n was.shown settled in
+    let f : Finishes owed (slice_set seats i new) n t = finishes owed n i seats seat new t (finished_in seat) was.shown at there all refl left in record {
+      before = f.last;
+      shown = f.shown;
+      ended = was.ended ∙ ap paid (ends_by n t t f.last (none_end n t here.client here.there all (not_over t.settings.name owed seat here.client here.shows unsaid here.client.is_closing refl)) f.closes);
+    }
+
+pub rests_keep : RestsKeep
+rests_keep log m n i owed seats seat new at there settled unsaid left = keeps_as log m (λ s was. rested owed n i seats seat new at there settled unsaid left s was)
+
+-- ---- the last bytes of a reply
+
+-- what is said to it, and the client
+record Writes (owed : List Bytes) (n i k : ℕ) (seats : List Seat) (seat : Seat) (s : State) (c : Client) : Type 0 where
+  shown : AreShown s.settings.name owed seats s.clients
+  at : IsAt n i seats
+  there : slice_get seats i ≡ Some seat
+  going : seat.is_closing ≡ false
+  settled : AreSettledBut n seats
+  few : k ≤ left_next seat.client.reply
+  all : is_said (said_in k seat.client.reply) ≡ true
+  found : client s n ≡ Some c
+  shows : ShowsSeat s.settings.name owed seat c
+
+abbrev said_state : ℕ → ℕ → Client → State → State
+said_state k n c s = on_client n (said_by k) (use_said k c s)
+
+said_number : (k : ℕ) (x : Client) → (said_by k x).number ≡ x.number
+said_number k x = (said_by-same k x).number
+
+said_has : (k n : ℕ) (c : Client) (s : State) → Has s.settings.name (change (is_client n) (said_by k) s.clients) (said_state k n c s)
+said_has k n c s = record { same = seen_on n (said_by k) (use_said k c s) ∙ ap (λ (p : Bytes × List Client). (p.0, change (is_client n) (said_by k) p.1)) (seen_said k c s) }
+
+told_so : (name : Bytes) (owed : List Bytes) (seat : Seat) (c : Client) (k : ℕ) → ShowsSeat name owed seat c → seat.is_closing ≡ false → k ≤ left_next seat.client.reply → IsToldBy k name owed seat c (said_account k seat.account) (said_in k seat.client.reply)
+told_so name owed seat c k shows going few = open_told k name owed seat c (said_account k seat.account) (shows.going (sym shows.closing ∙ going)) few
+
+both_hold : (a b : Bool) → a ≡ true → b ≡ false → (a && not b) ≡ true
+both_hold true false first second = refl
+both_hold true true first second = absurd (cc second)
+both_hold false b first second = absurd (cc first)
+
+-- its reply is over in the words of the law
+is_over_now : (owed : List Bytes) (n i k : ℕ) (seats : List Seat) (seat : Seat) (s : State) (c : Client) → Writes owed n i k seats seat s c → (is_over (said_by k c) && not (said_by k c).is_closing) ≡ true
+is_over_now owed n i k seats seat s c w =
+    let told : IsToldBy k s.settings.name owed seat c (said_account k seat.account) (said_in k seat.client.reply) = told_so s.settings.name owed seat c k w.shows w.going w.few in
+    both_hold (is_over (said_by k c)) (said_by k c).is_closing
+    (sym (ends_same s.settings.name owed (told_with (said_in k seat.client.reply) (seat.before_body - k) (said_account k seat.account) seat) (said_by k c) told.shows) ∙ w.all)
+    (told.closing ∙ sym w.shows.closing ∙ w.going)
+
+closes_so : (owed : List Bytes) (n i k : ℕ) (seats : List Seat) (seat : Seat) (s : State) (c : Client) → Writes owed n i k seats seat s c → seat.closes ≡ (said_by k c).closes
+closes_so owed n i k seats seat s c w = (told_so s.settings.name owed seat c k w.shows w.going w.few).shows.closes
+
+said_rest : (owed : List Bytes) (n i k : ℕ) (seats : List Seat) (seat : Seat) (s : State) (c : Client) → Writes owed n i k seats seat s c → AllRestBut n (change (is_client n) (said_by k) s.clients)
+said_rest owed n i k seats seat s c w = change_rest (said_by k) (said_number k) n s.clients (all_rest s.settings.name owed seats s.clients n w.shown w.settled)
+
+-- how the reply ends: what becomes of its client
+ending_with : (owed : List Bytes) (n i k : ℕ) (seats : List Seat) (seat : Seat) (s : State) (c : Client) (g : Client → Client) (t : State) → Writes owed n i k seats seat s c → ((x : Client) → (g x).number ≡ x.number)
+    → Has s.settings.name (change (is_client n) g (change (is_client n) (said_by k) s.clients)) t → end_reply (said_by k c) (said_state k n c s) ≡ t → (is_over (g (said_by k c)) && not (g (said_by k c)).is_closing) ≡ false
+    → Changes end_said n (said_state k n c s) t
+ending_with owed n i k seats seat s c g t w kept has leads isnt =
+    let here : find (is_client n) (change (is_client n) (said_by k) s.clients) ≡ Some (said_by k c) = found_in (said_by k) (said_number k) n s.clients c w.found in
+    let rest : AllRestBut n (said_state k n c s).clients = rest_in s.settings.name (change (is_client n) (said_by k) s.clients) n (said_state k n c s) (said_has k n c s) (said_rest owed n i k seats seat s c w) in
+    let then : AllRestBut n t.clients
+    = rest_in s.settings.name (change (is_client n) g (change (is_client n) (said_by k) s.clients)) n t has (change_rest g kept n (change (is_client n) (said_by k) s.clients) (said_rest owed n i k seats seat s c w)) in record {
+      here = said_by k c;
+      found = client_in s.settings.name (change (is_client n) (said_by k) s.clients) n (said_by k c) (said_state k n c s) (said_has k n c s) here;
+      leads = end_one (said_by k c) (said_state k n c s) (is_over_now owed n i k seats seat s c w) ∙ leads;
+      now = g (said_by k c);
+      again = client_in s.settings.name (change (is_client n) g (change (is_client n) (said_by k) s.clients)) n (g (said_by k c)) t has (found_in g kept n (change (is_client n) (said_by k) s.clients) (said_by k c) here);
+      stays = end_none (g (said_by k c)) t isnt;
+      others = λ m x other there. end_none x (said_state k n c s) (found_rests n m (said_state k n c s).clients x rest there other).said;
+      others_then = λ m x other there. end_none x t (found_rests n m t.clients x then there other).said;
+    }
+
+-- it is there still
+again_so : (owed : List Bytes) (n i k : ℕ) (seats : List Seat) (seat : Seat) (s : State) (c : Client) (g : Client → Client) (t : State) → Writes owed n i k seats seat s c → ((x : Client) → (g x).number ≡ x.number)
+    → Has s.settings.name (change (is_client n) g (change (is_client n) (said_by k) s.clients)) t → client t n ≡ Some (g (said_by k c))
+again_so owed n i k seats seat s c g t w kept has =
+    client_in s.settings.name (change (is_client n) g (change (is_client n) (said_by k) s.clients)) n (g (said_by k c)) t has
+    (found_in g kept n (change (is_client n) (said_by k) s.clients) (said_by k c) (found_in (said_by k) (said_number k) n s.clients c w.found))
+
+then_rest : (owed : List Bytes) (n i k : ℕ) (seats : List Seat) (seat : Seat) (s : State) (c : Client) (g : Client → Client) (t : State) → Writes owed n i k seats seat s c → ((x : Client) → (g x).number ≡ x.number)
+    → Has s.settings.name (change (is_client n) g (change (is_client n) (said_by k) s.clients)) t → AllRestBut n t.clients
+then_rest owed n i k seats seat s c g t w kept has =
+    rest_in s.settings.name (change (is_client n) g (change (is_client n) (said_by k) s.clients)) n t has (change_rest g kept n (change (is_client n) (said_by k) s.clients) (said_rest owed n i k seats seat s c w))
+
+then_shown : (owed : List Bytes) (n i k : ℕ) (seats : List Seat) (seat new : Seat) (s : State) (c : Client) (g : Client → Client) (t : State) → Writes owed n i k seats seat s c
+    → Has s.settings.name (change (is_client n) g (change (is_client n) (said_by k) s.clients)) t → ((x : Client) → ShowsSeat s.settings.name owed seat x → ShowsSeat s.settings.name owed new (g (said_by k x)))
+    → AreShown t.settings.name owed (slice_set seats i new) t.clients
+then_shown owed n i k seats seat new s c g t w has one =
+    shown_in s.settings.name owed (slice_set seats i new) (change (is_client n) g (change (is_client n) (said_by k) s.clients)) t has
+    (subst (λ (cs : List Client). AreShown s.settings.name owed (slice_set seats i new) cs) (sym (change_twice (said_by k) g (said_number k) n s.clients))
+    (changes s.settings.name owed seats s.clients n i new (λ x. g (said_by k x)) w.shown w.at
+    (λ other x there shows. one x (subst (λ (y : Seat). ShowsSeat s.settings.name owed y x) (same_seat seat other (sym w.there ∙ there)) shows))))
+
+-- ---- the next request stands
+
+next_leads : (x : Client) (n : ℕ) (s : State) → x.closes ≡ false → x.number ≡ n → end_reply x s ≡ swept (forsake (is_of n) (on_client n next_request s))
+unfolding end_reply
+next_leads x n s stays number =
+    ap (λ (b : Bool). elim b as (λ c. State) [ true ↦ close_client x.number false s | false ↦ swept (forsake (is_of x.number) (on_client x.number next_request s)) ]) stays
+    ∙ ap (λ (m : ℕ). swept (forsake (is_of m) (on_client m next_request s))) number
+
+next_has : (name : Bytes) (cs : List Client) (n : ℕ) (s : State) → Has name cs s → Has name (change (is_client n) next_request cs) (swept (forsake (is_of n) (on_client n next_request s)))
+next_has name cs n s has = record {
+  same =
+      seen_swept (forsake (is_of n) (on_client n next_request s)) ∙ seen_forsaken (is_of n) (on_client n next_request s) ∙ seen_on n next_request s
+      ∙ ap (λ (p : Bytes × List Client). (p.0, change (is_client n) next_request p.1)) has.same;
+}
+
+request_there : (front : SeatFront) (f : Front) → ShowsFront front f → keeps_open_in (asked_in front) ≡ true → (r : Parsed) × (f ≡ IsRequest r) × (is_ok r.rule ≡ true)
+request_there NoneYet NoHeadYet shows keeps = absurd (cc keeps)
+request_there (NoneThere status) (NoHead other) shows keeps = absurd (cc keeps)
+request_there (IsThere a) (IsRequest r) shows keeps = (r, refl, second_holds (is_kept_open r.head.minor r.head.fields) (is_ok r.rule) (sym shows.keeps_open ∙ keeps))
+request_there front f shows keeps = absurd shows
+
+told_id : (k : ℕ) (client : Side) (b : Bool) → is_said (said_in k client.reply) ≡ b → (side_said k client).id ≡ client.id
+told_id k client true is = ap (λ (b : Bool). (elim b as (λ x. Side) [ true ↦ record client { heard = answered client.heard; reply = ended_reply (said_in k client.reply) } | false ↦ record client { reply = said_in k client.reply } ]).id) is
+told_id k client false is = ap (λ (b : Bool). (elim b as (λ x. Side) [ true ↦ record client { heard = answered client.heard; reply = ended_reply (said_in k client.reply) } | false ↦ record client { reply = said_in k client.reply } ]).id) is
+
+next_shows : (name : Bytes) (owed : List Bytes) (k : ℕ) (seat next : Seat) (x : Client) → ShowsSeat name owed seat x → seat.is_closing ≡ false → k ≤ left_next seat.client.reply → is_said (said_in k seat.client.reply) ≡ true → GoesOn seat
+    → IsRead (at_next_request (told_by k seat)) next → ShowsSeat name owed next (next_request (said_by k x))
+next_shows name owed k seat next x shows going few all goes read =
+    let runs : x.is_closing ≡ false = sym shows.closing ∙ going in
+    let r : (r : Parsed) × (x.front ≡ IsRequest r) × (is_ok r.rule ≡ true) = request_there seat.front x.front (shows.going runs).front goes.keeps in
+    let told : IsToldBy k name owed seat x (said_account k seat.account) (said_in k seat.client.reply) = told_so name owed seat x k shows going few in
+    let after : IsNext name owed next (said_by k x) = endings k name owed seat next x r.0 shows runs few all r.1 r.2 goes.counted read in record {
+      number = ap (λ (y : Seat). y.client.id) read.1 ∙ told_id k seat.client true all ∙ shows.number ∙ sym (said_number k x);
+      closing = ap (λ (y : Seat). y.is_closing) read.1 ∙ shows.closing ∙ sym told.closing;
+      going = λ still. after.next;
+    }
+
+next_number : (k : ℕ) (seat next : Seat) → is_said (said_in k seat.client.reply) ≡ true → IsRead (at_next_request (told_by k seat)) next → next.client.id ≡ seat.client.id
+next_number k seat next all read = ap (λ (y : Seat). y.client.id) read.1 ∙ told_id k seat.client true all
+
+-- no reply of it has begun
+next_silent : (x : Client) → (is_over (next_request x) && not (next_request x).is_closing) ≡ false
+next_silent x = refl
+
+ended_next : (owed : List Bytes) (n i offered : ℕ) (seats : List Seat) (seat next after : Seat) (bytes : Bytes) → Sits n i seats seat → AreSettledBut n seats → LeavesNone seat bytes → GoesOn seat → IsRead (at_next_request (told_by (length bytes) seat)) next
+    → IsLeftAs (finished_in next) next after → (s : State) → OwesWrite owed n offered bytes seats s → Moves (WasOwed owed (slice_set seats i after)) (Said n offered bytes) s
+ended_next owed n i offered seats seat next after bytes sits settled leaves goes read left s owes =
+    let found : IsFound s.settings.name owed seat n s.clients = places s.settings.name owed seats s.clients n i seat owes.shown sits.at sits.there in
+    let w : Writes owed n i (length bytes) seats seat s found.client
+    = record { shown = owes.shown; at = sits.at; there = sits.there; going = sits.going; settled = settled; few = leaves.few; all = leaves.all; found = found.there; shows = found.shows } in
+    let has : Has s.settings.name (change (is_client n) next_request (change (is_client n) (said_by (length bytes)) s.clients)) (swept (forsake (is_of n) (on_client n next_request (said_state (length bytes) n found.client s))))
+    = next_has s.settings.name (change (is_client n) (said_by (length bytes)) s.clients) n (said_state (length bytes) n found.client s) (said_has (length bytes) n found.client s) in
+    let leads : end_reply (said_by (length bytes) found.client) (said_state (length bytes) n found.client s) ≡ swept (forsake (is_of n) (on_client n next_request (said_state (length bytes) n found.client s)))
+    = next_leads (said_by (length bytes) found.client) n (said_state (length bytes) n found.client s) (sym (closes_so owed n i (length bytes) seats seat s found.client w) ∙ goes.stays) (said_number (length bytes) found.client ∙ number_found n s.clients found.client found.there) in
+    let over : Changes end_said n (said_state (length bytes) n found.client s) (swept (forsake (is_of n) (on_client n next_request (said_state (length bytes) n found.client s))))
+    = ending_with owed n i (length bytes) seats seat s found.client next_request (swept (forsake (is_of n) (on_client n next_request (said_state (length bytes) n found.client s)))) w (λ x. (next_request-same x).number) has leads (next_silent (said_by (length bytes) found.client)) in
+    let f : Finishes owed (slice_set (slice_set seats i next) i after) n (swept (forsake (is_of n) (on_client n next_request (said_state (length bytes) n found.client s))))
+    = finishes owed n i (slice_set seats i next) next after (swept (forsake (is_of n) (on_client n next_request (said_state (length bytes) n found.client s)))) (finished_in next)
+    (then_shown owed n i (length bytes) seats seat next s found.client next_request (swept (forsake (is_of n) (on_client n next_request (said_state (length bytes) n found.client s)))) w has
+    (λ x shows. next_shows s.settings.name owed (length bytes) seat next x shows sits.going leaves.few leaves.all goes read))
+    (at_set n i seats seat next sits.at sits.there (next_number (length bytes) seat next leaves.all read)) (get_set n i seats next sits.at)
+    (then_rest owed n i (length bytes) seats seat s found.client next_request (swept (forsake (is_of n) (on_client n next_request (said_state (length bytes) n found.client s)))) w (λ x. (next_request-same x).number) has) refl left in
+    moves_to refl (goes_said s n offered bytes found.client owes.none owes.writes found.there (owes.first found.client found.there))
+    (record {
+      before = f.last;
+      shown = subst (λ (rest : List Seat). AreShown f.last.settings.name owed rest f.last.clients) (set_set n i seats next after sits.at) f.shown;
+      ended = said_is n (length bytes) found.client s found.there
+          ∙ ap paid (ends_by n (said_state (length bytes) n found.client s) (swept (forsake (is_of n) (on_client n next_request (said_state (length bytes) n found.client s)))) f.last over f.closes);
+    })
+
+pub ends_keep : EndsKeep
+ends_keep old new before now n i offered owed seats seat next after bytes call rose sits settled leaves goes read left =
+    keeps_more (λ l. Said n offered bytes) call (λ l. rose) (λ l. ended_next owed n i offered seats seat next after bytes sits settled leaves goes read left)
+
+-- ---- behind the last reply
+
+last_leads : (x : Client) (n : ℕ) (s : State) → x.closes ≡ true → x.number ≡ n → end_reply x s ≡ close_client n false s
+unfolding end_reply
+last_leads x n s closes number =
+    ap (λ (b : Bool). elim b as (λ c. State) [ true ↦ close_client x.number false s | false ↦ swept (forsake (is_of x.number) (on_client x.number next_request s)) ]) closes
+    ∙ ap (λ (m : ℕ). close_client m false s) number
+
+closed_silent : (x : Client) → (is_over (closing_by false x) && not (closing_by false x).is_closing) ≡ false
+closed_silent x = and_false (is_over (closing_by false x))
+
+ended_last : (owed : List Bytes) (n i offered : ℕ) (seats : List Seat) (seat after : Seat) (bytes : Bytes) → Sits n i seats seat → AreSettledBut n seats → LeavesNone seat bytes → seat.closes ≡ true → IsClosed seat after → (s : State)
+    → OwesWrite owed n offered bytes seats s → Moves (WasOwed owed (slice_set seats i after)) (Said n offered bytes) s
+ended_last owed n i offered seats seat after bytes sits settled leaves closes closed s owes =
+    let found : IsFound s.settings.name owed seat n s.clients = places s.settings.name owed seats s.clients n i seat owes.shown sits.at sits.there in
+    let w : Writes owed n i (length bytes) seats seat s found.client
+    = record { shown = owes.shown; at = sits.at; there = sits.there; going = sits.going; settled = settled; few = leaves.few; all = leaves.all; found = found.there; shows = found.shows } in
+    let has : Has s.settings.name (change (is_client n) (closing_by false) (change (is_client n) (said_by (length bytes)) s.clients)) (close_client n false (said_state (length bytes) n found.client s))
+    = closed_has s.settings.name (change (is_client n) (said_by (length bytes)) s.clients) n (said_state (length bytes) n found.client s) (said_has (length bytes) n found.client s) in
+    let leads : end_reply (said_by (length bytes) found.client) (said_state (length bytes) n found.client s) ≡ close_client n false (said_state (length bytes) n found.client s)
+    = last_leads (said_by (length bytes) found.client) n (said_state (length bytes) n found.client s) (sym (closes_so owed n i (length bytes) seats seat s found.client w) ∙ closes) (said_number (length bytes) found.client ∙ number_found n s.clients found.client found.there) in
+    let over : Changes end_said n (said_state (length bytes) n found.client s) (close_client n false (said_state (length bytes) n found.client s))
+    = ending_with owed n i (length bytes) seats seat s found.client (closing_by false) (close_client n false (said_state (length bytes) n found.client s)) w (λ x. refl) has leads (closed_silent (said_by (length bytes) found.client)) in
+    let none : Changes close_finished n (close_client n false (said_state (length bytes) n found.client s)) (close_client n false (said_state (length bytes) n found.client s))
+    = stays_then n (close_client n false (said_state (length bytes) n found.client s)) (closing_by false (said_by (length bytes) found.client))
+    (again_so owed n i (length bytes) seats seat s found.client (closing_by false) (close_client n false (said_state (length bytes) n found.client s)) w (λ x. refl) has)
+    (then_rest owed n i (length bytes) seats seat s found.client (closing_by false) (close_client n false (said_state (length bytes) n found.client s)) w (λ x. refl) has) (not_finished (closing_by false (said_by (length bytes) found.client)) refl) in
+    moves_to refl (goes_said s n offered bytes found.client owes.none owes.writes found.there (owes.first found.client found.there))
+    (record {
+      before = close_client n false (said_state (length bytes) n found.client s);
+      shown = then_shown owed n i (length bytes) seats seat after s found.client (closing_by false) (close_client n false (said_state (length bytes) n found.client s)) w has
+          (λ x shows. closed_shows s.settings.name owed seat after x (closing_by false (said_by (length bytes) x)) shows closed (said_number (length bytes) x) refl);
+      ended = said_is n (length bytes) found.client s found.there
+          ∙ ap paid (ends_by n (said_state (length bytes) n found.client s) (close_client n false (said_state (length bytes) n found.client s)) (close_client n false (said_state (length bytes) n found.client s)) over none);
+    })
+
+pub lasts_keep : LastsKeep
+lasts_keep old new before now n i offered owed seats seat after bytes call rose sits settled leaves closes closed =
+    keeps_more (λ l. Said n offered bytes) call (λ l. rose) (λ l. ended_last owed n i offered seats seat after bytes sits settled leaves closes closed)
