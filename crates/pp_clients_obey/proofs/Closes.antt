@@ -1,5 +1,5 @@
 -- The closing of a client is what the law permits, and leads where the law leads.
-use Rattle.std.proofs.Common.{◌≡◌, refl, sym, subst, ap, ◌∙◌, ℕ, zero, suc, Bool, true, false, not, cond, ◌==◌, ◌&&◌, ◌||◌, find, filter, List, [], ◌∷◌, Option, Some, None, is_some}
+use Rattle.std.proofs.Common.{◌≡◌, refl, sym, subst, ap, ◌∙◌, ℕ, Bool, true, false, not, cond, ◌==◌, ◌&&◌, ◌||◌, find, List, [], ◌∷◌, Option, Some, None, is_some}
 use Rattle.std.specs.List.{list_any}
 use Rattle.std.specs.Prelude.{slice_get, slice_set}
 use Rattle.pp_world.specs.declared.happening.Happening.TheVariants.{HungUp, Noted, Shut}
@@ -13,7 +13,7 @@ use Rattle.pp_law.specs.Lists.{Bytes, change, without}
 use Rattle.pp_law.specs.Permits.{is_owed, may_shut}
 use Rattle.pp_law.specs.Phases.{in_phase}
 use Rattle.pp_law.specs.Replies.{end_replies}
-use Rattle.pp_law.specs.State.{State, Client, Exchange, Owed, WriteTo, Phase, Connecting, Deciding}
+use Rattle.pp_law.specs.State.{State, Client, Exchange, Owed, WriteTo, Deciding}
 use Rattle.pp_law.specs.Table.{swept}
 use Rattle.pp_laws.proofs.Tests.{number_same}
 use Rattle.pp_obeys.specs.Moves.{Moves}
@@ -116,7 +116,7 @@ losses_keep old new before now n i owed seats seat after call rose at there clos
 -- ---- a cut
 
 cut_frame : (n : ℕ) (s : State) → frame true (close_client n true (in_phase Deciding s)) ≡ frame true (in_phase Deciding s)
-cut_frame n s = frame_of (close_client-stays n true (in_phase Deciding s) (stays refl))
+cut_frame n s = frame_of {all = true} (close_client-stays n true (in_phase Deciding s) (stays refl))
 
 cut_moves : (owed : List Bytes) (n i : ℕ) (cause : Cause) (seats : List Seat) (seat after : Seat) → IsAt n i seats → slice_get seats i ≡ Some seat → IsClosed seat after → (s : State) → IsDueToCut owed n cause seats s
     → Moves (IsDeciding owed (slice_set seats i after)) (Noted (Cut n cause)) s
@@ -134,7 +134,7 @@ cuts_keep old new before now n i cause owed seats seat after call rose at there 
 -- ---- its connection is closed
 
 shut_frame : (n : ℕ) (s : State) → frame true (shut n s) ≡ frame true s
-shut_frame n s = frame_of (shut-stays n s (stays refl))
+shut_frame n s = frame_of {all = true} (shut-stays n s (stays refl))
 
 seen_shut : (n : ℕ) (s : State) → seen (shut n s) ≡ (s.settings.name, without (is_client n) (change (is_client n) (closing_by false) s.clients))
 unfolding shut
@@ -166,17 +166,15 @@ gone name owed n f kept (seat ∷ seats) (c ∷ cs) shown =
 -- of one that is found, and is to be closed
 over_in : (s : State) (n : ℕ) (cs : List Client) (c : Client) → find (is_client n) cs ≡ Some c → (c.is_closing || s.is_stopped) ≡ true → list_any (may_shut s n) cs ≡ true
 over_in s n [] c found over = absurd (cc found)
-over_in s n (x ∷ cs) c found over = by (is_client n x) refl
+over_in s n (x ∷ cs) c found over = by (λ isnt. over_in s n cs c (sym (ap (λ (b : Bool). cond b (Some x) (find (is_client n) cs)) isnt) ∙ found) over) (is_client n x) refl
   where
-    by : (b : Bool) → is_client n x ≡ b → (is_client n x && (x.is_closing || s.is_stopped) || list_any (may_shut s n) cs) ≡ true
-    by true is =
+    by : (is_client n x ≡ false → list_any (may_shut s n) cs ≡ true) → (b : Bool) → is_client n x ≡ b → (is_client n x && (x.is_closing || s.is_stopped) || list_any (may_shut s n) cs) ≡ true
+    by more true is =
         let same : x ≡ c = let e : Some x ≡ Some c = sym (ap (λ (b : Bool). cond b (Some x) (find (is_client n) cs)) is) ∙ found in cc e in
         ap (λ (b : Bool). b && (x.is_closing || s.is_stopped) || list_any (may_shut s n) cs) is
         ∙ ap (λ (y : Client). (y.is_closing || s.is_stopped) || list_any (may_shut s n) cs) same
         ∙ ap (λ (b : Bool). b || list_any (may_shut s n) cs) over
-    by false isnt =
-        ap (λ (b : Bool). b && (x.is_closing || s.is_stopped) || list_any (may_shut s n) cs) isnt
-        ∙ over_in s n cs c (sym (ap (λ (b : Bool). cond b (Some x) (find (is_client n) cs)) isnt) ∙ found) over
+    by more false isnt = ap (λ (b : Bool). b && (x.is_closing || s.is_stopped) || list_any (may_shut s n) cs) isnt ∙ more isnt
 
 shut_moves : (owed : List Bytes) (n i : ℕ) (seats : List Seat) (seat : Seat) → IsAt n i seats → slice_get seats i ≡ Some seat → (s : State) → IsToShut owed seat seats s → Moves (IsClosingDown owed (without_client n seats)) (Shut n) s
 shut_moves owed n i seats seat at there s to =

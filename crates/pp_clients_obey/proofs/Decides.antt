@@ -1,10 +1,9 @@
 -- A decision is what the law permits, and leads where the law leads.
-use Rattle.std.proofs.Common.{◌≡◌, refl, sym, subst, ap, ap₂, ◌∙◌, ℕ, ◌≤◌, nat_lt, Bool, true, false, not, ◌==◌, ◌&&◌, ◌||◌, is_some, List, [], ◌∷◌, ◌++◌, length, Option, Some, None, option_map, Result, Ok, Err}
-use Rattle.std.specs.Prelude.{slice_get, slice_set}
+use Rattle.std.proofs.Common.{◌≡◌, refl, sym, subst, ap, ap₂, ◌∙◌, ℕ, nat_lt, Bool, true, false, not, ◌&&◌, ◌||◌, is_some, List, [], Option, Some, None, option_map, Result, Ok, Err}
+use Rattle.std.specs.Prelude.{slice_set}
 use Rattle.pp_ask.specs.declared.kind.AskKind.{AskKind}
 use Rattle.pp_fresh.specs.declared.aging.Times.{Times}
 use Rattle.pp_head.specs.Request.{Request}
-use Rattle.pp_reply.specs.Texts.{has_page}
 use Rattle.pp_target.specs.Key.{Key, text_of}
 use Rattle.pp_target.specs.declared.target.TargetFault.{TargetFault}
 use Rattle.pp_text.specs.Fields.{Field}
@@ -23,20 +22,17 @@ use Rattle.pp_law.specs.Phases.{in_phase}
 use Rattle.pp_law.specs.Replies.{regained}
 use Rattle.pp_law.specs.Requests.{Front, Parsed, NoHeadYet, NoHead, IsRequest, key_in, parsed_in}
 use Rattle.pp_law.specs.State.{State, Client, Deciding, Entry, Exchange, Instance, Reply}
-use Rattle.pp_law.specs.Table.{add_row, enter, forget, forget_row, idle_row, kept_row, mark_row, row, row_for, rows, swept, with_room}
+use Rattle.pp_law.specs.Table.{add_row, enter, forget, forget_row, idle_row, kept_row, mark_row, row, row_for, rows, with_room}
 use Rattle.pp_obeys.specs.Moves.{Goes, Moves}
 use Rattle.pp_obeys.proofs.Calls.{keeps_more, moves_to}
 use Rattle.pp_obeys.proofs.Frames.{Frame, frame, frame_of, stays}
 use Rattle.pp_obeys.proofs.StaysAsks.{decided-stays}
 use Rattle.pp_obeys.proofs.TurnHappenings.{goes_taken, goes_taken_behind}
-use Rattle.pp_seats.specs.declared.account.Account.{Account}
 use Rattle.pp_seats.specs.declared.front.Front.{Front as SeatFront}
 use Rattle.pp_seats.specs.declared.front.Front.TheVariants.{NoHeadYet as NoneYet, NoHead as NoneThere, Request as IsThere}
 use Rattle.pp_seats.specs.declared.seat.Seat.{Seat}
-use Rattle.pp_seats.specs.Decided.{answering, asking, expects_in, page_for, paged, with_interim}
-use Rattle.pp_seats.specs.Dues.{is_refused_in}
+use Rattle.pp_seats.specs.Decided.{answering, asking, expects_in, paged, with_interim}
 use Rattle.pp_seats.specs.Heads.{asked_in}
-use Rattle.pp_seats.specs.Seats.{is_undecided_in}
 use Rattle.pp_seats_law.specs.Clients.{AreShown, IsFound}
 use Rattle.pp_seats_law.specs.Decided.{MayBeDecided, expects_of}
 use Rattle.pp_seats_law.specs.Fronts.{ShowsFront}
@@ -45,9 +41,9 @@ use Rattle.pp_seats_law.proofs.AllSeats.{changes_there, places}
 use Rattle.pp_seats_law.specs.Replies.{number_of}
 use Rattle.pp_seats_law.proofs.Decided.{answers, asks, pages}
 use Rattle.pp_seats_law.proofs.Stages.{begun, undecided}
-use Rattle.pp_clients_obey.specs.Deciding.{AsksKeep, FollowsKeep, IsOpen, IsToAsk, IsToFollow, IsToTake, PagesKeep, RelaysKeep, WasTaken, has_ask, is_ask, is_by_row, row_of_key}
+use Rattle.pp_clients_obey.specs.Deciding.{AsksKeep, FollowsKeep, IsOpen, IsToTake, PagesKeep, RelaysKeep, WasTaken, has_ask, is_ask, is_by_row, row_of_key}
 use Rattle.pp_clients_obey.specs.Hearing.{Sits}
-use Rattle.pp_clients_obey.proofs.Closes.{seen_forsaken, seen_on, seen_swept}
+use Rattle.pp_clients_obey.proofs.Closes.{seen_on, seen_swept}
 use Rattle.pp_clients_obey.proofs.Ends.{number_found}
 use Rattle.pp_clients_obey.proofs.Hears.{same_seat}
 use Rattle.pp_clients_obey.proofs.Says.{seen}
@@ -250,7 +246,7 @@ unfolding regained
 regained_phase s = refl
 
 decided_phase : (c : Client) (d : Decision) (s : State) → (decided c d s).phase ≡ s.phase
-decided_phase c d s = let same : frame true (decided c d s) ≡ frame true s = frame_of (decided-stays c d s (stays refl)) in ap (λ (o : Frame). o.phase) same
+decided_phase c d s = let same : frame true (decided c d s) ≡ frame true s = frame_of {all = true} (decided-stays c d s (stays refl)) in ap (λ (o : Frame). o.phase) same
 
 goes_by_room : (s : State) (n index : ℕ) (d : Decision) (owed : List Bytes) (seat : Seat) (seats : List Seat) (b : Bool) → s.has_made_room ≡ b → IsToTake owed n index d seat seats s → Goes s (Noted (Taken n index d)) (take_decision n d (in_phase Deciding s))
 goes_by_room s n index d owed seat seats true made to = goes_taken_behind s n index d made to.taking to.may (to.behind made)

@@ -1,5 +1,5 @@
 -- The last bytes of a reply are what the law permits, and behind them the next request stands, or the client is closed.
-use Rattle.std.proofs.Common.{◌≡◌, refl, sym, subst, ap, ◌∙◌, ℕ, zero, suc, ◌-◌, ◌≤◌, nat_lt, Bool, true, false, not, ◌==◌, ◌&&◌, ◌||◌, is_ok, find, List, [], ◌∷◌, length, Option, Some}
+use Rattle.std.proofs.Common.{◌≡◌, refl, sym, subst, ap, ◌∙◌, ℕ, zero, suc, ◌-◌, ◌≤◌, nat_lt, Bool, true, false, not, ◌==◌, ◌&&◌, ◌||◌, is_ok, find, List, [], ◌∷◌, length, Some}
 use Rattle.std.specs.Prelude.{slice_get, slice_set}
 use Rattle.pp_client.specs.Clients.{Client as Side, said_by as side_said}
 use Rattle.pp_client.specs.Replies.{ended as ended_reply, is_said, left_next, said as said_in}
@@ -28,7 +28,7 @@ use Rattle.pp_seats.specs.Seats.{IsRead, at_next_request, finished_in, told_by}
 use Rattle.pp_seats_law.specs.Clients.{AreShown, IsAt, IsFound}
 use Rattle.pp_seats_law.specs.Fronts.{ShowsFront}
 use Rattle.pp_seats_law.specs.Saying.{IsNext}
-use Rattle.pp_seats_law.specs.Seats.{ShowsOpen, ShowsSeat}
+use Rattle.pp_seats_law.specs.Seats.{ShowsSeat}
 use Rattle.pp_seats_law.proofs.AllSeats.{changes, places}
 use Rattle.pp_seats_law.proofs.Dues.{finished}
 use Rattle.pp_seats_law.proofs.Nexts.{found_holds}

@@ -7,9 +7,8 @@ use Rattle.pp_law.specs.Connections.{client, each_client, is_client}
 use Rattle.pp_law.specs.Lists.{Bytes, change, has_number}
 use Rattle.pp_law.specs.Replies.{close_finished, end_replies, end_reply, end_said, is_finished, is_said as is_over}
 use Rattle.pp_law.specs.State.{State, Client}
-use Rattle.pp_laws.proofs.Tests.{number_same, same_number}
+use Rattle.pp_laws.proofs.Tests.{same_number}
 use Rattle.pp_seats.specs.declared.seat.Seat.{Seat}
-use Rattle.pp_seats.specs.Seats.{finished_in}
 use Rattle.pp_seats_law.specs.Clients.{AreShown}
 use Rattle.pp_seats_law.specs.Seats.{ShowsSeat}
 use Rattle.pp_seats_law.proofs.Dues.{finished}
@@ -24,28 +23,28 @@ number_of c n m b is same = ap (λ (k : ℕ). k == n) (same_number c.number m is
 -- the first of that number, or one behind it
 pub found_in : (f : Client → Client) → ((x : Client) → (f x).number ≡ x.number) → (n : ℕ) (cs : List Client) (c : Client) → find (is_client n) cs ≡ Some c → find (is_client n) (change (is_client n) f cs) ≡ Some (f c)
 found_in f kept n [] c found = absurd (cc found)
-found_in f kept n (x ∷ cs) c found = by (is_client n x) refl
+found_in f kept n (x ∷ cs) c found = by (λ isnt. found_in f kept n cs c (sym (ap (λ (b : Bool). cond b (Some x) (find (is_client n) cs)) isnt) ∙ found)) (is_client n x) refl
   where
     rest : Option Client
     rest = find (is_client n) (change (is_client n) f cs)
 
-    by : (b : Bool) → is_client n x ≡ b → find (is_client n) (change (is_client n) f (x ∷ cs)) ≡ Some (f c)
-    by true is =
+    by : (is_client n x ≡ false → find (is_client n) (change (is_client n) f cs) ≡ Some (f c)) → (b : Bool) → is_client n x ≡ b → find (is_client n) (change (is_client n) f (x ∷ cs)) ≡ Some (f c)
+    by more true is =
         let same : x ≡ c = let e : Some x ≡ Some c = sym (ap (λ (b : Bool). cond b (Some x) (find (is_client n) cs)) is) ∙ found in cc e in
         ap (λ (b : Bool). cond (is_client n (elim b as (λ y. Client) [ true ↦ f x | false ↦ x ])) (Some (elim b as (λ y. Client) [ true ↦ f x | false ↦ x ])) rest) is
         ∙ ap (λ (b : Bool). cond b (Some (f x)) rest) (ap (λ (k : ℕ). k == n) (kept x) ∙ is) ∙ ap (λ (y : Client). Some (f y)) same
-    by false isnt =
+    by more false isnt =
         ap (λ (b : Bool). cond (is_client n (elim b as (λ y. Client) [ true ↦ f x | false ↦ x ])) (Some (elim b as (λ y. Client) [ true ↦ f x | false ↦ x ])) rest) isnt
-        ∙ ap (λ (b : Bool). cond b (Some x) rest) isnt ∙ found_in f kept n cs c (sym (ap (λ (b : Bool). cond b (Some x) (find (is_client n) cs)) isnt) ∙ found)
+        ∙ ap (λ (b : Bool). cond b (Some x) rest) isnt ∙ more isnt
 
 -- its number is among all
 pub is_among : (n : ℕ) (cs : List Client) (c : Client) → find (is_client n) cs ≡ Some c → has_number n (map (λ (x : Client). x.number) cs) ≡ true
 is_among n [] c found = absurd (cc found)
-is_among n (x ∷ cs) c found = by (is_client n x) refl
+is_among n (x ∷ cs) c found = by (λ isnt. is_among n cs c (sym (ap (λ (b : Bool). cond b (Some x) (find (is_client n) cs)) isnt) ∙ found)) (is_client n x) refl
   where
-    by : (b : Bool) → is_client n x ≡ b → has_number n (map (λ (y : Client). y.number) (x ∷ cs)) ≡ true
-    by true is = ap (λ (b : Bool). b || has_number n (map (λ (y : Client). y.number) cs)) is
-    by false isnt = ap (λ (b : Bool). b || has_number n (map (λ (y : Client). y.number) cs)) isnt ∙ is_among n cs c (sym (ap (λ (b : Bool). cond b (Some x) (find (is_client n) cs)) isnt) ∙ found)
+    by : (is_client n x ≡ false → has_number n (map (λ (y : Client). y.number) cs) ≡ true) → (b : Bool) → is_client n x ≡ b → has_number n (map (λ (y : Client). y.number) (x ∷ cs)) ≡ true
+    by more true is = ap (λ (b : Bool). b || has_number n (map (λ (y : Client). y.number) cs)) is
+    by more false isnt = ap (λ (b : Bool). b || has_number n (map (λ (y : Client). y.number) cs)) isnt ∙ more isnt
 
 -- one change behind the other
 pub change_twice : (f g : Client → Client) → ((x : Client) → (f x).number ≡ x.number) → (n : ℕ) (cs : List Client) → change (is_client n) g (change (is_client n) f cs) ≡ change (is_client n) (λ x. g (f x)) cs
@@ -110,13 +109,13 @@ change_rest f kept n (x ∷ cs) all = (by (is_client n x) refl, change_rest f ke
 
 pub found_rests : (n m : ℕ) (cs : List Client) (c : Client) → AllRestBut n cs → find (is_client m) cs ≡ Some c → (m == n) ≡ false → Rests c
 found_rests n m [] c all found other = absurd (cc found)
-found_rests n m (x ∷ cs) c all found other = by (is_client m x) refl
+found_rests n m (x ∷ cs) c all found other = by (λ isnt. found_rests n m cs c all.1 (sym (ap (λ (b : Bool). cond b (Some x) (find (is_client m) cs)) isnt) ∙ found) other) (is_client m x) refl
   where
-    by : (b : Bool) → is_client m x ≡ b → Rests c
-    by true is =
+    by : (is_client m x ≡ false → Rests c) → (b : Bool) → is_client m x ≡ b → Rests c
+    by more true is =
         let same : x ≡ c = let e : Some x ≡ Some c = sym (ap (λ (b : Bool). cond b (Some x) (find (is_client m) cs)) is) ∙ found in cc e in
         subst Rests same (all.0 (number_of x n m false is other))
-    by false isnt = found_rests n m cs c all.1 (sym (ap (λ (b : Bool). cond b (Some x) (find (is_client m) cs)) isnt) ∙ found) other
+    by more false isnt = more isnt
 
 -- ---- one behind the other
 
@@ -157,17 +156,15 @@ walk_on f n t now again stays others (m ∷ ns) =
 pub walk : (f : Client → State → State) (n : ℕ) (s t : State) → Changes f n s t → (ns : List ℕ) → has_number n ns ≡ true → each_client f ns s ≡ t
 unfolding each_client
 walk f n s t c [] has = absurd (cc has)
-walk f n s t c (m ∷ ns) has = by (m == n) refl
+walk f n s t c (m ∷ ns) has = by (λ other. walk f n s t c ns (sym (ap (λ (b : Bool). b || has_number n ns) other) ∙ has)) (m == n) refl
   where
-    by : (b : Bool) → (m == n) ≡ b → each_client f ns (elim (client s m) as (λ x. State) [ None ↦ s | Some x ↦ f x s ]) ≡ t
-    by true same =
+    by : ((m == n) ≡ false → each_client f ns s ≡ t) → (b : Bool) → (m == n) ≡ b → each_client f ns (elim (client s m) as (λ x. State) [ None ↦ s | Some x ↦ f x s ]) ≡ t
+    by more true same =
         let there : client s m ≡ Some c.here = ap (λ (k : ℕ). client s k) (same_number m n same) ∙ c.found in
         ap (λ (u : State). each_client f ns u)
         (step_by f s t (client s m) (Some c.here) there (λ x is. ap (λ (y : Client). f y s) (same_found (Some c.here) x c.here is refl) ∙ c.leads) (λ none. absurd (none_some (sym none))))
         ∙ walk_on f n t c.now c.again c.stays c.others_then ns
-    by false other =
-        ap (λ (u : State). each_client f ns u) (step_by f s s (client s m) (client s m) refl (λ x is. c.others m x other is) (λ none. refl))
-        ∙ walk f n s t c ns (sym (ap (λ (b : Bool). b || has_number n ns) other) ∙ has)
+    by more false other = ap (λ (u : State). each_client f ns u) (step_by f s s (client s m) (client s m) refl (λ x is. c.others m x other is) (λ none. refl)) ∙ more other
 
 -- ---- replies that are over
 

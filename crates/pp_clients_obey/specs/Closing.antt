@@ -1,5 +1,5 @@
 -- The closing of a client is what the law permits, and leads where the law leads (RFC 2616, section 8.1).
-use Rattle.std.specs.Prelude.{◌≡◌, ℕ, ◌≤◌, Bool, true, false, not, ◌==◌, ◌||◌, List, filter, Option, Some, slice_get, slice_set}
+use Rattle.std.specs.Prelude.{◌≡◌, ℕ, ◌≤◌, true, false, not, ◌==◌, ◌||◌, List, filter, Option, Some, slice_get, slice_set}
 use Rattle.pp_world.specs.Log.{Appends, Log}
 use Rattle.pp_world.specs.declared.happening.Happening.TheVariants.{HungUp, Noted, Shut}
 use Rattle.pp_world.specs.declared.note.Cause.{Cause}

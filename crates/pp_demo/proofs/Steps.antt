@@ -4,7 +4,6 @@ use Rattle.std.proofs.Math.Nat.{mod-add-mod}
 use Rattle.std.proofs.lemmas.Grind.{common_steps}
 use Rattle.pp_memworld.specs.declared.script.Cue.{Cue}
 use Rattle.pp_memworld.specs.declared.script.Cue.TheVariants.{Connect, Say}
-use Rattle.pp_memworld.specs.declared.script.Page.{Page}
 use Rattle.pp_demo.specs.Generator.{next_state, state_behind, value_in}
 use Rattle.pp_demo.specs.Pages.{byte_at, bytes_up_to, last_offsets, page_of, pages_up_to}
 use Rattle.pp_demo.specs.Asking.{behind_client, behind_clients, cues_of_client, cues_of_clients, request_of, request_text}

@@ -1,7 +1,7 @@
 -- What the origin has.
 use Rattle.std.specs.Prelude.{ℕ, zero, suc, ◌+◌, ◌*◌, ◌/◌, ◌%◌, List, [], ◌∷◌, ◌++◌, slice_index, codes, decimal}
 use Rattle.pp_memworld.specs.declared.script.Page.{Page}
-use Rattle.pp_demo.specs.Generator.{next_state, state_behind, value_in}
+use Rattle.pp_demo.specs.Generator.{state_behind, value_in}
 
 -- the offsets of the last bytes of so many pages, each by the next value
 unfoldable pub last_offsets : ℕ → ℕ → List ℕ

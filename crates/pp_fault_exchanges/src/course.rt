@@ -113,10 +113,11 @@ pub struct Reply {
     pub cause: Option<Cause>,
 }
 
-/// What this client may be said.
+/// What this client may be said, and what else where memory is refused.
 pub struct MaySay {
     pub client: u64,
     pub replies: &'static [Reply],
+    pub scarce: &'static [Reply],
 }
 
 /// The first chunk of the page that is replaced, and no more of it: the two are never mixed.
@@ -134,6 +135,7 @@ pub const MAY_BE_SAID: &[MaySay] = &[
             parts: &[Part::Text(REPLY_HEAD_A), Part::Fill(b'a', 4_096)],
             cause: None,
         }],
+        scarce: &[],
     },
     MaySay {
         client: 2,
@@ -141,6 +143,7 @@ pub const MAY_BE_SAID: &[MaySay] = &[
             parts: &[Part::Text(REPLY_HEAD_C), Part::Fill(b'c', 4_096)],
             cause: None,
         }],
+        scarce: &[],
     },
     MaySay {
         client: 3,
@@ -151,6 +154,7 @@ pub const MAY_BE_SAID: &[MaySay] = &[
                 cause: None,
             },
         ],
+        scarce: &[],
     },
     MaySay {
         client: 4,
@@ -161,6 +165,11 @@ pub const MAY_BE_SAID: &[MaySay] = &[
             },
             SUPERSEDED,
         ],
+        // No memory was there to hold what the one before it had brought, so it is fetched once more.
+        scarce: &[Reply {
+            parts: &[Part::Text(REPLY_NEW)],
+            cause: None,
+        }],
     },
     MaySay {
         client: 5,
@@ -168,5 +177,6 @@ pub const MAY_BE_SAID: &[MaySay] = &[
             parts: &[Part::Text(REPLY_NEW_HELD)],
             cause: None,
         }],
+        scarce: &[],
     },
 ];

@@ -14,7 +14,7 @@ use Rattle.pp_law.specs.State.{State, AskTooLong, Course, Trying, OutOfTries, Cl
 use Rattle.pp_law.specs.Lists.{Bytes, is_some_with, is_this}
 use Rattle.pp_law.specs.Table.{Next, clear, instance, next_from, next_in, next_of, swept}
 use Rattle.pp_laws_passed.proofs.Cases.{by_front, by_result, each_of, each_so, when, when_so}
-use Rattle.pp_laws_passed.proofs.Fed.{Fed, FromConn, SameClient, SameConn, SameExchange, SameHead, Tale, client_same, clients_changed, conns_changed, conns_emptied, conns_from, conns_pushed, exchange_added, exchanges_changed, exchanges_filtered, facts_of, fed, parts_same, relays_on, still}
+use Rattle.pp_laws_passed.proofs.Fed.{Fed, FromAnswer, FromConn, SameClient, SameConn, SameExchange, SameHead, Tale, client_same, clients_changed, conns_changed, conns_emptied, conns_from, conns_pushed, exchange_added, exchanges_changed, exchanges_filtered, facts_of, fed, parts_same, relays_on, still}
 use Rattle.pp_laws_passed.proofs.Same.{itself}
 use Rattle.pp_laws_passed.proofs.SameRows.{clear-same, swept-same}
 use Rattle.pp_laws_passed.specs.Passed.{is_in_passed}
@@ -75,7 +75,7 @@ module _ {tale : Tale} where
 
   pub without_row-by : (c : Client) (begun : Bool) → SameClient tale tale (elim begun as (λ x. Client) [ true ↦ c | false ↦ record c { course = Trying 0; has_given_up = true } ]) c
   without_row-by c true = client_same c
-  without_row-by c false = parts_same _ c refl refl refl refl
+  without_row-by c false = parts_same _ c refl refl refl refl refl
 
 left_alone-same : (e : Exchange) → SameExchange (left_alone e) e
 left_alone-same e = record { number = refl; asker = λ n is. absurd (cc is); headed = refl; place = λ is none. none }
@@ -88,7 +88,7 @@ module _ {tale : Tale} where
 
   charge-fed : (cost : Course → Course) (e : Exchange) (s : State) → Fed tale s → Fed tale (charge cost e s)
   unfolding charge
-  charge-fed cost e s h = give_up_row-fed e _ (on_client_of-fed e (λ c. record c { course = cost c.course }) s (λ c. parts_same _ c refl refl refl refl) h)
+  charge-fed cost e s h = give_up_row-fed e _ (on_client_of-fed e (λ c. record c { course = cost c.course }) s (λ c. parts_same _ c refl refl refl refl refl) h)
 
   pub lose_attempt-fed : (e : Exchange) (s : State) → Fed tale s → Fed tale (lose_attempt e s)
   unfolding lose_attempt
@@ -105,7 +105,7 @@ first_filter p n (m ∷ ms) holds is = let e : m ≡ n = cc in subst (λ t. firs
 module _ {tale : Tale} where
   pub end_exchange-fed : (n : ℕ) (s : State) → Fed tale s → Fed tale (end_exchange n s)
   unfolding end_exchange
-  end_exchange-fed n s h = fed (conns_from (record s { exchanges = filter (λ e. not (is_exchange n e)) s.exchanges }) (map (without_ask n) s.conns) (λ k i. from k (in_map (without_ask n) k s.conns i)) (exchanges_filtered s (λ e. not (is_exchange n e)) (facts_of h)))
+  end_exchange-fed n s h = fed (conns_from (record s { exchanges = filter (λ e. not (is_exchange n e)) s.exchanges }) (map (without_ask n) s.conns) (λ k i. from k (in_map (without_ask n) k s.conns i)) (λ k i. heads k (in_map (without_ask n) k s.conns i)) (exchanges_filtered s (λ e. not (is_exchange n e)) (facts_of h)))
     where
       of_was : (j : Conn) → IsIn j s.conns → FromConn s.conns (without_ask n j)
       of_was j i = record {
@@ -115,6 +115,9 @@ module _ {tale : Tale} where
         front = λ m l is. first_filter (λ x. not (x == n)) m j.line (in_filter (λ x. not (x == n)) m j.line l).1 is;
         answer = λ m a l is. is;
       }
+
+      heads : (k : Conn) → From (without_ask n) s.conns k → FromAnswer s.conns k
+      heads k r = record { was = r.was; there = r.there; number = ap (λ (x : Conn). x.number) r.is; answered = λ a is. sym (ap (λ (x : Conn). x.answer) r.is) ∙ is }
 
       from : (k : Conn) → From (without_ask n) s.conns k → FromConn s.conns k
       from k r = subst (λ (x : Conn). FromConn s.conns x) (sym r.is) (of_was r.was r.there)
@@ -136,7 +139,7 @@ module _ {tale : Tale} where
   pub close_client-fed : (n : ℕ) (is_cut : Bool) (s : State) → Fed tale s → Fed tale (close_client n is_cut s)
   unfolding close_client
   close_client-fed n is_cut s h =
-      swept-fed _ (each_exchange-fed leave_one (λ e t there ht. leave_one-fed e t ht) (exchanges_of n s) _ (on_client-fed n (λ c. record c { is_closing = true; is_cut = c.is_cut || is_cut }) s (λ c. parts_same _ c refl refl refl refl) h))
+      swept-fed _ (each_exchange-fed leave_one (λ e t there ht. leave_one-fed e t ht) (exchanges_of n s) _ (on_client-fed n (λ c. record c { is_closing = true; is_cut = c.is_cut || is_cut }) s (λ c. parts_same _ c refl refl refl refl refl) h))
 
   -- ---- connections that are closed
 
@@ -161,7 +164,7 @@ module _ {tale : Tale} where
       by x off = record { number = refl; asker = λ n is. is; headed = refl; place = λ is none. let both : false ≡ true = sym off ∙ is in absurd (cc both) }
 
   short_same : (c : Client) (p : Passed) → SameHead tale tale (record c { brought = Passes (record p { is_short = true }) }) c (record p { is_short = true }) p
-  short_same c p = record { head = refl; rule = refl; relays = relays_on (tale.said c.number) (tale.said c.number) (record c { brought = Passes (record p { is_short = true }) }) c (record p { is_short = true }) p refl refl (λ on. refl) refl refl refl }
+  short_same c p = record { index = refl; head = refl; rule = refl; ends = refl; relays = relays_on (tale.said c.number) (tale.said c.number) (record c { brought = Passes (record p { is_short = true }) }) c (record p { is_short = true }) p refl refl (λ on. refl) refl refl refl }
 
   leave_place-fed : (e : Exchange) (s : State) → HeadedAs e s → Fed tale s → Fed tale (leave_place e s)
   unfolding leave_place
@@ -194,7 +197,7 @@ module _ {tale : Tale} where
 
   pub close_conn-fed : (counts : Bool) (k : Conn) (s : State) → Fed tale s → Fed tale (close_conn counts k s)
   unfolding close_conn on_conn
-  close_conn-fed counts k s h = each_exchange-fed (lose_place (counts && not k.has_brought)) (lose_place-fed (counts && not k.has_brought)) k.line _ (fed (conns_emptied s (is_conn k.number) (λ j. record j { is_closing = true; line = []; answer = None; unread = [] }) (λ j. refl) (facts_of h)))
+  close_conn-fed counts k s h = each_exchange-fed (lose_place (counts && not k.has_brought)) (lose_place-fed (counts && not k.has_brought)) k.line _ (fed (conns_emptied s (is_conn k.number) (λ j. record j { is_closing = true; line = []; answer = None; unread = [] }) (λ j. refl) (λ j. (refl, refl)) (facts_of h)))
 
   -- ---- places
 
@@ -317,7 +320,7 @@ module _ {tale : Tale} where
   unfolding fill_with
   fill_with-fed e c s asks number unheaded off h =
       when (fits e.text) (begin_exchange-fed e s number unheaded (λ d i hit. off d i (sym (same_number c.number d.number (sym (ap (λ o. is_this d.number o) asks) ∙ hit)))) h)
-      (on_client-fed c.number (λ x. record x { course = AskTooLong }) s (λ x. parts_same _ x refl refl refl refl) h)
+      (on_client-fed c.number (λ x. record x { course = AskTooLong }) s (λ x. parts_same _ x refl refl refl refl refl) h)
 
   fill_span-fed : (c : Client) (n : Next) (span : ℕ × ℕ) (s : State) → IsOff c s → Fed tale s → Fed tale (fill_span c n span s)
   unfolding fill_span

@@ -43,12 +43,12 @@ use Rattle.pp_laws.proofs.Callers.{said_by-same}
 use Rattle.pp_laws_replies.proofs.StoryHappenings.{opened_above}
 use Rattle.pp_laws_replies.proofs.Usable.{TakenFor, due_off, permitted_taken, taken_for}
 use Rattle.pp_laws_replies.proofs.StorySaid.{no_client, said_front}
-use Rattle.pp_laws_passed.specs.Passed.{is_in_passed, IsFedBy, PassedIsOneResponse, PassedIsAllThatCame, PiecesJoin}
-use Rattle.pp_laws_passed.proofs.Delivered.{payload_grown}
+use Rattle.pp_laws_passed.specs.Passed.{IsShown, all_spelled, is_in_passed, IsFedBy, PassedIsOneResponse, PassedIsAllThatCame, PiecesJoin, last_of, to_say}
+use Rattle.pp_laws_passed.proofs.Delivered.{in_pipe, payload_grown}
 use Rattle.pp_laws_passed.proofs.Cases.{by_pause, each_of, each_so, when}
-use Rattle.pp_laws_passed.proofs.Fed.{Fed, Feeds, FactsOf, FromClient, Relays, SameClient, SameExchange, Tale, clients_changed, conn_added, conns_from, exchanges_changed, facts_across, facts_from, facts_of, fed, is_in_other, itself_client, itself_conn, itself_exchange, parts_across, parts_same, still}
+use Rattle.pp_laws_passed.proofs.Fed.{AreAnswered, Fed, Feeds, Grows, Keeps, FactsOf, FromClient, Relays, SameClient, SameExchange, Tale, clients_changed, conn_added, conns_from, exchanges_changed, facts_across, facts_from, facts_of, fed, is_in_other, itself_client, itself_conn, itself_answer, itself_exchange, parts_across, parts_same, still}
 use Rattle.pp_laws_passed.proofs.FedAsks.{IsUnheaded, close_client-fed, end_exchange-fed, lose_attempt-fed, on_client-fed, on_client_of-fed, on_conn-fed, on_exchange-fed, placing-fed, put_on-fed, unplaced_unheaded}
-use Rattle.pp_laws_passed.proofs.FedHeads.{ended-fed, got-fed}
+use Rattle.pp_laws_passed.proofs.FedHeads.{EndsWell, ended-fed, got-fed}
 use Rattle.pp_laws_passed.proofs.FedReplies.{IsFree, begin_replies-fed, decided-fed, end_replies-fed, heard_same, said_same}
 use Rattle.pp_laws_passed.proofs.FedTurns.{come_to-fed, come_to_decide-fed, deciding-fed, in_phase-fed, regained-fed, rest_with-fed, tick-fed, touch-fed, use_said-fed, use_said-same}
 use Rattle.pp_laws_passed.proofs.Same.{Same, alike, facts_of as parts_of, itself}
@@ -62,7 +62,7 @@ bringing_headed id Relaying is = refl
 bringing_headed id Dropping is = refl
 
 module _ {tale : Tale} where
-  event-fed : (s : State) → Fed tale s → Fed tale (event s)
+  pub event-fed : (s : State) → Fed tale s → Fed tale (event s)
   unfolding event
   event-fed s h = regained-fed _ (in_phase-fed Handling s h)
 
@@ -72,9 +72,9 @@ module _ {tale : Tale} where
 
   reached-fed : (n : ℕ) (s : State) → Fed tale s → Fed tale (reached n s)
   unfolding reached
-  reached-fed n s h = touch-fed n _ (on_conn-fed n (λ k. record k { is_reached = true }) s (λ k. record { line = refl; answer = refl }) h)
+  reached-fed n s h = touch-fed n _ (on_conn-fed n (λ k. record k { is_reached = true }) s (λ k. record { number = refl; line = refl; answer = refl }) h)
 
-  paid-fed : (s : State) → Fed tale s → Fed tale (paid s)
+  pub paid-fed : (s : State) → Fed tale s → Fed tale (paid s)
   unfolding paid
   paid-fed s h = regained-fed _ (fed (facts_of h))
 
@@ -85,7 +85,7 @@ module _ {tale : Tale} where
   refused_row-fed : (x : Instance) (s : State) → Fed tale s → Fed tale (refused_row x s)
   unfolding refused_row
   refused_row-fed x s h =
-      fed (clients_changed (record (forget x.id s) { exchanges = change (brings_to x.id) dropping_body (forget x.id s).exchanges }) (waits_for_row x.id) (λ c. record c { course = RowRefused }) (λ c. parts_same _ c refl refl refl refl)
+      fed (clients_changed (record (forget x.id s) { exchanges = change (brings_to x.id) dropping_body (forget x.id s).exchanges }) (waits_for_row x.id) (λ c. record c { course = RowRefused }) (λ c. parts_same _ c refl refl refl refl refl)
       (exchanges_changed (forget x.id s) (brings_to x.id) dropping_body (λ e i is. record { number = refl; asker = λ n g. g; headed = sym (bringing_headed x.id e.body is); place = λ g none. none }) (λ e. refl) (facts_of (still (forget-same x.id s (itself s)) h))))
 
   leave_memory-fed : (how : Leaving) (s : State) → Fed tale s → Fed tale (leave_memory how s)
@@ -121,7 +121,7 @@ module _ {tale : Tale} where
 
   out-fed : (n : ℕ) (s : State) → Fed tale s → Fed tale (out n s)
   unfolding out
-  out-fed n s h = fed (conns_from s (filter (λ k. not (is_conn n k)) s.conns) (λ k i. itself_conn s k (in_filter (λ j. not (is_conn n j)) k s.conns i).0) (facts_of h))
+  out-fed n s h = fed (conns_from s (filter (λ k. not (is_conn n k)) s.conns) (λ k i. itself_conn s k (in_filter (λ j. not (is_conn n j)) k s.conns i).0) (λ k i. itself_answer s k (in_filter (λ j. not (is_conn n j)) k s.conns i).0) (facts_of h))
 
   dropped-fed : (n : ℕ) (s : State) → Fed tale s → Fed tale (dropped n s)
   unfolding dropped
@@ -179,7 +179,7 @@ module _ {tale : Tale} where
       by : (pause : Pause) → (placing s).pause ≡ pause → Fed tale (elim pause as (λ x. State) [ AllPlaced ↦ (placing s).state | WaitsDrop k e ↦ (placing s).state | WaitsDial e ↦ put_on e.number n with_conn ])
       by AllPlaced is = p
       by (WaitsDrop k e) is = p
-      by (WaitsDial e) is = put_on-fed e.number n with_conn (paused _ s e h is) (fed (conn_added (placing s).state (new_conn n host port (placing s).state.clock) refl (facts_of p)))
+      by (WaitsDial e) is = put_on-fed e.number n with_conn (paused _ s e h is) (fed (conn_added (placing s).state (new_conn n host port (placing s).state.clock) refl refl (facts_of p)))
 
 asked_some : (n : ℕ) (e : Exchange) (now : ℕ) → SameExchange (asked_text n now e) e
 asked_some n e now = record { number = refl; asker = λ m has. has; headed = refl; place = λ on none. none }
@@ -189,14 +189,14 @@ module _ {tale : Tale} where
   unfolding ask ask_next ask_body
   ask-fed k n s h =
       each_of (asking s k) h
-      (λ e. when (is_outstanding e) (on_client_of-fed e (asked_body n) _ (λ c. parts_same _ c refl refl refl refl) (on_exchange-fed e.number (λ x. record x { body_left = x.body_left - n }) s (λ x. record { number = refl; asker = λ m has. has; headed = refl; place = λ on none. none }) h))
+      (λ e. when (is_outstanding e) (on_client_of-fed e (asked_body n) _ (λ c. parts_same _ c refl refl refl refl refl) (on_exchange-fed e.number (λ x. record x { body_left = x.body_left - n }) s (λ x. record { number = refl; asker = λ m has. has; headed = refl; place = λ on none. none }) h))
       (on_exchange-fed e.number (asked_text n s.clock) s (λ x. asked_some n x s.clock) h))
 
-  gone-fed : (is_clean : Bool) (k : ℕ) (s : State) → tale.but ≡ None → AreRising (map conn_number s.conns) → Fed tale s → Fed tale (gone is_clean k s)
+  gone-fed : (is_clean : Bool) (k : ℕ) (s : State) → tale.but ≡ None → (is_clean ≡ true → tale.follows ≡ true → (j : Conn) → conn s k ≡ Some j → EndsWell tale j s) → AreRising (map conn_number s.conns) → Fed tale s → Fed tale (gone is_clean k s)
   unfolding gone
-  gone-fed is_clean k s calm rise h = each_so (conn s k) (λ none. h) (λ j found. end_replies-fed _ (ended-fed is_clean j s calm (in_find (is_conn k) j s.conns found).0 rise h))
+  gone-fed is_clean k s calm well rise h = each_so (conn s k) (λ none. h) (λ j found. end_replies-fed _ (ended-fed is_clean j s calm (in_find (is_conn k) j s.conns found).0 (λ is on. well is on j found) rise h))
 
-event_conns : (s : State) → (event s).conns ≡ s.conns
+pub event_conns : (s : State) → (event s).conns ≡ s.conns
 unfolding event regained
 event_conns s = refl
 
@@ -207,7 +207,7 @@ module _ {tale : Tale} where
 
   hang_up-fed : (n : ℕ) (s : State) → Fed tale s → Fed tale (hang_up n s)
   unfolding hang_up
-  hang_up-fed n s h = when (is_writing s.owed n) (close_client-fed n false s h) (end_replies-fed _ (on_client-fed n (λ c. record c { has_hung_up = true }) s (λ c. parts_same _ c refl refl refl refl) h))
+  hang_up-fed n s h = when (is_writing s.owed n) (close_client-fed n false s h) (end_replies-fed _ (on_client-fed n (λ c. record c { has_hung_up = true }) s (λ c. parts_same _ c refl refl refl refl refl) h))
 
   ending-fed : (s : State) → Fed tale s → Fed tale (ending s)
   unfolding ending
@@ -226,10 +226,16 @@ module _ {tale : Tale} where
     sourced = λ c id i on is. sourced_by c id (in_push c s.clients (new_client n s.clock) i) on is;
     begun = λ e c i j hit on. begun_by e c i (in_push c s.clients (new_client n s.clock) j) hit on;
     fed_by = λ k e c p l i m is j hit off has. fed_in k e c p l i m is (in_push c s.clients (new_client n s.clock) j) hit off has;
+    answers = f.answers;
+    kept = λ on c p j off has. kept_in on c p (in_push c s.clients (new_client n s.clock) j) off has;
   })
     where
       f : FactsOf tale s
       f = facts_of h
+
+      kept_in : tale.follows ≡ true → (c : Client) (p : Passed) → IsIn c s.clients ⊎ (c ≡ new_client n s.clock) → is_in_other c.stage ≡ false → passed_of c ≡ Some p → Keeps tale c p
+      kept_in on c p (inl j) off has = f.kept on c p j off has
+      kept_in on c p (inr eq) off has = let both : None ≡ Some p = sym (ap passed_of eq) ∙ has in absurd (cc both)
 
       sourced_by : (c : Client) (id : ℕ) → IsIn c s.clients ⊎ (c ≡ new_client n s.clock) → is_in_passed c.stage ≡ true → source_in c.stage ≡ Some id → ⊥
       sourced_by c id (inl i) on is = f.sourced c id i on is
@@ -246,7 +252,7 @@ module _ {tale : Tale} where
   shut-fed : (n : ℕ) (s : State) → Fed tale s → Fed tale (shut n s)
   unfolding shut
   shut-fed n s h = fed (facts_from t (record t { clients = filter (λ c. not (is_client n c)) t.clients }) (rise_filter client_number (λ c. not (is_client n c)) t.clients (facts_of g).apart) (facts_of g).rise refl
-      (λ c i. itself_client t c (in_filter (λ d. not (is_client n d)) c t.clients i).0) (itself_exchange t) (itself_conn t) (facts_of g))
+      (λ c i. itself_client t c (in_filter (λ d. not (is_client n d)) c t.clients i).0) (itself_exchange t) (itself_conn t) (itself_answer t) (facts_of g))
     where
       t : State
       t = close_client n false s
@@ -255,7 +261,7 @@ module _ {tale : Tale} where
       g = close_client-fed n false s h
 
   -- nobody is there
-  nobody : (s : State) → s.clients ≡ [] → s.exchanges ≡ [] → s.conns ≡ [] → Fed tale s
+  pub nobody : (s : State) → s.clients ≡ [] → s.exchanges ≡ [] → s.conns ≡ [] → Fed tale s
   nobody s clients exchanges conns = fed (record {
     apart = subst (λ cs. AreRising (map client_number cs)) (sym clients) tt;
     rise = subst (λ es. AreRising (map (λ (e : Exchange). e.number) es)) (sym exchanges) tt;
@@ -265,6 +271,8 @@ module _ {tale : Tale} where
     sourced = λ c id i. absurd (subst (λ cs. IsIn c cs) clients i);
     begun = λ e c i. absurd (subst (λ es. IsIn e es) exchanges i);
     fed_by = λ k e c p l. absurd (subst (λ ks. IsIn k ks) conns l);
+    answers = λ on k a n l. absurd (subst (λ ks. IsIn k ks) conns l);
+    kept = λ on c p i. absurd (subst (λ cs. IsIn c cs) clients i);
   })
 
 opening_same : (s : State) → Same s (opening_begun s)
@@ -328,18 +336,22 @@ said_off n c bytes isnt = by (n == c) refl
     by true hit = let both : false ≡ true = sym isnt ∙ ap (λ m. m == n) (sym (same_number n c hit)) ∙ number_same n in absurd (cc both)
 
 -- the same is told in other words
-retold : (tale later : Tale) (s : State) → ((n : ℕ) → later.said n ≡ tale.said n) → tale.but ≡ later.but → Fed tale s → Fed later s
-retold tale later s said but h =
-    fed (facts_across {tale = tale} {later = later} s s (λ n isnt so. isnt (sym but ∙ so)) (facts_of h).apart (facts_of h).rise refl (λ d i. record { was = d; there = i; is = parts_across d d refl refl refl refl (said d.number) }) (itself_exchange s) (itself_conn s) (facts_of h))
+pub retold : (tale later : Tale) (s : State) → ((n : ℕ) → later.said n ≡ tale.said n) → Grows tale later → AreAnswered later s.exchanges s.conns s.next_exchange → Fed tale s → Fed later s
+retold tale later s said grows answers h =
+    fed (facts_across {tale = tale} {later = later} s s grows answers (facts_of h).apart (facts_of h).rise refl (λ d i. record { was = d; there = i; is = parts_across d d refl refl refl refl refl (said d.number) }) (itself_exchange s) (itself_conn s) (facts_of h))
 
-abbrev told_more : Tale → Happening → Tale
-told_more tale happening = record { said = λ n. tale.said n ++ said_in n happening; but = tale.but }
+abbrev pub told_more : Tale → Happening → Tale
+told_more tale happening = record tale { said = λ n. tale.said n ++ said_in n happening }
 
-abbrev told_none : Tale → Tale
-told_none tale = record { said = λ n. tale.said n ++ []; but = tale.but }
+abbrev pub told_none : Tale → Tale
+told_none tale = record tale { said = λ n. tale.said n ++ [] }
 
-untold : (tale : Tale) (s : State) → Fed tale s → Fed (told_none tale) s
-untold tale s h = retold tale (told_none tale) s (λ n. append-nil (tale.said n)) refl h
+-- with other words of what was said alone
+pub grows_said : (tale : Tale) (said : ℕ → Bytes) → Grows tale (record tale { said = said })
+grows_said tale said = record { but = λ n isnt. isnt; follows = λ is. is; came = λ n i head rule content is_whole c. c }
+
+pub untold : (tale : Tale) (s : State) → Fed tale s → Fed (told_none tale) s
+untold tale s h = retold tale (told_none tale) s (λ n. append-nil (tale.said n)) (grows_said tale (λ n. tale.said n ++ [])) (facts_of h).answers h
 
 -- the client of that number, in a state with the same clients
 module _ (tale : Tale) (n offered : ℕ) (bytes : Bytes) (s u : State) (is : IsPermitted s (Said n offered bytes)) (x : Client) (found : client s n ≡ Some x) (apart : AreRising (map client_number s.clients)) (clients : u.clients ≡ s.clients) where
@@ -353,7 +365,7 @@ module _ (tale : Tale) (n offered : ℕ) (bytes : Bytes) (s u : State) (is : IsP
   only c i hit = one_of client_number s.clients c x apart (subst (λ cs. IsIn c cs) clients i) there.0 (same_number c.number n hit ∙ sym (same_number x.number n there.1))
 
   of_said : (d : Client) → Changed (is_client n) (said_by (length bytes)) u.clients d → FromClient tale later u.clients d
-  of_said d (same i isnt) = record { was = d; there = i; is = parts_across d d refl refl refl refl (ap (λ (xs : Bytes). tale.said d.number ++ xs) (said_off n d.number bytes isnt) ∙ append-nil (tale.said d.number)) }
+  of_said d (same i isnt) = record { was = d; there = i; is = parts_across d d refl refl refl refl refl (ap (λ (xs : Bytes). tale.said d.number ++ xs) (said_off n d.number bytes isnt) ∙ append-nil (tale.said d.number)) }
   of_said d (other c i hit eq) = record {
     was = c;
     there = i;
@@ -363,79 +375,96 @@ module _ (tale : Tale) (n offered : ℕ) (bytes : Bytes) (s u : State) (is : IsP
 
   said_facts : FactsOf tale u → FactsOf later (record u { clients = change (is_client n) (said_by (length bytes)) u.clients })
   said_facts hu =
-      facts_across {tale = tale} {later = later} u (record u { clients = change (is_client n) (said_by (length bytes)) u.clients }) (λ m isnt so. isnt so)
+      facts_across {tale = tale} {later = later} u (record u { clients = change (is_client n) (said_by (length bytes)) u.clients }) (grows_said tale (λ m. tale.said m ++ said_in m (Said n offered bytes))) hu.answers
       (rise_change client_number (is_client n) (said_by (length bytes)) (λ c. (said_by-same (length bytes) c).number) u.clients hu.apart) hu.rise refl (λ d i. of_said d (in_change (is_client n) (said_by (length bytes)) d u.clients i)) (itself_exchange u) (itself_conn u) hu
 
+-- before it is seen which replies are over
+pub said_seen-fed : (tale : Tale) (n offered : ℕ) (bytes : Bytes) (s : State) (x : Client) → client s n ≡ Some x → IsPermitted s (Said n offered bytes) → Fed tale s → Fed (told_more tale (Said n offered bytes)) (on_client n (said_by (length bytes)) (use_said (length bytes) x s))
+unfolding on_client
+said_seen-fed tale n offered bytes s x found is h =
+    fed (said_facts tale n offered bytes s (use_said (length bytes) x s) is x found (facts_of h).apart (parts_of (use_said-same (length bytes) x s (itself s))).clients_same (facts_of (use_said-fed (length bytes) x s h)))
+
 said-fed : (tale : Tale) (n offered : ℕ) (bytes : Bytes) (s : State) → IsPermitted s (Said n offered bytes) → Fed tale s → Fed (told_more tale (Said n offered bytes)) (said n (length bytes) s)
-unfolding said on_client
-said-fed tale n offered bytes s is h =
-    each_so (client s n) (λ none. absurd (no_client s n offered bytes none is))
-    (λ x found.
-    end_replies-fed _
-    (fed (said_facts tale n offered bytes s (use_said (length bytes) x s) is x found (facts_of h).apart (parts_of (use_said-same (length bytes) x s (itself s))).clients_same (facts_of (use_said-fed (length bytes) x s h)))))
+unfolding said
+said-fed tale n offered bytes s is h = each_so (client s n) (λ none. absurd (no_client s n offered bytes none is)) (λ x found. end_replies-fed _ (said_seen-fed tale n offered bytes s x found is h))
 
 -- ---- all
 
-changed-fed : {b : Since} (tale : Tale) (s : State) (happening : Happening) → tale.but ≡ None → b.excepts ≡ None → IsPermitted s happening → Sound b s → Fed tale s → Fed (told_more tale happening) (changed s happening)
+-- no bytes of an origin are read; and where its connection ends, what came before comes to the clients of its first exchange
+abbrev pub EndsAs : Tale → State → Happening → Type 0
+EndsAs tale s (Got k bytes) = ⊥
+EndsAs tale s (Ended k) = (j : Conn) → conn s k ≡ Some j → EndsWell tale j s
+EndsAs tale s happening = Unit {0}
+
+pub changed-fed : {b : Since} (tale : Tale) (s : State) (happening : Happening) → tale.but ≡ None → b.excepts ≡ None → (tale.follows ≡ true → EndsAs tale s happening) → IsPermitted s happening → Sound b s → Fed tale s → Fed (told_more tale happening) (changed s happening)
 unfolding changed
-changed-fed tale s (Woke image) calm none is hs h = untold tale _ (woken-fed image s)
-changed-fed tale s (Waits w) calm none is hs h = untold tale _ (rest_with-fed w _ (ending-fed s h))
-changed-fed tale s (Clock seconds) calm none is hs h = untold tale _ (event-fed _ (tick-fed seconds s h))
-changed-fed tale s (Opened m) calm none is hs h = untold tale _ (event-fed _ (opened-fed m s (opened_above s m is) hs h))
-changed-fed tale s (CanRead m) calm none is hs h = untold tale _ (event-fed _ (owing-fed (ReadOf m) m s h))
-changed-fed tale s (CanWrite m) calm none is hs h = untold tale _ (event-fed _ (owing-fed (WriteTo m) m s h))
-changed-fed tale s (Heard c bytes) calm none is hs h = untold tale _ (paid-fed _ (hear-fed c bytes s h))
-changed-fed tale s (HungUp c) calm none is hs h = untold tale _ (paid-fed _ (hang_up-fed c s h))
-changed-fed tale s (Said c offered bytes) calm none is hs h = paid-fed _ (said-fed tale c offered bytes s is h)
-changed-fed tale s (Shut c) calm none is hs h = untold tale _ (shut-fed c _ (come_to-fed Connecting s h))
-changed-fed tale s (Dialled m host port) calm none is hs h = untold tale _ (dialled-fed m host port _ (come_to-fed Connecting s h))
-changed-fed tale s (Undialled host port) calm none is hs h = untold tale _ (undialled-fed _ (placing-fed _ (come_to-fed Connecting s h)))
-changed-fed tale s (Reached k) calm none is hs h = untold tale _ (event-fed _ (reached-fed k s h))
-changed-fed tale s (Ended k) calm none is hs h = untold tale _ (paid-fed _ (gone-fed true k s calm (sound_facts hs).lines.rise h))
-changed-fed tale s (Broke k) calm none is hs h = untold tale _ (paid-fed _ (gone-fed false k _ calm (subst (λ ks. AreRising (map conn_number ks)) (sym (event_conns s)) (sound_facts hs).lines.rise) (event-fed s h)))
-changed-fed tale s (Asked k bytes) calm none is hs h = untold tale _ (paid-fed _ (ask-fed k (length bytes) s h))
-changed-fed tale s (Got k bytes) calm none is hs h = untold tale _ (paid-fed _ (end_replies-fed _ (got-fed (length bytes) k bytes s calm none hs h)))
-changed-fed tale s (Dropped k) calm none is hs h = untold tale _ (dropped-fed k _ (come_to-fed Connecting s h))
-changed-fed tale s (NoneYet m) calm none is hs h = untold tale _ (paid-fed s h)
-changed-fed tale s (Began op) calm none is hs h = untold tale _ (begun_op-fed op s h)
-changed-fed tale s (Did op ok) calm none is hs h = untold tale _ (ended_op-fed op ok s h)
-changed-fed tale s (Unread name) calm none is hs h = untold tale _ (unread-fed name s h)
-changed-fed tale s (Noted remark) calm none is hs h = untold tale _ (noted-fed remark s is h)
-changed-fed tale s (Rooted folder) calm none is hs h = untold tale _ (still (opened_to-same IsRooted true s (itself s)) h)
-changed-fed tale s (Listed ok) calm none is hs h = untold tale _ (still (opened_to-same IsListed ok s (itself s)) h)
-changed-fed tale s (Listens port ok) calm none is hs h = untold tale _ (still (opened_to-same IsListening ok s (itself s)) h)
-changed-fed tale s (Configured file text) calm none is hs h = untold tale _ (still (configured-same text s (itself s)) h)
-changed-fed tale s (Printed text) calm none is hs h = untold tale _ h
-changed-fed tale s Stopped calm none is hs h = untold tale _ (event-fed _ (fed (facts_of h)))
+changed-fed tale s (Woke image) calm none well is hs h = untold tale _ (woken-fed image s)
+changed-fed tale s (Waits w) calm none well is hs h = untold tale _ (rest_with-fed w _ (ending-fed s h))
+changed-fed tale s (Clock seconds) calm none well is hs h = untold tale _ (event-fed _ (tick-fed seconds s h))
+changed-fed tale s (Opened m) calm none well is hs h = untold tale _ (event-fed _ (opened-fed m s (opened_above s m is) hs h))
+changed-fed tale s (CanRead m) calm none well is hs h = untold tale _ (event-fed _ (owing-fed (ReadOf m) m s h))
+changed-fed tale s (CanWrite m) calm none well is hs h = untold tale _ (event-fed _ (owing-fed (WriteTo m) m s h))
+changed-fed tale s (Heard c bytes) calm none well is hs h = untold tale _ (paid-fed _ (hear-fed c bytes s h))
+changed-fed tale s (HungUp c) calm none well is hs h = untold tale _ (paid-fed _ (hang_up-fed c s h))
+changed-fed tale s (Said c offered bytes) calm none well is hs h = paid-fed _ (said-fed tale c offered bytes s is h)
+changed-fed tale s (Shut c) calm none well is hs h = untold tale _ (shut-fed c _ (come_to-fed Connecting s h))
+changed-fed tale s (Dialled m host port) calm none well is hs h = untold tale _ (dialled-fed m host port _ (come_to-fed Connecting s h))
+changed-fed tale s (Undialled host port) calm none well is hs h = untold tale _ (undialled-fed _ (placing-fed _ (come_to-fed Connecting s h)))
+changed-fed tale s (Reached k) calm none well is hs h = untold tale _ (event-fed _ (reached-fed k s h))
+changed-fed tale s (Ended k) calm none well is hs h = untold tale _ (paid-fed _ (gone-fed true k s calm (λ is_clean on. well on) (sound_facts hs).lines.rise h))
+changed-fed tale s (Broke k) calm none well is hs h = untold tale _ (paid-fed _ (gone-fed false k _ calm (λ is_clean. absurd (cc is_clean)) (subst (λ ks. AreRising (map conn_number ks)) (sym (event_conns s)) (sound_facts hs).lines.rise) (event-fed s h)))
+changed-fed tale s (Asked k bytes) calm none well is hs h = untold tale _ (paid-fed _ (ask-fed k (length bytes) s h))
+changed-fed tale s (Got k bytes) calm none well is hs h = untold tale _ (paid-fed _ (end_replies-fed _ (got-fed (length bytes) k bytes s calm none (λ on. well on) hs h)))
+changed-fed tale s (Dropped k) calm none well is hs h = untold tale _ (dropped-fed k _ (come_to-fed Connecting s h))
+changed-fed tale s (NoneYet m) calm none well is hs h = untold tale _ (paid-fed s h)
+changed-fed tale s (Began op) calm none well is hs h = untold tale _ (begun_op-fed op s h)
+changed-fed tale s (Did op ok) calm none well is hs h = untold tale _ (ended_op-fed op ok s h)
+changed-fed tale s (Unread name) calm none well is hs h = untold tale _ (unread-fed name s h)
+changed-fed tale s (Noted remark) calm none well is hs h = untold tale _ (noted-fed remark s is h)
+changed-fed tale s (Rooted folder) calm none well is hs h = untold tale _ (still (opened_to-same IsRooted true s (itself s)) h)
+changed-fed tale s (Listed ok) calm none well is hs h = untold tale _ (still (opened_to-same IsListed ok s (itself s)) h)
+changed-fed tale s (Listens port ok) calm none well is hs h = untold tale _ (still (opened_to-same IsListening ok s (itself s)) h)
+changed-fed tale s (Configured file text) calm none well is hs h = untold tale _ (still (configured-same text s (itself s)) h)
+changed-fed tale s (Printed text) calm none well is hs h = untold tale _ h
+changed-fed tale s Stopped calm none well is hs h = untold tale _ (event-fed _ (fed (facts_of h)))
 
 -- of all that is said in a log
 abbrev told_all : Tale → Log → Tale
-told_all tale log = record { said = λ n. tale.said n ++ said_to n log; but = tale.but }
+told_all tale log = record tale { said = λ n. tale.said n ++ said_to n log }
 
-all_fed : {b : Since} (tale : Tale) (s : State) (log : Log) → tale.but ≡ None → b.excepts ≡ None → b.counts_loads ≡ false → LawfulFrom s log → Sound b s → Fed tale s → Fed (told_all tale log) (after_all s log)
+all_fed : {b : Since} (tale : Tale) (s : State) (log : Log) → tale.but ≡ None → tale.follows ≡ false → b.excepts ≡ None → b.counts_loads ≡ false → LawfulFrom s log → Sound b s → Fed tale s → Fed (told_all tale log) (after_all s log)
 unfolding said_to
-all_fed tale s [] calm none loads lawful hs h = untold tale s h
-all_fed {b} tale s (happening ∷ log) calm none loads lawful hs h =
-    retold (told_all (told_more tale happening) log) (told_all tale (happening ∷ log)) _ (λ n. sym (append_assoc (tale.said n) (said_in n happening) (said_to n log))) refl
-    (all_fed {b = b} (told_more tale happening) (after s happening) log calm none loads lawful.1 (after-sound s happening none (λ counts. absurd (uncounted counts)) lawful.0 hs) (changed-fed tale s happening calm none lawful.0 hs h))
+all_fed tale s [] calm silent none loads lawful hs h = untold tale s h
+all_fed {b} tale s (happening ∷ log) calm silent none loads lawful hs h =
+    joined
+    (all_fed {b = b} (told_more tale happening) (after s happening) log calm silent none loads lawful.1 (after-sound s happening none (λ counts. absurd (uncounted counts)) lawful.0 hs)
+    (changed-fed tale s happening calm none (λ on. let both : false ≡ true = sym silent ∙ on in absurd (cc both)) lawful.0 hs h))
   where
     uncounted : b.counts_loads ≡ true → ⊥
     uncounted counts = let both : false ≡ true = sym loads ∙ counts in cc both
 
+    joined : Fed (told_all (told_more tale happening) log) (after_all (after s happening) log) → Fed (told_all tale (happening ∷ log)) (after_all (after s happening) log)
+    joined f =
+        retold (told_all (told_more tale happening) log) (told_all tale (happening ∷ log)) _ (λ n. sym (append_assoc (tale.said n) (said_in n happening) (said_to n log))) (grows_said (told_all (told_more tale happening) log) (λ n. tale.said n ++ said_to n (happening ∷ log))) (facts_of f).answers f
+
 -- whatever is loaded
-from_start : Since
+pub from_start : Since
 from_start = record { old = []; counts_loads = false; excepts = None }
 
+-- where it is not looked at what came
+abbrev unheard : Tale
+unheard = record { said = λ n. []; but = None; follows = false; firsts = λ n. None; came = λ n i head rule content is_whole. Unit {0} }
+
 abbrev tale_of : Log → Tale
-tale_of log = record { said = λ n. said_to n log; but = None }
+tale_of log = record unheard { said = λ n. said_to n log }
 
 fed_after : (terms : List Term) (log : Log) → LawfulFrom (start terms) log → Fed (tale_of log) (state_after terms log)
 unfolding from_start
-fed_after terms log lawful = all_fed {b = from_start} (record { said = λ n. []; but = None }) (start terms) log refl refl refl lawful (start-sound from_start terms refl) (nobody (start terms) refl refl refl)
+fed_after terms log lawful = all_fed {b = from_start} unheard (start terms) log refl refl refl refl lawful (start-sound from_start terms refl) (nobody (start terms) refl refl refl)
 
 -- ---- the law
 
-not_other : (stage : Stage) → is_in_passed stage ≡ true → is_in_other stage ≡ false
+pub not_other : (stage : Stage) → is_in_passed stage ≡ true → is_in_other stage ≡ false
 not_other Undecided on = refl
 not_other Waiting on = refl
 not_other Passing on = refl
@@ -471,7 +500,7 @@ passed_is_one terms log lawful c p l on has = record {
     f = facts_of (fed_after terms log lawful)
 
 pub passed_is_all : PassedIsAllThatCame
-passed_is_all terms log lawful c p l on has k e a i j m hit answered = record { pieces = r.pieces; all = r.all ∙ ap payload_of same_answer; full = r.full; shown = r.shown on }
+passed_is_all terms log lawful c p l on has k e a i j m hit answered = record { pieces = r.pieces; all = r.all ∙ ap payload_of same_answer; full = r.full; shown = subst (IsShown (said_to c.number log) (to_say c) p) nothing_last (r.shown on) }
   where
     f : FactsOf (tale_of log) (state_after terms log)
     f = facts_of (fed_after terms log lawful)
@@ -484,6 +513,9 @@ passed_is_all terms log lawful c p l on has k e a i j m hit answered = record { 
 
     r : Relays (said_to c.number log) c p (payload_of v.answer)
     r = v.relayed (λ so. cc so)
+
+    nothing_last : all_spelled p.pipe.is_coded r.pieces ++ last_of p.pipe ≡ all_spelled p.pipe.is_coded r.pieces
+    nothing_last = in_pipe p.pipe r.pieces (v.going (λ so. cc so))
 
 pub pieces_join : PiecesJoin
 pieces_join a bytes = payload_grown a.rule a.raw bytes

@@ -32,9 +32,9 @@ use Rattle.pp_laws.proofs.Callers.{begun_at_end-same, next_request-same}
 use Rattle.pp_laws.proofs.Lists.{Changed, From, in_change, in_map, other, rise_change, rise_map, same}
 use Rattle.pp_laws.proofs.Sound.{client_number, exchange_number, source_in}
 use Rattle.pp_laws.proofs.Tests.{first_holds, number_same, same_number}
-use Rattle.pp_laws_passed.specs.Passed.{all_spelled, head_left, is_in_passed, to_say}
+use Rattle.pp_laws_passed.specs.Passed.{all_spelled, head_left, is_in_passed, last_of, to_say}
 use Rattle.pp_laws_passed.proofs.Cases.{each_of, when}
-use Rattle.pp_laws_passed.proofs.Fed.{FactsOf, Fed, Feeds, Relays, SameClient, Tale, clients_changed_in, facts_of, fed, is_in_other, none_passed, not_passed, parts_same, relays_by}
+use Rattle.pp_laws_passed.proofs.Fed.{Answers, FactsOf, Fed, Feeds, Keeps, Relays, SameClient, Tale, clients_changed_in, facts_of, fed, is_in_other, none_passed, not_passed, parts_same, relays_by}
 use Rattle.pp_laws_passed.proofs.FedAsks.{begin_exchange-fed, close_client-fed, each_client-fed, forsake-fed, leave-fed, on_client-fed, swept-fed}
 use Rattle.pp_laws_passed.proofs.FedTurns.{close_finished-fed, enter_row-fed, enter_row-same}
 use Rattle.pp_laws_passed.proofs.Same.{facts_of as parts_of, itself}
@@ -93,8 +93,8 @@ nothing_within n m none isnt = grind (arith, nat_tests)
 -- the client, of whom these bytes were said
 module _ (tale later : Tale) (s : State) (bytes : Bytes) (c : Client) (told : later.said c.number ≡ tale.said c.number ++ bytes) where
   -- where nothing of it is passed
-  told_off : (d : Client) → d.number ≡ c.number → is_in_passed d.stage ≡ false → is_in_passed c.stage ≡ false → (is_in_other d.stage ≡ false → is_in_other c.stage ≡ false) → d.brought ≡ c.brought → SameClient tale later d c
-  told_off d number off was_off others brought = record {
+  told_off : (d : Client) → d.number ≡ c.number → d.index ≡ c.index → is_in_passed d.stage ≡ false → is_in_passed c.stage ≡ false → (is_in_other d.stage ≡ false → is_in_other c.stage ≡ false) → d.brought ≡ c.brought → SameClient tale later d c
+  told_off d number index off was_off others brought = record {
     number = number;
     passing = λ on. let both : false ≡ true = sym off ∙ on in absurd (cc both);
     source = λ on. let both : false ≡ true = sym off ∙ on in absurd (cc both);
@@ -103,9 +103,11 @@ module _ (tale later : Tale) (s : State) (bytes : Bytes) (c : Client) (told : la
       others isnt,
       sym (ap (λ b. passed_of (record c { brought = b })) brought) ∙ is,
       record {
+        index = index;
         head = refl;
         rule = refl;
-        relays = relays_by (tale.said c.number) (later.said d.number) d c p p (off ∙ sym was_off) refl refl refl (λ isnt2. refl) (λ on. let both : false ≡ true = sym was_off ∙ on in absurd (cc both));
+        ends = refl;
+        relays = relays_by (tale.said c.number) (later.said d.number) d c p p (off ∙ sym was_off) refl refl refl refl (λ isnt2. refl) (λ on. let both : false ≡ true = sym was_off ∙ on in absurd (cc both));
       },
     );
   }
@@ -120,10 +122,10 @@ module _ (tale later : Tale) (s : State) (bytes : Bytes) (c : Client) (told : la
   }
 
   -- where a reply goes on that is passed
-  told_on : (d : Client) → d.number ≡ c.number → is_in_passed d.stage ≡ is_in_passed c.stage → is_in_other d.stage ≡ is_in_other c.stage → source_in d.stage ≡ source_in c.stage
-      → ((p : Passed) → passed_of d ≡ Some p → (q : Passed) × (passed_of c ≡ Some q) × (p.head ≡ q.head) × (p.rule ≡ q.rule) × (p.pipe.is_coded ≡ q.pipe.is_coded) × (is_in_passed c.stage ≡ false → p.pipe.bytes ≡ q.pipe.bytes) × (bytes ++ (to_say d ++ p.pipe.bytes) ≡ to_say c ++ q.pipe.bytes))
+  told_on : (d : Client) → d.number ≡ c.number → d.index ≡ c.index → is_in_passed d.stage ≡ is_in_passed c.stage → is_in_other d.stage ≡ is_in_other c.stage → source_in d.stage ≡ source_in c.stage
+      → ((p : Passed) → passed_of d ≡ Some p → (q : Passed) × (passed_of c ≡ Some q) × (p.head ≡ q.head) × (p.rule ≡ q.rule) × (p.pipe.is_coded ≡ q.pipe.is_coded) × (p.pipe.is_finished ≡ q.pipe.is_finished) × (is_in_passed c.stage ≡ false → p.pipe.bytes ≡ q.pipe.bytes) × (bytes ++ (to_say d ++ p.pipe.bytes) ≡ to_say c ++ q.pipe.bytes))
       → SameClient tale later d c
-  told_on d number on others source piped = record {
+  told_on d number index on others source piped = record {
     number = number;
     passing = λ is. sym on ∙ is;
     source = λ is id has. sym source ∙ has;
@@ -133,16 +135,18 @@ module _ (tale later : Tale) (s : State) (bytes : Bytes) (c : Client) (told : la
           sym others ∙ isnt,
           w.1,
           record {
+            index = index;
             head = w.2;
             rule = w.3;
-            relays = relays_by (tale.said c.number) (later.said d.number) d c p w.0 on w.2 w.3 w.4 w.5 (λ so. said_on (tale.said c.number) (later.said d.number) bytes (to_say d ++ p.pipe.bytes) (to_say c ++ w.0.pipe.bytes) (ap later.said number ∙ told) w.6);
+            ends = w.5;
+            relays = relays_by (tale.said c.number) (later.said d.number) d c p w.0 on w.2 w.3 w.4 w.5 w.6 (λ so. said_on (tale.said c.number) (later.said d.number) bytes (to_say d ++ p.pipe.bytes) (to_say c ++ w.0.pipe.bytes) (ap later.said number ∙ told) w.7);
           },
         );
   }
 
   -- of the interim answer
   of_interim : (left : Bytes) → c.interim_left ≡ left → bytes ≡ take (length bytes) left → SameClient tale later (record c { interim_left = drop (length bytes) left }) c
-  of_interim left some is = told_on (record c { interim_left = drop (length bytes) left }) refl refl refl refl (λ p has. (p, has, refl, refl, refl, λ off. refl, stream p))
+  of_interim left some is = told_on (record c { interim_left = drop (length bytes) left }) refl refl refl refl refl (λ p has. (p, has, refl, refl, refl, refl, λ off. refl, stream p))
     where
       stream : (p : Passed) → bytes ++ ((drop (length bytes) left ++ head_left c.stage) ++ p.pipe.bytes) ≡ (c.interim_left ++ head_left c.stage) ++ p.pipe.bytes
       stream p =
@@ -162,8 +166,8 @@ module _ (tale later : Tale) (s : State) (bytes : Bytes) (c : Client) (told : la
 
     of_head : (part : Bytes) → bytes ≡ take (length bytes) (r.head_left ++ part) → length bytes ≤ length r.head_left → SameClient tale later (record c { stage = Answering (record r { head_left = drop (length bytes) r.head_left }) }) c
     of_head part is le =
-        told_on (record c { stage = Answering (record r { head_left = drop (length bytes) r.head_left }) }) refl (is_on (record r { head_left = drop (length bytes) r.head_left }) refl refl) (isnt_other (record r { head_left = drop (length bytes) r.head_left }) refl refl) (sym (ap source_in stage))
-        (λ p has. (p, has, refl, refl, refl, λ off. refl, stream p))
+        told_on (record c { stage = Answering (record r { head_left = drop (length bytes) r.head_left }) }) refl refl (is_on (record r { head_left = drop (length bytes) r.head_left }) refl refl) (isnt_other (record r { head_left = drop (length bytes) r.head_left }) refl refl) (sym (ap source_in stage))
+        (λ p has. (p, has, refl, refl, refl, refl, λ off. refl, stream p))
       where
         stream : (p : Passed) → bytes ++ ((c.interim_left ++ drop (length bytes) r.head_left) ++ p.pipe.bytes) ≡ to_say c ++ p.pipe.bytes
         stream p =
@@ -200,12 +204,12 @@ module _ (tale later : Tale) (s : State) (bytes : Bytes) (c : Client) (told : la
             ∙ ap (λ (xs : Bytes). r.head_left ++ xs) left ∙ ap (λ (xs : Bytes). xs ++ q.pipe.bytes) (sym left_to_say)
 
         by : (o : Option Passed) → passed_of c ≡ o → SameClient tale later (elim o as (λ x. Client) [ None ↦ record c { stage = Answering (record r { head_left = [] }) } | Some p ↦ record c { stage = Answering (record r { head_left = [] }); brought = Passes (record p { pipe = without_first behind p.pipe }) } ]) c
-        by None has = told_on (record c { stage = Answering (record r { head_left = [] }) }) refl (is_on (record r { head_left = [] }) refl refl) (isnt_other (record r { head_left = [] }) refl refl) (sym (ap source_in stage)) (λ p some. let both : None ≡ Some p = sym has ∙ some in absurd (cc both))
+        by None has = told_on (record c { stage = Answering (record r { head_left = [] }) }) refl refl (is_on (record r { head_left = [] }) refl refl) (isnt_other (record r { head_left = [] }) refl refl) (sym (ap source_in stage)) (λ p some. let both : None ≡ Some p = sym has ∙ some in absurd (cc both))
         by (Some q) has =
-            told_on (record c { stage = Answering (record r { head_left = [] }); brought = Passes (record q { pipe = without_first behind q.pipe }) }) refl (is_on (record r { head_left = [] }) refl refl) (isnt_other (record r { head_left = [] }) refl refl) (sym (ap source_in stage))
+            told_on (record c { stage = Answering (record r { head_left = [] }); brought = Passes (record q { pipe = without_first behind q.pipe }) }) refl refl (is_on (record r { head_left = [] }) refl refl) (isnt_other (record r { head_left = [] }) refl refl) (sym (ap source_in stage))
             (λ p some.
             let eq : record q { pipe = without_first behind q.pipe } ≡ p = cc in
-            (q, has, sym (ap (λ (x : Passed). x.head) eq), sym (ap (λ (x : Passed). x.rule) eq), sym (ap (λ (x : Passed). x.pipe.is_coded) eq), λ off. absurd (passed_now off), ap (λ (x : Passed). bytes ++ ((c.interim_left ++ []) ++ x.pipe.bytes)) (sym eq) ∙ stream q has))
+            (q, has, sym (ap (λ (x : Passed). x.head) eq), sym (ap (λ (x : Passed). x.rule) eq), sym (ap (λ (x : Passed). x.pipe.is_coded) eq), sym (ap (λ (x : Passed). x.pipe.is_finished) eq), λ off. absurd (passed_now off), ap (λ (x : Passed). bytes ++ ((c.interim_left ++ []) ++ x.pipe.bytes)) (sym eq) ∙ stream q has))
           where
             passed_now : is_in_passed c.stage ≡ false → ⊥
             passed_now off = let both : true ≡ false = sym (ap is_in_passed stage ∙ ap (λ t. t && is_passing r.decision) begun ∙ passing) ∙ off in cc both
@@ -220,7 +224,7 @@ module _ (tale later : Tale) (s : State) (bytes : Bytes) (c : Client) (told : la
             | false ↦ said_of_body (length bytes - length r.head_left) (record r { head_left = [] }) c
           ]) c
       by_idle true holds off nothing =
-          told_off (record c { stage = Answering (record r { head_left = drop (length bytes) r.head_left }) }) refl (ap (λ t. t && is_passing r.decision) off) (ap is_in_passed stage ∙ ap (λ t. t && is_passing r.decision) off) (λ isnt. ap is_in_other stage ∙ isnt) refl
+          told_off (record c { stage = Answering (record r { head_left = drop (length bytes) r.head_left }) }) refl refl (ap (λ t. t && is_passing r.decision) off) (ap is_in_passed stage ∙ ap (λ t. t && is_passing r.decision) off) (λ isnt. ap is_in_other stage ∙ isnt) refl
       by_idle false holds off nothing = absurd (nothing_within (length bytes) (length r.head_left) (ap length nothing) holds)
 
       by_decision : (p t : Bool) → is_passing r.decision ≡ p → nat_le (length bytes) (length r.head_left) ≡ t → r.has_begun ≡ true → bytes ≡ take (length bytes) (r.head_left ++ (elim p as (λ x. Bytes) [ true ↦ passed_part c | false ↦ body_part s c r ]))
@@ -257,7 +261,7 @@ module _ (tale later : Tale) (s : State) (bytes : Bytes) (c : Client) (told : la
   said_same is = by c.interim_left refl is
     where
       idle : is_in_passed c.stage ≡ false → SameClient tale later c c
-      idle off = told_off c refl off off (λ isnt. isnt) refl
+      idle off = told_off c refl refl off off (λ isnt. isnt) refl
 
       by_stage : (stage : Stage) → c.stage ≡ stage → c.interim_left ≡ []
           → bytes ≡ take (length bytes) (elim (elim stage as (λ y. Option Reply) [ Undecided ↦ None | Waiting ↦ None | Passing ↦ None | Answering r ↦ Some r ]) as (λ x. Bytes) [ None ↦ [] | Some r ↦ elim r.has_begun as (λ y. Bytes) [ false ↦ [] | true ↦ r.head_left ++ body_part s c r ] ])
@@ -275,13 +279,13 @@ module _ (tale later : Tale) (s : State) (bytes : Bytes) (c : Client) (told : la
 module _ {tale : Tale} where
   -- ---- what is heard
 
-  fronted_same : (d c : Client) (front : Front) → d.number ≡ c.number → d.stage ≡ c.stage → d.brought ≡ c.brought → d.interim_left ≡ c.interim_left → SameClient tale tale (elim front as (λ x. Client) [ NoHeadYet ↦ fronted d | NoFront status ↦ d | IsRequest r ↦ d ]) c
-  fronted_same d c NoHeadYet number stage brought left = parts_same _ c number stage brought left
-  fronted_same d c (NoFront status) number stage brought left = parts_same d c number stage brought left
-  fronted_same d c (IsRequest r) number stage brought left = parts_same d c number stage brought left
+  fronted_same : (d c : Client) (front : Front) → d.number ≡ c.number → d.index ≡ c.index → d.stage ≡ c.stage → d.brought ≡ c.brought → d.interim_left ≡ c.interim_left → SameClient tale tale (elim front as (λ x. Client) [ NoHeadYet ↦ fronted d | NoFront status ↦ d | IsRequest r ↦ d ]) c
+  fronted_same d c NoHeadYet number index stage brought left = parts_same _ c number index stage brought left
+  fronted_same d c (NoFront status) number index stage brought left = parts_same d c number index stage brought left
+  fronted_same d c (IsRequest r) number index stage brought left = parts_same d c number index stage brought left
 
   pub heard_same : (bytes : Bytes) (c : Client) → SameClient tale tale (heard_by bytes c) c
-  heard_same bytes c = fronted_same (record c { heard = c.heard ++ what_counts c.front (drop c.skip bytes); skip = c.skip - length bytes }) c c.front refl refl refl refl
+  heard_same bytes c = fronted_same (record c { heard = c.heard ++ what_counts c.front (drop c.skip bytes); skip = c.skip - length bytes }) c c.front refl refl refl refl refl
 
   -- ---- a reply is over
 
@@ -377,9 +381,11 @@ module _ {tale : Tale} where
       not_other c.stage free,
       is,
       record {
+        index = refl;
         head = refl;
         rule = refl;
-        relays = relays_by (tale.said c.number) (tale.said c.number) (answering_with r c) c p p (ap (λ b. b && is_passing r.decision) off ∙ sym (not_passed c free)) refl refl refl (λ isnt2. refl) (λ on. let both : false ≡ true = sym (not_passed c free) ∙ on in absurd (cc both));
+        ends = refl;
+        relays = relays_by (tale.said c.number) (tale.said c.number) (answering_with r c) c p p (ap (λ b. b && is_passing r.decision) off ∙ sym (not_passed c free)) refl refl refl refl (λ isnt2. refl) (λ on. let both : false ≡ true = sym (not_passed c free) ∙ on in absurd (cc both));
       },
     );
   }
@@ -431,7 +437,7 @@ record IsHeadOf (c d : Client) : Type 0 where
 -- as it was; or in no reply before, and told as it was
 data BegunAs (c d : Client) : Type 0 where
   stays : d ≡ c → BegunAs c d
-  begins_now : is_begun c ≡ false → d.number ≡ c.number → d.brought ≡ c.brought → d.interim_left ≡ c.interim_left → (is_in_passed d.stage ≡ true → source_in d.stage ≡ None) → (is_in_passed d.stage ≡ true → IsHeadOf c d) → BegunAs c d
+  begins_now : is_begun c ≡ false → d.number ≡ c.number → d.index ≡ c.index → d.brought ≡ c.brought → d.interim_left ≡ c.interim_left → (is_in_passed d.stage ≡ true → source_in d.stage ≡ None) → (is_in_passed d.stage ≡ true → IsHeadOf c d) → BegunAs c d
 
 module _ (s : State) (c : Client) where
   passed_as : (q : Parsed) (d : Decision) → is_begun c ≡ false → BegunAs c (begun_passed s q d c)
@@ -442,13 +448,13 @@ module _ (s : State) (c : Client) where
         | Some p ↦ record c { stage = Answering (passed_reply s q p d); closes = not (keeps_open q && is_end_known p.rule q.head.minor) }
       ])
       by None has = stays refl
-      by (Some p) has = begins_now free refl refl refl (λ on. refl) (λ on. record { response = p; is = has; minor = q.head.minor; is_head = is_head q.head.method; name = s.settings.name; keeps = keeps_open q; spelled = refl })
+      by (Some p) has = begins_now free refl refl refl refl (λ on. refl) (λ on. record { response = p; is = has; minor = q.head.minor; is_head = is_head q.head.method; name = s.settings.name; keeps = keeps_open q; spelled = refl })
 
   instance_as : (q : Parsed) (r : Reply) → is_begun c ≡ false → is_passing r.decision ≡ false → BegunAs c (begun_instance s q r c)
   instance_as q r free off = by (source_of s r)
     where
       by_may : (x : Instance) (t : Bool) → BegunAs c (elim t as (λ y. Client) [ true ↦ record c { stage = Answering (begun_reply s q c r x) } | false ↦ c ])
-      by_may x true = begins_now free refl refl refl (λ on. let both : false ≡ true = sym off ∙ on in absurd (cc both)) (λ on. let both : false ≡ true = sym off ∙ on in absurd (cc both))
+      by_may x true = begins_now free refl refl refl refl (λ on. let both : false ≡ true = sym off ∙ on in absurd (cc both)) (λ on. let both : false ≡ true = sym off ∙ on in absurd (cc both))
       by_may x false = stays refl
 
       by : (o : Option Instance) → BegunAs c (elim o as (λ y. Client) [
@@ -520,6 +526,8 @@ module _ {tale : Tale} where
     sourced = λ c id i on is. sourced_by c id (in_map (begun_at_end s) c s.clients i) on is;
     begun = λ e c i j hit on. begun_in e c (at e i) (in_map (begun_at_end s) c s.clients j) hit on;
     fed_by = λ k e c p l i m is j hit off has. fed_in k e c p l (at e i) m is (in_map (begun_at_end s) c s.clients j) hit off has;
+    answers = λ on k a n i is named. let v = h.answers on k a n i is named in record { below = v.below; headed = λ e j number. headed_still n v e (at e j) number };
+    kept = λ on c p j off has. kept_in on c p (in_map (begun_at_end s) c s.clients j) off has;
   }))
     where
       h : FactsOf tale s
@@ -553,7 +561,7 @@ module _ {tale : Tale} where
 
           by : BegunAs r.was (begun_at_end s r.was) → ⊥
           by (stays eq) = let so = stage ∙ ap (λ (x : Client). x.stage) eq in h.sourced r.was id r.there (sym (ap is_in_passed so) ∙ on) (sym (ap source_in so) ∙ is)
-          by (begins_now free number brought left none begins) = let both : None ≡ Some id = sym (none (sym (ap is_in_passed stage) ∙ on)) ∙ sym (ap source_in stage) ∙ is in cc both
+          by (begins_now free number index brought left none begins) = let both : None ≡ Some id = sym (none (sym (ap is_in_passed stage) ∙ on)) ∙ sym (ap source_in stage) ∙ is in cc both
 
       head_or : (e : Exchange) (c : Client) (b : Bool) → is_headed e ≡ b → IsIn c s.clients → is_for e c ≡ true → begins s c ≡ true → is_outrun s e ≡ false → is_headed e ≡ true
       head_or e c true is i hit starts out = is
@@ -575,7 +583,7 @@ module _ {tale : Tale} where
 
           by : BegunAs r.was (begun_at_end s r.was) → is_headed e ≡ true
           by (stays eq) = h.begun e r.was there.0 r.there its (sym (ap (λ (x : Client). is_in_passed x.stage) eq) ∙ on_now)
-          by (begins_now free number brought left none begins) =
+          by (begins_now free number index brought left none begins) =
               head_or e r.was (is_headed e) refl r.there its (ap (λ b. not b && is_begun (begun_at_end s r.was)) free ∙ begun_passing (begun_at_end s r.was) on_now) there.1
 
       -- its data are in the pipe, and nothing of them was said
@@ -599,13 +607,13 @@ module _ {tale : Tale} where
               spelled = b.spelled ∙ ap (λ (x : Passed). passed_head x.head x.rule b.minor b.is_head b.name b.keeps) eq;
               stream =
                   ap (λ (xs : Bytes). tale.said d.number ++ ((d.interim_left ++ head_left d.stage) ++ xs)) (w.waiting (not_passed c free))
-                  ∙ ap (λ (xs : Bytes). tale.said d.number ++ xs) (append_assoc d.interim_left (head_left d.stage) (all_spelled p.pipe.is_coded w.pieces))
-                  ∙ sym (append_assoc (tale.said d.number) d.interim_left (head_left d.stage ++ all_spelled p.pipe.is_coded w.pieces));
+                  ∙ ap (λ (xs : Bytes). tale.said d.number ++ xs) (append_assoc d.interim_left (head_left d.stage) (all_spelled p.pipe.is_coded w.pieces ++ last_of p.pipe))
+                  ∙ sym (append_assoc (tale.said d.number) d.interim_left (head_left d.stage ++ (all_spelled p.pipe.is_coded w.pieces ++ last_of p.pipe)));
             };
       }
 
       feeds_as : (k : Conn) (e : Exchange) (c d : Client) (p : Passed) → Feeds tale k e c p → ((content : Bytes) → Relays (tale.said c.number) c p content → Relays (tale.said d.number) d p content) → Feeds tale k e d p
-      feeds_as k e c d p v on = record { front = v.front; answer = v.answer; is = v.is; head = v.head; rule = v.rule; relayed = λ isnt. on (payload_of v.answer) (v.relayed isnt) }
+      feeds_as k e c d p v on = record { front = v.front; answer = v.answer; is = v.is; head = v.head; rule = v.rule; relayed = λ isnt. on (payload_of v.answer) (v.relayed isnt); going = v.going }
 
       fed_in : (k : Conn) (e : Exchange) (c : Client) (p : Passed) → IsIn k s.conns → Changed (is_outrun s) left_alone s.exchanges e → IsIn e.number k.line → is_headed e ≡ true → From (begun_at_end s) s.clients c → is_for e c ≡ true → is_in_other c.stage ≡ false → passed_of c ≡ Some p → Feeds tale k e c p
       fed_in k e c p l w m is r hit off has = by (begun_as s r.was)
@@ -620,8 +628,28 @@ module _ {tale : Tale} where
           by (stays eq) =
               let so : c ≡ r.was = r.is ∙ eq in
               subst (λ (x : Client). Feeds tale k e x p) (sym so) (h.fed_by k e r.was p l there m is r.there its (sym (ap (λ (x : Client). is_in_other x.stage) so) ∙ off) (sym (ap passed_of so) ∙ has))
-          by (begins_now free number brought left none begins) =
+          by (begins_now free number index brought left none begins) =
               let was_passed : passed_of r.was ≡ Some p = ap (λ b. passed_of (record r.was { brought = b })) (sym (ap (λ (x : Client). x.brought) r.is ∙ brought)) ∙ has in
               subst (λ (x : Client). Feeds tale k e x p) (sym r.is)
               (feeds_as k e r.was (begun_at_end s r.was) p (h.fed_by k e r.was p l there m is r.there its (not_other r.was.stage free) was_passed)
               (λ content v. begins_with r.was (begun_at_end s r.was) p content free number left begins was_passed v))
+
+      headed_still : (n : ℕ) → Answers n s.exchanges s.next_exchange → (e : Exchange) → Changed (is_outrun s) left_alone s.exchanges e → e.number ≡ n → is_headed e ≡ true
+      headed_still n v e (same i isnt) number = v.headed e i number
+      headed_still n v e (other d i hit eq) number = ap (λ (x : Exchange). is_headed x) eq ∙ v.headed d i (sym (ap exchange_number eq) ∙ number)
+
+      kept_in : tale.follows ≡ true → (c : Client) (p : Passed) → From (begun_at_end s) s.clients c → is_in_other c.stage ≡ false → passed_of c ≡ Some p → Keeps tale c p
+      kept_in on c p r off has = by (begun_as s r.was)
+        where
+          by : BegunAs r.was (begun_at_end s r.was) → Keeps tale c p
+          by (stays eq) =
+              let so : c ≡ r.was = r.is ∙ eq in
+              subst (λ (x : Client). Keeps tale x p) (sym so) (h.kept on r.was p r.there (sym (ap (λ (x : Client). is_in_other x.stage) so) ∙ off) (sym (ap passed_of so) ∙ has))
+          by (begins_now free number index brought left none begins) =
+              let was_passed : passed_of r.was ≡ Some p = ap (λ b. passed_of (record r.was { brought = b })) (sym (ap (λ (x : Client). x.brought) r.is ∙ brought)) ∙ has in
+              let k = h.kept on r.was p r.there (not_other r.was.stage free) was_passed in
+              subst (λ (x : Client). Keeps tale x p) (sym r.is) (record {
+                content = k.content;
+                came = subst (λ i. tale.came (begun_at_end s r.was).number i p.head p.rule k.content p.pipe.is_finished) (sym index) (subst (λ n. tale.came n r.was.index p.head p.rule k.content p.pipe.is_finished) (sym number) k.came);
+                relays = begins_with r.was (begun_at_end s r.was) p k.content free number left begins was_passed k.relays;
+              })

@@ -101,12 +101,12 @@ module _ {tale : Tale} where
 
   pub touch-fed : (n : ℕ) (s : State) → Fed tale s → Fed tale (touch n s)
   unfolding touch
-  touch-fed n s h = on_conn-fed n (marked_conn s.clock) _ (λ k. record { line = refl; answer = refl }) (on_client-fed n (marked_client s.clock) s (λ c. parts_same _ c refl refl refl refl) h)
+  touch-fed n s h = on_conn-fed n (marked_conn s.clock) _ (λ k. record { number = refl; line = refl; answer = refl }) (on_client-fed n (marked_client s.clock) s (λ c. parts_same _ c refl refl refl refl refl) h)
 
   marks_anew-fed : (now : ℕ) (s : State) → Fed tale s → Fed tale (marks_anew now s)
   unfolding marks_anew
   marks_anew-fed now s h =
-      when (is_leap now s) (fed (clients_mapped (record s { conns = map (marked_conn now) s.conns }) (marked_client now) (λ c. parts_same _ c refl refl refl refl) (conns_mapped s (marked_conn now) (λ k. record { line = refl; answer = refl }) (facts_of h)))) h
+      when (is_leap now s) (fed (clients_mapped (record s { conns = map (marked_conn now) s.conns }) (marked_client now) (λ c. parts_same _ c refl refl refl refl refl) (conns_mapped s (marked_conn now) (λ k. record { number = refl; line = refl; answer = refl }) (facts_of h)))) h
 
   end_patience-fed : (k : Conn) (s : State) → Fed tale s → Fed tale (end_patience k s)
   unfolding end_patience
@@ -117,7 +117,7 @@ module _ {tale : Tale} where
   close_idle_conn-fed k s h = when (is_idle_conn s k) (close_conn-fed true k _ (end_patience-fed k s h)) h
 
   woken-by : (now : ℕ) (c : Client) (woken : Bool) → SameClient tale tale (elim woken as (λ x. Client) [ true ↦ marked_client now c | false ↦ c ]) c
-  woken-by now c true = parts_same _ c refl refl refl refl
+  woken-by now c true = parts_same _ c refl refl refl refl refl
   woken-by now c false = client_same c
 
   renew_marks-fed : (now : ℕ) (s : State) → Fed tale s → Fed tale (renew_marks now s)
@@ -149,13 +149,13 @@ module _ {tale : Tale} where
   unfolding rest_with
   rest_with-fed w s h =
       fed (exchanges_mapped (record s { clients = map (rested_client s) s.clients; conns = map (rested_conn s w) s.conns; instances = map rested_instance s.instances }) (rested_exchange s) (rested_same s)
-      (clients_mapped (record s { conns = map (rested_conn s w) s.conns; instances = map rested_instance s.instances }) (rested_client s) (λ c. parts_same _ c refl refl refl refl)
-      (conns_mapped (record s { instances = map rested_instance s.instances }) (rested_conn s w) (λ k. record { line = refl; answer = refl }) (facts_of h))))
+      (clients_mapped (record s { conns = map (rested_conn s w) s.conns; instances = map rested_instance s.instances }) (rested_client s) (λ c. parts_same _ c refl refl refl refl refl)
+      (conns_mapped (record s { instances = map rested_instance s.instances }) (rested_conn s w) (λ k. record { number = refl; line = refl; answer = refl }) (facts_of h))))
 
   -- ---- what clients wait for and use
 
   regained-by : (c : Client) (held : Bool) → SameClient tale tale (elim held as (λ y. Client) [ true ↦ record c { course = anew c.course } | false ↦ c ]) c
-  regained-by c true = parts_same _ c refl refl refl refl
+  regained-by c true = parts_same _ c refl refl refl refl refl
   regained-by c false = client_same c
 
   pub regained-fed : (s : State) → Fed tale s → Fed tale (regained s)

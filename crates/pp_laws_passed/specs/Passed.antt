@@ -2,7 +2,7 @@
 use Rattle.std.specs.Prelude.{◌≡◌, ℕ, Bool, true, false, ◌&&◌, List, [], ◌∷◌, ◌++◌, length, drop, Some}
 use Rattle.std.specs.List.{concat}
 use Rattle.pp_framing.specs.Rules.{body_of}
-use Rattle.pp_pass.specs.Pipe.{spelled}
+use Rattle.pp_pass.specs.Pipe.{Pipe, spelled, spelled_end}
 use Rattle.pp_reply.specs.Texts.{passed_head}
 use Rattle.pp_law.specs.Lists.{Bytes}
 use Rattle.pp_law.specs.Responses.{payload_of}
@@ -27,6 +27,10 @@ is_in_passed (Answering r) = r.has_begun && is_passing r.decision
 abbrev pub all_spelled : Bool → List Bytes → Bytes
 all_spelled is_coded [] = []
 all_spelled is_coded (piece ∷ pieces) = spelled is_coded piece ++ all_spelled is_coded pieces
+
+-- and behind the data the end of the body, once it came: the last chunk where it goes in chunks
+abbrev pub last_of : Pipe → Bytes
+last_of pipe = elim pipe.is_finished [ true ↦ spelled_end pipe.is_coded | false ↦ [] ]
 
 -- of the head of its reply
 abbrev pub head_left : Stage → Bytes

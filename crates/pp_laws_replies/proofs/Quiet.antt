@@ -9,9 +9,10 @@ use Rattle.pp_laws_replies.proofs.HeardPlaces.{Reads, again, still}
 
 -- ---- a client
 
--- its request, the decision for it, whether its reply closes, and what is left to say of its interim answer are the same
+-- its request, its number, the decision for it, whether its reply closes, and what is left to say of its interim answer are the same
 pub record Quiet (d c : Client) : Type 0 where
   pub number : d.number ≡ c.number
+  pub index : d.index ≡ c.index
   pub front : d.front ≡ c.front
   pub stage : d.stage ≡ c.stage
   pub interim : d.interim_left ≡ c.interim_left
@@ -19,11 +20,12 @@ pub record Quiet (d c : Client) : Type 0 where
   pub reads : Reads d c
 
 pub still_same : (c : Client) → Quiet c c
-still_same c = record { number = refl; front = refl; stage = refl; interim = refl; closes = refl; reads = still c c refl refl refl }
+still_same c = record { number = refl; index = refl; front = refl; stage = refl; interim = refl; closes = refl; reads = still c c refl refl refl }
 
 quiet_on : (e d c : Client) → Quiet e d → Quiet d c → Quiet e c
 quiet_on e d c one two = record {
   number = one.number ∙ two.number;
+  index = one.index ∙ two.index;
   front = one.front ∙ two.front;
   stage = one.stage ∙ two.stage;
   interim = one.interim ∙ two.interim;

@@ -18,8 +18,8 @@ use Rattle.pp_laws_replies.proofs.Quiet.{Quiet, Quietly, clients_changed, facts_
 use Rattle.pp_laws_replies.proofs.QuietRows.{clear-quiet, swept-quiet}
 
 -- a client whose request and reply are the same
-pub parts_same : (d c : Client) → d.number ≡ c.number → d.front ≡ c.front → d.stage ≡ c.stage → d.interim_left ≡ c.interim_left → d.closes ≡ c.closes → d.heard ≡ c.heard → d.body_left ≡ c.body_left → d.skip ≡ c.skip → Quiet d c
-parts_same d c number front stage interim closes heard left skip = record { number = number; front = front; stage = stage; interim = interim; closes = closes; reads = still d c heard left skip }
+pub parts_same : (d c : Client) → d.number ≡ c.number → d.front ≡ c.front → d.stage ≡ c.stage → d.interim_left ≡ c.interim_left → d.closes ≡ c.closes → d.heard ≡ c.heard → d.body_left ≡ c.body_left → d.skip ≡ c.skip → d.index ≡ c.index → Quiet d c
+parts_same d c number front stage interim closes heard left skip index = record { number = number; index = index; front = front; stage = stage; interim = interim; closes = closes; reads = still d c heard left skip }
 
 pub on_conn-quiet : {o : State} (n : ℕ) (f : Conn → Conn) (s : State) → Quietly o s → Quietly o (on_conn n f s)
 unfolding on_conn
@@ -58,13 +58,13 @@ each_exchange-quiet f each (n ∷ ns) s h = each_exchange-quiet f each ns _ (eac
 
 without_row-by : (c : Client) (begun : Bool) → Quiet (elim begun as (λ x. Client) [ true ↦ c | false ↦ record c { course = Trying 0; has_given_up = true } ]) c
 without_row-by c true = still_same c
-without_row-by c false = parts_same _ c refl refl refl refl refl refl refl refl
+without_row-by c false = parts_same _ c refl refl refl refl refl refl refl refl refl
 
 pub without_shared_row-by : (most : ℕ) (c : Client) → Quiet (without_shared_row most c) c
 without_shared_row-by most c = by (c.has_given_up && not (is_begun c))
   where
     by : (again : Bool) → Quiet (elim again as (λ x. Client) [ true ↦ record c { course = lost_one most c.course } | false ↦ without_row c ]) c
-    by true = parts_same _ c refl refl refl refl refl refl refl refl
+    by true = parts_same _ c refl refl refl refl refl refl refl refl refl
     by false = without_row-by c (is_begun c || c.has_given_up)
 
 give_up_row-quiet : {o : State} (e : Exchange) (s : State) → Quietly o s → Quietly o (give_up_row e s)
@@ -74,7 +74,7 @@ give_up_row-quiet e s h =
 
 charge-quiet : {o : State} (cost : Course → Course) (e : Exchange) (s : State) → Quietly o s → Quietly o (charge cost e s)
 unfolding charge
-charge-quiet cost e s h = give_up_row-quiet e _ (on_client_of-quiet e (λ c. record c { course = cost c.course }) s (λ c. parts_same _ c refl refl refl refl refl refl refl refl) h)
+charge-quiet cost e s h = give_up_row-quiet e _ (on_client_of-quiet e (λ c. record c { course = cost c.course }) s (λ c. parts_same _ c refl refl refl refl refl refl refl refl refl) h)
 
 pub lose_attempt-quiet : {o : State} (e : Exchange) (s : State) → Quietly o s → Quietly o (lose_attempt e s)
 unfolding lose_attempt
@@ -105,7 +105,7 @@ leave_one-quiet e s h = when (e.asked == 0) (end_exchange-quiet e.number s h) (o
 pub close_client-quiet : {o : State} (n : ℕ) (is_cut : Bool) (s : State) → Quietly o s → Quietly o (close_client n is_cut s)
 unfolding close_client
 close_client-quiet n is_cut s h =
-    swept-quiet _ (each_exchange-quiet leave_one leave_one-quiet (exchanges_of n s) _ (on_client-quiet n (λ c. record c { is_closing = true; is_cut = c.is_cut || is_cut }) s (λ c. parts_same _ c refl refl refl refl refl refl refl refl) h))
+    swept-quiet _ (each_exchange-quiet leave_one leave_one-quiet (exchanges_of n s) _ (on_client-quiet n (λ c. record c { is_closing = true; is_cut = c.is_cut || is_cut }) s (λ c. parts_same _ c refl refl refl refl refl refl refl refl refl) h))
 
 -- ---- connections that are closed
 
@@ -114,7 +114,7 @@ on_passed-quiet f c = by (passed_of c)
   where
     by : (passed : Option Passed) → Quiet (elim passed as (λ x. Client) [ None ↦ c | Some p ↦ record c { brought = Passes (f p) } ]) c
     by None = still_same c
-    by (Some p) = parts_same _ c refl refl refl refl refl refl refl refl
+    by (Some p) = parts_same _ c refl refl refl refl refl refl refl refl refl
 
 leave_place-quiet : {o : State} (e : Exchange) (s : State) → Quietly o s → Quietly o (leave_place e s)
 unfolding leave_place
@@ -173,7 +173,7 @@ begin_exchange-quiet e s h = add_exchange-quiet e _ (leave-quiet _ s h)
 
 fill_with-quiet : {o : State} (e : Exchange) (c : Client) (s : State) → Quietly o s → Quietly o (fill_with e c s)
 unfolding fill_with
-fill_with-quiet e c s h = when (fits e.text) (begin_exchange-quiet e s h) (on_client-quiet c.number (λ x. record x { course = AskTooLong }) s (λ x. parts_same _ x refl refl refl refl refl refl refl refl) h)
+fill_with-quiet e c s h = when (fits e.text) (begin_exchange-quiet e s h) (on_client-quiet c.number (λ x. record x { course = AskTooLong }) s (λ x. parts_same _ x refl refl refl refl refl refl refl refl refl) h)
 
 fill_span-quiet : {o : State} (c : Client) (n : Next) (span : ℕ × ℕ) (s : State) → Quietly o s → Quietly o (fill_span c n span s)
 unfolding fill_span

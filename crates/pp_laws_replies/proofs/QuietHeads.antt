@@ -33,7 +33,7 @@ use Rattle.pp_laws_replies.proofs.QuietRows.{clear-quiet, enter-quiet, make_row-
 
 pub tell-quiet : {o : State} (e : Exchange) (brought : Brought) (s : State) → Quietly o s → Quietly o (tell e brought s)
 unfolding tell
-tell-quiet {o} e brought s h = quietly (clients_changed o s (is_asked_by e) (λ c. record c { brought = brought }) (λ c is. parts_same _ c refl refl refl refl refl refl refl refl) (facts_of h))
+tell-quiet {o} e brought s h = quietly (clients_changed o s (is_asked_by e) (λ c. record c { brought = brought }) (λ c is. parts_same _ c refl refl refl refl refl refl refl refl refl) (facts_of h))
 
 use_body-quiet : {o : State} (e : Exchange) (body : Body) (s : State) → Quietly o s → Quietly o (use_body e body s)
 unfolding use_body
@@ -151,18 +151,18 @@ through_head-quiet : {o : State} (e : Exchange) (head : Response) (rule : BodyRu
 unfolding through_head
 through_head-quiet e head rule s h = relay_head-quiet e head rule _ (disproved-quiet e head _ (invalidated-quiet e head s h))
 
-by_aim-quiet : {o : State} (e : Exchange) (head : Response) (rule : BodyRule) (s : State) → Quietly o s → Quietly o (by_aim e head rule s)
+pub by_aim-quiet : {o : State} (e : Exchange) (head : Response) (rule : BodyRule) (s : State) → Quietly o s → Quietly o (by_aim e head rule s)
 unfolding by_aim
 by_aim-quiet e head rule s h = by_aim_of e.aim (through_head-quiet e head rule s h) (own_head-quiet e head rule s h) (λ v from to. filling_head-quiet e head rule s h)
 
 -- ---- ends
 
-pour-quiet : {o : State} (e : Exchange) (f : Pipe → Pipe) (s : State) → Quietly o s → Quietly o (pour e f s)
+pub pour-quiet : {o : State} (e : Exchange) (f : Pipe → Pipe) (s : State) → Quietly o s → Quietly o (pour e f s)
 unfolding pour
 pour-quiet e f s h = on_client_of-quiet e (on_passed (λ p. record p { pipe = f p.pipe })) s (on_passed-quiet (λ p. record p { pipe = f p.pipe })) h
 
 skipping-quiet : (c : Client) → Quiet (skipping c) c
-skipping-quiet c = record { number = refl; front = refl; stage = refl; interim = refl; closes = refl; reads = read (skipping c) c c.body_left (le_refl c.body_left) refl (none_left c.body_left) refl }
+skipping-quiet c = record { number = refl; index = refl; front = refl; stage = refl; interim = refl; closes = refl; reads = read (skipping c) c c.body_left (le_refl c.body_left) refl (none_left c.body_left) refl }
 
 skip_body-quiet : {o : State} (e : Exchange) (s : State) → Quietly o s → Quietly o (skip_body e s)
 unfolding skip_body
@@ -234,7 +234,7 @@ note_own-quiet : {o : State} (e : Exchange) (a : Answer) (at : ℕ) (bytes : Byt
 unfolding note_own
 note_own-quiet e a at bytes s h = when (is_empty bytes) h (quietly (facts_of h))
 
-note_sent-quiet : {o : State} (e : Exchange) (a : Answer) (at : ℕ) (bytes : Bytes) (s : State) → Quietly o s → Quietly o (note_sent e a at bytes s)
+pub note_sent-quiet : {o : State} (e : Exchange) (a : Answer) (at : ℕ) (bytes : Bytes) (s : State) → Quietly o s → Quietly o (note_sent e a at bytes s)
 unfolding note_sent
 note_sent-quiet e a at bytes s h = by_aim_of e.aim h (note_own-quiet e a at bytes s h) (λ v from to. note_own-quiet e a at bytes s h)
 
@@ -242,7 +242,7 @@ join-quiet : {o : State} (b : Bound) (bytes : Bytes) (s : State) → Quietly o s
 unfolding join
 join-quiet b bytes s h = each_of (instance s b.instance) h (λ x. note_use-quiet _ (quietly (facts_of h)))
 
-join_bound-quiet : {o : State} (e : Exchange) (bytes : Bytes) (s : State) → Quietly o s → Quietly o (join_bound e bytes s)
+pub join_bound-quiet : {o : State} (e : Exchange) (bytes : Bytes) (s : State) → Quietly o s → Quietly o (join_bound e bytes s)
 unfolding join_bound
 join_bound-quiet e bytes s h = each_of (bound_of e) h (λ b. on_exchange-quiet e.number _ _ (join-quiet b bytes s h))
 
@@ -267,7 +267,7 @@ body_piece-quiet {o} k a bytes s h = by (front_of_line s k)
     by None = close_conn-quiet false k s h
     by (Some e) = body_piece_by k a e bytes _ (body_of a.rule (a.raw ++ bytes)).outcome (deliver-quiet e a (length (payload_of a)) (drop (length (payload_of a)) (body_of a.rule (a.raw ++ bytes)).payload) s h)
 
-next_piece-quiet : {o : State} (k : Conn) (bytes : Bytes) (s : State) → Quietly o s → Quietly o (next_piece k bytes s).state
+pub next_piece-quiet : {o : State} (k : Conn) (bytes : Bytes) (s : State) → Quietly o s → Quietly o (next_piece k bytes s).state
 next_piece-quiet {o} k bytes s h = by k.answer
   where
     by : (answer : Option Answer) → Quietly o (elim answer as (λ c. Piece) [ Some a ↦ body_piece k a bytes s | None ↦ head_piece k bytes s ]).state

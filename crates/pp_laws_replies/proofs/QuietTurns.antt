@@ -76,11 +76,11 @@ deciding-quiet s h = in_phase-quiet Deciding _ (come_to_decide-quiet s h)
 
 pub touch-quiet : {o : State} (n : ℕ) (s : State) → Quietly o s → Quietly o (touch n s)
 unfolding touch
-touch-quiet n s h = on_conn-quiet n (marked_conn s.clock) _ (on_client-quiet n (marked_client s.clock) s (λ c. parts_same _ c refl refl refl refl refl refl refl refl) h)
+touch-quiet n s h = on_conn-quiet n (marked_conn s.clock) _ (on_client-quiet n (marked_client s.clock) s (λ c. parts_same _ c refl refl refl refl refl refl refl refl refl) h)
 
 marks_anew-quiet : {o : State} (now : ℕ) (s : State) → Quietly o s → Quietly o (marks_anew now s)
 unfolding marks_anew
-marks_anew-quiet {o} now s h = when (is_leap now s) (quietly (clients_mapped o s (marked_client now) (λ c. parts_same _ c refl refl refl refl refl refl refl refl) (facts_of h))) h
+marks_anew-quiet {o} now s h = when (is_leap now s) (quietly (clients_mapped o s (marked_client now) (λ c. parts_same _ c refl refl refl refl refl refl refl refl refl) (facts_of h))) h
 
 end_patience-quiet : {o : State} (k : Conn) (s : State) → Quietly o s → Quietly o (end_patience k s)
 unfolding end_patience
@@ -91,7 +91,7 @@ unfolding close_idle_conn
 close_idle_conn-quiet k s h = when (is_idle_conn s k) (close_conn-quiet true k _ (end_patience-quiet k s h)) h
 
 woken-by : (now : ℕ) (c : Client) (woken : Bool) → Quiet (elim woken as (λ x. Client) [ true ↦ marked_client now c | false ↦ c ]) c
-woken-by now c true = parts_same _ c refl refl refl refl refl refl refl refl
+woken-by now c true = parts_same _ c refl refl refl refl refl refl refl refl refl
 woken-by now c false = still_same c
 
 renew_marks-quiet : {o : State} (now : ℕ) (s : State) → Quietly o s → Quietly o (renew_marks now s)
@@ -112,13 +112,13 @@ tick-quiet now s h = tick_to-quiet (max s.clock now) s h
 pub rest_with-quiet : {o : State} (w : Wants) (s : State) → Quietly o s → Quietly o (rest_with w s)
 unfolding rest_with
 rest_with-quiet {o} w s h =
-    quietly (clients_mapped o (record s { instances = map rested_instance s.instances }) (rested_client s) (λ c. parts_same _ c refl refl refl refl refl refl refl refl)
+    quietly (clients_mapped o (record s { instances = map rested_instance s.instances }) (rested_client s) (λ c. parts_same _ c refl refl refl refl refl refl refl refl refl)
     (rows_mapped o s rested_instance (λ x. record { id = refl; version = refl }) (facts_of h)))
 
 -- ---- what clients wait for and use
 
 regained-by : (c : Client) (held : Bool) → Quiet (elim held as (λ y. Client) [ true ↦ record c { course = anew c.course } | false ↦ c ]) c
-regained-by c true = parts_same _ c refl refl refl refl refl refl refl refl
+regained-by c true = parts_same _ c refl refl refl refl refl refl refl refl refl
 regained-by c false = still_same c
 
 pub regained-quiet : {o : State} (s : State) → Quietly o s → Quietly o (regained s)

@@ -84,7 +84,7 @@ evicted-quiet s h = each_of (due_victim s) h (λ place. drop_chunk-quiet place.0
 refused_row-quiet : {o : State} (x : Instance) (s : State) → Quietly o s → Quietly o (refused_row x s)
 unfolding refused_row
 refused_row-quiet {o} x s h =
-    quietly (clients_changed o (forget x.id s) (waits_for_row x.id) (λ c. record c { course = RowRefused }) (λ c is. parts_same _ c refl refl refl refl refl refl refl refl) (facts_of (forget-quiet x.id s h)))
+    quietly (clients_changed o (forget x.id s) (waits_for_row x.id) (λ c. record c { course = RowRefused }) (λ c is. parts_same _ c refl refl refl refl refl refl refl refl refl) (facts_of (forget-quiet x.id s h)))
 
 leave_memory-quiet : {o : State} (how : Leaving) (s : State) → Quietly o s → Quietly o (leave_memory how s)
 unfolding leave_memory
@@ -140,7 +140,7 @@ abbrev IsThere : ℕ → Client → Type 0
 IsThere n c = (n ≤ length c.heard) × (n ≤ c.body_left)
 
 asked_quiet : (n : ℕ) (c : Client) → IsThere n c → Quiet (asked_body n c) c
-asked_quiet n c there = record { number = refl; front = refl; stage = refl; interim = refl; closes = refl; reads = read (asked_body n c) c n there.1 refl refl (none_more c.skip n (length c.heard) there.0) }
+asked_quiet n c there = record { number = refl; index = refl; front = refl; stage = refl; interim = refl; closes = refl; reads = read (asked_body n c) c n there.1 refl refl (none_more c.skip n (length c.heard) there.0) }
   where
     none_more : (s m l : ℕ) → m ≤ l → s ≡ s + (m - l)
     none_more s m l e = omega arith
@@ -318,7 +318,7 @@ hang_up-orderly {n} {told} m s h = by (is_writing s.owed m)
 
     by : (t : Bool) → Orderly n told (elim t as (λ x. State) [ true ↦ close_client m false s | false ↦ end_replies left ])
     by true = quiet_orderly s _ (close_client-quiet m false s (quiet_same s)) h
-    by false = end_replies-orderly left (quiet_orderly s left (on_client-quiet m (λ c. record c { has_hung_up = true }) s (λ c. parts_same _ c refl refl refl refl refl refl refl refl) (quiet_same s)) h)
+    by false = end_replies-orderly left (quiet_orderly s left (on_client-quiet m (λ c. record c { has_hung_up = true }) s (λ c. parts_same _ c refl refl refl refl refl refl refl refl refl) (quiet_same s)) h)
 
 -- ---- the end of a turn
 

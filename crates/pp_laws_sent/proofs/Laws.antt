@@ -38,10 +38,10 @@ once : (number : ℕ) (h : Happening) → got_of number (h ∷ []) ≡ got_in nu
 unfolding got_of
 once number h = refl
 
-one_more : (log : Log) (h : Happening) (number : ℕ) → came_in (log ++ h ∷ []) number ≡ came_in log number ++ got_in number h
+pub one_more : (log : Log) (h : Happening) (number : ℕ) → came_in (log ++ h ∷ []) number ≡ came_in log number ++ got_in number h
 one_more log h number = got-append number log (h ∷ []) ∙ ap (λ (xs : Bytes). came_in log number ++ xs) (once number h ∙ append-nil (got_in number h))
 
-asked_still : (terms : List Term) (log : Log) (h : Happening) (number : ℕ) (e : Exchange) → WasAskedOn terms log number e → WasAskedOn terms (log ++ h ∷ []) number e
+pub asked_still : (terms : List Term) (log : Log) (h : Happening) (number : ℕ) (e : Exchange) → WasAskedOn terms log number e → WasAskedOn terms (log ++ h ∷ []) number e
 asked_still terms log h number e w = record { front = w.front; behind = w.behind ++ h ∷ []; parts = sym (append_assoc w.front w.behind (h ∷ [])) ∙ ap (λ (l : Log). l ++ h ∷ []) w.parts; then = w.then }
 
 -- ---- where nothing of an origin is read
@@ -83,7 +83,7 @@ pub record Inv (terms : List Term) (log : Log) (s : State) : Type 0 where
   pub lines : Lines terms log firsts s
   pub came : Holds (Rests (came_in log) (WasAskedOn terms log) firsts) s
 
-quiet_step : (terms : List Term) (log : Log) (firsts : ℕ → Option ℕ) (h : Happening) (s : State) → ReadsNothing h → Holds (Rests (came_in log) (WasAskedOn terms log) firsts) s → Holds (Rests (came_in (log ++ h ∷ [])) (WasAskedOn terms (log ++ h ∷ [])) firsts) (after s h)
+pub quiet_step : (terms : List Term) (log : Log) (firsts : ℕ → Option ℕ) (h : Happening) (s : State) → ReadsNothing h → Holds (Rests (came_in log) (WasAskedOn terms log) firsts) s → Holds (Rests (came_in (log ++ h ∷ [])) (WasAskedOn terms (log ++ h ∷ [])) firsts) (after s h)
 quiet_step terms log firsts h s is came =
     changed-rests (came_in (log ++ h ∷ [])) (WasAskedOn terms (log ++ h ∷ [])) firsts s h is
     (holds (came_more (came_in log) (came_in (log ++ h ∷ [])) no_end (WasAskedOn terms log) (WasAskedOn terms (log ++ h ∷ [])) firsts (λ n. one_more log h n ∙ ap (λ (xs : Bytes). came_in log n ++ xs) (quiet n h is)) (λ n e w. asked_still terms log h n e w) (view s) (facts_of came)))
@@ -106,7 +106,7 @@ nothing_left n number = by (number == n)
     by true = refl
     by false = refl
 
-put_down : (total : ℕ → Bytes) (asked : ℕ → Exchange → Type 0) (firsts : ℕ → Option ℕ) (n : ℕ) (s : State) → Holds (Came total (at_end n []) asked firsts true none_apart) s → Holds (Rests total asked firsts) s
+pub put_down : (total : ℕ → Bytes) (asked : ℕ → Exchange → Type 0) (firsts : ℕ → Option ℕ) (n : ℕ) (s : State) → Holds (Came total (at_end n []) asked firsts true none_apart) s → Holds (Rests total asked firsts) s
 put_down total asked firsts n s h = holds (record {
   stand = f.stand;
   read = λ k i. subst (λ (e : Bytes). EndsWith (total k.number) (k.unread ++ e)) (nothing_left n k.number) (f.read k i);
@@ -122,13 +122,23 @@ put_down total asked firsts n s h = holds (record {
     f : Came total (at_end n []) asked firsts true none_apart (view s)
     f = facts_of h
 
-got_step : (terms : List Term) (log : Log) (n : ℕ) (bytes : Bytes) → AreRising (map conn_number (state_after terms log).conns) → Inv terms log (state_after terms log) → Inv terms (log ++ Got n bytes ∷ []) (after (state_after terms log) (Got n bytes))
-unfolding changed paid
-got_step terms log n bytes rise inv = record {
-  firsts = read.firsts;
-  lines = got_over terms log inv.firsts read.firsts n bytes s inv.lines read.lines;
-  came = regained-keeps w _ (holds (facts_of (end_replies-keeps w _ (put_down (came_in (log ++ Got n bytes ∷ [])) (WasAskedOn terms (log ++ Got n bytes ∷ [])) read.firsts n _ read.came))));
-}
+-- where the read begins
+pub reading_now : (terms : List Term) (log : Log) (n : ℕ) (bytes : Bytes) → AreRising (map conn_number (state_after terms log).conns) → (inv : Inv terms log (state_after terms log)) → Holds (Came (came_in (log ++ Got n bytes ∷ [])) (at_end n bytes) (WasAskedOn terms (log ++ Got n bytes ∷ [])) inv.firsts true none_apart) (state_after terms log)
+reading_now terms log n bytes rise inv = holds (record {
+  stand = f.stand;
+  read = f.read;
+  more = f.more;
+  past = f.past;
+  shut = f.shut;
+  begun = f.begun;
+  going = f.going;
+  rise = λ on. rise;
+  from = λ on k e i j l. record {
+    was = e;
+    asks = record { front = log; behind = Got n bytes ∷ []; parts = refl; then = record { exchange = j; conn = k; there = i; numbered = refl; line = l } };
+    is = record { number = refl; key = refl; head = refl; aim = refl };
+  };
+})
   where
     s : State
     s = state_after terms log
@@ -136,34 +146,28 @@ got_step terms log n bytes rise inv = record {
     f : Came (came_in (log ++ Got n bytes ∷ [])) (at_end n bytes) (WasAskedOn terms (log ++ Got n bytes ∷ [])) inv.firsts false none_apart (view s)
     f = came_more (came_in log) (came_in (log ++ Got n bytes ∷ [])) (at_end n bytes) (WasAskedOn terms log) (WasAskedOn terms (log ++ Got n bytes ∷ [])) inv.firsts (λ m. one_more log (Got n bytes) m ∙ ap (λ (xs : Bytes). came_in log m ++ xs) (got_end n m bytes)) (λ m e v. asked_still terms log (Got n bytes) m e v) (view s) (facts_of inv.came)
 
-    reading : Holds (Came (came_in (log ++ Got n bytes ∷ [])) (at_end n bytes) (WasAskedOn terms (log ++ Got n bytes ∷ [])) inv.firsts true none_apart) s
-    reading = holds (record {
-      stand = f.stand;
-      read = f.read;
-      more = f.more;
-      past = f.past;
-      shut = f.shut;
-      begun = f.begun;
-      going = f.going;
-      rise = λ on. rise;
-      from = λ on k e i j l. record {
-        was = e;
-        asks = record { front = log; behind = Got n bytes ∷ []; parts = refl; then = record { exchange = j; conn = k; there = i; numbered = refl; line = l } };
-        is = record { number = refl; key = refl; head = refl; aim = refl };
-      };
-    })
-
-    read : HasRead (came_in (log ++ Got n bytes ∷ [])) (WasAskedOn terms (log ++ Got n bytes ∷ [])) (plain terms (log ++ Got n bytes ∷ []) s.top inv.firsts) n (got (length bytes) n bytes s)
-    read =
-        got-came (came_in (log ++ Got n bytes ∷ [])) (WasAskedOn terms (log ++ Got n bytes ∷ [])) (length bytes) n bytes (plain terms (log ++ Got n bytes ∷ []) s.top inv.firsts) s (le_refl (length bytes)) (is_plain terms (log ++ Got n bytes ∷ []) s.top inv.firsts)
-        (got_grown terms log inv.firsts n bytes s inv.lines) reading
-
+-- and where it is over
+unfoldable pub got_over_inv : (terms : List Term) (log : Log) (n : ℕ) (bytes : Bytes) (inv : Inv terms log (state_after terms log))
+    → HasRead (came_in (log ++ Got n bytes ∷ [])) (WasAskedOn terms (log ++ Got n bytes ∷ [])) (plain terms (log ++ Got n bytes ∷ []) (state_after terms log).top inv.firsts) n (got (length bytes) n bytes (state_after terms log)) → Inv terms (log ++ Got n bytes ∷ []) (after (state_after terms log) (Got n bytes))
+unfolding changed paid
+got_over_inv terms log n bytes inv read = record {
+  firsts = read.firsts;
+  lines = got_over terms log inv.firsts read.firsts n bytes (state_after terms log) inv.lines read.lines;
+  came = regained-keeps w _ (holds (facts_of (end_replies-keeps w _ (put_down (came_in (log ++ Got n bytes ∷ [])) (WasAskedOn terms (log ++ Got n bytes ∷ [])) read.firsts n _ read.came))));
+}
+  where
     w : Walk (Rests (came_in (log ++ Got n bytes ∷ [])) (WasAskedOn terms (log ++ Got n bytes ∷ [])) read.firsts)
     w = came_walk (came_in (log ++ Got n bytes ∷ [])) no_end (WasAskedOn terms (log ++ Got n bytes ∷ [])) read.firsts false none_apart
 
+pub got_step : (terms : List Term) (log : Log) (n : ℕ) (bytes : Bytes) → AreRising (map conn_number (state_after terms log).conns) → Inv terms log (state_after terms log) → Inv terms (log ++ Got n bytes ∷ []) (after (state_after terms log) (Got n bytes))
+got_step terms log n bytes rise inv =
+    got_over_inv terms log n bytes inv
+    (got-came (came_in (log ++ Got n bytes ∷ [])) (WasAskedOn terms (log ++ Got n bytes ∷ [])) (length bytes) n bytes (plain terms (log ++ Got n bytes ∷ []) (state_after terms log).top inv.firsts) (state_after terms log) (le_refl (length bytes)) (is_plain terms (log ++ Got n bytes ∷ []) (state_after terms log).top inv.firsts)
+    (got_grown terms log inv.firsts n bytes (state_after terms log) inv.lines) (reading_now terms log n bytes rise inv))
+
 -- ---- all
 
-step : (terms : List Term) (log : Log) (h : Happening) → Lawful terms log → IsPermitted (state_after terms log) h → Inv terms log (state_after terms log) → Inv terms (log ++ h ∷ []) (after (state_after terms log) h)
+unfoldable pub step : (terms : List Term) (log : Log) (h : Happening) → Lawful terms log → IsPermitted (state_after terms log) h → Inv terms log (state_after terms log) → Inv terms (log ++ h ∷ []) (after (state_after terms log) h)
 step terms log (Got n bytes) lawful permitted inv = got_step terms log n bytes (own_numbers terms log lawful).conns_rise inv
 step terms log (Asked n bytes) lawful permitted inv =
     record { firsts = inv.firsts; lines = asked_step terms log inv.firsts n bytes permitted inv.lines; came = quiet_step terms log inv.firsts (Asked n bytes) (state_after terms log) tt inv.came }
@@ -178,10 +182,10 @@ inv_from terms front (h ∷ log) lawful now =
     let next : Inv terms (front ++ h ∷ []) (state_after terms (front ++ h ∷ [])) = subst (λ (s : State). Inv terms (front ++ h ∷ []) s) (sym (after_all-append (start terms) front (h ∷ []))) (step terms front h (front_from (start terms) front (h ∷ log) lawful) (back_from (start terms) front (h ∷ log) lawful).0 now) in
     subst (λ (l : Log). Inv terms l (state_after terms l)) joined (inv_from terms (front ++ h ∷ []) log whole next)
 
-nobody : ℕ → Option ℕ
+pub nobody : ℕ → Option ℕ
 nobody n = None
 
-first_came : (terms : List Term) → Holds (Rests (came_in []) (WasAskedOn terms []) nobody) (start terms)
+pub first_came : (terms : List Term) → Holds (Rests (came_in []) (WasAskedOn terms []) nobody) (start terms)
 first_came terms = holds (record {
   stand = λ p i. absurd i;
   read = λ k i. absurd i;

@@ -4,4 +4,8 @@ mod Pieces
 mod Happenings
 mod Laws
 mod Relayed
+mod Ours
+mod Arrived
+mod HeardOn
+mod WholeLaw
 mod Worked

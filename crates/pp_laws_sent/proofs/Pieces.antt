@@ -195,7 +195,7 @@ moved_same m e = by (bound_of e)
     by None = same_ask e e refl refl refl refl refl refl
     by (Some b) = same_ask _ e refl refl refl refl refl refl
 
-join_bound-keeps : {P : View → Type 0} (w : Walk P) (e : Exchange) (bytes : Bytes) (s : State) → ((v : View) (is_evicting : Bool) (chunks : List Chunk) → P v → P (record v { is_evicting = is_evicting; chunks = chunks })) → Holds P s → Holds P (join_bound e bytes s)
+pub join_bound-keeps : {P : View → Type 0} (w : Walk P) (e : Exchange) (bytes : Bytes) (s : State) → ((v : View) (is_evicting : Bool) (chunks : List Chunk) → P v → P (record v { is_evicting = is_evicting; chunks = chunks })) → Holds P s → Holds P (join_bound e bytes s)
 unfolding join_bound
 join_bound-keeps w e bytes s free h = each_of (bound_of e) h (λ b. on_exchange-keeps w e.number (moved_on (length bytes)) _ (moved_same (length bytes)) (join-keeps b bytes s free h))
 
@@ -312,9 +312,9 @@ module _ (total : ℕ → Bytes) (asked : ℕ → Exchange → Type 0) (firsts :
       by k x (inr e) = let one : a ≡ x = same_second e in subst GoesOn one on
 
   -- a piece was read: less is left
-  record ReadOn (n : ℕ) (bytes : Bytes) (p : Piece) : Type 0 where
-    kept : Holds (Reading n p.rest none_apart) p.state
-    less : length p.rest < length bytes
+  pub record ReadOn (n : ℕ) (bytes : Bytes) (p : Piece) : Type 0 where
+    pub kept : Holds (Reading n p.rest none_apart) p.state
+    pub less : length p.rest < length bytes
 
   -- ---- a head
 
@@ -375,7 +375,7 @@ module _ (total : ℕ → Bytes) (asked : ℕ → Exchange → Type 0) (firsts :
         was : WasAsked (asked k.number) e
         was = let w = front_by s k.line e front in facts.from refl k e there w.0 (in_line k.line e.number w.1)
 
-        began : Began (total k.number) rest (asked k.number) (firsts k.number) a
+        pub began : Began (total k.number) rest (asked k.number) (firsts k.number) a
         began = record {
           before = ends.0;
           head = take head.length all;
@@ -623,7 +623,7 @@ module _ (total : ℕ → Bytes) (asked : ℕ → Exchange → Type 0) (firsts :
         by None none = record { kept = now_shut k.number bytes [] none_apart _ no_more (none_only k.number) (close_conn-shut false k s) (close_conn-keeps (walk k.number bytes none_apart) false k s h); less = some }
         by (Some e) front = body_piece_of-came e front
 
-  next_piece-came : (k : Conn) (bytes : Bytes) (s : State) → IsIn k s.conns → k.is_closing ≡ false → 0 < length bytes → Holds (Reading k.number bytes none_apart) s → firsts k.number ≡ first_of k.line → ReadOn k.number bytes (next_piece k bytes s)
+  pub next_piece-came : (k : Conn) (bytes : Bytes) (s : State) → IsIn k s.conns → k.is_closing ≡ false → 0 < length bytes → Holds (Reading k.number bytes none_apart) s → firsts k.number ≡ first_of k.line → ReadOn k.number bytes (next_piece k bytes s)
   next_piece-came k bytes s there is_open some h named_first = by k.answer refl
     where
       by : (o : Option Answer) → k.answer ≡ o → ReadOn k.number bytes (elim o as (λ c. Piece) [ Some a ↦ body_piece k a bytes s | None ↦ head_piece k bytes s ])
@@ -632,13 +632,13 @@ module _ (total : ℕ → Bytes) (asked : ℕ → Exchange → Type 0) (firsts :
 
   -- ---- the read
 
-  stopped : (n : ℕ) (bytes : Bytes) (s : State) → Holds (Shut n) s → Holds (Reading n bytes none_apart) s → Holds (Reading n [] none_apart) s
+  pub stopped : (n : ℕ) (bytes : Bytes) (s : State) → Holds (Shut n) s → Holds (Reading n bytes none_apart) s → Holds (Reading n [] none_apart) s
   stopped n bytes s shut h = now_shut n bytes [] none_apart s (total n, sym (append-nil (total n))) (none_only n) shut h
 
-  nobody_there : (n : ℕ) (s : State) → conn s n ≡ None → Holds (Shut n) s
+  pub nobody_there : (n : ℕ) (s : State) → conn s n ≡ None → Holds (Shut n) s
   nobody_there n s none = holds (λ k i is. let both : true ≡ false = sym (number_same n) ∙ ap (λ m. m == n) (sym is) ∙ not_found n s.conns k none i in absurd (cc both))
 
-  closing_there : (n : ℕ) (k : Conn) (bytes : Bytes) (s : State) → IsIn k s.conns → k.number ≡ n → k.is_closing ≡ true → Holds (Reading n bytes none_apart) s → Holds (Shut n) s
+  pub closing_there : (n : ℕ) (k : Conn) (bytes : Bytes) (s : State) → IsIn k s.conns → k.number ≡ n → k.is_closing ≡ true → Holds (Reading n bytes none_apart) s → Holds (Shut n) s
   closing_there n k bytes s there number closing h = holds (λ j i is. let e : j ≡ k = one_of conn_number s.conns j k ((facts_of h).rise refl) i there (is ∙ sym number) in subst (λ (x : Conn). (x.answer ≡ None) × (x.unread ≡ [])) (sym e) ((facts_of h).shut k there closing))
   -- ---- one piece behind the other
 

@@ -1,3 +1,4 @@
 pub mod Stands
 pub mod Answered
 pub mod Relayed
+pub mod Whole

@@ -13,4 +13,4 @@
 
 mod stands; // what was sent and what is passed, in the log
 
-pub use stands::{passed_stands_in_the_log, sent_stands_in_the_log};
+pub use stands::{passed_is_one_whole_response, passed_stands_in_the_log, sent_stands_in_the_log};

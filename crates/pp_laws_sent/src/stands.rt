@@ -1,6 +1,7 @@
 // What was sent, in the log.
 ghost use Rattle.pp_laws_sent.specs.Relayed.{PassedStandsInTheLog};
 ghost use Rattle.pp_laws_sent.specs.Stands.{SentStandsInTheLog};
+ghost use Rattle.pp_laws_sent.specs.Whole.{PassedIsOneSoFar, PassedIsOneWhole, SeenIsJustBefore};
 
 /// What an origin sent is data of a response that came on a connection.
 pub fn sent_stands_in_the_log()
@@ -11,4 +12,12 @@ pub fn sent_stands_in_the_log()
 /// the response whose head it was told.
 pub fn passed_stands_in_the_log()
     ensures relayed { PassedStandsInTheLog }
+{}
+
+/// What a client is told in a reply that is passed is the one response to the exchange of that very request, as far as it came; and
+/// where the reply is over, all of that response, from its head to the end of its body.
+pub fn passed_is_one_whole_response()
+    ensures so_far { PassedIsOneSoFar }
+    ensures whole { PassedIsOneWhole }
+    ensures seen { SeenIsJustBefore }
 {}

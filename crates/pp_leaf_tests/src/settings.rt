@@ -16,7 +16,7 @@ allowedClients=10.0.0.1/8|=>Fault(BadValue(AllowedClients
 proxyAddress=0.0.0.0|=>Fault(BadValue(AllowedClients
 proxyAddress=0.0.0.0|allowedClients = 127.0.0.1, 192.168.0.0/16=>Port(8123)
 hostConnections=0|=>Fault(BadValue(HostConnections
-accessLog=-|accessLog = ""=>Port(8123)
+accessLog=-|accessLog = \"\"=>Port(8123)
 |~~nonsense=>Fault(BadLine(3))
 -g x|=>Fault(Usage)
 -g 7 -c f|=>Fault(Usage)";

@@ -6,14 +6,17 @@
 //! over a happening that the state permits, and over a phase that is done, which no happening shows.
 //!
 //! To the layer above: these laws are the clauses of functions that do nothing. `proofs/Happenings.antt`
-//! has, for each happening, what permits it and where it leads; `proofs/Calls.antt` the same for calls of
-//! the world, with the failures that the outside counts: `Keeps` is the contract of such a call.
+//! has, for each happening, what permits it and where it leads. `Keeps` is the contract of a call of the
+//! world, with the failures that the outside counts: `calls_keep_the_law` says what it is good for, and
+//! `proofs/Calls.antt` has what shows it.
 //!
 //! Takes no memory, and does nothing when the program runs.
 #![tactic(auto)]
 
 mod going; // how a log goes on
+mod keeping; // what the contract of a call is good for
 
 pub use going::{
     failures_are_counted, phases_are_left, silent_steps_go, what_is_permitted_goes_on,
 };
+pub use keeping::calls_keep_the_law;

@@ -45,7 +45,7 @@ pub(crate) struct Desk {
 
 impl Desk {
     /// Handles an event to its end.
-    #[tactic(auto, using(crate::proofs::DiskLemmas::holds_quietly))]
+    #[tactic(auto, using(crate::proofs::DiskLemmas::holds_quietly, pp_shelf::proofs::SteadyLemmas::steady_then, pp_shelf::proofs::SteadyLemmas::quiet_is_steady))]
     pub(crate) fn take_event<W: World>(
         &mut self,
         links: &mut Links,

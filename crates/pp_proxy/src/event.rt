@@ -27,7 +27,7 @@ const LEAP_SECONDS: u64 = 120;
 
 impl Desk {
     /// Takes the event in.
-    #[tactic(auto, using(crate::proofs::DiskLemmas::holds_quietly, pp_shelf::proofs::SteadyLemmas::steady_none, pp_shelf::proofs::SteadyLemmas::quiet_is_steady))]
+    #[tactic(auto, using(crate::proofs::DiskLemmas::holds_quietly, pp_shelf::proofs::SteadyLemmas::steady_then, pp_shelf::proofs::SteadyLemmas::steady_none, pp_shelf::proofs::SteadyLemmas::quiet_is_steady))]
     pub(crate) fn handle<W: World>(
         &mut self,
         links: &mut Links,

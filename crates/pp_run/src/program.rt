@@ -6,6 +6,7 @@ ghost use Rattle.pp_world.specs.Log.{AppendsAll, Told};
 ghost use Rattle.pp_recover.specs.Opening.{IsFresh};
 ghost use Rattle.pp_conf.specs.Shown.{shown_text};
 ghost use Rattle.pp_conf.specs.Words.{file_of, has_reading};
+ghost use Rattle.pp_demo.specs.Summary.{summary_text};
 ghost use Rattle.pp_run.specs.Lines.{fault_line};
 ghost use Rattle.pp_run.specs.Exits.{exit_of, EndsAs, JudgesWords, ShowsAs, StartsAs};
 
@@ -14,6 +15,7 @@ use crate::lines::{NO_MEMORY_LINE, UNREAD_LINE, fault_line};
 use crate::serving::open;
 use crate::showing::demo;
 use pp_conf::{Command, Conf, ConfFault, config_name};
+use pp_demo::Summary;
 use pp_world::{ConfigFault, World};
 use std::alloc::Global;
 
@@ -73,14 +75,20 @@ fn show<W: World>(alloc: Global, seed: u64, world: &mut W) -> Exit
 {
     match demo(alloc, seed) {
         Ok(shown) => {
-            world.print(shown.summary.text().as_slice());
+            tell(&shown.summary, world);
             Exit::Served
         }
         Err(_) => {
-            world.print(NO_MEMORY_LINE.as_bytes());
+            let _ = refuse(ConfFault::OutOfMemory, world);
             Exit::NoMemory
         }
     }
+}
+
+fn tell<W: World>(summary: &Summary, world: &mut W)
+    ensures { AppendsAll (W.log world.old) (W.log world.new) (λ l. Printed (summary_text summary.now) ∷ []) }
+{
+    world.print(summary.text().as_slice());
 }
 
 /// Prints why there are no settings.

@@ -1,5 +1,5 @@
 // Five lives over a world in memory.
-ghost use Rattle.std.specs.Prelude.{◌≡◌, Some, IfOk, option_map};
+ghost use Rattle.std.specs.Prelude.{◌≡◌, ◌<◌, Some, IfOk, option_map};
 ghost use Rattle.pp_demo.specs.Summary.{summary_of};
 ghost use Rattle.pp_memworld.specs.MemWorld.{told_log};
 ghost use Rattle.pp_recover.specs.Opening.{IsFresh};

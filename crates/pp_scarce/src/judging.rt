@@ -21,7 +21,7 @@ pub(crate) enum Outcome {
     Ended,
     /// The world had no memory to tell what happened; the program went on to the end.
     Untold,
-    /// The test had none to play it.
+    /// The test had none to play it, or to judge it.
     Unplayed,
     /// Anything else.
     Wrong,
@@ -36,7 +36,7 @@ impl Outcome {
             Outcome::Cut => "one client is cut\n",
             Outcome::Ended => "the program ends before it listens\n",
             Outcome::Untold => "the world does not tell what happened\n",
-            Outcome::Unplayed => "the course is not played\n",
+            Outcome::Unplayed => "the course is not played, or not judged\n",
             Outcome::Wrong => "it came to what it may not\n",
         }
     }
@@ -102,13 +102,21 @@ fn of_client(alloc: Global, life: &Life, may_say: &MaySay) -> Result<Outcome, Ou
     if fit_of(said.as_slice(), PAGE_500) == Fit::Whole && cause.is_none() {
         return Ok(Outcome::Told);
     }
-    for reply in may_say.replies {
-        match of_reply(said.as_slice(), reply, cause) {
+    match of_replies(said.as_slice(), may_say.replies, cause) {
+        Outcome::Wrong => Ok(of_replies(said.as_slice(), may_say.scarce, cause)),
+        other => Ok(other),
+    }
+}
+
+/// The first of these replies that it is one of.
+fn of_replies(said: &[u8], replies: &[Reply], cause: Option<Cause>) -> Outcome {
+    for reply in replies {
+        match of_reply(said, reply, cause) {
             Outcome::Wrong => {}
-            other => return Ok(other),
+            other => return other,
         }
     }
-    Ok(Outcome::Wrong)
+    Outcome::Wrong
 }
 
 fn of_reply(said: &[u8], reply: &Reply, cause: Option<Cause>) -> Outcome {

@@ -1,5 +1,5 @@
 -- What a decision makes of a seat is what the law makes of its client.
-use Rattle.std.proofs.Common.{◌≡◌, ◌⊎◌, inl, inr, refl, sym, subst, ap, ap₂, ◌∙◌, ℕ, zero, suc, ◌+◌, ◌-◌, ◌^◌, ◌≤◌, min, Bool, true, false, not, ◌&&◌, ◌||◌, is_some, List, [], ◌∷◌, ◌++◌, length, length-drop, drop, Option, Some, None, arith}
+use Rattle.std.proofs.Common.{◌≡◌, refl, sym, subst, ap, ap₂, ◌∙◌, ℕ, ◌+◌, ◌-◌, ◌^◌, ◌≤◌, min, Bool, true, false, not, ◌&&◌, ◌||◌, is_some, List, [], ◌∷◌, ◌++◌, length, length-drop, drop, Option, arith}
 use Rattle.std.specs.Prelude.{if◌then◌else◌}
 use Rattle.pp_client.specs.Bodies.{IsIdle, IsKept, unread, unwanted}
 use Rattle.pp_client.specs.Replies.{Reply as Said, continue_text, is_unasked, may_interim, with_interim as interim_on}
@@ -8,28 +8,23 @@ use Rattle.pp_client.specs.declared.body.Body.{Body}
 use Rattle.pp_client.specs.declared.body.Body.TheVariants.{Unread, Dropped, Over}
 use Rattle.pp_client.specs.declared.interim.Interim.{Interim}
 use Rattle.pp_client.specs.declared.interim.Interim.TheVariants.{Unasked, Left}
-use Rattle.pp_client.specs.declared.reply.Begin.TheVariants.{Page}
 use Rattle.pp_client.specs.declared.reply.Stage.{Stage as SaidStage}
-use Rattle.pp_client.specs.declared.reply.Stage.TheVariants.{Due, Begun}
+use Rattle.pp_client.specs.declared.reply.Stage.TheVariants.{Due}
 use Rattle.pp_objects.specs.declared.id.ObjectId.{ObjectId}
 use Rattle.pp_reply.specs.Keeping.{interim}
 use Rattle.pp_reply.specs.Texts.{has_page, page}
 use Rattle.pp_world.specs.declared.note.Decision.{Decision}
-use Rattle.pp_world.specs.declared.note.Decision.TheVariants.{Refuse}
-use Rattle.pp_law.specs.Deciding.{answering_with, asking_with, first_interim, is_pass, refused_with, reply_by, span_of, stage_for}
-use Rattle.pp_law.specs.Lists.{Bytes, is_some_with}
+use Rattle.pp_law.specs.Deciding.{answering_with, asking_with, first_interim, is_pass, refused_with, reply_by, span_of}
+use Rattle.pp_law.specs.Lists.{Bytes}
 use Rattle.pp_law.specs.Requests.{Front, Parsed, NoHeadYet, NoHead, IsRequest, asks_head, expects_interim, front_of, keeps_after, parsed_in}
-use Rattle.pp_law.specs.Responses.{skipping}
 use Rattle.pp_law.specs.Stages.{is_begun, is_undecided, reply_of}
-use Rattle.pp_law.specs.State.{Client, Brought, Course, Passed, Reply, Stage, Undecided, Waiting, Passing, Answering}
+use Rattle.pp_law.specs.State.{Client, Brought, Reply, Stage, Undecided, Waiting, Passing, Answering}
 use Rattle.pp_seats.specs.declared.account.Account.{Account}
 use Rattle.pp_seats.specs.declared.front.Front.{Front as SeatFront}
 use Rattle.pp_seats.specs.declared.seat.Answer.{Answer}
 use Rattle.pp_seats.specs.declared.seat.Brought.{Brought as SeatBrought}
 use Rattle.pp_seats.specs.declared.seat.Brought.TheVariants.{Awaited as NoneYet, Useless as NoneOfUse, Joins as JoinsRow, Passes as PassesOn, TooWide as IsTooWide, Refused}
 use Rattle.pp_seats.specs.declared.seat.Course.{Course as SeatCourse}
-use Rattle.pp_seats.specs.declared.seat.Course.TheVariants.{Trying as IsTrying}
-use Rattle.pp_seats.specs.declared.seat.Passed.{Passed as SeatPassed}
 use Rattle.pp_seats.specs.declared.seat.Seat.{Seat}
 use Rattle.pp_seats.specs.declared.seat.Stage.{Stage as SeatStage}
 use Rattle.pp_seats.specs.declared.seat.Stage.TheVariants.{Undecided as IsUndecided, Waiting as IsWaiting, Passing as IsPassing, Answering as IsAnswering}
@@ -39,8 +34,8 @@ use Rattle.pp_seats.specs.Heads.{asked_in, head_asked_in, keeps_in}
 use Rattle.pp_seats.specs.Seats.{is_undecided_in}
 use Rattle.pp_seats_law.specs.Decided.{AnswersAreTheLaws, AsksAreTheLaws, MayBeDecided, PagesAreTheLaws, expects_of}
 use Rattle.pp_seats_law.specs.Fronts.{IsHeadTaken, ShowsBody, ShowsFront, StandsStill, has_no_end, is_over}
-use Rattle.pp_seats_law.specs.Replies.{IsBroughtFor, IsHeadKept, IsPipedFor, ShowsBrought, ShowsFate, ShowsInterim, ShowsSaid, ShowsStage, course_of, source_number}
-use Rattle.pp_seats_law.specs.Seats.{ShowsOpen, ShowsSeat, head_left}
+use Rattle.pp_seats_law.specs.Replies.{IsPipedFor, ShowsBrought, ShowsFate, ShowsInterim, ShowsSaid, ShowsStage, course_of, source_number}
+use Rattle.pp_seats_law.specs.Seats.{ShowsOpen, head_left}
 use Rattle.pp_seats_law.proofs.Answered.{brought_anew, dropped_in_order}
 use Rattle.pp_seats_law.proofs.Begins.{reply_due}
 use Rattle.pp_seats_law.proofs.Fronts.{fronts_read}

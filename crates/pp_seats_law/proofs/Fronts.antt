@@ -17,7 +17,7 @@ use Rattle.pp_text.specs.Fields.{Field}
 use Rattle.pp_target.specs.Key.{Key, key_at, key_in}
 use Rattle.pp_target.specs.declared.target.TargetFault.{TargetFault}
 use Rattle.pp_law.specs.Lists.{Bytes}
-use Rattle.pp_law.specs.Requests.{Front, Parsed, NoHeadYet, NoHead, IsRequest, body_len_by, expects_interim, front_in, front_of, key_in as key_of, parsed_of, refusal_by_rule, refusal_of}
+use Rattle.pp_law.specs.Requests.{Front, Parsed, NoHeadYet, NoHead, IsRequest, body_len_by, expects_interim, front_in, front_of, key_in as key_of, parsed_of, refusal_by_rule}
 use Rattle.pp_seats.specs.declared.front.Asked.{Asked}
 use Rattle.pp_seats.specs.declared.front.Front.{Front as SeatFront}
 use Rattle.pp_seats.specs.declared.front.Front.TheVariants.{NoHeadYet as NoneYet, NoHead as NoneThere, Request as IsThere}

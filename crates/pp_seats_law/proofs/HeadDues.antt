@@ -1,8 +1,7 @@
 -- What is decided for a seat by its head alone, and by the row of its key, is what is decided for its client.
-use Rattle.std.proofs.Common.{◌≡◌, ◌⊎◌, inl, inr, refl, sym, subst, ap, ap₂, ◌∙◌, ℕ, Bool, true, false, ◌==◌, ◌&&◌, is_ok, List, Option, Some, None, option_map, Result, Ok, Err, arith}
+use Rattle.std.proofs.Common.{◌≡◌, ◌⊎◌, inl, inr, refl, sym, ap, ◌∙◌, ℕ, Bool, true, false, ◌==◌, ◌&&◌, is_ok, List, Option, Some, None, option_map, Result, Ok, Err, arith}
 use Rattle.std.proofs.lemmas.Bool.Decides.{nat_tests}
 use Rattle.pp_client.specs.Replies.{Reply as Said}
-use Rattle.pp_objects.specs.Instances.{is_same_id}
 use Rattle.pp_objects.specs.declared.id.ObjectId.{ObjectId}
 use Rattle.pp_plan.specs.declared.table.Begun.{Begun}
 use Rattle.pp_plan.specs.declared.table.Begun.TheVariants.{Nothing, Settled, Other, Widened}
@@ -10,12 +9,11 @@ use Rattle.pp_target.specs.Key.{Key, key_in}
 use Rattle.pp_target.specs.declared.target.TargetFault.{TargetFault}
 use Rattle.pp_world.specs.declared.note.Decision.{Decision}
 use Rattle.pp_world.specs.declared.note.Decision.TheVariants.{Refuse}
-use Rattle.pp_law.specs.Decisions.{begun_now, decide, decide_for, decide_head}
+use Rattle.pp_law.specs.Decisions.{begun_now, decide_for, decide_head}
 use Rattle.pp_law.specs.Lists.{Bytes, is_some_with}
 use Rattle.pp_law.specs.Requests.{Front, NoHeadYet, NoHead, IsRequest, Parsed, refusal_by_rule, refusal_of}
 use Rattle.pp_law.specs.State.{State, Client, Instance, Brought, Awaited, Useless, Joins, Passes, TooWide}
 use Rattle.pp_law.specs.Table.{row as row_of}
-use Rattle.pp_seats.specs.declared.front.Asked.{Asked}
 use Rattle.pp_seats.specs.declared.front.Front.{Front as SeatFront}
 use Rattle.pp_seats.specs.declared.front.Front.TheVariants.{NoHeadYet as NoneYet, NoHead as NoneThere, Request as IsThere}
 use Rattle.pp_seats.specs.declared.key.Key.{Key as OwnedKey}

@@ -1,5 +1,5 @@
 -- What is due of a seat, as a turn reads it, is what is due of its client.
-use Rattle.std.proofs.Common.{◌≡◌, refl, sym, ap, ap₂, ◌∙◌, ℕ, Bool, true, false, not, ◌&&◌, ◌||◌, is_some, List, [], ◌∷◌, Option, Some, None, option_map}
+use Rattle.std.proofs.Common.{◌≡◌, refl, ap, ap₂, ◌∙◌, Bool, true, false, not, ◌&&◌, ◌||◌, is_some, List, [], ◌∷◌, Option, Some, None, option_map}
 use Rattle.pp_world.specs.declared.note.Cause.{Cause}
 use Rattle.pp_world.specs.declared.note.Decision.{Decision}
 use Rattle.pp_world.specs.declared.note.Decision.TheVariants.{Refuse}
@@ -19,8 +19,8 @@ use Rattle.pp_seats.specs.Courses.{has_begun, is_trying_in}
 use Rattle.pp_seats.specs.Dues.{again_in, by_stage_in, decision_in, due_in, give_up_in, is_idle_in, is_read_in, is_refused_in, is_short_in, lost_in, may_share as may_share_in, undecided_in}
 use Rattle.pp_seats.specs.Follows.{answer_in}
 use Rattle.pp_seats.specs.Seats.{is_told_in, is_undecided_in}
-use Rattle.pp_seats_law.specs.Dues.{AreDue, DueAsReadIsTheLaws, FirstDueIsTheLaws, asked_read, cut_if_open, cut_of, cut_read, decision_read, due_as, due_read, dry_read, has_lost_its_row, has_source_standing, if_so, undecided_read, waits_on_still}
-use Rattle.pp_seats_law.specs.Seats.{ShowsOpen, ShowsSeat}
+use Rattle.pp_seats_law.specs.Dues.{AreDue, DueAsReadIsTheLaws, FirstDueIsTheLaws, asked_read, cut_of, cut_read, decision_read, due_as, has_lost_its_row, has_source_standing, if_so, undecided_read, waits_on_still}
+use Rattle.pp_seats_law.specs.Seats.{ShowsOpen}
 use Rattle.pp_seats_law.proofs.Dues.{cause_by, dues, lost, sharing}
 
 -- ---- cuts

@@ -1,5 +1,5 @@
 -- What a decision makes of a seat is what the law makes of its client (RFC 2616, sections 6, 8.2.3 and 13).
-use Rattle.std.specs.Prelude.{◌≡◌, ◌≤◌, ℕ, true, false, ◌||◌, is_some, length, List, Option}
+use Rattle.std.specs.Prelude.{◌≡◌, ◌≤◌, ℕ, Bool, true, false, ◌||◌, is_some, length, List, Option}
 use Rattle.pp_objects.specs.declared.id.ObjectId.{ObjectId}
 use Rattle.pp_reply.specs.Texts.{has_page}
 use Rattle.pp_world.specs.declared.note.Decision.{Decision}

@@ -4,6 +4,7 @@ use Rattle.std.specs.Prelude.{◌≡◌, ◌⊎◌, ℕ, Bool, true, false, ◌&
 use Rattle.pp_objects.specs.declared.id.ObjectId.{ObjectId}
 use Rattle.pp_target.specs.Key.{Key, key_in}
 use Rattle.pp_world.specs.declared.note.Cause.{Cause}
+use Rattle.pp_world.specs.declared.note.Decision.{Decision}
 use Rattle.pp_world.specs.declared.note.Decision.TheVariants.{Refuse}
 use Rattle.pp_law.specs.Decisions.{begun_now, decide, decide_for}
 use Rattle.pp_law.specs.Due.{Due, Decide, CutOff, cut_in, due_by_stage, due_of, first_due, has_lost_row, is_superseded, still_waits}

@@ -24,5 +24,5 @@ returns-in-Ok-Demo-clause-told g c =
 
 pub returns-in-Err-clause-words : goal.returns-in-Err-clause-words
 returns-in-Err-clause-words g c =
-    subst (λ (e : Exit). JudgesWords (map string_bytes c.args.words.now) e) (sym c.refuse-in-Err.ensures.exit)
+    subst (λ (e : Exit). JudgesWords (map string_bytes c.args.words.now) e) (sym c.refuse.ensures.exit)
     (fault_judges (map string_bytes c.args.words.now) (shown_text c.args.text) c.in-Err.fault c.in-Err.ensures)
