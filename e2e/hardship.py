@@ -61,10 +61,12 @@ def started_with_less_memory_it_serves_or_ends_with_a_line(world):
         for number in range(300):
             put_entry(proxy, f"/{number}", b"hello")
         proxy.start()
-        whole = held_by(proxy, "VmSize") // 1024
+        whole, asked_for = held_by(proxy, "VmSize") // 1024, held_by(proxy) // 1024
         proxy.stop()
         ends = serves = 0
-        limits = [f"ulimit -v {kilobytes}" for kilobytes in [*range(3_000, whole, 4_000), *range(whole - 200, whole + 600, 100)]]
+        # Close to what it holds, its stack is not counted: `ulimit -v` does, and the system ends a program whose stack may not grow.
+        limits = [f"ulimit -v {kilobytes}" for kilobytes in range(3_000, whole - 1_000, 4_000)]
+        limits += [f"ulimit -d {kilobytes}" for kilobytes in range(asked_for - 200, asked_for + 600, 100)]
         for limit in itertools.dropwhile(lambda limit: not is_loaded(proxy, limit), limits):
             if proxy.launch(limit):
                 equal((proxy.process.returncode, proxy.printed()), NO_MEMORY, f"the end behind {limit}")

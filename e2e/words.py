@@ -21,7 +21,7 @@ ENDS = [
     (["-c", "f", "-c", "f"], b"", 2, USAGE),
     (["-c"], b"", 2, USAGE),
     (["-g", "x"], b"", 2, USAGE),
-    (["-g", "01"], b"", 2, USAGE),
+    (["-g", "+1"], b"", 2, USAGE),
     (["-g", "7", "proxyPort=1"], b"", 2, USAGE),
     (["--help"], b"", 2, USAGE),
     ([""], b"", 2, USAGE),
