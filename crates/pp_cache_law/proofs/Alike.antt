@@ -1,19 +1,20 @@
 -- What is read of the cache is what the law reads.
-use Rattle.std.proofs.Common.{◌≡◌, refl, sym, ap, ◌∙◌, ℕ, Bool, true, false, not, ◌==◌, ◌&&◌, ◌||◌, ◌/◌, ◌%◌, cond, find, List, [], ◌∷◌, length, map, filter, Option, Some, None}
-use Rattle.std.specs.Prelude.{bytes_eq, nat_le, nat_lt, option_map, ⊤}
+use Rattle.std.proofs.Common.{◌≡◌, refl, sym, subst, ap, ◌∙◌, ℕ, Bool, true, false, not, ◌==◌, ◌&&◌, ◌||◌, ◌/◌, ◌%◌, cond, find, List, [], ◌∷◌, length, map, filter, Option, Some, None, arith}
+use Rattle.std.specs.Prelude.{bytes_eq, count_by, nat_le, nat_lt, option_map, ⊤}
 use Rattle.std.specs.List.{list_any}
 use Rattle.pp_cache.specs.Memory.{Memory, all_used, extent_of as bytes_kept, is_in_memory, is_row_in, stands, used_of as as_used}
+use Rattle.pp_evict.specs.Victims.{victim_in}
 use Rattle.pp_holes.specs.Places.{Chunk, bytes_at, first_bytes, is_at}
-use Rattle.pp_law.specs.Chunks.{chunk_bytes, filled, floor, is_chunk, used_of}
+use Rattle.pp_law.specs.Chunks.{chunk_bytes, filled, floor, is_chunk, used_of, victim}
 use Rattle.pp_law.specs.Lists.{Bytes}
-use Rattle.pp_law.specs.State.{State, Instance as Known, Chunk as Front}
-use Rattle.pp_law.specs.Table.{extent_of, follows, instance, is_bound_to, is_followed, is_idle_row, is_instance, is_row_of as is_known_row, row, rows}
+use Rattle.pp_law.specs.State.{State, Instance as Known, Chunk as Front, Client, Exchange}
+use Rattle.pp_law.specs.Table.{extent_of, follows, idle_row, instance, is_bound_to, is_followed, is_held, is_idle_row, is_instance, is_row_of as is_known_row, row, rows}
 use Rattle.pp_objects.specs.Instances.{Instance, id_of, in_slot, is_idle, is_in_slot, is_life, is_row, is_row_of, is_same_id, is_there, row_of}
 use Rattle.pp_objects.specs.declared.id.ObjectId.{ObjectId}
 use Rattle.pp_pool.specs.Chunks.{Used, is_pinned, oldest_in, place_of}
 use Rattle.pp_valid.specs.declared.version.Version.{Version}
 use Rattle.pp_cache_law.specs.Pairs.{AreAll, AreBoth}
-use Rattle.pp_cache_law.specs.Reads.{BytesAreTheLaws, ExtentsAreTheLaws, GonePinsAreNone, HeldIsTheLaws, IdleRowsAreTheLaws, InstancesAreTheLaws, IsFound, IsSamePlace, PinsAreTheLaws, RetiredIsTheLaws, RoomIsTheLaws, RowsAreTheLaws, UsedIsTheLaws, VersionsAreTheLaws, VictimsAreTheLaws}
+use Rattle.pp_cache_law.specs.Reads.{AreBusy, ArePinned, BytesAreTheLaws, ExtentsAreTheLaws, GonePinsAreNone, HeldIsTheLaws, IdleRowsAreTheLaws, InstancesAreTheLaws, IsFound, IsSamePlace, PinsAreTheLaws, RetiredIsTheLaws, RoomIsTheLaws, RowsAreTheLaws, UsedIsTheLaws, VersionsAreTheLaws, VictimsAreTheLaws}
 use Rattle.pp_cache_law.specs.Tables.{ShowsChunk, ShowsInstance, ShowsTable, number_in}
 use Rattle.pp_cache_law.proofs.Numbers.{chunks_alike, instances_alike, is_same, number_of_there, some_is}
 use Rattle.pp_cache_law.proofs.PairLemmas.{counted, found, lengths_same, mapped, none_of}
@@ -203,7 +204,6 @@ victims_of number m s shows pins others alike =
   where
     same : AreAll (IsSameUse number m pins others) (all_used m.chunks) (map used_of s.chunks)
     same = mapped (ShowsChunk number m) (IsSameUse number m pins others) as_used used_of m.chunks s.chunks (λ c d one. record { owner = one.owner; index = one.index; pinned = alike c d one }) shows.chunks
-
     oldest : AreBoth (IsSameUse number m pins others) (oldest_in pins (all_used m.chunks)) (oldest_in others (map used_of s.chunks))
     oldest =
         found (IsSameUse number m pins others) (IsSameUse number m pins others) (λ u. not (is_pinned pins u)) (λ v. not (is_pinned others v)) (all_used m.chunks) (map used_of s.chunks)

@@ -1,3 +1,11 @@
 pub mod Alike
+pub mod Finds
+pub mod Leaving
+pub mod Making
+pub mod Moves
 pub mod Numbers
 pub mod PairLemmas
+pub mod Renewing
+pub mod Retiring
+pub mod Sweeping
+pub mod Touching

@@ -1,12 +1,12 @@
 -- An instance and a chunk are found by the number of their instance as they are by its slot.
-use Rattle.std.proofs.Common.{◌≡◌, refl, sym, ap, ◌∙◌, ℕ, Bool, true, false, ◌==◌, ◌&&◌, List, Option, Some, None, option_map, arith}
+use Rattle.std.proofs.Common.{◌≡◌, refl, sym, subst, ap, ◌∙◌, ℕ, Bool, true, false, ◌==◌, ◌&&◌, cond, List, [], ◌∷◌, Option, Some, None, option_map, arith}
 use Rattle.std.proofs.lemmas.Bool.Decides.{nat_tests}
 use Rattle.pp_cache.specs.Memory.{Memory}
 use Rattle.pp_holes.specs.Places.{Chunk, is_at}
 use Rattle.pp_law.specs.Chunks.{is_chunk}
 use Rattle.pp_law.specs.State.{State, Instance as Known, Chunk as Front}
 use Rattle.pp_law.specs.Table.{is_instance}
-use Rattle.pp_objects.specs.Instances.{Instance, in_slot, is_in_slot, is_life, is_there}
+use Rattle.pp_objects.specs.Instances.{Instance, id_of, in_slot, is_in_slot, is_life, is_there}
 use Rattle.pp_objects.specs.declared.id.ObjectId.{ObjectId}
 use Rattle.pp_cache_law.specs.Tables.{ShowsChunk, ShowsInstance, number_in}
 
@@ -41,7 +41,6 @@ slots_as_numbers number is a b p q apart at by = tests_same a b p q to back
   where
     to : a ≡ b → p ≡ q
     to e = some_is p q (sym at ∙ ap (λ (slot : ℕ). number_in number slot is) e ∙ by)
-
     back : p ≡ q → a ≡ b
     back e = apart a b q (at ∙ ap (λ (n : ℕ). Some n) e) by
 

@@ -1,3 +1,6 @@
+pub mod Changes
 pub mod Pairs
 pub mod Reads
+pub mod Settles
 pub mod Tables
+pub mod Uses

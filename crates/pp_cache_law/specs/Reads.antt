@@ -1,5 +1,5 @@
 -- What is read of the cache is what the law reads of its table.
-use Rattle.std.specs.Prelude.{◌≡◌, ℕ, true, not, ◌&&◌, ◌||◌, nat_lt, List, ◌∷◌, length, Some, None, option_map, count_by}
+use Rattle.std.specs.Prelude.{◌≡◌, ℕ, true, not, ◌&&◌, ◌||◌, nat_lt, List, ◌∷◌, length, Option, Some, None, option_map, count_by}
 use Rattle.std.specs.List.{find, list_any}
 use Rattle.pp_cache.specs.Memory.{Memory, all_used, extent_of as bytes_kept, is_in_memory, stands, used_of as as_used}
 use Rattle.pp_evict.specs.Victims.{victim_in}

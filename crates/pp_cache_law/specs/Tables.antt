@@ -1,6 +1,6 @@
--- How the cache of the program stands for the table of the law: what is known of each key, and the chunks that are in memory,
--- each in the order of use.
-use Rattle.std.specs.Prelude.{◌≡◌, ◌<◌, ◌≤◌, ℕ, false, List, Option, Some, option_map, count_by, slice_get}
+-- How the cache of the program stands for the table of the law: what is known of each key, and the chunks that are in memory, each in
+-- the order of use.
+use Rattle.std.specs.Prelude.{◌≡◌, ◌<◌, ◌≤◌, ℕ, true, false, ◌==◌, List, Option, Some, option_map, count_by, slice_get}
 use Rattle.pp_cache.specs.Memory.{Memory, extent_of as bytes_kept}
 use Rattle.pp_cache.specs.OnDisk.{bytes_of}
 use Rattle.pp_holes.specs.Places.{Chunk, is_at}
@@ -17,8 +17,8 @@ use Rattle.pp_cache_law.specs.Pairs.{AreAll}
 abbrev pub number_in : (ℕ → ℕ) → ℕ → List Instance → Option ℕ
 number_in number slot is = option_map (λ i. number i.life) (in_slot slot is)
 
--- an instance, alone in its slot. That it came in this turn is no part of it, but of the turn, and which of its chunks are in
--- memory is told by these
+-- an instance, alone in its slot. That it came in this turn is no part of it, but of the turn, and which of its chunks are in memory
+-- is told by these
 pub record ShowsInstance (number : ℕ → ℕ) (m : Memory) (s : State) (i : Instance) (x : Known) : Type 0 where
   pub there : in_slot i.slot m.instances ≡ Some i
   pub id : number i.life ≡ x.id
@@ -51,3 +51,7 @@ pub record ShowsTable (number : ℕ → ℕ) (m : Memory) (s : State) : Type 0 w
 -- of all caches that show a table
 abbrev pub OfTables : ((ℕ → ℕ) → Memory → State → Type 0) → Type 0
 OfTables P = (number : ℕ → ℕ) (m : Memory) (s : State) → ShowsTable number m s → P number m s
+
+-- one that is retired is there for a client that follows it
+abbrev pub AreFollowed : List Instance → Type 0
+AreFollowed is = (slot : ℕ) (i : Instance) → in_slot slot is ≡ Some i → i.is_retired ≡ true → (i.followers == 0) ≡ false
