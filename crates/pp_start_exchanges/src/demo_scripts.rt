@@ -5,6 +5,7 @@ use std::test::Fail;
 
 /// Of a life: its seed and number, when its clock begins, what the clients of these numbers say, where `~` ends a line, and how it
 /// crashes.
+#[derive(Drop)]
 struct Life {
     seed: u64,
     life: u32,
