@@ -190,7 +190,7 @@ const LIMITS: Limits = Limits {
 /// Adds a connection to the host `h`, where there is room and the number is new, and asks there so many times.
 fn join(peers: &mut Peers, number: u64, asks: usize) {
     if peers.len() < PEERS && !peers.has(number) {
-        peers.add(number, b"h", 80);
+        peers.add(number, b"h", 80, 0);
     }
     if let Some(pipe) = peers.pipe(number) {
         ask(pipe, asks);

@@ -3,7 +3,7 @@ use Rattle.std.proofs.Common.{◌≡◌, ◌<◌, ◌≤◌, ◌+◌, ◌==◌, 
 use Rattle.std.specs.List.{find, remove}
 use Rattle.std.proofs.lemmas.List.{drop_all}
 use Rattle.pp_pipe.specs.Line.{Line}
-use Rattle.pp_peers.specs.Peers.{is_number, place_in, with_pipe, without}
+use Rattle.pp_peers.specs.Peers.{is_number, place_in, with_peer, with_pipe, without}
 use Rattle.pp_peers.specs.declared.peers.Peer.{Peer}
 
 next : (ps : List Peer) (i : ℕ) (p : Peer) → i < length ps → p ≡ get_or ps i p → drop i ps ≡ p ∷ drop (i + 1) ps
@@ -48,6 +48,25 @@ set_at number (q ∷ ps) i p line at within is =
         → set (q ∷ ps) i (record p { pipe = line }) ≡ with_pipe number line (q ∷ ps)
     by true e below = set_first q p ps line i (first number q ps i at e) is ∙ sym (ap (λ b. cond b ((record q { pipe = line }) ∷ ps) (q ∷ with_pipe number line ps)) e)
     by false e below = below e ∙ sym (ap (λ b. cond b ((record q { pipe = line }) ∷ ps) (q ∷ with_pipe number line ps)) e)
+
+-- ---- it changes itself
+
+peer_set_first : (q r : Peer) (ps : List Peer) (i : ℕ) → i ≡ 0 → set (q ∷ ps) i r ≡ r ∷ ps
+peer_set_first q r ps zero at = refl
+peer_set_first q r ps (suc i) at = absurd (omega (arith, at))
+
+peer_set_later : (number : ℕ) (q r : Peer) (ps : List Peer) (i : ℕ) → ((j : ℕ) → j ≡ place_in number ps → j < length ps → set ps j r ≡ with_peer number r ps)
+    → i ≡ place_in number ps + 1 → i < length (q ∷ ps) → set (q ∷ ps) i r ≡ q ∷ with_peer number r ps
+peer_set_later number q r ps zero below at within = absurd (omega (arith, at))
+peer_set_later number q r ps (suc i) below at within = ap (λ (rs : List Peer). q ∷ rs) (below i (omega (arith, at)) (omega (arith, within)))
+
+pub peer_set_at : (number : ℕ) (ps : List Peer) (i : ℕ) (r : Peer) → i ≡ place_in number ps → i < length ps → set ps i r ≡ with_peer number r ps
+peer_set_at number [] i r at within = absurd (omega (arith, within))
+peer_set_at number (q ∷ ps) i r at within = by (is_number number q) refl (λ e. peer_set_later number q r ps i (λ j a w. peer_set_at number ps j r a w) (later number q ps i at e) within)
+  where
+    by : (v : Bool) → is_number number q ≡ v → (is_number number q ≡ false → set (q ∷ ps) i r ≡ q ∷ with_peer number r ps) → set (q ∷ ps) i r ≡ with_peer number r (q ∷ ps)
+    by true e below = peer_set_first q r ps i (first number q ps i at e) ∙ sym (ap (λ b. cond b (r ∷ ps) (q ∷ with_peer number r ps)) e)
+    by false e below = below e ∙ sym (ap (λ b. cond b (r ∷ ps) (q ∷ with_peer number r ps)) e)
 
 -- what is left of a loan, at each value of what was lent
 pub same_lent : {N A B C : Type 0} (name : N) (f g : A → B) → ((a : A) → f a ≡ g a) → ◌≡◌ {A = (N × (A → B)) ⊎ C} (inl (name, f)) (inl (name, g))

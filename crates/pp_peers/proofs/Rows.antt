@@ -22,7 +22,7 @@ abbrev nothing : Carried
 nothing = (0, 0, false)
 
 abbrev peer_of : ℕ → List ℕ → Carried → Peer
-peer_of number host c = record (unused number host 80) {
+peer_of number host c = record (unused number host 80 0) {
   pipe = record (started number) { asks = replicate c.0 (ask 0) ++ replicate c.1 (ask 3); may_pipeline = c.2 };
 }
 
@@ -200,6 +200,6 @@ a_pipe_is_that_of_its_connection = refl
 
 a_load_is_what_the_pipe_tells : Rows load_of (
     (on 2 (1, 1, true), record { asks = 2; outstanding = 1; may_pipeline = true })
-    ∷ (unused 3 h 80, record { asks = 0; outstanding = 0; may_pipeline = false })
+    ∷ (unused 3 h 80 0, record { asks = 0; outstanding = 0; may_pipeline = false })
     ∷ [])
 a_load_is_what_the_pipe_tells = refl

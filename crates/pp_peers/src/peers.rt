@@ -1,9 +1,9 @@
 // The connections that are there.
 ghost use Rattle.std.specs.Borrow.{sem};
-ghost use Rattle.std.specs.Prelude.{◌≡◌, ◌≤◌, ◌<◌, ◌++◌, ◌∷◌, [], length, map, option_map, false, IfOk};
+ghost use Rattle.std.specs.Prelude.{◌≡◌, ◌≤◌, ◌<◌, ◌+◌, ◌++◌, ◌∷◌, [], length, map, filter, option_map, slice_get, true, false, IfOk};
 ghost use Rattle.std.specs.List.{find, list_any};
-ghost use Rattle.pp_peers.specs.Lending.{LendsPipe};
-ghost use Rattle.pp_peers.specs.Peers.{is_number, load_of as load_in, place_in, unused, with_load, without};
+ghost use Rattle.pp_peers.specs.Lending.{LendsPeer, LendsPeerAt, LendsPipe};
+ghost use Rattle.pp_peers.specs.Peers.{first_over, goes_on, is_number, load_of as load_in, place_in, unused, with_load, without};
 ghost use Rattle.pp_peers.specs.Placing.{place};
 
 use crate::placing::{Limits, Placed, place_among};
@@ -32,15 +32,26 @@ pub struct Load {
 
 /// A connection to an origin.
 #[derive(Drop)]
-pub(crate) struct Peer {
-    pub(crate) number: u64,
+pub struct Peer {
+    pub number: u64,
     /// In lower case.
-    pub(crate) host: ArrayVec<u8, HOST_ROOM>,
-    pub(crate) port: u16,
-    pub(crate) pipe: Pipe,
+    pub host: ArrayVec<u8, HOST_ROOM>,
+    pub port: u16,
+    pub pipe: Pipe,
+    pub is_reached: bool,
+    /// A whole final response came.
+    pub has_brought: bool,
+    /// Whether it goes on behind the response that comes.
+    pub stays: bool,
+    /// Its cause to be closed has come, and it counts as closed.
+    pub is_closing: bool,
+    /// For its idle time.
+    pub mark: u64,
+    /// It stood in the wants, or was not reached, at the last wait.
+    pub has_waited: bool,
 }
 
-/// The connections that are there, in the order in which they were added.
+/// The connections that are there, in the order in which they were dialled. One that is closing is there until it is closed.
 #[derive(Drop)]
 pub struct Peers {
     peers: Vec<Peer>,
@@ -83,19 +94,20 @@ impl Peers {
 
     /// Where the next ask for this host and port goes. An ask that goes `alone` has a connection for
     /// itself, a new one: its method is not known to be safe to repeat, or it has a body (RFC 2616,
-    /// section 8.1.2.2), or it authenticates its connection (RFC 4559, section 6).
+    /// section 8.1.2.2), or it authenticates its connection (RFC 4559, section 6). Asks are placed behind all closings,
+    /// when none of the connections is closing.
     pub fn place(&self, limits: Limits, host: &[u8], port: u16, alone: bool) -> Placed
         ensures { result ≡ place limits host.now port alone (map with_load self.now) }
     {
         place_among(&self.peers, limits, host, port, alone)
     }
 
-    /// A connection with this number was dialled, to this host and port: nothing was asked there.
-    pub fn add(&mut self, number: u64, host: &[u8], port: u16)
+    /// A connection with this number was dialled in this second, to this host and port: nothing was asked there.
+    pub fn add(&mut self, number: u64, host: &[u8], port: u16, now: u64)
         requires few { length self.old < 64 }
         requires short { length host.now ≤ 255 }
         requires new { list_any (is_number number) self.old ≡ false }
-        ensures { self.new ≡ self.old ++ unused number host.now port ∷ [] }
+        ensures { self.new ≡ self.old ++ unused number host.now port now ∷ [] }
     {
         let mut name = ArrayVec::new();
         let _ = name.try_extend_from_slice(host);
@@ -106,6 +118,12 @@ impl Peers {
             host: name,
             port,
             pipe,
+            is_reached: false,
+            has_brought: false,
+            stays: false,
+            is_closing: false,
+            mark: now,
+            has_waited: false,
         });
     }
 
@@ -126,6 +144,72 @@ impl Peers {
             let Peer { pipe, .. } = self.peers.remove(index);
             self.spare.push_reserved(pipe);
         }
+    }
+
+    /// Those that are closing are gone; at the end all are.
+    pub fn drop_closing(&mut self, is_end: bool)
+        ensures { self.new ≡ filter (goes_on is_end) self.old }
+    {
+        for _peer in 0..self.peers.len() {
+            if !self.drop_first(is_end) {
+                break;
+            }
+        }
+    }
+
+    /// The first of them is gone. Whether there was one.
+    #[tactic(auto, using(crate::proofs::Dropping::dropped, crate::proofs::Dropping::none_dropped))]
+    fn drop_first(&mut self, is_end: bool) -> bool
+        ensures left { filter (goes_on is_end) self.new ≡ filter (goes_on is_end) self.old }
+        ensures fewer { result ≡ true → length self.new + 1 ≡ length self.old }
+        ensures none { result ≡ false → filter (goes_on is_end) self.old ≡ self.new }
+    {
+        let index = first_over(&self.peers, is_end);
+        if index < self.peers.len() {
+            let Peer { pipe, .. } = self.peers.remove(index);
+            self.spare.push_reserved(pipe);
+            true
+        } else {
+            false
+        }
+    }
+
+    /// All that are there.
+    pub fn as_slice(&self) -> &[Peer]
+        ensures { result.now ≡ self.now }
+    {
+        self.peers.as_slice()
+    }
+
+    /// The connection with this number. `None` exactly where it is not there.
+    pub fn get(&self, number: u64) -> Option<&Peer>
+        ensures { option_map (λ p. p.now) result ≡ find (is_number number) self.now }
+    {
+        for peer in &self.peers {
+            if peer.number == number {
+                return Some(peer);
+            }
+        }
+        None
+    }
+
+    /// The same, lent.
+    #[tactic(auto, using(crate::proofs::Finding::none_found))]
+    pub fn get_mut(&mut self, number: u64) -> Option<&mut Peer>
+        ensures* writes_back { sem 𝓛 (LendsPeer self.entry number result) }
+        ensures value { option_map (λ p. p.now) result ≡ find (is_number number) self.old }
+    {
+        let index = place_of(&self.peers, number);
+        let peer = self.peers.get_mut(index)?;
+        Some(peer)
+    }
+
+    /// The connection that stands there, lent.
+    pub fn at_mut(&mut self, place: usize) -> Option<&mut Peer>
+        ensures* writes_back { sem 𝓛 (LendsPeerAt self.entry place result) }
+        ensures value { option_map (λ p. p.now) result ≡ slice_get self.old place }
+    {
+        self.peers.get_mut(place)
     }
 
     /// What the connection with this number carries. `None` exactly where it is not there.
@@ -171,6 +255,21 @@ fn place_of(peers: &[Peer], number: u64) -> usize
     let mut place = 0;
     for peer in peers {
         if peer.number == number {
+            return place;
+        }
+        place += 1;
+    }
+    place
+}
+
+/// Where the first stands that does not go on; behind the last where all do.
+#[tactic(auto, using(crate::proofs::Dropping::found, crate::proofs::Dropping::passed, crate::proofs::Dropping::not_found))]
+fn first_over(peers: &[Peer], is_end: bool) -> usize
+    ensures { result ≡ first_over is_end peers.now }
+{
+    let mut place = 0;
+    for peer in peers {
+        if is_end || peer.is_closing {
             return place;
         }
         place += 1;
