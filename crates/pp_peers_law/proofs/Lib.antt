@@ -1,0 +1,4 @@
+mod Asks
+mod Finds
+mod LineEnds
+mod Loads

@@ -1,0 +1,4 @@
+pub mod Asked
+pub mod Lines
+pub mod Peers
+pub mod Places
