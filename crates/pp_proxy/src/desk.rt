@@ -6,7 +6,6 @@ ghost use Rattle.pp_proxy.specs.Anything.{anything};
 ghost use Rattle.pp_store.specs.Held.{Holds};
 ghost use Rattle.pp_world.specs.Log.{Told};
 
-use crate::origin::Origin;
 use pp_client::Room;
 use pp_links::Links;
 use pp_peers::Peers;
@@ -27,8 +26,8 @@ const ROUNDS: u32 = 65_536;
 #[derive(Drop)]
 pub(crate) struct Desk {
     pub(crate) state: State,
+    /// The connections to origins, in the order in which they were dialled.
     pub(crate) peers: Peers,
-    pub(crate) origins: Vec<Origin>,
     /// What is read.
     pub(crate) buffer: Vec<u8>,
     /// The data of a response in what was read.

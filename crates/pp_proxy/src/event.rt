@@ -8,9 +8,9 @@ ghost use Rattle.pp_store.specs.Held.{Holds};
 ghost use Rattle.pp_world.specs.Log.{Told};
 
 use crate::desk::Desk;
-use crate::origin::Origin;
 use pp_client::Client;
 use pp_links::Links;
+use pp_peers::Peer;
 use pp_seats::{Account, Seat};
 use pp_shelf::Shelf;
 use pp_world::{Event, Source, World};
@@ -70,8 +70,8 @@ impl Desk {
             }
             Event::Reached(k) => {
                 self.touch(k);
-                if let Some(origin) = self.origin_mut(k) {
-                    origin.is_reached = true;
+                if let Some(peer) = self.peers.get_mut(k) {
+                    peer.is_reached = true;
                 }
             }
             Event::Broken(k) => self.gone(links, world, k, false),
@@ -103,8 +103,8 @@ impl Desk {
                 seat.client.set_mark(now);
             }
         }
-        if let Some(origin) = self.origin_mut(id) {
-            origin.mark = now;
+        if let Some(peer) = self.peers.get_mut(id) {
+            peer.mark = now;
         }
     }
 
@@ -121,7 +121,7 @@ impl Desk {
         self.state.is_ticked = true;
         self.state.wake();
         self.state.has_lost_draft = false;
-        for _origin in 0..self.origins.len() {
+        for _peer in 0..self.peers.len() {
             let Some(k) = self.idle_origin() else {
                 break;
             };
@@ -140,25 +140,30 @@ impl Desk {
         for seat in self.state.seats.iter_mut() {
             seat.client.set_mark(now);
         }
-        for origin in self.origins.iter_mut() {
-            origin.mark = now;
+        for place in 0..self.peers.len() {
+            let Some(peer) = self.peers.at_mut(place) else {
+                break;
+            };
+            peer.mark = now;
         }
     }
 
     /// One that is idle, and not given up yet.
     fn idle_origin(&self) -> Option<u64> {
-        let idle = self.origins.iter().find(|origin| self.is_idle(origin))?;
+        let idle = self
+            .peers
+            .as_slice()
+            .iter()
+            .find(|peer| self.is_idle(peer))?;
         Some(idle.number)
     }
 
-    fn is_idle(&self, origin: &Origin) -> bool {
-        let patience = match self.state.owed_answer(origin.number) {
+    fn is_idle(&self, peer: &Peer) -> bool {
+        let patience = match self.state.owed_answer(peer.number) {
             None => IDLE_SECONDS,
             Some(_) => ANSWER_SECONDS,
         };
-        origin.has_waited
-            && patience <= self.state.now.saturating_sub(origin.mark)
-            && !origin.is_closing
+        peer.has_waited && patience <= self.state.now.saturating_sub(peer.mark) && !peer.is_closing
     }
 
     /// What the origin did not answer is not asked again.

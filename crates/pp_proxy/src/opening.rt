@@ -6,7 +6,7 @@ use pp_cache::{Cache, Noted};
 use pp_client::Room;
 use pp_conf::Conf;
 use pp_flow::{EXCHANGES, Flow};
-use pp_peers::{Limits, PEERS, Peers};
+use pp_peers::{Limits, Peers};
 use pp_steps::State;
 use pp_text::OutOfMemory;
 use pp_world::AccessLog;
@@ -19,7 +19,6 @@ impl Desk {
         Ok(Desk {
             state,
             peers: Peers::new(alloc)?,
-            origins: Vec::with_capacity(alloc, PEERS)?,
             buffer: vec![in alloc; 0; READ_LEN]?,
             data: Vec::with_capacity(alloc, READ_LEN)?,
             room: Box::new(alloc, Room::new()).map_err(AllocError::from)?,

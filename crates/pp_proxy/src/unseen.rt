@@ -4,9 +4,9 @@ use crate::desk::Desk;
 
 impl Desk {
     pub(crate) fn drop_unseen(&mut self) {
-        for place in 0..self.origins.len() {
-            if let Some(origin) = self.origins.get(place) {
-                let k = origin.number;
+        for place in 0..self.peers.len() {
+            if let Some(peer) = self.peers.as_slice().get(place) {
+                let k = peer.number;
                 if let Some(number) = self.state.unseen_on(k) {
                     self.state.end(number);
                     self.close_origin(k, false);
