@@ -63,6 +63,12 @@ first-find n (e ∷ es) zero d first = ap (λ b. cond b (Some e) (find (is_numbe
 first-find n (e ∷ es) (suc i) d first =
     ap (λ b. cond b (Some e) (find (is_number n) es)) (not-yet n e es i first) ∙ first-find n es i d (later n e es i first)
 
+pub first-any : (n : ℕ) (es : List Entry) (i : ℕ) → IsFirst n es i → list_any (is_number n) es ≡ true
+first-any n [] i first = absurd (omega (arith, first.within))
+first-any n (e ∷ es) zero first = ap (λ b. b || list_any (is_number n) es) (first.here e)
+first-any n (e ∷ es) (suc i) first =
+    ap (λ b. b || list_any (is_number n) es) (not-yet n e es i first) ∙ first-any n es i (later n e es i first)
+
 pub entries-remove : (bs : List (Box Entry)) (i : ℕ) → entries (remove bs i) ≡ remove (entries bs) i
 entries-remove [] zero = refl
 entries-remove [] (suc i) = refl

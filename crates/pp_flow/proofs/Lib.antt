@@ -2,3 +2,4 @@ pub mod Bringing
 pub mod Collecting
 pub mod Entering
 pub mod First
+pub mod Lent

@@ -1,8 +1,9 @@
 -- What becomes of the exchanges in each call.
 use Rattle.std.specs.Prelude.{ℕ, suc, Bool, true, false, ◌==◌, nat_lt, if◌then◌else◌, List, [], ◌∷◌, ◌++◌, map, filter, Option, Some, None}
-use Rattle.std.specs.List.{find}
+use Rattle.std.specs.List.{find, list_any}
 use Rattle.pp_flow.specs.declared.entry.Entry.{Entry}
-use Rattle.pp_flow.specs.Entries.{is_number, with_place}
+use Rattle.pp_flow.specs.declared.errand.Errand.{Errand}
+use Rattle.pp_flow.specs.Entries.{asking, is_number, with_place}
 
 -- those without a place, in the order of their beginnings; those with one, in the order in which they got it; and how
 -- many were begun
@@ -39,6 +40,12 @@ first_of (Some entry) other = Some entry
 
 abbrev pub entry_of : ℕ → Exchanges → Option Entry
 entry_of number f = first_of (find (is_number number) f.waiting) (find (is_number number) f.placed)
+
+-- what it asks is now this
+abbrev pub with_errand : ℕ → Errand → Exchanges → Exchanges
+with_errand number errand f = if list_any (is_number number) f.waiting
+    then record f { waiting = changed number (asking errand) f.waiting }
+    else record f { placed = changed number (asking errand) f.placed }
 
 -- it gets a place, as the last of the line
 abbrev pub placed_on : ℕ → ℕ → Exchanges → Exchanges

@@ -3,6 +3,7 @@ use Rattle.std.specs.Prelude.{ℕ, ◌+◌, ◌-◌, ◌≤◌, Bool, true, fals
 use Rattle.pp_objects.specs.declared.id.ObjectId.{ObjectId}
 use Rattle.pp_flow.specs.declared.entry.Aim.{Aim}
 use Rattle.pp_flow.specs.declared.entry.Entry.{Entry}
+use Rattle.pp_flow.specs.declared.errand.Errand.{Errand}
 
 -- the instance that the body belongs to, the half-open span that is still to come, and whether all of it is waited for, however
 -- far ahead
@@ -13,8 +14,8 @@ abbrev pub is_number : ℕ → Entry → Bool
 is_number number entry = entry.exchange.number == number
 
 -- it waits for a place
-abbrev pub begun_with : ℕ → ℕ → List ℕ → Aim → Entry
-begun_with number client key aim = record {
+abbrev pub begun_with : ℕ → ℕ → List ℕ → Aim → Errand → Entry
+begun_with number client key aim errand = record {
   exchange = record {
     number = number;
     asker = Some client;
@@ -23,6 +24,7 @@ begun_with number client key aim = record {
     headed = false;
     bound = None;
   };
+  errand = errand;
   key = record { items = key };
 }
 
@@ -60,6 +62,10 @@ left_of (Some span) = if nat_le span.1 span.2 then Some (span.2 - span.1) else N
 
 abbrev pub to_come : Entry → Option ℕ
 to_come entry = left_of entry.exchange.bound
+
+-- it asks this, and so much of it was asked
+abbrev pub asking : Errand → Entry → Entry
+asking errand entry = record entry { errand = errand }
 
 -- so many bytes of it are still to come
 abbrev pub IsInSpan : ℕ → Option Span → Type 0

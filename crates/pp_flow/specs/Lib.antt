@@ -2,4 +2,6 @@ pub mod Brings
 pub mod Changes
 pub mod Coming
 pub mod Entries
+pub mod Errands
 pub mod Inside
+pub mod Lending

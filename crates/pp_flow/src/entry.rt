@@ -1,7 +1,8 @@
-// An exchange and its key.
+// An exchange, what it asks, and its key.
 ghost use Rattle.std.specs.Prelude.{◌≡◌, ◌≤◌, length};
 ghost use Rattle.pp_flow.specs.Entries.{begun_with, bound_to, moved, moved_by, nobodys, to_come, with_place, IsInSpan, IsToCome};
 
+use crate::errand::Errand;
 use arrayvec::ArrayVec;
 use pp_objects::ObjectId;
 use pp_valid::Version;
@@ -37,10 +38,12 @@ pub struct Exchange {
     pub bound: Option<(ObjectId, u64, u64, bool)>,
 }
 
+/// An exchange with what it asks, and the key that it asks for.
 #[derive(Drop)]
-pub(crate) struct Entry {
-    pub(crate) exchange: Exchange,
-    pub(crate) key: ArrayVec<u8, KEY_ROOM>,
+pub struct Entry {
+    pub exchange: Exchange,
+    pub errand: Errand,
+    pub key: ArrayVec<u8, KEY_ROOM>,
 }
 
 impl Entry {
@@ -55,14 +58,15 @@ impl Entry {
                 headed: false,
                 bound: None,
             },
+            errand: Errand::empty(),
             key: ArrayVec::new(),
         }
     }
 
     /// An exchange begins here.
-    pub(crate) fn begin(&mut self, number: u64, client: u64, key: &[u8], aim: Aim)
+    pub(crate) fn begin(&mut self, number: u64, client: u64, key: &[u8], aim: Aim, errand: &Errand)
         requires { length key.now ≤ 8192 }
-        ensures { self.new ≡ begun_with number client key.now aim }
+        ensures { self.new ≡ begun_with number client key.now aim errand.now }
     {
         self.exchange = Exchange {
             number,
@@ -72,6 +76,7 @@ impl Entry {
             headed: false,
             bound: None,
         };
+        self.errand = *errand;
         self.key.clear();
         let _ = self.key.try_extend_from_slice(key);
     }

@@ -1,16 +1,20 @@
 // The exchanges that are there.
+ghost use Rattle.std.specs.Borrow.{sem};
 ghost use Rattle.std.specs.Prelude.{◌≡◌, ◌+◌, ◌<◌, ◌≤◌, ◌++◌, ◌∷◌, [], length, option_map, option_copied, slice_get, true, is_some, option_and_then, vec_capacity, ◌↔◌, ℕ, IfOk, IsSomeAnd, IsTrue};
 ghost use Rattle.std.specs.List.{find, list_any};
 ghost use Rattle.pp_objects.specs.Instances.{in_slot, is_there};
 ghost use Rattle.pp_flow.specs.Brings.{IsBrought, covers};
 ghost use Rattle.pp_flow.specs.Coming.{coming, target_of};
 ghost use Rattle.pp_flow.specs.Entries.{begun_with, bound_to, is_asked_by, is_number, moved_by, nobodys, to_come};
+ghost use Rattle.pp_flow.specs.Lending.{LendsErrand};
 ghost use Rattle.pp_flow.specs.Changes.{changed, entry_of, first_of, is_after, line_of, placed_on, unplaced, without};
 
 use crate::coming::{Wanted, collect, write_spans};
 use crate::entry::{Aim, Entry, Exchange};
+use crate::errand::Errand;
 use crate::lists::{
-    bind_in, came_in, enter, find_in, first_after, first_asked, leave_in, line_at, take_out,
+    bind_in, came_in, enter, entry_at, find_in, first_after, first_asked, index_of, leave_in,
+    line_at, take_out,
 };
 use arrayvec::ArrayVec;
 use pp_objects::{ObjectId, Objects};
@@ -74,18 +78,18 @@ impl Flow {
     }
 
     /// An exchange begins, which the client's current request asks. Answers its number.
-    pub fn begin(&mut self, client: u64, key: &[u8], aim: Aim) -> u64
+    pub fn begin(&mut self, client: u64, key: &[u8], aim: Aim, errand: &Errand) -> u64
         requires few { length self.old.waiting + length self.old.placed < 1024 }
         requires short { length key.now ≤ 8192 }
         requires numbers { self.old.begun < 18446744073709551615 }
         ensures number { result ≡ self.old.begun }
-        ensures begun { self.new ≡ record self.old { waiting = self.old.waiting ++ begun_with self.old.begun client key.now aim ∷ []; begun = self.old.begun + 1 } }
+        ensures begun { self.new ≡ record self.old { waiting = self.old.waiting ++ begun_with self.old.begun client key.now aim errand.now ∷ []; begun = self.old.begun + 1 } }
     {
         let number = self.begun;
         let Some(mut entry) = self.spare.pop() else {
             return number;
         };
-        entry.begin(number, client, key, aim);
+        entry.begin(number, client, key, aim, errand);
         self.waiting.push_reserved(entry);
         self.begun += 1;
         number
@@ -101,6 +105,32 @@ impl Flow {
         }
     }
 
+    /// What the exchange with this number asks, lent to be changed. `None` exactly where it is not there.
+    pub fn errand_mut(&mut self, number: u64) -> Option<&mut Errand>
+        ensures* writes_back { sem 𝓛 (LendsErrand self.entry number result) }
+        ensures value { option_map (λ e. e.now) result ≡ option_map (λ e. e.errand) (entry_of number self.old) }
+    {
+        match index_of(&self.waiting, number) {
+            Some(index) => Some(&mut self.waiting[index].errand),
+            None => match index_of(&self.placed, number) {
+                Some(index) => Some(&mut self.placed[index].errand),
+                None => None,
+            },
+        }
+    }
+
+    /// The exchange at this place of all: first those without a place, then those with one. `None` exactly behind the
+    /// last.
+    pub fn at(&self, index: usize) -> Option<&Entry>
+        ensures { option_map (λ e. e.now) result ≡ slice_get (self.now.waiting ++ self.now.placed) index }
+    {
+        if index < self.waiting.len() {
+            Some(&self.waiting[index])
+        } else {
+            entry_at(&self.placed, index - self.waiting.len())
+        }
+    }
+
     /// The key of the exchange with this number. `None` exactly where it is not there.
     pub fn key(&self, number: u64) -> Option<&[u8]>
         ensures { option_copied result ≡ option_map (λ e. e.key.items) (entry_of number self.now) }
@@ -111,7 +141,8 @@ impl Flow {
         }
     }
 
-    fn entry(&self, number: u64) -> Option<&Entry>
+    /// The exchange with this number, with what it asks, and its key. `None` exactly where it is not there.
+    pub fn entry(&self, number: u64) -> Option<&Entry>
         ensures { option_map (λ e. e.now) result ≡ entry_of number self.now }
     {
         match find_in(&self.waiting, number) {

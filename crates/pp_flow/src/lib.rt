@@ -3,7 +3,8 @@
 //! An exchange is a request of this proxy to an origin and its response. It waits for a place, then
 //! stands in the line of a connection, whose responses come in the order of the line. Once its final
 //! head has come it may be bound to an instance, and then its body's bytes belong there. It is asked by
-//! the current request of a client, until that leaves it.
+//! the current request of a client, until that leaves it. Its errand is what it asks, how much of that was asked, and what becomes
+//! of the body that it brings (`specs/Errands.antt`).
 //!
 //! To the layer above: two lists of exchanges, those without a place in the order of their beginnings,
 //! and those with one in the order in which they got it, and how many were begun. Each call does to
@@ -15,11 +16,13 @@
 #![tactic(auto)]
 
 mod coming; // what the exchanges bring to an instance
-mod entry; // an exchange and its key
+mod entry; // an exchange, what it asks, and its key
+mod errand; // what an exchange asks, and how much of it was asked
 mod flow; // the exchanges that are there
 mod lists; // a list of exchanges
 
-pub use entry::{Aim, Exchange, KEY_ROOM};
+pub use entry::{Aim, Entry, Exchange, KEY_ROOM};
+pub use errand::{Body, Errand, Kind};
 pub use flow::{EXCHANGES, Flow};
 
 #[cfg(test)]

@@ -45,6 +45,17 @@ pub fn find_in(list: &[Box<Entry>], number: u64) -> Option<&Entry>
     }
 }
 
+/// The exchange at this place of the list.
+pub fn entry_at(list: &[Box<Entry>], index: usize) -> Option<&Entry>
+    ensures { option_map (λ e. e.now) result ≡ slice_get (entries list.now) index }
+{
+    if index < list.len() {
+        Some(&list[index])
+    } else {
+        None
+    }
+}
+
 /// The request of the exchange with this number leaves it.
 pub fn leave_in(list: &mut [Box<Entry>], number: u64)
     ensures change { entries list.new ≡ changed number nobodys (entries list.old) }

@@ -3,14 +3,14 @@
 // received").
 mod coming; // what exchanges bring to an instance
 
-use crate::{Aim, EXCHANGES, Flow};
+use crate::{Aim, EXCHANGES, Errand, Flow};
 use pp_objects::ObjectId;
 use pp_text::OutOfMemory;
 
 /// Begins an exchange, where there is room.
 fn begin(flow: &mut Flow, client: u64, key: &[u8], aim: Aim) -> Option<u64> {
     if flow.len() < EXCHANGES && key.len() <= 8192 && flow.begun() < u64::MAX {
-        Some(flow.begin(client, key, aim))
+        Some(flow.begin(client, key, aim, &Errand::empty()))
     } else {
         None
     }
@@ -137,6 +137,42 @@ fn a_body_is_bound_and_comes(rt: HostRuntime) -> Result<(), OutOfMemory> {
     assert_eq!(rt; flow.key(1), None);
     assert!(rt; flow.get(1).is_none());
     Ok(())
+}
+
+#[test]
+fn an_errand_goes_with_its_exchange(rt: HostRuntime) -> Result<(), OutOfMemory> {
+    let mut flow = Flow::new(rt.alloc())?;
+    for number in 0u64..3 {
+        assert_eq!(rt; begin(&mut flow, 7, b"http://h/a", Aim::Own), Some(number));
+    }
+    place(&mut flow, 1, 50);
+    ask(&mut flow, 0, 10);
+    ask(&mut flow, 1, 11);
+    ask(&mut flow, 3, 13);
+    assert_eq!(rt; asked(&flow), [Some((0, 10)), Some((2, 0)), Some((1, 11))]);
+    place(&mut flow, 0, 50);
+    assert_eq!(rt; asked(&flow), [Some((2, 0)), Some((1, 11)), Some((0, 10))]);
+    flow.over(1);
+    assert!(rt; flow.errand_mut(1).is_none());
+    assert_eq!(rt; asked(&flow), [Some((2, 0)), Some((0, 10)), None]);
+    Ok(())
+}
+
+/// So many bytes of what the exchange asks were asked.
+fn ask(flow: &mut Flow, number: u64, asked: usize) {
+    if let Some(errand) = flow.errand_mut(number) {
+        errand.asked = asked;
+    }
+}
+
+/// The first three exchanges of all, and how many bytes of each were asked.
+fn asked(flow: &Flow) -> [Option<(u64, usize)>; 3] {
+    [asked_at(flow, 0), asked_at(flow, 1), asked_at(flow, 2)]
+}
+
+fn asked_at(flow: &Flow, index: usize) -> Option<(u64, usize)> {
+    let entry = flow.at(index)?;
+    Some((entry.exchange.number, entry.errand.asked))
 }
 
 /// So many bytes come, where as many are still to come.
