@@ -5,7 +5,7 @@ use arrayvec::ArrayVec;
 use pp_cache::{Cache, Noted};
 use pp_client::Room;
 use pp_conf::Conf;
-use pp_flow::{EXCHANGES, Flow};
+use pp_flow::Flow;
 use pp_peers::{Limits, Peers};
 use pp_steps::State;
 use pp_text::OutOfMemory;
@@ -46,7 +46,6 @@ fn state_of(alloc: Global, conf: &Conf) -> Result<State, OutOfMemory> {
         seats: Vec::with_capacity(alloc, MAX_CLIENTS)?,
         awake: Vec::with_capacity(alloc, MAX_CLIENTS)?,
         flow: Flow::new(alloc)?,
-        errands: Vec::with_capacity(alloc, EXCHANGES)?,
         cache: Cache::new(alloc, conf.critical)?,
         run: conf.disk_run.min(conf.critical / RUNS_OF_POOL).max(1),
         has_lost_draft: false,

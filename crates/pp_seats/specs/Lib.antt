@@ -2,7 +2,7 @@ pub mod Accounts
 pub mod Courses
 pub mod Decided
 pub mod Dues
-pub mod Errands
+pub mod Fetches
 pub mod Follows
 pub mod Heads
 pub mod Said

@@ -10,9 +10,9 @@ use Rattle.pp_objects.specs.declared.id.ObjectId.{ObjectId}
 use Rattle.pp_text.specs.Fields.{Field}
 use Rattle.pp_valid.specs.Conditions.{names_other_tag}
 use Rattle.pp_valid.specs.declared.version.Version.{Version}
-use Rattle.pp_seats.specs.declared.errand.Kind.{Kind}
-use Rattle.pp_seats.specs.declared.errand.Kind.TheVariants.{Whole, Range, Hole as AsHole, Check, Pass as AsPassed}
-use Rattle.pp_seats.specs.Errands.{named_by}
+use Rattle.pp_flow.specs.declared.errand.Kind.{Kind}
+use Rattle.pp_flow.specs.declared.errand.Kind.TheVariants.{Whole, Range, Hole as AsHole, Check, Pass as AsPassed}
+use Rattle.pp_flow.specs.Errands.{named_by}
 use Rattle.pp_steps.specs.declared.rows.Unchanged.{Unchanged}
 use Rattle.pp_steps.specs.declared.rows.Unchanged.TheVariants.{NotShared, OfAnother, OfRow, OfNothing}
 

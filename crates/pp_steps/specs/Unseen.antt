@@ -5,8 +5,8 @@ use Rattle.pp_flow.specs.Brings.{is_soon}
 use Rattle.pp_objects.specs.Instances.{is_same_id}
 use Rattle.pp_objects.specs.declared.id.ObjectId.{ObjectId}
 use Rattle.pp_plan.specs.Need.{is_near}
-use Rattle.pp_seats.specs.declared.errand.Body.{Body}
-use Rattle.pp_seats.specs.declared.errand.Body.TheVariants.{Pending, Joining, Relaying, Dropping}
+use Rattle.pp_flow.specs.declared.errand.Body.{Body}
+use Rattle.pp_flow.specs.declared.errand.Body.TheVariants.{Pending, Joining, Relaying, Dropping}
 use Rattle.pp_seats.specs.declared.seat.Next.{Next}
 use Rattle.pp_seats.specs.declared.seat.Seat.{Seat}
 use Rattle.pp_seats.specs.Follows.{next_of}

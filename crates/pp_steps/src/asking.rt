@@ -16,14 +16,15 @@ impl State {
     pub fn asking(&self, k: u64) -> Option<Asking> {
         for place in 0..16 {
             let number = self.flow.line(k, place)?;
-            let errand = self.errand(number)?;
+            let entry = self.flow.entry(number)?;
+            let errand = &entry.errand;
             if !errand.is_outstanding() {
                 let left = errand.text_len.saturating_sub(errand.asked);
                 return Some(Asking::Text(number, left));
             }
             if errand.body_left > 0 {
-                let e = self.flow.get(number)?;
-                return Some(Asking::Body(number, errand.body_left, self.seat_for(e)?));
+                let i = self.seat_for(&entry.exchange)?;
+                return Some(Asking::Body(number, errand.body_left, i));
             }
         }
         None
@@ -32,9 +33,9 @@ impl State {
     /// The exchange whose answer is due on the connection: the first of its line, asked whole.
     pub fn owed_answer(&self, k: u64) -> Option<Exchange> {
         let number = self.flow.line(k, 0)?;
-        let errand = self.errand(number)?;
-        if errand.is_outstanding() && errand.body_left == 0 {
-            self.exchange(number)
+        let entry = self.flow.entry(number)?;
+        if entry.errand.is_outstanding() && entry.errand.body_left == 0 {
+            Some(entry.exchange)
         } else {
             None
         }

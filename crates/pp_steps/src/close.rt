@@ -26,7 +26,7 @@ impl State {
             self.end(number);
         } else if self.may_ask_again(number) && self.flow.has_place(number) {
             self.flow.unplace(number);
-            if let Some(errand) = self.errand_mut(number) {
+            if let Some(errand) = self.flow.errand_mut(number) {
                 errand.asked = 0;
             }
         } else {

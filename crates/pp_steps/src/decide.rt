@@ -8,10 +8,11 @@ use crate::unseen::is_same;
 use arrayvec::ArrayVec;
 use pp_ask::{ASK_LEN, write_ask};
 use pp_client::Current;
+use pp_flow::Kind;
 use pp_head::{RequestHead, Scratch};
 use pp_objects::ObjectId;
 use pp_plan::{Begun, PlanRow, decide, span};
-use pp_seats::{Brought, Front, Key, Kind, Seat};
+use pp_seats::{Brought, Front, Key, Seat, as_ask, fetch_of};
 use pp_valid::Version;
 use pp_world::Decision;
 
@@ -89,7 +90,7 @@ impl State {
         text: &mut ArrayVec<u8, ASK_LEN>,
     ) -> bool {
         write_ask(
-            &kind.as_ask(),
+            &as_ask(kind),
             head,
             key.text(),
             key.place(),
@@ -107,7 +108,7 @@ pub(crate) fn kind_of(
     decision: Decision,
 ) -> Option<Kind> {
     match decision {
-        Decision::Fetch => Some(Kind::fetch(head)),
+        Decision::Fetch => Some(fetch_of(head)),
         Decision::Validate => Some(Kind::Check(version?.tag)),
         Decision::Pass => Some(Kind::Pass),
         Decision::Refuse(_)

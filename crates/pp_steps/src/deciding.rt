@@ -3,12 +3,12 @@ use crate::decide::kind_of;
 use crate::state::State;
 use crate::unseen::is_soon;
 use pp_client::Current;
-use pp_flow::{Aim, EXCHANGES, Exchange};
+use pp_flow::{Aim, Body, EXCHANGES, Errand, Exchange, Kind};
 use pp_fresh::allows_guess;
 use pp_head::{RequestHead, Scratch};
 use pp_objects::ObjectId;
 use pp_ranges::{Range, read_range};
-use pp_seats::{Asked, Body, Errand, Key, Kind, Seat, is_answerable};
+use pp_seats::{Asked, Key, Seat, is_answerable};
 use pp_valid::accepts_only_identity;
 use pp_world::Decision;
 
@@ -113,8 +113,7 @@ impl State {
         if self.flow.len() >= EXCHANGES || self.flow.begun() == u64::MAX {
             return;
         }
-        let number = self.flow.begin(seat.client.id(), key.text(), aim);
-        let _ = self.errands.push(Errand { number, ..*errand });
+        let _ = self.flow.begin(seat.client.id(), key.text(), aim, errand);
     }
 
     /// The errand of a decision that asks an origin.
@@ -146,7 +145,6 @@ impl State {
         kind: Kind,
     ) -> Option<Errand> {
         Some(Errand {
-            number: 0,
             kind,
             place: *key.place(),
             is_moved: false,

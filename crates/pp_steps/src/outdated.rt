@@ -5,9 +5,8 @@ use crate::state::State;
 use arrayvec::ArrayVec;
 use pp_cache::{is_spelled_at, write_named};
 use pp_client::Current;
-use pp_flow::Exchange;
+use pp_flow::{Errand, Exchange};
 use pp_head::{ResponseHead, Scratch};
-use pp_seats::Errand;
 use pp_text::OutOfMemory;
 use pp_valid::{Version, body_length, names_other_tag};
 

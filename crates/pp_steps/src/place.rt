@@ -19,16 +19,15 @@ impl State {
     /// Writes what the exchange asks, and answers whether it asks HEAD. None where its client is not at its
     /// request any more.
     pub fn write_ask_of(&self, number: u64, text: &mut ArrayVec<u8, ASK_LEN>) -> Option<bool> {
-        let errand = self.errand(number)?;
-        let e = self.flow.get(number)?;
-        let seat = self.seats.get(self.seat_for(e)?)?;
+        let entry = self.flow.entry(number)?;
+        let seat = self.seats.get(self.seat_for(&entry.exchange)?)?;
         let key = seat.front.key()?;
         let mut scratch = Scratch::new();
         let Current::Request(head, _) = seat.client.current(&mut scratch) else {
             return None;
         };
-        if self.write_text(&head, key, &errand.kind, text) {
-            Some(errand.asks_head)
+        if self.write_text(&head, key, &entry.errand.kind, text) {
+            Some(entry.errand.asks_head)
         } else {
             None
         }

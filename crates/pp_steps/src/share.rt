@@ -4,7 +4,7 @@ ghost use Rattle.pp_seats.specs.Dues.{may_share, undecided_in};
 ghost use Rattle.pp_steps.specs.Patience.{is_patient};
 
 use crate::state::State;
-use pp_flow::Aim;
+use pp_flow::{Aim, Entry};
 use pp_seats::{Seat, Shared, Stage};
 use pp_world::Decision;
 
@@ -12,18 +12,19 @@ use pp_world::Decision;
 const PATIENCE: u64 = 5;
 
 impl State {
-    /// The exchange that asks for the whole of the client's key, or checks it, and whose answer has not come.
+    /// Of the exchanges that ask for the whole of the client's key, or check it, and whose answer has not come, the one that
+    /// began first.
     pub(crate) fn shared_ask(&self, seat: &Seat) -> Option<u64> {
         let key = seat.front.key()?;
-        for errand in self.errands.iter() {
-            if let Some(e) = self.flow.get(errand.number) {
-                let is_own = e.aim == Aim::Own && !e.headed && !errand.kind.is_range();
-                if is_own && self.flow.key(errand.number) == Some(key.text()) {
-                    return Some(errand.number);
+        let mut first: Option<u64> = None;
+        for index in 0..self.flow.len() {
+            if let Some(entry) = self.flow.at(index) {
+                if is_shared(entry, key.text()) {
+                    first = Some(earlier(first, entry.exchange.number));
                 }
             }
         }
-        None
+        first
     }
 
     /// The exchange that it waited for is there, and its answer has not come.
@@ -71,6 +72,19 @@ impl State {
         matches!(seat.stage, Stage::Undecided)
             && seat.front.is_there()
             && self.due_undecided(seat).is_none()
+    }
+}
+
+/// It asks for the whole of this key, or checks it, and its answer has not come.
+fn is_shared(entry: &Entry, key: &[u8]) -> bool {
+    let e = &entry.exchange;
+    e.aim == Aim::Own && !e.headed && !entry.errand.kind.is_range() && entry.key.as_slice() == key
+}
+
+fn earlier(first: Option<u64>, number: u64) -> u64 {
+    match first {
+        None => number,
+        Some(first) => first.min(number),
     }
 }
 

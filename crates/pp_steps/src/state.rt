@@ -7,7 +7,7 @@ use arrayvec::ArrayVec;
 use pp_cache::{Cache, Noted};
 use pp_flow::{Aim, EXCHANGES, Exchange, Flow};
 use pp_peers::Limits;
-use pp_seats::{Course, Errand, Seat, Stage};
+use pp_seats::{Course, Seat, Stage};
 use pp_valid::Version;
 use std::alloc::Global;
 
@@ -33,8 +33,6 @@ pub struct State {
     pub awake: Vec<usize>,
     /// The exchanges that are under way.
     pub flow: Flow,
-    /// Of the exchanges that are there.
-    pub errands: Vec<Errand>,
     /// What is in memory.
     pub cache: Cache,
     /// How many whole chunks are kept on the disk at a time.
@@ -113,18 +111,6 @@ impl State {
         }
     }
 
-    /// What it asks.
-    pub fn errand(&self, number: u64) -> Option<&Errand> {
-        self.errands.iter().find(|errand| errand.number == number)
-    }
-
-    /// The same, to be changed.
-    pub fn errand_mut(&mut self, number: u64) -> Option<&mut Errand> {
-        self.errands
-            .iter_mut()
-            .find(|errand| errand.number == number)
-    }
-
     /// Whether another exchange may begin.
     pub(crate) fn may_ask(&self) -> bool {
         self.flow.len() < EXCHANGES && self.flow.begun() < u64::MAX
@@ -133,7 +119,6 @@ impl State {
     /// The exchange is over.
     pub fn end(&mut self, number: u64) {
         self.flow.over(number);
-        self.errands.retain(|errand| errand.number != number);
     }
 
     /// The exchange of the request of the client at this place.
@@ -163,9 +148,9 @@ impl State {
 
     /// An attempt of the exchange is lost.
     pub fn lose_attempt(&mut self, e: &Exchange) {
-        let most = match self.errand(e.number) {
+        let most = match self.flow.entry(e.number) {
             None => return,
-            Some(errand) => errand.attempts(),
+            Some(entry) => entry.errand.attempts(),
         };
         let Some(i) = self.seat_for(e) else {
             return;

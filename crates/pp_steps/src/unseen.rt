@@ -6,10 +6,10 @@ ghost use Rattle.pp_steps.specs.Unseen.{has_reader_near, is_next_near, is_unseen
 ghost use Rattle.pp_seats.specs.Follows.{next_of};
 
 use crate::state::State;
-use pp_flow::{Aim, Exchange};
+use pp_flow::{Aim, Body, Exchange};
 use pp_objects::ObjectId;
 use pp_plan::is_near;
-use pp_seats::{Body, Seat};
+use pp_seats::Seat;
 
 /// Ours: what is dropped as it comes is read for so many bytes, to spare the connection.
 const DROP_LIMIT: u64 = 65_536;
@@ -18,8 +18,9 @@ impl State {
     /// The first exchange of the line, where nobody will see what comes of it.
     pub fn unseen_on(&self, k: u64) -> Option<u64> {
         let number = self.flow.line(k, 0)?;
-        let e = self.flow.get(number)?;
-        let body = self.errand(number)?.body;
+        let entry = self.flow.entry(number)?;
+        let e = &entry.exchange;
+        let body = entry.errand.body;
         let is_kept = match body {
             Body::Joining(wanted) => self.is_kept(e, wanted),
             Body::Pending | Body::Relaying | Body::Dropping(_) => false,
@@ -55,14 +56,14 @@ impl State {
             None if self.passed_by(&e).is_some() => Body::Relaying,
             None => Body::Dropping(0),
         };
-        if let Some(errand) = self.errand_mut(number) {
+        if let Some(errand) = self.flow.errand_mut(number) {
             errand.body = body;
         }
     }
 
     /// So many bytes more are dropped, where they are.
     pub(crate) fn note_dropped(&mut self, number: u64, count: usize) {
-        if let Some(errand) = self.errand_mut(number) {
+        if let Some(errand) = self.flow.errand_mut(number) {
             if let Body::Dropping(before) = errand.body {
                 errand.body = Body::Dropping(before.saturating_add(count as u64));
             }
@@ -71,20 +72,20 @@ impl State {
 
     /// At a wait: where the furthest follower stands is how far a body is wanted.
     pub fn note_wanted(&mut self) {
-        for place in 0..self.errands.len() {
-            if let Some(at) = self.wanted_of(place) {
-                if let Some(errand) = self.errands.get_mut(place) {
+        for index in 0..self.flow.len() {
+            if let Some((number, at)) = self.wanted_at(index) {
+                if let Some(errand) = self.flow.errand_mut(number) {
                     errand.body = Body::Joining(at);
                 }
             }
         }
     }
 
-    /// Where the furthest follower of what the errand at this place is bound to stands.
-    fn wanted_of(&self, place: usize) -> Option<u64> {
-        let e = self.flow.get(self.errands.get(place)?.number)?;
+    /// The exchange at this place, and where the furthest follower of what it is bound to stands.
+    fn wanted_at(&self, index: usize) -> Option<(u64, u64)> {
+        let e = self.flow.at(index)?.exchange;
         let (id, _, _, _) = e.bound?;
-        self.furthest(id)
+        Some((e.number, self.furthest(id)?))
     }
 }
 

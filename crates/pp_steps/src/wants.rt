@@ -94,9 +94,9 @@ impl State {
     }
 
     fn is_brought_by_any(&self, next: &Next) -> bool {
-        for errand in self.errands.iter() {
-            if let Some(e) = self.flow.get(errand.number) {
-                if self.brings(e, next) {
+        for index in 0..self.flow.len() {
+            if let Some(entry) = self.flow.at(index) {
+                if self.brings(&entry.exchange, next) {
                     return true;
                 }
             }

@@ -1,0 +1,31 @@
+// What an origin is asked for a request, and how that is written.
+ghost use Rattle.std.specs.Prelude.{◌≡◌};
+ghost use Rattle.pp_head.specs.Shown.{shown_request};
+ghost use Rattle.pp_plan.specs.Fetch.{fetch_range};
+ghost use Rattle.pp_seats.specs.Fetches.{fetch_by};
+
+use pp_ask::AskKind;
+use pp_flow::Kind;
+use pp_head::RequestHead;
+use pp_plan::fetch_range;
+
+/// What is asked first where nothing is known.
+pub fn fetch_of(head: &RequestHead<'_, '_>) -> Kind
+    ensures { result ≡ fetch_by (fetch_range (shown_request head.now).fields) }
+{
+    match fetch_range(head) {
+        None => Kind::Whole,
+        Some((first, last)) => Kind::Range(first, last),
+    }
+}
+
+/// As the ask that is written.
+pub fn as_ask(kind: &Kind) -> AskKind<'_> {
+    match kind {
+        Kind::Whole => AskKind::Whole,
+        Kind::Range(first, last) => AskKind::Range(*first, *last),
+        Kind::Hole(first, last, tag) => AskKind::Hole(*first, *last, tag),
+        Kind::Check(tag) => AskKind::Check(tag),
+        Kind::Pass => AskKind::Pass,
+    }
+}
