@@ -3,7 +3,7 @@ pub mod Answered
 pub mod Begins
 pub mod Decided
 pub mod Dues
-pub mod Errands
+pub mod Entries
 pub mod Fates
 pub mod Fronts
 pub mod HeadDues

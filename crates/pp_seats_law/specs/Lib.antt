@@ -2,7 +2,7 @@ pub mod Begins
 pub mod Clients
 pub mod Decided
 pub mod Dues
-pub mod Errands
+pub mod Exchanges
 pub mod Fates
 pub mod Fronts
 pub mod Heads

@@ -4,7 +4,7 @@
 //! From it follows that what the program says of a seat is what the law says of that client: how far its request and its reply
 //! are, how it fares, what is kept of a head, and which decision or cut is due. What is made of the seat by a read, by bytes that
 //! are said, and behind a reply that is over, shows what the law makes of that client; and where all seats show all clients, so
-//! they do behind a change of one. `specs/Errands.antt` is the same of an exchange.
+//! they do behind a change of one. `specs/Exchanges.antt` is the same of an exchange.
 //!
 //! To the layer above: each equation is the clause of a function that does nothing. It is one part of the proof that the program
 //! obeys the law: of connections, rows and turns nothing is said here. The words of the program stand in `pp_seats`, which says
@@ -25,7 +25,7 @@ mod words; // how far a request and its reply are
 pub use clients::clients_are_the_laws;
 pub use courses::{courses_are_the_laws, rows_leave_as_the_laws};
 pub use deciding::{decisions_are_the_laws, dues_are_the_laws, requests_are_decided_as_the_laws};
-pub use exchanges::errands_are_the_laws;
+pub use exchanges::exchanges_are_the_laws;
 pub use heads::fronts_are_the_laws;
 pub use reading::reads_are_the_laws;
 pub use saying::sayings_are_the_laws;
