@@ -7,7 +7,7 @@ use Rattle.pp_holes.specs.Places.{Chunk, bytes_at, first_bytes, is_at}
 use Rattle.pp_law.specs.Chunks.{chunk_bytes, filled, floor, is_chunk, used_of}
 use Rattle.pp_law.specs.Lists.{Bytes}
 use Rattle.pp_law.specs.State.{State, Instance as Known, Chunk as Front}
-use Rattle.pp_law.specs.Table.{extent_of, follows, instance, is_bound_to, is_followed, is_idle_row, is_instance, is_row_of as is_known_row, row, rows}
+use Rattle.pp_law.specs.Table.{extent_of, follows, instance, is_bound_to, is_followed, is_idle_row, is_instance, is_row_of as is_known_row, row}
 use Rattle.pp_objects.specs.Instances.{Instance, id_of, in_slot, is_idle, is_in_slot, is_life, is_row, is_row_of, is_same_id, is_there, row_of}
 use Rattle.pp_objects.specs.declared.id.ObjectId.{ObjectId}
 use Rattle.pp_pool.specs.Chunks.{Used, is_pinned, oldest_in, place_of}
@@ -15,7 +15,7 @@ use Rattle.pp_valid.specs.declared.version.Version.{Version}
 use Rattle.pp_cache_law.specs.Pairs.{AreAll, AreBoth}
 use Rattle.pp_cache_law.specs.Reads.{BytesAreTheLaws, ExtentsAreTheLaws, GonePinsAreNone, HeldIsTheLaws, IdleRowsAreTheLaws, InstancesAreTheLaws, IsFound, IsSamePlace, PinsAreTheLaws, RetiredIsTheLaws, RoomIsTheLaws, RowsAreTheLaws, UsedIsTheLaws, VersionsAreTheLaws, VictimsAreTheLaws}
 use Rattle.pp_cache_law.specs.Tables.{ShowsChunk, ShowsInstance, ShowsTable, number_in}
-use Rattle.pp_cache_law.proofs.Numbers.{chunks_alike, instances_alike, is_same, number_of_there, some_is}
+use Rattle.pp_cache_law.proofs.Numbers.{Apart, chunks_alike, instances_alike, is_same, number_of_there, some_is}
 use Rattle.pp_cache_law.proofs.PairLemmas.{counted, found, lengths_same, mapped, none_of}
 
 -- ---- rows
@@ -142,12 +142,12 @@ bytes_by number m p q (c ∷ cs) (d ∷ ds) same all = by (p c) (q d) (same c d 
     by true false e rest = absurd cc
     by false true e rest = absurd cc
 
-pub bytes_in_slot : (number : ℕ → ℕ) (m : Memory) (s : State) (slot n index : ℕ) → ShowsTable number m s → number_in number slot m.instances ≡ Some n → bytes_at (slot, index) m.chunks ≡ chunk_bytes n index s.chunks
-bytes_in_slot number m s slot n index shows at =
-    bytes_by number m (is_at (slot, index)) (is_chunk n index) m.chunks s.chunks (λ c d one. chunks_alike number m slot n index c d shows.apart at one) shows.chunks
+pub bytes_in_chunks : (number : ℕ → ℕ) (m : Memory) (slot n index : ℕ) (cs : List Chunk) (ds : List Front) → Apart number m.instances → number_in number slot m.instances ≡ Some n → AreAll (ShowsChunk number m) cs ds
+    → bytes_at (slot, index) cs ≡ chunk_bytes n index ds
+bytes_in_chunks number m slot n index cs ds apart at all = bytes_by number m (is_at (slot, index)) (is_chunk n index) cs ds (λ c d one. chunks_alike number m slot n index c d apart at one) all
 
 pub bytes_of : BytesAreTheLaws
-bytes_of number m s shows id index there = bytes_in_slot number m s id.slot (number id.life) index shows (number_of_there number id m.instances there)
+bytes_of number m s shows id index there = bytes_in_chunks number m id.slot (number id.life) index m.chunks s.chunks shows.apart (number_of_there number id m.instances there) shows.chunks
 
 or_other : (a b : Bool) → (a || b) ≡ (b || a)
 or_other true true = refl

@@ -1,3 +1,4 @@
 pub mod Pairs
 pub mod Reads
 pub mod Tables
+pub mod Uses
