@@ -1,7 +1,10 @@
 pub mod Alike
+pub mod Changed
 pub mod Faces
 pub mod Finds
+pub mod Followed
 pub mod Moves
 pub mod Numbers
 pub mod PairLemmas
+pub mod Renewing
 pub mod Touching
