@@ -3,8 +3,11 @@ pub mod Changed
 pub mod Faces
 pub mod Finds
 pub mod Followed
+pub mod Leaving
 pub mod Moves
 pub mod Numbers
 pub mod PairLemmas
 pub mod Renewing
+pub mod Retiring
+pub mod Sweeping
 pub mod Touching

@@ -1,5 +1,6 @@
 pub mod Changes
 pub mod Pairs
 pub mod Reads
+pub mod Retires
 pub mod Tables
 pub mod Uses
