@@ -1,9 +1,12 @@
 pub mod Alike
 pub mod Changed
+pub mod Entering
+pub mod Extents
 pub mod Faces
 pub mod Finds
 pub mod Followed
 pub mod Leaving
+pub mod Making
 pub mod Moves
 pub mod Numbers
 pub mod PairLemmas

@@ -2,5 +2,6 @@ pub mod Changes
 pub mod Pairs
 pub mod Reads
 pub mod Retires
+pub mod Settles
 pub mod Tables
 pub mod Uses

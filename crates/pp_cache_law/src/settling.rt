@@ -1,0 +1,9 @@
+// A new row is made, and the table of the law is changed alike.
+ghost use Rattle.pp_cache_law.specs.Settles.{EnteringsAreTheLaws, SettlingsAreTheLaws};
+
+/// A row of a key is made, in the place of its former one, or comes in from the disk: the cache shows what the law makes of its
+/// table.
+pub fn rows_are_made_as_the_laws()
+    ensures settlings { SettlingsAreTheLaws }
+    ensures enterings { EnteringsAreTheLaws }
+{}
