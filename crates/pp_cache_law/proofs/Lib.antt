@@ -5,6 +5,7 @@ pub mod Extents
 pub mod Faces
 pub mod Finds
 pub mod Followed
+pub mod Framing
 pub mod Leaving
 pub mod Making
 pub mod Moves

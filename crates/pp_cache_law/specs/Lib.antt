@@ -1,4 +1,5 @@
 pub mod Changes
+pub mod Frames
 pub mod Pairs
 pub mod Reads
 pub mod Retires

@@ -1,0 +1,29 @@
+-- What is no part of the table may change: the cache shows it still.
+use Rattle.std.specs.Prelude.{◌≡◌, ℕ, count_by, [], option_map}
+use Rattle.pp_cache.specs.Memory.{Memory, empty_memory}
+use Rattle.pp_law.specs.Lists.{Bytes}
+use Rattle.pp_law.specs.State.{State}
+use Rattle.pp_law.specs.Table.{follows, kept_row}
+use Rattle.pp_cache_law.specs.Tables.{OfCaches, ShowsCache}
+
+-- an empty cache, of whatever size, and an empty table that no client follows
+abbrev pub BeginningsAreTheLaws : Type 0
+BeginningsAreTheLaws = (number : ℕ → ℕ) (size : ℕ) (s : State) → s.instances ≡ [] → s.chunks ≡ [] → s.clients ≡ [] → ShowsCache number (empty_memory size) s
+
+-- but for how many chunks there may be, which instances grew in this turn, and which entries are noted as outdated
+pub record IsSameMemory (m k : Memory) : Type 0 where
+  pub instances : k.instances ≡ m.instances
+  pub lives : k.lives ≡ m.lives
+  pub chunks : k.chunks ≡ m.chunks
+  pub extents : k.extents ≡ m.extents
+
+-- but for all that is of clients, exchanges, the disk and the turn: as many follow each instance, and as much of each key is kept
+pub record IsSameTable (s t : State) : Type 0 where
+  pub instances : t.instances ≡ s.instances
+  pub made : t.next_instance ≡ s.next_instance
+  pub chunks : t.chunks ≡ s.chunks
+  pub followers : (n : ℕ) → count_by (follows n) t.clients ≡ count_by (follows n) s.clients
+  pub kept : (key : Bytes) → option_map (λ e. e.extent) (kept_row t key) ≡ option_map (λ e. e.extent) (kept_row s key)
+
+abbrev pub FramesAreTheLaws : Type 0
+FramesAreTheLaws = OfCaches (λ number m s. (k : Memory) (t : State) → IsSameMemory m k → IsSameTable s t → ShowsCache number k t)
