@@ -6,6 +6,7 @@ pub mod Faces
 pub mod Finds
 pub mod Followed
 pub mod Framing
+pub mod Joined
 pub mod Leaving
 pub mod Making
 pub mod Moves

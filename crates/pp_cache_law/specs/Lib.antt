@@ -1,5 +1,6 @@
 pub mod Changes
 pub mod Frames
+pub mod Joins
 pub mod Pairs
 pub mod Reads
 pub mod Retires

@@ -1,0 +1,5 @@
+use Rattle.pp_cache_law.proofs.Joined.{joins_of}
+use Rattle.pp_cache_law.proofs.joining.joins_are_the_laws.Goals as goal
+
+pub returns : goal.returns
+returns c = record { joins = joins_of }

@@ -1,0 +1,33 @@
+-- Bytes that a read brings join the chunks of the table, and of the cache alike.
+use Rattle.std.specs.Prelude.{◌≡◌, ◌≤◌, ◌+◌, ◌-◌, ◌%◌, ◌⊎◌, ℕ, true, false, min, List, length, drop, Some}
+use Rattle.pp_cache.specs.OnDisk.{grown_by}
+use Rattle.pp_holes.specs.Adding.{Adding, added}
+use Rattle.pp_holes.specs.Places.{Chunk}
+use Rattle.pp_law.specs.Lists.{Bytes}
+use Rattle.pp_law.specs.OwnHeads.{join}
+use Rattle.pp_law.specs.State.{Bound, Instance as Known}
+use Rattle.pp_law.specs.Table.{extent_of, instance}
+use Rattle.pp_objects.specs.Changes.{faces}
+use Rattle.pp_objects.specs.Instances.{Instance, is_there}
+use Rattle.pp_objects.specs.declared.id.ObjectId.{ObjectId}
+use Rattle.pp_cache_law.specs.Tables.{OfCaches, ShowsCache}
+
+-- what is kept on the disk ends with a chunk, or with the body
+abbrev pub EndsWhole : ℕ → ℕ → Type 0
+EndsWhole extent length = (extent % 4096 ≡ 0) ⊎ (extent ≡ length)
+
+-- how many of so many bytes are kept already
+abbrev pub kept_of_run : ℕ → ℕ → ℕ → ℕ
+kept_of_run extent at n = min n (extent - at)
+
+-- those that are not are added
+abbrev pub added_behind : ℕ → ℕ → ℕ → ℕ → Bytes → List Chunk → Adding
+added_behind extent size slot at bytes cs = added size slot (at + kept_of_run extent at (length bytes)) (drop (kept_of_run extent at (length bytes)) bytes) cs
+
+-- where each finds a chunk: the law has chunks for all
+abbrev pub JoinsAreTheLaws : Type 0
+JoinsAreTheLaws = OfCaches (λ number m s. (is : List Instance) (id : ObjectId) (x : Known) (b : Bound) (bytes : Bytes) → is_there id m.instances ≡ true → instance s (number id.life) ≡ Some x → b.instance ≡ number id.life
+    → EndsWhole (extent_of s x) x.version.length → b.next + length bytes ≤ x.version.length → (added_behind (extent_of s x) m.size id.slot b.next bytes m.chunks).need_chunk ≡ false → faces is ≡ faces m.instances
+    → ShowsCache number
+    (record m { instances = is; chunks = (added_behind (extent_of s x) m.size id.slot b.next bytes m.chunks).chunks; grown = grown_by id m.grown })
+    (join b bytes s))
