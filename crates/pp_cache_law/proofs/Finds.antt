@@ -46,10 +46,20 @@ find_mapped p f (x ∷ xs) same = ap (λ (b : Bool). cond b (Some (f x)) (find p
     by true rest = refl
     by false rest = rest
 
--- ---- where a test holds once at most
-
 none_some : {A : Type 0} (x : A) → None ≡ Some x → ⊥
 none_some x e = absurd cc
+
+-- where there is none, there is none of those that are kept
+pub none_within : {A : Type 0} (p q : A → Bool) (xs : List A) → find p xs ≡ None → find p (filter q xs) ≡ None
+none_within p q [] none = refl
+none_within p q (x ∷ xs) none = by (p x) refl (q x) (λ f. none_within p q xs f) none
+  where
+    by : (b : Bool) → p x ≡ b → (c : Bool) → (find p xs ≡ None → find p (filter q xs) ≡ None) → cond b (Some x) (find p xs) ≡ None → find p (cond c (x ∷ filter q xs) (filter q xs)) ≡ None
+    by true e c rest f = absurd (none_some x (sym f))
+    by false e true rest f = ap (λ (b : Bool). cond b (Some x) (find p (filter q xs))) e ∙ rest f
+    by false e false rest f = rest f
+
+-- ---- where a test holds once at most
 
 pub none_kept : {A : Type 0} (p : A → Bool) (xs : List A) → find p xs ≡ None → filter p xs ≡ []
 none_kept p [] e = refl
@@ -116,6 +126,32 @@ one_only p (x ∷ xs) y few e = by (p x) refl (λ less f. one_only p xs y less f
     by : (b : Bool) → p x ≡ b → (count_by p xs ≤ 1 → find p xs ≡ Some y → AreOnly p y xs) → cond b 1 0 + count_by p xs ≤ 1 → cond b (Some x) (find p xs) ≡ Some y → AreOnly p y (x ∷ xs)
     by true is rest less f = ((λ same. some_is x y f), none_only p y xs (omega (arith, less)))
     by false isnt rest less f = ((λ is. absurd (true_false (sym is ∙ isnt))), rest (omega (arith, less)) f)
+
+-- one that another test finds
+some_counted : {A : Type 0} (p q : A → Bool) (xs : List A) (y : A) → find q xs ≡ Some y → p y ≡ true → 1 ≤ count_by p xs
+some_counted p q [] y e is = absurd (none_some y e)
+some_counted {A = A} p q (x ∷ xs) y e is = by (q x) (λ f. some_counted p q xs y f is) e
+  where
+    by : (b : Bool) → (find q xs ≡ Some y → 1 ≤ count_by p xs) → cond b (Some x) (find q xs) ≡ Some y → 1 ≤ count_by p (x ∷ xs)
+    by true rest f =
+        let first : count_by p (x ∷ xs) ≡ 1 + count_by p xs = count_first p x xs ∙ ap (λ (b : Bool). cond b 1 0 + count_by p xs) (ap (λ (z : A). p z) (some_is x y f) ∙ is) in
+        omega (arith, first)
+    by false rest f = let more : 1 ≤ count_by p xs = rest f in omega (arith, more, count_first p x xs)
+
+pub only_found : {A : Type 0} (p q : A → Bool) (xs : List A) (y : A) → find q xs ≡ Some y → p y ≡ true → count_by p xs ≤ 1 → AreOnly p y xs
+only_found p q [] y e is few = tt
+only_found {A = A} p q (x ∷ xs) y e is few = by (q x) (λ f less. only_found p q xs y f is less) e
+  where
+    by : (b : Bool) → (find q xs ≡ Some y → count_by p xs ≤ 1 → AreOnly p y xs) → cond b (Some x) (find q xs) ≡ Some y → AreOnly p y (x ∷ xs)
+    by true rest f =
+        let first : count_by p (x ∷ xs) ≡ 1 + count_by p xs = count_first p x xs ∙ ap (λ (b : Bool). cond b 1 0 + count_by p xs) (ap (λ (z : A). p z) (some_is x y f) ∙ is) in
+        ((λ same. some_is x y f), none_only p y xs (omega (arith, first, few)))
+    by false rest f = ((λ same. absurd (too_many same)), rest f (omega (arith, few, count_first p x xs)))
+      where
+        too_many : p x ≡ true → ⊥
+        too_many same =
+            let first : count_by p (x ∷ xs) ≡ 1 + count_by p xs = count_first p x xs ∙ ap (λ (b : Bool). cond b 1 0 + count_by p xs) same in
+            absurd (omega (arith, first, few, some_counted p q xs y f is))
 
 pub none_changed : {A : Type 0} (p : A → Bool) (f : A → A) (xs : List A) → find p xs ≡ None → map (λ x. elim (p x) as (λ b. A) [ true ↦ f x | false ↦ x ]) xs ≡ xs
 none_changed p f [] e = refl

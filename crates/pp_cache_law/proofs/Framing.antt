@@ -1,12 +1,11 @@
 -- What is no part of the table may change.
-use Rattle.std.proofs.Common.{◌≡◌, ◌<◌, ◌≤◌, refl, sym, subst, ap, ◌∙◌, ℕ, Bool, true, false, ◌&&◌, cond, List, [], Option, Some, None, option_map, replicate, zero, suc, arith}
+use Rattle.std.proofs.Common.{◌≡◌, ◌<◌, ◌≤◌, refl, sym, subst, ap, ◌∙◌, ℕ, Bool, true, false, ◌&&◌, cond, List, [], Some, None, replicate, zero, suc, arith}
 use Rattle.std.specs.Prelude.{count_by, slice_get}
 use Rattle.pp_cache.specs.Memory.{Memory, empty_memory, is_row_in}
 use Rattle.pp_cache.specs.OnDisk.{bytes_of, nowhere}
 use Rattle.pp_cache.specs.declared.extents.Extent.{Extent}
 use Rattle.pp_holes.specs.Places.{Chunk, is_at}
-use Rattle.pp_law.specs.State.{State, Client, Entry, Instance as Known, Chunk as Front}
-use Rattle.pp_law.specs.Table.{extent_of, kept_row}
+use Rattle.pp_law.specs.State.{State, Client, Instance as Known, Chunk as Front}
 use Rattle.pp_objects.specs.Instances.{Instance, id_of, in_slot, is_in_slot, is_life, is_same_id}
 use Rattle.pp_objects.specs.OneRow.{HasOneRow}
 use Rattle.pp_objects.specs.declared.id.ObjectId.{ObjectId}
@@ -14,23 +13,6 @@ use Rattle.pp_cache_law.specs.Frames.{BeginningsAreTheLaws, FramesAreTheLaws, Is
 use Rattle.pp_cache_law.specs.Pairs.{AreAll}
 use Rattle.pp_cache_law.specs.Tables.{AreFollowed, ShowsCache, ShowsChunk, ShowsInstance, ShowsTable, number_in}
 use Rattle.pp_cache_law.proofs.PairLemmas.{also}
-
-abbrev kept_bytes : Option Entry → ℕ
-kept_bytes o = elim o as (λ b. ℕ) [ None ↦ 0 | Some e ↦ e.extent ]
-
-bytes_kept_by : (o : Option Entry) → kept_bytes o ≡ elim (option_map (λ (e : Entry). e.extent) o) as (λ b. ℕ) [ None ↦ 0 | Some n ↦ n ]
-bytes_kept_by None = refl
-bytes_kept_by (Some e) = refl
-
-same_extent : (s t : State) (x : Known) → IsSameTable s t → extent_of t x ≡ extent_of s x
-same_extent s t x same = by x.is_retired
-  where
-    kept : kept_bytes (kept_row t x.key) ≡ kept_bytes (kept_row s x.key)
-    kept = bytes_kept_by (kept_row t x.key) ∙ ap (λ (o : Option ℕ). elim o as (λ b. ℕ) [ None ↦ 0 | Some n ↦ n ]) (same.kept x.key) ∙ sym (bytes_kept_by (kept_row s x.key))
-
-    by : (b : Bool) → (elim b as (λ c. ℕ) [ true ↦ 0 | false ↦ kept_bytes (kept_row t x.key) ]) ≡ (elim b as (λ c. ℕ) [ true ↦ 0 | false ↦ kept_bytes (kept_row s x.key) ])
-    by true = refl
-    by false = kept
 
 again : (number : ℕ → ℕ) (m k : Memory) (s t : State) (i : Instance) (x : Known) → IsSameMemory m k → IsSameTable s t → ShowsInstance number m s i x → ShowsInstance number k t i x
 again number m k s t i x one other shows = record {
@@ -45,7 +27,7 @@ again number m k s t i x one other shows = record {
   extent =
       ap (λ (is : List Instance). cond (is_life i.life (in_slot i.slot is) && is_row_in (in_slot i.slot is)) (bytes_of (id_of i) (slice_get k.extents i.slot)) 0) one.instances
       ∙ ap (λ (es : List Extent). cond (is_life i.life (in_slot i.slot m.instances) && is_row_in (in_slot i.slot m.instances)) (bytes_of (id_of i) (slice_get es i.slot)) 0) one.extents
-      ∙ shows.extent ∙ sym (same_extent s t x other);
+      ∙ shows.extent ∙ sym (other.kept x);
   given = subst (λ (n : ℕ). i.life < n) (sym one.lives) shows.given;
   made = subst (λ (n : ℕ). x.id < n) (sym other.made) shows.made;
 }

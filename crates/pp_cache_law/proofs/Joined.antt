@@ -305,7 +305,7 @@ joins_of number m s shows is id x b bytes there known bound ends within whole sa
       table =
           table-again number (record m { instances = is; chunks = cs }) after_m (record s { chunks = ds }) (note_use (record s { chunks = ds }))
           (record { instances = refl; lives = refl; chunks = refl; extents = refl })
-          (record { instances = refl; made = refl; chunks = refl; followers = λ n. refl; kept = λ key. refl })
+          (record { instances = refl; made = refl; chunks = refl; followers = λ n. refl; kept = λ y. refl })
           (table-faced number (record m { chunks = cs }) (record s { chunks = ds }) is same (with_chunks number m s cs ds shows.table both.shows both.once));
       followed = followed-faced is m.instances same shows.followed;
       ahead = shows.ahead;

@@ -7,6 +7,7 @@ pub mod Finds
 pub mod Followed
 pub mod Framing
 pub mod Joined
+pub mod Keeping
 pub mod Leaving
 pub mod Making
 pub mod Moves

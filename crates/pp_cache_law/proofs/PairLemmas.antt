@@ -52,6 +52,12 @@ mapped_only R S p one f g [] (y ∷ ys) to only all = absurd all
 mapped_only R S p one f g (x ∷ xs) [] to only all = absurd all
 mapped_only R S p one f g (x ∷ xs) (y ∷ ys) to only all = (to x y only.0 all.0, mapped_only R S p one f g xs ys to only.1 all.1)
 
+pub also_only : {A B : Type 0} (R S : A → B → Type 0) (p : A → Bool) (one : A) (xs : List A) (ys : List B) → ((x : A) (y : B) → (p x ≡ true → x ≡ one) → R x y → S x y) → AreOnly p one xs → AreAll R xs ys → AreAll S xs ys
+also_only R S p one [] [] to only all = tt
+also_only R S p one [] (y ∷ ys) to only all = absurd all
+also_only R S p one (x ∷ xs) [] to only all = absurd all
+also_only R S p one (x ∷ xs) (y ∷ ys) to only all = (to x y only.0 all.0, also_only R S p one xs ys to only.1 all.1)
+
 -- ---- those of which a test holds
 
 kept_by : {A B : Type 0} (S : A → B → Type 0) (b c : Bool) (x : A) (y : B) (xs : List A) (ys : List B) → b ≡ c → (b ≡ true → S x y) → AreAll S xs ys → AreAll S (cond b (x ∷ xs) xs) (cond c (y ∷ ys) ys)
@@ -142,6 +148,49 @@ count_parts p q (x ∷ xs) = by (q x) (count_parts p q xs)
         → count_by p (cond (not b) (x ∷ filter (λ x. not (q x)) xs) (filter (λ x. not (q x)) xs)) + count_by p (cond b (x ∷ filter q xs) (filter q xs)) ≡ count_by p (x ∷ xs)
     by true parts = omega (arith, parts, count_first p x (filter q xs), count_first p x xs)
     by false parts = omega (arith, parts, count_first p x (filter (λ x. not (q x)) xs), count_first p x xs)
+
+-- ---- one less
+
+pub fewer_kept : {A : Type 0} (p q : A → Bool) (xs : List A) (y : A) → find q xs ≡ Some y → p y ≡ true → count_by p (filter (λ x. not (q x)) xs) + 1 ≤ count_by p xs
+fewer_kept p q [] y e is = absurd cc
+fewer_kept {A = A} p q (x ∷ xs) y e is = by (q x) (λ f. fewer_kept p q xs y f is) e
+  where
+    it : Some x ≡ Some y → p x ≡ true
+    it f = let same : x ≡ y = cc in ap (λ (z : A). p z) same ∙ is
+
+    by : (b : Bool) → (find q xs ≡ Some y → count_by p (filter (λ x. not (q x)) xs) + 1 ≤ count_by p xs) → cond b (Some x) (find q xs) ≡ Some y
+        → count_by p (cond (not b) (x ∷ filter (λ x. not (q x)) xs) (filter (λ x. not (q x)) xs)) + 1 ≤ count_by p (x ∷ xs)
+    by true rest f =
+        let first : count_by p (x ∷ xs) ≡ 1 + count_by p xs = count_first p x xs ∙ ap (λ (b : Bool). cond b 1 0 + count_by p xs) (it f) in
+        omega (arith, first, count_kept p (λ x. not (q x)) xs)
+    by false rest f =
+        let less : count_by p (filter (λ x. not (q x)) xs) + 1 ≤ count_by p xs = rest f in
+        omega (arith, less, count_first p x (filter (λ x. not (q x)) xs), count_first p x xs)
+
+pub fewer_changed : {A : Type 0} (p q : A → Bool) (f : A → A) (xs : List A) (y : A) → find q xs ≡ Some y → p y ≡ true → ((x : A) → p (f x) ≡ false) → count_by p (map (λ x. cond (q x) (f x) x) xs) + 1 ≤ count_by p xs
+fewer_changed p q f [] y e is out = absurd cc
+fewer_changed {A = A} p q f (x ∷ xs) y e is out = by (q x) (λ g. fewer_changed p q f xs y g is out) e
+  where
+    it : Some x ≡ Some y → p x ≡ true
+    it g = let same : x ≡ y = cc in ap (λ (z : A). p z) same ∙ is
+
+    less : (z : A) → p (cond (q z) (f z) z) ≡ true → p z ≡ true
+    less z = at (q z)
+      where
+        at : (b : Bool) → p (cond b (f z) z) ≡ true → p z ≡ true
+        at true g = let no_way : false ≡ true = sym (out z) ∙ g in absurd cc
+        at false g = g
+
+    by : (b : Bool) → (find q xs ≡ Some y → count_by p (map (λ x. cond (q x) (f x) x) xs) + 1 ≤ count_by p xs) → cond b (Some x) (find q xs) ≡ Some y
+        → count_by p (cond b (f x) x ∷ map (λ x. cond (q x) (f x) x) xs) + 1 ≤ count_by p (x ∷ xs)
+    by true rest g =
+        let first : count_by p (x ∷ xs) ≡ 1 + count_by p xs = count_first p x xs ∙ ap (λ (b : Bool). cond b 1 0 + count_by p xs) (it g) in
+        let none : count_by p (f x ∷ map (λ x. cond (q x) (f x) x) xs) ≡ 0 + count_by p (map (λ x. cond (q x) (f x) x) xs) =
+        count_first p (f x) (map (λ x. cond (q x) (f x) x) xs) ∙ ap (λ (b : Bool). cond b 1 0 + count_by p (map (λ x. cond (q x) (f x) x) xs)) (out x) in
+        omega (arith, first, none, count_mapped p (λ x. cond (q x) (f x) x) xs less)
+    by false rest g =
+        let fewer : count_by p (map (λ x. cond (q x) (f x) x) xs) + 1 ≤ count_by p xs = rest g in
+        omega (arith, fewer, count_first p x (map (λ x. cond (q x) (f x) x) xs), count_first p x xs)
 
 -- ---- tests that are one of the second of each two
 

@@ -72,7 +72,7 @@ stale_extent false k key es apart =
 
 -- ---- an instance
 
-abbrev as_retired : Known → Known
+abbrev pub as_retired : Known → Known
 as_retired x = record x { is_retired = true }
 
 abbrev retired_if : Bytes → Known → Known

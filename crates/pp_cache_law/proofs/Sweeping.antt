@@ -58,21 +58,22 @@ left_true number m s i x retired none one =
 
 -- ---- none is out
 
+pub none_left : (number : ℕ → ℕ) (m : Memory) (s : State) → ShowsTable number m s → AreFollowed m.instances → filter (is_left_over s) s.instances ≡ []
+none_left number m s shows needed =
+    filters_same (ShowsInstance number m s) (is_left_over s) (λ x. false) m.instances s.instances (λ i x one. left_false number m s i x (needed i.slot i one.there) one) shows.instances ∙ filter_none s.instances
+
+pub all_stay : (number : ℕ → ℕ) (m : Memory) (s : State) → ShowsTable number m s → AreFollowed m.instances → law_without (is_left_over s) s.instances ≡ s.instances
+all_stay number m s shows needed =
+    filters_same (ShowsInstance number m s) (λ x. not (is_left_over s x)) (λ x. true) m.instances s.instances
+    (λ i x one. ap (λ (b : Bool). not b) (left_false number m s i x (needed i.slot i one.there) one)) shows.instances
+    ∙ filter_all s.instances
+
 pub sweeps_none : (number : ℕ → ℕ) (m : Memory) (s : State) → ShowsTable number m s → AreFollowed m.instances → ShowsTable number m (swept s)
 unfolding swept
 sweeps_none number m s shows needed =
-    subst (λ (xs : List Known). ShowsTable number m (record s { instances = xs; chunks = law_without (is_chunk_of_any (filter (is_left_over s) s.instances)) s.chunks })) (sym all)
-    (subst (λ (xs : List Known). ShowsTable number m (record s { chunks = law_without (is_chunk_of_any xs) s.chunks })) (sym none)
+    subst (λ (xs : List Known). ShowsTable number m (record s { instances = xs; chunks = law_without (is_chunk_of_any (filter (is_left_over s) s.instances)) s.chunks })) (sym (all_stay number m s shows needed))
+    (subst (λ (xs : List Known). ShowsTable number m (record s { chunks = law_without (is_chunk_of_any xs) s.chunks })) (sym (none_left number m s shows needed))
     (subst (λ (ds : List Front). ShowsTable number m (record s { chunks = ds })) (sym (filter_all s.chunks)) shows))
-  where
-    isnt : (i : Instance) (x : Known) → ShowsInstance number m s i x → is_left_over s x ≡ false
-    isnt i x one = left_false number m s i x (needed i.slot i one.there) one
-
-    none : filter (is_left_over s) s.instances ≡ []
-    none = filters_same (ShowsInstance number m s) (is_left_over s) (λ x. false) m.instances s.instances isnt shows.instances ∙ filter_none s.instances
-
-    all : law_without (is_left_over s) s.instances ≡ s.instances
-    all = filters_same (ShowsInstance number m s) (λ x. not (is_left_over s x)) (λ x. true) m.instances s.instances (λ i x one. ap (λ (b : Bool). not b) (isnt i x one)) shows.instances ∙ filter_all s.instances
 
 -- ---- one is out
 

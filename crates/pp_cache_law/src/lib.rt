@@ -15,6 +15,7 @@
 
 mod changing; // instances that are changed, or leave memory
 mod joining; // bytes that a read brings
+mod noting; // how far rows are kept on the disk
 mod reading; // what is read of the one and of the other
 mod settling; // a row that is made
 mod standing; // when a cache shows a table
@@ -22,6 +23,7 @@ mod using; // chunks that are used, or leave memory
 
 pub use changing::{changes_are_the_laws, retired_ones_leave_as_the_laws};
 pub use joining::joins_are_the_laws;
+pub use noting::extents_are_noted_as_the_laws;
 pub use reading::{bytes_are_the_laws, instances_are_the_laws, leavings_are_the_laws};
 pub use settling::rows_are_made_as_the_laws;
 pub use standing::tables_are_the_laws;
