@@ -15,5 +15,6 @@ pub mod Numbers
 pub mod PairLemmas
 pub mod Renewing
 pub mod Retiring
+pub mod Rooming
 pub mod Sweeping
 pub mod Touching

@@ -5,6 +5,7 @@ pub mod Notes
 pub mod Pairs
 pub mod Reads
 pub mod Retires
+pub mod Rooms
 pub mod Settles
 pub mod Tables
 pub mod Uses

@@ -1,4 +1,5 @@
 // A new row is made, and the table of the law is changed alike.
+ghost use Rattle.pp_cache_law.specs.Rooms.{MakingsAreTheLaws};
 ghost use Rattle.pp_cache_law.specs.Settles.{EnteringsAreTheLaws, SettlingsAreTheLaws};
 
 /// A row of a key is made, in the place of its former one, or comes in from the disk: the cache shows what the law makes of its
@@ -6,4 +7,9 @@ ghost use Rattle.pp_cache_law.specs.Settles.{EnteringsAreTheLaws, SettlingsAreTh
 pub fn rows_are_made_as_the_laws()
     ensures settlings { SettlingsAreTheLaws }
     ensures enterings { EnteringsAreTheLaws }
+{}
+
+/// A response brings a row, for which another leaves memory where there is no room.
+pub fn room_is_made_as_the_laws()
+    ensures { MakingsAreTheLaws }
 {}

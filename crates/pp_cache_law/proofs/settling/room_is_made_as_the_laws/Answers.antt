@@ -1,0 +1,5 @@
+use Rattle.pp_cache_law.proofs.Rooming.{makings_of}
+use Rattle.pp_cache_law.proofs.settling.room_is_made_as_the_laws.Goals as goal
+
+pub returns : goal.returns
+returns c = makings_of
