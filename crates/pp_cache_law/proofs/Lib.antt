@@ -11,6 +11,7 @@ pub mod Keeping
 pub mod Leaving
 pub mod Making
 pub mod Moves
+pub mod Noted
 pub mod Numbers
 pub mod PairLemmas
 pub mod Renewing
@@ -18,3 +19,4 @@ pub mod Retiring
 pub mod Rooming
 pub mod Sweeping
 pub mod Touching
+pub mod Twice

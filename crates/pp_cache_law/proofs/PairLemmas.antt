@@ -1,5 +1,5 @@
 -- What is taken of two lists whose elements belong together belongs together.
-use Rattle.std.proofs.Common.{◌≡◌, ◌≤◌, ◌==◌, refl, sym, ap, ◌∙◌, ℕ, suc, ◌+◌, Bool, true, false, not, ◌||◌, cond, find, List, [], ◌∷◌, ◌++◌, length, map, filter, Option, Some, arith}
+use Rattle.std.proofs.Common.{◌≡◌, ◌≤◌, ◌==◌, refl, sym, ap, ◌∙◌, ℕ, suc, ◌+◌, Bool, true, false, not, ◌&&◌, ◌||◌, cond, find, List, [], ◌∷◌, ◌++◌, length, map, filter, Option, Some, arith}
 use Rattle.std.specs.Prelude.{count_by, ⊤}
 use Rattle.std.specs.List.{list_any}
 use Rattle.std.proofs.lemmas.Bool.Decides.{nat_tests}
@@ -208,3 +208,12 @@ filter_all {A = A} (x ∷ xs) = ap (λ (zs : List A). x ∷ zs) (filter_all xs)
 pub filter_none : {A : Type 0} (xs : List A) → filter (λ x. false) xs ≡ []
 filter_none [] = refl
 filter_none (x ∷ xs) = filter_none xs
+
+-- what one test keeps of what another keeps
+pub filter_both : {A : Type 0} (p q r : A → Bool) (xs : List A) → ((x : A) → (q x && p x) ≡ r x) → filter p (filter q xs) ≡ filter r xs
+filter_both p q r [] same = refl
+filter_both {A = A} p q r (x ∷ xs) same = by (q x) (p x) (r x) refl (same x) (filter_both p q r xs same)
+  where
+    by : (b c d : Bool) → p x ≡ c → (b && c) ≡ d → filter p (filter q xs) ≡ filter r xs → filter p (cond b (x ∷ filter q xs) (filter q xs)) ≡ cond d (x ∷ filter r xs) (filter r xs)
+    by true c d is e rest = ap (λ (t : Bool). cond t (x ∷ filter p (filter q xs)) (filter p (filter q xs))) (is ∙ e) ∙ ap (λ (ys : List A). cond d (x ∷ ys) ys) rest
+    by false c d is e rest = rest ∙ ap (λ (t : Bool). cond t (x ∷ filter r xs) (filter r xs)) e

@@ -2,6 +2,7 @@ pub mod Changes
 pub mod Frames
 pub mod Joins
 pub mod Notes
+pub mod Outdated
 pub mod Pairs
 pub mod Reads
 pub mod Retires

@@ -1,6 +1,6 @@
 // What changes the instances of the cache changes the table of the law alike.
 ghost use Rattle.pp_cache_law.specs.Changes.{FollowingsAreTheLaws, ForgettingsAreTheLaws, MarksAreTheLaws, RenewalsAreTheLaws};
-ghost use Rattle.pp_cache_law.specs.Retires.{LeavingsAreTheLaws, RetiringsAreTheLaws};
+ghost use Rattle.pp_cache_law.specs.Retires.{LeavingsAreTheLaws, RetiringsAreTheLaws, SweepsAreTheLaws};
 
 /// An instance is the most recently used, is renewed by a later response, is followed by one client more, or leaves memory: the
 /// cache shows what the law makes of its table.
@@ -16,4 +16,5 @@ pub fn changes_are_the_laws()
 pub fn retired_ones_leave_as_the_laws()
     ensures leavings { LeavingsAreTheLaws }
     ensures retirings { RetiringsAreTheLaws }
+    ensures sweeps { SweepsAreTheLaws }
 {}

@@ -15,7 +15,7 @@
 
 mod changing; // instances that are changed, or leave memory
 mod joining; // bytes that a read brings
-mod noting; // how far rows are kept on the disk
+mod noting; // how far rows are kept on the disk, and which entries stand for them
 mod reading; // what is read of the one and of the other
 mod settling; // a row that is made
 mod standing; // when a cache shows a table
@@ -23,7 +23,7 @@ mod using; // chunks that are used, or leave memory
 
 pub use changing::{changes_are_the_laws, retired_ones_leave_as_the_laws};
 pub use joining::joins_are_the_laws;
-pub use noting::extents_are_noted_as_the_laws;
+pub use noting::{extents_are_noted_as_the_laws, outdated_ones_are_the_laws};
 pub use reading::{bytes_are_the_laws, instances_are_the_laws, leavings_are_the_laws};
 pub use settling::{room_is_made_as_the_laws, rows_are_made_as_the_laws};
 pub use standing::tables_are_the_laws;
