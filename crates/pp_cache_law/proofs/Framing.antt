@@ -14,6 +14,16 @@ use Rattle.pp_cache_law.specs.Pairs.{AreAll}
 use Rattle.pp_cache_law.specs.Tables.{AreFollowed, ShowsCache, ShowsChunk, ShowsInstance, ShowsTable, number_in}
 use Rattle.pp_cache_law.proofs.PairLemmas.{also}
 
+less_more : (a b c : ℕ) → a < b → b ≤ c → a < c
+less_more a b c e f = omega (arith, e, f)
+
+no_less : (a b c : ℕ) → a ≤ b → b ≤ c → a ≤ c
+no_less a b c e f = omega (arith, e, f)
+
+-- none is passed over
+pub the_same : (n : ℕ) → n ≤ n
+the_same n = omega arith
+
 again : (number : ℕ → ℕ) (m k : Memory) (s t : State) (i : Instance) (x : Known) → IsSameMemory m k → IsSameTable s t → ShowsInstance number m s i x → ShowsInstance number k t i x
 again number m k s t i x one other shows = record {
   there = ap (λ (is : List Instance). in_slot i.slot is) one.instances ∙ shows.there;
@@ -29,7 +39,7 @@ again number m k s t i x one other shows = record {
       ∙ ap (λ (es : List Extent). cond (is_life i.life (in_slot i.slot m.instances) && is_row_in (in_slot i.slot m.instances)) (bytes_of (id_of i) (slice_get es i.slot)) 0) one.extents
       ∙ shows.extent ∙ sym (other.kept x);
   given = subst (λ (n : ℕ). i.life < n) (sym one.lives) shows.given;
-  made = subst (λ (n : ℕ). x.id < n) (sym other.made) shows.made;
+  made = less_more x.id s.next_instance t.next_instance shows.made other.made;
 }
 
 again_chunk : (number : ℕ → ℕ) (m k : Memory) (c : Chunk) (d : Front) → IsSameMemory m k → ShowsChunk number m c d → ShowsChunk number k c d
@@ -63,7 +73,7 @@ pub frames_of : FramesAreTheLaws
 frames_of number m s shows k t one other = record {
   table = table-again number m k s t one other shows.table;
   followed = subst (λ (is : List Instance). AreFollowed is) (sym one.instances) shows.followed;
-  ahead = λ n more. other.followers n ∙ shows.ahead n (subst (λ (j : ℕ). j ≤ n) other.made more);
+  ahead = λ n more. other.followers n ∙ shows.ahead n (no_less s.next_instance t.next_instance n other.made more);
 }
 
 -- ---- an empty one

@@ -21,7 +21,7 @@ use Rattle.pp_cache_law.proofs.Alike.{bytes_in_chunks}
 use Rattle.pp_cache_law.proofs.Changed.{its_number}
 use Rattle.pp_cache_law.proofs.Faces.{followed-faced, table-faced}
 use Rattle.pp_cache_law.proofs.Finds.{find_out, none_found}
-use Rattle.pp_cache_law.proofs.Framing.{table-again}
+use Rattle.pp_cache_law.proofs.Framing.{table-again, the_same}
 use Rattle.pp_cache_law.proofs.Numbers.{Apart, chunks_alike, is_same, number_of_there, true_false}
 use Rattle.pp_cache_law.proofs.PairLemmas.{count_first, count_joined, count_kept, joined, kept}
 use Rattle.pp_cache_law.proofs.Touching.{with_chunks}
@@ -305,7 +305,7 @@ joins_of number m s shows is id x b bytes there known bound ends within whole sa
       table =
           table-again number (record m { instances = is; chunks = cs }) after_m (record s { chunks = ds }) (note_use (record s { chunks = ds }))
           (record { instances = refl; lives = refl; chunks = refl; extents = refl })
-          (record { instances = refl; made = refl; chunks = refl; followers = λ n. refl; kept = λ y. refl })
+          (record { instances = refl; made = the_same s.next_instance; chunks = refl; followers = λ n. refl; kept = λ y. refl })
           (table-faced number (record m { chunks = cs }) (record s { chunks = ds }) is same (with_chunks number m s cs ds shows.table both.shows both.once));
       followed = followed-faced is m.instances same shows.followed;
       ahead = shows.ahead;

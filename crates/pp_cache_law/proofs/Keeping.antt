@@ -18,7 +18,7 @@ use Rattle.pp_cache_law.specs.Tables.{ShowsCache, ShowsChunk, ShowsInstance, Sho
 use Rattle.pp_cache_law.proofs.Alike.{instances_of}
 use Rattle.pp_cache_law.proofs.Extents.{its_kept, later_kept, others_kept}
 use Rattle.pp_cache_law.proofs.Finds.{find_joined, find_kept, find_mapped, find_out, find_passes, first_of_two, only_found}
-use Rattle.pp_cache_law.proofs.Framing.{frames_of}
+use Rattle.pp_cache_law.proofs.Framing.{frames_of, the_same}
 use Rattle.pp_cache_law.proofs.Numbers.{is_same, same_test, some_is, true_false}
 use Rattle.pp_cache_law.proofs.PairLemmas.{also, also_only}
 
@@ -288,7 +288,7 @@ losses_of number m s shows id x row = keeps_to number m s (note_gone x.key s) id
 pub removals_of : RemovalsAreTheLaws
 removals_of number m s shows key none = frames_of number m s shows m (note_gone key s) (record { instances = refl; lives = refl; chunks = refl; extents = refl }) (record {
   instances = gone.instances;
-  made = gone.made;
+  made = subst (λ (n : ℕ). s.next_instance ≤ n) (sym gone.made) (the_same s.next_instance);
   chunks = gone.chunks;
   followers = gone.followers;
   kept = λ y. by y.is_retired y.key;

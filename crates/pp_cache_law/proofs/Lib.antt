@@ -14,6 +14,7 @@ pub mod Moves
 pub mod Noted
 pub mod Numbers
 pub mod PairLemmas
+pub mod Refusing
 pub mod Renewing
 pub mod Retiring
 pub mod Rooming

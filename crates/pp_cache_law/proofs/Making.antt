@@ -1,5 +1,5 @@
 -- A new row of a key is made as the law has it.
-use Rattle.std.proofs.Common.{◌≡◌, ◌≤◌, ◌<◌, ◌+◌, refl, sym, subst, ap, ◌∙◌, ℕ, Bool, true, false, not, ◌==◌, ◌&&◌, cond, find, List, [], ◌∷◌, ◌++◌, map, filter, Option, Some, None, option_map, arith}
+use Rattle.std.proofs.Common.{◌≡◌, ◌≤◌, ◌<◌, ◌+◌, refl, sym, subst, ap, ◌∙◌, ℕ, Bool, true, false, not, ◌==◌, ◌&&◌, cond, find, List, [], ◌∷◌, ◌++◌, map, Option, Some, None, option_map, arith}
 use Rattle.std.specs.Prelude.{bytes_eq, count_by, slice_get}
 use Rattle.std.proofs.lemmas.Bool.Decides.{nat_tests}
 use Rattle.pp_cache.specs.Memory.{Memory, is_row_in, retired_at, with_outdated, with_row}
@@ -25,7 +25,7 @@ use Rattle.pp_cache_law.specs.Tables.{AreFollowed, ShowsCache, ShowsChunk, Shows
 use Rattle.pp_cache_law.proofs.Finds.{find_joined, first_of_two, none_found}
 use Rattle.pp_cache_law.proofs.Moves.{changed_if, in_slot-changed, in_slot-elsewhere, in_slot-gone}
 use Rattle.pp_cache_law.proofs.Numbers.{is_same, same_test, some_is, true_false}
-use Rattle.pp_cache_law.proofs.PairLemmas.{also, count_first, count_joined, joined}
+use Rattle.pp_cache_law.proofs.PairLemmas.{also, count_first, count_joined, filter_joined, joined}
 use Rattle.pp_cache_law.proofs.Retiring.{cleared_followed, clears_at, row_here, stale}
 
 -- ---- what stands in the slots
@@ -103,7 +103,7 @@ number_new number m s new vacant life =
     ∙ ap (λ (k : ℕ). Some (numbered m.lives s.next_instance number k)) life ∙ ap (λ (k : ℕ). Some k) (new_number m.lives s.next_instance number)
 
 -- each number is below that of the next
-below_next : (number : ℕ → ℕ) (m : Memory) (s : State) (slot n : ℕ) → ShowsTable number m s → number_in number slot m.instances ≡ Some n → n < s.next_instance
+pub below_next : (number : ℕ → ℕ) (m : Memory) (s : State) (slot n : ℕ) → ShowsTable number m s → number_in number slot m.instances ≡ Some n → n < s.next_instance
 below_next number m s slot n shows at = by (in_slot slot m.instances) refl at
   where
     by : (u : Option Instance) → in_slot slot m.instances ≡ u → option_map (λ i. number i.life) u ≡ Some n → n < s.next_instance
@@ -239,14 +239,6 @@ adds_at number m s es id key version kept times is_new shows vacant life keeps u
     one a b n false false e f first second = shows.apart a b n (at_old a n e first) (at_old b n f second)
 
 -- ---- the former row is cleared
-
-filter_joined : (p : Instance → Bool) (is js : List Instance) → filter p (is ++ js) ≡ filter p is ++ filter p js
-filter_joined p [] js = refl
-filter_joined p (i ∷ is) js = by (p i) (filter_joined p is js)
-  where
-    by : (b : Bool) → filter p (is ++ js) ≡ filter p is ++ filter p js → cond b (i ∷ filter p (is ++ js)) (filter p (is ++ js)) ≡ cond b (i ∷ filter p is) (filter p is) ++ filter p js
-    by true same = ap (λ (ks : List Instance). i ∷ ks) same
-    by false same = same
 
 map_joined : (f : Instance → Instance) (is js : List Instance) → map f (is ++ js) ≡ map f is ++ map f js
 map_joined f [] js = refl

@@ -217,3 +217,15 @@ filter_both {A = A} p q r (x ∷ xs) same = by (q x) (p x) (r x) refl (same x) (
     by : (b c d : Bool) → p x ≡ c → (b && c) ≡ d → filter p (filter q xs) ≡ filter r xs → filter p (cond b (x ∷ filter q xs) (filter q xs)) ≡ cond d (x ∷ filter r xs) (filter r xs)
     by true c d is e rest = ap (λ (t : Bool). cond t (x ∷ filter p (filter q xs)) (filter p (filter q xs))) (is ∙ e) ∙ ap (λ (ys : List A). cond d (x ∷ ys) ys) rest
     by false c d is e rest = rest ∙ ap (λ (t : Bool). cond t (x ∷ filter r xs) (filter r xs)) e
+
+pub filter_joined : {A : Type 0} (p : A → Bool) (xs ys : List A) → filter p (xs ++ ys) ≡ filter p xs ++ filter p ys
+filter_joined p [] ys = refl
+filter_joined {A = A} p (x ∷ xs) ys = by (p x) (filter_joined p xs ys)
+  where
+    by : (b : Bool) → filter p (xs ++ ys) ≡ filter p xs ++ filter p ys → cond b (x ∷ filter p (xs ++ ys)) (filter p (xs ++ ys)) ≡ cond b (x ∷ filter p xs) (filter p xs) ++ filter p ys
+    by true same = ap (λ (zs : List A). x ∷ zs) same
+    by false same = same
+
+pub joined_none : {A : Type 0} (xs : List A) → xs ++ [] ≡ xs
+joined_none [] = refl
+joined_none {A = A} (x ∷ xs) = ap (λ (zs : List A). x ∷ zs) (joined_none xs)

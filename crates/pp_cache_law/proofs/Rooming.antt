@@ -22,7 +22,7 @@ use Rattle.pp_cache_law.specs.Tables.{ShowsCache, ShowsInstance, ShowsTable}
 use Rattle.pp_cache_law.proofs.Alike.{idle_rows_of, room_of, rows_of}
 use Rattle.pp_cache_law.proofs.Changed.{forgettings_of}
 use Rattle.pp_cache_law.proofs.Finds.{find_passes, none_changed, none_within}
-use Rattle.pp_cache_law.proofs.Framing.{frames_of}
+use Rattle.pp_cache_law.proofs.Framing.{frames_of, the_same}
 use Rattle.pp_cache_law.proofs.Making.{settlings_of}
 use Rattle.pp_cache_law.proofs.Numbers.{same_test}
 use Rattle.pp_cache_law.proofs.PairLemmas.{fewer_changed, fewer_kept, filter_all}
@@ -31,11 +31,11 @@ use Rattle.pp_cache_law.proofs.Sweeping.{all_stay, none_left}
 
 -- ---- where a key has no row, nothing is cleared but its entry
 
-record IsCleared (s t : State) : Type 0 where
+pub record IsCleared (s t : State) : Type 0 where
   pub instances : t.instances ≡ s.instances
   pub chunks : t.chunks ≡ s.chunks
 
-nothing_cleared : (number : ℕ → ℕ) (m : Memory) (s : State) (key : Bytes) → ShowsCache number m s → row s key ≡ None → IsCleared s (clear key s)
+pub nothing_cleared : (number : ℕ → ℕ) (m : Memory) (s : State) (key : Bytes) → ShowsCache number m s → row s key ≡ None → IsCleared s (clear key s)
 unfolding clear swept
 nothing_cleared number m s key shows none = record {
   instances = ap (λ (xs : List Known). law_without (is_left_over s) xs) same ∙ all_stay number m s shows.table shows.followed;
@@ -66,13 +66,13 @@ fewer_rows key is i there here = by (i.followers == 0)
 has_room : (n : ℕ) → n + 1 ≤ 1024 → nat_lt n 1024 ≡ true
 has_room n few = grind (arith, nat_tests)
 
-is_full : (n : ℕ) → nat_le 1024 n ≡ true → nat_lt n 1024 ≡ false
+pub is_full : (n : ℕ) → nat_le 1024 n ≡ true → nat_lt n 1024 ≡ false
 is_full n full = grind (arith, nat_tests)
 
-isnt_full : (n : ℕ) → nat_le 1024 n ≡ false → nat_lt n 1024 ≡ true
+pub isnt_full : (n : ℕ) → nat_le 1024 n ≡ false → nat_lt n 1024 ≡ true
 isnt_full n few = grind (arith, nat_tests)
 
-cleared_room : (number : ℕ → ℕ) (m : Memory) (s : State) (key : Bytes) (i : Instance) → ShowsCache number m s → row_of key m.instances ≡ Some i → rows s ≤ 1024 → nat_lt (rows (clear key s)) 1024 ≡ true
+pub cleared_room : (number : ℕ → ℕ) (m : Memory) (s : State) (key : Bytes) (i : Instance) → ShowsCache number m s → row_of key m.instances ≡ Some i → rows s ≤ 1024 → nat_lt (rows (clear key s)) 1024 ≡ true
 unfolding retired_at
 cleared_room number m s key i shows there few =
     has_room (rows (clear key s)) (omega (arith, few, before, behind, fewer_rows key m.instances i there (row_here number m s key i shows.table there)))
@@ -87,14 +87,14 @@ cleared_room number m s key i shows there few =
 
 -- ---- a row is made
 
-abbrev made_by : State → Bool → Option Known → State
+abbrev pub made_by : State → Bool → Option Known → State
 made_by s b o = elim b as (λ c. State) [ true ↦ s | false ↦ elim o as (λ c. State) [ None ↦ s | Some x ↦ forget_row x s ] ]
 
-cleared_idle : (s : State) (key : Bytes) → IsCleared s (clear key s) → idle_row (clear key s) ≡ idle_row s
+pub cleared_idle : (s : State) (key : Bytes) → IsCleared s (clear key s) → idle_row (clear key s) ≡ idle_row s
 unfolding clear swept
 cleared_idle s key cleared = ap (λ (xs : List Known). find (is_idle_row s) xs) cleared.instances
 
-cleared_rows : (s : State) (key : Bytes) → IsCleared s (clear key s) → rows (clear key s) ≡ rows s
+pub cleared_rows : (s : State) (key : Bytes) → IsCleared s (clear key s) → rows (clear key s) ≡ rows s
 cleared_rows s key cleared = ap (λ (xs : List Known). count_by (λ (x : Known). not x.is_retired) xs) cleared.instances
 
 -- whether another leaves before or behind
@@ -103,7 +103,7 @@ same_made : (s : State) (key : Bytes) (x : Known) (version : Version) (kept : Li
 unfolding add_row forget_row forget clear swept
 same_made s key x version kept times before behind = record {
   instances = ap (λ (xs : List Known). law_without (is_instance x.id) xs ++ new ∷ []) before.instances ∙ sym (ap (λ (xs : List Known). xs ++ new ∷ []) behind.instances);
-  made = refl;
+  made = the_same (s.next_instance + 1);
   chunks = ap (λ (ds : List Front). law_without (λ (d : Front). d.instance == x.id) ds) before.chunks ∙ sym behind.chunks;
   followers = λ n. refl;
   kept = λ y. refl;
@@ -112,7 +112,7 @@ same_made s key x version kept times before behind = record {
     new : Known
     new = record { id = s.next_instance; key = key; version = version; fields = kept; times = times; is_retired = false; is_new = true }
 
-no_known : (number : ℕ → ℕ) (m : Memory) (s : State) (key : Bytes) → ShowsTable number m s → row_of key m.instances ≡ None → row s key ≡ None
+pub no_known : (number : ℕ → ℕ) (m : Memory) (s : State) (key : Bytes) → ShowsTable number m s → row_of key m.instances ≡ None → row s key ≡ None
 no_known number m s key shows none = by (row_of key m.instances) (row s key) none (rows_of number m s shows key)
   where
     none_some : (i : Instance) → Some i ≡ None → ⊥
@@ -123,7 +123,7 @@ no_known number m s key shows none = by (row_of key m.instances) (row s key) non
     by None (Some x) e both = absurd both
     by (Some i) v e both = absurd (none_some i e)
 
-none_behind : (s : State) (key : Bytes) (n : ℕ) → row s key ≡ None → row (forget n s) key ≡ None
+pub none_behind : (s : State) (key : Bytes) (n : ℕ) → row s key ≡ None → row (forget n s) key ≡ None
 unfolding forget
 none_behind s key n none = none_within (is_known_row key) (λ (x : Known). not (is_instance n x)) s.instances none
 

@@ -7,7 +7,7 @@ use Rattle.pp_law.specs.Lists.{without as law_without}
 use Rattle.pp_law.specs.State.{Client, Instance as Known, Chunk as Front}
 use Rattle.pp_law.specs.Table.{follows, is_chunk_of_any, is_instance, swept}
 use Rattle.pp_cache_law.specs.Retires.{SweepsAreTheLaws}
-use Rattle.pp_cache_law.proofs.Framing.{frames_of}
+use Rattle.pp_cache_law.proofs.Framing.{frames_of, the_same}
 use Rattle.pp_cache_law.proofs.Numbers.{true_false}
 use Rattle.pp_cache_law.proofs.PairLemmas.{filter_both, none_of}
 
@@ -67,7 +67,7 @@ sweeps_of number m s cs ds less shows = frames_of number m (swept (record (swept
       instances =
           sym (filter_both (λ (x : Known). not (left_by ds x)) (λ (x : Known). not (left_by cs x)) (λ (x : Known). not (left_by ds x)) s.instances
           (λ x. both_stay (left_by cs x) (left_by ds x) (left_too cs ds x (less x.id))));
-      made = refl;
+      made = the_same s.next_instance;
       chunks =
           sym (filter_both (λ (d : Front). not (is_chunk_of_any (filter (left_by ds) (law_without (left_by cs) s.instances)) d)) (λ (d : Front). not (is_chunk_of_any (filter (left_by cs) s.instances) d))
           (λ (d : Front). not (is_chunk_of_any (filter (left_by ds) s.instances) d)) s.chunks

@@ -1,5 +1,5 @@
 -- What is no part of the table may change: the cache shows it still.
-use Rattle.std.specs.Prelude.{◌≡◌, ℕ, count_by, []}
+use Rattle.std.specs.Prelude.{◌≡◌, ◌≤◌, ℕ, count_by, []}
 use Rattle.pp_cache.specs.Memory.{Memory, empty_memory}
 use Rattle.pp_law.specs.State.{State, Instance as Known}
 use Rattle.pp_law.specs.Table.{extent_of, follows}
@@ -16,10 +16,11 @@ pub record IsSameMemory (m k : Memory) : Type 0 where
   pub chunks : k.chunks ≡ m.chunks
   pub extents : k.extents ≡ m.extents
 
--- but for all that is of clients, exchanges, the disk and the turn: as many follow each instance, and it is kept as far
+-- but for all that is of clients, exchanges, the disk and the turn: as many follow each instance, and it is kept as far. A number
+-- may be passed over
 pub record IsSameTable (s t : State) : Type 0 where
   pub instances : t.instances ≡ s.instances
-  pub made : t.next_instance ≡ s.next_instance
+  pub made : s.next_instance ≤ t.next_instance
   pub chunks : t.chunks ≡ s.chunks
   pub followers : (n : ℕ) → count_by (follows n) t.clients ≡ count_by (follows n) s.clients
   pub kept : (x : Known) → extent_of t x ≡ extent_of s x

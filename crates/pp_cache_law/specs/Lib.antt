@@ -5,6 +5,7 @@ pub mod Notes
 pub mod Outdated
 pub mod Pairs
 pub mod Reads
+pub mod Refusals
 pub mod Retires
 pub mod Rooms
 pub mod Settles

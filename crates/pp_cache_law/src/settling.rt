@@ -1,4 +1,5 @@
 // A new row is made, and the table of the law is changed alike.
+ghost use Rattle.pp_cache_law.specs.Refusals.{RefusalsAreTheLaws};
 ghost use Rattle.pp_cache_law.specs.Rooms.{MakingsAreTheLaws};
 ghost use Rattle.pp_cache_law.specs.Settles.{EnteringsAreTheLaws, SettlingsAreTheLaws};
 
@@ -9,7 +10,8 @@ pub fn rows_are_made_as_the_laws()
     ensures enterings { EnteringsAreTheLaws }
 {}
 
-/// A response brings a row, for which another leaves memory where there is no room.
+/// A response brings a row, for which another leaves memory where there is no room; or memory is refused for it.
 pub fn room_is_made_as_the_laws()
-    ensures { MakingsAreTheLaws }
+    ensures makings { MakingsAreTheLaws }
+    ensures refusals { RefusalsAreTheLaws }
 {}
