@@ -18,7 +18,7 @@ use Rattle.pp_cache_law.proofs.Alike.{rows_of}
 use Rattle.pp_cache_law.proofs.Extents.{its_kept, later_kept, others_kept}
 use Rattle.pp_cache_law.proofs.Making.{KeepsOn, adds_at, joined_followed}
 
-no_row : (number : ℕ → ℕ) (m : Memory) (s : State) (key : Bytes) → ShowsTable number m s → row s key ≡ None → row_of key m.instances ≡ None
+pub no_row : (number : ℕ → ℕ) (m : Memory) (s : State) (key : Bytes) → ShowsTable number m s → row s key ≡ None → row_of key m.instances ≡ None
 no_row number m s key shows none = by (row_of key m.instances) (row s key) none (rows_of number m s shows key)
   where
     none_some : (x : Known) → Some x ≡ None → ⊥
@@ -39,7 +39,7 @@ kept_on number m s id key e shows life within kept = record {
 
 pub enterings_of : EnteringsAreTheLaws
 unfolding with_row add_row
-enterings_of number m s shows id key e is_new vacant life within none kept fields =
+enterings_of number m s shows id key e is_new may =
     subst (λ (fs : List Field). ShowsCache (numbered m.lives s.next_instance number)
     (record m {
       instances = retired_from (row_of key m.instances) (m.instances ++ new_row id key e.version fs e.times ∷ []);
@@ -48,7 +48,7 @@ enterings_of number m s shows id key e is_new vacant life within none kept field
       extents = kept_to id e.extent m.extents;
     })
     (add_row key e.version e.fields e.times is_new s))
-    (sym fields)
+    (sym may.fields)
     (subst (λ (u : Option Instance). ShowsCache (numbered m.lives s.next_instance number)
     (record m {
       instances = retired_from u (m.instances ++ new_row id key e.version e.fields e.times ∷ []);
@@ -57,12 +57,12 @@ enterings_of number m s shows id key e is_new vacant life within none kept field
       extents = kept_to id e.extent m.extents;
     })
     (add_row key e.version e.fields e.times is_new s))
-    (sym (no_row number m s key shows.table none))
+    (sym (no_row number m s key shows.table may.alone))
     (record {
       table =
-          adds_at number m s (kept_to id e.extent m.extents) id key e.version e.fields e.times is_new shows.table vacant life (kept_on number m s id key e shows.table life within kept) (shows.ahead s.next_instance (omega arith))
-          (subst (λ (u : Option Instance). HasOneRow (retired_from u (m.instances ++ new_row id key e.version e.fields e.times ∷ []))) (no_row number m s key shows.table none)
+          adds_at number m s (kept_to id e.extent m.extents) id key e.version e.fields e.times is_new shows.table may.vacant may.life (kept_on number m s id key e shows.table may.life may.slot may.kept) (shows.ahead s.next_instance (omega arith))
+          (subst (λ (u : Option Instance). HasOneRow (retired_from u (m.instances ++ new_row id key e.version e.fields e.times ∷ []))) (no_row number m s key shows.table may.alone)
           (one_row-settled id key e.version e.fields e.times m.instances shows.table.rows));
-      followed = joined_followed m.instances (new_row id key e.version e.fields e.times) vacant refl shows.followed;
+      followed = joined_followed m.instances (new_row id key e.version e.fields e.times) may.vacant refl shows.followed;
       ahead = λ n more. shows.ahead n (omega (arith, more));
     }))

@@ -59,6 +59,16 @@ none_within p q (x ∷ xs) none = by (p x) refl (q x) (λ f. none_within p q xs 
     by false e true rest f = ap (λ (b : Bool). cond b (Some x) (find p (filter q xs))) e ∙ rest f
     by false e false rest f = rest f
 
+-- nor does it hold of one that another test finds
+pub none_passes : {A : Type 0} (p q : A → Bool) (xs : List A) (y : A) → find p xs ≡ None → find q xs ≡ Some y → p y ≡ false
+none_passes p q [] y none e = absurd (none_some y e)
+none_passes {A = A} p q (x ∷ xs) y none e = by (p x) refl (q x) (λ f g. none_passes p q xs y f g) none e
+  where
+    by : (b : Bool) → p x ≡ b → (c : Bool) → (find p xs ≡ None → find q xs ≡ Some y → p y ≡ false) → cond b (Some x) (find p xs) ≡ None → cond c (Some x) (find q xs) ≡ Some y → p y ≡ false
+    by true is c rest f g = absurd (none_some x (sym f))
+    by false isnt true rest f g = ap (λ (z : A). p z) (sym (some_is x y g)) ∙ isnt
+    by false isnt false rest f g = rest f g
+
 -- ---- where a test holds once at most
 
 pub none_kept : {A : Type 0} (p : A → Bool) (xs : List A) → find p xs ≡ None → filter p xs ≡ []

@@ -50,7 +50,7 @@ some_none : (i : Instance) → Some i ≡ None → ⊥
 some_none i e = absurd cc
 
 -- what stands in a slot stands in no vacant one
-not_vacant : (slot k : ℕ) (is : List Instance) (i : Instance) → in_slot slot is ≡ Some i → in_slot k is ≡ None → (slot == k) ≡ false
+pub not_vacant : (slot k : ℕ) (is : List Instance) (i : Instance) → in_slot slot is ≡ Some i → in_slot k is ≡ None → (slot == k) ≡ false
 not_vacant slot k is i there vacant = by (slot == k) refl
   where
     by : (b : Bool) → (slot == k) ≡ b → b ≡ false
