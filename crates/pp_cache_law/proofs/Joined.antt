@@ -101,7 +101,7 @@ same_joining at front run = by (nat_le at front)
     by true = refl
     by false = refl
 
-not_less : (at e : ℕ) → e ≤ at → nat_lt at e ≡ false
+pub not_less : (at e : ℕ) → e ≤ at → nat_lt at e ≡ false
 not_less at e more = grind (arith, nat_tests)
 
 run_alike : (number : ℕ → ℕ) (m : Memory) (slot n e at : ℕ) (run : Bytes) (cs : List Chunk) (ds : List Front) → Apart number m.instances → number_in number slot m.instances ≡ Some n → e ≤ at → Both number m cs ds
@@ -120,7 +120,7 @@ run_alike number m slot n e at run cs ds apart there more both =
 
 -- ---- all runs
 
-abbrev going : List Chunk → ℕ → ℕ → Adding
+abbrev pub going : List Chunk → ℕ → ℕ → Adding
 going cs j i = record { chunks = cs; joined = j; ignored = i; need_chunk = false }
 
 stays_stopped : (size o : ℕ) (a : Adding) (rs : List Run) → a.need_chunk ≡ true → (add_runs size o a rs).need_chunk ≡ true
@@ -138,7 +138,7 @@ stays_stopped size o a (r ∷ rs) stopped = stays_stopped size o (add_run size o
 some_room : (at : ℕ) → 0 < room_at at
 some_room at = omega arith
 
-all_alike : (number : ℕ → ℕ) (m : Memory) (slot n e size : ℕ) (fuel k at : ℕ) (bytes : Bytes) (cs : List Chunk) (j i : ℕ) (ds : List Front) → Apart number m.instances → number_in number slot m.instances ≡ Some n → e ≤ at
+pub all_alike : (number : ℕ → ℕ) (m : Memory) (slot n e size : ℕ) (fuel k at : ℕ) (bytes : Bytes) (cs : List Chunk) (j i : ℕ) (ds : List Front) → Apart number m.instances → number_in number slot m.instances ≡ Some n → e ≤ at
     → length bytes ≤ fuel → at % 4096 + length bytes ≤ k * 4096 → (add_runs size slot (going cs j i) (runs_up_to fuel at bytes)).need_chunk ≡ false → Both number m cs ds
     → Both number m (add_runs size slot (going cs j i) (runs_up_to fuel at bytes)).chunks (join_runs k n e at bytes ds)
 all_alike number m slot n e size zero zero at bytes cs j i ds apart there more few enough whole both = both

@@ -10,6 +10,7 @@ pub mod GivingWay
 pub mod Joined
 pub mod Keeping
 pub mod Leaving
+pub mod Loading
 pub mod Making
 pub mod Moves
 pub mod Noted

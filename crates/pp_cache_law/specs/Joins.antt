@@ -1,12 +1,13 @@
 -- Bytes that a read brings join the chunks of the table, and of the cache alike.
-use Rattle.std.specs.Prelude.{◌≡◌, ◌≤◌, ◌+◌, ◌-◌, ◌%◌, ◌⊎◌, ℕ, true, false, min, List, length, drop, Some}
+use Rattle.std.specs.Prelude.{◌≡◌, ◌<◌, ◌≤◌, ◌+◌, ◌-◌, ◌*◌, ◌%◌, ◌⊎◌, ℕ, true, false, min, List, length, drop, take, Some}
 use Rattle.pp_cache.specs.OnDisk.{grown_by}
 use Rattle.pp_holes.specs.Adding.{Adding, added}
-use Rattle.pp_holes.specs.Places.{Chunk}
+use Rattle.pp_holes.specs.Places.{Chunk, bytes_at}
 use Rattle.pp_law.specs.Lists.{Bytes}
 use Rattle.pp_law.specs.OwnHeads.{join}
-use Rattle.pp_law.specs.State.{Bound, Instance as Known}
-use Rattle.pp_law.specs.Table.{extent_of, instance}
+use Rattle.pp_law.specs.State.{Bound, Entry, Instance as Known}
+use Rattle.pp_law.specs.Store.{chunk_in_file, load}
+use Rattle.pp_law.specs.Table.{extent_of, instance, kept_row, row}
 use Rattle.pp_objects.specs.Changes.{faces}
 use Rattle.pp_objects.specs.Instances.{Instance, is_there}
 use Rattle.pp_objects.specs.declared.id.ObjectId.{ObjectId}
@@ -31,3 +32,10 @@ JoinsAreTheLaws = OfCaches (λ number m s. (is : List Instance) (id : ObjectId) 
     → ShowsCache number
     (record m { instances = is; chunks = (added_behind (extent_of s x) m.size id.slot b.next bytes m.chunks).chunks; grown = grown_by id m.grown })
     (join b bytes s))
+
+-- a chunk is read back from the disk, of which memory has a front at most, or nothing
+abbrev pub LoadsAreTheLaws : Type 0
+LoadsAreTheLaws = OfCaches (λ number m s. (is : List Instance) (id : ObjectId) (x : Known) (e : Entry) (i : ℕ) → is_there id m.instances ≡ true → instance s (number id.life) ≡ Some x → row s x.key ≡ Some x → kept_row s x.key ≡ Some e
+    → bytes_at (id.slot, i) m.chunks ≡ take (length (bytes_at (id.slot, i) m.chunks)) (chunk_in_file s e i) → length (bytes_at (id.slot, i) m.chunks) < length (chunk_in_file s e i)
+    → (added m.size id.slot (i * 4096) (chunk_in_file s e i) m.chunks).need_chunk ≡ false → faces is ≡ faces m.instances
+    → ShowsCache number (record m { instances = is; chunks = (added m.size id.slot (i * 4096) (chunk_in_file s e i) m.chunks).chunks; grown = grown_by id m.grown }) (load x.key i s))
