@@ -135,7 +135,10 @@ stays_stopped size o a (r ∷ rs) stopped = stays_stopped size o (add_run size o
       need_chunk = false;
     }
 
-some_room : (at : ℕ) → 0 < room_at at
+pub rest_fits : (at l r k : ℕ) → r ≡ l - room_at at → at % 4096 + l ≤ suc k * 4096 → (at + room_at at) % 4096 + r ≤ k * 4096
+rest_fits at l r k is enough = omega (arith, is, enough)
+
+pub some_room : (at : ℕ) → 0 < room_at at
 some_room at = omega arith
 
 pub all_alike : (number : ℕ → ℕ) (m : Memory) (slot n e size : ℕ) (fuel k at : ℕ) (bytes : Bytes) (cs : List Chunk) (j i : ℕ) (ds : List Front) → Apart number m.instances → number_in number slot m.instances ≡ Some n → e ≤ at
@@ -176,9 +179,6 @@ all_alike number m slot n e size (suc fuel) (suc k) at (b ∷ bs) cs j i ds apar
         (join_runs k n e (at + room_at at) rest (law_join_run n e at (take (room_at at) (b ∷ bs)) ds))
     by true is goes found = absurd (true_false (sym (stays_stopped size slot (record (going cs j i) { need_chunk = true }) (runs_up_to fuel (at + room_at at) rest) refl) ∙ found))
     by false is goes found = goes found
-
-    rest_fits : (at l r k : ℕ) → r ≡ l - room_at at → at % 4096 + l ≤ suc k * 4096 → (at + room_at at) % 4096 + r ≤ k * 4096
-    rest_fits at l r k is enough = omega (arith, is, enough)
 
 -- ---- what is kept on the disk does not join
 
@@ -226,9 +226,6 @@ behind_alike number m slot n e size (suc k) at (b ∷ bs) cs ds apart there less
 
     same : at < e → drop (e - (at + room_at at)) rest ≡ drop (e - at) (b ∷ bs)
     same lt = drop-drop (e - (at + room_at at)) (room_at at) (b ∷ bs) ∙ ap (λ (j : ℕ). drop j (b ∷ bs)) (far lt)
-
-    rest_fits : (at l r k : ℕ) → r ≡ l - room_at at → at % 4096 + l ≤ suc k * 4096 → (at + room_at at) % 4096 + r ≤ k * 4096
-    rest_fits at l r k is enough = omega (arith, is, enough)
 
     no_more : e ≤ at → e - at ≡ 0
     no_more more = omega (arith, more)

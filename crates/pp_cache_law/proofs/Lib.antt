@@ -19,6 +19,7 @@ pub mod PairLemmas
 pub mod Refusing
 pub mod Renewing
 pub mod Retiring
+pub mod Room
 pub mod Rooming
 pub mod Sweeping
 pub mod Touching

@@ -1,5 +1,5 @@
 -- Bytes that a read brings join the chunks of the table, and of the cache alike.
-use Rattle.std.specs.Prelude.{◌≡◌, ◌<◌, ◌≤◌, ◌+◌, ◌-◌, ◌*◌, ◌%◌, ◌⊎◌, ℕ, true, false, min, List, length, drop, take, Some}
+use Rattle.std.specs.Prelude.{◌≡◌, ◌<◌, ◌≤◌, ◌+◌, ◌-◌, ◌*◌, ◌/◌, ◌%◌, ◌⊎◌, ℕ, true, false, min, List, length, drop, take, Some}
 use Rattle.pp_cache.specs.OnDisk.{grown_by}
 use Rattle.pp_holes.specs.Adding.{Adding, added}
 use Rattle.pp_holes.specs.Places.{Chunk, bytes_at}
@@ -39,3 +39,7 @@ LoadsAreTheLaws = OfCaches (λ number m s. (is : List Instance) (id : ObjectId) 
     → bytes_at (id.slot, i) m.chunks ≡ take (length (bytes_at (id.slot, i) m.chunks)) (chunk_in_file s e i) → length (bytes_at (id.slot, i) m.chunks) < length (chunk_in_file s e i)
     → (added m.size id.slot (i * 4096) (chunk_in_file s e i) m.chunks).need_chunk ≡ false → faces is ≡ faces m.instances
     → ShowsCache number (record m { instances = is; chunks = (added m.size id.slot (i * 4096) (chunk_in_file s e i) m.chunks).chunks; grown = grown_by id m.grown }) (load x.key i s))
+
+-- each finds a chunk where so many are free as the bytes may begin
+abbrev pub RoomIsEnough : Type 0
+RoomIsEnough = (size slot at : ℕ) (bytes : Bytes) (cs : List Chunk) → length cs + (length bytes / 4096 + 2) ≤ size → (added size slot at bytes cs).need_chunk ≡ false
