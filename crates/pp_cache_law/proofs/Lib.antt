@@ -16,11 +16,13 @@ pub mod Moves
 pub mod Noted
 pub mod Numbers
 pub mod PairLemmas
+pub mod Reaches
 pub mod Refusing
 pub mod Renewing
 pub mod Retiring
 pub mod Room
 pub mod Rooming
+pub mod Spans
 pub mod Sweeping
 pub mod Touching
 pub mod Twice

@@ -1,5 +1,5 @@
 -- What is read of the cache is what the law reads of its table.
-use Rattle.std.specs.Prelude.{◌≡◌, ℕ, true, not, ◌&&◌, ◌||◌, nat_lt, List, ◌∷◌, length, Some, None, option_map, count_by}
+use Rattle.std.specs.Prelude.{max, min, nat_le, false, ◌<◌, ◌≤◌, ◌≡◌, ℕ, true, not, ◌&&◌, ◌||◌, nat_lt, List, ◌∷◌, length, Some, None, option_map, count_by}
 use Rattle.std.specs.List.{find, list_any}
 use Rattle.pp_cache.specs.Memory.{Memory, all_used, extent_of as bytes_kept, is_in_memory, stands, used_of as as_used}
 use Rattle.pp_evict.specs.Victims.{victim_in}
@@ -7,7 +7,7 @@ use Rattle.pp_holes.specs.Places.{Chunk, bytes_at}
 use Rattle.pp_law.specs.Chunks.{chunk_bytes, floor, used_of, victim}
 use Rattle.pp_law.specs.Lists.{Bytes}
 use Rattle.pp_law.specs.State.{State, Instance as Known, Chunk as Front}
-use Rattle.pp_law.specs.Table.{extent_of, idle_row, instance, is_bound_to, is_held, row, rows}
+use Rattle.pp_law.specs.Table.{extent_of, idle_row, instance, is_bound_to, is_held, is_span_held, row, rows}
 use Rattle.pp_objects.specs.Instances.{Instance, id_of, in_slot, is_idle, is_row, is_same_id, is_there, row_of}
 use Rattle.pp_objects.specs.declared.id.ObjectId.{ObjectId}
 use Rattle.pp_pool.specs.Chunks.{is_pinned}
@@ -67,6 +67,21 @@ BytesAreTheLaws = OfTables (λ number m s. (id : ObjectId) (index : ℕ) → is_
 -- a byte is held, in memory or on the disk
 abbrev pub HeldIsTheLaws : Type 0
 HeldIsTheLaws = OfInstances (λ number m s id x. (at : ℕ) → ((is_there id m.instances && is_in_memory id.slot at m.chunks) || nat_lt at (bytes_kept id m)) ≡ is_held s x at)
+
+-- from an offset on all is in memory, up to one that is not, or to the end
+pub record IsHole (slot from to total : ℕ) (cs : List Chunk) : Type 0 where
+  pub behind : min from total ≤ to
+  pub held : (at : ℕ) → from ≤ at → at < to → is_in_memory slot at cs ≡ true
+  pub missing : to < total → is_in_memory slot to cs ≡ false
+
+-- no chunk has more than its bytes
+abbrev pub AreFronts : ℕ → List Chunk → Type 0
+AreFronts slot cs = (index : ℕ) → length (bytes_at (slot, index) cs) ≤ 4096
+
+-- each byte of a span is held: what is behind the extent has no hole
+abbrev pub SpansAreTheLaws : Type 0
+SpansAreTheLaws = OfInstances (λ number m s id x. (from to hole : ℕ) → AreFronts id.slot m.chunks → to ≤ x.version.length → IsHole id.slot (max from (bytes_kept id m)) hole x.version.length m.chunks
+    → (nat_le to (max from (bytes_kept id m)) || nat_le to hole) ≡ is_span_held s x (from, to))
 
 -- ---- how many chunks are used, and which goes
 
