@@ -6,6 +6,7 @@ pub mod Faces
 pub mod Finds
 pub mod Followed
 pub mod Framing
+pub mod Gaps
 pub mod GivingWay
 pub mod Joined
 pub mod Keeping

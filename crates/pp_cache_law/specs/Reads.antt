@@ -1,13 +1,14 @@
 -- What is read of the cache is what the law reads of its table.
-use Rattle.std.specs.Prelude.{max, min, nat_le, false, ◌<◌, ◌≤◌, ◌≡◌, ℕ, true, not, ◌&&◌, ◌||◌, nat_lt, List, ◌∷◌, length, Some, None, option_map, count_by}
+use Rattle.std.specs.Prelude.{◌*◌, ◌/◌, max, min, nat_le, false, ◌<◌, ◌≤◌, ◌≡◌, ℕ, true, not, ◌&&◌, ◌||◌, nat_lt, List, ◌∷◌, length, Some, None, option_map, count_by}
 use Rattle.std.specs.List.{find, list_any}
 use Rattle.pp_cache.specs.Memory.{Memory, all_used, extent_of as bytes_kept, is_in_memory, stands, used_of as as_used}
 use Rattle.pp_evict.specs.Victims.{victim_in}
 use Rattle.pp_holes.specs.Places.{Chunk, bytes_at}
 use Rattle.pp_law.specs.Chunks.{chunk_bytes, floor, used_of, victim}
+use Rattle.pp_law.specs.Followers.{hole_of}
 use Rattle.pp_law.specs.Lists.{Bytes}
 use Rattle.pp_law.specs.State.{State, Instance as Known, Chunk as Front}
-use Rattle.pp_law.specs.Table.{extent_of, idle_row, instance, is_bound_to, is_held, is_span_held, row, rows}
+use Rattle.pp_law.specs.Table.{Next, extent_of, idle_row, instance, is_bound_to, is_held, is_next_held, is_span_held, row, rows}
 use Rattle.pp_objects.specs.Instances.{Instance, id_of, in_slot, is_idle, is_row, is_same_id, is_there, row_of}
 use Rattle.pp_objects.specs.declared.id.ObjectId.{ObjectId}
 use Rattle.pp_pool.specs.Chunks.{is_pinned}
@@ -82,6 +83,19 @@ AreFronts slot cs = (index : ℕ) → length (bytes_at (slot, index) cs) ≤ 409
 abbrev pub SpansAreTheLaws : Type 0
 SpansAreTheLaws = OfInstances (λ number m s id x. (from to hole : ℕ) → AreFronts id.slot m.chunks → to ≤ x.version.length → IsHole id.slot (max from (bytes_kept id m)) hole x.version.length m.chunks
     → (nat_le to (max from (bytes_kept id m)) || nat_le to hole) ≡ is_span_held s x (from, to))
+
+-- behind it nothing is in memory, up to where something is again, or to the end, behind which nothing is
+pub record IsGap (slot : ℕ) (hole : ℕ × ℕ) (total : ℕ) (cs : List Chunk) : Type 0 where
+  pub some : hole.0 < total → hole.0 < hole.1
+  pub within : hole.1 ≤ total
+  pub gap : (at : ℕ) → hole.0 ≤ at → at < hole.1 → is_in_memory slot at cs ≡ false
+  pub ends : hole.1 < total → is_in_memory slot hole.1 cs ≡ true
+  pub none : (at : ℕ) → total ≤ at → is_in_memory slot at cs ≡ false
+
+-- the hole of a byte that is not held, from the first offset of its chunk on, that is not below the extent
+abbrev pub HolesAreTheLaws : Type 0
+HolesAreTheLaws = OfInstances (λ number m s id x. (n : Next) (hole : ℕ × ℕ) → n.source ≡ x → n.at < x.version.length → is_next_held s n ≡ false → bytes_kept id m ≤ n.at / 4096 * 4096 → AreFronts id.slot m.chunks
+    → IsHole id.slot (n.at / 4096 * 4096) hole.0 x.version.length m.chunks → IsGap id.slot hole x.version.length m.chunks → hole_of s n ≡ hole)
 
 -- ---- how many chunks are used, and which goes
 
