@@ -94,7 +94,7 @@ put_alike number m slot n i (b ∷ bs) cs ds apart at both = record {
   once = put_once (slot, i) (bytes_at (slot, i) cs ++ b ∷ bs) cs both.once;
 }
 
-same_joining : (at front : ℕ) (run : Bytes) → joining at front run ≡ law_joining at front run
+pub same_joining : (at front : ℕ) (run : Bytes) → joining at front run ≡ law_joining at front run
 same_joining at front run = by (nat_le at front)
   where
     by : (b : Bool) → cond b (drop (front - at) run) [] ≡ elim b as (λ c. Bytes) [ true ↦ drop (front - at) run | false ↦ [] ]
@@ -104,7 +104,7 @@ same_joining at front run = by (nat_le at front)
 pub not_less : (at e : ℕ) → e ≤ at → nat_lt at e ≡ false
 not_less at e more = grind (arith, nat_tests)
 
-run_alike : (number : ℕ → ℕ) (m : Memory) (slot n e at : ℕ) (run : Bytes) (cs : List Chunk) (ds : List Front) → Apart number m.instances → number_in number slot m.instances ≡ Some n → e ≤ at → Both number m cs ds
+pub run_alike : (number : ℕ → ℕ) (m : Memory) (slot n e at : ℕ) (run : Bytes) (cs : List Chunk) (ds : List Front) → Apart number m.instances → number_in number slot m.instances ≡ Some n → e ≤ at → Both number m cs ds
     → Both number m (join_run slot (at, run) cs) (law_join_run n e at run ds)
 run_alike number m slot n e at run cs ds apart there more both =
     subst (λ (b : Bool). Both number m (join_run slot (at, run) cs)
@@ -185,7 +185,7 @@ all_alike number m slot n e size (suc fuel) (suc k) at (b ∷ bs) cs j i ds apar
 is_less : (at e : ℕ) → at < e → nat_lt at e ≡ true
 is_less at e less = grind (arith, nat_tests)
 
-run_below : (n e at : ℕ) (run : Bytes) (ds : List Front) → at < e → law_join_run n e at run ds ≡ ds
+pub run_below : (n e at : ℕ) (run : Bytes) (ds : List Front) → at < e → law_join_run n e at run ds ≡ ds
 run_below n e at run ds less =
     ap (λ (b : Bool). elim b as (λ c. List Front) [ true ↦ ds | false ↦ put_joining n (at / 4096) (law_joining (at % 4096) (filled n (at / 4096) ds) run) ds ]) (is_less at e less)
 

@@ -13,6 +13,7 @@ pub mod Keeping
 pub mod Leaving
 pub mod Loading
 pub mod Making
+pub mod Mark
 pub mod Moves
 pub mod Noted
 pub mod Numbers

@@ -3,6 +3,7 @@ use Rattle.std.specs.Prelude.{◌≡◌, ◌<◌, ◌≤◌, ◌+◌, ◌-◌, �
 use Rattle.pp_cache.specs.OnDisk.{grown_by}
 use Rattle.pp_holes.specs.Adding.{Adding, added}
 use Rattle.pp_holes.specs.Places.{Chunk, bytes_at}
+use Rattle.pp_law.specs.Chunks.{joined}
 use Rattle.pp_law.specs.Lists.{Bytes}
 use Rattle.pp_law.specs.OwnHeads.{join}
 use Rattle.pp_law.specs.State.{Bound, Entry, Instance as Known}
@@ -43,3 +44,8 @@ LoadsAreTheLaws = OfCaches (λ number m s. (is : List Instance) (id : ObjectId) 
 -- each finds a chunk where so many are free as the bytes may begin
 abbrev pub RoomIsEnough : Type 0
 RoomIsEnough = (size slot at : ℕ) (bytes : Bytes) (cs : List Chunk) → length cs + (length bytes / 4096 + 2) ≤ size → (added size slot at bytes cs).need_chunk ≡ false
+
+-- and where the law has no more chunks then than there may be
+abbrev pub MarkIsEnough : Type 0
+MarkIsEnough = OfCaches (λ number m s. (id : ObjectId) (x : Known) (at : ℕ) (bytes : Bytes) → is_there id m.instances ≡ true → instance s (number id.life) ≡ Some x → EndsWhole (extent_of s x) x.version.length → at + length bytes ≤ x.version.length
+    → length (joined x.id (extent_of s x) at bytes s.chunks) ≤ m.size → (added_behind (extent_of s x) m.size id.slot at bytes m.chunks).need_chunk ≡ false)
