@@ -1,3 +1,4 @@
 pub mod AccessLemmas
+pub mod ClosingLemmas
 pub mod DiskLemmas
 pub mod HeadLimits

@@ -1,2 +1,3 @@
 pub mod Anything
+pub mod Closings
 pub mod Turns
