@@ -1,4 +1,5 @@
 mod Asks
+mod Awaits
 mod Finds
 mod LineEnds
 mod Loads

@@ -1,4 +1,5 @@
 pub mod Asked
+pub mod Comes
 pub mod Lines
 pub mod Peers
 pub mod Places
