@@ -1,5 +1,6 @@
 mod Asks
 mod Awaits
 mod Finds
+mod Heads
 mod LineEnds
 mod Loads

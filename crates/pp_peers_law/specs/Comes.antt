@@ -1,11 +1,23 @@
 -- What comes on a connection (RFC 2616, sections 4.4, 6, 8.1.2.2 and 10.1).
-use Rattle.std.specs.Prelude.{◌≡◌, Bool, true, false, Option, Some, None, option_map}
+use Rattle.std.specs.Prelude.{◌≡◌, ℕ, zero, suc, ◌<◌, Bool, true, false, ◌==◌, List, [], ◌∷◌, ◌++◌, length, drop, Option, Some, None, option_map, Result, Ok, Err}
+use Rattle.pp_framing.specs.Framing.{rule_of}
+use Rattle.pp_framing.specs.declared.body.BodyRule.{BodyRule}
+use Rattle.pp_framing.specs.declared.framing.ResponseFault.{ResponseFault}
+use Rattle.pp_head.specs.Read.{Read, Whole, TooLong, Bad as NoHead, More}
+use Rattle.pp_head.specs.Response.{Response, response_at}
 use Rattle.pp_law.specs.Connections.{front_of_line}
-use Rattle.pp_law.specs.Responses.{asks_head, is_early}
-use Rattle.pp_law.specs.State.{State, Conn}
+use Rattle.pp_law.specs.Lists.{Bytes}
+use Rattle.pp_law.specs.OwnHeads.{is_wrong_head}
+use Rattle.pp_law.specs.Responses.{answer_with, asks_head, is_early}
+use Rattle.pp_law.specs.State.{State, Conn, Exchange}
 use Rattle.pp_peers.specs.declared.peers.Peer.{Peer}
-use Rattle.pp_peers_law.specs.Peers.{ShowsConn}
+use Rattle.pp_peers_law.specs.Peers.{ShowsConn, ShowsReading}
 use Rattle.pp_pipe.specs.Asks.{awaited}
+use Rattle.pp_pipe.specs.Feeding.{IsFed, IsTold}
+use Rattle.pp_pipe.specs.Front.{is_interim}
+use Rattle.pp_pipe.specs.Reading.{Reading, Before, Broken}
+use Rattle.pp_pipe.specs.declared.step.Step.{Step}
+use Rattle.pp_pipe.specs.declared.step.Step.TheVariants.{Head, Bad, Idle}
 
 -- ---- whose response comes next
 
@@ -16,3 +28,56 @@ awaited_of s k = elim (is_early s k) [ true ↦ None | false ↦ option_map asks
 -- the pipe awaits what the law awaits
 abbrev pub AwaitedIsTheLaws : Type 0
 AwaitedIsTheLaws = (s : State) (p : Peer) (k : Conn) → ShowsConn s p k → k.is_closing ≡ false → awaited p.pipe.asks ≡ awaited_of s k
+
+-- ---- heads
+
+-- the law drops an interim head as a piece of its own: the text behind these, of which there may be so many
+abbrev pub past_interim : ℕ → Bytes → Bytes
+past_interim zero text = text
+past_interim (suc most) text = elim (response_at text) [
+  | Whole head ↦ elim (is_interim head.status) [ true ↦ past_interim most (drop head.length text) | false ↦ text ]
+  | TooLong ↦ text
+  | NoHead ↦ text
+  | More ↦ text
+]
+
+-- each of them has a byte at least
+abbrev pub behind_interim : Bytes → Bytes
+behind_interim text = past_interim (length text) text
+
+-- a final head came, and this follows it: the answer begins that the law begins
+pub record IsHeadCome (e : Exchange) (head : Response) (rule : BodyRule) (rest bytes : Bytes) (used : ℕ) (step : Step) (left : Reading) : Type 0 where
+  pub tells : step ≡ Head
+  pub some : 0 < used
+  pub follows : drop used bytes ≡ rest
+  pub shows : ShowsReading left [] (Some (answer_with e head rule))
+
+abbrev pub IsRefused : Bytes → ℕ → Step → Reading → Type 0
+IsRefused bytes used step left = IsTold Bad (length bytes) Broken used step left
+
+abbrev pub IsRuledRead : Exchange → Response → Bytes → Bytes → Result BodyRule ResponseFault → ℕ → Step → Reading → Type 0
+IsRuledRead e head rest bytes (Ok rule) used step left = IsHeadCome e head rule rest bytes used step left
+IsRuledRead e head rest bytes (Err fault) used step left = IsRefused bytes used step left
+
+-- of the heads that are wrong to the law the pipe refuses 101 alone; of the others its caller judges
+abbrev pub IsFinalRead : Exchange → Response → Bytes → Bytes → Bool → ℕ → Step → Reading → Type 0
+IsFinalRead e head rest bytes true used step left = (is_wrong_head e head ≡ true) × IsRefused bytes used step left
+IsFinalRead e head rest bytes false used step left = IsRuledRead e head rest bytes (rule_of (asks_head e) head.status head.fields) used step left
+
+-- by what stands at the front of a text, whose last bytes these are
+abbrev pub IsHeadRead : Exchange → Bytes → Bytes → Read Response → ℕ → Step → Reading → Type 0
+IsHeadRead e text bytes (Whole head) used step left = (is_interim head.status ≡ false) × IsFinalRead e head (drop head.length text) bytes (head.status == 101) used step left
+IsHeadRead e text bytes TooLong used step left = IsRefused bytes used step left
+IsHeadRead e text bytes NoHead used step left = IsRefused bytes used step left
+IsHeadRead e text bytes More used step left = IsTold Idle (length bytes) (Before text) used step left
+
+-- no bytes tell nothing
+abbrev pub IsTextRead : Exchange → Bytes → Bytes → ℕ → Step → Reading → Type 0
+IsTextRead e unread [] used step left = IsTold Idle 0 (Before unread) used step left
+IsTextRead e unread (b ∷ bytes) used step left =
+    IsHeadRead e (behind_interim (unread ++ b ∷ bytes)) (b ∷ bytes) (response_at (behind_interim (unread ++ b ∷ bytes))) used step left
+
+-- where no answer is begun, and none that comes would be early: the pipe reads the heads that the law reads
+abbrev pub HeadsAreTheLaws : Type 0
+HeadsAreTheLaws = (s : State) (p : Peer) (k : Conn) (e : Exchange) (bytes : Bytes) (used : ℕ) (step : Step) (left : Reading) → ShowsConn s p k → k.is_closing ≡ false → k.answer ≡ None → is_early s k ≡ false → front_of_line s k ≡ Some e
+    → IsFed (awaited p.pipe.asks) p.pipe.reading bytes used step left → IsTextRead e k.unread bytes used step left

@@ -2,7 +2,7 @@
 use Rattle.std.specs.Prelude.{◌≡◌, ℕ, ◌+◌, Bool, true, false, nat_lt, List, [], ◌∷◌, ◌++◌, length, drop, Option, Some, None, ⊤}
 use Rattle.std.specs.List.{list_any}
 use Rattle.pp_framing.specs.Body.{behind}
-use Rattle.pp_framing.specs.Places.{read_from}
+use Rattle.pp_framing.specs.Places.{first_place, is_unbounded, read_from}
 use Rattle.pp_framing.specs.Rules.{body_of}
 use Rattle.pp_framing.specs.declared.place.Place.{Place}
 use Rattle.pp_head.specs.Response.{Response}
@@ -45,10 +45,12 @@ has_alone s line = list_any (λ n. is_some_with (λ e. goes_alone e.head) (excha
 
 -- ---- what comes
 
--- within the body of a response whose head came: what comes behind these bytes is read on from there
+-- within the body of a response whose head came: what comes behind these bytes is read on from there, and the end of the connection
+-- ends it where that is its rule
 pub record IsWithin (response : Response) (place : Place) (a : Answer) : Type 0 where
   pub head : response ≡ a.head
   pub goes_on : (more : Bytes) → body_of a.rule (a.raw ++ more) ≡ behind (body_of a.rule a.raw).payload (read_from place more)
+  pub kind : is_unbounded place ≡ is_unbounded (first_place a.rule)
 
 abbrev pub ShowsReading : Reading → Bytes → Option Answer → Type 0
 ShowsReading (Before text) unread None = text ≡ unread

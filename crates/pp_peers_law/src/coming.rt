@@ -1,7 +1,12 @@
 // What comes on a connection.
-ghost use Rattle.pp_peers_law.specs.Comes.{AwaitedIsTheLaws};
+ghost use Rattle.pp_peers_law.specs.Comes.{AwaitedIsTheLaws, HeadsAreTheLaws};
 
 /// Whose response comes next, and whether it is early.
 pub fn awaited_is_the_laws()
     ensures awaited { AwaitedIsTheLaws }
+{}
+
+/// The heads that come before the body of a response.
+pub fn heads_are_the_laws()
+    ensures heads { HeadsAreTheLaws }
 {}
