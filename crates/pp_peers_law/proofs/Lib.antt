@@ -1,5 +1,6 @@
 mod Asks
 mod Awaits
+mod Bodies
 mod Finds
 mod Heads
 mod LineEnds

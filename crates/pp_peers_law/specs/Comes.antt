@@ -1,23 +1,27 @@
 -- What comes on a connection (RFC 2616, sections 4.4, 6, 8.1.2.2 and 10.1).
-use Rattle.std.specs.Prelude.{◌≡◌, ℕ, zero, suc, ◌<◌, Bool, true, false, ◌==◌, List, [], ◌∷◌, ◌++◌, length, drop, Option, Some, None, option_map, Result, Ok, Err}
+use Rattle.std.specs.Prelude.{◌≡◌, ℕ, zero, suc, ◌<◌, ◌≤◌, Bool, true, false, ◌==◌, List, [], ◌∷◌, ◌++◌, length, drop, slice_range, Option, Some, None, option_map, Result, Ok, Err}
+use Rattle.pp_framing.specs.Body.{behind, Bad as NoBody, Done, Going}
 use Rattle.pp_framing.specs.Framing.{rule_of}
+use Rattle.pp_framing.specs.Places.{first_place, is_unbounded, read_from}
+use Rattle.pp_framing.specs.Rules.{body_of}
 use Rattle.pp_framing.specs.declared.body.BodyRule.{BodyRule}
 use Rattle.pp_framing.specs.declared.framing.ResponseFault.{ResponseFault}
+use Rattle.pp_framing.specs.declared.place.Place.{Place}
 use Rattle.pp_head.specs.Read.{Read, Whole, TooLong, Bad as NoHead, More}
 use Rattle.pp_head.specs.Response.{Response, response_at}
 use Rattle.pp_law.specs.Connections.{front_of_line}
 use Rattle.pp_law.specs.Lists.{Bytes}
 use Rattle.pp_law.specs.OwnHeads.{is_wrong_head}
-use Rattle.pp_law.specs.Responses.{answer_with, asks_head, is_early}
-use Rattle.pp_law.specs.State.{State, Conn, Exchange}
+use Rattle.pp_law.specs.Responses.{answer_with, asks_head, is_early, payload_of}
+use Rattle.pp_law.specs.State.{State, Conn, Exchange, Answer}
 use Rattle.pp_peers.specs.declared.peers.Peer.{Peer}
 use Rattle.pp_peers_law.specs.Peers.{ShowsConn, ShowsReading}
 use Rattle.pp_pipe.specs.Asks.{awaited}
 use Rattle.pp_pipe.specs.Feeding.{IsFed, IsTold}
-use Rattle.pp_pipe.specs.Front.{is_interim}
-use Rattle.pp_pipe.specs.Reading.{Reading, Before, Broken}
+use Rattle.pp_pipe.specs.Front.{fate_of, is_interim}
+use Rattle.pp_pipe.specs.Reading.{Reading, Before, Within, Broken, behind_it}
 use Rattle.pp_pipe.specs.declared.step.Step.{Step}
-use Rattle.pp_pipe.specs.declared.step.Step.TheVariants.{Head, Bad, Idle}
+use Rattle.pp_pipe.specs.declared.step.Step.TheVariants.{Head, Body as BodyStep, End, Bad, Idle}
 
 -- ---- whose response comes next
 
@@ -81,3 +85,54 @@ IsTextRead e unread (b ∷ bytes) used step left =
 abbrev pub HeadsAreTheLaws : Type 0
 HeadsAreTheLaws = (s : State) (p : Peer) (k : Conn) (e : Exchange) (bytes : Bytes) (used : ℕ) (step : Step) (left : Reading) → ShowsConn s p k → k.is_closing ≡ false → k.answer ≡ None → is_early s k ≡ false → front_of_line s k ≡ Some e
     → IsFed (awaited p.pipe.asks) p.pipe.reading bytes used step left → IsTextRead e k.unread bytes used step left
+
+-- ---- bodies
+
+-- within the body of a response, amid the bytes of one read: so many of them are left, and these data came
+pub record IsAmid (response : Response) (place : Place) (a : Answer) (bytes left came : Bytes) : Type 0 where
+  pub head : response ≡ a.head
+  pub goes_on : (more : Bytes) → body_of a.rule (a.raw ++ bytes ++ more) ≡ behind (payload_of a ++ came) (read_from place (left ++ more))
+  pub kind : is_unbounded place ≡ is_unbounded (first_place a.rule)
+
+abbrev pub ShowsAmid : Reading → Answer → Bytes → Bytes → Bytes → Type 0
+ShowsAmid (Within response place) a bytes left came = IsAmid response place a bytes left came
+ShowsAmid reading a bytes left came = ⊥
+
+-- a read begins
+abbrev pub ReadsBeginAsTheLaws : Type 0
+ReadsBeginAsTheLaws = (s : State) (p : Peer) (k : Conn) (a : Answer) (bytes : Bytes) → ShowsConn s p k → k.is_closing ≡ false → k.answer ≡ Some a → ShowsAmid p.pipe.reading a bytes bytes []
+
+-- its next data
+pub record IsDataRead (a : Answer) (bytes left came : Bytes) (from to used : ℕ) (next : Reading) : Type 0 where
+  pub some : from < to
+  pub within : to ≤ used
+  pub shows : ShowsAmid next a bytes (drop used left) (came ++ slice_range left from to)
+
+-- it is whole
+pub record IsEndRead (a : Answer) (bytes left came : Bytes) (used : ℕ) (next : Reading) : Type 0 where
+  pub body : body_of a.rule (a.raw ++ bytes) ≡ record { payload = payload_of a ++ came; outcome = Done (drop used left) }
+  pub leaves : next ≡ behind_it (fate_of a.head)
+
+-- it is none
+pub record IsFaultRead (a : Answer) (bytes left came : Bytes) (used : ℕ) (next : Reading) : Type 0 where
+  pub body : body_of a.rule (a.raw ++ bytes) ≡ record { payload = payload_of a ++ came; outcome = NoBody }
+  pub all : used ≡ length left
+  pub leaves : next ≡ Broken
+
+-- it goes on: the answer of the law has all bytes of the read
+pub record IsPauseRead (a : Answer) (bytes left came : Bytes) (used : ℕ) (next : Reading) : Type 0 where
+  pub body : body_of a.rule (a.raw ++ bytes) ≡ record { payload = payload_of a ++ came; outcome = Going }
+  pub all : used ≡ length left
+  pub shows : ShowsReading next [] (Some (record a { raw = a.raw ++ bytes }))
+
+abbrev pub IsBodyRead : Answer → Bytes → Bytes → Bytes → ℕ → Step → Reading → Type 0
+IsBodyRead a bytes left came used Head next = ⊥
+IsBodyRead a bytes left came used (BodyStep from to) next = IsDataRead a bytes left came from to used next
+IsBodyRead a bytes left came used End next = IsEndRead a bytes left came used next
+IsBodyRead a bytes left came used Bad next = IsFaultRead a bytes left came used next
+IsBodyRead a bytes left came used Idle next = IsPauseRead a bytes left came used next
+
+-- step by step the pipe reads the body that the law reads at once, whatever is awaited
+abbrev pub BodiesAreTheLaws : Type 0
+BodiesAreTheLaws = (a : Answer) (reading : Reading) (bytes left came : Bytes) (awaited : Option Bool) (used : ℕ) (step : Step) (next : Reading) → ShowsAmid reading a bytes left came
+    → IsFed awaited reading left used step next → IsBodyRead a bytes left came used step next

@@ -1,5 +1,5 @@
 // What comes on a connection.
-ghost use Rattle.pp_peers_law.specs.Comes.{AwaitedIsTheLaws, HeadsAreTheLaws};
+ghost use Rattle.pp_peers_law.specs.Comes.{AwaitedIsTheLaws, BodiesAreTheLaws, HeadsAreTheLaws, ReadsBeginAsTheLaws};
 
 /// Whose response comes next, and whether it is early.
 pub fn awaited_is_the_laws()
@@ -9,4 +9,10 @@ pub fn awaited_is_the_laws()
 /// The heads that come before the body of a response.
 pub fn heads_are_the_laws()
     ensures heads { HeadsAreTheLaws }
+{}
+
+/// The body of a response, as each read brings more of it.
+pub fn bodies_are_the_laws()
+    ensures begins { ReadsBeginAsTheLaws }
+    ensures bodies { BodiesAreTheLaws }
 {}
