@@ -1,6 +1,7 @@
 mod Asks
 mod Awaits
 mod Bodies
+mod Endings
 mod Finds
 mod Heads
 mod LineEnds

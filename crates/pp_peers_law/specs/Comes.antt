@@ -1,10 +1,12 @@
 -- What comes on a connection (RFC 2616, sections 4.4, 6, 8.1.2.2 and 10.1).
-use Rattle.std.specs.Prelude.{◌≡◌, ℕ, zero, suc, ◌<◌, ◌≤◌, Bool, true, false, ◌==◌, List, [], ◌∷◌, ◌++◌, length, drop, slice_range, Option, Some, None, option_map, Result, Ok, Err}
+use Rattle.std.specs.Prelude.{◌≡◌, ℕ, zero, suc, ◌<◌, ◌≤◌, Bool, true, false, ◌==◌, ◌&&◌, List, [], ◌∷◌, ◌++◌, length, drop, slice_range, Option, Some, None, option_map, Result, Ok, Err}
 use Rattle.pp_framing.specs.Body.{behind, Bad as NoBody, Done, Going}
 use Rattle.pp_framing.specs.Framing.{rule_of}
 use Rattle.pp_framing.specs.Places.{first_place, is_unbounded, read_from}
 use Rattle.pp_framing.specs.Rules.{body_of}
 use Rattle.pp_framing.specs.declared.body.BodyRule.{BodyRule}
+use Rattle.pp_framing.specs.declared.body.Ending.{Ending}
+use Rattle.pp_framing.specs.declared.body.Ending.TheVariants.{Whole as IsWhole, Short}
 use Rattle.pp_framing.specs.declared.framing.ResponseFault.{ResponseFault}
 use Rattle.pp_framing.specs.declared.place.Place.{Place}
 use Rattle.pp_head.specs.Read.{Read, Whole, TooLong, Bad as NoHead, More}
@@ -12,14 +14,14 @@ use Rattle.pp_head.specs.Response.{Response, response_at}
 use Rattle.pp_law.specs.Connections.{front_of_line}
 use Rattle.pp_law.specs.Lists.{Bytes}
 use Rattle.pp_law.specs.OwnHeads.{is_wrong_head}
-use Rattle.pp_law.specs.Responses.{answer_with, asks_head, is_early, payload_of}
+use Rattle.pp_law.specs.Responses.{answer_with, asks_head, is_early, is_whole_at_end, payload_of}
 use Rattle.pp_law.specs.State.{State, Conn, Exchange, Answer}
 use Rattle.pp_peers.specs.declared.peers.Peer.{Peer}
 use Rattle.pp_peers_law.specs.Peers.{ShowsConn, ShowsReading}
 use Rattle.pp_pipe.specs.Asks.{awaited}
 use Rattle.pp_pipe.specs.Feeding.{IsFed, IsTold}
 use Rattle.pp_pipe.specs.Front.{fate_of, is_interim}
-use Rattle.pp_pipe.specs.Reading.{Reading, Before, Within, Broken, behind_it}
+use Rattle.pp_pipe.specs.Reading.{Reading, Before, Within, Broken, behind_it, ending_at}
 use Rattle.pp_pipe.specs.declared.step.Step.{Step}
 use Rattle.pp_pipe.specs.declared.step.Step.TheVariants.{Head, Body as BodyStep, End, Bad, Idle}
 
@@ -136,3 +138,14 @@ IsBodyRead a bytes left came used Idle next = IsPauseRead a bytes left came used
 abbrev pub BodiesAreTheLaws : Type 0
 BodiesAreTheLaws = (a : Answer) (reading : Reading) (bytes left came : Bytes) (awaited : Option Bool) (used : ℕ) (step : Step) (next : Reading) → ShowsAmid reading a bytes left came
     → IsFed awaited reading left used step next → IsBodyRead a bytes left came used step next
+
+-- ---- ends
+
+-- what the end of the connection, clean or not, makes of the answer that was begun
+abbrev pub ending_of : Bool → Option Answer → Ending
+ending_of is_clean None = Short
+ending_of is_clean (Some a) = elim (is_clean && is_whole_at_end a) [ true ↦ IsWhole | false ↦ Short ]
+
+-- the end of the connection ends in the pipe what it ends in the law
+abbrev pub EndingsAreTheLaws : Type 0
+EndingsAreTheLaws = (s : State) (p : Peer) (k : Conn) (is_clean : Bool) → ShowsConn s p k → k.is_closing ≡ false → ending_at is_clean p.pipe.reading ≡ ending_of is_clean k.answer

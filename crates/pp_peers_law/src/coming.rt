@@ -1,5 +1,5 @@
 // What comes on a connection.
-ghost use Rattle.pp_peers_law.specs.Comes.{AwaitedIsTheLaws, BodiesAreTheLaws, HeadsAreTheLaws, ReadsBeginAsTheLaws};
+ghost use Rattle.pp_peers_law.specs.Comes.{AwaitedIsTheLaws, BodiesAreTheLaws, EndingsAreTheLaws, HeadsAreTheLaws, ReadsBeginAsTheLaws};
 
 /// Whose response comes next, and whether it is early.
 pub fn awaited_is_the_laws()
@@ -15,4 +15,9 @@ pub fn heads_are_the_laws()
 pub fn bodies_are_the_laws()
     ensures begins { ReadsBeginAsTheLaws }
     ensures bodies { BodiesAreTheLaws }
+{}
+
+/// What the end of the connection makes of the response that comes.
+pub fn endings_are_the_laws()
+    ensures endings { EndingsAreTheLaws }
 {}

@@ -19,6 +19,6 @@ mod lines; // what becomes of a line
 mod placing; // where an ask goes
 
 pub use asking::{asks_are_the_laws, lines_are_the_laws};
-pub use coming::{awaited_is_the_laws, bodies_are_the_laws, heads_are_the_laws};
+pub use coming::{awaited_is_the_laws, bodies_are_the_laws, endings_are_the_laws, heads_are_the_laws};
 pub use lines::{ends_are_the_laws, puts_are_the_laws};
 pub use placing::{loads_are_the_laws, places_are_the_laws};
