@@ -1,18 +1,14 @@
 -- Whose response comes next on a connection.
-use Rattle.std.proofs.Common.{◌≡◌, refl, sym, ap, ◌∙◌, ℕ, ◌+◌, Bool, true, false, ◌==◌, not, if◌then◌else◌, length, List, [], ◌∷◌, Option, Some, None, option_map, arith}
-use Rattle.std.proofs.lemmas.Bool.Decides.{nat_tests}
+use Rattle.std.proofs.Common.{◌≡◌, refl, sym, ap, ◌∙◌, ℕ, Bool, true, false, ◌==◌, not, if◌then◌else◌, length, List, [], ◌∷◌, Option, Some, None, option_map}
 use Rattle.pp_law.specs.Connections.{exchange, is_outstanding as is_asked}
 use Rattle.pp_law.specs.Lists.{is_some_with}
 use Rattle.pp_law.specs.Responses.{asks_head}
 use Rattle.pp_law.specs.State.{State, Exchange}
+use Rattle.pp_peers_law.proofs.Loads.{none_left}
 use Rattle.pp_peers_law.specs.Comes.{AwaitedIsTheLaws}
-use Rattle.pp_peers_law.specs.Peers.{ShowsAsk, ShowsLine}
+use Rattle.pp_peers_law.specs.Peers.{ShowsLine}
 use Rattle.pp_pipe.specs.Asks.{awaited}
 use Rattle.pp_pipe.specs.declared.asks.Ask.{Ask}
-
--- nothing is left of a text where all of it was asked
-none_left : (asked left len : ℕ) → asked + left ≡ len → (left == 0) ≡ (asked == len)
-none_left asked left len is = grind (arith, nat_tests)
 
 abbrev awaited_in : Option Exchange → Option Bool
 awaited_in o = elim (not (is_some_with is_asked o)) as (λ x. Option Bool) [ true ↦ None | false ↦ option_map asks_head o ]

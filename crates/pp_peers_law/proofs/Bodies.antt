@@ -1,9 +1,9 @@
 -- The body of a response that comes on a connection.
-use Rattle.std.proofs.Common.{◌≡◌, refl, sym, subst, ap, ap₂, ◌∙◌, ℕ, Bool, length, drop, slice_range, List, [], ◌∷◌, ◌++◌, Option, Some, None}
+use Rattle.std.proofs.Common.{◌≡◌, refl, sym, subst, ap, ◌∙◌, ℕ, drop, slice_range, [], ◌++◌, Option, Some, None}
 use Rattle.std.proofs.Math.Seq.{drop-length}
 use Rattle.std.proofs.lemmas.List.{append_assoc, append-nil}
 use Rattle.pp_framing.specs.Body.{Body, Outcome, behind, no_data, Bad as NoBody, Done, Going}
-use Rattle.pp_framing.specs.Places.{first_place, is_unbounded, read_from, state_of}
+use Rattle.pp_framing.specs.Places.{read_from, state_of}
 use Rattle.pp_framing.specs.Rules.{body_of}
 use Rattle.pp_framing.specs.declared.body.BodyState.TheVariants.{Going as IsGoing}
 use Rattle.pp_framing.specs.declared.place.Place.{Place}
@@ -12,12 +12,11 @@ use Rattle.pp_head.specs.Response.{Response}
 use Rattle.pp_law.specs.Lists.{Bytes}
 use Rattle.pp_law.specs.Responses.{payload_of}
 use Rattle.pp_law.specs.State.{Answer}
-use Rattle.pp_peers_law.specs.Comes.{BodiesAreTheLaws, IsAmid, IsBodyRead, IsDataRead, IsEndRead, IsFaultRead, IsPauseRead, ReadsBeginAsTheLaws, ShowsAmid}
+use Rattle.pp_peers_law.specs.Comes.{BodiesAreTheLaws, IsAmid, IsDataRead, IsEndRead, IsFaultRead, IsPauseRead, ReadsBeginAsTheLaws, ShowsAmid}
 use Rattle.pp_peers_law.specs.Peers.{IsWithin, ShowsReading}
-use Rattle.pp_pipe.specs.Feeding.{IsBodyFed, IsEndTold, IsFaultTold, IsFed, IsPauseTold, IsRunTold}
+use Rattle.pp_pipe.specs.Feeding.{IsEndTold, IsFaultTold, IsPauseTold, IsRunTold}
 use Rattle.pp_pipe.specs.Front.{fate_of}
 use Rattle.pp_pipe.specs.Reading.{Reading, Before, Within, Closed, Broken, behind_it}
-use Rattle.pp_pipe.specs.declared.step.Step.{Step}
 use Rattle.pp_pipe.specs.declared.step.Step.TheVariants.{Head, Body as BodyStep, End, Bad, Idle}
 
 -- ---- a read begins
@@ -101,11 +100,14 @@ pause_read : (response : Response) (place : Place) (a : Answer) (bytes left came
 pause_read response place a bytes left came used next shows told = record {
   body = whole;
   all = told.all;
-  shows = subst (λ (r : Reading). ShowsReading r [] (Some (record a { raw = a.raw ++ bytes }))) (sym told.leaves) (refl, record {
-    head = shows.head;
-    goes_on = λ more. on more ∙ ap (λ (t : Bytes). behind t (read_from told.next more)) (sym (ap (λ (b : Body). b.payload) whole));
-    kind = told.body.kind ∙ shows.kind;
-  });
+  shows = subst (λ (r : Reading). ShowsReading r [] (Some (record a { raw = a.raw ++ bytes }))) (sym told.leaves) (
+    refl,
+    record {
+      head = shows.head;
+      goes_on = λ more. on more ∙ ap (λ (t : Bytes). behind t (read_from told.next more)) (sym (ap (λ (b : Body). b.payload) whole));
+      kind = told.body.kind ∙ shows.kind;
+    },
+  );
 }
   where
     none_left : (more : Bytes) → drop used left ++ more ≡ more

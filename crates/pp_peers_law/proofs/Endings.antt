@@ -1,16 +1,15 @@
 -- What the end of a connection makes of the response that comes.
-use Rattle.std.proofs.Common.{◌≡◌, refl, sym, ap, ◌∙◌, Bool, true, false, ◌&&◌, [], ◌++◌, Option, Some, None}
+use Rattle.std.proofs.Common.{◌≡◌, refl, sym, ap, ◌∙◌, Bool, true, false, [], Option, Some, None}
 use Rattle.std.proofs.lemmas.List.{append-nil}
 use Rattle.pp_framing.proofs.BodiesExact.{ending_of-exact}
-use Rattle.pp_framing.specs.Body.{Body, Outcome}
-use Rattle.pp_framing.specs.Places.{ending_of as ending_at_place, read_from}
+use Rattle.pp_framing.specs.Body.{Body}
+use Rattle.pp_framing.specs.Places.{ending_of as ending_at_place}
 use Rattle.pp_framing.specs.Rules.{body_of, ending_in}
 use Rattle.pp_framing.specs.declared.body.Ending.{Ending}
 use Rattle.pp_framing.specs.declared.body.Ending.TheVariants.{Whole, Short}
 use Rattle.pp_framing.specs.declared.place.Place.{Place}
 use Rattle.pp_head.specs.Response.{Response}
 use Rattle.pp_law.specs.Lists.{Bytes}
-use Rattle.pp_law.specs.Responses.{is_whole_at_end}
 use Rattle.pp_law.specs.State.{Answer}
 use Rattle.pp_peers_law.specs.Comes.{EndingsAreTheLaws, ending_of}
 use Rattle.pp_peers_law.specs.Peers.{IsWithin, ShowsReading}

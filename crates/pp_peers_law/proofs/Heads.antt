@@ -1,11 +1,10 @@
 -- The heads that come on a connection.
-use Rattle.std.proofs.Common.{◌≡◌, refl, sym, subst, ap, ap₂, ◌∙◌, ℕ, zero, suc, ◌<◌, ◌≤◌, Bool, true, false, ◌==◌, ◌||◌, ◌&&◌, not, length, drop, List, [], ◌∷◌, ◌++◌, Option, Some, None, option_map, Result, Ok, Err, arith}
+use Rattle.std.proofs.Common.{◌≡◌, refl, sym, subst, ap, ◌∙◌, ℕ, zero, suc, ◌<◌, ◌≤◌, Bool, true, false, ◌==◌, length, drop, [], ◌∷◌, ◌++◌, Option, Some, None, option_map, Result, Ok, Err, arith}
 use Rattle.std.proofs.lemmas.List.{length-drop}
 use Rattle.pp_framing.proofs.BodiesExact.{read_from-first_place}
 use Rattle.pp_framing.specs.Body.{behind}
 use Rattle.pp_framing.specs.Framing.{rule_of}
 use Rattle.pp_framing.specs.Places.{first_place, read_from}
-use Rattle.pp_framing.specs.Rules.{body_of}
 use Rattle.pp_framing.specs.declared.body.BodyRule.{BodyRule}
 use Rattle.pp_framing.specs.declared.framing.ResponseFault.{ResponseFault}
 use Rattle.pp_framing.specs.declared.place.Place.{Place}
@@ -14,15 +13,16 @@ use Rattle.pp_head.proofs.OnLiterals.{pp_head_on_literals}
 use Rattle.pp_head.proofs.ResponseAgrees.{response_within}
 use Rattle.pp_head.specs.Read.{Read, Whole, TooLong, Bad as NoHead, More}
 use Rattle.pp_head.specs.Response.{Response, response_at}
-use Rattle.pp_law.specs.Connections.{front_of_line, is_outstanding}
-use Rattle.pp_law.specs.Lists.{Bytes, is_some_with}
+use Rattle.pp_law.specs.Connections.{front_of_line}
+use Rattle.pp_law.specs.Lists.{Bytes}
 use Rattle.pp_law.specs.OwnHeads.{is_wrong_head}
 use Rattle.pp_law.specs.Responses.{answer_with, asks_head}
 use Rattle.pp_law.specs.State.{Exchange, Answer}
 use Rattle.pp_peers_law.proofs.Awaits.{awaits}
-use Rattle.pp_peers_law.specs.Comes.{HeadsAreTheLaws, IsFinalRead, IsHeadCome, IsHeadRead, IsRuledRead, IsTextRead, past_interim}
+use Rattle.pp_peers_law.specs.Comes.{EarlyIsRefused, HeadsAreTheLaws, IsFinalRead, IsHeadRead, IsRuledRead, IsTextRead, past_interim}
 use Rattle.pp_peers_law.specs.Peers.{IsWithin, ShowsReading}
-use Rattle.pp_pipe.specs.Feeding.{IsFed, IsFrontTold, IsHeadTold}
+use Rattle.pp_pipe.specs.Asks.{awaited}
+use Rattle.pp_pipe.specs.Feeding.{IsFed, IsFrontTold}
 use Rattle.pp_pipe.specs.Front.{Front, NoResponse, Unfinished, by_rule, final_of, front_of, front_within, is_interim}
 use Rattle.pp_pipe.specs.Reading.{Reading, Before, Within, Closed, Broken}
 use Rattle.pp_pipe.specs.declared.step.Step.{Step}
@@ -171,9 +171,19 @@ before Broken unread answer shows none = absurd shows
 abbrev awaited_by : Option Exchange → Bool → Option Bool
 awaited_by o early = elim early as (λ x. Option Bool) [ true ↦ None | false ↦ option_map asks_head o ]
 
+fed_by : (awaits_now wanted : Option Bool) (reading : Reading) (unread bytes : Bytes) (used : ℕ) (step : Step) (left : Reading) → awaits_now ≡ wanted → reading ≡ Before unread
+    → IsFed awaits_now reading bytes used step left → IsFed wanted (Before unread) bytes used step left
+fed_by awaits_now wanted reading unread bytes used step left asks is fed =
+    subst (λ (r : Reading). IsFed wanted r bytes used step left) is (subst (λ (o : Option Bool). IsFed o reading bytes used step left) asks fed)
+
 pub heads : HeadsAreTheLaws
 heads s p k e bytes used step left shows is_open none late first fed =
     let asks = awaits s p k shows is_open ∙ ap (awaited_by (front_of_line s k)) late ∙ ap (λ (o : Option Exchange). option_map asks_head o) first in
     let reading = before p.pipe.reading k.unread k.answer (shows.pipe is_open).reading none in
-    by_text e k.unread bytes used step left
-    (subst (λ (r : Reading). IsFed (Some (asks_head e)) r bytes used step left) reading (subst (λ (o : Option Bool). IsFed o p.pipe.reading bytes used step left) asks fed))
+    by_text e k.unread bytes used step left (fed_by (awaited p.pipe.asks) (Some (asks_head e)) p.pipe.reading k.unread bytes used step left asks reading fed)
+
+pub early : EarlyIsRefused
+early s p k b bytes used step left shows is_open none late fed =
+    let asks = awaits s p k shows is_open ∙ ap (awaited_by (front_of_line s k)) late in
+    let reading = before p.pipe.reading k.unread k.answer (shows.pipe is_open).reading none in
+    fed_by (awaited p.pipe.asks) None p.pipe.reading k.unread (b ∷ bytes) used step left asks reading fed

@@ -24,7 +24,7 @@ asks_len s (n ∷ line) [] shows = absurd shows
 asks_len s (n ∷ line) (ask ∷ asks) shows = ap suc (asks_len s line asks shows.1)
 
 -- nothing is left of a text where all of it was asked
-none_left : (asked left len : ℕ) → asked + left ≡ len → (left == 0) ≡ (asked == len)
+pub none_left : (asked left len : ℕ) → asked + left ≡ len → (left == 0) ≡ (asked == len)
 none_left asked left len is = grind (arith, nat_tests)
 
 is_of_law : (s : State) (n : ℕ) (ask : Ask) (e : Exchange) → exchange s n ≡ Some e → ShowsAsk ask e → is_outstanding ask ≡ is_some_with is_asked (exchange s n)

@@ -1,5 +1,5 @@
 -- What comes on a connection (RFC 2616, sections 4.4, 6, 8.1.2.2 and 10.1).
-use Rattle.std.specs.Prelude.{◌≡◌, ℕ, zero, suc, ◌<◌, ◌≤◌, Bool, true, false, ◌==◌, ◌&&◌, List, [], ◌∷◌, ◌++◌, length, drop, slice_range, Option, Some, None, option_map, Result, Ok, Err}
+use Rattle.std.specs.Prelude.{◌≡◌, ℕ, zero, suc, ◌<◌, ◌≤◌, Bool, true, false, ◌==◌, ◌&&◌, [], ◌∷◌, ◌++◌, length, drop, slice_range, Option, Some, None, option_map, Result, Ok, Err}
 use Rattle.pp_framing.specs.Body.{behind, Bad as NoBody, Done, Going}
 use Rattle.pp_framing.specs.Framing.{rule_of}
 use Rattle.pp_framing.specs.Places.{first_place, is_unbounded, read_from}
@@ -65,7 +65,7 @@ abbrev pub IsRuledRead : Exchange → Response → Bytes → Bytes → Result Bo
 IsRuledRead e head rest bytes (Ok rule) used step left = IsHeadCome e head rule rest bytes used step left
 IsRuledRead e head rest bytes (Err fault) used step left = IsRefused bytes used step left
 
--- of the heads that are wrong to the law the pipe refuses 101 alone; of the others its caller judges
+-- of the heads that are wrong to the law the pipe refuses 101 alone: the others are for its caller
 abbrev pub IsFinalRead : Exchange → Response → Bytes → Bytes → Bool → ℕ → Step → Reading → Type 0
 IsFinalRead e head rest bytes true used step left = (is_wrong_head e head ≡ true) × IsRefused bytes used step left
 IsFinalRead e head rest bytes false used step left = IsRuledRead e head rest bytes (rule_of (asks_head e) head.status head.fields) used step left
@@ -77,7 +77,7 @@ IsHeadRead e text bytes TooLong used step left = IsRefused bytes used step left
 IsHeadRead e text bytes NoHead used step left = IsRefused bytes used step left
 IsHeadRead e text bytes More used step left = IsTold Idle (length bytes) (Before text) used step left
 
--- no bytes tell nothing
+-- where no bytes came nothing is told
 abbrev pub IsTextRead : Exchange → Bytes → Bytes → ℕ → Step → Reading → Type 0
 IsTextRead e unread [] used step left = IsTold Idle 0 (Before unread) used step left
 IsTextRead e unread (b ∷ bytes) used step left =
@@ -88,9 +88,14 @@ abbrev pub HeadsAreTheLaws : Type 0
 HeadsAreTheLaws = (s : State) (p : Peer) (k : Conn) (e : Exchange) (bytes : Bytes) (used : ℕ) (step : Step) (left : Reading) → ShowsConn s p k → k.is_closing ≡ false → k.answer ≡ None → is_early s k ≡ false → front_of_line s k ≡ Some e
     → IsFed (awaited p.pipe.asks) p.pipe.reading bytes used step left → IsTextRead e k.unread bytes used step left
 
+-- where it would be early, all that comes is refused
+abbrev pub EarlyIsRefused : Type 0
+EarlyIsRefused = (s : State) (p : Peer) (k : Conn) (b : ℕ) (bytes : Bytes) (used : ℕ) (step : Step) (left : Reading) → ShowsConn s p k → k.is_closing ≡ false → k.answer ≡ None → is_early s k ≡ true
+    → IsFed (awaited p.pipe.asks) p.pipe.reading (b ∷ bytes) used step left → IsRefused (b ∷ bytes) used step left
+
 -- ---- bodies
 
--- within the body of a response, amid the bytes of one read: so many of them are left, and these data came
+-- within the body of a response, amid the bytes of one read: these of them are left, and these data came of the others
 pub record IsAmid (response : Response) (place : Place) (a : Answer) (bytes left came : Bytes) : Type 0 where
   pub head : response ≡ a.head
   pub goes_on : (more : Bytes) → body_of a.rule (a.raw ++ bytes ++ more) ≡ behind (payload_of a ++ came) (read_from place (left ++ more))

@@ -1,5 +1,5 @@
 // What comes on a connection.
-ghost use Rattle.pp_peers_law.specs.Comes.{AwaitedIsTheLaws, BodiesAreTheLaws, EndingsAreTheLaws, HeadsAreTheLaws, ReadsBeginAsTheLaws};
+ghost use Rattle.pp_peers_law.specs.Comes.{AwaitedIsTheLaws, BodiesAreTheLaws, EarlyIsRefused, EndingsAreTheLaws, HeadsAreTheLaws, ReadsBeginAsTheLaws};
 
 /// Whose response comes next, and whether it is early.
 pub fn awaited_is_the_laws()
@@ -9,6 +9,7 @@ pub fn awaited_is_the_laws()
 /// The heads that come before the body of a response.
 pub fn heads_are_the_laws()
     ensures heads { HeadsAreTheLaws }
+    ensures early { EarlyIsRefused }
 {}
 
 /// The body of a response, as each read brings more of it.
