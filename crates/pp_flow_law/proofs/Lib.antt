@@ -1,0 +1,9 @@
+mod Begun
+mod Ended
+mod Entries
+mod Exchanges
+mod Pairs
+mod Put
+mod Standing
+mod Turned
+mod Unplaced

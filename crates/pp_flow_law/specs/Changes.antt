@@ -1,0 +1,78 @@
+-- What changes the exchanges of the program changes those of the law alike.
+use Rattle.std.specs.Prelude.{◌≡◌, ℕ, ◌+◌, ◌-◌, ◌==◌, true, false, not, [], ◌∷◌, ◌++◌, List, length, filter, Option, Some}
+use Rattle.std.specs.List.{find}
+use Rattle.pp_flow.specs.Changes.{Exchanges, changed, entry_of, placed_on, unplaced as without_place, with_errand, without}
+use Rattle.pp_flow.specs.Entries.{asking, begun_with, bound_to, is_number, moved_by, nobodys}
+use Rattle.pp_flow.specs.declared.entry.Aim.{Aim}
+use Rattle.pp_flow.specs.declared.entry.Entry.{Entry}
+use Rattle.pp_flow.specs.declared.errand.Body.{Body as ErrandBody}
+use Rattle.pp_flow.specs.declared.errand.Errand.{Errand}
+use Rattle.pp_law.specs.Asking.{asked_text}
+use Rattle.pp_law.specs.Closing.{left_alone}
+use Rattle.pp_law.specs.Connections.{conn, end_exchange, exchange, on_exchange, put_on, unplaced}
+use Rattle.pp_law.specs.Deciding.{add_exchange}
+use Rattle.pp_law.specs.Lists.{Bytes, has_number}
+use Rattle.pp_law.specs.OwnHeads.{moved_on, use_body}
+use Rattle.pp_law.specs.State.{State, Body, Conn, Exchange}
+use Rattle.pp_seats_law.specs.Exchanges.{Binding, ShowsBody, ShowsExchange}
+use Rattle.pp_flow_law.specs.Tables.{Leaving, OfFlows, ShowsFlow, none_leaves}
+
+-- none are there, and none were begun
+abbrev pub BeginningsAreTheLaws : Type 0
+BeginningsAreTheLaws = (s : State) → s.exchanges ≡ [] → s.conns ≡ [] → s.next_exchange ≡ 0 → ShowsFlow none_leaves (record { waiting = []; placed = []; begun = 0 }) s
+
+-- one begins
+abbrev pub BeginsAreTheLaws : Type 0
+BeginsAreTheLaws = OfFlows (λ l f s. (client : ℕ) (key : Bytes) (aim : Aim) (errand : Errand) (e : Exchange) → ShowsExchange (begun_with f.begun client key aim errand) e
+    → ShowsFlow l (record f { waiting = f.waiting ++ begun_with f.begun client key aim errand ∷ []; begun = f.begun + 1 }) (add_exchange e s))
+
+-- it gets a place, as the last of that line, where it is asked from the front of its text on
+abbrev pub PutsAreTheLaws : Type 0
+PutsAreTheLaws = OfFlows (λ l f s. (n k : ℕ) (x : Entry) (e : Exchange) → find (is_number n) f.waiting ≡ Some x → exchange s n ≡ Some e
+    → ShowsFlow l (with_errand n (record x.errand { text_len = length e.text; asked = 0 }) (placed_on k n f)) (put_on n k s))
+
+-- it stands in no line of the law: its connection is closing
+abbrev pub HasLeft : ℕ → State → Type 0
+HasLeft n s = (i : ℕ) (k : Conn) → conn s i ≡ Some k → has_number n k.line ≡ false
+
+abbrev pub but : ℕ → Leaving → Leaving
+but n l k = filter (λ m. not (m == n)) (l k)
+
+-- its place is taken away, and nothing of it was asked
+abbrev pub UnplacesAreTheLaws : Type 0
+UnplacesAreTheLaws = OfFlows (λ l f s. (n : ℕ) (x : Entry) → find (is_number n) f.placed ≡ Some x → HasLeft n s
+    → ShowsFlow (but n l) (with_errand n (record x.errand { asked = 0 }) (without_place n f)) (on_exchange n unplaced s))
+
+-- it is over
+abbrev pub EndsAreTheLaws : Type 0
+EndsAreTheLaws = OfFlows (λ l f s. (n : ℕ) → ShowsFlow (but n l) (record f { waiting = without n f.waiting; placed = without n f.placed }) (end_exchange n s))
+
+-- its request leaves it
+abbrev pub LeavesAreTheLaws : Type 0
+LeavesAreTheLaws = OfFlows (λ l f s. (n : ℕ) → ShowsFlow l (record f { waiting = changed n nobodys f.waiting; placed = changed n nobodys f.placed }) (on_exchange n left_alone s))
+
+-- its final head came, and what becomes of its body is known
+abbrev pub HeadsAreTheLaws : Type 0
+HeadsAreTheLaws = OfFlows (λ l f s. (n : ℕ) (x : Entry) (e : Exchange) (to : Option Binding) (body : ErrandBody) (other : Body) → find (is_number n) f.placed ≡ Some x → exchange s n ≡ Some e → ShowsBody body true to other
+    → ShowsFlow l (with_errand n (record x.errand { body = body }) (record f { placed = changed n (bound_to to) f.placed })) (use_body e other s))
+
+-- bytes of its span came
+abbrev pub BytesAreTheLaws : Type 0
+BytesAreTheLaws = OfFlows (λ l f s. (n m : ℕ) (x : Entry) → find (is_number n) f.placed ≡ Some x → ShowsFlow l (record f { placed = changed n (moved_by m) f.placed }) (on_exchange n (moved_on m) s))
+
+-- what it asks, and how much of it was asked, is now this
+abbrev pub KeepsItsPlace : (Exchange → Exchange) → Type 0
+KeepsItsPlace to = (e : Exchange) → ((to e).number ≡ e.number) × ((to e).place ≡ e.place)
+
+abbrev pub ErrandsAreTheLaws : Type 0
+ErrandsAreTheLaws = OfFlows (λ l f s. (n : ℕ) (x : Entry) (errand : Errand) (to : Exchange → Exchange) → entry_of n f ≡ Some x → KeepsItsPlace to → ((e : Exchange) → ShowsExchange x e → ShowsExchange (asking errand x) (to e))
+    → ShowsFlow l (with_errand n errand f) (on_exchange n to s))
+
+-- bytes of its text were asked, or of the body of its request
+abbrev pub TextsAreTheLaws : Type 0
+TextsAreTheLaws = OfFlows (λ l f s. (n m : ℕ) (x : Entry) → entry_of n f ≡ Some x
+    → ShowsFlow l (with_errand n (record x.errand { asked = x.errand.asked + m; requested = s.clock }) f) (on_exchange n (asked_text m s.clock) s))
+
+abbrev pub BodiesAreTheLaws : Type 0
+BodiesAreTheLaws = OfFlows (λ l f s. (n m : ℕ) (x : Entry) → entry_of n f ≡ Some x
+    → ShowsFlow l (with_errand n (record x.errand { body_left = x.errand.body_left - m }) f) (on_exchange n (λ e. record e { body_left = e.body_left - m }) s))

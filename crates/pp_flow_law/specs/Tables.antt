@@ -1,0 +1,42 @@
+-- How the exchanges of the program stand for those of the law (RFC 2616, sections 8.1.2.2 and 8.1.4).
+use Rattle.std.specs.Prelude.{◌≡◌, ◌≤◌, ◌+◌, ℕ, Bool, not, ◌==◌, is_some, List, [], ◌∷◌, ◌++◌, length, map, filter, Some, count_by}
+use Rattle.pp_cache_law.specs.Pairs.{AreAll, AreBoth}
+use Rattle.pp_flow.specs.Changes.{Exchanges, entry_of, line_of}
+use Rattle.pp_flow.specs.Entries.{is_number}
+use Rattle.pp_law.specs.Connections.{conn, exchange}
+use Rattle.pp_law.specs.State.{State, Conn, Exchange}
+use Rattle.pp_seats_law.specs.Exchanges.{ShowsExchange}
+
+abbrev pub has_place : Exchange → Bool
+has_place e = is_some e.place
+
+abbrev pub has_none : Exchange → Bool
+has_none e = not (has_place e)
+
+-- from the first on, each above those before it, and below the second
+abbrev pub AreGiven : ℕ → ℕ → List ℕ → Type 0
+AreGiven low next [] = low ≤ next
+AreGiven low next (n ∷ ns) = (low ≤ n) × AreGiven (n + 1) next ns
+
+-- where a connection is closed, the law takes its exchanges from the line at once, and the program one behind the other: these still
+-- have to leave a connection, by its number
+abbrev pub Leaving : Type 0
+Leaving = ℕ → List ℕ
+
+abbrev pub none_leaves : Leaving
+none_leaves k = []
+
+-- by number, each shows the law's; those without a place show the law's without one, in the order of their beginnings; those of a
+-- connection are its line, in the order in which they came to it. There are as many, no two of one number, and as many were begun
+pub record ShowsFlow (l : Leaving) (f : Exchanges) (s : State) : Type 0 where
+  pub each : (n : ℕ) → AreBoth ShowsExchange (entry_of n f) (exchange s n)
+  pub waiting : AreAll ShowsExchange f.waiting (filter has_none s.exchanges)
+  pub lines : (n : ℕ) (k : Conn) → conn s n ≡ Some k → line_of n f.placed ≡ l n ++ k.line
+  pub count : length f.waiting + length f.placed ≡ length s.exchanges
+  pub once : (n : ℕ) → count_by (is_number n) (f.waiting ++ f.placed) ≤ 1
+  pub begun : f.begun ≡ s.next_exchange
+  pub given : AreGiven 0 s.next_exchange (map (λ e. e.number) s.exchanges)
+
+-- of all that do
+abbrev pub OfFlows : (Leaving → Exchanges → State → Type 0) → Type 0
+OfFlows P = (l : Leaving) (f : Exchanges) (s : State) → ShowsFlow l f s → P l f s

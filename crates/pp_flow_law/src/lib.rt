@@ -1,0 +1,25 @@
+//! How the exchanges of the program stand for those of the law.
+//!
+//! `specs/Tables.antt` is the relation: the value of a `Flow` shows the exchanges and lines of `pp_law`, in the words of both (one
+//! entry shows one exchange by `pp_seats_law`). From it follows that what the program reads of its exchanges is what the law reads
+//! of its own: the one with a number, whether it has a place, that of a client, the next without a place, what stands in a line,
+//! and how many there are; and that what a call leaves of them shows what the law's own function makes of its own.
+//!
+//! To the layer above: each equation is the clause of a function that does nothing. It is one part of the proof that the program
+//! obeys the law: of clients, rows, pipes and turns nothing is said here. The words of the program stand in `pp_flow`, which says
+//! of each call which it computes.
+//!
+//! Takes no memory, and does nothing when the program runs.
+#![tactic(auto)]
+
+mod beginning; // one more, or none yet
+mod changing; // one that is changed where it stands
+mod ending; // one that is over
+mod placing; // one that gets a place, or loses it
+mod reading; // what is read of them
+
+pub use beginning::{beginnings_are_the_laws, begins_are_the_laws};
+pub use changing::leaves_are_the_laws;
+pub use ending::ends_are_the_laws;
+pub use placing::{puts_are_the_laws, unplaces_are_the_laws};
+pub use reading::counts_are_the_laws;
