@@ -1,9 +1,11 @@
 mod Begun
 mod Ended
 mod Entries
+mod Errands
 mod Exchanges
 mod Pairs
 mod Put
 mod Standing
+mod Told
 mod Turned
 mod Unplaced

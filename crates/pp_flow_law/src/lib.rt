@@ -19,7 +19,7 @@ mod placing; // one that gets a place, or loses it
 mod reading; // what is read of them
 
 pub use beginning::{beginnings_are_the_laws, begins_are_the_laws};
-pub use changing::leaves_are_the_laws;
+pub use changing::{asks_are_the_laws, bytes_are_the_laws, errands_are_the_laws, heads_are_the_laws, leaves_are_the_laws};
 pub use ending::ends_are_the_laws;
 pub use placing::{puts_are_the_laws, unplaces_are_the_laws};
-pub use reading::counts_are_the_laws;
+pub use reading::{askers_are_the_laws, counts_are_the_laws, lines_are_the_laws, nexts_are_the_laws, places_are_the_laws};
