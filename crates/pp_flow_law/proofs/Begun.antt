@@ -12,8 +12,8 @@ use Rattle.pp_law.specs.Deciding.{add_exchange}
 use Rattle.pp_law.specs.State.{State, Conn, Exchange}
 use Rattle.pp_seats_law.specs.Exchanges.{ShowsExchange}
 use Rattle.pp_flow_law.specs.Changes.{BeginningsAreTheLaws, BeginsAreTheLaws}
-use Rattle.pp_flow_law.specs.Tables.{AreGiven, Leaving, ShowsFlow, has_none, none_leaves}
-use Rattle.pp_flow_law.proofs.Entries.{length_last, none_some, other_way, same_as, same_number}
+use Rattle.pp_flow_law.specs.Tables.{AreGiven, Leaving, ShowsFlow, has_none, line_in, none_leaves}
+use Rattle.pp_flow_law.proofs.Entries.{length_last, other_way, same_as, same_number}
 use Rattle.pp_flow_law.proofs.Exchanges.{given_more, none_behind, numbers_of}
 use Rattle.pp_flow_law.proofs.Pairs.{both_as}
 use Rattle.pp_flow_law.proofs.Put.{at_most_one, first_none, no_more}
@@ -22,7 +22,7 @@ pub beginnings : BeginningsAreTheLaws
 beginnings s none unlinked zero = record {
   each = λ n. both_as None None (exchange s n) None refl (ap (λ (es : List Exchange). find (is_exchange n) es) none) tt;
   waiting = subst (λ (es : List Exchange). AreAll ShowsExchange [] (filter has_none es)) (sym none) tt;
-  lines = λ n k here. absurd (none_some k (sym (ap (λ (ks : List Conn). find (is_conn n) ks) unlinked) ∙ here));
+  lines = λ n. sym (ap (λ (ks : List Conn). line_in (find (is_conn n) ks)) unlinked);
   count = sym (ap (λ (es : List Exchange). length es) none);
   once = λ n. few n;
   begun = sym zero;

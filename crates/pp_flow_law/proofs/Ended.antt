@@ -2,7 +2,6 @@
 use Rattle.std.proofs.Common.{◌≡◌, ◌≤◌, ◌+◌, refl, sym, subst, ap, ap₂, ◌∙◌, ℕ, Bool, true, false, not, ◌==◌, find, List, ◌++◌, map, filter, length, Option, Some, None, option_map, arith}
 use Rattle.std.specs.Prelude.{count_by}
 use Rattle.pp_cache_law.proofs.Finds.{find_kept, find_mapped, find_out}
-use Rattle.pp_cache_law.proofs.Numbers.{some_is}
 use Rattle.pp_cache_law.proofs.PairLemmas.{count_joined, filter_joined}
 use Rattle.pp_cache_law.specs.Pairs.{AreAll, AreBoth}
 use Rattle.pp_flow.specs.Changes.{Exchanges, entry_of, first_of, line_of, without as without_number}
@@ -13,8 +12,8 @@ use Rattle.pp_law.specs.Lists.{without}
 use Rattle.pp_law.specs.State.{State, Conn, Exchange}
 use Rattle.pp_seats_law.specs.Exchanges.{ShowsExchange}
 use Rattle.pp_flow_law.specs.Changes.{EndsAreTheLaws, but}
-use Rattle.pp_flow_law.specs.Tables.{Leaving, ShowsFlow, has_none}
-use Rattle.pp_flow_law.proofs.Entries.{count_without, find_without, find_without_else, isnt, length_without, line_without, none_some, off, other_way, same_number}
+use Rattle.pp_flow_law.specs.Tables.{Leaving, ShowsFlow, has_none, line_at, line_in}
+use Rattle.pp_flow_law.proofs.Entries.{count_without, find_without, find_without_else, isnt, length_without, line_without, off, other_way, same_number}
 use Rattle.pp_flow_law.proofs.Exchanges.{filter_swap, given_kept, isnt_exchange, length_kept}
 use Rattle.pp_flow_law.proofs.Pairs.{both_as, pairs_without}
 use Rattle.pp_flow_law.proofs.Standing.{counts_same, few_placed, few_waiting}
@@ -22,14 +21,14 @@ use Rattle.pp_flow_law.proofs.Standing.{counts_same, few_placed, few_waiting}
 abbrev pub over_at : ℕ → Exchanges → Exchanges
 over_at n f = record f { waiting = without_number n f.waiting; placed = without_number n f.placed }
 
-not_so : (b : Bool) → not b ≡ true → b ≡ false
+pub not_so : (b : Bool) → not b ≡ true → b ≡ false
 not_so true is = absurd cc
 not_so false is = refl
 
 -- the line of a connection, but for that one
-pub line_but : (l : Leaving) (f : Exchanges) (s : State) → ShowsFlow l f s → (n m : ℕ) (j : Conn) → conn s m ≡ Some j → line_of m (without_number n f.placed) ≡ but n l m ++ filter (isnt n) j.line
-line_but l f s shows n m j is =
-    line_without n m f.placed (few_placed l f s shows n) ∙ ap (λ (ns : List ℕ). filter (isnt n) ns) (shows.lines m j is) ∙ filter_joined (isnt n) (l m) j.line
+pub line_but : (l : Leaving) (f : Exchanges) (s : State) → ShowsFlow l f s → (n m : ℕ) → line_of m (without_number n f.placed) ≡ but n l m ++ filter (isnt n) (line_at s m)
+line_but l f s shows n m =
+    line_without n m f.placed (few_placed l f s shows n) ∙ ap (λ (ns : List ℕ). filter (isnt n) ns) (shows.lines m) ∙ filter_joined (isnt n) (l m) (line_at s m)
 
 pub ends : EndsAreTheLaws
 unfolding end_exchange
@@ -38,7 +37,7 @@ ends l f s shows n = record {
   waiting =
       subst (λ (es : List Exchange). AreAll ShowsExchange (without_number n f.waiting) es) (sym (filter_swap has_none (isnt_exchange n) s.exchanges))
       (pairs_without n f.waiting (filter has_none s.exchanges) (few_waiting l f s shows n) shows.waiting);
-  lines = λ m k here. by m k (conn s m) refl (sym (find_mapped (is_conn m) (without_ask n) s.conns (λ j. refl)) ∙ here);
+  lines = λ m. line_but l f s shows n m ∙ ap (λ (ns : List ℕ). but n l m ++ ns) (its (conn s m) ∙ ap (λ (o : Option Conn). line_in o) (sym (find_mapped (is_conn m) (without_ask n) s.conns (λ j. refl))));
   count =
       omega
       (arith, counts_same l f s shows n, length_without n f.waiting (few_waiting l f s shows n), length_without n f.placed (few_placed l f s shows n), length_kept n s.exchanges, shows.count);
@@ -49,9 +48,9 @@ ends l f s shows n = record {
   given = given_kept (isnt_exchange n) 0 s.next_exchange s.exchanges shows.given;
 }
   where
-    by : (m : ℕ) (k : Conn) (o : Option Conn) → conn s m ≡ o → option_map (without_ask n) o ≡ Some k → line_of m (without_number n f.placed) ≡ but n l m ++ k.line
-    by m k None is here = absurd (none_some k here)
-    by m k (Some j) is here = line_but l f s shows n m j is ∙ ap (λ (c : Conn). but n l m ++ c.line) (some_is (without_ask n j) k here)
+    its : (o : Option Conn) → filter (isnt n) (line_in o) ≡ line_in (option_map (without_ask n) o)
+    its None = refl
+    its (Some k) = refl
 
     at : (b : Bool) (m : ℕ) → (m == n) ≡ b → AreBoth ShowsExchange (entry_of m (over_at n f)) (find (is_exchange m) (without (is_exchange n) s.exchanges))
     at true m is =

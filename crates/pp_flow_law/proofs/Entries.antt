@@ -155,6 +155,14 @@ length_without n (e ∷ es) few = by (is_number n e) refl (few_first (is_number 
         let one : count_by (is_number n) (e ∷ es) ≡ 0 + count_by (is_number n) es = count_first (is_number n) e es ∙ ap (λ (t : Bool). cond t 1 0 + count_by (is_number n) es) is in
         omega (arith, one, rest (omega (arith, less)))
 
+pub without_none : (n : ℕ) (es : List Entry) → find (is_number n) es ≡ None → without n es ≡ es
+without_none n [] none = refl
+without_none n (e ∷ es) none = by (is_number n e) none (λ f. without_none n es f)
+  where
+    by : (b : Bool) → cond b (Some e) (find (is_number n) es) ≡ None → (find (is_number n) es ≡ None → without n es ≡ es) → cond b es (e ∷ without n es) ≡ e ∷ es
+    by true f rest = absurd (none_some e (sym f))
+    by false f rest = ap (λ (xs : List Entry). e ∷ xs) (rest f)
+
 abbrev pub isnt : ℕ → ℕ → Bool
 isnt n m = not (m == n)
 

@@ -3,6 +3,8 @@ mod Ended
 mod Entries
 mod Errands
 mod Exchanges
+mod Framed
+mod Left
 mod Pairs
 mod Put
 mod Standing

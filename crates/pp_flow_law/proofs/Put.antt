@@ -17,7 +17,7 @@ use Rattle.pp_law.specs.Lists.{change}
 use Rattle.pp_law.specs.State.{State, Conn, Exchange}
 use Rattle.pp_seats_law.specs.Exchanges.{ShowsExchange}
 use Rattle.pp_flow_law.specs.Changes.{PutsAreTheLaws}
-use Rattle.pp_flow_law.specs.Tables.{AreGiven, Leaving, ShowsFlow, has_none}
+use Rattle.pp_flow_law.specs.Tables.{AreGiven, Leaving, ShowsFlow, has_none, line_in}
 use Rattle.pp_flow_law.proofs.Entries.{any_is, changed_last, count_without, find_without, find_without_else, length_last, length_without, line_first, line_joined, none_some, other_way, same_as, same_number}
 use Rattle.pp_flow_law.proofs.Exchanges.{filter_change_out, find_change, find_change_else, length_change, numbers_change}
 use Rattle.pp_flow_law.proofs.Pairs.{both_as, pairs_without}
@@ -69,15 +69,19 @@ same_both i k m one two = grind (arith, nat_tests)
 not_both : (i k m : ℕ) → (i == m) ≡ true → (i == k) ≡ false → (k == m) ≡ false
 not_both i k m one two = grind (arith, nat_tests)
 
-puts_at : (l : Leaving) (f : Exchanges) (s : State) → ShowsFlow l f s → (n k : ℕ) (x y : Entry) → find (is_number n) f.waiting ≡ Some x → IsPut n k y
+puts_at : (l : Leaving) (f : Exchanges) (s : State) → ShowsFlow l f s → (n k : ℕ) (x y : Entry) (c : Conn) → find (is_number n) f.waiting ≡ Some x → IsPut n k y → conn s k ≡ Some c
     → ((e : Exchange) → exchange s n ≡ Some e → ShowsExchange x e → ShowsExchange y (placed_by k e)) → ShowsFlow l (put_at n y f) (put_on n k s)
 unfolding put_on on_conn on_exchange
-puts_at l f s shows n k x y waits put to = record {
+puts_at l f s shows n k x y c waits put linked to = record {
   each = λ m. at (m == n) m refl;
   waiting =
       subst (λ (es : List Exchange). AreAll ShowsExchange (without_number n f.waiting) es) (sym (filter_change_out n (placed_by k) has_none (λ e. refl) s.exchanges))
       (pairs_without n f.waiting (filter has_none s.exchanges) (few_waiting l f s shows n) shows.waiting);
-  lines = λ m c here. by m c (conn s m) refl (sym (find_mapped (is_conn m) (at_conn n k) s.conns (λ j. kept m j (is_conn k j))) ∙ here);
+  lines = λ m.
+      line_joined m f.placed (y ∷ [])
+      ∙ ap₂ (λ (ns os : List ℕ). ns ++ os) (shows.lines m) (line_of_one n k m y put)
+      ∙ by m (conn s m) refl
+      ∙ ap (λ (o : Option Conn). l m ++ line_in o) (sym (find_mapped (is_conn m) (at_conn n k) s.conns (λ j. kept m j (is_conn k j))));
   count =
       omega
       (arith, shows.count, length_without n f.waiting (few_waiting l f s shows n), few_waiting l f s shows n, found_counted (is_number n) f.waiting x waits, length_last f.placed y, length_change n (placed_by k) s.exchanges);
@@ -98,13 +102,13 @@ puts_at l f s shows n k x y waits put to = record {
     longer m j true one two = ap (λ (b : Bool). (l m ++ j.line) ++ cond b (n ∷ []) []) (same_both j.number k m one two) ∙ append_assoc (l m) j.line (n ∷ [])
     longer m j false one two = ap (λ (b : Bool). (l m ++ j.line) ++ cond b (n ∷ []) []) (not_both j.number k m one two) ∙ append-nil (l m ++ j.line)
 
-    by : (m : ℕ) (c : Conn) (o : Option Conn) → conn s m ≡ o → option_map (at_conn n k) o ≡ Some c → line_of m (f.placed ++ y ∷ []) ≡ l m ++ c.line
-    by m c None is here = absurd (none_some c here)
-    by m c (Some j) is here =
-        line_joined m f.placed (y ∷ [])
-        ∙ ap₂ (λ (ns os : List ℕ). ns ++ os) (shows.lines m j is) (line_of_one n k m y put)
-        ∙ longer m j (is_conn k j) (find_passes (is_conn m) s.conns j is) refl
-        ∙ ap (λ (d : Conn). l m ++ d.line) (some_is (at_conn n k j) c here)
+    elsewhere : (m : ℕ) → conn s m ≡ None → (b : Bool) → (k == m) ≡ b → (l m ++ []) ++ cond b (n ∷ []) [] ≡ l m ++ []
+    elsewhere m is true e = absurd (none_some c (sym is ∙ subst (λ (i : ℕ). conn s i ≡ Some c) (same_number k m e) linked))
+    elsewhere m is false e = append-nil (l m ++ [])
+
+    by : (m : ℕ) (o : Option Conn) → conn s m ≡ o → (l m ++ line_in o) ++ cond (k == m) (n ∷ []) [] ≡ l m ++ line_in (option_map (at_conn n k) o)
+    by m None is = elsewhere m is (k == m) refl
+    by m (Some j) is = longer m j (is_conn k j) (find_passes (is_conn m) s.conns j is) refl
 
     few : (b : Bool) (m : ℕ) → (m == n) ≡ b → count_by (is_number m) (without_number n f.waiting ++ (f.placed ++ y ∷ [])) ≤ 1
     few true m is =
@@ -147,10 +151,10 @@ is_put_at l f s shows n k x r waits =
     (changed_last n (asking r) f.placed (with_place (Some k) x) (none_placed l f s shows n x waits) (find_passes (is_number n) f.waiting x waits))
 
 pub puts : PutsAreTheLaws
-puts l f s shows n k x e waits here =
-    subst (λ (g : Exchanges). ShowsFlow l g (put_on n k s)) (sym (is_put_at l f s shows n k x (record x.errand { text_len = length e.text; asked = 0 }) waits))
-    (puts_at l f s shows n k x (asking (record x.errand { text_len = length e.text; asked = 0 }) (with_place (Some k) x)) waits
-    (record { number = same_number x.exchange.number n (find_passes (is_number n) f.waiting x waits); place = refl }) (λ d there one. record {
+puts l f s shows n x e k waits here linked =
+    subst (λ (g : Exchanges). ShowsFlow l g (put_on n k.number s)) (sym (is_put_at l f s shows n k.number x (record x.errand { text_len = length e.text; asked = 0 }) waits))
+    (puts_at l f s shows n k.number x (asking (record x.errand { text_len = length e.text; asked = 0 }) (with_place (Some k.number) x)) k waits
+    (record { number = same_number x.exchange.number n (find_passes (is_number n) f.waiting x waits); place = refl }) linked (λ d there one. record {
       number = one.number;
       asker = one.asker;
       aim = one.aim;

@@ -14,7 +14,7 @@ use Rattle.pp_law.specs.Lists.{is_some_with, is_this}
 use Rattle.pp_law.specs.State.{State, Exchange}
 use Rattle.pp_seats_law.specs.Exchanges.{ShowsExchange}
 use Rattle.pp_flow_law.specs.Reads.{AskersAreTheLaws, LinesAreTheLaws, NextsAreTheLaws, PlacesAreTheLaws, WaitsAreTheLaws, began_behind}
-use Rattle.pp_flow_law.specs.Tables.{Leaving, ShowsFlow, has_none, has_place}
+use Rattle.pp_flow_law.specs.Tables.{Leaving, ShowsFlow, has_none, has_place, line_at}
 use Rattle.pp_flow_law.proofs.Entries.{none_some, same_as}
 use Rattle.pp_flow_law.proofs.Standing.{IsShown, entry_placed, entry_waiting, few_given, few_placed, few_waiting, is_shown, none_placed, none_waits, placed_has, waits_has}
 
@@ -68,7 +68,7 @@ places l f s shows n = (told l f s shows n).placed
 -- ---- that of a client
 
 -- one that another test finds, where the test holds once
-found_alone : {A : Type 0} (p q : A → Bool) (xs : List A) (y : A) → find q xs ≡ Some y → p y ≡ true → count_by p xs ≤ 1 → find p xs ≡ Some y
+pub found_alone : {A : Type 0} (p q : A → Bool) (xs : List A) (y : A) → find q xs ≡ Some y → p y ≡ true → count_by p xs ≤ 1 → find p xs ≡ Some y
 found_alone p q [] y e holds few = absurd (none_some y e)
 found_alone {A = A} p q (x ∷ xs) y e holds few = by (p x) (q x) refl e (let f : cond (p x) 1 0 + count_by p xs ≤ 1 = omega (arith, few, count_first p x xs) in f) (λ f less. found_alone p q xs y f holds less)
   where
@@ -82,7 +82,7 @@ same_asker : (c : ℕ) (o : Option ℕ) → is_of_asker c o ≡ is_this c o
 same_asker c None = refl
 same_asker c (Some a) = refl
 
-its_asker : (c : ℕ) (x : Entry) (e : Exchange) → ShowsExchange x e → is_asked_by c x ≡ is_of c e
+pub its_asker : (c : ℕ) (x : Entry) (e : Exchange) → ShowsExchange x e → is_asked_by c x ≡ is_of c e
 its_asker c x e one = ap (λ (o : Option ℕ). is_of_asker c o) one.asker ∙ same_asker c e.asker
 
 -- the entry that is found by its client shows the law's
@@ -95,7 +95,7 @@ asked_one l f s shows c x few asks here =
     (found_alone (is_of c) (is_exchange x.exchange.number) s.exchanges it.known it.there (sym (its_asker c x it.known it.shows) ∙ asks) few))
 
 -- where none is found by its client, the law has none
-asked_none : (l : Leaving) (f : Exchanges) (s : State) → ShowsFlow l f s → (c : ℕ) → find (is_asked_by c) f.waiting ≡ None → find (is_asked_by c) f.placed ≡ None → None ≡ option_map (λ (e : Exchange). e.number) (find (is_of c) s.exchanges)
+pub asked_none : (l : Leaving) (f : Exchanges) (s : State) → ShowsFlow l f s → (c : ℕ) → find (is_asked_by c) f.waiting ≡ None → find (is_asked_by c) f.placed ≡ None → None ≡ option_map (λ (e : Exchange). e.number) (find (is_of c) s.exchanges)
 asked_none l f s shows c none neither = by (find (is_of c) s.exchanges) refl
   where
     at : (e : Exchange) (u v : Option Entry) → is_of c e ≡ true → find (is_number e.number) f.waiting ≡ u → find (is_number e.number) f.placed ≡ v → AreBoth ShowsExchange (first_of u v) (Some e) → ⊥
@@ -155,4 +155,4 @@ nexts l f s shows after =
 -- ---- a line
 
 pub lines : LinesAreTheLaws
-lines l f s shows n index k here none = ap (λ (ns : List ℕ). slice_get ns index) (shows.lines n k here ∙ ap (λ (ns : List ℕ). ns ++ k.line) none)
+lines l f s shows n index none = ap (λ (ns : List ℕ). slice_get ns index) (shows.lines n ∙ ap (λ (ns : List ℕ). ns ++ line_at s n) none)

@@ -14,7 +14,7 @@ use Rattle.pp_law.specs.Lists.{change, has_number}
 use Rattle.pp_law.specs.State.{State, Conn, Exchange}
 use Rattle.pp_seats_law.specs.Exchanges.{ShowsExchange}
 use Rattle.pp_flow_law.specs.Changes.{HasLeft, UnplacesAreTheLaws, but}
-use Rattle.pp_flow_law.specs.Tables.{AreGiven, Leaving, ShowsFlow, has_none}
+use Rattle.pp_flow_law.specs.Tables.{AreGiven, Leaving, ShowsFlow, has_none, line_at}
 use Rattle.pp_flow_law.proofs.Ended.{line_but}
 use Rattle.pp_flow_law.proofs.Entries.{any_is, changed_entered, count_entered, count_without, find_entered, find_entered_else, find_without, find_without_else, isnt, length_entered, length_without, other_way, same_as, same_number}
 use Rattle.pp_flow_law.proofs.Exchanges.{find_change, find_change_else, length_change, numbers_change}
@@ -40,7 +40,7 @@ unplaces_at l f s shows n x y here left num to = record {
   each = λ m. at (m == n) m refl;
   waiting =
       pairs_entered n y unplaced has_none it.known 0 s.next_exchange f.waiting s.exchanges shows.given shows.waiting num (λ e. refl) it.there (placed_has l f s shows n x it.known here it.there) (to it.known it.there it.shows);
-  lines = λ m k there. line_but l f s shows n m k there ∙ ap (λ (ns : List ℕ). but n l m ++ ns) (all_kept n k.line (left m k there));
+  lines = λ m. line_but l f s shows n m ∙ ap (λ (ns : List ℕ). but n l m ++ ns) (all_kept n (line_at s m) (left m));
   count =
       omega
       (arith, shows.count, length_without n f.placed (few_placed l f s shows n), few_placed l f s shows n, found_counted (is_number n) f.placed x here, length_entered y f.waiting, length_change n unplaced s.exchanges);

@@ -1,21 +1,21 @@
 -- What changes the exchanges of the program changes those of the law alike.
-use Rattle.std.specs.Prelude.{◌≡◌, ℕ, ◌+◌, ◌-◌, ◌==◌, true, false, not, [], ◌∷◌, ◌++◌, List, length, filter, Option, Some}
-use Rattle.std.specs.List.{find}
-use Rattle.pp_flow.specs.Changes.{Exchanges, changed, entry_of, placed_on, unplaced as without_place, with_errand, without}
-use Rattle.pp_flow.specs.Entries.{asking, begun_with, bound_to, is_number, moved_by, nobodys}
+use Rattle.std.specs.Prelude.{◌≡◌, ◌≤◌, ℕ, ◌+◌, ◌-◌, ◌==◌, true, false, not, [], ◌∷◌, ◌++◌, List, length, filter, Option, Some, None, count_by}
+use Rattle.std.specs.List.{find, list_any}
+use Rattle.pp_flow.specs.Changes.{Exchanges, changed, entry_of, first_of, placed_on, unplaced as without_place, with_errand, without}
+use Rattle.pp_flow.specs.Entries.{asking, begun_with, bound_to, is_asked_by, is_number, moved_by, nobodys}
 use Rattle.pp_flow.specs.declared.entry.Aim.{Aim}
 use Rattle.pp_flow.specs.declared.entry.Entry.{Entry}
 use Rattle.pp_flow.specs.declared.errand.Body.{Body as ErrandBody}
 use Rattle.pp_flow.specs.declared.errand.Errand.{Errand}
 use Rattle.pp_law.specs.Asking.{asked_text}
-use Rattle.pp_law.specs.Closing.{left_alone}
+use Rattle.pp_law.specs.Closing.{is_of, is_over, leave, left_alone}
 use Rattle.pp_law.specs.Connections.{conn, end_exchange, exchange, on_exchange, put_on, unplaced}
 use Rattle.pp_law.specs.Deciding.{add_exchange}
 use Rattle.pp_law.specs.Lists.{Bytes, has_number}
 use Rattle.pp_law.specs.OwnHeads.{moved_on, use_body}
 use Rattle.pp_law.specs.State.{State, Body, Conn, Exchange}
 use Rattle.pp_seats_law.specs.Exchanges.{Binding, ShowsBody, ShowsExchange}
-use Rattle.pp_flow_law.specs.Tables.{Leaving, OfFlows, ShowsFlow, none_leaves}
+use Rattle.pp_flow_law.specs.Tables.{Leaving, OfFlows, ShowsFlow, line_at, none_leaves}
 
 -- none are there, and none were begun
 abbrev pub BeginningsAreTheLaws : Type 0
@@ -28,12 +28,12 @@ BeginsAreTheLaws = OfFlows (λ l f s. (client : ℕ) (key : Bytes) (aim : Aim) (
 
 -- it gets a place, as the last of that line, where it is asked from the front of its text on
 abbrev pub PutsAreTheLaws : Type 0
-PutsAreTheLaws = OfFlows (λ l f s. (n k : ℕ) (x : Entry) (e : Exchange) → find (is_number n) f.waiting ≡ Some x → exchange s n ≡ Some e
-    → ShowsFlow l (with_errand n (record x.errand { text_len = length e.text; asked = 0 }) (placed_on k n f)) (put_on n k s))
+PutsAreTheLaws = OfFlows (λ l f s. (n : ℕ) (x : Entry) (e : Exchange) (k : Conn) → find (is_number n) f.waiting ≡ Some x → exchange s n ≡ Some e → conn s k.number ≡ Some k
+    → ShowsFlow l (with_errand n (record x.errand { text_len = length e.text; asked = 0 }) (placed_on k.number n f)) (put_on n k.number s))
 
 -- it stands in no line of the law: its connection is closing
 abbrev pub HasLeft : ℕ → State → Type 0
-HasLeft n s = (i : ℕ) (k : Conn) → conn s i ≡ Some k → has_number n k.line ≡ false
+HasLeft n s = (k : ℕ) → has_number n (line_at s k) ≡ false
 
 abbrev pub but : ℕ → Leaving → Leaving
 but n l k = filter (λ m. not (m == n)) (l k)
@@ -76,3 +76,17 @@ TextsAreTheLaws = OfFlows (λ l f s. (n m : ℕ) (x : Entry) → entry_of n f �
 abbrev pub BodiesAreTheLaws : Type 0
 BodiesAreTheLaws = OfFlows (λ l f s. (n m : ℕ) (x : Entry) → entry_of n f ≡ Some x
     → ShowsFlow l (with_errand n (record x.errand { body_left = x.errand.body_left - m }) f) (on_exchange n (λ e. record e { body_left = e.body_left - m }) s))
+
+-- at a decision a request leaves the exchange that it asked: without a place that is over, and with one it is nobody's
+abbrev pub left_by : ℕ → Exchanges → Exchanges
+left_by c f = elim (first_of (find (is_asked_by c) f.waiting) (find (is_asked_by c) f.placed)) [
+  | None ↦ f
+  | Some x ↦ elim x.exchange.place [
+    | None ↦ record f { waiting = without x.exchange.number f.waiting; placed = without x.exchange.number f.placed }
+    | Some k ↦ record f { waiting = changed x.exchange.number nobodys f.waiting; placed = changed x.exchange.number nobodys f.placed }
+  ]
+]
+
+-- where a request has one at most, and none is over before
+abbrev pub DecisionsLeaveAsTheLaws : Type 0
+DecisionsLeaveAsTheLaws = OfFlows (λ l f s. (c : ℕ) → count_by (is_of c) s.exchanges ≤ 1 → list_any is_over s.exchanges ≡ false → ShowsFlow l (left_by c f) (leave (is_of c) s))

@@ -5,11 +5,11 @@ use Rattle.pp_cache_law.specs.Pairs.{AreBoth}
 use Rattle.pp_flow.specs.Changes.{entry_of, first_of, is_after, line_of}
 use Rattle.pp_flow.specs.Entries.{is_asked_by, is_number}
 use Rattle.pp_law.specs.Closing.{is_of}
-use Rattle.pp_law.specs.Connections.{conn, exchange}
+use Rattle.pp_law.specs.Connections.{exchange}
 use Rattle.pp_law.specs.Lists.{is_some_with}
-use Rattle.pp_law.specs.State.{Conn, Exchange}
+use Rattle.pp_law.specs.State.{Exchange}
 use Rattle.pp_seats_law.specs.Exchanges.{ShowsExchange}
-use Rattle.pp_flow_law.specs.Tables.{OfFlows, has_none, has_place}
+use Rattle.pp_flow_law.specs.Tables.{OfFlows, has_none, has_place, line_at}
 
 -- how many there are, and the number of the next
 abbrev pub CountsAreTheLaws : Type 0
@@ -41,4 +41,4 @@ NextsAreTheLaws = OfFlows (λ l f s. (after : Option ℕ) → option_map (λ x. 
 
 -- what stands in a line, while none has to leave it
 abbrev pub LinesAreTheLaws : Type 0
-LinesAreTheLaws = OfFlows (λ l f s. (n index : ℕ) (k : Conn) → conn s n ≡ Some k → l n ≡ [] → slice_get (line_of n f.placed) index ≡ slice_get k.line index)
+LinesAreTheLaws = OfFlows (λ l f s. (n index : ℕ) → l n ≡ [] → slice_get (line_of n f.placed) index ≡ slice_get (line_at s n) index)

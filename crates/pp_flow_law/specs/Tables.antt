@@ -1,5 +1,5 @@
 -- How the exchanges of the program stand for those of the law (RFC 2616, sections 8.1.2.2 and 8.1.4).
-use Rattle.std.specs.Prelude.{◌≡◌, ◌≤◌, ◌+◌, ℕ, Bool, not, ◌==◌, is_some, List, [], ◌∷◌, ◌++◌, length, map, filter, Some, count_by}
+use Rattle.std.specs.Prelude.{◌≡◌, ◌≤◌, ◌+◌, ℕ, Bool, not, ◌==◌, is_some, List, [], ◌∷◌, ◌++◌, length, map, filter, Option, Some, None, count_by}
 use Rattle.pp_cache_law.specs.Pairs.{AreAll, AreBoth}
 use Rattle.pp_flow.specs.Changes.{Exchanges, entry_of, line_of}
 use Rattle.pp_flow.specs.Entries.{is_number}
@@ -26,12 +26,20 @@ Leaving = ℕ → List ℕ
 abbrev pub none_leaves : Leaving
 none_leaves k = []
 
+-- the line of a connection of the law; where none is, none
+abbrev pub line_in : Option Conn → List ℕ
+line_in None = []
+line_in (Some k) = k.line
+
+abbrev pub line_at : State → ℕ → List ℕ
+line_at s n = line_in (conn s n)
+
 -- by number, each shows the law's; those without a place show the law's without one, in the order of their beginnings; those of a
 -- connection are its line, in the order in which they came to it. There are as many, no two of one number, and as many were begun
 pub record ShowsFlow (l : Leaving) (f : Exchanges) (s : State) : Type 0 where
   pub each : (n : ℕ) → AreBoth ShowsExchange (entry_of n f) (exchange s n)
   pub waiting : AreAll ShowsExchange f.waiting (filter has_none s.exchanges)
-  pub lines : (n : ℕ) (k : Conn) → conn s n ≡ Some k → line_of n f.placed ≡ l n ++ k.line
+  pub lines : (n : ℕ) → line_of n f.placed ≡ l n ++ line_at s n
   pub count : length f.waiting + length f.placed ≡ length s.exchanges
   pub once : (n : ℕ) → count_by (is_number n) (f.waiting ++ f.placed) ≤ 1
   pub begun : f.begun ≡ s.next_exchange

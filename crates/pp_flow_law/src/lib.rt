@@ -14,12 +14,14 @@
 
 mod beginning; // one more, or none yet
 mod changing; // one that is changed where it stands
-mod ending; // one that is over
+mod ending; // one that is over, or is left at a decision
+mod framing; // what they stand on, and what is no part of them
 mod placing; // one that gets a place, or loses it
 mod reading; // what is read of them
 
 pub use beginning::{beginnings_are_the_laws, begins_are_the_laws};
 pub use changing::{asks_are_the_laws, bytes_are_the_laws, errands_are_the_laws, heads_are_the_laws, leaves_are_the_laws};
-pub use ending::ends_are_the_laws;
+pub use ending::{decisions_leave_as_the_laws, ends_are_the_laws};
+pub use framing::{connections_are_the_laws, frames_are_the_laws};
 pub use placing::{puts_are_the_laws, unplaces_are_the_laws};
 pub use reading::{askers_are_the_laws, counts_are_the_laws, lines_are_the_laws, nexts_are_the_laws, places_are_the_laws};
