@@ -23,7 +23,6 @@ beginnings s none unlinked zero = record {
   each = λ n. both_as None None (exchange s n) None refl (ap (λ (es : List Exchange). find (is_exchange n) es) none) tt;
   waiting = subst (λ (es : List Exchange). AreAll ShowsExchange [] (filter has_none es)) (sym none) tt;
   lines = λ n. sym (ap (λ (ks : List Conn). line_in (find (is_conn n) ks)) unlinked);
-  count = sym (ap (λ (es : List Exchange). length es) none);
   once = λ n. few n;
   begun = sym zero;
   given = subst (λ (es : List Exchange). AreGiven 0 s.next_exchange (numbers_of es)) (sym none) (omega arith);
@@ -61,7 +60,6 @@ begins_at l f s shows x e num unplaced one = record {
       subst (λ (es : List Exchange). AreAll ShowsExchange (f.waiting ++ x ∷ []) es) (sym (filter_joined has_none s.exchanges (e ∷ []) ∙ ap (λ (t : Bool). filter has_none s.exchanges ++ cond t (e ∷ []) []) without_one))
       (joined ShowsExchange f.waiting (x ∷ []) (filter has_none s.exchanges) (e ∷ []) shows.waiting (one, tt));
   lines = shows.lines;
-  count = omega (arith, shows.count, length_last f.waiting x, length_last s.exchanges e);
   once = λ m. few (m == f.begun) m refl;
   begun = ap (λ (n : ℕ). n + 1) shows.begun;
   given = given_more 0 s.next_exchange s.exchanges e (sym one.number ∙ num ∙ shows.begun) shows.given;

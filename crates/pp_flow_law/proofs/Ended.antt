@@ -38,9 +38,6 @@ ends l f s shows n = record {
       subst (λ (es : List Exchange). AreAll ShowsExchange (without_number n f.waiting) es) (sym (filter_swap has_none (isnt_exchange n) s.exchanges))
       (pairs_without n f.waiting (filter has_none s.exchanges) (few_waiting l f s shows n) shows.waiting);
   lines = λ m. line_but l f s shows n m ∙ ap (λ (ns : List ℕ). but n l m ++ ns) (its (conn s m) ∙ ap (λ (o : Option Conn). line_in o) (sym (find_mapped (is_conn m) (without_ask n) s.conns (λ j. refl))));
-  count =
-      omega
-      (arith, counts_same l f s shows n, length_without n f.waiting (few_waiting l f s shows n), length_without n f.placed (few_placed l f s shows n), length_kept n s.exchanges, shows.count);
   once = λ m.
       omega
       (arith, shows.once m, count_joined (is_number m) f.waiting f.placed, count_joined (is_number m) (without_number n f.waiting) (without_number n f.placed), count_without n (is_number m) f.waiting, count_without n (is_number m) f.placed);

@@ -142,6 +142,17 @@ count_without n p (e ∷ es) = by (is_number n e) (count_without n p es)
     by true rest = omega (arith, count_first p e es)
     by false rest = omega (arith, rest, count_first p e (without n es), count_first p e es)
 
+pub count_without_else : (n m : ℕ) → (m == n) ≡ false → (es : List Entry) → count_by (is_number m) (without n es) ≡ count_by (is_number m) es
+count_without_else n m isnt [] = refl
+count_without_else n m isnt (e ∷ es) = by (is_number n e) refl (count_without_else n m isnt es)
+  where
+    by : (b : Bool) → is_number n e ≡ b → count_by (is_number m) (without n es) ≡ count_by (is_number m) es → count_by (is_number m) (cond b es (e ∷ without n es)) ≡ count_by (is_number m) (e ∷ es)
+    by true is rest =
+        let zero : count_by (is_number m) (e ∷ es) ≡ 0 + count_by (is_number m) es =
+        count_first (is_number m) e es ∙ ap (λ (t : Bool). cond t 1 0 + count_by (is_number m) es) (off e.exchange.number m n is isnt) in
+        omega (arith, zero)
+    by false is rest = omega (arith, rest, count_first (is_number m) e (without n es), count_first (is_number m) e es)
+
 pub length_without : (n : ℕ) (es : List Entry) → count_by (is_number n) es ≤ 1 → length (without n es) + count_by (is_number n) es ≡ length es
 length_without n [] few = refl
 length_without n (e ∷ es) few = by (is_number n e) refl (few_first (is_number n) e es few) (λ less. length_without n es less)

@@ -20,7 +20,6 @@ frames l f s shows o t same = record {
   each = λ n. subst (λ (es : List Exchange). AreBoth ShowsExchange (entry_of n f) (find (is_exchange n) es)) (sym same.exchanges) (shows.each n);
   waiting = subst (λ (es : List Exchange). AreAll ShowsExchange f.waiting (filter has_none es)) (sym same.exchanges) shows.waiting;
   lines = λ n. shows.lines n ∙ sym (same.lines n);
-  count = shows.count ∙ sym (ap (λ (es : List Exchange). length es) same.exchanges);
   once = shows.once;
   begun = shows.begun ∙ sym same.next;
   given = subst (λ (es : List Exchange). AreGiven 0 t.next_exchange (numbers_of es)) (sym same.exchanges) (subst (λ (n : ℕ). AreGiven 0 n (numbers_of s.exchanges)) (sym same.next) shows.given);

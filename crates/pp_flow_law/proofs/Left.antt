@@ -6,15 +6,18 @@ use Rattle.pp_cache_law.proofs.Finds.{find_passes, none_changed, one_only, only_
 use Rattle.pp_cache_law.proofs.Numbers.{true_false}
 use Rattle.pp_cache_law.proofs.PairLemmas.{AreOnly}
 use Rattle.pp_flow.specs.Changes.{Exchanges, changed, first_of, line_of, without as without_number}
-use Rattle.pp_flow.specs.Entries.{is_asked_by, is_number, nobodys}
+use Rattle.pp_flow.specs.Entries.{begun_with, is_asked_by, is_number, nobodys}
 use Rattle.pp_flow.specs.declared.entry.Entry.{Entry}
 use Rattle.pp_law.specs.Closing.{forsake, is_of, is_over, leave, left_alone}
 use Rattle.pp_law.specs.Connections.{end_exchange, exchange, is_exchange, on_exchange}
-use Rattle.pp_law.specs.Lists.{change, without}
+use Rattle.pp_law.specs.Deciding.{add_exchange, begin_exchange}
+use Rattle.pp_law.specs.Lists.{change, is_some_with, without}
 use Rattle.pp_law.specs.State.{State, Exchange}
-use Rattle.pp_flow_law.specs.Changes.{DecisionsLeaveAsTheLaws, but, left_by}
+use Rattle.pp_seats_law.specs.Exchanges.{ShowsExchange}
+use Rattle.pp_flow_law.specs.Changes.{AsksBeginAsTheLaws, DecisionsLeaveAsTheLaws, begun_by, but, left_by}
 use Rattle.pp_flow_law.specs.Frames.{IsSameFlow}
 use Rattle.pp_flow_law.specs.Tables.{Leaving, ShowsFlow, has_none, line_at}
+use Rattle.pp_flow_law.proofs.Begun.{begins}
 use Rattle.pp_flow_law.proofs.Ended.{ends, over_at}
 use Rattle.pp_flow_law.proofs.Entries.{none_some, same_as, without_none}
 use Rattle.pp_flow_law.proofs.Framed.{frames}
@@ -157,3 +160,22 @@ decisions l f s shows c few none = by (find (is_asked_by c) f.waiting) (find (is
     by (Some x) v a b =
         waiting x (found_alone (is_number x.exchange.number) (is_asked_by c) f.waiting x a (same_as x.exchange.number x.exchange.number refl) (few_waiting l f s shows x.exchange.number)) (find_passes (is_asked_by c) f.waiting x a)
         x.exchange.place refl
+
+-- ---- and then another begins
+
+left_begun : (c : ℕ) (f : Exchanges) → (left_by c f).begun ≡ f.begun
+left_begun c f = by (first_of (find (is_asked_by c) f.waiting) (find (is_asked_by c) f.placed))
+  where
+    at : (n : ℕ) (p : Option ℕ) → (by_place f n p).begun ≡ f.begun
+    at n None = refl
+    at n (Some k) = refl
+
+    by : (o : Option Entry) → (elim o as (λ u. Exchanges) [ None ↦ f | Some x ↦ by_place f x.exchange.number x.exchange.place ]).begun ≡ f.begun
+    by None = refl
+    by (Some x) = at x.exchange.number x.exchange.place
+
+pub asks_begin : AsksBeginAsTheLaws
+unfolding begin_exchange
+asks_begin l f s shows c key aim errand e few none one =
+    subst (λ (o : Option ℕ). ShowsFlow l (begun_by c key aim errand (left_by c f)) (add_exchange e (leave (λ x. is_some_with (λ n. is_of n x) o) s))) one.asker
+    (begins l (left_by c f) (leave (is_of c) s) (decisions l f s shows c few none) c key aim errand e (subst (λ (n : ℕ). ShowsExchange (begun_with n c key aim errand) e) (sym (left_begun c f)) one))

@@ -5,6 +5,7 @@ mod Errands
 mod Exchanges
 mod Framed
 mod Left
+mod Noted
 mod Pairs
 mod Put
 mod Standing

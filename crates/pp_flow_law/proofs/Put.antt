@@ -82,9 +82,6 @@ puts_at l f s shows n k x y c waits put linked to = record {
       ∙ ap₂ (λ (ns os : List ℕ). ns ++ os) (shows.lines m) (line_of_one n k m y put)
       ∙ by m (conn s m) refl
       ∙ ap (λ (o : Option Conn). l m ++ line_in o) (sym (find_mapped (is_conn m) (at_conn n k) s.conns (λ j. kept m j (is_conn k j))));
-  count =
-      omega
-      (arith, shows.count, length_without n f.waiting (few_waiting l f s shows n), few_waiting l f s shows n, found_counted (is_number n) f.waiting x waits, length_last f.placed y, length_change n (placed_by k) s.exchanges);
   once = λ m. few (m == n) m refl;
   begun = shows.begun;
   given = subst (λ (ns : List ℕ). AreGiven 0 s.next_exchange ns) (sym (numbers_change n (placed_by k) (λ e. refl) s.exchanges)) shows.given;

@@ -1,11 +1,11 @@
 -- What is read of the exchanges.
-use Rattle.std.proofs.Common.{◌≡◌, ◌≤◌, ◌+◌, refl, sym, subst, ap, ap₂, ◌∙◌, ℕ, Bool, true, false, not, ◌==◌, ◌&&◌, cond, nat_lt, find, List, [], ◌∷◌, ◌++◌, filter, Option, Some, None, option_map, arith}
+use Rattle.std.proofs.Common.{◌≡◌, ◌≤◌, ◌+◌, refl, sym, subst, ap, ap₂, ◌∙◌, ℕ, Bool, true, false, not, ◌==◌, ◌&&◌, cond, nat_lt, find, List, [], ◌∷◌, ◌++◌, filter, length, Option, Some, None, option_map, arith}
 use Rattle.std.specs.Prelude.{count_by, is_some, slice_get}
-use Rattle.pp_cache_law.proofs.Finds.{find_passes, found_counted, none_passes}
+use Rattle.pp_cache_law.proofs.Finds.{find_passes, found_counted, none_found, none_passes}
 use Rattle.pp_cache_law.proofs.Numbers.{some_is, true_false}
-use Rattle.pp_cache_law.proofs.PairLemmas.{count_first, found}
+use Rattle.pp_cache_law.proofs.PairLemmas.{count_first, count_joined, found}
 use Rattle.pp_cache_law.specs.Pairs.{AreBoth}
-use Rattle.pp_flow.specs.Changes.{Exchanges, entry_of, first_of, is_after}
+use Rattle.pp_flow.specs.Changes.{Exchanges, entry_of, first_of, is_after, without as without_number}
 use Rattle.pp_flow.specs.Entries.{is_asked_by, is_number, is_of as is_of_asker}
 use Rattle.pp_flow.specs.declared.entry.Entry.{Entry}
 use Rattle.pp_law.specs.Closing.{is_of}
@@ -13,10 +13,54 @@ use Rattle.pp_law.specs.Connections.{exchange, is_exchange}
 use Rattle.pp_law.specs.Lists.{is_some_with, is_this}
 use Rattle.pp_law.specs.State.{State, Exchange}
 use Rattle.pp_seats_law.specs.Exchanges.{ShowsExchange}
-use Rattle.pp_flow_law.specs.Reads.{AskersAreTheLaws, LinesAreTheLaws, NextsAreTheLaws, PlacesAreTheLaws, WaitsAreTheLaws, began_behind}
+use Rattle.pp_flow_law.specs.Reads.{AskersAreTheLaws, CountsAreTheLaws, EntriesAreTheLaws, LinesAreTheLaws, NextsAreTheLaws, PlacesAreTheLaws, WaitsAreTheLaws, began_behind}
 use Rattle.pp_flow_law.specs.Tables.{Leaving, ShowsFlow, has_none, has_place, line_at}
-use Rattle.pp_flow_law.proofs.Entries.{none_some, same_as}
-use Rattle.pp_flow_law.proofs.Standing.{IsShown, entry_placed, entry_waiting, few_given, few_placed, few_waiting, is_shown, none_placed, none_waits, placed_has, waits_has}
+use Rattle.pp_flow_law.proofs.Entries.{count_without, count_without_else, find_without, length_without, none_some, other_way, same_as, same_number}
+use Rattle.pp_flow_law.proofs.Standing.{IsShown, counts_same, entry_placed, entry_waiting, few_given, few_placed, few_waiting, is_shown, none_placed, none_waits, placed_has, waits_has}
+
+-- ---- how many there are
+
+first_counted : (e : Exchange) (es : List Exchange) (n : ℕ) (b : Bool) → (e.number == n) ≡ b → count_by (is_exchange n) (e ∷ es) ≡ cond b 1 0 + count_by (is_exchange n) es
+first_counted e es n b is = count_first (is_exchange n) e es ∙ ap (λ (t : Bool). cond t 1 0 + count_by (is_exchange n) es) is
+
+-- where as many have each number, and one at most, there are as many
+as_many : (es : List Exchange) (xs : List Entry) → ((n : ℕ) → count_by (is_number n) xs ≤ 1) → ((n : ℕ) → count_by (is_number n) xs ≡ count_by (is_exchange n) es) → length xs ≡ length es
+as_many [] [] few same = refl
+as_many [] (x ∷ xs) few same =
+    let one : count_by (is_number x.exchange.number) (x ∷ xs) ≡ 1 + count_by (is_number x.exchange.number) xs =
+    count_first (is_number x.exchange.number) x xs ∙ ap (λ (t : Bool). cond t 1 0 + count_by (is_number x.exchange.number) xs) (same_as x.exchange.number x.exchange.number refl) in
+    absurd (omega (arith, one, same x.exchange.number, nothing x.exchange.number))
+  where
+    nothing : (n : ℕ) → count_by (is_exchange n) [] ≡ 0
+    nothing n = refl
+as_many (e ∷ es) xs few same =
+    let one : count_by (is_exchange e.number) (e ∷ es) ≡ 1 + count_by (is_exchange e.number) es = first_counted e es e.number true (same_as e.number e.number refl) in
+    let rest : length (without_number e.number xs) ≡ length es =
+    as_many es (without_number e.number xs) (λ n. omega (arith, few n, count_without e.number (is_number n) xs)) (λ n. by (n == e.number) n refl) in
+    omega (arith, one, rest, few e.number, same e.number, length_without e.number xs (few e.number))
+  where
+    by : (b : Bool) (n : ℕ) → (n == e.number) ≡ b → count_by (is_number n) (without_number e.number xs) ≡ count_by (is_exchange n) es
+    by true n is =
+        subst (λ (i : ℕ). count_by (is_number i) (without_number e.number xs) ≡ count_by (is_exchange i) es) (sym (same_number n e.number is))
+        (let one : count_by (is_exchange e.number) (e ∷ es) ≡ 1 + count_by (is_exchange e.number) es = first_counted e es e.number true (same_as e.number e.number refl) in
+        omega (arith, one, few e.number, same e.number, none_found (is_number e.number) (without_number e.number xs) (find_without e.number xs (few e.number))))
+    by false n is =
+        let zero : count_by (is_exchange n) (e ∷ es) ≡ 0 + count_by (is_exchange n) es = first_counted e es n false (other_way n e.number is) in
+        omega (arith, zero, same n, count_without_else e.number n is xs)
+
+length_joined : (xs ys : List Entry) → length (xs ++ ys) ≡ length xs + length ys
+length_joined [] ys = omega arith
+length_joined (x ∷ xs) ys = let rest : length (xs ++ ys) ≡ length xs + length ys = length_joined xs ys in omega (arith, rest)
+
+pub counts : CountsAreTheLaws
+counts l f s shows = (
+  sym (length_joined f.waiting f.placed)
+  ∙ as_many s.exchanges (f.waiting ++ f.placed) shows.once (λ n. count_joined (is_number n) f.waiting f.placed ∙ counts_same l f s shows n),
+  shows.begun
+)
+
+pub entries : EntriesAreTheLaws
+entries l f s shows n = shows.each n
 
 -- ---- whether one has a place
 

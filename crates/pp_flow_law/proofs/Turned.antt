@@ -44,7 +44,6 @@ changes l f s shows n g h keeps holds to = record {
       subst (λ (es : List Exchange). AreAll ShowsExchange (changed n g f.waiting) es) (sym (filter_change n h has_none (λ e. ap (λ (o : Option ℕ). has_none_in o) (holds e).1) s.exchanges))
       (pairs_changed n g h f.waiting (filter has_none s.exchanges) (λ x e here. to x e (entry_waiting n f x here)) (few_waiting l f s shows n) shows.waiting);
   lines = λ m. line_changed n m g keeps f.placed ∙ shows.lines m;
-  count = ap₂ (λ (i j : ℕ). i + j) (length_changed n g f.waiting) (length_changed n g f.placed) ∙ shows.count ∙ sym (length_change n h s.exchanges);
   once = λ m. omega (arith, shows.once m, count_joined (is_number m) f.waiting f.placed, count_joined (is_number m) (changed n g f.waiting) (changed n g f.placed), counts m f.waiting, counts m f.placed);
   begun = shows.begun;
   given = subst (λ (ns : List ℕ). AreGiven 0 s.next_exchange ns) (sym (numbers_change n h (λ e. (holds e).0) s.exchanges)) shows.given;

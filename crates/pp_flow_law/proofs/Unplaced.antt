@@ -41,9 +41,6 @@ unplaces_at l f s shows n x y here left num to = record {
   waiting =
       pairs_entered n y unplaced has_none it.known 0 s.next_exchange f.waiting s.exchanges shows.given shows.waiting num (λ e. refl) it.there (placed_has l f s shows n x it.known here it.there) (to it.known it.there it.shows);
   lines = λ m. line_but l f s shows n m ∙ ap (λ (ns : List ℕ). but n l m ++ ns) (all_kept n (line_at s m) (left m));
-  count =
-      omega
-      (arith, shows.count, length_without n f.placed (few_placed l f s shows n), few_placed l f s shows n, found_counted (is_number n) f.placed x here, length_entered y f.waiting, length_change n unplaced s.exchanges);
   once = λ m. few (m == n) m refl;
   begun = shows.begun;
   given = subst (λ (ns : List ℕ). AreGiven 0 s.next_exchange ns) (sym (numbers_change n unplaced (λ e. refl) s.exchanges)) shows.given;

@@ -6,14 +6,16 @@ use Rattle.pp_flow.specs.Entries.{asking, begun_with, bound_to, is_asked_by, is_
 use Rattle.pp_flow.specs.declared.entry.Aim.{Aim}
 use Rattle.pp_flow.specs.declared.entry.Entry.{Entry}
 use Rattle.pp_flow.specs.declared.errand.Body.{Body as ErrandBody}
+use Rattle.pp_flow.specs.declared.errand.Body.TheVariants.{Joining as IsJoining, Dropping as IsDropping}
 use Rattle.pp_flow.specs.declared.errand.Errand.{Errand}
 use Rattle.pp_law.specs.Asking.{asked_text}
 use Rattle.pp_law.specs.Closing.{is_of, is_over, leave, left_alone}
 use Rattle.pp_law.specs.Connections.{conn, end_exchange, exchange, on_exchange, put_on, unplaced}
-use Rattle.pp_law.specs.Deciding.{add_exchange}
+use Rattle.pp_law.specs.Deciding.{add_exchange, begin_exchange}
 use Rattle.pp_law.specs.Lists.{Bytes, has_number}
 use Rattle.pp_law.specs.OwnHeads.{moved_on, use_body}
-use Rattle.pp_law.specs.State.{State, Body, Conn, Exchange}
+use Rattle.pp_law.specs.Stages.{bound_of}
+use Rattle.pp_law.specs.State.{State, Body, Conn, Exchange, Joining}
 use Rattle.pp_seats_law.specs.Exchanges.{Binding, ShowsBody, ShowsExchange}
 use Rattle.pp_flow_law.specs.Tables.{Leaving, OfFlows, ShowsFlow, line_at, none_leaves}
 
@@ -22,9 +24,12 @@ abbrev pub BeginningsAreTheLaws : Type 0
 BeginningsAreTheLaws = (s : State) → s.exchanges ≡ [] → s.conns ≡ [] → s.next_exchange ≡ 0 → ShowsFlow none_leaves (record { waiting = []; placed = []; begun = 0 }) s
 
 -- one begins
+abbrev pub begun_by : ℕ → Bytes → Aim → Errand → Exchanges → Exchanges
+begun_by client key aim errand f = record f { waiting = f.waiting ++ begun_with f.begun client key aim errand ∷ []; begun = f.begun + 1 }
+
 abbrev pub BeginsAreTheLaws : Type 0
 BeginsAreTheLaws = OfFlows (λ l f s. (client : ℕ) (key : Bytes) (aim : Aim) (errand : Errand) (e : Exchange) → ShowsExchange (begun_with f.begun client key aim errand) e
-    → ShowsFlow l (record f { waiting = f.waiting ++ begun_with f.begun client key aim errand ∷ []; begun = f.begun + 1 }) (add_exchange e s))
+    → ShowsFlow l (begun_by client key aim errand f) (add_exchange e s))
 
 -- it gets a place, as the last of that line, where it is asked from the front of its text on
 abbrev pub PutsAreTheLaws : Type 0
@@ -77,6 +82,18 @@ abbrev pub BodiesAreTheLaws : Type 0
 BodiesAreTheLaws = OfFlows (λ l f s. (n m : ℕ) (x : Entry) → entry_of n f ≡ Some x
     → ShowsFlow l (with_errand n (record x.errand { body_left = x.errand.body_left - m }) f) (on_exchange n (λ e. record e { body_left = e.body_left - m }) s))
 
+-- where the furthest follower of what it is bound to stands is how far that is wanted
+abbrev pub wanting : ℕ → Exchange → Exchange
+wanting at e = elim (bound_of e) [ None ↦ e | Some b ↦ record e { body = Joining (record b { wanted = at }) } ]
+
+abbrev pub WantsAreTheLaws : Type 0
+WantsAreTheLaws = OfFlows (λ l f s. (n at : ℕ) (x : Entry) (b : Binding) → entry_of n f ≡ Some x → x.exchange.bound ≡ Some b
+    → ShowsFlow l (with_errand n (record x.errand { body = IsJoining at }) f) (on_exchange n (wanting at) s))
+
+-- how much of its body was dropped, the law tells by what came
+abbrev pub DropsAreNone : Type 0
+DropsAreNone = OfFlows (λ l f s. (n m k : ℕ) (x : Entry) → entry_of n f ≡ Some x → x.errand.body ≡ IsDropping m → ShowsFlow l (with_errand n (record x.errand { body = IsDropping k }) f) s)
+
 -- at a decision a request leaves the exchange that it asked: without a place that is over, and with one it is nobody's
 abbrev pub left_by : ℕ → Exchanges → Exchanges
 left_by c f = elim (first_of (find (is_asked_by c) f.waiting) (find (is_asked_by c) f.placed)) [
@@ -90,3 +107,8 @@ left_by c f = elim (first_of (find (is_asked_by c) f.waiting) (find (is_asked_by
 -- where a request has one at most, and none is over before
 abbrev pub DecisionsLeaveAsTheLaws : Type 0
 DecisionsLeaveAsTheLaws = OfFlows (λ l f s. (c : ℕ) → count_by (is_of c) s.exchanges ≤ 1 → list_any is_over s.exchanges ≡ false → ShowsFlow l (left_by c f) (leave (is_of c) s))
+
+-- and then it asks the one that begins
+abbrev pub AsksBeginAsTheLaws : Type 0
+AsksBeginAsTheLaws = OfFlows (λ l f s. (c : ℕ) (key : Bytes) (aim : Aim) (errand : Errand) (e : Exchange) → count_by (is_of c) s.exchanges ≤ 1 → list_any is_over s.exchanges ≡ false
+    → ShowsExchange (begun_with f.begun c key aim errand) e → ShowsFlow l (begun_by c key aim errand (left_by c f)) (begin_exchange e s))

@@ -18,8 +18,8 @@ abbrev pub AreGiven : ℕ → ℕ → List ℕ → Type 0
 AreGiven low next [] = low ≤ next
 AreGiven low next (n ∷ ns) = (low ≤ n) × AreGiven (n + 1) next ns
 
--- where a connection is closed, the law takes its exchanges from the line at once, and the program one behind the other: these still
--- have to leave a connection, by its number
+-- where a connection is closed or gone, the law takes its exchanges from the line at once, and the program one behind the other: these
+-- still have to leave it, by its number
 abbrev pub Leaving : Type 0
 Leaving = ℕ → List ℕ
 
@@ -35,12 +35,11 @@ abbrev pub line_at : State → ℕ → List ℕ
 line_at s n = line_in (conn s n)
 
 -- by number, each shows the law's; those without a place show the law's without one, in the order of their beginnings; those of a
--- connection are its line, in the order in which they came to it. There are as many, no two of one number, and as many were begun
+-- connection are its line, in the order in which they came to it. No two have one number, and the next gets that behind all
 pub record ShowsFlow (l : Leaving) (f : Exchanges) (s : State) : Type 0 where
   pub each : (n : ℕ) → AreBoth ShowsExchange (entry_of n f) (exchange s n)
   pub waiting : AreAll ShowsExchange f.waiting (filter has_none s.exchanges)
   pub lines : (n : ℕ) → line_of n f.placed ≡ l n ++ line_at s n
-  pub count : length f.waiting + length f.placed ≡ length s.exchanges
   pub once : (n : ℕ) → count_by (is_number n) (f.waiting ++ f.placed) ≤ 1
   pub begun : f.begun ≡ s.next_exchange
   pub given : AreGiven 0 s.next_exchange (map (λ e. e.number) s.exchanges)

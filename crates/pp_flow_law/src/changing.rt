@@ -1,5 +1,5 @@
 // One of the exchanges is changed where it stands.
-ghost use Rattle.pp_flow_law.specs.Changes.{BodiesAreTheLaws, BytesAreTheLaws, ErrandsAreTheLaws, HeadsAreTheLaws, LeavesAreTheLaws, TextsAreTheLaws};
+ghost use Rattle.pp_flow_law.specs.Changes.{BodiesAreTheLaws, BytesAreTheLaws, DropsAreNone, ErrandsAreTheLaws, HeadsAreTheLaws, LeavesAreTheLaws, TextsAreTheLaws, WantsAreTheLaws};
 
 /// Its request leaves it.
 pub fn leaves_are_the_laws()
@@ -25,4 +25,10 @@ pub fn heads_are_the_laws()
 /// Bytes of its span came.
 pub fn bytes_are_the_laws()
     ensures bytes { BytesAreTheLaws }
+{}
+
+/// How far its body is wanted is noted, and how much of it was dropped.
+pub fn notes_are_the_laws()
+    ensures wants { WantsAreTheLaws }
+    ensures drops { DropsAreNone }
 {}
