@@ -74,9 +74,16 @@ begins_at l f s shows x e num unplaced one = record {
     few : (b : Bool) (m : ℕ) → (m == f.begun) ≡ b → count_by (is_number m) ((f.waiting ++ x ∷ []) ++ f.placed) ≤ 1
     few true m is =
         let none : AreNone f s m = none_yet l f s shows m (same_number m f.begun is ∙ shows.begun) in
-        omega
-        (arith, count_joined (is_number m) (f.waiting ++ x ∷ []) f.placed, count_joined (is_number m) f.waiting (x ∷ []), count_first (is_number m) x [], at_most_one (is_number m x), no_more (is_number m),
-        none_found (is_number m) f.waiting none.waiting, none_found (is_number m) f.placed none.placed)
+        omega (
+          arith,
+          count_joined (is_number m) (f.waiting ++ x ∷ []) f.placed,
+          count_joined (is_number m) f.waiting (x ∷ []),
+          count_first (is_number m) x [],
+          at_most_one (is_number m x),
+          no_more (is_number m),
+          none_found (is_number m) f.waiting none.waiting,
+          none_found (is_number m) f.placed none.placed,
+        )
     few false m is =
         let zero : count_by (is_number m) (x ∷ []) ≡ 0 + count_by (is_number m) [] =
         count_first (is_number m) x [] ∙ ap (λ (i : ℕ). cond (i == m) 1 0 + count_by (is_number m) []) num ∙ ap (λ (b : Bool). cond b 1 0 + count_by (is_number m) []) (other_way m f.begun is) in

@@ -110,15 +110,29 @@ puts_at l f s shows n k x y c waits put linked to = record {
     few : (b : Bool) (m : ℕ) → (m == n) ≡ b → count_by (is_number m) (without_number n f.waiting ++ (f.placed ++ y ∷ [])) ≤ 1
     few true m is =
         subst (λ (i : ℕ). count_by (is_number i) (without_number n f.waiting ++ (f.placed ++ y ∷ [])) ≤ 1) (sym (same_number m n is))
-        (omega
-        (arith, count_joined (is_number n) (without_number n f.waiting) (f.placed ++ y ∷ []), count_joined (is_number n) f.placed (y ∷ []), count_first (is_number n) y [], at_most_one (is_number n y),
-        none_found (is_number n) (without_number n f.waiting) (find_without n f.waiting (few_waiting l f s shows n)), none_found (is_number n) f.placed none_there, no_more (is_number n)))
+        (omega (
+          arith,
+          count_joined (is_number n) (without_number n f.waiting) (f.placed ++ y ∷ []),
+          count_joined (is_number n) f.placed (y ∷ []),
+          count_first (is_number n) y [],
+          at_most_one (is_number n y),
+          none_found (is_number n) (without_number n f.waiting) (find_without n f.waiting (few_waiting l f s shows n)),
+          none_found (is_number n) f.placed none_there,
+          no_more (is_number n),
+        ))
     few false m is =
         let zero : count_by (is_number m) (y ∷ []) ≡ 0 + count_by (is_number m) [] =
         count_first (is_number m) y [] ∙ ap (λ (i : ℕ). cond (i == m) 1 0 + count_by (is_number m) []) put.number ∙ ap (λ (b : Bool). cond b 1 0 + count_by (is_number m) []) (other_way m n is) in
-        omega
-        (arith, shows.once m, count_joined (is_number m) f.waiting f.placed, count_joined (is_number m) (without_number n f.waiting) (f.placed ++ y ∷ []), count_joined (is_number m) f.placed (y ∷ []),
-        count_without n (is_number m) f.waiting, zero, no_more (is_number m))
+        omega (
+          arith,
+          shows.once m,
+          count_joined (is_number m) f.waiting f.placed,
+          count_joined (is_number m) (without_number n f.waiting) (f.placed ++ y ∷ []),
+          count_joined (is_number m) f.placed (y ∷ []),
+          count_without n (is_number m) f.waiting,
+          zero,
+          no_more (is_number m),
+        )
 
     at : (b : Bool) (m : ℕ) → (m == n) ≡ b → AreBoth ShowsExchange (entry_of m (put_at n y f)) (find (is_exchange m) (change (is_exchange n) (placed_by k) s.exchanges))
     at true m is =

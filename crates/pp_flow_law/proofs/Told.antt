@@ -55,8 +55,8 @@ length_joined (x ∷ xs) ys = let rest : length (xs ++ ys) ≡ length xs + lengt
 pub counts : CountsAreTheLaws
 counts l f s shows = (
   sym (length_joined f.waiting f.placed)
-  ∙ as_many s.exchanges (f.waiting ++ f.placed) shows.once (λ n. count_joined (is_number n) f.waiting f.placed ∙ counts_same l f s shows n),
-  shows.begun
+      ∙ as_many s.exchanges (f.waiting ++ f.placed) shows.once (λ n. count_joined (is_number n) f.waiting f.placed ∙ counts_same l f s shows n),
+  shows.begun,
 )
 
 pub entries : EntriesAreTheLaws

@@ -55,9 +55,14 @@ unplaces_at l f s shows n x y here left num to = record {
     few : (b : Bool) (m : ℕ) → (m == n) ≡ b → count_by (is_number m) (entered y f.waiting ++ without_number n f.placed) ≤ 1
     few true m is =
         subst (λ (i : ℕ). count_by (is_number i) (entered y f.waiting ++ without_number n f.placed) ≤ 1) (sym (same_number m n is))
-        (omega
-        (arith, count_joined (is_number n) (entered y f.waiting) (without_number n f.placed), count_entered (is_number n) y f.waiting, at_most_one (is_number n y), none_found (is_number n) f.waiting none_there,
-        none_found (is_number n) (without_number n f.placed) (find_without n f.placed (few_placed l f s shows n))))
+        (omega (
+          arith,
+          count_joined (is_number n) (entered y f.waiting) (without_number n f.placed),
+          count_entered (is_number n) y f.waiting,
+          at_most_one (is_number n y),
+          none_found (is_number n) f.waiting none_there,
+          none_found (is_number n) (without_number n f.placed) (find_without n f.placed (few_placed l f s shows n)),
+        ))
     few false m is =
         let zero : count_by (is_number m) (entered y f.waiting) ≡ 0 + count_by (is_number m) f.waiting =
         count_entered (is_number m) y f.waiting ∙ ap (λ (i : ℕ). cond (i == m) 1 0 + count_by (is_number m) f.waiting) num ∙ ap (λ (b : Bool). cond b 1 0 + count_by (is_number m) f.waiting) (other_way m n is) in

@@ -20,8 +20,14 @@ mod placing; // one that gets a place, or loses it
 mod reading; // what is read of them
 
 pub use beginning::{beginnings_are_the_laws, begins_are_the_laws};
-pub use changing::{asks_are_the_laws, bytes_are_the_laws, errands_are_the_laws, heads_are_the_laws, leaves_are_the_laws, notes_are_the_laws};
+pub use changing::{
+    asks_are_the_laws, bytes_are_the_laws, errands_are_the_laws, heads_are_the_laws,
+    leaves_are_the_laws, notes_are_the_laws,
+};
 pub use ending::{asks_begin_as_the_laws, decisions_leave_as_the_laws, ends_are_the_laws};
 pub use framing::{connections_are_the_laws, frames_are_the_laws};
 pub use placing::{puts_are_the_laws, unplaces_are_the_laws};
-pub use reading::{askers_are_the_laws, counts_are_the_laws, lines_are_the_laws, nexts_are_the_laws, places_are_the_laws};
+pub use reading::{
+    askers_are_the_laws, counts_are_the_laws, lines_are_the_laws, nexts_are_the_laws,
+    places_are_the_laws,
+};
