@@ -8,7 +8,7 @@ use Rattle.pp_world.specs.declared.note.Remark.TheVariants.{Cut}
 use Rattle.pp_law.specs.After.{paid, shut}
 use Rattle.pp_law.specs.Asking.{hang_up, is_reading, is_writing}
 use Rattle.pp_law.specs.Closing.{close_client, exchanges_of, forsake, leave_one, left_alone}
-use Rattle.pp_law.specs.Connections.{client, each_exchange, end_exchange, exchange, is_client, on_client, on_exchange}
+use Rattle.pp_law.specs.Connections.{each_exchange, end_exchange, exchange, is_client, on_client, on_exchange}
 use Rattle.pp_law.specs.Lists.{Bytes, change, without}
 use Rattle.pp_law.specs.Permits.{is_owed, may_shut}
 use Rattle.pp_law.specs.Phases.{in_phase}
@@ -74,23 +74,23 @@ seen_closed n is_cut s =
 
 -- ---- a seat that counts as closed shows a client that does
 
-pub closed_shows : (name : Bytes) (owed : List Bytes) (seat new : Seat) (c d : Client) → ShowsSeat name owed seat c → IsClosed seat new → d.number ≡ c.number → d.is_closing ≡ true → ShowsSeat name owed new d
-closed_shows name owed seat new c d shows closed number closing = record {
-  number = closed.number ∙ shows.number ∙ sym number;
+pub closed_shows : (number : ℕ → ℕ) (name : Bytes) (owed : List Bytes) (seat new : Seat) (c d : Client) → ShowsSeat number name owed seat c → IsClosed seat new → d.number ≡ c.number → d.is_closing ≡ true → ShowsSeat number name owed new d
+closed_shows number name owed seat new c d shows closed numbered closing = record {
+  number = closed.number ∙ shows.number ∙ sym numbered;
   closing = closed.closing ∙ sym closing;
   going = λ going. let e : true ≡ false = sym closing ∙ going in absurd (cc e);
 }
 
-closed_one : (name : Bytes) (owed : List Bytes) (i : ℕ) (seats : List Seat) (seat new : Seat) (is_cut : Bool) → slice_get seats i ≡ Some seat → IsClosed seat new
-    → (other : Seat) (c : Client) → slice_get seats i ≡ Some other → ShowsSeat name owed other c → ShowsSeat name owed new (closing_by is_cut c)
-closed_one name owed i seats seat new is_cut there closed other c at shows =
-    closed_shows name owed seat new c (closing_by is_cut c) (subst (λ (x : Seat). ShowsSeat name owed x c) (same_seat seat other (sym there ∙ at)) shows) closed refl refl
+closed_one : (number : ℕ → ℕ) (name : Bytes) (owed : List Bytes) (i : ℕ) (seats : List Seat) (seat new : Seat) (is_cut : Bool) → slice_get seats i ≡ Some seat → IsClosed seat new
+    → (other : Seat) (c : Client) → slice_get seats i ≡ Some other → ShowsSeat number name owed other c → ShowsSeat number name owed new (closing_by is_cut c)
+closed_one number name owed i seats seat new is_cut there closed other c at shows =
+    closed_shows number name owed seat new c (closing_by is_cut c) (subst (λ (x : Seat). ShowsSeat number name owed x c) (same_seat seat other (sym there ∙ at)) shows) closed refl refl
 
-pub closed_all : (owed : List Bytes) (n i : ℕ) (seats : List Seat) (seat new : Seat) (is_cut : Bool) (s : State) → AreShown s.settings.name owed seats s.clients → IsAt n i seats → slice_get seats i ≡ Some seat → IsClosed seat new
-    → AreShown (close_client n is_cut s).settings.name owed (slice_set seats i new) (close_client n is_cut s).clients
-closed_all owed n i seats seat new is_cut s shown at there closed =
-    subst (λ (p : Bytes × List Client). AreShown p.0 owed (slice_set seats i new) p.1) (sym (seen_closed n is_cut s))
-    (changes s.settings.name owed seats s.clients n i new (closing_by is_cut) shown at (closed_one s.settings.name owed i seats seat new is_cut there closed))
+pub closed_all : (number : ℕ → ℕ) (owed : List Bytes) (n i : ℕ) (seats : List Seat) (seat new : Seat) (is_cut : Bool) (s : State) → AreShown number s.settings.name owed seats s.clients → IsAt n i seats → slice_get seats i ≡ Some seat → IsClosed seat new
+    → AreShown number (close_client n is_cut s).settings.name owed (slice_set seats i new) (close_client n is_cut s).clients
+closed_all number owed n i seats seat new is_cut s shown at there closed =
+    subst (λ (p : Bytes × List Client). AreShown number p.0 owed (slice_set seats i new) p.1) (sym (seen_closed n is_cut s))
+    (changes number s.settings.name owed seats s.clients n i new (closing_by is_cut) shown at (closed_one number s.settings.name owed i seats seat new is_cut there closed))
 
 -- ---- a client whose writing fails
 
@@ -103,33 +103,33 @@ lost_is n s is =
     ap (λ (o : Owed). elim (is_writing o n) as (λ b. State) [ true ↦ close_client n false s | false ↦ end_replies (on_client n (λ c. record c { has_hung_up = true }) s) ]) is
     ∙ ap (λ (b : Bool). elim b as (λ x. State) [ true ↦ close_client n false s | false ↦ end_replies (on_client n (λ c. record c { has_hung_up = true }) s) ]) (number_same n)
 
-lost_moves : (owed : List Bytes) (n i : ℕ) (seats : List Seat) (seat after : Seat) → IsAt n i seats → slice_get seats i ≡ Some seat → IsClosed seat after → (s : State) → MayWrite owed n seats s
-    → Moves (WasOwed owed (slice_set seats i after)) (HungUp n) s
-lost_moves owed n i seats seat after at there closed s may =
-    let found : IsFound s.settings.name owed seat n s.clients = places s.settings.name owed seats s.clients n i seat may.shown at there in
+lost_moves : (number : ℕ → ℕ) (owed : List Bytes) (n i : ℕ) (seats : List Seat) (seat after : Seat) → IsAt n i seats → slice_get seats i ≡ Some seat → IsClosed seat after → (s : State) → MayWrite number owed n seats s
+    → Moves (WasOwed number owed (slice_set seats i after)) (HungUp n) s
+lost_moves number owed n i seats seat after at there closed s may =
+    let found : IsFound number s.settings.name owed seat n s.clients = places number s.settings.name owed seats s.clients n i seat may.shown at there in
     moves_to refl (goes_hung_up s n may.none (owes_write s n may.writes) (ap (λ (o : Option Client). is_some o) found.there))
-    (record { before = close_client n false s; shown = closed_all owed n i seats seat after false s may.shown at there closed; ended = ap paid (lost_is n s may.writes) })
+    (record { before = close_client n false s; shown = closed_all number owed n i seats seat after false s may.shown at there closed; ended = ap paid (lost_is n s may.writes) })
 
 pub losses_keep : LossesKeep
-losses_keep old new before now n i owed seats seat after call rose at there closed = keeps_more (λ l. HungUp n) call (λ l. rose) (λ l. lost_moves owed n i seats seat after at there closed)
+losses_keep number old new before now n i owed seats seat after call rose at there closed = keeps_more (λ l. HungUp n) call (λ l. rose) (λ l. lost_moves number owed n i seats seat after at there closed)
 
 -- ---- a cut
 
 cut_frame : (n : ℕ) (s : State) → frame true (close_client n true (in_phase Deciding s)) ≡ frame true (in_phase Deciding s)
 cut_frame n s = frame_of {all = true} (close_client-stays n true (in_phase Deciding s) (stays refl))
 
-cut_moves : (owed : List Bytes) (n i : ℕ) (cause : Cause) (seats : List Seat) (seat after : Seat) → IsAt n i seats → slice_get seats i ≡ Some seat → IsClosed seat after → (s : State) → IsDueToCut owed n cause seats s
-    → Moves (IsDeciding owed (slice_set seats i after)) (Noted (Cut n cause)) s
-cut_moves owed n i cause seats seat after at there closed s due =
+cut_moves : (number : ℕ → ℕ) (owed : List Bytes) (n i : ℕ) (cause : Cause) (seats : List Seat) (seat after : Seat) → IsAt n i seats → slice_get seats i ≡ Some seat → IsClosed seat after → (s : State) → IsDueToCut number owed n cause seats s
+    → Moves (IsDeciding number owed (slice_set seats i after)) (Noted (Cut n cause)) s
+cut_moves number owed n i cause seats seat after at there closed s due =
     moves_to refl (goes_cut s n cause due.none due.taking (cuts_due s n cause due.due))
     (record {
       none = ap (λ (o : Frame). o.has_made_room) (cut_frame n s) ∙ due.none;
       at = ap (λ (o : Frame). o.phase) (cut_frame n s);
-      shown = closed_all owed n i seats seat after true (in_phase Deciding s) due.shown at there closed;
+      shown = closed_all number owed n i seats seat after true (in_phase Deciding s) due.shown at there closed;
     })
 
 pub cuts_keep : CutsKeep
-cuts_keep old new before now n i cause owed seats seat after call rose at there closed = keeps_more (λ l. Noted (Cut n cause)) call (λ l. rose) (λ l. cut_moves owed n i cause seats seat after at there closed)
+cuts_keep number old new before now n i cause owed seats seat after call rose at there closed = keeps_more (λ l. Noted (Cut n cause)) call (λ l. rose) (λ l. cut_moves number owed n i cause seats seat after at there closed)
 
 -- ---- its connection is closed
 
@@ -140,28 +140,28 @@ seen_shut : (n : ℕ) (s : State) → seen (shut n s) ≡ (s.settings.name, with
 unfolding shut
 seen_shut n s = ap (λ (p : Bytes × List Client). (p.0, without (is_client n) p.1)) (seen_closed n false s)
 
-gone_by : (name : Bytes) (owed : List Bytes) (n : ℕ) (f : Client → Client) (seat : Seat) (seats : List Seat) (c : Client) (cs : List Client) → ((x : Client) → (f x).number ≡ x.number) → ShowsSeat name owed seat c → AreShown name owed (without_client n seats) cs
+gone_by : (number : ℕ → ℕ) (name : Bytes) (owed : List Bytes) (n : ℕ) (f : Client → Client) (seat : Seat) (seats : List Seat) (c : Client) (cs : List Client) → ((x : Client) → (f x).number ≡ x.number) → ShowsSeat number name owed seat c → AreShown number name owed (without_client n seats) cs
     → (b : Bool) → (seat.client.id == n) ≡ b
-    → AreShown name owed (cond (not (seat.client.id == n)) (seat ∷ without_client n seats) (without_client n seats))
+    → AreShown number name owed (cond (not (seat.client.id == n)) (seat ∷ without_client n seats) (without_client n seats))
     (cond (not (is_client n (elim (is_client n c) as (λ x. Client) [ true ↦ f c | false ↦ c ]))) ((elim (is_client n c) as (λ x. Client) [ true ↦ f c | false ↦ c ]) ∷ cs) cs)
-gone_by name owed n f seat seats c cs kept shows rest true is =
+gone_by number name owed n f seat seats c cs kept shows rest true is =
     let here : is_client n c ≡ true = ap (λ (k : ℕ). k == n) (sym shows.number) ∙ is in
     let test : is_client n (elim (is_client n c) as (λ x. Client) [ true ↦ f c | false ↦ c ]) ≡ true
     = ap (λ (b : Bool). is_client n (elim b as (λ x. Client) [ true ↦ f c | false ↦ c ])) here ∙ ap (λ (k : ℕ). k == n) (kept c) ∙ here in
-    subst (λ (b : Bool). AreShown name owed (cond (not b) (seat ∷ without_client n seats) (without_client n seats)) (cond (not (is_client n (elim (is_client n c) as (λ x. Client) [ true ↦ f c | false ↦ c ]))) ((elim (is_client n c) as (λ x. Client) [ true ↦ f c | false ↦ c ]) ∷ cs) cs)) (sym is)
-    (subst (λ (b : Bool). AreShown name owed (without_client n seats) (cond (not b) ((elim (is_client n c) as (λ x. Client) [ true ↦ f c | false ↦ c ]) ∷ cs) cs)) (sym test) rest)
-gone_by name owed n f seat seats c cs kept shows rest false isnt =
+    subst (λ (b : Bool). AreShown number name owed (cond (not b) (seat ∷ without_client n seats) (without_client n seats)) (cond (not (is_client n (elim (is_client n c) as (λ x. Client) [ true ↦ f c | false ↦ c ]))) ((elim (is_client n c) as (λ x. Client) [ true ↦ f c | false ↦ c ]) ∷ cs) cs)) (sym is)
+    (subst (λ (b : Bool). AreShown number name owed (without_client n seats) (cond (not b) ((elim (is_client n c) as (λ x. Client) [ true ↦ f c | false ↦ c ]) ∷ cs) cs)) (sym test) rest)
+gone_by number name owed n f seat seats c cs kept shows rest false isnt =
     let here : is_client n c ≡ false = ap (λ (k : ℕ). k == n) (sym shows.number) ∙ isnt in
-    subst (λ (b : Bool). AreShown name owed (cond (not b) (seat ∷ without_client n seats) (without_client n seats)) (cond (not (is_client n (elim (is_client n c) as (λ x. Client) [ true ↦ f c | false ↦ c ]))) ((elim (is_client n c) as (λ x. Client) [ true ↦ f c | false ↦ c ]) ∷ cs) cs)) (sym isnt)
-    (subst (λ (b : Bool). AreShown name owed (seat ∷ without_client n seats) (cond (not (is_client n (elim b as (λ x. Client) [ true ↦ f c | false ↦ c ]))) ((elim b as (λ x. Client) [ true ↦ f c | false ↦ c ]) ∷ cs) cs)) (sym here)
-    (subst (λ (b : Bool). AreShown name owed (seat ∷ without_client n seats) (cond (not b) (c ∷ cs) cs)) (sym here) (shows, rest)))
+    subst (λ (b : Bool). AreShown number name owed (cond (not b) (seat ∷ without_client n seats) (without_client n seats)) (cond (not (is_client n (elim (is_client n c) as (λ x. Client) [ true ↦ f c | false ↦ c ]))) ((elim (is_client n c) as (λ x. Client) [ true ↦ f c | false ↦ c ]) ∷ cs) cs)) (sym isnt)
+    (subst (λ (b : Bool). AreShown number name owed (seat ∷ without_client n seats) (cond (not (is_client n (elim b as (λ x. Client) [ true ↦ f c | false ↦ c ]))) ((elim b as (λ x. Client) [ true ↦ f c | false ↦ c ]) ∷ cs) cs)) (sym here)
+    (subst (λ (b : Bool). AreShown number name owed (seat ∷ without_client n seats) (cond (not b) (c ∷ cs) cs)) (sym here) (shows, rest)))
 
-gone : (name : Bytes) (owed : List Bytes) (n : ℕ) (f : Client → Client) → ((x : Client) → (f x).number ≡ x.number) → (seats : List Seat) (cs : List Client) → AreShown name owed seats cs → AreShown name owed (without_client n seats) (without (is_client n) (change (is_client n) f cs))
-gone name owed n f kept [] [] shown = tt
-gone name owed n f kept [] (c ∷ cs) shown = absurd shown
-gone name owed n f kept (seat ∷ seats) [] shown = absurd shown
-gone name owed n f kept (seat ∷ seats) (c ∷ cs) shown =
-    gone_by name owed n f seat seats c (without (is_client n) (change (is_client n) f cs)) kept shown.0 (gone name owed n f kept seats cs shown.1) (seat.client.id == n) refl
+gone : (number : ℕ → ℕ) (name : Bytes) (owed : List Bytes) (n : ℕ) (f : Client → Client) → ((x : Client) → (f x).number ≡ x.number) → (seats : List Seat) (cs : List Client) → AreShown number name owed seats cs → AreShown number name owed (without_client n seats) (without (is_client n) (change (is_client n) f cs))
+gone number name owed n f kept [] [] shown = tt
+gone number name owed n f kept [] (c ∷ cs) shown = absurd shown
+gone number name owed n f kept (seat ∷ seats) [] shown = absurd shown
+gone number name owed n f kept (seat ∷ seats) (c ∷ cs) shown =
+    gone_by number name owed n f seat seats c (without (is_client n) (change (is_client n) f cs)) kept shown.0 (gone number name owed n f kept seats cs shown.1) (seat.client.id == n) refl
 
 -- of one that is found, and is to be closed
 over_in : (s : State) (n : ℕ) (cs : List Client) (c : Client) → find (is_client n) cs ≡ Some c → (c.is_closing || s.is_stopped) ≡ true → list_any (may_shut s n) cs ≡ true
@@ -176,15 +176,15 @@ over_in s n (x ∷ cs) c found over = by (λ isnt. over_in s n cs c (sym (ap (λ
         ∙ ap (λ (b : Bool). b || list_any (may_shut s n) cs) over
     by more false isnt = ap (λ (b : Bool). b && (x.is_closing || s.is_stopped) || list_any (may_shut s n) cs) isnt ∙ more isnt
 
-shut_moves : (owed : List Bytes) (n i : ℕ) (seats : List Seat) (seat : Seat) → IsAt n i seats → slice_get seats i ≡ Some seat → (s : State) → IsToShut owed seat seats s → Moves (IsClosingDown owed (without_client n seats)) (Shut n) s
-shut_moves owed n i seats seat at there s to =
-    let found : IsFound s.settings.name owed seat n s.clients = places s.settings.name owed seats s.clients n i seat to.down.shown at there in
+shut_moves : (number : ℕ → ℕ) (owed : List Bytes) (n i : ℕ) (seats : List Seat) (seat : Seat) → IsAt n i seats → slice_get seats i ≡ Some seat → (s : State) → IsToShut number owed seat seats s → Moves (IsClosingDown number owed (without_client n seats)) (Shut n) s
+shut_moves number owed n i seats seat at there s to =
+    let found : IsFound number s.settings.name owed seat n s.clients = places number s.settings.name owed seats s.clients n i seat to.down.shown at there in
     moves_to refl (goes_shut s n to.down.none to.down.at (over_in s n s.clients found.client found.there (ap (λ (b : Bool). b || s.is_stopped) (sym found.shows.closing) ∙ to.over)))
     (record {
       none = ap (λ (o : Frame). o.has_made_room) (shut_frame n s) ∙ to.down.none;
       at = ap (λ (o : Frame). o.phase) (shut_frame n s) ∙ to.down.at;
-      shown = subst (λ (p : Bytes × List Client). AreShown p.0 owed (without_client n seats) p.1) (sym (seen_shut n s)) (gone s.settings.name owed n (closing_by false) (λ x. refl) seats s.clients to.down.shown);
+      shown = subst (λ (p : Bytes × List Client). AreShown number p.0 owed (without_client n seats) p.1) (sym (seen_shut n s)) (gone number s.settings.name owed n (closing_by false) (λ x. refl) seats s.clients to.down.shown);
     })
 
 pub shuts_keep : ShutsKeep
-shuts_keep old new before now n i owed seats seat call rose at there = keeps_more (λ l. Shut n) call (λ l. rose) (λ l. shut_moves owed n i seats seat at there)
+shuts_keep number old new before now n i owed seats seat call rose at there = keeps_more (λ l. Shut n) call (λ l. rose) (λ l. shut_moves number owed n i seats seat at there)

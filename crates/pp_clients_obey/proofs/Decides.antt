@@ -38,7 +38,6 @@ use Rattle.pp_seats_law.specs.Decided.{MayBeDecided, expects_of}
 use Rattle.pp_seats_law.specs.Fronts.{ShowsFront}
 use Rattle.pp_seats_law.specs.Seats.{ShowsOpen, ShowsSeat}
 use Rattle.pp_seats_law.proofs.AllSeats.{changes_there, places}
-use Rattle.pp_seats_law.specs.Replies.{number_of}
 use Rattle.pp_seats_law.proofs.Decided.{answers, asks, pages}
 use Rattle.pp_seats_law.proofs.Stages.{begun, undecided}
 use Rattle.pp_clients_obey.specs.Deciding.{AsksKeep, FollowsKeep, IsOpen, IsToTake, PagesKeep, RelaysKeep, WasTaken, has_ask, is_ask, is_by_row, row_of_key}
@@ -224,10 +223,10 @@ same_request (NoneThere status) (NoHead other) shows = refl
 same_request (IsThere a) (IsRequest r) shows = refl
 same_request front f shows = absurd shows
 
-may_decide : (name : Bytes) (owed : List Bytes) (seat : Seat) (c : Client) → ShowsOpen name owed seat c → IsOpen seat → expects_in (asked_in seat.front) ≡ expects_of c.front → MayBeDecided seat c
-may_decide name owed seat c shows open_seat expects = record {
-  unbegun = sym (begun name owed seat c shows) ∙ open_seat.unbegun;
-  first = ap₂ (λ (a b : Bool). a || b) (sym (undecided name owed seat c shows)) (sym (same_request seat.front c.front shows.front)) ∙ open_seat.first;
+may_decide : (number : ℕ → ℕ) (name : Bytes) (owed : List Bytes) (seat : Seat) (c : Client) → ShowsOpen number name owed seat c → IsOpen seat → expects_in (asked_in seat.front) ≡ expects_of c.front → MayBeDecided seat c
+may_decide number name owed seat c shows open_seat expects = record {
+  unbegun = sym (begun number name owed seat c shows) ∙ open_seat.unbegun;
+  first = ap₂ (λ (a b : Bool). a || b) (sym (undecided number name owed seat c shows)) (sym (same_request seat.front c.front shows.front)) ∙ open_seat.first;
   expects = expects;
 }
 
@@ -248,72 +247,72 @@ regained_phase s = refl
 decided_phase : (c : Client) (d : Decision) (s : State) → (decided c d s).phase ≡ s.phase
 decided_phase c d s = let same : frame true (decided c d s) ≡ frame true s = frame_of {all = true} (decided-stays c d s (stays refl)) in ap (λ (o : Frame). o.phase) same
 
-goes_by_room : (s : State) (n index : ℕ) (d : Decision) (owed : List Bytes) (seat : Seat) (seats : List Seat) (b : Bool) → s.has_made_room ≡ b → IsToTake owed n index d seat seats s → Goes s (Noted (Taken n index d)) (take_decision n d (in_phase Deciding s))
-goes_by_room s n index d owed seat seats true made to = goes_taken_behind s n index d made to.taking to.may (to.behind made)
-goes_by_room s n index d owed seat seats false none to = goes_taken s n index d none to.taking to.may
+goes_by_room : (number : ℕ → ℕ) (s : State) (n index : ℕ) (d : Decision) (owed : List Bytes) (seat : Seat) (seats : List Seat) (b : Bool) → s.has_made_room ≡ b → IsToTake number owed n index d seat seats s → Goes s (Noted (Taken n index d)) (take_decision n d (in_phase Deciding s))
+goes_by_room number s n index d owed seat seats true made to = goes_taken_behind s n index d made to.taking to.may (to.behind made)
+goes_by_room number s n index d owed seat seats false none to = goes_taken s n index d none to.taking to.may
 
-taken_moves : (owed : List Bytes) (n i index : ℕ) (d : Decision) (seats : List Seat) (seat new : Seat) (f : Client → Client) → Sits n i seats seat → (s : State) → IsToTake owed n index d seat seats s
-    → ((c : Client) → client s n ≡ Some c → ShowsSeat s.settings.name owed seat c → IsChangedBy c.number f (in_phase Deciding s) (decided c d (in_phase Deciding s)))
-    → ((c : Client) → client s n ≡ Some c → ShowsSeat s.settings.name owed seat c → ShowsSeat s.settings.name owed new (f c)) → Moves (WasTaken owed (slice_set seats i new)) (Noted (Taken n index d)) s
-taken_moves owed n i index d seats seat new f sits s to leads shows =
-    let found : IsFound s.settings.name owed seat n s.clients = places s.settings.name owed seats s.clients n i seat to.shown sits.at sits.there in
+taken_moves : (number : ℕ → ℕ) (owed : List Bytes) (n i index : ℕ) (d : Decision) (seats : List Seat) (seat new : Seat) (f : Client → Client) → Sits n i seats seat → (s : State) → IsToTake number owed n index d seat seats s
+    → ((c : Client) → client s n ≡ Some c → ShowsSeat number s.settings.name owed seat c → IsChangedBy c.number f (in_phase Deciding s) (decided c d (in_phase Deciding s)))
+    → ((c : Client) → client s n ≡ Some c → ShowsSeat number s.settings.name owed seat c → ShowsSeat number s.settings.name owed new (f c)) → Moves (WasTaken number owed (slice_set seats i new)) (Noted (Taken n index d)) s
+taken_moves number owed n i index d seats seat new f sits s to leads shows =
+    let found : IsFound number s.settings.name owed seat n s.clients = places number s.settings.name owed seats s.clients n i seat to.shown sits.at sits.there in
     let led : seen (decided found.client d (in_phase Deciding s)) ≡ (s.settings.name, change (is_client n) f s.clients)
     = leads found.client found.there found.shows ∙ ap (λ (m : ℕ). (s.settings.name, change (is_client m) f s.clients)) (number_found n s.clients found.client found.there) in
     let is : take_decision n d (in_phase Deciding s) ≡ regained (record (decided found.client d (in_phase Deciding s)) { forgotten = []; has_made_room = false })
     = taken_is n d found.client (in_phase Deciding s) found.there in
-    moves_to refl (goes_by_room s n index d owed seat seats s.has_made_room refl to)
+    moves_to refl (goes_by_room number s n index d owed seat seats s.has_made_room refl to)
     (record {
       none = ap (λ (t : State). t.has_made_room) is ∙ regained_room (record (decided found.client d (in_phase Deciding s)) { forgotten = []; has_made_room = false });
       at = ap (λ (t : State). t.phase) is ∙ regained_phase (record (decided found.client d (in_phase Deciding s)) { forgotten = []; has_made_room = false }) ∙ decided_phase found.client d (in_phase Deciding s);
       before = record (decided found.client d (in_phase Deciding s)) { forgotten = []; has_made_room = false };
-      shown = subst (λ (p : Bytes × List Client). AreShown p.0 owed (slice_set seats i new) p.1) (sym led)
-          (changes_there s.settings.name owed seats s.clients n i new f to.shown sits.at
-          (λ other c at there here. shows c there (subst (λ (x : Seat). ShowsSeat s.settings.name owed x c) (same_seat seat other (sym sits.there ∙ at)) here)));
+      shown = subst (λ (p : Bytes × List Client). AreShown number p.0 owed (slice_set seats i new) p.1) (sym led)
+          (changes_there number s.settings.name owed seats s.clients n i new f to.shown sits.at
+          (λ other c at there here. shows c there (subst (λ (x : Seat). ShowsSeat number s.settings.name owed x c) (same_seat seat other (sym sits.there ∙ at)) here)));
       ended = is;
     })
 
 -- ---- a page
 
 pub pages_keep : PagesKeep
-pages_keep old new before now n i index status account owed seats seat call rose sits open_seat has fits =
+pages_keep number old new before now n i index status account owed seats seat call rose sits open_seat has fits =
     keeps_more (λ l. Noted (Taken n index (Refuse status))) call (λ l. rose)
     (λ l s to.
-    taken_moves owed n i index (Refuse status) seats seat (record (paged status (with_interim seat)) { account = account }) (refused_with status) sits s to
+    taken_moves number owed n i index (Refuse status) seats seat (record (paged status (with_interim seat)) { account = account }) (refused_with status) sits s to
     (λ c found shows. page_decided c status (in_phase Deciding s))
     (λ c found shows.
     let going : c.is_closing ≡ false = sym shows.closing ∙ sits.going in
-    pages status account s.settings.name owed seat c shows going (may_decide s.settings.name owed seat c (shows.going going) open_seat (to.expects c found)) has fits))
+    pages number status account s.settings.name owed seat c shows going (may_decide number s.settings.name owed seat c (shows.going going) open_seat (to.expects c found)) has fits))
 
 -- ---- an ask
 
 pub asks_keep : AsksKeep
-asks_keep old new before now n i index d owed seats seat call rose sits open_seat is isnt =
+asks_keep number old new before now n i index d owed seats seat call rose sits open_seat is isnt =
     keeps_more (λ l. Noted (Taken n index d)) call (λ l. rose)
     (λ l s to.
-    taken_moves owed n i index d seats seat (asking (is_pass d) (with_interim seat)) (asking_with d) sits s to.take
+    taken_moves number owed n i index d seats seat (asking (is_pass d) (with_interim seat)) (asking_with d) sits s to.take
     (λ c found shows. ask_decided c d (in_phase Deciding s) is (to.asks c found))
     (λ c found shows.
     let going : c.is_closing ≡ false = sym shows.closing ∙ sits.going in
-    asks d s.settings.name owed seat c shows going (may_decide s.settings.name owed seat c (shows.going going) open_seat (to.take.expects c found)) isnt))
+    asks number d s.settings.name owed seat c shows going (may_decide number s.settings.name owed seat c (shows.going going) open_seat (to.take.expects c found)) isnt))
 
 -- ---- a reply by the row
 
 pub follows_keep : FollowsKeep
-follows_keep old new before now n i index d id owed seats seat call rose sits open_seat is isnt =
+follows_keep number old new before now n i index d id owed seats seat call rose sits open_seat is isnt =
     keeps_more (λ l. Noted (Taken n index d)) call (λ l. rose)
     (λ l s to.
-    taken_moves owed n i index d seats seat (answering d (Some id) (span_of d) (with_interim seat)) (answering_with (reply_by d (Some (number_of id)))) sits s to.take
-    (λ c found shows. follow_decided c d (number_of id) (in_phase Deciding s) is (to.known c found))
+    taken_moves number owed n i index d seats seat (answering d (Some id) (span_of d) (with_interim seat)) (answering_with (reply_by d (Some (number id.life)))) sits s to.take
+    (λ c found shows. follow_decided c d (number id.life) (in_phase Deciding s) is (to.known c found))
     (λ c found shows.
     let going : c.is_closing ≡ false = sym shows.closing ∙ sits.going in
-    answers d (Some id) s.settings.name owed seat c shows going (may_decide s.settings.name owed seat c (shows.going going) open_seat (to.take.expects c found)) isnt))
+    answers number d (Some id) s.settings.name owed seat c shows going (may_decide number s.settings.name owed seat c (shows.going going) open_seat (to.take.expects c found)) isnt))
 
 pub relays_keep : RelaysKeep
-relays_keep old new before now n i index owed seats seat call rose sits open_seat isnt =
+relays_keep number old new before now n i index owed seats seat call rose sits open_seat isnt =
     keeps_more (λ l. Noted (Taken n index Relay)) call (λ l. rose)
     (λ l s to.
-    taken_moves owed n i index Relay seats seat (answering Relay None (0, 0) (with_interim seat)) (answering_with (reply_by Relay None)) sits s to
+    taken_moves number owed n i index Relay seats seat (answering Relay None (0, 0) (with_interim seat)) (answering_with (reply_by Relay None)) sits s to
     (λ c found shows. relay_decided c (in_phase Deciding s))
     (λ c found shows.
     let going : c.is_closing ≡ false = sym shows.closing ∙ sits.going in
-    answers Relay None s.settings.name owed seat c shows going (may_decide s.settings.name owed seat c (shows.going going) open_seat (to.expects c found)) isnt))
+    answers number Relay None s.settings.name owed seat c shows going (may_decide number s.settings.name owed seat c (shows.going going) open_seat (to.expects c found)) isnt))

@@ -52,8 +52,8 @@ record Has (name : Bytes) (cs : List Client) (s : State) : Type 0 where
 clients_of : (name : Bytes) (cs : List Client) (s : State) → Has name cs s → s.clients ≡ cs
 clients_of name cs s has = ap (λ (p : Bytes × List Client). p.1) has.same
 
-shown_in : (name : Bytes) (owed : List Bytes) (seats : List Seat) (cs : List Client) (s : State) → Has name cs s → AreShown name owed seats cs → AreShown s.settings.name owed seats s.clients
-shown_in name owed seats cs s has shown = subst (λ (p : Bytes × List Client). AreShown p.0 owed seats p.1) (sym has.same) shown
+shown_in : (number : ℕ → ℕ) (name : Bytes) (owed : List Bytes) (seats : List Seat) (cs : List Client) (s : State) → Has name cs s → AreShown number name owed seats cs → AreShown number s.settings.name owed seats s.clients
+shown_in number name owed seats cs s has shown = subst (λ (p : Bytes × List Client). AreShown number p.0 owed seats p.1) (sym has.same) shown
 
 rest_in : (name : Bytes) (cs : List Client) (n : ℕ) (s : State) → Has name cs s → AllRestBut n cs → AllRestBut n s.clients
 rest_in name cs n s has all = subst (λ (xs : List Client). AllRestBut n xs) (sym (clients_of name cs s has)) all
@@ -78,11 +78,11 @@ set_set n i [] new after at = absurd at
 set_set n zero (first ∷ seats) new after at = refl
 set_set n (suc i) (first ∷ seats) new after at = ap (λ (rest : List Seat). first ∷ rest) (set_set n i seats new after at.1)
 
-shown_again : (name : Bytes) (owed : List Bytes) (seats : List Seat) (cs : List Client) (n i : ℕ) (seat : Seat) → AreShown name owed seats cs → IsAt n i seats → slice_get seats i ≡ Some seat → AreShown name owed (slice_set seats i seat) cs
-shown_again name owed [] cs n i seat shown at there = absurd at
-shown_again name owed (first ∷ seats) [] n i seat shown at there = absurd shown
-shown_again name owed (first ∷ seats) (c ∷ cs) n zero seat shown at there = (subst (λ (x : Seat). ShowsSeat name owed x c) (sym (same_seat first seat there)) shown.0, shown.1)
-shown_again name owed (first ∷ seats) (c ∷ cs) n (suc i) seat shown at there = (shown.0, shown_again name owed seats cs n i seat shown.1 at.1 there)
+shown_again : (number : ℕ → ℕ) (name : Bytes) (owed : List Bytes) (seats : List Seat) (cs : List Client) (n i : ℕ) (seat : Seat) → AreShown number name owed seats cs → IsAt n i seats → slice_get seats i ≡ Some seat → AreShown number name owed (slice_set seats i seat) cs
+shown_again number name owed [] cs n i seat shown at there = absurd at
+shown_again number name owed (first ∷ seats) [] n i seat shown at there = absurd shown
+shown_again number name owed (first ∷ seats) (c ∷ cs) n zero seat shown at there = (subst (λ (x : Seat). ShowsSeat number name owed x c) (sym (same_seat first seat there)) shown.0, shown.1)
+shown_again number name owed (first ∷ seats) (c ∷ cs) n (suc i) seat shown at there = (shown.0, shown_again number name owed seats cs n i seat shown.1 at.1 there)
 
 -- ---- nothing is left of it to answer, or something is
 
@@ -131,24 +131,24 @@ closed_then n t c found all is =
     }
 
 -- it stays, or is closed where nothing is left
-record Finishes (owed : List Bytes) (seats : List Seat) (n : ℕ) (t : State) : Type 0 where
+record Finishes (number : ℕ → ℕ) (owed : List Bytes) (seats : List Seat) (n : ℕ) (t : State) : Type 0 where
   last : State
   closes : Changes close_finished n t last
-  shown : AreShown last.settings.name owed seats last.clients
+  shown : AreShown number last.settings.name owed seats last.clients
 
-finishes : (owed : List Bytes) (n i : ℕ) (seats : List Seat) (seat new : Seat) (t : State) (b : Bool) → AreShown t.settings.name owed seats t.clients → IsAt n i seats → slice_get seats i ≡ Some seat → AllRestBut n t.clients → finished_in seat ≡ b
-    → IsLeftAs b seat new → Finishes owed (slice_set seats i new) n t
-finishes owed n i seats seat new t true shown at there all is left =
-    let here : IsFound t.settings.name owed seat n t.clients = places t.settings.name owed seats t.clients n i seat shown at there in record {
+finishes : (number : ℕ → ℕ) (owed : List Bytes) (n i : ℕ) (seats : List Seat) (seat new : Seat) (t : State) (b : Bool) → AreShown number t.settings.name owed seats t.clients → IsAt n i seats → slice_get seats i ≡ Some seat → AllRestBut n t.clients → finished_in seat ≡ b
+    → IsLeftAs b seat new → Finishes number owed (slice_set seats i new) n t
+finishes number owed n i seats seat new t true shown at there all is left =
+    let here : IsFound number t.settings.name owed seat n t.clients = places number t.settings.name owed seats t.clients n i seat shown at there in record {
       last = close_client n false t;
-      closes = closed_then n t here.client here.there all (sym (finished t.settings.name owed seat here.client here.shows) ∙ is);
-      shown = closed_all owed n i seats seat new false t shown at there left;
+      closes = closed_then n t here.client here.there all (sym (finished number t.settings.name owed seat here.client here.shows) ∙ is);
+      shown = closed_all number owed n i seats seat new false t shown at there left;
     }
-finishes owed n i seats seat new t false shown at there all isnt left =
-    let here : IsFound t.settings.name owed seat n t.clients = places t.settings.name owed seats t.clients n i seat shown at there in record {
+finishes number owed n i seats seat new t false shown at there all isnt left =
+    let here : IsFound number t.settings.name owed seat n t.clients = places number t.settings.name owed seats t.clients n i seat shown at there in record {
       last = t;
-      closes = stays_then n t here.client here.there all (sym (finished t.settings.name owed seat here.client here.shows) ∙ isnt);
-      shown = subst (λ (x : Seat). AreShown t.settings.name owed (slice_set seats i x) t.clients) (sym left) (shown_again t.settings.name owed seats t.clients n i seat shown at there);
+      closes = stays_then n t here.client here.there all (sym (finished number t.settings.name owed seat here.client here.shows) ∙ isnt);
+      shown = subst (λ (x : Seat). AreShown number t.settings.name owed (slice_set seats i x) t.clients) (sym left) (shown_again number t.settings.name owed seats t.clients n i seat shown at there);
     }
 
 -- ---- where no reply is over
@@ -165,26 +165,26 @@ none_end n t c found all isnt = record {
   others_then = λ m x other there. end_none x t (found_rests n m t.clients x all there other).said;
 }
 
-rested : (owed : List Bytes) (n i : ℕ) (seats : List Seat) (seat new : Seat) → IsAt n i seats → slice_get seats i ≡ Some seat → AreSettledBut n seats → (seat.is_closing ≡ false → is_said seat.client.reply ≡ false)
-    → IsLeftAs (finished_in seat) seat new → (s : State) → WasRead owed seats s → WasOwed owed (slice_set seats i new) s
-rested owed n i seats seat new at there settled unsaid left s was =
+rested : (number : ℕ → ℕ) (owed : List Bytes) (n i : ℕ) (seats : List Seat) (seat new : Seat) → IsAt n i seats → slice_get seats i ≡ Some seat → AreSettledBut n seats → (seat.is_closing ≡ false → is_said seat.client.reply ≡ false)
+    → IsLeftAs (finished_in seat) seat new → (s : State) → WasRead number owed seats s → WasOwed number owed (slice_set seats i new) s
+rested number owed n i seats seat new at there settled unsaid left s was =
     let t : State = was.before in
-    let here : IsFound t.settings.name owed seat n t.clients = places t.settings.name owed seats t.clients n i seat was.shown at there in
-    let all : AllRestBut n t.clients = all_rest t.settings.name owed seats t.clients n was.shown settled in
-    let f : Finishes owed (slice_set seats i new) n t = finishes owed n i seats seat new t (finished_in seat) was.shown at there all refl left in record {
+    let here : IsFound number t.settings.name owed seat n t.clients = places number t.settings.name owed seats t.clients n i seat was.shown at there in
+    let all : AllRestBut n t.clients = all_rest number t.settings.name owed seats t.clients n was.shown settled in
+    let f : Finishes number owed (slice_set seats i new) n t = finishes number owed n i seats seat new t (finished_in seat) was.shown at there all refl left in record {
       before = f.last;
       shown = f.shown;
-      ended = was.ended ∙ ap paid (ends_by n t t f.last (none_end n t here.client here.there all (not_over t.settings.name owed seat here.client here.shows unsaid here.client.is_closing refl)) f.closes);
+      ended = was.ended ∙ ap paid (ends_by n t t f.last (none_end n t here.client here.there all (not_over number t.settings.name owed seat here.client here.shows unsaid here.client.is_closing refl)) f.closes);
     }
 
 pub rests_keep : RestsKeep
-rests_keep log m n i owed seats seat new at there settled unsaid left = keeps_as log m (λ s was. rested owed n i seats seat new at there settled unsaid left s was)
+rests_keep number log m n i owed seats seat new at there settled unsaid left = keeps_as log m (λ s was. rested number owed n i seats seat new at there settled unsaid left s was)
 
 -- ---- the last bytes of a reply
 
 -- what is said to it, and the client
-record Writes (owed : List Bytes) (n i k : ℕ) (seats : List Seat) (seat : Seat) (s : State) (c : Client) : Type 0 where
-  shown : AreShown s.settings.name owed seats s.clients
+record Writes (number : ℕ → ℕ) (owed : List Bytes) (n i k : ℕ) (seats : List Seat) (seat : Seat) (s : State) (c : Client) : Type 0 where
+  shown : AreShown number s.settings.name owed seats s.clients
   at : IsAt n i seats
   there : slice_get seats i ≡ Some seat
   going : seat.is_closing ≡ false
@@ -192,7 +192,7 @@ record Writes (owed : List Bytes) (n i k : ℕ) (seats : List Seat) (seat : Seat
   few : k ≤ left_next seat.client.reply
   all : is_said (said_in k seat.client.reply) ≡ true
   found : client s n ≡ Some c
-  shows : ShowsSeat s.settings.name owed seat c
+  shows : ShowsSeat number s.settings.name owed seat c
 
 abbrev said_state : ℕ → ℕ → Client → State → State
 said_state k n c s = on_client n (said_by k) (use_said k c s)
@@ -203,8 +203,8 @@ said_number k x = (said_by-same k x).number
 said_has : (k n : ℕ) (c : Client) (s : State) → Has s.settings.name (change (is_client n) (said_by k) s.clients) (said_state k n c s)
 said_has k n c s = record { same = seen_on n (said_by k) (use_said k c s) ∙ ap (λ (p : Bytes × List Client). (p.0, change (is_client n) (said_by k) p.1)) (seen_said k c s) }
 
-told_so : (name : Bytes) (owed : List Bytes) (seat : Seat) (c : Client) (k : ℕ) → ShowsSeat name owed seat c → seat.is_closing ≡ false → k ≤ left_next seat.client.reply → IsToldBy k name owed seat c (said_account k seat.account) (said_in k seat.client.reply)
-told_so name owed seat c k shows going few = open_told k name owed seat c (said_account k seat.account) (shows.going (sym shows.closing ∙ going)) few
+told_so : (number : ℕ → ℕ) (name : Bytes) (owed : List Bytes) (seat : Seat) (c : Client) (k : ℕ) → ShowsSeat number name owed seat c → seat.is_closing ≡ false → k ≤ left_next seat.client.reply → IsToldBy number k name owed seat c (said_account k seat.account) (said_in k seat.client.reply)
+told_so number name owed seat c k shows going few = open_told number k name owed seat c (said_account k seat.account) (shows.going (sym shows.closing ∙ going)) few
 
 both_hold : (a b : Bool) → a ≡ true → b ≡ false → (a && not b) ≡ true
 both_hold true false first second = refl
@@ -212,31 +212,31 @@ both_hold true true first second = absurd (cc second)
 both_hold false b first second = absurd (cc first)
 
 -- its reply is over in the words of the law
-is_over_now : (owed : List Bytes) (n i k : ℕ) (seats : List Seat) (seat : Seat) (s : State) (c : Client) → Writes owed n i k seats seat s c → (is_over (said_by k c) && not (said_by k c).is_closing) ≡ true
-is_over_now owed n i k seats seat s c w =
-    let told : IsToldBy k s.settings.name owed seat c (said_account k seat.account) (said_in k seat.client.reply) = told_so s.settings.name owed seat c k w.shows w.going w.few in
+is_over_now : (number : ℕ → ℕ) (owed : List Bytes) (n i k : ℕ) (seats : List Seat) (seat : Seat) (s : State) (c : Client) → Writes number owed n i k seats seat s c → (is_over (said_by k c) && not (said_by k c).is_closing) ≡ true
+is_over_now number owed n i k seats seat s c w =
+    let told : IsToldBy number k s.settings.name owed seat c (said_account k seat.account) (said_in k seat.client.reply) = told_so number s.settings.name owed seat c k w.shows w.going w.few in
     both_hold (is_over (said_by k c)) (said_by k c).is_closing
-    (sym (ends_same s.settings.name owed (told_with (said_in k seat.client.reply) (seat.before_body - k) (said_account k seat.account) seat) (said_by k c) told.shows) ∙ w.all)
+    (sym (ends_same number s.settings.name owed (told_with (said_in k seat.client.reply) (seat.before_body - k) (said_account k seat.account) seat) (said_by k c) told.shows) ∙ w.all)
     (told.closing ∙ sym w.shows.closing ∙ w.going)
 
-closes_so : (owed : List Bytes) (n i k : ℕ) (seats : List Seat) (seat : Seat) (s : State) (c : Client) → Writes owed n i k seats seat s c → seat.closes ≡ (said_by k c).closes
-closes_so owed n i k seats seat s c w = (told_so s.settings.name owed seat c k w.shows w.going w.few).shows.closes
+closes_so : (number : ℕ → ℕ) (owed : List Bytes) (n i k : ℕ) (seats : List Seat) (seat : Seat) (s : State) (c : Client) → Writes number owed n i k seats seat s c → seat.closes ≡ (said_by k c).closes
+closes_so number owed n i k seats seat s c w = (told_so number s.settings.name owed seat c k w.shows w.going w.few).shows.closes
 
-said_rest : (owed : List Bytes) (n i k : ℕ) (seats : List Seat) (seat : Seat) (s : State) (c : Client) → Writes owed n i k seats seat s c → AllRestBut n (change (is_client n) (said_by k) s.clients)
-said_rest owed n i k seats seat s c w = change_rest (said_by k) (said_number k) n s.clients (all_rest s.settings.name owed seats s.clients n w.shown w.settled)
+said_rest : (number : ℕ → ℕ) (owed : List Bytes) (n i k : ℕ) (seats : List Seat) (seat : Seat) (s : State) (c : Client) → Writes number owed n i k seats seat s c → AllRestBut n (change (is_client n) (said_by k) s.clients)
+said_rest number owed n i k seats seat s c w = change_rest (said_by k) (said_number k) n s.clients (all_rest number s.settings.name owed seats s.clients n w.shown w.settled)
 
 -- how the reply ends: what becomes of its client
-ending_with : (owed : List Bytes) (n i k : ℕ) (seats : List Seat) (seat : Seat) (s : State) (c : Client) (g : Client → Client) (t : State) → Writes owed n i k seats seat s c → ((x : Client) → (g x).number ≡ x.number)
+ending_with : (number : ℕ → ℕ) (owed : List Bytes) (n i k : ℕ) (seats : List Seat) (seat : Seat) (s : State) (c : Client) (g : Client → Client) (t : State) → Writes number owed n i k seats seat s c → ((x : Client) → (g x).number ≡ x.number)
     → Has s.settings.name (change (is_client n) g (change (is_client n) (said_by k) s.clients)) t → end_reply (said_by k c) (said_state k n c s) ≡ t → (is_over (g (said_by k c)) && not (g (said_by k c)).is_closing) ≡ false
     → Changes end_said n (said_state k n c s) t
-ending_with owed n i k seats seat s c g t w kept has leads isnt =
+ending_with number owed n i k seats seat s c g t w kept has leads isnt =
     let here : find (is_client n) (change (is_client n) (said_by k) s.clients) ≡ Some (said_by k c) = found_in (said_by k) (said_number k) n s.clients c w.found in
-    let rest : AllRestBut n (said_state k n c s).clients = rest_in s.settings.name (change (is_client n) (said_by k) s.clients) n (said_state k n c s) (said_has k n c s) (said_rest owed n i k seats seat s c w) in
+    let rest : AllRestBut n (said_state k n c s).clients = rest_in s.settings.name (change (is_client n) (said_by k) s.clients) n (said_state k n c s) (said_has k n c s) (said_rest number owed n i k seats seat s c w) in
     let then : AllRestBut n t.clients
-    = rest_in s.settings.name (change (is_client n) g (change (is_client n) (said_by k) s.clients)) n t has (change_rest g kept n (change (is_client n) (said_by k) s.clients) (said_rest owed n i k seats seat s c w)) in record {
+    = rest_in s.settings.name (change (is_client n) g (change (is_client n) (said_by k) s.clients)) n t has (change_rest g kept n (change (is_client n) (said_by k) s.clients) (said_rest number owed n i k seats seat s c w)) in record {
       here = said_by k c;
       found = client_in s.settings.name (change (is_client n) (said_by k) s.clients) n (said_by k c) (said_state k n c s) (said_has k n c s) here;
-      leads = end_one (said_by k c) (said_state k n c s) (is_over_now owed n i k seats seat s c w) ∙ leads;
+      leads = end_one (said_by k c) (said_state k n c s) (is_over_now number owed n i k seats seat s c w) ∙ leads;
       now = g (said_by k c);
       again = client_in s.settings.name (change (is_client n) g (change (is_client n) (said_by k) s.clients)) n (g (said_by k c)) t has (found_in g kept n (change (is_client n) (said_by k) s.clients) (said_by k c) here);
       stays = end_none (g (said_by k c)) t isnt;
@@ -245,25 +245,25 @@ ending_with owed n i k seats seat s c g t w kept has leads isnt =
     }
 
 -- it is there still
-again_so : (owed : List Bytes) (n i k : ℕ) (seats : List Seat) (seat : Seat) (s : State) (c : Client) (g : Client → Client) (t : State) → Writes owed n i k seats seat s c → ((x : Client) → (g x).number ≡ x.number)
+again_so : (number : ℕ → ℕ) (owed : List Bytes) (n i k : ℕ) (seats : List Seat) (seat : Seat) (s : State) (c : Client) (g : Client → Client) (t : State) → Writes number owed n i k seats seat s c → ((x : Client) → (g x).number ≡ x.number)
     → Has s.settings.name (change (is_client n) g (change (is_client n) (said_by k) s.clients)) t → client t n ≡ Some (g (said_by k c))
-again_so owed n i k seats seat s c g t w kept has =
+again_so number owed n i k seats seat s c g t w kept has =
     client_in s.settings.name (change (is_client n) g (change (is_client n) (said_by k) s.clients)) n (g (said_by k c)) t has
     (found_in g kept n (change (is_client n) (said_by k) s.clients) (said_by k c) (found_in (said_by k) (said_number k) n s.clients c w.found))
 
-then_rest : (owed : List Bytes) (n i k : ℕ) (seats : List Seat) (seat : Seat) (s : State) (c : Client) (g : Client → Client) (t : State) → Writes owed n i k seats seat s c → ((x : Client) → (g x).number ≡ x.number)
+then_rest : (number : ℕ → ℕ) (owed : List Bytes) (n i k : ℕ) (seats : List Seat) (seat : Seat) (s : State) (c : Client) (g : Client → Client) (t : State) → Writes number owed n i k seats seat s c → ((x : Client) → (g x).number ≡ x.number)
     → Has s.settings.name (change (is_client n) g (change (is_client n) (said_by k) s.clients)) t → AllRestBut n t.clients
-then_rest owed n i k seats seat s c g t w kept has =
-    rest_in s.settings.name (change (is_client n) g (change (is_client n) (said_by k) s.clients)) n t has (change_rest g kept n (change (is_client n) (said_by k) s.clients) (said_rest owed n i k seats seat s c w))
+then_rest number owed n i k seats seat s c g t w kept has =
+    rest_in s.settings.name (change (is_client n) g (change (is_client n) (said_by k) s.clients)) n t has (change_rest g kept n (change (is_client n) (said_by k) s.clients) (said_rest number owed n i k seats seat s c w))
 
-then_shown : (owed : List Bytes) (n i k : ℕ) (seats : List Seat) (seat new : Seat) (s : State) (c : Client) (g : Client → Client) (t : State) → Writes owed n i k seats seat s c
-    → Has s.settings.name (change (is_client n) g (change (is_client n) (said_by k) s.clients)) t → ((x : Client) → ShowsSeat s.settings.name owed seat x → ShowsSeat s.settings.name owed new (g (said_by k x)))
-    → AreShown t.settings.name owed (slice_set seats i new) t.clients
-then_shown owed n i k seats seat new s c g t w has one =
-    shown_in s.settings.name owed (slice_set seats i new) (change (is_client n) g (change (is_client n) (said_by k) s.clients)) t has
-    (subst (λ (cs : List Client). AreShown s.settings.name owed (slice_set seats i new) cs) (sym (change_twice (said_by k) g (said_number k) n s.clients))
-    (changes s.settings.name owed seats s.clients n i new (λ x. g (said_by k x)) w.shown w.at
-    (λ other x there shows. one x (subst (λ (y : Seat). ShowsSeat s.settings.name owed y x) (same_seat seat other (sym w.there ∙ there)) shows))))
+then_shown : (number : ℕ → ℕ) (owed : List Bytes) (n i k : ℕ) (seats : List Seat) (seat new : Seat) (s : State) (c : Client) (g : Client → Client) (t : State) → Writes number owed n i k seats seat s c
+    → Has s.settings.name (change (is_client n) g (change (is_client n) (said_by k) s.clients)) t → ((x : Client) → ShowsSeat number s.settings.name owed seat x → ShowsSeat number s.settings.name owed new (g (said_by k x)))
+    → AreShown number t.settings.name owed (slice_set seats i new) t.clients
+then_shown number owed n i k seats seat new s c g t w has one =
+    shown_in number s.settings.name owed (slice_set seats i new) (change (is_client n) g (change (is_client n) (said_by k) s.clients)) t has
+    (subst (λ (cs : List Client). AreShown number s.settings.name owed (slice_set seats i new) cs) (sym (change_twice (said_by k) g (said_number k) n s.clients))
+    (changes number s.settings.name owed seats s.clients n i new (λ x. g (said_by k x)) w.shown w.at
+    (λ other x there shows. one x (subst (λ (y : Seat). ShowsSeat number s.settings.name owed y x) (same_seat seat other (sym w.there ∙ there)) shows))))
 
 -- ---- the next request stands
 
@@ -290,13 +290,13 @@ told_id : (k : ℕ) (client : Side) (b : Bool) → is_said (said_in k client.rep
 told_id k client true is = ap (λ (b : Bool). (elim b as (λ x. Side) [ true ↦ record client { heard = answered client.heard; reply = ended_reply (said_in k client.reply) } | false ↦ record client { reply = said_in k client.reply } ]).id) is
 told_id k client false is = ap (λ (b : Bool). (elim b as (λ x. Side) [ true ↦ record client { heard = answered client.heard; reply = ended_reply (said_in k client.reply) } | false ↦ record client { reply = said_in k client.reply } ]).id) is
 
-next_shows : (name : Bytes) (owed : List Bytes) (k : ℕ) (seat next : Seat) (x : Client) → ShowsSeat name owed seat x → seat.is_closing ≡ false → k ≤ left_next seat.client.reply → is_said (said_in k seat.client.reply) ≡ true → GoesOn seat
-    → IsRead (at_next_request (told_by k seat)) next → ShowsSeat name owed next (next_request (said_by k x))
-next_shows name owed k seat next x shows going few all goes read =
+next_shows : (number : ℕ → ℕ) (name : Bytes) (owed : List Bytes) (k : ℕ) (seat next : Seat) (x : Client) → ShowsSeat number name owed seat x → seat.is_closing ≡ false → k ≤ left_next seat.client.reply → is_said (said_in k seat.client.reply) ≡ true → GoesOn seat
+    → IsRead (at_next_request (told_by k seat)) next → ShowsSeat number name owed next (next_request (said_by k x))
+next_shows number name owed k seat next x shows going few all goes read =
     let runs : x.is_closing ≡ false = sym shows.closing ∙ going in
     let r : (r : Parsed) × (x.front ≡ IsRequest r) × (is_ok r.rule ≡ true) = request_there seat.front x.front (shows.going runs).front goes.keeps in
-    let told : IsToldBy k name owed seat x (said_account k seat.account) (said_in k seat.client.reply) = told_so name owed seat x k shows going few in
-    let after : IsNext name owed next (said_by k x) = endings k name owed seat next x r.0 shows runs few all r.1 r.2 goes.counted read in record {
+    let told : IsToldBy number k name owed seat x (said_account k seat.account) (said_in k seat.client.reply) = told_so number name owed seat x k shows going few in
+    let after : IsNext number name owed next (said_by k x) = endings number k name owed seat next x r.0 shows runs few all r.1 r.2 goes.counted read in record {
       number = ap (λ (y : Seat). y.client.id) read.1 ∙ told_id k seat.client true all ∙ shows.number ∙ sym (said_number k x);
       closing = ap (λ (y : Seat). y.is_closing) read.1 ∙ shows.closing ∙ sym told.closing;
       going = λ still. after.next;
@@ -309,35 +309,35 @@ next_number k seat next all read = ap (λ (y : Seat). y.client.id) read.1 ∙ to
 next_silent : (x : Client) → (is_over (next_request x) && not (next_request x).is_closing) ≡ false
 next_silent x = refl
 
-ended_next : (owed : List Bytes) (n i offered : ℕ) (seats : List Seat) (seat next after : Seat) (bytes : Bytes) → Sits n i seats seat → AreSettledBut n seats → LeavesNone seat bytes → GoesOn seat → IsRead (at_next_request (told_by (length bytes) seat)) next
-    → IsLeftAs (finished_in next) next after → (s : State) → OwesWrite owed n offered bytes seats s → Moves (WasOwed owed (slice_set seats i after)) (Said n offered bytes) s
-ended_next owed n i offered seats seat next after bytes sits settled leaves goes read left s owes =
-    let found : IsFound s.settings.name owed seat n s.clients = places s.settings.name owed seats s.clients n i seat owes.shown sits.at sits.there in
-    let w : Writes owed n i (length bytes) seats seat s found.client
+ended_next : (number : ℕ → ℕ) (owed : List Bytes) (n i offered : ℕ) (seats : List Seat) (seat next after : Seat) (bytes : Bytes) → Sits n i seats seat → AreSettledBut n seats → LeavesNone seat bytes → GoesOn seat → IsRead (at_next_request (told_by (length bytes) seat)) next
+    → IsLeftAs (finished_in next) next after → (s : State) → OwesWrite number owed n offered bytes seats s → Moves (WasOwed number owed (slice_set seats i after)) (Said n offered bytes) s
+ended_next number owed n i offered seats seat next after bytes sits settled leaves goes read left s owes =
+    let found : IsFound number s.settings.name owed seat n s.clients = places number s.settings.name owed seats s.clients n i seat owes.shown sits.at sits.there in
+    let w : Writes number owed n i (length bytes) seats seat s found.client
     = record { shown = owes.shown; at = sits.at; there = sits.there; going = sits.going; settled = settled; few = leaves.few; all = leaves.all; found = found.there; shows = found.shows } in
     let has : Has s.settings.name (change (is_client n) next_request (change (is_client n) (said_by (length bytes)) s.clients)) (swept (forsake (is_of n) (on_client n next_request (said_state (length bytes) n found.client s))))
     = next_has s.settings.name (change (is_client n) (said_by (length bytes)) s.clients) n (said_state (length bytes) n found.client s) (said_has (length bytes) n found.client s) in
     let leads : end_reply (said_by (length bytes) found.client) (said_state (length bytes) n found.client s) ≡ swept (forsake (is_of n) (on_client n next_request (said_state (length bytes) n found.client s)))
-    = next_leads (said_by (length bytes) found.client) n (said_state (length bytes) n found.client s) (sym (closes_so owed n i (length bytes) seats seat s found.client w) ∙ goes.stays) (said_number (length bytes) found.client ∙ number_found n s.clients found.client found.there) in
+    = next_leads (said_by (length bytes) found.client) n (said_state (length bytes) n found.client s) (sym (closes_so number owed n i (length bytes) seats seat s found.client w) ∙ goes.stays) (said_number (length bytes) found.client ∙ number_found n s.clients found.client found.there) in
     let over : Changes end_said n (said_state (length bytes) n found.client s) (swept (forsake (is_of n) (on_client n next_request (said_state (length bytes) n found.client s))))
-    = ending_with owed n i (length bytes) seats seat s found.client next_request (swept (forsake (is_of n) (on_client n next_request (said_state (length bytes) n found.client s)))) w (λ x. (next_request-same x).number) has leads (next_silent (said_by (length bytes) found.client)) in
-    let f : Finishes owed (slice_set (slice_set seats i next) i after) n (swept (forsake (is_of n) (on_client n next_request (said_state (length bytes) n found.client s))))
-    = finishes owed n i (slice_set seats i next) next after (swept (forsake (is_of n) (on_client n next_request (said_state (length bytes) n found.client s)))) (finished_in next)
-    (then_shown owed n i (length bytes) seats seat next s found.client next_request (swept (forsake (is_of n) (on_client n next_request (said_state (length bytes) n found.client s)))) w has
-    (λ x shows. next_shows s.settings.name owed (length bytes) seat next x shows sits.going leaves.few leaves.all goes read))
+    = ending_with number owed n i (length bytes) seats seat s found.client next_request (swept (forsake (is_of n) (on_client n next_request (said_state (length bytes) n found.client s)))) w (λ x. (next_request-same x).number) has leads (next_silent (said_by (length bytes) found.client)) in
+    let f : Finishes number owed (slice_set (slice_set seats i next) i after) n (swept (forsake (is_of n) (on_client n next_request (said_state (length bytes) n found.client s))))
+    = finishes number owed n i (slice_set seats i next) next after (swept (forsake (is_of n) (on_client n next_request (said_state (length bytes) n found.client s)))) (finished_in next)
+    (then_shown number owed n i (length bytes) seats seat next s found.client next_request (swept (forsake (is_of n) (on_client n next_request (said_state (length bytes) n found.client s)))) w has
+    (λ x shows. next_shows number s.settings.name owed (length bytes) seat next x shows sits.going leaves.few leaves.all goes read))
     (at_set n i seats seat next sits.at sits.there (next_number (length bytes) seat next leaves.all read)) (get_set n i seats next sits.at)
-    (then_rest owed n i (length bytes) seats seat s found.client next_request (swept (forsake (is_of n) (on_client n next_request (said_state (length bytes) n found.client s)))) w (λ x. (next_request-same x).number) has) refl left in
+    (then_rest number owed n i (length bytes) seats seat s found.client next_request (swept (forsake (is_of n) (on_client n next_request (said_state (length bytes) n found.client s)))) w (λ x. (next_request-same x).number) has) refl left in
     moves_to refl (goes_said s n offered bytes found.client owes.none owes.writes found.there (owes.first found.client found.there))
     (record {
       before = f.last;
-      shown = subst (λ (rest : List Seat). AreShown f.last.settings.name owed rest f.last.clients) (set_set n i seats next after sits.at) f.shown;
+      shown = subst (λ (rest : List Seat). AreShown number f.last.settings.name owed rest f.last.clients) (set_set n i seats next after sits.at) f.shown;
       ended = said_is n (length bytes) found.client s found.there
           ∙ ap paid (ends_by n (said_state (length bytes) n found.client s) (swept (forsake (is_of n) (on_client n next_request (said_state (length bytes) n found.client s)))) f.last over f.closes);
     })
 
 pub ends_keep : EndsKeep
-ends_keep old new before now n i offered owed seats seat next after bytes call rose sits settled leaves goes read left =
-    keeps_more (λ l. Said n offered bytes) call (λ l. rose) (λ l. ended_next owed n i offered seats seat next after bytes sits settled leaves goes read left)
+ends_keep number old new before now n i offered owed seats seat next after bytes call rose sits settled leaves goes read left =
+    keeps_more (λ l. Said n offered bytes) call (λ l. rose) (λ l. ended_next number owed n i offered seats seat next after bytes sits settled leaves goes read left)
 
 -- ---- behind the last reply
 
@@ -350,31 +350,31 @@ last_leads x n s closes number =
 closed_silent : (x : Client) → (is_over (closing_by false x) && not (closing_by false x).is_closing) ≡ false
 closed_silent x = and_false (is_over (closing_by false x))
 
-ended_last : (owed : List Bytes) (n i offered : ℕ) (seats : List Seat) (seat after : Seat) (bytes : Bytes) → Sits n i seats seat → AreSettledBut n seats → LeavesNone seat bytes → seat.closes ≡ true → IsClosed seat after → (s : State)
-    → OwesWrite owed n offered bytes seats s → Moves (WasOwed owed (slice_set seats i after)) (Said n offered bytes) s
-ended_last owed n i offered seats seat after bytes sits settled leaves closes closed s owes =
-    let found : IsFound s.settings.name owed seat n s.clients = places s.settings.name owed seats s.clients n i seat owes.shown sits.at sits.there in
-    let w : Writes owed n i (length bytes) seats seat s found.client
+ended_last : (number : ℕ → ℕ) (owed : List Bytes) (n i offered : ℕ) (seats : List Seat) (seat after : Seat) (bytes : Bytes) → Sits n i seats seat → AreSettledBut n seats → LeavesNone seat bytes → seat.closes ≡ true → IsClosed seat after → (s : State)
+    → OwesWrite number owed n offered bytes seats s → Moves (WasOwed number owed (slice_set seats i after)) (Said n offered bytes) s
+ended_last number owed n i offered seats seat after bytes sits settled leaves closes closed s owes =
+    let found : IsFound number s.settings.name owed seat n s.clients = places number s.settings.name owed seats s.clients n i seat owes.shown sits.at sits.there in
+    let w : Writes number owed n i (length bytes) seats seat s found.client
     = record { shown = owes.shown; at = sits.at; there = sits.there; going = sits.going; settled = settled; few = leaves.few; all = leaves.all; found = found.there; shows = found.shows } in
     let has : Has s.settings.name (change (is_client n) (closing_by false) (change (is_client n) (said_by (length bytes)) s.clients)) (close_client n false (said_state (length bytes) n found.client s))
     = closed_has s.settings.name (change (is_client n) (said_by (length bytes)) s.clients) n (said_state (length bytes) n found.client s) (said_has (length bytes) n found.client s) in
     let leads : end_reply (said_by (length bytes) found.client) (said_state (length bytes) n found.client s) ≡ close_client n false (said_state (length bytes) n found.client s)
-    = last_leads (said_by (length bytes) found.client) n (said_state (length bytes) n found.client s) (sym (closes_so owed n i (length bytes) seats seat s found.client w) ∙ closes) (said_number (length bytes) found.client ∙ number_found n s.clients found.client found.there) in
+    = last_leads (said_by (length bytes) found.client) n (said_state (length bytes) n found.client s) (sym (closes_so number owed n i (length bytes) seats seat s found.client w) ∙ closes) (said_number (length bytes) found.client ∙ number_found n s.clients found.client found.there) in
     let over : Changes end_said n (said_state (length bytes) n found.client s) (close_client n false (said_state (length bytes) n found.client s))
-    = ending_with owed n i (length bytes) seats seat s found.client (closing_by false) (close_client n false (said_state (length bytes) n found.client s)) w (λ x. refl) has leads (closed_silent (said_by (length bytes) found.client)) in
+    = ending_with number owed n i (length bytes) seats seat s found.client (closing_by false) (close_client n false (said_state (length bytes) n found.client s)) w (λ x. refl) has leads (closed_silent (said_by (length bytes) found.client)) in
     let none : Changes close_finished n (close_client n false (said_state (length bytes) n found.client s)) (close_client n false (said_state (length bytes) n found.client s))
     = stays_then n (close_client n false (said_state (length bytes) n found.client s)) (closing_by false (said_by (length bytes) found.client))
-    (again_so owed n i (length bytes) seats seat s found.client (closing_by false) (close_client n false (said_state (length bytes) n found.client s)) w (λ x. refl) has)
-    (then_rest owed n i (length bytes) seats seat s found.client (closing_by false) (close_client n false (said_state (length bytes) n found.client s)) w (λ x. refl) has) (not_finished (closing_by false (said_by (length bytes) found.client)) refl) in
+    (again_so number owed n i (length bytes) seats seat s found.client (closing_by false) (close_client n false (said_state (length bytes) n found.client s)) w (λ x. refl) has)
+    (then_rest number owed n i (length bytes) seats seat s found.client (closing_by false) (close_client n false (said_state (length bytes) n found.client s)) w (λ x. refl) has) (not_finished (closing_by false (said_by (length bytes) found.client)) refl) in
     moves_to refl (goes_said s n offered bytes found.client owes.none owes.writes found.there (owes.first found.client found.there))
     (record {
       before = close_client n false (said_state (length bytes) n found.client s);
-      shown = then_shown owed n i (length bytes) seats seat after s found.client (closing_by false) (close_client n false (said_state (length bytes) n found.client s)) w has
-          (λ x shows. closed_shows s.settings.name owed seat after x (closing_by false (said_by (length bytes) x)) shows closed (said_number (length bytes) x) refl);
+      shown = then_shown number owed n i (length bytes) seats seat after s found.client (closing_by false) (close_client n false (said_state (length bytes) n found.client s)) w has
+          (λ x shows. closed_shows number s.settings.name owed seat after x (closing_by false (said_by (length bytes) x)) shows closed (said_number (length bytes) x) refl);
       ended = said_is n (length bytes) found.client s found.there
           ∙ ap paid (ends_by n (said_state (length bytes) n found.client s) (close_client n false (said_state (length bytes) n found.client s)) (close_client n false (said_state (length bytes) n found.client s)) over none);
     })
 
 pub lasts_keep : LastsKeep
-lasts_keep old new before now n i offered owed seats seat after bytes call rose sits settled leaves closes closed =
-    keeps_more (λ l. Said n offered bytes) call (λ l. rose) (λ l. ended_last owed n i offered seats seat after bytes sits settled leaves closes closed)
+lasts_keep number old new before now n i offered owed seats seat after bytes call rose sits settled leaves closes closed =
+    keeps_more (λ l. Said n offered bytes) call (λ l. rose) (λ l. ended_last number owed n i offered seats seat after bytes sits settled leaves closes closed)

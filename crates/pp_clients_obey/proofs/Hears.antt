@@ -49,8 +49,8 @@ both_true false b first second = first
 few_heard : (rest len counted room : ℕ) → counted ≤ len → 1 ≤ len → len ≤ 16384 - rest → nat_le (rest + counted) 16384 ≡ true
 few_heard rest len counted room few some within = le_true (rest + counted) 16384 (omega (arith, few, some, within))
 
-fits : (name : Bytes) (owed : List Bytes) (seat : Seat) (c : Client) (bytes : Bytes) → ShowsOpen name owed seat c → HasCome seat bytes → fits_heard bytes c ≡ true
-fits name owed seat c bytes shows come =
+fits : (number : ℕ → ℕ) (name : Bytes) (owed : List Bytes) (seat : Seat) (c : Client) (bytes : Bytes) → ShowsOpen number name owed seat c → HasCome seat bytes → fits_heard bytes c ≡ true
+fits number name owed seat c bytes shows come =
     let same : length seat.client.heard.rest ≡ length c.heard = ap (λ (b : Bytes). length b) shows.heard.behind in
     let counted = counts_few c.front (drop c.skip bytes) in
     let dropped : length (drop c.skip bytes) ≡ length bytes - c.skip = length-drop c.skip bytes in
@@ -68,15 +68,15 @@ is_read_now seat bytes come =
 -- ---- the client
 
 -- the seat shows it, and it is not closing
-record IsThere (name : Bytes) (owed : List Bytes) (seat : Seat) (n : ℕ) (s : State) : Type 0 where
+record IsThere (number : ℕ → ℕ) (name : Bytes) (owed : List Bytes) (seat : Seat) (n : ℕ) (s : State) : Type 0 where
   here : Client
   found : client s n ≡ Some here
-  shows : ShowsSeat name owed seat here
+  shows : ShowsSeat number name owed seat here
   going : here.is_closing ≡ false
 
-there : (owed : List Bytes) (n i : ℕ) (seats : List Seat) (seat : Seat) (s : State) → OwesRead owed n seats s → Sits n i seats seat → IsThere s.settings.name owed seat n s
-there owed n i seats seat s owes sits =
-    let found : IsFound s.settings.name owed seat n s.clients = places s.settings.name owed seats s.clients n i seat owes.shown sits.at sits.there in record {
+there : (number : ℕ → ℕ) (owed : List Bytes) (n i : ℕ) (seats : List Seat) (seat : Seat) (s : State) → OwesRead number owed n seats s → Sits n i seats seat → IsThere number s.settings.name owed seat n s
+there number owed n i seats seat s owes sits =
+    let found : IsFound number s.settings.name owed seat n s.clients = places number s.settings.name owed seats s.clients n i seat owes.shown sits.at sits.there in record {
       here = found.client;
       found = found.there;
       shows = found.shows;
@@ -89,47 +89,47 @@ same_seat seat other is = cc is
 -- ---- bytes came
 
 -- of each client that the seat shows
-heard_one : (name : Bytes) (owed : List Bytes) (n i : ℕ) (seats : List Seat) (seat after : Seat) (bytes : Bytes) → Sits n i seats seat → IsRead (heard_on bytes seat) after
-    → (other : Seat) (c : Client) → slice_get seats i ≡ Some other → ShowsSeat name owed other c → ShowsSeat name owed after (heard_by bytes c)
-heard_one name owed n i seats seat after bytes sits is other c at shows =
+heard_one : (number : ℕ → ℕ) (name : Bytes) (owed : List Bytes) (n i : ℕ) (seats : List Seat) (seat after : Seat) (bytes : Bytes) → Sits n i seats seat → IsRead (heard_on bytes seat) after
+    → (other : Seat) (c : Client) → slice_get seats i ≡ Some other → ShowsSeat number name owed other c → ShowsSeat number name owed after (heard_by bytes c)
+heard_one number name owed n i seats seat after bytes sits is other c at shows =
     let same : other ≡ seat = same_seat seat other (sym sits.there ∙ at) in
-    let here : ShowsSeat name owed seat c = subst (λ (x : Seat). ShowsSeat name owed x c) same shows in
-    reads name owed seat after c bytes here (sym here.closing ∙ sits.going) is
+    let here : ShowsSeat number name owed seat c = subst (λ (x : Seat). ShowsSeat number name owed x c) same shows in
+    reads number name owed seat after c bytes here (sym here.closing ∙ sits.going) is
 
-heard_all : (owed : List Bytes) (n i : ℕ) (seats : List Seat) (seat after : Seat) (bytes : Bytes) (s : State) → OwesRead owed n seats s → Sits n i seats seat → IsRead (heard_on bytes seat) after
-    → AreShown (on_client n (heard_by bytes) s).settings.name owed (slice_set seats i after) (on_client n (heard_by bytes) s).clients
+heard_all : (number : ℕ → ℕ) (owed : List Bytes) (n i : ℕ) (seats : List Seat) (seat after : Seat) (bytes : Bytes) (s : State) → OwesRead number owed n seats s → Sits n i seats seat → IsRead (heard_on bytes seat) after
+    → AreShown number (on_client n (heard_by bytes) s).settings.name owed (slice_set seats i after) (on_client n (heard_by bytes) s).clients
 unfolding on_client
-heard_all owed n i seats seat after bytes s owes sits is =
-    changes s.settings.name owed seats s.clients n i after (heard_by bytes) owes.shown sits.at (heard_one s.settings.name owed n i seats seat after bytes sits is)
+heard_all number owed n i seats seat after bytes s owes sits is =
+    changes number s.settings.name owed seats s.clients n i after (heard_by bytes) owes.shown sits.at (heard_one number s.settings.name owed n i seats seat after bytes sits is)
 
 hear_is : (n : ℕ) (bytes : Bytes) (s : State) → paid (hear n bytes s) ≡ paid (end_replies (on_client n (heard_by bytes) s))
 unfolding hear
 hear_is n bytes s = refl
 
-heard_moves : (owed : List Bytes) (n i : ℕ) (seats : List Seat) (seat after : Seat) (bytes : Bytes) → Sits n i seats seat → HasCome seat bytes → IsRead (heard_on bytes seat) after → (s : State) → OwesRead owed n seats s
-    → Moves (WasRead owed (slice_set seats i after)) (Heard n bytes) s
-heard_moves owed n i seats seat after bytes sits come is s owes =
-    let who : IsThere s.settings.name owed seat n s = there owed n i seats seat s owes sits in
+heard_moves : (number : ℕ → ℕ) (owed : List Bytes) (n i : ℕ) (seats : List Seat) (seat after : Seat) (bytes : Bytes) → Sits n i seats seat → HasCome seat bytes → IsRead (heard_on bytes seat) after → (s : State) → OwesRead number owed n seats s
+    → Moves (WasRead number owed (slice_set seats i after)) (Heard n bytes) s
+heard_moves number owed n i seats seat after bytes sits come is s owes =
+    let who : IsThere number s.settings.name owed seat n s = there number owed n i seats seat s owes sits in
     moves_to refl
     (goes_heard s n bytes owes.none owes.reads (is_read_now seat bytes come)
-    (ap (λ (o : Option Client). is_some_with (fits_heard bytes) o) who.found ∙ fits s.settings.name owed seat who.here bytes (who.shows.going who.going) come))
-    (record { before = on_client n (heard_by bytes) s; shown = heard_all owed n i seats seat after bytes s owes sits is; ended = hear_is n bytes s })
+    (ap (λ (o : Option Client). is_some_with (fits_heard bytes) o) who.found ∙ fits number s.settings.name owed seat who.here bytes (who.shows.going who.going) come))
+    (record { before = on_client n (heard_by bytes) s; shown = heard_all number owed n i seats seat after bytes s owes sits is; ended = hear_is n bytes s })
 
 pub reads_keep : ReadsKeep
-reads_keep old new before now n i owed seats seat after bytes call rose sits come is = keeps_more (λ l. Heard n bytes) call (λ l. rose) (λ l. heard_moves owed n i seats seat after bytes sits come is)
+reads_keep number old new before now n i owed seats seat after bytes call rose sits come is = keeps_more (λ l. Heard n bytes) call (λ l. rose) (λ l. heard_moves number owed n i seats seat after bytes sits come is)
 
 -- ---- no more comes
 
-hung_one : (name : Bytes) (owed : List Bytes) (n i : ℕ) (seats : List Seat) (seat : Seat) → Sits n i seats seat → (other : Seat) (c : Client) → slice_get seats i ≡ Some other → ShowsSeat name owed other c → ShowsSeat name owed (record seat { has_hung_up = true }) (record c { has_hung_up = true })
-hung_one name owed n i seats seat sits other c at shows =
+hung_one : (number : ℕ → ℕ) (name : Bytes) (owed : List Bytes) (n i : ℕ) (seats : List Seat) (seat : Seat) → Sits n i seats seat → (other : Seat) (c : Client) → slice_get seats i ≡ Some other → ShowsSeat number name owed other c → ShowsSeat number name owed (record seat { has_hung_up = true }) (record c { has_hung_up = true })
+hung_one number name owed n i seats seat sits other c at shows =
     let same : other ≡ seat = same_seat seat other (sym sits.there ∙ at) in
-    hang_ups name owed seat c (subst (λ (x : Seat). ShowsSeat name owed x c) same shows)
+    hang_ups number name owed seat c (subst (λ (x : Seat). ShowsSeat number name owed x c) same shows)
 
-hung_all : (owed : List Bytes) (n i : ℕ) (seats : List Seat) (seat : Seat) (s : State) → OwesRead owed n seats s → Sits n i seats seat
-    → AreShown (on_client n (λ c. record c { has_hung_up = true }) s).settings.name owed (slice_set seats i (record seat { has_hung_up = true })) (on_client n (λ c. record c { has_hung_up = true }) s).clients
+hung_all : (number : ℕ → ℕ) (owed : List Bytes) (n i : ℕ) (seats : List Seat) (seat : Seat) (s : State) → OwesRead number owed n seats s → Sits n i seats seat
+    → AreShown number (on_client n (λ c. record c { has_hung_up = true }) s).settings.name owed (slice_set seats i (record seat { has_hung_up = true })) (on_client n (λ c. record c { has_hung_up = true }) s).clients
 unfolding on_client
-hung_all owed n i seats seat s owes sits =
-    changes s.settings.name owed seats s.clients n i (record seat { has_hung_up = true }) (λ c. record c { has_hung_up = true }) owes.shown sits.at (hung_one s.settings.name owed n i seats seat sits)
+hung_all number owed n i seats seat s owes sits =
+    changes number s.settings.name owed seats s.clients n i (record seat { has_hung_up = true }) (λ c. record c { has_hung_up = true }) owes.shown sits.at (hung_one number s.settings.name owed n i seats seat sits)
 
 hang_up_by : (n : ℕ) (s : State) (o : Owed) → o ≡ ReadOf n
     → (elim (is_writing o n) as (λ b. State) [ true ↦ close_client n false s | false ↦ end_replies (on_client n (λ c. record c { has_hung_up = true }) s) ]) ≡ end_replies (on_client n (λ c. record c { has_hung_up = true }) s)
@@ -149,23 +149,23 @@ or_false false is = absurd (cc is)
 owes_it : (s : State) (n : ℕ) → s.owed ≡ ReadOf n → is_owed s n ≡ true
 owes_it s n is = ap (λ (o : Owed). is_reading o n || is_writing o n) is ∙ or_false (n == n) (number_same n)
 
-hung_moves : (owed : List Bytes) (n i : ℕ) (seats : List Seat) (seat : Seat) → Sits n i seats seat → (s : State) → OwesRead owed n seats s → Moves (WasRead owed (slice_set seats i (record seat { has_hung_up = true }))) (HungUp n) s
-hung_moves owed n i seats seat sits s owes =
-    let who : IsThere s.settings.name owed seat n s = there owed n i seats seat s owes sits in
+hung_moves : (number : ℕ → ℕ) (owed : List Bytes) (n i : ℕ) (seats : List Seat) (seat : Seat) → Sits n i seats seat → (s : State) → OwesRead number owed n seats s → Moves (WasRead number owed (slice_set seats i (record seat { has_hung_up = true }))) (HungUp n) s
+hung_moves number owed n i seats seat sits s owes =
+    let who : IsThere number s.settings.name owed seat n s = there number owed n i seats seat s owes sits in
     moves_to refl (goes_hung_up s n owes.none (owes_it s n owes.reads) (ap (λ (o : Option Client). is_some o) who.found))
     (record {
       before = on_client n (λ c. record c { has_hung_up = true }) s;
-      shown = hung_all owed n i seats seat s owes sits;
+      shown = hung_all number owed n i seats seat s owes sits;
       ended = ap paid (hang_up_is n s owes.reads);
     })
 
 pub hang_ups_keep : HangUpsKeep
-hang_ups_keep old new before now n i owed seats seat call rose sits = keeps_more (λ l. HungUp n) call (λ l. rose) (λ l. hung_moves owed n i seats seat sits)
+hang_ups_keep number old new before now n i owed seats seat call rose sits = keeps_more (λ l. HungUp n) call (λ l. rose) (λ l. hung_moves number owed n i seats seat sits)
 
 -- ---- nothing came yet
 
-none_moves : (owed : List Bytes) (n : ℕ) (seats : List Seat) (s : State) → OwesRead owed n seats s → Moves (WasOwed owed seats) (NoneYet n) s
-none_moves owed n seats s owes = moves_to refl (goes_none_yet s n owes.none owes.reads) (record { before = s; shown = owes.shown; ended = refl })
+none_moves : (number : ℕ → ℕ) (owed : List Bytes) (n : ℕ) (seats : List Seat) (s : State) → OwesRead number owed n seats s → Moves (WasOwed number owed seats) (NoneYet n) s
+none_moves number owed n seats s owes = moves_to refl (goes_none_yet s n owes.none owes.reads) (record { before = s; shown = owes.shown; ended = refl })
 
 pub nones_keep : NonesKeep
-nones_keep old new before now n owed seats call rose = keeps_more (λ l. NoneYet n) call (λ l. rose) (λ l. none_moves owed n seats)
+nones_keep number old new before now n owed seats call rose = keeps_more (λ l. NoneYet n) call (λ l. rose) (λ l. none_moves number owed n seats)

@@ -55,35 +55,35 @@ seen_said n c s = seen_next (of_body n c) s (nat_lt 0 (of_body n c)) (next_of s 
 
 -- ---- the bytes
 
-said_one : (name : Bytes) (owed : List Bytes) (n i : ℕ) (seats : List Seat) (seat : Seat) (bytes : Bytes) → Sits n i seats seat → LeavesSome seat bytes
-    → (other : Seat) (c : Client) → slice_get seats i ≡ Some other → ShowsSeat name owed other c → ShowsSeat name owed (told_by (length bytes) seat) (said_by (length bytes) c)
-said_one name owed n i seats seat bytes sits leaves other c at shows =
+said_one : (number : ℕ → ℕ) (name : Bytes) (owed : List Bytes) (n i : ℕ) (seats : List Seat) (seat : Seat) (bytes : Bytes) → Sits n i seats seat → LeavesSome seat bytes
+    → (other : Seat) (c : Client) → slice_get seats i ≡ Some other → ShowsSeat number name owed other c → ShowsSeat number name owed (told_by (length bytes) seat) (said_by (length bytes) c)
+said_one number name owed n i seats seat bytes sits leaves other c at shows =
     let same : other ≡ seat = same_seat seat other (sym sits.there ∙ at) in
-    let here : ShowsSeat name owed seat c = subst (λ (x : Seat). ShowsSeat name owed x c) same shows in
-    sayings (length bytes) name owed seat c here (sym here.closing ∙ sits.going) leaves.few leaves.more
+    let here : ShowsSeat number name owed seat c = subst (λ (x : Seat). ShowsSeat number name owed x c) same shows in
+    sayings number (length bytes) name owed seat c here (sym here.closing ∙ sits.going) leaves.few leaves.more
 
-shown_on : (name : Bytes) (owed : List Bytes) (n i : ℕ) (seats : List Seat) (seat : Seat) (bytes : Bytes) (s : State) → Sits n i seats seat → LeavesSome seat bytes → AreShown s.settings.name owed seats s.clients
-    → AreShown (on_client n (said_by (length bytes)) s).settings.name owed (slice_set seats i (told_by (length bytes) seat)) (on_client n (said_by (length bytes)) s).clients
+shown_on : (number : ℕ → ℕ) (name : Bytes) (owed : List Bytes) (n i : ℕ) (seats : List Seat) (seat : Seat) (bytes : Bytes) (s : State) → Sits n i seats seat → LeavesSome seat bytes → AreShown number s.settings.name owed seats s.clients
+    → AreShown number (on_client n (said_by (length bytes)) s).settings.name owed (slice_set seats i (told_by (length bytes) seat)) (on_client n (said_by (length bytes)) s).clients
 unfolding on_client
-shown_on name owed n i seats seat bytes s sits leaves shown =
-    changes s.settings.name owed seats s.clients n i (told_by (length bytes) seat) (said_by (length bytes)) shown sits.at (said_one s.settings.name owed n i seats seat bytes sits leaves)
+shown_on number name owed n i seats seat bytes s sits leaves shown =
+    changes number s.settings.name owed seats s.clients n i (told_by (length bytes) seat) (said_by (length bytes)) shown sits.at (said_one number s.settings.name owed n i seats seat bytes sits leaves)
 
 pub said_is : (n k : ℕ) (x : Client) (s : State) → client s n ≡ Some x → paid (said n k s) ≡ paid (end_replies (on_client n (said_by k) (use_said k x s)))
 unfolding said
 said_is n k x s found = ap (λ (o : Option Client). paid (elim o as (λ y. State) [ None ↦ s | Some y ↦ end_replies (on_client n (said_by k) (use_said k y s)) ])) found
 
-said_moves : (owed : List Bytes) (n i offered : ℕ) (seats : List Seat) (seat : Seat) (bytes : Bytes) → Sits n i seats seat → LeavesSome seat bytes → (s : State) → OwesWrite owed n offered bytes seats s
-    → Moves (WasRead owed (slice_set seats i (told_by (length bytes) seat))) (Said n offered bytes) s
-said_moves owed n i offered seats seat bytes sits leaves s owes =
-    let found : IsFound s.settings.name owed seat n s.clients = places s.settings.name owed seats s.clients n i seat owes.shown sits.at sits.there in
+said_moves : (number : ℕ → ℕ) (owed : List Bytes) (n i offered : ℕ) (seats : List Seat) (seat : Seat) (bytes : Bytes) → Sits n i seats seat → LeavesSome seat bytes → (s : State) → OwesWrite number owed n offered bytes seats s
+    → Moves (WasRead number owed (slice_set seats i (told_by (length bytes) seat))) (Said n offered bytes) s
+said_moves number owed n i offered seats seat bytes sits leaves s owes =
+    let found : IsFound number s.settings.name owed seat n s.clients = places number s.settings.name owed seats s.clients n i seat owes.shown sits.at sits.there in
     let used : State = use_said (length bytes) found.client s in
     moves_to refl (goes_said s n offered bytes found.client owes.none owes.writes found.there (owes.first found.client found.there))
     (record {
       before = on_client n (said_by (length bytes)) used;
-      shown = shown_on s.settings.name owed n i seats seat bytes used sits leaves
-          (subst (λ (p : Bytes × List Client). AreShown p.0 owed seats p.1) (sym (seen_said (length bytes) found.client s)) owes.shown);
+      shown = shown_on number s.settings.name owed n i seats seat bytes used sits leaves
+          (subst (λ (p : Bytes × List Client). AreShown number p.0 owed seats p.1) (sym (seen_said (length bytes) found.client s)) owes.shown);
       ended = said_is n (length bytes) found.client s found.there;
     })
 
 pub writes_keep : WritesKeep
-writes_keep old new before now n i offered owed seats seat bytes call rose sits leaves = keeps_more (λ l. Said n offered bytes) call (λ l. rose) (λ l. said_moves owed n i offered seats seat bytes sits leaves)
+writes_keep number old new before now n i offered owed seats seat bytes call rose sits leaves = keeps_more (λ l. Said n offered bytes) call (λ l. rose) (λ l. said_moves number owed n i offered seats seat bytes sits leaves)

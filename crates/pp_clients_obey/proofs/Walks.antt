@@ -81,19 +81,19 @@ and_false : (b : Bool) → (b && false) ≡ false
 and_false true = refl
 and_false false = refl
 
-pub not_over : (name : Bytes) (owed : List Bytes) (seat : Seat) (c : Client) → ShowsSeat name owed seat c → (seat.is_closing ≡ false → is_said seat.client.reply ≡ false) → (b : Bool) → c.is_closing ≡ b → (is_over c && not c.is_closing) ≡ false
-not_over name owed seat c shows said true is = ap (λ (b : Bool). is_over c && not b) is ∙ and_false (is_over c)
-not_over name owed seat c shows said false isnt = ap (λ (b : Bool). b && not c.is_closing) (sym (ends_same name owed seat c (shows.going isnt)) ∙ said (shows.closing ∙ isnt))
+pub not_over : (number : ℕ → ℕ) (name : Bytes) (owed : List Bytes) (seat : Seat) (c : Client) → ShowsSeat number name owed seat c → (seat.is_closing ≡ false → is_said seat.client.reply ≡ false) → (b : Bool) → c.is_closing ≡ b → (is_over c && not c.is_closing) ≡ false
+not_over number name owed seat c shows said true is = ap (λ (b : Bool). is_over c && not b) is ∙ and_false (is_over c)
+not_over number name owed seat c shows said false isnt = ap (λ (b : Bool). b && not c.is_closing) (sym (ends_same number name owed seat c (shows.going isnt)) ∙ said (shows.closing ∙ isnt))
 
-pub rests : (name : Bytes) (owed : List Bytes) (seat : Seat) (c : Client) → ShowsSeat name owed seat c → IsSettled seat → Rests c
-rests name owed seat c shows settled = record { said = not_over name owed seat c shows settled.said c.is_closing refl; finished = sym (finished name owed seat c shows) ∙ settled.finished }
+pub rests : (number : ℕ → ℕ) (name : Bytes) (owed : List Bytes) (seat : Seat) (c : Client) → ShowsSeat number name owed seat c → IsSettled seat → Rests c
+rests number name owed seat c shows settled = record { said = not_over number name owed seat c shows settled.said c.is_closing refl; finished = sym (finished number name owed seat c shows) ∙ settled.finished }
 
-pub all_rest : (name : Bytes) (owed : List Bytes) (seats : List Seat) (cs : List Client) (n : ℕ) → AreShown name owed seats cs → AreSettledBut n seats → AllRestBut n cs
-all_rest name owed [] [] n shown settled = tt
-all_rest name owed [] (c ∷ cs) n shown settled = absurd shown
-all_rest name owed (seat ∷ seats) [] n shown settled = absurd shown
-all_rest name owed (seat ∷ seats) (c ∷ cs) n shown settled =
-    (λ other. rests name owed seat c shown.0 (settled.0 (ap (λ (k : ℕ). k == n) shown.0.number ∙ other)), all_rest name owed seats cs n shown.1 settled.1)
+pub all_rest : (number : ℕ → ℕ) (name : Bytes) (owed : List Bytes) (seats : List Seat) (cs : List Client) (n : ℕ) → AreShown number name owed seats cs → AreSettledBut n seats → AllRestBut n cs
+all_rest number name owed [] [] n shown settled = tt
+all_rest number name owed [] (c ∷ cs) n shown settled = absurd shown
+all_rest number name owed (seat ∷ seats) [] n shown settled = absurd shown
+all_rest number name owed (seat ∷ seats) (c ∷ cs) n shown settled =
+    (λ other. rests number name owed seat c shown.0 (settled.0 (ap (λ (k : ℕ). k == n) shown.0.number ∙ other)), all_rest number name owed seats cs n shown.1 settled.1)
 
 true_not_false : true ≡ false → ⊥
 true_not_false e = absurd (cc e)

@@ -21,51 +21,51 @@ pub record IsClosed (old new : Seat) : Type 0 where
 -- ---- a client whose writing fails
 
 -- a write to that client is owed, and the seats show the clients
-pub record MayWrite (owed : List Bytes) (n : ℕ) (seats : List Seat) (s : State) : Type 0 where
+pub record MayWrite (number : ℕ → ℕ) (owed : List Bytes) (n : ℕ) (seats : List Seat) (s : State) : Type 0 where
   pub none : s.has_made_room ≡ false
   pub writes : s.owed ≡ WriteTo n
-  pub shown : AreShown s.settings.name owed seats s.clients
+  pub shown : AreShown number s.settings.name owed seats s.clients
 
 abbrev pub LossesKeep : Type 0
-LossesKeep = (old new : Option Log) (before now n i : ℕ) (owed : List Bytes) (seats : List Seat) (seat after : Seat) → Appends old new (λ l. HungUp n) → before ≤ now → IsAt n i seats → slice_get seats i ≡ Some seat → IsClosed seat after
-    → Keeps old new before now (MayWrite owed n seats) (WasOwed owed (slice_set seats i after))
+LossesKeep = (number : ℕ → ℕ) (old new : Option Log) (before now n i : ℕ) (owed : List Bytes) (seats : List Seat) (seat after : Seat) → Appends old new (λ l. HungUp n) → before ≤ now → IsAt n i seats → slice_get seats i ≡ Some seat → IsClosed seat after
+    → Keeps old new before now (MayWrite number owed n seats) (WasOwed number owed (slice_set seats i after))
 
 -- ---- a cut
 
 -- decisions are taken, this cut is the first that is due, and the seats show the clients
-pub record IsDueToCut (owed : List Bytes) (n : ℕ) (cause : Cause) (seats : List Seat) (s : State) : Type 0 where
+pub record IsDueToCut (number : ℕ → ℕ) (owed : List Bytes) (n : ℕ) (cause : Cause) (seats : List Seat) (s : State) : Type 0 where
   pub none : s.has_made_room ≡ false
   pub taking : decides s ≡ true
   pub due : first_due s ≡ Some (CutOff n cause)
-  pub shown : AreShown s.settings.name owed seats s.clients
+  pub shown : AreShown number s.settings.name owed seats s.clients
 
 -- decisions are taken, and the seats show the clients
-pub record IsDeciding (owed : List Bytes) (seats : List Seat) (s : State) : Type 0 where
+pub record IsDeciding (number : ℕ → ℕ) (owed : List Bytes) (seats : List Seat) (s : State) : Type 0 where
   pub none : s.has_made_room ≡ false
   pub at : s.phase ≡ Deciding
-  pub shown : AreShown s.settings.name owed seats s.clients
+  pub shown : AreShown number s.settings.name owed seats s.clients
 
 -- for whichever cause is due
 abbrev pub CutsKeep : Type 0
-CutsKeep = (old new : Option Log) (before now n i : ℕ) (cause : Cause) (owed : List Bytes) (seats : List Seat) (seat after : Seat) → Appends old new (λ l. Noted (Cut n cause)) → before ≤ now → IsAt n i seats → slice_get seats i ≡ Some seat → IsClosed seat after
-    → Keeps old new before now (IsDueToCut owed n cause seats) (IsDeciding owed (slice_set seats i after))
+CutsKeep = (number : ℕ → ℕ) (old new : Option Log) (before now n i : ℕ) (cause : Cause) (owed : List Bytes) (seats : List Seat) (seat after : Seat) → Appends old new (λ l. Noted (Cut n cause)) → before ≤ now → IsAt n i seats → slice_get seats i ≡ Some seat → IsClosed seat after
+    → Keeps old new before now (IsDueToCut number owed n cause seats) (IsDeciding number owed (slice_set seats i after))
 
 -- ---- its connection is closed
 
 -- connections are closed, and the seats show the clients
-pub record IsClosingDown (owed : List Bytes) (seats : List Seat) (s : State) : Type 0 where
+pub record IsClosingDown (number : ℕ → ℕ) (owed : List Bytes) (seats : List Seat) (s : State) : Type 0 where
   pub none : s.has_made_room ≡ false
   pub at : s.phase ≡ Connecting
-  pub shown : AreShown s.settings.name owed seats s.clients
+  pub shown : AreShown number s.settings.name owed seats s.clients
 
 -- its cause has come, or all are closed
-pub record IsToShut (owed : List Bytes) (seat : Seat) (seats : List Seat) (s : State) : Type 0 where
-  pub down : IsClosingDown owed seats s
+pub record IsToShut (number : ℕ → ℕ) (owed : List Bytes) (seat : Seat) (seats : List Seat) (s : State) : Type 0 where
+  pub down : IsClosingDown number owed seats s
   pub over : (seat.is_closing || s.is_stopped) ≡ true
 
 abbrev pub without_client : ℕ → List Seat → List Seat
 without_client n seats = filter (λ seat. not (seat.client.id == n)) seats
 
 abbrev pub ShutsKeep : Type 0
-ShutsKeep = (old new : Option Log) (before now n i : ℕ) (owed : List Bytes) (seats : List Seat) (seat : Seat) → Appends old new (λ l. Shut n) → before ≤ now → IsAt n i seats → slice_get seats i ≡ Some seat
-    → Keeps old new before now (IsToShut owed seat seats) (IsClosingDown owed (without_client n seats))
+ShutsKeep = (number : ℕ → ℕ) (old new : Option Log) (before now n i : ℕ) (owed : List Bytes) (seats : List Seat) (seat : Seat) → Appends old new (λ l. Shut n) → before ≤ now → IsAt n i seats → slice_get seats i ≡ Some seat
+    → Keeps old new before now (IsToShut number owed seat seats) (IsClosingDown number owed (without_client n seats))

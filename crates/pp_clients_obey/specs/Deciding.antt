@@ -28,24 +28,23 @@ use Rattle.pp_seats.specs.Heads.{asked_in}
 use Rattle.pp_seats.specs.Seats.{is_undecided_in}
 use Rattle.pp_seats_law.specs.Clients.{AreShown}
 use Rattle.pp_seats_law.specs.Decided.{expects_of}
-use Rattle.pp_seats_law.specs.Replies.{number_of}
 use Rattle.pp_clients_obey.specs.Hearing.{Sits}
 
 -- decisions are taken, this one may be, and the seats show the clients; its interim answer is expected as the law has it, which is so
 -- unless memory was refused for a target that has no key
-pub record IsToTake (owed : List Bytes) (n index : ℕ) (d : Decision) (seat : Seat) (seats : List Seat) (s : State) : Type 0 where
+pub record IsToTake (number : ℕ → ℕ) (owed : List Bytes) (n index : ℕ) (d : Decision) (seat : Seat) (seats : List Seat) (s : State) : Type 0 where
   pub behind : s.has_made_room ≡ true → is_for_memory d ≡ false
   pub taking : decides s ≡ true
   pub may : may_take s n index d ≡ true
-  pub shown : AreShown s.settings.name owed seats s.clients
+  pub shown : AreShown number s.settings.name owed seats s.clients
   pub expects : (c : Client) → client s n ≡ Some c → expects_in (asked_in seat.front) ≡ expects_of c.front
 
 -- it was taken, and the seats show the clients as they are before attempts count anew
-pub record WasTaken (owed : List Bytes) (seats : List Seat) (s : State) : Type 0 where
+pub record WasTaken (number : ℕ → ℕ) (owed : List Bytes) (seats : List Seat) (s : State) : Type 0 where
   pub none : s.has_made_room ≡ false
   pub at : s.phase ≡ Deciding
   pub before : State
-  pub shown : AreShown before.settings.name owed seats before.clients
+  pub shown : AreShown number before.settings.name owed seats before.clients
   pub ended : s ≡ regained before
 
 -- no reply has begun, and what is no head was not decided before
@@ -56,9 +55,9 @@ pub record IsOpen (seat : Seat) : Type 0 where
 -- ---- a page
 
 abbrev pub PagesKeep : Type 0
-PagesKeep = (old new : Option Log) (before now n i index status : ℕ) (account : Account) (owed : List Bytes) (seats : List Seat) (seat : Seat) → Appends old new (λ l. Noted (Taken n index (Refuse status))) → before ≤ now → Sits n i seats seat → IsOpen seat
+PagesKeep = (number : ℕ → ℕ) (old new : Option Log) (before now n i index status : ℕ) (account : Account) (owed : List Bytes) (seats : List Seat) (seat : Seat) → Appends old new (λ l. Noted (Taken n index (Refuse status))) → before ≤ now → Sits n i seats seat → IsOpen seat
     → has_page status ≡ true → length (page_for status seat.front) ≤ 20480
-    → Keeps old new before now (IsToTake owed n index (Refuse status) seat seats) (WasTaken owed (slice_set seats i (record (paged status (with_interim seat)) { account = account })))
+    → Keeps old new before now (IsToTake number owed n index (Refuse status) seat seats) (WasTaken number owed (slice_set seats i (record (paged status (with_interim seat)) { account = account })))
 
 -- ---- an ask
 
@@ -78,13 +77,13 @@ is_ask Pass = true
 abbrev pub has_ask : State → Client → Decision → Bool
 has_ask s c d = is_some_with (λ r. elim r.key [ Ok key ↦ is_some (kind_of r.head (row_for s r.head (text_of key)) d) | Err fault ↦ false ]) (parsed_in c.front)
 
-pub record IsToAsk (owed : List Bytes) (n index : ℕ) (d : Decision) (seat : Seat) (seats : List Seat) (s : State) : Type 0 where
-  pub take : IsToTake owed n index d seat seats s
+pub record IsToAsk (number : ℕ → ℕ) (owed : List Bytes) (n index : ℕ) (d : Decision) (seat : Seat) (seats : List Seat) (s : State) : Type 0 where
+  pub take : IsToTake number owed n index d seat seats s
   pub asks : (c : Client) → client s n ≡ Some c → has_ask (enter_row c d (in_phase Deciding s)) c d ≡ true
 
 abbrev pub AsksKeep : Type 0
-AsksKeep = (old new : Option Log) (before now n i index : ℕ) (d : Decision) (owed : List Bytes) (seats : List Seat) (seat : Seat) → Appends old new (λ l. Noted (Taken n index d)) → before ≤ now → Sits n i seats seat → IsOpen seat
-    → is_ask d ≡ true → is_refused_in seat.brought ≡ false → Keeps old new before now (IsToAsk owed n index d seat seats) (WasTaken owed (slice_set seats i (asking (is_pass d) (with_interim seat))))
+AsksKeep = (number : ℕ → ℕ) (old new : Option Log) (before now n i index : ℕ) (d : Decision) (owed : List Bytes) (seats : List Seat) (seat : Seat) → Appends old new (λ l. Noted (Taken n index d)) → before ≤ now → Sits n i seats seat → IsOpen seat
+    → is_ask d ≡ true → is_refused_in seat.brought ≡ false → Keeps old new before now (IsToAsk number owed n index d seat seats) (WasTaken number owed (slice_set seats i (asking (is_pass d) (with_interim seat))))
 
 -- ---- a reply by the row, or by the response that is passed
 
@@ -104,14 +103,14 @@ is_by_row Pass = false
 abbrev pub row_of_key : State → Client → Option ℕ
 row_of_key s c = elim (key_in c.front) [ None ↦ None | Some key ↦ option_map (λ x. x.id) (row s (text_of key)) ]
 
-pub record IsToFollow (owed : List Bytes) (n index : ℕ) (d : Decision) (id : ObjectId) (seat : Seat) (seats : List Seat) (s : State) : Type 0 where
-  pub take : IsToTake owed n index d seat seats s
-  pub known : (c : Client) → client s n ≡ Some c → row_of_key (enter_row c d (in_phase Deciding s)) c ≡ Some (number_of id)
+pub record IsToFollow (number : ℕ → ℕ) (owed : List Bytes) (n index : ℕ) (d : Decision) (id : ObjectId) (seat : Seat) (seats : List Seat) (s : State) : Type 0 where
+  pub take : IsToTake number owed n index d seat seats s
+  pub known : (c : Client) → client s n ≡ Some c → row_of_key (enter_row c d (in_phase Deciding s)) c ≡ Some (number id.life)
 
 abbrev pub FollowsKeep : Type 0
-FollowsKeep = (old new : Option Log) (before now n i index : ℕ) (d : Decision) (id : ObjectId) (owed : List Bytes) (seats : List Seat) (seat : Seat) → Appends old new (λ l. Noted (Taken n index d)) → before ≤ now → Sits n i seats seat → IsOpen seat
-    → is_by_row d ≡ true → is_refused_in seat.brought ≡ false → Keeps old new before now (IsToFollow owed n index d id seat seats) (WasTaken owed (slice_set seats i (answering d (Some id) (span_of d) (with_interim seat))))
+FollowsKeep = (number : ℕ → ℕ) (old new : Option Log) (before now n i index : ℕ) (d : Decision) (id : ObjectId) (owed : List Bytes) (seats : List Seat) (seat : Seat) → Appends old new (λ l. Noted (Taken n index d)) → before ≤ now → Sits n i seats seat → IsOpen seat
+    → is_by_row d ≡ true → is_refused_in seat.brought ≡ false → Keeps old new before now (IsToFollow number owed n index d id seat seats) (WasTaken number owed (slice_set seats i (answering d (Some id) (span_of d) (with_interim seat))))
 
 abbrev pub RelaysKeep : Type 0
-RelaysKeep = (old new : Option Log) (before now n i index : ℕ) (owed : List Bytes) (seats : List Seat) (seat : Seat) → Appends old new (λ l. Noted (Taken n index Relay)) → before ≤ now → Sits n i seats seat → IsOpen seat
-    → is_refused_in seat.brought ≡ false → Keeps old new before now (IsToTake owed n index Relay seat seats) (WasTaken owed (slice_set seats i (answering Relay None (0, 0) (with_interim seat))))
+RelaysKeep = (number : ℕ → ℕ) (old new : Option Log) (before now n i index : ℕ) (owed : List Bytes) (seats : List Seat) (seat : Seat) → Appends old new (λ l. Noted (Taken n index Relay)) → before ≤ now → Sits n i seats seat → IsOpen seat
+    → is_refused_in seat.brought ≡ false → Keeps old new before now (IsToTake number owed n index Relay seat seats) (WasTaken number owed (slice_set seats i (answering Relay None (0, 0) (with_interim seat))))

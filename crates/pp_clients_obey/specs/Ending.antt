@@ -36,8 +36,8 @@ IsLeftAs true seat new = IsClosed seat new
 
 -- behind a read, or bytes that were said, as long as its reply is not over
 abbrev pub RestsKeep : Type 0
-RestsKeep = (log : Option Log) (m n i : ℕ) (owed : List Bytes) (seats : List Seat) (seat new : Seat) → IsAt n i seats → slice_get seats i ≡ Some seat → AreSettledBut n seats → (seat.is_closing ≡ false → is_said seat.client.reply ≡ false)
-    → IsLeftAs (finished_in seat) seat new → Keeps log log m m (WasRead owed seats) (WasOwed owed (slice_set seats i new))
+RestsKeep = (number : ℕ → ℕ) (log : Option Log) (m n i : ℕ) (owed : List Bytes) (seats : List Seat) (seat new : Seat) → IsAt n i seats → slice_get seats i ≡ Some seat → AreSettledBut n seats → (seat.is_closing ≡ false → is_said seat.client.reply ≡ false)
+    → IsLeftAs (finished_in seat) seat new → Keeps log log m m (WasRead number owed seats) (WasOwed number owed (slice_set seats i new))
 
 -- ---- the last bytes
 
@@ -57,11 +57,11 @@ pub record GoesOn (seat : Seat) : Type 0 where
 
 -- the next request stands, or nothing is left
 abbrev pub EndsKeep : Type 0
-EndsKeep = (old new : Option Log) (before now n i offered : ℕ) (owed : List Bytes) (seats : List Seat) (seat next after : Seat) (bytes : Bytes) → Appends old new (λ l. Said n offered bytes) → before ≤ now → Sits n i seats seat
+EndsKeep = (number : ℕ → ℕ) (old new : Option Log) (before now n i offered : ℕ) (owed : List Bytes) (seats : List Seat) (seat next after : Seat) (bytes : Bytes) → Appends old new (λ l. Said n offered bytes) → before ≤ now → Sits n i seats seat
     → AreSettledBut n seats → LeavesNone seat bytes → GoesOn seat → IsRead (at_next_request (told_by (length bytes) seat)) next → IsLeftAs (finished_in next) next after
-    → Keeps old new before now (OwesWrite owed n offered bytes seats) (WasOwed owed (slice_set seats i after))
+    → Keeps old new before now (OwesWrite number owed n offered bytes seats) (WasOwed number owed (slice_set seats i after))
 
 -- behind the last reply the client is closed
 abbrev pub LastsKeep : Type 0
-LastsKeep = (old new : Option Log) (before now n i offered : ℕ) (owed : List Bytes) (seats : List Seat) (seat after : Seat) (bytes : Bytes) → Appends old new (λ l. Said n offered bytes) → before ≤ now → Sits n i seats seat
-    → AreSettledBut n seats → LeavesNone seat bytes → seat.closes ≡ true → IsClosed seat after → Keeps old new before now (OwesWrite owed n offered bytes seats) (WasOwed owed (slice_set seats i after))
+LastsKeep = (number : ℕ → ℕ) (old new : Option Log) (before now n i offered : ℕ) (owed : List Bytes) (seats : List Seat) (seat after : Seat) (bytes : Bytes) → Appends old new (λ l. Said n offered bytes) → before ≤ now → Sits n i seats seat
+    → AreSettledBut n seats → LeavesNone seat bytes → seat.closes ≡ true → IsClosed seat after → Keeps old new before now (OwesWrite number owed n offered bytes seats) (WasOwed number owed (slice_set seats i after))

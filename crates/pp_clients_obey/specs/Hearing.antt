@@ -14,21 +14,21 @@ use Rattle.pp_seats_law.specs.Clients.{AreShown, IsAt}
 use Rattle.pp_seats_law.specs.Reads.{heard_on}
 
 -- a read of that client is owed, and the seats show the clients
-pub record OwesRead (owed : List Bytes) (n : ℕ) (seats : List Seat) (s : State) : Type 0 where
+pub record OwesRead (number : ℕ → ℕ) (owed : List Bytes) (n : ℕ) (seats : List Seat) (s : State) : Type 0 where
   pub none : s.has_made_room ≡ false
   pub reads : s.owed ≡ ReadOf n
-  pub shown : AreShown s.settings.name owed seats s.clients
+  pub shown : AreShown number s.settings.name owed seats s.clients
 
 -- it was made, and the seats show the clients as they are before the replies end that were said whole
-pub record WasRead (owed : List Bytes) (seats : List Seat) (s : State) : Type 0 where
+pub record WasRead (number : ℕ → ℕ) (owed : List Bytes) (seats : List Seat) (s : State) : Type 0 where
   pub before : State
-  pub shown : AreShown before.settings.name owed seats before.clients
+  pub shown : AreShown number before.settings.name owed seats before.clients
   pub ended : s ≡ paid (end_replies before)
 
 -- nothing more is owed, and the seats show the clients as they are before attempts count anew
-pub record WasOwed (owed : List Bytes) (seats : List Seat) (s : State) : Type 0 where
+pub record WasOwed (number : ℕ → ℕ) (owed : List Bytes) (seats : List Seat) (s : State) : Type 0 where
   pub before : State
-  pub shown : AreShown before.settings.name owed seats before.clients
+  pub shown : AreShown number before.settings.name owed seats before.clients
   pub ended : s ≡ paid before
 
 -- the seat of that client, at its place, which is not closing
@@ -43,12 +43,12 @@ pub record HasCome (seat : Seat) (bytes : Bytes) : Type 0 where
   pub within : length bytes ≤ room_of seat.client.heard
 
 abbrev pub ReadsKeep : Type 0
-ReadsKeep = (old new : Option Log) (before now n i : ℕ) (owed : List Bytes) (seats : List Seat) (seat after : Seat) (bytes : Bytes) → Appends old new (λ l. Heard n bytes) → before ≤ now → Sits n i seats seat → HasCome seat bytes
-    → IsRead (heard_on bytes seat) after → Keeps old new before now (OwesRead owed n seats) (WasRead owed (slice_set seats i after))
+ReadsKeep = (number : ℕ → ℕ) (old new : Option Log) (before now n i : ℕ) (owed : List Bytes) (seats : List Seat) (seat after : Seat) (bytes : Bytes) → Appends old new (λ l. Heard n bytes) → before ≤ now → Sits n i seats seat → HasCome seat bytes
+    → IsRead (heard_on bytes seat) after → Keeps old new before now (OwesRead number owed n seats) (WasRead number owed (slice_set seats i after))
 
 abbrev pub HangUpsKeep : Type 0
-HangUpsKeep = (old new : Option Log) (before now n i : ℕ) (owed : List Bytes) (seats : List Seat) (seat : Seat) → Appends old new (λ l. HungUp n) → before ≤ now → Sits n i seats seat
-    → Keeps old new before now (OwesRead owed n seats) (WasRead owed (slice_set seats i (record seat { has_hung_up = true })))
+HangUpsKeep = (number : ℕ → ℕ) (old new : Option Log) (before now n i : ℕ) (owed : List Bytes) (seats : List Seat) (seat : Seat) → Appends old new (λ l. HungUp n) → before ≤ now → Sits n i seats seat
+    → Keeps old new before now (OwesRead number owed n seats) (WasRead number owed (slice_set seats i (record seat { has_hung_up = true })))
 
 abbrev pub NonesKeep : Type 0
-NonesKeep = (old new : Option Log) (before now n : ℕ) (owed : List Bytes) (seats : List Seat) → Appends old new (λ l. NoneYet n) → before ≤ now → Keeps old new before now (OwesRead owed n seats) (WasOwed owed seats)
+NonesKeep = (number : ℕ → ℕ) (old new : Option Log) (before now n : ℕ) (owed : List Bytes) (seats : List Seat) → Appends old new (λ l. NoneYet n) → before ≤ now → Keeps old new before now (OwesRead number owed n seats) (WasOwed number owed seats)

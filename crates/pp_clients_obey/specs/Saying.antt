@@ -16,10 +16,10 @@ use Rattle.pp_clients_obey.specs.Hearing.{Sits, WasRead}
 
 -- a write to that client is owed, the seats show the clients, and of what is there to be said these are the first, of so many that
 -- were offered
-pub record OwesWrite (owed : List Bytes) (n offered : ℕ) (bytes : Bytes) (seats : List Seat) (s : State) : Type 0 where
+pub record OwesWrite (number : ℕ → ℕ) (owed : List Bytes) (n offered : ℕ) (bytes : Bytes) (seats : List Seat) (s : State) : Type 0 where
   pub none : s.has_made_room ≡ false
   pub writes : s.owed ≡ WriteTo n
-  pub shown : AreShown s.settings.name owed seats s.clients
+  pub shown : AreShown number s.settings.name owed seats s.clients
   pub first : (c : Client) → client s n ≡ Some c → is_said_of offered bytes (offer s c) ≡ true
 
 -- some of what stands next, and not the last of the reply
@@ -28,5 +28,5 @@ pub record LeavesSome (seat : Seat) (bytes : Bytes) : Type 0 where
   pub more : is_said (said (length bytes) seat.client.reply) ≡ false
 
 abbrev pub WritesKeep : Type 0
-WritesKeep = (old new : Option Log) (before now n i offered : ℕ) (owed : List Bytes) (seats : List Seat) (seat : Seat) (bytes : Bytes) → Appends old new (λ l. Said n offered bytes) → before ≤ now → Sits n i seats seat → LeavesSome seat bytes
-    → Keeps old new before now (OwesWrite owed n offered bytes seats) (WasRead owed (slice_set seats i (told_by (length bytes) seat)))
+WritesKeep = (number : ℕ → ℕ) (old new : Option Log) (before now n i offered : ℕ) (owed : List Bytes) (seats : List Seat) (seat : Seat) (bytes : Bytes) → Appends old new (λ l. Said n offered bytes) → before ≤ now → Sits n i seats seat → LeavesSome seat bytes
+    → Keeps old new before now (OwesWrite number owed n offered bytes seats) (WasRead number owed (slice_set seats i (told_by (length bytes) seat)))

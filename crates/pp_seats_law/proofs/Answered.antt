@@ -67,12 +67,12 @@ brought_anew (IsRequest r) = tt
 counted : (n m : ℕ) → n ≡ m → n + 1 ≤ 2 ^ 64 - 1 → min (n + 1) (2 ^ 64 - 1) ≡ m + 1
 counted n m same few = omega (arith, same, few)
 
-heard_for : (name : Bytes) (owed : List Bytes) (seat : Seat) (c : Client) (r : Parsed) → ShowsOpen name owed seat c → c.front ≡ IsRequest r → IsHeardAs seat.client.heard (IsRequest r) c.heard c.body_left c.skip
-heard_for name owed seat c r shows same = subst (λ (f : Front). IsHeardAs seat.client.heard f c.heard c.body_left c.skip) same (record { heard = shows.heard; body = shows.body; over = shows.over })
+heard_for : (number : ℕ → ℕ) (name : Bytes) (owed : List Bytes) (seat : Seat) (c : Client) (r : Parsed) → ShowsOpen number name owed seat c → c.front ≡ IsRequest r → IsHeardAs seat.client.heard (IsRequest r) c.heard c.body_left c.skip
+heard_for number name owed seat c r shows same = subst (λ (f : Front). IsHeardAs seat.client.heard f c.heard c.body_left c.skip) same (record { heard = shows.heard; body = shows.body; over = shows.over })
 
-next_shows : (name : Bytes) (owed : List Bytes) (seat : Seat) (c : Client) (nf : SeatFront) → ShowsOpen name owed seat c → seat.index + 1 ≤ 2 ^ 64 - 1 → IsFronted (answered seat.client.heard) (drop c.body_left c.heard) (c.skip + (c.body_left - length c.heard))
-    → ShowsFront nf (front_of (drop c.body_left c.heard)) → ShowsOpen name owed (record (at_next_request (answered_on seat)) { front = nf; body_left = body_len_in (asked_in nf) }) (next_request c)
-next_shows name owed seat c nf shows few there front = record {
+next_shows : (number : ℕ → ℕ) (name : Bytes) (owed : List Bytes) (seat : Seat) (c : Client) (nf : SeatFront) → ShowsOpen number name owed seat c → seat.index + 1 ≤ 2 ^ 64 - 1 → IsFronted (answered seat.client.heard) (drop c.body_left c.heard) (c.skip + (c.body_left - length c.heard))
+    → ShowsFront nf (front_of (drop c.body_left c.heard)) → ShowsOpen number name owed (record (at_next_request (answered_on seat)) { front = nf; body_left = body_len_in (asked_in nf) }) (next_request c)
+next_shows number name owed seat c nf shows few there front = record {
   hung_up = shows.hung_up;
   mark = shows.mark;
   heard = there.stands.heard;
@@ -93,7 +93,7 @@ next_shows name owed seat c nf shows few there front = record {
 }
 
 pub next_requests : NextRequestsAreTheLaws
-next_requests name owed seat new c r shows is ok few read =
-    let there : IsFronted (answered seat.client.heard) (drop c.body_left c.heard) (c.skip + (c.body_left - length c.heard)) = answered_as seat.client.heard r c.heard c.body_left c.skip (heard_for name owed seat c r shows is) ok in
-    subst (λ (s : Seat). ShowsOpen name owed s (next_request c)) (sym read.1)
-    (next_shows name owed seat c new.front shows few there (front_seen new.front (answered seat.client.heard) (front_of (drop c.body_left c.heard)) read.0 there.exact))
+next_requests number name owed seat new c r shows is ok few read =
+    let there : IsFronted (answered seat.client.heard) (drop c.body_left c.heard) (c.skip + (c.body_left - length c.heard)) = answered_as seat.client.heard r c.heard c.body_left c.skip (heard_for number name owed seat c r shows is) ok in
+    subst (λ (s : Seat). ShowsOpen number name owed s (next_request c)) (sym read.1)
+    (next_shows number name owed seat c new.front shows few there (front_seen new.front (answered seat.client.heard) (front_of (drop c.body_left c.heard)) read.0 there.exact))

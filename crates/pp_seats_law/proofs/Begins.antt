@@ -1,5 +1,5 @@
 -- A seat begins as its client does.
-use Rattle.std.proofs.Common.{◌≡◌, refl, sym, ap, ◌∙◌, true, false, [], ◌++◌}
+use Rattle.std.proofs.Common.{◌≡◌, refl, sym, ap, ◌∙◌, ℕ, true, false, [], ◌++◌}
 use Rattle.pp_client.specs.Replies.{Reply as Said}
 use Rattle.pp_client.specs.Requests.{Front as Heading, Nothing, Begun as More, Asked as IsAsked, Refused, current_of, is_answerable}
 use Rattle.pp_client.specs.declared.reply.Begin.TheVariants.{Page, Instance as OfInstance, Passed as IsPassed}
@@ -23,7 +23,7 @@ unfolding front_of pp_head_on_literals
 nothing_heard = refl
 
 pub new_seats : NewSeatsShow
-new_seats name n now = record {
+new_seats number name n now = record {
   number = refl;
   closing = refl;
   going = λ going. record {
@@ -64,12 +64,12 @@ due_by (Begun Page) text a r says same isnt = absurd (not_begun a r says.0.begun
 due_by (Begun IsPassed) text a r says same isnt = absurd (not_begun a r says.0.begun same isnt)
 due_by (Begun (OfInstance id next to)) text a r says same isnt = absurd (not_begun a r says.0.begun same isnt)
 
-pub reply_due : (said : Said) (stage : SeatStage) (other : Stage) → ShowsStage said stage other → is_some_with (λ r. r.has_begun) (reply_in other) ≡ false → said.stage ≡ Due
-reply_due said IsUndecided Undecided shows isnt = shows.0
-reply_due said IsWaiting Waiting shows isnt = shows
-reply_due said IsPassing Passing shows isnt = shows
-reply_due said (IsAnswering a) (Answering r) shows isnt = due_by said.stage said.text a r shows.says shows.begun isnt
-reply_due said stage other shows isnt = absurd shows
+pub reply_due : (number : ℕ → ℕ) (said : Said) (stage : SeatStage) (other : Stage) → ShowsStage number said stage other → is_some_with (λ r. r.has_begun) (reply_in other) ≡ false → said.stage ≡ Due
+reply_due number said IsUndecided Undecided shows isnt = shows.0
+reply_due number said IsWaiting Waiting shows isnt = shows
+reply_due number said IsPassing Passing shows isnt = shows
+reply_due number said (IsAnswering a) (Answering r) shows isnt = due_by said.stage said.text a r shows.says shows.begun isnt
+reply_due number said stage other shows isnt = absurd shows
 
 still_there : (front now : Front) → StandsStill front now → has_request front ≡ true → has_request now ≡ true
 still_there NoHeadYet now still there = absurd (cc there)
@@ -77,8 +77,8 @@ still_there (NoHead status) now still there = ap has_request still.1
 still_there (IsRequest r) now still there = ap has_request still
 
 pub may_begin : RepliesMayBegin
-may_begin name owed seat c shows there isnt = record {
+may_begin number name owed seat c shows there isnt = record {
   current = there_same (current_of seat.client.heard) ∙ ap has_request (sym (same_front (seat.client.heard.head ++ seat.client.heard.rest)))
       ∙ still_there c.front (front_of (seat.client.heard.head ++ seat.client.heard.rest)) shows.heard.is_front there;
-  due = reply_due seat.client.reply seat.stage c.stage shows.stage isnt;
+  due = reply_due number seat.client.reply seat.stage c.stage shows.stage isnt;
 }

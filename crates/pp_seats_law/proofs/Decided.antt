@@ -90,24 +90,24 @@ dropped_as h front heard left skip shows =
 
 -- ---- no reply has begun
 
-due_now : (name : Bytes) (owed : List Bytes) (seat : Seat) (c : Client) → ShowsOpen name owed seat c → is_begun c ≡ false → seat.client.reply.stage ≡ Due
-due_now name owed seat c shows isnt = reply_due seat.client.reply seat.stage c.stage shows.stage isnt
+due_now : (number : ℕ → ℕ) (name : Bytes) (owed : List Bytes) (seat : Seat) (c : Client) → ShowsOpen number name owed seat c → is_begun c ≡ false → seat.client.reply.stage ≡ Due
+due_now number name owed seat c shows isnt = reply_due number seat.client.reply seat.stage c.stage shows.stage isnt
 
-none_left : (said : Said) (stage : SeatStage) (other : Stage) → ShowsStage said stage other → said.stage ≡ Due → head_left (reply_in other) ≡ 0
-none_left said IsUndecided Undecided shows due = refl
-none_left said IsWaiting Waiting shows due = refl
-none_left said IsPassing Passing shows due = refl
-none_left said (IsAnswering a) (Answering r) shows due =
+none_left : (number : ℕ → ℕ) (said : Said) (stage : SeatStage) (other : Stage) → ShowsStage number said stage other → said.stage ≡ Due → head_left (reply_in other) ≡ 0
+none_left number said IsUndecided Undecided shows due = refl
+none_left number said IsWaiting Waiting shows due = refl
+none_left number said IsPassing Passing shows due = refl
+none_left number said (IsAnswering a) (Answering r) shows due =
     by (subst (λ (s : SaidStage). ShowsSaid s said.text a r) due shows.says)
   where
     by : ShowsSaid Due said.text a r → length r.head_left ≡ 0
     by says = ap (λ (b : Bytes). length b) says.left
-none_left said stage other shows due = absurd shows
+none_left number said stage other shows due = absurd shows
 
-before_now : (name : Bytes) (owed : List Bytes) (seat : Seat) (c : Client) → ShowsOpen name owed seat c → is_begun c ≡ false → seat.before_body ≡ length c.interim_left
-before_now name owed seat c shows isnt =
+before_now : (number : ℕ → ℕ) (name : Bytes) (owed : List Bytes) (seat : Seat) (c : Client) → ShowsOpen number name owed seat c → is_begun c ≡ false → seat.before_body ≡ length c.interim_left
+before_now number name owed seat c shows isnt =
     let before : seat.before_body ≡ length c.interim_left + head_left (reply_of c) = shows.before_body in
-    let none : head_left (reply_of c) ≡ 0 = none_left seat.client.reply seat.stage c.stage shows.stage (due_now name owed seat c shows isnt) in
+    let none : head_left (reply_of c) ≡ 0 = none_left number seat.client.reply seat.stage c.stage shows.stage (due_now number name owed seat c shows isnt) in
     omega (arith, before, none)
 
 -- ---- the interim answer
@@ -125,19 +125,19 @@ silent_by : (i : Interim) (left : Bytes) → ShowsInterim i left → is_unasked 
 silent_by Unasked left shows is = shows
 silent_by (Left n) left shows is = absurd (cc is)
 
-unasked : (said : Said) (stage : SeatStage) (other : Stage) → ShowsStage said stage other → is_undecided other ≡ true → may_interim said ≡ true
-unasked said IsUndecided Undecided shows is = ap₂ (λ (i : Interim) (s : SaidStage). may_interim (record said { interim = i; stage = s })) shows.1 shows.0
-unasked said IsWaiting Waiting shows is = absurd (cc is)
-unasked said IsPassing Passing shows is = absurd (cc is)
-unasked said (IsAnswering a) (Answering r) shows is = absurd (cc is)
-unasked said stage other shows is = absurd shows
+unasked : (number : ℕ → ℕ) (said : Said) (stage : SeatStage) (other : Stage) → ShowsStage number said stage other → is_undecided other ≡ true → may_interim said ≡ true
+unasked number said IsUndecided Undecided shows is = ap₂ (λ (i : Interim) (s : SaidStage). may_interim (record said { interim = i; stage = s })) shows.1 shows.0
+unasked number said IsWaiting Waiting shows is = absurd (cc is)
+unasked number said IsPassing Passing shows is = absurd (cc is)
+unasked number said (IsAnswering a) (Answering r) shows is = absurd (cc is)
+unasked number said stage other shows is = absurd shows
 
-silent : (said : Said) (stage : SeatStage) (other : Stage) (left : Bytes) → ShowsStage said stage other → is_undecided other ≡ true → ShowsInterim said.interim left → left ≡ []
-silent said IsUndecided Undecided left shows is shown = subst (λ (i : Interim). ShowsInterim i left) shows.1 shown
-silent said IsWaiting Waiting left shows is shown = absurd (cc is)
-silent said IsPassing Passing left shows is shown = absurd (cc is)
-silent said (IsAnswering a) (Answering r) left shows is shown = absurd (cc is)
-silent said stage other left shows is shown = absurd shows
+silent : (number : ℕ → ℕ) (said : Said) (stage : SeatStage) (other : Stage) (left : Bytes) → ShowsStage number said stage other → is_undecided other ≡ true → ShowsInterim said.interim left → left ≡ []
+silent number said IsUndecided Undecided left shows is shown = subst (λ (i : Interim). ShowsInterim i left) shows.1 shown
+silent number said IsWaiting Waiting left shows is shown = absurd (cc is)
+silent number said IsPassing Passing left shows is shown = absurd (cc is)
+silent number said (IsAnswering a) (Answering r) left shows is shown = absurd (cc is)
+silent number said stage other left shows is shown = absurd shows
 
 -- what the law has of it, where nothing was decided, and else
 abbrev interim_of : Client → Bool → Parsed → Bytes
@@ -175,13 +175,13 @@ interim_few Unasked left shows = let none : length left ≡ 0 = ap (λ (b : Byte
 interim_few (Left n) left shows = let same : length left ≡ 25 - (25 - n) = ap (λ (b : Bytes). length b) shows.1 ∙ length-drop (25 - n) continue_text in omega (arith, same)
 
 -- it is said now
-given : (name : Bytes) (owed : List Bytes) (seat : Seat) (c : Client) → ShowsOpen name owed seat c → MayBeDecided seat c → expects_in (asked_in seat.front) ≡ true → is_undecided_in seat.stage ≡ true
+given : (number : ℕ → ℕ) (name : Bytes) (owed : List Bytes) (seat : Seat) (c : Client) → ShowsOpen number name owed seat c → MayBeDecided seat c → expects_in (asked_in seat.front) ≡ true → is_undecided_in seat.stage ≡ true
     → IsInterim seat (first_interim c) (Left 25) (min (seat.before_body + 25) (2 ^ 64 - 1))
-given name owed seat c shows may expects first =
-    let none : is_undecided c.stage ≡ true = sym (undecided name owed seat c shows) ∙ first in
+given number name owed seat c shows may expects first =
+    let none : is_undecided c.stage ≡ true = sym (undecided number name owed seat c shows) ∙ first in
     let said : first_interim c ≡ interim = first_at c true none ∙ expected c c.front (sym may.expects ∙ expects) in
-    let before : seat.before_body ≡ length c.interim_left = before_now name owed seat c shows may.unbegun in
-    let nothing : length c.interim_left ≡ 0 = ap (λ (b : Bytes). length b) (silent seat.client.reply seat.stage c.stage c.interim_left shows.stage none shows.interim) in
+    let before : seat.before_body ≡ length c.interim_left = before_now number name owed seat c shows may.unbegun in
+    let nothing : length c.interim_left ≡ 0 = ap (λ (b : Bytes). length b) (silent number seat.client.reply seat.stage c.stage c.interim_left shows.stage none shows.interim) in
     let all : length (first_interim c) ≡ 25 = ap (λ (b : Bytes). length b) said ∙ len_of_it in record {
       shown = subst (λ (b : Bytes). ShowsInterim (Left 25) b) (sym said) all_of_it;
       same = omega (arith, before, nothing, all);
@@ -192,22 +192,22 @@ both_false true is = is
 both_false false is = refl
 
 -- what is left of it is what was
-same_left : (name : Bytes) (owed : List Bytes) (seat : Seat) (c : Client) → ShowsOpen name owed seat c → MayBeDecided seat c → (expects_in (asked_in seat.front) && is_undecided_in seat.stage && may_interim seat.client.reply) ≡ false
+same_left : (number : ℕ → ℕ) (name : Bytes) (owed : List Bytes) (seat : Seat) (c : Client) → ShowsOpen number name owed seat c → MayBeDecided seat c → (expects_in (asked_in seat.front) && is_undecided_in seat.stage && may_interim seat.client.reply) ≡ false
     → (b : Bool) → is_undecided c.stage ≡ b → first_interim c ≡ c.interim_left
-same_left name owed seat c shows may isnt true is =
-    let first : is_undecided_in seat.stage ≡ true = undecided name owed seat c shows ∙ is in
+same_left number name owed seat c shows may isnt true is =
+    let first : is_undecided_in seat.stage ≡ true = undecided number name owed seat c shows ∙ is in
     let asks : (expects_in (asked_in seat.front) && true && true) ≡ false
-    = sym (ap₂ (λ (x y : Bool). expects_in (asked_in seat.front) && x && y) first (unasked seat.client.reply seat.stage c.stage shows.stage is)) ∙ isnt in
+    = sym (ap₂ (λ (x y : Bool). expects_in (asked_in seat.front) && x && y) first (unasked number seat.client.reply seat.stage c.stage shows.stage is)) ∙ isnt in
     first_at c true is ∙ unexpected c c.front (sym may.expects ∙ both_false (expects_in (asked_in seat.front)) asks)
-    ∙ sym (silent seat.client.reply seat.stage c.stage c.interim_left shows.stage is shows.interim)
-same_left name owed seat c shows may isnt false is = first_at c false is ∙ kept_on c c.front (ap (λ (b : Bool). b || is_some (parsed_in c.front)) (sym is) ∙ may.first)
+    ∙ sym (silent number seat.client.reply seat.stage c.stage c.interim_left shows.stage is shows.interim)
+same_left number name owed seat c shows may isnt false is = first_at c false is ∙ kept_on c c.front (ap (λ (b : Bool). b || is_some (parsed_in c.front)) (sym is) ∙ may.first)
 
-was_left : (name : Bytes) (owed : List Bytes) (seat : Seat) (c : Client) → ShowsOpen name owed seat c → MayBeDecided seat c → (expects_in (asked_in seat.front) && is_undecided_in seat.stage && may_interim seat.client.reply) ≡ false
+was_left : (number : ℕ → ℕ) (name : Bytes) (owed : List Bytes) (seat : Seat) (c : Client) → ShowsOpen number name owed seat c → MayBeDecided seat c → (expects_in (asked_in seat.front) && is_undecided_in seat.stage && may_interim seat.client.reply) ≡ false
     → IsInterim seat (first_interim c) seat.client.reply.interim seat.before_body
-was_left name owed seat c shows may isnt =
-    let same : first_interim c ≡ c.interim_left = same_left name owed seat c shows may isnt (is_undecided c.stage) refl in record {
+was_left number name owed seat c shows may isnt =
+    let same : first_interim c ≡ c.interim_left = same_left number name owed seat c shows may isnt (is_undecided c.stage) refl in record {
       shown = subst (λ (b : Bytes). ShowsInterim seat.client.reply.interim b) (sym same) shows.interim;
-      same = before_now name owed seat c shows may.unbegun ∙ ap (λ (b : Bytes). length b) (sym same);
+      same = before_now number name owed seat c shows may.unbegun ∙ ap (λ (b : Bytes). length b) (sym same);
     }
 
 first_of : (a b c : Bool) → (a && b && c) ≡ true → a ≡ true
@@ -220,22 +220,22 @@ second_of true false c is = absurd (cc is)
 second_of false b c is = absurd (cc is)
 
 -- whatever holds of the seat with as much of it as the law has, holds of the seat behind it
-behind_interim : (name : Bytes) (owed : List Bytes) (seat : Seat) (c d : Client) (f : Seat → Seat) → ShowsOpen name owed seat c → MayBeDecided seat c
-    → ((i : Interim) (before : ℕ) → IsInterim seat (first_interim c) i before → ShowsOpen name owed (f (interimed i before seat)) d) → ShowsOpen name owed (f (with_interim seat)) d
-behind_interim name owed seat c d f shows may so = by (expects_in (asked_in seat.front) && is_undecided_in seat.stage && may_interim seat.client.reply) refl
+behind_interim : (number : ℕ → ℕ) (name : Bytes) (owed : List Bytes) (seat : Seat) (c d : Client) (f : Seat → Seat) → ShowsOpen number name owed seat c → MayBeDecided seat c
+    → ((i : Interim) (before : ℕ) → IsInterim seat (first_interim c) i before → ShowsOpen number name owed (f (interimed i before seat)) d) → ShowsOpen number name owed (f (with_interim seat)) d
+behind_interim number name owed seat c d f shows may so = by (expects_in (asked_in seat.front) && is_undecided_in seat.stage && may_interim seat.client.reply) refl
   where
     on : Seat
     on = record seat { client = record seat.client { reply = interim_on seat.client.reply }; before_body = min (seat.before_body + 25) (2 ^ 64 - 1) }
 
-    by : (b : Bool) → (expects_in (asked_in seat.front) && is_undecided_in seat.stage && may_interim seat.client.reply) ≡ b → ShowsOpen name owed (f (with_interim seat)) d
+    by : (b : Bool) → (expects_in (asked_in seat.front) && is_undecided_in seat.stage && may_interim seat.client.reply) ≡ b → ShowsOpen number name owed (f (with_interim seat)) d
     by true is =
-        subst (λ (x : Bool). ShowsOpen name owed (f (elim x as (λ y. Seat) [ true ↦ on | false ↦ seat ])) d) (sym is)
+        subst (λ (x : Bool). ShowsOpen number name owed (f (elim x as (λ y. Seat) [ true ↦ on | false ↦ seat ])) d) (sym is)
         (so (Left 25) (min (seat.before_body + 25) (2 ^ 64 - 1))
-        (given name owed seat c shows may (first_of (expects_in (asked_in seat.front)) (is_undecided_in seat.stage) (may_interim seat.client.reply) is)
+        (given number name owed seat c shows may (first_of (expects_in (asked_in seat.front)) (is_undecided_in seat.stage) (may_interim seat.client.reply) is)
         (second_of (expects_in (asked_in seat.front)) (is_undecided_in seat.stage) (may_interim seat.client.reply) is)))
     by false isnt =
-        subst (λ (x : Bool). ShowsOpen name owed (f (elim x as (λ y. Seat) [ true ↦ on | false ↦ seat ])) d) (sym isnt)
-        (so seat.client.reply.interim seat.before_body (was_left name owed seat c shows may isnt))
+        subst (λ (x : Bool). ShowsOpen number name owed (f (elim x as (λ y. Seat) [ true ↦ on | false ↦ seat ])) d) (sym isnt)
+        (so seat.client.reply.interim seat.before_body (was_left number name owed seat c shows may isnt))
 
 -- ---- a page
 
@@ -247,15 +247,15 @@ same_page status front f has shows =
     ap₂ (λ (a b : Bool). page status a b) (sym (fronts_read front f shows).head_asked) (sym ((fronts_read front f shows).keeps status))
     ∙ ap (λ (n : ℕ). page n (head_asked_in (asked_in front)) (keeps_in status (asked_in front))) (sym (same_status status has))
 
-heard_of : (name : Bytes) (owed : List Bytes) (seat : Seat) (c : Client) → ShowsOpen name owed seat c → IsHeardAs seat.client.heard c.front c.heard c.body_left c.skip
-heard_of name owed seat c shows = record { heard = shows.heard; body = shows.body; over = shows.over }
+heard_of : (number : ℕ → ℕ) (name : Bytes) (owed : List Bytes) (seat : Seat) (c : Client) → ShowsOpen number name owed seat c → IsHeardAs seat.client.heard c.front c.heard c.body_left c.skip
+heard_of number name owed seat c shows = record { heard = shows.heard; body = shows.body; over = shows.over }
 
-page_shows : (status : ℕ) (account : Account) (name : Bytes) (owed : List Bytes) (seat : Seat) (c : Client) (i : Interim) (before : ℕ) → ShowsOpen name owed seat c → has_page status ≡ true → length (page_for status seat.front) ≤ 20480
-    → IsInterim seat (first_interim c) i before → ShowsOpen name owed (record (paged status (interimed i before seat)) { account = account }) (refused_with status c)
-page_shows status account name owed seat c i before shows has short interims =
+page_shows : (number : ℕ → ℕ) (status : ℕ) (account : Account) (name : Bytes) (owed : List Bytes) (seat : Seat) (c : Client) (i : Interim) (before : ℕ) → ShowsOpen number name owed seat c → has_page status ≡ true → length (page_for status seat.front) ≤ 20480
+    → IsInterim seat (first_interim c) i before → ShowsOpen number name owed (record (paged status (interimed i before seat)) { account = account }) (refused_with status c)
+page_shows number status account name owed seat c i before shows has short interims =
     let text : page status (asks_head c.front) (keeps_after status c.front) ≡ page_for status seat.front = same_page status seat.front c.front has shows.front in
     let dropped : IsHeardAs (body_dropped seat.client.heard) c.front (drop c.body_left c.heard) 0 (c.skip + (c.body_left - length c.heard))
-    = dropped_as seat.client.heard c.front c.heard c.body_left c.skip (heard_of name owed seat c shows) in
+    = dropped_as seat.client.heard c.front c.heard c.body_left c.skip (heard_of number name owed seat c shows) in
     let len : length (page status (asks_head c.front) (keeps_after status c.front)) ≡ length (page_for status seat.front) = ap (λ (b : Bytes). length b) text in
     let left : before ≡ length (first_interim c) = interims.same in
     let few : length (first_interim c) ≤ 25 = interim_few i (first_interim c) interims.shown in record {
@@ -298,39 +298,39 @@ abbrev begins_with : Seat → Bool
 begins_with seat = expects_in (asked_in seat.front) && is_undecided_in seat.stage && may_interim seat.client.reply
 
 pub pages : PagesAreTheLaws
-pages status account name owed seat c shows going may has short = record {
+pages number status account name owed seat c shows going may has short = record {
   number = same_id seat (begins_with seat) ∙ shows.number;
   closing = same_closing seat (begins_with seat) ∙ shows.closing;
   going = λ still.
-      behind_interim name owed seat c (refused_with status c) (λ x. record (paged status x) { account = account }) (shows.going going) may
-      (λ i before interims. page_shows status account name owed seat c i before (shows.going going) has short interims);
+      behind_interim number name owed seat c (refused_with status c) (λ x. record (paged status x) { account = account }) (shows.going going) may
+      (λ i before interims. page_shows number status account name owed seat c i before (shows.going going) has short interims);
 }
 
 -- ---- an exchange
 
-course_kept : (name : Bytes) (owed : List Bytes) (said : Said) (course : SeatCourse) (brought : SeatBrought) (c : Client) → ShowsFate name owed said course brought c → is_refused_in brought ≡ false → course_of course ≡ c.course
-course_kept name owed said course Refused c shows isnt = absurd (cc isnt)
-course_kept name owed said course NoneYet c shows isnt = shows.0
-course_kept name owed said course NoneOfUse c shows isnt = shows.0
-course_kept name owed said course (JoinsRow id plain) c shows isnt = shows.0
-course_kept name owed said course (PassesOn x) c shows isnt = shows.0
-course_kept name owed said course IsTooWide c shows isnt = shows.0
+course_kept : (number : ℕ → ℕ) (name : Bytes) (owed : List Bytes) (said : Said) (course : SeatCourse) (brought : SeatBrought) (c : Client) → ShowsFate number name owed said course brought c → is_refused_in brought ≡ false → course_of course ≡ c.course
+course_kept number name owed said course Refused c shows isnt = absurd (cc isnt)
+course_kept number name owed said course NoneYet c shows isnt = shows.0
+course_kept number name owed said course NoneOfUse c shows isnt = shows.0
+course_kept number name owed said course (JoinsRow id plain) c shows isnt = shows.0
+course_kept number name owed said course (PassesOn x) c shows isnt = shows.0
+course_kept number name owed said course IsTooWide c shows isnt = shows.0
 
 abbrev stage_by : Bool → Stage
 stage_by b = elim b [ true ↦ Passing | false ↦ Waiting ]
 
-stage_asked : (said : Said) (b : Bool) → said.stage ≡ Due → ShowsStage said (asked_stage b) (stage_by b)
-stage_asked said true due = due
-stage_asked said false due = due
+stage_asked : (number : ℕ → ℕ) (said : Said) (b : Bool) → said.stage ≡ Due → ShowsStage number said (asked_stage b) (stage_by b)
+stage_asked number said true due = due
+stage_asked number said false due = due
 
 stage_left : (b : Bool) → head_left (reply_in (stage_by b)) ≡ 0
 stage_left true = refl
 stage_left false = refl
 
-asks_show : (d : Decision) (name : Bytes) (owed : List Bytes) (seat : Seat) (c : Client) (i : Interim) (before : ℕ) → ShowsOpen name owed seat c → MayBeDecided seat c → is_refused_in seat.brought ≡ false → IsInterim seat (first_interim c) i before
-    → ShowsOpen name owed (asking (is_pass d) (interimed i before seat)) (asking_with d c)
-asks_show d name owed seat c i before shows may isnt interims =
-    let due : seat.client.reply.stage ≡ Due = due_now name owed seat c shows may.unbegun in
+asks_show : (number : ℕ → ℕ) (d : Decision) (name : Bytes) (owed : List Bytes) (seat : Seat) (c : Client) (i : Interim) (before : ℕ) → ShowsOpen number name owed seat c → MayBeDecided seat c → is_refused_in seat.brought ≡ false → IsInterim seat (first_interim c) i before
+    → ShowsOpen number name owed (asking (is_pass d) (interimed i before seat)) (asking_with d c)
+asks_show number d name owed seat c i before shows may isnt interims =
+    let due : seat.client.reply.stage ≡ Due = due_now number name owed seat c shows may.unbegun in
     let left : before ≡ length (first_interim c) = interims.same in
     let none : head_left (reply_in (stage_by (is_pass d))) ≡ 0 = stage_left (is_pass d) in record {
       hung_up = shows.hung_up;
@@ -341,9 +341,9 @@ asks_show d name owed seat c i before shows may isnt interims =
       front = shows.front;
       body_left = shows.body_left;
       index = shows.index;
-      stage = stage_asked (record seat.client.reply { interim = i }) (is_pass d) due;
+      stage = stage_asked number (record seat.client.reply { interim = i }) (is_pass d) due;
       waits_on = shows.waits_on;
-      fate = (course_kept name owed seat.client.reply seat.course seat.brought c shows.fate isnt, tt);
+      fate = (course_kept number name owed seat.client.reply seat.course seat.brought c shows.fate isnt, tt);
       asked = brought_anew c.front;
       piped = subst (λ (s : SaidStage). IsPipedFor s NoneYet) (sym due) tt;
       given_up = shows.given_up;
@@ -353,11 +353,11 @@ asks_show d name owed seat c i before shows may isnt interims =
     }
 
 pub asks : AsksAreTheLaws
-asks d name owed seat c shows going may isnt = record {
+asks number d name owed seat c shows going may isnt = record {
   number = same_id seat (begins_with seat) ∙ shows.number;
   closing = same_closing seat (begins_with seat) ∙ shows.closing;
   going = λ still.
-      behind_interim name owed seat c (asking_with d c) (λ x. asking (is_pass d) x) (shows.going going) may (λ i before interims. asks_show d name owed seat c i before (shows.going going) may isnt interims);
+      behind_interim number name owed seat c (asking_with d c) (λ x. asking (is_pass d) x) (shows.going going) may (λ i before interims. asks_show number d name owed seat c i before (shows.going going) may isnt interims);
 }
 
 -- ---- a reply by the row
@@ -365,25 +365,25 @@ asks d name owed seat c shows going may isnt = record {
 abbrev decided_as : Bytes → Stage → Bool → Client → Client
 decided_as left stage closes c = record c { interim_left = left; stage = stage; closes = closes }
 
-brought_on : (name : Bytes) (said : Said) (i : Interim) (front : Front) (brought : SeatBrought) (other : Brought) → ShowsBrought name said front brought other → ShowsBrought name (record said { interim = i }) front brought other
-brought_on name said i front brought other shows = brought_kept name said (record said { interim = i }) front brought other refl (λ x p kept. head_kept name said.stage said i front x p kept) shows
+brought_on : (number : ℕ → ℕ) (name : Bytes) (said : Said) (i : Interim) (front : Front) (brought : SeatBrought) (other : Brought) → ShowsBrought number name said front brought other → ShowsBrought number name (record said { interim = i }) front brought other
+brought_on number name said i front brought other shows = brought_kept number name said (record said { interim = i }) front brought other refl (λ x p kept. head_kept name said.stage said i front x p kept) shows
 
-fate_on : (name : Bytes) (owed : List Bytes) (said : Said) (i : Interim) (course : SeatCourse) (brought : SeatBrought) (c : Client) (left : Bytes) (stage : Stage) (closes : Bool) → ShowsFate name owed said course brought c → is_refused_in brought ≡ false
-    → ShowsFate name owed (record said { interim = i }) course brought (decided_as left stage closes c)
-fate_on name owed said i course Refused c left stage closes shows isnt = absurd (cc isnt)
-fate_on name owed said i course NoneYet c left stage closes shows isnt = (shows.0, brought_on name said i c.front NoneYet c.brought shows.1)
-fate_on name owed said i course NoneOfUse c left stage closes shows isnt = (shows.0, brought_on name said i c.front NoneOfUse c.brought shows.1)
-fate_on name owed said i course (JoinsRow id plain) c left stage closes shows isnt = (shows.0, brought_on name said i c.front (JoinsRow id plain) c.brought shows.1)
-fate_on name owed said i course (PassesOn x) c left stage closes shows isnt = (shows.0, brought_on name said i c.front (PassesOn x) c.brought shows.1)
-fate_on name owed said i course IsTooWide c left stage closes shows isnt = (shows.0, brought_on name said i c.front IsTooWide c.brought shows.1)
+fate_on : (number : ℕ → ℕ) (name : Bytes) (owed : List Bytes) (said : Said) (i : Interim) (course : SeatCourse) (brought : SeatBrought) (c : Client) (left : Bytes) (stage : Stage) (closes : Bool) → ShowsFate number name owed said course brought c → is_refused_in brought ≡ false
+    → ShowsFate number name owed (record said { interim = i }) course brought (decided_as left stage closes c)
+fate_on number name owed said i course Refused c left stage closes shows isnt = absurd (cc isnt)
+fate_on number name owed said i course NoneYet c left stage closes shows isnt = (shows.0, brought_on number name said i c.front NoneYet c.brought shows.1)
+fate_on number name owed said i course NoneOfUse c left stage closes shows isnt = (shows.0, brought_on number name said i c.front NoneOfUse c.brought shows.1)
+fate_on number name owed said i course (JoinsRow id plain) c left stage closes shows isnt = (shows.0, brought_on number name said i c.front (JoinsRow id plain) c.brought shows.1)
+fate_on number name owed said i course (PassesOn x) c left stage closes shows isnt = (shows.0, brought_on number name said i c.front (PassesOn x) c.brought shows.1)
+fate_on number name owed said i course IsTooWide c left stage closes shows isnt = (shows.0, brought_on number name said i c.front IsTooWide c.brought shows.1)
 
-answers_show : (d : Decision) (source : Option ObjectId) (name : Bytes) (owed : List Bytes) (seat : Seat) (c : Client) (i : Interim) (before : ℕ) → ShowsOpen name owed seat c → MayBeDecided seat c → is_refused_in seat.brought ≡ false
-    → IsInterim seat (first_interim c) i before → ShowsOpen name owed (answering d source (span_of d) (interimed i before seat)) (answering_with (reply_by d (source_number source)) c)
-answers_show d source name owed seat c i before shows may isnt interims =
-    let due : seat.client.reply.stage ≡ Due = due_now name owed seat c shows may.unbegun in
+answers_show : (number : ℕ → ℕ) (d : Decision) (source : Option ObjectId) (name : Bytes) (owed : List Bytes) (seat : Seat) (c : Client) (i : Interim) (before : ℕ) → ShowsOpen number name owed seat c → MayBeDecided seat c → is_refused_in seat.brought ≡ false
+    → IsInterim seat (first_interim c) i before → ShowsOpen number name owed (answering d source (span_of d) (interimed i before seat)) (answering_with (reply_by d (source_number number source)) c)
+answers_show number d source name owed seat c i before shows may isnt interims =
+    let due : seat.client.reply.stage ≡ Due = due_now number name owed seat c shows may.unbegun in
     let left : before ≡ length (first_interim c) = interims.same in
     let a : Answer = record { decision = d; source = source; from = (span_of d).0; to = (span_of d).1; has_begun = false } in
-    let r : Reply = reply_by d (source_number source) in record {
+    let r : Reply = reply_by d (source_number number source) in record {
       hung_up = shows.hung_up;
       mark = shows.mark;
       heard = shows.heard;
@@ -399,7 +399,7 @@ answers_show d source name owed seat c i before shows may isnt interims =
         says = subst (λ (s : SaidStage). ShowsSaid s seat.client.reply.text a r) (sym due) (record { due = refl; left = refl; from = refl; to = refl });
       };
       waits_on = shows.waits_on;
-      fate = fate_on name owed seat.client.reply i seat.course seat.brought c (first_interim c) (Answering r) (not (keeps_after 200 c.front)) shows.fate isnt;
+      fate = fate_on number name owed seat.client.reply i seat.course seat.brought c (first_interim c) (Answering r) (not (keeps_after 200 c.front)) shows.fate isnt;
       asked = shows.asked;
       piped = shows.piped;
       given_up = shows.given_up;
@@ -409,10 +409,10 @@ answers_show d source name owed seat c i before shows may isnt interims =
     }
 
 pub answers : AnswersAreTheLaws
-answers d source name owed seat c shows going may isnt = record {
+answers number d source name owed seat c shows going may isnt = record {
   number = same_id seat (begins_with seat) ∙ shows.number;
   closing = same_closing seat (begins_with seat) ∙ shows.closing;
   going = λ still.
-      behind_interim name owed seat c (answering_with (reply_by d (source_number source)) c) (λ x. answering d source (span_of d) x) (shows.going going) may
-      (λ i before interims. answers_show d source name owed seat c i before (shows.going going) may isnt interims);
+      behind_interim number name owed seat c (answering_with (reply_by d (source_number number source)) c) (λ x. answering d source (span_of d) x) (shows.going going) may
+      (λ i before interims. answers_show number d source name owed seat c i before (shows.going going) may isnt interims);
 }

@@ -52,16 +52,16 @@ waits_same : (begun page : Bool) → (not begun && not page) ≡ not (begun || p
 waits_same true page = refl
 waits_same false page = refl
 
-stage_waits : (said : Said) (stage : SeatStage) (other : Stage) → ShowsStage said stage other
+stage_waits : (number : ℕ → ℕ) (said : Said) (stage : SeatStage) (other : Stage) → ShowsStage number said stage other
     → still_waits_in stage ≡ (elim other as (λ c. Bool) [ Undecided ↦ false | Waiting ↦ true | Passing ↦ false | Answering r ↦ not (r.has_begun || is_page r.decision) ])
-stage_waits said IsUndecided Undecided shows = refl
-stage_waits said IsWaiting Waiting shows = refl
-stage_waits said IsPassing Passing shows = refl
-stage_waits said (IsAnswering a) (Answering r) shows = ap₂ (λ (b : Bool) (d : Decision). not b && not (is_page d)) shows.begun shows.decision ∙ waits_same r.has_begun (is_page r.decision)
-stage_waits said stage other shows = absurd shows
+stage_waits number said IsUndecided Undecided shows = refl
+stage_waits number said IsWaiting Waiting shows = refl
+stage_waits number said IsPassing Passing shows = refl
+stage_waits number said (IsAnswering a) (Answering r) shows = ap₂ (λ (b : Bool) (d : Decision). not b && not (is_page d)) shows.begun shows.decision ∙ waits_same r.has_begun (is_page r.decision)
+stage_waits number said stage other shows = absurd shows
 
 pub waiting : WaitingIsTheLaws
-waiting name owed seat c shows = stage_waits seat.client.reply seat.stage c.stage shows.stage
+waiting number name owed seat c shows = stage_waits number seat.client.reply seat.stage c.stage shows.stage
 
 -- ---- decisions
 
@@ -82,14 +82,14 @@ stage_due lost stage course told undecided decided = elim stage [
   | Answering r ↦ reply_due r.has_begun course (lost r) decided
 ]
 
-stage_decision : (lost : Reply → Bool) (said : Said) (stage : SeatStage) (other : Stage) (course : SeatCourse) (came : Bool) (undecided decided : Option Decision) → ShowsStage said stage other
+stage_decision : (number : ℕ → ℕ) (lost : Reply → Bool) (said : Said) (stage : SeatStage) (other : Stage) (course : SeatCourse) (came : Bool) (undecided decided : Option Decision) → ShowsStage number said stage other
     → by_stage_in stage course came (is_some_with lost (reply_in other)) undecided decided ≡ stage_due lost other (course_of course) came undecided decided
-stage_decision lost said IsUndecided Undecided course came undecided decided shows = refl
-stage_decision lost said IsWaiting Waiting course came undecided decided shows = give_up_same course (elim came as (λ c. Option Decision) [ true ↦ decided | false ↦ None ])
-stage_decision lost said IsPassing Passing course came undecided decided shows = give_up_same course None
-stage_decision lost said (IsAnswering a) (Answering r) course came undecided decided shows =
+stage_decision number lost said IsUndecided Undecided course came undecided decided shows = refl
+stage_decision number lost said IsWaiting Waiting course came undecided decided shows = give_up_same course (elim came as (λ c. Option Decision) [ true ↦ decided | false ↦ None ])
+stage_decision number lost said IsPassing Passing course came undecided decided shows = give_up_same course None
+stage_decision number lost said (IsAnswering a) (Answering r) course came undecided decided shows =
     ap₂ (λ (b : Bool) (o : Option Decision). elim b as (λ c. Option Decision) [ true ↦ None | false ↦ o ]) shows.begun (give_up_same course (elim (lost r) as (λ c. Option Decision) [ true ↦ decided | false ↦ None ]))
-stage_decision lost said stage other course came undecided decided shows = absurd shows
+stage_decision number lost said stage other course came undecided decided shows = absurd shows
 
 -- one that waits for a row that memory was refused for
 stage_refused : (lost : Reply → Bool) (stage : Stage) (told : Bool) (undecided decided : Option Decision)
@@ -117,26 +117,26 @@ refused_course c shows = by shows.refused
 abbrev decided_by : SeatStage → SeatCourse → SeatBrought → Bool → Option Decision → Option Decision → Option Decision
 decided_by stage course brought lost undecided decided = elim (is_refused_in brought) [ true ↦ Some (Refuse 500) | false ↦ by_stage_in stage course (is_told_in brought) lost undecided decided ]
 
-fate_decision : (lost : Reply → Bool) (said : Said) (stage : SeatStage) (course : SeatCourse) (brought : SeatBrought) (c : Client) (undecided decided : Option Decision) (name : Bytes) → ShowsStage said stage c.stage
-    → ShowsFate name [] said course brought c → is_told_in brought ≡ is_told c.brought
+fate_decision : (number : ℕ → ℕ) (lost : Reply → Bool) (said : Said) (stage : SeatStage) (course : SeatCourse) (brought : SeatBrought) (c : Client) (undecided decided : Option Decision) (name : Bytes) → ShowsStage number said stage c.stage
+    → ShowsFate number name [] said course brought c → is_told_in brought ≡ is_told c.brought
     → decided_by stage course brought (is_some_with lost (reply_in c.stage)) undecided decided ≡ stage_due lost c.stage c.course (is_told c.brought) undecided decided
-fate_decision lost said stage course Refused c undecided decided name at shows same =
+fate_decision number lost said stage course Refused c undecided decided name at shows same =
     stage_refused lost c.stage (is_told c.brought) undecided decided shows.waits
     ∙ ap (λ (x : Course). stage_due lost c.stage x (is_told c.brought) undecided decided) (sym (refused_course c shows))
-fate_decision lost said stage course NoneYet c undecided decided name at shows same =
-    stage_decision lost said stage c.stage course false undecided decided at ∙ ap₂ (λ (x : Course) (b : Bool). stage_due lost c.stage x b undecided decided) shows.0 same
-fate_decision lost said stage course NoneOfUse c undecided decided name at shows same =
-    stage_decision lost said stage c.stage course true undecided decided at ∙ ap₂ (λ (x : Course) (b : Bool). stage_due lost c.stage x b undecided decided) shows.0 same
-fate_decision lost said stage course (JoinsRow id plain) c undecided decided name at shows same =
-    stage_decision lost said stage c.stage course true undecided decided at ∙ ap₂ (λ (x : Course) (b : Bool). stage_due lost c.stage x b undecided decided) shows.0 same
-fate_decision lost said stage course (PassesOn x) c undecided decided name at shows same =
-    stage_decision lost said stage c.stage course true undecided decided at ∙ ap₂ (λ (x : Course) (b : Bool). stage_due lost c.stage x b undecided decided) shows.0 same
-fate_decision lost said stage course IsTooWide c undecided decided name at shows same =
-    stage_decision lost said stage c.stage course true undecided decided at ∙ ap₂ (λ (x : Course) (b : Bool). stage_due lost c.stage x b undecided decided) shows.0 same
+fate_decision number lost said stage course NoneYet c undecided decided name at shows same =
+    stage_decision number lost said stage c.stage course false undecided decided at ∙ ap₂ (λ (x : Course) (b : Bool). stage_due lost c.stage x b undecided decided) shows.0 same
+fate_decision number lost said stage course NoneOfUse c undecided decided name at shows same =
+    stage_decision number lost said stage c.stage course true undecided decided at ∙ ap₂ (λ (x : Course) (b : Bool). stage_due lost c.stage x b undecided decided) shows.0 same
+fate_decision number lost said stage course (JoinsRow id plain) c undecided decided name at shows same =
+    stage_decision number lost said stage c.stage course true undecided decided at ∙ ap₂ (λ (x : Course) (b : Bool). stage_due lost c.stage x b undecided decided) shows.0 same
+fate_decision number lost said stage course (PassesOn x) c undecided decided name at shows same =
+    stage_decision number lost said stage c.stage course true undecided decided at ∙ ap₂ (λ (x : Course) (b : Bool). stage_due lost c.stage x b undecided decided) shows.0 same
+fate_decision number lost said stage course IsTooWide c undecided decided name at shows same =
+    stage_decision number lost said stage c.stage course true undecided decided at ∙ ap₂ (λ (x : Course) (b : Bool). stage_due lost c.stage x b undecided decided) shows.0 same
 
 pub decisions : DecisionIsTheLaws
-decisions s name seat c shows =
-    fate_decision (has_lost_row s) seat.client.reply seat.stage seat.course seat.brought c (due_undecided s c) (decide s c) name shows.stage shows.fate (told name [] seat c shows)
+decisions number s name seat c shows =
+    fate_decision number (has_lost_row s) seat.client.reply seat.stage seat.course seat.brought c (due_undecided s c) (decide s c) name shows.stage shows.fate (told number name [] seat c shows)
 
 -- ---- what is shared, and lost
 
@@ -152,17 +152,17 @@ same_follows Validate = refl
 same_follows Fetch = refl
 same_follows Pass = refl
 
-stage_lost : (s : State) (said : Said) (stage : SeatStage) (other : Stage) → ShowsStage said stage other
+stage_lost : (number : ℕ → ℕ) (s : State) (said : Said) (stage : SeatStage) (other : Stage) → ShowsStage number said stage other
     → lost_in (answer_in stage) (is_some_with (λ r. is_some_with (λ x. not x.is_retired) (source_of s r)) (reply_in other)) ≡ is_some_with (has_lost_row s) (reply_in other)
-stage_lost s said IsUndecided Undecided shows = refl
-stage_lost s said IsWaiting Waiting shows = refl
-stage_lost s said IsPassing Passing shows = refl
-stage_lost s said (IsAnswering a) (Answering r) shows =
+stage_lost number s said IsUndecided Undecided shows = refl
+stage_lost number s said IsWaiting Waiting shows = refl
+stage_lost number s said IsPassing Passing shows = refl
+stage_lost number s said (IsAnswering a) (Answering r) shows =
     ap (λ (b : Bool). b && not (is_some_with (λ x. not x.is_retired) (source_of s r))) (same_follows a.decision ∙ ap is_followed_by shows.decision)
-stage_lost s said stage other shows = absurd shows
+stage_lost number s said stage other shows = absurd shows
 
 pub lost : LostIsTheLaws
-lost s name owed seat c shows = stage_lost s seat.client.reply seat.stage c.stage shows.stage
+lost s number name owed seat c shows = stage_lost number s seat.client.reply seat.stage c.stage shows.stage
 
 -- the law's, by its parts
 abbrev first_due_by : Bool → Bool → Option Decision → Option Decision
@@ -190,7 +190,7 @@ shared_by s None shares asked None = refl
 shared_by s None shares asked (Some d) = ap (λ (b : Bool). elim (shares && b && asked) as (λ c. Option Decision) [ true ↦ None | false ↦ Some d ]) (same_share d)
 
 pub sharing : SharingIsTheLaws
-sharing s name owed seat c shows =
+sharing s number name owed seat c shows =
     shared_by s seat.waits_on s.settings.shares_fetches (is_some (shared_ask s c)) (decide s c)
     ∙ ap (λ (waits : Option Shared). shared_due s waits s.settings.shares_fetches (is_some (shared_ask s c)) (decide s c)) shows.waits_on
 
@@ -224,17 +224,17 @@ both_closing false false v w x y same first second = ap₂ (λ (s t : Bool). s &
 both_closing true false v w x y same first second = absurd (cc same)
 both_closing false true v w x y same first second = absurd (cc same)
 
-left_over : (name : Bytes) (owed : List Bytes) (seat : Seat) (c : Client) → ShowsOpen name owed seat c
+left_over : (number : ℕ → ℕ) (name : Bytes) (owed : List Bytes) (seat : Seat) (c : Client) → ShowsOpen number name owed seat c
     → (not (is_there_in seat.front) || nat_lt (length (body_in seat.client.heard)) seat.body_left) ≡ (not (has_request c.front) || nat_lt (length c.heard) c.body_left)
-left_over name owed seat c shows =
+left_over number name owed seat c shows =
     ap₂ (λ (a b : Bool). not a || b) (same_there seat.front c.front shows.front)
     (ap (λ (n : ℕ). nat_lt (length (body_in seat.client.heard)) n) shows.body_left ∙ short_body seat.client.heard.body seat.client.heard.rest c.body_left c.skip shows.body
     ∙ ap (λ (bytes : Bytes). nat_lt (length bytes) c.body_left) shows.heard.behind)
 
 pub finished : FinishedIsTheLaws
-finished name owed seat c shows =
+finished number name owed seat c shows =
     both_closing seat.is_closing c.is_closing seat.has_hung_up c.has_hung_up (not (is_there_in seat.front) || nat_lt (length (body_in seat.client.heard)) seat.body_left)
-    (not (has_request c.front) || nat_lt (length c.heard) c.body_left) shows.closing (λ going. (shows.going going).hung_up) (λ going. left_over name owed seat c (shows.going going))
+    (not (has_request c.front) || nat_lt (length c.heard) c.body_left) shows.closing (λ going. (shows.going going).hung_up) (λ going. left_over number name owed seat c (shows.going going))
 
 -- ---- cuts
 
@@ -255,13 +255,13 @@ no_waiting (Answering r) waits is = by r.has_begun (is_page r.decision) waits is
     by true page waits is = absurd (cc waits)
     by false page waits is = absurd (cc is)
 
-fate_trying : (name : Bytes) (said : Said) (course : SeatCourse) (brought : SeatBrought) (c : Client) → ShowsFate name [] said course brought c → is_begun c ≡ true → is_trying_in course ≡ is_trying c.course
-fate_trying name said course Refused c shows is = absurd (no_waiting c.stage shows.waits is)
-fate_trying name said course NoneYet c shows is = trying_same course ∙ ap is_trying shows.0
-fate_trying name said course NoneOfUse c shows is = trying_same course ∙ ap is_trying shows.0
-fate_trying name said course (JoinsRow id plain) c shows is = trying_same course ∙ ap is_trying shows.0
-fate_trying name said course (PassesOn x) c shows is = trying_same course ∙ ap is_trying shows.0
-fate_trying name said course IsTooWide c shows is = trying_same course ∙ ap is_trying shows.0
+fate_trying : (number : ℕ → ℕ) (name : Bytes) (said : Said) (course : SeatCourse) (brought : SeatBrought) (c : Client) → ShowsFate number name [] said course brought c → is_begun c ≡ true → is_trying_in course ≡ is_trying c.course
+fate_trying number name said course Refused c shows is = absurd (no_waiting c.stage shows.waits is)
+fate_trying number name said course NoneYet c shows is = trying_same course ∙ ap is_trying shows.0
+fate_trying number name said course NoneOfUse c shows is = trying_same course ∙ ap is_trying shows.0
+fate_trying number name said course (JoinsRow id plain) c shows is = trying_same course ∙ ap is_trying shows.0
+fate_trying number name said course (PassesOn x) c shows is = trying_same course ∙ ap is_trying shows.0
+fate_trying number name said course IsTooWide c shows is = trying_same course ∙ ap is_trying shows.0
 
 short_end_by : (finished short : Bool)
     → ends_short (elim finished as (λ c. PassedEnd) [ true ↦ Whole | false ↦ elim short as (λ c. PassedEnd) [ true ↦ Short | false ↦ Coming ] ]) ≡ (short && not finished)
@@ -321,10 +321,10 @@ same_causes a b c d e v w x y z first second third fourth fifth =
     ∙ ap (λ (t : Bool). cause_by v w x t e) fourth ∙ ap (λ (t : Bool). cause_by v w x y t) fifth
 
 pub cuts : CutIsTheLaws
-cuts s name seat c shows =
-    let is : has_begun seat ≡ is_begun c = begun name [] seat c shows in
+cuts number s name seat c shows =
+    let is : has_begun seat ≡ is_begun c = begun number name [] seat c shows in
     let dry = not (has_to_say s c) in
-    let short : is_short_in seat.brought ≡ is_short c = short_same name seat.client.reply c.front (passed_in seat.brought) (passed_of c) (passed name [] seat c shows) in
+    let short : is_short_in seat.brought ≡ is_short c = short_same name seat.client.reply c.front (passed_in seat.brought) (passed_of c) (passed number name [] seat c shows) in
     same_causes
     (has_begun seat && s.is_stopped) (has_begun seat && is_short_in seat.brought && dry) (has_begun seat && not (is_trying_in seat.course) && dry) (has_begun seat && is_superseded s c) (is_idle_in s.is_ticked s.clock seat)
     (s.is_stopped && is_begun c) (is_dry s c && is_short c) (is_dry s c && not (is_trying c.course)) (is_begun c && is_superseded s c) (is_idle s c)
@@ -332,7 +332,7 @@ cuts s name seat c shows =
     (ap₂ (λ (a b : Bool). a && b && dry) is short ∙ turned (is_begun c) (is_short c) dry)
     (ap (λ (b : Bool). b && dry)
     (ap (λ (b : Bool). b && not (is_trying_in seat.course)) is
-    ∙ guarded (is_begun c) (not (is_trying_in seat.course)) (not (is_trying c.course)) (λ there. ap not (fate_trying name seat.client.reply seat.course seat.brought c shows.fate there)))
+    ∙ guarded (is_begun c) (not (is_trying_in seat.course)) (not (is_trying c.course)) (λ there. ap not (fate_trying number name seat.client.reply seat.course seat.brought c shows.fate there)))
     ∙ turned (is_begun c) (not (is_trying c.course)) dry)
     (ap (λ (b : Bool). b && is_superseded s c) is)
     (ap (λ (n : ℕ). s.is_ticked && nat_le 120 (s.clock - n)) shows.mark)
@@ -366,8 +366,8 @@ closing_due true false stopped n i j cut other decision then same cuts decisions
 closing_due false true stopped n i j cut other decision then same cuts decisions index = absurd (cc same)
 
 pub dues : DueIsTheLaws
-dues s name seat c shows =
+dues number s name seat c shows =
     closing_due seat.is_closing c.is_closing s.is_stopped seat.client.id seat.index c.index (cut_of s seat c) (cut_in s c) (decision_in seat (has_lost_its_row s c) (due_undecided s c) (decide s c)) (due_by_stage s c) shows.closing
-    (λ going. cuts s name seat c (shows.going going)) (λ going. decisions s name seat c (shows.going going)) (λ going. (shows.going going).index)
+    (λ going. cuts number s name seat c (shows.going going)) (λ going. decisions number s name seat c (shows.going going)) (λ going. (shows.going going).index)
     ∙ ap (λ (n : ℕ). due_by c.is_closing s.is_stopped n c.index (cut_in s c) (due_by_stage s c)) shows.number
     ∙ same_due c.is_closing s.is_stopped c.number c.index (cut_in s c) (due_by_stage s c)

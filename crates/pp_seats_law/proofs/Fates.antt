@@ -29,19 +29,19 @@ refused_with owed c course given_up shows stays = record { waits = shows.waits; 
     by (inl is) = inl (stays is)
     by (inr not_noted) = inr not_noted
 
-fate_with : (name : Bytes) (owed : List Bytes) (said : Said) (old new : SeatCourse) (brought : SeatBrought) (c : Client) (course : Course) (given_up : Bool) → ShowsFate name owed said old brought c
-    → (c.course ≡ RowRefused → course ≡ RowRefused) → (course_of old ≡ c.course → course_of new ≡ course) → ShowsFate name owed said new brought (record c { course = course; has_given_up = given_up })
-fate_with name owed said old new Refused c course given_up shows stays same = refused_with owed c course given_up shows stays
-fate_with name owed said old new NoneYet c course given_up shows stays same = (same shows.0, shows.1)
-fate_with name owed said old new NoneOfUse c course given_up shows stays same = (same shows.0, shows.1)
-fate_with name owed said old new (JoinsRow id plain) c course given_up shows stays same = (same shows.0, shows.1)
-fate_with name owed said old new (PassesOn x) c course given_up shows stays same = (same shows.0, shows.1)
-fate_with name owed said old new IsTooWide c course given_up shows stays same = (same shows.0, shows.1)
+fate_with : (number : ℕ → ℕ) (name : Bytes) (owed : List Bytes) (said : Said) (old new : SeatCourse) (brought : SeatBrought) (c : Client) (course : Course) (given_up : Bool) → ShowsFate number name owed said old brought c
+    → (c.course ≡ RowRefused → course ≡ RowRefused) → (course_of old ≡ c.course → course_of new ≡ course) → ShowsFate number name owed said new brought (record c { course = course; has_given_up = given_up })
+fate_with number name owed said old new Refused c course given_up shows stays same = refused_with owed c course given_up shows stays
+fate_with number name owed said old new NoneYet c course given_up shows stays same = (same shows.0, shows.1)
+fate_with number name owed said old new NoneOfUse c course given_up shows stays same = (same shows.0, shows.1)
+fate_with number name owed said old new (JoinsRow id plain) c course given_up shows stays same = (same shows.0, shows.1)
+fate_with number name owed said old new (PassesOn x) c course given_up shows stays same = (same shows.0, shows.1)
+fate_with number name owed said old new IsTooWide c course given_up shows stays same = (same shows.0, shows.1)
 
-open_with : (name : Bytes) (owed : List Bytes) (seat : Seat) (c : Client) (new : SeatCourse) (course : Course) (given_up : Bool) → ShowsOpen name owed seat c
+open_with : (number : ℕ → ℕ) (name : Bytes) (owed : List Bytes) (seat : Seat) (c : Client) (new : SeatCourse) (course : Course) (given_up : Bool) → ShowsOpen number name owed seat c
     → (c.course ≡ RowRefused → course ≡ RowRefused) → (course_of seat.course ≡ c.course → course_of new ≡ course)
-    → ShowsOpen name owed (record seat { course = new; has_given_up = given_up }) (record c { course = course; has_given_up = given_up })
-open_with name owed seat c new course given_up shows stays same = record {
+    → ShowsOpen number name owed (record seat { course = new; has_given_up = given_up }) (record c { course = course; has_given_up = given_up })
+open_with number name owed seat c new course given_up shows stays same = record {
   hung_up = shows.hung_up;
   mark = shows.mark;
   heard = shows.heard;
@@ -52,7 +52,7 @@ open_with name owed seat c new course given_up shows stays same = record {
   index = shows.index;
   stage = shows.stage;
   waits_on = shows.waits_on;
-  fate = fate_with name owed seat.client.reply seat.course new seat.brought c course given_up shows.fate stays same;
+  fate = fate_with number name owed seat.client.reply seat.course new seat.brought c course given_up shows.fate stays same;
   asked = shows.asked;
   piped = shows.piped;
   given_up = refl;
@@ -61,24 +61,24 @@ open_with name owed seat c new course given_up shows stays same = record {
   closes = shows.closes;
 }
 
-seat_with : (name : Bytes) (owed : List Bytes) (seat : Seat) (c : Client) (new : SeatCourse) (course : Course) (given_up : Bool) → ShowsSeat name owed seat c
+seat_with : (number : ℕ → ℕ) (name : Bytes) (owed : List Bytes) (seat : Seat) (c : Client) (new : SeatCourse) (course : Course) (given_up : Bool) → ShowsSeat number name owed seat c
     → (c.course ≡ RowRefused → course ≡ RowRefused) → (course_of seat.course ≡ c.course → course_of new ≡ course)
-    → ShowsSeat name owed (record seat { course = new; has_given_up = given_up }) (record c { course = course; has_given_up = given_up })
-seat_with name owed seat c new course given_up shows stays same = record {
+    → ShowsSeat number name owed (record seat { course = new; has_given_up = given_up }) (record c { course = course; has_given_up = given_up })
+seat_with number name owed seat c new course given_up shows stays same = record {
   number = shows.number;
   closing = shows.closing;
-  going = λ going. open_with name owed seat c new course given_up (shows.going going) stays same;
+  going = λ going. open_with number name owed seat c new course given_up (shows.going going) stays same;
 }
 
 -- given up is what was given up
-seat_same : (name : Bytes) (owed : List Bytes) (seat : Seat) (c : Client) (new : SeatCourse) (course : Course) → ShowsSeat name owed seat c
+seat_same : (number : ℕ → ℕ) (name : Bytes) (owed : List Bytes) (seat : Seat) (c : Client) (new : SeatCourse) (course : Course) → ShowsSeat number name owed seat c
     → (c.course ≡ RowRefused → course ≡ RowRefused) → (course_of seat.course ≡ c.course → course_of new ≡ course)
-    → ShowsSeat name owed (record seat { course = new }) (record c { course = course })
-seat_same name owed seat c new course shows stays same = record {
+    → ShowsSeat number name owed (record seat { course = new }) (record c { course = course })
+seat_same number name owed seat c new course shows stays same = record {
   number = shows.number;
   closing = shows.closing;
-  going = λ going. subst (λ (b : Bool). ShowsOpen name owed (record seat { course = new }) (record c { course = course; has_given_up = b })) (shows.going going).given_up
-      (open_with name owed seat c new course seat.has_given_up (shows.going going) stays same);
+  going = λ going. subst (λ (b : Bool). ShowsOpen number name owed (record seat { course = new }) (record c { course = course; has_given_up = b })) (shows.going going).given_up
+      (open_with number name owed seat c new course seat.has_given_up (shows.going going) stays same);
 }
 
 isnt_refused : (course : Course) → is_refused course ≡ false → (other : Course) → course ≡ RowRefused → other ≡ RowRefused
@@ -99,8 +99,8 @@ lost_same most IsOut = refl
 lost_same most IsTooLong = refl
 
 pub attempts : AttemptsAreTheLaws
-attempts most name owed seat c shows is =
-    seat_same name owed seat c (lost_one_in most seat.course) (lost_one most c.course) shows (λ refused. ap (lost_one most) refused) (λ same. lost_same most seat.course ∙ ap (lost_one most) same)
+attempts most number name owed seat c shows is =
+    seat_same number name owed seat c (lost_one_in most seat.course) (lost_one most c.course) shows (λ refused. ap (lost_one most) refused) (λ same. lost_same most seat.course ∙ ap (lost_one most) same)
 
 anew_same : (course : SeatCourse) → anew (course_of course) ≡ Trying 0
 anew_same (IsTrying n) = refl
@@ -108,52 +108,52 @@ anew_same IsOut = refl
 anew_same IsTooLong = refl
 
 pub counts_anew : AnewIsTheLaws
-counts_anew name owed seat c shows is = seat_same name owed seat c (IsTrying 0) (anew c.course) shows (λ refused. ap anew refused) (λ same. sym (anew_same seat.course) ∙ ap anew same)
+counts_anew number name owed seat c shows is = seat_same number name owed seat c (IsTrying 0) (anew c.course) shows (λ refused. ap anew refused) (λ same. sym (anew_same seat.course) ∙ ap anew same)
 
 pub ends : EndsAreTheLaws
-ends name owed seat c shows isnt = seat_same name owed seat c IsOut OutOfTries shows (isnt_refused c.course isnt OutOfTries) (λ same. refl)
+ends number name owed seat c shows isnt = seat_same number name owed seat c IsOut OutOfTries shows (isnt_refused c.course isnt OutOfTries) (λ same. refl)
 
 pub long_asks : LongAsksAreTheLaws
-long_asks name owed seat c shows isnt = seat_same name owed seat c IsTooLong AskTooLong shows (isnt_refused c.course isnt AskTooLong) (λ same. refl)
+long_asks number name owed seat c shows isnt = seat_same number name owed seat c IsTooLong AskTooLong shows (isnt_refused c.course isnt AskTooLong) (λ same. refl)
 
 -- ---- rows
 
 -- of one that is closing no more is shown than that
-crossed : (name : Bytes) (owed : List Bytes) (seat : Seat) (c : Client) → seat.client.id ≡ c.number → seat.is_closing ≡ c.is_closing → (c.is_closing ≡ false → true ≡ false) → ShowsSeat name owed seat c
-crossed name owed seat c number closing isnt = record { number = number; closing = closing; going = λ going. let e : true ≡ false = isnt going in absurd (cc e) }
+crossed : (number : ℕ → ℕ) (name : Bytes) (owed : List Bytes) (seat : Seat) (c : Client) → seat.client.id ≡ c.number → seat.is_closing ≡ c.is_closing → (c.is_closing ≡ false → true ≡ false) → ShowsSeat number name owed seat c
+crossed number name owed seat c numbered closing isnt = record { number = numbered; closing = closing; going = λ going. let e : true ≡ false = isnt going in absurd (cc e) }
 
-row_by : (name : Bytes) (owed : List Bytes) (seat : Seat) (c : Client) (a b : Bool) → ShowsSeat name owed seat c → is_refused c.course ≡ false → (c.is_closing ≡ false → a ≡ b)
-    → ShowsSeat name owed (elim a as (λ x. Seat) [ true ↦ seat | false ↦ record seat { course = IsTrying 0; has_given_up = true } ])
+row_by : (number : ℕ → ℕ) (name : Bytes) (owed : List Bytes) (seat : Seat) (c : Client) (a b : Bool) → ShowsSeat number name owed seat c → is_refused c.course ≡ false → (c.is_closing ≡ false → a ≡ b)
+    → ShowsSeat number name owed (elim a as (λ x. Seat) [ true ↦ seat | false ↦ record seat { course = IsTrying 0; has_given_up = true } ])
     (elim b as (λ x. Client) [ true ↦ c | false ↦ record c { course = Trying 0; has_given_up = true } ])
-row_by name owed seat c true true shows isnt same = shows
-row_by name owed seat c false false shows isnt same = seat_with name owed seat c (IsTrying 0) (Trying 0) true shows (isnt_refused c.course isnt (Trying 0)) (λ same. refl)
-row_by name owed seat c true false shows isnt same = crossed name owed seat (record c { course = Trying 0; has_given_up = true }) shows.number shows.closing same
-row_by name owed seat c false true shows isnt same = crossed name owed (record seat { course = IsTrying 0; has_given_up = true }) c shows.number shows.closing (λ going. sym (same going))
+row_by number name owed seat c true true shows isnt same = shows
+row_by number name owed seat c false false shows isnt same = seat_with number name owed seat c (IsTrying 0) (Trying 0) true shows (isnt_refused c.course isnt (Trying 0)) (λ same. refl)
+row_by number name owed seat c true false shows isnt same = crossed number name owed seat (record c { course = Trying 0; has_given_up = true }) shows.number shows.closing same
+row_by number name owed seat c false true shows isnt same = crossed number name owed (record seat { course = IsTrying 0; has_given_up = true }) c shows.number shows.closing (λ going. sym (same going))
 
-stands_same : (name : Bytes) (owed : List Bytes) (seat : Seat) (c : Client) → ShowsSeat name owed seat c → c.is_closing ≡ false → (has_begun seat || seat.has_given_up) ≡ (is_begun c || c.has_given_up)
-stands_same name owed seat c shows going = ap₂ (λ (a b : Bool). a || b) (begun name owed seat c (shows.going going)) (shows.going going).given_up
+stands_same : (number : ℕ → ℕ) (name : Bytes) (owed : List Bytes) (seat : Seat) (c : Client) → ShowsSeat number name owed seat c → c.is_closing ≡ false → (has_begun seat || seat.has_given_up) ≡ (is_begun c || c.has_given_up)
+stands_same number name owed seat c shows going = ap₂ (λ (a b : Bool). a || b) (begun number name owed seat c (shows.going going)) (shows.going going).given_up
 
 pub rows_leave : RowsLeaveAsTheLaws
-rows_leave name owed seat c shows isnt = row_by name owed seat c (has_begun seat || seat.has_given_up) (is_begun c || c.has_given_up) shows isnt (stands_same name owed seat c shows)
+rows_leave number name owed seat c shows isnt = row_by number name owed seat c (has_begun seat || seat.has_given_up) (is_begun c || c.has_given_up) shows isnt (stands_same number name owed seat c shows)
 
-shared_by : (most : ℕ) (name : Bytes) (owed : List Bytes) (seat : Seat) (c : Client) (a b x y : Bool) → ShowsSeat name owed seat c → is_refused c.course ≡ false → (c.is_closing ≡ false → a ≡ b) → (c.is_closing ≡ false → x ≡ y)
-    → ShowsSeat name owed
+shared_by : (number : ℕ → ℕ) (most : ℕ) (name : Bytes) (owed : List Bytes) (seat : Seat) (c : Client) (a b x y : Bool) → ShowsSeat number name owed seat c → is_refused c.course ≡ false → (c.is_closing ≡ false → a ≡ b) → (c.is_closing ≡ false → x ≡ y)
+    → ShowsSeat number name owed
     (elim a as (λ x. Seat) [ true ↦ record seat { course = lost_one_in most seat.course } | false ↦ elim x as (λ x. Seat) [ true ↦ seat | false ↦ record seat { course = IsTrying 0; has_given_up = true } ] ])
     (elim b as (λ x. Client) [ true ↦ record c { course = lost_one most c.course } | false ↦ elim y as (λ x. Client) [ true ↦ c | false ↦ record c { course = Trying 0; has_given_up = true } ] ])
-shared_by most name owed seat c true true x y shows isnt same other = attempts most name owed seat c shows refl
-shared_by most name owed seat c false false x y shows isnt same other = row_by name owed seat c x y shows isnt other
-shared_by most name owed seat c true false x true shows isnt same other = crossed name owed (record seat { course = lost_one_in most seat.course }) c shows.number shows.closing same
-shared_by most name owed seat c true false x false shows isnt same other =
-    crossed name owed (record seat { course = lost_one_in most seat.course }) (record c { course = Trying 0; has_given_up = true }) shows.number shows.closing same
-shared_by most name owed seat c false true true y shows isnt same other = crossed name owed seat (record c { course = lost_one most c.course }) shows.number shows.closing (λ going. sym (same going))
-shared_by most name owed seat c false true false y shows isnt same other =
-    crossed name owed (record seat { course = IsTrying 0; has_given_up = true }) (record c { course = lost_one most c.course }) shows.number shows.closing (λ going. sym (same going))
+shared_by number most name owed seat c true true x y shows isnt same other = attempts most number name owed seat c shows refl
+shared_by number most name owed seat c false false x y shows isnt same other = row_by number name owed seat c x y shows isnt other
+shared_by number most name owed seat c true false x true shows isnt same other = crossed number name owed (record seat { course = lost_one_in most seat.course }) c shows.number shows.closing same
+shared_by number most name owed seat c true false x false shows isnt same other =
+    crossed number name owed (record seat { course = lost_one_in most seat.course }) (record c { course = Trying 0; has_given_up = true }) shows.number shows.closing same
+shared_by number most name owed seat c false true true y shows isnt same other = crossed number name owed seat (record c { course = lost_one most c.course }) shows.number shows.closing (λ going. sym (same going))
+shared_by number most name owed seat c false true false y shows isnt same other =
+    crossed number name owed (record seat { course = IsTrying 0; has_given_up = true }) (record c { course = lost_one most c.course }) shows.number shows.closing (λ going. sym (same going))
 
 pub shared_rows_leave : SharedRowsLeaveAsTheLaws
-shared_rows_leave most name owed seat c shows isnt =
-    shared_by most name owed seat c (seat.has_given_up && not (has_begun seat)) (c.has_given_up && not (is_begun c)) (has_begun seat || seat.has_given_up) (is_begun c || c.has_given_up) shows isnt
-    (λ going. ap₂ (λ (a b : Bool). a && not b) (shows.going going).given_up (begun name owed seat c (shows.going going)))
-    (stands_same name owed seat c shows)
+shared_rows_leave most number name owed seat c shows isnt =
+    shared_by number most name owed seat c (seat.has_given_up && not (has_begun seat)) (c.has_given_up && not (is_begun c)) (has_begun seat || seat.has_given_up) (is_begun c || c.has_given_up) shows isnt
+    (λ going. ap₂ (λ (a b : Bool). a && not b) (shows.going going).given_up (begun number name owed seat c (shows.going going)))
+    (stands_same number name owed seat c shows)
 
 -- ---- a hole that nobody fills
 

@@ -1,5 +1,5 @@
 -- What is decided for a seat by its head alone, and by the row of its key, is what is decided for its client.
-use Rattle.std.proofs.Common.{◌≡◌, ◌⊎◌, inl, inr, refl, sym, ap, ◌∙◌, ℕ, Bool, true, false, ◌==◌, ◌&&◌, is_ok, List, Option, Some, None, option_map, Result, Ok, Err, arith}
+use Rattle.std.proofs.Common.{◌≡◌, ◌⊎◌, inl, inr, refl, sym, ap, ap₂, ◌∙◌, ℕ, Bool, true, false, ◌==◌, ◌&&◌, is_ok, List, Option, Some, None, option_map, Result, Ok, Err, arith}
 use Rattle.std.proofs.lemmas.Bool.Decides.{nat_tests}
 use Rattle.pp_client.specs.Replies.{Reply as Said}
 use Rattle.pp_objects.specs.declared.id.ObjectId.{ObjectId}
@@ -64,7 +64,7 @@ decided_by s c (IsThere a) (IsRequest r) status shows is = by (refused_head a.ke
 decided_by s c front f status shows is = absurd shows
 
 pub heads : HeadsAreTheLaws
-heads s status name owed seat c shows is = decided_by s c seat.front c.front status shows.front is
+heads s status number name owed seat c shows is = decided_by s c seat.front c.front status shows.front is
 
 -- ---- the row of its key
 
@@ -91,36 +91,41 @@ row_decides s c key (IsThere a) (IsRequest r) same shows isnt is =
 row_decides s c key front f same shows isnt is = absurd shows
 
 pub rows_decide : RowsDecideAsTheLaws
-rows_decide s key name owed seat c shows isnt is = row_decides s c key seat.front c.front refl shows.front isnt is
+rows_decide s key number name owed seat c shows isnt is = row_decides s c key seat.front c.front refl shows.front isnt is
 
 -- ---- what its exchange brought
 
-same_lives : (slot other life born : ℕ) (b : Bool) → (life ≡ born → slot ≡ other) → (life == born) ≡ b → ((slot == other) && (life == born)) ≡ b
-same_lives slot other life born true apart is =
-    ap (λ (x : Bool). (slot == other) && x) is ∙ and_true (slot == other) ∙ number (apart (same life born is))
+same_number : (m n : ℕ) → (m == n) ≡ true → m ≡ n
+same_number m n is = grind (arith, nat_tests)
+
+number_same : (m n : ℕ) → m ≡ n → (m == n) ≡ true
+number_same m n is = grind (arith, nat_tests)
+
+and_false : (b : Bool) → (b && false) ≡ false
+and_false true = refl
+and_false false = refl
+
+-- where no two instances have one number, one is another where its number is that of the other
+same_ids : (number : ℕ → ℕ) (id joined : ObjectId) (b : Bool) → (number id.life ≡ number joined.life → id ≡ joined) → (number id.life == number joined.life) ≡ b → ((id.slot == joined.slot) && (id.life == joined.life)) ≡ b
+same_ids number id joined true apart is =
+    let one : id ≡ joined = apart (same_number (number id.life) (number joined.life) is) in
+    ap₂ (λ (a b : Bool). a && b) (number_same id.slot joined.slot (ap (λ (x : ObjectId). x.slot) one)) (number_same id.life joined.life (ap (λ (x : ObjectId). x.life) one))
+same_ids number id joined false apart isnt = by (id.life == joined.life) refl
   where
-    same : (m n : ℕ) → (m == n) ≡ true → m ≡ n
-    same m n is = grind (arith, nat_tests)
+    other : (number id.life == number joined.life) ≡ true → ⊥
+    other is = let e : true ≡ false = sym is ∙ isnt in absurd (cc e)
 
-    and_true : (x : Bool) → (x && true) ≡ x
-    and_true true = refl
-    and_true false = refl
+    by : (b : Bool) → (id.life == joined.life) ≡ b → ((id.slot == joined.slot) && (id.life == joined.life)) ≡ false
+    by true is = absurd (other (number_same (number id.life) (number joined.life) (ap (λ (n : ℕ). number n) (same_number id.life joined.life is))))
+    by false is = ap (λ (b : Bool). (id.slot == joined.slot) && b) is ∙ and_false (id.slot == joined.slot)
 
-    number : slot ≡ other → (slot == other) ≡ true
-    number e = grind (arith, nat_tests)
-same_lives slot other life born false apart isnt = ap (λ (x : Bool). (slot == other) && x) isnt ∙ and_false (slot == other)
-  where
-    and_false : (x : Bool) → (x && false) ≡ false
-    and_false true = refl
-    and_false false = refl
-
-joined_same : (joined : ObjectId) (row : Option ObjectId) (x : Option Instance) → source_number row ≡ option_map (λ (i : Instance). i.id) x → ((id : ObjectId) → row ≡ Some id → id.life ≡ joined.life → id.slot ≡ joined.slot)
-    → is_row_joined joined row ≡ is_some_with (λ i. i.id == joined.life) x
-joined_same joined None None same apart = refl
-joined_same joined None (Some x) same apart = absurd (none_some same)
-joined_same joined (Some id) None same apart = absurd (some_none same)
-joined_same joined (Some id) (Some x) same apart =
-    same_lives id.slot joined.slot id.life joined.life (id.life == joined.life) (apart id refl) refl ∙ ap (λ (n : ℕ). n == joined.life) (same_some id.life x.id same)
+joined_same : (number : ℕ → ℕ) (joined : ObjectId) (row : Option ObjectId) (x : Option Instance) → source_number number row ≡ option_map (λ (i : Instance). i.id) x → ((id : ObjectId) → row ≡ Some id → number id.life ≡ number joined.life → id ≡ joined)
+    → is_row_joined joined row ≡ is_some_with (λ i. i.id == number joined.life) x
+joined_same number joined None None same apart = refl
+joined_same number joined None (Some x) same apart = absurd (none_some same)
+joined_same number joined (Some id) None same apart = absurd (some_none same)
+joined_same number joined (Some id) (Some x) same apart =
+    same_ids number id joined (number id.life == number joined.life) (apart id refl) refl ∙ ap (λ (n : ℕ). n == number joined.life) (same_some (number id.life) x.id same)
 
 abbrev counted_in : State → Bytes → Brought → Begun
 counted_in s key brought = elim brought [
@@ -131,25 +136,25 @@ counted_in s key brought = elim brought [
   | TooWide ↦ Widened
 ]
 
-brought_counts : (s : State) (key : Bytes) (row : Option ObjectId) (name : Bytes) (said : Said) (front : Front) (brought : SeatBrought) (other : Brought) → ShowsBrought name said front brought other → source_number row ≡ option_map (λ (i : Instance). i.id) (row_of s key)
-    → AreApart row brought → begun_in brought row ≡ counted_in s key other
-brought_counts s key row name said front IsAwaited Awaited shows same apart = refl
-brought_counts s key row name said front NoneOfUse Useless shows same apart = refl
-brought_counts s key row name said front (JoinsRow joined plain) (Joins n other) shows same apart =
+brought_counts : (number : ℕ → ℕ) (s : State) (key : Bytes) (row : Option ObjectId) (name : Bytes) (said : Said) (front : Front) (brought : SeatBrought) (other : Brought) → ShowsBrought number name said front brought other → source_number number row ≡ option_map (λ (i : Instance). i.id) (row_of s key)
+    → AreApart number row brought → begun_in brought row ≡ counted_in s key other
+brought_counts number s key row name said front IsAwaited Awaited shows same apart = refl
+brought_counts number s key row name said front NoneOfUse Useless shows same apart = refl
+brought_counts number s key row name said front (JoinsRow joined plain) (Joins n other) shows same apart =
     ap (λ (b : Bool). elim b as (λ x. Begun) [ true ↦ Settled | false ↦ Nothing ])
-    (joined_same joined row (row_of s key) same (λ id is. apart id joined plain is refl) ∙ ap (λ (m : ℕ). is_some_with (λ x. x.id == m) (row_of s key)) shows.0)
-brought_counts s key row name said front (PassesOn x) (Passes p) shows same apart = refl
-brought_counts s key row name said front IsTooWide TooWide shows same apart = refl
-brought_counts s key row name said front brought other shows same apart = absurd shows
+    (joined_same number joined row (row_of s key) same (λ id is. apart id joined plain is refl) ∙ ap (λ (m : ℕ). is_some_with (λ x. x.id == m) (row_of s key)) shows.0)
+brought_counts number s key row name said front (PassesOn x) (Passes p) shows same apart = refl
+brought_counts number s key row name said front IsTooWide TooWide shows same apart = refl
+brought_counts number s key row name said front brought other shows same apart = absurd shows
 
-fate_counts : (s : State) (key : Bytes) (row : Option ObjectId) (name : Bytes) (owed : List Bytes) (said : Said) (course : SeatCourse) (brought : SeatBrought) (c : Client) → ShowsFate name owed said course brought c → is_refused_in brought ≡ false
-    → source_number row ≡ option_map (λ (i : Instance). i.id) (row_of s key) → AreApart row brought → begun_in brought row ≡ begun_now s c key
-fate_counts s key row name owed said course Refused c shows isnt same apart = absurd (cc isnt)
-fate_counts s key row name owed said course IsAwaited c shows isnt same apart = brought_counts s key row name said c.front IsAwaited c.brought shows.1 same apart
-fate_counts s key row name owed said course NoneOfUse c shows isnt same apart = brought_counts s key row name said c.front NoneOfUse c.brought shows.1 same apart
-fate_counts s key row name owed said course (JoinsRow id plain) c shows isnt same apart = brought_counts s key row name said c.front (JoinsRow id plain) c.brought shows.1 same apart
-fate_counts s key row name owed said course (PassesOn x) c shows isnt same apart = brought_counts s key row name said c.front (PassesOn x) c.brought shows.1 same apart
-fate_counts s key row name owed said course IsTooWide c shows isnt same apart = brought_counts s key row name said c.front IsTooWide c.brought shows.1 same apart
+fate_counts : (number : ℕ → ℕ) (s : State) (key : Bytes) (row : Option ObjectId) (name : Bytes) (owed : List Bytes) (said : Said) (course : SeatCourse) (brought : SeatBrought) (c : Client) → ShowsFate number name owed said course brought c → is_refused_in brought ≡ false
+    → source_number number row ≡ option_map (λ (i : Instance). i.id) (row_of s key) → AreApart number row brought → begun_in brought row ≡ begun_now s c key
+fate_counts number s key row name owed said course Refused c shows isnt same apart = absurd (cc isnt)
+fate_counts number s key row name owed said course IsAwaited c shows isnt same apart = brought_counts number s key row name said c.front IsAwaited c.brought shows.1 same apart
+fate_counts number s key row name owed said course NoneOfUse c shows isnt same apart = brought_counts number s key row name said c.front NoneOfUse c.brought shows.1 same apart
+fate_counts number s key row name owed said course (JoinsRow id plain) c shows isnt same apart = brought_counts number s key row name said c.front (JoinsRow id plain) c.brought shows.1 same apart
+fate_counts number s key row name owed said course (PassesOn x) c shows isnt same apart = brought_counts number s key row name said c.front (PassesOn x) c.brought shows.1 same apart
+fate_counts number s key row name owed said course IsTooWide c shows isnt same apart = brought_counts number s key row name said c.front IsTooWide c.brought shows.1 same apart
 
 pub brought_counts_so : BroughtCountsAsTheLaws
-brought_counts_so s row key name owed seat c shows isnt same apart = fate_counts s key row name owed seat.client.reply seat.course seat.brought c shows.fate isnt same apart
+brought_counts_so s row key number name owed seat c shows isnt same apart = fate_counts number s key row name owed seat.client.reply seat.course seat.brought c shows.fate isnt same apart

@@ -269,8 +269,8 @@ heard_behind h r heard left skip bytes shows =
 
 -- ---- the seat
 
-heard_of : (name : Bytes) (owed : List Bytes) (seat : Seat) (c : Client) → ShowsOpen name owed seat c → (front : Front) → c.front ≡ front → IsHeardAs seat.client.heard front c.heard c.body_left c.skip
-heard_of name owed seat c shows front same = subst (λ (f : Front). IsHeardAs seat.client.heard f c.heard c.body_left c.skip) same (record { heard = shows.heard; body = shows.body; over = shows.over })
+heard_of : (number : ℕ → ℕ) (name : Bytes) (owed : List Bytes) (seat : Seat) (c : Client) → ShowsOpen number name owed seat c → (front : Front) → c.front ≡ front → IsHeardAs seat.client.heard front c.heard c.body_left c.skip
+heard_of number name owed seat c shows front same = subst (λ (f : Front). IsHeardAs seat.client.heard f c.heard c.body_left c.skip) same (record { heard = shows.heard; body = shows.body; over = shows.over })
 
 -- what the law hears
 abbrev more_of : Bytes → Client → Client
@@ -285,14 +285,14 @@ left_same (NoneThere status) (NoHead other) shows = refl
 left_same (IsThere a) (IsRequest r) shows = shows.body_len
 left_same nf f shows = absurd shows
 
-none_brought : (name : Bytes) (said : Said) (f g : Front) (other : Brought) → ShowsBrought name said f IsAwaited other → ShowsBrought name said g IsAwaited other
-none_brought name said f g Awaited shows = tt
-none_brought name said f g other shows = absurd shows
+none_brought : (number : ℕ → ℕ) (name : Bytes) (said : Said) (f g : Front) (other : Brought) → ShowsBrought number name said f IsAwaited other → ShowsBrought number name said g IsAwaited other
+none_brought number name said f g Awaited shows = tt
+none_brought number name said f g other shows = absurd shows
 
-fate_anew : (name : Bytes) (owed : List Bytes) (said : Said) (course : SeatCourse) (brought : SeatBrought) (c : Client) (f : Front) (heard : Bytes) (left skip : ℕ) → IsBroughtFor NoHeadYet brought → ShowsFate name owed said course brought c
-    → ShowsFate name owed said course brought (record c { front = f; heard = heard; body_left = left; skip = skip })
-fate_anew name owed said course IsAwaited c f heard left skip none shows = (shows.0, none_brought name said c.front f c.brought shows.1)
-fate_anew name owed said course brought c f heard left skip none shows = absurd none
+fate_anew : (number : ℕ → ℕ) (name : Bytes) (owed : List Bytes) (said : Said) (course : SeatCourse) (brought : SeatBrought) (c : Client) (f : Front) (heard : Bytes) (left skip : ℕ) → IsBroughtFor NoHeadYet brought → ShowsFate number name owed said course brought c
+    → ShowsFate number name owed said course brought (record c { front = f; heard = heard; body_left = left; skip = skip })
+fate_anew number name owed said course IsAwaited c f heard left skip none shows = (shows.0, none_brought number name said c.front f c.brought shows.1)
+fate_anew number name owed said course brought c f heard left skip none shows = absurd none
 
 brought_for : (brought : SeatBrought) (f : Front) → IsBroughtFor NoHeadYet brought → IsBroughtFor f brought
 brought_for IsAwaited NoHeadYet none = tt
@@ -301,10 +301,10 @@ brought_for IsAwaited (IsRequest r) none = tt
 brought_for brought f none = absurd none
 
 -- what was read of it, where there was no request
-read_first : (name : Bytes) (owed : List Bytes) (seat : Seat) (c : Client) (bytes : Bytes) (nf : SeatFront) (f : Front) (heard : Bytes) (left skip : ℕ) → ShowsOpen name owed seat c → c.front ≡ NoHeadYet
+read_first : (number : ℕ → ℕ) (name : Bytes) (owed : List Bytes) (seat : Seat) (c : Client) (bytes : Bytes) (nf : SeatFront) (f : Front) (heard : Bytes) (left skip : ℕ) → ShowsOpen number name owed seat c → c.front ≡ NoHeadYet
     → IsHeardAs (heard_in bytes seat.client.heard) f heard left skip → ShowsFront nf f → left ≡ body_len f
-    → ShowsOpen name owed (record (heard_on bytes seat) { front = nf; body_left = body_len_in (asked_in nf) }) (record c { front = f; heard = heard; body_left = left; skip = skip })
-read_first name owed seat c bytes nf f heard left skip shows none stood front is = record {
+    → ShowsOpen number name owed (record (heard_on bytes seat) { front = nf; body_left = body_len_in (asked_in nf) }) (record c { front = f; heard = heard; body_left = left; skip = skip })
+read_first number name owed seat c bytes nf f heard left skip shows none stood front is = record {
   hung_up = shows.hung_up;
   mark = shows.mark;
   heard = stood.heard;
@@ -315,7 +315,7 @@ read_first name owed seat c bytes nf f heard left skip shows none stood front is
   index = shows.index;
   stage = shows.stage;
   waits_on = shows.waits_on;
-  fate = fate_anew name owed seat.client.reply seat.course seat.brought c f heard left skip (subst (λ (g : Front). IsBroughtFor g seat.brought) none shows.asked) shows.fate;
+  fate = fate_anew number name owed seat.client.reply seat.course seat.brought c f heard left skip (subst (λ (g : Front). IsBroughtFor g seat.brought) none shows.asked) shows.fate;
   asked = brought_for seat.brought f (subst (λ (g : Front). IsBroughtFor g seat.brought) none shows.asked);
   piped = shows.piped;
   given_up = shows.given_up;
@@ -325,17 +325,17 @@ read_first name owed seat c bytes nf f heard left skip shows none stood front is
 }
 
 -- what was heard behind what stands there
-fate_later : (name : Bytes) (owed : List Bytes) (said : Said) (course : SeatCourse) (brought : SeatBrought) (c : Client) (heard : Bytes) (skip : ℕ) → ShowsFate name owed said course brought c → ShowsFate name owed said course brought (record c { heard = heard; skip = skip })
-fate_later name owed said course Refused c heard skip shows = record { waits = shows.waits; joins = shows.joins; refused = shows.refused }
-fate_later name owed said course IsAwaited c heard skip shows = shows
-fate_later name owed said course Useless c heard skip shows = shows
-fate_later name owed said course (Joins id plain) c heard skip shows = shows
-fate_later name owed said course (Passes x) c heard skip shows = shows
-fate_later name owed said course TooWide c heard skip shows = shows
+fate_later : (number : ℕ → ℕ) (name : Bytes) (owed : List Bytes) (said : Said) (course : SeatCourse) (brought : SeatBrought) (c : Client) (heard : Bytes) (skip : ℕ) → ShowsFate number name owed said course brought c → ShowsFate number name owed said course brought (record c { heard = heard; skip = skip })
+fate_later number name owed said course Refused c heard skip shows = record { waits = shows.waits; joins = shows.joins; refused = shows.refused }
+fate_later number name owed said course IsAwaited c heard skip shows = shows
+fate_later number name owed said course Useless c heard skip shows = shows
+fate_later number name owed said course (Joins id plain) c heard skip shows = shows
+fate_later number name owed said course (Passes x) c heard skip shows = shows
+fate_later number name owed said course TooWide c heard skip shows = shows
 
-read_later : (name : Bytes) (owed : List Bytes) (seat : Seat) (c : Client) (bytes : Bytes) (heard : Bytes) (skip : ℕ) → ShowsOpen name owed seat c → IsHeardAs (heard_in bytes seat.client.heard) c.front heard c.body_left skip
-    → ShowsOpen name owed (heard_on bytes seat) (record c { heard = heard; skip = skip })
-read_later name owed seat c bytes heard skip shows stood = record {
+read_later : (number : ℕ → ℕ) (name : Bytes) (owed : List Bytes) (seat : Seat) (c : Client) (bytes : Bytes) (heard : Bytes) (skip : ℕ) → ShowsOpen number name owed seat c → IsHeardAs (heard_in bytes seat.client.heard) c.front heard c.body_left skip
+    → ShowsOpen number name owed (heard_on bytes seat) (record c { heard = heard; skip = skip })
+read_later number name owed seat c bytes heard skip shows stood = record {
   hung_up = shows.hung_up;
   mark = shows.mark;
   heard = stood.heard;
@@ -346,7 +346,7 @@ read_later name owed seat c bytes heard skip shows stood = record {
   index = shows.index;
   stage = shows.stage;
   waits_on = shows.waits_on;
-  fate = fate_later name owed seat.client.reply seat.course seat.brought c heard skip shows.fate;
+  fate = fate_later number name owed seat.client.reply seat.course seat.brought c heard skip shows.fate;
   asked = shows.asked;
   piped = shows.piped;
   given_up = shows.given_up;
@@ -355,24 +355,24 @@ read_later name owed seat c bytes heard skip shows stood = record {
   closes = shows.closes;
 }
 
-open_seat : (name : Bytes) (owed : List Bytes) (seat : Seat) (c : Client) → seat.client.id ≡ c.number → seat.is_closing ≡ c.is_closing → ShowsOpen name owed seat c → ShowsSeat name owed seat c
-open_seat name owed seat c number closing shows = record { number = number; closing = closing; going = λ going. shows }
+open_seat : (number : ℕ → ℕ) (name : Bytes) (owed : List Bytes) (seat : Seat) (c : Client) → seat.client.id ≡ c.number → seat.is_closing ≡ c.is_closing → ShowsOpen number name owed seat c → ShowsSeat number name owed seat c
+open_seat number name owed seat c numbered closing shows = record { number = numbered; closing = closing; going = λ going. shows }
 
 pub front_seen : (nf : SeatFront) (h : Heard) (f : Front) → IsFrontOf nf (current_of h) → front_of (h.head ++ h.rest) ≡ f → ShowsFront nf f
 front_seen nf h f is exact = subst (λ (g : Front). ShowsFront nf g) exact (fronts nf h is)
 
-read_none : (name : Bytes) (owed : List Bytes) (seat new : Seat) (c : Client) (bytes : Bytes) (sf : SeatFront) → ShowsSeat name owed seat c → c.is_closing ≡ false → c.front ≡ NoHeadYet → ShowsFront sf NoHeadYet → IsReadBehind sf (heard_on bytes seat) new
-    → ShowsSeat name owed new (fronted (more_of bytes c))
-read_none name owed seat new c bytes (NoneThere status) shows going none front is = absurd front
-read_none name owed seat new c bytes (IsThere a) shows going none front is = absurd front
-read_none name owed seat new c bytes NoneYet shows going none front is =
+read_none : (number : ℕ → ℕ) (name : Bytes) (owed : List Bytes) (seat new : Seat) (c : Client) (bytes : Bytes) (sf : SeatFront) → ShowsSeat number name owed seat c → c.is_closing ≡ false → c.front ≡ NoHeadYet → ShowsFront sf NoHeadYet → IsReadBehind sf (heard_on bytes seat) new
+    → ShowsSeat number name owed new (fronted (more_of bytes c))
+read_none number name owed seat new c bytes (NoneThere status) shows going none front is = absurd front
+read_none number name owed seat new c bytes (IsThere a) shows going none front is = absurd front
+read_none number name owed seat new c bytes NoneYet shows going none front is =
     let all : Bytes = c.heard ++ what_counts c.front (drop c.skip bytes) in
     let there : IsFronted (heard_in bytes seat.client.heard) all (c.skip - length bytes)
     = subst (λ (f : Front). IsFronted (heard_in bytes seat.client.heard) (c.heard ++ what_counts f (drop c.skip bytes)) (c.skip - length bytes)) (sym none)
-    (heard_first seat.client.heard c.heard c.body_left c.skip bytes (heard_of name owed seat c (shows.going going) NoHeadYet none)) in
-    subst (λ (s : Seat). ShowsSeat name owed s (fronted (more_of bytes c))) (sym is.1)
-    (open_seat name owed (record (heard_on bytes seat) { front = new.front; body_left = body_len_in (asked_in new.front) }) (fronted (more_of bytes c)) shows.number shows.closing
-    (read_first name owed seat c bytes new.front (front_of all) (what_counts (front_of all) (behind_head (front_of all) all)) (body_len (front_of all)) (c.skip - length bytes) (shows.going going) none there.stands
+    (heard_first seat.client.heard c.heard c.body_left c.skip bytes (heard_of number name owed seat c (shows.going going) NoHeadYet none)) in
+    subst (λ (s : Seat). ShowsSeat number name owed s (fronted (more_of bytes c))) (sym is.1)
+    (open_seat number name owed (record (heard_on bytes seat) { front = new.front; body_left = body_len_in (asked_in new.front) }) (fronted (more_of bytes c)) shows.number shows.closing
+    (read_first number name owed seat c bytes new.front (front_of all) (what_counts (front_of all) (behind_head (front_of all) all)) (body_len (front_of all)) (c.skip - length bytes) (shows.going going) none there.stands
     (front_seen new.front (heard_in bytes seat.client.heard) (front_of all) is.0 there.exact) refl))
 
 -- where something stood there already nothing else is read
@@ -382,40 +382,40 @@ read_there (NoneThere status) (NoHead other) old new shows some is = is
 read_there (IsThere a) (IsRequest r) old new shows some is = is
 read_there sf f old new shows some is = absurd shows
 
-read_more : (name : Bytes) (owed : List Bytes) (seat new : Seat) (c : Client) (bytes : Bytes) (front : Front) → ShowsSeat name owed seat c → c.is_closing ≡ false → c.front ≡ front → (front ≡ NoHeadYet → ⊥) → IsRead (heard_on bytes seat) new
-    → IsHeardAs (heard_in bytes seat.client.heard) front (c.heard ++ what_counts front (drop c.skip bytes)) c.body_left (c.skip - length bytes) → ShowsSeat name owed new (more_of bytes c)
-read_more name owed seat new c bytes front shows going same some is stood =
-    subst (λ (s : Seat). ShowsSeat name owed s (more_of bytes c)) (sym (read_there seat.front c.front (heard_on bytes seat) new (shows.going going).front (λ none. some (sym same ∙ none)) is))
-    (open_seat name owed (heard_on bytes seat) (more_of bytes c) shows.number shows.closing
-    (read_later name owed seat c bytes (c.heard ++ what_counts c.front (drop c.skip bytes)) (c.skip - length bytes) (shows.going going)
+read_more : (number : ℕ → ℕ) (name : Bytes) (owed : List Bytes) (seat new : Seat) (c : Client) (bytes : Bytes) (front : Front) → ShowsSeat number name owed seat c → c.is_closing ≡ false → c.front ≡ front → (front ≡ NoHeadYet → ⊥) → IsRead (heard_on bytes seat) new
+    → IsHeardAs (heard_in bytes seat.client.heard) front (c.heard ++ what_counts front (drop c.skip bytes)) c.body_left (c.skip - length bytes) → ShowsSeat number name owed new (more_of bytes c)
+read_more number name owed seat new c bytes front shows going same some is stood =
+    subst (λ (s : Seat). ShowsSeat number name owed s (more_of bytes c)) (sym (read_there seat.front c.front (heard_on bytes seat) new (shows.going going).front (λ none. some (sym same ∙ none)) is))
+    (open_seat number name owed (heard_on bytes seat) (more_of bytes c) shows.number shows.closing
+    (read_later number name owed seat c bytes (c.heard ++ what_counts c.front (drop c.skip bytes)) (c.skip - length bytes) (shows.going going)
     (subst (λ (f : Front). IsHeardAs (heard_in bytes seat.client.heard) f (c.heard ++ what_counts f (drop c.skip bytes)) c.body_left (c.skip - length bytes)) (sym same) stood)))
 
-read_at : (name : Bytes) (owed : List Bytes) (seat new : Seat) (c : Client) (bytes : Bytes) (front : Front) → ShowsSeat name owed seat c → c.is_closing ≡ false → c.front ≡ front → IsRead (heard_on bytes seat) new
-    → ShowsSeat name owed new (read_when front (more_of bytes c))
-read_at name owed seat new c bytes NoHeadYet shows going same is =
-    read_none name owed seat new c bytes seat.front shows going same (subst (λ (f : Front). ShowsFront seat.front f) same (shows.going going).front) is
-read_at name owed seat new c bytes (NoHead status) shows going same is =
-    read_more name owed seat new c bytes (NoHead status) shows going same (λ e. absurd (cc e)) is
-    (heard_none seat.client.heard status c.heard c.body_left c.skip bytes (heard_of name owed seat c (shows.going going) (NoHead status) same))
-read_at name owed seat new c bytes (IsRequest r) shows going same is =
-    read_more name owed seat new c bytes (IsRequest r) shows going same (λ e. absurd (cc e)) is
-    (heard_behind seat.client.heard r c.heard c.body_left c.skip bytes (heard_of name owed seat c (shows.going going) (IsRequest r) same))
+read_at : (number : ℕ → ℕ) (name : Bytes) (owed : List Bytes) (seat new : Seat) (c : Client) (bytes : Bytes) (front : Front) → ShowsSeat number name owed seat c → c.is_closing ≡ false → c.front ≡ front → IsRead (heard_on bytes seat) new
+    → ShowsSeat number name owed new (read_when front (more_of bytes c))
+read_at number name owed seat new c bytes NoHeadYet shows going same is =
+    read_none number name owed seat new c bytes seat.front shows going same (subst (λ (f : Front). ShowsFront seat.front f) same (shows.going going).front) is
+read_at number name owed seat new c bytes (NoHead status) shows going same is =
+    read_more number name owed seat new c bytes (NoHead status) shows going same (λ e. absurd (cc e)) is
+    (heard_none seat.client.heard status c.heard c.body_left c.skip bytes (heard_of number name owed seat c (shows.going going) (NoHead status) same))
+read_at number name owed seat new c bytes (IsRequest r) shows going same is =
+    read_more number name owed seat new c bytes (IsRequest r) shows going same (λ e. absurd (cc e)) is
+    (heard_behind seat.client.heard r c.heard c.body_left c.skip bytes (heard_of number name owed seat c (shows.going going) (IsRequest r) same))
 
 pub reads : ReadsAreTheLaws
-reads name owed seat new c bytes shows going is = read_at name owed seat new c bytes c.front shows going refl is
+reads number name owed seat new c bytes shows going is = read_at number name owed seat new c bytes c.front shows going refl is
 
 -- ---- it sends no more
 
-fate_hung : (name : Bytes) (owed : List Bytes) (said : Said) (course : SeatCourse) (brought : SeatBrought) (c : Client) → ShowsFate name owed said course brought c → ShowsFate name owed said course brought (record c { has_hung_up = true })
-fate_hung name owed said course Refused c shows = record { waits = shows.waits; joins = shows.joins; refused = shows.refused }
-fate_hung name owed said course IsAwaited c shows = shows
-fate_hung name owed said course Useless c shows = shows
-fate_hung name owed said course (Joins id plain) c shows = shows
-fate_hung name owed said course (Passes x) c shows = shows
-fate_hung name owed said course TooWide c shows = shows
+fate_hung : (number : ℕ → ℕ) (name : Bytes) (owed : List Bytes) (said : Said) (course : SeatCourse) (brought : SeatBrought) (c : Client) → ShowsFate number name owed said course brought c → ShowsFate number name owed said course brought (record c { has_hung_up = true })
+fate_hung number name owed said course Refused c shows = record { waits = shows.waits; joins = shows.joins; refused = shows.refused }
+fate_hung number name owed said course IsAwaited c shows = shows
+fate_hung number name owed said course Useless c shows = shows
+fate_hung number name owed said course (Joins id plain) c shows = shows
+fate_hung number name owed said course (Passes x) c shows = shows
+fate_hung number name owed said course TooWide c shows = shows
 
-open_hung : (name : Bytes) (owed : List Bytes) (seat : Seat) (c : Client) → ShowsOpen name owed seat c → ShowsOpen name owed (record seat { has_hung_up = true }) (record c { has_hung_up = true })
-open_hung name owed seat c shows = record {
+open_hung : (number : ℕ → ℕ) (name : Bytes) (owed : List Bytes) (seat : Seat) (c : Client) → ShowsOpen number name owed seat c → ShowsOpen number name owed (record seat { has_hung_up = true }) (record c { has_hung_up = true })
+open_hung number name owed seat c shows = record {
   hung_up = refl;
   mark = shows.mark;
   heard = shows.heard;
@@ -426,7 +426,7 @@ open_hung name owed seat c shows = record {
   index = shows.index;
   stage = shows.stage;
   waits_on = shows.waits_on;
-  fate = fate_hung name owed seat.client.reply seat.course seat.brought c shows.fate;
+  fate = fate_hung number name owed seat.client.reply seat.course seat.brought c shows.fate;
   asked = shows.asked;
   piped = shows.piped;
   given_up = shows.given_up;
@@ -436,4 +436,4 @@ open_hung name owed seat c shows = record {
 }
 
 pub hang_ups : HangUpsAreTheLaws
-hang_ups name owed seat c shows = record { number = shows.number; closing = shows.closing; going = λ going. open_hung name owed seat c (shows.going going) }
+hang_ups number name owed seat c shows = record { number = shows.number; closing = shows.closing; going = λ going. open_hung number name owed seat c (shows.going going) }

@@ -15,7 +15,7 @@ use Rattle.pp_seats.specs.declared.seat.Next.{Next as SeatNext}
 use Rattle.pp_seats.specs.declared.seat.Stage.{Stage as SeatStage}
 use Rattle.pp_seats.specs.declared.seat.Stage.TheVariants.{Undecided as IsUndecided, Waiting as IsWaiting, Passing as IsPassing, Answering as IsAnswering}
 use Rattle.pp_seats.specs.Follows.{answer_in, at_of, next_at, next_by}
-use Rattle.pp_seats_law.specs.Replies.{ShowsAnswer, ShowsSaid, ShowsStage, number_of, source_number}
+use Rattle.pp_seats_law.specs.Replies.{ShowsAnswer, ShowsSaid, ShowsStage, source_number}
 use Rattle.pp_seats_law.specs.Words.{NextsAreTheLaws, ShowsNext}
 
 -- ---- an instance that is found has that number
@@ -67,18 +67,18 @@ follower_at (Begun (OfInstance source next to)) text a r id is says =
 
 -- ---- its next byte
 
-next_there : (id : ObjectId) (x : Instance) (r : Reply) (b : Bool) → number_of id ≡ x.id → nat_lt r.at r.to ≡ b
-    → ShowsNext (elim b as (λ c. Option SeatNext) [ true ↦ Some (record { source = id; at = r.at; to = r.to }) | false ↦ None ]) (elim b as (λ c. Option Next) [ true ↦ Some (record { source = x; at = r.at; to = r.to }) | false ↦ None ])
-next_there id x r true is lt = record { source = is; at = refl; to = refl }
-next_there id x r false is lt = tt
+next_there : (number : ℕ → ℕ) (id : ObjectId) (x : Instance) (r : Reply) (b : Bool) → number id.life ≡ x.id → nat_lt r.at r.to ≡ b
+    → ShowsNext number (elim b as (λ c. Option SeatNext) [ true ↦ Some (record { source = id; at = r.at; to = r.to }) | false ↦ None ]) (elim b as (λ c. Option Next) [ true ↦ Some (record { source = x; at = r.at; to = r.to }) | false ↦ None ])
+next_there number id x r true is lt = record { source = is; at = refl; to = refl }
+next_there number id x r false is lt = tt
 
-next_shown : (id : ObjectId) (x : Instance) (r : Reply) (at : Option ℕ) (to : ℕ) → number_of id ≡ x.id → to ≡ r.to → IsAt at r → ShowsNext (next_at id to at) (next_from x r)
-next_shown id x r at to is end (inl there) =
-    subst (λ (o : Option ℕ). ShowsNext (next_at id to o) (next_from x r)) (sym there)
-    (subst (λ (n : ℕ). ShowsNext (next_at id n (Some r.at)) (next_from x r)) (sym end) (next_there id x r (nat_lt r.at r.to) is refl))
-next_shown id x r at to is end (inr none) =
-    subst (λ (o : Option ℕ). ShowsNext (next_at id to o) (next_from x r)) (sym none.0)
-    (subst (λ (b : Bool). ShowsNext None (elim b as (λ c. Option Next) [ true ↦ Some (record { source = x; at = r.at; to = r.to }) | false ↦ None ])) (sym none.1) tt)
+next_shown : (number : ℕ → ℕ) (id : ObjectId) (x : Instance) (r : Reply) (at : Option ℕ) (to : ℕ) → number id.life ≡ x.id → to ≡ r.to → IsAt at r → ShowsNext number (next_at id to at) (next_from x r)
+next_shown number id x r at to is end (inl there) =
+    subst (λ (o : Option ℕ). ShowsNext number (next_at id to o) (next_from x r)) (sym there)
+    (subst (λ (n : ℕ). ShowsNext number (next_at id n (Some r.at)) (next_from x r)) (sym end) (next_there number id x r (nat_lt r.at r.to) is refl))
+next_shown number id x r at to is end (inr none) =
+    subst (λ (o : Option ℕ). ShowsNext number (next_at id to o) (next_from x r)) (sym none.0)
+    (subst (λ (b : Bool). ShowsNext number None (elim b as (λ c. Option Next) [ true ↦ Some (record { source = x; at = r.at; to = r.to }) | false ↦ None ])) (sym none.1) tt)
 
 end_shown : (stage : SaidStage) (text : Bytes) (a : Answer) (r : Reply) (id : ObjectId) → a.source ≡ Some id → ShowsSaid stage text a r → a.to ≡ r.to
 end_shown Due text a r id is says = sym says.to
@@ -90,15 +90,15 @@ end_shown (Begun (OfInstance source next to)) text a r id is says = says.2 ∙ s
 abbrev next_of_source : State → Option ℕ → Reply → Option Next
 next_of_source s source r = elim (elim source as (λ c. Option Instance) [ None ↦ None | Some id ↦ instance s id ]) as (λ c. Option Next) [ None ↦ None | Some x ↦ next_from x r ]
 
-answer_next : (s : State) (said : Said) (a : Answer) (r : Reply) (source : Option ObjectId) → a.source ≡ source → ShowsAnswer said a r → ((id : ℕ) → r.source ≡ Some id → (x : Instance) × (instance s id ≡ Some x))
-    → ShowsNext (elim source as (λ c. Option SeatNext) [ None ↦ None | Some id ↦ next_at id a.to (at_of a said) ]) (next_of_source s (source_number source) r)
-answer_next s said a r None is shows there = tt
-answer_next s said a r (Some id) is shows there = by (there (number_of id) (sym shows.source ∙ ap source_number is))
+answer_next : (number : ℕ → ℕ) (s : State) (said : Said) (a : Answer) (r : Reply) (source : Option ObjectId) → a.source ≡ source → ShowsAnswer number said a r → ((id : ℕ) → r.source ≡ Some id → (x : Instance) × (instance s id ≡ Some x))
+    → ShowsNext number (elim source as (λ c. Option SeatNext) [ None ↦ None | Some id ↦ next_at id a.to (at_of a said) ]) (next_of_source s (source_number number source) r)
+answer_next number s said a r None is shows there = tt
+answer_next number s said a r (Some id) is shows there = by (there (number id.life) (sym shows.source ∙ ap (source_number number) is))
   where
-    by : (x : Instance) × (instance s (number_of id) ≡ Some x) → ShowsNext (next_at id a.to (at_of a said)) (next_of_source s (Some (number_of id)) r)
+    by : (x : Instance) × (instance s (number id.life) ≡ Some x) → ShowsNext number (next_at id a.to (at_of a said)) (next_of_source s (Some (number id.life)) r)
     by (x, found) =
-        subst (λ (o : Option Instance). ShowsNext (next_at id a.to (at_of a said)) (elim o as (λ c. Option Next) [ None ↦ None | Some y ↦ next_from y r ])) (sym found)
-        (next_shown id x r (at_of a said) a.to (sym (found_number s (number_of id) x found)) (end_shown said.stage said.text a r id is shows.says) (follower_at said.stage said.text a r id is shows.says))
+        subst (λ (o : Option Instance). ShowsNext number (next_at id a.to (at_of a said)) (elim o as (λ c. Option Next) [ None ↦ None | Some y ↦ next_from y r ])) (sym found)
+        (next_shown number id x r (at_of a said) a.to (sym (found_number s (number id.life) x found)) (end_shown said.stage said.text a r id is shows.says) (follower_at said.stage said.text a r id is shows.says))
 
 abbrev pub reply_in : Stage → Option Reply
 reply_in stage = elim stage [ Undecided ↦ None | Waiting ↦ None | Passing ↦ None | Answering r ↦ Some r ]
@@ -106,23 +106,23 @@ reply_in stage = elim stage [ Undecided ↦ None | Waiting ↦ None | Passing �
 abbrev pub next_in_stage : State → Stage → Option Next
 next_in_stage s stage = elim (reply_in stage) [ None ↦ None | Some r ↦ next_in s r ]
 
-stage_next : (s : State) (said : Said) (stage : SeatStage) (other : Stage) → ShowsStage said stage other → ((r : Reply) (id : ℕ) → reply_in other ≡ Some r → r.source ≡ Some id → (x : Instance) × (instance s id ≡ Some x))
-    → ShowsNext (next_by (answer_in stage) said) (next_in_stage s other)
-stage_next s said IsUndecided Undecided shows there = tt
-stage_next s said IsWaiting Waiting shows there = tt
-stage_next s said IsPassing Passing shows there = tt
-stage_next s said (IsAnswering a) (Answering r) shows there =
-    subst (λ (o : Option ℕ). ShowsNext (next_by (Some a) said) (next_of_source s o r)) shows.source (answer_next s said a r a.source refl shows (λ id. there r id refl))
-stage_next s said stage other shows there = absurd shows
+stage_next : (number : ℕ → ℕ) (s : State) (said : Said) (stage : SeatStage) (other : Stage) → ShowsStage number said stage other → ((r : Reply) (id : ℕ) → reply_in other ≡ Some r → r.source ≡ Some id → (x : Instance) × (instance s id ≡ Some x))
+    → ShowsNext number (next_by (answer_in stage) said) (next_in_stage s other)
+stage_next number s said IsUndecided Undecided shows there = tt
+stage_next number s said IsWaiting Waiting shows there = tt
+stage_next number s said IsPassing Passing shows there = tt
+stage_next number s said (IsAnswering a) (Answering r) shows there =
+    subst (λ (o : Option ℕ). ShowsNext number (next_by (Some a) said) (next_of_source s o r)) shows.source (answer_next number s said a r a.source refl shows (λ id. there r id refl))
+stage_next number s said stage other shows there = absurd shows
 
-going_next : (x : Option SeatNext) (n : Option Next) (a b : Bool) → a ≡ b → (b ≡ false → ShowsNext x n)
-    → ShowsNext (elim a as (λ c. Option SeatNext) [ true ↦ None | false ↦ x ]) (elim b as (λ c. Option Next) [ true ↦ None | false ↦ n ])
-going_next x n true true same going = tt
-going_next x n false false same going = going refl
-going_next x n true false same going = absurd (cc same)
-going_next x n false true same going = absurd (cc same)
+going_next : (number : ℕ → ℕ) (x : Option SeatNext) (n : Option Next) (a b : Bool) → a ≡ b → (b ≡ false → ShowsNext number x n)
+    → ShowsNext number (elim a as (λ c. Option SeatNext) [ true ↦ None | false ↦ x ]) (elim b as (λ c. Option Next) [ true ↦ None | false ↦ n ])
+going_next number x n true true same going = tt
+going_next number x n false false same going = going refl
+going_next number x n true false same going = absurd (cc same)
+going_next number x n false true same going = absurd (cc same)
 
 pub nexts : NextsAreTheLaws
-nexts s name owed seat c shows there =
-    going_next (next_by (answer_in seat.stage) seat.client.reply) (next_in_stage s c.stage) seat.is_closing c.is_closing shows.closing
-    (λ going. stage_next s seat.client.reply seat.stage c.stage (shows.going going).stage there)
+nexts number s name owed seat c shows there =
+    going_next number (next_by (answer_in seat.stage) seat.client.reply) (next_in_stage s c.stage) seat.is_closing c.is_closing shows.closing
+    (λ going. stage_next number s seat.client.reply seat.stage c.stage (shows.going going).stage there)

@@ -1,5 +1,5 @@
 -- What is due of a seat, as a turn reads it, is what is due of its client.
-use Rattle.std.proofs.Common.{◌≡◌, refl, ap, ap₂, ◌∙◌, Bool, true, false, not, ◌&&◌, ◌||◌, is_some, List, [], ◌∷◌, Option, Some, None, option_map}
+use Rattle.std.proofs.Common.{◌≡◌, refl, ap, ap₂, ◌∙◌, ℕ, Bool, true, false, not, ◌&&◌, ◌||◌, is_some, List, [], ◌∷◌, Option, Some, None, option_map}
 use Rattle.pp_world.specs.declared.note.Cause.{Cause}
 use Rattle.pp_world.specs.declared.note.Decision.{Decision}
 use Rattle.pp_world.specs.declared.note.Decision.TheVariants.{Refuse}
@@ -78,12 +78,12 @@ by_stage_so IsWaiting course told lost_row undecided decided = told_so course to
 by_stage_so IsPassing course told lost_row undecided decided = refl
 by_stage_so (IsAnswering a) course told lost_row undecided decided = again_so a.has_begun course lost_row decided
 
-same_decision : (s : State) (name : Bytes) (seat : Seat) (c : Client) → ShowsOpen name [] seat c → decision_read s seat c ≡ decision_in seat (has_lost_its_row s c) (due_undecided s c) (decide s c)
-same_decision s name seat c shows =
+same_decision : (number : ℕ → ℕ) (s : State) (name : Bytes) (seat : Seat) (c : Client) → ShowsOpen number name [] seat c → decision_read s seat c ≡ decision_in seat (has_lost_its_row s c) (due_undecided s c) (decide s c)
+same_decision number s name seat c shows =
     ap (λ (o : Option Decision). elim (is_refused_in seat.brought) as (λ x. Option Decision) [ true ↦ Some (Refuse 500) | false ↦ o ])
     (by_stage_so seat.stage seat.course (is_told_in seat.brought) (lost_in (answer_in seat.stage) (has_source_standing s c)) (undecided_read s seat c) (decide s c))
-    ∙ ap₂ (λ (b : Bool) (o : Option Decision). decision_in seat b o (decide s c)) (lost s name [] seat c shows)
-    (same_undecided s seat.waits_on s.settings.shares_fetches (is_some (shared_ask s c)) (decide s c) ∙ sharing s name [] seat c shows)
+    ∙ ap₂ (λ (b : Bool) (o : Option Decision). decision_in seat b o (decide s c)) (lost s number name [] seat c shows)
+    (same_undecided s seat.waits_on s.settings.shares_fetches (is_some (shared_ask s c)) (decide s c) ∙ sharing s number name [] seat c shows)
 
 -- ---- both
 
@@ -103,12 +103,12 @@ open_so true false stopped cut then decision next same cuts decisions = absurd (
 open_so false true stopped cut then decision next same cuts decisions = absurd (cc same)
 
 pub dues_as_read : DueAsReadIsTheLaws
-dues_as_read s name seat c shows =
+dues_as_read number s name seat c shows =
     ap (λ (o : Option SeatDue). option_map (due_as seat.client.id seat.index) o)
     (due_so seat.is_closing s.is_stopped (cut_read s seat c) (decision_read s seat c)
     ∙ open_so seat.is_closing c.is_closing s.is_stopped (cut_read s seat c) (cut_of s seat c) (decision_read s seat c) (decision_in seat (has_lost_its_row s c) (due_undecided s c) (decide s c)) shows.closing
-    (λ going. same_cut s seat c) (λ going. same_decision s name seat c (shows.going going)))
-    ∙ dues s name seat c shows
+    (λ going. same_cut s seat c) (λ going. same_decision number s name seat c (shows.going going)))
+    ∙ dues number s name seat c shows
 
 -- ---- which comes first
 

@@ -76,14 +76,14 @@ passed_by brought = elim brought [ Awaited ↦ None | Useless ↦ None | Joins i
 abbrev pipe_over : Pipe → Bool
 pipe_over pipe = pipe.is_finished && is_empty pipe.bytes
 
-brought_over : (name : Bytes) (reply : Said) (front : Front) (x : SeatPassed) (other : Brought) → ShowsBrought name reply front (PassesOn x) other → pipe_over reply.pipe ≡ is_some_with (λ p. p.pipe.is_finished && is_empty p.pipe.bytes) (passed_by other)
-brought_over name reply front x (Passes p) shows = ap pipe_over shows.pipe
-brought_over name reply front x other shows = absurd shows
+brought_over : (number : ℕ → ℕ) (name : Bytes) (reply : Said) (front : Front) (x : SeatPassed) (other : Brought) → ShowsBrought number name reply front (PassesOn x) other → pipe_over reply.pipe ≡ is_some_with (λ p. p.pipe.is_finished && is_empty p.pipe.bytes) (passed_by other)
+brought_over number name reply front x (Passes p) shows = ap pipe_over shows.pipe
+brought_over number name reply front x other shows = absurd shows
 
-piped_over : (name : Bytes) (owed : List Bytes) (reply : Said) (course : SeatCourse) (brought : SeatBrought) (c : Client) → IsPipedFor (Begun IsPassed) brought → ShowsFate name owed reply course brought c
+piped_over : (number : ℕ → ℕ) (name : Bytes) (owed : List Bytes) (reply : Said) (course : SeatCourse) (brought : SeatBrought) (c : Client) → IsPipedFor (Begun IsPassed) brought → ShowsFate number name owed reply course brought c
     → pipe_over reply.pipe ≡ is_some_with (λ p. p.pipe.is_finished && is_empty p.pipe.bytes) (passed_of c)
-piped_over name owed reply course (PassesOn x) c piped shows = brought_over name reply c.front x c.brought shows.1
-piped_over name owed reply course brought c piped shows = absurd piped
+piped_over number name owed reply course (PassesOn x) c piped shows = brought_over number name reply c.front x c.brought shows.1
+piped_over number name owed reply course brought c piped shows = absurd piped
 
 -- nothing of its body is left, by what its exchange brought
 body_over : (b : Begin) (text : Bytes) (pipe : Pipe) (a : Answer) (r : Reply) (passed : Option Passed) → ShowsBegin b text a r → (b ≡ IsPassed → pipe_over pipe ≡ is_some_with (λ p. p.pipe.is_finished && is_empty p.pipe.bytes) passed)
@@ -110,40 +110,40 @@ begin_left IsPassed text a r shows = shows.0.left
 abbrev over_of : Bool → Client → Option Reply → Bool
 over_of none c reply = none && is_some_with (λ r. r.has_begun && is_empty r.head_left && has_no_more c r) reply
 
-ends_by : (name : Bytes) (owed : List Bytes) (seat : Seat) (c : Client) (i : Interim) (stage : SaidStage) (text : Bytes) (pipe : Pipe) (at : SeatStage) (other : Stage) → ShowsStage (parts i stage text pipe) at other
-    → (interim_left i == 0) ≡ is_empty c.interim_left → IsPipedFor stage seat.brought → ShowsFate name owed (parts i stage text pipe) seat.course seat.brought c → is_said (parts i stage text pipe) ≡ over_of (is_empty c.interim_left) c (reply_in other)
-ends_by name owed seat c i Due text pipe IsUndecided Undecided shows none piped fate = sym (and_false (is_empty c.interim_left))
-ends_by name owed seat c i Due text pipe IsWaiting Waiting shows none piped fate = sym (and_false (is_empty c.interim_left))
-ends_by name owed seat c i Due text pipe IsPassing Passing shows none piped fate = sym (and_false (is_empty c.interim_left))
-ends_by name owed seat c i Due text pipe (IsAnswering a) (Answering r) shows none piped fate =
+ends_by : (number : ℕ → ℕ) (name : Bytes) (owed : List Bytes) (seat : Seat) (c : Client) (i : Interim) (stage : SaidStage) (text : Bytes) (pipe : Pipe) (at : SeatStage) (other : Stage) → ShowsStage number (parts i stage text pipe) at other
+    → (interim_left i == 0) ≡ is_empty c.interim_left → IsPipedFor stage seat.brought → ShowsFate number name owed (parts i stage text pipe) seat.course seat.brought c → is_said (parts i stage text pipe) ≡ over_of (is_empty c.interim_left) c (reply_in other)
+ends_by number name owed seat c i Due text pipe IsUndecided Undecided shows none piped fate = sym (and_false (is_empty c.interim_left))
+ends_by number name owed seat c i Due text pipe IsWaiting Waiting shows none piped fate = sym (and_false (is_empty c.interim_left))
+ends_by number name owed seat c i Due text pipe IsPassing Passing shows none piped fate = sym (and_false (is_empty c.interim_left))
+ends_by number name owed seat c i Due text pipe (IsAnswering a) (Answering r) shows none piped fate =
     sym (ap (λ (b : Bool). is_empty c.interim_left && (b && is_empty r.head_left && has_no_more c r)) (sym shows.begun ∙ shows.says.due) ∙ and_false (is_empty c.interim_left))
-ends_by name owed seat c i (Begun b) text pipe IsUndecided Undecided shows none piped fate = absurd (cc (shows.0))
-ends_by name owed seat c i (Begun b) text pipe IsWaiting Waiting shows none piped fate = absurd (cc shows)
-ends_by name owed seat c i (Begun b) text pipe IsPassing Passing shows none piped fate = absurd (cc shows)
-ends_by name owed seat c i (Begun b) text pipe (IsAnswering a) (Answering r) shows none piped fate =
+ends_by number name owed seat c i (Begun b) text pipe IsUndecided Undecided shows none piped fate = absurd (cc (shows.0))
+ends_by number name owed seat c i (Begun b) text pipe IsWaiting Waiting shows none piped fate = absurd (cc shows)
+ends_by number name owed seat c i (Begun b) text pipe IsPassing Passing shows none piped fate = absurd (cc shows)
+ends_by number name owed seat c i (Begun b) text pipe (IsAnswering a) (Answering r) shows none piped fate =
     let begun : r.has_begun ≡ true = sym shows.begun ∙ begin_begun b text a r shows.says in
     ap₂ (λ (x y : Bool). x && y) none
     (ap₂ (λ (x y : Bool). x && y) (sym (ap is_empty (begin_left b text a r shows.says)))
     (body_over b text pipe a r (passed_of c) shows.says
-    (λ is. piped_over name owed (parts i (Begun b) text pipe) seat.course seat.brought c (subst (λ (x : Begin). IsPipedFor (Begun x) seat.brought) is piped) fate)))
+    (λ is. piped_over number name owed (parts i (Begun b) text pipe) seat.course seat.brought c (subst (λ (x : Begin). IsPipedFor (Begun x) seat.brought) is piped) fate)))
     ∙ sym (ap (λ (x : Bool). is_empty c.interim_left && (x && is_empty r.head_left && has_no_more c r)) begun)
-ends_by name owed seat c i stage text pipe at other shows none piped fate = absurd shows
+ends_by number name owed seat c i stage text pipe at other shows none piped fate = absurd shows
 
 pub ends_same : EndsAreTheSame
-ends_same name owed seat c shows =
-    ends_by name owed seat c seat.client.reply.interim seat.client.reply.stage seat.client.reply.text seat.client.reply.pipe seat.stage c.stage shows.stage
+ends_same number name owed seat c shows =
+    ends_by number name owed seat c seat.client.reply.interim seat.client.reply.stage seat.client.reply.text seat.client.reply.pipe seat.stage c.stage shows.stage
     (interim_over seat.client.reply.interim c.interim_left (interim_by seat.client.reply.interim c.interim_left shows.interim)) shows.piped shows.fate
 
 -- ---- the next request
 
 pub endings : EndingsAreTheLaws
-endings n name owed seat new c r shows going few all front ok index read =
+endings number n name owed seat new c r shows going few all front ok index read =
     let mid : Seat = told_with (said n seat.client.reply) (seat.before_body - n) (said_account n seat.account) seat in
-    let told : IsToldBy n name owed seat c (said_account n seat.account) (said n seat.client.reply) = open_told n name owed seat c (said_account n seat.account) (shows.going going) few in
+    let told : IsToldBy number n name owed seat c (said_account n seat.account) (said n seat.client.reply) = open_told number n name owed seat c (said_account n seat.account) (shows.going going) few in
     let client : side_said n seat.client ≡ record seat.client { heard = answered seat.client.heard; reply = ended (said n seat.client.reply) }
     = ap (λ (b : Bool). elim b as (λ x. Side) [ true ↦ record seat.client { heard = answered seat.client.heard; reply = ended (said n seat.client.reply) } | false ↦ record seat.client { reply = said n seat.client.reply } ]) all in
     let next : IsRead (at_next_request (answered_on mid)) new
     = subst (λ (x : Side). IsRead (at_next_request (record seat { client = x; before_body = seat.before_body - n; account = said_account n seat.account })) new) client read in record {
-      over = sym (ends_same name owed mid (said_by n c) told.shows) ∙ all;
-      next = next_requests name owed mid new (said_by n c) r told.shows (told.front ∙ front) ok index next;
+      over = sym (ends_same number name owed mid (said_by n c) told.shows) ∙ all;
+      next = next_requests number name owed mid new (said_by n c) r told.shows (told.front ∙ front) ok index next;
     }

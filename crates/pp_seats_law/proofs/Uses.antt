@@ -74,13 +74,13 @@ facts_answer n (Begun (OfInstance id next to)) text pipe a r says few = subst (�
 nothing : (n : ℕ) (said : Said) → said.stage ≡ Due → n ≤ stage_left said.stage said.text said.pipe → Facts n 0 0 false
 nothing n said due few = none_left n 0 false (subst (λ (stage : SaidStage). n ≤ stage_left stage said.text said.pipe) due few)
 
-facts_said : (n : ℕ) (said : Said) (stage : SeatStage) (other : Stage) → ShowsStage said stage other → n ≤ stage_left said.stage said.text said.pipe
+facts_said : (number : ℕ → ℕ) (n : ℕ) (said : Said) (stage : SeatStage) (other : Stage) → ShowsStage number said stage other → n ≤ stage_left said.stage said.text said.pipe
     → Facts n (body_by n [] (reply_in other)) (0 + head_left (reply_in other)) (has_begun_in (answer_in stage))
-facts_said n said IsUndecided Undecided shows few = nothing n said shows.0 few
-facts_said n said IsWaiting Waiting shows few = nothing n said shows few
-facts_said n said IsPassing Passing shows few = nothing n said shows few
-facts_said n said (IsAnswering a) (Answering r) shows few = facts_answer n said.stage said.text said.pipe a r shows.says few
-facts_said n said stage other shows few = absurd shows
+facts_said number n said IsUndecided Undecided shows few = nothing n said shows.0 few
+facts_said number n said IsWaiting Waiting shows few = nothing n said shows few
+facts_said number n said IsPassing Passing shows few = nothing n said shows few
+facts_said number n said (IsAnswering a) (Answering r) shows few = facts_answer n said.stage said.text said.pipe a r shows.says few
+facts_said number n said stage other shows few = absurd shows
 
 -- as long as the interim answer is not said
 pub not_empty : (left : Bytes) → 0 < length left → is_empty left ≡ false
@@ -119,31 +119,31 @@ fits_answer n (Begun (OfInstance id next to)) text pipe a r y says few parts =
     let head : length r.head_left ≡ length text = ap (λ (bytes : Bytes). length bytes) says.0.left in
     omega (arith, few, at, end, less, from, last, head)
 
-fits_said : (n : ℕ) (s : State) (said : Said) (stage : SeatStage) (other : Stage) (y : Next) → ShowsStage said stage other → n ≤ stage_left said.stage said.text said.pipe → next_in_stage s other ≡ Some y → y.at + body_by n [] (reply_in other) ≤ y.to
-fits_said n s said IsUndecided Undecided y shows few is = absurd (cc is)
-fits_said n s said IsWaiting Waiting y shows few is = absurd (cc is)
-fits_said n s said IsPassing Passing y shows few is = absurd (cc is)
-fits_said n s said (IsAnswering a) (Answering r) y shows few is = fits_answer n said.stage said.text said.pipe a r y shows.says few (parts_in r y (source_of s r) is)
-fits_said n s said stage other y shows few is = absurd shows
+fits_said : (number : ℕ → ℕ) (n : ℕ) (s : State) (said : Said) (stage : SeatStage) (other : Stage) (y : Next) → ShowsStage number said stage other → n ≤ stage_left said.stage said.text said.pipe → next_in_stage s other ≡ Some y → y.at + body_by n [] (reply_in other) ≤ y.to
+fits_said number n s said IsUndecided Undecided y shows few is = absurd (cc is)
+fits_said number n s said IsWaiting Waiting y shows few is = absurd (cc is)
+fits_said number n s said IsPassing Passing y shows few is = absurd (cc is)
+fits_said number n s said (IsAnswering a) (Answering r) y shows few is = fits_answer n said.stage said.text said.pipe a r y shows.says few (parts_in r y (source_of s r) is)
+fits_said number n s said stage other y shows few is = absurd shows
 
 -- ---- all
 
-used_shown : (k : ℕ) (b : Bool) (x : Option SeatNext) (y : Option Next) → ShowsNext x y → nat_lt 0 k ≡ b → ((z : Next) → y ≡ Some z → b ≡ true → z.at + k ≤ z.to)
-    → ShowsUsed k (elim b as (λ c. Option SeatNext) [ true ↦ option_map (first_of k) x | false ↦ None ]) (elim b as (λ c. Option Next) [ true ↦ y | false ↦ None ])
-used_shown k false x y shows is fits = tt
-used_shown k true None None shows is fits = tt
-used_shown k true (Some x) (Some y) shows is fits =
+used_shown : (number : ℕ → ℕ) (k : ℕ) (b : Bool) (x : Option SeatNext) (y : Option Next) → ShowsNext number x y → nat_lt 0 k ≡ b → ((z : Next) → y ≡ Some z → b ≡ true → z.at + k ≤ z.to)
+    → ShowsUsed number k (elim b as (λ c. Option SeatNext) [ true ↦ option_map (first_of k) x | false ↦ None ]) (elim b as (λ c. Option Next) [ true ↦ y | false ↦ None ])
+used_shown number k false x y shows is fits = tt
+used_shown number k true None None shows is fits = tt
+used_shown number k true (Some x) (Some y) shows is fits =
     let at = shows.at in let to = shows.to in let within = fits y refl refl in
     let end : min x.to (x.at + k) ≡ y.at + k = omega (arith, at, to, within) in (shows.source, at, end)
-used_shown k true None (Some y) shows is fits = absurd shows
-used_shown k true (Some x) None shows is fits = absurd shows
+used_shown number k true None (Some y) shows is fits = absurd shows
+used_shown number k true (Some x) None shows is fits = absurd shows
 
-used_by_facts : (n k : ℕ) (s : State) (seat : Seat) (c : Client) → ShowsNext (seat_next seat) (next_of s c) → Facts n k seat.before_body (has_begun seat) → ((z : Next) → next_of s c ≡ Some z → nat_lt 0 k ≡ true → z.at + k ≤ z.to)
-    → ShowsUsed k (used_by n seat) (elim (nat_lt 0 k) as (λ x. Option Next) [ true ↦ next_of s c | false ↦ None ])
-used_by_facts n k s seat c next facts fits =
-    subst (λ (m : ℕ). ShowsUsed k (elim (nat_lt seat.before_body n && has_begun seat) as (λ x. Option SeatNext) [ true ↦ option_map (first_of m) (seat_next seat) | false ↦ None ]) (elim (nat_lt 0 k) as (λ x. Option Next) [ true ↦ next_of s c | false ↦ None ])) (sym facts.minus)
-    (subst (λ (b : Bool). ShowsUsed k (elim b as (λ x. Option SeatNext) [ true ↦ option_map (first_of k) (seat_next seat) | false ↦ None ]) (elim (nat_lt 0 k) as (λ x. Option Next) [ true ↦ next_of s c | false ↦ None ])) (sym facts.test)
-    (used_shown k (nat_lt 0 k) (seat_next seat) (next_of s c) next refl fits))
+used_by_facts : (number : ℕ → ℕ) (n k : ℕ) (s : State) (seat : Seat) (c : Client) → ShowsNext number (seat_next seat) (next_of s c) → Facts n k seat.before_body (has_begun seat) → ((z : Next) → next_of s c ≡ Some z → nat_lt 0 k ≡ true → z.at + k ≤ z.to)
+    → ShowsUsed number k (used_by n seat) (elim (nat_lt 0 k) as (λ x. Option Next) [ true ↦ next_of s c | false ↦ None ])
+used_by_facts number n k s seat c next facts fits =
+    subst (λ (m : ℕ). ShowsUsed number k (elim (nat_lt seat.before_body n && has_begun seat) as (λ x. Option SeatNext) [ true ↦ option_map (first_of m) (seat_next seat) | false ↦ None ]) (elim (nat_lt 0 k) as (λ x. Option Next) [ true ↦ next_of s c | false ↦ None ])) (sym facts.minus)
+    (subst (λ (b : Bool). ShowsUsed number k (elim b as (λ x. Option SeatNext) [ true ↦ option_map (first_of k) (seat_next seat) | false ↦ None ]) (elim (nat_lt 0 k) as (λ x. Option Next) [ true ↦ next_of s c | false ↦ None ])) (sym facts.test)
+    (used_shown number k (nat_lt 0 k) (seat_next seat) (next_of s c) next refl fits))
 
 -- of one that is not closing its next byte is that of its reply
 going_law : (s : State) (c : Client) → c.is_closing ≡ false → next_of s c ≡ next_in_stage s c.stage
@@ -164,16 +164,16 @@ record IsWithin (n k : ℕ) (s : State) (seat : Seat) (c : Client) : Type 0 wher
   facts : Facts n k seat.before_body (has_begun seat)
   fits : (z : Next) → next_of s c ≡ Some z → nat_lt 0 k ≡ true → z.at + k ≤ z.to
 
-within : (n : ℕ) (s : State) (name : Bytes) (owed : List Bytes) (seat : Seat) (c : Client) → ShowsOpen name owed seat c → c.is_closing ≡ false → n ≤ left_next seat.client.reply → IsWithin n (of_body n c) s seat c
-within n s name owed seat c shows going few = by (interim_by seat.client.reply.interim c.interim_left shows.interim)
+within : (number : ℕ → ℕ) (n : ℕ) (s : State) (name : Bytes) (owed : List Bytes) (seat : Seat) (c : Client) → ShowsOpen number name owed seat c → c.is_closing ≡ false → n ≤ left_next seat.client.reply → IsWithin n (of_body n c) s seat c
+within number n s name owed seat c shows going few = by (interim_by seat.client.reply.interim c.interim_left shows.interim)
   where
     by : ((c.interim_left ≡ []) × (interim_left seat.client.reply.interim ≡ 0)) ⊎ ((length c.interim_left ≡ interim_left seat.client.reply.interim) × (0 < interim_left seat.client.reply.interim)) → IsWithin n (of_body n c) s seat c
     by (inl said) =
         let rest : n ≤ stage_left seat.client.reply.stage seat.client.reply.text seat.client.reply.pipe
         = subst (λ (m : ℕ). n ≤ cond (nat_lt 0 m) m (stage_left seat.client.reply.stage seat.client.reply.text seat.client.reply.pipe)) said.1 few in record {
           facts = subst (λ (before : ℕ). Facts n (of_body n c) before (has_begun seat)) (sym shows.before_body)
-              (subst (λ (left : Bytes). Facts n (body_by n left (reply_in c.stage)) (length left + head_left (reply_in c.stage)) (has_begun seat)) (sym said.0) (facts_said n seat.client.reply seat.stage c.stage shows.stage rest));
-          fits = λ z is some. subst (λ (left : Bytes). z.at + body_by n left (reply_in c.stage) ≤ z.to) (sym said.0) (fits_said n s seat.client.reply seat.stage c.stage z shows.stage rest (sym (going_law s c going) ∙ is));
+              (subst (λ (left : Bytes). Facts n (body_by n left (reply_in c.stage)) (length left + head_left (reply_in c.stage)) (has_begun seat)) (sym said.0) (facts_said number n seat.client.reply seat.stage c.stage shows.stage rest));
+          fits = λ z is some. subst (λ (left : Bytes). z.at + body_by n left (reply_in c.stage) ≤ z.to) (sym said.0) (fits_said number n s seat.client.reply seat.stage c.stage z shows.stage rest (sym (going_law s c going) ∙ is));
         }
     by (inr left) =
         let many : 0 < length c.interim_left = let same = left.0 in let some = left.1 in omega (arith, same, some) in
@@ -183,6 +183,6 @@ within n s name owed seat c shows going few = by (interim_by seat.client.reply.i
         }
 
 pub uses : UsesAreTheLaws
-uses n s name owed seat c shows going there few =
-    let w = within n s name owed seat c (shows.going going) going few in
-    used_by_facts n (of_body n c) s seat c (nexts s name owed seat c shows there) w.facts w.fits
+uses number n s name owed seat c shows going there few =
+    let w = within number n s name owed seat c (shows.going going) going few in
+    used_by_facts number n (of_body n c) s seat c (nexts number s name owed seat c shows there) w.facts w.fits

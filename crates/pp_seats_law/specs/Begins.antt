@@ -11,8 +11,8 @@ use Rattle.pp_seats_law.specs.Words.{OfOpen}
 
 -- of a client that was accepted
 abbrev pub NewSeatsShow : Type 0
-NewSeatsShow = (name : Bytes) (n now : ℕ) → ShowsSeat name [] (new_seat (new_side n now)) (new_client n now)
+NewSeatsShow = (number : ℕ → ℕ) (name : Bytes) (n now : ℕ) → ShowsSeat number name [] (new_seat (new_side n now)) (new_client n now)
 
 -- a request that has no reply yet may have one
 abbrev pub RepliesMayBegin : Type 0
-RepliesMayBegin = OfOpen (λ name owed seat c. has_request c.front ≡ true → is_begun c ≡ false → IsAnswerable seat.client)
+RepliesMayBegin = OfOpen (λ number name owed seat c. has_request c.front ≡ true → is_begun c ≡ false → IsAnswerable seat.client)

@@ -6,10 +6,10 @@ use Rattle.pp_law.specs.State.{Client}
 use Rattle.pp_seats.specs.declared.seat.Seat.{Seat}
 use Rattle.pp_seats_law.specs.Seats.{ShowsSeat}
 
-abbrev pub AreShown : Bytes → List Bytes → List Seat → List Client → Type 0
-AreShown name owed [] [] = ⊤
-AreShown name owed (seat ∷ seats) (c ∷ cs) = ShowsSeat name owed seat c × AreShown name owed seats cs
-AreShown name owed seats cs = ⊥
+abbrev pub AreShown : (ℕ → ℕ) → Bytes → List Bytes → List Seat → List Client → Type 0
+AreShown number name owed [] [] = ⊤
+AreShown number name owed (seat ∷ seats) (c ∷ cs) = ShowsSeat number name owed seat c × AreShown number name owed seats cs
+AreShown number name owed seats cs = ⊥
 
 -- the client of this number is at this place, and at no other
 abbrev pub IsNowhere : ℕ → List Seat → Type 0
@@ -23,15 +23,15 @@ IsAt n (suc i) (seat ∷ seats) = ((seat.client.id == n) ≡ false) × IsAt n i 
 
 -- where one seat is changed as its client, all seats show all clients
 abbrev pub ChangesAreTheLaws : Type 0
-ChangesAreTheLaws = (name : Bytes) (owed : List Bytes) (seats : List Seat) (cs : List Client) (n i : ℕ) (new : Seat) (f : Client → Client) → AreShown name owed seats cs → IsAt n i seats
-    → ((seat : Seat) (c : Client) → slice_get seats i ≡ Some seat → ShowsSeat name owed seat c → ShowsSeat name owed new (f c)) → AreShown name owed (slice_set seats i new) (change (is_client n) f cs)
+ChangesAreTheLaws = (number : ℕ → ℕ) (name : Bytes) (owed : List Bytes) (seats : List Seat) (cs : List Client) (n i : ℕ) (new : Seat) (f : Client → Client) → AreShown number name owed seats cs → IsAt n i seats
+    → ((seat : Seat) (c : Client) → slice_get seats i ≡ Some seat → ShowsSeat number name owed seat c → ShowsSeat number name owed new (f c)) → AreShown number name owed (slice_set seats i new) (change (is_client n) f cs)
 
 -- a seat, and the client of the law that it shows
-pub record IsFound (name : Bytes) (owed : List Bytes) (seat : Seat) (n : ℕ) (cs : List Client) : Type 0 where
+pub record IsFound (number : ℕ → ℕ) (name : Bytes) (owed : List Bytes) (seat : Seat) (n : ℕ) (cs : List Client) : Type 0 where
   pub client : Client
   pub there : find (is_client n) cs ≡ Some client
-  pub shows : ShowsSeat name owed seat client
+  pub shows : ShowsSeat number name owed seat client
 
 -- the client of that number is the one that the seat at its place shows
 abbrev pub PlacesAreTheLaws : Type 0
-PlacesAreTheLaws = (name : Bytes) (owed : List Bytes) (seats : List Seat) (cs : List Client) (n i : ℕ) (seat : Seat) → AreShown name owed seats cs → IsAt n i seats → slice_get seats i ≡ Some seat → IsFound name owed seat n cs
+PlacesAreTheLaws = (number : ℕ → ℕ) (name : Bytes) (owed : List Bytes) (seats : List Seat) (cs : List Client) (n i : ℕ) (seat : Seat) → AreShown number name owed seats cs → IsAt n i seats → slice_get seats i ≡ Some seat → IsFound number name owed seat n cs

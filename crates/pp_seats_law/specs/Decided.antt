@@ -28,15 +28,15 @@ pub record MayBeDecided (seat : Seat) (c : Client) : Type 0 where
 
 -- a page, which has room; what the operator's log is to say of it is beside it
 abbrev pub PagesAreTheLaws : Type 0
-PagesAreTheLaws = (status : ℕ) (account : Account) (name : Bytes) (owed : List Bytes) (seat : Seat) (c : Client) → ShowsSeat name owed seat c → c.is_closing ≡ false → MayBeDecided seat c → has_page status ≡ true
-    → length (page_for status seat.front) ≤ 20480 → ShowsSeat name owed (record (paged status (with_interim seat)) { account = account }) (refused_with status c)
+PagesAreTheLaws = (number : ℕ → ℕ) (status : ℕ) (account : Account) (name : Bytes) (owed : List Bytes) (seat : Seat) (c : Client) → ShowsSeat number name owed seat c → c.is_closing ≡ false → MayBeDecided seat c → has_page status ≡ true
+    → length (page_for status seat.front) ≤ 20480 → ShowsSeat number name owed (record (paged status (with_interim seat)) { account = account }) (refused_with status c)
 
 -- its origin is asked. Where its row was refused memory, it is refused, and nothing is asked for it
 abbrev pub AsksAreTheLaws : Type 0
-AsksAreTheLaws = (d : Decision) (name : Bytes) (owed : List Bytes) (seat : Seat) (c : Client) → ShowsSeat name owed seat c → c.is_closing ≡ false → MayBeDecided seat c → is_refused_in seat.brought ≡ false
-    → ShowsSeat name owed (asking (is_pass d) (with_interim seat)) (asking_with d c)
+AsksAreTheLaws = (number : ℕ → ℕ) (d : Decision) (name : Bytes) (owed : List Bytes) (seat : Seat) (c : Client) → ShowsSeat number name owed seat c → c.is_closing ≡ false → MayBeDecided seat c → is_refused_in seat.brought ≡ false
+    → ShowsSeat number name owed (asking (is_pass d) (with_interim seat)) (asking_with d c)
 
 -- a reply by the row, or by the response that is passed
 abbrev pub AnswersAreTheLaws : Type 0
-AnswersAreTheLaws = (d : Decision) (source : Option ObjectId) (name : Bytes) (owed : List Bytes) (seat : Seat) (c : Client) → ShowsSeat name owed seat c → c.is_closing ≡ false → MayBeDecided seat c → is_refused_in seat.brought ≡ false
-    → ShowsSeat name owed (answering d source (span_of d) (with_interim seat)) (answering_with (reply_by d (source_number source)) c)
+AnswersAreTheLaws = (number : ℕ → ℕ) (d : Decision) (source : Option ObjectId) (name : Bytes) (owed : List Bytes) (seat : Seat) (c : Client) → ShowsSeat number name owed seat c → c.is_closing ≡ false → MayBeDecided seat c → is_refused_in seat.brought ≡ false
+    → ShowsSeat number name owed (answering d source (span_of d) (with_interim seat)) (answering_with (reply_by d (source_number number source)) c)

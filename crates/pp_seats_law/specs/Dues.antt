@@ -38,7 +38,7 @@ use Rattle.pp_seats_law.specs.Words.{OfOpen}
 
 -- by its head alone, unless memory was refused for its key: then it is refused with 500, whatever the law has
 abbrev pub HeadsAreTheLaws : Type 0
-HeadsAreTheLaws = (s : State) (status : ℕ) → OfOpen (λ name owed seat c. refused_in seat.front ≡ Some status → (status ≡ 500) ⊎ (decide s c ≡ Some (Refuse status)))
+HeadsAreTheLaws = (s : State) (status : ℕ) → OfOpen (λ number name owed seat c. refused_in seat.front ≡ Some status → (status ≡ 500) ⊎ (decide s c ≡ Some (Refuse status)))
 
 -- by the row of its key, where its head is not refused
 pub record IsByRow (s : State) (c : Client) (key : Key) : Type 0 where
@@ -47,16 +47,16 @@ pub record IsByRow (s : State) (c : Client) (key : Key) : Type 0 where
   pub decides : decide s c ≡ Some (decide_for s c request.head key)
 
 abbrev pub RowsDecideAsTheLaws : Type 0
-RowsDecideAsTheLaws = (s : State) (key : OwnedKey) → OfOpen (λ name owed seat c. refused_in seat.front ≡ None → owned_in (asked_in seat.front) ≡ Some key → IsByRow s c (key_in key.text.items key.place))
+RowsDecideAsTheLaws = (s : State) (key : OwnedKey) → OfOpen (λ number name owed seat c. refused_in seat.front ≡ None → owned_in (asked_in seat.front) ≡ Some key → IsByRow s c (key_in key.text.items key.place))
 
--- no two instances have one life
-abbrev pub AreApart : Option ObjectId → Brought → Type 0
-AreApart row brought = (id joined : ObjectId) (plain : Bool) → row ≡ Some id → brought ≡ Joins joined plain → id.life ≡ joined.life → id.slot ≡ joined.slot
+-- no two instances have one number: the row of its key, and what its exchange joins
+abbrev pub AreApart : (ℕ → ℕ) → Option ObjectId → Brought → Type 0
+AreApart number row brought = (id joined : ObjectId) (plain : Bool) → row ≡ Some id → brought ≡ Joins joined plain → number id.life ≡ number joined.life → id ≡ joined
 
 -- what its exchange brought counts as long as it belongs to the row of its key
 abbrev pub BroughtCountsAsTheLaws : Type 0
 BroughtCountsAsTheLaws = (s : State) (row : Option ObjectId) (key : Bytes)
-    → OfOpen (λ name owed seat c. is_refused_in seat.brought ≡ false → source_number row ≡ option_map (λ x. x.id) (row_of s key) → AreApart row seat.brought → begun_in seat.brought row ≡ begun_now s c key)
+    → OfOpen (λ number name owed seat c. is_refused_in seat.brought ≡ false → source_number number row ≡ option_map (λ x. x.id) (row_of s key) → AreApart number row seat.brought → begun_in seat.brought row ≡ begun_now s c key)
 
 -- ---- decisions
 
@@ -67,7 +67,7 @@ abbrev pub has_lost_its_row : State → Client → Bool
 has_lost_its_row s c = is_some_with (has_lost_row s) (reply_of c)
 
 abbrev pub LostIsTheLaws : Type 0
-LostIsTheLaws = (s : State) → OfOpen (λ name owed seat c. lost_in (answer_in seat.stage) (has_source_standing s c) ≡ has_lost_its_row s c)
+LostIsTheLaws = (s : State) → OfOpen (λ number name owed seat c. lost_in (answer_in seat.stage) (has_source_standing s c) ≡ has_lost_its_row s c)
 
 -- it waits for another's answer, and may wait on
 abbrev pub waits_on_still : State → Option SeatShared → Bool
@@ -75,10 +75,10 @@ waits_on_still s waits = is_some_with (λ w. is_patient s (shared_of w)) waits
 
 abbrev pub SharingIsTheLaws : Type 0
 SharingIsTheLaws = (s : State)
-    → OfOpen (λ name owed seat c. undecided_in seat.waits_on (waits_on_still s seat.waits_on) s.settings.shares_fetches (is_some (shared_ask s c)) (decide s c) ≡ due_undecided s c)
+    → OfOpen (λ number name owed seat c. undecided_in seat.waits_on (waits_on_still s seat.waits_on) s.settings.shares_fetches (is_some (shared_ask s c)) (decide s c) ≡ due_undecided s c)
 
 abbrev pub DecisionIsTheLaws : Type 0
-DecisionIsTheLaws = (s : State) (name : Bytes) (seat : Seat) (c : Client) → ShowsOpen name [] seat c → decision_in seat (has_lost_its_row s c) (due_undecided s c) (decide s c) ≡ due_by_stage s c
+DecisionIsTheLaws = (number : ℕ → ℕ) (s : State) (name : Bytes) (seat : Seat) (c : Client) → ShowsOpen number name [] seat c → decision_in seat (has_lost_its_row s c) (due_undecided s c) (decide s c) ≡ due_by_stage s c
 
 -- it is to have a reply that is no page
 abbrev pub still_waits_in : SeatStage → Bool
@@ -88,13 +88,13 @@ still_waits_in IsPassing = false
 still_waits_in (IsAnswering a) = not a.has_begun && not (is_page a.decision)
 
 abbrev pub WaitingIsTheLaws : Type 0
-WaitingIsTheLaws = (name : Bytes) (owed : List Bytes) (seat : Seat) (c : Client) → ShowsOpen name owed seat c → still_waits_in seat.stage ≡ still_waits c
+WaitingIsTheLaws = (number : ℕ → ℕ) (name : Bytes) (owed : List Bytes) (seat : Seat) (c : Client) → ShowsOpen number name owed seat c → still_waits_in seat.stage ≡ still_waits c
 
 -- ---- the end of a client that sends no more
 
 -- nothing that it sent is left to answer
 abbrev pub FinishedIsTheLaws : Type 0
-FinishedIsTheLaws = (name : Bytes) (owed : List Bytes) (seat : Seat) (c : Client) → ShowsSeat name owed seat c → finished_in seat ≡ is_finished c
+FinishedIsTheLaws = (number : ℕ → ℕ) (name : Bytes) (owed : List Bytes) (seat : Seat) (c : Client) → ShowsSeat number name owed seat c → finished_in seat ≡ is_finished c
 
 -- ---- cuts
 
@@ -102,7 +102,7 @@ abbrev pub cut_of : State → Seat → Client → Option Cause
 cut_of s seat c = cause_in s.is_stopped (is_idle_in s.is_ticked s.clock seat) seat (not (has_to_say s c)) (is_superseded s c)
 
 abbrev pub CutIsTheLaws : Type 0
-CutIsTheLaws = (s : State) (name : Bytes) (seat : Seat) (c : Client) → ShowsOpen name [] seat c → cut_of s seat c ≡ cut_in s c
+CutIsTheLaws = (number : ℕ → ℕ) (s : State) (name : Bytes) (seat : Seat) (c : Client) → ShowsOpen number name [] seat c → cut_of s seat c ≡ cut_in s c
 
 -- ---- both
 
@@ -112,7 +112,7 @@ due_as n i (IsDecided d) = Decide n i d
 due_as n i (IsCut cause) = CutOff n cause
 
 abbrev pub DueIsTheLaws : Type 0
-DueIsTheLaws = (s : State) (name : Bytes) (seat : Seat) (c : Client) → ShowsSeat name [] seat c
+DueIsTheLaws = (number : ℕ → ℕ) (s : State) (name : Bytes) (seat : Seat) (c : Client) → ShowsSeat number name [] seat c
     → option_map (due_as seat.client.id seat.index) (due_in seat.is_closing s.is_stopped (cut_of s seat c) (decision_in seat (has_lost_its_row s c) (due_undecided s c) (decide s c))) ≡ due_of s c
 
 -- ---- as a turn reads it: what does not count is not asked for
@@ -151,7 +151,7 @@ due_read s seat c =
     due_in seat.is_closing s.is_stopped (cut_if_open s seat c) (if_so (not seat.is_closing && not s.is_stopped && not (is_some (cut_if_open s seat c))) (decision_read s seat c))
 
 abbrev pub DueAsReadIsTheLaws : Type 0
-DueAsReadIsTheLaws = (s : State) (name : Bytes) (seat : Seat) (c : Client) → ShowsSeat name [] seat c → option_map (due_as seat.client.id seat.index) (due_read s seat c) ≡ due_of s c
+DueAsReadIsTheLaws = (number : ℕ → ℕ) (s : State) (name : Bytes) (seat : Seat) (c : Client) → ShowsSeat number name [] seat c → option_map (due_as seat.client.id seat.index) (due_read s seat c) ≡ due_of s c
 
 -- ---- which comes first
 

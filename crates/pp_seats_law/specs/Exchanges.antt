@@ -17,7 +17,6 @@ use Rattle.pp_law.specs.Requests.{goes_alone, is_asked_once, is_safe}
 use Rattle.pp_law.specs.Stages.{bound_of, is_headed, is_through}
 use Rattle.pp_law.specs.State.{Body, Pending, Joining, Relaying, Dropping, Bound, Exchange}
 use Rattle.pp_seats_law.specs.Fates.{aim_of}
-use Rattle.pp_seats_law.specs.Replies.{number_of}
 
 -- ---- what becomes of the body of its response
 
@@ -25,20 +24,20 @@ abbrev pub Binding : Type 0
 Binding = ObjectId × ℕ × ℕ × Bool
 
 -- the instance, the half-open span that is still to come, whether all of it is waited for, and how far it was wanted
-pub record IsBoundAs (x : Binding) (far : ℕ) (b : Bound) : Type 0 where
-  pub joined : number_of x.0 ≡ b.instance
+pub record IsBoundAs (number : ℕ → ℕ) (x : Binding) (far : ℕ) (b : Bound) : Type 0 where
+  pub joined : number x.0.life ≡ b.instance
   pub next : x.1 ≡ b.next
   pub to : x.2 ≡ b.to
   pub is_all : x.3 ≡ b.is_all
   pub wanted : far ≡ b.wanted
 
 -- how much was dropped of a body the law tells by what came on its connection
-abbrev pub ShowsBody : ErrandBody → Bool → Option Binding → Body → Type 0
-ShowsBody IsPending false None Pending = ⊤
-ShowsBody (IsJoining far) true (Some x) (Joining b) = IsBoundAs x far b
-ShowsBody IsRelaying true None Relaying = ⊤
-ShowsBody (IsDropping n) true None Dropping = ⊤
-ShowsBody body headed bound other = ⊥
+abbrev pub ShowsBody : (ℕ → ℕ) → ErrandBody → Bool → Option Binding → Body → Type 0
+ShowsBody number IsPending false None Pending = ⊤
+ShowsBody number (IsJoining far) true (Some x) (Joining b) = IsBoundAs number x far b
+ShowsBody number IsRelaying true None Relaying = ⊤
+ShowsBody number (IsDropping n) true None Dropping = ⊤
+ShowsBody number body headed bound other = ⊥
 
 -- ---- what it asks
 
@@ -49,9 +48,9 @@ is_ranged_in (Hole first last tag) = true
 is_ranged_in (Check tag) = false
 is_ranged_in Pass = false
 
--- by the text of its key. Its own text stands in the pipe of its connection, and as long as it has none nowhere: it is written anew
--- from the head of its client's request, which the law keeps with the exchange
-pub record ShowsExchange (x : Entry) (e : Exchange) : Type 0 where
+-- by the law's numbers of lives, and the text of its key. Its own text stands in the pipe of its connection, and as long as it has
+-- none nowhere: it is written anew from the head of its client's request, which the law keeps with the exchange
+pub record ShowsExchange (numbers : ℕ → ℕ) (x : Entry) (e : Exchange) : Type 0 where
   pub number : x.exchange.number ≡ e.number
   pub asker : x.exchange.asker ≡ e.asker
   pub aim : aim_of x.exchange.aim ≡ e.aim
@@ -71,21 +70,21 @@ pub record ShowsExchange (x : Entry) (e : Exchange) : Type 0 where
   pub asked : x.errand.asked ≡ e.asked
   pub body_left : x.errand.body_left ≡ e.body_left
   pub requested : x.errand.requested ≡ e.requested
-  pub body : ShowsBody x.errand.body x.exchange.headed x.exchange.bound e.body
+  pub body : ShowsBody numbers x.errand.body x.exchange.headed x.exchange.bound e.body
 
 -- ---- what is read of it
 
-abbrev pub ShowsBound : Option Binding → Option Bound → Type 0
-ShowsBound None None = ⊤
-ShowsBound (Some x) (Some b) = (far : ℕ) × IsBoundAs x far b
-ShowsBound x b = ⊥
+abbrev pub ShowsBound : (ℕ → ℕ) → Option Binding → Option Bound → Type 0
+ShowsBound number None None = ⊤
+ShowsBound number (Some x) (Some b) = (far : ℕ) × IsBoundAs number x far b
+ShowsBound number x b = ⊥
 
-pub record IsTheLaws (x : Entry) (e : Exchange) : Type 0 where
+pub record IsTheLaws (number : ℕ → ℕ) (x : Entry) (e : Exchange) : Type 0 where
   pub headed : x.exchange.headed ≡ is_headed e
-  pub bound : ShowsBound x.exchange.bound (bound_of e)
+  pub bound : ShowsBound number x.exchange.bound (bound_of e)
   pub outstanding : (x.errand.asked == x.errand.text_len) ≡ is_outstanding e
   pub alone : (x.errand.is_asked_once || x.errand.binds_connection) ≡ goes_alone e.head
   pub attempts : attempts_in x.errand.is_asked_once ≡ attempts_of e
 
 abbrev pub ExchangesAreTheLaws : Type 0
-ExchangesAreTheLaws = (x : Entry) (e : Exchange) → ShowsExchange x e → IsTheLaws x e
+ExchangesAreTheLaws = (number : ℕ → ℕ) (x : Entry) (e : Exchange) → ShowsExchange number x e → IsTheLaws number x e

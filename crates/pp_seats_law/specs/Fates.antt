@@ -22,7 +22,7 @@ is_refused course = false
 
 -- what is made of a seat that shows a client shows what is made of that client
 abbrev pub GoesAlong : (Client → Bool) → (Seat → Seat) → (Client → Client) → Type 0
-GoesAlong isnt f g = (name : Bytes) (owed : List Bytes) (seat : Seat) (c : Client) → ShowsSeat name owed seat c → isnt c ≡ false → ShowsSeat name owed (f seat) (g c)
+GoesAlong isnt f g = (number : ℕ → ℕ) (name : Bytes) (owed : List Bytes) (seat : Seat) (c : Client) → ShowsSeat number name owed seat c → isnt c ≡ false → ShowsSeat number name owed (f seat) (g c)
 
 -- an attempt is lost, of so many
 abbrev pub AttemptsAreTheLaws : Type 0

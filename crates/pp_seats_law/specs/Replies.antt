@@ -28,12 +28,11 @@ use Rattle.pp_seats.specs.declared.seat.Shared.{Shared as SeatShared}
 use Rattle.pp_seats.specs.declared.seat.Stage.{Stage as SeatStage}
 use Rattle.pp_seats.specs.declared.seat.Stage.TheVariants.{Undecided as IsUndecided, Waiting as IsWaiting, Passing as IsPassing, Answering as IsAnswering}
 
--- an instance is known by its life, whatever slot it stands in: each that is made has the next
-abbrev pub number_of : ObjectId → ℕ
-number_of id = id.life
-
-abbrev pub source_number : Option ObjectId → Option ℕ
-source_number id = option_map number_of id
+-- an instance is known by the law's number of its life, whatever slot it stands in. The law numbers each row that a response makes,
+-- also one for which memory was refused; the program gives a life to those alone that are in memory. So each life has a number,
+-- which the log tells
+abbrev pub source_number : (ℕ → ℕ) → Option ObjectId → Option ℕ
+source_number number id = option_map (λ x. number x.life) id
 
 -- ---- what of the reply is to be said
 
@@ -61,19 +60,19 @@ abbrev pub ShowsSaid : SaidStage → Bytes → Answer → Reply → Type 0
 ShowsSaid Due text a r = IsDueAs a r
 ShowsSaid (Begun reply) text a r = ShowsBegin reply text a r
 
-pub record ShowsAnswer (said : Said) (a : Answer) (r : Reply) : Type 0 where
+pub record ShowsAnswer (number : ℕ → ℕ) (said : Said) (a : Answer) (r : Reply) : Type 0 where
   pub decision : a.decision ≡ r.decision
-  pub source : source_number a.source ≡ r.source
+  pub source : source_number number a.source ≡ r.source
   pub begun : a.has_begun ≡ r.has_begun
   pub says : ShowsSaid said.stage said.text a r
 
 -- an interim answer comes with the first decision
-abbrev pub ShowsStage : Said → SeatStage → Stage → Type 0
-ShowsStage said IsUndecided Undecided = (said.stage ≡ Due) × (said.interim ≡ Unasked)
-ShowsStage said IsWaiting Waiting = said.stage ≡ Due
-ShowsStage said IsPassing Passing = said.stage ≡ Due
-ShowsStage said (IsAnswering a) (Answering r) = ShowsAnswer said a r
-ShowsStage said stage other = ⊥
+abbrev pub ShowsStage : (ℕ → ℕ) → Said → SeatStage → Stage → Type 0
+ShowsStage number said IsUndecided Undecided = (said.stage ≡ Due) × (said.interim ≡ Unasked)
+ShowsStage number said IsWaiting Waiting = said.stage ≡ Due
+ShowsStage number said IsPassing Passing = said.stage ≡ Due
+ShowsStage number said (IsAnswering a) (Answering r) = ShowsAnswer number said a r
+ShowsStage number said stage other = ⊥
 
 abbrev pub ShowsInterim : Interim → Bytes → Type 0
 ShowsInterim Unasked left = left ≡ []
@@ -120,17 +119,17 @@ pub record IsRefusedRow (owed : List Bytes) (c : Client) : Type 0 where
   pub joins : (id : ℕ) × (plain : Bool) × (c.brought ≡ Joins id plain)
   pub refused : (c.course ≡ RowRefused) ⊎ IsOwed owed c.front
 
-abbrev pub ShowsBrought : Bytes → Said → Front → SeatBrought → Brought → Type 0
-ShowsBrought name said front NoneYet Awaited = ⊤
-ShowsBrought name said front NoneOfUse Useless = ⊤
-ShowsBrought name said front (JoinsRow id plain) (Joins n other) = (number_of id ≡ n) × (plain ≡ other)
-ShowsBrought name said front (PassesOn x) (Passes p) = ShowsPassed name said front x p
-ShowsBrought name said front IsTooWide TooWide = ⊤
-ShowsBrought name said front brought other = ⊥
+abbrev pub ShowsBrought : (ℕ → ℕ) → Bytes → Said → Front → SeatBrought → Brought → Type 0
+ShowsBrought number name said front NoneYet Awaited = ⊤
+ShowsBrought number name said front NoneOfUse Useless = ⊤
+ShowsBrought number name said front (JoinsRow id plain) (Joins n other) = (number id.life ≡ n) × (plain ≡ other)
+ShowsBrought number name said front (PassesOn x) (Passes p) = ShowsPassed name said front x p
+ShowsBrought number name said front IsTooWide TooWide = ⊤
+ShowsBrought number name said front brought other = ⊥
 
-abbrev pub ShowsFate : Bytes → List Bytes → Said → SeatCourse → SeatBrought → Client → Type 0
-ShowsFate name owed said course Refused c = IsRefusedRow owed c
-ShowsFate name owed said course brought c = (course_of course ≡ c.course) × ShowsBrought name said c.front brought c.brought
+abbrev pub ShowsFate : (ℕ → ℕ) → Bytes → List Bytes → Said → SeatCourse → SeatBrought → Client → Type 0
+ShowsFate number name owed said course Refused c = IsRefusedRow owed c
+ShowsFate number name owed said course brought c = (course_of course ≡ c.course) × ShowsBrought number name said c.front brought c.brought
 
 -- what a pipe says is a response that is passed
 abbrev pub IsPipedFor : SaidStage → SeatBrought → Type 0

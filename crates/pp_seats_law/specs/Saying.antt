@@ -11,19 +11,19 @@ use Rattle.pp_seats_law.specs.Seats.{ShowsOpen, ShowsSeat}
 
 -- of one that is not closing, where something of its reply is left behind them
 abbrev pub SayingsAreTheLaws : Type 0
-SayingsAreTheLaws = (n : ℕ) (name : Bytes) (owed : List Bytes) (seat : Seat) (c : Client) → ShowsSeat name owed seat c → c.is_closing ≡ false → n ≤ left_next seat.client.reply → is_said (said n seat.client.reply) ≡ false
-    → ShowsSeat name owed (told_by n seat) (said_by n c)
+SayingsAreTheLaws = (number : ℕ → ℕ) (n : ℕ) (name : Bytes) (owed : List Bytes) (seat : Seat) (c : Client) → ShowsSeat number name owed seat c → c.is_closing ≡ false → n ≤ left_next seat.client.reply → is_said (said n seat.client.reply) ≡ false
+    → ShowsSeat number name owed (told_by n seat) (said_by n c)
 
 -- all was said, and the next request stands
-pub record IsNext (name : Bytes) (owed : List Bytes) (new : Seat) (c : Client) : Type 0 where
+pub record IsNext (number : ℕ → ℕ) (name : Bytes) (owed : List Bytes) (new : Seat) (c : Client) : Type 0 where
   pub over : is_over c ≡ true
-  pub next : ShowsOpen name owed new (next_request c)
+  pub next : ShowsOpen number name owed new (next_request c)
 
 -- of one whose reply is over with them, to a request whose end is known, as long as requests can be counted
 abbrev pub EndingsAreTheLaws : Type 0
-EndingsAreTheLaws = (n : ℕ) (name : Bytes) (owed : List Bytes) (seat new : Seat) (c : Client) (r : Parsed) → ShowsSeat name owed seat c → c.is_closing ≡ false → n ≤ left_next seat.client.reply → is_said (said n seat.client.reply) ≡ true
-    → c.front ≡ IsRequest r → is_ok r.rule ≡ true → seat.index + 1 ≤ 2 ^ 64 - 1 → IsRead (at_next_request (told_by n seat)) new → IsNext name owed new (said_by n c)
+EndingsAreTheLaws = (number : ℕ → ℕ) (n : ℕ) (name : Bytes) (owed : List Bytes) (seat new : Seat) (c : Client) (r : Parsed) → ShowsSeat number name owed seat c → c.is_closing ≡ false → n ≤ left_next seat.client.reply → is_said (said n seat.client.reply) ≡ true
+    → c.front ≡ IsRequest r → is_ok r.rule ≡ true → seat.index + 1 ≤ 2 ^ 64 - 1 → IsRead (at_next_request (told_by n seat)) new → IsNext number name owed new (said_by n c)
 
 -- all of a reply was said, in the words of both
 abbrev pub EndsAreTheSame : Type 0
-EndsAreTheSame = (name : Bytes) (owed : List Bytes) (seat : Seat) (c : Client) → ShowsOpen name owed seat c → is_said seat.client.reply ≡ is_over c
+EndsAreTheSame = (number : ℕ → ℕ) (name : Bytes) (owed : List Bytes) (seat : Seat) (c : Client) → ShowsOpen number name owed seat c → is_said seat.client.reply ≡ is_over c

@@ -14,7 +14,7 @@ head_left (Some r) = length r.head_left
 
 -- one whose cause to be closed has not come. That it was opened in this turn is no part of it, but of the turn, and that it was
 -- cut is told by the log alone
-pub record ShowsOpen (name : Bytes) (owed : List Bytes) (seat : Seat) (c : Client) : Type 0 where
+pub record ShowsOpen (number : ℕ → ℕ) (name : Bytes) (owed : List Bytes) (seat : Seat) (c : Client) : Type 0 where
   pub hung_up : seat.has_hung_up ≡ c.has_hung_up
   pub mark : seat.client.mark ≡ c.mark
   pub heard : ShowsHeard seat.client.heard c.front c.heard
@@ -23,9 +23,9 @@ pub record ShowsOpen (name : Bytes) (owed : List Bytes) (seat : Seat) (c : Clien
   pub front : ShowsFront seat.front c.front
   pub body_left : seat.body_left ≡ c.body_left
   pub index : seat.index ≡ c.index
-  pub stage : ShowsStage seat.client.reply seat.stage c.stage
+  pub stage : ShowsStage number seat.client.reply seat.stage c.stage
   pub waits_on : option_map shared_of seat.waits_on ≡ c.waits_on
-  pub fate : ShowsFate name owed seat.client.reply seat.course seat.brought c
+  pub fate : ShowsFate number name owed seat.client.reply seat.course seat.brought c
   pub asked : IsBroughtFor c.front seat.brought
   pub piped : IsPipedFor seat.client.reply.stage seat.brought
   pub given_up : seat.has_given_up ≡ c.has_given_up
@@ -33,8 +33,9 @@ pub record ShowsOpen (name : Bytes) (owed : List Bytes) (seat : Seat) (c : Clien
   pub before_body : seat.before_body ≡ length c.interim_left + head_left (reply_of c)
   pub closes : seat.closes ≡ c.closes
 
--- by the name of the proxy, and the keys of rows whose leaving is not noted yet. Of one that is closing nothing more is read
-pub record ShowsSeat (name : Bytes) (owed : List Bytes) (seat : Seat) (c : Client) : Type 0 where
+-- by the law's numbers of lives, the name of the proxy, and the keys of rows whose leaving is not noted yet. Of one that is closing
+-- nothing more is read
+pub record ShowsSeat (numbers : ℕ → ℕ) (name : Bytes) (owed : List Bytes) (seat : Seat) (c : Client) : Type 0 where
   pub number : seat.client.id ≡ c.number
   pub closing : seat.is_closing ≡ c.is_closing
-  pub going : c.is_closing ≡ false → ShowsOpen name owed seat c
+  pub going : c.is_closing ≡ false → ShowsOpen numbers name owed seat c

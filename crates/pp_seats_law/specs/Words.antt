@@ -16,12 +16,12 @@ use Rattle.pp_seats.specs.Courses.{has_begun}
 use Rattle.pp_seats.specs.Follows.{answer_in, next_of as seat_next}
 use Rattle.pp_seats.specs.Said.{used_by}
 use Rattle.pp_seats.specs.Seats.{is_told_in, is_undecided_in, passed_in}
-use Rattle.pp_seats_law.specs.Replies.{ShowsAnswer, ShowsPassed, number_of}
+use Rattle.pp_seats_law.specs.Replies.{ShowsAnswer, ShowsPassed}
 use Rattle.pp_seats_law.specs.Seats.{ShowsOpen, ShowsSeat}
 
 -- of all seats that show a client
-abbrev pub OfOpen : (Bytes → List Bytes → Seat → Client → Type 0) → Type 0
-OfOpen P = (name : Bytes) (owed : List Bytes) (seat : Seat) (c : Client) → ShowsOpen name owed seat c → P name owed seat c
+abbrev pub OfOpen : ((ℕ → ℕ) → Bytes → List Bytes → Seat → Client → Type 0) → Type 0
+OfOpen P = (number : ℕ → ℕ) (name : Bytes) (owed : List Bytes) (seat : Seat) (c : Client) → ShowsOpen number name owed seat c → P number name owed seat c
 
 -- ---- the reply, and its next byte
 
@@ -29,38 +29,38 @@ OfOpen P = (name : Bytes) (owed : List Bytes) (seat : Seat) (c : Client) → Sho
 abbrev pub HasSource : State → Client → Type 0
 HasSource s c = (r : Reply) (id : ℕ) → reply_of c ≡ Some r → r.source ≡ Some id → (x : Instance) × (instance s id ≡ Some x)
 
-pub record IsSameNext (x : SeatNext) (n : Next) : Type 0 where
-  pub source : number_of x.source ≡ n.source.id
+pub record IsSameNext (number : ℕ → ℕ) (x : SeatNext) (n : Next) : Type 0 where
+  pub source : number x.source.life ≡ n.source.id
   pub at : x.at ≡ n.at
   pub to : x.to ≡ n.to
 
-abbrev pub ShowsNext : Option SeatNext → Option Next → Type 0
-ShowsNext None None = ⊤
-ShowsNext (Some x) (Some n) = IsSameNext x n
-ShowsNext x n = ⊥
+abbrev pub ShowsNext : (ℕ → ℕ) → Option SeatNext → Option Next → Type 0
+ShowsNext number None None = ⊤
+ShowsNext number (Some x) (Some n) = IsSameNext number x n
+ShowsNext number x n = ⊥
 
 abbrev pub NextsAreTheLaws : Type 0
-NextsAreTheLaws = (s : State) (name : Bytes) (owed : List Bytes) (seat : Seat) (c : Client) → ShowsSeat name owed seat c → HasSource s c → ShowsNext (seat_next seat) (next_of s c)
+NextsAreTheLaws = (number : ℕ → ℕ) (s : State) (name : Bytes) (owed : List Bytes) (seat : Seat) (c : Client) → ShowsSeat number name owed seat c → HasSource s c → ShowsNext number (seat_next seat) (next_of s c)
 
-abbrev pub ShowsReply : Said → Option Answer → Option Reply → Type 0
-ShowsReply said None None = ⊤
-ShowsReply said (Some a) (Some r) = ShowsAnswer said a r
-ShowsReply said a r = ⊥
+abbrev pub ShowsReply : (ℕ → ℕ) → Said → Option Answer → Option Reply → Type 0
+ShowsReply number said None None = ⊤
+ShowsReply number said (Some a) (Some r) = ShowsAnswer number said a r
+ShowsReply number said a r = ⊥
 
 abbrev pub RepliesAreTheLaws : Type 0
-RepliesAreTheLaws = OfOpen (λ name owed seat c. ShowsReply seat.client.reply (answer_in seat.stage) (reply_of c))
+RepliesAreTheLaws = OfOpen (λ number name owed seat c. ShowsReply number seat.client.reply (answer_in seat.stage) (reply_of c))
 
 abbrev pub BegunIsTheLaws : Type 0
-BegunIsTheLaws = OfOpen (λ name owed seat c. has_begun seat ≡ is_begun c)
+BegunIsTheLaws = OfOpen (λ number name owed seat c. has_begun seat ≡ is_begun c)
 
 -- ---- where its request is
 
 abbrev pub UndecidedIsTheLaws : Type 0
-UndecidedIsTheLaws = OfOpen (λ name owed seat c. is_undecided_in seat.stage ≡ is_undecided c.stage)
+UndecidedIsTheLaws = OfOpen (λ number name owed seat c. is_undecided_in seat.stage ≡ is_undecided c.stage)
 
 -- the head of its exchange's response came
 abbrev pub ToldIsTheLaws : Type 0
-ToldIsTheLaws = OfOpen (λ name owed seat c. is_told_in seat.brought ≡ is_told c.brought)
+ToldIsTheLaws = OfOpen (λ number name owed seat c. is_told_in seat.brought ≡ is_told c.brought)
 
 -- the response that its exchange passes to it
 abbrev pub ShowsMaybePassed : Bytes → Said → Front → Option SeatPassed → Option Passed → Type 0
@@ -69,19 +69,19 @@ ShowsMaybePassed name said front (Some x) (Some p) = ShowsPassed name said front
 ShowsMaybePassed name said front x p = ⊥
 
 abbrev pub PassedIsTheLaws : Type 0
-PassedIsTheLaws = OfOpen (λ name owed seat c. ShowsMaybePassed name seat.client.reply c.front (passed_in seat.brought) (passed_of c))
+PassedIsTheLaws = OfOpen (λ number name owed seat c. ShowsMaybePassed name seat.client.reply c.front (passed_in seat.brought) (passed_of c))
 
 -- ---- what is said
 
 -- of the next so many bytes that are said, those of the instance that it follows: from its next byte on, as many as of the body
-abbrev pub ShowsUsed : ℕ → Option SeatNext → Option Next → Type 0
-ShowsUsed n None None = ⊤
-ShowsUsed n (Some x) (Some next) = (number_of x.source ≡ next.source.id) × (x.at ≡ next.at) × (x.to ≡ next.at + n)
-ShowsUsed n x next = ⊥
+abbrev pub ShowsUsed : (ℕ → ℕ) → ℕ → Option SeatNext → Option Next → Type 0
+ShowsUsed number n None None = ⊤
+ShowsUsed number n (Some x) (Some next) = (number x.source.life ≡ next.source.id) × (x.at ≡ next.at) × (x.to ≡ next.at + n)
+ShowsUsed number n x next = ⊥
 
 abbrev pub used_of : ℕ → State → Client → Option Next
 used_of n s c = elim (nat_lt 0 (of_body n c)) [ true ↦ next_of s c | false ↦ None ]
 
 abbrev pub UsesAreTheLaws : Type 0
-UsesAreTheLaws = (n : ℕ) (s : State) (name : Bytes) (owed : List Bytes) (seat : Seat) (c : Client) → ShowsSeat name owed seat c → c.is_closing ≡ false → HasSource s c → n ≤ left_next seat.client.reply
-    → ShowsUsed (of_body n c) (used_by n seat) (used_of n s c)
+UsesAreTheLaws = (number : ℕ → ℕ) (n : ℕ) (s : State) (name : Bytes) (owed : List Bytes) (seat : Seat) (c : Client) → ShowsSeat number name owed seat c → c.is_closing ≡ false → HasSource s c → n ≤ left_next seat.client.reply
+    → ShowsUsed number (of_body n c) (used_by n seat) (used_of n s c)

@@ -4,7 +4,8 @@
 //! From it follows that what the program says of a seat is what the law says of that client: how far its request and its reply
 //! are, how it fares, what is kept of a head, and which decision or cut is due. What is made of the seat by a read, by bytes that
 //! are said, and behind a reply that is over, shows what the law makes of that client; and where all seats show all clients, so
-//! they do behind a change of one. `specs/Exchanges.antt` is the same of an exchange.
+//! they do behind a change of one. `specs/Exchanges.antt` is the same of an exchange. An instance of the program has a life, and
+//! each life a number of the law, whichever that is: the relations take these numbers first.
 //!
 //! To the layer above: each equation is the clause of a function that does nothing. It is one part of the proof that the program
 //! obeys the law: of connections, rows and turns nothing is said here. The words of the program stand in `pp_seats`, which says
