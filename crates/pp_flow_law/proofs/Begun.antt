@@ -1,5 +1,5 @@
 -- One exchange more, or none yet.
-use Rattle.std.proofs.Common.{◌≡◌, ◌≤◌, ◌+◌, refl, sym, subst, ap, ap₂, ◌∙◌, ℕ, Bool, true, false, not, ◌==◌, cond, find, List, [], ◌∷◌, ◌++◌, filter, length, Option, Some, None, arith}
+use Rattle.std.proofs.Common.{◌≡◌, ◌≤◌, ◌+◌, refl, sym, subst, ap, ◌∙◌, ℕ, Bool, true, false, not, ◌==◌, cond, find, List, [], ◌∷◌, ◌++◌, filter, Option, Some, None, arith}
 use Rattle.std.specs.Prelude.{count_by, is_some}
 use Rattle.pp_cache_law.proofs.Finds.{find_joined, first_of_two, none_found}
 use Rattle.pp_cache_law.proofs.PairLemmas.{count_first, count_joined, filter_joined, joined}
@@ -7,13 +7,13 @@ use Rattle.pp_cache_law.specs.Pairs.{AreAll, AreBoth}
 use Rattle.pp_flow.specs.Changes.{Exchanges, entry_of, first_of}
 use Rattle.pp_flow.specs.Entries.{begun_with, is_number}
 use Rattle.pp_flow.specs.declared.entry.Entry.{Entry}
-use Rattle.pp_law.specs.Connections.{conn, exchange, is_conn, is_exchange}
+use Rattle.pp_law.specs.Connections.{exchange, is_conn, is_exchange}
 use Rattle.pp_law.specs.Deciding.{add_exchange}
 use Rattle.pp_law.specs.State.{State, Conn, Exchange}
 use Rattle.pp_seats_law.specs.Exchanges.{ShowsExchange}
 use Rattle.pp_flow_law.specs.Changes.{BeginningsAreTheLaws, BeginsAreTheLaws}
-use Rattle.pp_flow_law.specs.Tables.{AreGiven, Leaving, ShowsFlow, has_none, line_in, none_leaves}
-use Rattle.pp_flow_law.proofs.Entries.{length_last, other_way, same_as, same_number}
+use Rattle.pp_flow_law.specs.Tables.{AreGiven, Leaving, ShowsFlow, has_none, line_in}
+use Rattle.pp_flow_law.proofs.Entries.{other_way, same_as, same_number}
 use Rattle.pp_flow_law.proofs.Exchanges.{given_more, none_behind, numbers_of}
 use Rattle.pp_flow_law.proofs.Pairs.{both_as}
 use Rattle.pp_flow_law.proofs.Put.{at_most_one, first_none, no_more}

@@ -1,6 +1,5 @@
 -- One of the exchanges is over.
-use Rattle.std.proofs.Common.{◌≡◌, ◌≤◌, ◌+◌, refl, sym, subst, ap, ap₂, ◌∙◌, ℕ, Bool, true, false, not, ◌==◌, find, List, ◌++◌, map, filter, length, Option, Some, None, option_map, arith}
-use Rattle.std.specs.Prelude.{count_by}
+use Rattle.std.proofs.Common.{◌≡◌, refl, sym, subst, ap, ap₂, ◌∙◌, ℕ, Bool, true, false, not, ◌==◌, find, List, ◌++◌, filter, Option, Some, None, option_map, arith}
 use Rattle.pp_cache_law.proofs.Finds.{find_kept, find_mapped, find_out}
 use Rattle.pp_cache_law.proofs.PairLemmas.{count_joined, filter_joined}
 use Rattle.pp_cache_law.specs.Pairs.{AreAll, AreBoth}
@@ -13,10 +12,10 @@ use Rattle.pp_law.specs.State.{State, Conn, Exchange}
 use Rattle.pp_seats_law.specs.Exchanges.{ShowsExchange}
 use Rattle.pp_flow_law.specs.Changes.{EndsAreTheLaws, but}
 use Rattle.pp_flow_law.specs.Tables.{Leaving, ShowsFlow, has_none, line_at, line_in}
-use Rattle.pp_flow_law.proofs.Entries.{count_without, find_without, find_without_else, isnt, length_without, line_without, off, other_way, same_number}
-use Rattle.pp_flow_law.proofs.Exchanges.{filter_swap, given_kept, isnt_exchange, length_kept}
+use Rattle.pp_flow_law.proofs.Entries.{count_without, find_without, find_without_else, isnt, line_without, off, other_way, same_number}
+use Rattle.pp_flow_law.proofs.Exchanges.{filter_swap, given_kept, isnt_exchange}
 use Rattle.pp_flow_law.proofs.Pairs.{both_as, pairs_without}
-use Rattle.pp_flow_law.proofs.Standing.{counts_same, few_placed, few_waiting}
+use Rattle.pp_flow_law.proofs.Standing.{few_placed, few_waiting}
 
 abbrev pub over_at : ℕ → Exchanges → Exchanges
 over_at n f = record f { waiting = without_number n f.waiting; placed = without_number n f.placed }

@@ -3,7 +3,7 @@ use Rattle.std.proofs.Common.{◌≡◌, ◌≤◌, ◌+◌, refl, sym, ap, ◌�
 use Rattle.std.specs.Prelude.{count_by, is_some, option_map}
 use Rattle.std.specs.List.{list_any}
 use Rattle.std.proofs.lemmas.Bool.Decides.{nat_tests}
-use Rattle.pp_cache_law.proofs.Finds.{found_counted, none_found}
+use Rattle.pp_cache_law.proofs.Finds.{found_counted}
 use Rattle.pp_cache_law.proofs.PairLemmas.{count_first}
 use Rattle.pp_flow.specs.Changes.{changed, entered, is_on, is_place, line_of, without}
 use Rattle.pp_flow.specs.Entries.{is_number}

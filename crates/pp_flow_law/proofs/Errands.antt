@@ -1,19 +1,18 @@
 -- What one of the exchanges asks, and what its response brings.
-use Rattle.std.proofs.Common.{◌≡◌, ◌+◌, ◌-◌, refl, sym, subst, ap, ◌∙◌, ℕ, Bool, true, false, ◌==◌, cond, find, List, Option, Some, None}
+use Rattle.std.proofs.Common.{◌≡◌, ◌+◌, ◌-◌, refl, sym, subst, ap, ◌∙◌, ℕ, Bool, true, false, cond, find, List, Option, Some, None}
 use Rattle.std.specs.Prelude.{is_some}
-use Rattle.std.specs.List.{list_any}
 use Rattle.pp_cache_law.proofs.Finds.{find_passes}
 use Rattle.pp_cache_law.proofs.Numbers.{some_is}
-use Rattle.pp_flow.specs.Changes.{Exchanges, changed, entry_of, with_errand}
+use Rattle.pp_flow.specs.Changes.{Exchanges, changed, with_errand}
 use Rattle.pp_flow.specs.Entries.{asking, bound_to, is_number, moved, moved_by}
 use Rattle.pp_flow.specs.declared.entry.Entry.{Entry}
 use Rattle.pp_flow.specs.declared.errand.Body.{Body as ErrandBody}
 use Rattle.pp_flow.specs.declared.errand.Body.TheVariants.{Pending as IsPending, Joining as IsJoining, Relaying as IsRelaying, Dropping as IsDropping}
 use Rattle.pp_flow.specs.declared.errand.Errand.{Errand}
 use Rattle.pp_law.specs.Asking.{asked_text}
-use Rattle.pp_law.specs.Connections.{exchange, is_exchange, on_exchange}
+use Rattle.pp_law.specs.Connections.{is_exchange, on_exchange}
 use Rattle.pp_law.specs.OwnHeads.{moved_on, use_body}
-use Rattle.pp_law.specs.Stages.{bound_in, bound_of}
+use Rattle.pp_law.specs.Stages.{bound_in}
 use Rattle.pp_law.specs.State.{State, Body, Pending, Joining, Relaying, Dropping, Bound, Exchange}
 use Rattle.pp_seats_law.specs.Exchanges.{Binding, ShowsBody, ShowsExchange}
 use Rattle.pp_flow_law.specs.Changes.{BodiesAreTheLaws, BytesAreTheLaws, ErrandsAreTheLaws, HeadsAreTheLaws, KeepsItsPlace, TextsAreTheLaws}

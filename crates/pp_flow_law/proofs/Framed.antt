@@ -1,16 +1,15 @@
 -- What is no part of the exchanges may change.
-use Rattle.std.proofs.Common.{◌≡◌, ◌+◌, refl, sym, subst, ap, ◌∙◌, ℕ, Bool, true, false, not, ◌==◌, cond, find, List, [], ◌∷◌, ◌++◌, filter, length, Option, Some, None, option_map}
+use Rattle.std.proofs.Common.{◌≡◌, refl, sym, subst, ap, ◌∙◌, ℕ, Bool, true, false, not, ◌==◌, cond, find, List, [], ◌∷◌, ◌++◌, filter, Option, Some, None, option_map}
 use Rattle.pp_cache_law.proofs.Finds.{find_joined, find_kept, find_mapped, find_out, find_passes, first_of_two}
 use Rattle.pp_cache_law.proofs.PairLemmas.{joined_none}
 use Rattle.pp_cache_law.specs.Pairs.{AreAll, AreBoth}
-use Rattle.pp_flow.specs.Changes.{Exchanges, entry_of}
+use Rattle.pp_flow.specs.Changes.{entry_of}
 use Rattle.pp_law.specs.After.{out}
 use Rattle.pp_law.specs.Connections.{conn, is_conn, is_exchange, on_conn}
-use Rattle.pp_law.specs.Lists.{change, without}
 use Rattle.pp_law.specs.State.{State, Conn, Exchange}
 use Rattle.pp_seats_law.specs.Exchanges.{ShowsExchange}
-use Rattle.pp_flow_law.specs.Frames.{ClosingsAreTheLaws, DialsAreTheLaws, DropsAreTheLaws, FramesAreTheLaws, IsSameFlow, emptied, still}
-use Rattle.pp_flow_law.specs.Tables.{AreGiven, Leaving, ShowsFlow, has_none, line_at, line_in}
+use Rattle.pp_flow_law.specs.Frames.{ClosingsAreTheLaws, DialsAreTheLaws, DropsAreTheLaws, FramesAreTheLaws, emptied, still}
+use Rattle.pp_flow_law.specs.Tables.{AreGiven, Leaving, has_none, line_at, line_in}
 use Rattle.pp_flow_law.proofs.Ended.{not_so}
 use Rattle.pp_flow_law.proofs.Entries.{off, other_way, same_number}
 use Rattle.pp_flow_law.proofs.Exchanges.{numbers_of}

@@ -1,22 +1,21 @@
 -- At a decision a request leaves the exchange that it asked.
-use Rattle.std.proofs.Common.{◌≡◌, ◌≤◌, refl, sym, subst, ap, ◌∙◌, ℕ, Bool, true, false, not, ◌==◌, ◌||◌, cond, find, List, [], ◌∷◌, ◌++◌, filter, Option, Some, None, option_map}
-use Rattle.std.specs.Prelude.{count_by, is_some}
+use Rattle.std.proofs.Common.{◌≡◌, refl, sym, subst, ap, ◌∙◌, ℕ, Bool, true, false, not, ◌||◌, cond, find, List, [], ◌∷◌, Option, Some, None, option_map}
+use Rattle.std.specs.Prelude.{is_some}
 use Rattle.std.specs.List.{list_any}
 use Rattle.pp_cache_law.proofs.Finds.{find_passes, none_changed, one_only, only_found}
 use Rattle.pp_cache_law.proofs.Numbers.{true_false}
 use Rattle.pp_cache_law.proofs.PairLemmas.{AreOnly}
-use Rattle.pp_flow.specs.Changes.{Exchanges, changed, first_of, line_of, without as without_number}
+use Rattle.pp_flow.specs.Changes.{Exchanges, changed, first_of, line_of}
 use Rattle.pp_flow.specs.Entries.{begun_with, is_asked_by, is_number, nobodys}
 use Rattle.pp_flow.specs.declared.entry.Entry.{Entry}
 use Rattle.pp_law.specs.Closing.{forsake, is_of, is_over, leave, left_alone}
 use Rattle.pp_law.specs.Connections.{end_exchange, exchange, is_exchange, on_exchange}
 use Rattle.pp_law.specs.Deciding.{add_exchange, begin_exchange}
 use Rattle.pp_law.specs.Lists.{change, is_some_with, without}
-use Rattle.pp_law.specs.State.{State, Exchange}
+use Rattle.pp_law.specs.State.{Exchange}
 use Rattle.pp_seats_law.specs.Exchanges.{ShowsExchange}
 use Rattle.pp_flow_law.specs.Changes.{AsksBeginAsTheLaws, DecisionsLeaveAsTheLaws, begun_by, but, left_by}
-use Rattle.pp_flow_law.specs.Frames.{IsSameFlow}
-use Rattle.pp_flow_law.specs.Tables.{Leaving, ShowsFlow, has_none, line_at}
+use Rattle.pp_flow_law.specs.Tables.{ShowsFlow, has_none}
 use Rattle.pp_flow_law.proofs.Begun.{begins}
 use Rattle.pp_flow_law.proofs.Ended.{ends, over_at}
 use Rattle.pp_flow_law.proofs.Entries.{none_some, same_as, without_none}

@@ -7,7 +7,7 @@ use Rattle.pp_flow.specs.declared.errand.Body.TheVariants.{Pending as IsPending,
 use Rattle.pp_law.specs.Connections.{is_exchange, on_exchange}
 use Rattle.pp_law.specs.Lists.{change}
 use Rattle.pp_law.specs.Stages.{bound_in}
-use Rattle.pp_law.specs.State.{State, Body, Pending, Joining, Relaying, Dropping, Bound, Exchange}
+use Rattle.pp_law.specs.State.{Body, Pending, Joining, Relaying, Dropping, Bound, Exchange}
 use Rattle.pp_seats_law.specs.Exchanges.{Binding, ShowsBody, ShowsExchange}
 use Rattle.pp_flow_law.specs.Changes.{DropsAreNone, KeepsItsPlace, WantsAreTheLaws, wanting}
 use Rattle.pp_flow_law.proofs.Errands.{errands}

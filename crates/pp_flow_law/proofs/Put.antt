@@ -1,14 +1,13 @@
 -- One of the exchanges gets a place.
-use Rattle.std.proofs.Common.{◌≡◌, ◌≤◌, ◌+◌, refl, sym, subst, ap, ap₂, ◌∙◌, ℕ, Bool, true, false, not, ◌==◌, cond, find, List, [], ◌∷◌, ◌++◌, map, filter, length, Option, Some, None, option_map, arith}
+use Rattle.std.proofs.Common.{◌≡◌, ◌≤◌, ◌+◌, refl, sym, subst, ap, ap₂, ◌∙◌, ℕ, Bool, true, false, ◌==◌, cond, find, List, [], ◌∷◌, ◌++◌, filter, length, Option, Some, None, option_map, arith}
 use Rattle.std.specs.Prelude.{count_by}
-use Rattle.std.specs.List.{list_any}
 use Rattle.std.proofs.lemmas.Bool.Decides.{nat_tests}
 use Rattle.std.proofs.lemmas.List.{append_assoc, append-nil}
-use Rattle.pp_cache_law.proofs.Finds.{find_joined, find_mapped, find_passes, first_of_two, found_counted, none_found}
+use Rattle.pp_cache_law.proofs.Finds.{find_joined, find_mapped, find_passes, first_of_two, none_found}
 use Rattle.pp_cache_law.proofs.Numbers.{some_is}
 use Rattle.pp_cache_law.proofs.PairLemmas.{count_first, count_joined}
 use Rattle.pp_cache_law.specs.Pairs.{AreAll, AreBoth}
-use Rattle.pp_flow.specs.Changes.{Exchanges, changed, entry_of, first_of, is_on, is_place, line_of, placed_on, with_errand, without as without_number}
+use Rattle.pp_flow.specs.Changes.{Exchanges, changed, entry_of, first_of, is_place, line_of, placed_on, with_errand, without as without_number}
 use Rattle.pp_flow.specs.Entries.{asking, is_number, with_place}
 use Rattle.pp_flow.specs.declared.entry.Entry.{Entry}
 use Rattle.pp_flow.specs.declared.errand.Errand.{Errand}
@@ -18,8 +17,8 @@ use Rattle.pp_law.specs.State.{State, Conn, Exchange}
 use Rattle.pp_seats_law.specs.Exchanges.{ShowsExchange}
 use Rattle.pp_flow_law.specs.Changes.{PutsAreTheLaws}
 use Rattle.pp_flow_law.specs.Tables.{AreGiven, Leaving, ShowsFlow, has_none, line_in}
-use Rattle.pp_flow_law.proofs.Entries.{any_is, changed_last, count_without, find_without, find_without_else, length_last, length_without, line_first, line_joined, none_some, other_way, same_as, same_number}
-use Rattle.pp_flow_law.proofs.Exchanges.{filter_change_out, find_change, find_change_else, length_change, numbers_change}
+use Rattle.pp_flow_law.proofs.Entries.{any_is, changed_last, count_without, find_without, find_without_else, line_first, line_joined, none_some, other_way, same_as, same_number}
+use Rattle.pp_flow_law.proofs.Exchanges.{filter_change_out, find_change, find_change_else, numbers_change}
 use Rattle.pp_flow_law.proofs.Pairs.{both_as, pairs_without}
 use Rattle.pp_flow_law.proofs.Standing.{entry_waiting, few_waiting, none_placed}
 

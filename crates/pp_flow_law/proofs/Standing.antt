@@ -1,5 +1,5 @@
 -- What follows where the exchanges of the program show those of the law.
-use Rattle.std.proofs.Common.{◌≡◌, ◌≤◌, ◌+◌, refl, sym, subst, ap, ◌∙◌, ℕ, Bool, true, false, not, ◌==◌, cond, find, filter, List, [], ◌∷◌, ◌++◌, Option, Some, None, arith}
+use Rattle.std.proofs.Common.{◌≡◌, ◌≤◌, ◌+◌, refl, sym, subst, ap, ◌∙◌, ℕ, Bool, true, false, not, ◌==◌, cond, find, filter, List, [], ◌∷◌, Option, Some, None, arith}
 use Rattle.std.specs.Prelude.{count_by, is_some}
 use Rattle.pp_cache_law.proofs.Finds.{found_counted, none_found}
 use Rattle.pp_cache_law.proofs.Numbers.{some_is, true_false}

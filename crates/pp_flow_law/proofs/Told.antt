@@ -1,5 +1,5 @@
 -- What is read of the exchanges.
-use Rattle.std.proofs.Common.{◌≡◌, ◌≤◌, ◌+◌, refl, sym, subst, ap, ap₂, ◌∙◌, ℕ, Bool, true, false, not, ◌==◌, ◌&&◌, cond, nat_lt, find, List, [], ◌∷◌, ◌++◌, filter, length, Option, Some, None, option_map, arith}
+use Rattle.std.proofs.Common.{◌≡◌, ◌≤◌, ◌+◌, refl, sym, subst, ap, ◌∙◌, ℕ, Bool, true, false, not, ◌==◌, ◌&&◌, cond, nat_lt, find, List, [], ◌∷◌, ◌++◌, filter, length, Option, Some, None, option_map, arith}
 use Rattle.std.specs.Prelude.{count_by, is_some, slice_get}
 use Rattle.pp_cache_law.proofs.Finds.{find_passes, found_counted, none_found, none_passes}
 use Rattle.pp_cache_law.proofs.Numbers.{some_is, true_false}

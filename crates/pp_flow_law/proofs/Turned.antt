@@ -1,5 +1,5 @@
 -- One of the exchanges is changed where it stands.
-use Rattle.std.proofs.Common.{◌≡◌, ◌≤◌, ◌+◌, refl, sym, subst, ap, ap₂, ◌∙◌, ℕ, Bool, true, false, not, ◌==◌, cond, find, List, ◌++◌, map, filter, length, Option, Some, None, arith}
+use Rattle.std.proofs.Common.{◌≡◌, refl, sym, subst, ap, ap₂, ◌∙◌, ℕ, Bool, true, false, not, ◌==◌, find, List, filter, Option, Some, None, arith}
 use Rattle.std.specs.Prelude.{count_by, is_some, option_map}
 use Rattle.pp_cache_law.proofs.PairLemmas.{count_joined}
 use Rattle.pp_cache_law.specs.Pairs.{AreAll, AreBoth}
@@ -13,8 +13,8 @@ use Rattle.pp_law.specs.State.{State, Exchange}
 use Rattle.pp_seats_law.specs.Exchanges.{ShowsExchange}
 use Rattle.pp_flow_law.specs.Changes.{KeepsItsPlace, LeavesAreTheLaws}
 use Rattle.pp_flow_law.specs.Tables.{AreGiven, Leaving, ShowsFlow, has_none}
-use Rattle.pp_flow_law.proofs.Entries.{Keeps, count_changed, find_changed, find_changed_else, length_changed, line_changed, same_number}
-use Rattle.pp_flow_law.proofs.Exchanges.{filter_change, find_change, find_change_else, length_change, numbers_change}
+use Rattle.pp_flow_law.proofs.Entries.{Keeps, count_changed, find_changed, find_changed_else, line_changed, same_number}
+use Rattle.pp_flow_law.proofs.Exchanges.{filter_change, find_change, find_change_else, numbers_change}
 use Rattle.pp_flow_law.proofs.Pairs.{both_as, both_mapped, pairs_changed}
 use Rattle.pp_flow_law.proofs.Standing.{entry_waiting, few_waiting}
 

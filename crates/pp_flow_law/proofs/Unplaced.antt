@@ -1,23 +1,22 @@
 -- The place of one of the exchanges is taken away.
-use Rattle.std.proofs.Common.{◌≡◌, ◌≤◌, ◌+◌, refl, sym, subst, ap, ap₂, ◌∙◌, ℕ, Bool, true, false, not, ◌==◌, ◌||◌, cond, find, List, [], ◌∷◌, ◌++◌, map, filter, length, Option, Some, None, option_map, arith}
+use Rattle.std.proofs.Common.{◌≡◌, ◌≤◌, ◌+◌, refl, sym, subst, ap, ap₂, ◌∙◌, ℕ, Bool, true, false, not, ◌==◌, ◌||◌, cond, find, List, [], ◌∷◌, ◌++◌, filter, Option, Some, None, option_map, arith}
 use Rattle.std.specs.Prelude.{count_by}
-use Rattle.std.specs.List.{list_any}
-use Rattle.pp_cache_law.proofs.Finds.{find_passes, found_counted, none_found}
+use Rattle.pp_cache_law.proofs.Finds.{find_passes, none_found}
 use Rattle.pp_cache_law.proofs.PairLemmas.{count_joined}
 use Rattle.pp_cache_law.specs.Pairs.{AreBoth}
-use Rattle.pp_flow.specs.Changes.{Exchanges, changed, entered, entry_of, first_of, line_of, unplaced as without_place, with_errand, without as without_number}
+use Rattle.pp_flow.specs.Changes.{Exchanges, changed, entered, entry_of, first_of, unplaced as without_place, with_errand, without as without_number}
 use Rattle.pp_flow.specs.Entries.{asking, is_number, with_place}
 use Rattle.pp_flow.specs.declared.entry.Entry.{Entry}
 use Rattle.pp_flow.specs.declared.errand.Errand.{Errand}
-use Rattle.pp_law.specs.Connections.{conn, exchange, is_exchange, on_exchange, unplaced}
+use Rattle.pp_law.specs.Connections.{exchange, is_exchange, on_exchange, unplaced}
 use Rattle.pp_law.specs.Lists.{change, has_number}
-use Rattle.pp_law.specs.State.{State, Conn, Exchange}
+use Rattle.pp_law.specs.State.{State, Exchange}
 use Rattle.pp_seats_law.specs.Exchanges.{ShowsExchange}
 use Rattle.pp_flow_law.specs.Changes.{HasLeft, UnplacesAreTheLaws, but}
 use Rattle.pp_flow_law.specs.Tables.{AreGiven, Leaving, ShowsFlow, has_none, line_at}
 use Rattle.pp_flow_law.proofs.Ended.{line_but}
-use Rattle.pp_flow_law.proofs.Entries.{any_is, changed_entered, count_entered, count_without, find_entered, find_entered_else, find_without, find_without_else, isnt, length_entered, length_without, other_way, same_as, same_number}
-use Rattle.pp_flow_law.proofs.Exchanges.{find_change, find_change_else, length_change, numbers_change}
+use Rattle.pp_flow_law.proofs.Entries.{any_is, changed_entered, count_entered, count_without, find_entered, find_entered_else, find_without, find_without_else, isnt, other_way, same_as, same_number}
+use Rattle.pp_flow_law.proofs.Exchanges.{find_change, find_change_else, numbers_change}
 use Rattle.pp_flow_law.proofs.Pairs.{both_as, pairs_entered}
 use Rattle.pp_flow_law.proofs.Put.{at_most_one, both_put}
 use Rattle.pp_flow_law.proofs.Standing.{IsShown, entry_placed, few_placed, is_shown, none_waits, placed_has}

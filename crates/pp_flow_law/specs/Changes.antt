@@ -1,5 +1,5 @@
 -- What changes the exchanges of the program changes those of the law alike.
-use Rattle.std.specs.Prelude.{◌≡◌, ◌≤◌, ℕ, ◌+◌, ◌-◌, ◌==◌, true, false, not, [], ◌∷◌, ◌++◌, List, length, filter, Option, Some, None, count_by}
+use Rattle.std.specs.Prelude.{◌≡◌, ◌≤◌, ℕ, ◌+◌, ◌-◌, ◌==◌, true, false, not, [], ◌∷◌, ◌++◌, length, filter, Option, Some, None, count_by}
 use Rattle.std.specs.List.{find, list_any}
 use Rattle.pp_flow.specs.Changes.{Exchanges, changed, entry_of, first_of, placed_on, unplaced as without_place, with_errand, without}
 use Rattle.pp_flow.specs.Entries.{asking, begun_with, bound_to, is_asked_by, is_number, moved_by, nobodys}

@@ -1,5 +1,5 @@
 -- What is no part of the exchanges may change, and the connections that they stand on.
-use Rattle.std.specs.Prelude.{◌≡◌, ℕ, true, ◌==◌, if◌then◌else◌, List, [], ◌∷◌, ◌++◌, Some, None}
+use Rattle.std.specs.Prelude.{◌≡◌, ℕ, true, ◌==◌, if◌then◌else◌, List, [], ◌∷◌, ◌++◌, None}
 use Rattle.pp_law.specs.After.{out}
 use Rattle.pp_law.specs.Connections.{conn, on_conn}
 use Rattle.pp_law.specs.State.{State, Conn}

@@ -1,5 +1,5 @@
 -- How the exchanges of the program stand for those of the law (RFC 2616, sections 8.1.2.2 and 8.1.4).
-use Rattle.std.specs.Prelude.{◌≡◌, ◌≤◌, ◌+◌, ℕ, Bool, not, ◌==◌, is_some, List, [], ◌∷◌, ◌++◌, length, map, filter, Option, Some, None, count_by}
+use Rattle.std.specs.Prelude.{◌≡◌, ◌≤◌, ◌+◌, ℕ, Bool, not, is_some, List, [], ◌∷◌, ◌++◌, map, filter, Option, Some, None, count_by}
 use Rattle.pp_cache_law.specs.Pairs.{AreAll, AreBoth}
 use Rattle.pp_flow.specs.Changes.{Exchanges, entry_of, line_of}
 use Rattle.pp_flow.specs.Entries.{is_number}
