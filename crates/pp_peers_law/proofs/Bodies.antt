@@ -1,5 +1,5 @@
 -- The body of a response that comes on a connection.
-use Rattle.std.proofs.Common.{◌≡◌, refl, sym, subst, ap, ◌∙◌, ℕ, drop, slice_range, [], ◌++◌, Option, Some, None}
+use Rattle.std.proofs.Common.{◌≡◌, refl, sym, subst, ap, ◌∙◌, ℕ, drop, slice_range, [], ◌++◌, Some}
 use Rattle.std.proofs.Math.Seq.{drop-length}
 use Rattle.std.proofs.lemmas.List.{append_assoc, append-nil}
 use Rattle.pp_framing.specs.Body.{Body, Outcome, behind, no_data, Bad as NoBody, Done, Going}
@@ -30,17 +30,11 @@ amid response place a bytes shows = record {
   kind = shows.kind;
 }
 
-shows_amid : (reading : Reading) (unread : Bytes) (answer : Option Answer) (a : Answer) (bytes : Bytes) → ShowsReading reading unread answer → answer ≡ Some a → ShowsAmid reading a bytes bytes []
-shows_amid (Before text) unread None a bytes shows is = absurd (cc is)
-shows_amid (Before text) unread (Some d) a bytes shows is = absurd shows
-shows_amid (Within response place) unread None a bytes shows is = absurd shows
-shows_amid (Within response place) unread (Some d) a bytes shows is =
-    let same : d ≡ a = cc is in subst (λ (x : Answer). IsAmid response place x bytes bytes []) same (amid response place d bytes shows.1)
-shows_amid Closed unread answer a bytes shows is = absurd shows
-shows_amid Broken unread answer a bytes shows is = absurd shows
-
 pub begins : ReadsBeginAsTheLaws
-begins s p k a bytes shows is_open is = shows_amid p.pipe.reading k.unread k.answer a bytes (shows.pipe is_open).reading is
+begins (Before text) unread bytes a shows = absurd shows
+begins (Within response place) unread bytes a shows = amid response place a bytes shows.1
+begins Closed unread bytes a shows = absurd shows
+begins Broken unread bytes a shows = absurd shows
 
 -- ---- a step of it
 

@@ -105,9 +105,9 @@ abbrev pub ShowsAmid : Reading → Answer → Bytes → Bytes → Bytes → Type
 ShowsAmid (Within response place) a bytes left came = IsAmid response place a bytes left came
 ShowsAmid reading a bytes left came = ⊥
 
--- a read begins
+-- a read begins, or the body behind its head: all of the bytes are left
 abbrev pub ReadsBeginAsTheLaws : Type 0
-ReadsBeginAsTheLaws = (s : State) (p : Peer) (k : Conn) (a : Answer) (bytes : Bytes) → ShowsConn s p k → k.is_closing ≡ false → k.answer ≡ Some a → ShowsAmid p.pipe.reading a bytes bytes []
+ReadsBeginAsTheLaws = (reading : Reading) (unread bytes : Bytes) (a : Answer) → ShowsReading reading unread (Some a) → ShowsAmid reading a bytes bytes []
 
 -- its next data
 pub record IsDataRead (a : Answer) (bytes left came : Bytes) (from to used : ℕ) (next : Reading) : Type 0 where
