@@ -19,9 +19,9 @@ use Rattle.pp_flow_law.proofs.Pairs.{both_as}
 use Rattle.pp_flow_law.proofs.Put.{at_most_one, first_none, no_more}
 
 pub beginnings : BeginningsAreTheLaws
-beginnings s none unlinked zero = record {
-  each = λ n. both_as None None (exchange s n) None refl (ap (λ (es : List Exchange). find (is_exchange n) es) none) tt;
-  waiting = subst (λ (es : List Exchange). AreAll ShowsExchange [] (filter has_none es)) (sym none) tt;
+beginnings number s none unlinked zero = record {
+  each = λ n. both_as number None None (exchange s n) None refl (ap (λ (es : List Exchange). find (is_exchange n) es) none) tt;
+  waiting = subst (λ (es : List Exchange). AreAll (ShowsExchange number) [] (filter has_none es)) (sym none) tt;
   lines = λ n. sym (ap (λ (ks : List Conn). line_in (find (is_conn n) ks)) unlinked);
   once = λ n. few n;
   begun = sym zero;
@@ -40,25 +40,25 @@ record AreNone (f : Exchanges) (s : State) (n : ℕ) : Type 0 where
   known : exchange s n ≡ None
 
 -- none has the number of the next
-none_yet : (l : Leaving) (f : Exchanges) (s : State) → ShowsFlow l f s → (n : ℕ) → n ≡ s.next_exchange → AreNone f s n
-none_yet l f s shows n is =
-    by (find (is_number n) f.waiting) (find (is_number n) f.placed) refl refl (subst (λ (o : Option Exchange). AreBoth ShowsExchange (entry_of n f) o) none (shows.each n))
+none_yet : (number : ℕ → ℕ) (l : Leaving) (f : Exchanges) (s : State) → ShowsFlow number l f s → (n : ℕ) → n ≡ s.next_exchange → AreNone f s n
+none_yet number l f s shows n is =
+    by (find (is_number n) f.waiting) (find (is_number n) f.placed) refl refl (subst (λ (o : Option Exchange). AreBoth (ShowsExchange number) (entry_of n f) o) none (shows.each n))
   where
     none : exchange s n ≡ None
     none = none_behind n 0 s.next_exchange s.exchanges (omega (arith, is)) shows.given
 
-    by : (u v : Option Entry) → find (is_number n) f.waiting ≡ u → find (is_number n) f.placed ≡ v → AreBoth ShowsExchange (first_of u v) None → AreNone f s n
+    by : (u v : Option Entry) → find (is_number n) f.waiting ≡ u → find (is_number n) f.placed ≡ v → AreBoth (ShowsExchange number) (first_of u v) None → AreNone f s n
     by None None a b both = record { waiting = a; placed = b; known = none }
     by None (Some x) a b both = absurd both
     by (Some x) v a b both = absurd both
 
-begins_at : (l : Leaving) (f : Exchanges) (s : State) → ShowsFlow l f s → (x : Entry) (e : Exchange) → x.exchange.number ≡ f.begun → x.exchange.place ≡ None → ShowsExchange x e → ShowsFlow l (begun_at x f) (add_exchange e s)
+begins_at : (number : ℕ → ℕ) (l : Leaving) (f : Exchanges) (s : State) → ShowsFlow number l f s → (x : Entry) (e : Exchange) → x.exchange.number ≡ f.begun → x.exchange.place ≡ None → ShowsExchange number x e → ShowsFlow number l (begun_at x f) (add_exchange e s)
 unfolding add_exchange
-begins_at l f s shows x e num unplaced one = record {
+begins_at number l f s shows x e num unplaced one = record {
   each = λ m. at (m == f.begun) m refl;
   waiting =
-      subst (λ (es : List Exchange). AreAll ShowsExchange (f.waiting ++ x ∷ []) es) (sym (filter_joined has_none s.exchanges (e ∷ []) ∙ ap (λ (t : Bool). filter has_none s.exchanges ++ cond t (e ∷ []) []) without_one))
-      (joined ShowsExchange f.waiting (x ∷ []) (filter has_none s.exchanges) (e ∷ []) shows.waiting (one, tt));
+      subst (λ (es : List Exchange). AreAll (ShowsExchange number) (f.waiting ++ x ∷ []) es) (sym (filter_joined has_none s.exchanges (e ∷ []) ∙ ap (λ (t : Bool). filter has_none s.exchanges ++ cond t (e ∷ []) []) without_one))
+      (joined (ShowsExchange number) f.waiting (x ∷ []) (filter has_none s.exchanges) (e ∷ []) shows.waiting (one, tt));
   lines = shows.lines;
   once = λ m. few (m == f.begun) m refl;
   begun = ap (λ (n : ℕ). n + 1) shows.begun;
@@ -73,7 +73,7 @@ begins_at l f s shows x e num unplaced one = record {
 
     few : (b : Bool) (m : ℕ) → (m == f.begun) ≡ b → count_by (is_number m) ((f.waiting ++ x ∷ []) ++ f.placed) ≤ 1
     few true m is =
-        let none : AreNone f s m = none_yet l f s shows m (same_number m f.begun is ∙ shows.begun) in
+        let none : AreNone f s m = none_yet number l f s shows m (same_number m f.begun is ∙ shows.begun) in
         omega (
           arith,
           count_joined (is_number m) (f.waiting ++ x ∷ []) f.placed,
@@ -96,18 +96,18 @@ begins_at l f s shows x e num unplaced one = record {
     there : (m : ℕ) (b : Bool) → (e.number == m) ≡ b → find (is_exchange m) (s.exchanges ++ e ∷ []) ≡ first_of_two (exchange s m) (cond b (Some e) None)
     there m b is = find_joined (is_exchange m) s.exchanges (e ∷ []) ∙ ap (λ (t : Bool). first_of_two (exchange s m) (cond t (Some e) None)) is
 
-    at : (b : Bool) (m : ℕ) → (m == f.begun) ≡ b → AreBoth ShowsExchange (entry_of m (begun_at x f)) (find (is_exchange m) (s.exchanges ++ e ∷ []))
+    at : (b : Bool) (m : ℕ) → (m == f.begun) ≡ b → AreBoth (ShowsExchange number) (entry_of m (begun_at x f)) (find (is_exchange m) (s.exchanges ++ e ∷ []))
     at true m is =
         let same : m ≡ f.begun = same_number m f.begun is in
-        let none : AreNone f s m = none_yet l f s shows m (same ∙ shows.begun) in
-        both_as (entry_of m (begun_at x f)) (Some x) (find (is_exchange m) (s.exchanges ++ e ∷ [])) (Some e)
+        let none : AreNone f s m = none_yet number l f s shows m (same ∙ shows.begun) in
+        both_as number (entry_of m (begun_at x f)) (Some x) (find (is_exchange m) (s.exchanges ++ e ∷ [])) (Some e)
         (ap (λ (u : Option Entry). first_of u (find (is_number m) f.placed)) (here m true (same_as x.exchange.number m (num ∙ sym same)) ∙ ap (λ (u : Option Entry). first_of_two u (Some x)) none.waiting))
         (there m true (same_as e.number m (its ∙ sym same)) ∙ ap (λ (u : Option Exchange). first_of_two u (Some e)) none.known) one
     at false m is =
         let out : (f.begun == m) ≡ false = other_way m f.begun is in
-        both_as (entry_of m (begun_at x f)) (entry_of m f) (find (is_exchange m) (s.exchanges ++ e ∷ [])) (exchange s m)
+        both_as number (entry_of m (begun_at x f)) (entry_of m f) (find (is_exchange m) (s.exchanges ++ e ∷ [])) (exchange s m)
         (ap (λ (u : Option Entry). first_of u (find (is_number m) f.placed)) (here m false (ap (λ (i : ℕ). i == m) num ∙ out) ∙ first_none (find (is_number m) f.waiting)))
         (there m false (ap (λ (i : ℕ). i == m) its ∙ out) ∙ first_none (exchange s m)) (shows.each m)
 
 pub begins : BeginsAreTheLaws
-begins l f s shows client key aim errand e one = begins_at l f s shows (begun_with f.begun client key aim errand) e refl refl one
+begins number l f s shows client key aim errand e one = begins_at number l f s shows (begun_with f.begun client key aim errand) e refl refl one

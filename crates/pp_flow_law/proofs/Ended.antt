@@ -25,18 +25,18 @@ not_so true is = absurd cc
 not_so false is = refl
 
 -- the line of a connection, but for that one
-pub line_but : (l : Leaving) (f : Exchanges) (s : State) → ShowsFlow l f s → (n m : ℕ) → line_of m (without_number n f.placed) ≡ but n l m ++ filter (isnt n) (line_at s m)
-line_but l f s shows n m =
-    line_without n m f.placed (few_placed l f s shows n) ∙ ap (λ (ns : List ℕ). filter (isnt n) ns) (shows.lines m) ∙ filter_joined (isnt n) (l m) (line_at s m)
+pub line_but : (number : ℕ → ℕ) (l : Leaving) (f : Exchanges) (s : State) → ShowsFlow number l f s → (n m : ℕ) → line_of m (without_number n f.placed) ≡ but n l m ++ filter (isnt n) (line_at s m)
+line_but number l f s shows n m =
+    line_without n m f.placed (few_placed number l f s shows n) ∙ ap (λ (ns : List ℕ). filter (isnt n) ns) (shows.lines m) ∙ filter_joined (isnt n) (l m) (line_at s m)
 
 pub ends : EndsAreTheLaws
 unfolding end_exchange
-ends l f s shows n = record {
+ends number l f s shows n = record {
   each = λ m. at (m == n) m refl;
   waiting =
-      subst (λ (es : List Exchange). AreAll ShowsExchange (without_number n f.waiting) es) (sym (filter_swap has_none (isnt_exchange n) s.exchanges))
-      (pairs_without n f.waiting (filter has_none s.exchanges) (few_waiting l f s shows n) shows.waiting);
-  lines = λ m. line_but l f s shows n m ∙ ap (λ (ns : List ℕ). but n l m ++ ns) (its (conn s m) ∙ ap (λ (o : Option Conn). line_in o) (sym (find_mapped (is_conn m) (without_ask n) s.conns (λ j. refl))));
+      subst (λ (es : List Exchange). AreAll (ShowsExchange number) (without_number n f.waiting) es) (sym (filter_swap has_none (isnt_exchange n) s.exchanges))
+      (pairs_without number n f.waiting (filter has_none s.exchanges) (few_waiting number l f s shows n) shows.waiting);
+  lines = λ m. line_but number l f s shows n m ∙ ap (λ (ns : List ℕ). but n l m ++ ns) (its (conn s m) ∙ ap (λ (o : Option Conn). line_in o) (sym (find_mapped (is_conn m) (without_ask n) s.conns (λ j. refl))));
   once = λ m.
       omega
       (arith, shows.once m, count_joined (is_number m) f.waiting f.placed, count_joined (is_number m) (without_number n f.waiting) (without_number n f.placed), count_without n (is_number m) f.waiting, count_without n (is_number m) f.placed);
@@ -48,13 +48,13 @@ ends l f s shows n = record {
     its None = refl
     its (Some k) = refl
 
-    at : (b : Bool) (m : ℕ) → (m == n) ≡ b → AreBoth ShowsExchange (entry_of m (over_at n f)) (find (is_exchange m) (without (is_exchange n) s.exchanges))
+    at : (b : Bool) (m : ℕ) → (m == n) ≡ b → AreBoth (ShowsExchange number) (entry_of m (over_at n f)) (find (is_exchange m) (without (is_exchange n) s.exchanges))
     at true m is =
-        subst (λ (i : ℕ). AreBoth ShowsExchange (entry_of i (over_at n f)) (find (is_exchange i) (without (is_exchange n) s.exchanges))) (sym (same_number m n is))
-        (both_as (entry_of n (over_at n f)) None (find (is_exchange n) (without (is_exchange n) s.exchanges)) None
-        (ap₂ (λ (u v : Option Entry). first_of u v) (find_without n f.waiting (few_waiting l f s shows n)) (find_without n f.placed (few_placed l f s shows n)))
+        subst (λ (i : ℕ). AreBoth (ShowsExchange number) (entry_of i (over_at n f)) (find (is_exchange i) (without (is_exchange n) s.exchanges))) (sym (same_number m n is))
+        (both_as number (entry_of n (over_at n f)) None (find (is_exchange n) (without (is_exchange n) s.exchanges)) None
+        (ap₂ (λ (u v : Option Entry). first_of u v) (find_without n f.waiting (few_waiting number l f s shows n)) (find_without n f.placed (few_placed number l f s shows n)))
         (find_out (is_exchange n) (isnt_exchange n) s.exchanges (λ e out. not_so (is_exchange n e) out)) tt)
     at false m is =
-        both_as (entry_of m (over_at n f)) (entry_of m f) (find (is_exchange m) (without (is_exchange n) s.exchanges)) (exchange s m)
+        both_as number (entry_of m (over_at n f)) (entry_of m f) (find (is_exchange m) (without (is_exchange n) s.exchanges)) (exchange s m)
         (ap₂ (λ (u v : Option Entry). first_of u v) (find_without_else n m is f.waiting) (find_without_else n m is f.placed))
         (find_kept (is_exchange m) (isnt_exchange n) s.exchanges (λ e so. ap not (off e.number n m so (other_way m n is)))) (shows.each m)

@@ -23,8 +23,8 @@ use Rattle.pp_flow_law.proofs.Turned.{changed_at, changes}
 
 -- ---- what it asks
 
-errand_is : (l : Leaving) (f : Exchanges) (s : State) → ShowsFlow l f s → (n : ℕ) (r : Errand) → with_errand n r f ≡ changed_at n (asking r) f
-errand_is l f s shows n r = by (find (is_number n) f.waiting) refl
+errand_is : (number : ℕ → ℕ) (l : Leaving) (f : Exchanges) (s : State) → ShowsFlow number l f s → (n : ℕ) (r : Errand) → with_errand n r f ≡ changed_at n (asking r) f
+errand_is number l f s shows n r = by (find (is_number n) f.waiting) refl
   where
     picked : (o : Option Entry) → find (is_number n) f.waiting ≡ o
         → with_errand n r f ≡ cond (is_some o) (record f { waiting = changed n (asking r) f.waiting }) (record f { placed = changed n (asking r) f.placed })
@@ -33,19 +33,19 @@ errand_is l f s shows n r = by (find (is_number n) f.waiting) refl
     by : (o : Option Entry) → find (is_number n) f.waiting ≡ o → with_errand n r f ≡ changed_at n (asking r) f
     by None is = picked None is ∙ ap (λ (es : List Entry). record f { waiting = es; placed = changed n (asking r) f.placed }) (sym (changed_none n (asking r) f.waiting is))
     by (Some x) is =
-        picked (Some x) is ∙ ap (λ (es : List Entry). record f { waiting = changed n (asking r) f.waiting; placed = es }) (sym (changed_none n (asking r) f.placed (none_placed l f s shows n x is)))
+        picked (Some x) is ∙ ap (λ (es : List Entry). record f { waiting = changed n (asking r) f.waiting; placed = es }) (sym (changed_none n (asking r) f.placed (none_placed number l f s shows n x is)))
 
 pub errands : ErrandsAreTheLaws
 unfolding on_exchange
-errands l f s shows n x errand to here holds turns =
-    subst (λ (g : Exchanges). ShowsFlow l g (on_exchange n to s)) (sym (errand_is l f s shows n errand))
-    (changes l f s shows n (asking errand) to (λ y. (refl, refl)) holds (λ y e there one.
+errands number l f s shows n x errand to here holds turns =
+    subst (λ (g : Exchanges). ShowsFlow number l g (on_exchange n to s)) (sym (errand_is number l f s shows n errand))
+    (changes number l f s shows n (asking errand) to (λ y. (refl, refl)) holds (λ y e there one.
     let same : x ≡ y = some_is x y (sym here ∙ there) in
-    subst (λ (z : Entry). ShowsExchange (asking errand z) (to e)) same (turns e (subst (λ (z : Entry). ShowsExchange z e) (sym same) one))))
+    subst (λ (z : Entry). ShowsExchange number (asking errand z) (to e)) same (turns e (subst (λ (z : Entry). ShowsExchange number z e) (sym same) one))))
 
 pub texts : TextsAreTheLaws
-texts l f s shows n m x here =
-    errands l f s shows n x (record x.errand { asked = x.errand.asked + m; requested = s.clock }) (asked_text m s.clock) here (λ e. (refl, refl)) (λ e one. record {
+texts number l f s shows n m x here =
+    errands number l f s shows n x (record x.errand { asked = x.errand.asked + m; requested = s.clock }) (asked_text m s.clock) here (λ e. (refl, refl)) (λ e one. record {
       number = one.number;
       asker = one.asker;
       aim = one.aim;
@@ -69,8 +69,8 @@ texts l f s shows n m x here =
     })
 
 pub bodies : BodiesAreTheLaws
-bodies l f s shows n m x here =
-    errands l f s shows n x (record x.errand { body_left = x.errand.body_left - m }) (λ e. record e { body_left = e.body_left - m }) here (λ e. (refl, refl)) (λ e one. record {
+bodies number l f s shows n m x here =
+    errands number l f s shows n x (record x.errand { body_left = x.errand.body_left - m }) (λ e. record e { body_left = e.body_left - m }) here (λ e. (refl, refl)) (λ e one. record {
       number = one.number;
       asker = one.asker;
       aim = one.aim;
@@ -98,27 +98,27 @@ bodies l f s shows n m x here =
 abbrev answered : Option Binding → Errand → Entry → Entry
 answered to r x = asking r (bound_to to x)
 
-head_is : (l : Leaving) (f : Exchanges) (s : State) → ShowsFlow l f s → (n : ℕ) (x : Entry) (to : Option Binding) (r : Errand) → find (is_number n) f.placed ≡ Some x
+head_is : (number : ℕ → ℕ) (l : Leaving) (f : Exchanges) (s : State) → ShowsFlow number l f s → (n : ℕ) (x : Entry) (to : Option Binding) (r : Errand) → find (is_number n) f.placed ≡ Some x
     → with_errand n r (record f { placed = changed n (bound_to to) f.placed }) ≡ changed_at n (answered to r) f
-head_is l f s shows n x to r here =
+head_is number l f s shows n x to r here =
     ap (λ (b : Bool). cond b (record f { waiting = changed n (asking r) f.waiting; placed = changed n (bound_to to) f.placed }) (record f { placed = changed n (asking r) (changed n (bound_to to) f.placed) }))
     (any_is (is_number n) f.waiting None none)
     ∙ ap (λ (es : List Entry). record f { placed = es }) (changed_twice n (bound_to to) (asking r) (λ y. (refl, refl)) f.placed)
     ∙ ap (λ (es : List Entry). record f { waiting = es; placed = changed n (answered to r) f.placed }) (sym (changed_none n (answered to r) f.waiting none))
   where
     none : find (is_number n) f.waiting ≡ None
-    none = none_waits l f s shows n x here
+    none = none_waits number l f s shows n x here
 
 pub heads : HeadsAreTheLaws
 unfolding use_body on_exchange
-heads l f s shows n x e to body other here there shown =
-    subst (λ (g : Exchanges). ShowsFlow l g (use_body e other s)) (sym (head_is l f s shows n x to (record x.errand { body = body }) here))
-    (subst (λ (i : ℕ). ShowsFlow l (changed_at n (answered to (record x.errand { body = body })) f) (on_exchange i (λ c. record c { body = other }) s)) (sym (same_number e.number n (find_passes (is_exchange n) s.exchanges e there)))
-    (changes l f s shows n (answered to (record x.errand { body = body })) (λ c. record c { body = other }) (λ y. (refl, refl)) (λ c. (refl, refl)) (λ y c known one.
-    let same : x ≡ y = some_is x y (sym (entry_placed n f x (none_waits l f s shows n x here) here) ∙ known) in
-    subst (λ (z : Entry). ShowsExchange (answered to (record x.errand { body = body }) z) (record c { body = other })) same (shows_head c (subst (λ (z : Entry). ShowsExchange z c) (sym same) one)))))
+heads number l f s shows n x e to body other here there shown =
+    subst (λ (g : Exchanges). ShowsFlow number l g (use_body e other s)) (sym (head_is number l f s shows n x to (record x.errand { body = body }) here))
+    (subst (λ (i : ℕ). ShowsFlow number l (changed_at n (answered to (record x.errand { body = body })) f) (on_exchange i (λ c. record c { body = other }) s)) (sym (same_number e.number n (find_passes (is_exchange n) s.exchanges e there)))
+    (changes number l f s shows n (answered to (record x.errand { body = body })) (λ c. record c { body = other }) (λ y. (refl, refl)) (λ c. (refl, refl)) (λ y c known one.
+    let same : x ≡ y = some_is x y (sym (entry_placed n f x (none_waits number l f s shows n x here) here) ∙ known) in
+    subst (λ (z : Entry). ShowsExchange number (answered to (record x.errand { body = body }) z) (record c { body = other })) same (shows_head c (subst (λ (z : Entry). ShowsExchange number z c) (sym same) one)))))
   where
-    shows_head : (c : Exchange) → ShowsExchange x c → ShowsExchange (answered to (record x.errand { body = body }) x) (record c { body = other })
+    shows_head : (c : Exchange) → ShowsExchange number x c → ShowsExchange number (answered to (record x.errand { body = body }) x) (record c { body = other })
     shows_head c one = record {
       number = one.number;
       asker = one.asker;
@@ -142,7 +142,7 @@ heads l f s shows n x e to body other here there shown =
       body = shown;
     }
 
--- ---- bytes of its span
+-- ---- bytes number of its span
 
 abbrev moved_body : ℕ → Body → Body
 moved_body m Pending = Pending
@@ -165,29 +165,29 @@ moves m e = by e.body refl
 moves_keep : (m : ℕ) → KeepsItsPlace (moved_on m)
 moves_keep m e = (ap (λ (c : Exchange). c.number) (moves m e), ap (λ (c : Exchange). c.place) (moves m e))
 
-moved_shows : (m : ℕ) (body : ErrandBody) (headed : Bool) (bound : Option Binding) (other : Body) → ShowsBody body headed bound other → ShowsBody body headed (moved m bound) (moved_body m other)
-moved_shows m IsPending false None Pending shows = tt
-moved_shows m (IsJoining far) true (Some x) (Joining b) shows = record {
+moved_shows : (number : ℕ → ℕ) (m : ℕ) (body : ErrandBody) (headed : Bool) (bound : Option Binding) (other : Body) → ShowsBody number body headed bound other → ShowsBody number body headed (moved m bound) (moved_body m other)
+moved_shows number m IsPending false None Pending shows = tt
+moved_shows number m (IsJoining far) true (Some x) (Joining b) shows = record {
   joined = shows.joined;
   next = ap (λ (i : ℕ). i + m) shows.next;
   to = shows.to;
   is_all = shows.is_all;
   wanted = shows.wanted;
 }
-moved_shows m IsRelaying true None Relaying shows = tt
-moved_shows m (IsDropping n) true None Dropping shows = tt
-moved_shows m body headed bound other shows = absurd shows
+moved_shows number m IsRelaying true None Relaying shows = tt
+moved_shows number m (IsDropping n) true None Dropping shows = tt
+moved_shows number m body headed bound other shows = absurd shows
 
-move_is : (l : Leaving) (f : Exchanges) (s : State) → ShowsFlow l f s → (n m : ℕ) (x : Entry) → find (is_number n) f.placed ≡ Some x → record f { placed = changed n (moved_by m) f.placed } ≡ changed_at n (moved_by m) f
-move_is l f s shows n m x here = ap (λ (es : List Entry). record f { waiting = es; placed = changed n (moved_by m) f.placed }) (sym (changed_none n (moved_by m) f.waiting (none_waits l f s shows n x here)))
+move_is : (number : ℕ → ℕ) (l : Leaving) (f : Exchanges) (s : State) → ShowsFlow number l f s → (n m : ℕ) (x : Entry) → find (is_number n) f.placed ≡ Some x → record f { placed = changed n (moved_by m) f.placed } ≡ changed_at n (moved_by m) f
+move_is number l f s shows n m x here = ap (λ (es : List Entry). record f { waiting = es; placed = changed n (moved_by m) f.placed }) (sym (changed_none n (moved_by m) f.waiting (none_waits number l f s shows n x here)))
 
 pub bytes : BytesAreTheLaws
 unfolding on_exchange
-bytes l f s shows n m x here =
-    subst (λ (g : Exchanges). ShowsFlow l g (on_exchange n (moved_on m) s)) (sym (move_is l f s shows n m x here))
-    (changes l f s shows n (moved_by m) (moved_on m) (λ y. (refl, refl)) (moves_keep m) (λ y e there one. subst (λ (c : Exchange). ShowsExchange (moved_by m y) c) (sym (moves m e)) (shows_moved y e one)))
+bytes number l f s shows n m x here =
+    subst (λ (g : Exchanges). ShowsFlow number l g (on_exchange n (moved_on m) s)) (sym (move_is number l f s shows n m x here))
+    (changes number l f s shows n (moved_by m) (moved_on m) (λ y. (refl, refl)) (moves_keep m) (λ y e there one. subst (λ (c : Exchange). ShowsExchange number (moved_by m y) c) (sym (moves m e)) (shows_moved y e one)))
   where
-    shows_moved : (y : Entry) (e : Exchange) → ShowsExchange y e → ShowsExchange (moved_by m y) (record e { body = moved_body m e.body })
+    shows_moved : (y : Entry) (e : Exchange) → ShowsExchange number y e → ShowsExchange number (moved_by m y) (record e { body = moved_body m e.body })
     shows_moved y e one = record {
       number = one.number;
       asker = one.asker;
@@ -208,5 +208,5 @@ bytes l f s shows n m x here =
       asked = one.asked;
       body_left = one.body_left;
       requested = one.requested;
-      body = moved_shows m y.errand.body y.exchange.headed y.exchange.bound e.body one.body;
+      body = moved_shows number m y.errand.body y.exchange.headed y.exchange.bound e.body one.body;
     }

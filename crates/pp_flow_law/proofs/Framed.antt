@@ -15,9 +15,9 @@ use Rattle.pp_flow_law.proofs.Entries.{off, other_way, same_number}
 use Rattle.pp_flow_law.proofs.Exchanges.{numbers_of}
 
 pub frames : FramesAreTheLaws
-frames l f s shows o t same = record {
-  each = λ n. subst (λ (es : List Exchange). AreBoth ShowsExchange (entry_of n f) (find (is_exchange n) es)) (sym same.exchanges) (shows.each n);
-  waiting = subst (λ (es : List Exchange). AreAll ShowsExchange f.waiting (filter has_none es)) (sym same.exchanges) shows.waiting;
+frames number l f s shows o t same = record {
+  each = λ n. subst (λ (es : List Exchange). AreBoth (ShowsExchange number) (entry_of n f) (find (is_exchange n) es)) (sym same.exchanges) (shows.each n);
+  waiting = subst (λ (es : List Exchange). AreAll (ShowsExchange number) f.waiting (filter has_none es)) (sym same.exchanges) shows.waiting;
   lines = λ n. shows.lines n ∙ sym (same.lines n);
   once = shows.once;
   begun = shows.begun ∙ sym same.next;
@@ -25,7 +25,7 @@ frames l f s shows o t same = record {
 }
 
 pub dials : DialsAreTheLaws
-dials l f s shows k alone none = frames l f s shows l (record s { conns = s.conns ++ k ∷ [] }) (record { exchanges = refl; next = refl; lines = λ n. ap (λ (ns : List ℕ). l n ++ ns) (same n) })
+dials number l f s shows k alone none = frames number l f s shows l (record s { conns = s.conns ++ k ∷ [] }) (record { exchanges = refl; next = refl; lines = λ n. ap (λ (ns : List ℕ). l n ++ ns) (same n) })
   where
     by : (n : ℕ) (o : Option Conn) (b : Bool) → conn s n ≡ o → (k.number == n) ≡ b → line_in (first_of_two o (cond b (Some k) None)) ≡ line_in o
     by n None true is at = none
@@ -49,8 +49,8 @@ closed_at n j = elim (is_conn n j) as (λ b. Conn) [ true ↦ emptied j | false 
 
 pub closings : ClosingsAreTheLaws
 unfolding on_conn
-closings l f s shows n =
-    frames l f s shows (still n (line_at s n) l) (on_conn n emptied s)
+closings number l f s shows n =
+    frames number l f s shows (still n (line_at s n) l) (on_conn n emptied s)
     (record { exchanges = refl; next = refl; lines = λ m. left_one l n m (m == n) (line_at s n) (line_at s m) (line_at (on_conn n emptied s) m) refl (gone m) (at_same s n m) (kept m) })
   where
     number_kept : (m : ℕ) (j : Conn) (b : Bool) → is_conn m (elim b as (λ c. Conn) [ true ↦ emptied j | false ↦ j ]) ≡ is_conn m j
@@ -80,8 +80,8 @@ closings l f s shows n =
 
 pub drops : DropsAreTheLaws
 unfolding out
-drops l f s shows n =
-    frames l f s shows (still n (line_at s n) l) (out n s)
+drops number l f s shows n =
+    frames number l f s shows (still n (line_at s n) l) (out n s)
     (record { exchanges = refl; next = refl; lines = λ m. left_one l n m (m == n) (line_at s n) (line_at s m) (line_at (out n s) m) refl (gone m) (at_same s n m) (kept m) })
   where
     gone : (m : ℕ) → (m == n) ≡ true → line_at (out n s) m ≡ []

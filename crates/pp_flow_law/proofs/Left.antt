@@ -1,4 +1,4 @@
--- At a decision a request leaves the exchange that it asked.
+-- At a decision a request leaves number the exchange that it asked.
 use Rattle.std.proofs.Common.{◌≡◌, refl, sym, subst, ap, ◌∙◌, ℕ, Bool, true, false, not, ◌||◌, cond, find, List, [], ◌∷◌, Option, Some, None, option_map}
 use Rattle.std.specs.Prelude.{is_some}
 use Rattle.std.specs.List.{list_any}
@@ -104,60 +104,60 @@ place_none (Some k) is = absurd cc
 
 pub decisions : DecisionsLeaveAsTheLaws
 unfolding leave forsake end_exchange on_exchange
-decisions l f s shows c few none = by (find (is_asked_by c) f.waiting) (find (is_asked_by c) f.placed) refl refl
+decisions number l f s shows c few none = by (find (is_asked_by c) f.waiting) (find (is_asked_by c) f.placed) refl refl
   where
-    its : (x : Entry) (it : IsShown s x.exchange.number x) → is_asked_by c x ≡ true → IsThatOne c x.exchange.number it.known
-    its x it asks = record { asks = sym (its_asker c x it.known it.shows) ∙ asks; number = find_passes (is_exchange x.exchange.number) s.exchanges it.known it.there }
+    its : (x : Entry) (it : IsShown number s x.exchange.number x) → is_asked_by c x ≡ true → IsThatOne c x.exchange.number it.known
+    its x it asks = record { asks = sym (its_asker number c x it.known it.shows) ∙ asks; number = find_passes (is_exchange x.exchange.number) s.exchanges it.known it.there }
 
     ones : (n : ℕ) (d : Exchange) → exchange s n ≡ Some d → IsThatOne c n d → AreOnly (is_of c) d s.exchanges
     ones n d there it = only_found (is_of c) (is_exchange n) s.exchanges d there it.asks few
 
     twos : (n : ℕ) (d : Exchange) → exchange s n ≡ Some d → AreOnly (is_exchange n) d s.exchanges
-    twos n d there = one_only (is_exchange n) s.exchanges d (few_given l f s shows n) there
+    twos n d there = one_only (is_exchange n) s.exchanges d (few_given number l f s shows n) there
 
-    neither : find (is_asked_by c) f.waiting ≡ None → find (is_asked_by c) f.placed ≡ None → ShowsFlow l f (leave (is_of c) s)
+    neither : find (is_asked_by c) f.waiting ≡ None → find (is_asked_by c) f.placed ≡ None → ShowsFlow number l f (leave (is_of c) s)
     neither a b =
-        frames l f s shows l (leave (is_of c) s) (record {
-          exchanges = ap (λ (es : List Exchange). without is_over es) (none_changed (is_of c) left_alone s.exchanges (none_is (find (is_of c) s.exchanges) (asked_none l f s shows c a b))) ∙ all_under s.exchanges none;
+        frames number l f s shows l (leave (is_of c) s) (record {
+          exchanges = ap (λ (es : List Exchange). without is_over es) (none_changed (is_of c) left_alone s.exchanges (none_is (find (is_of c) s.exchanges) (asked_none number l f s shows c a b))) ∙ all_under s.exchanges none;
           next = refl;
           lines = λ m. refl;
         })
 
-    waiting : (x : Entry) → find (is_number x.exchange.number) f.waiting ≡ Some x → is_asked_by c x ≡ true → (p : Option ℕ) → x.exchange.place ≡ p → ShowsFlow l (by_place f x.exchange.number p) (leave (is_of c) s)
+    waiting : (x : Entry) → find (is_number x.exchange.number) f.waiting ≡ Some x → is_asked_by c x ≡ true → (p : Option ℕ) → x.exchange.place ≡ p → ShowsFlow number l (by_place f x.exchange.number p) (leave (is_of c) s)
     waiting x here asks p place =
         let n : ℕ = x.exchange.number in
-        let it : IsShown s n x = is_shown l f s shows n x (entry_waiting n f x here) in
-        let has : has_none it.known ≡ true = waits_has l f s shows n x it.known here it.there in
-        subst (λ (o : Option ℕ). ShowsFlow l (by_place f x.exchange.number o) (leave (is_of c) s)) (sym (place_none x.exchange.place (ap (λ (o : Option ℕ). not (is_some o)) it.shows.place ∙ has)) ∙ place)
-        (frames (but n l) (over_at n f) (end_exchange n s) (ends l f s shows n) l (leave (is_of c) s) (record {
+        let it : IsShown number s n x = is_shown number l f s shows n x (entry_waiting n f x here) in
+        let has : has_none it.known ≡ true = waits_has number l f s shows n x it.known here it.there in
+        subst (λ (o : Option ℕ). ShowsFlow number l (by_place f x.exchange.number o) (leave (is_of c) s)) (sym (place_none x.exchange.place (ap (λ (o : Option ℕ). not (is_some o)) it.shows.place ∙ has)) ∙ place)
+        (frames number (but n l) (over_at n f) (end_exchange n s) (ends number l f s shows n) l (leave (is_of c) s) (record {
           exchanges = out_is c n it.known s.exchanges (its x it asks) (over_by it.known true has) (ones n it.known it.there (its x it asks)) (twos n it.known it.there) none;
           next = refl;
-          lines = λ m. sym (shows.lines m) ∙ ap (λ (es : List Entry). line_of m es) (sym (without_none n f.placed (none_placed l f s shows n x here))) ∙ (ends l f s shows n).lines m;
+          lines = λ m. sym (shows.lines m) ∙ ap (λ (es : List Entry). line_of m es) (sym (without_none n f.placed (none_placed number l f s shows n x here))) ∙ (ends number l f s shows n).lines m;
         }))
 
-    placed : (x : Entry) → find (is_number x.exchange.number) f.placed ≡ Some x → is_asked_by c x ≡ true → (p : Option ℕ) → x.exchange.place ≡ p → ShowsFlow l (by_place f x.exchange.number p) (leave (is_of c) s)
+    placed : (x : Entry) → find (is_number x.exchange.number) f.placed ≡ Some x → is_asked_by c x ≡ true → (p : Option ℕ) → x.exchange.place ≡ p → ShowsFlow number l (by_place f x.exchange.number p) (leave (is_of c) s)
     placed x here asks None place =
-        let it : IsShown s x.exchange.number x = is_shown l f s shows x.exchange.number x (entry_placed x.exchange.number f x (none_waits l f s shows x.exchange.number x here) here) in
-        let has : has_none it.known ≡ false = placed_has l f s shows x.exchange.number x it.known here it.there in
+        let it : IsShown number s x.exchange.number x = is_shown number l f s shows x.exchange.number x (entry_placed x.exchange.number f x (none_waits number l f s shows x.exchange.number x here) here) in
+        let has : has_none it.known ≡ false = placed_has number l f s shows x.exchange.number x it.known here it.there in
         absurd (true_false (ap (λ (o : Option ℕ). not (is_some o)) (sym place ∙ it.shows.place) ∙ has))
     placed x here asks (Some k) place =
         let n : ℕ = x.exchange.number in
-        let it : IsShown s n x = is_shown l f s shows n x (entry_placed n f x (none_waits l f s shows n x here) here) in
-        let has : has_none it.known ≡ false = placed_has l f s shows n x it.known here it.there in
-        frames l (nobodys_at n f) (on_exchange n left_alone s) (leaves l f s shows n) l (leave (is_of c) s) (record {
+        let it : IsShown number s n x = is_shown number l f s shows n x (entry_placed n f x (none_waits number l f s shows n x here) here) in
+        let has : has_none it.known ≡ false = placed_has number l f s shows n x it.known here it.there in
+        frames number l (nobodys_at n f) (on_exchange n left_alone s) (leaves number l f s shows n) l (leave (is_of c) s) (record {
           exchanges = left_is c n it.known s.exchanges (its x it asks) (over_by it.known false has) (ones n it.known it.there (its x it asks)) (twos n it.known it.there) none;
           next = refl;
           lines = λ m. refl;
         })
 
     by : (u v : Option Entry) → find (is_asked_by c) f.waiting ≡ u → find (is_asked_by c) f.placed ≡ v
-        → ShowsFlow l (elim (first_of u v) as (λ o. Exchanges) [ None ↦ f | Some x ↦ by_place f x.exchange.number x.exchange.place ]) (leave (is_of c) s)
+        → ShowsFlow number l (elim (first_of u v) as (λ o. Exchanges) [ None ↦ f | Some x ↦ by_place f x.exchange.number x.exchange.place ]) (leave (is_of c) s)
     by None None a b = neither a b
     by None (Some x) a b =
-        placed x (found_alone (is_number x.exchange.number) (is_asked_by c) f.placed x b (same_as x.exchange.number x.exchange.number refl) (few_placed l f s shows x.exchange.number)) (find_passes (is_asked_by c) f.placed x b)
+        placed x (found_alone (is_number x.exchange.number) (is_asked_by c) f.placed x b (same_as x.exchange.number x.exchange.number refl) (few_placed number l f s shows x.exchange.number)) (find_passes (is_asked_by c) f.placed x b)
         x.exchange.place refl
     by (Some x) v a b =
-        waiting x (found_alone (is_number x.exchange.number) (is_asked_by c) f.waiting x a (same_as x.exchange.number x.exchange.number refl) (few_waiting l f s shows x.exchange.number)) (find_passes (is_asked_by c) f.waiting x a)
+        waiting x (found_alone (is_number x.exchange.number) (is_asked_by c) f.waiting x a (same_as x.exchange.number x.exchange.number refl) (few_waiting number l f s shows x.exchange.number)) (find_passes (is_asked_by c) f.waiting x a)
         x.exchange.place refl
 
 -- ---- and then another begins
@@ -175,6 +175,6 @@ left_begun c f = by (first_of (find (is_asked_by c) f.waiting) (find (is_asked_b
 
 pub asks_begin : AsksBeginAsTheLaws
 unfolding begin_exchange
-asks_begin l f s shows c key aim errand e few none one =
-    subst (λ (o : Option ℕ). ShowsFlow l (begun_by c key aim errand (left_by c f)) (add_exchange e (leave (λ x. is_some_with (λ n. is_of n x) o) s))) one.asker
-    (begins l (left_by c f) (leave (is_of c) s) (decisions l f s shows c few none) c key aim errand e (subst (λ (n : ℕ). ShowsExchange (begun_with n c key aim errand) e) (sym (left_begun c f)) one))
+asks_begin number l f s shows c key aim errand e few none one =
+    subst (λ (o : Option ℕ). ShowsFlow number l (begun_by c key aim errand (left_by c f)) (add_exchange e (leave (λ x. is_some_with (λ n. is_of n x) o) s))) one.asker
+    (begins number l (left_by c f) (leave (is_of c) s) (decisions number l f s shows c few none) c key aim errand e (subst (λ (n : ℕ). ShowsExchange number (begun_with n c key aim errand) e) (sym (left_begun c f)) one))

@@ -36,22 +36,22 @@ wants_is at e = by e.body refl
 wants_keep : (at : ℕ) → KeepsItsPlace (wanting at)
 wants_keep at e = (ap (λ (c : Exchange). c.number) (wants_is at e), ap (λ (c : Exchange). c.place) (wants_is at e))
 
-wanted_shows : (at : ℕ) (body : ErrandBody) (headed : Bool) (bound : Option Binding) (other : Body) (b : Binding) → ShowsBody body headed bound other → bound ≡ Some b → ShowsBody (IsJoining at) headed bound (wanted_body at other)
-wanted_shows at IsPending false None Pending b shows is = absurd cc
-wanted_shows at (IsJoining far) true (Some x) (Joining d) b shows is = record {
+wanted_shows : (number : ℕ → ℕ) (at : ℕ) (body : ErrandBody) (headed : Bool) (bound : Option Binding) (other : Body) (b : Binding) → ShowsBody number body headed bound other → bound ≡ Some b → ShowsBody number (IsJoining at) headed bound (wanted_body at other)
+wanted_shows number at IsPending false None Pending b shows is = absurd cc
+wanted_shows number at (IsJoining far) true (Some x) (Joining d) b shows is = record {
   joined = shows.joined;
   next = shows.next;
   to = shows.to;
   is_all = shows.is_all;
   wanted = refl;
 }
-wanted_shows at IsRelaying true None Relaying b shows is = absurd cc
-wanted_shows at (IsDropping n) true None Dropping b shows is = absurd cc
-wanted_shows at body headed bound other b shows is = absurd shows
+wanted_shows number at IsRelaying true None Relaying b shows is = absurd cc
+wanted_shows number at (IsDropping n) true None Dropping b shows is = absurd cc
+wanted_shows number at body headed bound other b shows is = absurd shows
 
-with_body : (x : Entry) (e : Exchange) (body : ErrandBody) (other : Body) → ShowsExchange x e → ShowsBody body x.exchange.headed x.exchange.bound other
-    → ShowsExchange (record x { errand = record x.errand { body = body } }) (record e { body = other })
-with_body x e body other one shown = record {
+with_body : (number : ℕ → ℕ) (x : Entry) (e : Exchange) (body : ErrandBody) (other : Body) → ShowsExchange number x e → ShowsBody number body x.exchange.headed x.exchange.bound other
+    → ShowsExchange number (record x { errand = record x.errand { body = body } }) (record e { body = other })
+with_body number x e body other one shown = record {
   number = one.number;
   asker = one.asker;
   aim = one.aim;
@@ -75,19 +75,19 @@ with_body x e body other one shown = record {
 }
 
 pub wants : WantsAreTheLaws
-wants l f s shows n at x b here bound =
-    errands l f s shows n x (record x.errand { body = IsJoining at }) (wanting at) here (wants_keep at) (λ e one.
-    subst (λ (c : Exchange). ShowsExchange (record x { errand = record x.errand { body = IsJoining at } }) c) (sym (wants_is at e))
-    (with_body x e (IsJoining at) (wanted_body at e.body) one (wanted_shows at x.errand.body x.exchange.headed x.exchange.bound e.body b one.body bound)))
+wants number l f s shows n at x b here bound =
+    errands number l f s shows n x (record x.errand { body = IsJoining at }) (wanting at) here (wants_keep at) (λ e one.
+    subst (λ (c : Exchange). ShowsExchange number (record x { errand = record x.errand { body = IsJoining at } }) c) (sym (wants_is at e))
+    (with_body number x e (IsJoining at) (wanted_body at e.body) one (wanted_shows number at x.errand.body x.exchange.headed x.exchange.bound e.body b one.body bound)))
 
 -- ---- how much was dropped
 
-dropped_shows : (m k : ℕ) (body : ErrandBody) (headed : Bool) (bound : Option Binding) (other : Body) → ShowsBody body headed bound other → body ≡ IsDropping m → ShowsBody (IsDropping k) headed bound other
-dropped_shows m k IsPending false None Pending shows is = absurd cc
-dropped_shows m k (IsJoining far) true (Some x) (Joining d) shows is = absurd cc
-dropped_shows m k IsRelaying true None Relaying shows is = absurd cc
-dropped_shows m k (IsDropping n) true None Dropping shows is = tt
-dropped_shows m k body headed bound other shows is = absurd shows
+dropped_shows : (number : ℕ → ℕ) (m k : ℕ) (body : ErrandBody) (headed : Bool) (bound : Option Binding) (other : Body) → ShowsBody number body headed bound other → body ≡ IsDropping m → ShowsBody number (IsDropping k) headed bound other
+dropped_shows number m k IsPending false None Pending shows is = absurd cc
+dropped_shows number m k (IsJoining far) true (Some x) (Joining d) shows is = absurd cc
+dropped_shows number m k IsRelaying true None Relaying shows is = absurd cc
+dropped_shows number m k (IsDropping n) true None Dropping shows is = tt
+dropped_shows number m k body headed bound other shows is = absurd shows
 
 same_all : (n : ℕ) (es : List Exchange) → change (is_exchange n) (λ e. e) es ≡ es
 same_all n [] = refl
@@ -99,8 +99,8 @@ same_all n (e ∷ es) = by (is_exchange n e) ∙ ap (λ (xs : List Exchange). e 
 
 pub drops_none : DropsAreNone
 unfolding on_exchange
-drops_none l f s shows n m k x here dropping =
-    frames l (with_errand n (record x.errand { body = IsDropping k }) f) (on_exchange n (λ e. e) s)
-    (errands l f s shows n x (record x.errand { body = IsDropping k }) (λ e. e) here (λ e. (refl, refl)) (λ e one.
-    with_body x e (IsDropping k) e.body one (dropped_shows m k x.errand.body x.exchange.headed x.exchange.bound e.body one.body dropping))) l s
+drops_none number l f s shows n m k x here dropping =
+    frames number l (with_errand n (record x.errand { body = IsDropping k }) f) (on_exchange n (λ e. e) s)
+    (errands number l f s shows n x (record x.errand { body = IsDropping k }) (λ e. e) here (λ e. (refl, refl)) (λ e one.
+    with_body number x e (IsDropping k) e.body one (dropped_shows number m k x.errand.body x.exchange.headed x.exchange.bound e.body one.body dropping))) l s
     (record { exchanges = sym (same_all n s.exchanges); next = refl; lines = λ i. refl })

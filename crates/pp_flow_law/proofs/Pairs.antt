@@ -24,62 +24,62 @@ both_mapped R S g h None (Some y) to both = absurd both
 both_mapped R S g h (Some x) None to both = absurd both
 both_mapped R S g h (Some x) (Some y) to both = to x y refl refl both
 
-pub both_as : (u a : Option Entry) (v b : Option Exchange) → u ≡ a → v ≡ b → AreBoth ShowsExchange a b → AreBoth ShowsExchange u v
-both_as u a v b here there both = subst (λ (o : Option Entry). AreBoth ShowsExchange o v) (sym here) (subst (λ (o : Option Exchange). AreBoth ShowsExchange a o) (sym there) both)
+pub both_as : (number : ℕ → ℕ) (u a : Option Entry) (v b : Option Exchange) → u ≡ a → v ≡ b → AreBoth (ShowsExchange number) a b → AreBoth (ShowsExchange number) u v
+both_as number u a v b here there both = subst (λ (o : Option Entry). AreBoth (ShowsExchange number) o v) (sym here) (subst (λ (o : Option Exchange). AreBoth (ShowsExchange number) a o) (sym there) both)
 
 -- none of that number: neither list changes
-pub none_pairs : (n : ℕ) (h : Exchange → Exchange) (xs : List Entry) (us : List Exchange) → AreAll ShowsExchange xs us → find (is_number n) xs ≡ None → AreAll ShowsExchange xs (change (is_exchange n) h us)
-none_pairs n h [] [] all none = tt
-none_pairs n h [] (u ∷ us) all none = absurd all
-none_pairs n h (x ∷ xs) [] all none = absurd all
-none_pairs n h (x ∷ xs) (u ∷ us) all none = by (is_number n x) (is_exchange n u) (ap (λ (i : ℕ). i == n) all.0.number) none (λ f. none_pairs n h xs us all.1 f)
+pub none_pairs : (number : ℕ → ℕ) (n : ℕ) (h : Exchange → Exchange) (xs : List Entry) (us : List Exchange) → AreAll (ShowsExchange number) xs us → find (is_number n) xs ≡ None → AreAll (ShowsExchange number) xs (change (is_exchange n) h us)
+none_pairs number n h [] [] all none = tt
+none_pairs number n h [] (u ∷ us) all none = absurd all
+none_pairs number n h (x ∷ xs) [] all none = absurd all
+none_pairs number n h (x ∷ xs) (u ∷ us) all none = by (is_number n x) (is_exchange n u) (ap (λ (i : ℕ). i == n) all.0.number) none (λ f. none_pairs number n h xs us all.1 f)
   where
-    by : (b c : Bool) → b ≡ c → cond b (Some x) (find (is_number n) xs) ≡ None → (find (is_number n) xs ≡ None → AreAll ShowsExchange xs (change (is_exchange n) h us))
-        → AreAll ShowsExchange (x ∷ xs) ((elim c as (λ t. Exchange) [ true ↦ h u | false ↦ u ]) ∷ change (is_exchange n) h us)
+    by : (b c : Bool) → b ≡ c → cond b (Some x) (find (is_number n) xs) ≡ None → (find (is_number n) xs ≡ None → AreAll (ShowsExchange number) xs (change (is_exchange n) h us))
+        → AreAll (ShowsExchange number) (x ∷ xs) ((elim c as (λ t. Exchange) [ true ↦ h u | false ↦ u ]) ∷ change (is_exchange n) h us)
     by true c same f rest = absurd (none_some x (sym f))
     by false true same f rest = absurd cc
     by false false same f rest = (all.0, rest f)
 
-pub pairs_changed : (n : ℕ) (g : Entry → Entry) (h : Exchange → Exchange) (xs : List Entry) (us : List Exchange) → ((x : Entry) (e : Exchange) → find (is_number n) xs ≡ Some x → ShowsExchange x e → ShowsExchange (g x) (h e))
-    → count_by (is_number n) xs ≤ 1 → AreAll ShowsExchange xs us → AreAll ShowsExchange (changed n g xs) (change (is_exchange n) h us)
-pairs_changed n g h [] [] to few all = tt
-pairs_changed n g h [] (u ∷ us) to few all = absurd all
-pairs_changed n g h (x ∷ xs) [] to few all = absurd all
-pairs_changed n g h (x ∷ xs) (u ∷ us) to few all =
+pub pairs_changed : (number : ℕ → ℕ) (n : ℕ) (g : Entry → Entry) (h : Exchange → Exchange) (xs : List Entry) (us : List Exchange) → ((x : Entry) (e : Exchange) → find (is_number n) xs ≡ Some x → ShowsExchange number x e → ShowsExchange number (g x) (h e))
+    → count_by (is_number n) xs ≤ 1 → AreAll (ShowsExchange number) xs us → AreAll (ShowsExchange number) (changed n g xs) (change (is_exchange n) h us)
+pairs_changed number n g h [] [] to few all = tt
+pairs_changed number n g h [] (u ∷ us) to few all = absurd all
+pairs_changed number n g h (x ∷ xs) [] to few all = absurd all
+pairs_changed number n g h (x ∷ xs) (u ∷ us) to few all =
     by (is_number n x) (is_exchange n u) (ap (λ (i : ℕ). i == n) all.0.number) (let e : cond (is_number n x) 1 0 + count_by (is_number n) xs ≤ 1 = omega (arith, few, count_first (is_number n) x xs) in e) to
-    (λ these less. pairs_changed n g h xs us these less all.1)
+    (λ these less. pairs_changed number n g h xs us these less all.1)
   where
-    by : (b c : Bool) → b ≡ c → cond b 1 0 + count_by (is_number n) xs ≤ 1 → ((y : Entry) (e : Exchange) → cond b (Some x) (find (is_number n) xs) ≡ Some y → ShowsExchange y e → ShowsExchange (g y) (h e))
-        → (((y : Entry) (e : Exchange) → find (is_number n) xs ≡ Some y → ShowsExchange y e → ShowsExchange (g y) (h e)) → count_by (is_number n) xs ≤ 1 → AreAll ShowsExchange (changed n g xs) (change (is_exchange n) h us))
-        → AreAll ShowsExchange (cond b (g x ∷ xs) (x ∷ changed n g xs)) ((elim c as (λ t. Exchange) [ true ↦ h u | false ↦ u ]) ∷ change (is_exchange n) h us)
-    by true true same less these rest = (these x u refl all.0, none_pairs n h xs us all.1 (none_left (is_number n) xs (omega (arith, less))))
+    by : (b c : Bool) → b ≡ c → cond b 1 0 + count_by (is_number n) xs ≤ 1 → ((y : Entry) (e : Exchange) → cond b (Some x) (find (is_number n) xs) ≡ Some y → ShowsExchange number y e → ShowsExchange number (g y) (h e))
+        → (((y : Entry) (e : Exchange) → find (is_number n) xs ≡ Some y → ShowsExchange number y e → ShowsExchange number (g y) (h e)) → count_by (is_number n) xs ≤ 1 → AreAll (ShowsExchange number) (changed n g xs) (change (is_exchange n) h us))
+        → AreAll (ShowsExchange number) (cond b (g x ∷ xs) (x ∷ changed n g xs)) ((elim c as (λ t. Exchange) [ true ↦ h u | false ↦ u ]) ∷ change (is_exchange n) h us)
+    by true true same less these rest = (these x u refl all.0, none_pairs number n h xs us all.1 (none_left (is_number n) xs (omega (arith, less))))
     by true false same less these rest = absurd cc
     by false true same less these rest = absurd cc
     by false false same less these rest = (all.0, rest these (omega (arith, less)))
 
-none_out : (n : ℕ) (xs : List Entry) (us : List Exchange) → AreAll ShowsExchange xs us → find (is_number n) xs ≡ None → AreAll ShowsExchange xs (without (is_exchange n) us)
-none_out n [] [] all none = tt
-none_out n [] (u ∷ us) all none = absurd all
-none_out n (x ∷ xs) [] all none = absurd all
-none_out n (x ∷ xs) (u ∷ us) all none = by (is_number n x) (is_exchange n u) (ap (λ (i : ℕ). i == n) all.0.number) none (λ f. none_out n xs us all.1 f)
+none_out : (number : ℕ → ℕ) (n : ℕ) (xs : List Entry) (us : List Exchange) → AreAll (ShowsExchange number) xs us → find (is_number n) xs ≡ None → AreAll (ShowsExchange number) xs (without (is_exchange n) us)
+none_out number n [] [] all none = tt
+none_out number n [] (u ∷ us) all none = absurd all
+none_out number n (x ∷ xs) [] all none = absurd all
+none_out number n (x ∷ xs) (u ∷ us) all none = by (is_number n x) (is_exchange n u) (ap (λ (i : ℕ). i == n) all.0.number) none (λ f. none_out number n xs us all.1 f)
   where
-    by : (b c : Bool) → b ≡ c → cond b (Some x) (find (is_number n) xs) ≡ None → (find (is_number n) xs ≡ None → AreAll ShowsExchange xs (without (is_exchange n) us))
-        → AreAll ShowsExchange (x ∷ xs) (cond (not c) (u ∷ without (is_exchange n) us) (without (is_exchange n) us))
+    by : (b c : Bool) → b ≡ c → cond b (Some x) (find (is_number n) xs) ≡ None → (find (is_number n) xs ≡ None → AreAll (ShowsExchange number) xs (without (is_exchange n) us))
+        → AreAll (ShowsExchange number) (x ∷ xs) (cond (not c) (u ∷ without (is_exchange n) us) (without (is_exchange n) us))
     by true c same f rest = absurd (none_some x (sym f))
     by false true same f rest = absurd cc
     by false false same f rest = (all.0, rest f)
 
-pub pairs_without : (n : ℕ) (xs : List Entry) (us : List Exchange) → count_by (is_number n) xs ≤ 1 → AreAll ShowsExchange xs us → AreAll ShowsExchange (without_number n xs) (without (is_exchange n) us)
-pairs_without n [] [] few all = tt
-pairs_without n [] (u ∷ us) few all = absurd all
-pairs_without n (x ∷ xs) [] few all = absurd all
-pairs_without n (x ∷ xs) (u ∷ us) few all =
+pub pairs_without : (number : ℕ → ℕ) (n : ℕ) (xs : List Entry) (us : List Exchange) → count_by (is_number n) xs ≤ 1 → AreAll (ShowsExchange number) xs us → AreAll (ShowsExchange number) (without_number n xs) (without (is_exchange n) us)
+pairs_without number n [] [] few all = tt
+pairs_without number n [] (u ∷ us) few all = absurd all
+pairs_without number n (x ∷ xs) [] few all = absurd all
+pairs_without number n (x ∷ xs) (u ∷ us) few all =
     by (is_number n x) (is_exchange n u) (ap (λ (i : ℕ). i == n) all.0.number) (let e : cond (is_number n x) 1 0 + count_by (is_number n) xs ≤ 1 = omega (arith, few, count_first (is_number n) x xs) in e)
-    (λ less. pairs_without n xs us less all.1)
+    (λ less. pairs_without number n xs us less all.1)
   where
-    by : (b c : Bool) → b ≡ c → cond b 1 0 + count_by (is_number n) xs ≤ 1 → (count_by (is_number n) xs ≤ 1 → AreAll ShowsExchange (without_number n xs) (without (is_exchange n) us))
-        → AreAll ShowsExchange (cond b xs (x ∷ without_number n xs)) (cond (not c) (u ∷ without (is_exchange n) us) (without (is_exchange n) us))
-    by true true same less rest = none_out n xs us all.1 (none_left (is_number n) xs (omega (arith, less)))
+    by : (b c : Bool) → b ≡ c → cond b 1 0 + count_by (is_number n) xs ≤ 1 → (count_by (is_number n) xs ≤ 1 → AreAll (ShowsExchange number) (without_number n xs) (without (is_exchange n) us))
+        → AreAll (ShowsExchange number) (cond b xs (x ∷ without_number n xs)) (cond (not c) (u ∷ without (is_exchange n) us) (without (is_exchange n) us))
+    by true true same less rest = none_out number n xs us all.1 (none_left (is_number n) xs (omega (arith, less)))
     by true false same less rest = absurd cc
     by false true same less rest = absurd cc
     by false false same less rest = (all.0, rest (omega (arith, less)))
@@ -89,10 +89,10 @@ pairs_without n (x ∷ xs) (u ∷ us) few all =
 sooner : (n m k : ℕ) → n + 1 ≤ k → m ≡ k → nat_lt n m ≡ true
 sooner n m k less is = grind (arith, nat_tests)
 
-entered_first : (y : Entry) (next : ℕ) (xs : List Entry) (us : List Exchange) → AreAll ShowsExchange xs us → AreGiven (y.exchange.number + 1) next (numbers_of us) → entered y xs ≡ y ∷ xs
-entered_first y next [] us all given = refl
-entered_first y next (x ∷ xs) [] all given = absurd all
-entered_first y next (x ∷ xs) (u ∷ us) all given =
+entered_first : (number : ℕ → ℕ) (y : Entry) (next : ℕ) (xs : List Entry) (us : List Exchange) → AreAll (ShowsExchange number) xs us → AreGiven (y.exchange.number + 1) next (numbers_of us) → entered y xs ≡ y ∷ xs
+entered_first number y next [] us all given = refl
+entered_first number y next (x ∷ xs) [] all given = absurd all
+entered_first number y next (x ∷ xs) (u ∷ us) all given =
     ap (λ (t : Bool). cond t (y ∷ x ∷ xs) (x ∷ entered y xs)) (sooner y.exchange.number x.exchange.number u.number given.0 all.0.number)
 
 later : (n m k : ℕ) → m ≡ k → (n < k + 1 → ⊥) → nat_lt n m ≡ false
@@ -102,38 +102,38 @@ later n m k is not_less = by (nat_lt n m) refl
     by false so = refl
     by true so = let less : n < m = grind (arith, nat_tests) in absurd (not_less (omega (arith, less, is)))
 
-pub pairs_entered : (n : ℕ) (y : Entry) (h : Exchange → Exchange) (p : Exchange → Bool) (d : Exchange) (a next : ℕ) (xs : List Entry) (es : List Exchange) → AreGiven a next (numbers_of es) → AreAll ShowsExchange xs (filter p es)
-    → y.exchange.number ≡ n → ((e : Exchange) → p (h e) ≡ true) → find (is_exchange n) es ≡ Some d → p d ≡ false → ShowsExchange y (h d) → AreAll ShowsExchange (entered y xs) (filter p (change (is_exchange n) h es))
-pairs_entered n y h p d a next xs [] given all num in_it here out shows = absurd (none_some d here)
-pairs_entered n y h p d a next xs (e ∷ es) given all num in_it here out shows =
-    by (is_exchange n e) (p e) xs refl refl all here (λ ys these there. pairs_entered n y h p d (e.number + 1) next ys es given.1 these num in_it there out shows)
+pub pairs_entered : (number : ℕ → ℕ) (n : ℕ) (y : Entry) (h : Exchange → Exchange) (p : Exchange → Bool) (d : Exchange) (a next : ℕ) (xs : List Entry) (es : List Exchange) → AreGiven a next (numbers_of es) → AreAll (ShowsExchange number) xs (filter p es)
+    → y.exchange.number ≡ n → ((e : Exchange) → p (h e) ≡ true) → find (is_exchange n) es ≡ Some d → p d ≡ false → ShowsExchange number y (h d) → AreAll (ShowsExchange number) (entered y xs) (filter p (change (is_exchange n) h es))
+pairs_entered number n y h p d a next xs [] given all num in_it here out shows = absurd (none_some d here)
+pairs_entered number n y h p d a next xs (e ∷ es) given all num in_it here out shows =
+    by (is_exchange n e) (p e) xs refl refl all here (λ ys these there. pairs_entered number n y h p d (e.number + 1) next ys es given.1 these num in_it there out shows)
   where
     none_before : (o : Option Exchange) → find (is_exchange n) es ≡ o → o ≡ Some d → n < e.number + 1 → ⊥
     none_before o is some less = none_some d (sym (none_below n (e.number + 1) next es less given.1) ∙ is ∙ some)
 
-    by : (b c : Bool) (ys : List Entry) → is_exchange n e ≡ b → p e ≡ c → AreAll ShowsExchange ys (cond c (e ∷ filter p es) (filter p es)) → cond b (Some e) (find (is_exchange n) es) ≡ Some d
-        → ((zs : List Entry) → AreAll ShowsExchange zs (filter p es) → find (is_exchange n) es ≡ Some d → AreAll ShowsExchange (entered y zs) (filter p (change (is_exchange n) h es)))
-        → AreAll ShowsExchange (entered y ys) (filter p ((elim b as (λ t. Exchange) [ true ↦ h e | false ↦ e ]) ∷ change (is_exchange n) h es))
+    by : (b c : Bool) (ys : List Entry) → is_exchange n e ≡ b → p e ≡ c → AreAll (ShowsExchange number) ys (cond c (e ∷ filter p es) (filter p es)) → cond b (Some e) (find (is_exchange n) es) ≡ Some d
+        → ((zs : List Entry) → AreAll (ShowsExchange number) zs (filter p es) → find (is_exchange n) es ≡ Some d → AreAll (ShowsExchange number) (entered y zs) (filter p (change (is_exchange n) h es)))
+        → AreAll (ShowsExchange number) (entered y ys) (filter p ((elim b as (λ t. Exchange) [ true ↦ h e | false ↦ e ]) ∷ change (is_exchange n) h es))
     by true true ys is holds these f rest =
         let same : e ≡ d = some_is e d f in
         absurd (true_false (sym holds ∙ ap p same ∙ out))
     by true false ys is holds these f rest =
         let same : e ≡ d = some_is e d f in
-        let number : e.number ≡ n = same_number e.number n is in
+        let numbered : e.number ≡ n = same_number e.number n is in
         let above : AreGiven (y.exchange.number + 1) next (numbers_of (filter p es)) =
-        subst (λ (i : ℕ). AreGiven (i + 1) next (numbers_of (filter p es))) (number ∙ sym num) (given_kept p (e.number + 1) next es given.1) in
-        let unchanged : change (is_exchange n) h es ≡ es = none_changed (is_exchange n) h es (none_below n (e.number + 1) next es (omega (arith, number)) given.1) in
-        subst (λ (us : List Exchange). AreAll ShowsExchange (entered y ys) us)
+        subst (λ (i : ℕ). AreGiven (i + 1) next (numbers_of (filter p es))) (numbered ∙ sym num) (given_kept p (e.number + 1) next es given.1) in
+        let unchanged : change (is_exchange n) h es ≡ es = none_changed (is_exchange n) h es (none_below n (e.number + 1) next es (omega (arith, numbered)) given.1) in
+        subst (λ (us : List Exchange). AreAll (ShowsExchange number) (entered y ys) us)
         (sym (ap (λ (t : Bool). cond t (h e ∷ filter p (change (is_exchange n) h es)) (filter p (change (is_exchange n) h es))) (in_it e) ∙ ap (λ (us : List Exchange). h e ∷ filter p us) unchanged))
-        (subst (λ (zs : List Entry). AreAll ShowsExchange zs (h e ∷ filter p es)) (sym (entered_first y next ys (filter p es) these above))
-        (subst (λ (u : Exchange). ShowsExchange y (h u)) (sym same) shows, these))
+        (subst (λ (zs : List Entry). AreAll (ShowsExchange number) zs (h e ∷ filter p es)) (sym (entered_first number y next ys (filter p es) these above))
+        (subst (λ (u : Exchange). ShowsExchange number y (h u)) (sym same) shows, these))
     by false true [] is holds these f rest = absurd these
     by false true (z ∷ zs) is holds these f rest =
-        subst (λ (us : List Exchange). AreAll ShowsExchange (entered y (z ∷ zs)) us)
+        subst (λ (us : List Exchange). AreAll (ShowsExchange number) (entered y (z ∷ zs)) us)
         (sym (ap (λ (t : Bool). cond t (e ∷ filter p (change (is_exchange n) h es)) (filter p (change (is_exchange n) h es))) holds))
-        (subst (λ (t : Bool). AreAll ShowsExchange (cond t (y ∷ z ∷ zs) (z ∷ entered y zs)) (e ∷ filter p (change (is_exchange n) h es)))
+        (subst (λ (t : Bool). AreAll (ShowsExchange number) (cond t (y ∷ z ∷ zs) (z ∷ entered y zs)) (e ∷ filter p (change (is_exchange n) h es)))
         (sym (later y.exchange.number z.exchange.number e.number these.0.number (λ less. none_before (find (is_exchange n) es) refl f (subst (λ (i : ℕ). i < e.number + 1) num less))))
         (these.0, rest zs these.1 f))
     by false false ys is holds these f rest =
-        subst (λ (us : List Exchange). AreAll ShowsExchange (entered y ys) us)
+        subst (λ (us : List Exchange). AreAll (ShowsExchange number) (entered y ys) us)
         (sym (ap (λ (t : Bool). cond t (e ∷ filter p (change (is_exchange n) h es)) (filter p (change (is_exchange n) h es))) holds)) (rest ys these f)

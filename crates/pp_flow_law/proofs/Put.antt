@@ -51,10 +51,10 @@ at_most_one false = omega arith
 pub no_more : (p : Entry → Bool) → count_by p [] ≡ 0
 no_more p = refl
 
-pub both_put : (s : State) (n : ℕ) (x y : Entry) (h : Exchange → Exchange) (o : Option Exchange) → ((e : Exchange) → o ≡ Some e → ShowsExchange x e → ShowsExchange y (h e)) → AreBoth ShowsExchange (Some x) o
-    → AreBoth ShowsExchange (Some y) (option_map h o)
-both_put s n x y h None to both = absurd both
-both_put s n x y h (Some e) to both = to e refl both
+pub both_put : (number : ℕ → ℕ) (s : State) (n : ℕ) (x y : Entry) (h : Exchange → Exchange) (o : Option Exchange) → ((e : Exchange) → o ≡ Some e → ShowsExchange number x e → ShowsExchange number y (h e)) → AreBoth (ShowsExchange number) (Some x) o
+    → AreBoth (ShowsExchange number) (Some y) (option_map h o)
+both_put number s n x y h None to both = absurd both
+both_put number s n x y h (Some e) to both = to e refl both
 
 line_of_one : (n k m : ℕ) (y : Entry) → IsPut n k y → line_of m (y ∷ []) ≡ cond (k == m) (n ∷ []) []
 line_of_one n k m y put =
@@ -68,14 +68,14 @@ same_both i k m one two = grind (arith, nat_tests)
 not_both : (i k m : ℕ) → (i == m) ≡ true → (i == k) ≡ false → (k == m) ≡ false
 not_both i k m one two = grind (arith, nat_tests)
 
-puts_at : (l : Leaving) (f : Exchanges) (s : State) → ShowsFlow l f s → (n k : ℕ) (x y : Entry) (c : Conn) → find (is_number n) f.waiting ≡ Some x → IsPut n k y → conn s k ≡ Some c
-    → ((e : Exchange) → exchange s n ≡ Some e → ShowsExchange x e → ShowsExchange y (placed_by k e)) → ShowsFlow l (put_at n y f) (put_on n k s)
+puts_at : (number : ℕ → ℕ) (l : Leaving) (f : Exchanges) (s : State) → ShowsFlow number l f s → (n k : ℕ) (x y : Entry) (c : Conn) → find (is_number n) f.waiting ≡ Some x → IsPut n k y → conn s k ≡ Some c
+    → ((e : Exchange) → exchange s n ≡ Some e → ShowsExchange number x e → ShowsExchange number y (placed_by k e)) → ShowsFlow number l (put_at n y f) (put_on n k s)
 unfolding put_on on_conn on_exchange
-puts_at l f s shows n k x y c waits put linked to = record {
+puts_at number l f s shows n k x y c waits put linked to = record {
   each = λ m. at (m == n) m refl;
   waiting =
-      subst (λ (es : List Exchange). AreAll ShowsExchange (without_number n f.waiting) es) (sym (filter_change_out n (placed_by k) has_none (λ e. refl) s.exchanges))
-      (pairs_without n f.waiting (filter has_none s.exchanges) (few_waiting l f s shows n) shows.waiting);
+      subst (λ (es : List Exchange). AreAll (ShowsExchange number) (without_number n f.waiting) es) (sym (filter_change_out n (placed_by k) has_none (λ e. refl) s.exchanges))
+      (pairs_without number n f.waiting (filter has_none s.exchanges) (few_waiting number l f s shows n) shows.waiting);
   lines = λ m.
       line_joined m f.placed (y ∷ [])
       ∙ ap₂ (λ (ns os : List ℕ). ns ++ os) (shows.lines m) (line_of_one n k m y put)
@@ -87,7 +87,7 @@ puts_at l f s shows n k x y c waits put linked to = record {
 }
   where
     none_there : find (is_number n) f.placed ≡ None
-    none_there = none_placed l f s shows n x waits
+    none_there = none_placed number l f s shows n x waits
 
     kept : (m : ℕ) (j : Conn) (b : Bool) → is_conn m (elim b as (λ c. Conn) [ true ↦ joined_by n j | false ↦ j ]) ≡ is_conn m j
     kept m j true = refl
@@ -115,7 +115,7 @@ puts_at l f s shows n k x y c waits put linked to = record {
           count_joined (is_number n) f.placed (y ∷ []),
           count_first (is_number n) y [],
           at_most_one (is_number n y),
-          none_found (is_number n) (without_number n f.waiting) (find_without n f.waiting (few_waiting l f s shows n)),
+          none_found (is_number n) (without_number n f.waiting) (find_without n f.waiting (few_waiting number l f s shows n)),
           none_found (is_number n) f.placed none_there,
           no_more (is_number n),
         ))
@@ -133,16 +133,16 @@ puts_at l f s shows n k x y c waits put linked to = record {
           no_more (is_number m),
         )
 
-    at : (b : Bool) (m : ℕ) → (m == n) ≡ b → AreBoth ShowsExchange (entry_of m (put_at n y f)) (find (is_exchange m) (change (is_exchange n) (placed_by k) s.exchanges))
+    at : (b : Bool) (m : ℕ) → (m == n) ≡ b → AreBoth (ShowsExchange number) (entry_of m (put_at n y f)) (find (is_exchange m) (change (is_exchange n) (placed_by k) s.exchanges))
     at true m is =
-        subst (λ (i : ℕ). AreBoth ShowsExchange (entry_of i (put_at n y f)) (find (is_exchange i) (change (is_exchange n) (placed_by k) s.exchanges))) (sym (same_number m n is))
-        (both_as (entry_of n (put_at n y f)) (Some y) (find (is_exchange n) (change (is_exchange n) (placed_by k) s.exchanges)) (option_map (placed_by k) (exchange s n))
-        (ap₂ (λ (u v : Option Entry). first_of u v) (find_without n f.waiting (few_waiting l f s shows n))
+        subst (λ (i : ℕ). AreBoth (ShowsExchange number) (entry_of i (put_at n y f)) (find (is_exchange i) (change (is_exchange n) (placed_by k) s.exchanges))) (sym (same_number m n is))
+        (both_as number (entry_of n (put_at n y f)) (Some y) (find (is_exchange n) (change (is_exchange n) (placed_by k) s.exchanges)) (option_map (placed_by k) (exchange s n))
+        (ap₂ (λ (u v : Option Entry). first_of u v) (find_without n f.waiting (few_waiting number l f s shows n))
         (find_joined (is_number n) f.placed (y ∷ []) ∙ ap₂ (λ (u : Option Entry) (t : Bool). first_of_two u (cond t (Some y) None)) none_there (same_as y.exchange.number n put.number)))
         (find_change n (placed_by k) (λ e. refl) s.exchanges)
-        (both_put s n x y (placed_by k) (exchange s n) to (subst (λ (o : Option Entry). AreBoth ShowsExchange o (exchange s n)) (entry_waiting n f x waits) (shows.each n))))
+        (both_put number s n x y (placed_by k) (exchange s n) to (subst (λ (o : Option Entry). AreBoth (ShowsExchange number) o (exchange s n)) (entry_waiting n f x waits) (shows.each n))))
     at false m is =
-        both_as (entry_of m (put_at n y f)) (entry_of m f) (find (is_exchange m) (change (is_exchange n) (placed_by k) s.exchanges)) (exchange s m)
+        both_as number (entry_of m (put_at n y f)) (entry_of m f) (find (is_exchange m) (change (is_exchange n) (placed_by k) s.exchanges)) (exchange s m)
         (ap₂ (λ (u v : Option Entry). first_of u v) (find_without_else n m is f.waiting)
         (find_joined (is_number m) f.placed (y ∷ [])
         ∙ ap (λ (t : Bool). first_of_two (find (is_number m) f.placed) (cond t (Some y) None)) (ap (λ (i : ℕ). i == m) put.number ∙ other_way m n is)
@@ -150,20 +150,20 @@ puts_at l f s shows n k x y c waits put linked to = record {
         (find_change_else n m (placed_by k) (λ e. refl) is s.exchanges) (shows.each m)
 
 -- what the program makes of them
-is_put_at : (l : Leaving) (f : Exchanges) (s : State) → ShowsFlow l f s → (n k : ℕ) (x : Entry) (r : Errand) → find (is_number n) f.waiting ≡ Some x
+is_put_at : (number : ℕ → ℕ) (l : Leaving) (f : Exchanges) (s : State) → ShowsFlow number l f s → (n k : ℕ) (x : Entry) (r : Errand) → find (is_number n) f.waiting ≡ Some x
     → with_errand n r (placed_on k n f) ≡ put_at n (asking r (with_place (Some k) x)) f
-is_put_at l f s shows n k x r waits =
+is_put_at number l f s shows n k x r waits =
     ap (λ (o : Option Entry). with_errand n r (elim o as (λ u. Exchanges) [ None ↦ f | Some e ↦ record f { waiting = without_number n f.waiting; placed = f.placed ++ with_place (Some k) e ∷ [] } ])) waits
     ∙ ap (λ (b : Bool). cond b (record f { waiting = changed n (asking r) (without_number n f.waiting); placed = f.placed ++ with_place (Some k) x ∷ [] })
     (record f { waiting = without_number n f.waiting; placed = changed n (asking r) (f.placed ++ with_place (Some k) x ∷ []) }))
-    (any_is (is_number n) (without_number n f.waiting) None (find_without n f.waiting (few_waiting l f s shows n)))
+    (any_is (is_number n) (without_number n f.waiting) None (find_without n f.waiting (few_waiting number l f s shows n)))
     ∙ ap (λ (es : List Entry). record f { waiting = without_number n f.waiting; placed = es })
-    (changed_last n (asking r) f.placed (with_place (Some k) x) (none_placed l f s shows n x waits) (find_passes (is_number n) f.waiting x waits))
+    (changed_last n (asking r) f.placed (with_place (Some k) x) (none_placed number l f s shows n x waits) (find_passes (is_number n) f.waiting x waits))
 
 pub puts : PutsAreTheLaws
-puts l f s shows n x e k waits here linked =
-    subst (λ (g : Exchanges). ShowsFlow l g (put_on n k.number s)) (sym (is_put_at l f s shows n k.number x (record x.errand { text_len = length e.text; asked = 0 }) waits))
-    (puts_at l f s shows n k.number x (asking (record x.errand { text_len = length e.text; asked = 0 }) (with_place (Some k.number) x)) k waits
+puts number l f s shows n x e k waits here linked =
+    subst (λ (g : Exchanges). ShowsFlow number l g (put_on n k.number s)) (sym (is_put_at number l f s shows n k.number x (record x.errand { text_len = length e.text; asked = 0 }) waits))
+    (puts_at number l f s shows n k.number x (asking (record x.errand { text_len = length e.text; asked = 0 }) (with_place (Some k.number) x)) k waits
     (record { number = same_number x.exchange.number n (find_passes (is_number n) f.waiting x waits); place = refl }) linked (λ d there one. record {
       number = one.number;
       asker = one.asker;

@@ -15,28 +15,28 @@ use Rattle.pp_flow_law.specs.Tables.{Leaving, ShowsFlow, has_none}
 use Rattle.pp_flow_law.proofs.Entries.{none_some}
 use Rattle.pp_flow_law.proofs.Exchanges.{one_given}
 
-pub few_in_both : (l : Leaving) (f : Exchanges) (s : State) → ShowsFlow l f s → (n : ℕ) → count_by (is_number n) f.waiting + count_by (is_number n) f.placed ≤ 1
-few_in_both l f s shows n = omega (arith, shows.once n, count_joined (is_number n) f.waiting f.placed)
+pub few_in_both : (number : ℕ → ℕ) (l : Leaving) (f : Exchanges) (s : State) → ShowsFlow number l f s → (n : ℕ) → count_by (is_number n) f.waiting + count_by (is_number n) f.placed ≤ 1
+few_in_both number l f s shows n = omega (arith, shows.once n, count_joined (is_number n) f.waiting f.placed)
 
-pub few_waiting : (l : Leaving) (f : Exchanges) (s : State) → ShowsFlow l f s → (n : ℕ) → count_by (is_number n) f.waiting ≤ 1
-few_waiting l f s shows n = omega (arith, few_in_both l f s shows n)
+pub few_waiting : (number : ℕ → ℕ) (l : Leaving) (f : Exchanges) (s : State) → ShowsFlow number l f s → (n : ℕ) → count_by (is_number n) f.waiting ≤ 1
+few_waiting number l f s shows n = omega (arith, few_in_both number l f s shows n)
 
-pub few_placed : (l : Leaving) (f : Exchanges) (s : State) → ShowsFlow l f s → (n : ℕ) → count_by (is_number n) f.placed ≤ 1
-few_placed l f s shows n = omega (arith, few_in_both l f s shows n)
+pub few_placed : (number : ℕ → ℕ) (l : Leaving) (f : Exchanges) (s : State) → ShowsFlow number l f s → (n : ℕ) → count_by (is_number n) f.placed ≤ 1
+few_placed number l f s shows n = omega (arith, few_in_both number l f s shows n)
 
-pub none_waits : (l : Leaving) (f : Exchanges) (s : State) → ShowsFlow l f s → (n : ℕ) (x : Entry) → find (is_number n) f.placed ≡ Some x → find (is_number n) f.waiting ≡ None
-none_waits l f s shows n x here = by (find (is_number n) f.waiting) refl
+pub none_waits : (number : ℕ → ℕ) (l : Leaving) (f : Exchanges) (s : State) → ShowsFlow number l f s → (n : ℕ) (x : Entry) → find (is_number n) f.placed ≡ Some x → find (is_number n) f.waiting ≡ None
+none_waits number l f s shows n x here = by (find (is_number n) f.waiting) refl
   where
     by : (o : Option Entry) → find (is_number n) f.waiting ≡ o → o ≡ None
     by None is = refl
-    by (Some y) is = absurd (omega (arith, few_in_both l f s shows n, found_counted (is_number n) f.placed x here, found_counted (is_number n) f.waiting y is))
+    by (Some y) is = absurd (omega (arith, few_in_both number l f s shows n, found_counted (is_number n) f.placed x here, found_counted (is_number n) f.waiting y is))
 
-pub none_placed : (l : Leaving) (f : Exchanges) (s : State) → ShowsFlow l f s → (n : ℕ) (x : Entry) → find (is_number n) f.waiting ≡ Some x → find (is_number n) f.placed ≡ None
-none_placed l f s shows n x here = by (find (is_number n) f.placed) refl
+pub none_placed : (number : ℕ → ℕ) (l : Leaving) (f : Exchanges) (s : State) → ShowsFlow number l f s → (n : ℕ) (x : Entry) → find (is_number n) f.waiting ≡ Some x → find (is_number n) f.placed ≡ None
+none_placed number l f s shows n x here = by (find (is_number n) f.placed) refl
   where
     by : (o : Option Entry) → find (is_number n) f.placed ≡ o → o ≡ None
     by None is = refl
-    by (Some y) is = absurd (omega (arith, few_in_both l f s shows n, found_counted (is_number n) f.waiting x here, found_counted (is_number n) f.placed y is))
+    by (Some y) is = absurd (omega (arith, few_in_both number l f s shows n, found_counted (is_number n) f.waiting x here, found_counted (is_number n) f.placed y is))
 
 pub entry_waiting : (n : ℕ) (f : Exchanges) (x : Entry) → find (is_number n) f.waiting ≡ Some x → entry_of n f ≡ Some x
 entry_waiting n f x here = ap (λ (o : Option Entry). first_of o (find (is_number n) f.placed)) here
@@ -46,21 +46,21 @@ entry_placed n f x none here = ap (λ (o : Option Entry). first_of o (find (is_n
 
 -- ---- as many of each number
 
-pub few_given : (l : Leaving) (f : Exchanges) (s : State) → ShowsFlow l f s → (n : ℕ) → count_by (is_exchange n) s.exchanges ≤ 1
-few_given l f s shows n = one_given n 0 s.next_exchange s.exchanges shows.given
+pub few_given : (number : ℕ → ℕ) (l : Leaving) (f : Exchanges) (s : State) → ShowsFlow number l f s → (n : ℕ) → count_by (is_exchange n) s.exchanges ≤ 1
+few_given number l f s shows n = one_given n 0 s.next_exchange s.exchanges shows.given
 
-pub counts_same : (l : Leaving) (f : Exchanges) (s : State) → ShowsFlow l f s → (n : ℕ) → count_by (is_number n) f.waiting + count_by (is_number n) f.placed ≡ count_by (is_exchange n) s.exchanges
-counts_same l f s shows n =
+pub counts_same : (number : ℕ → ℕ) (l : Leaving) (f : Exchanges) (s : State) → ShowsFlow number l f s → (n : ℕ) → count_by (is_number n) f.waiting + count_by (is_number n) f.placed ≡ count_by (is_exchange n) s.exchanges
+counts_same number l f s shows n =
     by (find (is_number n) f.waiting) (find (is_number n) f.placed) (exchange s n) refl refl refl (shows.each n)
   where
-    by : (u v : Option Entry) (w : Option Exchange) → find (is_number n) f.waiting ≡ u → find (is_number n) f.placed ≡ v → exchange s n ≡ w → AreBoth ShowsExchange (first_of u v) w
+    by : (u v : Option Entry) (w : Option Exchange) → find (is_number n) f.waiting ≡ u → find (is_number n) f.placed ≡ v → exchange s n ≡ w → AreBoth (ShowsExchange number) (first_of u v) w
         → count_by (is_number n) f.waiting + count_by (is_number n) f.placed ≡ count_by (is_exchange n) s.exchanges
     by None None None a b c both = omega (arith, none_found (is_number n) f.waiting a, none_found (is_number n) f.placed b, none_found (is_exchange n) s.exchanges c)
     by None None (Some e) a b c both = absurd both
     by None (Some x) None a b c both = absurd both
-    by None (Some x) (Some e) a b c both = omega (arith, few_in_both l f s shows n, found_counted (is_number n) f.placed x b, found_counted (is_exchange n) s.exchanges e c, few_given l f s shows n)
+    by None (Some x) (Some e) a b c both = omega (arith, few_in_both number l f s shows n, found_counted (is_number n) f.placed x b, found_counted (is_exchange n) s.exchanges e c, few_given number l f s shows n)
     by (Some x) v None a b c both = absurd both
-    by (Some x) v (Some e) a b c both = omega (arith, few_in_both l f s shows n, found_counted (is_number n) f.waiting x a, found_counted (is_exchange n) s.exchanges e c, few_given l f s shows n)
+    by (Some x) v (Some e) a b c both = omega (arith, few_in_both number l f s shows n, found_counted (is_number n) f.waiting x a, found_counted (is_exchange n) s.exchanges e c, few_given number l f s shows n)
 
 -- ---- with a place, and without
 
@@ -86,44 +86,44 @@ found_holds {A = A} p q (x ∷ xs) y e = by (q x) refl e (λ f. found_holds p q 
     by true so f rest = at (p x) so f rest
     by false so f rest = rest f
 
-waits_found : (l : Leaving) (f : Exchanges) (s : State) → ShowsFlow l f s → (n : ℕ) → AreBoth ShowsExchange (find (is_number n) f.waiting) (find (is_exchange n) (filter has_none s.exchanges))
-waits_found l f s shows n =
-    found ShowsExchange ShowsExchange (is_number n) (is_exchange n) f.waiting (filter has_none s.exchanges) (λ x e one. ap (λ (i : ℕ). i == n) one.number) (λ x e one so. one) shows.waiting
+waits_found : (number : ℕ → ℕ) (l : Leaving) (f : Exchanges) (s : State) → ShowsFlow number l f s → (n : ℕ) → AreBoth (ShowsExchange number) (find (is_number n) f.waiting) (find (is_exchange n) (filter has_none s.exchanges))
+waits_found number l f s shows n =
+    found (ShowsExchange number) (ShowsExchange number) (is_number n) (is_exchange n) f.waiting (filter has_none s.exchanges) (λ x e one. ap (λ (i : ℕ). i == n) one.number) (λ x e one so. one) shows.waiting
 
 -- where one of the program is there, that of the law is
-pub record IsShown (s : State) (n : ℕ) (x : Entry) : Type 0 where
+pub record IsShown (number : ℕ → ℕ) (s : State) (n : ℕ) (x : Entry) : Type 0 where
   pub known : Exchange
   pub there : exchange s n ≡ Some known
-  pub shows : ShowsExchange x known
+  pub shows : ShowsExchange number x known
 
-pub is_shown : (l : Leaving) (f : Exchanges) (s : State) → ShowsFlow l f s → (n : ℕ) (x : Entry) → entry_of n f ≡ Some x → IsShown s n x
-is_shown l f s shows n x here = by (exchange s n) refl (subst (λ (o : Option Entry). AreBoth ShowsExchange o (exchange s n)) here (shows.each n))
+pub is_shown : (number : ℕ → ℕ) (l : Leaving) (f : Exchanges) (s : State) → ShowsFlow number l f s → (n : ℕ) (x : Entry) → entry_of n f ≡ Some x → IsShown number s n x
+is_shown number l f s shows n x here = by (exchange s n) refl (subst (λ (o : Option Entry). AreBoth (ShowsExchange number) o (exchange s n)) here (shows.each n))
   where
-    by : (o : Option Exchange) → exchange s n ≡ o → AreBoth ShowsExchange (Some x) o → IsShown s n x
+    by : (o : Option Exchange) → exchange s n ≡ o → AreBoth (ShowsExchange number) (Some x) o → IsShown number s n x
     by None is both = absurd both
     by (Some e) is both = record { known = e; there = is; shows = both }
 
-pub waits_has : (l : Leaving) (f : Exchanges) (s : State) → ShowsFlow l f s → (n : ℕ) (x : Entry) (d : Exchange) → find (is_number n) f.waiting ≡ Some x → exchange s n ≡ Some d → has_none d ≡ true
-waits_has l f s shows n x d here there =
-    by (find (is_exchange n) (filter has_none s.exchanges)) refl (subst (λ (o : Option Entry). AreBoth ShowsExchange o (find (is_exchange n) (filter has_none s.exchanges))) here (waits_found l f s shows n))
+pub waits_has : (number : ℕ → ℕ) (l : Leaving) (f : Exchanges) (s : State) → ShowsFlow number l f s → (n : ℕ) (x : Entry) (d : Exchange) → find (is_number n) f.waiting ≡ Some x → exchange s n ≡ Some d → has_none d ≡ true
+waits_has number l f s shows n x d here there =
+    by (find (is_exchange n) (filter has_none s.exchanges)) refl (subst (λ (o : Option Entry). AreBoth (ShowsExchange number) o (find (is_exchange n) (filter has_none s.exchanges))) here (waits_found number l f s shows n))
   where
-    by : (o : Option Exchange) → find (is_exchange n) (filter has_none s.exchanges) ≡ o → AreBoth ShowsExchange (Some x) o → has_none d ≡ true
+    by : (o : Option Exchange) → find (is_exchange n) (filter has_none s.exchanges) ≡ o → AreBoth (ShowsExchange number) (Some x) o → has_none d ≡ true
     by None is both = absurd both
     by (Some e) is both =
-        let one : IsShown s n x = is_shown l f s shows n x (entry_waiting n f x here) in
+        let one : IsShown number s n x = is_shown number l f s shows n x (entry_waiting n f x here) in
         ap (λ (c : Exchange). has_none c) (some_is d one.known (sym there ∙ one.there))
         ∙ ap (λ (o : Option ℕ). not (is_some o)) (sym one.shows.place ∙ both.place)
         ∙ found_holds (is_exchange n) has_none s.exchanges e is
 
-pub placed_has : (l : Leaving) (f : Exchanges) (s : State) → ShowsFlow l f s → (n : ℕ) (x : Entry) (d : Exchange) → find (is_number n) f.placed ≡ Some x → exchange s n ≡ Some d → has_none d ≡ false
-placed_has l f s shows n x d here there = by (has_none d) refl
+pub placed_has : (number : ℕ → ℕ) (l : Leaving) (f : Exchanges) (s : State) → ShowsFlow number l f s → (n : ℕ) (x : Entry) (d : Exchange) → find (is_number n) f.placed ≡ Some x → exchange s n ≡ Some d → has_none d ≡ false
+placed_has number l f s shows n x d here there = by (has_none d) refl
   where
     by : (b : Bool) → has_none d ≡ b → b ≡ false
     by false so = refl
     by true so =
-        let both : AreBoth ShowsExchange None (find (is_exchange n) (filter has_none s.exchanges)) =
-        subst (λ (o : Option Entry). AreBoth ShowsExchange o (find (is_exchange n) (filter has_none s.exchanges))) (none_waits l f s shows n x here) (waits_found l f s shows n) in
-        absurd (none_shows (subst (λ (o : Option Exchange). AreBoth ShowsExchange None o) (found_within (is_exchange n) has_none s.exchanges d there so) both))
+        let both : AreBoth (ShowsExchange number) None (find (is_exchange n) (filter has_none s.exchanges)) =
+        subst (λ (o : Option Entry). AreBoth (ShowsExchange number) o (find (is_exchange n) (filter has_none s.exchanges))) (none_waits number l f s shows n x here) (waits_found number l f s shows n) in
+        absurd (none_shows (subst (λ (o : Option Exchange). AreBoth (ShowsExchange number) None o) (found_within (is_exchange n) has_none s.exchanges d there so) both))
       where
-        none_shows : AreBoth ShowsExchange None (Some d) → ⊥
+        none_shows : AreBoth (ShowsExchange number) None (Some d) → ⊥
         none_shows it = it

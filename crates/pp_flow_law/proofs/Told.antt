@@ -53,30 +53,30 @@ length_joined [] ys = omega arith
 length_joined (x ∷ xs) ys = let rest : length (xs ++ ys) ≡ length xs + length ys = length_joined xs ys in omega (arith, rest)
 
 pub counts : CountsAreTheLaws
-counts l f s shows = (
+counts number l f s shows = (
   sym (length_joined f.waiting f.placed)
-      ∙ as_many s.exchanges (f.waiting ++ f.placed) shows.once (λ n. count_joined (is_number n) f.waiting f.placed ∙ counts_same l f s shows n),
+      ∙ as_many s.exchanges (f.waiting ++ f.placed) shows.once (λ n. count_joined (is_number n) f.waiting f.placed ∙ counts_same number l f s shows n),
   shows.begun,
 )
 
 pub entries : EntriesAreTheLaws
-entries l f s shows n = shows.each n
+entries number l f s shows n = shows.each n
 
 -- ---- whether one has a place
 
 -- one without a place, or with one
-placed_else : (l : Leaving) (f : Exchanges) (s : State) → ShowsFlow l f s → (n : ℕ) (d : Exchange) → find (is_number n) f.waiting ≡ None → exchange s n ≡ Some d → is_some (find (is_number n) f.placed) ≡ true
-placed_else l f s shows n d none there =
-    by (find (is_number n) f.placed) (subst (λ (o : Option Exchange). AreBoth ShowsExchange (first_of None (find (is_number n) f.placed)) o) there (subst (λ (o : Option Entry). AreBoth ShowsExchange (first_of o (find (is_number n) f.placed)) (exchange s n)) none (shows.each n)))
+placed_else : (number : ℕ → ℕ) (l : Leaving) (f : Exchanges) (s : State) → ShowsFlow number l f s → (n : ℕ) (d : Exchange) → find (is_number n) f.waiting ≡ None → exchange s n ≡ Some d → is_some (find (is_number n) f.placed) ≡ true
+placed_else number l f s shows n d none there =
+    by (find (is_number n) f.placed) (subst (λ (o : Option Exchange). AreBoth (ShowsExchange number) (first_of None (find (is_number n) f.placed)) o) there (subst (λ (o : Option Entry). AreBoth (ShowsExchange number) (first_of o (find (is_number n) f.placed)) (exchange s n)) none (shows.each n)))
   where
-    by : (o : Option Entry) → AreBoth ShowsExchange (first_of None o) (Some d) → is_some o ≡ true
+    by : (o : Option Entry) → AreBoth (ShowsExchange number) (first_of None o) (Some d) → is_some o ≡ true
     by None both = absurd both
     by (Some x) both = refl
 
-none_here : (l : Leaving) (f : Exchanges) (s : State) → ShowsFlow l f s → (n : ℕ) → exchange s n ≡ None → entry_of n f ≡ None
-none_here l f s shows n none = by (entry_of n f) (subst (λ (o : Option Exchange). AreBoth ShowsExchange (entry_of n f) o) none (shows.each n))
+none_here : (number : ℕ → ℕ) (l : Leaving) (f : Exchanges) (s : State) → ShowsFlow number l f s → (n : ℕ) → exchange s n ≡ None → entry_of n f ≡ None
+none_here number l f s shows n none = by (entry_of n f) (subst (λ (o : Option Exchange). AreBoth (ShowsExchange number) (entry_of n f) o) none (shows.each n))
   where
-    by : (o : Option Entry) → AreBoth ShowsExchange o None → o ≡ None
+    by : (o : Option Entry) → AreBoth (ShowsExchange number) o None → o ≡ None
     by None both = refl
     by (Some x) both = absurd both
 
@@ -88,26 +88,26 @@ record IsTold (f : Exchanges) (n : ℕ) (o : Option Exchange) : Type 0 where
   waits : is_some (find (is_number n) f.waiting) ≡ is_some_with has_none o
   placed : is_some (find (is_number n) f.placed) ≡ is_some_with has_place o
 
-told : (l : Leaving) (f : Exchanges) (s : State) → ShowsFlow l f s → (n : ℕ) → IsTold f n (exchange s n)
-told l f s shows n = by (find (is_number n) f.waiting) (find (is_number n) f.placed) (exchange s n) refl refl refl
+told : (number : ℕ → ℕ) (l : Leaving) (f : Exchanges) (s : State) → ShowsFlow number l f s → (n : ℕ) → IsTold f n (exchange s n)
+told number l f s shows n = by (find (is_number n) f.waiting) (find (is_number n) f.placed) (exchange s n) refl refl refl
   where
     by : (u v : Option Entry) (w : Option Exchange) → find (is_number n) f.waiting ≡ u → find (is_number n) f.placed ≡ v → exchange s n ≡ w → IsTold f n w
     by None None None a b c = record { waits = ap (λ (o : Option Entry). is_some o) a; placed = ap (λ (o : Option Entry). is_some o) b }
-    by None None (Some d) a b c = let both : true ≡ false = sym (placed_else l f s shows n d a c) ∙ ap (λ (o : Option Entry). is_some o) b in absurd (true_false both)
-    by None (Some x) None a b c = absurd (none_some x (sym (none_here l f s shows n c) ∙ entry_placed n f x a b))
+    by None None (Some d) a b c = let both : true ≡ false = sym (placed_else number l f s shows n d a c) ∙ ap (λ (o : Option Entry). is_some o) b in absurd (true_false both)
+    by None (Some x) None a b c = absurd (none_some x (sym (none_here number l f s shows n c) ∙ entry_placed n f x a b))
     by None (Some x) (Some d) a b c =
-        let has : has_none d ≡ false = placed_has l f s shows n x d b c in
+        let has : has_none d ≡ false = placed_has number l f s shows n x d b c in
         record { waits = ap (λ (o : Option Entry). is_some o) a ∙ sym has; placed = ap (λ (o : Option Entry). is_some o) b ∙ sym (is_not (has_place d) false has) }
-    by (Some x) v None a b c = absurd (none_some x (sym (none_here l f s shows n c) ∙ entry_waiting n f x a))
+    by (Some x) v None a b c = absurd (none_some x (sym (none_here number l f s shows n c) ∙ entry_waiting n f x a))
     by (Some x) v (Some d) a b c =
-        let has : has_none d ≡ true = waits_has l f s shows n x d a c in
-        record { waits = ap (λ (o : Option Entry). is_some o) a ∙ sym has; placed = ap (λ (o : Option Entry). is_some o) (none_placed l f s shows n x a) ∙ sym (is_not (has_place d) true has) }
+        let has : has_none d ≡ true = waits_has number l f s shows n x d a c in
+        record { waits = ap (λ (o : Option Entry). is_some o) a ∙ sym has; placed = ap (λ (o : Option Entry). is_some o) (none_placed number l f s shows n x a) ∙ sym (is_not (has_place d) true has) }
 
 pub waits : WaitsAreTheLaws
-waits l f s shows n = (told l f s shows n).waits
+waits number l f s shows n = (told number l f s shows n).waits
 
 pub places : PlacesAreTheLaws
-places l f s shows n = (told l f s shows n).placed
+places number l f s shows n = (told number l f s shows n).placed
 
 -- ---- that of a client
 
@@ -126,49 +126,49 @@ same_asker : (c : ℕ) (o : Option ℕ) → is_of_asker c o ≡ is_this c o
 same_asker c None = refl
 same_asker c (Some a) = refl
 
-pub its_asker : (c : ℕ) (x : Entry) (e : Exchange) → ShowsExchange x e → is_asked_by c x ≡ is_of c e
-its_asker c x e one = ap (λ (o : Option ℕ). is_of_asker c o) one.asker ∙ same_asker c e.asker
+pub its_asker : (number : ℕ → ℕ) (c : ℕ) (x : Entry) (e : Exchange) → ShowsExchange number x e → is_asked_by c x ≡ is_of c e
+its_asker number c x e one = ap (λ (o : Option ℕ). is_of_asker c o) one.asker ∙ same_asker c e.asker
 
 -- the entry that is found by its client shows the law's
-asked_one : (l : Leaving) (f : Exchanges) (s : State) → ShowsFlow l f s → (c : ℕ) (x : Entry) → count_by (is_of c) s.exchanges ≤ 1 → is_asked_by c x ≡ true → entry_of x.exchange.number f ≡ Some x
+asked_one : (number : ℕ → ℕ) (l : Leaving) (f : Exchanges) (s : State) → ShowsFlow number l f s → (c : ℕ) (x : Entry) → count_by (is_of c) s.exchanges ≤ 1 → is_asked_by c x ≡ true → entry_of x.exchange.number f ≡ Some x
     → Some x.exchange.number ≡ option_map (λ (e : Exchange). e.number) (find (is_of c) s.exchanges)
-asked_one l f s shows c x few asks here =
-    let it : IsShown s x.exchange.number x = is_shown l f s shows x.exchange.number x here in
+asked_one number l f s shows c x few asks here =
+    let it : IsShown number s x.exchange.number x = is_shown number l f s shows x.exchange.number x here in
     ap (λ (n : ℕ). Some n) it.shows.number
     ∙ sym (ap (λ (o : Option Exchange). option_map (λ (e : Exchange). e.number) o)
-    (found_alone (is_of c) (is_exchange x.exchange.number) s.exchanges it.known it.there (sym (its_asker c x it.known it.shows) ∙ asks) few))
+    (found_alone (is_of c) (is_exchange x.exchange.number) s.exchanges it.known it.there (sym (its_asker number c x it.known it.shows) ∙ asks) few))
 
 -- where none is found by its client, the law has none
-pub asked_none : (l : Leaving) (f : Exchanges) (s : State) → ShowsFlow l f s → (c : ℕ) → find (is_asked_by c) f.waiting ≡ None → find (is_asked_by c) f.placed ≡ None → None ≡ option_map (λ (e : Exchange). e.number) (find (is_of c) s.exchanges)
-asked_none l f s shows c none neither = by (find (is_of c) s.exchanges) refl
+pub asked_none : (number : ℕ → ℕ) (l : Leaving) (f : Exchanges) (s : State) → ShowsFlow number l f s → (c : ℕ) → find (is_asked_by c) f.waiting ≡ None → find (is_asked_by c) f.placed ≡ None → None ≡ option_map (λ (e : Exchange). e.number) (find (is_of c) s.exchanges)
+asked_none number l f s shows c none neither = by (find (is_of c) s.exchanges) refl
   where
-    at : (e : Exchange) (u v : Option Entry) → is_of c e ≡ true → find (is_number e.number) f.waiting ≡ u → find (is_number e.number) f.placed ≡ v → AreBoth ShowsExchange (first_of u v) (Some e) → ⊥
+    at : (e : Exchange) (u v : Option Entry) → is_of c e ≡ true → find (is_number e.number) f.waiting ≡ u → find (is_number e.number) f.placed ≡ v → AreBoth (ShowsExchange number) (first_of u v) (Some e) → ⊥
     at e None None asks a b both = both
-    at e None (Some x) asks a b both = true_false (sym asks ∙ sym (its_asker c x e both) ∙ none_passes (is_asked_by c) (is_number e.number) f.placed x neither b)
-    at e (Some x) v asks a b both = true_false (sym asks ∙ sym (its_asker c x e both) ∙ none_passes (is_asked_by c) (is_number e.number) f.waiting x none a)
+    at e None (Some x) asks a b both = true_false (sym asks ∙ sym (its_asker number c x e both) ∙ none_passes (is_asked_by c) (is_number e.number) f.placed x neither b)
+    at e (Some x) v asks a b both = true_false (sym asks ∙ sym (its_asker number c x e both) ∙ none_passes (is_asked_by c) (is_number e.number) f.waiting x none a)
 
     by : (o : Option Exchange) → find (is_of c) s.exchanges ≡ o → None ≡ option_map (λ (e : Exchange). e.number) o
     by None is = refl
     by (Some e) is =
         absurd
         (at e (find (is_number e.number) f.waiting) (find (is_number e.number) f.placed) (find_passes (is_of c) s.exchanges e is) refl refl
-        (subst (λ (o : Option Exchange). AreBoth ShowsExchange (entry_of e.number f) o)
-        (found_alone (is_exchange e.number) (is_of c) s.exchanges e is (same_as e.number e.number refl) (few_given l f s shows e.number)) (shows.each e.number)))
+        (subst (λ (o : Option Exchange). AreBoth (ShowsExchange number) (entry_of e.number f) o)
+        (found_alone (is_exchange e.number) (is_of c) s.exchanges e is (same_as e.number e.number refl) (few_given number l f s shows e.number)) (shows.each e.number)))
 
 pub askers : AskersAreTheLaws
-askers l f s shows c few = by (find (is_asked_by c) f.waiting) (find (is_asked_by c) f.placed) refl refl
+askers number l f s shows c few = by (find (is_asked_by c) f.waiting) (find (is_asked_by c) f.placed) refl refl
   where
     by : (u v : Option Entry) → find (is_asked_by c) f.waiting ≡ u → find (is_asked_by c) f.placed ≡ v
         → option_map (λ (x : Entry). x.exchange.number) (first_of u v) ≡ option_map (λ (e : Exchange). e.number) (find (is_of c) s.exchanges)
-    by None None a b = asked_none l f s shows c a b
+    by None None a b = asked_none number l f s shows c a b
     by None (Some x) a b =
         let here : find (is_number x.exchange.number) f.placed ≡ Some x =
-        found_alone (is_number x.exchange.number) (is_asked_by c) f.placed x b (same_as x.exchange.number x.exchange.number refl) (few_placed l f s shows x.exchange.number) in
-        asked_one l f s shows c x few (find_passes (is_asked_by c) f.placed x b) (entry_placed x.exchange.number f x (none_waits l f s shows x.exchange.number x here) here)
+        found_alone (is_number x.exchange.number) (is_asked_by c) f.placed x b (same_as x.exchange.number x.exchange.number refl) (few_placed number l f s shows x.exchange.number) in
+        asked_one number l f s shows c x few (find_passes (is_asked_by c) f.placed x b) (entry_placed x.exchange.number f x (none_waits number l f s shows x.exchange.number x here) here)
     by (Some x) v a b =
         let here : find (is_number x.exchange.number) f.waiting ≡ Some x =
-        found_alone (is_number x.exchange.number) (is_asked_by c) f.waiting x a (same_as x.exchange.number x.exchange.number refl) (few_waiting l f s shows x.exchange.number) in
-        asked_one l f s shows c x few (find_passes (is_asked_by c) f.waiting x a) (entry_waiting x.exchange.number f x here)
+        found_alone (is_number x.exchange.number) (is_asked_by c) f.waiting x a (same_as x.exchange.number x.exchange.number refl) (few_waiting number l f s shows x.exchange.number) in
+        asked_one number l f s shows c x few (find_passes (is_asked_by c) f.waiting x a) (entry_waiting x.exchange.number f x here)
 
 -- ---- the next without a place
 
@@ -180,23 +180,23 @@ find_kept_by {A = A} p q (x ∷ xs) = by (q x) (find_kept_by p q xs)
     by true rest = ap (λ (o : Option A). cond (p x) (Some x) o) rest
     by false rest = rest
 
-numbers_same : (u : Option Entry) (v : Option Exchange) → AreBoth ShowsExchange u v → option_map (λ (x : Entry). x.exchange.number) u ≡ option_map (λ (e : Exchange). e.number) v
-numbers_same None None both = refl
-numbers_same None (Some e) both = absurd both
-numbers_same (Some x) None both = absurd both
-numbers_same (Some x) (Some e) both = ap (λ (n : ℕ). Some n) both.number
+numbers_same : (number : ℕ → ℕ) (u : Option Entry) (v : Option Exchange) → AreBoth (ShowsExchange number) u v → option_map (λ (x : Entry). x.exchange.number) u ≡ option_map (λ (e : Exchange). e.number) v
+numbers_same number None None both = refl
+numbers_same number None (Some e) both = absurd both
+numbers_same number (Some x) None both = absurd both
+numbers_same number (Some x) (Some e) both = ap (λ (n : ℕ). Some n) both.number
 
-same_after : (after : Option ℕ) (x : Entry) (e : Exchange) → ShowsExchange x e → is_after after x ≡ began_behind after e
-same_after None x e one = refl
-same_after (Some n) x e one = ap (λ (m : ℕ). nat_lt n m) one.number
+same_after : (number : ℕ → ℕ) (after : Option ℕ) (x : Entry) (e : Exchange) → ShowsExchange number x e → is_after after x ≡ began_behind after e
+same_after number None x e one = refl
+same_after number (Some n) x e one = ap (λ (m : ℕ). nat_lt n m) one.number
 
 pub nexts : NextsAreTheLaws
-nexts l f s shows after =
-    numbers_same (find (is_after after) f.waiting) (find (began_behind after) (filter has_none s.exchanges))
-    (found ShowsExchange ShowsExchange (is_after after) (began_behind after) f.waiting (filter has_none s.exchanges) (λ x e one. same_after after x e one) (λ x e one so. one) shows.waiting)
+nexts number l f s shows after =
+    numbers_same number (find (is_after after) f.waiting) (find (began_behind after) (filter has_none s.exchanges))
+    (found (ShowsExchange number) (ShowsExchange number) (is_after after) (began_behind after) f.waiting (filter has_none s.exchanges) (λ x e one. same_after number after x e one) (λ x e one so. one) shows.waiting)
     ∙ ap (λ (o : Option Exchange). option_map (λ (e : Exchange). e.number) o) (find_kept_by (began_behind after) has_none s.exchanges)
 
 -- ---- a line
 
 pub lines : LinesAreTheLaws
-lines l f s shows n index none = ap (λ (ns : List ℕ). slice_get ns index) (shows.lines n ∙ ap (λ (ns : List ℕ). ns ++ line_at s n) none)
+lines number l f s shows n index none = ap (λ (ns : List ℕ). slice_get ns index) (shows.lines n ∙ ap (λ (ns : List ℕ). ns ++ line_at s n) none)

@@ -19,8 +19,8 @@ use Rattle.pp_flow_law.proofs.Pairs.{both_as, both_mapped, pairs_changed}
 use Rattle.pp_flow_law.proofs.Standing.{entry_waiting, few_waiting}
 
 -- the entry of a number, and the law's exchange, may be changed so
-abbrev pub Turns : ℕ → Exchanges → (Entry → Entry) → (Exchange → Exchange) → Type 0
-Turns n f g h = (x : Entry) (e : Exchange) → entry_of n f ≡ Some x → ShowsExchange x e → ShowsExchange (g x) (h e)
+abbrev pub Turns : (ℕ → ℕ) → ℕ → Exchanges → (Entry → Entry) → (Exchange → Exchange) → Type 0
+Turns number n f g h = (x : Entry) (e : Exchange) → entry_of n f ≡ Some x → ShowsExchange number x e → ShowsExchange number (g x) (h e)
 
 abbrev pub changed_at : ℕ → (Entry → Entry) → Exchanges → Exchanges
 changed_at n g f = record f { waiting = changed n g f.waiting; placed = changed n g f.placed }
@@ -36,13 +36,13 @@ entry_changed n g f keeps =
 entry_changed_else : (n m : ℕ) (g : Entry → Entry) (f : Exchanges) → Keeps g → (m == n) ≡ false → entry_of m (changed_at n g f) ≡ entry_of m f
 entry_changed_else n m g f keeps isnt = ap₂ (λ (u v : Option Entry). first_of u v) (find_changed_else n m g keeps isnt f.waiting) (find_changed_else n m g keeps isnt f.placed)
 
-pub changes : (l : Leaving) (f : Exchanges) (s : State) → ShowsFlow l f s → (n : ℕ) (g : Entry → Entry) (h : Exchange → Exchange) → Keeps g → KeepsItsPlace h → Turns n f g h
-    → ShowsFlow l (changed_at n g f) (record s { exchanges = change (is_exchange n) h s.exchanges })
-changes l f s shows n g h keeps holds to = record {
+pub changes : (number : ℕ → ℕ) (l : Leaving) (f : Exchanges) (s : State) → ShowsFlow number l f s → (n : ℕ) (g : Entry → Entry) (h : Exchange → Exchange) → Keeps g → KeepsItsPlace h → Turns number n f g h
+    → ShowsFlow number l (changed_at n g f) (record s { exchanges = change (is_exchange n) h s.exchanges })
+changes number l f s shows n g h keeps holds to = record {
   each = λ m. at (m == n) m refl;
   waiting =
-      subst (λ (es : List Exchange). AreAll ShowsExchange (changed n g f.waiting) es) (sym (filter_change n h has_none (λ e. ap (λ (o : Option ℕ). has_none_in o) (holds e).1) s.exchanges))
-      (pairs_changed n g h f.waiting (filter has_none s.exchanges) (λ x e here. to x e (entry_waiting n f x here)) (few_waiting l f s shows n) shows.waiting);
+      subst (λ (es : List Exchange). AreAll (ShowsExchange number) (changed n g f.waiting) es) (sym (filter_change n h has_none (λ e. ap (λ (o : Option ℕ). has_none_in o) (holds e).1) s.exchanges))
+      (pairs_changed number n g h f.waiting (filter has_none s.exchanges) (λ x e here. to x e (entry_waiting n f x here)) (few_waiting number l f s shows n) shows.waiting);
   lines = λ m. line_changed n m g keeps f.placed ∙ shows.lines m;
   once = λ m. omega (arith, shows.once m, count_joined (is_number m) f.waiting f.placed, count_joined (is_number m) (changed n g f.waiting) (changed n g f.placed), counts m f.waiting, counts m f.placed);
   begun = shows.begun;
@@ -55,18 +55,18 @@ changes l f s shows n g h keeps holds to = record {
     counts : (m : ℕ) (es : List Entry) → count_by (is_number m) (changed n g es) ≡ count_by (is_number m) es
     counts m es = count_changed n g (is_number m) (λ x. ap (λ (i : ℕ). i == m) (keeps x).0) es
 
-    at : (b : Bool) (m : ℕ) → (m == n) ≡ b → AreBoth ShowsExchange (entry_of m (changed_at n g f)) (find (is_exchange m) (change (is_exchange n) h s.exchanges))
+    at : (b : Bool) (m : ℕ) → (m == n) ≡ b → AreBoth (ShowsExchange number) (entry_of m (changed_at n g f)) (find (is_exchange m) (change (is_exchange n) h s.exchanges))
     at true m is =
-        subst (λ (i : ℕ). AreBoth ShowsExchange (entry_of i (changed_at n g f)) (find (is_exchange i) (change (is_exchange n) h s.exchanges))) (sym (same_number m n is))
-        (both_as (entry_of n (changed_at n g f)) (option_map g (entry_of n f)) (find (is_exchange n) (change (is_exchange n) h s.exchanges)) (option_map h (exchange s n)) (entry_changed n g f keeps)
-        (find_change n h (λ e. (holds e).0) s.exchanges) (both_mapped ShowsExchange ShowsExchange g h (entry_of n f) (exchange s n) (λ x e here there. to x e here) (shows.each n)))
+        subst (λ (i : ℕ). AreBoth (ShowsExchange number) (entry_of i (changed_at n g f)) (find (is_exchange i) (change (is_exchange n) h s.exchanges))) (sym (same_number m n is))
+        (both_as number (entry_of n (changed_at n g f)) (option_map g (entry_of n f)) (find (is_exchange n) (change (is_exchange n) h s.exchanges)) (option_map h (exchange s n)) (entry_changed n g f keeps)
+        (find_change n h (λ e. (holds e).0) s.exchanges) (both_mapped (ShowsExchange number) (ShowsExchange number) g h (entry_of n f) (exchange s n) (λ x e here there. to x e here) (shows.each n)))
     at false m is =
-        both_as (entry_of m (changed_at n g f)) (entry_of m f) (find (is_exchange m) (change (is_exchange n) h s.exchanges)) (exchange s m) (entry_changed_else n m g f keeps is)
+        both_as number (entry_of m (changed_at n g f)) (entry_of m f) (find (is_exchange m) (change (is_exchange n) h s.exchanges)) (exchange s m) (entry_changed_else n m g f keeps is)
         (find_change_else n m h (λ e. (holds e).0) is s.exchanges) (shows.each m)
 
 pub leaves : LeavesAreTheLaws
 unfolding on_exchange
-leaves l f s shows n = changes l f s shows n nobodys left_alone (λ x. (refl, refl)) (λ e. (refl, refl)) (λ x e here one. record {
+leaves number l f s shows n = changes number l f s shows n nobodys left_alone (λ x. (refl, refl)) (λ e. (refl, refl)) (λ x e here one. record {
   number = one.number;
   asker = refl;
   aim = one.aim;

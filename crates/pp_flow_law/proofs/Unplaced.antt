@@ -32,24 +32,24 @@ all_kept n (m ∷ ns) none = by (m == n) none (λ f. all_kept n ns f)
     by true f rest = absurd cc
     by false f rest = ap (λ (os : List ℕ). m ∷ os) (rest f)
 
-unplaces_at : (l : Leaving) (f : Exchanges) (s : State) → ShowsFlow l f s → (n : ℕ) (x y : Entry) → find (is_number n) f.placed ≡ Some x → HasLeft n s → y.exchange.number ≡ n
-    → ((e : Exchange) → exchange s n ≡ Some e → ShowsExchange x e → ShowsExchange y (unplaced e)) → ShowsFlow (but n l) (out_at n y f) (on_exchange n unplaced s)
+unplaces_at : (number : ℕ → ℕ) (l : Leaving) (f : Exchanges) (s : State) → ShowsFlow number l f s → (n : ℕ) (x y : Entry) → find (is_number n) f.placed ≡ Some x → HasLeft n s → y.exchange.number ≡ n
+    → ((e : Exchange) → exchange s n ≡ Some e → ShowsExchange number x e → ShowsExchange number y (unplaced e)) → ShowsFlow number (but n l) (out_at n y f) (on_exchange n unplaced s)
 unfolding on_exchange
-unplaces_at l f s shows n x y here left num to = record {
+unplaces_at number l f s shows n x y here left num to = record {
   each = λ m. at (m == n) m refl;
   waiting =
-      pairs_entered n y unplaced has_none it.known 0 s.next_exchange f.waiting s.exchanges shows.given shows.waiting num (λ e. refl) it.there (placed_has l f s shows n x it.known here it.there) (to it.known it.there it.shows);
-  lines = λ m. line_but l f s shows n m ∙ ap (λ (ns : List ℕ). but n l m ++ ns) (all_kept n (line_at s m) (left m));
+      pairs_entered number n y unplaced has_none it.known 0 s.next_exchange f.waiting s.exchanges shows.given shows.waiting num (λ e. refl) it.there (placed_has number l f s shows n x it.known here it.there) (to it.known it.there it.shows);
+  lines = λ m. line_but number l f s shows n m ∙ ap (λ (ns : List ℕ). but n l m ++ ns) (all_kept n (line_at s m) (left m));
   once = λ m. few (m == n) m refl;
   begun = shows.begun;
   given = subst (λ (ns : List ℕ). AreGiven 0 s.next_exchange ns) (sym (numbers_change n unplaced (λ e. refl) s.exchanges)) shows.given;
 }
   where
     none_there : find (is_number n) f.waiting ≡ None
-    none_there = none_waits l f s shows n x here
+    none_there = none_waits number l f s shows n x here
 
-    it : IsShown s n x
-    it = is_shown l f s shows n x (entry_placed n f x none_there here)
+    it : IsShown number s n x
+    it = is_shown number l f s shows n x (entry_placed n f x none_there here)
 
     few : (b : Bool) (m : ℕ) → (m == n) ≡ b → count_by (is_number m) (entered y f.waiting ++ without_number n f.placed) ≤ 1
     few true m is =
@@ -60,29 +60,29 @@ unplaces_at l f s shows n x y here left num to = record {
           count_entered (is_number n) y f.waiting,
           at_most_one (is_number n y),
           none_found (is_number n) f.waiting none_there,
-          none_found (is_number n) (without_number n f.placed) (find_without n f.placed (few_placed l f s shows n)),
+          none_found (is_number n) (without_number n f.placed) (find_without n f.placed (few_placed number l f s shows n)),
         ))
     few false m is =
         let zero : count_by (is_number m) (entered y f.waiting) ≡ 0 + count_by (is_number m) f.waiting =
         count_entered (is_number m) y f.waiting ∙ ap (λ (i : ℕ). cond (i == m) 1 0 + count_by (is_number m) f.waiting) num ∙ ap (λ (b : Bool). cond b 1 0 + count_by (is_number m) f.waiting) (other_way m n is) in
         omega (arith, shows.once m, count_joined (is_number m) f.waiting f.placed, count_joined (is_number m) (entered y f.waiting) (without_number n f.placed), count_without n (is_number m) f.placed, zero)
 
-    at : (b : Bool) (m : ℕ) → (m == n) ≡ b → AreBoth ShowsExchange (entry_of m (out_at n y f)) (find (is_exchange m) (change (is_exchange n) unplaced s.exchanges))
+    at : (b : Bool) (m : ℕ) → (m == n) ≡ b → AreBoth (ShowsExchange number) (entry_of m (out_at n y f)) (find (is_exchange m) (change (is_exchange n) unplaced s.exchanges))
     at true m is =
-        subst (λ (i : ℕ). AreBoth ShowsExchange (entry_of i (out_at n y f)) (find (is_exchange i) (change (is_exchange n) unplaced s.exchanges))) (sym (same_number m n is))
-        (both_as (entry_of n (out_at n y f)) (Some y) (find (is_exchange n) (change (is_exchange n) unplaced s.exchanges)) (option_map unplaced (exchange s n))
+        subst (λ (i : ℕ). AreBoth (ShowsExchange number) (entry_of i (out_at n y f)) (find (is_exchange i) (change (is_exchange n) unplaced s.exchanges))) (sym (same_number m n is))
+        (both_as number (entry_of n (out_at n y f)) (Some y) (find (is_exchange n) (change (is_exchange n) unplaced s.exchanges)) (option_map unplaced (exchange s n))
         (ap (λ (u : Option Entry). first_of u (find (is_number n) (without_number n f.placed))) (find_entered n y (same_as y.exchange.number n num) f.waiting none_there))
         (find_change n unplaced (λ e. refl) s.exchanges)
-        (both_put s n x y unplaced (exchange s n) to (subst (λ (o : Option Entry). AreBoth ShowsExchange o (exchange s n)) (entry_placed n f x none_there here) (shows.each n))))
+        (both_put number s n x y unplaced (exchange s n) to (subst (λ (o : Option Entry). AreBoth (ShowsExchange number) o (exchange s n)) (entry_placed n f x none_there here) (shows.each n))))
     at false m is =
-        both_as (entry_of m (out_at n y f)) (entry_of m f) (find (is_exchange m) (change (is_exchange n) unplaced s.exchanges)) (exchange s m)
+        both_as number (entry_of m (out_at n y f)) (entry_of m f) (find (is_exchange m) (change (is_exchange n) unplaced s.exchanges)) (exchange s m)
         (ap₂ (λ (u v : Option Entry). first_of u v) (find_entered_else m y (ap (λ (i : ℕ). i == m) num ∙ other_way m n is) f.waiting) (find_without_else n m is f.placed))
         (find_change_else n m unplaced (λ e. refl) is s.exchanges) (shows.each m)
 
 -- what the program makes of them
-is_out_at : (l : Leaving) (f : Exchanges) (s : State) → ShowsFlow l f s → (n : ℕ) (x : Entry) (r : Errand) → find (is_number n) f.placed ≡ Some x
+is_out_at : (number : ℕ → ℕ) (l : Leaving) (f : Exchanges) (s : State) → ShowsFlow number l f s → (n : ℕ) (x : Entry) (r : Errand) → find (is_number n) f.placed ≡ Some x
     → with_errand n r (without_place n f) ≡ out_at n (asking r (with_place None x)) f
-is_out_at l f s shows n x r here =
+is_out_at number l f s shows n x r here =
     ap (λ (o : Option Entry). with_errand n r (elim o as (λ u. Exchanges) [ None ↦ f | Some e ↦ record f { waiting = entered (with_place None e) f.waiting; placed = without_number n f.placed } ])) here
     ∙ ap (λ (b : Bool). cond b (record f { waiting = changed n (asking r) (entered (with_place None x) f.waiting); placed = without_number n f.placed })
     (record f { waiting = entered (with_place None x) f.waiting; placed = changed n (asking r) (without_number n f.placed) }))
@@ -93,12 +93,12 @@ is_out_at l f s shows n x r here =
     its = find_passes (is_number n) f.placed x here
 
     none_there : find (is_number n) f.waiting ≡ None
-    none_there = none_waits l f s shows n x here
+    none_there = none_waits number l f s shows n x here
 
 pub unplaces : UnplacesAreTheLaws
-unplaces l f s shows n x here left =
-    subst (λ (g : Exchanges). ShowsFlow (but n l) g (on_exchange n unplaced s)) (sym (is_out_at l f s shows n x (record x.errand { asked = 0 }) here))
-    (unplaces_at l f s shows n x (asking (record x.errand { asked = 0 }) (with_place None x)) here left (same_number x.exchange.number n (find_passes (is_number n) f.placed x here)) (λ d there one. record {
+unplaces number l f s shows n x here left =
+    subst (λ (g : Exchanges). ShowsFlow number (but n l) g (on_exchange n unplaced s)) (sym (is_out_at number l f s shows n x (record x.errand { asked = 0 }) here))
+    (unplaces_at number l f s shows n x (asking (record x.errand { asked = 0 }) (with_place None x)) here left (same_number x.exchange.number n (find_passes (is_number n) f.placed x here)) (λ d there one. record {
       number = one.number;
       asker = one.asker;
       aim = one.aim;

@@ -12,11 +12,11 @@ pub record IsSameFlow (l : Leaving) (s : State) (o : Leaving) (t : State) : Type
   pub lines : (n : ℕ) → o n ++ line_at t n ≡ l n ++ line_at s n
 
 abbrev pub FramesAreTheLaws : Type 0
-FramesAreTheLaws = OfFlows (λ l f s. (o : Leaving) (t : State) → IsSameFlow l s o t → ShowsFlow o f t)
+FramesAreTheLaws = OfFlows (λ number l f s. (o : Leaving) (t : State) → IsSameFlow l s o t → ShowsFlow number o f t)
 
 -- a connection is dialled, whose number no other has
 abbrev pub DialsAreTheLaws : Type 0
-DialsAreTheLaws = OfFlows (λ l f s. (k : Conn) → conn s k.number ≡ None → k.line ≡ [] → ShowsFlow l f (record s { conns = s.conns ++ k ∷ [] }))
+DialsAreTheLaws = OfFlows (λ number l f s. (k : Conn) → conn s k.number ≡ None → k.line ≡ [] → ShowsFlow number l f (record s { conns = s.conns ++ k ∷ [] }))
 
 -- its line still has to leave it
 abbrev pub still : ℕ → List ℕ → Leaving → Leaving
@@ -27,8 +27,8 @@ abbrev pub emptied : Conn → Conn
 emptied k = record k { is_closing = true; line = []; answer = None; unread = [] }
 
 abbrev pub ClosingsAreTheLaws : Type 0
-ClosingsAreTheLaws = OfFlows (λ l f s. (n : ℕ) → ShowsFlow (still n (line_at s n) l) f (on_conn n emptied s))
+ClosingsAreTheLaws = OfFlows (λ number l f s. (n : ℕ) → ShowsFlow number (still n (line_at s n) l) f (on_conn n emptied s))
 
 -- it is gone
 abbrev pub DropsAreTheLaws : Type 0
-DropsAreTheLaws = OfFlows (λ l f s. (n : ℕ) → ShowsFlow (still n (line_at s n) l) f (out n s))
+DropsAreTheLaws = OfFlows (λ number l f s. (n : ℕ) → ShowsFlow number (still n (line_at s n) l) f (out n s))

@@ -34,16 +34,17 @@ line_in (Some k) = k.line
 abbrev pub line_at : State → ℕ → List ℕ
 line_at s n = line_in (conn s n)
 
--- by number, each shows the law's; those without a place show the law's without one, in the order of their beginnings; those of a
--- connection are its line, in the order in which they came to it. No two have one number, and the next gets that behind all
-pub record ShowsFlow (l : Leaving) (f : Exchanges) (s : State) : Type 0 where
-  pub each : (n : ℕ) → AreBoth ShowsExchange (entry_of n f) (exchange s n)
-  pub waiting : AreAll ShowsExchange f.waiting (filter has_none s.exchanges)
+-- by the law's numbers of lives. By its own number, each shows the law's; those without a place show the law's without one, in the
+-- order of their beginnings; those of a connection are its line, in the order in which they came to it. No two have one number, and
+-- the next gets that behind all
+pub record ShowsFlow (number : ℕ → ℕ) (l : Leaving) (f : Exchanges) (s : State) : Type 0 where
+  pub each : (n : ℕ) → AreBoth (ShowsExchange number) (entry_of n f) (exchange s n)
+  pub waiting : AreAll (ShowsExchange number) f.waiting (filter has_none s.exchanges)
   pub lines : (n : ℕ) → line_of n f.placed ≡ l n ++ line_at s n
   pub once : (n : ℕ) → count_by (is_number n) (f.waiting ++ f.placed) ≤ 1
   pub begun : f.begun ≡ s.next_exchange
   pub given : AreGiven 0 s.next_exchange (map (λ e. e.number) s.exchanges)
 
 -- of all that do
-abbrev pub OfFlows : (Leaving → Exchanges → State → Type 0) → Type 0
-OfFlows P = (l : Leaving) (f : Exchanges) (s : State) → ShowsFlow l f s → P l f s
+abbrev pub OfFlows : ((ℕ → ℕ) → Leaving → Exchanges → State → Type 0) → Type 0
+OfFlows P = (number : ℕ → ℕ) (l : Leaving) (f : Exchanges) (s : State) → ShowsFlow number l f s → P number l f s

@@ -3,7 +3,8 @@
 //! `specs/Tables.antt` is the relation: the value of a `Flow` shows the exchanges and lines of `pp_law`, in the words of both (that
 //! one entry shows one exchange is said in `pp_seats_law`). From it follows that what the program reads of its exchanges is what the
 //! law reads of its own: how many there are, the one with a number, whether it has a place, that of a client, the next without a
-//! place, and what stands in a line; and that what a call leaves of them shows what the law's own function makes of its own.
+//! place, and what stands in a line; and that what a call leaves of them shows what the law's own function makes of its own. Each
+//! life of the program has a number of the law, whichever that is: the relation takes these numbers first, and keeps them.
 //!
 //! To the layer above: each equation is the clause of a function that does nothing. It is one part of the proof that the program
 //! obeys the law: of clients, rows, pipes and turns nothing is said here. The words of the program stand in `pp_flow`, which says
