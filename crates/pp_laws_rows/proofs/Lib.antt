@@ -3,3 +3,4 @@ mod Held
 mod Lines
 mod Passed
 mod Waits
+mod Whole
