@@ -226,7 +226,8 @@ line_after s e m (n ∷ line) (ask ∷ asks) shows once next few =
           subst (λ (i : ℕ). ShowsLine (after s e m) line (all_taken i asks)) (sym (all_more m d.asked ask.text_left ask.body_left (length d.text) shown.body shown.text whole)) (again next few),
         )
 
-abbrev rest_in : Option Exchange → Bytes
+-- what is left of it
+abbrev pub rest_in : Option Exchange → Bytes
 rest_in o = elim o as (λ x. Bytes) [ None ↦ [] | Some x ↦ drop x.asked x.text ]
 
 few_left : (m : ℕ) (e : Exchange) → m ≤ length e.text - e.asked → m ≤ length (drop e.asked e.text)

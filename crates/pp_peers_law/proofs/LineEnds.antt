@@ -1,26 +1,20 @@
 -- What becomes of the line of a connection.
-use Rattle.std.proofs.Common.{◌≡◌, refl, sym, subst, ap, ap₂, ◌∙◌, ℕ, ◌+◌, Bool, true, false, ◌==◌, ◌||◌, length, drop, take, List, [], ◌∷◌, ◌++◌, Some, None, Option, arith}
+use Rattle.std.proofs.Common.{◌≡◌, refl, sym, subst, ap, ap₂, ◌∙◌, ℕ, ◌+◌, Bool, true, false, ◌==◌, ◌||◌, length, drop, take, List, [], ◌∷◌, ◌++◌, Some, Option, arith}
 use Rattle.std.proofs.lemmas.List.{append_assoc, append-nil}
 use Rattle.pp_law.specs.Connections.{end_exchange, exchange, is_outstanding, on_conn, on_exchange, put_on}
-use Rattle.pp_law.specs.Lists.{Bytes, has_number, is_some_with}
+use Rattle.pp_law.specs.Lists.{Bytes, has_number}
 use Rattle.pp_law.specs.Requests.{goes_alone}
 use Rattle.pp_law.specs.Responses.{asks_head}
 use Rattle.pp_law.specs.State.{State, Exchange}
 use Rattle.pp_peers.specs.declared.peers.Peer.{Peer}
-use Rattle.pp_peers_law.proofs.Asks.{no_text, nothing_more}
-use Rattle.pp_peers_law.proofs.Finds.{find_elsewhere, find_there, find_without, no_or, other_way}
+use Rattle.pp_peers_law.proofs.Asks.{no_text, nothing_more, rest_in}
+use Rattle.pp_peers_law.proofs.Finds.{is_alone_in, find_elsewhere, find_there, find_without, no_or, other_way}
 use Rattle.pp_peers_law.specs.Asked.{AreDistinct}
 use Rattle.pp_peers_law.specs.Lines.{EndsAreTheLaws, PutsAreTheLaws, ShowsRest}
 use Rattle.pp_peers_law.specs.Peers.{has_alone, rest_of, rests_of, ShowsAsk, ShowsLine, ShowsPipe}
 use Rattle.pp_pipe.specs.Asks.{fresh, total}
 use Rattle.pp_pipe.specs.declared.asks.Ask.{Ask}
 use Rattle.pp_pipe.specs.declared.fate.Fate.{Fate}
-
-abbrev rest_in : Option Exchange → Bytes
-rest_in o = elim o as (λ x. Bytes) [ None ↦ [] | Some x ↦ drop x.asked x.text ]
-
-abbrev alone_in : Option Exchange → Bool
-alone_in o = is_some_with (λ x. goes_alone x.head) o
 
 -- ---- an exchange comes to it
 
@@ -55,11 +49,11 @@ texts s e k (n ∷ line) found none =
     ∙ sym (append_assoc (rest_of s n) (rests_of s line) e.text)
 
 alone : (s : State) (e : Exchange) (k : ℕ) (line : List ℕ) → exchange s e.number ≡ Some e → has_number e.number line ≡ false → goes_alone e.head ≡ false → has_alone s line ≡ false → has_alone (put_on e.number k s) (line ++ e.number ∷ []) ≡ false
-alone s e k [] found none others before = ap (λ (o : Option Exchange). alone_in o || false) (there s e k found) ∙ ap (λ (b : Bool). b || false) others
+alone s e k [] found none others before = ap (λ (o : Option Exchange). is_alone_in o || false) (there s e k found) ∙ ap (λ (b : Bool). b || false) others
 alone s e k (n ∷ line) found none others before =
     let these : ((n == e.number) ≡ false) × (has_number e.number line ≡ false) = no_or (n == e.number) (has_number e.number line) none in
-    let those : (alone_in (exchange s n) ≡ false) × (has_alone s line ≡ false) = no_or (alone_in (exchange s n)) (has_alone s line) before in
-    ap₂ (λ (a b : Bool). a || b) (ap alone_in (elsewhere s e k n (other_way n e.number these.0)) ∙ those.0) (alone s e k line found these.1 others those.1)
+    let those : (is_alone_in (exchange s n) ≡ false) × (has_alone s line ≡ false) = no_or (is_alone_in (exchange s n)) (has_alone s line) before in
+    ap₂ (λ (a b : Bool). a || b) (ap is_alone_in (elsewhere s e k n (other_way n e.number these.0)) ∙ those.0) (alone s e k line found these.1 others those.1)
 
 pub puts : PutsAreTheLaws
 puts s p k e shows is_open coming =

@@ -1,5 +1,5 @@
 -- What a connection carries, and where an ask goes.
-use Rattle.std.proofs.Common.{◌≡◌, refl, sym, ap, ap₂, ◌∙◌, ℕ, ◌+◌, Bool, true, false, ◌==◌, ◌&&◌, ◌||◌, not, cond, length, map, count_by, fold, suc, List, [], ◌∷◌, Some, Option, arith}
+use Rattle.std.proofs.Common.{◌≡◌, refl, sym, ap, ap₂, ◌∙◌, ℕ, ◌+◌, Bool, true, false, ◌==◌, ◌&&◌, not, cond, length, map, count_by, fold, suc, List, [], ◌∷◌, Some, Option, arith}
 use Rattle.std.specs.List.{list_any}
 use Rattle.std.proofs.lemmas.Bool.Decides.{nat_tests}
 use Rattle.pp_law.specs.Connections.{exchange, is_outstanding as is_asked, load_of, with_load, limits}
@@ -10,6 +10,7 @@ use Rattle.pp_peers.specs.Peers.{Loaded, load_of as load_in, with_load as with_l
 use Rattle.pp_peers.specs.Placing.{place}
 use Rattle.pp_peers.specs.declared.peers.Load.{Load}
 use Rattle.pp_peers.specs.declared.peers.Peer.{Peer}
+use Rattle.pp_peers_law.proofs.Finds.{no_or}
 use Rattle.pp_peers_law.specs.Peers.{has_alone, ShowsAsk, ShowsConn, ShowsLine, ShowConns, ShowsPipe}
 use Rattle.pp_peers_law.specs.Places.{is_closing, LoadsAreTheLaws, PlacesAreTheLaws}
 use Rattle.pp_pipe.specs.Asks.{is_outstanding}
@@ -66,10 +67,6 @@ loads s p k shows is_open =
     ∙ ap (λ (l : Load). record { number = k.number; host = k.host; port = k.port; load = l }) (load s p k shows (shows.pipe is_open))
 
 -- ---- of all
-
-no_or : (a b : Bool) → a || b ≡ false → (a ≡ false) × (b ≡ false)
-no_or true b is = let both : true ≡ false = is in cc both
-no_or false b is = (refl, is)
 
 all_loads : (s : State) (ps : List Peer) (ks : List Conn) → ShowConns s ps ks → list_any is_closing ks ≡ false → map with_load_in ps ≡ map (with_load s) (without is_closing ks)
 all_loads s [] [] shows none = refl
