@@ -26,7 +26,7 @@ WaitsAreTheLaws = OfFlows (λ number l f s. (n : ℕ) → is_some (find (is_numb
 abbrev pub PlacesAreTheLaws : Type 0
 PlacesAreTheLaws = OfFlows (λ number l f s. (n : ℕ) → is_some (find (is_number n) f.placed) ≡ is_some_with has_place (exchange s n))
 
--- "the exchange begun last is the only one of its request": the number of that of a client
+-- the exchange begun last is the only one of its request: the number of that of a client
 abbrev pub AskersAreTheLaws : Type 0
 AskersAreTheLaws = OfFlows (λ number l f s. (c : ℕ) → count_by (is_of c) s.exchanges ≤ 1
     → option_map (λ x. x.exchange.number) (first_of (find (is_asked_by c) f.waiting) (find (is_asked_by c) f.placed)) ≡ option_map (λ e. e.number) (find (is_of c) s.exchanges))

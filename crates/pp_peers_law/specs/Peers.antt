@@ -39,7 +39,8 @@ abbrev pub rests_of : State → List ℕ → Bytes
 rests_of s [] = []
 rests_of s (n ∷ line) = rest_of s n ++ rests_of s line
 
--- "any request that takes a connection for itself" is asked on a new one (section 8.1.2.2), so that nothing is asked behind it
+-- "Clients SHOULD NOT pipeline requests using non-idempotent methods" (section 8.1.2.2): one that goes alone is asked on a new
+-- connection, and nothing is asked behind it
 abbrev pub has_alone : State → List ℕ → Bool
 has_alone s line = list_any (λ n. is_some_with (λ e. goes_alone e.head) (exchange s n)) line
 
