@@ -50,6 +50,7 @@ known_none cs total none = record {
   led = λ o lt. absurd (omega (arith, lt));
   ends = λ lt. none_in cs none 0;
   empty = λ o le. none_in cs none o;
+  reached = omega arith;
 }
 
 -- a chunk that is out is counted no more

@@ -8,6 +8,10 @@ use Rattle.pp_holes.specs.Cells.{cell_of, filled_of, is_in_memory}
 abbrev pub held_in : List (Option Cell) → ℕ
 held_in cs = sum_by filled_of cs
 
+-- nothing is in memory behind the end of the instance
+abbrev pub EndsWithin : List (Option Cell) → ℕ → Type 0
+EndsWithin cs total = (o : ℕ) → total ≤ o → is_in_memory cs o ≡ false
+
 -- so many offsets are in memory; the leading run of them ends at `lead`, and none is from `reach` on
 pub record AreKnown (cs : List (Option Cell)) (total held lead reach : ℕ) : Type 0 where
   pub count : held ≡ held_in cs
@@ -15,6 +19,7 @@ pub record AreKnown (cs : List (Option Cell)) (total held lead reach : ℕ) : Ty
   pub led : (o : ℕ) → o < lead → is_in_memory cs o ≡ true
   pub ends : lead < total → is_in_memory cs lead ≡ false
   pub empty : (o : ℕ) → reach ≤ o → is_in_memory cs o ≡ false
+  pub reached : reach ≤ total
 
 -- the chunk of this index comes to hold so many bytes, no fewer than before; all others stay
 pub record IsRaised (cs ds : List (Option Cell)) (i n : ℕ) : Type 0 where

@@ -4,7 +4,7 @@ ghost use Rattle.pp_holes.specs.Places.{shown, bytes_at, without, touched};
 ghost use Rattle.pp_holes.specs.Adding.{added};
 ghost use Rattle.pp_holes.specs.Cells.{Agrees, empty_table, cell_of, filled_of, is_in_memory, foreign};
 ghost use Rattle.pp_holes.specs.Holes.{IsFirstHole};
-ghost use Rattle.pp_holes.specs.Spans.{held_in};
+ghost use Rattle.pp_holes.specs.Spans.{EndsWithin, held_in};
 
 use crate::cell::{Cell, cell_in, filled_in, take_cell};
 use crate::hole::{first_missing, held_from, missing_from};
@@ -78,6 +78,7 @@ impl Cells {
         ensures joined { result.joined ≡ (added pool.old.size self.old.owner at bytes.now (shown pool.old.used)).joined }
         ensures ignored { result.ignored ≡ (added pool.old.size self.old.owner at bytes.now (shown pool.old.used)).ignored }
         ensures need_chunk { result.need_chunk ≡ (added pool.old.size self.old.owner at bytes.now (shown pool.old.used)).need_chunk }
+        ensures ends { EndsWithin self.new.cells self.new.total }
     {
         let added = add_bytes(&mut self.cells, pool, self.owner, at, bytes);
         self.held += added.joined;
@@ -129,6 +130,7 @@ impl Cells {
         ensures size { pool.new.size ≡ pool.old.size }
         ensures others { foreign self.old.owner pool.new.used ≡ foreign self.old.owner pool.old.used }
         ensures dropped { shown pool.new.used ≡ without (self.old.owner, index) (shown pool.old.used) }
+        ensures ends { EndsWithin self.new.cells self.new.total }
     {
         self.held -= u64::from(filled_in(&self.cells, index as usize));
         give_at(&mut self.cells, pool, self.owner, index);
