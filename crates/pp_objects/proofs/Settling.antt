@@ -1,5 +1,5 @@
 -- A new row joins, and the former one of its key is retired.
-use Rattle.std.proofs.Common.{ℕ, ◌≡◌, Bool, true, false, ◌==◌, not, cond, List, [], ◌∷◌, ◌++◌, replicate, arith, refl, sym, ◌∙◌, ap, subst, Option, Some, None, ◌⊎◌, inl, inr}
+use Rattle.std.proofs.Common.{ℕ, zero, suc, ◌/◌, ◌%◌, ◌≡◌, nat_lt, Bool, true, false, ◌==◌, not, cond, List, [], ◌∷◌, ◌++◌, replicate, arith, refl, sym, ◌∙◌, ap, subst, Option, Some, None, ◌⊎◌, inl, inr}
 use Rattle.std.specs.Prelude.{option_map}
 use Rattle.std.specs.List.{find}
 use Rattle.std.proofs.lemmas.Grind.{common_steps}
@@ -10,7 +10,7 @@ use Rattle.pp_fresh.specs.declared.aging.Times.{Times}
 use Rattle.pp_pool.specs.Chunks.{Used}
 use Rattle.pp_holes.specs.declared.cell.Cell.{Cell}
 use Rattle.pp_holes.specs.Places.{Chunk}
-use Rattle.pp_holes.specs.Cells.{Agrees, Table}
+use Rattle.pp_holes.specs.Cells.{Agrees, Table, cell_of, chunks_of, filled_of, is_in_memory}
 use Rattle.pp_holes.proofs.Owned.{none_at}
 use Rattle.pp_holes.proofs.Agreement.{agrees_new}
 use Rattle.pp_objects.specs.declared.id.ObjectId.{ObjectId}
@@ -28,10 +28,22 @@ pub new_as : (r : Row) (id : ObjectId) (key : List ℕ) (version : Version) (fie
 new_as r id key version fields times n =
     rw (n.life, n.key, n.version, n.fields, n.times, n.current, n.unfollowed, n.cells) refl
 
+not_below : (n : ℕ) → nat_lt n 0 ≡ false
+not_below n = grind (arith, common_steps)
+
+none_there : (n i : ℕ) → filled_of (cell_of (replicate n None) i) ≡ 0
+none_there zero i = refl
+none_there (suc n) zero = refl
+none_there (suc n) (suc i) = none_there n i
+
+none_in : (n o : ℕ) → is_in_memory (replicate n None) o ≡ false
+none_in n o = ap (nat_lt (o % 4096)) (none_there n (o / 4096)) ∙ not_below (o % 4096)
+
 pub new_owned : (r : Row) (slot life : ℕ) (key : List ℕ) (version : Version) (fields : List Field) (times : Times) → IsNew r slot life key version fields times → IsOwned slot r
 new_owned r slot life key version fields times n = record {
   owner = ap (λ (t : Table). t.owner) n.cells;
   total = ap (λ (t : Table). t.total) n.cells ∙ ap (λ (v : Version). v.length) (sym n.version);
+  ends = λ o behind. ap (λ (t : Table). is_in_memory t.cells o) n.cells ∙ none_in (chunks_of version.length) o;
 }
 
 still_by : (b : Bool) (p : Instance → Bool) (j i : Instance) (is js : List Instance) → cond b (Some j) (find p is) ≡ Some i → (find p is ≡ Some i → find p (is ++ js) ≡ Some i) → cond b (Some j) (find p (is ++ js)) ≡ Some i

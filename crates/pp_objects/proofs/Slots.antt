@@ -1,12 +1,15 @@
 -- What stands in a slot, as the list of instances shows it.
-use Rattle.std.proofs.Common.{ℕ, ◌<◌, ◌≡◌, true, false, ◌==◌, List, [], ◌∷◌, length, map, get_or, set, arith, refl, sym, ◌∙◌, ap, zero, suc, Option, Some, None}
+use Rattle.std.proofs.Common.{ℕ, ◌<◌, ◌≡◌, true, false, ◌==◌, List, [], ◌∷◌, length, map, get_or, set, arith, refl, sym, ◌∙◌, ap, subst, zero, suc, Option, Some, None}
 use Rattle.std.specs.Prelude.{is_some, option_map}
 use Rattle.std.specs.List.{find}
 use Rattle.std.proofs.lemmas.Grind.{common_steps}
 use Rattle.std.proofs.lemmas.List.{get_or-set_same, get_or-set_other}
 use Rattle.pp_pool.specs.Chunks.{is_in}
 use Rattle.pp_pool.proofs.Order.{seen-found}
+use Rattle.pp_holes.specs.Cells.{is_in_memory}
+use Rattle.pp_holes.specs.Spans.{EndsWithin}
 use Rattle.pp_holes.specs.declared.cell.Cell.{Cell}
+use Rattle.pp_objects.specs.Bounds.{AreLow, AreWithin}
 use Rattle.pp_objects.specs.declared.row.Row.{Row}
 use Rattle.pp_objects.specs.declared.objects.Objects.TheInside.{Inside}
 use Rattle.pp_objects.specs.declared.id.ObjectId.{ObjectId}
@@ -106,3 +109,22 @@ found_at o v i e lt =
 
 pub some_row : (o : Inside) (v : Rows) (s : ℕ) → IsSound o → rows_in o ≡ v → is_some (in_slot s v.instances) ≡ true → None ≡ row_at o.rows.slots s → ⊥
 some_row o v s sound e there is = false_true (sym (ap is_some (seen_row o v s None sound e is)) ∙ there)
+
+-- where nothing stands, nothing is in memory
+nothing_at : (o : ℕ) → is_in_memory [] o ≡ false
+nothing_at o = grind (arith, common_steps)
+
+-- the instance of an id stands in a low slot
+pub low_slots : (o : Inside) (v : Rows) → IsSound o → rows_in o ≡ v → AreLow v.instances
+low_slots o v sound e id there = sound.low id.slot (in_order o v id sound e there)
+
+ends_by : (o : Inside) (v : Rows) (s : ℕ) (x : Option Row) → IsSound o → rows_in o ≡ v → x ≡ row_at o.rows.slots s → EndsWithin (cells_at s v.instances) (total_at s v.instances)
+ends_by o v s None sound e is = let P : Option Instance → Type 0 = λ x. EndsWithin (cells_of x) (total_of x) in subst P (sym (seen_row o v s None sound e is)) (λ at behind. nothing_at at)
+ends_by o v s (Some r) sound e is =
+    let P : Option Instance → Type 0 = λ x. EndsWithin (cells_of x) (total_of x) in
+    let Q : ℕ → Type 0 = λ n. EndsWithin r.cells.cells n in
+    subst P (sym (seen_row o v s (Some r) sound e is)) (subst Q (sound.owned s r (sym is)).total (sound.owned s r (sym is)).ends)
+
+-- nothing is in memory behind the end of the instance in a slot
+pub ends_within : (o : Inside) (v : Rows) → IsSound o → rows_in o ≡ v → AreWithin v.instances
+ends_within o v sound e s = ends_by o v s (row_at o.rows.slots s) sound e refl

@@ -56,6 +56,7 @@ sound-set o p k r s sound is own rows order =
       owned = λ n t e. owned_by o.rows.slots p.rows.slots k s n t here rest own sound.owned e (cases_eq n k);
       count = ap (λ qs. count_by is_some qs) slots ∙ count_set o.rows.slots k r s is ∙ sound.count ∙ ap length (sym items);
       few = rw order sound.few;
+      low = λ n e. sound.low n (ap (is_in n) (sym items) ∙ e);
       room = omega (arith, sound.room, ap (λ (b : Slab Row). b.capacity) rows);
       order_room = rw order sound.order_room;
     }
@@ -84,13 +85,14 @@ sound-same o p sound rows order =
       owned = λ n t e. sound.owned n t (ap (λ qs. row_at qs n) (sym slots) ∙ e);
       count = ap slab_len rows ∙ sound.count ∙ rw order refl;
       few = rw order sound.few;
+      low = rw order sound.low;
       room = rw rows sound.room;
       order_room = rw order sound.order_room;
     }
 
 -- the former row of a key is set aside
 aside_owned : (o : Inside) (k : ℕ) (r : Row) → IsSound o → row_at o.rows.slots k ≡ Some r → IsOwned k (record r { is_retired = true })
-aside_owned o k r sound is = record { owner = (sound.owned k r is).owner; total = (sound.owned k r is).total }
+aside_owned o k r sound is = record { owner = (sound.owned k r is).owner; total = (sound.owned k r is).total; ends = (sound.owned k r is).ends }
 
 sound_by : (o p : Inside) (k : ℕ) (x : Option Row) → IsSound o → row_at o.rows.slots k ≡ x → is_some x ≡ true
     → ((r : Row) → row_at o.rows.slots k ≡ Some r → p.rows ≡ with_value o.rows k (record r { is_retired = true })) → p.order ≡ o.order → IsSound p
@@ -131,6 +133,7 @@ sound-moved o p k sound inside rows order cap =
       owned = λ n t e. sound.owned n t (ap (λ qs. row_at qs n) (sym slots) ∙ e);
       count = omega (arith, ap slab_len rows, sound.count, ap length order, length_push (filter (is_not k) o.order.items) k, length-filter_present k o.order.items inside, length-filter_distinct k o.order.items sound.distinct);
       few = omega (arith, sound.few, ap length order, length_push (filter (is_not k) o.order.items) k, length-filter_present k o.order.items inside);
+      low = λ n e. sound.low n (sym (ap (is_in n) order ∙ moved_in k n o.order.items inside (cases_eq n k)) ∙ e);
       room = rw rows sound.room;
       order_room = omega (arith, cap, sound.order_room);
     }
@@ -150,6 +153,13 @@ gone_in : (k n : ℕ) (ns : List ℕ) (rs qs : List (Option Row)) → row_at qs 
 gone_in k n ns rs qs gone rest old (inl q) = ap (λ m. is_in m (filter (is_not k) ns)) q ∙ is_in_filter_same k ns ∙ sym (ap is_some (ap (row_at qs) q ∙ gone))
 gone_in k n ns rs qs gone rest old (inr q) = is_in_filter_other k n ns q ∙ old ∙ sym (ap is_some (rest n q))
 
+true_false : true ≡ false → ⊥
+true_false e = absurd cc
+
+left_in : (k n : ℕ) (ns : List ℕ) → is_in n (filter (is_not k) ns) ≡ true → (n ≡ k) ⊎ (n ≡ k → ⊥) → is_in n ns ≡ true
+left_in k n ns e (inl q) = absurd (true_false (sym e ∙ ap (λ m. is_in m (filter (is_not k) ns)) q ∙ is_in_filter_same k ns))
+left_in k n ns e (inr q) = sym (is_in_filter_other k n ns q) ∙ e
+
 none_some : (t : Row) → None ≡ Some t → ⊥
 none_some t e = absurd cc
 
@@ -166,6 +176,7 @@ sound-removed o p k sound inside gone rest less same order cap = record {
   owned = λ n t e. owned_still k n o.rows.slots p.rows.slots t gone rest sound.owned e (cases_eq n k);
   count = omega (arith, less, sound.count, ap length order, length-filter_present k o.order.items inside, length-filter_distinct k o.order.items sound.distinct);
   few = omega (arith, sound.few, ap length order, length-filter_present k o.order.items inside);
+  low = λ n e. sound.low n (left_in k n o.order.items (sym (ap (is_in n) order) ∙ e) (cases_eq n k));
   room = omega (arith, same, sound.room);
   order_room = omega (arith, cap, sound.order_room);
 }
@@ -185,14 +196,19 @@ new_in k n ns rs qs s here rest old (inl q) =
     ap (λ m. is_in m (ns ++ k ∷ [])) q ∙ is_in-push k k ns ∙ (grind (arith, common_steps)) ∙ sym (ap is_some (ap (row_at qs) q ∙ here))
 new_in k n ns rs qs s here rest old (inr q) = is_in-push n k ns ∙ (grind (arith, common_steps)) ∙ old ∙ sym (ap is_some (rest n q))
 
+low_by : (k n : ℕ) (ns : List ℕ) → k < 1345 → (is_in n ns ≡ true → n < 1345) → is_in n (ns ++ k ∷ []) ≡ true → (n ≡ k) ⊎ (n ≡ k → ⊥) → n < 1345
+low_by k n ns less old e (inl q) = omega (arith, less, q)
+low_by k n ns less old e (inr q) = old (grind (arith, common_steps, e, is_in-push n k ns))
+
 pub sound-joined : (o p : Inside) (k : ℕ) (s : Row) → IsSound o → row_at o.rows.slots k ≡ None → row_at p.rows.slots k ≡ Some s → ((n : ℕ) → (n ≡ k → ⊥) → row_at p.rows.slots n ≡ row_at o.rows.slots n)
-    → IsOwned k s → length o.order.items < 1345 → slab_len p.rows ≡ slab_len o.rows + 1 → p.rows.capacity ≡ o.rows.capacity → p.order.items ≡ o.order.items ++ k ∷ [] → vec_capacity p.order ≡ vec_capacity o.order → IsSound p
-sound-joined o p k s sound vacant here rest own few more same order cap = record {
+    → IsOwned k s → length o.order.items < 1345 → k < 1345 → slab_len p.rows ≡ slab_len o.rows + 1 → p.rows.capacity ≡ o.rows.capacity → p.order.items ≡ o.order.items ++ k ∷ [] → vec_capacity p.order ≡ vec_capacity o.order → IsSound p
+sound-joined o p k s sound vacant here rest own few less more same order cap = record {
   distinct = rw order (AreDistinct-push k o.order.items sound.distinct (sound.there k ∙ ap is_some vacant));
   there = λ n. ap (is_in n) order ∙ new_in k n o.order.items o.rows.slots p.rows.slots s here rest (sound.there n) (cases_eq n k);
   owned = λ n t e. owned_by o.rows.slots p.rows.slots k s n t here rest own sound.owned e (cases_eq n k);
   count = omega (arith, more, sound.count, ap length order, length_push o.order.items k);
   few = omega (arith, few, ap length order, length_push o.order.items k);
+  low = λ n e. low_by k n o.order.items less (sound.low n) (sym (ap (is_in n) order) ∙ e) (cases_eq n k);
   room = omega (arith, same, sound.room);
   order_room = omega (arith, cap, sound.order_room);
 }

@@ -1,5 +1,5 @@
 -- How the instances are kept: a slab of rows by slot, and the slots in the order of use.
-use Rattle.std.specs.Prelude.{ℕ, Bool, ◌≤◌, ◌≡◌, ◌==◌, true, false, List, [], length, map, get_or, vec_capacity, Option, Some, None, is_some}
+use Rattle.std.specs.Prelude.{ℕ, Bool, ◌<◌, ◌≤◌, ◌≡◌, ◌==◌, true, false, List, [], length, map, get_or, vec_capacity, Option, Some, None, is_some}
 use Rattle.std.specs.BTreeMap.{BTreeMap}
 use Rattle.std.specs.declared.vec.Vec.{Vec}
 use Rattle.slab.specs.Slab.{Slab, slab_len, with_value}
@@ -11,6 +11,7 @@ use Rattle.pp_text.specs.Fields.{Field}
 use Rattle.pp_valid.specs.declared.version.Version.{Version}
 use Rattle.pp_fresh.specs.declared.aging.Times.{Times}
 use Rattle.pp_holes.specs.Cells.{empty_table}
+use Rattle.pp_holes.specs.Spans.{EndsWithin}
 use Rattle.pp_objects.specs.ByKey.{slot_for}
 use Rattle.pp_objects.specs.Instances.{Instance, Rows, is_row_of}
 
@@ -47,18 +48,20 @@ instance_at rs slot = instance_as slot (row_at rs slot)
 abbrev pub rows_in : Inside → Rows
 rows_in o = record { instances = map (instance_at o.rows.slots) o.order.items; lives = o.lives }
 
--- the slot of a row is the owner of its chunks, and its version's length that of its cells
+-- the slot of a row is the owner of its chunks, and its version's length that of its cells, behind which nothing is in memory
 pub record IsOwned (slot : ℕ) (r : Row) : Type 0 where
   pub owner : r.cells.owner ≡ slot
   pub total : r.cells.total ≡ r.version.length
+  pub ends : EndsWithin r.cells.cells r.cells.total
 
--- the order has each slot with a row, once; all memory of both lists is there
+-- the order has each slot with a row, once, all of them low; all memory of both lists is there
 pub record IsSound (o : Inside) : Type 0 where
   pub distinct : AreDistinct o.order.items
   pub there : (slot : ℕ) → is_in slot o.order.items ≡ is_some (row_at o.rows.slots slot)
   pub owned : (slot : ℕ) (r : Row) → row_at o.rows.slots slot ≡ Some r → IsOwned slot r
   pub count : slab_len o.rows ≡ length o.order.items
   pub few : length o.order.items ≤ 1345
+  pub low : (slot : ℕ) → is_in slot o.order.items ≡ true → slot < 1345
   pub room : 1345 ≤ o.rows.capacity
   pub order_room : 1345 ≤ vec_capacity o.order
 

@@ -1,4 +1,5 @@
 pub mod Agreement
+pub mod Bounds
 pub mod ByKey
 pub mod Changes
 pub mod Dates

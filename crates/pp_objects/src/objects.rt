@@ -10,6 +10,7 @@ ghost use Rattle.pp_objects.specs.Inside.{instance_at, IsNew, IsAside};
 ghost use Rattle.pp_objects.specs.Instances.{id_of, in_slot, is_there, is_row, row_of, is_idle, is_same_id, followers_of, cells_at, total_at, table_at, fields_at};
 ghost use Rattle.pp_objects.specs.Changes.{changed_in, without_slot, marked, refreshed, followed, left, retired, new_row, set_aside, settled, retired_from, is_last, left_from, given_back, given_back_by, faces};
 ghost use Rattle.pp_objects.specs.Agreement.{AllAgree};
+ghost use Rattle.pp_objects.specs.Bounds.{AreLow, AreWithin};
 ghost use Rattle.pp_objects.specs.Kept.{has_room, kept_of};
 ghost use Rattle.pp_objects.specs.Views.{ShowsRow};
 
@@ -99,6 +100,14 @@ impl Objects {
         ensures { result ≡ nat_le 1345 (length self.now.instances) }
     {
         self.order.len() >= INSTANCES
+    }
+
+    /// Each instance stands in one of 1,345 slots, and nothing is in memory behind its end. It does nothing.
+    pub fn bounds(&self)
+        ensures slots { AreLow self.now.instances }
+        ensures ends { AreWithin self.now.instances }
+    {
+        let _ = &self.order;
     }
 
     /// The row of a key. `None` exactly where the key has no row.
@@ -221,6 +230,7 @@ impl Objects {
         ensures untouched { OnErr result (pool.new ≡ pool.old) }
         ensures vacant { IfOk result (λ id. in_slot id.slot self.old.instances ≡ None) }
         ensures life { IfOk result (λ id. id.life ≡ self.old.lives) }
+        ensures low { IfOk result (λ id. id.slot < 1345) }
         ensures lives { OnOk result (self.new.lives ≡ self.old.lives + 1) }
         ensures there { IfOk result (λ id. is_there id self.new.instances ≡ true) }
         ensures settled { IfOk result (λ id. self.new.instances ≡ settled id key.now version.now (kept_of fields.now times) times self.old.instances) }
@@ -378,6 +388,7 @@ impl Objects {
         ensures refused { OnErr result (self.new ≡ self.old) }
         ensures vacant { IfOk result (λ id. in_slot id.slot self.old.instances ≡ None) }
         ensures life { IfOk result (λ id. id.life ≡ self.old.lives) }
+        ensures low { IfOk result (λ id. id.slot < 1345) }
         ensures lives { OnOk result (self.new.lives ≡ self.old.lives + 1) }
         ensures made { IfOk result (λ id. self.new.instances ≡ set_aside (row_of key.now self.old.instances) (self.old.instances ++ new_row id key.now version.now (kept_of fields.now times) times ∷ [])) }
     {
@@ -505,11 +516,12 @@ fn put_aside(rows: &mut Slab<Row>, former: Option<ObjectId>)
     row.retire();
 }
 
-/// Slots are numbered with 32 bits; past them there is no memory for a row.
+/// Slots are numbered below 1,345; past them there is no memory for a row.
 fn slot_of(key: usize) -> Result<u32, OutOfMemory>
-    ensures { IfOk result (λ slot. slot ≡ key) }
+    ensures slot { IfOk result (λ slot. slot ≡ key) }
+    ensures low { IfOk result (λ slot. slot < 1345) }
 {
-    if key <= u32::MAX as usize {
+    if key < INSTANCES {
         Ok(key as u32)
     } else {
         Err(OutOfMemory)

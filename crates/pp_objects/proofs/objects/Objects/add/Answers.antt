@@ -35,14 +35,14 @@ add-requires-clause-within c = omega (arith, c.requires.within, total_seen c.sel
 
 pub invariant_of-self-2 : goal.invariant_of-self-2
 invariant_of-self-2 c = record {
-  sound = sound-set c.self.inside (record { rows = with_value c.self.inside.rows c.args.id.slot (record c.in-Some.row.now { cells = c.add.new.self }); order = c.self.inside.order; index = c.self.inside.index; lives = c.self.inside.lives }) c.args.id.slot c.in-Some.row.now (record c.in-Some.row.now { cells = c.add.new.self }) c.self.invariant.sound (sym c.in-Some.ensures.value) (record { owner = c.add.ensures.owner ∙ (c.self.invariant.sound.owned c.args.id.slot c.in-Some.row.now (sym c.in-Some.ensures.value)).owner; total = c.add.ensures.total ∙ (c.self.invariant.sound.owned c.args.id.slot c.in-Some.row.now (sym c.in-Some.ensures.value)).total }) refl refl;
+  sound = sound-set c.self.inside (record { rows = with_value c.self.inside.rows c.args.id.slot (record c.in-Some.row.now { cells = c.add.new.self }); order = c.self.inside.order; index = c.self.inside.index; lives = c.self.inside.lives }) c.args.id.slot c.in-Some.row.now (record c.in-Some.row.now { cells = c.add.new.self }) c.self.invariant.sound (sym c.in-Some.ensures.value) (record { owner = c.add.ensures.owner ∙ (c.self.invariant.sound.owned c.args.id.slot c.in-Some.row.now (sym c.in-Some.ensures.value)).owner; total = c.add.ensures.total ∙ (c.self.invariant.sound.owned c.args.id.slot c.in-Some.row.now (sym c.in-Some.ensures.value)).total; ends = c.add.ensures.ends }) refl refl;
   indexed = indexed-set c.self.inside.index c.self.inside.rows.slots c.args.id.slot c.in-Some.row.now (record c.in-Some.row.now { cells = c.add.new.self }) (sym c.in-Some.ensures.value) refl refl c.self.invariant.indexed;
 }
 
 pub returns-clause-agrees : goal.returns-clause-agrees
 returns-clause-agrees c =
     let P : ℕ → Type 0 = λ n. foreign n c.add.new.pool.used ≡ foreign n c.args.pool.now.used in
-    agree_set c.self.inside (record { rows = with_value c.self.inside.rows c.args.id.slot (record c.in-Some.row.now { cells = c.add.new.self }); order = c.self.inside.order; index = c.self.inside.index; lives = c.self.inside.lives }) c.args.self.now _ c.args.id.slot (record c.in-Some.row.now { cells = c.add.new.self }) c.args.pool.now.used c.add.new.pool.used c.self.invariant.sound (sound-set c.self.inside (record { rows = with_value c.self.inside.rows c.args.id.slot (record c.in-Some.row.now { cells = c.add.new.self }); order = c.self.inside.order; index = c.self.inside.index; lives = c.self.inside.lives }) c.args.id.slot c.in-Some.row.now (record c.in-Some.row.now { cells = c.add.new.self }) c.self.invariant.sound (sym c.in-Some.ensures.value) (record { owner = c.add.ensures.owner ∙ (c.self.invariant.sound.owned c.args.id.slot c.in-Some.row.now (sym c.in-Some.ensures.value)).owner; total = c.add.ensures.total ∙ (c.self.invariant.sound.owned c.args.id.slot c.in-Some.row.now (sym c.in-Some.ensures.value)).total }) refl refl) c.self.view_is refl
+    agree_set c.self.inside (record { rows = with_value c.self.inside.rows c.args.id.slot (record c.in-Some.row.now { cells = c.add.new.self }); order = c.self.inside.order; index = c.self.inside.index; lives = c.self.inside.lives }) c.args.self.now _ c.args.id.slot (record c.in-Some.row.now { cells = c.add.new.self }) c.args.pool.now.used c.add.new.pool.used c.self.invariant.sound (sound-set c.self.inside (record { rows = with_value c.self.inside.rows c.args.id.slot (record c.in-Some.row.now { cells = c.add.new.self }); order = c.self.inside.order; index = c.self.inside.index; lives = c.self.inside.lives }) c.args.id.slot c.in-Some.row.now (record c.in-Some.row.now { cells = c.add.new.self }) c.self.invariant.sound (sym c.in-Some.ensures.value) (record { owner = c.add.ensures.owner ∙ (c.self.invariant.sound.owned c.args.id.slot c.in-Some.row.now (sym c.in-Some.ensures.value)).owner; total = c.add.ensures.total ∙ (c.self.invariant.sound.owned c.args.id.slot c.in-Some.row.now (sym c.in-Some.ensures.value)).total; ends = c.add.ensures.ends }) refl refl) c.self.view_is refl
     (sym (set_same c.self.inside.rows.slots c.args.id.slot c.in-Some.row.now (record c.in-Some.row.now { cells = c.add.new.self }) (sym c.in-Some.ensures.value))) (λ n apart. set_other c.self.inside.rows.slots c.args.id.slot n (record c.in-Some.row.now { cells = c.add.new.self }) apart)
     c.requires.agrees c.add.ensures.agrees (subst P (c.self.invariant.sound.owned c.args.id.slot c.in-Some.row.now (sym c.in-Some.ensures.value)).owner c.add.ensures.others)
 

@@ -20,13 +20,13 @@ invariant_of-self c = record {
 
 pub invariant_of-self-2 : goal.invariant_of-self-2
 invariant_of-self-2 c =
-    let slot : c.insert_reserved.result ≡ c.in_ok-slot.slot = c.insert_reserved.ensures.key ∙ sym (c.in_ok-slot.ensures ∙ c.vacant_key.ensures.value) in
+    let slot : c.insert_reserved.result ≡ c.in_ok-slot.slot = c.insert_reserved.ensures.key ∙ sym (c.in_ok-slot.ensures.slot ∙ c.vacant_key.ensures.value) in
     let U : ℕ → Type 0 = λ n. Updates c.self.inside.rows c.insert_reserved.new.self n (Some c.in_ok-row.row) in
     let up = subst U slot c.insert_reserved.ensures.updates in
     let vacant : row_at c.self.inside.rows.slots c.in_ok-slot.slot ≡ None = ap (row_at c.self.inside.rows.slots) (sym slot) ∙ c.insert_reserved.ensures.was_vacant in
     let few : length c.self.inside.order.items < 1345 = omega (arith, c.requires.few, ap (λ (w : Rows). length w.instances) c.self.view_is, length-map c.self.inside.order.items (instance_at c.self.inside.rows.slots)) in
     let own = new_owned c.in_ok-row.row c.in_ok-slot.slot c.self.inside.lives c.args.key.now c.args.version.now (kept_of c.args.fields.now c.args.times) c.args.times c.in_ok-row.ensures in
-    let sound = sound-joined c.self.inside (record { rows = c.insert_reserved.new.self; order = c.push_reserved.new.self; index = c.put.new.index; lives = c.self.inside.lives + 1 }) c.in_ok-slot.slot c.in_ok-row.row c.self.invariant.sound vacant up.changed up.others own few c.insert_reserved.ensures.len c.insert_reserved.ensures.capacity c.push_reserved.ensures.items c.push_reserved.ensures.capacity in
+    let sound = sound-joined c.self.inside (record { rows = c.insert_reserved.new.self; order = c.push_reserved.new.self; index = c.put.new.index; lives = c.self.inside.lives + 1 }) c.in_ok-slot.slot c.in_ok-row.row c.self.invariant.sound vacant up.changed up.others own few c.in_ok-slot.ensures.low c.insert_reserved.ensures.len c.insert_reserved.ensures.capacity c.push_reserved.ensures.items c.push_reserved.ensures.capacity in
     let former = former_there c.self.inside c.args.self.now c.args.key.now c.self.invariant.sound c.self.invariant.indexed c.self.view_is c.in_ok-slot.slot vacant c.insert_reserved.new.self c.put_aside.new.rows up.others in
     let A : Option ObjectId → Type 0 = λ x. IsAside c.insert_reserved.new.self c.put_aside.new.rows x in
     let aside = subst A c.requires.former c.put_aside.ensures in
@@ -37,7 +37,7 @@ invariant_of-self-2 c =
 
 pub returns-clause-vacant : goal.returns-clause-vacant
 returns-clause-vacant c =
-    let slot : c.insert_reserved.result ≡ c.in_ok-slot.slot = c.insert_reserved.ensures.key ∙ sym (c.in_ok-slot.ensures ∙ c.vacant_key.ensures.value) in
+    let slot : c.insert_reserved.result ≡ c.in_ok-slot.slot = c.insert_reserved.ensures.key ∙ sym (c.in_ok-slot.ensures.slot ∙ c.vacant_key.ensures.value) in
     let U : ℕ → Type 0 = λ n. Updates c.self.inside.rows c.insert_reserved.new.self n (Some c.in_ok-row.row) in
     let up = subst U slot c.insert_reserved.ensures.updates in
     let vacant : row_at c.self.inside.rows.slots c.in_ok-slot.slot ≡ None = ap (row_at c.self.inside.rows.slots) (sym slot) ∙ c.insert_reserved.ensures.was_vacant in
@@ -45,13 +45,13 @@ returns-clause-vacant c =
 
 pub returns-clause-made : goal.returns-clause-made
 returns-clause-made c =
-    let slot : c.insert_reserved.result ≡ c.in_ok-slot.slot = c.insert_reserved.ensures.key ∙ sym (c.in_ok-slot.ensures ∙ c.vacant_key.ensures.value) in
+    let slot : c.insert_reserved.result ≡ c.in_ok-slot.slot = c.insert_reserved.ensures.key ∙ sym (c.in_ok-slot.ensures.slot ∙ c.vacant_key.ensures.value) in
     let U : ℕ → Type 0 = λ n. Updates c.self.inside.rows c.insert_reserved.new.self n (Some c.in_ok-row.row) in
     let up = subst U slot c.insert_reserved.ensures.updates in
     let vacant : row_at c.self.inside.rows.slots c.in_ok-slot.slot ≡ None = ap (row_at c.self.inside.rows.slots) (sym slot) ∙ c.insert_reserved.ensures.was_vacant in
     let few : length c.self.inside.order.items < 1345 = omega (arith, c.requires.few, ap (λ (w : Rows). length w.instances) c.self.view_is, length-map c.self.inside.order.items (instance_at c.self.inside.rows.slots)) in
     let own = new_owned c.in_ok-row.row c.in_ok-slot.slot c.self.inside.lives c.args.key.now c.args.version.now (kept_of c.args.fields.now c.args.times) c.args.times c.in_ok-row.ensures in
-    let sound = sound-joined c.self.inside (record { rows = c.insert_reserved.new.self; order = c.push_reserved.new.self; index = c.put.new.index; lives = c.self.inside.lives + 1 }) c.in_ok-slot.slot c.in_ok-row.row c.self.invariant.sound vacant up.changed up.others own few c.insert_reserved.ensures.len c.insert_reserved.ensures.capacity c.push_reserved.ensures.items c.push_reserved.ensures.capacity in
+    let sound = sound-joined c.self.inside (record { rows = c.insert_reserved.new.self; order = c.push_reserved.new.self; index = c.put.new.index; lives = c.self.inside.lives + 1 }) c.in_ok-slot.slot c.in_ok-row.row c.self.invariant.sound vacant up.changed up.others own few c.in_ok-slot.ensures.low c.insert_reserved.ensures.len c.insert_reserved.ensures.capacity c.push_reserved.ensures.items c.push_reserved.ensures.capacity in
     let former = former_there c.self.inside c.args.self.now c.args.key.now c.self.invariant.sound c.self.invariant.indexed c.self.view_is c.in_ok-slot.slot vacant c.insert_reserved.new.self c.put_aside.new.rows up.others in
     let A : Option ObjectId → Type 0 = λ x. IsAside c.insert_reserved.new.self c.put_aside.new.rows x in
     let aside = subst A c.requires.former c.put_aside.ensures in

@@ -24,7 +24,7 @@ refresh-requires c =
 
 pub invariant_of-self-2 : goal.invariant_of-self-2
 invariant_of-self-2 c = record {
-  sound = sound-set c.self.inside (record { rows = with_value c.self.inside.rows c.args.id.slot c.refresh.new.self; order = c.self.inside.order; index = c.self.inside.index; lives = c.self.inside.lives }) c.args.id.slot c.in-Some.row.now c.refresh.new.self c.self.invariant.sound (sym c.in-Some.ensures.value) (let P : Row → Type 0 = λ r. IsOwned c.args.id.slot r in subst P (sym c.refresh.ensures) (record { owner = (c.self.invariant.sound.owned c.args.id.slot c.in-Some.row.now (sym c.in-Some.ensures.value)).owner; total = (c.self.invariant.sound.owned c.args.id.slot c.in-Some.row.now (sym c.in-Some.ensures.value)).total })) refl refl;
+  sound = sound-set c.self.inside (record { rows = with_value c.self.inside.rows c.args.id.slot c.refresh.new.self; order = c.self.inside.order; index = c.self.inside.index; lives = c.self.inside.lives }) c.args.id.slot c.in-Some.row.now c.refresh.new.self c.self.invariant.sound (sym c.in-Some.ensures.value) (let P : Row → Type 0 = λ r. IsOwned c.args.id.slot r in subst P (sym c.refresh.ensures) (record { owner = (c.self.invariant.sound.owned c.args.id.slot c.in-Some.row.now (sym c.in-Some.ensures.value)).owner; total = (c.self.invariant.sound.owned c.args.id.slot c.in-Some.row.now (sym c.in-Some.ensures.value)).total; ends = (c.self.invariant.sound.owned c.args.id.slot c.in-Some.row.now (sym c.in-Some.ensures.value)).ends })) refl refl;
   indexed = indexed-set c.self.inside.index c.self.inside.rows.slots c.args.id.slot c.in-Some.row.now c.refresh.new.self (sym c.in-Some.ensures.value) (ap (λ (r : Row). r.key) c.refresh.ensures) (ap (λ (r : Row). r.is_retired) c.refresh.ensures) c.self.invariant.indexed;
 }
 
@@ -33,12 +33,12 @@ returns-clause-refreshed c =
     view-set c.self.inside (record { rows = with_value c.self.inside.rows c.args.id.slot c.refresh.new.self; order = c.self.inside.order; index = c.self.inside.index; lives = c.self.inside.lives }) c.args.self.now c.args.id.slot c.in-Some.row.now c.refresh.new.self (refreshed c.args.fields.now c.args.times) c.self.invariant.sound c.self.view_is (sym c.in-Some.ensures.value) refl refl refl (ap (λ (r : Row). instance_as c.args.id.slot (Some r)) c.refresh.ensures)
 
 pub returns-clause-cells : goal.returns-clause-cells
-returns-clause-cells c = same_faces c.self.inside (record { rows = with_value c.self.inside.rows c.args.id.slot c.refresh.new.self; order = c.self.inside.order; index = c.self.inside.index; lives = c.self.inside.lives }) c.args.self.now _ c.args.id.slot c.in-Some.row.now c.refresh.new.self c.self.invariant.sound (sound-set c.self.inside (record { rows = with_value c.self.inside.rows c.args.id.slot c.refresh.new.self; order = c.self.inside.order; index = c.self.inside.index; lives = c.self.inside.lives }) c.args.id.slot c.in-Some.row.now c.refresh.new.self c.self.invariant.sound (sym c.in-Some.ensures.value) (let P : Row → Type 0 = λ r. IsOwned c.args.id.slot r in subst P (sym c.refresh.ensures) (record { owner = (c.self.invariant.sound.owned c.args.id.slot c.in-Some.row.now (sym c.in-Some.ensures.value)).owner; total = (c.self.invariant.sound.owned c.args.id.slot c.in-Some.row.now (sym c.in-Some.ensures.value)).total })) refl refl) c.self.view_is refl (sym c.in-Some.ensures.value) refl (ap (λ (r : Row). r.cells.cells) c.refresh.ensures)
+returns-clause-cells c = same_faces c.self.inside (record { rows = with_value c.self.inside.rows c.args.id.slot c.refresh.new.self; order = c.self.inside.order; index = c.self.inside.index; lives = c.self.inside.lives }) c.args.self.now _ c.args.id.slot c.in-Some.row.now c.refresh.new.self c.self.invariant.sound (sound-set c.self.inside (record { rows = with_value c.self.inside.rows c.args.id.slot c.refresh.new.self; order = c.self.inside.order; index = c.self.inside.index; lives = c.self.inside.lives }) c.args.id.slot c.in-Some.row.now c.refresh.new.self c.self.invariant.sound (sym c.in-Some.ensures.value) (let P : Row → Type 0 = λ r. IsOwned c.args.id.slot r in subst P (sym c.refresh.ensures) (record { owner = (c.self.invariant.sound.owned c.args.id.slot c.in-Some.row.now (sym c.in-Some.ensures.value)).owner; total = (c.self.invariant.sound.owned c.args.id.slot c.in-Some.row.now (sym c.in-Some.ensures.value)).total; ends = (c.self.invariant.sound.owned c.args.id.slot c.in-Some.row.now (sym c.in-Some.ensures.value)).ends })) refl refl) c.self.view_is refl (sym c.in-Some.ensures.value) refl (ap (λ (r : Row). r.cells.cells) c.refresh.ensures)
 
 pub returns-clause-there : goal.returns-clause-there
 returns-clause-there c =
     let after : Inside = record { rows = with_value c.self.inside.rows c.args.id.slot c.refresh.new.self; order = c.self.inside.order; index = c.self.inside.index; lives = c.self.inside.lives } in
-    let sound = sound-set c.self.inside (record { rows = with_value c.self.inside.rows c.args.id.slot c.refresh.new.self; order = c.self.inside.order; index = c.self.inside.index; lives = c.self.inside.lives }) c.args.id.slot c.in-Some.row.now c.refresh.new.self c.self.invariant.sound (sym c.in-Some.ensures.value) (let P : Row → Type 0 = λ r. IsOwned c.args.id.slot r in subst P (sym c.refresh.ensures) (record { owner = (c.self.invariant.sound.owned c.args.id.slot c.in-Some.row.now (sym c.in-Some.ensures.value)).owner; total = (c.self.invariant.sound.owned c.args.id.slot c.in-Some.row.now (sym c.in-Some.ensures.value)).total })) refl refl in
+    let sound = sound-set c.self.inside (record { rows = with_value c.self.inside.rows c.args.id.slot c.refresh.new.self; order = c.self.inside.order; index = c.self.inside.index; lives = c.self.inside.lives }) c.args.id.slot c.in-Some.row.now c.refresh.new.self c.self.invariant.sound (sym c.in-Some.ensures.value) (let P : Row → Type 0 = λ r. IsOwned c.args.id.slot r in subst P (sym c.refresh.ensures) (record { owner = (c.self.invariant.sound.owned c.args.id.slot c.in-Some.row.now (sym c.in-Some.ensures.value)).owner; total = (c.self.invariant.sound.owned c.args.id.slot c.in-Some.row.now (sym c.in-Some.ensures.value)).total; ends = (c.self.invariant.sound.owned c.args.id.slot c.in-Some.row.now (sym c.in-Some.ensures.value)).ends })) refl refl in
     let here = sym (set_same c.self.inside.rows.slots c.args.id.slot c.in-Some.row.now c.refresh.new.self (sym c.in-Some.ensures.value)) in
     ap (is_life c.args.id.life) (seen_row after _ c.args.id.slot (Some c.refresh.new.self) sound refl here)
     ∙ ap (λ (r : Row). is_life c.args.id.life (Some (instance_as c.args.id.slot (Some r)))) c.refresh.ensures

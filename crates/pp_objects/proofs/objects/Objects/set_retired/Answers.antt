@@ -20,7 +20,7 @@ returns-in_default-clause-cells c s = absurd (none_there c.self.inside c.args.se
 
 pub invariant_of-self-2 : goal.invariant_of-self-2
 invariant_of-self-2 c = record {
-  sound = sound-set c.self.inside (record { rows = with_value c.self.inside.rows c.args.id.slot c.retire.new.self; order = c.self.inside.order; index = c.leave_index.new.index; lives = c.self.inside.lives }) c.args.id.slot c.in-Some.row.now c.retire.new.self c.self.invariant.sound (sym c.in-Some.ensures.value) (let P : Row → Type 0 = λ r. IsOwned c.args.id.slot r in subst P (sym c.retire.ensures) (record { owner = (c.self.invariant.sound.owned c.args.id.slot c.in-Some.row.now (sym c.in-Some.ensures.value)).owner; total = (c.self.invariant.sound.owned c.args.id.slot c.in-Some.row.now (sym c.in-Some.ensures.value)).total })) refl refl;
+  sound = sound-set c.self.inside (record { rows = with_value c.self.inside.rows c.args.id.slot c.retire.new.self; order = c.self.inside.order; index = c.leave_index.new.index; lives = c.self.inside.lives }) c.args.id.slot c.in-Some.row.now c.retire.new.self c.self.invariant.sound (sym c.in-Some.ensures.value) (let P : Row → Type 0 = λ r. IsOwned c.args.id.slot r in subst P (sym c.retire.ensures) (record { owner = (c.self.invariant.sound.owned c.args.id.slot c.in-Some.row.now (sym c.in-Some.ensures.value)).owner; total = (c.self.invariant.sound.owned c.args.id.slot c.in-Some.row.now (sym c.in-Some.ensures.value)).total; ends = (c.self.invariant.sound.owned c.args.id.slot c.in-Some.row.now (sym c.in-Some.ensures.value)).ends })) refl refl;
   indexed = indexed-out c.self.inside.index c.leave_index.new.index c.self.inside.rows.slots (set c.self.inside.rows.slots c.args.id.slot (Some c.retire.new.self)) c.args.id.slot (λ key. ap (λ x. is_row_of key (instance_as c.args.id.slot x)) (set_same c.self.inside.rows.slots c.args.id.slot c.in-Some.row.now c.retire.new.self (sym c.in-Some.ensures.value)) ∙ ap (λ (r : Row). is_row_of key (instance_as c.args.id.slot (Some r))) c.retire.ensures) (λ n apart. set_other c.self.inside.rows.slots c.args.id.slot n c.retire.new.self apart) (λ key. c.leave_index.ensures key ∙ ap (λ (x : Option Row). cond (is_row_of key (instance_as c.args.id.slot x)) None (slot_for key c.self.inside.index)) c.in-Some.ensures.value) c.self.invariant.indexed;
 }
 
@@ -29,4 +29,4 @@ returns-clause-retired c =
     view-set c.self.inside (record { rows = with_value c.self.inside.rows c.args.id.slot c.retire.new.self; order = c.self.inside.order; index = c.leave_index.new.index; lives = c.self.inside.lives }) c.args.self.now c.args.id.slot c.in-Some.row.now c.retire.new.self retired c.self.invariant.sound c.self.view_is (sym c.in-Some.ensures.value) refl refl refl (ap (λ (r : Row). instance_as c.args.id.slot (Some r)) c.retire.ensures)
 
 pub returns-clause-cells : goal.returns-clause-cells
-returns-clause-cells c = same_faces c.self.inside (record { rows = with_value c.self.inside.rows c.args.id.slot c.retire.new.self; order = c.self.inside.order; index = c.leave_index.new.index; lives = c.self.inside.lives }) c.args.self.now _ c.args.id.slot c.in-Some.row.now c.retire.new.self c.self.invariant.sound (sound-set c.self.inside (record { rows = with_value c.self.inside.rows c.args.id.slot c.retire.new.self; order = c.self.inside.order; index = c.leave_index.new.index; lives = c.self.inside.lives }) c.args.id.slot c.in-Some.row.now c.retire.new.self c.self.invariant.sound (sym c.in-Some.ensures.value) (let P : Row → Type 0 = λ r. IsOwned c.args.id.slot r in subst P (sym c.retire.ensures) (record { owner = (c.self.invariant.sound.owned c.args.id.slot c.in-Some.row.now (sym c.in-Some.ensures.value)).owner; total = (c.self.invariant.sound.owned c.args.id.slot c.in-Some.row.now (sym c.in-Some.ensures.value)).total })) refl refl) c.self.view_is refl (sym c.in-Some.ensures.value) refl (ap (λ (r : Row). r.cells.cells) c.retire.ensures)
+returns-clause-cells c = same_faces c.self.inside (record { rows = with_value c.self.inside.rows c.args.id.slot c.retire.new.self; order = c.self.inside.order; index = c.leave_index.new.index; lives = c.self.inside.lives }) c.args.self.now _ c.args.id.slot c.in-Some.row.now c.retire.new.self c.self.invariant.sound (sound-set c.self.inside (record { rows = with_value c.self.inside.rows c.args.id.slot c.retire.new.self; order = c.self.inside.order; index = c.leave_index.new.index; lives = c.self.inside.lives }) c.args.id.slot c.in-Some.row.now c.retire.new.self c.self.invariant.sound (sym c.in-Some.ensures.value) (let P : Row → Type 0 = λ r. IsOwned c.args.id.slot r in subst P (sym c.retire.ensures) (record { owner = (c.self.invariant.sound.owned c.args.id.slot c.in-Some.row.now (sym c.in-Some.ensures.value)).owner; total = (c.self.invariant.sound.owned c.args.id.slot c.in-Some.row.now (sym c.in-Some.ensures.value)).total; ends = (c.self.invariant.sound.owned c.args.id.slot c.in-Some.row.now (sym c.in-Some.ensures.value)).ends })) refl refl) c.self.view_is refl (sym c.in-Some.ensures.value) refl (ap (λ (r : Row). r.cells.cells) c.retire.ensures)
