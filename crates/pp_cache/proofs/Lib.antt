@@ -1,3 +1,4 @@
+pub mod BoundsLemmas
 pub mod MemoryLemmas
 pub mod SiteLemmas
 pub mod UsesLemmas

@@ -1,3 +1,4 @@
+pub mod Bounds
 pub mod Memory
 pub mod Named
 pub mod OnDisk

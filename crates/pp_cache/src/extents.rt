@@ -1,5 +1,5 @@
 // How far each instance is kept on the disk, by its slot.
-ghost use Rattle.std.specs.Prelude.{◌≡◌, IfOk, cond, replicate, slice_get};
+ghost use Rattle.std.specs.Prelude.{◌≡◌, IfOk, cond, length, replicate, slice_get};
 ghost use Rattle.pp_cache.specs.OnDisk.{bytes_of, kept_to, nowhere};
 ghost use Rattle.pp_objects.specs.Instances.{is_same_id};
 
@@ -24,7 +24,8 @@ const NOWHERE: Extent = Extent {
 
 /// Of each slot: nothing is kept.
 pub(crate) fn no_extents(alloc: Global) -> Result<Vec<Extent>, OutOfMemory>
-    ensures { IfOk result (λ extents. extents.items ≡ replicate 1345 nowhere) }
+    ensures none { IfOk result (λ extents. extents.items ≡ replicate 1345 nowhere) }
+    ensures count { IfOk result (λ extents. length extents.items ≡ 1345) }
 {
     let mut extents = Vec::with_capacity(alloc, INSTANCES)?;
     for _slot in 0..INSTANCES {
@@ -55,7 +56,8 @@ fn bytes_in(extent: &Extent, id: ObjectId) -> u64
 
 /// So many bytes of the instance are kept.
 pub(crate) fn keep_to(extents: &mut Vec<Extent>, id: ObjectId, bytes: u64)
-    ensures { extents.new.items ≡ kept_to id bytes extents.old.items }
+    ensures kept { extents.new.items ≡ kept_to id bytes extents.old.items }
+    ensures count { length extents.new.items ≡ length extents.old.items }
 {
     let slot = id.slot as usize;
     if slot < extents.len() {
