@@ -1,4 +1,5 @@
 pub mod BoundsLemmas
+pub mod HoleLemmas
 pub mod MemoryLemmas
 pub mod SiteLemmas
 pub mod UsesLemmas

@@ -1,4 +1,5 @@
 pub mod Bounds
+pub mod Holes
 pub mod Memory
 pub mod Named
 pub mod OnDisk
