@@ -2,5 +2,6 @@ pub mod Bounds
 pub mod Holes
 pub mod Memory
 pub mod Named
+pub mod Notes
 pub mod OnDisk
 pub mod Uses

@@ -1,7 +1,8 @@
 // What the steps of a turn change together: clients, exchanges and the cache.
-ghost use Rattle.std.specs.Prelude.{◌≡◌};
-ghost use Rattle.pp_seats.specs.Courses.{is_unfilled};
-ghost use Rattle.pp_steps.specs.Heads.{cleared, key_of};
+ghost use Rattle.std.specs.Prelude.{◌≡◌, ◌<◌, ◌&&◌, ◌+◌, ◌||◌, length, nat_le, nat_lt, option_map, slice_get, Some, IfSome};
+ghost use Rattle.pp_seats.specs.Courses.{is_unfilled, lost_one};
+ghost use Rattle.pp_seats.specs.declared.seat.Course.TheVariants.{OutOfTries};
+ghost use Rattle.pp_steps.specs.Ends.{asker_of, dropped_row, ended, exchange_at, exchange_of, failed, forsaken, given_up_row, is_unfilled_at, left_at_decision, lost_attempt, may_ask_again, numbers_of, parts, place_of, seat_for, AreSeated, KeepsRest};
 
 use arrayvec::ArrayVec;
 use pp_cache::{Cache, Noted};
@@ -57,7 +58,11 @@ pub struct State {
 
 impl State {
     /// The place of a client.
-    pub fn seat_of(&self, client: u64) -> Option<usize> {
+    pub fn seat_of(&self, client: u64) -> Option<usize>
+        ensures there { IfSome result (λ i. i < length self.now.seats.items) }
+        ensures number { IfSome result (λ i. slice_get (numbers_of self.now.seats.items) i ≡ Some client) }
+        ensures place { AreSeated self.now → result ≡ place_of client (numbers_of self.now.seats.items) }
+    {
         self.seats
             .as_slice()
             .binary_search_by_key(&client, |seat| seat.id())
@@ -85,12 +90,17 @@ impl State {
     }
 
     /// The client of an exchange: its request did not leave it.
-    pub(crate) fn seat_for(&self, e: &Exchange) -> Option<usize> {
+    pub(crate) fn seat_for(&self, e: &Exchange) -> Option<usize>
+        ensures there { IfSome result (λ i. i < length self.now.seats.items) }
+        ensures place { AreSeated self.now → result ≡ seat_for e.now self.now.seats.items }
+    {
         self.seat_of(e.asker?)
     }
 
     /// The request of the exchange did not leave it, and may ask once more.
-    pub(crate) fn may_ask_again(&self, number: u64) -> bool {
+    pub(crate) fn may_ask_again(&self, number: u64) -> bool
+        ensures { AreSeated self.now → result ≡ may_ask_again number (parts self.now) }
+    {
         match self.asker_of(number) {
             None => false,
             Some(seat) => seat.is_trying(),
@@ -98,13 +108,18 @@ impl State {
     }
 
     /// The client of the exchange with this number.
-    pub(crate) fn asker_of(&self, number: u64) -> Option<&Seat> {
+    pub(crate) fn asker_of(&self, number: u64) -> Option<&Seat>
+        ensures { AreSeated self.now → option_map (λ seat. seat.now) result ≡ asker_of number (parts self.now) }
+    {
         let e = self.flow.get(number)?;
-        self.seats.get(self.seat_for(e)?)
+        let i = self.seat_for(e)?;
+        Some(&self.seats[i])
     }
 
     /// The exchange with this number.
-    pub fn exchange(&self, number: u64) -> Option<Exchange> {
+    pub fn exchange(&self, number: u64) -> Option<Exchange>
+        ensures { result ≡ exchange_at number self.now.flow }
+    {
         match self.flow.get(number) {
             None => None,
             Some(e) => Some(*e),
@@ -112,89 +127,110 @@ impl State {
     }
 
     /// Whether another exchange may begin.
-    pub(crate) fn may_ask(&self) -> bool {
+    pub(crate) fn may_ask(&self) -> bool
+        ensures { result ≡ (nat_lt (length self.now.flow.waiting + length self.now.flow.placed) 1024 && nat_lt self.now.flow.begun 18446744073709551615) }
+    {
         self.flow.len() < EXCHANGES && self.flow.begun() < u64::MAX
     }
 
     /// The exchange is over.
-    pub fn end(&mut self, number: u64) {
+    pub fn end(&mut self, number: u64)
+        ensures is { parts self.new ≡ ended number (parts self.old) }
+        ensures rest { KeepsRest self.old self.new }
+    {
         self.flow.over(number);
     }
 
     /// The exchange of the request of the client at this place.
-    pub fn exchange_of(&self, i: usize) -> Option<Exchange> {
+    pub fn exchange_of(&self, i: usize) -> Option<Exchange>
+        ensures { result ≡ exchange_of i (parts self.now) }
+    {
         let seat = self.seats.get(i)?;
         self.exchange(self.flow.asked_by(seat.id())?)
     }
 
     /// The request leaves its exchange: that is nobody's from now on, and is read to its end.
-    pub fn forsake(&mut self, i: usize) {
+    pub fn forsake(&mut self, i: usize)
+        ensures is { parts self.new ≡ forsaken i (parts self.old) }
+        ensures rest { KeepsRest self.old self.new }
+    {
         if let Some(e) = self.exchange_of(i) {
             self.flow.leave(e.number);
         }
     }
 
     /// The same at a decision: without a place it is over.
-    pub(crate) fn leave_exchange(&mut self, i: usize) {
+    pub(crate) fn leave_exchange(&mut self, i: usize)
+        ensures is { parts self.new ≡ left_at_decision i (parts self.old) }
+        ensures rest { KeepsRest self.old self.new }
+    {
         let Some(e) = self.exchange_of(i) else {
             return;
         };
-        if e.place.is_none() {
-            self.end(e.number);
-        } else {
-            self.flow.leave(e.number);
+        match e.place {
+            None => self.end(e.number),
+            Some(_) => self.flow.leave(e.number),
         }
     }
 
     /// An attempt of the exchange is lost.
-    pub fn lose_attempt(&mut self, e: &Exchange) {
+    pub fn lose_attempt(&mut self, e: &Exchange)
+        ensures is { AreSeated self.old → parts self.new ≡ lost_attempt e.now (parts self.old) }
+        ensures numbers { numbers_of self.new.seats.items ≡ numbers_of self.old.seats.items }
+        ensures rest { KeepsRest self.old self.new }
+    {
         let most = match self.flow.entry(e.number) {
             None => return,
             Some(entry) => entry.errand.attempts(),
         };
-        let Some(i) = self.seat_for(e) else {
-            return;
-        };
-        if let Some(seat) = self.seats.get_mut(i) {
-            seat.lose_attempt(most);
+        if let Some(i) = self.seat_for(e) {
+            self.seats[i].lose_attempt(most);
+            self.give_up_row(e, i);
         }
-        self.give_up_row(e);
     }
 
     /// The attempts of the exchange end at once.
-    pub fn fail(&mut self, e: &Exchange) {
-        let Some(i) = self.seat_for(e) else {
-            return;
-        };
-        if let Some(seat) = self.seats.get_mut(i) {
-            seat.course = Course::OutOfTries;
-        }
-        self.give_up_row(e);
-    }
-
-    /// A row whose hole nobody fills is cleared, and its request leaves the exchange.
-    fn give_up_row(&mut self, e: &Exchange) {
-        if self.is_unfilled(e) {
-            self.drop_row(e);
+    pub fn fail(&mut self, e: &Exchange)
+        ensures is { AreSeated self.old → parts self.new ≡ failed e.now (parts self.old) }
+        ensures numbers { numbers_of self.new.seats.items ≡ numbers_of self.old.seats.items }
+        ensures rest { KeepsRest self.old self.new }
+    {
+        if let Some(i) = self.seat_for(e) {
+            self.seats[i].course = Course::OutOfTries;
+            self.give_up_row(e, i);
         }
     }
 
-    fn drop_row(&mut self, e: &Exchange)
-        ensures { self.new.cache ≡ cleared (key_of e.now.number self.old.flow) self.old.cache }
+    /// A row whose hole nobody fills is cleared, and its request, of the client at this place, leaves the exchange.
+    fn give_up_row(&mut self, e: &Exchange, i: usize)
+        requires { i < length self.old.seats.items }
+        ensures is { parts self.new ≡ given_up_row i e.now (parts self.old) }
+        ensures numbers { numbers_of self.new.seats.items ≡ numbers_of self.old.seats.items }
+        ensures rest { KeepsRest self.old self.new }
+    {
+        if self.is_unfilled(e, i) {
+            self.drop_row(e, i);
+        }
+    }
+
+    fn drop_row(&mut self, e: &Exchange, i: usize)
+        requires { i < length self.old.seats.items }
+        ensures is { parts self.new ≡ dropped_row i e.now (parts self.old) }
+        ensures numbers { numbers_of self.new.seats.items ≡ numbers_of self.old.seats.items }
+        ensures rest { KeepsRest self.old self.new }
     {
         self.clear_row(e);
-        if let Some(i) = self.seat_for(e) {
-            if let Some(seat) = self.seats.get_mut(i) {
-                seat.lose_row();
-            }
-        }
+        self.seats[i].lose_row();
         self.flow.leave(e.number);
     }
 
-    fn is_unfilled(&self, e: &Exchange) -> bool {
-        match (self.asker_of(e.number), self.known_version(e)) {
-            (Some(seat), Some(known)) => is_unfilled(&e.aim, seat.course, &known),
-            (Some(_), None) | (None, Some(_)) | (None, None) => false,
+    fn is_unfilled(&self, e: &Exchange, i: usize) -> bool
+        requires { i < length self.now.seats.items }
+        ensures { result ≡ is_unfilled_at i e.now (parts self.now) }
+    {
+        match self.known_version(e) {
+            None => false,
+            Some(known) => is_unfilled(&e.aim, self.seats[i].course, &known),
         }
     }
 
@@ -233,7 +269,9 @@ impl State {
     }
 
     /// Eviction begins where as many chunks are used as the trigger says.
-    pub fn note_use(&mut self) {
+    pub fn note_use(&mut self)
+        ensures { self.new ≡ record self.old { is_evicting = self.old.is_evicting || nat_le self.old.trigger (length self.old.cache.chunks) } }
+    {
         self.is_evicting = self.is_evicting || self.trigger <= self.cache.used();
     }
 }
