@@ -1,6 +1,6 @@
 -- An offset is in a span that comes exactly where an exchange brings it.
 use Rattle.std.proofs.Common.{eq-eqb, ◌≡◌, ◌≤◌, ◌<◌, ◌-◌, ◌/◌, ◌%◌, ℕ, zero, suc, Bool, true, false, ◌&&◌, ◌||◌, if◌then◌else◌, List, [], ◌∷◌, ◌++◌, length, map, get_or, refl, sym, ◌∙◌, ap, subst, arith, Option, Some, None, nat_lt}
-use Rattle.std.specs.Prelude.{◌==◌, ◌↔◌, ◌*◌, IsSomeAnd, IsTrue, bytes_eq, min, nat_le, option_map}
+use Rattle.std.specs.Prelude.{◌==◌, ◌↔◌, ◌*◌, IsSomeAnd, IsTrue, bytes_eq, nat_le, option_map}
 use Rattle.std.specs.Bool.{Decides}
 use Rattle.std.specs.List.{Contains, cons_option, filter_map, list_any}
 use Rattle.std.proofs.lemmas.Bool.{both_ways, eqb-true}

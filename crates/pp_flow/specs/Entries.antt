@@ -14,8 +14,8 @@ abbrev pub is_number : ℕ → Entry → Bool
 is_number number entry = entry.exchange.number == number
 
 -- it waits for a place
-abbrev pub begun_with : ℕ → ℕ → List ℕ → Aim → Errand → Entry
-begun_with number client key aim errand = record {
+abbrev pub begun_with : ℕ → ℕ → List ℕ → Aim → Errand → List ℕ → Entry
+begun_with number client key aim errand text = record {
   exchange = record {
     number = number;
     asker = Some client;
@@ -26,6 +26,7 @@ begun_with number client key aim errand = record {
   };
   errand = errand;
   key = record { items = key };
+  text = record { items = text };
 }
 
 abbrev pub with_place : Option ℕ → Entry → Entry

@@ -1,9 +1,10 @@
-// An exchange, what it asks, and its key.
-ghost use Rattle.std.specs.Prelude.{◌≡◌, ◌≤◌, length};
+// An exchange, what it asks, its key and its text.
+ghost use Rattle.std.specs.Prelude.{◌≡◌, ◌==◌, ◌≤◌, length};
 ghost use Rattle.pp_flow.specs.Entries.{begun_with, bound_to, moved, moved_by, nobodys, to_come, with_place, IsInSpan, IsToCome};
 
 use crate::errand::Errand;
 use arrayvec::ArrayVec;
+use pp_ask::ASK_LEN;
 use pp_objects::ObjectId;
 use pp_valid::Version;
 
@@ -38,12 +39,13 @@ pub struct Exchange {
     pub bound: Option<(ObjectId, u64, u64, bool)>,
 }
 
-/// An exchange with what it asks, and the key that it asks for.
+/// An exchange with what it asks, the key that it asks for, and the text that it asks it with.
 #[derive(Drop)]
 pub struct Entry {
     pub exchange: Exchange,
     pub errand: Errand,
     pub key: ArrayVec<u8, KEY_ROOM>,
+    pub text: ArrayVec<u8, ASK_LEN>,
 }
 
 impl Entry {
@@ -60,13 +62,23 @@ impl Entry {
             },
             errand: Errand::empty(),
             key: ArrayVec::new(),
+            text: ArrayVec::new(),
         }
     }
 
     /// An exchange begins here.
-    pub(crate) fn begin(&mut self, number: u64, client: u64, key: &[u8], aim: Aim, errand: &Errand)
-        requires { length key.now ≤ 8192 }
-        ensures { self.new ≡ begun_with number client key.now aim errand.now }
+    pub(crate) fn begin(
+        &mut self,
+        number: u64,
+        client: u64,
+        key: &[u8],
+        aim: Aim,
+        errand: &Errand,
+        text: &[u8],
+    )
+        requires short { length key.now ≤ 8192 }
+        requires fits { length text.now ≤ ASK_LEN }
+        ensures { self.new ≡ begun_with number client key.now aim errand.now text.now }
     {
         self.exchange = Exchange {
             number,
@@ -79,6 +91,15 @@ impl Entry {
         self.errand = *errand;
         self.key.clear();
         let _ = self.key.try_extend_from_slice(key);
+        self.text.clear();
+        let _ = self.text.try_extend_from_slice(text);
+    }
+
+    /// Its text was asked whole, and its response may come.
+    pub fn is_outstanding(&self) -> bool
+        ensures { result ≡ (self.now.errand.asked == length self.now.text.items) }
+    {
+        self.errand.asked == self.text.len()
     }
 
     pub(crate) fn set_place(&mut self, place: Option<u64>)

@@ -1,5 +1,5 @@
 // What an exchange asks, how much of it was asked, and what becomes of the body that it brings.
-ghost use Rattle.std.specs.Prelude.{◌≡◌, ◌==◌, ◌||◌, option_map};
+ghost use Rattle.std.specs.Prelude.{◌≡◌, ◌||◌, option_map};
 ghost use Rattle.pp_flow.specs.Errands.{asks_as_asked, asks_range, attempts_in, named_by};
 
 use pp_target::Place;
@@ -80,9 +80,7 @@ pub struct Errand {
     pub accepts_only_identity: bool,
     /// It allows a guess of how long a response is fresh.
     pub allows_guess: bool,
-    /// Bytes of its text.
-    pub text_len: usize,
-    /// How many of them were asked.
+    /// How many bytes of its text were asked.
     pub asked: usize,
     /// Bytes of the request's body that are still to be asked.
     pub body_left: u64,
@@ -109,19 +107,11 @@ impl Errand {
             binds_connection: false,
             accepts_only_identity: false,
             allows_guess: false,
-            text_len: 0,
             asked: 0,
             body_left: 0,
             requested: 0,
             body: Body::Pending,
         }
-    }
-
-    /// Its text was asked whole, and its response may come.
-    pub fn is_outstanding(&self) -> bool
-        ensures { result ≡ (self.now.asked == self.now.text_len) }
-    {
-        self.asked == self.text_len
     }
 
     /// It takes a connection for itself (RFC 2616, section 8.1.2.2).

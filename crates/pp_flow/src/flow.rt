@@ -17,6 +17,7 @@ use crate::lists::{
     line_at, take_out,
 };
 use arrayvec::ArrayVec;
+use pp_ask::ASK_LEN;
 use pp_objects::{ObjectId, Objects};
 use pp_text::OutOfMemory;
 use std::alloc::Global;
@@ -78,18 +79,19 @@ impl Flow {
     }
 
     /// An exchange begins, which the client's current request asks. Answers its number.
-    pub fn begin(&mut self, client: u64, key: &[u8], aim: Aim, errand: &Errand) -> u64
+    pub fn begin(&mut self, client: u64, key: &[u8], aim: Aim, errand: &Errand, text: &[u8]) -> u64
         requires few { length self.old.waiting + length self.old.placed < 1024 }
         requires short { length key.now ≤ 8192 }
+        requires fits { length text.now ≤ ASK_LEN }
         requires numbers { self.old.begun < 18446744073709551615 }
         ensures number { result ≡ self.old.begun }
-        ensures begun { self.new ≡ record self.old { waiting = self.old.waiting ++ begun_with self.old.begun client key.now aim errand.now ∷ []; begun = self.old.begun + 1 } }
+        ensures begun { self.new ≡ record self.old { waiting = self.old.waiting ++ begun_with self.old.begun client key.now aim errand.now text.now ∷ []; begun = self.old.begun + 1 } }
     {
         let number = self.begun;
         let Some(mut entry) = self.spare.pop() else {
             return number;
         };
-        entry.begin(number, client, key, aim, errand);
+        entry.begin(number, client, key, aim, errand, text);
         self.waiting.push_reserved(entry);
         self.begun += 1;
         number
@@ -141,7 +143,7 @@ impl Flow {
         }
     }
 
-    /// The exchange with this number, with what it asks, and its key. `None` exactly where it is not there.
+    /// The exchange with this number, with what it asks, its key and its text. `None` exactly where it is not there.
     pub fn entry(&self, number: u64) -> Option<&Entry>
         ensures { option_map (λ e. e.now) result ≡ entry_of number self.now }
     {

@@ -7,10 +7,12 @@ use crate::{Aim, EXCHANGES, Errand, Flow};
 use pp_objects::ObjectId;
 use pp_text::OutOfMemory;
 
+const TEXT: &[u8] = b"GET /a HTTP/1.1\r\nhost: h\r\n\r\n";
+
 /// Begins an exchange, where there is room.
 fn begin(flow: &mut Flow, client: u64, key: &[u8], aim: Aim) -> Option<u64> {
     if flow.len() < EXCHANGES && key.len() <= 8192 && flow.begun() < u64::MAX {
-        Some(flow.begin(client, key, aim, &Errand::empty()))
+        Some(flow.begin(client, key, aim, &Errand::empty(), TEXT))
     } else {
         None
     }
@@ -156,6 +158,28 @@ fn an_errand_goes_with_its_exchange(rt: HostRuntime) -> Result<(), OutOfMemory> 
     assert!(rt; flow.errand_mut(1).is_none());
     assert_eq!(rt; asked(&flow), [Some((2, 0)), Some((0, 10)), None]);
     Ok(())
+}
+
+#[test]
+fn a_text_stands_with_its_exchange(rt: HostRuntime) -> Result<(), OutOfMemory> {
+    let mut flow = Flow::new(rt.alloc())?;
+    assert_eq!(rt; begin(&mut flow, 7, b"http://h/a", Aim::Own), Some(0));
+    assert_eq!(rt; text(&flow, 0), Some((TEXT, false)));
+    place(&mut flow, 0, 50);
+    ask(&mut flow, 0, TEXT.len() - 1);
+    assert_eq!(rt; text(&flow, 0), Some((TEXT, false)));
+    ask(&mut flow, 0, TEXT.len());
+    flow.leave(0);
+    assert_eq!(rt; text(&flow, 0), Some((TEXT, true)));
+    flow.over(0);
+    assert_eq!(rt; text(&flow, 0), None);
+    Ok(())
+}
+
+/// The text of an exchange, and whether it was asked whole.
+fn text(flow: &Flow, number: u64) -> Option<(&[u8], bool)> {
+    let entry = flow.entry(number)?;
+    Some((entry.text.as_slice(), entry.is_outstanding()))
 }
 
 /// So many bytes of what the exchange asks were asked.
