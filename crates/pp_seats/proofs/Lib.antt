@@ -1,2 +1,3 @@
+mod AskLemmas
 pub mod HeadLemmas
 pub mod HeadLens

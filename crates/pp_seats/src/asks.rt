@@ -1,8 +1,11 @@
 // What an origin is asked for a request, and how that is written.
-ghost use Rattle.std.specs.Prelude.{◌≡◌};
+ghost use Rattle.std.specs.Prelude.{◌≡◌, ℕ, List};
+ghost use Rattle.pp_ask.specs.Texts.{ask_text};
+ghost use Rattle.pp_head.specs.Request.{Request};
 ghost use Rattle.pp_head.specs.Shown.{shown_request};
 ghost use Rattle.pp_plan.specs.Fetch.{fetch_range};
-ghost use Rattle.pp_seats.specs.Fetches.{fetch_by};
+ghost use Rattle.pp_seats.specs.Fetches.{asked_as, fetch_by};
+ghost use Rattle.pp_target.specs.Key.{Key};
 
 use pp_ask::AskKind;
 use pp_flow::Kind;
@@ -20,7 +23,9 @@ pub fn fetch_of(head: &RequestHead<'_, '_>) -> Kind
 }
 
 /// As the ask that is written.
-pub fn as_ask(kind: &Kind) -> AskKind<'_> {
+pub fn as_ask(kind: &Kind) -> AskKind<'_>
+    ensures { (request : Request) (key : Key) (name : List ℕ) → ask_text result request key name ≡ ask_text (asked_as kind.now) request key name }
+{
     match kind {
         Kind::Whole => AskKind::Whole,
         Kind::Range(first, last) => AskKind::Range(*first, *last),

@@ -37,7 +37,8 @@ impl Key {
 
     /// Where its parts stand in its text.
     pub fn place(&self) -> &Place
-        ensures { IsPlaceIn self.now.text.items result.now }
+        ensures place { result.now ≡ self.now.place }
+        ensures within { IsPlaceIn self.now.text.items result.now }
     {
         &self.place
     }
