@@ -14,5 +14,5 @@ returns-clause-is c =
     let slot = c.args.id.slot in
     let there : is_there c.args.id is ≡ true = grind (arith, common_steps) in
     hole_there (is_there c.args.id is) c.args.at c.next_hole.result (hole_in slot (total_at slot is) c.args.at (shown o.pool.used)) there
-    (hole_is is o.pool.used slot c.args.at c.next_hole.result c.self.invariant c.next_hole.ensures)
+    (hole_is is o.pool.used slot c.args.at c.next_hole.result c.self.invariant.0 c.next_hole.ensures)
     ∙ ap (λ (m : Memory). hole_of c.args.id c.args.at m) c.self.view_is
