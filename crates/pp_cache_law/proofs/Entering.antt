@@ -1,10 +1,10 @@
 -- A kept row comes into memory as the law has it.
-use Rattle.std.proofs.Common.{◌≡◌, ◌<◌, ◌+◌, refl, sym, subst, ap, ◌∙◌, ℕ, List, [], ◌∷◌, ◌++◌, length, Option, Some, None, arith}
+use Rattle.std.proofs.Common.{◌≡◌, ◌<◌, ◌+◌, refl, sym, subst, ap, ◌∙◌, ℕ, Bool, true, false, List, [], ◌∷◌, ◌++◌, length, Option, Some, None, arith}
 use Rattle.pp_cache.specs.Memory.{Memory, with_row}
 use Rattle.pp_cache.specs.OnDisk.{kept_to}
-use Rattle.pp_law.specs.Lists.{Bytes}
+use Rattle.pp_law.specs.Lists.{Bytes, has_text}
 use Rattle.pp_law.specs.State.{State, Entry, Instance as Known}
-use Rattle.pp_law.specs.Table.{add_row, kept_row, row}
+use Rattle.pp_law.specs.Table.{add_row, kept_row, row, row_on_disk}
 use Rattle.pp_objects.specs.Changes.{given_back_by, new_row, retired_from}
 use Rattle.pp_objects.specs.Instances.{Instance, row_of}
 use Rattle.pp_objects.specs.OneRow.{HasOneRow}
@@ -37,9 +37,16 @@ kept_on number m s id key e shows life within kept = record {
   later = λ other more. later_kept id other e.extent m.extents within (omega (arith, more, life)) (shows.unkept other (omega (arith, more)));
 }
 
+pub kept_on_disk : (s : State) (key : Bytes) (e : Entry) → row_on_disk s key ≡ Some e → kept_row s key ≡ Some e
+kept_on_disk s key e = by (has_text key s.displaced)
+  where
+    by : (b : Bool) → (elim b as (λ c. Option Entry) [ true ↦ None | false ↦ kept_row s key ]) ≡ Some e → kept_row s key ≡ Some e
+    by true is = absurd cc
+    by false is = is
+
 pub enterings_of : EnteringsAreTheLaws
 unfolding with_row add_row
-enterings_of number m s shows id key e is_new may =
+enterings_of number m s shows id key stored e is_new may =
     subst (λ (fs : List Field). ShowsCache (numbered m.lives s.next_instance number)
     (record m {
       instances = retired_from (row_of key m.instances) (m.instances ++ new_row id key e.version fs e.times ∷ []);
@@ -48,7 +55,7 @@ enterings_of number m s shows id key e is_new may =
       extents = kept_to id e.extent m.extents;
     })
     (add_row key e.version e.fields e.times is_new s))
-    (sym may.fields)
+    may.fields
     (subst (λ (u : Option Instance). ShowsCache (numbered m.lives s.next_instance number)
     (record m {
       instances = retired_from u (m.instances ++ new_row id key e.version e.fields e.times ∷ []);
@@ -60,7 +67,7 @@ enterings_of number m s shows id key e is_new may =
     (sym (no_row number m s key shows.table may.alone))
     (record {
       table =
-          adds_at number m s (kept_to id e.extent m.extents) id key e.version e.fields e.times is_new shows.table may.vacant may.life (kept_on number m s id key e shows.table may.life may.slot may.kept) (shows.ahead s.next_instance (omega arith))
+          adds_at number m s (kept_to id e.extent m.extents) id key e.version e.fields e.times is_new shows.table may.vacant may.life (kept_on number m s id key e shows.table may.life may.slot (kept_on_disk s key e may.kept)) (shows.ahead s.next_instance (omega arith))
           (subst (λ (u : Option Instance). HasOneRow (retired_from u (m.instances ++ new_row id key e.version e.fields e.times ∷ []))) (no_row number m s key shows.table may.alone)
           (one_row-settled id key e.version e.fields e.times m.instances shows.table.rows));
       followed = joined_followed m.instances (new_row id key e.version e.fields e.times) may.vacant refl shows.followed;

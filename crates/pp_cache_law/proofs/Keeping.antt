@@ -1,5 +1,5 @@
 -- What is noted of the disk is noted as the law has it.
-use Rattle.std.proofs.Common.{◌≡◌, ◌<◌, ◌≤◌, refl, sym, subst, ap, ◌∙◌, ℕ, Bool, true, false, not, ◌==◌, ◌&&◌, cond, find, List, [], ◌∷◌, ◌++◌, length, Option, Some, None, option_map, arith}
+use Rattle.std.proofs.Common.{◌≡◌, ◌<◌, ◌≤◌, inl, inr, refl, sym, subst, ap, ◌∙◌, ℕ, Bool, true, false, not, ◌==◌, ◌&&◌, cond, find, List, [], ◌∷◌, ◌++◌, length, Option, Some, None, option_map, arith}
 use Rattle.std.specs.Prelude.{bytes_eq, count_by, slice_get}
 use Rattle.std.proofs.lemmas.Slice.Eq.{bytes_eq-Decides}
 use Rattle.pp_cache.specs.Memory.{Memory, is_row_in}
@@ -8,7 +8,7 @@ use Rattle.pp_cache.specs.declared.extents.Extent.{Extent}
 use Rattle.pp_law.specs.Lists.{Bytes, change, without as law_without}
 use Rattle.pp_law.specs.State.{State, Entry, Instance as Known, Chunk as Front, Todo, Do, Enter, Acknowledge}
 use Rattle.pp_law.specs.Store.{enter_next, extended, left_todo, note_gone, note_kept, remove_entry}
-use Rattle.pp_law.specs.Table.{follows, is_entry_of, is_kept_row_of, kept_row}
+use Rattle.pp_law.specs.Table.{follows, is_entry_of, is_kept_row_of, is_row_of as is_known_row, kept_row, row}
 use Rattle.pp_objects.specs.Instances.{Instance, id_of, in_slot, is_in_slot, is_life, is_row_of}
 use Rattle.pp_objects.specs.declared.id.ObjectId.{ObjectId}
 use Rattle.pp_cache_law.specs.Notes.{DraftsAreTheLaws, IsRowThere, KeepingsAreTheLaws, LossesAreTheLaws, RemovalsAreTheLaws}
@@ -20,7 +20,7 @@ use Rattle.pp_cache_law.proofs.Extents.{its_kept, later_kept, others_kept}
 use Rattle.pp_cache_law.proofs.Finds.{find_joined, find_kept, find_mapped, find_out, find_passes, first_of_two, only_found}
 use Rattle.pp_cache_law.proofs.Framing.{frames_of, the_same}
 use Rattle.pp_cache_law.proofs.Numbers.{is_same, same_test, some_is, true_false}
-use Rattle.pp_cache_law.proofs.PairLemmas.{also, also_only}
+use Rattle.pp_cache_law.proofs.PairLemmas.{also, also_none, also_only}
 
 -- ---- how far a row is kept
 
@@ -285,8 +285,48 @@ gone_to s key = by (find (is_entry_of key) s.entries) refl
 pub losses_of : LossesAreTheLaws
 losses_of number m s shows id x row = keeps_to number m s (note_gone x.key s) id x 0 shows row (gone_to s x.key)
 
-pub removals_of : RemovalsAreTheLaws
-removals_of number m s shows key none = frames_of number m s shows m (note_gone key s) (record { instances = refl; lives = refl; chunks = refl; extents = refl }) (record {
+-- of which no row is in memory
+gone_unseen : (number : ℕ → ℕ) (m : Memory) (s : State) (key : Bytes) → ShowsCache number m s → row s key ≡ None → ShowsCache number m (note_gone key s)
+gone_unseen number m s key shows none = record {
+  table = record {
+    instances =
+        subst (λ (ys : List Known). AreAll (ShowsInstance number m (note_gone key s)) m.instances ys) (sym gone.instances)
+        (also_none (ShowsInstance number m s) (ShowsInstance number m (note_gone key s)) (is_known_row key) m.instances s.instances each none shows.table.instances);
+    chunks = subst (λ (ds : List Front). AreAll (ShowsChunk number m) m.chunks ds) (sym gone.chunks) shows.table.chunks;
+    alone = shows.table.alone;
+    apart = shows.table.apart;
+    rows = shows.table.rows;
+    once = shows.table.once;
+    unkept = shows.table.unkept;
+  };
+  followed = shows.followed;
+  ahead = λ k more. gone.followers k ∙ shows.ahead k (subst (λ (j : ℕ). j ≤ k) gone.made more);
+}
+  where
+    gone : IsKeptTo key 0 s (note_gone key s)
+    gone = gone_to s key
+
+    each : (i : Instance) (y : Known) → is_known_row key y ≡ false → ShowsInstance number m s i y → ShowsInstance number m (note_gone key s) i y
+    each i y isnt one = record {
+      there = one.there;
+      id = one.id;
+      key = one.key;
+      version = one.version;
+      fields = one.fields;
+      times = one.times;
+      retired = one.retired;
+      followers = one.followers ∙ sym (gone.followers y.id);
+      extent = one.extent ∙ sym (by y.is_retired isnt);
+      given = one.given;
+      made = subst (λ (k : ℕ). y.id < k) (sym gone.made) one.made;
+    }
+      where
+        by : (b : Bool) → (not b && bytes_eq y.key key) ≡ false → extent_by (note_gone key s) b y.key ≡ extent_by s b y.key
+        by true e = refl
+        by false e = gone.others y.key e
+
+gone_stale : (number : ℕ → ℕ) (m : Memory) (s : State) (key : Bytes) → ShowsCache number m s → kept_row s key ≡ None → ShowsCache number m (note_gone key s)
+gone_stale number m s key shows none = frames_of number m s shows m (note_gone key s) (record { instances = refl; lives = refl; chunks = refl; extents = refl }) (record {
   instances = gone.instances;
   made = subst (λ (n : ℕ). s.next_instance ≤ n) (sym gone.made) (the_same s.next_instance);
   chunks = gone.chunks;
@@ -306,3 +346,7 @@ removals_of number m s shows key none = frames_of number m s shows m (note_gone 
     by : (b : Bool) (k : Bytes) → extent_by (note_gone key s) b k ≡ extent_by s b k
     by true k = refl
     by false k = same k (bytes_eq k key) refl
+
+pub removals_of : RemovalsAreTheLaws
+removals_of number m s shows key (inl none) = gone_stale number m s key shows none
+removals_of number m s shows key (inr none) = gone_unseen number m s key shows none

@@ -10,6 +10,7 @@ pub mod Gaps
 pub mod GivingWay
 pub mod Joined
 pub mod Keeping
+pub mod KeptTwice
 pub mod Leaving
 pub mod Loading
 pub mod Making

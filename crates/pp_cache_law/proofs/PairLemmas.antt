@@ -1,5 +1,5 @@
 -- What is taken of two lists whose elements belong together belongs together.
-use Rattle.std.proofs.Common.{◌≡◌, ◌≤◌, ◌==◌, refl, sym, ap, ◌∙◌, ℕ, suc, ◌+◌, Bool, true, false, not, ◌&&◌, ◌||◌, cond, find, List, [], ◌∷◌, ◌++◌, length, map, filter, Option, Some, arith}
+use Rattle.std.proofs.Common.{◌≡◌, ◌≤◌, ◌==◌, refl, sym, ap, ◌∙◌, ℕ, suc, ◌+◌, Bool, true, false, not, ◌&&◌, ◌||◌, cond, find, List, [], ◌∷◌, ◌++◌, length, map, filter, Option, Some, None, arith}
 use Rattle.std.specs.Prelude.{count_by, ⊤}
 use Rattle.std.specs.List.{list_any}
 use Rattle.std.proofs.lemmas.Bool.Decides.{nat_tests}
@@ -37,6 +37,21 @@ also R S [] [] to all = tt
 also R S [] (y ∷ ys) to all = absurd all
 also R S (x ∷ xs) [] to all = absurd all
 also R S (x ∷ xs) (y ∷ ys) to all = (to x y all.0, also R S xs ys to all.1)
+
+-- where a test holds of none
+pub also_none : {A B : Type 0} (R S : A → B → Type 0) (q : B → Bool) (xs : List A) (ys : List B) → ((x : A) (y : B) → q y ≡ false → R x y → S x y) → find q ys ≡ None → AreAll R xs ys → AreAll S xs ys
+also_none R S q [] [] to none all = tt
+also_none R S q [] (y ∷ ys) to none all = absurd all
+also_none R S q (x ∷ xs) [] to none all = absurd all
+also_none R S q (x ∷ xs) (y ∷ ys) to none all = (to x y (first (q y) none) all.0, also_none R S q xs ys to (later (q y) none) all.1)
+  where
+    first : (b : Bool) → cond b (Some y) (find q ys) ≡ None → b ≡ false
+    first true e = absurd cc
+    first false e = refl
+
+    later : (b : Bool) → cond b (Some y) (find q ys) ≡ None → find q ys ≡ None
+    later true e = absurd cc
+    later false e = e
 
 pub joined : {A B : Type 0} (R : A → B → Type 0) (xs us : List A) (ys vs : List B) → AreAll R xs ys → AreAll R us vs → AreAll R (xs ++ us) (ys ++ vs)
 joined R [] us [] vs all more = more

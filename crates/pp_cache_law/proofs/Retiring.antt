@@ -1,5 +1,5 @@
 -- The row of a key is not known any more, as the law has it.
-use Rattle.std.proofs.Common.{◌≡◌, ◌≤◌, refl, sym, subst, ap, ◌∙◌, ℕ, Bool, true, false, not, ◌==◌, ◌&&◌, cond, find, List, [], ◌∷◌, Option, Some, None, option_map, arith}
+use Rattle.std.proofs.Common.{◌≡◌, ◌≤◌, refl, sym, subst, ap, ◌∙◌, ℕ, Bool, true, false, not, ◌==◌, ◌&&◌, cond, find, List, Option, Some, None, option_map, arith}
 use Rattle.std.specs.Prelude.{bytes_eq, count_by, slice_get}
 use Rattle.std.proofs.lemmas.Slice.Eq.{bytes_eq-Decides}
 use Rattle.pp_cache.specs.Memory.{Memory, retired_at}
@@ -7,11 +7,11 @@ use Rattle.pp_cache.specs.OnDisk.{bytes_of, outdated_by}
 use Rattle.pp_holes.specs.Places.{without_owner}
 use Rattle.pp_law.specs.Lists.{Bytes, change}
 use Rattle.pp_law.specs.State.{State, Entry, Instance as Known}
-use Rattle.pp_law.specs.Table.{clear, instance, is_entry_of, is_instance, is_kept_row_of, is_row_of as is_known_row, row, swept}
+use Rattle.pp_law.specs.Table.{clear, displaced_by, instance, is_entry_of, is_instance, is_kept_row_of, is_row_of as is_known_row, row, swept}
 use Rattle.pp_objects.specs.Changes.{changed_in, given_back_by, retired, retired_from, without_slot}
 use Rattle.pp_objects.specs.Instances.{Instance, id_of, in_slot, is_in_slot, is_life, is_row_of, row_of}
 use Rattle.pp_target.specs.Name.{name_of}
-use Rattle.pp_cache_law.specs.Pairs.{AreAll, AreBoth}
+use Rattle.pp_cache_law.specs.Pairs.{AreBoth}
 use Rattle.pp_cache_law.specs.Reads.{IsFound}
 use Rattle.pp_cache_law.specs.Retires.{RetiringsAreTheLaws}
 use Rattle.pp_cache_law.specs.Tables.{AreFollowed, ShowsChunk, ShowsInstance, ShowsTable, number_in}
@@ -20,7 +20,7 @@ use Rattle.pp_cache_law.proofs.Finds.{find_mapped, find_passes, none_changed, on
 use Rattle.pp_cache_law.proofs.Followed.{followed-without}
 use Rattle.pp_cache_law.proofs.Moves.{changed_alone, changed_if, chunk_stays, in_slot-changed, in_slot-other, kept_by, number_in-changed, without-changed}
 use Rattle.pp_cache_law.proofs.Numbers.{is_same, number_of_shown, same_test, some_is, true_false}
-use Rattle.pp_cache_law.proofs.PairLemmas.{also, count_mapped, mapped_only}
+use Rattle.pp_cache_law.proofs.PairLemmas.{also, also_none, count_mapped, mapped_only}
 use Rattle.pp_cache_law.proofs.Alike.{instances_of, rows_alike, rows_of}
 use Rattle.pp_cache_law.proofs.Sweeping.{sweeps_none, sweeps_one}
 
@@ -84,7 +84,7 @@ none_kept false n = refl
 
 retired_shows : (number : ℕ → ℕ) (m : Memory) (s : State) (slot : ℕ) (key : Bytes) (i : Instance) (x : Known) (b : Bool) → is_in_slot slot i ≡ b → is_known_row key x ≡ b → ShowsInstance number m s i x
     → ShowsInstance number (record m { instances = changed_in slot retired m.instances })
-    (record s { instances = change (is_known_row key) as_retired s.instances; entries = change (is_entry_of key) stale s.entries })
+    (record s { instances = change (is_known_row key) as_retired s.instances; entries = change (is_entry_of key) stale s.entries; displaced = displaced_by key s })
     (cond b (retired i) i) (elim b as (λ c. Known) [ true ↦ as_retired x | false ↦ x ])
 retired_shows number m s slot key i x true test law one =
     let there = changed_there slot retired m.instances i true (λ j. refl) test one.there in
@@ -151,11 +151,12 @@ noted_shows number m s key shows = record {
 -- ---- there is none
 
 not_found : (number : ℕ → ℕ) (m : Memory) (s : State) (key : Bytes) → row s key ≡ None → ShowsTable number m s
-    → ShowsTable number m (record s { instances = change (is_known_row key) as_retired s.instances; entries = change (is_entry_of key) stale s.entries })
+    → ShowsTable number m (record s { instances = change (is_known_row key) as_retired s.instances; entries = change (is_entry_of key) stale s.entries; displaced = displaced_by key s })
 not_found number m s key none shows =
-    subst (λ (xs : List Known). ShowsTable number m (record s { instances = xs; entries = change (is_entry_of key) stale s.entries })) (sym (none_changed (is_known_row key) as_retired s.instances none))
+    subst (λ (xs : List Known). ShowsTable number m (record s { instances = xs; entries = change (is_entry_of key) stale s.entries; displaced = displaced_by key s })) (sym (none_changed (is_known_row key) as_retired s.instances none))
     (record {
-      instances = within m.instances s.instances none shows.instances;
+      instances =
+          also_none (ShowsInstance number m s) (ShowsInstance number m (record s { entries = change (is_entry_of key) stale s.entries; displaced = displaced_by key s })) (is_known_row key) m.instances s.instances same none shows.instances;
       chunks = shows.chunks;
       alone = shows.alone;
       apart = shows.apart;
@@ -164,7 +165,7 @@ not_found number m s key none shows =
       unkept = shows.unkept;
     })
   where
-    same : (i : Instance) (x : Known) → is_known_row key x ≡ false → ShowsInstance number m s i x → ShowsInstance number m (record s { entries = change (is_entry_of key) stale s.entries }) i x
+    same : (i : Instance) (x : Known) → is_known_row key x ≡ false → ShowsInstance number m s i x → ShowsInstance number m (record s { entries = change (is_entry_of key) stale s.entries; displaced = displaced_by key s }) i x
     same i x law one = record {
       there = one.there;
       id = one.id;
@@ -179,22 +180,6 @@ not_found number m s key none shows =
       made = one.made;
     }
 
-    none_first : (b : Bool) (x : Known) (u : Option Known) → cond b (Some x) u ≡ None → b ≡ false
-    none_first true x u e = absurd cc
-    none_first false x u e = refl
-
-    none_later : (b : Bool) (x : Known) (u : Option Known) → cond b (Some x) u ≡ None → u ≡ None
-    none_later true x u e = absurd cc
-    none_later false x u e = e
-
-    within : (is : List Instance) (xs : List Known) → find (is_known_row key) xs ≡ None → AreAll (ShowsInstance number m s) is xs
-        → AreAll (ShowsInstance number m (record s { entries = change (is_entry_of key) stale s.entries })) is xs
-    within [] [] e all = tt
-    within [] (x ∷ xs) e all = absurd all
-    within (i ∷ is) [] e all = absurd all
-    within (i ∷ is) (x ∷ xs) e all =
-        (same i x (none_first (is_known_row key x) x (find (is_known_row key) xs) e) all.0, within is xs (none_later (is_known_row key x) x (find (is_known_row key) xs) e) all.1)
-
 -- ---- there is one
 
 bools_same : (a b : Bool) → (a ≡ true → b ≡ true) → (b ≡ true → a ≡ true) → a ≡ b
@@ -205,12 +190,12 @@ bools_same false true to back = absurd (true_false (sym (back refl)))
 
 retired_alike : (number : ℕ → ℕ) (m : Memory) (s : State) (key : Bytes) (i : Instance) → row_of key m.instances ≡ Some i → in_slot i.slot m.instances ≡ Some i → ShowsTable number m s
     → ShowsTable number (record m { instances = changed_in i.slot retired m.instances })
-    (record s { instances = change (is_known_row key) as_retired s.instances; entries = change (is_entry_of key) stale s.entries })
+    (record s { instances = change (is_known_row key) as_retired s.instances; entries = change (is_entry_of key) stale s.entries; displaced = displaced_by key s })
 retired_alike number m s key i is here shows = record {
   instances =
       mapped_only (ShowsInstance number m s)
       (ShowsInstance number (record m { instances = changed_in i.slot retired m.instances })
-      (record s { instances = change (is_known_row key) as_retired s.instances; entries = change (is_entry_of key) stale s.entries }))
+      (record s { instances = change (is_known_row key) as_retired s.instances; entries = change (is_entry_of key) stale s.entries; displaced = displaced_by key s }))
       (is_row_of key) i (λ j. cond (is_in_slot i.slot j) (retired j) j) (retired_if key) m.instances s.instances each
       (one_only (is_row_of key) m.instances i (shows.rows key) is) shows.instances;
   chunks =
@@ -234,12 +219,12 @@ retired_alike number m s key i is here shows = record {
 
     each : (j : Instance) (x : Known) → (is_row_of key j ≡ true → j ≡ i) → ShowsInstance number m s j x
         → ShowsInstance number (record m { instances = changed_in i.slot retired m.instances })
-        (record s { instances = change (is_known_row key) as_retired s.instances; entries = change (is_entry_of key) stale s.entries })
+        (record s { instances = change (is_known_row key) as_retired s.instances; entries = change (is_entry_of key) stale s.entries; displaced = displaced_by key s })
         (cond (is_in_slot i.slot j) (retired j) j) (elim (is_known_row key x) as (λ c. Known) [ true ↦ as_retired x | false ↦ x ])
     each j x only one =
         let law : is_in_slot i.slot j ≡ is_known_row key x = alike j only one.there ∙ rows_alike number m s key j x one in
         subst (λ (b : Bool). ShowsInstance number (record m { instances = changed_in i.slot retired m.instances })
-        (record s { instances = change (is_known_row key) as_retired s.instances; entries = change (is_entry_of key) stale s.entries })
+        (record s { instances = change (is_known_row key) as_retired s.instances; entries = change (is_entry_of key) stale s.entries; displaced = displaced_by key s })
         (cond (is_in_slot i.slot j) (retired j) j) (elim b as (λ c. Known) [ true ↦ as_retired x | false ↦ x ]))
         law
         (retired_shows number m s i.slot key j x (is_in_slot i.slot j) refl (sym law) one)
@@ -290,13 +275,13 @@ some_known key n x xs there = find_mapped (is_instance n) (retired_if key) xs sa
 retires_at : (number : ℕ → ℕ) (m : Memory) (s : State) (key : Bytes) (i : Instance) (x y : Known) (b : Bool) → row_of key m.instances ≡ Some i → ShowsInstance number m s i x → instance s x.id ≡ Some y → AreFollowed m.instances → ShowsTable number m s
     → (i.followers == 0) ≡ b
     → ShowsTable number (record m { instances = cond b (without_slot i.slot m.instances) (changed_in i.slot retired m.instances); chunks = cond b (without_owner i.slot m.chunks) m.chunks })
-    (swept (record s { instances = change (is_known_row key) as_retired s.instances; entries = change (is_entry_of key) stale s.entries }))
+    (swept (record s { instances = change (is_known_row key) as_retired s.instances; entries = change (is_entry_of key) stale s.entries; displaced = displaced_by key s }))
 retires_at number m s key i x y true is one there needed shows none =
     subst (λ (js : List Instance). ShowsTable number (record m { instances = js; chunks = without_owner i.slot m.chunks })
-    (swept (record s { instances = change (is_known_row key) as_retired s.instances; entries = change (is_entry_of key) stale s.entries })))
+    (swept (record s { instances = change (is_known_row key) as_retired s.instances; entries = change (is_entry_of key) stale s.entries; displaced = displaced_by key s })))
     (without-changed i.slot retired m.instances (λ j. refl))
     (sweeps_one number (record m { instances = changed_in i.slot retired m.instances })
-    (record s { instances = change (is_known_row key) as_retired s.instances; entries = change (is_entry_of key) stale s.entries }) i.slot x.id (retired i)
+    (record s { instances = change (is_known_row key) as_retired s.instances; entries = change (is_entry_of key) stale s.entries; displaced = displaced_by key s }) i.slot x.id (retired i)
     (retired_if key y)
     (retired_alike number m s key i is one.there shows)
     (number_in-changed number i.slot i.slot retired m.instances (λ j. refl) (λ j. refl) ∙ number_of_shown number m s i x one)
@@ -309,7 +294,7 @@ retires_at number m s key i x y true is one there needed shows none =
     }))
 retires_at number m s key i x y false is one there needed shows some =
     sweeps_none number (record m { instances = changed_in i.slot retired m.instances })
-    (record s { instances = change (is_known_row key) as_retired s.instances; entries = change (is_entry_of key) stale s.entries })
+    (record s { instances = change (is_known_row key) as_retired s.instances; entries = change (is_entry_of key) stale s.entries; displaced = displaced_by key s })
     (retired_alike number m s key i is one.there shows) (retired_followed m.instances i one.there some needed)
 
 instance_known : (number : ℕ → ℕ) (m : Memory) (s : State) (i : Instance) (x : Known) → ShowsTable number m s → ShowsInstance number m s i x → IsFound number m s (id_of i)
@@ -321,9 +306,9 @@ clears_at number m s key shows needed = by (row_of key m.instances) (row s key) 
   where
     by : (u : Option Instance) (v : Option Known) → row_of key m.instances ≡ u → row s key ≡ v → AreBoth (ShowsInstance number (noted key m) s) u v
         → ShowsTable number (record m { instances = retired_from u m.instances; chunks = given_back_by u m.chunks; outdated = outdated_by (name_of key) m.outdated })
-        (swept (record s { instances = change (is_known_row key) as_retired s.instances; entries = change (is_entry_of key) stale s.entries }))
+        (swept (record s { instances = change (is_known_row key) as_retired s.instances; entries = change (is_entry_of key) stale s.entries; displaced = displaced_by key s }))
     by None None e f both =
-        sweeps_none number (noted key m) (record s { instances = change (is_known_row key) as_retired s.instances; entries = change (is_entry_of key) stale s.entries })
+        sweeps_none number (noted key m) (record s { instances = change (is_known_row key) as_retired s.instances; entries = change (is_entry_of key) stale s.entries; displaced = displaced_by key s })
         (not_found number (noted key m) s key f (noted_shows number m s key shows)) needed
     by None (Some x) e f both = absurd both
     by (Some i) None e f both = absurd both

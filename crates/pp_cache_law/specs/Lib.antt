@@ -1,6 +1,7 @@
 pub mod Changes
 pub mod Frames
 pub mod Joins
+pub mod Kept
 pub mod Notes
 pub mod Outdated
 pub mod Pairs

@@ -1,11 +1,11 @@
 -- What is noted of the disk, in the cache and in the table of the law alike.
-use Rattle.std.specs.Prelude.{◌≡◌, ◌<◌, ℕ, true, false, List, ◌∷◌, length, Some, None}
+use Rattle.std.specs.Prelude.{◌≡◌, ◌<◌, ◌⊎◌, ℕ, true, false, List, ◌∷◌, length, Some, None}
 use Rattle.pp_cache.specs.Memory.{Memory}
 use Rattle.pp_cache.specs.OnDisk.{kept_to}
 use Rattle.pp_law.specs.Lists.{Bytes}
 use Rattle.pp_law.specs.State.{State, Entry, Instance as Known, Todo, Enter}
 use Rattle.pp_law.specs.Store.{enter_next, note_gone, note_kept}
-use Rattle.pp_law.specs.Table.{instance, kept_row}
+use Rattle.pp_law.specs.Table.{instance, kept_row, row}
 use Rattle.pp_objects.specs.Instances.{is_there}
 use Rattle.pp_objects.specs.declared.id.ObjectId.{ObjectId}
 use Rattle.pp_cache_law.specs.Tables.{OfCaches, ShowsCache}
@@ -31,6 +31,6 @@ KeepingsAreTheLaws = OfCaches (λ number m s. (id : ObjectId) (x : Known) (e : E
 abbrev pub LossesAreTheLaws : Type 0
 LossesAreTheLaws = OfCaches (λ number m s. (id : ObjectId) (x : Known) → IsRowThere number m s id x → ShowsCache number (record m { extents = kept_to id 0 m.extents }) (note_gone x.key s))
 
--- an entry that stands for no row is gone
+-- an entry that stands for no row, or for none in memory, is gone
 abbrev pub RemovalsAreTheLaws : Type 0
-RemovalsAreTheLaws = OfCaches (λ number m s. (key : Bytes) → kept_row s key ≡ None → ShowsCache number m (note_gone key s))
+RemovalsAreTheLaws = OfCaches (λ number m s. (key : Bytes) → (kept_row s key ≡ None) ⊎ (row s key ≡ None) → ShowsCache number m (note_gone key s))

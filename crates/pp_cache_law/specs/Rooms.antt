@@ -46,5 +46,5 @@ give_way key busy m = cond (nat_lt 1024 (count_by is_row m.instances)) (way_by k
 
 -- the law has it leave before
 abbrev pub EnteringsWithRoomAreTheLaws : Type 0
-EnteringsWithRoomAreTheLaws = OfCaches (λ number m s. (busy : List ObjectId) (id : ObjectId) (key : Bytes) (e : Entry) (is_new : Bool) → AreBusy number m s busy → MayEnter m s id key e
-    → ShowsCache (numbered m.lives s.next_instance number) (give_way key busy (entered id key e m)) (enter key is_new s))
+EnteringsWithRoomAreTheLaws = OfCaches (λ number m s. (busy : List ObjectId) (id : ObjectId) (key : Bytes) (stored : List Field) (e : Entry) (is_new : Bool) → AreBusy number m s busy → MayEnter m s id key stored e
+    → ShowsCache (numbered m.lives s.next_instance number) (give_way key busy (entered id key stored e m)) (enter key is_new s))

@@ -5,7 +5,7 @@ use Rattle.pp_cache.specs.OnDisk.{kept_to}
 use Rattle.pp_fresh.specs.declared.aging.Times.{Times}
 use Rattle.pp_law.specs.Lists.{Bytes}
 use Rattle.pp_law.specs.State.{State, Entry}
-use Rattle.pp_law.specs.Table.{add_row, clear, kept_row, row}
+use Rattle.pp_law.specs.Table.{add_row, clear, row, row_on_disk}
 use Rattle.pp_objects.specs.Instances.{in_slot}
 use Rattle.pp_objects.specs.Kept.{kept_of}
 use Rattle.pp_objects.specs.declared.id.ObjectId.{ObjectId}
@@ -22,18 +22,19 @@ abbrev pub SettlingsAreTheLaws : Type 0
 SettlingsAreTheLaws = OfCaches (λ number m s. (id : ObjectId) (key : Bytes) (version : Version) (fields : List Field) (times : Times) (is_new : Bool) → in_slot id.slot m.instances ≡ None → id.life ≡ m.lives
     → ShowsCache (numbered m.lives s.next_instance number) (with_outdated key (with_row id key version fields times m)) (add_row key version (kept_of fields times) times is_new (clear key s)))
 
--- a row that is kept on the disk alone may come into memory, in a vacant slot. Its fields stand there as they are kept
-pub record MayEnter (m : Memory) (s : State) (id : ObjectId) (key : Bytes) (e : Entry) : Type 0 where
+-- a row that is kept on the disk alone may come into memory, in a vacant slot. In memory it has the fields that are kept of those
+-- that stand there
+pub record MayEnter (m : Memory) (s : State) (id : ObjectId) (key : Bytes) (stored : List Field) (e : Entry) : Type 0 where
   pub vacant : in_slot id.slot m.instances ≡ None
   pub life : id.life ≡ m.lives
   pub slot : id.slot < length m.extents
   pub alone : row s key ≡ None
-  pub kept : kept_row s key ≡ Some e
-  pub fields : kept_of e.fields e.times ≡ e.fields
+  pub kept : row_on_disk s key ≡ Some e
+  pub fields : e.fields ≡ kept_of stored e.times
 
-abbrev pub entered : ObjectId → Bytes → Entry → Memory → Memory
-entered id key e m = record (with_row id key e.version e.fields e.times m) { extents = kept_to id e.extent m.extents }
+abbrev pub entered : ObjectId → Bytes → List Field → Entry → Memory → Memory
+entered id key stored e m = record (with_row id key e.version stored e.times m) { extents = kept_to id e.extent m.extents }
 
 abbrev pub EnteringsAreTheLaws : Type 0
-EnteringsAreTheLaws = OfCaches (λ number m s. (id : ObjectId) (key : Bytes) (e : Entry) (is_new : Bool) → MayEnter m s id key e
-    → ShowsCache (numbered m.lives s.next_instance number) (entered id key e m) (add_row key e.version e.fields e.times is_new s))
+EnteringsAreTheLaws = OfCaches (λ number m s. (id : ObjectId) (key : Bytes) (stored : List Field) (e : Entry) (is_new : Bool) → MayEnter m s id key stored e
+    → ShowsCache (numbered m.lives s.next_instance number) (entered id key stored e m) (add_row key e.version e.fields e.times is_new s))

@@ -25,6 +25,6 @@ pub use changing::{changes_are_the_laws, retired_ones_leave_as_the_laws};
 pub use joining::joins_are_the_laws;
 pub use noting::{extents_are_noted_as_the_laws, outdated_ones_are_the_laws};
 pub use reading::{bytes_are_the_laws, instances_are_the_laws, leavings_are_the_laws};
-pub use settling::{room_is_made_as_the_laws, rows_are_made_as_the_laws};
+pub use settling::{fields_stay_kept, room_is_made_as_the_laws, rows_are_made_as_the_laws};
 pub use standing::tables_are_the_laws;
 pub use using::uses_are_the_laws;

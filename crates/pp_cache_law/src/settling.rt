@@ -1,4 +1,5 @@
 // A new row is made, and the table of the law is changed alike.
+ghost use Rattle.pp_cache_law.specs.Kept.{KeptAreKept, RefreshedAreKept};
 ghost use Rattle.pp_cache_law.specs.Refusals.{RefusalsAreTheLaws};
 ghost use Rattle.pp_cache_law.specs.Rooms.{EnteringsWithRoomAreTheLaws, MakingsAreTheLaws};
 ghost use Rattle.pp_cache_law.specs.Settles.{EnteringsAreTheLaws, SettlingsAreTheLaws};
@@ -16,4 +17,10 @@ pub fn room_is_made_as_the_laws()
     ensures makings { MakingsAreTheLaws }
     ensures enterings { EnteringsWithRoomAreTheLaws }
     ensures refusals { RefusalsAreTheLaws }
+{}
+
+/// The fields of a row are those that are kept of them: so one that is drafted comes back into memory with the fields that it had.
+pub fn fields_stay_kept()
+    ensures kept { KeptAreKept }
+    ensures refreshed { RefreshedAreKept }
 {}

@@ -22,7 +22,7 @@ use Rattle.pp_law.specs.Phases.{in_phase}
 use Rattle.pp_law.specs.Replies.{regained}
 use Rattle.pp_law.specs.Requests.{Front, Parsed, NoHeadYet, NoHead, IsRequest, key_in, parsed_in}
 use Rattle.pp_law.specs.State.{State, Client, Deciding, Entry, Exchange, Instance, Reply}
-use Rattle.pp_law.specs.Table.{add_row, enter, forget, forget_row, idle_row, kept_row, mark_row, row, row_for, rows, with_room}
+use Rattle.pp_law.specs.Table.{add_row, enter, forget, forget_row, idle_row, row_on_disk, mark_row, row, row_for, rows, with_room}
 use Rattle.pp_obeys.specs.Moves.{Goes, Moves}
 use Rattle.pp_obeys.proofs.Calls.{keeps_more, moves_to}
 use Rattle.pp_obeys.proofs.Frames.{Frame, frame, frame_of, stays}
@@ -81,8 +81,8 @@ seen_kept : (key : Bytes) (s : State) (o : Option Entry) → seen (elim o as (λ
 seen_kept key s None = refl
 seen_kept key s (Some e) = seen_added key e.version e.fields e.times false (with_room s) ∙ seen_room s
 
-seen_enters : (key : Bytes) (s : State) (o : Option Instance) → seen (elim o as (λ c. State) [ Some x ↦ s | None ↦ elim (kept_row s key) as (λ c. State) [ None ↦ s | Some e ↦ add_row key e.version e.fields e.times false (with_room s) ] ]) ≡ seen s
-seen_enters key s None = seen_kept key s (kept_row s key)
+seen_enters : (key : Bytes) (s : State) (o : Option Instance) → seen (elim o as (λ c. State) [ Some x ↦ s | None ↦ elim (row_on_disk s key) as (λ c. State) [ None ↦ s | Some e ↦ add_row key e.version e.fields e.times false (with_room s) ] ]) ≡ seen s
+seen_enters key s None = seen_kept key s (row_on_disk s key)
 seen_enters key s (Some x) = refl
 
 seen_enter : (key : Bytes) (s : State) → seen (enter key false s) ≡ seen s

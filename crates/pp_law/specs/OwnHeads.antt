@@ -26,7 +26,7 @@ use Rattle.pp_law.specs.Passing.{passed_by}
 use Rattle.pp_law.specs.Requests.{parsed_in}
 use Rattle.pp_law.specs.Stages.{is_begun, bound_of, is_own, is_through}
 use Rattle.pp_law.specs.State.{State, Answer, Through, Own, Filling, Bound, Body, Joining, Relaying, Dropping, Brought, Useless, Joins, Passes, TooWide, Client, Exchange, Instance, Sent}
-use Rattle.pp_law.specs.Table.{is_same_version, row, kept_row, instance, extent_of, on_instance, mark_row, make_row, enter, clear, Next, next_of, shown_span, is_provided}
+use Rattle.pp_law.specs.Table.{is_same_version, row, row_on_disk, instance, extent_of, on_instance, mark_row, make_row, enter, clear, Next, next_of, shown_span, is_provided}
 
 abbrev pub key_of : Exchange → Bytes
 key_of e = text_of e.key
@@ -122,10 +122,10 @@ unfoldable pub refresh : Exchange → Response → State → State
 refresh e head s = renew_row e head (enter (key_of e) true s)
 
 abbrev pub known_version : State → Bytes → Option Version
-known_version s key = elim (row s key) [ Some x ↦ Some x.version | None ↦ elim (kept_row s key) [ None ↦ None | Some k ↦ Some k.version ] ]
+known_version s key = elim (row s key) [ Some x ↦ Some x.version | None ↦ elim (row_on_disk s key) [ None ↦ None | Some k ↦ Some k.version ] ]
 
 abbrev pub known_fields : State → Bytes → List Field
-known_fields s key = elim (row s key) [ Some x ↦ x.fields | None ↦ elim (kept_row s key) [ None ↦ [] | Some k ↦ k.fields ] ]
+known_fields s key = elim (row s key) [ Some x ↦ x.fields | None ↦ elim (row_on_disk s key) [ None ↦ [] | Some k ↦ k.fields ] ]
 
 -- what it would take over has room in the row
 abbrev pub may_refresh : Exchange → Response → State → Bool

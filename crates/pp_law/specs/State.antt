@@ -241,7 +241,7 @@ pub record State : Type 0 where
   pub entries : List Entry
   pub closed_names : List Bytes
   pub under_way : Option DiskOp
-  pub displaced : List Bytes  -- keys whose name another key took
+  pub displaced : List Bytes  -- keys that have an entry whose name another key took
   pub has_lost_draft : Bool  -- a draft failed, and the clock has not ticked since
   -- this turn
   pub is_ticked : Bool

@@ -148,29 +148,19 @@ has_to_seal s = list_any (is_due_to_seal s) s.instances
 
 -- ---- an entry is noted as gone, and taken away
 
+-- its row was replaced or cleared, another key took its name, or its name is closed
 abbrev pub is_gone : State → Entry → Bool
-is_gone s e = e.is_stale || is_closed s e.name
-
--- a row of another key, that may be drafted, may take its name; but one whose own name was taken takes none back in this life
-abbrev pub takes_name : State → Entry → Instance → Bool
-takes_name s e x =
-    not s.has_lost_draft && not x.is_retired && bytes_eq (name_of x.key) e.name && not (bytes_eq x.key e.key) && not (has_text x.key s.displaced) && is_sized x.version.length && fits x.fields (block_of x) && is_worth_a_draft s x
-
-abbrev pub is_displaced : State → Entry → Bool
-is_displaced s e = list_any (takes_name s e) s.instances
+is_gone s e = e.is_stale || has_text e.key s.displaced || is_closed s e.name
 
 abbrev pub removing : State → Entry → List Todo
 removing s e = elim (is_closed s e.name) [ true ↦ [] | false ↦ Do (Remove e.name) ∷ [] ]
-
-abbrev pub displaced_by : State → Entry → List Bytes
-displaced_by s e = elim (is_gone s e) [ true ↦ s.displaced | false ↦ e.key ∷ s.displaced ]
 
 unfoldable pub remove_entry : Entry → State → State
 remove_entry e s = record s {
   agenda = record { name = e.name; todo = removing s e };
   entries = without (is_entry_of e.key) s.entries;
   acknowledged = without (is_entry_of e.key) s.acknowledged;
-  displaced = displaced_by s e;
+  displaced = without (bytes_eq e.key) s.displaced;
 }
 
 unfoldable pub note_gone : Bytes → State → State
@@ -184,7 +174,7 @@ abbrev pub is_at_rest : State → Bool
 is_at_rest s = is_idle_disk s && is_empty s.agenda.todo
 
 abbrev pub may_note_gone : State → Bytes → Bool
-may_note_gone s key = is_idle_disk s && is_empty s.agenda.todo && list_any (λ e. is_entry_of key e && (is_gone s e || is_displaced s e)) s.entries
+may_note_gone s key = is_idle_disk s && is_empty s.agenda.todo && list_any (λ e. is_entry_of key e && is_gone s e) s.entries
 
 -- ---- operations
 

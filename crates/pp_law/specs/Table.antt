@@ -1,6 +1,6 @@
 -- The table of what is known of each key: its row, the versions that were retired, what is held of them, and what comes
 -- (RFC 2616, section 13.5.4; RFC 7233, sections 4.1 and 4.3).
-use Rattle.std.specs.Prelude.{ℕ, zero, suc, ◌+◌, ◌-◌, ◌*◌, ◌/◌, ◌%◌, Bool, true, false, ◌==◌, ◌&&◌, ◌||◌, not, nat_lt, nat_le, min, List, [], ◌∷◌, ◌++◌, find, filter, filter_map, count_by, bytes_eq, is_some, Option, Some, None}
+use Rattle.std.specs.Prelude.{ℕ, zero, suc, ◌+◌, ◌-◌, ◌*◌, ◌/◌, ◌%◌, Bool, true, false, ◌==◌, ◌&&◌, ◌||◌, not, nat_lt, nat_le, min, List, [], ◌∷◌, ◌++◌, find, map, filter, filter_map, count_by, bytes_eq, is_some, Option, Some, None}
 use Rattle.std.specs.List.{list_any}
 use Rattle.pp_fresh.specs.declared.aging.Times.{Times}
 use Rattle.pp_head.specs.Request.{Request}
@@ -8,10 +8,11 @@ use Rattle.pp_plan.specs.Need.{is_near}
 use Rattle.pp_plan.specs.Row.{Row}
 use Rattle.pp_plan.specs.Spans.{resolved, span_in}
 use Rattle.pp_target.specs.Key.{text_of}
+use Rattle.pp_target.specs.Name.{name_of}
 use Rattle.pp_text.specs.Fields.{Field}
 use Rattle.pp_valid.specs.declared.version.Version.{Version}
 use Rattle.pp_law.specs.Chunks.{chunk_len, filled}
-use Rattle.pp_law.specs.Lists.{Bytes, change, without, is_some_with, is_this}
+use Rattle.pp_law.specs.Lists.{Bytes, change, without, has_text, is_some_with, is_this}
 use Rattle.pp_law.specs.Stages.{reply_of, is_headed, bound_of}
 use Rattle.pp_law.specs.State.{State, Instance, Chunk, Entry, Exchange, Bound, Through, Own, Filling, Client, Reply}
 
@@ -41,6 +42,10 @@ is_kept_row_of key e = not e.is_stale && is_entry_of key e
 -- what the store holds of a key and still stands for its row
 abbrev pub kept_row : State → Bytes → Option Entry
 kept_row s key = find (is_kept_row_of key) s.entries
+
+-- the same as long as it may come into memory: not once another key took its name
+abbrev pub row_on_disk : State → Bytes → Option Entry
+row_on_disk s key = elim (has_text key s.displaced) [ true ↦ None | false ↦ kept_row s key ]
 
 abbrev pub extent_of : State → Instance → ℕ
 extent_of s x = elim x.is_retired [ true ↦ 0 | false ↦ elim (kept_row s x.key) [ None ↦ 0 | Some e ↦ e.extent ] ]
@@ -106,7 +111,7 @@ of_entry head e = record { version = e.version; fields = e.fields; times = e.tim
 abbrev pub row_for : State → Request → Bytes → Option Row
 row_for s head key = elim (row s key) [
   | Some x ↦ Some (of_instance s head x)
-  | None ↦ elim (kept_row s key) [ None ↦ None | Some e ↦ Some (of_entry head e) ]
+  | None ↦ elim (row_on_disk s key) [ None ↦ None | Some e ↦ Some (of_entry head e) ]
 ]
 
 -- ---- followers
@@ -198,11 +203,19 @@ swept s = record s {
   chunks = without (is_chunk_of_any (filter (is_left_over s) s.instances)) s.chunks;
 }
 
--- the row is replaced, or is not known any more
+-- the entry has the name of this key, and is another's
+abbrev pub is_namesake : Bytes → Entry → Bool
+is_namesake key e = not (is_entry_of key e) && bytes_eq e.name (name_of key)
+
+abbrev pub displaced_by : Bytes → State → List Bytes
+displaced_by key s = map (λ e. e.key) (filter (is_namesake key) s.entries) ++ s.displaced
+
+-- the row is replaced, or is not known any more. Ours: its key takes the name of its entry from any other
 unfoldable pub clear : Bytes → State → State
 clear key s = swept (record s {
   instances = change (is_row_of key) (λ x. record x { is_retired = true }) s.instances;
   entries = change (is_entry_of key) (λ e. record e { is_stale = true }) s.entries;
+  displaced = displaced_by key s;
 })
 
 -- it is the most recently used one
@@ -244,9 +257,9 @@ make_row key version fields times s = add_row key version fields times true (wit
 unfoldable pub enter : Bytes → Bool → State → State
 enter key is_new s = elim (row s key) [
   | Some x ↦ s
-  | None ↦ elim (kept_row s key) [ None ↦ s | Some e ↦ add_row key e.version e.fields e.times is_new (with_room s) ]
+  | None ↦ elim (row_on_disk s key) [ None ↦ s | Some e ↦ add_row key e.version e.fields e.times is_new (with_room s) ]
 ]
 
 -- it would, and another has to leave before
 abbrev pub must_forget : State → Bytes → Bool
-must_forget s key = not (is_some (row s key)) && is_some (kept_row s key) && not (nat_lt (rows s) 1024) && is_some (idle_row s)
+must_forget s key = not (is_some (row s key)) && is_some (row_on_disk s key) && not (nat_lt (rows s) 1024) && is_some (idle_row s)

@@ -20,7 +20,7 @@ use Rattle.pp_law.specs.Replies.{begun_at_end, is_outrun, begin_replies, use_chu
 use Rattle.pp_law.specs.Requests.{key_in}
 use Rattle.pp_law.specs.Stages.{is_passing, on_passed, bound_of}
 use Rattle.pp_law.specs.State.{State, AskTooLong, Client, Exchange, Instance, Passed}
-use Rattle.pp_law.specs.Table.{is_row_of, Next, next_of, row, kept_row, rows, idle_row, row_for, mark_row, on_instance, forget, forget_row, with_room, add_row, enter}
+use Rattle.pp_law.specs.Table.{is_row_of, Next, next_of, row, row_on_disk, rows, idle_row, row_for, mark_row, on_instance, forget, forget_row, with_room, add_row, enter}
 use Rattle.pp_laws.specs.Runs.{IsIn}
 use Rattle.pp_laws.proofs.Callers.{asking_with-same, begun_at_end-same, heard_by-same, next_request-same, on_passed-same, refused_with-same, regained_by-same, relayed-same, same_parts}
 use Rattle.pp_laws.proofs.Cases.{by_front, by_result, each_of, each_so, when}
@@ -164,7 +164,7 @@ with_room-clients s = same_when s (nat_lt (rows s) 1024) _ _ refl (same_each s (
 
 enter-clients : (key : Bytes) (is_new : Bool) (s : State) → (enter key is_new s).clients ≡ s.clients
 unfolding enter add_row
-enter-clients key is_new s = same_each s (row s key) _ _ (same_each s (kept_row s key) _ _ refl (λ e. with_room-clients s)) (λ x. refl)
+enter-clients key is_new s = same_each s (row s key) _ _ (same_each s (row_on_disk s key) _ _ refl (λ e. with_room-clients s)) (λ x. refl)
 
 mark_row_of-clients : (key : Bytes) (s : State) → (mark_row_of key s).clients ≡ s.clients
 unfolding mark_row_of mark_row on_instance

@@ -7,7 +7,7 @@ use Rattle.pp_valid.specs.declared.version.Version.{Version}
 use Rattle.pp_law.specs.Lists.{Bytes, change, is_some_with}
 use Rattle.pp_law.specs.OwnHeads.{key_of, renewed, renew, renew_row, refresh, times_for, known_version}
 use Rattle.pp_law.specs.State.{State, Exchange, Instance, Entry}
-use Rattle.pp_law.specs.Table.{is_same_version, is_instance, is_row_of, is_left_over, row, rows, kept_row, idle_row, on_instance, forget, swept, clear, mark_row, forget_row, with_room, add_row, make_row, enter}
+use Rattle.pp_law.specs.Table.{is_same_version, is_instance, is_row_of, is_left_over, row, rows, row_on_disk, idle_row, on_instance, forget, swept, clear, mark_row, forget_row, with_room, add_row, make_row, enter}
 use Rattle.pp_laws.specs.Runs.{IsIn}
 use Rattle.pp_laws.proofs.Lists.{Changed, in_change, in_find, in_moved, in_push, other, same, the_one}
 use Rattle.pp_laws.proofs.Sound.{FactsOf, Since, instance_id}
@@ -115,7 +115,7 @@ entered_by key v is_new s h None (Some k) none known x i is =
 
 enter-is : {b : Since} (key : Bytes) (v : Version) (is_new : Bool) (s : State) → FactsOf b s → is_some_with (is_same_version v) (known_version s key) ≡ true → RowIs key v (enter key is_new s)
 unfolding enter
-enter-is key v is_new s h known = entered_by key v is_new s h (row s key) (kept_row s key) refl known
+enter-is key v is_new s h known = entered_by key v is_new s h (row s key) (row_on_disk s key) refl known
 
 on_instance-is : (key : Bytes) (v : Version) (id : ℕ) (f : Instance → Instance) (s : State) → ((x : Instance) → is_row_of key (f x) ≡ is_row_of key x) → ((x : Instance) → (f x).version ≡ x.version) → RowIs key v s → RowIs key v (on_instance id f s)
 unfolding on_instance

@@ -6,7 +6,7 @@ use Rattle.pp_valid.specs.declared.version.Version.{Version}
 use Rattle.pp_law.specs.Chunks.{is_chunk, chunk_len, put_chunk, use_chunk, drop_chunk, note_use}
 use Rattle.pp_law.specs.Lists.{Bytes}
 use Rattle.pp_law.specs.State.{State, Instance, Chunk}
-use Rattle.pp_law.specs.Table.{is_instance, is_row_of, is_left_over, is_chunk_of_any, row, kept_row, rows, idle_row, on_instance, forget, swept, clear, mark_row, forget_row, with_room, add_row, make_row, enter}
+use Rattle.pp_law.specs.Table.{is_instance, is_row_of, is_left_over, is_chunk_of_any, row, row_on_disk, rows, idle_row, on_instance, forget, swept, clear, mark_row, forget_row, with_room, add_row, make_row, enter}
 use Rattle.pp_laws.specs.Origin.{AllSent}
 use Rattle.pp_laws.specs.Runs.{IsIn}
 use Rattle.pp_laws.proofs.Cases.{each_of, each_so, when}
@@ -62,7 +62,7 @@ make_row-sound key version fields times s h = add_row-sound key version fields t
 pub enter-sound : {b : Since} (key : Bytes) (is_new : Bool) (s : State) → Sound b s → Sound b (enter key is_new s)
 unfolding enter
 enter-sound key is_new s h =
-    each_so (row s key) (λ none. each_of (kept_row s key) h (λ e. add_row-sound key e.version e.fields e.times is_new _ (with_room-no_row key s none) (with_room-sound s h))) (λ x found. h)
+    each_so (row s key) (λ none. each_of (row_on_disk s key) h (λ e. add_row-sound key e.version e.fields e.times is_new _ (with_room-no_row key s none) (with_room-sound s h))) (λ x found. h)
 
 -- ---- chunks
 

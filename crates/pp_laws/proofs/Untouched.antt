@@ -7,10 +7,10 @@ use Rattle.pp_target.specs.Key.{Key, text_of}
 use Rattle.pp_text.specs.Fields.{Field}
 use Rattle.pp_valid.specs.declared.version.Version.{Version}
 use Rattle.pp_law.specs.Connections.{on_client_of}
-use Rattle.pp_law.specs.Lists.{Bytes, change, is_some_with}
+use Rattle.pp_law.specs.Lists.{Bytes, is_some_with}
 use Rattle.pp_law.specs.OwnHeads.{key_of, times_for, renewed, renew, renew_row, refresh, known_version, clears_row, cleared_by}
 use Rattle.pp_law.specs.State.{State, Aim, Through, Own, Filling, Client, Exchange, Instance}
-use Rattle.pp_law.specs.Table.{is_row_of, is_entry_of, row, rows, kept_row, idle_row, on_instance, forget, swept, clear, mark_row, forget_row, with_room, add_row, make_row, enter}
+use Rattle.pp_law.specs.Table.{row, rows, row_on_disk, idle_row, on_instance, forget, swept, clear, mark_row, forget_row, with_room, add_row, make_row, enter}
 use Rattle.pp_law.specs.ThroughHeads.{invalidates, key_named, is_same_host, clear_named, clear_each, places_named, invalidated, disproves, reads, disproved}
 
 -- ---- what leaves connections and exchanges as they are
@@ -51,14 +51,9 @@ forget-untouched : (id : ℕ) (s : State) → Untouched s (forget id s)
 unfolding forget
 forget-untouched id s = record { conns = refl; exchanges = refl }
 
-swept-untouched : (s : State) → Untouched s (swept s)
-unfolding swept
-swept-untouched s = record { conns = refl; exchanges = refl }
-
 pub clear-untouched : (key : Bytes) (s : State) → Untouched s (clear key s)
-unfolding clear
-clear-untouched key s = let u = swept-untouched (record s { instances = change (is_row_of key) (λ x. record x { is_retired = true }) s.instances; entries = change (is_entry_of key) (λ e. record e { is_stale = true }) s.entries }) in
-    record { conns = u.conns; exchanges = u.exchanges }
+unfolding clear swept
+clear-untouched key s = record { conns = refl; exchanges = refl }
 
 mark_row-untouched : (id : ℕ) (s : State) → Untouched s (mark_row id s)
 unfolding mark_row
@@ -83,7 +78,7 @@ make_row-untouched key version fields times s = untouched_on s _ _ (untouched_on
 enter-untouched : (key : Bytes) (is_new : Bool) (s : State) → Untouched s (enter key is_new s)
 unfolding enter
 enter-untouched key is_new s =
-    untouched_each s (row s key) (untouched_each s (kept_row s key) (untouched s) (λ e. untouched_on s _ _ (with_room-untouched s) (add_row-untouched key e.version e.fields e.times is_new _))) (λ x. untouched s)
+    untouched_each s (row s key) (untouched_each s (row_on_disk s key) (untouched s) (λ e. untouched_on s _ _ (with_room-untouched s) (add_row-untouched key e.version e.fields e.times is_new _))) (λ x. untouched s)
 
 renew-untouched : (x : Instance) (head : Response) (times : Times) (s : State) → Untouched s (renew x head times s)
 unfolding renew

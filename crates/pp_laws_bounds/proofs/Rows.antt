@@ -6,7 +6,7 @@ use Rattle.pp_valid.specs.declared.version.Version.{Version}
 use Rattle.pp_law.specs.Chunks.{is_chunk, use_chunk, drop_chunk, note_use}
 use Rattle.pp_law.specs.Lists.{Bytes}
 use Rattle.pp_law.specs.State.{State, Instance}
-use Rattle.pp_law.specs.Table.{kept_row, row, rows, idle_row, on_instance, forget, mark_row, forget_row, with_room, add_row, make_row, enter}
+use Rattle.pp_law.specs.Table.{row_on_disk, row, rows, idle_row, on_instance, forget, mark_row, forget_row, with_room, add_row, make_row, enter}
 use Rattle.pp_laws_bounds.proofs.Cases.{each_of, when}
 use Rattle.pp_laws_bounds.proofs.Exchanges.{clear-kept}
 use Rattle.pp_laws_bounds.proofs.Kept.{Kept, facts_of, kept}
@@ -41,7 +41,7 @@ make_row-kept key version fields times s h = add_row-kept key version fields tim
 
 pub enter-kept : {but : List ℕ} (key : Bytes) (is_new : Bool) (s : State) → Kept but s → Kept but (enter key is_new s)
 unfolding enter
-enter-kept key is_new s h = each_of (row s key) (each_of (kept_row s key) h (λ e. add_row-kept key e.version e.fields e.times is_new _ (with_room-kept s h))) (λ x. h)
+enter-kept key is_new s h = each_of (row s key) (each_of (row_on_disk s key) h (λ e. add_row-kept key e.version e.fields e.times is_new _ (with_room-kept s h))) (λ x. h)
 
 pub use_chunk-kept : {but : List ℕ} (id i : ℕ) (s : State) → Kept but s → Kept but (use_chunk id i s)
 unfolding use_chunk

@@ -9,7 +9,7 @@ use Rattle.pp_law.specs.Chunks.{is_chunk, use_chunk, drop_chunk, note_use}
 use Rattle.pp_law.specs.Lists.{Bytes, is_some_with, is_this}
 use Rattle.pp_law.specs.Stages.{bound_of, reply_of}
 use Rattle.pp_law.specs.State.{State, Bound, Client, Exchange, Instance, Reply}
-use Rattle.pp_law.specs.Table.{is_instance, is_row_of, is_left_over, is_followed, follows, is_bound_to, is_idle_row, kept_row, row, rows, idle_row, on_instance, forget, swept, clear, mark_row, forget_row, with_room, add_row, make_row, enter}
+use Rattle.pp_law.specs.Table.{is_instance, is_row_of, is_left_over, is_followed, follows, is_bound_to, is_idle_row, row_on_disk, row, rows, idle_row, on_instance, forget, swept, clear, mark_row, forget_row, with_room, add_row, make_row, enter}
 use Rattle.pp_laws.specs.Runs.{IsIn}
 use Rattle.pp_laws.proofs.Lists.{in_find}
 use Rattle.pp_laws.proofs.Sound.{instance_id}
@@ -175,7 +175,7 @@ make_row-small key version fields times s h = let cleared = clear-small key s h 
 
 pub enter-small : {a : As} (key : Bytes) (is_new : Bool) (s : State) → Small a s → Small a (enter key is_new s)
 unfolding enter
-enter-small key is_new s h = each_of (row s key) (each_of (kept_row s key) h (λ e. add_row-small key e.version e.fields e.times is_new (with_room s) (with_room-room s (facts_of h)) (with_room-small s h))) (λ x. h)
+enter-small key is_new s h = each_of (row s key) (each_of (row_on_disk s key) h (λ e. add_row-small key e.version e.fields e.times is_new (with_room s) (with_room-room s (facts_of h)) (with_room-small s h))) (λ x. h)
 
 pub use_chunk-small : {a : As} (id i : ℕ) (s : State) → Small a s → Small a (use_chunk id i s)
 unfolding use_chunk

@@ -9,6 +9,7 @@ use Rattle.pp_entry.specs.Texts.{body_at}
 use Rattle.pp_gate.specs.Files.{open_gates, extent_in, body}
 use Rattle.pp_gate.specs.Seal.{IsHonest}
 use Rattle.pp_gate.proofs.Ops.{AllLeft}
+use Rattle.pp_objects.specs.Kept.{kept_of}
 use Rattle.pp_target.specs.Name.{name_of}
 use Rattle.pp_valid.specs.declared.version.Version.{Version}
 use Rattle.pp_world.specs.Disk.{View}
@@ -165,7 +166,7 @@ pub record IsEntryIn (name file : Bytes) (e : Entry) : Type 0 where
   pub short : length file ≤ body_at e.version.length + e.version.length
 
 abbrev entry_of_row : Bytes → Bytes → Row → Entry
-entry_of_row name file row = record { name = name; key = row.key; version = row.version; fields = row.fields; times = row.times; extent = kept_in row.version.length file; is_stale = false }
+entry_of_row name file row = record { name = name; key = row.key; version = row.version; fields = kept_of row.fields row.times; times = row.times; extent = kept_in row.version.length file; is_stale = false }
 
 kept_is : (n : ℕ) (file : Bytes) → kept_in n file ≡ extent_in n file
 unfolding extent_in open_gates

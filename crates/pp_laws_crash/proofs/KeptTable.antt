@@ -13,7 +13,7 @@ use Rattle.pp_law.specs.Connections.{client, conn, exchange, on_conn, on_exchang
 use Rattle.pp_law.specs.Lists.{Bytes, change}
 use Rattle.pp_law.specs.Stages.{is_headed}
 use Rattle.pp_law.specs.State.{State, Course, Client, Conn, Exchange, Instance, Entry}
-use Rattle.pp_law.specs.Table.{is_entry_of, row, kept_row, rows, idle_row, on_instance, forget, swept, clear, mark_row, forget_row, with_room, add_row, make_row, enter}
+use Rattle.pp_law.specs.Table.{is_entry_of, row, row_on_disk, rows, idle_row, on_instance, forget, swept, clear, mark_row, forget_row, with_room, add_row, make_row, enter}
 use Rattle.pp_laws.proofs.Lists.{From, in_map}
 use Rattle.pp_laws_crash.proofs.Frames.{Kept, PartsOf, WasEntry, StaysEntry, kept, parts_of, now_at, in_changed, when, each_of}
 
@@ -112,7 +112,7 @@ make_row-kept key version fields times s h = add_row-kept key version fields tim
 
 pub enter-kept : {o : State} (key : Bytes) (is_new : Bool) (s : State) → Kept o s → Kept o (enter key is_new s)
 unfolding enter
-enter-kept key is_new s h = each_of (row s key) (each_of (kept_row s key) h (λ e. add_row-kept key e.version e.fields e.times is_new _ (with_room-kept s h))) (λ x. h)
+enter-kept key is_new s h = each_of (row s key) (each_of (row_on_disk s key) h (λ e. add_row-kept key e.version e.fields e.times is_new _ (with_room-kept s h))) (λ x. h)
 
 -- ---- chunks
 

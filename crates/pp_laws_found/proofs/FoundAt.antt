@@ -10,6 +10,7 @@ use Rattle.pp_gate.specs.Seal.{IsHonest}
 use Rattle.pp_gate.proofs.GateLemmas.{opens_at_most}
 use Rattle.pp_gate.proofs.Images.{settled_leaves}
 use Rattle.pp_gate.proofs.Ops.{AllLeft, one_leaves}
+use Rattle.pp_objects.specs.Kept.{kept_of}
 use Rattle.pp_target.specs.Name.{name_of}
 use Rattle.pp_world.specs.Disk.{View, Stored, IsLeft, LeavesOne, settled}
 use Rattle.pp_law.specs.Entries.{entry_in, entry_with, kept_in}
@@ -39,7 +40,7 @@ le_is : (a b : ℕ) → a ≤ b → nat_le a b ≡ true
 le_is a b le = grind (arith, nat_tests)
 
 abbrev read_as : Bytes → Bytes → Row → Entry
-read_as name file row = record { name = name; key = row.key; version = row.version; fields = row.fields; times = row.times; extent = kept_in row.version.length file; is_stale = false }
+read_as name file row = record { name = name; key = row.key; version = row.version; fields = kept_of row.fields row.times; times = row.times; extent = kept_in row.version.length file; is_stale = false }
 
 is_entry : (name file : Bytes) (row : Row) → row_at (take 8192 file) ≡ Some row → (bytes_eq (name_of row.key) name && has_extent row.version.length (kept_in row.version.length file) (length file)) ≡ true
     → entry_in name file ≡ Some (read_as name file row)

@@ -8,7 +8,7 @@ use Rattle.pp_valid.specs.declared.version.Version.{Version}
 use Rattle.pp_law.specs.Lists.{Bytes}
 use Rattle.pp_law.specs.OwnHeads.{key_of, known_version, refresh, renew, renew_row, renewed, times_for}
 use Rattle.pp_law.specs.State.{State, Entry, Exchange, Instance}
-use Rattle.pp_law.specs.Table.{add_row, clear, enter, is_instance, is_row_of, kept_row, make_row, mark_row, on_instance, row, with_room}
+use Rattle.pp_law.specs.Table.{add_row, clear, enter, is_instance, is_row_of, row_on_disk, make_row, mark_row, on_instance, row, with_room}
 use Rattle.pp_laws.specs.Runs.{IsIn}
 use Rattle.pp_laws.proofs.Lists.{changed_at, in_find, in_front}
 
@@ -72,17 +72,17 @@ make_row-has key version fields times s = add_row-has key version fields times t
 
 enter-has : (key : Bytes) (is_new : Bool) (s : State) → (known_version s key ≡ None → ⊥) → HasRow key (enter key is_new s)
 unfolding enter
-enter-has key is_new s known = by (row s key) (kept_row s key) refl refl
+enter-has key is_new s known = by (row s key) (row_on_disk s key) refl refl
   where
-    by : (o : Option Instance) (p : Option Entry) → row s key ≡ o → kept_row s key ≡ p
+    by : (o : Option Instance) (p : Option Entry) → row s key ≡ o → row_on_disk s key ≡ p
         → HasRow key (elim o as (λ c. State) [ Some x ↦ s | None ↦ elim p as (λ c. State) [ None ↦ s | Some e ↦ add_row key e.version e.fields e.times is_new (with_room s) ] ])
     by (Some x) p is kept none = let both : Some x ≡ None = sym is ∙ none in cc both
     by None (Some e) is kept none = add_row-has key e.version e.fields e.times is_new (with_room s) none
     by None None is kept none = known (nothing_known is kept)
       where
-        nothing_known : row s key ≡ None → kept_row s key ≡ None → known_version s key ≡ None
+        nothing_known : row s key ≡ None → row_on_disk s key ≡ None → known_version s key ≡ None
         nothing_known no_row no_entry =
-            ap (λ (o : Option Instance). elim o as (λ c. Option Version) [ Some x ↦ Some x.version | None ↦ elim (kept_row s key) as (λ c. Option Version) [ None ↦ None | Some k ↦ Some k.version ] ]) no_row
+            ap (λ (o : Option Instance). elim o as (λ c. Option Version) [ Some x ↦ Some x.version | None ↦ elim (row_on_disk s key) as (λ c. Option Version) [ None ↦ None | Some k ↦ Some k.version ] ]) no_row
             ∙ ap (λ (o : Option Entry). elim o as (λ c. Option Version) [ None ↦ None | Some k ↦ Some k.version ]) no_entry
 
 renew-has : (key : Bytes) (x : Instance) (head : Response) (times : Times) (s : State) → IsIn x s.instances → is_row_of key x ≡ true → HasRow key (renew x head times s)

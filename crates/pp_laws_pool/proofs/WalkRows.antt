@@ -6,7 +6,7 @@ use Rattle.pp_valid.specs.declared.version.Version.{Version}
 use Rattle.pp_law.specs.Chunks.{is_chunk, use_chunk, drop_chunk}
 use Rattle.pp_law.specs.Lists.{Bytes}
 use Rattle.pp_law.specs.State.{State, Instance}
-use Rattle.pp_law.specs.Table.{is_left_over, is_chunk_of_any, kept_row, row, rows, idle_row, on_instance, forget, swept, clear, mark_row, forget_row, with_room, add_row, make_row, enter}
+use Rattle.pp_law.specs.Table.{is_left_over, is_chunk_of_any, row_on_disk, row, rows, idle_row, on_instance, forget, swept, clear, mark_row, forget_row, with_room, add_row, make_row, enter}
 use Rattle.pp_laws_pool.proofs.View.{View, Walk, Uses, Holds, holds, facts_of, view}
 use Rattle.pp_laws_pool.proofs.WalkCases.{each_of, each_so, when}
 
@@ -50,7 +50,7 @@ make_row-keeps w key version fields times s h = add_row-keeps w key version fiel
 
 pub enter-keeps : {P : View → Type 0} (w : Walk P) (key : Bytes) (is_new : Bool) (s : State) → Holds P s → Holds P (enter key is_new s)
 unfolding enter
-enter-keeps w key is_new s h = each_of (row s key) (each_of (kept_row s key) h (λ e. add_row-keeps w key e.version e.fields e.times is_new _ (with_room-keeps w s h))) (λ x. h)
+enter-keeps w key is_new s h = each_of (row s key) (each_of (row_on_disk s key) h (λ e. add_row-keeps w key e.version e.fields e.times is_new _ (with_room-keeps w s h))) (λ x. h)
 
 -- ---- chunks
 

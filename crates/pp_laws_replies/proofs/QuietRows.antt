@@ -12,7 +12,7 @@ use Rattle.pp_law.specs.Opening.{settings_in, with_settings, is_opening, stuck, 
 use Rattle.pp_law.specs.Repairs.{agenda_in_opening, begin_in_opening}
 use Rattle.pp_law.specs.State.{State, Agenda, Entry, Instance, Phase}
 use Rattle.pp_law.specs.Store.{remove_entry, note_gone, agenda_in_turn, begin_op, begin_in_turn, enter_next, close_name, is_of_draft, lose_draft, fail_op, end_op, lose_entry, note_kept, load_from, load}
-use Rattle.pp_law.specs.Table.{is_entry_of, is_instance, is_row_of, is_left_over, row, kept_row, rows, idle_row, on_instance, forget, swept, clear, mark_row, forget_row, with_room, add_row, make_row, enter}
+use Rattle.pp_law.specs.Table.{is_entry_of, is_instance, is_row_of, is_left_over, row, kept_row, row_on_disk, rows, idle_row, on_instance, forget, swept, clear, mark_row, forget_row, with_room, add_row, make_row, enter}
 use Rattle.pp_laws_replies.proofs.Cases.{by_list, by_todo, each_of, when}
 use Rattle.pp_laws_replies.proofs.Quiet.{Quietly, SameRow, facts_of, quietly, row_pushed, rows_changed, rows_filtered, rows_moved}
 
@@ -57,7 +57,7 @@ make_row-quiet key version fields times s h = add_row-quiet key version fields t
 
 pub enter-quiet : {o : State} (key : Bytes) (is_new : Bool) (s : State) → Quietly o s → Quietly o (enter key is_new s)
 unfolding enter
-enter-quiet key is_new s h = each_of (row s key) (each_of (kept_row s key) h (λ e. add_row-quiet key e.version e.fields e.times is_new _ (with_room-quiet s h))) (λ x. h)
+enter-quiet key is_new s h = each_of (row s key) (each_of (row_on_disk s key) h (λ e. add_row-quiet key e.version e.fields e.times is_new _ (with_room-quiet s h))) (λ x. h)
 
 -- ---- chunks
 

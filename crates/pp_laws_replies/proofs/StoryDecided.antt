@@ -17,7 +17,7 @@ use Rattle.pp_law.specs.Lists.{Bytes}
 use Rattle.pp_law.specs.Requests.{Front, Parsed, NoHeadYet, NoHead as NoFront, IsRequest, has_request, key_in, keeps_open, keeps_after, asks_head}
 use Rattle.pp_law.specs.Stages.{is_begun}
 use Rattle.pp_law.specs.State.{State, Client, Stage, Undecided, Waiting, Passing, Answering, Reply, Instance, Entry}
-use Rattle.pp_law.specs.Table.{is_row_of, row, kept_row, row_for, of_instance, of_entry, mark_row, add_row, with_room, enter}
+use Rattle.pp_law.specs.Table.{is_row_of, row, row_on_disk, row_for, of_instance, of_entry, mark_row, add_row, with_room, enter}
 use Rattle.pp_laws.specs.Runs.{IsIn}
 use Rattle.pp_laws.proofs.Clients.{enter_row-sound}
 use Rattle.pp_laws.proofs.Finds.{no_row, with_room-no_row}
@@ -210,7 +210,7 @@ seen_version : {b : Since} (head : Request) (key : Bytes) (known : Row) (s : Sta
 unfolding enter add_row VersionIs
 seen_version {b} head key known s hs seen = by_row (row s key) refl seen
   where
-    by_kept : (o : Option Entry) → row s key ≡ None → kept_row s key ≡ o → (elim o as (λ x. Option Row) [ None ↦ None | Some e ↦ Some (of_entry head e) ]) ≡ Some known
+    by_kept : (o : Option Entry) → row s key ≡ None → row_on_disk s key ≡ o → (elim o as (λ x. Option Row) [ None ↦ None | Some e ↦ Some (of_entry head e) ]) ≡ Some known
         → VersionIs known.version key (elim o as (λ x. State) [ None ↦ s | Some e ↦ add_row key e.version e.fields e.times false (with_room s) ])
     by_kept None none found is x i hit = absurd (cc is)
     by_kept (Some e) none found is x i hit = at (in_push x (with_room s).instances _ i)
@@ -223,9 +223,9 @@ seen_version {b} head key known s hs seen = by_row (row s key) refl seen
         at (inr one) = ap (λ (y : Instance). y.version) one ∙ ap (λ (r : Row). r.version) eq
 
     by_row : (o : Option Instance) → row s key ≡ o
-        → (elim o as (λ x. Option Row) [ Some x ↦ Some (of_instance s head x) | None ↦ elim (kept_row s key) as (λ y. Option Row) [ None ↦ None | Some e ↦ Some (of_entry head e) ] ]) ≡ Some known
-        → VersionIs known.version key (elim o as (λ x. State) [ Some x ↦ s | None ↦ elim (kept_row s key) as (λ y. State) [ None ↦ s | Some e ↦ add_row key e.version e.fields e.times false (with_room s) ] ])
-    by_row None found is x i hit = by_kept (kept_row s key) found refl is x i hit
+        → (elim o as (λ x. Option Row) [ Some x ↦ Some (of_instance s head x) | None ↦ elim (row_on_disk s key) as (λ y. Option Row) [ None ↦ None | Some e ↦ Some (of_entry head e) ] ]) ≡ Some known
+        → VersionIs known.version key (elim o as (λ x. State) [ Some x ↦ s | None ↦ elim (row_on_disk s key) as (λ y. State) [ None ↦ s | Some e ↦ add_row key e.version e.fields e.times false (with_room s) ] ])
+    by_row None found is x i hit = by_kept (row_on_disk s key) found refl is x i hit
     by_row (Some y) found is x i hit =
         let there = in_find (is_row_of key) y s.instances found in
         let eq : of_instance s head y ≡ known = cc in

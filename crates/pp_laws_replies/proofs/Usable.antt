@@ -20,14 +20,14 @@ use Rattle.pp_law.specs.Deciding.{is_for_memory}
 use Rattle.pp_law.specs.Decisions.{kind_of, begun_now, decide_for, decide_head, decide}
 use Rattle.pp_law.specs.Due.{give_up, is_told, has_lost_row, due_reply, due_by_stage, due_decision, due_cut, Due, Decide, CutOff, due_of, first_due}
 use Rattle.pp_law.specs.Lawful.{Lawful, LawfulFrom}
-use Rattle.pp_law.specs.Lists.{Bytes, first_some, is_some_with}
+use Rattle.pp_law.specs.Lists.{Bytes, first_some, has_text, is_some_with}
 use Rattle.pp_law.specs.Permits.{is_permitted, IsPermitted, permits, is_same_decision, is_due_decision, may_want_memory, may_take, permits_taken}
 use Rattle.pp_law.specs.Phases.{decides, come_to_decide}
 use Rattle.pp_law.specs.Requests.{Front, Parsed, NoHeadYet, NoHead as NoFront, IsRequest, has_request, refusal_of}
 use Rattle.pp_law.specs.Stages.{is_begun}
 use Rattle.pp_law.specs.Sharing.{is_patient, due_first, due_undecided}
 use Rattle.pp_law.specs.State.{State, Term, Client, Course, Trying, OutOfTries, AskTooLong, RowRefused, Brought, Awaited, Useless, Joins, Passes, TooWide, Stage, Undecided, Waiting, Passing, Answering, Reply, Instance, Entry, Shared, start}
-use Rattle.pp_law.specs.Table.{is_row_of, is_entry_of, is_kept_row_of, row, kept_row, row_for, of_instance, of_entry, is_instance, instance}
+use Rattle.pp_law.specs.Table.{is_row_of, is_entry_of, is_kept_row_of, row, kept_row, row_on_disk, row_for, of_instance, of_entry, is_instance, instance}
 use Rattle.pp_laws.specs.Runs.{IsIn, after_all, state_after}
 use Rattle.pp_laws.proofs.Happenings.{after_all-sound}
 use Rattle.pp_laws.proofs.Laws.{start-sound}
@@ -53,19 +53,26 @@ kept_standing key e is = (by e.is_stale (first_holds (not e.is_stale) (is_entry_
     by true has = absurd (cc has)
     by false has = refl
 
-known_kept : (s : State) (head : Request) (key : Bytes) (kept : Option Entry) (known : Row) → kept_row s key ≡ kept
+kept_on_disk : (s : State) (key : Bytes) (e : Entry) → row_on_disk s key ≡ Some e → kept_row s key ≡ Some e
+kept_on_disk s key e = by (has_text key s.displaced)
+  where
+    by : (b : Bool) → (elim b as (λ c. Option Entry) [ true ↦ None | false ↦ kept_row s key ]) ≡ Some e → kept_row s key ≡ Some e
+    by true is = absurd (cc is)
+    by false is = is
+
+known_kept : (s : State) (head : Request) (key : Bytes) (kept : Option Entry) (known : Row) → row_on_disk s key ≡ kept
     → (elim kept as (λ c. Option Row) [ None ↦ None | Some e ↦ Some (of_entry head e) ]) ≡ Some known → IsKnownOf s head key known
 known_kept s head key None known found is = absurd (cc is)
 known_kept s head key (Some e) known found is =
-    let there = in_find (is_kept_row_of key) e s.entries found in
+    let there = in_find (is_kept_row_of key) e s.entries (kept_on_disk s key e found) in
     let of = kept_standing key e there.1 in
     let same : of_entry head e ≡ known = cc in
     inr (e, there.0, of.0, of.1, sym same)
 
 known_by : (s : State) (head : Request) (key : Bytes) (here : Option Instance) (known : Row) → row s key ≡ here
-    → (elim here as (λ c. Option Row) [ Some x ↦ Some (of_instance s head x) | None ↦ elim (kept_row s key) as (λ c. Option Row) [ None ↦ None | Some e ↦ Some (of_entry head e) ] ]) ≡ Some known
+    → (elim here as (λ c. Option Row) [ Some x ↦ Some (of_instance s head x) | None ↦ elim (row_on_disk s key) as (λ c. Option Row) [ None ↦ None | Some e ↦ Some (of_entry head e) ] ]) ≡ Some known
     → IsKnownOf s head key known
-known_by s head key None known found is = known_kept s head key (kept_row s key) known refl is
+known_by s head key None known found is = known_kept s head key (row_on_disk s key) known refl is
 known_by s head key (Some x) known found is =
     let there = in_find (is_row_of key) x s.instances found in
     let of = standing key x there.1 in

@@ -23,7 +23,6 @@ pub record Frame : Type 0 where
   pub failures : ℕ
   pub closed_names : List Bytes
   pub under_way : Option DiskOp
-  pub displaced : List Bytes
   pub has_lost_draft : Bool
   pub is_ticked : Bool
   pub is_stopped : Bool
@@ -47,7 +46,6 @@ frame all s = record {
   failures = s.failures;
   closed_names = s.closed_names;
   under_way = s.under_way;
-  displaced = s.displaced;
   has_lost_draft = s.has_lost_draft;
   is_ticked = s.is_ticked;
   is_stopped = s.is_stopped;

@@ -13,7 +13,7 @@ use Rattle.pp_law.specs.Connections.{client, conn, exchange, on_conn, on_exchang
 use Rattle.pp_law.specs.Lists.{Bytes}
 use Rattle.pp_law.specs.Stages.{is_headed}
 use Rattle.pp_law.specs.State.{State, Course, Client, Conn, Exchange, Instance}
-use Rattle.pp_law.specs.Table.{row, kept_row, rows, idle_row, on_instance, forget, swept, clear, mark_row, forget_row, with_room, add_row, make_row, enter}
+use Rattle.pp_law.specs.Table.{row, row_on_disk, rows, idle_row, on_instance, forget, swept, clear, mark_row, forget_row, with_room, add_row, make_row, enter}
 use Rattle.pp_obeys.proofs.Frames.{Frame, Stays, stays, frame_of, when, each_of}
 
 -- ---- rows
@@ -56,7 +56,7 @@ make_row-stays key version fields times s h = add_row-stays key version fields t
 
 pub enter-stays : {all : Bool} {o : Frame} (key : Bytes) (is_new : Bool) (s : State) → Stays all o s → Stays all o (enter key is_new s)
 unfolding enter
-enter-stays key is_new s h = each_of (row s key) (each_of (kept_row s key) h (λ e. add_row-stays key e.version e.fields e.times is_new _ (with_room-stays s h))) (λ x. h)
+enter-stays key is_new s h = each_of (row s key) (each_of (row_on_disk s key) h (λ e. add_row-stays key e.version e.fields e.times is_new _ (with_room-stays s h))) (λ x. h)
 
 -- ---- chunks
 
