@@ -41,13 +41,42 @@ impl Desk {
             let Some(name) = self.state.cache.next_outdated() else {
                 break;
             };
-            take_away(links, shelf, world, &name);
+            self.take_away(links, shelf, world, &name);
         }
         for _row in 0..GROWN {
             let Some(id) = self.state.cache.next_grown() else {
                 break;
             };
             self.keep_row(links, shelf, world, id);
+        }
+    }
+
+    /// The entry under this name is noted as gone, and taken away. It may be of a row that stands: another key took its name.
+    #[tactic(auto, using(crate::proofs::DiskLemmas::holds_quietly, pp_shelf::proofs::SteadyLemmas::steady_none, pp_shelf::proofs::SteadyLemmas::quiet_then_steady))]
+    fn take_away<W: World>(
+        &mut self,
+        links: &mut Links,
+        shelf: &mut Shelf,
+        world: &mut W,
+        name: &Name,
+    )
+        requires linked { IsLinked (W.log world.old) (W.top world.old) links.old }
+        requires holds { Told (W.log world.old) (Holds anything shelf.old) }
+        ensures linked { IsLinked (W.log world.new) (W.top world.new) links.new }
+        ensures holds { Told (W.log world.new) (Holds anything shelf.new) }
+        ensures steady { GrowsSteadily (W.log world.old) (W.log world.new) }
+    {
+        let mut key: ArrayVec<u8, KEY_ROOM> = ArrayVec::new();
+        match shelf.under(name) {
+            None => return,
+            Some(view) => {
+                let _ = key.try_extend_from_slice(view.key);
+            }
+        }
+        links.note(world, &Note::Gone(key.as_slice()));
+        withdraw(links, shelf, world, key.as_slice());
+        if let Some(id) = self.state.cache.current(key.as_slice()) {
+            self.state.cache.keep_to(id, 0);
         }
     }
 
@@ -96,24 +125,4 @@ impl Desk {
             }
         }
     }
-}
-
-/// The entry under this name is noted as gone, and taken away.
-#[tactic(auto, using(crate::proofs::DiskLemmas::holds_quietly, pp_shelf::proofs::SteadyLemmas::steady_none, pp_shelf::proofs::SteadyLemmas::quiet_then_steady))]
-fn take_away<W: World>(links: &mut Links, shelf: &mut Shelf, world: &mut W, name: &Name)
-    requires linked { IsLinked (W.log world.old) (W.top world.old) links.old }
-    requires holds { Told (W.log world.old) (Holds anything shelf.old) }
-    ensures linked { IsLinked (W.log world.new) (W.top world.new) links.new }
-    ensures holds { Told (W.log world.new) (Holds anything shelf.new) }
-    ensures steady { GrowsSteadily (W.log world.old) (W.log world.new) }
-{
-    let mut key: ArrayVec<u8, KEY_ROOM> = ArrayVec::new();
-    match shelf.under(name) {
-        None => return,
-        Some(view) => {
-            let _ = key.try_extend_from_slice(view.key);
-        }
-    }
-    links.note(world, &Note::Gone(key.as_slice()));
-    withdraw(links, shelf, world, key.as_slice());
 }
