@@ -18,8 +18,8 @@ impl State {
             let number = self.flow.line(k, place)?;
             let entry = self.flow.entry(number)?;
             let errand = &entry.errand;
-            if !errand.is_outstanding() {
-                let left = errand.text_len.saturating_sub(errand.asked);
+            if !entry.is_outstanding() {
+                let left = entry.text.len().saturating_sub(errand.asked);
                 return Some(Asking::Text(number, left));
             }
             if errand.body_left > 0 {
@@ -34,7 +34,7 @@ impl State {
     pub fn owed_answer(&self, k: u64) -> Option<Exchange> {
         let number = self.flow.line(k, 0)?;
         let entry = self.flow.entry(number)?;
-        if entry.errand.is_outstanding() && entry.errand.body_left == 0 {
+        if entry.is_outstanding() && entry.errand.body_left == 0 {
             Some(entry.exchange)
         } else {
             None

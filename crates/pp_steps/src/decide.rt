@@ -43,7 +43,7 @@ impl State {
         decision: Decision,
     ) -> Decision {
         match kind_of(head, version, decision) {
-            Some(kind) if self.text_len(head, key, &kind).is_none() => Decision::Refuse(431),
+            Some(kind) if !self.fits(head, key, &kind) => Decision::Refuse(431),
             _ => decision,
         }
     }
@@ -66,19 +66,9 @@ impl State {
         decide(head, Some(&plan), begun, self.now)
     }
 
-    /// How long the text of an ask is. None where it does not fit.
-    pub(crate) fn text_len(
-        &self,
-        head: &RequestHead<'_, '_>,
-        key: &Key,
-        kind: &Kind,
-    ) -> Option<usize> {
+    fn fits(&self, head: &RequestHead<'_, '_>, key: &Key, kind: &Kind) -> bool {
         let mut text = ArrayVec::new();
-        if self.write_text(head, key, kind, &mut text) {
-            Some(text.len())
-        } else {
-            None
-        }
+        self.write_text(head, key, kind, &mut text)
     }
 
     /// Writes the text of an ask. False where it does not fit.

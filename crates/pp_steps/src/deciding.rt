@@ -2,6 +2,8 @@
 use crate::decide::kind_of;
 use crate::state::State;
 use crate::unseen::is_soon;
+use arrayvec::ArrayVec;
+use pp_ask::ASK_LEN;
 use pp_client::Current;
 use pp_flow::{Aim, Body, EXCHANGES, Errand, Exchange, Kind};
 use pp_fresh::allows_guess;
@@ -88,21 +90,28 @@ impl State {
     // ---- an exchange
 
     fn ask_origin(&mut self, i: usize, decision: Decision) {
-        let Some(errand) = self.errand_for(i, decision) else {
+        let mut text = ArrayVec::new();
+        let Some(errand) = self.errand_for(i, decision, &mut text) else {
             return;
         };
         self.begin_interim(i);
         self.leave_source(i);
         let passes = decision == Decision::Pass;
         let aim = if passes { Aim::Pass } else { Aim::Own };
-        self.begin_exchange(i, aim, &errand);
+        self.begin_exchange(i, aim, &errand, &text);
         if let Some(seat) = self.seats.get_mut(i) {
             seat.ask(passes);
         }
     }
 
     /// The request asks this exchange. The one begun last is the only one of a request: the one before is left.
-    pub(crate) fn begin_exchange(&mut self, i: usize, aim: Aim, errand: &Errand) {
+    pub(crate) fn begin_exchange(
+        &mut self,
+        i: usize,
+        aim: Aim,
+        errand: &Errand,
+        text: &ArrayVec<u8, ASK_LEN>,
+    ) {
         self.leave_exchange(i);
         let Some(seat) = self.seats.get(i) else {
             return;
@@ -113,11 +122,19 @@ impl State {
         if self.flow.len() >= EXCHANGES || self.flow.begun() == u64::MAX {
             return;
         }
-        let _ = self.flow.begin(seat.client.id(), key.text(), aim, errand);
+        let client = seat.client.id();
+        let _ = self
+            .flow
+            .begin(client, key.text(), aim, errand, text.as_slice());
     }
 
-    /// The errand of a decision that asks an origin.
-    fn errand_for(&self, i: usize, decision: Decision) -> Option<Errand> {
+    /// The errand of a decision that asks an origin, whose text is written.
+    fn errand_for(
+        &self,
+        i: usize,
+        decision: Decision,
+        text: &mut ArrayVec<u8, ASK_LEN>,
+    ) -> Option<Errand> {
         let seat = self.seats.get(i)?;
         let asked = seat.front.asked()?;
         let key = asked.key.as_ref()?;
@@ -127,7 +144,7 @@ impl State {
         };
         let kind = kind_of(&head, self.cache.version(key.text()), decision)?;
         let is_pass = kind.is_pass();
-        let errand = self.errand_of(asked, key, &head, kind)?;
+        let errand = self.errand_of(asked, key, &head, kind, text)?;
         Some(Errand {
             is_moved: kind.is_range() && is_moved(&head),
             asks_head: is_pass && asked.is_head,
@@ -136,14 +153,18 @@ impl State {
         })
     }
 
-    /// The errand of an exchange that asks this for a request. None where its text does not fit.
+    /// The errand of an exchange that asks this for a request, whose text is written. None where that does not fit.
     pub(crate) fn errand_of(
         &self,
         asked: &Asked,
         key: &Key,
         head: &RequestHead<'_, '_>,
         kind: Kind,
+        text: &mut ArrayVec<u8, ASK_LEN>,
     ) -> Option<Errand> {
+        if !self.write_text(head, key, &kind, text) {
+            return None;
+        }
         Some(Errand {
             kind,
             place: *key.place(),
@@ -154,7 +175,6 @@ impl State {
             binds_connection: asked.binds_connection,
             accepts_only_identity: accepts_only_identity(&head.fields),
             allows_guess: allows_guess(key.text(), &head.fields),
-            text_len: self.text_len(head, key, &kind)?,
             asked: 0,
             body_left: 0,
             requested: 0,

@@ -30,7 +30,7 @@ mod held; // what is held of a version, and what comes
 mod kept; // rows that come from the disk
 mod outdated; // rows that a passed response outdates
 mod passing; // a response that is passed
-mod place; // what an exchange asks at its place
+mod place; // what becomes of an exchange that gets no place
 mod rows; // what a response does to the row of its key
 mod share; // one fetch for many
 mod state; // what the steps change together
