@@ -1,4 +1,5 @@
 pub mod Accounts
+pub mod Bringing
 pub mod Ends
 pub mod Heads
 pub mod Patience

@@ -1,7 +1,6 @@
 // What a decision does: a page, an exchange, or a reply by the row (RFC 2616, sections 13 and 14).
 use crate::decide::kind_of;
 use crate::state::State;
-use crate::unseen::is_soon;
 use arrayvec::ArrayVec;
 use pp_ask::ASK_LEN;
 use pp_client::Current;
@@ -218,27 +217,22 @@ impl State {
         let Some(e) = self.exchange_of(i) else {
             return;
         };
-        let is_served = match self.seats.get(i) {
-            None => false,
-            Some(seat) => self.serves(&e, seat),
-        };
-        if !is_served {
+        if !self.is_served_by(i, e.number) {
             self.leave_exchange(i);
         }
     }
 
-    /// Of what the follower still wants, something is still to come by the exchange, soon enough.
-    fn serves(&self, e: &Exchange, seat: &Seat) -> bool {
-        let Some(next) = seat.next() else {
+    /// The exchange brings something of what the client at this place still wants.
+    fn is_served_by(&self, i: usize, number: u64) -> bool {
+        let Some(seat) = self.seats.get(i) else {
             return false;
         };
-        match e.bound {
-            Some((id, from, to, all)) => {
-                id == next.source
-                    && from.max(next.at) < to.min(next.to)
-                    && is_soon(all, from, next.at)
-            }
-            None => !e.headed && self.asks_for(e, &next),
+        let Some(entry) = self.flow.entry(number) else {
+            return false;
+        };
+        match seat.next() {
+            None => false,
+            Some(next) => self.serves(entry, &next),
         }
     }
 }

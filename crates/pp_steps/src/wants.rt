@@ -88,20 +88,9 @@ impl State {
     /// for one that it shares.
     fn waits_for_exchange(&self, seat: &Seat) -> bool {
         match seat.next() {
-            Some(next) => self.is_brought_by_any(&next),
+            Some(next) => self.is_brought(&next),
             None => self.flow.asked_by(seat.id()).is_some() || self.is_sharing(seat),
         }
-    }
-
-    fn is_brought_by_any(&self, next: &Next) -> bool {
-        for index in 0..self.flow.len() {
-            if let Some(entry) = self.flow.at(index) {
-                if self.brings(&entry.exchange, next) {
-                    return true;
-                }
-            }
-        }
-        false
     }
 
     /// What comes of the exchange is far ahead of all its readers.

@@ -1,0 +1,2 @@
+pub mod BringingLemmas
+pub mod Walks
