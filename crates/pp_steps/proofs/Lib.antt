@@ -1,2 +1,3 @@
 pub mod BringingLemmas
+pub mod SharingLemmas
 pub mod Walks

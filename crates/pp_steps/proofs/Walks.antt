@@ -1,6 +1,11 @@
 -- What holds of the elements before one, and of that, holds of those up to it.
-use Rattle.std.proofs.Common.{◌≡◌, ◌≤◌, ◌+◌, ℕ, zero, suc, Bool, true, false, ◌||◌, List, [], ◌∷◌, take, slice_get, length, add-one, refl, sym, ◌∙◌, ap, arith, Option, Some, None}
-use Rattle.std.specs.List.{list_any}
+use Rattle.std.proofs.Common.{◌≡◌, ◌≤◌, ◌+◌, ℕ, zero, suc, Bool, true, false, ◌||◌, List, [], ◌∷◌, take, slice_get, get_or, length, ◌<◌, add-one, refl, sym, ◌∙◌, ap, arith, Option, Some, None}
+use Rattle.std.specs.List.{cons_option, filter_map, fold, list_any, reduce}
+use Rattle.std.specs.Option.{option_to_list}
+use Rattle.std.specs.Prelude.{max, option_and_then, ◌++◌}
+use Rattle.std.proofs.lemmas.List.{append-nil}
+use Rattle.std.proofs.lemmas.List.Sums.{fold-append}
+use Rattle.pp_steps.specs.Readers.{of_both}
 use Rattle.std.proofs.lemmas.Grind.{common_steps}
 
 -- the element is there, and it holds of it
@@ -30,3 +35,47 @@ pub some_at : {A : Type 0} (is : A → Bool) (xs : List A) (i : ℕ) (x : Option
 some_at is [] i x at holds = absurd (let h : holds_of is x ≡ false = ap (holds_of is) at in let g : true ≡ false = sym holds ∙ h in cc)
 some_at is (y ∷ xs) zero x at holds = ap (λ b. b || list_any is xs) (sym (ap (holds_of is) at) ∙ holds)
 some_at is (y ∷ xs) (suc i) x at holds = let rest : list_any is xs ≡ true = some_at is xs i x at holds in grind (arith, common_steps, rest)
+
+-- ---- what is made of those of which there is a number
+
+reduced_more : (f : ℕ → ℕ → ℕ) (ns : List ℕ) (n : Option ℕ) → reduce f (ns ++ option_to_list n) ≡ of_both f (reduce f ns) n
+reduced_more f [] None = refl
+reduced_more f [] (Some n) = refl
+reduced_more f (m ∷ ns) None = ap (reduce f) (append-nil (m ∷ ns))
+reduced_more f (m ∷ ns) (Some n) = ap Some (fold-append f m ns (n ∷ []))
+
+first_seen : (n : Option ℕ) → cons_option n [] ≡ option_to_list n
+first_seen None = refl
+first_seen (Some n) = refl
+
+seen_before : (n : Option ℕ) (ms ns : List ℕ) → cons_option n (ms ++ ns) ≡ cons_option n ms ++ ns
+seen_before None ms ns = refl
+seen_before (Some n) ms ns = refl
+
+seen_step : {A : Type 0} (see : A → Option ℕ) (xs : List A) (i : ℕ) → filter_map see (take (suc i) xs) ≡ filter_map see (take i xs) ++ option_to_list (option_and_then see (slice_get xs i))
+seen_step see [] zero = refl
+seen_step see [] (suc i) = refl
+seen_step see (x ∷ xs) zero = first_seen (see x)
+seen_step see (x ∷ xs) (suc i) = ap (cons_option (see x)) (seen_step see xs i) ∙ seen_before (see x) (filter_map see (take i xs)) (option_to_list (option_and_then see (slice_get xs i)))
+
+pub reduced_next : {A : Type 0} (f : ℕ → ℕ → ℕ) (see : A → Option ℕ) (xs : List A) (i : ℕ) (x : Option A) → x ≡ slice_get xs i
+    → reduce f (filter_map see (take (i + 1) xs)) ≡ of_both f (reduce f (filter_map see (take i xs))) (option_and_then see x)
+reduced_next f see xs i x at =
+    ap (λ n. reduce f (filter_map see (take n xs))) (add-one i) ∙ ap (reduce f) (seen_step see xs i)
+    ∙ reduced_more f (filter_map see (take i xs)) (option_and_then see (slice_get xs i)) ∙ ap (λ y. of_both f (reduce f (filter_map see (take i xs))) (option_and_then see y)) (sym at)
+
+there_at : (xs : List ℕ) (i : ℕ) → i < length xs → Some (get_or xs i 0) ≡ slice_get xs i
+there_at [] i less = absurd (omega (arith, less))
+there_at (x ∷ xs) zero less = refl
+there_at (x ∷ xs) (suc i) less = there_at xs i (omega (arith, less))
+
+further_by : (see : ℕ → Option ℕ) (xs : List ℕ) (i : ℕ) (before after at : Option ℕ) → i < length xs → before ≡ reduce max (filter_map see (take i xs)) → at ≡ see (get_or xs i 0) → after ≡ of_both max before at
+    → after ≡ reduce max (filter_map see (take (i + 1) xs))
+further_by see xs i before after at less first is more =
+    more ∙ ap (of_both max before) is ∙ ap (λ b. of_both max b (see (get_or xs i 0))) first ∙ sym (reduced_next max see xs i (Some (get_or xs i 0)) (there_at xs i less))
+
+-- the furthest of those before, and of one more
+pub further_next : (see : ℕ → Option ℕ) (xs ys : List ℕ) (i : ℕ) (before after at : Option ℕ) → ys ≡ xs → i < length ys → before ≡ reduce max (filter_map see (take i xs)) → at ≡ see (get_or ys i 0) → after ≡ of_both max before at
+    → after ≡ reduce max (filter_map see (take (i + 1) xs))
+further_next see xs ys i before after at same less first is more =
+    further_by see xs i before after at (omega (arith, less, ap length same)) first (is ∙ ap (λ zs. see (get_or zs i 0)) same) more

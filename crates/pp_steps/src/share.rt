@@ -2,6 +2,7 @@
 ghost use Rattle.std.specs.Prelude.{◌≡◌};
 ghost use Rattle.pp_seats.specs.Dues.{may_share, undecided_in};
 ghost use Rattle.pp_steps.specs.Patience.{is_patient};
+ghost use Rattle.pp_steps.specs.Sharing.{earlier, is_asked, is_awaited, is_shared, may_wait_on, shared_ask};
 
 use crate::state::State;
 use pp_flow::{Aim, Entry};
@@ -14,7 +15,9 @@ const PATIENCE: u64 = 5;
 impl State {
     /// Of the exchanges that ask for the whole of the client's key, or check it, and whose answer has not come, the one that
     /// began first.
-    pub(crate) fn shared_ask(&self, seat: &Seat) -> Option<u64> {
+    pub(crate) fn shared_ask(&self, seat: &Seat) -> Option<u64>
+        ensures { result ≡ shared_ask seat.now self.entry.now.flow }
+    {
         let key = seat.front.key()?;
         let mut first: Option<u64> = None;
         for index in 0..self.flow.len() {
@@ -28,7 +31,9 @@ impl State {
     }
 
     /// The exchange that it waited for is there, and its answer has not come.
-    fn is_awaited(&self, number: u64) -> bool {
+    fn is_awaited(&self, number: u64) -> bool
+        ensures { result ≡ is_awaited number self.entry.now.flow }
+    {
         match self.flow.get(number) {
             None => false,
             Some(e) => !e.headed,
@@ -36,7 +41,9 @@ impl State {
     }
 
     /// It waits for another's answer, and may wait on.
-    fn is_patient(&self, seat: &Seat) -> bool {
+    fn is_patient(&self, seat: &Seat) -> bool
+        ensures { result ≡ may_wait_on seat.now.waits_on self.entry.now.now self.entry.now.flow }
+    {
         match &seat.waits_on {
             None => false,
             Some(shared) => is_patient(self.is_awaited(shared.exchange), self.now, shared.since),
@@ -44,7 +51,9 @@ impl State {
     }
 
     /// What it asks is asked already, where that counts: fetches are shared, and it may be another's.
-    fn is_asked(&self, seat: &Seat, decided: Option<Decision>) -> bool {
+    fn is_asked(&self, seat: &Seat, decided: Option<Decision>) -> bool
+        ensures { result ≡ is_asked self.entry.now.shares_fetches decided seat.now self.entry.now.flow }
+    {
         match decided {
             None => false,
             Some(decision) => self.shares_fetches
@@ -76,12 +85,16 @@ impl State {
 }
 
 /// It asks for the whole of this key, or checks it, and its answer has not come.
-fn is_shared(entry: &Entry, key: &[u8]) -> bool {
+fn is_shared(entry: &Entry, key: &[u8]) -> bool
+    ensures { result ≡ is_shared key.now entry.now }
+{
     let e = &entry.exchange;
-    e.aim == Aim::Own && !e.headed && !entry.errand.kind.is_range() && entry.key.as_slice() == key
+    matches!(e.aim, Aim::Own) && !e.headed && !entry.errand.kind.is_range() && entry.key.as_slice() == key
 }
 
-fn earlier(first: Option<u64>, number: u64) -> u64 {
+fn earlier(first: Option<u64>, number: u64) -> u64
+    ensures { result ≡ earlier first number }
+{
     match first {
         None => number,
         Some(first) => first.min(number),

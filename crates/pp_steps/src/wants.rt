@@ -1,6 +1,13 @@
 // What is waited for of the clients, and what a wait changes. It is ours.
+ghost use Rattle.std.specs.Prelude.{◌≡◌, max, true, IfSome, IsNone};
+ghost use Rattle.pp_flow.specs.Entries.{Span};
+ghost use Rattle.pp_seats.specs.Follows.{next_of};
+ghost use Rattle.pp_steps.specs.Bringing.{is_brought};
+ghost use Rattle.pp_steps.specs.Readers.{at_of, furthest, furthest_read, is_brought_to, is_far_ahead, is_past, next_at, of_both, read_at};
+ghost use Rattle.pp_steps.specs.Sharing.{has_asked};
+
 use crate::state::State;
-use crate::unseen::is_soon;
+use crate::unseen::{is_same, is_soon};
 use pp_cache::CHUNK_LEN;
 use pp_flow::Exchange;
 use pp_objects::ObjectId;
@@ -86,7 +93,10 @@ impl State {
 
     /// It waits for the exchange that brings its next byte; where it follows nothing, for that of its request, or
     /// for one that it shares.
-    fn waits_for_exchange(&self, seat: &Seat) -> bool {
+    fn waits_for_exchange(&self, seat: &Seat) -> bool
+        ensures follows { IfSome (next_of seat.now) (λ n. result ≡ is_brought n.source n.at self.entry.now.cache self.entry.now.flow) }
+        ensures asks { has_asked seat.now.client.id self.entry.now.flow ≡ true → IsNone (next_of seat.now) → result ≡ true }
+    {
         match seat.next() {
             Some(next) => self.is_brought(&next),
             None => self.flow.asked_by(seat.id()).is_some() || self.is_sharing(seat),
@@ -94,54 +104,94 @@ impl State {
     }
 
     /// What comes of the exchange is far ahead of all its readers.
-    pub fn is_far_ahead(&self, e: &Exchange) -> bool {
-        let Some((id, from, _, all)) = e.bound else {
-            return false;
-        };
-        match self.furthest_read(id, from, all) {
+    pub fn is_far_ahead(&self, e: &Exchange) -> bool
+        ensures { result ≡ is_far_ahead e.now.bound self.entry.now.cache self.entry.now.awake.items self.entry.now.seats.items }
+    {
+        match e.bound {
             None => false,
-            Some(at) => {
-                let least = (at / CHUNK_LEN).saturating_add(CHUNKS_AHEAD);
-                least <= from / CHUNK_LEN && self.cache.is_held(id, at)
+            Some((id, from, _, all)) => match self.furthest_read(id, from, all) {
+                None => false,
+                Some(at) => is_past(at, from) && self.cache.is_held(id, at),
             }
         }
     }
 
     /// Where the furthest of the readers stands to whom an exchange brings this instance from this offset on.
-    fn furthest_read(&self, id: ObjectId, from: u64, all: bool) -> Option<u64> {
+    fn furthest_read(&self, id: ObjectId, from: u64, all: bool) -> Option<u64>
+        ensures { result ≡ furthest_read id from all self.entry.now.cache self.entry.now.awake.items self.entry.now.seats.items }
+    {
         let mut furthest: Option<u64> = None;
         for i in self.awake.iter() {
-            if let Some(next) = self.next_at(*i) {
-                if next.source == id && self.is_brought_to(&next, from, all) {
-                    furthest = Some(furthest.unwrap_or(0).max(next.at));
-                }
-            }
+            furthest = further(furthest, self.read_at(*i, id, from, all));
         }
         furthest
     }
 
+    /// Where the client at this place stands, if it is one of those.
+    fn read_at(&self, i: usize, id: ObjectId, from: u64, all: bool) -> Option<u64>
+        ensures { result ≡ read_at id from all self.entry.now.cache (next_at self.entry.now.seats.items i) }
+    {
+        let next = self.next_at(i)?;
+        if is_same(next.source, id) && self.is_brought_to(&next, from, all) {
+            Some(next.at)
+        } else {
+            None
+        }
+    }
+
     /// Who is silent has none.
-    fn next_at(&self, i: usize) -> Option<Next> {
+    fn next_at(&self, i: usize) -> Option<Next>
+        ensures { result ≡ next_at self.entry.now.seats.items i }
+    {
         self.seats.get(i)?.next()
     }
 
     /// It was brought what it says next, or waits for it: who reads on elsewhere, far ahead of what comes, is brought
     /// nothing.
-    fn is_brought_to(&self, next: &Next, from: u64, all: bool) -> bool {
+    fn is_brought_to(&self, next: &Next, from: u64, all: bool) -> bool
+        ensures { result ≡ is_brought_to from all self.entry.now.cache next.now }
+    {
         next.at <= from
             || (is_soon(all, from, next.at) && !self.cache.is_held(next.source, next.at))
     }
 
     /// Where the furthest of the instance's followers stands.
-    pub(crate) fn furthest(&self, id: ObjectId) -> Option<u64> {
+    pub(crate) fn furthest(&self, id: ObjectId) -> Option<u64>
+        ensures { result ≡ furthest id self.entry.now.awake.items self.entry.now.seats.items }
+    {
         let mut furthest: Option<u64> = None;
         for i in self.awake.iter() {
-            if let Some(next) = self.next_at(*i) {
-                if next.source == id {
-                    furthest = Some(furthest.unwrap_or(0).max(next.at));
-                }
-            }
+            furthest = further(furthest, self.at_of(*i, id));
         }
         furthest
     }
+
+    /// Where the client at this place stands, if it follows that.
+    fn at_of(&self, i: usize, id: ObjectId) -> Option<u64>
+        ensures { result ≡ at_of id (next_at self.entry.now.seats.items i) }
+    {
+        let next = self.next_at(i)?;
+        if is_same(next.source, id) {
+            Some(next.at)
+        } else {
+            None
+        }
+    }
+}
+
+fn further(furthest: Option<u64>, at: Option<u64>) -> Option<u64>
+    ensures { result ≡ of_both max furthest at }
+{
+    match (furthest, at) {
+        (_, None) => furthest,
+        (None, Some(at)) => Some(at),
+        (Some(furthest), Some(at)) => Some(furthest.max(at)),
+    }
+}
+
+/// An exchange that brings this offset next is so far past the other.
+fn is_past(at: u64, from: u64) -> bool
+    ensures { result ≡ is_past at from }
+{
+    (at / CHUNK_LEN).saturating_add(CHUNKS_AHEAD) <= from / CHUNK_LEN
 }
