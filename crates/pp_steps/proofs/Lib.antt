@@ -1,3 +1,4 @@
 pub mod BringingLemmas
+pub mod RestingLemmas
 pub mod SharingLemmas
 pub mod Walks

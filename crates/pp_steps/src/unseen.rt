@@ -1,12 +1,14 @@
 // What nobody will see of a line, and how far a body is wanted (RFC 2616, section 8.1.4).
-ghost use Rattle.std.specs.Prelude.{◌≡◌};
+ghost use Rattle.std.specs.Prelude.{◌≡◌, ◌++◌, slice_get};
 ghost use Rattle.pp_objects.specs.Instances.{is_same_id};
 ghost use Rattle.pp_flow.specs.Brings.{is_soon};
-ghost use Rattle.pp_steps.specs.Unseen.{has_reader_near, is_next_near, is_unseen, is_worth_keeping};
+ghost use Rattle.pp_flow.specs.Changes.{entry_of, numbers};
+ghost use Rattle.pp_flow.specs.Entries.{Span};
+ghost use Rattle.pp_steps.specs.Unseen.{all_rested, bound_of, dropped_more, has_reader_near, is_kept_to, is_next_near, is_nobodys, is_unseen, is_worth_keeping, rested, unseen_on, wanted_of, with_dropped};
 ghost use Rattle.pp_seats.specs.Follows.{next_of};
 
 use crate::state::State;
-use pp_flow::{Aim, Body, Exchange};
+use pp_flow::{Aim, Body, Entry};
 use pp_objects::ObjectId;
 use pp_plan::is_near;
 use pp_seats::Seat;
@@ -16,34 +18,28 @@ const DROP_LIMIT: u64 = 65_536;
 
 impl State {
     /// The first exchange of the line, where nobody will see what comes of it.
-    pub fn unseen_on(&self, k: u64) -> Option<u64> {
+    pub fn unseen_on(&self, k: u64) -> Option<u64>
+        ensures { result ≡ unseen_on k self.entry.now.seats.items self.entry.now.flow }
+    {
         let number = self.flow.line(k, 0)?;
         let entry = self.flow.entry(number)?;
-        let e = &entry.exchange;
-        let body = entry.errand.body;
-        let is_kept = match body {
-            Body::Joining(wanted) => self.is_kept(e, wanted),
-            Body::Pending | Body::Relaying | Body::Dropping(_) => false,
-        };
-        if is_unseen(body, e.aim == Aim::Pass, e.asker.is_some(), is_kept) {
+        if self.is_nobodys(entry) {
             Some(number)
         } else {
             None
         }
     }
 
-    fn is_kept(&self, e: &Exchange, wanted: u64) -> bool {
-        match e.bound {
-            None => false,
-            Some((id, next, to, all)) => {
-                is_worth_keeping(
-                    has_reader_near(self.seats.as_slice(), id, next, all),
-                    next,
-                    to,
-                    wanted,
-                )
-            }
-        }
+    fn is_nobodys(&self, entry: &Entry) -> bool
+        ensures { result ≡ is_nobodys self.entry.now.seats.items entry.now }
+    {
+        let e = &entry.exchange;
+        let is_kept = match entry.errand.body {
+            Body::Joining(wanted) => is_kept_to(self.seats.as_slice(), wanted, e.bound),
+            Body::Pending | Body::Relaying | Body::Dropping(_) => false,
+        };
+        let is_through = matches!(e.aim, Aim::Pass);
+        is_unseen(entry.errand.body, is_through, e.asker.is_some(), is_kept)
     }
 
     /// The head of the exchange's response came: what becomes of the body is known.
@@ -62,30 +58,70 @@ impl State {
     }
 
     /// So many bytes more are dropped, where they are.
-    pub(crate) fn note_dropped(&mut self, number: u64, count: usize) {
+    pub(crate) fn note_dropped(&mut self, number: u64, count: usize)
+        ensures { self.new ≡ record self.old { flow = with_dropped number count self.old.flow } }
+    {
         if let Some(errand) = self.flow.errand_mut(number) {
-            if let Body::Dropping(before) = errand.body {
-                errand.body = Body::Dropping(before.saturating_add(count as u64));
-            }
+            errand.body = dropped_more(errand.body, count as u64);
         }
     }
 
     /// At a wait: where the furthest follower stands is how far a body is wanted.
-    pub fn note_wanted(&mut self) {
+    pub fn note_wanted(&mut self)
+        ensures { self.new ≡ record self.old { flow = all_rested self.old.awake.items self.old.seats.items self.old.flow } }
+    {
         for index in 0..self.flow.len() {
-            if let Some((number, at)) = self.wanted_at(index) {
-                if let Some(errand) = self.flow.errand_mut(number) {
-                    errand.body = Body::Joining(at);
-                }
+            if let Some(number) = self.number_at(index) {
+                self.note_wanted_of(number);
             }
         }
     }
 
-    /// The exchange at this place, and where the furthest follower of what it is bound to stands.
-    fn wanted_at(&self, index: usize) -> Option<(u64, u64)> {
-        let e = self.flow.at(index)?.exchange;
-        let (id, _, _, _) = e.bound?;
-        Some((e.number, self.furthest(id)?))
+    /// The number of the exchange at this place of all.
+    fn number_at(&self, index: usize) -> Option<u64>
+        ensures { result ≡ slice_get (numbers (self.entry.now.flow.waiting ++ self.entry.now.flow.placed)) index }
+    {
+        Some(self.flow.at(index)?.exchange.number)
+    }
+
+    fn note_wanted_of(&mut self, number: u64)
+        ensures { self.new ≡ record self.old { flow = rested self.old.awake.items self.old.seats.items self.old.flow number } }
+    {
+        let Some(at) = self.wanted_of(number) else {
+            return;
+        };
+        if let Some(errand) = self.flow.errand_mut(number) {
+            errand.body = Body::Joining(at);
+        }
+    }
+
+    /// Where the furthest follower stands of what the exchange is bound to.
+    fn wanted_of(&self, number: u64) -> Option<u64>
+        ensures { result ≡ wanted_of self.entry.now.awake.items self.entry.now.seats.items (bound_of (entry_of number self.entry.now.flow)) }
+    {
+        let (id, _, _, _) = self.flow.entry(number)?.exchange.bound?;
+        self.furthest(id)
+    }
+}
+
+/// What it is bound to is kept on.
+fn is_kept_to(seats: &[Seat], wanted: u64, bound: Option<(ObjectId, u64, u64, bool)>) -> bool
+    ensures { result ≡ is_kept_to seats.now wanted bound }
+{
+    match bound {
+        None => false,
+        Some((id, next, to, all)) => {
+            is_worth_keeping(has_reader_near(seats, id, next, all), next, to, wanted)
+        }
+    }
+}
+
+fn dropped_more(body: Body, count: u64) -> Body
+    ensures { result ≡ dropped_more count body }
+{
+    match body {
+        Body::Dropping(before) => Body::Dropping(before.saturating_add(count)),
+        Body::Pending | Body::Joining(_) | Body::Relaying => body,
     }
 }
 
