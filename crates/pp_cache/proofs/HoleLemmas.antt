@@ -1,11 +1,11 @@
 -- What the cells tell of the offsets in memory is what the chunks tell, and so is the first that are not.
-use Rattle.std.proofs.Common.{◌≡◌, ◌<◌, ◌≤◌, ◌+◌, ◌-◌, ◌/◌, ◌%◌, ℕ, zero, suc, Bool, true, false, not, cond, List, length, refl, sym, ap, ◌∙◌, arith}
+use Rattle.std.proofs.Common.{◌≡◌, ◌<◌, ◌≤◌, ◌+◌, ◌-◌, ◌/◌, ◌%◌, ℕ, zero, suc, Bool, true, false, not, cond, List, refl, sym, ap, ◌∙◌, arith}
 use Rattle.std.specs.Prelude.{min, nat_lt}
 use Rattle.std.proofs.lemmas.Grind.{common_steps}
 use Rattle.pp_holes.proofs.Runs.{held_length}
 use Rattle.pp_holes.specs.Cells.{is_in_memory as is_in_cells}
 use Rattle.pp_holes.specs.Holes.{IsFirstHole}
-use Rattle.pp_holes.specs.Places.{Chunk, shown}
+use Rattle.pp_holes.specs.Places.{shown}
 use Rattle.pp_objects.specs.Agreement.{AllAgree}
 use Rattle.pp_objects.specs.Instances.{Instance, cells_at, table_at, total_at}
 use Rattle.pp_pool.specs.Chunks.{Used}
