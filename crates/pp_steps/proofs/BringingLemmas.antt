@@ -1,6 +1,5 @@
 -- How much of the chunk of an offset is in memory.
-use Rattle.std.proofs.Common.{◌≡◌, ◌+◌, ◌*◌, ◌/◌, ◌%◌, ℕ, Bool, true, false, cond, List, [], drop, length, refl, ap, ◌∙◌, arith}
-use Rattle.std.proofs.lemmas.Grind.{common_steps}
+use Rattle.std.proofs.Common.{◌≡◌, ◌*◌, ◌/◌, ◌%◌, ℕ, Bool, true, false, cond, List, [], drop, length, refl, ap, ◌∙◌, arith}
 use Rattle.pp_cache.specs.Memory.{Memory}
 use Rattle.pp_holes.specs.Places.{bytes_at}
 use Rattle.pp_objects.specs.Instances.{is_there}

@@ -1,8 +1,8 @@
 -- Exchange after exchange is noted how far its body is wanted, and none gets another number.
-use Rattle.std.proofs.Common.{◌≡◌, ◌+◌, ℕ, zero, suc, Bool, true, false, cond, List, [], ◌∷◌, ◌++◌, map, take, slice_get, add-one, refl, sym, ◌∙◌, ap, Option, Some, None}
+use Rattle.std.proofs.Common.{◌≡◌, ◌+◌, ℕ, zero, suc, Bool, true, false, cond, List, [], ◌∷◌, ◌++◌, take, slice_get, add-one, refl, sym, ◌∙◌, ap, Option, Some, None}
 use Rattle.std.specs.List.{fold, list_any}
 use Rattle.std.proofs.lemmas.List.{map-append}
-use Rattle.pp_flow.specs.Changes.{Exchanges, changed, entry_of, numbers, with_errand}
+use Rattle.pp_flow.specs.Changes.{Exchanges, changed, entry_of, numbers}
 use Rattle.pp_flow.specs.Entries.{asking, is_number}
 use Rattle.pp_flow.specs.declared.entry.Entry.{Entry}
 use Rattle.pp_flow.specs.declared.errand.Body.{Body}

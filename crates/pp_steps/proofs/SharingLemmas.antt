@@ -1,5 +1,5 @@
 -- The first of those that are shared, and of one more.
-use Rattle.std.proofs.Common.{◌≡◌, ◌+◌, ℕ, Bool, true, false, cond, List, take, slice_get, refl, sym, ◌∙◌, ap, Option, Some, None}
+use Rattle.std.proofs.Common.{◌≡◌, ◌+◌, ℕ, true, false, cond, List, take, slice_get, refl, sym, ◌∙◌, ap, Option, Some, None}
 use Rattle.std.specs.Prelude.{min, option_and_then}
 use Rattle.std.specs.List.{filter_map, reduce}
 use Rattle.pp_flow.specs.declared.entry.Entry.{Entry}

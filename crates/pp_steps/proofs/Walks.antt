@@ -1,6 +1,6 @@
 -- What holds of the elements before one, and of that, holds of those up to it.
-use Rattle.std.proofs.Common.{◌≡◌, ◌≤◌, ◌+◌, ℕ, zero, suc, Bool, true, false, ◌||◌, List, [], ◌∷◌, take, slice_get, get_or, length, ◌<◌, add-one, refl, sym, ◌∙◌, ap, arith, Option, Some, None}
-use Rattle.std.specs.List.{cons_option, filter_map, fold, list_any, reduce}
+use Rattle.std.proofs.Common.{◌≡◌, ◌+◌, ℕ, zero, suc, Bool, true, false, ◌||◌, List, [], ◌∷◌, take, slice_get, get_or, length, ◌<◌, add-one, refl, sym, ◌∙◌, ap, arith, Option, Some, None}
+use Rattle.std.specs.List.{cons_option, filter_map, list_any, reduce}
 use Rattle.std.specs.Option.{option_to_list}
 use Rattle.std.specs.Prelude.{max, option_and_then, ◌++◌}
 use Rattle.std.proofs.lemmas.List.{append-nil}

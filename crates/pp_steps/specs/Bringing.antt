@@ -1,5 +1,5 @@
 -- What is held of a version, and what the exchanges bring (RFC 7233, sections 4.1 and 4.3; ours: what is near).
-use Rattle.std.specs.Prelude.{ℕ, ◌+◌, ◌*◌, ◌/◌, Bool, true, false, ◌&&◌, ◌||◌, not, cond, min, max, nat_lt, nat_le, List, ◌++◌, length, bytes_eq, Option, Some, None}
+use Rattle.std.specs.Prelude.{ℕ, ◌+◌, ◌*◌, ◌/◌, Bool, false, ◌&&◌, ◌||◌, not, cond, min, max, nat_lt, nat_le, List, ◌++◌, length, bytes_eq, Option, Some, None}
 use Rattle.std.specs.List.{list_any}
 use Rattle.pp_cache.specs.Holes.{hole_of}
 use Rattle.pp_cache.specs.Memory.{Memory, extent_of, is_in_memory, stands}

@@ -1,5 +1,5 @@
 -- Where the clients stand that follow an instance (ours). Who is not awake follows nothing.
-use Rattle.std.specs.Prelude.{ℕ, ◌+◌, ◌/◌, Bool, true, false, ◌&&◌, ◌||◌, not, cond, max, nat_le, List, slice_get, Option, Some, None, option_and_then}
+use Rattle.std.specs.Prelude.{ℕ, ◌+◌, ◌/◌, Bool, false, ◌&&◌, ◌||◌, not, cond, max, nat_le, List, slice_get, Option, Some, None, option_and_then}
 use Rattle.std.specs.List.{filter_map, reduce}
 use Rattle.pp_cache.specs.Memory.{Memory}
 use Rattle.pp_flow.specs.Brings.{is_soon}

@@ -1,5 +1,5 @@
 -- What nobody will see, of the first exchange of a line (RFC 2616, section 8.1.4).
-use Rattle.std.specs.Prelude.{ℕ, ◌+◌, ◌-◌, ◌^◌, Bool, true, false, ◌&&◌, ◌||◌, not, cond, min, nat_lt, List, ◌++◌, is_some, slice_get, Option, Some, None, option_and_then}
+use Rattle.std.specs.Prelude.{ℕ, ◌+◌, ◌-◌, ◌^◌, Bool, true, false, ◌&&◌, ◌||◌, not, cond, min, nat_lt, List, ◌++◌, is_some, slice_get, Option, Some, None}
 use Rattle.std.specs.List.{fold, list_any}
 use Rattle.pp_flow.specs.Brings.{is_soon}
 use Rattle.pp_flow.specs.Changes.{Exchanges, entry_of, line_of, numbers, with_errand}
@@ -7,7 +7,6 @@ use Rattle.pp_flow.specs.Entries.{Span}
 use Rattle.pp_flow.specs.declared.entry.Aim.{Aim}
 use Rattle.pp_flow.specs.declared.entry.Aim.TheVariants.{Own, Hole, Pass as Through}
 use Rattle.pp_flow.specs.declared.entry.Entry.{Entry}
-use Rattle.pp_flow.specs.declared.errand.Errand.{Errand}
 use Rattle.pp_objects.specs.Instances.{is_same_id}
 use Rattle.pp_objects.specs.declared.id.ObjectId.{ObjectId}
 use Rattle.pp_plan.specs.Need.{is_near}

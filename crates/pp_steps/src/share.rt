@@ -89,7 +89,10 @@ fn is_shared(entry: &Entry, key: &[u8]) -> bool
     ensures { result ≡ is_shared key.now entry.now }
 {
     let e = &entry.exchange;
-    matches!(e.aim, Aim::Own) && !e.headed && !entry.errand.kind.is_range() && entry.key.as_slice() == key
+    matches!(e.aim, Aim::Own)
+        && !e.headed
+        && !entry.errand.kind.is_range()
+        && entry.key.as_slice() == key
 }
 
 fn earlier(first: Option<u64>, number: u64) -> u64

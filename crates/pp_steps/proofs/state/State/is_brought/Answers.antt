@@ -1,8 +1,8 @@
-use Rattle.std.proofs.Common.{◌≡◌, ◌++◌, true, false, arith, ap, sym, ◌∙◌, Some, None}
+use Rattle.std.proofs.Common.{◌++◌, arith, sym, Some}
 use Rattle.std.specs.Prelude.{option_map}
 use Rattle.std.proofs.lemmas.Grind.{common_steps}
 use Rattle.pp_steps.specs.Bringing.{brings}
-use Rattle.pp_steps.proofs.Walks.{holds_of, none_next, some_at}
+use Rattle.pp_steps.proofs.Walks.{none_next, some_at}
 use Rattle.pp_steps.proofs.state.State.is_brought.Goals as goal
 use Rattle.pp_steps.proofs.state.State.is_brought.Goals.{in-Some+else-brings, in_default}
 

@@ -1,5 +1,4 @@
-use Rattle.std.proofs.Common.{◌≡◌, ◌∙◌, ap, sym, arith, slice_get, Some, None}
-use Rattle.std.proofs.lemmas.Grind.{common_steps}
+use Rattle.std.proofs.Common.{◌≡◌, ◌∙◌, ap, sym, slice_get}
 use Rattle.pp_steps.proofs.RestingLemmas.{numbers_of, rested_next, rested_once, still_numbers}
 use Rattle.pp_steps.proofs.state.State.note_wanted.Goals as goal
 use Rattle.pp_steps.proofs.state.State.note_wanted.Goals.{in-Some, in_default}
