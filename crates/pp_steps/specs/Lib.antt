@@ -1,7 +1,9 @@
 pub mod Accounts
 pub mod Bringing
+pub mod Due
 pub mod Ends
 pub mod Heads
+pub mod OnDisk
 pub mod Patience
 pub mod Readers
 pub mod Sharing

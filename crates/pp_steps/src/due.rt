@@ -1,5 +1,6 @@
 // Which decision or cut is due, and which comes first (RFC 2616, section 8.1; the order is ours).
 ghost use Rattle.std.specs.Prelude.{◌≡◌};
+ghost use Rattle.pp_steps.specs.Due.{has_source_standing, is_dry};
 ghost use Rattle.pp_seats.specs.Dues.{cause_in, decision_in, due_in, follows, give_up_in, is_idle_in, is_read_in, is_short_in, lost_in};
 
 use crate::state::State;
@@ -64,7 +65,9 @@ impl State {
     }
 
     /// Nothing that came is left to say to it.
-    pub(crate) fn is_dry(&self, seat: &Seat) -> bool {
+    pub(crate) fn is_dry(&self, seat: &Seat) -> bool
+        ensures { result ≡ is_dry self.entry.now seat.now }
+    {
         self.cache.offer(&seat.client).is_empty() && self.next_on_disk(seat).is_none()
     }
 
@@ -92,7 +95,9 @@ impl State {
     }
 
     /// The instance that it follows still stands as the row of its key.
-    fn has_source_standing(&self, seat: &Seat) -> bool {
+    fn has_source_standing(&self, seat: &Seat) -> bool
+        ensures { result ≡ has_source_standing self.entry.now seat.now }
+    {
         match seat.answer() {
             None => false,
             Some(answer) => match answer.source {

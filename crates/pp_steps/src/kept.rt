@@ -1,4 +1,7 @@
 // Rows that come from the disk, and bytes that stand there alone.
+ghost use Rattle.std.specs.Prelude.{◌≡◌};
+ghost use Rattle.pp_steps.specs.OnDisk.{next_on_disk};
+
 use crate::state::State;
 use pp_cache::Cache;
 use pp_client::Current;
@@ -99,7 +102,9 @@ impl State {
     }
 
     /// The same of this client.
-    pub(crate) fn next_on_disk(&self, seat: &Seat) -> Option<Next> {
+    pub(crate) fn next_on_disk(&self, seat: &Seat) -> Option<Next>
+        ensures { result ≡ next_on_disk self.entry.now seat.now }
+    {
         if !seat.is_at_body() {
             return None;
         }
