@@ -1,4 +1,5 @@
 pub mod BringingLemmas
+mod DecideLemmas
 pub mod RestingLemmas
 pub mod SharingLemmas
 pub mod Walks

@@ -1,5 +1,6 @@
 pub mod Accounts
 pub mod Bringing
+pub mod Decide
 pub mod Due
 pub mod Ends
 pub mod Heads

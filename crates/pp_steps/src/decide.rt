@@ -1,6 +1,8 @@
 // What is decided for a request, by what is known of its key (RFC 2616, sections 13 and 14; RFC 6585,
 // section 5).
-ghost use Rattle.std.specs.Prelude.{◌≡◌};
+ghost use Rattle.std.specs.Prelude.{◌≡◌, [], false, true};
+ghost use Rattle.pp_head.specs.Shown.{shown_request};
+ghost use Rattle.pp_steps.specs.Decide.{fits, if_fits, kind_of, text_for};
 ghost use Rattle.pp_seats.specs.Dues.{begun_in, is_row_joined, refused_for, refused_in};
 
 use crate::state::State;
@@ -41,7 +43,9 @@ impl State {
         key: &Key,
         version: Option<Version>,
         decision: Decision,
-    ) -> Decision {
+    ) -> Decision
+        ensures { result ≡ if_fits self.entry.now (shown_request head.now) key.now (kind_of (shown_request head.now) version decision) decision }
+    {
         match kind_of(head, version, decision) {
             Some(kind) if !self.fits(head, key, &kind) => Decision::Refuse(431),
             _ => decision,
@@ -66,7 +70,9 @@ impl State {
         decide(head, Some(&plan), begun, self.now)
     }
 
-    fn fits(&self, head: &RequestHead<'_, '_>, key: &Key, kind: &Kind) -> bool {
+    fn fits(&self, head: &RequestHead<'_, '_>, key: &Key, kind: &Kind) -> bool
+        ensures { result ≡ fits (text_for self.entry.now (shown_request head.now) key.now kind.now) }
+    {
         let mut text = ArrayVec::new();
         self.write_text(head, key, kind, &mut text)
     }
@@ -78,7 +84,11 @@ impl State {
         key: &Key,
         kind: &Kind,
         text: &mut ArrayVec<u8, ASK_LEN>,
-    ) -> bool {
+    ) -> bool
+        ensures fits { result ≡ fits (text_for self.entry.now (shown_request head.now) key.now kind.now) }
+        ensures written { result ≡ true → text.new.items ≡ text_for self.entry.now (shown_request head.now) key.now kind.now }
+        ensures empty { result ≡ false → text.new.items ≡ [] }
+    {
         write_ask(
             &as_ask(kind),
             head,
@@ -96,7 +106,9 @@ pub(crate) fn kind_of(
     head: &RequestHead<'_, '_>,
     version: Option<Version>,
     decision: Decision,
-) -> Option<Kind> {
+) -> Option<Kind>
+    ensures { result ≡ kind_of (shown_request head.now) version decision }
+{
     match decision {
         Decision::Fetch => Some(fetch_of(head)),
         Decision::Validate => Some(Kind::Check(version?.tag)),

@@ -1,6 +1,6 @@
 // Rows that come from the disk, and bytes that stand there alone.
-ghost use Rattle.std.specs.Prelude.{◌≡◌};
-ghost use Rattle.pp_steps.specs.OnDisk.{next_on_disk};
+ghost use Rattle.std.specs.Prelude.{◌≡◌, true, is_none, is_ok, OnErr, OnOk};
+ghost use Rattle.pp_steps.specs.OnDisk.{IsBrought, kept_alone, next_on_disk};
 
 use crate::state::State;
 use pp_cache::Cache;
@@ -118,7 +118,11 @@ impl State {
 }
 
 /// The row of a key comes into memory, where it is kept on the disk alone.
-fn bring(alloc: Global, cache: &mut Cache, shelf: &Shelf, key: &[u8]) -> Result<(), OutOfMemory> {
+fn bring(alloc: Global, cache: &mut Cache, shelf: &Shelf, key: &[u8]) -> Result<(), OutOfMemory>
+    ensures brought { OnOk result (IsBrought key.now (kept_alone key.now shelf.now cache.old) cache.old cache.new) }
+    ensures refused { OnErr result (cache.new ≡ cache.old) }
+    ensures none { is_none (kept_alone key.now shelf.now cache.old) ≡ true → is_ok result ≡ true }
+{
     if cache.current(key).is_some() {
         return Ok(());
     }
