@@ -1,5 +1,6 @@
 pub mod BringingLemmas
-mod DecideLemmas
+pub mod DecideLemmas
+pub mod DueLemmas
 pub mod RestingLemmas
 pub mod SharingLemmas
 pub mod Walks

@@ -2,7 +2,8 @@
 // section 5).
 ghost use Rattle.std.specs.Prelude.{◌≡◌, [], false, true};
 ghost use Rattle.pp_head.specs.Shown.{shown_request};
-ghost use Rattle.pp_steps.specs.Decide.{fits, if_fits, kind_of, text_for};
+ghost use Rattle.pp_steps.specs.Decide.{fits, if_fits, kind_of, text_for, decide, decide_by_row, decide_for, length_if_fits};
+ghost use Rattle.pp_objects.specs.Instances.{row_of};
 ghost use Rattle.pp_seats.specs.Dues.{begun_in, is_row_joined, refused_for, refused_in};
 
 use crate::state::State;
@@ -20,14 +21,18 @@ use pp_world::Decision;
 
 impl State {
     /// None while no request is there.
-    pub(crate) fn decide(&self, seat: &Seat) -> Option<Decision> {
+    pub(crate) fn decide(&self, seat: &Seat) -> Option<Decision>
+        ensures { result ≡ decide self.entry.now seat.now }
+    {
         match refusal_of(&seat.front) {
             Some(status) => Some(Decision::Refuse(status)),
             None => Some(self.decide_for(seat, seat.front.key()?)),
         }
     }
 
-    fn decide_for(&self, seat: &Seat, key: &Key) -> Decision {
+    fn decide_for(&self, seat: &Seat, key: &Key) -> Decision
+        ensures { result ≡ decide_for self.entry.now seat.now key.now }
+    {
         let mut scratch = Scratch::new();
         let Current::Request(head, _) = seat.client.current(&mut scratch) else {
             return Decision::Refuse(400);
@@ -52,7 +57,9 @@ impl State {
         }
     }
 
-    fn decide_by_row(&self, seat: &Seat, head: &RequestHead<'_, '_>, key: &Key) -> Decision {
+    fn decide_by_row(&self, seat: &Seat, head: &RequestHead<'_, '_>, key: &Key) -> Decision
+        ensures { result ≡ decide_by_row self.entry.now seat.now (shown_request head.now) (row_of key.now.text.items self.entry.now.cache.instances) }
+    {
         let id = self.cache.current(key.text());
         let begun = begun_now(seat, id);
         let Some(id) = id else {
