@@ -1,6 +1,6 @@
 // Which decision or cut is due, and which comes first (RFC 2616, section 8.1; the order is ours).
-ghost use Rattle.std.specs.Prelude.{◌≡◌};
-ghost use Rattle.pp_steps.specs.Due.{has_source_standing, is_dry};
+ghost use Rattle.std.specs.Prelude.{◌≡◌, is_some};
+ghost use Rattle.pp_steps.specs.Due.{cut_of, decision_of, due_at, due_of, has_source_standing, is_dry, is_superseded};
 ghost use Rattle.pp_seats.specs.Dues.{cause_in, decision_in, due_in, follows, give_up_in, is_idle_in, is_read_in, is_short_in, lost_in};
 
 use crate::state::State;
@@ -28,15 +28,21 @@ impl State {
     }
 
     /// A decision is due to it, by what is in memory of its key.
-    pub(crate) fn is_to_decide(&self, seat: &Seat) -> bool {
+    pub(crate) fn is_to_decide(&self, seat: &Seat) -> bool
+        ensures { result ≡ is_some (decision_of self.entry.now seat.now) }
+    {
         self.decision_of(seat).is_some()
     }
 
-    fn due_at(&self, i: usize) -> Option<Due> {
+    fn due_at(&self, i: usize) -> Option<Due>
+        ensures { result ≡ due_at i self.entry.now }
+    {
         self.due_of(self.seats.get(i)?)
     }
 
-    fn due_of(&self, seat: &Seat) -> Option<Due> {
+    fn due_of(&self, seat: &Seat) -> Option<Due>
+        ensures { result ≡ due_of self.entry.now seat.now }
+    {
         let cut = if seat.is_closing {
             None
         } else {
@@ -52,7 +58,9 @@ impl State {
     }
 
     /// What came is said before a reply is cut for its origin.
-    fn cut_of(&self, seat: &Seat) -> Option<Cause> {
+    fn cut_of(&self, seat: &Seat) -> Option<Cause>
+        ensures { result ≡ cut_of self.entry.now seat.now }
+    {
         let has_begun = seat.has_begun();
         let may_run_dry = has_begun && (is_short(seat) || !seat.is_trying());
         cause_of(
@@ -72,7 +80,9 @@ impl State {
     }
 
     /// Another version stands, and of this one nothing more comes.
-    fn is_superseded(&self, seat: &Seat) -> bool {
+    fn is_superseded(&self, seat: &Seat) -> bool
+        ensures { result ≡ is_superseded self.entry.now seat.now }
+    {
         match seat.next() {
             None => false,
             Some(next) => self.cache.is_retired(next.source) && !self.is_provided(&next),
@@ -80,7 +90,9 @@ impl State {
     }
 
     /// One that waits, and a reply that has not begun and whose row is replaced, are decided by the row of now.
-    fn decision_of(&self, seat: &Seat) -> Option<Decision> {
+    fn decision_of(&self, seat: &Seat) -> Option<Decision>
+        ensures { result ≡ decision_of self.entry.now seat.now }
+    {
         let is_lost = is_lost(seat.answer(), self.has_source_standing(seat));
         let undecided = match seat.stage {
             Stage::Undecided => self.due_undecided(seat),

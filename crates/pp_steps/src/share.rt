@@ -1,5 +1,6 @@
 // One fetch for many (ours): a request waits once for what another has asked for already.
 ghost use Rattle.std.specs.Prelude.{◌≡◌};
+ghost use Rattle.pp_steps.specs.Due.{due_undecided, is_sharing};
 ghost use Rattle.pp_seats.specs.Dues.{may_share, undecided_in};
 ghost use Rattle.pp_steps.specs.Patience.{is_patient};
 ghost use Rattle.pp_steps.specs.Sharing.{earlier, is_asked, is_awaited, is_shared, may_wait_on, shared_ask};
@@ -63,7 +64,9 @@ impl State {
     }
 
     /// A request waits once for what is asked already.
-    pub(crate) fn due_undecided(&self, seat: &Seat) -> Option<Decision> {
+    pub(crate) fn due_undecided(&self, seat: &Seat) -> Option<Decision>
+        ensures { result ≡ due_undecided self.entry.now seat.now }
+    {
         let is_patient = self.is_patient(seat);
         let decided = if is_patient { None } else { self.decide(seat) };
         let is_asked = seat.waits_on.is_none() && self.is_asked(seat, decided);
@@ -77,7 +80,9 @@ impl State {
     }
 
     /// It waits for the answer to another client's ask.
-    pub(crate) fn is_sharing(&self, seat: &Seat) -> bool {
+    pub(crate) fn is_sharing(&self, seat: &Seat) -> bool
+        ensures { result ≡ is_sharing self.entry.now seat.now }
+    {
         matches!(seat.stage, Stage::Undecided)
             && seat.front.is_there()
             && self.due_undecided(seat).is_none()
