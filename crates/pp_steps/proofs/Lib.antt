@@ -1,6 +1,7 @@
 pub mod BringingLemmas
 pub mod DecideLemmas
 pub mod DueLemmas
+pub mod EnteringLemmas
 pub mod RestingLemmas
 pub mod SharingLemmas
 pub mod Walks

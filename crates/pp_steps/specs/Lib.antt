@@ -3,6 +3,7 @@ pub mod Bringing
 pub mod Decide
 pub mod Due
 pub mod Ends
+pub mod Entering
 pub mod Heads
 pub mod OnDisk
 pub mod Patience

@@ -1,5 +1,6 @@
 // Which decision or cut is due, and which comes first (RFC 2616, section 8.1; the order is ours).
 ghost use Rattle.std.specs.Prelude.{◌≡◌, is_some};
+ghost use Rattle.pp_steps.specs.Entering.{FirstDue};
 ghost use Rattle.pp_steps.specs.Due.{cut_of, decision_of, due_at, due_of, has_source_standing, is_dry, is_superseded};
 ghost use Rattle.pp_seats.specs.Dues.{cause_in, decision_in, due_in, follows, give_up_in, is_idle_in, is_read_in, is_short_in, lost_in};
 
@@ -14,7 +15,9 @@ const IDLE_SECONDS: u64 = 120;
 impl State {
     /// The first client, in the order of their numbers, for whom something is due. Where its request may be decided, the
     /// kept row that it names comes into memory before.
-    pub fn first_due(&mut self, shelf: &Shelf) -> Option<(usize, Due)> {
+    pub fn first_due(&mut self, shelf: &Shelf) -> Option<(usize, Due)>
+        ensures { FirstDue shelf.now self.old.awake.items self.old self.new result }
+    {
         for turn in 0..self.awake.len() {
             let Some(i) = self.awake_at(turn) else {
                 break;

@@ -1,14 +1,20 @@
 // Rows that come from the disk, and bytes that stand there alone.
-ghost use Rattle.std.specs.Prelude.{◌≡◌, true, is_none, is_ok, OnErr, OnOk};
+ghost use Rattle.std.specs.Prelude.{◌≡◌, true, is_none, is_ok, slice_get, OnErr, OnOk};
+ghost use Rattle.pp_steps.specs.Entering.{HasRow, asks_by_kept, decide_by_kept, is_below, is_due_at, is_due_by_kept, refused_kept};
+ghost use Rattle.std.specs.Option.{option_and_then};
+ghost use Rattle.pp_head.specs.Shown.{shown_request};
+ghost use Rattle.pp_store.specs.Views.{shown};
 ghost use Rattle.pp_steps.specs.OnDisk.{IsBrought, kept_alone, next_on_disk};
 
+use crate::share::may_share;
 use crate::state::State;
 use pp_cache::Cache;
 use pp_client::Current;
-use pp_head::Scratch;
+use pp_head::{RequestHead, Scratch};
 use pp_plan::{Begun, PlanRow, decide, span};
-use pp_seats::{Brought, Next, Seat, Stage};
+use pp_seats::{Brought, Key, Next, Seat, Stage};
 use pp_shelf::Shelf;
+use pp_store::KeptView;
 use pp_target::file_name;
 use pp_text::OutOfMemory;
 use pp_world::Decision;
@@ -17,7 +23,9 @@ use std::alloc::Global;
 impl State {
     /// Where the request of the client at this place may be decided now, the kept row that it names comes into memory. Where
     /// memory is refused for it, and a decision is due, the request is refused.
-    pub(crate) fn bring_row_of(&mut self, shelf: &Shelf, i: usize) {
+    pub(crate) fn bring_row_of(&mut self, shelf: &Shelf, i: usize)
+        ensures { HasRow shelf.now i self.old self.new }
+    {
         let Some(seat) = self.seats.get(i) else {
             return;
         };
@@ -44,12 +52,11 @@ impl State {
     }
 
     /// Memory was refused for the kept row of its key.
-    fn refuse_kept(&mut self, shelf: &Shelf, i: usize) {
-        let is_due = match self.seats.get(i) {
-            None => false,
-            Some(seat) => self.is_due_by_kept(shelf, seat),
-        };
-        if !is_due {
+    fn refuse_kept(&mut self, shelf: &Shelf, i: usize)
+        ensures seats { self.new.seats.items ≡ refused_kept shelf.now i self.old }
+        ensures rest { record self.new { seats = self.old.seats } ≡ self.old }
+    {
+        if !self.is_due_at(shelf, i) {
             return;
         }
         if let Some(seat) = self.seats.get_mut(i) {
@@ -58,7 +65,9 @@ impl State {
     }
 
     /// A decision is due by the kept row of its key: one that waits for the answer to another's ask has none.
-    fn is_due_by_kept(&self, shelf: &Shelf, seat: &Seat) -> bool {
+    fn is_due_by_kept(&self, shelf: &Shelf, seat: &Seat) -> bool
+        ensures { result ≡ is_due_by_kept shelf.now self.entry.now seat.now }
+    {
         let is_first = matches!(seat.stage, Stage::Undecided) && seat.waits_on.is_none();
         if is_first && self.shares_fetches && self.shared_ask(seat).is_some() {
             !self.asks_by_kept(shelf, seat)
@@ -67,8 +76,20 @@ impl State {
         }
     }
 
+    /// The same of the client at this place.
+    fn is_due_at(&self, shelf: &Shelf, i: usize) -> bool
+        ensures { result ≡ is_due_at shelf.now i self.entry.now }
+    {
+        match self.seats.get(i) {
+            None => false,
+            Some(seat) => self.is_due_by_kept(shelf, seat),
+        }
+    }
+
     /// By the kept row of its key it is to ask what another may have asked already.
-    fn asks_by_kept(&self, shelf: &Shelf, seat: &Seat) -> bool {
+    fn asks_by_kept(&self, shelf: &Shelf, seat: &Seat) -> bool
+        ensures { result ≡ asks_by_kept shelf.now self.entry.now seat.now }
+    {
         let Some(asked) = seat.front.asked() else {
             return false;
         };
@@ -82,22 +103,32 @@ impl State {
         let Current::Request(head, _) = seat.client.current(&mut scratch) else {
             return false;
         };
-        let (from, to) = span(&head, view.version);
+        may_share(self.decide_by_kept(&head, key, view))
+    }
+
+    /// What is decided by this kept row.
+    fn decide_by_kept(
+        &self,
+        head: &RequestHead<'_, '_>,
+        key: &Key,
+        view: KeptView<'_>,
+    ) -> Decision
+        ensures { result ≡ decide_by_kept self.entry.now key.now (shown view.entry) (shown_request head.now) }
+    {
         let plan = PlanRow {
             version: view.version,
             fields: view.fields,
             times: view.times,
-            held: to <= from || to <= view.extent,
+            held: is_below(view.extent, span(head, view.version)),
         };
-        let decision = decide(&head, Some(&plan), Begun::Nothing, self.now);
-        matches!(
-            self.if_fits(&head, key, Some(*view.version), decision),
-            Decision::Fetch | Decision::Validate
-        )
+        let decision = decide(head, Some(&plan), Begun::Nothing, self.now);
+        self.if_fits(head, key, Some(*view.version), decision)
     }
 
     /// The next byte of the client at this place, where it is on the disk alone and is said next.
-    pub fn next_to_load(&self, i: usize) -> Option<Next> {
+    pub fn next_to_load(&self, i: usize) -> Option<Next>
+        ensures { result ≡ option_and_then (next_on_disk self.entry.now) (slice_get self.entry.now.seats.items i) }
+    {
         self.next_on_disk(self.seats.get(i)?)
     }
 
@@ -115,6 +146,13 @@ impl State {
             None
         }
     }
+}
+
+/// Each offset of the half-open span is on the disk.
+fn is_below(extent: u64, span: (u64, u64)) -> bool
+    ensures { result ≡ is_below extent span }
+{
+    span.1 <= span.0 || span.1 <= extent
 }
 
 /// The row of a key comes into memory, where it is kept on the disk alone.

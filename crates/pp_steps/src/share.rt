@@ -143,7 +143,7 @@ fn undecided_by(
 }
 
 /// What it asks may be what another has asked for already.
-fn may_share(decision: Decision) -> bool
+pub(crate) fn may_share(decision: Decision) -> bool
     ensures { result ≡ may_share decision }
 {
     matches!(decision, Decision::Fetch | Decision::Validate)

@@ -3,6 +3,7 @@ ghost use Rattle.std.specs.Prelude.{◌≡◌, ◌<◌, ◌&&◌, ◌+◌, ◌||
 ghost use Rattle.pp_seats.specs.Courses.{is_unfilled, lost_one};
 ghost use Rattle.pp_seats.specs.declared.seat.Course.TheVariants.{OutOfTries};
 ghost use Rattle.pp_steps.specs.Ends.{asker_of, dropped_row, ended, exchange_at, exchange_of, failed, forsaken, given_up_row, is_unfilled_at, left_at_decision, lost_attempt, may_ask_again, numbers_of, parts, place_of, seat_for, AreSeated, KeepsRest};
+ghost use Rattle.pp_steps.specs.Heads.{cleared, key_of};
 
 use arrayvec::ArrayVec;
 use pp_cache::{Cache, Noted};
@@ -70,7 +71,9 @@ impl State {
     }
 
     /// The place among all clients of the one that stands there among those.
-    pub fn awake_at(&self, turn: usize) -> Option<usize> {
+    pub fn awake_at(&self, turn: usize) -> Option<usize>
+        ensures { result ≡ slice_get self.entry.now.awake.items turn }
+    {
         self.awake.get(turn).copied()
     }
 
