@@ -60,9 +60,9 @@ pub struct State {
 impl State {
     /// The place of a client.
     pub fn seat_of(&self, client: u64) -> Option<usize>
-        ensures there { IfSome result (λ i. i < length self.now.seats.items) }
-        ensures number { IfSome result (λ i. slice_get (numbers_of self.now.seats.items) i ≡ Some client) }
-        ensures place { AreSeated self.now → result ≡ place_of client (numbers_of self.now.seats.items) }
+        ensures there { IfSome result (λ i. i < length self.entry.now.seats.items) }
+        ensures number { IfSome result (λ i. slice_get (numbers_of self.entry.now.seats.items) i ≡ Some client) }
+        ensures place { AreSeated self.entry.now → result ≡ place_of client (numbers_of self.entry.now.seats.items) }
     {
         self.seats
             .as_slice()
@@ -94,15 +94,15 @@ impl State {
 
     /// The client of an exchange: its request did not leave it.
     pub(crate) fn seat_for(&self, e: &Exchange) -> Option<usize>
-        ensures there { IfSome result (λ i. i < length self.now.seats.items) }
-        ensures place { AreSeated self.now → result ≡ seat_for e.now self.now.seats.items }
+        ensures there { IfSome result (λ i. i < length self.entry.now.seats.items) }
+        ensures place { AreSeated self.entry.now → result ≡ seat_for e.now self.entry.now.seats.items }
     {
         self.seat_of(e.asker?)
     }
 
     /// The request of the exchange did not leave it, and may ask once more.
     pub(crate) fn may_ask_again(&self, number: u64) -> bool
-        ensures { AreSeated self.now → result ≡ may_ask_again number (parts self.now) }
+        ensures { AreSeated self.entry.now → result ≡ may_ask_again number (parts self.entry.now) }
     {
         match self.asker_of(number) {
             None => false,
@@ -112,7 +112,7 @@ impl State {
 
     /// The client of the exchange with this number.
     pub(crate) fn asker_of(&self, number: u64) -> Option<&Seat>
-        ensures { AreSeated self.now → option_map (λ seat. seat.now) result ≡ asker_of number (parts self.now) }
+        ensures { AreSeated self.entry.now → option_map (λ seat. seat.now) result ≡ asker_of number (parts self.entry.now) }
     {
         let e = self.flow.get(number)?;
         let i = self.seat_for(e)?;
@@ -121,7 +121,7 @@ impl State {
 
     /// The exchange with this number.
     pub fn exchange(&self, number: u64) -> Option<Exchange>
-        ensures { result ≡ exchange_at number self.now.flow }
+        ensures { result ≡ exchange_at number self.entry.now.flow }
     {
         match self.flow.get(number) {
             None => None,
@@ -131,7 +131,7 @@ impl State {
 
     /// Whether another exchange may begin.
     pub(crate) fn may_ask(&self) -> bool
-        ensures { result ≡ (nat_lt (length self.now.flow.waiting + length self.now.flow.placed) 1024 && nat_lt self.now.flow.begun 18446744073709551615) }
+        ensures { result ≡ (nat_lt (length self.entry.now.flow.waiting + length self.entry.now.flow.placed) 1024 && nat_lt self.entry.now.flow.begun 18446744073709551615) }
     {
         self.flow.len() < EXCHANGES && self.flow.begun() < u64::MAX
     }
@@ -146,7 +146,7 @@ impl State {
 
     /// The exchange of the request of the client at this place.
     pub fn exchange_of(&self, i: usize) -> Option<Exchange>
-        ensures { result ≡ exchange_of i (parts self.now) }
+        ensures { result ≡ exchange_of i (parts self.entry.now) }
     {
         let seat = self.seats.get(i)?;
         self.exchange(self.flow.asked_by(seat.id())?)
@@ -177,6 +177,7 @@ impl State {
     }
 
     /// An attempt of the exchange is lost.
+    #[tactic(auto, using(crate::proofs::SeatsLemmas::changed_here, crate::proofs::SeatsLemmas::set_numbers), unfolding(crate::specs::Ends::charged_at))]
     pub fn lose_attempt(&mut self, e: &Exchange)
         ensures is { AreSeated self.old → parts self.new ≡ lost_attempt e.now (parts self.old) }
         ensures numbers { numbers_of self.new.seats.items ≡ numbers_of self.old.seats.items }
@@ -193,6 +194,7 @@ impl State {
     }
 
     /// The attempts of the exchange end at once.
+    #[tactic(auto, using(crate::proofs::SeatsLemmas::changed_here, crate::proofs::SeatsLemmas::set_numbers), unfolding(crate::specs::Ends::charged_at))]
     pub fn fail(&mut self, e: &Exchange)
         ensures is { AreSeated self.old → parts self.new ≡ failed e.now (parts self.old) }
         ensures numbers { numbers_of self.new.seats.items ≡ numbers_of self.old.seats.items }
@@ -205,6 +207,7 @@ impl State {
     }
 
     /// A row whose hole nobody fills is cleared, and its request, of the client at this place, leaves the exchange.
+    #[tactic(auto, unfolding(crate::specs::Ends::given_up_row))]
     fn give_up_row(&mut self, e: &Exchange, i: usize)
         requires { i < length self.old.seats.items }
         ensures is { parts self.new ≡ given_up_row i e.now (parts self.old) }
@@ -216,6 +219,7 @@ impl State {
         }
     }
 
+    #[tactic(auto, using(crate::proofs::SeatsLemmas::changed_here, crate::proofs::SeatsLemmas::set_numbers))]
     fn drop_row(&mut self, e: &Exchange, i: usize)
         requires { i < length self.old.seats.items }
         ensures is { parts self.new ≡ dropped_row i e.now (parts self.old) }
@@ -229,7 +233,7 @@ impl State {
 
     fn is_unfilled(&self, e: &Exchange, i: usize) -> bool
         requires { i < length self.now.seats.items }
-        ensures { result ≡ is_unfilled_at i e.now (parts self.now) }
+        ensures { result ≡ is_unfilled_at i e.now (parts self.entry.now) }
     {
         match self.known_version(e) {
             None => false,
