@@ -1,7 +1,11 @@
+pub mod BeginLemmas
+pub mod BodyLemmas
 pub mod BringingLemmas
 pub mod DecideLemmas
 pub mod DueLemmas
 pub mod EnteringLemmas
+pub mod PassingLemmas
+pub mod PlacesLemmas
 pub mod RestingLemmas
 pub mod SeatsLemmas
 pub mod SharingLemmas

@@ -1,12 +1,17 @@
 pub mod Accounts
+pub mod Begins
+pub mod Bodies
 pub mod Bringing
 pub mod Decide
 pub mod Due
 pub mod Ends
 pub mod Entering
 pub mod Heads
+pub mod Hearing
 pub mod OnDisk
+pub mod Passing
 pub mod Patience
+pub mod Places
 pub mod Readers
 pub mod Sharing
 pub mod Unseen

@@ -1,7 +1,9 @@
 // What the operator's log is told of decisions and of what exchanges brought (ours).
 ghost use Rattle.std.specs.Prelude.{◌≡◌};
 ghost use Rattle.pp_seats.specs.Accounts.{decided};
-ghost use Rattle.pp_steps.specs.Accounts.{accounts_at};
+ghost use Rattle.pp_steps.specs.Accounts.{accounts_at, brought_by, with_source};
+ghost use Rattle.pp_steps.specs.Bodies.{on_asker};
+ghost use Rattle.pp_steps.specs.Ends.{AreSeated, numbers_of};
 
 use crate::state::State;
 use pp_flow::{Aim, Exchange};
@@ -20,7 +22,9 @@ impl State {
 
     /// The exchange of a request itself brought this. One of a follower brings the rest of what is there.
     pub(crate) fn account_brought(&mut self, e: &Exchange, source: Source)
-        ensures { record self.new { seats = self.old.seats } ≡ self.old }
+        ensures seats { AreSeated self.old → self.new.seats.items ≡ brought_by e.now.aim e.now source self.old.seats.items }
+        ensures numbers { numbers_of self.new.seats.items ≡ numbers_of self.old.seats.items }
+        ensures rest { record self.new { seats = self.old.seats } ≡ self.old }
     {
         match e.aim {
             Aim::Own => self.account_with(e, source),
@@ -28,14 +32,14 @@ impl State {
         }
     }
 
+    #[tactic(auto, using(crate::proofs::PlacesLemmas::changed_here, crate::proofs::PlacesLemmas::same_numbers))]
     fn account_with(&mut self, e: &Exchange, source: Source)
-        ensures { record self.new { seats = self.old.seats } ≡ self.old }
+        ensures seats { AreSeated self.old → self.new.seats.items ≡ on_asker e.now (with_source source) self.old.seats.items }
+        ensures numbers { numbers_of self.new.seats.items ≡ numbers_of self.old.seats.items }
+        ensures rest { record self.new { seats = self.old.seats } ≡ self.old }
     {
-        let Some(i) = self.seat_for(e) else {
-            return;
-        };
-        if let Some(seat) = self.seats.get_mut(i) {
-            seat.account.bring(source);
+        if let Some(i) = self.seat_for(e) {
+            self.seats[i].account.bring(source);
         }
     }
 }

@@ -36,11 +36,8 @@ impl State {
 
     /// What was passed of it ends early.
     fn cut_short(&mut self, e: &Exchange) {
-        let Some(i) = self.passed_by(e) else {
-            return;
-        };
-        if let Some(seat) = self.seats.get_mut(i) {
-            seat.end_passed(PassedEnd::Short);
+        if let Some(i) = self.seat_for(e) {
+            self.seats[i].end_passed(PassedEnd::Short);
         }
     }
 }

@@ -4,6 +4,8 @@ ghost use Rattle.pp_objects.specs.Instances.{is_same_id};
 ghost use Rattle.pp_flow.specs.Brings.{is_soon};
 ghost use Rattle.pp_flow.specs.Changes.{entry_of, numbers};
 ghost use Rattle.pp_flow.specs.Entries.{Span};
+ghost use Rattle.pp_steps.specs.Bodies.{body_by, with_body};
+ghost use Rattle.pp_steps.specs.Ends.{AreSeated};
 ghost use Rattle.pp_steps.specs.Unseen.{all_rested, bound_of, dropped_more, has_reader_near, is_kept_to, is_next_near, is_nobodys, is_unseen, is_worth_keeping, rested, unseen_on, wanted_of, with_dropped};
 ghost use Rattle.pp_seats.specs.Follows.{next_of};
 
@@ -43,15 +45,13 @@ impl State {
     }
 
     /// The head of the exchange's response came: what becomes of the body is known.
-    pub(crate) fn note_body(&mut self, number: u64) {
+    pub(crate) fn note_body(&mut self, number: u64)
+        ensures { AreSeated self.old → self.new ≡ record self.old { flow = with_body number self.old.seats.items self.old.flow } }
+    {
         let Some(e) = self.exchange(number) else {
             return;
         };
-        let body = match e.bound {
-            Some((_, from, _, _)) => Body::Joining(from),
-            None if self.passed_by(&e).is_some() => Body::Relaying,
-            None => Body::Dropping(0),
-        };
+        let body = body_by(e.bound, self.is_passed(&e));
         if let Some(errand) = self.flow.errand_mut(number) {
             errand.body = body;
         }
@@ -101,6 +101,17 @@ impl State {
     {
         let (id, _, _, _) = self.flow.entry(number)?.exchange.bound?;
         self.furthest(id)
+    }
+}
+
+/// What becomes of a body, by what its exchange is bound to, and whether it is passed.
+fn body_by(bound: Option<(ObjectId, u64, u64, bool)>, passed: bool) -> Body
+    ensures { result ≡ body_by bound passed }
+{
+    match bound {
+        Some((_, from, _, _)) => Body::Joining(from),
+        None if passed => Body::Relaying,
+        None => Body::Dropping(0),
     }
 }
 
