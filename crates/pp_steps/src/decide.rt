@@ -2,7 +2,7 @@
 // section 5).
 ghost use Rattle.std.specs.Prelude.{◌≡◌, [], false, true};
 ghost use Rattle.pp_head.specs.Shown.{shown_request};
-ghost use Rattle.pp_steps.specs.Decide.{fits, if_fits, kind_of, text_for, decide, decide_by_row, decide_for, length_if_fits};
+ghost use Rattle.pp_steps.specs.Decide.{fits, if_fits, kind_of, text_for, decide, decide_by_row, decide_for};
 ghost use Rattle.pp_objects.specs.Instances.{row_of};
 ghost use Rattle.pp_seats.specs.Dues.{begun_in, is_row_joined, refused_for, refused_in};
 
