@@ -82,7 +82,7 @@ module _ (n : ℕ) (seats : List Seat) (r : Result ℕ ℕ) (range : IsSearchInR
   search-finds rises = by r (searched (numbers_of seats) n r (of-numbers n seats r range found) (numbers-rise (numbers_of seats) rises))
     where
       by : (r : Result ℕ ℕ) → MatchResult r (λ i. (i < length (numbers_of seats)) × (get_or (numbers_of seats) i 0 ≡ n)) (λ i. (i ≤ length (numbers_of seats)) × ((k : ℕ) → k < i → get_or (numbers_of seats) k 0 < n) × ((k : ℕ) → i ≤ k → k < length (numbers_of seats) → n < get_or (numbers_of seats) k 0))
-        → result_ok r ≡ place_of n (numbers_of seats)
+          → result_ok r ≡ place_of n (numbers_of seats)
       by (Ok i) here = sym (found-at n (numbers_of seats) i rises here.0 here.1)
       by (Err i) apart = sym (found-nowhere n (numbers_of seats) (λ k within same. grind (arith, apart.1 k, apart.2 k)))
 

@@ -1,23 +1,29 @@
 -- What becomes of exchanges (RFC 2616, section 8.1.4): whose they are, what an attempt that is lost costs, and who leaves them.
-use Rattle.std.specs.Prelude.{◌≡◌, ℕ, suc, ◌<◌, Bool, true, false, ◌==◌, ◌&&◌, ◌||◌, if◌then◌else◌, List, [], ◌∷◌, length, map, slice_get, slice_index, slice_set, is_some, Option, Some, None, option_and_then, option_map}
+use Rattle.std.specs.Prelude.{◌≡◌, ℕ, suc, ◌<◌, Bool, true, false, ◌==◌, ◌&&◌, ◌||◌, if◌then◌else◌, List, [], ◌∷◌, length, map, nat_lt, slice_get, slice_index, slice_set, is_some, Option, Some, None, option_and_then, option_map}
 use Rattle.std.specs.List.{find}
-use Rattle.pp_cache.specs.Memory.{Memory, retired_at}
+use Rattle.pp_cache.specs.Memory.{Memory, extent_of, is_in_memory, retired_at}
 use Rattle.pp_cache.specs.Notes.{has_noted, unnoted}
 use Rattle.pp_flow.specs.Changes.{Exchanges, changed, entry_of, first_of, unplaced, with_errand, without}
-use Rattle.pp_flow.specs.Entries.{is_asked_by, is_number, nobodys}
+use Rattle.pp_flow.specs.Entries.{Span, bound_to, is_asked_by, is_number, nobodys}
 use Rattle.pp_flow.specs.Errands.{attempts_in}
 use Rattle.pp_flow.specs.declared.entry.Entry.{Entry}
 use Rattle.pp_flow.specs.declared.entry.Exchange.{Exchange}
 use Rattle.pp_flow.specs.declared.errand.Errand.{Errand}
-use Rattle.pp_objects.specs.Instances.{row_of}
-use Rattle.pp_seats.specs.Courses.{is_trying_in, is_unfilled, lost_one, without_row}
+use Rattle.pp_objects.specs.Changes.{given_back, is_last, left_from}
+use Rattle.pp_objects.specs.Instances.{followers_of, in_slot, is_there, row_of}
+use Rattle.pp_objects.specs.declared.id.ObjectId.{ObjectId}
+use Rattle.pp_seats.specs.Courses.{has_begun, is_trying_in, is_unfilled, lost_one, without_row}
+use Rattle.pp_seats.specs.Follows.{answer_in, next_of}
 use Rattle.pp_seats.specs.Seats.{brought_to, has_key}
 use Rattle.pp_seats.specs.declared.seat.Brought.{Brought}
 use Rattle.pp_seats.specs.declared.seat.Brought.TheVariants.{Awaited, Useless, Joins, Passes, TooWide, Refused}
 use Rattle.pp_seats.specs.declared.seat.Course.{Course}
-use Rattle.pp_seats.specs.declared.seat.Course.TheVariants.{OutOfTries}
+use Rattle.pp_seats.specs.declared.seat.Course.TheVariants.{OutOfTries, Trying}
+use Rattle.pp_seats.specs.declared.seat.Next.{Next}
 use Rattle.pp_seats.specs.declared.seat.PassedEnd.TheVariants.{Short}
 use Rattle.pp_seats.specs.declared.seat.Seat.{Seat}
+use Rattle.pp_seats.specs.declared.seat.Stage.{Stage}
+use Rattle.pp_seats.specs.declared.seat.Stage.TheVariants.{Undecided, Waiting, Passing, Answering}
 use Rattle.pp_steps.specs.declared.state.State.{State}
 use Rattle.pp_steps.specs.Heads.{key_of}
 use Rattle.pp_valid.specs.declared.version.Version.{Version}
@@ -199,10 +205,81 @@ may_go_elsewhere number p = may_ask_again number p && is_some (find (is_number n
 unfoldable pub left_place : Exchange → Parts → Parts
 left_place e p = if e.headed then ended e.number (cut_short e p) else if may_go_elsewhere e.number p then asked_elsewhere e.number p else ended e.number p
 
+abbrev pub charged_where : Bool → Exchange → Parts → Parts
+charged_where counts e p = if counts then lost_attempt e p else p
+
 abbrev pub left_place_at : Option Exchange → Bool → Parts → Parts
 left_place_at None counts p = p
-left_place_at (Some e) counts p = left_place e (if counts then lost_attempt e p else p)
+left_place_at (Some e) counts p = left_place e (charged_where counts e p)
 
 -- counts: its attempt is lost
 abbrev pub lost_place : ℕ → Bool → Parts → Parts
 lost_place number counts p = left_place_at (exchange_at number p.flow) counts p
+
+-- ---- what the request of an exchange is told
+
+-- where it has no reply yet
+abbrev pub told : Brought → Seat → Seat
+told brought seat = if has_begun seat then seat else record seat { brought = brought }
+
+abbrev pub told_to : Exchange → Brought → Parts → Parts
+told_to e brought p = on_seat_where (seat_for e p.seats) (told brought) p
+
+-- its final head came, and its body belongs there
+abbrev pub bound_by : ℕ → Option Span → Parts → Parts
+bound_by number to p = record p { flow = record p.flow { placed = changed number (bound_to to) p.flow.placed } }
+
+-- what comes is dropped, and its request is decided again
+abbrev pub unusable : Exchange → Parts → Parts
+unusable e p = told_to e Useless (bound_by e.number None p)
+
+-- an answer that is of no use loses an attempt
+abbrev pub made_useless : Exchange → Parts → Parts
+made_useless e p = unusable e (lost_attempt e p)
+
+-- ---- a client follows nothing any more
+
+abbrev pub source_of : Seat → Option ObjectId
+source_of seat = option_and_then (λ a. a.source) (answer_in seat.stage)
+
+abbrev pub unfollowing : Stage → Stage
+unfollowing Undecided = Undecided
+unfollowing Waiting = Waiting
+unfollowing Passing = Passing
+unfollowing (Answering a) = Answering (record a { source = None })
+
+abbrev pub without_source : Seat → Seat
+without_source seat = record seat { stage = unfollowing seat.stage }
+
+-- one client less reads from the instance. A retired one leaves memory with its last follower
+abbrev pub followed_less : ObjectId → Memory → Memory
+followed_less id m = record m {
+  instances = left_from id.slot (in_slot id.slot m.instances) m.instances;
+  chunks = given_back (is_last (in_slot id.slot m.instances)) id.slot m.chunks;
+}
+
+abbrev pub unfollowed : ObjectId → Memory → Memory
+unfollowed id m = if is_there id m.instances && nat_lt 0 (followers_of (in_slot id.slot m.instances)) then followed_less id m else m
+
+abbrev pub source_at : ℕ → Parts → Option ObjectId
+source_at i p = option_and_then source_of (slice_get p.seats i)
+
+abbrev pub left_source : ℕ → Parts → Parts
+left_source i p = elim (source_at i p) [ None ↦ p | Some id ↦ record p { seats = changed_at i without_source p.seats; cache = unfollowed id p.cache } ]
+
+-- ---- attempts count anew for those whose next byte is held
+
+abbrev pub is_held : ObjectId → ℕ → Memory → Bool
+is_held id at m = (is_there id m.instances && is_in_memory id.slot at m.chunks) || nat_lt at (extent_of id m)
+
+abbrev pub is_held_next : Option Next → Memory → Bool
+is_held_next None m = false
+is_held_next (Some next) m = is_held next.source next.at m
+
+abbrev pub regained : Memory → Seat → Seat
+regained m seat = if is_held_next (next_of seat) m then record seat { course = Trying 0 } else seat
+
+-- of those at these places
+abbrev pub all_regained : Memory → List ℕ → List Seat → List Seat
+all_regained m [] seats = seats
+all_regained m (i ∷ is) seats = all_regained m is (changed_at i (regained m) seats)

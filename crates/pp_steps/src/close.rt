@@ -1,4 +1,9 @@
 // What becomes of exchanges where a connection ends (RFC 2616, section 8.1.4).
+ghost use Rattle.std.specs.Prelude.{◌≡◌, is_some, true};
+ghost use Rattle.std.specs.List.{find};
+ghost use Rattle.pp_flow.specs.Entries.{is_number};
+ghost use Rattle.pp_steps.specs.Ends.{asked_elsewhere, charged_where, cut_short, left_place, lost_place, numbers_of, parts, AreSeated, KeepsRest};
+
 use crate::state::State;
 use pp_flow::Exchange;
 use pp_seats::PassedEnd;
@@ -12,30 +17,62 @@ impl State {
         })
     }
 
-    /// The exchange's connection is gone: behind its head it is over, and before that it is asked again for
-    /// the request that waits for it.
-    pub fn lose_place(&mut self, number: u64, counts: bool) {
+    /// The exchange's connection is gone. Its attempt is lost where that counts.
+    pub fn lose_place(&mut self, number: u64, counts: bool)
+        ensures is { AreSeated self.old → parts self.new ≡ lost_place number counts (parts self.old) }
+        ensures rest { KeepsRest self.old self.new }
+    {
         let Some(e) = self.exchange(number) else {
             return;
         };
+        self.charge(&e, counts);
+        self.leave_place(&e);
+    }
+
+    fn charge(&mut self, e: &Exchange, counts: bool)
+        ensures is { AreSeated self.old → parts self.new ≡ charged_where counts e.now (parts self.old) }
+        ensures numbers { numbers_of self.new.seats.items ≡ numbers_of self.old.seats.items }
+        ensures rest { KeepsRest self.old self.new }
+    {
         if counts {
-            self.lose_attempt(&e);
+            self.lose_attempt(e);
         }
+    }
+
+    /// Behind its head it is over, and before that it is asked again for the request that waits for it.
+    #[tactic(auto, unfolding(crate::specs::Ends::left_place))]
+    fn leave_place(&mut self, e: &Exchange)
+        ensures is { AreSeated self.old → parts self.new ≡ left_place e.now (parts self.old) }
+        ensures rest { KeepsRest self.old self.new }
+    {
         if e.headed {
-            self.cut_short(&e);
-            self.end(number);
-        } else if self.may_ask_again(number) && self.flow.has_place(number) {
-            self.flow.unplace(number);
-            if let Some(errand) = self.flow.errand_mut(number) {
-                errand.asked = 0;
-            }
+            self.cut_short(e);
+            self.end(e.number);
+        } else if self.may_ask_again(e.number) && self.flow.has_place(e.number) {
+            self.ask_elsewhere(e.number);
         } else {
-            self.end(number);
+            self.end(e.number);
+        }
+    }
+
+    /// It is to be asked at another place, from the front of its text on.
+    fn ask_elsewhere(&mut self, number: u64)
+        requires { is_some (find (is_number number) self.old.flow.placed) ≡ true }
+        ensures is { parts self.new ≡ asked_elsewhere number (parts self.old) }
+        ensures rest { KeepsRest self.old self.new }
+    {
+        self.flow.unplace(number);
+        if let Some(errand) = self.flow.errand_mut(number) {
+            errand.asked = 0;
         }
     }
 
     /// What was passed of it ends early.
-    fn cut_short(&mut self, e: &Exchange) {
+    #[tactic(auto, using(crate::proofs::SeatsLemmas::changed_here))]
+    fn cut_short(&mut self, e: &Exchange)
+        ensures is { AreSeated self.old → parts self.new ≡ cut_short e.now (parts self.old) }
+        ensures rest { KeepsRest self.old self.new }
+    {
         if let Some(i) = self.seat_for(e) {
             self.seats[i].end_passed(PassedEnd::Short);
         }

@@ -249,11 +249,12 @@ impl State {
         let Some(mut answer) = seat.answer() else {
             return;
         };
-        if let Some(id) = answer.source {
-            answer.source = None;
-            seat.stage = Stage::Answering(answer);
-            self.cache.leave(id);
-        }
+        let Some(id) = answer.source else {
+            return;
+        };
+        answer.source = None;
+        seat.stage = Stage::Answering(answer);
+        self.cache.leave(id);
     }
 
     /// Attempts count anew for those whose next byte is held.
