@@ -20,6 +20,7 @@ impl State {
     /// The exchange's connection is gone. Its attempt is lost where that counts.
     pub fn lose_place(&mut self, number: u64, counts: bool)
         ensures is { AreSeated self.old → parts self.new ≡ lost_place number counts (parts self.old) }
+        ensures numbers { numbers_of self.new.seats.items ≡ numbers_of self.old.seats.items }
         ensures rest { KeepsRest self.old self.new }
     {
         let Some(e) = self.exchange(number) else {
@@ -43,6 +44,7 @@ impl State {
     #[tactic(auto, unfolding(crate::specs::Ends::left_place))]
     fn leave_place(&mut self, e: &Exchange)
         ensures is { AreSeated self.old → parts self.new ≡ left_place e.now (parts self.old) }
+        ensures numbers { numbers_of self.new.seats.items ≡ numbers_of self.old.seats.items }
         ensures rest { KeepsRest self.old self.new }
     {
         if e.headed {
@@ -59,6 +61,7 @@ impl State {
     fn ask_elsewhere(&mut self, number: u64)
         requires { is_some (find (is_number number) self.old.flow.placed) ≡ true }
         ensures is { parts self.new ≡ asked_elsewhere number (parts self.old) }
+        ensures numbers { numbers_of self.new.seats.items ≡ numbers_of self.old.seats.items }
         ensures rest { KeepsRest self.old self.new }
     {
         self.flow.unplace(number);
@@ -68,9 +71,10 @@ impl State {
     }
 
     /// What was passed of it ends early.
-    #[tactic(auto, using(crate::proofs::SeatsLemmas::changed_here))]
+    #[tactic(auto, using(crate::proofs::SeatsLemmas::changed_here, crate::proofs::SeatsLemmas::set_numbers))]
     fn cut_short(&mut self, e: &Exchange)
         ensures is { AreSeated self.old → parts self.new ≡ cut_short e.now (parts self.old) }
+        ensures numbers { numbers_of self.new.seats.items ≡ numbers_of self.old.seats.items }
         ensures rest { KeepsRest self.old self.new }
     {
         if let Some(i) = self.seat_for(e) {

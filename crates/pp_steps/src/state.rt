@@ -139,6 +139,7 @@ impl State {
     /// The exchange is over.
     pub fn end(&mut self, number: u64)
         ensures is { parts self.new ≡ ended number (parts self.old) }
+        ensures numbers { numbers_of self.new.seats.items ≡ numbers_of self.old.seats.items }
         ensures rest { KeepsRest self.old self.new }
     {
         self.flow.over(number);
