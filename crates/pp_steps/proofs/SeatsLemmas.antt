@@ -3,17 +3,18 @@ use Rattle.std.proofs.Common.{◌≡◌, ◌≢◌, ◌<◌, ◌≤◌, ◌+◌,
 use Rattle.std.specs.List.Sorted.{IsBinarySearchResult, IsSearchInRange, IsNonDecreasingBy}
 use Rattle.std.specs.Ordering.{nat_cmp, ordering_index}
 use Rattle.std.proofs.lemmas.Cmp.{ranked}
-use Rattle.std.proofs.lemmas.List.{get_or-map, length-map}
+use Rattle.std.proofs.lemmas.List.{get_or-map, length-map, take_more}
 use Rattle.std.proofs.lemmas.Option.{slice_get-get_or, slice_get_read}
 use Rattle.std.specs.Result.{result_ok}
 use Rattle.std.proofs.lemmas.List.Sorted.{searched}
 use Rattle.std.proofs.lemmas.Bool.Decides.{nat_tests}
 use Rattle.pp_seats.specs.declared.seat.Seat.{Seat}
+use Rattle.pp_cache.specs.Memory.{Memory}
 use Rattle.pp_cache.specs.Notes.{has_noted}
 use Rattle.pp_seats.specs.Courses.{has_begun, without_row}
 use Rattle.pp_seats.specs.Seats.{has_key}
 use Rattle.pp_seats.specs.declared.seat.Course.TheVariants.{Trying}
-use Rattle.pp_steps.specs.Ends.{AreInOrder, all_decided_anew, changed_at, decided_anew, numbers_of, place_of, useless_if_refused}
+use Rattle.pp_steps.specs.Ends.{AreInOrder, all_decided_anew, all_regained, changed_at, decided_anew, numbers_of, place_of, regained, useless_if_refused}
 
 -- ---- a number that is there is found at its place, and one that is not is not found
 
@@ -170,3 +171,13 @@ without_row-number seat = by (has_begun seat || seat.has_given_up)
 pub refilled : (ys zs : List Seat) → take (length ys) (ys ++ zs) ≡ ys
 refilled [] zs = refl
 refilled (y ∷ ys) zs = ap (λ xs. y ∷ xs) (refilled ys zs)
+
+-- ---- where attempts count anew
+
+pub all_regained-append : (m : Memory) (is js : List ℕ) (seats : List Seat) → all_regained m (is ++ js) seats ≡ all_regained m js (all_regained m is seats)
+all_regained-append m [] js seats = refl
+all_regained-append m (i ∷ is) js seats = all_regained-append m is js (changed_at i (regained m) seats)
+
+-- the next of these places
+pub all_regained-next : (m : Memory) (is : List ℕ) (n : ℕ) (seats : List Seat) → n < length is → all_regained m (take (n + 1) is) seats ≡ changed_at (get_or is n 0) (regained m) (all_regained m (take n is) seats)
+all_regained-next m is n seats within = ap (λ xs. all_regained m xs seats) (take_more is n 0 within) ∙ all_regained-append m (take n is) (get_or is n 0 ∷ []) seats

@@ -283,3 +283,8 @@ regained m seat = if is_held_next (next_of seat) m then record seat { course = T
 abbrev pub all_regained : Memory → List ℕ → List Seat → List Seat
 all_regained m [] seats = seats
 all_regained m (i ∷ is) seats = all_regained m is (changed_at i (regained m) seats)
+
+-- ---- a client that is to be closed
+
+abbrev pub is_over_at : ℕ → State → Bool
+is_over_at i s = elim (slice_get s.seats.items i) [ None ↦ false | Some seat ↦ s.is_stopped || seat.is_closing ]

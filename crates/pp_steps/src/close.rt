@@ -1,8 +1,8 @@
 // What becomes of exchanges where a connection ends (RFC 2616, section 8.1.4).
 ghost use Rattle.std.specs.Prelude.{◌≡◌, is_some, true};
-ghost use Rattle.std.specs.List.{find};
+ghost use Rattle.std.specs.List.{find, list_any};
 ghost use Rattle.pp_flow.specs.Entries.{is_number};
-ghost use Rattle.pp_steps.specs.Ends.{asked_elsewhere, charged_where, cut_short, left_place, lost_place, numbers_of, parts, AreSeated, KeepsRest};
+ghost use Rattle.pp_steps.specs.Ends.{asked_elsewhere, charged_where, cut_short, is_over_at, left_place, lost_place, numbers_of, parts, AreSeated, KeepsRest};
 
 use crate::state::State;
 use pp_flow::Exchange;
@@ -10,11 +10,20 @@ use pp_seats::PassedEnd;
 
 impl State {
     /// Some client is to be closed.
-    pub fn is_any_over(&self) -> bool {
-        self.awake.iter().any(|i| match self.seats.get(*i) {
+    pub fn is_any_over(&self) -> bool
+        ensures { result ≡ list_any (λ i. is_over_at i self.entry.now) self.entry.now.awake.items }
+    {
+        self.awake.iter().any(|i| self.is_over(*i))
+    }
+
+    /// The client at this place is.
+    fn is_over(&self, i: usize) -> bool
+        ensures { result ≡ is_over_at i self.entry.now }
+    {
+        match self.seats.get(i) {
             None => false,
             Some(seat) => self.is_stopped || seat.is_closing,
-        })
+        }
     }
 
     /// The exchange's connection is gone. Its attempt is lost where that counts.

@@ -2,12 +2,14 @@
 ghost use Rattle.std.specs.Prelude.{◌≡◌, ◌<◌, ◌&&◌, ◌+◌, ◌||◌, length, nat_le, nat_lt, option_map, slice_get, Some, IfSome};
 ghost use Rattle.pp_seats.specs.Courses.{is_unfilled, lost_one};
 ghost use Rattle.pp_seats.specs.declared.seat.Course.TheVariants.{OutOfTries};
-ghost use Rattle.pp_steps.specs.Ends.{asker_of, dropped_row, ended, exchange_at, exchange_of, failed, forsaken, given_up_row, is_unfilled_at, left_at_decision, lost_attempt, may_ask_again, numbers_of, parts, place_of, seat_for, AreSeated, KeepsRest};
+ghost use Rattle.pp_steps.specs.Ends.{asker_of, dropped_row, ended, exchange_at, exchange_of, failed, forsaken, given_up_row, is_unfilled_at, left_at_decision, lost_attempt, may_ask_again, numbers_of, parts, place_of, seat_for, AreSeated, KeepsRest, all_regained, changed_at, is_held_next, left_source, regained, source_at, unfollowed, without_source};
 ghost use Rattle.pp_steps.specs.Heads.{cleared, key_of};
+ghost use Rattle.pp_seats.specs.Follows.{next_of};
 
 use arrayvec::ArrayVec;
 use pp_cache::{Cache, Noted};
 use pp_flow::{Aim, EXCHANGES, Exchange, Flow};
+use pp_objects::ObjectId;
 use pp_peers::Limits;
 use pp_seats::{Course, Seat, Stage};
 use pp_valid::Version;
@@ -243,38 +245,40 @@ impl State {
     }
 
     /// The client follows nothing any more.
-    pub fn leave_source(&mut self, i: usize) {
-        let Some(seat) = self.seats.get_mut(i) else {
+    #[tactic(auto, using(crate::proofs::SeatsLemmas::changed_here))]
+    pub fn leave_source(&mut self, i: usize)
+        ensures is { parts self.new ≡ left_source i (parts self.old) }
+        ensures rest { KeepsRest self.old self.new }
+    {
+        let Some(id) = self.source_at(i) else {
             return;
         };
-        let Some(mut answer) = seat.answer() else {
-            return;
-        };
-        let Some(id) = answer.source else {
-            return;
-        };
-        answer.source = None;
-        seat.stage = Stage::Answering(answer);
+        if i < self.seats.len() {
+            unfollow(&mut self.seats[i]);
+        }
+        self.leave_instance(id);
+    }
+
+    /// What the client at this place follows.
+    fn source_at(&self, i: usize) -> Option<ObjectId>
+        ensures { result ≡ source_at i (parts self.entry.now) }
+    {
+        self.seats.get(i)?.answer()?.source
+    }
+
+    /// One client less follows it.
+    fn leave_instance(&mut self, id: ObjectId)
+        ensures { self.new ≡ record self.old { cache = unfollowed id self.old.cache } }
+    {
         self.cache.leave(id);
     }
 
     /// Attempts count anew for those whose next byte is held.
-    pub fn regain(&mut self) {
-        for turn in 0..self.awake.len() {
-            let Some(i) = self.awake_at(turn) else {
-                break;
-            };
-            let Some(seat) = self.seats.get_mut(i) else {
-                break;
-            };
-            if seat.course != Course::Trying(0) {
-                if let Some(next) = seat.next() {
-                    if self.cache.is_held(next.source, next.at) {
-                        seat.course = Course::Trying(0);
-                    }
-                }
-            }
-        }
+    pub fn regain(&mut self)
+        ensures is { self.new.seats.items ≡ all_regained self.old.cache self.old.awake.items self.old.seats.items }
+        ensures rest { record self.new { seats = self.old.seats } ≡ self.old }
+    {
+        regain_all(&mut self.seats, &self.awake, &self.cache);
     }
 
     /// Eviction begins where as many chunks are used as the trigger says.
@@ -282,6 +286,54 @@ impl State {
         ensures { self.new ≡ record self.old { is_evicting = self.old.is_evicting || nat_le self.old.trigger (length self.old.cache.chunks) } }
     {
         self.is_evicting = self.is_evicting || self.trigger <= self.cache.used();
+    }
+}
+
+/// This client follows nothing any more.
+fn unfollow(seat: &mut Seat)
+    ensures { seat.new ≡ without_source seat.old }
+{
+    match &mut seat.stage {
+        Stage::Undecided | Stage::Waiting | Stage::Passing => {}
+        Stage::Answering(answer) => answer.source = None,
+    }
+}
+
+fn regain_all(seats: &mut [Seat], places: &[usize], cache: &Cache)
+    ensures { seats.new ≡ all_regained cache.now places.now seats.old }
+{
+    for i in places {
+        regain_at(seats, *i, cache);
+    }
+}
+
+#[tactic(auto, using(crate::proofs::SeatsLemmas::changed_here))]
+fn regain_at(seats: &mut [Seat], i: usize, cache: &Cache)
+    ensures { seats.new ≡ changed_at i (regained cache.now) seats.old }
+{
+    if i < seats.len() {
+        regain(&mut seats[i], cache);
+    }
+}
+
+/// Where the next byte of this client is held, its attempts count anew.
+fn regain(seat: &mut Seat, cache: &Cache)
+    ensures { seat.new ≡ regained cache.now seat.old }
+{
+    if matches!(seat.course, Course::Trying(0)) {
+        return;
+    }
+    if is_next_held(seat, cache) {
+        seat.course = Course::Trying(0);
+    }
+}
+
+fn is_next_held(seat: &Seat, cache: &Cache) -> bool
+    ensures { result ≡ is_held_next (next_of seat.now) cache.now }
+{
+    match seat.next() {
+        None => false,
+        Some(next) => cache.is_held(next.source, next.at),
     }
 }
 
