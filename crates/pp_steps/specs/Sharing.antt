@@ -3,7 +3,8 @@ use Rattle.std.specs.Prelude.{ℕ, Bool, true, false, ◌&&◌, not, cond, min, 
 use Rattle.std.specs.List.{filter_map, find, reduce}
 use Rattle.pp_flow.specs.Changes.{Exchanges, entry_of, first_of}
 use Rattle.pp_flow.specs.Entries.{is_asked_by}
-use Rattle.pp_flow.specs.Errands.{asks_range}
+use Rattle.pp_flow.specs.declared.errand.Kind.{Kind}
+use Rattle.pp_flow.specs.declared.errand.Kind.TheVariants.{Whole, Range, Hole as AsHole, Check, Pass as AsPassed}
 use Rattle.pp_flow.specs.declared.entry.Aim.{Aim}
 use Rattle.pp_flow.specs.declared.entry.Aim.TheVariants.{Own, Hole, Pass as Through}
 use Rattle.pp_flow.specs.declared.entry.Entry.{Entry}
@@ -20,9 +21,16 @@ is_own Own = true
 is_own (Hole v from to) = false
 is_own Through = false
 
+abbrev pub asks_part : Kind → Bool
+asks_part Whole = false
+asks_part (Range first last) = true
+asks_part (AsHole first last tag) = true
+asks_part (Check tag) = false
+asks_part AsPassed = false
+
 -- an ask for the whole of the key, or a check of it, whose answer has not come
 abbrev pub is_shared : List ℕ → Entry → Bool
-is_shared key e = is_own e.exchange.aim && not e.exchange.headed && not (asks_range e.errand.kind) && bytes_eq e.key.items key
+is_shared key e = is_own e.exchange.aim && not e.exchange.headed && not (asks_part e.errand.kind) && bytes_eq e.key.items key
 
 abbrev pub shared_number : List ℕ → Entry → Option ℕ
 shared_number key e = cond (is_shared key e) (Some e.exchange.number) None

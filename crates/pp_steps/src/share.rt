@@ -3,10 +3,10 @@ ghost use Rattle.std.specs.Prelude.{◌≡◌};
 ghost use Rattle.pp_steps.specs.Due.{due_undecided, is_sharing};
 ghost use Rattle.pp_seats.specs.Dues.{may_share, undecided_in};
 ghost use Rattle.pp_steps.specs.Patience.{is_patient};
-ghost use Rattle.pp_steps.specs.Sharing.{earlier, is_asked, is_awaited, is_shared, may_wait_on, shared_ask};
+ghost use Rattle.pp_steps.specs.Sharing.{asks_part, earlier, is_asked, is_awaited, is_shared, may_wait_on, shared_ask};
 
 use crate::state::State;
-use pp_flow::{Aim, Entry};
+use pp_flow::{Aim, Entry, Kind};
 use pp_seats::{Seat, Shared, Stage};
 use pp_world::Decision;
 
@@ -96,8 +96,14 @@ fn is_shared(entry: &Entry, key: &[u8]) -> bool
     let e = &entry.exchange;
     matches!(e.aim, Aim::Own)
         && !e.headed
-        && !entry.errand.kind.is_range()
+        && !asks_part(&entry.errand.kind)
         && entry.key.as_slice() == key
+}
+
+fn asks_part(kind: &Kind) -> bool
+    ensures { result ≡ asks_part kind.now }
+{
+    matches!(kind, Kind::Range(_, _) | Kind::Hole(_, _, _))
 }
 
 fn earlier(first: Option<u64>, number: u64) -> u64
