@@ -1,8 +1,10 @@
 -- Of those that go on none is closing.
-use Rattle.std.proofs.Common.{◌≡◌, Bool, true, false, cond, List, [], ◌∷◌, ◌||◌, not, filter, refl, ◌∙◌, ap}
+use Rattle.std.proofs.Common.{◌≡◌, Bool, true, false, cond, List, [], ◌∷◌, ◌||◌, not, filter, refl, ◌∙◌, ap, ◌&&◌, if◌then◌else◌, ℕ, Option, Some}
 use Rattle.pp_peers.specs.Peers.{goes_on}
 use Rattle.pp_peers.specs.declared.peers.Peer.{Peer}
-use Rattle.pp_proxy.specs.Closings.{has_closing}
+use Rattle.pp_proxy.specs.Closings.{has_closing, closed_line}
+use Rattle.pp_steps.specs.Ends.{Parts}
+use Rattle.pp_steps.specs.Lines.{lost_line}
 
 pub none_closing : (is_end : Bool) (ps : List Peer) → has_closing (filter (goes_on is_end) ps) ≡ false
 none_closing is_end [] = refl
@@ -15,3 +17,8 @@ none_closing is_end (p ∷ ps) = by is_end p.is_closing refl (none_closing is_en
     by true v at below = below
     by false true at below = ap (λ b. has_closing (left b)) at ∙ below
     by false false at below = ap (λ b. has_closing (left b)) at ∙ ap (λ b. b || has_closing (filter (goes_on is_end) ps)) at ∙ below
+
+-- where its cause had not come yet, its line is lost
+pub line_lost : (k : ℕ) (counts : Bool) (o : Option Peer) (peer : Peer) (p : Parts) → o ≡ Some peer → peer.is_closing ≡ false → closed_line k counts o p ≡ lost_line 1024 k (counts && not peer.has_brought) p
+line_lost k counts o peer p found goes =
+    ap (λ (x : Option Peer). closed_line k counts x p) found ∙ ap (λ (b : Bool). if b then p else lost_line 1024 k (counts && not peer.has_brought) p) goes

@@ -4,6 +4,7 @@ pub mod BringingLemmas
 pub mod DecideLemmas
 pub mod DueLemmas
 pub mod EnteringLemmas
+pub mod LineLemmas
 pub mod PassingLemmas
 pub mod PlacesLemmas
 pub mod RestingLemmas

@@ -8,6 +8,7 @@ pub mod Ends
 pub mod Entering
 pub mod Heads
 pub mod Hearing
+pub mod Lines
 pub mod OnDisk
 pub mod Passing
 pub mod Patience

@@ -2,10 +2,11 @@
 ghost use Rattle.std.specs.Prelude.{◌≡◌, is_some, true};
 ghost use Rattle.std.specs.List.{find, list_any};
 ghost use Rattle.pp_flow.specs.Entries.{is_number};
+ghost use Rattle.pp_steps.specs.Lines.{lost_line};
 ghost use Rattle.pp_steps.specs.Ends.{asked_elsewhere, charged_where, cut_short, is_over_at, left_place, lost_place, numbers_of, parts, AreSeated, KeepsRest};
 
 use crate::state::State;
-use pp_flow::Exchange;
+use pp_flow::{EXCHANGES, Exchange};
 use pp_seats::PassedEnd;
 
 impl State {
@@ -23,6 +24,21 @@ impl State {
         match self.seats.get(i) {
             None => false,
             Some(seat) => self.is_stopped || seat.is_closing,
+        }
+    }
+
+    /// The connection of these exchanges is gone: each loses its place, the first of the line always.
+    #[tactic(auto, using(crate::proofs::LineLemmas::line_next, crate::proofs::LineLemmas::line_over))]
+    pub fn lose_line(&mut self, k: u64, counts: bool)
+        ensures is { AreSeated self.old → parts self.new ≡ lost_line 1024 k counts (parts self.old) }
+        ensures numbers { numbers_of self.new.seats.items ≡ numbers_of self.old.seats.items }
+        ensures rest { KeepsRest self.old self.new }
+    {
+        for _exchange in 0..EXCHANGES {
+            match self.flow.line(k, 0) {
+                None => break,
+                Some(number) => self.lose_place(number, counts),
+            }
         }
     }
 
