@@ -1,14 +1,14 @@
 mod Begun
-mod Ended
+pub mod Ended
 mod Entries
 mod Errands
 mod Exchanges
-mod Framed
+pub mod Framed
 mod Left
 mod Noted
 mod Pairs
 mod Put
 mod Standing
 mod Told
-mod Turned
+pub mod Turned
 mod Unplaced

@@ -1,8 +1,8 @@
-mod Asks
+pub mod Asks
 mod Awaits
 mod Bodies
 mod Endings
-mod Finds
+pub mod Finds
 mod Heads
 mod LineEnds
 mod Loads

@@ -1,0 +1,4 @@
+mod Asked
+mod Changed
+mod Cleared
+mod Ended

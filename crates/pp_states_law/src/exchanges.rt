@@ -1,0 +1,12 @@
+// One exchange is changed, or is over.
+ghost use Rattle.pp_states_law.specs.Exchanges.{EndsAreTheLaws, LeavesAreTheLaws};
+
+/// Its request leaves it.
+pub fn leaves_are_the_laws()
+    ensures leaves { LeavesAreTheLaws }
+{}
+
+/// One that stands in no line is over.
+pub fn ends_are_the_laws()
+    ensures ends { EndsAreTheLaws }
+{}

@@ -1,0 +1,22 @@
+//! How the state of the program stands for that of the law, part by part, and what a change of one part leaves of all.
+//!
+//! `specs/States.antt` is the relation: the seats show the clients, the exchanges those of the law, the cache the table, and the
+//! connections those of the law, by one map of lives to the law's numbers. The laws of each part stand in a crate of its own; here a
+//! change of one part is a change of the whole: a client is changed, an exchange, or the row of a key, and the other parts are shown
+//! as before.
+//!
+//! To the layer above: each equation is the clause of a function that does nothing. It is one part of the proof that the program
+//! obeys the law: of the steps of a turn, which join such changes, nothing is said here.
+//!
+//! Takes no memory, and does nothing when the program runs.
+#![tactic(auto)]
+
+mod asks; // what connections depend on
+mod clients; // one client is changed
+mod exchanges; // one exchange is changed, or is over
+mod rows; // a row is cleared
+
+pub use asks::frames_are_the_laws;
+pub use clients::changes_are_the_laws;
+pub use exchanges::{ends_are_the_laws, leaves_are_the_laws};
+pub use rows::clears_are_the_laws;
