@@ -1,4 +1,4 @@
-mod Asked
-mod Changed
-mod Cleared
-mod Ended
+pub mod Asked
+pub mod Changed
+pub mod Cleared
+pub mod Ended
