@@ -1,4 +1,5 @@
 pub mod Asked
 pub mod Changed
 pub mod Cleared
+pub mod Connected
 pub mod Ended

@@ -1,5 +1,6 @@
 pub mod Asks
 pub mod Clients
+pub mod Conns
 pub mod Exchanges
 pub mod Rows
 pub mod States
