@@ -1,14 +1,14 @@
-mod Begun
+pub mod Begun
 pub mod Ended
-mod Entries
-mod Errands
-mod Exchanges
+pub mod Entries
+pub mod Errands
+pub mod Exchanges
 pub mod Framed
-mod Left
-mod Noted
-mod Pairs
-mod Put
-mod Standing
-mod Told
+pub mod Left
+pub mod Noted
+pub mod Pairs
+pub mod Put
+pub mod Standing
+pub mod Told
 pub mod Turned
-mod Unplaced
+pub mod Unplaced

@@ -1,6 +1,7 @@
 pub mod Asks
 pub mod Clients
 pub mod Conns
+pub mod Decisions
 pub mod Exchanges
 pub mod Rows
 pub mod States
