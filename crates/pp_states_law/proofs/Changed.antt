@@ -9,7 +9,7 @@ use Rattle.pp_law.specs.Connections.{exchange, is_client, on_client, on_client_o
 use Rattle.pp_law.specs.Lists.{change, is_this}
 use Rattle.pp_law.specs.State.{State, Client}
 use Rattle.pp_law.specs.Table.{follows}
-use Rattle.pp_seats_law.proofs.AllSeats.{changes as seats_change}
+use Rattle.pp_seats_law.proofs.AllSeats.{changes_there as seats_change}
 use Rattle.pp_states_law.specs.Clients.{AskersAreTheLaws, ChangesAreTheLaws, FollowsOn, NobodysAreTheLaws}
 use Rattle.pp_states_law.specs.States.{ShowsState}
 use Rattle.pp_states_law.proofs.Asked.{all_as, frames, itself}

@@ -1,0 +1,4 @@
+pub mod Charges
+pub mod Ends
+pub mod Noted
+pub mod Steps
