@@ -9,16 +9,17 @@ use Rattle.pp_flow_law.specs.Tables.{Leaving}
 use Rattle.pp_flow_law.proofs.Ended.{ends as flow_ends}
 use Rattle.pp_flow_law.proofs.Turned.{leaves as flow_leaves}
 use Rattle.pp_law.specs.Closing.{left_alone}
-use Rattle.pp_law.specs.Connections.{end_exchange, exchange, on_exchange, without_ask}
+use Rattle.pp_law.specs.Connections.{end_exchange, exchange, on_exchange, without_ask, unplaced}
 use Rattle.pp_law.specs.Lists.{Bytes, has_number}
 use Rattle.pp_law.specs.State.{State, Conn, Exchange}
 use Rattle.pp_peers.specs.declared.peers.Peer.{Peer}
-use Rattle.pp_peers_law.proofs.Finds.{find_without, no_or, other_way}
+use Rattle.pp_peers_law.proofs.Finds.{find_without, no_or, other_way, find_elsewhere}
 use Rattle.pp_peers_law.specs.Peers.{ShowsConn, ShowConns, ShowsPipe}
-use Rattle.pp_states_law.specs.Asks.{AreAskedAs, IsAskedAs}
-use Rattle.pp_states_law.specs.Exchanges.{EndsAreTheLaws, LeavesAreTheLaws, StandsNowhere}
+use Rattle.pp_states_law.specs.Asks.{AreAskedAs, IsAskedAs, AllAreAskedAs}
+use Rattle.pp_states_law.specs.Exchanges.{EndsAreTheLaws, LeavesAreTheLaws, StandsNowhere, UnplacesAreTheLaws}
 use Rattle.pp_states_law.specs.States.{Parts, ShowsState}
 use Rattle.pp_states_law.proofs.Asked.{all_as, frames, itself, one_as, pipe_again}
+use Rattle.pp_flow_law.proofs.Unplaced.{unplaces as flow_unplaces}
 
 pub leaves : LeavesAreTheLaws
 unfolding on_exchange
@@ -96,3 +97,30 @@ over number name owed l p s n shows these = record {
 
 pub ends : EndsAreTheLaws
 ends number name owed l p s shows n none = over number name owed l p s n shows (conns_on s n p.peers s.conns none shows.conns)
+
+-- ---- its place is taken away
+
+elsewhere : (s : State) (n m : ℕ) → (n == m) ≡ false → exchange (on_exchange n unplaced s) m ≡ exchange s m
+unfolding on_exchange
+elsewhere s n m isnt = find_elsewhere n m unplaced (λ e. refl) isnt s.exchanges
+
+line_without : (s : State) (n : ℕ) (line : List ℕ) → has_number n line ≡ false → AreAskedAs s (on_exchange n unplaced s) line
+line_without s n [] none = tt
+line_without s n (m ∷ line) none =
+    let these : ((m == n) ≡ false) × (has_number n line ≡ false) = no_or (m == n) (has_number n line) none in
+    (as_before (exchange s m) (exchange (on_exchange n unplaced s) m) (elsewhere s n m (other_way m n these.0)), line_without s n line these.1)
+
+all_without : (s : State) (n : ℕ) (ks : List Conn) → StandsNowhere n ks → AllAreAskedAs s (on_exchange n unplaced s) ks
+all_without s n [] none = tt
+all_without s n (k ∷ ks) none = ((λ goes. line_without s n k.line (none.0 goes)), all_without s n ks none.1)
+
+pub unplaces : UnplacesAreTheLaws
+unfolding on_exchange
+unplaces number name owed l p s shows n x here left none = record {
+  clients = shows.clients;
+  exchanges = flow_unplaces number l p.flow s shows.exchanges n x here left;
+  table =
+      frames_of number p.memory s shows.table p.memory (on_exchange n unplaced s) (record { instances = refl; lives = refl; chunks = refl; extents = refl })
+      (record { instances = refl; made = the_same s.next_instance; chunks = refl; followers = λ id. refl; kept = λ y. refl });
+  conns = frames s (on_exchange n unplaced s) p.peers s.conns (all_without s n s.conns none) shows.conns;
+}

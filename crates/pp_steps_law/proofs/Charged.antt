@@ -77,7 +77,7 @@ on_asker number name l peers p s shows e n i f g asks place goes =
 
 -- ---- its course
 
-course_shown : (number : ℕ → ℕ) (name : Bytes) (seat : Seat) (c : Client) → ShowsSeat number name [] seat c → GoesOn c → course_of seat.course ≡ c.course
+pub course_shown : (number : ℕ → ℕ) (name : Bytes) (seat : Seat) (c : Client) → ShowsSeat number name [] seat c → GoesOn c → course_of seat.course ≡ c.course
 course_shown number name seat c shows on = by seat.brought (shows.going on.going).fate
   where
     not_so : (c.course ≡ RowRefused) ⊎ IsOwed [] c.front → ⊥
@@ -94,12 +94,12 @@ course_shown number name seat c shows on = by seat.brought (shows.going on.going
 
 -- ---- a hole that nobody fills
 
-same_entry : (number : ℕ → ℕ) (name : Bytes) (l : Leaving) (peers : List Peer) (p : Parts) (s : State) → ShowsSteps number name l peers p s → (n : ℕ) (x : Entry) (e : Exchange) → IsThere n p s x e → ShowsExchange number x e
+pub same_entry : (number : ℕ → ℕ) (name : Bytes) (l : Leaving) (peers : List Peer) (p : Parts) (s : State) → ShowsSteps number name l peers p s → (n : ℕ) (x : Entry) (e : Exchange) → IsThere n p s x e → ShowsExchange number x e
 same_entry number name l peers p s shows n x e there =
     subst (λ (o : Option Exchange). AreBoth (ShowsExchange number) (Some x) o) there.there
     (subst (λ (o : Option Entry). AreBoth (ShowsExchange number) o (exchange s n)) there.here (shows.shows.exchanges.each n))
 
-number_is : (n : ℕ) (s : State) (e : Exchange) → exchange s n ≡ Some e → e.number ≡ n
+pub number_is : (n : ℕ) (s : State) (e : Exchange) → exchange s n ≡ Some e → e.number ≡ n
 number_is n s e there = same_number e.number n (found_number n s.exchanges e there)
 
 none_filled : (o : Option Version) (b : Bool) → is_some_with (λ v. false) o && b ≡ false
@@ -262,7 +262,7 @@ nobody_pays cost s e none =
     ap (λ (cs : List Client). give_up_row e (record s { clients = cs })) (none.changes (λ c. record c { course = cost c.course }))
     ∙ ap (λ (b : Bool). law_given_up_if e s b) (none_filled_by s e (none.asks (λ c. is_out c.course)))
 
-asker_rest : (e : Exchange) (g : Client → Client) (s : State) → ((on_client_of e g s).exchanges ≡ s.exchanges) × ((on_client_of e g s).clients ≡ change (is_for e) g s.clients)
+pub asker_rest : (e : Exchange) (g : Client → Client) (s : State) → ((on_client_of e g s).exchanges ≡ s.exchanges) × ((on_client_of e g s).clients ≡ change (is_for e) g s.clients)
 unfolding on_client_of
 asker_rest e g s = (refl, refl)
 

@@ -1,2 +1,4 @@
 pub mod Charged
+pub mod Lost
 pub mod Places
+pub mod Shorts

@@ -1,4 +1,5 @@
 pub mod Charges
 pub mod Ends
+pub mod Losses
 pub mod Noted
 pub mod Steps
