@@ -345,7 +345,7 @@ charge_shows number name l peers p s shows n x e cost_in cost there goes costs =
         charged_there number name l peers p s shows n i one.client x e cost_in cost there (sym shown.asker ∙ one.asks) one.place goes costs
 
 -- an attempt is lost
-lost_given : (most : ℕ) (course : Course) → is_refused course ≡ false → is_refused (lost_one most course) ≡ false
+pub lost_given : (most : ℕ) (course : Course) → is_refused course ≡ false → is_refused (lost_one most course) ≡ false
 lost_given most (Trying m) given = by (nat_le most (m + 1))
   where
     by : (b : Bool) → is_refused (elim b as (λ t. Course) [ true ↦ OutOfTries | false ↦ Trying (m + 1) ]) ≡ false

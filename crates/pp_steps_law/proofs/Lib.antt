@@ -1,4 +1,5 @@
 pub mod Charged
 pub mod Lost
+pub mod Paid
 pub mod Places
 pub mod Shorts

@@ -1,7 +1,7 @@
 -- What becomes of an exchange whose connection is gone.
 use Rattle.std.proofs.Common.{◌≡◌, refl, sym, subst, ap, ap₂, ◌∙◌, ℕ, Bool, true, false, ◌==◌, ◌&&◌, cond, find, List, [], ◌∷◌, Some, None, Option}
 use Rattle.std.specs.List.{list_any}
-use Rattle.std.specs.Prelude.{is_some, option_and_then, slice_get}
+use Rattle.std.specs.Prelude.{is_some, option_and_then, slice_get, option_map}
 use Rattle.pp_cache_law.proofs.Finds.{find_passes}
 use Rattle.pp_cache_law.proofs.Numbers.{some_is}
 use Rattle.pp_cache_law.specs.Pairs.{AreBoth}
@@ -12,12 +12,12 @@ use Rattle.pp_flow.specs.declared.entry.Exchange.{Exchange as SeatExchange}
 use Rattle.pp_flow_law.proofs.Entries.{find_entered, none_some, same_number}
 use Rattle.pp_flow_law.proofs.Standing.{entry_placed, none_waits}
 use Rattle.pp_flow_law.specs.Changes.{HasLeft, but}
-use Rattle.pp_flow_law.specs.Tables.{Leaving, ShowsFlow, has_place}
+use Rattle.pp_flow_law.specs.Tables.{Leaving, ShowsFlow, has_place, line_in}
 use Rattle.pp_law.specs.Closing.{left_alone}
-use Rattle.pp_law.specs.Connections.{charge, end_exchange, exchange, give_up_row, is_client, is_exchange, is_for, is_trying, is_unfilled, leave_place, lose_attempt, lose_place, may_ask_again, on_client_of, on_exchange, unplaced, without_row}
-use Rattle.pp_law.specs.Lists.{Bytes, change, is_some_with, is_this}
+use Rattle.pp_law.specs.Connections.{charge, end_exchange, exchange, give_up_row, is_client, is_exchange, is_for, is_trying, is_unfilled, leave_place, lose_attempt, lose_place, may_ask_again, on_client_of, on_exchange, unplaced, without_row, attempts_of, is_conn, lost_one}
+use Rattle.pp_law.specs.Lists.{Bytes, change, is_some_with, is_this, has_number}
 use Rattle.pp_law.specs.Stages.{is_headed, on_passed}
-use Rattle.pp_law.specs.State.{State, Client, Conn, Course, Exchange}
+use Rattle.pp_law.specs.State.{State, Client, Conn, Course, Exchange, Passed}
 use Rattle.pp_law.specs.Table.{clear, swept}
 use Rattle.pp_peers.specs.declared.peers.Peer.{Peer}
 use Rattle.pp_peers_law.proofs.Finds.{find_there}
@@ -38,9 +38,11 @@ use Rattle.pp_steps_law.specs.Charges.{GoesOn, IsFor, IsThere}
 use Rattle.pp_steps_law.specs.Ends.{Parts, asked_anew, asked_elsewhere, asker_of, cut_short, ended, exchange_at, left_place, left_place_at, lost_attempt, lost_place, may_ask_again as may_ask_again_in, may_go_elsewhere, numbers_of, on_seat_where, place_of, seat_for}
 use Rattle.pp_steps_law.specs.Losses.{HasLost, IsComing, LossesAreTheLaws}
 use Rattle.pp_steps_law.specs.Steps.{ShowsSteps, whole}
-use Rattle.pp_steps_law.proofs.Charged.{asker_rest, course_shown, losses, number_is, on_asker, same_entry}
+use Rattle.pp_steps_law.proofs.Charged.{asker_rest, course_shown, losses, number_is, on_asker, same_entry, lost_given}
 use Rattle.pp_steps_law.proofs.Places.{HasNone, HasPlace, HasSeat, at_place, has_none, has_place as has_seat_place, has_seat, one_asks}
 use Rattle.pp_steps_law.proofs.Shorts.{cut_off, shorts, shorts_follow}
+use Rattle.pp_flow_law.proofs.Told.{places as still_placed}
+use Rattle.pp_steps_law.proofs.Paid.{Before, Stays, charge_stays}
 
 -- ---- what was passed of it ends early
 
@@ -177,3 +179,77 @@ leaves_place number name l peers p s shows n was e is =
         ends_there number name l peers (cut_short was p) (on_client_of e (on_passed cut_off) s) (cuts number name l peers p s shows was e is.asker is.coming) n
         (subst (λ (ks : List Conn). StandsNowhere n ks) (sym (conns_kept e (on_passed cut_off) s)) is.lost.nowhere)
     by false = subst (λ (b : Bool). ShowsSteps number name (but n l) peers (elsewhere_if n p b) (law_elsewhere_if n s (may_ask_again s n))) (sym same) (at (may_ask_again s n))
+
+-- ---- where that counts, an attempt is lost first
+
+has_lost : (number : ℕ → ℕ) (name : Bytes) (l : Leaving) (peers : List Peer) (p q : Parts) (s t : State) (n : ℕ) (x : Entry) (e : Exchange) → ShowsSteps number name l peers p s → IsThere n p s x e → HasLost n p s x → Stays s t n e
+    → ShowsSteps number name l peers q t → IsFor s e GoesOn → IsFor s e IsComing → IsLeft number n q t x.exchange e
+has_lost number name l peers p q s t n x e before there lost stays shows goes coming = by (find (is_number n) q.flow.placed) refl placed
+  where
+    shown : ShowsExchange number x e
+    shown = same_entry number name l peers p s before n x e there
+
+    is : e.number ≡ n
+    is = number_is n s e there.there
+
+    -- it has that place still
+    placed : is_some (find (is_number n) q.flow.placed) ≡ true
+    placed =
+        still_placed number l q.flow t shows.shows.exchanges n
+        ∙ ap (λ (o : Option Exchange). is_some_with (λ d. is_some d.place) o) stays.there
+        ∙ ap (λ (o : Option ℕ). is_some o) (stays.place ∙ sym shown.place)
+        ∙ placed_on
+      where
+        placed_on : is_some x.exchange.place ≡ true
+        placed_on =
+            ap (λ (o : Option ℕ). is_some o) shown.place
+            ∙ ap (λ (o : Option Exchange). is_some_with (λ d. is_some d.place) o) (sym there.there)
+            ∙ sym (still_placed number l p.flow s before.shows.exchanges n)
+            ∙ ap (λ (o : Option Entry). is_some o) lost.placed
+
+    client : (P : Client → Type 0) (m : ℕ) (c : Client) → find (is_client m) t.clients ≡ Some c → ((b : Before s m c) → P c) → P c
+    client P m c found to = to (stays.follows.client m c found)
+
+    by : (o : Option Entry) → find (is_number n) q.flow.placed ≡ o → is_some (find (is_number n) q.flow.placed) ≡ true → IsLeft number n q t x.exchange e
+    by None none some = absurd (let both : false ≡ true = sym (ap (λ (o : Option Entry). is_some o) none) ∙ some in cc both)
+    by (Some y) here some = record {
+      number_in = shown.number ∙ is;
+      number_of = is;
+      asker = shown.asker;
+      headed = (exchanges number x e shown).headed;
+      entry = y;
+      known = stays.known;
+      there = record { here = entry_placed n q.flow y (none_waits number l q.flow t shows.shows.exchanges n y here) here; there = stays.there };
+      lost = record {
+        placed = here;
+        left = λ k. ap (λ (ks : List Conn). has_number n (line_in (find (is_conn k) ks))) stays.follows.conns ∙ lost.left k;
+        nowhere = subst (λ (ks : List Conn). StandsNowhere n ks) (sym stays.follows.conns) lost.nowhere;
+      };
+      goes = λ m c asks found. client (λ (d : Client). GoesOn d) m c found (λ b. on m c b (goes m b.before (stays.asker m asks) b.there));
+      coming = λ m c asks found. client (λ (d : Client). IsComing d) m c found (λ b. ap (λ (o : Option Passed). is_some_with (λ y. y.pipe.is_finished) o) b.passed ∙ coming m b.before asks b.there);
+    }
+      where
+        on : (m : ℕ) (c : Client) (b : Before s m c) → GoesOn b.before → GoesOn c
+        on m c b was = record { going = b.closing ∙ was.going; given = b.given was.given }
+
+abbrev counted_if : Exchange → State → Bool → State
+counted_if e s b = elim b as (λ t. State) [ true ↦ leave_place e (lose_attempt e s) | false ↦ leave_place e s ]
+
+as_it_is : (s : State) (n : ℕ) (e : Exchange) → exchange s n ≡ Some e → Stays s s n e
+as_it_is s n e there = record { follows = record { conns = refl; client = λ m c found. record { before = c; there = found; closing = refl; passed = refl; given = λ ok. ok } }; known = e; there = there; place = refl; asker = λ m is. is }
+
+attempt_stays : (s : State) (n : ℕ) (e : Exchange) → exchange s n ≡ Some e → Stays s (lose_attempt e s) n e
+unfolding lose_attempt
+attempt_stays s n e there = charge_stays (lost_one (attempts_of e)) s e n (lost_given (attempts_of e)) there (number_is n s e there)
+
+pub places_lost : LossesAreTheLaws
+unfolding lose_place
+places_lost number name l peers p s shows n x e counts there lost goes coming =
+    subst (λ (o : Option SeatExchange). ShowsSteps number name (but n l) peers (left_place_at o counts p) (counted_if e s counts)) (sym (ap (λ (o : Option Entry). option_map (λ y. y.exchange) o) there.here)) (by counts)
+  where
+    by : (b : Bool) → ShowsSteps number name (but n l) peers (left_place x.exchange (cond b (lost_attempt x.exchange p) p)) (counted_if e s b)
+    by true =
+        let after : ShowsSteps number name l peers (lost_attempt x.exchange p) (lose_attempt e s) = losses number name l peers p s shows n x e there goes in
+        leaves_place number name l peers (lost_attempt x.exchange p) (lose_attempt e s) after n x.exchange e
+        (has_lost number name l peers p (lost_attempt x.exchange p) s (lose_attempt e s) n x e shows there lost (attempt_stays s n e there.there) after goes coming)
+    by false = leaves_place number name l peers p s shows n x.exchange e (has_lost number name l peers p p s s n x e shows there lost (as_it_is s n e there.there) shows goes coming)
