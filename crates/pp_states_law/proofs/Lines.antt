@@ -24,7 +24,7 @@ pub record IsOn (k m : ℕ) (es : List Entry) : Type 0 where
   pub there : find (is_number m) es ≡ Some entry
   pub on : is_on k entry ≡ true
 
-found_on : (k m : ℕ) (es : List Entry) → count_by (is_number m) es ≤ 1 → has_number m (line_of k es) ≡ true → IsOn k m es
+pub found_on : (k m : ℕ) (es : List Entry) → count_by (is_number m) es ≤ 1 → has_number m (line_of k es) ≡ true → IsOn k m es
 found_on k m [] few has = absurd cc
 found_on k m (e ∷ es) few has =
     by (is_on k e) (is_number m e) refl refl (let less : cond (is_number m e) 1 0 + count_by (is_number m) es ≤ 1 = omega (arith, few, count_first (is_number m) e es) in less)
@@ -50,7 +50,7 @@ has_behind m (x ∷ xs) ys has = by (x == m) (has_behind m xs ys has)
     by true rest = refl
     by false rest = rest
 
-place_is : (k : ℕ) (o : Option ℕ) → is_place k o ≡ true → o ≡ Some k
+pub place_is : (k : ℕ) (o : Option ℕ) → is_place k o ≡ true → o ≡ Some k
 place_is k None is = absurd cc
 place_is k (Some n) is = ap (λ (i : ℕ). Some i) (same_number n k is)
 

@@ -1,4 +1,6 @@
 pub mod Charged
+pub mod Closed
+pub mod Kept
 pub mod Lost
 pub mod Paid
 pub mod Places

@@ -52,7 +52,7 @@ pub record KeepsAll (f : Client → Client) : Type 0 where
   pub passed : (c : Client) → passed_of (f c) ≡ passed_of c
   pub given : (c : Client) → is_refused c.course ≡ false → is_refused (f c).course ≡ false
 
-abbrev if_for : Exchange → (Client → Client) → Client → Client
+abbrev pub if_for : Exchange → (Client → Client) → Client → Client
 if_for e f c = elim (is_for e c) as (λ t. Client) [ true ↦ f c | false ↦ c ]
 
 if_kept : (e : Exchange) (f : Client → Client) → KeepsAll f → KeepsAll (if_for e f)
@@ -109,7 +109,7 @@ exchange_follows : (n : ℕ) (to : Exchange → Exchange) (s : State) → Follow
 unfolding on_exchange
 exchange_follows n to s = record { conns = refl; client = λ m c found. itself s m c found }
 
-without_row_keeps : KeepsAll without_row
+pub without_row_keeps : KeepsAll without_row
 without_row_keeps = record {
   number = λ c. number_by c (is_begun c || c.has_given_up);
   closing = λ c. closing_by c (is_begun c || c.has_given_up);
@@ -182,3 +182,6 @@ charge_stays cost s e n given there number = by (is_unfilled (on_client_of e (λ
       place = refl;
       asker = none_is;
     }
+
+pub paid_keeps : (cost : Course → Course) → ((course : Course) → is_refused course ≡ false → is_refused (cost course) ≡ false) → KeepsAll (λ c. record c { course = cost c.course })
+paid_keeps cost given = record { number = λ c. refl; closing = λ c. refl; passed = λ c. refl; given = λ c ok. given c.course ok }

@@ -12,7 +12,7 @@
 #![tactic(auto)]
 
 mod charging; // what an exchange costs its request
-mod losing; // an exchange whose connection is gone
+mod losing; // exchanges whose connection is gone
 
 pub use charging::charges_are_the_laws;
 pub use losing::losses_are_the_laws;

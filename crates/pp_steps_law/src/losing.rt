@@ -1,7 +1,9 @@
-// An exchange whose connection is gone.
+// Exchanges whose connection is gone.
+ghost use Rattle.pp_steps_law.specs.Lines.{LinesAreTheLaws};
 ghost use Rattle.pp_steps_law.specs.Losses.{LossesAreTheLaws};
 
-/// It is over, or is asked elsewhere.
+/// One is over, or is asked elsewhere; and so are all of the line of a connection that is closed, one behind the other.
 pub fn losses_are_the_laws()
     ensures losses { LossesAreTheLaws }
+    ensures lines { LinesAreTheLaws }
 {}
