@@ -35,7 +35,7 @@ use Rattle.pp_seats_law.specs.Replies.{course_of}
 use Rattle.pp_states_law.proofs.Ended.{ends, unplaces}
 use Rattle.pp_states_law.specs.Exchanges.{StandsNowhere}
 use Rattle.pp_steps_law.specs.Charges.{GoesOn, IsFor, IsThere}
-use Rattle.pp_steps_law.specs.Ends.{Parts, asked_anew, asked_elsewhere, asker_of, cut_short, ended, exchange_at, left_place, left_place_at, lost_attempt, lost_place, may_ask_again as may_ask_again_in, may_go_elsewhere, numbers_of, on_seat_where, place_of, seat_for}
+use Rattle.pp_steps.specs.Ends.{Parts, asked_anew, asked_elsewhere, asker_of, cut_short, ended, exchange_at, left_place, left_place_at, lost_attempt, lost_place, may_ask_again as may_ask_again_in, may_go_elsewhere, numbers_of, on_seat_where, place_of, seat_for}
 use Rattle.pp_steps_law.specs.Losses.{HasLost, IsComing, LossesAreTheLaws}
 use Rattle.pp_steps_law.specs.Steps.{ShowsSteps, whole}
 use Rattle.pp_steps_law.proofs.Charged.{asker_rest, course_shown, losses, number_is, on_asker, same_entry, lost_given}

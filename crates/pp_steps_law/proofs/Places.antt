@@ -12,7 +12,7 @@ use Rattle.pp_seats.specs.declared.seat.Seat.{Seat}
 use Rattle.pp_seats_law.specs.Clients.{AreShown, IsAt, IsNowhere}
 use Rattle.pp_seats_law.specs.Seats.{ShowsSeat}
 use Rattle.pp_states_law.proofs.Changed.{asker_is}
-use Rattle.pp_steps_law.specs.Ends.{AreInOrder, numbers_of, place_of}
+use Rattle.pp_steps.specs.Ends.{AreInOrder, numbers_of, place_of}
 
 -- ---- order
 

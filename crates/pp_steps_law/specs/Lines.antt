@@ -1,6 +1,5 @@
 -- What becomes of the line of a connection that is closed (RFC 2616, section 8.1.4).
 use Rattle.std.specs.Prelude.{◌≡◌, ◌≤◌, ℕ, zero, suc, Bool, true, false, ◌==◌, ◌&&◌, if◌then◌else◌, not, List, [], length, find, slice_get, Option, Some, None}
-use Rattle.pp_flow.specs.Changes.{line_of}
 use Rattle.pp_flow_law.specs.Tables.{Leaving, none_leaves}
 use Rattle.pp_law.specs.Connections.{close_conn, conn, exchange, is_client, is_conn}
 use Rattle.pp_law.specs.Stages.{is_headed}
@@ -9,18 +8,9 @@ use Rattle.pp_peers.specs.Peers.{is_number, with_peer}
 use Rattle.pp_peers.specs.declared.peers.Peer.{Peer}
 use Rattle.pp_states_law.specs.Decisions.{AreApart}
 use Rattle.pp_steps_law.specs.Charges.{GoesOn, IsFor}
-use Rattle.pp_steps_law.specs.Ends.{Parts, lost_place}
+use Rattle.pp_steps.specs.Lines.{lost_line}
 use Rattle.pp_steps_law.specs.Losses.{IsComing}
 use Rattle.pp_steps_law.specs.Steps.{OfSteps, ShowsSteps}
-
--- the first of the line of a connection
-abbrev pub first_on : ℕ → Parts → Option ℕ
-first_on k p = slice_get (line_of k p.flow.placed) 0
-
--- so many at most lose their place, the first of the line always
-abbrev pub lost_line : ℕ → ℕ → Bool → Parts → Parts
-lost_line zero k counts p = p
-lost_line (suc more) k counts p = elim (first_on k p) [ None ↦ p | Some n ↦ lost_line more k counts (lost_place n counts p) ]
 
 -- the clients of exchanges go on; where the head of a response came, more of what is passed is to come
 pub record AllGo (s : State) : Type 0 where
