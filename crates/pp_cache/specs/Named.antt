@@ -1,5 +1,6 @@
 -- The keys that Location and Content-Location name (RFC 2616, sections 13.10, 14.14 and 14.30).
-use Rattle.std.specs.Prelude.{ℕ, ◌+◌, Bool, true, false, ◌==◌, ◌&&◌, nat_le, List, ◌++◌, length, slice_index, bytes_eq, codes, Option, Some, None, Ok, Err}
+use Rattle.std.specs.Prelude.{ℕ, ◌+◌, Bool, true, false, ◌==◌, ◌&&◌, nat_eq, nat_le, List, ◌++◌, length, slice_index, bytes_eq, codes, Option, Some, None, Ok, Err}
+use Rattle.std.specs.List.{starts_with}
 use Rattle.pp_target.specs.Key.{Key, key_at, port_text, text_of}
 
 -- a text, where it is named
@@ -18,6 +19,10 @@ url_named site key = some_if (bytes_eq (site_of key) site) (text_of key)
 -- a path of the site; no key has more than 8,192 bytes
 abbrev pub path_named : List ℕ → List ℕ → Option (List ℕ)
 path_named site text = some_if ((slice_index text 0 == 47) && nat_le (length site + length text) 8192) (site ++ text)
+
+-- it stands for a key of the site as it is spelled
+abbrev pub is_spelled_at : List ℕ → List ℕ → Bool
+is_spelled_at site text = starts_with nat_eq text site && (slice_index text (length site) == 47)
 
 -- the key of the site that the text names
 abbrev pub key_named : List ℕ → List ℕ → Option (List ℕ)

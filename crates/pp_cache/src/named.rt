@@ -1,6 +1,6 @@
 // The keys that Location and Content-Location name (RFC 2616, sections 13.10, 14.14 and 14.30).
 ghost use Rattle.std.specs.Prelude.{◌≡◌, IfOk, bytes_eq};
-ghost use Rattle.pp_cache.specs.Named.{key_named, path_named, site_of, some_if};
+ghost use Rattle.pp_cache.specs.Named.{is_spelled_at, key_named, path_named, site_of, some_if};
 ghost use Rattle.pp_target.specs.Key.{IsPlaceIn, key_in};
 
 use arrayvec::ArrayVec;
@@ -50,6 +50,8 @@ fn write_path(site: &[u8], text: &[u8], out: &mut ArrayVec<u8, KEY_ROOM>) -> boo
 }
 
 /// Whether the text stands for a key of the site as it is spelled.
-pub fn is_spelled_at(site: &[u8], text: &[u8]) -> bool {
+pub fn is_spelled_at(site: &[u8], text: &[u8]) -> bool
+    ensures { result ≡ is_spelled_at site.now text.now }
+{
     text.starts_with(site) && text.get(site.len()) == Some(&b'/')
 }

@@ -1,11 +1,15 @@
+pub mod AnswerLemmas
 pub mod BeginLemmas
 pub mod BodyLemmas
 pub mod BringingLemmas
 pub mod DecideLemmas
 pub mod DueLemmas
 pub mod EnteringLemmas
+pub mod FrontLemmas
 pub mod LineLemmas
+pub mod OutdatedLemmas
 pub mod PassingLemmas
+pub mod PinLemmas
 pub mod PlacesLemmas
 pub mod RestingLemmas
 pub mod SeatsLemmas

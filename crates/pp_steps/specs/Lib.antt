@@ -1,4 +1,5 @@
 pub mod Accounts
+pub mod Answers
 pub mod Begins
 pub mod Bodies
 pub mod Bringing
@@ -10,9 +11,13 @@ pub mod Heads
 pub mod Hearing
 pub mod Lines
 pub mod OnDisk
+pub mod OwnHeads
 pub mod Passing
 pub mod Patience
+pub mod Pins
 pub mod Places
 pub mod Readers
+pub mod Rows
 pub mod Sharing
+pub mod ThroughHeads
 pub mod Unseen

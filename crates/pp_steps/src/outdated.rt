@@ -1,14 +1,24 @@
 // Rows that a passed response outdates: what an unsafe method changed, and what GET and HEAD show (RFC 2616,
 // sections 9.4 and 13.10).
+ghost use Rattle.std.specs.Prelude.{◌≡◌, false, take};
+ghost use Rattle.pp_client.specs.Requests.{current_of};
+ghost use Rattle.pp_flow.specs.Changes.{Exchanges};
+ghost use Rattle.pp_head.specs.Shown.{shown_response};
+ghost use Rattle.pp_steps.specs.Ends.{AreSeated, KeepsRest, cleared_key, cleared_of, numbers_of, parts};
+ghost use Rattle.pp_steps.specs.Heads.{key_of};
+ghost use Rattle.pp_steps.specs.ThroughHeads.{ClearsEach, ClearsNamed, ClearsOutdated, InvalidatesIf, InvalidatesRows, disproved, disproves, gets, invalidates, is_disproved, is_get_in, is_other_length, named_as, places_named, reads, shows_other};
+
 use crate::rows::clear_key;
 use crate::state::State;
 use arrayvec::ArrayVec;
-use pp_cache::{is_spelled_at, write_named};
+use pp_cache::{Cache, Noted, is_spelled_at, write_named};
 use pp_client::Current;
 use pp_flow::{Errand, Exchange};
 use pp_head::{ResponseHead, Scratch};
-use pp_text::OutOfMemory;
+use pp_seats::Seat;
+use pp_text::{FieldValues, OutOfMemory};
 use pp_valid::{Version, body_length, names_other_tag};
+use std::alloc::Global;
 
 impl State {
     /// "POST, PUT, DELETE": what they change is not known any more, nor what the response names beside it.
@@ -17,98 +27,183 @@ impl State {
         e: &Exchange,
         errand: &Errand,
         head: &ResponseHead<'_, '_>,
-    ) {
-        if invalidates(errand, head) {
-            self.clear_row(e);
-            self.clear_places(e, errand, head, b"location");
-            self.clear_places(e, errand, head, b"content-location");
+    )
+        ensures is { AreSeated self.old → ClearsOutdated e.now errand.now (shown_response head.now) (parts self.old) (parts self.new) }
+        ensures numbers { numbers_of self.new.seats.items ≡ numbers_of self.old.seats.items }
+        ensures rest { KeepsRest self.old self.new }
+    {
+        self.invalidate(e, errand, head);
+        self.clear_disproved(e, errand, head);
+    }
+
+    // ---- what an unsafe method changed
+
+    fn invalidate(&mut self, e: &Exchange, errand: &Errand, head: &ResponseHead<'_, '_>)
+        ensures is { InvalidatesIf (invalidates errand.now.is_safe (shown_response head.now)) (key_of e.now.number self.old.flow) errand.now.place.path (shown_response head.now) (parts self.old) (parts self.new) }
+        ensures numbers { numbers_of self.new.seats.items ≡ numbers_of self.old.seats.items }
+        ensures rest { KeepsRest self.old self.new }
+    {
+        if invalidates(errand.is_safe, head) {
+            self.clear_rows(e.number, errand.place.path, head);
         }
+    }
+
+    /// The row of the exchange's key, whose site ends there, and those of the places that the response names.
+    fn clear_rows(&mut self, number: u64, path: usize, head: &ResponseHead<'_, '_>)
+        ensures is { InvalidatesRows (key_of number self.old.flow) path (shown_response head.now) (parts self.old) (parts self.new) }
+        ensures numbers { numbers_of self.new.seats.items ≡ numbers_of self.old.seats.items }
+        ensures rest { KeepsRest self.old self.new }
+    {
+        if let Some(key) = self.flow.key(number) {
+            clear_all(
+                self.alloc,
+                &mut self.cache,
+                &mut self.refused,
+                &mut self.seats,
+                key,
+                path,
+                head,
+            );
+        }
+    }
+
+    // ---- what GET and HEAD show
+
+    fn clear_disproved(&mut self, e: &Exchange, errand: &Errand, head: &ResponseHead<'_, '_>)
+        ensures is { AreSeated self.old → parts self.new ≡ disproved e.now errand.now (shown_response head.now) (parts self.old) }
+        ensures numbers { numbers_of self.new.seats.items ≡ numbers_of self.old.seats.items }
+        ensures rest { KeepsRest self.old self.new }
+    {
         if self.is_disproved(e, errand, head) {
             self.clear_row(e);
         }
     }
 
-    // ---- what an unsafe method changed
-
-    /// The rows of the places that the fields of this name tell.
-    fn clear_places(
-        &mut self,
-        e: &Exchange,
-        errand: &Errand,
-        head: &ResponseHead<'_, '_>,
-        name: &[u8],
-    ) {
-        for text in head.fields.values(name) {
-            self.clear_place(e, errand, text);
-        }
-    }
-
-    /// Ours: a URL that there is no memory to read counts as it is spelled, so that most rows are cleared all
-    /// the same, and the response is passed.
-    fn clear_place(&mut self, e: &Exchange, errand: &Errand, text: &[u8]) {
-        let Some(key) = self.flow.key(e.number) else {
-            return;
-        };
-        let Some(site) = key.get(..errand.place.path) else {
-            return;
-        };
-        let mut named = ArrayVec::new();
-        match write_named(self.alloc, site, text, &mut named) {
-            Ok(true) => self.clear_named(named.as_slice()),
-            Ok(false) => {}
-            Err(OutOfMemory) => {
-                if is_spelled_at(site, text) {
-                    self.clear_named(text);
-                }
-            }
-        }
-    }
-
-    fn clear_named(&mut self, key: &[u8]) {
-        clear_key(&mut self.cache, &mut self.refused, &mut self.seats, key);
-    }
-
-    // ---- what GET and HEAD show
-
     /// The response shows that the row of its key is not what its origin has.
-    fn is_disproved(&self, e: &Exchange, errand: &Errand, head: &ResponseHead<'_, '_>) -> bool {
-        if !self.reads(e, errand) {
-            return false;
-        }
-        let Some(key) = self.flow.key(e.number) else {
-            return false;
-        };
-        match self.cache.version(key) {
+    fn is_disproved(&self, e: &Exchange, errand: &Errand, head: &ResponseHead<'_, '_>) -> bool
+        ensures { AreSeated self.entry.now → result ≡ is_disproved e.now errand.now (shown_response head.now) (parts self.entry.now) }
+    {
+        match self.known_version(e) {
             None => false,
-            Some(version) => disproves(head, &version),
+            Some(version) => disproves(head, &version) && self.reads(e, errand),
         }
     }
 
     /// GET or HEAD was asked. An ask that goes alone is not there without its client.
-    fn reads(&self, e: &Exchange, errand: &Errand) -> bool {
-        if errand.asks_head || !errand.goes_alone() {
-            return true;
-        }
-        let Some(i) = self.seat_for(e) else {
-            return false;
-        };
-        let Some(seat) = self.seats.get(i) else {
-            return false;
-        };
-        let mut scratch = Scratch::new();
-        match seat.client.current(&mut scratch) {
-            Current::Request(asked, _) => asked.method == b"GET".as_slice(),
-            Current::Nothing | Current::More | Current::Refuse(_) => false,
+    fn reads(&self, e: &Exchange, errand: &Errand) -> bool
+        ensures { AreSeated self.entry.now → result ≡ reads e.now errand.now (parts self.entry.now) }
+    {
+        errand.asks_head || !errand.goes_alone() || self.gets(e)
+    }
+
+    fn gets(&self, e: &Exchange) -> bool
+        ensures { AreSeated self.entry.now → result ≡ gets e.now (parts self.entry.now) }
+    {
+        match self.seat_for(e) {
+            None => false,
+            Some(i) => is_get(&self.seats[i]),
         }
     }
 }
 
-fn invalidates(errand: &Errand, head: &ResponseHead<'_, '_>) -> bool {
-    !errand.is_safe && 200 <= head.status && head.status < 400
+fn is_get(seat: &Seat) -> bool
+    ensures { result ≡ is_get_in (current_of seat.now.client.heard) }
+{
+    let mut scratch = Scratch::new();
+    match seat.client.current(&mut scratch) {
+        Current::Request(asked, _) => asked.method == b"GET".as_slice(),
+        Current::Nothing | Current::More | Current::Refuse(_) => false,
+    }
+}
+
+/// The row of this key, and those of the places of its site that the response names.
+#[tactic(auto, using(crate::proofs::SeatsLemmas::anew_numbers))]
+fn clear_all(
+    alloc: Global,
+    cache: &mut Cache,
+    refused: &mut Noted,
+    seats: &mut [Seat],
+    key: &[u8],
+    path: usize,
+    head: &ResponseHead<'_, '_>,
+)
+    ensures is { (flow : Exchanges) → ClearsEach (take path key.now) (places_named (shown_response head.now)) (cleared_key key.now (record { seats = seats.old; flow = flow; cache = cache.old; refused = refused.old })) (record { seats = seats.new; flow = flow; cache = cache.new; refused = refused.new }) }
+    ensures numbers { numbers_of seats.new ≡ numbers_of seats.old }
+{
+    clear_key(cache, refused, seats, key);
+    let site = &key[..path.min(key.len())];
+    let location = head.fields.values(b"location");
+    clear_places(alloc, cache, refused, seats, site, location);
+    let content = head.fields.values(b"content-location");
+    clear_places(alloc, cache, refused, seats, site, content);
+}
+
+/// The rows of the places of a site that these texts name.
+fn clear_places(
+    alloc: Global,
+    cache: &mut Cache,
+    refused: &mut Noted,
+    seats: &mut [Seat],
+    site: &[u8],
+    mut texts: FieldValues<'_, '_, '_>,
+)
+    ensures is { (flow : Exchanges) → ClearsEach site.now texts.entry (record { seats = seats.old; flow = flow; cache = cache.old; refused = refused.old }) (record { seats = seats.new; flow = flow; cache = cache.new; refused = refused.new }) }
+    ensures numbers { numbers_of seats.new ≡ numbers_of seats.old }
+{
+    while let Some(text) = texts.next() {
+        clear_place(alloc, cache, refused, seats, site, text);
+    }
+}
+
+/// Ours: a URL that there is no memory to read counts as it is spelled, so that most rows are cleared all the same, and the
+/// response is passed.
+#[tactic(auto, using(crate::proofs::SeatsLemmas::anew_numbers))]
+fn clear_place(
+    alloc: Global,
+    cache: &mut Cache,
+    refused: &mut Noted,
+    seats: &mut [Seat],
+    site: &[u8],
+    text: &[u8],
+)
+    ensures is { (flow : Exchanges) → ClearsNamed site.now text.now (record { seats = seats.old; flow = flow; cache = cache.old; refused = refused.old }) (record { seats = seats.new; flow = flow; cache = cache.new; refused = refused.new }) }
+    ensures numbers { numbers_of seats.new ≡ numbers_of seats.old }
+{
+    let mut named = ArrayVec::new();
+    match write_named(alloc, site, text, &mut named) {
+        Ok(true) => clear_key(cache, refused, seats, named.as_slice()),
+        Ok(false) => {}
+        Err(OutOfMemory) => clear_spelled(cache, refused, seats, site, text),
+    }
+}
+
+#[tactic(auto, using(crate::proofs::SeatsLemmas::anew_numbers))]
+fn clear_spelled(
+    cache: &mut Cache,
+    refused: &mut Noted,
+    seats: &mut [Seat],
+    site: &[u8],
+    text: &[u8],
+)
+    ensures is { (flow : Exchanges) → record { seats = seats.new; flow = flow; cache = cache.new; refused = refused.new } ≡ cleared_of (named_as false site.now text.now) (record { seats = seats.old; flow = flow; cache = cache.old; refused = refused.old }) }
+    ensures numbers { numbers_of seats.new ≡ numbers_of seats.old }
+{
+    if is_spelled_at(site, text) {
+        clear_key(cache, refused, seats, text);
+    }
+}
+
+fn invalidates(is_safe: bool, head: &ResponseHead<'_, '_>) -> bool
+    ensures { result ≡ invalidates is_safe (shown_response head.now) }
+{
+    let is_done = 200 <= head.status && head.status < 400;
+    !is_safe && is_done
 }
 
 /// Nothing is there any more, or something else.
-fn disproves(head: &ResponseHead<'_, '_>, version: &Version) -> bool {
+fn disproves(head: &ResponseHead<'_, '_>, version: &Version) -> bool
+    ensures { result ≡ disproves (shown_response head.now) version.now }
+{
     match head.status {
         404 | 410 => true,
         200 => shows_other(head, version),
@@ -117,10 +212,18 @@ fn disproves(head: &ResponseHead<'_, '_>, version: &Version) -> bool {
 }
 
 /// "if the new field values indicate that the cached entity differs from the current entity" (section 9.4)
-fn shows_other(head: &ResponseHead<'_, '_>, version: &Version) -> bool {
-    let is_other_length = match body_length(&head.fields) {
+fn shows_other(head: &ResponseHead<'_, '_>, version: &Version) -> bool
+    ensures { result ≡ shows_other (shown_response head.now) version.now }
+{
+    names_other_tag(&head.fields, &version.tag)
+        || is_other_length(version, body_length(&head.fields))
+}
+
+fn is_other_length(version: &Version, length: Option<u64>) -> bool
+    ensures { result ≡ is_other_length version.now length }
+{
+    match length {
         None => false,
         Some(length) => length != version.length,
-    };
-    names_other_tag(&head.fields, &version.tag) || is_other_length
+    }
 }
