@@ -130,9 +130,10 @@ later s e m d there = find_joined (is_exchange m) s.exchanges (e ∷ []) ∙ ap 
 line_later : (s : State) (e : Exchange) (line : List ℕ) (asks : List Ask) → ShowsLine s line asks → AreAskedAs s (add_exchange e s) line
 line_later s e [] asks shows = tt
 line_later s e (m ∷ line) [] shows = absurd shows
-line_later s e (m ∷ line) (ask ∷ asks) shows =
-    (subst (λ (o : Option Exchange). AreBoth IsAskedAs o (exchange (add_exchange e s) m)) (sym shows.0.1) (subst (λ (o : Option Exchange). AreBoth IsAskedAs (Some shows.0.0) o) (sym (later s e m shows.0.0 shows.0.1)) (itself (Some shows.0.0))),
-    line_later s e line asks shows.1)
+line_later s e (m ∷ line) (ask ∷ asks) shows = (
+  subst (λ (o : Option Exchange). AreBoth IsAskedAs o (exchange (add_exchange e s) m)) (sym shows.0.1) (subst (λ (o : Option Exchange). AreBoth IsAskedAs (Some shows.0.0) o) (sym (later s e m shows.0.0 shows.0.1)) (itself (Some shows.0.0))),
+  line_later s e line asks shows.1,
+)
 
 conns_later : (s : State) (e : Exchange) (ps : List Peer) (ks : List Conn) → ShowConns s ps ks → ShowConns (add_exchange e s) ps ks
 conns_later s e [] [] shows = tt

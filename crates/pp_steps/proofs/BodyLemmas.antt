@@ -20,8 +20,10 @@ joins id at bytes old new adds same long gone = by (is_there id old.instances) (
   where
     chosen : Bool → Memory
     chosen b = elim b [ true ↦ record old { chunks = (added old.size id.slot at bytes old.chunks).chunks; grown = grown_by id old.grown } | false ↦ old ]
+
     as_before : new ≡ old → HasJoined old new
     as_before is = record { rest = ap (λ (m : Memory). record m { instances = old.instances }) is; faces = same }
+
     by : (b c : Bool) → is_there id old.instances ≡ b → nat_le (at + length bytes) (total_at id.slot old.instances) ≡ c → HasJoined (chosen (is_there id old.instances && nat_le (at + length bytes) (total_at id.slot old.instances))) new
     by true true there fits = rw (there, fits) (record { rest = ap (λ (m : Memory). record m { instances = old.instances }) (adds there (grind (arith, nat_tests, fits))); faces = same })
     by true false there fits = rw (there, fits) (as_before (long there (grind (arith, nat_tests, fits))))

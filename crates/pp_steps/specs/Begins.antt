@@ -66,10 +66,10 @@ pub record HasBegun (wanted : List ℕ → Seat) (old new : Seat) : Type 0 where
 
 abbrev pub pass_begun : Decision → Passed → Asked → Seat → List ℕ → Seat
 pass_begun d p a seat = begun_as
-  (record { status = p.status; head_len = p.head_len; len = p.head_len })
-  FromPipe
-  (record { decision = d; source = None; from = 0; to = 0; has_begun = true })
-  (record seat { closes = not (a.keeps_open && is_end_known p.rule a.minor) })
+    (record { status = p.status; head_len = p.head_len; len = p.head_len })
+    FromPipe
+    (record { decision = d; source = None; from = 0; to = 0; has_begun = true })
+    (record seat { closes = not (a.keeps_open && is_end_known p.rule a.minor) })
 
 abbrev pub HasBegunPassed : Decision → Option Passed → Option Asked → Bool → Seat → Seat → Type 0
 HasBegunPassed d None asked may old new = new ≡ old
@@ -203,9 +203,9 @@ may_begin id answer m = (answer.from == answer.to) || (nat_lt answer.from answer
 abbrev pub with_left : ObjectId → Memory → Memory
 with_left id m = elim (is_there id m.instances && nat_lt 0 (followers_of (in_slot id.slot m.instances))) [
   | true ↦ record m {
-      instances = left_from id.slot (in_slot id.slot m.instances) m.instances;
-      chunks = given_back (is_last (in_slot id.slot m.instances)) id.slot m.chunks;
-    }
+    instances = left_from id.slot (in_slot id.slot m.instances) m.instances;
+    chunks = given_back (is_last (in_slot id.slot m.instances)) id.slot m.chunks;
+  }
   | false ↦ m
 ]
 

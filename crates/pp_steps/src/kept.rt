@@ -107,12 +107,7 @@ impl State {
     }
 
     /// What is decided by this kept row.
-    fn decide_by_kept(
-        &self,
-        head: &RequestHead<'_, '_>,
-        key: &Key,
-        view: KeptView<'_>,
-    ) -> Decision
+    fn decide_by_kept(&self, head: &RequestHead<'_, '_>, key: &Key, view: KeptView<'_>) -> Decision
         ensures { result ≡ decide_by_kept self.entry.now key.now (shown view.entry) (shown_request head.now) }
     {
         let plan = PlanRow {

@@ -22,9 +22,9 @@ returns-clause-is c = λ flow.
     let second : Parts = record { seats = c.clear_places.new.seats; flow = flow; cache = c.clear_places.new.cache; refused = c.clear_places.new.refused } in
     let third : Parts = record { seats = c.clear_places-2.new.seats; flow = flow; cache = c.clear_places-2.new.cache; refused = c.clear_places-2.new.refused } in
     let cleared : first ≡ cleared_key key old =
-        ap (λ (x : List Seat). let p : Parts = record { seats = x; flow = flow; cache = c.clear_key.new.cache; refused = c.clear_key.new.refused } in p) c.clear_key.ensures.seats
-        ∙ ap (λ (x : Memory). let p : Parts = record { seats = all_decided_anew key old.refused old.seats; flow = flow; cache = x; refused = c.clear_key.new.refused } in p) c.clear_key.ensures.cache
-        ∙ ap (λ (x : List (List ℕ)). let p : Parts = record { seats = all_decided_anew key old.refused old.seats; flow = flow; cache = retired_at key old.cache; refused = x } in p) c.clear_key.ensures.refused in
+    ap (λ (x : List Seat). let p : Parts = record { seats = x; flow = flow; cache = c.clear_key.new.cache; refused = c.clear_key.new.refused } in p) c.clear_key.ensures.seats
+    ∙ ap (λ (x : Memory). let p : Parts = record { seats = all_decided_anew key old.refused old.seats; flow = flow; cache = x; refused = c.clear_key.new.refused } in p) c.clear_key.ensures.cache
+    ∙ ap (λ (x : List (List ℕ)). let p : Parts = record { seats = all_decided_anew key old.refused old.seats; flow = flow; cache = retired_at key old.cache; refused = x } in p) c.clear_key.ensures.refused in
     let A : List (List ℕ) → Type 0 = λ texts. ClearsEach (take c.min.result key) texts first second in
     let B : List (List ℕ) → Type 0 = λ texts. ClearsEach (take c.min.result key) texts second third in
     let C : List ℕ → Type 0 = λ at. ClearsEach at (values_of (codes "location") fields) first second in

@@ -10,7 +10,7 @@ returns-in-Some-due_at c =
     let at : slice_get c.args.self.now.awake.items c.loop-turn.turn ≡ Some c.in-Some.i = subst (λ v. slice_get v.items c.loop-turn.turn ≡ Some c.in-Some.i) c.loop-turn.invariant.awake here in
     let some : due_at c.in-Some.i c.bring_row_of.new.self ≡ Some c.in-Some-due_at.due = grind (arith, common_steps) in
     c.loop-turn.invariant.later c.bring_row_of.new.self (Some (c.in-Some.i, c.in-Some-due_at.due))
-        (due_here c.args.shelf.now c.args.self.now.awake.items c.loop-turn.turn c.in-Some.i c.loop-turn.self c.bring_row_of.new.self c.in-Some-due_at.due at c.bring_row_of.ensures some)
+    (due_here c.args.shelf.now c.args.self.now.awake.items c.loop-turn.turn c.in-Some.i c.loop-turn.self c.bring_row_of.new.self c.in-Some-due_at.due at c.bring_row_of.ensures some)
 
 pub loop-turn-preserved : goal.loop-turn-preserved
 loop-turn-preserved c =

@@ -14,7 +14,7 @@ returns-in-OfAnother-clause-is c = λ ordered.
     let errand = c.args.errand.now in
     let head = shown_response c.args.head.now in
     let is : told_unchanged head.fields errand.kind (row_for e.number (parts s)) ≡ OfAnother =
-        ap (told_unchanged head.fields errand.kind) (sym c.row_of.ensures) ∙ sym c.told_unchanged.ensures ∙ c.in-OfAnother.is in
+    ap (told_unchanged head.fields errand.kind) (sym c.row_of.ensures) ∙ sym c.told_unchanged.ensures ∙ c.in-OfAnother.is in
     c.useless.ensures.is (still_seated s c.clear_row.new.self c.clear_row.ensures.numbers ordered)
     ∙ ap (made_useless e) c.clear_row.ensures.is
     ∙ ap (λ u. not_modified_as e errand head s.now u (parts s)) (sym is)
