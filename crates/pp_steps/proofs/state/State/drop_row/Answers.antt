@@ -1,4 +1,4 @@
-use Rattle.std.proofs.Common.{◌≡◌, ◌<◌, ◌∙◌, length, ap, arith}
+use Rattle.std.proofs.Common.{◌<◌, ◌∙◌, length, ap, arith}
 use Rattle.std.proofs.lemmas.List.{length-map}
 use Rattle.pp_seats.specs.declared.seat.Seat.{Seat}
 use Rattle.pp_steps.proofs.SeatsLemmas.{set_numbers, without_row-number}

@@ -1,4 +1,4 @@
-use Rattle.std.proofs.Common.{arith, ◌≡◌, ◌≤◌, ◌∙◌, sym, subst, ℕ, length, slice_get, Some, None}
+use Rattle.std.proofs.Common.{arith, ◌≡◌, ◌≤◌, ◌∙◌, subst, length, slice_get, Some, None}
 use Rattle.std.proofs.lemmas.Grind.{common_steps}
 use Rattle.pp_steps.specs.Due.{due_at}
 use Rattle.pp_steps.proofs.EnteringLemmas.{awake_kept, due_here, due_later, due_never, past_end}

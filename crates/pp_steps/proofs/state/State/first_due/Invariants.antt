@@ -1,4 +1,4 @@
-use Rattle.std.proofs.Common.{◌≡◌, ℕ, List, drop, Option}
+use Rattle.std.proofs.Common.{◌≡◌, ℕ, drop, Option}
 use Rattle.pp_seats.specs.declared.due.Due.{Due}
 use Rattle.pp_steps.specs.Entering.{FirstDue}
 use Rattle.pp_steps.specs.declared.state.State.{State}

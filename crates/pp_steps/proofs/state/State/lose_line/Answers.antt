@@ -1,4 +1,4 @@
-use Rattle.std.proofs.Common.{◌≡◌, ◌<◌, ◌-◌, ◌+◌, ◌∙◌, subst, sym, ap, ℕ, List, Some}
+use Rattle.std.proofs.Common.{◌≡◌, ◌-◌, ◌+◌, ◌∙◌, subst, sym, ap, ℕ, List, Some}
 use Rattle.pp_steps.proofs.LineLemmas.{line_next}
 use Rattle.pp_steps.proofs.state.State.lose_line.Goals as goal
 use Rattle.pp_steps.specs.Ends.{AreInOrder, Parts, numbers_of, parts}

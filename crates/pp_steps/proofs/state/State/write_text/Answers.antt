@@ -1,9 +1,9 @@
-use Rattle.std.proofs.Common.{◌≡◌, ◌↔◌, ◌≤◌, ◌∙◌, sym, subst, ℕ, Bool, true, List, length, IsTrue, OnOk, is_ok}
+use Rattle.std.proofs.Common.{◌≡◌, ◌↔◌, ◌≤◌, ◌∙◌, subst, ℕ, List, length, IsTrue, OnOk, is_ok}
 use Rattle.pp_ask.specs.Texts.{ask_text}
 use Rattle.pp_head.specs.Shown.{shown_request}
 use Rattle.pp_target.specs.Key.{key_in}
 use Rattle.pp_steps.proofs.DecideLemmas.{fits_if, text_is, written_if}
-use Rattle.pp_steps.specs.Decide.{fits, text_for}
+use Rattle.pp_steps.specs.Decide.{text_for}
 use Rattle.pp_steps.proofs.state.State.write_text.Goals as goal
 
 pub returns-clause-fits : goal.returns-clause-fits
