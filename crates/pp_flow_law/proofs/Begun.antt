@@ -110,4 +110,4 @@ begins_at number l f s shows x e num unplaced one = record {
         (there m false (ap (λ (i : ℕ). i == m) its ∙ out) ∙ first_none (exchange s m)) (shows.each m)
 
 pub begins : BeginsAreTheLaws
-begins number l f s shows client key aim errand e one = begins_at number l f s shows (begun_with f.begun client key aim errand) e refl refl one
+begins number l f s shows client key aim errand text e one = begins_at number l f s shows (begun_with f.begun client key aim errand text) e refl refl one

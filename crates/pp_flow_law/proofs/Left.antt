@@ -175,6 +175,6 @@ left_begun c f = by (first_of (find (is_asked_by c) f.waiting) (find (is_asked_b
 
 pub asks_begin : AsksBeginAsTheLaws
 unfolding begin_exchange
-asks_begin number l f s shows c key aim errand e few none one =
-    subst (λ (o : Option ℕ). ShowsFlow number l (begun_by c key aim errand (left_by c f)) (add_exchange e (leave (λ x. is_some_with (λ n. is_of n x) o) s))) one.asker
-    (begins number l (left_by c f) (leave (is_of c) s) (decisions number l f s shows c few none) c key aim errand e (subst (λ (n : ℕ). ShowsExchange number (begun_with n c key aim errand) e) (sym (left_begun c f)) one))
+asks_begin number l f s shows c key aim errand text e few none one =
+    subst (λ (o : Option ℕ). ShowsFlow number l (begun_by c key aim errand text (left_by c f)) (add_exchange e (leave (λ x. is_some_with (λ n. is_of n x) o) s))) one.asker
+    (begins number l (left_by c f) (leave (is_of c) s) (decisions number l f s shows c few none) c key aim errand text e (subst (λ (n : ℕ). ShowsExchange number (begun_with n c key aim errand text) e) (sym (left_begun c f)) one))

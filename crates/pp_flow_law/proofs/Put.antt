@@ -1,10 +1,9 @@
 -- One of the exchanges gets a place.
-use Rattle.std.proofs.Common.{◌≡◌, ◌≤◌, ◌+◌, refl, sym, subst, ap, ap₂, ◌∙◌, ℕ, Bool, true, false, ◌==◌, cond, find, List, [], ◌∷◌, ◌++◌, filter, length, Option, Some, None, option_map, arith}
+use Rattle.std.proofs.Common.{◌≡◌, ◌≤◌, ◌+◌, refl, sym, subst, ap, ap₂, ◌∙◌, ℕ, Bool, true, false, ◌==◌, cond, find, List, [], ◌∷◌, ◌++◌, filter, Option, Some, None, option_map, arith}
 use Rattle.std.specs.Prelude.{count_by}
 use Rattle.std.proofs.lemmas.Bool.Decides.{nat_tests}
 use Rattle.std.proofs.lemmas.List.{append_assoc, append-nil}
 use Rattle.pp_cache_law.proofs.Finds.{find_joined, find_mapped, find_passes, first_of_two, none_found}
-use Rattle.pp_cache_law.proofs.Numbers.{some_is}
 use Rattle.pp_cache_law.proofs.PairLemmas.{count_first, count_joined}
 use Rattle.pp_cache_law.specs.Pairs.{AreAll, AreBoth}
 use Rattle.pp_flow.specs.Changes.{Exchanges, changed, entry_of, first_of, is_place, line_of, placed_on, with_errand, without as without_number}
@@ -161,9 +160,9 @@ is_put_at number l f s shows n k x r waits =
     (changed_last n (asking r) f.placed (with_place (Some k) x) (none_placed number l f s shows n x waits) (find_passes (is_number n) f.waiting x waits))
 
 pub puts : PutsAreTheLaws
-puts number l f s shows n x e k waits here linked =
-    subst (λ (g : Exchanges). ShowsFlow number l g (put_on n k.number s)) (sym (is_put_at number l f s shows n k.number x (record x.errand { text_len = length e.text; asked = 0 }) waits))
-    (puts_at number l f s shows n k.number x (asking (record x.errand { text_len = length e.text; asked = 0 }) (with_place (Some k.number) x)) k waits
+puts number l f s shows n x k waits linked =
+    subst (λ (g : Exchanges). ShowsFlow number l g (put_on n k.number s)) (sym (is_put_at number l f s shows n k.number x (record x.errand { asked = 0 }) waits))
+    (puts_at number l f s shows n k.number x (asking (record x.errand { asked = 0 }) (with_place (Some k.number) x)) k waits
     (record { number = same_number x.exchange.number n (find_passes (is_number n) f.waiting x waits); place = refl }) linked (λ d there one. record {
       number = one.number;
       asker = one.asker;
@@ -180,7 +179,7 @@ puts number l f s shows n x e k waits here linked =
       binds = one.binds;
       identity = one.identity;
       guess = one.guess;
-      text_len = ap (λ (c : Exchange). length c.text) (some_is e d (sym here ∙ there));
+      text = one.text;
       asked = refl;
       body_left = one.body_left;
       requested = one.requested;

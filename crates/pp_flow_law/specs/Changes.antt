@@ -1,5 +1,5 @@
 -- What changes the exchanges of the program changes those of the law alike.
-use Rattle.std.specs.Prelude.{◌≡◌, ◌≤◌, ℕ, ◌+◌, ◌-◌, ◌==◌, true, false, not, [], ◌∷◌, ◌++◌, length, filter, Option, Some, None, count_by}
+use Rattle.std.specs.Prelude.{◌≡◌, ◌≤◌, ℕ, ◌+◌, ◌-◌, ◌==◌, true, false, not, [], ◌∷◌, ◌++◌, filter, Option, Some, None, count_by}
 use Rattle.std.specs.List.{find, list_any}
 use Rattle.pp_flow.specs.Changes.{Exchanges, changed, entry_of, first_of, placed_on, unplaced as without_place, with_errand, without}
 use Rattle.pp_flow.specs.Entries.{asking, begun_with, bound_to, is_asked_by, is_number, moved_by, nobodys}
@@ -24,17 +24,17 @@ abbrev pub BeginningsAreTheLaws : Type 0
 BeginningsAreTheLaws = (number : ℕ → ℕ) (s : State) → s.exchanges ≡ [] → s.conns ≡ [] → s.next_exchange ≡ 0 → ShowsFlow number none_leaves (record { waiting = []; placed = []; begun = 0 }) s
 
 -- one begins
-abbrev pub begun_by : ℕ → Bytes → Aim → Errand → Exchanges → Exchanges
-begun_by client key aim errand f = record f { waiting = f.waiting ++ begun_with f.begun client key aim errand ∷ []; begun = f.begun + 1 }
+abbrev pub begun_by : ℕ → Bytes → Aim → Errand → Bytes → Exchanges → Exchanges
+begun_by client key aim errand text f = record f { waiting = f.waiting ++ begun_with f.begun client key aim errand text ∷ []; begun = f.begun + 1 }
 
 abbrev pub BeginsAreTheLaws : Type 0
-BeginsAreTheLaws = OfFlows (λ number l f s. (client : ℕ) (key : Bytes) (aim : Aim) (errand : Errand) (e : Exchange) → ShowsExchange number (begun_with f.begun client key aim errand) e
-    → ShowsFlow number l (begun_by client key aim errand f) (add_exchange e s))
+BeginsAreTheLaws = OfFlows (λ number l f s. (client : ℕ) (key : Bytes) (aim : Aim) (errand : Errand) (text : Bytes)
+    (e : Exchange) → ShowsExchange number (begun_with f.begun client key aim errand text) e → ShowsFlow number l (begun_by client key aim errand text f) (add_exchange e s))
 
 -- it gets a place, as the last of that line, where it is asked from the front of its text on
 abbrev pub PutsAreTheLaws : Type 0
-PutsAreTheLaws = OfFlows (λ number l f s. (n : ℕ) (x : Entry) (e : Exchange) (k : Conn) → find (is_number n) f.waiting ≡ Some x → exchange s n ≡ Some e → conn s k.number ≡ Some k
-    → ShowsFlow number l (with_errand n (record x.errand { text_len = length e.text; asked = 0 }) (placed_on k.number n f)) (put_on n k.number s))
+PutsAreTheLaws = OfFlows (λ number l f s. (n : ℕ) (x : Entry) (k : Conn) → find (is_number n) f.waiting ≡ Some x → conn s k.number ≡ Some k
+    → ShowsFlow number l (with_errand n (record x.errand { asked = 0 }) (placed_on k.number n f)) (put_on n k.number s))
 
 -- it stands in no line of the law: its connection is closing
 abbrev pub HasLeft : ℕ → State → Type 0
@@ -110,5 +110,6 @@ DecisionsLeaveAsTheLaws = OfFlows (λ number l f s. (c : ℕ) → count_by (is_o
 
 -- and then it asks the one that begins
 abbrev pub AsksBeginAsTheLaws : Type 0
-AsksBeginAsTheLaws = OfFlows (λ number l f s. (c : ℕ) (key : Bytes) (aim : Aim) (errand : Errand) (e : Exchange) → count_by (is_of c) s.exchanges ≤ 1 → list_any is_over s.exchanges ≡ false
-    → ShowsExchange number (begun_with f.begun c key aim errand) e → ShowsFlow number l (begun_by c key aim errand (left_by c f)) (begin_exchange e s))
+AsksBeginAsTheLaws = OfFlows (λ number l f s. (c : ℕ) (key : Bytes) (aim : Aim) (errand : Errand) (text : Bytes)
+    (e : Exchange) → count_by (is_of c) s.exchanges ≤ 1 → list_any is_over s.exchanges ≡ false
+    → ShowsExchange number (begun_with f.begun c key aim errand text) e → ShowsFlow number l (begun_by c key aim errand text (left_by c f)) (begin_exchange e s))

@@ -1,5 +1,6 @@
 -- What is read of an exchange is what the law says of it.
-use Rattle.std.proofs.Common.{◌≡◌, refl, ap, ap₂, ℕ, Bool, true, false, not, ◌==◌, ◌||◌, Option, Some, None}
+use Rattle.std.proofs.Common.{◌≡◌, refl, ap, ap₂, ℕ, Bool, true, false, not, ◌==◌, ◌||◌, length, Option, Some, None}
+use Rattle.pp_law.specs.Lists.{Bytes}
 use Rattle.pp_law.specs.Stages.{bound_in, is_pending}
 use Rattle.pp_law.specs.State.{Body, Pending, Joining, Relaying, Dropping}
 use Rattle.pp_flow.specs.declared.errand.Body.{Body as ErrandBody}
@@ -25,7 +26,7 @@ pub exchanges : ExchangesAreTheLaws
 exchanges number x e shows = record {
   headed = body_headed number x.errand.body x.exchange.headed x.exchange.bound e.body shows.body;
   bound = body_bound number x.errand.body x.exchange.headed x.exchange.bound e.body shows.body;
-  outstanding = ap₂ (λ (m n : ℕ). m == n) shows.asked shows.text_len;
+  outstanding = ap₂ (λ (m : ℕ) (t : Bytes). m == length t) shows.asked shows.text;
   alone = ap₂ (λ (a b : Bool). a || b) shows.is_asked_once shows.binds;
   attempts = ap attempts_in shows.is_asked_once;
 }

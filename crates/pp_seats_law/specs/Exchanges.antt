@@ -48,8 +48,7 @@ is_ranged_in (Hole first last tag) = true
 is_ranged_in (Check tag) = false
 is_ranged_in Pass = false
 
--- by the law's numbers of lives, and the text of its key. Its own text stands in the pipe of its connection, and as long as it has
--- none nowhere: it is written anew from the head of its client's request, which the law keeps with the exchange
+-- by the law's numbers of lives, and the text of its key
 pub record ShowsExchange (numbers : ℕ → ℕ) (x : Entry) (e : Exchange) : Type 0 where
   pub number : x.exchange.number ≡ e.number
   pub asker : x.exchange.asker ≡ e.asker
@@ -66,7 +65,7 @@ pub record ShowsExchange (numbers : ℕ → ℕ) (x : Entry) (e : Exchange) : Ty
   pub binds : x.errand.binds_connection ≡ binds_connection e.head.fields
   pub identity : x.errand.accepts_only_identity ≡ accepts_only_identity e.head.fields
   pub guess : x.errand.allows_guess ≡ allows_guess (text_of e.key) e.head.fields
-  pub text_len : x.errand.text_len ≡ length e.text
+  pub text : x.text.items ≡ e.text
   pub asked : x.errand.asked ≡ e.asked
   pub body_left : x.errand.body_left ≡ e.body_left
   pub requested : x.errand.requested ≡ e.requested
@@ -82,7 +81,7 @@ ShowsBound number x b = ⊥
 pub record IsTheLaws (number : ℕ → ℕ) (x : Entry) (e : Exchange) : Type 0 where
   pub headed : x.exchange.headed ≡ is_headed e
   pub bound : ShowsBound number x.exchange.bound (bound_of e)
-  pub outstanding : (x.errand.asked == x.errand.text_len) ≡ is_outstanding e
+  pub outstanding : (x.errand.asked == length x.text.items) ≡ is_outstanding e
   pub alone : (x.errand.is_asked_once || x.errand.binds_connection) ≡ goes_alone e.head
   pub attempts : attempts_in x.errand.is_asked_once ≡ attempts_of e
 
