@@ -1,8 +1,8 @@
 pub mod Asks
-mod Awaits
-mod Bodies
-mod Endings
+pub mod Awaits
+pub mod Bodies
+pub mod Endings
 pub mod Finds
-mod Heads
-mod LineEnds
-mod Loads
+pub mod Heads
+pub mod LineEnds
+pub mod Loads
