@@ -1,3 +1,4 @@
+pub mod Alone
 pub mod Asked
 pub mod Changed
 pub mod Cleared
@@ -5,3 +6,4 @@ pub mod Connected
 pub mod Decided
 pub mod Ended
 pub mod Lines
+pub mod PutOn
