@@ -10,7 +10,7 @@ use Rattle.pp_flow_law.proofs.Entries.{line_first, same_number}
 use Rattle.pp_flow_law.proofs.Standing.{few_placed}
 use Rattle.pp_flow_law.specs.Tables.{Leaving, ShowsFlow, line_in}
 use Rattle.pp_law.specs.Connections.{conn, exchange, is_conn}
-use Rattle.pp_law.specs.Lists.{change, has_number}
+use Rattle.pp_law.specs.Lists.{Bytes, change, has_number}
 use Rattle.pp_law.specs.State.{State, Conn, Exchange}
 use Rattle.pp_peers.specs.Peers.{is_number, with_peer, with_pipe}
 use Rattle.pp_peers.specs.declared.peers.Peer.{Peer}
@@ -19,8 +19,10 @@ use Rattle.pp_peers_law.specs.Peers.{ShowsConn, ShowConns}
 use Rattle.pp_pipe.specs.Line.{Line}
 use Rattle.pp_states_law.specs.Asks.{AreAskedAs, IsAskedAs}
 use Rattle.pp_states_law.specs.Conns.{GoesOnAs}
+use Rattle.pp_states_law.specs.Decisions.{AreApart}
+use Rattle.pp_states_law.specs.States.{Parts, ShowsState}
 use Rattle.pp_states_law.proofs.Asked.{conn_again}
-use Rattle.pp_states_law.proofs.Lines.{AllFound, IsPlaced, in_line, same_itself}
+use Rattle.pp_states_law.proofs.Lines.{AllFound, IsPlaced, all_found, in_line, same_itself}
 
 -- ---- what is asked on the others is asked as before
 
@@ -150,3 +152,27 @@ piped n line (p ∷ ps) peer found = by (is_number n p) found (piped n line ps p
         → cond b (record p { pipe = line } ∷ ps) (p ∷ with_pipe n line ps) ≡ cond b (record peer { pipe = line } ∷ ps) (p ∷ with_peer n (record peer { pipe = line }) ps)
     by true is rest = ap (λ (x : Peer). record x { pipe = line } ∷ ps) (let same : p ≡ peer = cc is in same)
     by false is rest = ap (λ (xs : List Peer). p ∷ xs) (rest is)
+
+-- ---- in a state
+
+pub same_some : {A : Type 0} (a b : A) (o : Option A) → o ≡ Some a → o ≡ Some b → b ≡ a
+same_some a b o one other = let both : Some b ≡ Some a = sym other ∙ one in cc both
+
+pub on_one : (number : ℕ → ℕ) (name : Bytes) (owed : List Bytes) (l : Leaving) (p : Parts) (s t : State) (peer new : Peer) (k : Conn) (to : Conn → Conn) → ShowsState number name owed l p s → AreApart s → find (is_number k.number) p.peers ≡ Some peer
+    → conn s k.number ≡ Some k → AsksOn k.number s t → t.conns ≡ change (is_conn k.number) to s.conns → (ShowsConn s peer k → ShowsConn t new (to k)) → ShowConns t (with_peer k.number new p.peers) t.conns
+on_one number name owed l p s t peer new k to shows apart linked there asks conns one =
+    subst (λ (ks : List Conn). ShowConns t (with_peer k.number new p.peers) ks) (sym conns)
+    (changes_alone s t k.number new to p.peers s.conns (apart k.number) (others_as number l p.flow s t k.number shows.exchanges asks s.conns (all_found s apart)) goes shows.conns)
+  where
+    goes : (q : Peer) (j : Conn) → find (is_number k.number) p.peers ≡ Some q → find (is_conn k.number) s.conns ≡ Some j → ShowsConn s q j → ShowsConn t new (to j)
+    goes q j found is shown =
+        let same : j ≡ k = same_some k j (conn s k.number) there is in
+        subst (λ (i : Conn). ShowsConn t new (to i)) (sym same)
+        (one (subst (λ (i : Conn). ShowsConn s peer i) same (subst (λ (r : Peer). ShowsConn s r j) (same_some peer q (find (is_number k.number) p.peers) linked found) shown)))
+
+-- its pipe alone
+pub on_pipe : (number : ℕ → ℕ) (name : Bytes) (owed : List Bytes) (l : Leaving) (p : Parts) (s t : State) (peer : Peer) (line : Line) (k : Conn) (to : Conn → Conn) → ShowsState number name owed l p s → AreApart s → find (is_number k.number) p.peers ≡ Some peer
+    → conn s k.number ≡ Some k → AsksOn k.number s t → t.conns ≡ change (is_conn k.number) to s.conns → (ShowsConn s peer k → ShowsConn t (record peer { pipe = line }) (to k)) → ShowConns t (with_pipe k.number line p.peers) t.conns
+on_pipe number name owed l p s t peer line k to shows apart linked there asks conns one =
+    subst (λ (ps : List Peer). ShowConns t ps t.conns) (sym (piped k.number line p.peers peer linked))
+    (on_one number name owed l p s t peer (record peer { pipe = line }) k to shows apart linked there asks conns one)

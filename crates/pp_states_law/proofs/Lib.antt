@@ -7,3 +7,4 @@ pub mod Decided
 pub mod Ended
 pub mod Lines
 pub mod PutOn
+pub mod Texts

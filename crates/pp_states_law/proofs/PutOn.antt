@@ -23,7 +23,7 @@ use Rattle.pp_seats_law.specs.Clients.{AreShown}
 use Rattle.pp_states_law.specs.Asks.{IsAskedAs}
 use Rattle.pp_states_law.specs.Puts.{IsPut, PutsAreTheLaws}
 use Rattle.pp_states_law.specs.States.{Parts, ShowsState}
-use Rattle.pp_states_law.proofs.Alone.{AsksOn, changes_alone, others_as, piped, two_numbers}
+use Rattle.pp_states_law.proofs.Alone.{AsksOn, on_pipe, same_some, two_numbers}
 use Rattle.pp_states_law.proofs.Asked.{itself}
 use Rattle.pp_states_law.proofs.Lines.{IsPlaced, all_found, in_line}
 
@@ -53,9 +53,6 @@ unfolding put_on on_conn on_exchange
 put_table number p s n k shows =
     frames_of number p.memory s shows p.memory (put_on n k s) (record { instances = refl; lives = refl; chunks = refl; extents = refl })
     (record { instances = refl; made = the_same s.next_instance; chunks = refl; followers = λ id. refl; kept = λ x. refl })
-
-same_some : {A : Type 0} (a b : A) (o : Option A) → o ≡ Some a → o ≡ Some b → b ≡ a
-same_some a b o one other = let both : Some b ≡ Some a = sym other ∙ one in cc both
 
 put_conn : (number : ℕ → ℕ) (name : Bytes) (owed : List Bytes) (l : Leaving) (p : Parts) (s : State) (x : Entry) (e : Exchange) (peer : Peer) (k : Conn) → ShowsState number name owed l p s → IsPut p s x e peer k → ShowsConn s peer k
     → ShowsConn (put_on e.number k.number s) (record peer { pipe = pushed e.text (asks_head e) peer.pipe }) (record k { line = k.line ++ e.number ∷ [] })
@@ -88,26 +85,13 @@ puts number name owed l p s shows x e peer k alone put = record {
   exchanges = flow_puts number l p.flow s shows.exchanges e.number x e k put.waits put.known put.there;
   table = put_table number p s e.number k.number shows.table;
   conns =
-      subst (λ (ps : List Peer). ShowConns t ps t.conns) (sym (piped k.number (pushed e.text (asks_head e) peer.pipe) p.peers peer put.linked))
-      (subst (λ (ks : List Conn). ShowConns t (with_peer k.number new p.peers) ks) (sym (put_rest e.number k.number s).1)
-      (changes_alone s t k.number new to p.peers s.conns (alone k.number) (others_as number l p.flow s t k.number shows.exchanges as_before s.conns (all_found s alone)) goes shows.conns));
+      on_pipe number name owed l p s t peer (pushed e.text (asks_head e) peer.pipe) k (λ j. record j { line = j.line ++ e.number ∷ [] }) shows alone put.linked put.there as_before (put_rest e.number k.number s).1
+      (put_conn number name owed l p s x e peer k shows put);
 }
   where
     t : State
     t = put_on e.number k.number s
 
-    new : Peer
-    new = record peer { pipe = pushed e.text (asks_head e) peer.pipe }
-
-    to : Conn → Conn
-    to j = record j { line = j.line ++ e.number ∷ [] }
-
     as_before : AsksOn k.number s t
     as_before j m off placed =
         subst (λ (o : Option Exchange). AreBoth IsAskedAs (exchange s m) o) (sym (elsewhere e.number k.number m s (apart number l p.flow s e.number j m x e shows.exchanges put.waits put.known placed))) (itself (exchange s m))
-
-    goes : (q : Peer) (j : Conn) → find (is_number k.number) p.peers ≡ Some q → find (is_conn k.number) s.conns ≡ Some j → ShowsConn s q j → ShowsConn t new (to j)
-    goes q j found there shown =
-        subst (λ (i : Conn). ShowsConn t new (to i)) (sym (same_some k j (conn s k.number) put.there there))
-        (put_conn number name owed l p s x e peer k shows put
-        (subst (λ (i : Conn). ShowsConn s peer i) (same_some k j (conn s k.number) put.there there) (subst (λ (r : Peer). ShowsConn s r j) (same_some peer q (find (is_number k.number) p.peers) put.linked found) shown)))

@@ -1,3 +1,4 @@
+pub mod Askings
 pub mod Asks
 pub mod Clients
 pub mod Conns

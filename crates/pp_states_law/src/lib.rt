@@ -11,6 +11,7 @@
 //! Takes no memory, and does nothing when the program runs.
 #![tactic(auto)]
 
+mod asking; // bytes are asked on a connection
 mod asks; // what connections depend on
 mod clients; // one client is changed
 mod conns; // one connection is changed
@@ -19,6 +20,7 @@ mod exchanges; // one exchange is changed, or is over
 mod placing; // an exchange gets a place
 mod rows; // a row is cleared
 
+pub use asking::texts_are_the_laws;
 pub use asks::frames_are_the_laws;
 pub use clients::changes_are_the_laws;
 pub use conns::{closings_are_the_laws, connections_are_the_laws};

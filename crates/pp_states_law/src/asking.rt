@@ -1,0 +1,7 @@
+// Bytes are asked on a connection.
+ghost use Rattle.pp_states_law.specs.Askings.{TextsAreTheLaws};
+
+/// Of the text of the exchange that is asked next there.
+pub fn texts_are_the_laws()
+    ensures texts { TextsAreTheLaws }
+{}
