@@ -7,4 +7,5 @@ pub mod Decided
 pub mod Ended
 pub mod Lines
 pub mod PutOn
+pub mod Taken
 pub mod Texts

@@ -20,7 +20,7 @@ mod exchanges; // one exchange is changed, or is over
 mod placing; // an exchange gets a place
 mod rows; // a row is cleared
 
-pub use asking::texts_are_the_laws;
+pub use asking::{bodies_are_the_laws, texts_are_the_laws};
 pub use asks::frames_are_the_laws;
 pub use clients::changes_are_the_laws;
 pub use conns::{closings_are_the_laws, connections_are_the_laws};
