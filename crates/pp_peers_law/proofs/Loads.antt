@@ -50,11 +50,11 @@ not_alone true true none = let both : true ≡ false = none refl in cc both
 not_alone true false none = refl
 not_alone false alone none = refl
 
-load : (s : State) (p : Peer) (k : Conn) → ShowsConn s p k → ShowsPipe s p k → load_in p ≡ load_of s k
-load s p k shows pipe =
+load : (s : State) (p : Peer) (k : Conn) → p.pipe.may_pipeline ≡ k.may_pipeline → ShowsPipe s p k → load_in p ≡ load_of s k
+load s p k same pipe =
     let asks : length p.pipe.asks ≡ length k.line = asks_len s k.line p.pipe.asks pipe.line in
     let sent : count_by is_outstanding p.pipe.asks ≡ count_by (λ n. is_some_with is_asked (exchange s n)) k.line = outstanding s k.line p.pipe.asks pipe.line in
-    let may : p.pipe.may_pipeline ≡ k.may_pipeline && not (has_alone s k.line) = shows.may_pipeline ∙ not_alone k.may_pipeline (has_alone s k.line) pipe.none_alone in
+    let may : p.pipe.may_pipeline ≡ k.may_pipeline && not (has_alone s k.line) = same ∙ not_alone k.may_pipeline (has_alone s k.line) pipe.none_alone in
     ap (λ (n : ℕ). record { asks = n; outstanding = count_by is_outstanding p.pipe.asks; may_pipeline = p.pipe.may_pipeline }) asks
     ∙ ap (λ (n : ℕ). record { asks = length k.line; outstanding = n; may_pipeline = p.pipe.may_pipeline }) sent
     ∙ ap (λ (b : Bool). record { asks = length k.line; outstanding = count_by (λ n. is_some_with is_asked (exchange s n)) k.line; may_pipeline = b }) may
@@ -64,7 +64,7 @@ loads s p k shows is_open =
     ap (λ (n : ℕ). record { number = n; host = p.host.items; port = p.port; load = load_in p }) shows.number
     ∙ ap (λ (h : Bytes). record { number = k.number; host = h; port = p.port; load = load_in p }) shows.host
     ∙ ap (λ (n : ℕ). record { number = k.number; host = k.host; port = n; load = load_in p }) shows.port
-    ∙ ap (λ (l : Load). record { number = k.number; host = k.host; port = k.port; load = l }) (load s p k shows (shows.pipe is_open))
+    ∙ ap (λ (l : Load). record { number = k.number; host = k.host; port = k.port; load = l }) (load s p k (shows.may_pipeline is_open) (shows.pipe is_open))
 
 -- ---- of all
 

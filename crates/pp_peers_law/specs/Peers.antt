@@ -68,13 +68,14 @@ pub record ShowsPipe (s : State) (p : Peer) (k : Conn) : Type 0 where
   pub reading : ShowsReading p.pipe.reading k.unread k.answer
   pub none_alone : k.may_pipeline ≡ true → has_alone s k.line ≡ false
 
+-- a response that ends its connection may be one behind which others are pipelined: of one that is closing, nobody reads whether they are
 pub record ShowsConn (s : State) (p : Peer) (k : Conn) : Type 0 where
   pub number : p.number ≡ k.number
   pub host : p.host.items ≡ k.host
   pub port : p.port ≡ k.port
   pub is_reached : p.is_reached ≡ k.is_reached
   pub has_brought : p.has_brought ≡ k.has_brought
-  pub may_pipeline : p.pipe.may_pipeline ≡ k.may_pipeline
+  pub may_pipeline : k.is_closing ≡ false → p.pipe.may_pipeline ≡ k.may_pipeline
   pub is_closing : p.is_closing ≡ k.is_closing
   pub mark : p.mark ≡ k.mark
   pub has_waited : p.has_waited ≡ k.has_waited

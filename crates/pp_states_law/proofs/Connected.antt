@@ -81,7 +81,7 @@ unfolding on_conn
 the_conns number name owed l p s n new to shows few goes = changes s (on_conn n to s) n new to p.peers s.conns few (all_as s (on_conn n to s) (λ m. itself (exchange s m)) s.conns) goes shows.conns
 
 -- the lines stay
-abbrev KeepsLine : (Conn → Conn) → Type 0
+abbrev pub KeepsLine : (Conn → Conn) → Type 0
 KeepsLine to = (k : Conn) → ((to k).number ≡ k.number) × ((to k).line ≡ k.line)
 
 if_kept : (n : ℕ) (to : Conn → Conn) → KeepsLine to → (k : Conn) → ((changed_if n to k).number ≡ k.number) × ((changed_if n to k).line ≡ k.line)
@@ -95,7 +95,7 @@ lines_kept : (n : ℕ) (to : Conn → Conn) → KeepsLine to → (o : Option Con
 lines_kept n to keeps None = refl
 lines_kept n to keeps (Some k) = (if_kept n to keeps k).1
 
-line_kept : (s : State) (n : ℕ) (to : Conn → Conn) → KeepsLine to → (m : ℕ) → line_at (on_conn n to s) m ≡ line_at s m
+pub line_kept : (s : State) (n : ℕ) (to : Conn → Conn) → KeepsLine to → (m : ℕ) → line_at (on_conn n to s) m ≡ line_at s m
 unfolding on_conn
 line_kept s n to keeps m =
     ap (λ (o : Option Conn). line_in o) (find_mapped (is_conn m) (changed_if n to) s.conns (λ k. ap (λ (i : ℕ). i == m) (if_kept n to keeps k).0)) ∙ lines_kept n to keeps (conn s m)
@@ -186,7 +186,7 @@ closings number name owed l p s shows n peer k few found there = record {
           port = these.port;
           is_reached = these.is_reached;
           has_brought = these.has_brought;
-          may_pipeline = these.may_pipeline;
+          may_pipeline = λ going. absurd cc;
           is_closing = refl;
           mark = these.mark;
           has_waited = these.has_waited;
