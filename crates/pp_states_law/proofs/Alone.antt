@@ -97,7 +97,7 @@ two_numbers s n m e d one other differ = by (n == m) refl
 
 -- ---- no exchange stands twice in a line
 
-few_on : (k n : ℕ) (es : List Entry) → count_by (λ m. m == n) (line_of k es) ≤ count_by (is_entry n) es
+pub few_on : (k n : ℕ) (es : List Entry) → count_by (λ m. m == n) (line_of k es) ≤ count_by (is_entry n) es
 few_on k n [] = omega arith
 few_on k n (e ∷ es) = subst (λ (ns : List ℕ). count_by (λ m. m == n) ns ≤ count_by (is_entry n) (e ∷ es)) (sym (line_first k e es)) (at (is_on k e) (few_on k n es))
   where
@@ -105,7 +105,7 @@ few_on k n (e ∷ es) = subst (λ (ns : List ℕ). count_by (λ m. m == n) ns �
     at true less = omega (arith, less, count_first (is_entry n) e es, count_first (λ m. m == n) e.exchange.number (line_of k es))
     at false less = omega (arith, less, count_first (is_entry n) e es)
 
-none_counted : (n : ℕ) (ns : List ℕ) → count_by (λ m. m == n) ns ≡ 0 → has_number n ns ≡ false
+pub none_counted : (n : ℕ) (ns : List ℕ) → count_by (λ m. m == n) ns ≡ 0 → has_number n ns ≡ false
 none_counted n [] none = refl
 none_counted n (m ∷ ns) none = by (m == n) (sym (count_first (λ i. i == n) m ns) ∙ none) (none_counted n ns)
   where

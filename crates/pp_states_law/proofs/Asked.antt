@@ -48,7 +48,7 @@ alone_same None (Some d) both = absurd both
 alone_same (Some e) None both = absurd both
 alone_same (Some e) (Some d) both = both.alone
 
-any_alone : (s t : State) (line : List ℕ) → AreAskedAs s t line → has_alone t line ≡ has_alone s line
+pub any_alone : (s t : State) (line : List ℕ) → AreAskedAs s t line → has_alone t line ≡ has_alone s line
 any_alone s t [] same = refl
 any_alone s t (n ∷ line) same = ap₂ (λ (a b : Bool). a || b) (alone_same (exchange s n) (exchange t n) same.0) (any_alone s t line same.1)
 

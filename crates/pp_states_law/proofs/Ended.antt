@@ -36,20 +36,20 @@ leaves number name owed l p s shows n = record {
 
 -- ---- it is over
 
-gone : (s : State) (n m : ℕ) → (n == m) ≡ false → exchange (end_exchange n s) m ≡ exchange s m
+pub gone : (s : State) (n m : ℕ) → (n == m) ≡ false → exchange (end_exchange n s) m ≡ exchange s m
 unfolding end_exchange
 gone s n m isnt = find_without n m isnt s.exchanges
 
-none_out : (n : ℕ) (line : List ℕ) → has_number n line ≡ false → filter (λ m. not (m == n)) line ≡ line
+pub none_out : (n : ℕ) (line : List ℕ) → has_number n line ≡ false → filter (λ m. not (m == n)) line ≡ line
 none_out n [] none = refl
 none_out n (m ∷ line) none =
     let these : ((m == n) ≡ false) × (has_number n line ≡ false) = no_or (m == n) (has_number n line) none in
     ap (λ (b : Bool). cond (not b) (m ∷ filter (λ i. not (i == n)) line) (filter (λ i. not (i == n)) line)) these.0 ∙ ap (λ (ns : List ℕ). m ∷ ns) (none_out n line these.1)
 
-as_before : (o u : Option Exchange) → u ≡ o → AreBoth IsAskedAs o u
+pub as_before : (o u : Option Exchange) → u ≡ o → AreBoth IsAskedAs o u
 as_before o u same = subst (λ (x : Option Exchange). AreBoth IsAskedAs o x) (sym same) (itself o)
 
-asked_on : (s : State) (n : ℕ) (line : List ℕ) → has_number n line ≡ false → AreAskedAs s (end_exchange n s) line
+pub asked_on : (s : State) (n : ℕ) (line : List ℕ) → has_number n line ≡ false → AreAskedAs s (end_exchange n s) line
 asked_on s n [] none = tt
 asked_on s n (m ∷ line) none =
     let these : ((m == n) ≡ false) × (has_number n line ≡ false) = no_or (m == n) (has_number n line) none in
@@ -79,7 +79,7 @@ conns_on s n [] (k ∷ ks) none shows = absurd shows
 conns_on s n (p ∷ ps) [] none shows = absurd shows
 conns_on s n (p ∷ ps) (k ∷ ks) none shows = (conn_on s n p k none.0 shows.0, conns_on s n ps ks none.1 shows.1)
 
-the_table : (number : ℕ → ℕ) (name : Bytes) (owed : List Bytes) (l : Leaving) (p : Parts) (s : State) (n : ℕ) → ShowsState number name owed l p s → ShowsCache number p.memory (end_exchange n s)
+pub the_table : (number : ℕ → ℕ) (name : Bytes) (owed : List Bytes) (l : Leaving) (p : Parts) (s : State) (n : ℕ) → ShowsState number name owed l p s → ShowsCache number p.memory (end_exchange n s)
 unfolding end_exchange
 the_table number name owed l p s n shows =
     frames_of number p.memory s shows.table p.memory (end_exchange n s) (record { instances = refl; lives = refl; chunks = refl; extents = refl })

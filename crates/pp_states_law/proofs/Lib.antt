@@ -7,5 +7,6 @@ pub mod Decided
 pub mod Ended
 pub mod Lines
 pub mod PutOn
+pub mod Rested
 pub mod Taken
 pub mod Texts

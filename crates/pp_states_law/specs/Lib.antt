@@ -3,6 +3,7 @@ pub mod Asks
 pub mod Clients
 pub mod Conns
 pub mod Decisions
+pub mod Endings
 pub mod Exchanges
 pub mod Puts
 pub mod Rows

@@ -16,6 +16,7 @@ mod asks; // what connections depend on
 mod clients; // one client is changed
 mod conns; // one connection is changed
 mod deciding; // a request leaves its exchange, and asks another
+mod ending; // a response is whole
 mod exchanges; // one exchange is changed, or is over
 mod placing; // an exchange gets a place
 mod rows; // a row is cleared
@@ -25,6 +26,7 @@ pub use asks::frames_are_the_laws;
 pub use clients::changes_are_the_laws;
 pub use conns::{closings_are_the_laws, connections_are_the_laws};
 pub use deciding::decisions_are_the_laws;
+pub use ending::responses_end_as_the_laws;
 pub use exchanges::{ends_are_the_laws, leaves_are_the_laws};
 pub use placing::puts_are_the_laws;
 pub use rows::clears_are_the_laws;
