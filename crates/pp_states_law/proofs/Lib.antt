@@ -7,6 +7,7 @@ pub mod Decided
 pub mod Ended
 pub mod Lines
 pub mod PutOn
+pub mod ReadOn
 pub mod Rested
 pub mod Taken
 pub mod Texts

@@ -6,5 +6,6 @@ pub mod Decisions
 pub mod Endings
 pub mod Exchanges
 pub mod Puts
+pub mod Readings
 pub mod Rows
 pub mod States

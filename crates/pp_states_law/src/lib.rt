@@ -19,6 +19,7 @@ mod deciding; // a request leaves its exchange, and asks another
 mod ending; // a response is whole
 mod exchanges; // one exchange is changed, or is over
 mod placing; // an exchange gets a place
+mod reading; // what comes on a connection is read
 mod rows; // a row is cleared
 
 pub use asking::{bodies_are_the_laws, texts_are_the_laws};
@@ -29,4 +30,5 @@ pub use deciding::decisions_are_the_laws;
 pub use ending::responses_end_as_the_laws;
 pub use exchanges::{ends_are_the_laws, leaves_are_the_laws};
 pub use placing::puts_are_the_laws;
+pub use reading::readings_are_the_laws;
 pub use rows::clears_are_the_laws;
