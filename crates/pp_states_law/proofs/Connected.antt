@@ -58,7 +58,7 @@ changes s t n new to (p ∷ ps) (k ∷ ks) few same goes shows =
 -- ---- in a state
 
 -- what is read of a pipe is there as it was
-as_it_was : (s : State) (p q : Peer) (k j : Conn) → q.pipe ≡ p.pipe → j.line ≡ k.line → j.unread ≡ k.unread → j.answer ≡ k.answer → j.may_pipeline ≡ k.may_pipeline → ShowsPipe s p k → ShowsPipe s q j
+pub as_it_was : (s : State) (p q : Peer) (k j : Conn) → q.pipe ≡ p.pipe → j.line ≡ k.line → j.unread ≡ k.unread → j.answer ≡ k.answer → j.may_pipeline ≡ k.may_pipeline → ShowsPipe s p k → ShowsPipe s q j
 as_it_was s p q k j pipe line unread answer may shows = record {
   line = subst (λ (x : Line). ShowsLine s j.line x.asks) (sym pipe) (subst (λ (ns : List ℕ). ShowsLine s ns p.pipe.asks) (sym line) shows.line);
   stray = ap (λ (x : Line). x.stray) pipe ∙ shows.stray;

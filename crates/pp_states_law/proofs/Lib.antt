@@ -1,10 +1,13 @@
 pub mod Alone
 pub mod Asked
+pub mod Begun
 pub mod Changed
 pub mod Cleared
 pub mod Connected
 pub mod Decided
+pub mod Dialled
 pub mod Ended
+pub mod Framed
 pub mod Lines
 pub mod PutOn
 pub mod ReadOn

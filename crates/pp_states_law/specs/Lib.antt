@@ -3,9 +3,12 @@ pub mod Asks
 pub mod Clients
 pub mod Conns
 pub mod Decisions
+pub mod Dials
 pub mod Endings
 pub mod Exchanges
+pub mod Frames
 pub mod Puts
 pub mod Readings
 pub mod Rows
 pub mod States
+pub mod Turns

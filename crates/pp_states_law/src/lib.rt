@@ -16,19 +16,23 @@ mod asks; // what connections depend on
 mod clients; // one client is changed
 mod conns; // one connection is changed
 mod deciding; // a request leaves its exchange, and asks another
+mod dialling; // a connection is dialled, and one is dropped
 mod ending; // a response is whole
 mod exchanges; // one exchange is changed, or is over
 mod placing; // an exchange gets a place
 mod reading; // what comes on a connection is read
 mod rows; // a row is cleared
+mod turning; // how a turn begins
 
 pub use asking::{bodies_are_the_laws, texts_are_the_laws};
 pub use asks::frames_are_the_laws;
 pub use clients::changes_are_the_laws;
 pub use conns::{closings_are_the_laws, connections_are_the_laws};
 pub use deciding::decisions_are_the_laws;
+pub use dialling::dials_are_the_laws;
 pub use ending::responses_end_as_the_laws;
 pub use exchanges::{ends_are_the_laws, leaves_are_the_laws};
 pub use placing::puts_are_the_laws;
 pub use reading::readings_are_the_laws;
 pub use rows::clears_are_the_laws;
+pub use turning::turns_begin_as_the_laws;
