@@ -1,9 +1,9 @@
 -- A client is accepted, and the clock ticks.
-use Rattle.std.proofs.Common.{◌≡◌, ◌+◌, refl, sym, subst, ap, ◌∙◌, ℕ, Bool, true, false, cond, map, List, [], ◌∷◌, ◌++◌, arith, Option, Some, None}
+use Rattle.std.proofs.Common.{◌≡◌, refl, ap, ◌∙◌, ℕ, Bool, true, false, map, List, [], ◌∷◌, ◌++◌, arith, Option, Some, None}
 use Rattle.std.specs.Prelude.{count_by, option_map}
 use Rattle.pp_cache_law.proofs.Finds.{find_mapped}
 use Rattle.pp_cache_law.proofs.Framing.{frames_of, the_same}
-use Rattle.pp_cache_law.proofs.PairLemmas.{count_first, count_joined, count_mapped_same}
+use Rattle.pp_cache_law.proofs.PairLemmas.{count_joined, count_mapped_same}
 use Rattle.pp_client.specs.Clients.{new_client as new_side}
 use Rattle.pp_client.specs.Replies.{Reply as Said}
 use Rattle.pp_flow_law.proofs.Framed.{frames as flow_frames}
@@ -29,7 +29,7 @@ use Rattle.pp_seats_law.specs.Seats.{ShowsOpen, ShowsSeat}
 use Rattle.pp_states_law.specs.Asks.{AllAreAskedAs, AreAskedAs}
 use Rattle.pp_states_law.specs.States.{Parts, ShowsState}
 use Rattle.pp_states_law.specs.Turns.{ClocksAreTheLaws, LeapsAreTheLaws, OpensAreTheLaws, all_marked, marked_peer, marked_seat}
-use Rattle.pp_states_law.proofs.Asked.{all_as, conn_again, frames, itself, line_as}
+use Rattle.pp_states_law.proofs.Asked.{all_as, conn_again, frames, itself}
 use Rattle.pp_states_law.proofs.Connected.{as_it_was}
 use Rattle.pp_states_law.proofs.Framed.{states}
 

@@ -1,5 +1,5 @@
 -- A connection is dialled, and one is dropped.
-use Rattle.std.proofs.Common.{◌≡◌, ◌≤◌, ◌+◌, refl, sym, subst, ap, ◌∙◌, ℕ, Bool, true, false, not, ◌==◌, cond, filter, find, List, [], ◌∷◌, ◌++◌, Some, None, Option, arith}
+use Rattle.std.proofs.Common.{◌≡◌, ◌≤◌, ◌+◌, refl, sym, ap, ◌∙◌, ℕ, Bool, true, false, not, ◌==◌, cond, filter, List, [], ◌∷◌, ◌++◌, arith}
 use Rattle.std.specs.Prelude.{count_by}
 use Rattle.pp_cache_law.proofs.Framing.{frames_of, the_same}
 use Rattle.pp_cache_law.proofs.PairLemmas.{count_first, joined_none}
@@ -7,9 +7,9 @@ use Rattle.pp_flow_law.proofs.Framed.{dials as flow_dials, drops as flow_drops, 
 use Rattle.pp_flow_law.specs.Frames.{still}
 use Rattle.pp_flow_law.specs.Tables.{Leaving, ShowsFlow, line_at}
 use Rattle.pp_law.specs.After.{new_conn, out}
-use Rattle.pp_law.specs.Connections.{conn, exchange, is_conn}
+use Rattle.pp_law.specs.Connections.{exchange, is_conn}
 use Rattle.pp_law.specs.Lists.{Bytes}
-use Rattle.pp_law.specs.State.{State, Client, Conn}
+use Rattle.pp_law.specs.State.{State, Conn}
 use Rattle.pp_peers.specs.Peers.{is_number, unused, without}
 use Rattle.pp_peers.specs.declared.peers.Peer.{Peer}
 use Rattle.pp_peers_law.specs.Peers.{ShowsConn, ShowConns}

@@ -6,7 +6,7 @@ use Rattle.pp_cache_law.specs.Pairs.{AreBoth}
 use Rattle.pp_flow_law.proofs.Framed.{frames as flow_frames}
 use Rattle.pp_flow_law.specs.Tables.{line_in}
 use Rattle.pp_law.specs.Connections.{exchange, is_conn, is_exchange}
-use Rattle.pp_law.specs.State.{State, Client, Conn, Exchange}
+use Rattle.pp_law.specs.State.{Client, Conn, Exchange}
 use Rattle.pp_law.specs.Table.{follows}
 use Rattle.pp_peers_law.specs.Peers.{ShowConns}
 use Rattle.pp_seats_law.specs.Clients.{AreShown}

@@ -9,15 +9,14 @@ use Rattle.pp_flow.specs.declared.entry.Entry.{Entry}
 use Rattle.pp_flow_law.proofs.Put.{puts as flow_puts}
 use Rattle.pp_flow_law.proofs.Standing.{waits_has}
 use Rattle.pp_flow_law.specs.Tables.{Leaving, ShowsFlow, line_in}
-use Rattle.pp_law.specs.Connections.{conn, exchange, is_conn, on_conn, on_exchange, put_on}
+use Rattle.pp_law.specs.Connections.{exchange, is_conn, on_conn, on_exchange, put_on}
 use Rattle.pp_law.specs.Lists.{Bytes, change, has_number}
 use Rattle.pp_law.specs.Responses.{asks_head}
 use Rattle.pp_law.specs.State.{State, Client, Conn, Exchange}
-use Rattle.pp_peers.specs.Peers.{is_number, with_peer}
 use Rattle.pp_peers.specs.declared.peers.Peer.{Peer}
 use Rattle.pp_peers_law.proofs.Finds.{find_elsewhere}
 use Rattle.pp_peers_law.proofs.LineEnds.{puts as line_puts}
-use Rattle.pp_peers_law.specs.Peers.{ShowsConn, ShowConns}
+use Rattle.pp_peers_law.specs.Peers.{ShowsConn}
 use Rattle.pp_pipe.specs.Line.{pushed}
 use Rattle.pp_seats_law.specs.Clients.{AreShown}
 use Rattle.pp_states_law.specs.Asks.{IsAskedAs}
@@ -25,7 +24,7 @@ use Rattle.pp_states_law.specs.Puts.{IsPut, PutsAreTheLaws}
 use Rattle.pp_states_law.specs.States.{Parts, ShowsState}
 use Rattle.pp_states_law.proofs.Alone.{AsksOn, on_pipe, same_some, two_numbers}
 use Rattle.pp_states_law.proofs.Asked.{itself}
-use Rattle.pp_states_law.proofs.Lines.{IsPlaced, all_found, in_line}
+use Rattle.pp_states_law.proofs.Lines.{IsPlaced, in_line}
 
 -- ---- who waits for a place stands in no line
 

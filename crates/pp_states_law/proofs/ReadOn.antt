@@ -1,5 +1,5 @@
 -- What comes on a connection goes on amid a head or a body.
-use Rattle.std.proofs.Common.{◌≡◌, refl, sym, subst, ap, ◌∙◌, ℕ, Bool, true, false, ◌==◌, cond, drop, find, List, [], ◌∷◌, ◌++◌, Some, None, Option, Result, Ok, Err}
+use Rattle.std.proofs.Common.{◌≡◌, refl, sym, subst, ap, ℕ, Bool, true, false, ◌==◌, cond, drop, find, List, [], ◌∷◌, ◌++◌, Some, Option, Result, Ok, Err}
 use Rattle.pp_framing.specs.Framing.{rule_of}
 use Rattle.pp_framing.specs.declared.body.BodyRule.{BodyRule}
 use Rattle.pp_framing.specs.declared.framing.ResponseFault.{ResponseFault}
@@ -15,10 +15,8 @@ use Rattle.pp_peers_law.proofs.Heads.{heads}
 use Rattle.pp_peers_law.specs.Comes.{IsFinalRead, IsHeadRead, IsRefused, IsRuledRead, IsTextRead, behind_interim}
 use Rattle.pp_peers_law.specs.Peers.{ShowsConn, ShowConns, ShowsPipe, ShowsReading}
 use Rattle.pp_pipe.specs.Reading.{Reading, Before, Within, Closed, Broken}
-use Rattle.pp_pipe.specs.declared.step.Step.{Step}
 use Rattle.pp_pipe.specs.declared.step.Step.TheVariants.{Idle}
-use Rattle.pp_states_law.specs.Readings.{AnswersBeginAsTheLaws, BodiesGoOnAsTheLaws, HeadsGoOnAsTheLaws, IsOpen, ReadingsAreTheLaws}
-use Rattle.pp_states_law.specs.States.{Parts, ShowsState}
+use Rattle.pp_states_law.specs.Readings.{AnswersBeginAsTheLaws, BodiesGoOnAsTheLaws, HeadsGoOnAsTheLaws, ReadingsAreTheLaws}
 use Rattle.pp_states_law.proofs.Alone.{same_some}
 use Rattle.pp_states_law.proofs.Asked.{conn_again, itself, line_as}
 use Rattle.pp_states_law.proofs.Connected.{kept_line}

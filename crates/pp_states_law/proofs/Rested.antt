@@ -1,16 +1,14 @@
 -- A response is whole: the exchange that stands first in its line is over.
-use Rattle.std.proofs.Common.{◌≡◌, ◌≤◌, ◌+◌, refl, sym, subst, ap, ap₂, ◌∙◌, ℕ, Bool, true, false, not, ◌==◌, ◌||◌, cond, find, filter, map, List, [], ◌∷◌, ◌++◌, Some, None, Option, arith}
+use Rattle.std.proofs.Common.{◌≡◌, ◌≤◌, ◌+◌, refl, sym, subst, ap, ap₂, ◌∙◌, ℕ, Bool, true, false, not, ◌==◌, ◌||◌, cond, filter, map, List, [], ◌∷◌, ◌++◌, Some, None, Option, arith}
 use Rattle.std.specs.Prelude.{codes, count_by, option_map, ⊤}
-use Rattle.pp_cache_law.proofs.Finds.{find_mapped, find_passes}
+use Rattle.pp_cache_law.proofs.Finds.{find_mapped}
 use Rattle.pp_cache_law.proofs.Framing.{frames_of, the_same}
 use Rattle.pp_cache_law.proofs.PairLemmas.{count_first, count_joined}
-use Rattle.pp_cache_law.specs.Pairs.{AreBoth}
 use Rattle.pp_cache.specs.Memory.{Memory}
 use Rattle.pp_cache_law.specs.Tables.{ShowsCache}
-use Rattle.pp_flow.specs.Changes.{Exchanges, line_of}
-use Rattle.pp_flow.specs.Entries.{is_number as is_entry}
+use Rattle.pp_flow.specs.Changes.{Exchanges}
 use Rattle.pp_flow_law.proofs.Ended.{ends as flow_ends}
-use Rattle.pp_flow_law.proofs.Entries.{same_number, other_way as other_number}
+use Rattle.pp_flow_law.proofs.Entries.{same_number}
 use Rattle.pp_flow_law.proofs.Framed.{closings as flow_closings, frames as flow_frames}
 use Rattle.pp_flow_law.specs.Frames.{emptied, still}
 use Rattle.pp_flow_law.proofs.Standing.{IsShown, entry_placed, few_placed, is_shown, none_waits}
@@ -21,12 +19,11 @@ use Rattle.pp_law.specs.Connections.{conn, end_exchange, exchange, is_conn, on_c
 use Rattle.pp_law.specs.Lists.{Bytes, change, has_number}
 use Rattle.pp_law.specs.Responses.{rested}
 use Rattle.pp_law.specs.State.{State, Client, Conn, Exchange}
-use Rattle.pp_peers.specs.Peers.{is_number, with_peer}
 use Rattle.pp_peers.specs.declared.peers.Peer.{Peer}
 use Rattle.pp_peers_law.proofs.Finds.{is_alone_in, no_or}
 use Rattle.pp_peers_law.proofs.LineEnds.{ends as line_ends}
 use Rattle.pp_peers_law.specs.Asked.{AreDistinct}
-use Rattle.pp_peers_law.specs.Lines.{IsAnswered, ShowsRest}
+use Rattle.pp_peers_law.specs.Lines.{ShowsRest}
 use Rattle.pp_peers_law.specs.Peers.{has_alone, rests_of, ShowsConn, ShowsLine, ShowsPipe, ShowsReading}
 use Rattle.pp_pipe.specs.Ends.{is_end_in_doubt}
 use Rattle.pp_pipe.specs.Front.{fate_of, goes_on, stays_open}
@@ -37,7 +34,6 @@ use Rattle.pp_pipe.specs.declared.fate.Fate.TheVariants.{Closes, Stays, Pipeline
 use Rattle.pp_text.specs.Fields.{has_item}
 use Rattle.pp_reply.specs.Keeping.{is_old}
 use Rattle.pp_seats_law.specs.Clients.{AreShown}
-use Rattle.pp_states_law.specs.Decisions.{AreApart}
 use Rattle.pp_states_law.specs.Endings.{ClosesBehindAreTheLaws, IsFirst, RestsAreTheLaws, without_first}
 use Rattle.pp_states_law.specs.States.{Parts, ShowsState}
 use Rattle.pp_states_law.proofs.Alone.{AsksOn, few_on, line_distinct, none_counted, on_one}

@@ -1,5 +1,5 @@
 -- Bytes of the body of a request are asked: its client sends them.
-use Rattle.std.proofs.Common.{◌≡◌, ◌≤◌, ◌-◌, refl, sym, subst, ap, ◌∙◌, ℕ, Bool, true, false, find, length, take, drop, List, [], ◌∷◌, ◌++◌, Some, Option, arith}
+use Rattle.std.proofs.Common.{◌≡◌, ◌≤◌, ◌-◌, refl, sym, subst, ap, ◌∙◌, ℕ, Bool, true, false, length, take, drop, List, [], ◌∷◌, ◌++◌, Some, arith}
 use Rattle.std.specs.Prelude.{slice_get, slice_set}
 use Rattle.pp_cache_law.proofs.Framing.{frames_of, the_same}
 use Rattle.pp_client.specs.Bodies.{IsIdle, IsKept, shortened, unread}
@@ -11,8 +11,8 @@ use Rattle.pp_flow.specs.Changes.{Exchanges, entry_of, with_errand}
 use Rattle.pp_flow.specs.declared.entry.Entry.{Entry}
 use Rattle.pp_flow_law.proofs.Errands.{bodies as flow_bodies}
 use Rattle.pp_flow_law.specs.Tables.{Leaving}
-use Rattle.pp_law.specs.Asking.{ask, ask_body, ask_next, asked_body, asked_text}
-use Rattle.pp_law.specs.Connections.{exchange, is_client, is_outstanding, on_client_of, on_exchange}
+use Rattle.pp_law.specs.Asking.{ask_body, ask_next, asked_body, asked_text}
+use Rattle.pp_law.specs.Connections.{is_outstanding, on_client_of, on_exchange}
 use Rattle.pp_law.specs.Lists.{Bytes}
 use Rattle.pp_law.specs.Requests.{Front, NoHeadYet, NoHead, IsRequest, front_of}
 use Rattle.pp_law.specs.State.{State, Client, Exchange}

@@ -1,5 +1,5 @@
 -- Bytes of the text of an exchange are asked.
-use Rattle.std.proofs.Common.{◌≡◌, ◌≤◌, ◌+◌, refl, sym, subst, ap, ◌∙◌, ℕ, Bool, true, false, ◌==◌, ◌||◌, find, length, List, [], ◌∷◌, Some, None, Option, option_and_then, arith}
+use Rattle.std.proofs.Common.{◌≡◌, ◌≤◌, ◌+◌, refl, sym, subst, ap, ◌∙◌, ℕ, Bool, true, false, ◌==◌, ◌||◌, length, List, [], ◌∷◌, Some, None, Option, option_and_then, arith}
 use Rattle.std.proofs.lemmas.Bool.Decides.{nat_tests}
 use Rattle.pp_cache_law.proofs.Framing.{frames_of, the_same}
 use Rattle.pp_cache_law.specs.Pairs.{AreBoth}
@@ -7,9 +7,9 @@ use Rattle.pp_cache_law.specs.Tables.{ShowsCache}
 use Rattle.pp_flow.specs.Changes.{with_errand}
 use Rattle.pp_flow.specs.declared.entry.Entry.{Entry}
 use Rattle.pp_flow_law.proofs.Errands.{texts as flow_texts}
-use Rattle.pp_flow_law.specs.Tables.{Leaving, ShowsFlow, line_in}
+use Rattle.pp_flow_law.specs.Tables.{Leaving, line_in}
 use Rattle.pp_law.specs.Asking.{ask, ask_body, ask_next, asked_text, asking, is_being_asked, left_in, left_to_ask}
-use Rattle.pp_law.specs.Connections.{conn, exchange, is_conn, is_exchange, is_outstanding, on_exchange}
+use Rattle.pp_law.specs.Connections.{conn, exchange, is_conn, is_outstanding, on_exchange}
 use Rattle.pp_law.specs.Lists.{Bytes, change, first_some, has_number}
 use Rattle.pp_law.specs.State.{State, Client, Conn, Exchange}
 use Rattle.pp_peers.specs.Peers.{with_pipe}

@@ -6,7 +6,7 @@ use Rattle.pp_law.specs.After.{new_conn, out}
 use Rattle.pp_law.specs.Connections.{conn, is_conn}
 use Rattle.pp_law.specs.Lists.{Bytes}
 use Rattle.pp_peers.specs.Peers.{unused, without}
-use Rattle.pp_states_law.specs.States.{OfStates, Parts, ShowsState}
+use Rattle.pp_states_law.specs.States.{OfStates, ShowsState}
 
 -- nothing was asked there yet
 abbrev pub DialsAreTheLaws : Type 0

@@ -6,7 +6,7 @@ use Rattle.pp_law.specs.Connections.{conn, front_of_line, on_conn}
 use Rattle.pp_law.specs.Lists.{Bytes}
 use Rattle.pp_law.specs.Responses.{answer_with, answered_by, is_early, with_unread}
 use Rattle.pp_law.specs.State.{State, Answer, Conn, Exchange}
-use Rattle.pp_peers.specs.Peers.{is_number, with_peer, with_pipe}
+use Rattle.pp_peers.specs.Peers.{is_number, with_peer}
 use Rattle.pp_peers.specs.declared.peers.Peer.{Peer}
 use Rattle.pp_peers_law.specs.Comes.{behind_interim}
 use Rattle.pp_peers_law.specs.Peers.{ShowsReading}
