@@ -1,7 +1,7 @@
 -- One connection is changed.
 use Rattle.std.proofs.Common.{◌≡◌, ◌≤◌, ◌+◌, refl, sym, subst, ap, ◌∙◌, ℕ, Bool, true, false, ◌==◌, cond, find, List, [], ◌∷◌, ◌++◌, Some, None, Option, arith}
 use Rattle.std.specs.Prelude.{count_by, option_map}
-use Rattle.pp_cache_law.proofs.Finds.{find_mapped, find_passes}
+use Rattle.pp_cache_law.proofs.Finds.{find_mapped}
 use Rattle.pp_cache_law.proofs.Framing.{frames_of, the_same}
 use Rattle.pp_cache_law.proofs.PairLemmas.{count_first}
 use Rattle.pp_cache_law.specs.Tables.{ShowsCache}
@@ -10,7 +10,7 @@ use Rattle.pp_flow_law.specs.Frames.{emptied, still}
 use Rattle.pp_flow_law.specs.Tables.{Leaving, ShowsFlow, line_at, line_in}
 use Rattle.pp_law.specs.Connections.{conn, exchange, is_conn, on_conn}
 use Rattle.pp_law.specs.Lists.{Bytes, change}
-use Rattle.pp_law.specs.State.{State, Answer, Client, Conn, Exchange}
+use Rattle.pp_law.specs.State.{State, Answer, Client, Conn}
 use Rattle.pp_law.specs.Turn.{marked_conn}
 use Rattle.pp_peers.specs.Peers.{is_number, with_peer}
 use Rattle.pp_peers.specs.declared.peers.Peer.{Peer}

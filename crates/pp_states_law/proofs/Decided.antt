@@ -1,18 +1,17 @@
 -- What a decision does to exchanges.
-use Rattle.std.proofs.Common.{◌≡◌, ◌≤◌, refl, sym, subst, ap, ◌∙◌, ℕ, Bool, true, false, not, ◌||◌, ◌==◌, cond, find, filter, List, [], ◌∷◌, ◌++◌, Some, None, Option}
-use Rattle.std.specs.Prelude.{is_some, ⊤}
+use Rattle.std.proofs.Common.{◌≡◌, refl, sym, subst, ap, ◌∙◌, ℕ, Bool, true, false, not, ◌||◌, ◌==◌, cond, find, List, [], ◌∷◌, Some, None, Option}
+use Rattle.std.specs.Prelude.{is_some}
 use Rattle.pp_cache_law.proofs.Finds.{find_joined, first_of_two}
 use Rattle.pp_cache_law.proofs.Framing.{frames_of, the_same}
 use Rattle.pp_cache_law.specs.Pairs.{AreBoth}
 use Rattle.pp_cache_law.specs.Tables.{ShowsCache}
 use Rattle.pp_flow.specs.Entries.{begun_with}
 use Rattle.pp_flow_law.proofs.Begun.{begins as flow_begins}
-use Rattle.pp_flow_law.proofs.Left.{asks_begin as flow_asks, decisions as flow_leaves}
-use Rattle.pp_flow_law.proofs.Standing.{few_given}
+use Rattle.pp_flow_law.proofs.Left.{decisions as flow_leaves}
 use Rattle.pp_flow_law.specs.Changes.{begun_by, left_by}
-use Rattle.pp_flow_law.specs.Tables.{Leaving, ShowsFlow, line_at, line_in}
+use Rattle.pp_flow_law.specs.Tables.{Leaving, ShowsFlow, line_in}
 use Rattle.pp_law.specs.Closing.{forsake, is_of, is_over, leave, left_alone}
-use Rattle.pp_law.specs.Connections.{conn, exchange, is_exchange}
+use Rattle.pp_law.specs.Connections.{exchange, is_exchange}
 use Rattle.pp_law.specs.Deciding.{add_exchange, begin_exchange}
 use Rattle.pp_law.specs.Lists.{Bytes, change, has_number, without}
 use Rattle.pp_law.specs.State.{State, Client, Conn, Exchange}
@@ -24,10 +23,10 @@ use Rattle.pp_seats_law.specs.Exchanges.{ShowsExchange}
 use Rattle.pp_law.specs.Lists.{is_some_with}
 use Rattle.pp_seats_law.specs.Clients.{AreShown}
 use Rattle.pp_peers.specs.declared.peers.Peer.{Peer}
-use Rattle.pp_peers_law.specs.Peers.{ShowsConn, ShowConns, ShowsLine, ShowsPipe}
+use Rattle.pp_peers_law.specs.Peers.{ShowConns, ShowsLine}
 use Rattle.pp_pipe.specs.declared.asks.Ask.{Ask}
 use Rattle.pp_states_law.specs.Asks.{AllAreAskedAs, AreAskedAs, IsAskedAs}
-use Rattle.pp_states_law.specs.Decisions.{AreApart, AsksAreTheLaws, AsksOnce, BeginsAreTheLaws, LeavesAreTheLaws}
+use Rattle.pp_states_law.specs.Decisions.{AsksAreTheLaws, BeginsAreTheLaws, LeavesAreTheLaws}
 use Rattle.pp_states_law.specs.States.{Parts, ShowsState}
 use Rattle.pp_states_law.proofs.Asked.{conn_again, frames, itself}
 use Rattle.pp_states_law.proofs.Lines.{AllFound, IsPlaced, all_found, in_line, same_itself}

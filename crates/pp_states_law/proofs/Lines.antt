@@ -1,20 +1,19 @@
 -- Each exchange of a line has that place.
-use Rattle.std.proofs.Common.{◌≡◌, ◌≤◌, ◌+◌, refl, sym, subst, ap, ◌∙◌, ℕ, Bool, true, false, ◌==◌, ◌||◌, cond, find, map, List, [], ◌∷◌, ◌++◌, Some, None, Option, arith}
+use Rattle.std.proofs.Common.{◌≡◌, ◌≤◌, ◌+◌, refl, sym, ap, ◌∙◌, ℕ, Bool, true, false, ◌==◌, ◌||◌, cond, find, List, [], ◌∷◌, ◌++◌, Some, None, Option, arith}
 use Rattle.std.specs.Prelude.{count_by, ⊤}
 use Rattle.std.proofs.lemmas.Bool.Decides.{nat_tests}
 use Rattle.std.proofs.lemmas.List.{append_assoc}
-use Rattle.pp_cache_law.proofs.Finds.{find_joined, find_passes, first_of_two, found_counted}
+use Rattle.pp_cache_law.proofs.Finds.{find_joined, first_of_two, found_counted}
 use Rattle.pp_cache_law.proofs.PairLemmas.{count_first, count_joined}
 use Rattle.pp_flow.specs.Changes.{Exchanges, is_on, is_place, line_of}
 use Rattle.pp_flow.specs.Entries.{is_number}
 use Rattle.pp_flow.specs.declared.entry.Entry.{Entry}
 use Rattle.pp_flow_law.proofs.Entries.{line_first, none_left, same_number}
 use Rattle.pp_flow_law.proofs.Standing.{IsShown, entry_placed, few_placed, is_shown, none_waits}
-use Rattle.pp_flow_law.specs.Tables.{Leaving, ShowsFlow, line_at, line_in}
+use Rattle.pp_flow_law.specs.Tables.{Leaving, ShowsFlow, line_at}
 use Rattle.pp_law.specs.Connections.{conn, exchange, is_conn}
 use Rattle.pp_law.specs.Lists.{has_number}
 use Rattle.pp_law.specs.State.{State, Conn, Exchange}
-use Rattle.pp_seats_law.specs.Exchanges.{ShowsExchange}
 use Rattle.pp_states_law.specs.Decisions.{AreApart}
 
 -- ---- of the program

@@ -9,7 +9,7 @@ use Rattle.pp_peers.specs.Peers.{is_number, with_peer}
 use Rattle.pp_peers.specs.declared.peers.Peer.{Peer}
 use Rattle.pp_peers_law.specs.Peers.{ShowsConn, ShowConns}
 use Rattle.pp_states_law.specs.Asks.{AllAreAskedAs}
-use Rattle.pp_states_law.specs.States.{OfStates, Parts, ShowsState}
+use Rattle.pp_states_law.specs.States.{OfStates, ShowsState}
 
 -- the connection with that number stands for what is made of that of the law
 abbrev pub GoesOnAs : State → State → ℕ → List Peer → List Conn → Peer → (Conn → Conn) → Type 0

@@ -11,7 +11,7 @@ use Rattle.pp_law.specs.Deciding.{add_exchange, begin_exchange}
 use Rattle.pp_law.specs.Lists.{Bytes}
 use Rattle.pp_law.specs.State.{State, Exchange}
 use Rattle.pp_seats_law.specs.Exchanges.{ShowsExchange}
-use Rattle.pp_states_law.specs.States.{OfStates, Parts, ShowsState}
+use Rattle.pp_states_law.specs.States.{OfStates, ShowsState}
 
 -- no two connections have one number
 abbrev pub AreApart : State → Type 0
