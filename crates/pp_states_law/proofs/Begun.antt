@@ -1,7 +1,7 @@
 -- A client is accepted, and the clock ticks.
-use Rattle.std.proofs.Common.{◌≡◌, refl, ap, ◌∙◌, ℕ, Bool, true, false, map, List, [], ◌∷◌, ◌++◌, arith, Option, Some, None}
-use Rattle.std.specs.Prelude.{count_by, option_map}
-use Rattle.pp_cache_law.proofs.Finds.{find_mapped}
+use Rattle.std.proofs.Common.{◌≡◌, sym, subst, refl, ap, ◌∙◌, ℕ, Bool, true, false, map, List, [], ◌∷◌, ◌++◌, arith, Option, Some, None}
+use Rattle.std.specs.Prelude.{count_by, option_map, slice_get, slice_set}
+use Rattle.pp_cache_law.proofs.Finds.{find_mapped, none_changed}
 use Rattle.pp_cache_law.proofs.Framing.{frames_of, the_same}
 use Rattle.pp_cache_law.proofs.PairLemmas.{count_joined, count_mapped_same}
 use Rattle.pp_client.specs.Clients.{new_client as new_side}
@@ -9,11 +9,12 @@ use Rattle.pp_client.specs.Replies.{Reply as Said}
 use Rattle.pp_flow_law.proofs.Framed.{frames as flow_frames}
 use Rattle.pp_flow_law.specs.Tables.{Leaving, line_at, line_in}
 use Rattle.pp_law.specs.After.{new_client, opened}
-use Rattle.pp_law.specs.Connections.{conn, exchange, is_conn}
+use Rattle.pp_law.specs.Connections.{client, conn, exchange, is_client, is_conn, on_client, on_conn}
 use Rattle.pp_law.specs.Lists.{Bytes}
 use Rattle.pp_law.specs.State.{State, Client, Conn}
 use Rattle.pp_law.specs.Table.{follows}
-use Rattle.pp_law.specs.Turn.{is_leap, marked_client, marked_conn, marks_anew}
+use Rattle.pp_law.specs.Turn.{is_leap, marked_client, marked_conn, marks_anew, touch}
+use Rattle.pp_peers.specs.Peers.{with_peer}
 use Rattle.pp_peers.specs.declared.peers.Peer.{Peer}
 use Rattle.pp_peers_law.specs.Peers.{ShowsConn, ShowConns}
 use Rattle.pp_seats.specs.Seats.{new_seat}
@@ -28,9 +29,11 @@ use Rattle.pp_seats_law.specs.Replies.{ShowsFate}
 use Rattle.pp_seats_law.specs.Seats.{ShowsOpen, ShowsSeat}
 use Rattle.pp_states_law.specs.Asks.{AllAreAskedAs, AreAskedAs}
 use Rattle.pp_states_law.specs.States.{Parts, ShowsState}
-use Rattle.pp_states_law.specs.Turns.{ClocksAreTheLaws, LeapsAreTheLaws, OpensAreTheLaws, all_marked, marked_peer, marked_seat}
+use Rattle.pp_states_law.specs.Turns.{ClocksAreTheLaws, LeapsAreTheLaws, OpensAreTheLaws, OriginTouchesAreTheLaws, TouchesAreTheLaws, all_marked, marked_peer, marked_seat}
 use Rattle.pp_states_law.proofs.Asked.{all_as, conn_again, frames, itself}
-use Rattle.pp_states_law.proofs.Connected.{as_it_was}
+use Rattle.pp_states_law.proofs.Alone.{same_some}
+use Rattle.pp_states_law.proofs.Changed.{changes}
+use Rattle.pp_states_law.proofs.Connected.{as_it_was, marks}
 use Rattle.pp_states_law.proofs.Framed.{states}
 
 -- ---- a client is accepted
@@ -176,3 +179,26 @@ pub clocks : ClocksAreTheLaws
 clocks number name owed l p s shows now =
     states number name owed l p s shows (record s { clock = now; is_ticked = true; has_lost_draft = false })
     (record { clients = refl; conns = refl; exchanges = refl; next_exchange = refl; instances = refl; next_instance = refl; chunks = refl; kept = λ x. refl })
+
+-- ---- an event comes
+
+no_conn : (s : State) (n : ℕ) (f : Conn → Conn) (g : Client → Client) → conn s n ≡ None → on_client n g s ≡ on_conn n f (on_client n g s)
+unfolding on_conn on_client
+no_conn s n f g none = ap (λ (ks : List Conn). record (on_client n g s) { conns = ks }) (sym (none_changed (is_conn n) f s.conns none))
+
+no_client : (s : State) (n : ℕ) (f : Conn → Conn) (g : Client → Client) → client s n ≡ None → on_conn n f s ≡ on_conn n f (on_client n g s)
+unfolding on_conn on_client
+no_client s n f g none = ap (λ (cs : List Client). on_conn n f (record s { clients = cs })) (sym (none_changed (is_client n) g s.clients none))
+
+pub touches : TouchesAreTheLaws
+unfolding touch
+touches number name owed l p s shows n i seat at here none =
+    subst (λ (t : State). ShowsState number name owed l (record p { seats = slice_set p.seats i (marked_seat s.clock seat) }) t) (no_conn s n (marked_conn s.clock) (marked_client s.clock) none)
+    (changes number name owed l p s shows n i (marked_seat s.clock seat) (marked_client s.clock) at (λ id c. refl)
+    (λ old c found there shown. seat_marked number name owed seat c s.clock (subst (λ (o : Seat). ShowsSeat number name owed o c) (same_some seat old (slice_get p.seats i) here found) shown)))
+
+pub origin_touches : OriginTouchesAreTheLaws
+unfolding touch
+origin_touches number name owed l p s shows n peer few found none =
+    subst (λ (t : State). ShowsState number name owed l (record p { peers = with_peer n (marked_peer s.clock peer) p.peers }) t) (no_client s n (marked_conn s.clock) (marked_client s.clock) none)
+    (marks number name owed l p s shows n s.clock peer few found)

@@ -35,4 +35,4 @@ pub use exchanges::{ends_are_the_laws, leaves_are_the_laws};
 pub use placing::puts_are_the_laws;
 pub use reading::readings_are_the_laws;
 pub use rows::clears_are_the_laws;
-pub use turning::turns_begin_as_the_laws;
+pub use turning::{touches_are_the_laws, turns_begin_as_the_laws};
