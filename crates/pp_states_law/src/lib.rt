@@ -3,7 +3,8 @@
 //! `specs/States.antt` is the relation: the seats show the clients, the exchanges those of the law, the cache the table, and the
 //! connections those of the law, by one map of lives to the law's numbers. The laws of each part stand in a crate of its own; here a
 //! change of one part is a change of the whole: a client is changed, an exchange, or the row of a key, and the other parts are shown
-//! as before.
+//! as before. What goes over a connection changes several at once: an exchange gets a place, its text and its request's body are
+//! asked, and its response comes and is whole.
 //!
 //! To the layer above: each equation is the clause of a function that does nothing. It is one part of the proof that the program
 //! obeys the law: of the steps of a turn, which join such changes, nothing is said here.
