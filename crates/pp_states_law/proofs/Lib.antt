@@ -8,9 +8,11 @@ pub mod Decided
 pub mod Dialled
 pub mod Ended
 pub mod Framed
+pub mod GotOn
 pub mod Lines
 pub mod PutOn
 pub mod ReadOn
 pub mod Rested
 pub mod Taken
 pub mod Texts
+pub mod Waited

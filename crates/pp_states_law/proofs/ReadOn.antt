@@ -77,14 +77,14 @@ readings number name owed l p s shows peer k left stays unread answer apart is r
 
 -- ---- amid a head
 
-no_refusal : (bytes : Bytes) (used : ℕ) (left : Reading) → IsRefused bytes used Idle left → ⊥
+pub no_refusal : (bytes : Bytes) (used : ℕ) (left : Reading) → IsRefused bytes used Idle left → ⊥
 no_refusal bytes used left told = let e = told.tells in absurd (cc e)
 
 no_rule : (e : Exchange) (head : Response) (rest bytes : Bytes) (rule : Result BodyRule ResponseFault) (used : ℕ) (left : Reading) → IsRuledRead e head rest bytes rule used Idle left → ⊥
 no_rule e head rest bytes (Ok rule) used left read = let t = read.tells in absurd (cc t)
 no_rule e head rest bytes (Err fault) used left read = no_refusal bytes used left read
 
-no_final : (e : Exchange) (head : Response) (rest bytes : Bytes) (b : Bool) (used : ℕ) (left : Reading) → IsFinalRead e head rest bytes b used Idle left → ⊥
+pub no_final : (e : Exchange) (head : Response) (rest bytes : Bytes) (b : Bool) (used : ℕ) (left : Reading) → IsFinalRead e head rest bytes b used Idle left → ⊥
 no_final e head rest bytes true used left read = no_refusal bytes used left read.1
 no_final e head rest bytes false used left read = no_rule e head rest bytes (rule_of (asks_head e) head.status head.fields) used left read
 

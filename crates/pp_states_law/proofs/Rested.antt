@@ -132,7 +132,7 @@ changed_once k n f (j ∷ ks) none = by (is_conn k j) none.0 (changed_once k n f
     by true off rest = ap (λ (js : List Conn). f (without_ask n j) ∷ js) rest
     by false off rest = ap₂ (λ (line : List ℕ) (js : List Conn). record j { line = line } ∷ js) (none_out n j.line (off refl)) rest
 
-changed_twice : (k : ℕ) (f g : Conn → Conn) → ((j : Conn) → (f j).number ≡ j.number) → (ks : List Conn) → change (is_conn k) g (change (is_conn k) f ks) ≡ change (is_conn k) (λ j. g (f j)) ks
+pub changed_twice : (k : ℕ) (f g : Conn → Conn) → ((j : Conn) → (f j).number ≡ j.number) → (ks : List Conn) → change (is_conn k) g (change (is_conn k) f ks) ≡ change (is_conn k) (λ j. g (f j)) ks
 changed_twice k f g keeps [] = refl
 changed_twice k f g keeps (j ∷ ks) = by (is_conn k j) refl (changed_twice k f g keeps ks)
   where

@@ -7,8 +7,10 @@ pub mod Dials
 pub mod Endings
 pub mod Exchanges
 pub mod Frames
+pub mod Gots
 pub mod Puts
 pub mod Readings
 pub mod Rows
 pub mod States
 pub mod Turns
+pub mod Waiting

@@ -24,6 +24,7 @@ mod placing; // an exchange gets a place
 mod reading; // what comes on a connection is read
 mod rows; // a row is cleared
 mod turning; // how a turn begins
+mod waiting; // who is waited for
 
 pub use asking::{bodies_are_the_laws, texts_are_the_laws};
 pub use asks::frames_are_the_laws;
@@ -34,6 +35,7 @@ pub use dialling::dials_are_the_laws;
 pub use ending::responses_end_as_the_laws;
 pub use exchanges::{ends_are_the_laws, leaves_are_the_laws};
 pub use placing::puts_are_the_laws;
-pub use reading::readings_are_the_laws;
+pub use reading::{gots_are_the_laws, readings_are_the_laws};
 pub use rows::clears_are_the_laws;
 pub use turning::{touches_are_the_laws, turns_begin_as_the_laws};
+pub use waiting::waits_are_the_laws;

@@ -1,4 +1,5 @@
 // What comes on a connection is read.
+ghost use Rattle.pp_states_law.specs.Gots.{GotsAreTheLaws, GotsAreUnread};
 ghost use Rattle.pp_states_law.specs.Readings.{AnswersBeginAsTheLaws, BodiesGoOnAsTheLaws, HeadsGoOnAsTheLaws, ReadingsAreTheLaws};
 
 /// Its pipe reads what the law has of it: amid a head, behind it, and amid a body.
@@ -7,4 +8,10 @@ pub fn readings_are_the_laws()
     ensures heads { HeadsGoOnAsTheLaws }
     ensures answers { AnswersBeginAsTheLaws }
     ensures bodies { BodiesGoOnAsTheLaws }
+{}
+
+/// A read that is amid a head, as the law gets it at once.
+pub fn gots_are_the_laws()
+    ensures unread { GotsAreUnread }
+    ensures gots { GotsAreTheLaws }
 {}
