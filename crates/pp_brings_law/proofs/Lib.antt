@@ -1,0 +1,6 @@
+mod All
+mod Brought
+mod Holes
+mod Needed
+mod Shared
+mod Unseen

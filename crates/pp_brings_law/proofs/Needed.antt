@@ -1,0 +1,123 @@
+-- What a follower asks for.
+use Rattle.std.proofs.Common.{◌≡◌, ◌<◌, ◌≤◌, ◌*◌, ◌/◌, ◌%◌, ◌⊎◌, inl, inr, refl, sym, subst, ap, ap₂, ◌∙◌, ℕ, Bool, true, false, not, ◌||◌, cond, if◌then◌else◌, min, List, length, Option, Some, None, arith}
+use Rattle.std.specs.Prelude.{nat_le, nat_lt}
+use Rattle.std.proofs.lemmas.Bool.{cases_lt}
+use Rattle.std.proofs.lemmas.Bool.Decides.{nat_tests}
+use Rattle.pp_cache.specs.Holes.{hole_in, hole_of}
+use Rattle.pp_cache.specs.Memory.{Memory, extent_of as bytes_kept, stands}
+use Rattle.pp_cache_law.proofs.Alike.{bytes_of, extents_of, held_of, instances_of, retired_of}
+use Rattle.pp_cache_law.proofs.Gaps.{holes_of}
+use Rattle.pp_cache_law.proofs.Numbers.{some_is, true_false}
+use Rattle.pp_cache_law.proofs.Reaches.{Fronts, below_extent}
+use Rattle.pp_cache_law.specs.Joins.{EndsWhole}
+use Rattle.pp_cache_law.specs.Reads.{IsFound}
+use Rattle.pp_flow.specs.Changes.{Exchanges}
+use Rattle.pp_flow_law.specs.Tables.{Leaving}
+use Rattle.pp_holes.specs.Places.{bytes_at}
+use Rattle.pp_law.specs.Chunks.{filled}
+use Rattle.pp_law.specs.Followers.{hole_of as hole_by, need_of as need_by}
+use Rattle.pp_law.specs.Lists.{Bytes}
+use Rattle.pp_law.specs.State.{State, Instance as Known}
+use Rattle.pp_law.specs.Table.{Next, extent_of, held_to, is_brought as is_being_brought, is_held}
+use Rattle.pp_objects.specs.Instances.{Instance, is_there, total_at, total_of}
+use Rattle.pp_plan.specs.Need.{need}
+use Rattle.pp_seats.specs.declared.seat.Next.{Next as SeatNext}
+use Rattle.pp_seats_law.proofs.Nexts.{found_number}
+use Rattle.pp_steps.specs.Bringing.{is_brought, is_held as is_held_in, is_provided, need_of}
+use Rattle.pp_brings_law.proofs.Brought.{brought_of}
+use Rattle.pp_brings_law.proofs.Holes.{held_past, is_gap, is_hole}
+use Rattle.pp_brings_law.specs.Both.{IsNext, ShowsBoth}
+use Rattle.pp_brings_law.specs.Needs.{IsWithin, NeedsAreTheLaws}
+
+isnt_le : (a b : ℕ) → a < b → nat_le b a ≡ false
+isnt_le a b less = grind (arith, nat_tests)
+
+-- by whether it was retired, is there, and comes
+needs_by : (gone over held comes : Bool) (one other : Option (ℕ × ℕ)) → over ≡ false → (gone ≡ false → comes ≡ false → held ≡ false → one ≡ other) → (held ≡ true → other ≡ None)
+    → cond (gone || over || (held || comes)) None one ≡ (elim (gone || comes) as (λ b. Option (ℕ × ℕ)) [ true ↦ None | false ↦ other ])
+needs_by true over held comes one other isnt same none = refl
+needs_by false true held comes one other isnt same none = absurd (true_false isnt)
+needs_by false false true true one other isnt same none = refl
+needs_by false false true false one other isnt same none = sym (none refl)
+needs_by false false false true one other isnt same none = refl
+needs_by false false false false one other isnt same none = same refl refl refl
+
+-- where the next byte is before the hole, nothing is needed
+none_needed : (at to : ℕ) (hole : ℕ × ℕ) → nat_lt at hole.0 ≡ true → need at to hole ≡ None
+none_needed at to hole past = ap (λ (b : Bool). if b then None else Some (hole.0, min hole.1 to)) past
+
+module _ (number : ℕ → ℕ) (l : Leaving) (m : Memory) (f : Exchanges) (s : State) (both : ShowsBoth number l m f s) (x : SeatNext) (n : Next) (next : IsNext number m s x n) (within : IsWithin m s x n) where
+  found : IsFound number m s x.source
+  found = instances_of number m s both.table x.source next.there
+
+  same_known : found.known ≡ n.source
+  same_known = some_is found.known n.source (sym found.there ∙ next.known)
+
+  total : total_at x.source.slot m.instances ≡ n.source.version.length
+  total = ap (λ (o : Option Instance). total_of o) found.here ∙ ap (λ v. v.length) found.shows.version ∙ ap (λ (y : Known). y.version.length) same_known
+
+  its_number : number x.source.life ≡ n.source.id
+  its_number = sym (found_number s (number x.source.life) n.source next.known)
+
+  short : n.at < n.source.version.length
+  short = omega (arith, within.some, within.body)
+
+  extent : bytes_kept x.source m ≡ extent_of s n.source
+  extent = extents_of number m s both.table x.source n.source next.there next.known
+
+  few : Fronts n.source.id s.chunks
+  few index =
+      subst (λ (k : ℕ). k ≤ 4096)
+      (ap (λ (bs : Bytes). length bs) (bytes_of number m s both.table x.source index next.there) ∙ ap (λ (k : ℕ). filled k index s.chunks) its_number) (within.fronts index)
+
+  -- ---- one that is not held
+
+  -- the hole of its chunk
+  the_hole : hole_of x.source (n.at / 4096 * 4096) m ≡ hole_in x.source.slot n.source.version.length (n.at / 4096 * 4096) m.chunks
+  the_hole =
+      ap (λ (b : Bool). cond b (hole_in x.source.slot (total_at x.source.slot m.instances) (n.at / 4096 * 4096) m.chunks) (n.at / 4096 * 4096, n.at / 4096 * 4096)) next.there
+      ∙ ap (λ (k : ℕ). hole_in x.source.slot k (n.at / 4096 * 4096) m.chunks) total
+
+  above : is_held s n.source n.at ≡ false → bytes_kept x.source m ≤ n.at / 4096 * 4096
+  above isnt = by within.whole (cases_lt n.at (extent_of s n.source))
+    where
+      by : EndsWhole (extent_of s n.source) n.source.version.length → (n.at < extent_of s n.source) ⊎ (extent_of s n.source ≤ n.at) → bytes_kept x.source m ≤ n.at / 4096 * 4096
+      by whole (inl below) = absurd (true_false (sym (below_extent n.source.id (extent_of s n.source) s.chunks n.at below) ∙ isnt))
+      by (inl chunk) (inr more) = omega (arith, chunk, more, extent)
+      by (inr end) (inr more) = absurd (omega (arith, end, more, short))
+
+  front : n.at / 4096 * 4096 ≤ n.source.version.length
+  front = omega (arith, short)
+
+  hole_same : is_held s n.source n.at ≡ false → hole_by s n ≡ hole_of x.source (n.at / 4096 * 4096) m
+  hole_same isnt =
+      holes_of number m s both.table x.source n.source next.there next.known n (hole_in x.source.slot n.source.version.length (n.at / 4096 * 4096) m.chunks) refl short isnt (above isnt) within.fronts
+      (is_hole x.source.slot n.source.version.length (n.at / 4096 * 4096) m.chunks front) (is_gap x.source.slot n.source.version.length (n.at / 4096 * 4096) m.chunks front within.ends)
+      ∙ sym the_hole
+
+  -- ---- one that is
+
+  past : is_held s n.source n.at ≡ true → nat_lt n.at (held_to s n.source (n.at / 4096 * 4096)) ≡ true
+  past held = held_past n.source.id (extent_of s n.source) n.source.version.length n.at s.chunks few short held
+
+  -- ---- both
+
+  abbrev asked_at : ℕ → ℕ → Option (ℕ × ℕ)
+  asked_at at to = cond (not (stands x.source m.instances) || nat_le to at || (is_held_in x.source at m || is_brought x.source at m f)) None (need at to (hole_of x.source (at / 4096 * 4096) m))
+
+  gone_same : (gone : Bool) (held comes : Bool) → not (stands x.source m.instances) ≡ gone → is_held_in x.source n.at m ≡ held → is_brought x.source n.at m f ≡ comes → asked_at n.at n.to ≡ cond (gone || nat_le n.to n.at || (held || comes)) None (need n.at n.to (hole_of x.source (n.at / 4096 * 4096) m))
+  gone_same gone held comes a b c =
+      ap₂ (λ (u v : Bool). cond (u || nat_le n.to n.at || (v || is_brought x.source n.at m f)) None (need n.at n.to (hole_of x.source (n.at / 4096 * 4096) m))) a b
+      ∙ ap (λ (w : Bool). cond (gone || nat_le n.to n.at || (held || w)) None (need n.at n.to (hole_of x.source (n.at / 4096 * 4096) m))) c
+
+  needs_same : need_of x m f ≡ need_by s n
+  needs_same =
+      ap₂ asked_at next.at next.to
+      ∙ gone_same n.source.is_retired (is_held s n.source n.at) (is_being_brought s n.source n.at) (retired_of number m s both.table x.source n.source next.there next.known)
+      (held_of number m s both.table x.source n.source next.there next.known n.at)
+      (ap (λ (at : ℕ). is_brought x.source at m f) (sym next.at) ∙ brought_of number l m f s both x n next)
+      ∙ needs_by n.source.is_retired (nat_le n.to n.at) (is_held s n.source n.at) (is_being_brought s n.source n.at) (need n.at n.to (hole_of x.source (n.at / 4096 * 4096) m)) (need n.at n.to (hole_by s n))
+      (isnt_le n.at n.to within.some) (λ stays lacks isnt. ap (need n.at n.to) (sym (hole_same isnt))) (λ held. none_needed n.at n.to (hole_by s n) (past held))
+
+pub needs : NeedsAreTheLaws
+needs number l m f s both x n next within = needs_same number l m f s both x n next within

@@ -1,0 +1,5 @@
+pub mod Both
+pub mod Brings
+pub mod Needs
+pub mod Sharing
+pub mod Unseen
