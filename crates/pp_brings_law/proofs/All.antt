@@ -1,9 +1,7 @@
 -- What holds of any of the exchanges holds of any of the law's, where it holds of each as of the law's.
-use Rattle.std.proofs.Common.{◌≡◌, ◌≤◌, refl, sym, subst, ap, ◌∙◌, ℕ, Bool, true, false, ◌||◌, ◌==◌, cond, find, List, [], ◌∷◌, ◌++◌, Option, Some, None}
-use Rattle.std.specs.Prelude.{count_by}
+use Rattle.std.proofs.Common.{◌≡◌, refl, sym, subst, ap, ◌∙◌, ℕ, Bool, true, false, ◌||◌, cond, find, List, [], ◌∷◌, ◌++◌, Option, Some, None}
 use Rattle.std.specs.List.{list_any}
 use Rattle.pp_cache_law.proofs.Finds.{find_joined, find_passes}
-use Rattle.pp_cache_law.proofs.Numbers.{true_false}
 use Rattle.pp_cache_law.specs.Pairs.{AreBoth}
 use Rattle.pp_flow.specs.Changes.{Exchanges, entry_of}
 use Rattle.pp_flow.specs.Entries.{is_number}

@@ -1,14 +1,12 @@
 -- What one exchange brings, and what all of them do.
-use Rattle.std.proofs.Common.{◌≡◌, refl, sym, subst, ap, ap₂, ◌∙◌, ℕ, Bool, true, false, not, ◌==◌, ◌&&◌, ◌||◌, ◌+◌, ◌*◌, ◌/◌, cond, min, max, nat_le, nat_lt, List, length, Option, Some, None}
+use Rattle.std.proofs.Common.{◌≡◌, refl, sym, subst, ap, ap₂, ◌∙◌, ℕ, Bool, true, false, not, ◌==◌, ◌&&◌, ◌||◌, ◌+◌, ◌*◌, ◌/◌, cond, min, max, nat_le, nat_lt, length, Option, Some, None}
 use Rattle.std.specs.Prelude.{bytes_eq}
 use Rattle.pp_cache.specs.Memory.{Memory}
 use Rattle.pp_cache_law.proofs.Alike.{bytes_of, held_of, instances_of}
 use Rattle.pp_cache_law.proofs.Numbers.{some_is}
 use Rattle.pp_cache_law.specs.Reads.{IsFound}
 use Rattle.pp_cache_law.specs.Tables.{ShowsTable}
-use Rattle.pp_flow.specs.Brings.{is_soon}
 use Rattle.pp_flow.specs.Changes.{Exchanges, entry_of}
-use Rattle.pp_flow.specs.Entries.{Span}
 use Rattle.pp_flow.specs.declared.entry.Aim.{Aim}
 use Rattle.pp_flow.specs.declared.entry.Aim.TheVariants.{Own as OfItself, Hole, Pass}
 use Rattle.pp_flow.specs.declared.entry.Entry.{Entry}
@@ -17,10 +15,9 @@ use Rattle.pp_flow_law.specs.Tables.{Leaving}
 use Rattle.pp_holes.specs.Places.{bytes_at}
 use Rattle.pp_law.specs.Chunks.{filled as filled_of}
 use Rattle.pp_law.specs.Connections.{exchange}
-use Rattle.pp_law.specs.Deciding.{serves as serves_reply}
 use Rattle.pp_law.specs.Lists.{Bytes}
-use Rattle.pp_law.specs.Stages.{bound_of, is_headed}
-use Rattle.pp_law.specs.State.{State, Instance as Known, Bound, Exchange, Reply, Aim as ItsAim, Through, Own, Filling}
+use Rattle.pp_law.specs.Stages.{bound_of}
+use Rattle.pp_law.specs.State.{State, Instance as Known, Bound, Exchange, Aim as ItsAim, Through, Own, Filling}
 use Rattle.pp_law.specs.Table.{Next, asks_for as asks_for_it, brings as brings_it, instance, is_held, is_soon as is_soon_by, is_to_come as is_to_come_by}
 use Rattle.pp_objects.specs.Instances.{Instance, in_slot, is_same_id, is_there}
 use Rattle.pp_objects.specs.declared.id.ObjectId.{ObjectId}
@@ -28,9 +25,9 @@ use Rattle.pp_plan.specs.Need.{is_near}
 use Rattle.pp_seats.specs.declared.seat.Next.{Next as SeatNext}
 use Rattle.pp_seats_law.proofs.Entries.{exchanges}
 use Rattle.pp_seats_law.proofs.Nexts.{found_number}
-use Rattle.pp_seats_law.specs.Exchanges.{Binding, IsBoundAs, IsTheLaws, ShowsBound, ShowsExchange}
+use Rattle.pp_seats_law.specs.Exchanges.{Binding, IsBoundAs, ShowsBound, ShowsExchange}
 use Rattle.pp_seats_law.specs.Fates.{aim_of}
-use Rattle.pp_steps.specs.Bringing.{asks_by, asks_for, asks_for_in, brings, brings_by, filled, instance_of, is_to_come, serves, serves_by}
+use Rattle.pp_steps.specs.Bringing.{asks_by, asks_for, asks_for_in, brings, brings_by, filled, instance_of, is_to_come, serves_by}
 use Rattle.pp_target.specs.Key.{text_of}
 use Rattle.pp_brings_law.proofs.All.{any_alike}
 use Rattle.pp_brings_law.specs.Both.{IsNext, IsToldBy, ShowsBoth}

@@ -1,5 +1,5 @@
 -- What a follower asks for.
-use Rattle.std.proofs.Common.{◌≡◌, ◌<◌, ◌≤◌, ◌*◌, ◌/◌, ◌%◌, ◌⊎◌, inl, inr, refl, sym, subst, ap, ap₂, ◌∙◌, ℕ, Bool, true, false, not, ◌||◌, cond, if◌then◌else◌, min, List, length, Option, Some, None, arith}
+use Rattle.std.proofs.Common.{◌≡◌, ◌<◌, ◌≤◌, ◌*◌, ◌/◌, ◌⊎◌, inl, inr, refl, sym, subst, ap, ap₂, ◌∙◌, ℕ, Bool, true, false, not, ◌||◌, cond, if◌then◌else◌, min, length, Option, Some, None, arith}
 use Rattle.std.specs.Prelude.{nat_le, nat_lt}
 use Rattle.std.proofs.lemmas.Bool.{cases_lt}
 use Rattle.std.proofs.lemmas.Bool.Decides.{nat_tests}
@@ -13,17 +13,16 @@ use Rattle.pp_cache_law.specs.Joins.{EndsWhole}
 use Rattle.pp_cache_law.specs.Reads.{IsFound}
 use Rattle.pp_flow.specs.Changes.{Exchanges}
 use Rattle.pp_flow_law.specs.Tables.{Leaving}
-use Rattle.pp_holes.specs.Places.{bytes_at}
 use Rattle.pp_law.specs.Chunks.{filled}
 use Rattle.pp_law.specs.Followers.{hole_of as hole_by, need_of as need_by}
 use Rattle.pp_law.specs.Lists.{Bytes}
 use Rattle.pp_law.specs.State.{State, Instance as Known}
 use Rattle.pp_law.specs.Table.{Next, extent_of, held_to, is_brought as is_being_brought, is_held}
-use Rattle.pp_objects.specs.Instances.{Instance, is_there, total_at, total_of}
+use Rattle.pp_objects.specs.Instances.{Instance, total_at, total_of}
 use Rattle.pp_plan.specs.Need.{need}
 use Rattle.pp_seats.specs.declared.seat.Next.{Next as SeatNext}
 use Rattle.pp_seats_law.proofs.Nexts.{found_number}
-use Rattle.pp_steps.specs.Bringing.{is_brought, is_held as is_held_in, is_provided, need_of}
+use Rattle.pp_steps.specs.Bringing.{is_brought, is_held as is_held_in, need_of}
 use Rattle.pp_brings_law.proofs.Brought.{brought_of}
 use Rattle.pp_brings_law.proofs.Holes.{held_past, is_gap, is_hole}
 use Rattle.pp_brings_law.specs.Both.{IsNext, ShowsBoth}

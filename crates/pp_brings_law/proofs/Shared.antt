@@ -1,6 +1,6 @@
 -- The first of those that are shared.
 use Rattle.std.proofs.Common.{◌≡◌, ◌<◌, ◌≤◌, ◌+◌, ◌⊎◌, inl, inr, refl, sym, subst, ap, ap₂, ◌∙◌, ℕ, Bool, true, false, not, ◌==◌, ◌&&◌, ◌||◌, cond, find, min, List, [], ◌∷◌, ◌++◌, Option, Some, None, option_map, arith}
-use Rattle.std.specs.Prelude.{bytes_eq, nat_lt, is_some}
+use Rattle.std.specs.Prelude.{bytes_eq, nat_lt}
 use Rattle.std.specs.List.{cons_option, filter_map, fold, list_any, reduce}
 use Rattle.std.proofs.lemmas.Bool.{cases_lt}
 use Rattle.std.proofs.lemmas.Bool.Decides.{nat_tests}
@@ -17,15 +17,15 @@ use Rattle.pp_flow_law.proofs.Entries.{none_some, same_as, same_number}
 use Rattle.pp_flow_law.proofs.Exchanges.{none_below, numbers_of}
 use Rattle.pp_flow_law.proofs.Standing.{IsShown, is_shown}
 use Rattle.pp_flow_law.specs.Tables.{AreGiven, Leaving, ShowsFlow}
-use Rattle.pp_law.specs.Connections.{exchange, is_exchange}
+use Rattle.pp_law.specs.Connections.{is_exchange}
 use Rattle.pp_law.specs.Lists.{Bytes}
-use Rattle.pp_law.specs.Sharing.{is_awaited as is_awaited_by, is_shared as is_shared_by}
+use Rattle.pp_law.specs.Sharing.{is_shared as is_shared_by}
 use Rattle.pp_law.specs.Stages.{is_headed, is_own as is_own_by}
 use Rattle.pp_law.specs.State.{State, Exchange, Aim as ItsAim, Through, Own, Filling}
 use Rattle.pp_seats_law.proofs.Entries.{exchanges}
 use Rattle.pp_seats_law.specs.Exchanges.{ShowsExchange, is_ranged_in}
 use Rattle.pp_seats_law.specs.Fates.{aim_of}
-use Rattle.pp_steps.specs.Sharing.{asks_part, is_awaited, is_own, is_shared, is_unanswered, shared_number}
+use Rattle.pp_steps.specs.Sharing.{asks_part, is_own, is_shared, is_unanswered, shared_number}
 use Rattle.pp_target.specs.Key.{text_of}
 use Rattle.pp_brings_law.proofs.All.{IsKept, any_alike, any_by, entry_among, found_itself, is_kept, known_itself, none_of_them}
 use Rattle.pp_brings_law.specs.Sharing.{AwaitedIsTheLaws, SharedAsksAreTheLaws}

@@ -1,23 +1,18 @@
 -- What is read of the body of an exchange is what the law reads of it.
-use Rattle.std.proofs.Common.{◌≡◌, refl, sym, subst, ap, ap₂, ◌∙◌, ℕ, Bool, true, false, not, ◌==◌, ◌&&◌, ◌||◌, cond, nat_lt, List, [], ◌∷◌, Option, Some, None, arith}
+use Rattle.std.proofs.Common.{◌≡◌, refl, ap, ap₂, ◌∙◌, ℕ, Bool, true, false, not, ◌==◌, ◌&&◌, ◌||◌, nat_lt, List, [], ◌∷◌, Option, Some, None, arith}
 use Rattle.std.specs.Prelude.{is_some, IfSome}
 use Rattle.std.specs.List.{list_any}
 use Rattle.std.proofs.lemmas.Bool.Decides.{nat_tests}
 use Rattle.pp_cache.specs.Memory.{Memory}
-use Rattle.pp_flow.specs.Changes.{Exchanges, entry_of}
-use Rattle.pp_flow.specs.Entries.{Span}
 use Rattle.pp_flow.specs.declared.entry.Aim.{Aim}
 use Rattle.pp_flow.specs.declared.entry.Aim.TheVariants.{Own as OfItself, Hole, Pass}
-use Rattle.pp_flow.specs.declared.entry.Entry.{Entry}
 use Rattle.pp_flow.specs.declared.errand.Body.{Body as ErrandBody}
 use Rattle.pp_flow.specs.declared.errand.Body.TheVariants.{Pending as IsPending, Joining as IsJoining, Relaying as IsRelaying, Dropping as IsDropping}
-use Rattle.pp_flow_law.specs.Tables.{Leaving}
-use Rattle.pp_law.specs.Connections.{exchange}
 use Rattle.pp_law.specs.Lists.{Bytes, is_some_with}
 use Rattle.pp_law.specs.Stages.{is_through as is_through_by}
-use Rattle.pp_law.specs.State.{State, Body, Pending, Joining, Relaying, Dropping, Bound, Client, Conn, Exchange, Aim as ItsAim, Through, Own, Filling}
+use Rattle.pp_law.specs.State.{State, Body, Pending, Joining, Relaying, Dropping, Bound, Client, Conn, Aim as ItsAim, Through, Own, Filling}
 use Rattle.pp_law.specs.Table.{Next, is_soon as is_soon_by, next_of as next_by}
-use Rattle.pp_law.specs.Unseen.{at_of, came_of, has_reader_near as has_reader_by, is_unseen as is_unseen_by, is_worth_keeping as is_worth_by}
+use Rattle.pp_law.specs.Unseen.{at_of, came_of, has_reader_near as has_reader_by, is_worth_keeping as is_worth_by}
 use Rattle.pp_objects.specs.Instances.{is_same_id, is_there}
 use Rattle.pp_objects.specs.declared.id.ObjectId.{ObjectId}
 use Rattle.pp_plan.specs.Need.{is_near}
@@ -29,9 +24,9 @@ use Rattle.pp_seats_law.specs.Clients.{AreShown}
 use Rattle.pp_seats_law.specs.Exchanges.{Binding, IsBoundAs, ShowsBody, ShowsExchange}
 use Rattle.pp_seats_law.specs.Fates.{aim_of}
 use Rattle.pp_seats_law.specs.Words.{ShowsNext}
-use Rattle.pp_steps.specs.Unseen.{has_reader_near, is_kept, is_next_near, is_nobodys, is_through, is_unseen, is_worth_keeping}
+use Rattle.pp_steps.specs.Unseen.{has_reader_near, is_kept, is_next_near, is_through, is_unseen, is_worth_keeping}
 use Rattle.pp_brings_law.proofs.Brought.{shown_as}
-use Rattle.pp_brings_law.specs.Both.{IsToldBy, ShowsBoth}
+use Rattle.pp_brings_law.specs.Both.{IsToldBy}
 use Rattle.pp_brings_law.specs.Unseen.{AreFollowing, IsCounted, UnseenIsTheLaws}
 
 -- ---- a reader

@@ -1,5 +1,5 @@
 -- What the exchanges bring to an instance is what those of the law bring.
-use Rattle.std.specs.Prelude.{◌≡◌, ℕ, ◌&&◌, not, Some}
+use Rattle.std.specs.Prelude.{◌≡◌, ℕ, Some}
 use Rattle.pp_flow.specs.Changes.{entry_of}
 use Rattle.pp_flow.specs.declared.entry.Entry.{Entry}
 use Rattle.pp_law.specs.Connections.{exchange}

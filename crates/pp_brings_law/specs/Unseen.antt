@@ -1,5 +1,5 @@
 -- What nobody will see is what nobody will see by the law (RFC 2616, section 8.1.4).
-use Rattle.std.specs.Prelude.{◌≡◌, ℕ, true, List, [], ◌∷◌, Option, Some, None, IfSome, ⊤}
+use Rattle.std.specs.Prelude.{◌≡◌, ℕ, true, List, [], ◌∷◌, Some, IfSome, ⊤}
 use Rattle.pp_cache.specs.Memory.{Memory}
 use Rattle.pp_flow.specs.Changes.{entry_of}
 use Rattle.pp_flow.specs.declared.entry.Entry.{Entry}
@@ -11,7 +11,6 @@ use Rattle.pp_law.specs.State.{State, Client, Conn, Exchange}
 use Rattle.pp_law.specs.Unseen.{came_of, is_unseen}
 use Rattle.pp_objects.specs.Instances.{is_there}
 use Rattle.pp_seats.specs.Follows.{next_of}
-use Rattle.pp_seats.specs.declared.seat.Next.{Next as SeatNext}
 use Rattle.pp_seats.specs.declared.seat.Seat.{Seat}
 use Rattle.pp_seats_law.specs.Clients.{AreShown}
 use Rattle.pp_seats_law.specs.Words.{HasSource}
