@@ -1,0 +1,108 @@
+-- What of a row is held, of what a reply would show.
+use Rattle.std.proofs.Common.{arith, ◌≡◌, ◌≤◌, ◌<◌, ◌⊎◌, inl, inr, refl, sym, subst, ap, ◌∙◌, ℕ, ◌+◌, ◌-◌, min, max, Bool, true, false, not, cond, ◌||◌, ◌==◌, nat_lt, nat_le, if◌then◌else◌, List, Option, Some, None}
+use Rattle.std.proofs.lemmas.Bool.{cases_lt}
+use Rattle.pp_brings_law.proofs.Holes.{is_hole}
+use Rattle.pp_cache.specs.Holes.{first_from, hole_in, hole_of, missing_from}
+use Rattle.pp_cache.specs.Memory.{Memory, extent_of as bytes_kept, is_in_memory}
+use Rattle.pp_cache_law.proofs.Alike.{instances_of}
+use Rattle.pp_cache_law.proofs.Numbers.{same_test, some_is}
+use Rattle.pp_cache_law.proofs.Spans.{spans_of}
+use Rattle.pp_cache_law.specs.Reads.{AreFronts, IsFound, IsHole}
+use Rattle.pp_cache_law.specs.Tables.{ShowsInstance, ShowsTable}
+use Rattle.pp_holes.specs.Places.{Chunk}
+use Rattle.pp_law.specs.State.{State, Instance as Known}
+use Rattle.pp_law.specs.Table.{chunks_in, extent_of, is_span_held as held_by_law, reach}
+use Rattle.pp_objects.specs.Instances.{Instance, id_of, in_slot, is_life, is_there, total_at, total_of}
+use Rattle.pp_objects.specs.declared.id.ObjectId.{ObjectId}
+use Rattle.pp_plan.specs.Spans.{resolve_known, resolved, span_in}
+use Rattle.pp_ranges.specs.Ranges.{range_of, resolve}
+use Rattle.pp_ranges.specs.declared.range.Range.{Range}
+use Rattle.pp_ranges.specs.declared.range.Range.TheVariants.{Span, From, Last}
+use Rattle.pp_ranges.specs.declared.range.Resolved.TheVariants.{Whole, Part, Unsatisfiable}
+use Rattle.pp_text.specs.Fields.{Field}
+use Rattle.pp_valid.specs.Conditions.{if_range_holds}
+use Rattle.pp_valid.specs.declared.version.Version.{Version}
+use Rattle.pp_steps.specs.Bringing.{is_span_held}
+
+-- ---- what a reply would show lies within the body
+
+part_within : (b : Bool) (from to n : ℕ) → to ≤ n → (span_in n (if b then Part from to else Unsatisfiable)).1 ≤ n
+part_within true from to n short = short
+part_within false from to n short = omega arith
+
+last_within : (b c : Bool) (from n : ℕ) → (span_in n (if b then Unsatisfiable else (if c then Whole else Part from n))).1 ≤ n
+last_within true c from n = omega arith
+last_within false true from n = omega arith
+last_within false false from n = omega arith
+
+resolve_within : (range : Range) (n : ℕ) → (span_in n (resolve range n)).1 ≤ n
+resolve_within (Span first last) n = part_within (nat_lt first n) first (min (last + 1) n) n (omega arith)
+resolve_within (From first) n = part_within (nat_lt first n) first n n (omega arith)
+resolve_within (Last len) n = last_within (len == 0) (n == 0) (n - min len n) n
+
+known_within : (range : Option Range) (n : ℕ) → (span_in n (resolve_known range n)).1 ≤ n
+known_within None n = omega arith
+known_within (Some range) n = resolve_within range n
+
+by_condition : (b : Bool) (range : Option Range) (n : ℕ) → (span_in n (if b then resolve_known range n else Whole)).1 ≤ n
+by_condition true range n = known_within range n
+by_condition false range n = omega arith
+
+pub shown_within : (fields : List Field) (v : Version) → (span_in v.length (resolved fields v)).1 ≤ v.length
+shown_within fields v = by_condition (if_range_holds fields v.tag) (range_of fields) v.length
+
+-- ---- the first offset that is not in memory
+
+hole_is : (slot total at : ℕ) (cs : List Chunk) → IsHole slot at (hole_in slot total at cs).0 total cs
+hole_is slot total at cs = by (cases_lt total at)
+  where
+    by : (total < at) ⊎ (at ≤ total) → IsHole slot at (hole_in slot total at cs).0 total cs
+    by (inr short) = is_hole slot total at cs short
+    by (inl over) =
+        let none : total - at ≡ 0 = omega (arith, over) in
+        let least : min at total ≡ total = omega (arith, over) in
+        let is : missing_from slot total at cs ≡ total = ap (λ (n : ℕ). first_from n (min at total) (λ o. not (is_in_memory slot o cs))) none ∙ least in
+        record {
+          behind = omega (arith, is);
+          held = λ o start before. absurd (omega (arith, start, before, is, over));
+          missing = λ less. absurd (omega (arith, less, is));
+        }
+
+the_hole : (m : Memory) (id : ObjectId) (i : Instance) (n at : ℕ) → is_there id m.instances ≡ true → in_slot id.slot m.instances ≡ Some i → i.version.length ≡ n → hole_of id at m ≡ hole_in id.slot n at m.chunks
+the_hole m id i n at there here len =
+    ap (λ (b : Bool). cond b (hole_in id.slot (total_at id.slot m.instances) at m.chunks) (at, at)) there
+    ∙ ap (λ (o : Option Instance). hole_in id.slot (total_of o) at m.chunks) here ∙ ap (λ (k : ℕ). hole_in id.slot k at m.chunks) len
+
+-- ---- each offset of a span
+
+held_there : (number : ℕ → ℕ) (m : Memory) (s : State) (id : ObjectId) (one : IsFound number m s id) (span : ℕ × ℕ) → ShowsTable number m s → AreFronts id.slot m.chunks → is_there id m.instances ≡ true → span.1 ≤ one.known.version.length
+    → is_span_held id span m ≡ held_by_law s one.known span
+held_there number m s id one span table fronts there within =
+    let at : ℕ = max span.0 (bytes_kept id m) in
+    let hole : hole_of id at m ≡ hole_in id.slot one.known.version.length at m.chunks = the_hole m id one.seen one.known.version.length at there one.here (ap (λ (v : Version). v.length) one.shows.version) in
+    let is : IsHole id.slot at (hole_of id at m).0 one.known.version.length m.chunks = subst (λ (h : ℕ × ℕ). IsHole id.slot at h.0 one.known.version.length m.chunks) (sym hole) (hole_is id.slot one.known.version.length at m.chunks) in
+    spans_of number m s table id one.known there one.there span.0 span.1 (hole_of id at m).0 fronts within is
+
+held_parts : State → ℕ × ℕ → ℕ → ℕ → ℕ → Bool
+held_parts s span id len ext = nat_le span.1 span.0 || nat_le span.1 (reach (chunks_in len + 2) id ext s.chunks span.0)
+
+-- two that show the same instance
+same_held : (number : ℕ → ℕ) (m : Memory) (s : State) (i j : Instance) (x y : Known) (span : ℕ × ℕ) → i ≡ j → ShowsInstance number m s i x → ShowsInstance number m s j y → held_by_law s y span ≡ held_by_law s x span
+unfolding held_parts
+same_held number m s i j x y span same shows other =
+    let ids : y.id ≡ x.id = sym other.id ∙ ap (λ (k : Instance). number k.life) (sym same) ∙ shows.id in
+    let versions : y.version ≡ x.version = sym other.version ∙ ap (λ (k : Instance). k.version) (sym same) ∙ shows.version in
+    let extents : extent_of s y ≡ extent_of s x = sym other.extent ∙ ap (λ (k : Instance). bytes_kept (id_of k) m) (sym same) ∙ shows.extent in
+    ap (λ (n : ℕ). held_parts s span n y.version.length (extent_of s y)) ids
+    ∙ ap (λ (v : Version). held_parts s span x.id v.length (extent_of s y)) versions
+    ∙ ap (λ (n : ℕ). held_parts s span x.id x.version.length n) extents
+
+pub held_same : (number : ℕ → ℕ) (m : Memory) (s : State) (i : Instance) (x : Known) (span : ℕ × ℕ) → ShowsTable number m s → AreFronts i.slot m.chunks → ShowsInstance number m s i x → span.1 ≤ x.version.length
+    → is_span_held (id_of i) span m ≡ held_by_law s x span
+held_same number m s i x span table fronts shows within =
+    let there : is_there (id_of i) m.instances ≡ true = ap (λ (o : Option Instance). is_life i.life o) shows.there ∙ same_test i.life i.life refl in
+    let one : IsFound number m s (id_of i) = instances_of number m s table (id_of i) there in
+    let seen : i ≡ one.seen = some_is i one.seen (sym shows.there ∙ one.here) in
+    let version : x.version ≡ one.known.version = sym shows.version ∙ ap (λ (k : Instance). k.version) seen ∙ one.shows.version in
+    held_there number m s (id_of i) one span table fronts there (subst (λ (v : Version). span.1 ≤ v.length) version within)
+    ∙ same_held number m s i one.seen x one.known span seen shows one.shows

@@ -1,0 +1,10 @@
+pub mod All
+pub mod Deciding
+pub mod Dry
+pub mod Drying
+pub mod Following
+pub mod Held
+pub mod Offering
+pub mod Sharing
+pub mod Standing
+pub mod Waiting
