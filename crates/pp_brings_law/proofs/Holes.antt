@@ -57,10 +57,7 @@ not_true false e = refl
 
 -- ---- the hole
 
-module _ (slot total at : ℕ) (cs : List Chunk) (short : at ≤ total) where
-  from : ℕ
-  from = missing_from slot total at cs
-
+module _ (slot total at : ℕ) (cs : List Chunk) where
   begins : IsFirst (total - at) (min at total) (λ o. not (is_in_memory slot o cs)) (missing_from slot total at cs)
   begins = first_is (total - at) (min at total) (λ o. not (is_in_memory slot o cs))
 
@@ -68,10 +65,10 @@ module _ (slot total at : ℕ) (cs : List Chunk) (short : at ≤ total) where
   goes_to = first_is (total - missing_from slot total at cs) (missing_from slot total at cs) (λ o. is_in_memory slot o cs)
 
   inside : missing_from slot total at cs ≤ total
-  inside = omega (arith, begins.within, short)
+  inside = omega (arith, begins.within)
 
   isnt_there : missing_from slot total at cs < total → is_in_memory slot (missing_from slot total at cs) cs ≡ false
-  isnt_there less = not_true (is_in_memory slot (missing_from slot total at cs) cs) (begins.here (omega (arith, less, short)))
+  isnt_there less = not_true (is_in_memory slot (missing_from slot total at cs) cs) (begins.here (omega (arith, less, begins.behind)))
 
   pub is_hole : IsHole slot at (hole_in slot total at cs).0 total cs
   is_hole = record {

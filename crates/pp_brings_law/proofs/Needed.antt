@@ -85,13 +85,10 @@ module _ (number : ℕ → ℕ) (l : Leaving) (m : Memory) (f : Exchanges) (s : 
       by (inl chunk) (inr more) = omega (arith, chunk, more, extent)
       by (inr end) (inr more) = absurd (omega (arith, end, more, short))
 
-  front : n.at / 4096 * 4096 ≤ n.source.version.length
-  front = omega (arith, short)
-
   hole_same : is_held s n.source n.at ≡ false → hole_by s n ≡ hole_of x.source (n.at / 4096 * 4096) m
   hole_same isnt =
       holes_of number m s both.table x.source n.source next.there next.known n (hole_in x.source.slot n.source.version.length (n.at / 4096 * 4096) m.chunks) refl short isnt (above isnt) within.fronts
-      (is_hole x.source.slot n.source.version.length (n.at / 4096 * 4096) m.chunks front) (is_gap x.source.slot n.source.version.length (n.at / 4096 * 4096) m.chunks front within.ends)
+      (is_hole x.source.slot n.source.version.length (n.at / 4096 * 4096) m.chunks) (is_gap x.source.slot n.source.version.length (n.at / 4096 * 4096) m.chunks within.ends)
       ∙ sym the_hole
 
   -- ---- one that is

@@ -12,11 +12,11 @@
 #![tactic(auto)]
 
 mod bringing; // what exchanges bring
-mod needing; // what a follower asks for
+mod needing; // what is held of a span, and what a follower asks for
 mod seeing; // what nobody will see
 mod sharing; // one fetch for many
 
 pub use bringing::brings_are_the_laws;
-pub use needing::needs_are_the_laws;
+pub use needing::{needs_are_the_laws, spans_are_the_laws};
 pub use seeing::unseen_ones_are_the_laws;
 pub use sharing::shared_asks_are_the_laws;
