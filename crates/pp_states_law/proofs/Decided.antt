@@ -151,9 +151,9 @@ added_table number m e s shows =
     (record { instances = refl; made = the_same s.next_instance; chunks = refl; followers = λ id. refl; kept = λ x. refl })
 
 pub begins : BeginsAreTheLaws
-begins number name owed l p s shows client key aim errand e shown = record {
+begins number name owed l p s shows client key aim errand text e shown = record {
   clients = subst (λ (cs : List Client). AreShown number name owed p.seats cs) (sym (added e s).0) shows.clients;
-  exchanges = flow_begins number l p.flow s shows.exchanges client key aim errand e shown;
+  exchanges = flow_begins number l p.flow s shows.exchanges client key aim errand text e shown;
   table = added_table number p.memory e s shows.table;
   conns = subst (λ (ks : List Conn). ShowConns (add_exchange e s) p.peers ks) (sym (added e s).1) (conns_later s e p.peers s.conns shows.conns);
 }
@@ -189,7 +189,7 @@ begun_behind e s asker = add_exchange e (leave (λ x. is_some_with (λ n. is_of 
 
 pub asks : AsksAreTheLaws
 unfolding begin_exchange
-asks number name owed l p s shows c key aim errand e once shown =
-    subst (λ (asker : Option ℕ). ShowsState number name owed l (record p { flow = begun_by c key aim errand (left_by c p.flow) }) (begun_behind e s asker)) shown.asker
-    (begins number name owed l (record p { flow = left_by c p.flow }) (leave (is_of c) s) (leaves number name owed l p s shows c once) c key aim errand e
-    (subst (λ (n : ℕ). ShowsExchange number (begun_with n c key aim errand) e) (sym (left_begun c p.flow)) shown))
+asks number name owed l p s shows c key aim errand text e once shown =
+    subst (λ (asker : Option ℕ). ShowsState number name owed l (record p { flow = begun_by c key aim errand text (left_by c p.flow) }) (begun_behind e s asker)) shown.asker
+    (begins number name owed l (record p { flow = left_by c p.flow }) (leave (is_of c) s) (leaves number name owed l p s shows c once) c key aim errand text e
+    (subst (λ (n : ℕ). ShowsExchange number (begun_with n c key aim errand text) e) (sym (left_begun c p.flow)) shown))

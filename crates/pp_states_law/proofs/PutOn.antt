@@ -81,7 +81,7 @@ put_conn number name owed l p s x e peer k shows put shown = record {
 pub puts : PutsAreTheLaws
 puts number name owed l p s shows x e peer k alone put = record {
   clients = subst (λ (cs : List Client). AreShown number name owed p.seats cs) (sym (put_rest e.number k.number s).0) shows.clients;
-  exchanges = flow_puts number l p.flow s shows.exchanges e.number x e k put.waits put.known put.there;
+  exchanges = flow_puts number l p.flow s shows.exchanges e.number x k put.waits put.there;
   table = put_table number p s e.number k.number shows.table;
   conns =
       on_pipe number name owed l p s t peer (pushed e.text (asks_head e) peer.pipe) k (λ j. record j { line = j.line ++ e.number ∷ [] }) shows alone put.linked put.there as_before (put_rest e.number k.number s).1

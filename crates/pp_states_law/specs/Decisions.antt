@@ -29,10 +29,10 @@ LeavesAreTheLaws = OfStates (λ number name owed l p s. (c : ℕ) → AsksOnce c
 
 -- one begins, as the last of those without a place
 abbrev pub BeginsAreTheLaws : Type 0
-BeginsAreTheLaws = OfStates (λ number name owed l p s. (client : ℕ) (key : Bytes) (aim : Aim) (errand : Errand) (e : Exchange) → ShowsExchange number (begun_with p.flow.begun client key aim errand) e
-    → ShowsState number name owed l (record p { flow = begun_by client key aim errand p.flow }) (add_exchange e s))
+BeginsAreTheLaws = OfStates (λ number name owed l p s. (client : ℕ) (key : Bytes) (aim : Aim) (errand : Errand) (text : Bytes) (e : Exchange) → ShowsExchange number (begun_with p.flow.begun client key aim errand text) e
+    → ShowsState number name owed l (record p { flow = begun_by client key aim errand text p.flow }) (add_exchange e s))
 
 -- both: the one begun last is the only one of its request
 abbrev pub AsksAreTheLaws : Type 0
-AsksAreTheLaws = OfStates (λ number name owed l p s. (c : ℕ) (key : Bytes) (aim : Aim) (errand : Errand) (e : Exchange) → AsksOnce c s → ShowsExchange number (begun_with p.flow.begun c key aim errand) e
-    → ShowsState number name owed l (record p { flow = begun_by c key aim errand (left_by c p.flow) }) (begin_exchange e s))
+AsksAreTheLaws = OfStates (λ number name owed l p s. (c : ℕ) (key : Bytes) (aim : Aim) (errand : Errand) (text : Bytes) (e : Exchange) → AsksOnce c s → ShowsExchange number (begun_with p.flow.begun c key aim errand text) e
+    → ShowsState number name owed l (record p { flow = begun_by c key aim errand text (left_by c p.flow) }) (begin_exchange e s))

@@ -1,5 +1,5 @@
 -- An exchange gets a place (RFC 2616, sections 8.1.2.2 and 8.1.4).
-use Rattle.std.specs.Prelude.{◌≡◌, true, false, length, find, Some}
+use Rattle.std.specs.Prelude.{◌≡◌, true, false, find, Some}
 use Rattle.pp_flow.specs.Changes.{placed_on, with_errand}
 use Rattle.pp_flow.specs.Entries.{is_number as is_entry}
 use Rattle.pp_flow.specs.declared.entry.Entry.{Entry}
@@ -26,6 +26,6 @@ pub record IsPut (p : Parts) (s : State) (x : Entry) (e : Exchange) (peer : Peer
 abbrev pub PutsAreTheLaws : Type 0
 PutsAreTheLaws = OfStates (λ number name owed l p s. (x : Entry) (e : Exchange) (peer : Peer) (k : Conn) → AreApart s → IsPut p s x e peer k
     → ShowsState number name owed l (record p {
-      flow = with_errand e.number (record x.errand { text_len = length e.text; asked = 0 }) (placed_on k.number e.number p.flow);
+      flow = with_errand e.number (record x.errand { asked = 0 }) (placed_on k.number e.number p.flow);
       peers = with_pipe k.number (pushed e.text (asks_head e) peer.pipe) p.peers;
     }) (put_on e.number k.number s))
