@@ -1,12 +1,6 @@
-mod All
-mod Brought
-mod HeldSpans
-mod Holes
-mod Needed
-mod Shared
-mod Unseen
 pub mod All
 pub mod Brought
+pub mod HeldSpans
 pub mod Holes
 pub mod Needed
 pub mod Shared
