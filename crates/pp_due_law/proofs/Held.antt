@@ -53,21 +53,6 @@ shown_within fields v = by_condition (if_range_holds fields v.tag) (range_of fie
 
 -- ---- the first offset that is not in memory
 
-hole_is : (slot total at : ℕ) (cs : List Chunk) → IsHole slot at (hole_in slot total at cs).0 total cs
-hole_is slot total at cs = by (cases_lt total at)
-  where
-    by : (total < at) ⊎ (at ≤ total) → IsHole slot at (hole_in slot total at cs).0 total cs
-    by (inr short) = is_hole slot total at cs short
-    by (inl over) =
-        let none : total - at ≡ 0 = omega (arith, over) in
-        let least : min at total ≡ total = omega (arith, over) in
-        let is : missing_from slot total at cs ≡ total = ap (λ (n : ℕ). first_from n (min at total) (λ o. not (is_in_memory slot o cs))) none ∙ least in
-        record {
-          behind = omega (arith, is);
-          held = λ o start before. absurd (omega (arith, start, before, is, over));
-          missing = λ less. absurd (omega (arith, less, is));
-        }
-
 the_hole : (m : Memory) (id : ObjectId) (i : Instance) (n at : ℕ) → is_there id m.instances ≡ true → in_slot id.slot m.instances ≡ Some i → i.version.length ≡ n → hole_of id at m ≡ hole_in id.slot n at m.chunks
 the_hole m id i n at there here len =
     ap (λ (b : Bool). cond b (hole_in id.slot (total_at id.slot m.instances) at m.chunks) (at, at)) there
@@ -80,7 +65,7 @@ held_there : (number : ℕ → ℕ) (m : Memory) (s : State) (id : ObjectId) (on
 held_there number m s id one span table fronts there within =
     let at : ℕ = max span.0 (bytes_kept id m) in
     let hole : hole_of id at m ≡ hole_in id.slot one.known.version.length at m.chunks = the_hole m id one.seen one.known.version.length at there one.here (ap (λ (v : Version). v.length) one.shows.version) in
-    let is : IsHole id.slot at (hole_of id at m).0 one.known.version.length m.chunks = subst (λ (h : ℕ × ℕ). IsHole id.slot at h.0 one.known.version.length m.chunks) (sym hole) (hole_is id.slot one.known.version.length at m.chunks) in
+    let is : IsHole id.slot at (hole_of id at m).0 one.known.version.length m.chunks = subst (λ (h : ℕ × ℕ). IsHole id.slot at h.0 one.known.version.length m.chunks) (sym hole) (is_hole id.slot one.known.version.length at m.chunks) in
     spans_of number m s table id one.known there one.there span.0 span.1 (hole_of id at m).0 fronts within is
 
 held_parts : State → ℕ × ℕ → ℕ → ℕ → ℕ → Bool

@@ -89,7 +89,7 @@ dropped_shows number m k IsRelaying true None Relaying shows is = absurd cc
 dropped_shows number m k (IsDropping n) true None Dropping shows is = tt
 dropped_shows number m k body headed bound other shows is = absurd shows
 
-same_all : (n : ℕ) (es : List Exchange) → change (is_exchange n) (λ e. e) es ≡ es
+pub same_all : (n : ℕ) (es : List Exchange) → change (is_exchange n) (λ e. e) es ≡ es
 same_all n [] = refl
 same_all n (e ∷ es) = by (is_exchange n e) ∙ ap (λ (xs : List Exchange). e ∷ xs) (same_all n es)
   where

@@ -83,7 +83,7 @@ dropped_by head rest Over front left skip taken still kept idle shows over = rec
   over = over;
 }
 
-dropped_as : (h : Heard) (front : Front) (heard : Bytes) (left skip : ℕ) → IsHeardAs h front heard left skip → IsHeardAs (body_dropped h) front (drop left heard) 0 (skip + (left - length heard))
+pub dropped_as : (h : Heard) (front : Front) (heard : Bytes) (left skip : ℕ) → IsHeardAs h front heard left skip → IsHeardAs (body_dropped h) front (drop left heard) 0 (skip + (left - length heard))
 dropped_as h front heard left skip shows =
     subst (λ (b : Bytes). IsHeardAs (body_dropped h) front (drop left b) 0 (skip + (left - length b))) shows.heard.behind
     (dropped_by h.head h.rest h.body front left skip shows.heard.head shows.heard.is_front shows.heard.kept shows.heard.idle shows.body shows.over)

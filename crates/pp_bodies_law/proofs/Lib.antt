@@ -1,0 +1,5 @@
+pub mod Askers
+pub mod Bytes
+pub mod Delivered
+pub mod Joined
+pub mod Pipes
