@@ -1,15 +1,13 @@
 -- What of a row is held, of what a reply would show.
-use Rattle.std.proofs.Common.{arith, ◌≡◌, ◌≤◌, ◌<◌, ◌⊎◌, inl, inr, refl, sym, subst, ap, ◌∙◌, ℕ, ◌+◌, ◌-◌, min, max, Bool, true, false, not, cond, ◌||◌, ◌==◌, nat_lt, nat_le, if◌then◌else◌, List, Option, Some, None}
-use Rattle.std.proofs.lemmas.Bool.{cases_lt}
+use Rattle.std.proofs.Common.{arith, ◌≡◌, ◌≤◌, refl, sym, subst, ap, ◌∙◌, ℕ, ◌+◌, ◌-◌, min, max, Bool, true, false, cond, ◌||◌, ◌==◌, nat_lt, nat_le, if◌then◌else◌, List, Option, Some, None}
 use Rattle.pp_brings_law.proofs.Holes.{is_hole}
-use Rattle.pp_cache.specs.Holes.{first_from, hole_in, hole_of, missing_from}
-use Rattle.pp_cache.specs.Memory.{Memory, extent_of as bytes_kept, is_in_memory}
+use Rattle.pp_cache.specs.Holes.{hole_in, hole_of}
+use Rattle.pp_cache.specs.Memory.{Memory, extent_of as bytes_kept}
 use Rattle.pp_cache_law.proofs.Alike.{instances_of}
 use Rattle.pp_cache_law.proofs.Numbers.{same_test, some_is}
 use Rattle.pp_cache_law.proofs.Spans.{spans_of}
 use Rattle.pp_cache_law.specs.Reads.{AreFronts, IsFound, IsHole}
 use Rattle.pp_cache_law.specs.Tables.{ShowsInstance, ShowsTable}
-use Rattle.pp_holes.specs.Places.{Chunk}
 use Rattle.pp_law.specs.State.{State, Instance as Known}
 use Rattle.pp_law.specs.Table.{chunks_in, extent_of, is_span_held as held_by_law, reach}
 use Rattle.pp_objects.specs.Instances.{Instance, id_of, in_slot, is_life, is_there, total_at, total_of}
