@@ -12,8 +12,9 @@ from world import CONTINUE, VIA, Client, passed, reply, reply_head
 
 NO_CONTENT = lines(b"HTTP/1.1 204 No Content")
 NO_CONTENT_PASSED = reply_head(VIA, status=b"204 No Content")
-# The pool has 4,096 chunks of 4,096 bytes; what stands beside them has as much again at most.
-MEMORY_BOUND = 40_000_000
+# The pool has 4,096 chunks of 4,096 bytes, and 1,024 exchanges have room for texts of 16,384 bytes, taken at the start; what stands
+# beside them has as much again as one of these at most.
+MEMORY_BOUND = 50_000_000
 LARGE = 200_000_000
 
 
