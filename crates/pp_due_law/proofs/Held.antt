@@ -1,17 +1,14 @@
 -- What of a row is held, of what a reply would show.
-use Rattle.std.proofs.Common.{arith, ◌≡◌, ◌≤◌, refl, sym, subst, ap, ◌∙◌, ℕ, ◌+◌, ◌-◌, min, max, Bool, true, false, cond, ◌||◌, ◌==◌, nat_lt, nat_le, if◌then◌else◌, List, Option, Some, None}
-use Rattle.pp_brings_law.proofs.Holes.{is_hole}
-use Rattle.pp_cache.specs.Holes.{hole_in, hole_of}
+use Rattle.std.proofs.Common.{arith, ◌≡◌, ◌≤◌, refl, sym, subst, ap, ◌∙◌, ℕ, ◌+◌, ◌-◌, min, Bool, true, false, ◌||◌, ◌==◌, nat_lt, nat_le, if◌then◌else◌, List, Option, Some, None}
+use Rattle.pp_brings_law.proofs.HeldSpans.{held_spans}
 use Rattle.pp_cache.specs.Memory.{Memory, extent_of as bytes_kept}
 use Rattle.pp_cache_law.proofs.Alike.{instances_of}
 use Rattle.pp_cache_law.proofs.Numbers.{same_test, some_is}
-use Rattle.pp_cache_law.proofs.Spans.{spans_of}
-use Rattle.pp_cache_law.specs.Reads.{AreFronts, IsFound, IsHole}
+use Rattle.pp_cache_law.specs.Reads.{AreFronts, IsFound}
 use Rattle.pp_cache_law.specs.Tables.{ShowsInstance, ShowsTable}
 use Rattle.pp_law.specs.State.{State, Instance as Known}
 use Rattle.pp_law.specs.Table.{chunks_in, extent_of, is_span_held as held_by_law, reach}
-use Rattle.pp_objects.specs.Instances.{Instance, id_of, in_slot, is_life, is_there, total_at, total_of}
-use Rattle.pp_objects.specs.declared.id.ObjectId.{ObjectId}
+use Rattle.pp_objects.specs.Instances.{Instance, id_of, is_life, is_there}
 use Rattle.pp_plan.specs.Spans.{resolve_known, resolved, span_in}
 use Rattle.pp_ranges.specs.Ranges.{range_of, resolve}
 use Rattle.pp_ranges.specs.declared.range.Range.{Range}
@@ -49,22 +46,7 @@ by_condition false range n = omega arith
 pub shown_within : (fields : List Field) (v : Version) → (span_in v.length (resolved fields v)).1 ≤ v.length
 shown_within fields v = by_condition (if_range_holds fields v.tag) (range_of fields) v.length
 
--- ---- the first offset that is not in memory
-
-the_hole : (m : Memory) (id : ObjectId) (i : Instance) (n at : ℕ) → is_there id m.instances ≡ true → in_slot id.slot m.instances ≡ Some i → i.version.length ≡ n → hole_of id at m ≡ hole_in id.slot n at m.chunks
-the_hole m id i n at there here len =
-    ap (λ (b : Bool). cond b (hole_in id.slot (total_at id.slot m.instances) at m.chunks) (at, at)) there
-    ∙ ap (λ (o : Option Instance). hole_in id.slot (total_of o) at m.chunks) here ∙ ap (λ (k : ℕ). hole_in id.slot k at m.chunks) len
-
 -- ---- each offset of a span
-
-held_there : (number : ℕ → ℕ) (m : Memory) (s : State) (id : ObjectId) (one : IsFound number m s id) (span : ℕ × ℕ) → ShowsTable number m s → AreFronts id.slot m.chunks → is_there id m.instances ≡ true → span.1 ≤ one.known.version.length
-    → is_span_held id span m ≡ held_by_law s one.known span
-held_there number m s id one span table fronts there within =
-    let at : ℕ = max span.0 (bytes_kept id m) in
-    let hole : hole_of id at m ≡ hole_in id.slot one.known.version.length at m.chunks = the_hole m id one.seen one.known.version.length at there one.here (ap (λ (v : Version). v.length) one.shows.version) in
-    let is : IsHole id.slot at (hole_of id at m).0 one.known.version.length m.chunks = subst (λ (h : ℕ × ℕ). IsHole id.slot at h.0 one.known.version.length m.chunks) (sym hole) (is_hole id.slot one.known.version.length at m.chunks) in
-    spans_of number m s table id one.known there one.there span.0 span.1 (hole_of id at m).0 fronts within is
 
 held_parts : State → ℕ × ℕ → ℕ → ℕ → ℕ → Bool
 held_parts s span id len ext = nat_le span.1 span.0 || nat_le span.1 (reach (chunks_in len + 2) id ext s.chunks span.0)
@@ -87,5 +69,5 @@ held_same number m s i x span table fronts shows within =
     let one : IsFound number m s (id_of i) = instances_of number m s table (id_of i) there in
     let seen : i ≡ one.seen = some_is i one.seen (sym shows.there ∙ one.here) in
     let version : x.version ≡ one.known.version = sym shows.version ∙ ap (λ (k : Instance). k.version) seen ∙ one.shows.version in
-    held_there number m s (id_of i) one span table fronts there (subst (λ (v : Version). span.1 ≤ v.length) version within)
+    held_spans number m s table (id_of i) one.known span there one.there fronts (subst (λ (v : Version). span.1 ≤ v.length) version within)
     ∙ same_held number m s i one.seen x one.known span seen shows one.shows
