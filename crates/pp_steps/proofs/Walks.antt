@@ -1,6 +1,6 @@
 -- What holds of the elements before one, and of that, holds of those up to it.
-use Rattle.std.proofs.Common.{◌≡◌, ◌+◌, ℕ, zero, suc, Bool, true, false, ◌||◌, List, [], ◌∷◌, take, slice_get, get_or, length, ◌<◌, add-one, refl, sym, ◌∙◌, ap, arith, Option, Some, None}
-use Rattle.std.specs.List.{cons_option, filter_map, list_any, reduce}
+use Rattle.std.proofs.Common.{Bool, List, None, Option, Some, [], add-one, ap, arith, cond, false, get_or, length, refl, slice_get, suc, sym, take, true, zero, ℕ, ◌+◌, ◌<◌, ◌||◌, ◌∙◌, ◌∷◌, ◌≡◌, ◌≤◌}
+use Rattle.std.specs.List.{cons_option, filter_map, find, list_any, reduce}
 use Rattle.std.specs.Option.{option_to_list}
 use Rattle.std.specs.Prelude.{max, option_and_then, ◌++◌}
 use Rattle.std.proofs.lemmas.List.{append-nil}
@@ -79,3 +79,53 @@ pub further_next : (see : ℕ → Option ℕ) (xs ys : List ℕ) (i : ℕ) (befo
     → after ≡ reduce max (filter_map see (take (i + 1) xs))
 further_next see xs ys i before after at same less first is more =
     further_by see xs i before after at (omega (arith, less, ap length same)) first (is ∙ ap (λ zs. see (get_or zs i 0)) same) more
+
+-- ---- the first that is found of some
+
+found_step : {A : Type 0} (is : A → Bool) (xs : List A) (i : ℕ) → find is (take i xs) ≡ None → holds_of is (slice_get xs i) ≡ false → find is (take (suc i) xs) ≡ None
+found_step is [] zero none not = refl
+found_step is [] (suc i) none not = refl
+found_step is (x ∷ xs) zero none not = ap (λ b. cond b (Some x) None) not
+found_step {A = A} is (x ∷ xs) (suc i) none not = by (is x) none (λ rest. found_step is xs i rest not)
+  where
+    by : (b : Bool) → cond b (Some x) (find is (take i xs)) ≡ None → (find is (take i xs) ≡ None → find is (take (suc i) xs) ≡ None) → cond b (Some x) (find is (take (suc i) xs)) ≡ None
+    by true some go = some
+    by false rest go = go rest
+
+pub none_found_next : {A : Type 0} (is : A → Bool) (xs : List A) (i : ℕ) (x : Option A) → x ≡ slice_get xs i → find is (take i xs) ≡ None → holds_of is x ≡ false → find is (take (i + 1) xs) ≡ None
+none_found_next is xs i x at none not = ap (λ n. find is (take n xs)) (add-one i) ∙ found_step is xs i none (ap (holds_of is) (sym at) ∙ not)
+
+pub found_there : {A : Type 0} (is : A → Bool) (xs : List A) (i n : ℕ) (x : A) → i < n → Some x ≡ slice_get xs i → find is (take i xs) ≡ None → is x ≡ true → find is (take n xs) ≡ Some x
+found_there is xs i zero x less at none holds = absurd (omega (arith, less))
+found_there is [] i (suc n) x less at none holds = absurd (let e : Some x ≡ None = at in cc)
+found_there is (y ∷ xs) zero (suc n) x less at none holds = let same : x ≡ y = cc in ap (λ b. cond b (Some y) (find is (take n xs))) (ap is (sym same) ∙ holds) ∙ sym (ap (λ z. Some z) same)
+found_there {A = A} is (y ∷ xs) (suc i) (suc n) x less at none holds = by (is y) none (λ rest. found_there is xs i n x (omega (arith, less)) at rest holds)
+  where
+    by : (b : Bool) → cond b (Some y) (find is (take i xs)) ≡ None → (find is (take i xs) ≡ None → find is (take n xs) ≡ Some x) → cond b (Some y) (find is (take n xs)) ≡ Some x
+    by true some go = absurd (let e : Some y ≡ None = some in cc)
+    by false rest go = go rest
+
+-- where the list ends there, no more is found
+pub none_behind : {A : Type 0} (is : A → Bool) (xs : List A) (i n : ℕ) → i ≤ n → None ≡ slice_get xs i → find is (take i xs) ≡ None → find is (take n xs) ≡ None
+none_behind is [] zero zero less at none = refl
+none_behind is [] zero (suc n) less at none = refl
+none_behind is [] (suc i) zero less at none = refl
+none_behind is [] (suc i) (suc n) less at none = refl
+none_behind is (x ∷ xs) zero n less at none = absurd (let e : None ≡ Some x = at in cc)
+none_behind is (x ∷ xs) (suc i) zero less at none = absurd (omega (arith, less))
+none_behind {A = A} is (x ∷ xs) (suc i) (suc n) less at none = by (is x) none (λ rest. none_behind is xs i n (omega (arith, less)) at rest)
+  where
+    by : (b : Bool) → cond b (Some x) (find is (take i xs)) ≡ None → (find is (take i xs) ≡ None → find is (take n xs) ≡ None) → cond b (Some x) (find is (take n xs)) ≡ None
+    by true some go = absurd (let e : Some x ≡ None = some in cc)
+    by false rest go = go rest
+
+-- none of fewer is found either
+pub none_of_fewer : {A : Type 0} (is : A → Bool) (xs : List A) (n i : ℕ) → n ≤ i → find is (take i xs) ≡ None → find is (take n xs) ≡ None
+none_of_fewer is xs zero i less none = refl
+none_of_fewer is xs (suc n) zero less none = absurd (omega (arith, less))
+none_of_fewer is [] (suc n) (suc i) less none = refl
+none_of_fewer {A = A} is (x ∷ xs) (suc n) (suc i) less none = by (is x) none (λ rest. none_of_fewer is xs n i (omega (arith, less)) rest)
+  where
+    by : (b : Bool) → cond b (Some x) (find is (take i xs)) ≡ None → (find is (take i xs) ≡ None → find is (take n xs) ≡ None) → cond b (Some x) (find is (take n xs)) ≡ None
+    by true some go = some
+    by false rest go = go rest

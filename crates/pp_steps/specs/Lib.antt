@@ -1,5 +1,6 @@
 pub mod Accounts
 pub mod Answers
+pub mod Asking
 pub mod Begins
 pub mod Bodies
 pub mod Bringing

@@ -140,7 +140,7 @@ impl State {
     }
 
     /// Who is silent has none.
-    fn next_at(&self, i: usize) -> Option<Next>
+    pub(crate) fn next_at(&self, i: usize) -> Option<Next>
         ensures { result ≡ next_at self.entry.now.seats.items i }
     {
         self.seats.get(i)?.next()
