@@ -12,6 +12,7 @@ pub mod PassingLemmas
 pub mod PinLemmas
 pub mod PlacesLemmas
 pub mod RestingLemmas
+pub mod RoomLemmas
 pub mod SeatsLemmas
 pub mod SharingLemmas
 pub mod Walks

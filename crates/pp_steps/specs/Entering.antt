@@ -1,8 +1,9 @@
 -- A kept row comes into memory where a request names it, before that is decided (ours).
-use Rattle.std.specs.Prelude.{ℕ, ◌≡◌, ◌⊎◌, Bool, true, false, ◌&&◌, ◌||◌, not, nat_le, List, [], ◌∷◌, is_some, slice_get, slice_set, Option, Some, None, option_map}
+use Rattle.std.specs.Prelude.{ℕ, ◌≡◌, ◌⊎◌, Bool, true, false, ◌&&◌, ◌||◌, not, nat_lt, nat_le, count_by, List, [], ◌∷◌, is_some, slice_get, slice_set, Option, Some, None, option_map}
 use Rattle.std.specs.Option.{option_and_then}
 use Rattle.pp_client.specs.Requests.{Front, Nothing as NoRequest, Begun as More, Asked as IsAsked, Refused as NoHead, current_of}
 use Rattle.pp_head.specs.Request.{Request}
+use Rattle.pp_objects.specs.Instances.{is_row}
 use Rattle.pp_plan.specs.Decision.{decision}
 use Rattle.pp_plan.specs.Row.{Row}
 use Rattle.pp_plan.specs.declared.table.Begun.TheVariants.{Nothing}
@@ -19,6 +20,7 @@ use Rattle.pp_world.specs.declared.note.Decision.{Decision}
 use Rattle.pp_steps.specs.Decide.{if_fits, kind_of, shown_span}
 use Rattle.pp_steps.specs.Due.{decision_of, due_at}
 use Rattle.pp_steps.specs.OnDisk.{IsBrought, kept_alone}
+use Rattle.pp_steps.specs.Pins.{with_room}
 use Rattle.pp_steps.specs.Sharing.{shared_ask}
 use Rattle.pp_steps.specs.declared.state.State.{State}
 
@@ -101,6 +103,25 @@ HasRowOf shelf i (Some key) old new = ComesOrIsRefused shelf i key old new
 -- the row that the request of the client at this place names
 abbrev pub HasRow : KeptMap → ℕ → State → State → Type 0
 HasRow shelf i old new = HasRowOf shelf i (key_at i old) old new
+
+-- ---- for a response that came: with room for it
+
+-- it comes in, or memory is refused for it
+abbrev pub MayCome : KeptMap → List ℕ → State → State → Type 0
+MayCome shelf key old new = Comes shelf key old new ⊎ (new ≡ old)
+
+-- there may be one row too many
+abbrev pub with_room_if_over : State → State
+with_room_if_over s = elim (nat_lt 1024 (count_by is_row s.cache.instances)) [ true ↦ with_room s | false ↦ s ]
+
+pub record ComesWithRoom (shelf : KeptMap) (key : List ℕ) (old new : State) : Type 0 where
+  pub entered : State
+  pub comes : MayCome shelf key old entered
+  pub room : new ≡ with_room_if_over entered
+
+abbrev pub HasRowFor : KeptMap → Option (List ℕ) → State → State → Type 0
+HasRowFor shelf None old new = new ≡ old
+HasRowFor shelf (Some key) old new = ComesWithRoom shelf key old new
 
 -- ---- what is due first, among the clients at these places: each has its row before
 

@@ -1,7 +1,8 @@
 // Rows that come from the disk, and bytes that stand there alone.
 ghost use Rattle.std.specs.Prelude.{◌≡◌, true, is_none, is_ok, slice_get, OnErr, OnOk};
-ghost use Rattle.pp_steps.specs.Entering.{HasRow, asks_by_kept, decide_by_kept, is_below, is_due_at, is_due_by_kept, refused_kept};
+ghost use Rattle.pp_steps.specs.Entering.{HasRow, HasRowFor, asks_by_kept, decide_by_kept, is_below, is_due_at, is_due_by_kept, refused_kept, with_room_if_over};
 ghost use Rattle.std.specs.Option.{option_and_then};
+ghost use Rattle.pp_steps.specs.Heads.{key_of};
 ghost use Rattle.pp_head.specs.Shown.{shown_request};
 ghost use Rattle.pp_store.specs.Views.{shown};
 ghost use Rattle.pp_steps.specs.OnDisk.{IsBrought, kept_alone, next_on_disk};
@@ -41,11 +42,20 @@ impl State {
     }
 
     /// The same of the key of an exchange whose response came, with room for it.
-    pub fn bring_row_for(&mut self, shelf: &Shelf, number: u64) {
+    pub fn bring_row_for(&mut self, shelf: &Shelf, number: u64)
+        ensures { HasRowFor shelf.now (key_of number self.old.flow) self.old self.new }
+    {
         let Some(key) = self.flow.key(number) else {
             return;
         };
         let _ = bring(self.alloc, &mut self.cache, shelf, key);
+        self.make_room_if_over();
+    }
+
+    /// There may be one row too many.
+    fn make_room_if_over(&mut self)
+        ensures { self.new ≡ with_room_if_over self.old }
+    {
         if self.cache.is_over() {
             self.make_room_for_row();
         }
