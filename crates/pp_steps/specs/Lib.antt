@@ -8,6 +8,7 @@ pub mod Decide
 pub mod Due
 pub mod Ends
 pub mod Entering
+pub mod FinalHeads
 pub mod Heads
 pub mod Hearing
 pub mod Lines

@@ -46,7 +46,8 @@ impl State {
 
     /// The head of the exchange's response came: what becomes of the body is known.
     pub(crate) fn note_body(&mut self, number: u64)
-        ensures { AreSeated self.old → self.new ≡ record self.old { flow = with_body number self.old.seats.items self.old.flow } }
+        ensures is { AreSeated self.old → self.new ≡ record self.old { flow = with_body number self.old.seats.items self.old.flow } }
+        ensures rest { record self.new { flow = self.old.flow } ≡ self.old }
     {
         let Some(e) = self.exchange(number) else {
             return;
