@@ -1,5 +1,5 @@
 -- What is left of a state, call by call: the clients keep their numbers, and the room for a row is made of what is in memory.
-use Rattle.std.proofs.Common.{◌≡◌, ◌∙◌, ap, sym, subst, refl, ℕ, Bool, true, false, ◌&&◌, ◌||◌, not, nat_le, Option, Some, None}
+use Rattle.std.proofs.Common.{◌≡◌, sym, subst, refl, ℕ, Bool, true, false, ◌&&◌, ◌||◌, not, nat_le, Option, Some, None}
 use Rattle.std.specs.Prelude.{count_by}
 use Rattle.pp_objects.specs.Instances.{Instance, is_row}
 use Rattle.pp_seats.specs.Courses.{has_begun, lost_one, without_row, without_shared_row}

@@ -1,5 +1,4 @@
 -- What an answer that is not to be shared does to the row of its key, and to its request (RFC 2616, section 14.9).
-use Rattle.std.specs.Prelude.{ℕ}
 use Rattle.pp_flow.specs.Errands.{attempts_in}
 use Rattle.pp_flow.specs.declared.entry.Exchange.{Exchange}
 use Rattle.pp_flow.specs.declared.errand.Errand.{Errand}

@@ -1,7 +1,6 @@
 -- What the final head of a response does (RFC 2616, sections 10.3.5, 13.5, 13.10 and 13.11; RFC 7233, sections 3.2 and 4.3).
 use Rattle.std.specs.Prelude.{ℕ, ◌≡◌, Bool, true, false, ◌==◌, ◌&&◌, ◌||◌, not, nat_lt, List, Option, Some, None, Result, Ok, Err, option_map}
 use Rattle.pp_client.specs.Requests.{Front, Nothing, Begun, Asked, Refused, current_of}
-use Rattle.pp_flow.specs.Changes.{entry_of}
 use Rattle.pp_flow.specs.declared.entry.Aim.{Aim}
 use Rattle.pp_flow.specs.declared.entry.Aim.TheVariants.{Own, Hole, Pass as Through}
 use Rattle.pp_flow.specs.declared.entry.Entry.{Entry}
@@ -21,7 +20,7 @@ use Rattle.pp_seats.specs.declared.seat.Next.{Next}
 use Rattle.pp_seats.specs.declared.seat.Seat.{Seat}
 use Rattle.pp_valid.specs.Versions.{version_of}
 use Rattle.pp_valid.specs.declared.version.Version.{Version}
-use Rattle.pp_steps.specs.Answers.{not_shared, on_its}
+use Rattle.pp_steps.specs.Answers.{not_shared}
 use Rattle.pp_steps.specs.Bodies.{on_asker, with_body}
 use Rattle.pp_steps.specs.Bringing.{is_provided}
 use Rattle.pp_steps.specs.Ends.{Parts, asker_of, bound_by, cleared_row, lost_attempt, made_useless, parts, told_to}

@@ -1,9 +1,7 @@
-use Rattle.std.proofs.Common.{◌≡◌, ◌∙◌, List, ℕ, ap, sym, subst, min, length, take}
+use Rattle.std.proofs.Common.{◌≡◌, ◌∙◌, List, ℕ, ap, subst, take}
 use Rattle.std.proofs.lemmas.List.{take_min}
 use Rattle.std.specs.Prelude.{codes}
 use Rattle.pp_cache.specs.Memory.{Memory, retired_at}
-use Rattle.pp_cache.specs.Notes.{unnoted}
-use Rattle.pp_head.specs.Shown.{shown_response}
 use Rattle.pp_seats.specs.declared.seat.Seat.{Seat}
 use Rattle.pp_text.specs.Fields.{values_of}
 use Rattle.pp_steps.specs.Ends.{Parts, all_decided_anew, cleared_key}

@@ -1,5 +1,4 @@
 use Rattle.std.proofs.Common.{◌≡◌, ◌∙◌, Option, None, ℕ, ap, sym, subst}
-use Rattle.std.specs.Prelude.{List}
 use Rattle.pp_head.specs.Shown.{shown_response}
 use Rattle.pp_objects.specs.declared.id.ObjectId.{ObjectId}
 use Rattle.pp_valid.specs.declared.version.Version.{Version}
