@@ -1,5 +1,5 @@
 -- A follower less of an instance, by whether it is there, and whether it has one; and what is kept of one, as its view shows it.
-use Rattle.std.proofs.Common.{◌≡◌, ◌<◌, ◌+◌, length, refl, ℕ, Bool, true, false, ◌&&◌, arith, nat_lt, List, [], ◌∷◌, ◌++◌, Option, Some, None, ap, subst, sym}
+use Rattle.std.proofs.Common.{◌≡◌, ◌<◌, ◌+◌, length, refl, ℕ, Bool, true, false, arith, nat_lt, List, [], ◌∷◌, ◌++◌, Option, Some, None, ap, subst, sym}
 use native.Mathlib.Numerals.{unary_clauses}
 use Rattle.std.specs.Prelude.{IsSomeAnd, slice_get, take, zero, suc}
 use Rattle.std.proofs.lemmas.Bool.Decides.{nat_tests}

@@ -1,5 +1,5 @@
 -- The text of an ask, as it is written: it fits where it was written whole.
-use Rattle.std.proofs.Common.{arith, ◌≡◌, refl, ◌↔◌, ◌≤◌, ℕ, Bool, true, false, List, length, IsTrue, Result, Ok, Err, OnOk, is_ok}
+use Rattle.std.proofs.Common.{arith, ◌≡◌, ◌↔◌, ◌≤◌, ℕ, Bool, true, List, length, IsTrue, Result, Ok, Err, OnOk, is_ok}
 use Rattle.std.specs.Prelude.{⊤}
 use Rattle.pp_ask.specs.Texts.{ask_text}
 use Rattle.pp_ask.specs.declared.kind.AskKind.{AskKind}

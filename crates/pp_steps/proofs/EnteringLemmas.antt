@@ -1,5 +1,5 @@
 -- What is due first, where the clients before a place have their rows and nothing due.
-use Rattle.std.proofs.Common.{arith, ◌≡◌, ◌⊎◌, inl, inr, refl, ap, sym, subst, ◌∙◌, ◌≤◌, ℕ, zero, suc, ◌+◌, add-one, List, [], ◌∷◌, drop, length, slice_get, Option, Some, None}
+use Rattle.std.proofs.Common.{arith, ◌≡◌, inl, inr, refl, ap, sym, subst, ◌≤◌, ℕ, zero, suc, ◌+◌, add-one, List, [], ◌∷◌, drop, length, slice_get, Option, Some, None}
 use Rattle.std.proofs.lemmas.Grind.{common_steps}
 use Rattle.pp_seats.specs.declared.due.Due.{Due}
 use Rattle.pp_store.specs.Kept.{KeptMap}

@@ -1,6 +1,6 @@
 -- A client that is changed keeps its place, and the others are as they were.
 use Rattle.std.proofs.Common.{◌≡◌, ◌<◌, refl, sym, ap, ◌∙◌, ℕ, zero, suc, List, [], ◌∷◌, length, get_or, arith}
-use Rattle.std.specs.Prelude.{slice_get, slice_set, Some, None, Option}
+use Rattle.std.specs.Prelude.{slice_set, Some, None, Option}
 use Rattle.std.proofs.lemmas.Option.{slice_get_read}
 use Rattle.pp_seats.specs.declared.seat.Seat.{Seat}
 use Rattle.pp_steps.specs.Ends.{changed_at, numbers_of}

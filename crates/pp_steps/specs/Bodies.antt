@@ -1,6 +1,6 @@
 -- Where the bytes of a response go: to the instance that they belong to, and to the client that they are passed to (RFC 2616, section
 -- 13.5.4; RFC 7233, section 4.3).
-use Rattle.std.specs.Prelude.{ℕ, ◌+◌, ◌-◌, ◌^◌, ◌≡◌, Bool, true, false, ◌==◌, ◌&&◌, ◌||◌, min, is_some, nat_le, nat_lt, slice_get, List, length, take, drop, Option, Some, None, option_and_then}
+use Rattle.std.specs.Prelude.{ℕ, ◌+◌, ◌-◌, ◌≡◌, Bool, true, false, ◌&&◌, ◌||◌, min, is_some, nat_le, nat_lt, slice_get, List, length, take, drop, Option, Some, None, option_and_then}
 use Rattle.std.specs.List.{find}
 use Rattle.pp_cache.specs.Memory.{Memory, extent_of}
 use Rattle.pp_cache.specs.OnDisk.{grown_by}
@@ -18,7 +18,6 @@ use Rattle.pp_objects.specs.Instances.{is_there, total_at}
 use Rattle.pp_objects.specs.declared.id.ObjectId.{ObjectId}
 use Rattle.pp_pass.specs.Pipe.{Pipe, finished, room_of, with_data}
 use Rattle.pp_seats.specs.Seats.{brought_to, passed_in, without_body}
-use Rattle.pp_seats.specs.declared.seat.Passed.{Passed}
 use Rattle.pp_seats.specs.declared.seat.PassedEnd.TheVariants.{Whole}
 use Rattle.pp_seats.specs.declared.seat.Seat.{Seat}
 use Rattle.pp_text.specs.Bytes.{is_empty}

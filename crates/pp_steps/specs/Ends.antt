@@ -1,14 +1,12 @@
 -- What becomes of exchanges (RFC 2616, section 8.1.4): whose they are, what an attempt that is lost costs, and who leaves them.
-use Rattle.std.specs.Prelude.{◌≡◌, ℕ, suc, ◌<◌, Bool, true, false, ◌==◌, ◌&&◌, ◌||◌, if◌then◌else◌, List, [], ◌∷◌, length, map, nat_lt, slice_get, slice_index, slice_set, is_some, Option, Some, None, option_and_then, option_map}
+use Rattle.std.specs.Prelude.{◌≡◌, ℕ, suc, ◌<◌, Bool, false, ◌==◌, ◌&&◌, ◌||◌, if◌then◌else◌, List, [], ◌∷◌, length, map, nat_lt, slice_get, slice_index, slice_set, is_some, Option, Some, None, option_and_then, option_map}
 use Rattle.std.specs.List.{find}
 use Rattle.pp_cache.specs.Memory.{Memory, extent_of, is_in_memory, retired_at}
 use Rattle.pp_cache.specs.Notes.{has_noted, unnoted}
 use Rattle.pp_flow.specs.Changes.{Exchanges, changed, entry_of, first_of, unplaced, with_errand, without}
 use Rattle.pp_flow.specs.Entries.{Span, bound_to, is_asked_by, is_number, nobodys}
 use Rattle.pp_flow.specs.Errands.{attempts_in}
-use Rattle.pp_flow.specs.declared.entry.Entry.{Entry}
 use Rattle.pp_flow.specs.declared.entry.Exchange.{Exchange}
-use Rattle.pp_flow.specs.declared.errand.Errand.{Errand}
 use Rattle.pp_objects.specs.Changes.{given_back, is_last, left_from}
 use Rattle.pp_objects.specs.Instances.{followers_of, in_slot, is_there, row_of}
 use Rattle.pp_objects.specs.declared.id.ObjectId.{ObjectId}

@@ -1,6 +1,6 @@
 -- What the head of a response to an exchange of the cache's own does to the row of its key (RFC 2616, sections 10.3.5 and 14.9;
 -- RFC 7234, section 4.3.3).
-use Rattle.std.specs.Prelude.{ℕ, Bool, true, false, ◌==◌, ◌&&◌, ◌||◌, List, bytes_eq, Option, Some, None, option_map}
+use Rattle.std.specs.Prelude.{ℕ, Bool, true, false, ◌==◌, ◌&&◌, List, bytes_eq, Option, Some, None, option_map}
 use Rattle.pp_cache.specs.Memory.{Memory, retired_at}
 use Rattle.pp_flow.specs.Changes.{Exchanges, entry_of}
 use Rattle.pp_flow.specs.declared.entry.Aim.{Aim}

@@ -1,5 +1,5 @@
 -- All of a reply was said (RFC 2616, section 6).
-use Rattle.std.specs.Prelude.{ℕ, Bool, true, false, ◌&&◌, not, Option, Some, None}
+use Rattle.std.specs.Prelude.{Bool, true, false, ◌&&◌, not, Option, Some, None}
 use Rattle.pp_client.specs.Clients.{said_by}
 use Rattle.pp_client.specs.Replies.{has_begun as is_said_to}
 use Rattle.pp_seats.specs.Courses.{has_begun}

@@ -4,7 +4,7 @@ use Rattle.pp_head.specs.Shown.{shown_response}
 use Rattle.pp_seats.specs.declared.seat.Seat.{Seat}
 use Rattle.pp_steps.specs.Ends.{AreInOrder, Parts, all_decided_anew, numbers_of, parts}
 use Rattle.pp_steps.specs.Heads.{key_of}
-use Rattle.pp_steps.specs.Rows.{MakesRowOf, settled_on, times_for, in_memory, not_refused}
+use Rattle.pp_steps.specs.Rows.{MakesRowOf, settled_on, times_for}
 use Rattle.pp_steps.proofs.OutdatedLemmas.{written_back}
 use Rattle.pp_steps.proofs.SeatsLemmas.{anew_numbers}
 use Rattle.pp_steps.proofs.state.State.make_row.Goals as goal
