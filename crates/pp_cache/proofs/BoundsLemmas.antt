@@ -3,7 +3,6 @@ use Rattle.std.proofs.Common.{◌≡◌, ◌<◌, ◌≤◌, ◌⊎◌, inl, inr
 use Rattle.std.specs.Prelude.{nat_lt}
 use Rattle.std.proofs.lemmas.Bool.{cases_lt}
 use Rattle.std.proofs.lemmas.Bool.Decides.{nat_tests}
-use Rattle.pp_flow.specs.Coming.{has_offset}
 use Rattle.pp_holes.specs.Cells.{IsFront, cell_of, filled_of, is_in_memory as is_filled}
 use Rattle.pp_holes.specs.declared.cell.Cell.{Cell}
 use Rattle.pp_holes.specs.Places.{bytes_at, shown}
@@ -14,6 +13,7 @@ use Rattle.pp_objects.specs.Instances.{Instance, cells_at, is_there, table_at, t
 use Rattle.pp_objects.specs.declared.id.ObjectId.{ObjectId}
 use Rattle.pp_pool.specs.Chunks.{Used}
 use Rattle.pp_cache.specs.Bounds.{IsBounded}
+use Rattle.pp_cache.specs.Offsets.{has_offset}
 use Rattle.pp_cache.specs.Memory.{Memory, is_in_memory}
 use Rattle.pp_cache.proofs.MemoryLemmas.{shown_length}
 

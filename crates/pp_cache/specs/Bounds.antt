@@ -1,10 +1,10 @@
 -- What is so of every cache: each instance has its extent, and chunks hold no more than they may.
 use Rattle.std.specs.Prelude.{ℕ, ◌≡◌, ◌<◌, ◌≤◌, true, false, length}
-use Rattle.pp_flow.specs.Coming.{has_offset}
 use Rattle.pp_holes.specs.Places.{bytes_at}
 use Rattle.pp_objects.specs.Instances.{is_there, table_at, total_at}
 use Rattle.pp_objects.specs.declared.id.ObjectId.{ObjectId}
 use Rattle.pp_cache.specs.Memory.{Memory, is_in_memory}
+use Rattle.pp_cache.specs.Offsets.{has_offset}
 
 pub record IsBounded (m : Memory) : Type 0 where
   -- there is an extent for the slot of each instance

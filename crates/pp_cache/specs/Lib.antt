@@ -3,5 +3,6 @@ pub mod Holes
 pub mod Memory
 pub mod Named
 pub mod Notes
+pub mod Offsets
 pub mod OnDisk
 pub mod Uses

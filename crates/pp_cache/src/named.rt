@@ -4,8 +4,7 @@ ghost use Rattle.pp_cache.specs.Named.{is_spelled_at, key_named, path_named, sit
 ghost use Rattle.pp_target.specs.Key.{IsPlaceIn, key_in};
 
 use arrayvec::ArrayVec;
-use pp_flow::KEY_ROOM;
-use pp_target::{Place, TargetFault, key};
+use pp_target::{KEY_ROOM, Place, TargetFault, key};
 use pp_text::OutOfMemory;
 use std::alloc::Global;
 

@@ -3,7 +3,7 @@ ghost use Rattle.std.specs.Prelude.{◌≡◌, ◌≤◌, ◌<◌, false, [], le
 ghost use Rattle.pp_cache.specs.Notes.{has_noted, keys_of, noted_by, unnoted, IsFirst};
 
 use arrayvec::ArrayVec;
-use pp_flow::KEY_ROOM;
+use pp_target::KEY_ROOM;
 use pp_text::OutOfMemory;
 use std::alloc::Global;
 use std::marker::Model;

@@ -1,6 +1,5 @@
 pub mod Brings
 pub mod Changes
-pub mod Coming
 pub mod Entries
 pub mod Errands
 pub mod Inside

@@ -6,10 +6,8 @@ use crate::errand::Errand;
 use arrayvec::ArrayVec;
 use pp_ask::ASK_LEN;
 use pp_objects::ObjectId;
+use pp_target::KEY_ROOM;
 use pp_valid::Version;
-
-/// Bytes that a key may have.
-pub const KEY_ROOM: usize = 8192;
 
 /// What an exchange is for.
 #[derive(Clone, Copy, Debug, PartialEq, Eq)]

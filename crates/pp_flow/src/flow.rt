@@ -3,13 +3,10 @@ ghost use Rattle.std.specs.Borrow.{sem};
 ghost use Rattle.std.specs.Prelude.{◌≡◌, ◌+◌, ◌<◌, ◌≤◌, ◌++◌, ◌∷◌, [], length, option_map, option_copied, slice_get, true, is_some, option_and_then, vec_capacity, ◌↔◌, ℕ, IfOk, IsSomeAnd, IsTrue};
 ghost use Rattle.std.specs.List.{find, list_any};
 ghost use Rattle.pp_objects.specs.Instances.{in_slot, is_there};
-ghost use Rattle.pp_flow.specs.Brings.{IsBrought, covers};
-ghost use Rattle.pp_flow.specs.Coming.{coming, target_of};
 ghost use Rattle.pp_flow.specs.Entries.{begun_with, bound_to, is_asked_by, is_number, moved_by, nobodys, to_come};
 ghost use Rattle.pp_flow.specs.Lending.{LendsErrand};
 ghost use Rattle.pp_flow.specs.Changes.{changed, entry_of, first_of, is_after, line_of, placed_on, unplaced, without};
 
-use crate::coming::{Wanted, collect, write_spans};
 use crate::entry::{Aim, Entry, Exchange};
 use crate::errand::Errand;
 use crate::lists::{
@@ -18,7 +15,7 @@ use crate::lists::{
 };
 use arrayvec::ArrayVec;
 use pp_ask::ASK_LEN;
-use pp_objects::{ObjectId, Objects};
+use pp_objects::ObjectId;
 use pp_text::OutOfMemory;
 use std::alloc::Global;
 use std::marker::Model;
@@ -260,31 +257,6 @@ impl Flow {
         ensures { result ≡ option_map (λ e. e.exchange.number) (find (is_after after) self.now.waiting) }
     {
         first_after(&self.waiting, after)
-    }
-
-    /// The spans of offsets that the exchanges bring to an instance, in the order of their beginnings. One that
-    /// is bound to it brings what will join of what is still to come; before its final head came, one that asks
-    /// for a hole of its key and tag brings that hole. What is more than 256 chunks ahead comes too late, and does
-    /// not count, but where all of the span is waited for. Walks the exchanges, and the spans that it finds.
-    pub fn coming(&self, objects: &Objects, id: ObjectId, out: &mut ArrayVec<(u64, u64), 1024>)
-        requires there { is_there id objects.now.instances ≡ true }
-        requires empty { out.old.items ≡ [] }
-        ensures spans { IsSomeAnd (in_slot id.slot objects.now.instances) (λ i. out.new.items ≡ coming (target_of i) self.now) }
-        ensures brings { IsSomeAnd (in_slot id.slot objects.now.instances) (λ i. (o : ℕ) → IsTrue (list_any (covers o) out.new.items) ↔ IsBrought (target_of i) self.now o) }
-    {
-        let Some(row) = objects.row(id) else {
-            return;
-        };
-        let wanted = Wanted {
-            objects,
-            id,
-            key: row.key,
-            tag: row.version.tag.as_slice(),
-        };
-        let mut found = ArrayVec::new();
-        collect(&self.waiting, &wanted, &mut found);
-        collect(&self.placed, &wanted, &mut found);
-        write_spans(&found, out);
     }
 }
 

@@ -8,20 +8,18 @@
 //!
 //! To the layer above: two lists of exchanges, those without a place in the order of their beginnings,
 //! and those with one in the order in which they got it, and how many were begun. Each call does to
-//! them what `specs/Changes.antt` says. `coming` answers which offsets of an instance they bring
-//! (`specs/Brings.antt`).
+//! them what `specs/Changes.antt` says.
 //!
 //! Only `Flow::new` takes memory: the room for all exchanges that there may be, and their keys and
 //! texts. Which place an exchange gets is for `pp_peers`, what its bytes are for `pp_objects`.
 #![tactic(auto)]
 
-mod coming; // what the exchanges bring to an instance
 mod entry; // an exchange, what it asks, its key and its text
 mod errand; // what an exchange asks, and how much of it was asked
 mod flow; // the exchanges that are there
 mod lists; // a list of exchanges
 
-pub use entry::{Aim, Entry, Exchange, KEY_ROOM};
+pub use entry::{Aim, Entry, Exchange};
 pub use errand::{Body, Errand, Kind};
 pub use flow::{EXCHANGES, Flow};
 

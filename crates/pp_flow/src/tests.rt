@@ -1,8 +1,6 @@
 // Worked lines: which exchange waits, and which response of a connection comes next (RFC 2616, section
 // 8.1.2.2: "A server MUST send its responses to those requests in the same order that the requests were
 // received").
-mod coming; // what exchanges bring to an instance
-
 use crate::{Aim, EXCHANGES, Errand, Flow};
 use pp_objects::ObjectId;
 use pp_text::OutOfMemory;

@@ -9,10 +9,10 @@ use crate::desk::Desk;
 use crate::disk::withdraw;
 use crate::run::{Kept, Run};
 use arrayvec::ArrayVec;
-use pp_flow::KEY_ROOM;
 use pp_links::Links;
 use pp_objects::ObjectId;
 use pp_shelf::Shelf;
+use pp_target::KEY_ROOM;
 use pp_world::{Name, Note, World};
 
 /// The file of an entry with 64 chunks of its body: the head block and the gates of the longest body, and the chunks.

@@ -15,4 +15,4 @@ mod target; // the key of a target, and where its parts stand
 mod name; // the file name of a key
 
 pub use name::file_name;
-pub use target::{Place, TargetFault, key};
+pub use target::{KEY_ROOM, Place, TargetFault, key};

@@ -14,6 +14,9 @@ use pp_text::read_u64;
 use std::alloc::Global;
 use thiserror::Error;
 
+/// Bytes that a key may have.
+pub const KEY_ROOM: usize = 8192;
+
 /// Where the parts of a key stand in it, as byte offsets.
 #[derive(Clone, Copy, Debug, PartialEq, Eq)]
 pub struct Place {
@@ -50,7 +53,11 @@ pub enum TargetFault {
 
 /// Writes the key of a target into `out`, and answers where its parts stand (RFC 2616, sections
 /// 3.2.2, 3.2.3 and 5.1.2). What `out` held is gone; after a fault it is empty.
-pub fn key(alloc: Global, target: &[u8], out: &mut ArrayVec<u8, 8192>) -> Result<Place, TargetFault>
+pub fn key(
+    alloc: Global,
+    target: &[u8],
+    out: &mut ArrayVec<u8, KEY_ROOM>,
+) -> Result<Place, TargetFault>
     ensures key { IfOk result (λ place. key_at target.now ≡ Ok (key_in out.new.items place)) }
     ensures place { IfOk result (IsPlaceIn out.new.items) }
     ensures fault { IfErr result (λ fault. (fault ≡ TargetFault.OutOfMemory) ⊎ (key_at target.now ≡ Err fault)) }
@@ -66,7 +73,7 @@ pub fn key(alloc: Global, target: &[u8], out: &mut ArrayVec<u8, 8192>) -> Result
     written
 }
 
-fn write_uri(uri: &Uri, out: &mut ArrayVec<u8, 8192>) -> Result<Place, TargetFault>
+fn write_uri(uri: &Uri, out: &mut ArrayVec<u8, KEY_ROOM>) -> Result<Place, TargetFault>
     requires { out.old.items ≡ [] }
     ensures { IsDue (key_from (parts_of uri.now)) result out.new.items }
 {
@@ -84,7 +91,7 @@ fn write_key(
     scheme: &str,
     authority: &str,
     path: &str,
-    out: &mut ArrayVec<u8, 8192>,
+    out: &mut ArrayVec<u8, KEY_ROOM>,
 ) -> Result<Place, TargetFault>
     requires { out.old.items ≡ [] }
     ensures { IsDue (key_from_parts scheme.now authority.now path.now) result out.new.items }
@@ -148,7 +155,7 @@ fn write_parts(
     host: &str,
     port: u16,
     path: &str,
-    out: &mut ArrayVec<u8, 8192>,
+    out: &mut ArrayVec<u8, KEY_ROOM>,
 ) -> Result<Place, TargetFault>
     requires { out.old.items ≡ [] }
     ensures ok { IfOk result (IsSpelled (key_of host.now port path.now) out.new.items) }
@@ -168,7 +175,7 @@ fn write_parts(
     })
 }
 
-fn append_port(port: u16, out: &mut ArrayVec<u8, 8192>) -> Result<(), TargetFault>
+fn append_port(port: u16, out: &mut ArrayVec<u8, KEY_ROOM>) -> Result<(), TargetFault>
     ensures ok { OnOk result (out.new.items ≡ out.old.items ++ port_text port) }
     ensures err { IfErr result (λ f. (f ≡ TargetFault.TooLong) × (8192 < array_vec_len out.old + length (port_text port))) }
 {
@@ -180,7 +187,7 @@ fn append_port(port: u16, out: &mut ArrayVec<u8, 8192>) -> Result<(), TargetFaul
     append(digits.format(port).as_bytes(), out)
 }
 
-fn append_path(path: &[u8], out: &mut ArrayVec<u8, 8192>) -> Result<(), TargetFault>
+fn append_path(path: &[u8], out: &mut ArrayVec<u8, KEY_ROOM>) -> Result<(), TargetFault>
     ensures ok { OnOk result (out.new.items ≡ out.old.items ++ with_slash path.now) }
     ensures room { OnOk result (array_vec_len out.old + length (with_slash path.now) ≤ 8192) }
     ensures err { IfErr result (λ f. (f ≡ TargetFault.TooLong) × (8192 < array_vec_len out.old + length (with_slash path.now))) }
@@ -191,7 +198,7 @@ fn append_path(path: &[u8], out: &mut ArrayVec<u8, 8192>) -> Result<(), TargetFa
     append(path, out)
 }
 
-fn append_lower(text: &[u8], out: &mut ArrayVec<u8, 8192>) -> Result<(), TargetFault>
+fn append_lower(text: &[u8], out: &mut ArrayVec<u8, KEY_ROOM>) -> Result<(), TargetFault>
     ensures ok { OnOk result (out.new.items ≡ out.old.items ++ lower text.now) }
     ensures err { IfErr result (λ f. (f ≡ TargetFault.TooLong) × (8192 < array_vec_len out.old + length text.now)) }
 {
@@ -204,7 +211,7 @@ fn append_lower(text: &[u8], out: &mut ArrayVec<u8, 8192>) -> Result<(), TargetF
     Ok(())
 }
 
-fn append(text: &[u8], out: &mut ArrayVec<u8, 8192>) -> Result<(), TargetFault>
+fn append(text: &[u8], out: &mut ArrayVec<u8, KEY_ROOM>) -> Result<(), TargetFault>
     ensures ok { OnOk result (out.new.items ≡ out.old.items ++ text.now) }
     ensures room { OnOk result (array_vec_len out.old + length text.now ≤ 8192) }
     ensures err { IfErr result (λ f. (f ≡ TargetFault.TooLong) × (8192 < array_vec_len out.old + length text.now)) }
