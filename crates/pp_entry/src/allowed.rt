@@ -1,18 +1,18 @@
 // Which fields an entry may have.
-ghost use Rattle.std.specs.Prelude.{◌≡◌, ◌-◌, ◌^◌, ◌<◌, [], filter, length, min, nat_le};
+ghost use Rattle.std.specs.Prelude.{◌≡◌, ◌<◌, [], filter, length, nat_le};
 ghost use Rattle.std.specs.List.{list_all};
 ghost use Rattle.pp_text.specs.Fields.{field_at};
-ghost use Rattle.pp_text.specs.Lines.{line_of, lines_of};
-ghost use Rattle.pp_valid.specs.Kept.{is_written_anew};
+ghost use Rattle.pp_text.specs.Lines.{lines_of};
 ghost use Rattle.pp_entry.specs.Fields.{are_allowed, is_passing, may_be_kept};
 
 use pp_text::{Fields, is_forwarded, same};
+use pp_valid::{is_renewed, is_written_anew, line_len};
 
 /// The bytes that another response of the version may renew.
 const RENEWED_ROOM: usize = 2048;
 
-/// Whether an entry may have these fields.
-pub(crate) fn are_allowed(fields: &Fields<'_, '_>) -> bool
+/// Whether an entry may have these fields: end to end, and with room for what is renewed.
+pub fn are_allowed(fields: &Fields<'_, '_>) -> bool
     ensures { result ≡ are_allowed fields.now }
 {
     may_all_be_kept(fields) && has_room(fields)
@@ -37,14 +37,6 @@ fn may_be_kept(fields: &Fields<'_, '_>, index: usize) -> bool
     is_forwarded(fields, index) && (same(b"date", name) || !is_written_anew(name))
 }
 
-/// Whether each reply has a field of this name of its own.
-fn is_written_anew(name: &[u8]) -> bool
-    ensures { result ≡ is_written_anew (name.now, []) }
-{
-    let is_of_body = same(b"content-length", name) || same(b"content-range", name);
-    is_of_body || same(b"age", name) || same(b"date", name)
-}
-
 /// Whether the lines of the fields that may be renewed fit the room for them.
 fn has_room(fields: &Fields<'_, '_>) -> bool
     ensures { result ≡ nat_le (length (lines_of (filter is_passing fields.now))) 2048 }
@@ -62,20 +54,8 @@ fn has_room(fields: &Fields<'_, '_>) -> bool
     true
 }
 
-fn line_len(fields: &Fields<'_, '_>, index: usize) -> usize
-    requires { index < length fields.now }
-    ensures { result ≡ min (length (line_of (field_at fields.now index))) (2 ^ 64 - 1) }
-{
-    let text_len = fields
-        .name(index)
-        .len()
-        .saturating_add(fields.value(index).len());
-    text_len.saturating_add(4)
-}
-
 fn is_passing(name: &[u8]) -> bool
     ensures { result ≡ is_passing (name.now, []) }
 {
-    let is_renewed = same(b"expires", name) || same(b"cache-control", name);
-    same(b"date", name) || is_renewed
+    same(b"date", name) || is_renewed(name)
 }

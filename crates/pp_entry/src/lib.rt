@@ -22,6 +22,7 @@ mod spelling; // one spelling for each entry
 mod text; // the text of a head block
 mod write; // from an entry to its head block
 
+pub use allowed::are_allowed;
 pub use entry::{Entry, Scratch};
 pub use gates::{extent, has_extent};
 pub use lines::{HEAD_LEN, TooLong};

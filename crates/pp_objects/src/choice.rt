@@ -6,6 +6,7 @@ ghost use Rattle.pp_objects.specs.Kept.{is_passing};
 ghost use Rattle.pp_objects.specs.Texts.{is_chosen};
 
 use pp_text::{Fields, is_forwarded, same};
+use pp_valid::{is_renewed, is_written_anew};
 
 /// Which fields of a list.
 #[derive(Clone, Copy)]
@@ -59,17 +60,4 @@ fn is_passing(name: &[u8]) -> bool
     ensures { result ≡ is_passing (name.now, []) }
 {
     same(b"date", name) || is_renewed(name)
-}
-
-fn is_renewed(name: &[u8]) -> bool
-    ensures { result ≡ is_renewed (name.now, []) }
-{
-    same(b"expires", name) || same(b"cache-control", name)
-}
-
-fn is_written_anew(name: &[u8]) -> bool
-    ensures { result ≡ is_written_anew (name.now, []) }
-{
-    let is_length = same(b"content-length", name) || same(b"content-range", name);
-    is_length || same(b"age", name) || same(b"date", name)
 }

@@ -1,5 +1,5 @@
 // What a response renews of the fields that are kept, and those that are put into a text.
-ghost use Rattle.std.specs.Prelude.{◌≡◌, ◌++◌, codes, filter, OnOk, OnErr, option_copied};
+ghost use Rattle.std.specs.Prelude.{◌≡◌, ◌++◌, codes, filter, OnOk, OnErr};
 ghost use Rattle.pp_valid.specs.Kept.{date_value};
 ghost use Rattle.pp_objects.specs.Kept.{date_field, or_else, renewal_of, refreshed_of};
 ghost use Rattle.pp_objects.specs.Texts.{AddsFields, HasRoomFor, is_chosen};
@@ -9,6 +9,7 @@ use crate::text::KeptText;
 use httpdate::HttpDate;
 use pp_fresh::Times;
 use pp_text::{Fields, OutOfMemory};
+use pp_valid::date_value;
 
 /// Adds the fields that are chosen. Fails only where there was no room for them.
 pub(crate) fn put_chosen(
@@ -100,19 +101,4 @@ fn put_second(text: &mut KeptText, came: u64) -> Result<(), OutOfMemory>
         return Ok(());
     };
     text.put(b"date", &date.to_bytes())
-}
-
-/// The date as it was sent. `None` exactly where there is none that can be read.
-pub(crate) fn date_value<'a>(fields: &Fields<'a, '_>) -> Option<&'a [u8]>
-    ensures { option_copied result ≡ date_value fields.now }
-{
-    if fields.has_item(b"connection", b"date") {
-        return None;
-    }
-    let value = fields.first(b"date")?;
-    if HttpDate::parse_ascii(value).is_ok() {
-        Some(value)
-    } else {
-        None
-    }
 }

@@ -7,10 +7,10 @@ ghost use Rattle.pp_objects.specs.Kept.{date_field, has_room, or_else};
 ghost use Rattle.pp_objects.specs.Texts.{is_chosen};
 
 use crate::choice::{Choice, is_chosen};
-use crate::renewal::date_value;
 use httpdate::HttpDate;
 use pp_fresh::Times;
 use pp_text::Fields;
+use pp_valid::{date_value, line_len};
 
 /// The bytes of the lines that a later response of the version may renew.
 pub(crate) const RENEWED_ROOM: usize = 2048;
@@ -54,17 +54,6 @@ fn chosen_len(choice: Choice, fields: &Fields<'_, '_>) -> usize
         }
     }
     len
-}
-
-fn line_len(fields: &Fields<'_, '_>, index: usize) -> usize
-    requires { index < length fields.now }
-    ensures { result ≡ min (length (line_of (field_at fields.now index))) (2 ^ 64 - 1) }
-{
-    let text_len = fields
-        .name(index)
-        .len()
-        .saturating_add(fields.value(index).len());
-    text_len.saturating_add(4)
 }
 
 fn date_len(fields: &Fields<'_, '_>, came: u64) -> usize

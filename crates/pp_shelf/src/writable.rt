@@ -1,23 +1,17 @@
 // Whether an entry can be written of a row.
-ghost use Rattle.std.specs.Prelude.{◌≡◌, ◌-◌, ◌^◌, ◌<◌, ◌↔◌, [], filter, length, min, nat_le, true};
+ghost use Rattle.std.specs.Prelude.{◌≡◌, ◌↔◌, true};
 ghost use Rattle.std.specs.List.{list_all};
 ghost use Rattle.httparse.specs.Grammar.{is_uri_byte};
-ghost use Rattle.pp_text.specs.Fields.{field_at};
-ghost use Rattle.pp_text.specs.Lines.{line_of, lines_of};
-ghost use Rattle.pp_valid.specs.Kept.{is_written_anew};
 ghost use Rattle.pp_entry.specs.Entries.{is_sized};
-ghost use Rattle.pp_entry.specs.Fields.{are_allowed, is_passing, may_be_kept};
 ghost use Rattle.pp_entry.specs.Spelling.{CanBeWritten};
 ghost use Rattle.pp_store.specs.Changes.{entry_with};
 ghost use Rattle.pp_shelf.specs.Texts.{has_tag, is_text, is_trimmed, is_writable};
 
 use httparse::{is_header_value, is_token, is_uri_token};
+use pp_entry::are_allowed;
 use pp_fresh::Times;
-use pp_text::{Fields, is_forwarded, same, trim};
+use pp_text::{Fields, trim};
 use pp_valid::{TagState, Version, tag_of};
-
-/// The bytes that another response of the version may renew.
-const RENEWED_ROOM: usize = 2048;
 
 /// The longest body of an entry.
 const BODY_LEN: u64 = 1 << 26;
@@ -87,74 +81,4 @@ fn is_trimmed(value: &[u8]) -> bool
     ensures { result ≡ is_trimmed value.now }
 {
     is_header_value(value) && trim(value) == value
-}
-
-// ---- end to end, and with room for what is renewed
-
-fn are_allowed(fields: &Fields<'_, '_>) -> bool
-    ensures { result ≡ are_allowed fields.now }
-{
-    may_all_be_kept(fields) && has_room(fields)
-}
-
-fn may_all_be_kept(fields: &Fields<'_, '_>) -> bool
-    ensures { result ≡ list_all (may_be_kept fields.now) fields.now }
-{
-    for index in 0..fields.len() {
-        if !may_be_kept(fields, index) {
-            return false;
-        }
-    }
-    true
-}
-
-fn may_be_kept(fields: &Fields<'_, '_>, index: usize) -> bool
-    requires { index < length fields.now }
-    ensures { result ≡ may_be_kept fields.now (field_at fields.now index) }
-{
-    let name = fields.name(index);
-    is_forwarded(fields, index) && (same(b"date", name) || !is_written_anew(name))
-}
-
-/// Whether each reply has a field of this name of its own.
-fn is_written_anew(name: &[u8]) -> bool
-    ensures { result ≡ is_written_anew (name.now, []) }
-{
-    let is_of_body = same(b"content-length", name) || same(b"content-range", name);
-    is_of_body || same(b"age", name) || same(b"date", name)
-}
-
-/// Whether the lines of the fields that may be renewed fit the room for them.
-fn has_room(fields: &Fields<'_, '_>) -> bool
-    ensures { result ≡ nat_le (length (lines_of (filter is_passing fields.now))) 2048 }
-{
-    let mut left = RENEWED_ROOM;
-    for index in 0..fields.len() {
-        if is_passing(fields.name(index)) {
-            let len = line_len(fields, index);
-            if len > left {
-                return false;
-            }
-            left -= len;
-        }
-    }
-    true
-}
-
-fn line_len(fields: &Fields<'_, '_>, index: usize) -> usize
-    requires { index < length fields.now }
-    ensures { result ≡ min (length (line_of (field_at fields.now index))) (2 ^ 64 - 1) }
-{
-    let text_len = fields
-        .name(index)
-        .len()
-        .saturating_add(fields.value(index).len());
-    text_len.saturating_add(4)
-}
-
-fn is_passing(name: &[u8]) -> bool
-    ensures { result ≡ is_passing (name.now, []) }
-{
-    let is_renewed = same(b"expires", name) || same(b"cache-control", name);
-    same(b"date", name) || is_renewed
 }

@@ -33,7 +33,8 @@ pub fn has_room_for(fields: &Fields<'_, '_>) -> bool
     renewed && fit(fields, Lines::Lasting, LASTING_ROOM)
 }
 
-fn date_value<'a>(fields: &Fields<'a, '_>) -> Option<&'a [u8]>
+/// The Date of a response, where it is one (RFC 7231, section 7.1.1.2) and Connection does not name it.
+pub fn date_value<'a>(fields: &Fields<'a, '_>) -> Option<&'a [u8]>
     ensures { option_copied result ≡ date_value fields.now }
 {
     if is_dropped(fields, b"date") {
@@ -74,7 +75,8 @@ fn fit(fields: &Fields<'_, '_>, kind: Lines, room: usize) -> bool
     true
 }
 
-fn line_len(fields: &Fields<'_, '_>, index: usize) -> usize
+/// The bytes of a field's line: name, colon, blank, value and line end.
+pub fn line_len(fields: &Fields<'_, '_>, index: usize) -> usize
     requires { index < length fields.now }
     ensures { result ≡ min (length (line_of (field_at fields.now index))) (2 ^ 64 - 1) }
 {
@@ -99,13 +101,15 @@ fn is_of(fields: &Fields<'_, '_>, kind: Lines, index: usize) -> bool
     }
 }
 
-fn is_renewed(name: &[u8]) -> bool
+/// Whether a field of this name is renewed by a later response of the version (RFC 7234, section 4.3.4).
+pub fn is_renewed(name: &[u8]) -> bool
     ensures { result ≡ is_renewed (name.now, []) }
 {
     same(b"expires", name) || same(b"cache-control", name)
 }
 
-fn is_written_anew(name: &[u8]) -> bool
+/// Whether each reply has a field of this name of its own.
+pub fn is_written_anew(name: &[u8]) -> bool
     ensures { result ≡ is_written_anew (name.now, []) }
 {
     let is_length = same(b"content-length", name) || same(b"content-range", name);
