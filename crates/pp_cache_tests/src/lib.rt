@@ -1,7 +1,7 @@
 //! Worked exchanges over the crates of the cache: tables of calls, each call with what it answers.
 //!
 //! `cache` has the instances, their chunks and their eviction, `cells` one instance and one pool,
-//! `links` the open connections, and `heads` and `replies` what is decided and replied for a request
+//! `lines` the exchanges under way, `links` the open connections, and `heads` and `replies` what is decided and replied for a request
 //! and a response.
 //! An exchange of one of these is a table, which one interpreter runs.
 //!
@@ -19,6 +19,8 @@ mod evictions; // which chunk goes
 mod heads; // a request, a response, and what is made of them
 #[cfg(test)]
 mod instances; // rows by key, and their bytes
+#[cfg(test)]
+mod lines; // which exchange waits, and which response comes next
 #[cfg(test)]
 mod links; // connections that are open
 #[cfg(test)]

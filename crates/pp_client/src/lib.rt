@@ -29,6 +29,3 @@ pub use current::Current;
 pub use gather::{OFFER_LEN, Room};
 pub use heard::HEARD_LEN;
 pub use reply::Begin;
-
-#[cfg(test)]
-mod tests; // worked exchanges with one client

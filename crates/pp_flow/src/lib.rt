@@ -22,6 +22,3 @@ mod lists; // a list of exchanges
 pub use entry::{Aim, Entry, Exchange};
 pub use errand::{Body, Errand, Kind};
 pub use flow::{EXCHANGES, Flow};
-
-#[cfg(test)]
-mod tests; // worked lines

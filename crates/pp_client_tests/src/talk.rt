@@ -2,12 +2,12 @@
 ghost use Rattle.std.specs.Prelude.{◌≡◌, IfSome, true};
 ghost use Rattle.pp_objects.specs.Instances.{is_there};
 ghost use Rattle.pp_client.specs.Replies.{IsBeginning, next_byte};
+ghost use Rattle.pp_client.specs.declared.reply.Stage.TheVariants.{Due};
 ghost use Rattle.pp_client.specs.Requests.{current_of, is_answerable};
 
-use crate::reply::Stage;
-use crate::tests::cache::Cache;
-use crate::{Begin, Client, Current, Room};
+use crate::cache::Cache;
 use arrayvec::ArrayVec;
+use pp_client::{Begin, Client, Current, Room};
 use pp_head::Scratch;
 use pp_objects::Objects;
 use std::alloc::Global;
@@ -137,7 +137,7 @@ fn is_answerable(client: &Client, scratch: &mut Scratch) -> bool
 }
 
 fn is_due(client: &Client) -> bool
-    ensures { result ≡ true → client.now.reply.stage ≡ Stage.Due }
+    ensures { result ≡ true → client.now.reply.stage ≡ Due }
 {
     !client.has_begun()
 }

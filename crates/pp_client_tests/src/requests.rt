@@ -1,6 +1,6 @@
 // What is current, by what was heard.
-use crate::tests::cache::Cache;
-use crate::tests::talk::Talk;
+use crate::cache::Cache;
+use crate::talk::Talk;
 use arrayvec::ArrayVec;
 use std::process::Abort;
 

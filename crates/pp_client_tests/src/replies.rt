@@ -1,7 +1,7 @@
 // What is said: the interim answer, the head, and the body.
-use crate::tests::cache::Cache;
-use crate::tests::talk::{Said, Talk};
-use crate::{Begin, Client};
+use crate::cache::Cache;
+use crate::talk::{Said, Talk};
+use pp_client::{Begin, Client};
 use std::test::Fail;
 
 const HEAD: &[u8] = b"HTTP/1.1 200 OK\r\n\r\n";

@@ -1,7 +1,7 @@
 // Worked lines: which exchange waits, and which response of a connection comes next (RFC 2616, section
 // 8.1.2.2: "A server MUST send its responses to those requests in the same order that the requests were
 // received").
-use crate::{Aim, EXCHANGES, Errand, Flow};
+use pp_flow::{Aim, EXCHANGES, Errand, Flow};
 use pp_objects::ObjectId;
 use pp_text::OutOfMemory;
 

@@ -1,6 +1,6 @@
 // Bodies of requests: heard, taken and dropped.
-use crate::tests::cache::Cache;
-use crate::tests::talk::Talk;
+use crate::cache::Cache;
+use crate::talk::Talk;
 
 #[test]
 fn a_body_is_taken_in_part_and_its_rest_is_dropped(rt: HostRuntime) {

@@ -3,7 +3,7 @@ use Rattle.pp_holes.specs.Cells.{Agrees}
 use Rattle.pp_holes.proofs.Agreement.{agrees_new}
 use Rattle.pp_objects.specs.Instances.{Instance, Rows, cells_at}
 use Rattle.pp_pool.specs.Chunks.{Chunks, Used, AreDistinct, numbers}
-use Rattle.pp_client.proofs.tests.cache.Cache.new.Goals as goal
+use Rattle.pp_client_tests.proofs.cache.Cache.new.Goals as goal
 
 -- instances and a pool that were just made agree: there is nothing of either
 nothing_twice : AreDistinct (numbers [])
@@ -25,6 +25,6 @@ just_made : {E F : Type 0} (size : ℕ) (o : Rows) (p : Chunks) (made : Result R
     → made ≡ Ok o → IfOk taken (λ x. x ≡ record { size = size; used = [] }) → taken ≡ Ok p → (slot : ℕ) → Agrees slot (cells_at slot o.instances) p.used
 just_made size o p made taken h eq k same = none_agree o.instances p.used (ap (λ (x : Rows). x.instances) (value_is (record { instances = []; lives = 0 }) o made h eq)) (ap (λ (x : Chunks). x.used) (value_is (record { size = size; used = [] }) p taken k same))
 
--- src/tests/cache.rt:32:5
+-- src/cache.rt:32:5
 pub invariant_of-result : goal.invariant_of-result
 invariant_of-result g c = just_made 512 c.expect-objects.result c.expect-pool.result _ _ c.new.ensures c.expect-objects.ensures c.new-2.ensures c.expect-pool.ensures
