@@ -40,6 +40,7 @@ use Rattle.pp_steps.specs.Ends.{AreInOrder, Parts, cleared_key, cleared_of, drop
 use Rattle.pp_steps.specs.Heads.{key_of}
 use Rattle.pp_steps_law.specs.Steps.{ShowsSteps, whole}
 use Rattle.pp_steps_law.proofs.Places.{HasPlace, HasSeat, at_place, has_place, has_seat, numbers_set, one_asks, HasNone, has_none}
+use Rattle.pp_steps_law.proofs.Told.{asker_next, clear_next, exchange_next, told_cleared, told_left, told_next}
 use Rattle.pp_target.specs.Key.{text_of}
 use Rattle.pp_valid.specs.declared.version.Version.{Version}
 use Rattle.std.proofs.lemmas.Bool.Decides.{nat_tests}
@@ -64,6 +65,7 @@ on_asker number name l peers p s shows e n i f g asks place goes =
     (record {
       shows = askers number name [] l (whole p peers) s shows.shows e n i (f one.seat) g asks at goes.follows (λ seat c there found shown. again seat c there (goes.shows seat c there found shown));
       order = subst (λ (ns : List ℕ). AreInOrder ns) (sym (numbers_set i p.seats one.seat (f one.seat) one.there (goes.id one.seat))) shows.order;
+      told = told_next number p.cache s.next_instance (on_client_of e g s).next_instance p.flow (asker_next e g s) shows.told;
       refused = shows.refused;
     })
   where
@@ -167,14 +169,19 @@ abbrev given_all : Parts → Parts
 given_all p = record p { refused = [] }
 
 all_given : (number : ℕ → ℕ) (name : Bytes) (l : Leaving) (peers : List Peer) (p : Parts) (s : State) → ShowsSteps number name l peers p s → ShowsSteps number name l peers (given_all p) s
-all_given number name l peers p s shows = record { shows = shows.shows; order = shows.order; refused = refl }
+all_given number name l peers p s shows = record { shows = shows.shows; order = shows.order; told = shows.told; refused = refl }
 
 -- what holds where it was refused for none holds of these
 as_given : (number : ℕ → ℕ) (name : Bytes) (l : Leaving) (peers : List Peer) (p : Parts) (s t : State) (f : Parts → Parts) → ShowsSteps number name l peers p s → ShowsSteps number name l peers (f (given_all p)) t → ShowsSteps number name l peers (f p) t
 as_given number name l peers p s t f shows it = subst (λ (keys : List (List ℕ)). ShowsSteps number name l peers (f (record p { refused = keys })) t) (sym shows.refused) it
 
 pub clears_row : (number : ℕ → ℕ) (name : Bytes) (l : Leaving) (peers : List Peer) (p : Parts) (s : State) → ShowsSteps number name l peers p s → (key : Bytes) → ShowsSteps number name l peers (cleared_key key (given_all p)) (clear key s)
-clears_row number name l peers p s shows key = record { shows = clears number name [] l (whole p peers) s shows.shows key; order = shows.order; refused = refl }
+clears_row number name l peers p s shows key = record {
+  shows = clears number name [] l (whole p peers) s shows.shows key;
+  order = shows.order;
+  told = told_cleared number key p.cache s.next_instance (clear key s).next_instance p.flow (clear_next key s) shows.told;
+  refused = refl;
+}
 
 -- ---- its request is decided without it
 
@@ -195,7 +202,12 @@ without_row_id seat = by (has_begun seat || seat.has_given_up)
 -- ---- its request leaves it
 
 leaves_exchange : (number : ℕ → ℕ) (name : Bytes) (l : Leaving) (peers : List Peer) (p : Parts) (s : State) → ShowsSteps number name l peers p s → (n : ℕ) → ShowsSteps number name l peers (left n p) (on_exchange n left_alone s)
-leaves_exchange number name l peers p s shows n = record { shows = leaves number name [] l (whole p peers) s shows.shows n; order = shows.order; refused = shows.refused }
+leaves_exchange number name l peers p s shows n = record {
+  shows = leaves number name [] l (whole p peers) s shows.shows n;
+  order = shows.order;
+  told = told_next number p.cache s.next_instance (on_exchange n left_alone s).next_instance (left n p).flow (exchange_next n left_alone s) (told_left number p.cache s.next_instance n p.flow shows.told);
+  refused = shows.refused;
+}
 
 drops_row : (number : ℕ → ℕ) (name : Bytes) (l : Leaving) (peers : List Peer) (p : Parts) (s : State) → ShowsSteps number name l peers p s → (n i c : ℕ) (x : Entry) (e : Exchange) → IsThere n p s x e → e.asker ≡ Some c
     → place_of c (numbers_of p.seats) ≡ Some i → IsFor s e GoesOn

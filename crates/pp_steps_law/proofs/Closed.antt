@@ -24,6 +24,7 @@ use Rattle.pp_states_law.specs.Decisions.{AreApart}
 use Rattle.pp_states_law.specs.Exchanges.{StandsNowhere}
 use Rattle.pp_steps_law.proofs.Kept.{Kept, all_go, lost_kept}
 use Rattle.pp_steps_law.proofs.Lost.{places_lost}
+use Rattle.pp_steps_law.proofs.Told.{conn_next, told_next}
 use Rattle.pp_steps_law.specs.Charges.{IsThere}
 use Rattle.pp_steps.specs.Ends.{Parts, lost_place}
 use Rattle.pp_steps.specs.Lines.{first_on, lost_line}
@@ -149,6 +150,7 @@ at_rest number name l peers p s shows k remains = record {
     conns = shows.shows.conns;
   };
   order = shows.order;
+  told = shows.told;
   refused = shows.refused;
 }
   where
@@ -215,7 +217,12 @@ unfolding close_conn
 closes number name l peers p s shows n most counts peer k none apart go found there short =
     subst (λ (m : ℕ). ShowsSteps number name none_leaves (with_peer n (record peer { is_closing = true }) peers) (lost_line most n (counts && not k.has_brought) p) (each_exchange (lose_place (counts && not k.has_brought)) k.line (on_conn m emptied s))) (sym at)
     (lines number name (with_peer n (record peer { is_closing = true }) peers) n (counts && not k.has_brought) k.line most short (still n k.line l) p (on_conn n emptied s)
-    (record { shows = closings number name [] l (whole p peers) s shows.shows n peer k (apart n) found there; order = shows.order; refused = shows.refused })
+    (record {
+      shows = closings number name [] l (whole p peers) s shows.shows n peer k (apart n) found there;
+      order = shows.order;
+      told = told_next number p.cache s.next_instance (on_conn n emptied s).next_instance p.flow (conn_next n emptied s) shows.told;
+      refused = shows.refused;
+    })
     (record { here = here; elsewhere = elsewhere; empty = closed_line n s k there }) (closed_apart n s apart) (closed_go n s go))
   where
     at : k.number ≡ n

@@ -5,3 +5,4 @@ pub mod Lost
 pub mod Paid
 pub mod Places
 pub mod Shorts
+pub mod Told

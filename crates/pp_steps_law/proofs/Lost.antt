@@ -41,6 +41,7 @@ use Rattle.pp_steps_law.specs.Steps.{ShowsSteps, whole}
 use Rattle.pp_steps_law.proofs.Charged.{asker_rest, course_shown, losses, number_is, on_asker, same_entry, lost_given}
 use Rattle.pp_steps_law.proofs.Places.{HasNone, HasPlace, HasSeat, at_place, has_none, has_place as has_seat_place, has_seat, one_asks}
 use Rattle.pp_steps_law.proofs.Shorts.{cut_off, shorts, shorts_follow}
+use Rattle.pp_steps_law.proofs.Told.{exchange_next, over_next, told_asked, told_next, told_over, told_unplaced}
 use Rattle.pp_flow_law.proofs.Told.{places as still_placed}
 use Rattle.pp_steps_law.proofs.Paid.{Before, Stays, charge_stays}
 
@@ -106,7 +107,12 @@ asks_again number name l peers p s shows n x e there goes =
 -- ---- it is over, or waits again
 
 ends_there : (number : ℕ → ℕ) (name : Bytes) (l : Leaving) (peers : List Peer) (p : Parts) (s : State) → ShowsSteps number name l peers p s → (n : ℕ) → StandsNowhere n s.conns → ShowsSteps number name (but n l) peers (ended n p) (end_exchange n s)
-ends_there number name l peers p s shows n nowhere = record { shows = ends number name [] l (whole p peers) s shows.shows n nowhere; order = shows.order; refused = shows.refused }
+ends_there number name l peers p s shows n nowhere = record {
+  shows = ends number name [] l (whole p peers) s shows.shows n nowhere;
+  order = shows.order;
+  told = told_next number p.cache s.next_instance (end_exchange n s).next_instance (ended n p).flow (over_next n s) (told_over number p.cache s.next_instance n p.flow shows.told);
+  refused = shows.refused;
+}
 
 -- behind its place it stands among those without one
 entry_without : (number : ℕ → ℕ) (l : Leaving) (f : Exchanges) (s : State) → ShowsFlow number l f s → (n : ℕ) (x : Entry) → find (is_number n) f.placed ≡ Some x → entry_of n (without_place n f) ≡ Some (with_place None x)
@@ -119,7 +125,14 @@ waits_again : (number : ℕ → ℕ) (name : Bytes) (l : Leaving) (peers : List 
 waits_again number name l peers p s shows n x lost =
     subst (λ (o : Option Entry). ShowsSteps number name (but n l) peers (record p { flow = elim o as (λ t. Exchanges) [ None ↦ without_place n p.flow | Some y ↦ with_errand n (record y.errand { asked = 0 }) (without_place n p.flow) ] }) (on_exchange n unplaced s))
     (sym (entry_without number l p.flow s shows.shows.exchanges n x lost.placed))
-    (record { shows = unplaces number name [] l (whole p peers) s shows.shows n x lost.placed lost.left lost.nowhere; order = shows.order; refused = shows.refused })
+    (record {
+      shows = unplaces number name [] l (whole p peers) s shows.shows n x lost.placed lost.left lost.nowhere;
+      order = shows.order;
+      told =
+          told_next number p.cache s.next_instance (on_exchange n unplaced s).next_instance (with_errand n (record x.errand { asked = 0 }) (without_place n p.flow)) (exchange_next n unplaced s)
+          (told_asked number p.cache s.next_instance n (record x.errand { asked = 0 }) (without_place n p.flow) (told_unplaced number p.cache s.next_instance n p.flow shows.told));
+      refused = shows.refused;
+    })
 
 -- ---- one that lost its place
 
