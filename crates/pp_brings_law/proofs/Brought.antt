@@ -1,5 +1,5 @@
 -- What one exchange brings, and what all of them do.
-use Rattle.std.proofs.Common.{◌≡◌, refl, sym, subst, ap, ap₂, ◌∙◌, ℕ, Bool, true, false, not, ◌==◌, ◌&&◌, ◌||◌, ◌+◌, ◌*◌, ◌/◌, cond, min, max, nat_le, nat_lt, length, Option, Some, None}
+use Rattle.std.proofs.Common.{◌≡◌, refl, sym, subst, ap, ap₂, ◌∙◌, ℕ, Bool, true, false, not, ◌==◌, ◌&&◌, ◌||◌, ◌+◌, ◌*◌, ◌/◌, cond, min, max, nat_le, nat_lt, length, List, Option, Some, None}
 use Rattle.std.specs.Prelude.{bytes_eq}
 use Rattle.pp_cache.specs.Memory.{Memory}
 use Rattle.pp_cache_law.proofs.Alike.{bytes_of, held_of, instances_of}
@@ -11,7 +11,7 @@ use Rattle.pp_flow.specs.declared.entry.Aim.{Aim}
 use Rattle.pp_flow.specs.declared.entry.Aim.TheVariants.{Own as OfItself, Hole, Pass}
 use Rattle.pp_flow.specs.declared.entry.Entry.{Entry}
 use Rattle.pp_flow_law.proofs.Standing.{is_shown}
-use Rattle.pp_flow_law.specs.Tables.{Leaving}
+use Rattle.pp_flow_law.specs.Tables.{Leaving, ShowsFlow}
 use Rattle.pp_holes.specs.Places.{bytes_at}
 use Rattle.pp_law.specs.Chunks.{filled as filled_of}
 use Rattle.pp_law.specs.Connections.{exchange}
@@ -21,6 +21,7 @@ use Rattle.pp_law.specs.State.{State, Instance as Known, Bound, Exchange, Aim as
 use Rattle.pp_law.specs.Table.{Next, asks_for as asks_for_it, brings as brings_it, instance, is_held, is_soon as is_soon_by, is_to_come as is_to_come_by}
 use Rattle.pp_objects.specs.Instances.{Instance, in_slot, is_same_id, is_there}
 use Rattle.pp_objects.specs.declared.id.ObjectId.{ObjectId}
+use Rattle.pp_peers.specs.declared.peers.Peer.{Peer}
 use Rattle.pp_plan.specs.Need.{is_near}
 use Rattle.pp_seats.specs.declared.seat.Next.{Next as SeatNext}
 use Rattle.pp_seats_law.proofs.Entries.{exchanges}
@@ -28,9 +29,13 @@ use Rattle.pp_seats_law.proofs.Nexts.{found_number}
 use Rattle.pp_seats_law.specs.Exchanges.{Binding, IsBoundAs, ShowsBound, ShowsExchange}
 use Rattle.pp_seats_law.specs.Fates.{aim_of}
 use Rattle.pp_steps.specs.Bringing.{asks_by, asks_for, asks_for_in, brings, brings_by, filled, instance_of, is_to_come, serves_by}
+use Rattle.pp_steps.specs.Ends.{Parts}
+use Rattle.pp_steps_law.proofs.Told.{told_of}
+use Rattle.pp_steps_law.specs.Steps.{ShowsSteps}
+use Rattle.pp_steps_law.specs.Told.{IsToldBy}
 use Rattle.pp_target.specs.Key.{text_of}
 use Rattle.pp_brings_law.proofs.All.{any_alike}
-use Rattle.pp_brings_law.specs.Both.{IsNext, IsToldBy, ShowsBoth}
+use Rattle.pp_brings_law.specs.Nexts.{IsNext}
 use Rattle.pp_brings_law.specs.Brings.{AsksAreTheLaws, BringsAreTheLaws, BroughtIsTheLaws, ProvidedIsTheLaws, ServesAreTheLaws}
 
 -- ---- what it asks for
@@ -89,8 +94,8 @@ module _ (number : ℕ → ℕ) (m : Memory) (s : State) (id : ObjectId) (x : Kn
   its_number : number id.life ≡ x.id
   its_number = sym (found_number s (number id.life) x known)
 
-  same_instance : (b : Binding) (far : ℕ) (c : Bound) → IsBoundAs number b far c → IsToldBy number m (Some b) → is_same_id b.0 id ≡ (c.instance == x.id)
-  same_instance b far c bound told = told id there ∙ ap₂ (λ (i j : ℕ). i == j) bound.joined its_number
+  same_instance : (b : Binding) (far : ℕ) (c : Bound) → IsBoundAs number b far c → IsToldBy number m s.next_instance (Some b) → is_same_id b.0 id ≡ (c.instance == x.id)
+  same_instance b far c bound told = told.apart id there ∙ ap₂ (λ (i j : ℕ). i == j) bound.joined its_number
 
   -- how much of a chunk is in memory
   filled_same : (index : ℕ) → ShowsTable number m s → filled id index m ≡ filled_of x.id index s.chunks
@@ -98,26 +103,26 @@ module _ (number : ℕ → ℕ) (m : Memory) (s : State) (id : ObjectId) (x : Kn
       ap (λ (b : Bool). cond b (length (bytes_at (id.slot, index) m.chunks)) 0) there
       ∙ ap (λ (bs : Bytes). length bs) (bytes_of number m s table id index there) ∙ ap (λ (k : ℕ). filled_of k index s.chunks) its_number
 
-  come_same : (b : Binding) (far : ℕ) (c : Bound) (at : ℕ) → ShowsTable number m s → IsBoundAs number b far c → IsToldBy number m (Some b) → is_to_come id b at m ≡ is_to_come_by s x c at
+  come_same : (b : Binding) (far : ℕ) (c : Bound) (at : ℕ) → ShowsTable number m s → IsBoundAs number b far c → IsToldBy number m s.next_instance (Some b) → is_to_come id b at m ≡ is_to_come_by s x c at
   come_same b far c at table bound told =
       comes_same at (is_same_id b.0 id) (c.instance == x.id) b.1 c.next b.2 c.to b.3 c.is_all (filled id (at / 4096) m) (filled_of x.id (at / 4096) s.chunks)
       (same_instance b far c bound told) bound.next bound.to bound.is_all (filled_same (at / 4096) table)
 
   -- ---- what it brings
 
-  brings_as : (e : Entry) (d : Exchange) (at : ℕ) (u : Option Binding) (v : Option Bound) → ShowsTable number m s → ShowsExchange number e d → ShowsBound number u v → IsToldBy number m u
+  brings_as : (e : Entry) (d : Exchange) (at : ℕ) (u : Option Binding) (v : Option Bound) → ShowsTable number m s → ShowsExchange number e d → ShowsBound number u v → IsToldBy number m s.next_instance u
       → brings_by id at m e u ≡ (elim v as (λ o. Bool) [ Some c ↦ is_to_come_by s x c at | None ↦ asks_for_it x at d ])
   brings_as e d at None None table shows bound told = asks_same e d at shows
   brings_as e d at None (Some c) table shows bound told = absurd bound
   brings_as e d at (Some b) None table shows bound told = absurd bound
   brings_as e d at (Some b) (Some c) table shows bound told = come_same b bound.0 c at table bound.1 told
 
-  pub brings_same : (e : Entry) (d : Exchange) (at : ℕ) → ShowsTable number m s → ShowsExchange number e d → IsToldBy number m e.exchange.bound → brings id at m e ≡ brings_it s x at d
+  pub brings_same : (e : Entry) (d : Exchange) (at : ℕ) → ShowsTable number m s → ShowsExchange number e d → IsToldBy number m s.next_instance e.exchange.bound → brings id at m e ≡ brings_it s x at d
   brings_same e d at table shows told = brings_as e d at e.exchange.bound (bound_of d) table shows (exchanges number e d shows).bound told
 
   -- ---- what it brings of what is wanted
 
-  serves_as : (e : Entry) (d : Exchange) (at to : ℕ) (u : Option Binding) (v : Option Bound) → ShowsExchange number e d → ShowsBound number u v → IsToldBy number m u
+  serves_as : (e : Entry) (d : Exchange) (at to : ℕ) (u : Option Binding) (v : Option Bound) → ShowsExchange number e d → ShowsBound number u v → IsToldBy number m s.next_instance u
       → serves_by (record { source = id; at = at; to = to }) m e u
       ≡ (elim v as (λ o. Bool) [ Some c ↦ (c.instance == x.id) && nat_lt (max c.next at) (min c.to to) && is_soon_by c at | None ↦ asks_for_it x at d ])
   serves_as e d at to None None shows bound told = asks_same e d at shows
@@ -129,37 +134,55 @@ module _ (number : ℕ → ℕ) (m : Memory) (s : State) (id : ObjectId) (x : Kn
 -- ---- of an exchange that is found by its number
 
 -- it shows the law's of that number
-pub shown_as : (number : ℕ → ℕ) (l : Leaving) (m : Memory) (f : Exchanges) (s : State) → ShowsBoth number l m f s → (k : ℕ) (e : Entry) (d : Exchange) → entry_of k f ≡ Some e → exchange s k ≡ Some d → ShowsExchange number e d
-shown_as number l m f s both k e d here there =
-    let one = is_shown number l f s both.flow k e here in
+pub shown_as : (number : ℕ → ℕ) (l : Leaving) (f : Exchanges) (s : State) → ShowsFlow number l f s → (k : ℕ) (e : Entry) (d : Exchange) → entry_of k f ≡ Some e → exchange s k ≡ Some d → ShowsExchange number e d
+shown_as number l f s flow k e d here there =
+    let one = is_shown number l f s flow k e here in
     subst (λ (y : Exchange). ShowsExchange number e y) (some_is one.known d (sym one.there ∙ there)) one.shows
 
-found_of : (number : ℕ → ℕ) (l : Leaving) (m : Memory) (f : Exchanges) (s : State) → ShowsBoth number l m f s → (x : SeatNext) (n : Next) → IsNext number m s x n → IsFound number m s x.source
-found_of number l m f s both x n next = instances_of number m s both.table x.source next.there
+module _ (number : ℕ → ℕ) (name : Bytes) (l : Leaving) (peers : List Peer) (p : Parts) (s : State) (shows : ShowsSteps number name l peers p s) where
+  table : ShowsTable number p.cache s
+  table = shows.shows.table.table
+
+  entry : (k : ℕ) (e : Entry) (d : Exchange) → entry_of k p.flow ≡ Some e → exchange s k ≡ Some d → ShowsExchange number e d
+  entry k e d here there = shown_as number l p.flow s shows.shows.exchanges k e d here there
+
+  told : (k : ℕ) (e : Entry) → entry_of k p.flow ≡ Some e → IsToldBy number p.cache s.next_instance e.exchange.bound
+  told k e here = told_of number p.cache s.next_instance k p.flow e shows.told here
+
+  found_of : (x : SeatNext) (n : Next) → IsNext number p.cache s x n → IsFound number p.cache s x.source
+  found_of x n next = instances_of number p.cache s table x.source next.there
+
+  asks_as : (x : SeatNext) (n : Next) → IsNext number p.cache s x n → (k : ℕ) (e : Entry) (d : Exchange) → entry_of k p.flow ≡ Some e → exchange s k ≡ Some d → asks_for x.source x.at p.cache e ≡ asks_for_it n.source n.at d
+  asks_as x n next k e d here there =
+      asks_same number p.cache s x.source n.source (found_of x n next) next.known next.there e d x.at (entry k e d here there)
+      ∙ ap (λ (at : ℕ). asks_for_it n.source at d) next.at
+
+  brings_it_as : (x : SeatNext) (n : Next) → IsNext number p.cache s x n → (k : ℕ) (e : Entry) (d : Exchange) → entry_of k p.flow ≡ Some e → exchange s k ≡ Some d → brings x.source x.at p.cache e ≡ brings_it s n.source n.at d
+  brings_it_as x n next k e d here there =
+      brings_same number p.cache s x.source n.source (found_of x n next) next.known next.there e d x.at table (entry k e d here there) (told k e here)
+      ∙ ap (λ (at : ℕ). brings_it s n.source at d) next.at
 
 pub asks : AsksAreTheLaws
-asks number l m f s both x n next k e d here there =
-    asks_same number m s x.source n.source (found_of number l m f s both x n next) next.known next.there e d x.at (shown_as number l m f s both k e d here there)
-    ∙ ap (λ (at : ℕ). asks_for_it n.source at d) next.at
+asks number name l peers p s shows x n next k e d here there = asks_as number name l peers p s shows x n next k e d here there
 
 pub brings_of : BringsAreTheLaws
-brings_of number l m f s both x n next k e d here there =
-    brings_same number m s x.source n.source (found_of number l m f s both x n next) next.known next.there e d x.at both.table (shown_as number l m f s both k e d here there) (both.told k e here)
-    ∙ ap (λ (at : ℕ). brings_it s n.source at d) next.at
+brings_of number name l peers p s shows x n next k e d here there = brings_it_as number name l peers p s shows x n next k e d here there
 
 pub serves_of : ServesAreTheLaws
-serves_of number l m f s both x n next k e d r here there at to =
-    serves_as number m s x.source n.source (found_of number l m f s both x n next) next.known next.there e d x.at x.to e.exchange.bound (bound_of d) (shown_as number l m f s both k e d here there)
-    (exchanges number e d (shown_as number l m f s both k e d here there)).bound (both.told k e here)
+serves_of number name l peers p s shows x n next k e d r here there at to =
+    serves_as number p.cache s x.source n.source (found_of number name l peers p s shows x n next) next.known next.there e d x.at x.to e.exchange.bound (bound_of d) (entry number name l peers p s shows k e d here there)
+    (exchanges number e d (entry number name l peers p s shows k e d here there)).bound (told number name l peers p s shows k e here)
     ∙ ap₂ (λ (from end : ℕ). elim (bound_of d) as (λ o. Bool) [ Some c ↦ (c.instance == n.source.id) && nat_lt (max c.next from) (min c.to end) && is_soon_by c from | None ↦ asks_for_it n.source from d ])
     (next.at ∙ sym at) (next.to ∙ sym to)
 
 -- ---- of all of them
 
 pub brought_of : BroughtIsTheLaws
-brought_of number l m f s both x n next =
-    any_alike number l f s both.flow (brings x.source x.at m) (brings_it s n.source n.at) (λ k e d here there shows. brings_of number l m f s both x n next k e d here there)
+brought_of number name l peers p s shows x n next =
+    any_alike number l p.flow s shows.shows.exchanges (brings x.source x.at p.cache) (brings_it s n.source n.at) (λ k e d here there one. brings_of number name l peers p s shows x n next k e d here there)
 
 pub provided_of : ProvidedIsTheLaws
-provided_of number l m f s both x n next =
-    ap₂ (λ (a b : Bool). a || b) (held_of number m s both.table x.source n.source next.there next.known x.at ∙ ap (λ (at : ℕ). is_held s n.source at) next.at) (brought_of number l m f s both x n next)
+provided_of number name l peers p s shows x n next =
+    ap₂ (λ (a b : Bool). a || b)
+    (held_of number p.cache s (table number name l peers p s shows) x.source n.source next.there next.known x.at ∙ ap (λ (at : ℕ). is_held s n.source at) next.at)
+    (brought_of number name l peers p s shows x n next)

@@ -200,7 +200,7 @@ module _ (number : ℕ → ℕ) (l : Leaving) (f : Exchanges) (s : State) (shows
       by (Some e) is = least_is key (f.waiting ++ f.placed) e.number (none_any (is_below key e.number) (f.waiting ++ f.placed) (none_lower e is)) (one_there e is)
 
 pub shared_asks : SharedAsksAreTheLaws
-shared_asks number l f s shows key = first_same number l f s shows key
+shared_asks number name l peers p s shows key = first_same number l p.flow s shows.shows.exchanges key
 
 -- ---- one that is waited for
 
@@ -218,13 +218,13 @@ awaited_among n (Some x) xs is alone = by x.exchange.headed refl
         ap not headed ∙ sym (any_by (waits_in n) (is_number n) xs x is (ap₂ (λ (a b : Bool). a && b) (find_passes (is_number n) xs x is) (ap not headed)))
 
 pub awaited : AwaitedIsTheLaws
-awaited number l f s shows n =
-    awaited_among n (entry_of n f) (f.waiting ++ f.placed) (sym (entry_among n f)) (λ x there. by x there)
-    ∙ any_alike number l f s shows (waits_in n) (λ e. (e.number == n) && not (is_headed e))
+awaited number name l peers p s shows n =
+    awaited_among n (entry_of n p.flow) (p.flow.waiting ++ p.flow.placed) (sym (entry_among n p.flow)) (λ x there. by x there)
+    ∙ any_alike number l p.flow s shows.shows.exchanges (waits_in n) (λ e. (e.number == n) && not (is_headed e))
     (λ k x e here there one. ap₂ (λ (a b : Bool). a && not b) (ap (λ (i : ℕ). i == n) one.number) (exchanges number x e one).headed)
   where
-    by : (x : Entry) → find (waits_in n) (f.waiting ++ f.placed) ≡ Some x → entry_of n f ≡ Some x
+    by : (x : Entry) → find (waits_in n) (p.flow.waiting ++ p.flow.placed) ≡ Some x → entry_of n p.flow ≡ Some x
     by x there =
-        let itself : entry_of x.exchange.number f ≡ Some x = found_itself number l f s shows (waits_in n) x there in
-        let numbered : x.exchange.number ≡ n = same_number x.exchange.number n (and_left (x.exchange.number == n) (not x.exchange.headed) (find_passes (waits_in n) (f.waiting ++ f.placed) x there)) in
-        subst (λ (i : ℕ). entry_of i f ≡ Some x) numbered itself
+        let itself : entry_of x.exchange.number p.flow ≡ Some x = found_itself number l p.flow s shows.shows.exchanges (waits_in n) x there in
+        let numbered : x.exchange.number ≡ n = same_number x.exchange.number n (and_left (x.exchange.number == n) (not x.exchange.headed) (find_passes (waits_in n) (p.flow.waiting ++ p.flow.placed) x there)) in
+        subst (λ (i : ℕ). entry_of i p.flow ≡ Some x) numbered itself

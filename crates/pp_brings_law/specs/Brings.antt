@@ -7,23 +7,23 @@ use Rattle.pp_law.specs.Deciding.{serves as serves_reply}
 use Rattle.pp_law.specs.State.{Exchange, Reply}
 use Rattle.pp_law.specs.Table.{asks_for as asks_for_it, brings as brings_it, is_brought as is_being_brought, is_provided as is_being_provided}
 use Rattle.pp_steps.specs.Bringing.{asks_for, brings, is_brought, is_provided, serves}
-use Rattle.pp_brings_law.specs.Both.{OfNexts}
+use Rattle.pp_brings_law.specs.Nexts.{OfNexts}
 
 -- of the exchange with a number
 abbrev pub AsksAreTheLaws : Type 0
-AsksAreTheLaws = OfNexts (λ number m f s x n. (k : ℕ) (e : Entry) (d : Exchange) → entry_of k f ≡ Some e → exchange s k ≡ Some d → asks_for x.source x.at m e ≡ asks_for_it n.source n.at d)
+AsksAreTheLaws = OfNexts (λ p s x n. (k : ℕ) (e : Entry) (d : Exchange) → entry_of k p.flow ≡ Some e → exchange s k ≡ Some d → asks_for x.source x.at p.cache e ≡ asks_for_it n.source n.at d)
 
 abbrev pub BringsAreTheLaws : Type 0
-BringsAreTheLaws = OfNexts (λ number m f s x n. (k : ℕ) (e : Entry) (d : Exchange) → entry_of k f ≡ Some e → exchange s k ≡ Some d → brings x.source x.at m e ≡ brings_it s n.source n.at d)
+BringsAreTheLaws = OfNexts (λ p s x n. (k : ℕ) (e : Entry) (d : Exchange) → entry_of k p.flow ≡ Some e → exchange s k ≡ Some d → brings x.source x.at p.cache e ≡ brings_it s n.source n.at d)
 
 -- of what the reply still wants
 abbrev pub ServesAreTheLaws : Type 0
-ServesAreTheLaws = OfNexts (λ number m f s x n. (k : ℕ) (e : Entry) (d : Exchange) (r : Reply) → entry_of k f ≡ Some e → exchange s k ≡ Some d → r.at ≡ n.at → r.to ≡ n.to → serves x m e ≡ serves_reply n.source r d)
+ServesAreTheLaws = OfNexts (λ p s x n. (k : ℕ) (e : Entry) (d : Exchange) (r : Reply) → entry_of k p.flow ≡ Some e → exchange s k ≡ Some d → r.at ≡ n.at → r.to ≡ n.to → serves x p.cache e ≡ serves_reply n.source r d)
 
 -- of them all
 abbrev pub BroughtIsTheLaws : Type 0
-BroughtIsTheLaws = OfNexts (λ number m f s x n. is_brought x.source x.at m f ≡ is_being_brought s n.source n.at)
+BroughtIsTheLaws = OfNexts (λ p s x n. is_brought x.source x.at p.cache p.flow ≡ is_being_brought s n.source n.at)
 
 -- the next byte is there or comes
 abbrev pub ProvidedIsTheLaws : Type 0
-ProvidedIsTheLaws = OfNexts (λ number m f s x n. is_provided x m f ≡ is_being_provided s n)
+ProvidedIsTheLaws = OfNexts (λ p s x n. is_provided x p.cache p.flow ≡ is_being_provided s n)

@@ -6,16 +6,14 @@ use Rattle.pp_flow.specs.declared.entry.Entry.{Entry}
 use Rattle.pp_flow.specs.declared.errand.Body.{Body}
 use Rattle.pp_flow.specs.declared.errand.Body.TheVariants.{Pending, Joining, Relaying, Dropping}
 use Rattle.pp_law.specs.Connections.{exchange}
-use Rattle.pp_law.specs.Lists.{Bytes}
 use Rattle.pp_law.specs.State.{State, Client, Conn, Exchange}
 use Rattle.pp_law.specs.Unseen.{came_of, is_unseen}
 use Rattle.pp_objects.specs.Instances.{is_there}
 use Rattle.pp_seats.specs.Follows.{next_of}
 use Rattle.pp_seats.specs.declared.seat.Seat.{Seat}
-use Rattle.pp_seats_law.specs.Clients.{AreShown}
 use Rattle.pp_seats_law.specs.Words.{HasSource}
 use Rattle.pp_steps.specs.Unseen.{is_nobodys}
-use Rattle.pp_brings_law.specs.Both.{OfBoth}
+use Rattle.pp_steps_law.specs.Steps.{OfSteps}
 
 -- what each of the clients follows is there
 abbrev pub AreFollowing : Memory → State → List Seat → List Client → Type 0
@@ -32,5 +30,5 @@ IsCounted (Dropping count) k = count ≡ came_of k
 
 -- of the exchange that is the first of the line of a connection
 abbrev pub UnseenIsTheLaws : Type 0
-UnseenIsTheLaws = OfBoth (λ number m f s. (name : Bytes) (owed : List Bytes) (seats : List Seat) (k : Conn) (n : ℕ) (e : Entry) (d : Exchange) → AreShown number name owed seats s.clients → AreFollowing m s seats s.clients
-    → entry_of n f ≡ Some e → exchange s n ≡ Some d → IsCounted e.errand.body k → is_nobodys seats e ≡ is_unseen s k d)
+UnseenIsTheLaws = OfSteps (λ number name l peers p s. (k : Conn) (n : ℕ) (e : Entry) (d : Exchange) → AreFollowing p.cache s p.seats s.clients → entry_of n p.flow ≡ Some e → exchange s n ≡ Some d → IsCounted e.errand.body k
+    → is_nobodys p.seats e ≡ is_unseen s k d)

@@ -1,8 +1,7 @@
 //! What exchanges bring to instances, and what is asked of them, is what the law says.
 //!
-//! The cache of the program shows the table of the law (`pp_cache_law`), and its exchanges show the law's (`pp_flow_law`), by one
-//! map from lives to numbers (`specs/Both.antt`). From it follows that the words of `pp_steps` for what is brought, provided and
-//! asked for are those of the law.
+//! What the steps of a turn change stands for the state of the law as `pp_steps_law` has it. From it follows that the words of
+//! `pp_steps` for what is brought, provided and asked for are those of the law.
 //!
 //! To the layer above: each equation is the clause of a function that does nothing. It is one part of the proof that the program
 //! obeys the law: how the cache and the exchanges change is for the crates below. The words of the program stand in `pp_steps`,
