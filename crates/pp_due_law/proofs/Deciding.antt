@@ -26,6 +26,7 @@ use Rattle.pp_plan.specs.Decision.{decision}
 use Rattle.pp_plan.specs.Fetch.{fetch_range}
 use Rattle.pp_plan.specs.Row.{Row}
 use Rattle.pp_plan.specs.declared.table.Begun.{Begun}
+use Rattle.pp_peers.specs.declared.peers.Peer.{Peer}
 use Rattle.pp_seats.specs.declared.front.Front.{Front as SeatFront}
 use Rattle.pp_seats.specs.declared.front.Front.TheVariants.{NoHeadYet as NoneYet, NoHead as NoneThere, Request as IsThere}
 use Rattle.pp_seats.specs.declared.key.Key.{Key as OwnedKey}
@@ -169,26 +170,26 @@ refused_same : (s : State) (c : Client) (seat : Seat) (status : ℕ) → (Some s
 refused_same s c seat status not_memory (inl memory) = absurd (not_memory (ap (λ (n : ℕ). Some n) memory))
 refused_same s c seat status not_memory (inr is) = sym is
 
-of_key : (number : ℕ → ℕ) (l : Leaving) (p : Turn) (s : State) (name : Bytes) (seat : Seat) (c : Client) (key : OwnedKey) → ShowsTurn number l p s → ShowsOpen number name [] seat c → IsDecidable number p s seat c
+of_key : (number : ℕ → ℕ) (l : Leaving) (peers : List Peer) (p : Turn) (s : State) (name : Bytes) (seat : Seat) (c : Client) (key : OwnedKey) → ShowsTurn number l peers p s → ShowsOpen number name [] seat c → IsDecidable number p s seat c
     → refused_in seat.front ≡ None → owned_in (asked_in seat.front) ≡ Some key → Some (decide_for p seat key) ≡ decide_by_law s c
 unfolding decide_with
-of_key number l p s name seat c key shows live may isnt is =
+of_key number l peers p s name seat c key shows live may isnt is =
     let one : IsByRow s c (key_in key.text.items key.place) = rows_decide s key number name [] seat c live isnt is in
     let asked : IsAskedAs (current_of seat.client.heard) one.request.head = heard_as seat.client.heard c.front c.heard one.request live.heard one.front in
-    let both : AreBoth (ShowsInstance number p.cache s) (row_of key.text.items p.cache.instances) (row s key.text.items) = rows_of number p.cache s shows.both.table key.text.items in
+    let both : AreBoth (ShowsInstance number p.cache s) (row_of key.text.items p.cache.instances) (row s key.text.items) = rows_of number p.cache s shows.steps.shows.table.table key.text.items in
     let begun : begun_in seat.brought (option_map id_of (row_of key.text.items p.cache.instances)) ≡ begun_now s c key.text.items =
     brought_counts_so s (option_map id_of (row_of key.text.items p.cache.instances)) key.text.items number name [] seat c live may.brought (ids_same number p.cache s (row_of key.text.items p.cache.instances) (row s key.text.items) both) (may.apart key is) in
     ap (λ (h : Heading). Some (decide_front p seat key h)) asked.is
-    ∙ ap (λ (d : Decision). Some d) (by_row number p s name seat c one.request.head key shows.name shows.clock shows.both.table shows.fronts (may.kept key is) begun
+    ∙ ap (λ (d : Decision). Some d) (by_row number p s name seat c one.request.head key shows.name shows.clock shows.steps.shows.table.table (λ slot index. shows.bounded.fronts slot index) (may.kept key is) begun
     ∙ ap (λ (text : Bytes). decide_with s one.request.head (key_in key.text.items key.place) (row_for s one.request.head text) (begun_now s c text) s.clock) key.within.spelled)
     ∙ sym one.decides
 
-by_front : (number : ℕ → ℕ) (l : Leaving) (p : Turn) (s : State) (name : Bytes) (seat : Seat) (c : Client) (refused : Option ℕ) (owned : Option OwnedKey) → ShowsTurn number l p s → ShowsOpen number name [] seat c → IsDecidable number p s seat c
+by_front : (number : ℕ → ℕ) (l : Leaving) (peers : List Peer) (p : Turn) (s : State) (name : Bytes) (seat : Seat) (c : Client) (refused : Option ℕ) (owned : Option OwnedKey) → ShowsTurn number l peers p s → ShowsOpen number name [] seat c → IsDecidable number p s seat c
     → refused_in seat.front ≡ refused → owned_in (asked_in seat.front) ≡ owned
     → (elim refused as (λ x. Option Decision) [ Some status ↦ Some (Refuse status) | None ↦ option_map (decide_for p seat) owned ]) ≡ decide_by_law s c
-by_front number l p s name seat c (Some status) owned shows live may refused is = refused_same s c seat status (λ memory. may.key (refused ∙ memory)) (heads s status number name [] seat c live refused)
-by_front number l p s name seat c None None shows live may refused is = sym (none_asked s c seat.front c.front refl live.front refused is)
-by_front number l p s name seat c None (Some key) shows live may refused is = of_key number l p s name seat c key shows live may refused is
+by_front number l peers p s name seat c (Some status) owned shows live may refused is = refused_same s c seat status (λ memory. may.key (refused ∙ memory)) (heads s status number name [] seat c live refused)
+by_front number l peers p s name seat c None None shows live may refused is = sym (none_asked s c seat.front c.front refl live.front refused is)
+by_front number l peers p s name seat c None (Some key) shows live may refused is = of_key number l peers p s name seat c key shows live may refused is
 
 pub decided : DecidesAsTheLaw
-decided number l p s name seat c shows seen going may = by_front number l p s name seat c (refused_in seat.front) (owned_in (asked_in seat.front)) shows (seen.going going) may refl refl
+decided number l peers p s name seat c shows seen going may = by_front number l peers p s name seat c (refused_in seat.front) (owned_in (asked_in seat.front)) shows (seen.going going) may refl refl

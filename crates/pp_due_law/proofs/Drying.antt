@@ -1,6 +1,6 @@
 -- Nothing that came is left to say to a seat where nothing is left to say to its client.
 use Rattle.std.proofs.Common.{arith, ◌≡◌, ◌⊎◌, inl, inr, ◌<◌, refl, sym, subst, ap, ap₂, ◌∙◌, ℕ, ◌-◌, Bool, true, false, not, cond, ◌&&◌, ◌||◌, is_some, nat_lt, List, [], length, drop, Option, Some, None, option_map, option_and_then}
-use Rattle.pp_brings_law.specs.Both.{IsNext}
+use Rattle.pp_brings_law.specs.Nexts.{IsNext}
 use Rattle.pp_cache.specs.Memory.{extent_of as bytes_kept, is_in_memory}
 use Rattle.pp_cache_law.proofs.Alike.{held_of}
 use Rattle.pp_client.specs.Replies.{Reply as Said, at_hand, continue_text, interim_left, next_at as said_next, next_byte, stage_at_hand}
@@ -15,6 +15,7 @@ use Rattle.pp_law.specs.State.{State, Client, Reply, Stage, Undecided, Waiting, 
 use Rattle.pp_law.specs.Table.{Next, is_held, is_next_held, next_of as next_of_law}
 use Rattle.pp_objects.specs.Instances.{Instance as Seen, is_there}
 use Rattle.pp_objects.specs.declared.id.ObjectId.{ObjectId}
+use Rattle.pp_peers.specs.declared.peers.Peer.{Peer}
 use Rattle.pp_seats.specs.declared.seat.Answer.{Answer}
 use Rattle.pp_seats.specs.declared.seat.Next.{Next as SeatNext}
 use Rattle.pp_seats.specs.declared.seat.Seat.{Seat}
@@ -87,14 +88,14 @@ reply_next number said (Some a) (Some r) cs n shows is at none =
 hand_empty : (said : Said) (cs : List Chunk) → interim_left said.interim ≡ 0 → at_hand said cs ≡ stage_at_hand said.stage said.text said.pipe cs
 hand_empty said cs none = ap (λ (n : ℕ). cond (nat_lt 0 n) (drop (25 - n) continue_text) (stage_at_hand said.stage said.text said.pipe cs)) none
 
-missing : (number : ℕ → ℕ) (l : Leaving) (p : Turn) (s : State) (name : Bytes) (seat : Seat) (c : Client) (n : SeatNext) → ShowsTurn number l p s → ShowsSeat number name [] seat c → c.is_closing ≡ false → IsFollowing p.cache seat → next_of seat ≡ Some n
+missing : (number : ℕ → ℕ) (l : Leaving) (peers : List Peer) (p : Turn) (s : State) (name : Bytes) (seat : Seat) (c : Client) (n : SeatNext) → ShowsTurn number l peers p s → ShowsSeat number name [] seat c → c.is_closing ≡ false → IsFollowing p.cache seat → next_of seat ≡ Some n
     → is_empty (offer s c) ≡ true → is_at_body c ≡ true → (is_there n.source p.cache.instances && is_in_memory n.source.slot n.at p.cache.chunks) ≡ false
-missing number l p s name seat c n shows seen going there is none at =
+missing number l peers p s name seat c n shows seen going there is none at =
     let live : ShowsOpen number name [] seat c = seen.going going in
     let said = seat.client.reply in
     let silent : interim_left said.interim ≡ 0 = no_interim said.interim c.interim_left live.interim (first_true (is_empty c.interim_left) (is_some_with (λ r. r.has_begun && is_empty r.head_left) (reply_of c)) at) in
     let out : is_empty (stage_at_hand said.stage said.text said.pipe p.cache.chunks) ≡ true =
-    ap (λ (bytes : Bytes). is_empty bytes) (sym (hand_empty said p.cache.chunks silent) ∙ offers number l p s name seat c shows seen going there) ∙ none in
+    ap (λ (bytes : Bytes). is_empty bytes) (sym (hand_empty said p.cache.chunks silent) ∙ offers number l peers p s name seat c shows seen going there) ∙ none in
     ap (λ (b : Bool). is_there n.source p.cache.instances && b)
     (reply_next number said (answer_in seat.stage) (reply_of c) p.cache.chunks n (replies number name [] seat c live) (sym (going_seat seat (seen.closing ∙ going)) ∙ is)
     (second_true (is_empty c.interim_left) (is_some_with (λ r. r.has_begun && is_empty r.head_left) (reply_of c)) at) out)
@@ -102,25 +103,25 @@ missing number l p s name seat c n shows seen going there is none at =
 
 -- ---- both
 
-dry_by : (number : ℕ → ℕ) (l : Leaving) (p : Turn) (s : State) (e b : Bool) (x : Option SeatNext) (y : Option Next) → ShowsTurn number l p s → ShowsNext number x y → ((n : SeatNext) (k : Next) → x ≡ Some n → y ≡ Some k → IsNext number p.cache s n k)
+dry_by : (number : ℕ → ℕ) (l : Leaving) (peers : List Peer) (p : Turn) (s : State) (e b : Bool) (x : Option SeatNext) (y : Option Next) → ShowsTurn number l peers p s → ShowsNext number x y → ((n : SeatNext) (k : Next) → x ≡ Some n → y ≡ Some k → IsNext number p.cache s n k)
     → ((n : SeatNext) → x ≡ Some n → e ≡ true → b ≡ true → (is_there n.source p.cache.instances && is_in_memory n.source.slot n.at p.cache.chunks) ≡ false)
     → (e && not (is_some (elim b as (λ c. Option SeatNext) [ true ↦ option_and_then (if_on_disk p.cache) x | false ↦ None ]))) ≡ not (not e || (b && is_some_with (is_next_held s) y))
-dry_by number l p s e b None None shows same one out = dry_none e b
-dry_by number l p s e b (Some n) (Some k) shows same one out =
+dry_by number l peers p s e b None None shows same one out = dry_none e b
+dry_by number l peers p s e b (Some n) (Some k) shows same one out =
     let next : IsNext number p.cache s n k = one n k refl refl in
     dry_some e b (nat_lt n.at (bytes_kept n.source p.cache)) (is_there n.source p.cache.instances && is_in_memory n.source.slot n.at p.cache.chunks) n (out n refl)
-    ∙ ap (λ (h : Bool). not (not e || (b && h))) (held_of number p.cache s shows.both.table n.source k.source next.there next.known n.at ∙ ap (λ (at : ℕ). is_held s k.source at) next.at)
-dry_by number l p s e b None (Some k) shows same one out = absurd same
-dry_by number l p s e b (Some n) None shows same one out = absurd same
+    ∙ ap (λ (h : Bool). not (not e || (b && h))) (held_of number p.cache s shows.steps.shows.table.table n.source k.source next.there next.known n.at ∙ ap (λ (at : ℕ). is_held s k.source at) next.at)
+dry_by number l peers p s e b None (Some k) shows same one out = absurd same
+dry_by number l peers p s e b (Some n) None shows same one out = absurd same
 
 pub dry : DryIsTheLaws
-dry number l p s name seat c shows seen going there =
+dry number l peers p s name seat c shows seen going there =
     let live : ShowsOpen number name [] seat c = seen.going going in
-    let same : ShowsNext number (next_of seat) (next_of_law s c) = nexts number s name [] seat c seen (has_source number l p s name seat c shows seen going there) in
+    let same : ShowsNext number (next_of seat) (next_of_law s c) = nexts number s name [] seat c seen (has_source number l peers p s name seat c shows seen going there) in
     let at : seat_at_body seat ≡ is_at_body c = at_body c.interim_left (reply_of c) (has_begun seat) seat.before_body (begun number name [] seat c live) live.before_body in
     ap₂ (λ (b : Bool) (bytes : Bytes). (not b || is_empty bytes) && not (is_some (elim (seat_at_body seat) as (λ c. Option SeatNext) [ true ↦ option_and_then (if_on_disk p.cache) (next_of seat) | false ↦ None ])))
-    (stage_there number seat.client.reply seat.stage c.stage p.cache.instances live.stage there) (offers number l p s name seat c shows seen going there)
+    (stage_there number seat.client.reply seat.stage c.stage p.cache.instances live.stage there) (offers number l peers p s name seat c shows seen going there)
     ∙ ap (λ (b : Bool). is_empty (offer s c) && not (is_some (elim b as (λ c. Option SeatNext) [ true ↦ option_and_then (if_on_disk p.cache) (next_of seat) | false ↦ None ]))) at
-    ∙ dry_by number l p s (is_empty (offer s c)) (is_at_body c) (next_of seat) (next_of_law s c) shows same
-    (λ n k its law. is_next number l p s name seat c n k shows seen going there its law (subst (λ (y : Option Next). ShowsNext number (Some n) y) law (subst (λ (x : Option SeatNext). ShowsNext number x (next_of_law s c)) its same)))
-    (λ n its. missing number l p s name seat c n shows seen going there its)
+    ∙ dry_by number l peers p s (is_empty (offer s c)) (is_at_body c) (next_of seat) (next_of_law s c) shows same
+    (λ n k its law. is_next number l peers p s name seat c n k shows seen going there its law (subst (λ (y : Option Next). ShowsNext number (Some n) y) law (subst (λ (x : Option SeatNext). ShowsNext number x (next_of_law s c)) its same)))
+    (λ n its. missing number l peers p s name seat c n shows seen going there its)

@@ -1,9 +1,10 @@
 -- The next byte of a seat that follows an instance is that of its client, of an instance that is there.
-use Rattle.std.proofs.Common.{◌≡◌, refl, sym, subst, ap, ap₂, ◌∙◌, ℕ, Bool, true, false, not, ◌&&◌, nat_lt, [], Option, Some, None}
+use Rattle.std.proofs.Common.{◌≡◌, refl, sym, subst, ap, ap₂, ◌∙◌, ℕ, Bool, true, false, not, ◌&&◌, nat_lt, [], Option, Some, None, List}
 use Rattle.pp_brings_law.proofs.Brought.{provided_of}
-use Rattle.pp_brings_law.specs.Both.{IsNext, ShowsBoth}
+use Rattle.pp_brings_law.specs.Nexts.{IsNext}
 use Rattle.pp_cache_law.proofs.Alike.{instances_of, retired_of}
 use Rattle.pp_cache_law.specs.Reads.{IsFound}
+use Rattle.pp_cache_law.specs.Tables.{ShowsTable}
 use Rattle.pp_client.specs.Replies.{Reply as Said}
 use Rattle.pp_flow_law.specs.Tables.{Leaving}
 use Rattle.pp_law.specs.Lists.{Bytes, is_some_with}
@@ -12,6 +13,7 @@ use Rattle.pp_law.specs.State.{State, Client, Instance as Known, Reply}
 use Rattle.pp_law.specs.Table.{Next, instance, is_provided as provided_by_law, next_from, next_in, next_of as next_of_law}
 use Rattle.pp_objects.specs.Instances.{is_there}
 use Rattle.pp_objects.specs.declared.id.ObjectId.{ObjectId}
+use Rattle.pp_peers.specs.declared.peers.Peer.{Peer}
 use Rattle.pp_seats.specs.declared.seat.Answer.{Answer}
 use Rattle.pp_seats.specs.declared.seat.Next.{Next as SeatNext}
 use Rattle.pp_seats.specs.declared.seat.Seat.{Seat}
@@ -22,6 +24,7 @@ use Rattle.pp_seats_law.specs.Seats.{ShowsSeat}
 use Rattle.pp_seats_law.specs.Words.{HasSource, IsSameNext, ShowsNext, ShowsReply}
 use Rattle.pp_seats_law.proofs.Stages.{replies}
 use Rattle.pp_steps.specs.Due.{is_left_behind}
+use Rattle.pp_steps.specs.Ends.{parts}
 use Rattle.pp_steps.specs.declared.state.State.{State as Turn}
 use Rattle.pp_due_law.specs.Dues.{SupersededIsTheLaws}
 use Rattle.pp_due_law.specs.Turns.{IsFollowing, ShowsTurn}
@@ -83,29 +86,29 @@ going_seat seat going = ap (λ (b : Bool). elim b as (λ x. Option SeatNext) [ t
 -- ---- both
 
 -- an instance that the client of the law follows is there, where that of the seat is
-source_there : (number : ℕ → ℕ) (p : Turn) (s : State) (said : Said) (a : Option Answer) (r : Option Reply) (l : Leaving) → ShowsBoth number l p.cache p.flow s → ShowsReply number said a r
+source_there : (number : ℕ → ℕ) (p : Turn) (s : State) (said : Said) (a : Option Answer) (r : Option Reply) → ShowsTable number p.cache s → ShowsReply number said a r
     → ((b : Answer) (id : ObjectId) → a ≡ Some b → b.source ≡ Some id → is_there id p.cache.instances ≡ true)
     → (q : Reply) (id : ℕ) → r ≡ Some q → q.source ≡ Some id → (x : Known) × (instance s id ≡ Some x)
-source_there number p s said None None l both shows there q id is own = absurd (none_some is)
-source_there number p s said (Some a) None l both shows there q id is own = absurd shows
-source_there number p s said None (Some r) l both shows there q id is own = absurd shows
-source_there number p s said (Some a) (Some r) l both shows there q id is own = by a.source refl (shows.source ∙ (let same : r ≡ q = cc is in ap (λ (o : Reply). o.source) same) ∙ own)
+source_there number p s said None None table shows there q id is own = absurd (none_some is)
+source_there number p s said (Some a) None table shows there q id is own = absurd shows
+source_there number p s said None (Some r) table shows there q id is own = absurd shows
+source_there number p s said (Some a) (Some r) table shows there q id is own = by a.source refl (shows.source ∙ (let same : r ≡ q = cc is in ap (λ (o : Reply). o.source) same) ∙ own)
   where
     by : (source : Option ObjectId) → a.source ≡ source → source_number number a.source ≡ Some id → (x : Known) × (instance s id ≡ Some x)
     by None its numbered = absurd (none_some (sym (ap (λ (o : Option ObjectId). source_number number o) its) ∙ numbered))
     by (Some own_id) its numbered =
-        let one : IsFound number p.cache s own_id = instances_of number p.cache s both.table own_id (there a own_id refl its) in
+        let one : IsFound number p.cache s own_id = instances_of number p.cache s table own_id (there a own_id refl its) in
         let same : Some (number own_id.life) ≡ Some id = sym (ap (λ (o : Option ObjectId). source_number number o) its) ∙ numbered in
         let number_is : number own_id.life ≡ id = cc same in
         (one.known, subst (λ (n : ℕ). instance s n ≡ Some one.known) number_is one.there)
 
-pub has_source : (number : ℕ → ℕ) (l : Leaving) (p : Turn) (s : State) (name : Bytes) (seat : Seat) (c : Client) → ShowsTurn number l p s → ShowsSeat number name [] seat c → c.is_closing ≡ false → IsFollowing p.cache seat → HasSource s c
-has_source number l p s name seat c shows seen going there =
-    source_there number p s seat.client.reply (answer_in seat.stage) (reply_of c) l shows.both (replies number name [] seat c (seen.going going)) there
+pub has_source : (number : ℕ → ℕ) (l : Leaving) (peers : List Peer) (p : Turn) (s : State) (name : Bytes) (seat : Seat) (c : Client) → ShowsTurn number l peers p s → ShowsSeat number name [] seat c → c.is_closing ≡ false → IsFollowing p.cache seat → HasSource s c
+has_source number l peers p s name seat c shows seen going there =
+    source_there number p s seat.client.reply (answer_in seat.stage) (reply_of c) shows.steps.shows.table.table (replies number name [] seat c (seen.going going)) there
 
-pub is_next : (number : ℕ → ℕ) (l : Leaving) (p : Turn) (s : State) (name : Bytes) (seat : Seat) (c : Client) (n : SeatNext) (k : Next) → ShowsTurn number l p s → ShowsSeat number name [] seat c → c.is_closing ≡ false → IsFollowing p.cache seat
+pub is_next : (number : ℕ → ℕ) (l : Leaving) (peers : List Peer) (p : Turn) (s : State) (name : Bytes) (seat : Seat) (c : Client) (n : SeatNext) (k : Next) → ShowsTurn number l peers p s → ShowsSeat number name [] seat c → c.is_closing ≡ false → IsFollowing p.cache seat
     → next_of seat ≡ Some n → next_of_law s c ≡ Some k → IsSameNext number n k → IsNext number p.cache s n k
-is_next number l p s name seat c n k shows seen going there its law same =
+is_next number l peers p s name seat c n k shows seen going there its law same =
     let own : Follows (answer_in seat.stage) n = follows_by (answer_in seat.stage) seat.client.reply n (sym (going_seat seat (seen.closing ∙ going)) ∙ its) in
     let its_law : IsOf s k = reply_next s (reply_of c) k (sym (going_law s c going) ∙ law) in
     record {
@@ -117,17 +120,17 @@ is_next number l p s name seat c n k shows seen going there its law same =
 
 -- ---- another version stands, and of this one nothing more comes
 
-behind_by : (number : ℕ → ℕ) (l : Leaving) (p : Turn) (s : State) (x : Option SeatNext) (y : Option Next) → ShowsTurn number l p s → ShowsNext number x y → ((n : SeatNext) (k : Next) → x ≡ Some n → y ≡ Some k → IsNext number p.cache s n k)
+behind_by : (number : ℕ → ℕ) (l : Leaving) (peers : List Peer) (p : Turn) (s : State) (x : Option SeatNext) (y : Option Next) → ShowsTurn number l peers p s → ShowsNext number x y → ((n : SeatNext) (k : Next) → x ≡ Some n → y ≡ Some k → IsNext number p.cache s n k)
     → (elim x as (λ c. Bool) [ None ↦ false | Some n ↦ is_left_behind p n ]) ≡ is_some_with (λ n. n.source.is_retired && not (provided_by_law s n)) y
-behind_by number l p s None None shows same one = refl
-behind_by number l p s (Some n) (Some k) shows same one =
+behind_by number l peers p s None None shows same one = refl
+behind_by number l peers p s (Some n) (Some k) shows same one =
     let next : IsNext number p.cache s n k = one n k refl refl in
-    ap₂ (λ (a b : Bool). a && not b) (retired_of number p.cache s shows.both.table n.source k.source next.there next.known) (provided_of number l p.cache p.flow s shows.both n k next)
-behind_by number l p s None (Some k) shows same one = absurd same
-behind_by number l p s (Some n) None shows same one = absurd same
+    ap₂ (λ (a b : Bool). a && not b) (retired_of number p.cache s shows.steps.shows.table.table n.source k.source next.there next.known) (provided_of number p.name.items l peers (parts p) s shows.steps n k next)
+behind_by number l peers p s None (Some k) shows same one = absurd same
+behind_by number l peers p s (Some n) None shows same one = absurd same
 
 pub superseded : SupersededIsTheLaws
-superseded number l p s name seat c shows seen going there =
-    behind_by number l p s (next_of seat) (next_of_law s c) shows (nexts number s name [] seat c seen (has_source number l p s name seat c shows seen going there))
-    (λ n k its law. is_next number l p s name seat c n k shows seen going there its law
-    (subst (λ (y : Option Next). ShowsNext number (Some n) y) law (subst (λ (x : Option SeatNext). ShowsNext number x (next_of_law s c)) its (nexts number s name [] seat c seen (has_source number l p s name seat c shows seen going there)))))
+superseded number l peers p s name seat c shows seen going there =
+    behind_by number l peers p s (next_of seat) (next_of_law s c) shows (nexts number s name [] seat c seen (has_source number l peers p s name seat c shows seen going there))
+    (λ n k its law. is_next number l peers p s name seat c n k shows seen going there its law
+    (subst (λ (y : Option Next). ShowsNext number (Some n) y) law (subst (λ (x : Option SeatNext). ShowsNext number x (next_of_law s c)) its (nexts number s name [] seat c seen (has_source number l peers p s name seat c shows seen going there)))))

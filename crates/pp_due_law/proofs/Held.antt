@@ -1,6 +1,6 @@
 -- What of a row is held, of what a reply would show.
 use Rattle.std.proofs.Common.{arith, ◌≡◌, ◌≤◌, refl, sym, subst, ap, ◌∙◌, ℕ, ◌+◌, ◌-◌, min, Bool, true, false, ◌||◌, ◌==◌, nat_lt, nat_le, if◌then◌else◌, List, Option, Some, None}
-use Rattle.pp_brings_law.proofs.HeldSpans.{held_spans}
+use Rattle.pp_brings_law.proofs.HeldSpans.{spans_in}
 use Rattle.pp_cache.specs.Memory.{Memory, extent_of as bytes_kept}
 use Rattle.pp_cache_law.proofs.Alike.{instances_of}
 use Rattle.pp_cache_law.proofs.Numbers.{same_test, some_is}
@@ -69,5 +69,5 @@ held_same number m s i x span table fronts shows within =
     let one : IsFound number m s (id_of i) = instances_of number m s table (id_of i) there in
     let seen : i ≡ one.seen = some_is i one.seen (sym shows.there ∙ one.here) in
     let version : x.version ≡ one.known.version = sym shows.version ∙ ap (λ (k : Instance). k.version) seen ∙ one.shows.version in
-    held_spans number m s table (id_of i) one.known span there one.there fronts (subst (λ (v : Version). span.1 ≤ v.length) version within)
+    spans_in number m s table (id_of i) one.known span there one.there fronts (subst (λ (v : Version). span.1 ≤ v.length) version within)
     ∙ same_held number m s i one.seen x one.known span seen shows one.shows

@@ -167,7 +167,7 @@ by_stage number p s c said (IsAnswering a) (Answering r) going is shows table pa
 by_stage number p s c said stage other going is shows table passes there = absurd shows
 
 pub offers : OffersAreTheLaws
-offers number l p s name seat c shows seen going there =
+offers number l peers p s name seat c shows seen going there =
     let live : ShowsOpen number name [] seat c = seen.going going in
     interim_first seat.client.reply.interim c.interim_left (stage_at_hand seat.client.reply.stage seat.client.reply.text seat.client.reply.pipe p.cache.chunks) (reply_part s c) live.interim
-    (by_stage number p s c seat.client.reply seat.stage c.stage going refl live.stage shows.both.table (piped_bytes number name seat c live) there)
+    (by_stage number p s c seat.client.reply seat.stage c.stage going refl live.stage shows.steps.shows.table.table (piped_bytes number name seat c live) there)

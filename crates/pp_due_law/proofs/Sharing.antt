@@ -1,5 +1,5 @@
 -- The exchange whose answer a request may wait for is the law's.
-use Rattle.std.proofs.Common.{◌≡◌, inl, inr, refl, sym, ap, ◌∙◌, ℕ, false, is_ok, min, ◌++◌, Option, Some, None, option_map, Result, Ok, Err}
+use Rattle.std.proofs.Common.{◌≡◌, inl, inr, refl, sym, ap, ◌∙◌, ℕ, false, is_ok, min, ◌++◌, Option, Some, None, option_map, Result, Ok, Err, List}
 use Rattle.std.specs.List.{filter_map, find, reduce}
 use Rattle.pp_brings_law.proofs.Shared.{shared_asks}
 use Rattle.pp_flow.specs.Changes.{Exchanges}
@@ -8,6 +8,7 @@ use Rattle.pp_law.specs.Lists.{Bytes}
 use Rattle.pp_law.specs.Requests.{Front, NoHeadYet, NoHead, IsRequest, Parsed, key_in as key_of_front}
 use Rattle.pp_law.specs.Sharing.{is_shared, shared_ask as shared_by_law}
 use Rattle.pp_law.specs.State.{State, Client}
+use Rattle.pp_peers.specs.declared.peers.Peer.{Peer}
 use Rattle.pp_seats.specs.declared.front.Front.{Front as SeatFront}
 use Rattle.pp_seats.specs.declared.front.Front.TheVariants.{NoHeadYet as NoneYet, NoHead as NoneThere, Request as IsThere}
 use Rattle.pp_seats.specs.declared.key.Key.{Key as OwnedKey}
@@ -18,6 +19,7 @@ use Rattle.pp_seats_law.specs.Fronts.{ShowsFront, ShowsKey}
 use Rattle.pp_target.specs.Key.{Key, text_of}
 use Rattle.pp_target.specs.declared.target.TargetFault.{TargetFault}
 use Rattle.pp_steps.specs.Sharing.{shared_ask, shared_for, shared_number}
+use Rattle.pp_steps.specs.Ends.{parts}
 use Rattle.pp_steps.specs.declared.state.State.{State as Turn}
 use Rattle.pp_due_law.specs.Turns.{ShowsTurn}
 
@@ -57,11 +59,11 @@ by_key : (s : State) (key : Option Key) → known_text s (option_map text_of key
 by_key s None = refl
 by_key s (Some key) = refl
 
-texts_same : (number : ℕ → ℕ) (l : Leaving) (p : Turn) (s : State) (o : Option Bytes) → ShowsTurn number l p s → shared_text p.flow o ≡ known_text s o
-texts_same number l p s None shows = refl
-texts_same number l p s (Some text) shows = shared_asks number l p.flow s shows.both.flow text
+texts_same : (number : ℕ → ℕ) (l : Leaving) (peers : List Peer) (p : Turn) (s : State) (o : Option Bytes) → ShowsTurn number l peers p s → shared_text p.flow o ≡ known_text s o
+texts_same number l peers p s None shows = refl
+texts_same number l peers p s (Some text) shows = shared_asks number p.name.items l peers (parts p) s shows.steps text
 
-pub shared_same : (number : ℕ → ℕ) (l : Leaving) (p : Turn) (s : State) (name : Bytes) (seat : Seat) (c : Client) → ShowsTurn number l p s → ShowsFront seat.front c.front → (refused_in seat.front ≡ Some 500 → ⊥) → shared_ask seat p.flow ≡ shared_by_law s c
-shared_same number l p s name seat c shows front not_memory =
+pub shared_same : (number : ℕ → ℕ) (l : Leaving) (peers : List Peer) (p : Turn) (s : State) (name : Bytes) (seat : Seat) (c : Client) → ShowsTurn number l peers p s → ShowsFront seat.front c.front → (refused_in seat.front ≡ Some 500 → ⊥) → shared_ask seat p.flow ≡ shared_by_law s c
+shared_same number l peers p s name seat c shows front not_memory =
     by_text (owned_in (asked_in seat.front)) p.flow ∙ ap (λ (o : Option Bytes). shared_text p.flow o) (text_same seat.front c.front front not_memory)
-    ∙ texts_same number l p s (option_map text_of (key_of_front c.front)) shows ∙ by_key s (key_of_front c.front)
+    ∙ texts_same number l peers p s (option_map text_of (key_of_front c.front)) shows ∙ by_key s (key_of_front c.front)

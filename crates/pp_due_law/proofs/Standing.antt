@@ -51,5 +51,5 @@ standing_by number m s said None (Some r) shows same there = absurd same
 standing_by number m s said (Some a) None shows same there = absurd same
 
 pub standing : StandingIsTheLaws
-standing number l p s name seat c shows seen going there =
-    standing_by number p.cache s seat.client.reply (answer_in seat.stage) (reply_of c) shows.both.table (replies number name [] seat c (seen.going going)) there
+standing number l peers p s name seat c shows seen going there =
+    standing_by number p.cache s seat.client.reply (answer_in seat.stage) (reply_of c) shows.steps.shows.table.table (replies number name [] seat c (seen.going going)) there

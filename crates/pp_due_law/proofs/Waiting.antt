@@ -7,6 +7,7 @@ use Rattle.pp_seats.specs.declared.seat.Shared.{Shared}
 use Rattle.pp_seats_law.specs.Dues.{waits_on_still}
 use Rattle.pp_steps.specs.Patience.{is_patient}
 use Rattle.pp_steps.specs.Sharing.{is_awaited as awaited_in_turn, may_wait_on}
+use Rattle.pp_steps.specs.Ends.{parts}
 use Rattle.pp_steps.specs.declared.state.State.{State as Turn}
 use Rattle.pp_due_law.specs.Dues.{PatienceIsTheLaws}
 
@@ -15,4 +16,4 @@ waits_by p s None clock same = refl
 waits_by p s (Some w) clock same = ap (λ (b : Bool). is_patient b p.now w.since) (same w.exchange) ∙ ap (λ (now : ℕ). is_patient (is_awaited s w.exchange) now w.since) clock
 
 pub waiting : PatienceIsTheLaws
-waiting number l p s name seat c shows seen going there = waits_by p s seat.waits_on shows.clock (awaited number l p.flow s shows.both.flow)
+waiting number l peers p s name seat c shows seen going there = waits_by p s seat.waits_on shows.clock (awaited number p.name.items l peers (parts p) s shows.steps)

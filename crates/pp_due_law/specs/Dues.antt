@@ -1,5 +1,5 @@
 -- What a turn reads of a seat is what the law reads of its client (RFC 2616, section 8.1; the order is ours).
-use Rattle.std.specs.Prelude.{◌≡◌, ℕ, false, not, [], option_map}
+use Rattle.std.specs.Prelude.{◌≡◌, ℕ, false, not, List, [], option_map}
 use Rattle.pp_client.specs.Replies.{at_hand}
 use Rattle.pp_flow_law.specs.Tables.{Leaving}
 use Rattle.pp_law.specs.Decisions.{decide as decide_by_law}
@@ -7,6 +7,7 @@ use Rattle.pp_law.specs.Due.{due_of as due_by_law, is_superseded}
 use Rattle.pp_law.specs.Lists.{Bytes}
 use Rattle.pp_law.specs.Offers.{has_to_say, offer}
 use Rattle.pp_law.specs.State.{State, Client}
+use Rattle.pp_peers.specs.declared.peers.Peer.{Peer}
 use Rattle.pp_seats.specs.declared.seat.Seat.{Seat}
 use Rattle.pp_seats.specs.Dues.{is_refused_in}
 use Rattle.pp_seats_law.specs.Dues.{due_as, has_source_standing, waits_on_still}
@@ -39,9 +40,9 @@ DryIsTheLaws = OfTurns (λ p s seat c. is_dry p seat ≡ not (has_to_say s c))
 
 -- what is decided of its request
 abbrev pub DecidesAsTheLaw : Type 0
-DecidesAsTheLaw = (number : ℕ → ℕ) (l : Leaving) (p : Turn) (s : State) (name : Bytes) (seat : Seat) (c : Client) → ShowsTurn number l p s → ShowsSeat number name [] seat c → c.is_closing ≡ false → IsDecidable number p s seat c → decide p seat ≡ decide_by_law s c
+DecidesAsTheLaw = (number : ℕ → ℕ) (l : Leaving) (peers : List Peer) (p : Turn) (s : State) (name : Bytes) (seat : Seat) (c : Client) → ShowsTurn number l peers p s → ShowsSeat number name [] seat c → c.is_closing ≡ false → IsDecidable number p s seat c → decide p seat ≡ decide_by_law s c
 
 -- what is due of it: of the client with that number, and of the request of that index
 abbrev pub DuesAreTheLaws : Type 0
-DuesAreTheLaws = (number : ℕ → ℕ) (l : Leaving) (p : Turn) (s : State) (name : Bytes) (seat : Seat) (c : Client) → ShowsTurn number l p s → ShowsSeat number name [] seat c → (c.is_closing ≡ false → IsFollowing p.cache seat)
+DuesAreTheLaws = (number : ℕ → ℕ) (l : Leaving) (peers : List Peer) (p : Turn) (s : State) (name : Bytes) (seat : Seat) (c : Client) → ShowsTurn number l peers p s → ShowsSeat number name [] seat c → (c.is_closing ≡ false → IsFollowing p.cache seat)
     → (c.is_closing ≡ false → is_refused_in seat.brought ≡ false → IsDecidable number p s seat c) → option_map (due_as seat.client.id seat.index) (due_of p seat) ≡ due_by_law s c
