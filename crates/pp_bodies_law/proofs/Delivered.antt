@@ -1,5 +1,6 @@
 -- Data of a response that came: they join the instance of the law, and go into the pipe of the law's client.
 use Rattle.std.proofs.Common.{◌≡◌, ◌+◌, ◌-◌, ◌^◌, refl, sym, subst, ap, ◌∙◌, ℕ, min, find, List, length, Option, Some, None, option_map}
+use Rattle.pp_cache.specs.Memory.{Memory}
 use Rattle.pp_flow.specs.Changes.{Exchanges, entry_of, with_errand}
 use Rattle.pp_flow.specs.declared.entry.Entry.{Entry}
 use Rattle.pp_flow.specs.declared.entry.Exchange.{Exchange as Asking}
@@ -10,7 +11,7 @@ use Rattle.pp_flow_law.proofs.Framed.{frames}
 use Rattle.pp_flow_law.proofs.Noted.{drops_none, same_all}
 use Rattle.pp_flow_law.proofs.Standing.{entry_placed, none_waits}
 use Rattle.pp_flow_law.specs.Tables.{Leaving, ShowsFlow}
-use Rattle.pp_law.specs.Connections.{is_for, on_exchange}
+use Rattle.pp_law.specs.Connections.{is_client, on_exchange}
 use Rattle.pp_law.specs.Lists.{Bytes}
 use Rattle.pp_law.specs.OwnHeads.{join, join_bound, moved_on}
 use Rattle.pp_law.specs.Passing.{pour, poured}
@@ -19,13 +20,15 @@ use Rattle.pp_law.specs.State.{State, Bound, Exchange}
 use Rattle.pp_seats.specs.declared.seat.Seat.{Seat}
 use Rattle.pp_seats_law.specs.Exchanges.{ShowsExchange}
 use Rattle.pp_steps.specs.Bodies.{IsButForCells, delivered_for, joined, poured_for, with_dropped_in}
-use Rattle.pp_steps.specs.Ends.{exchange_at}
+use Rattle.pp_steps.specs.Ends.{exchange_at, parts}
 use Rattle.pp_steps.specs.Unseen.{drops_in, dropped_more, with_dropped}
 use Rattle.pp_steps.specs.declared.state.State.{State as Core}
+use Rattle.pp_steps_law.proofs.Told.{told_asked}
+use Rattle.pp_steps_law.specs.Steps.{ShowsSteps}
+use Rattle.pp_steps_law.specs.Told.{AreTold}
 use Rattle.pp_bodies_law.proofs.Bytes.{pours_are}
 use Rattle.pp_bodies_law.proofs.Joined.{bounds, join_clients, joins}
 use Rattle.pp_bodies_law.specs.Bytes.{DeliversAreTheLaws}
-use Rattle.pp_bodies_law.specs.Standing.{Shows}
 
 -- ---- how much was dropped is no part of the law
 
@@ -59,10 +62,18 @@ bound_clients d bytes s = by (bound_of d)
     by None = refl
     by (Some b) = join_clients b bytes s
 
+told_dropped : (number : ℕ → ℕ) (m : Memory) (next k c : ℕ) (f : Exchanges) → AreTold number m next f → AreTold number m next (with_dropped k c f)
+told_dropped number m next k c f told = by (entry_of k f)
+  where
+    by : (o : Option Entry) → AreTold number m next (drops_in o k c f)
+    by None = told
+    by (Some x) = told_asked number m next k (record x.errand { body = dropped_more c x.errand.body }) f told
+
 pub delivers : DeliversAreTheLaws
-delivers n p new s x d bytes shows here there room fits seats has =
-    subst (λ (xs : List Seat). Shows n xs new.flow new.cache (pour d (poured bytes) t)) (sym (seats ∙ ap (λ (o : Option Asking). poured_for o bytes p.seats.items) asked))
-    (pours_are n p.seats.items new.flow new.cache t noted x.exchange d bytes shown.asker (λ c found. fits c (sym (ap (λ cs. find (is_for d) cs) (bound_clients d bytes s)) ∙ found)))
+delivers number name l peers p s shows new x d bytes fed fits seats has =
+    subst (λ (xs : List Seat). ShowsSteps number name l peers (record (parts new) { seats = xs }) (pour d (poured bytes) t)) (sym (seats ∙ ap (λ (o : Option Asking). poured_for o bytes p.seats.items) asked))
+    (pours_are number name l peers (record (parts mid) { flow = new.flow }) t noted x.exchange d bytes shown.asker
+    (λ n c asks found. fits n c asks (sym (ap (λ cs. find (is_client n) cs) (bound_clients d bytes s)) ∙ found)))
   where
     t : State
     t = join_bound d bytes s
@@ -70,11 +81,11 @@ delivers n p new s x d bytes shows here there room fits seats has =
     after : Core
     after = joined x.exchange bytes p
 
-    shown : ShowsExchange n.number x d
-    shown = bounds n p s x d shows here there
+    shown : ShowsExchange number x d
+    shown = bounds number l p.flow s x d shows.shows.exchanges fed.placed fed.known
 
     asked : exchange_at x.exchange.number p.flow ≡ Some x.exchange
-    asked = ap (λ (o : Option Entry). option_map (λ (e : Entry). e.exchange) o) (entry_placed x.exchange.number p.flow x (none_waits n.number n.leaving p.flow s shows.flow x.exchange.number x here) here)
+    asked = ap (λ (o : Option Entry). option_map (λ (e : Entry). e.exchange) o) (entry_placed x.exchange.number p.flow x (none_waits number l p.flow s shows.shows.exchanges x.exchange.number x fed.placed) fed.placed)
 
     came : IsButForCells (with_dropped_in x.exchange.number (length bytes) after) (record new { seats = p.seats })
     came = subst (λ (o : Option Asking). IsButForCells (delivered_for o x.exchange.number bytes p) (record new { seats = p.seats })) asked has
@@ -85,13 +96,13 @@ delivers n p new s x d bytes shows here there room fits seats has =
     kept : IsButForCells after mid
     kept = record { rest = ap (λ (c : Core). record c { flow = after.flow }) came.rest; cache = came.cache }
 
-    joining : Shows n p.seats.items after.flow new.cache t
-    joining = joins n p mid s x d bytes shows here there room kept
+    joining : ShowsSteps number name l peers (parts mid) t
+    joining = joins number name l peers p s shows mid x d bytes fed kept
 
-    noted : Shows n p.seats.items new.flow new.cache t
-    noted = record {
-      clients = joining.clients;
+    noted : ShowsSteps number name l peers (record (parts mid) { flow = new.flow }) t
+    noted = subst (λ (c : Core). ShowsSteps number name l peers (record (parts mid) { flow = c.flow }) t) (sym came.rest) (record {
+      shows = record { clients = joining.shows.clients; exchanges = drops number l after.flow t joining.shows.exchanges x.exchange.number (length bytes); table = joining.shows.table; conns = joining.shows.conns };
       order = joining.order;
-      flow = subst (λ (c : Core). ShowsFlow n.number n.leaving c.flow t) (sym came.rest) (drops n.number n.leaving after.flow t joining.flow x.exchange.number (length bytes));
-      memory = joining.memory;
-    }
+      told = told_dropped number new.cache t.next_instance x.exchange.number (length bytes) after.flow joining.told;
+      refused = joining.refused;
+    })

@@ -1,5 +1,5 @@
-pub mod Askers
 pub mod Bytes
 pub mod Delivered
+pub mod Ended
 pub mod Joined
 pub mod Pipes

@@ -5,7 +5,7 @@ use Rattle.pp_client.specs.declared.reply.Begin.TheVariants.{Page, Instance, Pas
 use Rattle.pp_client.specs.declared.reply.Stage.{Stage as SaidStage}
 use Rattle.pp_client.specs.declared.reply.Stage.TheVariants.{Due, Begun}
 use Rattle.pp_client.specs.Replies.{Reply as Said}
-use Rattle.pp_law.specs.Lists.{Bytes}
+use Rattle.pp_law.specs.Lists.{Bytes, is_some_with}
 use Rattle.pp_law.specs.Requests.{Front, NoHeadYet, NoHead, IsRequest}
 use Rattle.pp_law.specs.Stages.{on_passed, passed_of}
 use Rattle.pp_law.specs.State.{Client, Brought, Awaited, Useless, Joins, Passes, TooWide, Passed, Stage, Undecided, Waiting, Passing, Answering}
@@ -20,7 +20,8 @@ use Rattle.pp_seats.specs.declared.seat.PassedEnd.TheVariants.{Whole}
 use Rattle.pp_cache_law.proofs.Numbers.{some_is}
 use Rattle.pp_cache_law.specs.Pairs.{AreBoth}
 use Rattle.pp_seats.specs.declared.seat.Course.{Course as SeatCourse}
-use Rattle.pp_bodies_law.specs.Standing.{FitsIn, IsGoingOn, Names}
+use Rattle.pp_bodies_law.specs.Bytes.{FitsIn}
+use Rattle.pp_steps_law.specs.Losses.{IsComing}
 use Rattle.pp_seats.specs.Seats.{brought_to, passed_in, without_body}
 use Rattle.pp_seats.specs.declared.seat.Brought.{Brought as SeatBrought}
 use Rattle.pp_seats.specs.declared.seat.Brought.TheVariants.{Awaited as NoneYet, Useless as NoneOfUse, Joins as JoinsRow, Passes as PassesOn, TooWide as IsTooWide, Refused}
@@ -65,12 +66,12 @@ stage_kept number said pipe IsPassing Passing shows = shows
 stage_kept number said pipe (IsAnswering a) (Answering r) shows = record { decision = shows.decision; source = shows.source; begun = shows.begun; says = shows.says }
 stage_kept number said pipe stage other shows = absurd shows
 
-open_piped : (n : Names) (seat : Seat) (c : Client) (x y : SeatPassed) (p : Passed) (pipe : Pipe) → seat.brought ≡ PassesOn x → c.brought ≡ Passes p → ShowsOpen n.number n.name n.owed seat c
+open_piped : (number : ℕ → ℕ) (name : Bytes) (seat : Seat) (c : Client) (x y : SeatPassed) (p : Passed) (pipe : Pipe) → seat.brought ≡ PassesOn x → c.brought ≡ Passes p → ShowsOpen number name [] seat c
     → y.rule ≡ x.rule → y.head_len ≡ x.head_len → y.end ≡ end_of (record p { pipe = pipe })
-    → ShowsOpen n.number n.name n.owed (record (on_pipe (λ q. pipe) seat) { brought = PassesOn y }) (record c { brought = Passes (record p { pipe = pipe }) })
-open_piped n seat c x y p pipe seats laws shows rule len end =
-    let fate : ShowsFate n.number n.name n.owed seat.client.reply seat.course (PassesOn x) c = subst (λ (b : SeatBrought). ShowsFate n.number n.name n.owed seat.client.reply seat.course b c) seats shows.fate in
-    let passed : ShowsPassed n.name seat.client.reply c.front x p = subst (λ (b : Brought). ShowsBrought n.number n.name seat.client.reply c.front (PassesOn x) b) laws fate.1 in
+    → ShowsOpen number name [] (record (on_pipe (λ q. pipe) seat) { brought = PassesOn y }) (record c { brought = Passes (record p { pipe = pipe }) })
+open_piped number name seat c x y p pipe seats laws shows rule len end =
+    let fate : ShowsFate number name [] seat.client.reply seat.course (PassesOn x) c = subst (λ (b : SeatBrought). ShowsFate number name [] seat.client.reply seat.course b c) seats shows.fate in
+    let passed : ShowsPassed name seat.client.reply c.front x p = subst (λ (b : Brought). ShowsBrought number name seat.client.reply c.front (PassesOn x) b) laws fate.1 in
     let asked : IsBroughtFor c.front (PassesOn x) = subst (λ (b : SeatBrought). IsBroughtFor c.front b) seats shows.asked in record {
       hung_up = shows.hung_up;
       mark = shows.mark;
@@ -80,9 +81,9 @@ open_piped n seat c x y p pipe seats laws shows rule len end =
       front = shows.front;
       body_left = shows.body_left;
       index = shows.index;
-      stage = stage_kept n.number seat.client.reply pipe seat.stage c.stage shows.stage;
+      stage = stage_kept number seat.client.reply pipe seat.stage c.stage shows.stage;
       waits_on = shows.waits_on;
-      fate = (fate.0, record { rule = rule ∙ passed.rule; pipe = refl; end = end; head = head_kept n.name seat.client.reply.stage seat.client.reply c.front x y p pipe len passed.head });
+      fate = (fate.0, record { rule = rule ∙ passed.rule; pipe = refl; end = end; head = head_kept name seat.client.reply.stage seat.client.reply c.front x y p pipe len passed.head });
       asked = passed_again c.front x y asked;
       piped = piped_again seat.client.reply.stage y;
       given_up = shows.given_up;
@@ -104,24 +105,24 @@ none_both R (Joins id plain) isnt = tt
 none_both R (Passes p) isnt = absurd (isnt p refl)
 none_both R TooWide isnt = tt
 
-some_both : (n : Names) (said : Said) (front : Front) (x : SeatPassed) (b : Brought) → ShowsBrought n.number n.name said front (PassesOn x) b → AreBoth (ShowsPassed n.name said front) (Some x) (law_passed b)
+some_both : (number : ℕ → ℕ) (name : Bytes) (said : Said) (front : Front) (x : SeatPassed) (b : Brought) → ShowsBrought number name said front (PassesOn x) b → AreBoth (ShowsPassed name said front) (Some x) (law_passed b)
 unfolding law_passed
-some_both n said front x Awaited shows = absurd shows
-some_both n said front x Useless shows = absurd shows
-some_both n said front x (Joins id plain) shows = absurd shows
-some_both n said front x (Passes p) shows = shows
-some_both n said front x TooWide shows = absurd shows
+some_both number name said front x Awaited shows = absurd shows
+some_both number name said front x Useless shows = absurd shows
+some_both number name said front x (Joins id plain) shows = absurd shows
+some_both number name said front x (Passes p) shows = shows
+some_both number name said front x TooWide shows = absurd shows
 
 joins_isnt : (id : ℕ) (plain : Bool) (p : Passed) → Joins id plain ≡ Passes p → ⊥
 joins_isnt id plain p is = absurd cc
 
-both : (n : Names) (said : Said) (course : SeatCourse) (brought : SeatBrought) (c : Client) → ShowsFate n.number n.name n.owed said course brought c → AreBoth (ShowsPassed n.name said c.front) (passed_in brought) (law_passed c.brought)
-both n said course NoneYet c fate = none_both (ShowsPassed n.name said c.front) c.brought (λ p is. subst (ShowsBrought n.number n.name said c.front NoneYet) is fate.1)
-both n said course NoneOfUse c fate = none_both (ShowsPassed n.name said c.front) c.brought (λ p is. subst (ShowsBrought n.number n.name said c.front NoneOfUse) is fate.1)
-both n said course (JoinsRow id plain) c fate = none_both (ShowsPassed n.name said c.front) c.brought (λ p is. subst (ShowsBrought n.number n.name said c.front (JoinsRow id plain)) is fate.1)
-both n said course (PassesOn x) c fate = some_both n said c.front x c.brought fate.1
-both n said course IsTooWide c fate = none_both (ShowsPassed n.name said c.front) c.brought (λ p is. subst (ShowsBrought n.number n.name said c.front IsTooWide) is fate.1)
-both n said course Refused c fate = none_both (ShowsPassed n.name said c.front) c.brought (λ p is. joins_isnt fate.joins.0 fate.joins.1 p (sym fate.joins.2 ∙ is))
+both : (number : ℕ → ℕ) (name : Bytes) (said : Said) (course : SeatCourse) (brought : SeatBrought) (c : Client) → ShowsFate number name [] said course brought c → AreBoth (ShowsPassed name said c.front) (passed_in brought) (law_passed c.brought)
+both number name said course NoneYet c fate = none_both (ShowsPassed name said c.front) c.brought (λ p is. subst (ShowsBrought number name said c.front NoneYet) is fate.1)
+both number name said course NoneOfUse c fate = none_both (ShowsPassed name said c.front) c.brought (λ p is. subst (ShowsBrought number name said c.front NoneOfUse) is fate.1)
+both number name said course (JoinsRow id plain) c fate = none_both (ShowsPassed name said c.front) c.brought (λ p is. subst (ShowsBrought number name said c.front (JoinsRow id plain)) is fate.1)
+both number name said course (PassesOn x) c fate = some_both number name said c.front x c.brought fate.1
+both number name said course IsTooWide c fate = none_both (ShowsPassed name said c.front) c.brought (λ p is. subst (ShowsBrought number name said c.front IsTooWide) is fate.1)
+both number name said course Refused c fate = none_both (ShowsPassed name said c.front) c.brought (λ p is. joins_isnt fate.joins.0 fate.joins.1 p (sym fate.joins.2 ∙ is))
 
 brought_is : (b : SeatBrought) (x : SeatPassed) → passed_in b ≡ Some x → b ≡ PassesOn x
 brought_is NoneYet x is = absurd cc
@@ -140,14 +141,14 @@ law_brought_is (Passes q) p is = ap Passes (some_is q p is)
 law_brought_is TooWide p is = absurd cc
 
 -- what becomes of a client, and of the law's, where a response is passed to them
-on_both : (n : Names) (seat : Seat) (c : Client) (f : Seat → Seat) (g : Passed → Passed) → ShowsOpen n.number n.name n.owed seat c
-    → ((x : SeatPassed) (p : Passed) → seat.brought ≡ PassesOn x → c.brought ≡ Passes p → ShowsOpen n.number n.name n.owed (f seat) (record c { brought = Passes (g p) }))
-    → ShowsOpen n.number n.name n.owed (on_passed_seat f seat) (on_passed g c)
+on_both : (number : ℕ → ℕ) (name : Bytes) (seat : Seat) (c : Client) (f : Seat → Seat) (g : Passed → Passed) → ShowsOpen number name [] seat c
+    → ((x : SeatPassed) (p : Passed) → seat.brought ≡ PassesOn x → c.brought ≡ Passes p → ShowsOpen number name [] (f seat) (record c { brought = Passes (g p) }))
+    → ShowsOpen number name [] (on_passed_seat f seat) (on_passed g c)
 unfolding law_passed
-on_both n seat c f g shows changes = by (passed_in seat.brought) (law_passed c.brought) refl refl (both n seat.client.reply seat.course seat.brought c shows.fate)
+on_both number name seat c f g shows changes = by (passed_in seat.brought) (law_passed c.brought) refl refl (both number name seat.client.reply seat.course seat.brought c shows.fate)
   where
-    by : (x : Option SeatPassed) (p : Option Passed) → passed_in seat.brought ≡ x → law_passed c.brought ≡ p → AreBoth (ShowsPassed n.name seat.client.reply c.front) x p
-        → ShowsOpen n.number n.name n.owed (elim x as (λ o. Seat) [ None ↦ seat | Some y ↦ f seat ]) (elim p as (λ o. Client) [ None ↦ c | Some q ↦ record c { brought = Passes (g q) } ])
+    by : (x : Option SeatPassed) (p : Option Passed) → passed_in seat.brought ≡ x → law_passed c.brought ≡ p → AreBoth (ShowsPassed name seat.client.reply c.front) x p
+        → ShowsOpen number name [] (elim x as (λ o. Seat) [ None ↦ seat | Some y ↦ f seat ]) (elim p as (λ o. Client) [ None ↦ c | Some q ↦ record c { brought = Passes (g q) } ])
     by None None seats laws pair = shows
     by None (Some p) seats laws pair = absurd pair
     by (Some x) None seats laws pair = absurd pair
@@ -190,13 +191,13 @@ law_passed_follows g k c = by (passed_of c)
     by None = refl
     by (Some p) = refl
 
-on_both_seats : (n : Names) (seat : Seat) (c : Client) (f : Seat → Seat) (g : Passed → Passed) → ShowsSeat n.number n.name n.owed seat c → (f seat).client.id ≡ seat.client.id → (f seat).is_closing ≡ seat.is_closing
-    → ((x : SeatPassed) (p : Passed) → seat.brought ≡ PassesOn x → c.brought ≡ Passes p → ShowsOpen n.number n.name n.owed seat c → ShowsOpen n.number n.name n.owed (f seat) (record c { brought = Passes (g p) }))
-    → ShowsSeat n.number n.name n.owed (on_passed_seat f seat) (on_passed g c)
-on_both_seats n seat c f g shows same closing changes = record {
+on_both_seats : (number : ℕ → ℕ) (name : Bytes) (seat : Seat) (c : Client) (f : Seat → Seat) (g : Passed → Passed) → ShowsSeat number name [] seat c → (f seat).client.id ≡ seat.client.id → (f seat).is_closing ≡ seat.is_closing
+    → ((x : SeatPassed) (p : Passed) → seat.brought ≡ PassesOn x → c.brought ≡ Passes p → ShowsOpen number name [] seat c → ShowsOpen number name [] (f seat) (record c { brought = Passes (g p) }))
+    → ShowsSeat number name [] (on_passed_seat f seat) (on_passed g c)
+on_both_seats number name seat c f g shows same closing changes = record {
   number = passed_id f seat same ∙ shows.number ∙ sym (law_passed_number g c);
   closing = passed_closing f seat closing ∙ shows.closing ∙ sym (law_passed_closing g c);
-  going = λ goes_on. let shown : ShowsOpen n.number n.name n.owed seat c = shows.going (sym (law_passed_closing g c) ∙ goes_on) in on_both n seat c f g shown (λ x p seats laws. changes x p seats laws shown);
+  going = λ goes_on. let shown : ShowsOpen number name [] seat c = shows.going (sym (law_passed_closing g c) ∙ goes_on) in on_both number name seat c f g shown (λ x p seats laws. changes x p seats laws shown);
 }
 
 -- ---- data go into it
@@ -211,54 +212,54 @@ same_end : (bytes : Bytes) (p : Passed) → end_of (record p { pipe = law_poured
 same_end [] p = refl
 same_end (b ∷ bytes) p = refl
 
-passed_shows : (n : Names) (seat : Seat) (c : Client) (x : SeatPassed) (p : Passed) → seat.brought ≡ PassesOn x → c.brought ≡ Passes p → ShowsOpen n.number n.name n.owed seat c → ShowsPassed n.name seat.client.reply c.front x p
-passed_shows n seat c x p seats laws shows =
-    let fate : ShowsFate n.number n.name n.owed seat.client.reply seat.course (PassesOn x) c = subst (λ (b : SeatBrought). ShowsFate n.number n.name n.owed seat.client.reply seat.course b c) seats shows.fate in
-    subst (λ (b : Brought). ShowsBrought n.number n.name seat.client.reply c.front (PassesOn x) b) laws fate.1
+passed_shows : (number : ℕ → ℕ) (name : Bytes) (seat : Seat) (c : Client) (x : SeatPassed) (p : Passed) → seat.brought ≡ PassesOn x → c.brought ≡ Passes p → ShowsOpen number name [] seat c → ShowsPassed name seat.client.reply c.front x p
+passed_shows number name seat c x p seats laws shows =
+    let fate : ShowsFate number name [] seat.client.reply seat.course (PassesOn x) c = subst (λ (b : SeatBrought). ShowsFate number name [] seat.client.reply seat.course b c) seats shows.fate in
+    subst (λ (b : Brought). ShowsBrought number name seat.client.reply c.front (PassesOn x) b) laws fate.1
 
-pub pours : (n : Names) (bytes : Bytes) (seat : Seat) (c : Client) → FitsIn bytes (passed_of c) → ShowsSeat n.number n.name n.owed seat c
-    → ShowsSeat n.number n.name n.owed (poured_into bytes seat) (on_passed (λ p. record p { pipe = law_poured bytes p.pipe }) c)
-pours n bytes seat c fits shows = on_both_seats n seat c (on_pipe (poured_in bytes)) (λ p. record p { pipe = law_poured bytes p.pipe }) shows refl refl (λ x p seats laws shown.
-    let passed : ShowsPassed n.name seat.client.reply c.front x p = passed_shows n seat c x p seats laws shown in
+pub pours : (number : ℕ → ℕ) (name : Bytes) (bytes : Bytes) (seat : Seat) (c : Client) → FitsIn bytes (passed_of c) → ShowsSeat number name [] seat c
+    → ShowsSeat number name [] (poured_into bytes seat) (on_passed (λ p. record p { pipe = law_poured bytes p.pipe }) c)
+pours number name bytes seat c fits shows = on_both_seats number name seat c (on_pipe (poured_in bytes)) (λ p. record p { pipe = law_poured bytes p.pipe }) shows refl refl (λ x p seats laws shown.
+    let passed : ShowsPassed name seat.client.reply c.front x p = passed_shows number name seat c x p seats laws shown in
     let room : FitsIn bytes (Some p) = subst (λ (b : Brought). FitsIn bytes (elim b as (λ o. Option Passed) [ Awaited ↦ None | Useless ↦ None | Joins id plain ↦ None | Passes q ↦ Some q | TooWide ↦ None ])) laws fits in
     let pipe : law_poured bytes p.pipe ≡ poured_in bytes seat.client.reply.pipe = sym (same_pour bytes p.pipe room.0 room.1) ∙ ap (poured_in bytes) (sym passed.pipe) in
-    subst (λ (q : Pipe). ShowsOpen n.number n.name n.owed (on_pipe (λ r. q) seat) (record c { brought = Passes (record p { pipe = law_poured bytes p.pipe }) })) pipe
-    (subst (λ (b : SeatBrought). ShowsOpen n.number n.name n.owed (record (on_pipe (λ r. law_poured bytes p.pipe) seat) { brought = b }) (record c { brought = Passes (record p { pipe = law_poured bytes p.pipe }) })) (sym seats)
-    (open_piped n seat c x x p (law_poured bytes p.pipe) seats laws shown refl refl (passed.end ∙ sym (same_end bytes p)))))
+    subst (λ (q : Pipe). ShowsOpen number name [] (on_pipe (λ r. q) seat) (record c { brought = Passes (record p { pipe = law_poured bytes p.pipe }) })) pipe
+    (subst (λ (b : SeatBrought). ShowsOpen number name [] (record (on_pipe (λ r. law_poured bytes p.pipe) seat) { brought = b }) (record c { brought = Passes (record p { pipe = law_poured bytes p.pipe }) })) (sym seats)
+    (open_piped number name seat c x x p (law_poured bytes p.pipe) seats laws shown refl refl (passed.end ∙ sym (same_end bytes p)))))
 
 -- ---- the body that is passed is whole
 
 same_finish : (pipe : Pipe) → pipe.is_finished ≡ false → ended pipe ≡ finished pipe
 same_finish pipe goes_on = ap (λ (b : Bool). elim b as (λ z. Pipe) [ true ↦ pipe | false ↦ finished pipe ]) goes_on
 
-pub ends : (n : Names) (seat : Seat) (c : Client) → IsGoingOn (passed_of c) → ShowsSeat n.number n.name n.owed seat c
-    → ShowsSeat n.number n.name n.owed (on_passed_seat passed_whole seat) (on_passed (λ p. record p { pipe = finished p.pipe }) c)
-ends n seat c goes shows = on_both_seats n seat c passed_whole (λ p. record p { pipe = finished p.pipe }) shows refl refl (λ x p seats laws shown.
-    let passed : ShowsPassed n.name seat.client.reply c.front x p = passed_shows n seat c x p seats laws shown in
-    let goes_on : p.pipe.is_finished ≡ false = subst (λ (b : Brought). IsGoingOn (elim b as (λ o. Option Passed) [ Awaited ↦ None | Useless ↦ None | Joins id plain ↦ None | Passes q ↦ Some q | TooWide ↦ None ])) laws goes in
+pub ends : (number : ℕ → ℕ) (name : Bytes) (seat : Seat) (c : Client) → IsComing c → ShowsSeat number name [] seat c
+    → ShowsSeat number name [] (on_passed_seat passed_whole seat) (on_passed (λ p. record p { pipe = finished p.pipe }) c)
+ends number name seat c goes shows = on_both_seats number name seat c passed_whole (λ p. record p { pipe = finished p.pipe }) shows refl refl (λ x p seats laws shown.
+    let passed : ShowsPassed name seat.client.reply c.front x p = passed_shows number name seat c x p seats laws shown in
+    let goes_on : p.pipe.is_finished ≡ false = subst (λ (b : Brought). is_some_with (λ q. q.pipe.is_finished) (elim b as (λ o. Option Passed) [ Awaited ↦ None | Useless ↦ None | Joins id plain ↦ None | Passes q ↦ Some q | TooWide ↦ None ]) ≡ false) laws goes in
     let pipe : finished p.pipe ≡ ended seat.client.reply.pipe = sym (same_finish p.pipe goes_on) ∙ ap ended (sym passed.pipe) in
-    subst (λ (q : Pipe). ShowsOpen n.number n.name n.owed (record (on_pipe (λ r. q) seat) { brought = brought_to Whole seat.brought }) (record c { brought = Passes (record p { pipe = finished p.pipe }) })) pipe
-    (subst (λ (b : SeatBrought). ShowsOpen n.number n.name n.owed (record (on_pipe (λ r. finished p.pipe) seat) { brought = b }) (record c { brought = Passes (record p { pipe = finished p.pipe }) })) (ap (brought_to Whole) (sym seats))
-    (open_piped n seat c x (record x { end = Whole }) p (finished p.pipe) seats laws shown refl refl refl)))
+    subst (λ (q : Pipe). ShowsOpen number name [] (record (on_pipe (λ r. q) seat) { brought = brought_to Whole seat.brought }) (record c { brought = Passes (record p { pipe = finished p.pipe }) })) pipe
+    (subst (λ (b : SeatBrought). ShowsOpen number name [] (record (on_pipe (λ r. finished p.pipe) seat) { brought = b }) (record c { brought = Passes (record p { pipe = finished p.pipe }) })) (ap (brought_to Whole) (sym seats))
+    (open_piped number name seat c x (record x { end = Whole }) p (finished p.pipe) seats laws shown refl refl refl)))
 
 -- ---- the rest of its own body is dropped
 
-fate_kept : (n : Names) (said : Said) (course : SeatCourse) (brought : SeatBrought) (c : Client) → ShowsFate n.number n.name n.owed said course brought c → ShowsFate n.number n.name n.owed said course brought (skipping c)
-fate_kept n said course NoneYet c fate = fate
-fate_kept n said course NoneOfUse c fate = fate
-fate_kept n said course (JoinsRow id plain) c fate = fate
-fate_kept n said course (PassesOn x) c fate = fate
-fate_kept n said course IsTooWide c fate = fate
-fate_kept n said course Refused c fate = record { waits = fate.waits; joins = fate.joins; refused = fate.refused }
+fate_kept : (number : ℕ → ℕ) (name : Bytes) (said : Said) (course : SeatCourse) (brought : SeatBrought) (c : Client) → ShowsFate number name [] said course brought c → ShowsFate number name [] said course brought (skipping c)
+fate_kept number name said course NoneYet c fate = fate
+fate_kept number name said course NoneOfUse c fate = fate
+fate_kept number name said course (JoinsRow id plain) c fate = fate
+fate_kept number name said course (PassesOn x) c fate = fate
+fate_kept number name said course IsTooWide c fate = fate
+fate_kept number name said course Refused c fate = record { waits = fate.waits; joins = fate.joins; refused = fate.refused }
 
-pub skips : (n : Names) (seat : Seat) (c : Client) → ShowsSeat n.number n.name n.owed seat c → ShowsSeat n.number n.name n.owed (without_body seat) (skipping c)
-skips n seat c shows = record {
+pub skips : (number : ℕ → ℕ) (name : Bytes) (seat : Seat) (c : Client) → ShowsSeat number name [] seat c → ShowsSeat number name [] (without_body seat) (skipping c)
+skips number name seat c shows = record {
   number = shows.number;
   closing = shows.closing;
   going = λ goes_on. dropped (shows.going goes_on);
 }
   where
-    dropped : ShowsOpen n.number n.name n.owed seat c → ShowsOpen n.number n.name n.owed (without_body seat) (skipping c)
+    dropped : ShowsOpen number name [] seat c → ShowsOpen number name [] (without_body seat) (skipping c)
     dropped shown =
         let heard : IsHeardAs (body_dropped seat.client.heard) c.front (drop c.body_left c.heard) 0 (c.skip + (c.body_left - length c.heard))
         = dropped_as seat.client.heard c.front c.heard c.body_left c.skip (record { heard = shown.heard; body = shown.body; over = shown.over }) in record {
@@ -272,7 +273,7 @@ skips n seat c shows = record {
           index = shown.index;
           stage = shown.stage;
           waits_on = shown.waits_on;
-          fate = fate_kept n seat.client.reply seat.course seat.brought c shown.fate;
+          fate = fate_kept number name seat.client.reply seat.course seat.brought c shown.fate;
           asked = shown.asked;
           piped = shown.piped;
           given_up = shown.given_up;

@@ -1,8 +1,8 @@
 //! Where the bytes of a response go: what they leave of the program shows what they leave of the law.
 //!
-//! `specs/Standing.antt` is the relation: the clients, the exchanges and the memory of the program stand for those of `pp_law`, all
-//! by one map of the numbers of lives. From it follows that bytes which join an instance, or go into the pipe of a client, and the
-//! end of a response leave what the law makes of its own state.
+//! What the steps of a turn change stands for the state of the law as `pp_steps_law` has it. From it follows that bytes which join an
+//! instance, or go into the pipe of a client, and the end of a response with its exchange and its connection leave what the law makes
+//! of its own state.
 //!
 //! To the layer above: each law is the clause of a function that does nothing. It is one part of the proof that the program obeys
 //! the law: what the program does with a response is said in `pp_steps`, and what is put on record as sent, the log alone tells.
