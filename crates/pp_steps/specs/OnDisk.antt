@@ -1,7 +1,8 @@
 -- What stands on the disk alone (ours): bytes that are read back, and rows that come into memory.
-use Rattle.std.specs.Prelude.{ℕ, ◌≡◌, Bool, true, false, ◌&&◌, ◌||◌, not, nat_lt, List, bytes_eq, is_some, Option, Some, None}
+use Rattle.std.specs.Prelude.{ℕ, ◌≡◌, ◌<◌, Bool, true, false, ◌&&◌, ◌||◌, not, nat_lt, List, length, bytes_eq, is_some, Option, Some, None}
 use Rattle.std.specs.List.{list_any}
 use Rattle.std.specs.Option.{option_and_then}
+use Rattle.pp_cache.specs.Bounds.{IsBounded}
 use Rattle.pp_cache.specs.Memory.{Memory, extent_of, is_in_memory, with_row}
 use Rattle.pp_cache.specs.OnDisk.{kept_to}
 use Rattle.pp_objects.specs.Instances.{in_slot, is_there, row_of}
@@ -37,12 +38,14 @@ kept_alone key shelf m = elim (is_some (row_of key m.instances) || list_any (byt
 abbrev pub with_kept : ObjectId → List ℕ → Kept → Memory → Memory
 with_kept id key row m = record (with_row id key row.entry.version row.entry.fields row.entry.times m) { extents = kept_to id row.extent m.extents }
 
--- it comes into memory, where nothing stood
+-- it comes into memory, where nothing stood, and stands within the bounds of the cache
 pub record Enters (key : List ℕ) (row : Kept) (old new : Memory) : Type 0 where
   pub id : ObjectId
   pub vacant : in_slot id.slot old.instances ≡ None
   pub life : id.life ≡ old.lives
+  pub slot : id.slot < length old.extents
   pub entered : new ≡ with_kept id key row old
+  pub bounded : IsBounded new
 
 abbrev pub IsBrought : List ℕ → Option Kept → Memory → Memory → Type 0
 IsBrought key None old new = new ≡ old

@@ -183,5 +183,6 @@ fn bring(alloc: Global, cache: &mut Cache, shelf: &Shelf, key: &[u8]) -> Result<
         view.times,
         view.extent,
     )?;
+    cache.bounds();
     Ok(())
 }
