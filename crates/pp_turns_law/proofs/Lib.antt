@@ -1,0 +1,11 @@
+pub mod Ahead
+pub mod Alone
+pub mod Asleep
+pub mod Brought
+pub mod Decides
+pub mod Entered
+pub mod First
+pub mod Numbered
+pub mod Reading
+pub mod Splits
+pub mod Wanted

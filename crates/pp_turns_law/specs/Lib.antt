@@ -1,0 +1,4 @@
+pub mod Firsts
+pub mod Readers
+pub mod Rows
+pub mod Wants
