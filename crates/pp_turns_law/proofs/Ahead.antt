@@ -1,5 +1,5 @@
 -- What comes of an exchange is far ahead of all its readers where it is by the law.
-use Rattle.std.proofs.Common.{arith, ◌≡◌, ◌<◌, ◌≤◌, refl, sym, subst, ap, ap₂, ◌∙◌, ℕ, zero, suc, ◌+◌, ◌/◌, max, Bool, true, false, not, ◌&&◌, ◌||◌, ◌==◌, cond, nat_le, nat_lt, List, [], ◌∷◌, length, Option, Some, None}
+use Rattle.std.proofs.Common.{arith, ◌≡◌, ◌<◌, ◌≤◌, refl, sym, subst, ap, ap₂, ◌∙◌, ℕ, suc, ◌+◌, ◌/◌, max, Bool, true, false, not, ◌&&◌, ◌||◌, ◌==◌, cond, nat_le, List, [], ◌∷◌, length, Option, Some, None}
 use Rattle.std.specs.Prelude.{option_and_then, slice_get}
 use Rattle.std.specs.List.{cons_option, filter_map, reduce}
 use Rattle.std.proofs.lemmas.Bool.Decides.{nat_tests}
@@ -11,15 +11,11 @@ use Rattle.pp_cache_law.proofs.Numbers.{true_false}
 use Rattle.pp_cache_law.specs.Reads.{IsFound}
 use Rattle.pp_cache_law.specs.Tables.{ShowsTable}
 use Rattle.pp_due_law.proofs.Following.{has_source, is_next}
-use Rattle.pp_flow.specs.Changes.{entry_of}
-use Rattle.pp_flow.specs.Entries.{Span}
-use Rattle.pp_flow.specs.declared.entry.Entry.{Entry}
 use Rattle.pp_flow_law.specs.Tables.{AreGiven, Leaving}
-use Rattle.pp_law.specs.Connections.{exchange}
-use Rattle.pp_law.specs.Lists.{Bytes, has_number, is_some_with}
+use Rattle.pp_law.specs.Lists.{has_number, is_some_with}
 use Rattle.pp_law.specs.Served.{furthest_read as furthest_by_law, is_brought_to as is_brought_by_law, is_past as is_past_by_law, read_at as read_by_law}
 use Rattle.pp_law.specs.Stages.{bound_of}
-use Rattle.pp_law.specs.State.{State, Bound, Client, Exchange, Instance as Known}
+use Rattle.pp_law.specs.State.{State, Bound, Client, Instance as Known}
 use Rattle.pp_law.specs.Table.{Next, instance, is_held as is_held_by_law, next_of as next_by_law}
 use Rattle.pp_objects.specs.Instances.{is_same_id, is_there}
 use Rattle.pp_objects.specs.declared.id.ObjectId.{ObjectId}
@@ -34,7 +30,6 @@ use Rattle.pp_seats.specs.declared.seat.Stage.{Stage as SeatStage}
 use Rattle.pp_seats.specs.declared.seat.Stage.TheVariants.{Undecided, Waiting, Passing, Answering}
 use Rattle.pp_seats_law.proofs.Entries.{exchanges}
 use Rattle.pp_seats_law.proofs.Nexts.{nexts}
-use Rattle.pp_seats_law.specs.Clients.{AreShown}
 use Rattle.pp_seats_law.specs.Exchanges.{Binding, IsBoundAs, IsTheLaws, ShowsBound}
 use Rattle.pp_seats_law.specs.Words.{ShowsNext}
 use Rattle.pp_steps.specs.Bringing.{is_held}

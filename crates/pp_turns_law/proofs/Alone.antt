@@ -1,14 +1,14 @@
 -- The row of the client that is found comes in, and no other, where none is kept alone of those who are passed over.
-use Rattle.std.proofs.Common.{◌≡◌, refl, sym, subst, ap, ◌∙◌, ℕ, Bool, true, false, ◌||◌, is_some, List, [], ◌∷◌, Option, Some, None, option_map}
+use Rattle.std.proofs.Common.{◌≡◌, refl, sym, subst, ap, ◌∙◌, ℕ, true, false, ◌||◌, is_some, List, [], ◌∷◌, Option, Some, None, option_map}
 use Rattle.std.specs.Prelude.{bytes_eq, slice_get}
 use Rattle.std.specs.List.{list_any}
 use Rattle.std.specs.Option.{option_and_then}
 use Rattle.pp_cache.specs.Memory.{Memory}
 use Rattle.pp_cache_law.proofs.Alike.{rows_of}
 use Rattle.pp_cache_law.specs.Pairs.{AreBoth}
-use Rattle.pp_cache_law.specs.Tables.{ShowsInstance, ShowsTable}
+use Rattle.pp_cache_law.specs.Tables.{ShowsInstance}
 use Rattle.pp_flow_law.specs.Tables.{Leaving}
-use Rattle.pp_law.specs.Due.{Due, due_of as due_by_law}
+use Rattle.pp_law.specs.Due.{due_of as due_by_law}
 use Rattle.pp_law.specs.Lists.{Bytes}
 use Rattle.pp_law.specs.State.{State, Client, Entry, Instance as Known}
 use Rattle.pp_law.specs.Table.{row, row_on_disk}

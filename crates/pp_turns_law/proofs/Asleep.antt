@@ -1,12 +1,11 @@
 -- Nothing is due of a client that is asleep.
-use Rattle.std.proofs.Common.{◌≡◌, refl, sym, subst, ap, ap₂, ◌∙◌, ℕ, Bool, true, false, not, ◌&&◌, ◌||◌, find, nat_le, ◌-◌, List, [], ◌∷◌, Option, Some, None, option_map}
+use Rattle.std.proofs.Common.{◌≡◌, refl, sym, ap, ap₂, ◌∙◌, ℕ, Bool, true, false, not, ◌&&◌, ◌||◌, find, nat_le, ◌-◌, [], ◌∷◌, Option, Some, None, option_map}
 use Rattle.pp_law.specs.Connections.{is_trying}
-use Rattle.pp_law.specs.Decisions.{decide}
 use Rattle.pp_law.specs.Due.{Due, Decide, due_of, is_idle, is_short}
 use Rattle.pp_law.specs.Lists.{Bytes, is_some_with}
-use Rattle.pp_law.specs.Requests.{Front, NoHeadYet}
+use Rattle.pp_law.specs.Requests.{NoHeadYet}
 use Rattle.pp_law.specs.Sharing.{is_patient}
-use Rattle.pp_law.specs.Stages.{is_begun, is_undecided, reply_of}
+use Rattle.pp_law.specs.Stages.{is_begun, is_undecided}
 use Rattle.pp_law.specs.State.{State, Client, Reply, Shared, Stage, Undecided, Waiting, Passing, Answering}
 use Rattle.pp_law.specs.Table.{Next, next_of}
 use Rattle.pp_seats.specs.Heads.{is_there_in}

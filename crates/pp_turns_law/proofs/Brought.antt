@@ -1,5 +1,5 @@
 -- A kept row that comes in leaves what is due of all as it was.
-use Rattle.std.proofs.Common.{arith, ◌≡◌, ◌<◌, refl, sym, ap, ap₂, ◌∙◌, ℕ, Bool, true, false, not, ◌&&◌, ◌||◌, ◌==◌, cond, find, is_some, List, [], ◌∷◌, ◌++◌, length, Option, Some, None, option_map}
+use Rattle.std.proofs.Common.{arith, ◌≡◌, ◌<◌, refl, sym, ap, ap₂, ◌∙◌, ℕ, Bool, true, false, not, ◌&&◌, ◌||◌, ◌==◌, cond, find, List, [], ◌∷◌, ◌++◌, length, Option, Some, None, option_map}
 use Rattle.std.proofs.lemmas.Bool.Decides.{nat_tests}
 use Rattle.pp_cache.specs.Memory.{Memory}
 use Rattle.pp_cache_law.proofs.Finds.{find_joined, first_of_two}
@@ -7,7 +7,7 @@ use Rattle.pp_cache_law.proofs.Making.{below_next}
 use Rattle.pp_cache_law.specs.Pairs.{AreAll}
 use Rattle.pp_cache_law.specs.Tables.{ShowsChunk, ShowsTable}
 use Rattle.pp_holes.specs.Places.{Chunk}
-use Rattle.pp_law.specs.Chunks.{chunk_bytes, filled, is_chunk}
+use Rattle.pp_law.specs.Chunks.{filled, is_chunk}
 use Rattle.pp_law.specs.Connections.{is_trying}
 use Rattle.pp_law.specs.Decisions.{decide}
 use Rattle.pp_law.specs.Due.{Due, Decide, CutOff, causes, due_by_stage, due_of, give_up, is_idle, is_short, is_told}
@@ -15,14 +15,14 @@ use Rattle.pp_law.specs.Lists.{Bytes, is_some_with}
 use Rattle.pp_law.specs.Offers.{is_at_body, passed_part, piece}
 use Rattle.pp_law.specs.Sharing.{due_first, is_patient}
 use Rattle.pp_law.specs.Stages.{is_begun, is_followed_by, is_passing, reply_of}
-use Rattle.pp_law.specs.State.{State, Client, Entry, Instance, Joins, Reply, Shared, Stage, Undecided, Waiting, Passing, Answering, Chunk as Front}
+use Rattle.pp_law.specs.State.{State, Client, Entry, Instance, Reply, Shared, Stage, Undecided, Waiting, Passing, Answering, Chunk as Front}
 use Rattle.pp_law.specs.Table.{Next, add_row, instance, is_instance, is_next_held, is_provided, next_from, next_in, next_of, row, row_on_disk}
 use Rattle.pp_text.specs.Bytes.{is_empty}
 use Rattle.pp_world.specs.declared.note.Cause.{Cause}
 use Rattle.pp_world.specs.declared.note.Cause.TheVariants.{Superseded, Origin, Short, Idle, Stop}
 use Rattle.pp_world.specs.declared.note.Decision.{Decision}
 use Rattle.pp_turns_law.proofs.Decides.{ComesIn, decided_same, grown, known_of}
-use Rattle.pp_turns_law.specs.Rows.{DuesStayAsTheyWere, IsMadeBefore, kept_alone, with_entry, with_row_of}
+use Rattle.pp_turns_law.specs.Rows.{DuesStayAsTheyWere, IsMadeBefore, with_entry, with_row_of}
 
 -- ---- what it follows
 

@@ -1,6 +1,6 @@
 -- A kept row that comes into memory: what the turn has shows the law's state with it.
-use Rattle.std.proofs.Common.{arith, ◌≡◌, ◌<◌, ◌⊎◌, inl, inr, refl, sym, subst, ap, ap₂, ◌∙◌, ℕ, suc, ◌+◌, Bool, true, false, not, ◌&&◌, ◌||◌, ◌==◌, cond, find, is_some, List, [], ◌∷◌, ◌++◌, filter, Option, Some, None, option_map}
-use Rattle.std.specs.Prelude.{bytes_eq, slice_get}
+use Rattle.std.proofs.Common.{arith, ◌≡◌, ◌<◌, ◌⊎◌, inl, inr, refl, sym, subst, ap, ap₂, ◌∙◌, ℕ, ◌+◌, Bool, true, false, ◌&&◌, ◌||◌, ◌==◌, cond, find, is_some, List, [], ◌∷◌, ◌++◌, filter, Option, Some, None}
+use Rattle.std.specs.Prelude.{bytes_eq}
 use Rattle.std.specs.List.{list_any}
 use Rattle.std.proofs.lemmas.Bool.Decides.{nat_tests}
 use Rattle.std.proofs.lemmas.Slice.Eq.{bytes_eq-Decides}
@@ -10,10 +10,10 @@ use Rattle.pp_cache_law.proofs.Alike.{instances_of, rows_of}
 use Rattle.pp_cache_law.proofs.Entering.{enterings_of, no_row}
 use Rattle.pp_cache_law.proofs.Finds.{find_joined, first_of_two}
 use Rattle.pp_cache_law.proofs.Making.{after_m}
-use Rattle.pp_cache_law.proofs.Numbers.{is_same, same_test, some_is}
+use Rattle.pp_cache_law.proofs.Numbers.{is_same, same_test}
 use Rattle.pp_cache_law.specs.Pairs.{AreAll, AreBoth}
 use Rattle.pp_cache_law.specs.Reads.{IsFound}
-use Rattle.pp_cache_law.specs.Settles.{MayEnter, entered, numbered}
+use Rattle.pp_cache_law.specs.Settles.{entered, numbered}
 use Rattle.pp_cache_law.specs.Tables.{ShowsCache, ShowsInstance, ShowsTable}
 use Rattle.pp_flow.specs.Changes.{Exchanges, entry_of}
 use Rattle.pp_flow.specs.Entries.{Span}
@@ -34,9 +34,6 @@ use Rattle.pp_peers_law.specs.Peers.{ShowConns}
 use Rattle.pp_seats.specs.declared.seat.Seat.{Seat}
 use Rattle.pp_seats_law.specs.Exchanges.{Binding, ShowsExchange}
 use Rattle.pp_states_law.proofs.Asked.{all_as, frames, itself}
-use Rattle.pp_states_law.specs.Asks.{IsAskedAs}
-use Rattle.pp_steps.specs.Ends.{parts}
-use Rattle.pp_steps.specs.Entering.{Comes}
 use Rattle.pp_steps.specs.OnDisk.{Enters, IsBrought, kept_alone as kept_in_turn, with_kept}
 use Rattle.pp_steps.specs.declared.state.State.{State as Turn}
 use Rattle.pp_steps_law.proofs.Told.{told_of}
@@ -45,7 +42,7 @@ use Rattle.pp_store.specs.Kept.{Kept, KeptMap, kept_of as kept_in_store}
 use Rattle.pp_target.specs.Name.{name_of}
 use Rattle.pp_text.specs.Fields.{Field}
 use Rattle.pp_valid.specs.declared.version.Version.{Version}
-use Rattle.pp_due_law.specs.Turns.{IsFollowing, ShowsTurn}
+use Rattle.pp_due_law.specs.Turns.{ShowsTurn}
 use Rattle.pp_turns_law.proofs.Decides.{grown, known_of}
 use Rattle.pp_turns_law.proofs.Numbered.{AreGivenLives, AreSame, exchange_as, seats_as}
 use Rattle.pp_turns_law.specs.Rows.{AreReady, HasComeIn, IsKeptAs, IsReady, RowsComeInAsTheLaws, ShowsDisk, ShowsKept, kept_alone, with_entry, with_row_of}

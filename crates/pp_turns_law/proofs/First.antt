@@ -28,7 +28,7 @@ use Rattle.pp_turns_law.proofs.Asleep.{asleep_due}
 use Rattle.pp_turns_law.proofs.Brought.{dues_stay}
 use Rattle.pp_turns_law.proofs.Entered.{come_in}
 use Rattle.pp_turns_law.proofs.Reading.{HasItsRow, seat_due}
-use Rattle.pp_turns_law.specs.Firsts.{AreAwake, FirstDueInMemory, FirstDueIsTheLaws, HasRowInMemory, IsAsleep, IsFirst, first_as}
+use Rattle.pp_turns_law.specs.Firsts.{FirstDueInMemory, FirstDueIsTheLaws, HasRowInMemory, IsAsleep, IsFirst, first_as}
 use Rattle.pp_turns_law.specs.Rows.{HasComeIn, IsMadeBefore, IsReady, ShowsDisk, kept_alone, with_entry, with_row_of}
 
 none_some : {A : Type 0} {x : A} → None ≡ Some x → ⊥

@@ -1,5 +1,5 @@
 -- What was given its life before keeps its number where another life is given.
-use Rattle.std.proofs.Common.{◌≡◌, ◌<◌, refl, sym, ap, ◌∙◌, ℕ, suc, Bool, true, false, List, [], ◌∷◌, Option, Some, None, option_map}
+use Rattle.std.proofs.Common.{◌≡◌, ◌<◌, refl, ap, ◌∙◌, ℕ, suc, Bool, true, false, List, [], ◌∷◌, Option, Some, None}
 use Rattle.std.specs.Prelude.{slice_get}
 use Rattle.pp_client.specs.Replies.{Reply as Said}
 use Rattle.pp_flow.specs.declared.entry.Entry.{Entry}
@@ -18,7 +18,7 @@ use Rattle.pp_seats.specs.declared.seat.Seat.{Seat}
 use Rattle.pp_seats.specs.declared.seat.Stage.{Stage as SeatStage}
 use Rattle.pp_seats.specs.declared.seat.Stage.TheVariants.{Undecided as IsUndecided, Waiting as IsWaiting, Passing as IsPassing, Answering as IsAnswering}
 use Rattle.pp_seats_law.specs.Clients.{AreShown}
-use Rattle.pp_seats_law.specs.Exchanges.{Binding, IsBoundAs, ShowsBody, ShowsExchange}
+use Rattle.pp_seats_law.specs.Exchanges.{Binding, ShowsBody, ShowsExchange}
 use Rattle.pp_seats_law.specs.Replies.{ShowsAnswer, ShowsBrought, ShowsFate, ShowsStage, source_number}
 use Rattle.pp_seats_law.specs.Seats.{ShowsOpen, ShowsSeat}
 

@@ -1,11 +1,11 @@
 -- What is due of a seat whose row came in, or whose request is not to be decided, is what is due of its client.
-use Rattle.std.proofs.Common.{◌≡◌, refl, sym, subst, ap, ap₂, ◌∙◌, ℕ, Bool, true, false, not, ◌&&◌, ◌||◌, ◌==◌, find, List, [], ◌∷◌, Option, Some, None, option_map}
+use Rattle.std.proofs.Common.{◌≡◌, refl, sym, subst, ap, ap₂, ◌∙◌, ℕ, Bool, true, false, not, ◌&&◌, ◌||◌, ◌==◌, List, [], ◌∷◌, Option, Some, None, option_map}
 use Rattle.std.specs.Prelude.{bytes_eq, slice_get}
 use Rattle.std.specs.List.{list_any}
 use Rattle.std.proofs.lemmas.Slice.Eq.{bytes_eq-Decides}
 use Rattle.pp_cache.specs.Memory.{Memory}
 use Rattle.pp_cache_law.proofs.Alike.{rows_of}
-use Rattle.pp_cache_law.proofs.Numbers.{is_same, same_test, true_false}
+use Rattle.pp_cache_law.proofs.Numbers.{is_same, same_test}
 use Rattle.pp_cache_law.specs.Pairs.{AreBoth}
 use Rattle.pp_cache_law.specs.Tables.{ShowsInstance, ShowsTable}
 use Rattle.pp_client.specs.Replies.{Reply as Said}
@@ -16,18 +16,17 @@ use Rattle.pp_law.specs.Decisions.{decide, decide_head}
 use Rattle.pp_law.specs.Due.{due_of as due_by_law, give_up, is_told}
 use Rattle.pp_law.specs.Lists.{Bytes}
 use Rattle.pp_law.specs.Requests.{Front, NoHeadYet, NoHead, IsRequest}
-use Rattle.pp_law.specs.State.{State, Client, Entry, Instance as Known, Reply, Shared, Stage, Undecided, Waiting, Passing, Answering}
+use Rattle.pp_law.specs.State.{State, Client, Entry, Instance as Known, Reply, Stage, Undecided, Waiting, Passing, Answering}
 use Rattle.pp_law.specs.Table.{kept_row, next_of, row, row_on_disk}
-use Rattle.pp_objects.specs.Instances.{Instance, id_of, in_slot, is_life, is_same_id, is_there, row_of}
+use Rattle.pp_objects.specs.Instances.{Instance, id_of, is_life, is_same_id, is_there, row_of}
 use Rattle.pp_objects.specs.declared.id.ObjectId.{ObjectId}
 use Rattle.pp_peers.specs.declared.peers.Peer.{Peer}
-use Rattle.pp_seats.specs.Dues.{is_refused_in, refused_in}
+use Rattle.pp_seats.specs.Dues.{is_refused_in}
 use Rattle.pp_seats.specs.Heads.{asked_in, is_there_in, owned_in}
 use Rattle.pp_seats.specs.Seats.{is_open_in, is_to_be_decided, is_told_in}
 use Rattle.pp_seats.specs.declared.front.Front.{Front as SeatFront}
 use Rattle.pp_seats.specs.declared.front.Front.TheVariants.{NoHeadYet as NoneYet, NoHead as NoneThere, Request as IsThere}
 use Rattle.pp_seats.specs.declared.key.Key.{Key as OwnedKey}
-use Rattle.pp_seats.specs.declared.seat.Brought.TheVariants.{Joins as JoinsRow}
 use Rattle.pp_seats.specs.declared.seat.Seat.{Seat}
 use Rattle.pp_seats.specs.declared.seat.Stage.{Stage as SeatStage}
 use Rattle.pp_seats.specs.declared.seat.Stage.TheVariants.{Undecided as IsUndecided, Waiting as IsWaiting, Passing as IsPassing, Answering as IsAnswering}

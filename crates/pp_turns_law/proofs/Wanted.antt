@@ -4,7 +4,6 @@ use Rattle.std.specs.Prelude.{get_or, slice_get}
 use Rattle.std.specs.List.{list_all, list_any}
 use Rattle.std.proofs.lemmas.Bool.Decides.{nat_tests}
 use Rattle.pp_cache_law.proofs.Numbers.{same_test}
-use Rattle.pp_client.specs.Requests.{room_of}
 use Rattle.pp_due_law.proofs.Drying.{dry}
 use Rattle.pp_flow_law.specs.Tables.{Leaving}
 use Rattle.pp_law.specs.Asking.{has_room}
@@ -12,8 +11,7 @@ use Rattle.pp_law.specs.Connections.{is_client, is_conn}
 use Rattle.pp_law.specs.Lists.{Bytes, has_number, is_some_with}
 use Rattle.pp_law.specs.Offers.{has_to_say}
 use Rattle.pp_law.specs.Served.{has_to_ask, may_read, may_write}
-use Rattle.pp_law.specs.Stages.{is_undecided, reply_of}
-use Rattle.pp_law.specs.State.{State, Client, Conn, Reply, Stage, Undecided, Waiting, Passing, Answering}
+use Rattle.pp_law.specs.State.{State, Client, Reply, Stage, Undecided, Waiting, Passing, Answering}
 use Rattle.pp_law.specs.Table.{Next, is_next_held, next_of}
 use Rattle.pp_client.specs.declared.interim.Interim.{Interim}
 use Rattle.pp_client.specs.declared.interim.Interim.TheVariants.{Unasked, Left}
@@ -26,7 +24,7 @@ use Rattle.pp_seats.specs.declared.seat.Stage.{Stage as SeatStage}
 use Rattle.pp_seats.specs.declared.seat.Stage.TheVariants.{Undecided as IsUndecided, Waiting as IsWaiting, Passing as IsPassing, Answering as IsAnswering}
 use Rattle.pp_seats_law.specs.Clients.{AreShown, IsAt, IsNowhere}
 use Rattle.pp_seats_law.specs.Replies.{ShowsInterim, ShowsStage}
-use Rattle.pp_seats_law.specs.Seats.{ShowsOpen, ShowsSeat}
+use Rattle.pp_seats_law.specs.Seats.{ShowsOpen}
 use Rattle.pp_steps.proofs.SeatsLemmas.{found-at}
 use Rattle.pp_steps.specs.Due.{is_dry}
 use Rattle.pp_steps.specs.Ends.{AreInOrder, numbers_of}
@@ -34,7 +32,7 @@ use Rattle.pp_steps.specs.declared.state.State.{State as Turn}
 use Rattle.pp_steps_law.proofs.Places.{at_place}
 use Rattle.pp_text.specs.Bytes.{is_empty}
 use Rattle.pp_turns_law.proofs.Asleep.{silent_first}
-use Rattle.pp_turns_law.proofs.Brought.{part_by, says_by}
+use Rattle.pp_turns_law.proofs.Brought.{part_by}
 use Rattle.pp_turns_law.proofs.First.{IsShownAt, client_shown, seat_shown}
 use Rattle.pp_turns_law.specs.Wants.{AcceptsAreTheLaws, NoMoreIsRead, NoMoreIsWritten, ReadsAreTheLaws, ShowsEnd, WritesAreTheLaws, is_read, is_written, numbers_with}
 

@@ -1,11 +1,11 @@
 -- A kept row comes into memory before the request that names it is decided (ours). The law has it come in with that decision.
-use Rattle.std.specs.Prelude.{◌≡◌, ◌<◌, ℕ, Bool, true, false, List, [], ◌∷◌, slice_get, Option, Some, None}
+use Rattle.std.specs.Prelude.{◌≡◌, ◌<◌, ℕ, Bool, false, List, [], ◌∷◌, slice_get, Option, Some, None}
 use Rattle.pp_cache.specs.Memory.{Memory}
 use Rattle.pp_cache_law.specs.Pairs.{AreBoth}
 use Rattle.pp_cache_law.specs.Tables.{OfTables}
 use Rattle.pp_due_law.specs.Turns.{IsFollowing, ShowsTurn}
 use Rattle.pp_flow_law.specs.Tables.{Leaving}
-use Rattle.pp_law.specs.Due.{due_of, first_due}
+use Rattle.pp_law.specs.Due.{due_of}
 use Rattle.pp_law.specs.Lists.{Bytes}
 use Rattle.pp_law.specs.State.{State, Client, Entry, Joins}
 use Rattle.pp_law.specs.Table.{add_row, row, row_on_disk}
