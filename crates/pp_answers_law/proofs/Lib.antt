@@ -1,0 +1,7 @@
+mod Bodies
+mod Dropped
+mod Orders
+mod Standing
+mod ToCome
+mod Told
+mod Useless
