@@ -1,2 +1,9 @@
 pub mod Answers
+pub mod Disproving
+pub mod Fills
+pub mod Making
+pub mod Owns
+pub mod Passing
+pub mod Settling
 pub mod Spans
+pub mod Throughs

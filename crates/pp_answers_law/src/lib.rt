@@ -1,18 +1,29 @@
 //! What the final head of a response makes of clients, exchanges and rows, in the program and in the law.
 //!
-//! Where the state of the program shows that of the law (`ShowsSteps` of `pp_steps_law`), and an exchange whose head comes one of the law's,
-//! the words of `pp_steps` for what its request is told leave a state that shows what the law makes: that request is told, where it has no
-//! reply yet, and what comes is dropped, costs an attempt, or loses the row that may not be shared.
+//! Where the state of the program shows that of the law (`ShowsSteps` of `pp_steps_law`), and an exchange whose head comes shows one of the
+//! law's, the words of `pp_steps` leave a state that shows what the law makes: its request is told, what is of no use costs an attempt, what
+//! has a version joins the row of its key or makes another, a 304 renews that row, and what has none is passed or dropped. So the whole head of
+//! a response to a Fetch or Validate is taken as the law takes it, where memory is refused for no row; and that of one that is passed, where it
+//! names no other place. Not said: what a head to the ask of a follower costs where it is no use for that follower, and the rows of other places.
 //!
-//! To the layer above: each equation is the clause of a function that does nothing. What a head is judged by stands in `pp_heads_law`.
+//! To the layer above: each equation is the clause of a function that does nothing. By what a head is judged stands in `pp_heads_law`. A row that
+//! is kept of the exchange's key is in memory before.
 //!
 //! Takes no memory, and does nothing when the program runs.
 #![tactic(auto)]
 
 mod dropping; // what comes is of no use
+mod outdating; // a response that is passed, and the rows that it outdates
+mod owning; // the head of a response to an ask of the cache's own, whole
+mod passing; // a response without a version
+mod settling; // what a response does to the row of its key
 mod spans; // the span that comes
 mod telling; // what the request of an exchange is told
 
 pub use dropping::answers_are_dropped_as_the_laws;
+pub use outdating::{passed_heads_are_the_laws, rows_are_outdated_as_the_laws};
+pub use owning::{own_heads_are_the_laws, part_heads_are_the_laws};
+pub use passing::responses_are_passed_as_the_laws;
+pub use settling::{rows_are_joined_as_the_laws, rows_are_made_as_the_laws};
 pub use spans::spans_are_the_laws;
 pub use telling::tells_are_the_laws;

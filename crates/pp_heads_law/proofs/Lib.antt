@@ -1,1 +1,1 @@
-mod Ruled
+pub mod Ruled
