@@ -1,29 +1,26 @@
 -- What becomes of the body of a response whose head came.
-use Rattle.std.proofs.Common.{◌≡◌, refl, sym, subst, ap, ◌∙◌, ℕ, zero, suc, Bool, true, false, ◌==◌, cond, find, List, [], ◌∷◌, Some, None, Option}
-use Rattle.std.specs.Prelude.{is_some, option_and_then, option_map, slice_get, slice_set}
+use Rattle.std.proofs.Common.{◌≡◌, refl, ap, ◌∙◌, ℕ, zero, suc, Bool, true, false, cond, find, List, [], ◌∷◌, Some, None, Option}
+use Rattle.std.specs.Prelude.{option_map, slice_get, slice_set}
 use Rattle.pp_cache.specs.Memory.{Memory}
 use Rattle.pp_cache_law.proofs.Framing.{frames_of, the_same}
 use Rattle.pp_flow.specs.Changes.{Exchanges, changed, entry_of, first_of, with_errand}
 use Rattle.pp_flow.specs.Entries.{bound_to, is_number}
 use Rattle.pp_flow.specs.declared.entry.Entry.{Entry}
-use Rattle.pp_flow.specs.declared.entry.Exchange.{Exchange as SeatExchange}
 use Rattle.pp_flow.specs.declared.errand.Body.{Body as ErrandBody}
 use Rattle.pp_flow_law.proofs.Entries.{find_changed, none_some}
 use Rattle.pp_flow_law.proofs.Errands.{heads as flow_heads}
-use Rattle.pp_flow_law.proofs.Standing.{none_waits}
 use Rattle.pp_flow_law.specs.Tables.{Leaving}
-use Rattle.pp_law.specs.Connections.{exchange, on_exchange}
+use Rattle.pp_law.specs.Connections.{on_exchange}
 use Rattle.pp_law.specs.Lists.{Bytes}
 use Rattle.pp_law.specs.OwnHeads.{use_body}
 use Rattle.pp_law.specs.State.{State, Body, Exchange}
 use Rattle.pp_peers.specs.declared.peers.Peer.{Peer}
-use Rattle.pp_seats.specs.Seats.{passed_in}
 use Rattle.pp_seats.specs.declared.seat.Seat.{Seat}
 use Rattle.pp_seats_law.specs.Exchanges.{Binding, ShowsBody}
 use Rattle.pp_states_law.proofs.Asked.{all_as, frames, one_as}
 use Rattle.pp_states_law.specs.States.{ShowsState}
-use Rattle.pp_steps.specs.Bodies.{body_by, is_passed, is_passed_in, seat_in, with_body, with_body_for}
-use Rattle.pp_steps.specs.Ends.{Parts, bound_by, numbers_of, on_seat_where, place_of, seat_for}
+use Rattle.pp_steps.specs.Bodies.{body_by, is_passed, with_body, with_body_for}
+use Rattle.pp_steps.specs.Ends.{Parts, bound_by, on_seat_where}
 use Rattle.pp_steps.specs.FinalHeads.{noted_body}
 use Rattle.pp_steps_law.proofs.Told.{told_asked, told_next}
 use Rattle.pp_steps_law.specs.Steps.{ShowsSteps, whole}

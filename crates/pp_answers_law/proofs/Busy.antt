@@ -1,5 +1,5 @@
 -- The rows that exchanges are bound to are busy in the words of both.
-use Rattle.std.proofs.Common.{◌≡◌, ◌≤◌, ◌<◌, refl, sym, subst, ap, ap₂, ◌∙◌, ℕ, zero, suc, Bool, true, false, ◌==◌, ◌&&◌, ◌||◌, cond, length, take, List, [], ◌∷◌, ◌++◌, Some, None, Option, arith}
+use Rattle.std.proofs.Common.{◌≡◌, ◌≤◌, refl, ap, ap₂, ◌∙◌, ℕ, zero, suc, Bool, ◌==◌, ◌&&◌, ◌||◌, length, take, List, [], ◌∷◌, Some, None, Option, arith}
 use Rattle.std.proofs.lemmas.Bool.Decides.{nat_tests}
 use Rattle.std.specs.List.{cons_option, filter_map, list_any}
 use Rattle.std.specs.Prelude.{option_map}
@@ -16,7 +16,7 @@ use Rattle.pp_law.specs.Lists.{Bytes, is_some_with}
 use Rattle.pp_law.specs.Stages.{bound_of}
 use Rattle.pp_law.specs.State.{State, Bound, Exchange, Instance as Known}
 use Rattle.pp_law.specs.Table.{is_bound_to}
-use Rattle.pp_objects.specs.Instances.{Instance, id_of, in_slot, is_life, is_same_id, is_there}
+use Rattle.pp_objects.specs.Instances.{Instance, id_of, is_life, is_same_id}
 use Rattle.pp_objects.specs.declared.id.ObjectId.{ObjectId}
 use Rattle.pp_peers.specs.declared.peers.Peer.{Peer}
 use Rattle.pp_seats_law.proofs.Entries.{exchanges}

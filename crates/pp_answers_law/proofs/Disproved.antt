@@ -4,7 +4,7 @@ use Rattle.std.proofs.lemmas.Bool.Decides.{nat_tests}
 use Rattle.std.specs.List.{list_any}
 use Rattle.std.specs.Prelude.{option_and_then, option_map, slice_get}
 use Rattle.pp_cache_law.proofs.Alike.{versions_of}
-use Rattle.pp_cache_law.proofs.Numbers.{some_is, true_false}
+use Rattle.pp_cache_law.proofs.Numbers.{true_false}
 use Rattle.pp_client.specs.Requests.{Front as Heading, Nothing, Begun as More, Asked as IsAsked, Refused, current_of}
 use Rattle.pp_flow.specs.declared.entry.Entry.{Entry}
 use Rattle.pp_flow.specs.declared.entry.Exchange.{Exchange as SeatExchange}
@@ -20,7 +20,7 @@ use Rattle.pp_law.specs.OwnHeads.{key_of, known_version as law_known}
 use Rattle.pp_law.specs.Requests.{Front, NoHeadYet, NoHead, IsRequest, Parsed, body_len_by, front_of, goes_alone, is_asked_once, parsed_of}
 use Rattle.pp_law.specs.Stages.{is_through}
 use Rattle.pp_law.specs.State.{State, Client, Exchange, Instance as Known}
-use Rattle.pp_law.specs.Table.{clear, row, row_on_disk}
+use Rattle.pp_law.specs.Table.{clear, row}
 use Rattle.pp_law.specs.ThroughHeads.{disproved as law_disproved, disproves as law_disproves, reads as law_reads}
 use Rattle.pp_peers.specs.declared.peers.Peer.{Peer}
 use Rattle.pp_pipe.specs.Authentication.{binds_connection}
@@ -32,17 +32,17 @@ use Rattle.pp_seats_law.specs.Clients.{IsAt, IsFound}
 use Rattle.pp_seats_law.specs.Fronts.{StandsStill}
 use Rattle.pp_seats_law.specs.Exchanges.{ShowsExchange}
 use Rattle.pp_seats_law.specs.Seats.{ShowsOpen}
-use Rattle.pp_steps.specs.Ends.{Parts, cleared_row, known_version, numbers_of, place_of, seat_for, version_at}
+use Rattle.pp_steps.specs.Ends.{Parts, cleared_row, known_version, numbers_of, seat_for, version_at}
 use Rattle.pp_steps.specs.ThroughHeads.{disproved, gets, is_disproved, is_disproved_by, is_get_in, is_get_of, reads}
 use Rattle.pp_steps_law.proofs.Charged.{same_entry}
-use Rattle.pp_steps_law.proofs.Places.{HasNone, HasPlace, HasSeat, at_place, has_none, has_place, has_seat}
+use Rattle.pp_steps_law.proofs.Places.{HasPlace, HasSeat, at_place, has_none, has_place, has_seat}
 use Rattle.pp_steps_law.specs.Charges.{IsFor}
 use Rattle.pp_steps_law.specs.Steps.{ShowsSteps}
 use Rattle.pp_valid.specs.declared.version.Version.{Version}
 use Rattle.pp_answers_law.specs.Answers.{Asks, IsAnswered, Stands}
 use Rattle.pp_answers_law.specs.Disproving.{DisprovedAreTheLaws, GoesWithClient, HasClient}
 use Rattle.pp_answers_law.specs.Settling.{IsInMemory}
-use Rattle.pp_answers_law.proofs.Dropped.{IsRead, read_now, there_too}
+use Rattle.pp_answers_law.proofs.Dropped.{there_too}
 use Rattle.pp_answers_law.proofs.Renewed.{known_is, none_known}
 use Rattle.pp_answers_law.proofs.Useless.{key_is, row_cleared}
 

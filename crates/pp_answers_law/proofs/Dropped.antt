@@ -1,15 +1,13 @@
 -- What comes is dropped, and the request is decided again, as the law has it.
-use Rattle.std.proofs.Common.{◌≡◌, refl, sym, subst, ap, ap₂, ◌∙◌, ℕ, Bool, true, false, cond, find, List, [], ◌∷◌, Some, None, Option}
-use Rattle.std.specs.Prelude.{is_some, option_and_then, slice_get, slice_set, ⊤}
+use Rattle.std.proofs.Common.{◌≡◌, refl, sym, subst, ap, ◌∙◌, ℕ, Bool, true, false, cond, find, List, [], Some, None, Option}
+use Rattle.std.specs.Prelude.{is_some, option_and_then, slice_set}
 use Rattle.pp_flow.specs.Changes.{Exchanges}
-use Rattle.pp_flow.specs.Entries.{is_number}
 use Rattle.pp_flow.specs.declared.entry.Entry.{Entry}
 use Rattle.pp_flow.specs.declared.entry.Exchange.{Exchange as SeatExchange}
-use Rattle.pp_flow.specs.declared.errand.Body.{Body as ErrandBody}
 use Rattle.pp_flow.specs.declared.errand.Body.TheVariants.{Dropping as IsDropping}
 use Rattle.pp_flow_law.proofs.Standing.{entry_placed, none_waits}
 use Rattle.pp_flow_law.specs.Tables.{Leaving}
-use Rattle.pp_law.specs.Connections.{exchange, is_client, on_exchange}
+use Rattle.pp_law.specs.Connections.{is_client, on_exchange}
 use Rattle.pp_law.specs.Lists.{Bytes}
 use Rattle.pp_law.specs.OwnHeads.{drop_answer, tell, use_body}
 use Rattle.pp_law.specs.Stages.{passed_of}
@@ -38,7 +36,7 @@ use Rattle.pp_steps_law.proofs.Places.{HasSeat, at_place, has_seat, numbers_set}
 use Rattle.pp_steps_law.specs.Charges.{IsFor, IsThere}
 use Rattle.pp_steps_law.specs.Steps.{ShowsSteps}
 use Rattle.pp_answers_law.specs.Answers.{DropsAreTheLaws, IsAnswered, Stands, TellsAs}
-use Rattle.pp_answers_law.proofs.Bodies.{get_set, headed, heads, noted_behind, on_flow, on_seats, with_flow}
+use Rattle.pp_answers_law.proofs.Bodies.{get_set, headed, heads, noted_behind, on_seats, with_flow}
 use Rattle.pp_answers_law.proofs.Told.{tells, told_id}
 
 -- ---- nothing is passed to its client

@@ -16,7 +16,7 @@ use Rattle.pp_peers.specs.declared.peers.Peer.{Peer}
 use Rattle.pp_seats_law.specs.Exchanges.{ShowsExchange}
 use Rattle.pp_seats_law.specs.Fates.{aim_of}
 use Rattle.pp_steps.specs.Ends.{Parts, parts}
-use Rattle.pp_steps.specs.FinalHeads.{TakesAim, TakesHead, TakesPart, noted_body, other_part, part_without_version, version_in}
+use Rattle.pp_steps.specs.FinalHeads.{TakesAim, TakesPart, noted_body, other_part, part_without_version, version_in}
 use Rattle.pp_steps.specs.OwnHeads.{is_private_part}
 use Rattle.pp_steps.specs.Rows.{not_modified}
 use Rattle.pp_steps.specs.declared.state.State.{State as Turn}

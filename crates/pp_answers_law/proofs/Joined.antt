@@ -1,8 +1,8 @@
 -- The body of a response belongs to the row of its key, as the law has it.
-use Rattle.std.proofs.Common.{◌≡◌, ◌≤◌, ◌<◌, refl, sym, subst, ap, ap₂, ◌∙◌, ℕ, Bool, true, false, not, ◌==◌, ◌&&◌, cond, find, List, [], ◌∷◌, Some, None, Option, arith}
-use Rattle.std.specs.Prelude.{codes, count_by, is_some, option_map, slice_get, slice_set}
+use Rattle.std.proofs.Common.{◌≡◌, ◌≤◌, ◌<◌, refl, sym, subst, ap, ap₂, ◌∙◌, ℕ, Bool, true, false, not, ◌==◌, ◌&&◌, find, List, [], ◌∷◌, Some, None, Option}
+use Rattle.std.specs.Prelude.{codes, count_by}
 use Rattle.pp_cache_law.proofs.Alike.{rows_of}
-use Rattle.pp_cache_law.proofs.Numbers.{Apart, instances_alike, is_same, number_of_shown, number_of_there, same_test, some_is, true_false}
+use Rattle.pp_cache_law.proofs.Numbers.{Apart, instances_alike, is_same, number_of_shown, number_of_there, same_test, true_false}
 use Rattle.pp_cache_law.proofs.PairLemmas.{counted}
 use Rattle.pp_cache_law.specs.Pairs.{AreBoth}
 use Rattle.pp_cache_law.specs.Tables.{ShowsInstance, number_in}
@@ -12,7 +12,6 @@ use Rattle.pp_flow.specs.declared.entry.Aim.{Aim as SeatAim}
 use Rattle.pp_flow.specs.declared.entry.Aim.TheVariants.{Own as OfItself, Hole, Pass}
 use Rattle.pp_flow.specs.declared.entry.Entry.{Entry}
 use Rattle.pp_flow.specs.declared.entry.Exchange.{Exchange as SeatExchange}
-use Rattle.pp_flow.specs.declared.errand.Body.{Body as ErrandBody}
 use Rattle.pp_flow.specs.declared.errand.Body.TheVariants.{Joining as IsJoining}
 use Rattle.pp_flow_law.proofs.Standing.{none_waits}
 use Rattle.pp_flow_law.proofs.Told.{found_alone}
@@ -21,25 +20,24 @@ use Rattle.pp_head.specs.Response.{Response}
 use Rattle.pp_heads_law.proofs.Ruled.{ignores}
 use Rattle.pp_law.specs.Connections.{is_for, on_client_of}
 use Rattle.pp_law.specs.Lists.{Bytes, change}
-use Rattle.pp_law.specs.OwnHeads.{end_in, first_offset, ignores_range, key_of, range_in, settle_on, span_to_come, tell, use_body}
+use Rattle.pp_law.specs.OwnHeads.{key_of, settle_on, span_to_come, tell, use_body}
 use Rattle.pp_law.specs.State.{State, Bound, Client, Exchange, Instance as Known, Joining, Joins}
 use Rattle.pp_law.specs.Table.{instance, is_instance, is_row_of, row}
-use Rattle.pp_objects.specs.Instances.{Instance, id_of, in_slot, is_in_slot, is_life, is_there, row_of}
+use Rattle.pp_objects.specs.Instances.{Instance, id_of, in_slot, is_in_slot, is_life, is_there}
 use Rattle.pp_objects.specs.declared.id.ObjectId.{ObjectId}
 use Rattle.pp_peers.specs.declared.peers.Peer.{Peer}
-use Rattle.pp_seats.specs.declared.seat.Brought.{Brought as SeatBrought}
 use Rattle.pp_seats.specs.declared.seat.Brought.TheVariants.{Joins as JoinsRow}
 use Rattle.pp_seats.specs.declared.seat.Seat.{Seat}
 use Rattle.pp_seats.specs.declared.account.Account.{Account}
 use Rattle.pp_seats_law.specs.Exchanges.{IsBoundAs, ShowsExchange}
 use Rattle.pp_seats_law.specs.Seats.{ShowsOpen, ShowsSeat}
 use Rattle.pp_steps.specs.Accounts.{brought_by, with_source}
-use Rattle.pp_steps.specs.Bodies.{is_passed, on_place, with_body}
+use Rattle.pp_steps.specs.Bodies.{on_place}
 use Rattle.pp_steps.specs.Ends.{Parts, bound_by, on_seat_where, seat_for, told, told_to}
 use Rattle.pp_steps.specs.FinalHeads.{noted_body}
 use Rattle.pp_steps.specs.OwnHeads.{span_to_come as span_coming}
 use Rattle.pp_steps.specs.Rows.{accounted, joining, settled_on, span_for}
-use Rattle.pp_steps_law.proofs.Charged.{number_is, same_entry}
+use Rattle.pp_steps_law.proofs.Charged.{same_entry}
 use Rattle.pp_steps_law.specs.Charges.{IsFor}
 use Rattle.pp_steps_law.specs.Steps.{ShowsSteps}
 use Rattle.pp_steps_law.specs.Told.{IsTold}

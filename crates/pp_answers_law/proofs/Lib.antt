@@ -12,6 +12,7 @@ mod Owned
 mod Relayed
 mod Renewed
 mod Standing
+mod Taken
 mod Through
 mod ToCome
 mod Told

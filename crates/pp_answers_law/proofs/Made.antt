@@ -1,36 +1,33 @@
 -- A response of another version makes a new row, to which its body belongs, as the law has it.
-use Rattle.std.proofs.Common.{◌≡◌, ◌≤◌, ◌<◌, ◌⊎◌, inl, inr, refl, sym, subst, ap, ap₂, ◌∙◌, ℕ, ◌+◌, Bool, true, false, not, ◌==◌, ◌&&◌, cond, find, List, [], ◌∷◌, ◌++◌, Some, None, Option, nat_le, nat_lt, arith}
+use Rattle.std.proofs.Common.{◌≡◌, ◌<◌, ◌⊎◌, inl, inr, refl, sym, subst, ap, ap₂, ◌∙◌, ℕ, ◌+◌, Bool, true, false, ◌==◌, ◌&&◌, cond, find, List, [], ◌∷◌, ◌++◌, Some, None, Option, nat_le, nat_lt, arith}
 use Rattle.std.proofs.lemmas.Bool.Decides.{nat_tests}
 use Rattle.std.proofs.lemmas.Slice.Eq.{bytes_eq-Decides}
-use Rattle.std.specs.Prelude.{bytes_eq, count_by, option_map}
+use Rattle.std.specs.Prelude.{count_by}
 use Rattle.pp_cache.specs.Memory.{Memory, with_outdated, with_row}
 use Rattle.pp_cache_law.proofs.Alike.{instances_of, rows_of}
 use Rattle.pp_cache_law.proofs.Finds.{find_joined, first_of_two, none_passes}
 use Rattle.pp_cache_law.proofs.Moves.{in_slot-elsewhere, in_slot-other}
-use Rattle.pp_cache_law.proofs.Numbers.{is_same, same_test, some_is, true_false}
+use Rattle.pp_cache_law.proofs.Numbers.{is_same, same_test, true_false}
 use Rattle.pp_cache_law.proofs.Rooming.{makings_of}
 use Rattle.pp_cache_law.specs.Pairs.{AreBoth}
 use Rattle.pp_cache_law.specs.Reads.{IsFound}
 use Rattle.pp_cache_law.specs.Rooms.{room_by, with_room, without_one}
 use Rattle.pp_cache_law.specs.Settles.{numbered}
-use Rattle.pp_cache_law.specs.Tables.{ShowsInstance, ShowsTable}
-use Rattle.pp_flow.specs.Changes.{Exchanges}
+use Rattle.pp_cache_law.specs.Tables.{ShowsInstance}
 use Rattle.pp_flow.specs.Entries.{Span}
 use Rattle.pp_flow.specs.declared.entry.Entry.{Entry}
-use Rattle.pp_flow_law.proofs.Entries.{none_some}
 use Rattle.pp_flow_law.proofs.Framed.{frames as flow_frames}
 use Rattle.pp_flow_law.proofs.Told.{found_alone}
 use Rattle.pp_flow_law.specs.Tables.{Leaving, line_in}
 use Rattle.pp_fresh.specs.declared.aging.Times.{Times}
-use Rattle.pp_head.specs.Response.{Response}
 use Rattle.pp_heads_law.proofs.Ruled.{times}
 use Rattle.pp_law.specs.Connections.{exchange, is_client, is_conn, is_exchange}
 use Rattle.pp_law.specs.Lists.{Bytes}
 use Rattle.pp_law.specs.OwnHeads.{key_of, settle_on, times_for as law_times}
 use Rattle.pp_law.specs.State.{State, Client, Conn, Exchange, Instance as Known}
 use Rattle.pp_law.specs.Table.{add_row, clear, forget, forget_row, idle_row, make_row, row, rows, swept, with_room as law_room}
-use Rattle.pp_objects.specs.Changes.{changed_in, new_row, retired, retired_from, settled, without_slot}
-use Rattle.pp_objects.specs.Instances.{Instance, id_of, in_slot, is_idle, is_in_slot, is_life, is_row, is_row_of, is_same_id, is_there, row_of}
+use Rattle.pp_objects.specs.Changes.{changed_in, new_row, retired, retired_from, without_slot}
+use Rattle.pp_objects.specs.Instances.{Instance, in_slot, is_idle, is_in_slot, is_life, is_row, is_row_of, is_same_id, is_there, row_of}
 use Rattle.pp_objects.specs.Kept.{kept_of}
 use Rattle.pp_objects.specs.declared.id.ObjectId.{ObjectId}
 use Rattle.pp_peers.specs.declared.peers.Peer.{Peer}
@@ -42,17 +39,14 @@ use Rattle.pp_states_law.specs.States.{ShowsState}
 use Rattle.pp_steps.specs.Ends.{Parts}
 use Rattle.pp_steps.specs.FinalHeads.{noted_body}
 use Rattle.pp_steps.specs.Pins.{busy_rows}
-use Rattle.pp_steps.specs.Rows.{in_memory, made_row, not_refused, settled_on, times_for}
+use Rattle.pp_steps.specs.Rows.{in_memory, not_refused, settled_on}
 use Rattle.pp_steps_law.proofs.Charged.{same_entry}
 use Rattle.pp_steps_law.proofs.Told.{there_before}
-use Rattle.pp_steps_law.specs.Charges.{IsFor}
 use Rattle.pp_steps_law.specs.Steps.{ShowsSteps, whole}
-use Rattle.pp_steps_law.specs.Told.{AreTold, EachIsTold, IsTold, IsToldBy}
+use Rattle.pp_steps_law.specs.Told.{EachIsTold, IsTold, IsToldBy}
 use Rattle.pp_text.specs.Fields.{Field}
 use Rattle.pp_valid.specs.declared.version.Version.{Version}
-use Rattle.pp_answers_law.specs.Answers.{IsAnswered, Stands}
 use Rattle.pp_answers_law.specs.Making.{MakesAreTheLaws, MayMake, roomed}
-use Rattle.pp_answers_law.specs.Settling.{HasRow}
 use Rattle.pp_answers_law.proofs.Busy.{busies}
 use Rattle.pp_answers_law.proofs.Dropped.{there_too}
 use Rattle.pp_answers_law.proofs.Joined.{joins}

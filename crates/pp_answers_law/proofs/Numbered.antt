@@ -1,7 +1,6 @@
 -- A life that is given has a number of the law, and those before it keep theirs.
-use Rattle.std.proofs.Common.{◌≡◌, ◌<◌, refl, sym, subst, ap, ◌∙◌, ℕ, Bool, true, false, ◌==◌, cond, filter, find, List, [], ◌∷◌, Some, None, Option, arith}
+use Rattle.std.proofs.Common.{◌≡◌, ◌<◌, refl, sym, subst, ap, ◌∙◌, ℕ, Bool, true, false, ◌==◌, cond, filter, List, [], ◌∷◌, Some, None, Option, arith}
 use Rattle.std.proofs.lemmas.Bool.Decides.{nat_tests}
-use Rattle.std.specs.Prelude.{⊤, option_map}
 use Rattle.pp_cache.specs.Memory.{Memory}
 use Rattle.pp_cache_law.specs.Pairs.{AreAll, AreBoth}
 use Rattle.pp_cache_law.specs.Settles.{numbered}
@@ -15,7 +14,6 @@ use Rattle.pp_law.specs.Connections.{exchange}
 use Rattle.pp_law.specs.Lists.{Bytes}
 use Rattle.pp_law.specs.State.{State, Awaited, Body, Brought, Client, Dropping, Exchange, Joining, Joins, Passes, Pending, Relaying, Stage, TooWide, Useless, Undecided, Waiting, Passing, Answering}
 use Rattle.pp_objects.specs.declared.id.ObjectId.{ObjectId}
-use Rattle.pp_seats.specs.declared.seat.Answer.{Answer}
 use Rattle.pp_seats.specs.declared.seat.Brought.{Brought as SeatBrought}
 use Rattle.pp_seats.specs.declared.seat.Brought.TheVariants.{Awaited as NoneYet, Useless as NoneOfUse, Joins as JoinsRow, Passes as PassesOn, TooWide as IsTooWide, Refused}
 use Rattle.pp_seats.specs.declared.seat.Course.{Course as SeatCourse}
@@ -23,9 +21,9 @@ use Rattle.pp_seats.specs.declared.seat.Seat.{Seat}
 use Rattle.pp_seats.specs.declared.seat.Stage.{Stage as SeatStage}
 use Rattle.pp_seats.specs.declared.seat.Stage.TheVariants.{Undecided as IsUndecided, Waiting as IsWaiting, Passing as IsPassing, Answering as IsAnswering}
 use Rattle.pp_seats_law.specs.Clients.{AreShown}
-use Rattle.pp_seats_law.specs.Exchanges.{Binding, IsBoundAs, ShowsBody, ShowsExchange}
-use Rattle.pp_seats_law.specs.Replies.{ShowsAnswer, ShowsBrought, ShowsFate, ShowsStage, source_number}
-use Rattle.pp_seats_law.specs.Seats.{ShowsOpen, ShowsSeat}
+use Rattle.pp_seats_law.specs.Exchanges.{Binding, ShowsBody, ShowsExchange}
+use Rattle.pp_seats_law.specs.Replies.{ShowsBrought, ShowsFate, ShowsStage, source_number}
+use Rattle.pp_seats_law.specs.Seats.{ShowsOpen}
 use Rattle.pp_steps_law.proofs.Told.{told_of}
 use Rattle.pp_steps_law.specs.Told.{AreTold, EachIsTold, IsToldBy}
 use Rattle.pp_answers_law.specs.Making.{AreGivenSeats, IsGiven, IsGivenBrought, IsGivenSeat, IsGivenSource}

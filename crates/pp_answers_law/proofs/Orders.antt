@@ -1,13 +1,13 @@
 -- The order in which the law changes clients and exchanges of one response does not matter.
-use Rattle.std.proofs.Common.{◌≡◌, refl, sym, subst, ap, ap₂, ◌∙◌, ℕ, Bool, true, false, not, ◌==◌, ◌&&◌, ◌||◌, cond, filter, find, List, [], ◌∷◌, Some, None, Option, ◌+◌, nat_le}
+use Rattle.std.proofs.Common.{◌≡◌, refl, sym, ap, ap₂, ◌∙◌, ℕ, Bool, true, false, not, ◌&&◌, ◌||◌, cond, filter, List, [], ◌∷◌}
 use Rattle.std.specs.List.{list_any}
 use Rattle.pp_law.specs.Closing.{left_alone}
 use Rattle.pp_law.specs.Connections.{attempts_of, charge, give_up_row, is_exchange, is_for, is_out, is_unfilled, lose_attempt, lost_one, on_client_of, on_exchange, without_row, without_shared_row}
-use Rattle.pp_law.specs.Lists.{Bytes, change, is_some_with, is_this, without}
+use Rattle.pp_law.specs.Lists.{Bytes, change, is_some_with, is_this}
 use Rattle.pp_law.specs.OwnHeads.{is_asked_by, tell, use_body}
 use Rattle.pp_law.specs.Stages.{filled_of, is_begun}
 use Rattle.pp_law.specs.State.{State, Body, Brought, Chunk, Client, Course, Exchange, Instance, Trying}
-use Rattle.pp_law.specs.Table.{clear, displaced_by, follows, is_chunk_of_any, is_entry_of, is_followed, is_left_over, is_row_of, is_same_version, row, swept}
+use Rattle.pp_law.specs.Table.{clear, displaced_by, follows, is_chunk_of_any, is_entry_of, is_left_over, is_row_of, is_same_version, row, swept}
 use Rattle.pp_target.specs.Key.{text_of}
 
 abbrev pub told_client_if : Brought → Client → Bool → Client

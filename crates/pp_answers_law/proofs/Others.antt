@@ -1,5 +1,5 @@
 -- A response without a version to an ask of the cache's own, as the law has it.
-use Rattle.std.proofs.Common.{◌≡◌, refl, sym, subst, ap, ap₂, ◌∙◌, ℕ, Bool, true, false, not, ◌||◌, find, List, Some, None, Option}
+use Rattle.std.proofs.Common.{◌≡◌, refl, sym, subst, ap, ap₂, ◌∙◌, ℕ, Bool, true, false, ◌||◌, List, None}
 use Rattle.pp_flow.specs.declared.entry.Entry.{Entry}
 use Rattle.pp_flow_law.specs.Tables.{Leaving}
 use Rattle.pp_framing.specs.declared.body.BodyRule.{BodyRule}
@@ -7,12 +7,12 @@ use Rattle.pp_head.specs.Response.{Response}
 use Rattle.pp_heads_law.proofs.Ruled.{widened as widened_same}
 use Rattle.pp_law.specs.Lists.{Bytes}
 use Rattle.pp_law.specs.OwnHeads.{cleared_by as law_cleared_by, clears_row as law_clears, is_private_part as law_private, is_widened as law_widened, key_of, not_shared as law_not_shared, other_head as law_other_head, other_part as law_other_part, relay_head, tell, use_body, useless}
-use Rattle.pp_law.specs.State.{State, Client, Dropping, Exchange, TooWide}
+use Rattle.pp_law.specs.State.{State, Dropping, Exchange, TooWide}
 use Rattle.pp_law.specs.Table.{clear, swept}
 use Rattle.pp_peers.specs.declared.peers.Peer.{Peer}
 use Rattle.pp_seats.specs.declared.seat.Brought.TheVariants.{TooWide as IsTooWide}
 use Rattle.pp_steps.specs.Ends.{Parts, bound_by, cleared_row, told_to}
-use Rattle.pp_steps.specs.FinalHeads.{cleared_by, is_widened, noted_body, other_head, other_part, relayed, relayed_or_widened, shared_part, widened}
+use Rattle.pp_steps.specs.FinalHeads.{cleared_by, noted_body, other_part, relayed, relayed_or_widened, shared_part}
 use Rattle.pp_steps.specs.OwnHeads.{clears_row, is_private_part}
 use Rattle.pp_steps_law.proofs.Charged.{same_entry}
 use Rattle.pp_steps_law.specs.Charges.{IsFor}

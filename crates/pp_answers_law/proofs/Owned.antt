@@ -1,17 +1,15 @@
 -- The head of a response to a Fetch or Validate, as the law has it.
-use Rattle.std.proofs.Common.{◌≡◌, ◌≤◌, refl, sym, subst, ap, ap₂, ◌∙◌, ℕ, Bool, true, false, not, ◌==◌, ◌&&◌, ◌||◌, cond, find, length, List, [], ◌∷◌, Some, None, Option, nat_le, nat_lt, arith}
+use Rattle.std.proofs.Common.{◌≡◌, ◌≤◌, refl, sym, subst, ap, ◌∙◌, ℕ, Bool, true, false, ◌==◌, cond, length, List, [], ◌∷◌, Some, None, Option, nat_le, nat_lt, arith}
 use Rattle.std.proofs.lemmas.Bool.Decides.{nat_tests}
 use Rattle.std.specs.Prelude.{count_by, option_and_then, option_map}
-use Rattle.pp_cache.specs.Memory.{Memory}
-use Rattle.pp_cache.specs.Notes.{has_noted, noted_by, unnoted}
+use Rattle.pp_cache.specs.Notes.{noted_by, unnoted}
 use Rattle.pp_cache_law.proofs.Alike.{rows_of}
 use Rattle.pp_cache_law.specs.Pairs.{AreBoth}
-use Rattle.pp_cache_law.specs.Rooms.{room_by, with_room, without_one}
+use Rattle.pp_cache_law.specs.Rooms.{room_by, without_one}
 use Rattle.pp_cache_law.specs.Settles.{numbered}
 use Rattle.pp_cache_law.specs.Tables.{ShowsInstance}
 use Rattle.pp_flow.specs.declared.entry.Entry.{Entry}
 use Rattle.pp_flow.specs.declared.entry.Exchange.{Exchange as SeatExchange}
-use Rattle.pp_flow.specs.declared.errand.Errand.{Errand}
 use Rattle.pp_flow_law.specs.Tables.{Leaving}
 use Rattle.pp_framing.specs.declared.body.BodyRule.{BodyRule}
 use Rattle.pp_head.specs.Response.{Response}
@@ -19,26 +17,24 @@ use Rattle.pp_heads_law.proofs.Ruled.{joins as joins_same, versions}
 use Rattle.pp_law.specs.Lists.{Bytes, is_some_with}
 use Rattle.pp_law.specs.OwnHeads.{key_of, known_version, may_join as law_may_join, not_modified as law_not_modified, other_head as law_other_head, own_head, settle, settle_known, settle_on, times_for as law_times, version_in as law_version_in}
 use Rattle.pp_law.specs.State.{State, Exchange, Instance as Known}
-use Rattle.pp_law.specs.Table.{make_row, row, row_on_disk}
-use Rattle.pp_objects.specs.Instances.{Instance, id_of, is_idle, is_row, row_of}
+use Rattle.pp_law.specs.Table.{make_row, row}
+use Rattle.pp_objects.specs.Instances.{Instance, id_of, is_row, row_of}
 use Rattle.pp_objects.specs.Kept.{kept_of}
 use Rattle.pp_objects.specs.declared.id.ObjectId.{ObjectId}
 use Rattle.pp_peers.specs.declared.peers.Peer.{Peer}
 use Rattle.pp_seats.specs.declared.seat.Brought.TheVariants.{Refused}
 use Rattle.pp_seats.specs.declared.seat.Seat.{Seat}
 use Rattle.pp_seats_law.specs.Exchanges.{ShowsExchange}
-use Rattle.pp_steps.specs.Ends.{Parts, bound_by, cleared_key, cleared_of, cleared_row, on_seat_where, parts, seat_for, told}
+use Rattle.pp_steps.specs.Ends.{Parts, bound_by, cleared_of, cleared_row, on_seat_where, parts, seat_for, told}
 use Rattle.pp_steps.specs.FinalHeads.{TakesOwn, noted_body, other_head, version_in, without_version}
 use Rattle.pp_steps.specs.Heads.{key_of as key_in_flow}
 use Rattle.pp_steps.specs.Pins.{busy_rows, forgotten_row, idle_row, with_room as turn_with_room}
-use Rattle.pp_steps.specs.Rows.{IsNew, MakesRow, MakesRowOf, Settles, SettlesRow, made_row, may_join, not_modified, refused_row, refusing, refusing_key, renewed, row_for, row_in, row_or_none, with_room_for}
+use Rattle.pp_steps.specs.Rows.{IsNew, MakesRow, MakesRowOf, Settles, SettlesRow, may_join, not_modified, refused_row, refusing, refusing_key, renewed, row_for, row_in, row_or_none, with_room_for}
 use Rattle.pp_steps.specs.declared.state.State.{State as Turn}
 use Rattle.pp_steps_law.proofs.Charged.{same_entry}
-use Rattle.pp_steps_law.specs.Charges.{IsFor}
 use Rattle.pp_steps_law.specs.Steps.{ShowsSteps}
 use Rattle.pp_valid.specs.declared.version.Version.{Version}
-use Rattle.pp_answers_law.specs.Answers.{IsAnswered, Stands}
-use Rattle.pp_answers_law.specs.Making.{MayMake, roomed}
+use Rattle.pp_answers_law.specs.Making.{roomed}
 use Rattle.pp_answers_law.specs.Owns.{IsAtHead, IsShown, OwnHeadsAreTheLaws}
 use Rattle.pp_answers_law.specs.Settling.{HasRow}
 use Rattle.pp_answers_law.proofs.Dropped.{there_too}

@@ -1,34 +1,28 @@
 -- A response is passed to the request that waits for it, or dropped, as the law has it.
-use Rattle.std.proofs.Common.{◌≡◌, refl, sym, subst, ap, ap₂, ◌∙◌, ℕ, Bool, true, false, not, ◌==◌, ◌&&◌, ◌||◌, cond, find, length, List, [], ◌∷◌, Some, None, Option}
+use Rattle.std.proofs.Common.{◌≡◌, refl, sym, subst, ap, ap₂, ◌∙◌, ℕ, Bool, true, false, not, ◌&&◌, length, List, [], Some, None, Option}
 use Rattle.std.specs.List.{list_any}
-use Rattle.std.specs.Prelude.{is_some, option_and_then, slice_get, slice_set, ⊤}
+use Rattle.std.specs.Prelude.{is_some, option_and_then, slice_set}
 use Rattle.pp_client.specs.Clients.{IsAnswerable}
 use Rattle.pp_client.specs.Replies.{Reply as Said, has_begun as said_begun}
 use Rattle.pp_client.specs.Requests.{current_of, is_answerable}
-use Rattle.pp_client.specs.declared.reply.Begin.TheVariants.{Page, Instance, Passed as IsPassed}
 use Rattle.pp_client.specs.declared.reply.Stage.{Stage as SaidStage}
 use Rattle.pp_client.specs.declared.reply.Stage.TheVariants.{Due, Begun}
 use Rattle.pp_flow.specs.Changes.{Exchanges}
-use Rattle.pp_flow.specs.declared.entry.Entry.{Entry}
 use Rattle.pp_flow.specs.declared.entry.Exchange.{Exchange as SeatExchange}
-use Rattle.pp_flow.specs.declared.errand.Body.{Body as ErrandBody}
-use Rattle.pp_flow.specs.declared.errand.Body.TheVariants.{Relaying as IsRelaying, Dropping as IsDropping}
 use Rattle.pp_flow_law.proofs.Standing.{none_waits}
 use Rattle.pp_flow_law.specs.Tables.{Leaving}
 use Rattle.pp_framing.specs.declared.body.BodyRule.{BodyRule}
 use Rattle.pp_framing.specs.declared.body.BodyRule.TheVariants.{Empty, Length, Chunked, ToEnd}
 use Rattle.pp_head.specs.Request.{Request as AskedHead}
 use Rattle.pp_head.specs.Response.{Response}
-use Rattle.pp_law.specs.Connections.{is_client, is_for, on_client_of}
 use Rattle.pp_law.specs.Lists.{Bytes, is_this}
-use Rattle.pp_law.specs.OwnHeads.{is_asked_by, relay_head, relayed as law_relayed, tell, use_body}
+use Rattle.pp_law.specs.OwnHeads.{is_asked_by, relay_head, tell, use_body}
 use Rattle.pp_law.specs.Passing.{is_coded as law_is_coded, passed_by}
-use Rattle.pp_law.specs.Requests.{Front, Parsed, NoHeadYet, NoHead, IsRequest, has_request, keeps_open}
+use Rattle.pp_law.specs.Requests.{Front, Parsed, IsRequest}
 use Rattle.pp_law.specs.Stages.{is_begun, passed_of}
-use Rattle.pp_law.specs.State.{State, Body, Brought, Client, Dropping, Exchange, Passed, Passes, Relaying, Reply, Stage, Undecided, Waiting, Passing, Answering}
+use Rattle.pp_law.specs.State.{State, Body, Client, Dropping, Exchange, Passed, Passes, Relaying, Reply, Stage, Undecided, Waiting, Passing, Answering}
 use Rattle.pp_peers.specs.declared.peers.Peer.{Peer}
 use Rattle.pp_pass.specs.Pipe.{Pipe, started}
-use Rattle.pp_plan.specs.Requests.{is_head}
 use Rattle.pp_reply.specs.Texts.{passed_head}
 use Rattle.pp_seats.specs.Courses.{has_begun, has_begun_in}
 use Rattle.pp_seats.specs.Follows.{answer_in}
@@ -38,7 +32,6 @@ use Rattle.pp_seats.specs.Seats.{passed_in}
 use Rattle.pp_seats.specs.declared.front.Asked.{Asked}
 use Rattle.pp_seats.specs.declared.front.Front.{Front as SeatFront}
 use Rattle.pp_seats.specs.declared.front.Front.TheVariants.{NoHeadYet as NoneYet, NoHead as NoneThere, Request}
-use Rattle.pp_seats.specs.declared.seat.Brought.{Brought as SeatBrought}
 use Rattle.pp_seats.specs.declared.seat.Brought.TheVariants.{Passes as PassesOn}
 use Rattle.pp_seats.specs.declared.seat.Passed.{Passed as SeatPassed}
 use Rattle.pp_seats.specs.declared.seat.PassedEnd.TheVariants.{Coming}
@@ -46,22 +39,22 @@ use Rattle.pp_seats.specs.declared.seat.Seat.{Seat}
 use Rattle.pp_seats.specs.declared.seat.Stage.{Stage as SeatStage}
 use Rattle.pp_seats.specs.declared.seat.Stage.TheVariants.{Undecided as IsUndecided, Waiting as IsWaiting, Passing as IsPassing, Answering as IsAnswering}
 use Rattle.pp_seats_law.proofs.AllSeats.{places}
-use Rattle.pp_seats_law.proofs.Begins.{may_begin, reply_due}
+use Rattle.pp_seats_law.proofs.Begins.{may_begin}
 use Rattle.pp_seats_law.proofs.Stages.{begun, passed}
 use Rattle.pp_seats_law.specs.Clients.{IsAt, IsFound}
 use Rattle.pp_seats_law.specs.Exchanges.{ShowsBody}
 use Rattle.pp_seats_law.specs.Fronts.{ShowsAsked, ShowsFront}
-use Rattle.pp_seats_law.specs.Replies.{IsHeadKept, ShowsPassed, ShowsSaid, ShowsStage, course_of, passed_text}
+use Rattle.pp_seats_law.specs.Replies.{IsHeadKept, ShowsPassed, ShowsSaid, ShowsStage, passed_text}
 use Rattle.pp_seats_law.specs.Seats.{ShowsOpen, ShowsSeat}
 use Rattle.pp_steps.specs.Bodies.{body_by, is_passed, is_passed_in, on_asker, on_place, seat_in}
 use Rattle.pp_steps.specs.Ends.{Parts, bound_by, changed_at, numbers_of, on_seat_where, place_of, seat_for}
-use Rattle.pp_steps.specs.FinalHeads.{noted_body, relayed}
+use Rattle.pp_steps.specs.FinalHeads.{noted_body}
 use Rattle.pp_steps.specs.Passing.{head_for, is_coded, may_answer, passed_on, passed_to, with_head}
 use Rattle.pp_steps_law.proofs.Charged.{course_shown}
-use Rattle.pp_steps_law.proofs.Places.{HasNone, HasPlace, HasSeat, at_place, has_none, has_place, has_seat, numbers_set, one_asks}
+use Rattle.pp_steps_law.proofs.Places.{HasPlace, HasSeat, at_place, has_none, has_place, has_seat, numbers_set, one_asks}
 use Rattle.pp_steps_law.specs.Charges.{IsFor}
 use Rattle.pp_steps_law.specs.Steps.{ShowsSteps}
-use Rattle.pp_answers_law.specs.Answers.{Asks, IsAnswered, Stands}
+use Rattle.pp_answers_law.specs.Answers.{Asks, Stands}
 use Rattle.pp_answers_law.specs.Passing.{RelaysAreTheLaws}
 use Rattle.pp_answers_law.proofs.Bodies.{get_set, headed, heads, noted_behind, with_flow}
 use Rattle.pp_answers_law.proofs.Dropped.{IsRead, none_passed, read_now, still_for}

@@ -1,21 +1,17 @@
 -- A response of the version of a row renews it, and a 304 too, as the law has it.
-use Rattle.std.proofs.Common.{◌≡◌, ◌≤◌, refl, sym, subst, ap, ap₂, ◌∙◌, ℕ, Bool, true, false, not, ◌==◌, ◌&&◌, cond, find, List, [], ◌∷◌, Some, None, Option, arith}
-use Rattle.std.specs.Prelude.{bytes_eq, codes, count_by, option_and_then, option_map}
+use Rattle.std.proofs.Common.{◌≡◌, refl, sym, subst, ap, ap₂, ◌∙◌, ℕ, Bool, true, false, not, ◌==◌, ◌&&◌, cond, List, [], Some, None, Option, arith}
+use Rattle.std.specs.Prelude.{option_and_then, option_map}
 use Rattle.pp_cache_law.proofs.Alike.{rows_of}
 use Rattle.pp_cache_law.proofs.Changed.{renewals_of}
 use Rattle.pp_cache_law.proofs.Finds.{find_passes}
 use Rattle.pp_cache.specs.Memory.{Memory}
 use Rattle.pp_cache_law.proofs.Moves.{changed_if, in_slot-changed, in_slot-marked}
-use Rattle.pp_cache_law.proofs.Numbers.{same_test, some_is}
+use Rattle.pp_cache_law.proofs.Numbers.{same_test}
 use Rattle.pp_cache_law.specs.Pairs.{AreBoth}
 use Rattle.pp_cache_law.specs.Tables.{ShowsInstance}
 use Rattle.pp_flow.specs.Changes.{Exchanges}
 use Rattle.pp_flow.specs.Errands.{named_by}
 use Rattle.pp_flow.specs.declared.entry.Entry.{Entry}
-use Rattle.pp_flow.specs.declared.entry.Exchange.{Exchange as SeatExchange}
-use Rattle.pp_flow.specs.declared.errand.Errand.{Errand}
-use Rattle.pp_flow.specs.declared.errand.Kind.{Kind}
-use Rattle.pp_flow_law.proofs.Entries.{none_some}
 use Rattle.pp_flow_law.proofs.Framed.{frames as flow_frames}
 use Rattle.pp_flow_law.proofs.Told.{found_alone}
 use Rattle.pp_flow_law.specs.Tables.{Leaving}
@@ -23,10 +19,10 @@ use Rattle.pp_fresh.specs.Ready.{may_store}
 use Rattle.pp_fresh.specs.declared.aging.Times.{Times}
 use Rattle.pp_head.specs.Response.{Response}
 use Rattle.pp_heads_law.proofs.Ruled.{names, times}
-use Rattle.pp_law.specs.Connections.{exchange, is_client}
+use Rattle.pp_law.specs.Connections.{exchange}
 use Rattle.pp_law.specs.Lists.{Bytes, is_some_with}
-use Rattle.pp_law.specs.OwnHeads.{is_of_another, key_of, known_fields, known_version, may_refresh as law_may_refresh, names_version, not_modified as law_not_modified, nothing_to_come, refresh, renew, renew_row, settle_known, settle_on, settle_unchanged, tell, times_for as law_times, unchanged, use_body, useless, not_shared as law_not_shared}
-use Rattle.pp_law.specs.State.{State, Client, Exchange, Instance as Known, Joining, Joins}
+use Rattle.pp_law.specs.OwnHeads.{key_of, known_version, may_refresh as law_may_refresh, names_version, not_modified as law_not_modified, nothing_to_come, refresh, renew, renew_row, settle_known, settle_on, settle_unchanged, tell, times_for as law_times, unchanged, use_body, useless, not_shared as law_not_shared}
+use Rattle.pp_law.specs.State.{State, Exchange, Instance as Known, Joining, Joins}
 use Rattle.pp_law.specs.Table.{add_row, clear, enter, instance, mark_row, on_instance, row, row_on_disk, with_room}
 use Rattle.pp_law.specs.State.{Entry as KeptEntry}
 use Rattle.pp_objects.specs.Changes.{changed_in, marked, refreshed}
@@ -34,15 +30,14 @@ use Rattle.pp_objects.specs.Instances.{Instance, fields_at, fields_of, id_of, in
 use Rattle.pp_objects.specs.Kept.{has_room}
 use Rattle.pp_objects.specs.declared.id.ObjectId.{ObjectId}
 use Rattle.pp_peers.specs.declared.peers.Peer.{Peer}
-use Rattle.pp_seats_law.specs.Exchanges.{ShowsExchange}
 use Rattle.pp_states_law.proofs.Asked.{all_as, frames, itself}
 use Rattle.pp_states_law.specs.States.{ShowsState}
 use Rattle.pp_steps.specs.Answers.{not_shared}
 use Rattle.pp_steps.specs.Ends.{Parts, cleared_row, made_useless}
 use Rattle.pp_steps.specs.FinalHeads.{noted_body}
-use Rattle.pp_steps.specs.Heads.{key_of as key_in_flow, names_tag, told_unchanged}
-use Rattle.pp_steps.specs.Rows.{in_memory, joining, may_refresh, not_modified, not_modified_as, nothing_of, refreshed_at, refreshed_row, renewed, row_for, row_in, settled_on, times_for}
-use Rattle.pp_steps_law.proofs.Charged.{number_is, same_entry}
+use Rattle.pp_steps.specs.Heads.{names_tag, told_unchanged}
+use Rattle.pp_steps.specs.Rows.{in_memory, joining, may_refresh, not_modified, not_modified_as, nothing_of, refreshed_at, refreshed_row, row_for, row_in, settled_on, times_for}
+use Rattle.pp_steps_law.proofs.Charged.{same_entry}
 use Rattle.pp_steps_law.specs.Charges.{IsFor}
 use Rattle.pp_steps_law.proofs.Told.{are_told_on, told_next}
 use Rattle.pp_steps_law.specs.Steps.{ShowsSteps, whole}

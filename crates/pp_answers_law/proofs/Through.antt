@@ -1,28 +1,25 @@
 -- The head of a response that is passed, and names no other place, as the law has it.
-use Rattle.std.proofs.Common.{◌≡◌, refl, sym, subst, ap, ap₂, ◌∙◌, ℕ, Bool, true, false, not, ◌&&◌, cond, find, take, List, [], ◌∷◌, Some, None, Option}
+use Rattle.std.proofs.Common.{◌≡◌, refl, sym, subst, ap, ◌∙◌, ℕ, Bool, true, false, not, ◌&&◌, cond, find, take, List, [], ◌∷◌, Some, None, Option}
 use Rattle.std.specs.Prelude.{bytes_eq}
-use Rattle.pp_cache_law.proofs.Numbers.{true_false}
 use Rattle.pp_flow.specs.declared.entry.Entry.{Entry}
 use Rattle.pp_flow_law.specs.Tables.{Leaving}
 use Rattle.pp_framing.specs.declared.body.BodyRule.{BodyRule}
 use Rattle.pp_head.specs.Response.{Response}
 use Rattle.pp_heads_law.proofs.Ruled.{invalidated as invalidates_same}
-use Rattle.pp_law.specs.Lists.{Bytes, change, has_text, is_some_with}
-use Rattle.pp_law.specs.OwnHeads.{key_of, known_version as law_known, relay_head}
-use Rattle.pp_law.specs.State.{State, Client, Entry as KeptEntry, Exchange}
-use Rattle.pp_law.specs.Table.{clear, displaced_by, is_entry_of, is_kept_row_of, row, row_on_disk, swept}
+use Rattle.pp_law.specs.Lists.{Bytes, change, has_text}
+use Rattle.pp_law.specs.OwnHeads.{key_of, relay_head}
+use Rattle.pp_law.specs.State.{State, Entry as KeptEntry, Exchange}
+use Rattle.pp_law.specs.Table.{clear, displaced_by, is_entry_of, is_kept_row_of, swept}
 use Rattle.pp_law.specs.ThroughHeads.{clear_each, disproved as law_disproved, invalidated as law_invalidated, invalidates as law_invalidates, places_named as law_places, through_head}
 use Rattle.pp_peers.specs.declared.peers.Peer.{Peer}
 use Rattle.pp_seats_law.specs.Exchanges.{ShowsExchange}
 use Rattle.pp_steps.specs.Ends.{Parts, cleared_key, cleared_of, cleared_row}
-use Rattle.pp_steps.specs.FinalHeads.{PassesHead, noted_body, relayed}
+use Rattle.pp_steps.specs.FinalHeads.{noted_body, relayed}
 use Rattle.pp_steps.specs.Heads.{key_of as key_in_flow}
-use Rattle.pp_steps.specs.ThroughHeads.{ClearsEach, InvalidatesIf, InvalidatesRows, disproved, invalidates, is_disproved, places_named}
+use Rattle.pp_steps.specs.ThroughHeads.{ClearsEach, InvalidatesIf, InvalidatesRows, disproved, is_disproved, places_named}
 use Rattle.pp_steps_law.proofs.Charged.{same_entry}
-use Rattle.pp_steps_law.specs.Charges.{IsFor}
 use Rattle.pp_steps_law.specs.Steps.{ShowsSteps}
-use Rattle.pp_answers_law.specs.Answers.{Asks, IsAnswered, Stands}
-use Rattle.pp_answers_law.specs.Disproving.{GoesWithClient, HasClient}
+use Rattle.pp_answers_law.specs.Disproving.{GoesWithClient}
 use Rattle.pp_answers_law.specs.Settling.{IsInMemory}
 use Rattle.pp_answers_law.specs.Throughs.{IsPassed, ThroughHeadsAreTheLaws}
 use Rattle.pp_answers_law.proofs.Disproved.{disproved_same, disproveds, law_is as law_disproved_is}

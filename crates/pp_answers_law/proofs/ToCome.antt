@@ -1,5 +1,5 @@
 -- The span that comes is the law's.
-use Rattle.std.proofs.Common.{◌≡◌, ◌≤◌, ◌<◌, refl, sym, subst, ap, ◌∙◌, ℕ, Bool, true, false, ◌+◌, ◌-◌, ◌^◌, ◌==◌, ◌&&◌, cond, not, List, Some, None, Option, nat_le, nat_lt, arith}
+use Rattle.std.proofs.Common.{◌≡◌, ◌<◌, refl, subst, ap, ◌∙◌, ℕ, Bool, true, false, ◌+◌, ◌-◌, ◌^◌, ◌==◌, ◌&&◌, cond, not, List, Some, None, Option, nat_le, nat_lt, arith}
 use Rattle.std.proofs.lemmas.Bool.Decides.{nat_tests}
 use Rattle.std.specs.List.{list_all}
 use Rattle.std.specs.Char.{is_digit}
@@ -13,7 +13,6 @@ use Rattle.pp_valid.specs.ContentRanges.{content_range_of, range_in as range_of_
 use Rattle.pp_valid.specs.EndToEnd.{end_to_end_values}
 use Rattle.pp_valid.specs.declared.content_range.ContentRange.{ContentRange}
 use Rattle.pp_valid.specs.declared.content_range.ContentRange.TheVariants.{Span, Unsatisfied}
-use Rattle.pp_valid.specs.declared.version.Version.{Version}
 use Rattle.pp_law.specs.OwnHeads.{end_in as law_end, first_in as law_first, range_in}
 use Rattle.pp_steps.specs.OwnHeads.{end_in, first_in}
 use Rattle.pp_answers_law.specs.Spans.{SpansAreTheLaws}

@@ -1,14 +1,12 @@
 -- What the request of an exchange is told, where it has no reply yet, is what the law tells it.
-use Rattle.std.proofs.Common.{◌≡◌, refl, sym, subst, ap, ap₂, ◌∙◌, ℕ, Bool, true, false, not, ◌&&◌, cond, find, List, [], ◌∷◌, Some, None, Option}
-use Rattle.std.specs.Prelude.{slice_get, slice_set, ⊤}
-use Rattle.pp_client.specs.Replies.{Reply as Said}
+use Rattle.std.proofs.Common.{◌≡◌, refl, sym, subst, ap, ◌∙◌, ℕ, Bool, true, false, cond, find, List, [], Some, None, Option}
+use Rattle.std.specs.Prelude.{slice_get}
 use Rattle.pp_client.specs.declared.reply.Stage.{Stage as SaidStage}
-use Rattle.pp_client.specs.declared.reply.Stage.TheVariants.{Due, Begun}
+use Rattle.pp_client.specs.declared.reply.Stage.TheVariants.{Due}
 use Rattle.pp_flow.specs.declared.entry.Exchange.{Exchange as SeatExchange}
 use Rattle.pp_flow_law.specs.Tables.{Leaving}
 use Rattle.pp_law.specs.Connections.{is_client, on_client_of}
 use Rattle.pp_law.specs.Lists.{Bytes}
-use Rattle.pp_law.specs.OwnHeads.{tell}
 use Rattle.pp_law.specs.Requests.{Front, NoHeadYet, NoHead, IsRequest, has_request}
 use Rattle.pp_law.specs.Stages.{is_begun}
 use Rattle.pp_law.specs.State.{State, Awaited, Brought, Client, Exchange, Joins, Passes, TooWide, Useless}
@@ -16,17 +14,15 @@ use Rattle.pp_peers.specs.declared.peers.Peer.{Peer}
 use Rattle.pp_seats.specs.Courses.{has_begun}
 use Rattle.pp_seats.specs.declared.seat.Brought.{Brought as SeatBrought}
 use Rattle.pp_seats.specs.declared.seat.Brought.TheVariants.{Awaited as NoneYet, Useless as NoneOfUse, Joins as JoinsRow, Passes as PassesOn, TooWide as IsTooWide, Refused}
-use Rattle.pp_seats.specs.declared.seat.Course.{Course as SeatCourse}
 use Rattle.pp_seats.specs.declared.seat.Seat.{Seat}
 use Rattle.pp_seats_law.proofs.Begins.{reply_due}
 use Rattle.pp_seats_law.proofs.Stages.{begun}
-use Rattle.pp_seats_law.specs.Replies.{IsBroughtFor, IsPipedFor, ShowsAnswer, ShowsBrought, ShowsFate, ShowsSaid, ShowsStage, course_of}
+use Rattle.pp_seats_law.specs.Replies.{IsBroughtFor, IsPipedFor, ShowsFate, course_of}
 use Rattle.pp_seats_law.specs.Seats.{ShowsOpen, ShowsSeat}
 use Rattle.pp_states_law.specs.Clients.{FollowsOn}
-use Rattle.pp_steps.specs.Ends.{Parts, numbers_of, on_seat_where, place_of, seat_for, told, told_to}
+use Rattle.pp_steps.specs.Ends.{Parts, numbers_of, on_seat_where, seat_for, told, told_to}
 use Rattle.pp_steps_law.proofs.Charged.{course_shown, on_asker}
 use Rattle.pp_steps_law.proofs.Places.{HasNone, HasPlace, has_none, has_place}
-use Rattle.pp_steps_law.specs.Charges.{GoesOn, IsFor}
 use Rattle.pp_steps_law.specs.Steps.{ShowsSteps}
 use Rattle.pp_answers_law.proofs.Orders.{follow_told, tell_is, told_client, told_client_if}
 use Rattle.pp_answers_law.specs.Answers.{Stands, TellsAreTheLaws, TellsAs}

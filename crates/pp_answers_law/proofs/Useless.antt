@@ -1,18 +1,14 @@
 -- An answer that is of no use loses an attempt, and one that may not be shared its row, as the law has it.
-use Rattle.std.proofs.Common.{◌≡◌, refl, sym, subst, ap, ap₂, ◌∙◌, ℕ, Bool, true, false, not, ◌&&◌, ◌||◌, find, List, Some, None, Option}
-use Rattle.std.specs.Prelude.{[], is_some, option_map, slice_get}
+use Rattle.std.proofs.Common.{◌≡◌, refl, sym, subst, ap, ◌∙◌, ℕ, Bool, true, false, not, ◌&&◌, ◌||◌, find, List, Some, None, Option}
+use Rattle.std.specs.Prelude.{[], is_some, option_map}
 use Rattle.pp_cache_law.proofs.Numbers.{true_false}
-use Rattle.pp_cache_law.specs.Pairs.{AreBoth}
-use Rattle.pp_flow.specs.Changes.{entry_of}
 use Rattle.pp_flow.specs.Entries.{is_number}
-use Rattle.pp_flow.specs.Errands.{attempts_in}
 use Rattle.pp_flow.specs.declared.entry.Entry.{Entry}
-use Rattle.pp_flow_law.proofs.Standing.{placed_has}
 use Rattle.pp_flow_law.proofs.Told.{places}
 use Rattle.pp_flow_law.specs.Tables.{Leaving, has_place}
-use Rattle.pp_law.specs.Connections.{attempts_of, charge, exchange, is_client, lose_attempt, lost_one, on_client_of, without_shared_row}
+use Rattle.pp_law.specs.Connections.{attempts_of, exchange, lose_attempt, lost_one, on_client_of, without_shared_row}
 use Rattle.pp_law.specs.Lists.{Bytes, is_some_with}
-use Rattle.pp_law.specs.OwnHeads.{drop_answer, key_of as law_key, not_shared as law_not_shared, tell, use_body, useless}
+use Rattle.pp_law.specs.OwnHeads.{drop_answer, key_of as law_key, not_shared as law_not_shared, useless}
 use Rattle.pp_law.specs.Stages.{is_begun}
 use Rattle.pp_law.specs.State.{State, Client, Dropping, Exchange, Trying, Useless}
 use Rattle.pp_law.specs.Table.{clear, follows, swept}
@@ -23,7 +19,6 @@ use Rattle.pp_seats.specs.declared.seat.Seat.{Seat}
 use Rattle.pp_seats_law.proofs.Entries.{exchanges}
 use Rattle.pp_seats_law.proofs.Fates.{shared_rows_leave}
 use Rattle.pp_seats_law.specs.Exchanges.{ShowsExchange}
-use Rattle.pp_seats_law.specs.Seats.{ShowsSeat}
 use Rattle.pp_states_law.specs.Clients.{FollowsOn}
 use Rattle.pp_steps.specs.Answers.{not_shared, on_its}
 use Rattle.pp_steps.specs.Ends.{Parts, cleared_key, cleared_of, cleared_row, lost_attempt, on_seat_where, seat_for, unusable}

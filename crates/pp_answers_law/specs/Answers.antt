@@ -7,9 +7,9 @@ use Rattle.pp_law.specs.Connections.{exchange}
 use Rattle.pp_law.specs.OwnHeads.{drop_answer, not_shared as law_not_shared, tell, useless}
 use Rattle.pp_law.specs.Requests.{Parsed, IsRequest, has_request}
 use Rattle.pp_law.specs.Stages.{passed_of}
-use Rattle.pp_law.specs.State.{State, Awaited, Brought, Client, Exchange, Joins, Passes, TooWide, Useless}
+use Rattle.pp_law.specs.State.{State, Brought, Client, Exchange, Joins, TooWide, Useless}
 use Rattle.pp_seats.specs.declared.seat.Brought.{Brought as SeatBrought}
-use Rattle.pp_seats.specs.declared.seat.Brought.TheVariants.{Awaited as NoneYet, Useless as NoneOfUse, Joins as JoinsRow, Passes as PassesOn, TooWide as IsTooWide, Refused}
+use Rattle.pp_seats.specs.declared.seat.Brought.TheVariants.{Useless as NoneOfUse, Joins as JoinsRow, TooWide as IsTooWide}
 use Rattle.pp_steps.specs.Answers.{not_shared}
 use Rattle.pp_steps.specs.Ends.{Parts, made_useless, told_to, unusable}
 use Rattle.pp_steps.specs.FinalHeads.{noted_body}

@@ -6,4 +6,5 @@ pub mod Owns
 pub mod Passing
 pub mod Settling
 pub mod Spans
+pub mod Takes
 pub mod Throughs

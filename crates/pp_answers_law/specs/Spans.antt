@@ -1,5 +1,5 @@
 -- The span that a response brings (RFC 7233, section 4.2).
-use Rattle.std.specs.Prelude.{◌≡◌, ◌<◌, ◌^◌, ℕ}
+use Rattle.std.specs.Prelude.{◌≡◌}
 use Rattle.pp_head.specs.Response.{Response}
 use Rattle.pp_valid.specs.declared.version.Version.{Version}
 use Rattle.pp_law.specs.OwnHeads.{end_in, first_offset, range_in}

@@ -18,6 +18,7 @@ mod owning; // the head of a response to an ask of the cache's own, whole
 mod passing; // a response without a version
 mod settling; // what a response does to the row of its key
 mod spans; // the span that comes
+mod taking; // the final head, whole
 mod telling; // what the request of an exchange is told
 
 pub use dropping::answers_are_dropped_as_the_laws;
@@ -26,4 +27,5 @@ pub use owning::{own_heads_are_the_laws, part_heads_are_the_laws};
 pub use passing::responses_are_passed_as_the_laws;
 pub use settling::{rows_are_joined_as_the_laws, rows_are_made_as_the_laws};
 pub use spans::spans_are_the_laws;
+pub use taking::final_heads_are_the_laws;
 pub use telling::tells_are_the_laws;
