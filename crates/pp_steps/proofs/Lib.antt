@@ -3,6 +3,7 @@ pub mod BeginLemmas
 pub mod BodyLemmas
 pub mod BringingLemmas
 pub mod DecideLemmas
+pub mod DecidingLemmas
 pub mod DueLemmas
 pub mod EnteringLemmas
 pub mod FrontLemmas

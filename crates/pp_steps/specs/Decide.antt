@@ -32,8 +32,11 @@ kind_of head version Validate = option_map (λ v. Check v.tag) version
 kind_of head version Pass = Some AsPassed
 kind_of head version d = None
 
+abbrev pub text_by : List ℕ → Request → Key → Kind → List ℕ
+text_by name head key kind = ask_text (asked_as kind) head (key_in key.text.items key.place) name
+
 abbrev pub text_for : State → Request → Key → Kind → List ℕ
-text_for s head key kind = ask_text (asked_as kind) head (key_in key.text.items key.place) s.name.items
+text_for s head key kind = text_by s.name.items head key kind
 
 -- ours: the text of an ask has at most 16,384 bytes
 abbrev pub fits : List ℕ → Bool

@@ -5,6 +5,7 @@ pub mod Begins
 pub mod Bodies
 pub mod Bringing
 pub mod Decide
+pub mod Deciding
 pub mod Due
 pub mod Ends
 pub mod Entering

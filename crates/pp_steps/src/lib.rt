@@ -7,7 +7,8 @@
 //!
 //! To the layer above: each rule stands in a function that decides it alone. What a head does to the row of its key
 //! (`specs/Heads.antt`; RFC 2616, sections 10.3.5 and 14.9, RFC 7234, section 4.3.3), what nobody will see
-//! (`specs/Unseen.antt`; RFC 2616, section 8.1.4), and how long a request waits for another's answer (`specs/Patience.antt`).
+//! (`specs/Unseen.antt`; RFC 2616, section 8.1.4), how long a request waits for another's answer (`specs/Patience.antt`), and what
+//! a decision that is taken leaves of clients, exchanges and the cache (`specs/Deciding.antt`; RFC 2616, sections 13 and 14).
 //! What is noted only adds notes to the log.
 //!
 //! What a request gets is for `pp_plan`, what is written for `pp_ask` and `pp_reply`, where a message ends for `pp_client` and

@@ -141,6 +141,7 @@ impl State {
     /// The exchange is over.
     pub fn end(&mut self, number: u64)
         ensures is { parts self.new ≡ ended number (parts self.old) }
+        ensures seats { self.new.seats ≡ self.old.seats }
         ensures numbers { numbers_of self.new.seats.items ≡ numbers_of self.old.seats.items }
         ensures rest { KeepsRest self.old self.new }
     {
@@ -168,6 +169,7 @@ impl State {
     /// The same at a decision: without a place it is over.
     pub(crate) fn leave_exchange(&mut self, i: usize)
         ensures is { parts self.new ≡ left_at_decision i (parts self.old) }
+        ensures seats { self.new.seats ≡ self.old.seats }
         ensures rest { KeepsRest self.old self.new }
     {
         let Some(e) = self.exchange_of(i) else {
@@ -245,9 +247,10 @@ impl State {
     }
 
     /// The client follows nothing any more.
-    #[tactic(auto, using(crate::proofs::SeatsLemmas::changed_here))]
+    #[tactic(auto, using(crate::proofs::SeatsLemmas::changed_here, crate::proofs::SeatsLemmas::set_numbers))]
     pub fn leave_source(&mut self, i: usize)
         ensures is { parts self.new ≡ left_source i (parts self.old) }
+        ensures numbers { numbers_of self.new.seats.items ≡ numbers_of self.old.seats.items }
         ensures rest { KeepsRest self.old self.new }
     {
         let Some(id) = self.source_at(i) else {
