@@ -6,6 +6,7 @@ pub mod DecideLemmas
 pub mod DecidingLemmas
 pub mod DueLemmas
 pub mod EnteringLemmas
+pub mod EvictingLemmas
 pub mod FrontLemmas
 pub mod LineLemmas
 pub mod OutdatedLemmas

@@ -9,6 +9,7 @@ pub mod Deciding
 pub mod Due
 pub mod Ends
 pub mod Entering
+pub mod Evicting
 pub mod FinalHeads
 pub mod Heads
 pub mod Hearing
