@@ -1,3 +1,5 @@
 pub mod Anything
 pub mod Closings
+pub mod Origins
+pub mod Shutting
 pub mod Turns

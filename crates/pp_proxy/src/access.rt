@@ -1,4 +1,5 @@
 // The operator's log: a line for each reply that is over (ours). It is beside the log of happenings.
+ghost use Rattle.std.specs.Prelude.{◌≡◌};
 ghost use Rattle.pp_links.specs.Links.{IsLinked};
 ghost use Rattle.pp_links.specs.Quiet.{GrowsQuietly};
 
@@ -13,6 +14,8 @@ pub(crate) fn log_reply<W: Wire>(links: &Links, world: &mut W, seat: &Seat, is_c
     requires { IsLinked (W.log world.old) (W.top world.old) links.now }
     ensures linked { IsLinked (W.log world.new) (W.top world.new) links.now }
     ensures quiet { GrowsQuietly (W.log world.old) (W.log world.new) }
+    ensures told { W.log world.new ≡ W.log world.old }
+    ensures top { W.top world.new ≡ W.top world.old }
 {
     match &seat.account {
         Account::Unkept | Account::Due(_) => {}

@@ -1,12 +1,11 @@
-use Rattle.std.proofs.Common.{◌≡◌, ◌∙◌, ◌&&◌, not, find, sym, subst, ap, Bool, Option, Some}
+use Rattle.std.proofs.Common.{◌≡◌, ◌∙◌, find, sym, subst, ap, Bool, Some}
 use Rattle.std.specs.Prelude.{option_map}
 use Rattle.pp_peers.specs.Peers.{is_number}
-use Rattle.pp_peers.specs.declared.peers.Peer.{Peer}
 use Rattle.pp_proxy.proofs.ClosingLemmas.{line_lost}
 use Rattle.pp_proxy.proofs.desk.Desk.close_origin.Goals as goal
 use Rattle.pp_proxy.proofs.desk.Desk.close_origin.Goals.{in-Some-get_mut, in_default}
 use Rattle.pp_proxy.specs.declared.desk.Desk.{Desk}
-use Rattle.pp_steps.specs.Ends.{AreSeated, Parts, parts}
+use Rattle.pp_steps.specs.Ends.{AreSeated, parts}
 use Rattle.pp_steps.specs.Lines.{lost_line}
 use Rattle.pp_steps.specs.declared.state.State.{State}
 
