@@ -1,5 +1,5 @@
 -- What is decided for a request, by the state of a turn (RFC 2616, sections 13 and 14; RFC 6585, section 5).
-use Rattle.std.specs.Prelude.{ℕ, Bool, true, false, nat_le, length, List, Option, Some, None, option_map}
+use Rattle.std.specs.Prelude.{ℕ, Bool, true, false, ◌==◌, nat_le, length, List, Option, Some, None, option_map}
 use Rattle.pp_ask.specs.Texts.{ask_text}
 use Rattle.pp_cache.specs.Memory.{Memory}
 use Rattle.pp_client.specs.Requests.{Front, Nothing, Begun, Asked, Refused, current_of}
@@ -48,6 +48,11 @@ if_fits s head key None d = d
 if_fits s head key (Some kind) d = elim (fits (text_for s head key kind)) [ true ↦ d | false ↦ Refuse 431 ]
 
 -- ---- what is decided
+
+-- memory was refused for it
+abbrev pub is_for_memory : Decision → Bool
+is_for_memory (Refuse status) = status == 500
+is_for_memory d = false
 
 abbrev pub shown_span : Request → Version → ℕ × ℕ
 shown_span head version = span_in version.length (resolved head.fields version)

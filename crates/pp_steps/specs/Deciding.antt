@@ -32,7 +32,7 @@ use Rattle.pp_world.specs.declared.note.Decision.{Decision}
 use Rattle.pp_world.specs.declared.note.Decision.TheVariants.{Refuse, Hit, Part, Head, NotModified, Unsatisfiable, Relay, Validate, Fetch, Pass}
 use Rattle.pp_steps.specs.Accounts.{accounts_at}
 use Rattle.pp_steps.specs.Bringing.{serves}
-use Rattle.pp_steps.specs.Decide.{fits, kind_of, text_by}
+use Rattle.pp_steps.specs.Decide.{fits, is_for_memory, kind_of, text_by}
 use Rattle.pp_steps.specs.Ends.{Parts, exchange_of, left_at_decision, left_source, on_seat}
 use Rattle.pp_steps.specs.Passing.{may_answer}
 use Rattle.pp_steps.specs.Places.{IsChangedAt}
@@ -70,11 +70,6 @@ row_by (Some key) m = row_of key.text.items m.instances
 abbrev pub row_at : ℕ → Parts → Option Instance
 row_at i p = row_by (key_for i p.seats) p.cache
 
--- each decision but one for want of memory marks it
-abbrev pub is_for_memory : Decision → Bool
-is_for_memory (Refuse status) = status == 500
-is_for_memory d = false
-
 abbrev pub with_marked : Option Instance → Memory → Memory
 with_marked None m = m
 with_marked (Some x) m = record m { instances = marked x.slot m.instances }
@@ -82,6 +77,7 @@ with_marked (Some x) m = record m { instances = marked x.slot m.instances }
 abbrev pub marked_at : ℕ → Parts → Parts
 marked_at i p = record p { cache = with_marked (row_at i p) p.cache }
 
+-- each decision but one for want of memory marks it
 abbrev pub marked_for : ℕ → Decision → Parts → Parts
 marked_for i d p = elim (is_for_memory d) [ true ↦ p | false ↦ marked_at i p ]
 

@@ -1,6 +1,6 @@
 -- What leaves memory, and what is noted of it: rows that left for others, or that memory was refused for, and chunks, down to the
 -- floor (ours).
-use Rattle.std.specs.Prelude.{ℕ, zero, suc, Bool, true, false, ◌==◌, ◌||◌, not, nat_lt, List, [], ◌∷◌, ◌++◌, length, map, count_by, slice_get, Option, Some, None, option_and_then, option_map}
+use Rattle.std.specs.Prelude.{ℕ, zero, suc, Bool, true, false, ◌||◌, not, nat_lt, List, [], ◌∷◌, ◌++◌, length, map, count_by, slice_get, Option, Some, None, option_and_then, option_map}
 use Rattle.std.specs.List.{filter_map}
 use Rattle.pp_cache.specs.Memory.{all_used}
 use Rattle.pp_evict.specs.Victims.{victim_in}
@@ -11,8 +11,8 @@ use Rattle.pp_world.specs.Log.{Log}
 use Rattle.pp_world.specs.declared.happening.Happening.{Happening}
 use Rattle.pp_world.specs.declared.happening.Happening.TheVariants.{Noted}
 use Rattle.pp_world.specs.declared.note.Decision.{Decision}
-use Rattle.pp_world.specs.declared.note.Decision.TheVariants.{Refuse}
 use Rattle.pp_world.specs.declared.note.Remark.TheVariants.{Forgotten, Evicted}
+use Rattle.pp_steps.specs.Decide.{is_for_memory}
 use Rattle.pp_steps.specs.Pins.{idle_row, pins, without_instance}
 use Rattle.pp_steps.specs.declared.state.State.{State}
 
@@ -28,11 +28,6 @@ abbrev pub row_notes : Option Instance → Log
 row_notes None = []
 row_notes (Some i) = forgotten_note i.key ∷ []
 
--- one that refuses for want of memory brings no row in
-abbrev pub is_for_memory : Decision → Bool
-is_for_memory (Refuse status) = status == 500
-is_for_memory d = false
-
 -- the client at this place asks for that key
 abbrev pub is_key_at : ℕ → List ℕ → State → Bool
 is_key_at i key s = elim (slice_get s.seats.items i) [ None ↦ false | Some seat ↦ has_key key seat ]
@@ -41,7 +36,7 @@ is_key_at i key s = elim (slice_get s.seats.items i) [ None ↦ false | Some sea
 abbrev pub unless_own : ℕ → State → Instance → Option Instance
 unless_own i s x = elim (is_key_at i x.key s) [ true ↦ None | false ↦ Some x ]
 
--- where there are more rows than 1,024, the one that is next leaves for it
+-- where there are more rows than 1,024, the one that is next leaves for it; a decision that refuses for want of memory brings no row in
 abbrev pub row_in_way : Decision → ℕ → State → Option Instance
 row_in_way d i s = elim (is_for_memory d || not (nat_lt 1024 (count_by is_row s.cache.instances))) [ true ↦ None | false ↦ option_and_then (unless_own i s) (idle_row s) ]
 

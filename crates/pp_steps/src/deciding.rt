@@ -4,7 +4,8 @@ ghost use Rattle.pp_head.specs.Shown.{shown_request};
 ghost use Rattle.pp_objects.specs.Instances.{id_of, in_slot};
 ghost use Rattle.pp_ranges.specs.Ranges.{range_of};
 ghost use Rattle.pp_seats.specs.Decided.{answering, asking, with_interim};
-ghost use Rattle.pp_steps.specs.Deciding.{Does, IsPaged, IsRefused, Takes, afforded, aim_for, answered_at, ask_at, ask_by, asks_origin, begun_at, exchange_begun, followed_at, followed_more, is_for_memory, is_moved_in, is_pass, is_served_by, left_useless, marked_at, marked_for, may_ask_for, of_request, origin_asked, relayed, row_at, with_marked};
+ghost use Rattle.pp_steps.specs.Decide.{is_for_memory};
+ghost use Rattle.pp_steps.specs.Deciding.{Does, IsPaged, IsRefused, Takes, afforded, aim_for, answered_at, ask_at, ask_by, asks_origin, begun_at, exchange_begun, followed_at, followed_more, is_moved_in, is_pass, is_served_by, left_useless, marked_at, marked_for, may_ask_for, of_request, origin_asked, relayed, row_at, with_marked};
 ghost use Rattle.pp_steps.specs.Ends.{KeepsRest, changed_at, numbers_of, on_seat, parts};
 ghost use Rattle.pp_steps.specs.Places.{IsChangedAt};
 
@@ -355,7 +356,7 @@ fn is_pass(decision: Decision) -> bool
 }
 
 /// Whether memory is refused for the request.
-fn is_for_memory(decision: Decision) -> bool
+pub(crate) fn is_for_memory(decision: Decision) -> bool
     ensures { result ≡ is_for_memory decision }
 {
     matches!(decision, Decision::Refuse(500))
