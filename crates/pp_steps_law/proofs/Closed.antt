@@ -1,22 +1,22 @@
 -- What becomes of the line of a connection that is closed.
-use Rattle.std.proofs.Common.{◌≡◌, ◌≤◌, ◌+◌, refl, sym, subst, ap, ap₂, ◌∙◌, ℕ, zero, suc, Bool, true, false, not, ◌==◌, ◌&&◌, ◌||◌, cond, find, filter, length, List, [], ◌∷◌, ◌++◌, Some, None, Option, arith}
+use Rattle.std.proofs.Common.{◌≡◌, ◌≤◌, ◌+◌, refl, sym, subst, ap, ap₂, ◌∙◌, ℕ, zero, suc, Bool, true, false, not, ◌==◌, ◌&&◌, ◌||◌, cond, filter, length, List, [], ◌∷◌, ◌++◌, Some, None, Option, arith}
 use Rattle.std.proofs.lemmas.Bool.Decides.{nat_tests}
-use Rattle.std.specs.Prelude.{count_by, is_some, slice_get, option_map}
+use Rattle.std.specs.Prelude.{count_by, slice_get, option_map}
 use Rattle.pp_cache_law.proofs.Numbers.{some_is}
 use Rattle.pp_cache_law.proofs.PairLemmas.{count_first, joined_none, count_mapped_same}
 use Rattle.pp_flow.specs.Changes.{entry_of, is_on, line_of}
 use Rattle.pp_flow.specs.Entries.{is_number}
 use Rattle.pp_flow.specs.declared.entry.Entry.{Entry}
-use Rattle.pp_flow_law.proofs.Entries.{line_first, none_some, other_way, same_number}
+use Rattle.pp_flow_law.proofs.Entries.{line_first, same_number}
 use Rattle.pp_flow_law.proofs.Framed.{frames as flow_frames}
 use Rattle.pp_flow_law.proofs.Standing.{IsShown, entry_placed, few_placed, is_shown, none_waits}
 use Rattle.pp_flow_law.specs.Changes.{HasLeft, but}
 use Rattle.pp_flow_law.specs.Frames.{emptied, still}
-use Rattle.pp_flow_law.specs.Tables.{Leaving, ShowsFlow, line_at, line_in, none_leaves}
+use Rattle.pp_flow_law.specs.Tables.{Leaving, line_at, line_in, none_leaves}
 use Rattle.pp_law.specs.Connections.{close_conn, conn, each_exchange, exchange, is_conn, lose_place, on_conn}
 use Rattle.pp_law.specs.Lists.{Bytes, has_number}
 use Rattle.pp_law.specs.State.{State, Conn, Exchange}
-use Rattle.pp_peers.specs.Peers.{is_number as is_peer, with_peer}
+use Rattle.pp_peers.specs.Peers.{with_peer}
 use Rattle.pp_peers.specs.declared.peers.Peer.{Peer}
 use Rattle.pp_states_law.proofs.Connected.{closings}
 use Rattle.pp_states_law.proofs.Lines.{AllFound, IsOn, IsPlaced, all_found, found_on, in_line, place_is}

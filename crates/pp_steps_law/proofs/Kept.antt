@@ -1,7 +1,7 @@
 -- What an exchange that loses its place leaves as it was.
-use Rattle.std.proofs.Common.{◌≡◌, ◌≤◌, refl, sym, subst, ap, ◌∙◌, ℕ, Bool, true, false, not, ◌==◌, cond, find, filter, map, List, [], ◌∷◌, Some, None, Option}
-use Rattle.std.specs.Prelude.{count_by, option_map}
-use Rattle.pp_cache_law.proofs.Finds.{find_kept, find_mapped, find_out, find_passes}
+use Rattle.std.proofs.Common.{◌≡◌, ◌≤◌, refl, sym, subst, ap, ◌∙◌, ℕ, Bool, true, false, not, ◌==◌, find, filter, List, [], Some, None, Option}
+use Rattle.std.specs.Prelude.{option_map}
+use Rattle.pp_cache_law.proofs.Finds.{find_kept, find_mapped, find_out}
 use Rattle.pp_cache_law.proofs.Numbers.{some_is}
 use Rattle.pp_cache_law.proofs.PairLemmas.{count_mapped_same}
 use Rattle.pp_flow_law.proofs.Ended.{not_so}
@@ -19,7 +19,7 @@ use Rattle.pp_states_law.specs.Decisions.{AreApart}
 use Rattle.pp_steps_law.proofs.Charged.{lost_given}
 use Rattle.pp_steps_law.proofs.Paid.{KeepsAll, if_for, paid_keeps, without_row_keeps}
 use Rattle.pp_steps_law.proofs.Shorts.{cut_off}
-use Rattle.pp_steps_law.specs.Charges.{GoesOn, IsFor}
+use Rattle.pp_steps_law.specs.Charges.{GoesOn}
 use Rattle.pp_steps_law.specs.Lines.{AllGo}
 use Rattle.pp_steps_law.specs.Losses.{IsComing}
 use Rattle.pp_target.specs.Key.{text_of}

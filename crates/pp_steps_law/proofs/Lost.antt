@@ -1,26 +1,21 @@
 -- What becomes of an exchange whose connection is gone.
-use Rattle.std.proofs.Common.{◌≡◌, refl, sym, subst, ap, ap₂, ◌∙◌, ℕ, Bool, true, false, ◌==◌, ◌&&◌, cond, find, List, [], ◌∷◌, Some, None, Option}
+use Rattle.std.proofs.Common.{◌≡◌, refl, sym, subst, ap, ap₂, ◌∙◌, ℕ, Bool, true, false, ◌&&◌, cond, find, List, [], Some, None, Option}
 use Rattle.std.specs.List.{list_any}
 use Rattle.std.specs.Prelude.{is_some, option_and_then, slice_get, option_map}
 use Rattle.pp_cache_law.proofs.Finds.{find_passes}
-use Rattle.pp_cache_law.proofs.Numbers.{some_is}
-use Rattle.pp_cache_law.specs.Pairs.{AreBoth}
 use Rattle.pp_flow.specs.Changes.{Exchanges, entered, entry_of, first_of, unplaced as without_place, with_errand, without as without_number}
 use Rattle.pp_flow.specs.Entries.{is_number, with_place}
 use Rattle.pp_flow.specs.declared.entry.Entry.{Entry}
 use Rattle.pp_flow.specs.declared.entry.Exchange.{Exchange as SeatExchange}
-use Rattle.pp_flow_law.proofs.Entries.{find_entered, none_some, same_number}
+use Rattle.pp_flow_law.proofs.Entries.{find_entered}
 use Rattle.pp_flow_law.proofs.Standing.{entry_placed, none_waits}
-use Rattle.pp_flow_law.specs.Changes.{HasLeft, but}
-use Rattle.pp_flow_law.specs.Tables.{Leaving, ShowsFlow, has_place, line_in}
-use Rattle.pp_law.specs.Closing.{left_alone}
-use Rattle.pp_law.specs.Connections.{charge, end_exchange, exchange, give_up_row, is_client, is_exchange, is_for, is_trying, is_unfilled, leave_place, lose_attempt, lose_place, may_ask_again, on_client_of, on_exchange, unplaced, without_row, attempts_of, is_conn, lost_one}
-use Rattle.pp_law.specs.Lists.{Bytes, change, is_some_with, is_this, has_number}
+use Rattle.pp_flow_law.specs.Changes.{but}
+use Rattle.pp_flow_law.specs.Tables.{Leaving, ShowsFlow, line_in}
+use Rattle.pp_law.specs.Connections.{end_exchange, exchange, is_client, is_for, is_trying, leave_place, lose_attempt, lose_place, may_ask_again, on_client_of, on_exchange, unplaced, attempts_of, is_conn, lost_one}
+use Rattle.pp_law.specs.Lists.{Bytes, is_some_with, is_this, has_number}
 use Rattle.pp_law.specs.Stages.{is_headed, on_passed}
 use Rattle.pp_law.specs.State.{State, Client, Conn, Course, Exchange, Passed}
-use Rattle.pp_law.specs.Table.{clear, swept}
 use Rattle.pp_peers.specs.declared.peers.Peer.{Peer}
-use Rattle.pp_peers_law.proofs.Finds.{find_there}
 use Rattle.pp_seats.specs.Courses.{is_trying_in}
 use Rattle.pp_seats.specs.Seats.{brought_to}
 use Rattle.pp_seats.specs.declared.seat.Course.{Course as SeatCourse}
@@ -35,10 +30,10 @@ use Rattle.pp_seats_law.specs.Replies.{course_of}
 use Rattle.pp_states_law.proofs.Ended.{ends, unplaces}
 use Rattle.pp_states_law.specs.Exchanges.{StandsNowhere}
 use Rattle.pp_steps_law.specs.Charges.{GoesOn, IsFor, IsThere}
-use Rattle.pp_steps.specs.Ends.{Parts, asked_anew, asked_elsewhere, asker_of, cut_short, ended, exchange_at, left_place, left_place_at, lost_attempt, lost_place, may_ask_again as may_ask_again_in, may_go_elsewhere, numbers_of, on_seat_where, place_of, seat_for}
+use Rattle.pp_steps.specs.Ends.{Parts, asked_elsewhere, cut_short, ended, left_place, left_place_at, lost_attempt, may_ask_again as may_ask_again_in, may_go_elsewhere, numbers_of, on_seat_where, place_of, seat_for}
 use Rattle.pp_steps_law.specs.Losses.{HasLost, IsComing, LossesAreTheLaws}
 use Rattle.pp_steps_law.specs.Steps.{ShowsSteps, whole}
-use Rattle.pp_steps_law.proofs.Charged.{asker_rest, course_shown, losses, number_is, on_asker, same_entry, lost_given}
+use Rattle.pp_steps_law.proofs.Charged.{course_shown, losses, number_is, on_asker, same_entry, lost_given}
 use Rattle.pp_steps_law.proofs.Places.{HasNone, HasPlace, HasSeat, at_place, has_none, has_place as has_seat_place, has_seat, one_asks}
 use Rattle.pp_steps_law.proofs.Shorts.{cut_off, shorts, shorts_follow}
 use Rattle.pp_steps_law.proofs.Told.{exchange_next, over_next, told_asked, told_next, told_over, told_unplaced}

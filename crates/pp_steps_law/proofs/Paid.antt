@@ -1,14 +1,14 @@
 -- What an exchange costs its request leaves all else as it was.
-use Rattle.std.proofs.Common.{◌≡◌, refl, sym, subst, ap, ◌∙◌, ℕ, Bool, true, false, ◌==◌, ◌||◌, cond, find, List, [], ◌∷◌, Some, None, Option}
+use Rattle.std.proofs.Common.{◌≡◌, refl, sym, subst, ap, ◌∙◌, ℕ, Bool, true, false, ◌==◌, ◌||◌, find, Some, None, Option}
 use Rattle.std.specs.Prelude.{option_map}
 use Rattle.pp_cache_law.proofs.Finds.{find_mapped}
 use Rattle.pp_cache_law.proofs.Numbers.{some_is}
 use Rattle.pp_flow_law.proofs.Entries.{none_some}
 use Rattle.pp_law.specs.Closing.{left_alone}
-use Rattle.pp_law.specs.Connections.{charge, exchange, give_up_row, is_client, is_exchange, is_for, is_unfilled, on_client_of, on_exchange, without_row}
-use Rattle.pp_law.specs.Lists.{Bytes, change}
+use Rattle.pp_law.specs.Connections.{charge, exchange, give_up_row, is_client, is_for, is_unfilled, on_client_of, on_exchange, without_row}
+use Rattle.pp_law.specs.Lists.{Bytes}
 use Rattle.pp_law.specs.Stages.{is_begun, passed_of}
-use Rattle.pp_law.specs.State.{State, Client, Conn, Course, Exchange, Passed, Trying}
+use Rattle.pp_law.specs.State.{State, Client, Course, Exchange, Trying}
 use Rattle.pp_law.specs.Table.{clear, swept}
 use Rattle.pp_peers_law.proofs.Finds.{find_there}
 use Rattle.pp_seats_law.specs.Fates.{is_refused}

@@ -10,7 +10,6 @@ use Rattle.pp_law.specs.Lists.{Bytes, change, is_this}
 use Rattle.pp_law.specs.State.{Client}
 use Rattle.pp_seats.specs.declared.seat.Seat.{Seat}
 use Rattle.pp_seats_law.specs.Clients.{AreShown, IsAt, IsNowhere}
-use Rattle.pp_seats_law.specs.Seats.{ShowsSeat}
 use Rattle.pp_states_law.proofs.Changed.{asker_is}
 use Rattle.pp_steps.specs.Ends.{AreInOrder, numbers_of, place_of}
 

@@ -2,8 +2,7 @@
 use Rattle.std.proofs.Common.{◌≡◌, refl, sym, subst, ap, ◌∙◌, ℕ, Bool, true, false, List, Some, None, Option}
 use Rattle.pp_client.specs.Replies.{Reply as Said}
 use Rattle.pp_client.specs.declared.reply.Stage.{Stage as SaidStage}
-use Rattle.pp_law.specs.Connections.{is_client}
-use Rattle.pp_law.specs.Lists.{Bytes, is_some_with}
+use Rattle.pp_law.specs.Lists.{Bytes}
 use Rattle.pp_law.specs.Stages.{on_passed, passed_of}
 use Rattle.pp_law.specs.State.{Brought, Awaited, Client, Joins, Passed, Passes, TooWide, Useless}
 use Rattle.pp_law.specs.Table.{follows}
@@ -13,9 +12,9 @@ use Rattle.pp_seats.specs.declared.seat.Brought.TheVariants.{Awaited as NoneYet,
 use Rattle.pp_seats.specs.declared.seat.Course.{Course as SeatCourse}
 use Rattle.pp_seats.specs.declared.seat.Passed.{Passed as SeatPassed}
 use Rattle.pp_seats.specs.declared.seat.PassedEnd.{PassedEnd}
-use Rattle.pp_seats.specs.declared.seat.PassedEnd.TheVariants.{Coming, Whole, Short}
+use Rattle.pp_seats.specs.declared.seat.PassedEnd.TheVariants.{Whole, Short}
 use Rattle.pp_seats.specs.declared.seat.Seat.{Seat}
-use Rattle.pp_seats_law.specs.Replies.{IsBroughtFor, IsPipedFor, IsRefusedRow, ShowsBrought, ShowsFate, ShowsPassed, end_of, IsHeadKept, passed_text}
+use Rattle.pp_seats_law.specs.Replies.{IsBroughtFor, IsPipedFor, IsRefusedRow, ShowsFate, ShowsPassed, IsHeadKept, passed_text}
 use Rattle.pp_seats_law.specs.Seats.{ShowsOpen, ShowsSeat}
 use Rattle.pp_states_law.specs.Clients.{FollowsOn}
 use Rattle.pp_steps_law.specs.Losses.{IsComing}

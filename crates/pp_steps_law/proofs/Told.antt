@@ -1,5 +1,5 @@
 -- What exchanges are bound to stays told by its number.
-use Rattle.std.proofs.Common.{◌≡◌, ◌≤◌, ◌<◌, refl, sym, subst, ap, ◌∙◌, ℕ, Bool, true, false, ◌==◌, ◌||◌, cond, find, nat_lt, List, [], ◌∷◌, Some, None, Option, option_map, arith}
+use Rattle.std.proofs.Common.{◌≡◌, ◌≤◌, refl, sym, subst, ap, ◌∙◌, ℕ, Bool, true, false, ◌==◌, cond, find, nat_lt, List, [], ◌∷◌, Some, None, Option, option_map, arith}
 use Rattle.std.specs.List.{list_any}
 use Rattle.pp_cache.specs.Memory.{Memory, retired_at}
 use Rattle.pp_cache_law.proofs.Moves.{changed_if, in_slot-changed, in_slot-elsewhere, in_slot-gone}

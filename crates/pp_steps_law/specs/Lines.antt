@@ -1,9 +1,8 @@
 -- What becomes of the line of a connection that is closed (RFC 2616, section 8.1.4).
-use Rattle.std.specs.Prelude.{◌≡◌, ◌≤◌, ℕ, zero, suc, Bool, true, false, ◌==◌, ◌&&◌, if◌then◌else◌, not, List, [], length, find, slice_get, Option, Some, None}
-use Rattle.pp_flow_law.specs.Tables.{Leaving, none_leaves}
-use Rattle.pp_law.specs.Connections.{close_conn, conn, exchange, is_client, is_conn}
-use Rattle.pp_law.specs.Stages.{is_headed}
-use Rattle.pp_law.specs.State.{State, Client, Conn, Exchange}
+use Rattle.std.specs.Prelude.{◌≡◌, ◌≤◌, ℕ, Bool, true, ◌&&◌, not, [], length, find, Some}
+use Rattle.pp_flow_law.specs.Tables.{none_leaves}
+use Rattle.pp_law.specs.Connections.{close_conn, conn, exchange}
+use Rattle.pp_law.specs.State.{State, Conn, Exchange}
 use Rattle.pp_peers.specs.Peers.{is_number, with_peer}
 use Rattle.pp_peers.specs.declared.peers.Peer.{Peer}
 use Rattle.pp_states_law.specs.Decisions.{AreApart}
