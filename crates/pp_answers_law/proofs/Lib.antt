@@ -11,6 +11,7 @@ mod Others
 mod Owned
 mod Relayed
 mod Renewed
+mod Sites
 mod Standing
 mod Taken
 mod Through

@@ -2,6 +2,7 @@ pub mod Answers
 pub mod Disproving
 pub mod Fills
 pub mod Making
+pub mod Naming
 pub mod Owns
 pub mod Passing
 pub mod Settling

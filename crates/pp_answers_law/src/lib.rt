@@ -13,6 +13,7 @@
 #![tactic(auto)]
 
 mod dropping; // what comes is of no use
+mod naming; // the rows of other places
 mod outdating; // a response that is passed, and the rows that it outdates
 mod owning; // the head of a response to an ask of the cache's own, whole
 mod passing; // a response without a version
@@ -22,6 +23,7 @@ mod taking; // the final head, whole
 mod telling; // what the request of an exchange is told
 
 pub use dropping::answers_are_dropped_as_the_laws;
+pub use naming::names_are_the_laws;
 pub use outdating::{passed_heads_are_the_laws, rows_are_outdated_as_the_laws};
 pub use owning::{own_heads_are_the_laws, part_heads_are_the_laws};
 pub use passing::responses_are_passed_as_the_laws;
