@@ -9,6 +9,7 @@ mod Numbered
 mod Orders
 mod Others
 mod Owned
+mod Places
 mod Relayed
 mod Renewed
 mod Sites

@@ -31,10 +31,10 @@ use Rattle.pp_answers_law.proofs.Useless.{answered_cleared, key_is, row_cleared}
 
 -- ---- nothing of the key is kept behind it
 
-abbrev stale : KeptEntry → KeptEntry
+abbrev pub stale : KeptEntry → KeptEntry
 stale e = record e { is_stale = true }
 
-none_kept : (key : Bytes) (es : List KeptEntry) → find (is_kept_row_of key) (change (is_entry_of key) stale es) ≡ None
+pub none_kept : (key : Bytes) (es : List KeptEntry) → find (is_kept_row_of key) (change (is_entry_of key) stale es) ≡ None
 none_kept key [] = refl
 none_kept key (e ∷ es) = by (bytes_eq e.key key) refl (none_kept key es)
   where
@@ -55,11 +55,11 @@ memory_cleared key s none = by (has_text key (displaced_by key s))
     by true = refl
     by false = none_kept key s.entries
 
-client_cleared : (key : Bytes) (s : State) (e : Exchange) → GoesWithClient s e → GoesWithClient (clear key s) e
+pub client_cleared : (key : Bytes) (s : State) (e : Exchange) → GoesWithClient s e → GoesWithClient (clear key s) e
 unfolding clear swept
 client_cleared key s e goes alone = record { number = (goes alone).number; client = (goes alone).client; asker = (goes alone).asker; there = (goes alone).there }
 
-passed_cleared : (p : Parts) (s : State) (n : ℕ) (x : Entry) (e : Exchange) → IsPassed p s n x e → IsPassed (cleared_row x.exchange.number p) (clear (key_of e) s) n x e
+pub passed_cleared : (p : Parts) (s : State) (n : ℕ) (x : Entry) (e : Exchange) → IsPassed p s n x e → IsPassed (cleared_row x.exchange.number p) (clear (key_of e) s) n x e
 passed_cleared p s n x e passed = record {
   answered = answered_cleared n p s x e (key_of e) passed.answered;
   through = passed.through;
@@ -71,10 +71,10 @@ passed_cleared p s n x e passed = record {
 
 -- ---- what an unsafe method changed
 
-abbrev law_invalidated_if : Exchange → Response → State → Bool → State
+abbrev pub law_invalidated_if : Exchange → Response → State → Bool → State
 law_invalidated_if e head s b = elim b as (λ t. State) [ true ↦ clear_each e.key (law_places head) (clear (key_of e) s) | false ↦ s ]
 
-law_invalidated_is : (e : Exchange) (head : Response) (s : State) → law_invalidated e head s ≡ law_invalidated_if e head s (law_invalidates e head)
+pub law_invalidated_is : (e : Exchange) (head : Response) (s : State) → law_invalidated e head s ≡ law_invalidated_if e head s (law_invalidates e head)
 unfolding law_invalidated
 law_invalidated_is e head s = refl
 
@@ -120,7 +120,7 @@ disproved_if x p b = elim b as (λ t. Parts) [ true ↦ cleared_row x.exchange.n
 abbrev law_disproved_if : Exchange → State → Bool → State
 law_disproved_if e s b = elim b as (λ t. State) [ true ↦ clear (key_of e) s | false ↦ s ]
 
-disproved_left : (number : ℕ → ℕ) (name : Bytes) (l : Leaving) (peers : List Peer) (p : Parts) (s : State) (n : ℕ) (x : Entry) (e : Exchange) (head : Response) → IsLeft number name l peers p s n x e
+pub disproved_left : (number : ℕ → ℕ) (name : Bytes) (l : Leaving) (peers : List Peer) (p : Parts) (s : State) (n : ℕ) (x : Entry) (e : Exchange) (head : Response) → IsLeft number name l peers p s n x e
     → IsLeft number name l peers (disproved x.exchange x.errand head p) (law_disproved e head s) n x e
 disproved_left number name l peers p s n x e head left = record {
   shows = disproveds number name l peers p s left.shows n x e head left.passed.answered left.passed.through left.passed.stands left.passed.asks left.passed.memory left.passed.client;
@@ -137,7 +137,7 @@ disproved_left number name l peers p s n x e head left = record {
 
 -- ---- all of it
 
-through_is : (e : Exchange) (head : Response) (rule : BodyRule) (s : State) → through_head e head rule s ≡ relay_head e head rule (law_disproved e head (law_invalidated e head s))
+pub through_is : (e : Exchange) (head : Response) (rule : BodyRule) (s : State) → through_head e head rule s ≡ relay_head e head rule (law_disproved e head (law_invalidated e head s))
 unfolding through_head
 through_is e head rule s = refl
 

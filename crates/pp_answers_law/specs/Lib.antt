@@ -3,6 +3,7 @@ pub mod Disproving
 pub mod Fills
 pub mod Making
 pub mod Naming
+pub mod Outdates
 pub mod Owns
 pub mod Passing
 pub mod Settling

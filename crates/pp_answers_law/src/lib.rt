@@ -3,8 +3,8 @@
 //! Where the state of the program shows that of the law (`ShowsSteps` of `pp_steps_law`), and an exchange whose head comes shows one of the
 //! law's, the words of `pp_steps` leave a state that shows what the law makes: its request is told, what is of no use costs an attempt, what
 //! has a version joins the row of its key or makes another, a 304 renews that row, and what has none is passed or dropped. So the whole head of
-//! a response to a Fetch or Validate is taken as the law takes it, where memory is refused for no row; and that of one that is passed, where it
-//! names no other place. Not said: what a head to the ask of a follower costs where it is no use for that follower, and the rows of other places.
+//! a response to a Fetch or Validate is taken as the law takes it, where memory is refused for no row; and that of one that is passed, with the
+//! rows that it outdates. Not said: what a head to the ask of a follower costs where it is no use for that follower.
 //!
 //! To the layer above: each equation is the clause of a function that does nothing. By what a head is judged stands in `pp_heads_law`. A row that
 //! is kept of the exchange's key is in memory before.
