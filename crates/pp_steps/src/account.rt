@@ -11,8 +11,10 @@ use pp_world::{Decision, Source};
 
 impl State {
     /// This is decided for the request of the client at this place.
+    #[tactic(auto, using(crate::proofs::PlacesLemmas::same_numbers))]
     pub(crate) fn account_for(&mut self, i: usize, decision: Decision)
         ensures is { self.new.seats.items ≡ accounts_at i (decided decision) self.old.seats.items }
+        ensures numbers { numbers_of self.new.seats.items ≡ numbers_of self.old.seats.items }
         ensures rest { record self.new { seats = self.old.seats } ≡ self.old }
     {
         if let Some(seat) = self.seats.get_mut(i) {
