@@ -1,0 +1,10 @@
+pub mod Asked
+pub mod Asks
+pub mod Changed
+pub mod Found
+pub mod Left
+pub mod Marked
+pub mod Quitting
+pub mod Refused
+pub mod Relayed
+pub mod Sitting
