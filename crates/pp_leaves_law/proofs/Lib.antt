@@ -1,0 +1,4 @@
+pub mod Kept
+pub mod Pins
+pub mod Left
+pub mod Evicted
