@@ -10,7 +10,6 @@
 //! (`specs/Unseen.antt`; RFC 2616, section 8.1.4), how long a request waits for another's answer (`specs/Patience.antt`), and what
 //! a decision that is taken leaves of clients, exchanges and the cache (`specs/Deciding.antt`; RFC 2616, sections 13 and 14).
 //! What is noted only adds notes to the log.
-//! (`specs/Unseen.antt`; RFC 2616, section 8.1.4), and how long a request waits for another's answer (`specs/Patience.antt`).
 //! Which rows and chunks leave memory, and each note of it, stands in `specs/Evicting.antt`.
 //!
 //! What a request gets is for `pp_plan`, what is written for `pp_ask` and `pp_reply`, where a message ends for `pp_client` and
