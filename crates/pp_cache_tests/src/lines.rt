@@ -1,16 +1,38 @@
 // Worked lines: which exchange waits, and which response of a connection comes next (RFC 2616, section
 // 8.1.2.2: "A server MUST send its responses to those requests in the same order that the requests were
 // received").
-use pp_flow::{Aim, EXCHANGES, Errand, Flow};
+use pp_flow::{Aim, Body, EXCHANGES, Errand, Flow, Kind};
 use pp_objects::ObjectId;
+use pp_target::Place;
 use pp_text::OutOfMemory;
 
 const TEXT: &[u8] = b"GET /a HTTP/1.1\r\nhost: h\r\n\r\n";
 
+/// The whole of `/a` at `h` is asked for.
+const ERRAND: Errand = Errand {
+    kind: Kind::Whole,
+    place: Place {
+        host: (7, 8),
+        port: 80,
+        path: 8,
+    },
+    is_moved: false,
+    is_asked_once: false,
+    asks_head: false,
+    is_safe: true,
+    binds_connection: false,
+    accepts_only_identity: false,
+    allows_guess: false,
+    asked: 0,
+    body_left: 0,
+    requested: 0,
+    body: Body::Pending,
+};
+
 /// Begins an exchange, where there is room.
 fn begin(flow: &mut Flow, client: u64, key: &[u8], aim: Aim) -> Option<u64> {
     if flow.len() < EXCHANGES && key.len() <= 8192 && flow.begun() < u64::MAX {
-        Some(flow.begin(client, key, aim, &Errand::empty(), TEXT))
+        Some(flow.begin(client, key, aim, &ERRAND, TEXT))
     } else {
         None
     }
