@@ -1,6 +1,12 @@
 // Step 1: the event, with at most one read or one write.
-ghost use Rattle.std.specs.Prelude.{◌≡◌};
+ghost use Rattle.std.specs.Prelude.{◌≡◌, map, slice_get};
+ghost use Rattle.std.specs.List.{find};
 ghost use Rattle.pp_links.specs.Links.{IsLinked};
+ghost use Rattle.pp_peers.specs.Peers.{is_number};
+ghost use Rattle.pp_proxy.specs.Closings.{KeepsDesk, peer_numbers, sides, where_there, with_parts};
+ghost use Rattle.pp_proxy.specs.Marks.{all_marked, marked_peer, marked_seat, on_peer_at, touched};
+ghost use Rattle.pp_proxy.specs.Origins.{given_up, is_idle_in, patience, patience_ended, without_idle, without_idle_on};
+ghost use Rattle.pp_steps.specs.Ends.{numbers_of, AreSeated, changed_at};
 ghost use Rattle.pp_steps.specs.Patience.{is_leap};
 ghost use Rattle.pp_shelf.specs.Steady.{GrowsSteadily};
 ghost use Rattle.pp_proxy.specs.Anything.{anything};
@@ -9,8 +15,8 @@ ghost use Rattle.pp_world.specs.Log.{Told};
 
 use crate::desk::Desk;
 use pp_client::Client;
+use pp_flow::Exchange;
 use pp_links::Links;
-use pp_peers::Peer;
 use pp_seats::{Account, Seat};
 use pp_shelf::Shelf;
 use pp_world::{Event, Source, World};
@@ -96,12 +102,15 @@ impl Desk {
     }
 
     /// The connection is not idle.
-    fn touch(&mut self, id: u64) {
+    fn touch(&mut self, id: u64)
+        ensures is { AreSeated self.old.state → sides self.new ≡ touched self.old.state.now id (sides self.old) }
+        ensures numbers { numbers_of self.new.state.seats.items ≡ numbers_of self.old.state.seats.items }
+        ensures connections { peer_numbers self.new.peers ≡ peer_numbers self.old.peers }
+        ensures rest { KeepsDesk self.old self.new }
+    {
         let now = self.state.now;
         if let Some(i) = self.state.seat_of(id) {
-            if let Some(seat) = self.state.seats.get_mut(i) {
-                seat.client.set_mark(now);
-            }
+            self.state.seats[i].client.set_mark(now);
         }
         if let Some(peer) = self.peers.get_mut(id) {
             peer.mark = now;
@@ -121,13 +130,7 @@ impl Desk {
         self.state.is_ticked = true;
         self.state.wake();
         self.state.has_lost_draft = false;
-        for _peer in 0..self.peers.len() {
-            let Some(k) = self.idle_origin() else {
-                break;
-            };
-            self.end_patience(k);
-            self.close_origin(k, true);
-        }
+        self.close_idle();
     }
 
     fn is_leap(&self, now: u64) -> bool
@@ -136,40 +139,118 @@ impl Desk {
         !self.state.has_ticked || LEAP_SECONDS <= now.saturating_sub(self.state.now)
     }
 
-    fn mark_all(&mut self, now: u64) {
-        for seat in self.state.seats.iter_mut() {
-            seat.client.set_mark(now);
+    fn mark_all(&mut self, now: u64)
+        ensures is { sides self.new ≡ all_marked now (sides self.old) }
+        ensures rest { KeepsDesk self.old self.new }
+    {
+        self.mark_seats(now);
+        self.mark_peers(now);
+    }
+
+    fn mark_seats(&mut self, now: u64)
+        ensures is { self.new.state.seats.items ≡ map (marked_seat now) self.old.state.seats.items }
+        ensures rest { record self.new { state = record self.new.state { seats = self.old.state.seats } } ≡ self.old }
+    {
+        for i in 0..self.state.seats.len() {
+            self.mark_seat(i, now);
         }
+    }
+
+    fn mark_peers(&mut self, now: u64)
+        ensures is { self.new.peers ≡ map (marked_peer now) self.old.peers }
+        ensures rest { record self.new { peers = self.old.peers } ≡ self.old }
+    {
         for place in 0..self.peers.len() {
-            let Some(peer) = self.peers.at_mut(place) else {
-                break;
-            };
+            self.mark_peer(place, now);
+        }
+    }
+
+    #[tactic(auto, using(pp_steps::proofs::PlacesLemmas::changed_here, crate::proofs::SeatLemmas::none_changed))]
+    fn mark_seat(&mut self, i: usize, now: u64)
+        ensures is { self.new.state.seats.items ≡ changed_at i (marked_seat now) self.old.state.seats.items }
+        ensures rest { record self.new { state = record self.new.state { seats = self.old.state.seats } } ≡ self.old }
+    {
+        if i < self.state.seats.len() {
+            self.state.seats[i].client.set_mark(now);
+        }
+    }
+
+    fn mark_peer(&mut self, place: usize, now: u64)
+        ensures is { self.new.peers ≡ on_peer_at place (marked_peer now) self.old.peers }
+        ensures rest { record self.new { peers = self.old.peers } ≡ self.old }
+    {
+        if let Some(peer) = self.peers.at_mut(place) {
             peer.mark = now;
         }
     }
 
-    /// One that is idle, and not given up yet.
-    fn idle_origin(&self) -> Option<u64> {
-        let idle = self
-            .peers
-            .as_slice()
-            .iter()
-            .find(|peer| self.is_idle(peer))?;
-        Some(idle.number)
+    /// Those that are idle are given up, one after the other.
+    fn close_idle(&mut self)
+        ensures is { AreSeated self.old.state → sides self.new ≡ without_idle self.old.state.now (sides self.old) }
+        ensures numbers { numbers_of self.new.state.seats.items ≡ numbers_of self.old.state.seats.items }
+        ensures connections { peer_numbers self.new.peers ≡ peer_numbers self.old.peers }
+        ensures rest { KeepsDesk self.old self.new }
+    {
+        for place in 0..self.peers.len() {
+            self.close_idle_at(place);
+        }
     }
 
-    fn is_idle(&self, peer: &Peer) -> bool {
-        let patience = match self.state.owed_answer(peer.number) {
-            None => IDLE_SECONDS,
-            Some(_) => ANSWER_SECONDS,
-        };
-        peer.has_waited && patience <= self.state.now.saturating_sub(peer.mark) && !peer.is_closing
+    fn close_idle_at(&mut self, place: usize)
+        ensures is { AreSeated self.old.state → sides self.new ≡ where_there (without_idle_on self.old.state.now) (sides self.old) (slice_get (peer_numbers self.old.peers) place) }
+        ensures numbers { numbers_of self.new.state.seats.items ≡ numbers_of self.old.state.seats.items }
+        ensures connections { peer_numbers self.new.peers ≡ peer_numbers self.old.peers }
+        ensures rest { KeepsDesk self.old self.new }
+    {
+        if let Some(k) = self.number_at(place) {
+            if self.is_idle(k) {
+                self.give_up(k);
+            }
+        }
     }
 
-    /// What the origin did not answer is not asked again.
-    fn end_patience(&mut self, k: u64) {
+    /// It did nothing while it was waited for, and is not given up yet.
+    fn is_idle(&self, k: u64) -> bool
+        ensures { result ≡ is_idle_in self.entry.now.state.now self.entry.now.state.flow (find (is_number k) self.entry.now.peers) }
+    {
+        match self.peers.get(k) {
+            None => false,
+            Some(peer) => {
+                let patience = patience_for(&self.state.owed_answer(peer.number));
+                let is_over = patience <= self.state.now.saturating_sub(peer.mark);
+                peer.has_waited && is_over && !peer.is_closing
+            }
+        }
+    }
+
+    /// It is closed, and what it did not answer is not asked again.
+    fn give_up(&mut self, k: u64)
+        ensures is { AreSeated self.old.state → sides self.new ≡ given_up k (sides self.old) }
+        ensures numbers { numbers_of self.new.state.seats.items ≡ numbers_of self.old.state.seats.items }
+        ensures connections { peer_numbers self.new.peers ≡ peer_numbers self.old.peers }
+        ensures rest { KeepsDesk self.old self.new }
+    {
+        self.end_patience(k);
+        self.close_origin(k, true);
+    }
+
+    fn end_patience(&mut self, k: u64)
+        ensures is { AreSeated self.old.state → sides self.new ≡ with_parts (patience_ended k) (sides self.old) }
+        ensures numbers { numbers_of self.new.state.seats.items ≡ numbers_of self.old.state.seats.items }
+        ensures connections { peer_numbers self.new.peers ≡ peer_numbers self.old.peers }
+        ensures rest { KeepsDesk self.old self.new }
+    {
         if let Some(e) = self.state.owed_answer(k) {
             self.state.fail(&e);
         }
+    }
+}
+
+fn patience_for(owed: &Option<Exchange>) -> u64
+    ensures { result ≡ patience owed.now }
+{
+    match owed {
+        None => IDLE_SECONDS,
+        Some(_) => ANSWER_SECONDS,
     }
 }

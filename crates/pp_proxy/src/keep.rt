@@ -1,8 +1,11 @@
 // Step 3: what stands no more is taken off the disk, and what is whole is kept there.
+ghost use Rattle.std.specs.Prelude.{◌≡◌, ◌≤◌, length, IfSome};
 ghost use Rattle.pp_links.specs.Links.{IsLinked};
 ghost use Rattle.pp_shelf.specs.Steady.{GrowsSteadily};
 ghost use Rattle.pp_proxy.specs.Anything.{anything};
+ghost use Rattle.pp_proxy.specs.Kept.{unkept, unkept_entry};
 ghost use Rattle.pp_store.specs.Held.{Holds};
+ghost use Rattle.pp_store.specs.Kept.{kept_under};
 ghost use Rattle.pp_world.specs.Log.{Told};
 
 use crate::desk::Desk;
@@ -65,6 +68,8 @@ impl Desk {
         ensures linked { IsLinked (W.log world.new) (W.top world.new) links.new }
         ensures holds { Told (W.log world.new) (Holds anything shelf.new) }
         ensures steady { GrowsSteadily (W.log world.old) (W.log world.new) }
+        ensures memory { IfSome (kept_under name.now shelf.old) (λ kept. length kept.entry.key ≤ 8192) → self.new.state.cache ≡ unkept_entry (kept_under name.now shelf.old) self.old.state.cache }
+        ensures rest { record self.new { state = record self.new.state { cache = self.old.state.cache } } ≡ self.old }
     {
         let mut key: ArrayVec<u8, KEY_ROOM> = ArrayVec::new();
         match shelf.under(name) {
@@ -75,7 +80,15 @@ impl Desk {
         }
         links.note(world, &Note::Gone(key.as_slice()));
         withdraw(links, shelf, world, key.as_slice());
-        if let Some(id) = self.state.cache.current(key.as_slice()) {
+        self.note_gone(key.as_slice());
+    }
+
+    /// Nothing is kept of the row of this key.
+    fn note_gone(&mut self, key: &[u8])
+        ensures memory { self.new.state.cache ≡ unkept key.now self.old.state.cache }
+        ensures rest { record self.new { state = record self.new.state { cache = self.old.state.cache } } ≡ self.old }
+    {
+        if let Some(id) = self.state.cache.current(key) {
             self.state.cache.keep_to(id, 0);
         }
     }
