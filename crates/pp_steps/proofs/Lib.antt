@@ -17,4 +17,5 @@ pub mod RestingLemmas
 pub mod RoomLemmas
 pub mod SeatsLemmas
 pub mod SharingLemmas
+pub mod WaitsLemmas
 pub mod Walks

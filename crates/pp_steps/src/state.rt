@@ -80,7 +80,9 @@ impl State {
     }
 
     /// All may be looked at: the clock ticked, all is to be closed, or one left, and the others have other places.
-    pub fn wake(&mut self) {
+    pub fn wake(&mut self)
+        ensures { record self.new { awake = self.old.awake } ≡ self.old }
+    {
         self.awake.clear();
         for i in 0..self.seats.len() {
             let _ = self.awake.push(i);
@@ -88,7 +90,9 @@ impl State {
     }
 
     /// This one too.
-    pub fn rouse(&mut self, i: usize) {
+    pub fn rouse(&mut self, i: usize)
+        ensures { record self.new { awake = self.old.awake } ≡ self.old }
+    {
         if let Err(place) = self.awake.as_slice().binary_search(&i) {
             let _ = self.awake.insert(place, i);
         }

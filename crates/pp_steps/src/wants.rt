@@ -1,10 +1,9 @@
 // What is waited for of the clients, and what a wait changes. It is ours.
-ghost use Rattle.std.specs.Prelude.{◌≡◌, max, true, IfSome, IsNone};
+ghost use Rattle.std.specs.Prelude.{◌≡◌, ◌<◌, length, map, max};
 ghost use Rattle.pp_flow.specs.Entries.{Span};
-ghost use Rattle.pp_seats.specs.Follows.{next_of};
-ghost use Rattle.pp_steps.specs.Bringing.{is_brought};
+ghost use Rattle.pp_steps.specs.Ends.{changed_at, numbers_of};
 ghost use Rattle.pp_steps.specs.Readers.{at_of, furthest, furthest_read, is_brought_to, is_far_ahead, is_past, next_at, of_both, read_at};
-ghost use Rattle.pp_steps.specs.Sharing.{has_asked};
+ghost use Rattle.pp_steps.specs.Waits.{awaited_by, is_waiting, rested_seat, shared_with, waits_for_exchange, woken_by, woken_seat};
 
 use crate::state::State;
 use crate::unseen::{is_same, is_soon};
@@ -22,7 +21,9 @@ impl State {
     ///
     /// Who is not awake is silent, and is read or not as at the last wait: so only those who are awake are put in or taken
     /// out. Where all are, as behind a tick or where a client left, the list is written anew.
-    pub fn note_clients(&mut self, wants: &mut Wants) {
+    pub fn note_clients(&mut self, wants: &mut Wants)
+        ensures { record self.new { awake = self.old.awake } ≡ self.old }
+    {
         if self.awake.len() == self.seats.len() {
             wants.read.clear();
         }
@@ -60,42 +61,74 @@ impl State {
     }
 
     /// What a wait changes of the client at this place: it waits for the exchange that it shares.
-    pub fn rest_client(&mut self, i: usize) {
-        let Some(seat) = self.seats.get(i) else {
-            return;
-        };
-        if seat.waits_on.is_some() || !self.is_sharing(seat) {
-            return;
-        }
-        let Some(exchange) = self.shared_ask(seat) else {
-            return;
-        };
-        let since = self.now;
-        if let Some(seat) = self.seats.get_mut(i) {
-            seat.waits_on = Some(Shared { exchange, since });
+    #[tactic(auto, using(crate::proofs::PlacesLemmas::changed_here, crate::proofs::PlacesLemmas::same_numbers, crate::proofs::WaitsLemmas::none_changed))]
+    pub fn rest_client(&mut self, i: usize)
+        ensures is { self.new.seats.items ≡ changed_at i (rested_seat self.old) self.old.seats.items }
+        ensures numbers { numbers_of self.new.seats.items ≡ numbers_of self.old.seats.items }
+        ensures rest { record self.new { seats = self.old.seats } ≡ self.old }
+    {
+        if i < self.seats.len() {
+            let awaited = self.awaited_by(&self.seats[i]);
+            self.seats[i].waits_on = awaited;
         }
     }
 
-    /// Who waited for an exchange, and was not written to, is not idle, however long the clock stood still.
-    pub fn renew_marks(&mut self, now: u64) {
-        for i in 0..self.seats.len() {
-            let is_waiting = match self.seats.get(i) {
-                None => false,
-                Some(seat) => self.waits_for_exchange(seat) && self.is_dry(seat),
-            };
-            if let Some(seat) = self.seats.get_mut(i) {
-                if is_waiting {
-                    seat.client.set_mark(now);
-                }
-            }
+    /// The exchange that it waits for.
+    fn awaited_by(&self, seat: &Seat) -> Option<Shared>
+        ensures { result ≡ awaited_by self.entry.now seat.now }
+    {
+        match seat.waits_on {
+            Some(shared) => Some(shared),
+            None => self.shared_with(seat),
         }
+    }
+
+    /// The one that it shares, from now on.
+    fn shared_with(&self, seat: &Seat) -> Option<Shared>
+        ensures { result ≡ shared_with self.entry.now seat.now }
+    {
+        if !self.is_sharing(seat) {
+            return None;
+        }
+        let exchange = self.shared_ask(seat)?;
+        Some(Shared {
+            exchange,
+            since: self.now,
+        })
+    }
+
+    /// Who waited for an exchange, and was not written to, is not idle, however long the clock stood still.
+    pub fn renew_marks(&mut self, now: u64)
+        ensures is { self.new.seats.items ≡ map (woken_seat now self.old) self.old.seats.items }
+        ensures rest { record self.new { seats = self.old.seats } ≡ self.old }
+    {
+        for i in 0..self.seats.len() {
+            self.renew_mark(i, now);
+        }
+    }
+
+    #[tactic(auto, using(crate::proofs::PlacesLemmas::changed_here, crate::proofs::WaitsLemmas::none_changed))]
+    fn renew_mark(&mut self, i: usize, now: u64)
+        ensures is { self.new.seats.items ≡ changed_at i (woken_seat now self.old) self.old.seats.items }
+        ensures rest { record self.new { seats = self.old.seats } ≡ self.old }
+    {
+        if i < self.seats.len() {
+            let waits = self.is_waiting(&self.seats[i]);
+            renew_mark(&mut self.seats[i], waits, now);
+        }
+    }
+
+    /// It waits for an exchange, and nothing is there to be said to it.
+    fn is_waiting(&self, seat: &Seat) -> bool
+        ensures { result ≡ is_waiting self.entry.now seat.now }
+    {
+        self.waits_for_exchange(seat) && self.is_dry(seat)
     }
 
     /// It waits for the exchange that brings its next byte; where it follows nothing, for that of its request, or
     /// for one that it shares.
     fn waits_for_exchange(&self, seat: &Seat) -> bool
-        ensures follows { IfSome (next_of seat.now) (λ n. result ≡ is_brought n.source n.at self.entry.now.cache self.entry.now.flow) }
-        ensures asks { has_asked seat.now.client.id self.entry.now.flow ≡ true → IsNone (next_of seat.now) → result ≡ true }
+        ensures { result ≡ waits_for_exchange self.entry.now seat.now }
     {
         match seat.next() {
             Some(next) => self.is_brought(&next),
@@ -176,6 +209,14 @@ impl State {
         } else {
             None
         }
+    }
+}
+
+fn renew_mark(seat: &mut Seat, waits: bool, now: u64)
+    ensures { seat.new ≡ woken_by waits now seat.old }
+{
+    if waits {
+        seat.client.set_mark(now);
     }
 }
 
