@@ -7,6 +7,7 @@ pub mod DecidingLemmas
 pub mod DueLemmas
 pub mod EnteringLemmas
 pub mod EvictingLemmas
+pub mod FillingLemmas
 pub mod FrontLemmas
 pub mod LineLemmas
 pub mod NumbersLemmas

@@ -10,6 +10,7 @@ pub mod Due
 pub mod Ends
 pub mod Entering
 pub mod Evicting
+pub mod Filling
 pub mod FinalHeads
 pub mod Heads
 pub mod Hearing
