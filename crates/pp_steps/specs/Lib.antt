@@ -15,6 +15,7 @@ pub mod FinalHeads
 pub mod Heads
 pub mod Hearing
 pub mod Lines
+pub mod Meeting
 pub mod OnDisk
 pub mod OwnHeads
 pub mod Passing

@@ -1,5 +1,5 @@
 // Rows that come from the disk, and bytes that stand there alone.
-ghost use Rattle.std.specs.Prelude.{◌≡◌, true, is_none, is_ok, slice_get, OnErr, OnOk};
+ghost use Rattle.std.specs.Prelude.{◌≡◌, true, is_none, is_ok, option_map, slice_get, OnErr, OnOk};
 ghost use Rattle.pp_steps.specs.Entering.{HasRow, HasRowFor, asks_by_kept, decide_by_kept, is_below, is_due_at, is_due_by_kept, refused_kept, with_room_if_over};
 ghost use Rattle.std.specs.Option.{option_and_then};
 ghost use Rattle.pp_steps.specs.Heads.{key_of};
@@ -41,8 +41,8 @@ impl State {
         }
     }
 
-    /// The same of the key of an exchange whose response came, with room for it.
-    pub fn bring_row_for(&mut self, shelf: &Shelf, number: u64)
+    /// That of the key of an exchange whose response came comes in, with room for it.
+    pub(crate) fn bring_row_for(&mut self, shelf: &Shelf, number: u64)
         ensures { HasRowFor shelf.now (key_of number self.old.flow) self.old self.new }
     {
         let Some(key) = self.flow.key(number) else {
@@ -166,15 +166,9 @@ fn bring(alloc: Global, cache: &mut Cache, shelf: &Shelf, key: &[u8]) -> Result<
     ensures refused { OnErr result (cache.new ≡ cache.old) }
     ensures none { is_none (kept_alone key.now shelf.now cache.old) ≡ true → is_ok result ≡ true }
 {
-    if cache.current(key).is_some() {
-        return Ok(());
-    }
-    let Some(view) = shelf.kept(key) else {
+    let Some(view) = kept_alone(key, shelf, cache) else {
         return Ok(());
     };
-    if cache.is_outdated(&file_name(key)) {
-        return Ok(());
-    }
     cache.enter(
         alloc,
         key,
@@ -185,4 +179,19 @@ fn bring(alloc: Global, cache: &mut Cache, shelf: &Shelf, key: &[u8]) -> Result<
     )?;
     cache.bounds();
     Ok(())
+}
+
+/// What is kept of a key that has no row in memory, as long as it stands for its row.
+pub(crate) fn kept_alone<'a>(key: &[u8], shelf: &'a Shelf, cache: &Cache) -> Option<KeptView<'a>>
+    ensures { option_map shown result ≡ kept_alone key.now shelf.now cache.now }
+{
+    if cache.current(key).is_some() {
+        return None;
+    }
+    let view = shelf.kept(key)?;
+    if cache.is_outdated(&file_name(key)) {
+        None
+    } else {
+        Some(view)
+    }
 }

@@ -30,6 +30,7 @@ mod fill; // step 5: what followers ask for
 mod hearing; // a request that came, and a reply that was said
 mod held; // what is held of a version, and what comes
 mod kept; // rows that come from the disk
+mod meet; // what a response tells of a row that is on the disk alone
 mod outdated; // rows that a passed response outdates
 mod passing; // a response that is passed
 mod place; // what becomes of an exchange that gets no place

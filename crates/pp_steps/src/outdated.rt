@@ -90,7 +90,7 @@ impl State {
     }
 
     /// GET or HEAD was asked. An ask that goes alone is not there without its client.
-    fn reads(&self, e: &Exchange, errand: &Errand) -> bool
+    pub(crate) fn reads(&self, e: &Exchange, errand: &Errand) -> bool
         ensures { AreSeated self.entry.now → result ≡ reads e.now errand.now (parts self.entry.now) }
     {
         errand.asks_head || !errand.goes_alone() || self.gets(e)
@@ -201,7 +201,7 @@ fn invalidates(is_safe: bool, head: &ResponseHead<'_, '_>) -> bool
 }
 
 /// Nothing is there any more, or something else.
-fn disproves(head: &ResponseHead<'_, '_>, version: &Version) -> bool
+pub(crate) fn disproves(head: &ResponseHead<'_, '_>, version: &Version) -> bool
     ensures { result ≡ disproves (shown_response head.now) version.now }
 {
     match head.status {
