@@ -185,13 +185,9 @@ fn bring(alloc: Global, cache: &mut Cache, shelf: &Shelf, key: &[u8]) -> Result<
 pub(crate) fn kept_alone<'a>(key: &[u8], shelf: &'a Shelf, cache: &Cache) -> Option<KeptView<'a>>
     ensures { option_map shown result ≡ kept_alone key.now shelf.now cache.now }
 {
-    if cache.current(key).is_some() {
-        return None;
-    }
-    let view = shelf.kept(key)?;
-    if cache.is_outdated(&file_name(key)) {
+    if cache.current(key).is_some() || cache.is_outdated(&file_name(key)) {
         None
     } else {
-        Some(view)
+        shelf.kept(key)
     }
 }
