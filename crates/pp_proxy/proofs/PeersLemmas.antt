@@ -1,5 +1,5 @@
 -- Connection after connection is changed, place by place.
-use Rattle.std.proofs.Common.{◌≡◌, ◌<◌, ◌≤◌, ◌+◌, ℕ, zero, suc, List, [], ◌∷◌, length, map, set, slice_get, Option, Some, None, add-one, refl, sym, ap, ◌∙◌, arith}
+use Rattle.std.proofs.Common.{◌≡◌, ◌<◌, ◌≤◌, ◌+◌, ℕ, zero, suc, List, [], ◌∷◌, length, map, slice_get, Option, Some, None, add-one, refl, sym, ap, ◌∙◌, arith}
 use Rattle.pp_peers.specs.declared.peers.Peer.{Peer}
 use Rattle.pp_proxy.specs.Marks.{changed_where, on_peer_at}
 

@@ -1,4 +1,4 @@
-use Rattle.std.proofs.Common.{◌∙◌, ap, sym, subst, slice_get, List, ℕ, Option, refl, arith}
+use Rattle.std.proofs.Common.{◌∙◌, ap, sym, subst, slice_get, List, ℕ, Option, arith}
 use Rattle.pp_proxy.specs.Closings.{sides}
 use Rattle.pp_proxy.specs.Replies.{EndsSaidIn}
 use Rattle.pp_proxy.specs.declared.desk.Desk.{Desk}
