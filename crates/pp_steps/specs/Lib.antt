@@ -25,3 +25,4 @@ pub mod Rows
 pub mod Sharing
 pub mod ThroughHeads
 pub mod Unseen
+pub mod Waits
