@@ -6,4 +6,6 @@ pub mod OriginLemmas
 pub mod PeersLemmas
 pub mod PlaceLemmas
 pub mod ReplyLemmas
+pub mod RestLemmas
 pub mod ShuttingLemmas
+pub mod TickLemmas

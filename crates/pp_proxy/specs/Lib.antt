@@ -1,3 +1,4 @@
+pub mod Accepting
 pub mod Anything
 pub mod Closings
 pub mod Kept
