@@ -1,8 +1,8 @@
 // Files of all kinds on a small disk.
 mod folder; // a small disk
 
-use crate::{RecoverFault, open};
 use folder::{Failing, Folder, NAMES, Step};
+use pp_recover::{RecoverFault, open};
 use pp_store::Store;
 use pp_target::file_name;
 use std::alloc::Global;
