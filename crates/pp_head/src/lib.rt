@@ -20,6 +20,7 @@
 //! fields mean is for others.
 #![tactic(auto)]
 
+mod kept; // a head that was read
 mod limits; // how long a head may be
 mod part; // whether bytes end inside a request target
 mod request; // the head of a request
@@ -27,8 +28,9 @@ mod response; // the head of a response
 mod scratch; // where the fields are
 mod state; // the four states
 
+pub use kept::KeptHead;
 pub use limits::{MAX_BYTES, MAX_FIELDS, MAX_LINE_ENDS};
-pub use request::{RequestHead, read_request};
+pub use request::RequestHead;
 pub use response::{ResponseHead, read_response};
 pub use scratch::Scratch;
 pub use state::HeadState;
