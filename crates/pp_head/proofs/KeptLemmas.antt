@@ -83,7 +83,7 @@ own_spans : (bytes : List ℕ) (fields : List FieldSpan) (spans : RequestSpans) 
 own_spans bytes fields spans are whole =
     let own = take spans.len bytes in
     let same : spanned_request bytes fields spans ≡ spanned_request own fields spans =
-        ap (λ (t : List ℕ). spanned_request t fields spans) (sym (take-append-drop spans.len bytes)) ∙ spanned_front own (drop spans.len bytes) fields spans are in
+    ap (λ (t : List ℕ). spanned_request t fields spans) (sym (take-append-drop spans.len bytes)) ∙ spanned_front own (drop spans.len bytes) fields spans are in
     ap Whole (sym same) ∙ sym (request_cut bytes (spanned_request bytes fields spans) whole).enough
 
 own_by : (bytes : List ℕ) (kept : KeptHead) (r : Request) (state : HeadState RequestSpans) → state_of (spanned_request bytes kept.scratch.fields) state ≡ Whole r
@@ -93,10 +93,10 @@ own_by bytes kept r (IsWhole spans) shown are whole is =
     let twice : take spans.len (take spans.len bytes) ≡ take spans.len bytes = take_all spans.len (take spans.len bytes) (omega (arith, length-take spans.len bytes)) in
     subst (λ (n : ℕ). Shows kept (take n bytes)) (ap (λ (q : Request). q.length) e)
     (record {
-        value = ap (state_of (spanned_request (take spans.len bytes) kept.scratch.fields)) is ∙ own_spans bytes kept.scratch.fields spans are (whole ∙ ap Whole (sym e));
-        within = subst (λ (s : HeadState RequestSpans). IfWhole s (λ spans'. AreRequestSpans (take spans'.len (take spans.len bytes)) kept.scratch.fields spans')) (sym is)
-            (subst (λ (t : List ℕ). AreRequestSpans t kept.scratch.fields spans) (sym twice) are);
-      })
+      value = ap (state_of (spanned_request (take spans.len bytes) kept.scratch.fields)) is ∙ own_spans bytes kept.scratch.fields spans are (whole ∙ ap Whole (sym e));
+      within = subst (λ (s : HeadState RequestSpans). IfWhole s (λ spans'. AreRequestSpans (take spans'.len (take spans.len bytes)) kept.scratch.fields spans')) (sym is)
+          (subst (λ (t : List ℕ). AreRequestSpans t kept.scratch.fields spans) (sym twice) are);
+    })
 own_by bytes kept r IsTooLong shown are whole is = absurd (cc shown)
 own_by bytes kept r IsBad shown are whole is = absurd (cc shown)
 own_by bytes kept r IsMore shown are whole is = absurd (cc shown)

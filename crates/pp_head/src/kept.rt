@@ -30,14 +30,14 @@ impl KeptHead {
         }
     }
 
-    /// The same once more.
+    /// Forgets what was read: what is kept is that of no bytes.
     pub fn clear(&mut self)
         ensures { Shows self.new [] }
     {
         self.located = HeadState::More;
     }
 
-    /// Reads the request at the front of these bytes. What was kept is over.
+    /// Reads the request at the front of these bytes, in place of what was kept.
     pub fn read(&mut self, bytes: &[u8])
         ensures { Shows self.new bytes.now }
     {
