@@ -8,7 +8,6 @@ ghost use Rattle.pp_client.specs.Requests.{current_of, is_answerable};
 use crate::cache::Cache;
 use arrayvec::ArrayVec;
 use pp_client::{Begin, Client, Current, Room};
-use pp_head::Scratch;
 use pp_objects::Objects;
 use std::alloc::Global;
 use std::process::Abort;
@@ -19,7 +18,6 @@ pub type Said = ArrayVec<u8, 20480>;
 #[derive(Drop)]
 pub struct Talk {
     pub client: Client,
-    scratch: Scratch,
     room: Box<Room>,
 }
 
@@ -31,7 +29,6 @@ impl Talk {
     pub fn with(rt: &impl Abort, alloc: Global, client: Client) -> Talk {
         Talk {
             client,
-            scratch: Scratch::new(),
             room: Box::new(alloc, Room::new()).expect(rt, "no memory"),
         }
     }
@@ -43,16 +40,16 @@ impl Talk {
     }
 
     /// Whether a request for this target is current, whose framing is not refused.
-    pub fn is_at(&mut self, target: &[u8]) -> bool {
-        match self.client.current(&mut self.scratch) {
+    pub fn is_at(&self, target: &[u8]) -> bool {
+        match self.client.current() {
             Current::Request(head, None) => head.target == target,
             _ => false,
         }
     }
 
     /// The status of a refusal, 1 where the head is to come, and 0 where nothing was heard.
-    pub fn status(&mut self) -> u16 {
-        match self.client.current(&mut self.scratch) {
+    pub fn status(&self) -> u16 {
+        match self.client.current() {
             Current::Nothing => 0,
             Current::More => 1,
             Current::Request(_, None) => 200,
@@ -69,7 +66,7 @@ impl Talk {
 
     /// The reply begins, with this text in the head buffer.
     pub fn begin(&mut self, rt: &impl Abort, text: &[u8], reply: Begin) {
-        assert!(rt; is_answerable(&self.client, &mut self.scratch));
+        assert!(rt; is_answerable(&self.client));
         assert!(rt; is_due(&self.client));
         assert!(rt; is_ordered(reply));
         let _ = self.client.head_room().try_extend_from_slice(text);
@@ -127,10 +124,10 @@ impl Talk {
     }
 }
 
-fn is_answerable(client: &Client, scratch: &mut Scratch) -> bool
+fn is_answerable(client: &Client) -> bool
     ensures { result ≡ is_answerable (current_of client.now.heard) }
 {
-    match client.current(scratch) {
+    match client.current() {
         Current::Nothing | Current::More => false,
         Current::Request(..) | Current::Refuse(_) => true,
     }

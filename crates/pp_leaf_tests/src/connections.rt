@@ -1,7 +1,7 @@
 // A connection to an origin, and which one an ask goes to.
 use arrayvec::ArrayVec;
 use pp_framing::Ending;
-use pp_head::{HeadState, Scratch, read_request, read_response};
+use pp_head::{HeadState, KeptHead, Scratch, read_response};
 use pp_peers::{Limits, Load, PEERS, Peers, Placed};
 use pp_pipe::{Full, MAX_ASKS, OUT_ROOM, Pipe, Step, binds_connection, stays_open};
 use std::test::Fail;
@@ -144,8 +144,9 @@ fn stays(bytes: &[u8]) -> Option<bool> {
 
 /// Whether the request with this head authenticates its connection.
 fn binds(bytes: &[u8]) -> Option<bool> {
-    let mut scratch = Scratch::new();
-    match read_request(bytes, &mut scratch) {
+    let mut kept = KeptHead::new();
+    kept.read(bytes);
+    match kept.show(bytes) {
         HeadState::Whole(head) => Some(binds_connection(&head.fields)),
         HeadState::TooLong | HeadState::Bad | HeadState::More => None,
     }

@@ -1,7 +1,7 @@
 // Heads, targets, ranges, and what an origin is asked.
 use arrayvec::ArrayVec;
 use pp_ask::{ASK_LEN, AskKind, TooLong, write_ask};
-use pp_head::{HeadState, Scratch, read_request, read_response};
+use pp_head::{HeadState, KeptHead, Scratch, read_response};
 use pp_ranges::{Range, Resolved, read_range, resolve};
 use pp_target::{Place, TargetFault, file_name, key};
 use pp_valid::Tag;
@@ -15,8 +15,9 @@ fn ask(
     received: &[u8],
     out: &mut ArrayVec<u8, ASK_LEN>,
 ) -> Option<Result<(), TooLong>> {
-    let mut scratch = Scratch::new();
-    let HeadState::Whole(request) = read_request(received, &mut scratch) else {
+    let mut kept = KeptHead::new();
+    kept.read(received);
+    let HeadState::Whole(request) = kept.show(received) else {
         return None;
     };
     let mut text = ArrayVec::new();
@@ -111,8 +112,9 @@ fn range(line: &[u8]) -> Option<(Range, Resolved)> {
     ] {
         let _ = text.try_extend_from_slice(part);
     }
-    let mut scratch = Scratch::new();
-    let HeadState::Whole(request) = read_request(&text, &mut scratch) else {
+    let mut kept = KeptHead::new();
+    kept.read(&text);
+    let HeadState::Whole(request) = kept.show(&text) else {
         return None;
     };
     let range = read_range(&request.fields)?;
