@@ -1,7 +1,7 @@
 use Rattle.std.proofs.Common.{◌≡◌, ◌++◌, [], length, ◌∙◌, ap, arith, subst, sym}
 use Rattle.std.proofs.lemmas.Grind.{common_steps}
 use Rattle.pp_head.specs.Kept.{Shows}
-use Rattle.pp_client.specs.Bodies.{IsIdle, IsKept, kept, later}
+use Rattle.pp_client.specs.Bodies.{IsIdle, IsKept, kept}
 use Rattle.pp_client.specs.Inside.{heard_as}
 use Rattle.pp_client.specs.Requests.{Heard, heard_in}
 use Rattle.pp_client.proofs.KeptLemmas.{from_rest}
