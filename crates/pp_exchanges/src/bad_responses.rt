@@ -1,4 +1,4 @@
-// Responses that are none, or bring nothing that can be kept. More of them stand in the gateways of `pp_loss_exchanges`.
+// Responses that are none, or bring nothing that can be kept. More of them stand in `gateways`.
 use crate::filled::{Filled, text_of};
 use pp_play::{
     Act, Exchange, GET, PAGE_502, Pace, Part, REPLY, REPLY_HELD, RESPONSE, Step, T, Wanted, joined,

@@ -1,4 +1,4 @@
-// Requests that are none, or have just the form that they may have. More of them stand in the refusals of `pp_exchanges`.
+// Requests that are none, or have just the form that they may have. More of them stand in `refusals`.
 use crate::filled::{Filled, text_of};
 use pp_play::{
     Act, Exchange, PAGE_400, PAGE_431, Pace, Part, REPLY, RESPONSE, Step, T, Wanted, play, unlike,

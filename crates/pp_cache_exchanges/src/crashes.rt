@@ -1,6 +1,6 @@
 // The machine stops behind each happening, and what was kept is there.
 use crate::course::{ALONE, AT_ONCE, COURSE};
-use crate::lives::{Life, first_life, next_life};
+use crate::life::{Life, first_life, next_life};
 use pp_play::{Act, Fit, Part, T, fit_of};
 use pp_run::Exit;
 use pp_text::OutOfMemory;

@@ -2,7 +2,7 @@ use Rattle.std.proofs.Common.{◌∙◌, ap}
 use Rattle.pp_memworld.specs.MemWorld.{told_log}
 use Rattle.pp_memworld.specs.Record.{record_log}
 use Rattle.pp_shelf.proofs.OpeningLemmas.{fresh_first}
-use Rattle.pp_start_exchanges.proofs.opened.open.Goals as goal
+use Rattle.pp_exchanges.proofs.opened.open.Goals as goal
 
 pub run-exit-requires : goal.run-exit-requires
 run-exit-requires c =

@@ -1,6 +1,6 @@
 // Each call that can fail fails once: reads, writes, listening, dials, the file of the settings, and those of the disk.
 use crate::course::{ALONE, AT_ONCE, COURSE, MAY_BE_SAID, MaySay, Reply};
-use crate::lives::{Life, first_life};
+use crate::life::{Life, first_life};
 use pp_play::{Fit, fit_of};
 use pp_run::Exit;
 use pp_text::OutOfMemory;
