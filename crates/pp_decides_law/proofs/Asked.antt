@@ -1,7 +1,7 @@
 -- An origin is asked: the request waits for an exchange that begins, in the program as in the law.
-use Rattle.std.proofs.Common.{◌≡◌, ◌≤◌, ◌<◌, refl, sym, subst, ap, ap₂, ◌∙◌, ℕ, ◌+◌, Bool, true, false, ◌&&◌, not, ◌||◌, cond, nat_lt, find, length, List, [], ◌∷◌, ◌++◌, Some, None, Option, option_map, Ok, Err, arith}
+use Rattle.std.proofs.Common.{◌≡◌, ◌≤◌, ◌<◌, refl, subst, ap, ap₂, ◌∙◌, ℕ, ◌+◌, Bool, true, false, ◌&&◌, not, ◌||◌, cond, nat_lt, find, length, List, [], ◌∷◌, ◌++◌, Some, None, Option, option_map, Ok, Err, arith}
 use Rattle.std.proofs.lemmas.Bool.Decides.{nat_tests}
-use Rattle.std.specs.Prelude.{is_some, option_and_then, slice_get, slice_set}
+use Rattle.std.specs.Prelude.{is_some, slice_get, slice_set}
 use Rattle.pp_ask.specs.declared.kind.AskKind.{AskKind}
 use Rattle.pp_flow.specs.Changes.{Exchanges, changed, first_of, without}
 use Rattle.pp_flow.specs.Entries.{begun_with, is_asked_by, is_number, nobodys}
@@ -19,7 +19,7 @@ use Rattle.pp_seats.specs.Heads.{asked_in, owned_in}
 use Rattle.pp_seats.specs.declared.key.Key.{Key}
 use Rattle.pp_seats.specs.declared.seat.Seat.{Seat}
 use Rattle.pp_steps.specs.Deciding.{Ask, aim_for, asked_with, begun_at, begun_for, begun_of, exchange_begun, is_pass, may_ask}
-use Rattle.pp_steps.specs.Ends.{Parts, left_at_decision, left_source, on_seat, source_at, source_of}
+use Rattle.pp_steps.specs.Ends.{Parts, left_at_decision, left_source, on_seat, source_of}
 use Rattle.pp_flow_law.specs.Tables.{Leaving, ShowsFlow}
 use Rattle.pp_decides_law.proofs.Changed.{get_set}
 use Rattle.pp_decides_law.proofs.Left.{left_is}

@@ -1,6 +1,6 @@
 -- The exchange that begins is the law's, and with it the request waits for it as the law has it.
 use Rattle.std.proofs.Common.{◌≡◌, refl, sym, subst, ap, ap₂, ◌∙◌, ℕ, ◌%◌, Bool, true, false, ◌==◌, ◌&&◌, not, find, List, [], ◌∷◌, ◌++◌, Some, None, Option, option_map, Result, Ok, Err}
-use Rattle.std.specs.Prelude.{is_some, option_and_then, slice_get, slice_set, ⊤}
+use Rattle.std.specs.Prelude.{is_some, slice_get, slice_set, ⊤}
 use Rattle.pp_ask.specs.declared.kind.AskKind.{AskKind}
 use Rattle.pp_ask.specs.Texts.{ask_text}
 use Rattle.pp_cache.specs.Memory.{Memory}

@@ -1,12 +1,10 @@
 -- A response that is passed is the reply, and its client follows nothing any more.
 use Rattle.std.proofs.Common.{◌≡◌, refl, sym, subst, ap, ◌∙◌, ℕ, Bool, true, false, ◌&&◌, not, find, List, [], Some, None, Option}
-use Rattle.std.specs.Prelude.{option_and_then, slice_get, slice_set}
+use Rattle.std.specs.Prelude.{slice_get, slice_set}
 use Rattle.pp_cache_law.proofs.Finds.{find_passes}
 use Rattle.pp_cache_law.proofs.Numbers.{is_same, some_is}
 use Rattle.pp_law.specs.Connections.{is_client, on_client}
 use Rattle.pp_law.specs.Deciding.{answering_with, relay, reply_by}
-use Rattle.pp_law.specs.Lists.{Bytes, is_some_with, is_this}
-use Rattle.pp_law.specs.Stages.{reply_of}
 use Rattle.pp_law.specs.State.{State, Client}
 use Rattle.pp_law.specs.Table.{swept}
 use Rattle.pp_objects.specs.declared.id.ObjectId.{ObjectId}
@@ -15,7 +13,6 @@ use Rattle.pp_seats.specs.declared.seat.Seat.{Seat}
 use Rattle.pp_seats_law.proofs.Decided.{answers}
 use Rattle.pp_seats_law.specs.Clients.{IsAt}
 use Rattle.pp_seats_law.specs.Seats.{ShowsOpen, ShowsSeat}
-use Rattle.pp_states_law.specs.States.{ShowsState}
 use Rattle.pp_world.specs.declared.note.Decision.{Decision}
 use Rattle.pp_world.specs.declared.note.Decision.TheVariants.{Relay}
 use Rattle.pp_steps.specs.Deciding.{answered_at, relayed}
@@ -27,7 +24,7 @@ use Rattle.pp_steps_law.specs.Told.{AreTold}
 use Rattle.pp_decides_law.proofs.Quitting.{client_left, left_memory}
 use Rattle.pp_decides_law.proofs.Refused.{followed_as, left_stands, quit, quit_is}
 use Rattle.pp_decides_law.proofs.Sitting.{interim_number, is_at, seat_again, shown_at}
-use Rattle.pp_decides_law.specs.Decides.{IsAtPlace, IsDecided, RelaysAreTheLaws}
+use Rattle.pp_decides_law.specs.Decides.{IsDecided, RelaysAreTheLaws}
 
 -- ---- the program's
 

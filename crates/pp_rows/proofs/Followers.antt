@@ -240,6 +240,6 @@ row345 : fault_from 0 (start (record { words = text32 ∷ []; faults = 0 } ∷ [
 unfolding judging
 row345 = refl
 
-row348 : fault_from 0 (start (record { words = text32 ∷ []; faults = 0 } ∷ [])) (front4 ++ wait true (1 ∷ 2 ∷ 3 ∷ []) (1 ∷ 2 ∷ 3 ∷ []) ∷ []) ≡ Some (record { at = 46; rule = WantsTooMuch })
+row348 : fault_from 0 (start (record { words = text32 ∷ []; faults = 0 } ∷ [])) (front4 ++ wait true (1 ∷ 2 ∷ 3 ∷ []) (1 ∷ 2 ∷ 3 ∷ []) ∷ []) ≡ Some (record { at = 46; rule = ConnectionForgotten })
 unfolding judging
 row348 = refl

@@ -15,7 +15,7 @@ use Rattle.pp_law.specs.Connections.{exchange, give_up_row, is_client, is_for, i
 use Rattle.pp_law.specs.Lists.{Bytes, is_some_with, is_this, change}
 use Rattle.pp_law.specs.Stages.{is_begun}
 use Rattle.pp_law.specs.State.{State, Aim, Client, Course, Exchange, Instance as Known, RowRefused, Trying, OutOfTries, AskTooLong}
-use Rattle.pp_law.specs.Table.{clear, follows, is_same_version, row, swept}
+use Rattle.pp_law.specs.Table.{clear, follows, is_same_version, row}
 use Rattle.pp_peers.specs.declared.peers.Peer.{Peer}
 use Rattle.pp_peers_law.proofs.Finds.{found_number}
 use Rattle.pp_seats.specs.Courses.{has_begun, is_unfilled as is_unfilled_of, without_row as seat_without_row, lost_one as lost_one_in}
