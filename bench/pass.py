@@ -12,7 +12,7 @@ sys.path.insert(0, os.path.join(os.path.dirname(os.path.abspath(__file__)), ".."
 
 from network import raise_loopback  # noqa: E402
 from origin import noise, plain, response  # noqa: E402
-from ways import NOTHING, Way, describe_machine, origin_of, report, start_polipo, start_squid, start_tinyproxy  # noqa: E402
+from ways import IN_MEMORY, NOTHING, Way, describe_machine, origin_of, report, start_polipo, start_squid, start_tinyproxy  # noqa: E402
 
 ROUNDS = 5
 SECONDS = 2.0
@@ -138,7 +138,7 @@ def main():
     raise_loopback()
     describe_machine()
     print(f"{ROUNDS} rounds of {SECONDS} s, interleaved; medians; client and origin on the same machine, in Python")
-    with tempfile.TemporaryDirectory() as folder, origin_of(ORIGINS, answer_to) as address:
+    with tempfile.TemporaryDirectory(dir=IN_MEMORY) as folder, origin_of(ORIGINS, answer_to) as address:
         ways = [Way("direct", address, f"127.0.0.1:{address[1]}")]
         try:
             start_polipo(os.path.abspath(sys.argv[1]), folder, ways)
