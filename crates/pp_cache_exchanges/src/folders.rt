@@ -1,9 +1,9 @@
 // A folder with files, a run of the program over it, and what that did.
-ghost use Rattle.std.specs.Prelude.{IfOk};
+ghost use Rattle.std.specs.Prelude.{◌<◌, IfOk};
 ghost use Rattle.pp_memworld.specs.Slots.{AreListed};
 
 use pp_memworld::{Cue, MemWorld, Script, put_file};
-use pp_play::{T, boxed};
+use pp_play::{PACES, Pace, T, boxed};
 use pp_run::run;
 use pp_text::{Octets, OutOfMemory};
 use pp_world::{Decision, Happening, Image, Name, Remark};
@@ -38,19 +38,24 @@ pub(crate) struct Visit {
 const ANSWER: &[u8] =
     b"HTTP/1.1 200 OK\r\nCache-Control: no-store\r\nContent-Length: 5\r\n\r\nother";
 
-/// Where a request over one of these folders comes to anything else, or a file is not left as it was: nothing is said where
-/// there is none. Each request has a life of its own.
+/// Where a request over one of these folders comes to anything else, or a file is not left as it was, at either pace: nothing
+/// is said where there is none. Each request has a life of its own.
 pub(crate) fn unlike(
     alloc: Global,
     folders: &[Folder],
     visits: &[Visit],
 ) -> Result<String, OutOfMemory> {
-    for folder in folders {
-        for (place, visit) in visits.iter().enumerate() {
-            let world = visited(alloc, folder.files, visit.request)?;
-            let part = first_unlike(alloc, &world, folder.files, visit)?;
-            if !part.is_empty() {
-                return Ok(format!(in alloc; "{}: {part} of request {place}", folder.name)?);
+    for pace in PACES {
+        for folder in folders {
+            for (place, visit) in visits.iter().enumerate() {
+                let world = visited(alloc, pace, folder.files, visit.request)?;
+                let part = first_unlike(alloc, &world, folder.files, visit)?;
+                if !part.is_empty() {
+                    return Ok(format!(in alloc;
+                        "{}, {pace:?}: {part} of request {place}",
+                        folder.name
+                    )?);
+                }
             }
         }
     }
@@ -59,27 +64,46 @@ pub(crate) fn unlike(
 
 /// A life over these files, in which a client says this request.
 #[tactic(auto, using(pp_shelf::proofs::OpeningLemmas::fresh_first))]
-fn visited(alloc: Global, files: &[File], request: &[u8]) -> Result<Box<MemWorld>, OutOfMemory> {
-    let script = script_of(alloc, request)?;
+fn visited(
+    alloc: Global,
+    pace: Pace,
+    files: &[File],
+    request: &[u8],
+) -> Result<Box<MemWorld>, OutOfMemory> {
+    let script = script_of(alloc, pace, request)?;
     let image = image_of(alloc, files)?;
     let mut world = boxed(alloc, MemWorld::new(alloc, script, image, Vec::new(alloc))?)?;
     let _ = run(alloc, &[], &mut *world);
     Ok(world)
 }
 
-fn script_of(alloc: Global, request: &[u8]) -> Result<Script, OutOfMemory> {
+fn script_of(alloc: Global, pace: Pace, request: &[u8]) -> Result<Script, OutOfMemory> {
     let mut cues = Vec::new(alloc);
-    let request = Octets::copy(alloc, request)?;
-    let answer = Octets::copy(alloc, ANSWER)?;
     cues.push(Cue::Tick(T)).map_err(AllocError::from)?;
     cues.push(Cue::Connect).map_err(AllocError::from)?;
-    cues.push(Cue::Say(1, request)).map_err(AllocError::from)?;
+    for piece in request.chunks(piece_len(pace, request)) {
+        let piece = Octets::copy(alloc, piece)?;
+        cues.push(Cue::Say(1, piece)).map_err(AllocError::from)?;
+    }
     cues.push(Cue::Reach(2)).map_err(AllocError::from)?;
-    cues.push(Cue::Answer(2, answer)).map_err(AllocError::from)?;
+    for piece in ANSWER.chunks(piece_len(pace, ANSWER)) {
+        let piece = Octets::copy(alloc, piece)?;
+        cues.push(Cue::Answer(2, piece)).map_err(AllocError::from)?;
+    }
     Ok(Script {
         cues,
         site: Vec::new(alloc),
     })
+}
+
+/// How much of a text comes at a time.
+pub(crate) fn piece_len(pace: Pace, text: &[u8]) -> usize
+    ensures { 0 < result }
+{
+    match pace {
+        Pace::Whole => text.len().max(1),
+        Pace::Bytewise => 1,
+    }
 }
 
 /// A folder with these files.
