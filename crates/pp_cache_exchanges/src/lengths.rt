@@ -1,4 +1,5 @@
 // The longest body that is stored: of 2^30 bytes. A longer one is relayed.
+use crate::saying::says_nothing;
 use pp_play::{Act, Exchange, Filed, GET, Part, Step, T, Wanted, unlike};
 use pp_world::Decision;
 use std::test::Fail;
@@ -84,6 +85,5 @@ const LENGTHS: &[Exchange<'static>] = &[
 
 #[test]
 fn a_body_of_2_to_the_30_is_stored_and_a_longer_one_relayed(rt: HostRuntime) -> Result<(), Fail> {
-    assert_eq!(rt; unlike(rt.alloc(), LENGTHS)?.as_str(), "");
-    Ok(())
+    says_nothing(&rt, unlike(rt.alloc(), LENGTHS))
 }

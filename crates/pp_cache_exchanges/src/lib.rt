@@ -66,6 +66,8 @@ mod crashes; // the machine stops behind each happening
 #[cfg(test)]
 mod failing; // each call that can fail fails once
 mod life; // a life of the program, and one more behind a crash
+#[cfg(test)]
+mod saying; // that nothing is said where all goes as wanted
 
 pub use course::{ALONE, AT_ONCE, COURSE, MAY_BE_SAID, MaySay, Reply};
 pub use life::{Life, first_life, next_life};

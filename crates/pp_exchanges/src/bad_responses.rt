@@ -1,5 +1,6 @@
 // Responses that are none, or bring nothing that can be kept. More of them stand in `gateways`.
 use crate::filled::{Filled, text_of};
+use crate::saying::says_nothing;
 use pp_play::{
     Act, Exchange, GET, PAGE_502, Pace, Part, REPLY, REPLY_HELD, RESPONSE, Step, T, Wanted, joined,
     unlike, unlike_at,
@@ -149,8 +150,7 @@ fn unlike_within(
 
 #[test]
 fn a_line_of_a_chunk_has_at_most_16_digits_and_4096_bytes(rt: HostRuntime) -> Result<(), Fail> {
-    assert_eq!(rt; unlike_chunks(rt.alloc(), CHUNKS)?.as_str(), "");
-    Ok(())
+    says_nothing(&rt, unlike_chunks(rt.alloc(), CHUNKS))
 }
 
 const RESPONSES: &[Exchange<'static>] = &[
@@ -188,8 +188,7 @@ const RESPONSES: &[Exchange<'static>] = &[
 
 #[test]
 fn a_response_that_is_none_changes_nothing(rt: HostRuntime) -> Result<(), Fail> {
-    assert_eq!(rt; unlike(rt.alloc(), RESPONSES)?.as_str(), "");
-    Ok(())
+    says_nothing(&rt, unlike(rt.alloc(), RESPONSES))
 }
 
 /// Two tags, so that neither names what came (RFC 2616, section 14.19).
@@ -221,6 +220,5 @@ const TAGS: &[Exchange<'static>] = &[Exchange {
 
 #[test]
 fn a_page_with_two_tags_is_passed_and_not_kept(rt: HostRuntime) -> Result<(), Fail> {
-    assert_eq!(rt; unlike(rt.alloc(), TAGS)?.as_str(), "");
-    Ok(())
+    says_nothing(&rt, unlike(rt.alloc(), TAGS))
 }

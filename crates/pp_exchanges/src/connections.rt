@@ -1,4 +1,5 @@
 // Whether a client's connection goes on (RFC 2616, sections 8.1.2, 14.10 and 19.6.2).
+use crate::saying::says_nothing;
 use pp_play::{
     ASK, Act, Exchange, GET, HEAD, PAGE_502, Part, REPLY, REPLY_HELD, RESPONSE, Step, Wanted,
     unlike,
@@ -102,6 +103,5 @@ const GOES_ON: &[Exchange<'static>] = &[
 
 #[test]
 fn a_connection_goes_on_as_the_request_wants(rt: HostRuntime) -> Result<(), Fail> {
-    assert_eq!(rt; unlike(rt.alloc(), GOES_ON)?.as_str(), "");
-    Ok(())
+    says_nothing(&rt, unlike(rt.alloc(), GOES_ON))
 }

@@ -1,4 +1,5 @@
 // Clients that close their writing half and wait for their replies (RFC 7230, section 6.6).
+use crate::saying::says_nothing;
 use pp_play::{
     ASK, ASK_B, Act, Exchange, GET, HEAD, HEAD_B, PASSED, Pace, Part, REPLY, REPLY_B, RESPONSE,
     Step, T, Wanted, unlike, unlike_at,
@@ -114,8 +115,7 @@ const ENDED: &[Exchange<'static>] = &[
 
 #[test]
 fn a_client_that_ends_gets_its_replies(rt: HostRuntime) -> Result<(), Fail> {
-    assert_eq!(rt; unlike(rt.alloc(), ENDED)?.as_str(), "");
-    Ok(())
+    says_nothing(&rt, unlike(rt.alloc(), ENDED))
 }
 
 const ENDED_IN_REPLY: &[Exchange<'static>] = &[
@@ -180,9 +180,5 @@ const ENDED_IN_REPLY: &[Exchange<'static>] = &[
 
 #[test]
 fn a_client_that_ends_in_its_reply_gets_the_rest(rt: HostRuntime) -> Result<(), Fail> {
-    assert_eq!(rt;
-        unlike_at(rt.alloc(), Pace::Whole, ENDED_IN_REPLY)?.as_str(),
-        ""
-    );
-    Ok(())
+    says_nothing(&rt, unlike_at(rt.alloc(), Pace::Whole, ENDED_IN_REPLY))
 }

@@ -1,4 +1,5 @@
 // Clients and origins that do nothing: nobody waits for ever. The times are ours.
+use crate::saying::says_nothing;
 use pp_play::{
     Act, Exchange, GET, HEAD, PAGE_502, PASSED, Part, REPLY, RESPONSE, Step, T, Wanted, unlike,
 };
@@ -67,8 +68,7 @@ const CLIENTS: &[Exchange<'static>] = &[
 
 #[test]
 fn a_client_that_does_nothing_is_cut(rt: HostRuntime) -> Result<(), Fail> {
-    assert_eq!(rt; unlike(rt.alloc(), CLIENTS)?.as_str(), "");
-    Ok(())
+    says_nothing(&rt, unlike(rt.alloc(), CLIENTS))
 }
 
 /// Its request is asked three times, a minute each.
@@ -302,6 +302,5 @@ const ORIGINS: &[Exchange<'static>] = &[
 
 #[test]
 fn an_origin_that_does_nothing_is_left(rt: HostRuntime) -> Result<(), Fail> {
-    assert_eq!(rt; unlike(rt.alloc(), ORIGINS)?.as_str(), "");
-    Ok(())
+    says_nothing(&rt, unlike(rt.alloc(), ORIGINS))
 }

@@ -3,6 +3,7 @@
 //
 // A client is lost by two breaks. Where the first fails a read, it counts as one that sends no more, and is answered what it
 // asked; the other fails the answer's writing.
+use crate::saying::says_nothing;
 use pp_play::{
     ASK, Act, Exchange, GET, HEAD, Pace, Part, REPLY, REPLY_HELD, RESPONSE, Step, T, Wanted, play,
     unlike,
@@ -12,6 +13,8 @@ use std::test::Fail;
 
 /// A request with a body.
 const PUT: &[u8] = b"PUT http://h/a HTTP/1.1\r\nContent-Length: 3\r\n\r\n";
+
+const LEFT: &[Step] = &[Step::Opened, Step::HungUp, Step::Shut, Step::Stopped];
 
 #[test]
 fn a_client_that_leaves_in_its_request_is_shut(rt: HostRuntime) -> Result<(), Fail> {
@@ -27,17 +30,17 @@ fn a_client_that_leaves_in_its_request_is_shut(rt: HostRuntime) -> Result<(), Fa
     acts.extend_from_slice(&[Act::Connect, Act::Say(0, GET)])?;
     let origin = last.saturating_add(1);
     acts.extend_from_slice(&[Act::Reach(origin), Act::Answer(origin, RESPONSE)])?;
-    let played = play(alloc, Pace::Whole, acts.as_slice())?;
-    let course = [Step::Opened, Step::HungUp, Step::Shut, Step::Stopped];
+    let mut wanted = Vec::new(alloc);
     for client in 1..last {
-        assert_eq!(rt;
-            played.course(client)?.as_slice(),
-            course.as_slice(),
-            "client {client}"
-        );
+        wanted.push(Wanted::Course(client, LEFT))?;
     }
-    assert_eq!(rt; played.said(last)?.as_slice(), REPLY);
-    Ok(())
+    wanted.push(Wanted::Said(last, &[Part::Text(REPLY)]))?;
+    let exchange = Exchange {
+        name: "clients that leave within a request",
+        acts: acts.as_slice(),
+        wanted: wanted.as_slice(),
+    };
+    says_nothing(&rt, unlike_at(alloc, Pace::Whole, &[exchange]))
 }
 
 #[test]
@@ -158,8 +161,7 @@ const WAITING: &[Exchange<'static>] = &[
 fn a_client_that_is_lost_while_it_waits_leaves_what_it_asked_to_others(
     rt: HostRuntime,
 ) -> Result<(), Fail> {
-    assert_eq!(rt; unlike(rt.alloc(), WAITING)?.as_str(), "");
-    Ok(())
+    says_nothing(&rt, unlike(rt.alloc(), WAITING))
 }
 
 /// A client that was lost within its request's body: it is shut at once.
@@ -264,6 +266,5 @@ const ASKING: &[Exchange<'static>] = &[
 fn a_client_that_is_lost_within_its_body_gives_its_connection_up(
     rt: HostRuntime,
 ) -> Result<(), Fail> {
-    assert_eq!(rt; unlike(rt.alloc(), ASKING)?.as_str(), "");
-    Ok(())
+    says_nothing(&rt, unlike(rt.alloc(), ASKING))
 }

@@ -66,3 +66,5 @@ mod exits; // the listener, and the end
 mod opened; // a run, and what it did
 #[cfg(test)]
 mod openings; // words and texts, and what comes of them
+#[cfg(test)]
+mod saying; // that nothing is said where all goes as wanted

@@ -1,4 +1,5 @@
 // Origins that are lost, and asked again (RFC 2616, section 8.1.4).
+use crate::saying::says_nothing;
 use pp_play::{
     ASK, ASK_B, Act, Exchange, GET, GET_B, HEAD, PAGE_502, Part, REPLY, REPLY_B, RESPONSE,
     RESPONSE_B, Step, T, Wanted, unlike,
@@ -111,8 +112,7 @@ const WITHIN_HEAD: &[Exchange<'static>] = &[
 
 #[test]
 fn what_is_lost_within_its_head_is_asked_again(rt: HostRuntime) -> Result<(), Fail> {
-    assert_eq!(rt; unlike(rt.alloc(), WITHIN_HEAD)?.as_str(), "");
-    Ok(())
+    says_nothing(&rt, unlike(rt.alloc(), WITHIN_HEAD))
 }
 
 const WITHIN_BODY: &[Exchange<'static>] = &[
@@ -321,6 +321,5 @@ const WITHIN_BODY: &[Exchange<'static>] = &[
 
 #[test]
 fn of_what_is_lost_within_its_body_the_rest_is_asked_for(rt: HostRuntime) -> Result<(), Fail> {
-    assert_eq!(rt; unlike(rt.alloc(), WITHIN_BODY)?.as_str(), "");
-    Ok(())
+    says_nothing(&rt, unlike(rt.alloc(), WITHIN_BODY))
 }

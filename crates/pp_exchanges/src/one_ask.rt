@@ -1,5 +1,6 @@
 // Connections to origins that are not for the next request, and how many a host has (RFC 2616, section 8.1; RFC 4559, section 6;
 // RFC 7230, section 3.3.3).
+use crate::saying::says_nothing;
 use pp_play::{
     ASK, ASK_B, Act, Exchange, GET, GET_B, Part, REPLY, REPLY_B, RESPONSE, RESPONSE_B, Step, T,
     Wanted, asking, unlike, unlike_with,
@@ -71,8 +72,7 @@ const CREDENTIALS: &[Exchange<'static>] = &[
 
 #[test]
 fn credentials_of_a_connection_are_not_followed_there(rt: HostRuntime) -> Result<(), Fail> {
-    assert_eq!(rt; unlike(rt.alloc(), CREDENTIALS)?.as_str(), "");
-    Ok(())
+    says_nothing(&rt, unlike(rt.alloc(), CREDENTIALS))
 }
 
 /// A plain request is answered so, and its connection closed.
@@ -151,8 +151,7 @@ const ENDS: &[Exchange<'static>] = &[
 
 #[test]
 fn a_response_whose_end_is_in_doubt_is_the_last(rt: HostRuntime) -> Result<(), Fail> {
-    assert_eq!(rt; unlike(rt.alloc(), ENDS)?.as_str(), "");
-    Ok(())
+    says_nothing(&rt, unlike(rt.alloc(), ENDS))
 }
 
 /// As the program is without a word.
@@ -180,8 +179,7 @@ const NOT_BEHIND: &[Exchange<'static>] = &[Exchange {
 
 #[test]
 fn no_ask_waits_behind_another_without_a_word(rt: HostRuntime) -> Result<(), Fail> {
-    assert_eq!(rt; unlike_with(rt.alloc(), NO_WORDS, NOT_BEHIND)?.as_str(), "");
-    Ok(())
+    says_nothing(&rt, unlike_with(rt.alloc(), NO_WORDS, NOT_BEHIND))
 }
 
 #[test]
@@ -195,6 +193,5 @@ fn a_host_has_at_most_eight_connections_without_a_word(rt: HostRuntime) -> Resul
             Wanted::Count(Step::Dialled(80), 8),
         ],
     }];
-    assert_eq!(rt; unlike_with(rt.alloc(), NO_WORDS, &exchange)?.as_str(), "");
-    Ok(())
+    says_nothing(&rt, unlike_with(rt.alloc(), NO_WORDS, &exchange))
 }

@@ -1,7 +1,73 @@
 // Words and texts, and what comes of them.
 use crate::opened::open;
+use crate::saying::says_nothing;
 use pp_run::Exit;
+use pp_text::OutOfMemory;
+use std::alloc::Global;
 use std::test::Fail;
+
+/// How the program is started: the words of a line, the text of the file, and which call fails.
+#[derive(Clone, Copy)]
+struct Opening<'a> {
+    line: &'a str,
+    text: &'a [u8],
+    failing: Option<u64>,
+}
+
+/// How it ends.
+#[derive(Clone, Copy)]
+struct End {
+    exit: Exit,
+    status: u8,
+}
+
+const SERVED: End = End {
+    exit: Exit::Served,
+    status: 0,
+};
+
+const USED_WRONGLY: End = End {
+    exit: Exit::Usage,
+    status: 2,
+};
+
+const WITHOUT_DISK: End = End {
+    exit: Exit::NoDisk,
+    status: 4,
+};
+
+const WITHOUT_LISTENER: End = End {
+    exit: Exit::NoListener,
+    status: 5,
+};
+
+const WITHOUT_CONFIG: End = End {
+    exit: Exit::NoConfig,
+    status: 6,
+};
+
+/// How it ends otherwise, or goes otherwise than by these parts of its course: nothing is said where it does not.
+fn unlike(
+    alloc: Global,
+    opening: Opening<'_>,
+    end: End,
+    course: &[&str],
+) -> Result<String, OutOfMemory> {
+    let line = opening.line;
+    let came = open(alloc, line, opening.text, opening.failing)?;
+    if came.exit != end.exit || came.exit.status() != end.status {
+        return Ok(format!(in alloc; "{line}: it ends with {:?}", came.exit)?);
+    }
+    let mut wanted = String::new(alloc);
+    for part in course {
+        wanted.push_str(part)?;
+    }
+    if came.course.as_slice() != wanted.as_bytes() {
+        let came = String::from_utf8_lossy(alloc, came.course.as_slice())?;
+        return Ok(format!(in alloc; "{line}: {came:?}")?);
+    }
+    Ok(String::new(alloc))
+}
 
 const SERVES: &str = "waits\nticks\nwaits\nticks\nwaits\nstops\n";
 
@@ -52,11 +118,12 @@ fn words_and_file_say_where_it_listens(rt: HostRuntime) -> Result<(), Fail> {
         ),
     ];
     for (line, text, wanted) in cases {
-        let came = open(rt.alloc(), line, text.as_bytes(), None)?;
-        assert_eq!(rt; came.exit, Exit::Served, "{line}");
-        let (opening, serving) = came.course.split_at(wanted.len().min(came.course.len()));
-        assert_eq!(rt; opening, wanted.as_bytes(), "{line}");
-        assert_eq!(rt; serving, SERVES.as_bytes(), "{line}");
+        let opening = Opening {
+            line,
+            text: text.as_bytes(),
+            failing: None,
+        };
+        says_nothing(&rt, unlike(rt.alloc(), opening, SERVED, &[wanted, SERVES]))?;
     }
     Ok(())
 }
@@ -74,9 +141,12 @@ fn no_more_turns_are_made_than_the_most(rt: HostRuntime) -> Result<(), Fail> {
         ),
     ];
     for (line, wanted) in cases {
-        let came = open(rt.alloc(), line, b"", None)?;
-        assert_eq!(rt; came.exit, Exit::Served, "{line}");
-        assert_eq!(rt; came.course.as_slice(), wanted.as_bytes(), "{line}");
+        let opening = Opening {
+            line,
+            text: b"",
+            failing: None,
+        };
+        says_nothing(&rt, unlike(rt.alloc(), opening, SERVED, &[wanted]))?;
     }
     Ok(())
 }
@@ -102,10 +172,12 @@ fn words_without_a_reading_are_refused_before_anything_is_read(
         "-h",
     ];
     for line in lines {
-        let came = open(rt.alloc(), line, b"proxyPort=9", None)?;
-        assert_eq!(rt; came.exit, Exit::Usage, "{line}");
-        assert_eq!(rt; came.exit.status(), 2, "{line}");
-        assert_eq!(rt; came.course.as_slice(), USAGE.as_bytes(), "{line}");
+        let opening = Opening {
+            line,
+            text: b"proxyPort=9",
+            failing: None,
+        };
+        says_nothing(&rt, unlike(rt.alloc(), opening, USED_WRONGLY, &[USAGE]))?;
     }
     Ok(())
 }
@@ -177,10 +249,12 @@ const NO_CONFIGS: [(&str, &str, Option<u64>, &str); 10] = [
 #[test]
 fn a_configuration_that_says_nothing_ends_it_with_its_line(rt: HostRuntime) -> Result<(), Fail> {
     for (line, text, failing, wanted) in NO_CONFIGS {
-        let came = open(rt.alloc(), line, text.as_bytes(), failing)?;
-        assert_eq!(rt; came.exit, Exit::NoConfig, "{line}");
-        assert_eq!(rt; came.exit.status(), 6, "{line}");
-        assert_eq!(rt; came.course.as_slice(), wanted.as_bytes(), "{line}");
+        let opening = Opening {
+            line,
+            text: text.as_bytes(),
+            failing,
+        };
+        says_nothing(&rt, unlike(rt.alloc(), opening, WITHOUT_CONFIG, &[wanted]))?;
     }
     Ok(())
 }
@@ -189,13 +263,20 @@ fn a_configuration_that_says_nothing_ends_it_with_its_line(rt: HostRuntime) -> R
 fn a_text_above_65536_bytes_is_too_long(rt: HostRuntime) -> Result<(), Fail> {
     let alloc = rt.alloc();
     let letters = vec![in alloc; b'#'; 65_537]?;
-    let longest = open(alloc, "-c f", &letters[1..], None)?;
-    assert_eq!(rt; longest.exit, Exit::Served);
-    let longer = open(alloc, "-c f", letters.as_slice(), None)?;
-    assert_eq!(rt; longer.exit, Exit::NoConfig);
-    let line = b"reads f\nprints polipo: the configuration is too long\n\n";
-    assert_eq!(rt; longer.course.as_slice(), line.as_slice());
-    Ok(())
+    let longest = Opening {
+        line: "-c f",
+        text: &letters[1..],
+        failing: None,
+    };
+    let listens = "reads f\nuses polipo-cache\nlists it\nlistens on 8123\n";
+    says_nothing(&rt, unlike(alloc, longest, SERVED, &[listens, SERVES]))?;
+    let longer = Opening {
+        line: "-c f",
+        text: letters.as_slice(),
+        failing: None,
+    };
+    let prints = "reads f\nprints polipo: the configuration is too long\n\n";
+    says_nothing(&rt, unlike(alloc, longer, WITHOUT_CONFIG, &[prints]))
 }
 
 #[test]
@@ -213,10 +294,12 @@ fn without_its_folder_it_ends(rt: HostRuntime) -> Result<(), Fail> {
         ),
     ];
     for (line, failing, wanted) in cases {
-        let came = open(rt.alloc(), line, b"proxyPort=7", Some(failing))?;
-        assert_eq!(rt; came.exit, Exit::NoDisk, "{line}");
-        assert_eq!(rt; came.exit.status(), 4, "{line}");
-        assert_eq!(rt; came.course.as_slice(), wanted.as_bytes(), "{line}");
+        let opening = Opening {
+            line,
+            text: b"proxyPort=7",
+            failing: Some(failing),
+        };
+        says_nothing(&rt, unlike(rt.alloc(), opening, WITHOUT_DISK, &[wanted]))?;
     }
     Ok(())
 }
@@ -241,10 +324,15 @@ fn without_its_port_it_ends(rt: HostRuntime) -> Result<(), Fail> {
         ),
     ];
     for (line, failing, wanted) in cases {
-        let came = open(rt.alloc(), line, b"proxyPort=7", Some(failing))?;
-        assert_eq!(rt; came.exit, Exit::NoListener, "{line}");
-        assert_eq!(rt; came.exit.status(), 5, "{line}");
-        assert_eq!(rt; came.course.as_slice(), wanted.as_bytes(), "{line}");
+        let opening = Opening {
+            line,
+            text: b"proxyPort=7",
+            failing: Some(failing),
+        };
+        says_nothing(
+            &rt,
+            unlike(rt.alloc(), opening, WITHOUT_LISTENER, &[wanted]),
+        )?;
     }
     Ok(())
 }

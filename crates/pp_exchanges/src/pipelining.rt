@@ -1,4 +1,5 @@
 // Asks behind one another on a connection (RFC 2616, sections 8.1.2.2 and 8.1.4).
+use crate::saying::says_nothing;
 use pp_play::{
     ASK, ASK_B, Act, Exchange, GET, GET_B, PAGE_502, Part, REPLY, RESPONSE, Step, T, Wanted,
     unlike, unlike_with,
@@ -123,8 +124,7 @@ const BEHIND: &[Exchange<'static>] = &[
 
 #[test]
 fn asks_go_behind_one_another_where_no_connection_is_free(rt: HostRuntime) -> Result<(), Fail> {
-    assert_eq!(rt; unlike(rt.alloc(), BEHIND)?.as_str(), "");
-    Ok(())
+    says_nothing(&rt, unlike(rt.alloc(), BEHIND))
 }
 
 /// A host has one connection, and asks go behind one another on it.
@@ -195,9 +195,5 @@ const GIVEN_UP: &[Exchange<'static>] = &[
 
 #[test]
 fn those_behind_one_that_is_given_up_are_asked_again(rt: HostRuntime) -> Result<(), Fail> {
-    assert_eq!(rt;
-        unlike_with(rt.alloc(), ONE_CONNECTION, GIVEN_UP)?.as_str(),
-        ""
-    );
-    Ok(())
+    says_nothing(&rt, unlike_with(rt.alloc(), ONE_CONNECTION, GIVEN_UP))
 }
