@@ -6,7 +6,7 @@
 use crate::saying::says_nothing;
 use pp_play::{
     ASK, Act, Exchange, GET, HEAD, Pace, Part, REPLY, REPLY_HELD, RESPONSE, Step, T, Wanted, play,
-    unlike,
+    unlike, unlike_at,
 };
 use pp_world::Decision;
 use std::test::Fail;
