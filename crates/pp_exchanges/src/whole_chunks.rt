@@ -1,6 +1,6 @@
 // Whole logs, happening by happening, of pages of several chunks: they are kept in runs, a crash comes, or another version does.
-use crate::saying::says_nothing;
 use crate::lines::{Line, ONE, TWO, Told, unlike};
+use crate::saying::says_nothing;
 use crate::whole_log::{ASKED, ASKED_LINES, DRAFTED, STOPPED};
 use pp_play::{Act, Op, Pace, Step, T};
 use pp_world::{Cause, Decision};

@@ -1,6 +1,6 @@
 // Whole logs, happening by happening, through a crash: what is kept of a page, and what of one that was being kept.
-use crate::saying::says_nothing;
 use crate::lines::{Line, ONE, Told, unlike};
+use crate::saying::says_nothing;
 use crate::whole_log::{
     ANSWERED, ASKED, ASKED_LINES, BUT_LAST, DRAFTED, FIRST_BYTE, GOT, SAID, SAID_LAST, SEALED,
     STOPPED, WRITTEN,

@@ -1,6 +1,6 @@
 // Whole logs, happening by happening, of a page that is fetched.
-use crate::saying::says_nothing;
 use crate::lines::{Line, ONE, SIXTEEN, Told, unlike};
+use crate::saying::says_nothing;
 use pp_play::{ASK, Act, GET, HEAD, Op, Pace, REPLY, RESPONSE, Step, T};
 use pp_world::Decision;
 use std::test::Fail;
