@@ -1,9 +1,7 @@
 // Followers of a body, each stopped before a chunk of it, and the chunks that leave memory where more comes than fits.
-use crate::folders::{asked_in, piece_len};
+use crate::folders::asked_in;
 use crate::lengths::LONGEST;
-use pp_play::{
-    ASK, ASK_B, Act, Fit, GET, GET_B, PACES, Pace, Part, Played, T, fit_of, joined, play_with,
-};
+use pp_play::{ASK, ASK_B, Act, Fit, GET, GET_B, Pace, Part, Played, T, fit_of, joined, play_with};
 use pp_text::OutOfMemory;
 use pp_world::{Happening, Remark};
 use std::alloc::{AllocError, Global};
@@ -34,22 +32,14 @@ pub(crate) struct Run {
 
 const CHUNK_LEN: usize = 4_096;
 
-/// Where one of these goes otherwise, at either pace: nothing is said where none does. Byte by byte come the heads, the requests for
-/// both pages, the last chunk of page /b, and what is asked behind it; the crowd's requests and the other chunks, which are
-/// thousands, come whole at both.
+/// Where one of these goes otherwise: nothing is said where none does.
 pub(crate) fn unlike(alloc: Global, crowds: &[Crowd]) -> Result<String, OutOfMemory> {
-    for pace in PACES {
-        for crowd in crowds {
-            let played = played(alloc, pace, crowd)?;
-            let part = first_unlike(alloc, crowd, &played)?;
-            if !part.is_empty() {
-                let left = evicted(alloc, played.log())?;
-                return Ok(format!(in alloc;
-                    "{}, {pace:?}: {part}, {:?} left",
-                    crowd.name,
-                    left.as_slice()
-                )?);
-            }
+    for crowd in crowds {
+        let played = played(alloc, crowd)?;
+        let part = first_unlike(alloc, crowd, &played)?;
+        if !part.is_empty() {
+            let left = evicted(alloc, played.log())?;
+            return Ok(format!(in alloc; "{}: {part}, {:?} left", crowd.name, left.as_slice())?);
         }
     }
     Ok(String::new(alloc))
@@ -58,17 +48,19 @@ pub(crate) fn unlike(alloc: Global, crowds: &[Crowd]) -> Result<String, OutOfMem
 /// The clients of page /a have the numbers from this one on.
 const FIRST: u64 = 3;
 
-fn played(alloc: Global, pace: Pace, crowd: &Crowd) -> Result<Played, OutOfMemory> {
+fn played(alloc: Global, crowd: &Crowd) -> Result<Played, OutOfMemory> {
     let requests = requests_of(alloc, crowd)?;
     let anew = request_of(alloc, first_left(crowd))?;
-    let last_chunk = vec![in alloc; b'b'; CHUNK_LEN]?;
     let beyond = FIRST.saturating_add(crowd.followers);
     let mut acts = Vec::new(alloc);
-    acts.extend_from_slice(&[Act::Tick(T), Act::Connect])?;
-    put_said(pace, 1, GET, &mut acts)?;
-    acts.extend_from_slice(&[Act::Reach(2)])?;
-    put_answered(pace, 2, LONGEST, &mut acts)?;
-    acts.extend_from_slice(&[Act::Fill(2, b'a', crowd.chunks.saturating_mul(CHUNK_LEN))])?;
+    acts.extend_from_slice(&[
+        Act::Tick(T),
+        Act::Connect,
+        Act::Say(1, GET),
+        Act::Reach(2),
+        Act::Answer(2, LONGEST),
+        Act::Fill(2, b'a', crowd.chunks.saturating_mul(CHUNK_LEN)),
+    ])?;
     for request in requests.iter() {
         acts.extend_from_slice(&[
             Act::Connect,
@@ -77,48 +69,26 @@ fn played(alloc: Global, pace: Pace, crowd: &Crowd) -> Result<Played, OutOfMemor
         ])?;
     }
     let origin = beyond.saturating_add(1);
-    let before_last = crowd.more.saturating_sub(1).saturating_mul(CHUNK_LEN);
-    acts.extend_from_slice(&[Act::Connect])?;
-    put_said(pace, 0, GET_B, &mut acts)?;
-    acts.extend_from_slice(&[Act::Reach(origin)])?;
-    put_answered(pace, origin, LONGEST, &mut acts)?;
-    acts.extend_from_slice(&[Act::Fill(origin, b'b', before_last)])?;
-    put_answered(pace, origin, last_chunk.as_slice(), &mut acts)?;
+    acts.extend_from_slice(&[
+        Act::Connect,
+        Act::Say(0, GET_B),
+        Act::Reach(origin),
+        Act::Answer(origin, LONGEST),
+        Act::Fill(origin, b'b', crowd.more.saturating_mul(CHUNK_LEN)),
+    ])?;
     for follower in FIRST..beyond {
-        acts.extend_from_slice(&[Act::Window(follower, u64::MAX)])?;
+        acts.push(Act::Window(follower, u64::MAX))
+            .map_err(AllocError::from)?;
     }
     if let Some(first) = requests.first() {
-        put_said(pace, FIRST, first.as_bytes(), &mut acts)?;
+        acts.push(Act::Say(FIRST, first.as_bytes()))
+            .map_err(AllocError::from)?;
     }
-    put_said(pace, beyond.saturating_sub(1), anew.as_bytes(), &mut acts)?;
-    acts.extend_from_slice(&[Act::Reach(beyond.saturating_add(2))])?;
+    acts.extend_from_slice(&[
+        Act::Say(beyond.saturating_sub(1), anew.as_bytes()),
+        Act::Reach(beyond.saturating_add(2)),
+    ])?;
     play_with(alloc, crowd.words, Pace::Whole, acts.as_slice(), &[])
-}
-
-/// Adds what this client says.
-fn put_said<'a>(
-    pace: Pace,
-    c: u64,
-    text: &'a [u8],
-    acts: &mut Vec<Act<'a>>,
-) -> Result<(), OutOfMemory> {
-    for piece in text.chunks(piece_len(pace, text)) {
-        acts.push(Act::Say(c, piece)).map_err(AllocError::from)?;
-    }
-    Ok(())
-}
-
-/// Adds what this origin answers.
-fn put_answered<'a>(
-    pace: Pace,
-    k: u64,
-    text: &'a [u8],
-    acts: &mut Vec<Act<'a>>,
-) -> Result<(), OutOfMemory> {
-    for piece in text.chunks(piece_len(pace, text)) {
-        acts.push(Act::Answer(k, piece)).map_err(AllocError::from)?;
-    }
-    Ok(())
 }
 
 /// The chunk that this follower asks for.

@@ -1,12 +1,10 @@
 // What is kept on the disk, and when.
 use crate::saying::says_nothing;
 use pp_play::{
-    Act, Exchange, Filed, GET, HEAD, Op, Pace, Part, REPLY, RESPONSE, Step, T, Wanted, joined_acts,
-    unlike_by, unlike_with,
+    Act, Exchange, Filed, GET, HEAD, Op, Pace, Part, REPLY, RESPONSE, Step, T, Wanted, unlike_by,
+    unlike_with,
 };
-use pp_text::OutOfMemory;
 use pp_world::{Cause, Decision};
-use std::alloc::Global;
 use std::test::Fail;
 
 /// Words by which each chunk is kept alone, or two at a time.
@@ -323,118 +321,126 @@ fn the_entry_of_a_version_that_was_replaced_goes(rt: HostRuntime) -> Result<(), 
     says_nothing(&rt, unlike_with(rt.alloc(), ONE, REPLACED))
 }
 
-/// An exchange in which one call fails: its number depends on the pace, since each byte alone is a read of its own.
-struct Failing {
-    numbers: &'static [(Pace, u64)],
-    exchange: Exchange<'static>,
-}
-
-/// Plays these, and says what was not as wanted, or nothing.
-fn unlike_failing(alloc: Global, all: &[Failing]) -> Result<String, OutOfMemory> {
-    for failing in all {
-        for (pace, number) in failing.numbers {
-            let numbers = [*number];
-            let fails = [Act::Failing(&numbers)];
-            let acts = joined_acts(alloc, &[&fails, failing.exchange.acts])?;
-            let exchange = Exchange {
-                name: failing.exchange.name,
-                acts: acts.as_slice(),
-                wanted: failing.exchange.wanted,
-            };
-            let said = unlike_by(alloc, ONE, *pace, &[exchange])?;
-            if !said.is_empty() {
-                return Ok(format!(in alloc; "call {number}, {pace:?}: {said}")?);
-            }
-        }
-    }
-    Ok(String::new(alloc))
-}
-
 /// Calls: list, listen, read, dial, ask, read, draft, sync, publish, write, sync, write; where the head comes alone, one more
 /// read before the draft.
-const FAILING: &[Failing] = &[
-    Failing {
-        numbers: &[(Pace::Whole, 12), (Pace::Bytewise, 168)],
-        exchange: Exchange {
-            name: "where a gate cannot be written, the name is closed",
-            acts: &[
-                Act::Tick(T),
-                Act::Connect,
-                Act::Say(1, GET),
-                Act::Reach(2),
-                Act::Answer(2, RESPONSE),
-                Act::Tick(T + 61),
-                Act::Connect,
-                Act::Say(3, GET),
-                Act::Reach(4),
-                Act::Answer(
-                    4,
-                    b"HTTP/1.1 200 OK\r\nETag: \"y\"\r\nContent-Length: 3\r\n\r\nnew",
-                ),
-            ],
-            wanted: &[
-                Wanted::Said(1, &[Part::Text(REPLY)]),
-                Wanted::Said(
-                    3,
-                    &[Part::Text(
-                        b"HTTP/1.1 200 OK\r\netag: \"y\"\r\ndate: Sun, 06 Nov 1994 08:50:38 GMT\r\nvia: 1.1 polipo\r\ncontent-length: 3\r\nconnection: keep-alive\r\n\r\nnew",
-                    )],
-                ),
-                Wanted::Filed(&[
-                    Filed::Woke(false),
-                    Filed::Did(Op::Draft(12_288)),
-                    Filed::Did(Op::SyncDraft),
-                    Filed::Did(Op::Publish),
-                    Filed::Did(Op::Write(12_288, 5)),
-                    Filed::Did(Op::Sync),
-                    Filed::Failed(Op::Write(8_192, 1)),
-                    Filed::Gone,
-                ]),
-            ],
-        },
-    },
-    Failing {
-        numbers: &[(Pace::Whole, 8)],
-        exchange: Exchange {
-            name: "where it cannot be drafted, it is drafted again behind a tick, once more of it comes",
-            acts: &[
-                Act::Tick(T),
-                Act::Connect,
-                Act::Say(1, GET),
-                Act::Reach(2),
-                Act::Answer(2, HEAD_3),
-                Act::Fill(2, b'a', 4_096),
-                Act::Fill(2, b'b', 4_096),
-                Act::Tick(T + 1),
-                Act::Fill(2, b'c', 4_096),
-            ],
-            wanted: &[Wanted::Filed(&[
+const FAILING: &[Exchange<'static>] = &[
+    Exchange {
+        name: "where a gate cannot be written, the name is closed",
+        acts: &[
+            Act::Failing(&[12]),
+            Act::Tick(T),
+            Act::Connect,
+            Act::Say(1, GET),
+            Act::Reach(2),
+            Act::Answer(2, RESPONSE),
+            Act::Tick(T + 61),
+            Act::Connect,
+            Act::Say(3, GET),
+            Act::Reach(4),
+            Act::Answer(
+                4,
+                b"HTTP/1.1 200 OK\r\nETag: \"y\"\r\nContent-Length: 3\r\n\r\nnew",
+            ),
+        ],
+        wanted: &[
+            Wanted::Said(1, &[Part::Text(REPLY)]),
+            Wanted::Taken(3, Decision::Hit(0, 3)),
+            Wanted::Filed(&[
                 Filed::Woke(false),
-                Filed::Failed(Op::Draft(12_288)),
                 Filed::Did(Op::Draft(12_288)),
                 Filed::Did(Op::SyncDraft),
                 Filed::Did(Op::Publish),
-                Filed::Did(Op::Write(12_288, 4_096)),
+                Filed::Did(Op::Write(12_288, 5)),
                 Filed::Did(Op::Sync),
-                Filed::Did(Op::Write(8_192, 1)),
-                Filed::Did(Op::Sync),
-                Filed::Kept(12_288, 4_096),
-                Filed::Did(Op::Write(16_384, 4_096)),
-                Filed::Did(Op::Sync),
-                Filed::Did(Op::Write(8_193, 1)),
-                Filed::Did(Op::Sync),
-                Filed::Kept(12_288, 8_192),
-                Filed::Did(Op::Write(20_480, 4_096)),
-                Filed::Did(Op::Sync),
-                Filed::Did(Op::Write(8_194, 1)),
-                Filed::Did(Op::Sync),
-                Filed::Kept(12_288, 12_288),
-            ])],
-        },
+                Filed::Failed(Op::Write(8_192, 1)),
+                Filed::Gone,
+            ]),
+        ],
+    },
+    Exchange {
+        name: "where it cannot be drafted, it is drafted again behind a tick, once more of it comes",
+        acts: &[
+            Act::Failing(&[8]),
+            Act::Tick(T),
+            Act::Connect,
+            Act::Say(1, GET),
+            Act::Reach(2),
+            Act::Answer(2, HEAD_3),
+            Act::Fill(2, b'a', 4_096),
+            Act::Fill(2, b'b', 4_096),
+            Act::Tick(T + 1),
+            Act::Fill(2, b'c', 4_096),
+        ],
+        wanted: &[Wanted::Filed(&[
+            Filed::Woke(false),
+            Filed::Failed(Op::Draft(12_288)),
+            Filed::Did(Op::Draft(12_288)),
+            Filed::Did(Op::SyncDraft),
+            Filed::Did(Op::Publish),
+            Filed::Did(Op::Write(12_288, 4_096)),
+            Filed::Did(Op::Sync),
+            Filed::Did(Op::Write(8_192, 1)),
+            Filed::Did(Op::Sync),
+            Filed::Kept(12_288, 4_096),
+            Filed::Did(Op::Write(16_384, 4_096)),
+            Filed::Did(Op::Sync),
+            Filed::Did(Op::Write(8_193, 1)),
+            Filed::Did(Op::Sync),
+            Filed::Kept(12_288, 8_192),
+            Filed::Did(Op::Write(20_480, 4_096)),
+            Filed::Did(Op::Sync),
+            Filed::Did(Op::Write(8_194, 1)),
+            Filed::Did(Op::Sync),
+            Filed::Kept(12_288, 12_288),
+        ])],
     },
 ];
 
+/// The first of these where each byte comes alone, and is a read of its own.
+const FAILING_BYTEWISE: &[Exchange<'static>] = &[Exchange {
+    name: "where a gate cannot be written, the name is closed",
+    acts: &[
+        Act::Failing(&[168]),
+        Act::Tick(T),
+        Act::Connect,
+        Act::Say(1, GET),
+        Act::Reach(2),
+        Act::Answer(2, RESPONSE),
+        Act::Tick(T + 61),
+        Act::Connect,
+        Act::Say(3, GET),
+        Act::Reach(4),
+        Act::Answer(
+            4,
+            b"HTTP/1.1 200 OK\r\nETag: \"y\"\r\nContent-Length: 3\r\n\r\nnew",
+        ),
+    ],
+    wanted: &[
+        Wanted::Said(1, &[Part::Text(REPLY)]),
+        Wanted::Said(
+            3,
+            &[Part::Text(
+                b"HTTP/1.1 200 OK\r\netag: \"y\"\r\ndate: Sun, 06 Nov 1994 08:50:38 GMT\r\nvia: 1.1 polipo\r\ncontent-length: 3\r\nconnection: keep-alive\r\n\r\nnew",
+            )],
+        ),
+        Wanted::Filed(&[
+            Filed::Woke(false),
+            Filed::Did(Op::Draft(12_288)),
+            Filed::Did(Op::SyncDraft),
+            Filed::Did(Op::Publish),
+            Filed::Did(Op::Write(12_288, 5)),
+            Filed::Did(Op::Sync),
+            Filed::Failed(Op::Write(8_192, 1)),
+            Filed::Gone,
+        ]),
+    ],
+}];
+
 #[test]
 fn what_the_disk_cannot_do_no_client_sees(rt: HostRuntime) -> Result<(), Fail> {
-    says_nothing(&rt, unlike_failing(rt.alloc(), FAILING))
+    says_nothing(&rt, unlike_by(rt.alloc(), ONE, Pace::Whole, FAILING))?;
+    says_nothing(
+        &rt,
+        unlike_by(rt.alloc(), ONE, Pace::Bytewise, FAILING_BYTEWISE),
+    )
 }
