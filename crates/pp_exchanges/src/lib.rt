@@ -12,10 +12,16 @@
 #[cfg(test)]
 mod framing; // responses however they are delimited
 #[cfg(test)]
+mod lines; // a log as it is written down, line by line
+#[cfg(test)]
 mod methods; // requests of any method, with bodies
 #[cfg(test)]
 mod refusals; // requests that are refused with a page
 #[cfg(test)]
 mod requests; // plain requests, and their replies
 #[cfg(test)]
-mod whole_log; // a log, happening by happening
+mod whole_chunks; // logs, happening by happening, of pages of several chunks
+#[cfg(test)]
+mod whole_lives; // such logs through a crash
+#[cfg(test)]
+mod whole_log; // and of a page that is fetched
