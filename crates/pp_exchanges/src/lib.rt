@@ -20,8 +20,4 @@ mod refusals; // requests that are refused with a page
 #[cfg(test)]
 mod requests; // plain requests, and their replies
 #[cfg(test)]
-mod whole_chunks; // logs, happening by happening, of pages of several chunks
-#[cfg(test)]
-mod whole_lives; // such logs through a crash
-#[cfg(test)]
-mod whole_log; // and of a page that is fetched
+mod whole_log; // logs, happening by happening, of a page that is fetched
