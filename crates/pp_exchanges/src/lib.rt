@@ -20,6 +20,8 @@ mod refusals; // requests that are refused with a page
 #[cfg(test)]
 mod requests; // plain requests, and their replies
 #[cfg(test)]
+mod whole_chunks; // whole logs of pages of several chunks
+#[cfg(test)]
 mod whole_lives; // whole logs through a crash
 #[cfg(test)]
 mod whole_log; // logs, happening by happening, of a page that is fetched
