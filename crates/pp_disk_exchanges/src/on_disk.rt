@@ -1,7 +1,7 @@
 // What is kept on the disk, and when.
 use pp_play::{
-    Act, Exchange, Filed, GET, HEAD, Op, Pace, Part, REPLY, RESPONSE, Step, T, Wanted, joined_acts,
-    unlike_by, unlike_with,
+    Act, Exchange, Filed, GET, HEAD, Op, Pace, Part, REPLY, RESPONSE, Step, T, Wanted, unlike_by,
+    unlike_with,
 };
 use pp_text::OutOfMemory;
 use pp_world::{Cause, Decision};
@@ -332,17 +332,16 @@ fn the_entry_of_a_version_that_was_replaced_goes(rt: HostRuntime) -> Result<(), 
 
 /// An exchange in which one call fails: its number depends on the pace, since each byte alone is a read of its own.
 struct Failing {
-    numbers: &'static [(Pace, u64)],
+    fails: &'static [(Pace, &'static [Act<'static>])],
     exchange: Exchange<'static>,
 }
 
 /// Plays these, and says what was not as wanted, or nothing.
 fn unlike_failing(alloc: Global, all: &[Failing]) -> Result<String, OutOfMemory> {
     for failing in all {
-        for (pace, number) in failing.numbers {
-            let numbers = [*number];
-            let fails = [Act::Failing(&numbers)];
-            let acts = joined_acts(alloc, &[&fails, failing.exchange.acts])?;
+        for (pace, fails) in failing.fails {
+            let mut acts = Vec::from_slice(alloc, fails)?;
+            acts.extend_from_slice(failing.exchange.acts)?;
             let exchange = Exchange {
                 name: failing.exchange.name,
                 acts: acts.as_slice(),
@@ -350,7 +349,7 @@ fn unlike_failing(alloc: Global, all: &[Failing]) -> Result<String, OutOfMemory>
             };
             let said = unlike_by(alloc, ONE, *pace, &[exchange])?;
             if !said.is_empty() {
-                return Ok(format!(in alloc; "call {number}, {pace:?}: {said}")?);
+                return Ok(format!(in alloc; "{fails:?}, {pace:?}: {said}")?);
             }
         }
     }
@@ -361,7 +360,10 @@ fn unlike_failing(alloc: Global, all: &[Failing]) -> Result<String, OutOfMemory>
 /// read before the draft.
 const FAILING: &[Failing] = &[
     Failing {
-        numbers: &[(Pace::Whole, 12), (Pace::Bytewise, 168)],
+        fails: &[
+            (Pace::Whole, &[Act::Failing(&[12])]),
+            (Pace::Bytewise, &[Act::Failing(&[168])]),
+        ],
         exchange: Exchange {
             name: "where a gate cannot be written, the name is closed",
             acts: &[
@@ -401,7 +403,7 @@ const FAILING: &[Failing] = &[
         },
     },
     Failing {
-        numbers: &[(Pace::Whole, 8)],
+        fails: &[(Pace::Whole, &[Act::Failing(&[8])])],
         exchange: Exchange {
             name: "where it cannot be drafted, it is drafted again behind a tick, once more of it comes",
             acts: &[

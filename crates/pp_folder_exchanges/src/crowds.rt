@@ -64,11 +64,15 @@ fn played(alloc: Global, pace: Pace, crowd: &Crowd) -> Result<Played, OutOfMemor
     let last_chunk = vec![in alloc; b'b'; CHUNK_LEN]?;
     let beyond = FIRST.saturating_add(crowd.followers);
     let mut acts = Vec::new(alloc);
-    acts.extend_from_slice(&[Act::Tick(T), Act::Connect])?;
-    put_said(pace, 1, GET, &mut acts)?;
-    acts.extend_from_slice(&[Act::Reach(2)])?;
-    put_answered(pace, 2, LONGEST, &mut acts)?;
-    acts.extend_from_slice(&[Act::Fill(2, b'a', crowd.chunks.saturating_mul(CHUNK_LEN))])?;
+    acts.extend_from_slice(&[
+        Act::Tick(T),
+        Act::Connect,
+        Act::Say(1, GET),
+        Act::Reach(2),
+        Act::Answer(2, LONGEST),
+        Act::Fill(2, b'a', crowd.chunks.saturating_mul(CHUNK_LEN)),
+    ])?;
+    let page_a = acts.len();
     for request in requests.iter() {
         acts.extend_from_slice(&[
             Act::Connect,
@@ -76,47 +80,66 @@ fn played(alloc: Global, pace: Pace, crowd: &Crowd) -> Result<Played, OutOfMemor
             Act::Say(0, request.as_bytes()),
         ])?;
     }
+    let followers = acts.len();
     let origin = beyond.saturating_add(1);
     let before_last = crowd.more.saturating_sub(1).saturating_mul(CHUNK_LEN);
-    acts.extend_from_slice(&[Act::Connect])?;
-    put_said(pace, 0, GET_B, &mut acts)?;
-    acts.extend_from_slice(&[Act::Reach(origin)])?;
-    put_answered(pace, origin, LONGEST, &mut acts)?;
-    acts.extend_from_slice(&[Act::Fill(origin, b'b', before_last)])?;
-    put_answered(pace, origin, last_chunk.as_slice(), &mut acts)?;
+    acts.extend_from_slice(&[
+        Act::Connect,
+        Act::Say(0, GET_B),
+        Act::Reach(origin),
+        Act::Answer(origin, LONGEST),
+        Act::Fill(origin, b'b', before_last),
+        Act::Answer(origin, last_chunk.as_slice()),
+    ])?;
     for follower in FIRST..beyond {
-        acts.extend_from_slice(&[Act::Window(follower, u64::MAX)])?;
+        acts.push(Act::Window(follower, u64::MAX))
+            .map_err(AllocError::from)?;
     }
     if let Some(first) = requests.first() {
-        put_said(pace, FIRST, first.as_bytes(), &mut acts)?;
+        acts.push(Act::Say(FIRST, first.as_bytes()))
+            .map_err(AllocError::from)?;
     }
-    put_said(pace, beyond.saturating_sub(1), anew.as_bytes(), &mut acts)?;
-    acts.extend_from_slice(&[Act::Reach(beyond.saturating_add(2))])?;
+    acts.extend_from_slice(&[
+        Act::Say(beyond.saturating_sub(1), anew.as_bytes()),
+        Act::Reach(beyond.saturating_add(2)),
+    ])?;
+    let acts = cut(alloc, pace, acts.as_slice(), page_a, followers)?;
     play_with(alloc, crowd.words, Pace::Whole, acts.as_slice(), &[])
 }
 
-/// Adds what this client says.
-fn put_said<'a>(
+/// The same acts, whose texts come at this pace, but for those from one place on and before another, which come whole.
+fn cut<'a>(
+    alloc: Global,
     pace: Pace,
-    c: u64,
-    text: &'a [u8],
-    acts: &mut Vec<Act<'a>>,
-) -> Result<(), OutOfMemory> {
-    for piece in text.chunks(piece_len(pace, text)) {
-        acts.push(Act::Say(c, piece)).map_err(AllocError::from)?;
+    acts: &[Act<'a>],
+    from: usize,
+    to: usize,
+) -> Result<Vec<Act<'a>>, OutOfMemory> {
+    let mut cut = Vec::new(alloc);
+    for (at, act) in acts.iter().enumerate() {
+        if from <= at && at < to {
+            cut.push(*act).map_err(AllocError::from)?;
+        } else {
+            put_pieces(pace, *act, &mut cut)?;
+        }
     }
-    Ok(())
+    Ok(cut)
 }
 
-/// Adds what this origin answers.
-fn put_answered<'a>(
-    pace: Pace,
-    k: u64,
-    text: &'a [u8],
-    acts: &mut Vec<Act<'a>>,
-) -> Result<(), OutOfMemory> {
-    for piece in text.chunks(piece_len(pace, text)) {
-        acts.push(Act::Answer(k, piece)).map_err(AllocError::from)?;
+/// Adds an act, or what is sent by it piece by piece.
+fn put_pieces<'a>(pace: Pace, act: Act<'a>, acts: &mut Vec<Act<'a>>) -> Result<(), OutOfMemory> {
+    match act {
+        Act::Say(c, text) => {
+            for piece in text.chunks(piece_len(pace, text)) {
+                acts.push(Act::Say(c, piece)).map_err(AllocError::from)?;
+            }
+        }
+        Act::Answer(k, text) => {
+            for piece in text.chunks(piece_len(pace, text)) {
+                acts.push(Act::Answer(k, piece)).map_err(AllocError::from)?;
+            }
+        }
+        other => acts.push(other).map_err(AllocError::from)?,
     }
     Ok(())
 }
