@@ -1,9 +1,10 @@
 //! Worked exchanges over the crates of the cache: tables of calls, each call with what it answers.
 //!
-//! `cache` has the instances, their chunks and their eviction, `cells` one instance and one pool,
+//! `steps` has the instances, their chunks and their eviction, `cells` one pool and the cells of one instance,
 //! `lines` the exchanges under way, `links` the open connections, and `heads` and `replies` what is decided and replied for a request
 //! and a response.
-//! An exchange of one of these is a table, which one interpreter runs.
+//! An exchange of one of these is a table, which one interpreter plays, and it says in words where that goes otherwise than
+//! wanted. To prove a test is dear, so what they share is proved once.
 //!
 //! Which answer a definition gives is worked out in the rows of each crate's `proofs/`. Here the
 //! compiled calls are run.
@@ -12,7 +13,7 @@
 #[cfg(test)]
 mod cache; // instances and a pool that agree
 #[cfg(test)]
-mod cells; // one instance, and one pool
+mod cells; // one pool, and the cells of one instance
 #[cfg(test)]
 mod evictions; // which chunk goes
 #[cfg(test)]
@@ -27,5 +28,7 @@ mod links; // connections that are open
 mod replies; // what is replied
 #[cfg(test)]
 mod steps; // a table of calls on the cache
+#[cfg(test)]
+mod saying; // where a table goes otherwise than wanted
 #[cfg(test)]
 mod wire; // a world that puts down its calls

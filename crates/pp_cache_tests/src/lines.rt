@@ -1,10 +1,13 @@
 // Worked lines: which exchange waits, and which response of a connection comes next (RFC 2616, section
 // 8.1.2.2: "A server MUST send its responses to those requests in the same order that the requests were
 // received").
+use crate::saying::{says_nothing, told};
 use pp_flow::{Aim, Body, EXCHANGES, Errand, Flow, Kind};
 use pp_objects::ObjectId;
 use pp_target::Place;
 use pp_text::OutOfMemory;
+use std::alloc::Global;
+use std::test::Fail;
 
 const TEXT: &[u8] = b"GET /a HTTP/1.1\r\nhost: h\r\n\r\n";
 
@@ -29,7 +32,75 @@ const ERRAND: Errand = Errand {
     body: Body::Pending,
 };
 
-/// Begins an exchange, where there is room.
+/// What is done with the exchanges, and what they are then. An exchange is named by its number.
+enum Act<'a> {
+    /// An exchange of the cache for this client and key: its number. None where there is no room.
+    Begin(u64, &'a [u8], Option<u64>),
+    /// One that passes a request.
+    BeginPass(u64, &'a [u8], Option<u64>),
+    /// So many exchanges for `http://h/a`, numbered from 0 on, each for the client of its number.
+    BeginMany(u64),
+    /// It gets a place on this connection.
+    Place(u64, u64),
+    /// So many, numbered from 0 on, get a place: the first on connection 50, and the next ones on 51, 52, 53, and so on.
+    PlaceMany(u64),
+    Unplace(u64),
+    Over(u64),
+    Leave(u64),
+    /// Its body is bound to this instance, or to none.
+    Bind(u64, Option<(ObjectId, u64, u64, bool)>),
+    /// So many bytes of it come. Whether as many are to come.
+    Come(u64, u64, bool),
+    /// So many bytes of what it asks were asked. Whether it is there.
+    Ask(u64, usize, bool),
+    /// The first that waits behind this one.
+    Waiting(Option<u64>, Option<u64>),
+    /// The first three of a connection's line.
+    Line(u64, [Option<u64>; 3]),
+    /// The one of this place in it.
+    LineAt(u64, usize, Option<u64>),
+    Len(usize),
+    /// The first three of all, and how many bytes of each were asked.
+    Asked([Option<(u64, usize)>; 3]),
+    /// Its text is `TEXT`, and whether that was asked whole. None: it is not there.
+    Text(u64, Option<bool>),
+    AskedBy(u64, Option<u64>),
+    ToCome(u64, Option<u64>),
+    /// Who asked it, its connection, and whether its head came.
+    Is(u64, Option<u64>, Option<u64>, bool),
+    BoundTo(u64, Option<(ObjectId, u64, u64, bool)>),
+    Key(u64, Option<&'a [u8]>),
+    IsOver(u64),
+}
+
+fn is_met(flow: &mut Flow, act: &Act<'_>) -> bool {
+    match act {
+        Act::Begin(client, key, number) => begin(flow, *client, key, Aim::Own) == *number,
+        Act::BeginPass(client, key, number) => begin(flow, *client, key, Aim::Pass) == *number,
+        Act::BeginMany(count) => begin_many(flow, *count),
+        Act::Place(number, connection) => place(flow, *number, *connection),
+        Act::PlaceMany(count) => place_many(flow, *count),
+        Act::Unplace(number) => unplace(flow, *number),
+        Act::Over(number) => over(flow, *number),
+        Act::Leave(number) => leave(flow, *number),
+        Act::Bind(number, to) => bind(flow, *number, *to),
+        Act::Come(number, n, wanted) => come(flow, *number, *n) == *wanted,
+        Act::Ask(number, asked, wanted) => ask(flow, *number, *asked) == *wanted,
+        Act::Waiting(after, wanted) => flow.waiting(*after) == *wanted,
+        Act::Line(connection, wanted) => line(flow, *connection) == *wanted,
+        Act::LineAt(connection, index, wanted) => flow.line(*connection, *index) == *wanted,
+        Act::Len(len) => flow.len() == *len,
+        Act::Asked(wanted) => asked(flow) == *wanted,
+        Act::Text(number, wanted) => text(flow, *number) == *wanted,
+        Act::AskedBy(client, wanted) => flow.asked_by(*client) == *wanted,
+        Act::ToCome(number, wanted) => flow.to_come(*number) == *wanted,
+        Act::Is(number, asker, place, headed) => is(flow, *number, *asker, *place, *headed),
+        Act::BoundTo(number, wanted) => bound(flow, *number) == *wanted,
+        Act::Key(number, wanted) => flow.key(*number) == *wanted,
+        Act::IsOver(number) => is_over(flow, *number),
+    }
+}
+
 fn begin(flow: &mut Flow, client: u64, key: &[u8], aim: Aim) -> Option<u64> {
     if flow.len() < EXCHANGES && key.len() <= 8192 && flow.begun() < u64::MAX {
         Some(flow.begin(client, key, aim, &ERRAND, TEXT))
@@ -38,21 +109,78 @@ fn begin(flow: &mut Flow, client: u64, key: &[u8], aim: Aim) -> Option<u64> {
     }
 }
 
-/// Gives it a place, where it waits for one.
-fn place(flow: &mut Flow, number: u64, connection: u64) {
-    if flow.waits(number) {
-        flow.set_place(number, connection);
+fn begin_many(flow: &mut Flow, count: u64) -> bool {
+    for number in 0..count {
+        if begin(flow, number, b"http://h/a", Aim::Own) != Some(number) {
+            return false;
+        }
+    }
+    true
+}
+
+/// Whether it waits for a place.
+fn place(flow: &mut Flow, number: u64, connection: u64) -> bool {
+    if !flow.waits(number) {
+        return false;
+    }
+    flow.set_place(number, connection);
+    true
+}
+
+fn place_many(flow: &mut Flow, count: u64) -> bool {
+    for number in 0..count {
+        if !place(flow, number, 50 + number % 4) {
+            return false;
+        }
+    }
+    true
+}
+
+/// Whether it has a place.
+fn unplace(flow: &mut Flow, number: u64) -> bool {
+    if !flow.has_place(number) {
+        return false;
+    }
+    flow.unplace(number);
+    true
+}
+
+fn over(flow: &mut Flow, number: u64) -> bool {
+    flow.over(number);
+    true
+}
+
+fn leave(flow: &mut Flow, number: u64) -> bool {
+    flow.leave(number);
+    true
+}
+
+fn bind(flow: &mut Flow, number: u64, to: Option<(ObjectId, u64, u64, bool)>) -> bool {
+    flow.bind(number, to);
+    true
+}
+
+/// Whether as many are to come.
+fn come(flow: &mut Flow, number: u64, n: u64) -> bool {
+    match flow.to_come(number) {
+        Some(left) if n <= left => {
+            flow.came(number, n);
+            true
+        }
+        Some(_) | None => false,
     }
 }
 
-/// Takes its place away, where it has one.
-fn unplace(flow: &mut Flow, number: u64) {
-    if flow.has_place(number) {
-        flow.unplace(number);
+fn ask(flow: &mut Flow, number: u64, asked: usize) -> bool {
+    match flow.errand_mut(number) {
+        Some(errand) => {
+            errand.asked = asked;
+            true
+        }
+        None => false,
     }
 }
 
-/// The first three of a connection's line.
 fn line(flow: &Flow, connection: u64) -> [Option<u64>; 3] {
     [
         flow.line(connection, 0),
@@ -61,155 +189,6 @@ fn line(flow: &Flow, connection: u64) -> [Option<u64>; 3] {
     ]
 }
 
-#[test]
-fn a_line_has_the_order_in_which_places_were_got(rt: HostRuntime) -> Result<(), OutOfMemory> {
-    let mut flow = Flow::new(rt.alloc())?;
-    for number in 0u64..4 {
-        assert_eq!(rt; begin(&mut flow, 7, b"http://h/a", Aim::Own), Some(number));
-    }
-    assert_eq!(rt;
-        (flow.waiting(None), flow.waiting(Some(0))),
-        (Some(0), Some(1))
-    );
-    place(&mut flow, 1, 50);
-    place(&mut flow, 0, 50);
-    place(&mut flow, 3, 51);
-    assert_eq!(rt; line(&flow, 50), [Some(1), Some(0), None]);
-    assert_eq!(rt; line(&flow, 51), [Some(3), None, None]);
-    assert_eq!(rt; line(&flow, 52), [None, None, None]);
-    assert_eq!(rt;
-        (flow.waiting(None), flow.waiting(Some(2))),
-        (Some(2), None)
-    );
-    // The connection is gone: its exchanges wait again, in the order of their beginnings.
-    unplace(&mut flow, 1);
-    unplace(&mut flow, 0);
-    assert_eq!(rt;
-        (flow.waiting(None), flow.waiting(Some(0))),
-        (Some(0), Some(1))
-    );
-    assert_eq!(rt;
-        (flow.waiting(Some(1)), flow.waiting(Some(2))),
-        (Some(2), None)
-    );
-    place(&mut flow, 0, 51);
-    assert_eq!(rt; line(&flow, 51), [Some(3), Some(0), None]);
-    flow.over(3);
-    flow.over(2);
-    assert_eq!(rt; line(&flow, 51), [Some(0), None, None]);
-    assert_eq!(rt; (flow.len(), flow.waiting(None)), (2, Some(1)));
-    assert_eq!(rt; begin(&mut flow, 8, b"http://h/b", Aim::Pass), Some(4));
-    Ok(())
-}
-
-#[test]
-fn the_33rd_exchange_of_a_host_waits_for_the_first_line_with_room(
-    rt: HostRuntime,
-) -> Result<(), OutOfMemory> {
-    let mut flow = Flow::new(rt.alloc())?;
-    for number in 0u64..33 {
-        assert_eq!(rt;
-            begin(&mut flow, number, b"http://h/a", Aim::Own),
-            Some(number)
-        );
-    }
-    for number in 0u64..32 {
-        place(&mut flow, number, 50 + number % 4);
-    }
-    assert_eq!(rt; flow.waiting(None), Some(32));
-    assert_eq!(rt; line(&flow, 51), [Some(1), Some(5), Some(9)]);
-    assert_eq!(rt; (flow.line(51, 7), flow.line(51, 8)), (Some(29), None));
-    // The response to the first of a line is whole.
-    flow.over(1);
-    place(&mut flow, 32, 51);
-    assert_eq!(rt; flow.waiting(None), None);
-    assert_eq!(rt; line(&flow, 51), [Some(5), Some(9), Some(13)]);
-    assert_eq!(rt; (flow.line(51, 6), flow.line(51, 7)), (Some(29), Some(32)));
-    assert_eq!(rt; flow.line(50, 7), Some(28));
-    Ok(())
-}
-
-#[test]
-fn a_body_is_bound_and_comes(rt: HostRuntime) -> Result<(), OutOfMemory> {
-    let mut flow = Flow::new(rt.alloc())?;
-    let id = ObjectId { slot: 3, life: 9 };
-    assert_eq!(rt; begin(&mut flow, 7, b"http://h/a", Aim::Own), Some(0));
-    assert_eq!(rt; begin(&mut flow, 8, b"http://h/b", Aim::Pass), Some(1));
-    place(&mut flow, 0, 50);
-    place(&mut flow, 1, 50);
-    flow.bind(0, Some((id, 0, 12, false)));
-    assert_eq!(rt; flow.to_come(0), Some(12));
-    come(&mut flow, 0, 5);
-    come(&mut flow, 0, 8);
-    match flow.get(0) {
-        Some(exchange) => {
-            assert_eq!(rt; exchange.bound, Some((id, 5, 12, false)));
-            assert_eq!(rt; (exchange.asker, exchange.place), (Some(7), Some(50)));
-            assert!(rt; exchange.headed);
-        }
-        None => panic!(rt; "it is there"),
-    }
-    assert_eq!(rt; (flow.asked_by(7), flow.asked_by(9)), (Some(0), None));
-    flow.leave(0);
-    assert_eq!(rt; flow.asked_by(7), None);
-    flow.bind(1, None);
-    assert_eq!(rt; flow.to_come(1), None);
-    assert_eq!(rt; flow.key(1), Some(b"http://h/b".as_slice()));
-    flow.over(1);
-    assert_eq!(rt; flow.key(1), None);
-    assert!(rt; flow.get(1).is_none());
-    Ok(())
-}
-
-#[test]
-fn an_errand_goes_with_its_exchange(rt: HostRuntime) -> Result<(), OutOfMemory> {
-    let mut flow = Flow::new(rt.alloc())?;
-    for number in 0u64..3 {
-        assert_eq!(rt; begin(&mut flow, 7, b"http://h/a", Aim::Own), Some(number));
-    }
-    place(&mut flow, 1, 50);
-    ask(&mut flow, 0, 10);
-    ask(&mut flow, 1, 11);
-    ask(&mut flow, 3, 13);
-    assert_eq!(rt; asked(&flow), [Some((0, 10)), Some((2, 0)), Some((1, 11))]);
-    place(&mut flow, 0, 50);
-    assert_eq!(rt; asked(&flow), [Some((2, 0)), Some((1, 11)), Some((0, 10))]);
-    flow.over(1);
-    assert!(rt; flow.errand_mut(1).is_none());
-    assert_eq!(rt; asked(&flow), [Some((2, 0)), Some((0, 10)), None]);
-    Ok(())
-}
-
-#[test]
-fn a_text_stands_with_its_exchange(rt: HostRuntime) -> Result<(), OutOfMemory> {
-    let mut flow = Flow::new(rt.alloc())?;
-    assert_eq!(rt; begin(&mut flow, 7, b"http://h/a", Aim::Own), Some(0));
-    assert_eq!(rt; text(&flow, 0), Some((TEXT, false)));
-    place(&mut flow, 0, 50);
-    ask(&mut flow, 0, TEXT.len() - 1);
-    assert_eq!(rt; text(&flow, 0), Some((TEXT, false)));
-    ask(&mut flow, 0, TEXT.len());
-    flow.leave(0);
-    assert_eq!(rt; text(&flow, 0), Some((TEXT, true)));
-    flow.over(0);
-    assert_eq!(rt; text(&flow, 0), None);
-    Ok(())
-}
-
-/// The text of an exchange, and whether it was asked whole.
-fn text(flow: &Flow, number: u64) -> Option<(&[u8], bool)> {
-    let entry = flow.entry(number)?;
-    Some((entry.text.as_slice(), entry.is_outstanding()))
-}
-
-/// So many bytes of what the exchange asks were asked.
-fn ask(flow: &mut Flow, number: u64, asked: usize) {
-    if let Some(errand) = flow.errand_mut(number) {
-        errand.asked = asked;
-    }
-}
-
-/// The first three exchanges of all, and how many bytes of each were asked.
 fn asked(flow: &Flow) -> [Option<(u64, usize)>; 3] {
     [asked_at(flow, 0), asked_at(flow, 1), asked_at(flow, 2)]
 }
@@ -219,24 +198,181 @@ fn asked_at(flow: &Flow, index: usize) -> Option<(u64, usize)> {
     Some((entry.exchange.number, entry.errand.asked))
 }
 
-/// So many bytes come, where as many are still to come.
-fn come(flow: &mut Flow, number: u64, n: u64) {
-    if let Some(left) = flow.to_come(number) {
-        if n <= left {
-            flow.came(number, n);
-        }
+/// Whether it was asked whole, where its text is `TEXT`.
+fn text(flow: &Flow, number: u64) -> Option<bool> {
+    let entry = flow.entry(number)?;
+    if entry.text.as_slice() == TEXT {
+        Some(entry.is_outstanding())
+    } else {
+        None
     }
 }
 
-#[test]
-fn there_is_room_for_1024_exchanges(rt: HostRuntime) -> Result<(), OutOfMemory> {
-    let mut flow = Flow::new(rt.alloc())?;
-    for number in 0u64..1024 {
-        assert_eq!(rt; begin(&mut flow, 1, b"http://h/", Aim::Own), Some(number));
+fn is(flow: &Flow, number: u64, asker: Option<u64>, place: Option<u64>, headed: bool) -> bool {
+    match flow.get(number) {
+        Some(exchange) => {
+            exchange.asker == asker && exchange.place == place && exchange.headed == headed
+        }
+        None => false,
     }
-    assert_eq!(rt; begin(&mut flow, 1, b"http://h/", Aim::Own), None);
-    flow.over(500);
-    assert_eq!(rt; begin(&mut flow, 1, b"http://h/", Aim::Own), Some(1024));
-    assert_eq!(rt; flow.waiting(Some(499)), Some(501));
-    Ok(())
+}
+
+fn bound(flow: &Flow, number: u64) -> Option<(ObjectId, u64, u64, bool)> {
+    flow.get(number)?.bound
+}
+
+fn is_over(flow: &mut Flow, number: u64) -> bool {
+    flow.get(number).is_none() && flow.entry(number).is_none() && flow.errand_mut(number).is_none()
+}
+
+struct Course<'a> {
+    name: &'a str,
+    acts: &'a [Act<'a>],
+}
+
+fn unlike(alloc: Global, courses: &[Course<'_>]) -> Result<String, OutOfMemory> {
+    for course in courses {
+        let mut flow = Flow::new(alloc)?;
+        for (place, act) in course.acts.iter().enumerate() {
+            if !is_met(&mut flow, act) {
+                return Ok(told(alloc, course.name, Some(place))?);
+            }
+        }
+    }
+    Ok(String::new(alloc))
+}
+
+const A: &[u8] = b"http://h/a";
+
+const B: &[u8] = b"http://h/b";
+
+const ID: ObjectId = ObjectId { slot: 3, life: 9 };
+
+const LINES: &[Course<'static>] = &[
+    Course {
+        name: "a line has the order in which places were got",
+        acts: &[
+            Act::Begin(7, A, Some(0)),
+            Act::Begin(7, A, Some(1)),
+            Act::Begin(7, A, Some(2)),
+            Act::Begin(7, A, Some(3)),
+            Act::Waiting(None, Some(0)),
+            Act::Waiting(Some(0), Some(1)),
+            Act::Place(1, 50),
+            Act::Place(0, 50),
+            Act::Place(3, 51),
+            Act::Line(50, [Some(1), Some(0), None]),
+            Act::Line(51, [Some(3), None, None]),
+            Act::Line(52, [None, None, None]),
+            Act::Waiting(None, Some(2)),
+            Act::Waiting(Some(2), None),
+            // The connection is gone: its exchanges wait again, in the order of their beginnings.
+            Act::Unplace(1),
+            Act::Unplace(0),
+            Act::Waiting(None, Some(0)),
+            Act::Waiting(Some(0), Some(1)),
+            Act::Waiting(Some(1), Some(2)),
+            Act::Waiting(Some(2), None),
+            Act::Place(0, 51),
+            Act::Line(51, [Some(3), Some(0), None]),
+            Act::Over(3),
+            Act::Over(2),
+            Act::Line(51, [Some(0), None, None]),
+            Act::Len(2),
+            Act::Waiting(None, Some(1)),
+            Act::BeginPass(8, B, Some(4)),
+        ],
+    },
+    Course {
+        name: "the 33rd exchange of a host waits for the first line with room",
+        acts: &[
+            Act::BeginMany(33),
+            Act::PlaceMany(32),
+            Act::Waiting(None, Some(32)),
+            Act::Line(51, [Some(1), Some(5), Some(9)]),
+            Act::LineAt(51, 7, Some(29)),
+            Act::LineAt(51, 8, None),
+            // The response to the first of a line is whole.
+            Act::Over(1),
+            Act::Place(32, 51),
+            Act::Waiting(None, None),
+            Act::Line(51, [Some(5), Some(9), Some(13)]),
+            Act::LineAt(51, 6, Some(29)),
+            Act::LineAt(51, 7, Some(32)),
+            Act::LineAt(50, 7, Some(28)),
+        ],
+    },
+    Course {
+        name: "a body is bound and comes",
+        acts: &[
+            Act::Begin(7, A, Some(0)),
+            Act::BeginPass(8, B, Some(1)),
+            Act::Place(0, 50),
+            Act::Place(1, 50),
+            Act::Bind(0, Some((ID, 0, 12, false))),
+            Act::ToCome(0, Some(12)),
+            Act::Come(0, 5, true),
+            Act::Come(0, 8, false),
+            Act::BoundTo(0, Some((ID, 5, 12, false))),
+            Act::Is(0, Some(7), Some(50), true),
+            Act::AskedBy(7, Some(0)),
+            Act::AskedBy(9, None),
+            Act::Leave(0),
+            Act::AskedBy(7, None),
+            Act::Bind(1, None),
+            Act::ToCome(1, None),
+            Act::Key(1, Some(B)),
+            Act::Over(1),
+            Act::Key(1, None),
+            Act::IsOver(1),
+        ],
+    },
+    Course {
+        name: "an errand goes with its exchange",
+        acts: &[
+            Act::Begin(7, A, Some(0)),
+            Act::Begin(7, A, Some(1)),
+            Act::Begin(7, A, Some(2)),
+            Act::Place(1, 50),
+            Act::Ask(0, 10, true),
+            Act::Ask(1, 11, true),
+            Act::Ask(3, 13, false),
+            Act::Asked([Some((0, 10)), Some((2, 0)), Some((1, 11))]),
+            Act::Place(0, 50),
+            Act::Asked([Some((2, 0)), Some((1, 11)), Some((0, 10))]),
+            Act::Over(1),
+            Act::IsOver(1),
+            Act::Asked([Some((2, 0)), Some((0, 10)), None]),
+        ],
+    },
+    Course {
+        name: "a text stands with its exchange",
+        acts: &[
+            Act::Begin(7, A, Some(0)),
+            Act::Text(0, Some(false)),
+            Act::Place(0, 50),
+            Act::Ask(0, TEXT.len() - 1, true),
+            Act::Text(0, Some(false)),
+            Act::Ask(0, TEXT.len(), true),
+            Act::Leave(0),
+            Act::Text(0, Some(true)),
+            Act::Over(0),
+            Act::IsOver(0),
+        ],
+    },
+    Course {
+        name: "there is room for 1024 exchanges",
+        acts: &[
+            Act::BeginMany(1024),
+            Act::Begin(1, b"http://h/", None),
+            Act::Over(500),
+            Act::Begin(1, b"http://h/", Some(1024)),
+            Act::Waiting(Some(499), Some(501)),
+        ],
+    },
+];
+
+#[test]
+fn exchanges_are_asked_and_answered_in_line(rt: HostRuntime) -> Result<(), Fail> {
+    says_nothing(&rt, unlike(rt.alloc(), LINES))
 }

@@ -3,6 +3,7 @@ ghost use Rattle.pp_links.specs.Links.{IsLinked};
 ghost use Rattle.pp_links.specs.Quiet.{GrowsQuietly};
 ghost use Rattle.pp_links.specs.Waits.{WaitsOnce};
 
+use crate::saying::{says_nothing, told};
 use crate::wire::{Call, Counted};
 use arrayvec::ArrayVec;
 use pp_links::{Links, MAX_LINKS};
@@ -10,11 +11,10 @@ use pp_text::OutOfMemory;
 use pp_world::{Cause, Event, Got, Note, Wants, Wire, WireFault};
 use std::alloc::Global;
 use std::marker::Model;
-use std::process::Abort;
+use std::test::Fail;
 
 /// A call, and what it answers.
-#[derive(Clone, Copy, Debug)]
-enum Step {
+enum Step<'a> {
     /// Whether clients are accepted, and the event.
     Next(bool, Option<Event>),
     /// As many clients as there may be connections.
@@ -23,7 +23,7 @@ enum Step {
     Read(u64, Option<Result<Got, WireFault>>, [u8; 4]),
     /// Into no buffer.
     ReadNothing(u64),
-    Write(u64, &'static [u8], Option<Result<usize, WireFault>>),
+    Write(u64, &'a [u8], Option<Result<usize, WireFault>>),
     Dial(u16, Result<u64, WireFault>),
     Close(u64),
     Note,
@@ -34,7 +34,7 @@ enum Step {
     /// What the caller does with an event.
     Answer(Event),
     /// The calls that were made of the world since this was last asked.
-    Made(&'static [Call]),
+    Made(&'a [Call]),
     /// No longer.
     Forget,
 }
@@ -65,60 +65,101 @@ impl Office {
         })
     }
 
-    /// The calls that open or close.
-    fn call(&mut self, rt: &impl Abort, step: Step) {
-        match step {
-            Step::Next(accept, wanted) => {
-                let event = self.links.next(&mut self.world, &wants(accept));
-                assert_eq!(rt; event, wanted, "{step:?}");
-            }
-            Step::AcceptAll => accept_all(&mut self.links, &mut self.world),
-            Step::Dial(port, wanted) => {
-                let dialled = self.links.dial(&mut self.world, b"h", port);
-                assert_eq!(rt; dialled, wanted, "{step:?}");
-            }
-            Step::Close(id) => self.links.close(&mut self.world, id),
-            Step::Turn(accept) => turn(&mut self.links, &mut self.world, &wants(accept)),
-            Step::Answer(event) => answer(&mut self.links, &mut self.world, event),
-            _ => {}
-        }
+    fn next(&mut self, accept: bool) -> Option<Event> {
+        self.links.next(&mut self.world, &wants(accept))
     }
 
-    /// The others.
-    fn ask(&mut self, rt: &impl Abort, step: Step) {
+    fn accept_all(&mut self) -> bool {
+        accept_all(&mut self.links, &mut self.world);
+        true
+    }
+
+    /// Whether this is read, and stands in the buffer.
+    fn reads(&mut self, id: u64, wanted: Option<Result<Got, WireFault>>, behind: [u8; 4]) -> bool {
+        let mut buf = *b"....";
+        let got = self.links.read(&mut self.world, id, &mut buf);
+        got == wanted && buf == behind
+    }
+
+    fn reads_nothing(&mut self, id: u64) -> bool {
+        self.links.read(&mut self.world, id, &mut []).is_none()
+    }
+
+    fn write(&mut self, id: u64, bytes: &[u8]) -> Option<Result<usize, WireFault>> {
+        self.links.write(&mut self.world, id, bytes)
+    }
+
+    fn dial(&mut self, port: u16) -> Result<u64, WireFault> {
+        self.links.dial(&mut self.world, b"h", port)
+    }
+
+    fn close(&mut self, id: u64) -> bool {
+        self.links.close(&mut self.world, id);
+        true
+    }
+
+    fn note(&mut self) -> bool {
+        self.links.note(&mut self.world, &Note::Cut(1, Cause::Idle));
+        true
+    }
+
+    fn turn(&mut self, accept: bool) -> bool {
+        turn(&mut self.links, &mut self.world, &wants(accept));
+        true
+    }
+
+    fn answer(&mut self, event: Event) -> bool {
+        answer(&mut self.links, &mut self.world, event);
+        true
+    }
+
+    /// Whether these calls were made since this was last asked.
+    fn made(&mut self, calls: &[Call]) -> bool {
+        let is_made = self.world.calls.as_slice() == calls;
+        self.world.calls.clear();
+        is_made
+    }
+
+    fn forget(&mut self) -> bool {
+        self.world.calls.clear();
+        true
+    }
+
+    /// Whether the call answers this.
+    fn is_met(&mut self, step: &Step<'_>) -> bool {
         match step {
-            Step::Read(id, wanted, behind) => {
-                let mut buf = *b"....";
-                let got = self.links.read(&mut self.world, id, &mut buf);
-                assert_eq!(rt; (got, buf), (wanted, behind), "{step:?}");
-            }
-            Step::ReadNothing(id) => {
-                let got = self.links.read(&mut self.world, id, &mut []);
-                assert_eq!(rt; got, None, "{step:?}");
-            }
-            Step::Write(id, bytes, wanted) => {
-                let taken = self.links.write(&mut self.world, id, bytes);
-                assert_eq!(rt; taken, wanted, "{step:?}");
-            }
-            Step::Note => self.links.note(&mut self.world, &Note::Cut(1, Cause::Idle)),
-            Step::Has(id, wanted) => assert_eq!(rt; self.links.has(id), wanted, "{step:?}"),
-            Step::Made(calls) => {
-                assert_eq!(rt; self.world.calls.as_slice(), calls);
-                self.world.calls.clear();
-            }
-            Step::Forget => self.world.calls.clear(),
-            _ => {}
+            Step::Next(accept, wanted) => self.next(*accept) == *wanted,
+            Step::AcceptAll => self.accept_all(),
+            Step::Read(id, wanted, behind) => self.reads(*id, *wanted, *behind),
+            Step::ReadNothing(id) => self.reads_nothing(*id),
+            Step::Write(id, bytes, wanted) => self.write(*id, bytes) == *wanted,
+            Step::Dial(port, wanted) => self.dial(*port) == *wanted,
+            Step::Close(id) => self.close(*id),
+            Step::Note => self.note(),
+            Step::Has(id, wanted) => self.links.has(*id) == *wanted,
+            Step::Turn(accept) => self.turn(*accept),
+            Step::Answer(event) => self.answer(*event),
+            Step::Made(calls) => self.made(calls),
+            Step::Forget => self.forget(),
         }
     }
 }
 
-fn run(rt: &impl Abort, alloc: Global, steps: &[Step]) -> Result<(), OutOfMemory> {
-    let mut office = Office::new(alloc)?;
-    for step in steps {
-        office.call(rt, *step);
-        office.ask(rt, *step);
+struct Course<'a> {
+    name: &'a str,
+    steps: &'a [Step<'a>],
+}
+
+fn unlike(alloc: Global, courses: &[Course<'_>]) -> Result<String, OutOfMemory> {
+    for course in courses {
+        let mut office = Office::new(alloc)?;
+        for (place, step) in course.steps.iter().enumerate() {
+            if !office.is_met(step) {
+                return Ok(told(alloc, course.name, Some(place))?);
+            }
+        }
     }
-    Ok(())
+    Ok(String::new(alloc))
 }
 
 /// Sends back what came on this connection, and closes it where it is over.
@@ -183,127 +224,117 @@ fn accept_all<W: Wire>(links: &mut Links, world: &mut W)
     }
 }
 
-const NOT_OPEN: [Step; 6] = [
-    Step::Has(0, false),
-    Step::Has(7, false),
-    Step::Read(0, None, *b"...."),
-    Step::Write(7, b"GET", None),
-    Step::Close(u64::MAX),
-    Step::Made(&[]),
+const LINKS: &[Course<'static>] = &[
+    Course {
+        name: "a number that is not open is no call",
+        steps: &[
+            Step::Has(0, false),
+            Step::Has(7, false),
+            Step::Read(0, None, *b"...."),
+            Step::Write(7, b"GET", None),
+            Step::Close(u64::MAX),
+            Step::Made(&[]),
+        ],
+    },
+    Course {
+        name: "an open one is read written and closed once",
+        steps: &[
+            Step::Next(false, Some(Event::Tick(784_111_777))),
+            Step::Next(true, Some(Event::Accepted(1))),
+            Step::Dial(80, Ok(2)),
+            Step::Has(1, true),
+            Step::Has(2, true),
+            Step::Has(3, false),
+            Step::Read(1, Some(Ok(Got::Bytes(1))), *b"a..."),
+            Step::Write(2, b"GET", Some(Ok(3))),
+            Step::Note,
+            Step::Close(1),
+            Step::Close(1),
+            Step::Close(2),
+            Step::Made(&[
+                Call::Waited,
+                Call::Waited,
+                Call::Dialled(80),
+                Call::Read(1),
+                Call::Wrote(2, 3),
+                Call::Noted,
+                Call::Closed(1),
+                Call::Closed(2),
+            ]),
+        ],
+    },
+    Course {
+        name: "an empty buffer and no bytes are no call",
+        steps: &[
+            Step::Dial(80, Ok(1)),
+            Step::Forget,
+            Step::ReadNothing(1),
+            Step::Write(1, b"", None),
+            Step::Made(&[]),
+        ],
+    },
+    Course {
+        name: "a dial that fails opens nothing",
+        steps: &[
+            Step::Dial(1, Err(WireFault)),
+            Step::Has(0, false),
+            Step::Has(1, false),
+            Step::Dial(80, Ok(1)),
+            Step::Made(&[Call::Dialled(1), Call::Dialled(80)]),
+        ],
+    },
+    Course {
+        name: "whoever comes when all are open is closed at once",
+        steps: &[
+            Step::AcceptAll,
+            Step::Has(1, true),
+            Step::Has(512, true),
+            Step::Forget,
+            Step::Next(true, None),
+            Step::Has(513, false),
+            Step::Dial(80, Err(WireFault)),
+            Step::Close(7),
+            Step::Dial(80, Ok(514)),
+            Step::Next(true, None),
+            Step::Made(&[
+                Call::Waited,
+                Call::Closed(513),
+                Call::Closed(7),
+                Call::Dialled(80),
+                Call::Waited,
+                Call::Closed(515),
+            ]),
+        ],
+    },
+    Course {
+        name: "a caller names any number",
+        steps: &[
+            // Clients 1 and 3, each with an origin of its own.
+            Step::Turn(true),
+            Step::Turn(true),
+            Step::Turn(false),
+            Step::Forget,
+            Step::Answer(Event::Readable(4)),
+            Step::Answer(Event::Readable(3)),
+            Step::Answer(Event::Readable(3)),
+            Step::Answer(Event::Broken(4)),
+            Step::Answer(Event::Writable(4)),
+            Step::Made(&[
+                Call::Read(4),
+                Call::Wrote(4, 1),
+                Call::Read(3),
+                Call::Closed(3),
+                Call::Closed(4),
+            ]),
+            Step::Has(1, true),
+            Step::Has(2, true),
+            Step::Has(3, false),
+            Step::Has(4, false),
+        ],
+    },
 ];
 
 #[test]
-fn a_number_that_is_not_open_is_no_call(rt: HostRuntime) -> Result<(), OutOfMemory> {
-    run(&rt, rt.alloc(), &NOT_OPEN)
-}
-
-const ONCE: [Step; 13] = [
-    Step::Next(false, Some(Event::Tick(784_111_777))),
-    Step::Next(true, Some(Event::Accepted(1))),
-    Step::Dial(80, Ok(2)),
-    Step::Has(1, true),
-    Step::Has(2, true),
-    Step::Has(3, false),
-    Step::Read(1, Some(Ok(Got::Bytes(1))), *b"a..."),
-    Step::Write(2, b"GET", Some(Ok(3))),
-    Step::Note,
-    Step::Close(1),
-    Step::Close(1),
-    Step::Close(2),
-    Step::Made(&[
-        Call::Waited,
-        Call::Waited,
-        Call::Dialled(80),
-        Call::Read(1),
-        Call::Wrote(2, 3),
-        Call::Noted,
-        Call::Closed(1),
-        Call::Closed(2),
-    ]),
-];
-
-#[test]
-fn an_open_one_is_read_written_and_closed_once(rt: HostRuntime) -> Result<(), OutOfMemory> {
-    run(&rt, rt.alloc(), &ONCE)
-}
-
-const NOTHING: [Step; 5] = [
-    Step::Dial(80, Ok(1)),
-    Step::Forget,
-    Step::ReadNothing(1),
-    Step::Write(1, b"", None),
-    Step::Made(&[]),
-];
-
-#[test]
-fn an_empty_buffer_and_no_bytes_are_no_call(rt: HostRuntime) -> Result<(), OutOfMemory> {
-    run(&rt, rt.alloc(), &NOTHING)
-}
-
-const UNDIALLED: [Step; 5] = [
-    Step::Dial(1, Err(WireFault)),
-    Step::Has(0, false),
-    Step::Has(1, false),
-    Step::Dial(80, Ok(1)),
-    Step::Made(&[Call::Dialled(1), Call::Dialled(80)]),
-];
-
-#[test]
-fn a_dial_that_fails_opens_nothing(rt: HostRuntime) -> Result<(), OutOfMemory> {
-    run(&rt, rt.alloc(), &UNDIALLED)
-}
-
-const FULL: [Step; 11] = [
-    Step::AcceptAll,
-    Step::Has(1, true),
-    Step::Has(512, true),
-    Step::Forget,
-    Step::Next(true, None),
-    Step::Has(513, false),
-    Step::Dial(80, Err(WireFault)),
-    Step::Close(7),
-    Step::Dial(80, Ok(514)),
-    Step::Next(true, None),
-    Step::Made(&[
-        Call::Waited,
-        Call::Closed(513),
-        Call::Closed(7),
-        Call::Dialled(80),
-        Call::Waited,
-        Call::Closed(515),
-    ]),
-];
-
-#[test]
-fn whoever_comes_when_all_are_open_is_closed_at_once(rt: HostRuntime) -> Result<(), OutOfMemory> {
-    run(&rt, rt.alloc(), &FULL)
-}
-
-/// Clients 1 and 3, each with an origin of its own.
-const ANY_NUMBER: [Step; 14] = [
-    Step::Turn(true),
-    Step::Turn(true),
-    Step::Turn(false),
-    Step::Forget,
-    Step::Answer(Event::Readable(4)),
-    Step::Answer(Event::Readable(3)),
-    Step::Answer(Event::Readable(3)),
-    Step::Answer(Event::Broken(4)),
-    Step::Answer(Event::Writable(4)),
-    Step::Made(&[
-        Call::Read(4),
-        Call::Wrote(4, 1),
-        Call::Read(3),
-        Call::Closed(3),
-        Call::Closed(4),
-    ]),
-    Step::Has(1, true),
-    Step::Has(2, true),
-    Step::Has(3, false),
-    Step::Has(4, false),
-];
-
-#[test]
-fn a_caller_names_any_number(rt: HostRuntime) -> Result<(), OutOfMemory> {
-    run(&rt, rt.alloc(), &ANY_NUMBER)
+fn connections_are_open_until_they_are_closed(rt: HostRuntime) -> Result<(), Fail> {
+    says_nothing(&rt, unlike(rt.alloc(), LINKS))
 }
