@@ -1,11 +1,12 @@
 // Real folders, call by call, each course in one of its own.
 use crate::calls::{Call, Gives, is_given};
+use crate::outcome::{Unlike, settled};
 use crate::turns::wants;
 use pp_net::{NetFault, NetWorld};
 use pp_world::{Event, Wire};
+use std::fs;
 use std::os::unix::fs::PermissionsExt;
 use std::test::Fail;
-use std::{fs, io};
 
 /// What happens to a folder. Paths begin with its name.
 #[derive(Clone, Copy)]
@@ -54,48 +55,78 @@ impl Programs {
         })
     }
 
-    fn is_met(&mut self, act: Act<'_>) -> Result<bool, Fail> {
-        let alloc = self.rt.alloc();
+    fn first_unmet(&mut self, acts: &[Act<'_>]) -> Option<usize> {
+        for (place, act) in acts.iter().enumerate() {
+            if !self.is_met(*act) {
+                return Some(place);
+            }
+        }
+        None
+    }
+
+    fn is_met(&mut self, act: Act<'_>) -> bool {
         match act {
-            Act::Call(call, wanted) => Ok(is_given(&mut self.first, alloc, call, wanted)),
-            Act::Second(call, wanted) => Ok(is_given(&mut self.second, alloc, call, wanted)),
-            Act::Ends => {
-                self.first = NetWorld::new(self.rt)?;
-                Ok(true)
+            Act::Call(call, wanted) => is_given(&mut self.first, self.rt.alloc(), call, wanted),
+            Act::Second(call, wanted) => is_given(&mut self.second, self.rt.alloc(), call, wanted),
+            Act::Ends => self.ends(),
+            Act::Tick => ticks(&mut self.first),
+            Act::Put(path, bytes) => fs::write(&self.rt, path, bytes).is_ok(),
+            Act::Make(path) => fs::create_dir(&self.rt, path).is_ok(),
+            Act::Move(from, to) => fs::rename(&self.rt, from, to).is_ok(),
+            Act::Clear(path) => fs::remove_dir_all(&self.rt, path).is_ok(),
+            Act::Has(path, bytes) => has(&self.rt, path, bytes),
+            Act::Mode(path, mode) => mode_of(&self.rt, path) == Some(mode),
+        }
+    }
+
+    fn ends(&mut self) -> bool {
+        match NetWorld::new(self.rt) {
+            Ok(next) => {
+                self.first = next;
+                true
             }
-            Act::Tick => Ok(matches!(self.first.next(&wants(false, &[], &[])), Event::Tick(_))),
-            by_hand => Ok(is_done(&self.rt, by_hand)?),
+            Err(_) => false,
         }
     }
 }
 
-fn is_done(rt: &HostRuntime, act: Act<'_>) -> io::Result<bool> {
-    match act {
-        Act::Put(path, bytes) => fs::write(rt, path, bytes)?,
-        Act::Make(path) => fs::create_dir(rt, path)?,
-        Act::Move(from, to) => fs::rename(rt, from, to)?,
-        Act::Clear(path) => fs::remove_dir_all(rt, path)?,
-        Act::Has(path, bytes) => return Ok(fs::read(rt, path)?.as_slice() == bytes),
-        Act::Mode(path, mode) => {
-            return Ok(fs::metadata(rt, path)?.permissions().mode() & 0o777 == mode);
-        }
-        Act::Call(_, _) | Act::Second(_, _) | Act::Ends | Act::Tick => return Ok(false),
-    }
-    Ok(true)
+fn ticks(program: &mut NetWorld<HostRuntime>) -> bool {
+    matches!(program.next(&wants(false, &[], &[])), Event::Tick(_))
 }
 
-/// Where these courses go otherwise than wanted: nothing is said where none does.
-fn unlike(rt: &HostRuntime, courses: &[Course<'_>]) -> Result<String, Fail> {
-    let alloc = rt.alloc();
+fn has(rt: &HostRuntime, path: &str, bytes: &[u8]) -> bool {
+    match fs::read(rt, path) {
+        Ok(file) => file.as_slice() == bytes,
+        Err(_) => false,
+    }
+}
+
+fn mode_of(rt: &HostRuntime, path: &str) -> Option<u32> {
+    match fs::metadata(rt, path) {
+        Ok(found) => Some(found.permissions().mode() & 0o777),
+        Err(_) => None,
+    }
+}
+
+/// The first of these courses that goes otherwise than it is written down.
+fn unlike<'a>(rt: &HostRuntime, courses: &[Course<'a>]) -> Option<Unlike<'a>> {
     for course in courses {
-        let mut programs = Programs::new(rt)?;
-        for (place, act) in course.acts.iter().enumerate() {
-            if !programs.is_met(*act)? {
-                return Ok(format!(in alloc; "{}: act {place}", course.name)?);
-            }
+        if let Some((part, place)) = part_unlike(rt, course.acts) {
+            return Some(Unlike {
+                course: course.name,
+                part,
+                place,
+            });
         }
     }
-    Ok(String::new(alloc))
+    None
+}
+
+fn part_unlike(rt: &HostRuntime, acts: &[Act<'_>]) -> Option<(&'static str, usize)> {
+    match Programs::new(rt) {
+        Ok(mut programs) => Some(("act", programs.first_unmet(acts)?)),
+        Err(_) => Some(("begin", 0)),
+    }
 }
 
 const FOLDERS: &[Course<'static>] = &[
@@ -177,8 +208,7 @@ const FOLDERS: &[Course<'static>] = &[
 
 #[test]
 fn a_folder_is_one_program_s(rt: HostRuntime) -> Result<(), Fail> {
-    assert_eq!(rt; unlike(&rt, FOLDERS)?.as_str(), "");
-    Ok(())
+    settled(rt.alloc(), unlike(&rt, FOLDERS))
 }
 
 const FILES: &[Course<'static>] = &[
@@ -264,8 +294,7 @@ const FILES: &[Course<'static>] = &[
 
 #[test]
 fn files_are_what_the_calls_left_of_them(rt: HostRuntime) -> Result<(), Fail> {
-    assert_eq!(rt; unlike(&rt, FILES)?.as_str(), "");
-    Ok(())
+    settled(rt.alloc(), unlike(&rt, FILES))
 }
 
 const HANDLES: &[Course<'static>] = &[
@@ -341,6 +370,5 @@ const HANDLES: &[Course<'static>] = &[
 
 #[test]
 fn a_file_is_synced_by_the_handle_that_wrote_it(rt: HostRuntime) -> Result<(), Fail> {
-    assert_eq!(rt; unlike(&rt, HANDLES)?.as_str(), "");
-    Ok(())
+    settled(rt.alloc(), unlike(&rt, HANDLES))
 }

@@ -1,7 +1,7 @@
 //! What `pp_world`, `pp_memworld` and `pp_net` do, tried: worked calls, lives and crashes, over memory and over the system.
 //!
-//! Each table writes down calls and what they are to give, and one function plays it and says in words where it went otherwise.
-//! To prove a test is dear, so what they share is proved once.
+//! Each table writes down calls and what they are to give, and one function plays it and says where it went otherwise. To prove a
+//! test is dear, so what they share is proved once.
 //!
 //! Nothing stands on this crate. The three have no tests of their own, since a crate with tests is proved twice.
 #![tactic(auto)]
@@ -16,6 +16,8 @@ mod disk_in_memory; // the calls on a disk in memory
 mod folders; // the calls on a real folder
 #[cfg(test)]
 mod lives; // lives of a folder in memory, and what crashes leave of them
+#[cfg(test)]
+mod outcome; // what of a table goes otherwise than it is written down
 #[cfg(test)]
 mod outside; // any wire and any disk, and the files of a folder
 #[cfg(test)]
