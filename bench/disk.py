@@ -13,8 +13,9 @@ import time
 KEEPER = pathlib.Path(__file__).resolve().parent.parent / "crates/pp_keeper/out/pp_keeper"
 ROUNDS = 3
 CHUNK = 4096
-LARGE = 1 << 26
-RUNS = (1, 64)
+# The length of a body that is kept in runs of so many chunks: with each chunk alone, a disk whose syncs take milliseconds needs
+# minutes for the longest.
+LARGE = {1: 1 << 22, 64: 1 << 26}
 SMALL_COUNT = 500
 OPENED_COUNT = 10_000
 # How often `seek` asks for each entry.
@@ -151,15 +152,15 @@ def calls(top, length, run):
 
 
 def seal(top, run):
-    """System calls, syncs and microseconds of one seal of so many chunks: what a body of 64 MiB has more than one of two seals."""
+    """System calls, syncs and microseconds of one seal of so many chunks: what a long body has more than one of two seals."""
     two = 2 * CHUNK * run
-    seals = (LARGE - two) // (CHUNK * run)
-    most, least = calls(top, LARGE, run), calls(top, two, run)
+    seals = (LARGE[run] - two) // (CHUNK * run)
+    most, least = calls(top, LARGE[run], run), calls(top, two, run)
 
     def timed_fill(length):
         return in_new_folder(top, lambda folder: timed(lambda: keeper("fill", folder, 1, length, run)))
 
-    spent = statistics.median(timed_fill(LARGE) - timed_fill(two) for _ in range(ROUNDS))
+    spent = statistics.median(timed_fill(LARGE[run]) - timed_fill(two) for _ in range(ROUNDS))
     return (most[0] - least[0]) / seals, (most[1] - least[1]) / seals, 1e6 * spent / seals
 
 
@@ -194,11 +195,11 @@ def main():
     load = f"load {os.getloadavg()[0]:.1f}"
     print(f"{platform.machine()}, {os.cpu_count()} processors, {load}; medians of {ROUNDS} rounds")
     print(f"{'':34} {'kept':>10} {'plain':>10} {'ratio':>6} {'syncs':>7}")
-    for run in RUNS:
-        label = f"64 MiB, {run} chunk{'s' * (run > 1)} a seal, MB/s"
-        report(label, *seconds(top, 1, LARGE, run), LARGE / 1e6, syncs(1, LARGE, run))
+    for run, length in LARGE.items():
+        label = f"{length >> 20} MiB, {run} chunk{'s' * (run > 1)} a seal, MB/s"
+        report(label, *seconds(top, 1, length, run), length / 1e6, syncs(1, length, run))
     if shutil.which("strace"):
-        for run in RUNS:
+        for run in LARGE:
             count, syncs_of_one, spent = seal(top, run)
             print(f"a seal of {run} chunk{'s' * (run > 1)}: {count:.1f} system calls, {syncs_of_one:.1f} of them syncs; {spent:.0f} microseconds")
     label = "entries of 4 KiB, per second"

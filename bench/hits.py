@@ -1,4 +1,5 @@
-"""Measures what is served from memory, through proxies that cache: hits.py PROGRAM. The client is bench/load.c."""
+"""Measures what is served from memory, and what is fetched and stored there or not, through proxies that cache: hits.py PROGRAM. The
+client is bench/load.c."""
 
 import email.utils
 import multiprocessing
@@ -15,27 +16,33 @@ sys.path.insert(0, os.path.join(os.path.dirname(os.path.abspath(__file__)), ".."
 
 from network import raise_loopback  # noqa: E402
 from origin import noise  # noqa: E402
-from ways import ALL_IN_MEMORY, Way, describe_machine, origin_of, report, start_nginx, start_polipo, start_squid  # noqa: E402
+from ways import ALL_IN_MEMORY, IN_MEMORY, Way, describe_machine, origin_of, report, start_nginx, start_polipo, start_squid  # noqa: E402
 
 ROUNDS = 3
 SECONDS = 2.0
-ORIGINS = 48
+# As many as all connections that the proxies may keep, and those of the client.
+ORIGINS = 128
 IDLE = 200
 READERS = 64
 NEW_LEN = 50_000_000
 SIZES = {"/1k": (1024, 32), "/100k": (102_400, 8), "/10m": (10_000_000, 4)}
-FRESH = "HTTP/1.1 200 OK\r\nDate: {}\r\nCache-Control: max-age=86400\r\nETag: \"v\"\r\nContent-Length: {}\r\n\r\n"
+HEAD = "HTTP/1.1 200 OK\r\nDate: {}\r\nCache-Control: {}\r\nETag: \"v\"\r\nContent-Length: {}\r\n\r\n"
+# Pages that are new at each request, and their Cache-Control.
+MISSES = {"/stored/": "max-age=86400", "/unstored/": "no-store"}
 
 
-def fresh(body):
-    return FRESH.format(email.utils.formatdate(usegmt=True), len(body)).encode() + body
+def response(body, control="max-age=86400"):
+    return HEAD.format(email.utils.formatdate(usegmt=True), control, len(body)).encode() + body
 
 
-def answers(replies, new, asked):
+def answers(replies, misses, new, asked):
     """What is answered to a head. What is new under each path is counted as it is asked for."""
 
     def answer_to(head):
         path = head.split(b" ", 2)[1].decode()
+        for kind, reply in misses.items():
+            if path.startswith(kind):
+                return reply
         if path not in replies:
             with asked.get_lock():
                 asked.value += 1
@@ -81,11 +88,12 @@ class Loads:
 
 
 def compare(loads, ways, title, path, connections, unit):
+    """The path has ROUND in it where each round is to ask for others."""
     results, failed, spent = {way.name: [] for way in ways}, {}, {way.name: [] for way in ways}
-    for _ in range(ROUNDS):
+    for turn in range(ROUNDS):
         for way in ways:
             before = seconds_of(way.process) if way.process else 0
-            measured = loads.run(way, path, connections, SECONDS)
+            measured = loads.run(way, path.replace("ROUND", f"{way.name}/{turn}"), connections, SECONDS)
             results[way.name].append(measured[0 if unit == "/s" else 1])
             failed[way.name] = failed.get(way.name, 0) + measured[2]
             if way.process:
@@ -131,19 +139,22 @@ def main():
     raise_loopback()
     describe_machine()
     print(f"{ROUNDS} rounds of {SECONDS} s, interleaved; medians; client (in C) and origin (in Python) on the same machine")
-    replies = {path: fresh(noise(length)) for path, (length, _) in SIZES.items()}
-    new, asked = fresh(noise(NEW_LEN)), multiprocessing.Value("q", 0)
-    with tempfile.TemporaryDirectory() as folder, origin_of(ORIGINS, answers(replies, new, asked)) as address:
+    replies = {path: response(noise(length)) for path, (length, _) in SIZES.items()}
+    misses = {kind: response(noise(1024), control) for kind, control in MISSES.items()}
+    new, asked = response(noise(NEW_LEN)), multiprocessing.Value("q", 0)
+    with tempfile.TemporaryDirectory(dir=IN_MEMORY) as folder, origin_of(ORIGINS, answers(replies, misses, new, asked)) as address:
         os.chmod(folder, 0o777)
         loads = Loads(folder)
         ways = [Way("direct", address, f"127.0.0.1:{address[1]}")]
         try:
-            start_polipo(os.path.abspath(sys.argv[1]), ways)
+            start_polipo(os.path.abspath(sys.argv[1]), folder, ways)
             start_squid(folder, ways, ALL_IN_MEMORY)
             start_nginx(folder, ways)
             for path, (length, connections) in SIZES.items():
                 unit = "/s" if length < 100_000 else "MB/s"
                 compare(loads, ways, f"hits of {length:,} bytes, {connections} connections", path, connections, unit)
+            for kind in MISSES:
+                compare(loads, ways, f"new pages of 1,024 bytes, {kind.strip('/')}, 32 connections", f"{kind}ROUND/########", 32, "/s")
             print()
             for way in ways[1:]:
                 beside_idle_clients(loads, way)

@@ -1,6 +1,6 @@
 // load HOST PORT CONNECTIONS SECONDS FILE: sends the request in FILE again and again over so many connections, kept open, each
-// once the reply before was read whole. Prints replies, bytes of bodies, seconds, failures; of one round (SECONDS 0) each
-// connection asks once.
+// once the reply before was read whole. Where FILE has ########, each request has a number of its own there. Prints replies,
+// bytes of bodies, seconds, failures; of one round (SECONDS 0) each connection asks once.
 #define _GNU_SOURCE
 #include <arpa/inet.h>
 #include <errno.h>
@@ -15,7 +15,7 @@
 #include <time.h>
 #include <unistd.h>
 
-enum { HEAD = 16384, ROOM = 1 << 18 };
+enum { HEAD = 16384, ROOM = 1 << 18, DIGITS = 8 };
 
 struct peer {
     int socket;
@@ -24,10 +24,13 @@ struct peer {
     long long left;    // bytes of the body that are to come, or -1 within the head
     int closes;
     char text[HEAD + 1];
+    char request[HEAD + 1];
 };
 
-static char request[HEAD], room[ROOM];
+static char request[HEAD + 1], room[ROOM];
 static size_t length;
+static char *mark;         // where each request has its number, if it has one
+static long long asked;
 static struct sockaddr_in address;
 static int queue, rounds_left = -1;
 static long long replies, bytes, failures;
@@ -41,6 +44,11 @@ static double now(void) {
 static void begin(struct peer *p) {
     p->sent = p->head = 0;
     p->left = -1;
+    memcpy(p->request, request, length);
+    if (mark) {
+        long long number = asked++;
+        for (int i = DIGITS; i-- > 0; number /= 10) p->request[mark - request + i] = '0' + number % 10;
+    }
 }
 
 static void open_peer(struct peer *p) {
@@ -104,7 +112,7 @@ static void lose(struct peer *p) {
 static void go_on(struct peer *p) {
     for (;;) {
         while (p->sent < length) {
-            ssize_t n = write(p->socket, request + p->sent, length - p->sent);
+            ssize_t n = write(p->socket, p->request + p->sent, length - p->sent);
             if (n < 0) {
                 if (errno == EAGAIN) return;
                 lose(p);
@@ -139,6 +147,7 @@ int main(int count, char **words) {
     double seconds = atof(words[4]);
     FILE *file = fopen(words[5], "rb");
     length = fread(request, 1, HEAD, file);
+    mark = strstr(request, "########");
     queue = epoll_create1(0);
     struct peer *peers = calloc(connections, sizeof *peers);
     if (seconds == 0) rounds_left = connections;

@@ -11,8 +11,8 @@ import time
 sys.path.insert(0, os.path.join(os.path.dirname(os.path.abspath(__file__)), "..", "e2e"))
 
 from network import raise_loopback  # noqa: E402
-from origin import noise, plain  # noqa: E402
-from ways import NOTHING, Way, describe_machine, origin_of, report, start_polipo, start_squid, start_tinyproxy  # noqa: E402
+from origin import noise, plain, response  # noqa: E402
+from ways import IN_MEMORY, NOTHING, Way, describe_machine, origin_of, report, start_polipo, start_squid, start_tinyproxy  # noqa: E402
 
 ROUNDS = 5
 SECONDS = 2.0
@@ -20,7 +20,7 @@ CLIENTS = 8
 ORIGINS = 48
 LARGE_LEN = 200_000_000
 # What the origin answers; made before its processes are, which share it.
-SMALL, LARGE = plain(noise(1024)), plain(noise(LARGE_LEN))
+SMALL, LARGE = response(noise(1024), b"Cache-Control: no-store"), plain(noise(LARGE_LEN))
 
 
 def answer_to(head):
@@ -138,10 +138,10 @@ def main():
     raise_loopback()
     describe_machine()
     print(f"{ROUNDS} rounds of {SECONDS} s, interleaved; medians; client and origin on the same machine, in Python")
-    with tempfile.TemporaryDirectory() as folder, origin_of(ORIGINS, answer_to) as address:
+    with tempfile.TemporaryDirectory(dir=IN_MEMORY) as folder, origin_of(ORIGINS, answer_to) as address:
         ways = [Way("direct", address, f"127.0.0.1:{address[1]}")]
         try:
-            start_polipo(os.path.abspath(sys.argv[1]), ways)
+            start_polipo(os.path.abspath(sys.argv[1]), folder, ways)
             start_tinyproxy(folder, ways)
             start_squid(folder, ways, NOTHING)
             compare(ways, f"replies of 1 KiB, {CLIENTS} clients", "/s", "/small", CLIENTS, 0)

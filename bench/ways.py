@@ -34,6 +34,10 @@ server_persistent_connections on
 """
 
 
+# So that no proxy is slowed by a disk: what it costs to keep on one is for bench/kept.
+IN_MEMORY = "/dev/shm"
+
+
 NGINX = """worker_processes 1;
 daemon off;
 pid {folder}/nginx.pid;
@@ -45,12 +49,18 @@ http {{
     proxy_temp_path {folder}/temp;
     proxy_cache_path {folder}/kept keys_zone=kept:10m max_size=1g;
     sendfile on;
-    tcp_nopush on;
     keepalive_requests 1000000;
+    upstream origin {{
+        server {authority};
+        keepalive 32;
+    }}
     server {{
         listen 127.0.0.1:{port};
         location / {{
-            proxy_pass http://{authority};
+            proxy_pass http://origin;
+            proxy_http_version 1.1;
+            proxy_set_header Connection "";
+            proxy_set_header Host {authority};
             proxy_cache kept;
             proxy_cache_lock on;
             proxy_cache_lock_timeout 60s;
@@ -134,9 +144,9 @@ def configured(folder, name, text, **values):
     return port, file
 
 
-def start_polipo(program, ways, *settings):
+def start_polipo(program, folder, ways):
     port = free_port()
-    start("polipo", [program, f"proxyPort={port}", *settings], port, ways)
+    start("polipo", [program, f"proxyPort={port}", f"diskCacheRoot={folder}/polipo"], port, ways)
 
 
 def start_tinyproxy(folder, ways):

@@ -4,10 +4,10 @@ build.py          proves each crate that the program stands on, and builds it
 build.py stamp    puts on record that what stands in out/ was built of the sources as they are (for the gate)
 """
 
+import collections
 import hashlib
 import os
 import pathlib
-import queue
 import re
 import shutil
 import signal
@@ -20,9 +20,8 @@ import time
 TOP = pathlib.Path(__file__).resolve().parent.parent
 PROGRAM = TOP / "crates/polipo/out/polipo"
 STAMP = TOP / "crates/polipo/out/built"
-PROOF_MEMORY = 2 << 30  # bytes: what one proof takes at most, or about so
-# Where the copies stand in which the crates are proved.
-ROOMS = pathlib.Path(tempfile.gettempdir()) / f"polipo-{os.getuid()}-{hashlib.sha256(bytes(TOP)).hexdigest()[:16]}"
+# Where the copy stands in which the crates are proved.
+ROOM = pathlib.Path(tempfile.gettempdir()) / f"polipo-{os.getuid()}-{hashlib.sha256(bytes(TOP)).hexdigest()[:16]}"
 
 
 def crates():
@@ -107,93 +106,38 @@ class Progress:
             sys.stderr.write("\n")
 
 
-def order(names, listed):
-    """What is to be proved behind a crate, itself with it: the longest chain, by the bytes of its sources. The crate with the most is
-    begun first."""
-    above = {name: [it for it in names if name in listed[it]] for name in names}
-    size = {name: sum(file.stat().st_size for file in sources([name])) for name in names}
-    chain = {}
-    for name in sorted(names, key=lambda it: len(below(it, listed)), reverse=True):
-        chain[name] = size[name] + max((chain[it] for it in above[name]), default=0)
-    return chain
-
-
-def places():
-    """How many proofs at once: one a processor, and no more than the memory holds."""
-    return max(1, min(len(os.sched_getaffinity(0)), os.sysconf("SC_PAGE_SIZE") * os.sysconf("SC_PHYS_PAGES") // PROOF_MEMORY))
-
-
-class Build:
-    """Proves each crate as soon as those are proved that it stands on, as many at once as there are processors; where fewer can begin,
-    each has more jobs. rt works alone in a crate and in all below it, and takes what it proved in other copies of the same sources: so
-    each proof has a copy of its own."""
-
-    def __init__(self, names, progress):
-        self.listed = {name: deps for name, deps in crates().items() if name in names}
-        self.chain, self.progress = order(names, self.listed), progress
-        self.places = self.free = places()
-        self.rooms = [ROOMS / str(number) for number in range(self.places)]
-        for room in self.rooms:
-            copied(names, room)
-        self.left, self.proved, self.running = set(names), set(), {}
-        self.ended = queue.Queue()
-
-    def ready(self):
-        """Those that can begin, the one with the longest chain behind it first."""
-        return sorted((it for it in self.left if self.proved.issuperset(self.listed[it])), key=self.chain.get, reverse=True)
-
-    def is_waited_for(self, name):
-        return all(name in below(it, self.listed) for it in self.left)
-
-    def begin(self):
-        while self.free > 0 and (ready := self.ready()):
-            # What all that is left waits for has all places, though some are not free yet.
-            name, jobs = ready[0], self.places if self.is_waited_for(ready[0]) else max(1, self.free // len(ready))
-            # The program is run once, with a word that it refuses, so that it ends at once.
-            words, top = (["run", "--", "build-only"], TOP) if name == "polipo" else (["lib", "--jobs", str(jobs)], self.rooms.pop())
-            self.left.remove(name)
-            self.free -= jobs
-            rt = subprocess.Popen(
-                ["rt", *words], cwd=top / "crates" / name, stdout=subprocess.PIPE, stderr=subprocess.STDOUT, text=True, errors="replace", start_new_session=True
-            )
-            self.running[name] = rt
-            threading.Thread(target=self.follow, args=(name, jobs, top, rt), daemon=True).start()
-
-    def follow(self, name, jobs, top, rt):
-        self.ended.put((name, jobs, top, rt.communicate()[0]))
-
-    def whole(self):
-        """Gives the last lines of what went wrong, or none."""
-        self.begin()
-        while self.running:
-            name, jobs, top, said = self.ended.get()
-            is_well = PROGRAM.exists() if name == "polipo" else self.running[name].returncode == 0
-            del self.running[name]
-            if not is_well:
-                return said.splitlines(True)[-40:]
-            self.free += jobs
-            self.rooms.append(top)
-            self.proved.add(name)
-            self.progress.proved(name, sum(int(it) for it in re.findall(r"logic=proved functions=(\d+)", said)[-1:]))
-            self.begin()
-        return []
-
-    def stop(self):
-        for rt in self.running.values():
-            os.killpg(rt.pid, signal.SIGTERM)
-        if PROGRAM.exists():
-            shutil.rmtree(ROOMS, ignore_errors=True)
+def follow(rt, progress):
+    """Shows which crates are proved, as the run tells of them; gives the last lines that it told."""
+    told, functions = collections.deque(maxlen=40), 0
+    for line in rt.stdout:
+        told.append(line)
+        if counted := re.match(r"logic=proved functions=(\d+)", line):
+            functions = int(counted[1])
+        elif proved := re.match(r"rt: (\w+) (?:proved|is kept)", line):
+            progress.proved(proved[1], functions)
+            functions = 0
+    return "".join(told)
 
 
 def build(names):
-    """Proves and builds; gives the last lines of what went wrong, or none."""
+    """Proves and builds as the gate does, in a copy that has the crates of the program alone, without wrong bodies; gives the last lines
+    of what went wrong, or none. rt keeps what it proved, and takes it where that is asked for again."""
     PROGRAM.unlink(missing_ok=True)
+    copied(names, ROOM, without=("must-fail", "wrong"))
+    built = ROOM / "crates/polipo/out/polipo"
     with Progress(len(names)) as progress:
-        work = Build(names, progress)
+        rt = subprocess.Popen(["rt", "ci"], cwd=ROOM, stdout=subprocess.PIPE, stderr=subprocess.STDOUT, text=True, errors="replace", start_new_session=True)
         try:
-            return work.whole()
+            told = follow(rt, progress)
         finally:
-            work.stop()
+            if rt.poll() is None:
+                os.killpg(rt.pid, signal.SIGTERM)
+    if rt.wait() or not built.exists():
+        return told
+    PROGRAM.parent.mkdir(exist_ok=True)
+    shutil.copy(built, PROGRAM)
+    shutil.rmtree(ROOM, ignore_errors=True)
+    return ""
 
 
 def main():
@@ -210,7 +154,7 @@ def main():
         print("polipo: interrupted; the next build goes on from here", file=sys.stderr)
         return 1
     if tail:
-        print("polipo: it is not built:", "".join(tail), sep="\n", end="", file=sys.stderr)
+        print("polipo: it is not built:", tail, sep="\n", end="", file=sys.stderr)
         return 1
     STAMP.write_text(total)
     return 0

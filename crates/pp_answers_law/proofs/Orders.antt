@@ -2,11 +2,11 @@
 use Rattle.std.proofs.Common.{◌≡◌, refl, sym, ap, ap₂, ◌∙◌, ℕ, Bool, true, false, not, ◌&&◌, ◌||◌, cond, filter, List, [], ◌∷◌}
 use Rattle.std.specs.List.{list_any}
 use Rattle.pp_law.specs.Closing.{left_alone}
-use Rattle.pp_law.specs.Connections.{attempts_of, charge, give_up_row, is_exchange, is_for, is_out, is_unfilled, lose_attempt, lost_one, on_client_of, on_exchange, without_row, without_shared_row}
+use Rattle.pp_law.specs.Connections.{attempts_of, charge, give_up_row, is_exchange, is_for, is_out, is_unfilled, lose_attempt, lost_one, on_client_of, on_exchange, without_row, without_shared_row, anew}
 use Rattle.pp_law.specs.Lists.{Bytes, change, is_some_with, is_this}
 use Rattle.pp_law.specs.OwnHeads.{is_asked_by, tell, use_body}
 use Rattle.pp_law.specs.Stages.{filled_of, is_begun}
-use Rattle.pp_law.specs.State.{State, Body, Brought, Chunk, Client, Course, Exchange, Instance, Trying}
+use Rattle.pp_law.specs.State.{State, Body, Brought, Chunk, Client, Course, Exchange, Instance}
 use Rattle.pp_law.specs.Table.{clear, displaced_by, follows, is_chunk_of_any, is_entry_of, is_left_over, is_row_of, is_same_version, row, swept}
 use Rattle.pp_target.specs.Key.{text_of}
 
@@ -139,7 +139,7 @@ paid_free : (e : Exchange) (d : Brought) (cost : Course → Course) → AreFree 
 paid_free e d cost = record { first = for_told e d; second = λ c. refl; both = course_told d cost }
 
 abbrev without_if : Client → Bool → Client
-without_if c b = elim b as (λ u. Client) [ true ↦ c | false ↦ record c { course = Trying 0; has_given_up = true } ]
+without_if c b = elim b as (λ u. Client) [ true ↦ c | false ↦ record c { course = anew c.course; has_given_up = true } ]
 
 without_row_number : (c : Client) → (without_row c).number ≡ c.number
 without_row_number c = by (is_begun c || c.has_given_up)
@@ -160,7 +160,7 @@ row_told d c = by (is_begun c) c.has_given_up refl refl
         at true u is so = ap₂ (λ (a b : Bool). without_if c (a || b)) is so ∙ sym (ap (λ (b : Bool). told_client_if d c b) is)
         at false true is so = ap₂ (λ (a b : Bool). without_if (record c { brought = d }) (a || b)) is so ∙ sym (ap (λ (b : Bool). told_client_if d c b) is)
         at false false is so =
-            ap₂ (λ (a b : Bool). without_if (record c { brought = d }) (a || b)) is so ∙ sym (ap (λ (b : Bool). told_client_if d (record c { course = Trying 0; has_given_up = true }) b) is)
+            ap₂ (λ (a b : Bool). without_if (record c { brought = d }) (a || b)) is so ∙ sym (ap (λ (b : Bool). told_client_if d (record c { course = anew c.course; has_given_up = true }) b) is)
 
 rowless_free : (e : Exchange) (d : Brought) → AreFree (is_for e) (is_for e) without_row (told_client d)
 rowless_free e d = record { first = for_told e d; second = λ c. ap (λ (n : ℕ). is_this n e.asker) (without_row_number c); both = row_told d }

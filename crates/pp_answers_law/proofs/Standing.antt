@@ -5,13 +5,14 @@ use Rattle.pp_cache_law.proofs.Finds.{find_mapped}
 use Rattle.pp_cache_law.proofs.Numbers.{some_is}
 use Rattle.pp_flow_law.proofs.Entries.{none_some}
 use Rattle.pp_law.specs.Closing.{left_alone}
-use Rattle.pp_law.specs.Connections.{attempts_of, charge, give_up_row, is_client, is_for, is_unfilled, lose_attempt, lost_one, on_client_of, on_exchange, without_row, without_shared_row}
+use Rattle.pp_law.specs.Connections.{attempts_of, charge, give_up_row, is_client, is_for, is_unfilled, lose_attempt, lost_one, on_client_of, on_exchange, without_row, without_shared_row, anew}
 use Rattle.pp_law.specs.Lists.{Bytes}
 use Rattle.pp_law.specs.Stages.{is_begun}
-use Rattle.pp_law.specs.State.{State, Client, Course, Exchange, Trying}
+use Rattle.pp_law.specs.State.{State, Client, Course, Exchange}
 use Rattle.pp_law.specs.Table.{clear, swept}
 use Rattle.pp_seats_law.specs.Fates.{is_refused}
 use Rattle.pp_steps_law.proofs.Charged.{asker_rest, lost_given}
+use Rattle.pp_steps_law.proofs.Paid.{anew_given}
 use Rattle.pp_steps_law.specs.Charges.{IsFor}
 use Rattle.pp_target.specs.Key.{text_of}
 use Rattle.pp_answers_law.specs.Answers.{Stands}
@@ -67,14 +68,14 @@ paid_stands : (cost : Course → Course) → ((course : Course) → is_refused c
 paid_stands cost given = record { number = λ c. refl; stands = λ c stands. with_course c (cost c.course) c.has_given_up (given c.course stands.on.given) stands }
 
 abbrev without_if : Client → Bool → Client
-without_if c b = elim b as (λ u. Client) [ true ↦ c | false ↦ record c { course = Trying 0; has_given_up = true } ]
+without_if c b = elim b as (λ u. Client) [ true ↦ c | false ↦ record c { course = anew c.course; has_given_up = true } ]
 
 rowless : (c : Client) → ((without_row c).number ≡ c.number) × (Stands c → Stands (without_row c))
 rowless c = by (is_begun c || c.has_given_up)
   where
     by : (b : Bool) → ((without_if c b).number ≡ c.number) × (Stands c → Stands (without_if c b))
     by true = (refl, λ stands. stands)
-    by false = (refl, λ stands. with_course c (Trying 0) true refl stands)
+    by false = (refl, λ stands. with_course c (anew c.course) true (anew_given c.course stands.on.given) stands)
 
 pub rowless_stands : KeepsStanding without_row
 rowless_stands = record { number = λ c. (rowless c).0; stands = λ c stands. (rowless c).1 stands }

@@ -6,11 +6,11 @@ use Rattle.pp_flow.specs.Entries.{is_number}
 use Rattle.pp_flow.specs.declared.entry.Entry.{Entry}
 use Rattle.pp_flow_law.proofs.Told.{places}
 use Rattle.pp_flow_law.specs.Tables.{Leaving, has_place}
-use Rattle.pp_law.specs.Connections.{attempts_of, exchange, lose_attempt, lost_one, on_client_of, without_shared_row}
+use Rattle.pp_law.specs.Connections.{attempts_of, exchange, lose_attempt, lost_one, on_client_of, without_shared_row, anew}
 use Rattle.pp_law.specs.Lists.{Bytes, is_some_with}
 use Rattle.pp_law.specs.OwnHeads.{drop_answer, key_of as law_key, not_shared as law_not_shared, useless}
 use Rattle.pp_law.specs.Stages.{is_begun}
-use Rattle.pp_law.specs.State.{State, Client, Dropping, Exchange, Trying, Useless}
+use Rattle.pp_law.specs.State.{State, Client, Dropping, Exchange, Useless}
 use Rattle.pp_law.specs.Table.{clear, follows, swept}
 use Rattle.pp_peers.specs.declared.peers.Peer.{Peer}
 use Rattle.pp_seats.specs.Courses.{has_begun, lost_one as lost_one_in, without_shared_row as seat_without_shared_row}
@@ -134,7 +134,7 @@ answered_cleared n p s x e key answered = record {
 -- ---- its request is decided again without it
 
 abbrev shared_if : ℕ → Client → Bool → Bool → Client
-shared_if most c a b = elim a as (λ u. Client) [ true ↦ record c { course = lost_one most c.course } | false ↦ elim b as (λ u. Client) [ true ↦ c | false ↦ record c { course = Trying 0; has_given_up = true } ] ]
+shared_if most c a b = elim a as (λ u. Client) [ true ↦ record c { course = lost_one most c.course } | false ↦ elim b as (λ u. Client) [ true ↦ c | false ↦ record c { course = anew c.course; has_given_up = true } ] ]
 
 abbrev seat_shared_if : ℕ → Seat → Bool → Bool → Seat
 seat_shared_if most seat a b =
@@ -197,4 +197,4 @@ not_shareds number name l peers p s shows n x e answered stands =
     decided : ShowsSteps number name l peers (on_its x.exchange (seat_without_shared_row most) (cleared_row x.exchange.number p)) (on_client_of e (without_shared_row most) (clear (text_of e.key) s))
     decided =
         asker_changed number name l peers (cleared_row x.exchange.number p) (clear (text_of e.key) s) (row_cleared number name l peers p s shows n x e answered) x.exchange e (seat_without_shared_row most) (without_shared_row most) read.asker
-        (record { follows = unshared_follows most; id = unshared_id most; shows = λ m i seat c asks there found one. shared_rows_leave most number name [] seat c one (standing m c asks found).on.given })
+        (record { follows = unshared_follows most; id = unshared_id most; shows = λ m i seat c asks there found one. shared_rows_leave most number name [] seat c one })

@@ -29,6 +29,7 @@ use Rattle.pp_seats_law.proofs.Nexts.{found_number}
 use Rattle.pp_seats_law.specs.Exchanges.{Binding, IsBoundAs, ShowsBound, ShowsExchange}
 use Rattle.pp_seats_law.specs.Fates.{aim_of}
 use Rattle.pp_steps.specs.Bringing.{asks_by, asks_for, asks_for_in, brings, brings_by, filled, instance_of, is_to_come, serves_by}
+use Rattle.pp_steps.specs.Deciding.{serves_next}
 use Rattle.pp_steps.specs.Ends.{Parts}
 use Rattle.pp_steps_law.proofs.Told.{told_of}
 use Rattle.pp_steps_law.specs.Steps.{ShowsSteps}
@@ -170,10 +171,16 @@ brings_of number name l peers p s shows x n next k e d here there = brings_it_as
 
 pub serves_of : ServesAreTheLaws
 serves_of number name l peers p s shows x n next k e d r here there at to =
-    serves_as number p.cache s x.source n.source (found_of number name l peers p s shows x n next) next.known next.there e d x.at x.to e.exchange.bound (bound_of d) (entry number name l peers p s shows k e d here there)
-    (exchanges number e d (entry number name l peers p s shows k e d here there)).bound (told number name l peers p s shows k e here)
-    ∙ ap₂ (λ (from end : ℕ). elim (bound_of d) as (λ o. Bool) [ Some c ↦ (c.instance == n.source.id) && nat_lt (max c.next from) (min c.to end) && is_soon_by c from | None ↦ asks_for_it n.source from d ])
-    (next.at ∙ sym at) (next.to ∙ sym to)
+    by (nat_lt x.at x.to) ∙ ap₂ (λ (from end : ℕ). nat_lt from end && served from end) (next.at ∙ sym at) (next.to ∙ sym to)
+  where
+    served : ℕ → ℕ → Bool
+    served from end = elim (bound_of d) as (λ o. Bool) [ Some c ↦ (c.instance == n.source.id) && nat_lt (max c.next from) (min c.to end) && is_soon_by c from | None ↦ asks_for_it n.source from d ]
+
+    by : (b : Bool) → serves_next (elim b as (λ c. Option SeatNext) [ true ↦ Some (record { source = x.source; at = x.at; to = x.to }) | false ↦ None ]) p.cache e ≡ (b && served x.at x.to)
+    by true =
+        serves_as number p.cache s x.source n.source (found_of number name l peers p s shows x n next) next.known next.there e d x.at x.to e.exchange.bound (bound_of d) (entry number name l peers p s shows k e d here there)
+        (exchanges number e d (entry number name l peers p s shows k e d here there)).bound (told number name l peers p s shows k e here)
+    by false = refl
 
 -- ---- of all of them
 

@@ -6,7 +6,9 @@ use Rattle.pp_law.specs.Connections.{exchange}
 use Rattle.pp_law.specs.Deciding.{serves as serves_reply}
 use Rattle.pp_law.specs.State.{Exchange, Reply}
 use Rattle.pp_law.specs.Table.{asks_for as asks_for_it, brings as brings_it, is_brought as is_being_brought, is_provided as is_being_provided}
-use Rattle.pp_steps.specs.Bringing.{asks_for, brings, is_brought, is_provided, serves}
+use Rattle.pp_seats.specs.Follows.{next_at}
+use Rattle.pp_steps.specs.Bringing.{asks_for, brings, is_brought, is_provided}
+use Rattle.pp_steps.specs.Deciding.{serves_next}
 use Rattle.pp_brings_law.specs.Nexts.{OfNexts}
 
 -- of the exchange with a number
@@ -16,9 +18,9 @@ AsksAreTheLaws = OfNexts (λ p s x n. (k : ℕ) (e : Entry) (d : Exchange) → e
 abbrev pub BringsAreTheLaws : Type 0
 BringsAreTheLaws = OfNexts (λ p s x n. (k : ℕ) (e : Entry) (d : Exchange) → entry_of k p.flow ≡ Some e → exchange s k ≡ Some d → brings x.source x.at p.cache e ≡ brings_it s n.source n.at d)
 
--- of what the reply still wants
+-- of what the reply still wants, where it wants any byte
 abbrev pub ServesAreTheLaws : Type 0
-ServesAreTheLaws = OfNexts (λ p s x n. (k : ℕ) (e : Entry) (d : Exchange) (r : Reply) → entry_of k p.flow ≡ Some e → exchange s k ≡ Some d → r.at ≡ n.at → r.to ≡ n.to → serves x p.cache e ≡ serves_reply n.source r d)
+ServesAreTheLaws = OfNexts (λ p s x n. (k : ℕ) (e : Entry) (d : Exchange) (r : Reply) → entry_of k p.flow ≡ Some e → exchange s k ≡ Some d → r.at ≡ n.at → r.to ≡ n.to → serves_next (next_at x.source x.to (Some x.at)) p.cache e ≡ serves_reply n.source r d)
 
 -- of them all
 abbrev pub BroughtIsTheLaws : Type 0

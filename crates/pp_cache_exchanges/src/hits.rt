@@ -1,4 +1,5 @@
 // Replies from what is held.
+use crate::saying::says_nothing;
 use pp_play::{ASK, Act, Exchange, GET, Part, REPLY, RESPONSE, Step, T, Wanted, unlike};
 use pp_world::Decision;
 use std::test::Fail;
@@ -22,8 +23,7 @@ const FIRST: &[Exchange<'static>] = &[Exchange {
 
 #[test]
 fn a_page_that_is_not_known_is_fetched(rt: HostRuntime) -> Result<(), Fail> {
-    assert_eq!(rt; unlike(rt.alloc(), FIRST)?.as_str(), "");
-    Ok(())
+    says_nothing(&rt, unlike(rt.alloc(), FIRST))
 }
 
 /// The reply to a client that comes ten seconds behind the one for whom the page was fetched.
@@ -53,8 +53,7 @@ const AGAIN: &[Exchange<'static>] = &[Exchange {
 
 #[test]
 fn a_page_that_is_held_is_not_asked_for_again(rt: HostRuntime) -> Result<(), Fail> {
-    assert_eq!(rt; unlike(rt.alloc(), AGAIN)?.as_str(), "");
-    Ok(())
+    says_nothing(&rt, unlike(rt.alloc(), AGAIN))
 }
 
 const RANGES: &[Exchange<'static>] = &[Exchange {
@@ -116,8 +115,7 @@ const RANGES: &[Exchange<'static>] = &[Exchange {
 
 #[test]
 fn ranges_are_answered_from_what_is_held(rt: HostRuntime) -> Result<(), Fail> {
-    assert_eq!(rt; unlike(rt.alloc(), RANGES)?.as_str(), "");
-    Ok(())
+    says_nothing(&rt, unlike(rt.alloc(), RANGES))
 }
 
 const EMPTY: &[Exchange<'static>] = &[Exchange {
@@ -168,6 +166,5 @@ const EMPTY: &[Exchange<'static>] = &[Exchange {
 
 #[test]
 fn a_page_without_a_byte_is_held(rt: HostRuntime) -> Result<(), Fail> {
-    assert_eq!(rt; unlike(rt.alloc(), EMPTY)?.as_str(), "");
-    Ok(())
+    says_nothing(&rt, unlike(rt.alloc(), EMPTY))
 }

@@ -1,12 +1,19 @@
-//! Worked exchanges with the cache: the whole program, run over a world in memory.
+//! Worked exchanges with the cache, in memory and in its folder: the whole program, run over a world in memory.
 //!
-//! Each table writes down what clients and origins do, and the bytes that each of them is sent; where it matters how often an
-//! origin is asked, and how much of what it sends is read. All are played twice, with each text whole and with every byte alone,
-//! and some with the origin lost behind each byte.
+//! Each table writes down what clients and origins do, where the machine stops and what the crash leaves of what was in doubt; and
+//! what is wanted: the bytes that each client is sent, how often an origin is asked, how much of what it sends is read, and the
+//! course of the folder, operation by operation. Most are played twice, with each text whole and with every byte alone. Folders
+//! write down their files, and what a request comes to over them. Crowds write down how many follow a body, which chunks of it
+//! they need next, and which chunks leave memory where more comes than fits.
 //!
-//! Nothing stands on this crate. It stands beside `pp_exchanges`, so that both are proved at the same time.
+//! One course of clients and an origin is played again and again: each call that can fail fails once, and the machine stops
+//! behind each happening.
+//!
+//! To `pp_scarce`: the course, what each client may be said, and a life over it. The tests stand beside `pp_exchanges`, so that
+//! both are proved at the same time.
 #![tactic(auto)]
 
+// What is held, and asked for.
 #[cfg(test)]
 mod for_whom; // whom a response is for, and how long
 #[cfg(test)]
@@ -25,3 +32,42 @@ mod sharing; // one fetch for many
 mod unseen; // what nobody will see
 #[cfg(test)]
 mod validation; // rows that are refreshed or replaced
+
+// What is held of lost origins, and of wrong answers.
+#[cfg(test)]
+mod kept_losses; // what a lost origin sent is kept, unless nobody gives the rest
+#[cfg(test)]
+mod one_answer; // what is still out for a request that asks anew
+#[cfg(test)]
+mod useless; // answers that bring nothing of what was asked for
+
+// The folder.
+#[cfg(test)]
+mod folders; // files, and a run over them
+#[cfg(test)]
+mod foreign; // files that are no entries
+#[cfg(test)]
+mod lives; // from one life to the next
+#[cfg(test)]
+mod on_disk; // what is kept on the disk, and when
+
+// More than fits.
+#[cfg(test)]
+mod crowds; // followers, and the chunks that leave memory
+#[cfg(test)]
+mod lengths; // the longest body that is stored
+#[cfg(test)]
+mod room; // which chunks leave, and which stay
+
+// What fails.
+mod course; // what clients and the origin do, and may be said
+#[cfg(test)]
+mod crashes; // the machine stops behind each happening
+#[cfg(test)]
+mod failing; // each call that can fail fails once
+mod life; // a life of the program, and one more behind a crash
+#[cfg(test)]
+mod saying; // that nothing is said where all goes as wanted
+
+pub use course::{ALONE, AT_ONCE, COURSE, MAY_BE_SAID, MaySay, Reply};
+pub use life::{Life, first_life, next_life};

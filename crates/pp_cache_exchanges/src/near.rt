@@ -1,5 +1,6 @@
 // Clients that read far ahead of what comes (ours): an exchange is waited for at most 256 chunks ahead of what it brings next, and
 // what is farther is asked for, but of an origin that gives no ranges. 256 chunks are 1,048,576 bytes.
+use crate::saying::says_nothing;
 use pp_play::{ASK, Act, Exchange, GET, Part, Step, T, Wanted, unlike};
 use pp_world::Decision;
 use std::test::Fail;
@@ -120,8 +121,7 @@ const AHEAD: &[Exchange<'static>] = &[
 
 #[test]
 fn what_is_far_ahead_is_asked_for(rt: HostRuntime) -> Result<(), Fail> {
-    assert_eq!(rt; unlike(rt.alloc(), AHEAD)?.as_str(), "");
-    Ok(())
+    says_nothing(&rt, unlike(rt.alloc(), AHEAD))
 }
 
 const WHOLE: &[Exchange<'static>] = &[
@@ -190,6 +190,5 @@ const WHOLE: &[Exchange<'static>] = &[
 
 #[test]
 fn an_origin_that_gives_no_ranges_is_waited_for(rt: HostRuntime) -> Result<(), Fail> {
-    assert_eq!(rt; unlike(rt.alloc(), WHOLE)?.as_str(), "");
-    Ok(())
+    says_nothing(&rt, unlike(rt.alloc(), WHOLE))
 }

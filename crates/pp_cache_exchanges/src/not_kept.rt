@@ -1,4 +1,5 @@
 // What the cache does not answer.
+use crate::saying::says_nothing;
 use pp_play::{ASK, Act, Exchange, GET, Part, Step, T, Wanted, unlike};
 use pp_world::Decision;
 use std::test::Fail;
@@ -36,8 +37,7 @@ const CODED: &[Exchange<'static>] = &[Exchange {
 
 #[test]
 fn a_page_without_a_length_is_not_kept(rt: HostRuntime) -> Result<(), Fail> {
-    assert_eq!(rt; unlike(rt.alloc(), CODED)?.as_str(), "");
-    Ok(())
+    says_nothing(&rt, unlike(rt.alloc(), CODED))
 }
 
 const WEAK_RESPONSE: &[u8] =
@@ -67,8 +67,7 @@ const WEAK: &[Exchange<'static>] = &[Exchange {
 
 #[test]
 fn a_page_with_a_weak_tag_is_not_kept(rt: HostRuntime) -> Result<(), Fail> {
-    assert_eq!(rt; unlike(rt.alloc(), WEAK)?.as_str(), "");
-    Ok(())
+    says_nothing(&rt, unlike(rt.alloc(), WEAK))
 }
 
 const CACHED_ALONE: &[Exchange<'static>] = &[Exchange {
@@ -97,6 +96,5 @@ const CACHED_ALONE: &[Exchange<'static>] = &[Exchange {
 fn a_page_that_is_not_held_is_refused_where_nothing_else_is_wanted(
     rt: HostRuntime,
 ) -> Result<(), Fail> {
-    assert_eq!(rt; unlike(rt.alloc(), CACHED_ALONE)?.as_str(), "");
-    Ok(())
+    says_nothing(&rt, unlike(rt.alloc(), CACHED_ALONE))
 }

@@ -1,4 +1,5 @@
 // Rows that a passed response outdates: what HEAD and GET show, and what an unsafe method changed.
+use crate::saying::says_nothing;
 use pp_play::{ASK, Act, Exchange, GET, Part, REPLY, REPLY_HELD, RESPONSE, T, Wanted, unlike};
 use pp_world::Decision;
 use std::test::Fail;
@@ -156,8 +157,7 @@ const SHOWN: &[Exchange<'static>] = &[
 
 #[test]
 fn what_head_and_get_show_of_a_page_is_believed(rt: HostRuntime) -> Result<(), Fail> {
-    assert_eq!(rt; unlike(rt.alloc(), SHOWN)?.as_str(), "");
-    Ok(())
+    says_nothing(&rt, unlike(rt.alloc(), SHOWN))
 }
 
 const FETCHED_ANEW: &[Exchange<'static>] = &[Exchange {
@@ -202,8 +202,7 @@ const FETCHED_ANEW: &[Exchange<'static>] = &[Exchange {
 
 #[test]
 fn a_page_that_head_shows_to_be_another_is_fetched_anew(rt: HostRuntime) -> Result<(), Fail> {
-    assert_eq!(rt; unlike(rt.alloc(), FETCHED_ANEW)?.as_str(), "");
-    Ok(())
+    says_nothing(&rt, unlike(rt.alloc(), FETCHED_ANEW))
 }
 
 const INVALIDATED: &[Exchange<'static>] = &[
@@ -277,6 +276,5 @@ const INVALIDATED: &[Exchange<'static>] = &[
 
 #[test]
 fn what_a_post_names_is_not_known_any_more(rt: HostRuntime) -> Result<(), Fail> {
-    assert_eq!(rt; unlike(rt.alloc(), INVALIDATED)?.as_str(), "");
-    Ok(())
+    says_nothing(&rt, unlike(rt.alloc(), INVALIDATED))
 }

@@ -2,6 +2,7 @@
 //
 // A client is lost by two breaks: where the first fails a read, it counts as one that sends no more; the other fails the next
 // write.
+use crate::saying::says_nothing;
 use pp_play::{Act, Exchange, GET, Pace, Part, Step, T, Wanted, unlike, unlike_at};
 use std::test::Fail;
 
@@ -85,8 +86,7 @@ const PASSED: &[Exchange<'static>] = &[
 
 #[test]
 fn what_is_passed_to_nobody_is_not_read_on(rt: HostRuntime) -> Result<(), Fail> {
-    assert_eq!(rt; unlike(rt.alloc(), PASSED)?.as_str(), "");
-    Ok(())
+    says_nothing(&rt, unlike(rt.alloc(), PASSED))
 }
 
 /// The client took the head of the reply, of 160 bytes, and ten bytes of its body, and is gone behind eleven that came. Then so
@@ -305,6 +305,5 @@ const LONG: &[Exchange<'static>] = &[
 
 #[test]
 fn what_is_read_for_nobody_is_read_so_far(rt: HostRuntime) -> Result<(), Fail> {
-    assert_eq!(rt; unlike_at(rt.alloc(), Pace::Whole, LONG)?.as_str(), "");
-    Ok(())
+    says_nothing(&rt, unlike_at(rt.alloc(), Pace::Whole, LONG))
 }

@@ -2,7 +2,7 @@
 use pp_fresh::{
     Directives, Times, age, allows_guess, date_of, lifetime, may_store, ready, times_of,
 };
-use pp_head::{HeadState, RequestHead, ResponseHead, Scratch, read_request, read_response};
+use pp_head::{HeadState, KeptHead, RequestHead, ResponseHead, Scratch, read_response};
 use pp_plan::{Begun, PlanRow, decide, fetch_range, is_near, need, span};
 use pp_valid::{
     ContentRange, Tag, TagState, Version, accepts_only_identity, body_length, if_range_holds,
@@ -135,8 +135,9 @@ const FOUND: [(&[u8], &[u8], Found); 5] = [
 ];
 
 fn judged(request: &[u8], response: &[u8]) -> Option<Found> {
-    let mut scratch = Scratch::new();
-    let HeadState::Whole(request) = read_request(request, &mut scratch) else {
+    let mut kept = KeptHead::new();
+    kept.read(request);
+    let HeadState::Whole(request) = kept.show(request) else {
         return None;
     };
     let mut scratch = Scratch::new();

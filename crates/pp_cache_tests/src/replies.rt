@@ -6,7 +6,7 @@ ghost use Rattle.pp_reply.specs.Texts.{has_page};
 
 use arrayvec::ArrayVec;
 use pp_framing::{BodyRule, request_rule, rule};
-use pp_head::{HeadState, Scratch, read_request, read_response};
+use pp_head::{HeadState, KeptHead, Scratch, read_response};
 use pp_reply::{
     CONTINUE, KeptReply, KeptView, ReplyKind, TEXT_LEN, is_end_known, is_kept_open, wants_interim,
     write_kept_reply, write_reply,
@@ -134,8 +134,9 @@ fn a_reply_is_a_passed_response_a_page_or_what_is_kept(rt: HostRuntime) {
 
 /// Whether the connection of a request goes on, and whether it waits for the interim answer.
 fn wishes(received: &[u8]) -> Option<(bool, bool)> {
-    let mut scratch = Scratch::new();
-    let HeadState::Whole(head) = read_request(received, &mut scratch) else {
+    let mut kept = KeptHead::new();
+    kept.read(received);
+    let HeadState::Whole(head) = kept.show(received) else {
         return None;
     };
     let Ok(rule) = request_rule(&head.fields) else {

@@ -5,6 +5,7 @@ pub mod DroppedLemmas
 pub mod FoundLemmas
 pub mod HeadLemmas
 pub mod HeardParts
+pub mod KeptLemmas
 pub mod ReadInOrder
 pub mod RunLemmas
 pub mod SaidInOrder

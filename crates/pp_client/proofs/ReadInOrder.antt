@@ -58,7 +58,7 @@ zero_kept : (rest : List ℕ) (n : ℕ) → n ≡ 0 → IsKept rest (Dropped n)
 zero_kept [] n none = tt
 zero_kept (b ∷ rest) n none = none
 
-kept_later : (rest : List ℕ) (body : Body) (a : List ℕ) → IsKept rest body → IsIdle [] body → IsKept (rest ++ kept body a) (later body (length a))
+pub kept_later : (rest : List ℕ) (body : Body) (a : List ℕ) → IsKept rest body → IsIdle [] body → IsKept (rest ++ kept body a) (later body (length a))
 kept_later rest (Unread n) a is idle = absurd idle
 kept_later [] (Dropped n) a is idle = by (cases_lt n (length a))
   where
@@ -69,7 +69,7 @@ kept_later (b ∷ rest) (Dropped n) a is idle = omega (arith, is)
 kept_later [] Over a is idle = tt
 kept_later (b ∷ rest) Over a is idle = absurd is
 
-idle_later : (body : Body) (n : ℕ) → IsIdle [] body → IsIdle [] (later body n)
+pub idle_later : (body : Body) (n : ℕ) → IsIdle [] body → IsIdle [] (later body n)
 idle_later (Unread m) n idle = absurd idle
 idle_later (Dropped m) n idle = tt
 idle_later Over n idle = tt

@@ -18,7 +18,6 @@ use crate::heard::Heard;
 use crate::interim::Interim;
 use crate::reply::{Begin, Reply, Stage};
 use arrayvec::ArrayVec;
-use pp_head::Scratch;
 use pp_objects::{ObjectId, Objects};
 use pp_pass::Pass;
 use pp_pool::Pool;
@@ -108,14 +107,14 @@ impl Client {
         self.heard.hear(bytes);
     }
 
-    /// The current request, or why there is none. Its head is read anew.
-    pub fn current<'a, 's>(&'a self, scratch: &'s mut Scratch) -> Current<'a, 's>
+    /// The current request, or why there is none. Its head was read when it was heard.
+    pub fn current(&self) -> Current<'_, '_>
         ensures value { shown result ≡ current_of self.now.heard }
 
         // Of `heard_in`, `current_of` and `answered`: the requests are those that were sent, in their order.
         ensures order { (n : ℕ) (sent : List ℕ) → IsReadInOrder n sent }
     {
-        self.heard.current(scratch)
+        self.heard.current()
     }
 
     /// The heard bytes of the current request's body that were neither taken nor dropped.

@@ -1,10 +1,11 @@
 // What stands at the front of what a client sent.
 ghost use Rattle.std.specs.Prelude.{◌≡◌};
+ghost use Rattle.pp_head.specs.Kept.{Shows};
 ghost use Rattle.pp_client.specs.Requests.{fault_of, front_of};
 ghost use Rattle.pp_client.specs.Shown.{shown};
 
 use pp_framing::{BodyRule, FramingFault, request_rule};
-use pp_head::{HeadState, RequestHead, Scratch, read_request};
+use pp_head::{HeadState, KeptHead, RequestHead};
 
 /// The current request, or why there is none.
 #[derive(Drop)]
@@ -21,14 +22,15 @@ pub enum Current<'a, 's> {
     Refuse(u16),
 }
 
-/// What stands at the front of the bytes. The head is read anew at each call.
-pub(crate) fn front<'a, 's>(bytes: &'a [u8], scratch: &'s mut Scratch) -> Current<'a, 's>
+/// What stands at the front of the bytes, of which this was read.
+pub(crate) fn front<'a, 's>(bytes: &'a [u8], kept: &'s KeptHead) -> Current<'a, 's>
+    requires { Shows kept.now bytes.now }
     ensures { shown result ≡ front_of bytes.now }
 {
     if bytes.is_empty() {
         return Current::Nothing;
     }
-    match read_request(bytes, scratch) {
+    match kept.show(bytes) {
         HeadState::More => Current::More,
         HeadState::TooLong => Current::Refuse(431),
         HeadState::Bad => Current::Refuse(400),

@@ -1,7 +1,8 @@
 // The bytes that were heard: the head of the current request, and what stands behind it.
 ghost use Rattle.std.specs.Prelude.{◌≡◌, ◌≤◌, ◌<◌, ◌++◌, ℕ, List, [], length, take, IfOk, IfSome};
+ghost use Rattle.pp_head.specs.Kept.{Shows};
 ghost use Rattle.pp_head.specs.Request.{request_at};
-ghost use Rattle.pp_client.specs.Requests.{IsHead, answered, body_dropped, body_in, body_taken, current_of, heard_in, room_of, silent, split_by, with_next};
+ghost use Rattle.pp_client.specs.Requests.{IsHead, answered, body_dropped, body_in, body_taken, current_of, heard_in, room_of, silent, split_by};
 ghost use Rattle.pp_client.specs.Found.{found_in};
 ghost use Rattle.pp_client.specs.Shown.{shown};
 
@@ -10,7 +11,7 @@ use crate::buffer::Buffer;
 use crate::current::{Current, front};
 use arrayvec::ArrayVec;
 use pp_framing::request_rule;
-use pp_head::{HeadState, MAX_BYTES, Scratch, read_request};
+use pp_head::{HeadState, KeptHead, MAX_BYTES};
 use pp_text::OutOfMemory;
 use std::alloc::{AllocError, Global};
 use std::marker::Model;
@@ -27,8 +28,8 @@ pub(crate) struct Heard {
     // What was heard behind it.
     rest: Buffer,
     body: Body,
-    // Room for the fields of a head that is looked at.
-    scratch: Box<Scratch>,
+    // What was read of the head, or of what may become one.
+    kept: Box<KeptHead>,
 }
 
 impl Model for Heard {
@@ -52,7 +53,7 @@ impl Heard {
             head: Box::new(alloc, ArrayVec::new()).map_err(AllocError::from)?,
             rest: Buffer::new(alloc)?,
             body: Body::Dropped(0),
-            scratch: Box::new(alloc, Scratch::new()).map_err(AllocError::from)?,
+            kept: Box::new(alloc, KeptHead::new()).map_err(AllocError::from)?,
         })
     }
 
@@ -72,17 +73,20 @@ impl Heard {
         let lost = self.body.lost(bytes.len());
         self.rest.put(&bytes[lost..]);
         self.body = self.body.later(bytes.len());
-        self.find_next();
+        if self.head.is_empty() {
+            self.kept.read(self.rest.as_slice());
+            self.split();
+        }
     }
 
     /// What stands at the front.
-    pub(crate) fn current<'a, 's>(&'a self, scratch: &'s mut Scratch) -> Current<'a, 's>
+    pub(crate) fn current(&self) -> Current<'_, '_>
         ensures { shown result ≡ current_of self.now }
     {
         if self.head.is_empty() {
-            front(self.rest.as_slice(), scratch)
+            front(self.rest.as_slice(), &self.kept)
         } else {
-            front(self.head.as_slice(), scratch)
+            front(self.head.as_slice(), &self.kept)
         }
     }
 
@@ -124,28 +128,22 @@ impl Heard {
     {
         if self.head.is_empty() {
             self.rest.clear();
+            self.kept.clear();
             self.body = Body::Over;
         } else {
             self.drop_body();
             self.head.clear();
-            self.find_next();
-        }
-    }
-
-    /// A request becomes current, where none is and its head is whole.
-    fn find_next(&mut self)
-        ensures { self.new ≡ with_next self.old }
-    {
-        if self.head.is_empty() {
+            self.kept.read(self.rest.as_slice());
             self.split();
         }
     }
 
+    /// The request that was read becomes current, where its head is whole.
     fn split(&mut self)
         requires { self.old.head ≡ [] }
         ensures { self.new ≡ split_by (request_at self.old.rest) self.old }
     {
-        let Some(found) = find(self.rest.as_slice(), &mut self.scratch) else {
+        let Some(found) = find(self.rest.as_slice(), &self.kept) else {
             return;
         };
         let _ = self
@@ -164,15 +162,17 @@ struct Found {
     body: Body,
 }
 
-/// The request at the front of the bytes, if its head is whole.
-fn find(bytes: &[u8], scratch: &mut Scratch) -> Option<Found>
+/// The request at the front of the bytes, of which this was read, if its head is whole.
+fn find(bytes: &[u8], kept: &KeptHead) -> Option<Found>
+    requires { Shows kept.now bytes.now }
     ensures found { result ≡ found_in (request_at bytes.now) }
     ensures some { IfSome result (λ found. 0 < found.len) }
     ensures within { IfSome result (λ found. found.len ≤ length bytes.now) }
     ensures short { IfSome result (λ found. found.len ≤ MAX_BYTES) }
     ensures head { IfSome result (λ found. IsHead (take found.len bytes.now)) }
+    ensures alone { IfSome result (λ found. Shows kept.now (take found.len bytes.now)) }
 {
-    match read_request(bytes, scratch) {
+    match kept.show(bytes) {
         HeadState::Whole(head) => Some(Found {
             len: head.length,
             body: Body::of(request_rule(&head.fields)),

@@ -1,20 +1,28 @@
-// Instances and a pool that agree. What a call asks for is tested before it.
+// Instances and a pool that agree, and the row that a course has. What a call asks for is tested before it.
 ghost use Rattle.std.specs.Prelude.{◌≡◌, IfSome, true};
 ghost use Rattle.pp_objects.specs.Instances.{is_there, total_at};
 
 use pp_objects::{ObjectId, Objects, Times};
 use pp_pool::Pool;
-use pp_text::Fields;
+use pp_text::{Fields, OutOfMemory};
 use pp_valid::{Tag, Version};
 use std::alloc::Global;
 use std::marker::Model;
-use std::process::Abort;
+
+const TIMES: Times = Times {
+    request: 784111777,
+    response: 784111777,
+    initial: 0,
+    may_guess: true,
+};
 
 #[derive(Drop)]
 pub struct Cache {
     alloc: Global,
     pub objects: Objects,
     pub pool: Pool,
+    /// The row that was settled last.
+    pub row: Option<ObjectId>,
 }
 
 impl Model for Cache {
@@ -29,49 +37,59 @@ impl Model for Cache {
 }
 
 impl Cache {
-    pub fn new(rt: &impl Abort, alloc: Global) -> Cache {
-        let objects = Objects::new(alloc).expect(rt, "no memory");
-        let pool = Pool::new(alloc, 512).expect(rt, "no memory");
-        Cache {
+    pub fn new(alloc: Global) -> Result<Cache, OutOfMemory> {
+        let objects = Objects::new(alloc)?;
+        let pool = Pool::new(alloc, 512)?;
+        Ok(Cache {
             alloc,
             objects,
             pool,
+            row: None,
+        })
+    }
+
+    /// A row of so many bytes, none of them in memory. Whether there is room for it.
+    pub fn settle(&mut self, length: u64) -> bool {
+        let Some(tag) = Tag::read(b"\"x\"") else {
+            return false;
+        };
+        if length > 1 << 30 || self.objects.is_full() {
+            return false;
+        }
+        let version = Version { tag, length };
+        let fields = Fields::new(&[], &[]);
+        match self.objects.settle(
+            self.alloc,
+            &mut self.pool,
+            b"http://h/a",
+            &version,
+            &fields,
+            TIMES,
+        ) {
+            Ok(id) => {
+                self.row = Some(id);
+                true
+            }
+            Err(OutOfMemory) => false,
         }
     }
 
-    /// A row of so many bytes, none of them in memory.
-    pub fn settle(&mut self, rt: &impl Abort, length: u64) -> ObjectId {
-        let tag = Tag::read(b"\"x\"").expect(rt, "no strong tag");
-        assert!(rt; length <= 1 << 30);
-        let is_full = self.objects.is_full();
-        assert!(rt; !is_full);
-        let version = Version { tag, length };
-        let times = Times {
-            request: 784111777,
-            response: 784111777,
-            initial: 0,
-            may_guess: true,
+    /// Bytes of the row join. Whether they are within it, and all join.
+    pub fn join(&mut self, at: u64, bytes: &[u8]) -> bool {
+        let Some(id) = self.row else {
+            return false;
         };
-        self.objects
-            .settle(
-                self.alloc,
-                &mut self.pool,
-                b"http://h/a",
-                &version,
-                &Fields::new(&[], &[]),
-                times,
-            )
-            .expect(rt, "no memory")
-    }
-
-    /// Bytes of the row join.
-    pub fn add(&mut self, rt: &impl Abort, id: ObjectId, at: u64, bytes: &[u8]) {
-        let total = total(&self.objects, id).expect(rt, "gone");
-        let end = at
-            .checked_add(bytes.len() as u64)
-            .expect(rt, "past the end");
-        assert!(rt; end <= total);
-        self.objects.add(&mut self.pool, id, at, bytes);
+        let Some(total) = total(&self.objects, id) else {
+            return false;
+        };
+        let Some(end) = at.checked_add(bytes.len() as u64) else {
+            return false;
+        };
+        if end > total {
+            return false;
+        }
+        let added = self.objects.add(&mut self.pool, id, at, bytes);
+        added.joined == bytes.len() as u64
     }
 }
 

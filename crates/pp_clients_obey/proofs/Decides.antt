@@ -22,7 +22,7 @@ use Rattle.pp_law.specs.Phases.{in_phase}
 use Rattle.pp_law.specs.Replies.{regained}
 use Rattle.pp_law.specs.Requests.{Front, Parsed, NoHeadYet, NoHead, IsRequest, key_in, parsed_in}
 use Rattle.pp_law.specs.State.{State, Client, Deciding, Entry, Exchange, Instance, Reply}
-use Rattle.pp_law.specs.Table.{add_row, enter, forget, forget_row, idle_row, row_on_disk, mark_row, row, row_for, rows, with_room}
+use Rattle.pp_law.specs.Table.{add_row, enter, forget, forget_row, idle_row, row_on_disk, mark_row, row, row_for, rows, swept, with_room}
 use Rattle.pp_obeys.specs.Moves.{Goes, Moves}
 use Rattle.pp_obeys.proofs.Calls.{keeps_more, moves_to}
 use Rattle.pp_obeys.proofs.Frames.{Frame, frame, frame_of, stays}
@@ -126,7 +126,9 @@ seen_begun e s = seen_leave (λ x. is_some_with (λ n. is_of n x) e.asker) s
 ask_changes : (c : Client) (d : Decision) (head : Request) (key : Key) (kind : AskKind) (s : State) → IsChangedBy c.number (asking_with d) s (ask_for c d head key kind s)
 unfolding ask_for
 ask_changes c d head key kind s =
-    seen_begun (new_exchange s c head key d kind) (leave (is_of c.number) (on_client c.number (asking_with d) s)) ∙ seen_leave (is_of c.number) (on_client c.number (asking_with d) s) ∙ seen_on c.number (asking_with d) s
+    let left : State = leave (is_of c.number) (on_client c.number (asking_with d) s) in
+    let e : Exchange = new_exchange s c head key d kind in
+    seen_swept (begin_exchange e left) ∙ seen_begun e left ∙ seen_leave (is_of c.number) (on_client c.number (asking_with d) s) ∙ seen_on c.number (asking_with d) s
 
 kind_changes : (c : Client) (d : Decision) (head : Request) (key : Key) (s : State) (o : Option AskKind) → is_some o ≡ true → IsChangedBy c.number (asking_with d) s (elim o as (λ x. State) [ None ↦ s | Some kind ↦ ask_for c d head key kind s ])
 kind_changes c d head key s None there = absurd (cc there)
@@ -213,7 +215,9 @@ follow_decided c d id s is there =
 
 relay_decided : (c : Client) (s : State) → IsChangedBy c.number (answering_with (reply_by Relay None)) s (decided c Relay s)
 unfolding decided decided_by relay
-relay_decided c s = changed_on c.number (answering_with (reply_by Relay None)) s (enter_row c Relay s) (on_client c.number (answering_with (reply_by Relay None)) (enter_row c Relay s)) (seen_entered c Relay s) (seen_on c.number (answering_with (reply_by Relay None)) (enter_row c Relay s))
+relay_decided c s =
+    let t : State = on_client c.number (answering_with (reply_by Relay None)) (enter_row c Relay s) in
+    changed_on c.number (answering_with (reply_by Relay None)) s (enter_row c Relay s) (swept t) (seen_entered c Relay s) (seen_swept t ∙ seen_on c.number (answering_with (reply_by Relay None)) (enter_row c Relay s))
 
 -- ---- the seat of that client
 

@@ -1,7 +1,7 @@
 -- An origin is asked: the request waits for an exchange that begins, in the program as in the law.
-use Rattle.std.proofs.Common.{◌≡◌, ◌≤◌, ◌<◌, refl, sym, subst, ap, ap₂, ◌∙◌, ℕ, ◌+◌, Bool, true, false, ◌&&◌, not, ◌||◌, cond, nat_lt, find, length, List, [], ◌∷◌, ◌++◌, Some, None, Option, option_map, Ok, Err, arith}
+use Rattle.std.proofs.Common.{◌≡◌, ◌≤◌, ◌<◌, refl, subst, ap, ap₂, ◌∙◌, ℕ, ◌+◌, Bool, true, false, ◌&&◌, not, ◌||◌, cond, nat_lt, find, length, List, [], ◌∷◌, ◌++◌, Some, None, Option, option_map, Ok, Err, arith}
 use Rattle.std.proofs.lemmas.Bool.Decides.{nat_tests}
-use Rattle.std.specs.Prelude.{is_some, option_and_then, slice_get, slice_set}
+use Rattle.std.specs.Prelude.{is_some, slice_get, slice_set}
 use Rattle.pp_ask.specs.declared.kind.AskKind.{AskKind}
 use Rattle.pp_flow.specs.Changes.{Exchanges, changed, first_of, without}
 use Rattle.pp_flow.specs.Entries.{begun_with, is_asked_by, is_number, nobodys}
@@ -19,11 +19,13 @@ use Rattle.pp_seats.specs.Heads.{asked_in, owned_in}
 use Rattle.pp_seats.specs.declared.key.Key.{Key}
 use Rattle.pp_seats.specs.declared.seat.Seat.{Seat}
 use Rattle.pp_steps.specs.Deciding.{Ask, aim_for, asked_with, begun_at, begun_for, begun_of, exchange_begun, is_pass, may_ask}
-use Rattle.pp_steps.specs.Ends.{Parts, left_at_decision, left_source, on_seat, source_at, source_of}
+use Rattle.pp_steps.specs.Ends.{Parts, left_at_decision, left_source, on_seat, source_of}
 use Rattle.pp_flow_law.specs.Tables.{Leaving, ShowsFlow}
 use Rattle.pp_decides_law.proofs.Changed.{get_set}
 use Rattle.pp_decides_law.proofs.Left.{left_is}
-use Rattle.pp_decides_law.proofs.Sitting.{interim_front, interim_number, interim_source, leaves_none, on_seat_is, seat_again}
+use Rattle.pp_decides_law.proofs.Quitting.{left_memory}
+use Rattle.pp_decides_law.proofs.Refused.{quit, quit_front, quit_is, quit_number}
+use Rattle.pp_decides_law.proofs.Sitting.{seat_again}
 
 -- ---- there is room for another, also behind the one that is left
 
@@ -68,7 +70,7 @@ room_left c f room = by (first_of (find (is_asked_by c) f.waiting) (find (is_ask
     by None = room
     by (Some x) = at x.exchange.number x.exchange.place
 
--- ---- the program's, of a client that follows nothing
+-- ---- the program's
 
 begins_is : (o : Option Seat) (key : Key) (aim : Aim) (errand : Errand) (text : List ℕ) (f : Exchanges) (seat : Seat) → o ≡ Some seat → owned_in (asked_in seat.front) ≡ Some key → may_ask f ≡ true
     → begun_for o aim errand text f ≡ flow_begun seat.client.id key.text.items aim errand text f
@@ -79,27 +81,35 @@ begins_is (Some other) key aim errand text f seat is owned room =
     ∙ ap (λ (k : Option Key). begun_of k seat.client.id aim errand text f) owned
     ∙ ap (λ (b : Bool). elim b as (λ t. Exchanges) [ true ↦ flow_begun seat.client.id key.text.items aim errand text f | false ↦ f ]) room
 
-pub asked_alone : (number : ℕ → ℕ) (l : Leaving) (p : Parts) (s : State) → ShowsFlow number l p.flow s → (i : ℕ) (passes : Bool) (aim : Aim) (errand : Errand) (text : List ℕ) (seat : Seat) (key : Key) → slice_get p.seats i ≡ Some seat → source_at i p ≡ None
+asks_same : (passes : Bool) (o : Option ObjectId) (seat : Seat) → asking passes (quit o seat) ≡ asking passes (with_interim seat)
+asks_same passes None seat = refl
+asks_same passes (Some id) seat = refl
+
+pub asked_is : (number : ℕ → ℕ) (l : Leaving) (p : Parts) (s : State) → ShowsFlow number l p.flow s → (i : ℕ) (passes : Bool) (aim : Aim) (errand : Errand) (text : List ℕ) (seat : Seat) (key : Key) → slice_get p.seats i ≡ Some seat
     → owned_in (asked_in seat.front) ≡ Some key → may_ask p.flow ≡ true
     → on_seat i (asking passes) (exchange_begun i aim errand text (left_source i (on_seat i with_interim p)))
-    ≡ record p { seats = slice_set p.seats i (asking passes (with_interim seat)); flow = flow_begun seat.client.id key.text.items aim errand text (flow_left seat.client.id p.flow) }
+    ≡ record p {
+      seats = slice_set p.seats i (asking passes (with_interim seat));
+      cache = left_memory (source_of seat) p.cache;
+      flow = flow_begun seat.client.id key.text.items aim errand text (flow_left seat.client.id p.flow);
+    }
 unfolding exchange_begun
-asked_alone number l p s shows i passes aim errand text seat key here none owned room =
-    let one : Seat = with_interim seat in
-    let first : Parts = record p { seats = slice_set p.seats i one } in
+asked_is number l p s shows i passes aim errand text seat key here owned room =
+    let o : Option ObjectId = source_of seat in
+    let one : Seat = quit o seat in
+    let first : Parts = record p { seats = slice_set p.seats i one; cache = left_memory o p.cache } in
     let there : slice_get first.seats i ≡ Some one = get_set i p.seats seat one here in
-    let alone : source_at i first ≡ None = ap (λ (o : Option Seat). option_and_then source_of o) there ∙ interim_source seat ∙ sym (ap (λ (o : Option Seat). option_and_then source_of o) here) ∙ none in
     let left : Parts = record first { flow = flow_left seat.client.id p.flow } in
-    let leaves : left_at_decision i first ≡ left = left_is number l first s shows i one there ∙ ap (λ (n : ℕ). record first { flow = flow_left n p.flow }) (interim_number seat) in
+    let leaves : left_at_decision i first ≡ left = left_is number l first s shows i one there ∙ ap (λ (n : ℕ). record first { flow = flow_left n p.flow }) (quit_number o seat) in
     let begun : Exchanges = flow_begun seat.client.id key.text.items aim errand text (flow_left seat.client.id p.flow) in
     let begins : begun_at i aim errand text left ≡ record first { flow = begun } =
-    ap (λ (f : Exchanges). record first { flow = f }) (begins_is (slice_get first.seats i) key aim errand text (flow_left seat.client.id p.flow) one there (ap (λ front. owned_in (asked_in front)) (interim_front seat) ∙ owned) (room_left seat.client.id p.flow room)
-    ∙ ap (λ (n : ℕ). flow_begun n key.text.items aim errand text (flow_left seat.client.id p.flow)) (interim_number seat)) in
-    ap (λ (t : Parts). on_seat i (asking passes) (begun_at i aim errand text (left_at_decision i (left_source i t)))) (on_seat_is i with_interim p seat here)
-    ∙ ap (λ (t : Parts). on_seat i (asking passes) (begun_at i aim errand text (left_at_decision i t))) (leaves_none i first alone)
+    ap (λ (f : Exchanges). record first { flow = f }) (begins_is (slice_get first.seats i) key aim errand text (flow_left seat.client.id p.flow) one there (ap (λ front. owned_in (asked_in front)) (quit_front o seat) ∙ owned) (room_left seat.client.id p.flow room)
+    ∙ ap (λ (n : ℕ). flow_begun n key.text.items aim errand text (flow_left seat.client.id p.flow)) (quit_number o seat)) in
+    ap (λ (t : Parts). on_seat i (asking passes) (begun_at i aim errand text (left_at_decision i t))) (quit_is i p seat o here refl)
     ∙ ap (λ (t : Parts). on_seat i (asking passes) (begun_at i aim errand text t)) leaves
     ∙ ap (on_seat i (asking passes)) begins
-    ∙ seat_again i (asking passes) (record p { flow = begun }) seat one here
+    ∙ seat_again i (asking passes) (record p { cache = left_memory o p.cache; flow = begun }) seat one here
+    ∙ ap (λ (new : Seat). record p { seats = slice_set p.seats i new; cache = left_memory o p.cache; flow = begun }) (asks_same passes o seat)
 
 -- ---- the law's: what was left is left once
 

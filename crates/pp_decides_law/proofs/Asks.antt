@@ -1,6 +1,6 @@
 -- The exchange that begins is the law's, and with it the request waits for it as the law has it.
 use Rattle.std.proofs.Common.{◌≡◌, refl, sym, subst, ap, ap₂, ◌∙◌, ℕ, ◌%◌, Bool, true, false, ◌==◌, ◌&&◌, not, find, List, [], ◌∷◌, ◌++◌, Some, None, Option, option_map, Result, Ok, Err}
-use Rattle.std.specs.Prelude.{is_some, option_and_then, slice_get, slice_set, ⊤}
+use Rattle.std.specs.Prelude.{is_some, slice_get, slice_set, ⊤}
 use Rattle.pp_ask.specs.declared.kind.AskKind.{AskKind}
 use Rattle.pp_ask.specs.Texts.{ask_text}
 use Rattle.pp_cache.specs.Memory.{Memory}
@@ -30,8 +30,9 @@ use Rattle.pp_law.specs.Lists.{Bytes, is_some_with, is_this}
 use Rattle.pp_law.specs.Requests.{Front, IsRequest, NoHead, NoHeadYet, Parsed}
 use Rattle.pp_law.specs.Stages.{is_through}
 use Rattle.pp_law.specs.State.{State, Aim as LawAim, Client, Entry as KeptEntry, Exchange, Filling, Instance as Known, Own, Reply, Stage, Through, Undecided, Waiting, Passing, Answering}
-use Rattle.pp_law.specs.Table.{follows, of_entry, of_instance, row, row_for, row_on_disk}
+use Rattle.pp_law.specs.Table.{follows, of_entry, of_instance, row, row_for, row_on_disk, swept}
 use Rattle.pp_objects.specs.Instances.{Instance, row_of}
+use Rattle.pp_objects.specs.declared.id.ObjectId.{ObjectId}
 use Rattle.pp_peers.specs.declared.peers.Peer.{Peer}
 use Rattle.pp_plan.specs.Requests.{is_head}
 use Rattle.pp_plan.specs.Row.{Row}
@@ -61,13 +62,15 @@ use Rattle.pp_steps.specs.Decide.{kind_of, text_by}
 use Rattle.pp_steps.specs.Deciding.{Ask, aim_for, ask_at, ask_for, asked_by, by_seat, asked_with, errand_by, exchange_begun, is_moved_in, is_pass, of_request, origin_asked}
 use Rattle.pp_steps.specs.Ends.{AreInOrder, Parts, left_source, on_seat, source_of}
 use Rattle.pp_steps_law.proofs.Places.{numbers_set}
+use Rattle.pp_steps_law.proofs.Told.{are_told_on}
 use Rattle.pp_steps_law.specs.Steps.{ShowsSteps, whole}
 use Rattle.pp_steps_law.specs.Told.{AreTold, EachIsTold, IsToldBy}
-use Rattle.pp_decides_law.proofs.Asked.{asked_alone, begins_once}
-use Rattle.pp_decides_law.proofs.Changed.{client_changed, counts_same}
+use Rattle.pp_decides_law.proofs.Asked.{asked_is, begins_once}
 use Rattle.pp_decides_law.proofs.Found.{HasRequest, IsAskOf, IsKindFor, ask_as, ask_found, has_request, heads_same, kinds_for, passes_same}
 use Rattle.pp_decides_law.proofs.Left.{flow_number, told_by_left}
-use Rattle.pp_decides_law.proofs.Sitting.{follows_none, interim_number, is_at, shown_at}
+use Rattle.pp_decides_law.proofs.Quitting.{client_left, left_memory}
+use Rattle.pp_decides_law.proofs.Refused.{followed_as, left_stands, once_swept}
+use Rattle.pp_decides_law.proofs.Sitting.{interim_number, is_at, shown_at}
 use Rattle.pp_decides_law.specs.Decides.{AsksAreTheLaws, IsDecided, MayAsk}
 
 -- ---- field by field
@@ -206,23 +209,19 @@ ask_of_seat name i d p seat ask here is =
     ask_found name d p.cache seat (current_of seat.client.heard) (asked_in seat.front) ask (sym (ap (λ (o : Option Seat). by_seat (ask_for name d p.cache) o) here) ∙ is)
 
 asks_for_law : (c : Client) (d : Decision) (head : Request) (key : Key) (kind : AskKind) (s : State)
-    → law_ask_for c d head key kind s ≡ add_exchange (new_exchange s c head key d kind) (leave (is_of c.number) (on_client c.number (asking_with d) s))
+    → law_ask_for c d head key kind s ≡ swept (add_exchange (new_exchange s c head key d kind) (leave (is_of c.number) (on_client c.number (asking_with d) s)))
 unfolding law_ask_for
-asks_for_law c d head key kind s = begins_once (new_exchange s c head key d kind) c.number (on_client c.number (asking_with d) s) refl
+asks_for_law c d head key kind s = ap swept (begins_once (new_exchange s c head key d kind) c.number (on_client c.number (asking_with d) s) refl)
 
-client_keeps : (n : ℕ) (f : Client → Client) (s : State) → ((on_client n f s).exchanges ≡ s.exchanges) × ((on_client n f s).conns ≡ s.conns) × ((on_client n f s).next_instance ≡ s.next_instance)
-unfolding on_client
-client_keeps n f s = (refl, refl, refl)
-
-asks_once : (n : ℕ) (f : Client → Client) (s : State) → AsksOnce n s → AsksOnce n (on_client n f s)
-unfolding on_client
-asks_once n f s once = record { once = once.once; going = once.going; apart = once.apart }
+sweep_last : (e : Exchange) (n : ℕ) (s : State) → add_exchange e (leave (is_of n) (swept s)) ≡ swept (add_exchange e (leave (is_of n) s))
+unfolding add_exchange leave forsake swept
+sweep_last e n s = refl
 
 left_number : (c : ℕ) (f : Exchanges) → (flow_left c f).begun ≡ f.begun
 left_number c f = flow_number c f
 
-next_kept : (e : Exchange) (test : Exchange → Bool) (n : ℕ) (f : Client → Client) (s : State) → (add_exchange e (leave test (on_client n f s))).next_instance ≡ s.next_instance
-unfolding add_exchange leave forsake on_client
+next_kept : (e : Exchange) (test : Exchange → Bool) (n : ℕ) (f : Client → Client) (s : State) → (swept (add_exchange e (leave test (on_client n f s)))).next_instance ≡ s.next_instance
+unfolding add_exchange leave forsake on_client swept
 next_kept e test n f s = refl
 
 each_more : (number : ℕ → ℕ) (m : Memory) (next : ℕ) (xs : List Entry) (x : Entry) → x.exchange.bound ≡ None → EachIsTold number m next xs → EachIsTold number m next (xs ++ x ∷ [])
@@ -252,31 +251,33 @@ asks number name l peers p s steps i d seat c decided may =
     let e : Exchange = new_exchange s c law.request.head (key_in law.own.text.items law.own.place) d law.kind in
     let f : Client → Client = asking_with d in
     let new : Seat = asking (law_pass d) (with_interim seat) in
-    let silent : (id : ℕ) → follows id c ≡ false
-    = λ id. ap (λ (b : Bool). not c.is_closing && b) (follows_none number id seat.client.reply seat.stage c.stage live.stage (sym (ap (λ (o : Option Seat). option_and_then source_of o) here) ∙ may.follows))
-    ∙ ap (λ (b : Bool). not b && false) decided.going in
-    let still : (id : ℕ) → follows id (f c) ≡ follows id c = λ id. waits_alone d c id decided.going ∙ sym (silent id) in
-    let first : Whole = record (whole p peers) { seats = slice_set p.seats i new } in
-    let changed : ShowsState number name [] l first (on_client n f s) =
-    client_changed number name [] l (whole p peers) s steps.shows n i new f at (λ id. counts_same number name [] (follows id) n i f p.seats s.clients c steps.shows.clients at decided.place.there (still id))
+    let o : Option ObjectId = source_of seat in
+    let first : Whole = record (whole p peers) { seats = slice_set p.seats i new; memory = left_memory o p.cache } in
+    let changed : ShowsState number name [] l first (swept (on_client n f s)) =
+    client_left number name [] l (whole p peers) s steps.shows n i new f c o at decided.place.there (λ id. waits_alone d c id decided.going) (followed_as number name i p seat c here live decided.going may.there)
     (λ other x here' there' shows'. subst (λ (y : Client). ShowsSeat number name [] new (f y)) (some_is c x (sym decided.place.there ∙ there')) (seats_ask number d name [] seat c shown decided.going decided.may may.given)) in
     let once : AsksOnce n s = subst (λ (m : ℕ). AsksOnce m s) same decided.asks in
-    let left : ShowsState number name [] l (record first { flow = flow_left n p.flow }) (leave (is_of n) (on_client n f s)) = states_leave number name [] l first (on_client n f s) changed n (asks_once n f s once) in
+    let left : ShowsState number name [] l (record first { flow = flow_left n p.flow }) (leave (is_of n) (swept (on_client n f s))) = states_leave number name [] l first (swept (on_client n f s)) changed n (once_swept n f s once) in
     let text : Bytes = law.own.text.items in
     let begun : Exchanges = flow_begun n text (aim_for (is_pass d)) ask.0 ask.1 (flow_left n p.flow) in
-    let begins : ShowsState number name [] l (record first { flow = begun }) (add_exchange e (leave (is_of n) (on_client n f s))) =
-    states_begin number name [] l (record first { flow = flow_left n p.flow }) (leave (is_of n) (on_client n f s)) left n text (aim_for (is_pass d)) ask.0 ask.1 e
-    (subst (λ (m : ℕ). ShowsExchange number (begun_with m n text (aim_for (is_pass d)) ask.0 ask.1) e) (sym (left_number n p.flow)) law.shows) in
-    let told : AreTold number p.cache s.next_instance (flow_left n p.flow) = told_by_left number p s.next_instance n steps.told in
-    let whole_of : ShowsSteps number name l peers (record p { seats = slice_set p.seats i new; flow = begun }) (add_exchange e (leave (is_of n) (on_client n f s))) = record {
+    let begins : ShowsState number name [] l (record first { flow = begun }) (swept (add_exchange e (leave (is_of n) (on_client n f s)))) =
+    subst (λ (t : State). ShowsState number name [] l (record first { flow = begun }) t) (sweep_last e n (on_client n f s))
+    (states_begin number name [] l (record first { flow = flow_left n p.flow }) (leave (is_of n) (swept (on_client n f s))) left n text (aim_for (is_pass d)) ask.0 ask.1 e
+    (subst (λ (m : ℕ). ShowsExchange number (begun_with m n text (aim_for (is_pass d)) ask.0 ask.1) e) (sym (left_number n p.flow)) law.shows)) in
+    let told : AreTold number (left_memory o p.cache) s.next_instance (flow_left n p.flow) =
+    are_told_on number p.cache (left_memory o p.cache) s.next_instance s.next_instance (left_stands o p.cache s.next_instance) (flow_left n p.flow) (told_by_left number p s.next_instance n steps.told) in
+    let whole_of : ShowsSteps number name l peers (record p { seats = slice_set p.seats i new; cache = left_memory o p.cache; flow = begun }) (swept (add_exchange e (leave (is_of n) (on_client n f s)))) = record {
       shows = begins;
       order = subst (λ (ns : List ℕ). AreInOrder ns) (sym (numbers_set i p.seats seat new here (interim_number seat))) steps.order;
-      told = subst (λ (m : ℕ). AreTold number p.cache m begun) (sym (next_kept e (is_of n) n f s)) (record { waiting = each_more number p.cache s.next_instance (flow_left n p.flow).waiting (begun_with (flow_left n p.flow).begun n text (aim_for (is_pass d)) ask.0 ask.1) refl told.waiting; placed = told.placed });
+      told = subst (λ (m : ℕ). AreTold number (left_memory o p.cache) m begun) (sym (next_kept e (is_of n) n f s)) (record {
+        waiting = each_more number (left_memory o p.cache) s.next_instance (flow_left n p.flow).waiting (begun_with (flow_left n p.flow).begun n text (aim_for (is_pass d)) ask.0 ask.1) refl told.waiting;
+        placed = told.placed;
+      });
       refused = steps.refused;
     } in
     subst (λ (t : State). ShowsSteps number name l peers (origin_asked name i d p) t) (sym law.leads)
     (subst (λ (t : State). ShowsSteps number name l peers (origin_asked name i d p) t) (sym (asks_for_law c d law.request.head (key_in law.own.text.items law.own.place) law.kind s))
-    (subst (λ (m : ℕ). ShowsSteps number name l peers (origin_asked name i d p) (add_exchange e (leave (is_of m) (on_client m f s)))) (sym same)
-    (subst (λ (q : Parts). ShowsSteps number name l peers q (add_exchange e (leave (is_of n) (on_client n f s)))) (sym (program_asks name i d p ask found.is
-    ∙ asked_alone number l p s steps.shows.exchanges i (is_pass d) (aim_for (is_pass d)) ask.0 ask.1 seat law.own here may.follows law.owned may.room
-    ∙ ap (λ (b : Bool). record p { seats = slice_set p.seats i (asking b (with_interim seat)); flow = begun }) (passes_same d))) whole_of)))
+    (subst (λ (m : ℕ). ShowsSteps number name l peers (origin_asked name i d p) (swept (add_exchange e (leave (is_of m) (on_client m f s))))) (sym same)
+    (subst (λ (q : Parts). ShowsSteps number name l peers q (swept (add_exchange e (leave (is_of n) (on_client n f s))))) (sym (program_asks name i d p ask found.is
+    ∙ asked_is number l p s steps.shows.exchanges i (is_pass d) (aim_for (is_pass d)) ask.0 ask.1 seat law.own here law.owned may.room
+    ∙ ap (λ (b : Bool). record p { seats = slice_set p.seats i (asking b (with_interim seat)); cache = left_memory o p.cache; flow = begun }) (passes_same d))) whole_of)))

@@ -38,8 +38,8 @@ use Rattle.pp_steps_law.specs.Told.{AreTold}
 use Rattle.pp_decides_law.proofs.Changed.{get_set, set_set}
 use Rattle.pp_decides_law.proofs.Left.{left_is, told_by_left}
 use Rattle.pp_decides_law.proofs.Quitting.{IsLeftBy, client_left, follows_one, left_memory}
-use Rattle.pp_decides_law.proofs.Sitting.{follows_none, interim_may, interim_number, interim_source, is_at, leaves_none, on_seat_is, shown_at}
-use Rattle.pp_decides_law.specs.Decides.{IsDecided, MayRefuse, RefusalsAreTheLaws}
+use Rattle.pp_decides_law.proofs.Sitting.{follows_none, interim_front, interim_may, interim_number, interim_source, is_at, leaves_none, on_seat_is, shown_at}
+use Rattle.pp_decides_law.specs.Decides.{FollowsWhatIsThere, IsDecided, MayRefuse, RefusalsAreTheLaws}
 
 -- ---- the program's: what it followed is left
 
@@ -70,6 +70,10 @@ quit_is i p seat o here is = ap (left_source i) (on_seat_is i with_interim p sea
     by (Some id) some =
         ap (λ (x : Option ObjectId). elim x as (λ t. Parts) [ None ↦ first | Some y ↦ record first { seats = changed_at i without_source first.seats; cache = unfollowed y p.cache } ]) some
         ∙ ap (λ (seats : List Seat). record p { seats = seats; cache = unfollowed id p.cache }) changed
+
+pub quit_front : (o : Option ObjectId) (seat : Seat) → (quit o seat).front ≡ seat.front
+quit_front None seat = interim_front seat
+quit_front (Some id) seat = interim_front seat
 
 pub quit_number : (o : Option ObjectId) (seat : Seat) → (quit o seat).client.id ≡ seat.client.id
 quit_number None seat = interim_number seat
@@ -141,7 +145,7 @@ sweep_last : (n : ℕ) (s : State) → leave (is_of n) (swept s) ≡ swept (leav
 unfolding leave forsake swept
 sweep_last n s = refl
 
-once_swept : (n : ℕ) (f : Client → Client) (s : State) → AsksOnce n s → AsksOnce n (swept (on_client n f s))
+pub once_swept : (n : ℕ) (f : Client → Client) (s : State) → AsksOnce n s → AsksOnce n (swept (on_client n f s))
 unfolding swept on_client
 once_swept n f s once = record { once = once.once; going = once.going; apart = once.apart }
 
@@ -151,7 +155,7 @@ next_swept n f s = refl
 
 -- what its seat follows, its client does
 pub followed_as : (number : ℕ → ℕ) (name : Bytes) (i : ℕ) (p : Parts) (seat : Seat) (c : Client) → slice_get p.seats i ≡ Some seat → ShowsOpen number name [] seat c → c.is_closing ≡ false
-    → ((id : ObjectId) → source_at i p ≡ Some id → is_there id p.cache.instances ≡ true) → IsLeftBy number p.cache c (source_of seat)
+    → FollowsWhatIsThere i p → IsLeftBy number p.cache c (source_of seat)
 followed_as number name i p seat c here live going there = by (source_of seat) refl
   where
     sourced : source_at i p ≡ source_of seat

@@ -42,22 +42,26 @@ MarksAreTheLaws = OfSteps (λ number name l peers p s. (i : ℕ) (seat : Seat) (
 abbrev pub LeavesAreTheLaws : Type 0
 LeavesAreTheLaws = OfSteps (λ number name l peers p s. (i : ℕ) (seat : Seat) (c : Client) → IsAtPlace i p s seat c → AsksOnce c.number s → ShowsSteps number name l peers (left_at_decision i p) (leave (is_of c.number) s))
 
--- what it follows is there, and its page has room
+-- what it follows is there
+abbrev pub FollowsWhatIsThere : ℕ → Parts → Type 0
+FollowsWhatIsThere i p = (id : ObjectId) → source_at i p ≡ Some id → is_there id p.cache.instances ≡ true
+
+-- and its page has room
 pub record MayRefuse (i status : ℕ) (p : Parts) (seat : Seat) : Type 0 where
   pub page : has_page status ≡ true
   pub room : length (page_for status seat.front) ≤ 20480
   pub answers : may_answer seat.client ≡ true
-  pub there : (id : ObjectId) → source_at i p ≡ Some id → is_there id p.cache.instances ≡ true
+  pub there : FollowsWhatIsThere i p
 
 -- a page is the reply, whatever the operator's log is to say of it
 abbrev pub RefusalsAreTheLaws : Type 0
 RefusalsAreTheLaws = OfSteps (λ number name l peers p s. (i status : ℕ) (seat : Seat) (c : Client) (new : Parts) → IsDecided i p s seat c → MayRefuse i status p seat → IsRefused i status p new → ShowsSteps number name l peers new (refuse c status s))
 
--- it asks an origin: its row was not refused memory, of an instance it follows none, there may be another exchange, what it asks fits into an ask, and the kept row of
+-- it asks an origin: its row was not refused memory, there may be another exchange, what it asks fits into an ask, and the kept row of
 -- its key is in memory
 pub record MayAsk (name : Bytes) (i : ℕ) (d : Decision) (p : Parts) (s : State) (seat : Seat) : Type 0 where
   pub given : is_refused_in seat.brought ≡ false
-  pub follows : source_at i p ≡ None
+  pub there : FollowsWhatIsThere i p
   pub room : may_ask p.flow ≡ true
   pub asks : is_some (ask_at name i d p) ≡ true
   pub kept : (key : Key) → owned_in (asked_in seat.front) ≡ Some key → row s key.text.items ≡ None → row_on_disk s key.text.items ≡ None
@@ -67,6 +71,6 @@ pub record MayAsk (name : Bytes) (i : ℕ) (d : Decision) (p : Parts) (s : State
 abbrev pub AsksAreTheLaws : Type 0
 AsksAreTheLaws = OfSteps (λ number name l peers p s. (i : ℕ) (d : Decision) (seat : Seat) (c : Client) → IsDecided i p s seat c → MayAsk name i d p s seat → ShowsSteps number name l peers (origin_asked name i d p) (ask_origin c d s))
 
--- a response that is passed is its reply: of an instance it follows none
+-- a response that is passed is its reply, and it follows nothing any more
 abbrev pub RelaysAreTheLaws : Type 0
-RelaysAreTheLaws = OfSteps (λ number name l peers p s. (i : ℕ) (seat : Seat) (c : Client) → IsDecided i p s seat c → is_refused_in seat.brought ≡ false → source_at i p ≡ None → ShowsSteps number name l peers (relayed i p) (relay c s))
+RelaysAreTheLaws = OfSteps (λ number name l peers p s. (i : ℕ) (seat : Seat) (c : Client) → IsDecided i p s seat c → is_refused_in seat.brought ≡ false → FollowsWhatIsThere i p → ShowsSteps number name l peers (relayed i p) (relay c s))

@@ -1,4 +1,5 @@
 // Responses however they are delimited, to clients of either version (RFC 2616, sections 3.6.1 and 4.4).
+use crate::saying::says_nothing;
 use pp_play::{
     ASK, Act, Cut, Exchange, GET, PAGE_502, Part, REPLY, RESPONSE, Step, Wanted, unlike,
     unlike_when_cut,
@@ -144,8 +145,7 @@ const CHUNKED: &[Exchange<'static>] = &[
 
 #[test]
 fn a_chunked_body_is_passed_as_the_client_can_read_it(rt: HostRuntime) -> Result<(), Fail> {
-    assert_eq!(rt; unlike(rt.alloc(), CHUNKED)?.as_str(), "");
-    Ok(())
+    says_nothing(&rt, unlike(rt.alloc(), CHUNKED))
 }
 
 const TO_THE_END: &[Exchange<'static>] = &[
@@ -231,8 +231,7 @@ const TO_THE_END: &[Exchange<'static>] = &[
 
 #[test]
 fn a_body_may_end_with_the_connection(rt: HostRuntime) -> Result<(), Fail> {
-    assert_eq!(rt; unlike(rt.alloc(), TO_THE_END)?.as_str(), "");
-    Ok(())
+    says_nothing(&rt, unlike(rt.alloc(), TO_THE_END))
 }
 
 const CUT_CHUNKS: &Cut<'static> = &Cut {
@@ -274,7 +273,7 @@ const CUT_END: &Cut<'static> = &Cut {
 #[test]
 fn a_response_may_be_lost_behind_each_byte(rt: HostRuntime) -> Result<(), Fail> {
     for cut in [CUT_CHUNKS, CUT_OLD_CHUNKS, CUT_END] {
-        assert_eq!(rt; unlike_when_cut(rt.alloc(), cut)?.as_str(), "");
+        says_nothing(&rt, unlike_when_cut(rt.alloc(), cut))?;
     }
     Ok(())
 }
@@ -324,6 +323,5 @@ const INTERIM: &[Exchange<'static>] = &[
 
 #[test]
 fn interim_responses_are_not_passed(rt: HostRuntime) -> Result<(), Fail> {
-    assert_eq!(rt; unlike(rt.alloc(), INTERIM)?.as_str(), "");
-    Ok(())
+    says_nothing(&rt, unlike(rt.alloc(), INTERIM))
 }

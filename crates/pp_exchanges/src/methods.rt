@@ -1,4 +1,5 @@
 // Requests of any method, with bodies (RFC 2616, sections 4.3, 8.2.3 and 9).
+use crate::saying::says_nothing;
 use pp_play::{
     ASK, Act, Cut, Exchange, GET, PAGE_502, Part, REPLY, RESPONSE, Step, T, Wanted, unlike,
     unlike_when_cut,
@@ -112,8 +113,7 @@ const EXPECTING: &[Exchange<'static>] = &[
 
 #[test]
 fn a_client_that_waits_for_100_is_told_to_go_on(rt: HostRuntime) -> Result<(), Fail> {
-    assert_eq!(rt; unlike(rt.alloc(), EXPECTING)?.as_str(), "");
-    Ok(())
+    says_nothing(&rt, unlike(rt.alloc(), EXPECTING))
 }
 
 const CUT_POST: &Cut<'static> = &Cut {
@@ -130,8 +130,7 @@ const CUT_POST: &Cut<'static> = &Cut {
 
 #[test]
 fn a_response_to_a_post_may_be_lost_behind_each_byte(rt: HostRuntime) -> Result<(), Fail> {
-    assert_eq!(rt; unlike_when_cut(rt.alloc(), CUT_POST)?.as_str(), "");
-    Ok(())
+    says_nothing(&rt, unlike_when_cut(rt.alloc(), CUT_POST))
 }
 
 const METHODS: &[Exchange<'static>] = &[
@@ -353,6 +352,5 @@ const METHODS: &[Exchange<'static>] = &[
 
 #[test]
 fn each_method_is_passed_with_its_body(rt: HostRuntime) -> Result<(), Fail> {
-    assert_eq!(rt; unlike(rt.alloc(), METHODS)?.as_str(), "");
-    Ok(())
+    says_nothing(&rt, unlike(rt.alloc(), METHODS))
 }

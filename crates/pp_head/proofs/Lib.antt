@@ -9,6 +9,7 @@ pub mod PartLemmas
 pub mod SpanLemmas
 pub mod ErrorLemmas
 pub mod RequestAgrees
+pub mod KeptLemmas
 pub mod RequestSpansLemmas
 pub mod ResponseAgrees
 pub mod ResponseSpansLemmas

@@ -1,5 +1,5 @@
 -- What the parser answers of a request is the grammar's answer.
-use Rattle.std.proofs.Common.{◌≡◌, ℕ, ◌≤◌, true, false, List, length, map, take, sym, ap, ◌∙◌, inr}
+use Rattle.std.proofs.Common.{◌≡◌, ℕ, ◌≤◌, true, false, List, length, map, take, sym, ap, ◌∙◌, arith, inr, length-take}
 use Rattle.std.proofs.lemmas.Bool.{both_ways}
 use Rattle.httparse.specs.Grammar.{RequestHead as Head, print_request, ReadsRequest, HasNoRequest, NeverHasRequest, MayBecomeRequest, EndsInTarget}
 use Rattle.httparse.specs.Spans.{IsRequestOf, IsRequestWithin as AreWithin}
@@ -42,12 +42,15 @@ request_passes bytes headers spans within (h, at) passes =
     request_only bytes TooLong (request_too_long bytes h _ at.reads (sym (same_limits bytes headers spans within (h, at)) ∙ passes))
 
 pub request_within_spans : (bytes : List ℕ) (headers : List HeaderSpan) (fields : List FieldSpan) (spans : RequestSpans)
-    → AreWithin bytes headers spans → length fields ≡ length headers → take spans.headers fields ≡ map field_span (take spans.headers headers) → AreRequestSpans bytes fields spans
-request_within_spans bytes headers fields spans within same is = record {
-  method = within_len spans.len (length bytes) spans.method.start spans.method.end within.section.len_fits within.method;
-  target = within_len spans.len (length bytes) spans.path.start spans.path.end within.section.len_fits within.path;
-  section = fields_within bytes headers fields spans.len spans.headers within.section same is;
-}
+    → AreWithin bytes headers spans → length fields ≡ length headers → take spans.headers fields ≡ map field_span (take spans.headers headers) → AreRequestSpans (take spans.len bytes) fields spans
+request_within_spans bytes headers fields spans within same is =
+    let text = take spans.len bytes in
+    let long : spans.len ≤ length text = omega (arith, within.section.len_fits, length-take spans.len bytes) in
+    record {
+      method = within_len spans.len (length text) spans.method.start spans.method.end long within.method;
+      target = within_len spans.len (length text) spans.path.start spans.path.end long within.path;
+      section = fields_within bytes text headers fields spans.len spans.headers within.section long same is;
+    }
 
 -- no head of so few fields stands there
 pub request_limited : (bytes : List ℕ) → is_limit_reached bytes ≡ true → ((h : Head) (rest : List ℕ) → ReadsRequest bytes h rest → length h.fields ≤ 100 → ⊥)

@@ -45,7 +45,7 @@ pub response_within_spans : (bytes : List ℕ) (headers : List HeaderSpan) (fiel
     → AreWithin bytes headers spans → length fields ≡ length headers → take spans.headers fields ≡ map field_span (take spans.headers headers) → AreResponseSpans bytes fields spans
 response_within_spans bytes headers fields spans within same is = record {
   reason = within_len spans.len (length bytes) spans.reason.start spans.reason.end within.section.len_fits within.reason;
-  section = fields_within bytes headers fields spans.len spans.headers within.section same is;
+  section = fields_within bytes bytes headers fields spans.len spans.headers within.section within.section.len_fits same is;
 }
 
 -- no head of so few fields stands there

@@ -42,11 +42,11 @@ spans_within n m (h ∷ found) le all =
 pub within_len : (n m : ℕ) (s : ℕ) (e : ℕ) → n ≤ m → (s ≤ e) × (e ≤ n) → (s ≤ e) × (e ≤ m)
 within_len n m s e le w = (w.0, omega (arith, w.1))
 
-pub fields_within : (bytes : List ℕ) (headers : List HeaderSpan) (spans : List FieldSpan) (len n : ℕ) → IsSectionWithin bytes headers len n → length spans ≡ length headers
-    → take n spans ≡ map field_span (take n headers) → AreFieldsWithin bytes spans n
-fields_within bytes headers spans len n section same is = record {
+pub fields_within : (bytes text : List ℕ) (headers : List HeaderSpan) (spans : List FieldSpan) (len n : ℕ) → IsSectionWithin bytes headers len n → len ≤ length text → length spans ≡ length headers
+    → take n spans ≡ map field_span (take n headers) → AreFieldsWithin text spans n
+fields_within bytes text headers spans len n section long same is = record {
   few = omega (arith, section.count_fits, same);
-  within = subst (All (IsFieldWithin (length bytes))) (sym is) (spans_within len (length bytes) (take n headers) section.len_fits section.headers_fit);
+  within = subst (All (IsFieldWithin (length text))) (sym is) (spans_within len (length text) (take n headers) long section.headers_fit);
 }
 
 -- what was written of the first headers, counted by themselves

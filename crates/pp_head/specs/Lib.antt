@@ -1,4 +1,5 @@
 pub mod Agreement
+pub mod Kept
 pub mod Limits
 pub mod Lines
 pub mod Part

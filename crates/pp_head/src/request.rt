@@ -1,7 +1,5 @@
 // The head of a request (RFC 2616, section 5).
-ghost use Rattle.std.specs.Prelude.{◌≡◌, length};
-ghost use Rattle.pp_head.specs.Agreement.{IsRequestExact, IsRequestWithin};
-ghost use Rattle.pp_head.specs.Read.{IsCutAt, Stays};
+ghost use Rattle.std.specs.Prelude.{◌≡◌, take};
 ghost use Rattle.pp_head.specs.Request.{request_at};
 ghost use Rattle.pp_head.specs.Shown.{state_of, IfWhole, shown_request, spanned_request, AreRequestSpans};
 
@@ -26,27 +24,10 @@ pub struct RequestHead<'a, 's> {
     pub length: usize,
 }
 
-/// The request at the front of the bytes, or why there is none.
-pub fn read_request<'a, 's>(
-    bytes: &'a [u8],
-    scratch: &'s mut Scratch,
-) -> HeadState<RequestHead<'a, 's>>
-    ensures value { state_of shown_request result ≡ request_at bytes.now }
-    ensures within { IfWhole result (λ head. IsRequestWithin bytes.now (shown_request head)) }
-    ensures cut { IfWhole result (λ head. IsCutAt request_at bytes.now head.length (shown_request head)) }
-
-    // Of `request_at`: it is the grammar's answer, and more bytes leave it.
-    ensures exact { IsRequestExact bytes.now }
-    ensures stays { Stays request_at bytes.now (request_at bytes.now) }
-{
-    let located = locate(bytes, scratch);
-    show(bytes, &scratch.fields, located)
-}
-
 /// Where the parts of the head are, those of its fields in the scratch.
-fn locate(bytes: &[u8], scratch: &mut Scratch) -> HeadState<RequestSpans>
+pub(crate) fn locate(bytes: &[u8], scratch: &mut Scratch) -> HeadState<RequestSpans>
     ensures value { state_of (spanned_request bytes.now scratch.new.fields) result ≡ request_at bytes.now }
-    ensures within { IfWhole result (AreRequestSpans bytes.now scratch.new.fields) }
+    ensures within { IfWhole result (λ spans. AreRequestSpans (take spans.len bytes.now) scratch.new.fields spans) }
 {
     match parse_request(bytes, &mut scratch.headers) {
         Ok(Status::Complete(head)) => {
@@ -77,13 +58,13 @@ fn locate(bytes: &[u8], scratch: &mut Scratch) -> HeadState<RequestSpans>
 }
 
 /// The parts that stand at these spans.
-fn show<'a, 's>(
+pub(crate) fn show<'a, 's>(
     bytes: &'a [u8],
     fields: &'s [FieldSpan],
-    located: HeadState<RequestSpans>,
+    located: &HeadState<RequestSpans>,
 ) -> HeadState<RequestHead<'a, 's>>
-    requires { IfWhole located (AreRequestSpans bytes.now fields.now) }
-    ensures { state_of shown_request result ≡ state_of (spanned_request bytes.now fields.now) located }
+    requires { IfWhole located.now (AreRequestSpans bytes.now fields.now) }
+    ensures { state_of shown_request result ≡ state_of (spanned_request bytes.now fields.now) located.now }
 {
     match located {
         HeadState::Whole(head) => HeadState::Whole(RequestHead {

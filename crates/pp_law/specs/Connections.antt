@@ -10,7 +10,7 @@ use Rattle.pp_peers.specs.declared.placing.Placed.TheVariants.{On, Dial, CloseTh
 use Rattle.pp_law.specs.Lists.{change, without, is_some_with, is_this}
 use Rattle.pp_law.specs.Requests.{goes_alone, is_asked_once}
 use Rattle.pp_law.specs.Stages.{is_begun, is_headed, on_passed, filled_of}
-use Rattle.pp_law.specs.State.{State, Client, Conn, Exchange, Course, Trying, OutOfTries}
+use Rattle.pp_law.specs.State.{State, Client, Conn, Exchange, Course, Trying, OutOfTries, RowRefused}
 use Rattle.pp_law.specs.Table.{clear, is_same_version, row}
 use Rattle.pp_target.specs.Key.{text_of}
 
@@ -83,6 +83,15 @@ abbrev pub lost_one : ℕ → Course → Course
 lost_one most (Trying n) = elim (nat_le most (n + 1)) [ true ↦ OutOfTries | false ↦ Trying (n + 1) ]
 lost_one most course = course
 
+-- they end. Where memory was refused for the row, it stays refused, here and where they count anew
+abbrev pub out_of_tries : Course → Course
+out_of_tries RowRefused = RowRefused
+out_of_tries course = OutOfTries
+
+abbrev pub anew : Course → Course
+anew RowRefused = RowRefused
+anew course = Trying 0
+
 abbrev pub is_trying : Course → Bool
 is_trying (Trying n) = true
 is_trying course = false
@@ -94,7 +103,7 @@ is_out course = false
 -- a row whose hole nobody fills is cleared; where the reply has not begun, its request is decided again without it, once, and its
 -- attempts count anew
 abbrev pub without_row : Client → Client
-without_row c = elim (is_begun c || c.has_given_up) [ true ↦ c | false ↦ record c { course = Trying 0; has_given_up = true } ]
+without_row c = elim (is_begun c || c.has_given_up) [ true ↦ c | false ↦ record c { course = anew c.course; has_given_up = true } ]
 
 -- a row that may not be shared is cleared: the same; where a row was cleared for the request before, an attempt is lost
 abbrev pub without_shared_row : ℕ → Client → Client
@@ -120,7 +129,7 @@ lose_attempt e s = charge (lost_one (attempts_of e)) e s
 
 -- its attempts end at once
 unfoldable pub fail : Exchange → State → State
-fail e s = charge (λ course. OutOfTries) e s
+fail e s = charge out_of_tries e s
 
 -- its request waits for it, and may ask once more
 abbrev pub may_ask_again : State → ℕ → Bool

@@ -103,7 +103,7 @@ abbrev pub asking_with : Decision → Client → Client
 asking_with d c = record c { interim_left = first_interim c; stage = stage_for d; brought = Awaited }
 
 unfoldable pub ask_for : Client → Decision → Request → Key → AskKind → State → State
-ask_for c d head key kind s = begin_exchange (new_exchange s c head key d kind) (leave (is_of c.number) (on_client c.number (asking_with d) s))
+ask_for c d head key kind s = swept (begin_exchange (new_exchange s c head key d kind) (leave (is_of c.number) (on_client c.number (asking_with d) s)))
 
 unfoldable pub ask_as : Client → Decision → Request → Key → State → State
 ask_as c d head key s = elim (kind_of head (row_for s head (text_of key)) d) [ None ↦ s | Some kind ↦ ask_for c d head key kind s ]
@@ -128,12 +128,12 @@ reply_by d source = record { decision = d; source = source; has_begun = false; h
 abbrev pub answering_with : Reply → Client → Client
 answering_with r c = record c { interim_left = first_interim c; stage = Answering r; closes = not (keeps_after 200 c.front) }
 
--- of what the follower still wants, something is still to come by the exchange
+-- of what the follower still wants, something is still to come by the exchange: of no bytes nothing is
 abbrev pub serves : Instance → Reply → Exchange → Bool
-serves x r e = elim (bound_of e) [
+serves x r e = nat_lt r.at r.to && (elim (bound_of e) [
   | Some b ↦ (b.instance == x.id) && nat_lt (max b.next r.at) (min b.to r.to) && is_soon b r.at
   | None ↦ asks_for x r.at e
-]
+])
 
 -- and leaves an exchange that brings nothing of it
 unfoldable pub follow_with : Client → Reply → Instance → State → State
@@ -146,7 +146,7 @@ unfoldable pub follow : Client → Decision → State → State
 follow c d s = elim (key_in c.front) [ None ↦ s | Some key ↦ follow_row c d (text_of key) s ]
 
 unfoldable pub relay : Client → State → State
-relay c s = on_client c.number (answering_with (reply_by Relay None)) s
+relay c s = swept (on_client c.number (answering_with (reply_by Relay None)) s)
 
 -- ---- all
 

@@ -16,11 +16,11 @@ use Rattle.pp_world.specs.declared.note.Decision.TheVariants.{Hit, Part, Head, N
 use Rattle.pp_law.specs.Chunks.{chunk_len, use_chunk}
 use Rattle.pp_law.specs.Closing.{close_client, forsake, is_of}
 use Rattle.pp_law.specs.Hearing.{with_front}
-use Rattle.pp_law.specs.Connections.{on_client, each_client, is_for}
+use Rattle.pp_law.specs.Connections.{anew, on_client, each_client, is_for}
 use Rattle.pp_law.specs.Lists.{Bytes, is_some_with}
 use Rattle.pp_law.specs.Requests.{Parsed, NoHeadYet, NoHead, IsRequest, keeps_open, has_request}
 use Rattle.pp_law.specs.Stages.{is_begun, is_headed, is_passing, on_passed, passed_of, reply_of}
-use Rattle.pp_law.specs.State.{State, Client, Exchange, Instance, Passed, Brought, Awaited, Joins, Course, Trying, RowRefused, Undecided, Waiting, Passing, Answering, Reply}
+use Rattle.pp_law.specs.State.{State, Client, Exchange, Instance, Passed, Brought, Awaited, Joins, Trying, Undecided, Waiting, Passing, Answering, Reply}
 use Rattle.pp_law.specs.Table.{source_of, next_of, Next, is_held, is_next_held, swept}
 
 -- ---- a reply begins at the end of a turn
@@ -199,10 +199,6 @@ end_replies s =
     each_client close_finished numbers (each_client end_said numbers s)
 
 -- ---- attempts
-
-abbrev pub anew : Course → Course
-anew RowRefused = RowRefused
-anew course = Trying 0
 
 -- ours: they count anew once the next byte is held
 abbrev pub regained_by : State → Client → Client

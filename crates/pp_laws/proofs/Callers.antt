@@ -8,7 +8,8 @@ use Rattle.pp_world.specs.declared.note.Decision.{Decision}
 use Rattle.pp_law.specs.Deciding.{refused_with, asking_with, stage_for, reply_by, answering_with}
 use Rattle.pp_law.specs.Hearing.{what_counts, fronted, with_front, heard_by}
 use Rattle.pp_law.specs.Lists.{Bytes, is_some_with}
-use Rattle.pp_law.specs.Replies.{passed_reply, begun_passed, may_begin, begun_reply, begun_instance, begun_decided, begun_by, begun_at_end, said_of_body, said_of, said_by, next_request, anew, regained_by}
+use Rattle.pp_law.specs.Connections.{anew}
+use Rattle.pp_law.specs.Replies.{passed_reply, begun_passed, may_begin, begun_reply, begun_instance, begun_decided, begun_by, begun_at_end, said_of_body, said_of, said_by, next_request, regained_by}
 use Rattle.pp_law.specs.Requests.{Front, Parsed, NoHeadYet, NoHead, IsRequest, key_in, keeps_open}
 use Rattle.pp_law.specs.Stages.{is_passing, on_passed, passed_of, reply_of}
 use Rattle.pp_law.specs.State.{State, Client, Passed, Passes, Stage, Undecided, Waiting, Passing, Answering, Reply, Instance}

@@ -80,7 +80,7 @@ begin_exchange-sound e s number none h = add_exchange-sound e _ number none (lea
 
 pub ask_for-sound : {b : Since} (c : Client) (d : Decision) (head : Request) (key : Key) (kind : AskKind) (s : State) → Sound b s → Sound b (ask_for c d head key kind s)
 unfolding ask_for leave forsake on_client
-ask_for-sound c d head key kind s h = begin_exchange-sound (new_exchange s c head key d kind) _ refl refl (leave-sound (is_of c.number) _ (on_client-sound c.number (asking_with d) s (asking_with-same d) h))
+ask_for-sound c d head key kind s h = swept-sound _ (begin_exchange-sound (new_exchange s c head key d kind) _ refl refl (leave-sound (is_of c.number) _ (on_client-sound c.number (asking_with d) s (asking_with-same d) h)))
 
 pub ask_as-sound : {b : Since} (c : Client) (d : Decision) (head : Request) (key : Key) (s : State) → Sound b s → Sound b (ask_as c d head key s)
 unfolding ask_as
@@ -126,7 +126,7 @@ follow-sound c d s kept current h = each_so (key_in c.front) (λ none. h) (λ ke
 
 pub relay-sound : {b : Since} (c : Client) (s : State) → Sound b s → Sound b (relay c s)
 unfolding relay
-relay-sound c s h = on_client-sound c.number (answering_with (reply_by Relay None)) s relayed-same h
+relay-sound c s h = swept-sound _ (on_client-sound c.number (answering_with (reply_by Relay None)) s relayed-same h)
 
 pub mark_row_of-sound : {b : Since} (key : Bytes) (s : State) → Sound b s → Sound b (mark_row_of key s)
 unfolding mark_row_of

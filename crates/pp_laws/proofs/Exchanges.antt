@@ -1,9 +1,9 @@
 -- Changes of one connection, exchange or client, and an exchange that is over, keep what is sound.
 use Rattle.std.proofs.Common.{◌≡◌, refl, ℕ, Bool, true, false, ◌&&◌, ◌||◌, not, ◌==◌, List, [], ◌∷◌, map, filter, cond, Some, None, sym, subst, ap, ◌∙◌}
 use Rattle.pp_target.specs.Key.{text_of}
-use Rattle.pp_law.specs.Connections.{client, conn, exchange, is_client, is_conn, is_exchange, is_for, each_client, each_conn, each_exchange, on_conn, on_exchange, on_client, on_client_of, attempts_of, lost_one, without_row, without_shared_row, is_unfilled, give_up_row, charge, lose_attempt, fail, without_ask, end_exchange}
+use Rattle.pp_law.specs.Connections.{client, conn, exchange, is_client, is_conn, is_exchange, is_for, each_client, each_conn, each_exchange, on_conn, on_exchange, on_client, on_client_of, attempts_of, lost_one, without_row, without_shared_row, is_unfilled, give_up_row, charge, lose_attempt, fail, without_ask, end_exchange, anew, out_of_tries}
 use Rattle.pp_law.specs.Stages.{is_begun}
-use Rattle.pp_law.specs.State.{State, Course, Trying, OutOfTries, Client, Conn, Exchange}
+use Rattle.pp_law.specs.State.{State, Course, Client, Conn, Exchange}
 use Rattle.pp_laws.specs.Runs.{IsIn}
 use Rattle.pp_laws.proofs.Callers.{same_parts}
 use Rattle.pp_laws.proofs.Cases.{each_so, when}
@@ -49,7 +49,7 @@ each_exchange-sound f each (n ∷ ns) s h = each_exchange-sound f each ns _ (eac
 
 -- ---- attempts
 
-without_row-by : (c : Client) (begun : Bool) → SameClient (elim begun as (λ x. Client) [ true ↦ c | false ↦ record c { course = Trying 0; has_given_up = true } ]) c
+without_row-by : (c : Client) (begun : Bool) → SameClient (elim begun as (λ x. Client) [ true ↦ c | false ↦ record c { course = anew c.course; has_given_up = true } ]) c
 without_row-by c true = client_same c
 without_row-by c false = same_parts _ c refl refl refl
 
@@ -77,7 +77,7 @@ lose_attempt-sound e s h = charge-sound (lost_one (attempts_of e)) e s h
 
 pub fail-sound : {b : Since} (e : Exchange) (s : State) → Sound b s → Sound b (fail e s)
 unfolding fail
-fail-sound e s h = charge-sound (λ course. OutOfTries) e s h
+fail-sound e s h = charge-sound out_of_tries e s h
 
 -- ---- an exchange is over
 

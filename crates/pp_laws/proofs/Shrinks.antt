@@ -1,9 +1,9 @@
 -- No exchange comes into a line where one is over, or its connection is closed.
 use Rattle.std.proofs.Common.{◌≡◌, refl, ℕ, Bool, true, false, not, ◌==◌, ◌&&◌, List, [], ◌∷◌, Option, Some, None, subst, ap, ◌∙◌}
 use Rattle.pp_target.specs.Key.{text_of}
-use Rattle.pp_law.specs.Connections.{exchange, is_conn, is_exchange, on_conn, on_exchange, on_client_of, attempts_of, lost_one, without_row, is_unfilled, give_up_row, charge, lose_attempt, fail, without_ask, end_exchange, unplaced, may_ask_again, leave_place, lose_place, each_exchange, close_conn}
+use Rattle.pp_law.specs.Connections.{exchange, is_conn, is_exchange, on_conn, on_exchange, on_client_of, attempts_of, lost_one, without_row, is_unfilled, give_up_row, charge, lose_attempt, fail, without_ask, end_exchange, unplaced, may_ask_again, leave_place, lose_place, each_exchange, close_conn, out_of_tries}
 use Rattle.pp_law.specs.Stages.{on_passed, is_headed}
-use Rattle.pp_law.specs.State.{State, Course, OutOfTries, Client, Conn, Exchange}
+use Rattle.pp_law.specs.State.{State, Course, Client, Conn, Exchange}
 use Rattle.pp_law.specs.Table.{clear}
 use Rattle.pp_laws.specs.Runs.{IsIn}
 use Rattle.pp_laws.proofs.Lists.{Changed, From, in_change, in_filter, in_map, other, same}
@@ -77,7 +77,7 @@ lose_attempt-shrinks e s = charge-shrinks (lost_one (attempts_of e)) e s
 
 pub fail-shrinks : (e : Exchange) (s : State) → Shrinks s (fail e s)
 unfolding fail
-fail-shrinks e s = charge-shrinks (λ course. OutOfTries) e s
+fail-shrinks e s = charge-shrinks out_of_tries e s
 
 pub no_line_shrunk : (n : ℕ) (s t : State) → Shrinks s t → NoLine n s → NoLine n t
 no_line_shrunk n s t shrinks no_line k i l = let f = shrinks.conns k i in no_line f.0 f.1 (f.3 n l)

@@ -70,7 +70,7 @@ begin_exchange-kept e s none fresh h = add_exchange-kept e _ none fresh (leave-k
 
 ask_for-kept : {but : List ℕ} (c : Client) (d : Decision) (head : Request) (key : Key) (kind : AskKind) (s : State) → Kept but s → Kept but (ask_for c d head key kind s)
 unfolding ask_for
-ask_for-kept c d head key kind s h = begin_exchange-kept (new_exchange s c head key d kind) _ refl refl (leave-kept (is_of c.number) _ (on_client-kept c.number (asking_with d) s h))
+ask_for-kept c d head key kind s h = swept-kept _ (begin_exchange-kept (new_exchange s c head key d kind) _ refl refl (leave-kept (is_of c.number) _ (on_client-kept c.number (asking_with d) s h)))
 
 ask_as-kept : {but : List ℕ} (c : Client) (d : Decision) (head : Request) (key : Key) (s : State) → Kept but s → Kept but (ask_as c d head key s)
 unfolding ask_as
@@ -92,7 +92,7 @@ follow-kept c d s h = each_of (key_in c.front) h (λ key. follow_row-kept c d (t
 
 relay-kept : {but : List ℕ} (c : Client) (s : State) → Kept but s → Kept but (relay c s)
 unfolding relay
-relay-kept c s h = on_client-kept c.number (answering_with (reply_by Relay None)) s h
+relay-kept c s h = swept-kept _ (on_client-kept c.number (answering_with (reply_by Relay None)) s h)
 
 mark_row_of-kept : {but : List ℕ} (key : Bytes) (s : State) → Kept but s → Kept but (mark_row_of key s)
 unfolding mark_row_of

@@ -1,8 +1,8 @@
 -- Changes of one connection, exchange or client, and an exchange that is over, keep the bounds.
 use Rattle.std.proofs.Common.{◌≡◌, ◌⊎◌, refl, ℕ, true, false, not, ◌==◌, List, [], ◌∷◌, map, filter, None, inl, inr, sym, ap, ◌∙◌}
 use Rattle.pp_target.specs.Key.{text_of}
-use Rattle.pp_law.specs.Connections.{client, conn, exchange, is_client, is_conn, is_exchange, is_for, each_client, each_conn, each_exchange, on_conn, on_exchange, on_client, on_client_of, attempts_of, lost_one, without_row, is_unfilled, give_up_row, charge, lose_attempt, fail, without_ask, end_exchange}
-use Rattle.pp_law.specs.State.{State, Course, OutOfTries, Client, Conn, Exchange}
+use Rattle.pp_law.specs.Connections.{client, conn, exchange, is_client, is_conn, is_exchange, is_for, each_client, each_conn, each_exchange, on_conn, on_exchange, on_client, on_client_of, attempts_of, lost_one, without_row, is_unfilled, give_up_row, charge, lose_attempt, fail, without_ask, end_exchange, out_of_tries}
+use Rattle.pp_law.specs.State.{State, Course, Client, Conn, Exchange}
 use Rattle.pp_law.specs.Table.{swept, clear}
 use Rattle.pp_laws.specs.Runs.{IsIn}
 use Rattle.pp_laws.proofs.Lists.{in_filter, in_find}
@@ -71,7 +71,7 @@ lose_attempt-kept e s h = charge-kept (lost_one (attempts_of e)) e s h
 
 pub fail-kept : {but : List ℕ} (e : Exchange) (s : State) → Kept but s → Kept but (fail e s)
 unfolding fail
-fail-kept e s h = charge-kept (λ course. OutOfTries) e s h
+fail-kept e s h = charge-kept out_of_tries e s h
 
 -- ---- an exchange is over
 

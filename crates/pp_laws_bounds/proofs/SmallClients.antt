@@ -70,7 +70,7 @@ begin_exchange-small e s none fresh h = add_exchange-small e _ none fresh (leave
 
 ask_for-small : {a : As} (c : Client) (d : Decision) (head : Request) (key : Key) (kind : AskKind) (s : State) → Small a s → Small a (ask_for c d head key kind s)
 unfolding ask_for leave forsake on_client
-ask_for-small c d head key kind s h = begin_exchange-small (new_exchange s c head key d kind) _ refl refl (leave-small (is_of c.number) _ (on_client-small c.number (asking_with d) s h))
+ask_for-small c d head key kind s h = swept-small _ (begin_exchange-small (new_exchange s c head key d kind) _ refl refl (leave-small (is_of c.number) _ (on_client-small c.number (asking_with d) s h)))
 
 ask_as-small : {a : As} (c : Client) (d : Decision) (head : Request) (key : Key) (s : State) → Small a s → Small a (ask_as c d head key s)
 unfolding ask_as
@@ -92,7 +92,7 @@ follow-small c d s h = each_of (key_in c.front) h (λ key. follow_row-small c d 
 
 relay-small : {a : As} (c : Client) (s : State) → Small a s → Small a (relay c s)
 unfolding relay
-relay-small c s h = on_client-small c.number (answering_with (reply_by Relay None)) s h
+relay-small c s h = swept-small _ (on_client-small c.number (answering_with (reply_by Relay None)) s h)
 
 mark_row_of-small : {a : As} (key : Bytes) (s : State) → Small a s → Small a (mark_row_of key s)
 unfolding mark_row_of

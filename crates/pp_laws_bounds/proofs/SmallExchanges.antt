@@ -1,8 +1,8 @@
 -- Changes of one connection, exchange or client, and an exchange that is over, keep the bounds.
 use Rattle.std.proofs.Common.{refl, ℕ, not, List, [], ◌∷◌, None}
 use Rattle.pp_target.specs.Key.{text_of}
-use Rattle.pp_law.specs.Connections.{client, conn, exchange, is_client, is_conn, is_exchange, is_for, each_client, each_conn, each_exchange, on_conn, on_exchange, on_client, on_client_of, attempts_of, lost_one, without_row, is_unfilled, give_up_row, charge, lose_attempt, fail, end_exchange}
-use Rattle.pp_law.specs.State.{State, Course, OutOfTries, Client, Conn, Exchange}
+use Rattle.pp_law.specs.Connections.{client, conn, exchange, is_client, is_conn, is_exchange, is_for, each_client, each_conn, each_exchange, on_conn, on_exchange, on_client, on_client_of, attempts_of, lost_one, without_row, is_unfilled, give_up_row, charge, lose_attempt, fail, end_exchange, out_of_tries}
+use Rattle.pp_law.specs.State.{State, Course, Client, Conn, Exchange}
 use Rattle.pp_laws.specs.Runs.{IsIn}
 use Rattle.pp_laws.proofs.Lists.{in_find}
 use Rattle.pp_laws_bounds.proofs.SmallCases.{each_so, when}
@@ -62,7 +62,7 @@ lose_attempt-small e s h = charge-small (lost_one (attempts_of e)) e s h
 
 pub fail-small : {a : As} (e : Exchange) (s : State) → Small a s → Small a (fail e s)
 unfolding fail
-fail-small e s h = charge-small (λ course. OutOfTries) e s h
+fail-small e s h = charge-small out_of_tries e s h
 
 -- ---- an exchange is over
 

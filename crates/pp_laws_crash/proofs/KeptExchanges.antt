@@ -51,7 +51,7 @@ begin_exchange-kept e s h = add_exchange-kept e _ (leave-kept _ s h)
 
 ask_for-kept : {o : State} (c : Client) (d : Decision) (head : Request) (key : Key) (kind : AskKind) (s : State) → Kept o s → Kept o (ask_for c d head key kind s)
 unfolding ask_for
-ask_for-kept c d head key kind s h = begin_exchange-kept _ _ (leave-kept (is_of c.number) _ (on_client-kept c.number _ s h))
+ask_for-kept c d head key kind s h = swept-kept _ (begin_exchange-kept _ _ (leave-kept (is_of c.number) _ (on_client-kept c.number _ s h)))
 
 ask_as-kept : {o : State} (c : Client) (d : Decision) (head : Request) (key : Key) (s : State) → Kept o s → Kept o (ask_as c d head key s)
 unfolding ask_as
@@ -75,7 +75,7 @@ follow-kept c d s h = each_of (key_in c.front) h (λ key. follow_row-kept c d (t
 
 relay-kept : {o : State} (c : Client) (s : State) → Kept o s → Kept o (relay c s)
 unfolding relay
-relay-kept c s h = on_client-kept c.number _ s h
+relay-kept c s h = swept-kept _ (on_client-kept c.number _ s h)
 
 mark_row_of-kept : {o : State} (key : Bytes) (s : State) → Kept o s → Kept o (mark_row_of key s)
 unfolding mark_row_of

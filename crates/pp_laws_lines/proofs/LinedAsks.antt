@@ -9,13 +9,13 @@ use Rattle.pp_peers.specs.declared.placing.Placed.{Placed}
 use Rattle.pp_target.specs.Key.{Key, text_of}
 use Rattle.pp_law.proofs.OnLiterals.{pp_law_on_literals}
 use Rattle.pp_law.specs.Closing.{is_of, is_over, left_alone, forsake, leave, leave_one, exchanges_of, close_client}
-use Rattle.pp_law.specs.Connections.{without_ask, client, conn, exchange, is_conn, is_exchange, is_trying, each_client, each_conn, each_exchange, on_conn, on_exchange, on_client, on_client_of, attempts_of, lost_one, without_row, is_unfilled, give_up_row, charge, lose_attempt, fail, end_exchange, unplaced, may_ask_again, leave_place, lose_place, close_conn, place_for, put_on, if_unplaced, place_each, placing, Placement, WaitsDial, WaitsDrop}
+use Rattle.pp_law.specs.Connections.{without_ask, client, conn, exchange, is_conn, is_exchange, is_trying, each_client, each_conn, each_exchange, on_conn, on_exchange, on_client, on_client_of, attempts_of, lost_one, without_row, is_unfilled, give_up_row, charge, lose_attempt, fail, end_exchange, unplaced, may_ask_again, leave_place, lose_place, close_conn, place_for, put_on, if_unplaced, place_each, placing, Placement, WaitsDial, WaitsDrop, out_of_tries}
 use Rattle.pp_law.specs.Deciding.{add_exchange, begin_exchange}
 use Rattle.pp_law.specs.Decisions.{fits, lent}
 use Rattle.pp_law.specs.Followers.{need_of, filling_exchange, fill_with, fill_span, fill_next, fill_for, fill, is_useless_ask, is_wanted_by, give_up_asks}
 use Rattle.pp_law.specs.Lists.{Bytes, change, is_some_with}
 use Rattle.pp_law.specs.Stages.{filled_of, is_headed, on_passed}
-use Rattle.pp_law.specs.State.{State, AskTooLong, Course, OutOfTries, Client, Conn, Exchange}
+use Rattle.pp_law.specs.State.{State, AskTooLong, Course, Client, Conn, Exchange}
 use Rattle.std.specs.List.{list_any}
 use Rattle.pp_law.specs.Table.{Next, clear, next_of, swept}
 use Rattle.pp_laws.specs.Runs.{IsIn}
@@ -89,7 +89,7 @@ lose_attempt-lined e s h = charge-lined (lost_one (attempts_of e)) e s h
 
 pub fail-lined : {b : Since} (e : Exchange) (s : State) → Lined b s → Lined b (fail e s)
 unfolding fail
-fail-lined e s h = charge-lined (λ course. OutOfTries) e s h
+fail-lined e s h = charge-lined out_of_tries e s h
 
 pub end_exchange-lined : {b : Since} (n : ℕ) (s : State) → ((k : Conn) → IsIn k s.conns → IsIn n k.line → MayEnd b n s.exchanges k) → Lined b s → Lined b (end_exchange n s)
 unfolding end_exchange

@@ -42,8 +42,9 @@ refuse-lined c status s h = swept-lined _ (leave-lined (is_of c.number) _ (on_cl
 ask_for-lined : {b : Since} (c : Client) (d : Decision) (head : Request) (key : Key) (kind : AskKind) (s : State) → IsPlain b → Lined b s → Lined b (ask_for c d head key kind s)
 unfolding ask_for leave forsake on_client
 ask_for-lined c d head key kind s p h =
-    begin_exchange-lined (new_exchange s c head key d kind) _ p.kept refl (text_some kind head key s.settings.name)
-    (leave-lined (is_of c.number) (on_client c.number (asking_with d) s) (on_client-lined c.number (asking_with d) s h))
+    swept-lined _
+    (begin_exchange-lined (new_exchange s c head key d kind) _ p.kept refl (text_some kind head key s.settings.name)
+    (leave-lined (is_of c.number) (on_client c.number (asking_with d) s) (on_client-lined c.number (asking_with d) s h)))
 
 ask_origin-lined : {b : Since} (c : Client) (d : Decision) (s : State) → IsPlain b → Lined b s → Lined b (ask_origin c d s)
 unfolding ask_origin ask_as
@@ -57,7 +58,7 @@ follow-lined c d s h =
 
 relay-lined : {b : Since} (c : Client) (s : State) → Lined b s → Lined b (relay c s)
 unfolding relay
-relay-lined c s h = on_client-lined c.number (answering_with (reply_by Relay None)) s h
+relay-lined c s h = swept-lined _ (on_client-lined c.number (answering_with (reply_by Relay None)) s h)
 
 decided_by-lined : {b : Since} (c : Client) (d : Decision) (s : State) → IsPlain b → Lined b s → Lined b (decided_by c d s)
 unfolding decided_by

@@ -4,13 +4,13 @@ use Rattle.pp_peers.specs.declared.placing.Placed.TheVariants.{On, Dial, CloseTh
 use Rattle.pp_peers.specs.declared.placing.Placed.{Placed}
 use Rattle.pp_target.specs.Key.{text_of}
 use Rattle.pp_law.specs.Closing.{is_of, is_over, left_alone, forsake, leave, leave_one, exchanges_of, close_client}
-use Rattle.pp_law.specs.Connections.{client, conn, exchange, is_client, is_conn, is_exchange, is_for, without_ask, each_client, each_conn, each_exchange, on_conn, on_exchange, on_client, on_client_of, attempts_of, lost_one, without_row, is_unfilled, give_up_row, charge, lose_attempt, fail, end_exchange, unplaced, may_ask_again, leave_place, lose_place, close_conn, place_for, put_on, if_unplaced, place_each, placing, Placement, WaitsDial, WaitsDrop}
+use Rattle.pp_law.specs.Connections.{client, conn, exchange, is_client, is_conn, is_exchange, is_for, without_ask, each_client, each_conn, each_exchange, on_conn, on_exchange, on_client, on_client_of, attempts_of, lost_one, without_row, is_unfilled, give_up_row, charge, lose_attempt, fail, end_exchange, unplaced, may_ask_again, leave_place, lose_place, close_conn, place_for, put_on, if_unplaced, place_each, placing, Placement, WaitsDial, WaitsDrop, anew, out_of_tries}
 use Rattle.pp_law.specs.Deciding.{add_exchange, begin_exchange}
 use Rattle.pp_law.specs.Followers.{need_of, filling_exchange, fill_with, fill_span, fill_next, fill_for, fill, is_useless_ask, give_up_asks}
 use Rattle.pp_law.specs.Connections.{is_trying}
 use Rattle.pp_law.specs.Decisions.{fits}
 use Rattle.pp_law.specs.Stages.{is_begun, is_headed, on_passed, passed_of, reply_of}
-use Rattle.pp_law.specs.State.{State, AskTooLong, Course, Trying, OutOfTries, Client, Conn, Exchange, Instance, Passed, Passes, Reply, Stage, Undecided, Waiting, Passing, Answering}
+use Rattle.pp_law.specs.State.{State, AskTooLong, Course, Client, Conn, Exchange, Instance, Passed, Passes, Reply, Stage, Undecided, Waiting, Passing, Answering}
 use Rattle.pp_law.specs.Lists.{Bytes, is_some_with, is_this}
 use Rattle.pp_law.specs.Table.{Next, clear, instance, next_from, next_in, next_of, swept}
 use Rattle.pp_laws_passed.proofs.Cases.{by_front, by_result, each_of, each_so, when, when_so}
@@ -73,7 +73,7 @@ module _ {tale : Tale} where
 
   -- ---- attempts
 
-  pub without_row-by : (c : Client) (begun : Bool) → SameClient tale tale (elim begun as (λ x. Client) [ true ↦ c | false ↦ record c { course = Trying 0; has_given_up = true } ]) c
+  pub without_row-by : (c : Client) (begun : Bool) → SameClient tale tale (elim begun as (λ x. Client) [ true ↦ c | false ↦ record c { course = anew c.course; has_given_up = true } ]) c
   without_row-by c true = client_same c
   without_row-by c false = parts_same _ c refl refl refl refl refl
 
@@ -96,7 +96,7 @@ module _ {tale : Tale} where
 
   pub fail-fed : (e : Exchange) (s : State) → Fed tale s → Fed tale (fail e s)
   unfolding fail
-  fail-fed e s h = charge-fed (λ course. OutOfTries) e s h
+  fail-fed e s h = charge-fed out_of_tries e s h
 
 first_filter : (p : ℕ → Bool) (n : ℕ) (ns : List ℕ) → p n ≡ true → first_of ns ≡ Some n → first_of (filter p ns) ≡ Some n
 first_filter p n [] holds is = absurd (cc is)

@@ -332,8 +332,9 @@ module _ {tale : Tale} where
   ask_for-fed : (c : Client) (d : Decision) (head : Request) (key : Key) (kind : AskKind) (s : State) → Fed tale s → Fed tale (ask_for c d head key kind s)
   unfolding ask_for leave forsake on_client
   ask_for-fed c d head key kind s h =
-      begin_exchange-fed (new_exchange s c head key d kind) _ refl refl (λ x i hit. by x (in_change (is_client c.number) (asking_with d) x s.clients i) hit)
-      (leave-fed (is_of c.number) (on_client c.number (asking_with d) s) (on_client-fed c.number (asking_with d) s (asking_same d) h))
+      swept-fed _
+      (begin_exchange-fed (new_exchange s c head key d kind) _ refl refl (λ x i hit. by x (in_change (is_client c.number) (asking_with d) x s.clients i) hit)
+      (leave-fed (is_of c.number) (on_client c.number (asking_with d) s) (on_client-fed c.number (asking_with d) s (asking_same d) h)))
     where
       by : (x : Client) → Changed (is_client c.number) (asking_with d) s.clients x → (c.number == x.number) ≡ true → is_in_passed x.stage ≡ false
       by x (same i isnt) hit =
@@ -403,7 +404,7 @@ module _ {tale : Tale} where
 
   relay-fed : (c : Client) (s : State) → IsFree c s → Fed tale s → Fed tale (relay c s)
   unfolding relay
-  relay-fed c s free h = answered-fed (reply_by Relay None) c s refl free h
+  relay-fed c s free h = swept-fed _ (answered-fed (reply_by Relay None) c s refl free h)
 
   decided_by-fed : (c : Client) (d : Decision) (s : State) → IsFree c s → Fed tale s → Fed tale (decided_by c d s)
   unfolding decided_by

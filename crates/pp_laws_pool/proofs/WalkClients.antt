@@ -78,9 +78,10 @@ there_changed n m f s kept i = subst (λ ns. IsIn n ns) (sym (map_kept client_nu
 ask_for-keeps : {P : View → Type 0} (w : Walk P) (b : Begins P) (c : Client) (d : Decision) (head : Request) (key : Key) (kind : AskKind) (s : State) → IsThere c.number s → Holds P s → Holds P (ask_for c d head key kind s)
 unfolding ask_for leave forsake on_client
 ask_for-keeps w b c d head key kind s there h =
-    begin_exchange-keeps w b (new_exchange s c head key d kind) _
+    swept-keeps w _
+    (begin_exchange-keeps w b (new_exchange s c head key d kind) _
     (record { number = refl; place = refl; asker = c.number; is = refl; there = there_changed c.number c.number (asking_with d) s (λ x. refl) there })
-    (leave-keeps w (is_of c.number) _ (on_client-keeps w c.number (asking_with d) s (λ x. refl) h))
+    (leave-keeps w (is_of c.number) _ (on_client-keeps w c.number (asking_with d) s (λ x. refl) h)))
 
 ask_as-keeps : {P : View → Type 0} (w : Walk P) (b : Begins P) (c : Client) (d : Decision) (head : Request) (key : Key) (s : State) → IsThere c.number s → Holds P s → Holds P (ask_as c d head key s)
 unfolding ask_as
@@ -102,7 +103,7 @@ follow-keeps w c d s h = each_of (key_in c.front) h (λ key. follow_row-keeps w 
 
 relay-keeps : {P : View → Type 0} (w : Walk P) (c : Client) (s : State) → Holds P s → Holds P (relay c s)
 unfolding relay
-relay-keeps w c s h = on_client-keeps w c.number (answering_with (reply_by Relay None)) s (λ x. refl) h
+relay-keeps w c s h = swept-keeps w _ (on_client-keeps w c.number (answering_with (reply_by Relay None)) s (λ x. refl) h)
 
 mark_row_of-keeps : {P : View → Type 0} (w : Walk P) (key : Bytes) (s : State) → Holds P s → Holds P (mark_row_of key s)
 unfolding mark_row_of

@@ -2,9 +2,9 @@
 use Rattle.std.proofs.Common.{◌≡◌, ◌⊎◌, refl, ℕ, ◌≤◌, Bool, true, false, not, ◌==◌, ◌||◌, List, [], ◌∷◌, map, filter, length, Option, None, inl, le_refl, subst, sym, ap}
 use Rattle.pp_target.specs.Key.{text_of}
 use Rattle.pp_law.specs.Closing.{left_alone}
-use Rattle.pp_law.specs.Connections.{client, conn, exchange, is_client, is_conn, is_exchange, is_for, each_client, each_conn, each_exchange, on_conn, on_exchange, on_client, on_client_of, attempts_of, lost_one, without_row, is_unfilled, give_up_row, charge, lose_attempt, fail, without_ask, end_exchange}
+use Rattle.pp_law.specs.Connections.{client, conn, exchange, is_client, is_conn, is_exchange, is_for, each_client, each_conn, each_exchange, on_conn, on_exchange, on_client, on_client_of, attempts_of, lost_one, without_row, is_unfilled, give_up_row, charge, lose_attempt, fail, without_ask, end_exchange, anew, out_of_tries}
 use Rattle.pp_law.specs.Stages.{is_begun}
-use Rattle.pp_law.specs.State.{State, Course, Trying, OutOfTries, Client, Conn, Exchange}
+use Rattle.pp_law.specs.State.{State, Course, Client, Conn, Exchange}
 use Rattle.pp_laws.specs.Runs.{IsIn}
 use Rattle.pp_laws.proofs.Lists.{changed_at, in_filter, in_find}
 use Rattle.pp_laws_bounds.proofs.Counts.{length-filter}
@@ -48,7 +48,7 @@ number_changed f c false kept = refl
 without_row-number : (c : Client) → (without_row c).number ≡ c.number
 without_row-number c = by (is_begun c || c.has_given_up)
   where
-    by : (t : Bool) → (elim t as (λ d. Client) [ true ↦ c | false ↦ record c { course = Trying 0; has_given_up = true } ]).number ≡ c.number
+    by : (t : Bool) → (elim t as (λ d. Client) [ true ↦ c | false ↦ record c { course = anew c.course; has_given_up = true } ]).number ≡ c.number
     by true = refl
     by false = refl
 
@@ -113,7 +113,7 @@ lose_attempt-keeps w e s h = charge-keeps w (lost_one (attempts_of e)) e s h
 
 pub fail-keeps : {P : View → Type 0} (w : Walk P) (e : Exchange) (s : State) → Holds P s → Holds P (fail e s)
 unfolding fail
-fail-keeps w e s h = charge-keeps w (λ course. OutOfTries) e s h
+fail-keeps w e s h = charge-keeps w out_of_tries e s h
 
 -- ---- an exchange is over
 

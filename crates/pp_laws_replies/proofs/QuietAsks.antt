@@ -4,13 +4,13 @@ use Rattle.pp_peers.specs.declared.placing.Placed.TheVariants.{On, Dial, CloseTh
 use Rattle.pp_peers.specs.declared.placing.Placed.{Placed}
 use Rattle.pp_target.specs.Key.{text_of}
 use Rattle.pp_law.specs.Closing.{left_alone, forsake, leave, leave_one, exchanges_of, close_client}
-use Rattle.pp_law.specs.Connections.{client, conn, exchange, is_client, is_for, each_client, each_conn, each_exchange, on_conn, on_exchange, on_client, on_client_of, attempts_of, lost_one, without_row, without_shared_row, is_unfilled, give_up_row, charge, lose_attempt, fail, end_exchange, unplaced, may_ask_again, leave_place, lose_place, close_conn, place_for, put_on, if_unplaced, place_each, placing, Placement, WaitsDial, WaitsDrop}
+use Rattle.pp_law.specs.Connections.{client, conn, exchange, is_client, is_for, each_client, each_conn, each_exchange, on_conn, on_exchange, on_client, on_client_of, attempts_of, lost_one, without_row, without_shared_row, is_unfilled, give_up_row, charge, lose_attempt, fail, end_exchange, unplaced, may_ask_again, leave_place, lose_place, close_conn, place_for, put_on, if_unplaced, place_each, placing, Placement, WaitsDial, WaitsDrop, anew, out_of_tries}
 use Rattle.pp_law.specs.Deciding.{add_exchange, begin_exchange}
 use Rattle.pp_law.specs.Followers.{need_of, filling_exchange, fill_with, fill_span, fill_next, fill_for, fill, give_up_asks}
 use Rattle.pp_law.specs.Connections.{is_trying}
 use Rattle.pp_law.specs.Decisions.{fits}
 use Rattle.pp_law.specs.Stages.{is_begun, is_headed, on_passed, passed_of}
-use Rattle.pp_law.specs.State.{State, AskTooLong, Course, Trying, OutOfTries, Client, Conn, Exchange, Passed, Passes}
+use Rattle.pp_law.specs.State.{State, AskTooLong, Course, Client, Conn, Exchange, Passed, Passes}
 use Rattle.pp_law.specs.Table.{Next, next_of}
 use Rattle.pp_laws_replies.proofs.Cases.{by_front, by_result, each_of, when}
 use Rattle.pp_laws_replies.proofs.HeardPlaces.{still}
@@ -56,7 +56,7 @@ each_exchange-quiet f each (n ∷ ns) s h = each_exchange-quiet f each ns _ (eac
 
 -- ---- attempts
 
-without_row-by : (c : Client) (begun : Bool) → Quiet (elim begun as (λ x. Client) [ true ↦ c | false ↦ record c { course = Trying 0; has_given_up = true } ]) c
+without_row-by : (c : Client) (begun : Bool) → Quiet (elim begun as (λ x. Client) [ true ↦ c | false ↦ record c { course = anew c.course; has_given_up = true } ]) c
 without_row-by c true = still_same c
 without_row-by c false = parts_same _ c refl refl refl refl refl refl refl refl refl
 
@@ -82,7 +82,7 @@ lose_attempt-quiet e s h = charge-quiet (lost_one (attempts_of e)) e s h
 
 pub fail-quiet : {o : State} (e : Exchange) (s : State) → Quietly o s → Quietly o (fail e s)
 unfolding fail
-fail-quiet e s h = charge-quiet (λ course. OutOfTries) e s h
+fail-quiet e s h = charge-quiet out_of_tries e s h
 
 pub end_exchange-quiet : {o : State} (n : ℕ) (s : State) → Quietly o s → Quietly o (end_exchange n s)
 unfolding end_exchange

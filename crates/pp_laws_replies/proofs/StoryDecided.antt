@@ -127,7 +127,7 @@ refuse-orderly c status s free h =
 ask_for-orderly : {n : ℕ} {told : Told} (c : Client) (d : Decision) (head : Request) (key : Key) (kind : AskKind) (s : State) → AllFree c.number s → Orderly n told s → Orderly n told (ask_for c d head key kind s)
 unfolding ask_for on_client
 ask_for-orderly c d head key kind s free h =
-    quiet_orderly _ _ (begin_exchange-quiet (new_exchange s c head key d kind) _ (leave-quiet (is_of c.number) _ (quiet_same _)))
+    quiet_orderly _ _ (swept-quiet _ (begin_exchange-quiet (new_exchange s c head key d kind) _ (leave-quiet (is_of c.number) _ (quiet_same _))))
     (kept_orderly s (is_client c.number) (asking_with d) (λ e. refl) (asking_follows d) (λ e i hit last now. asking_now s.instances s.next_instance d e last (free e i (same_number e.number c.number hit)) now) h)
 
 ask_origin-orderly : {n : ℕ} {told : Told} (c : Client) (d : Decision) (s : State) → AllFree c.number s → Orderly n told s → Orderly n told (ask_origin c d s)
@@ -154,8 +154,9 @@ ask_origin-orderly {n} {told} c d s free h = by_front c.front
 relay-orderly : {n : ℕ} {told : Told} (c : Client) (s : State) → AllFree c.number s → Orderly n told s → Orderly n told (relay c s)
 unfolding relay on_client
 relay-orderly c s free h =
-    kept_orderly s (is_client c.number) (answering_with (reply_by Relay None)) (λ d. refl) (answering_follows (reply_by Relay None))
-    (λ d i hit last now. answering_now s.instances s.next_instance (reply_by Relay None) d last refl (free d i (same_number d.number c.number hit)) (to_pass refl) now) h
+    quiet_orderly _ _ (swept-quiet _ (quiet_same _))
+    (kept_orderly s (is_client c.number) (answering_with (reply_by Relay None)) (λ d. refl) (answering_follows (reply_by Relay None))
+    (λ d i hit last now. answering_now s.instances s.next_instance (reply_by Relay None) d last refl (free d i (same_number d.number c.number hit)) (to_pass refl) now) h)
 
 -- ---- a reply by the row
 

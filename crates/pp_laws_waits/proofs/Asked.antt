@@ -81,7 +81,9 @@ follow-none_new c d s = none_each s (key_in c.front) (λ key. follow_row c d (te
 
 relay-none_new : (c : Client) (s : State) → NoneNew s (relay c s)
 unfolding relay
-relay-none_new c s = none_new s (on_client c.number (answering_with (reply_by Relay None)) s) (on_client-same c.number (answering_with (reply_by Relay None)) s)
+relay-none_new c s =
+    let t : State = on_client c.number (answering_with (reply_by Relay None)) s in
+    new_by s t (swept t) (swept-same t) (none_new s t (on_client-same c.number (answering_with (reply_by Relay None)) s))
 
 decided_by-none_new : (c : Client) (d : Decision) (s : State) → asks_nothing d ≡ true → NoneNew s (decided_by c d s)
 unfolding decided_by

@@ -1,172 +1,139 @@
-// Heads, targets, ranges, and what an origin is asked.
+// Heads, targets and ranges.
+use crate::saying::{says_nothing, told};
 use arrayvec::ArrayVec;
-use pp_ask::{ASK_LEN, AskKind, TooLong, write_ask};
-use pp_head::{HeadState, Scratch, read_request, read_response};
+use pp_head::{HeadState, KeptHead, Scratch, read_response};
 use pp_ranges::{Range, Resolved, read_range, resolve};
-use pp_target::{Place, TargetFault, file_name, key};
-use pp_valid::Tag;
+use pp_target::{KEY_ROOM, Place, TargetFault, file_name, key};
+use pp_text::OutOfMemory;
 use std::alloc::Global;
 use std::test::Fail;
 
-/// The ask for the request of a client, under the name `polipo`.
-fn ask(
-    alloc: Global,
-    kind: &AskKind<'_>,
-    received: &[u8],
-    out: &mut ArrayVec<u8, ASK_LEN>,
-) -> Option<Result<(), TooLong>> {
-    let mut scratch = Scratch::new();
-    let HeadState::Whole(request) = read_request(received, &mut scratch) else {
-        return None;
-    };
-    let mut text = ArrayVec::new();
-    match key(alloc, request.target, &mut text) {
-        Ok(place) => Some(write_ask(kind, &request, &text, &place, b"polipo", out)),
-        Err(_) => None,
+/// A text, and what is read of it.
+enum Read<'a> {
+    /// The status of the response at the front, the length of its head, and how many fields it has.
+    Whole(&'a [u8], (u16, usize, usize)),
+    TooLong(&'a [u8]),
+    Bad(&'a [u8]),
+    More(&'a [u8]),
+    /// The range of a request with this line, and what it stands for in a body of five bytes.
+    Range(&'a [u8], Option<(Range, Resolved)>),
+    /// The key of a target, and where its parts stand.
+    Key(&'a [u8], Result<Place, TargetFault>, &'a [u8]),
+    /// The name of the file of a key.
+    FileName(&'a [u8], [u8; 32]),
+}
+
+fn is_read(alloc: Global, row: &Read<'_>) -> bool {
+    match row {
+        Read::Whole(bytes, wanted) => whole(bytes) == Some(*wanted),
+        Read::TooLong(bytes) => is_too_long(bytes),
+        Read::Bad(bytes) => is_bad(bytes),
+        Read::More(bytes) => is_more(bytes),
+        Read::Range(line, wanted) => range(line) == *wanted,
+        Read::Key(target, wanted, text) => has_key(alloc, target, *wanted, text),
+        Read::FileName(key, wanted) => file_name(key) == *wanted,
     }
 }
 
-#[test]
-fn an_ask_has_the_lines_of_its_kind(rt: HostRuntime) {
-    let Some(tag) = Tag::read(b"\"x\"") else {
-        return assert!(rt; false);
-    };
-    let received =
-        b"GET http://H:81/a?b#c HTTP/1.1\r\nHOST: other\r\nAccept: a\r\nRange: bytes=1-2\r\nConnection: X-A, close\r\nx-a: 1\r\nContent-Length: 000\r\n\r\n";
-    let cases: [(AskKind<'_>, &[u8]); 5] = [
-        (
-            AskKind::Whole,
-            b"GET /a?b HTTP/1.1\r\nhost: h:81\r\naccept: a\r\nvia: 1.1 polipo\r\n\r\n",
-        ),
-        (
-            AskKind::Range(4096, None),
-            b"GET /a?b HTTP/1.1\r\nhost: h:81\r\naccept: a\r\nrange: bytes=4096-\r\nvia: 1.1 polipo\r\n\r\n",
-        ),
-        (
-            AskKind::Hole(4096, 8191, &tag),
-            b"GET /a?b HTTP/1.1\r\nhost: h:81\r\naccept: a\r\nrange: bytes=4096-8191\r\nif-range: \"x\"\r\nvia: 1.1 polipo\r\n\r\n",
-        ),
-        (
-            AskKind::Check(&tag),
-            b"GET /a?b HTTP/1.1\r\nhost: h:81\r\naccept: a\r\nif-none-match: \"x\"\r\nvia: 1.1 polipo\r\n\r\n",
-        ),
-        (
-            AskKind::Pass,
-            b"GET /a?b HTTP/1.1\r\nhost: h:81\r\naccept: a\r\nrange: bytes=1-2\r\ncontent-length: 0\r\nvia: 1.1 polipo\r\n\r\n",
-        ),
-    ];
-    let mut out = ArrayVec::new();
-    for (kind, wanted) in cases {
-        assert_eq!(rt; ask(rt.alloc(), &kind, received, &mut out), Some(Ok(())));
-        assert_eq!(rt; out.as_slice(), wanted);
-    }
-    // Without the value there are 50 bytes.
-    for (count, wanted, len) in [(16_334, Ok(()), ASK_LEN), (16_335, Err(TooLong), 0)] {
-        let mut longest: ArrayVec<u8, 20_000> = ArrayVec::new();
-        let _ = longest.try_extend_from_slice(b"GET http://h/a HTTP/1.1\r\na: ");
-        for _ in 0..count {
-            let _ = longest.try_push(b'v');
-        }
-        let _ = longest.try_extend_from_slice(b"\r\n\r\n");
-        let found = ask(rt.alloc(), &AskKind::Whole, &longest, &mut out);
-        assert_eq!(rt; (found, out.len()), (Some(wanted), len));
-    }
-}
-
-/// The state of the response at the front of the bytes: its status, the length of its head and how many fields it has.
-fn response(bytes: &[u8]) -> (&'static str, u16, usize, usize) {
+fn whole(bytes: &[u8]) -> Option<(u16, usize, usize)> {
     let mut scratch = Scratch::new();
     match read_response(bytes, &mut scratch) {
-        HeadState::Whole(head) => ("Whole", head.status, head.length, head.fields.len()),
-        HeadState::TooLong => ("TooLong", 0, 0, 0),
-        HeadState::Bad => ("Bad", 0, 0, 0),
-        HeadState::More => ("More", 0, 0, 0),
+        HeadState::Whole(head) => Some((head.status, head.length, head.fields.len())),
+        HeadState::TooLong | HeadState::Bad | HeadState::More => None,
     }
 }
 
-#[test]
-fn a_response_is_whole_or_not(rt: HostRuntime) -> Result<(), Fail> {
-    let cases: [(&[u8], (&str, u16, usize, usize)); 4] = [
-        (
-            b"\r\n\nHTTP/1.1 200 OK\r\nETag: \"x\"\nA:\r\n\r\nhello",
-            ("Whole", 200, 36, 2),
-        ),
-        (b"HTTP/1.1 200 OK\r\nETag: \"x\"\r\n\r", ("More", 0, 0, 0)),
-        (b"HTTP/1.1 20 OK\r\n\r\n", ("Bad", 0, 0, 0)),
-        (&[b'\n'; 102], ("TooLong", 0, 0, 0)),
-    ];
-    for (bytes, wanted) in cases {
-        assert_eq!(rt; response(bytes), wanted);
-    }
-    Ok(())
-}
-
-/// The range of a request with this line, and what it stands for in a body of five bytes.
-fn range(line: &[u8]) -> Option<(Range, Resolved)> {
-    let mut text: ArrayVec<u8, 128> = ArrayVec::new();
-    for part in [
-        b"GET http://h/ HTTP/1.1\r\n".as_slice(),
-        line,
-        b"\r\n\r\n".as_slice(),
-    ] {
-        let _ = text.try_extend_from_slice(part);
-    }
+fn is_too_long(bytes: &[u8]) -> bool {
     let mut scratch = Scratch::new();
-    let HeadState::Whole(request) = read_request(&text, &mut scratch) else {
+    matches!(read_response(bytes, &mut scratch), HeadState::TooLong)
+}
+
+fn is_bad(bytes: &[u8]) -> bool {
+    let mut scratch = Scratch::new();
+    matches!(read_response(bytes, &mut scratch), HeadState::Bad)
+}
+
+fn is_more(bytes: &[u8]) -> bool {
+    let mut scratch = Scratch::new();
+    matches!(read_response(bytes, &mut scratch), HeadState::More)
+}
+
+fn range(line: &[u8]) -> Option<(Range, Resolved)> {
+    let text = request_with(line);
+    let mut kept = KeptHead::new();
+    kept.read(&text);
+    let HeadState::Whole(request) = kept.show(&text) else {
         return None;
     };
     let range = read_range(&request.fields)?;
     Some((range, resolve(&range, 5)))
 }
 
-#[test]
-fn a_range_stands_for_the_bytes_that_are_there(rt: HostRuntime) {
-    let cases: [(&[u8], Option<(Range, Resolved)>); 5] = [
-        (
-            b"Range: bytes=1-3",
-            Some((Range::Span(1, 3), Resolved::Part(1, 4))),
-        ),
-        (
-            b"Range: bytes=5-",
-            Some((Range::From(5), Resolved::Unsatisfiable)),
-        ),
-        (
-            b"Range: bytes=-9",
-            Some((Range::Last(9), Resolved::Part(0, 5))),
-        ),
-        (b"Range: bytes=0-0,-1", None),
-        (b"A: b", None),
-    ];
-    for (line, wanted) in cases {
-        assert_eq!(rt; range(line), wanted);
-    }
+fn request_with(line: &[u8]) -> ArrayVec<u8, 128> {
+    let mut text = ArrayVec::new();
+    let _ = text.try_extend_from_slice(b"GET http://h/ HTTP/1.1\r\n");
+    let _ = text.try_extend_from_slice(line);
+    let _ = text.try_extend_from_slice(b"\r\n\r\n");
+    text
 }
 
+/// What was there before is gone.
+fn has_key(alloc: Global, target: &[u8], wanted: Result<Place, TargetFault>, text: &[u8]) -> bool {
+    let mut out: ArrayVec<u8, KEY_ROOM> = ArrayVec::new();
+    let _ = out.try_push(b'?');
+    key(alloc, target, &mut out) == wanted && out.as_slice() == text
+}
+
+fn unlike(alloc: Global, rows: &[Read<'_>]) -> Result<String, OutOfMemory> {
+    told(
+        alloc,
+        "heads",
+        rows.iter().position(|row| !is_read(alloc, row)),
+    )
+}
+
+const READ: &[Read<'static>] = &[
+    // A response is whole or not.
+    Read::Whole(
+        b"\r\n\nHTTP/1.1 200 OK\r\nETag: \"x\"\nA:\r\n\r\nhello",
+        (200, 36, 2),
+    ),
+    Read::More(b"HTTP/1.1 200 OK\r\nETag: \"x\"\r\n\r"),
+    Read::Bad(b"HTTP/1.1 20 OK\r\n\r\n"),
+    Read::TooLong(&[b'\n'; 102]),
+    // A range stands for the bytes that are there.
+    Read::Range(
+        b"Range: bytes=1-3",
+        Some((Range::Span(1, 3), Resolved::Part(1, 4))),
+    ),
+    Read::Range(
+        b"Range: bytes=5-",
+        Some((Range::From(5), Resolved::Unsatisfiable)),
+    ),
+    Read::Range(
+        b"Range: bytes=-9",
+        Some((Range::Last(9), Resolved::Part(0, 5))),
+    ),
+    Read::Range(b"Range: bytes=0-0,-1", None),
+    Read::Range(b"A: b", None),
+    // A target has the key of its URL, and its file a name.
+    Read::Key(
+        b"http://Example.COM:081?q=1#c",
+        Ok(Place {
+            host: (7, 18),
+            port: 81,
+            path: 21,
+        }),
+        b"http://example.com:81/?q=1",
+    ),
+    Read::Key(b"/a", Err(TargetFault::NotAbsolute), b""),
+    Read::Key(b"https://h/", Err(TargetFault::NotHttp), b""),
+    Read::Key(b"http://u@h/", Err(TargetFault::BadHost), b""),
+    Read::Key(b"http://h:0/", Err(TargetFault::BadPort), b""),
+    Read::FileName(b"abc", *b"900150983cd24fb0d6963f7d28e17f72"),
+];
+
 #[test]
-fn a_target_has_the_key_of_its_url_and_its_file_a_name(rt: HostRuntime) {
-    let place = Place {
-        host: (7, 18),
-        port: 81,
-        path: 21,
-    };
-    let cases: [(&[u8], Result<Place, TargetFault>, &[u8]); 5] = [
-        (
-            b"http://Example.COM:081?q=1#c",
-            Ok(place),
-            b"http://example.com:81/?q=1",
-        ),
-        (b"/a", Err(TargetFault::NotAbsolute), b""),
-        (b"https://h/", Err(TargetFault::NotHttp), b""),
-        (b"http://u@h/", Err(TargetFault::BadHost), b""),
-        (b"http://h:0/", Err(TargetFault::BadPort), b""),
-    ];
-    let mut out = ArrayVec::new();
-    for (target, wanted, text) in cases {
-        assert_eq!(rt; key(rt.alloc(), target, &mut out), wanted);
-        assert_eq!(rt; out.as_slice(), text);
-    }
-    assert_eq!(rt;
-        file_name(b"abc").as_slice(),
-        b"900150983cd24fb0d6963f7d28e17f72".as_slice()
-    );
+fn heads_targets_and_ranges_are_read(rt: HostRuntime) -> Result<(), Fail> {
+    says_nothing(&rt, unlike(rt.alloc(), READ))
 }

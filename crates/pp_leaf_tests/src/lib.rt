@@ -1,16 +1,25 @@
 //! Tests of the crates that all others stand on: each of their public functions once, as it is compiled.
 //!
 //! What they answer is proved, and worked examples are rows of their definitions, in each crate's `proofs/Rows.antt`. Here
-//! is seen that the program does what was proved of it: a table, and one call.
+//! is seen that the program does what was proved of it: a table a subject, and one call that says in words which row goes
+//! otherwise than wanted. To prove a test is dear, so the rows of a subject share one, and what plays them is proved once.
 #![tactic(auto)]
 
 #[cfg(test)]
-mod bodies; // the bodies of messages, and the pipe of a passed one
+mod asks; // what an origin is asked
 #[cfg(test)]
-mod connections; // a connection to an origin, and which one an ask goes to
+mod bodies; // the bodies of messages
 #[cfg(test)]
-mod heads; // heads, targets, ranges, and what an origin is asked
+mod connections; // which connection to an origin an ask goes to
+#[cfg(test)]
+mod fields; // the fields of a head
+#[cfg(test)]
+mod heads; // heads, targets and ranges
+#[cfg(test)]
+mod pipes; // one connection to an origin
 #[cfg(test)]
 mod settings; // words and a text
 #[cfg(test)]
-mod texts; // numbers, lists, fields and owned bytes
+mod saying; // where a table goes otherwise than wanted
+#[cfg(test)]
+mod texts; // numbers, lists and owned bytes

@@ -1,107 +1,147 @@
-// Numbers, lists, fields and owned bytes.
-ghost use Rattle.std.specs.Prelude.{◌≡◌, fold, length, max};
-ghost use Rattle.pp_text.specs.Fields.{list_items};
-
+// Numbers, lists and owned bytes.
+use crate::saying::{says_nothing, told};
 use arrayvec::ArrayVec;
 use pp_text::{
-    FieldSpan, Fields, Items, Octets, cut, is_forwarded, put_u64, read_hex, read_u64, same,
-    sole_item, sole_value, trim,
+    Items, Octets, OutOfMemory, cut, put_u64, read_hex, read_u64, same, sole_item, trim,
 };
+use std::alloc::Global;
 use std::test::Fail;
 
-#[test]
-fn a_text_is_read_in_its_parts(rt: HostRuntime) {
-    assert_eq!(rt; read_u64(b"18446744073709551615"), Some(u64::MAX));
-    assert_eq!(rt; read_hex(b"aAfF"), Some(43_775));
-    assert!(rt; same(b"Content-Length", b"content-LENGTH"));
-    assert_eq!(rt; trim(b" \t a b\t "), b"a b".as_slice());
-    assert!(rt; cut(b"a==b", b'=') == Some((b"a".as_slice(), b"=b".as_slice())));
-    assert!(rt; sole_item(b" , 0-1,") == Some(b"0-1".as_slice()));
-    let mut items: ArrayVec<u8, 64> = ArrayVec::new();
-    for item in Items::new(b",no-cache=\"a, b\" ,, max-age=1") {
+/// A text, and what is read of it.
+enum Read<'a> {
+    Number(&'a [u8], Option<u64>),
+    Hex(&'a [u8], Option<u64>),
+    Same(&'a [u8], &'a [u8]),
+    Trimmed(&'a [u8], &'a [u8]),
+    /// What stands before and behind the first of this byte.
+    Cut(&'a [u8], u8, Option<(&'a [u8], &'a [u8])>),
+    SoleItem(&'a [u8], Option<&'a [u8]>),
+    /// Its items, each with `|` behind it.
+    Items(&'a [u8], &'a [u8]),
+}
+
+fn is_read(row: &Read<'_>) -> bool {
+    match row {
+        Read::Number(text, wanted) => read_u64(text) == *wanted,
+        Read::Hex(text, wanted) => read_hex(text) == *wanted,
+        Read::Same(text, other) => same(text, other),
+        Read::Trimmed(text, wanted) => trim(text) == *wanted,
+        Read::Cut(text, byte, wanted) => cut(text, *byte) == *wanted,
+        Read::SoleItem(text, wanted) => sole_item(text) == *wanted,
+        Read::Items(text, wanted) => items(text).as_slice() == *wanted,
+    }
+}
+
+fn items(text: &[u8]) -> ArrayVec<u8, 64> {
+    let mut items = ArrayVec::new();
+    for item in Items::new(text) {
         let _ = items.try_extend_from_slice(item);
         let _ = items.try_push(b'|');
     }
-    assert_eq!(rt;
-        items.as_slice(),
-        b"no-cache=\"a, b\"|max-age=1|".as_slice()
-    );
+    items
 }
 
-const HEAD: &[u8] =
-    b"Cache-Control: max-age=60, no-cache\nDate:\ncache-control: \"a,b\" , private\nDate: x";
+fn unlike_read(alloc: Global, rows: &[Read<'_>]) -> Result<String, OutOfMemory> {
+    told(alloc, "read", rows.iter().position(|row| !is_read(row)))
+}
 
-const SPANS: [FieldSpan; 4] = [
-    FieldSpan {
-        name_from: 0,
-        name_to: 13,
-        value_from: 15,
-        value_to: 35,
-    },
-    FieldSpan {
-        name_from: 36,
-        name_to: 40,
-        value_from: 41,
-        value_to: 41,
-    },
-    FieldSpan {
-        name_from: 42,
-        name_to: 55,
-        value_from: 57,
-        value_to: 72,
-    },
-    FieldSpan {
-        name_from: 73,
-        name_to: 77,
-        value_from: 79,
-        value_to: 80,
-    },
+/// What is done with a text that is written, and what it is then.
+enum Write<'a> {
+    /// Whether the number goes behind what is there.
+    Number(u64, bool),
+    /// So many dots.
+    Dots(usize),
+    Len(usize),
+    Is(&'a [u8]),
+    EndsWith(&'a [u8]),
+}
+
+type Text = ArrayVec<u8, 20480>;
+
+fn is_written(text: &mut Text, row: &Write<'_>) -> bool {
+    match row {
+        Write::Number(n, wanted) => put_u64(*n, text) == *wanted,
+        Write::Dots(count) => put_dots(text, *count),
+        Write::Len(len) => text.len() == *len,
+        Write::Is(wanted) => text.as_slice() == *wanted,
+        Write::EndsWith(wanted) => text.as_slice().ends_with(wanted),
+    }
+}
+
+fn put_dots(text: &mut Text, count: usize) -> bool {
+    for _ in 0..count {
+        if text.try_push(b'.').is_err() {
+            return false;
+        }
+    }
+    true
+}
+
+fn unlike_written(alloc: Global, rows: &[Write<'_>]) -> Result<String, OutOfMemory> {
+    let mut text = Text::new();
+    for (place, row) in rows.iter().enumerate() {
+        if !is_written(&mut text, row) {
+            return told(alloc, "written", Some(place));
+        }
+    }
+    told(alloc, "written", None)
+}
+
+/// Owned bytes: the first part copied, and the others behind it.
+fn owned(alloc: Global, parts: &[&[u8]]) -> Result<Octets, OutOfMemory> {
+    let Some((first, others)) = parts.split_first() else {
+        return Ok(Octets::empty(alloc));
+    };
+    let mut bytes = Octets::copy(alloc, first)?;
+    for part in others {
+        bytes.append(part)?;
+    }
+    Ok(bytes)
+}
+
+/// Parts, and all of them together.
+type Owned = (&'static [&'static [u8]], &'static [u8]);
+
+fn unlike_owned(alloc: Global, rows: &[Owned]) -> Result<String, OutOfMemory> {
+    for (place, (parts, wanted)) in rows.iter().enumerate() {
+        if owned(alloc, parts)?.as_slice() != *wanted {
+            return Ok(told(alloc, "owned", Some(place))?);
+        }
+    }
+    Ok(String::new(alloc))
+}
+
+const READ: &[Read<'static>] = &[
+    Read::Number(b"18446744073709551615", Some(u64::MAX)),
+    Read::Hex(b"aAfF", Some(43_775)),
+    Read::Same(b"Content-Length", b"content-LENGTH"),
+    Read::Trimmed(b" \t a b\t ", b"a b"),
+    Read::Cut(b"a==b", b'=', Some((b"a", b"=b"))),
+    Read::SoleItem(b" , 0-1,", Some(b"0-1")),
+    Read::Items(
+        b",no-cache=\"a, b\" ,, max-age=1",
+        b"no-cache=\"a, b\"|max-age=1|",
+    ),
 ];
 
-// A caller: what it finds is a fold over the items.
-fn longest_item(fields: &Fields, name: &[u8]) -> usize
-    ensures { result ≡ fold (λ n item. max n (length item)) 0 (list_items name.now fields.now) }
-{
-    fields
-        .items(name)
-        .fold(0, |longest, item| longest.max(item.len()))
-}
+/// What is written goes behind what is there, or not at all.
+const WRITTEN: &[Write<'static>] = &[
+    Write::Number(0, true),
+    Write::Number(u64::MAX, true),
+    Write::Is(b"018446744073709551615"),
+    Write::Dots(20457),
+    Write::Number(100, false),
+    Write::Len(20478),
+    Write::Number(42, true),
+    Write::EndsWith(b"..42"),
+    Write::Number(0, false),
+];
+
+const OWNED: &[Owned] = &[(&[b"GET ", b"/"], b"GET /"), (&[], b"")];
 
 #[test]
-fn fields_of_a_name_are_found_whatever_their_case(rt: HostRuntime) {
-    let fields = Fields::new(HEAD, &SPANS);
-    assert_eq!(rt; (fields.len(), fields.is_empty()), (4, false));
-    assert_eq!(rt; fields.name(2), b"cache-control".as_slice());
-    assert_eq!(rt; fields.value(3), b"x".as_slice());
-    assert_eq!(rt; fields.first(b"DATE"), Some(b"".as_slice()));
-    assert_eq!(rt; (fields.count(b"date"), fields.has(b"expires")), (2, false));
-    assert_eq!(rt; sole_value(&fields, b"date"), None);
-    assert_eq!(rt; fields.values(b"date").last(), Some(b"x".as_slice()));
-    assert_eq!(rt;
-        fields.items(b"CACHE-CONTROL").nth(2),
-        Some(b"\"a,b\"".as_slice())
-    );
-    assert!(rt; fields.has_item(b"cache-control", b"Private"));
-    assert_eq!(rt; longest_item(&fields, b"cache-control"), 10);
-    assert!(rt; is_forwarded(&fields, 0));
-}
-
-#[test]
-fn what_is_written_goes_behind_what_is_there_or_not_at_all(rt: HostRuntime) -> Result<(), Fail> {
-    let mut out: ArrayVec<u8, 20480> = ArrayVec::new();
-    assert!(rt; put_u64(0, &mut out));
-    assert!(rt; put_u64(u64::MAX, &mut out));
-    assert_eq!(rt; out.as_slice(), b"018446744073709551615".as_slice());
-    for _ in 0..20457 {
-        assert!(rt; out.try_push(b'.').is_ok());
-    }
-    assert_eq!(rt; (put_u64(100, &mut out), out.len()), (false, 20478));
-    assert!(rt; put_u64(42, &mut out));
-    assert!(rt; out.as_slice().ends_with(b"..42"));
-    assert!(rt; !put_u64(0, &mut out));
-    let mut octets = Octets::copy(rt.alloc(), b"GET ").map_err(|_| "copied")?;
-    octets.append(b"/").map_err(|_| "appended")?;
-    assert_eq!(rt; octets.as_slice(), b"GET /".as_slice());
-    assert_eq!(rt; Octets::empty(rt.alloc()).as_slice(), b"".as_slice());
-    Ok(())
+fn texts_are_read_and_written(rt: HostRuntime) -> Result<(), Fail> {
+    says_nothing(&rt, unlike_read(rt.alloc(), READ))?;
+    says_nothing(&rt, unlike_written(rt.alloc(), WRITTEN))?;
+    says_nothing(&rt, unlike_owned(rt.alloc(), OWNED))
 }

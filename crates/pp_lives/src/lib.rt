@@ -39,6 +39,8 @@ mod removals; // an entry that is withdrawn
 #[cfg(test)]
 mod short; // reads that give too little, and too many names
 #[cfg(test)]
+mod small; // files of all kinds on a small disk
+#[cfg(test)]
 mod steps; // operations, as a course writes them down
 #[cfg(test)]
 mod whole; // an entry that is published with its body

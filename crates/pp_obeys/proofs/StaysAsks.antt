@@ -34,7 +34,7 @@ begin_exchange-stays e s h = add_exchange-stays e _ (leave-stays _ s h)
 
 ask_for-stays : {all : Bool} {o : Frame} (c : Client) (d : Decision) (head : Request) (key : Key) (kind : AskKind) (s : State) → Stays all o s → Stays all o (ask_for c d head key kind s)
 unfolding ask_for
-ask_for-stays c d head key kind s h = begin_exchange-stays _ _ (leave-stays (is_of c.number) _ (on_client-stays c.number _ s h))
+ask_for-stays c d head key kind s h = swept-stays _ (begin_exchange-stays _ _ (leave-stays (is_of c.number) _ (on_client-stays c.number _ s h)))
 
 ask_as-stays : {all : Bool} {o : Frame} (c : Client) (d : Decision) (head : Request) (key : Key) (s : State) → Stays all o s → Stays all o (ask_as c d head key s)
 unfolding ask_as
@@ -58,7 +58,7 @@ follow-stays c d s h = each_of (key_in c.front) h (λ key. follow_row-stays c d 
 
 relay-stays : {all : Bool} {o : Frame} (c : Client) (s : State) → Stays all o s → Stays all o (relay c s)
 unfolding relay
-relay-stays c s h = on_client-stays c.number _ s h
+relay-stays c s h = swept-stays _ (on_client-stays c.number _ s h)
 
 mark_row_of-stays : {all : Bool} {o : Frame} (key : Bytes) (s : State) → Stays all o s → Stays all o (mark_row_of key s)
 unfolding mark_row_of

@@ -25,6 +25,3 @@ mod strays; // gates that are open behind one that is not
 pub use faults::RecoverFault;
 pub use lives::what_is_left_is_backed;
 pub use opening::open;
-
-#[cfg(test)]
-mod tests; // files of all kinds on a small disk

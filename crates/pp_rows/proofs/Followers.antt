@@ -124,6 +124,18 @@ front3 = Woke [] ∷ Rooted text2 ∷ Listed true ∷ Listens 8123 true ∷ wait
 abbrev text31 : Bytes
 text31 = (codes "HTTP/1.1 200 OK\r\nETag: \"y\"\r\nCache-Control: max-age=60\r\nContent-Length: 3\r\n\r\nne")
 
+abbrev text32 : Bytes
+text32 = (codes "hostConnections=1")
+
+abbrev text33 : Bytes
+text33 = (codes "GET http://h/b HTTP/1.1\r\nRange: bytes=5-9\r\n\r\n")
+
+abbrev text34 : Bytes
+text34 = (codes "HTTP/1.1 200 OK\r\nETag: \"x\"\r\nCache-Control: max-age=60\r\nContent-Length: 3\r\n\r\nabc")
+
+abbrev front4 : Log
+front4 = Woke [] ∷ Rooted text2 ∷ Listed true ∷ Listens 8123 true ∷ wait true [] [] ∷ Clock 784111777 ∷ wait true [] [] ∷ Opened 1 ∷ wait true (1 ∷ []) [] ∷ CanRead 1 ∷ Heard 1 text13 ∷ Noted (Taken 1 0 Fetch) ∷ Dialled 2 (codes "h") 80 ∷ wait true (1 ∷ []) [] ∷ Reached 2 ∷ wait true (1 ∷ 2 ∷ []) (2 ∷ []) ∷ CanWrite 2 ∷ Asked 2 text14 ∷ wait true (1 ∷ 2 ∷ []) [] ∷ CanRead 2 ∷ Got 2 text15 ∷ Noted (Taken 1 0 (Hit 4096 4100)) ∷ wait true (1 ∷ 2 ∷ []) (1 ∷ []) ∷ CanWrite 1 ∷ Said 1 204 text16 ∷ wait true (1 ∷ 2 ∷ []) (1 ∷ []) ∷ CanWrite 1 ∷ Said 1 4 (codes "last") ∷ wait true (1 ∷ 2 ∷ []) [] ∷ CanRead 1 ∷ Heard 1 text26 ∷ Noted (Taken 1 1 Validate) ∷ wait true (1 ∷ 2 ∷ []) (2 ∷ []) ∷ CanWrite 2 ∷ Asked 2 text27 ∷ wait true (1 ∷ 2 ∷ []) [] ∷ Opened 3 ∷ wait true (1 ∷ 2 ∷ 3 ∷ []) [] ∷ CanRead 3 ∷ Heard 3 text33 ∷ Noted (Taken 3 0 (Part 5 10)) ∷ wait true (1 ∷ 2 ∷ 3 ∷ []) [] ∷ CanRead 2 ∷ Got 2 text34 ∷ Noted (Taken 1 1 (Hit 0 3)) ∷ Noted (Taken 3 0 Unsatisfiable) ∷ []
+
 row34 : fault_from 0 (start (record { words = (codes "diskRun=1") ∷ text0 ∷ text1 ∷ []; faults = 0 } ∷ [])) (front0 ++ Heard 1 text3 ∷ Noted (Taken 1 0 Fetch) ∷ Dialled 2 (codes "h") 80 ∷ wait true (1 ∷ []) [] ∷ Reached 2 ∷ wait true (1 ∷ 2 ∷ []) (2 ∷ []) ∷ CanWrite 2 ∷ Asked 2 text4 ∷ wait true (1 ∷ 2 ∷ []) [] ∷ CanRead 2 ∷ Got 2 text5 ∷ Noted (Taken 1 0 (Hit 5000 5004)) ∷ wait true (1 ∷ 2 ∷ []) (1 ∷ []) ∷ CanWrite 1 ∷ Said 1 177 text6 ∷ wait true (1 ∷ 2 ∷ []) (1 ∷ []) ∷ CanWrite 1 ∷ Said 1 4 (codes "aaaa") ∷ wait true (1 ∷ 2 ∷ []) [] ∷ []) ≡ None
 unfolding judging
 row34 = refl
@@ -223,3 +235,11 @@ row308 = refl
 row312 : fault_from 0 (start (record { words = (codes "diskRun=1") ∷ text0 ∷ text1 ∷ []; faults = 0 } ∷ [])) (front3 ++ CanRead 2 ∷ Got 2 text31 ∷ Noted (Forgotten (codes "http://h/b")) ∷ Noted (Taken 1 2 (Refuse 500)) ∷ []) ≡ Some (record { at = 65; rule = WrongDecision })
 unfolding judging
 row312 = refl
+
+row345 : fault_from 0 (start (record { words = text32 ∷ []; faults = 0 } ∷ [])) (front4 ++ wait true (1 ∷ 2 ∷ 3 ∷ []) (1 ∷ 3 ∷ []) ∷ []) ≡ None
+unfolding judging
+row345 = refl
+
+row348 : fault_from 0 (start (record { words = text32 ∷ []; faults = 0 } ∷ [])) (front4 ++ wait true (1 ∷ 2 ∷ 3 ∷ []) (1 ∷ 2 ∷ 3 ∷ []) ∷ []) ≡ Some (record { at = 46; rule = ConnectionForgotten })
+unfolding judging
+row348 = refl

@@ -1,5 +1,5 @@
 // What the course came to.
-use pp_fault_exchanges::{ALONE, COURSE, Life, MAY_BE_SAID, MaySay, Reply, first_life};
+use pp_cache_exchanges::{ALONE, COURSE, Life, MAY_BE_SAID, MaySay, Reply, first_life};
 use pp_play::{Fit, Part, fit_of};
 use pp_run::Exit;
 use pp_text::OutOfMemory;

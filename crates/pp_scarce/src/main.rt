@@ -1,4 +1,4 @@
-//! Plays the course of `pp_fault_exchanges` once, and says in a line what it came to.
+//! Plays the course of `pp_cache_exchanges` once, and says in a line what it came to.
 //!
 //! It is for `tools/refuse_memory`, which starts it again and again, and refuses it another allocation each time: of the proxy,
 //! of the world in memory, or of the test itself. Whatever that is, its clients are said nothing wrong.

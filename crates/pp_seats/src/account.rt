@@ -5,7 +5,7 @@ ghost use Rattle.pp_head.specs.Shown.{shown_request};
 ghost use Rattle.pp_seats.specs.Accounts.{anew, begun, brought, decided, head_len_in, line_of, request_line, said, source_after, version_text, with_rest};
 
 use pp_client::{Client, Current};
-use pp_head::{RequestHead, Scratch};
+use pp_head::RequestHead;
 use pp_text::{Octets, OutOfMemory};
 use pp_world::{Decision, Source};
 use std::alloc::Global;
@@ -129,8 +129,7 @@ fn with_rest(due: Source) -> Source
 pub(crate) fn line_of(alloc: Global, client: &Client) -> Octets
     ensures { (result ≡ []) ⊎ (result ≡ line_of (current_of client.now.heard)) }
 {
-    let mut scratch = Scratch::new();
-    let line = match client.current(&mut scratch) {
+    let line = match client.current() {
         Current::Nothing | Current::More | Current::Refuse(_) => return Octets::empty(alloc),
         Current::Request(head, _) => request_line(alloc, &head),
     };

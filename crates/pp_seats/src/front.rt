@@ -10,7 +10,7 @@ ghost use Rattle.pp_seats.specs.Heads.{IsFrontOf, IsKeptOf, IsKeyed, asked_in, h
 use crate::key::Key;
 use pp_client::{Client, Current};
 use pp_framing::{BodyRule, FramingFault, request_rule};
-use pp_head::{RequestHead, Scratch};
+use pp_head::RequestHead;
 use pp_pipe::binds_connection;
 use pp_reply::{is_kept_open, wants_interim};
 use pp_target::TargetFault;
@@ -57,8 +57,7 @@ impl Front {
     pub fn of(alloc: Global, client: &Client) -> Front
         ensures { IsFrontOf result (current_of client.now.heard) }
     {
-        let mut scratch = Scratch::new();
-        match client.current(&mut scratch) {
+        match client.current() {
             Current::Nothing => Front::NoHeadYet,
             Current::More => Front::NoHeadYet,
             Current::Refuse(status) => Front::NoHead(status),
@@ -210,8 +209,7 @@ pub fn is_answerable(client: &Client) -> bool
     ensures is { IsTrue result → IsAnswerable client.now }
     ensures only { IsAnswerable client.now → IsTrue result }
 {
-    let mut scratch = Scratch::new();
-    match client.current(&mut scratch) {
+    match client.current() {
         Current::Nothing | Current::More => false,
         Current::Request(_, _) | Current::Refuse(_) => !client.has_begun(),
     }

@@ -2,9 +2,8 @@
 use Rattle.std.proofs.Common.{◌≡◌, ◌⊎◌, inl, inr, refl, sym, subst, ap, ap₂, ◌∙◌, ℕ, ◌+◌, nat_le, Bool, true, false, not, ◌&&◌, ◌||◌, List}
 use Rattle.pp_client.specs.Replies.{Reply as Said}
 use Rattle.pp_flow.specs.declared.entry.Aim.TheVariants.{Own as OfItself, Hole, Pass}
-use Rattle.pp_law.specs.Connections.{is_out, lost_one}
+use Rattle.pp_law.specs.Connections.{anew, is_out, lost_one, out_of_tries}
 use Rattle.pp_law.specs.Lists.{Bytes}
-use Rattle.pp_law.specs.Replies.{anew}
 use Rattle.pp_law.specs.Stages.{is_begun}
 use Rattle.pp_law.specs.State.{Client, Course, Trying, OutOfTries, AskTooLong, RowRefused}
 use Rattle.pp_law.specs.Table.{is_same_version}
@@ -99,7 +98,7 @@ lost_same most IsOut = refl
 lost_same most IsTooLong = refl
 
 pub attempts : AttemptsAreTheLaws
-attempts most number name owed seat c shows is =
+attempts most number name owed seat c shows =
     seat_same number name owed seat c (lost_one_in most seat.course) (lost_one most c.course) shows (λ refused. ap (lost_one most) refused) (λ same. lost_same most seat.course ∙ ap (lost_one most) same)
 
 anew_same : (course : SeatCourse) → anew (course_of course) ≡ Trying 0
@@ -108,10 +107,16 @@ anew_same IsOut = refl
 anew_same IsTooLong = refl
 
 pub counts_anew : AnewIsTheLaws
-counts_anew number name owed seat c shows is = seat_same number name owed seat c (IsTrying 0) (anew c.course) shows (λ refused. ap anew refused) (λ same. sym (anew_same seat.course) ∙ ap anew same)
+counts_anew number name owed seat c shows = seat_same number name owed seat c (IsTrying 0) (anew c.course) shows (λ refused. ap anew refused) (λ same. sym (anew_same seat.course) ∙ ap anew same)
+
+ends_same : (course : SeatCourse) → out_of_tries (course_of course) ≡ OutOfTries
+ends_same (IsTrying n) = refl
+ends_same IsOut = refl
+ends_same IsTooLong = refl
 
 pub ends : EndsAreTheLaws
-ends number name owed seat c shows isnt = seat_same number name owed seat c IsOut OutOfTries shows (isnt_refused c.course isnt OutOfTries) (λ same. refl)
+ends number name owed seat c shows =
+    seat_same number name owed seat c IsOut (out_of_tries c.course) shows (λ refused. ap out_of_tries refused) (λ same. sym (ends_same seat.course) ∙ ap out_of_tries same)
 
 pub long_asks : LongAsksAreTheLaws
 long_asks number name owed seat c shows isnt = seat_same number name owed seat c IsTooLong AskTooLong shows (isnt_refused c.course isnt AskTooLong) (λ same. refl)
@@ -122,36 +127,36 @@ long_asks number name owed seat c shows isnt = seat_same number name owed seat c
 crossed : (number : ℕ → ℕ) (name : Bytes) (owed : List Bytes) (seat : Seat) (c : Client) → seat.client.id ≡ c.number → seat.is_closing ≡ c.is_closing → (c.is_closing ≡ false → true ≡ false) → ShowsSeat number name owed seat c
 crossed number name owed seat c numbered closing isnt = record { number = numbered; closing = closing; going = λ going. let e : true ≡ false = isnt going in absurd (cc e) }
 
-row_by : (number : ℕ → ℕ) (name : Bytes) (owed : List Bytes) (seat : Seat) (c : Client) (a b : Bool) → ShowsSeat number name owed seat c → is_refused c.course ≡ false → (c.is_closing ≡ false → a ≡ b)
+row_by : (number : ℕ → ℕ) (name : Bytes) (owed : List Bytes) (seat : Seat) (c : Client) (a b : Bool) → ShowsSeat number name owed seat c → (c.is_closing ≡ false → a ≡ b)
     → ShowsSeat number name owed (elim a as (λ x. Seat) [ true ↦ seat | false ↦ record seat { course = IsTrying 0; has_given_up = true } ])
-    (elim b as (λ x. Client) [ true ↦ c | false ↦ record c { course = Trying 0; has_given_up = true } ])
-row_by number name owed seat c true true shows isnt same = shows
-row_by number name owed seat c false false shows isnt same = seat_with number name owed seat c (IsTrying 0) (Trying 0) true shows (isnt_refused c.course isnt (Trying 0)) (λ same. refl)
-row_by number name owed seat c true false shows isnt same = crossed number name owed seat (record c { course = Trying 0; has_given_up = true }) shows.number shows.closing same
-row_by number name owed seat c false true shows isnt same = crossed number name owed (record seat { course = IsTrying 0; has_given_up = true }) c shows.number shows.closing (λ going. sym (same going))
+    (elim b as (λ x. Client) [ true ↦ c | false ↦ record c { course = anew c.course; has_given_up = true } ])
+row_by number name owed seat c true true shows same = shows
+row_by number name owed seat c false false shows same = seat_with number name owed seat c (IsTrying 0) (anew c.course) true shows (λ refused. ap anew refused) (λ same. sym (anew_same seat.course) ∙ ap anew same)
+row_by number name owed seat c true false shows same = crossed number name owed seat (record c { course = anew c.course; has_given_up = true }) shows.number shows.closing same
+row_by number name owed seat c false true shows same = crossed number name owed (record seat { course = IsTrying 0; has_given_up = true }) c shows.number shows.closing (λ going. sym (same going))
 
 stands_same : (number : ℕ → ℕ) (name : Bytes) (owed : List Bytes) (seat : Seat) (c : Client) → ShowsSeat number name owed seat c → c.is_closing ≡ false → (has_begun seat || seat.has_given_up) ≡ (is_begun c || c.has_given_up)
 stands_same number name owed seat c shows going = ap₂ (λ (a b : Bool). a || b) (begun number name owed seat c (shows.going going)) (shows.going going).given_up
 
 pub rows_leave : RowsLeaveAsTheLaws
-rows_leave number name owed seat c shows isnt = row_by number name owed seat c (has_begun seat || seat.has_given_up) (is_begun c || c.has_given_up) shows isnt (stands_same number name owed seat c shows)
+rows_leave number name owed seat c shows = row_by number name owed seat c (has_begun seat || seat.has_given_up) (is_begun c || c.has_given_up) shows (stands_same number name owed seat c shows)
 
-shared_by : (number : ℕ → ℕ) (most : ℕ) (name : Bytes) (owed : List Bytes) (seat : Seat) (c : Client) (a b x y : Bool) → ShowsSeat number name owed seat c → is_refused c.course ≡ false → (c.is_closing ≡ false → a ≡ b) → (c.is_closing ≡ false → x ≡ y)
+shared_by : (number : ℕ → ℕ) (most : ℕ) (name : Bytes) (owed : List Bytes) (seat : Seat) (c : Client) (a b x y : Bool) → ShowsSeat number name owed seat c → (c.is_closing ≡ false → a ≡ b) → (c.is_closing ≡ false → x ≡ y)
     → ShowsSeat number name owed
     (elim a as (λ x. Seat) [ true ↦ record seat { course = lost_one_in most seat.course } | false ↦ elim x as (λ x. Seat) [ true ↦ seat | false ↦ record seat { course = IsTrying 0; has_given_up = true } ] ])
-    (elim b as (λ x. Client) [ true ↦ record c { course = lost_one most c.course } | false ↦ elim y as (λ x. Client) [ true ↦ c | false ↦ record c { course = Trying 0; has_given_up = true } ] ])
-shared_by number most name owed seat c true true x y shows isnt same other = attempts most number name owed seat c shows refl
-shared_by number most name owed seat c false false x y shows isnt same other = row_by number name owed seat c x y shows isnt other
-shared_by number most name owed seat c true false x true shows isnt same other = crossed number name owed (record seat { course = lost_one_in most seat.course }) c shows.number shows.closing same
-shared_by number most name owed seat c true false x false shows isnt same other =
-    crossed number name owed (record seat { course = lost_one_in most seat.course }) (record c { course = Trying 0; has_given_up = true }) shows.number shows.closing same
-shared_by number most name owed seat c false true true y shows isnt same other = crossed number name owed seat (record c { course = lost_one most c.course }) shows.number shows.closing (λ going. sym (same going))
-shared_by number most name owed seat c false true false y shows isnt same other =
+    (elim b as (λ x. Client) [ true ↦ record c { course = lost_one most c.course } | false ↦ elim y as (λ x. Client) [ true ↦ c | false ↦ record c { course = anew c.course; has_given_up = true } ] ])
+shared_by number most name owed seat c true true x y shows same other = attempts most number name owed seat c shows
+shared_by number most name owed seat c false false x y shows same other = row_by number name owed seat c x y shows other
+shared_by number most name owed seat c true false x true shows same other = crossed number name owed (record seat { course = lost_one_in most seat.course }) c shows.number shows.closing same
+shared_by number most name owed seat c true false x false shows same other =
+    crossed number name owed (record seat { course = lost_one_in most seat.course }) (record c { course = anew c.course; has_given_up = true }) shows.number shows.closing same
+shared_by number most name owed seat c false true true y shows same other = crossed number name owed seat (record c { course = lost_one most c.course }) shows.number shows.closing (λ going. sym (same going))
+shared_by number most name owed seat c false true false y shows same other =
     crossed number name owed (record seat { course = IsTrying 0; has_given_up = true }) (record c { course = lost_one most c.course }) shows.number shows.closing (λ going. sym (same going))
 
 pub shared_rows_leave : SharedRowsLeaveAsTheLaws
-shared_rows_leave most number name owed seat c shows isnt =
-    shared_by number most name owed seat c (seat.has_given_up && not (has_begun seat)) (c.has_given_up && not (is_begun c)) (has_begun seat || seat.has_given_up) (is_begun c || c.has_given_up) shows isnt
+shared_rows_leave most number name owed seat c shows =
+    shared_by number most name owed seat c (seat.has_given_up && not (has_begun seat)) (c.has_given_up && not (is_begun c)) (has_begun seat || seat.has_given_up) (is_begun c || c.has_given_up) shows
     (λ going. ap₂ (λ (a b : Bool). a && not b) (shows.going going).given_up (begun number name owed seat c (shows.going going)))
     (stands_same number name owed seat c shows)
 

@@ -12,7 +12,7 @@ use arrayvec::ArrayVec;
 use pp_ask::{ASK_LEN, write_ask};
 use pp_client::Current;
 use pp_flow::Kind;
-use pp_head::{RequestHead, Scratch};
+use pp_head::RequestHead;
 use pp_objects::ObjectId;
 use pp_plan::{Begun, PlanRow, decide, span};
 use pp_seats::{Brought, Front, Key, Seat, as_ask, fetch_of};
@@ -33,8 +33,7 @@ impl State {
     fn decide_for(&self, seat: &Seat, key: &Key) -> Decision
         ensures { result ≡ decide_for self.entry.now seat.now key.now }
     {
-        let mut scratch = Scratch::new();
-        let Current::Request(head, _) = seat.client.current(&mut scratch) else {
+        let Current::Request(head, _) = seat.client.current() else {
             return Decision::Refuse(400);
         };
         let decision = self.decide_by_row(seat, &head, key);

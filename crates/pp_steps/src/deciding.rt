@@ -18,7 +18,7 @@ use pp_cache::Cache;
 use pp_client::Current;
 use pp_flow::{Aim, Body, EXCHANGES, Errand, Kind};
 use pp_fresh::allows_guess;
-use pp_head::{RequestHead, Scratch};
+use pp_head::RequestHead;
 use pp_objects::ObjectId;
 use pp_ranges::{Range, read_range};
 use pp_seats::{Asked, Key, Seat};
@@ -218,8 +218,7 @@ impl State {
         let seat = self.seats.get(i)?;
         let asked = seat.front.asked()?;
         let key = asked.key.as_ref()?;
-        let mut scratch = Scratch::new();
-        let Current::Request(head, _) = seat.client.current(&mut scratch) else {
+        let Current::Request(head, _) = seat.client.current() else {
             return None;
         };
         let kind = kind_of(&head, self.cache.version(key.text()), decision)?;

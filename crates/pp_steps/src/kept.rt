@@ -11,7 +11,7 @@ use crate::share::may_share;
 use crate::state::State;
 use pp_cache::Cache;
 use pp_client::Current;
-use pp_head::{RequestHead, Scratch};
+use pp_head::RequestHead;
 use pp_plan::{Begun, PlanRow, decide, span};
 use pp_seats::{Brought, Key, Next, Seat, Stage};
 use pp_shelf::Shelf;
@@ -109,8 +109,7 @@ impl State {
         let Some(view) = shelf.kept(key.text()) else {
             return false;
         };
-        let mut scratch = Scratch::new();
-        let Current::Request(head, _) = seat.client.current(&mut scratch) else {
+        let Current::Request(head, _) = seat.client.current() else {
             return false;
         };
         may_share(self.decide_by_kept(&head, key, view))

@@ -14,7 +14,7 @@ use arrayvec::ArrayVec;
 use pp_cache::{Cache, Noted, is_spelled_at, write_named};
 use pp_client::Current;
 use pp_flow::{Errand, Exchange};
-use pp_head::{ResponseHead, Scratch};
+use pp_head::ResponseHead;
 use pp_seats::Seat;
 use pp_text::{FieldValues, OutOfMemory};
 use pp_valid::{Version, body_length, names_other_tag};
@@ -109,8 +109,7 @@ impl State {
 fn is_get(seat: &Seat) -> bool
     ensures { result ≡ is_get_in (current_of seat.now.client.heard) }
 {
-    let mut scratch = Scratch::new();
-    match seat.client.current(&mut scratch) {
+    match seat.client.current() {
         Current::Request(asked, _) => asked.method == b"GET".as_slice(),
         Current::Nothing | Current::More | Current::Refuse(_) => false,
     }

@@ -11,11 +11,11 @@ use Rattle.pp_flow.specs.declared.entry.Exchange.{Exchange as SeatExchange}
 use Rattle.pp_flow_law.proofs.Entries.{same_number, none_some}
 use Rattle.pp_flow_law.specs.Tables.{Leaving}
 use Rattle.pp_law.specs.Closing.{left_alone}
-use Rattle.pp_law.specs.Connections.{exchange, give_up_row, is_client, is_for, is_out, is_unfilled, on_client_of, on_exchange, without_row, attempts_of, charge, fail, is_exchange, lose_attempt, lost_one}
+use Rattle.pp_law.specs.Connections.{exchange, give_up_row, is_client, is_for, is_out, is_unfilled, on_client_of, on_exchange, without_row, attempts_of, charge, fail, is_exchange, lose_attempt, lost_one, out_of_tries, anew}
 use Rattle.pp_law.specs.Lists.{Bytes, is_some_with, is_this, change}
 use Rattle.pp_law.specs.Stages.{is_begun}
 use Rattle.pp_law.specs.State.{State, Aim, Client, Course, Exchange, Instance as Known, RowRefused, Trying, OutOfTries, AskTooLong}
-use Rattle.pp_law.specs.Table.{clear, follows, is_same_version, row, swept}
+use Rattle.pp_law.specs.Table.{clear, follows, is_same_version, row}
 use Rattle.pp_peers.specs.declared.peers.Peer.{Peer}
 use Rattle.pp_peers_law.proofs.Finds.{found_number}
 use Rattle.pp_seats.specs.Courses.{has_begun, is_unfilled as is_unfilled_of, without_row as seat_without_row, lost_one as lost_one_in}
@@ -160,10 +160,6 @@ unfilled_same number name l peers p s shows n i c x e there asks place goes =
 
 -- ---- the row is cleared
 
-cleared_clients : (key : Bytes) (s : State) → ((clear key s).clients ≡ s.clients) × ((clear key s).exchanges ≡ s.exchanges)
-unfolding clear swept
-cleared_clients key s = (refl, refl)
-
 -- memory was refused for no row
 abbrev given_all : Parts → Parts
 given_all p = record p { refused = [] }
@@ -188,7 +184,7 @@ clears_row number name l peers p s shows key = record {
 without_row_follows : FollowsOn without_row
 without_row_follows id c = by (is_begun c || c.has_given_up)
   where
-    by : (b : Bool) → follows id (elim b as (λ t. Client) [ true ↦ c | false ↦ record c { course = Trying 0; has_given_up = true } ]) ≡ follows id c
+    by : (b : Bool) → follows id (elim b as (λ t. Client) [ true ↦ c | false ↦ record c { course = anew c.course; has_given_up = true } ]) ≡ follows id c
     by true = refl
     by false = refl
 
@@ -227,7 +223,7 @@ drops_row number name l peers p s shows n i c x e there asks place goes =
         ∙ ap (λ (text : List ℕ). Some text) shown.text_key
 
     along : (seat : Seat) (d : Client) → find (is_client c) (clear (text_of e.key) s).clients ≡ Some d → ShowsSeat number name [] seat d → ShowsSeat number name [] (seat_without_row seat) (without_row d)
-    along seat d found one = rows_leave number name [] seat d one (goes c d asks (ap (λ (cs : List Client). find (is_client c) cs) (sym (cleared_clients (text_of e.key) s).0) ∙ found)).given
+    along seat d found one = rows_leave number name [] seat d one
 
     changed : ShowsSteps number name l peers (on_seat i seat_without_row (cleared_key (text_of e.key) (given_all p))) (on_client_of e without_row (clear (text_of e.key) s))
     changed =
@@ -374,7 +370,7 @@ losses number name l peers p s shows n x e there goes =
     subst (λ (o : Option Entry). ShowsSteps number name l peers (elim o as (λ t. Parts) [ None ↦ p | Some y ↦ charged (lost_one_in (attempts_in y.errand.is_asked_once)) x.exchange p ]) (charge (lost_one (attempts_of e)) e s)) (sym here)
     (subst (λ (most : ℕ). ShowsSteps number name l peers (charged (lost_one_in most) x.exchange p) (charge (lost_one (attempts_of e)) e s)) (sym (exchanges number x e shown).attempts)
     (charge_shows number name l peers p s shows n x e (lost_one_in (attempts_of e)) (lost_one (attempts_of e)) there goes
-    (record { along = λ m seat c asks found one. attempts (attempts_of e) number name [] seat c one refl; given = lost_given (attempts_of e) })))
+    (record { along = λ m seat c asks found one. attempts (attempts_of e) number name [] seat c one; given = lost_given (attempts_of e) })))
   where
     shown : ShowsExchange number x e
     shown = same_entry number name l peers p s shows n x e there
@@ -383,8 +379,14 @@ losses number name l peers p s shows n x e there goes =
     here = ap (λ (m : ℕ). entry_of m p.flow) (shown.number ∙ number_is n s e there.there) ∙ there.here
 
 -- they end at once
+ended_given : (course : Course) → is_refused course ≡ false → is_refused (out_of_tries course) ≡ false
+ended_given (Trying m) given = refl
+ended_given OutOfTries given = refl
+ended_given AskTooLong given = refl
+ended_given RowRefused given = given
+
 pub failures : FailuresAreTheLaws
 unfolding fail
 failures number name l peers p s shows n x e there goes =
-    charge_shows number name l peers p s shows n x e (λ course. IsOut) (λ course. OutOfTries) there goes
-    (record { along = λ m seat c asks found one. attempts_end number name [] seat c one (goes m c asks found).given; given = λ course given. refl })
+    charge_shows number name l peers p s shows n x e (λ course. IsOut) out_of_tries there goes
+    (record { along = λ m seat c asks found one. attempts_end number name [] seat c one; given = ended_given })

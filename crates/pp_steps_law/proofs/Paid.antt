@@ -5,10 +5,10 @@ use Rattle.pp_cache_law.proofs.Finds.{find_mapped}
 use Rattle.pp_cache_law.proofs.Numbers.{some_is}
 use Rattle.pp_flow_law.proofs.Entries.{none_some}
 use Rattle.pp_law.specs.Closing.{left_alone}
-use Rattle.pp_law.specs.Connections.{charge, exchange, give_up_row, is_client, is_for, is_unfilled, on_client_of, on_exchange, without_row}
+use Rattle.pp_law.specs.Connections.{charge, exchange, give_up_row, is_client, is_for, is_unfilled, on_client_of, on_exchange, without_row, anew}
 use Rattle.pp_law.specs.Lists.{Bytes}
 use Rattle.pp_law.specs.Stages.{is_begun, passed_of}
-use Rattle.pp_law.specs.State.{State, Client, Course, Exchange, Trying}
+use Rattle.pp_law.specs.State.{State, Client, Course, Exchange, Trying, OutOfTries, AskTooLong, RowRefused}
 use Rattle.pp_law.specs.Table.{clear, swept}
 use Rattle.pp_peers_law.proofs.Finds.{find_there}
 use Rattle.pp_seats_law.specs.Fates.{is_refused}
@@ -109,6 +109,12 @@ exchange_follows : (n : ℕ) (to : Exchange → Exchange) (s : State) → Follow
 unfolding on_exchange
 exchange_follows n to s = record { conns = refl; client = λ m c found. itself s m c found }
 
+pub anew_given : (course : Course) → is_refused course ≡ false → is_refused (anew course) ≡ false
+anew_given (Trying n) given = refl
+anew_given OutOfTries given = refl
+anew_given AskTooLong given = refl
+anew_given RowRefused given = given
+
 pub without_row_keeps : KeepsAll without_row
 without_row_keeps = record {
   number = λ c. number_by c (is_begun c || c.has_given_up);
@@ -117,21 +123,21 @@ without_row_keeps = record {
   given = λ c ok. given_by c (is_begun c || c.has_given_up) ok;
 }
   where
-    number_by : (c : Client) (b : Bool) → (elim b as (λ t. Client) [ true ↦ c | false ↦ record c { course = Trying 0; has_given_up = true } ]).number ≡ c.number
+    number_by : (c : Client) (b : Bool) → (elim b as (λ t. Client) [ true ↦ c | false ↦ record c { course = anew c.course; has_given_up = true } ]).number ≡ c.number
     number_by c true = refl
     number_by c false = refl
 
-    closing_by : (c : Client) (b : Bool) → (elim b as (λ t. Client) [ true ↦ c | false ↦ record c { course = Trying 0; has_given_up = true } ]).is_closing ≡ c.is_closing
+    closing_by : (c : Client) (b : Bool) → (elim b as (λ t. Client) [ true ↦ c | false ↦ record c { course = anew c.course; has_given_up = true } ]).is_closing ≡ c.is_closing
     closing_by c true = refl
     closing_by c false = refl
 
-    passed_by : (c : Client) (b : Bool) → passed_of (elim b as (λ t. Client) [ true ↦ c | false ↦ record c { course = Trying 0; has_given_up = true } ]) ≡ passed_of c
+    passed_by : (c : Client) (b : Bool) → passed_of (elim b as (λ t. Client) [ true ↦ c | false ↦ record c { course = anew c.course; has_given_up = true } ]) ≡ passed_of c
     passed_by c true = refl
     passed_by c false = refl
 
-    given_by : (c : Client) (b : Bool) → is_refused c.course ≡ false → is_refused (elim b as (λ t. Client) [ true ↦ c | false ↦ record c { course = Trying 0; has_given_up = true } ]).course ≡ false
+    given_by : (c : Client) (b : Bool) → is_refused c.course ≡ false → is_refused (elim b as (λ t. Client) [ true ↦ c | false ↦ record c { course = anew c.course; has_given_up = true } ]).course ≡ false
     given_by c true ok = ok
-    given_by c false ok = refl
+    given_by c false ok = anew_given c.course ok
 
 -- ---- what it costs
 
