@@ -7,8 +7,10 @@ pub mod DecidingLemmas
 pub mod DueLemmas
 pub mod EnteringLemmas
 pub mod EvictingLemmas
+pub mod FillingLemmas
 pub mod FrontLemmas
 pub mod LineLemmas
+pub mod NumbersLemmas
 pub mod OutdatedLemmas
 pub mod PassingLemmas
 pub mod PinLemmas
@@ -17,4 +19,5 @@ pub mod RestingLemmas
 pub mod RoomLemmas
 pub mod SeatsLemmas
 pub mod SharingLemmas
+pub mod WaitsLemmas
 pub mod Walks

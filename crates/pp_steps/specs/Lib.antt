@@ -10,6 +10,7 @@ pub mod Due
 pub mod Ends
 pub mod Entering
 pub mod Evicting
+pub mod Filling
 pub mod FinalHeads
 pub mod Heads
 pub mod Hearing
@@ -25,3 +26,4 @@ pub mod Rows
 pub mod Sharing
 pub mod ThroughHeads
 pub mod Unseen
+pub mod Waits

@@ -1,10 +1,11 @@
 // What the steps of a turn change together: clients, exchanges and the cache.
-ghost use Rattle.std.specs.Prelude.{◌≡◌, ◌<◌, ◌&&◌, ◌+◌, ◌||◌, length, nat_le, nat_lt, option_map, slice_get, Some, IfSome};
+ghost use Rattle.std.specs.Prelude.{◌≡◌, ◌<◌, ◌≤◌, ◌&&◌, ◌+◌, ◌||◌, length, nat_le, nat_lt, option_map, slice_get, vec_capacity, Some, IfSome};
 ghost use Rattle.pp_seats.specs.Courses.{is_unfilled, lost_one};
 ghost use Rattle.pp_seats.specs.declared.seat.Course.TheVariants.{OutOfTries};
-ghost use Rattle.pp_steps.specs.Ends.{asker_of, dropped_row, ended, exchange_at, exchange_of, failed, forsaken, given_up_row, is_unfilled_at, left_at_decision, lost_attempt, may_ask_again, numbers_of, parts, place_of, seat_for, AreSeated, KeepsRest, all_regained, changed_at, is_held_next, left_source, regained, source_at, unfollowed, without_source};
+ghost use Rattle.pp_steps.specs.Ends.{asker_of, dropped_row, ended, exchange_at, exchange_of, failed, forsaken, given_up_row, is_unfilled_at, left_at_decision, lost_attempt, may_ask_again, numbers_of, parts, place_of, seat_for, AreInOrder, AreSeated, KeepsRest, all_regained, changed_at, is_held_next, left_source, regained, source_at, unfollowed, without_source};
 ghost use Rattle.pp_steps.specs.Heads.{cleared, key_of};
 ghost use Rattle.pp_seats.specs.Follows.{next_of};
+ghost use Rattle.pp_steps.specs.Waits.{places, with_number};
 
 use arrayvec::ArrayVec;
 use pp_cache::{Cache, Noted};
@@ -80,7 +81,11 @@ impl State {
     }
 
     /// All may be looked at: the clock ticked, all is to be closed, or one left, and the others have other places.
-    pub fn wake(&mut self) {
+    pub fn wake(&mut self)
+        ensures all { length self.old.seats.items ≤ vec_capacity self.old.awake → self.new.awake.items ≡ places (length self.old.seats.items) }
+        ensures room { vec_capacity self.old.awake ≤ vec_capacity self.new.awake }
+        ensures rest { record self.new { awake = self.old.awake } ≡ self.old }
+    {
         self.awake.clear();
         for i in 0..self.seats.len() {
             let _ = self.awake.push(i);
@@ -88,7 +93,11 @@ impl State {
     }
 
     /// This one too.
-    pub fn rouse(&mut self, i: usize) {
+    pub fn rouse(&mut self, i: usize)
+        ensures too { AreInOrder self.old.awake.items → length self.old.awake.items < vec_capacity self.old.awake → self.new.awake.items ≡ with_number i self.old.awake.items }
+        ensures room { vec_capacity self.old.awake ≤ vec_capacity self.new.awake }
+        ensures rest { record self.new { awake = self.old.awake } ≡ self.old }
+    {
         if let Err(place) = self.awake.as_slice().binary_search(&i) {
             let _ = self.awake.insert(place, i);
         }

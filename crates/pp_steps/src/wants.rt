@@ -1,18 +1,22 @@
 // What is waited for of the clients, and what a wait changes. It is ours.
-ghost use Rattle.std.specs.Prelude.{◌≡◌, max, true, IfSome, IsNone};
+ghost use Rattle.std.specs.Prelude.{◌≡◌, filter, map, max};
+ghost use Rattle.std.specs.List.{fold};
 ghost use Rattle.pp_flow.specs.Entries.{Span};
-ghost use Rattle.pp_seats.specs.Follows.{next_of};
-ghost use Rattle.pp_steps.specs.Bringing.{is_brought};
+ghost use Rattle.pp_steps.specs.Ends.{AreInOrder, changed_at, numbers_of};
 ghost use Rattle.pp_steps.specs.Readers.{at_of, furthest, furthest_read, is_brought_to, is_far_ahead, is_past, next_at, of_both, read_at};
-ghost use Rattle.pp_steps.specs.Sharing.{has_asked};
+ghost use Rattle.pp_steps.specs.Waits.{all_read, all_written, awaited_by, is_loud, is_read, is_waiting, is_written, with_read, with_read_by, rested_seat, shared_with, waiting_on, waits_for_exchange, woken_by, woken_seat, with_written, with_written_by};
 
 use crate::state::State;
 use crate::unseen::{is_same, is_soon};
+use arrayvec::ArrayVec;
 use pp_cache::CHUNK_LEN;
 use pp_flow::Exchange;
 use pp_objects::ObjectId;
 use pp_seats::{Next, Seat, Shared};
 use pp_world::Wants;
+
+/// So many numbers stand in the wants.
+const MOST: usize = 320;
 
 /// Ours: so many chunks past the furthest reader, reading stops.
 const CHUNKS_AHEAD: u64 = 256;
@@ -22,80 +26,119 @@ impl State {
     ///
     /// Who is not awake is silent, and is read or not as at the last wait: so only those who are awake are put in or taken
     /// out. Where all are, as behind a tick or where a client left, the list is written anew.
-    pub fn note_clients(&mut self, wants: &mut Wants) {
+    pub fn note_clients(&mut self, wants: &mut Wants)
+        ensures awake { self.new.awake.items ≡ filter (is_loud self.old.seats.items) self.old.awake.items }
+        ensures read { AreInOrder wants.old.read.items → wants.new.read.items ≡ all_read self.old wants.old.read.items }
+        ensures write { wants.new.write.items ≡ all_written self.old wants.old.write.items }
+        ensures accept { wants.new.accept ≡ wants.old.accept }
+        ensures rest { record self.new { awake = self.old.awake } ≡ self.old }
+    {
         if self.awake.len() == self.seats.len() {
             wants.read.clear();
         }
-        for turn in 0..self.awake.len() {
-            let Some(i) = self.awake_at(turn) else {
-                break;
-            };
-            self.note_client(wants, i);
-        }
-        let seats = &self.seats;
-        self.awake.retain(|i| match seats.get(*i) {
-            None => false,
-            Some(seat) => !seat.is_silent(),
-        });
+        self.note_awake(wants);
+        keep_loud(&self.seats, &mut self.awake);
     }
 
-    fn note_client(&self, wants: &mut Wants, i: usize) {
-        let Some(seat) = self.seats.get(i) else {
-            return;
-        };
-        let id = seat.id();
-        let is_read = !seat.has_hung_up && seat.client.room() > 0;
-        match wants.read.as_slice().binary_search(&id) {
-            Ok(place) if !is_read => {
-                let _ = wants.read.pop_at(place);
-            }
-            Err(place) if is_read => {
-                let _ = wants.read.try_insert(place, id);
-            }
-            Ok(_) | Err(_) => {}
+    /// Those that are looked at, one behind the other.
+    fn note_awake(&self, wants: &mut Wants)
+        ensures read { AreInOrder wants.old.read.items → wants.new.read.items ≡ fold (with_read self.entry.now.seats.items) wants.old.read.items self.entry.now.awake.items }
+        ensures write { wants.new.write.items ≡ all_written self.entry.now wants.old.write.items }
+        ensures accept { wants.new.accept ≡ wants.old.accept }
+    {
+        for i in self.awake.iter() {
+            self.note_client(wants, *i);
         }
-        if !seat.is_silent() && !self.is_dry(seat) {
-            let _ = wants.write.try_push(id);
+    }
+
+    fn note_client(&self, wants: &mut Wants, i: usize)
+        ensures read { AreInOrder wants.old.read.items → wants.new.read.items ≡ with_read self.entry.now.seats.items wants.old.read.items i }
+        ensures order { AreInOrder wants.old.read.items → AreInOrder wants.new.read.items }
+        ensures write { wants.new.write.items ≡ with_written self.entry.now wants.old.write.items i }
+        ensures accept { wants.new.accept ≡ wants.old.accept }
+    {
+        if let Some(seat) = self.seats.get(i) {
+            note_read(&mut wants.read, seat.id(), is_read(seat));
+            note_written(&mut wants.write, seat.id(), self.is_written(seat));
         }
+    }
+
+    /// Something is left to say to it; to one that is silent nothing is.
+    fn is_written(&self, seat: &Seat) -> bool
+        ensures { result ≡ is_written self.entry.now seat.now }
+    {
+        !seat.is_silent() && !self.is_dry(seat)
     }
 
     /// What a wait changes of the client at this place: it waits for the exchange that it shares.
-    pub fn rest_client(&mut self, i: usize) {
-        let Some(seat) = self.seats.get(i) else {
-            return;
-        };
-        if seat.waits_on.is_some() || !self.is_sharing(seat) {
-            return;
-        }
-        let Some(exchange) = self.shared_ask(seat) else {
-            return;
-        };
-        let since = self.now;
-        if let Some(seat) = self.seats.get_mut(i) {
-            seat.waits_on = Some(Shared { exchange, since });
+    #[tactic(auto, using(crate::proofs::PlacesLemmas::changed_here, crate::proofs::PlacesLemmas::same_numbers, crate::proofs::WaitsLemmas::none_changed))]
+    pub fn rest_client(&mut self, i: usize)
+        ensures is { self.new.seats.items ≡ changed_at i (rested_seat self.old) self.old.seats.items }
+        ensures numbers { numbers_of self.new.seats.items ≡ numbers_of self.old.seats.items }
+        ensures rest { record self.new { seats = self.old.seats } ≡ self.old }
+    {
+        if i < self.seats.len() {
+            let awaited = self.awaited_by(&self.seats[i]);
+            wait_on(&mut self.seats[i], awaited);
         }
     }
 
-    /// Who waited for an exchange, and was not written to, is not idle, however long the clock stood still.
-    pub fn renew_marks(&mut self, now: u64) {
-        for i in 0..self.seats.len() {
-            let is_waiting = match self.seats.get(i) {
-                None => false,
-                Some(seat) => self.waits_for_exchange(seat) && self.is_dry(seat),
-            };
-            if let Some(seat) = self.seats.get_mut(i) {
-                if is_waiting {
-                    seat.client.set_mark(now);
-                }
-            }
+    /// The exchange that it waits for.
+    fn awaited_by(&self, seat: &Seat) -> Option<Shared>
+        ensures { result ≡ awaited_by self.entry.now seat.now }
+    {
+        match seat.waits_on {
+            Some(shared) => Some(shared),
+            None => self.shared_with(seat),
         }
+    }
+
+    /// The one that it shares, from now on.
+    fn shared_with(&self, seat: &Seat) -> Option<Shared>
+        ensures { result ≡ shared_with self.entry.now seat.now }
+    {
+        if !self.is_sharing(seat) {
+            return None;
+        }
+        let exchange = self.shared_ask(seat)?;
+        Some(Shared {
+            exchange,
+            since: self.now,
+        })
+    }
+
+    /// Who waited for an exchange, and was not written to, is not idle, however long the clock stood still.
+    pub fn renew_marks(&mut self, now: u64)
+        ensures is { self.new.seats.items ≡ map (woken_seat now self.old) self.old.seats.items }
+        ensures rest { record self.new { seats = self.old.seats } ≡ self.old }
+    {
+        for i in 0..self.seats.len() {
+            self.renew_mark(i, now);
+        }
+    }
+
+    #[tactic(auto, using(crate::proofs::PlacesLemmas::changed_here, crate::proofs::WaitsLemmas::none_changed))]
+    fn renew_mark(&mut self, i: usize, now: u64)
+        ensures is { self.new.seats.items ≡ changed_at i (woken_seat now self.old) self.old.seats.items }
+        ensures rest { record self.new { seats = self.old.seats } ≡ self.old }
+    {
+        if i < self.seats.len() {
+            let waits = self.is_waiting(&self.seats[i]);
+            renew_mark(&mut self.seats[i], waits, now);
+        }
+    }
+
+    /// It waits for an exchange, and nothing is there to be said to it.
+    fn is_waiting(&self, seat: &Seat) -> bool
+        ensures { result ≡ is_waiting self.entry.now seat.now }
+    {
+        self.waits_for_exchange(seat) && self.is_dry(seat)
     }
 
     /// It waits for the exchange that brings its next byte; where it follows nothing, for that of its request, or
     /// for one that it shares.
     fn waits_for_exchange(&self, seat: &Seat) -> bool
-        ensures follows { IfSome (next_of seat.now) (λ n. result ≡ is_brought n.source n.at self.entry.now.cache self.entry.now.flow) }
-        ensures asks { has_asked seat.now.client.id self.entry.now.flow ≡ true → IsNone (next_of seat.now) → result ≡ true }
+        ensures { result ≡ waits_for_exchange self.entry.now seat.now }
     {
         match seat.next() {
             Some(next) => self.is_brought(&next),
@@ -176,6 +219,67 @@ impl State {
         } else {
             None
         }
+    }
+}
+
+/// It may send more, and there is room for what it sends.
+fn is_read(seat: &Seat) -> bool
+    ensures { result ≡ is_read seat.now }
+{
+    !seat.has_hung_up && seat.client.room() > 0
+}
+
+/// A client is read from now on, or not.
+fn note_read(read: &mut ArrayVec<u64, MOST>, id: u64, is_read: bool)
+    ensures is { AreInOrder read.old.items → read.new.items ≡ with_read_by is_read id read.old.items }
+    ensures order { AreInOrder read.old.items → AreInOrder read.new.items }
+{
+    match read.as_slice().binary_search(&id) {
+        Ok(place) => if !is_read {
+            let _ = read.pop_at(place);
+        }
+        Err(place) => if is_read {
+            let _ = read.try_insert(place, id);
+        }
+    }
+}
+
+/// It is written to from now on, where something is left to say to it.
+fn note_written(written: &mut ArrayVec<u64, MOST>, id: u64, is_written: bool)
+    ensures { written.new.items ≡ with_written_by is_written id written.old.items }
+{
+    if is_written {
+        let _ = written.try_push(id);
+    }
+}
+
+/// Whoever is silent is not looked at.
+fn keep_loud(seats: &[Seat], awake: &mut Vec<usize>)
+    ensures { awake.new.items ≡ filter (is_loud seats.now) awake.old.items }
+{
+    awake.retain(|i| is_loud(seats, *i));
+}
+
+fn is_loud(seats: &[Seat], i: usize) -> bool
+    ensures { result ≡ is_loud seats.now i }
+{
+    match seats.get(i) {
+        None => false,
+        Some(seat) => !seat.is_silent(),
+    }
+}
+
+fn wait_on(seat: &mut Seat, awaited: Option<Shared>)
+    ensures { seat.new ≡ waiting_on awaited seat.old }
+{
+    seat.waits_on = awaited;
+}
+
+fn renew_mark(seat: &mut Seat, waits: bool, now: u64)
+    ensures { seat.new ≡ woken_by waits now seat.old }
+{
+    if waits {
+        seat.client.set_mark(now);
     }
 }
 
