@@ -1,14 +1,18 @@
 // A request, a response that is kept, and what is made of them.
+use crate::saying::{says_nothing, told};
 use pp_fresh::{
     Directives, Times, age, allows_guess, date_of, lifetime, may_store, ready, times_of,
 };
 use pp_head::{HeadState, KeptHead, RequestHead, ResponseHead, Scratch, read_response};
 use pp_plan::{Begun, PlanRow, decide, fetch_range, is_near, need, span};
+use pp_text::OutOfMemory;
 use pp_valid::{
     ContentRange, Tag, TagState, Version, accepts_only_identity, body_length, if_range_holds,
     matches_none, names_other_tag, not_modified_since, read_content_range, tag_of, version_of,
 };
 use pp_world::Decision;
+use std::alloc::Global;
+use std::test::Fail;
 
 /// `Sun, 06 Nov 1994 08:49:37 GMT`, when the response came.
 const CAME: u64 = 784_111_777;
@@ -16,7 +20,7 @@ const CAME: u64 = 784_111_777;
 const KEY: &[u8] = b"http://h/a";
 
 /// What is known of a response to a request, ten seconds after it came.
-#[derive(Clone, Copy, Debug, PartialEq, Eq)]
+#[derive(Clone, Copy, PartialEq, Eq)]
 struct Found {
     /// The length of its version.
     length: Option<u64>,
@@ -76,10 +80,9 @@ const WHOLE: Found = Found {
     fetched: None,
 };
 
-/// A request, a response, and what is found.
-const FOUND: [(&[u8], &[u8], Found); 5] = [
-    (b"GET http://h/a HTTP/1.1\r\n\r\n", TAGGED, WHOLE),
-    (
+const ROWS: &[Row<'static>] = &[
+    Row::Found(b"GET http://h/a HTTP/1.1\r\n\r\n", TAGGED, WHOLE),
+    Row::Found(
         b"GET http://h/a HTTP/1.1\r\nRange: bytes=1-3\r\nIf-Range: \"x\"\r\n\r\n",
         TAGGED,
         Found {
@@ -88,7 +91,7 @@ const FOUND: [(&[u8], &[u8], Found); 5] = [
             ..WHOLE
         },
     ),
-    (
+    Row::Found(
         b"GET http://h/a HTTP/1.1\r\nIf-None-Match: \"x\"\r\nIf-Modified-Since: Sun, 06 Nov 1994 08:49:37 GMT\r\n\r\n",
         TAGGED,
         Found {
@@ -98,7 +101,7 @@ const FOUND: [(&[u8], &[u8], Found); 5] = [
             ..WHOLE
         },
     ),
-    (
+    Row::Found(
         b"GET http://h/a HTTP/1.1\r\nCookie: a=b\r\nRange: bytes=2-\r\nCache-Control: no-cache\r\n\r\n",
         b"HTTP/1.1 206 Partial Content\r\nETag: \"x\"\r\nLast-Modified: Sat, 05 Nov 1994 08:49:37 GMT\r\nContent-Range: bytes 2-6/9\r\nContent-Length: 5\r\n\r\n",
         Found {
@@ -118,7 +121,7 @@ const FOUND: [(&[u8], &[u8], Found); 5] = [
             ..WHOLE
         },
     ),
-    (
+    Row::Found(
         b"GET http://h/a HTTP/1.1\r\nAccept-Encoding: gzip\r\n\r\n",
         b"HTTP/1.1 200 OK\r\nETag: W/\"y\"\r\nCache-Control: private, max-age=60\r\nContent-Encoding: gzip\r\nContent-Length: 5\r\n\r\n",
         Found {
@@ -132,6 +135,10 @@ const FOUND: [(&[u8], &[u8], Found); 5] = [
             ..WHOLE
         },
     ),
+    Row::Need((5000, 5100), (4196, 8192), Some((4196, 5100))),
+    Row::Need((6, 10), (7, 10), None),
+    Row::IsNear(0, 1048576, true),
+    Row::IsNear(0, 1048577, false),
 ];
 
 fn judged(request: &[u8], response: &[u8]) -> Option<Found> {
@@ -183,12 +190,27 @@ fn judged_by(request: &RequestHead<'_, '_>, response: ResponseHead<'_, '_>) -> O
     })
 }
 
-#[test]
-fn a_response_answers_a_request_as_its_fields_say(rt: HostRuntime) {
-    for (request, response, wanted) in FOUND {
-        assert_eq!(rt; judged(request, response), Some(wanted));
+/// What is found of a request and a response.
+enum Row<'a> {
+    Found(&'a [u8], &'a [u8], Found),
+    /// What of the bytes between two offsets is needed, where this span is a hole.
+    Need((u64, u64), (u64, u64), Option<(u64, u64)>),
+    IsNear(u64, u64, bool),
+}
+
+fn is_met(row: &Row<'_>) -> bool {
+    match row {
+        Row::Found(request, response, wanted) => judged(request, response) == Some(*wanted),
+        Row::Need((from, to), hole, wanted) => *from < *to && need(*from, *to, *hole) == *wanted,
+        Row::IsNear(from, to, wanted) => is_near(*from, *to) == *wanted,
     }
-    assert_eq!(rt; need(5000, 5100, (4196, 8192)), Some((4196, 5100)));
-    assert_eq!(rt; need(6, 10, (7, 10)), None);
-    assert_eq!(rt; (is_near(0, 1048576), is_near(0, 1048577)), (true, false));
+}
+
+fn unlike(alloc: Global, rows: &[Row<'_>]) -> Result<String, OutOfMemory> {
+    told(alloc, "heads", rows.iter().position(|row| !is_met(row)))
+}
+
+#[test]
+fn a_response_answers_a_request_as_its_fields_say(rt: HostRuntime) -> Result<(), Fail> {
+    says_nothing(&rt, unlike(rt.alloc(), ROWS))
 }

@@ -8,7 +8,7 @@ use std::alloc::Global;
 const READ_LEN: usize = 16;
 
 /// A call on a disk. A file has a name that is one letter, 32 times.
-#[derive(Clone, Copy, Debug)]
+#[derive(Clone, Copy)]
 pub enum Call<'a> {
     Root(&'a [u8]),
     Names,
@@ -26,7 +26,7 @@ pub enum Call<'a> {
 }
 
 /// What a call gives.
-#[derive(Clone, Copy, Debug)]
+#[derive(Clone, Copy)]
 pub enum Gives<'a> {
     Done,
     Fault,

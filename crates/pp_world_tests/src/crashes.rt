@@ -1,6 +1,7 @@
 // Crashes: what each choice leaves.
 use crate::calls::{Call, Gives};
 use crate::lives::{Life, unlike};
+use crate::outcome::settled;
 use std::test::Fail;
 
 /// From this choice on a crash tears.
@@ -77,8 +78,7 @@ const IN_DOUBT: &[Life<'static>] = &[
 
 #[test]
 fn a_crash_leaves_one_of_the_files_in_doubt(rt: HostRuntime) -> Result<(), Fail> {
-    assert_eq!(rt; unlike(rt.alloc(), IN_DOUBT)?.as_str(), "");
-    Ok(())
+    settled(rt.alloc(), unlike(rt.alloc(), IN_DOUBT))
 }
 
 const LOOSE: &[Life<'static>] = &[
@@ -186,8 +186,7 @@ const LOOSE: &[Life<'static>] = &[
 
 #[test]
 fn a_crash_leaves_of_what_is_loose_what_its_choice_says(rt: HostRuntime) -> Result<(), Fail> {
-    assert_eq!(rt; unlike(rt.alloc(), LOOSE)?.as_str(), "");
-    Ok(())
+    settled(rt.alloc(), unlike(rt.alloc(), LOOSE))
 }
 
 const NOT_MENDED: &[Life<'static>] = &[
@@ -243,6 +242,5 @@ const NOT_MENDED: &[Life<'static>] = &[
 
 #[test]
 fn a_failed_sync_is_not_mended_by_another(rt: HostRuntime) -> Result<(), Fail> {
-    assert_eq!(rt; unlike(rt.alloc(), NOT_MENDED)?.as_str(), "");
-    Ok(())
+    settled(rt.alloc(), unlike(rt.alloc(), NOT_MENDED))
 }

@@ -1,6 +1,7 @@
 // The disk in memory, call by call: what reads and listings give, what is told, and which calls fail.
 use crate::calls::{Call, Gives};
-use crate::lives::{Life, first_not_failing, unlike};
+use crate::lives::{Life, not_failing, unlike};
+use crate::outcome::settled;
 use std::test::Fail;
 
 const ONE: &[(u8, &[u8])] = &[(b'a', b"hello")];
@@ -119,8 +120,7 @@ const LIVES: &[Life<'static>] = &[
 
 #[test]
 fn the_calls_on_the_disk_give_what_the_log_says(rt: HostRuntime) -> Result<(), Fail> {
-    assert_eq!(rt; unlike(rt.alloc(), LIVES)?.as_str(), "");
-    Ok(())
+    settled(rt.alloc(), unlike(rt.alloc(), LIVES))
 }
 
 /// A call that fails, and all that is told of its life.
@@ -177,6 +177,5 @@ const FAILING: &[(Call<'static>, &[&str])] = &[
 
 #[test]
 fn a_call_fails_by_its_number_and_does_nothing(rt: HostRuntime) -> Result<(), Fail> {
-    assert_eq!(rt; first_not_failing(rt.alloc(), FAILING)?, None);
-    Ok(())
+    settled(rt.alloc(), not_failing(rt.alloc(), FAILING))
 }

@@ -1,102 +1,8 @@
 // Real folders, call by call, each course in one of its own.
-use crate::calls::{Call, Gives, is_given};
-use crate::turns::wants;
-use pp_net::{NetFault, NetWorld};
-use pp_world::{Event, Wire};
-use std::os::unix::fs::PermissionsExt;
+use crate::calls::{Call, Gives};
+use crate::folder_acts::{Act, Course, unlike};
+use crate::outcome::settled;
 use std::test::Fail;
-use std::{fs, io};
-
-/// What happens to a folder. Paths begin with its name.
-#[derive(Clone, Copy)]
-enum Act<'a> {
-    /// What a call of the program gives.
-    Call(Call<'a>, Gives<'a>),
-    /// What a call of a second program gives.
-    Second(Call<'a>, Gives<'a>),
-    /// The first program ends.
-    Ends,
-    /// A second begins, in which the program looks after its folder.
-    Tick,
-    /// By hand: the file of this path has these bytes.
-    Put(&'a str, &'a [u8]),
-    /// By hand: a folder is made.
-    Make(&'a str),
-    /// By hand: the one has the name of the other from now on.
-    Move(&'a str, &'a str),
-    /// By hand: a folder goes, with all that is in it.
-    Clear(&'a str),
-    /// The file of this path has these bytes.
-    Has(&'a str, &'a [u8]),
-    /// Who may do what with the file or folder of this path.
-    Mode(&'a str, u32),
-}
-
-struct Course<'a> {
-    name: &'a str,
-    acts: &'a [Act<'a>],
-}
-
-/// Two programs.
-#[derive(Drop)]
-struct Programs {
-    rt: HostRuntime,
-    first: NetWorld<HostRuntime>,
-    second: NetWorld<HostRuntime>,
-}
-
-impl Programs {
-    fn new(rt: &HostRuntime) -> Result<Programs, NetFault> {
-        Ok(Programs {
-            rt: *rt,
-            first: NetWorld::new(*rt)?,
-            second: NetWorld::new(*rt)?,
-        })
-    }
-
-    fn is_met(&mut self, act: Act<'_>) -> Result<bool, Fail> {
-        let alloc = self.rt.alloc();
-        match act {
-            Act::Call(call, wanted) => Ok(is_given(&mut self.first, alloc, call, wanted)),
-            Act::Second(call, wanted) => Ok(is_given(&mut self.second, alloc, call, wanted)),
-            Act::Ends => {
-                self.first = NetWorld::new(self.rt)?;
-                Ok(true)
-            }
-            Act::Tick => Ok(matches!(self.first.next(&wants(false, &[], &[])), Event::Tick(_))),
-            by_hand => Ok(is_done(&self.rt, by_hand)?),
-        }
-    }
-}
-
-fn is_done(rt: &HostRuntime, act: Act<'_>) -> io::Result<bool> {
-    match act {
-        Act::Put(path, bytes) => fs::write(rt, path, bytes)?,
-        Act::Make(path) => fs::create_dir(rt, path)?,
-        Act::Move(from, to) => fs::rename(rt, from, to)?,
-        Act::Clear(path) => fs::remove_dir_all(rt, path)?,
-        Act::Has(path, bytes) => return Ok(fs::read(rt, path)?.as_slice() == bytes),
-        Act::Mode(path, mode) => {
-            return Ok(fs::metadata(rt, path)?.permissions().mode() & 0o777 == mode);
-        }
-        Act::Call(_, _) | Act::Second(_, _) | Act::Ends | Act::Tick => return Ok(false),
-    }
-    Ok(true)
-}
-
-/// Where these courses go otherwise than wanted: nothing is said where none does.
-fn unlike(rt: &HostRuntime, courses: &[Course<'_>]) -> Result<String, Fail> {
-    let alloc = rt.alloc();
-    for course in courses {
-        let mut programs = Programs::new(rt)?;
-        for (place, act) in course.acts.iter().enumerate() {
-            if !programs.is_met(*act)? {
-                return Ok(format!(in alloc; "{}: act {place}", course.name)?);
-            }
-        }
-    }
-    Ok(String::new(alloc))
-}
 
 const FOLDERS: &[Course<'static>] = &[
     Course {
@@ -177,8 +83,7 @@ const FOLDERS: &[Course<'static>] = &[
 
 #[test]
 fn a_folder_is_one_program_s(rt: HostRuntime) -> Result<(), Fail> {
-    assert_eq!(rt; unlike(&rt, FOLDERS)?.as_str(), "");
-    Ok(())
+    settled(rt.alloc(), unlike(&rt, FOLDERS))
 }
 
 const FILES: &[Course<'static>] = &[
@@ -264,8 +169,7 @@ const FILES: &[Course<'static>] = &[
 
 #[test]
 fn files_are_what_the_calls_left_of_them(rt: HostRuntime) -> Result<(), Fail> {
-    assert_eq!(rt; unlike(&rt, FILES)?.as_str(), "");
-    Ok(())
+    settled(rt.alloc(), unlike(&rt, FILES))
 }
 
 const HANDLES: &[Course<'static>] = &[
@@ -341,6 +245,5 @@ const HANDLES: &[Course<'static>] = &[
 
 #[test]
 fn a_file_is_synced_by_the_handle_that_wrote_it(rt: HostRuntime) -> Result<(), Fail> {
-    assert_eq!(rt; unlike(&rt, HANDLES)?.as_str(), "");
-    Ok(())
+    settled(rt.alloc(), unlike(&rt, HANDLES))
 }

@@ -1,5 +1,6 @@
 // Lives of a folder in memory, call by call, and what crashes leave of them.
 use crate::calls::{Call, Gives, first_unlike, holds, is_given, name_of};
+use crate::outcome::Unlike;
 use crate::telling::tells;
 use pp_memworld::{MemWorld, Script, put_file};
 use pp_text::{Octets, OutOfMemory};
@@ -17,27 +18,50 @@ pub struct Life<'a> {
     pub calls: &'a [(Call<'a>, Gives<'a>)],
     /// The names of all that is told, if that is asked.
     pub told: Option<&'a [&'a str]>,
-    /// Crashes, one after another, each after so many happenings and by a choice; and what they leave of the file `a`.
+    /// A crash or two, one after the other, each after so many happenings and by a choice; and what they leave of the file `a`.
     pub left: &'a [(&'a [(usize, u64)], &'a [u8])],
 }
 
-/// Where these lives go otherwise than wanted: nothing is said where none does.
-pub fn unlike(alloc: Global, lives: &[Life<'_>]) -> Result<String, OutOfMemory> {
+/// The first of these lives that goes otherwise than it is written down.
+pub fn unlike<'a>(alloc: Global, lives: &[Life<'a>]) -> Option<Unlike<'a>> {
     for life in lives {
-        let mut world = begin(alloc, life)?;
-        if let Some(place) = first_unlike(&mut world, alloc, life.calls) {
-            return Ok(format!(in alloc; "{}: call {place}", life.name)?);
-        }
-        if let Some(names) = life.told
-            && !tells(&world, names)
-        {
-            return Ok(format!(in alloc; "{}: told otherwise", life.name)?);
-        }
-        if let Some(place) = first_not_left(&world, alloc, life.left)? {
-            return Ok(format!(in alloc; "{}: crash {place}", life.name)?);
+        if let Some((part, place)) = part_unlike(alloc, life) {
+            return Some(Unlike {
+                course: life.name,
+                part,
+                place,
+            });
         }
     }
-    Ok(String::new(alloc))
+    None
+}
+
+// Only the one function that makes a world lets go of it, and at one place: that is dear to prove.
+fn part_unlike(alloc: Global, life: &Life<'_>) -> Option<(&'static str, usize)> {
+    match begin(alloc, life) {
+        Ok(mut world) => part_of(&mut world, alloc, life),
+        Err(OutOfMemory) => Some(("memory", 0)),
+    }
+}
+
+fn part_of(world: &mut MemWorld, alloc: Global, life: &Life<'_>) -> Option<(&'static str, usize)> {
+    if let Some(place) = first_unlike(world, alloc, life.calls) {
+        return Some(("call", place));
+    }
+    if !is_told(world, life.told) {
+        return Some(("told", 0));
+    }
+    match first_not_left(world, alloc, life.left) {
+        Some(place) => Some(("crash", place)),
+        None => None,
+    }
+}
+
+fn is_told(world: &MemWorld, told: Option<&[&str]>) -> bool {
+    match told {
+        Some(names) => tells(world, names),
+        None => true,
+    }
 }
 
 /// A life whose second call that can fail does so.
@@ -59,21 +83,31 @@ const STANDING: &[(Call<'static>, Gives<'static>)] = &[
     (Call::Names, Gives::Names(b"a")),
 ];
 
-/// Which of these calls does not fail as the second one, or does something, or is told otherwise than so.
-pub fn first_not_failing(
-    alloc: Global,
-    failing: &[(Call<'_>, &[&str])],
-) -> Result<Option<usize>, OutOfMemory> {
+/// The first of these calls that does not fail as the second one, or does something, or is told otherwise than so.
+pub fn not_failing(alloc: Global, failing: &[(Call<'static>, &[&str])]) -> Option<Unlike<'static>> {
     for (place, (call, told)) in failing.iter().enumerate() {
-        let mut world = begin(alloc, &FAILING)?;
-        let is_ready = first_unlike(&mut world, alloc, FAILING.calls).is_none();
-        let is_failed = is_given(&mut world, alloc, *call, Gives::Fault);
-        let is_as_before = first_unlike(&mut world, alloc, STANDING).is_none();
-        if !is_ready || !is_failed || !is_as_before || !tells(&world, told) {
-            return Ok(Some(place));
+        if !is_failing(alloc, *call, told) {
+            return Some(Unlike {
+                course: FAILING.name,
+                part: "call",
+                place,
+            });
         }
     }
-    Ok(None)
+    None
+}
+
+fn is_failing(alloc: Global, call: Call<'_>, told: &[&str]) -> bool {
+    match begin(alloc, &FAILING) {
+        Ok(mut world) => fails(&mut world, alloc, call) && tells(&world, told),
+        Err(OutOfMemory) => false,
+    }
+}
+
+fn fails(world: &mut MemWorld, alloc: Global, call: Call<'_>) -> bool {
+    first_unlike(world, alloc, FAILING.calls).is_none()
+        && is_given(world, alloc, call, Gives::Fault)
+        && first_unlike(world, alloc, STANDING).is_none()
 }
 
 pub fn no_script(alloc: Global) -> Script {
@@ -97,41 +131,49 @@ fn first_not_left(
     world: &MemWorld,
     alloc: Global,
     left: &[(&[(usize, u64)], &[u8])],
-) -> Result<Option<usize>, OutOfMemory> {
+) -> Option<usize> {
     for (place, (crashes, bytes)) in left.iter().enumerate() {
-        if !is_left(world, alloc, crashes, bytes)? {
-            return Ok(Some(place));
+        if !is_left(world, alloc, crashes, bytes) {
+            return Some(place);
         }
     }
-    Ok(None)
+    None
 }
 
-fn is_left(
-    world: &MemWorld,
-    alloc: Global,
-    crashes: &[(usize, u64)],
-    bytes: &[u8],
-) -> Result<bool, OutOfMemory> {
-    let Some(((at, choice), later)) = crashes.split_first() else {
-        return Ok(false);
-    };
-    let Some(mut next) = crash(world, alloc, *at, *choice)? else {
-        return Ok(false);
-    };
-    for (at, choice) in later {
-        let Some(after) = crash(&next, alloc, *at, *choice)? else {
-            return Ok(false);
-        };
-        next = after;
+fn is_left(world: &MemWorld, alloc: Global, crashes: &[(usize, u64)], bytes: &[u8]) -> bool {
+    match *crashes {
+        [crash] => leaves(world, alloc, crash, bytes),
+        [first, second] => leaves_behind(world, alloc, first, second, bytes),
+        _ => false,
     }
-    Ok(holds(&mut next, b'a', Gives::Bytes(bytes)))
 }
 
-fn crash(
+/// Whether the file `a` has these bytes behind a crash.
+fn leaves(world: &MemWorld, alloc: Global, crash: (usize, u64), bytes: &[u8]) -> bool {
+    match crashed(world, alloc, crash) {
+        Ok(Some(mut next)) => holds(&mut next, b'a', Gives::Bytes(bytes)),
+        Ok(None) | Err(OutOfMemory) => false,
+    }
+}
+
+fn leaves_behind(
     world: &MemWorld,
     alloc: Global,
-    at: usize,
-    choice: u64,
+    first: (usize, u64),
+    second: (usize, u64),
+    bytes: &[u8],
+) -> bool {
+    match crashed(world, alloc, first) {
+        Ok(Some(next)) => leaves(&next, alloc, second, bytes),
+        Ok(None) | Err(OutOfMemory) => false,
+    }
+}
+
+fn crashed(
+    world: &MemWorld,
+    alloc: Global,
+    crash: (usize, u64),
 ) -> Result<Option<MemWorld>, OutOfMemory> {
+    let (at, choice) = crash;
     world.crash(alloc, at, choice, no_script(alloc), Vec::new(alloc))
 }

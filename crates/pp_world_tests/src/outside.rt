@@ -1,17 +1,16 @@
-// An outside that tells nothing, what a caller knows of any wire and disk, and the files of a folder.
+// An outside that tells nothing, and what a caller knows of any wire and disk.
 ghost use Rattle.std.specs.Prelude.{◌≡◌, ◌<◌, ◌≤◌, ℕ, None, length, IfOk};
 ghost use Rattle.pp_world.specs.Connections.{IsOpen};
 ghost use Rattle.pp_world.specs.Log.{Told};
 
 use crate::calls::{Call, Gives, Shelf, first_unlike};
-use arrayvec::ArrayVec;
-use pp_text::Octets;
+use crate::turns::wants;
+use pp_text::{Octets, OutOfMemory};
 use pp_world::{
-    AccessLog, Cause, ConfigFault, Disk, DiskFault, Door, Event, Got, Image, Logged, Name,
-    NamesFault, Note, Replied, Wants, Wire, WireFault, World,
+    AccessLog, Cause, ConfigFault, Disk, DiskFault, Door, Event, Got, Logged, Name, NamesFault,
+    Note, Replied, Wants, Wire, WireFault, World,
 };
 use std::alloc::Global;
-use std::test::Fail;
 
 /// Nobody connects, every dial is refused, and nothing is told.
 #[derive(Drop)]
@@ -63,7 +62,10 @@ impl Wire for Silent {
     fn print(&mut self, _bytes: &[u8]) {}
 
     fn config(&mut self, alloc: Global, _name: &str) -> Result<Octets, ConfigFault> {
-        Octets::copy(alloc, b"proxyPort = 8123\n").map_err(|_| ConfigFault::OutOfMemory)
+        match Octets::copy(alloc, b"proxyPort = 8123\n") {
+            Ok(text) => Ok(text),
+            Err(OutOfMemory) => Err(ConfigFault::OutOfMemory),
+        }
     }
 }
 
@@ -147,39 +149,49 @@ fn count_ticks<W: World>(world: &mut W, wants: &Wants) -> u64 {
     ticks
 }
 
-#[test]
-fn a_wire_that_tells_nothing_serves_any_caller(rt: HostRuntime) -> Result<(), Fail> {
-    let wants = Wants {
-        accept: true,
-        read: ArrayVec::new(),
-        write: ArrayVec::new(),
-    };
-    let mut silent = Silent {
-        faults: 0,
-        ticks: 3,
-    };
-    assert_eq!(rt; count_ticks(&mut silent, &wants.copy()), 3);
-    let mut buf = [0; 4];
-    assert_eq!(rt; count_read(&mut silent, 1, &mut buf), Ok(0));
-    assert_eq!(rt; Wire::write(&mut silent, 1, b"GET"), Ok(0));
+/// Three ticks come and no byte.
+fn hears_nothing(silent: &mut Silent) -> bool {
+    let ticks = count_ticks(silent, &wants(true, &[], &[]));
+    ticks == 3 && count_read(silent, 1, &mut [0; 4]) == Ok(0)
+}
+
+/// Nothing is written, and nobody is reached.
+fn takes_nothing(silent: &mut Silent) -> bool {
     let door = Door {
         address: 0,
         port: 8123,
         allowed: &[],
         access_log: AccessLog::Nowhere,
     };
-    assert_eq!(rt; silent.listen(&door), Ok(()));
-    assert_eq!(rt; silent.dial(b"h", 80), Err(WireFault));
+    let is_written = Wire::write(silent, 1, b"GET") == Ok(0);
+    let is_heard = silent.listen(&door) == Ok(());
+    is_written && is_heard && silent.dial(b"h", 80) == Err(WireFault)
+}
+
+fn is_configured(silent: &mut Silent, alloc: Global) -> bool {
+    match silent.config(alloc, "polipo.conf") {
+        Ok(text) => text.as_slice() == b"proxyPort = 8123\n".as_slice(),
+        Err(_) => false,
+    }
+}
+
+fn tells_nothing(silent: &mut Silent) {
     silent.note(&Note::Cut(1, Cause::Stop));
     silent.print(b"polipo: out of memory\n");
     silent.close(1);
+}
+
+#[test]
+fn a_wire_that_tells_nothing_serves_any_caller(rt: HostRuntime) {
+    let mut silent = Silent {
+        faults: 0,
+        ticks: 3,
+    };
+    assert!(rt; hears_nothing(&mut silent));
+    assert!(rt; takes_nothing(&mut silent));
+    tells_nothing(&mut silent);
     assert_eq!(rt; silent.faults, 1);
-    let text = silent
-        .config(rt.alloc(), "polipo.conf")
-        .ok()
-        .ok_or("configuration")?;
-    assert_eq!(rt; text.as_slice(), b"proxyPort = 8123\n".as_slice());
-    Ok(())
+    assert!(rt; is_configured(&mut silent, rt.alloc()));
 }
 
 impl Shelf for Silent {
@@ -205,65 +217,11 @@ const SILENCE: &[(Call<'static>, Gives<'static>)] = &[
 ];
 
 #[test]
-fn a_disk_that_tells_nothing_serves_any_caller(rt: HostRuntime) -> Result<(), Fail> {
+fn a_disk_that_tells_nothing_serves_any_caller(rt: HostRuntime) {
     let mut silent = Silent {
         faults: 0,
         ticks: 0,
     };
     assert_eq!(rt; first_unlike(&mut silent, rt.alloc(), SILENCE), None);
     assert_eq!(rt; silent.faults, 6);
-    Ok(())
-}
-
-fn name_of(last: u8) -> Name {
-    let mut name = [b'0'; 32];
-    name[31] = last;
-    name
-}
-
-fn is_file(image: &Image, name: u8, wanted: Option<&[u8]>) -> bool {
-    match (image.get(&name_of(name)), wanted) {
-        (Some(file), Some(bytes)) => file.as_slice() == bytes,
-        (None, None) => true,
-        (Some(_), None) | (None, Some(_)) => false,
-    }
-}
-
-#[test]
-fn an_image_is_a_finite_map_in_the_order_of_names(rt: HostRuntime) -> Result<(), Fail> {
-    let alloc = rt.alloc();
-    let mut image = Image::new(alloc);
-    assert!(rt; image.next_name(None).is_none());
-    for (name, file) in [(b'c', b"3"), (b'a', b"1"), (b'b', b"2"), (b'a', b"4")] {
-        image
-            .put(
-                name_of(name),
-                Octets::copy(alloc, file).ok().ok_or("memory")?,
-            )
-            .ok()
-            .ok_or("memory")?;
-    }
-    let files: [(u8, Option<&[u8]>); 5] = [
-        (b'a', Some(b"4")),
-        (b'b', Some(b"2")),
-        (b'c', Some(b"3")),
-        (b'd', None),
-        (b'A', None),
-    ];
-    for (name, wanted) in files {
-        assert!(rt; is_file(&image, name, wanted));
-    }
-    let steps: [(u8, Option<u8>); 5] = [
-        (b'A', Some(b'a')),
-        (b'a', Some(b'b')),
-        (b'b', Some(b'c')),
-        (b'c', None),
-        (b'z', None),
-    ];
-    for (after, wanted) in steps {
-        let found = image.next_name(Some(&name_of(after))).map(|name| name[31]);
-        assert_eq!(rt; found, wanted);
-    }
-    assert_eq!(rt; image.next_name(None).map(|name| name[31]), Some(b'a'));
-    Ok(())
 }

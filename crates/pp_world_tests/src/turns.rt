@@ -1,8 +1,10 @@
 // Scripts played over a world in memory, turn by turn: what is reported, what is read and written, and what is told.
 use crate::lives::no_script;
+use crate::outcome::Unlike;
+use crate::scripts::{Hint, Site, script_of};
 use crate::telling::tells;
 use arrayvec::ArrayVec;
-use pp_memworld::{Cue, MemWorld, Page, Script};
+use pp_memworld::MemWorld;
 use pp_text::{Octets, OutOfMemory};
 use pp_world::{
     AccessLog, Cause, ConfigFault, Door, Event, Got, Happening, Image, Note, Wants, Wire, WireFault,
@@ -11,22 +13,6 @@ use std::alloc::Global;
 
 /// How many bytes a read takes at most.
 const READ_LEN: usize = 256;
-
-/// A cue over texts that a table has.
-#[derive(Clone, Copy)]
-pub enum Hint<'a> {
-    Tick(u64),
-    Connect,
-    Say(u64, &'a [u8]),
-    HangUp(u64),
-    Window(u64, u64),
-    Reach(u64),
-    Refuse(u64),
-    Answer(u64, &'a [u8]),
-    End(u64),
-    Break(u64),
-    Stop,
-}
 
 /// A turn, and what it is to give. None: the world may not be called so, since that connection is not open.
 #[derive(Clone, Copy)]
@@ -62,62 +48,54 @@ pub enum Turn<'a> {
 pub struct Course<'a> {
     pub name: &'a str,
     pub hints: &'a [Hint<'a>],
-    /// Host, path, tag and body of the pages that answer by themselves.
-    pub site: &'a [(&'a [u8], &'a [u8], &'a [u8], &'a [u8])],
+    /// The pages that answer by themselves.
+    pub site: &'a [Site<'a>],
     pub failing: &'a [u64],
     pub config: &'a [u8],
     pub turns: &'a [Turn<'a>],
 }
 
-/// Where these courses go otherwise than wanted: nothing is said where none does.
-pub fn unlike(alloc: Global, courses: &[Course<'_>]) -> Result<String, OutOfMemory> {
+/// The first of these courses that goes otherwise than it is written down.
+pub fn unlike<'a>(alloc: Global, courses: &[Course<'a>]) -> Option<Unlike<'a>> {
     for course in courses {
-        let mut world = begin(alloc, course)?;
-        for (place, turn) in course.turns.iter().enumerate() {
-            if !is_met(&mut world, alloc, *turn)? {
-                return Ok(format!(in alloc; "{}: turn {place}", course.name)?);
-            }
+        if let Some((part, place)) = part_unlike(alloc, course) {
+            return Some(Unlike {
+                course: course.name,
+                part,
+                place,
+            });
         }
     }
-    Ok(String::new(alloc))
+    None
+}
+
+fn part_unlike(alloc: Global, course: &Course<'_>) -> Option<(&'static str, usize)> {
+    match begin(alloc, course) {
+        Ok(mut world) => turn_unlike(&mut world, alloc, course.turns),
+        Err(OutOfMemory) => Some(("memory", 0)),
+    }
+}
+
+fn turn_unlike(
+    world: &mut MemWorld,
+    alloc: Global,
+    turns: &[Turn<'_>],
+) -> Option<(&'static str, usize)> {
+    for (place, turn) in turns.iter().enumerate() {
+        if !is_met(world, alloc, *turn) {
+            return Some(("turn", place));
+        }
+    }
+    None
 }
 
 fn begin(alloc: Global, course: &Course<'_>) -> Result<MemWorld, OutOfMemory> {
-    let mut cues = Vec::new(alloc);
-    for hint in course.hints {
-        let cue = cue_of(alloc, *hint)?;
-        cues.push(cue).map_err(|_| OutOfMemory)?;
-    }
-    let mut site = Vec::new(alloc);
-    for (host, path, tag, body) in course.site {
-        let page = Page {
-            host: Octets::copy(alloc, host)?,
-            path: Octets::copy(alloc, path)?,
-            tag: Octets::copy(alloc, tag)?,
-            body: Octets::copy(alloc, body)?,
-        };
-        site.push(page).map_err(|_| OutOfMemory)?;
-    }
+    let script = script_of(alloc, course.hints, course.site)?;
     let failing = Vec::from_slice(alloc, course.failing)?;
-    let mut world = MemWorld::new(alloc, Script { cues, site }, Image::new(alloc), failing)?;
-    world.set_config(Octets::copy(alloc, course.config)?);
+    let config = Octets::copy(alloc, course.config)?;
+    let mut world = MemWorld::new(alloc, script, Image::new(alloc), failing)?;
+    world.set_config(config);
     Ok(world)
-}
-
-fn cue_of(alloc: Global, hint: Hint<'_>) -> Result<Cue, OutOfMemory> {
-    Ok(match hint {
-        Hint::Tick(seconds) => Cue::Tick(seconds),
-        Hint::Connect => Cue::Connect,
-        Hint::Say(id, bytes) => Cue::Say(id, Octets::copy(alloc, bytes)?),
-        Hint::HangUp(id) => Cue::HangUp(id),
-        Hint::Window(id, len) => Cue::Window(id, len),
-        Hint::Reach(id) => Cue::Reach(id),
-        Hint::Refuse(id) => Cue::Refuse(id),
-        Hint::Answer(id, bytes) => Cue::Answer(id, Octets::copy(alloc, bytes)?),
-        Hint::End(id) => Cue::End(id),
-        Hint::Break(id) => Cue::Break(id),
-        Hint::Stop => Cue::Stop,
-    })
 }
 
 pub fn wants(accept: bool, read: &[u64], write: &[u64]) -> Wants {
@@ -131,43 +109,51 @@ pub fn wants(accept: bool, read: &[u64], write: &[u64]) -> Wants {
     wants
 }
 
-fn is_met(world: &mut MemWorld, alloc: Global, turn: Turn<'_>) -> Result<bool, OutOfMemory> {
+fn is_met(world: &mut MemWorld, alloc: Global, turn: Turn<'_>) -> bool {
     match turn {
         Turn::Next(accept, read, write, event) => {
-            Ok(world.next(&wants(accept, read, write)) == event)
+            world.next(&wants(accept, read, write)) == event
         }
-        Turn::Read(id, len, wanted) => {
-            let mut buf = [0; READ_LEN];
-            Ok(read(world, id, &mut buf[..len.min(READ_LEN)]) == wanted)
-        }
-        Turn::Found(id, len, wanted) => Ok(finds(world, id, len, wanted)),
-        Turn::Write(id, bytes, wanted) => Ok(write(world, id, bytes) == wanted),
-        Turn::Ask(id, ask, wanted) => Ok(is_answered(world, id, ask, wanted)),
-        Turn::Close(id, wanted) => Ok(close(world, id) == wanted),
-        Turn::Dial(host, port, wanted) => Ok(world.dial(host, port) == wanted),
-        Turn::Listen(port, wanted) => {
-            let door = Door {
-                address: 0,
-                port,
-                allowed: &[],
-                access_log: AccessLog::Nowhere,
-            };
-            Ok(world.listen(&door) == wanted)
-        },
-        Turn::Config(wanted) => Ok(is_config(world.config(alloc, "f"), wanted)),
+        Turn::Read(id, len, wanted) => reads(world, id, len, wanted),
+        Turn::Found(id, len, wanted) => finds(world, id, len, wanted),
+        Turn::Write(id, bytes, wanted) => write(world, id, bytes) == wanted,
+        Turn::Ask(id, ask, wanted) => is_answered(world, id, ask, wanted),
+        Turn::Close(id, wanted) => close(world, id) == wanted,
+        Turn::Dial(host, port, wanted) => world.dial(host, port) == wanted,
+        Turn::Listen(port, wanted) => listen(world, port) == wanted,
+        Turn::Config(wanted) => is_config(world.config(alloc, "f"), wanted),
         Turn::Note => {
             world.note(&Note::Cut(1, Cause::Stop));
-            Ok(true)
+            true
         }
         Turn::Print(bytes) => {
             world.print(bytes);
-            Ok(true)
+            true
         }
-        Turn::Crash(at, failing, wanted) => crash(world, alloc, at, failing, wanted),
-        Turn::IsOpen(id, wanted) => Ok(world.is_open(id) == wanted),
-        Turn::Told(names) => Ok(tells(world, names)),
-        Turn::ToldDial(place, id, port) => Ok(is_dialled(world, place, id, port)),
+        Turn::Crash(at, failing, wanted) => crash(world, alloc, at, failing) == Some(wanted),
+        Turn::IsOpen(id, wanted) => world.is_open(id) == wanted,
+        Turn::Told(names) => tells(world, names),
+        Turn::ToldDial(place, id, port) => is_dialled(world, place, id, port),
     }
+}
+
+fn listen(world: &mut MemWorld, port: u16) -> Result<(), WireFault> {
+    world.listen(&Door {
+        address: 0,
+        port,
+        allowed: &[],
+        access_log: AccessLog::Nowhere,
+    })
+}
+
+fn reads(
+    world: &mut MemWorld,
+    id: u64,
+    len: usize,
+    wanted: Option<Result<Got, WireFault>>,
+) -> bool {
+    let mut buf = [0; READ_LEN];
+    read(world, id, &mut buf[..len.min(READ_LEN)]) == wanted
 }
 
 fn read(world: &mut MemWorld, id: u64, buf: &mut [u8]) -> Option<Result<Got, WireFault>> {
@@ -218,21 +204,26 @@ fn is_config(found: Result<Octets, ConfigFault>, wanted: Option<&[u8]>) -> bool 
     }
 }
 
-fn crash(
-    world: &mut MemWorld,
+/// Goes on in the next life: whether there is one. None: for want of memory that is not known.
+fn crash(world: &mut MemWorld, alloc: Global, at: usize, failing: &[u64]) -> Option<bool> {
+    match crashed(world, alloc, at, failing) {
+        Ok(Some(next)) => {
+            *world = next;
+            Some(true)
+        }
+        Ok(None) => Some(false),
+        Err(OutOfMemory) => None,
+    }
+}
+
+fn crashed(
+    world: &MemWorld,
     alloc: Global,
     at: usize,
     failing: &[u64],
-    wanted: bool,
-) -> Result<bool, OutOfMemory> {
+) -> Result<Option<MemWorld>, OutOfMemory> {
     let failing = Vec::from_slice(alloc, failing)?;
-    match world.crash(alloc, at, 0, no_script(alloc), failing)? {
-        Some(next) => {
-            *world = next;
-            Ok(wanted)
-        }
-        None => Ok(!wanted),
-    }
+    world.crash(alloc, at, 0, no_script(alloc), failing)
 }
 
 fn is_dialled(world: &MemWorld, place: usize, id: u64, port: u16) -> bool {

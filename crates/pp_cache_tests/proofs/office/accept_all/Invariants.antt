@@ -1,5 +1,5 @@
 use Rattle.pp_links.specs.Links.{IsLinked}
-use Rattle.pp_cache_tests.proofs.links.accept_all.Given as goal
+use Rattle.pp_cache_tests.proofs.office.accept_all.Given as goal
 
 abbrev pub invariant-loop : goal.invariant-loop
 invariant-loop g l = IsLinked (g.W.Logged.log l.world) (g.W.Logged.top l.world) l.links
