@@ -1,0 +1,5 @@
+use Rattle.pp_fills_law.proofs.Wanted.{useless}
+use Rattle.pp_fills_law.proofs.filling.useless_asks_are_the_laws.Goals as goal
+
+pub returns : goal.returns
+returns c = record { useless = useless }
