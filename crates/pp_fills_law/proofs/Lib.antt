@@ -1,6 +1,9 @@
+pub mod All
+pub mod Begun
 pub mod Filled
 pub mod Following
 pub mod Kept
 pub mod Lacked
+pub mod Silent
 pub mod Walked
 pub mod Wanted

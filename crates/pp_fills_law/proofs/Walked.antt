@@ -1,133 +1,55 @@
 -- Those who are looked at ask for what they lack, one behind the other; whoever is not is silent, and lacks nothing by the law.
-use Rattle.std.proofs.Common.{◌≡◌, ◌≤◌, ◌<◌, refl, sym, subst, ap, ap₂, ◌∙◌, ℕ, zero, suc, ◌+◌, ◌-◌, Bool, true, false, ◌&&◌, ◌||◌, not, ◌==◌, nat_lt, find, length, map, List, [], ◌∷◌, Some, None, Option, arith}
+use Rattle.std.proofs.Common.{◌≡◌, ◌≤◌, ◌<◌, refl, sym, subst, ap, ap₂, ◌∙◌, ℕ, zero, suc, ◌+◌, ◌-◌, Bool, true, false, ◌&&◌, ◌||◌, ◌==◌, nat_lt, find, length, List, [], ◌∷◌, Some, None, Option, arith}
 use Rattle.std.proofs.lemmas.Bool.Decides.{nat_tests}
 use Rattle.std.proofs.lemmas.Option.{slice_get_within}
 use Rattle.std.specs.Prelude.{slice_get}
-use Rattle.pp_brings_law.specs.Needs.{IsWithin}
 use Rattle.pp_cache.specs.Memory.{Memory}
 use Rattle.pp_cache_law.proofs.Numbers.{is_same, some_is}
 use Rattle.pp_decides_law.proofs.Sitting.{is_at}
 use Rattle.pp_decides_law.specs.Decides.{IsAtPlace}
-use Rattle.pp_due_law.specs.Turns.{ShowsTurn}
 use Rattle.pp_flow_law.proofs.Entries.{none_some}
 use Rattle.pp_flow_law.proofs.Told.{counts}
 use Rattle.pp_flow_law.specs.Tables.{AreGiven, Leaving}
-use Rattle.pp_law.specs.Connections.{client, each_client, is_client, is_trying}
-use Rattle.pp_law.specs.Followers.{fill, fill_for, fill_next}
+use Rattle.pp_law.specs.Connections.{client, each_client, is_client}
+use Rattle.pp_law.specs.Followers.{fill_for}
 use Rattle.pp_law.specs.Lists.{Bytes, has_number}
-use Rattle.pp_law.specs.Stages.{is_undecided}
-use Rattle.pp_law.specs.State.{State, Client, Course, Reply, Stage, Undecided, Waiting, Passing, Answering}
-use Rattle.pp_law.specs.Table.{Next, next_in, next_of}
+use Rattle.pp_law.specs.State.{State, Client}
 use Rattle.pp_peers.specs.declared.peers.Peer.{Peer}
-use Rattle.pp_seats.specs.Heads.{is_there_in}
-use Rattle.pp_seats.specs.Seats.{is_silent, is_undecided_in}
-use Rattle.pp_seats.specs.declared.seat.Course.{Course as SeatCourse}
+use Rattle.pp_seats.specs.Seats.{is_silent}
 use Rattle.pp_seats.specs.declared.seat.Seat.{Seat}
 use Rattle.pp_seats_law.proofs.AllSeats.{places}
-use Rattle.pp_seats_law.proofs.Stages.{undecided}
-use Rattle.pp_seats_law.specs.Clients.{AreShown, IsFound}
-use Rattle.pp_seats_law.specs.Fates.{is_refused}
-use Rattle.pp_seats_law.specs.Seats.{ShowsOpen, ShowsSeat}
+use Rattle.pp_seats_law.specs.Clients.{IsFound}
+use Rattle.pp_seats_law.specs.Seats.{ShowsSeat}
 use Rattle.pp_states_law.specs.Decisions.{AsksOnce}
-use Rattle.pp_steps.specs.Ends.{Parts, numbers_of, parts}
-use Rattle.pp_steps.specs.Filling.{all_filled, filled, filled_for}
-use Rattle.pp_steps.specs.declared.state.State.{State as Turn}
-use Rattle.pp_steps_law.specs.Steps.{ShowsSteps}
-use Rattle.pp_turns_law.specs.Firsts.{AreAwake}
-use Rattle.pp_turns_law.proofs.Asleep.{silent_first}
+use Rattle.pp_steps.specs.Ends.{Parts, numbers_of}
+use Rattle.pp_steps.specs.Filling.{all_filled, filled_for}
 use Rattle.pp_turns_law.proofs.First.{above}
-use Rattle.pp_fills_law.proofs.Filled.{IsDone, WasSeat, is_done}
-use Rattle.pp_fills_law.proofs.Following.{going_law}
+use Rattle.pp_fills_law.proofs.Begun.{IsDone, WasSeat}
+use Rattle.pp_fills_law.proofs.Filled.{is_done}
 use Rattle.pp_fills_law.proofs.Kept.{WasClient}
-use Rattle.pp_fills_law.specs.Fills.{AllFillAsTheLaws, HasRoomForAll, IsFilled, MayAllFill, MayFill, MayFollow, MayWant, ShowsParts}
-
--- ---- one that is silent lacks nothing
-
-undecided_is : (t : Stage) → is_undecided t ≡ true → t ≡ Undecided
-undecided_is Undecided is = refl
-undecided_is Waiting is = absurd (cc is)
-undecided_is Passing is = absurd (cc is)
-undecided_is (Answering r) is = absurd (cc is)
-
-not_so : (b : Bool) → not b ≡ true → b ≡ false
-not_so false is = refl
-not_so true is = absurd (cc is)
-
-silent_last : (a b c d : Bool) → (a && b && c && d) ≡ true → d ≡ true
-silent_last true true true d is = is
-silent_last true true false d is = absurd (cc is)
-silent_last true false c d is = absurd (cc is)
-silent_last false b c d is = absurd (cc is)
-
-abbrev reply_in : Stage → Option Reply
-reply_in t = elim t as (λ b. Option Reply) [ Undecided ↦ None | Waiting ↦ None | Passing ↦ None | Answering r ↦ Some r ]
-
-follows_none : (number : ℕ → ℕ) (name : Bytes) (s : State) (seat : Seat) (c : Client) → ShowsSeat number name [] seat c → is_silent seat ≡ true → next_of s c ≡ None
-follows_none number name s seat c seen silent =
-    going_law s c going ∙ ap (λ (t : Stage). elim (reply_in t) as (λ x. Option Next) [ None ↦ None | Some r ↦ next_in s r ]) stage
-  where
-    closing : seat.is_closing ≡ false
-    closing = not_so seat.is_closing (silent_last (is_undecided_in seat.stage) (not (is_there_in seat.front)) (not seat.has_hung_up) (not seat.is_closing) silent)
-
-    going : c.is_closing ≡ false
-    going = sym seen.closing ∙ closing
-
-    live : ShowsOpen number name [] seat c
-    live = seen.going going
-
-    stage : c.stage ≡ Undecided
-    stage = undecided_is c.stage (sym (undecided number name [] seat c live) ∙ silent_first (is_undecided_in seat.stage) (not (is_there_in seat.front)) (not seat.has_hung_up) (not seat.is_closing) silent)
-
-fills_none : (s : State) (c : Client) → next_of s c ≡ None → fill_for c s ≡ s
-unfolding fill_for
-fills_none s c none =
-    ap (λ (o : Option Next). elim (is_trying c.course) as (λ b. State) [ false ↦ s | true ↦ elim o as (λ b. State) [ None ↦ s | Some n ↦ fill_next c n s ] ]) none ∙ by (is_trying c.course)
-  where
-    by : (b : Bool) → (elim b as (λ x. State) [ false ↦ s | true ↦ s ]) ≡ s
-    by true = refl
-    by false = refl
-
--- ---- what stays of the others
-
-follow_still : (m : Memory) (s t : State) (seat : Seat) (c : Client) (x : SeatCourse) (y : Course) → MayFollow m s seat c → (is_refused c.course ≡ false → is_refused y ≡ false) → t ≡ record s { clients = t.clients; exchanges = t.exchanges; next_exchange = t.next_exchange }
-    → MayFollow m t (record seat { course = x }) (record c { course = y })
-follow_still m s t seat c x y follow given rest =
-    let u : State = record s { clients = t.clients; exchanges = t.exchanges; next_exchange = t.next_exchange } in
-    subst (λ (v : State). MayFollow m v (record seat { course = x }) (record c { course = y })) (sym rest) (still u refl)
-  where
-    wants_still : MayWant seat c → MayWant (record seat { course = x }) (record c { course = y })
-    wants_still want = record { keyed = want.keyed; given = given want.given }
-
-    within_still : (n : Next) → IsWithin s n → IsWithin (record s { clients = t.clients; exchanges = t.exchanges; next_exchange = t.next_exchange }) n
-    within_still n within = record { some = within.some; body = within.body; whole = within.whole }
-
-    still : (u : State) → u ≡ record s { clients = t.clients; exchanges = t.exchanges; next_exchange = t.next_exchange } → MayFollow m u (record seat { course = x }) (record c { course = y })
-    still u is = subst (λ (v : State). MayFollow m v (record seat { course = x }) (record c { course = y })) (sym is) (record {
-      there = follow.there;
-      wants = λ next its. wants_still (follow.wants next its);
-      within = λ n its. within_still n (follow.within n its);
-    })
+use Rattle.pp_fills_law.proofs.Silent.{fills_none, follow_still, follows_none}
+use Rattle.pp_fills_law.specs.Fills.{MayFill, MayFollow, ShowsParts}
 
 -- ---- the walk
 
 -- of those from this place on, these are looked at, and the others are silent
-record Goes (number : ℕ → ℕ) (name : Bytes) (l : Leaving) (peers : List Peer) (k : ℕ) (is : List ℕ) (p : Parts) (s : State) : Type 0 where
-  shows : ShowsParts number name l peers p s
-  given : AreGiven k (length (numbers_of p.seats)) is
-  silent : (j : ℕ) (seat : Seat) → k ≤ j → slice_get p.seats j ≡ Some seat → has_number j is ≡ false → is_silent seat ≡ true
-  follow : (i : ℕ) (seat : Seat) (c : Client) → IsAtPlace i p s seat c → c.is_closing ≡ false → MayFollow p.cache s seat c
-  asks : (n : ℕ) → AsksOnce n s
-  room : length s.exchanges + length is ≤ 1024
-  numbers : s.next_exchange + length is ≤ 18446744073709551615
+pub record Goes (number : ℕ → ℕ) (name : Bytes) (l : Leaving) (peers : List Peer) (k : ℕ) (is : List ℕ) (p : Parts) (s : State) : Type 0 where
+  pub shows : ShowsParts number name l peers p s
+  pub given : AreGiven k (length (numbers_of p.seats)) is
+  pub silent : (j : ℕ) (seat : Seat) → k ≤ j → slice_get p.seats j ≡ Some seat → has_number j is ≡ false → is_silent seat ≡ true
+  pub follow : (i : ℕ) (seat : Seat) (c : Client) → IsAtPlace i p s seat c → c.is_closing ≡ false → MayFollow p.cache s seat c
+  pub asks : (n : ℕ) → AsksOnce n s
+  pub room : length s.exchanges + length is ≤ 1024
+  pub numbers : s.next_exchange + length is ≤ 18446744073709551615
 
 -- the law goes over these numbers from that place on
-abbrev AreLeft : List ℕ → ℕ → Parts → Type 0
+abbrev pub AreLeft : List ℕ → ℕ → Parts → Type 0
 AreLeft ns k p = (j : ℕ) → slice_get ns j ≡ slice_get (numbers_of p.seats) (j + k)
 
-record IsWalked (number : ℕ → ℕ) (name : Bytes) (l : Leaving) (peers : List Peer) (p : Parts) (s : State) (q : Parts) (t : State) : Type 0 where
-  shows : ShowsParts number name l peers q t
-  asks : (n : ℕ) → AsksOnce n t
-  rest : t ≡ record s { clients = t.clients; exchanges = t.exchanges; next_exchange = t.next_exchange }
+pub record IsWalked (number : ℕ → ℕ) (name : Bytes) (l : Leaving) (peers : List Peer) (p : Parts) (s : State) (q : Parts) (t : State) : Type 0 where
+  pub shows : ShowsParts number name l peers q t
+  pub asks : (n : ℕ) → AsksOnce n t
+  pub rest : t ≡ record s { clients = t.clients; exchanges = t.exchanges; next_exchange = t.next_exchange }
 
 -- the client at a place
 record IsNumbered (seats : List Seat) (k n : ℕ) : Type 0 where
@@ -152,10 +74,10 @@ room_there : (a b n m more : ℕ) → (a + b ≡ n) → m + (more + 1) ≤ 18446
 room_there a b n m more same one two = grind (arith, nat_tests, same, one, two)
 
 module _ (number : ℕ → ℕ) (name : Bytes) (l : Leaving) (peers : List Peer) where
-  abbrev Walked : Parts → State → Parts → State → Type 0
+  abbrev pub Walked : Parts → State → Parts → State → Type 0
   Walked p s q t = IsWalked number name l peers p s q t
 
-  abbrev Walks : List ℕ → Type 0
+  abbrev pub Walks : List ℕ → Type 0
   Walks ns = (is : List ℕ) (k : ℕ) (p : Parts) (s : State) → AreLeft ns k p → Goes number name l peers k is p s → Walked p s (all_filled name is p) (each_client fill_for ns s)
 
   -- the client of that number
@@ -297,73 +219,8 @@ module _ (number : ℕ → ℕ) (name : Bytes) (l : Leaving) (peers : List Peer)
       (looks n ns is k p s more left (subst (λ (j : ℕ). Goes number name l peers k (j ∷ is) p s) same goes))
   next_looks n i ns is k p s false isnt more left goes = passes n ns (i ∷ is) k p s more left goes (not_same i k goes.given.0 isnt, goes.given.1)
 
-  walk : (ns : List ℕ) → Walks ns
+  pub walk : (ns : List ℕ) → Walks ns
   walk [] [] k p s left goes = ends p s goes.shows goes.asks
   walk [] (i ∷ is) k p s left goes = absurd (none_left i k is p left goes.given)
   walk (n ∷ ns) [] k p s left goes = passes n ns [] k p s (walk ns) left goes (none_looks n ns k p s left)
   walk (n ∷ ns) (i ∷ is) k p s left goes = next_looks n i ns is k p s (i == k) refl (walk ns) left goes
-
--- ---- in a turn
-
-same_numbers : (number : ℕ → ℕ) (name : Bytes) (seats : List Seat) (cs : List Client) → AreShown number name [] seats cs → map (λ (c : Client). c.number) cs ≡ numbers_of seats
-same_numbers number name [] [] shown = refl
-same_numbers number name [] (c ∷ cs) shown = absurd shown
-same_numbers number name (seat ∷ seats) [] shown = absurd shown
-same_numbers number name (seat ∷ seats) (c ∷ cs) shown = ap₂ (λ (n : ℕ) (ns : List ℕ). n ∷ ns) (sym shown.0.number) (same_numbers number name seats cs shown.1)
-
-as_many : (seats : List Seat) → length (numbers_of seats) ≡ length seats
-as_many [] = refl
-as_many (seat ∷ seats) = ap suc (as_many seats)
-
-abbrev fill_if : Bool → State → State
-fill_if b s = elim b as (λ t. State) [ true ↦ s | false ↦ each_client fill_for (map (λ (c : Client). c.number) s.clients) s ]
-
-fill_is : (s : State) → fill s ≡ fill_if s.is_stopped s
-unfolding fill
-fill_is s = refl
-
-abbrev filled_if : Bool → Turn → Parts
-filled_if b p = elim b as (λ t. Parts) [ true ↦ parts p | false ↦ all_filled p.name.items p.awake.items (parts p) ]
-
-shown_parts : (number : ℕ → ℕ) (l : Leaving) (peers : List Peer) (p : Turn) (s : State) → ShowsTurn number l peers p s → ShowsParts number p.name.items l peers (parts p) s
-shown_parts number l peers p s shows = record { steps = shows.steps; named = shows.name; bounded = shows.bounded }
-
-walked_by : (number : ℕ → ℕ) (l : Leaving) (peers : List Peer) (p : Turn) (s : State) (b : Bool) → s.is_stopped ≡ b → ShowsTurn number l peers p s → AreAwake p → MayAllFill p s → (s.is_stopped ≡ false → HasRoomForAll p s)
-    → IsWalked number p.name.items l peers (parts p) s (filled_if b p) (fill_if b s)
-walked_by number l peers p s true stopped shows awake may room = record { shows = shown_parts number l peers p s shows; asks = may.asks; rest = refl }
-walked_by number l peers p s false stopped shows awake may room =
-    let has : HasRoomForAll p s = room stopped in
-    let numbers : map (λ (c : Client). c.number) s.clients ≡ numbers_of p.seats.items = same_numbers number p.name.items p.seats.items s.clients shows.steps.shows.clients in
-    walk number p.name.items l peers (map (λ (c : Client). c.number) s.clients) p.awake.items 0 (parts p) s
-    (λ j. let first : j + 0 ≡ j = omega arith in ap₂ (λ (ns : List ℕ) (m : ℕ). slice_get ns m) numbers (sym first)) (record {
-      shows = shown_parts number l peers p s shows;
-      given = subst (λ (m : ℕ). AreGiven 0 m p.awake.items) (sym (as_many p.seats.items)) awake.order;
-      silent = λ j seat above_it here none. (awake.others j seat here none).silent;
-      follow = may.follow;
-      asks = may.asks;
-      room = has.exchanges;
-      numbers = has.numbers;
-    })
-
-turn_shown : (number : ℕ → ℕ) (l : Leaving) (peers : List Peer) (p q : Turn) (s t : State) → ShowsTurn number l peers p s → IsWalked number p.name.items l peers (parts p) s (parts q) t → IsFilled p q → ShowsTurn number l peers q t
-turn_shown number l peers p q s t shows walked filled = record {
-  steps = subst (λ (name : Bytes). ShowsSteps number name l peers (parts q) t) (sym name) walked.shows.steps;
-  name = name ∙ walked.shows.named;
-  shares = ap (λ (u : Turn). u.shares_fetches) filled.rest ∙ shows.shares ∙ ap (λ (u : State). u.settings.shares_fetches) (sym walked.rest);
-  clock = ap (λ (u : Turn). u.now) filled.rest ∙ shows.clock ∙ ap (λ (u : State). u.clock) (sym walked.rest);
-  ticked = ap (λ (u : Turn). u.is_ticked) filled.rest ∙ shows.ticked ∙ ap (λ (u : State). u.is_ticked) (sym walked.rest);
-  stopped = ap (λ (u : Turn). u.is_stopped) filled.rest ∙ shows.stopped ∙ ap (λ (u : State). u.is_stopped) (sym walked.rest);
-  bounded = walked.shows.bounded;
-}
-  where
-    name : q.name.items ≡ p.name.items
-    name = ap (λ (u : Turn). u.name.items) filled.rest
-
-pub fills_all : AllFillAsTheLaws
-fills_all number l peers p q s shows awake may room filled =
-    let walked : IsWalked number p.name.items l peers (parts p) s (filled_if s.is_stopped p) (fill_if s.is_stopped s) = walked_by number l peers p s s.is_stopped refl shows awake may room in
-    let program : filled_if s.is_stopped p ≡ parts q = ap (λ (b : Bool). filled_if b p) (sym shows.stopped) ∙ sym filled.is in
-    let all : IsWalked number p.name.items l peers (parts p) s (parts q) (fill s) =
-    subst (λ (t : State). IsWalked number p.name.items l peers (parts p) s (parts q) t) (sym (fill_is s))
-    (subst (λ (r : Parts). IsWalked number p.name.items l peers (parts p) s r (fill_if s.is_stopped s)) program walked) in
-    record { turn = turn_shown number l peers p q s (fill s) shows all filled; asks = all.asks }
