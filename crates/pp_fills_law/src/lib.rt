@@ -3,7 +3,7 @@
 //! `specs/Fills.antt` says it over the relation of `pp_steps_law`: for one client, that the exchange which begins for what it lacks is
 //! the law's, and that it asks nothing any more where what it would ask is too long; for all, that those who are looked at fill what
 //! the law fills, one behind the other, since whoever is not looked at follows nothing. `specs/Useless.antt`: which ask of a follower
-//! is of no use any more.
+//! is of no use any more, and that those are over that the law gives up.
 //!
 //! To the layer above: each equation is the clause of a function that does nothing. It is one part of the proof that the program
 //! obeys the law: that there is room for another exchange, and where the bytes end that a client reads, is carried by the turn. The
