@@ -1,0 +1,10 @@
+pub mod All
+pub mod Begun
+pub mod Filled
+pub mod Following
+pub mod GivenUp
+pub mod Kept
+pub mod Lacked
+pub mod Silent
+pub mod Walked
+pub mod Wanted

@@ -1,0 +1,4 @@
+pub mod Looked
+pub mod Rested
+pub mod Waiting
+pub mod Woken
