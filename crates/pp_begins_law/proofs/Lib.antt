@@ -1,0 +1,10 @@
+pub mod AtOnce
+pub mod Begun
+pub mod Behind
+pub mod Each
+pub mod Heads
+pub mod One
+pub mod Outrun
+pub mod Regained
+pub mod Seats
+pub mod Walk
