@@ -31,7 +31,7 @@ use Rattle.pp_steps_law.specs.Told.{AreTold}
 use Rattle.pp_begins_law.proofs.AtOnce.{begun_one, number_is, outrun_by, stays_silent}
 use Rattle.pp_begins_law.proofs.Each.{each_of, maps_same}
 use Rattle.pp_begins_law.proofs.Outrun.{is_unanswered, outrun_shows, told_outrun, with_exchanges}
-use Rattle.pp_begins_law.proofs.Seats.{AmidTurn, FollowsOn, Outruns, Turned, closed_is, outrun_flow}
+use Rattle.pp_begins_law.proofs.Turned.{AmidTurn, FollowsOn, Outruns, Turned, closed_is, outrun_flow}
 use Rattle.pp_begins_law.specs.Begins.{IsReadyAt}
 
 -- swept behind a change of one client
