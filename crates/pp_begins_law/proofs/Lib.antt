@@ -1,0 +1,14 @@
+pub mod AtOnce
+pub mod Begun
+pub mod Behind
+pub mod Each
+pub mod Heads
+pub mod Kept
+pub mod One
+pub mod Outrun
+pub mod Passed
+pub mod Regained
+pub mod Seats
+pub mod Standing
+pub mod Turned
+pub mod Walk
