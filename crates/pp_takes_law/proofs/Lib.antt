@@ -1,0 +1,4 @@
+pub mod Accounted
+pub mod Marked
+pub mod Moved
+pub mod Taken

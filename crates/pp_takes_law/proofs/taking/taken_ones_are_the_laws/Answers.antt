@@ -1,0 +1,5 @@
+use Rattle.pp_takes_law.proofs.Taken.{takes, regains}
+use Rattle.pp_takes_law.proofs.taking.taken_ones_are_the_laws.Goals as goal
+
+pub returns : goal.returns
+returns c = record { takes = takes; regains = regains }
