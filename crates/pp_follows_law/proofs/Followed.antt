@@ -1,9 +1,8 @@
 -- A request is answered by the row of its key, in the program as in the law.
-use Rattle.std.proofs.Common.{◌≡◌, refl, sym, subst, ap, ◌∙◌, ℕ, ◌+◌, Bool, true, false, ◌==◌, ◌&&◌, not, cond, find, List, [], Some, None, Option, option_map, arith}
+use Rattle.std.proofs.Common.{◌≡◌, refl, sym, subst, ap, ◌∙◌, ℕ, ◌+◌, Bool, true, false, ◌==◌, ◌&&◌, not, cond, List, [], Some, None, Option, option_map, arith}
 use Rattle.std.proofs.lemmas.Bool.Decides.{nat_tests}
-use Rattle.std.specs.Prelude.{count_by, option_and_then, slice_get, slice_set}
+use Rattle.std.specs.Prelude.{count_by, option_and_then, slice_set}
 use Rattle.pp_brings_law.proofs.Brought.{serves_of}
-use Rattle.pp_brings_law.specs.Nexts.{IsNext}
 use Rattle.pp_cache.specs.Memory.{Memory}
 use Rattle.pp_cache_law.proofs.Alike.{rows_of}
 use Rattle.pp_cache_law.proofs.Finds.{find_passes}

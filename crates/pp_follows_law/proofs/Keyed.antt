@@ -1,5 +1,5 @@
 -- The key of a request is the law's.
-use Rattle.std.proofs.Common.{◌≡◌, ◌⊎◌, inl, inr, refl, sym, ap, ◌∙◌, ℕ, false, Some, None, Option, option_map, Result, Ok, Err}
+use Rattle.std.proofs.Common.{◌≡◌, inl, inr, refl, sym, ap, ◌∙◌, ℕ, false, Some, None, Option, option_map, Result, Ok, Err}
 use Rattle.std.specs.Prelude.{is_ok}
 use Rattle.pp_law.specs.Lists.{Bytes}
 use Rattle.pp_law.specs.Requests.{Front, IsRequest, NoHead, NoHeadYet, Parsed, key_in}

@@ -1,8 +1,7 @@
 -- One client more follows a row, and one less what it followed: how many follow each is the law's.
 use Rattle.std.proofs.Common.{◌≡◌, ◌≤◌, ◌<◌, refl, sym, subst, ap, ap₂, ◌∙◌, ℕ, ◌+◌, Bool, true, false, ◌==◌, ◌&&◌, not, cond, find, nat_lt, length, List, [], ◌∷◌, ◌++◌, filter, Some, None, Option, option_map, arith}
-use Rattle.std.specs.Prelude.{count_by, slice_get, slice_set}
+use Rattle.std.specs.Prelude.{count_by, slice_set}
 use Rattle.pp_cache.specs.Memory.{Memory}
-use Rattle.pp_cache_law.proofs.Alike.{instances_of}
 use Rattle.pp_cache_law.proofs.Changed.{followings_of}
 use Rattle.pp_cache_law.proofs.Finds.{find_passes}
 use Rattle.pp_cache_law.proofs.Framing.{frames_of, the_same}
@@ -32,7 +31,6 @@ use Rattle.pp_states_law.proofs.Asked.{all_as, frames, itself}
 use Rattle.pp_states_law.specs.Clients.{GoesOnAs}
 use Rattle.pp_states_law.specs.States.{Parts as Whole, ShowsState}
 use Rattle.pp_steps.specs.Deciding.{followed_more, may_follow}
-use Rattle.pp_steps.specs.Ends.{unfollowed}
 use Rattle.pp_steps_law.proofs.Told.{Stands}
 use Rattle.pp_steps_law.specs.Told.{IsTold}
 

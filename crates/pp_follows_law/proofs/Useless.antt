@@ -6,7 +6,7 @@ use Rattle.pp_cache_law.proofs.Finds.{one_only}
 use Rattle.pp_cache_law.proofs.PairLemmas.{AreOnly}
 use Rattle.pp_cache_law.specs.Pairs.{AreBoth}
 use Rattle.pp_decides_law.proofs.Left.{leaves_by}
-use Rattle.pp_flow.specs.Changes.{Exchanges, entry_of}
+use Rattle.pp_flow.specs.Changes.{entry_of}
 use Rattle.pp_flow.specs.declared.entry.Entry.{Entry}
 use Rattle.pp_flow.specs.declared.entry.Exchange.{Exchange as Asked}
 use Rattle.pp_flow_law.proofs.Standing.{few_given}
