@@ -1,5 +1,5 @@
 -- What the operator's log is told of a client is no part of what shows the law's.
-use Rattle.std.proofs.Common.{◌≡◌, refl, sym, subst, ap, ◌∙◌, ℕ, zero, suc, List, [], ◌∷◌, Some, None, Option}
+use Rattle.std.proofs.Common.{◌≡◌, refl, sym, subst, ap, ℕ, zero, suc, List, [], ◌∷◌, Some, None, Option}
 use Rattle.std.specs.Prelude.{slice_get, slice_set}
 use Rattle.pp_cache_law.proofs.Numbers.{some_is}
 use Rattle.pp_flow_law.proofs.Entries.{none_some}

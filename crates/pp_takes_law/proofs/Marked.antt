@@ -1,16 +1,13 @@
 -- The row of its key is in memory and marked, in the program as in the law; all else is as before.
 use Rattle.std.proofs.Common.{◌≡◌, refl, sym, subst, ap, ◌∙◌, ℕ, Bool, true, false, List, Some, None, Option, option_map}
 use Rattle.std.specs.Prelude.{option_and_then, slice_get}
-use Rattle.pp_cache.specs.Memory.{Memory}
 use Rattle.pp_decides_law.proofs.Marked.{marks}
-use Rattle.pp_flow.specs.Changes.{Exchanges}
 use Rattle.pp_flow_law.specs.Tables.{Leaving}
 use Rattle.pp_law.specs.Deciding.{enter_row, is_for_memory, mark_row_of}
 use Rattle.pp_law.specs.Lists.{Bytes}
 use Rattle.pp_law.specs.Requests.{key_in}
-use Rattle.pp_law.specs.State.{State, Client, Conn, Entry, Exchange, Instance as Known}
+use Rattle.pp_law.specs.State.{State, Client, Entry, Instance as Known}
 use Rattle.pp_law.specs.Table.{add_row, enter, mark_row, row, row_on_disk, with_room}
-use Rattle.pp_objects.specs.Changes.{marked}
 use Rattle.pp_objects.specs.Instances.{Instance, is_there, row_of}
 use Rattle.pp_objects.specs.OneRow.{HasOneRow}
 use Rattle.pp_objects.specs.declared.id.ObjectId.{ObjectId}

@@ -5,16 +5,14 @@ use Rattle.pp_cache.specs.Memory.{Memory}
 use Rattle.pp_cache_law.proofs.Alike.{rows_alike}
 use Rattle.pp_cache_law.proofs.Finds.{find_joined, first_of_two, none_within, one_only}
 use Rattle.pp_cache_law.proofs.Moves.{in_slot-marked}
-use Rattle.pp_cache_law.proofs.Numbers.{some_is}
 use Rattle.pp_cache_law.proofs.PairLemmas.{AreOnly, counted}
 use Rattle.pp_cache_law.specs.Tables.{ShowsInstance, ShowsTable}
-use Rattle.pp_flow_law.proofs.Entries.{none_some}
 use Rattle.pp_follows_law.proofs.Standing.{found_kept}
 use Rattle.pp_law.specs.Lists.{Bytes}
 use Rattle.pp_law.specs.State.{State, Instance as Known}
 use Rattle.pp_law.specs.Table.{is_instance, is_row_of as is_known_row, mark_row, row}
-use Rattle.pp_objects.specs.Changes.{is_elsewhere, marked}
-use Rattle.pp_objects.specs.Instances.{Instance, in_slot, is_in_slot, is_life, is_row_of, is_there, row_of}
+use Rattle.pp_objects.specs.Changes.{marked}
+use Rattle.pp_objects.specs.Instances.{Instance, is_in_slot, is_life, is_row_of, is_there, row_of}
 use Rattle.pp_objects.specs.OneRow.{HasOneRow}
 use Rattle.pp_objects.specs.declared.id.ObjectId.{ObjectId}
 

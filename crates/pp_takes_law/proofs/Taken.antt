@@ -1,9 +1,8 @@
 -- A decision that is taken is what the law makes of it, whichever it is.
-use Rattle.std.proofs.Common.{◌≡◌, ◌≤◌, refl, sym, subst, ap, ap₂, ◌∙◌, ℕ, Bool, true, false, ◌&&◌, not, find, length, List, [], Some, None, Option, option_map}
-use Rattle.std.specs.Prelude.{count_by, is_some, option_and_then, slice_get, slice_set}
+use Rattle.std.proofs.Common.{◌≡◌, ◌≤◌, refl, sym, subst, ap, ◌∙◌, ℕ, Bool, true, false, ◌&&◌, not, find, length, List, [], Some, None, Option, option_map}
+use Rattle.std.specs.Prelude.{count_by, is_some, option_and_then, slice_get}
 use Rattle.std.specs.List.{list_any}
 use Rattle.pp_cache.specs.Memory.{Memory}
-use Rattle.pp_cache_law.proofs.Framing.{frames_of, the_same}
 use Rattle.pp_cache_law.proofs.Numbers.{some_is}
 use Rattle.pp_conf.specs.Conf.{Settings}
 use Rattle.pp_client.specs.Requests.{Front as Heading, Nothing, Begun, Asked as IsAsked, Refused, current_of}
@@ -13,22 +12,19 @@ use Rattle.pp_decides_law.proofs.Refused.{refusals}
 use Rattle.pp_decides_law.proofs.Relayed.{relays}
 use Rattle.pp_decides_law.proofs.Sitting.{is_at, shown_at}
 use Rattle.pp_decides_law.specs.Decides.{FollowsWhatIsThere, IsDecided, MayAsk, MayRefuse}
-use Rattle.pp_flow.specs.Changes.{Exchanges}
-use Rattle.pp_flow_law.proofs.Framed.{frames as flow_frames}
 use Rattle.pp_flow_law.specs.Tables.{Leaving}
 use Rattle.pp_follows_law.proofs.Followed.{replies}
 use Rattle.pp_follows_law.proofs.Keyed.{keys_same}
 use Rattle.pp_follows_law.specs.Follows.{MayFollow}
-use Rattle.pp_head.specs.Request.{Request}
 use Rattle.pp_law.specs.After.{take_decision}
 use Rattle.pp_law.specs.Closing.{is_of, is_over}
-use Rattle.pp_law.specs.Connections.{client, exchange, is_client, is_conn}
+use Rattle.pp_law.specs.Connections.{is_client, is_conn}
 use Rattle.pp_law.specs.Deciding.{ask_origin, decided, decided_by, enter_row, follow, is_for_memory, relay, span_of}
 use Rattle.pp_law.specs.Lists.{Bytes}
 use Rattle.pp_law.specs.Replies.{regained}
 use Rattle.pp_law.specs.Requests.{key_in}
-use Rattle.pp_law.specs.State.{State, Client, Conn, Exchange, Instance as Known}
-use Rattle.pp_law.specs.Table.{follows, row, row_on_disk}
+use Rattle.pp_law.specs.State.{State, Client, Conn, Exchange}
+use Rattle.pp_law.specs.Table.{row, row_on_disk}
 use Rattle.pp_objects.specs.Instances.{Instance, is_there, row_of}
 use Rattle.pp_objects.specs.declared.id.ObjectId.{ObjectId}
 use Rattle.pp_peers.specs.declared.peers.Peer.{Peer}
@@ -37,23 +33,19 @@ use Rattle.pp_seats.specs.Heads.{asked_in, owned_in}
 use Rattle.pp_seats.specs.declared.front.Asked.{Asked}
 use Rattle.pp_seats.specs.declared.key.Key.{Key as OwnedKey}
 use Rattle.pp_seats.specs.declared.seat.Seat.{Seat}
-use Rattle.pp_seats_law.specs.Decided.{MayBeDecided}
-use Rattle.pp_states_law.proofs.Asked.{all_as, frames, itself}
 use Rattle.pp_states_law.specs.Decisions.{AsksOnce}
-use Rattle.pp_states_law.specs.States.{Parts as Whole, ShowsState}
 use Rattle.pp_steps.specs.Deciding.{Ask, Does, Takes, accounted, afforded, ask_at, ask_for, ask_for_kind, asks_origin, by_asked, by_front, by_key, by_seat, followed_at, key_for, marked_for, may_ask, may_ask_for, origin_asked}
 use Rattle.pp_steps.specs.Decide.{kind_of}
-use Rattle.pp_steps.specs.Ends.{Parts, parts, source_at, source_of}
-use Rattle.pp_steps.specs.declared.state.State.{State as Turn}
-use Rattle.pp_steps_law.specs.Steps.{ShowsSteps, whole}
+use Rattle.pp_steps.specs.Ends.{Parts, source_of}
+use Rattle.pp_steps_law.specs.Steps.{ShowsSteps}
 use Rattle.pp_target.specs.Key.{Key, text_of}
-use Rattle.pp_valid.specs.declared.version.Version.{Version}
 use Rattle.pp_world.specs.declared.note.Decision.{Decision}
 use Rattle.pp_world.specs.declared.note.Decision.TheVariants.{Refuse, Hit, Part, Head, NotModified, Unsatisfiable, Relay, Validate, Fetch, Pass}
 use Rattle.pp_takes_law.proofs.Accounted.{accounted_as, accounted_is, accounts_show}
 use Rattle.pp_takes_law.proofs.Marked.{IsAsBefore, IsMarked, entered_is, marked_before, marked_by, marked_so, marks_for}
 use Rattle.pp_takes_law.proofs.Moved.{one_known}
-use Rattle.pp_takes_law.specs.Takes.{HasItsRow, MayAskFor, MayDo, MayRelay, TakesAreTheLaws, TakingsRegain, taken}
+use Rattle.pp_takes_law.proofs.Noted.{noted}
+use Rattle.pp_takes_law.specs.Takes.{HasItsRow, MayAskFor, MayDo, TakesAreTheLaws, TakingsRegain}
 
 -- ---- what is asked is as before where the rows are
 
@@ -204,23 +196,6 @@ module _ (number : ℕ → ℕ) (name : Bytes) (l : Leaving) (peers : List Peer)
   takes_so : ShowsSteps number name l peers new (decided c d s)
   unfolding decided
   takes_so = subst (λ (t : State). ShowsSteps number name l peers new (decided_by c d t)) (sym entered_so) (by_kind d refl room may (subst (λ (q : Parts). Does name i d q new) told_is takes_it))
-
--- ---- what was to be noted is not waited for any more
-
-noted_shows : (number : ℕ → ℕ) (name : Bytes) (l : Leaving) (p : Whole) (s : State) → ShowsState number name [] l p s → ShowsState number name [] l p (record s { forgotten = []; has_made_room = false })
-noted_shows number name l p s shows =
-    let t : State = record s { forgotten = []; has_made_room = false } in
-    record {
-      clients = shows.clients;
-      exchanges = flow_frames number l p.flow s shows.exchanges l t (record { exchanges = refl; next = refl; lines = λ k. refl });
-      table =
-          frames_of number p.memory s shows.table p.memory t (record { instances = refl; lives = refl; chunks = refl; extents = refl })
-          (record { instances = refl; made = the_same s.next_instance; chunks = refl; followers = λ k. refl; kept = λ x. refl });
-      conns = frames s t p.peers s.conns (all_as s t (λ k. itself (exchange s k)) s.conns) shows.conns;
-    }
-
-noted : (number : ℕ → ℕ) (name : Bytes) (l : Leaving) (peers : List Peer) (p : Parts) (s : State) → ShowsSteps number name l peers p s → ShowsSteps number name l peers p (record s { forgotten = []; has_made_room = false })
-noted number name l peers p s steps = record { shows = noted_shows number name l (whole p peers) s steps.shows; order = steps.order; told = steps.told; refused = steps.refused }
 
 -- ---- where there is no memory to ask, it is a refusal
 

@@ -15,6 +15,7 @@ use Rattle.pp_seats.specs.declared.key.Key.{Key}
 use Rattle.pp_seats.specs.declared.seat.Seat.{Seat}
 use Rattle.pp_steps.specs.Deciding.{Takes, afforded, ask_at}
 use Rattle.pp_steps.specs.Ends.{Parts, parts}
+use Rattle.pp_steps.specs.Entering.{refused_at}
 use Rattle.pp_steps.specs.declared.state.State.{State as Turn}
 use Rattle.pp_steps_law.specs.Steps.{OfSteps, ShowsSteps}
 use Rattle.pp_world.specs.declared.note.Decision.{Decision}
@@ -62,6 +63,11 @@ taken c d s = record (decided c d s) { forgotten = []; has_made_room = false }
 abbrev pub TakesAreTheLaws : Type 0
 TakesAreTheLaws = OfSteps (λ number name l peers p s. (turn : Turn) (i : ℕ) (due : Decision) (seat : Seat) (c : Client) (new : Parts) → parts turn ≡ p → IsDecided i p s seat c → HasItsRow (afforded i due turn) s seat → MayDo name i (afforded i due turn) p s seat c
     → Takes name i (afforded i due turn) p new → ShowsSteps number name l peers new (taken c (afforded i due turn) s))
+
+-- where memory is refused for the kept row of its key, none comes in, and the request is refused, whatever its exchange brought
+abbrev pub RefusedRowsAreTheLaws : Type 0
+RefusedRowsAreTheLaws = OfSteps (λ number name l peers p s. (i : ℕ) (seat : Seat) (c : Client) (new : Parts) → IsDecided i p s seat c → MayRefuse i 500 p seat → Takes name i (Refuse 500) (record p { seats = refused_at i p.seats }) new
+    → ShowsSteps number name l peers new (taken c (Refuse 500) s))
 
 -- they do behind it
 abbrev pub TakingsRegain : Type 0
