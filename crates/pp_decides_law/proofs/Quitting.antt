@@ -73,7 +73,7 @@ module _ (number : ℕ → ℕ) (name : Bytes) (owed : List Bytes) (n i : ℕ) (
 is_counted : (b k : ℕ) (f : ℕ) → f ≡ b → b ≡ k + 1 → nat_lt 0 f ≡ true
 is_counted b k f same more = grind (arith, nat_tests, same, more)
 
-less_is : (number : ℕ → ℕ) (m : Memory) (s : State) (id : ObjectId) (cs : List Client) → ShowsCache number m s → is_there id m.instances ≡ true → IsFollowedToo (number id.life) cs s.clients → unfollowed id m ≡ followed_less id m
+pub less_is : (number : ℕ → ℕ) (m : Memory) (s : State) (id : ObjectId) (cs : List Client) → ShowsCache number m s → is_there id m.instances ≡ true → IsFollowedToo (number id.life) cs s.clients → unfollowed id m ≡ followed_less id m
 less_is number m s id cs shows there less = by (is_there id m.instances) (nat_lt 0 (followers_of (in_slot id.slot m.instances))) there counted
   where
     one : IsFound number m s id

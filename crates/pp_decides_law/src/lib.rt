@@ -5,8 +5,8 @@
 //! for the exchange that begins; and a response that is passed is its reply.
 //!
 //! To the layer above: each equation is the clause of a function that does nothing. It is one part of the proof that the program
-//! obeys the law: a reply by the row of its key is not said here, and that a kept row is in memory before is for the entering of
-//! rows. The words of the program stand in `pp_steps`, which says of each function which it computes.
+//! obeys the law: a reply by the row of its key is said in `pp_follows_law`, all decisions at once in `pp_takes_law`, and that a kept
+//! row is in memory before is for the entering of rows. The words of the program stand in `pp_steps`, which says of each function which it computes.
 //!
 //! Takes no memory, and does nothing when the program runs.
 #![tactic(auto)]

@@ -1,0 +1,4 @@
+pub mod Followed
+pub mod Keyed
+pub mod Standing
+pub mod Useless
