@@ -1,0 +1,11 @@
+pub mod Dropped
+pub mod Gone
+pub mod Leaving
+pub mod Orderly
+pub mod Own
+pub mod Peers
+pub mod Quit
+pub mod Seen
+pub mod Shut
+pub mod Standing
+pub mod Withdrawn
