@@ -20,16 +20,16 @@ use Rattle.pp_closings_law.proofs.Dropped.{drops}
 use Rattle.pp_closings_law.specs.Sides.{ShowsSides}
 use Rattle.pp_closings_law.specs.Unseen.{DropsAreTheLaws, Tells}
 
-abbrev dropped_if : Conn → State → Exchange → Bool → State
+abbrev pub dropped_if : Conn → State → Exchange → Bool → State
 dropped_if k s e b = elim b as (λ t. State) [ true ↦ close_conn false k (end_exchange e.number s) | false ↦ s ]
 
-abbrev dropped_first : Conn → State → Option Exchange → State
+abbrev pub dropped_first : Conn → State → Option Exchange → State
 dropped_first k s o = elim o as (λ t. State) [ None ↦ s | Some e ↦ dropped_if k s e (is_unseen s k e) ]
 
-abbrev dropped_line : Conn → State → List ℕ → State
+abbrev pub dropped_line : Conn → State → List ℕ → State
 dropped_line k s line = dropped_first k s (elim line as (λ t. Option Exchange) [ [] ↦ None | m ∷ others ↦ exchange s m ])
 
-abbrev unseen_line : ℕ → Sides → List ℕ → Sides
+abbrev pub unseen_line : ℕ → Sides → List ℕ → Sides
 unseen_line n x line = unseen_dropped n (unseen_of x.parts.seats x.parts.flow (slice_get line 0)) x
 
 module _ (number : ℕ → ℕ) (name : Bytes) (x : Sides) (s : State) (shows : ShowsSides number name x s) (n : ℕ) (k : Conn) (there : conn s n ≡ Some k) (tells : Tells x s) where
@@ -55,7 +55,7 @@ module _ (number : ℕ → ℕ) (name : Bytes) (x : Sides) (s : State) (shows : 
   by_line [] is = shows
   by_line (m ∷ others) is = by_entry m others is (entry_of m x.parts.flow) (exchange s m) refl refl (shows.steps.shows.exchanges.each m)
 
-  line_is : line_of n x.parts.flow.placed ≡ k.line
+  pub line_is : line_of n x.parts.flow.placed ≡ k.line
   line_is = shows.steps.shows.exchanges.lines n ∙ ap (λ (o : Option Conn). line_in o) there
 
 pub drops_on : DropsAreTheLaws

@@ -19,4 +19,4 @@ mod seeing; // what nobody will see is not read on
 
 pub use clients::clients_are_the_laws;
 pub use closing::connections_are_the_laws;
-pub use seeing::drops_are_the_laws;
+pub use seeing::unseen_ones_are_dropped_as_the_laws;
