@@ -1,0 +1,16 @@
+pub mod AllSeen
+pub mod Dropped
+pub mod Following
+pub mod Gone
+pub mod Leaving
+pub mod Orderly
+pub mod Over
+pub mod Own
+pub mod Peers
+pub mod Quit
+pub mod Seen
+pub mod Shut
+pub mod Standing
+pub mod Still
+pub mod Watched
+pub mod Withdrawn

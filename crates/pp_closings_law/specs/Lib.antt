@@ -1,0 +1,4 @@
+pub mod Clients
+pub mod Connections
+pub mod Sides
+pub mod Unseen
