@@ -3,5 +3,7 @@ pub mod ClosingLemmas
 pub mod DiskLemmas
 pub mod HeadLimits
 pub mod OriginLemmas
+pub mod PeersLemmas
 pub mod PlaceLemmas
+pub mod ReplyLemmas
 pub mod ShuttingLemmas

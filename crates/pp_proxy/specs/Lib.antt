@@ -1,5 +1,9 @@
 pub mod Anything
 pub mod Closings
+pub mod Kept
+pub mod Marks
 pub mod Origins
+pub mod Replies
+pub mod Rests
 pub mod Shutting
 pub mod Turns

@@ -10,16 +10,9 @@ ghost use Rattle.pp_world.specs.Log.{Told};
 use crate::desk::Desk;
 use pp_client::Client;
 use pp_links::Links;
-use pp_peers::Peer;
 use pp_seats::{Account, Seat};
 use pp_shelf::Shelf;
 use pp_world::{Event, Source, World};
-
-/// Ours: an origin that did nothing for so many seconds while it was waited for is given up: one that owes an
-/// answer, and any other.
-const ANSWER_SECONDS: u64 = 300;
-
-const IDLE_SECONDS: u64 = 60;
 
 /// Ours: a tick that comes so many seconds behind the last one, as long as a client may be idle, tells of a computer
 /// that was asleep.
@@ -95,19 +88,6 @@ impl Desk {
         }
     }
 
-    /// The connection is not idle.
-    fn touch(&mut self, id: u64) {
-        let now = self.state.now;
-        if let Some(i) = self.state.seat_of(id) {
-            if let Some(seat) = self.state.seats.get_mut(i) {
-                seat.client.set_mark(now);
-            }
-        }
-        if let Some(peer) = self.peers.get_mut(id) {
-            peer.mark = now;
-        }
-    }
-
     /// The clock never goes back. The first tick of a life, and one that leaps, mark all: each waits its patience
     /// anew from there.
     fn tick(&mut self, seconds: u64) {
@@ -121,55 +101,12 @@ impl Desk {
         self.state.is_ticked = true;
         self.state.wake();
         self.state.has_lost_draft = false;
-        for _peer in 0..self.peers.len() {
-            let Some(k) = self.idle_origin() else {
-                break;
-            };
-            self.end_patience(k);
-            self.close_origin(k, true);
-        }
+        self.close_idle();
     }
 
     fn is_leap(&self, now: u64) -> bool
         ensures { result ≡ is_leap now self.now.state.has_ticked self.now.state.now }
     {
         !self.state.has_ticked || LEAP_SECONDS <= now.saturating_sub(self.state.now)
-    }
-
-    fn mark_all(&mut self, now: u64) {
-        for seat in self.state.seats.iter_mut() {
-            seat.client.set_mark(now);
-        }
-        for place in 0..self.peers.len() {
-            let Some(peer) = self.peers.at_mut(place) else {
-                break;
-            };
-            peer.mark = now;
-        }
-    }
-
-    /// One that is idle, and not given up yet.
-    fn idle_origin(&self) -> Option<u64> {
-        let idle = self
-            .peers
-            .as_slice()
-            .iter()
-            .find(|peer| self.is_idle(peer))?;
-        Some(idle.number)
-    }
-
-    fn is_idle(&self, peer: &Peer) -> bool {
-        let patience = match self.state.owed_answer(peer.number) {
-            None => IDLE_SECONDS,
-            Some(_) => ANSWER_SECONDS,
-        };
-        peer.has_waited && patience <= self.state.now.saturating_sub(peer.mark) && !peer.is_closing
-    }
-
-    /// What the origin did not answer is not asked again.
-    fn end_patience(&mut self, k: u64) {
-        if let Some(e) = self.state.owed_answer(k) {
-            self.state.fail(&e);
-        }
     }
 }
