@@ -1,8 +1,23 @@
--- What a wait changes of the connections to origins (ours).
-use Rattle.std.specs.Prelude.{ℕ, Bool, ◌&&◌, ◌||◌, not, cond, drop}
+-- What a wait changes (ours).
+use Rattle.std.specs.Prelude.{ℕ, Bool, ◌&&◌, ◌||◌, not, cond, drop, List}
+use Rattle.std.specs.List.{fold}
 use Rattle.pp_peers.specs.declared.peers.Peer.{Peer}
+use Rattle.pp_seats.specs.declared.seat.Seat.{Seat}
+use Rattle.pp_steps.specs.Ends.{changed_at}
+use Rattle.pp_steps.specs.Waits.{rested_seat}
+use Rattle.pp_steps.specs.declared.state.State.{State}
 use Rattle.pp_world.specs.Wire.{has_number}
 use Rattle.pp_world.specs.declared.event.Wants.{Wants}
+
+-- ---- clients: of those that are looked at each waits for the exchange that it shares
+
+abbrev pub rested_at : State → List Seat → ℕ → List Seat
+rested_at s seats i = changed_at i (rested_seat s) seats
+
+abbrev pub all_waiting : State → List Seat
+all_waiting s = fold (rested_at s) s.seats.items s.awake.items
+
+-- ---- connections to origins
 
 -- of those that are read, so many are clients: they come first
 abbrev pub is_waited_for : ℕ → Wants → Peer → Bool

@@ -3,7 +3,7 @@ ghost use Rattle.std.specs.Prelude.{◌≡◌, map};
 ghost use Rattle.std.specs.List.{find};
 ghost use Rattle.pp_peers.specs.Peers.{is_number};
 ghost use Rattle.pp_proxy.specs.Closings.{KeepsDesk, sides};
-ghost use Rattle.pp_proxy.specs.Marks.{all_marked, marked_on, marked_peer, marked_seat, on_peer_at, touched};
+ghost use Rattle.pp_proxy.specs.Marks.{marked_on, marked_peer, marked_peers, marked_seat, marked_seats, on_peer_at, touched};
 ghost use Rattle.pp_steps.specs.Ends.{changed_at, AreSeated};
 
 use crate::desk::Desk;
@@ -23,13 +23,16 @@ impl Desk {
         mark_on(&mut self.peers, id, now);
     }
 
-    /// Each waits its patience anew from there.
-    pub(crate) fn mark_all(&mut self, now: u64)
-        ensures is { sides self.new ≡ all_marked now (sides self.old) }
-        ensures rest { KeepsDesk self.old self.new }
+    /// Where the clock leaps, each waits its patience anew from there.
+    pub(crate) fn mark_where(&mut self, leaps: bool, now: u64)
+        ensures seats { self.new.state.seats.items ≡ marked_seats leaps now self.old.state.seats.items }
+        ensures peers { self.new.peers ≡ marked_peers leaps now self.old.peers }
+        ensures rest { record self.new { state = record self.new.state { seats = self.old.state.seats }; peers = self.old.peers } ≡ self.old }
     {
-        mark_seats(&mut self.state.seats, now);
-        mark_peers(&mut self.peers, now);
+        if leaps {
+            mark_seats(&mut self.state.seats, now);
+            mark_peers(&mut self.peers, now);
+        }
     }
 }
 
