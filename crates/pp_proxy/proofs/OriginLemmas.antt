@@ -1,5 +1,5 @@
 -- One after the other is looked at: clients at their places, or connections by their numbers.
-use Rattle.std.proofs.Common.{◌≡◌, ◌≤◌, ◌+◌, ℕ, zero, suc, List, [], ◌∷◌, length, take, slice_get, Option, Some, None, add-one, refl, sym, ◌∙◌, ap, subst, arith}
+use Rattle.std.proofs.Common.{◌≡◌, ◌≤◌, ◌+◌, ℕ, zero, suc, List, [], ◌∷◌, length, take, slice_get, Option, add-one, refl, sym, ◌∙◌, ap, subst, arith}
 use Rattle.std.specs.List.{fold}
 use Rattle.pp_peers.specs.declared.peers.Peer.{Peer}
 use Rattle.pp_proxy.specs.Closings.{KeepsDesk, Sides, peer_numbers, sides, where_there}
@@ -7,7 +7,7 @@ use Rattle.pp_proxy.specs.declared.desk.Desk.{Desk}
 use Rattle.pp_steps.specs.Ends.{AreInOrder, AreSeated, numbers_of}
 use Rattle.pp_proxy.proofs.ClosingLemmas.{kept_then}
 
-folded_next : (step : Sides → ℕ → Sides) (x : Sides) (ns : List ℕ) (i : ℕ) → fold step x (take (suc i) ns) ≡ where_there step (fold step x (take i ns)) (slice_get ns i)
+pub folded_next : {A : Type 0} (step : A → ℕ → A) (x : A) (ns : List ℕ) (i : ℕ) → fold step x (take (suc i) ns) ≡ where_there step (fold step x (take i ns)) (slice_get ns i)
 folded_next step x [] zero = refl
 folded_next step x [] (suc i) = refl
 folded_next step x (n ∷ ns) zero = refl
@@ -29,7 +29,7 @@ done_next step ns i n old mid new before at now numbers rest = record {
   rest = kept_then old mid new before.rest rest;
 }
 
-whole : (ns : List ℕ) (i : ℕ) → length ns ≤ i → take i ns ≡ ns
+pub whole : (ns : List ℕ) (i : ℕ) → length ns ≤ i → take i ns ≡ ns
 whole [] zero all = refl
 whole [] (suc i) all = refl
 whole (n ∷ ns) zero all = absurd (omega (arith, all))

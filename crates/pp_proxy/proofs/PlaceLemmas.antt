@@ -1,5 +1,5 @@
 -- Where an exchange stands in a line, place by place.
-use Rattle.std.proofs.Common.{◌≡◌, ◌≢◌, ◌<◌, ◌≤◌, ◌+◌, ℕ, zero, suc, eqb, Bool, true, false, cond, List, [], ◌∷◌, length, map, filter, take, slice_get, Option, Some, None, option_map, add-one, refl, sym, ap, ◌∙◌, arith}
+use Rattle.std.proofs.Common.{◌≡◌, ◌≢◌, ◌≤◌, ◌+◌, ℕ, zero, suc, eqb, Bool, true, false, cond, List, [], ◌∷◌, length, map, filter, take, slice_get, Option, Some, None, option_map, add-one, refl, sym, ap, ◌∙◌, arith}
 use Rattle.std.proofs.lemmas.Bool.Decides.{nat_tests}
 use Rattle.pp_flow.specs.Changes.{is_on, line_of}
 use Rattle.pp_flow.specs.declared.entry.Entry.{Entry}

@@ -28,7 +28,7 @@ abbrev pub KeepsDesk : Desk → Desk → Type 0
 KeepsDesk old new = record new { state = record new.state { seats = old.state.seats; flow = old.state.flow; cache = old.state.cache; refused = old.state.refused }; peers = old.peers } ≡ old
 
 -- one after the other, where it is there
-abbrev pub where_there : (Sides → ℕ → Sides) → Sides → Option ℕ → Sides
+abbrev pub where_there : {A : Type 0} → (A → ℕ → A) → A → Option ℕ → A
 where_there step x None = x
 where_there step x (Some n) = step x n
 

@@ -2,8 +2,9 @@
 ghost use Rattle.std.specs.Prelude.{◌≡◌, ◌≤◌, ◌*◌, ◌↔◌, IfNone, IfOk, IfSome, IsSome, is_some, length, None};
 ghost use Rattle.pp_links.specs.Links.{IsLinked};
 ghost use Rattle.pp_proxy.specs.Anything.{anything};
+ghost use Rattle.pp_proxy.specs.Kept.{IsWithdrawn};
 ghost use Rattle.pp_shelf.specs.Given.{MayBeDrafted, is_more_of, keeps_byte};
-ghost use Rattle.pp_shelf.specs.Steady.{GrowsSteadily};
+ghost use Rattle.pp_shelf.specs.Steady.{GrowsOnDisk, GrowsSteadily};
 ghost use Rattle.pp_store.specs.Changes.{entry_with, extended_after, loaded_after};
 ghost use Rattle.pp_store.specs.Held.{Holds};
 ghost use Rattle.pp_store.specs.Kept.{kept_of};
@@ -91,7 +92,9 @@ pub(crate) fn seal<W: World>(
 pub(crate) fn withdraw<W: World>(_links: &Links, shelf: &mut Shelf, world: &mut W, key: &[u8])
     requires linked { IsLinked (W.log world.old) (W.top world.old) _links.now }
     requires holds { Told (W.log world.old) (Holds anything shelf.old) }
+    ensures map { IsWithdrawn key.now shelf.old shelf.new }
     ensures gone { kept_of key.now shelf.new ≡ None }
+    ensures grows { GrowsOnDisk (W.log world.old) (W.log world.new) }
     ensures linked { IsLinked (W.log world.new) (W.top world.new) _links.now }
     ensures holds { Told (W.log world.new) (Holds anything shelf.new) }
     ensures steady { GrowsSteadily (W.log world.old) (W.log world.new) }

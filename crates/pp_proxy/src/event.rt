@@ -1,7 +1,12 @@
 // Step 1: the event, with at most one read or one write.
-ghost use Rattle.std.specs.Prelude.{◌≡◌};
+ghost use Rattle.std.specs.Prelude.{◌≡◌, ◌≤◌, ◌⊎◌, true, false, length, map, max, vec_capacity, IfSome, Some};
+ghost use Rattle.pp_proxy.specs.Accepting.{newcomer, IsAccepted, IsSeated, IsTurnedAway};
 ghost use Rattle.pp_links.specs.Links.{IsLinked};
+ghost use Rattle.pp_proxy.specs.Closings.{sides};
+ghost use Rattle.pp_proxy.specs.Marks.{ticked};
+ghost use Rattle.pp_steps.specs.Ends.{AreSeated};
 ghost use Rattle.pp_steps.specs.Patience.{is_leap};
+ghost use Rattle.pp_steps.specs.Waits.{places, woken_seat};
 ghost use Rattle.pp_shelf.specs.Steady.{GrowsSteadily};
 ghost use Rattle.pp_proxy.specs.Anything.{anything};
 ghost use Rattle.pp_store.specs.Held.{Holds};
@@ -10,16 +15,10 @@ ghost use Rattle.pp_world.specs.Log.{Told};
 use crate::desk::Desk;
 use pp_client::Client;
 use pp_links::Links;
-use pp_peers::Peer;
 use pp_seats::{Account, Seat};
 use pp_shelf::Shelf;
+use pp_steps::State;
 use pp_world::{Event, Source, World};
-
-/// Ours: an origin that did nothing for so many seconds while it was waited for is given up: one that owes an
-/// answer, and any other.
-const ANSWER_SECONDS: u64 = 300;
-
-const IDLE_SECONDS: u64 = 60;
 
 /// Ours: a tick that comes so many seconds behind the last one, as long as a client may be idle, tells of a computer
 /// that was asleep.
@@ -78,16 +77,33 @@ impl Desk {
         }
     }
 
-    fn accept(&mut self, c: u64) {
-        let Ok(client) = Client::new(self.state.alloc, c, self.state.now) else {
-            self.turned_away = Some(c);
-            return;
-        };
-        let place = self.state.seats.len();
+    /// A client has come. Where there is no memory for it, it is turned away.
+    fn accept(&mut self, c: u64)
+        ensures { IsAccepted c self.old self.new }
+    {
+        match self.newcomer(c) {
+            None => self.turned_away = Some(c),
+            Some(seat) => self.take_seat(c, seat),
+        }
+    }
+
+    /// Its seat, where there is memory for it.
+    fn newcomer(&self, c: u64) -> Option<Seat>
+        ensures { IfSome result (λ seat. seat ≡ newcomer c self.entry.now) }
+    {
+        let client = Client::new(self.state.alloc, c, self.state.now).ok()?;
         let mut seat = Seat::new(client);
         if self.logs_replies {
             seat.account = Account::Due(Source::Hit);
         }
+        Some(seat)
+    }
+
+    /// It is the last, and is looked at.
+    fn take_seat(&mut self, c: u64, seat: Seat)
+        ensures { IsSeated seat self.old self.new ⊎ IsTurnedAway c self.old self.new }
+    {
+        let place = self.state.seats.len();
         if self.state.seats.push(seat).is_err() {
             self.turned_away = Some(c);
         } else {
@@ -95,39 +111,17 @@ impl Desk {
         }
     }
 
-    /// The connection is not idle.
-    fn touch(&mut self, id: u64) {
-        let now = self.state.now;
-        if let Some(i) = self.state.seat_of(id) {
-            if let Some(seat) = self.state.seats.get_mut(i) {
-                seat.client.set_mark(now);
-            }
-        }
-        if let Some(peer) = self.peers.get_mut(id) {
-            peer.mark = now;
-        }
-    }
-
     /// The clock never goes back. The first tick of a life, and one that leaps, mark all: each waits its patience
     /// anew from there.
-    fn tick(&mut self, seconds: u64) {
+    fn tick(&mut self, seconds: u64)
+        ensures is { AreSeated self.old.state → sides self.new ≡ ticked (max self.old.state.now seconds) self.old.state (sides self.old) }
+        ensures awake { length self.old.state.seats.items ≤ vec_capacity self.old.state.awake → self.new.state.awake.items ≡ places (length self.old.state.seats.items) }
+        ensures rest { record self.new { state = record self.new.state { seats = self.old.state.seats; flow = self.old.state.flow; cache = self.old.state.cache; refused = self.old.state.refused; awake = self.old.state.awake }; peers = self.old.peers } ≡ record self.old { state = record self.old.state { now = max self.old.state.now seconds; has_ticked = true; is_ticked = true; has_lost_draft = false } } }
+    {
         let now = self.state.now.max(seconds);
-        if self.is_leap(now) {
-            self.state.has_ticked = true;
-            self.mark_all(now);
-        }
-        self.state.renew_marks(now);
-        self.state.now = now;
-        self.state.is_ticked = true;
-        self.state.wake();
-        self.state.has_lost_draft = false;
-        for _peer in 0..self.peers.len() {
-            let Some(k) = self.idle_origin() else {
-                break;
-            };
-            self.end_patience(k);
-            self.close_origin(k, true);
-        }
+        self.mark_where(self.is_leap(now), now);
+        begin_second(&mut self.state, now);
+        self.close_idle();
     }
 
     fn is_leap(&self, now: u64) -> bool
@@ -135,41 +129,18 @@ impl Desk {
     {
         !self.state.has_ticked || LEAP_SECONDS <= now.saturating_sub(self.state.now)
     }
+}
 
-    fn mark_all(&mut self, now: u64) {
-        for seat in self.state.seats.iter_mut() {
-            seat.client.set_mark(now);
-        }
-        for place in 0..self.peers.len() {
-            let Some(peer) = self.peers.at_mut(place) else {
-                break;
-            };
-            peer.mark = now;
-        }
-    }
-
-    /// One that is idle, and not given up yet.
-    fn idle_origin(&self) -> Option<u64> {
-        let idle = self
-            .peers
-            .as_slice()
-            .iter()
-            .find(|peer| self.is_idle(peer))?;
-        Some(idle.number)
-    }
-
-    fn is_idle(&self, peer: &Peer) -> bool {
-        let patience = match self.state.owed_answer(peer.number) {
-            None => IDLE_SECONDS,
-            Some(_) => ANSWER_SECONDS,
-        };
-        peer.has_waited && patience <= self.state.now.saturating_sub(peer.mark) && !peer.is_closing
-    }
-
-    /// What the origin did not answer is not asked again.
-    fn end_patience(&mut self, k: u64) {
-        if let Some(e) = self.state.owed_answer(k) {
-            self.state.fail(&e);
-        }
-    }
+/// Who waited for an exchange is not idle, and all are looked at.
+fn begin_second(state: &mut State, now: u64)
+    ensures seats { state.new.seats.items ≡ map (woken_seat now state.old) state.old.seats.items }
+    ensures awake { length state.old.seats.items ≤ vec_capacity state.old.awake → state.new.awake.items ≡ places (length state.old.seats.items) }
+    ensures rest { record state.new { seats = state.old.seats; awake = state.old.awake } ≡ record state.old { now = now; has_ticked = true; is_ticked = true; has_lost_draft = false } }
+{
+    state.renew_marks(now);
+    state.now = now;
+    state.has_ticked = true;
+    state.is_ticked = true;
+    state.has_lost_draft = false;
+    state.wake();
 }

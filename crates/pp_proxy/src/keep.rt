@@ -1,7 +1,10 @@
 // Step 3: what stands no more is taken off the disk, and what is whole is kept there.
+ghost use Rattle.std.specs.Prelude.{◌≡◌, option_map, Some};
 ghost use Rattle.pp_links.specs.Links.{IsLinked};
-ghost use Rattle.pp_shelf.specs.Steady.{GrowsSteadily};
+ghost use Rattle.pp_links.specs.Quiet.{GrowsBy};
+ghost use Rattle.pp_shelf.specs.Steady.{GrowsSteadily, IsOnDisk};
 ghost use Rattle.pp_proxy.specs.Anything.{anything};
+ghost use Rattle.pp_proxy.specs.Kept.{gone_of, key_under, unkept, unkept_of, with_room, IsTakenAway, IsWithdrawn};
 ghost use Rattle.pp_store.specs.Held.{Holds};
 ghost use Rattle.pp_world.specs.Log.{Told};
 
@@ -9,6 +12,7 @@ use crate::desk::Desk;
 use crate::disk::withdraw;
 use crate::run::{Kept, Run};
 use arrayvec::ArrayVec;
+use pp_cache::Cache;
 use pp_links::Links;
 use pp_objects::ObjectId;
 use pp_shelf::Shelf;
@@ -52,7 +56,7 @@ impl Desk {
     }
 
     /// The entry under this name is noted as gone, and taken away. It may be of a row that stands: another key took its name.
-    #[tactic(auto, using(crate::proofs::DiskLemmas::holds_quietly, pp_shelf::proofs::SteadyLemmas::steady_none, pp_shelf::proofs::SteadyLemmas::quiet_then_steady))]
+    #[tactic(auto, using(crate::proofs::DiskLemmas::not_taken, pp_shelf::proofs::SteadyLemmas::steady_none))]
     fn take_away<W: World>(
         &mut self,
         links: &mut Links,
@@ -64,19 +68,15 @@ impl Desk {
         requires holds { Told (W.log world.old) (Holds anything shelf.old) }
         ensures linked { IsLinked (W.log world.new) (W.top world.new) links.new }
         ensures holds { Told (W.log world.new) (Holds anything shelf.new) }
+        ensures told { GrowsBy (gone_of (key_under name.now shelf.old)) IsOnDisk (W.log world.old) (W.log world.new) }
         ensures steady { GrowsSteadily (W.log world.old) (W.log world.new) }
+        ensures shelf { IsTakenAway (key_under name.now shelf.old) shelf.old shelf.new }
+        ensures memory { self.new.state.cache ≡ unkept_of (key_under name.now shelf.old) self.old.state.cache }
+        ensures rest { record self.new { state = record self.new.state { cache = self.old.state.cache } } ≡ self.old }
     {
-        let mut key: ArrayVec<u8, KEY_ROOM> = ArrayVec::new();
-        match shelf.under(name) {
-            None => return,
-            Some(view) => {
-                let _ = key.try_extend_from_slice(view.key);
-            }
-        }
-        links.note(world, &Note::Gone(key.as_slice()));
-        withdraw(links, shelf, world, key.as_slice());
-        if let Some(id) = self.state.cache.current(key.as_slice()) {
-            self.state.cache.keep_to(id, 0);
+        if let Some(key) = key_under(shelf, name) {
+            take_key_away(links, shelf, world, key.as_slice());
+            note_gone(&mut self.state.cache, key.as_slice());
         }
     }
 
@@ -124,5 +124,45 @@ impl Desk {
                 None
             }
         }
+    }
+}
+
+/// The key of the entry that is kept under this name.
+fn key_under(shelf: &Shelf, name: &Name) -> Option<ArrayVec<u8, KEY_ROOM>>
+    ensures { option_map (λ key. key.items) result ≡ key_under name.now shelf.now }
+{
+    let view = shelf.under(name)?;
+    Some(with_room(view.key))
+}
+
+fn with_room(key: &[u8]) -> ArrayVec<u8, KEY_ROOM>
+    ensures { result.items ≡ with_room key.now }
+{
+    let mut copy = ArrayVec::new();
+    let _ = copy.try_extend_from_slice(key);
+    copy
+}
+
+/// The entry of this key is noted as gone, and taken off the disk.
+#[tactic(auto, using(crate::proofs::DiskLemmas::holds_quietly))]
+fn take_key_away<W: World>(links: &Links, shelf: &mut Shelf, world: &mut W, key: &[u8])
+    requires linked { IsLinked (W.log world.old) (W.top world.old) links.now }
+    requires holds { Told (W.log world.old) (Holds anything shelf.old) }
+    ensures linked { IsLinked (W.log world.new) (W.top world.new) links.now }
+    ensures holds { Told (W.log world.new) (Holds anything shelf.new) }
+    ensures told { GrowsBy (gone_of (Some key.now)) IsOnDisk (W.log world.old) (W.log world.new) }
+    ensures steady { GrowsSteadily (W.log world.old) (W.log world.new) }
+    ensures map { IsWithdrawn key.now shelf.old shelf.new }
+{
+    links.note(world, &Note::Gone(key));
+    withdraw(links, shelf, world, key);
+}
+
+/// Nothing is kept of the row of this key.
+fn note_gone(cache: &mut Cache, key: &[u8])
+    ensures { cache.new ≡ unkept key.now cache.old }
+{
+    if let Some(id) = cache.current(key) {
+        cache.keep_to(id, 0);
     }
 }

@@ -1,6 +1,9 @@
 use Rattle.pp_shelf.proofs.SteadyLemmas.{disk_is_steady, linked_on_disk}
-use Rattle.pp_proxy.proofs.DiskLemmas.{gone_once}
+use Rattle.pp_proxy.proofs.DiskLemmas.{gone_once, withdrawn_once}
 use Rattle.pp_proxy.proofs.disk.withdraw.Goals as goal
+
+pub returns-clause-map : goal.returns-clause-map
+returns-clause-map g c = withdrawn_once c.withdraw.result c.args.key.now c.args.shelf.now c.withdraw.new.self c.withdraw.ensures.answered c.withdraw.ensures.none c.withdraw.ensures.map
 
 pub returns-clause-gone : goal.returns-clause-gone
 returns-clause-gone g c = gone_once c.withdraw.result c.args.key.now c.args.shelf.now c.withdraw.new.self c.withdraw.ensures.answered c.withdraw.ensures.none c.withdraw.ensures.map
