@@ -3,7 +3,7 @@ use Rattle.std.proofs.Common.{◌≡◌, ◌≤◌, refl, ap, ap₂, ◌∙◌, 
 use Rattle.std.proofs.lemmas.Bool.Decides.{nat_tests}
 use Rattle.std.specs.List.{cons_option, filter_map, list_any}
 use Rattle.std.specs.Prelude.{option_map}
-use Rattle.pp_brings_law.proofs.All.{any_alike}
+use Rattle.pp_turns_law.proofs.AllCome.{any_alike}
 use Rattle.pp_cache_law.proofs.Numbers.{same_test}
 use Rattle.pp_cache_law.specs.Reads.{AreBusy}
 use Rattle.pp_cache_law.specs.Tables.{ShowsInstance}

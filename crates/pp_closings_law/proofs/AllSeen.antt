@@ -1,8 +1,8 @@
 -- What nobody will see is dropped on all connections, one behind the other.
 use Rattle.std.proofs.Common.{◌≡◌, refl, sym, subst, ap, ap₂, ◌∙◌, ℕ, Bool, true, false, ◌||◌, cond, find, map, List, [], ◌∷◌, Some, None, Option}
 use Rattle.std.specs.List.{fold}
-use Rattle.pp_brings_law.proofs.Unseen.{unseen}
-use Rattle.pp_brings_law.specs.Unseen.{IsCounted}
+use Rattle.pp_turns_law.proofs.Unseen.{unseen}
+use Rattle.pp_turns_law.specs.Unseen.{IsCounted}
 use Rattle.pp_cache_law.specs.Pairs.{AreBoth}
 use Rattle.pp_flow.specs.Changes.{entry_of}
 use Rattle.pp_flow.specs.declared.entry.Entry.{Entry}

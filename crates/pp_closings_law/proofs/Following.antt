@@ -1,7 +1,7 @@
 -- What clients follow is read of what comes next to each, and of their replies, alone.
 use Rattle.std.proofs.Common.{◌≡◌, sym, subst, ℕ, true, find, map, List, [], ◌∷◌, Some, Option}
 use Rattle.std.specs.Prelude.{IfSome, ⊤}
-use Rattle.pp_brings_law.specs.Unseen.{AreFollowing}
+use Rattle.pp_turns_law.specs.Unseen.{AreFollowing}
 use Rattle.pp_cache.specs.Memory.{Memory}
 use Rattle.pp_law.specs.Stages.{reply_of}
 use Rattle.pp_law.specs.State.{State, Client, Instance, Reply}

@@ -1,7 +1,7 @@
 -- What nobody will see of the first exchange of a line.
 use Rattle.std.proofs.Common.{◌≡◌, refl, sym, subst, ap, ◌∙◌, ℕ, Bool, true, false, ◌||◌, cond, List, [], ◌∷◌, Some, None, Option}
 use Rattle.std.specs.Prelude.{slice_get}
-use Rattle.pp_brings_law.proofs.Unseen.{unseen}
+use Rattle.pp_turns_law.proofs.Unseen.{unseen}
 use Rattle.pp_cache_law.specs.Pairs.{AreBoth}
 use Rattle.pp_flow.specs.Changes.{entry_of, line_of}
 use Rattle.pp_flow.specs.declared.entry.Entry.{Entry}

@@ -1,6 +1,6 @@
 -- What nobody will see is not read on: its connection is closed, and the others of its line are asked elsewhere (RFC 2616, section 8.1.4).
 use Rattle.std.specs.Prelude.{◌≡◌, ℕ, true, Some}
-use Rattle.pp_brings_law.specs.Unseen.{AreFollowing, IsCounted}
+use Rattle.pp_turns_law.specs.Unseen.{AreFollowing, IsCounted}
 use Rattle.pp_flow.specs.Changes.{Exchanges, entry_of}
 use Rattle.pp_flow.specs.declared.entry.Entry.{Entry}
 use Rattle.pp_law.specs.Connections.{conn}

@@ -4,8 +4,8 @@ use Rattle.std.specs.List.{cons_option, filter_map, list_any}
 use Rattle.std.specs.Prelude.{IfSome, option_and_then, option_map}
 use Rattle.std.proofs.lemmas.List.{length-append, take_all}
 use Rattle.std.proofs.lemmas.Bool.Decides.{nat_tests}
-use Rattle.pp_brings_law.specs.Unseen.{AreFollowing}
-use Rattle.pp_brings_law.proofs.All.{any_alike}
+use Rattle.pp_turns_law.specs.Unseen.{AreFollowing}
+use Rattle.pp_turns_law.proofs.AllCome.{any_alike}
 use Rattle.pp_cache.specs.Memory.{Memory, used_of as as_used}
 use Rattle.pp_cache_law.proofs.Finds.{find_passes}
 use Rattle.pp_cache_law.proofs.Numbers.{chunks_alike, is_same, number_of_there, same_test}

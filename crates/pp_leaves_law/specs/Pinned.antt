@@ -1,7 +1,7 @@
 -- What may not leave memory is what may not by the law: rows that exchanges are bound to, and chunks in which a next byte lies (ours).
 use Rattle.std.specs.Prelude.{◌≡◌, ◌≤◌, ◌<◌, ◌+◌, ◌/◌, ◌^◌, ℕ, List, [], ◌∷◌, length, Some, IfSome, ⊤}
 use Rattle.std.specs.List.{filter_map}
-use Rattle.pp_brings_law.specs.Unseen.{AreFollowing}
+use Rattle.pp_turns_law.specs.Unseen.{AreFollowing}
 use Rattle.pp_cache_law.specs.Reads.{AreBusy, ArePinned}
 use Rattle.pp_flow.specs.Changes.{entry_of}
 use Rattle.pp_flow.specs.declared.entry.Entry.{Entry}

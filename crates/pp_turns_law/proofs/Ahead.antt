@@ -3,14 +3,14 @@ use Rattle.std.proofs.Common.{arith, ◌≡◌, ◌<◌, ◌≤◌, refl, sym, s
 use Rattle.std.specs.Prelude.{option_and_then, slice_get}
 use Rattle.std.specs.List.{cons_option, filter_map, reduce}
 use Rattle.std.proofs.lemmas.Bool.Decides.{nat_tests}
-use Rattle.pp_brings_law.proofs.Brought.{shown_as}
-use Rattle.pp_brings_law.specs.Nexts.{IsNext}
+use Rattle.pp_turns_law.proofs.Comes.{shown_as}
+use Rattle.pp_turns_law.specs.Nexts.{IsNext}
 use Rattle.pp_cache.specs.Memory.{Memory}
 use Rattle.pp_cache_law.proofs.Alike.{held_of, instances_of}
 use Rattle.pp_cache_law.proofs.Numbers.{true_false}
 use Rattle.pp_cache_law.specs.Reads.{IsFound}
 use Rattle.pp_cache_law.specs.Tables.{ShowsTable}
-use Rattle.pp_due_law.proofs.Following.{has_source, is_next}
+use Rattle.pp_turns_law.proofs.Following.{has_source, is_next}
 use Rattle.pp_flow_law.specs.Tables.{AreGiven, Leaving}
 use Rattle.pp_law.specs.Lists.{has_number, is_some_with}
 use Rattle.pp_law.specs.Served.{furthest_read as furthest_by_law, is_brought_to as is_brought_by_law, is_past as is_past_by_law, read_at as read_by_law}

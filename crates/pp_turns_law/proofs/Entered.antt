@@ -42,7 +42,7 @@ use Rattle.pp_store.specs.Kept.{Kept, KeptMap, kept_of as kept_in_store}
 use Rattle.pp_target.specs.Name.{name_of}
 use Rattle.pp_text.specs.Fields.{Field}
 use Rattle.pp_valid.specs.declared.version.Version.{Version}
-use Rattle.pp_due_law.specs.Turns.{ShowsTurn}
+use Rattle.pp_turns_law.specs.Turns.{ShowsTurn}
 use Rattle.pp_turns_law.proofs.Decides.{grown, known_of}
 use Rattle.pp_turns_law.proofs.Numbered.{AreGivenLives, AreSame, exchange_as, seats_as}
 use Rattle.pp_turns_law.specs.Rows.{AreReady, HasComeIn, IsKeptAs, IsReady, RowsComeInAsTheLaws, ShowsDisk, ShowsKept, kept_alone, with_entry, with_row_of}

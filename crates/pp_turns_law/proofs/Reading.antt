@@ -9,8 +9,8 @@ use Rattle.pp_cache_law.proofs.Numbers.{is_same, same_test}
 use Rattle.pp_cache_law.specs.Pairs.{AreBoth}
 use Rattle.pp_cache_law.specs.Tables.{ShowsInstance, ShowsTable}
 use Rattle.pp_client.specs.Replies.{Reply as Said}
-use Rattle.pp_due_law.proofs.All.{all_dues}
-use Rattle.pp_due_law.specs.Turns.{IsDecidable, IsFollowing, ShowsTurn}
+use Rattle.pp_turns_law.proofs.AllDue.{all_dues}
+use Rattle.pp_turns_law.specs.Turns.{IsDecidable, IsFollowing, ShowsTurn}
 use Rattle.pp_flow_law.specs.Tables.{Leaving}
 use Rattle.pp_law.specs.Decisions.{decide, decide_head}
 use Rattle.pp_law.specs.Due.{due_of as due_by_law, give_up, is_told}

@@ -4,7 +4,7 @@ use Rattle.std.specs.Prelude.{get_or, slice_get}
 use Rattle.std.specs.List.{list_all, list_any}
 use Rattle.std.proofs.lemmas.Bool.Decides.{nat_tests}
 use Rattle.pp_cache_law.proofs.Numbers.{same_test}
-use Rattle.pp_due_law.proofs.Drying.{dry}
+use Rattle.pp_turns_law.proofs.Drying.{dry}
 use Rattle.pp_flow_law.specs.Tables.{Leaving}
 use Rattle.pp_law.specs.Asking.{has_room}
 use Rattle.pp_law.specs.Connections.{is_client, is_conn}

@@ -1,4 +1,14 @@
+pub mod Brings
+pub mod Dues
 pub mod Firsts
+pub mod Looks
+pub mod Marks
+pub mod Needs
+pub mod Nexts
 pub mod Readers
 pub mod Rows
+pub mod Sharing
+pub mod Spans
+pub mod Turns
+pub mod Unseen
 pub mod Wants

@@ -3,7 +3,7 @@ use Rattle.std.specs.Prelude.{◌≡◌, ◌<◌, ℕ, Bool, false, List, [], �
 use Rattle.pp_cache.specs.Memory.{Memory}
 use Rattle.pp_cache_law.specs.Pairs.{AreBoth}
 use Rattle.pp_cache_law.specs.Tables.{OfTables}
-use Rattle.pp_due_law.specs.Turns.{IsFollowing, ShowsTurn}
+use Rattle.pp_turns_law.specs.Turns.{IsFollowing, ShowsTurn}
 use Rattle.pp_flow_law.specs.Tables.{Leaving}
 use Rattle.pp_law.specs.Due.{due_of}
 use Rattle.pp_law.specs.Lists.{Bytes}

@@ -2,7 +2,7 @@
 use Rattle.std.specs.Prelude.{◌≡◌, ℕ, Bool, true, false, ◌&&◌, not, nat_lt, List, length, slice_get, filter, Some}
 use Rattle.std.specs.List.{list_all}
 use Rattle.pp_client.specs.Requests.{room_of}
-use Rattle.pp_due_law.specs.Turns.{IsFollowing, ShowsTurn}
+use Rattle.pp_turns_law.specs.Turns.{IsFollowing, ShowsTurn}
 use Rattle.pp_flow_law.specs.Tables.{Leaving}
 use Rattle.pp_law.specs.Asking.{has_room}
 use Rattle.pp_law.specs.Lists.{has_number}

@@ -1,7 +1,0 @@
-// Attempts count anew.
-ghost use Rattle.pp_begins_law.specs.Regains.{RegainsAreTheLaws};
-
-/// Of those who are looked at; of the others none would.
-pub fn attempts_count_as_the_laws()
-    ensures regained { RegainsAreTheLaws }
-{}

@@ -1,5 +1,0 @@
-use Rattle.pp_brings_law.proofs.HeldSpans.{held_spans}
-use Rattle.pp_brings_law.proofs.needing.spans_are_the_laws.Goals as goal
-
-pub returns : goal.returns
-returns c = record { spans = held_spans }

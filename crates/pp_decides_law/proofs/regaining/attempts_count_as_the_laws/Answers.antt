@@ -1,0 +1,5 @@
+use Rattle.pp_decides_law.proofs.Regained.{regains}
+use Rattle.pp_decides_law.proofs.regaining.attempts_count_as_the_laws.Goals as goal
+
+pub returns : goal.returns
+returns c = record { regained = regains }

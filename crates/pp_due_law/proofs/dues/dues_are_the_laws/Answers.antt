@@ -1,5 +1,0 @@
-use Rattle.pp_due_law.proofs.All.{all_dues}
-use Rattle.pp_due_law.proofs.dues.dues_are_the_laws.Goals as goal
-
-pub returns : goal.returns
-returns c = record { dues = all_dues }

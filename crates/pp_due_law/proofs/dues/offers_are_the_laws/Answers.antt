@@ -1,6 +1,0 @@
-use Rattle.pp_due_law.proofs.Drying.{dry}
-use Rattle.pp_due_law.proofs.Offering.{offers}
-use Rattle.pp_due_law.proofs.dues.offers_are_the_laws.Goals as goal
-
-pub returns : goal.returns
-returns c = record { offers = offers; dry = dry }

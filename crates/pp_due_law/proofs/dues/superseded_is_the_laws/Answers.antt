@@ -1,5 +1,0 @@
-use Rattle.pp_due_law.proofs.Following.{superseded}
-use Rattle.pp_due_law.proofs.dues.superseded_is_the_laws.Goals as goal
-
-pub returns : goal.returns
-returns c = record { superseded = superseded }

@@ -1,6 +1,0 @@
-use Rattle.pp_fills_law.proofs.GivenUp.{gives_up}
-use Rattle.pp_fills_law.proofs.Wanted.{useless}
-use Rattle.pp_fills_law.proofs.filling.useless_asks_are_the_laws.Goals as goal
-
-pub returns : goal.returns
-returns c = record { useless = useless; given_up = gives_up }

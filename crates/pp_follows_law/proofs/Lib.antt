@@ -1,4 +1,0 @@
-pub mod Followed
-pub mod Keyed
-pub mod Standing
-pub mod Useless

@@ -1,4 +1,0 @@
-pub mod Looked
-pub mod Rested
-pub mod Waiting
-pub mod Woken

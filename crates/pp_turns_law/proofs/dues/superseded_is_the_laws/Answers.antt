@@ -1,0 +1,5 @@
+use Rattle.pp_turns_law.proofs.Following.{superseded}
+use Rattle.pp_turns_law.proofs.dues.superseded_is_the_laws.Goals as goal
+
+pub returns : goal.returns
+returns c = record { superseded = superseded }

@@ -1,3 +1,0 @@
-pub mod Comes
-pub mod Leaves
-pub mod Ways
