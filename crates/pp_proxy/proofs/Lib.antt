@@ -10,5 +10,6 @@ pub mod PlacingLemmas
 pub mod ReplyLemmas
 pub mod RestLemmas
 pub mod ShuttingLemmas
+pub mod TakingLemmas
 pub mod TalkingLemmas
 pub mod TickLemmas

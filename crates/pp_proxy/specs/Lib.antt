@@ -12,5 +12,6 @@ pub mod Replies
 pub mod Responses
 pub mod Rests
 pub mod Shutting
+pub mod Taking
 pub mod Talking
 pub mod Turns

@@ -1,10 +1,17 @@
 // The clients, the origins and the cache, behind the connections that are open, and the steps of a turn.
+ghost use Rattle.std.specs.Prelude.{◌≡◌, [], ◌∷◌, ◌++◌};
 ghost use Rattle.pp_links.specs.Links.{IsLinked};
 ghost use Rattle.pp_links.specs.Quiet.{GrowsQuietly};
 ghost use Rattle.pp_shelf.specs.Steady.{GrowsSteadily};
 ghost use Rattle.pp_proxy.specs.Anything.{anything};
+ghost use Rattle.pp_proxy.specs.Closings.{KeepsDesk};
+ghost use Rattle.pp_proxy.specs.Taking.{IsTaken, TakesDue, due_log, who_at};
+ghost use Rattle.pp_steps.specs.Ends.{numbers_of, parts, AreSeated, KeepsRest};
+ghost use Rattle.pp_steps.specs.Evicting.{row_in_way, row_notes};
 ghost use Rattle.pp_store.specs.Held.{Holds};
-ghost use Rattle.pp_world.specs.Log.{Told};
+ghost use Rattle.pp_world.specs.Log.{AppendsAll, Told};
+ghost use Rattle.pp_world.specs.declared.happening.Happening.TheVariants.{Noted};
+ghost use Rattle.pp_world.specs.declared.note.Remark.TheVariants.{Taken};
 
 use pp_client::Room;
 use pp_links::Links;
@@ -139,23 +146,24 @@ impl Desk {
         is_any
     }
 
-    #[tactic(auto, using(pp_links::proofs::QuietLemmas::quiet_then, pp_links::proofs::QuietLemmas::quiet_none))]
-    fn take<W: Wire>(&mut self, links: &mut Links, world: &mut W, i: usize, due: Due)
-        requires { IsLinked (W.log world.old) (W.top world.old) links.old }
-        ensures linked { IsLinked (W.log world.new) (W.top world.new) links.new }
+    /// What is due to the client at this place is taken.
+    #[tactic(auto, using(pp_links::proofs::QuietLemmas::quiet_none, crate::proofs::ShuttingLemmas::none_added))]
+    fn take<W: Wire>(&mut self, links: &Links, world: &mut W, i: usize, due: Due)
+        requires { IsLinked (W.log world.old) (W.top world.old) links.now }
+        ensures linked { IsLinked (W.log world.new) (W.top world.new) links.now }
         ensures quiet { GrowsQuietly (W.log world.old) (W.log world.new) }
+        ensures told { AppendsAll (W.log world.old) (W.log world.new) (λ l. due_log i due self.old.state) }
+        ensures is { AreSeated self.old.state → TakesDue i due self.old self.new }
+        ensures numbers { numbers_of self.new.state.seats.items ≡ numbers_of self.old.state.seats.items }
+        ensures rest { KeepsDesk self.old self.new }
     {
-        let Some(seat) = self.state.seats.get(i) else {
+        let Some((client, index)) = who_at(&self.state, i) else {
             return;
         };
-        let (client, index) = (seat.id(), seat.index);
         match due {
             Due::Decide(decision) => {
                 let decision = self.state.afforded(i, decision);
-                self.state.give_way(links, world, i, decision);
-                links.note(world, &Note::Taken(client, index, decision));
-                self.state.take(i, decision);
-                self.state.regain();
+                take_decision(&mut self.state, links, world, i, client, index, decision);
             }
             Due::CutOff(cause) => {
                 links.note(world, &Note::Cut(client, cause));
@@ -181,4 +189,37 @@ impl Desk {
             }
         }
     }
+}
+
+/// The number of the client at this place, and that of its request.
+fn who_at(state: &State, i: usize) -> Option<(u64, u64)>
+    ensures { result ≡ who_at i state.entry.now }
+{
+    let seat = state.seats.get(i)?;
+    Some((seat.id(), seat.index))
+}
+
+/// The row in its way leaves, the decision is noted and done, and attempts count anew for those whose next byte is held.
+#[tactic(auto, using(pp_links::proofs::QuietLemmas::quiet_then))]
+fn take_decision<W: Wire>(
+    state: &mut State,
+    links: &Links,
+    world: &mut W,
+    i: usize,
+    client: u64,
+    index: u64,
+    decision: Decision,
+)
+    requires { IsLinked (W.log world.old) (W.top world.old) links.now }
+    ensures linked { IsLinked (W.log world.new) (W.top world.new) links.now }
+    ensures quiet { GrowsQuietly (W.log world.old) (W.log world.new) }
+    ensures told { AppendsAll (W.log world.old) (W.log world.new) (λ l. row_notes (row_in_way decision i state.old) ++ Noted (Taken client index decision) ∷ []) }
+    ensures is { IsTaken i decision state.old (parts state.new) }
+    ensures numbers { numbers_of state.new.seats.items ≡ numbers_of state.old.seats.items }
+    ensures rest { KeepsRest state.old state.new }
+{
+    state.give_way(links, world, i, decision);
+    links.note(world, &Note::Taken(client, index, decision));
+    state.take(i, decision);
+    state.regain();
 }
