@@ -3,6 +3,7 @@ pub mod Dropped
 pub mod Following
 pub mod Gone
 pub mod Leaving
+pub mod Noted
 pub mod Orderly
 pub mod Over
 pub mod Own

@@ -1,4 +1,5 @@
 pub mod Clients
 pub mod Connections
+pub mod Log
 pub mod Sides
 pub mod Unseen
