@@ -11,6 +11,7 @@ pub mod Peers
 pub mod Quit
 pub mod Seen
 pub mod Shut
+pub mod Shutting
 pub mod Standing
 pub mod Still
 pub mod Watched

@@ -46,10 +46,10 @@ come_here stops (p ∷ ps) s here = ap (λ (t : State). come stops ps t) (by (is
     by true = ap (λ (c : Bool). elim c as (λ t. State) [ true ↦ s | false ↦ elim (is_done s) as (λ t. State) [ true ↦ next s | false ↦ s ] ]) here
     by false = refl
 
-at_it : (s : State) → IsConnecting s → is_at Connecting s ≡ true
+pub at_it : (s : State) → IsConnecting s → is_at Connecting s ≡ true
 at_it s is = ap (λ (p : Phase). is_same_phase Connecting p) is.at
 
-stays : (s : State) → IsConnecting s → come_to Connecting s ≡ s
+pub stays : (s : State) → IsConnecting s → come_to Connecting s ≡ s
 unfolding come_to
 stays s is = come_here (is_at Connecting) phases s (at_it s is)
 

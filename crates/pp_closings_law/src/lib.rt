@@ -13,10 +13,10 @@
 //! Takes no memory, and does nothing when the program runs.
 #![tactic(auto)]
 
-mod clients; // a client is closed
+mod clients; // a client is closed, and shut
 mod closing; // a connection to an origin is closed, and dropped
 mod seeing; // what nobody will see is not read on
 
-pub use clients::clients_are_the_laws;
+pub use clients::{clients_are_the_laws, closing_ones_are_shut_as_the_laws};
 pub use closing::{closing_ones_are_dropped_as_the_laws, connections_are_the_laws};
 pub use seeing::unseen_ones_are_dropped_as_the_laws;
