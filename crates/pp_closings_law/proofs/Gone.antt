@@ -20,7 +20,7 @@ use Rattle.pp_closings_law.proofs.Quit.{closing_client}
 
 -- ---- the other clients
 
-abbrev closing_if : ℕ → Bool → Client → Client
+abbrev pub closing_if : ℕ → Bool → Client → Client
 closing_if n is_cut c = elim (is_client n c) as (λ t. Client) [ true ↦ closing_client is_cut c | false ↦ c ]
 
 find_other : (n m : ℕ) (is_cut : Bool) (cs : List Client) → (m == n) ≡ false → find (is_client m) (map (closing_if n is_cut) cs) ≡ find (is_client m) cs

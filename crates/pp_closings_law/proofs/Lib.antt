@@ -3,6 +3,7 @@ pub mod Dropped
 pub mod Following
 pub mod Gone
 pub mod Leaving
+pub mod Noted
 pub mod Orderly
 pub mod Over
 pub mod Own
@@ -10,6 +11,7 @@ pub mod Peers
 pub mod Quit
 pub mod Seen
 pub mod Shut
+pub mod Shutting
 pub mod Standing
 pub mod Still
 pub mod Watched

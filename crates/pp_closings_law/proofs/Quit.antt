@@ -57,7 +57,7 @@ closing_is i p seat o here is = by o (ap (λ (x : Option Seat). option_and_then 
 abbrev pub closing_client : Bool → Client → Client
 closing_client is_cut c = record c { is_closing = true; is_cut = c.is_cut || is_cut }
 
-next_swept : (n : ℕ) (f : Client → Client) (s : State) → (swept (on_client n f s)).next_instance ≡ s.next_instance
+pub next_swept : (n : ℕ) (f : Client → Client) (s : State) → (swept (on_client n f s)).next_instance ≡ s.next_instance
 unfolding on_client swept
 next_swept n f s = refl
 

@@ -4,7 +4,7 @@
 //! that is closed loses its line as the law has it, whatever state it was in; an exchange that is over with its connection is what the law
 //! ends before it closes that; of a connection whose first exchange nobody will see, that becomes of both; and a client that is closed
 //! leaves its exchange as the law says. Where not all of its request's body was asked, the program drops the connection at once, and the
-//! law with all that nobody will see.
+//! law with all that nobody will see. Connections to origins that are closing may be dropped one behind the other, as the log gets it.
 //!
 //! To the layer above: each equation is the clause of a function that does nothing. It is one part of the proof that the program
 //! obeys the law: nothing is said here of a turn in which memory was refused for a row. The words of the program stand in `pp_proxy`,
@@ -13,10 +13,10 @@
 //! Takes no memory, and does nothing when the program runs.
 #![tactic(auto)]
 
-mod clients; // a client is closed
-mod closing; // a connection to an origin is closed
+mod clients; // a client is closed, and shut
+mod closing; // a connection to an origin is closed, and dropped
 mod seeing; // what nobody will see is not read on
 
-pub use clients::clients_are_the_laws;
-pub use closing::connections_are_the_laws;
+pub use clients::{clients_are_the_laws, closing_ones_are_shut_as_the_laws};
+pub use closing::{closing_ones_are_dropped_as_the_laws, connections_are_the_laws};
 pub use seeing::unseen_ones_are_dropped_as_the_laws;
