@@ -1,24 +1,22 @@
 // The file of an entry with a byte changed, or cut: how much of the body is kept, if it counts as an entry.
 use crate::entries::{A, A_NAME, Bytes, Entry, File, HELLO, TWO, noise};
 use crate::life::{Morning, Opened};
+use crate::saying::{says_nothing, told};
 use pp_memworld::put_file;
-use pp_text::Octets;
+use pp_text::{Octets, OutOfMemory};
 use pp_world::Image;
 use std::alloc::Global;
 use std::test::Fail;
 
-/// How many bytes of the key `A` are kept of a folder with this file, where nothing is written. `None` where
-/// it is no entry.
-fn extent_of(alloc: Global, file: &[u8]) -> Result<Option<u64>, Fail> {
+/// Whether so many bytes of the key `A` are kept of a folder with this file, where nothing is written. `None`: it is no
+/// entry.
+fn is_extent(alloc: Global, file: &[u8], extent: Option<u64>) -> Result<bool, OutOfMemory> {
     let mut image = Image::new(alloc);
     put_file(&mut image, A_NAME, Octets::copy(alloc, file)?)?;
-    let Opened::Life(life) = Morning::over(alloc, image, &[])?.open(alloc) else {
-        return Err("a folder that is opened".into());
-    };
-    if life.log().len() != 3 {
-        return Err("a folder that is just listed".into());
+    match Morning::over(alloc, image, &[])?.open(alloc) {
+        Opened::Life(life) => Ok(life.log().len() == 3 && life.extent(A) == extent),
+        Opened::Refused(_, _) => Ok(false),
     }
-    Ok(life.extent(A))
 }
 
 /// Bytes that come to stand in the file of an entry, one at a time.
@@ -94,7 +92,7 @@ const PUTS: &[Put] = &[
 ];
 
 /// Whether so much is kept of each file that has one of these bytes at one of these places.
-fn is_kept(alloc: Global, put: &Put) -> Result<bool, Fail> {
+fn is_kept(alloc: Global, put: &Put) -> Result<bool, OutOfMemory> {
     let made = File {
         name: A_NAME,
         bytes: Bytes::Entry(put.of, put.gates),
@@ -102,24 +100,51 @@ fn is_kept(alloc: Global, put: &Put) -> Result<bool, Fail> {
     let mut file = made.bytes(alloc, &noise(99))?;
     let (from, to, step) = put.places;
     for place in (from..to).step_by(step.max(1)) {
-        let old = *file.get(place).ok_or("a place")?;
-        for byte in put.bytes.0..=put.bytes.1 {
-            *file.get_mut(place).ok_or("a place")? = byte;
-            if extent_of(alloc, &file)? != put.extent {
-                return Ok(false);
-            }
+        if !is_kept_at(alloc, &mut file, place, put)? {
+            return Ok(false);
         }
-        *file.get_mut(place).ok_or("a place")? = old;
     }
     Ok(true)
 }
 
+/// The same of one of the places. The file is then as it was.
+fn is_kept_at(
+    alloc: Global,
+    file: &mut [u8],
+    place: usize,
+    put: &Put,
+) -> Result<bool, OutOfMemory> {
+    let Some(old) = file.get(place).copied() else {
+        return Ok(false);
+    };
+    for byte in put.bytes.0..=put.bytes.1 {
+        write_at(file, place, byte);
+        if !is_extent(alloc, file, put.extent)? {
+            return Ok(false);
+        }
+    }
+    write_at(file, place, old);
+    Ok(true)
+}
+
+fn write_at(file: &mut [u8], place: usize, byte: u8) {
+    if let Some(at) = file.get_mut(place) {
+        *at = byte;
+    }
+}
+
+fn unlike_puts(alloc: Global, puts: &[Put]) -> Result<String, OutOfMemory> {
+    for (place, put) in puts.iter().enumerate() {
+        if !is_kept(alloc, put)? {
+            return told(alloc, "bytes", Some(place));
+        }
+    }
+    told(alloc, "bytes", None)
+}
+
 #[test]
 fn a_byte_that_is_changed_closes_its_gate_or_ends_the_entry(rt: HostRuntime) -> Result<(), Fail> {
-    for (place, put) in PUTS.iter().enumerate() {
-        assert!(rt; is_kept(rt.alloc(), put)?, "{place}");
-    }
-    Ok(())
+    says_nothing(&rt, unlike_puts(rt.alloc(), PUTS))
 }
 
 /// The file of an entry of 5 bytes, cut after so many bytes: from the first of these to the last.
@@ -183,27 +208,35 @@ const CUTS: &[Cut] = &[
     },
 ];
 
-fn is_kept_though_cut(alloc: Global, cut: &Cut) -> Result<bool, Fail> {
+fn is_kept_though_cut(alloc: Global, cut: &Cut) -> Result<bool, OutOfMemory> {
     let made = File {
         name: A_NAME,
         bytes: Bytes::Entry(HELLO, cut.gates),
     };
     let file = made.bytes(alloc, &[])?;
     for end in cut.ends.0..=cut.ends.1 {
-        let front = file.get(..end).ok_or("so many bytes")?;
-        if extent_of(alloc, front)? != cut.extent {
+        let Some(front) = file.get(..end) else {
+            return Ok(false);
+        };
+        if !is_extent(alloc, front, cut.extent)? {
             return Ok(false);
         }
     }
     Ok(true)
 }
 
+fn unlike_cuts(alloc: Global, cuts: &[Cut]) -> Result<String, OutOfMemory> {
+    for (place, cut) in cuts.iter().enumerate() {
+        if !is_kept_though_cut(alloc, cut)? {
+            return told(alloc, "cuts", Some(place));
+        }
+    }
+    told(alloc, "cuts", None)
+}
+
 #[test]
 fn a_file_that_was_cut_counts_where_it_has_all_that_it_vouches_for(
     rt: HostRuntime,
 ) -> Result<(), Fail> {
-    for (place, cut) in CUTS.iter().enumerate() {
-        assert!(rt; is_kept_though_cut(rt.alloc(), cut)?, "{place}");
-    }
-    Ok(())
+    says_nothing(&rt, unlike_cuts(rt.alloc(), CUTS))
 }

@@ -6,7 +6,10 @@ use crate::entries::{
 };
 use crate::format::Found;
 use crate::given::TIMES_READ;
+use crate::saying::says_nothing;
+use pp_text::OutOfMemory;
 use pp_world::Name;
+use std::alloc::Global;
 use std::test::Fail;
 
 /// No head, and another text in its place.
@@ -81,22 +84,38 @@ const FILES: [Bytes; 15] = [
     Bytes::Noise(4),
 ];
 
-#[test]
-fn a_file_that_is_no_entry_is_left_as_it_is(rt: HostRuntime) -> Result<(), Fail> {
-    for (place, bytes) in FILES.iter().enumerate() {
+/// Where a folder with one of these files goes otherwise.
+fn unlike_files(alloc: Global, files: &[Bytes]) -> Result<String, OutOfMemory> {
+    for (place, bytes) in files.iter().enumerate() {
         let file = File {
             name: A_NAME,
             bytes: *bytes,
         };
-        let folder = [file, OTHER_FILE];
-        let course = Course {
-            folder: &folder,
-            files: &folder,
-            ..FOREIGN
-        };
-        assert_eq!(rt; unlike(rt.alloc(), &[course])?.as_str(), "", "{place}");
+        let said = unlike_in(alloc, &[file, OTHER_FILE], FOREIGN)?;
+        if !said.is_empty() {
+            return Ok(format!(in alloc; "file {place}: {said}")?);
+        }
     }
-    Ok(())
+    Ok(String::new(alloc))
+}
+
+/// Where this course goes otherwise over a folder that it leaves as it is.
+fn unlike_in(
+    alloc: Global,
+    folder: &[File],
+    course: Course<'static>,
+) -> Result<String, OutOfMemory> {
+    let course = Course {
+        folder,
+        files: folder,
+        ..course
+    };
+    unlike(alloc, &[course])
+}
+
+#[test]
+fn a_file_that_is_no_entry_is_left_as_it_is(rt: HostRuntime) -> Result<(), Fail> {
+    says_nothing(&rt, unlike_files(rt.alloc(), &FILES))
 }
 
 /// An entry under a name that no entry has.
@@ -108,19 +127,22 @@ const UNSEEN: Course<'static> = Course {
 
 const NAMES: [Name; 3] = [[b'g'; 32], [b'A'; 32], [0; 32]];
 
+/// Where a folder with an entry under one of these names goes otherwise.
+fn unlike_names(alloc: Global, names: &[Name]) -> Result<String, OutOfMemory> {
+    for (place, name) in names.iter().enumerate() {
+        let file = File {
+            name: *name,
+            bytes: Bytes::Entry(HELLO, &[0]),
+        };
+        let said = unlike_in(alloc, &[file], UNSEEN)?;
+        if !said.is_empty() {
+            return Ok(format!(in alloc; "name {place}: {said}")?);
+        }
+    }
+    Ok(String::new(alloc))
+}
+
 #[test]
 fn a_file_under_any_other_name_is_not_looked_at(rt: HostRuntime) -> Result<(), Fail> {
-    for name in NAMES {
-        let folder = [File {
-            name,
-            bytes: Bytes::Entry(HELLO, &[0]),
-        }];
-        let course = Course {
-            folder: &folder,
-            files: &folder,
-            ..UNSEEN
-        };
-        assert_eq!(rt; unlike(rt.alloc(), &[course])?.as_str(), "", "{}", name[0]);
-    }
-    Ok(())
+    says_nothing(&rt, unlike_names(rt.alloc(), &NAMES))
 }

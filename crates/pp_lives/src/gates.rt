@@ -4,6 +4,7 @@ use crate::courses::{At, CHOICES, CRASH, Course, Crash, QUIET, unlike};
 use crate::entries::{A_NAME, Bytes, FIVE, File};
 use crate::format::Found;
 use crate::given::TIMES_READ;
+use crate::saying::says_nothing;
 use crate::steps::Step;
 use std::test::Fail;
 
@@ -65,8 +66,7 @@ const LEFT_ALONE: &[Course<'static>] = &[
 
 #[test]
 fn gates_without_an_open_one_behind_one_that_is_not_are_left(rt: HostRuntime) -> Result<(), Fail> {
-    assert_eq!(rt; unlike(rt.alloc(), LEFT_ALONE)?.as_str(), "");
-    Ok(())
+    says_nothing(&rt, unlike(rt.alloc(), LEFT_ALONE))
 }
 
 const CLOSED: &[Course<'static>] = &[
@@ -160,6 +160,5 @@ const CLOSED: &[Course<'static>] = &[
 fn an_open_gate_behind_one_that_is_not_is_closed_and_nothing_else_is_written(
     rt: HostRuntime,
 ) -> Result<(), Fail> {
-    assert_eq!(rt; unlike(rt.alloc(), CLOSED)?.as_str(), "");
-    Ok(())
+    says_nothing(&rt, unlike(rt.alloc(), CLOSED))
 }

@@ -37,6 +37,8 @@ mod recovery; // what the next life finds
 #[cfg(test)]
 mod removals; // an entry that is withdrawn
 #[cfg(test)]
+mod saying; // where a table goes otherwise than wanted
+#[cfg(test)]
 mod short; // reads that give too little, and too many names
 #[cfg(test)]
 mod small; // files of all kinds on a small disk

@@ -1,9 +1,11 @@
 // A disk that tells no log and loses the last byte of each read, and a store that is full.
 ghost use Rattle.std.specs.Prelude.{None};
 
-use crate::entries::{A, A_NAME, B_NAME, BESIDE};
+use crate::entries::{A, A_NAME, B_NAME};
 use crate::given::keep_in;
+use crate::saying::{says_nothing, told};
 use pp_store::{KeepFault, LoadFault, Store};
+use pp_text::OutOfMemory;
 use pp_world::{Disk, DiskFault, Logged, Name, NamesFault};
 use std::alloc::Global;
 use std::test::Fail;
@@ -81,25 +83,6 @@ fn load(store: &mut Store, key: &[u8], out: &mut [u8; 4096]) -> Option<Result<us
     Some(store.load(&mut Short, key, 0, out))
 }
 
-#[test]
-fn a_chunk_that_is_not_read_whole_loses_its_entry_alone(rt: HostRuntime) -> Result<(), Fail> {
-    let mut store = Store::new(rt.alloc())?;
-    assert_eq!(rt; keep(&mut store, rt.alloc(), A, CHUNK), Some(Ok(())));
-    assert_eq!(rt;
-        keep(&mut store, rt.alloc(), BESIDE.key, CHUNK),
-        Some(Ok(()))
-    );
-    let short = LoadFault::Short {
-        wanted: 4096,
-        got: 4095,
-    };
-    let end = load(&mut store, A, &mut [0; 4096]);
-    assert_eq!(rt; end, Some(Err(short)));
-    assert!(rt; store.kept(A).is_none() && store.is_closed(&A_NAME));
-    assert!(rt; store.kept(BESIDE.key).is_some() && !store.is_closed(&B_NAME));
-    Ok(())
-}
-
 /// How many entries are kept before no more is made.
 const MOST: u32 = 10_000;
 
@@ -126,29 +109,101 @@ fn finds_each(store: &Store) -> bool {
     true
 }
 
+/// What is asked of a store over that disk, and what comes of it.
+enum Ask<'a> {
+    /// The entry of this key is kept with this whole body.
+    Keep(&'a [u8], &'a [u8], Option<Result<(), KeepFault>>),
+    /// So is that of each number.
+    KeepEach,
+    /// So often each number's entry is found.
+    FindEach(u32),
+    /// The first chunk of this key is loaded.
+    Load(&'a [u8], Option<Result<usize, LoadFault>>),
+    /// Whether this key is kept.
+    Has(&'a [u8], bool),
+    IsClosed(&'a Name, bool),
+    Entries(u32),
+}
+
+fn is_met(store: &mut Store, alloc: Global, ask: &Ask<'_>) -> bool {
+    match ask {
+        Ask::Keep(key, body, wanted) => keep(store, alloc, key, body) == *wanted,
+        Ask::KeepEach => keeps_each(store, alloc),
+        Ask::FindEach(times) => (0..*times).all(|_| finds_each(store)),
+        Ask::Load(key, wanted) => load(store, key, &mut [0; 4096]) == *wanted,
+        Ask::Has(key, wanted) => store.kept(key).is_some() == *wanted,
+        Ask::IsClosed(name, wanted) => store.is_closed(name) == *wanted,
+        Ask::Entries(count) => store.entries() == *count,
+    }
+}
+
+fn keeps_each(store: &mut Store, alloc: Global) -> bool {
+    for number in 0..MOST {
+        if keep(store, alloc, &numbered(number), b"a") != Some(Ok(())) {
+            return false;
+        }
+    }
+    true
+}
+
+fn unlike(alloc: Global, name: &str, asks: &[Ask<'_>]) -> Result<String, OutOfMemory> {
+    let mut store = Store::new(alloc)?;
+    told(alloc, name, first_unlike(&mut store, alloc, asks))
+}
+
+fn first_unlike(store: &mut Store, alloc: Global, asks: &[Ask<'_>]) -> Option<usize> {
+    for (place, ask) in asks.iter().enumerate() {
+        if !is_met(store, alloc, ask) {
+            return Some(place);
+        }
+    }
+    None
+}
+
+/// The key of `B_NAME`.
+const B: &[u8] = b"http://h/b";
+
+const LOST: &[Ask<'static>] = &[
+    Ask::Keep(A, CHUNK, Some(Ok(()))),
+    Ask::Keep(B, CHUNK, Some(Ok(()))),
+    Ask::Load(
+        A,
+        Some(Err(LoadFault::Short {
+            wanted: 4096,
+            got: 4095,
+        })),
+    ),
+    Ask::Has(A, false),
+    Ask::IsClosed(&A_NAME, true),
+    Ask::Has(B, true),
+    Ask::IsClosed(&B_NAME, false),
+];
+
+#[test]
+fn a_chunk_that_is_not_read_whole_loses_its_entry_alone(rt: HostRuntime) -> Result<(), Fail> {
+    says_nothing(&rt, unlike(rt.alloc(), "lost", LOST))
+}
+
+const FULL: &[Ask<'static>] = &[
+    Ask::KeepEach,
+    // So many that a search of one entry after another does not end in time.
+    Ask::FindEach(500),
+    Ask::Has(b"http://h/x", false),
+    Ask::Keep(b"http://h/x", b"a", Some(Err(KeepFault::Full))),
+    Ask::Entries(MOST),
+];
+
 #[test]
 fn of_10000_entries_each_is_found_and_no_other_is_made(rt: HostRuntime) -> Result<(), Fail> {
-    let mut store = Store::new(rt.alloc())?;
-    for number in 0..MOST {
-        let end = keep(&mut store, rt.alloc(), &numbered(number), b"a");
-        assert_eq!(rt; end, Some(Ok(())));
-    }
-    // So many that a search of one entry after another does not end in time.
-    for _ in 0..500 {
-        assert!(rt; finds_each(&store));
-    }
-    assert!(rt; store.kept(b"http://h/x").is_none());
-    let end = keep(&mut store, rt.alloc(), b"http://h/x", b"a");
-    assert_eq!(rt; end, Some(Err(KeepFault::Full)));
-    assert_eq!(rt; store.entries(), MOST);
-    Ok(())
+    says_nothing(&rt, unlike(rt.alloc(), "full", FULL))
 }
+
+const TOO_LONG: &[Ask<'static>] = &[
+    Ask::Keep(&[b'x'; 8192], b"a", Some(Err(KeepFault::TooLong))),
+    Ask::Entries(0),
+];
 
 #[test]
 fn a_key_that_the_head_block_has_no_room_for_is_not_kept(rt: HostRuntime) -> Result<(), Fail> {
-    let mut store = Store::new(rt.alloc())?;
-    let end = keep(&mut store, rt.alloc(), &[b'x'; 8192], b"a");
-    assert_eq!(rt; end, Some(Err(KeepFault::TooLong)));
-    assert_eq!(rt; store.entries(), 0);
-    Ok(())
+    says_nothing(&rt, unlike(rt.alloc(), "too long", TOO_LONG))
 }

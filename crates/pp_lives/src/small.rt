@@ -1,11 +1,16 @@
 // Files of all kinds on a small disk.
 mod folder; // a small disk
 
+use crate::entries::A_NAME;
+use crate::saying::{says_nothing, told};
 use folder::{Failing, Folder, NAMES, Step};
 use pp_recover::{RecoverFault, open};
 use pp_store::Store;
 use pp_target::file_name;
+use pp_text::OutOfMemory;
+use pp_world::Name;
 use std::alloc::Global;
+use std::test::Fail;
 
 /// The text of an entry of three chunks, of the key `http://h/b`.
 const SECOND: &[u8] =
@@ -31,6 +36,13 @@ fn file(alloc: Global, text: &[u8], gates: [u8; 3], length: usize) -> Vec<u8> {
     bytes
 }
 
+/// Puts another byte at a place.
+fn write_at(file: &mut [u8], place: usize, byte: u8) {
+    if let Some(at) = file.get_mut(place) {
+        *at = byte;
+    }
+}
+
 fn is_whole(file: &[u8], gates: [u8; 3]) -> bool {
     file.get(8192..8195) == Some(&gates[..])
         && file
@@ -43,127 +55,177 @@ fn extent_of(store: &Store) -> Option<u64> {
     Some(store.kept(b"http://h/b")?.extent)
 }
 
+fn is_named(key: &[u8], name: &Name) -> bool {
+    file_name(key) == *name
+}
+
 #[test]
 fn the_names_are_those_of_the_keys(rt: HostRuntime) {
-    assert_eq!(rt; NAMES, [file_name(b"http://h/a"), file_name(b"http://h/b")]);
+    assert!(rt; is_named(b"http://h/a", &NAMES[0]));
+    assert!(rt; is_named(b"http://h/b", &NAMES[1]));
 }
 
-#[test]
-fn a_file_counts_where_it_has_all_that_its_gates_keep(rt: HostRuntime) -> Result<(), &'static str> {
-    let cases: [([u8; 3], usize, Option<u64>); 15] = [
-        ([1, 1, 1], 24_576, Some(12_288)),
-        ([1, 1, 1], 24_577, None),
-        ([1, 1, 1], 24_575, None),
-        ([1, 1, 0], 20_480, Some(8192)),
-        ([1, 1, 0], 20_479, None),
-        ([1, 0, 0], 16_384, Some(4096)),
-        ([1, 0, 1], 16_384, Some(4096)),
-        ([1, 2, 1], 16_384, Some(4096)),
-        ([255, 1, 1], 12_288, Some(0)),
-        ([0, 0, 0], 12_288, Some(0)),
-        ([0, 0, 0], 12_287, None),
-        ([0, 0, 0], 8192, None),
-        ([0, 0, 0], 8191, None),
-        ([0, 0, 0], 5, None),
-        ([0, 0, 0], 0, None),
-    ];
-    for (gates, length, wanted) in cases {
-        let alloc = rt.alloc();
-        let mut disk = Folder::new(Vec::new(alloc), file(alloc, SECOND, gates, length));
-        let store = open(alloc, &mut disk).map_err(|_| "a store")?;
-        assert_eq!(rt; extent_of(&store), wanted);
-        assert!(rt; !store.is_closed(&NAMES[0]) && !store.is_closed(&NAMES[1]));
-    }
-    Ok(())
+/// What is found in a folder with a file of `http://h/b`, and what is done to it.
+enum Row<'a> {
+    /// With these gates, and of so many bytes: how much of its body is kept, if it is kept.
+    Counts([u8; 3], usize, Option<u64>),
+    /// Whole, and with these gates: what is done, and the gates that are left.
+    Closes([u8; 3], &'a [Step], [u8; 3]),
+    /// With this text, and another byte at this place: it is no entry, and is left as it is.
+    Foreign(&'a [u8], Option<(usize, u8)>),
+    /// Beside one of `http://h/a`, for which this call fails: that one's name alone is closed.
+    Fails(Failing),
 }
 
-#[test]
-fn gates_behind_one_that_is_not_open_are_closed(rt: HostRuntime) -> Result<(), &'static str> {
-    let cases: [([u8; 3], &[Step], [u8; 3]); 6] = [
-        ([1, 1, 1], &[], [1, 1, 1]),
-        ([1, 0, 0], &[], [1, 0, 0]),
-        (
-            [1, 0, 1],
-            &[Step::Write(8194, 1, Some(0)), Step::Sync],
-            [1, 0, 0],
-        ),
-        (
-            [0, 1, 1],
-            &[Step::Write(8193, 2, Some(0)), Step::Sync],
-            [0, 0, 0],
-        ),
-        (
-            [7, 1, 0],
-            &[Step::Write(8193, 1, Some(0)), Step::Sync],
-            [7, 0, 0],
-        ),
-        ([2, 3, 4], &[], [2, 3, 4]),
-    ];
-    for (gates, steps, left) in cases {
-        let alloc = rt.alloc();
-        let mut disk = Folder::new(Vec::new(alloc), file(alloc, SECOND, gates, 24_576));
-        let store = open(alloc, &mut disk).map_err(|_| "a store")?;
-        assert!(rt; extent_of(&store).is_some());
-        assert_eq!(rt; disk.steps.as_slice(), steps);
-        assert!(rt; is_whole(disk.two.as_slice(), left));
+fn is_met(alloc: Global, row: &Row<'_>) -> bool {
+    match row {
+        Row::Counts(gates, length, wanted) => counts(alloc, *gates, *length, *wanted),
+        Row::Closes(gates, steps, left) => closes(alloc, *gates, steps, *left),
+        Row::Foreign(text, other) => is_foreign(alloc, text, *other),
+        Row::Fails(failing) => fails(alloc, *failing),
     }
-    Ok(())
 }
 
-#[test]
-fn other_files_are_left_as_they_are(rt: HostRuntime) -> Result<(), &'static str> {
-    let alloc = rt.alloc();
-    let mut changed = file(alloc, SECOND, [0, 1, 1], 24_576);
-    if let Some(byte) = changed.get_mut(40) {
-        *byte = b'H';
+fn counts(alloc: Global, gates: [u8; 3], length: usize, wanted: Option<u64>) -> bool {
+    let mut disk = Folder::new(Vec::new(alloc), file(alloc, SECOND, gates, length));
+    match open(alloc, &mut disk) {
+        Ok(store) => {
+            extent_of(&store) == wanted
+                && !store.is_closed(&NAMES[0])
+                && !store.is_closed(&NAMES[1])
+        }
+        Err(_) => false,
     }
-    let mut behind = file(alloc, SECOND, [0, 1, 1], 24_576);
-    if let Some(byte) = behind.get_mut(8191) {
-        *byte = 1;
-    }
-    let files = [
-        file(alloc, b"", [0, 1, 1], 24_576),
-        file(alloc, b"notes of my own", [0, 1, 1], 24_576),
-        file(alloc, FIRST, [0, 1, 1], 24_576),
-        changed,
-        behind,
-    ];
-    for bytes in files {
-        let mut disk = Folder::new(Vec::new(alloc), bytes);
-        let store = open(alloc, &mut disk).map_err(|_| "a store")?;
-        assert_eq!(rt; store.entries(), 0);
-        assert!(rt; !store.is_closed(&NAMES[1]));
-        assert_eq!(rt; disk.steps.len(), 0);
-        assert!(rt; is_whole(disk.two.as_slice(), [0, 1, 1]));
-    }
-    Ok(())
 }
 
-#[test]
-fn a_fault_on_one_file_closes_its_name_alone(rt: HostRuntime) -> Result<(), &'static str> {
-    for failing in [
-        Failing::Read(NAMES[0]),
-        Failing::Write(NAMES[0]),
-        Failing::Sync(NAMES[0]),
-    ] {
-        let alloc = rt.alloc();
-        let mut disk = Folder::new(
-            file(alloc, FIRST, [1, 0, 1], 24_576),
-            file(alloc, SECOND, [1, 0, 1], 24_576),
-        );
-        disk.failing = failing;
-        let store = open(alloc, &mut disk).map_err(|_| "a store")?;
-        assert_eq!(rt; store.entries(), 1);
-        assert_eq!(rt; extent_of(&store), Some(4096));
-        assert!(rt; store.is_closed(&NAMES[0]) && !store.is_closed(&NAMES[1]));
+fn closes(alloc: Global, gates: [u8; 3], steps: &[Step], left: [u8; 3]) -> bool {
+    let mut disk = Folder::new(Vec::new(alloc), file(alloc, SECOND, gates, 24_576));
+    let is_kept = match open(alloc, &mut disk) {
+        Ok(store) => extent_of(&store).is_some(),
+        Err(_) => false,
+    };
+    is_kept && disk.steps.as_slice() == steps && is_whole(disk.two.as_slice(), left)
+}
+
+fn is_foreign(alloc: Global, text: &[u8], other: Option<(usize, u8)>) -> bool {
+    let mut bytes = file(alloc, text, [0, 1, 1], 24_576);
+    if let Some((place, byte)) = other {
+        write_at(bytes.as_mut_slice(), place, byte);
     }
-    Ok(())
+    let mut disk = Folder::new(Vec::new(alloc), bytes);
+    let is_none = match open(alloc, &mut disk) {
+        Ok(store) => store.entries() == 0 && !store.is_closed(&NAMES[1]),
+        Err(_) => false,
+    };
+    is_none && disk.steps.is_empty() && is_whole(disk.two.as_slice(), [0, 1, 1])
+}
+
+fn fails(alloc: Global, failing: Failing) -> bool {
+    let mut disk = Folder::new(
+        file(alloc, FIRST, [1, 0, 1], 24_576),
+        file(alloc, SECOND, [1, 0, 1], 24_576),
+    );
+    disk.failing = failing;
+    match open(alloc, &mut disk) {
+        Ok(store) => {
+            store.entries() == 1
+                && extent_of(&store) == Some(4096)
+                && store.is_closed(&NAMES[0])
+                && !store.is_closed(&NAMES[1])
+        }
+        Err(_) => false,
+    }
+}
+
+fn unlike(alloc: Global, rows: &[Row<'_>]) -> Result<String, OutOfMemory> {
+    told(
+        alloc,
+        "a small disk",
+        rows.iter().position(|row| !is_met(alloc, row)),
+    )
+}
+
+const COUNTED: &[Row<'static>] = &[
+    Row::Counts([1, 1, 1], 24_576, Some(12_288)),
+    Row::Counts([1, 1, 1], 24_577, None),
+    Row::Counts([1, 1, 1], 24_575, None),
+    Row::Counts([1, 1, 0], 20_480, Some(8192)),
+    Row::Counts([1, 1, 0], 20_479, None),
+    Row::Counts([1, 0, 0], 16_384, Some(4096)),
+    Row::Counts([1, 0, 1], 16_384, Some(4096)),
+    Row::Counts([1, 2, 1], 16_384, Some(4096)),
+    Row::Counts([255, 1, 1], 12_288, Some(0)),
+    Row::Counts([0, 0, 0], 12_288, Some(0)),
+    Row::Counts([0, 0, 0], 12_287, None),
+    Row::Counts([0, 0, 0], 8192, None),
+    Row::Counts([0, 0, 0], 8191, None),
+    Row::Counts([0, 0, 0], 5, None),
+    Row::Counts([0, 0, 0], 0, None),
+];
+
+#[test]
+fn a_file_counts_where_it_has_all_that_its_gates_keep(rt: HostRuntime) -> Result<(), Fail> {
+    says_nothing(&rt, unlike(rt.alloc(), COUNTED))
+}
+
+const CLOSED: &[Row<'static>] = &[
+    Row::Closes([1, 1, 1], &[], [1, 1, 1]),
+    Row::Closes([1, 0, 0], &[], [1, 0, 0]),
+    Row::Closes(
+        [1, 0, 1],
+        &[Step::Write(8194, 1, Some(0)), Step::Sync],
+        [1, 0, 0],
+    ),
+    Row::Closes(
+        [0, 1, 1],
+        &[Step::Write(8193, 2, Some(0)), Step::Sync],
+        [0, 0, 0],
+    ),
+    Row::Closes(
+        [7, 1, 0],
+        &[Step::Write(8193, 1, Some(0)), Step::Sync],
+        [7, 0, 0],
+    ),
+    Row::Closes([2, 3, 4], &[], [2, 3, 4]),
+];
+
+#[test]
+fn gates_behind_one_that_is_not_open_are_closed(rt: HostRuntime) -> Result<(), Fail> {
+    says_nothing(&rt, unlike(rt.alloc(), CLOSED))
+}
+
+const FOREIGN: &[Row<'static>] = &[
+    Row::Foreign(b"", None),
+    Row::Foreign(b"notes of my own", None),
+    // The entry of another key, a byte of the head changed, and one behind its text.
+    Row::Foreign(FIRST, None),
+    Row::Foreign(SECOND, Some((40, b'H'))),
+    Row::Foreign(SECOND, Some((8191, 1))),
+];
+
+#[test]
+fn other_files_are_left_as_they_are(rt: HostRuntime) -> Result<(), Fail> {
+    says_nothing(&rt, unlike(rt.alloc(), FOREIGN))
+}
+
+const FAULTS: &[Row<'static>] = &[
+    Row::Fails(Failing::Read(A_NAME)),
+    Row::Fails(Failing::Write(A_NAME)),
+    Row::Fails(Failing::Sync(A_NAME)),
+];
+
+#[test]
+fn a_fault_on_one_file_closes_its_name_alone(rt: HostRuntime) -> Result<(), Fail> {
+    says_nothing(&rt, unlike(rt.alloc(), FAULTS))
+}
+
+fn refusal(alloc: Global) -> Option<RecoverFault> {
+    let mut disk = Folder::new(Vec::new(alloc), file(alloc, SECOND, [1, 1, 1], 24_576));
+    disk.failing = Failing::Names;
+    open(alloc, &mut disk).err()
 }
 
 #[test]
 fn a_folder_that_is_not_listed_is_not_an_empty_one(rt: HostRuntime) {
-    let alloc = rt.alloc();
-    let mut disk = Folder::new(Vec::new(alloc), file(alloc, SECOND, [1, 1, 1], 24_576));
-    disk.failing = Failing::Names;
-    assert_eq!(rt; open(alloc, &mut disk).err(), Some(RecoverFault::DiskFault));
+    assert_eq!(rt; refusal(rt.alloc()), Some(RecoverFault::DiskFault));
 }
