@@ -2,9 +2,9 @@
 //!
 //! Each table writes down what clients and origins do, where the machine stops and what the crash leaves of what was in doubt; and
 //! what is wanted: the bytes that each client is sent, how often an origin is asked, how much of what it sends is read, and the
-//! course of the folder, operation by operation. Most are played twice, with each text whole and with every byte alone. Folders
-//! write down their files, and what a request comes to over them. Crowds write down how many follow a body, which chunks of it
-//! they need next, and which chunks leave memory where more comes than fits.
+//! course of the folder, operation by operation, or the whole log. Most are played twice, with each text whole and with every byte
+//! alone. Folders write down their files, and what a request comes to over them. Crowds write down how many follow a body, which
+//! chunks of it they need next, and which chunks leave memory where more comes than fits.
 //!
 //! One course of clients and an origin is played again and again: each call that can fail fails once, and the machine stops
 //! behind each happening.
@@ -50,6 +50,16 @@ mod foreign; // files that are no entries
 mod lives; // from one life to the next
 #[cfg(test)]
 mod on_disk; // what is kept on the disk, and when
+
+// Whole logs, happening by happening.
+#[cfg(test)]
+mod lines; // a log as it is written down, line by line
+#[cfg(test)]
+mod whole_chunks; // of pages of several chunks
+#[cfg(test)]
+mod whole_lives; // through a crash
+#[cfg(test)]
+mod whole_log; // of a page that is fetched
 
 // More than fits.
 #[cfg(test)]
