@@ -9,9 +9,12 @@
 //! One course of clients and an origin is played again and again: each call that can fail fails once, and the machine stops
 //! behind each happening.
 //!
-//! To `pp_scarce`: the course, what each client may be said, and a life over it. The tests stand beside `pp_exchanges`, so that
-//! both are proved at the same time.
+//! To `pp_scarce`: the course, and what each client may be said. The tests stand beside `pp_exchanges`, so that both are proved at
+//! the same time.
 #![tactic(auto)]
+
+#[cfg(test)]
+mod saying; // that nothing is said where all goes as wanted
 
 // What is held, and asked for.
 #[cfg(test)]
@@ -75,9 +78,5 @@ mod course; // what clients and the origin do, and may be said
 mod crashes; // the machine stops behind each happening
 #[cfg(test)]
 mod failing; // each call that can fail fails once
-mod life; // a life of the program, and one more behind a crash
-#[cfg(test)]
-mod saying; // that nothing is said where all goes as wanted
 
 pub use course::{ALONE, AT_ONCE, COURSE, MAY_BE_SAID, MaySay, Reply};
-pub use life::{Life, first_life, next_life};

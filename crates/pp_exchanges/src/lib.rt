@@ -11,6 +11,9 @@
 //! crate, so that both are proved at the same time: they are two and not more, since each first reads the whole program.
 #![tactic(auto)]
 
+#[cfg(test)]
+mod saying; // that nothing is said where all goes as wanted
+
 // Requests and responses.
 #[cfg(test)]
 mod bad_requests; // requests that are none
@@ -53,7 +56,7 @@ mod losses; // lost origins are asked again
 #[cfg(test)]
 mod origin_ends; // origins that end, speak too early, or are slow
 
-// The program's beginning and end, and its demo.
+// The program's beginning and end, its demo, and simulated lives.
 #[cfg(test)]
 mod demo_logs; // what the log of the demo's lives has
 #[cfg(test)]
@@ -65,4 +68,4 @@ mod opened; // a run, and what it did
 #[cfg(test)]
 mod openings; // words and texts, and what comes of them
 #[cfg(test)]
-mod saying; // that nothing is said where all goes as wanted
+mod seeds; // simulated lives: their numbers, and how what happens is spelled

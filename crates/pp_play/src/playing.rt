@@ -5,7 +5,7 @@ use crate::folder::{Op, op_of};
 use pp_memworld::{Cue, MemWorld, Script};
 use pp_run::{Exit, run};
 use pp_text::{Octets, OutOfMemory};
-use pp_world::{Happening, Image};
+use pp_world::{Cause, Happening, Image, Remark};
 use std::alloc::{AllocError, Global};
 
 /// What happens next outside of the program. Connections have the numbers of one series from 1, in
@@ -71,17 +71,8 @@ pub fn play(alloc: Global, pace: Pace, acts: &[Act<'_>]) -> Result<Played, OutOf
     play_with(alloc, WORDS, pace, acts, &[])
 }
 
-/// The same, where the calls of these numbers fail: reads, writes, listening and dials, from 1.
-pub fn play_failing(
-    alloc: Global,
-    pace: Pace,
-    acts: &[Act<'_>],
-    failing: &[u64],
-) -> Result<Played, OutOfMemory> {
-    play_with(alloc, WORDS, pace, acts, failing)
-}
-
-/// The same with these words. Lives follow each other where the acts crash.
+/// The same with these words, where the calls of these numbers fail: reads, writes, listening and dials, from 1. Lives follow
+/// each other where the acts crash.
 pub fn play_with(
     alloc: Global,
     words: &[&str],
@@ -89,10 +80,9 @@ pub fn play_with(
     acts: &[Act<'_>],
     failing: &[u64],
 ) -> Result<Played, OutOfMemory> {
-    let words = strings(alloc, words)?;
     let (mut end, mut crash) = life_end(acts, 0);
     let life = acts.get(..end).unwrap_or(&[]);
-    let mut played = first_life(alloc, words.as_slice(), pace, life, failing)?;
+    let mut played = first_life(alloc, words, pace, life, failing)?;
     for _life in 0..LIVES {
         let Some(crashed) = crash else {
             break;
@@ -100,11 +90,15 @@ pub fn play_with(
         let from = end.saturating_add(1);
         let (at, next) = life_end(acts, from);
         let life = acts.get(from..at).unwrap_or(&[]);
-        played = next_life(alloc, words.as_slice(), pace, life, &played, crashed)?;
+        let place = crash_place(played.log(), crashed.begins);
+        played = next_life(alloc, words, pace, life, &played, place, crashed.choice)?;
         end = at;
         crash = next;
     }
-    Ok(played)
+    match played.told() {
+        Some(_) => Ok(played),
+        None => Err(OutOfMemory),
+    }
 }
 
 /// So many lives follow the first at most.
@@ -133,53 +127,46 @@ fn life_end(acts: &[Act<'_>], from: usize) -> (usize, Option<Crash>) {
     (acts.len(), None)
 }
 
+/// A life over an empty folder, where the calls of these numbers fail.
 #[tactic(auto, using(pp_shelf::proofs::OpeningLemmas::fresh_first))]
-fn first_life(
+pub fn first_life(
     alloc: Global,
-    words: &[String],
+    words: &[&str],
     pace: Pace,
     acts: &[Act<'_>],
     failing: &[u64],
 ) -> Result<Played, OutOfMemory> {
+    let words = strings(alloc, words)?;
     let script = script_of(alloc, pace, acts)?;
     let failing = failing_of(alloc, acts, failing)?;
     let mut world = boxed(
         alloc,
         MemWorld::new(alloc, script, Image::new(alloc), failing)?,
     )?;
-    let exit = run(alloc, words, &mut *world);
-    told(alloc, world, exit)
+    let exit = run(alloc, words.as_slice(), &mut *world);
+    Ok(Played { exit, world, alloc })
 }
 
-/// The life behind a crash of the one that was played.
+/// The life behind a crash of that one behind its first `at` happenings, by this choice of what is left.
 #[tactic(auto, using(pp_run::proofs::Fresh::fresh_crashed))]
-fn next_life(
+pub fn next_life(
     alloc: Global,
-    words: &[String],
+    words: &[&str],
     pace: Pace,
     acts: &[Act<'_>],
-    played: &Played,
-    crash: Crash,
+    before: &Played,
+    at: usize,
+    choice: u64,
 ) -> Result<Played, OutOfMemory> {
+    let words = strings(alloc, words)?;
     let script = script_of(alloc, pace, acts)?;
     let failing = failing_of(alloc, acts, &[])?;
-    let at = crash_place(played.log(), crash.begins);
-    let crashed = played
-        .world
-        .crash(alloc, at, crash.choice, script, failing)?;
+    let crashed = before.world.crash(alloc, at, choice, script, failing)?;
     let Some(next) = crashed else {
         return Err(OutOfMemory);
     };
     let mut world = boxed(alloc, next)?;
-    let exit = run(alloc, words, &mut *world);
-    told(alloc, world, exit)
-}
-
-/// A run that ended. The world stops telling where memory was refused.
-fn told(alloc: Global, world: Box<MemWorld>, exit: Exit) -> Result<Played, OutOfMemory> {
-    if world.log().is_none() {
-        return Err(OutOfMemory);
-    }
+    let exit = run(alloc, words.as_slice(), &mut *world);
     Ok(Played { exit, world, alloc })
 }
 
@@ -223,9 +210,14 @@ pub fn boxed(alloc: Global, world: MemWorld) -> Result<Box<MemWorld>, OutOfMemor
 }
 
 impl Played {
-    /// What happened: the world told it to the end.
+    /// What happened, of this life and of those before it. The world stops telling where memory is refused for that.
+    pub fn told(&self) -> Option<&[Happening]> {
+        self.world.log()
+    }
+
+    /// The same; nothing where it is not told.
     pub fn log(&self) -> &[Happening] {
-        self.world.log().unwrap_or(&[])
+        self.told().unwrap_or(&[])
     }
 
     pub fn alloc(&self) -> Global {
@@ -256,6 +248,18 @@ impl Played {
             }
         }
         Ok(text)
+    }
+
+    /// Why this client was cut, where it was.
+    pub fn cause(&self, c: u64) -> Option<Cause> {
+        for happening in self.log() {
+            if let Happening::Noted(Remark::Cut(client, cause)) = happening {
+                if *client == c {
+                    return Some(*cause);
+                }
+            }
+        }
+        None
     }
 }
 
