@@ -1,5 +1,6 @@
 // What clients and origins do, and the program played against it.
 ghost use Rattle.std.specs.Prelude.{◌≡◌, IfOk};
+ghost use Rattle.pp_memworld.specs.Slots.{AreListed};
 
 use crate::folder::{Op, op_of};
 use pp_memworld::{Cue, MemWorld, Script};
@@ -30,6 +31,9 @@ pub enum Act<'a> {
     Answer(u64, &'a [u8]),
     /// An origin sends so many of this byte.
     Fill(u64, u8, usize),
+    /// A client sends this text, and an origin so many of this byte, in one piece at either pace.
+    SayWhole(u64, &'a [u8]),
+    FillWhole(u64, u8, usize),
     /// An origin will send no more.
     End(u64),
     /// The next read or write of this connection fails.
@@ -80,9 +84,23 @@ pub fn play_with(
     acts: &[Act<'_>],
     failing: &[u64],
 ) -> Result<Played, OutOfMemory> {
+    play_over(alloc, words, pace, Image::new(alloc), acts, failing)
+}
+
+/// The same over a folder with these files.
+pub fn play_over(
+    alloc: Global,
+    words: &[&str],
+    pace: Pace,
+    image: Image,
+    acts: &[Act<'_>],
+    failing: &[u64],
+) -> Result<Played, OutOfMemory>
+    requires listed { AreListed image }
+{
     let (mut end, mut crash) = life_end(acts, 0);
     let life = acts.get(..end).unwrap_or(&[]);
-    let mut played = first_life(alloc, words, pace, life, failing)?;
+    let mut played = life_over(alloc, words, pace, image, life, failing)?;
     for _life in 0..LIVES {
         let Some(crashed) = crash else {
             break;
@@ -128,7 +146,6 @@ fn life_end(acts: &[Act<'_>], from: usize) -> (usize, Option<Crash>) {
 }
 
 /// A life over an empty folder, where the calls of these numbers fail.
-#[tactic(auto, using(pp_shelf::proofs::OpeningLemmas::fresh_first))]
 pub fn first_life(
     alloc: Global,
     words: &[&str],
@@ -136,13 +153,25 @@ pub fn first_life(
     acts: &[Act<'_>],
     failing: &[u64],
 ) -> Result<Played, OutOfMemory> {
+    life_over(alloc, words, pace, Image::new(alloc), acts, failing)
+}
+
+/// The same over a folder with these files.
+#[tactic(auto, using(pp_shelf::proofs::OpeningLemmas::fresh_first))]
+fn life_over(
+    alloc: Global,
+    words: &[&str],
+    pace: Pace,
+    image: Image,
+    acts: &[Act<'_>],
+    failing: &[u64],
+) -> Result<Played, OutOfMemory>
+    requires listed { AreListed image }
+{
     let words = strings(alloc, words)?;
     let script = script_of(alloc, pace, acts)?;
     let failing = failing_of(alloc, acts, failing)?;
-    let mut world = boxed(
-        alloc,
-        MemWorld::new(alloc, script, Image::new(alloc), failing)?,
-    )?;
+    let mut world = boxed(alloc, MemWorld::new(alloc, script, image, failing)?)?;
     let exit = run(alloc, words.as_slice(), &mut *world);
     Ok(Played { exit, world, alloc })
 }
@@ -224,6 +253,11 @@ impl Played {
         self.alloc
     }
 
+    /// The world as its last life left it.
+    pub fn world(&self) -> &MemWorld {
+        &*self.world
+    }
+
     /// All that this client was said.
     pub fn said(&self, c: u64) -> Result<Vec<u8>, OutOfMemory> {
         let mut text = Vec::new(self.alloc);
@@ -292,6 +326,11 @@ fn put_cues(
         Act::Fill(k, byte, count) => {
             let text = vec![in alloc; byte; count]?;
             put_answers(alloc, pace, k, text.as_slice(), cues)
+        }
+        Act::SayWhole(c, text) => put(Cue::Say(c, Octets::copy(alloc, text)?), cues),
+        Act::FillWhole(k, byte, count) => {
+            let text = vec![in alloc; byte; count]?;
+            put_answers(alloc, Pace::Whole, k, text.as_slice(), cues)
         }
         Act::Tick(seconds) => put(Cue::Tick(seconds), cues),
         Act::Connect => put(Cue::Connect, cues),
