@@ -60,6 +60,8 @@ mod lines; // a log as it is written down, line by line
 #[cfg(test)]
 mod whole_chunks; // of pages of several chunks
 #[cfg(test)]
+mod whole_foreign; // over an entry of another key
+#[cfg(test)]
 mod whole_lives; // through a crash
 #[cfg(test)]
 mod whole_log; // of a page that is fetched
