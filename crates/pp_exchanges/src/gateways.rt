@@ -2,8 +2,7 @@
 use crate::saying::says_nothing;
 use pp_play::{
     ASK, ASK_B, Act, Cut, Exchange, GET, GET_B, HEAD, PAGE_502, Pace, Part, REPLY, REPLY_B,
-    RESPONSE, RESPONSE_B, Step, T, Wanted, joined, play, unlike, unlike_at, unlike_when_cut,
-    with_repeated,
+    RESPONSE, RESPONSE_B, Step, T, Wanted, unlike, unlike_at, unlike_when_cut, with_repeated,
 };
 use pp_world::{Cause, Decision};
 use std::test::Fail;
@@ -148,6 +147,12 @@ fn a_response_that_cannot_be_passed_gets_a_page(rt: HostRuntime) -> Result<(), F
     says_nothing(&rt, unlike(rt.alloc(), NO_ANSWERS))
 }
 
+/// It is read no further, and its origin is left.
+const ENDLESS: &[Wanted<'static>] = &[
+    Wanted::Said(1, &[Part::Text(PAGE_502)]),
+    Wanted::Count(Step::Dropped, 1),
+];
+
 #[test]
 fn a_response_head_that_does_not_end_gets_a_page(rt: HostRuntime) -> Result<(), Fail> {
     let alloc = rt.alloc();
@@ -165,9 +170,12 @@ fn a_response_head_that_does_not_end_gets_a_page(rt: HostRuntime) -> Result<(), 
             Act::Reach(2),
             Act::Answer(2, head),
         ];
-        let played = play(alloc, pace, &acts)?;
-        assert_eq!(rt; played.said(1)?.as_slice(), PAGE_502, "{pace:?}");
-        assert_eq!(rt; played.count(Step::Dropped), 1, "{pace:?}");
+        let exchange = [Exchange {
+            name: "a head that does not end",
+            acts: &acts,
+            wanted: ENDLESS,
+        }];
+        says_nothing(&rt, unlike_at(alloc, pace, &exchange))?;
     }
     Ok(())
 }
@@ -367,21 +375,29 @@ const BODY: &[u8] = b"hello";
 fn an_origin_may_be_lost_behind_each_byte_of_what_is_kept(rt: HostRuntime) -> Result<(), Fail> {
     for lost in [Act::End(2), Act::Break(2)] {
         for len in 1..BODY.len() {
+            let front = &BODY[..len];
             let acts = [
                 Act::Connect,
                 Act::Say(1, GET),
                 Act::Reach(2),
                 Act::Answer(2, HEAD),
-                Act::Answer(2, &BODY[..len]),
+                Act::Answer(2, front),
                 lost,
                 Act::Refuse(3),
                 Act::Refuse(4),
             ];
-            let played = play(rt.alloc(), Pace::Whole, &acts)?;
-            let said = joined(rt.alloc(), &[REPLY_HEAD, &BODY[..len]])?;
-            assert_eq!(rt; played.said(1)?.as_slice(), said.as_slice(), "at {len}");
-            assert_eq!(rt; played.count(Step::Cut(Cause::Origin)), 1, "at {len}");
-            assert_eq!(rt; played.count(Step::Dialled(80)), 3, "at {len}");
+            let said = [Part::Text(REPLY_HEAD), Part::Text(front)];
+            let wanted = [
+                Wanted::Said(1, &said),
+                Wanted::Count(Step::Cut(Cause::Origin), 1),
+                Wanted::Count(Step::Dialled(80), 3),
+            ];
+            let exchange = [Exchange {
+                name: "an origin that is lost within a body that is kept",
+                acts: &acts,
+                wanted: &wanted,
+            }];
+            says_nothing(&rt, unlike_at(rt.alloc(), Pace::Whole, &exchange))?;
         }
     }
     Ok(())
