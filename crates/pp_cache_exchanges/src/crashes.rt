@@ -1,8 +1,7 @@
 // The machine stops behind each happening, and what was kept is there.
 use crate::course::{ALONE, AT_ONCE, COURSE};
-use crate::life::{Life, first_life, next_life};
 use crate::saying::says_nothing;
-use pp_play::{Act, Fit, Part, T, fit_of};
+use pp_play::{Act, Fit, Pace, Part, Played, T, first_life, fit_of, next_life};
 use pp_run::Exit;
 use pp_text::OutOfMemory;
 use pp_world::{Happening, Remark};
@@ -83,10 +82,10 @@ const SHOWN: &[Shown] = &[
 /// Behind which happening, and by which choice, the life behind a crash says anything but one version's bytes, or a page that
 /// nothing is kept, or does not find what was kept: nothing is said where there is none.
 fn unlike_behind_crashes(alloc: Global, words: &[&str]) -> Result<String, OutOfMemory> {
-    let life = first_life(alloc, words, COURSE, &[])?;
+    let life = first_life(alloc, words, Pace::Whole, COURSE, &[])?;
     for at in 0..life.log().len().saturating_add(1) {
         for choice in CHOICES {
-            let next = next_life(alloc, &life, at, *choice, words, BEHIND)?;
+            let next = next_life(alloc, words, Pace::Whole, BEHIND, &life, at, *choice)?;
             let part = first_unlike(alloc, &next, at)?;
             if !part.is_empty() {
                 return Ok(format!(in alloc; "a crash behind {at} by {choice}: {part}")?);
@@ -97,7 +96,7 @@ fn unlike_behind_crashes(alloc: Global, words: &[&str]) -> Result<String, OutOfM
 }
 
 /// What goes otherwise in the life behind a crash behind so many happenings, or nothing.
-fn first_unlike(alloc: Global, life: &Life, at: usize) -> Result<&'static str, OutOfMemory> {
+fn first_unlike(alloc: Global, life: &Played, at: usize) -> Result<&'static str, OutOfMemory> {
     let log = life.log();
     let (before, behind) = log.split_at(at.min(log.len()));
     if life.exit != Exit::Served || is_dialled(behind) {
@@ -124,7 +123,7 @@ fn finds(shown: &Shown, kept: Kept<'_>) -> bool {
 /// Of what may be said that which is.
 fn shown_in(
     alloc: Global,
-    life: &Life,
+    life: &Played,
     behind: &[Happening],
 ) -> Result<Option<&'static Shown>, OutOfMemory> {
     let mut clients = Vec::new(alloc);
@@ -136,8 +135,8 @@ fn shown_in(
     let [one, other] = clients.as_slice() else {
         return Ok(None);
     };
-    let whole = life.said(alloc, *one)?;
-    let first = life.said(alloc, *other)?;
+    let whole = life.said(*one)?;
+    let first = life.said(*other)?;
     for shown in SHOWN {
         if is_whole(whole.as_slice(), shown.whole) && is_whole(first.as_slice(), shown.first) {
             return Ok(Some(shown));

@@ -1,7 +1,9 @@
 // Followers of a body, each stopped before a chunk of it, and the chunks that leave memory where more comes than fits.
 use crate::folders::asked_in;
 use crate::lengths::LONGEST;
-use pp_play::{ASK, ASK_B, Act, Fit, GET, GET_B, Pace, Part, Played, T, fit_of, joined, play_with};
+use pp_play::{
+    ASK, ASK_B, Act, Fit, GET, GET_B, PACES, Pace, Part, Played, T, fit_of, joined, play_with,
+};
 use pp_text::OutOfMemory;
 use pp_world::{Happening, Remark};
 use std::alloc::{AllocError, Global};
@@ -32,14 +34,20 @@ pub(crate) struct Run {
 
 const CHUNK_LEN: usize = 4_096;
 
-/// Where one of these goes otherwise: nothing is said where none does.
+/// Where one of these goes otherwise, at either pace: nothing is said where none does.
 pub(crate) fn unlike(alloc: Global, crowds: &[Crowd]) -> Result<String, OutOfMemory> {
-    for crowd in crowds {
-        let played = played(alloc, crowd)?;
-        let part = first_unlike(alloc, crowd, &played)?;
-        if !part.is_empty() {
-            let left = evicted(alloc, played.log())?;
-            return Ok(format!(in alloc; "{}: {part}, {:?} left", crowd.name, left.as_slice())?);
+    for pace in PACES {
+        for crowd in crowds {
+            let played = played(alloc, pace, crowd)?;
+            let part = first_unlike(alloc, crowd, &played)?;
+            if !part.is_empty() {
+                let left = evicted(alloc, played.log())?;
+                return Ok(format!(in alloc;
+                    "{}, {pace:?}: {part}, {:?} left",
+                    crowd.name,
+                    left.as_slice()
+                )?);
+            }
         }
     }
     Ok(String::new(alloc))
@@ -48,7 +56,13 @@ pub(crate) fn unlike(alloc: Global, crowds: &[Crowd]) -> Result<String, OutOfMem
 /// The clients of page /a have the numbers from this one on.
 const FIRST: u64 = 3;
 
-fn played(alloc: Global, crowd: &Crowd) -> Result<Played, OutOfMemory> {
+/// So many bytes of the last chunk come alone, where each byte does.
+const ALONE: usize = 256;
+
+/// Byte by byte come the requests for both pages and their heads, the front of the last chunk of page /b, with whose first byte
+/// the memory is as full as it gets, and what is asked behind it. The followers' requests and the rest of both pages, millions
+/// of bytes, come whole at either pace.
+fn played(alloc: Global, pace: Pace, crowd: &Crowd) -> Result<Played, OutOfMemory> {
     let requests = requests_of(alloc, crowd)?;
     let anew = request_of(alloc, first_left(crowd))?;
     let beyond = FIRST.saturating_add(crowd.followers);
@@ -59,22 +73,25 @@ fn played(alloc: Global, crowd: &Crowd) -> Result<Played, OutOfMemory> {
         Act::Say(1, GET),
         Act::Reach(2),
         Act::Answer(2, LONGEST),
-        Act::Fill(2, b'a', crowd.chunks.saturating_mul(CHUNK_LEN)),
+        Act::FillWhole(2, b'a', crowd.chunks.saturating_mul(CHUNK_LEN)),
     ])?;
     for request in requests.iter() {
         acts.extend_from_slice(&[
             Act::Connect,
             Act::Window(0, 0),
-            Act::Say(0, request.as_bytes()),
+            Act::SayWhole(0, request.as_bytes()),
         ])?;
     }
     let origin = beyond.saturating_add(1);
+    let before_last = crowd.more.saturating_sub(1).saturating_mul(CHUNK_LEN);
     acts.extend_from_slice(&[
         Act::Connect,
         Act::Say(0, GET_B),
         Act::Reach(origin),
         Act::Answer(origin, LONGEST),
-        Act::Fill(origin, b'b', crowd.more.saturating_mul(CHUNK_LEN)),
+        Act::FillWhole(origin, b'b', before_last),
+        Act::Fill(origin, b'b', ALONE),
+        Act::FillWhole(origin, b'b', CHUNK_LEN - ALONE),
     ])?;
     for follower in FIRST..beyond {
         acts.push(Act::Window(follower, u64::MAX))
@@ -88,7 +105,7 @@ fn played(alloc: Global, crowd: &Crowd) -> Result<Played, OutOfMemory> {
         Act::Say(beyond.saturating_sub(1), anew.as_bytes()),
         Act::Reach(beyond.saturating_add(2)),
     ])?;
-    play_with(alloc, crowd.words, Pace::Whole, acts.as_slice(), &[])
+    play_with(alloc, crowd.words, pace, acts.as_slice(), &[])
 }
 
 /// The chunk that this follower asks for.

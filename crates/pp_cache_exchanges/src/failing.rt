@@ -1,8 +1,7 @@
 // Each call that can fail fails once: reads, writes, listening, dials, the file of the settings, and those of the disk.
 use crate::course::{ALONE, AT_ONCE, COURSE, MAY_BE_SAID, MaySay, Reply};
-use crate::life::{Life, first_life};
 use crate::saying::says_nothing;
-use pp_play::{Fit, fit_of};
+use pp_play::{Fit, Pace, Played, first_life, fit_of};
 use pp_run::Exit;
 use pp_text::OutOfMemory;
 use pp_world::{Cause, Happening};
@@ -12,10 +11,10 @@ use std::test::Fail;
 /// Where the course goes otherwise than it may, with one call that fails, whichever that is: nothing is said where it does
 /// not. Behind the last call none fails.
 fn unlike_with_a_failure(alloc: Global, words: &[&str]) -> Result<String, OutOfMemory> {
-    let plain = first_life(alloc, words, COURSE, &[])?;
+    let plain = first_life(alloc, words, Pace::Whole, COURSE, &[])?;
     let calls = calls_in(plain.log());
     for call in 1..calls.saturating_add(2) {
-        let life = first_life(alloc, words, COURSE, &[call])?;
+        let life = first_life(alloc, words, Pace::Whole, COURSE, &[call])?;
         let failures = if call <= calls { 1 } else { 0 };
         let said = first_unlike(alloc, &life, failures)?;
         if !said.is_empty() {
@@ -26,7 +25,7 @@ fn unlike_with_a_failure(alloc: Global, words: &[&str]) -> Result<String, OutOfM
 }
 
 /// What goes otherwise in a life in which the outside fails so often, or nothing.
-fn first_unlike(alloc: Global, life: &Life, failures: u64) -> Result<String, OutOfMemory> {
+fn first_unlike(alloc: Global, life: &Played, failures: u64) -> Result<String, OutOfMemory> {
     if failures_in(life.log()) != failures {
         return Ok(String::from_str(alloc, "how often the outside fails")?);
     }
@@ -35,8 +34,8 @@ fn first_unlike(alloc: Global, life: &Life, failures: u64) -> Result<String, Out
         return Ok(String::from_str(alloc, "how it ends")?);
     }
     for may_say in MAY_BE_SAID {
-        if !is_said_so(alloc, life, may_say)? {
-            let said = life.said(alloc, may_say.client)?;
+        if !is_said_so(life, may_say)? {
+            let said = life.said(may_say.client)?;
             let said = String::from_utf8_lossy(alloc, said.as_slice())?;
             return Ok(format!(in alloc; "client {} is said {said:?}", may_say.client)?);
         }
@@ -128,8 +127,8 @@ fn printed_in(alloc: Global, log: &[Happening]) -> Result<Vec<u8>, OutOfMemory> 
 
 /// Whether this client is said one of the replies that it may be, whole and cut where that is; or a front of it, where the
 /// client was lost; and nothing where the program does not serve.
-fn is_said_so(alloc: Global, life: &Life, may_say: &MaySay) -> Result<bool, OutOfMemory> {
-    let said = life.said(alloc, may_say.client)?;
+fn is_said_so(life: &Played, may_say: &MaySay) -> Result<bool, OutOfMemory> {
+    let said = life.said(may_say.client)?;
     if life.exit != Exit::Served {
         return Ok(said.is_empty());
     }

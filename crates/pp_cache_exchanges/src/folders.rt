@@ -1,10 +1,9 @@
 // A folder with files, a run of the program over it, and what that did.
-ghost use Rattle.std.specs.Prelude.{◌<◌, IfOk};
+ghost use Rattle.std.specs.Prelude.{IfOk};
 ghost use Rattle.pp_memworld.specs.Slots.{AreListed};
 
-use pp_memworld::{Cue, MemWorld, Script, put_file};
-use pp_play::{PACES, Pace, T, boxed};
-use pp_run::run;
+use pp_memworld::{Script, put_file};
+use pp_play::{Act, PACES, Pace, Played, T, boxed, play_over};
 use pp_text::{Octets, OutOfMemory};
 use pp_world::{Decision, Happening, Image, Name, Remark};
 use std::alloc::{AllocError, Global};
@@ -35,7 +34,7 @@ pub(crate) struct Visit {
 }
 
 /// What an origin answers where it is asked: none of it may be stored.
-const ANSWER: &[u8] =
+pub(crate) const ANSWER: &[u8] =
     b"HTTP/1.1 200 OK\r\nCache-Control: no-store\r\nContent-Length: 5\r\n\r\nother";
 
 /// Where a request over one of these folders comes to anything else, or a file is not left as it was, at either pace: nothing
@@ -48,8 +47,8 @@ pub(crate) fn unlike(
     for pace in PACES {
         for folder in folders {
             for (place, visit) in visits.iter().enumerate() {
-                let world = visited(alloc, pace, folder.files, visit.request)?;
-                let part = first_unlike(alloc, &world, folder.files, visit)?;
+                let played = visited(alloc, pace, folder.files, visit.request)?;
+                let part = first_unlike(alloc, &played, folder.files, visit)?;
                 if !part.is_empty() {
                     return Ok(format!(in alloc;
                         "{}, {pace:?}: {part} of request {place}",
@@ -63,51 +62,25 @@ pub(crate) fn unlike(
 }
 
 /// A life over these files, in which a client says this request.
-#[tactic(auto, using(pp_shelf::proofs::OpeningLemmas::fresh_first))]
 fn visited(
     alloc: Global,
     pace: Pace,
     files: &[File],
     request: &[u8],
-) -> Result<Box<MemWorld>, OutOfMemory> {
-    let script = script_of(alloc, pace, request)?;
+) -> Result<Played, OutOfMemory> {
     let image = image_of(alloc, files)?;
-    let mut world = boxed(alloc, MemWorld::new(alloc, script, image, Vec::new(alloc))?)?;
-    let _ = run(alloc, &[], &mut *world);
-    Ok(world)
-}
-
-fn script_of(alloc: Global, pace: Pace, request: &[u8]) -> Result<Script, OutOfMemory> {
-    let mut cues = Vec::new(alloc);
-    cues.push(Cue::Tick(T)).map_err(AllocError::from)?;
-    cues.push(Cue::Connect).map_err(AllocError::from)?;
-    for piece in request.chunks(piece_len(pace, request)) {
-        let piece = Octets::copy(alloc, piece)?;
-        cues.push(Cue::Say(1, piece)).map_err(AllocError::from)?;
-    }
-    cues.push(Cue::Reach(2)).map_err(AllocError::from)?;
-    for piece in ANSWER.chunks(piece_len(pace, ANSWER)) {
-        let piece = Octets::copy(alloc, piece)?;
-        cues.push(Cue::Answer(2, piece)).map_err(AllocError::from)?;
-    }
-    Ok(Script {
-        cues,
-        site: Vec::new(alloc),
-    })
-}
-
-/// How much of a text comes at a time.
-pub(crate) fn piece_len(pace: Pace, text: &[u8]) -> usize
-    ensures { 0 < result }
-{
-    match pace {
-        Pace::Whole => text.len().max(1),
-        Pace::Bytewise => 1,
-    }
+    let acts = [
+        Act::Tick(T),
+        Act::Connect,
+        Act::Say(1, request),
+        Act::Reach(2),
+        Act::Answer(2, ANSWER),
+    ];
+    play_over(alloc, &[], pace, image, &acts, &[])
 }
 
 /// A folder with these files.
-fn image_of(alloc: Global, files: &[File]) -> Result<Image, OutOfMemory>
+pub(crate) fn image_of(alloc: Global, files: &[File]) -> Result<Image, OutOfMemory>
     ensures listed { IfOk result AreListed }
 {
     let mut image = Image::new(alloc);
@@ -135,11 +108,11 @@ fn bytes_of(alloc: Global, bytes: &Bytes) -> Result<Vec<u8>, OutOfMemory> {
 /// What went otherwise, or nothing.
 fn first_unlike(
     alloc: Global,
-    world: &MemWorld,
+    played: &Played,
     files: &[File],
     visit: &Visit,
 ) -> Result<&'static str, OutOfMemory> {
-    let log = world.log().unwrap_or(&[]);
+    let log = played.log();
     if decision_in(log) != Some(visit.decision) {
         return Ok("the decision");
     }
@@ -150,7 +123,7 @@ fn first_unlike(
         return Ok("the reply");
     }
     for choice in 0..2 {
-        if !are_left(alloc, world, choice, files)? {
+        if !are_left(alloc, played, choice, files)? {
             return Ok("what is left");
         }
     }
@@ -192,16 +165,19 @@ fn said_in(alloc: Global, log: &[Happening]) -> Result<Vec<u8>, OutOfMemory> {
 /// Whether a crash at the end leaves just these files by this choice.
 fn are_left(
     alloc: Global,
-    world: &MemWorld,
+    played: &Played,
     choice: u64,
     files: &[File],
 ) -> Result<bool, OutOfMemory> {
-    let at = world.log().unwrap_or(&[]).len();
+    let at = played.log().len();
     let script = Script {
         cues: Vec::new(alloc),
         site: Vec::new(alloc),
     };
-    let Some(next) = world.crash(alloc, at, choice, script, Vec::new(alloc))? else {
+    let crashed = played
+        .world()
+        .crash(alloc, at, choice, script, Vec::new(alloc))?;
+    let Some(next) = crashed else {
         return Ok(false);
     };
     let next = boxed(alloc, next)?;
@@ -212,7 +188,7 @@ fn are_left(
 }
 
 /// Whether these files are there, which are written down in the order of their names, and no others.
-fn has_just(alloc: Global, image: &Image, files: &[File]) -> Result<bool, OutOfMemory> {
+pub(crate) fn has_just(alloc: Global, image: &Image, files: &[File]) -> Result<bool, OutOfMemory> {
     let mut before: Option<&Name> = None;
     for file in files {
         let bytes = bytes_of(alloc, &file.bytes)?;

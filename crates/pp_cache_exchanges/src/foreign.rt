@@ -6,28 +6,29 @@ use pp_world::{Decision, Name};
 use std::test::Fail;
 
 /// The MD5 digests of the keys `http://h/a` and `http://h/b`, in lower-case hexadecimal digits, and of the first in upper case.
-const A_NAME: Name = *b"2ce7276502725c281e6d5ae4e55aed55";
+pub(crate) const A_NAME: Name = *b"2ce7276502725c281e6d5ae4e55aed55";
 
 const B_NAME: Name = *b"9eb7218839b91c098ab0e2d8c080c379";
 
 const UPPER_NAME: Name = *b"2CE7276502725C281E6D5AE4E55AED55";
 
 /// The heads of entries of these keys, with a body of five bytes.
-const A_HEAD: &[u8] =
+pub(crate) const A_HEAD: &[u8] =
     b"HTTP/1.1 200 OK\r\netag: \"x\"\r\ndate: Sun, 06 Nov 1994 08:49:37 GMT\r\ncache-control: max-age=60\r\nX-Polipo-Location: http://h/a\r\nX-Polipo-Date: 784111777\r\nX-Polipo-Age: 0\r\nX-Polipo-Length: 5\r\nX-Polipo-Body-Offset: 12288\r\n\r\n";
 
-const B_HEAD: &[u8] =
+pub(crate) const B_HEAD: &[u8] =
     b"HTTP/1.1 200 OK\r\netag: \"x\"\r\ndate: Sun, 06 Nov 1994 08:49:37 GMT\r\ncache-control: max-age=60\r\nX-Polipo-Location: http://h/b\r\nX-Polipo-Date: 784111777\r\nX-Polipo-Age: 0\r\nX-Polipo-Length: 5\r\nX-Polipo-Body-Offset: 12288\r\n\r\n";
 
-const ONLY: &[u8] = b"GET http://h/a HTTP/1.1\r\nHost: h\r\nCache-Control: only-if-cached\r\n\r\n";
+pub(crate) const ONLY: &[u8] =
+    b"GET http://h/a HTTP/1.1\r\nHost: h\r\nCache-Control: only-if-cached\r\n\r\n";
 
-const ONLY_B: &[u8] =
+pub(crate) const ONLY_B: &[u8] =
     b"GET http://h/b HTTP/1.1\r\nHost: h\r\nCache-Control: only-if-cached\r\n\r\n";
 
-const PAGE_504: &[u8] =
+pub(crate) const PAGE_504: &[u8] =
     b"HTTP/1.1 504 Gateway Timeout\r\ncontent-type: text/plain\r\ncontent-length: 20\r\nconnection: keep-alive\r\n\r\n504 Gateway Timeout\n";
 
-const OTHER: &[u8] =
+pub(crate) const OTHER: &[u8] =
     b"HTTP/1.1 200 OK\r\ncache-control: no-store\r\nvia: 1.1 polipo\r\ncontent-length: 5\r\nconnection: keep-alive\r\n\r\nother";
 
 const FOREIGN: &[Folder] = &[

@@ -2,16 +2,19 @@
 //!
 //! Each table writes down what clients and origins do, where the machine stops and what the crash leaves of what was in doubt; and
 //! what is wanted: the bytes that each client is sent, how often an origin is asked, how much of what it sends is read, and the
-//! course of the folder, operation by operation. Most are played twice, with each text whole and with every byte alone. Folders
-//! write down their files, and what a request comes to over them. Crowds write down how many follow a body, which chunks of it
-//! they need next, and which chunks leave memory where more comes than fits.
+//! course of the folder, operation by operation, or the whole log. Most are played twice, with each text whole and with every byte
+//! alone. Folders write down their files, and what a request comes to over them. Crowds write down how many follow a body, which
+//! chunks of it they need next, and which chunks leave memory where more comes than fits.
 //!
 //! One course of clients and an origin is played again and again: each call that can fail fails once, and the machine stops
 //! behind each happening.
 //!
-//! To `pp_scarce`: the course, what each client may be said, and a life over it. The tests stand beside `pp_exchanges`, so that
-//! both are proved at the same time.
+//! To `pp_scarce`: the course, and what each client may be said. The tests stand beside `pp_exchanges`, so that both are proved at
+//! the same time.
 #![tactic(auto)]
+
+#[cfg(test)]
+mod saying; // that nothing is said where all goes as wanted
 
 // What is held, and asked for.
 #[cfg(test)]
@@ -51,6 +54,18 @@ mod lives; // from one life to the next
 #[cfg(test)]
 mod on_disk; // what is kept on the disk, and when
 
+// Whole logs, happening by happening.
+#[cfg(test)]
+mod lines; // a log as it is written down, line by line
+#[cfg(test)]
+mod whole_chunks; // of pages of several chunks
+#[cfg(test)]
+mod whole_foreign; // over an entry of another key
+#[cfg(test)]
+mod whole_lives; // through a crash
+#[cfg(test)]
+mod whole_log; // of a page that is fetched
+
 // More than fits.
 #[cfg(test)]
 mod crowds; // followers, and the chunks that leave memory
@@ -65,9 +80,5 @@ mod course; // what clients and the origin do, and may be said
 mod crashes; // the machine stops behind each happening
 #[cfg(test)]
 mod failing; // each call that can fail fails once
-mod life; // a life of the program, and one more behind a crash
-#[cfg(test)]
-mod saying; // that nothing is said where all goes as wanted
 
 pub use course::{ALONE, AT_ONCE, COURSE, MAY_BE_SAID, MaySay, Reply};
-pub use life::{Life, first_life, next_life};

@@ -1,34 +1,25 @@
 // The listener, and the end.
 use crate::saying::says_nothing;
-use pp_play::{Act, Exchange, GET, Pace, Part, RESPONSE, Step, Wanted, play, unlike_at};
+use pp_play::{
+    Act, Exchange, Filed, GET, Pace, Part, RESPONSE, Step, Wanted, play, unlike_at, unlike_by,
+};
 use pp_run::Exit;
 use pp_world::{Cause, Decision, Happening};
 use std::test::Fail;
 
-#[test]
-fn without_words_and_events_it_listens_and_waits(rt: HostRuntime) -> Result<(), Fail> {
-    let played = play(rt.alloc(), Pace::Whole, &[])?;
-    assert_eq!(rt; played.exit, Exit::Served);
-    assert!(rt; is_listening(played.log()));
-    Ok(())
-}
+const NOTHING: &[Exchange<'static>] = &[Exchange {
+    name: "nothing happens",
+    acts: &[],
+    wanted: &[
+        Wanted::Exit(Exit::Served),
+        Wanted::Filed(&[Filed::Woke(false)]),
+        Wanted::Count(Step::Opened, 0),
+    ],
+}];
 
-/// Whether this is all: it lists its folder, listens, waits for clients alone, and is stopped.
-fn is_listening(log: &[Happening]) -> bool {
-    match log {
-        [
-            Happening::Woke(image),
-            Happening::Rooted(_),
-            Happening::Listed(true),
-            Happening::Listens(8123, true),
-            Happening::Waits(wants),
-            Happening::Stopped,
-        ] => image.next_name(None).is_none()
-            && wants.accept
-            && wants.read.is_empty()
-            && wants.write.is_empty(),
-        _ => false,
-    }
+#[test]
+fn without_words_and_events_it_serves_until_it_is_stopped(rt: HostRuntime) -> Result<(), Fail> {
+    says_nothing(&rt, unlike_by(rt.alloc(), &[], Pace::Whole, NOTHING))
 }
 
 const STOPPED: &[Act<'static>] = &[

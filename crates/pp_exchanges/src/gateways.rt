@@ -1,8 +1,8 @@
 // Origins that answer wrongly, or not at all. Where nothing came of it the client gets a page, and its connection goes on.
+use crate::saying::says_nothing;
 use pp_play::{
     ASK, ASK_B, Act, Cut, Exchange, GET, GET_B, HEAD, PAGE_502, Pace, Part, REPLY, REPLY_B,
-    RESPONSE, RESPONSE_B, Step, T, Wanted, joined, play, play_failing, unlike, unlike_at,
-    unlike_when_cut, with_repeated,
+    RESPONSE, RESPONSE_B, Step, T, Wanted, unlike, unlike_at, unlike_when_cut, with_repeated,
 };
 use pp_world::{Cause, Decision};
 use std::test::Fail;
@@ -144,9 +144,14 @@ const NO_ANSWERS: &[Exchange<'static>] = &[
 
 #[test]
 fn a_response_that_cannot_be_passed_gets_a_page(rt: HostRuntime) -> Result<(), Fail> {
-    assert_eq!(rt; unlike(rt.alloc(), NO_ANSWERS)?.as_str(), "");
-    Ok(())
+    says_nothing(&rt, unlike(rt.alloc(), NO_ANSWERS))
 }
+
+/// It is read no further, and its origin is left.
+const ENDLESS: &[Wanted<'static>] = &[
+    Wanted::Said(1, &[Part::Text(PAGE_502)]),
+    Wanted::Count(Step::Dropped, 1),
+];
 
 #[test]
 fn a_response_head_that_does_not_end_gets_a_page(rt: HostRuntime) -> Result<(), Fail> {
@@ -165,9 +170,12 @@ fn a_response_head_that_does_not_end_gets_a_page(rt: HostRuntime) -> Result<(), 
             Act::Reach(2),
             Act::Answer(2, head),
         ];
-        let played = play(alloc, pace, &acts)?;
-        assert_eq!(rt; played.said(1)?.as_slice(), PAGE_502, "{pace:?}");
-        assert_eq!(rt; played.count(Step::Dropped), 1, "{pace:?}");
+        let exchange = [Exchange {
+            name: "a head that does not end",
+            acts: &acts,
+            wanted: ENDLESS,
+        }];
+        says_nothing(&rt, unlike_at(alloc, pace, &exchange))?;
     }
     Ok(())
 }
@@ -252,19 +260,24 @@ const NOT_REACHED: &[Exchange<'static>] = &[
     },
 ];
 
+const NOT_DIALLED: &[Exchange<'static>] = &[Exchange {
+    name: "no dial succeeds",
+    acts: &[
+        // calls: list, listen, read, dial, dial, dial
+        Act::Failing(&[4, 5, 6]),
+        Act::Connect,
+        Act::Say(1, GET),
+    ],
+    wanted: &[
+        Wanted::Said(1, &[Part::Text(PAGE_502)]),
+        Wanted::Count(Step::Dialled(80), 0),
+    ],
+}];
+
 #[test]
 fn an_origin_that_is_lost_gives_a_page(rt: HostRuntime) -> Result<(), Fail> {
-    assert_eq!(rt; unlike(rt.alloc(), NOT_REACHED)?.as_str(), "");
-    // calls: list, listen, read, dial, dial, dial
-    let played = play_failing(
-        rt.alloc(),
-        Pace::Whole,
-        &[Act::Connect, Act::Say(1, GET)],
-        &[4, 5, 6],
-    )?;
-    assert_eq!(rt; played.said(1)?.as_slice(), PAGE_502);
-    assert_eq!(rt; played.count(Step::Dialled(80)), 0);
-    Ok(())
+    says_nothing(&rt, unlike(rt.alloc(), NOT_REACHED))?;
+    says_nothing(&rt, unlike_at(rt.alloc(), Pace::Whole, NOT_DIALLED))
 }
 
 /// An origin that is there at the third attempt.
@@ -289,8 +302,7 @@ const AT_LAST: &[Exchange<'static>] = &[Exchange {
 
 #[test]
 fn an_origin_that_is_lost_is_asked_again(rt: HostRuntime) -> Result<(), Fail> {
-    assert_eq!(rt; unlike(rt.alloc(), AT_LAST)?.as_str(), "");
-    Ok(())
+    says_nothing(&rt, unlike(rt.alloc(), AT_LAST))
 }
 
 /// Two clients that ask for the same: the second waits for the first one's answer.
@@ -317,8 +329,7 @@ const SHARED: &[Exchange<'static>] = &[Exchange {
 
 #[test]
 fn a_bad_answer_fails_one_request_alone(rt: HostRuntime) -> Result<(), Fail> {
-    assert_eq!(rt; unlike(rt.alloc(), SHARED)?.as_str(), "");
-    Ok(())
+    says_nothing(&rt, unlike(rt.alloc(), SHARED))
 }
 
 const CUT_LENGTH: &Cut<'static> = &Cut {
@@ -349,7 +360,7 @@ const CUT_CODING: &Cut<'static> = &Cut {
 #[test]
 fn an_origin_may_be_lost_behind_each_byte(rt: HostRuntime) -> Result<(), Fail> {
     for cut in [CUT_LENGTH, CUT_CODING] {
-        assert_eq!(rt; unlike_when_cut(rt.alloc(), cut)?.as_str(), "");
+        says_nothing(&rt, unlike_when_cut(rt.alloc(), cut))?;
     }
     Ok(())
 }
@@ -364,21 +375,29 @@ const BODY: &[u8] = b"hello";
 fn an_origin_may_be_lost_behind_each_byte_of_what_is_kept(rt: HostRuntime) -> Result<(), Fail> {
     for lost in [Act::End(2), Act::Break(2)] {
         for len in 1..BODY.len() {
+            let front = &BODY[..len];
             let acts = [
                 Act::Connect,
                 Act::Say(1, GET),
                 Act::Reach(2),
                 Act::Answer(2, HEAD),
-                Act::Answer(2, &BODY[..len]),
+                Act::Answer(2, front),
                 lost,
                 Act::Refuse(3),
                 Act::Refuse(4),
             ];
-            let played = play(rt.alloc(), Pace::Whole, &acts)?;
-            let said = joined(rt.alloc(), &[REPLY_HEAD, &BODY[..len]])?;
-            assert_eq!(rt; played.said(1)?.as_slice(), said.as_slice(), "at {len}");
-            assert_eq!(rt; played.count(Step::Cut(Cause::Origin)), 1, "at {len}");
-            assert_eq!(rt; played.count(Step::Dialled(80)), 3, "at {len}");
+            let said = [Part::Text(REPLY_HEAD), Part::Text(front)];
+            let wanted = [
+                Wanted::Said(1, &said),
+                Wanted::Count(Step::Cut(Cause::Origin), 1),
+                Wanted::Count(Step::Dialled(80), 3),
+            ];
+            let exchange = [Exchange {
+                name: "an origin that is lost within a body that is kept",
+                acts: &acts,
+                wanted: &wanted,
+            }];
+            says_nothing(&rt, unlike_at(rt.alloc(), Pace::Whole, &exchange))?;
         }
     }
     Ok(())
@@ -449,8 +468,7 @@ const CUTS: &[Exchange<'static>] = &[
 
 #[test]
 fn a_response_that_turns_bad_cuts_its_client(rt: HostRuntime) -> Result<(), Fail> {
-    assert_eq!(rt; unlike_at(rt.alloc(), Pace::Whole, CUTS)?.as_str(), "");
-    Ok(())
+    says_nothing(&rt, unlike_at(rt.alloc(), Pace::Whole, CUTS))
 }
 
 /// The rest of a body is asked for.
@@ -552,8 +570,7 @@ const RESTS: &[Exchange<'static>] = &[
 
 #[test]
 fn a_lost_body_is_gone_on_with_by_its_own_rest_alone(rt: HostRuntime) -> Result<(), Fail> {
-    assert_eq!(rt; unlike(rt.alloc(), RESTS)?.as_str(), "");
-    Ok(())
+    says_nothing(&rt, unlike(rt.alloc(), RESTS))
 }
 
 /// An answer and another one behind it, which nobody asked for: it is no answer to what is asked next.
@@ -591,6 +608,5 @@ const STRAY: &[Exchange<'static>] = &[Exchange {
 
 #[test]
 fn an_answer_that_nobody_asked_for_is_not_taken(rt: HostRuntime) -> Result<(), Fail> {
-    assert_eq!(rt; unlike(rt.alloc(), STRAY)?.as_str(), "");
-    Ok(())
+    says_nothing(&rt, unlike(rt.alloc(), STRAY))
 }

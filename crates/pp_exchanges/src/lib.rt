@@ -1,15 +1,18 @@
 //! Worked exchanges about requests, connections and origins: the whole program, run over a world in memory.
 //!
-//! Each table writes down what clients and origins do, and the bytes that each of them is sent, the course of each
-//! connection, and where it matters the whole log. Most are played twice, with each text whole and with every byte alone, since
-//! the two must end alike; some with the origin lost behind each byte, or through windows of many sizes. Openings write down the
-//! words, the text of the file and which call of the world fails, and what was read, listened on and printed. The demo's script
-//! is written down in part, computed by its rule elsewhere, and so is what the log of its lives has.
+//! Each table writes down what clients and origins do, and the bytes that each of them is sent, and the course of each
+//! connection. Most are played twice, with each text whole and with every byte alone, since the two must end alike; some with the
+//! origin lost behind each byte, or through windows of many sizes. Openings write down the words, the text of the file and which
+//! call of the world fails, and what was read, listened on and printed. The demo's script is written down in part, computed by its
+//! rule elsewhere, and so is what the log of its lives has.
 //!
 //! Nothing stands on this crate. What each part promises is proved in the crate of that part; here the parts are tried together,
 //! on texts from the standards, hostile ones among them. Exchanges with the cache stand in `pp_cache_exchanges`, beside this
 //! crate, so that both are proved at the same time: they are two and not more, since each first reads the whole program.
 #![tactic(auto)]
+
+#[cfg(test)]
+mod saying; // that nothing is said where all goes as wanted
 
 // Requests and responses.
 #[cfg(test)]
@@ -21,19 +24,11 @@ mod filled; // texts that are as long as may be
 #[cfg(test)]
 mod framing; // responses however they are delimited
 #[cfg(test)]
-mod lines; // a log as it is written down, line by line
-#[cfg(test)]
 mod methods; // requests of any method, with bodies
 #[cfg(test)]
 mod refusals; // requests that are refused with a page
 #[cfg(test)]
 mod requests; // plain requests, and their replies
-#[cfg(test)]
-mod whole_chunks; // logs, happening by happening, of pages of several chunks
-#[cfg(test)]
-mod whole_lives; // such logs through a crash
-#[cfg(test)]
-mod whole_log; // and of a page that is fetched
 
 // Connections.
 #[cfg(test)]
@@ -61,7 +56,7 @@ mod losses; // lost origins are asked again
 #[cfg(test)]
 mod origin_ends; // origins that end, speak too early, or are slow
 
-// The program's beginning and end, and its demo.
+// The program's beginning and end, its demo, and simulated lives.
 #[cfg(test)]
 mod demo_logs; // what the log of the demo's lives has
 #[cfg(test)]
@@ -73,4 +68,4 @@ mod opened; // a run, and what it did
 #[cfg(test)]
 mod openings; // words and texts, and what comes of them
 #[cfg(test)]
-mod saying; // that nothing is said where all goes as wanted
+mod seeds; // simulated lives: their numbers, and how what happens is spelled

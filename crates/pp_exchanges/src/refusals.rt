@@ -1,6 +1,7 @@
 // Requests that are refused with a page.
+use crate::saying::says_nothing;
 use pp_play::{
-    Act, Exchange, GET, PAGE_400, PAGE_411, PAGE_431, Pace, Part, Step, Wanted, play, unlike,
+    Act, Exchange, GET, PAGE_400, PAGE_411, PAGE_431, Pace, Part, Step, Wanted, unlike, unlike_at,
     with_repeated,
 };
 use pp_world::Decision;
@@ -57,8 +58,7 @@ const NO_HEADS: &[Exchange<'static>] = &[
 
 #[test]
 fn bytes_that_are_no_request_get_a_page(rt: HostRuntime) -> Result<(), Fail> {
-    assert_eq!(rt; unlike(rt.alloc(), NO_HEADS)?.as_str(), "");
-    Ok(())
+    says_nothing(&rt, unlike(rt.alloc(), NO_HEADS))
 }
 
 const NO_TARGETS: &[Exchange<'static>] = &[
@@ -109,8 +109,7 @@ const NO_TARGETS: &[Exchange<'static>] = &[
 
 #[test]
 fn a_target_that_is_no_http_url_gets_a_page(rt: HostRuntime) -> Result<(), Fail> {
-    assert_eq!(rt; unlike(rt.alloc(), NO_TARGETS)?.as_str(), "");
-    Ok(())
+    says_nothing(&rt, unlike(rt.alloc(), NO_TARGETS))
 }
 
 const HEAD_PAGES: &[Exchange<'static>] = &[Exchange {
@@ -197,10 +196,23 @@ const BODIES: &[Exchange<'static>] = &[
 
 #[test]
 fn a_body_without_one_clear_length_gets_a_page(rt: HostRuntime) -> Result<(), Fail> {
-    assert_eq!(rt; unlike(rt.alloc(), BODIES)?.as_str(), "");
-    assert_eq!(rt; unlike(rt.alloc(), HEAD_PAGES)?.as_str(), "");
-    Ok(())
+    says_nothing(&rt, unlike(rt.alloc(), BODIES))?;
+    says_nothing(&rt, unlike(rt.alloc(), HEAD_PAGES))
 }
+
+const TOO_LARGE: &[Wanted<'static>] = &[
+    Wanted::Said(1, &[Part::Text(PAGE_431)]),
+    Wanted::Course(
+        1,
+        &[
+            Step::Opened,
+            Step::Taken(0, Decision::Refuse(431)),
+            Step::Said(149),
+            Step::Shut,
+            Step::Stopped,
+        ],
+    ),
+];
 
 #[test]
 fn a_head_that_does_not_end_gets_a_page(rt: HostRuntime) -> Result<(), Fail> {
@@ -214,17 +226,14 @@ fn a_head_that_does_not_end_gets_a_page(rt: HostRuntime) -> Result<(), Fail> {
         (Pace::Whole, long_field.as_slice()),
         (Pace::Whole, long_target.as_slice()),
     ];
-    let course = [
-        Step::Opened,
-        Step::Taken(0, Decision::Refuse(431)),
-        Step::Said(149),
-        Step::Shut,
-        Step::Stopped,
-    ];
     for (pace, head) in heads {
-        let played = play(alloc, pace, &[Act::Connect, Act::Say(1, head)])?;
-        assert_eq!(rt; played.said(1)?.as_slice(), PAGE_431, "{pace:?}");
-        assert_eq!(rt; played.course(1)?.as_slice(), course.as_slice(), "{pace:?}");
+        let acts = [Act::Connect, Act::Say(1, head)];
+        let exchange = [Exchange {
+            name: "a head that does not end",
+            acts: &acts,
+            wanted: TOO_LARGE,
+        }];
+        says_nothing(&rt, unlike_at(alloc, pace, &exchange))?;
     }
     Ok(())
 }
@@ -244,6 +253,5 @@ const BEHIND_PAGE: &[Exchange<'static>] = &[Exchange {
 
 #[test]
 fn no_request_is_heard_behind_a_page(rt: HostRuntime) -> Result<(), Fail> {
-    assert_eq!(rt; unlike(rt.alloc(), BEHIND_PAGE)?.as_str(), "");
-    Ok(())
+    says_nothing(&rt, unlike(rt.alloc(), BEHIND_PAGE))
 }

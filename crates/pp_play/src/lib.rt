@@ -27,7 +27,9 @@ pub use exchanges::{
 };
 pub use fitting::{Fit, Part, fit_of};
 pub use folder::{Filed, Op, op_of};
-pub use playing::{Act, PACES, Pace, Played, WORDS, boxed, play, play_failing, play_with};
+pub use playing::{
+    Act, PACES, Pace, Played, WORDS, boxed, first_life, next_life, play, play_over, play_with,
+};
 pub use texts::{
     ASK, ASK_B, GET, GET_B, HEAD, HEAD_B, PAGE_400, PAGE_411, PAGE_431, PAGE_502, PASSED, REPLY,
     REPLY_B, REPLY_HELD, RESPONSE, RESPONSE_B, T, asking, joined, joined_acts, with_repeated,

@@ -1,11 +1,12 @@
 // What clients and origins do, and the program played against it.
 ghost use Rattle.std.specs.Prelude.{◌≡◌, IfOk};
+ghost use Rattle.pp_memworld.specs.Slots.{AreListed};
 
 use crate::folder::{Op, op_of};
 use pp_memworld::{Cue, MemWorld, Script};
 use pp_run::{Exit, run};
 use pp_text::{Octets, OutOfMemory};
-use pp_world::{Happening, Image};
+use pp_world::{Cause, Happening, Image, Remark};
 use std::alloc::{AllocError, Global};
 
 /// What happens next outside of the program. Connections have the numbers of one series from 1, in
@@ -30,6 +31,9 @@ pub enum Act<'a> {
     Answer(u64, &'a [u8]),
     /// An origin sends so many of this byte.
     Fill(u64, u8, usize),
+    /// A client sends this text, and an origin so many of this byte, in one piece at either pace.
+    SayWhole(u64, &'a [u8]),
+    FillWhole(u64, u8, usize),
     /// An origin will send no more.
     End(u64),
     /// The next read or write of this connection fails.
@@ -71,17 +75,8 @@ pub fn play(alloc: Global, pace: Pace, acts: &[Act<'_>]) -> Result<Played, OutOf
     play_with(alloc, WORDS, pace, acts, &[])
 }
 
-/// The same, where the calls of these numbers fail: reads, writes, listening and dials, from 1.
-pub fn play_failing(
-    alloc: Global,
-    pace: Pace,
-    acts: &[Act<'_>],
-    failing: &[u64],
-) -> Result<Played, OutOfMemory> {
-    play_with(alloc, WORDS, pace, acts, failing)
-}
-
-/// The same with these words. Lives follow each other where the acts crash.
+/// The same with these words, where the calls of these numbers fail: reads, writes, listening and dials, from 1. Lives follow
+/// each other where the acts crash.
 pub fn play_with(
     alloc: Global,
     words: &[&str],
@@ -89,10 +84,23 @@ pub fn play_with(
     acts: &[Act<'_>],
     failing: &[u64],
 ) -> Result<Played, OutOfMemory> {
-    let words = strings(alloc, words)?;
+    play_over(alloc, words, pace, Image::new(alloc), acts, failing)
+}
+
+/// The same over a folder with these files.
+pub fn play_over(
+    alloc: Global,
+    words: &[&str],
+    pace: Pace,
+    image: Image,
+    acts: &[Act<'_>],
+    failing: &[u64],
+) -> Result<Played, OutOfMemory>
+    requires listed { AreListed image }
+{
     let (mut end, mut crash) = life_end(acts, 0);
     let life = acts.get(..end).unwrap_or(&[]);
-    let mut played = first_life(alloc, words.as_slice(), pace, life, failing)?;
+    let mut played = life_over(alloc, words, pace, image, life, failing)?;
     for _life in 0..LIVES {
         let Some(crashed) = crash else {
             break;
@@ -100,11 +108,15 @@ pub fn play_with(
         let from = end.saturating_add(1);
         let (at, next) = life_end(acts, from);
         let life = acts.get(from..at).unwrap_or(&[]);
-        played = next_life(alloc, words.as_slice(), pace, life, &played, crashed)?;
+        let place = crash_place(played.log(), crashed.begins);
+        played = next_life(alloc, words, pace, life, &played, place, crashed.choice)?;
         end = at;
         crash = next;
     }
-    Ok(played)
+    match played.told() {
+        Some(_) => Ok(played),
+        None => Err(OutOfMemory),
+    }
 }
 
 /// So many lives follow the first at most.
@@ -133,53 +145,57 @@ fn life_end(acts: &[Act<'_>], from: usize) -> (usize, Option<Crash>) {
     (acts.len(), None)
 }
 
-#[tactic(auto, using(pp_shelf::proofs::OpeningLemmas::fresh_first))]
-fn first_life(
+/// A life over an empty folder, where the calls of these numbers fail.
+pub fn first_life(
     alloc: Global,
-    words: &[String],
+    words: &[&str],
     pace: Pace,
     acts: &[Act<'_>],
     failing: &[u64],
 ) -> Result<Played, OutOfMemory> {
-    let script = script_of(alloc, pace, acts)?;
-    let failing = failing_of(alloc, acts, failing)?;
-    let mut world = boxed(
-        alloc,
-        MemWorld::new(alloc, script, Image::new(alloc), failing)?,
-    )?;
-    let exit = run(alloc, words, &mut *world);
-    told(alloc, world, exit)
+    life_over(alloc, words, pace, Image::new(alloc), acts, failing)
 }
 
-/// The life behind a crash of the one that was played.
-#[tactic(auto, using(pp_run::proofs::Fresh::fresh_crashed))]
-fn next_life(
+/// The same over a folder with these files.
+#[tactic(auto, using(pp_shelf::proofs::OpeningLemmas::fresh_first))]
+fn life_over(
     alloc: Global,
-    words: &[String],
+    words: &[&str],
+    pace: Pace,
+    image: Image,
+    acts: &[Act<'_>],
+    failing: &[u64],
+) -> Result<Played, OutOfMemory>
+    requires listed { AreListed image }
+{
+    let words = strings(alloc, words)?;
+    let script = script_of(alloc, pace, acts)?;
+    let failing = failing_of(alloc, acts, failing)?;
+    let mut world = boxed(alloc, MemWorld::new(alloc, script, image, failing)?)?;
+    let exit = run(alloc, words.as_slice(), &mut *world);
+    Ok(Played { exit, world, alloc })
+}
+
+/// The life behind a crash of that one behind its first `at` happenings, by this choice of what is left.
+#[tactic(auto, using(pp_run::proofs::Fresh::fresh_crashed))]
+pub fn next_life(
+    alloc: Global,
+    words: &[&str],
     pace: Pace,
     acts: &[Act<'_>],
-    played: &Played,
-    crash: Crash,
+    before: &Played,
+    at: usize,
+    choice: u64,
 ) -> Result<Played, OutOfMemory> {
+    let words = strings(alloc, words)?;
     let script = script_of(alloc, pace, acts)?;
     let failing = failing_of(alloc, acts, &[])?;
-    let at = crash_place(played.log(), crash.begins);
-    let crashed = played
-        .world
-        .crash(alloc, at, crash.choice, script, failing)?;
+    let crashed = before.world.crash(alloc, at, choice, script, failing)?;
     let Some(next) = crashed else {
         return Err(OutOfMemory);
     };
     let mut world = boxed(alloc, next)?;
-    let exit = run(alloc, words, &mut *world);
-    told(alloc, world, exit)
-}
-
-/// A run that ended. The world stops telling where memory was refused.
-fn told(alloc: Global, world: Box<MemWorld>, exit: Exit) -> Result<Played, OutOfMemory> {
-    if world.log().is_none() {
-        return Err(OutOfMemory);
-    }
+    let exit = run(alloc, words.as_slice(), &mut *world);
     Ok(Played { exit, world, alloc })
 }
 
@@ -223,13 +239,23 @@ pub fn boxed(alloc: Global, world: MemWorld) -> Result<Box<MemWorld>, OutOfMemor
 }
 
 impl Played {
-    /// What happened: the world told it to the end.
+    /// What happened, of this life and of those before it. The world stops telling where memory is refused for that.
+    pub fn told(&self) -> Option<&[Happening]> {
+        self.world.log()
+    }
+
+    /// The same; nothing where it is not told.
     pub fn log(&self) -> &[Happening] {
-        self.world.log().unwrap_or(&[])
+        self.told().unwrap_or(&[])
     }
 
     pub fn alloc(&self) -> Global {
         self.alloc
+    }
+
+    /// The world as its last life left it.
+    pub fn world(&self) -> &MemWorld {
+        &*self.world
     }
 
     /// All that this client was said.
@@ -256,6 +282,18 @@ impl Played {
             }
         }
         Ok(text)
+    }
+
+    /// Why this client was cut, where it was.
+    pub fn cause(&self, c: u64) -> Option<Cause> {
+        for happening in self.log() {
+            if let Happening::Noted(Remark::Cut(client, cause)) = happening {
+                if *client == c {
+                    return Some(*cause);
+                }
+            }
+        }
+        None
     }
 }
 
@@ -288,6 +326,11 @@ fn put_cues(
         Act::Fill(k, byte, count) => {
             let text = vec![in alloc; byte; count]?;
             put_answers(alloc, pace, k, text.as_slice(), cues)
+        }
+        Act::SayWhole(c, text) => put(Cue::Say(c, Octets::copy(alloc, text)?), cues),
+        Act::FillWhole(k, byte, count) => {
+            let text = vec![in alloc; byte; count]?;
+            put_answers(alloc, Pace::Whole, k, text.as_slice(), cues)
         }
         Act::Tick(seconds) => put(Cue::Tick(seconds), cues),
         Act::Connect => put(Cue::Connect, cues),

@@ -1,6 +1,6 @@
 // What the course came to.
-use pp_cache_exchanges::{ALONE, COURSE, Life, MAY_BE_SAID, MaySay, Reply, first_life};
-use pp_play::{Fit, Part, fit_of};
+use pp_cache_exchanges::{ALONE, COURSE, MAY_BE_SAID, MaySay, Reply};
+use pp_play::{Fit, Pace, Part, Played, first_life, fit_of};
 use pp_run::Exit;
 use pp_text::OutOfMemory;
 use pp_world::{Cause, Happening, Remark};
@@ -44,16 +44,16 @@ impl Outcome {
 
 /// Plays the course, and judges it.
 pub(crate) fn played(alloc: Global) -> Result<Outcome, OutOfMemory> {
-    let life = first_life(alloc, ALONE, COURSE, &[])?;
+    let life = first_life(alloc, ALONE, Pace::Whole, COURSE, &[])?;
     match life.exit {
-        Exit::Served => served(alloc, &life),
+        Exit::Served => served(&life),
         Exit::NoMemory => ended(alloc, &life),
         Exit::Usage | Exit::NoDisk | Exit::NoListener | Exit::NoConfig => Ok(Outcome::Wrong),
     }
 }
 
 /// The program ended before it served anybody, and says why.
-fn ended(alloc: Global, life: &Life) -> Result<Outcome, OutOfMemory> {
+fn ended(alloc: Global, life: &Played) -> Result<Outcome, OutOfMemory> {
     let Some(log) = life.told() else {
         return Ok(Outcome::Wrong);
     };
@@ -73,13 +73,13 @@ fn ended(alloc: Global, life: &Life) -> Result<Outcome, OutOfMemory> {
 }
 
 /// It served until the world stopped it.
-fn served(alloc: Global, life: &Life) -> Result<Outcome, OutOfMemory> {
+fn served(life: &Played) -> Result<Outcome, OutOfMemory> {
     let Some(log) = life.told() else {
         return Ok(Outcome::Untold);
     };
     let mut all = Outcome::Whole;
     for may_say in MAY_BE_SAID {
-        all = match (all, of_client(alloc, life, may_say)?) {
+        all = match (all, of_client(life, may_say)?) {
             (all, Outcome::Whole) => all,
             (Outcome::Whole, one) => one,
             (_, _) => Outcome::Wrong,
@@ -96,8 +96,8 @@ const PAGE_500: &[Part<'static>] = &[Part::Text(
 )];
 
 /// What this client came to: whole, told, cut, or wrong.
-fn of_client(alloc: Global, life: &Life, may_say: &MaySay) -> Result<Outcome, OutOfMemory> {
-    let said = life.said(alloc, may_say.client)?;
+fn of_client(life: &Played, may_say: &MaySay) -> Result<Outcome, OutOfMemory> {
+    let said = life.said(may_say.client)?;
     let cause = life.cause(may_say.client);
     if fit_of(said.as_slice(), PAGE_500) == Fit::Whole && cause.is_none() {
         return Ok(Outcome::Told);

@@ -6,7 +6,8 @@
 //!
 //! `demo_lives` has the lives of the program's demo in the same form.
 //!
-//! To the crates above: a seed gives the same lives always, as long as the proxy does the same.
+//! To the crates above: a seed gives the same lives always, as long as the proxy does the same. Numbers and quoted texts are for
+//! their tests, which stand in `pp_exchanges`, so that what is here is proved once.
 //!
 //! What a world does is for `pp_memworld`.
 #![tactic(auto)]
@@ -18,9 +19,9 @@ mod quoting; // a text as a transcript quotes it
 mod scripts; // clients and origins that do anything
 mod simulation; // the lives of a seed, run
 mod spelling; // a happening as a line of a transcript
-#[cfg(test)]
-mod tests;
 mod texts; // what clients ask, and origins answer
 
+pub use dice::Dice;
 pub use lives::Term;
+pub use quoting::quoted;
 pub use simulation::{Simulation, demo_lives, simulate};

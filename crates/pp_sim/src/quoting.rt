@@ -6,7 +6,7 @@ use std::alloc::Global;
 const LONG: usize = 32;
 
 /// The text: quoted stretches, and bytes that come so many times, with `+` between them.
-pub(crate) fn quoted(alloc: Global, bytes: &[u8]) -> Result<String, OutOfMemory> {
+pub fn quoted(alloc: Global, bytes: &[u8]) -> Result<String, OutOfMemory> {
     let mut line = String::new(alloc);
     put_stretch(
         alloc,

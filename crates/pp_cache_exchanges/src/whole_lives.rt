@@ -9,12 +9,12 @@ use pp_play::{Act, GET, Op, Pace, Step, T};
 use pp_world::Decision;
 use std::test::Fail;
 
-const AGAIN: &[Act<'static>] = &[Act::Crash(None, 0), Act::Tick(T + 10), Act::Connect];
+pub(crate) const AGAIN: &[Act<'static>] = &[Act::Crash(None, 0), Act::Tick(T + 10), Act::Connect];
 
-const AGAIN_SAID: &[Act<'static>] = &[Act::Say(3, GET)];
+pub(crate) const AGAIN_SAID: &[Act<'static>] = &[Act::Say(3, GET)];
 
 /// The entry is found, and asked for: the head of the reply is written from it.
-const AGAIN_LINES: &[Line<'static>] = &[
+pub(crate) const AGAIN_LINES: &[Line<'static>] = &[
     Line::Woke(true),
     Line::Uses(b"polipo-cache"),
     Line::Listed,
@@ -38,7 +38,7 @@ const AGED_HEAD: &[u8] =
     b"HTTP/1.1 200 OK\r\netag: \"x\"\r\ndate: Sun, 06 Nov 1994 08:49:37 GMT\r\ncache-control: max-age=60\r\nage: 10\r\nvia: 1.1 polipo\r\ncontent-length: 5\r\nconnection: keep-alive\r\n\r\n";
 
 /// Its body is read back, and no origin is asked.
-const LOADED: &[Line<'static>] = &[
+pub(crate) const LOADED: &[Line<'static>] = &[
     Line::Loaded(0),
     Line::Said(3, 5, b"hello"),
     Line::Waits(&[3], &[]),

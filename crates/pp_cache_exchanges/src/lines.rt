@@ -77,7 +77,11 @@ pub(crate) fn unlike(alloc: Global, all: &[Told]) -> Result<String, OutOfMemory>
 }
 
 /// The same of one log.
-fn unlike_log<'a>(alloc: Global, told: &Told, log: &'a [Happening]) -> Result<String, OutOfMemory> {
+pub(crate) fn unlike_log<'a>(
+    alloc: Global,
+    told: &Told,
+    log: &'a [Happening],
+) -> Result<String, OutOfMemory> {
     let lines: Vec<Line<'a>> = lines_of(alloc, log)?;
     let wanted: Vec<Line<'a>> = wanted_lines(alloc, told)?;
     if lines.as_slice() == wanted.as_slice() {

@@ -1,7 +1,5 @@
 // The numbers of a seed, and how what happens is spelled.
-use crate::dice::Dice;
-use crate::quoting::quoted;
-use crate::simulate;
+use pp_sim::{Dice, quoted, simulate};
 use std::test::Fail;
 
 #[test]

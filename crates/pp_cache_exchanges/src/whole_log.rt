@@ -5,6 +5,31 @@ use pp_play::{ASK, Act, GET, HEAD, Op, Pace, REPLY, RESPONSE, Step, T};
 use pp_world::Decision;
 use std::test::Fail;
 
+/// It uses its folder, listens, waits for clients alone, and is stopped.
+const NOTHING_LINES: &[Line<'static>] = &[
+    Line::Woke(false),
+    Line::Uses(b"polipo-cache"),
+    Line::Listed,
+    Line::Listens(8123),
+    Line::Waits(&[], &[]),
+    Line::Stopped,
+];
+
+const NOTHING: &[Told] = &[Told {
+    name: "no words, and no events",
+    words: &[],
+    pace: Pace::Whole,
+    acts: &[],
+    lines: &[NOTHING_LINES],
+}];
+
+#[test]
+fn the_log_without_words_and_events_is_just_this(rt: HostRuntime) -> Result<(), Fail> {
+    says_nothing(&rt, unlike(rt.alloc(), NOTHING))
+}
+
+// ---- a page is fetched
+
 pub(crate) const ASKED: &[Act<'static>] = &[
     Act::Tick(T),
     Act::Connect,
