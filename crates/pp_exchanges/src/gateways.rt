@@ -1,8 +1,8 @@
 // Origins that answer wrongly, or not at all. Where nothing came of it the client gets a page, and its connection goes on.
-use crate::saying::says_nothing;
 use pp_play::{
     ASK, ASK_B, Act, Cut, Exchange, GET, GET_B, HEAD, PAGE_502, Pace, Part, REPLY, REPLY_B,
-    RESPONSE, RESPONSE_B, Step, T, Wanted, unlike, unlike_at, unlike_when_cut, with_repeated,
+    RESPONSE, RESPONSE_B, Step, T, WORDS, Wanted, joined, play, play_with, unlike, unlike_at,
+    unlike_when_cut, with_repeated,
 };
 use pp_world::{Cause, Decision};
 use std::test::Fail;
@@ -144,14 +144,9 @@ const NO_ANSWERS: &[Exchange<'static>] = &[
 
 #[test]
 fn a_response_that_cannot_be_passed_gets_a_page(rt: HostRuntime) -> Result<(), Fail> {
-    says_nothing(&rt, unlike(rt.alloc(), NO_ANSWERS))
+    assert_eq!(rt; unlike(rt.alloc(), NO_ANSWERS)?.as_str(), "");
+    Ok(())
 }
-
-/// It is read no further, and its origin is left.
-const ENDLESS: &[Wanted<'static>] = &[
-    Wanted::Said(1, &[Part::Text(PAGE_502)]),
-    Wanted::Count(Step::Dropped, 1),
-];
 
 #[test]
 fn a_response_head_that_does_not_end_gets_a_page(rt: HostRuntime) -> Result<(), Fail> {
@@ -170,12 +165,9 @@ fn a_response_head_that_does_not_end_gets_a_page(rt: HostRuntime) -> Result<(), 
             Act::Reach(2),
             Act::Answer(2, head),
         ];
-        let exchange = [Exchange {
-            name: "a head that does not end",
-            acts: &acts,
-            wanted: ENDLESS,
-        }];
-        says_nothing(&rt, unlike_at(alloc, pace, &exchange))?;
+        let played = play(alloc, pace, &acts)?;
+        assert_eq!(rt; played.said(1)?.as_slice(), PAGE_502, "{pace:?}");
+        assert_eq!(rt; played.count(Step::Dropped), 1, "{pace:?}");
     }
     Ok(())
 }
@@ -260,24 +252,20 @@ const NOT_REACHED: &[Exchange<'static>] = &[
     },
 ];
 
-const NOT_DIALLED: &[Exchange<'static>] = &[Exchange {
-    name: "no dial succeeds",
-    acts: &[
-        // calls: list, listen, read, dial, dial, dial
-        Act::Failing(&[4, 5, 6]),
-        Act::Connect,
-        Act::Say(1, GET),
-    ],
-    wanted: &[
-        Wanted::Said(1, &[Part::Text(PAGE_502)]),
-        Wanted::Count(Step::Dialled(80), 0),
-    ],
-}];
-
 #[test]
 fn an_origin_that_is_lost_gives_a_page(rt: HostRuntime) -> Result<(), Fail> {
-    says_nothing(&rt, unlike(rt.alloc(), NOT_REACHED))?;
-    says_nothing(&rt, unlike_at(rt.alloc(), Pace::Whole, NOT_DIALLED))
+    assert_eq!(rt; unlike(rt.alloc(), NOT_REACHED)?.as_str(), "");
+    // calls: list, listen, read, dial, dial, dial
+    let played = play_with(
+        rt.alloc(),
+        WORDS,
+        Pace::Whole,
+        &[Act::Connect, Act::Say(1, GET)],
+        &[4, 5, 6],
+    )?;
+    assert_eq!(rt; played.said(1)?.as_slice(), PAGE_502);
+    assert_eq!(rt; played.count(Step::Dialled(80)), 0);
+    Ok(())
 }
 
 /// An origin that is there at the third attempt.
@@ -302,7 +290,8 @@ const AT_LAST: &[Exchange<'static>] = &[Exchange {
 
 #[test]
 fn an_origin_that_is_lost_is_asked_again(rt: HostRuntime) -> Result<(), Fail> {
-    says_nothing(&rt, unlike(rt.alloc(), AT_LAST))
+    assert_eq!(rt; unlike(rt.alloc(), AT_LAST)?.as_str(), "");
+    Ok(())
 }
 
 /// Two clients that ask for the same: the second waits for the first one's answer.
@@ -329,7 +318,8 @@ const SHARED: &[Exchange<'static>] = &[Exchange {
 
 #[test]
 fn a_bad_answer_fails_one_request_alone(rt: HostRuntime) -> Result<(), Fail> {
-    says_nothing(&rt, unlike(rt.alloc(), SHARED))
+    assert_eq!(rt; unlike(rt.alloc(), SHARED)?.as_str(), "");
+    Ok(())
 }
 
 const CUT_LENGTH: &Cut<'static> = &Cut {
@@ -360,7 +350,7 @@ const CUT_CODING: &Cut<'static> = &Cut {
 #[test]
 fn an_origin_may_be_lost_behind_each_byte(rt: HostRuntime) -> Result<(), Fail> {
     for cut in [CUT_LENGTH, CUT_CODING] {
-        says_nothing(&rt, unlike_when_cut(rt.alloc(), cut))?;
+        assert_eq!(rt; unlike_when_cut(rt.alloc(), cut)?.as_str(), "");
     }
     Ok(())
 }
@@ -375,29 +365,21 @@ const BODY: &[u8] = b"hello";
 fn an_origin_may_be_lost_behind_each_byte_of_what_is_kept(rt: HostRuntime) -> Result<(), Fail> {
     for lost in [Act::End(2), Act::Break(2)] {
         for len in 1..BODY.len() {
-            let front = &BODY[..len];
             let acts = [
                 Act::Connect,
                 Act::Say(1, GET),
                 Act::Reach(2),
                 Act::Answer(2, HEAD),
-                Act::Answer(2, front),
+                Act::Answer(2, &BODY[..len]),
                 lost,
                 Act::Refuse(3),
                 Act::Refuse(4),
             ];
-            let said = [Part::Text(REPLY_HEAD), Part::Text(front)];
-            let wanted = [
-                Wanted::Said(1, &said),
-                Wanted::Count(Step::Cut(Cause::Origin), 1),
-                Wanted::Count(Step::Dialled(80), 3),
-            ];
-            let exchange = [Exchange {
-                name: "an origin that is lost within a body that is kept",
-                acts: &acts,
-                wanted: &wanted,
-            }];
-            says_nothing(&rt, unlike_at(rt.alloc(), Pace::Whole, &exchange))?;
+            let played = play(rt.alloc(), Pace::Whole, &acts)?;
+            let said = joined(rt.alloc(), &[REPLY_HEAD, &BODY[..len]])?;
+            assert_eq!(rt; played.said(1)?.as_slice(), said.as_slice(), "at {len}");
+            assert_eq!(rt; played.count(Step::Cut(Cause::Origin)), 1, "at {len}");
+            assert_eq!(rt; played.count(Step::Dialled(80)), 3, "at {len}");
         }
     }
     Ok(())
@@ -468,7 +450,8 @@ const CUTS: &[Exchange<'static>] = &[
 
 #[test]
 fn a_response_that_turns_bad_cuts_its_client(rt: HostRuntime) -> Result<(), Fail> {
-    says_nothing(&rt, unlike_at(rt.alloc(), Pace::Whole, CUTS))
+    assert_eq!(rt; unlike_at(rt.alloc(), Pace::Whole, CUTS)?.as_str(), "");
+    Ok(())
 }
 
 /// The rest of a body is asked for.
@@ -570,7 +553,8 @@ const RESTS: &[Exchange<'static>] = &[
 
 #[test]
 fn a_lost_body_is_gone_on_with_by_its_own_rest_alone(rt: HostRuntime) -> Result<(), Fail> {
-    says_nothing(&rt, unlike(rt.alloc(), RESTS))
+    assert_eq!(rt; unlike(rt.alloc(), RESTS)?.as_str(), "");
+    Ok(())
 }
 
 /// An answer and another one behind it, which nobody asked for: it is no answer to what is asked next.
@@ -608,5 +592,6 @@ const STRAY: &[Exchange<'static>] = &[Exchange {
 
 #[test]
 fn an_answer_that_nobody_asked_for_is_not_taken(rt: HostRuntime) -> Result<(), Fail> {
-    says_nothing(&rt, unlike(rt.alloc(), STRAY))
+    assert_eq!(rt; unlike(rt.alloc(), STRAY)?.as_str(), "");
+    Ok(())
 }

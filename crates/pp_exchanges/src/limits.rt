@@ -1,5 +1,4 @@
 // Many clients and connections at once, slow clients, and long bodies.
-use crate::saying::says_nothing;
 use pp_play::{
     Act, Exchange, GET, PAGE_400, PAGE_502, PASSED, Pace, Part, REPLY, REPLY_HELD, RESPONSE, Step,
     T, Wanted, asking, play, unlike, unlike_at, with_repeated,
@@ -89,7 +88,8 @@ const SLOW: &[Exchange<'static>] = &[
 
 #[test]
 fn who_is_slow_holds_up_nobody_else(rt: HostRuntime) -> Result<(), Fail> {
-    says_nothing(&rt, unlike(rt.alloc(), SLOW))
+    assert_eq!(rt; unlike(rt.alloc(), SLOW)?.as_str(), "");
+    Ok(())
 }
 
 /// 61 bytes that differ: no buffer's length is a multiple of theirs.
@@ -140,16 +140,17 @@ fn unlike_when_long(
 #[test]
 fn a_long_reply_streams_through_a_small_buffer(rt: HostRuntime) -> Result<(), Fail> {
     // the pipe of a reply, and the response's head
-    says_nothing(&rt, unlike_when_long(rt.alloc(), LONG_PASSED, 65_536 + 44))
+    let unlike = unlike_when_long(rt.alloc(), LONG_PASSED, 65_536 + 44)?;
+    assert_eq!(rt; unlike.as_str(), "");
+    Ok(())
 }
 
 #[test]
 fn a_long_page_is_read_only_so_far_ahead_of_its_client(rt: HostRuntime) -> Result<(), Fail> {
     // 256 chunks, one read, and the response's head
-    says_nothing(
-        &rt,
-        unlike_when_long(rt.alloc(), LONG_KEPT, 1_048_576 + 32_768 + 55),
-    )
+    let unlike = unlike_when_long(rt.alloc(), LONG_KEPT, 1_048_576 + 32_768 + 55)?;
+    assert_eq!(rt; unlike.as_str(), "");
+    Ok(())
 }
 
 /// One client takes 200 bytes from the front on, another 200 far ahead, and no more, while all comes.
@@ -187,7 +188,11 @@ const NEAR_AND_FAR: &[Exchange<'static>] = &[Exchange {
 
 #[test]
 fn a_far_reader_lets_nothing_come_far_ahead_of_a_near_one(rt: HostRuntime) -> Result<(), Fail> {
-    says_nothing(&rt, unlike_at(rt.alloc(), Pace::Whole, NEAR_AND_FAR))
+    assert_eq!(rt;
+        unlike_at(rt.alloc(), Pace::Whole, NEAR_AND_FAR)?.as_str(),
+        ""
+    );
+    Ok(())
 }
 
 #[test]
@@ -211,19 +216,12 @@ fn a_long_request_streams_through_a_small_buffer(rt: HostRuntime) -> Result<(), 
         Act::Window(2, 3_000_000),
         Act::Answer(2, RESPONSE),
     ];
-    let asked = [ask.as_slice()];
-    let wanted = [
-        Wanted::Asked(2, &asked),
-        Wanted::Said(1, &[Part::Text(PASSED)]),
-        // what may be read ahead of a client, and a part of its body
-        Wanted::MostHeld(24_576),
-    ];
-    let exchange = [Exchange {
-        name: "a request that no buffer holds",
-        acts: &acts,
-        wanted: &wanted,
-    }];
-    says_nothing(&rt, unlike_at(alloc, Pace::Whole, &exchange))
+    let played = play(alloc, Pace::Whole, &acts)?;
+    assert!(rt; played.asked(2)?.as_slice() == ask.as_slice());
+    assert_eq!(rt; played.said(1)?.as_slice(), PASSED);
+    // what may be read ahead of a client, and a part of its body
+    assert!(rt; played.most_held() <= 24_576);
+    Ok(())
 }
 
 /// A request that always takes a connection of its own (RFC 2616, section 8.1.2.2).
@@ -272,7 +270,8 @@ fn a_host_has_at_most_four_connections(rt: HostRuntime) -> Result<(), Fail> {
         acts: acts.as_slice(),
         wanted: &wanted,
     }];
-    says_nothing(&rt, unlike_at(rt.alloc(), Pace::Whole, &exchange))
+    assert_eq!(rt; unlike_at(rt.alloc(), Pace::Whole, &exchange)?.as_str(), "");
+    Ok(())
 }
 
 /// Seventeen hosts.
@@ -319,7 +318,8 @@ fn there_are_at_most_64_connections_to_origins(rt: HostRuntime) -> Result<(), Fa
         acts: acts.as_slice(),
         wanted: &wanted,
     }];
-    says_nothing(&rt, unlike_at(rt.alloc(), Pace::Whole, &exchange))
+    assert_eq!(rt; unlike_at(rt.alloc(), Pace::Whole, &exchange)?.as_str(), "");
+    Ok(())
 }
 
 #[test]
@@ -338,5 +338,6 @@ fn there_are_at_most_256_clients(rt: HostRuntime) -> Result<(), Fail> {
         acts: acts.as_slice(),
         wanted: &wanted,
     }];
-    says_nothing(&rt, unlike_at(rt.alloc(), Pace::Whole, &exchange))
+    assert_eq!(rt; unlike_at(rt.alloc(), Pace::Whole, &exchange)?.as_str(), "");
+    Ok(())
 }

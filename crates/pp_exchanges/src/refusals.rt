@@ -1,7 +1,6 @@
 // Requests that are refused with a page.
-use crate::saying::says_nothing;
 use pp_play::{
-    Act, Exchange, GET, PAGE_400, PAGE_411, PAGE_431, Pace, Part, Step, Wanted, unlike, unlike_at,
+    Act, Exchange, GET, PAGE_400, PAGE_411, PAGE_431, Pace, Part, Step, Wanted, play, unlike,
     with_repeated,
 };
 use pp_world::Decision;
@@ -58,7 +57,8 @@ const NO_HEADS: &[Exchange<'static>] = &[
 
 #[test]
 fn bytes_that_are_no_request_get_a_page(rt: HostRuntime) -> Result<(), Fail> {
-    says_nothing(&rt, unlike(rt.alloc(), NO_HEADS))
+    assert_eq!(rt; unlike(rt.alloc(), NO_HEADS)?.as_str(), "");
+    Ok(())
 }
 
 const NO_TARGETS: &[Exchange<'static>] = &[
@@ -109,7 +109,8 @@ const NO_TARGETS: &[Exchange<'static>] = &[
 
 #[test]
 fn a_target_that_is_no_http_url_gets_a_page(rt: HostRuntime) -> Result<(), Fail> {
-    says_nothing(&rt, unlike(rt.alloc(), NO_TARGETS))
+    assert_eq!(rt; unlike(rt.alloc(), NO_TARGETS)?.as_str(), "");
+    Ok(())
 }
 
 const HEAD_PAGES: &[Exchange<'static>] = &[Exchange {
@@ -196,23 +197,10 @@ const BODIES: &[Exchange<'static>] = &[
 
 #[test]
 fn a_body_without_one_clear_length_gets_a_page(rt: HostRuntime) -> Result<(), Fail> {
-    says_nothing(&rt, unlike(rt.alloc(), BODIES))?;
-    says_nothing(&rt, unlike(rt.alloc(), HEAD_PAGES))
+    assert_eq!(rt; unlike(rt.alloc(), BODIES)?.as_str(), "");
+    assert_eq!(rt; unlike(rt.alloc(), HEAD_PAGES)?.as_str(), "");
+    Ok(())
 }
-
-const TOO_LARGE: &[Wanted<'static>] = &[
-    Wanted::Said(1, &[Part::Text(PAGE_431)]),
-    Wanted::Course(
-        1,
-        &[
-            Step::Opened,
-            Step::Taken(0, Decision::Refuse(431)),
-            Step::Said(149),
-            Step::Shut,
-            Step::Stopped,
-        ],
-    ),
-];
 
 #[test]
 fn a_head_that_does_not_end_gets_a_page(rt: HostRuntime) -> Result<(), Fail> {
@@ -226,14 +214,17 @@ fn a_head_that_does_not_end_gets_a_page(rt: HostRuntime) -> Result<(), Fail> {
         (Pace::Whole, long_field.as_slice()),
         (Pace::Whole, long_target.as_slice()),
     ];
+    let course = [
+        Step::Opened,
+        Step::Taken(0, Decision::Refuse(431)),
+        Step::Said(149),
+        Step::Shut,
+        Step::Stopped,
+    ];
     for (pace, head) in heads {
-        let acts = [Act::Connect, Act::Say(1, head)];
-        let exchange = [Exchange {
-            name: "a head that does not end",
-            acts: &acts,
-            wanted: TOO_LARGE,
-        }];
-        says_nothing(&rt, unlike_at(alloc, pace, &exchange))?;
+        let played = play(alloc, pace, &[Act::Connect, Act::Say(1, head)])?;
+        assert_eq!(rt; played.said(1)?.as_slice(), PAGE_431, "{pace:?}");
+        assert_eq!(rt; played.course(1)?.as_slice(), course.as_slice(), "{pace:?}");
     }
     Ok(())
 }
@@ -253,5 +244,6 @@ const BEHIND_PAGE: &[Exchange<'static>] = &[Exchange {
 
 #[test]
 fn no_request_is_heard_behind_a_page(rt: HostRuntime) -> Result<(), Fail> {
-    says_nothing(&rt, unlike(rt.alloc(), BEHIND_PAGE))
+    assert_eq!(rt; unlike(rt.alloc(), BEHIND_PAGE)?.as_str(), "");
+    Ok(())
 }
