@@ -5,15 +5,14 @@ ghost use Rattle.pp_links.specs.Links.{IsLinked};
 ghost use Rattle.pp_links.specs.Quiet.{GrowsQuietly};
 ghost use Rattle.pp_proxy.specs.Around.{Leads, around, moment_of};
 ghost use Rattle.pp_proxy.specs.Closings.{KeepsDesk, sides};
-ghost use Rattle.pp_proxy.specs.Placing.{IsDialledFor, asked_again_where, dials_to, host_of, may_ask, met_by, new_one, refused_dial, with_new};
-ghost use Rattle.pp_steps.specs.Ends.{may_ask_again, numbers_of, parts, AreSeated, KeepsRest};
+ghost use Rattle.pp_proxy.specs.Placing.{IsDialledFor, dials_to, host_of, met_by, new_one, with_new};
+ghost use Rattle.pp_steps.specs.Ends.{numbers_of, AreSeated};
 
 use crate::desk::Desk;
 use crate::place::host_of;
 use pp_flow::{Entry, Exchange};
 use pp_links::Links;
 use pp_peers::{HOST_ROOM, PEERS, Peers};
-use pp_steps::State;
 use pp_world::{Wire, WireFault};
 
 impl Desk {
@@ -47,7 +46,7 @@ impl Desk {
     {
         match connection {
             Some(k) => self.put_on(number, k),
-            None => refuse_dial(&mut self.state, e),
+            None => self.state.refuse_dial(e),
         }
     }
 }
@@ -85,49 +84,5 @@ fn join(
             Some(*k)
         }
         Ok(_) | Err(_) => None,
-    }
-}
-
-/// An attempt is lost: it is asked elsewhere; or it is over, and whoever waited for what it brings asks for itself.
-fn refuse_dial(state: &mut State, e: &Exchange)
-    ensures is { AreSeated state.old → parts state.new ≡ refused_dial (moment_of state.old) e.now (parts state.old) }
-    ensures numbers { numbers_of state.new.seats.items ≡ numbers_of state.old.seats.items }
-    ensures rest { KeepsRest state.old state.new }
-{
-    state.lose_attempt(e);
-    let may = may_ask_again(state, e.number);
-    ask_again(state, may, e.number);
-}
-
-fn ask_again(state: &mut State, may: bool, number: u64)
-    ensures is { parts state.new ≡ asked_again_where may (moment_of state.old) number (parts state.old) }
-    ensures numbers { numbers_of state.new.seats.items ≡ numbers_of state.old.seats.items }
-    ensures rest { KeepsRest state.old state.new }
-{
-    if !may {
-        state.end(number);
-        state.fill();
-    }
-}
-
-/// The request of the exchange did not leave it, and may ask once more.
-fn may_ask_again(state: &State, number: u64) -> bool
-    ensures { AreSeated state.entry.now → result ≡ may_ask_again number (parts state.entry.now) }
-{
-    match state.exchange(number) {
-        None => false,
-        Some(e) => may_ask(state, e.asker),
-    }
-}
-
-fn may_ask(state: &State, asker: Option<u64>) -> bool
-    ensures { AreSeated state.entry.now → result ≡ may_ask asker state.entry.now.seats.items }
-{
-    match asker {
-        None => false,
-        Some(client) => match state.seat_of(client) {
-            None => false,
-            Some(i) => state.seats[i].is_trying(),
-        }
     }
 }

@@ -9,6 +9,7 @@ pub mod EnteringLemmas
 pub mod EvictingLemmas
 pub mod FillingLemmas
 pub mod FrontLemmas
+pub mod GivingUpLemmas
 pub mod LineLemmas
 pub mod NumbersLemmas
 pub mod OutdatedLemmas

@@ -1,6 +1,6 @@
 -- What is asked next on a connection, and whose answer is due there (RFC 2616, sections 5 and 8.2); and which ask of a follower is of
 -- no use any more.
-use Rattle.std.specs.Prelude.{ℕ, ◌-◌, Bool, true, false, ◌==◌, ◌&&◌, ◌||◌, not, cond, nat_lt, List, length, take, slice_get, Option, Some, None}
+use Rattle.std.specs.Prelude.{ℕ, ◌-◌, Bool, true, false, ◌==◌, ◌&&◌, ◌||◌, not, cond, nat_lt, List, [], ◌∷◌, length, take, slice_get, Option, Some, None}
 use Rattle.std.specs.List.{find}
 use Rattle.pp_cache.specs.Memory.{Memory}
 use Rattle.pp_client.specs.Requests.{body_in}
@@ -14,7 +14,7 @@ use Rattle.pp_seats.specs.declared.seat.Seat.{Seat}
 use Rattle.pp_steps.specs.declared.asking.Asking.{Asking}
 use Rattle.pp_steps.specs.declared.asking.Asking.TheVariants.{Text, Body}
 use Rattle.pp_steps.specs.Bringing.{brings}
-use Rattle.pp_steps.specs.Ends.{seat_for}
+use Rattle.pp_steps.specs.Ends.{Parts, ended, seat_for}
 use Rattle.pp_steps.specs.Readers.{next_at}
 
 -- ---- on a connection
@@ -97,3 +97,12 @@ fills_hole Through = false
 abbrev pub is_useless : Memory → List Seat → Option Entry → Bool
 is_useless m seats None = false
 is_useless m seats (Some e) = fills_hole e.exchange.aim && not (is_wanted m seats e)
+
+-- one that is of no use is over
+abbrev pub given_up_if : ℕ → Parts → Parts
+given_up_if n p = elim (is_useless p.cache p.seats (entry_of n p.flow)) [ true ↦ ended n p | false ↦ p ]
+
+-- one behind the other
+unfoldable pub all_given_up : List ℕ → Parts → Parts
+all_given_up [] p = p
+all_given_up (n ∷ ns) p = all_given_up ns (given_up_if n p)

@@ -25,5 +25,6 @@ pub mod Readers
 pub mod Rows
 pub mod Sharing
 pub mod ThroughHeads
+pub mod Unplaced
 pub mod Unseen
 pub mod Waits
