@@ -2,6 +2,7 @@ pub mod AccessLemmas
 pub mod AwaitedLemmas
 pub mod ClosingLemmas
 pub mod DiskLemmas
+pub mod GotLemmas
 pub mod HeadLimits
 pub mod OriginLemmas
 pub mod PeersLemmas

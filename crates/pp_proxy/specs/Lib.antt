@@ -4,6 +4,7 @@ pub mod Around
 pub mod Asked
 pub mod Awaited
 pub mod Closings
+pub mod Gots
 pub mod Kept
 pub mod Marks
 pub mod Origins

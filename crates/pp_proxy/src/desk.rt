@@ -13,6 +13,7 @@ ghost use Rattle.pp_world.specs.Log.{AppendsAll, Told};
 ghost use Rattle.pp_world.specs.declared.happening.Happening.TheVariants.{Noted};
 ghost use Rattle.pp_world.specs.declared.note.Remark.TheVariants.{Taken};
 
+use arrayvec::ArrayVec;
 use pp_client::Room;
 use pp_links::Links;
 use pp_peers::Peers;
@@ -38,7 +39,7 @@ pub(crate) struct Desk {
     /// What is read.
     pub(crate) buffer: Vec<u8>,
     /// The data of a response in what was read.
-    pub(crate) data: Vec<u8>,
+    pub(crate) data: Box<ArrayVec<u8, READ_LEN>>,
     /// What is said at once.
     pub(crate) room: Box<Room>,
     /// A file of the disk, as it is laid out to be written.

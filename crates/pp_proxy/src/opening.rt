@@ -20,7 +20,7 @@ impl Desk {
             state,
             peers: Peers::new(alloc)?,
             buffer: vec![in alloc; 0; READ_LEN]?,
-            data: Vec::with_capacity(alloc, READ_LEN)?,
+            data: Box::new(alloc, ArrayVec::new()).map_err(AllocError::from)?,
             room: Box::new(alloc, Room::new()).map_err(AllocError::from)?,
             file: vec![in alloc; 0; FILE_LEN]?,
             turned_away: None,
