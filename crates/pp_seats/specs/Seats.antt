@@ -14,7 +14,7 @@ use Rattle.pp_seats.specs.declared.seat.Seat.{Seat}
 use Rattle.pp_seats.specs.declared.seat.Stage.{Stage}
 use Rattle.pp_seats.specs.declared.seat.Stage.TheVariants.{Undecided, Waiting, Passing, Answering}
 use Rattle.pp_seats.specs.Accounts.{anew, said}
-use Rattle.pp_seats.specs.Courses.{has_begun}
+use Rattle.pp_seats.specs.Courses.{has_begun, is_trying_in}
 use Rattle.pp_seats.specs.Heads.{IsFrontOf, asked_in, body_len_in, is_key_text, is_there_in, owned_in}
 
 -- ---- what its exchange brought
@@ -54,15 +54,15 @@ is_undecided_in Waiting = false
 is_undecided_in Passing = false
 is_undecided_in (Answering a) = false
 
--- by whether a request is there, and whether the head of its exchange's response came
-abbrev pub is_open_in : Stage → Bool → Bool → Bool
-is_open_in Undecided there told = there
-is_open_in Waiting there told = told
-is_open_in Passing there told = false
-is_open_in (Answering a) there told = not a.has_begun
+-- by whether a request is there, whether the head of its exchange's response came, and whether it may ask no more
+abbrev pub is_open_in : Stage → Bool → Bool → Bool → Bool
+is_open_in Undecided there told ended = there
+is_open_in Waiting there told ended = told || ended
+is_open_in Passing there told ended = ended
+is_open_in (Answering a) there told ended = not a.has_begun
 
 abbrev pub is_to_be_decided : Seat → Bool
-is_to_be_decided seat = not seat.is_closing && is_open_in seat.stage (is_there_in seat.front) (is_told_in seat.brought)
+is_to_be_decided seat = not seat.is_closing && is_open_in seat.stage (is_there_in seat.front) (is_told_in seat.brought) (not (is_trying_in seat.course))
 
 abbrev pub has_key : List ℕ → Seat → Bool
 has_key text seat = is_key_text text (owned_in (asked_in seat.front))

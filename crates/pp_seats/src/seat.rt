@@ -341,7 +341,7 @@ impl Seat {
         self.has_begun() && self.before_body == 0
     }
 
-    /// Its request may be decided now.
+    /// Its request may be decided now. One that waits is where a head came for it, and where it may ask no more: it is refused then.
     pub fn is_to_be_decided(&self) -> bool
         ensures { result ≡ is_to_be_decided self.now }
     {
@@ -350,8 +350,8 @@ impl Seat {
         }
         match self.stage {
             Stage::Undecided => self.front.is_there(),
-            Stage::Waiting => self.is_told(),
-            Stage::Passing => false,
+            Stage::Waiting => self.is_told() || !self.is_trying(),
+            Stage::Passing => !self.is_trying(),
             Stage::Answering(answer) => !answer.has_begun,
         }
     }

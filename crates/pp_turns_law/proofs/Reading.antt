@@ -21,6 +21,7 @@ use Rattle.pp_law.specs.Table.{kept_row, next_of, row, row_on_disk}
 use Rattle.pp_objects.specs.Instances.{Instance, id_of, is_life, is_same_id, is_there, row_of}
 use Rattle.pp_objects.specs.declared.id.ObjectId.{ObjectId}
 use Rattle.pp_peers.specs.declared.peers.Peer.{Peer}
+use Rattle.pp_seats.specs.Courses.{is_trying_in}
 use Rattle.pp_seats.specs.Dues.{is_refused_in}
 use Rattle.pp_seats.specs.Heads.{asked_in, is_there_in, owned_in}
 use Rattle.pp_seats.specs.Seats.{is_open_in, is_to_be_decided, is_told_in}
@@ -123,16 +124,21 @@ not_so : (b : Bool) → not b ≡ false → b ≡ true
 not_so true is = refl
 not_so false is = absurd (cc is)
 
-stage_unread : (number : ℕ → ℕ) (said : Said) (key : Bytes) (s : State) (c : Client) (there was_told : Bool) (stage : SeatStage) (known : Stage) → ShowsStage number said stage known → is_open_in stage there was_told ≡ false
+none_of : (a b : Bool) → (a || b) ≡ false → a ≡ false
+none_of true b is = absurd (cc is)
+none_of false b is = refl
+
+stage_unread : (number : ℕ → ℕ) (said : Said) (key : Bytes) (s : State) (c : Client) (there was_told ended : Bool) (stage : SeatStage) (known : Stage) → ShowsStage number said stage known → is_open_in stage there was_told ended ≡ false
     → (there ≡ false → c.front ≡ NoHeadYet) → was_told ≡ is_told c.brought → stage_by (hidden key s) c known ≡ stage_by s c known
 unfolding hidden
-stage_unread number said key s c there was_told IsUndecided Undecided shows is none same =
+stage_unread number said key s c there was_told ended IsUndecided Undecided shows is none same =
     ap (λ (d : Option Decision). first_by s c c.waits_on d) (decide_none (hidden key s) c (none is) ∙ sym (decide_none s c (none is)))
-stage_unread number said key s c there was_told IsWaiting Waiting shows is none same =
-    ap (λ (b : Bool). give_up c.course (elim b as (λ x. Option Decision) [ true ↦ decide (hidden key s) c | false ↦ None ])) (sym same ∙ is)
-    ∙ sym (ap (λ (b : Bool). give_up c.course (elim b as (λ x. Option Decision) [ true ↦ decide s c | false ↦ None ])) (sym same ∙ is))
-stage_unread number said key s c there was_told IsPassing Passing shows is none same = refl
-stage_unread number said key s c there was_told (IsAnswering a) (Answering r) shows is none same =
+stage_unread number said key s c there was_told ended IsWaiting Waiting shows is none same =
+    let untold : is_told c.brought ≡ false = sym same ∙ none_of was_told ended is in
+    ap (λ (b : Bool). give_up c.course (elim b as (λ x. Option Decision) [ true ↦ decide (hidden key s) c | false ↦ None ])) untold
+    ∙ sym (ap (λ (b : Bool). give_up c.course (elim b as (λ x. Option Decision) [ true ↦ decide s c | false ↦ None ])) untold)
+stage_unread number said key s c there was_told ended IsPassing Passing shows is none same = refl
+stage_unread number said key s c there was_told ended (IsAnswering a) (Answering r) shows is none same =
     begun_none (hidden key s) (sym shows.begun ∙ not_so a.has_begun is) ∙ sym (begun_none s (sym shows.begun ∙ not_so a.has_begun is))
   where
     begun_by : (c : Client) (r : Reply) (o : Option Known) (d : Option Decision) → r.has_begun ≡ true → again_by c r o d ≡ None
@@ -140,7 +146,7 @@ stage_unread number said key s c there was_told (IsAnswering a) (Answering r) sh
 
     begun_none : (t : State) → r.has_begun ≡ true → again_by c r (source_by t r.source) (decide t c) ≡ None
     begun_none t begun = begun_by c r (source_by t r.source) (decide t c) begun
-stage_unread number said key s c there was_told stage known shows is none same = absurd shows
+stage_unread number said key s c there was_told ended stage known shows is none same = absurd shows
 
 unread : (number : ℕ → ℕ) (name : Bytes) (key : Bytes) (s : State) (seat : Seat) (c : Client) → ShowsSeat number name [] seat c → c.is_closing ≡ false → is_to_be_decided seat ≡ false → due_by_law (hidden key s) c ≡ due_by_law s c
 unfolding hidden
@@ -148,8 +154,8 @@ unread number name key s seat c seen going isnt =
     let live : ShowsOpen number name [] seat c = seen.going going in
     due_read (hidden key s) c
     ∙ ap (λ (d : Option Decision). due_by s c (cut_by s c (next_of s c)) d)
-    (stage_unread number seat.client.reply key s c (is_there_in seat.front) (is_told_in seat.brought) seat.stage c.stage live.stage
-    (sym (ap (λ (b : Bool). not b && is_open_in seat.stage (is_there_in seat.front) (is_told_in seat.brought)) (seen.closing ∙ going)) ∙ isnt)
+    (stage_unread number seat.client.reply key s c (is_there_in seat.front) (is_told_in seat.brought) (not (is_trying_in seat.course)) seat.stage c.stage live.stage
+    (sym (ap (λ (b : Bool). not b && is_open_in seat.stage (is_there_in seat.front) (is_told_in seat.brought) (not (is_trying_in seat.course))) (seen.closing ∙ going)) ∙ isnt)
     (λ none. front_none seat.front c.front none live.front) (told number name [] seat c live))
     ∙ sym (due_read s c)
 
