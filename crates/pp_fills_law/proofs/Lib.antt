@@ -5,6 +5,7 @@ pub mod Following
 pub mod GivenUp
 pub mod Kept
 pub mod Lacked
+pub mod Over
 pub mod Silent
 pub mod Walked
 pub mod Wanted

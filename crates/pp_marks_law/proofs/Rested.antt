@@ -28,6 +28,7 @@ use Rattle.pp_seats.specs.declared.seat.Course.{Course as SeatCourse}
 use Rattle.pp_seats.specs.declared.seat.Seat.{Seat}
 use Rattle.pp_seats.specs.declared.seat.Shared.{Shared as SeatShared}
 use Rattle.pp_seats_law.specs.Clients.{AreShown}
+use Rattle.pp_seats_law.specs.Dues.{waits_on_still}
 use Rattle.pp_seats_law.specs.Replies.{ShowsFate, shared_of}
 use Rattle.pp_seats_law.specs.Seats.{ShowsOpen, ShowsSeat}
 use Rattle.pp_states_law.proofs.Asked.{all_as, frames, itself}
@@ -71,31 +72,31 @@ second_of_three true true c is = refl
 second_of_three true false c is = absurd (cc is)
 second_of_three false b c is = absurd (cc is)
 
-shared_same_by : (number : ℕ → ℕ) (l : Leaving) (peers : List Peer) (p : Turn) (s : State) (name : Bytes) (seat : Seat) (c : Client) (b : Bool) → is_sharing p seat ≡ b → ShowsTurn number l peers p s → ShowsSeat number name [] seat c → c.is_closing ≡ false → MayWait number p s seat c
+shared_same_by : (number : ℕ → ℕ) (l : Leaving) (peers : List Peer) (p : Turn) (s : State) (name : Bytes) (seat : Seat) (c : Client) (b : Bool) → is_sharing p seat ≡ b → seat.waits_on ≡ None → ShowsTurn number l peers p s → ShowsSeat number name [] seat c → c.is_closing ≡ false → MayWait number p s seat c
     → shared_if p.now b (shared_ask seat p.flow) ≡ shared_law s.clock b (shared_by_law s c)
-shared_same_by number l peers p s name seat c false is shows seen going may = refl
-shared_same_by number l peers p s name seat c true is shows seen going may =
-    let may_decide : IsDecidable number p s seat c = may.decidable (first_of_three (is_undecided_in seat.stage) (is_there_in seat.front) (not (is_some (due_undecided p seat))) is) (second_of_three (is_undecided_in seat.stage) (is_there_in seat.front) (not (is_some (due_undecided p seat))) is) in
+shared_same_by number l peers p s name seat c false is alone shows seen going may = refl
+shared_same_by number l peers p s name seat c true is alone shows seen going may =
+    let may_decide : IsDecidable number p s seat c = may.decidable (first_of_three (is_undecided_in seat.stage) (is_there_in seat.front) (not (is_some (due_undecided p seat))) is) (second_of_three (is_undecided_in seat.stage) (is_there_in seat.front) (not (is_some (due_undecided p seat))) is) (ap (λ (o : Option SeatShared). waits_on_still s o) alone) in
     shared_by p.now true (shared_ask seat p.flow)
     ∙ ap₂ (λ (now : ℕ) (o : Option ℕ). shared_law now true o) shows.clock (shared_same number l peers p s name seat c shows (seen.going going).front may_decide.key)
 
-shared_with_same : (number : ℕ → ℕ) (l : Leaving) (peers : List Peer) (p : Turn) (s : State) (name : Bytes) (seat : Seat) (c : Client) → ShowsTurn number l peers p s → ShowsSeat number name [] seat c → c.is_closing ≡ false → MayWait number p s seat c
+shared_with_same : (number : ℕ → ℕ) (l : Leaving) (peers : List Peer) (p : Turn) (s : State) (name : Bytes) (seat : Seat) (c : Client) → seat.waits_on ≡ None → ShowsTurn number l peers p s → ShowsSeat number name [] seat c → c.is_closing ≡ false → MayWait number p s seat c
     → option_map shared_of (shared_with p seat) ≡ shared_with_law s c
-shared_with_same number l peers p s name seat c shows seen going may =
-    shared_same_by number l peers p s name seat c (is_sharing p seat) refl shows seen going may
+shared_with_same number l peers p s name seat c alone shows seen going may =
+    shared_same_by number l peers p s name seat c (is_sharing p seat) refl alone shows seen going may
     ∙ ap (λ (b : Bool). shared_law s.clock b (shared_by_law s c)) (shares number l peers p s name seat c shows seen going may)
 
 abbrev awaited_law : State → Client → Option Shared → Option Shared
 awaited_law s c o = elim o as (λ t. Option Shared) [ Some w ↦ Some w | None ↦ shared_with_law s c ]
 
-awaited_same_by : (p : Turn) (s : State) (seat : Seat) (c : Client) (o : Option SeatShared) → option_map shared_of (shared_with p seat) ≡ shared_with_law s c → option_map shared_of (awaited_in p seat o) ≡ awaited_law s c (option_map shared_of o)
-awaited_same_by p s seat c None same = same
+awaited_same_by : (p : Turn) (s : State) (seat : Seat) (c : Client) (o : Option SeatShared) → (o ≡ None → option_map shared_of (shared_with p seat) ≡ shared_with_law s c) → option_map shared_of (awaited_in p seat o) ≡ awaited_law s c (option_map shared_of o)
+awaited_same_by p s seat c None same = same refl
 awaited_same_by p s seat c (Some w) same = refl
 
 awaited_same : (number : ℕ → ℕ) (l : Leaving) (peers : List Peer) (p : Turn) (s : State) (name : Bytes) (seat : Seat) (c : Client) → ShowsTurn number l peers p s → ShowsSeat number name [] seat c → c.is_closing ≡ false → MayWait number p s seat c
     → option_map shared_of (awaited_by p seat) ≡ awaited_by_law s c
 awaited_same number l peers p s name seat c shows seen going may =
-    awaited_same_by p s seat c seat.waits_on (shared_with_same number l peers p s name seat c shows seen going may) ∙ ap (λ (o : Option Shared). awaited_law s c o) (seen.going going).waits_on
+    awaited_same_by p s seat c seat.waits_on (λ alone. shared_with_same number l peers p s name seat c alone shows seen going may) ∙ ap (λ (o : Option Shared). awaited_law s c o) (seen.going going).waits_on
 
 -- ---- one client
 

@@ -1,5 +1,5 @@
 -- Who waits for an exchange, and has nothing to be said to it, waits by the law.
-use Rattle.std.proofs.Common.{◌≡◌, refl, sym, ap, ap₂, ◌∙◌, ℕ, Bool, true, false, ◌&&◌, ◌||◌, not, cond, find, is_some, List, [], ◌∷◌, ◌++◌, Option, Some, None}
+use Rattle.std.proofs.Common.{◌≡◌, refl, sym, ap, ap₂, ◌∙◌, ℕ, Bool, true, false, ◌&&◌, ◌||◌, not, cond, find, is_some, List, [], ◌∷◌, ◌++◌, Option, Some, None, option_map}
 use Rattle.std.specs.List.{list_any}
 use Rattle.pp_brings_law.proofs.All.{any_alike}
 use Rattle.pp_brings_law.proofs.Brought.{brought_of}
@@ -16,9 +16,9 @@ use Rattle.pp_flow_law.specs.Tables.{Leaving}
 use Rattle.pp_law.specs.Connections.{is_for}
 use Rattle.pp_law.specs.Lists.{Bytes, is_this}
 use Rattle.pp_law.specs.Requests.{Front, NoHeadYet, NoHead, IsRequest, has_request}
-use Rattle.pp_law.specs.Sharing.{due_undecided as undecided_by_law, is_sharing as shares_by_law}
+use Rattle.pp_law.specs.Sharing.{due_first, due_undecided as undecided_by_law, is_patient, is_sharing as shares_by_law}
 use Rattle.pp_law.specs.Stages.{is_undecided}
-use Rattle.pp_law.specs.State.{State, Client, Exchange, Reply, Stage, Undecided, Waiting, Passing, Answering}
+use Rattle.pp_law.specs.State.{State, Client, Exchange, Reply, Shared, Stage, Undecided, Waiting, Passing, Answering}
 use Rattle.pp_law.specs.Table.{Next, brings as brings_by_law, is_brought as brought_by_law, next_in, next_of as next_of_law}
 use Rattle.pp_peers.specs.declared.peers.Peer.{Peer}
 use Rattle.pp_seats.specs.Dues.{undecided_in}
@@ -29,17 +29,19 @@ use Rattle.pp_seats.specs.declared.front.Front.{Front as SeatFront}
 use Rattle.pp_seats.specs.declared.front.Front.TheVariants.{NoHeadYet as NoneYet, NoHead as NoneThere, Request as IsThere}
 use Rattle.pp_seats.specs.declared.seat.Next.{Next as SeatNext}
 use Rattle.pp_seats.specs.declared.seat.Seat.{Seat}
+use Rattle.pp_seats.specs.declared.seat.Shared.{Shared as SeatShared}
 use Rattle.pp_seats_law.proofs.Dues.{sharing}
 use Rattle.pp_seats_law.proofs.Nexts.{nexts}
 use Rattle.pp_seats_law.proofs.Stages.{undecided}
 use Rattle.pp_seats_law.specs.Dues.{waits_on_still}
 use Rattle.pp_seats_law.specs.Fronts.{ShowsFront}
+use Rattle.pp_seats_law.specs.Replies.{shared_of}
 use Rattle.pp_seats_law.specs.Seats.{ShowsOpen, ShowsSeat}
 use Rattle.pp_seats_law.specs.Words.{ShowsNext}
 use Rattle.pp_steps.specs.Decide.{decide}
 use Rattle.pp_steps.specs.Due.{due_undecided}
 use Rattle.pp_steps.specs.Ends.{parts}
-use Rattle.pp_steps.specs.Sharing.{has_asked, shared_ask}
+use Rattle.pp_steps.specs.Sharing.{has_asked, may_wait_on, shared_ask}
 use Rattle.pp_steps.specs.Waits.{waits_for_next}
 use Rattle.pp_steps.specs.declared.state.State.{State as Turn}
 use Rattle.pp_world.specs.declared.note.Decision.{Decision}
@@ -55,6 +57,29 @@ undecided_same number l peers p s name seat c shows seen going there may =
     ∙ ap₂ (λ (asked : Option ℕ) (d : Option Decision). undecided_in seat.waits_on (waits_on_still s seat.waits_on) s.settings.shares_fetches (is_some asked) d)
     (shared_same number l peers p s name seat c shows live.front may.key) (decided number l peers p s name seat c shows seen going may)
     ∙ sharing s number name [] seat c live
+
+-- one that waits on is not decided, whatever its row is
+waits_in_turn : (o : Option SeatShared) (patient shares asked : Bool) (d : Option Decision) (s : State) → waits_on_still s o ≡ true → patient ≡ true → undecided_in o patient shares asked d ≡ None
+waits_in_turn None patient shares asked d s still is = absurd (cc still)
+waits_in_turn (Some w) true shares asked d s still is = refl
+waits_in_turn (Some w) false shares asked d s still is = absurd (cc is)
+
+abbrev undecided_at : State → Client → Option Shared → Option Decision
+undecided_at s c o = elim o as (λ t. Option Decision) [
+  | Some w ↦ elim (is_patient s w) as (λ b. Option Decision) [ true ↦ None | false ↦ decide_by_law s c ]
+  | None ↦ elim (decide_by_law s c) as (λ t. Option Decision) [ None ↦ None | Some d ↦ due_first s c d ]
+]
+
+waits_in_law : (s : State) (c : Client) (o : Option SeatShared) → waits_on_still s o ≡ true → undecided_at s c (option_map shared_of o) ≡ None
+waits_in_law s c None still = absurd (cc still)
+waits_in_law s c (Some w) still = ap (λ (b : Bool). elim b as (λ t. Option Decision) [ true ↦ None | false ↦ decide_by_law s c ]) still
+
+undecided_by : (number : ℕ → ℕ) (l : Leaving) (peers : List Peer) (p : Turn) (s : State) (name : Bytes) (seat : Seat) (c : Client) (b : Bool) → waits_on_still s seat.waits_on ≡ b → ShowsTurn number l peers p s → ShowsSeat number name [] seat c → c.is_closing ≡ false → MayWait number p s seat c
+    → is_undecided_in seat.stage ≡ true → is_there_in seat.front ≡ true → due_undecided p seat ≡ undecided_by_law s c
+undecided_by number l peers p s name seat c false still shows seen going may first there = undecided_same number l peers p s name seat c shows seen going may.follows (may.decidable first there still)
+undecided_by number l peers p s name seat c true still shows seen going may first there =
+    waits_in_turn seat.waits_on (may_wait_on seat.waits_on p.now p.flow) p.shares_fetches (is_some (shared_ask seat p.flow)) (decide p seat) s still (waiting number l peers p s name seat c shows seen going may.follows ∙ still)
+    ∙ sym (ap (λ (o : Option Shared). undecided_at s c o) (sym (seen.going going).waits_on) ∙ waits_in_law s c seat.waits_on still)
 
 pub there_same : (front : SeatFront) (f : Front) → ShowsFront front f → is_there_in front ≡ has_request f
 there_same NoneYet NoHeadYet shows = refl
@@ -79,7 +104,7 @@ pub shares : SharingIsTheLaws
 shares number l peers p s name seat c shows seen going may =
     let live : ShowsOpen number name [] seat c = seen.going going in
     shares_by (is_undecided_in seat.stage) (is_there_in seat.front) (is_some (due_undecided p seat)) (is_some (undecided_by_law s c))
-    (λ first there. ap (λ (o : Option Decision). is_some o) (undecided_same number l peers p s name seat c shows seen going may.follows (may.decidable first there)))
+    (λ first there. ap (λ (o : Option Decision). is_some o) (undecided_by number l peers p s name seat c (waits_on_still s seat.waits_on) refl shows seen going may first there))
     ∙ ap₂ (λ (a b : Bool). shares_if a b (is_some (undecided_by_law s c))) (undecided number name [] seat c live) (there_same seat.front c.front live.front)
 
 -- ---- it has asked

@@ -11,6 +11,7 @@ use Rattle.pp_peers.specs.declared.peers.Peer.{Peer}
 use Rattle.pp_seats.specs.Heads.{is_there_in}
 use Rattle.pp_seats.specs.Seats.{is_silent, is_undecided_in}
 use Rattle.pp_seats.specs.declared.seat.Seat.{Seat}
+use Rattle.pp_seats_law.specs.Dues.{waits_on_still}
 use Rattle.pp_seats_law.specs.Seats.{ShowsSeat}
 use Rattle.pp_steps.specs.Due.{is_sharing}
 use Rattle.pp_steps.specs.Ends.{changed_at}
@@ -19,10 +20,10 @@ use Rattle.pp_steps.specs.declared.state.State.{State as Turn}
 
 -- ---- who waits
 
--- what it follows is there; and while no decision was taken for its request, that can be decided
+-- what it follows is there; and while no decision was taken for its request, that can be decided, unless it waits on for another's answer
 pub record MayWait (number : ℕ → ℕ) (p : Turn) (s : State) (seat : Seat) (c : Client) : Type 0 where
   pub follows : IsFollowing p.cache seat
-  pub decidable : is_undecided_in seat.stage ≡ true → is_there_in seat.front ≡ true → IsDecidable number p s seat c
+  pub decidable : is_undecided_in seat.stage ≡ true → is_there_in seat.front ≡ true → waits_on_still s seat.waits_on ≡ false → IsDecidable number p s seat c
 
 -- of all seats that show a client, and are not closing, amid a turn that shows the law's state
 abbrev pub OfWaiting : (Turn → State → Seat → Client → Type 0) → Type 0
