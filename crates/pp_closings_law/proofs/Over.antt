@@ -24,7 +24,7 @@ use Rattle.pp_states_law.proofs.Ended.{as_before, ends, gone, leaves, none_out, 
 use Rattle.pp_states_law.proofs.Lines.{IsPlaced, all_found, same_itself}
 use Rattle.pp_states_law.specs.Decisions.{AreApart}
 use Rattle.pp_states_law.specs.Exchanges.{StandsNowhere}
-use Rattle.pp_steps.specs.Ends.{ended, left, place_of}
+use Rattle.pp_state.specs.Ends.{ended, left, place_of}
 use Rattle.pp_steps_law.proofs.Told.{exchange_next, over_next, told_left, told_next, told_over}
 use Rattle.pp_steps_law.specs.Steps.{ShowsSteps, whole}
 use Rattle.pp_closings_law.proofs.Peers.{HasPeer, linked}

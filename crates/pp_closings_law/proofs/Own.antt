@@ -21,7 +21,7 @@ use Rattle.pp_proxy.specs.Closings.{Sides, closed_client, closing_at, left_at, l
 use Rattle.pp_seats.specs.declared.seat.Seat.{Seat}
 use Rattle.pp_seats_law.specs.Exchanges.{ShowsExchange}
 use Rattle.pp_states_law.proofs.Lines.{same_itself}
-use Rattle.pp_steps.specs.Ends.{Parts, exchange_at, exchange_of, source_of}
+use Rattle.pp_state.specs.Ends.{Parts, exchange_at, exchange_of, source_of}
 use Rattle.pp_closings_law.proofs.Gone.{quitting}
 use Rattle.pp_closings_law.proofs.Quit.{closing_client, closing_is, quit, quit_number}
 

@@ -28,7 +28,7 @@ use Rattle.pp_seats_law.proofs.AllSeats.{places}
 use Rattle.pp_seats_law.specs.Clients.{AreShown, IsAt, IsFound}
 use Rattle.pp_states_law.proofs.Asked.{all_as, frames, itself}
 use Rattle.pp_states_law.specs.States.{ShowsState}
-use Rattle.pp_steps.specs.Ends.{AreInOrder, numbers_of}
+use Rattle.pp_state.specs.Ends.{AreInOrder, numbers_of}
 use Rattle.pp_steps_law.proofs.Told.{told_next}
 use Rattle.pp_steps_law.specs.Lines.{AllGo}
 use Rattle.pp_steps_law.specs.Steps.{whole}

@@ -20,7 +20,7 @@ use Rattle.pp_pipe.specs.declared.asks.Ask.{Ask}
 use Rattle.pp_proxy.specs.Closings.{unasked, unasked_in}
 use Rattle.pp_states_law.proofs.Asked.{line_again}
 use Rattle.pp_states_law.proofs.Ended.{asked_on, gone, none_out}
-use Rattle.pp_steps.specs.Ends.{place_of}
+use Rattle.pp_state.specs.Ends.{place_of}
 
 -- ---- the text that is left of each ask
 

@@ -1,8 +1,8 @@
 -- Connection after connection is looked at.
 use Rattle.std.proofs.Common.{◌≡◌, ◌≤◌, ◌+◌, ℕ, zero, suc, add-one, List, [], ◌∷◌, fold, length, take, slice_get, Some, None, refl, ap, ◌∙◌, arith}
 use Rattle.pp_seats.specs.declared.seat.Seat.{Seat}
-use Rattle.pp_steps.specs.Ends.{Parts, parts}
-use Rattle.pp_steps.specs.declared.state.State.{State}
+use Rattle.pp_state.specs.Ends.{Parts, parts}
+use Rattle.pp_state.specs.declared.state.State.{State}
 
 folded_at : {A B : Type 0} (f : A → B → A) (z : A) (xs : List B) (i : ℕ) (x : B) → slice_get xs i ≡ Some x → fold f z (take (suc i) xs) ≡ f (fold f z (take i xs)) x
 folded_at f z [] i x at = absurd (let bad : None ≡ Some x = at in cc)

@@ -9,9 +9,9 @@ use Rattle.pp_pipe.specs.declared.asks.Ask.{Ask}
 use Rattle.pp_proxy.specs.Closings.{KeepsDesk, closed_line, closing, has_closing, peer_numbers, unasked, unasked_in, unasked_of}
 use Rattle.pp_proxy.specs.declared.desk.Desk.{Desk}
 use Rattle.pp_seats.specs.declared.seat.Seat.{Seat}
-use Rattle.pp_steps.specs.Ends.{Parts, changed_at, left_source, numbers_of, source_at, unfollowed, without_source}
+use Rattle.pp_state.specs.Ends.{Parts, changed_at, left_source, numbers_of, source_at, unfollowed, without_source}
 use Rattle.pp_steps.specs.Lines.{lost_line}
-use Rattle.pp_steps.proofs.SeatsLemmas.{changed_numbers as seats_changed_numbers}
+use Rattle.pp_state.proofs.SeatsLemmas.{changed_numbers as seats_changed_numbers}
 
 pub none_closing : (is_end : Bool) (ps : List Peer) → has_closing (filter (goes_on is_end) ps) ≡ false
 none_closing is_end [] = refl

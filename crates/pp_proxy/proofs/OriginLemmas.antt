@@ -4,7 +4,7 @@ use Rattle.std.specs.List.{fold}
 use Rattle.pp_peers.specs.declared.peers.Peer.{Peer}
 use Rattle.pp_proxy.specs.Closings.{KeepsDesk, Sides, peer_numbers, sides, where_there}
 use Rattle.pp_proxy.specs.declared.desk.Desk.{Desk}
-use Rattle.pp_steps.specs.Ends.{AreInOrder, AreSeated, numbers_of}
+use Rattle.pp_state.specs.Ends.{AreInOrder, AreSeated, numbers_of}
 use Rattle.pp_proxy.proofs.ClosingLemmas.{kept_then}
 
 pub folded_next : {A : Type 0} (step : A → ℕ → A) (x : A) (ns : List ℕ) (i : ℕ) → fold step x (take (suc i) ns) ≡ where_there step (fold step x (take i ns)) (slice_get ns i)

@@ -3,7 +3,7 @@ use Rattle.std.proofs.Common.{◌≡◌, ◌≢◌, ◌≤◌, ◌+◌, ℕ, zer
 use Rattle.std.proofs.lemmas.Bool.Decides.{nat_tests}
 use Rattle.pp_flow.specs.Changes.{is_on, line_of}
 use Rattle.pp_flow.specs.declared.entry.Entry.{Entry}
-use Rattle.pp_steps.specs.Ends.{place_of}
+use Rattle.pp_state.specs.Ends.{place_of}
 
 nothing_more : (o : Option ℕ) → option_map suc o ≡ None → o ≡ None
 nothing_more None is = refl

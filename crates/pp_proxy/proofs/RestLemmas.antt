@@ -5,7 +5,7 @@ use Rattle.pp_proxy.specs.Closings.{where_there}
 use Rattle.pp_proxy.specs.Rests.{all_waiting, rested_at}
 use Rattle.pp_proxy.proofs.OriginLemmas.{folded_next, whole}
 use Rattle.pp_seats.specs.declared.seat.Seat.{Seat}
-use Rattle.pp_steps.specs.declared.state.State.{State}
+use Rattle.pp_state.specs.declared.state.State.{State}
 
 -- the state but for its clients is as it was
 pub one_more_rested : (turn : ℕ) (s t : State) (new : List Seat) → t.seats.items ≡ fold (rested_at s) s.seats.items (take turn s.awake.items) → record t { seats = s.seats } ≡ s → new ≡ where_there (rested_at t) t.seats.items (slice_get t.awake.items turn)

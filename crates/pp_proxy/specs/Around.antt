@@ -4,7 +4,7 @@ use Rattle.pp_links.specs.Links.{Link}
 use Rattle.pp_peers.specs.declared.placing.Limits.{Limits}
 use Rattle.pp_proxy.specs.Closings.{Sides, sides}
 use Rattle.pp_proxy.specs.declared.desk.Desk.{Desk}
-use Rattle.pp_steps.specs.declared.state.State.{State}
+use Rattle.pp_state.specs.declared.state.State.{State}
 use Rattle.pp_world.specs.Log.{AppendsAll, Log}
 
 -- both sides, the connections that are open, and the greatest number that was given

@@ -13,10 +13,10 @@ use Rattle.pp_proxy.specs.Replies.{EndsReplies}
 use Rattle.pp_proxy.specs.Responses.{origin_gone}
 use Rattle.pp_proxy.specs.Talking.{Took, write_log}
 use Rattle.pp_seats.specs.declared.seat.Seat.{Seat}
-use Rattle.pp_steps.specs.Asking.{asking}
-use Rattle.pp_steps.specs.Ends.{changed_at}
-use Rattle.pp_steps.specs.declared.asking.Asking.{Asking}
-use Rattle.pp_steps.specs.declared.asking.Asking.TheVariants.{Text, Body}
+use Rattle.pp_state.specs.Asking.{asking}
+use Rattle.pp_state.specs.Ends.{changed_at}
+use Rattle.pp_state.specs.declared.asking.Asking.{Asking}
+use Rattle.pp_state.specs.declared.asking.Asking.TheVariants.{Text, Body}
 use Rattle.pp_world.specs.Log.{AppendsAll, Log}
 
 -- what is asked of the exchange is changed

@@ -3,12 +3,12 @@ use Rattle.std.specs.Prelude.{ℕ, Bool, true, ◌&&◌, not, nat_lt, List, Opti
 use Rattle.std.specs.List.{fold}
 use Rattle.pp_flow.specs.declared.entry.Exchange.{Exchange}
 use Rattle.pp_peers.specs.declared.peers.Peer.{Peer}
-use Rattle.pp_steps.specs.Asking.{asking, is_there_to_ask}
-use Rattle.pp_steps.specs.Bodies.{room_for}
-use Rattle.pp_steps.specs.Ends.{Parts, exchange_at}
+use Rattle.pp_state.specs.Asking.{asking, is_there_to_ask}
+use Rattle.pp_state.specs.Bodies.{room_for}
+use Rattle.pp_state.specs.Ends.{Parts, exchange_at}
 use Rattle.pp_steps.specs.Lines.{first_on}
-use Rattle.pp_steps.specs.Readers.{is_far_ahead}
-use Rattle.pp_steps.specs.Waits.{with_written_by}
+use Rattle.pp_state.specs.Readers.{is_far_ahead}
+use Rattle.pp_due.specs.Waits.{with_written_by}
 
 -- something is there to be asked
 abbrev pub is_asked : Parts → Peer → Bool

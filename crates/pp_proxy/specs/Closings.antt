@@ -8,7 +8,7 @@ use Rattle.pp_peers.specs.Peers.{is_number, with_peer, with_pipe}
 use Rattle.pp_peers.specs.declared.peers.Peer.{Peer}
 use Rattle.pp_pipe.specs.Line.{Line, is_begun_at, withdrawn_where}
 use Rattle.pp_proxy.specs.declared.desk.Desk.{Desk}
-use Rattle.pp_steps.specs.Ends.{Parts, ended, exchange_of, forsaken, left_source, on_seat, parts, place_of}
+use Rattle.pp_state.specs.Ends.{Parts, ended, exchange_of, forsaken, left_source, on_seat, parts, place_of}
 use Rattle.pp_steps.specs.Lines.{lost_line}
 
 -- ---- what changes together: clients, exchanges and what is in memory; and the connections to origins

@@ -6,10 +6,10 @@ use Rattle.pp_peers.specs.declared.peers.Peer.{Peer}
 use Rattle.pp_proxy.specs.Closings.{Sides}
 use Rattle.pp_proxy.specs.Origins.{without_idle}
 use Rattle.pp_seats.specs.declared.seat.Seat.{Seat}
-use Rattle.pp_steps.specs.Ends.{numbers_of, on_seat_where, place_of}
-use Rattle.pp_steps.specs.Patience.{is_leap}
-use Rattle.pp_steps.specs.Waits.{woken_seat}
-use Rattle.pp_steps.specs.declared.state.State.{State}
+use Rattle.pp_state.specs.Ends.{numbers_of, on_seat_where, place_of}
+use Rattle.pp_decide.specs.Patience.{is_leap}
+use Rattle.pp_due.specs.Waits.{woken_seat}
+use Rattle.pp_state.specs.declared.state.State.{State}
 
 abbrev pub marked_seat : ℕ → Seat → Seat
 marked_seat now seat = record seat { client = record seat.client { mark = now } }

@@ -7,9 +7,9 @@ use Rattle.pp_flow.specs.declared.entry.Exchange.{Exchange}
 use Rattle.pp_peers.specs.Peers.{is_number}
 use Rattle.pp_peers.specs.declared.peers.Peer.{Peer}
 use Rattle.pp_proxy.specs.Closings.{Sides, closed_conn, dropped_with, peer_numbers, with_parts}
-use Rattle.pp_steps.specs.Asking.{owed_answer}
-use Rattle.pp_steps.specs.Ends.{Parts, failed}
-use Rattle.pp_steps.specs.Unseen.{unseen_on}
+use Rattle.pp_state.specs.Asking.{owed_answer}
+use Rattle.pp_state.specs.Ends.{Parts, failed}
+use Rattle.pp_state.specs.Unseen.{unseen_on}
 
 -- ---- what nobody will see of the first exchange of a line: the others of the line are asked elsewhere
 

@@ -21,8 +21,8 @@ use Rattle.pp_proxy.specs.Closings.{Sides, with_parts}
 use Rattle.pp_proxy.specs.Shutting.{closings}
 use Rattle.pp_seats.specs.Courses.{is_trying_in}
 use Rattle.pp_seats.specs.declared.seat.Seat.{Seat}
-use Rattle.pp_steps.specs.Ends.{Parts, asked_anew, ended, lost_attempt, may_ask_again, numbers_of, place_of as seat_place}
-use Rattle.pp_steps.specs.Filling.{filled}
+use Rattle.pp_state.specs.Ends.{Parts, asked_anew, ended, lost_attempt, may_ask_again, numbers_of, place_of as seat_place}
+use Rattle.pp_take.specs.Filling.{filled}
 use Rattle.pp_world.specs.Log.{Log}
 use Rattle.pp_world.specs.Wire.{IsNewNumber, dial_happening}
 use Rattle.pp_world.specs.declared.wire.WireFault.{WireFault}

@@ -5,9 +5,9 @@ use Rattle.pp_proxy.specs.Closings.{Sides, closed_client, with_parts}
 use Rattle.pp_seats.specs.Accounts.{anew}
 use Rattle.pp_seats.specs.Seats.{IsRead, at_next_request, finished_in}
 use Rattle.pp_seats.specs.declared.seat.Seat.{Seat}
-use Rattle.pp_steps.specs.Ends.{Parts, forsaken, left_source, on_seat}
-use Rattle.pp_steps.specs.Hearing.{is_said_in, with_end}
-use Rattle.pp_steps.specs.Places.{IsChangedAt}
+use Rattle.pp_state.specs.Ends.{Parts, forsaken, left_source, on_seat}
+use Rattle.pp_state.specs.Hearing.{is_said_in, with_end}
+use Rattle.pp_state.specs.Places.{IsChangedAt}
 
 -- what the client at this place sent is read as a request, where there is none
 abbrev pub IsLookedAt : ℕ → Sides → Sides → Type 0

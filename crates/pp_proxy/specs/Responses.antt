@@ -12,11 +12,11 @@ use Rattle.pp_peers.specs.declared.peers.Peer.{Peer}
 use Rattle.pp_pipe.specs.Line.{ended_with}
 use Rattle.pp_pipe.specs.Reading.{ending_at}
 use Rattle.pp_proxy.specs.Closings.{Sides, closed_conn, with_parts}
-use Rattle.pp_steps.specs.Asking.{is_outstanding}
-use Rattle.pp_steps.specs.Bodies.{finished_for, on_asker, room_for, without_exchange}
-use Rattle.pp_steps.specs.Ends.{Parts, ended, exchange_at, failed, lost_attempt}
+use Rattle.pp_state.specs.Asking.{is_outstanding}
+use Rattle.pp_state.specs.Bodies.{finished_for, on_asker, room_for, without_exchange}
+use Rattle.pp_state.specs.Ends.{Parts, ended, exchange_at, failed, lost_attempt}
 use Rattle.pp_steps.specs.Lines.{first_on}
-use Rattle.pp_steps.specs.Patience.{may_go_on}
+use Rattle.pp_decide.specs.Patience.{may_go_on}
 
 -- ---- how much is read at once: no more than the pipe of the first exchange's client has room for
 

@@ -3,9 +3,9 @@ use Rattle.std.specs.Prelude.{ℕ, Bool, ◌&&◌, ◌||◌, not, cond, drop, Li
 use Rattle.std.specs.List.{fold}
 use Rattle.pp_peers.specs.declared.peers.Peer.{Peer}
 use Rattle.pp_seats.specs.declared.seat.Seat.{Seat}
-use Rattle.pp_steps.specs.Ends.{changed_at}
-use Rattle.pp_steps.specs.Waits.{rested_seat}
-use Rattle.pp_steps.specs.declared.state.State.{State}
+use Rattle.pp_state.specs.Ends.{changed_at}
+use Rattle.pp_due.specs.Waits.{rested_seat}
+use Rattle.pp_state.specs.declared.state.State.{State}
 use Rattle.pp_world.specs.Wire.{has_number}
 use Rattle.pp_world.specs.declared.event.Wants.{Wants}
 

@@ -5,7 +5,7 @@ use Rattle.pp_links.specs.Links.{Link, is_link, without}
 use Rattle.pp_peers.specs.declared.peers.Peer.{Peer}
 use Rattle.pp_proxy.specs.declared.desk.Desk.{Desk}
 use Rattle.pp_seats.specs.declared.seat.Seat.{Seat}
-use Rattle.pp_steps.specs.declared.state.State.{State}
+use Rattle.pp_state.specs.declared.state.State.{State}
 use Rattle.pp_world.specs.Log.{Log}
 use Rattle.pp_world.specs.Wire.{by_side}
 use Rattle.pp_world.specs.declared.happening.Happening.TheVariants.{Dropped, Shut}

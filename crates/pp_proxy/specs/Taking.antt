@@ -4,10 +4,10 @@ use Rattle.pp_proxy.specs.Closings.{closed_client, sides}
 use Rattle.pp_proxy.specs.declared.desk.Desk.{Desk}
 use Rattle.pp_seats.specs.declared.due.Due.{Due}
 use Rattle.pp_seats.specs.declared.due.Due.TheVariants.{Decide, CutOff}
-use Rattle.pp_steps.specs.Deciding.{Takes, afforded}
-use Rattle.pp_steps.specs.Ends.{Parts, all_regained, parts}
+use Rattle.pp_take.specs.Deciding.{Takes, afforded}
+use Rattle.pp_state.specs.Ends.{Parts, all_regained, parts}
 use Rattle.pp_steps.specs.Evicting.{given_way, row_in_way, row_notes}
-use Rattle.pp_steps.specs.declared.state.State.{State}
+use Rattle.pp_state.specs.declared.state.State.{State}
 use Rattle.pp_world.specs.Log.{Log}
 use Rattle.pp_world.specs.declared.happening.Happening.TheVariants.{Noted}
 use Rattle.pp_world.specs.declared.note.Decision.{Decision}

@@ -13,8 +13,8 @@ use Rattle.pp_seats.specs.Said.{used_by}
 use Rattle.pp_seats.specs.Seats.{IsRead, told_by}
 use Rattle.pp_seats.specs.declared.seat.Next.{Next}
 use Rattle.pp_seats.specs.declared.seat.Seat.{Seat}
-use Rattle.pp_steps.specs.Ends.{Parts, changed_at}
-use Rattle.pp_steps.specs.Places.{IsChangedAt}
+use Rattle.pp_state.specs.Ends.{Parts, changed_at}
+use Rattle.pp_state.specs.Places.{IsChangedAt}
 use Rattle.pp_world.specs.Log.{AppendsAll, Log}
 use Rattle.pp_world.specs.Wire.{IsWithin, read_happening, write_happening}
 use Rattle.pp_world.specs.declared.event.Got.{Got}

@@ -6,7 +6,7 @@ ghost use Rattle.pp_shelf.specs.Steady.{GrowsSteadily};
 ghost use Rattle.pp_proxy.specs.Anything.{anything};
 ghost use Rattle.pp_proxy.specs.Closings.{KeepsDesk};
 ghost use Rattle.pp_proxy.specs.Taking.{IsTaken, TakesDue, due_log, who_at};
-ghost use Rattle.pp_steps.specs.Ends.{numbers_of, parts, AreSeated, KeepsRest};
+ghost use Rattle.pp_state.specs.Ends.{numbers_of, parts, AreSeated, KeepsRest};
 ghost use Rattle.pp_steps.specs.Evicting.{row_in_way, row_notes};
 ghost use Rattle.pp_store.specs.Held.{Holds};
 ghost use Rattle.pp_world.specs.Log.{AppendsAll, Told};
@@ -14,11 +14,14 @@ ghost use Rattle.pp_world.specs.declared.happening.Happening.TheVariants.{Noted}
 ghost use Rattle.pp_world.specs.declared.note.Remark.TheVariants.{Taken};
 
 use pp_client::Room;
+use pp_due::first_due;
 use pp_links::Links;
 use pp_peers::Peers;
 use pp_seats::Due;
 use pp_shelf::Shelf;
-use pp_steps::State;
+use pp_state::State;
+use pp_steps::{begin_replies, give_way, leave_memory};
+use pp_take::{afforded, fill, give_up_asks, take};
 use pp_world::{Cause, Decision, Event, Note, Wire, World};
 
 /// The most clients at once.
@@ -67,8 +70,8 @@ impl Desk {
     {
         self.handle(links, shelf, world, event);
         self.state.regain();
-        self.state.leave_memory(links, world);
-        self.state.give_up_asks();
+        leave_memory(&mut self.state, links, world);
+        give_up_asks(&mut self.state);
         self.keep(links, shelf, world);
         self.settle(links, shelf, world);
     }
@@ -111,7 +114,7 @@ impl Desk {
             }
             is_decided = self.go_round(links, shelf, world);
         }
-        self.state.begin_replies();
+        begin_replies(&mut self.state);
     }
 
     /// Whether anything was decided.
@@ -122,7 +125,7 @@ impl Desk {
         ensures quiet { GrowsQuietly (W.log world.old) (W.log world.new) }
     {
         self.drop_unseen();
-        self.state.fill();
+        fill(&mut self.state);
         self.close_over(links, world);
         self.place(links, world);
         self.decide(links, shelf, world)
@@ -137,7 +140,7 @@ impl Desk {
     {
         let mut is_any = self.turn_away(links, world);
         for _due in 0..ROUNDS {
-            let Some((i, due)) = self.state.first_due(shelf) else {
+            let Some((i, due)) = first_due(&mut self.state, shelf) else {
                 break;
             };
             is_any = true;
@@ -162,7 +165,7 @@ impl Desk {
         };
         match due {
             Due::Decide(decision) => {
-                let decision = self.state.afforded(i, decision);
+                let decision = afforded(&self.state, i, decision);
                 take_decision(&mut self.state, links, world, i, client, index, decision);
             }
             Due::CutOff(cause) => {
@@ -218,8 +221,8 @@ fn take_decision<W: Wire>(
     ensures numbers { numbers_of state.new.seats.items ≡ numbers_of state.old.seats.items }
     ensures rest { KeepsRest state.old state.new }
 {
-    state.give_way(links, world, i, decision);
+    give_way(state, links, world, i, decision);
     links.note(world, &Note::Taken(client, index, decision));
-    state.take(i, decision);
+    take(state, i, decision);
     state.regain();
 }

@@ -6,14 +6,15 @@ ghost use Rattle.pp_links.specs.Quiet.{GrowsQuietly};
 ghost use Rattle.pp_proxy.specs.Around.{Leads, around, moment_of};
 ghost use Rattle.pp_proxy.specs.Closings.{KeepsDesk, sides};
 ghost use Rattle.pp_proxy.specs.Placing.{IsDialledFor, asked_again_where, dials_to, host_of, may_ask, met_by, new_one, refused_dial, with_new};
-ghost use Rattle.pp_steps.specs.Ends.{may_ask_again, numbers_of, parts, AreSeated, KeepsRest};
+ghost use Rattle.pp_state.specs.Ends.{may_ask_again, numbers_of, parts, AreSeated, KeepsRest};
 
 use crate::desk::Desk;
 use crate::place::host_of;
 use pp_flow::{Entry, Exchange};
 use pp_links::Links;
 use pp_peers::{HOST_ROOM, PEERS, Peers};
-use pp_steps::State;
+use pp_state::State;
+use pp_take::fill;
 use pp_world::{Wire, WireFault};
 
 impl Desk {
@@ -106,7 +107,7 @@ fn ask_again(state: &mut State, may: bool, number: u64)
 {
     if !may {
         state.end(number);
-        state.fill();
+        fill(state);
     }
 }
 

@@ -4,9 +4,10 @@ ghost use Rattle.pp_proxy.specs.Accepting.{newcomer, IsAccepted, IsSeated, IsTur
 ghost use Rattle.pp_links.specs.Links.{IsLinked};
 ghost use Rattle.pp_proxy.specs.Closings.{sides};
 ghost use Rattle.pp_proxy.specs.Marks.{ticked};
-ghost use Rattle.pp_steps.specs.Ends.{AreSeated};
-ghost use Rattle.pp_steps.specs.Patience.{is_leap};
-ghost use Rattle.pp_steps.specs.Waits.{places, woken_seat};
+ghost use Rattle.pp_state.specs.Ends.{AreSeated};
+ghost use Rattle.pp_decide.specs.Patience.{is_leap};
+ghost use Rattle.pp_state.specs.Numbers.{places};
+ghost use Rattle.pp_due.specs.Waits.{woken_seat};
 ghost use Rattle.pp_shelf.specs.Steady.{GrowsSteadily};
 ghost use Rattle.pp_proxy.specs.Anything.{anything};
 ghost use Rattle.pp_store.specs.Held.{Holds};
@@ -14,10 +15,11 @@ ghost use Rattle.pp_world.specs.Log.{Told};
 
 use crate::desk::Desk;
 use pp_client::Client;
+use pp_due::renew_marks;
 use pp_links::Links;
 use pp_seats::{Account, Seat};
 use pp_shelf::Shelf;
-use pp_steps::State;
+use pp_state::State;
 use pp_world::{Event, Source, World};
 
 /// Ours: a tick that comes so many seconds behind the last one, as long as a client may be idle, tells of a computer
@@ -137,7 +139,7 @@ fn begin_second(state: &mut State, now: u64)
     ensures awake { length state.old.seats.items ≤ vec_capacity state.old.awake → state.new.awake.items ≡ places (length state.old.seats.items) }
     ensures rest { record state.new { seats = state.old.seats; awake = state.old.awake } ≡ record state.old { now = now; has_ticked = true; is_ticked = true; has_lost_draft = false } }
 {
-    state.renew_marks(now);
+    renew_marks(state, now);
     state.now = now;
     state.has_ticked = true;
     state.is_ticked = true;

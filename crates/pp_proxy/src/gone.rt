@@ -7,7 +7,7 @@ ghost use Rattle.pp_peers.specs.Peers.{is_number};
 ghost use Rattle.pp_proxy.specs.Closings.{KeepsDesk, sides};
 ghost use Rattle.pp_proxy.specs.Replies.{EndsReplies};
 ghost use Rattle.pp_proxy.specs.Responses.{ended_by, ending_by, origin_gone, whole_where};
-ghost use Rattle.pp_steps.specs.Ends.{numbers_of, AreSeated};
+ghost use Rattle.pp_state.specs.Ends.{numbers_of, AreSeated};
 
 use crate::desk::Desk;
 use pp_framing::Ending;

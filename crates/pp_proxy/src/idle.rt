@@ -4,11 +4,11 @@ ghost use Rattle.std.specs.List.{find};
 ghost use Rattle.pp_peers.specs.Peers.{is_number};
 ghost use Rattle.pp_proxy.specs.Closings.{KeepsDesk, peer_numbers, sides, where_there};
 ghost use Rattle.pp_proxy.specs.Origins.{given_up, is_idle_in, patience, patience_ended, without_idle, without_idle_on};
-ghost use Rattle.pp_steps.specs.Ends.{numbers_of, parts, AreSeated, KeepsRest};
+ghost use Rattle.pp_state.specs.Ends.{numbers_of, parts, AreSeated, KeepsRest};
 
 use crate::desk::Desk;
 use pp_flow::Exchange;
-use pp_steps::State;
+use pp_state::State;
 
 /// Ours: an origin that did nothing for so many seconds while it was waited for is given up: one that owes an
 /// answer, and any other.

@@ -8,6 +8,7 @@ ghost use Rattle.pp_world.specs.Log.{Told};
 use crate::desk::Desk;
 use crate::disk::load;
 use pp_cache::CHUNK_LEN;
+use pp_due::next_to_load;
 use pp_links::Links;
 use pp_seats::Next;
 use pp_shelf::Shelf;
@@ -42,7 +43,7 @@ impl Desk {
         ensures holds { Told (W.log world.new) (Holds anything shelf.new) }
         ensures steady { GrowsSteadily (W.log world.old) (W.log world.new) }
     {
-        if let Some(next) = self.state.next_to_load(i) {
+        if let Some(next) = next_to_load(&self.state, i) {
             self.load(links, shelf, world, next);
         }
     }

@@ -4,7 +4,7 @@ ghost use Rattle.std.specs.List.{find};
 ghost use Rattle.pp_peers.specs.Peers.{is_number};
 ghost use Rattle.pp_proxy.specs.Closings.{KeepsDesk, sides};
 ghost use Rattle.pp_proxy.specs.Marks.{marked_on, marked_peer, marked_peers, marked_seat, marked_seats, on_peer_at, touched};
-ghost use Rattle.pp_steps.specs.Ends.{changed_at, AreSeated};
+ghost use Rattle.pp_state.specs.Ends.{changed_at, AreSeated};
 
 use crate::desk::Desk;
 use pp_peers::Peers;
@@ -44,7 +44,7 @@ fn mark_seats(seats: &mut [Seat], now: u64)
     }
 }
 
-#[tactic(auto, using(pp_steps::proofs::PlacesLemmas::changed_here, crate::proofs::ClosingLemmas::none_changed))]
+#[tactic(auto, using(pp_state::proofs::PlacesLemmas::changed_here, crate::proofs::ClosingLemmas::none_changed))]
 fn mark_at(seats: &mut [Seat], i: usize, now: u64)
     ensures { seats.new ≡ changed_at i (marked_seat now) seats.old }
 {

@@ -7,7 +7,7 @@ use pp_client::Room;
 use pp_conf::Conf;
 use pp_flow::Flow;
 use pp_peers::{Limits, Peers};
-use pp_steps::State;
+use pp_state::State;
 use pp_text::OutOfMemory;
 use pp_world::AccessLog;
 use std::alloc::{AllocError, Global};

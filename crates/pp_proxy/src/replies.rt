@@ -5,13 +5,13 @@ ghost use Rattle.pp_links.specs.Quiet.{GrowsQuietly};
 ghost use Rattle.pp_proxy.specs.Closings.{KeepsDesk, sides, where_there};
 ghost use Rattle.pp_proxy.specs.Replies.{EndsReplies, EndsReply, EndsSaid, EndsSaidIn, EndsSaidOf, account_renewed, at_next, closes_in, is_finished_in, without_finished, without_finished_at};
 ghost use Rattle.pp_seats.specs.Seats.{at_next_request};
-ghost use Rattle.pp_steps.specs.Ends.{changed_at, numbers_of, parts, AreSeated, KeepsRest};
+ghost use Rattle.pp_state.specs.Ends.{changed_at, numbers_of, parts, AreSeated, KeepsRest};
 
 use crate::access::log_reply;
 use crate::desk::Desk;
 use pp_links::Links;
 use pp_seats::Seat;
-use pp_steps::State;
+use pp_state::State;
 use pp_world::Wire;
 
 impl Desk {
@@ -154,7 +154,7 @@ fn closes_at(seats: &[Seat], i: usize) -> bool
 }
 
 /// The account is that of the next reply.
-#[tactic(auto, using(pp_steps::proofs::PlacesLemmas::changed_here, pp_steps::proofs::PlacesLemmas::same_numbers, crate::proofs::ClosingLemmas::none_changed))]
+#[tactic(auto, using(pp_state::proofs::PlacesLemmas::changed_here, pp_state::proofs::PlacesLemmas::same_numbers, crate::proofs::ClosingLemmas::none_changed))]
 fn renew_account(seats: &mut [Seat], i: usize)
     ensures is { seats.new ≡ changed_at i account_renewed seats.old }
     ensures numbers { numbers_of seats.new ≡ numbers_of seats.old }
@@ -175,7 +175,7 @@ fn begin_next(state: &mut State, i: usize)
     move_on(&mut state.seats, i);
 }
 
-#[tactic(auto, using(pp_steps::proofs::PlacesLemmas::changed_here, pp_steps::proofs::PlacesLemmas::same_numbers, crate::proofs::ClosingLemmas::none_changed))]
+#[tactic(auto, using(pp_state::proofs::PlacesLemmas::changed_here, pp_state::proofs::PlacesLemmas::same_numbers, crate::proofs::ClosingLemmas::none_changed))]
 fn move_on(seats: &mut [Seat], i: usize)
     ensures is { seats.new ≡ changed_at i at_next_request seats.old }
     ensures numbers { numbers_of seats.new ≡ numbers_of seats.old }

@@ -15,7 +15,7 @@ use pp_fresh::ready;
 use pp_links::Links;
 use pp_objects::{ObjectId, RowView};
 use pp_shelf::Shelf;
-use pp_steps::State;
+use pp_state::State;
 use pp_store::KeepFault;
 use pp_text::Fields;
 use pp_valid::Version;

@@ -3,7 +3,7 @@
 ghost use Rattle.std.specs.Prelude.{◌≡◌, slice_get};
 ghost use Rattle.pp_proxy.specs.Closings.{KeepsDesk, peer_numbers, sides, where_there};
 ghost use Rattle.pp_proxy.specs.Origins.{without_unseen, without_unseen_on};
-ghost use Rattle.pp_steps.specs.Ends.{numbers_of, AreSeated};
+ghost use Rattle.pp_state.specs.Ends.{numbers_of, AreSeated};
 
 use crate::desk::Desk;
 

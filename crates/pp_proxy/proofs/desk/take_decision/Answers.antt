@@ -2,10 +2,10 @@ use Rattle.std.proofs.Common.{◌≡◌, ◌∙◌, ap, subst, List, ◌∷◌, 
 use Rattle.pp_proxy.proofs.PlacingLemmas.{told_then}
 use Rattle.pp_proxy.proofs.TakingLemmas.{given_numbers, given_rest, regained_numbers}
 use Rattle.pp_seats.specs.declared.seat.Seat.{Seat}
-use Rattle.pp_steps.specs.Deciding.{Takes}
-use Rattle.pp_steps.specs.Ends.{Parts, all_regained, numbers_of, parts}
+use Rattle.pp_take.specs.Deciding.{Takes}
+use Rattle.pp_state.specs.Ends.{Parts, all_regained, numbers_of, parts}
 use Rattle.pp_steps.specs.Evicting.{given_way, row_in_way, row_notes}
-use Rattle.pp_steps.specs.declared.state.State.{State}
+use Rattle.pp_state.specs.declared.state.State.{State}
 use Rattle.pp_world.specs.declared.happening.Happening.TheVariants.{Noted}
 use Rattle.pp_world.specs.declared.note.Remark.TheVariants.{Taken}
 use Rattle.pp_proxy.proofs.desk.take_decision.Goals as goal
@@ -18,8 +18,8 @@ returns-clause-is g c =
     let old : State = c.args.state.now in
     let i = c.args.i in
     let d = c.args.decision in
-    let given : State = c.give_way.new.self in
-    let mid : State = c.take.new.self in
+    let given : State = c.give_way.new.state in
+    let mid : State = c.take.new.state in
     let new : State = c.regain.new.self in
     let same : given ≡ given_way d i old = c.give_way.ensures.is in
     let rest_given : record given { seats = old.seats; flow = old.flow; cache = old.cache; refused = old.refused } ≡ old =
@@ -37,7 +37,7 @@ returns-clause-is g c =
 
 pub returns-clause-numbers : goal.returns-clause-numbers
 returns-clause-numbers g c =
-    ap numbers_of c.regain.ensures.is ∙ regained_numbers c.take.new.self.cache c.take.new.self.awake.items c.take.new.self.seats.items
+    ap numbers_of c.regain.ensures.is ∙ regained_numbers c.take.new.state.cache c.take.new.state.awake.items c.take.new.state.seats.items
     ∙ c.take.ensures.numbers ∙ ap (λ (s : State). numbers_of s.seats.items) c.give_way.ensures.is ∙ given_numbers c.args.decision c.args.i c.args.state.now
 
 pub returns-clause-rest : goal.returns-clause-rest

@@ -1,6 +1,6 @@
 use Rattle.std.proofs.Common.{◌≡◌, ◌∙◌, length, ap, refl, arith}
 use Rattle.pp_proxy.specs.Marks.{marked_seat}
-use Rattle.pp_steps.proofs.SeatsLemmas.{front-all, front-done, front-mapped}
+use Rattle.pp_state.proofs.SeatsLemmas.{front-all, front-done, front-mapped}
 use Rattle.pp_proxy.proofs.marks.mark_seats.Goals as goal
 
 pub loop-seat-init : goal.loop-seat-init

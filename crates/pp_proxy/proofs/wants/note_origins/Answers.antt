@@ -4,8 +4,8 @@ use Rattle.pp_proxy.specs.Awaited.{with_asked, with_got}
 use Rattle.pp_proxy.proofs.AwaitedLemmas.{folded_more, same_parts}
 use Rattle.pp_proxy.proofs.ShuttingLemmas.{at_item}
 use Rattle.pp_seats.specs.declared.seat.Seat.{Seat}
-use Rattle.pp_steps.specs.Ends.{AreInOrder, AreSeated, Parts, numbers_of, parts}
-use Rattle.pp_steps.specs.declared.state.State.{State}
+use Rattle.pp_state.specs.Ends.{AreInOrder, AreSeated, Parts, numbers_of, parts}
+use Rattle.pp_state.specs.declared.state.State.{State}
 use Rattle.pp_proxy.proofs.wants.note_origins.Goals as goal
 
 pub loop-peer-preserved : goal.loop-peer-preserved

@@ -1,6 +1,6 @@
 use Rattle.std.proofs.Common.{◌≡◌, take}
 use Rattle.pp_proxy.specs.Awaited.{all_asked, all_got}
-use Rattle.pp_steps.specs.Ends.{AreSeated, parts}
+use Rattle.pp_state.specs.Ends.{AreSeated, parts}
 use Rattle.pp_proxy.proofs.wants.note_origins.Given as goal
 
 -- those before

@@ -1,5 +1,5 @@
 use Rattle.std.proofs.Common.{◌∙◌, ap, arith}
-use Rattle.pp_steps.specs.declared.state.State.{State}
+use Rattle.pp_state.specs.declared.state.State.{State}
 use Rattle.pp_proxy.proofs.RestLemmas.{all_rested_clients, one_more_rested}
 use Rattle.pp_proxy.proofs.wants.rest_clients.Goals as goal
 

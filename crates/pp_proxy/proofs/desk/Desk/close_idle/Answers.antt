@@ -2,7 +2,7 @@ use Rattle.std.proofs.Common.{◌≡◌, ◌∙◌, ap, List, ℕ, slice_get, su
 use Rattle.pp_proxy.specs.Closings.{peer_numbers, sides, where_there}
 use Rattle.pp_proxy.specs.Origins.{without_idle_on}
 use Rattle.pp_proxy.specs.declared.desk.Desk.{Desk}
-use Rattle.pp_steps.specs.Ends.{AreSeated}
+use Rattle.pp_state.specs.Ends.{AreSeated}
 use Rattle.pp_proxy.proofs.OriginLemmas.{count, done_next, done_whole}
 use Rattle.pp_proxy.proofs.desk.Desk.close_idle.Goals as goal
 

@@ -5,9 +5,9 @@ use Rattle.pp_proxy.proofs.ClosingLemmas.{line_lost}
 use Rattle.pp_proxy.proofs.desk.Desk.close_origin.Goals as goal
 use Rattle.pp_proxy.proofs.desk.Desk.close_origin.Goals.{in-Some-get_mut, in_default}
 use Rattle.pp_proxy.specs.declared.desk.Desk.{Desk}
-use Rattle.pp_steps.specs.Ends.{AreSeated, parts}
+use Rattle.pp_state.specs.Ends.{AreSeated, parts}
 use Rattle.pp_steps.specs.Lines.{lost_line}
-use Rattle.pp_steps.specs.declared.state.State.{State}
+use Rattle.pp_state.specs.declared.state.State.{State}
 
 pub returns-clause-is : goal.returns-clause-is
 returns-clause-is c =

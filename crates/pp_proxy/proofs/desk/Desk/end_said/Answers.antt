@@ -2,7 +2,7 @@ use Rattle.std.proofs.Common.{◌∙◌, ap, sym, subst, slice_get, List, ℕ, O
 use Rattle.pp_proxy.specs.Closings.{sides}
 use Rattle.pp_proxy.specs.Replies.{EndsSaidIn}
 use Rattle.pp_proxy.specs.declared.desk.Desk.{Desk}
-use Rattle.pp_steps.specs.Ends.{AreInOrder}
+use Rattle.pp_state.specs.Ends.{AreInOrder}
 use Rattle.pp_proxy.proofs.ClosingLemmas.{kept_then}
 use Rattle.pp_proxy.proofs.ReplyLemmas.{all_ended, one_more}
 use Rattle.pp_proxy.proofs.desk.Desk.end_said.Goals as goal

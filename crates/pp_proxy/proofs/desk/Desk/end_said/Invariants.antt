@@ -2,7 +2,7 @@ use Rattle.std.proofs.Common.{◌≡◌, take}
 use Rattle.pp_links.specs.Links.{IsLinked}
 use Rattle.pp_proxy.specs.Closings.{KeepsDesk, sides}
 use Rattle.pp_proxy.specs.Replies.{EndsSaid}
-use Rattle.pp_steps.specs.Ends.{AreSeated, numbers_of}
+use Rattle.pp_state.specs.Ends.{AreSeated, numbers_of}
 use Rattle.pp_proxy.proofs.desk.Desk.end_said.Given as goal
 
 abbrev pub invariant-loop-turn : goal.invariant-loop-turn

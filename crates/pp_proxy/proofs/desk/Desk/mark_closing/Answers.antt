@@ -1,5 +1,5 @@
 use Rattle.std.proofs.Common.{◌∙◌, ap}
-use Rattle.pp_steps.specs.Ends.{Parts, numbers_of, parts}
+use Rattle.pp_state.specs.Ends.{Parts, numbers_of, parts}
 use Rattle.pp_proxy.proofs.ClosingLemmas.{left_numbers}
 use Rattle.pp_proxy.proofs.desk.Desk.mark_closing.Goals as goal
 

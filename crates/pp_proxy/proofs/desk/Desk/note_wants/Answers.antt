@@ -2,15 +2,15 @@ use Rattle.std.proofs.Common.{◌∙◌, ap, sym, subst, filter, List, ℕ}
 use Rattle.pp_peers.specs.declared.peers.Peer.{Peer}
 use Rattle.pp_proxy.specs.Awaited.{all_asked, all_got}
 use Rattle.pp_proxy.specs.declared.desk.Desk.{Desk}
-use Rattle.pp_steps.specs.Ends.{AreSeated, parts}
-use Rattle.pp_steps.specs.Waits.{all_written, is_loud}
-use Rattle.pp_steps.specs.declared.state.State.{State}
+use Rattle.pp_state.specs.Ends.{AreSeated, parts}
+use Rattle.pp_due.specs.Waits.{all_written, is_loud}
+use Rattle.pp_state.specs.declared.state.State.{State}
 use Rattle.pp_proxy.proofs.desk.Desk.note_wants.Goals as goal
 
 pub returns-clause-read : goal.returns-clause-read
 returns-clause-read c = λ seated rises.
     let old : Desk = c.args.self.now in
-    let s : State = c.note_clients.new.self in
+    let s : State = c.note_clients.new.state in
     let rest = c.note_clients.ensures.rest in
     let loud : List ℕ = filter (is_loud old.state.seats.items) old.state.awake.items in
     let read : List ℕ = c.note_clients.new.wants.read.items in
@@ -25,7 +25,7 @@ returns-clause-read c = λ seated rises.
 pub returns-clause-write : goal.returns-clause-write
 returns-clause-write c = λ seated.
     let old : Desk = c.args.self.now in
-    let s : State = c.note_clients.new.self in
+    let s : State = c.note_clients.new.state in
     let rest = c.note_clients.ensures.rest in
     let written : List ℕ = c.note_clients.new.wants.write.items in
     let peers : List Peer = c.as_slice.result.now in

@@ -7,7 +7,7 @@ use Rattle.pp_proxy.specs.Placing.{IsPlaced, goes_on_behind, next_waiting, place
 use Rattle.pp_proxy.specs.declared.desk.Desk.{Desk}
 use Rattle.pp_proxy.proofs.ClosingLemmas.{kept_then}
 use Rattle.pp_proxy.proofs.PlacingLemmas.{all_placed, most_placed, one_more_placed}
-use Rattle.pp_steps.specs.Ends.{AreInOrder}
+use Rattle.pp_state.specs.Ends.{AreInOrder}
 use Rattle.pp_proxy.proofs.desk.Desk.place.Goals as goal
 
 pub loop-place-preserved : goal.loop-place-preserved

@@ -1,6 +1,6 @@
 use Rattle.std.proofs.Common.{◌≡◌, None, take}
 use Rattle.pp_flow.specs.Changes.{line_of}
-use Rattle.pp_steps.specs.Ends.{place_of}
+use Rattle.pp_state.specs.Ends.{place_of}
 use Rattle.pp_proxy.proofs.desk.Desk.place_on.Given as goal
 
 -- it does not stand before that place

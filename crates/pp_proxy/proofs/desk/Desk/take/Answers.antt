@@ -3,7 +3,7 @@ use Rattle.std.proofs.lemmas.Grind.{common_steps}
 use Rattle.pp_proxy.specs.Taking.{decision_log, due_log_for, due_log_of, who_at}
 use Rattle.pp_proxy.proofs.ShuttingLemmas.{none_added}
 use Rattle.pp_seats.specs.declared.due.Due.{Due}
-use Rattle.pp_steps.specs.declared.state.State.{State}
+use Rattle.pp_state.specs.declared.state.State.{State}
 use Rattle.pp_world.specs.Log.{AppendsAll, Log}
 use Rattle.pp_world.specs.declared.note.Decision.{Decision}
 use Rattle.pp_proxy.proofs.desk.Desk.take.Goals as goal

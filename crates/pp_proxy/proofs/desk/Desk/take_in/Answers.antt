@@ -7,8 +7,8 @@ use Rattle.pp_proxy.specs.Talking.{Found, IsReadAt, read_log}
 use Rattle.pp_proxy.specs.declared.desk.Desk.{Desk}
 use Rattle.pp_proxy.proofs.TalkingLemmas.{front_room, if_none, read_told}
 use Rattle.pp_seats.specs.declared.seat.Seat.{Seat}
-use Rattle.pp_steps.specs.Ends.{parts}
-use Rattle.pp_steps.specs.declared.state.State.{State}
+use Rattle.pp_state.specs.Ends.{parts}
+use Rattle.pp_state.specs.declared.state.State.{State}
 use Rattle.pp_world.specs.Log.{AppendsAll, Log}
 use Rattle.pp_proxy.proofs.desk.Desk.take_in.Goals as goal
 
