@@ -17,8 +17,8 @@ use Rattle.pp_law.specs.Unseen.{came_of, drop_on, drop_unseen, is_unseen}
 use Rattle.pp_peers.specs.Peers.{is_number}
 use Rattle.pp_peers.specs.declared.peers.Peer.{Peer}
 use Rattle.pp_peers_law.specs.Peers.{ShowConns}
-use Rattle.pp_proxy.specs.Closings.{Sides, closed_line, dropped_with, peer_numbers}
-use Rattle.pp_proxy.specs.Origins.{unseen_dropped, without_unseen_on}
+use Rattle.pp_desk.specs.Closings.{Sides, closed_line, dropped_with, peer_numbers}
+use Rattle.pp_desk.specs.Origins.{unseen_dropped, without_unseen_on}
 use Rattle.pp_seats_law.specs.Exchanges.{ShowsExchange}
 use Rattle.pp_states_law.proofs.Lines.{same_itself}
 use Rattle.pp_state.specs.Ends.{ended}

@@ -13,7 +13,7 @@ use Rattle.pp_law.specs.State.{State, Conn, Exchange}
 use Rattle.pp_peers.specs.Peers.{is_number, with_peer}
 use Rattle.pp_peers.specs.declared.peers.Peer.{Peer}
 use Rattle.pp_peers_law.specs.Peers.{ShowsConn}
-use Rattle.pp_proxy.specs.Closings.{Sides, closed_line, closing, dropped_with}
+use Rattle.pp_desk.specs.Closings.{Sides, closed_line, closing, dropped_with}
 use Rattle.pp_states_law.proofs.Alone.{same_some}
 use Rattle.pp_states_law.proofs.Connected.{kept_line}
 use Rattle.pp_states_law.proofs.Ended.{ends}

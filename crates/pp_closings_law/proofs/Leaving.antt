@@ -10,7 +10,7 @@ use Rattle.pp_law.specs.Connections.{close_conn, conn, end_exchange, exchange, f
 use Rattle.pp_law.specs.Lists.{Bytes, has_number}
 use Rattle.pp_law.specs.State.{State, Client, Conn, Exchange}
 use Rattle.pp_law.specs.Unseen.{drop_on, is_unseen}
-use Rattle.pp_proxy.specs.Closings.{Sides, closed_client, closing_at, dropped_with, left_at, with_parts, withdrawn}
+use Rattle.pp_desk.specs.Closings.{Sides, closed_client, closing_at, dropped_with, left_at, with_parts, withdrawn}
 use Rattle.pp_seats.specs.declared.seat.Seat.{Seat}
 use Rattle.pp_states_law.proofs.Lines.{IsPlaced, all_found, in_line, same_itself}
 use Rattle.pp_states_law.specs.Decisions.{AreApart}

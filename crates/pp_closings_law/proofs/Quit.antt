@@ -12,7 +12,7 @@ use Rattle.pp_law.specs.Lists.{Bytes}
 use Rattle.pp_law.specs.State.{State, Client}
 use Rattle.pp_law.specs.Table.{swept}
 use Rattle.pp_objects.specs.declared.id.ObjectId.{ObjectId}
-use Rattle.pp_proxy.specs.Closings.{Sides, closing_at}
+use Rattle.pp_desk.specs.Closings.{Sides, closing_at}
 use Rattle.pp_seats.specs.declared.seat.Seat.{Seat}
 use Rattle.pp_seats_law.specs.Clients.{IsAt}
 use Rattle.pp_seats_law.specs.Seats.{ShowsOpen, ShowsSeat}

@@ -22,7 +22,7 @@ use Rattle.pp_law.specs.Phases.{may_in}
 use Rattle.pp_law.specs.Stages.{reply_of}
 use Rattle.pp_law.specs.State.{State, Client, Conn, Connecting}
 use Rattle.pp_law.specs.Table.{follows}
-use Rattle.pp_proxy.specs.Closings.{with_parts}
+use Rattle.pp_desk.specs.Closings.{with_parts}
 use Rattle.pp_seats.specs.declared.seat.Seat.{Seat}
 use Rattle.pp_seats_law.proofs.AllSeats.{places}
 use Rattle.pp_seats_law.specs.Clients.{AreShown, IsAt, IsFound}

@@ -1,7 +1,7 @@
 -- A client has come: it has a seat, the last, or is turned away (ours).
 use Rattle.std.specs.Prelude.{◌≡◌, ◌<◌, ◌⊎◌, ℕ, Bool, cond, [], ◌∷◌, ◌++◌, length, vec_capacity, Some}
 use Rattle.pp_client.specs.Clients.{new_client}
-use Rattle.pp_proxy.specs.declared.desk.Desk.{Desk}
+use Rattle.pp_desk.specs.declared.desk.Desk.{Desk}
 use Rattle.pp_seats.specs.Seats.{new_seat}
 use Rattle.pp_seats.specs.declared.account.Account.{Account}
 use Rattle.pp_seats.specs.declared.account.Account.TheVariants.{Unkept, Due}

@@ -1,7 +1,7 @@
 -- What is due to a client is taken: a decision, or a cut (RFC 2616, section 8.1; the order is ours).
 use Rattle.std.specs.Prelude.{◌≡◌, ℕ, List, [], ◌∷◌, ◌++◌, slice_get, Option, Some, None, option_map}
-use Rattle.pp_proxy.specs.Closings.{closed_client, sides}
-use Rattle.pp_proxy.specs.declared.desk.Desk.{Desk}
+use Rattle.pp_desk.specs.Closings.{closed_client, sides}
+use Rattle.pp_desk.specs.declared.desk.Desk.{Desk}
 use Rattle.pp_seats.specs.declared.due.Due.{Due}
 use Rattle.pp_seats.specs.declared.due.Due.TheVariants.{Decide, CutOff}
 use Rattle.pp_take.specs.Deciding.{Takes, afforded}
