@@ -22,7 +22,7 @@ use Rattle.pp_desk.specs.Origins.{unseen_dropped, without_unseen_on}
 use Rattle.pp_seats_law.specs.Exchanges.{ShowsExchange}
 use Rattle.pp_states_law.proofs.Lines.{same_itself}
 use Rattle.pp_state.specs.Ends.{ended}
-use Rattle.pp_steps.specs.Lines.{lost_line}
+use Rattle.pp_state.specs.Lines.{lost_line}
 use Rattle.pp_state.specs.Unseen.{is_nobodys, unseen_in}
 use Rattle.pp_steps_law.proofs.Charged.{number_is}
 use Rattle.pp_closings_law.proofs.Following.{follow_on}

@@ -21,7 +21,7 @@ use Rattle.pp_states_law.proofs.Lines.{IsPlaced, all_found, in_line}
 use Rattle.pp_states_law.specs.Decisions.{AreApart}
 use Rattle.pp_states_law.specs.Exchanges.{StandsNowhere}
 use Rattle.pp_state.specs.Ends.{ended}
-use Rattle.pp_steps.specs.Lines.{lost_line}
+use Rattle.pp_state.specs.Lines.{lost_line}
 use Rattle.pp_steps_law.proofs.Closed.{closes}
 use Rattle.pp_steps_law.proofs.Kept.{lost_kept}
 use Rattle.pp_steps_law.proofs.Told.{conn_next, over_next, told_next, told_over}

@@ -10,7 +10,7 @@ use Rattle.pp_desk.specs.Closings.{KeepsDesk, closed_line, closing, has_closing,
 use Rattle.pp_desk.specs.declared.desk.Desk.{Desk}
 use Rattle.pp_seats.specs.declared.seat.Seat.{Seat}
 use Rattle.pp_state.specs.Ends.{Parts, changed_at, left_source, numbers_of, source_at, unfollowed, without_source}
-use Rattle.pp_steps.specs.Lines.{lost_line}
+use Rattle.pp_state.specs.Lines.{lost_line}
 use Rattle.pp_state.proofs.SeatsLemmas.{changed_numbers as seats_changed_numbers}
 
 pub none_closing : (is_end : Bool) (ps : List Peer) → has_closing (filter (goes_on is_end) ps) ≡ false

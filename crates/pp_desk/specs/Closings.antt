@@ -9,7 +9,7 @@ use Rattle.pp_peers.specs.declared.peers.Peer.{Peer}
 use Rattle.pp_pipe.specs.Line.{Line, is_begun_at, withdrawn_where}
 use Rattle.pp_desk.specs.declared.desk.Desk.{Desk}
 use Rattle.pp_state.specs.Ends.{Parts, ended, exchange_of, forsaken, left_source, on_seat, parts, place_of}
-use Rattle.pp_steps.specs.Lines.{lost_line}
+use Rattle.pp_state.specs.Lines.{lost_line}
 
 -- ---- what changes together: clients, exchanges and what is in memory; and the connections to origins
 

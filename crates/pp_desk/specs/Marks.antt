@@ -4,12 +4,8 @@ use Rattle.std.specs.List.{find}
 use Rattle.pp_peers.specs.Peers.{is_number, with_peer}
 use Rattle.pp_peers.specs.declared.peers.Peer.{Peer}
 use Rattle.pp_desk.specs.Closings.{Sides}
-use Rattle.pp_desk.specs.Origins.{without_idle}
 use Rattle.pp_seats.specs.declared.seat.Seat.{Seat}
 use Rattle.pp_state.specs.Ends.{numbers_of, on_seat_where, place_of}
-use Rattle.pp_decide.specs.Patience.{is_leap}
-use Rattle.pp_due.specs.Waits.{woken_seat}
-use Rattle.pp_state.specs.declared.state.State.{State}
 
 abbrev pub marked_seat : ℕ → Seat → Seat
 marked_seat now seat = record seat { client = record seat.client { mark = now } }
@@ -44,14 +40,3 @@ marked_seats leaps now seats = cond leaps (map (marked_seat now) seats) seats
 
 abbrev pub marked_peers : Bool → ℕ → List Peer → List Peer
 marked_peers leaps now peers = cond leaps (map (marked_peer now) peers) peers
-
--- the first tick of a life, and one that leaps, mark all, and who waited for an exchange is marked
-abbrev pub second_begun : ℕ → State → Sides → Sides
-second_begun now s x = record {
-  parts = record x.parts { seats = map (woken_seat now s) (marked_seats (is_leap now s.has_ticked s.now) now x.parts.seats) };
-  peers = marked_peers (is_leap now s.has_ticked s.now) now x.peers;
-}
-
--- and then those that are idle are given up
-abbrev pub ticked : ℕ → State → Sides → Sides
-ticked now s x = without_idle now (second_begun now s x)

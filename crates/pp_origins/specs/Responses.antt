@@ -15,7 +15,7 @@ use Rattle.pp_desk.specs.Closings.{Sides, closed_conn, with_parts}
 use Rattle.pp_state.specs.Asking.{is_outstanding}
 use Rattle.pp_state.specs.Bodies.{finished_for, on_asker, room_for, without_exchange}
 use Rattle.pp_state.specs.Ends.{Parts, ended, exchange_at, failed, lost_attempt}
-use Rattle.pp_steps.specs.Lines.{first_on}
+use Rattle.pp_state.specs.Lines.{first_on}
 use Rattle.pp_decide.specs.Patience.{may_go_on}
 
 -- ---- how much is read at once: no more than the pipe of the first exchange's client has room for

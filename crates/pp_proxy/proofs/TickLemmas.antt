@@ -3,7 +3,8 @@ use Rattle.std.proofs.Common.{◌≡◌, ◌≤◌, ℕ, Bool, true, false, List
 use Rattle.std.proofs.lemmas.List.{length-map}
 use Rattle.pp_peers.specs.declared.peers.Peer.{Peer}
 use Rattle.pp_desk.specs.Closings.{KeepsDesk, Sides, sides}
-use Rattle.pp_desk.specs.Marks.{marked_peers, marked_seat, marked_seats, ticked}
+use Rattle.pp_desk.specs.Marks.{marked_peers, marked_seat, marked_seats}
+use Rattle.pp_proxy.specs.Ticks.{ticked}
 use Rattle.pp_desk.specs.Origins.{without_idle}
 use Rattle.pp_desk.specs.declared.desk.Desk.{Desk}
 use Rattle.pp_seats.specs.declared.seat.Seat.{Seat}

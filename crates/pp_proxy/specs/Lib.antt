@@ -1,3 +1,4 @@
 pub mod Accepting
 pub mod Taking
 pub mod Turns
+pub mod Ticks

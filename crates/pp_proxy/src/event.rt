@@ -3,7 +3,7 @@ ghost use Rattle.std.specs.Prelude.{◌≡◌, ◌≤◌, ◌⊎◌, true, false
 ghost use Rattle.pp_proxy.specs.Accepting.{newcomer, IsAccepted, IsSeated, IsTurnedAway};
 ghost use Rattle.pp_links.specs.Links.{IsLinked};
 ghost use Rattle.pp_desk.specs.Closings.{sides};
-ghost use Rattle.pp_desk.specs.Marks.{ticked};
+ghost use Rattle.pp_proxy.specs.Ticks.{ticked};
 ghost use Rattle.pp_state.specs.Ends.{AreSeated};
 ghost use Rattle.pp_decide.specs.Patience.{is_leap};
 ghost use Rattle.pp_state.specs.Numbers.{places};

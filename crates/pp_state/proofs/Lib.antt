@@ -6,3 +6,4 @@ pub mod PlacesLemmas
 pub mod RestingLemmas
 pub mod SeatsLemmas
 pub mod Walks
+pub mod LineLemmas

@@ -12,3 +12,4 @@ pub mod Pins
 pub mod Places
 pub mod Readers
 pub mod Unseen
+pub mod Lines

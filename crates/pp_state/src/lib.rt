@@ -14,6 +14,7 @@
 
 mod account; // what the operator's log is told
 mod asking; // what is left to ask on a connection
+mod close; // what becomes of the exchanges of a connection that ended
 mod hearing; // a request that came, and a reply that was said
 mod held; // what is held of a version, and what comes
 mod passing; // a response that is passed
@@ -24,6 +25,7 @@ mod state; // what the steps change together
 mod unseen; // step 5: what nobody will see
 
 pub use asking::Asking;
+pub use close::{is_any_over, lose_line, lose_place};
 pub use passing::may_answer;
 pub use readers::further;
 pub use room::is_for_memory;

@@ -1,4 +1,3 @@
 pub mod BeginLemmas
 pub mod BodyLemmas
 pub mod EvictingLemmas
-pub mod LineLemmas

@@ -6,7 +6,7 @@ use Rattle.pp_peers.specs.declared.peers.Peer.{Peer}
 use Rattle.pp_state.specs.Asking.{asking, is_there_to_ask}
 use Rattle.pp_state.specs.Bodies.{room_for}
 use Rattle.pp_state.specs.Ends.{Parts, exchange_at}
-use Rattle.pp_steps.specs.Lines.{first_on}
+use Rattle.pp_state.specs.Lines.{first_on}
 use Rattle.pp_state.specs.Readers.{is_far_ahead}
 use Rattle.pp_due.specs.Waits.{with_written_by}
 

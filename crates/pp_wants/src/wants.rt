@@ -5,7 +5,7 @@ ghost use Rattle.pp_desk.specs.Closings.{where_there};
 ghost use Rattle.pp_desk.specs.Marks.{on_peer_at};
 ghost use Rattle.pp_wants.specs.Rests.{all_waiting, is_waited_for, rested_at, rested_by, rested_peer};
 ghost use Rattle.pp_state.specs.Ends.{parts, AreInOrder, AreSeated};
-ghost use Rattle.pp_steps.specs.Lines.{first_on};
+ghost use Rattle.pp_state.specs.Lines.{first_on};
 ghost use Rattle.pp_state.specs.Unseen.{all_rested};
 ghost use Rattle.pp_due.specs.Waits.{all_read, all_written, is_loud, with_written_by};
 ghost use Rattle.pp_world.specs.Wire.{has_number};

@@ -1,6 +1,6 @@
 use Rattle.std.proofs.Common.{◌∙◌, ap}
 use Rattle.pp_desk.specs.Closings.{sides}
-use Rattle.pp_desk.specs.Marks.{ticked}
+use Rattle.pp_proxy.specs.Ticks.{ticked}
 use Rattle.pp_proxy.proofs.TickLemmas.{all_awake, all_else, all_ticked, with_clock}
 use Rattle.pp_desk.specs.declared.desk.Desk.{Desk}
 use Rattle.pp_proxy.proofs.event.tick.Goals as goal

@@ -6,7 +6,7 @@ use Rattle.pp_desk.proofs.desk.Desk.close_origin.Goals as goal
 use Rattle.pp_desk.proofs.desk.Desk.close_origin.Goals.{in-Some-get_mut, in_default}
 use Rattle.pp_desk.specs.declared.desk.Desk.{Desk}
 use Rattle.pp_state.specs.Ends.{AreSeated, parts}
-use Rattle.pp_steps.specs.Lines.{lost_line}
+use Rattle.pp_state.specs.Lines.{lost_line}
 use Rattle.pp_state.specs.declared.state.State.{State}
 
 pub returns-clause-is : goal.returns-clause-is

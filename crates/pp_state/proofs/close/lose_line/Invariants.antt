@@ -1,7 +1,7 @@
 use Rattle.std.proofs.Common.{◌≡◌, ◌-◌}
 use Rattle.pp_state.specs.Ends.{numbers_of, parts, AreSeated, KeepsRest}
-use Rattle.pp_steps.specs.Lines.{lost_line}
-use Rattle.pp_steps.proofs.close.lose_line.Given as goal
+use Rattle.pp_state.specs.Lines.{lost_line}
+use Rattle.pp_state.proofs.close.lose_line.Given as goal
 
 abbrev pub invariant-loop-exchange : goal.invariant-loop-exchange
 invariant-loop-exchange l = record {

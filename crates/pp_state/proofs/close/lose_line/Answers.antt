@@ -1,8 +1,8 @@
 use Rattle.std.proofs.Common.{◌≡◌, ◌-◌, ◌+◌, ◌∙◌, subst, sym, ap, ℕ, List, Some}
-use Rattle.pp_steps.proofs.LineLemmas.{line_next}
-use Rattle.pp_steps.proofs.close.lose_line.Goals as goal
+use Rattle.pp_state.proofs.LineLemmas.{line_next}
+use Rattle.pp_state.proofs.close.lose_line.Goals as goal
 use Rattle.pp_state.specs.Ends.{AreInOrder, Parts, numbers_of, parts}
-use Rattle.pp_steps.specs.Lines.{first_on, lost_line}
+use Rattle.pp_state.specs.Lines.{first_on, lost_line}
 use Rattle.pp_state.specs.declared.state.State.{State}
 
 pub loop-exchange-preserved : goal.loop-exchange-preserved

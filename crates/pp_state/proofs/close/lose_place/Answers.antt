@@ -1,6 +1,6 @@
 use Rattle.std.proofs.Common.{◌∙◌, ap, subst, sym}
 use Rattle.pp_state.specs.Ends.{AreInOrder, left_place, left_place_at, parts}
-use Rattle.pp_steps.proofs.close.lose_place.Goals as goal
+use Rattle.pp_state.proofs.close.lose_place.Goals as goal
 
 pub returns-clause-is : goal.returns-clause-is
 returns-clause-is c seated =

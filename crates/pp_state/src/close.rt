@@ -2,12 +2,12 @@
 ghost use Rattle.std.specs.Prelude.{◌≡◌, is_some, true};
 ghost use Rattle.std.specs.List.{find, list_any};
 ghost use Rattle.pp_flow.specs.Entries.{is_number};
-ghost use Rattle.pp_steps.specs.Lines.{lost_line};
+ghost use Rattle.pp_state.specs.Lines.{lost_line};
 ghost use Rattle.pp_state.specs.Ends.{asked_elsewhere, charged_where, cut_short, is_over_at, left_place, lost_place, numbers_of, parts, AreSeated, KeepsRest};
 
+use crate::state::State;
 use pp_flow::Exchange;
 use pp_seats::PassedEnd;
-use pp_state::State;
 
 /// Some client is to be closed.
 pub fn is_any_over(state: &State) -> bool
