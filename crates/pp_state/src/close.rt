@@ -6,7 +6,7 @@ ghost use Rattle.pp_state.specs.Lines.{lost_line};
 ghost use Rattle.pp_state.specs.Ends.{asked_elsewhere, charged_where, cut_short, is_over_at, left_place, lost_place, numbers_of, parts, AreSeated, KeepsRest};
 
 use crate::state::State;
-use pp_flow::Exchange;
+use pp_flow::{EXCHANGES, Exchange};
 use pp_seats::PassedEnd;
 
 /// Some client is to be closed.
