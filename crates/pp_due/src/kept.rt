@@ -130,7 +130,7 @@ fn decide_by_kept(
         times: view.times,
         held: is_below(view.extent, span(head, view.version)),
     };
-    let decision = decide(head, Some(&plan), Begun::Nothing, state.now);
+    let decision = pp_plan::decide(head, Some(&plan), Begun::Nothing, state.now);
     if_fits(state, head, key, Some(*view.version), decision)
 }
 

@@ -95,7 +95,7 @@ fn ask_elsewhere(state: &mut State, number: u64)
 }
 
 /// What was passed of it ends early.
-#[tactic(auto, using(pp_state::proofs::SeatsLemmas::changed_here, pp_state::proofs::SeatsLemmas::set_numbers))]
+#[tactic(auto, using(crate::proofs::SeatsLemmas::changed_here, crate::proofs::SeatsLemmas::set_numbers))]
 fn cut_short(state: &mut State, e: &Exchange)
     ensures is { AreSeated state.old → parts state.new ≡ cut_short e.now (parts state.old) }
     ensures numbers { numbers_of state.new.seats.items ≡ numbers_of state.old.seats.items }
