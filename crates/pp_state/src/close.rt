@@ -65,7 +65,7 @@ fn charge(state: &mut State, e: &Exchange, counts: bool)
 }
 
 /// Behind its head it is over, and before that it is asked again for the request that waits for it.
-#[tactic(auto, unfolding(pp_state::specs::Ends::left_place))]
+#[tactic(auto, unfolding(crate::specs::Ends::left_place))]
 fn leave_place(state: &mut State, e: &Exchange)
     ensures is { AreSeated state.old → parts state.new ≡ left_place e.now (parts state.old) }
     ensures numbers { numbers_of state.new.seats.items ≡ numbers_of state.old.seats.items }
