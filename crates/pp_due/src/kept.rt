@@ -12,7 +12,7 @@ use pp_cache::Cache;
 use pp_client::Current;
 use pp_decide::{if_fits, may_share, shared_ask};
 use pp_head::RequestHead;
-use pp_plan::{Begun, PlanRow, span};
+use pp_plan::{Begun, PlanRow, decide, span};
 use pp_seats::{Brought, Key, Next, Seat, Stage};
 use pp_shelf::Shelf;
 use pp_state::State;
@@ -130,7 +130,7 @@ fn decide_by_kept(
         times: view.times,
         held: is_below(view.extent, span(head, view.version)),
     };
-    let decision = pp_plan::decide(head, Some(&plan), Begun::Nothing, state.now);
+    let decision = decide(head, Some(&plan), Begun::Nothing, state.now);
     if_fits(state, head, key, Some(*view.version), decision)
 }
 
