@@ -7,7 +7,7 @@ use Rattle.pp_peers.specs.Peers.{is_number, with_peer}
 use Rattle.pp_peers.specs.declared.peers.Peer.{Peer}
 use Rattle.pp_states_law.specs.Decisions.{AreApart}
 use Rattle.pp_steps_law.specs.Charges.{GoesOn, IsFor}
-use Rattle.pp_steps.specs.Lines.{lost_line}
+use Rattle.pp_state.specs.Lines.{lost_line}
 use Rattle.pp_steps_law.specs.Losses.{IsComing}
 use Rattle.pp_steps_law.specs.Steps.{OfSteps, ShowsSteps}
 

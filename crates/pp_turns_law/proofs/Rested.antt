@@ -32,11 +32,10 @@ use Rattle.pp_seats_law.specs.Replies.{ShowsFate, shared_of}
 use Rattle.pp_seats_law.specs.Seats.{ShowsOpen, ShowsSeat}
 use Rattle.pp_states_law.proofs.Asked.{all_as, frames, itself}
 use Rattle.pp_states_law.specs.States.{ShowsState}
-use Rattle.pp_steps.specs.Due.{due_undecided, is_sharing}
-use Rattle.pp_steps.specs.Ends.{AreInOrder, changed_at, numbers_of}
-use Rattle.pp_steps.specs.Sharing.{shared_ask}
-use Rattle.pp_steps.specs.Waits.{awaited_by, awaited_in, rested_seat, shared_from, shared_with, waiting_on}
-use Rattle.pp_steps.specs.declared.state.State.{State as Turn}
+use Rattle.pp_decide.specs.Sharing.{due_undecided, is_sharing, shared_ask}
+use Rattle.pp_state.specs.Ends.{AreInOrder, changed_at, numbers_of}
+use Rattle.pp_due.specs.Waits.{awaited_by, awaited_in, rested_seat, shared_from, shared_with, waiting_on}
+use Rattle.pp_state.specs.declared.state.State.{State as Turn}
 use Rattle.pp_steps_law.proofs.Places.{numbers_set}
 use Rattle.pp_steps_law.specs.Steps.{ShowsSteps, whole}
 use Rattle.pp_turns_law.proofs.First.{IsShownAt, above, client_shown}

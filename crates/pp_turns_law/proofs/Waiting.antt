@@ -36,12 +36,11 @@ use Rattle.pp_seats_law.specs.Dues.{waits_on_still}
 use Rattle.pp_seats_law.specs.Fronts.{ShowsFront}
 use Rattle.pp_seats_law.specs.Seats.{ShowsOpen, ShowsSeat}
 use Rattle.pp_seats_law.specs.Words.{ShowsNext}
-use Rattle.pp_steps.specs.Decide.{decide}
-use Rattle.pp_steps.specs.Due.{due_undecided}
-use Rattle.pp_steps.specs.Ends.{parts}
-use Rattle.pp_steps.specs.Sharing.{has_asked, shared_ask}
-use Rattle.pp_steps.specs.Waits.{waits_for_next}
-use Rattle.pp_steps.specs.declared.state.State.{State as Turn}
+use Rattle.pp_decide.specs.Decide.{decide}
+use Rattle.pp_decide.specs.Sharing.{due_undecided, has_asked, shared_ask}
+use Rattle.pp_state.specs.Ends.{parts}
+use Rattle.pp_due.specs.Waits.{waits_for_next}
+use Rattle.pp_state.specs.declared.state.State.{State as Turn}
 use Rattle.pp_world.specs.declared.note.Decision.{Decision}
 use Rattle.pp_turns_law.specs.Marks.{MayWait, SharingIsTheLaws, WaitingIsTheLaws, WaitsAreTheLaws}
 

@@ -9,9 +9,9 @@ use Rattle.pp_law.specs.Turn.{renew_marks}
 use Rattle.pp_peers.specs.declared.peers.Peer.{Peer}
 use Rattle.pp_seats.specs.declared.seat.Seat.{Seat}
 use Rattle.pp_states_law.proofs.Waited.{renewals}
-use Rattle.pp_steps.specs.Ends.{AreInOrder, Parts, numbers_of, parts}
-use Rattle.pp_steps.specs.Waits.{is_waiting, woken_by, woken_seat}
-use Rattle.pp_steps.specs.declared.state.State.{State as Turn}
+use Rattle.pp_state.specs.Ends.{AreInOrder, Parts, numbers_of, parts}
+use Rattle.pp_due.specs.Waits.{is_waiting, woken_by, woken_seat}
+use Rattle.pp_state.specs.declared.state.State.{State as Turn}
 use Rattle.pp_steps_law.proofs.Told.{told_next}
 use Rattle.pp_steps_law.specs.Steps.{ShowsSteps, whole}
 use Rattle.pp_turns_law.proofs.Waiting.{waits_on}

@@ -12,10 +12,10 @@ use Rattle.pp_seats.specs.Heads.{is_there_in}
 use Rattle.pp_seats.specs.Seats.{is_silent, is_undecided_in}
 use Rattle.pp_seats.specs.declared.seat.Seat.{Seat}
 use Rattle.pp_seats_law.specs.Seats.{ShowsSeat}
-use Rattle.pp_steps.specs.Due.{is_sharing}
-use Rattle.pp_steps.specs.Ends.{changed_at}
-use Rattle.pp_steps.specs.Waits.{is_waiting, rested_seat, waits_for_exchange, woken_seat}
-use Rattle.pp_steps.specs.declared.state.State.{State as Turn}
+use Rattle.pp_decide.specs.Sharing.{is_sharing}
+use Rattle.pp_state.specs.Ends.{changed_at}
+use Rattle.pp_due.specs.Waits.{is_waiting, rested_seat, waits_for_exchange, woken_seat}
+use Rattle.pp_state.specs.declared.state.State.{State as Turn}
 
 -- ---- who waits
 
