@@ -2,3 +2,9 @@ pub mod Lists
 pub mod Runs
 pub mod Shelves
 pub mod Takings
+pub mod Finding
+pub mod Extending
+pub mod Starting
+pub mod Sealed
+pub mod Drafted
+pub mod Calls

@@ -63,10 +63,10 @@ begins_with Q s name op todo none at idle plan holds =
     let goes : Goes s (Began op) (begin_in_turn op s) = goes_began s op none at (both_hold (is_idle_disk s) _ (idle_is s idle) (ap (λ (o : Option Agenda). is_some o) plan)) in
     moves_to refl goes (subst Q (sym (ap (λ (o : Option Agenda). begin_op op o s) plan)) holds)
 
-going_is : (op : DiskOp) (name : Bytes) (todo : List Todo) → going_on op (record { name = name; todo = Do op ∷ todo }) ≡ Some (record { name = name; todo = Do op ∷ todo })
+pub going_is : (op : DiskOp) (name : Bytes) (todo : List Todo) → going_on op (record { name = name; todo = Do op ∷ todo }) ≡ Some (record { name = name; todo = Do op ∷ todo })
 going_is op name todo = ap (λ (b : Bool). elim b as (λ c. Option Agenda) [ true ↦ Some (record { name = name; todo = Do op ∷ todo }) | false ↦ None ]) (op_same op)
 
-plan_is : (s : State) (name : Bytes) (op : DiskOp) (todo : List Todo) → s.agenda ≡ record { name = name; todo = Do op ∷ todo } → agenda_in_turn op s ≡ Some (record { name = name; todo = Do op ∷ todo })
+pub plan_is : (s : State) (name : Bytes) (op : DiskOp) (todo : List Todo) → s.agenda ≡ record { name = name; todo = Do op ∷ todo } → agenda_in_turn op s ≡ Some (record { name = name; todo = Do op ∷ todo })
 plan_is s name op todo is =
     ap (λ (a : Agenda). elim (is_empty a.todo) as (λ c. Option Agenda) [ false ↦ going_on op a | true ↦ first_some (λ x. Rattle.std.specs.Prelude.option_and_then (going_on op) (plan_of s op x)) s.instances ]) is
     ∙ going_is op name todo

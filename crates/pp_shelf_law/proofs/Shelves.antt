@@ -158,11 +158,11 @@ pub closed_shown : (shelf : KeptMap) (names : List Bytes) (name : Bytes) → ((n
 closed_shown shelf names name same n =
     closed_more name n names ∙ ap (λ (b : Bool). bytes_eq name n || b) (same n) ∙ or_swap (bytes_eq name n) (is_closed n shelf) ∙ sym (list_any-append (is_name n) shelf.closed (name ∷ []))
 
-closed_count : (name : Bytes) (names closed : List Bytes) → length names ≡ length closed → has_text name names ≡ false → length (name ∷ without (bytes_eq name) names) ≡ length (closed ++ name ∷ [])
+pub closed_count : (name : Bytes) (names closed : List Bytes) → length names ≡ length closed → has_text name names ≡ false → length (name ∷ without (bytes_eq name) names) ≡ length (closed ++ name ∷ [])
 closed_count name names closed same none = omega (arith, same, ap (λ (ns : List Bytes). length ns) (same_names name names none), length-append closed (name ∷ []))
 
 -- of the entries those under that name are out, of those that were left
-shut_more : (name : Bytes) (names : List Bytes) (es : List Entry) → without (is_shut (name ∷ without (bytes_eq name) names)) es ≡ without (is_named name) (without (is_shut names) es)
+pub shut_more : (name : Bytes) (names : List Bytes) (es : List Entry) → without (is_shut (name ∷ without (bytes_eq name) names)) es ≡ without (is_named name) (without (is_shut names) es)
 shut_more name names [] = refl
 shut_more name names (e ∷ es) = by (bytes_eq name e.name) (has_text e.name names) (closed_more name e.name names) (bytes_swap e.name name) (shut_more name names es)
   where

@@ -5,7 +5,7 @@ use Rattle.pp_law.specs.Lists.{Bytes, has_text, without}
 use Rattle.pp_law.specs.State.{State, Entry, Keeping}
 use Rattle.pp_law.specs.Store.{is_named}
 use Rattle.pp_objects.specs.Kept.{kept_of}
-use Rattle.pp_store.specs.Kept.{Kept, KeptMap, is_closed, name_at}
+use Rattle.pp_store.specs.Kept.{IsExtent, Kept, KeptMap, is_closed, name_at}
 use Rattle.pp_target.specs.Name.{name_of}
 
 -- the same of the law: it has the fields that are kept of those that stand there
@@ -16,6 +16,7 @@ pub record ShowsEntry (kept : Kept) (e : Entry) : Type 0 where
   pub fields : kept_of kept.entry.fields kept.entry.times ≡ e.fields
   pub times : kept.entry.times ≡ e.times
   pub extent : kept.extent ≡ e.extent
+  pub whole : IsExtent e.version.length e.extent
 
 -- one each, in their order
 abbrev pub ShowEntries : List Kept → List Entry → Type 0

@@ -1,0 +1,10 @@
+// Calls of the disk, in a log that goes on.
+ghost use Rattle.pp_shelf_law.specs.Calls.{AddedOnesKeep, KeepsAdd, NotesAdd, RunsAdd};
+
+/// What the calls of the store add, with the failures that the outside counts; and where it may come, what stands is kept.
+pub fn calls_of_the_disk_keep_the_law()
+    ensures runs { RunsAdd }
+    ensures drafts { KeepsAdd }
+    ensures notes { NotesAdd }
+    ensures added { AddedOnesKeep }
+{}
