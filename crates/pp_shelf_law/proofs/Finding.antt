@@ -11,13 +11,14 @@ use Rattle.pp_laws.specs.Runs.{IsIn}
 use Rattle.pp_obeys.proofs.Obeying.{obeys_good}
 use Rattle.pp_obeys.specs.Obeys.{Obeys}
 use Rattle.pp_store.proofs.Lists.{count-cons, one}
+use Rattle.pp_store.specs.Changes.{lost}
 use Rattle.pp_store.specs.Kept.{Kept, KeptMap, is_of, kept_of}
 use Rattle.pp_target.specs.Name.{name_of}
 use Rattle.pp_world.specs.Log.{Log}
 use Rattle.pp_shelf_law.specs.Kept.{HasOneRow, IsOf, KeptOnesAreTheLaws, OthersAreClosed, RowsStandAlone}
 use Rattle.pp_shelf_law.specs.Shelf.{AreKept, AreNamed, ShowEntries, ShowsEntry, ShowsShelf, is_shut}
-use Rattle.pp_shelf_law.proofs.Lists.{true_false}
-use Rattle.pp_shelf_law.proofs.Shelves.{bytes_by, same_bytes}
+use Rattle.pp_shelf_law.proofs.Lists.{Agree, true_false}
+use Rattle.pp_shelf_law.proofs.Shelves.{bytes_by, key_agrees, lost_name, same_bytes}
 
 -- ---- one under a name
 
@@ -123,6 +124,16 @@ others shelf s key e shows none there = by (is_closed s e.name) refl
     by false is =
         let found = in_find (is_entry_of key) e s.entries there in
         absurd (not_kept key shelf.rows (without (is_shut s.closed_names) s.entries) e shows.rows none (into_filter (λ d. not (is_shut s.closed_names d)) e s.entries found.0 (ap (λ (b : Bool). not b) is)) (same_bytes e.key key found.1))
+
+-- ---- a name that is closed
+
+-- the entry of a key stands under it still, and is kept no more
+pub lost_one : (key : Bytes) (shelf : KeptMap) (es : List Entry) (names : List Bytes) (e : Entry) → AreKept shelf es names → find (is_entry_of key) es ≡ Some e → e.name ≡ name_of key → has_text e.name names ≡ false
+    → AreKept (lost key shelf) es (e.name ∷ without (bytes_eq e.name) names)
+lost_one key shelf es names e kept found named unclosed =
+    let agree : Agree (is_entry_of key) (is_named (name_of key)) es = key_agrees key (is_entry_of key) es e (λ d is. is) kept.named (kept.once (name_of key)) found in
+    subst (λ (n : Bytes). AreKept (lost key shelf) es (n ∷ without (bytes_eq n) names)) (sym named)
+    (lost_name key shelf es es names kept (ap (λ (n : Bytes). has_text n names) (sym named) ∙ unclosed) agree kept.named kept.once refl agree)
 
 -- ---- rows in memory
 

@@ -8,3 +8,7 @@ pub mod Starting
 pub mod Sealed
 pub mod Drafted
 pub mod Calls
+pub mod Disks
+pub mod Loaded
+pub mod Names
+pub mod Opened

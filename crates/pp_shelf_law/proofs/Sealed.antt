@@ -35,10 +35,10 @@ use Rattle.pp_shelf_law.specs.Seals.{IsToSeal, SealsAreTheLaws, seal_note, seale
 use Rattle.pp_shelf_law.specs.Shelf.{AreKept, IsResting, ShowsEntry, is_shut}
 use Rattle.pp_shelf_law.specs.Takings.{LeadsTo}
 use Rattle.pp_shelf_law.proofs.Extending.{kept_further}
-use Rattle.pp_shelf_law.proofs.Finding.{found_is, kept_ones, named_in, one_named}
-use Rattle.pp_shelf_law.proofs.Lists.{Agree, true_false}
+use Rattle.pp_shelf_law.proofs.Finding.{found_is, kept_ones, lost_one, named_in, one_named}
+use Rattle.pp_shelf_law.proofs.Lists.{true_false}
 use Rattle.pp_shelf_law.proofs.Runs.{all_done, all_failed, idle_is, leads_then, moves_append, moves_map}
-use Rattle.pp_shelf_law.proofs.Shelves.{bytes_same, key_agrees, lost_name, same_bytes}
+use Rattle.pp_shelf_law.proofs.Shelves.{bytes_same, same_bytes}
 use Rattle.pp_shelf_law.proofs.Starting.{given, planned, starts}
 use Rattle.pp_shelf_law.proofs.Takings.{gone_moves, loss_leads}
 
@@ -215,17 +215,9 @@ module _ (shelf : KeptMap) (s : State) (x : Instance) (e : Entry) (kept : Kept) 
   abbrev failed : Log → State
   failed hs = close_name e.name (ran hs no_agenda s)
 
-  agrees : Agree (is_entry_of x.key) (is_named (name_of x.key)) s.entries
-  agrees = key_agrees x.key (is_entry_of x.key) s.entries e (λ d is. is) rests.shows.named (rests.shows.once (name_of x.key)) e_found
-
-  lost_shown : AreKept (lost x.key shelf) s.entries (e.name ∷ without (bytes_eq e.name) s.closed_names)
-  lost_shown =
-      subst (λ (n : Bytes). AreKept (lost x.key shelf) s.entries (n ∷ without (bytes_eq n) s.closed_names)) (sym e_name)
-      (lost_name x.key shelf s.entries s.entries s.closed_names rests.shows (ap (λ (n : Bytes). has_text n s.closed_names) (sym e_name) ∙ may.open_name) agrees rests.shows.named rests.shows.once refl agrees)
-
   failed_rests : (hs : Log) → IsResting (lost x.key shelf) (failed hs)
   unfolding close_name
-  failed_rests hs = record { none = rests.none; at = rests.at; idle = refl; done = refl; shows = lost_shown }
+  failed_rests hs = record { none = rests.none; at = rests.at; idle = refl; done = refl; shows = lost_one x.key shelf s.entries s.closed_names e rests.shows e_found e_name may.open_name }
 
   failed_found : (hs : Log) → find (is_entry_of x.key) (failed hs).entries ≡ Some e
   unfolding close_name

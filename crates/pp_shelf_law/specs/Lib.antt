@@ -5,3 +5,6 @@ pub mod Kept
 pub mod Seals
 pub mod Drafts
 pub mod Calls
+pub mod Folder
+pub mod Loads
+pub mod Opening

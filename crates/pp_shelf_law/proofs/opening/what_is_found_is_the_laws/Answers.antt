@@ -1,0 +1,5 @@
+use Rattle.pp_shelf_law.proofs.Opened.{opened_ones}
+use Rattle.pp_shelf_law.proofs.opening.what_is_found_is_the_laws.Goals as goal
+
+pub returns : goal.returns
+returns c = opened_ones
