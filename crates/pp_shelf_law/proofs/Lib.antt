@@ -12,3 +12,6 @@ pub mod Disks
 pub mod Loaded
 pub mod Names
 pub mod Opened
+pub mod Recovering
+pub mod Free
+pub mod Joined

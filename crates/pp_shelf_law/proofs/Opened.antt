@@ -3,7 +3,7 @@ use Rattle.std.proofs.Common.{◌≡◌, refl, sym, subst, ap, ap₂, ◌∙◌,
 use Rattle.std.proofs.lemmas.List.{take_all}
 use Rattle.std.specs.List.{cons_option, filter_map, list_any}
 use Rattle.std.specs.Option.{option_and_then}
-use Rattle.std.specs.Prelude.{IsTrue, bytes_eq, count_by, if◌then◌else◌, min, nat_lt, option_map}
+use Rattle.std.specs.Prelude.{bytes_eq, count_by, if◌then◌else◌, min, nat_lt, option_map}
 use Rattle.pp_entry.specs.Entries.{Row, row_at}
 use Rattle.pp_entry.specs.Gates.{has_extent}
 use Rattle.pp_gate.specs.Files.{extent_in, open_gates}
@@ -209,8 +209,4 @@ opened_ones files log s rising few is = subst (λ (es : List Entry). AreKept (st
 })
   where
     apart : Distinct (map (λ p. p.0) files)
-    apart = distinct (map (λ p. p.0) files) (rise (is_rising (map (λ p. p.0) files)) rising)
-      where
-        rise : (b : Bool) → b ≡ true → IsTrue b
-        rise true so = tt
-        rise false so = true_false (sym so)
+    apart = distinct (map (λ p. p.0) files) rising

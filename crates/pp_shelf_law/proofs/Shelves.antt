@@ -140,7 +140,7 @@ closed_more name other names = by (bytes_eq name other) refl
     by true is = refl
     by false is = other_stays name other names is
 
-same_names : (name : Bytes) (names : List Bytes) → has_text name names ≡ false → without (bytes_eq name) names ≡ names
+pub same_names : (name : Bytes) (names : List Bytes) → has_text name names ≡ false → without (bytes_eq name) names ≡ names
 same_names name [] none = refl
 same_names name (n ∷ names) none = by (bytes_eq n name) refl none (same_names name names)
   where

@@ -8,3 +8,4 @@ pub mod Calls
 pub mod Folder
 pub mod Loads
 pub mod Opening
+pub mod Joined

@@ -1,14 +1,18 @@
 -- What a life finds in the folder is the same in both (ours).
-use Rattle.std.specs.Prelude.{◌≡◌, true, List, length, map}
+use Rattle.std.specs.Prelude.{◌≡◌, true, false, List, [], ◌∷◌, ◌++◌, length, map, None}
+use Rattle.std.specs.List.{list_any}
+use Rattle.pp_law.specs.After.{unread}
 use Rattle.pp_law.specs.Entries.{entries_in}
 use Rattle.pp_law.specs.Lists.{Bytes, has_text, without}
-use Rattle.pp_law.specs.State.{State, Entry}
+use Rattle.pp_law.specs.State.{State, Entry, IsListed}
 use Rattle.pp_recover.specs.Image.{HasFewNames}
-use Rattle.pp_recover.specs.Opening.{failed_on, store_in}
-use Rattle.pp_store.specs.Kept.{is_closed}
-use Rattle.pp_world.specs.Disk.{is_rising}
+use Rattle.pp_recover.specs.Opening.{IsFresh, failed_on, store_in}
+use Rattle.pp_store.specs.Kept.{is_closed, is_name}
+use Rattle.pp_world.specs.Disk.{is_rising, names_in}
 use Rattle.pp_world.specs.Files.{Files}
 use Rattle.pp_world.specs.Log.{Log}
+use Rattle.pp_world.specs.declared.happening.Happening.TheVariants.{Unread}
+use Rattle.pp_shelf_law.specs.Runs.{Leads}
 use Rattle.pp_shelf_law.specs.Shelf.{ShowsShelf}
 
 -- the law has the entries of the folder, but for those under names on which something failed in this life, and these are closed
@@ -20,3 +24,19 @@ pub record IsOpened (files : Files) (log : Log) (s : State) : Type 0 where
 -- then the store that recovery makes shows them
 abbrev pub OpenedOnesAreTheLaws : Type 0
 OpenedOnesAreTheLaws = (files : Files) (log : Log) (s : State) → is_rising (map (λ file. file.0) files) ≡ true → HasFewNames files → IsOpened files log s → ShowsShelf (store_in files log) s
+
+-- as a life begins: nothing failed yet, and each entry of the folder is one of the law
+abbrev pub FreshOnesAreTheLaws : Type 0
+FreshOnesAreTheLaws = (files : Files) (log : Log) (s : State) → IsFresh files log → s.entries ≡ entries_in files → s.closed_names ≡ [] → IsOpened files log s
+
+-- a life that recovers, with nothing left to do
+pub record IsRecovering (s : State) : Type 0 where
+  pub none : s.has_made_room ≡ false
+  pub at : s.phase ≡ IsListed
+  pub idle : s.under_way ≡ None
+  pub done : s.agenda.todo ≡ []
+
+-- the file of a name that is looked at cannot be read: its name is closed, and its entry is none
+abbrev pub UnreadNamesAreTheLaws : Type 0
+UnreadNamesAreTheLaws = (files : Files) (log : Log) (s : State) (name : Bytes) → is_rising (names_in files) ≡ true → IsOpened files log s → IsRecovering s → list_any (is_name name) (names_in files) ≡ true → failed_on log name ≡ false
+    → Leads (Unread name ∷ []) s (unread name s) × IsOpened files (log ++ Unread name ∷ []) (unread name s) × IsRecovering (unread name s)

@@ -22,7 +22,7 @@ mod sealing; // a run of a row is sealed
 mod taking; // an entry that is taken away
 mod working; // operations that a call runs
 
-pub use calling::calls_of_the_disk_keep_the_law;
+pub use calling::{calls_of_the_disk_keep_the_law, turns_of_the_disk_keep_the_law};
 pub use drafting::what_is_drafted_is_the_laws;
 pub use folder::the_disk_is_the_logs;
 pub use keeping::what_is_kept_is_the_laws;

@@ -1,7 +1,9 @@
 // The entries of a folder.
-ghost use Rattle.pp_shelf_law.specs.Opening.{OpenedOnesAreTheLaws};
+ghost use Rattle.pp_shelf_law.specs.Opening.{FreshOnesAreTheLaws, OpenedOnesAreTheLaws, UnreadNamesAreTheLaws};
 
-/// Recovery makes the store of the same entries and closed names.
+/// A life begins with the entries of the folder; a file that cannot be read is none; and recovery makes the store of the others.
 pub fn what_is_found_is_the_laws()
-    ensures { OpenedOnesAreTheLaws }
+    ensures fresh { FreshOnesAreTheLaws }
+    ensures unread { UnreadNamesAreTheLaws }
+    ensures opened { OpenedOnesAreTheLaws }
 {}
