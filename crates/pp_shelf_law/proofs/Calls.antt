@@ -1,28 +1,25 @@
 -- What a call of the disk adds to the log, and that it keeps what stands.
-use Rattle.std.proofs.Common.{◌≡◌, ◌≤◌, ◌<◌, refl, sym, subst, ap, ◌∙◌, inl, inr, ℕ, ◌+◌, Bool, true, false, not, List, [], ◌∷◌, ◌++◌, append_assoc, Option, Some, None, Result, Ok, Err, le_trans, arith}
+use Rattle.std.proofs.Common.{◌≡◌, ◌≤◌, ◌<◌, refl, sym, subst, ap, ◌∙◌, inl, inr, ℕ, ◌+◌, Bool, true, false, not, List, [], ◌∷◌, ◌++◌, append_assoc, Option, Some, None, Ok, Err, le_trans, arith}
 use Rattle.std.proofs.lemmas.List.{append-nil}
 use Rattle.std.specs.Prelude.{count_by}
-use Rattle.pp_entry.specs.Entries.{Row}
 use Rattle.pp_gate.specs.Gate.{draft_ops, publish_ops}
-use Rattle.pp_gate.specs.Runs.{Ran, RunsOps}
+use Rattle.pp_gate.specs.Runs.{Ran}
 use Rattle.pp_law.specs.State.{State}
 use Rattle.pp_obeys.proofs.Calls.{keeps_more}
 use Rattle.pp_obeys.specs.Calls.{Passes}
 use Rattle.pp_obeys.specs.Failures.{Rose, counted, fails}
 use Rattle.pp_obeys.specs.Obeys.{Keeps, Life, Stands}
 use Rattle.pp_store.proofs.Lists.{count-append, count-cons, one}
-use Rattle.pp_store.specs.Answers.{KeepCause, RunsKeep, file_with}
-use Rattle.pp_store.specs.declared.faults.KeepFault.{KeepFault}
+use Rattle.pp_store.specs.Answers.{file_with}
 use Rattle.pp_store.specs.declared.faults.KeepFault.TheVariants.{Closed, Full, TooLong, NoDraft, DiskFault, OutOfMemory}
 use Rattle.pp_target.specs.Name.{name_of}
 use Rattle.pp_world.specs.Disk.{Bytes}
-use Rattle.pp_world.specs.Log.{Appends, AppendsAll, Log, Rises, Told}
+use Rattle.pp_world.specs.Log.{Appends, Log, Rises, Told}
 use Rattle.pp_world.specs.declared.happening.Happening.{Happening}
 use Rattle.pp_world.specs.declared.happening.Happening.TheVariants.{Began, Did}
 use Rattle.pp_world.specs.declared.op.DiskOp.{DiskOp}
 use Rattle.pp_world.specs.declared.op.DiskOp.TheVariants.{Draft, SyncDraft, Publish}
 use Rattle.pp_shelf_law.specs.Calls.{AddedOnesKeep, Adds, Both, Is, KeepsAdd, NotesAdd, RunsAdd}
-use Rattle.pp_shelf_law.specs.Drafts.{RanKeep}
 use Rattle.pp_shelf_law.specs.Runs.{MovesAll}
 
 -- ---- what stands

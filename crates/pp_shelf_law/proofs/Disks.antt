@@ -1,8 +1,6 @@
 -- The law's disk is the log's.
-use Rattle.std.proofs.Common.{◌≡◌, ◌⊎◌, ⊎_elim, refl, sym, subst, ap, ◌∙◌, inl, inr, ℕ, zero, suc, ◌+◌, Bool, true, false, not, ◌&&◌, ◌||◌, ◌==◌, find, List, [], ◌∷◌, ◌++◌, append_assoc, length, drop, Option, Some, None, is_some}
+use Rattle.std.proofs.Common.{◌≡◌, ⊎_elim, refl, sym, subst, ap, ◌∙◌, ℕ, zero, suc, ◌+◌, Bool, true, false, ◌&&◌, ◌||◌, find, List, [], ◌∷◌, ◌++◌, append_assoc, length, Option, Some, None, is_some}
 use Rattle.std.proofs.lemmas.List.{append-nil}
-use Rattle.std.proofs.lemmas.List.Sums.{fold-append}
-use Rattle.std.specs.List.{list_any}
 use Rattle.std.specs.Prelude.{bytes_eq, fold}
 use Rattle.pp_conf.specs.Conf.{Settings}
 use Rattle.pp_conf.specs.Words.{reading_of}
@@ -10,7 +8,7 @@ use Rattle.pp_law.specs.After.{after, begun_op, changed, dialled, dropped, ended
 use Rattle.pp_law.specs.Chunks.{note_use}
 use Rattle.pp_law.specs.Connections.{client, conn, end_exchange, lose_attempt, may_ask_again, on_client, on_conn, on_exchange, placing, put_on, Placement, Pause, AllPlaced, WaitsDial, WaitsDrop}
 use Rattle.pp_law.specs.Deciding.{decided}
-use Rattle.pp_law.specs.Lawful.{Lawful, LawfulFrom}
+use Rattle.pp_law.specs.Lawful.{LawfulFrom}
 use Rattle.pp_law.specs.Leaving.{Leaving, ForAnother, ForMemory, BeforeDecision, leaving_as}
 use Rattle.pp_law.specs.Lists.{Bytes}
 use Rattle.pp_law.specs.Opening.{are_texts, begun, configured, is_at, is_opening, lose_in_opening, names_file, opened_to, settings_in, stuck, with_settings, woken}
@@ -18,9 +16,9 @@ use Rattle.pp_law.specs.Permits.{IsPermitted, permits, permits_began}
 use Rattle.pp_law.specs.Phases.{come_to, come_to_decide, deciding, ending, in_phase, may_in, next}
 use Rattle.pp_law.specs.Replies.{regained}
 use Rattle.pp_law.specs.Repairs.{agenda_in_opening, begin_in_opening, may_begin_in_opening}
-use Rattle.pp_law.specs.State.{State, Agenda, Client, Conn, Entry, Exchange, Instance, Phase, IsListed, IsListening, IsRooted, IsWoken, Evicting, Keeping, Connecting, Following, DecidingAgain, Owed, ReadOf, WriteTo, Term, Todo, Do, Enter, Acknowledge, start}
+use Rattle.pp_law.specs.State.{State, Agenda, Client, Conn, Entry, Exchange, Instance, Phase, IsListed, IsListening, IsRooted, IsWoken, Evicting, Keeping, Connecting, Following, Owed, ReadOf, WriteTo, Todo, Do, Enter, Acknowledge, start}
 use Rattle.pp_law.specs.Store.{agenda_in_turn, begin_in_turn, begin_op, close_name, end_op, enter_next, fail_op, is_idle_disk, is_of_draft, left_todo, load, load_from, lose_draft, lose_entry, may_begin_in_turn, note_gone, note_kept, remove_entry}
-use Rattle.pp_law.specs.Table.{forget, is_entry_of, kept_row, row}
+use Rattle.pp_law.specs.Table.{is_entry_of, kept_row, row}
 use Rattle.pp_law.specs.Turn.{rest_with, touch}
 use Rattle.pp_laws.proofs.Tests.{first_holds, second_holds}
 use Rattle.pp_laws.specs.Runs.{after_all, state_after}
@@ -33,9 +31,8 @@ use Rattle.pp_obeys.proofs.StaysAsks.{decided-stays}
 use Rattle.pp_obeys.proofs.StaysResponses.{got-stays}
 use Rattle.pp_obeys.proofs.StaysTable.{close_client-stays, forget-stays, lose_attempt-stays}
 use Rattle.pp_obeys.proofs.StaysTurns.{ask-stays, come_to-frame, come_to_decide-frame, deciding-frame, end_replies-stays, ending-frame, evicted-stays, gone-stays, hang_up-stays, hear-stays, next-frame, out-stays, placing-frame, reached-stays, refused_row-stays, said-stays, shut-stays, tick-frame}
-use Rattle.pp_obeys.specs.Obeys.{AreDone, Obeys, phases_on}
-use Rattle.pp_text.specs.Bytes.{is_empty}
-use Rattle.pp_world.specs.Disk.{View, began, done, undone, view_after, view_of, woken as woken_view}
+use Rattle.pp_obeys.specs.Obeys.{AreDone, phases_on}
+use Rattle.pp_world.specs.Disk.{View, began, done, view_after, view_of}
 use Rattle.pp_world.specs.Files.{Files}
 use Rattle.pp_world.specs.Log.{Log}
 use Rattle.pp_world.specs.declared.event.Wants.{Wants}
@@ -45,7 +42,7 @@ use Rattle.pp_world.specs.declared.note.Decision.{Decision}
 use Rattle.pp_world.specs.declared.note.Remark.{Remark}
 use Rattle.pp_world.specs.declared.note.Remark.TheVariants.{Taken, Cut, Kept, Gone, Forgotten, Evicted, Loaded}
 use Rattle.pp_world.specs.declared.op.DiskOp.{DiskOp}
-use Rattle.pp_shelf_law.specs.Folder.{DisksAreTheLogs, FilesAreTheLogs, disk_of, disk_with}
+use Rattle.pp_shelf_law.specs.Folder.{DisksAreTheLogs, FilesAreTheLogs, disk_with}
 use Rattle.pp_shelf_law.proofs.Lists.{true_false}
 
 -- ---- what leaves the disk as it is
@@ -383,7 +380,7 @@ unread_same name n disk log alike sound =
     let more : view_of name (log ++ Unread n ∷ []) ≡ record { draft = v.draft; slot = v.slot; failed = v.failed || bytes_eq n name } = view_more name log (Unread n) in
     let parts = or_parts v.failed (bytes_eq n name) (ap (λ (u : View). u.failed) (sym more) ∙ sound) in
     let whole : record { draft = v.draft; slot = v.slot; failed = v.failed || bytes_eq n name } ≡ v =
-        ap (λ (b : Bool). record { draft = v.draft; slot = v.slot; failed = v.failed || b }) parts.1 ∙ or_false v in
+    ap (λ (b : Bool). record { draft = v.draft; slot = v.slot; failed = v.failed || b }) parts.1 ∙ or_false v in
     alike parts.0 ∙ sym (more ∙ whole)
   where
     either : (b : Bool) → (b || false) ≡ b

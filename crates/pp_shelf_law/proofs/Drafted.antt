@@ -1,9 +1,9 @@
 -- The entry of a row is drafted, and named.
-use Rattle.std.proofs.Common.{◌≡◌, refl, sym, subst, ap, ap₂, ◌∙◌, inl, inr, ℕ, ◌+◌, ◌-◌, ◌*◌, ◌/◌, ◌<◌, ◌≤◌, ◌==◌, Bool, true, false, not, ◌&&◌, ◌||◌, cond, find, filter, is_ok, List, [], ◌∷◌, ◌++◌, append_assoc, length, map, take, replicate, Option, Some, None, Result, Ok, Err, arith}
+use Rattle.std.proofs.Common.{◌≡◌, refl, sym, subst, ap, ap₂, ◌∙◌, inl, inr, ℕ, ◌-◌, ◌≤◌, ◌==◌, Bool, true, false, not, ◌&&◌, ◌||◌, cond, List, [], ◌∷◌, ◌++◌, length, map, take, replicate, Option, Some, None, Result, Ok, Err, arith}
 use Rattle.std.proofs.Math.Seq.{take-append_seam}
 use Rattle.std.proofs.lemmas.List.{append-nil}
 use Rattle.std.specs.List.{list_any}
-use Rattle.std.specs.Prelude.{bytes_eq, count_by, min, nat_le, nat_lt}
+use Rattle.std.specs.Prelude.{bytes_eq, count_by, nat_le, nat_lt}
 use Rattle.pp_entry.specs.Entries.{Row, is_sized, row_at}
 use Rattle.pp_entry.specs.Texts.{body_at, chunks_of, fits, padded}
 use Rattle.pp_gate.specs.Files.{whole_file}
@@ -11,15 +11,15 @@ use Rattle.pp_gate.specs.Gate.{draft_ops, publish_ops}
 use Rattle.pp_gate.specs.Runs.{Ran}
 use Rattle.pp_law.specs.Lists.{Bytes, change, has_text, without}
 use Rattle.pp_law.specs.State.{State, Agenda, no_agenda, Entry, Instance, Todo, Do, Enter, Acknowledge}
-use Rattle.pp_law.specs.Store.{agenda_in_turn, block_of, close_name, draft_of, drafted_with, drafting, enter_next, extended, file_of, has_first_run, has_free_name, is_acknowledged_as, is_closed, is_named, is_read_back, is_worth_a_draft, lose_draft, may_draft, new_entry, note_kept, noting, plan_of, run_bytes, run_len}
-use Rattle.pp_law.specs.Table.{is_entry_of, is_kept_row_of, is_row_of, kept_row}
-use Rattle.pp_laws.proofs.Tests.{first_holds, number_same, second_holds}
+use Rattle.pp_law.specs.Store.{agenda_in_turn, block_of, close_name, draft_of, drafted_with, drafting, enter_next, extended, file_of, has_first_run, has_free_name, is_closed, is_named, is_read_back, is_worth_a_draft, lose_draft, may_draft, new_entry, note_kept, noting, plan_of, run_bytes, run_len}
+use Rattle.pp_law.specs.Table.{is_entry_of, is_kept_row_of}
+use Rattle.pp_laws.proofs.Tests.{first_holds, second_holds}
 use Rattle.pp_laws.specs.Runs.{IsIn}
-use Rattle.pp_laws_crash.proofs.Begins.{IsFirst, MayDraft, ReadsBack, block_full, draft_is, reads_back}
+use Rattle.pp_laws_crash.proofs.Begins.{IsFirst, MayDraft, block_full, draft_is, reads_back}
 use Rattle.pp_obeys.proofs.Calls.{moves_to}
 use Rattle.pp_obeys.proofs.Silent.{both_hold}
 use Rattle.pp_obeys.proofs.TurnHappenings.{goes_kept}
-use Rattle.pp_obeys.specs.Moves.{Goes, Moves}
+use Rattle.pp_obeys.specs.Moves.{Goes}
 use Rattle.pp_store.proofs.Lists.{any_none, count-push, one}
 use Rattle.pp_store.specs.Answers.{file_with}
 use Rattle.pp_store.specs.Changes.{entry_with, kept_after, with_closed, with_row}
@@ -34,11 +34,11 @@ use Rattle.pp_world.specs.declared.op.DiskOp.{DiskOp}
 use Rattle.pp_world.specs.declared.op.DiskOp.TheVariants.{Draft, SyncDraft, Publish}
 use Rattle.pp_shelf_law.specs.Drafts.{DraftsAreTheLaws, IsToDraft, RanKeep, draft_notes, drafted, with_draft, with_draft_noted}
 use Rattle.pp_shelf_law.specs.Kept.{HasOneRow}
-use Rattle.pp_shelf_law.specs.Runs.{ArePlain, IsWorking, Leads, MovesAll, ran}
+use Rattle.pp_shelf_law.specs.Runs.{IsWorking, Leads, MovesAll, ran}
 use Rattle.pp_shelf_law.specs.Shelf.{AreKept, AreNamed, IsResting, ShowEntries, ShowsEntry, is_shut}
 use Rattle.pp_shelf_law.specs.Takings.{LeadsTo}
 use Rattle.pp_shelf_law.proofs.Lists.{Agree, agree_filter, agree_without, true_false}
-use Rattle.pp_shelf_law.proofs.Runs.{all_done, all_failed, begins, draft_failed, ends, fails_with, moves_append, ran_twice}
+use Rattle.pp_shelf_law.proofs.Runs.{all_done, all_failed, draft_failed, moves_append, ran_twice}
 use Rattle.pp_shelf_law.proofs.Sealed.{acknowledged_so}
 use Rattle.pp_shelf_law.proofs.Shelves.{both_push, bytes_by, bytes_same, closed_count, closed_shown, same_bytes, shut_more}
 use Rattle.pp_shelf_law.proofs.Starting.{given, planned, starts}
@@ -85,7 +85,7 @@ pub noted_same : (key : Bytes) (w : ℕ) (es : List Entry) (e : Entry) → exten
 noted_same key w es e same named free =
     change_append (is_kept_row_of key) (extended w) es (e ∷ [])
     ∙ ap₂ (λ (ds : List Entry) (d : Entry). ds ++ d ∷ []) (none_kept key w es named free)
-      (ap (λ (x : Entry). elim (is_kept_row_of key e) as (λ c. Entry) [ true ↦ x | false ↦ e ]) same ∙ same_either (is_kept_row_of key e) e)
+    (ap (λ (x : Entry). elim (is_kept_row_of key e) as (λ c. Entry) [ true ↦ x | false ↦ e ]) same ∙ same_either (is_kept_row_of key e) e)
 
 without_push : {A : Type 0} (p : A → Bool) (xs : List A) (x : A) → p x ≡ false → without p (xs ++ x ∷ []) ≡ without p xs ++ x ∷ []
 without_push p [] x is = ap (λ (b : Bool). cond (not b) (x ∷ []) []) is
@@ -212,17 +212,17 @@ module _ (shelf : KeptMap) (s : State) (x : Instance) (kept : Bytes) (rests : Is
       let its = draft_is s y b plan_y in
       let files : file_of s y ≡ file = bytes_of_first _ _ _ _ (ap (λ (a : Agenda). a.todo) its.1 ∙ begins_so.todo) in
       let blocks : padded (block_of y) ≡ padded (block_of x) =
-          sym (block_first (padded (block_of y)) y.version.length (run_bytes (chunks_of (drafted_with s y)) y.id s.chunks 0) (block_full y its.0.fits_block))
-          ∙ ap (λ (bytes : Bytes). take 8192 bytes) files
-          ∙ block_first (padded (block_of x)) x.version.length (run_bytes (chunks_of extent) x.id s.chunks 0) (block_full x may.fits_block) in
+      sym (block_first (padded (block_of y)) y.version.length (run_bytes (chunks_of (drafted_with s y)) y.id s.chunks 0) (block_full y its.0.fits_block))
+      ∙ ap (λ (bytes : Bytes). take 8192 bytes) files
+      ∙ block_first (padded (block_of x)) x.version.length (run_bytes (chunks_of extent) x.id s.chunks 0) (block_full x may.fits_block) in
       let y_back = reads_back y its.0.read_back in
       let x_back = reads_back x may.read_back in
       let both_rows : Some y_back.row ≡ Some x_back.row = sym y_back.reads ∙ ap row_at blocks ∙ x_back.reads in
       let row_same : y_back.row ≡ x_back.row = cc both_rows in
       let y_key : y.key ≡ x.key = sym y_back.key ∙ ap (λ (r : Row). r.key) row_same ∙ x_back.key in
       let one_row : y ≡ x = alone x.key y x y_there to.there
-          (both_hold (not y.is_retired) (bytes_eq y.key x.key) (unretired s y b plan_y) (bytes_by y.key x.key y_key))
-          (both_hold (not x.is_retired) (bytes_eq x.key x.key) (unretired s x agenda plan) (bytes_same x.key)) in
+      (both_hold (not y.is_retired) (bytes_eq y.key x.key) (unretired s y b plan_y) (bytes_by y.key x.key y_key))
+      (both_hold (not x.is_retired) (bytes_eq x.key x.key) (unretired s x agenda plan) (bytes_same x.key)) in
       let both : Some b ≡ Some agenda = sym plan_y ∙ ap (λ (z : Instance). draft_of s z) one_row ∙ plan in
       cc both
 
@@ -253,7 +253,7 @@ module _ (shelf : KeptMap) (s : State) (x : Instance) (kept : Bytes) (rests : Is
   finishes hs true = refl
   finishes hs false =
       let goes : Goes (entered hs false) (Noted (KeptNote x.key x.version.tag x.version.length extent)) (note_kept x.key extent (entered hs false)) =
-          goes_kept (entered hs false) x.key x.version.tag x.version.length extent rests.none refl (acknowledged_so x.key x.version.tag x.version.length extent extent [] refl) in
+      goes_kept (entered hs false) x.key x.version.tag x.version.length extent rests.none refl (acknowledged_so x.key x.version.tag x.version.length extent extent [] refl) in
       moves_to refl goes refl
 
   published : (hs : Log) → Ran (publish_ops name file) true hs → Leads (hs ++ draft_notes x extent (Ok tt)) s (with_draft_noted x extent hs s)

@@ -1,22 +1,20 @@
 -- What is found of a key, on the shelf and among the entries of the law.
-use Rattle.std.proofs.Common.{◌≡◌, refl, sym, subst, ap, ap₂, ◌∙◌, inl, inr, ℕ, ◌+◌, ◌≤◌, Bool, true, false, not, ◌&&◌, cond, find, filter, List, [], ◌∷◌, Option, Some, None, arith}
+use Rattle.std.proofs.Common.{◌≡◌, refl, sym, subst, ap, ◌∙◌, inl, inr, ◌≤◌, Bool, true, false, not, cond, find, filter, List, [], ◌∷◌, Some, None, arith}
 use Rattle.std.specs.Prelude.{bytes_eq, count_by}
 use Rattle.pp_law.specs.Lists.{Bytes, has_text, without}
-use Rattle.pp_law.specs.State.{State, Entry, Instance, Term}
+use Rattle.pp_law.specs.State.{Entry}
 use Rattle.pp_law.specs.Store.{is_closed, is_named}
-use Rattle.pp_law.specs.Table.{is_entry_of, is_row_of}
+use Rattle.pp_law.specs.Table.{is_entry_of}
 use Rattle.pp_laws.proofs.Lists.{in_filter, in_find, the_one}
 use Rattle.pp_laws.proofs.Sound.{facts_of, instance_id}
 use Rattle.pp_laws.specs.Runs.{IsIn}
 use Rattle.pp_obeys.proofs.Obeying.{obeys_good}
-use Rattle.pp_obeys.specs.Obeys.{Obeys}
 use Rattle.pp_store.proofs.Lists.{count-cons, one}
 use Rattle.pp_store.specs.Changes.{lost}
-use Rattle.pp_store.specs.Kept.{Kept, KeptMap, is_of, kept_of}
+use Rattle.pp_store.specs.Kept.{Kept, KeptMap, is_of}
 use Rattle.pp_target.specs.Name.{name_of}
-use Rattle.pp_world.specs.Log.{Log}
-use Rattle.pp_shelf_law.specs.Kept.{HasOneRow, IsOf, KeptOnesAreTheLaws, OthersAreClosed, RowsStandAlone}
-use Rattle.pp_shelf_law.specs.Shelf.{AreKept, AreNamed, ShowEntries, ShowsEntry, ShowsShelf, is_shut}
+use Rattle.pp_shelf_law.specs.Kept.{KeptOnesAreTheLaws, OthersAreClosed, RowsStandAlone}
+use Rattle.pp_shelf_law.specs.Shelf.{AreKept, AreNamed, ShowEntries, ShowsEntry, is_shut}
 use Rattle.pp_shelf_law.proofs.Lists.{Agree, true_false}
 use Rattle.pp_shelf_law.proofs.Shelves.{bytes_by, key_agrees, lost_name, same_bytes}
 

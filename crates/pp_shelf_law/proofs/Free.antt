@@ -1,9 +1,9 @@
 -- Which names are free for a new entry.
-use Rattle.std.proofs.Common.{◌≡◌, refl, sym, subst, ap, ap₂, ◌∙◌, ℕ, ◌+◌, Bool, true, false, not, ◌&&◌, ◌||◌, cond, find, filter, List, [], ◌∷◌, length, nat_lt, nat_le, Option, Some, None, is_some, arith}
+use Rattle.std.proofs.Common.{◌≡◌, refl, sym, ap, ◌∙◌, ℕ, ◌+◌, Bool, true, false, not, ◌&&◌, ◌||◌, cond, find, List, [], ◌∷◌, length, nat_lt, nat_le, Some, is_some, arith}
 use Rattle.std.proofs.lemmas.Bool.Decides.{nat_tests}
 use Rattle.std.proofs.lemmas.List.Sums.{length-filter}
 use Rattle.std.specs.List.{list_any}
-use Rattle.std.specs.Prelude.{bytes_eq, count_by}
+use Rattle.std.specs.Prelude.{bytes_eq}
 use Rattle.pp_law.specs.Lists.{Bytes, has_text, without}
 use Rattle.pp_law.specs.State.{State, Entry}
 use Rattle.pp_law.specs.Store.{has_free_name, is_closed, is_named, names_taken}

@@ -1,20 +1,17 @@
 -- The calls of the disk in a turn, each with its note.
-use Rattle.std.proofs.Common.{◌≡◌, sym, subst, ap, ap₂, ◌∙◌, ℕ, ◌+◌, IfOk, is_ok, [], ◌∷◌, ◌++◌, length, Some, Result}
+use Rattle.std.proofs.Common.{◌≡◌, sym, subst, ap, ◌∙◌, ℕ, is_ok, [], ◌∷◌, ◌++◌}
 use Rattle.pp_gate.specs.Runs.{Ran}
-use Rattle.pp_law.specs.Lists.{Bytes}
-use Rattle.pp_law.specs.State.{State, Instance}
+use Rattle.pp_law.specs.State.{State}
 use Rattle.pp_law.specs.Store.{drafted_with}
 use Rattle.pp_store.specs.Answers.{extend_ops, file_with}
 use Rattle.pp_store.specs.Changes.{entry_with, extended_after, kept_after, withdrawn_after}
-use Rattle.pp_store.specs.Kept.{Kept, KeptMap}
-use Rattle.pp_store.specs.declared.faults.KeepFault.{KeepFault}
+use Rattle.pp_store.specs.Kept.{KeptMap}
 use Rattle.pp_target.specs.Name.{name_of}
 use Rattle.pp_world.specs.Log.{Log}
-use Rattle.pp_world.specs.declared.disk.DiskFault.{DiskFault}
 use Rattle.pp_world.specs.declared.happening.Happening.TheVariants.{Noted}
 use Rattle.pp_world.specs.declared.note.Remark.TheVariants.{Gone}
 use Rattle.pp_world.specs.declared.op.DiskOp.TheVariants.{Remove}
-use Rattle.pp_shelf_law.specs.Calls.{Adds, Both, Is}
+use Rattle.pp_shelf_law.specs.Calls.{Both, Is}
 use Rattle.pp_shelf_law.specs.Drafts.{RanKeep, draft_notes}
 use Rattle.pp_shelf_law.specs.Joined.{DraftsKeep, MayDraftRow, MaySealRun, MayTake, SealsKeep, TakingsKeep}
 use Rattle.pp_shelf_law.specs.Runs.{MovesAll}

@@ -1,5 +1,5 @@
 -- Tests that agree on the elements of a list, and what they leave.
-use Rattle.std.proofs.Common.{◌≡◌, refl, sym, ap, ap₂, ◌∙◌, Bool, true, false, not, cond, find, filter, List, [], ◌∷◌, ◌++◌, ◌||◌, ◌&&◌, Option, Some, None}
+use Rattle.std.proofs.Common.{◌≡◌, refl, sym, ap, ap₂, ◌∙◌, Bool, true, false, not, cond, find, filter, List, [], ◌∷◌, ◌||◌, ◌&&◌, Some}
 use Rattle.std.specs.List.{list_any}
 use Rattle.pp_law.specs.Lists.{without}
 

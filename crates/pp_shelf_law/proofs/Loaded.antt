@@ -1,21 +1,19 @@
 -- A chunk is read back, or it cannot be read.
-use Rattle.std.proofs.Common.{◌≡◌, refl, sym, subst, ap, ap₂, ◌∙◌, inl, inr, ℕ, ◌+◌, ◌-◌, ◌*◌, ◌/◌, ◌<◌, ◌≤◌, ◌==◌, Bool, true, false, not, ◌&&◌, ◌||◌, find, List, [], ◌∷◌, length, take, drop, Option, Some, None, is_some, Ok, arith}
+use Rattle.std.proofs.Common.{◌≡◌, refl, sym, subst, ap, ◌∙◌, inl, inr, ℕ, ◌+◌, ◌-◌, ◌*◌, ◌/◌, ◌<◌, ◌==◌, Bool, true, false, not, ◌&&◌, ◌||◌, find, List, [], ◌∷◌, take, drop, Option, Some, None, arith}
 use Rattle.std.proofs.lemmas.Bool.Decides.{nat_tests}
 use Rattle.std.specs.List.{list_any}
 use Rattle.std.specs.Prelude.{bytes_eq, min, nat_lt}
-use Rattle.pp_entry.specs.Texts.{body_at, chunks_of}
-use Rattle.pp_gate.specs.Files.{Sent}
-use Rattle.pp_gate.specs.Seal.{KeepsIn}
+use Rattle.pp_entry.specs.Texts.{body_at}
 use Rattle.pp_law.specs.After.{paid, unread}
 use Rattle.pp_law.specs.Asking.{is_writing}
 use Rattle.pp_law.specs.Chunks.{chunk_len, is_in_memory, note_use}
-use Rattle.pp_law.specs.Lists.{Bytes, has_text, is_some_with, without}
+use Rattle.pp_law.specs.Lists.{Bytes, is_some_with}
 use Rattle.pp_law.specs.Offers.{is_at_body}
 use Rattle.pp_law.specs.Opening.{is_opening, is_same_phase, lose_in_opening}
 use Rattle.pp_law.specs.Permits.{is_kept_there, loads_from, may_fail_to_load, may_fail_to_recover, may_load, may_load_at, permits_unread}
 use Rattle.pp_law.specs.Replies.{regained}
-use Rattle.pp_law.specs.State.{State, Client, Entry, Handling, Instance, Phase, IsWoken, IsConfigured, IsRooted, IsListed, IsListening, IsStuck}
-use Rattle.pp_law.specs.Store.{chunk_in_file, close_name, file_under, is_at_rest, is_closed, is_named, load, load_from, lose_entry}
+use Rattle.pp_law.specs.State.{State, Entry, Instance, Phase, IsWoken, IsConfigured, IsRooted, IsListed, IsListening, IsStuck}
+use Rattle.pp_law.specs.Store.{close_name, file_under, is_at_rest, is_closed, is_named, load, load_from, lose_entry}
 use Rattle.pp_law.specs.Table.{Next, is_entry_of, is_kept_row_of, is_same_version, kept_row, next_of, row}
 use Rattle.pp_laws.proofs.Lists.{in_find}
 use Rattle.pp_laws.proofs.Tests.{below, number_same, second_holds}
@@ -24,27 +22,24 @@ use Rattle.pp_obeys.proofs.Calls.{moves_to}
 use Rattle.pp_obeys.proofs.Happenings.{goes_unread}
 use Rattle.pp_obeys.proofs.Silent.{both_hold, or_second}
 use Rattle.pp_obeys.proofs.TurnHappenings.{goes_loaded}
-use Rattle.pp_obeys.specs.Moves.{Goes, Moves}
+use Rattle.pp_obeys.specs.Moves.{Goes}
 use Rattle.pp_shelf.specs.Given.{keeps_byte}
 use Rattle.pp_store.proofs.Lists.{All-found}
 use Rattle.pp_store.specs.Changes.{lost}
-use Rattle.pp_store.specs.Held.{Holds, IsHeld}
-use Rattle.pp_store.specs.Kept.{IsExtent, Kept, KeptMap, block_of, is_of, kept_of, name_at}
-use Rattle.pp_store.specs.Loads.{GivesChunk, chunk_len as chunk_of}
+use Rattle.pp_store.specs.Held.{IsHeld}
+use Rattle.pp_store.specs.Kept.{IsExtent, Kept, KeptMap, is_of, kept_of, name_at}
 use Rattle.pp_target.specs.Name.{name_of}
 use Rattle.pp_valid.specs.declared.version.Version.{Version}
 use Rattle.pp_world.specs.Disk.{Stored, View, bytes_in, settled, view_of}
 use Rattle.pp_world.specs.Log.{Log}
 use Rattle.pp_world.specs.declared.happening.Happening.TheVariants.{Noted, Unread}
 use Rattle.pp_world.specs.declared.note.Remark.TheVariants.{Loaded}
-use Rattle.pp_shelf_law.specs.Folder.{disk_of}
 use Rattle.pp_shelf_law.specs.Kept.{IsOf}
 use Rattle.pp_shelf_law.specs.Loads.{IsToLoad, LoadedBytesAreTheLaws, LoadsAreTheLaws, UnreadsAreTheLaws}
-use Rattle.pp_shelf_law.specs.Runs.{Leads, MovesAll}
-use Rattle.pp_shelf_law.specs.Shelf.{AreKept, ShowsEntry, ShowsShelf}
+use Rattle.pp_shelf_law.specs.Runs.{Leads}
+use Rattle.pp_shelf_law.specs.Shelf.{ShowsEntry, ShowsShelf}
 use Rattle.pp_shelf_law.proofs.Disks.{files}
 use Rattle.pp_shelf_law.proofs.Finding.{found_is, kept_ones, lost_one, named_in}
-use Rattle.pp_shelf_law.proofs.Lists.{true_false}
 use Rattle.pp_shelf_law.proofs.Shelves.{bytes_same, same_bytes}
 
 -- ---- arithmetic
@@ -100,17 +95,17 @@ module _ (shelf : KeptMap) (s : State) (x : Instance) (e : Entry) (kept : Kept) 
   kept_there n is =
       ap (λ (m : Next). is_kept_there s m e) is
       ∙ both_hold (is_same_version e.version to.next.source.version && nat_lt to.next.at e.extent) (not (is_closed s e.name))
-        (both_hold (is_same_version e.version to.next.source.version) (nat_lt to.next.at e.extent) (ap (λ (y : Instance). is_same_version e.version y.version) to.source ∙ version_same) (less_test to.next.at e.extent below_extent))
-        (ap (λ (b : Bool). not b) unclosed)
+      (both_hold (is_same_version e.version to.next.source.version) (nat_lt to.next.at e.extent) (ap (λ (y : Instance). is_same_version e.version y.version) to.source ∙ version_same) (less_test to.next.at e.extent below_extent))
+      (ap (λ (b : Bool). not b) unclosed)
 
   -- of the row that is followed
   load_here : (y : Instance) → y ≡ x → (not y.is_retired && bytes_eq y.key x.key && bytes_eq y.version.tag x.version.tag && (y.version.length == x.version.length)) ≡ true
   load_here y is =
       ap (λ (z : Instance). not z.is_retired && bytes_eq z.key x.key && bytes_eq z.version.tag x.version.tag && (z.version.length == x.version.length)) is
       ∙ both_hold (not x.is_retired && bytes_eq x.key x.key && bytes_eq x.version.tag x.version.tag) (x.version.length == x.version.length)
-        (both_hold (not x.is_retired && bytes_eq x.key x.key) (bytes_eq x.version.tag x.version.tag)
-        (both_hold (not x.is_retired) (bytes_eq x.key x.key) (ap (λ (b : Bool). not b) to.row) (bytes_same x.key)) (bytes_same x.version.tag))
-        (number_same x.version.length)
+      (both_hold (not x.is_retired && bytes_eq x.key x.key) (bytes_eq x.version.tag x.version.tag)
+      (both_hold (not x.is_retired) (bytes_eq x.key x.key) (ap (λ (b : Bool). not b) to.row) (bytes_same x.key)) (bytes_same x.version.tag))
+      (number_same x.version.length)
 
   may_load_next : may_load_at s to.next x.key x.version.tag x.version.length index ≡ true
   may_load_next =
@@ -144,7 +139,7 @@ module _ (shelf : KeptMap) (s : State) (x : Instance) (e : Entry) (kept : Kept) 
   pub loads_so : Leads (Noted (Loaded x.key x.version.tag x.version.length index) ∷ []) s (load x.key index s) × ShowsShelf shelf (load x.key index s)
   loads_so =
       let goes : Goes s (Noted (Loaded x.key x.version.tag x.version.length index)) (load x.key index s) =
-          goes_loaded s x.key x.version.tag x.version.length index to.none to.rests (any_in (may_load s x.key x.version.tag x.version.length index) to.client s.clients to.there may_load_client) in
+      goes_loaded s x.key x.version.tag x.version.length index to.none to.rests (any_in (may_load s x.key x.version.tag x.version.length index) to.client s.clients to.there may_load_client) in
       (moves_to refl goes refl, load_shows)
 
   -- ---- it cannot be read
@@ -176,7 +171,7 @@ module _ (shelf : KeptMap) (s : State) (x : Instance) (e : Entry) (kept : Kept) 
   pub unread_so : Leads (Unread e.name ∷ []) s (unread e.name s) × ShowsShelf (lost x.key shelf) (unread e.name s)
   unread_so =
       let may : permits_unread s e.name ≡ true =
-          both_hold (is_at_rest s) _ to.rests (or_second (may_fail_to_recover s e.name) (list_any (may_fail_to_load s e.name) s.clients) (any_in (may_fail_to_load s e.name) to.client s.clients to.there may_fail_client)) in
+      both_hold (is_at_rest s) _ to.rests (or_second (may_fail_to_recover s e.name) (list_any (may_fail_to_load s e.name) s.clients) (any_in (may_fail_to_load s e.name) to.client s.clients to.there may_fail_client)) in
       let goes : Goes s (Unread e.name) (unread e.name s) = goes_unread s e.name to.none may in
       (moves_to refl goes refl, subst (ShowsShelf (lost x.key shelf)) (sym unread_is) paid_shows)
 

@@ -1,33 +1,33 @@
 -- The entries of a folder are the law's, one by one.
-use Rattle.std.proofs.Common.{◌≡◌, refl, sym, subst, ap, ap₂, ◌∙◌, inl, inr, ℕ, zero, suc, ◌+◌, ◌*◌, ◌/◌, ◌%◌, ◌<◌, ◌≤◌, ◌==◌, Bool, true, false, not, ◌&&◌, ◌||◌, cond, filter, List, [], ◌∷◌, ◌++◌, length, map, take, drop, Option, Some, None, arith}
+use Rattle.std.proofs.Common.{◌≡◌, refl, sym, subst, ap, ◌∙◌, inl, inr, ℕ, ◌*◌, ◌≤◌, Bool, true, false, not, ◌&&◌, ◌||◌, cond, filter, List, [], ◌∷◌, length, map, take, Option, Some, None, arith}
 use Rattle.std.proofs.lemmas.List.{take_all}
 use Rattle.std.specs.List.{cons_option, filter_map, list_any}
 use Rattle.std.specs.Option.{option_and_then}
-use Rattle.std.specs.Prelude.{bytes_eq, count_by, if◌then◌else◌, min, nat_lt, option_map}
+use Rattle.std.specs.Prelude.{bytes_eq, count_by, if◌then◌else◌, min, option_map}
 use Rattle.pp_entry.specs.Entries.{Row, row_at}
 use Rattle.pp_entry.specs.Gates.{has_extent}
 use Rattle.pp_gate.specs.Files.{extent_in, open_gates}
-use Rattle.pp_law.specs.Entries.{entries_in, entry_in as law_entry, entry_with, kept_in}
-use Rattle.pp_law.specs.Lists.{Bytes, has_text, without}
+use Rattle.pp_law.specs.Entries.{entries_in, entry_in as law_entry, entry_with}
+use Rattle.pp_law.specs.Lists.{Bytes, without}
 use Rattle.pp_law.specs.State.{State, Entry}
 use Rattle.pp_law.specs.Store.{is_named}
 use Rattle.pp_laws.specs.Runs.{IsIn}
 use Rattle.pp_laws_crash.proofs.Waking.{in_image}
 use Rattle.pp_objects.specs.Kept.{kept_of}
 use Rattle.pp_recover.proofs.NameLemmas.{Distinct, NotIn, distinct}
-use Rattle.pp_recover.specs.Image.{HasFewNames, entry_in, entry_of, extent_if, head_in, kept_with, named_for}
+use Rattle.pp_recover.specs.Image.{entry_in, entry_of, extent_if, head_in, kept_with, named_for}
 use Rattle.pp_recover.specs.Opening.{entry_unless, failed_on, store_in}
-use Rattle.pp_store.proofs.Lists.{count-cons, count-filter, one}
-use Rattle.pp_store.specs.Kept.{IsExtent, Kept, name_at}
+use Rattle.pp_store.proofs.Lists.{count-cons, one}
+use Rattle.pp_store.specs.Kept.{IsExtent, Kept}
 use Rattle.pp_target.specs.Name.{name_of}
-use Rattle.pp_world.specs.Disk.{is_name, is_rising, names_in}
+use Rattle.pp_world.specs.Disk.{is_name, names_in}
 use Rattle.pp_world.specs.Files.{Files, file_of}
 use Rattle.pp_world.specs.Log.{Log}
 use Rattle.pp_shelf_law.specs.Opening.{IsOpened, OpenedOnesAreTheLaws}
 use Rattle.pp_shelf_law.specs.Shelf.{AreKept, AreNamed, ShowEntries, ShowsEntry, is_shut}
 use Rattle.pp_shelf_law.proofs.Lists.{Agree, agree_without, true_false}
 use Rattle.pp_shelf_law.proofs.Names.{name_formed}
-use Rattle.pp_shelf_law.proofs.Shelves.{bytes_by, named_filter, once_filter, same_bytes}
+use Rattle.pp_shelf_law.proofs.Shelves.{named_filter, once_filter, same_bytes}
 
 -- ---- one file
 

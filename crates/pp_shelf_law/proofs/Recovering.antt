@@ -1,6 +1,5 @@
 -- A file that cannot be read while a life recovers: its name is closed, and its entry is none.
-use Rattle.std.proofs.Common.{◌≡◌, refl, sym, subst, ap, ap₂, ◌∙◌, inl, inr, ℕ, ◌+◌, Bool, true, false, not, ◌&&◌, ◌||◌, cond, filter, List, [], ◌∷◌, ◌++◌, length, map, arith}
-use Rattle.std.proofs.lemmas.Bool.Decides.{nat_tests}
+use Rattle.std.proofs.Common.{◌≡◌, refl, sym, subst, ap, ap₂, ◌∙◌, ℕ, ◌+◌, Bool, true, false, not, ◌&&◌, ◌||◌, cond, filter, List, [], ◌∷◌, ◌++◌, length, arith}
 use Rattle.std.specs.List.{list_any}
 use Rattle.std.specs.Prelude.{bytes_eq}
 use Rattle.pp_law.specs.After.{paid, unread}
@@ -18,9 +17,9 @@ use Rattle.pp_obeys.proofs.Silent.{both_hold}
 use Rattle.pp_obeys.specs.Moves.{Goes}
 use Rattle.pp_text.specs.Bytes.{is_empty}
 use Rattle.pp_recover.proofs.NameLemmas.{Distinct, NotIn, distinct}
-use Rattle.pp_recover.specs.Opening.{IsFresh, failed_on, store_in}
+use Rattle.pp_recover.specs.Opening.{IsFresh, failed_on}
 use Rattle.pp_store.specs.Kept.{is_name}
-use Rattle.pp_world.specs.Disk.{View, is_rising, names_in}
+use Rattle.pp_world.specs.Disk.{View, names_in}
 use Rattle.pp_world.specs.Files.{Files}
 use Rattle.pp_world.specs.Log.{Log}
 use Rattle.pp_world.specs.declared.happening.Happening.TheVariants.{Unread}
@@ -28,7 +27,7 @@ use Rattle.pp_shelf_law.specs.Opening.{FreshOnesAreTheLaws, IsOpened, IsRecoveri
 use Rattle.pp_shelf_law.specs.Runs.{Leads}
 use Rattle.pp_shelf_law.proofs.Lists.{true_false}
 use Rattle.pp_shelf_law.proofs.Runs.{idle_is}
-use Rattle.pp_shelf_law.proofs.Shelves.{bytes_by, bytes_same, bytes_swap, closed_more, same_bytes, same_names}
+use Rattle.pp_shelf_law.proofs.Shelves.{bytes_by, bytes_swap, closed_more, same_bytes, same_names}
 
 -- ---- lists
 
@@ -149,7 +148,7 @@ count_more name p r (n ∷ names) each off apart there = by (bytes_eq n name) re
 
 -- ---- the file
 
-failed_more : (log : Log) (name n : Bytes) → failed_on (log ++ Unread name ∷ []) n ≡ (failed_on log n || bytes_eq name n)
+pub failed_more : (log : Log) (name n : Bytes) → failed_on (log ++ Unread name ∷ []) n ≡ (failed_on log n || bytes_eq name n)
 failed_more log name n = ap (λ (v : View). v.failed) (view_more n log (Unread name))
 
 module _ (files : Files) (log : Log) (s : State) (name : Bytes) (apart : Distinct (names_in files)) (is : IsOpened files log s) (recovers : IsRecovering s) (there : list_any (is_name name) (names_in files) ≡ true) (sound : failed_on log name ≡ false) where
@@ -201,7 +200,7 @@ unread_names files log s name rising is recovers there sound = unread_leads file
 
 -- ---- as a life begins
 
-none_failed : (files : Files) (log : Log) → IsFresh files log → (name : Bytes) → failed_on log name ≡ false
+pub none_failed : (files : Files) (log : Log) → IsFresh files log → (name : Bytes) → failed_on log name ≡ false
 none_failed files log fresh name = ap (λ (v : View). v.failed) (fresh.views name)
 
 all_left : (p : Entry → Bool) (es : List Entry) → ((e : Entry) → p e ≡ false) → without p es ≡ es

@@ -1,13 +1,13 @@
 -- Operations with which the agenda of the law begins, one behind the other.
-use Rattle.std.proofs.Common.{◌≡◌, refl, sym, subst, ap, ◌∙◌, inl, inr, ℕ, Bool, true, false, not, ◌==◌, ◌&&◌, ◌||◌, is_some, List, [], ◌∷◌, ◌++◌, map, append_assoc, Option, Some, None, bytes_eq}
+use Rattle.std.proofs.Common.{◌≡◌, refl, sym, subst, ap, ◌∙◌, inl, inr, Bool, true, false, not, ◌==◌, ◌&&◌, is_some, List, [], ◌∷◌, ◌++◌, map, append_assoc, Option, Some, None, bytes_eq}
 use Rattle.std.proofs.lemmas.Slice.Eq.{bytes_eq-Decides}
 use Rattle.std.specs.List.{list_any}
 use Rattle.pp_gate.specs.Runs.{Ran}
 use Rattle.pp_law.specs.After.{after, ended_op}
 use Rattle.pp_law.specs.Lists.{Bytes, first_some}
 use Rattle.pp_law.specs.Opening.{is_opening, is_same_phase, lose_in_opening}
-use Rattle.pp_law.specs.State.{State, Agenda, no_agenda, Instance, Todo, Do, Phase, IsWoken, IsConfigured, IsRooted, IsListed, IsListening, IsStuck, Keeping}
-use Rattle.pp_law.specs.Store.{agenda_in_turn, begin_in_turn, begin_op, close_name, end_op, enter_next, fail_op, going_on, is_idle_disk, is_of_draft, is_same_op, lose_draft, lose_entry, may_begin_in_turn, may_end_op, plan_of}
+use Rattle.pp_law.specs.State.{State, Agenda, no_agenda, Todo, Do, Phase, IsWoken, IsConfigured, IsRooted, IsListed, IsListening, IsStuck, Keeping}
+use Rattle.pp_law.specs.Store.{agenda_in_turn, begin_in_turn, begin_op, close_name, end_op, enter_next, fail_op, going_on, is_idle_disk, is_of_draft, is_same_op, lose_draft, lose_entry, plan_of}
 use Rattle.pp_laws.proofs.Tests.{number_same}
 use Rattle.pp_obeys.proofs.Calls.{moves_to}
 use Rattle.pp_obeys.proofs.Happenings.{goes_did}
@@ -16,7 +16,6 @@ use Rattle.pp_obeys.proofs.TurnHappenings.{goes_began}
 use Rattle.pp_obeys.specs.Moves.{Goes, Moves}
 use Rattle.pp_text.specs.Bytes.{is_empty}
 use Rattle.pp_world.specs.Log.{Log}
-use Rattle.pp_world.specs.declared.happening.Happening.{Happening}
 use Rattle.pp_world.specs.declared.happening.Happening.TheVariants.{Began, Did}
 use Rattle.pp_world.specs.declared.op.DiskOp.{DiskOp}
 use Rattle.pp_world.specs.declared.op.DiskOp.TheVariants.{Draft, SyncDraft, Publish, Write, Sync, Remove}

@@ -1,14 +1,14 @@
 -- A run of a row is sealed, and noted.
-use Rattle.std.proofs.Common.{◌≡◌, refl, sym, subst, ap, ap₂, ◌∙◌, inl, inr, ℕ, ◌+◌, ◌-◌, ◌*◌, ◌/◌, ◌<◌, ◌≤◌, ◌==◌, Bool, true, false, not, ◌&&◌, ◌||◌, cond, find, is_ok, IfOk, List, [], ◌∷◌, ◌++◌, length, map, replicate, Option, Some, None, Result, Ok, Err, arith}
-use Rattle.std.specs.Prelude.{bytes_eq, count_by, min, nat_lt}
+use Rattle.std.proofs.Common.{◌≡◌, refl, sym, subst, ap, ◌∙◌, ℕ, ◌+◌, ◌-◌, ◌*◌, ◌/◌, ◌<◌, ◌==◌, Bool, true, false, not, ◌&&◌, ◌||◌, find, is_ok, IfOk, List, [], ◌∷◌, ◌++◌, length, map, replicate, Option, Some, None, Result, Ok, Err, arith}
+use Rattle.std.specs.Prelude.{bytes_eq, min, nat_lt}
 use Rattle.pp_entry.specs.Texts.{body_at, chunks_of}
 use Rattle.pp_gate.specs.Runs.{Ran}
 use Rattle.pp_gate.specs.Seal.{seal_ops}
 use Rattle.pp_law.specs.Chunks.{chunk_len}
-use Rattle.pp_law.specs.Lists.{Bytes, change, has_text, without}
+use Rattle.pp_law.specs.Lists.{Bytes, has_text, without}
 use Rattle.pp_law.specs.State.{State, Agenda, no_agenda, Entry, Instance, Todo, Do, Acknowledge}
-use Rattle.pp_law.specs.Store.{agenda_in_turn, close_name, end_of_run, enter_next, extended, is_acknowledged_as, is_closed, is_full_run, is_gone, is_named, may_seal, note_kept, plan_of, remove_entry, removing, run_bytes, run_from, run_len, seal_of, seal_with, sealing}
-use Rattle.pp_law.specs.Table.{is_entry_of, is_kept_row_of, is_row_of, is_same_version, kept_row}
+use Rattle.pp_law.specs.Store.{agenda_in_turn, close_name, end_of_run, enter_next, is_acknowledged_as, is_closed, is_full_run, note_kept, plan_of, run_bytes, run_from, run_len, seal_of, seal_with, sealing}
+use Rattle.pp_law.specs.Table.{is_entry_of, is_kept_row_of, is_same_version, kept_row}
 use Rattle.pp_laws.proofs.Lists.{in_find}
 use Rattle.pp_laws.proofs.Tests.{below, first_holds, number_same, second_holds}
 use Rattle.pp_laws.specs.Runs.{IsIn}
@@ -20,27 +20,26 @@ use Rattle.pp_obeys.proofs.TurnHappenings.{goes_kept}
 use Rattle.pp_obeys.specs.Moves.{Goes, Moves}
 use Rattle.pp_store.specs.Answers.{extend_ops}
 use Rattle.pp_store.specs.Changes.{extended_after, lost}
-use Rattle.pp_store.specs.Kept.{IsExtent, Kept, KeptMap, kept_of, name_at}
+use Rattle.pp_store.specs.Kept.{IsExtent, Kept, KeptMap, kept_of}
 use Rattle.pp_target.specs.Name.{name_of}
 use Rattle.pp_valid.specs.declared.version.Version.{Version}
 use Rattle.pp_world.specs.Log.{Log}
 use Rattle.pp_world.specs.declared.disk.DiskFault.{DiskFault}
 use Rattle.pp_world.specs.declared.happening.Happening.TheVariants.{Noted}
-use Rattle.pp_world.specs.declared.note.Remark.TheVariants.{Gone, Kept as KeptNote}
+use Rattle.pp_world.specs.declared.note.Remark.TheVariants.{Kept as KeptNote}
 use Rattle.pp_world.specs.declared.op.DiskOp.{DiskOp}
 use Rattle.pp_world.specs.declared.op.DiskOp.TheVariants.{Sync, Write}
-use Rattle.pp_shelf_law.specs.Kept.{HasOneRow, IsOf}
-use Rattle.pp_shelf_law.specs.Runs.{ArePlain, IsWorking, Leads, MovesAll, ran}
+use Rattle.pp_shelf_law.specs.Kept.{HasOneRow}
+use Rattle.pp_shelf_law.specs.Runs.{IsWorking, MovesAll, ran}
 use Rattle.pp_shelf_law.specs.Seals.{IsToSeal, SealsAreTheLaws, seal_note, sealed}
-use Rattle.pp_shelf_law.specs.Shelf.{AreKept, IsResting, ShowsEntry, is_shut}
+use Rattle.pp_shelf_law.specs.Shelf.{IsResting, ShowsEntry}
 use Rattle.pp_shelf_law.specs.Takings.{LeadsTo}
 use Rattle.pp_shelf_law.proofs.Extending.{kept_further}
 use Rattle.pp_shelf_law.proofs.Finding.{found_is, kept_ones, lost_one, named_in, one_named}
-use Rattle.pp_shelf_law.proofs.Lists.{true_false}
-use Rattle.pp_shelf_law.proofs.Runs.{all_done, all_failed, idle_is, leads_then, moves_append, moves_map}
+use Rattle.pp_shelf_law.proofs.Runs.{all_done, all_failed, moves_append}
 use Rattle.pp_shelf_law.proofs.Shelves.{bytes_same, same_bytes}
 use Rattle.pp_shelf_law.proofs.Starting.{given, planned, starts}
-use Rattle.pp_shelf_law.proofs.Takings.{gone_moves, loss_leads}
+use Rattle.pp_shelf_law.proofs.Takings.{loss_leads}
 
 -- ---- arithmetic of runs
 
@@ -187,8 +186,8 @@ module _ (shelf : KeptMap) (s : State) (x : Instance) (e : Entry) (kept : Kept) 
       let same : e ≡ parts.0 = one_named e.name e parts.0 s.entries (rests.shows.once e.name) there.0 refl its.0 name in
       let y_key : y.key ≡ x.key = sym (same_bytes parts.0.key y.key (second_holds (not parts.0.is_stale) (is_entry_of y.key parts.0) its.1)) ∙ ap (λ (d : Entry). d.key) (sym same) ∙ e_key in
       let one : y ≡ x = alone x.key y x y_there to.there
-          (both_hold (not y.is_retired) (bytes_eq y.key x.key) (unretired s y b plan_y) (ap (λ (k : Bytes). bytes_eq k x.key) y_key ∙ bytes_same x.key))
-          (both_hold (not x.is_retired) (bytes_eq x.key x.key) (unretired s x agenda plan) (bytes_same x.key)) in
+      (both_hold (not y.is_retired) (bytes_eq y.key x.key) (unretired s y b plan_y) (ap (λ (k : Bytes). bytes_eq k x.key) y_key ∙ bytes_same x.key))
+      (both_hold (not x.is_retired) (bytes_eq x.key x.key) (unretired s x agenda plan) (bytes_same x.key)) in
       let both : Some b ≡ Some agenda = sym plan_y ∙ ap (λ (z : Instance). seal_of s z) one ∙ plan in
       cc both
 
@@ -208,7 +207,7 @@ module _ (shelf : KeptMap) (s : State) (x : Instance) (e : Entry) (kept : Kept) 
   note_moves Q hs extent is holds =
       let t : State = ran hs (record { name = e.name; todo = note }) s in
       let goes : Goes t (Noted (KeptNote x.key x.version.tag size extent)) (note_kept x.key extent t) =
-          goes_kept t x.key x.version.tag size extent rests.none refl (acknowledged_so x.key x.version.tag size (end_of_run x e count) extent [] (sym end_is ∙ sym is)) in
+      goes_kept t x.key x.version.tag size extent rests.none refl (acknowledged_so x.key x.version.tag size (end_of_run x e count) extent [] (sym end_is ∙ sym is)) in
       moves_to refl goes holds
 
   -- or one failed: its entry stands, under a closed name

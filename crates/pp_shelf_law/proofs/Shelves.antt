@@ -1,5 +1,5 @@
 -- How entries that are taken out, extended or added, and names that are closed, are shown.
-use Rattle.std.proofs.Common.{◌≡◌, refl, sym, subst, ap, ap₂, ◌∙◌, ℕ, ◌+◌, ◌≤◌, Bool, true, false, not, ◌||◌, ◌&&◌, cond, find, filter, map, List, [], ◌∷◌, ◌++◌, length, length-append, Option, Some, None, arith}
+use Rattle.std.proofs.Common.{◌≡◌, refl, sym, subst, ap, ◌∙◌, ◌≤◌, Bool, true, false, not, ◌||◌, cond, find, filter, List, [], ◌∷◌, ◌++◌, length, length-append, Some, arith}
 use Rattle.std.specs.List.{list_any}
 use Rattle.std.specs.Prelude.{bytes_eq, count_by}
 use Rattle.std.proofs.lemmas.List.Folds.{list_any-append}
@@ -8,12 +8,12 @@ use Rattle.pp_law.specs.Lists.{Bytes, has_text, without}
 use Rattle.pp_law.specs.State.{Entry}
 use Rattle.pp_law.specs.Store.{is_named}
 use Rattle.pp_law.specs.Table.{is_entry_of}
-use Rattle.pp_store.proofs.Lists.{count-cons, count-filter, found_counts, found_passes, one}
-use Rattle.pp_store.specs.Changes.{is_other, lost, with_closed, without as without_key}
-use Rattle.pp_store.specs.Kept.{Kept, KeptMap, is_closed, is_name, is_of, is_under, name_at}
+use Rattle.pp_store.proofs.Lists.{count-cons, count-filter, one}
+use Rattle.pp_store.specs.Changes.{is_other, lost, without as without_key}
+use Rattle.pp_store.specs.Kept.{Kept, KeptMap, is_closed, is_name}
 use Rattle.pp_target.specs.Name.{name_of}
 use Rattle.pp_shelf_law.specs.Shelf.{AreKept, AreNamed, ShowEntries, ShowsEntry, is_shut}
-use Rattle.pp_shelf_law.proofs.Lists.{Agree, Covers, agree_filter, agree_without, true_false, without_covered, without_swap, without_twice}
+use Rattle.pp_shelf_law.proofs.Lists.{Agree, agree_filter, agree_without, true_false, without_swap}
 
 -- ---- bytes
 

@@ -1,22 +1,21 @@
 -- Where nothing is left to do, what the law plans for a row may begin.
-use Rattle.std.proofs.Common.{◌≡◌, refl, sym, subst, ap, ap₂, ◌∙◌, inl, inr, ℕ, ◌+◌, ◌≤◌, Bool, true, false, not, ◌&&◌, ◌||◌, cond, find, List, [], ◌∷◌, ◌++◌, map, Option, Some, None, option_and_then}
+use Rattle.std.proofs.Common.{◌≡◌, refl, sym, subst, ap, ◌∙◌, inl, inr, Bool, true, false, List, [], ◌∷◌, Option, Some, None, option_and_then}
 use Rattle.pp_gate.specs.Runs.{Ran}
 use Rattle.pp_law.specs.After.{after}
 use Rattle.pp_law.specs.Lists.{Bytes, first_some}
-use Rattle.pp_law.specs.State.{State, Agenda, Entry, Instance, Todo, Do, Keeping}
+use Rattle.pp_law.specs.State.{State, Agenda, Instance, Todo, Do, Keeping}
 use Rattle.pp_law.specs.Store.{agenda_in_turn, begin_in_turn, begin_op, going_on, is_idle_disk, is_same_op, plan_of}
 use Rattle.pp_laws.specs.Runs.{IsIn}
 use Rattle.pp_laws_crash.proofs.Begins.{Begun, IsFirst, begins as begun_anew, begun_is, goes_on as begun_goes}
 use Rattle.pp_obeys.proofs.Silent.{both_hold}
 use Rattle.pp_obeys.proofs.TurnHappenings.{goes_began}
-use Rattle.pp_obeys.specs.Moves.{Goes, Moves}
+use Rattle.pp_obeys.specs.Moves.{Goes}
 use Rattle.pp_text.specs.Bytes.{is_empty}
 use Rattle.pp_world.specs.Log.{Log}
 use Rattle.pp_world.specs.declared.happening.Happening.TheVariants.{Began, Did}
 use Rattle.pp_world.specs.declared.op.DiskOp.{DiskOp}
-use Rattle.pp_shelf_law.specs.Runs.{IsWorking, MovesAll, ran}
-use Rattle.pp_shelf_law.proofs.Lists.{true_false}
-use Rattle.pp_shelf_law.proofs.Runs.{begins_with, begun_to, going_is, idle_is, op_same, plan_is}
+use Rattle.pp_shelf_law.specs.Runs.{IsWorking, MovesAll}
+use Rattle.pp_shelf_law.proofs.Runs.{begins_with, begun_to, idle_is, op_same, plan_is}
 
 first_by : {A B : Type 0} (f : A → Option B) (ys : List A) (o : Option B) → ((c : B) × (first_some f ys ≡ Some c)) → (c : B) × ((elim o as (λ d. Option B) [ Some z ↦ Some z | None ↦ first_some f ys ]) ≡ Some c)
 first_by f ys (Some z) rest = (z, refl)

@@ -1,12 +1,10 @@
 -- An entry that stands no more is noted as gone, and taken away.
-use Rattle.std.proofs.Common.{◌≡◌, refl, sym, subst, ap, ap₂, ◌∙◌, Bool, true, false, not, cond, ◌&&◌, ◌||◌, find, is_ok, List, [], ◌∷◌, ◌++◌, map, length, Option, Some, None, Result, Ok, Err, ℕ, ◌≤◌}
-use Rattle.std.specs.List.{list_any}
-use Rattle.std.specs.Prelude.{bytes_eq, count_by}
+use Rattle.std.proofs.Common.{◌≡◌, refl, sym, subst, ap, ◌∙◌, Bool, true, false, not, cond, ◌&&◌, ◌||◌, find, is_ok, List, [], ◌∷◌, ◌++◌, map, Option, Some, None, Result, Ok, Err}
+use Rattle.std.specs.Prelude.{bytes_eq}
 use Rattle.pp_gate.specs.Runs.{Ran}
-use Rattle.pp_law.specs.After.{after}
 use Rattle.pp_law.specs.Lists.{Bytes, has_text, without}
-use Rattle.pp_law.specs.State.{State, Agenda, no_agenda, Entry, Todo, Do, Keeping}
-use Rattle.pp_law.specs.Store.{close_name, enter_next, is_closed, is_gone, is_idle_disk, is_named, may_note_gone, note_gone, remove_entry, removing}
+use Rattle.pp_law.specs.State.{State, Entry, Todo, Do}
+use Rattle.pp_law.specs.Store.{close_name, enter_next, is_closed, is_gone, is_idle_disk, is_named, may_note_gone, note_gone, remove_entry}
 use Rattle.pp_law.specs.Table.{is_entry_of}
 use Rattle.pp_obeys.proofs.Calls.{moves_to}
 use Rattle.pp_obeys.proofs.Silent.{both_hold}
@@ -21,14 +19,13 @@ use Rattle.pp_world.specs.Log.{Log}
 use Rattle.pp_world.specs.declared.disk.DiskFault.{DiskFault}
 use Rattle.pp_world.specs.declared.happening.Happening.TheVariants.{Noted}
 use Rattle.pp_world.specs.declared.note.Remark.TheVariants.{Gone}
-use Rattle.pp_world.specs.declared.op.DiskOp.{DiskOp}
 use Rattle.pp_world.specs.declared.op.DiskOp.TheVariants.{Remove}
-use Rattle.pp_shelf_law.specs.Runs.{IsWorking, Leads, MovesAll, ran}
+use Rattle.pp_shelf_law.specs.Runs.{IsWorking, MovesAll}
 use Rattle.pp_shelf_law.specs.Shelf.{AreKept, AreNamed, IsResting, ShowEntries, is_shut}
-use Rattle.pp_shelf_law.specs.Takings.{IsToGo, LeadsTo, LossesAreTheLaws, WithdrawalsAreTheLaws, taken_away}
-use Rattle.pp_shelf_law.proofs.Lists.{Agree, Covers, agree_filter, any_found, true_false, without_covered, without_swap, without_twice}
+use Rattle.pp_shelf_law.specs.Takings.{LeadsTo, LossesAreTheLaws, WithdrawalsAreTheLaws, taken_away}
+use Rattle.pp_shelf_law.proofs.Lists.{Agree, Covers, agree_filter, any_found, without_covered, without_swap, without_twice}
 use Rattle.pp_shelf_law.proofs.Runs.{all_done, all_failed, idle_is}
-use Rattle.pp_shelf_law.proofs.Shelves.{bytes_by, key_agrees, lost_name, named_filter, once_filter, same_bytes, taken_out}
+use Rattle.pp_shelf_law.proofs.Shelves.{key_agrees, lost_name, named_filter, once_filter, same_bytes, taken_out}
 
 -- ---- the entry of a key
 

@@ -1,5 +1,5 @@
 -- What a call of the disk adds to the log, and that it keeps what stands (ours).
-use Rattle.std.specs.Prelude.{◌≡◌, ◌≤◌, ℕ, ◌+◌, Bool, true, false, List, [], ◌∷◌, ◌++◌, count_by, is_ok, Option, Some, Result}
+use Rattle.std.specs.Prelude.{◌≡◌, ◌≤◌, ℕ, ◌+◌, Bool, false, List, [], ◌∷◌, ◌++◌, count_by, Option, Some, Result}
 use Rattle.pp_gate.specs.Runs.{Ran, RunsOps}
 use Rattle.pp_law.specs.State.{State}
 use Rattle.pp_obeys.specs.Calls.{Passes}

@@ -1,9 +1,9 @@
 -- The entry of a row is drafted, and named; where it is drafted with all of its body, that is noted (ours).
-use Rattle.std.specs.Prelude.{◌≡◌, ℕ, Bool, true, false, ◌==◌, List, [], ◌∷◌, ◌++◌, None, Result, Ok, Err}
+use Rattle.std.specs.Prelude.{◌≡◌, ℕ, true, false, ◌==◌, [], ◌∷◌, ◌++◌, None, Result, Ok, Err}
 use Rattle.pp_gate.specs.Gate.{draft_ops, publish_ops}
 use Rattle.pp_gate.specs.Runs.{Ran}
 use Rattle.pp_law.specs.Lists.{Bytes}
-use Rattle.pp_law.specs.State.{State, Entry, Instance, no_agenda}
+use Rattle.pp_law.specs.State.{State, Instance, no_agenda}
 use Rattle.pp_law.specs.Store.{close_name, drafted_with, lose_draft, may_draft, new_entry, note_kept, run_bytes}
 use Rattle.pp_entry.specs.Texts.{chunks_of}
 use Rattle.pp_laws.specs.Runs.{IsIn}

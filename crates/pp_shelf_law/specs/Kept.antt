@@ -1,5 +1,5 @@
 -- What the shelf keeps of a key is what the law has of it (ours); and of a key the law has one row at most.
-use Rattle.std.specs.Prelude.{◌≡◌, true, false, not, ◌&&◌, List, find, is_some, Option, Some, None}
+use Rattle.std.specs.Prelude.{◌≡◌, true, false, not, ◌&&◌, List, find, is_some, Some, None}
 use Rattle.pp_law.specs.Lists.{Bytes}
 use Rattle.pp_law.specs.State.{State, Entry, Instance, Term}
 use Rattle.pp_law.specs.Store.{has_free_name, is_closed}

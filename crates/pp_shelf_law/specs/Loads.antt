@@ -1,5 +1,5 @@
 -- A chunk is read back, or it cannot be read and its entry is lost (ours).
-use Rattle.std.specs.Prelude.{◌≡◌, ◌<◌, ℕ, ◌*◌, ◌/◌, true, false, [], ◌∷◌, take, Some, Result, Ok}
+use Rattle.std.specs.Prelude.{◌≡◌, ◌<◌, ℕ, ◌*◌, ◌/◌, true, false, [], ◌∷◌, take, Some, Ok}
 use Rattle.pp_law.specs.After.{unread}
 use Rattle.pp_law.specs.Asking.{is_writing}
 use Rattle.pp_law.specs.Chunks.{chunk_len, is_in_memory}

@@ -1,5 +1,5 @@
 -- Several happenings, one behind the other, and what the operations of a call make of the law's state (ours).
-use Rattle.std.specs.Prelude.{◌≡◌, Bool, true, false, List, [], ◌∷◌, ◌++◌, map, Option, Some, None}
+use Rattle.std.specs.Prelude.{◌≡◌, true, false, List, [], ◌∷◌, ◌++◌, map, None}
 use Rattle.pp_gate.specs.Runs.{Ran}
 use Rattle.pp_law.specs.Lists.{Bytes}
 use Rattle.pp_law.specs.State.{State, Agenda, no_agenda, Todo, Do, Keeping}

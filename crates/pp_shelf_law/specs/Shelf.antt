@@ -1,6 +1,6 @@
 -- How the shelf of the program stands for the disk of the law (ours): the entries that are kept, and the names that are closed. Between
 -- a failed operation and the note that its entry is gone, the law has the entry still, under a closed name.
-use Rattle.std.specs.Prelude.{◌≡◌, ◌≤◌, ℕ, Bool, false, List, [], ◌∷◌, length, count_by, None, ⊤}
+use Rattle.std.specs.Prelude.{◌≡◌, ◌≤◌, Bool, false, List, [], ◌∷◌, length, count_by, None, ⊤}
 use Rattle.pp_law.specs.Lists.{Bytes, has_text, without}
 use Rattle.pp_law.specs.State.{State, Entry, Keeping}
 use Rattle.pp_law.specs.Store.{is_named}
