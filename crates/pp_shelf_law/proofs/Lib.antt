@@ -15,3 +15,5 @@ pub mod Opened
 pub mod Recovering
 pub mod Free
 pub mod Joined
+pub mod Recovered
+pub mod Clean

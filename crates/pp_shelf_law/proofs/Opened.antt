@@ -126,7 +126,7 @@ once_each (p ∷ rest) differ name = by (law_entry p.0 p.1) (named_as p) (once_e
 -- ---- and the store has the same
 
 module _ (files : Files) (log : Log) where
-  abbrev failed : Entry → Bool
+  abbrev pub failed : Entry → Bool
   failed e = failed_on log e.name
 
   abbrev stored : Bytes → Option Kept

@@ -4,7 +4,8 @@ use Rattle.std.specs.List.{list_any}
 use Rattle.pp_law.specs.After.{unread}
 use Rattle.pp_law.specs.Entries.{entries_in}
 use Rattle.pp_law.specs.Lists.{Bytes, has_text, without}
-use Rattle.pp_law.specs.State.{State, IsListed}
+use Rattle.pp_law.specs.Opening.{is_recovered}
+use Rattle.pp_law.specs.State.{State, IsConfigured, IsListed}
 use Rattle.pp_recover.specs.Closing.{closing_of}
 use Rattle.pp_recover.specs.Image.{HasFewNames}
 use Rattle.pp_recover.specs.Opening.{IsFresh, TendsFirst, failed_on, store_in}
@@ -12,7 +13,7 @@ use Rattle.pp_store.specs.Kept.{is_closed, is_name}
 use Rattle.pp_world.specs.Disk.{is_rising, names_in}
 use Rattle.pp_world.specs.Files.{Files, file_of}
 use Rattle.pp_world.specs.Log.{Log}
-use Rattle.pp_world.specs.declared.happening.Happening.TheVariants.{Listed, Rooted, Unread}
+use Rattle.pp_world.specs.declared.happening.Happening.TheVariants.{Listed, Rooted, Unread, Woke}
 use Rattle.pp_shelf_law.specs.Runs.{Leads, MovesAll}
 use Rattle.pp_shelf_law.specs.Shelf.{ShowsShelf}
 
@@ -59,3 +60,7 @@ pub record HasRecovered (files : Files) (log : Log) (s : State) : Type 0 where
 abbrev pub RecoveriesAreTheLaws : Type 0
 RecoveriesAreTheLaws = (files : Files) (log hs : Log) (s : State) → is_rising (map (λ file. file.0) files) ≡ true → is_rising (names_in files) ≡ true → HasFewNames files → HaveNoStrays files → IsFresh files log → TendsFirst files (length (names_in files)) hs
     → IsOpened files log s → IsRecovering s → MovesAll (HasRecovered files (log ++ hs)) hs s
+
+-- and no gates are left to be closed, where nothing was written since the life woke
+abbrev pub RecoveredOnesAreClosed : Type 0
+RecoveredOnesAreClosed = (files : Files) (log : Log) (s : State) → is_rising (map (λ file. file.0) files) ≡ true → HaveNoStrays files → s.disk ≡ Woke files ∷ [] → IsOpened files log s → IsRecovering s → is_recovered s ≡ true
