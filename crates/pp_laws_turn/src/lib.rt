@@ -1,0 +1,4 @@
+//! What holds at each moment of a turn of a lawful log.
+#![tactic(auto)]
+
+pub fn nothing() {}
