@@ -11,3 +11,6 @@ pub mod Pieces
 pub mod Steps
 pub mod Kept
 pub mod Happenings
+pub mod Counts
+pub mod Lifts
+pub mod Laws
