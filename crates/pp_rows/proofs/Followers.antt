@@ -136,6 +136,24 @@ text34 = (codes "HTTP/1.1 200 OK\r\nETag: \"x\"\r\nCache-Control: max-age=60\r\n
 abbrev front4 : Log
 front4 = Woke [] ∷ Rooted text2 ∷ Listed true ∷ Listens 8123 true ∷ wait true [] [] ∷ Clock 784111777 ∷ wait true [] [] ∷ Opened 1 ∷ wait true (1 ∷ []) [] ∷ CanRead 1 ∷ Heard 1 text13 ∷ Noted (Taken 1 0 Fetch) ∷ Dialled 2 (codes "h") 80 ∷ wait true (1 ∷ []) [] ∷ Reached 2 ∷ wait true (1 ∷ 2 ∷ []) (2 ∷ []) ∷ CanWrite 2 ∷ Asked 2 text14 ∷ wait true (1 ∷ 2 ∷ []) [] ∷ CanRead 2 ∷ Got 2 text15 ∷ Noted (Taken 1 0 (Hit 4096 4100)) ∷ wait true (1 ∷ 2 ∷ []) (1 ∷ []) ∷ CanWrite 1 ∷ Said 1 204 text16 ∷ wait true (1 ∷ 2 ∷ []) (1 ∷ []) ∷ CanWrite 1 ∷ Said 1 4 (codes "last") ∷ wait true (1 ∷ 2 ∷ []) [] ∷ CanRead 1 ∷ Heard 1 text26 ∷ Noted (Taken 1 1 Validate) ∷ wait true (1 ∷ 2 ∷ []) (2 ∷ []) ∷ CanWrite 2 ∷ Asked 2 text27 ∷ wait true (1 ∷ 2 ∷ []) [] ∷ Opened 3 ∷ wait true (1 ∷ 2 ∷ 3 ∷ []) [] ∷ CanRead 3 ∷ Heard 3 text33 ∷ Noted (Taken 3 0 (Part 5 10)) ∷ wait true (1 ∷ 2 ∷ 3 ∷ []) [] ∷ CanRead 2 ∷ Got 2 text34 ∷ Noted (Taken 1 1 (Hit 0 3)) ∷ Noted (Taken 3 0 Unsatisfiable) ∷ []
 
+abbrev text35 : Bytes
+text35 = (codes "hostConnections=2")
+
+abbrev text36 : Bytes
+text36 = (codes "shareFetches=0")
+
+abbrev text37 : Bytes
+text37 = (codes "GET /b HTTP/1.1\r\nhost: h\r\nvia: 1.1 polipo\r\n\r\n")
+
+abbrev text38 : Bytes
+text38 = (codes "HEAD http://h/z HTTP/1.1\r\n\r\n")
+
+abbrev text39 : Bytes
+text39 = (codes "HEAD /z HTTP/1.1\r\nhost: h\r\nvia: 1.1 polipo\r\n\r\n")
+
+abbrev front5 : Log
+front5 = Woke [] ∷ Rooted text2 ∷ Listed true ∷ Listens 8123 true ∷ wait true [] [] ∷ Clock 784111777 ∷ wait true [] [] ∷ Opened 1 ∷ wait true (1 ∷ []) [] ∷ CanRead 1 ∷ Heard 1 text17 ∷ Noted (Taken 1 0 Fetch) ∷ Dialled 2 (codes "h") 80 ∷ wait true [] [] ∷ Reached 2 ∷ wait true (2 ∷ []) (2 ∷ []) ∷ CanWrite 2 ∷ Asked 2 text37 ∷ wait true (2 ∷ []) [] ∷ Opened 3 ∷ wait true (2 ∷ 3 ∷ []) [] ∷ CanRead 3 ∷ Heard 3 text13 ∷ Noted (Taken 3 0 Fetch) ∷ Dialled 4 (codes "h") 80 ∷ wait true (2 ∷ []) [] ∷ Reached 4 ∷ wait true (2 ∷ 4 ∷ []) (4 ∷ []) ∷ CanWrite 4 ∷ Asked 4 text14 ∷ wait true (2 ∷ 4 ∷ []) [] ∷ CanRead 4 ∷ Got 4 text15 ∷ Noted (Taken 3 0 (Hit 4096 4100)) ∷ wait true (2 ∷ 4 ∷ []) (3 ∷ []) ∷ CanWrite 3 ∷ Said 3 204 text16 ∷ wait true (2 ∷ 4 ∷ []) (3 ∷ []) ∷ CanWrite 3 ∷ Said 3 4 (codes "last") ∷ wait true (2 ∷ 3 ∷ 4 ∷ []) [] ∷ CanRead 3 ∷ Heard 3 text38 ∷ Noted (Taken 3 1 Pass) ∷ wait true (2 ∷ 4 ∷ []) (4 ∷ []) ∷ CanWrite 4 ∷ Asked 4 text39 ∷ wait true (2 ∷ 4 ∷ []) [] ∷ Opened 5 ∷ wait true (2 ∷ 4 ∷ 5 ∷ []) [] ∷ CanRead 5 ∷ Heard 5 text17 ∷ Noted (Taken 5 0 (Part 0 4100)) ∷ wait true (2 ∷ 4 ∷ []) (4 ∷ []) ∷ CanWrite 4 ∷ Asked 4 text18 ∷ wait true (2 ∷ 4 ∷ []) [] ∷ CanRead 2 ∷ Got 2 text28 ∷ Noted (Taken 1 0 (Hit 0 4100)) ∷ wait true (2 ∷ 4 ∷ []) (1 ∷ 5 ∷ []) ∷ CanWrite 5 ∷ Said 5 165 text29 ∷ wait true (2 ∷ 4 ∷ []) (1 ∷ 5 ∷ []) ∷ CanWrite 5 ∷ Said 5 4096 text30 ∷ wait true (2 ∷ 4 ∷ []) (1 ∷ 5 ∷ []) ∷ CanWrite 3 ∷ HungUp 3 ∷ Shut 3 ∷ Dropped 4 ∷ []
+
 row34 : fault_from 0 (start (record { words = (codes "diskRun=1") ∷ text0 ∷ text1 ∷ []; faults = 0 } ∷ [])) (front0 ++ Heard 1 text3 ∷ Noted (Taken 1 0 Fetch) ∷ Dialled 2 (codes "h") 80 ∷ wait true (1 ∷ []) [] ∷ Reached 2 ∷ wait true (1 ∷ 2 ∷ []) (2 ∷ []) ∷ CanWrite 2 ∷ Asked 2 text4 ∷ wait true (1 ∷ 2 ∷ []) [] ∷ CanRead 2 ∷ Got 2 text5 ∷ Noted (Taken 1 0 (Hit 5000 5004)) ∷ wait true (1 ∷ 2 ∷ []) (1 ∷ []) ∷ CanWrite 1 ∷ Said 1 177 text6 ∷ wait true (1 ∷ 2 ∷ []) (1 ∷ []) ∷ CanWrite 1 ∷ Said 1 4 (codes "aaaa") ∷ wait true (1 ∷ 2 ∷ []) [] ∷ []) ≡ None
 unfolding judging
 row34 = refl
@@ -243,3 +261,11 @@ row345 = refl
 row348 : fault_from 0 (start (record { words = text32 ∷ []; faults = 0 } ∷ [])) (front4 ++ wait true (1 ∷ 2 ∷ 3 ∷ []) (1 ∷ 2 ∷ 3 ∷ []) ∷ []) ≡ Some (record { at = 46; rule = ConnectionForgotten })
 unfolding judging
 row348 = refl
+
+row430 : fault_from 0 (start (record { words = text0 ∷ text35 ∷ text36 ∷ []; faults = 0 } ∷ [])) (front5 ++ wait true (2 ∷ []) (1 ∷ 5 ∷ []) ∷ []) ≡ None
+unfolding judging
+row430 = refl
+
+row433 : fault_from 0 (start (record { words = text0 ∷ text35 ∷ text36 ∷ []; faults = 0 } ∷ [])) (front5 ++ wait true (2 ∷ []) (1 ∷ 2 ∷ 5 ∷ []) ∷ []) ≡ Some (record { at = 71; rule = ConnectionForgotten })
+unfolding judging
+row433 = refl
