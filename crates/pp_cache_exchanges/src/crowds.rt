@@ -79,13 +79,7 @@ fn played(alloc: Global, pace: Pace, crowd: &Crowd) -> Result<Played, OutOfMemor
         Act::Answer(2, LONGEST),
     ])?;
     put_chunks(pace, 2, b'a', crowd.chunks, ALONE, &mut acts)?;
-    for request in requests.iter() {
-        acts.extend_from_slice(&[
-            Act::Connect,
-            Act::Window(0, 0),
-            Act::Say(0, request.as_bytes()),
-        ])?;
-    }
+    put_followers(pace, requests.as_slice(), &mut acts)?;
     acts.extend_from_slice(&[
         Act::Connect,
         Act::Say(0, GET_B),
@@ -108,6 +102,48 @@ fn played(alloc: Global, pace: Pace, crowd: &Crowd) -> Result<Played, OutOfMemor
         Act::Reach(beyond.saturating_add(2)),
     ])?;
     play_with(alloc, crowd.words, pace, acts.as_slice(), &[])
+}
+
+/// Adds what brings a client for each of these requests, which takes no byte. Where each byte comes alone, the last byte of all comes
+/// behind the others of all: who has said no whole request costs a turn nothing.
+fn put_followers<'a>(
+    pace: Pace,
+    requests: &'a [String],
+    acts: &mut Vec<Act<'a>>,
+) -> Result<(), OutOfMemory> {
+    for _request in requests {
+        acts.extend_from_slice(&[Act::Connect, Act::Window(0, 0)])?;
+    }
+    if pace == Pace::Whole {
+        for (place, request) in requests.iter().enumerate() {
+            acts.push(Act::Say(number_at(place), request.as_bytes()))
+                .map_err(AllocError::from)?;
+        }
+        return Ok(());
+    }
+    for (place, request) in requests.iter().enumerate() {
+        let (front, _) = parts_of(request.as_str());
+        acts.push(Act::Say(number_at(place), front))
+            .map_err(AllocError::from)?;
+    }
+    for (place, request) in requests.iter().enumerate() {
+        let (_, last) = parts_of(request.as_str());
+        acts.push(Act::Say(number_at(place), last))
+            .map_err(AllocError::from)?;
+    }
+    Ok(())
+}
+
+/// The number of the follower at this place.
+fn number_at(place: usize) -> u64 {
+    FIRST.saturating_add(place as u64)
+}
+
+/// A request without its last byte, and that byte.
+fn parts_of(request: &str) -> (&[u8], &[u8]) {
+    let bytes = request.as_bytes();
+    let front = bytes.len().saturating_sub(1);
+    bytes.split_at(front.min(bytes.len()))
 }
 
 /// Adds what brings so many chunks of this byte from an origin: whole, or each with so many bytes at its front alone, and its last.
