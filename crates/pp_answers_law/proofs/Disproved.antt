@@ -41,9 +41,7 @@ use Rattle.pp_steps_law.specs.Steps.{ShowsSteps}
 use Rattle.pp_valid.specs.declared.version.Version.{Version}
 use Rattle.pp_answers_law.specs.Answers.{Asks, IsAnswered, Stands}
 use Rattle.pp_answers_law.specs.Disproving.{DisprovedAreTheLaws, GoesWithClient, HasClient}
-use Rattle.pp_answers_law.specs.Settling.{IsInMemory}
 use Rattle.pp_answers_law.proofs.Dropped.{there_too}
-use Rattle.pp_answers_law.proofs.Renewed.{known_is, none_known}
 use Rattle.pp_answers_law.proofs.Useless.{key_is, row_cleared}
 
 -- ---- its client's request
@@ -132,16 +130,10 @@ reads_same number name l peers p s shows n x e answered through stands asks with
 
 -- ---- what is known of its key
 
-known_same : (number : ℕ → ℕ) (name : Bytes) (l : Leaving) (peers : List Peer) (p : Parts) (s : State) → ShowsSteps number name l peers p s → (n : ℕ) (x : Entry) (e : Exchange) → IsAnswered n p s x e → IsInMemory s (key_of e)
+known_same : (number : ℕ → ℕ) (name : Bytes) (l : Leaving) (peers : List Peer) (p : Parts) (s : State) → ShowsSteps number name l peers p s → (n : ℕ) (x : Entry) (e : Exchange) → IsAnswered n p s x e
     → known_version x.exchange.number p ≡ law_known s (key_of e)
-known_same number name l peers p s shows n x e answered kept =
-    ap (λ (o : Option (List ℕ)). version_at o p.cache) (key_is number name l peers p s shows n x e answered)
-    ∙ versions_of number p.cache s shows.shows.table.table (key_of e)
-    ∙ by (row s (key_of e)) refl
-  where
-    by : (o : Option Known) → row s (key_of e) ≡ o → option_map (λ y. y.version) (row s (key_of e)) ≡ law_known s (key_of e)
-    by None none = ap (λ (o : Option Known). option_map (λ y. y.version) o) none ∙ sym (none_known s (key_of e) none (kept none))
-    by (Some y) is = ap (λ (o : Option Known). option_map (λ z. z.version) o) is ∙ sym (known_is s (key_of e) y is)
+known_same number name l peers p s shows n x e answered =
+    ap (λ (o : Option (List ℕ)). version_at o p.cache) (key_is number name l peers p s shows n x e answered) ∙ versions_of number p.cache s shows.shows.table.table (key_of e)
 
 and_false : (b : Bool) → false ≡ (b && false)
 and_false true = refl
@@ -170,16 +162,16 @@ unfolding law_disproved
 law_is e head s = refl
 
 pub disproved_same : (number : ℕ → ℕ) (name : Bytes) (l : Leaving) (peers : List Peer) (p : Parts) (s : State) → ShowsSteps number name l peers p s → (n : ℕ) (x : Entry) (e : Exchange) (head : Response) → IsAnswered n p s x e → is_through e ≡ true → IsFor s e Stands
-    → IsFor s e (Asks e) → IsInMemory s (key_of e) → GoesWithClient s e → is_disproved x.exchange x.errand head p ≡ (law_reads e && is_some_with (law_disproves head) (law_known s (key_of e)))
-disproved_same number name l peers p s shows n x e head answered through stands asks kept with =
+    → IsFor s e (Asks e) → GoesWithClient s e → is_disproved x.exchange x.errand head p ≡ (law_reads e && is_some_with (law_disproves head) (law_known s (key_of e)))
+disproved_same number name l peers p s shows n x e head answered through stands asks with =
     tests_same x e head p (known_version x.exchange.number p)
-    ∙ ap₂ (λ (b : Bool) (o : Option Version). b && is_some_with (law_disproves head) o) (reads_same number name l peers p s shows n x e answered through stands asks with) (known_same number name l peers p s shows n x e answered kept)
+    ∙ ap₂ (λ (b : Bool) (o : Option Version). b && is_some_with (law_disproves head) o) (reads_same number name l peers p s shows n x e answered through stands asks with) (known_same number name l peers p s shows n x e answered)
 
 pub disproveds : DisprovedAreTheLaws
-disproveds number name l peers p s shows n x e head answered through stands asks kept with =
+disproveds number name l peers p s shows n x e head answered through stands asks with =
     subst (λ (t : State). ShowsSteps number name l peers (disproved x.exchange x.errand head p) t) (sym (law_is e head s))
     (subst (λ (b : Bool). ShowsSteps number name l peers (disproved_if x p b) (law_disproved_if e s (law_reads e && is_some_with (law_disproves head) (law_known s (key_of e)))))
-    (sym (disproved_same number name l peers p s shows n x e head answered through stands asks kept with))
+    (sym (disproved_same number name l peers p s shows n x e head answered through stands asks with))
     (by (law_reads e && is_some_with (law_disproves head) (law_known s (key_of e)))))
   where
     by : (b : Bool) → ShowsSteps number name l peers (disproved_if x p b) (law_disproved_if e s b)

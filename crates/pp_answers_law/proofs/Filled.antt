@@ -39,7 +39,7 @@ module _ (number : ℕ → ℕ) (name : Bytes) (l : Leaving) (peers : List Peer)
     number = number;
     shows =
         subst (λ (q : Parts). ShowsSteps number name l peers (noted_body n q) (law_not_modified e head s)) (sym (becomes ∙ ap (λ (clock : ℕ). not_modified x.exchange x.errand head clock (parts t)) at.clock))
-        (not_modifieds number name l peers (parts t) s at.shows n x e head at.answered at.stands at.memory);
+        (not_modifieds number name l peers (parts t) s at.shows n x e head at.answered at.stands);
   }
   without_by false becomes = record {
     number = number;

@@ -137,7 +137,7 @@ module _ (number : ℕ → ℕ) (name : Bytes) (l : Leaving) (peers : List Peer)
   settles : (v : Version) (u : Option Instance) (w : Option Known) → row_of (key_of e) old.cache.instances ≡ u → row s (key_of e) ≡ w → AreBoth (ShowsInstance number old.cache s) u w
       → Settles x.exchange x.errand head v t.now (option_map (λ (i : Instance). (id_of i, i.version)) u) (parts (with_room_for (option_map (λ (i : Instance). (id_of i, i.version)) u) t)) new → IsShown name l peers (noted_body n new) (by_known v (known_version s (key_of e)))
   settles v None None a b both row =
-      subst (λ (o : Option Version). IsShown name l peers (noted_body n new) (by_known v o)) (sym (none_known s (key_of e) b (at.memory b)))
+      subst (λ (o : Option Version). IsShown name l peers (noted_body n new) (by_known v o)) (sym (none_known s (key_of e) b))
       (makes_of v (key_in_flow x.exchange.number (parts (turn_with_room t)).flow) (parts (turn_with_room t)) (ap (λ (q : Parts). key_in_flow x.exchange.number q.flow) (turn_roomed t (key_of e) a) ∙ key_there) (turn_roomed t (key_of e) a) row)
   settles v None (Some y) a b both row = absurd both
   settles v (Some i) None a b both row = absurd both
@@ -164,7 +164,7 @@ module _ (number : ℕ → ℕ) (name : Bytes) (l : Leaving) (peers : List Peer)
     number = number;
     shows =
         subst (λ (q : Parts). ShowsSteps number name l peers (noted_body n q) (law_not_modified e head s)) (sym (becomes ∙ ap (λ (clock : ℕ). not_modified x.exchange x.errand head clock old) at.clock))
-        (not_modifieds number name l peers old s at.shows n x e head at.answered at.stands at.memory);
+        (not_modifieds number name l peers old s at.shows n x e head at.answered at.stands);
   }
   without_by false becomes = record {
     number = number;

@@ -9,10 +9,10 @@ use Rattle.pp_flow_law.specs.Tables.{Leaving}
 use Rattle.pp_framing.specs.declared.body.BodyRule.{BodyRule}
 use Rattle.pp_head.specs.Response.{Response}
 use Rattle.pp_heads_law.proofs.Ruled.{invalidated as invalidates_same}
-use Rattle.pp_law.specs.Lists.{Bytes, change, has_text}
+use Rattle.pp_law.specs.Lists.{Bytes}
 use Rattle.pp_law.specs.OwnHeads.{key_of, relay_head}
-use Rattle.pp_law.specs.State.{State, Entry as KeptEntry, Exchange}
-use Rattle.pp_law.specs.Table.{clear, is_entry_of, is_kept_row_of, kept_row, row, row_on_disk, swept}
+use Rattle.pp_law.specs.State.{State, Exchange}
+use Rattle.pp_law.specs.Table.{clear}
 use Rattle.pp_law.specs.ThroughHeads.{clear_each, clear_named, disproved as law_disproved, invalidated as law_invalidated, invalidates as law_invalidates, is_same_host, key_named as law_key_named, places_named as law_places, through_head}
 use Rattle.pp_peers.specs.declared.peers.Peer.{Peer}
 use Rattle.pp_seats_law.specs.Exchanges.{ShowsExchange}
@@ -27,76 +27,35 @@ use Rattle.pp_target.specs.Key.{Key, key_at, place_of, port_text, text_of}
 use Rattle.pp_answers_law.specs.Answers.{IsAnswered}
 use Rattle.pp_answers_law.specs.Naming.{named_at}
 use Rattle.pp_answers_law.specs.Outdates.{AreShort, IsKeyed, PassedHeadsAreTheLaws, WereRead, WereReadIf, WereReadOf}
-use Rattle.pp_answers_law.specs.Settling.{IsInMemory}
 use Rattle.pp_answers_law.specs.Throughs.{IsPassed}
 use Rattle.pp_answers_law.proofs.Dropped.{there_too}
 use Rattle.pp_answers_law.proofs.Others.{asks_cleared}
 use Rattle.pp_answers_law.proofs.Relayed.{relays}
 use Rattle.pp_answers_law.proofs.Sites.{names_same}
 use Rattle.pp_answers_law.proofs.Standing.{stands_cleared}
-use Rattle.pp_answers_law.proofs.Through.{IsLeft, client_cleared, disproved_left, law_invalidated_if, law_invalidated_is, none_kept, passed_cleared, stale, through_is}
+use Rattle.pp_answers_law.proofs.Through.{IsLeft, client_cleared, disproved_left, law_invalidated_if, law_invalidated_is, through_is}
 use Rattle.pp_answers_law.proofs.Useless.{exchanges_kept, key_cleared, key_is, row_cleared}
-
--- ---- nothing more of its key is kept
-
-kept_stays : (key other : Bytes) (es : List KeptEntry) → find (is_kept_row_of key) es ≡ None → find (is_kept_row_of key) (change (is_entry_of other) stale es) ≡ None
-kept_stays key other [] none = refl
-kept_stays key other (e ∷ es) none = by (is_kept_row_of key e) refl none (λ f. kept_stays key other es f)
-  where
-    kept : (t : Bool) → is_kept_row_of key e ≡ false → find (is_kept_row_of key) (change (is_entry_of other) stale es) ≡ None
-        → cond (is_kept_row_of key (elim t as (λ u. KeptEntry) [ true ↦ stale e | false ↦ e ])) (Some (elim t as (λ u. KeptEntry) [ true ↦ stale e | false ↦ e ])) (find (is_kept_row_of key) (change (is_entry_of other) stale es)) ≡ None
-    kept true off rest = rest
-    kept false off rest = ap (λ (b : Bool). cond b (Some e) (find (is_kept_row_of key) (change (is_entry_of other) stale es))) off ∙ rest
-
-    by : (b : Bool) → is_kept_row_of key e ≡ b → cond b (Some e) (find (is_kept_row_of key) es) ≡ None → (find (is_kept_row_of key) es ≡ None → find (is_kept_row_of key) (change (is_entry_of other) stale es) ≡ None)
-        → cond (is_kept_row_of key (elim (is_entry_of other e) as (λ u. KeptEntry) [ true ↦ stale e | false ↦ e ])) (Some (elim (is_entry_of other e) as (λ u. KeptEntry) [ true ↦ stale e | false ↦ e ]))
-        (find (is_kept_row_of key) (change (is_entry_of other) stale es)) ≡ None
-    by true is f more = absurd (let both : Some e ≡ None = f in cc both)
-    by false is f more = kept (is_entry_of other e) is (more f)
-
-kept_cleared : (key other : Bytes) (s : State) → kept_row s key ≡ None → kept_row (clear other s) key ≡ None
-unfolding clear swept
-kept_cleared key other s none = kept_stays key other s.entries none
-
-none_cleared : (key : Bytes) (s : State) → kept_row (clear key s) key ≡ None
-unfolding clear swept
-none_cleared key s = none_kept key s.entries
-
-in_memory : (s : State) (key : Bytes) → kept_row s key ≡ None → IsInMemory s key
-in_memory s key none = λ alone. by (has_text key s.displaced)
-  where
-    by : (b : Bool) → elim b as (λ t. Option KeptEntry) [ true ↦ None | false ↦ kept_row s key ] ≡ None
-    by true = refl
-    by false = none
 
 -- ---- one more is cleared
 
-record IsOut (number : ℕ → ℕ) (name : Bytes) (l : Leaving) (peers : List Peer) (p : Parts) (s : State) (n : ℕ) (x : Entry) (e : Exchange) : Type 0 where
-  left : IsLeft number name l peers p s n x e
-  none : kept_row s (key_of e) ≡ None
-
-out_cleared : (number : ℕ → ℕ) (name : Bytes) (l : Leaving) (peers : List Peer) (p : Parts) (s : State) (n : ℕ) (x : Entry) (e : Exchange) (key : Bytes) → IsOut number name l peers p s n x e → IsOut number name l peers (cleared_key key p) (clear key s) n x e
-out_cleared number name l peers p s n x e key out = record {
-  left = record {
-    shows = key_cleared number name l peers p s out.left.shows key;
-    passed = record {
-      answered = record { placed = out.left.passed.answered.placed; there = exchanges_kept key s n ∙ out.left.passed.answered.there };
-      through = out.left.passed.through;
-      stands = stands_cleared e key s out.left.passed.stands;
-      asks = asks_cleared e key s out.left.passed.asks;
-      memory = in_memory (clear key s) (key_of e) (kept_cleared (key_of e) key s out.none);
-      client = client_cleared key s e out.left.passed.client;
-    };
+left_cleared : (number : ℕ → ℕ) (name : Bytes) (l : Leaving) (peers : List Peer) (p : Parts) (s : State) (n : ℕ) (x : Entry) (e : Exchange) (key : Bytes) → IsLeft number name l peers p s n x e → IsLeft number name l peers (cleared_key key p) (clear key s) n x e
+left_cleared number name l peers p s n x e key left = record {
+  shows = key_cleared number name l peers p s left.shows key;
+  passed = record {
+    answered = record { placed = left.passed.answered.placed; there = exchanges_kept key s n ∙ left.passed.answered.there };
+    through = left.passed.through;
+    stands = stands_cleared e key s left.passed.stands;
+    asks = asks_cleared e key s left.passed.asks;
+    client = client_cleared key s e left.passed.client;
   };
-  none = kept_cleared (key_of e) key s out.none;
 }
 
 abbrev law_cleared_of : Option Bytes → State → State
 law_cleared_of o s = elim o as (λ t. State) [ None ↦ s | Some key ↦ clear key s ]
 
-out_of : (number : ℕ → ℕ) (name : Bytes) (l : Leaving) (peers : List Peer) (p : Parts) (s : State) (n : ℕ) (x : Entry) (e : Exchange) (o : Option Bytes) → IsOut number name l peers p s n x e → IsOut number name l peers (cleared_of o p) (law_cleared_of o s) n x e
-out_of number name l peers p s n x e None out = out
-out_of number name l peers p s n x e (Some key) out = out_cleared number name l peers p s n x e key out
+left_of : (number : ℕ → ℕ) (name : Bytes) (l : Leaving) (peers : List Peer) (p : Parts) (s : State) (n : ℕ) (x : Entry) (e : Exchange) (o : Option Bytes) → IsLeft number name l peers p s n x e → IsLeft number name l peers (cleared_of o p) (law_cleared_of o s) n x e
+left_of number name l peers p s n x e None left = left
+left_of number name l peers p s n x e (Some key) left = left_cleared number name l peers p s n x e key left
 
 -- ---- each that is named
 
@@ -121,16 +80,16 @@ each_none : (key : Key) (s : State) → clear_each key [] s ≡ s
 unfolding clear_each
 each_none key s = refl
 
-each_out : (number : ℕ → ℕ) (name : Bytes) (l : Leaving) (peers : List Peer) (n : ℕ) (x : Entry) (e : Exchange) (target : Bytes) (texts : List Bytes) (p new : Parts) (s : State) → key_at target ≡ Ok e.key → AreShort (site_of e.key) texts
-    → (cleared : ClearsEach (site_of e.key) texts p new) → WereRead (site_of e.key) texts p new cleared → IsOut number name l peers p s n x e → IsOut number name l peers new (clear_each e.key texts s) n x e
-each_out number name l peers n x e target [] p new s key short cleared were out =
-    subst (λ (q : Parts). IsOut number name l peers q (clear_each e.key [] s) n x e) (sym cleared) (subst (λ (t : State). IsOut number name l peers p t n x e) (sym (each_none e.key s)) out)
-each_out number name l peers n x e target (text ∷ texts) p new s key short cleared were out =
-    subst (λ (t : State). IsOut number name l peers new t n x e) (sym (each_first e.key text texts s))
-    (each_out number name l peers n x e target texts cleared.0 new (clear_named e.key text s) key short.1 cleared.2 were.1
-    (subst (λ (q : Parts). IsOut number name l peers q (clear_named e.key text s) n x e) (sym (cleared.1.cleared ∙ ap (λ (b : Bool). cleared_of (named_as b (site_of e.key) text) p) were.0 ∙ ap (λ (o : Option Bytes). cleared_of o p) (names_same e.key target text key short.0)))
-    (subst (λ (t : State). IsOut number name l peers (cleared_of (named_at e.key text) p) t n x e) (sym (named_is e.key text s))
-    (out_of number name l peers p s n x e (named_at e.key text) out))))
+each_left : (number : ℕ → ℕ) (name : Bytes) (l : Leaving) (peers : List Peer) (n : ℕ) (x : Entry) (e : Exchange) (target : Bytes) (texts : List Bytes) (p new : Parts) (s : State) → key_at target ≡ Ok e.key → AreShort (site_of e.key) texts
+    → (cleared : ClearsEach (site_of e.key) texts p new) → WereRead (site_of e.key) texts p new cleared → IsLeft number name l peers p s n x e → IsLeft number name l peers new (clear_each e.key texts s) n x e
+each_left number name l peers n x e target [] p new s key short cleared were left =
+    subst (λ (q : Parts). IsLeft number name l peers q (clear_each e.key [] s) n x e) (sym cleared) (subst (λ (t : State). IsLeft number name l peers p t n x e) (sym (each_none e.key s)) left)
+each_left number name l peers n x e target (text ∷ texts) p new s key short cleared were left =
+    subst (λ (t : State). IsLeft number name l peers new t n x e) (sym (each_first e.key text texts s))
+    (each_left number name l peers n x e target texts cleared.0 new (clear_named e.key text s) key short.1 cleared.2 were.1
+    (subst (λ (q : Parts). IsLeft number name l peers q (clear_named e.key text s) n x e) (sym (cleared.1.cleared ∙ ap (λ (b : Bool). cleared_of (named_as b (site_of e.key) text) p) were.0 ∙ ap (λ (o : Option Bytes). cleared_of o p) (names_same e.key target text key short.0)))
+    (subst (λ (t : State). IsLeft number name l peers (cleared_of (named_at e.key text) p) t n x e) (sym (named_is e.key text s))
+    (left_of number name l peers p s n x e (named_at e.key text) left))))
 
 -- ---- its site
 
@@ -146,40 +105,27 @@ site_is key =
     len : (place_of key).path ≡ length (site_of key)
     len = omega (arith, hosts)
 
-invalidated_out : (number : ℕ → ℕ) (name : Bytes) (l : Leaving) (peers : List Peer) (p between : Parts) (s : State) (n : ℕ) (x : Entry) (e : Exchange) (head : Response) (b : Bool) → IsLeft number name l peers p s n x e → IsKeyed x e head
+invalidated_with : (number : ℕ → ℕ) (name : Bytes) (l : Leaving) (peers : List Peer) (p between : Parts) (s : State) (n : ℕ) (x : Entry) (e : Exchange) (head : Response) (b : Bool) → IsLeft number name l peers p s n x e → IsKeyed x e head
     → (it : InvalidatesIf b (key_in_flow x.exchange.number p.flow) x.errand.place.path head p between) → WereReadIf b (key_in_flow x.exchange.number p.flow) x.errand.place.path head p between it → IsLeft number name l peers between (law_invalidated_if e head s b) n x e
-invalidated_out number name l peers p between s n x e head false left keyed it were = subst (λ (q : Parts). IsLeft number name l peers q s n x e) (sym it) left
-invalidated_out number name l peers p between s n x e head true left keyed it were = by (key_in_flow x.exchange.number p.flow) x.errand.place.path (key_is number name l peers p s left.shows n x e left.passed.answered) keyed.place it were
+invalidated_with number name l peers p between s n x e head false left keyed it were = subst (λ (q : Parts). IsLeft number name l peers q s n x e) (sym it) left
+invalidated_with number name l peers p between s n x e head true left keyed it were = by (key_in_flow x.exchange.number p.flow) x.errand.place.path (key_is number name l peers p s left.shows n x e left.passed.answered) keyed.place it were
   where
-    first : IsOut number name l peers (cleared_key (key_of e) p) (clear (key_of e) s) n x e
-    first = record {
-      left = record {
-        shows = key_cleared number name l peers p s left.shows (key_of e);
-        passed = record {
-          answered = record { placed = left.passed.answered.placed; there = exchanges_kept (key_of e) s n ∙ left.passed.answered.there };
-          through = left.passed.through;
-          stands = stands_cleared e (key_of e) s left.passed.stands;
-          asks = asks_cleared e (key_of e) s left.passed.asks;
-          memory = in_memory (clear (key_of e) s) (key_of e) (none_cleared (key_of e) s);
-          client = client_cleared (key_of e) s e left.passed.client;
-        };
-      };
-      none = none_cleared (key_of e) s;
-    }
+    first : IsLeft number name l peers (cleared_key (key_of e) p) (clear (key_of e) s) n x e
+    first = left_cleared number name l peers p s n x e (key_of e) left
 
     at_site : (site : Bytes) → site ≡ site_of e.key → (cleared : ClearsEach site (places_named head) (cleared_key (key_of e) p) between) → WereRead site (places_named head) (cleared_key (key_of e) p) between cleared
-        → IsOut number name l peers between (clear_each e.key (law_places head) (clear (key_of e) s)) n x e
+        → IsLeft number name l peers between (clear_each e.key (law_places head) (clear (key_of e) s)) n x e
     at_site site is cleared read =
         let both : (c : ClearsEach (site_of e.key) (places_named head) (cleared_key (key_of e) p) between) × WereRead (site_of e.key) (places_named head) (cleared_key (key_of e) p) between c =
         subst (λ (u : Bytes). (c : ClearsEach u (places_named head) (cleared_key (key_of e) p) between) × WereRead u (places_named head) (cleared_key (key_of e) p) between c) is (cleared, read) in
-        each_out number name l peers n x e keyed.target (places_named head) (cleared_key (key_of e) p) between (clear (key_of e) s) keyed.key keyed.short both.0 both.1 first
+        each_left number name l peers n x e keyed.target (places_named head) (cleared_key (key_of e) p) between (clear (key_of e) s) keyed.key keyed.short both.0 both.1 first
 
     by : (o : Option Bytes) (path : ℕ) → o ≡ Some (key_of e) → path ≡ (place_of e.key).path → (rows : InvalidatesRows o path head p between) → WereReadOf o path head p between rows → IsLeft number name l peers between (clear_each e.key (law_places head) (clear (key_of e) s)) n x e
     by None path is at rows read = absurd (let none : None ≡ Some (key_of e) = is in cc none)
     by (Some key) path is at rows read =
         let both : (c : InvalidatesRows (Some (key_of e)) path head p between) × WereReadOf (Some (key_of e)) path head p between c =
         subst (λ (o : Option Bytes). (c : InvalidatesRows o path head p between) × WereReadOf o path head p between c) is (rows, read) in
-        (at_site (take path (key_of e)) (ap (λ (m : ℕ). take m (key_of e)) at ∙ site_is e.key) both.0 both.1).left
+        at_site (take path (key_of e)) (ap (λ (m : ℕ). take m (key_of e)) at ∙ site_is e.key) both.0 both.1
 
 -- ---- all of it
 
@@ -200,7 +146,7 @@ passed_heads number name l peers p s shows n x e head rule new passed keyed pass
     first : IsLeft number name l peers passes.outdated.between (law_invalidated e head s) n x e
     first =
         subst (λ (t : State). IsLeft number name l peers passes.outdated.between t n x e) (sym (law_invalidated_is e head s))
-        (invalidated_out number name l peers p passes.outdated.between s n x e head (law_invalidates e head) (record { shows = shows; passed = passed }) keyed both.0 both.1)
+        (invalidated_with number name l peers p passes.outdated.between s n x e head (law_invalidates e head) (record { shows = shows; passed = passed }) keyed both.0 both.1)
 
     behind : IsLeft number name l peers (disproved x.exchange x.errand head passes.outdated.between) (law_disproved e head (law_invalidated e head s)) n x e
     behind = disproved_left number name l peers passes.outdated.between (law_invalidated e head s) n x e head first

@@ -21,9 +21,9 @@ use Rattle.pp_head.specs.Response.{Response}
 use Rattle.pp_heads_law.proofs.Ruled.{names, times}
 use Rattle.pp_law.specs.Connections.{exchange}
 use Rattle.pp_law.specs.Lists.{Bytes, is_some_with}
-use Rattle.pp_law.specs.OwnHeads.{key_of, known_version, may_refresh as law_may_refresh, names_version, not_modified as law_not_modified, nothing_to_come, refresh, renew, renew_row, settle_known, settle_on, settle_unchanged, tell, times_for as law_times, unchanged, use_body, useless, not_shared as law_not_shared}
-use Rattle.pp_law.specs.State.{State, Exchange, Instance as Known, Joining, Joins, Entry as KeptEntry}
-use Rattle.pp_law.specs.Table.{add_row, clear, enter, instance, mark_row, on_instance, row, row_on_disk, with_room}
+use Rattle.pp_law.specs.OwnHeads.{key_of, known_version, may_refresh as law_may_refresh, names_version, not_modified as law_not_modified, nothing_to_come, renew, renew_row, settle_known, settle_on, settle_unchanged, tell, times_for as law_times, unchanged, use_body, useless, not_shared as law_not_shared}
+use Rattle.pp_law.specs.State.{State, Exchange, Instance as Known, Joining, Joins}
+use Rattle.pp_law.specs.Table.{clear, instance, mark_row, on_instance, row}
 use Rattle.pp_objects.specs.Changes.{changed_in, marked, refreshed}
 use Rattle.pp_objects.specs.Instances.{Instance, fields_at, fields_of, id_of, in_slot, is_in_slot, is_life, is_row_of, is_there, row_of}
 use Rattle.pp_objects.specs.Kept.{has_room}
@@ -47,7 +47,7 @@ use Rattle.pp_valid.specs.Conditions.{names_other_tag}
 use Rattle.pp_valid.specs.declared.version.Version.{Version}
 use Rattle.pp_world.specs.declared.access.Source.TheVariants.{Checked}
 use Rattle.pp_answers_law.specs.Answers.{IsAnswered, Stands}
-use Rattle.pp_answers_law.specs.Settling.{HasRow, IsInMemory, NotModifiedAreTheLaws, RenewalsAreTheLaws}
+use Rattle.pp_answers_law.specs.Settling.{HasRow, NotModifiedAreTheLaws, RenewalsAreTheLaws}
 use Rattle.pp_answers_law.proofs.Dropped.{there_too}
 use Rattle.pp_answers_law.proofs.Joined.{joined, joins, row_known, row_shown, row_told}
 use Rattle.pp_answers_law.proofs.Standing.{stands_cleared}
@@ -142,16 +142,13 @@ stands_renewed s e y head at stands = stands
 
 -- ---- where there is room
 
-abbrev kept_fields : State → Bytes → List Field
-kept_fields s key = elim (row_on_disk s key) as (λ t. List Field) [ None ↦ [] | Some k ↦ k.fields ]
-
 may_same : (number : ℕ → ℕ) (name : Bytes) (l : Leaving) (peers : List Peer) (p : Parts) (s : State) → ShowsSteps number name l peers p s → (n : ℕ) (x : Entry) (e : Exchange) (head : Response) (i : Instance) (y : Known) → IsAnswered n p s x e → HasRow p s e i y
     → may_refresh (id_of i) head.fields (times_for x.errand head s.clock) p.cache ≡ law_may_refresh e head s
 may_same number name l peers p s shows n x e head i y answered has =
     ap (λ (b : Bool). b && has_room (fields_at i.slot p.cache.instances) head.fields (times_for x.errand head s.clock)) (row_there number p s i y shown)
     ∙ ap (λ (o : Option Instance). has_room (fields_of o) head.fields (times_for x.errand head s.clock)) shown.there
     ∙ ap₂ (λ (fields : List Field) (at : Times). has_room fields head.fields at) shown.fields (times number x e head (same_entry number name l peers p s shows n x e (there_too number name l peers p s shows n x e answered)) s)
-    ∙ sym (ap (λ (o : Option Known). has_room (elim o as (λ t. List Field) [ Some z ↦ z.fields | None ↦ kept_fields s (key_of e) ]) head.fields (law_times e head s)) has.there)
+    ∙ sym (ap (λ (o : Option Known). has_room (elim o as (λ t. List Field) [ Some z ↦ z.fields | None ↦ [] ]) head.fields (law_times e head s)) has.there)
   where
     shown : ShowsInstance number p.cache s i y
     shown = row_shown number name l peers p s shows e i y has
@@ -159,29 +156,15 @@ may_same number name l peers p s shows n x e head i y answered has =
 times_same : (number : ℕ → ℕ) (name : Bytes) (l : Leaving) (peers : List Peer) (p : Parts) (s : State) → ShowsSteps number name l peers p s → (n : ℕ) (x : Entry) (e : Exchange) (head : Response) → IsAnswered n p s x e → times_for x.errand head s.clock ≡ law_times e head s
 times_same number name l peers p s shows n x e head answered = times number x e head (same_entry number name l peers p s shows n x e (there_too number name l peers p s shows n x e answered)) s
 
-abbrev entered_by : Bytes → State → Option Known → State
-entered_by key s o = elim o as (λ t. State) [
-  | Some x ↦ s
-  | None ↦ elim (row_on_disk s key) as (λ t. State) [ None ↦ s | Some k ↦ add_row key k.version k.fields k.times true (with_room s) ]
-]
-
 abbrev renewed_row : Exchange → Response → State → State
 renewed_row e head s = elim (row s (key_of e)) as (λ t. State) [ None ↦ s | Some z ↦ renew z head (law_times e head s) s ]
-
-entered_same : (key : Bytes) (s : State) (y : Known) → row s key ≡ Some y → enter key true s ≡ s
-unfolding enter
-entered_same key s y is = ap (λ (o : Option Known). entered_by key s o) is
 
 row_renewed : (e : Exchange) (head : Response) (s : State) → renew_row e head s ≡ renewed_row e head s
 unfolding renew_row
 row_renewed e head s = refl
 
-refresh_is : (e : Exchange) (head : Response) (s : State) (y : Known) → row s (key_of e) ≡ Some y → refresh e head s ≡ renew y head (law_times e head s) s
-unfolding refresh
-refresh_is e head s y is =
-    ap (λ (t : State). renew_row e head t) (entered_same (key_of e) s y is)
-    ∙ row_renewed e head s
-    ∙ ap (λ (o : Option Known). elim o as (λ t. State) [ None ↦ s | Some z ↦ renew z head (law_times e head s) s ]) is
+renewed_is : (e : Exchange) (head : Response) (s : State) (y : Known) → row s (key_of e) ≡ Some y → renew_row e head s ≡ renew y head (law_times e head s) s
+renewed_is e head s y is = row_renewed e head s ∙ ap (λ (o : Option Known). elim o as (λ t. State) [ None ↦ s | Some z ↦ renew z head (law_times e head s) s ]) is
 
 -- ---- a response of its version
 
@@ -189,7 +172,7 @@ abbrev renewed_if : Entry → Response → Version → ObjectId → Parts → Ti
 renewed_if x head v id p at b = elim b as (λ t. Parts) [ true ↦ settled_on x.exchange x.errand head v id (in_memory (refreshed_at id head.fields at) p) | false ↦ made_useless x.exchange p ]
 
 abbrev known_if : Exchange → Response → Version → State → Bool → State
-known_if e head v s b = elim b as (λ t. State) [ true ↦ settle_on e head v (refresh e head s) | false ↦ useless e s ]
+known_if e head v s b = elim b as (λ t. State) [ true ↦ settle_on e head v (renew_row e head s) | false ↦ useless e s ]
 
 pub renewals : RenewalsAreTheLaws
 unfolding settle_known
@@ -209,7 +192,7 @@ renewals number name l peers p s shows n x e head v i y answered stands has =
 
     by : (b : Bool) → ShowsSteps number name l peers (noted_body n (renewed_if x head v (id_of i) p at b)) (known_if e head v s b)
     by true =
-        subst (λ (t : State). ShowsSteps number name l peers (noted_body n (settled_on x.exchange x.errand head v (id_of i) (in_memory (refreshed_at (id_of i) head.fields at) p))) (settle_on e head v t)) (sym (refresh_is e head s y has.there))
+        subst (λ (t : State). ShowsSteps number name l peers (noted_body n (settled_on x.exchange x.errand head v (id_of i) (in_memory (refreshed_at (id_of i) head.fields at) p))) (settle_on e head v t)) (sym (renewed_is e head s y has.there))
         (joins number name l peers (in_memory (refreshed_at (id_of i) head.fields at) p) (renew y head at s) then n x e head v (refreshed head.fields at i) found.known
         (answered_renewed n p s x e (id_of i) y head at answered) (stands_renewed s e y head at stands) found.has)
     by false = uselesses number name l peers p s shows n x e answered stands
@@ -220,7 +203,7 @@ abbrev checked_if : Entry → Response → ObjectId → Parts → Times → Bool
 checked_if x head id p at b = elim b as (λ t. Parts) [ true ↦ joining x.exchange (nothing_of id) Checked false (in_memory (refreshed_at id head.fields at) p) | false ↦ made_useless x.exchange p ]
 
 abbrev unchanged_if : Exchange → Response → State → Bool → State
-unchanged_if e head s b = elim b as (λ t. State) [ true ↦ settle_unchanged e (refresh e head s) | false ↦ useless e s ]
+unchanged_if e head s b = elim b as (λ t. State) [ true ↦ settle_unchanged e (renew_row e head s) | false ↦ useless e s ]
 
 abbrev on_unchanged : Exchange → State → Option Known → State
 on_unchanged e s o = elim o as (λ t. State) [ None ↦ s | Some z ↦ tell e (Joins z.id false) (use_body e (Joining (nothing_to_come z)) s) ]
@@ -251,28 +234,24 @@ checked number name l peers p s shows n x e head i y answered stands has =
 
     by : (b : Bool) → ShowsSteps number name l peers (noted_body n (checked_if x head (id_of i) p at b)) (unchanged_if e head s b)
     by true =
-        subst (λ (t : State). ShowsSteps number name l peers (noted_body n (joining x.exchange (nothing_of (id_of i)) Checked false (in_memory (refreshed_at (id_of i) head.fields at) p))) (settle_unchanged e t)) (sym (refresh_is e head s y has.there))
+        subst (λ (t : State). ShowsSteps number name l peers (noted_body n (joining x.exchange (nothing_of (id_of i)) Checked false (in_memory (refreshed_at (id_of i) head.fields at) p))) (settle_unchanged e t)) (sym (renewed_is e head s y has.there))
         (unchanged_joins number name l peers (in_memory (refreshed_at (id_of i) head.fields at) p) (renew y head at s) then n x e (refreshed head.fields at i) found.known
         (answered_renewed n p s x e (id_of i) y head at answered) (stands_renewed s e y head at stands) found.has)
     by false = uselesses number name l peers p s shows n x e answered stands
 
 -- ---- what a 304 says of the row
 
-abbrev known_by : State → Bytes → Option Known → Option Version
-known_by s key o = elim o as (λ t. Option Version) [ Some z ↦ Some z.version | None ↦ elim (row_on_disk s key) as (λ t. Option Version) [ None ↦ None | Some k ↦ Some k.version ] ]
-
 pub known_is : (s : State) (key : Bytes) (y : Known) → row s key ≡ Some y → known_version s key ≡ Some y.version
-known_is s key y is = ap (λ (o : Option Known). known_by s key o) is
+known_is s key y is = ap (λ (o : Option Known). option_map (λ (z : Known). z.version) o) is
 
-pub none_known : (s : State) (key : Bytes) → row s key ≡ None → row_on_disk s key ≡ None → known_version s key ≡ None
-none_known s key none neither =
-    ap (λ (o : Option Known). known_by s key o) none ∙ ap (λ (o : Option KeptEntry). elim o as (λ t. Option Version) [ None ↦ None | Some k ↦ Some k.version ]) neither
+pub none_known : (s : State) (key : Bytes) → row s key ≡ None → known_version s key ≡ None
+none_known s key none = ap (λ (o : Option Known). option_map (λ (z : Known). z.version) o) none
 
 -- by the version that is known of its key
 abbrev by_version : Exchange → Response → State → Option Version → State
 by_version e head s o = elim (is_some_with (λ v. names_other_tag head.fields v.tag) o) as (λ t. State) [
   | true ↦ useless e (clear (key_of e) s)
-  | false ↦ elim (is_some_with (names_version e) o && law_may_refresh e head s) as (λ t. State) [ true ↦ settle_unchanged e (refresh e head s) | false ↦ useless e s ]
+  | false ↦ elim (is_some_with (names_version e) o && law_may_refresh e head s) as (λ t. State) [ true ↦ settle_unchanged e (renew_row e head s) | false ↦ useless e s ]
 ]
 
 abbrev by_sharing : Exchange → Response → State → Bool → Option Version → State
@@ -317,7 +296,7 @@ module _ (number : ℕ → ℕ) (name : Bytes) (l : Leaving) (peers : List Peer)
   tag_if id b = elim b as (λ t. Parts) [ true ↦ refreshed_row x.exchange x.errand head id s.clock p | false ↦ made_useless x.exchange p ]
 
   abbrev law_tag_if : Bool → State
-  law_tag_if b = elim (b && law_may_refresh e head s) as (λ t. State) [ true ↦ settle_unchanged e (refresh e head s) | false ↦ useless e s ]
+  law_tag_if b = elim (b && law_may_refresh e head s) as (λ t. State) [ true ↦ settle_unchanged e (renew_row e head s) | false ↦ useless e s ]
 
   by_row : (i : Instance) (y : Known) → HasRow p s e i y → ShowsSteps number name l peers (noted_body n (row_said x head s.clock p (id_of i, i.version))) (by_version e head s (Some y.version))
   by_row i y has =
@@ -340,25 +319,25 @@ module _ (number : ℕ → ℕ) (name : Bytes) (l : Leaving) (peers : List Peer)
   abbrev known_said : Option Instance → Parts
   known_said u = elim (option_map {U = ObjectId × Version} (λ (i : Instance). (id_of i, i.version)) u) as (λ t. Parts) [ None ↦ made_useless x.exchange p | Some seen ↦ row_said x head s.clock p seen ]
 
-  known : (u : Option Instance) (w : Option Known) → row_of (key_of e) p.cache.instances ≡ u → row s (key_of e) ≡ w → AreBoth (ShowsInstance number p.cache s) u w → IsInMemory s (key_of e)
+  known : (u : Option Instance) (w : Option Known) → row_of (key_of e) p.cache.instances ≡ u → row s (key_of e) ≡ w → AreBoth (ShowsInstance number p.cache s) u w
       → ShowsSteps number name l peers (noted_body n (known_said u)) (by_version e head s (known_version s (key_of e)))
-  known None None a b both kept =
-      subst (λ (o : Option Version). ShowsSteps number name l peers (noted_body n (made_useless x.exchange p)) (by_version e head s o)) (sym (none_known s (key_of e) b (kept b))) (uselesses number name l peers p s shows n x e answered stands)
-  known None (Some y) a b both kept = absurd both
-  known (Some i) None a b both kept = absurd both
-  known (Some i) (Some y) a b both kept =
+  known None None a b both =
+      subst (λ (o : Option Version). ShowsSteps number name l peers (noted_body n (made_useless x.exchange p)) (by_version e head s o)) (sym (none_known s (key_of e) b)) (uselesses number name l peers p s shows n x e answered stands)
+  known None (Some y) a b both = absurd both
+  known (Some i) None a b both = absurd both
+  known (Some i) (Some y) a b both =
       subst (λ (o : Option Version). ShowsSteps number name l peers (noted_body n (row_said x head s.clock p (id_of i, i.version))) (by_version e head s o)) (sym (known_is s (key_of e) y b)) (by_row i y (record { here = a; there = b }))
 
-  shared : (b : Bool) → IsInMemory s (key_of e) → ShowsSteps number name l peers (noted_body n (said x head s.clock p b (row_in (key_of e) p.cache))) (by_sharing e head s b (known_version s (key_of e)))
-  shared true kept = known (row_of (key_of e) p.cache.instances) (row s (key_of e)) refl refl (rows_of number p.cache s shows.shows.table.table (key_of e)) kept
-  shared false kept = not_shareds number name l peers p s shows n x e answered stands
+  shared : (b : Bool) → ShowsSteps number name l peers (noted_body n (said x head s.clock p b (row_in (key_of e) p.cache))) (by_sharing e head s b (known_version s (key_of e)))
+  shared true = known (row_of (key_of e) p.cache.instances) (row s (key_of e)) refl refl (rows_of number p.cache s shows.shows.table.table (key_of e))
+  shared false = not_shareds number name l peers p s shows n x e answered stands
 
   row_same : row_for x.exchange.number p ≡ row_in (key_of e) p.cache
   row_same = ap (λ (o : Option (List ℕ)). option_and_then (λ key. row_in key p.cache) o) (key_is number name l peers p s shows n x e answered)
 
 pub not_modifieds : NotModifiedAreTheLaws
-not_modifieds number name l peers p s shows n x e head answered stands kept =
+not_modifieds number name l peers p s shows n x e head answered stands =
     subst (λ (t : State). ShowsSteps number name l peers (noted_body n (not_modified x.exchange x.errand head s.clock p)) t) (sym (law_is e head s))
     (subst (λ (q : Parts). ShowsSteps number name l peers (noted_body n q) (by_sharing e head s (may_store head.fields) (known_version s (key_of e))))
     (sym (said_is x head s.clock p (row_for x.exchange.number p) ∙ ap (λ (o : Option (ObjectId × Version)). said x head s.clock p (may_store head.fields) o) (row_same number name l peers p s shows n x e head answered stands)))
-    (shared number name l peers p s shows n x e head answered stands (may_store head.fields) kept))
+    (shared number name l peers p s shows n x e head answered stands (may_store head.fields)))

@@ -85,7 +85,7 @@ module _ (number : ℕ → ℕ) (name : Bytes) (l : Leaving) (peers : List Peer)
         subst (λ (u : State). ShowsSteps number name l peers new u) (sym (by_passed rule alone.aim))
         (subst (λ (q : Parts). ShowsSteps number name l peers q (through_head e head rule s)) (sym taken.noted)
         (throughs number name l peers (parts t) s at.shows n x e head rule taken.between
-        (record { answered = at.answered; through = through_so alone.aim; stands = at.stands; asks = at.asks; memory = at.memory; client = alone.client }) alone.places
+        (record { answered = at.answered; through = through_so alone.aim; stands = at.stands; asks = at.asks; client = alone.client }) alone.places
         (subst (λ (own : List ℕ). PassesHead own x.exchange x.errand head rule (parts t) taken.between) at.own_name
         (subst (λ (aim : SeatAim). TakesAim aim x.exchange x.errand head rule t taken.between) (its_passed x.exchange.aim (shown.aim ∙ alone.aim)) taken.taken))));
   }

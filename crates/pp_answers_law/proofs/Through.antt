@@ -6,10 +6,10 @@ use Rattle.pp_flow_law.specs.Tables.{Leaving}
 use Rattle.pp_framing.specs.declared.body.BodyRule.{BodyRule}
 use Rattle.pp_head.specs.Response.{Response}
 use Rattle.pp_heads_law.proofs.Ruled.{invalidated as invalidates_same}
-use Rattle.pp_law.specs.Lists.{Bytes, change, has_text}
+use Rattle.pp_law.specs.Lists.{Bytes}
 use Rattle.pp_law.specs.OwnHeads.{key_of, relay_head}
-use Rattle.pp_law.specs.State.{State, Entry as KeptEntry, Exchange}
-use Rattle.pp_law.specs.Table.{clear, displaced_by, is_entry_of, is_kept_row_of, swept}
+use Rattle.pp_law.specs.State.{State, Exchange}
+use Rattle.pp_law.specs.Table.{clear, swept}
 use Rattle.pp_law.specs.ThroughHeads.{clear_each, disproved as law_disproved, invalidated as law_invalidated, invalidates as law_invalidates, places_named as law_places, through_head}
 use Rattle.pp_peers.specs.declared.peers.Peer.{Peer}
 use Rattle.pp_seats_law.specs.Exchanges.{ShowsExchange}
@@ -20,7 +20,6 @@ use Rattle.pp_answers.specs.ThroughHeads.{ClearsEach, InvalidatesIf, Invalidates
 use Rattle.pp_steps_law.proofs.Charged.{same_entry}
 use Rattle.pp_steps_law.specs.Steps.{ShowsSteps}
 use Rattle.pp_answers_law.specs.Disproving.{GoesWithClient}
-use Rattle.pp_answers_law.specs.Settling.{IsInMemory}
 use Rattle.pp_answers_law.specs.Throughs.{IsPassed, ThroughHeadsAreTheLaws}
 use Rattle.pp_answers_law.proofs.Disproved.{disproved_same, disproveds, law_is as law_disproved_is}
 use Rattle.pp_answers_law.proofs.Dropped.{there_too}
@@ -29,31 +28,7 @@ use Rattle.pp_answers_law.proofs.Relayed.{relays}
 use Rattle.pp_answers_law.proofs.Standing.{stands_cleared}
 use Rattle.pp_answers_law.proofs.Useless.{answered_cleared, key_is, row_cleared}
 
--- ---- nothing of the key is kept behind it
-
-abbrev pub stale : KeptEntry → KeptEntry
-stale e = record e { is_stale = true }
-
-pub none_kept : (key : Bytes) (es : List KeptEntry) → find (is_kept_row_of key) (change (is_entry_of key) stale es) ≡ None
-none_kept key [] = refl
-none_kept key (e ∷ es) = by (bytes_eq e.key key) refl (none_kept key es)
-  where
-    not_it : (b c : Bool) → c ≡ false → (not b && c) ≡ false
-    not_it true c f = refl
-    not_it false c f = f
-
-    by : (b : Bool) → bytes_eq e.key key ≡ b → find (is_kept_row_of key) (change (is_entry_of key) stale es) ≡ None
-        → cond (is_kept_row_of key (elim b as (λ t. KeptEntry) [ true ↦ stale e | false ↦ e ])) (Some (elim b as (λ t. KeptEntry) [ true ↦ stale e | false ↦ e ])) (find (is_kept_row_of key) (change (is_entry_of key) stale es)) ≡ None
-    by true is rest = rest
-    by false is rest = ap (λ (b : Bool). cond b (Some e) (find (is_kept_row_of key) (change (is_entry_of key) stale es))) (not_it e.is_stale (bytes_eq e.key key) is) ∙ rest
-
-memory_cleared : (key : Bytes) (s : State) → IsInMemory (clear key s) key
-unfolding clear swept
-memory_cleared key s none = by (has_text key (displaced_by key s))
-  where
-    by : (b : Bool) → elim b as (λ t. Option KeptEntry) [ true ↦ None | false ↦ find (is_kept_row_of key) (change (is_entry_of key) stale s.entries) ] ≡ None
-    by true = refl
-    by false = none_kept key s.entries
+-- ---- the row of a key is cleared
 
 pub client_cleared : (key : Bytes) (s : State) (e : Exchange) → GoesWithClient s e → GoesWithClient (clear key s) e
 unfolding clear swept
@@ -65,7 +40,6 @@ passed_cleared p s n x e passed = record {
   through = passed.through;
   stands = stands_cleared e (key_of e) s passed.stands;
   asks = asks_cleared e (key_of e) s passed.asks;
-  memory = memory_cleared (key_of e) s;
   client = client_cleared (key_of e) s e passed.client;
 }
 
@@ -123,11 +97,11 @@ law_disproved_if e s b = elim b as (λ t. State) [ true ↦ clear (key_of e) s |
 pub disproved_left : (number : ℕ → ℕ) (name : Bytes) (l : Leaving) (peers : List Peer) (p : Parts) (s : State) (n : ℕ) (x : Entry) (e : Exchange) (head : Response) → IsLeft number name l peers p s n x e
     → IsLeft number name l peers (disproved x.exchange x.errand head p) (law_disproved e head s) n x e
 disproved_left number name l peers p s n x e head left = record {
-  shows = disproveds number name l peers p s left.shows n x e head left.passed.answered left.passed.through left.passed.stands left.passed.asks left.passed.memory left.passed.client;
+  shows = disproveds number name l peers p s left.shows n x e head left.passed.answered left.passed.through left.passed.stands left.passed.asks left.passed.client;
   passed =
       subst (λ (t : State). IsPassed (disproved x.exchange x.errand head p) t n x e) (sym (law_disproved_is e head s))
       (subst (λ (b : Bool). IsPassed (disproved_if x p (is_disproved x.exchange x.errand head p)) (law_disproved_if e s b) n x e)
-      (disproved_same number name l peers p s left.shows n x e head left.passed.answered left.passed.through left.passed.stands left.passed.asks left.passed.memory left.passed.client)
+      (disproved_same number name l peers p s left.shows n x e head left.passed.answered left.passed.through left.passed.stands left.passed.asks left.passed.client)
       (by (is_disproved x.exchange x.errand head p)));
 }
   where

@@ -3,7 +3,6 @@ use Rattle.std.specs.Prelude.{◌≡◌, ℕ, true, find, Some}
 use Rattle.pp_flow.specs.declared.entry.Entry.{Entry}
 use Rattle.pp_head.specs.Response.{Response}
 use Rattle.pp_law.specs.Connections.{is_client}
-use Rattle.pp_law.specs.OwnHeads.{key_of}
 use Rattle.pp_law.specs.Requests.{goes_alone}
 use Rattle.pp_law.specs.Stages.{is_through}
 use Rattle.pp_law.specs.State.{State, Client, Exchange}
@@ -12,7 +11,6 @@ use Rattle.pp_answers.specs.ThroughHeads.{disproved}
 use Rattle.pp_steps_law.specs.Charges.{IsFor}
 use Rattle.pp_steps_law.specs.Steps.{OfSteps, ShowsSteps}
 use Rattle.pp_answers_law.specs.Answers.{Asks, IsAnswered, Stands}
-use Rattle.pp_answers_law.specs.Settling.{IsInMemory}
 
 pub record HasClient (s : State) (e : Exchange) : Type 0 where
   pub number : ℕ
@@ -25,5 +23,5 @@ abbrev pub GoesWithClient : State → Exchange → Type 0
 GoesWithClient s e = goes_alone e.head ≡ true → HasClient s e
 
 abbrev pub DisprovedAreTheLaws : Type 0
-DisprovedAreTheLaws = OfSteps (λ number name l peers p s. (n : ℕ) (x : Entry) (e : Exchange) (head : Response) → IsAnswered n p s x e → is_through e ≡ true → IsFor s e Stands → IsFor s e (Asks e) → IsInMemory s (key_of e) → GoesWithClient s e
+DisprovedAreTheLaws = OfSteps (λ number name l peers p s. (n : ℕ) (x : Entry) (e : Exchange) (head : Response) → IsAnswered n p s x e → is_through e ≡ true → IsFor s e Stands → IsFor s e (Asks e) → GoesWithClient s e
     → ShowsSteps number name l peers (disproved x.exchange x.errand head p) (law_disproved e head s))

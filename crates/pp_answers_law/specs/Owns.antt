@@ -15,7 +15,6 @@ use Rattle.pp_steps_law.specs.Charges.{IsFor}
 use Rattle.pp_steps_law.specs.Steps.{ShowsSteps}
 use Rattle.pp_answers_law.specs.Answers.{Asks, IsAnswered, Stands}
 use Rattle.pp_answers_law.specs.Making.{MayMake}
-use Rattle.pp_answers_law.specs.Settling.{IsInMemory}
 
 -- the program's state shows the law's where the head comes; no key has more than 8,192 bytes
 pub record IsAtHead (number : ℕ → ℕ) (name : Bytes) (l : Leaving) (peers : List Peer) (t : Turn) (s : State) (n : ℕ) (x : Entry) (e : Exchange) : Type 0 where
@@ -25,7 +24,6 @@ pub record IsAtHead (number : ℕ → ℕ) (name : Bytes) (l : Leaving) (peers :
   pub answered : IsAnswered n (parts t) s x e
   pub stands : IsFor s e Stands
   pub asks : IsFor s e (Asks e)
-  pub memory : IsInMemory s (key_of e)
   pub may : MayMake (parts t) s
   pub key : length (key_of e) ≤ 8192
 

@@ -1,12 +1,11 @@
 -- What the head of a response to a Fetch or Validate, or to the ask of a follower, does to the row of its key (RFC 2616, sections 10.3.5 and
 -- 13.5; RFC 7233, section 4.1).
-use Rattle.std.specs.Prelude.{◌≡◌, ℕ, Some, None}
+use Rattle.std.specs.Prelude.{◌≡◌, ℕ, Some}
 use Rattle.pp_flow.specs.declared.entry.Entry.{Entry}
 use Rattle.pp_head.specs.Response.{Response}
-use Rattle.pp_law.specs.Lists.{Bytes}
 use Rattle.pp_law.specs.OwnHeads.{key_of, not_modified as law_not_modified, settle_known, settle_on}
 use Rattle.pp_law.specs.State.{State, Exchange, Instance as Known}
-use Rattle.pp_law.specs.Table.{row, row_on_disk}
+use Rattle.pp_law.specs.Table.{row}
 use Rattle.pp_objects.specs.Instances.{Instance, id_of, row_of}
 use Rattle.pp_state.specs.Ends.{Parts}
 use Rattle.pp_answers.specs.FinalHeads.{noted_body}
@@ -15,10 +14,6 @@ use Rattle.pp_steps_law.specs.Charges.{IsFor}
 use Rattle.pp_steps_law.specs.Steps.{OfSteps, ShowsSteps}
 use Rattle.pp_valid.specs.declared.version.Version.{Version}
 use Rattle.pp_answers_law.specs.Answers.{IsAnswered, Stands}
-
--- what is kept of a key came into memory before
-abbrev pub IsInMemory : State → Bytes → Type 0
-IsInMemory s key = row s key ≡ None → row_on_disk s key ≡ None
 
 -- the row of its key, in the program and in the law
 pub record HasRow (p : Parts) (s : State) (e : Exchange) (i : Instance) (y : Known) : Type 0 where
@@ -37,5 +32,5 @@ RenewalsAreTheLaws = OfSteps (λ number name l peers p s. (n : ℕ) (x : Entry) 
 
 -- "If a 304 response indicates an entity not currently cached, then the cache MUST disregard the response"
 abbrev pub NotModifiedAreTheLaws : Type 0
-NotModifiedAreTheLaws = OfSteps (λ number name l peers p s. (n : ℕ) (x : Entry) (e : Exchange) (head : Response) → IsAnswered n p s x e → IsFor s e Stands → IsInMemory s (key_of e)
+NotModifiedAreTheLaws = OfSteps (λ number name l peers p s. (n : ℕ) (x : Entry) (e : Exchange) (head : Response) → IsAnswered n p s x e → IsFor s e Stands
     → ShowsSteps number name l peers (noted_body n (not_modified x.exchange x.errand head s.clock p)) (law_not_modified e head s))

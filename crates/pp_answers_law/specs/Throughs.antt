@@ -3,7 +3,6 @@ use Rattle.std.specs.Prelude.{◌≡◌, ℕ, true, []}
 use Rattle.pp_flow.specs.declared.entry.Entry.{Entry}
 use Rattle.pp_framing.specs.declared.body.BodyRule.{BodyRule}
 use Rattle.pp_head.specs.Response.{Response}
-use Rattle.pp_law.specs.OwnHeads.{key_of}
 use Rattle.pp_law.specs.Stages.{is_through}
 use Rattle.pp_law.specs.State.{State, Exchange}
 use Rattle.pp_law.specs.ThroughHeads.{places_named, through_head}
@@ -13,7 +12,6 @@ use Rattle.pp_steps_law.specs.Charges.{IsFor}
 use Rattle.pp_steps_law.specs.Steps.{OfSteps, ShowsSteps}
 use Rattle.pp_answers_law.specs.Answers.{Asks, IsAnswered, Stands}
 use Rattle.pp_answers_law.specs.Disproving.{GoesWithClient}
-use Rattle.pp_answers_law.specs.Settling.{IsInMemory}
 
 -- an exchange that is passed, whose head comes
 pub record IsPassed (p : Parts) (s : State) (n : ℕ) (x : Entry) (e : Exchange) : Type 0 where
@@ -21,7 +19,6 @@ pub record IsPassed (p : Parts) (s : State) (n : ℕ) (x : Entry) (e : Exchange)
   pub through : is_through e ≡ true
   pub stands : IsFor s e Stands
   pub asks : IsFor s e (Asks e)
-  pub memory : IsInMemory s (key_of e)
   pub client : GoesWithClient s e
 
 abbrev pub ThroughHeadsAreTheLaws : Type 0

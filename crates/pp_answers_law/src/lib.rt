@@ -6,8 +6,8 @@
 //! a response to a Fetch or Validate is taken as the law takes it, where memory is refused for no row; and that of one that is passed, with the
 //! rows that it outdates. Not said: what a head to the ask of a follower costs where it is no use for that follower.
 //!
-//! To the layer above: each equation is the clause of a function that does nothing. By what a head is judged stands in `pp_heads_law`. A row that
-//! is kept of the exchange's key is in memory before.
+//! To the layer above: each equation is the clause of a function that does nothing. By what a head is judged stands in `pp_heads_law`; that a
+//! row which is kept of the exchange's key comes into memory before is for others.
 //!
 //! Takes no memory, and does nothing when the program runs.
 #![tactic(auto)]

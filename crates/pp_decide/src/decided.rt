@@ -60,10 +60,10 @@ fn decide_by_row(state: &State, seat: &Seat, head: &RequestHead<'_, '_>, key: &K
     let id = state.cache.current(key.text());
     let begun = begun_now(seat, id);
     let Some(id) = id else {
-        return decide(head, None, begun, state.now);
+        return pp_plan::decide(head, None, begun, state.now);
     };
     let Some(row) = state.cache.row(id) else {
-        return decide(head, None, begun, state.now);
+        return pp_plan::decide(head, None, begun, state.now);
     };
     let plan = PlanRow {
         version: row.version,
@@ -71,7 +71,7 @@ fn decide_by_row(state: &State, seat: &Seat, head: &RequestHead<'_, '_>, key: &K
         times: row.times,
         held: state.is_span_held(id, span(head, row.version)),
     };
-    decide(head, Some(&plan), begun, state.now)
+    pp_plan::decide(head, Some(&plan), begun, state.now)
 }
 
 fn fits(state: &State, head: &RequestHead<'_, '_>, key: &Key, kind: &Kind) -> bool

@@ -12,7 +12,7 @@ use pp_cache::Cache;
 use pp_client::Current;
 use pp_decide::{if_fits, may_share, shared_ask};
 use pp_head::RequestHead;
-use pp_plan::{Begun, PlanRow, span};
+use pp_plan::{Begun, PlanRow, decide, span};
 use pp_seats::{Brought, Key, Next, Seat, Stage};
 use pp_shelf::Shelf;
 use pp_state::State;

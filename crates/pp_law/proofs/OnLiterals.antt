@@ -14,10 +14,10 @@ use Rattle.pp_law.specs.Connections.{on_conn, on_exchange, on_client, on_client_
 use Rattle.pp_law.specs.Chunks.{use_chunk, drop_chunk, note_use}
 use Rattle.pp_law.specs.Table.{on_instance, forget, swept, clear, mark_row, forget_row, with_room, add_row, make_row, enter}
 use Rattle.pp_law.specs.Passing.{pour}
-use Rattle.pp_law.specs.OwnHeads.{tell, use_body, drop_answer, useless, renew, settle_on, renew_row, refresh, settle_known, settle, not_shared, settle_unchanged, unchanged, not_modified, cleared_by, relay_head, other_head, other_part, own_head, count_elsewhere, part_head, filling_head, note_own, note_sent, join, join_bound}
+use Rattle.pp_law.specs.OwnHeads.{tell, use_body, drop_answer, useless, renew, settle_on, renew_row, settle_known, settle, not_shared, settle_unchanged, unchanged, not_modified, cleared_by, relay_head, other_head, other_part, own_head, count_elsewhere, part_head, filling_head, note_own, note_sent, join, join_bound}
 use Rattle.pp_law.specs.ThroughHeads.{clear_named, clear_each, invalidated, disproved, through_head}
 use Rattle.pp_law.specs.Repairs.{begin_in_opening}
-use Rattle.pp_law.specs.Responses.{skip_body, close_this, finish, bad_response, bad_head, by_aim, end_if_empty, begin_answer, answer_for, head_came, deliver, got, finish_first, ended}
+use Rattle.pp_law.specs.Responses.{skip_body, close_this, finish, bad_response, bad_head, by_aim, end_if_empty, begin_answer, answer_for, bring_row, head_came, deliver, got, finish_first, ended}
 use Rattle.pp_law.specs.Unseen.{drop_on, drop_unseen}
 use Rattle.pp_law.specs.Closing.{forsake, leave, leave_one, close_client}
 use Rattle.pp_law.specs.Deciding.{refuse, add_exchange, begin_exchange, ask_for, ask_as, ask_origin, follow_with, follow_row, follow, relay, mark_row_of, enter_row, decided_by, decided}
@@ -40,8 +40,8 @@ unfolding clap_on_literals httpdate_on_literals pp_head_on_literals pp_target_on
     use_chunk drop_chunk note_use
     on_instance forget swept clear mark_row forget_row with_room add_row make_row enter
     pour
-    tell use_body drop_answer useless renew settle_on renew_row refresh settle_known settle not_shared settle_unchanged unchanged not_modified cleared_by relay_head other_head other_part own_head count_elsewhere part_head filling_head clear_named clear_each invalidated disproved through_head note_own note_sent join join_bound
-    skip_body close_this finish bad_response bad_head by_aim end_if_empty begin_answer answer_for head_came deliver got finish_first ended
+    tell use_body drop_answer useless renew settle_on renew_row settle_known settle not_shared settle_unchanged unchanged not_modified cleared_by relay_head other_head other_part own_head count_elsewhere part_head filling_head clear_named clear_each invalidated disproved through_head note_own note_sent join join_bound
+    skip_body close_this finish bad_response bad_head by_aim end_if_empty begin_answer answer_for bring_row head_came deliver got finish_first ended
     drop_on drop_unseen
     forsake leave leave_one close_client
     refuse add_exchange begin_exchange ask_for ask_as ask_origin follow_with follow_row follow relay mark_row_of enter_row decided_by decided

@@ -1,6 +1,6 @@
 -- What the head of a response to an exchange of the cache's own does to the row of its key (RFC 2616, sections 10.3.5 and 13.5;
 -- RFC 7233, sections 4.1 and 4.3; RFC 7234, section 4.3.3).
-use Rattle.std.specs.Prelude.{ℕ, ◌+◌, Bool, true, false, ◌==◌, ◌&&◌, ◌||◌, not, nat_eq, nat_lt, List, [], ◌∷◌, length, bytes_eq, is_some, codes, Option, Some, None}
+use Rattle.std.specs.Prelude.{ℕ, ◌+◌, Bool, true, false, ◌==◌, ◌&&◌, ◌||◌, not, nat_eq, nat_lt, List, [], ◌∷◌, length, bytes_eq, is_some, codes, Option, Some, None, option_map}
 use Rattle.std.specs.List.{list_any, starts_with}
 use Rattle.pp_fresh.specs.Age.{times_of}
 use Rattle.pp_fresh.specs.Guessing.{allows_guess}
@@ -26,7 +26,7 @@ use Rattle.pp_law.specs.Passing.{passed_by}
 use Rattle.pp_law.specs.Requests.{parsed_in}
 use Rattle.pp_law.specs.Stages.{is_begun, bound_of, is_own, is_through}
 use Rattle.pp_law.specs.State.{State, Answer, Through, Own, Filling, Bound, Body, Joining, Relaying, Dropping, Brought, Useless, Joins, Passes, TooWide, Client, Exchange, Instance, Sent}
-use Rattle.pp_law.specs.Table.{is_same_version, row, row_on_disk, instance, extent_of, on_instance, mark_row, make_row, enter, clear, Next, next_of, shown_span, is_provided}
+use Rattle.pp_law.specs.Table.{is_same_version, row, instance, extent_of, on_instance, mark_row, make_row, clear, Next, next_of, shown_span, is_provided}
 
 abbrev pub key_of : Exchange → Bytes
 key_of e = text_of e.key
@@ -117,22 +117,19 @@ settle_on e head v s = elim (row s (key_of e)) [
 unfoldable pub renew_row : Exchange → Response → State → State
 renew_row e head s = elim (row s (key_of e)) [ None ↦ s | Some x ↦ renew x head (times_for e head s) s ]
 
--- a kept row comes into memory for it
-unfoldable pub refresh : Exchange → Response → State → State
-refresh e head s = renew_row e head (enter (key_of e) true s)
-
+-- a kept row is in memory by then
 abbrev pub known_version : State → Bytes → Option Version
-known_version s key = elim (row s key) [ Some x ↦ Some x.version | None ↦ elim (row_on_disk s key) [ None ↦ None | Some k ↦ Some k.version ] ]
+known_version s key = option_map (λ x. x.version) (row s key)
 
 abbrev pub known_fields : State → Bytes → List Field
-known_fields s key = elim (row s key) [ Some x ↦ x.fields | None ↦ elim (row_on_disk s key) [ None ↦ [] | Some k ↦ k.fields ] ]
+known_fields s key = elim (row s key) [ Some x ↦ x.fields | None ↦ [] ]
 
 -- what it would take over has room in the row
 abbrev pub may_refresh : Exchange → Response → State → Bool
 may_refresh e head s = has_room (known_fields s (key_of e)) head.fields (times_for e head s)
 
 unfoldable pub settle_known : Exchange → Response → Version → State → State
-settle_known e head v s = elim (may_refresh e head s) [ true ↦ settle_on e head v (refresh e head s) | false ↦ useless e s ]
+settle_known e head v s = elim (may_refresh e head s) [ true ↦ settle_on e head v (renew_row e head s) | false ↦ useless e s ]
 
 -- the tag that its ask names
 abbrev pub names_version : Exchange → Version → Bool
@@ -171,7 +168,7 @@ settle_unchanged e s = elim (row s (key_of e)) [ None ↦ s | Some x ↦ tell e 
 -- it has to name the version of the row
 unfoldable pub unchanged : Exchange → Response → State → State
 unchanged e head s = elim (is_some_with (names_version e) (known_version s (key_of e)) && may_refresh e head s) [
-  | true ↦ settle_unchanged e (refresh e head s)
+  | true ↦ settle_unchanged e (renew_row e head s)
   | false ↦ useless e s
 ]
 

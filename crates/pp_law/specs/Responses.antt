@@ -1,5 +1,5 @@
 -- Responses on a connection, in the order of its line, and what becomes of their bytes (RFC 2616, sections 4.4, 6, 8.1 and 10.1).
-use Rattle.std.specs.Prelude.{ℕ, zero, suc, ◌+◌, ◌-◌, Bool, true, false, ◌==◌, ◌&&◌, ◌||◌, not, [], ◌++◌, length, drop, Some, None, Ok, Err}
+use Rattle.std.specs.Prelude.{ℕ, zero, suc, ◌+◌, ◌-◌, Bool, true, false, ◌==◌, ◌&&◌, ◌||◌, not, [], ◌++◌, length, drop, is_ok, Some, None, Ok, Err}
 use Rattle.pp_framing.specs.Body.{Done, Going, Bad}
 use Rattle.pp_framing.specs.Framing.{rule_of}
 use Rattle.pp_framing.specs.Rules.{body_of, ending_in}
@@ -15,10 +15,11 @@ use Rattle.pp_pipe.specs.Authentication.{binds_connection}
 use Rattle.pp_pipe.specs.Front.{is_interim, stays_open}
 use Rattle.pp_law.specs.Connections.{conn, on_conn, on_client_of, front_of_line, is_outstanding, fail, lose_attempt, end_exchange, close_conn}
 use Rattle.pp_law.specs.Lists.{Bytes, is_some_with}
-use Rattle.pp_law.specs.OwnHeads.{version_in, is_wrong_head, own_head, filling_head, note_sent, join_bound}
+use Rattle.pp_law.specs.OwnHeads.{key_of, version_in, is_wrong_head, own_head, filling_head, note_sent, join_bound}
 use Rattle.pp_law.specs.Passing.{pour, poured}
 use Rattle.pp_law.specs.ThroughHeads.{through_head}
 use Rattle.pp_law.specs.State.{State, Through, Own, Filling, Answer, Client, Conn, Exchange}
+use Rattle.pp_law.specs.Table.{enter}
 
 -- ---- ends
 
@@ -91,9 +92,17 @@ answer_for k e head s = elim (is_wrong_head e head) [
   | false ↦ elim (rule_of (asks_head e) head.status head.fields) [ Ok rule ↦ begin_answer k e head rule s | Err fault ↦ bad_head k s ]
 ]
 
+-- it is read on: ours, 101 would leave HTTP; and how its body ends is known
+abbrev pub is_readable : Exchange → Response → Bool
+is_readable e head = not (head.status == 101) && is_ok (rule_of (asks_head e) head.status head.fields)
+
+-- ours: what is read on is read beside the row of its key; a kept one comes into memory for it
+unfoldable pub bring_row : Exchange → Response → State → State
+bring_row e head s = elim (is_readable e head) [ true ↦ enter (key_of e) true s | false ↦ s ]
+
 -- a final head came: it belongs to the first exchange of the line
 unfoldable pub head_came : Conn → Response → State → State
-head_came k head s = elim (front_of_line s k) [ None ↦ close_conn false k s | Some e ↦ answer_for k e head s ]
+head_came k head s = elim (front_of_line s k) [ None ↦ close_conn false k s | Some e ↦ answer_for k e head (bring_row e head s) ]
 
 -- ---- bytes
 

@@ -1,11 +1,11 @@
 -- The row of a key after rows were changed, left memory or came into it.
-use Rattle.std.proofs.Common.{◌≡◌, ◌⊎◌, refl, ℕ, nat_lt, Bool, true, false, not, List, [], ◌∷◌, filter, find, cond, Option, Some, None, inl, inr, sym, ap, ◌∙◌}
+use Rattle.std.proofs.Common.{◌≡◌, ◌⊎◌, refl, ℕ, nat_lt, Bool, true, false, not, List, [], ◌∷◌, filter, find, cond, Option, Some, None, inl, inr, sym, ap, ◌∙◌, option_map}
 use Rattle.pp_fresh.specs.declared.aging.Times.{Times}
 use Rattle.pp_head.specs.Response.{Response}
 use Rattle.pp_text.specs.Fields.{Field}
 use Rattle.pp_valid.specs.declared.version.Version.{Version}
 use Rattle.pp_law.specs.Lists.{Bytes, change, is_some_with}
-use Rattle.pp_law.specs.OwnHeads.{key_of, renewed, renew, renew_row, refresh, times_for, known_version}
+use Rattle.pp_law.specs.OwnHeads.{key_of, renewed, renew, renew_row, times_for, known_version}
 use Rattle.pp_law.specs.State.{State, Exchange, Instance, Entry}
 use Rattle.pp_law.specs.Table.{is_same_version, is_instance, is_row_of, is_left_over, row, rows, row_on_disk, idle_row, on_instance, forget, swept, clear, mark_row, forget_row, with_room, add_row, make_row, enter}
 use Rattle.pp_laws.specs.Runs.{IsIn}
@@ -105,17 +105,13 @@ known_row key v s h y found known x i is =
     there : IsIn y s.instances × (is_row_of key y ≡ true)
     there = in_find (is_row_of key) y s.instances found
 
-entered_by : {b : Since} (key : Bytes) (v : Version) (is_new : Bool) (s : State) → FactsOf b s → (found : Option Instance) (kept : Option Entry) → row s key ≡ found
-    → is_some_with (is_same_version v) (elim found as (λ c. Option Version) [ Some x ↦ Some x.version | None ↦ elim kept as (λ c. Option Version) [ None ↦ None | Some k ↦ Some k.version ] ]) ≡ true
-    → RowIs key v (elim found as (λ c. State) [ Some x ↦ s | None ↦ elim kept as (λ c. State) [ None ↦ s | Some e ↦ add_row key e.version e.fields e.times is_new (with_room s) ] ])
-entered_by key v is_new s h (Some y) kept found known x i is = known_row key v s h y found known x i is
-entered_by key v is_new s h None None none known x i is = absurd (cc known)
-entered_by key v is_new s h None (Some k) none known x i is =
-    add_row-is key k.version k.fields k.times is_new (with_room s) (with_room-no_row key s none) x i is ∙ sym (same_version v k.version known)
-
-enter-is : {b : Since} (key : Bytes) (v : Version) (is_new : Bool) (s : State) → FactsOf b s → is_some_with (is_same_version v) (known_version s key) ≡ true → RowIs key v (enter key is_new s)
-unfolding enter
-enter-is key v is_new s h known = entered_by key v is_new s h (row s key) (row_on_disk s key) refl known
+-- where it is known to be of a version
+known-is : {b : Since} (key : Bytes) (v : Version) (s : State) → FactsOf b s → is_some_with (is_same_version v) (known_version s key) ≡ true → RowIs key v s
+known-is key v s h known = by (row s key) refl known
+  where
+    by : (o : Option Instance) → row s key ≡ o → is_some_with (is_same_version v) (option_map (λ (x : Instance). x.version) o) ≡ true → RowIs key v s
+    by None none at = absurd (cc at)
+    by (Some y) found at = known_row key v s h y found at
 
 on_instance-is : (key : Bytes) (v : Version) (id : ℕ) (f : Instance → Instance) (s : State) → ((x : Instance) → is_row_of key (f x) ≡ is_row_of key x) → ((x : Instance) → (f x).version ≡ x.version) → RowIs key v s → RowIs key v (on_instance id f s)
 unfolding on_instance
@@ -141,6 +137,5 @@ renew_row-is : (e : Exchange) (head : Response) (key : Bytes) (v : Version) (s :
 unfolding renew_row
 renew_row-is e head key v s is = is_each key v (row s (key_of e)) _ _ is (λ x. renew-is key v x head (times_for e head s) s is)
 
-pub refresh-is : {b : Since} (e : Exchange) (head : Response) (v : Version) (s : State) → FactsOf b s → is_some_with (is_same_version v) (known_version s (key_of e)) ≡ true → RowIs (key_of e) v (refresh e head s)
-unfolding refresh
-refresh-is e head v s h known = renew_row-is e head (key_of e) v (enter (key_of e) true s) (enter-is (key_of e) v true s h known)
+pub renew_row-knows : {b : Since} (e : Exchange) (head : Response) (v : Version) (s : State) → FactsOf b s → is_some_with (is_same_version v) (known_version s (key_of e)) ≡ true → RowIs (key_of e) v (renew_row e head s)
+renew_row-knows e head v s h known = renew_row-is e head (key_of e) v s (known-is (key_of e) v s h known)

@@ -11,9 +11,9 @@ use Rattle.pp_text.specs.Fields.{has_field}
 use Rattle.pp_valid.specs.declared.version.Version.{Version}
 use Rattle.pp_law.specs.Connections.{exchange, is_for, attempts_of, lost_one, without_shared_row, lose_attempt}
 use Rattle.pp_law.specs.Lists.{Bytes, is_some_with}
-use Rattle.pp_law.specs.OwnHeads.{key_of, first_offset, span_to_come, is_asked_by, tell, useless, times_for, renewed, renew, settle_on, renew_row, refresh, may_refresh, settle_known, known_version, settle, names_version, nothing_to_come, settle_unchanged, not_modified, not_shared, clears_row, cleared_by, is_widened, relay_head, other_head, other_part, own_head, is_bound, lacks_next, count_elsewhere, part_head, filling_head, drop_answer, use_body, version_in, forbids_sharing, is_private_part, unchanged, is_of_another, is_full_answer, may_join}
+use Rattle.pp_law.specs.OwnHeads.{key_of, first_offset, span_to_come, is_asked_by, tell, useless, times_for, renewed, renew, settle_on, renew_row, may_refresh, settle_known, known_version, settle, names_version, nothing_to_come, settle_unchanged, not_modified, not_shared, clears_row, cleared_by, is_widened, relay_head, other_head, other_part, own_head, is_bound, lacks_next, count_elsewhere, part_head, filling_head, drop_answer, use_body, version_in, forbids_sharing, is_private_part, unchanged, is_of_another, is_full_answer, may_join}
 use Rattle.pp_law.specs.Passing.{passed_by}
-use Rattle.pp_law.specs.Responses.{answer_with, by_aim, payload_of}
+use Rattle.pp_law.specs.Responses.{answer_with, by_aim, payload_of, bring_row, is_readable}
 use Rattle.pp_law.specs.State.{State, Answer, Body, Joining, Relaying, Dropping, Brought, Useless, Joins, Passes, TooWide, Exchange, Instance}
 use Rattle.pp_law.specs.Table.{is_same_version, is_row_of, row, clear, enter}
 use Rattle.pp_law.specs.ThroughHeads.{invalidates, key_named, is_same_host, clear_named, clear_each, places_named, invalidated, disproves, reads, disproved, through_head}
@@ -22,14 +22,14 @@ use Rattle.pp_laws.proofs.Binding.{Before, Behind, BindsTo, before_on, behind_ai
 use Rattle.pp_laws.proofs.Callers.{same_parts}
 use Rattle.pp_laws.proofs.Cases.{each_of, when}
 use Rattle.pp_laws.proofs.Exchanges.{without_shared_row-by}
-use Rattle.pp_laws.proofs.Finds.{RowIs, make_row-is, refresh-is}
+use Rattle.pp_laws.proofs.Finds.{RowIs, make_row-is, renew_row-knows}
 use Rattle.pp_laws.proofs.KeptClients.{clients_changed}
 use Rattle.pp_laws.proofs.Lists.{in_find, the_one}
 use Rattle.pp_laws.proofs.Payloads.{payload-nothing}
 use Rattle.pp_laws.proofs.Rows.{clear-sound, enter-sound, make_row-sound, mark_row-sound, on_instance-sound}
 use Rattle.pp_laws.proofs.Sound.{FactsOf, Fitting, Since, Sound, facts_of, instance_id, is_noted, sound}
 use Rattle.pp_laws.proofs.Tests.{first_holds, same_bytes, second_holds}
-use Rattle.pp_laws.proofs.Untouched.{clear-untouched, cleared_by-untouched, disproved-untouched, invalidated-untouched, make_row-untouched, refresh-untouched}
+use Rattle.pp_laws.proofs.Untouched.{clear-untouched, cleared_by-untouched, disproved-untouched, invalidated-untouched, make_row-untouched, renew_row-untouched}
 
 -- ---- the same, and what is sound
 
@@ -41,9 +41,9 @@ renew_row-sound : {b : Since} (e : Exchange) (head : Response) (s : State) → S
 unfolding renew_row
 renew_row-sound e head s h = each_of (row s (key_of e)) h (λ x. renew-sound x head (times_for e head s) s h)
 
-refresh-sound : {b : Since} (e : Exchange) (head : Response) (s : State) → Sound b s → Sound b (refresh e head s)
-unfolding refresh
-refresh-sound e head s h = renew_row-sound e head (enter (key_of e) true s) (enter-sound (key_of e) true s h)
+pub bring_row-sound : {b : Since} (e : Exchange) (head : Response) (s : State) → Sound b s → Sound b (bring_row e head s)
+unfolding bring_row
+bring_row-sound e head s h = when (is_readable e head) (enter-sound (key_of e) true s h) h
 
 cleared_by-sound : {b : Since} (head : Response) (e : Exchange) (s : State) → Sound b s → Sound b (cleared_by head e s)
 unfolding cleared_by
@@ -122,8 +122,8 @@ settle_known-behind : {b : Since} (e : Exchange) (head : Response) (rule : BodyR
 unfolding settle_known
 settle_known-behind e head rule v s noted version known p =
     behind_when (may_refresh e head s)
-    (λ may. behind_on s _ _ (refresh-untouched e head s)
-    (settle_on-behind e head rule v _ noted version (refresh-is e head v s (facts_of p.is_sound) known) (before_on s _ (refresh-untouched e head s) (refresh-sound e head s p.is_sound) p)))
+    (λ may. behind_on s _ _ (renew_row-untouched e head s)
+    (settle_on-behind e head rule v _ noted version (renew_row-knows e head v s (facts_of p.is_sound) known) (before_on s _ (renew_row-untouched e head s) (renew_row-sound e head s p.is_sound) p)))
     (λ isnt. useless-behind (fresh e head rule) e s p)
 
 -- what may join is of the version
@@ -160,7 +160,7 @@ unchanged-behind : {b : Since} (e : Exchange) (head : Response) (rule : BodyRule
 unfolding unchanged
 unchanged-behind e head rule s noted empty p =
     behind_when (is_some_with (names_version e) (known_version s (key_of e)) && may_refresh e head s)
-    (λ is. behind_on s _ _ (refresh-untouched e head s) (settle_unchanged-behind e head rule _ noted empty (before_on s _ (refresh-untouched e head s) (refresh-sound e head s p.is_sound) p)))
+    (λ is. behind_on s _ _ (renew_row-untouched e head s) (settle_unchanged-behind e head rule _ noted empty (before_on s _ (renew_row-untouched e head s) (renew_row-sound e head s p.is_sound) p)))
     (λ isnt. useless-behind (fresh e head rule) e s p)
 
 before_clear : {b : Since} (e : Exchange) (s : State) → Before b e s → Before b e (clear (key_of e) s)

@@ -12,7 +12,7 @@ use Rattle.pp_text.specs.Bytes.{is_empty}
 use Rattle.pp_law.specs.Connections.{conn, exchange, is_conn, is_exchange, on_conn, front_of_line, close_conn}
 use Rattle.pp_law.specs.Lists.{Bytes, change}
 use Rattle.pp_law.specs.OwnHeads.{is_wrong_head}
-use Rattle.pp_law.specs.Responses.{finish, bad_response, bad_head, asks_head, begin_answer, answer_for, head_came, Piece, is_early, with_unread, head_piece, body_piece_of, body_piece, next_piece, got, is_whole_at_end, finish_first, ended}
+use Rattle.pp_law.specs.Responses.{finish, bad_response, bad_head, asks_head, begin_answer, answer_for, head_came, Piece, is_early, with_unread, head_piece, body_piece_of, body_piece, next_piece, got, is_whole_at_end, finish_first, ended, bring_row}
 use Rattle.pp_law.specs.Stages.{bound_of}
 use Rattle.pp_law.specs.State.{State, Answer, Bound, Conn, Exchange}
 use Rattle.pp_laws.specs.Runs.{IsIn}
@@ -23,10 +23,12 @@ use Rattle.pp_laws.proofs.Cases.{each_of, each_so, when}
 use Rattle.pp_laws.proofs.Closings.{IsOwnLine, close_conn-sound, own_line, own_line_shrunk}
 use Rattle.pp_laws.proofs.Deliveries.{IsFitting, behind_bytes, deliver-behind}
 use Rattle.pp_laws.proofs.Exchanges.{lose_attempt-sound, on_conn-sound}
+use Rattle.pp_laws.proofs.Heads.{bring_row-sound}
 use Rattle.pp_laws.proofs.Lists.{in_find}
 use Rattle.pp_laws.proofs.Shrinks.{Shrinks, lose_attempt-shrinks}
 use Rattle.pp_laws.proofs.Sound.{Brings, Fitting, Since, Sound, facts_of, first_of, sound}
 use Rattle.pp_laws.proofs.Tests.{same_number}
+use Rattle.pp_laws.proofs.Untouched.{bring_row-untouched, same_front}
 
 -- ---- the exchange whose response comes next
 
@@ -61,7 +63,10 @@ answer_for-sound {b} k e head s none there no_answer front h =
 head_came-sound : {b : Since} (k : Conn) (head : Response) (s : State) → b.excepts ≡ None → IsIn k s.conns → k.answer ≡ None → Sound b s → Sound b (head_came k head s)
 unfolding head_came
 head_came-sound k head s none there no_answer h =
-    each_so (front_of_line s k) (λ isnt. close_conn-sound false k s (own_line k s there h) h) (λ e front. answer_for-sound k e head s none there no_answer front h)
+    each_so (front_of_line s k) (λ isnt. close_conn-sound false k s (own_line k s there h) h)
+    (λ e front.
+    let u = bring_row-untouched e head s in
+    answer_for-sound k e head _ none (subst (λ ks. IsIn k ks) (sym u.conns) there) no_answer (same_front k u ∙ front) (bring_row-sound e head s h))
 
 piece_when : {b : Since} (t : Bool) (p q : Piece) → Sound b p.state → Sound b q.state → Sound b (elim t as (λ c. Piece) [ true ↦ p | false ↦ q ]).state
 piece_when true p q hp hq = hp

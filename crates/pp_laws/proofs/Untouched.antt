@@ -1,15 +1,16 @@
 -- What is done to rows and clients leaves connections and exchanges as they are.
-use Rattle.std.proofs.Common.{◌≡◌, refl, ℕ, Bool, true, false, ◌&&◌, List, [], ◌∷◌, Option, Some, None, ◌∙◌}
+use Rattle.std.proofs.Common.{◌≡◌, refl, ℕ, Bool, true, false, ◌&&◌, List, [], ◌∷◌, find, Option, Some, None, ap, ◌∙◌}
 use Rattle.std.specs.Prelude.{nat_lt}
 use Rattle.pp_fresh.specs.declared.aging.Times.{Times}
 use Rattle.pp_head.specs.Response.{Response}
 use Rattle.pp_target.specs.Key.{Key, text_of}
 use Rattle.pp_text.specs.Fields.{Field}
 use Rattle.pp_valid.specs.declared.version.Version.{Version}
-use Rattle.pp_law.specs.Connections.{on_client_of}
+use Rattle.pp_law.specs.Connections.{front_of_line, is_exchange, on_client_of}
 use Rattle.pp_law.specs.Lists.{Bytes, is_some_with}
-use Rattle.pp_law.specs.OwnHeads.{key_of, times_for, renewed, renew, renew_row, refresh, known_version, clears_row, cleared_by}
-use Rattle.pp_law.specs.State.{State, Aim, Through, Own, Filling, Client, Exchange, Instance}
+use Rattle.pp_law.specs.OwnHeads.{key_of, times_for, renewed, renew, renew_row, known_version, clears_row, cleared_by}
+use Rattle.pp_law.specs.Responses.{bring_row, is_readable}
+use Rattle.pp_law.specs.State.{State, Aim, Through, Own, Filling, Client, Conn, Exchange, Instance}
 use Rattle.pp_law.specs.Table.{row, rows, row_on_disk, idle_row, on_instance, forget, swept, clear, mark_row, forget_row, with_room, add_row, make_row, enter}
 use Rattle.pp_law.specs.ThroughHeads.{invalidates, key_named, is_same_host, clear_named, clear_each, places_named, invalidated, disproves, reads, disproved}
 
@@ -84,13 +85,41 @@ renew-untouched : (x : Instance) (head : Response) (times : Times) (s : State) �
 unfolding renew
 renew-untouched x head times s = untouched_on s _ _ (on_instance-untouched x.id (renewed head times) s) (mark_row-untouched x.id _)
 
-renew_row-untouched : (e : Exchange) (head : Response) (s : State) → Untouched s (renew_row e head s)
+pub renew_row-untouched : (e : Exchange) (head : Response) (s : State) → Untouched s (renew_row e head s)
 unfolding renew_row
 renew_row-untouched e head s = untouched_each s (row s (key_of e)) (untouched s) (λ x. renew-untouched x head (times_for e head s) s)
 
-pub refresh-untouched : (e : Exchange) (head : Response) (s : State) → Untouched s (refresh e head s)
-unfolding refresh
-refresh-untouched e head s = untouched_on s _ _ (enter-untouched (key_of e) true s) (renew_row-untouched e head _)
+pub bring_row-untouched : (e : Exchange) (head : Response) (s : State) → Untouched s (bring_row e head s)
+unfolding bring_row
+bring_row-untouched e head s = untouched_when s (is_readable e head) (enter-untouched (key_of e) true s) (untouched s)
+
+next_when : (n : ℕ) (t : Bool) (x y : State) → x.next_exchange ≡ n → y.next_exchange ≡ n → (elim t as (λ c. State) [ true ↦ x | false ↦ y ]).next_exchange ≡ n
+next_when n true x y hx hy = hx
+next_when n false x y hx hy = hy
+
+next_each : {A : Type 0} (n : ℕ) (o : Option A) (x : State) (y : A → State) → x.next_exchange ≡ n → ((a : A) → (y a).next_exchange ≡ n) → (elim o as (λ c. State) [ None ↦ x | Some a ↦ y a ]).next_exchange ≡ n
+next_each n None x y hx hy = hx
+next_each n (Some a) x y hx hy = hy a
+
+forget_row-next : (x : Instance) (s : State) → (forget_row x s).next_exchange ≡ s.next_exchange
+unfolding forget_row forget
+forget_row-next x s = refl
+
+with_room-next : (s : State) → (with_room s).next_exchange ≡ s.next_exchange
+unfolding with_room
+with_room-next s = next_when s.next_exchange (nat_lt (rows s) 1024) _ _ refl (next_each s.next_exchange (idle_row s) _ _ refl (λ x. forget_row-next x s))
+
+enter-next : (key : Bytes) (is_new : Bool) (s : State) → (enter key is_new s).next_exchange ≡ s.next_exchange
+unfolding enter add_row
+enter-next key is_new s = next_each s.next_exchange (row s key) _ _ (next_each s.next_exchange (row_on_disk s key) _ _ refl (λ e. with_room-next s)) (λ x. refl)
+
+pub bring_row-next : (e : Exchange) (head : Response) (s : State) → (bring_row e head s).next_exchange ≡ s.next_exchange
+unfolding bring_row
+bring_row-next e head s = next_when s.next_exchange (is_readable e head) _ _ (enter-next (key_of e) true s) refl
+
+-- so the first of a line is the same exchange
+pub same_front : {s t : State} (k : Conn) → Untouched s t → front_of_line t k ≡ front_of_line s k
+same_front k u = ap (λ (es : List Exchange). elim k.line as (λ c. Option Exchange) [ [] ↦ None | n ∷ line ↦ find (is_exchange n) es ]) u.exchanges
 
 pub cleared_by-untouched : (head : Response) (e : Exchange) (s : State) → Untouched s (cleared_by head e s)
 unfolding cleared_by

@@ -32,7 +32,7 @@ use Rattle.pp_law.specs.Passing.{poured}
 use Rattle.pp_law.specs.Permits.{is_new_number, is_permitted, IsPermitted, permits, may_open}
 use Rattle.pp_law.specs.Phases.{phases, in_phase, is_awaiting, is_done, behind, next, come, come_to, come_to_decide, decides, deciding, due_victim, ending}
 use Rattle.pp_law.specs.Replies.{end_replies, said_by}
-use Rattle.pp_law.specs.Responses.{bad_head, bad_response, finish, asks_head, answer_with, end_if_empty, begin_answer, answer_for, head_came, Piece, is_early, with_unread, head_piece, deliver, payload_of, body_piece_of, body_piece, next_piece, got}
+use Rattle.pp_law.specs.Responses.{bad_head, bad_response, finish, asks_head, answer_with, end_if_empty, begin_answer, answer_for, head_came, Piece, is_early, with_unread, head_piece, deliver, payload_of, body_piece_of, body_piece, next_piece, got, bring_row}
 use Rattle.pp_law.specs.Served.{accepts}
 use Rattle.pp_law.specs.Stages.{bound_of}
 use Rattle.pp_law.specs.State.{State, Term, start, RowRefused, Phase, Before, IsWoken, IsConfigured, IsRooted, IsListed, IsListening, IsStuck, Awaiting, Handling, Evicting, Keeping, Deciding, Following, Connecting, DecidingAgain, Owed, Free, ReadOf, WriteTo, Joining, Answer, Bound, Client, Conn, Exchange, Instance}
@@ -51,7 +51,7 @@ use Rattle.pp_laws_pool.proofs.WalkClients.{ask-keeps, begin_replies-keeps, clos
 use Rattle.pp_laws_pool.proofs.WalkClosings.{close_conn-keeps}
 use Rattle.pp_laws_pool.proofs.WalkDisk.{begin_in_opening-keeps, begin_in_turn-keeps, close_name-keeps, end_op-keeps, lose_in_opening-keeps, note_gone-keeps, note_kept-keeps}
 use Rattle.pp_laws_pool.proofs.WalkExchanges.{clients_changed-keeps, exchanges_changed-keeps, end_exchange-keeps, lose_attempt-keeps, on_client-keeps, on_conn-keeps, on_exchange-keeps, same_ask}
-use Rattle.pp_laws_pool.proofs.WalkHeads.{by_aim-keeps}
+use Rattle.pp_laws_pool.proofs.WalkHeads.{bring_row-keeps, by_aim-keeps}
 use Rattle.pp_laws_pool.proofs.WalkPieces.{bad_head-keeps, bad_response-keeps, ended-keeps, finish-keeps}
 use Rattle.pp_laws_pool.proofs.WalkRows.{drop_chunk-keeps, forget-keeps}
 use Rattle.pp_laws_pool.proofs.WalkSteps.{drop_unseen-keeps, placing-keeps, rested-keeps, tick-keeps, touch-keeps}
@@ -75,7 +75,7 @@ answer_for-asks k e head s h = when (is_wrong_head e head) (bad_head-keeps asks_
 
 head_came-asks : (k : Conn) (head : Response) (s : State) → Holds Asks s → Holds Asks (head_came k head s)
 unfolding head_came
-head_came-asks k head s h = each_so (front_of_line s k) (λ none. close_conn-keeps asks_walk false k s h) (λ e first. answer_for-asks k e head s h)
+head_came-asks k head s h = each_so (front_of_line s k) (λ none. close_conn-keeps asks_walk false k s h) (λ e first. answer_for-asks k e head _ (bring_row-keeps asks_walk e head s h))
 
 piece_when : (t : Bool) (p q : Piece) → Holds Asks p.state → Holds Asks q.state → Holds Asks (elim t as (λ c. Piece) [ true ↦ p | false ↦ q ]).state
 piece_when true p q hp hq = hp
@@ -182,7 +182,7 @@ behind-asks Handling s h = holds (facts_of h)
 behind-asks Evicting s h = give_up_asks-keeps asks_walk _ (holds (facts_of h))
 behind-asks Keeping s h = holds (facts_of h)
 behind-asks Deciding s h = holds (facts_of h)
-behind-asks Following s h = fill-keeps asks_walk asks_begins _ (drop_unseen-keeps asks_walk _ (holds (facts_of h)))
+behind-asks Following s h = fill-keeps asks_walk asks_begins _ (give_up_asks-keeps asks_walk _ (drop_unseen-keeps asks_walk _ (holds (facts_of h))))
 behind-asks Connecting s h = placing-keeps asks_places _ (holds (facts_of h))
 behind-asks DecidingAgain s h = h
 
@@ -436,7 +436,7 @@ undialled-asks p h = by_pause p.pause h (λ k e. h) (λ e. refused e (lost e))
     lost e = lose_attempt-keeps asks_walk e _ (holds (facts_of h))
 
     refused : (e : Exchange) → Holds Asks (lose_attempt e (record p.state { failures = p.state.failures + 1 })) → Holds Asks (refused_dial e (lose_attempt e (record p.state { failures = p.state.failures + 1 })))
-    refused e g = when (may_ask_again (lose_attempt e (record p.state { failures = p.state.failures + 1 })) e.number) g (end_exchange-keeps asks_walk e.number _ (holds (facts_of g)))
+    refused e g = when (may_ask_again (lose_attempt e (record p.state { failures = p.state.failures + 1 })) e.number) g (fill-keeps asks_walk asks_begins _ (end_exchange-keeps asks_walk e.number _ g))
 
 dropped-asks : (n : ℕ) (s : State) → Holds Asks s → Holds Asks (dropped n s)
 unfolding dropped out

@@ -10,9 +10,9 @@ use Rattle.pp_text.specs.Fields.{has_field}
 use Rattle.pp_valid.specs.declared.version.Version.{Version}
 use Rattle.pp_law.specs.Connections.{exchange, is_for, attempts_of, without_shared_row}
 use Rattle.pp_law.specs.Lists.{Bytes, is_some_with}
-use Rattle.pp_law.specs.OwnHeads.{key_of, span_to_come, is_asked_by, tell, use_body, drop_answer, useless, times_for, renewed, renew, settle_on, renew_row, refresh, may_refresh, settle_known, known_version, settle, names_version, nothing_to_come, settle_unchanged, unchanged, not_shared, not_modified, clears_row, cleared_by, is_widened, relayed, relay_head, other_head, other_part, own_head, is_bound, lacks_next, count_elsewhere, part_head, filling_head, version_in, forbids_sharing, is_private_part, is_of_another, may_join}
+use Rattle.pp_law.specs.OwnHeads.{key_of, span_to_come, is_asked_by, tell, use_body, drop_answer, useless, times_for, renewed, renew, settle_on, renew_row, may_refresh, settle_known, known_version, settle, names_version, nothing_to_come, settle_unchanged, unchanged, not_shared, not_modified, clears_row, cleared_by, is_widened, relayed, relay_head, other_head, other_part, own_head, is_bound, lacks_next, count_elsewhere, part_head, filling_head, version_in, forbids_sharing, is_private_part, is_of_another, may_join}
 use Rattle.pp_law.specs.Passing.{passed_by}
-use Rattle.pp_law.specs.Responses.{by_aim}
+use Rattle.pp_law.specs.Responses.{by_aim, bring_row, is_readable}
 use Rattle.pp_law.specs.State.{State, Body, Joining, Dropping, Brought, Useless, Joins, Passes, TooWide, Exchange, Instance}
 use Rattle.pp_law.specs.Table.{row, enter}
 use Rattle.pp_law.specs.ThroughHeads.{invalidates, key_named, is_same_host, clear_named, clear_each, places_named, invalidated, disproves, reads, disproved, through_head}
@@ -48,9 +48,9 @@ renew_row-kept : {but : List ℕ} (e : Exchange) (head : Response) (s : State) �
 unfolding renew_row
 renew_row-kept e head s h = each_of (row s (key_of e)) h (λ x. renew-kept x head (times_for e head s) s h)
 
-refresh-kept : {but : List ℕ} (e : Exchange) (head : Response) (s : State) → Kept but s → Kept but (refresh e head s)
-unfolding refresh
-refresh-kept e head s h = renew_row-kept e head (enter (key_of e) true s) (enter-kept (key_of e) true s h)
+pub bring_row-kept : {but : List ℕ} (e : Exchange) (head : Response) (s : State) → Kept but s → Kept but (bring_row e head s)
+unfolding bring_row
+bring_row-kept e head s h = when (is_readable e head) (enter-kept (key_of e) true s h) h
 
 settle_on-kept : {but : List ℕ} (e : Exchange) (head : Response) (v : Version) (s : State) → Kept but s → Kept but (settle_on e head v s)
 unfolding settle_on
@@ -58,7 +58,7 @@ settle_on-kept e head v s h = each_of (row s (key_of e)) h (λ x. tell-kept e (J
 
 settle_known-kept : {but : List ℕ} (e : Exchange) (head : Response) (v : Version) (s : State) → Kept but s → Kept but (settle_known e head v s)
 unfolding settle_known
-settle_known-kept e head v s h = when (may_refresh e head s) (settle_on-kept e head v _ (refresh-kept e head s h)) (useless-kept e s h)
+settle_known-kept e head v s h = when (may_refresh e head s) (settle_on-kept e head v _ (renew_row-kept e head s h)) (useless-kept e s h)
 
 settle-kept : {but : List ℕ} (e : Exchange) (head : Response) (v : Version) (s : State) → Kept but s → Kept but (settle e head v s)
 unfolding settle
@@ -75,7 +75,7 @@ settle_unchanged-kept e s h = each_of (row s (key_of e)) h (λ x. tell-kept e (J
 
 unchanged-kept : {but : List ℕ} (e : Exchange) (head : Response) (s : State) → Kept but s → Kept but (unchanged e head s)
 unfolding unchanged
-unchanged-kept e head s h = when (is_some_with (names_version e) (known_version s (key_of e)) && may_refresh e head s) (settle_unchanged-kept e _ (refresh-kept e head s h)) (useless-kept e s h)
+unchanged-kept e head s h = when (is_some_with (names_version e) (known_version s (key_of e)) && may_refresh e head s) (settle_unchanged-kept e _ (renew_row-kept e head s h)) (useless-kept e s h)
 
 not_shared-kept : {but : List ℕ} (e : Exchange) (s : State) → Kept but s → Kept but (not_shared e s)
 unfolding not_shared

@@ -15,19 +15,20 @@ use Rattle.pp_law.specs.Connections.{conn, is_conn, on_conn, on_client_of, on_ex
 use Rattle.pp_law.specs.Lists.{Bytes}
 use Rattle.pp_law.specs.OwnHeads.{is_wrong_head, join, join_bound, moved_on, note_own, note_sent}
 use Rattle.pp_law.specs.Passing.{pour, poured}
-use Rattle.pp_law.specs.Responses.{skipping, skip_body, rested, close_this, may_go_on, finish, bad_response, bad_head, asks_head, answer_with, answered_by, end_if_empty, begin_answer, answer_for, head_came, Piece, is_early, with_unread, head_piece, deliver, payload_of, body_piece_of, body_piece, next_piece, got, is_whole_at_end, finish_first, ended}
+use Rattle.pp_law.specs.Responses.{skipping, skip_body, rested, close_this, may_go_on, finish, bad_response, bad_head, asks_head, answer_with, answered_by, end_if_empty, begin_answer, answer_for, head_came, Piece, is_early, with_unread, head_piece, deliver, payload_of, body_piece_of, body_piece, next_piece, got, is_whole_at_end, finish_first, ended, bring_row}
 use Rattle.pp_law.specs.Stages.{bound_of}
 use Rattle.pp_law.specs.State.{State, Joining, Answer, Bound, Conn, Exchange}
 use Rattle.pp_law.specs.Table.{instance}
 use Rattle.pp_laws.specs.Runs.{IsIn}
 use Rattle.pp_laws.proofs.Lists.{in_find}
 use Rattle.pp_laws.proofs.Shrinks.{end_exchange-shrinks, fail-shrinks, lose_attempt-shrinks, shrinks_on}
+use Rattle.pp_laws.proofs.Untouched.{bring_row-untouched}
 use Rattle.pp_laws_bounds.proofs.Cases.{by_aim_of, by_outcome, each_of, each_so, when}
 use Rattle.pp_laws_bounds.proofs.Changes.{same_exchange}
 use Rattle.pp_laws_bounds.proofs.Clients.{pour-kept}
 use Rattle.pp_laws_bounds.proofs.Closings.{Covers, close_conn-kept, covers, covers_shrunk}
 use Rattle.pp_laws_bounds.proofs.Exchanges.{end_exchange-kept, fail-kept, lose_attempt-kept, on_client_of-kept, on_conn-kept, on_exchange-kept}
-use Rattle.pp_laws_bounds.proofs.Heads.{by_aim-kept}
+use Rattle.pp_laws_bounds.proofs.Heads.{bring_row-kept, by_aim-kept}
 use Rattle.pp_laws_bounds.proofs.Kept.{Kept, facts_of, kept}
 use Rattle.pp_laws_bounds.proofs.Rows.{note_use-kept}
 
@@ -86,7 +87,8 @@ answer_for-kept k e head s all h = when (is_wrong_head e head) (bad_head-kept k 
 
 head_came-kept : (k : Conn) (head : Response) (s : State) → Covers k s → Kept [] s → Kept [] (head_came k head s)
 unfolding head_came
-head_came-kept k head s all h = each_of (front_of_line s k) (close_conn-kept false k s all h) (λ e. answer_for-kept k e head s all h)
+head_came-kept k head s all h = each_of (front_of_line s k) (close_conn-kept false k s all h)
+    (λ e. answer_for-kept k e head _ (λ j n i. all j n (subst (λ ks. IsIn j ks) (bring_row-untouched e head s).conns i)) (bring_row-kept e head s h))
 
 piece_when : (t : Bool) (p q : Piece) → Kept [] p.state → Kept [] q.state → Kept [] (elim t as (λ c. Piece) [ true ↦ p | false ↦ q ]).state
 piece_when true p q hp hq = hp

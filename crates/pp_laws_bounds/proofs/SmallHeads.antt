@@ -10,9 +10,9 @@ use Rattle.pp_text.specs.Fields.{has_field}
 use Rattle.pp_valid.specs.declared.version.Version.{Version}
 use Rattle.pp_law.specs.Connections.{exchange, is_for, on_exchange, attempts_of, without_shared_row}
 use Rattle.pp_law.specs.Lists.{Bytes, is_some_with}
-use Rattle.pp_law.specs.OwnHeads.{key_of, span_to_come, is_asked_by, tell, use_body, drop_answer, useless, times_for, renewed, renew, settle_on, renew_row, refresh, may_refresh, settle_known, known_version, settle, names_version, nothing_to_come, settle_unchanged, unchanged, not_shared, not_modified, clears_row, cleared_by, is_widened, relayed, relay_head, other_head, other_part, own_head, is_bound, lacks_next, count_elsewhere, part_head, filling_head, version_in, forbids_sharing, is_private_part, is_of_another, may_join}
+use Rattle.pp_law.specs.OwnHeads.{key_of, span_to_come, is_asked_by, tell, use_body, drop_answer, useless, times_for, renewed, renew, settle_on, renew_row, may_refresh, settle_known, known_version, settle, names_version, nothing_to_come, settle_unchanged, unchanged, not_shared, not_modified, clears_row, cleared_by, is_widened, relayed, relay_head, other_head, other_part, own_head, is_bound, lacks_next, count_elsewhere, part_head, filling_head, version_in, forbids_sharing, is_private_part, is_of_another, may_join}
 use Rattle.pp_law.specs.Passing.{passed_by}
-use Rattle.pp_law.specs.Responses.{by_aim}
+use Rattle.pp_law.specs.Responses.{by_aim, bring_row, is_readable}
 use Rattle.pp_law.specs.State.{State, Body, Joining, Dropping, Brought, Useless, Joins, Passes, TooWide, Exchange, Instance}
 use Rattle.pp_law.specs.Table.{row, enter}
 use Rattle.pp_law.specs.ThroughHeads.{invalidates, key_named, is_same_host, clear_named, clear_each, places_named, invalidated, disproves, reads, disproved, through_head}
@@ -49,9 +49,9 @@ renew_row-small : {a : As} (e : Exchange) (head : Response) (s : State) → Smal
 unfolding renew_row
 renew_row-small e head s h = each_of (row s (key_of e)) h (λ x. renew-small x head (times_for e head s) s h)
 
-refresh-small : {a : As} (e : Exchange) (head : Response) (s : State) → Small a s → Small a (refresh e head s)
-unfolding refresh
-refresh-small e head s h = renew_row-small e head (enter (key_of e) true s) (enter-small (key_of e) true s h)
+pub bring_row-small : {a : As} (e : Exchange) (head : Response) (s : State) → Small a s → Small a (bring_row e head s)
+unfolding bring_row
+bring_row-small e head s h = when (is_readable e head) (enter-small (key_of e) true s h) h
 
 settle_on-small : {a : As} (e : Exchange) (head : Response) (v : Version) (s : State) → a.expects ≡ Some e.number → Small a s → Small a (settle_on e head v s)
 unfolding settle_on
@@ -59,7 +59,7 @@ settle_on-small e head v s expects h = each_of (row s (key_of e)) h (λ x. tell-
 
 settle_known-small : {a : As} (e : Exchange) (head : Response) (v : Version) (s : State) → a.expects ≡ Some e.number → Small a s → Small a (settle_known e head v s)
 unfolding settle_known
-settle_known-small e head v s expects h = when (may_refresh e head s) (settle_on-small e head v _ expects (refresh-small e head s h)) (useless-small e s expects h)
+settle_known-small e head v s expects h = when (may_refresh e head s) (settle_on-small e head v _ expects (renew_row-small e head s h)) (useless-small e s expects h)
 
 settle-small : {a : As} (e : Exchange) (head : Response) (v : Version) (s : State) → a.expects ≡ Some e.number → Small a s → Small a (settle e head v s)
 unfolding settle
@@ -76,7 +76,7 @@ settle_unchanged-small e s expects h = each_of (row s (key_of e)) h (λ x. tell-
 
 unchanged-small : {a : As} (e : Exchange) (head : Response) (s : State) → a.expects ≡ Some e.number → Small a s → Small a (unchanged e head s)
 unfolding unchanged
-unchanged-small e head s expects h = when (is_some_with (names_version e) (known_version s (key_of e)) && may_refresh e head s) (settle_unchanged-small e _ expects (refresh-small e head s h)) (useless-small e s expects h)
+unchanged-small e head s expects h = when (is_some_with (names_version e) (known_version s (key_of e)) && may_refresh e head s) (settle_unchanged-small e _ expects (renew_row-small e head s h)) (useless-small e s expects h)
 
 not_shared-small : {a : As} (e : Exchange) (s : State) → a.expects ≡ Some e.number → Small a s → Small a (not_shared e s)
 unfolding not_shared

@@ -14,7 +14,7 @@ use Rattle.pp_law.specs.Connections.{conn, exchange, is_conn, is_exchange, on_co
 use Rattle.pp_law.specs.Lists.{Bytes, is_this}
 use Rattle.pp_law.specs.OwnHeads.{is_wrong_head, join, join_bound, moved_on, note_own, note_sent}
 use Rattle.pp_law.specs.Passing.{pour, poured}
-use Rattle.pp_law.specs.Responses.{skipping, skip_body, rested, close_this, may_go_on, finish, bad_response, bad_head, asks_head, answer_with, answered_by, end_if_empty, begin_answer, answer_for, head_came, Piece, is_early, with_unread, head_piece, deliver, payload_of, body_piece_of, body_piece, next_piece, got, is_whole_at_end, finish_first, ended}
+use Rattle.pp_law.specs.Responses.{skipping, skip_body, rested, close_this, may_go_on, finish, bad_response, bad_head, asks_head, answer_with, answered_by, end_if_empty, begin_answer, answer_for, head_came, Piece, is_early, with_unread, head_piece, deliver, payload_of, body_piece_of, body_piece, next_piece, got, is_whole_at_end, finish_first, ended, bring_row}
 use Rattle.pp_law.specs.Stages.{bound_of}
 use Rattle.pp_law.specs.State.{State, Joining, Answer, Bound, Conn, Exchange}
 use Rattle.pp_law.specs.Table.{instance}
@@ -23,6 +23,7 @@ use Rattle.pp_laws.proofs.Lists.{in_find}
 use Rattle.pp_laws.proofs.Pieces.{got-sound}
 use Rattle.pp_laws.proofs.Sound.{Sound, FactsOf as SoundFacts, exchange_number, facts_of as sound_facts, first_of}
 use Rattle.pp_laws.proofs.Tests.{same_number}
+use Rattle.pp_laws.proofs.Untouched.{bring_row-next, bring_row-untouched}
 use Rattle.pp_laws_bounds.proofs.SmallCases.{by_aim_of, by_outcome, each_of, each_so, when}
 use Rattle.pp_laws_bounds.proofs.SmallClients.{pour-small}
 use Rattle.pp_laws_bounds.proofs.SmallClosings.{close_conn-small}
@@ -33,7 +34,7 @@ use Rattle.pp_laws_bounds.proofs.Kept.{Kept, Stands, FactsOf as KeptFacts, facts
 use Rattle.pp_laws_bounds.proofs.Pieces.{next_piece-kept}
 use Rattle.pp_laws_bounds.proofs.Pigeons.{count-more, pigeons, rise_differ}
 use Rattle.pp_laws_bounds.proofs.SmallExchanges.{end_exchange-small, fail-small, lose_attempt-small, on_client_of-small, on_conn-small, on_exchange-small}
-use Rattle.pp_laws_bounds.proofs.SmallHeads.{by_aim-small}
+use Rattle.pp_laws_bounds.proofs.SmallHeads.{bring_row-small, by_aim-small}
 use Rattle.pp_laws_bounds.proofs.Small.{As, Small, counts_as_bound, facts_of, small}
 use Rattle.pp_laws_bounds.proofs.SmallRows.{note_use-small}
 
@@ -134,9 +135,15 @@ answer_for-small {b} k e head s ready h = when (is_wrong_head e head) (bad_head-
     by_rule (Ok rule) = begin_answer-small k e head rule s ready h
     by_rule (Err fault) = bad_head-small k s h
 
+ready_brought : (e : Exchange) (head : Response) (s : State) → IsReady e s → IsReady e (bring_row e head s)
+ready_brought e head s ready = (
+  subst (λ es. length (filter (counts_as_bound (Some e.number)) es) ≤ 64) (sym (bring_row-untouched e head s).exchanges) ready.0,
+  subst (λ n. e.number < n) (sym (bring_row-next e head s)) ready.1,
+)
+
 head_came-small : {b : Bool} (k : Conn) (head : Response) (s : State) → FirstIsReady k s → Small (plain b) s → Small (plain b) (head_came k head s)
 unfolding head_came
-head_came-small k head s ready h = each_so (front_of_line s k) (λ none. close_conn-small false k s h) (λ e first. answer_for-small k e head s (ready e first) h)
+head_came-small k head s ready h = each_so (front_of_line s k) (λ none. close_conn-small false k s h) (λ e first. answer_for-small k e head _ (ready_brought e head s (ready e first)) (bring_row-small e head s h))
 
 piece_when : {b : Bool} (t : Bool) (p q : Piece) → Small (plain b) p.state → Small (plain b) q.state → Small (plain b) (elim t as (λ c. Piece) [ true ↦ p | false ↦ q ]).state
 piece_when true p q hp hq = hp

@@ -24,10 +24,10 @@ use Rattle.pp_law.specs.Deciding.{refuse, add_exchange, begin_exchange, ask_for,
 use Rattle.pp_law.specs.Decisions.{kind_of, fits}
 use Rattle.pp_law.specs.Followers.{need_of, filling_exchange, fill_with, fill_span, fill_next, fill_for, fill, give_up_asks}
 use Rattle.pp_law.specs.Lists.{Bytes, is_some_with}
-use Rattle.pp_law.specs.OwnHeads.{key_of, tell, use_body, drop_answer, useless, times_for, renewed, renew, settle_on, renew_row, refresh, known_version, may_refresh, settle_known, names_version, may_join, settle, settle_unchanged, unchanged, forbids_sharing, is_of_another, not_shared, not_modified, clears_row, cleared_by, is_private_part, is_widened, relay_head, other_head, other_part, own_head, is_bound, lacks_next, count_elsewhere, part_head, filling_head, is_wrong_head, version_in, sent_as, first_offset, note_own, note_sent, join, join_bound}
+use Rattle.pp_law.specs.OwnHeads.{key_of, tell, use_body, drop_answer, useless, times_for, renewed, renew, settle_on, renew_row, known_version, may_refresh, settle_known, names_version, may_join, settle, settle_unchanged, unchanged, forbids_sharing, is_of_another, not_shared, not_modified, clears_row, cleared_by, is_private_part, is_widened, relay_head, other_head, other_part, own_head, is_bound, lacks_next, count_elsewhere, part_head, filling_head, is_wrong_head, version_in, sent_as, first_offset, note_own, note_sent, join, join_bound}
 use Rattle.pp_law.specs.Passing.{pour, poured}
 use Rattle.pp_law.specs.Requests.{key_in}
-use Rattle.pp_law.specs.Responses.{skip_body, close_this, rested, may_go_on, finish, bad_response, bad_head, by_aim, asks_head, answer_with, answered_by, end_if_empty, begin_answer, answer_for, head_came, Piece, is_early, with_unread, head_piece_of, head_piece, deliver, payload_of, body_piece_of, body_piece, next_piece, got, is_whole_at_end, finish_first, ended}
+use Rattle.pp_law.specs.Responses.{skip_body, close_this, rested, may_go_on, finish, bad_response, bad_head, by_aim, asks_head, answer_with, answered_by, end_if_empty, begin_answer, answer_for, head_came, Piece, is_early, with_unread, head_piece_of, head_piece, deliver, payload_of, body_piece_of, body_piece, next_piece, got, is_whole_at_end, finish_first, ended, bring_row, is_readable}
 use Rattle.pp_law.specs.State.{State, Sent, Brought, Body, Client, Conn, Exchange, Instance, Answer, Reply, Bound}
 use Rattle.pp_law.specs.Table.{row, row_for, instance, Next, next_of}
 use Rattle.pp_law.specs.ThroughHeads.{invalidates, key_named, is_same_host, clear_named, clear_each, places_named, invalidated, disproves, reads, disproved, through_head}
@@ -166,13 +166,13 @@ renew_row-kept : {o : State} (e : Exchange) (head : Response) (s : State) → Ke
 unfolding renew_row
 renew_row-kept e head s h = each_of (row s (key_of e)) h (λ x. renew-kept x head (times_for e head s) s h)
 
-refresh-kept : {o : State} (e : Exchange) (head : Response) (s : State) → Kept o s → Kept o (refresh e head s)
-unfolding refresh
-refresh-kept e head s h = renew_row-kept e head _ (enter-kept (key_of e) true s h)
+bring_row-kept : {o : State} (e : Exchange) (head : Response) (s : State) → Kept o s → Kept o (bring_row e head s)
+unfolding bring_row
+bring_row-kept e head s h = when (is_readable e head) (enter-kept (key_of e) true s h) h
 
 settle_known-kept : {o : State} (e : Exchange) (head : Response) (v : Version) (s : State) → Kept o s → Kept o (settle_known e head v s)
 unfolding settle_known
-settle_known-kept e head v s h = when (may_refresh e head s) (settle_on-kept e head v _ (refresh-kept e head s h)) (useless-kept e s h)
+settle_known-kept e head v s h = when (may_refresh e head s) (settle_on-kept e head v _ (renew_row-kept e head s h)) (useless-kept e s h)
 
 settle-kept : {o : State} (e : Exchange) (head : Response) (v : Version) (s : State) → Kept o s → Kept o (settle e head v s)
 unfolding settle
@@ -185,7 +185,7 @@ settle_unchanged-kept e s h = each_of (row s (key_of e)) h (λ x. tell-kept e _ 
 
 unchanged-kept : {o : State} (e : Exchange) (head : Response) (s : State) → Kept o s → Kept o (unchanged e head s)
 unfolding unchanged
-unchanged-kept e head s h = when (is_some_with (names_version e) (known_version s (key_of e)) && may_refresh e head s) (settle_unchanged-kept e _ (refresh-kept e head s h)) (useless-kept e s h)
+unchanged-kept e head s h = when (is_some_with (names_version e) (known_version s (key_of e)) && may_refresh e head s) (settle_unchanged-kept e _ (renew_row-kept e head s h)) (useless-kept e s h)
 
 not_shared-kept : {o : State} (e : Exchange) (s : State) → Kept o s → Kept o (not_shared e s)
 unfolding not_shared
@@ -298,7 +298,7 @@ answer_for-kept k e head s h = when (is_wrong_head e head) (bad_head-kept k s h)
 
 head_came-kept : {o : State} (k : Conn) (head : Response) (s : State) → Kept o s → Kept o (head_came k head s)
 unfolding head_came
-head_came-kept k head s h = each_of (front_of_line s k) (close_conn-kept false k s h) (λ e. answer_for-kept k e head s h)
+head_came-kept k head s h = each_of (front_of_line s k) (close_conn-kept false k s h) (λ e. answer_for-kept k e head _ (bring_row-kept e head s h))
 
 -- ---- bytes
 

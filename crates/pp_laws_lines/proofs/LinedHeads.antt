@@ -18,12 +18,13 @@ use Rattle.pp_law.specs.Connections.{conn, exchange, is_conn, is_for, is_outstan
 use Rattle.pp_law.specs.Lists.{Bytes, change, is_some_with}
 use Rattle.pp_law.specs.OwnHeads.{key_of, span_to_come, tell, use_body, drop_answer, useless, times_for, settle_on, may_refresh, settle_known, known_version, settle, may_join, names_version, nothing_to_come, settle_unchanged, unchanged, is_of_another, forbids_sharing, not_shared, not_modified, clears_row, is_private_part, is_widened, relayed, relay_head, other_head, other_part, own_head, is_bound, lacks_next, count_elsewhere, part_head, filling_head, version_in, is_wrong_head, join_bound, moved_on}
 use Rattle.pp_law.specs.Passing.{pour, poured, passed_by}
-use Rattle.pp_law.specs.Responses.{skipping, skip_body, rested, close_this, may_go_on, finish, bad_response, bad_head, by_aim, asks_head, answer_with, answered_by, end_if_empty, begin_answer, answer_for, head_came, Piece, is_early, with_unread, head_piece, deliver, payload_of, body_piece_of, body_piece, next_piece, got, is_whole_at_end, finish_first, ended}
+use Rattle.pp_law.specs.Responses.{skipping, skip_body, rested, close_this, may_go_on, finish, bad_response, bad_head, by_aim, asks_head, answer_with, answered_by, end_if_empty, begin_answer, answer_for, head_came, Piece, is_early, with_unread, head_piece, deliver, payload_of, body_piece_of, body_piece, next_piece, got, is_whole_at_end, finish_first, ended, bring_row}
 use Rattle.pp_law.specs.Stages.{bound_of}
 use Rattle.pp_law.specs.State.{State, Aim, Through, Own, Filling, Answer, Body, Joining, Dropping, Brought, Useless, Joins, Passes, TooWide, Conn, Exchange, Bound}
 use Rattle.pp_law.specs.Table.{row}
 use Rattle.pp_law.specs.ThroughHeads.{through_head}
 use Rattle.pp_laws.specs.Runs.{IsIn}
+use Rattle.pp_laws.proofs.Untouched.{bring_row-untouched, same_front}
 use Rattle.pp_laws.proofs.Closings.{own_line_shrunk}
 use Rattle.pp_laws.proofs.Lists.{Changed, in_change, in_find, one_of, other, same}
 use Rattle.pp_laws.proofs.Pieces.{front_by}
@@ -31,7 +32,7 @@ use Rattle.pp_laws.proofs.Shrinks.{fail-shrinks, lose_attempt-shrinks}
 use Rattle.pp_laws.proofs.Sound.{conn_number, exchange_number, first_of}
 use Rattle.pp_laws.proofs.Tests.{number_same, same_number}
 use Rattle.pp_laws_passed.proofs.Same.{itself}
-use Rattle.pp_laws_passed.proofs.SameHeads.{cleared_by-same, disproved-same, invalidated-same, join-same, note_sent-same, refresh-same}
+use Rattle.pp_laws_passed.proofs.SameHeads.{bring_row-same, cleared_by-same, disproved-same, invalidated-same, join-same, note_sent-same, renew_row-same}
 use Rattle.pp_laws_passed.proofs.SameRows.{clear-same, make_row-same}
 use Rattle.pp_laws_pool.proofs.PoolGot.{deliver-conns}
 use Rattle.pp_laws_pool.proofs.View.{View, Walk, holds, facts_of as view_facts, view, Lesser}
@@ -65,7 +66,7 @@ settle_on-lined e head v s h = each_of (row s (key_of e)) h (λ x. told e (Joins
 
 settle_known-lined : {b : Since} (e : Exchange) (head : Response) (v : Version) (s : State) → Lined b s → Lined b (settle_known e head v s)
 unfolding settle_known
-settle_known-lined e head v s h = when (may_refresh e head s) (settle_on-lined e head v _ (still (refresh-same e head s (itself s)) h)) (useless-lined e s h)
+settle_known-lined e head v s h = when (may_refresh e head s) (settle_on-lined e head v _ (still (renew_row-same e head s (itself s)) h)) (useless-lined e s h)
 
 settle-lined : {b : Since} (e : Exchange) (head : Response) (v : Version) (s : State) → Lined b s → Lined b (settle e head v s)
 unfolding settle
@@ -79,7 +80,7 @@ settle_unchanged-lined e s h = each_of (row s (key_of e)) h (λ x. told e (Joins
 
 unchanged-lined : {b : Since} (e : Exchange) (head : Response) (s : State) → Lined b s → Lined b (unchanged e head s)
 unfolding unchanged
-unchanged-lined e head s h = when (is_some_with (names_version e) (known_version s (key_of e)) && may_refresh e head s) (settle_unchanged-lined e _ (still (refresh-same e head s (itself s)) h)) (useless-lined e s h)
+unchanged-lined e head s h = when (is_some_with (names_version e) (known_version s (key_of e)) && may_refresh e head s) (settle_unchanged-lined e _ (still (renew_row-same e head s (itself s)) h)) (useless-lined e s h)
 
 not_shared-lined : {b : Since} (e : Exchange) (s : State) → Lined b s → Lined b (not_shared e s)
 unfolding not_shared
@@ -347,7 +348,10 @@ outstanding s k e early front = same_number e.asked (length e.text) (true_of (is
 head_came-lined : {b : Since} (k : Conn) (head : Response) (s : State) → IsPlain b → IsIn k s.conns → k.is_closing ≡ false → is_early s k ≡ false → b.firsts k.number ≡ first_of k.line → Lined b s → Lined b (head_came k head s)
 unfolding head_came
 head_came-lined k head s p there is_open early named h =
-    each_so (front_of_line s k) (λ none. close_conn-lined false k s p.kept (own_line k s there h) h) (λ e front. answer_for-lined k e s p there is_open front (outstanding s k e early front) h named head)
+    each_so (front_of_line s k) (λ none. close_conn-lined false k s p.kept (own_line k s there h) h)
+    (λ e front.
+    let u = bring_row-untouched e head s in
+    answer_for-lined k e _ p (subst (λ ks. IsIn k ks) (sym u.conns) there) is_open (same_front k u ∙ front) (outstanding s k e early front) (still (bring_row-same e head s (itself s)) h) named head)
 
 piece_when : {b : Since} (t : Bool) (x y : Piece) → (t ≡ true → Lined b x.state) → (t ≡ false → Lined b y.state) → Lined b (elim t as (λ c. Piece) [ true ↦ x | false ↦ y ]).state
 piece_when true x y hx hy = hx refl

@@ -20,13 +20,15 @@ use Rattle.pp_law.specs.Closing.{left_alone}
 use Rattle.pp_law.specs.Lists.{Bytes, change, is_some_with, is_this}
 use Rattle.pp_law.specs.OwnHeads.{key_of, is_asked_by, tell, use_body, drop_answer, useless, times_for, settle_on, span_to_come, may_refresh, settle_known, known_version, settle, may_join, names_version, nothing_to_come, settle_unchanged, unchanged, is_of_another, forbids_sharing, not_shared, not_modified, clears_row, is_private_part, is_widened, relayed, relay_head, other_head, other_part, own_head, is_bound, lacks_next, count_elsewhere, part_head, filling_head, version_in, is_wrong_head, join, join_bound, moved_on, note_sent}
 use Rattle.pp_law.specs.Passing.{pour, poured, passed_by}
-use Rattle.pp_law.specs.Responses.{skipping, skip_body, rested, close_this, may_go_on, finish, bad_response, bad_head, by_aim, asks_head, answer_with, answered_by, end_if_empty, begin_answer, answer_for, head_came, Piece, is_early, with_unread, head_piece, deliver, payload_of, body_piece_of, body_piece, next_piece, got, is_whole_at_end, finish_first, ended}
+use Rattle.pp_law.specs.Responses.{skipping, skip_body, rested, close_this, may_go_on, finish, bad_response, bad_head, by_aim, asks_head, answer_with, answered_by, end_if_empty, begin_answer, answer_for, head_came, Piece, is_early, with_unread, head_piece, deliver, payload_of, body_piece_of, body_piece, next_piece, got, is_whole_at_end, finish_first, ended, bring_row}
 use Rattle.pp_law.specs.Stages.{is_begun, is_headed, is_passing, is_pending, on_passed, passed_of, bound_in, bound_of}
 use Rattle.pp_law.specs.State.{State, Aim, Through, Own, Filling, Answer, Body, Pending, Joining, Relaying, Dropping, Brought, Awaited, Useless, Joins, Passes, TooWide, Client, Stage, Undecided, Waiting, Passing, Answering, Reply, Conn, Exchange, Passed, Bound, Instance}
 use Rattle.pp_law.specs.Table.{row, clear, swept}
 use Rattle.pp_law.specs.ThroughHeads.{through_head}
 use Rattle.pp_laws.specs.Numbers.{AreRising}
 use Rattle.pp_laws.specs.Runs.{IsIn}
+use Rattle.pp_laws.proofs.Heads.{bring_row-sound}
+use Rattle.pp_laws.proofs.Untouched.{bring_row-untouched, same_front}
 use Rattle.pp_laws.proofs.Lists.{Changed, From, in_change, in_filter, in_find, in_map, one_of, other, rise_change, same}
 use Rattle.pp_laws.proofs.Pieces.{front_by, next_piece-sound}
 use Rattle.pp_laws.proofs.Sound.{Since, Sound, facts_of as sound_facts, client_number, conn_number, exchange_number, first_of, source_in}
@@ -37,11 +39,11 @@ use Rattle.pp_laws_passed.specs.Passed.{is_in_passed}
 use Rattle.pp_laws_passed.proofs.Cases.{by_outcome, by_result, each_of, each_so, when}
 use Rattle.pp_laws_passed.proofs.Fed.{Answers, AreAnswered, Fed, Feeds, FactsOf, FromConn, Grows, Keeps, Relays, SameClient, SameExchange, Tale, amid, clients_changed, facts_across, grows_not, itself_client, itself_exchange, parts_across, exchange_same, exchanges_changed, facts_of, fed, is_in_other, itself_conn, not_passed, over_amid, parts_same, still, weaker}
 use Rattle.pp_laws_passed.proofs.Delivered.{payload_grown, poured_ends, relays_finished, relays_poured}
-use Rattle.pp_laws_passed.proofs.HasRows.{HasRow, make_row-has, refresh-has}
+use Rattle.pp_laws_passed.proofs.HasRows.{HasRow, make_row-has, renewed-has}
 use Rattle.pp_laws.proofs.Payloads.{payload-nothing}
 use Rattle.pp_laws_passed.proofs.FedAsks.{close_conn-fed, end_exchange-fed, fail-fed, lose_attempt-fed, on_client_of-fed, on_conn-fed, without_row-by}
 use Rattle.pp_laws_passed.proofs.Same.{PartsOf, Same, facts_of as parts_of, itself}
-use Rattle.pp_laws_passed.proofs.SameHeads.{cleared_by-same, disproved-same, invalidated-same, join-same, note_sent-same, refresh-same}
+use Rattle.pp_laws_passed.proofs.SameHeads.{bring_row-same, cleared_by-same, disproved-same, invalidated-same, join-same, note_sent-same, renew_row-same}
 use Rattle.pp_laws_passed.proofs.SameRows.{clear-same, make_row-same}
 
 -- ---- with these connections, and exchanges that come from these
@@ -434,7 +436,7 @@ module _ {tale : Tale} where
   settle_known-over : {ground : Ground} (e : Exchange) (a : Answer) (head : Response) (v : Version) (s : State) → Coming tale e a s → Over tale ground s → Over tale ground (settle_known e head v s)
   unfolding settle_known
   settle_known-over e a head v s p h =
-      let r = refresh-same e head s (itself s) in
+      let r = renew_row-same e head s (itself s) in
       over_when (may_refresh e head s) (settle_on-over e a head v _ (along r p) (over_same r h)) (useless-over e a s p h)
 
   settle-over : {ground : Ground} (e : Exchange) (a : Answer) (head : Response) (v : Version) (s : State) → Coming tale e a s → Over tale ground s → Over tale ground (settle e head v s)
@@ -450,7 +452,7 @@ module _ {tale : Tale} where
   unchanged-over : {ground : Ground} (e : Exchange) (a : Answer) (head : Response) (s : State) → Coming tale e a s → Over tale ground s → Over tale ground (unchanged e head s)
   unfolding unchanged
   unchanged-over e a head s p h =
-      let r = refresh-same e head s (itself s) in
+      let r = renew_row-same e head s (itself s) in
       over_when (is_some_with (names_version e) (known_version s (key_of e)) && may_refresh e head s) (settle_unchanged-over e a _ (along r p) (over_same r h)) (useless-over e a s p h)
 
   without_shared_row_same : (most : ℕ) (c : Client) → SameClient tale tale (without_shared_row most c) c
@@ -593,7 +595,7 @@ module _ {tale : Tale} where
 
   settle_known-told : (e : Exchange) (a : Answer) (head : Response) (v : Version) (s : State) → (known_version s (key_of e) ≡ None → ⊥) → Coming tale e a s → Told tale e a (settle_known e head v s)
   unfolding settle_known
-  settle_known-told e a head v s known p = when_told (may_refresh e head s) (settle_on-told e a head v _ (refresh-has e head s known) (along (refresh-same e head s (itself s)) p)) (useless-told e a s p)
+  settle_known-told e a head v s known p = when_told (may_refresh e head s) (settle_on-told e a head v _ (renewed-has e head s known) (along (renew_row-same e head s (itself s)) p)) (useless-told e a s p)
 
   settle-told : (e : Exchange) (a : Answer) (head : Response) (v : Version) (s : State) → Coming tale e a s → Told tale e a (settle e head v s)
   unfolding settle
@@ -613,7 +615,7 @@ module _ {tale : Tale} where
   unfolding unchanged
   unchanged-told e a head s p =
       when_told_so (is_some_with (names_version e) (known_version s (key_of e)) && may_refresh e head s)
-      (λ is. settle_unchanged-told e a _ (refresh-has e head s (some_with (names_version e) (known_version s (key_of e)) (first_holds (is_some_with (names_version e) (known_version s (key_of e))) (may_refresh e head s) is))) (along (refresh-same e head s (itself s)) p))
+      (λ is. settle_unchanged-told e a _ (renewed-has e head s (some_with (names_version e) (known_version s (key_of e)) (first_holds (is_some_with (names_version e) (known_version s (key_of e))) (may_refresh e head s) is))) (along (renew_row-same e head s (itself s)) p))
       (useless-told e a s p)
 
   not_shared-told : (e : Exchange) (a : Answer) (s : State) → Coming tale e a s → Told tale e a (not_shared e s)
@@ -984,6 +986,17 @@ pub record Hears (tale : Tale) (k : Conn) (bytes : Bytes) (s : State) : Type 0 w
       → (is_whole : Bool) → (is_whole ≡ true → IsDone (body_of rule []).outcome) → Comes tale e s.clients head rule [] is_whole
   pub goes : (e : Exchange) (a : Answer) → k.answer ≡ Some a → front_of_line s k ≡ Some e → (is_whole : Bool) → (is_whole ≡ true → IsDone (body_of a.rule (a.raw ++ bytes)).outcome) → Comes tale e s.clients a.head a.rule (body_of a.rule (a.raw ++ bytes)).payload is_whole
 
+-- whatever rows are there
+hears_on : {tale : Tale} (k : Conn) (bytes : Bytes) (s t : State) → PartsOf s t → Hears tale k bytes s → Hears tale k bytes t
+hears_on {tale} k bytes s t alike hears = record {
+  named = hears.named;
+  begins = λ e head rule no_answer first whole final ruled is_whole ends. subst (λ cs. Comes tale e cs head rule [] is_whole) (sym alike.clients_same) (hears.begins e head rule no_answer (before e first) whole final ruled is_whole ends);
+  goes = λ e a has first is_whole ends. subst (λ cs. Comes tale e cs a.head a.rule (body_of a.rule (a.raw ++ bytes)).payload is_whole) (sym alike.clients_same) (hears.goes e a has (before e first) is_whole ends);
+}
+  where
+    before : (e : Exchange) → front_of_line t k ≡ Some e → front_of_line s k ≡ Some e
+    before e first = sym (same_front {s = s} {t = t} k (record { conns = alike.conns_same; exchanges = alike.exchanges_same })) ∙ first
+
 -- or the end of the connection, with which a body ends
 pub record EndsWell (tale : Tale) (k : Conn) (s : State) : Type 0 where
   pub named : (a : Answer) → k.answer ≡ Some a → tale.firsts k.number ≡ first_of k.line
@@ -1186,7 +1199,11 @@ module _ {tale : Tale} where
 
   head_came-fed : {b : Since} (k : Conn) (head : Response) (bytes : Bytes) (s : State) → tale.but ≡ None → IsIn k s.conns → k.answer ≡ None → response_at (k.unread ++ bytes) ≡ Whole head → is_interim head.status ≡ false → (tale.follows ≡ true → Hears tale k bytes s) → Sound b s → Fed tale s → Fed tale (head_came k head s)
   unfolding head_came
-  head_came-fed k head bytes s calm there no_answer whole final hears hs h = each_so (front_of_line s k) (λ none. close_conn-fed false k s h) (λ e front. answer_for-fed k e head bytes s calm there no_answer front whole final hears hs h)
+  head_came-fed k head bytes s calm there no_answer whole final hears hs h = each_so (front_of_line s k) (λ none. close_conn-fed false k s h)
+      (λ e front.
+      let u = bring_row-untouched e head s in
+      let first = same_front k u ∙ front in
+      answer_for-fed k e head bytes _ calm (subst (λ ks. IsIn k ks) (sym u.conns) there) no_answer first whole final (λ on. hears_on k bytes s _ (parts_of (bring_row-same e head s (itself s))) (hears on)) (bring_row-sound e head s hs) (still (bring_row-same e head s (itself s)) h))
 
   -- ---- bytes
 

@@ -1,12 +1,12 @@
 -- A row that was made, or brought into memory, is there.
-use Rattle.std.proofs.Common.{◌≡◌, ◌⊎◌, refl, ℕ, Bool, true, false, not, ◌&&◌, ◌==◌, List, [], ◌∷◌, ◌++◌, map, filter, find, cond, bytes_eq, Option, Some, None, inl, inr, sym, ap, ◌∙◌}
+use Rattle.std.proofs.Common.{◌≡◌, ◌⊎◌, refl, ℕ, Bool, true, false, not, ◌&&◌, ◌==◌, List, [], ◌∷◌, ◌++◌, map, filter, find, cond, bytes_eq, Option, Some, None, inl, inr, sym, ap, ◌∙◌, option_map}
 use Rattle.std.proofs.lemmas.Slice.Eq.{bytes_eq-Decides}
 use Rattle.pp_fresh.specs.declared.aging.Times.{Times}
 use Rattle.pp_head.specs.Response.{Response}
 use Rattle.pp_text.specs.Fields.{Field}
 use Rattle.pp_valid.specs.declared.version.Version.{Version}
 use Rattle.pp_law.specs.Lists.{Bytes}
-use Rattle.pp_law.specs.OwnHeads.{key_of, known_version, refresh, renew, renew_row, renewed, times_for}
+use Rattle.pp_law.specs.OwnHeads.{key_of, known_version, renew, renew_row, renewed, times_for}
 use Rattle.pp_law.specs.State.{State, Entry, Exchange, Instance}
 use Rattle.pp_law.specs.Table.{add_row, clear, enter, is_instance, is_row_of, row_on_disk, make_row, mark_row, on_instance, row, with_room}
 use Rattle.pp_laws.specs.Runs.{IsIn}
@@ -70,21 +70,6 @@ pub make_row-has : (key : Bytes) (version : Version) (fields : List Field) (time
 unfolding make_row
 make_row-has key version fields times s = add_row-has key version fields times true (with_room (clear key s))
 
-enter-has : (key : Bytes) (is_new : Bool) (s : State) → (known_version s key ≡ None → ⊥) → HasRow key (enter key is_new s)
-unfolding enter
-enter-has key is_new s known = by (row s key) (row_on_disk s key) refl refl
-  where
-    by : (o : Option Instance) (p : Option Entry) → row s key ≡ o → row_on_disk s key ≡ p
-        → HasRow key (elim o as (λ c. State) [ Some x ↦ s | None ↦ elim p as (λ c. State) [ None ↦ s | Some e ↦ add_row key e.version e.fields e.times is_new (with_room s) ] ])
-    by (Some x) p is kept none = let both : Some x ≡ None = sym is ∙ none in cc both
-    by None (Some e) is kept none = add_row-has key e.version e.fields e.times is_new (with_room s) none
-    by None None is kept none = known (nothing_known is kept)
-      where
-        nothing_known : row s key ≡ None → row_on_disk s key ≡ None → known_version s key ≡ None
-        nothing_known no_row no_entry =
-            ap (λ (o : Option Instance). elim o as (λ c. Option Version) [ Some x ↦ Some x.version | None ↦ elim (row_on_disk s key) as (λ c. Option Version) [ None ↦ None | Some k ↦ Some k.version ] ]) no_row
-            ∙ ap (λ (o : Option Entry). elim o as (λ c. Option Version) [ None ↦ None | Some k ↦ Some k.version ]) no_entry
-
 renew-has : (key : Bytes) (x : Instance) (head : Response) (times : Times) (s : State) → IsIn x s.instances → is_row_of key x ≡ true → HasRow key (renew x head times s)
 unfolding renew mark_row on_instance
 renew-has key x head times s there is none =
@@ -103,6 +88,5 @@ renew_row-has e head s has = by (row s (key_of e)) refl
     by None is = has
     by (Some x) is = let there = in_find (is_row_of (key_of e)) x s.instances is in renew-has (key_of e) x head (times_for e head s) s there.0 there.1
 
-pub refresh-has : (e : Exchange) (head : Response) (s : State) → (known_version s (key_of e) ≡ None → ⊥) → HasRow (key_of e) (refresh e head s)
-unfolding refresh
-refresh-has e head s known = renew_row-has e head (enter (key_of e) true s) (enter-has (key_of e) true s known)
+pub renewed-has : (e : Exchange) (head : Response) (s : State) → (known_version s (key_of e) ≡ None → ⊥) → HasRow (key_of e) (renew_row e head s)
+renewed-has e head s known = renew_row-has e head s (λ none. known (ap (λ (o : Option Instance). option_map (λ (x : Instance). x.version) o) none))

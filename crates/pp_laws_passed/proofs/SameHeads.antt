@@ -5,7 +5,8 @@ use Rattle.pp_head.specs.Response.{Response}
 use Rattle.pp_target.specs.Key.{Key, text_of}
 use Rattle.pp_text.specs.Bytes.{is_empty}
 use Rattle.pp_law.specs.Lists.{Bytes, is_some_with}
-use Rattle.pp_law.specs.OwnHeads.{key_of, times_for, renewed, renew, renew_row, refresh, known_version, clears_row, cleared_by, note_own, note_sent, join}
+use Rattle.pp_law.specs.OwnHeads.{key_of, times_for, renewed, renew, renew_row, known_version, clears_row, cleared_by, note_own, note_sent, join}
+use Rattle.pp_law.specs.Responses.{bring_row, is_readable}
 use Rattle.pp_law.specs.State.{State, Answer, Exchange, Instance, Bound}
 use Rattle.pp_law.specs.Table.{row, instance}
 use Rattle.pp_law.specs.ThroughHeads.{invalidates, key_named, is_same_host, clear_named, clear_each, places_named, invalidated, disproves, reads, disproved}
@@ -21,9 +22,9 @@ pub renew_row-same : {o : State} (e : Exchange) (head : Response) (s : State) �
 unfolding renew_row
 renew_row-same e head s h = each_of (row s (key_of e)) h (λ x. renew-same x head (times_for e head s) s h)
 
-pub refresh-same : {o : State} (e : Exchange) (head : Response) (s : State) → Same o s → Same o (refresh e head s)
-unfolding refresh
-refresh-same e head s h = renew_row-same e head _ (enter-same (key_of e) true s h)
+pub bring_row-same : {o : State} (e : Exchange) (head : Response) (s : State) → Same o s → Same o (bring_row e head s)
+unfolding bring_row
+bring_row-same e head s h = when (is_readable e head) (enter-same (key_of e) true s h) h
 
 pub cleared_by-same : {o : State} (head : Response) (e : Exchange) (s : State) → Same o s → Same o (cleared_by head e s)
 unfolding cleared_by

@@ -22,7 +22,7 @@ use Rattle.pp_law.specs.Connections.{conn, exchange, is_conn, is_exchange, on_cl
 use Rattle.pp_law.specs.Lists.{Bytes}
 use Rattle.pp_law.specs.OwnHeads.{is_wrong_head, join, join_bound, moved_on, note_own, note_sent}
 use Rattle.pp_law.specs.Passing.{pour, poured}
-use Rattle.pp_law.specs.Responses.{skip_body, rested, close_this, may_go_on, finish, bad_response, bad_head, asks_head, by_aim, answer_with, answered_by, end_if_empty, begin_answer, answer_for, head_came, Piece, is_early, with_unread, head_piece, deliver, payload_of, body_piece_of, body_piece, next_piece, got}
+use Rattle.pp_law.specs.Responses.{skip_body, rested, close_this, may_go_on, finish, bad_response, bad_head, asks_head, by_aim, answer_with, answered_by, end_if_empty, begin_answer, answer_for, head_came, Piece, is_early, with_unread, head_piece, deliver, payload_of, body_piece_of, body_piece, next_piece, got, bring_row}
 use Rattle.pp_law.specs.Stages.{bound_of}
 use Rattle.pp_law.specs.State.{State, Aim, Through, Own, Filling, Joining, Answer, Bound, Chunk, Conn, Exchange, Instance}
 use Rattle.pp_law.specs.Table.{extent_of, instance}
@@ -39,7 +39,7 @@ use Rattle.pp_laws_pool.proofs.WalkCases.{by_aim_of, each_of, when}
 use Rattle.pp_laws_pool.proofs.WalkClients.{pour-keeps}
 use Rattle.pp_laws_pool.proofs.WalkClosings.{close_conn-keeps}
 use Rattle.pp_laws_pool.proofs.WalkExchanges.{end_exchange-keeps, on_conn-keeps, on_exchange-keeps, same_ask}
-use Rattle.pp_laws_pool.proofs.WalkHeads.{by_aim-keeps}
+use Rattle.pp_laws_pool.proofs.WalkHeads.{bring_row-keeps, by_aim-keeps}
 use Rattle.pp_laws_pool.proofs.WalkPieces.{bad_head-keeps, bad_response-keeps, close_this-keeps, lesser_rested, skip_body-keeps}
 
 -- ---- changes of one connection
@@ -413,7 +413,7 @@ answer_for-pool a k e head s h = when (is_wrong_head e head) (bad_head-keeps (po
 
 head_came-pool : (a : As) (k : Conn) (head : Response) (s : State) → Holds (Pool (plain a)) s → Holds (Pool (plain a)) (head_came k head s)
 unfolding head_came
-head_came-pool a k head s h = each_of (front_of_line s k) (close_conn-keeps (pool_walk (plain a)) false k s h) (λ e. answer_for-pool a k e head s h)
+head_came-pool a k head s h = each_of (front_of_line s k) (close_conn-keeps (pool_walk (plain a)) false k s h) (λ e. answer_for-pool a k e head _ (bring_row-keeps (pool_walk (plain a)) e head s h))
 
 -- ---- pieces
 

@@ -16,9 +16,9 @@ use Rattle.pp_text.specs.Bytes.{is_empty}
 use Rattle.pp_valid.specs.declared.version.Version.{Version}
 use Rattle.pp_law.specs.Connections.{conn, exchange, is_for, front_of_line, on_conn, attempts_of, without_shared_row, end_exchange, close_conn}
 use Rattle.pp_law.specs.Lists.{Bytes, is_some_with}
-use Rattle.pp_law.specs.OwnHeads.{key_of, is_asked_by, tell, use_body, drop_answer, useless, times_for, renewed, renew, settle_on, renew_row, refresh, may_refresh, settle_known, known_version, settle, may_join, names_version, settle_unchanged, unchanged, is_of_another, forbids_sharing, not_shared, not_modified, clears_row, cleared_by, is_private_part, is_widened, relay_head, other_head, other_part, own_head, is_bound, lacks_next, count_elsewhere, part_head, filling_head, version_in, is_wrong_head, note_own, note_sent, join, join_bound}
+use Rattle.pp_law.specs.OwnHeads.{key_of, is_asked_by, tell, use_body, drop_answer, useless, times_for, renewed, renew, settle_on, renew_row, may_refresh, settle_known, known_version, settle, may_join, names_version, settle_unchanged, unchanged, is_of_another, forbids_sharing, not_shared, not_modified, clears_row, cleared_by, is_private_part, is_widened, relay_head, other_head, other_part, own_head, is_bound, lacks_next, count_elsewhere, part_head, filling_head, version_in, is_wrong_head, note_own, note_sent, join, join_bound}
 use Rattle.pp_law.specs.Passing.{pour}
-use Rattle.pp_law.specs.Responses.{skipping, skip_body, rested, close_this, may_go_on, finish, bad_response, bad_head, by_aim, asks_head, answer_with, end_if_empty, begin_answer, answer_for, head_came, Piece, is_early, with_unread, head_piece, deliver, payload_of, body_piece_of, body_piece, next_piece, got, is_whole_at_end, finish_first, ended}
+use Rattle.pp_law.specs.Responses.{skipping, skip_body, rested, close_this, may_go_on, finish, bad_response, bad_head, by_aim, asks_head, answer_with, end_if_empty, begin_answer, answer_for, head_came, Piece, is_early, with_unread, head_piece, deliver, payload_of, body_piece_of, body_piece, next_piece, got, is_whole_at_end, finish_first, ended, bring_row, is_readable}
 use Rattle.pp_law.specs.Stages.{on_passed, bound_of}
 use Rattle.pp_law.specs.State.{State, Answer, Body, Brought, Client, Conn, Exchange, Instance, Bound}
 use Rattle.pp_law.specs.Table.{row, instance}
@@ -57,9 +57,9 @@ renew_row-quiet : {o : State} (e : Exchange) (head : Response) (s : State) → Q
 unfolding renew_row
 renew_row-quiet e head s h = each_of (row s (key_of e)) h (λ x. renew-quiet x head (times_for e head s) s h)
 
-refresh-quiet : {o : State} (e : Exchange) (head : Response) (s : State) → Quietly o s → Quietly o (refresh e head s)
-unfolding refresh
-refresh-quiet e head s h = renew_row-quiet e head _ (enter-quiet (key_of e) true s h)
+bring_row-quiet : {o : State} (e : Exchange) (head : Response) (s : State) → Quietly o s → Quietly o (bring_row e head s)
+unfolding bring_row
+bring_row-quiet e head s h = when (is_readable e head) (enter-quiet (key_of e) true s h) h
 
 settle_on-quiet : {o : State} (e : Exchange) (head : Response) (v : Version) (s : State) → Quietly o s → Quietly o (settle_on e head v s)
 unfolding settle_on
@@ -67,7 +67,7 @@ settle_on-quiet e head v s h = each_of (row s (key_of e)) h (λ x. tell-quiet e 
 
 settle_known-quiet : {o : State} (e : Exchange) (head : Response) (v : Version) (s : State) → Quietly o s → Quietly o (settle_known e head v s)
 unfolding settle_known
-settle_known-quiet e head v s h = when (may_refresh e head s) (settle_on-quiet e head v _ (refresh-quiet e head s h)) (useless-quiet e s h)
+settle_known-quiet e head v s h = when (may_refresh e head s) (settle_on-quiet e head v _ (renew_row-quiet e head s h)) (useless-quiet e s h)
 
 settle-quiet : {o : State} (e : Exchange) (head : Response) (v : Version) (s : State) → Quietly o s → Quietly o (settle e head v s)
 unfolding settle
@@ -83,7 +83,7 @@ settle_unchanged-quiet e s h = each_of (row s (key_of e)) h (λ x. tell-quiet e 
 
 unchanged-quiet : {o : State} (e : Exchange) (head : Response) (s : State) → Quietly o s → Quietly o (unchanged e head s)
 unfolding unchanged
-unchanged-quiet e head s h = when (is_some_with (names_version e) (known_version s (key_of e)) && may_refresh e head s) (settle_unchanged-quiet e _ (refresh-quiet e head s h)) (useless-quiet e s h)
+unchanged-quiet e head s h = when (is_some_with (names_version e) (known_version s (key_of e)) && may_refresh e head s) (settle_unchanged-quiet e _ (renew_row-quiet e head s h)) (useless-quiet e s h)
 
 not_shared-quiet : {o : State} (e : Exchange) (s : State) → Quietly o s → Quietly o (not_shared e s)
 unfolding not_shared
@@ -204,7 +204,7 @@ answer_for-quiet k e head s h =
 
 head_came-quiet : {o : State} (k : Conn) (head : Response) (s : State) → Quietly o s → Quietly o (head_came k head s)
 unfolding head_came
-head_came-quiet k head s h = each_of (front_of_line s k) (close_conn-quiet false k s h) (λ e. answer_for-quiet k e head s h)
+head_came-quiet k head s h = each_of (front_of_line s k) (close_conn-quiet false k s h) (λ e. answer_for-quiet k e head _ (bring_row-quiet e head s h))
 
 -- ---- bytes
 

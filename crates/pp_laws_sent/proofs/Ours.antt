@@ -14,7 +14,7 @@ use Rattle.pp_law.specs.Connections.{is_conn, is_exchange, on_conn, on_exchange,
 use Rattle.pp_law.specs.Lists.{Bytes, change}
 use Rattle.pp_law.specs.OwnHeads.{is_wrong_head, note_own, note_sent}
 use Rattle.pp_law.specs.Passing.{poured}
-use Rattle.pp_law.specs.Responses.{rested, finish, bad_response, bad_head, by_aim, asks_head, answer_with, answered_by, end_if_empty, begin_answer, answer_for, head_came, Piece, is_early, with_unread, head_piece_of, head_piece, deliver, payload_of, body_piece_of, body_piece, next_piece}
+use Rattle.pp_law.specs.Responses.{rested, finish, bad_response, bad_head, by_aim, asks_head, answer_with, answered_by, end_if_empty, begin_answer, answer_for, head_came, Piece, is_early, with_unread, head_piece_of, head_piece, deliver, payload_of, body_piece_of, body_piece, next_piece, bring_row}
 use Rattle.pp_law.specs.State.{State, Answer, Conn, Exchange}
 use Rattle.pp_laws.specs.Runs.{IsIn}
 use Rattle.pp_laws.proofs.Lists.{Changed, in_change, in_filter, in_map, other, same}
@@ -22,7 +22,7 @@ use Rattle.pp_laws_pool.proofs.View.{View, Walk, Holds, holds, facts_of, view}
 use Rattle.pp_laws_pool.proofs.WalkCases.{by_aim_of, each_of, when}
 use Rattle.pp_laws_pool.proofs.WalkClients.{pour-keeps}
 use Rattle.pp_laws_pool.proofs.WalkClosings.{close_conn-keeps}
-use Rattle.pp_laws_pool.proofs.WalkHeads.{by_aim-keeps}
+use Rattle.pp_laws_pool.proofs.WalkHeads.{bring_row-keeps, by_aim-keeps}
 use Rattle.pp_laws_pool.proofs.WalkPieces.{bad_head-keeps, bad_response-keeps, finish-keeps}
 use Rattle.pp_laws_sent.proofs.Pieces.{join_bound-keeps}
 
@@ -110,7 +110,7 @@ module _ (o : State) where
 
   head_came-ours : (k : Conn) (head : Response) (s : State) → Holds (Ours o) s → Holds (Ours o) (head_came k head s)
   unfolding head_came
-  head_came-ours k head s h = each_of (front_of_line s k) (close_conn-keeps ours_walk false k s h) (λ e. answer_for-ours k e head s h)
+  head_came-ours k head s h = each_of (front_of_line s k) (close_conn-keeps ours_walk false k s h) (λ e. answer_for-ours k e head _ (bring_row-keeps ours_walk e head s h))
 
   piece_by : (t : Bool) (p q : Piece) → Holds (Ours o) p.state → Holds (Ours o) q.state → Holds (Ours o) (elim t as (λ c. Piece) [ true ↦ p | false ↦ q ]).state
   piece_by true p q hp hq = hp

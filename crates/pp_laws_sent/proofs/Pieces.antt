@@ -25,7 +25,7 @@ use Rattle.pp_law.specs.Connections.{conn, is_conn, on_conn, on_exchange, front_
 use Rattle.pp_law.specs.Lists.{Bytes, change}
 use Rattle.pp_law.specs.OwnHeads.{key_of, first_offset, version_in, is_wrong_head, sent_as, note_own, note_sent, join, join_bound, moved_on}
 use Rattle.pp_law.specs.Passing.{pour, poured}
-use Rattle.pp_law.specs.Responses.{skip_body, rested, may_go_on, finish, bad_response, bad_head, asks_head, by_aim, answer_with, answered_by, end_if_empty, begin_answer, answer_for, head_came, Piece, is_early, with_unread, head_piece_of, head_piece, deliver, payload_of, body_piece_of, body_piece, next_piece, got}
+use Rattle.pp_law.specs.Responses.{skip_body, rested, may_go_on, finish, bad_response, bad_head, asks_head, by_aim, answer_with, answered_by, end_if_empty, begin_answer, answer_for, head_came, Piece, is_early, with_unread, head_piece_of, head_piece, deliver, payload_of, body_piece_of, body_piece, next_piece, got, bring_row}
 use Rattle.pp_law.specs.Stages.{bound_of}
 use Rattle.pp_law.specs.State.{State, Sent, Aim, Through, Own, Filling, Joining, Answer, Bound, Chunk, Conn, Exchange}
 use Rattle.pp_law.specs.Table.{instance}
@@ -34,6 +34,7 @@ use Rattle.pp_laws.proofs.Lists.{Changed, in_change, in_find, one_of, other, ris
 use Rattle.pp_laws.proofs.Payloads.{payload-grows}
 use Rattle.pp_laws.proofs.Pieces.{front_by}
 use Rattle.pp_laws.proofs.Sound.{conn_number, first_of}
+use Rattle.pp_laws.proofs.Untouched.{bring_row-untouched}
 use Rattle.pp_laws.proofs.Tests.{number_same, same_number}
 use Rattle.pp_laws_pool.proofs.Payloads.{nothing_bad}
 use Rattle.pp_laws_pool.proofs.PoolFacts.{GoesOn, nothing_read}
@@ -43,7 +44,7 @@ use Rattle.pp_laws_pool.proofs.WalkCases.{by_aim_of, each_of, when}
 use Rattle.pp_laws_pool.proofs.WalkClients.{pour-keeps}
 use Rattle.pp_laws_pool.proofs.WalkClosings.{close_conn-keeps, lose_place-keeps, off}
 use Rattle.pp_laws_pool.proofs.WalkExchanges.{each_exchange-keeps, on_exchange-keeps, same_ask}
-use Rattle.pp_laws_pool.proofs.WalkHeads.{by_aim-keeps}
+use Rattle.pp_laws_pool.proofs.WalkHeads.{bring_row-keeps, by_aim-keeps}
 use Rattle.pp_laws_pool.proofs.WalkPieces.{bad_head-keeps, bad_response-keeps, close_this-keeps, finish-keeps}
 use Rattle.pp_laws_sent.specs.Stands.{StandsIn}
 use Rattle.pp_laws_sent.proofs.Bodies.{body_less, done_ends}
@@ -364,8 +365,8 @@ module _ (total : ℕ → Bytes) (asked : ℕ → Exchange → Type 0) (firsts :
       wide : head.length ≤ length all
       wide = wide_by head.length all (response_cut all head whole).fewer whole
 
-      closed_bad : Holds (Reading k.number rest none_apart) (bad_head k s)
-      closed_bad = closed rest _ read (bad_head-shut k s) (bad_head-keeps (walk k.number bytes none_apart) k s h)
+      closed_bad : (t : State) → Holds (Reading k.number bytes none_apart) t → Holds (Reading k.number rest none_apart) (bad_head k t)
+      closed_bad t ht = closed rest _ read (bad_head-shut k t) (bad_head-keeps (walk k.number bytes none_apart) k t ht)
 
       -- it is a response to the first exchange of the line
       module _ (e : Exchange) (front : front_of_line s k ≡ Some e) (rule : BodyRule) (ruled : rule_of (asks_head e) head.status head.fields ≡ Ok rule) where
@@ -390,46 +391,49 @@ module _ (total : ℕ → Bytes) (asked : ℕ → Exchange → Type 0) (firsts :
           version = sym (version_in_same e was.was head was.is);
         }
 
-        started : Holds (Reading k.number rest (set_apart k.number a)) (on_conn k.number (answered_by a) s)
-        started = one_changed none_apart (set_apart k.number a) k (answered_by a) bytes rest s there (λ j. refl) (λ j. refl) (record {
-          read = read;
-          more = nothing_read;
-          past = λ b is. refl;
-          shut = λ is. open_still is;
-          begun = λ b is. subst (Began (total k.number) rest (asked k.number) (firsts k.number)) (same_in is) began;
-          going = λ b is. inr (ap (set_apart k.number) (same_in is));
-        }) (none_only k.number) h
+        -- whatever rows are there then
+        module _ (t : State) (there_t : IsIn k t.conns) (ht : Holds (Reading k.number bytes none_apart) t) where
+          started : Holds (Reading k.number rest (set_apart k.number a)) (on_conn k.number (answered_by a) t)
+          started = one_changed none_apart (set_apart k.number a) k (answered_by a) bytes rest t there_t (λ j. refl) (λ j. refl) (record {
+            read = read;
+            more = nothing_read;
+            past = λ b is. refl;
+            shut = λ is. open_still is;
+            begun = λ b is. subst (Began (total k.number) rest (asked k.number) (firsts k.number)) (same_in is) began;
+            going = λ b is. inr (ap (set_apart k.number) (same_in is));
+          }) (none_only k.number) ht
 
-        begin_answer-came : Holds (Reading k.number rest none_apart) (begin_answer k e head rule s)
-        unfolding begin_answer end_if_empty
-        begin_answer-came = by (body_of rule []).outcome refl
-          where
-            u : State
-            u = by_aim e head rule (on_conn k.number (answered_by a) s)
+          begin_answer-came : Holds (Reading k.number rest none_apart) (begin_answer k e head rule t)
+          unfolding begin_answer end_if_empty
+          begin_answer-came = by (body_of rule []).outcome refl
+            where
+              u : State
+              u = by_aim e head rule (on_conn k.number (answered_by a) t)
 
-            hu : Holds (Reading k.number rest (set_apart k.number a)) u
-            hu = by_aim-keeps (walk k.number rest (set_apart k.number a)) e head rule _ started
+              hu : Holds (Reading k.number rest (set_apart k.number a)) u
+              hu = by_aim-keeps (walk k.number rest (set_apart k.number a)) e head rule _ started
 
-            by : (o : Outcome) → (body_of rule []).outcome ≡ o → Holds (Reading k.number rest none_apart) (elim o as (λ c. State) [ Done left ↦ finish k e a u | Going ↦ u | Bad ↦ u ])
-            by (Done left) is = now_shut k.number rest rest (set_apart k.number a) _ read (one_only k.number a) (finish-shut k e a u) (finish-keeps (walk k.number rest (set_apart k.number a)) k e a u hu)
-            by Going is = set_down k.number rest a u is hu
-            by Bad is = absurd (nothing_bad rule is)
+              by : (o : Outcome) → (body_of rule []).outcome ≡ o → Holds (Reading k.number rest none_apart) (elim o as (λ c. State) [ Done left ↦ finish k e a u | Going ↦ u | Bad ↦ u ])
+              by (Done left) is = now_shut k.number rest rest (set_apart k.number a) _ read (one_only k.number a) (finish-shut k e a u) (finish-keeps (walk k.number rest (set_apart k.number a)) k e a u hu)
+              by Going is = set_down k.number rest a u is hu
+              by Bad is = absurd (nothing_bad rule is)
 
-      answer_for-came : (e : Exchange) → front_of_line s k ≡ Some e → Holds (Reading k.number rest none_apart) (answer_for k e head s)
+      answer_for-came : (e : Exchange) → front_of_line s k ≡ Some e → (t : State) → IsIn k t.conns → Holds (Reading k.number bytes none_apart) t → Holds (Reading k.number rest none_apart) (answer_for k e head t)
       unfolding answer_for
-      answer_for-came e front = when (is_wrong_head e head) closed_bad (by (rule_of (asks_head e) head.status head.fields) refl)
+      answer_for-came e front t there_t ht = when (is_wrong_head e head) (closed_bad t ht) (by (rule_of (asks_head e) head.status head.fields) refl)
         where
-          by : (read_as : Result BodyRule ResponseFault) → rule_of (asks_head e) head.status head.fields ≡ read_as → Holds (Reading k.number rest none_apart) (elim read_as as (λ c. State) [ Ok rule ↦ begin_answer k e head rule s | Err fault ↦ bad_head k s ])
-          by (Ok rule) is = begin_answer-came e front rule is
-          by (Err fault) is = closed_bad
+          by : (read_as : Result BodyRule ResponseFault) → rule_of (asks_head e) head.status head.fields ≡ read_as → Holds (Reading k.number rest none_apart) (elim read_as as (λ c. State) [ Ok rule ↦ begin_answer k e head rule t | Err fault ↦ bad_head k t ])
+          by (Ok rule) is = begin_answer-came e front rule is t there_t ht
+          by (Err fault) is = closed_bad t ht
 
       head_came-came : Holds (Reading k.number rest none_apart) (head_came k head s)
       unfolding head_came
       head_came-came = by (front_of_line s k) refl
         where
-          by : (o : Option Exchange) → front_of_line s k ≡ o → Holds (Reading k.number rest none_apart) (elim o as (λ c. State) [ None ↦ close_conn false k s | Some e ↦ answer_for k e head s ])
+          by : (o : Option Exchange) → front_of_line s k ≡ o → Holds (Reading k.number rest none_apart) (elim o as (λ c. State) [ None ↦ close_conn false k s | Some e ↦ answer_for k e head (bring_row e head s) ])
           by None none = closed rest _ read (close_conn-shut false k s) (close_conn-keeps (walk k.number bytes none_apart) false k s h)
-          by (Some e) front = answer_for-came e front
+          by (Some e) front =
+              answer_for-came e front (bring_row e head s) (subst (λ ks. IsIn k ks) (sym (bring_row-untouched e head s).conns) there) (bring_row-keeps (walk k.number bytes none_apart) e head s h)
 
     -- ---- a piece of it
 

@@ -20,7 +20,7 @@ use Rattle.pp_law.specs.Lawful.{Lawful}
 use Rattle.pp_law.specs.Lists.{Bytes, is_some_with}
 use Rattle.pp_law.specs.OwnHeads.{is_wrong_head}
 use Rattle.pp_law.specs.Phases.{come_to_decide}
-use Rattle.pp_law.specs.Responses.{asks_head, by_aim, is_early, is_whole_at_end, next_piece}
+use Rattle.pp_law.specs.Responses.{asks_head, by_aim, is_early, is_whole_at_end, next_piece, bring_row}
 use Rattle.pp_law.specs.State.{State, Term, Course, Trying, OutOfTries, AskTooLong, RowRefused, Answer, Conn, Exchange, start}
 use Rattle.pp_law.specs.Turn.{is_idle_conn}
 
@@ -48,7 +48,7 @@ are_fresh s = list_all (λ c. is_fresh c.course) s.clients
 
 -- a head that its ask allows, of a body that has a rule, and that costs no request an attempt
 abbrev pub is_useful : State → Exchange → Response → Bool
-is_useful s e head = not (is_wrong_head e head) && (elim (rule_of (asks_head e) head.status head.fields) [ Ok rule ↦ not (are_fresh s) || are_fresh (by_aim e head rule s) | Err fault ↦ false ])
+is_useful s e head = not (is_wrong_head e head) && (elim (rule_of (asks_head e) head.status head.fields) [ Ok rule ↦ not (are_fresh s) || are_fresh (by_aim e head rule (bring_row e head s)) | Err fault ↦ false ])
 
 abbrev pub is_good_head : State → Conn → Bytes → Bool
 is_good_head s k bytes = elim (response_at bytes) [

@@ -16,9 +16,9 @@ use Rattle.pp_text.specs.Bytes.{is_empty}
 use Rattle.pp_valid.specs.declared.version.Version.{Version}
 use Rattle.pp_law.specs.Connections.{conn, exchange, is_for, front_of_line, on_conn, end_exchange}
 use Rattle.pp_law.specs.Lists.{Bytes, is_some_with}
-use Rattle.pp_law.specs.OwnHeads.{key_of, tell, use_body, drop_answer, useless, times_for, renewed, renew, settle_on, renew_row, refresh, known_version, may_refresh, settle_known, names_version, may_join, settle, settle_unchanged, unchanged, forbids_sharing, is_of_another, not_shared, not_modified, clears_row, cleared_by, is_private_part, is_widened, relay_head, other_head, other_part, own_head, is_bound, lacks_next, count_elsewhere, part_head, filling_head, is_wrong_head, version_in, note_own, note_sent, join, join_bound}
+use Rattle.pp_law.specs.OwnHeads.{key_of, tell, use_body, drop_answer, useless, times_for, renewed, renew, settle_on, renew_row, known_version, may_refresh, settle_known, names_version, may_join, settle, settle_unchanged, unchanged, forbids_sharing, is_of_another, not_shared, not_modified, clears_row, cleared_by, is_private_part, is_widened, relay_head, other_head, other_part, own_head, is_bound, lacks_next, count_elsewhere, part_head, filling_head, is_wrong_head, version_in, note_own, note_sent, join, join_bound}
 use Rattle.pp_law.specs.Passing.{pour, poured}
-use Rattle.pp_law.specs.Responses.{skip_body, close_this, rested, may_go_on, finish, bad_response, bad_head, by_aim, asks_head, answer_with, answered_by, end_if_empty, begin_answer, answer_for, head_came, Piece, is_early, with_unread, head_piece_of, head_piece, deliver, payload_of, body_piece_of, body_piece, next_piece, got, is_whole_at_end, finish_first, ended}
+use Rattle.pp_law.specs.Responses.{skip_body, close_this, rested, may_go_on, finish, bad_response, bad_head, by_aim, asks_head, answer_with, answered_by, end_if_empty, begin_answer, answer_for, head_came, Piece, is_early, with_unread, head_piece_of, head_piece, deliver, payload_of, body_piece_of, body_piece, next_piece, got, is_whole_at_end, finish_first, ended, bring_row, is_readable}
 use Rattle.pp_law.specs.State.{State, Brought, Body, Conn, Exchange, Instance, Answer, Bound}
 use Rattle.pp_law.specs.Table.{row, instance}
 use Rattle.pp_law.specs.ThroughHeads.{invalidates, key_named, is_same_host, clear_named, clear_each, places_named, invalidated, disproves, reads, disproved, through_head}
@@ -55,13 +55,13 @@ renew_row-stays : {o : Frame} (e : Exchange) (head : Response) (s : State) → S
 unfolding renew_row
 renew_row-stays e head s h = each_of (row s (key_of e)) h (λ x. renew-stays x head (times_for e head s) s h)
 
-refresh-stays : {o : Frame} (e : Exchange) (head : Response) (s : State) → Stays false o s → Stays false o (refresh e head s)
-unfolding refresh
-refresh-stays e head s h = renew_row-stays e head _ (enter-stays (key_of e) true s h)
+bring_row-stays : {o : Frame} (e : Exchange) (head : Response) (s : State) → Stays false o s → Stays false o (bring_row e head s)
+unfolding bring_row
+bring_row-stays e head s h = when (is_readable e head) (enter-stays (key_of e) true s h) h
 
 settle_known-stays : {o : Frame} (e : Exchange) (head : Response) (v : Version) (s : State) → Stays false o s → Stays false o (settle_known e head v s)
 unfolding settle_known
-settle_known-stays e head v s h = when (may_refresh e head s) (settle_on-stays e head v _ (refresh-stays e head s h)) (useless-stays e s h)
+settle_known-stays e head v s h = when (may_refresh e head s) (settle_on-stays e head v _ (renew_row-stays e head s h)) (useless-stays e s h)
 
 settle-stays : {o : Frame} (e : Exchange) (head : Response) (v : Version) (s : State) → Stays false o s → Stays false o (settle e head v s)
 unfolding settle
@@ -74,7 +74,7 @@ settle_unchanged-stays e s h = each_of (row s (key_of e)) h (λ x. tell-stays e 
 
 unchanged-stays : {o : Frame} (e : Exchange) (head : Response) (s : State) → Stays false o s → Stays false o (unchanged e head s)
 unfolding unchanged
-unchanged-stays e head s h = when (is_some_with (names_version e) (known_version s (key_of e)) && may_refresh e head s) (settle_unchanged-stays e _ (refresh-stays e head s h)) (useless-stays e s h)
+unchanged-stays e head s h = when (is_some_with (names_version e) (known_version s (key_of e)) && may_refresh e head s) (settle_unchanged-stays e _ (renew_row-stays e head s h)) (useless-stays e s h)
 
 not_shared-stays : {o : Frame} (e : Exchange) (s : State) → Stays false o s → Stays false o (not_shared e s)
 unfolding not_shared
@@ -187,7 +187,7 @@ answer_for-stays k e head s h = when (is_wrong_head e head) (bad_head-stays k s 
 
 head_came-stays : {o : Frame} (k : Conn) (head : Response) (s : State) → Stays false o s → Stays false o (head_came k head s)
 unfolding head_came
-head_came-stays k head s h = each_of (front_of_line s k) (close_conn-stays false k s h) (λ e. answer_for-stays k e head s h)
+head_came-stays k head s h = each_of (front_of_line s k) (close_conn-stays false k s h) (λ e. answer_for-stays k e head _ (bring_row-stays e head s h))
 
 -- ---- bytes
 

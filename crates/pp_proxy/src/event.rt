@@ -51,6 +51,7 @@ pub(crate) fn handle<W: World>(
         Event::Tick(seconds) => tick(desk, seconds),
         Event::Accepted(c) => accept(desk, c),
         Event::Readable(id) => {
+            desk.state.regain();
             desk.touch(id);
             match desk.state.seat_of(id) {
                 Some(i) => {
@@ -61,6 +62,7 @@ pub(crate) fn handle<W: World>(
             }
         }
         Event::Writable(id) => {
+            desk.state.regain();
             desk.touch(id);
             match desk.state.seat_of(id) {
                 Some(i) => {
@@ -76,7 +78,10 @@ pub(crate) fn handle<W: World>(
                 peer.is_reached = true;
             }
         }
-        Event::Broken(k) => gone(desk, links, world, k, false),
+        Event::Broken(k) => {
+            desk.state.regain();
+            gone(desk, links, world, k, false);
+        }
     }
 }
 

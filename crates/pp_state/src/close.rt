@@ -6,7 +6,7 @@ ghost use Rattle.pp_state.specs.Lines.{lost_line};
 ghost use Rattle.pp_state.specs.Ends.{asked_elsewhere, charged_where, cut_short, is_over_at, left_place, lost_place, numbers_of, parts, AreSeated, KeepsRest};
 
 use crate::state::State;
-use pp_flow::Exchange;
+use pp_flow::{EXCHANGES, Exchange};
 use pp_seats::PassedEnd;
 
 /// Some client is to be closed.
@@ -65,7 +65,7 @@ fn charge(state: &mut State, e: &Exchange, counts: bool)
 }
 
 /// Behind its head it is over, and before that it is asked again for the request that waits for it.
-#[tactic(auto, unfolding(pp_state::specs::Ends::left_place))]
+#[tactic(auto, unfolding(crate::specs::Ends::left_place))]
 fn leave_place(state: &mut State, e: &Exchange)
     ensures is { AreSeated state.old → parts state.new ≡ left_place e.now (parts state.old) }
     ensures numbers { numbers_of state.new.seats.items ≡ numbers_of state.old.seats.items }
@@ -95,7 +95,7 @@ fn ask_elsewhere(state: &mut State, number: u64)
 }
 
 /// What was passed of it ends early.
-#[tactic(auto, using(pp_state::proofs::SeatsLemmas::changed_here, pp_state::proofs::SeatsLemmas::set_numbers))]
+#[tactic(auto, using(crate::proofs::SeatsLemmas::changed_here, crate::proofs::SeatsLemmas::set_numbers))]
 fn cut_short(state: &mut State, e: &Exchange)
     ensures is { AreSeated state.old → parts state.new ≡ cut_short e.now (parts state.old) }
     ensures numbers { numbers_of state.new.seats.items ≡ numbers_of state.old.seats.items }

@@ -14,7 +14,7 @@ use arrayvec::ArrayVec;
 use pp_ask::ASK_LEN;
 use pp_cache::CHUNK_LEN;
 use pp_client::Current;
-use pp_flow::{Aim, Entry, Errand, Kind};
+use pp_flow::{Aim, EXCHANGES, Entry, Errand, Kind};
 use pp_objects::ObjectId;
 use pp_plan::need;
 use pp_seats::{Course, Next};

@@ -1,0 +1,274 @@
+-- What is done for clients keeps what is kept by each change: decisions, replies, asks and closings.
+use Rattle.std.proofs.Common.{◌≡◌, refl, ℕ, zero, suc, ◌+◌, ◌-◌, ◌/◌, nat_lt, Bool, true, false, not, ◌==◌, ◌&&◌, ◌||◌, List, map, Option, Some, None, Ok, Err, sym, subst, ap, ◌∙◌}
+use Rattle.pp_ask.specs.declared.kind.AskKind.{AskKind}
+use Rattle.pp_head.specs.Request.{Request}
+use Rattle.pp_pass.specs.Pipe.{Pipe}
+use Rattle.pp_target.specs.Key.{Key, text_of}
+use Rattle.pp_world.specs.declared.note.Decision.TheVariants.{Refuse, Hit, Part, Head, NotModified, Unsatisfiable, Relay, Validate, Fetch, Pass}
+use Rattle.pp_world.specs.declared.note.Decision.{Decision}
+use Rattle.pp_law.specs.Asking.{asking, is_writing, hear, ask_body, ask_next, ask, hang_up, asked_text, asked_body}
+use Rattle.pp_law.specs.Chunks.{chunk_len, use_chunk}
+use Rattle.pp_law.specs.Closing.{is_of, left_alone, forsake, is_over, leave, leave_one, exchanges_of, close_client}
+use Rattle.pp_law.specs.Connections.{is_client, is_outstanding, is_trying, on_client, on_exchange}
+use Rattle.pp_law.specs.Deciding.{refused_with, refuse, begin_exchange, new_exchange, asking_with, ask_for, ask_as, ask_origin, reply_by, answering_with, serves, follow_with, follow_row, follow, relay, is_for_memory, mark_row_of, enter_row, decided_by, decided}
+use Rattle.pp_law.specs.Decisions.{kind_of, fits}
+use Rattle.pp_law.specs.Followers.{need_of, filling_exchange, fill_with, fill_span, fill_next, fill_for, fill, is_useless_ask, give_up_asks}
+use Rattle.pp_law.specs.Hearing.{fronted, heard_by}
+use Rattle.pp_law.specs.Lists.{Bytes, change, is_some_with}
+use Rattle.pp_law.specs.Passing.{pour}
+use Rattle.pp_law.specs.Replies.{begun_at_end, is_outrun, begin_replies, use_chunks, use_from, use_said, of_body, is_said, next_request, end_reply, end_said, is_finished, close_finished, end_replies, regained_by, regained}
+use Rattle.pp_law.specs.Requests.{Front, Parsed, NoHeadYet, NoHead, IsRequest, key_in}
+use Rattle.pp_law.specs.Stages.{on_passed, reply_of}
+use Rattle.pp_law.specs.State.{State, AskTooLong, Client, Exchange, Passed, Phase}
+use Rattle.pp_law.specs.Table.{Next, is_row_of, next_in, next_of, row, row_for}
+use Rattle.pp_laws.specs.Runs.{IsIn}
+use Rattle.pp_laws_turn.proofs.Same.{asking_with-same, begun_at_end-same, heard_by-same, on_passed-same, refused_with-same, regained_by-same, relayed-same}
+use Rattle.pp_laws.proofs.Lists.{changed_at, in_find}
+use Rattle.pp_laws.proofs.Sound.{instance_id}
+use Rattle.pp_laws.proofs.Tests.{number_same, same_number}
+use Rattle.pp_laws_bounds.proofs.Counts.{in_map_of}
+use Rattle.pp_laws_turn.proofs.View.{View, Walk, Begins, Follows, Holds, holds, facts_of, view, IsNew, KeepsRows, MovesOn, is_late}
+use Rattle.pp_laws_turn.proofs.Cases.{by_result, each_of, each_so, when}
+use Rattle.pp_laws_turn.proofs.Exchanges.{each_client-keeps, on_client-keeps, on_client_of-keeps, on_exchange-keeps, on_exchange_of-keeps, same_ask, same_parts}
+use Rattle.pp_laws_turn.proofs.Rows.{enter-keeps, mark_row-keeps, swept-keeps, use_chunk-keeps}
+
+pub pour-keeps : {P : View → Type 0} (w : Walk P) (e : Exchange) (f : Pipe → Pipe) (s : State) → Holds P s → Holds P (pour e f s)
+unfolding pour
+pour-keeps w e f s h = on_client_of-keeps w e (on_passed piped) s (on_passed-same piped) h
+  where
+    piped : Passed → Passed
+    piped p = record p { pipe = f p.pipe }
+
+-- ---- an exchange that its request leaves
+
+pub forsake-keeps : {P : View → Type 0} (w : Walk P) (test : Exchange → Bool) (s : State) → Holds P s → Holds P (forsake test s)
+unfolding forsake
+forsake-keeps w test s h = holds (w.left test (view s) (facts_of h))
+
+pub leave-keeps : {P : View → Type 0} (w : Walk P) (test : Exchange → Bool) (s : State) → Holds P s → Holds P (leave test s)
+unfolding leave
+leave-keeps w test s h = holds (w.over (λ e. not (is_over e)) (view (forsake test s)) (facts_of (forsake-keeps w test s h)))
+
+-- ---- a client is closed
+
+pub close_client-keeps : {P : View → Type 0} (w : Walk P) (n : ℕ) (is_cut : Bool) (s : State) → Holds P s → Holds P (close_client n is_cut s)
+unfolding close_client
+close_client-keeps w n is_cut s h = swept-keeps w.rows _ (holds (w.closes n (λ c. record c { is_closing = true; is_cut = c.is_cut || is_cut }) (λ c. refl) (λ c. refl) s (facts_of h)))
+
+-- ---- decisions
+
+refuse-keeps : {P : View → Type 0} (w : Walk P) (c : Client) (status : ℕ) (s : State) → Holds P s → Holds P (refuse c status s)
+unfolding refuse
+refuse-keeps w c status s h = swept-keeps w.rows _ (leave-keeps w (is_of c.number) _ (on_client-keeps w c.number (refused_with status) s (refused_with-same status) h))
+
+pub begin_exchange-keeps : {P : View → Type 0} (b : Begins P) (e : Exchange) (s : State) → IsNew e s.clients → Holds P s → Holds P (begin_exchange e s)
+begin_exchange-keeps b e s is_new h = holds (b e s is_new (facts_of h))
+
+-- the client is there, and goes on
+pub record IsThere (c : Client) (clients : List Client) : Type 0 where
+  pub there : IsIn c clients
+  pub going : c.is_closing ≡ false
+
+in_changed : (f : Client → Client) (c : Client) (cs : List Client) → IsIn c cs → IsIn (f c) (change (is_client c.number) f cs)
+in_changed f c cs i = subst (λ (d : Client). IsIn d (change (is_client c.number) f cs)) (ap (λ b. elim b as (λ x. Client) [ true ↦ f c | false ↦ c ]) (number_same c.number)) (in_map_of (changed_at (is_client c.number) f) c cs i)
+
+ask_for-keeps : {P : View → Type 0} (w : Walk P) (b : Begins P) (c : Client) (d : Decision) (r : Parsed) (key : Key) (kind : AskKind) (s : State) → c.front ≡ IsRequest r → IsThere c s.clients → Holds P s → Holds P (ask_for c d r.head key kind s)
+unfolding ask_for leave forsake on_client
+ask_for-keeps w b c d r key kind s front there h =
+    swept-keeps w.rows _
+    (begin_exchange-keeps b (new_exchange s c r.head key d kind) _
+    (record {
+      place = refl;
+      asked = refl;
+      asker = c.number;
+      is = refl;
+      goes = record { client = asking_with d c; there = in_changed (asking_with d) c s.clients there.there; number = refl; at = record { going = there.going; request = r; front = front; head = refl } };
+    })
+    (leave-keeps w (is_of c.number) _ (on_client-keeps w c.number (asking_with d) s (asking_with-same d) h)))
+
+ask_as-keeps : {P : View → Type 0} (w : Walk P) (b : Begins P) (c : Client) (d : Decision) (r : Parsed) (key : Key) (s : State) → c.front ≡ IsRequest r → IsThere c s.clients → Holds P s → Holds P (ask_as c d r.head key s)
+unfolding ask_as
+ask_as-keeps w b c d r key s front there h = each_of (kind_of r.head (row_for s r.head (text_of key)) d) h (λ kind. ask_for-keeps w b c d r key kind s front there h)
+
+ask_origin-keeps : {P : View → Type 0} (w : Walk P) (b : Begins P) (c : Client) (d : Decision) (s : State) → IsThere c s.clients → Holds P s → Holds P (ask_origin c d s)
+unfolding ask_origin
+ask_origin-keeps {P} w b c d s there h = by c.front refl
+  where
+    by : (front : Front) → c.front ≡ front → Holds P (elim front as (λ x. State) [
+      | NoHeadYet ↦ s
+      | NoHead status ↦ s
+      | IsRequest r ↦ elim r.key as (λ x. State) [ Ok key ↦ ask_as c d r.head key s | Err fault ↦ s ]
+    ])
+    by NoHeadYet is = h
+    by (NoHead status) is = h
+    by (IsRequest r) is = by_result r.key (λ key. ask_as-keeps w b c d r key s is there h) (λ fault. h)
+
+follow_row-keeps : {P : View → Type 0} (w : Walk P) (f : Follows P) (c : Client) (d : Decision) (key : Bytes) (s : State) → is_late s.phase ≡ true → Holds P s → Holds P (follow_row c d key s)
+unfolding follow_row follow_with on_client
+follow_row-keeps w f c d key s late h =
+    each_so (row s key) (λ none. h)
+    (λ x found. swept-keeps w.rows _ (leave-keeps w (λ e. is_of c.number e && not (serves x (reply_by d (Some x.id)) e)) _
+    (holds (f c.number x.id (answering_with (reply_by d (Some x.id))) (λ y. record { number = refl; closing = refl; request = λ r is. is }) (λ y k is. cc) (view s) late
+    (in_map_of instance_id x s.instances (in_find (is_row_of key) x s.instances found).0) (facts_of h)))))
+
+follow-keeps : {P : View → Type 0} (w : Walk P) (f : Follows P) (c : Client) (d : Decision) (s : State) → is_late s.phase ≡ true → Holds P s → Holds P (follow c d s)
+unfolding follow
+follow-keeps w f c d s late h = each_of (key_in c.front) h (λ key. follow_row-keeps w f c d (text_of key) s late h)
+
+relay-keeps : {P : View → Type 0} (w : Walk P) (c : Client) (s : State) → Holds P s → Holds P (relay c s)
+unfolding relay
+relay-keeps w c s h = swept-keeps w.rows _ (on_client-keeps w c.number (answering_with (reply_by Relay None)) s relayed-same h)
+
+mark_row_of-keeps : {P : View → Type 0} (w : KeepsRows P) (key : Bytes) (s : State) → Holds P s → Holds P (mark_row_of key s)
+unfolding mark_row_of
+mark_row_of-keeps w key s h = each_of (row s key) h (λ x. mark_row-keeps w x.id s h)
+
+enter_row-keeps : {P : View → Type 0} (w : KeepsRows P) (c : Client) (d : Decision) (s : State) → Holds P s → Holds P (enter_row c d s)
+unfolding enter_row
+enter_row-keeps w c d s h = when (is_for_memory d) h (each_of (key_in c.front) h (λ key. mark_row_of-keeps w (text_of key) _ (enter-keeps w (text_of key) false s h)))
+
+decided_by-keeps : {P : View → Type 0} (w : Walk P) (b : Begins P) (f : Follows P) (c : Client) (d : Decision) (s : State) → IsThere c s.clients → is_late s.phase ≡ true → Holds P s → Holds P (decided_by c d s)
+unfolding decided_by
+decided_by-keeps w b f c (Refuse status) s there late h = refuse-keeps w c status s h
+decided_by-keeps w b f c Pass s there late h = ask_origin-keeps w b c Pass s there h
+decided_by-keeps w b f c Fetch s there late h = ask_origin-keeps w b c Fetch s there h
+decided_by-keeps w b f c Validate s there late h = ask_origin-keeps w b c Validate s there h
+decided_by-keeps w b f c Relay s there late h = relay-keeps w c s h
+decided_by-keeps w b f c (Hit from to) s there late h = follow-keeps w f c (Hit from to) s late h
+decided_by-keeps w b f c (Part from to) s there late h = follow-keeps w f c (Part from to) s late h
+decided_by-keeps w b f c Head s there late h = follow-keeps w f c Head s late h
+decided_by-keeps w b f c NotModified s there late h = follow-keeps w f c NotModified s late h
+decided_by-keeps w b f c Unsatisfiable s there late h = follow-keeps w f c Unsatisfiable s late h
+
+-- the clients that are there stay, and the phase, while nothing but rows is changed
+abbrev AreThose : List Client → Phase → View → Type 0
+AreThose cs p v = (v.clients ≡ cs) × (v.phase ≡ p)
+
+entered_same : (c : Client) (d : Decision) (s : State) → AreThose s.clients s.phase (view (enter_row c d s))
+entered_same c d s = facts_of (enter_row-keeps {P = AreThose s.clients s.phase} (λ xs next v from h. h) c d s (holds (refl, refl)))
+
+pub decided-keeps : {P : View → Type 0} (w : Walk P) (b : Begins P) (f : Follows P) (c : Client) (d : Decision) (s : State) → IsThere c s.clients → is_late s.phase ≡ true → Holds P s → Holds P (decided c d s)
+unfolding decided
+decided-keeps w b f c d s there late h =
+    let e = entered_same c d s in
+    decided_by-keeps w b f c d _ (record { there = subst (λ (cs : List Client). IsIn c cs) (sym e.0) there.there; going = there.going }) (ap is_late e.1 ∙ late) (enter_row-keeps w.rows c d s h)
+
+-- ---- replies
+
+pub begin_replies-keeps : {P : View → Type 0} (w : Walk P) (s : State) → Holds P s → Holds P (begin_replies s)
+unfolding begin_replies
+begin_replies-keeps w s h = swept-keeps w.rows _ (forsake-keeps w (is_outrun s) _ (holds (w.clients (begun_at_end s) (begun_at_end-same s) (view s) (facts_of h))))
+
+use_chunks-keeps : {P : View → Type 0} (more id i : ℕ) (s : State) → Holds P s → Holds P (use_chunks more id i s)
+unfolding use_chunks
+use_chunks-keeps zero id i s h = h
+use_chunks-keeps (suc more) id i s h = use_chunks-keeps more id (i + 1) (use_chunk id i s) (use_chunk-keeps id i s h)
+
+use_from-keeps : {P : View → Type 0} (n : ℕ) (x : Next) (s : State) → Holds P s → Holds P (use_from n x s)
+unfolding use_from
+use_from-keeps n x s h = use_chunks-keeps _ x.source.id (x.at / chunk_len) s h
+
+pub use_said-keeps : {P : View → Type 0} (n : ℕ) (c : Client) (s : State) → Holds P s → Holds P (use_said n c s)
+unfolding use_said
+use_said-keeps n c s h = when (nat_lt 0 (of_body n c)) (each_of (next_of s c) h (λ x. use_from-keeps (of_body n c) x s h)) h
+
+next_moves : (c : Client) → MovesOn (next_request c) c
+next_moves c = record { number = refl; closing = refl; source = refl }
+
+moved_on : {P : View → Type 0} (w : Walk P) (n : ℕ) (s : State) → Holds P s → Holds P (forsake (is_of n) (on_client n next_request s))
+unfolding forsake on_client
+moved_on w n s h = holds (w.leaves n next_request next_moves (view s) (facts_of h))
+
+end_reply-keeps : {P : View → Type 0} (w : Walk P) (c : Client) (s : State) → Holds P s → Holds P (end_reply c s)
+unfolding end_reply
+end_reply-keeps w c s h = when c.closes (close_client-keeps w c.number false s h) (swept-keeps w.rows _ (moved_on w c.number s h))
+
+end_said-keeps : {P : View → Type 0} (w : Walk P) (c : Client) (s : State) → Holds P s → Holds P (end_said c s)
+unfolding end_said
+end_said-keeps w c s h = when (is_said c && not c.is_closing) (end_reply-keeps w c s h) h
+
+close_finished-keeps : {P : View → Type 0} (w : Walk P) (c : Client) (s : State) → Holds P s → Holds P (close_finished c s)
+unfolding close_finished
+close_finished-keeps w c s h = when (is_finished c) (close_client-keeps w c.number false s h) h
+
+pub end_replies-keeps : {P : View → Type 0} (w : Walk P) (s : State) → Holds P s → Holds P (end_replies s)
+unfolding end_replies
+end_replies-keeps w s h = each_client-keeps w close_finished (λ c t i ht. close_finished-keeps w c t ht) _ _ (each_client-keeps w end_said (λ c t i ht. end_said-keeps w c t ht) _ s h)
+
+pub regained-keeps : {P : View → Type 0} (w : Walk P) (s : State) → Holds P s → Holds P (regained s)
+unfolding regained
+regained-keeps w s h = holds (w.clients (regained_by s) (regained_by-same s) (view s) (facts_of h))
+
+-- ---- what followers ask for
+
+fill_with-keeps : {P : View → Type 0} (w : Walk P) (b : Begins P) (e : Exchange) (c : Client) (s : State) → IsNew e s.clients → Holds P s → Holds P (fill_with e c s)
+unfolding fill_with
+fill_with-keeps w b e c s is_new h = when (fits e.text) (begin_exchange-keeps b e s is_new h) (on_client-keeps w c.number (λ x. record x { course = AskTooLong }) s (λ x. same_parts _ x refl refl refl refl) h)
+
+fill_span-keeps : {P : View → Type 0} (w : Walk P) (b : Begins P) (c : Client) (n : Next) (span : ℕ × ℕ) (s : State) → IsThere c s.clients → Holds P s → Holds P (fill_span c n span s)
+unfolding fill_span
+fill_span-keeps {P} w b c n span s there h = by c.front refl
+  where
+    is_new : (r : Parsed) (key : Key) → c.front ≡ IsRequest r → IsNew (filling_exchange s c r.head key n span) s.clients
+    is_new r key is = record { place = refl; asked = refl; asker = c.number; is = refl; goes = record { client = c; there = there.there; number = refl; at = record { going = there.going; request = r; front = is; head = refl } } }
+
+    by : (front : Front) → c.front ≡ front → Holds P (elim front as (λ x. State) [
+      | NoHeadYet ↦ s
+      | NoHead status ↦ s
+      | IsRequest r ↦ elim r.key as (λ x. State) [ Ok key ↦ fill_with (filling_exchange s c r.head key n span) c s | Err fault ↦ s ]
+    ])
+    by NoHeadYet is = h
+    by (NoHead status) is = h
+    by (IsRequest r) is = by_result r.key (λ key. fill_with-keeps w b (filling_exchange s c r.head key n span) c s (is_new r key is) h) (λ fault. h)
+
+fill_next-keeps : {P : View → Type 0} (w : Walk P) (b : Begins P) (c : Client) (n : Next) (s : State) → IsThere c s.clients → Holds P s → Holds P (fill_next c n s)
+unfolding fill_next
+fill_next-keeps w b c n s there h = each_of (need_of s n) h (λ span. fill_span-keeps w b c n span s there h)
+
+-- who has a next byte goes on
+next_going : (c : Client) (n : Next) (o : Option Next) (closing : Bool) → (elim closing as (λ x. Option Next) [ true ↦ None | false ↦ o ]) ≡ Some n → closing ≡ false
+next_going c n o true is = absurd (cc is)
+next_going c n o false is = refl
+
+fill_for-keeps : {P : View → Type 0} (w : Walk P) (b : Begins P) (c : Client) (s : State) → IsIn c s.clients → Holds P s → Holds P (fill_for c s)
+unfolding fill_for
+fill_for-keeps w b c s i h = when (is_trying c.course)
+    (each_so (next_of s c) (λ none. h) (λ n is. fill_next-keeps w b c n s (record { there = i; going = next_going c n (elim (reply_of c) as (λ x. Option Next) [ None ↦ None | Some r ↦ next_in s r ]) c.is_closing is }) h)) h
+
+pub fill-keeps : {P : View → Type 0} (w : Walk P) (b : Begins P) (s : State) → Holds P s → Holds P (fill s)
+unfolding fill
+fill-keeps w b s h = when s.is_stopped h (each_client-keeps w fill_for (fill_for-keeps w b) _ s h)
+
+pub give_up_asks-keeps : {P : View → Type 0} (w : Walk P) (s : State) → Holds P s → Holds P (give_up_asks s)
+unfolding give_up_asks
+give_up_asks-keeps w s h = holds (w.over (λ e. not (is_useless_ask s e)) (view s) (facts_of h))
+
+-- ---- what is heard and asked
+
+pub hear-keeps : {P : View → Type 0} (w : Walk P) (n : ℕ) (bytes : Bytes) (s : State) → Holds P s → Holds P (hear n bytes s)
+unfolding hear
+hear-keeps w n bytes s h = end_replies-keeps w _ (on_client-keeps w n (heard_by bytes) s (heard_by-same bytes) h)
+
+pub hang_up-keeps : {P : View → Type 0} (w : Walk P) (n : ℕ) (s : State) → Holds P s → Holds P (hang_up n s)
+unfolding hang_up
+hang_up-keeps w n s h = when (is_writing s.owed n) (close_client-keeps w n false s h) (end_replies-keeps w _ (on_client-keeps w n (λ c. record c { has_hung_up = true }) s (λ c. same_parts _ c refl refl refl refl) h))
+
+ask_body-keeps : {P : View → Type 0} (w : Walk P) (e : Exchange) (n : ℕ) (s : State) → Holds P s → Holds P (ask_body e n s)
+unfolding ask_body
+ask_body-keeps w e n s h = on_client_of-keeps w e (asked_body n) _ (λ c. same_parts _ c refl refl refl refl) (on_exchange-keeps w e.number (λ x. record x { body_left = x.body_left - n }) s (λ x. same_ask _ x refl refl refl refl refl refl) h)
+
+-- what is asked of stands in a line
+abbrev pub HasPlace : ℕ → List Exchange → Type 0
+HasPlace n exchanges = (e : Exchange) → IsIn e exchanges → e.number ≡ n → e.place ≡ None → ⊥
+
+ask_next-keeps : {P : View → Type 0} (w : Walk P) (e : Exchange) (n : ℕ) (s : State) → HasPlace e.number s.exchanges → Holds P s → Holds P (ask_next e n s)
+unfolding ask_next
+ask_next-keeps {P} w e n s placed h = by (is_outstanding e)
+  where
+    by : (t : Bool) → Holds P (elim t as (λ c. State) [ false ↦ on_exchange e.number (asked_text n s.clock) s | true ↦ ask_body e n s ])
+    by false = on_exchange_of-keeps w e.number (asked_text n s.clock) s (λ x i is. record { number = refl; asker = refl; key = refl; head = refl; asked = λ none. absurd (placed x i (same_number x.number e.number is) none) }) h
+    by true = ask_body-keeps w e n s h
+
+pub ask-keeps : {P : View → Type 0} (w : Walk P) (k n : ℕ) (s : State) → ((e : Exchange) → asking s k ≡ Some e → HasPlace e.number s.exchanges) → Holds P s → Holds P (ask k n s)
+unfolding ask
+ask-keeps w k n s placed h = each_so (asking s k) (λ none. h) (λ e is. ask_next-keeps w e n s (placed e is) h)

@@ -1,0 +1,173 @@
+-- What the head of a response does to rows, requests and its exchange keeps what is kept by each change.
+use Rattle.std.proofs.Common.{refl, ℕ, Bool, true, false, not, ◌==◌, ◌&&◌, List, [], ◌∷◌, codes, Option, Some, None, ◌≡◌, ◌||◌}
+use Rattle.std.specs.List.{list_any}
+use Rattle.pp_framing.specs.declared.body.BodyRule.{BodyRule}
+use Rattle.pp_fresh.specs.declared.aging.Times.{Times}
+use Rattle.pp_head.specs.Response.{Response}
+use Rattle.pp_objects.specs.Kept.{kept_of}
+use Rattle.pp_target.specs.Key.{Key, text_of}
+use Rattle.pp_text.specs.Fields.{has_field}
+use Rattle.pp_valid.specs.declared.version.Version.{Version}
+use Rattle.pp_law.specs.Connections.{exchange, is_for, attempts_of, lost_one, without_shared_row, anew}
+use Rattle.pp_law.specs.Lists.{Bytes, is_some_with}
+use Rattle.pp_law.specs.OwnHeads.{key_of, span_to_come, is_asked_by, tell, use_body, drop_answer, useless, times_for, renewed, renew, settle_on, renew_row, refresh, may_refresh, settle_known, known_version, settle, names_version, nothing_to_come, settle_unchanged, unchanged, not_shared, not_modified, clears_row, cleared_by, is_widened, relayed, relay_head, other_head, other_part, own_head, is_bound, lacks_next, count_elsewhere, part_head, filling_head, version_in, forbids_sharing, is_private_part, is_of_another, may_join}
+use Rattle.pp_law.specs.Passing.{passed_by}
+use Rattle.pp_law.specs.Responses.{by_aim}
+use Rattle.pp_law.specs.Stages.{is_begun}
+use Rattle.pp_law.specs.State.{State, Client, Body, Joining, Dropping, Brought, Useless, Joins, Passes, TooWide, Exchange, Instance}
+use Rattle.pp_law.specs.Table.{row, enter}
+use Rattle.pp_law.specs.ThroughHeads.{invalidates, key_named, is_same_host, clear_named, clear_each, places_named, invalidated, disproves, reads, disproved, through_head}
+use Rattle.pp_laws_turn.proofs.Cases.{by_aim_of, each_of, when}
+use Rattle.pp_laws_turn.proofs.Exchanges.{client_same, clients_changed-keeps, same_parts, on_client_of-keeps, lose_attempt-keeps, on_exchange-keeps, same_ask}
+use Rattle.pp_laws_turn.proofs.View.{View, Walk, Holds, holds, facts_of, view, SameClient}
+use Rattle.pp_laws_turn.proofs.Rows.{clear-keeps, enter-keeps, make_row-keeps, mark_row-keeps, on_instance-keeps}
+
+tell-keeps : {P : View → Type 0} (w : Walk P) (e : Exchange) (brought : Brought) (s : State) → Holds P s → Holds P (tell e brought s)
+unfolding tell
+tell-keeps w e brought s h = holds (clients_changed-keeps w (is_asked_by e) (λ c. record c { brought = brought }) (view s) (λ c. same_parts _ c refl refl refl refl) (facts_of h))
+
+use_body-keeps : {P : View → Type 0} (w : Walk P) (e : Exchange) (body : Body) (s : State) → Holds P s → Holds P (use_body e body s)
+unfolding use_body
+use_body-keeps w e body s h = on_exchange-keeps w e.number (λ x. record x { body = body }) s (λ x. same_ask _ x refl refl refl refl refl refl) h
+
+drop_answer-keeps : {P : View → Type 0} (w : Walk P) (e : Exchange) (s : State) → Holds P s → Holds P (drop_answer e s)
+unfolding drop_answer
+drop_answer-keeps w e s h = tell-keeps w e Useless _ (use_body-keeps w e Dropping s h)
+
+useless-keeps : {P : View → Type 0} (w : Walk P) (e : Exchange) (s : State) → Holds P s → Holds P (useless e s)
+unfolding useless
+useless-keeps w e s h = lose_attempt-keeps w e _ (drop_answer-keeps w e s h)
+
+-- ---- a response with a version
+
+renew-keeps : {P : View → Type 0} (w : Walk P) (x : Instance) (head : Response) (times : Times) (s : State) → Holds P s → Holds P (renew x head times s)
+unfolding renew
+renew-keeps w x head times s h = mark_row-keeps w.rows x.id _ (on_instance-keeps w.rows x.id (renewed head times) s (λ y. record { id = refl; key = refl; is_new = λ is. is; retired = λ is. is }) h)
+
+renew_row-keeps : {P : View → Type 0} (w : Walk P) (e : Exchange) (head : Response) (s : State) → Holds P s → Holds P (renew_row e head s)
+unfolding renew_row
+renew_row-keeps w e head s h = each_of (row s (key_of e)) h (λ x. renew-keeps w x head (times_for e head s) s h)
+
+refresh-keeps : {P : View → Type 0} (w : Walk P) (e : Exchange) (head : Response) (s : State) → Holds P s → Holds P (refresh e head s)
+unfolding refresh
+refresh-keeps w e head s h = renew_row-keeps w e head (enter (key_of e) true s) (enter-keeps w.rows (key_of e) true s h)
+
+settle_on-keeps : {P : View → Type 0} (w : Walk P) (e : Exchange) (head : Response) (v : Version) (s : State) → Holds P s → Holds P (settle_on e head v s)
+unfolding settle_on
+settle_on-keeps w e head v s h = each_of (row s (key_of e)) h (λ x. tell-keeps w e (Joins x.id (not (has_field (codes "age") head.fields))) _ (use_body-keeps w e (Joining (span_to_come e head v x.id)) s h))
+
+settle_known-keeps : {P : View → Type 0} (w : Walk P) (e : Exchange) (head : Response) (v : Version) (s : State) → Holds P s → Holds P (settle_known e head v s)
+unfolding settle_known
+settle_known-keeps w e head v s h = when (may_refresh e head s) (settle_on-keeps w e head v _ (refresh-keeps w e head s h)) (useless-keeps w e s h)
+
+settle-keeps : {P : View → Type 0} (w : Walk P) (e : Exchange) (head : Response) (v : Version) (s : State) → Holds P s → Holds P (settle e head v s)
+unfolding settle
+settle-keeps w e head v s h =
+    when (is_some_with (may_join e head v) (known_version s (key_of e)))
+    (settle_known-keeps w e head v s h)
+    (settle_on-keeps w e head v _ (make_row-keeps w.rows (key_of e) v (kept_of head.fields (times_for e head s)) (times_for e head s) s h))
+
+-- ---- 304
+
+settle_unchanged-keeps : {P : View → Type 0} (w : Walk P) (e : Exchange) (s : State) → Holds P s → Holds P (settle_unchanged e s)
+unfolding settle_unchanged
+settle_unchanged-keeps w e s h = each_of (row s (key_of e)) h (λ x. tell-keeps w e (Joins x.id false) _ (use_body-keeps w e (Joining (nothing_to_come x)) s h))
+
+unchanged-keeps : {P : View → Type 0} (w : Walk P) (e : Exchange) (head : Response) (s : State) → Holds P s → Holds P (unchanged e head s)
+unfolding unchanged
+unchanged-keeps w e head s h = when (is_some_with (names_version e) (known_version s (key_of e)) && may_refresh e head s) (settle_unchanged-keeps w e _ (refresh-keeps w e head s h)) (useless-keeps w e s h)
+
+without_shared_row-same : (most : ℕ) (c : Client) → SameClient (without_shared_row most c) c
+without_shared_row-same most c = by (c.has_given_up && not (is_begun c)) (is_begun c || c.has_given_up)
+  where
+    by : (again begun : Bool)
+        → SameClient (elim again as (λ x. Client) [ true ↦ record c { course = lost_one most c.course } | false ↦ elim begun as (λ x. Client) [ true ↦ c | false ↦ record c { course = anew c.course; has_given_up = true } ] ]) c
+    by true begun = same_parts _ c refl refl refl refl
+    by false true = client_same c
+    by false false = same_parts _ c refl refl refl refl
+
+not_shared-keeps : {P : View → Type 0} (w : Walk P) (e : Exchange) (s : State) → Holds P s → Holds P (not_shared e s)
+unfolding not_shared
+not_shared-keeps w e s h = on_client_of-keeps w e (without_shared_row (attempts_of e)) _ (without_shared_row-same (attempts_of e)) (drop_answer-keeps w e _ (clear-keeps w.rows (key_of e) s h))
+
+not_modified-keeps : {P : View → Type 0} (w : Walk P) (e : Exchange) (head : Response) (s : State) → Holds P s → Holds P (not_modified e head s)
+unfolding not_modified
+not_modified-keeps w e head s h =
+    when (forbids_sharing head)
+    (not_shared-keeps w e s h)
+    (when (is_of_another head s (key_of e)) (useless-keeps w e _ (clear-keeps w.rows (key_of e) s h)) (unchanged-keeps w e head s h))
+
+-- ---- a response without a version
+
+cleared_by-keeps : {P : View → Type 0} (w : Walk P) (head : Response) (e : Exchange) (s : State) → Holds P s → Holds P (cleared_by head e s)
+unfolding cleared_by
+cleared_by-keeps w head e s h = when (clears_row head) (clear-keeps w.rows (key_of e) s h) h
+
+relay_head-keeps : {P : View → Type 0} (w : Walk P) (e : Exchange) (head : Response) (rule : BodyRule) (s : State) → Holds P s → Holds P (relay_head e head rule s)
+unfolding relay_head
+relay_head-keeps w e head rule s h = tell-keeps w e (Passes (passed_by e head rule)) _ (use_body-keeps w e (relayed e s) s h)
+
+other_head-keeps : {P : View → Type 0} (w : Walk P) (e : Exchange) (head : Response) (rule : BodyRule) (s : State) → Holds P s → Holds P (other_head e head rule s)
+unfolding other_head
+other_head-keeps w e head rule s h =
+    when (is_widened e head)
+    (tell-keeps w e TooWide _ (use_body-keeps w e Dropping _ (cleared_by-keeps w head e s h)))
+    (relay_head-keeps w e head rule _ (cleared_by-keeps w head e s h))
+
+other_part-keeps : {P : View → Type 0} (w : Walk P) (e : Exchange) (head : Response) (rule : BodyRule) (s : State) → Holds P s → Holds P (other_part e head rule s)
+unfolding other_part
+other_part-keeps w e head rule s h =
+    when (is_private_part head)
+    (not_shared-keeps w e s h)
+    (when (clears_row head) (relay_head-keeps w e head rule _ (cleared_by-keeps w head e s h)) (useless-keeps w e s h))
+
+-- ---- heads by what was asked
+
+own_head-keeps : {P : View → Type 0} (w : Walk P) (e : Exchange) (head : Response) (rule : BodyRule) (s : State) → Holds P s → Holds P (own_head e head rule s)
+unfolding own_head
+own_head-keeps {P} w e head rule s h = by (version_in e head)
+  where
+    by : (o : Option Version) → Holds P (elim o as (λ c. State) [ Some v ↦ settle e head v s | None ↦ elim (head.status == 304) as (λ c. State) [ true ↦ not_modified e head s | false ↦ other_head e head rule s ] ])
+    by (Some v) = settle-keeps w e head v s h
+    by None = when (head.status == 304) (not_modified-keeps w e head s h) (other_head-keeps w e head rule s h)
+
+part_head-keeps : {P : View → Type 0} (w : Walk P) (e : Exchange) (head : Response) (rule : BodyRule) (s : State) → Holds P s → Holds P (part_head e head rule s)
+unfolding part_head
+part_head-keeps {P} w e head rule s h = by (version_in e head)
+  where
+    by : (o : Option Version) → Holds P (elim o as (λ c. State) [ Some v ↦ settle e head v s | None ↦ elim (head.status == 304) as (λ c. State) [ true ↦ not_modified e head s | false ↦ other_part e head rule s ] ])
+    by (Some v) = settle-keeps w e head v s h
+    by None = when (head.status == 304) (not_modified-keeps w e head s h) (other_part-keeps w e head rule s h)
+
+filling_head-keeps : {P : View → Type 0} (w : Walk P) (e : Exchange) (head : Response) (rule : BodyRule) (s : State) → Holds P s → Holds P (filling_head e head rule s)
+unfolding filling_head count_elsewhere
+filling_head-keeps w e head rule s h =
+    when (is_some_with is_bound (exchange (part_head e head rule s) e.number) && list_any (λ c. is_for e c && lacks_next (part_head e head rule s) c) (part_head e head rule s).clients)
+    (lose_attempt-keeps w e _ (part_head-keeps w e head rule s h)) (part_head-keeps w e head rule s h)
+
+-- ---- a response that is passed
+
+clear_named-keeps : {P : View → Type 0} (w : Walk P) (key : Key) (text : Bytes) (s : State) → Holds P s → Holds P (clear_named key text s)
+unfolding clear_named
+clear_named-keeps w key text s h = each_of (key_named key text) h (λ named. when (is_same_host named key) (clear-keeps w.rows (text_of named) s h) h)
+
+clear_each-keeps : {P : View → Type 0} (w : Walk P) (key : Key) (texts : List Bytes) (s : State) → Holds P s → Holds P (clear_each key texts s)
+unfolding clear_each
+clear_each-keeps w key [] s h = h
+clear_each-keeps w key (text ∷ texts) s h = clear_each-keeps w key texts _ (clear_named-keeps w key text s h)
+
+invalidated-keeps : {P : View → Type 0} (w : Walk P) (e : Exchange) (head : Response) (s : State) → Holds P s → Holds P (invalidated e head s)
+unfolding invalidated
+invalidated-keeps w e head s h = when (invalidates e head) (clear_each-keeps w e.key (places_named head) _ (clear-keeps w.rows (key_of e) s h)) h
+
+disproved-keeps : {P : View → Type 0} (w : Walk P) (e : Exchange) (head : Response) (s : State) → Holds P s → Holds P (disproved e head s)
+unfolding disproved
+disproved-keeps w e head s h = when (reads e && is_some_with (disproves head) (known_version s (key_of e))) (clear-keeps w.rows (key_of e) s h) h
+
+through_head-keeps : {P : View → Type 0} (w : Walk P) (e : Exchange) (head : Response) (rule : BodyRule) (s : State) → Holds P s → Holds P (through_head e head rule s)
+unfolding through_head
+through_head-keeps w e head rule s h = relay_head-keeps w e head rule _ (disproved-keeps w e head _ (invalidated-keeps w e head s h))
+
+pub by_aim-keeps : {P : View → Type 0} (w : Walk P) (e : Exchange) (head : Response) (rule : BodyRule) (s : State) → Holds P s → Holds P (by_aim e head rule s)
+unfolding by_aim
+by_aim-keeps w e head rule s h = by_aim_of e.aim (through_head-keeps w e head rule s h) (own_head-keeps w e head rule s h) (λ v from to. filling_head-keeps w e head rule s h)

@@ -1,0 +1,16 @@
+pub mod View
+pub mod Cases
+pub mod Same
+pub mod Rows
+pub mod Exchanges
+pub mod Clients
+pub mod Closings
+pub mod Disk
+pub mod Heads
+pub mod Pieces
+pub mod Steps
+pub mod Kept
+pub mod Happenings
+pub mod Counts
+pub mod Lifts
+pub mod Laws

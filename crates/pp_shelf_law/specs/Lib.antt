@@ -1,0 +1,11 @@
+pub mod Shelf
+pub mod Runs
+pub mod Takings
+pub mod Kept
+pub mod Seals
+pub mod Drafts
+pub mod Calls
+pub mod Folder
+pub mod Loads
+pub mod Opening
+pub mod Joined
