@@ -56,16 +56,20 @@ pub(crate) fn unlike(alloc: Global, crowds: &[Crowd]) -> Result<String, OutOfMem
 /// The clients of page /a have the numbers from this one on.
 const FIRST: u64 = 3;
 
-/// So many bytes of the last chunk come alone, where each byte does.
-const ALONE: usize = 256;
+/// So many bytes at the front of the last chunk of page /b, with whose first byte the memory is as full as it gets, come alone where
+/// each byte does; of any other chunk the first two.
+const LAST_ALONE: usize = 256;
 
-/// Byte by byte come the requests for both pages and their heads, the front of the last chunk of page /b, with whose first byte
-/// the memory is as full as it gets, and what is asked behind it. The followers' requests and the rest of both pages, millions
-/// of bytes, come whole at either pace.
+const ALONE: usize = 2;
+
+/// Byte by byte come all requests, the heads, and of each chunk of both pages the bytes at its front and the last one. What is between
+/// comes in one piece, which begins no chunk and ends none: a byte that comes and is said is six happenings, of some 5 KB each in the
+/// log of the world, so that all bytes alone would take some 60 GB, in the smallest memory that is.
 fn played(alloc: Global, pace: Pace, crowd: &Crowd) -> Result<Played, OutOfMemory> {
     let requests = requests_of(alloc, crowd)?;
     let anew = request_of(alloc, first_left(crowd))?;
     let beyond = FIRST.saturating_add(crowd.followers);
+    let origin = beyond.saturating_add(1);
     let mut acts = Vec::new(alloc);
     acts.extend_from_slice(&[
         Act::Tick(T),
@@ -73,26 +77,18 @@ fn played(alloc: Global, pace: Pace, crowd: &Crowd) -> Result<Played, OutOfMemor
         Act::Say(1, GET),
         Act::Reach(2),
         Act::Answer(2, LONGEST),
-        Act::FillWhole(2, b'a', crowd.chunks.saturating_mul(CHUNK_LEN)),
     ])?;
-    for request in requests.iter() {
-        acts.extend_from_slice(&[
-            Act::Connect,
-            Act::Window(0, 0),
-            Act::SayWhole(0, request.as_bytes()),
-        ])?;
-    }
-    let origin = beyond.saturating_add(1);
-    let before_last = crowd.more.saturating_sub(1).saturating_mul(CHUNK_LEN);
+    put_chunks(pace, 2, b'a', crowd.chunks, ALONE, &mut acts)?;
+    put_followers(pace, requests.as_slice(), &mut acts)?;
     acts.extend_from_slice(&[
         Act::Connect,
         Act::Say(0, GET_B),
         Act::Reach(origin),
         Act::Answer(origin, LONGEST),
-        Act::FillWhole(origin, b'b', before_last),
-        Act::Fill(origin, b'b', ALONE),
-        Act::FillWhole(origin, b'b', CHUNK_LEN - ALONE),
     ])?;
+    let before_last = crowd.more.saturating_sub(1);
+    put_chunks(pace, origin, b'b', before_last, ALONE, &mut acts)?;
+    put_chunks(pace, origin, b'b', 1, LAST_ALONE, &mut acts)?;
     for follower in FIRST..beyond {
         acts.push(Act::Window(follower, u64::MAX))
             .map_err(AllocError::from)?;
@@ -106,6 +102,74 @@ fn played(alloc: Global, pace: Pace, crowd: &Crowd) -> Result<Played, OutOfMemor
         Act::Reach(beyond.saturating_add(2)),
     ])?;
     play_with(alloc, crowd.words, pace, acts.as_slice(), &[])
+}
+
+/// Adds what brings a client for each of these requests, which takes no byte. Where each byte comes alone, the last byte of all comes
+/// behind the others of all: who has said no whole request costs a turn nothing.
+fn put_followers<'a>(
+    pace: Pace,
+    requests: &'a [String],
+    acts: &mut Vec<Act<'a>>,
+) -> Result<(), OutOfMemory> {
+    for _request in requests {
+        acts.extend_from_slice(&[Act::Connect, Act::Window(0, 0)])?;
+    }
+    if pace == Pace::Whole {
+        for (place, request) in requests.iter().enumerate() {
+            acts.push(Act::Say(number_at(place), request.as_bytes()))
+                .map_err(AllocError::from)?;
+        }
+        return Ok(());
+    }
+    for (place, request) in requests.iter().enumerate() {
+        let (front, _) = parts_of(request.as_str());
+        acts.push(Act::Say(number_at(place), front))
+            .map_err(AllocError::from)?;
+    }
+    for (place, request) in requests.iter().enumerate() {
+        let (_, last) = parts_of(request.as_str());
+        acts.push(Act::Say(number_at(place), last))
+            .map_err(AllocError::from)?;
+    }
+    Ok(())
+}
+
+/// The number of the follower at this place.
+fn number_at(place: usize) -> u64 {
+    FIRST.saturating_add(place as u64)
+}
+
+/// A request without its last byte, and that byte.
+fn parts_of(request: &str) -> (&[u8], &[u8]) {
+    let bytes = request.as_bytes();
+    let front = bytes.len().saturating_sub(1);
+    bytes.split_at(front.min(bytes.len()))
+}
+
+/// Adds what brings so many chunks of this byte from an origin: whole, or each with so many bytes at its front alone, and its last.
+fn put_chunks(
+    pace: Pace,
+    origin: u64,
+    byte: u8,
+    chunks: usize,
+    alone: usize,
+    acts: &mut Vec<Act<'_>>,
+) -> Result<(), OutOfMemory> {
+    if pace == Pace::Whole {
+        let count = chunks.saturating_mul(CHUNK_LEN);
+        acts.push(Act::FillWhole(origin, byte, count))
+            .map_err(AllocError::from)?;
+        return Ok(());
+    }
+    let between = CHUNK_LEN.saturating_sub(alone).saturating_sub(1);
+    for _chunk in 0..chunks {
+        acts.extend_from_slice(&[
+            Act::Fill(origin, byte, alone),
+            Act::FillWhole(origin, byte, between),
+            Act::Fill(origin, byte, 1),
+        ])?;
+    }
+    Ok(())
 }
 
 /// The chunk that this follower asks for.
@@ -162,12 +226,38 @@ fn first_unlike(
     if asked_in(alloc, played.log())?.as_slice() != asks_of(alloc, crowd)?.as_slice() {
         return Ok("what is asked");
     }
+    let log = behind_opening(FIRST, played.log());
     for follower in 0..crowd.followers {
-        if !is_replied(alloc, crowd, played, follower)? {
+        if !is_replied(alloc, crowd, log, follower)? {
             return Ok("a reply");
         }
     }
     Ok("")
+}
+
+/// What happened from the opening of this client on.
+fn behind_opening(client: u64, log: &[Happening]) -> &[Happening] {
+    for (at, happening) in log.iter().enumerate() {
+        if let Happening::Opened(opened) = happening {
+            if *opened == client {
+                return log.get(at..).unwrap_or(&[]);
+            }
+        }
+    }
+    &[]
+}
+
+/// All that this client is said there.
+fn said_in(alloc: Global, client: u64, log: &[Happening]) -> Result<Vec<u8>, OutOfMemory> {
+    let mut text = Vec::new(alloc);
+    for happening in log {
+        if let Happening::Said(to, _, bytes) = happening {
+            if *to == client {
+                text.extend_from_slice(bytes.as_slice())?;
+            }
+        }
+    }
+    Ok(text)
 }
 
 /// The chunks that are to leave memory.
@@ -214,10 +304,10 @@ fn asks_of(alloc: Global, crowd: &Crowd) -> Result<Vec<u8>, OutOfMemory> {
 fn is_replied(
     alloc: Global,
     crowd: &Crowd,
-    played: &Played,
+    log: &[Happening],
     follower: u64,
 ) -> Result<bool, OutOfMemory> {
-    let said = played.said(FIRST.saturating_add(follower))?;
+    let said = said_in(alloc, FIRST.saturating_add(follower), log)?;
     let head = reply_head(alloc, chunk_of(crowd, follower))?;
     let head = Part::Text(head.as_bytes());
     let body = Part::Fill(b'a', CHUNK_LEN);
