@@ -1,15 +1,15 @@
 -- Behind the places each exchange without one has none to go to, and so it is where replies have begun.
-use Rattle.std.proofs.Common.{◌≡◌, ◌⊎◌, refl, ℕ, ◌+◌, ◌≤◌, Bool, true, false, not, ◌==◌, ◌&&◌, ◌||◌, List, [], ◌∷◌, ◌++◌, map, filter, cond, find, length, Option, Some, None, option_and_then, option_map, inl, inr, sym, subst, ap, ◌∙◌, le_refl, arith}
+use Rattle.std.proofs.Common.{◌≡◌, ◌⊎◌, refl, ℕ, ◌+◌, ◌≤◌, Bool, true, false, not, ◌==◌, ◌||◌, List, [], ◌∷◌, ◌++◌, map, cond, find, length, Option, Some, None, option_and_then, option_map, inl, inr, sym, subst, ap, ◌∙◌, le_refl, arith}
 use Rattle.std.specs.List.{list_any}
 use Rattle.pp_peers.specs.declared.placing.Placed.TheVariants.{On, Dial, CloseThenDial, Wait}
 use Rattle.pp_peers.specs.declared.placing.Placed.{Placed}
 use Rattle.pp_world.specs.Log.{Log}
 use Rattle.pp_law.specs.Closing.{forsake, left_alone}
 use Rattle.pp_law.specs.Connections.{AllPlaced, Pause, Placement, WaitsDial, WaitsDrop, exchange, if_unplaced, is_conn, is_exchange, on_conn, on_exchange, place_each, place_for, placing, put_on}
-use Rattle.pp_law.specs.Lists.{change, is_some_with}
+use Rattle.pp_law.specs.Lists.{is_some_with}
 use Rattle.pp_law.specs.Opening.{is_at, is_same_phase}
-use Rattle.pp_law.specs.Phases.{behind, come, come_to, ending, has_closings, in_phase, is_done, is_done_with, is_placed, may_end, next, passed, phases}
-use Rattle.pp_law.specs.Replies.{begin_replies, begun_at_end, is_outrun}
+use Rattle.pp_law.specs.Phases.{behind, come, come_to, ending, has_closings, in_phase, is_done, is_done_with, is_placed, next, phases}
+use Rattle.pp_law.specs.Replies.{begin_replies, is_outrun}
 use Rattle.pp_law.specs.Requests.{goes_alone}
 use Rattle.pp_law.specs.State.{State, Phase, Before, IsWoken, IsConfigured, IsRooted, IsListed, IsListening, IsStuck, Awaiting, Handling, Evicting, Keeping, Deciding, Following, Connecting, DecidingAgain, Term, Conn, Exchange}
 use Rattle.pp_law.specs.Table.{swept}

@@ -1,16 +1,16 @@
 -- Nothing stands in the wants but what may.
-use Rattle.std.proofs.Common.{◌≡◌, ◌⊎◌, refl, ℕ, nat_lt, Bool, true, false, not, ◌==◌, ◌&&◌, ◌||◌, List, [], ◌∷◌, ◌++◌, map, filter, length, inl, inr, sym, ap, ◌∙◌}
+use Rattle.std.proofs.Common.{◌≡◌, ◌⊎◌, refl, ℕ, Bool, true, false, not, ◌==◌, ◌&&◌, ◌||◌, List, [], ◌∷◌, map, filter, inl, inr, sym, ap, ◌∙◌}
 use Rattle.std.specs.List.{list_any, list_all}
 use Rattle.pp_law.specs.Asking.{has_room}
 use Rattle.pp_law.specs.Connections.{is_client, is_conn}
 use Rattle.pp_law.specs.Offers.{has_to_say}
 use Rattle.pp_law.specs.Requests.{has_request}
-use Rattle.pp_law.specs.Served.{accepts, accepts_rightly, has_to_ask, may_read, may_write, same, wants_no_more}
+use Rattle.pp_law.specs.Served.{accepts, has_to_ask, may_read, may_write, same}
 use Rattle.pp_law.specs.State.{State, Client, Conn}
 use Rattle.pp_laws.specs.Runs.{IsIn}
 use Rattle.pp_laws.proofs.Lists.{in_append, in_filter, in_map}
 use Rattle.pp_laws.proofs.Tests.{first_holds, number_same}
-use Rattle.pp_laws_ends.specs.Ends.{NothingMoreIsWanted, numbers_of, owes_body, reads_client, reads_conn, wants_of, writes_conn}
+use Rattle.pp_laws_ends.specs.Ends.{NothingMoreIsWanted, numbers_of, owes_body, reads_client, reads_conn, writes_conn}
 
 -- ---- lists
 

@@ -1,5 +1,5 @@
 -- Where a turn may end: the wants with which it can. All of it is ours.
-use Rattle.std.specs.Prelude.{◌≡◌, ℕ, Bool, true, false, ◌&&◌, ◌||◌, not, List, ◌++◌, map, filter, is_some, Option, Some, None}
+use Rattle.std.specs.Prelude.{◌≡◌, ℕ, Bool, true, false, ◌&&◌, ◌||◌, not, List, ◌++◌, map, filter, is_some, Some, None}
 use Rattle.std.specs.List.{list_any}
 use Rattle.pp_peers.specs.declared.placing.Placed.TheVariants.{Wait}
 use Rattle.pp_world.specs.Log.{Log}
