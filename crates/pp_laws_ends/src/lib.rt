@@ -1,0 +1,15 @@
+//! Where a turn may end, it can: what stands of it.
+//!
+//! `pp_law` permits a wait only where the wants serve everybody. `pp_laws_waits` says what a permitted
+//! wait means; here stands that waits are permitted, of all that was shown: which wants those are, that
+//! nothing more stands in them than may, and that an exchange that has no place then has none to go to.
+//!
+//! To the layer above: each law is the clause of a function that does nothing. That clients and
+//! connections are served by these wants too is not shown.
+//!
+//! Takes no memory, and does nothing when the program runs.
+#![tactic(auto)]
+
+mod ends; // what is permitted at the end of a turn
+
+pub use ends::{asks_without_a_place_have_none, nothing_more_is_wanted};
