@@ -84,7 +84,7 @@ answer_for-turn k e head s h = when (is_wrong_head e head) (bad_head-keeps turn_
     by_rule (Ok rule) = begin_answer-turn k e head rule s h
     by_rule (Err fault) = bad_head-keeps turn_walk k s h
 
-head_came-turn : (k : Conn) (head : Response) (s : State) → Holds Turn s → Holds Turn (head_came k head s)
+pub head_came-turn : (k : Conn) (head : Response) (s : State) → Holds Turn s → Holds Turn (head_came k head s)
 unfolding head_came
 head_came-turn k head s h = each_so (front_of_line s k) (λ none. close_conn-keeps turn_walk false k s h) (λ e first. answer_for-turn k e head s h)
 
@@ -139,7 +139,7 @@ join_bound-turn : (e : Exchange) (bytes : Bytes) (s : State) → Holds Turn s �
 unfolding join_bound
 join_bound-turn e bytes s h = each_of (bound_of e) h (λ b. on_exchange-keeps turn_walk e.number (moved_on (length bytes)) _ (moved_same (length bytes)) (join-turn b bytes s h))
 
-deliver-turn : (e : Exchange) (a : Answer) (at : ℕ) (bytes : Bytes) (s : State) → Holds Turn s → Holds Turn (deliver e a at bytes s)
+pub deliver-turn : (e : Exchange) (a : Answer) (at : ℕ) (bytes : Bytes) (s : State) → Holds Turn s → Holds Turn (deliver e a at bytes s)
 unfolding deliver
 deliver-turn e a at bytes s h = pour-keeps turn_walk e (poured bytes) _ (join_bound-turn e bytes _ (note_sent-turn e a at bytes s h))
 
@@ -164,7 +164,7 @@ body_piece-turn k a bytes s h = by (front_of_line s k)
         let fresh : Bytes = drop at (body_of a.rule (a.raw ++ bytes)).payload in
         body_piece_by k a e bytes (deliver e a at fresh s) (body_of a.rule (a.raw ++ bytes)).outcome (deliver-turn e a at fresh s h)
 
-next_piece-turn : (k : Conn) (bytes : Bytes) (s : State) → Holds Turn s → Holds Turn (next_piece k bytes s).state
+pub next_piece-turn : (k : Conn) (bytes : Bytes) (s : State) → Holds Turn s → Holds Turn (next_piece k bytes s).state
 next_piece-turn k bytes s h = by k.answer
   where
     by : (answer : Option Answer) → Holds Turn (elim answer as (λ c. Piece) [ Some a ↦ body_piece k a bytes s | None ↦ head_piece k bytes s ]).state
@@ -173,7 +173,7 @@ next_piece-turn k bytes s h = by k.answer
 
 -- ---- the read
 
-got-turn : (more n : ℕ) (bytes : Bytes) (s : State) → Holds Turn s → Holds Turn (got more n bytes s)
+pub got-turn : (more n : ℕ) (bytes : Bytes) (s : State) → Holds Turn s → Holds Turn (got more n bytes s)
 unfolding got
 got-turn zero n bytes s h = h
 got-turn (suc more) n bytes s h = each_of (conn s n) h (λ k. when (k.is_closing || is_empty bytes) h (got-turn more n (next_piece k bytes s).rest (next_piece k bytes s).state (next_piece-turn k bytes s h)))
@@ -304,7 +304,7 @@ decides_late s is = by (is_at Deciding s) refl is
 
 -- ---- decisions
 
-deciding-turn : (s : State) → decides (come_to_decide s) ≡ true → Holds Turn s → Holds Turn (deciding s)
+pub deciding-turn : (s : State) → decides (come_to_decide s) ≡ true → Holds Turn s → Holds Turn (deciding s)
 unfolding deciding
 deciding-turn s on h =
     let t = come_to_decide-turn s h in
@@ -312,11 +312,11 @@ deciding-turn s on h =
 
 -- ---- events
 
-event-turn : (s : State) → is_late s.phase ≡ false → Holds Turn s → Holds Turn (event s)
+pub event-turn : (s : State) → is_late s.phase ≡ false → Holds Turn s → Holds Turn (event s)
 unfolding event
 event-turn s early h = regained-keeps turn_walk _ (phased Handling s.owed s (λ isnt. refl) (λ off. early) h)
 
-paid-turn : (s : State) → Holds Turn s → Holds Turn (paid s)
+pub paid-turn : (s : State) → Holds Turn s → Holds Turn (paid s)
 unfolding paid
 paid-turn s h = regained-keeps turn_walk _ (phased s.phase Free s (λ isnt. absurd (cc isnt)) (λ off. off) h)
 
@@ -367,13 +367,13 @@ said-turn : (c n : ℕ) (s : State) → Holds Turn s → Holds Turn (said c n s)
 unfolding said
 said-turn c n s h = each_of (client s c) h (λ x. end_replies-keeps turn_walk _ (on_client-keeps turn_walk c (said_by n) _ (said_by-same n) (use_said-keeps n x s h)))
 
-gone-turn : (is_clean : Bool) (n : ℕ) (s : State) → Holds Turn s → Holds Turn (gone is_clean n s)
+pub gone-turn : (is_clean : Bool) (n : ℕ) (s : State) → Holds Turn s → Holds Turn (gone is_clean n s)
 unfolding gone
 gone-turn is_clean n s h = each_of (conn s n) h (λ k. end_replies-keeps turn_walk _ (ended-keeps turn_walk is_clean k s h))
 
 -- ---- notes
 
-take_decision-turn : (n : ℕ) (d : Decision) (s : State) → is_late s.phase ≡ true → ((c : Client) → client s n ≡ Some c → c.is_closing ≡ false) → Holds Turn s → Holds Turn (take_decision n d s)
+pub take_decision-turn : (n : ℕ) (d : Decision) (s : State) → is_late s.phase ≡ true → ((c : Client) → client s n ≡ Some c → c.is_closing ≡ false) → Holds Turn s → Holds Turn (take_decision n d s)
 unfolding take_decision
 take_decision-turn n d s late going h =
     each_so (client s n) (λ none. h)
@@ -430,7 +430,7 @@ evicted-turn : (s : State) → Holds Turn s → Holds Turn (evicted s)
 unfolding evicted
 evicted-turn s h = each_of (due_victim s) h (λ place. drop_chunk-keeps place.0 place.1 s h)
 
-refused_row-turn : (x : Instance) (s : State) → is_followed s x.id ≡ false → Holds Turn s → Holds Turn (refused_row x s)
+pub refused_row-turn : (x : Instance) (s : State) → is_followed s x.id ≡ false → Holds Turn s → Holds Turn (refused_row x s)
 unfolding refused_row
 refused_row-turn x s none h =
     let told : State = record (forget x.id s) { clients = change (waits_for_row x.id) (λ c. record c { course = RowRefused }) (forget x.id s).clients } in
@@ -654,7 +654,7 @@ configured-turn (Some text) s e h = with_settings-turn (settings_in (reading_of 
 
 -- ---- a client is shut
 
-shut-turn : (n : ℕ) (s : State) → Holds Turn s → Holds Turn (shut n s)
+pub shut-turn : (n : ℕ) (s : State) → Holds Turn s → Holds Turn (shut n s)
 unfolding shut
 shut-turn n s h = holds (record {
   owes = closed.owes;
@@ -679,7 +679,7 @@ shut-turn n s h = holds (record {
 
 -- ---- places
 
-dialled-turn : (n : ℕ) (host : Bytes) (port : ℕ) (p : Placement) → Holds Turn p.state → Holds Turn (dialled n host port p)
+pub dialled-turn : (n : ℕ) (host : Bytes) (port : ℕ) (p : Placement) → Holds Turn p.state → Holds Turn (dialled n host port p)
 unfolding dialled
 dialled-turn n host port p h = by_pause p.pause h (λ k e. h) (λ e. holds (turn_places e.number n _ (facts_of h)))
 
@@ -701,7 +701,7 @@ dropped-turn n s h = each_of (conn s n) h (λ k. when k.is_closing (holds (facts
 
 -- ---- all
 
-rest_with-turn : (w : Wants) (s : State) → Holds Turn s → Holds Turn (rest_with w s)
+pub rest_with-turn : (w : Wants) (s : State) → Holds Turn s → Holds Turn (rest_with w s)
 unfolding rest_with
 rest_with-turn w s h = holds (record {
   owes = λ isnt. absurd (cc isnt);
@@ -719,7 +719,7 @@ rest_with-turn w s h = holds (record {
     f : Turn (record v { instances = map rested_instance s.instances; next_instance = s.next_instance })
     f = turn_walk.rows (map rested_instance s.instances) s.next_instance v (rows_mapped v rested_instance (λ x. record { id = refl; key = refl; is_new = λ is. absurd (cc is); retired = λ is. is })) (rested-keeps turn_walk w s h)
 
-ending-turn : (s : State) → Holds Turn s → Holds Turn (ending s)
+pub ending-turn : (s : State) → Holds Turn s → Holds Turn (ending s)
 unfolding ending
 ending-turn s h = begin_replies-keeps turn_walk _ (come_to-turn DecidingAgain s h)
 

@@ -197,7 +197,7 @@ stands_in s h going e i is = by e.place refl is
 few_placed_on : (s : State) → Sound from_now s → Kept [] s → s.is_stopped ≡ false → length (filter has_place s.exchanges) ≤ 512
 few_placed_on s sound_it h going =
     let le : length (filter has_place s.exchanges) ≤ length (flat_map (λ (k : Conn). k.line) s.conns) = pigeons exchange_number (λ (n : ℕ). Some n) has_place s.exchanges (flat_map (λ (k : Conn). k.line) s.conns)
-        (rise_differ (map exchange_number s.exchanges) (sound_facts sound_it).asks.rise) (λ e i is. (e.number, stands_in s h going e i is, refl)) in
+    (rise_differ (map exchange_number s.exchanges) (sound_facts sound_it).asks.rise) (λ e i is. (e.number, stands_in s h going e i is, refl)) in
     let long : length (flat_map (λ (k : Conn). k.line) s.conns) ≤ 8 * length s.conns = all_lines s.conns (kept_facts h).lines.short in
     let few : length s.conns ≤ 64 = (kept_facts h).lines.few in
     omega arith
