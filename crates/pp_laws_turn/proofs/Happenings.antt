@@ -222,7 +222,7 @@ behind-turn Handling s is free h = in_phase-turn Evicting s free (λ off. ap is_
 behind-turn Evicting s is free h = give_up_asks-keeps turn_walk _ (in_phase-turn Keeping s free (λ off. absurd (cc off)) h)
 behind-turn Keeping s is free h = in_phase-turn Deciding s free (λ off. absurd (cc off)) h
 behind-turn Deciding s is free h = in_phase-turn Following s free (λ off. absurd (cc off)) h
-behind-turn Following s is free h = fill-keeps turn_walk turn_begins _ (drop_unseen-keeps turn_walk _ (in_phase-turn Connecting s free (λ off. absurd (cc off)) h))
+behind-turn Following s is free h = fill-keeps turn_walk turn_begins _ (give_up_asks-keeps turn_walk _ (drop_unseen-keeps turn_walk _ (in_phase-turn Connecting s free (λ off. absurd (cc off)) h)))
 behind-turn Connecting s is free h = placing-keeps turn_places _ (in_phase-turn DecidingAgain s free (λ off. absurd (cc off)) h)
 behind-turn DecidingAgain s is free h = h
 
@@ -683,17 +683,13 @@ pub dialled-turn : (n : ℕ) (host : Bytes) (port : ℕ) (p : Placement) → Hol
 unfolding dialled
 dialled-turn n host port p h = by_pause p.pause h (λ k e. h) (λ e. holds (turn_places e.number n _ (facts_of h)))
 
-lose_attempt-owed : (e : Exchange) (s : State) → is_free s.owed ≡ true → is_free (lose_attempt e s).owed ≡ true
-lose_attempt-owed e s free = let was : Holds (AreStill s.phase s.owed) s = holds (refl, refl) in ap is_free (facts_of (lose_attempt-keeps (still_walk s.phase s.owed) e s was)).1 ∙ free
-
--- where nothing is owed an exchange that is refused a dial is over
-refused_dial-turn : (e : Exchange) (s : State) → is_free s.owed ≡ true → Holds Turn s → Holds Turn (refused_dial e s)
+pub refused_dial-turn : (e : Exchange) (s : State) → Holds Turn s → Holds Turn (refused_dial e s)
 unfolding refused_dial
-refused_dial-turn e s free h = when (may_ask_again s e.number) h (end_exchange-keeps turn_walk e.number _ (in_phase-turn Following s free (λ off. absurd (cc off)) h))
+refused_dial-turn e s h = when (may_ask_again s e.number) h (fill-keeps turn_walk turn_begins _ (end_exchange-keeps turn_walk e.number _ h))
 
-undialled-turn : (p : Placement) → is_free p.state.owed ≡ true → Holds Turn p.state → Holds Turn (undialled p)
+undialled-turn : (p : Placement) → Holds Turn p.state → Holds Turn (undialled p)
 unfolding undialled
-undialled-turn p free h = by_pause p.pause h (λ k e. h) (λ e. refused_dial-turn e _ (lose_attempt-owed e (record p.state { failures = p.state.failures + 1 }) free) (lose_attempt-keeps turn_walk e _ (holds (facts_of h))))
+undialled-turn p h = by_pause p.pause h (λ k e. h) (λ e. refused_dial-turn e _ (lose_attempt-keeps turn_walk e _ (holds (facts_of h))))
 
 dropped-turn : (n : ℕ) (s : State) → Holds Turn s → Holds Turn (dropped n s)
 unfolding dropped out
@@ -862,16 +858,6 @@ noted-turn (Forgotten key) s so is h = forgotten_by-turn key s h
 noted-turn (Evicted key tag n i) s so is h = evicted-turn _ (come_to-turn Evicting s h)
 noted-turn (Loaded key tag n i) s so is h = load-turn key i s h
 
-put_free : (n k : ℕ) (u : State) → is_free u.owed ≡ true → is_free (put_on n k u).owed ≡ true
-unfolding put_on on_conn on_exchange
-put_free n k u free = free
-
-undialled_free : (s : State) (host : Bytes) (port : ℕ) → permits_dial s host port ≡ true → Holds Turn s → is_free (placing (come_to Connecting s)).state.owed ≡ true
-undialled_free s host port is h =
-    let t : State = come_to Connecting s in
-    let at : is_late t.phase ≡ true = ap is_late (at_phase Connecting t (gate (is_at Connecting t) (may_dial t host port) is).0) in
-    placing-any (λ u. is_free u.owed ≡ true) put_free t (late_owes t at (come_to-turn Connecting s h))
-
 changed-turn : {b : Since} (s : State) (h : Happening) → Sound b s → IsPermitted s h → Holds Turn s → Holds Turn (changed s h)
 unfolding changed
 changed-turn s (Woke image) so is h = woken-turn image s
@@ -885,7 +871,7 @@ changed-turn s (HungUp c) so is h = paid-turn _ (hang_up-keeps turn_walk c s h)
 changed-turn s (Said c offered bytes) so is h = paid-turn _ (said-turn c (length bytes) s h)
 changed-turn s (Shut c) so is h = shut-turn c _ (come_to-turn Connecting s h)
 changed-turn s (Dialled n host port) so is h = dialled-turn n host port (placing (come_to Connecting s)) (placing-keeps turn_places _ (come_to-turn Connecting s h))
-changed-turn s (Undialled host port) so is h = undialled-turn (placing (come_to Connecting s)) (undialled_free s host port (undialled_may s host port is) h) (placing-keeps turn_places _ (come_to-turn Connecting s h))
+changed-turn s (Undialled host port) so is h = undialled-turn (placing (come_to Connecting s)) (placing-keeps turn_places _ (come_to-turn Connecting s h))
 changed-turn s (Reached n) so is h = event-turn _ (reached_early n s (awaiting_early s (reached_awaits s n is))) (reached-turn n s h)
 changed-turn s (Ended n) so is h = paid-turn _ (gone-turn true n s h)
 changed-turn s (Broke n) so is h = paid-turn _ (gone-turn false n _ (event-turn s (broke_early s n (broke_may s n is) h) h))

@@ -111,7 +111,7 @@ behind-asks Handling s h = pool_holds (pool_facts h)
 behind-asks Evicting s h = give_up_asks-keeps asks_walk _ (pool_holds (pool_facts h))
 behind-asks Keeping s h = pool_holds (pool_facts h)
 behind-asks Deciding s h = pool_holds (pool_facts h)
-behind-asks Following s h = fill-keeps asks_walk asks_begins _ (drop_unseen-keeps asks_walk _ (pool_holds (pool_facts h)))
+behind-asks Following s h = fill-keeps asks_walk asks_begins _ (give_up_asks-keeps asks_walk _ (drop_unseen-keeps asks_walk _ (pool_holds (pool_facts h))))
 behind-asks Connecting s h = placing-keeps asks_places _ (pool_holds (pool_facts h))
 behind-asks DecidingAgain s h = h
 
