@@ -436,7 +436,7 @@ undialled-asks p h = by_pause p.pause h (λ k e. h) (λ e. refused e (lost e))
     lost e = lose_attempt-keeps asks_walk e _ (holds (facts_of h))
 
     refused : (e : Exchange) → Holds Asks (lose_attempt e (record p.state { failures = p.state.failures + 1 })) → Holds Asks (refused_dial e (lose_attempt e (record p.state { failures = p.state.failures + 1 })))
-    refused e g = when (may_ask_again (lose_attempt e (record p.state { failures = p.state.failures + 1 })) e.number) g (end_exchange-keeps asks_walk e.number _ (holds (facts_of g)))
+    refused e g = when (may_ask_again (lose_attempt e (record p.state { failures = p.state.failures + 1 })) e.number) g (fill-keeps asks_walk asks_begins _ (end_exchange-keeps asks_walk e.number _ g))
 
 dropped-asks : (n : ℕ) (s : State) → Holds Asks s → Holds Asks (dropped n s)
 unfolding dropped out
