@@ -64,6 +64,11 @@ abbrev pub may_wait_on : Option Shared → ℕ → Exchanges → Bool
 may_wait_on None now f = false
 may_wait_on (Some w) now f = is_patient (is_awaited w.exchange f) now w.since
 
+-- it waits on; or what it names is asked already
+abbrev pub has_shared_ask : Option Shared → Seat → ℕ → Exchanges → Bool
+has_shared_ask None seat now f = is_some (shared_ask seat f)
+has_shared_ask (Some w) seat now f = may_wait_on (Some w) now f
+
 -- what it asks is asked already, where fetches are shared, and it may be another's
 abbrev pub is_asked : Bool → Option Decision → Seat → Exchanges → Bool
 is_asked shares None seat f = false
@@ -79,6 +84,6 @@ has_asked client f = is_some (first_of (find (is_asked_by client) f.waiting) (fi
 abbrev pub due_undecided : State → Seat → Option Decision
 due_undecided s seat = undecided_in seat.waits_on (may_wait_on seat.waits_on s.now s.flow) s.shares_fetches (is_some (shared_ask seat s.flow)) (decide s seat)
 
--- it waits for the answer to another client's ask
+-- where nothing is due, it waits for the answer to another client's ask
 abbrev pub is_sharing : State → Seat → Bool
-is_sharing s seat = is_undecided_in seat.stage && is_there_in seat.front && not (is_some (due_undecided s seat))
+is_sharing s seat = is_undecided_in seat.stage && is_there_in seat.front && has_shared_ask seat.waits_on seat s.now s.flow

@@ -1,6 +1,6 @@
 // One fetch for many (ours): a request waits once for what another has asked for already.
 ghost use Rattle.std.specs.Prelude.{◌≡◌};
-ghost use Rattle.pp_decide.specs.Sharing.{due_undecided, is_sharing, asks_part, earlier, is_asked, is_awaited, is_shared, may_wait_on, shared_ask};
+ghost use Rattle.pp_decide.specs.Sharing.{due_undecided, is_sharing, asks_part, earlier, has_shared_ask, is_asked, is_awaited, is_shared, may_wait_on, shared_ask};
 ghost use Rattle.pp_seats.specs.Dues.{may_share, undecided_in};
 ghost use Rattle.pp_decide.specs.Patience.{is_patient};
 
@@ -82,13 +82,21 @@ pub fn due_undecided(state: &State, seat: &Seat) -> Option<Decision>
     )
 }
 
-/// It waits for the answer to another client's ask.
+/// It waits on; or what it names is asked already.
+fn has_shared_ask(state: &State, seat: &Seat) -> bool
+    ensures { result ≡ has_shared_ask seat.now.waits_on seat.now state.entry.now.now state.entry.now.flow }
+{
+    match &seat.waits_on {
+        None => shared_ask(state, seat).is_some(),
+        Some(_) => may_wait_on(state, seat),
+    }
+}
+
+/// Where nothing is due, it waits for the answer to another client's ask.
 pub fn is_sharing(state: &State, seat: &Seat) -> bool
     ensures { result ≡ is_sharing state.entry.now seat.now }
 {
-    matches!(seat.stage, Stage::Undecided)
-        && seat.front.is_there()
-        && due_undecided(state, seat).is_none()
+    matches!(seat.stage, Stage::Undecided) && seat.front.is_there() && has_shared_ask(state, seat)
 }
 
 /// It asks for the whole of this key, or checks it, and its answer has not come.
