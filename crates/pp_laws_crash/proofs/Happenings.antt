@@ -325,9 +325,6 @@ ends_turns s owed may = ⊎_elim
     (λ (is : (not s.is_stopped && may_end s) ≡ true). come_from DecidingAgain s owed (ap recovers (at_DecidingAgain (come_to DecidingAgain s).phase (in_so s DecidingAgain (is_at DecidingAgain (come_to DecidingAgain s)) _ (second_holds (not s.is_stopped) _ is)))))
     (either_is (is_at IsListening s) _ may)
 
-dial_turns : (s : State) (host : Bytes) (port : ℕ) → permits_dial s host port ≡ true → recovers (come_to Connecting s).phase ≡ false
-dial_turns s host port may = ap recovers (at_Connecting (come_to Connecting s).phase (in_so s Connecting (is_at Connecting (come_to Connecting s)) _ may))
-
 taken_by : (s : State) (c i : ℕ) (d : Decision) (room : Bool) → (elim room as (λ x. Bool) [ true ↦ permits_taken s c i d && not (is_for_memory d) | false ↦ permits_taken s c i d ]) ≡ true → permits_taken s c i d ≡ true
 taken_by s c i d true is = first_holds (permits_taken s c i d) _ is
 taken_by s c i d false is = is
