@@ -182,7 +182,7 @@ behind-asks Handling s h = holds (facts_of h)
 behind-asks Evicting s h = give_up_asks-keeps asks_walk _ (holds (facts_of h))
 behind-asks Keeping s h = holds (facts_of h)
 behind-asks Deciding s h = holds (facts_of h)
-behind-asks Following s h = fill-keeps asks_walk asks_begins _ (drop_unseen-keeps asks_walk _ (holds (facts_of h)))
+behind-asks Following s h = fill-keeps asks_walk asks_begins _ (give_up_asks-keeps asks_walk _ (drop_unseen-keeps asks_walk _ (holds (facts_of h))))
 behind-asks Connecting s h = placing-keeps asks_places _ (holds (facts_of h))
 behind-asks DecidingAgain s h = h
 

@@ -101,6 +101,7 @@ fn go_round<W: Wire>(desk: &mut Desk, links: &mut Links, shelf: &Shelf, world: &
     ensures quiet { GrowsQuietly (W.log world.old) (W.log world.new) }
 {
     drop_unseen(desk);
+    give_up_asks(&mut desk.state);
     fill(&mut desk.state);
     desk.close_over(links, world);
     place(desk, links, world);
