@@ -19,9 +19,9 @@ use Rattle.pp_seats.specs.declared.seat.Seat.{Seat}
 use Rattle.pp_seats_law.specs.Exchanges.{Binding, ShowsBody}
 use Rattle.pp_states_law.proofs.Asked.{all_as, frames, one_as}
 use Rattle.pp_states_law.specs.States.{ShowsState}
-use Rattle.pp_steps.specs.Bodies.{body_by, is_passed, with_body, with_body_for}
-use Rattle.pp_steps.specs.Ends.{Parts, bound_by, on_seat_where}
-use Rattle.pp_steps.specs.FinalHeads.{noted_body}
+use Rattle.pp_state.specs.Bodies.{body_by, is_passed, with_body, with_body_for}
+use Rattle.pp_state.specs.Ends.{Parts, bound_by, on_seat_where}
+use Rattle.pp_answers.specs.FinalHeads.{noted_body}
 use Rattle.pp_steps_law.proofs.Told.{told_asked, told_next}
 use Rattle.pp_steps_law.specs.Steps.{ShowsSteps, whole}
 use Rattle.pp_steps_law.specs.Told.{AreTold, EachIsTold, IsToldBy}

@@ -21,8 +21,8 @@ use Rattle.pp_objects.specs.declared.id.ObjectId.{ObjectId}
 use Rattle.pp_peers.specs.declared.peers.Peer.{Peer}
 use Rattle.pp_seats_law.proofs.Entries.{exchanges}
 use Rattle.pp_seats_law.specs.Exchanges.{ShowsBound, ShowsExchange}
-use Rattle.pp_steps.specs.Ends.{Parts}
-use Rattle.pp_steps.specs.Pins.{busy_row, busy_rows, exchanges_of}
+use Rattle.pp_state.specs.Ends.{Parts}
+use Rattle.pp_state.specs.Pins.{busy_row, busy_rows, exchanges_of}
 use Rattle.pp_steps_law.proofs.Told.{told_of}
 use Rattle.pp_steps_law.specs.Steps.{ShowsSteps}
 use Rattle.pp_steps_law.specs.Told.{IsToldBy}

@@ -32,8 +32,8 @@ use Rattle.pp_seats_law.specs.Clients.{IsAt, IsFound}
 use Rattle.pp_seats_law.specs.Fronts.{StandsStill}
 use Rattle.pp_seats_law.specs.Exchanges.{ShowsExchange}
 use Rattle.pp_seats_law.specs.Seats.{ShowsOpen}
-use Rattle.pp_steps.specs.Ends.{Parts, cleared_row, known_version, numbers_of, seat_for, version_at}
-use Rattle.pp_steps.specs.ThroughHeads.{disproved, gets, is_disproved, is_disproved_by, is_get_in, is_get_of, reads}
+use Rattle.pp_state.specs.Ends.{Parts, cleared_row, known_version, numbers_of, seat_for, version_at}
+use Rattle.pp_answers.specs.ThroughHeads.{disproved, gets, is_disproved, is_disproved_by, is_get_in, is_get_of, reads}
 use Rattle.pp_steps_law.proofs.Charged.{same_entry}
 use Rattle.pp_steps_law.proofs.Places.{HasPlace, HasSeat, at_place, has_none, has_place, has_seat}
 use Rattle.pp_steps_law.specs.Charges.{IsFor}

@@ -28,9 +28,9 @@ use Rattle.pp_seats_law.proofs.Stages.{passed}
 use Rattle.pp_seats_law.specs.Clients.{IsAt, IsFound}
 use Rattle.pp_seats_law.specs.Seats.{ShowsSeat}
 use Rattle.pp_seats_law.specs.Words.{ShowsMaybePassed}
-use Rattle.pp_steps.specs.Bodies.{body_by, is_passed, is_passed_in, seat_in}
-use Rattle.pp_steps.specs.Ends.{Parts, bound_by, changed_at, numbers_of, on_seat_where, place_of, seat_for, told, told_to, unusable}
-use Rattle.pp_steps.specs.FinalHeads.{noted_body}
+use Rattle.pp_state.specs.Bodies.{body_by, is_passed, is_passed_in, seat_in}
+use Rattle.pp_state.specs.Ends.{Parts, bound_by, changed_at, numbers_of, on_seat_where, place_of, seat_for, told, told_to, unusable}
+use Rattle.pp_answers.specs.FinalHeads.{noted_body}
 use Rattle.pp_steps_law.proofs.Charged.{number_is, same_entry}
 use Rattle.pp_steps_law.proofs.Places.{HasSeat, at_place, has_seat, numbers_set}
 use Rattle.pp_steps_law.specs.Charges.{IsFor, IsThere}

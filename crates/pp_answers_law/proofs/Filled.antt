@@ -15,11 +15,11 @@ use Rattle.pp_law.specs.ThroughHeads.{through_head}
 use Rattle.pp_peers.specs.declared.peers.Peer.{Peer}
 use Rattle.pp_seats_law.specs.Exchanges.{ShowsExchange}
 use Rattle.pp_seats_law.specs.Fates.{aim_of}
-use Rattle.pp_steps.specs.Ends.{Parts, parts}
-use Rattle.pp_steps.specs.FinalHeads.{TakesAim, TakesPart, noted_body, other_part, part_without_version, version_in}
-use Rattle.pp_steps.specs.OwnHeads.{is_private_part}
-use Rattle.pp_steps.specs.Rows.{not_modified}
-use Rattle.pp_steps.specs.declared.state.State.{State as Turn}
+use Rattle.pp_state.specs.Ends.{Parts, parts}
+use Rattle.pp_answers.specs.FinalHeads.{TakesAim, TakesPart, noted_body, other_part, part_without_version, version_in}
+use Rattle.pp_answers.specs.OwnHeads.{is_private_part}
+use Rattle.pp_answers.specs.Rows.{not_modified}
+use Rattle.pp_state.specs.declared.state.State.{State as Turn}
 use Rattle.pp_steps_law.proofs.Charged.{same_entry}
 use Rattle.pp_steps_law.specs.Steps.{ShowsSteps}
 use Rattle.pp_valid.specs.declared.version.Version.{Version}

@@ -31,12 +31,12 @@ use Rattle.pp_seats.specs.declared.seat.Seat.{Seat}
 use Rattle.pp_seats.specs.declared.account.Account.{Account}
 use Rattle.pp_seats_law.specs.Exchanges.{IsBoundAs, ShowsExchange}
 use Rattle.pp_seats_law.specs.Seats.{ShowsOpen, ShowsSeat}
-use Rattle.pp_steps.specs.Accounts.{brought_by, with_source}
-use Rattle.pp_steps.specs.Bodies.{on_place}
-use Rattle.pp_steps.specs.Ends.{Parts, bound_by, on_seat_where, seat_for, told, told_to}
-use Rattle.pp_steps.specs.FinalHeads.{noted_body}
-use Rattle.pp_steps.specs.OwnHeads.{span_to_come as span_coming}
-use Rattle.pp_steps.specs.Rows.{accounted, joining, settled_on, span_for}
+use Rattle.pp_state.specs.Accounts.{brought_by, with_source}
+use Rattle.pp_state.specs.Bodies.{on_place}
+use Rattle.pp_state.specs.Ends.{Parts, bound_by, on_seat_where, seat_for, told, told_to}
+use Rattle.pp_answers.specs.FinalHeads.{noted_body}
+use Rattle.pp_answers.specs.OwnHeads.{span_to_come as span_coming}
+use Rattle.pp_answers.specs.Rows.{accounted, joining, settled_on, span_for}
 use Rattle.pp_steps_law.proofs.Charged.{same_entry}
 use Rattle.pp_steps_law.specs.Charges.{IsFor}
 use Rattle.pp_steps_law.specs.Steps.{ShowsSteps}

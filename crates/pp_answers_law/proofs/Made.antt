@@ -36,10 +36,10 @@ use Rattle.pp_seats_law.specs.Clients.{AreShown}
 use Rattle.pp_states_law.proofs.Asked.{all_as, frames, itself}
 use Rattle.pp_states_law.specs.Asks.{IsAskedAs}
 use Rattle.pp_states_law.specs.States.{ShowsState}
-use Rattle.pp_steps.specs.Ends.{Parts}
-use Rattle.pp_steps.specs.FinalHeads.{noted_body}
-use Rattle.pp_steps.specs.Pins.{busy_rows}
-use Rattle.pp_steps.specs.Rows.{in_memory, not_refused, settled_on}
+use Rattle.pp_state.specs.Ends.{Parts}
+use Rattle.pp_answers.specs.FinalHeads.{noted_body}
+use Rattle.pp_state.specs.Pins.{busy_rows}
+use Rattle.pp_answers.specs.Rows.{in_memory, not_refused, settled_on}
 use Rattle.pp_steps_law.proofs.Charged.{same_entry}
 use Rattle.pp_steps_law.proofs.Told.{there_before}
 use Rattle.pp_steps_law.specs.Steps.{ShowsSteps, whole}

@@ -11,9 +11,9 @@ use Rattle.pp_law.specs.State.{State, Dropping, Exchange, TooWide}
 use Rattle.pp_law.specs.Table.{clear, swept}
 use Rattle.pp_peers.specs.declared.peers.Peer.{Peer}
 use Rattle.pp_seats.specs.declared.seat.Brought.TheVariants.{TooWide as IsTooWide}
-use Rattle.pp_steps.specs.Ends.{Parts, bound_by, cleared_row, told_to}
-use Rattle.pp_steps.specs.FinalHeads.{cleared_by, noted_body, other_part, relayed, relayed_or_widened, shared_part}
-use Rattle.pp_steps.specs.OwnHeads.{clears_row, is_private_part}
+use Rattle.pp_state.specs.Ends.{Parts, bound_by, cleared_row, told_to}
+use Rattle.pp_answers.specs.FinalHeads.{cleared_by, noted_body, other_part, relayed, relayed_or_widened, shared_part}
+use Rattle.pp_answers.specs.OwnHeads.{clears_row, is_private_part}
 use Rattle.pp_steps_law.proofs.Charged.{same_entry}
 use Rattle.pp_steps_law.specs.Charges.{IsFor}
 use Rattle.pp_steps_law.specs.Steps.{ShowsSteps}

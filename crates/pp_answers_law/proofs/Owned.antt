@@ -25,12 +25,13 @@ use Rattle.pp_peers.specs.declared.peers.Peer.{Peer}
 use Rattle.pp_seats.specs.declared.seat.Brought.TheVariants.{Refused}
 use Rattle.pp_seats.specs.declared.seat.Seat.{Seat}
 use Rattle.pp_seats_law.specs.Exchanges.{ShowsExchange}
-use Rattle.pp_steps.specs.Ends.{Parts, bound_by, cleared_of, cleared_row, on_seat_where, parts, seat_for, told}
-use Rattle.pp_steps.specs.FinalHeads.{TakesOwn, noted_body, other_head, version_in, without_version}
-use Rattle.pp_steps.specs.Heads.{key_of as key_in_flow}
-use Rattle.pp_steps.specs.Pins.{busy_rows, forgotten_row, idle_row, with_room as turn_with_room}
-use Rattle.pp_steps.specs.Rows.{IsNew, MakesRow, MakesRowOf, Settles, SettlesRow, may_join, not_modified, refused_row, refusing, refusing_key, renewed, row_for, row_in, row_or_none, with_room_for}
-use Rattle.pp_steps.specs.declared.state.State.{State as Turn}
+use Rattle.pp_state.specs.Ends.{Parts, bound_by, cleared_of, cleared_row, on_seat_where, parts, seat_for, told}
+use Rattle.pp_answers.specs.FinalHeads.{TakesOwn, noted_body, other_head, version_in, without_version}
+use Rattle.pp_state.specs.Keys.{key_of as key_in_flow}
+use Rattle.pp_state.specs.Pins.{busy_rows, forgotten_row, idle_row, with_room as turn_with_room}
+use Rattle.pp_answers.specs.Rows.{IsNew, MakesRow, MakesRowOf, Settles, SettlesRow, may_join, not_modified, refused_row, refusing, refusing_key, renewed, row_or_none, with_room_for}
+use Rattle.pp_state.specs.Known.{row_for, row_in}
+use Rattle.pp_state.specs.declared.state.State.{State as Turn}
 use Rattle.pp_steps_law.proofs.Charged.{same_entry}
 use Rattle.pp_steps_law.specs.Steps.{ShowsSteps}
 use Rattle.pp_valid.specs.declared.version.Version.{Version}

@@ -16,10 +16,10 @@ use Rattle.pp_law.specs.Table.{clear, is_entry_of, is_kept_row_of, kept_row, row
 use Rattle.pp_law.specs.ThroughHeads.{clear_each, clear_named, disproved as law_disproved, invalidated as law_invalidated, invalidates as law_invalidates, is_same_host, key_named as law_key_named, places_named as law_places, through_head}
 use Rattle.pp_peers.specs.declared.peers.Peer.{Peer}
 use Rattle.pp_seats_law.specs.Exchanges.{ShowsExchange}
-use Rattle.pp_steps.specs.Ends.{Parts, cleared_key, cleared_of, cleared_row}
-use Rattle.pp_steps.specs.FinalHeads.{PassesHead, noted_body, relayed}
-use Rattle.pp_steps.specs.Heads.{key_of as key_in_flow}
-use Rattle.pp_steps.specs.ThroughHeads.{ClearsEach, InvalidatesIf, InvalidatesRows, disproved, invalidates, named_as, places_named}
+use Rattle.pp_state.specs.Ends.{Parts, cleared_key, cleared_of, cleared_row}
+use Rattle.pp_answers.specs.FinalHeads.{PassesHead, noted_body, relayed}
+use Rattle.pp_state.specs.Keys.{key_of as key_in_flow}
+use Rattle.pp_answers.specs.ThroughHeads.{ClearsEach, InvalidatesIf, InvalidatesRows, disproved, invalidates, named_as, places_named}
 use Rattle.pp_steps_law.proofs.Charged.{same_entry}
 use Rattle.pp_steps_law.specs.Charges.{IsFor}
 use Rattle.pp_steps_law.specs.Steps.{ShowsSteps}

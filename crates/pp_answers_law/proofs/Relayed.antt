@@ -46,10 +46,10 @@ use Rattle.pp_seats_law.specs.Exchanges.{ShowsBody}
 use Rattle.pp_seats_law.specs.Fronts.{ShowsAsked, ShowsFront}
 use Rattle.pp_seats_law.specs.Replies.{IsHeadKept, ShowsPassed, ShowsSaid, ShowsStage, passed_text}
 use Rattle.pp_seats_law.specs.Seats.{ShowsOpen, ShowsSeat}
-use Rattle.pp_steps.specs.Bodies.{body_by, is_passed, is_passed_in, on_asker, on_place, seat_in}
-use Rattle.pp_steps.specs.Ends.{Parts, bound_by, changed_at, numbers_of, on_seat_where, place_of, seat_for}
-use Rattle.pp_steps.specs.FinalHeads.{noted_body}
-use Rattle.pp_steps.specs.Passing.{head_for, is_coded, may_answer, passed_on, passed_to, with_head}
+use Rattle.pp_state.specs.Bodies.{body_by, is_passed, is_passed_in, on_asker, on_place, seat_in}
+use Rattle.pp_state.specs.Ends.{Parts, bound_by, changed_at, numbers_of, on_seat_where, place_of, seat_for}
+use Rattle.pp_answers.specs.FinalHeads.{noted_body}
+use Rattle.pp_state.specs.Passing.{head_for, is_coded, may_answer, passed_on, passed_to, with_head}
 use Rattle.pp_steps_law.proofs.Charged.{course_shown}
 use Rattle.pp_steps_law.proofs.Places.{HasPlace, HasSeat, at_place, has_none, has_place, has_seat, numbers_set, one_asks}
 use Rattle.pp_steps_law.specs.Charges.{IsFor}

@@ -22,9 +22,8 @@ use Rattle.pp_heads_law.proofs.Ruled.{names, times}
 use Rattle.pp_law.specs.Connections.{exchange}
 use Rattle.pp_law.specs.Lists.{Bytes, is_some_with}
 use Rattle.pp_law.specs.OwnHeads.{key_of, known_version, may_refresh as law_may_refresh, names_version, not_modified as law_not_modified, nothing_to_come, refresh, renew, renew_row, settle_known, settle_on, settle_unchanged, tell, times_for as law_times, unchanged, use_body, useless, not_shared as law_not_shared}
-use Rattle.pp_law.specs.State.{State, Exchange, Instance as Known, Joining, Joins}
+use Rattle.pp_law.specs.State.{State, Exchange, Instance as Known, Joining, Joins, Entry as KeptEntry}
 use Rattle.pp_law.specs.Table.{add_row, clear, enter, instance, mark_row, on_instance, row, row_on_disk, with_room}
-use Rattle.pp_law.specs.State.{Entry as KeptEntry}
 use Rattle.pp_objects.specs.Changes.{changed_in, marked, refreshed}
 use Rattle.pp_objects.specs.Instances.{Instance, fields_at, fields_of, id_of, in_slot, is_in_slot, is_life, is_row_of, is_there, row_of}
 use Rattle.pp_objects.specs.Kept.{has_room}
@@ -32,11 +31,12 @@ use Rattle.pp_objects.specs.declared.id.ObjectId.{ObjectId}
 use Rattle.pp_peers.specs.declared.peers.Peer.{Peer}
 use Rattle.pp_states_law.proofs.Asked.{all_as, frames, itself}
 use Rattle.pp_states_law.specs.States.{ShowsState}
-use Rattle.pp_steps.specs.Answers.{not_shared}
-use Rattle.pp_steps.specs.Ends.{Parts, cleared_row, made_useless}
-use Rattle.pp_steps.specs.FinalHeads.{noted_body}
-use Rattle.pp_steps.specs.Heads.{names_tag, told_unchanged}
-use Rattle.pp_steps.specs.Rows.{in_memory, joining, may_refresh, not_modified, not_modified_as, nothing_of, refreshed_at, refreshed_row, row_for, row_in, settled_on, times_for}
+use Rattle.pp_answers.specs.Answers.{not_shared}
+use Rattle.pp_state.specs.Ends.{Parts, cleared_row, made_useless}
+use Rattle.pp_answers.specs.FinalHeads.{noted_body}
+use Rattle.pp_answers.specs.Heads.{names_tag, told_unchanged}
+use Rattle.pp_answers.specs.Rows.{in_memory, joining, may_refresh, not_modified, not_modified_as, nothing_of, refreshed_at, refreshed_row, settled_on, times_for}
+use Rattle.pp_state.specs.Known.{row_for, row_in}
 use Rattle.pp_steps_law.proofs.Charged.{same_entry}
 use Rattle.pp_steps_law.specs.Charges.{IsFor}
 use Rattle.pp_steps_law.proofs.Told.{are_told_on, told_next}

@@ -20,9 +20,9 @@ use Rattle.pp_law.specs.ThroughHeads.{through_head}
 use Rattle.pp_peers.specs.declared.peers.Peer.{Peer}
 use Rattle.pp_seats_law.specs.Exchanges.{ShowsExchange}
 use Rattle.pp_seats_law.specs.Fates.{aim_of}
-use Rattle.pp_steps.specs.Ends.{Parts, parts}
-use Rattle.pp_steps.specs.FinalHeads.{AnswersAsk, PassesHead, TakesAim, TakesHead, answer_to, right_rule}
-use Rattle.pp_steps.specs.declared.state.State.{State as Turn}
+use Rattle.pp_state.specs.Ends.{Parts, parts}
+use Rattle.pp_answers.specs.FinalHeads.{AnswersAsk, PassesHead, TakesAim, TakesHead, answer_to, right_rule}
+use Rattle.pp_state.specs.declared.state.State.{State as Turn}
 use Rattle.pp_steps_law.proofs.Charged.{same_entry}
 use Rattle.pp_steps_law.specs.Steps.{ShowsSteps}
 use Rattle.pp_answers_law.specs.Owns.{IsAtHead, IsShown}

@@ -14,7 +14,7 @@ use Rattle.pp_valid.specs.EndToEnd.{end_to_end_values}
 use Rattle.pp_valid.specs.declared.content_range.ContentRange.{ContentRange}
 use Rattle.pp_valid.specs.declared.content_range.ContentRange.TheVariants.{Span, Unsatisfied}
 use Rattle.pp_law.specs.OwnHeads.{end_in as law_end, first_in as law_first, range_in}
-use Rattle.pp_steps.specs.OwnHeads.{end_in, first_in}
+use Rattle.pp_answers.specs.OwnHeads.{end_in, first_in}
 use Rattle.pp_answers_law.specs.Spans.{SpansAreTheLaws}
 
 -- its last byte has a number behind it that 64 bits hold

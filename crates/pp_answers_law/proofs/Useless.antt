@@ -20,10 +20,10 @@ use Rattle.pp_seats_law.proofs.Entries.{exchanges}
 use Rattle.pp_seats_law.proofs.Fates.{shared_rows_leave}
 use Rattle.pp_seats_law.specs.Exchanges.{ShowsExchange}
 use Rattle.pp_states_law.specs.Clients.{FollowsOn}
-use Rattle.pp_steps.specs.Answers.{not_shared, on_its}
-use Rattle.pp_steps.specs.Ends.{Parts, cleared_key, cleared_of, cleared_row, lost_attempt, on_seat_where, seat_for, unusable}
-use Rattle.pp_steps.specs.FinalHeads.{noted_body}
-use Rattle.pp_steps.specs.Heads.{key_of}
+use Rattle.pp_answers.specs.Answers.{not_shared, on_its}
+use Rattle.pp_state.specs.Ends.{Parts, cleared_key, cleared_of, cleared_row, lost_attempt, on_seat_where, seat_for, unusable}
+use Rattle.pp_answers.specs.FinalHeads.{noted_body}
+use Rattle.pp_state.specs.Keys.{key_of}
 use Rattle.pp_steps_law.proofs.Charged.{clears_row, losses, lost_given, number_is, same_entry}
 use Rattle.pp_steps_law.proofs.Paid.{Stays, charge_stays}
 use Rattle.pp_steps_law.specs.Charges.{GoesOn, IsFor}

@@ -10,9 +10,9 @@ use Rattle.pp_law.specs.Stages.{passed_of}
 use Rattle.pp_law.specs.State.{State, Brought, Client, Exchange, Joins, TooWide, Useless}
 use Rattle.pp_seats.specs.declared.seat.Brought.{Brought as SeatBrought}
 use Rattle.pp_seats.specs.declared.seat.Brought.TheVariants.{Useless as NoneOfUse, Joins as JoinsRow, TooWide as IsTooWide}
-use Rattle.pp_steps.specs.Answers.{not_shared}
-use Rattle.pp_steps.specs.Ends.{Parts, made_useless, told_to, unusable}
-use Rattle.pp_steps.specs.FinalHeads.{noted_body}
+use Rattle.pp_answers.specs.Answers.{not_shared}
+use Rattle.pp_state.specs.Ends.{Parts, made_useless, told_to, unusable}
+use Rattle.pp_answers.specs.FinalHeads.{noted_body}
 use Rattle.pp_steps_law.specs.Charges.{GoesOn, IsFor}
 use Rattle.pp_steps_law.specs.Steps.{OfSteps, ShowsSteps}
 

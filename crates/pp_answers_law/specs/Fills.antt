@@ -10,9 +10,9 @@ use Rattle.pp_law.specs.OwnHeads.{part_head}
 use Rattle.pp_law.specs.Responses.{by_aim}
 use Rattle.pp_law.specs.State.{State, Own, Exchange}
 use Rattle.pp_peers.specs.declared.peers.Peer.{Peer}
-use Rattle.pp_steps.specs.Ends.{Parts}
-use Rattle.pp_steps.specs.FinalHeads.{TakesHead, TakesPart, noted_body, version_in}
-use Rattle.pp_steps.specs.declared.state.State.{State as Turn}
+use Rattle.pp_state.specs.Ends.{Parts}
+use Rattle.pp_answers.specs.FinalHeads.{TakesHead, TakesPart, noted_body, version_in}
+use Rattle.pp_state.specs.declared.state.State.{State as Turn}
 use Rattle.pp_answers_law.specs.Owns.{IsAtHead, IsShown}
 
 -- of each head of a response to an exchange, and what it leaves

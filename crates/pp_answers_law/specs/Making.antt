@@ -16,10 +16,10 @@ use Rattle.pp_seats.specs.declared.seat.Brought.TheVariants.{Joins}
 use Rattle.pp_seats.specs.declared.seat.Seat.{Seat}
 use Rattle.pp_seats.specs.declared.seat.Stage.{Stage}
 use Rattle.pp_seats.specs.declared.seat.Stage.TheVariants.{Answering}
-use Rattle.pp_steps.specs.Ends.{Parts}
-use Rattle.pp_steps.specs.FinalHeads.{noted_body}
-use Rattle.pp_steps.specs.Pins.{busy_row, busy_rows, exchanges_of}
-use Rattle.pp_steps.specs.Rows.{in_memory, made_row}
+use Rattle.pp_state.specs.Ends.{Parts}
+use Rattle.pp_answers.specs.FinalHeads.{noted_body}
+use Rattle.pp_state.specs.Pins.{busy_row, busy_rows, exchanges_of}
+use Rattle.pp_answers.specs.Rows.{in_memory, made_row}
 use Rattle.pp_steps_law.specs.Charges.{IsFor}
 use Rattle.pp_steps_law.specs.Steps.{OfSteps, ShowsSteps}
 use Rattle.pp_valid.specs.declared.version.Version.{Version}

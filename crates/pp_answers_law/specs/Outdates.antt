@@ -7,11 +7,10 @@ use Rattle.pp_head.specs.Response.{Response}
 use Rattle.pp_law.specs.Lists.{Bytes}
 use Rattle.pp_law.specs.State.{State, Exchange}
 use Rattle.pp_law.specs.ThroughHeads.{places_named, through_head}
-use Rattle.pp_steps.specs.Ends.{Parts, cleared_key}
-use Rattle.pp_steps.specs.FinalHeads.{PassesHead, noted_body}
-use Rattle.pp_steps.specs.Heads.{key_of}
-use Rattle.pp_steps.specs.ThroughHeads.{ClearsEach, InvalidatesIf, InvalidatesRows, invalidates}
-use Rattle.pp_steps.specs.ThroughHeads.{places_named as places_in}
+use Rattle.pp_state.specs.Ends.{Parts, cleared_key}
+use Rattle.pp_answers.specs.FinalHeads.{PassesHead, noted_body}
+use Rattle.pp_state.specs.Keys.{key_of}
+use Rattle.pp_answers.specs.ThroughHeads.{ClearsEach, InvalidatesIf, InvalidatesRows, invalidates, places_named as places_in}
 use Rattle.pp_steps_law.specs.Steps.{OfSteps, ShowsSteps}
 use Rattle.pp_target.specs.Key.{key_at, place_of}
 use Rattle.pp_answers_law.specs.Throughs.{IsPassed}

@@ -8,9 +8,9 @@ use Rattle.pp_law.specs.Lists.{Bytes}
 use Rattle.pp_law.specs.OwnHeads.{key_of, own_head}
 use Rattle.pp_law.specs.State.{State, Exchange}
 use Rattle.pp_peers.specs.declared.peers.Peer.{Peer}
-use Rattle.pp_steps.specs.Ends.{Parts, parts}
-use Rattle.pp_steps.specs.FinalHeads.{TakesOwn, noted_body, version_in}
-use Rattle.pp_steps.specs.declared.state.State.{State as Turn}
+use Rattle.pp_state.specs.Ends.{Parts, parts}
+use Rattle.pp_answers.specs.FinalHeads.{TakesOwn, noted_body, version_in}
+use Rattle.pp_state.specs.declared.state.State.{State as Turn}
 use Rattle.pp_steps_law.specs.Charges.{IsFor}
 use Rattle.pp_steps_law.specs.Steps.{ShowsSteps}
 use Rattle.pp_answers_law.specs.Answers.{Asks, IsAnswered, Stands}

@@ -8,9 +8,9 @@ use Rattle.pp_law.specs.OwnHeads.{key_of, not_modified as law_not_modified, sett
 use Rattle.pp_law.specs.State.{State, Exchange, Instance as Known}
 use Rattle.pp_law.specs.Table.{row, row_on_disk}
 use Rattle.pp_objects.specs.Instances.{Instance, id_of, row_of}
-use Rattle.pp_steps.specs.Ends.{Parts}
-use Rattle.pp_steps.specs.FinalHeads.{noted_body}
-use Rattle.pp_steps.specs.Rows.{not_modified, renewed, settled_on}
+use Rattle.pp_state.specs.Ends.{Parts}
+use Rattle.pp_answers.specs.FinalHeads.{noted_body}
+use Rattle.pp_answers.specs.Rows.{not_modified, renewed, settled_on}
 use Rattle.pp_steps_law.specs.Charges.{IsFor}
 use Rattle.pp_steps_law.specs.Steps.{OfSteps, ShowsSteps}
 use Rattle.pp_valid.specs.declared.version.Version.{Version}

@@ -13,9 +13,9 @@ use Rattle.pp_law.specs.State.{State, Through, Own, Exchange}
 use Rattle.pp_law.specs.ThroughHeads.{places_named}
 use Rattle.pp_peers.specs.declared.peers.Peer.{Peer}
 use Rattle.pp_seats_law.specs.Exchanges.{ShowsExchange}
-use Rattle.pp_steps.specs.Ends.{Parts, parts}
-use Rattle.pp_steps.specs.FinalHeads.{AnswersAsk, answer_to, rule_for}
-use Rattle.pp_steps.specs.declared.state.State.{State as Turn}
+use Rattle.pp_state.specs.Ends.{Parts, parts}
+use Rattle.pp_answers.specs.FinalHeads.{AnswersAsk, answer_to, rule_for}
+use Rattle.pp_state.specs.declared.state.State.{State as Turn}
 use Rattle.pp_answers_law.specs.Disproving.{GoesWithClient}
 use Rattle.pp_answers_law.specs.Owns.{IsAtHead, IsShown}
 

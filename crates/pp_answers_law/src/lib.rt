@@ -1,7 +1,7 @@
 //! What the final head of a response makes of clients, exchanges and rows, in the program and in the law.
 //!
 //! Where the state of the program shows that of the law (`ShowsSteps` of `pp_steps_law`), and an exchange whose head comes shows one of the
-//! law's, the words of `pp_steps` leave a state that shows what the law makes: its request is told, what is of no use costs an attempt, what
+//! law's, the words of `pp_answers` leave a state that shows what the law makes: its request is told, what is of no use costs an attempt, what
 //! has a version joins the row of its key or makes another, a 304 renews that row, and what has none is passed or dropped. So the whole head of
 //! a response to a Fetch or Validate is taken as the law takes it, where memory is refused for no row; and that of one that is passed, with the
 //! rows that it outdates. Not said: what a head to the ask of a follower costs where it is no use for that follower.

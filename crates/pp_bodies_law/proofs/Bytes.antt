@@ -17,8 +17,8 @@ use Rattle.pp_seats.specs.Seats.{without_body}
 use Rattle.pp_seats_law.specs.Fates.{aim_of}
 use Rattle.pp_seats_law.specs.Seats.{ShowsSeat}
 use Rattle.pp_states_law.specs.Clients.{FollowsOn}
-use Rattle.pp_steps.specs.Bodies.{finished_for, on_asker as on_asker_in, on_passed as on_passed_seat, on_pipe, on_place, passed_whole, poured as poured_in, poured_into}
-use Rattle.pp_steps.specs.Ends.{Parts, numbers_of, seat_for}
+use Rattle.pp_state.specs.Bodies.{finished_for, on_asker as on_asker_in, on_passed as on_passed_seat, on_pipe, on_place, passed_whole, poured as poured_in, poured_into}
+use Rattle.pp_state.specs.Ends.{Parts, numbers_of, seat_for}
 use Rattle.pp_steps_law.proofs.Charged.{on_asker}
 use Rattle.pp_steps_law.proofs.Places.{HasNone, HasPlace, has_none, has_place}
 use Rattle.pp_steps_law.specs.Charges.{IsFor}

@@ -19,10 +19,10 @@ use Rattle.pp_law.specs.Stages.{bound_of}
 use Rattle.pp_law.specs.State.{State, Bound, Exchange}
 use Rattle.pp_seats.specs.declared.seat.Seat.{Seat}
 use Rattle.pp_seats_law.specs.Exchanges.{ShowsExchange}
-use Rattle.pp_steps.specs.Bodies.{IsButForCells, delivered_for, joined, poured_for, with_dropped_in}
-use Rattle.pp_steps.specs.Ends.{exchange_at, parts}
-use Rattle.pp_steps.specs.Unseen.{drops_in, dropped_more, with_dropped}
-use Rattle.pp_steps.specs.declared.state.State.{State as Core}
+use Rattle.pp_state.specs.Bodies.{IsButForCells, delivered_for, joined, poured_for, with_dropped_in}
+use Rattle.pp_state.specs.Ends.{exchange_at, parts}
+use Rattle.pp_state.specs.Unseen.{drops_in, dropped_more, with_dropped}
+use Rattle.pp_state.specs.declared.state.State.{State as Core}
 use Rattle.pp_steps_law.proofs.Told.{told_asked}
 use Rattle.pp_steps_law.specs.Steps.{ShowsSteps}
 use Rattle.pp_steps_law.specs.Told.{AreTold}

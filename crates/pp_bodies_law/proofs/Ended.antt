@@ -20,8 +20,8 @@ use Rattle.pp_states_law.proofs.Rested.{closes_behind, rests as connection_rests
 use Rattle.pp_states_law.specs.Asks.{IsAskedAs}
 use Rattle.pp_states_law.specs.Decisions.{AreApart}
 use Rattle.pp_states_law.specs.Endings.{IsFirst}
-use Rattle.pp_steps.specs.Bodies.{without_exchange}
-use Rattle.pp_steps.specs.Ends.{Parts}
+use Rattle.pp_state.specs.Bodies.{without_exchange}
+use Rattle.pp_state.specs.Ends.{Parts}
 use Rattle.pp_steps_law.proofs.Told.{conn_next, over_next, told_next, told_over}
 use Rattle.pp_steps_law.specs.Steps.{ShowsSteps, whole}
 use Rattle.pp_bodies_law.proofs.Bytes.{finishes}

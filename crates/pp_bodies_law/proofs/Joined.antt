@@ -38,9 +38,9 @@ use Rattle.pp_seats_law.specs.Exchanges.{Binding, ShowsBound, ShowsExchange}
 use Rattle.pp_seats_law.specs.Clients.{AreShown}
 use Rattle.pp_states_law.proofs.Asked.{all_as, frames as conn_frames, itself, one_as}
 use Rattle.pp_states_law.specs.Asks.{IsAskedAs}
-use Rattle.pp_steps.specs.Bodies.{HasJoined, IsButForCells, joined, joined_by, joined_to, joined_within, left_for, with_came, with_run}
-use Rattle.pp_steps.specs.declared.state.State.{State as Core}
-use Rattle.pp_steps.specs.Ends.{Parts, parts}
+use Rattle.pp_state.specs.Bodies.{HasJoined, IsButForCells, joined, joined_by, joined_to, joined_within, left_for, with_came, with_run}
+use Rattle.pp_state.specs.declared.state.State.{State as Core}
+use Rattle.pp_state.specs.Ends.{Parts, parts}
 use Rattle.pp_steps_law.proofs.Made.{gone_too}
 use Rattle.pp_steps_law.proofs.Told.{Stands, are_told_on, exchange_next, told_moved, told_next, told_of}
 use Rattle.pp_steps_law.specs.Steps.{ShowsSteps}

@@ -31,7 +31,7 @@ use Rattle.pp_seats.specs.declared.seat.Stage.{Stage as SeatStage}
 use Rattle.pp_seats.specs.declared.seat.Stage.TheVariants.{Undecided as IsUndecided, Waiting as IsWaiting, Passing as IsPassing, Answering as IsAnswering}
 use Rattle.pp_seats_law.specs.Replies.{IsBroughtFor, IsHeadKept, IsPipedFor, ShowsBrought, ShowsFate, ShowsPassed, ShowsStage, end_of, passed_text}
 use Rattle.pp_seats_law.specs.Seats.{ShowsOpen, ShowsSeat}
-use Rattle.pp_steps.specs.Bodies.{ended, on_passed as on_passed_seat, on_pipe, passed_whole, poured as poured_in, poured_into}
+use Rattle.pp_state.specs.Bodies.{ended, on_passed as on_passed_seat, on_pipe, passed_whole, poured as poured_in, poured_into}
 
 -- ---- a response that is passed, with another pipe, and another end
 

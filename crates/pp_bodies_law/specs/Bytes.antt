@@ -17,9 +17,9 @@ use Rattle.pp_law.specs.Table.{extent_of, instance}
 use Rattle.pp_objects.specs.declared.id.ObjectId.{ObjectId}
 use Rattle.pp_pass.specs.Pipe.{room_of}
 use Rattle.pp_seats_law.specs.Exchanges.{Binding}
-use Rattle.pp_steps.specs.Bodies.{IsButForCells, delivered, joined, on_asker, poured_for, poured_into}
-use Rattle.pp_steps.specs.Ends.{exchange_at, parts}
-use Rattle.pp_steps.specs.declared.state.State.{State as Core}
+use Rattle.pp_state.specs.Bodies.{IsButForCells, delivered, joined, on_asker, poured_for, poured_into}
+use Rattle.pp_state.specs.Ends.{exchange_at, parts}
+use Rattle.pp_state.specs.declared.state.State.{State as Core}
 use Rattle.pp_steps_law.specs.Charges.{IsFor}
 use Rattle.pp_steps_law.specs.Steps.{OfSteps, ShowsSteps}
 use Rattle.pp_flow_law.specs.Tables.{Leaving}

@@ -17,8 +17,8 @@ use Rattle.pp_pipe.specs.Reading.{behind_it}
 use Rattle.pp_seats_law.specs.Fates.{aim_of}
 use Rattle.pp_states_law.specs.Decisions.{AreApart}
 use Rattle.pp_states_law.specs.Endings.{IsFirst}
-use Rattle.pp_steps.specs.Bodies.{finished_for, on_asker, without_exchange}
-use Rattle.pp_steps.specs.Ends.{Parts}
+use Rattle.pp_state.specs.Bodies.{finished_for, on_asker, without_exchange}
+use Rattle.pp_state.specs.Ends.{Parts}
 use Rattle.pp_steps_law.specs.Charges.{IsFor}
 use Rattle.pp_steps_law.specs.Losses.{IsComing}
 use Rattle.pp_steps_law.specs.Steps.{OfSteps, ShowsSteps, whole}

@@ -17,13 +17,13 @@ use Rattle.pp_law.specs.Unseen.{came_of, drop_on, drop_unseen, is_unseen}
 use Rattle.pp_peers.specs.Peers.{is_number}
 use Rattle.pp_peers.specs.declared.peers.Peer.{Peer}
 use Rattle.pp_peers_law.specs.Peers.{ShowConns}
-use Rattle.pp_proxy.specs.Closings.{Sides, closed_line, dropped_with, peer_numbers}
-use Rattle.pp_proxy.specs.Origins.{unseen_dropped, without_unseen_on}
+use Rattle.pp_desk.specs.Closings.{Sides, closed_line, dropped_with, peer_numbers}
+use Rattle.pp_desk.specs.Origins.{unseen_dropped, without_unseen_on}
 use Rattle.pp_seats_law.specs.Exchanges.{ShowsExchange}
 use Rattle.pp_states_law.proofs.Lines.{same_itself}
-use Rattle.pp_steps.specs.Ends.{ended}
+use Rattle.pp_state.specs.Ends.{ended}
 use Rattle.pp_steps.specs.Lines.{lost_line}
-use Rattle.pp_steps.specs.Unseen.{is_nobodys, unseen_in}
+use Rattle.pp_state.specs.Unseen.{is_nobodys, unseen_in}
 use Rattle.pp_steps_law.proofs.Charged.{number_is}
 use Rattle.pp_closings_law.proofs.Following.{follow_on}
 use Rattle.pp_closings_law.proofs.Seen.{drops_on, dropped_if, dropped_first, dropped_line, line_is, unseen_line}

@@ -13,14 +13,14 @@ use Rattle.pp_law.specs.State.{State, Conn, Exchange}
 use Rattle.pp_peers.specs.Peers.{is_number, with_peer}
 use Rattle.pp_peers.specs.declared.peers.Peer.{Peer}
 use Rattle.pp_peers_law.specs.Peers.{ShowsConn}
-use Rattle.pp_proxy.specs.Closings.{Sides, closed_line, closing, dropped_with}
+use Rattle.pp_desk.specs.Closings.{Sides, closed_line, closing, dropped_with}
 use Rattle.pp_states_law.proofs.Alone.{same_some}
 use Rattle.pp_states_law.proofs.Connected.{kept_line}
 use Rattle.pp_states_law.proofs.Ended.{ends}
 use Rattle.pp_states_law.proofs.Lines.{IsPlaced, all_found, in_line}
 use Rattle.pp_states_law.specs.Decisions.{AreApart}
 use Rattle.pp_states_law.specs.Exchanges.{StandsNowhere}
-use Rattle.pp_steps.specs.Ends.{ended}
+use Rattle.pp_state.specs.Ends.{ended}
 use Rattle.pp_steps.specs.Lines.{lost_line}
 use Rattle.pp_steps_law.proofs.Closed.{closes}
 use Rattle.pp_steps_law.proofs.Kept.{lost_kept}

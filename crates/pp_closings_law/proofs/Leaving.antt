@@ -10,11 +10,11 @@ use Rattle.pp_law.specs.Connections.{close_conn, conn, end_exchange, exchange, f
 use Rattle.pp_law.specs.Lists.{Bytes, has_number}
 use Rattle.pp_law.specs.State.{State, Client, Conn, Exchange}
 use Rattle.pp_law.specs.Unseen.{drop_on, is_unseen}
-use Rattle.pp_proxy.specs.Closings.{Sides, closed_client, closing_at, dropped_with, left_at, with_parts, withdrawn}
+use Rattle.pp_desk.specs.Closings.{Sides, closed_client, closing_at, dropped_with, left_at, with_parts, withdrawn}
 use Rattle.pp_seats.specs.declared.seat.Seat.{Seat}
 use Rattle.pp_states_law.proofs.Lines.{IsPlaced, all_found, in_line, same_itself}
 use Rattle.pp_states_law.specs.Decisions.{AreApart}
-use Rattle.pp_steps.specs.Ends.{Parts, ended, forsaken, left}
+use Rattle.pp_state.specs.Ends.{Parts, ended, forsaken, left}
 use Rattle.pp_steps_law.specs.Lines.{AllGo}
 use Rattle.pp_closings_law.proofs.Dropped.{drops_by}
 use Rattle.pp_closings_law.proofs.Gone.{alone_left, go_on, none_left, over_left, quit_clients, quit_conns, quit_exchanges, quitting}

@@ -20,8 +20,8 @@ use Rattle.pp_peers.specs.declared.peers.Peer.{Peer}
 use Rattle.pp_peers_law.proofs.Finds.{no_or, other_way}
 use Rattle.pp_peers_law.specs.Asked.{AreDistinct}
 use Rattle.pp_peers_law.specs.Peers.{ShowConns}
-use Rattle.pp_proxy.specs.Closings.{Sides}
-use Rattle.pp_proxy.specs.Shutting.{closed_as, closings, over_peers}
+use Rattle.pp_desk.specs.Closings.{Sides}
+use Rattle.pp_desk.specs.Shutting.{closed_as, closings, over_peers}
 use Rattle.pp_states_law.proofs.Alone.{none_counted}
 use Rattle.pp_states_law.proofs.Dialled.{empty_drops}
 use Rattle.pp_states_law.proofs.Lines.{AllFound, all_found, same_itself}

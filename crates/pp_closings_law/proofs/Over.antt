@@ -18,13 +18,13 @@ use Rattle.pp_law.specs.Unseen.{drop_on, is_unseen}
 use Rattle.pp_peers.specs.Peers.{is_number, with_pipe}
 use Rattle.pp_peers.specs.declared.peers.Peer.{Peer}
 use Rattle.pp_peers_law.specs.Peers.{ShowConns}
-use Rattle.pp_proxy.specs.Closings.{Sides, place_on, unasked, unasked_at, unasked_of, with_parts, withdrawn}
+use Rattle.pp_desk.specs.Closings.{Sides, place_on, unasked, unasked_at, unasked_of, with_parts, withdrawn}
 use Rattle.pp_states_law.proofs.Alone.{AsksOn, line_distinct, on_pipe, two_numbers}
 use Rattle.pp_states_law.proofs.Ended.{as_before, ends, gone, leaves, none_out, the_table}
 use Rattle.pp_states_law.proofs.Lines.{IsPlaced, all_found, same_itself}
 use Rattle.pp_states_law.specs.Decisions.{AreApart}
 use Rattle.pp_states_law.specs.Exchanges.{StandsNowhere}
-use Rattle.pp_steps.specs.Ends.{ended, left, place_of}
+use Rattle.pp_state.specs.Ends.{ended, left, place_of}
 use Rattle.pp_steps_law.proofs.Told.{exchange_next, over_next, told_left, told_next, told_over}
 use Rattle.pp_steps_law.specs.Steps.{ShowsSteps, whole}
 use Rattle.pp_closings_law.proofs.Peers.{HasPeer, linked}

@@ -17,11 +17,11 @@ use Rattle.pp_law.specs.Connections.{each_exchange, end_exchange, exchange, is_e
 use Rattle.pp_law.specs.State.{State, Exchange}
 use Rattle.pp_law.specs.Table.{swept}
 use Rattle.pp_objects.specs.declared.id.ObjectId.{ObjectId}
-use Rattle.pp_proxy.specs.Closings.{Sides, closed_client, closing_at, left_at, left_by_errand, left_own, with_parts}
+use Rattle.pp_desk.specs.Closings.{Sides, closed_client, closing_at, left_at, left_by_errand, left_own, with_parts}
 use Rattle.pp_seats.specs.declared.seat.Seat.{Seat}
 use Rattle.pp_seats_law.specs.Exchanges.{ShowsExchange}
 use Rattle.pp_states_law.proofs.Lines.{same_itself}
-use Rattle.pp_steps.specs.Ends.{Parts, exchange_at, exchange_of, source_of}
+use Rattle.pp_state.specs.Ends.{Parts, exchange_at, exchange_of, source_of}
 use Rattle.pp_closings_law.proofs.Gone.{quitting}
 use Rattle.pp_closings_law.proofs.Quit.{closing_client, closing_is, quit, quit_number}
 

@@ -12,11 +12,11 @@ use Rattle.pp_law.specs.Lists.{Bytes}
 use Rattle.pp_law.specs.State.{State, Client}
 use Rattle.pp_law.specs.Table.{swept}
 use Rattle.pp_objects.specs.declared.id.ObjectId.{ObjectId}
-use Rattle.pp_proxy.specs.Closings.{Sides, closing_at}
+use Rattle.pp_desk.specs.Closings.{Sides, closing_at}
 use Rattle.pp_seats.specs.declared.seat.Seat.{Seat}
 use Rattle.pp_seats_law.specs.Clients.{IsAt}
 use Rattle.pp_seats_law.specs.Seats.{ShowsOpen, ShowsSeat}
-use Rattle.pp_steps.specs.Ends.{AreInOrder, Parts, changed_at, left_source, on_seat, source_at, source_of, unfollowed, without_source}
+use Rattle.pp_state.specs.Ends.{AreInOrder, Parts, changed_at, left_source, on_seat, source_at, source_of, unfollowed, without_source}
 use Rattle.pp_steps_law.proofs.Places.{numbers_set}
 use Rattle.pp_steps_law.proofs.Told.{are_told_on}
 use Rattle.pp_steps_law.specs.Steps.{ShowsSteps, whole}

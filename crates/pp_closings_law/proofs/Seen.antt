@@ -10,11 +10,11 @@ use Rattle.pp_law.specs.Connections.{close_conn, conn, end_exchange, exchange}
 use Rattle.pp_law.specs.Lists.{Bytes, has_number}
 use Rattle.pp_law.specs.State.{State, Conn, Exchange}
 use Rattle.pp_law.specs.Unseen.{drop_on, is_unseen}
-use Rattle.pp_proxy.specs.Closings.{Sides, dropped_with}
-use Rattle.pp_proxy.specs.Origins.{unseen_dropped}
+use Rattle.pp_desk.specs.Closings.{Sides, dropped_with}
+use Rattle.pp_desk.specs.Origins.{unseen_dropped}
 use Rattle.pp_seats_law.specs.Exchanges.{ShowsExchange}
 use Rattle.pp_states_law.proofs.Lines.{same_itself}
-use Rattle.pp_steps.specs.Unseen.{is_nobodys, unseen_in, unseen_of}
+use Rattle.pp_state.specs.Unseen.{is_nobodys, unseen_in, unseen_of}
 use Rattle.pp_steps_law.proofs.Charged.{number_is}
 use Rattle.pp_closings_law.proofs.Dropped.{drops}
 use Rattle.pp_closings_law.specs.Sides.{ShowsSides}

@@ -6,7 +6,7 @@ use Rattle.pp_law.specs.Lists.{Bytes}
 use Rattle.pp_law.specs.State.{State, Conn}
 use Rattle.pp_peers.specs.Peers.{with_peer}
 use Rattle.pp_peers.specs.declared.peers.Peer.{Peer}
-use Rattle.pp_proxy.specs.Closings.{Sides, closed_line, closing}
+use Rattle.pp_desk.specs.Closings.{Sides, closed_line, closing}
 use Rattle.pp_steps.specs.Lines.{lost_line}
 use Rattle.pp_steps_law.proofs.Closed.{closes}
 use Rattle.pp_steps_law.specs.Steps.{ShowsSteps}

@@ -22,13 +22,13 @@ use Rattle.pp_law.specs.Phases.{may_in}
 use Rattle.pp_law.specs.Stages.{reply_of}
 use Rattle.pp_law.specs.State.{State, Client, Conn, Connecting}
 use Rattle.pp_law.specs.Table.{follows}
-use Rattle.pp_proxy.specs.Closings.{with_parts}
+use Rattle.pp_desk.specs.Closings.{with_parts}
 use Rattle.pp_seats.specs.declared.seat.Seat.{Seat}
 use Rattle.pp_seats_law.proofs.AllSeats.{places}
 use Rattle.pp_seats_law.specs.Clients.{AreShown, IsAt, IsFound}
 use Rattle.pp_states_law.proofs.Asked.{all_as, frames, itself}
 use Rattle.pp_states_law.specs.States.{ShowsState}
-use Rattle.pp_steps.specs.Ends.{AreInOrder, numbers_of}
+use Rattle.pp_state.specs.Ends.{AreInOrder, numbers_of}
 use Rattle.pp_steps_law.proofs.Told.{told_next}
 use Rattle.pp_steps_law.specs.Lines.{AllGo}
 use Rattle.pp_steps_law.specs.Steps.{whole}

@@ -17,7 +17,7 @@ use Rattle.pp_seats.specs.Seats.{brought_to}
 use Rattle.pp_seats.specs.declared.seat.Next.{Next}
 use Rattle.pp_seats.specs.declared.seat.PassedEnd.TheVariants.{Short}
 use Rattle.pp_seats.specs.declared.seat.Seat.{Seat}
-use Rattle.pp_steps.specs.Ends.{Parts, asked_elsewhere, cut_short, ended, exchange_at, left_place, left_place_at, lost_place, may_go_elsewhere, on_seat_where, seat_for}
+use Rattle.pp_state.specs.Ends.{Parts, asked_elsewhere, cut_short, ended, exchange_at, left_place, left_place_at, lost_place, may_go_elsewhere, on_seat_where, seat_for}
 use Rattle.pp_steps.specs.Lines.{first_on, lost_line}
 
 -- ---- no two have one number, and each is one that was there

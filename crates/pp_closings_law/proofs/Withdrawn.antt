@@ -17,10 +17,10 @@ use Rattle.pp_peers_law.specs.Peers.{has_alone, rest_of, rests_of, ShowsAsk, Sho
 use Rattle.pp_pipe.specs.Asks.{size_of, total}
 use Rattle.pp_pipe.specs.Line.{Line, is_begun_at, withdrawn_where, without_span}
 use Rattle.pp_pipe.specs.declared.asks.Ask.{Ask}
-use Rattle.pp_proxy.specs.Closings.{unasked, unasked_in}
+use Rattle.pp_desk.specs.Closings.{unasked, unasked_in}
 use Rattle.pp_states_law.proofs.Asked.{line_again}
 use Rattle.pp_states_law.proofs.Ended.{asked_on, gone, none_out}
-use Rattle.pp_steps.specs.Ends.{place_of}
+use Rattle.pp_state.specs.Ends.{place_of}
 
 -- ---- the text that is left of each ask
 

@@ -5,7 +5,7 @@ use Rattle.pp_law.specs.Closing.{close_client, is_of, left_alone}
 use Rattle.pp_law.specs.Connections.{conn}
 use Rattle.pp_law.specs.State.{State, Client, Conn, Exchange}
 use Rattle.pp_law.specs.Unseen.{drop_on, is_unseen}
-use Rattle.pp_proxy.specs.Closings.{Sides, closed_client}
+use Rattle.pp_desk.specs.Closings.{Sides, closed_client}
 use Rattle.pp_seats.specs.declared.seat.Seat.{Seat}
 use Rattle.pp_closings_law.specs.Sides.{OfSides, ShowsSides}
 

@@ -3,7 +3,7 @@ use Rattle.std.specs.Prelude.{◌≡◌, ℕ, Bool, true, false, Some}
 use Rattle.pp_law.specs.Connections.{close_conn, conn, end_exchange}
 use Rattle.pp_law.specs.Lists.{has_number}
 use Rattle.pp_law.specs.State.{Conn}
-use Rattle.pp_proxy.specs.Closings.{closed_conn, dropped_with}
+use Rattle.pp_desk.specs.Closings.{closed_conn, dropped_with}
 use Rattle.pp_closings_law.specs.Sides.{OfSides, ShowsSides}
 
 -- its cause to be closed has come, also where it had come before

@@ -8,8 +8,8 @@ use Rattle.pp_law.specs.Permits.{IsPermitted}
 use Rattle.pp_law.specs.State.{State, Connecting}
 use Rattle.pp_links.specs.Links.{Link, is_link}
 use Rattle.pp_peers.specs.Peers.{goes_on}
-use Rattle.pp_proxy.specs.Closings.{Sides}
-use Rattle.pp_proxy.specs.Shutting.{closings, over_peers}
+use Rattle.pp_desk.specs.Closings.{Sides}
+use Rattle.pp_desk.specs.Shutting.{closings, over_peers}
 use Rattle.pp_world.specs.Log.{Log}
 use Rattle.pp_world.specs.declared.event.Side.TheVariants.{Origin}
 use Rattle.pp_closings_law.specs.Sides.{OfSides, ShowsSides}

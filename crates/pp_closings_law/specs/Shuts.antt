@@ -4,9 +4,9 @@ use Rattle.pp_law.specs.After.{after}
 use Rattle.pp_law.specs.Closing.{is_of}
 use Rattle.pp_law.specs.Permits.{IsPermitted}
 use Rattle.pp_law.specs.State.{State}
-use Rattle.pp_proxy.specs.Closings.{Sides, with_parts}
+use Rattle.pp_desk.specs.Closings.{Sides, with_parts}
 use Rattle.pp_seats.specs.declared.seat.Seat.{Seat}
-use Rattle.pp_steps.specs.Ends.{Parts}
+use Rattle.pp_state.specs.Ends.{Parts}
 use Rattle.pp_world.specs.declared.happening.Happening.TheVariants.{Shut}
 use Rattle.pp_closings_law.specs.Log.{IsConnecting}
 use Rattle.pp_closings_law.specs.Sides.{OfSides, ShowsSides}

@@ -3,7 +3,7 @@ use Rattle.std.specs.Prelude.{◌≡◌, ◌≤◌, ℕ, true, List, [], ◌∷�
 use Rattle.pp_flow_law.specs.Tables.{none_leaves}
 use Rattle.pp_law.specs.Lists.{Bytes}
 use Rattle.pp_law.specs.State.{State, Conn}
-use Rattle.pp_proxy.specs.Closings.{Sides}
+use Rattle.pp_desk.specs.Closings.{Sides}
 use Rattle.pp_states_law.specs.Decisions.{AreApart}
 use Rattle.pp_steps_law.specs.Lines.{AllGo}
 use Rattle.pp_steps_law.specs.Steps.{ShowsSteps}

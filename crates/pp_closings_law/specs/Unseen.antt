@@ -7,8 +7,8 @@ use Rattle.pp_law.specs.Connections.{conn}
 use Rattle.pp_law.specs.Lists.{has_number}
 use Rattle.pp_law.specs.State.{State, Conn}
 use Rattle.pp_law.specs.Unseen.{drop_on, drop_unseen}
-use Rattle.pp_proxy.specs.Closings.{Sides}
-use Rattle.pp_proxy.specs.Origins.{without_unseen, without_unseen_on}
+use Rattle.pp_desk.specs.Closings.{Sides}
+use Rattle.pp_desk.specs.Origins.{without_unseen, without_unseen_on}
 use Rattle.pp_closings_law.specs.Sides.{OfSides, ShowsSides}
 
 -- of each exchange of a line as much is counted of what is dropped as came: of those behind the first nothing came

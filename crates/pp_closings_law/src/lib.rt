@@ -7,7 +7,7 @@
 //! law with all that nobody will see. Connections to origins that are closing may be dropped one behind the other, as the log gets it.
 //!
 //! To the layer above: each equation is the clause of a function that does nothing. It is one part of the proof that the program
-//! obeys the law: nothing is said here of a turn in which memory was refused for a row. The words of the program stand in `pp_proxy`,
+//! obeys the law: nothing is said here of a turn in which memory was refused for a row. The words of the program stand in `pp_desk`,
 //! which says of each function which it computes.
 //!
 //! Takes no memory, and does nothing when the program runs.

@@ -11,8 +11,8 @@ use Rattle.pp_seats.specs.declared.account.Account.{Account}
 use Rattle.pp_seats.specs.declared.seat.Seat.{Seat}
 use Rattle.pp_seats_law.specs.Clients.{AreShown}
 use Rattle.pp_seats_law.specs.Seats.{ShowsOpen, ShowsSeat}
-use Rattle.pp_steps.specs.Accounts.{accounts_at}
-use Rattle.pp_steps.specs.Ends.{AreInOrder, Parts}
+use Rattle.pp_state.specs.Accounts.{accounts_at}
+use Rattle.pp_state.specs.Ends.{AreInOrder, Parts}
 use Rattle.pp_steps_law.proofs.Places.{numbers_set}
 use Rattle.pp_steps_law.specs.Steps.{ShowsSteps}
 

@@ -10,9 +10,9 @@ use Rattle.pp_law.specs.State.{State, Client}
 use Rattle.pp_peers.specs.declared.peers.Peer.{Peer}
 use Rattle.pp_seats.specs.declared.seat.Seat.{Seat}
 use Rattle.pp_seats_law.specs.Clients.{AreShown}
-use Rattle.pp_steps.specs.Ends.{Parts, numbers_of, parts}
-use Rattle.pp_steps.specs.Filling.{all_filled, filled}
-use Rattle.pp_steps.specs.declared.state.State.{State as Turn}
+use Rattle.pp_state.specs.Ends.{Parts, numbers_of, parts}
+use Rattle.pp_take.specs.Filling.{all_filled, filled}
+use Rattle.pp_state.specs.declared.state.State.{State as Turn}
 use Rattle.pp_steps_law.specs.Steps.{ShowsSteps}
 use Rattle.pp_turns_law.specs.Firsts.{AreAwake}
 use Rattle.pp_decides_law.proofs.Walked.{IsWalked, walk}

@@ -18,8 +18,8 @@ use Rattle.pp_seats.specs.Decided.{asking, with_interim}
 use Rattle.pp_seats.specs.Heads.{asked_in, owned_in}
 use Rattle.pp_seats.specs.declared.key.Key.{Key}
 use Rattle.pp_seats.specs.declared.seat.Seat.{Seat}
-use Rattle.pp_steps.specs.Deciding.{Ask, aim_for, asked_with, begun_at, begun_for, begun_of, exchange_begun, is_pass, may_ask}
-use Rattle.pp_steps.specs.Ends.{Parts, left_at_decision, left_source, on_seat, source_of}
+use Rattle.pp_take.specs.Deciding.{Ask, aim_for, asked_with, begun_at, begun_for, begun_of, exchange_begun, is_pass, may_ask}
+use Rattle.pp_state.specs.Ends.{Parts, left_at_decision, left_source, on_seat, source_of}
 use Rattle.pp_flow_law.specs.Tables.{Leaving, ShowsFlow}
 use Rattle.pp_decides_law.proofs.Changed.{get_set}
 use Rattle.pp_decides_law.proofs.Left.{left_is}

@@ -58,9 +58,9 @@ use Rattle.pp_target.specs.Key.{Key, key_in, text_of}
 use Rattle.pp_target.specs.declared.target.TargetFault.{TargetFault}
 use Rattle.pp_valid.specs.declared.version.Version.{Version}
 use Rattle.pp_world.specs.declared.note.Decision.{Decision}
-use Rattle.pp_steps.specs.Decide.{kind_of, text_by}
-use Rattle.pp_steps.specs.Deciding.{Ask, aim_for, ask_at, ask_for, asked_by, by_seat, asked_with, errand_by, exchange_begun, is_moved_in, is_pass, of_request, origin_asked}
-use Rattle.pp_steps.specs.Ends.{AreInOrder, Parts, left_source, on_seat, source_of}
+use Rattle.pp_decide.specs.Decide.{kind_of, text_by}
+use Rattle.pp_take.specs.Deciding.{Ask, aim_for, ask_at, ask_for, asked_by, by_seat, asked_with, errand_by, exchange_begun, is_moved_in, is_pass, of_request, origin_asked}
+use Rattle.pp_state.specs.Ends.{AreInOrder, Parts, left_source, on_seat, source_of}
 use Rattle.pp_steps_law.proofs.Places.{numbers_set}
 use Rattle.pp_steps_law.proofs.Told.{are_told_on}
 use Rattle.pp_steps_law.specs.Steps.{ShowsSteps, whole}

@@ -32,8 +32,8 @@ use Rattle.pp_seats_law.specs.Seats.{ShowsSeat}
 use Rattle.pp_states_law.proofs.Changed.{changes}
 use Rattle.pp_states_law.proofs.Decided.{asks as states_ask}
 use Rattle.pp_states_law.specs.Decisions.{AsksOnce}
-use Rattle.pp_steps.specs.Deciding.{begun_at, begun_for, begun_of, exchange_begun, may_ask}
-use Rattle.pp_steps.specs.Ends.{AreInOrder, Parts, numbers_of, on_seat}
+use Rattle.pp_take.specs.Deciding.{begun_at, begun_for, begun_of, exchange_begun, may_ask}
+use Rattle.pp_state.specs.Ends.{AreInOrder, Parts, numbers_of, on_seat}
 use Rattle.pp_steps_law.proofs.Places.{numbers_set}
 use Rattle.pp_steps_law.proofs.Told.{told_next}
 use Rattle.pp_steps_law.specs.Steps.{whole}

@@ -35,10 +35,10 @@ use Rattle.pp_seats_law.specs.Replies.{course_of}
 use Rattle.pp_seats_law.specs.Seats.{ShowsOpen, ShowsSeat}
 use Rattle.pp_seats_law.specs.Words.{ShowsNext}
 use Rattle.pp_states_law.specs.Decisions.{AsksOnce}
-use Rattle.pp_steps.specs.Deciding.{Ask, ask_by, errand_by, may_ask}
-use Rattle.pp_steps.specs.Decide.{text_by}
-use Rattle.pp_steps.specs.Ends.{Parts, on_seat}
-use Rattle.pp_steps.specs.Filling.{asked_of_row, filled_for, hole_ask_at, hole_asked, need_asked, next_asked, seat_asked, span_asked}
+use Rattle.pp_take.specs.Deciding.{Ask, ask_by, errand_by, may_ask}
+use Rattle.pp_decide.specs.Decide.{text_by}
+use Rattle.pp_state.specs.Ends.{Parts, on_seat}
+use Rattle.pp_take.specs.Filling.{asked_of_row, filled_for, hole_ask_at, hole_asked, need_asked, next_asked, seat_asked, span_asked}
 use Rattle.pp_steps_law.proofs.Charged.{course_shown}
 use Rattle.pp_valid.specs.declared.version.Version.{Version}
 use Rattle.pp_decides_law.proofs.BegunAsks.{IsDone, asks_nothing, begun_done, begun_is, long_done, none_done}

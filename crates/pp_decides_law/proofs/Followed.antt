@@ -42,9 +42,9 @@ use Rattle.pp_states_law.specs.Decisions.{AsksOnce}
 use Rattle.pp_states_law.specs.States.{ShowsState}
 use Rattle.pp_target.specs.Key.{Key, text_of}
 use Rattle.pp_world.specs.declared.note.Decision.{Decision}
-use Rattle.pp_steps.specs.Deciding.{answered_at, followed_at, followed_by, followed_more, following, left_useless, may_follow, row_at, row_by, row_followed, serves_at, serves_next}
-use Rattle.pp_steps.specs.Ends.{AreInOrder, Parts, on_seat, source_of}
-use Rattle.pp_steps.specs.Readers.{next_at}
+use Rattle.pp_take.specs.Deciding.{answered_at, followed_at, followed_by, followed_more, following, left_useless, may_follow, row_at, row_by, row_followed, serves_at, serves_next}
+use Rattle.pp_state.specs.Ends.{AreInOrder, Parts, on_seat, source_of}
+use Rattle.pp_state.specs.Readers.{next_at}
 use Rattle.pp_steps_law.proofs.Made.{gone_too, told_there}
 use Rattle.pp_steps_law.proofs.Places.{numbers_set}
 use Rattle.pp_steps_law.proofs.Told.{are_told_on}

@@ -30,8 +30,8 @@ use Rattle.pp_seats_law.specs.Fronts.{IsHeadTaken, ShowsAsked, ShowsFront, Shows
 use Rattle.pp_valid.specs.declared.version.Version.{Version}
 use Rattle.pp_world.specs.declared.note.Decision.{Decision}
 use Rattle.pp_world.specs.declared.note.Decision.TheVariants.{Refuse, Hit, Part, Head, NotModified, Unsatisfiable, Relay, Validate, Fetch, Pass}
-use Rattle.pp_steps.specs.Decide.{fits, kind_of, text_by}
-use Rattle.pp_steps.specs.Deciding.{Ask, ask_by, ask_for, ask_for_kind, by_asked, by_front, by_key, errand_by, is_pass as passes, of_request}
+use Rattle.pp_decide.specs.Decide.{fits, kind_of, text_by}
+use Rattle.pp_take.specs.Deciding.{Ask, ask_by, ask_for, ask_for_kind, by_asked, by_front, by_key, errand_by, is_pass as passes, of_request}
 
 -- ---- what is asked, by the request
 

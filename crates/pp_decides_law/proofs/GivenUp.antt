@@ -27,8 +27,8 @@ use Rattle.pp_states_law.proofs.Lines.{AllFound, IsPlaced, all_found, in_line}
 use Rattle.pp_states_law.specs.Decisions.{AreApart}
 use Rattle.pp_states_law.specs.Exchanges.{StandsNowhere}
 use Rattle.pp_states_law.specs.States.{ShowsState}
-use Rattle.pp_steps.specs.Asking.{is_useless}
-use Rattle.pp_steps.specs.Ends.{Parts, ended}
+use Rattle.pp_state.specs.Asking.{is_useless}
+use Rattle.pp_state.specs.Ends.{Parts, ended}
 use Rattle.pp_steps_law.proofs.Told.{told_over}
 use Rattle.pp_steps_law.specs.Steps.{ShowsSteps, whole}
 use Rattle.pp_turns_law.proofs.First.{above}

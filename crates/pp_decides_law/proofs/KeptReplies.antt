@@ -42,9 +42,9 @@ use Rattle.pp_seats_law.specs.Fronts.{ShowsAsked, ShowsFront, StandsStill}
 use Rattle.pp_seats_law.specs.Replies.{IsPipedFor, ShowsAnswer, ShowsSaid, source_number}
 use Rattle.pp_seats_law.specs.Seats.{ShowsOpen, ShowsSeat}
 use Rattle.pp_steps.specs.Begins.{BeginsAt, BeginsFrom, BeginsKept, BeginsRow, HasBegun, HasBegunShown, IsKeptBegun, Kept, after_shown, allowed, begin_of, can_show, has_plain_age, is_part, keeps_lines, kept_begun, kept_in, kept_of, may_be_shown, may_begin, shown_of, shown_to, shows_of, source_left, text_of, with_left, with_source_left, without_outrun}
-use Rattle.pp_steps.specs.Bringing.{is_held}
-use Rattle.pp_steps.specs.Places.{IsChangedIn}
-use Rattle.pp_steps.specs.declared.state.State.{State as Turn}
+use Rattle.pp_state.specs.Bringing.{is_held}
+use Rattle.pp_state.specs.Places.{IsChangedIn}
+use Rattle.pp_state.specs.declared.state.State.{State as Turn}
 use Rattle.pp_world.specs.declared.note.Decision.{Decision}
 use Rattle.pp_decides_law.proofs.BegunReplies.{begun_shows, begun_with}
 use Rattle.pp_decides_law.proofs.Heads.{head_same, part_same, plain_is}

@@ -25,10 +25,10 @@ use Rattle.pp_seats.specs.declared.seat.Seat.{Seat}
 use Rattle.pp_seats_law.specs.Exchanges.{ShowsExchange}
 use Rattle.pp_seats_law.specs.Fronts.{IsHeadTaken, ShowsAsked, ShowsHeard, ShowsKey}
 use Rattle.pp_seats_law.specs.Seats.{ShowsOpen}
-use Rattle.pp_steps.specs.Decide.{text_by}
-use Rattle.pp_steps.specs.Deciding.{ask_by, by_asked, by_front, by_key, by_seat, errand_by}
-use Rattle.pp_steps.specs.Ends.{Parts}
-use Rattle.pp_steps.specs.Filling.{hole_ask, hole_ask_at}
+use Rattle.pp_decide.specs.Decide.{text_by}
+use Rattle.pp_take.specs.Deciding.{ask_by, by_asked, by_front, by_key, by_seat, errand_by}
+use Rattle.pp_state.specs.Ends.{Parts}
+use Rattle.pp_take.specs.Filling.{hole_ask, hole_ask_at}
 use Rattle.pp_target.specs.Key.{key_in}
 use Rattle.pp_valid.specs.declared.version.Version.{Version}
 

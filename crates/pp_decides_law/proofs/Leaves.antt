@@ -23,8 +23,8 @@ use Rattle.pp_objects.specs.declared.id.ObjectId.{ObjectId}
 use Rattle.pp_peers.specs.declared.peers.Peer.{Peer}
 use Rattle.pp_states_law.proofs.Asked.{all_as, frames, itself}
 use Rattle.pp_states_law.specs.States.{Parts as Whole, ShowsState}
-use Rattle.pp_steps.specs.Ends.{Parts}
-use Rattle.pp_steps.specs.Pins.{without_instance}
+use Rattle.pp_state.specs.Ends.{Parts}
+use Rattle.pp_state.specs.Pins.{without_instance}
 use Rattle.pp_steps_law.proofs.Told.{Stands, are_told_on}
 use Rattle.pp_steps_law.specs.Steps.{ShowsSteps, whole}
 use Rattle.pp_steps_law.specs.Told.{AreTold}

@@ -21,7 +21,7 @@ use Rattle.pp_states_law.proofs.Decided.{leaves as states_leave}
 use Rattle.pp_states_law.proofs.Lines.{same_itself}
 use Rattle.pp_states_law.specs.Decisions.{AsksOnce}
 use Rattle.pp_states_law.specs.States.{ShowsState}
-use Rattle.pp_steps.specs.Ends.{Parts, asked_by, exchange_at, exchange_of, left_at_decision, left_by}
+use Rattle.pp_state.specs.Ends.{Parts, asked_by, exchange_at, exchange_of, left_at_decision, left_by}
 use Rattle.pp_steps_law.proofs.Told.{told_left, told_over}
 use Rattle.pp_steps_law.specs.Steps.{ShowsSteps, whole}
 use Rattle.pp_steps_law.specs.Told.{AreTold}

@@ -24,8 +24,8 @@ use Rattle.pp_seats.specs.declared.key.Key.{Key}
 use Rattle.pp_seats.specs.declared.seat.Seat.{Seat}
 use Rattle.pp_states_law.proofs.Asked.{all_as, frames, itself}
 use Rattle.pp_states_law.specs.States.{Parts as Whole, ShowsState}
-use Rattle.pp_steps.specs.Deciding.{marked_at, row_at, row_by, with_marked}
-use Rattle.pp_steps.specs.Ends.{Parts}
+use Rattle.pp_take.specs.Deciding.{marked_at, row_at, row_by, with_marked}
+use Rattle.pp_state.specs.Ends.{Parts}
 use Rattle.pp_steps_law.proofs.Told.{Stands, are_told_on}
 use Rattle.pp_steps_law.specs.Steps.{ShowsSteps, whole}
 use Rattle.pp_steps_law.specs.Told.{AreTold}

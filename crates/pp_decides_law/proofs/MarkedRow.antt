@@ -15,9 +15,9 @@ use Rattle.pp_peers.specs.declared.peers.Peer.{Peer}
 use Rattle.pp_seats.specs.Heads.{asked_in, owned_in}
 use Rattle.pp_seats.specs.declared.key.Key.{Key as OwnedKey}
 use Rattle.pp_seats.specs.declared.seat.Seat.{Seat}
-use Rattle.pp_steps.specs.Decide.{is_for_memory as is_for_memory_in}
-use Rattle.pp_steps.specs.Deciding.{marked_at, marked_for, row_at, row_by, with_marked}
-use Rattle.pp_steps.specs.Ends.{Parts}
+use Rattle.pp_state.specs.Pins.{is_for_memory as is_for_memory_in}
+use Rattle.pp_take.specs.Deciding.{marked_at, marked_for, row_at, row_by, with_marked}
+use Rattle.pp_state.specs.Ends.{Parts}
 use Rattle.pp_steps_law.specs.Steps.{ShowsSteps}
 use Rattle.pp_target.specs.Key.{Key, text_of}
 use Rattle.pp_world.specs.declared.note.Decision.{Decision}

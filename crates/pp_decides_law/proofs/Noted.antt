@@ -9,7 +9,7 @@ use Rattle.pp_law.specs.State.{State}
 use Rattle.pp_peers.specs.declared.peers.Peer.{Peer}
 use Rattle.pp_states_law.proofs.Asked.{all_as, frames, itself}
 use Rattle.pp_states_law.specs.States.{Parts as Whole, ShowsState}
-use Rattle.pp_steps.specs.Ends.{Parts}
+use Rattle.pp_state.specs.Ends.{Parts}
 use Rattle.pp_steps_law.specs.Steps.{ShowsSteps, whole}
 
 noted_shows : (number : ℕ → ℕ) (name : Bytes) (l : Leaving) (p : Whole) (s : State) → ShowsState number name [] l p s → ShowsState number name [] l p (record s { forgotten = []; has_made_room = false })

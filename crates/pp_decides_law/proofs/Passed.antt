@@ -32,9 +32,9 @@ use Rattle.pp_seats_law.specs.Replies.{IsHeadKept, ShowsPassed, passed_text}
 use Rattle.pp_seats_law.specs.Seats.{ShowsOpen, ShowsSeat}
 use Rattle.pp_seats_law.specs.Words.{ShowsMaybePassed}
 use Rattle.pp_steps.specs.Begins.{BeginsPassed, HasBegun, HasBegunPassed, IsPassBegun, pass_begun}
-use Rattle.pp_steps.specs.Passing.{may_answer}
-use Rattle.pp_steps.specs.Places.{IsChangedIn}
-use Rattle.pp_steps.specs.declared.state.State.{State as Turn}
+use Rattle.pp_state.specs.Passing.{may_answer}
+use Rattle.pp_state.specs.Places.{IsChangedIn}
+use Rattle.pp_state.specs.declared.state.State.{State as Turn}
 use Rattle.pp_world.specs.declared.note.Decision.{Decision}
 use Rattle.pp_decides_law.proofs.BegunReplies.{begun_seat, begun_shows}
 use Rattle.pp_decides_law.specs.Begins.{IsReadyAt}

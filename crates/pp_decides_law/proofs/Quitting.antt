@@ -35,7 +35,7 @@ use Rattle.pp_seats_law.specs.Replies.{ShowsStage, source_number}
 use Rattle.pp_states_law.proofs.Asked.{all_as, frames, itself}
 use Rattle.pp_states_law.specs.Clients.{GoesOnAs}
 use Rattle.pp_states_law.specs.States.{Parts as Whole, ShowsState}
-use Rattle.pp_steps.specs.Ends.{followed_less, unfollowed}
+use Rattle.pp_state.specs.Ends.{followed_less, unfollowed}
 use Rattle.pp_decides_law.proofs.Changed.{client_changed, counts_moved, counts_same}
 
 -- ---- what it followed

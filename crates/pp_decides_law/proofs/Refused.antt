@@ -27,10 +27,10 @@ use Rattle.pp_seats_law.specs.Seats.{ShowsOpen, ShowsSeat}
 use Rattle.pp_states_law.proofs.Decided.{leaves as states_leave}
 use Rattle.pp_states_law.specs.Decisions.{AsksOnce}
 use Rattle.pp_states_law.specs.States.{Parts as Whole, ShowsState}
-use Rattle.pp_steps.specs.Deciding.{GetsPage, IsPaged, IsPagedIf, IsRefused, left_all}
-use Rattle.pp_steps.specs.Ends.{AreInOrder, Parts, changed_at, followed_less, left_at_decision, left_source, on_seat, source_at, source_of, unfollowed, without_source}
-use Rattle.pp_steps.specs.Passing.{may_answer}
-use Rattle.pp_steps.specs.Places.{IsChangedAt, IsChangedIn}
+use Rattle.pp_take.specs.Deciding.{GetsPage, IsPaged, IsPagedIf, IsRefused, left_all}
+use Rattle.pp_state.specs.Ends.{AreInOrder, Parts, changed_at, followed_less, left_at_decision, left_source, on_seat, source_at, source_of, unfollowed, without_source}
+use Rattle.pp_state.specs.Passing.{may_answer}
+use Rattle.pp_state.specs.Places.{IsChangedAt, IsChangedIn}
 use Rattle.pp_steps_law.proofs.Places.{numbers_set}
 use Rattle.pp_steps_law.proofs.Told.{Stands, are_told_on}
 use Rattle.pp_steps_law.specs.Steps.{ShowsSteps, whole}

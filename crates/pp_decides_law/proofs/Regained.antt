@@ -35,8 +35,8 @@ use Rattle.pp_seats_law.specs.Clients.{AreShown}
 use Rattle.pp_seats_law.specs.Seats.{ShowsSeat}
 use Rattle.pp_seats_law.specs.Words.{ShowsNext}
 use Rattle.pp_states_law.proofs.Asked.{all_as, frames, itself}
-use Rattle.pp_steps.specs.Ends.{AreInOrder, all_regained, changed_at, is_held_next, numbers_of, regained}
-use Rattle.pp_steps.specs.declared.state.State.{State as Turn}
+use Rattle.pp_state.specs.Ends.{AreInOrder, all_regained, changed_at, is_held_next, numbers_of, regained}
+use Rattle.pp_state.specs.declared.state.State.{State as Turn}
 use Rattle.pp_turns_law.proofs.Asleep.{silent_first}
 use Rattle.pp_decides_law.specs.Regains.{RegainsAreTheLaws}
 use Rattle.pp_decides_law.proofs.Each.{Each, maps_none}

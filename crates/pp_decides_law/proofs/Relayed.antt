@@ -15,8 +15,8 @@ use Rattle.pp_seats_law.specs.Clients.{IsAt}
 use Rattle.pp_seats_law.specs.Seats.{ShowsOpen, ShowsSeat}
 use Rattle.pp_world.specs.declared.note.Decision.{Decision}
 use Rattle.pp_world.specs.declared.note.Decision.TheVariants.{Relay}
-use Rattle.pp_steps.specs.Deciding.{answered_at, relayed}
-use Rattle.pp_steps.specs.Ends.{AreInOrder, Parts, on_seat, source_of}
+use Rattle.pp_take.specs.Deciding.{answered_at, relayed}
+use Rattle.pp_state.specs.Ends.{AreInOrder, Parts, on_seat, source_of}
 use Rattle.pp_steps_law.proofs.Places.{numbers_set}
 use Rattle.pp_steps_law.proofs.Told.{are_told_on}
 use Rattle.pp_steps_law.specs.Steps.{ShowsSteps, whole}

@@ -19,7 +19,7 @@ use Rattle.pp_seats_law.proofs.Nexts.{reply_in}
 use Rattle.pp_seats_law.specs.Replies.{ShowsAnswer, ShowsStage}
 use Rattle.pp_seats_law.specs.Seats.{ShowsOpen}
 use Rattle.pp_steps.specs.Begins.{BeginsAnswer, BeginsBy, BeginsDecided, BeginsOf, BeginsPassed, BeginsReply}
-use Rattle.pp_steps.specs.declared.state.State.{State as Turn}
+use Rattle.pp_state.specs.declared.state.State.{State as Turn}
 use Rattle.pp_world.specs.declared.note.Decision.{Decision}
 use Rattle.pp_world.specs.declared.note.Decision.TheVariants.{Refuse, Hit, Part, Head, NotModified, Unsatisfiable, Relay, Validate, Fetch, Pass}
 use Rattle.pp_decides_law.specs.Begins.{IsReadyAt, SeatsBeginAsTheLaws}

@@ -19,9 +19,9 @@ use Rattle.pp_seats_law.proofs.Nexts.{reply_in}
 use Rattle.pp_seats_law.specs.Clients.{AreShown, IsAt, IsFound}
 use Rattle.pp_seats_law.specs.Replies.{ShowsStage, source_number}
 use Rattle.pp_seats_law.specs.Seats.{ShowsSeat}
-use Rattle.pp_steps.proofs.SeatsLemmas.{found-at}
-use Rattle.pp_steps.specs.Ends.{AreInOrder, Parts, changed_at, left_source, numbers_of, on_seat, source_at, source_of, unfollowed, without_source}
-use Rattle.pp_steps.specs.Passing.{may_answer}
+use Rattle.pp_state.proofs.SeatsLemmas.{found-at}
+use Rattle.pp_state.specs.Ends.{AreInOrder, Parts, changed_at, left_source, numbers_of, on_seat, source_at, source_of, unfollowed, without_source}
+use Rattle.pp_state.specs.Passing.{may_answer}
 use Rattle.pp_steps_law.proofs.Places.{at_place}
 use Rattle.pp_decides_law.proofs.Changed.{get_set, set_set}
 

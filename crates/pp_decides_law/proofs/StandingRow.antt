@@ -30,7 +30,7 @@ use Rattle.pp_seats_law.specs.Clients.{IsAt}
 use Rattle.pp_states_law.proofs.Asked.{all_as, frames, itself}
 use Rattle.pp_states_law.specs.Clients.{GoesOnAs}
 use Rattle.pp_states_law.specs.States.{Parts as Whole, ShowsState}
-use Rattle.pp_steps.specs.Deciding.{followed_more, may_follow}
+use Rattle.pp_take.specs.Deciding.{followed_more, may_follow}
 use Rattle.pp_steps_law.proofs.Told.{Stands}
 use Rattle.pp_steps_law.specs.Told.{IsTold}
 

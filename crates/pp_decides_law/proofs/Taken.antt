@@ -34,9 +34,9 @@ use Rattle.pp_seats.specs.declared.front.Asked.{Asked}
 use Rattle.pp_seats.specs.declared.key.Key.{Key as OwnedKey}
 use Rattle.pp_seats.specs.declared.seat.Seat.{Seat}
 use Rattle.pp_states_law.specs.Decisions.{AsksOnce}
-use Rattle.pp_steps.specs.Deciding.{Ask, Does, Takes, accounted, afforded, ask_at, ask_for, ask_for_kind, asks_origin, by_asked, by_front, by_key, by_seat, followed_at, key_for, marked_for, may_ask, may_ask_for, origin_asked}
-use Rattle.pp_steps.specs.Decide.{kind_of}
-use Rattle.pp_steps.specs.Ends.{Parts, source_of}
+use Rattle.pp_take.specs.Deciding.{Ask, Does, Takes, accounted, afforded, ask_at, ask_for, ask_for_kind, asks_origin, by_asked, by_front, by_key, by_seat, followed_at, key_for, marked_for, may_ask, may_ask_for, origin_asked}
+use Rattle.pp_decide.specs.Decide.{kind_of}
+use Rattle.pp_state.specs.Ends.{Parts, source_of}
 use Rattle.pp_steps_law.specs.Steps.{ShowsSteps}
 use Rattle.pp_target.specs.Key.{Key, text_of}
 use Rattle.pp_world.specs.declared.note.Decision.{Decision}

@@ -38,9 +38,9 @@ use Rattle.pp_seats_law.proofs.Nexts.{reply_in}
 use Rattle.pp_seats_law.specs.Replies.{IsPipedFor, ShowsAnswer}
 use Rattle.pp_seats_law.specs.Seats.{ShowsOpen, ShowsSeat}
 use Rattle.pp_steps.specs.Begins.{with_left, without_outrun}
-use Rattle.pp_steps.specs.Ends.{followed_less, parts, unfollowed}
-use Rattle.pp_steps.specs.Passing.{may_answer}
-use Rattle.pp_steps.specs.declared.state.State.{State as Turn}
+use Rattle.pp_state.specs.Ends.{followed_less, parts, unfollowed}
+use Rattle.pp_state.specs.Passing.{may_answer}
+use Rattle.pp_state.specs.declared.state.State.{State as Turn}
 use Rattle.pp_steps_law.specs.Steps.{ShowsSteps}
 use Rattle.pp_world.specs.declared.note.Decision.TheVariants.{Pass}
 use Rattle.pp_decides_law.proofs.AtOnce.{outrun_by, stays_silent}

@@ -21,12 +21,11 @@ use Rattle.pp_seats.specs.Seats.{is_undecided_in}
 use Rattle.pp_seats.specs.declared.account.Account.{Account}
 use Rattle.pp_seats.specs.declared.seat.Brought.TheVariants.{Refused}
 use Rattle.pp_seats.specs.declared.seat.Seat.{Seat}
-use Rattle.pp_steps.specs.Deciding.{GetsPage, IsPaged, IsPagedIf, IsRefused, left_all}
-use Rattle.pp_steps.specs.Deciding.{accounted}
-use Rattle.pp_steps.specs.Ends.{Parts, left_at_decision, source_of}
-use Rattle.pp_steps.specs.Entering.{refused_at}
-use Rattle.pp_steps.specs.Passing.{may_answer}
-use Rattle.pp_steps.specs.Places.{IsChangedIn}
+use Rattle.pp_take.specs.Deciding.{GetsPage, IsPaged, IsPagedIf, IsRefused, left_all, accounted}
+use Rattle.pp_state.specs.Ends.{Parts, left_at_decision, source_of}
+use Rattle.pp_due.specs.Entering.{refused_at}
+use Rattle.pp_state.specs.Passing.{may_answer}
+use Rattle.pp_state.specs.Places.{IsChangedIn}
 use Rattle.pp_steps_law.specs.Steps.{ShowsSteps}
 use Rattle.pp_world.specs.declared.note.Decision.TheVariants.{Refuse}
 use Rattle.pp_decides_law.proofs.Accounted.{accounted_is}

@@ -21,8 +21,8 @@ use Rattle.pp_seats.specs.declared.seat.Seat.{Seat}
 use Rattle.pp_seats_law.specs.Exchanges.{ShowsExchange}
 use Rattle.pp_states_law.proofs.Lines.{same_itself}
 use Rattle.pp_states_law.specs.Decisions.{AsksOnce}
-use Rattle.pp_steps.specs.Deciding.{is_served_by, left_if_useless, left_useless, serves_at}
-use Rattle.pp_steps.specs.Ends.{Parts, asked_by, exchange_at, exchange_of, left_at_decision}
+use Rattle.pp_take.specs.Deciding.{is_served_by, left_if_useless, left_useless, serves_at}
+use Rattle.pp_state.specs.Ends.{Parts, asked_by, exchange_at, exchange_of, left_at_decision}
 use Rattle.pp_steps_law.specs.Steps.{ShowsSteps}
 
 -- ---- which are left

@@ -30,8 +30,8 @@ use Rattle.pp_seats.specs.declared.seat.Stage.{Stage as SeatStage}
 use Rattle.pp_seats_law.specs.Clients.{AreShown, IsAt}
 use Rattle.pp_seats_law.specs.Seats.{ShowsSeat}
 use Rattle.pp_steps.specs.Begins.{BeginsReplies, BeginsReply}
-use Rattle.pp_steps.specs.Ends.{parts}
-use Rattle.pp_steps.specs.declared.state.State.{State as Turn}
+use Rattle.pp_state.specs.Ends.{parts}
+use Rattle.pp_state.specs.declared.state.State.{State as Turn}
 use Rattle.pp_steps_law.specs.Steps.{ShowsSteps, whole}
 use Rattle.pp_steps_law.specs.Told.{AreTold}
 use Rattle.pp_turns_law.proofs.First.{IsShownAt, above, client_shown, seat_shown}

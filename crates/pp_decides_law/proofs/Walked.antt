@@ -21,8 +21,8 @@ use Rattle.pp_seats_law.proofs.AllSeats.{places}
 use Rattle.pp_seats_law.specs.Clients.{IsFound}
 use Rattle.pp_seats_law.specs.Seats.{ShowsSeat}
 use Rattle.pp_states_law.specs.Decisions.{AsksOnce}
-use Rattle.pp_steps.specs.Ends.{Parts, numbers_of}
-use Rattle.pp_steps.specs.Filling.{all_filled, filled_for}
+use Rattle.pp_state.specs.Ends.{Parts, numbers_of}
+use Rattle.pp_take.specs.Filling.{all_filled, filled_for}
 use Rattle.pp_turns_law.proofs.First.{above}
 use Rattle.pp_decides_law.proofs.BegunAsks.{IsDone, WasSeat}
 use Rattle.pp_decides_law.proofs.Filled.{is_done}

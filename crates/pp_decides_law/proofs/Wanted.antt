@@ -30,8 +30,8 @@ use Rattle.pp_seats_law.specs.Exchanges.{ShowsExchange}
 use Rattle.pp_seats_law.specs.Fates.{aim_of}
 use Rattle.pp_seats_law.specs.Seats.{ShowsSeat}
 use Rattle.pp_seats_law.specs.Words.{ShowsNext}
-use Rattle.pp_steps.specs.Asking.{brings_next, fills_hole, is_useless, is_wanted, is_wanted_at}
-use Rattle.pp_steps.specs.Ends.{Parts, numbers_of, seat_for}
+use Rattle.pp_state.specs.Asking.{brings_next, fills_hole, is_useless, is_wanted, is_wanted_at}
+use Rattle.pp_state.specs.Ends.{Parts, numbers_of, seat_for}
 use Rattle.pp_steps_law.proofs.Places.{HasNone, HasPlace, HasSeat, at_place, has_none, has_place, has_seat, one_asks}
 use Rattle.pp_steps_law.specs.Steps.{ShowsSteps}
 use Rattle.pp_valid.specs.declared.version.Version.{Version}

@@ -19,11 +19,10 @@ use Rattle.pp_seats.specs.Heads.{is_key_text}
 use Rattle.pp_seats.specs.Seats.{has_key}
 use Rattle.pp_seats.specs.declared.key.Key.{Key as OwnedKey}
 use Rattle.pp_seats.specs.declared.seat.Seat.{Seat}
-use Rattle.pp_steps.specs.Decide.{is_for_memory as is_for_memory_in}
-use Rattle.pp_steps.specs.Ends.{parts}
+use Rattle.pp_state.specs.Pins.{is_for_memory as is_for_memory_in, busy_rows, idle_row as idle_in}
+use Rattle.pp_state.specs.Ends.{parts}
 use Rattle.pp_steps.specs.Evicting.{is_key_at, row_in_way, unless_own, without_row}
-use Rattle.pp_steps.specs.Pins.{busy_rows, idle_row as idle_in}
-use Rattle.pp_steps.specs.declared.state.State.{State as Turn}
+use Rattle.pp_state.specs.declared.state.State.{State as Turn}
 use Rattle.pp_steps_law.specs.Steps.{ShowsSteps}
 use Rattle.pp_turns_law.specs.Rows.{kept_alone, with_entry, with_row_of}
 use Rattle.pp_world.specs.declared.note.Decision.{Decision}

@@ -23,7 +23,7 @@ use Rattle.pp_seats.specs.declared.seat.Stage.TheVariants.{Answering as IsAnswer
 use Rattle.pp_seats_law.specs.Dues.{AreApart}
 use Rattle.pp_seats_law.specs.Seats.{ShowsSeat}
 use Rattle.pp_steps.specs.Begins.{BeginsReplies, BeginsReply, can_show, is_part, keeps_lines, shows_of}
-use Rattle.pp_steps.specs.declared.state.State.{State as Turn}
+use Rattle.pp_state.specs.declared.state.State.{State as Turn}
 use Rattle.pp_turns_law.specs.Firsts.{AreAwake}
 use Rattle.pp_world.specs.declared.note.Decision.{Decision}
 use Rattle.pp_world.specs.declared.note.Decision.TheVariants.{Hit, Part, Head, NotModified, Unsatisfiable}

@@ -17,9 +17,9 @@ use Rattle.pp_seats.specs.Dues.{is_refused_in}
 use Rattle.pp_seats_law.specs.Decided.{MayBeDecided}
 use Rattle.pp_states_law.specs.Decisions.{AsksOnce}
 use Rattle.pp_world.specs.declared.note.Decision.{Decision}
-use Rattle.pp_steps.specs.Deciding.{IsRefused, ask_at, marked_at, may_ask, origin_asked, relayed}
-use Rattle.pp_steps.specs.Ends.{Parts, left_at_decision, source_at}
-use Rattle.pp_steps.specs.Passing.{may_answer}
+use Rattle.pp_take.specs.Deciding.{IsRefused, ask_at, marked_at, may_ask, origin_asked, relayed}
+use Rattle.pp_state.specs.Ends.{Parts, left_at_decision, source_at}
+use Rattle.pp_state.specs.Passing.{may_answer}
 use Rattle.pp_steps_law.specs.Steps.{OfSteps, ShowsSteps}
 
 -- the client at this place, and that of the law

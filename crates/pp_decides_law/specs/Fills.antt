@@ -17,10 +17,10 @@ use Rattle.pp_seats.specs.declared.seat.Next.{Next as SeatNext}
 use Rattle.pp_seats.specs.declared.seat.Seat.{Seat}
 use Rattle.pp_seats_law.specs.Fates.{is_refused}
 use Rattle.pp_states_law.specs.Decisions.{AsksOnce}
-use Rattle.pp_steps.specs.Deciding.{may_ask}
-use Rattle.pp_steps.specs.Ends.{KeepsRest, Parts, parts}
-use Rattle.pp_steps.specs.Filling.{filled, filled_for}
-use Rattle.pp_steps.specs.declared.state.State.{State as Turn}
+use Rattle.pp_take.specs.Deciding.{may_ask}
+use Rattle.pp_state.specs.Ends.{KeepsRest, Parts, parts}
+use Rattle.pp_take.specs.Filling.{filled, filled_for}
+use Rattle.pp_state.specs.declared.state.State.{State as Turn}
 use Rattle.pp_steps_law.specs.Steps.{ShowsSteps}
 use Rattle.pp_turns_law.specs.Firsts.{AreAwake}
 

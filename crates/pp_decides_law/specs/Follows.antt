@@ -7,8 +7,8 @@ use Rattle.pp_law.specs.State.{State, Client, Instance as Known}
 use Rattle.pp_law.specs.Table.{follows, row}
 use Rattle.pp_seats.specs.Dues.{is_refused_in, refused_in}
 use Rattle.pp_seats.specs.declared.seat.Seat.{Seat}
-use Rattle.pp_steps.specs.Deciding.{followed_at}
-use Rattle.pp_steps.specs.Ends.{Parts}
+use Rattle.pp_take.specs.Deciding.{followed_at}
+use Rattle.pp_state.specs.Ends.{Parts}
 use Rattle.pp_steps_law.specs.Steps.{OfSteps, ShowsSteps}
 use Rattle.pp_world.specs.declared.note.Decision.{Decision}
 

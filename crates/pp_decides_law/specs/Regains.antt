@@ -6,8 +6,8 @@ use Rattle.pp_law.specs.Replies.{regained}
 use Rattle.pp_law.specs.State.{State}
 use Rattle.pp_peers.specs.declared.peers.Peer.{Peer}
 use Rattle.pp_seats.specs.declared.seat.Seat.{Seat}
-use Rattle.pp_steps.specs.Ends.{all_regained}
-use Rattle.pp_steps.specs.declared.state.State.{State as Turn}
+use Rattle.pp_state.specs.Ends.{all_regained}
+use Rattle.pp_state.specs.declared.state.State.{State as Turn}
 use Rattle.pp_turns_law.specs.Firsts.{AreAwake}
 
 -- what each client that is not closing follows is there

@@ -13,10 +13,10 @@ use Rattle.pp_seats.specs.Dues.{is_refused_in, refused_in}
 use Rattle.pp_seats.specs.Heads.{asked_in, owned_in}
 use Rattle.pp_seats.specs.declared.key.Key.{Key}
 use Rattle.pp_seats.specs.declared.seat.Seat.{Seat}
-use Rattle.pp_steps.specs.Deciding.{Takes, afforded, ask_at}
-use Rattle.pp_steps.specs.Ends.{Parts, parts}
-use Rattle.pp_steps.specs.Entering.{refused_at}
-use Rattle.pp_steps.specs.declared.state.State.{State as Turn}
+use Rattle.pp_take.specs.Deciding.{Takes, afforded, ask_at}
+use Rattle.pp_state.specs.Ends.{Parts, parts}
+use Rattle.pp_due.specs.Entering.{refused_at}
+use Rattle.pp_state.specs.declared.state.State.{State as Turn}
 use Rattle.pp_steps_law.specs.Steps.{OfSteps, ShowsSteps}
 use Rattle.pp_world.specs.declared.note.Decision.{Decision}
 use Rattle.pp_world.specs.declared.note.Decision.TheVariants.{Refuse, Hit, Part, Head, NotModified, Unsatisfiable, Relay, Validate, Fetch, Pass}

@@ -10,8 +10,8 @@ use Rattle.pp_law.specs.Followers.{give_up_asks, is_useless_ask}
 use Rattle.pp_law.specs.State.{State, Client, Exchange}
 use Rattle.pp_seats.specs.declared.seat.Seat.{Seat}
 use Rattle.pp_states_law.specs.Decisions.{AreApart}
-use Rattle.pp_steps.specs.Asking.{is_useless}
-use Rattle.pp_steps.specs.Ends.{Parts, ended}
+use Rattle.pp_state.specs.Asking.{is_useless}
+use Rattle.pp_state.specs.Ends.{Parts, ended}
 use Rattle.pp_steps_law.specs.Steps.{OfSteps, ShowsSteps}
 
 -- what each that is not closing follows is there

@@ -15,11 +15,10 @@ use Rattle.pp_peers.specs.declared.peers.Peer.{Peer}
 use Rattle.pp_seats.specs.Heads.{asked_in, owned_in}
 use Rattle.pp_seats.specs.declared.key.Key.{Key as OwnedKey}
 use Rattle.pp_seats.specs.declared.seat.Seat.{Seat}
-use Rattle.pp_steps.specs.Decide.{is_for_memory as is_for_memory_in}
-use Rattle.pp_steps.specs.Ends.{parts}
+use Rattle.pp_state.specs.Pins.{is_for_memory as is_for_memory_in, busy_rows}
+use Rattle.pp_state.specs.Ends.{parts}
 use Rattle.pp_steps.specs.Evicting.{given_way, row_in_way}
-use Rattle.pp_steps.specs.Pins.{busy_rows}
-use Rattle.pp_steps.specs.declared.state.State.{State as Turn}
+use Rattle.pp_state.specs.declared.state.State.{State as Turn}
 use Rattle.pp_steps_law.specs.Steps.{ShowsSteps}
 use Rattle.pp_target.specs.Key.{text_of}
 use Rattle.pp_turns_law.specs.Rows.{with_row_of}

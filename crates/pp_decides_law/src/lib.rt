@@ -10,7 +10,7 @@
 //!   where they do all at once.
 //!
 //! To the layer above: each equation is the clause of a function that does nothing. It is one part of the proof that the program
-//! obeys the law: what is asked of a turn there is for the steps before. The words of the program stand in `pp_steps`, which says of
+//! obeys the law: what is asked of a turn there is for the steps before. The words of the program stand in `pp_take` and `pp_steps`, which say of
 //! each function which it computes.
 //!
 //! Takes no memory, and does nothing when the program runs.

@@ -16,10 +16,10 @@ use Rattle.pp_law.specs.State.{Aim, Through, Own, Filling}
 use Rattle.pp_law.specs.OwnHeads.{is_wrong_part}
 use Rattle.pp_seats_law.specs.Exchanges.{is_ranged_in}
 use Rattle.pp_seats_law.specs.Fates.{aim_of}
-use Rattle.pp_steps.specs.Heads.{ignores_range as kind_ignores, is_full_answer as is_full, names_tag}
-use Rattle.pp_steps.specs.OwnHeads.{is_wrong}
-use Rattle.pp_steps.specs.Rows.{is_same_version}
-use Rattle.pp_steps.specs.ThroughHeads.{is_other_length}
+use Rattle.pp_answers.specs.Heads.{ignores_range as kind_ignores, is_full_answer as is_full, names_tag}
+use Rattle.pp_answers.specs.OwnHeads.{is_wrong}
+use Rattle.pp_answers.specs.Rows.{is_same_version}
+use Rattle.pp_answers.specs.ThroughHeads.{is_other_length}
 use Rattle.pp_heads_law.specs.Rules.{ClearsAreTheLaws, DisprovesAreTheLaws, FullAnswersAreTheLaws, IgnoresAreTheLaws, InvalidatesAreTheLaws, JoinsAreTheLaws, NamesAreTheLaws, PrivatePartsAreTheLaws, TimesAreTheLaws, VersionsAreTheLaws, WidenedIsTheLaws, WrongHeadsAreTheLaws}
 
 -- ---- of the head alone

@@ -8,11 +8,11 @@ use Rattle.pp_law.specs.OwnHeads.{clears_row, ignores_range, is_full_answer, is_
 use Rattle.pp_law.specs.State.{State, Exchange}
 use Rattle.pp_law.specs.ThroughHeads.{disproves, invalidates}
 use Rattle.pp_seats_law.specs.Exchanges.{ShowsExchange}
-use Rattle.pp_steps.specs.FinalHeads.{is_widened as errand_widened, version_in as version_for}
-use Rattle.pp_steps.specs.Heads.{ignores_range as kind_ignores, is_full_answer as is_full, names_tag}
-use Rattle.pp_steps.specs.OwnHeads.{clears_row as head_clears, is_private_part as is_private, is_wrong}
-use Rattle.pp_steps.specs.Rows.{may_join as joins, times_for as times_in}
-use Rattle.pp_steps.specs.ThroughHeads.{disproves as head_disproves, invalidates as head_invalidates}
+use Rattle.pp_answers.specs.FinalHeads.{is_widened as errand_widened, version_in as version_for}
+use Rattle.pp_answers.specs.Heads.{ignores_range as kind_ignores, is_full_answer as is_full, names_tag}
+use Rattle.pp_answers.specs.OwnHeads.{clears_row as head_clears, is_private_part as is_private, is_wrong}
+use Rattle.pp_answers.specs.Rows.{may_join as joins, times_for as times_in}
+use Rattle.pp_answers.specs.ThroughHeads.{disproves as head_disproves, invalidates as head_invalidates}
 
 -- ---- of the head alone
 

@@ -1,6 +1,6 @@
 //! What the head of a response tells of rows, in the program and in the law.
 //!
-//! Where an exchange of the program shows one of the law (`ShowsExchange` of `pp_seats_law`), each rule by which `pp_steps` judges
+//! Where an exchange of the program shows one of the law (`ShowsExchange` of `pp_seats_law`), each rule by which `pp_answers` judges
 //! the head of its response is the law's: whether it answers an ask of its kind, its version and its times, whether it clears the row of
 //! its key, joins it or takes its place, and what a response that is passed outdates. The span that comes, and what
 //! a 304 says of a row, is for `pp_answers_law`.

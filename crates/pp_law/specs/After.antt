@@ -11,6 +11,7 @@ use Rattle.pp_law.specs.Chunks.{drop_chunk}
 use Rattle.pp_law.specs.Closing.{close_client}
 use Rattle.pp_law.specs.Deciding.{decided}
 use Rattle.pp_law.specs.Due.{still_waits}
+use Rattle.pp_law.specs.Followers.{fill}
 use Rattle.pp_law.specs.Connections.{client, conn, on_client, on_conn, is_client, is_conn, put_on, lose_attempt, may_ask_again, end_exchange, placing, Placement, AllPlaced, WaitsDial, WaitsDrop}
 use Rattle.pp_law.specs.Leaving.{Leaving, ForAnother, ForMemory, BeforeDecision, leaving_as}
 use Rattle.pp_law.specs.Lists.{Bytes, change, is_some_with, without}
@@ -21,7 +22,7 @@ use Rattle.pp_law.specs.Repairs.{begin_in_opening}
 use Rattle.pp_law.specs.Requests.{NoHeadYet}
 use Rattle.pp_law.specs.Responses.{got, ended}
 use Rattle.pp_law.specs.Stages.{bound_of}
-use Rattle.pp_law.specs.State.{State, Client, Conn, Exchange, Instance, Dropping, Brought, Awaited, Joins, Trying, RowRefused, Undecided, IsRooted, IsListed, IsListening, Handling, Evicting, Keeping, Following, Connecting, Owed, Free, ReadOf, WriteTo}
+use Rattle.pp_law.specs.State.{State, Client, Conn, Exchange, Instance, Dropping, Brought, Awaited, Joins, Trying, RowRefused, Undecided, IsRooted, IsListed, IsListening, Handling, Evicting, Keeping, Connecting, Owed, Free, ReadOf, WriteTo}
 use Rattle.pp_law.specs.Store.{begin_in_turn, end_op, close_name, note_kept, note_gone, load}
 use Rattle.pp_law.specs.Table.{forget}
 use Rattle.pp_law.specs.Turn.{touch, tick, rest_with}
@@ -167,7 +168,7 @@ dialled n host port p = elim p.pause [
 
 -- it is asked elsewhere; or it is over, and whoever waited for what it brings asks for himself
 unfoldable pub refused_dial : Exchange → State → State
-refused_dial e s = elim (may_ask_again s e.number) [ true ↦ s | false ↦ end_exchange e.number (in_phase Following s) ]
+refused_dial e s = elim (may_ask_again s e.number) [ true ↦ s | false ↦ fill (end_exchange e.number s) ]
 
 unfoldable pub undialled : Placement → State
 undialled p = elim p.pause [

@@ -28,15 +28,15 @@ in_phase phase s = record s { phase = phase }
 
 -- ---- what the next one brings
 
--- asks that bring nothing any more are given up before the disk; what nobody will see is dropped, and followers ask for what is
--- missing, before connections are closed; and before anything is decided again, exchanges get their places, as far as no new
+-- asks that bring nothing any more are given up before the disk; what nobody will see is dropped, asks that wait elsewhere for nothing
+-- are given up, so that nobody counts on them, and followers ask for what is missing, before connections are closed; and before anything is decided again, exchanges get their places, as far as no new
 -- connection is needed
 abbrev pub behind : Phase → State → State
 behind Handling s = in_phase Evicting s
 behind Evicting s = give_up_asks (in_phase Keeping s)
 behind Keeping s = in_phase Deciding s
 behind Deciding s = in_phase Following s
-behind Following s = fill (drop_unseen (in_phase Connecting s))
+behind Following s = fill (give_up_asks (drop_unseen (in_phase Connecting s)))
 behind Connecting s = (placing (in_phase DecidingAgain s)).state
 behind phase s = s
 

@@ -41,6 +41,10 @@ due_undecided s c = elim c.waits_on [
   | None ↦ elim (decide s c) [ None ↦ None | Some d ↦ due_first s c d ]
 ]
 
--- it waits for the answer to another client's ask
+-- it waits on; or what it names is asked already
+abbrev pub has_shared_ask : State → Client → Bool
+has_shared_ask s c = elim c.waits_on [ Some w ↦ is_patient s w | None ↦ is_some (shared_ask s c) ]
+
+-- where nothing is due, it waits for the answer to another client's ask
 abbrev pub is_sharing : State → Client → Bool
-is_sharing s c = elim (is_undecided c.stage) [ true ↦ has_request c.front && not (is_some (due_undecided s c)) | false ↦ false ]
+is_sharing s c = elim (is_undecided c.stage) [ true ↦ has_request c.front && has_shared_ask s c | false ↦ false ]

@@ -18,13 +18,13 @@ use Rattle.pp_law.specs.Permits.{is_permitted, IsPermitted, permits, permits_dia
 use Rattle.pp_law.specs.Phases.{is_awaiting, due_victim, come_to}
 use Rattle.pp_law.specs.Replies.{said_by}
 use Rattle.pp_law.specs.Served.{accepts}
-use Rattle.pp_law.specs.State.{State, RowRefused, Client, Conn, Exchange, Instance, IsRooted, IsListed, IsListening, Handling, Evicting, Keeping, Following, Connecting, Owed, ReadOf, WriteTo}
+use Rattle.pp_law.specs.State.{State, RowRefused, Client, Conn, Exchange, Instance, IsRooted, IsListed, IsListening, Handling, Evicting, Keeping, Connecting, Owed, ReadOf, WriteTo}
 use Rattle.pp_law.specs.Table.{forget}
 use Rattle.pp_laws.specs.Origin.{LoadWasSent, LoadsWhatWasSent}
 use Rattle.pp_laws.specs.Runs.{after_all, IsIn}
 use Rattle.pp_laws.proofs.Callers.{said_by-same, same_parts}
 use Rattle.pp_laws.proofs.Cases.{by_pause, each_of, each_so, when}
-use Rattle.pp_laws.proofs.Clients.{ask-sound, close_client-sound, decided-sound, end_replies-sound, hang_up-sound, hear-sound, regained-sound, use_said-sound}
+use Rattle.pp_laws.proofs.Clients.{ask-sound, close_client-sound, decided-sound, end_replies-sound, fill-sound, hang_up-sound, hear-sound, regained-sound, use_said-sound}
 use Rattle.pp_laws.proofs.Disk.{begin_in_opening-sound, begin_in_turn-sound, close_name-sound, configured-sound, end_op-sound, load-sound, lose_in_opening-sound, note_gone-sound, note_kept-sound, opened_to-sound, woken-sound}
 use Rattle.pp_laws.proofs.Exchanges.{end_exchange-sound, lose_attempt-sound, on_client-sound, on_conn-sound}
 use Rattle.pp_laws.proofs.KeptClients.{client_pushed, clients_changed, clients_filtered}
@@ -155,7 +155,7 @@ dialled-sound n host port s above h = dialled_at n host port (placing s).state (
 
 refused_dial-sound : {b : Since} (e : Exchange) (s : State) → Sound b s → Sound b (refused_dial e s)
 unfolding refused_dial
-refused_dial-sound e s h = when (may_ask_again s e.number) h (end_exchange-sound e.number _ (in_phase-sound Following s h))
+refused_dial-sound e s h = when (may_ask_again s e.number) h (fill-sound _ (end_exchange-sound e.number s h))
 
 undialled-sound : {b : Since} (p : Placement) → Sound b p.state → Sound b (undialled p)
 unfolding undialled

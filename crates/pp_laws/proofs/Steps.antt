@@ -50,7 +50,7 @@ behind-sound Handling s h = in_phase-sound Evicting s h
 behind-sound Evicting s h = give_up_asks-sound _ (in_phase-sound Keeping s h)
 behind-sound Keeping s h = in_phase-sound Deciding s h
 behind-sound Deciding s h = in_phase-sound Following s h
-behind-sound Following s h = fill-sound _ (drop_unseen-sound _ (in_phase-sound Connecting s h))
+behind-sound Following s h = fill-sound _ (give_up_asks-sound _ (drop_unseen-sound _ (in_phase-sound Connecting s h)))
 behind-sound Connecting s h = placing-sound _ (in_phase-sound DecidingAgain s h)
 behind-sound DecidingAgain s h = h
 

@@ -144,7 +144,7 @@ behind-top Handling s = refl
 behind-top Evicting s = give_up_asks-top (in_phase Keeping s)
 behind-top Keeping s = refl
 behind-top Deciding s = refl
-behind-top Following s = fill-top (drop_unseen (in_phase Connecting s)) ∙ drop_unseen-top (in_phase Connecting s)
+behind-top Following s = fill-top (give_up_asks (drop_unseen (in_phase Connecting s))) ∙ give_up_asks-top (drop_unseen (in_phase Connecting s)) ∙ drop_unseen-top (in_phase Connecting s)
 behind-top Connecting s = placing-top (in_phase DecidingAgain s)
 behind-top DecidingAgain s = refl
 

@@ -182,7 +182,7 @@ behind-asks Handling s h = holds (facts_of h)
 behind-asks Evicting s h = give_up_asks-keeps asks_walk _ (holds (facts_of h))
 behind-asks Keeping s h = holds (facts_of h)
 behind-asks Deciding s h = holds (facts_of h)
-behind-asks Following s h = fill-keeps asks_walk asks_begins _ (drop_unseen-keeps asks_walk _ (holds (facts_of h)))
+behind-asks Following s h = fill-keeps asks_walk asks_begins _ (give_up_asks-keeps asks_walk _ (drop_unseen-keeps asks_walk _ (holds (facts_of h))))
 behind-asks Connecting s h = placing-keeps asks_places _ (holds (facts_of h))
 behind-asks DecidingAgain s h = h
 
@@ -436,7 +436,7 @@ undialled-asks p h = by_pause p.pause h (λ k e. h) (λ e. refused e (lost e))
     lost e = lose_attempt-keeps asks_walk e _ (holds (facts_of h))
 
     refused : (e : Exchange) → Holds Asks (lose_attempt e (record p.state { failures = p.state.failures + 1 })) → Holds Asks (refused_dial e (lose_attempt e (record p.state { failures = p.state.failures + 1 })))
-    refused e g = when (may_ask_again (lose_attempt e (record p.state { failures = p.state.failures + 1 })) e.number) g (end_exchange-keeps asks_walk e.number _ (holds (facts_of g)))
+    refused e g = when (may_ask_again (lose_attempt e (record p.state { failures = p.state.failures + 1 })) e.number) g (fill-keeps asks_walk asks_begins _ (end_exchange-keeps asks_walk e.number _ g))
 
 dropped-asks : (n : ℕ) (s : State) → Holds Asks s → Holds Asks (dropped n s)
 unfolding dropped out

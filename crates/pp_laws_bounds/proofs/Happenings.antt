@@ -19,7 +19,7 @@ use Rattle.pp_law.specs.Permits.{is_permitted, IsPermitted, permits, permits_dia
 use Rattle.pp_law.specs.Phases.{is_awaiting, due_victim, come_to, has_closings}
 use Rattle.pp_law.specs.Replies.{said_by}
 use Rattle.pp_law.specs.Served.{accepts}
-use Rattle.pp_law.specs.State.{State, RowRefused, Phase, Conn, Exchange, Instance, IsWoken, IsConfigured, IsRooted, IsListed, IsListening, Awaiting, Handling, Evicting, Keeping, Following, Connecting, Owed, ReadOf, WriteTo}
+use Rattle.pp_law.specs.State.{State, RowRefused, Phase, Conn, Exchange, Instance, IsWoken, IsConfigured, IsRooted, IsListed, IsListening, Awaiting, Handling, Evicting, Keeping, Connecting, Owed, ReadOf, WriteTo}
 use Rattle.pp_law.specs.Table.{forget}
 use Rattle.pp_laws.specs.Runs.{after_all, IsIn}
 use Rattle.pp_laws.proofs.Lists.{in_find, in_front, in_push, one_of, rise_push}
@@ -33,7 +33,7 @@ use Rattle.pp_laws.proofs.Tops.{come_to-top, placing-top}
 use Rattle.pp_laws_bounds.specs.Bounds.{goes_to}
 use Rattle.pp_laws_bounds.proofs.Cases.{by_pause, each_of, each_so, when}
 use Rattle.pp_laws_bounds.proofs.Changes.{client_pushed, clients_changed, clients_filtered, conns_filtered, exchanges_changed, same_exchange}
-use Rattle.pp_laws_bounds.proofs.Clients.{ask-kept, close_client-kept, decided-kept, end_replies-kept, hang_up-kept, hear-kept, regained-kept, use_said-kept}
+use Rattle.pp_laws_bounds.proofs.Clients.{ask-kept, close_client-kept, decided-kept, end_replies-kept, fill-kept, hang_up-kept, hear-kept, regained-kept, use_said-kept}
 use Rattle.pp_laws_bounds.proofs.Counts.{count-push, in_last, length-push}
 use Rattle.pp_laws_bounds.proofs.Disk.{begin_in_opening-kept, begin_in_turn-kept, close_name-kept, configured-kept, end_op-kept, load-kept, lose_in_opening-kept, note_gone-kept, note_kept-kept, opened_to-kept, woken-kept}
 use Rattle.pp_laws_bounds.proofs.Exchanges.{end_exchange-kept, lose_attempt-kept, on_client-kept, on_conn-kept}
@@ -287,7 +287,7 @@ dialled-kept n host port s above d h = by (placing (come_to Connecting s)).pause
 
 refused_dial-kept : (e : Exchange) (s : State) → Kept [] s → Kept [] (refused_dial e s)
 unfolding refused_dial
-refused_dial-kept e s h = when (may_ask_again s e.number) h (end_exchange-kept e.number _ (in_phase-kept Following s refl h))
+refused_dial-kept e s h = when (may_ask_again s e.number) h (fill-kept _ (end_exchange-kept e.number s h))
 
 undialled-kept : (p : Placement) → Kept [] p.state → Kept [] (undialled p)
 unfolding undialled

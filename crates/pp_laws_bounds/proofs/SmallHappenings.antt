@@ -22,7 +22,7 @@ use Rattle.pp_law.specs.Replies.{said_by, end_replies}
 use Rattle.pp_law.specs.Responses.{got}
 use Rattle.pp_law.specs.Served.{is_served}
 use Rattle.pp_law.specs.Stages.{bound_of}
-use Rattle.pp_law.specs.State.{State, RowRefused, Phase, Exchange, Instance, IsRooted, IsListed, IsListening, Handling, Evicting, Keeping, Following, Connecting, Owed, Free, ReadOf, WriteTo}
+use Rattle.pp_law.specs.State.{State, RowRefused, Phase, Exchange, Instance, IsRooted, IsListed, IsListening, Handling, Evicting, Keeping, Connecting, Owed, Free, ReadOf, WriteTo}
 use Rattle.pp_law.specs.Table.{forget}
 use Rattle.pp_law.specs.Turn.{touch}
 use Rattle.pp_laws.specs.Runs.{after_all}
@@ -34,7 +34,7 @@ use Rattle.pp_laws_bounds.proofs.Kept.{Kept, is_early, facts_of as kept_facts}
 use Rattle.pp_laws_bounds.proofs.Small.{As, FactsOf, Small, facts_of, small}
 use Rattle.pp_laws_bounds.proofs.SmallCases.{by_pause, each_of, when}
 use Rattle.pp_laws_bounds.proofs.SmallChanges.{NotBound, client_pushed, clients_changed, clients_filtered, exchanges_changed}
-use Rattle.pp_laws_bounds.proofs.SmallClients.{ask-small, close_client-small, decided-small, end_replies-small, hang_up-small, hear-small, regained-small, use_said-small}
+use Rattle.pp_laws_bounds.proofs.SmallClients.{ask-small, close_client-small, decided-small, end_replies-small, fill-small, hang_up-small, hear-small, regained-small, use_said-small}
 use Rattle.pp_laws_bounds.proofs.SmallDisk.{begin_in_opening-small, begin_in_turn-small, close_name-small, configured-small, end_op-small, load-small, lose_in_opening-small, note_gone-small, note_kept-small, opened_to-small, woken-small}
 use Rattle.pp_laws_bounds.proofs.SmallExchanges.{end_exchange-small, lose_attempt-small, on_client-small, on_conn-small}
 use Rattle.pp_laws_bounds.proofs.SmallPieces.{ended-small, got-small, plain}
@@ -170,7 +170,7 @@ dialled-small n host port p h = by_pause p.pause h (λ k e. h) (λ e. put_on-sma
 
 refused_dial-small : {a : As} (e : Exchange) (s : State) → Small a s → Small a (refused_dial e s)
 unfolding refused_dial
-refused_dial-small e s h = when (may_ask_again s e.number) h (end_exchange-small e.number _ (in_phase-small Following s refl h))
+refused_dial-small e s h = when (may_ask_again s e.number) h (fill-small _ (end_exchange-small e.number s h))
 
 undialled-small : {a : As} (p : Placement) → Small a p.state → Small a (undialled p)
 unfolding undialled

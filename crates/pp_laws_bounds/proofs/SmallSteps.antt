@@ -54,7 +54,7 @@ behind-small Handling s h = in_phase-small Evicting s refl h
 behind-small Evicting s h = give_up_asks-small _ (in_phase-small Keeping s refl h)
 behind-small Keeping s h = in_phase-small Deciding s refl h
 behind-small Deciding s h = in_phase-small Following s refl h
-behind-small Following s h = fill-small _ (drop_unseen-small _ (in_phase-small Connecting s refl h))
+behind-small Following s h = fill-small _ (give_up_asks-small _ (drop_unseen-small _ (in_phase-small Connecting s refl h)))
 behind-small Connecting s h = placing-small _ (in_phase-small DecidingAgain s refl h)
 behind-small DecidingAgain s h = h
 

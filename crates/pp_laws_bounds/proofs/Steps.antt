@@ -46,7 +46,7 @@ behind-kept Handling s h = in_phase-kept Evicting s refl h
 behind-kept Evicting s h = give_up_asks-kept _ (in_phase-kept Keeping s refl h)
 behind-kept Keeping s h = in_phase-kept Deciding s refl h
 behind-kept Deciding s h = in_phase-kept Following s refl h
-behind-kept Following s h = fill-kept _ (drop_unseen-kept _ (in_phase-kept Connecting s refl h))
+behind-kept Following s h = fill-kept _ (give_up_asks-kept _ (drop_unseen-kept _ (in_phase-kept Connecting s refl h)))
 behind-kept Connecting s h = placing-kept _ (in_phase-kept DecidingAgain s refl h)
 behind-kept DecidingAgain s h = h
 

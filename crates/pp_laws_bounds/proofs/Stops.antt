@@ -145,7 +145,7 @@ behind-stopped Handling s = refl
 behind-stopped Evicting s = give_up_asks-stopped (in_phase Keeping s)
 behind-stopped Keeping s = refl
 behind-stopped Deciding s = refl
-behind-stopped Following s = fill-stopped (drop_unseen (in_phase Connecting s)) ∙ drop_unseen-stopped (in_phase Connecting s)
+behind-stopped Following s = fill-stopped (give_up_asks (drop_unseen (in_phase Connecting s))) ∙ give_up_asks-stopped (drop_unseen (in_phase Connecting s)) ∙ drop_unseen-stopped (in_phase Connecting s)
 behind-stopped Connecting s = placing-stopped (in_phase DecidingAgain s)
 behind-stopped DecidingAgain s = refl
 

@@ -28,7 +28,7 @@ use Rattle.pp_law.specs.Store.{begin_in_turn, load, load_from, may_begin_in_turn
 use Rattle.pp_law.specs.Table.{kept_row, row}
 use Rattle.pp_laws_crash.proofs.Frames.{Kept, OwedIn, kept, kept_self, parts_of, recovers, takes_turns, when, each_of}
 use Rattle.pp_laws_crash.proofs.KeptTable.{close_client-kept, end_exchange-kept, forget-kept, lose_attempt-kept, note_use-kept, placing-kept, put_on-kept}
-use Rattle.pp_laws_crash.proofs.KeptExchanges.{got-kept}
+use Rattle.pp_laws_crash.proofs.KeptExchanges.{fill-kept, got-kept}
 use Rattle.pp_laws_crash.proofs.KeptTurns.{ask-kept, come_to-kept, come_to_decide-kept, deciding-kept, end_replies-kept, ending-kept, event-kept, evicted-kept, gone-kept, hang_up-kept, hear-kept, in_phase-kept, opened-kept, out-kept, owing-kept, paid-kept, reached-kept, refused_row-kept, rest_with-kept, said-kept, shut-kept, take_decision-kept, tick-kept}
 use Rattle.pp_laws_crash.proofs.Standing.{at_Awaiting, at_IsListening, at_DecidingAgain, at_Deciding, at_Keeping, at_Connecting, at_IsListed, at_IsWoken, at_IsConfigured, at_IsRooted, opening_still, turns_recover_not}
 use Rattle.pp_laws_crash.proofs.Begins.{not_true}
@@ -55,22 +55,22 @@ dialled-kept : {o : State} (n : ℕ) (host : Bytes) (port : ℕ) (s : State) →
 unfolding dialled
 dialled-kept n host port s h = dialled_at n host port (placing s).state (placing s).pause (placing-kept s h)
 
-refused_dial-kept : {o : State} (e : Exchange) (s : State) → recovers s.phase ≡ false → Kept o s → Kept o (refused_dial e s)
+refused_dial-kept : {o : State} (e : Exchange) (s : State) → Kept o s → Kept o (refused_dial e s)
 unfolding refused_dial
-refused_dial-kept e s was h = when (may_ask_again s e.number) h (end_exchange-kept e.number _ (in_phase-kept Following s refl refl was h))
+refused_dial-kept e s h = when (may_ask_again s e.number) h (fill-kept _ (end_exchange-kept e.number s h))
 
-undialled_at : {o : State} (s : State) (pause : Pause) → recovers o.phase ≡ false → Kept o s
+undialled_at : {o : State} (s : State) (pause : Pause) → Kept o s
     → Kept o (elim pause as (λ c. State) [ AllPlaced ↦ s | WaitsDrop k e ↦ s | WaitsDial e ↦ refused_dial e (lose_attempt e (record s { failures = s.failures + 1 })) ])
-undialled_at s AllPlaced was h = h
-undialled_at s (WaitsDrop k e) was h = h
-undialled_at {o} s (WaitsDial e) was h = refused_dial-kept e _ ((parts_of lost).recovers_is ∙ was) lost
+undialled_at s AllPlaced h = h
+undialled_at s (WaitsDrop k e) h = h
+undialled_at {o} s (WaitsDial e) h = refused_dial-kept e _ lost
   where
     lost : Kept o (lose_attempt e (record s { failures = s.failures + 1 }))
     lost = lose_attempt-kept e _ (kept (parts_of h))
 
-undialled-kept : {o : State} (s : State) → recovers o.phase ≡ false → Kept o s → Kept o (undialled (placing s))
+undialled-kept : {o : State} (s : State) → Kept o s → Kept o (undialled (placing s))
 unfolding undialled
-undialled-kept s was h = undialled_at (placing s).state (placing s).pause was (placing-kept s h)
+undialled-kept s h = undialled_at (placing s).state (placing s).pause (placing-kept s h)
 
 dropped-kept : {o : State} (n : ℕ) (s : State) → Kept o s → Kept o (dropped n s)
 unfolding dropped
@@ -325,9 +325,6 @@ ends_turns s owed may = ⊎_elim
     (λ (is : (not s.is_stopped && may_end s) ≡ true). come_from DecidingAgain s owed (ap recovers (at_DecidingAgain (come_to DecidingAgain s).phase (in_so s DecidingAgain (is_at DecidingAgain (come_to DecidingAgain s)) _ (second_holds (not s.is_stopped) _ is)))))
     (either_is (is_at IsListening s) _ may)
 
-dial_turns : (s : State) (host : Bytes) (port : ℕ) → permits_dial s host port ≡ true → recovers (come_to Connecting s).phase ≡ false
-dial_turns s host port may = ap recovers (at_Connecting (come_to Connecting s).phase (in_so s Connecting (is_at Connecting (come_to Connecting s)) _ may))
-
 taken_by : (s : State) (c i : ℕ) (d : Decision) (room : Bool) → (elim room as (λ x. Bool) [ true ↦ permits_taken s c i d && not (is_for_memory d) | false ↦ permits_taken s c i d ]) ≡ true → permits_taken s c i d ≡ true
 taken_by s c i d true is = first_holds (permits_taken s c i d) _ is
 taken_by s c i d false is = is
@@ -402,8 +399,7 @@ module _ (s : State) (owed : OwedIn s.phase s.owed) where
   changed_kept (Said c offered bytes) still is = paid-kept _ (said-kept c (length bytes) s self)
   changed_kept (Shut c) still is = shut-kept c _ (come_to-kept Connecting s self)
   changed_kept (Dialled n host port) still is = dialled-kept n host port (come_to Connecting s) (come_to-kept Connecting s self)
-  changed_kept (Undialled host port) still is =
-      undialled-kept (come_to Connecting s) (come_from Connecting s owed (dial_turns s host port (second_holds (may_fail s false) _ (permitted s (Undialled host port) refl is)))) (come_to-kept Connecting s self)
+  changed_kept (Undialled host port) still is = undialled-kept (come_to Connecting s) (come_to-kept Connecting s self)
   changed_kept (Reached k) still is = event-kept _ ((parts_of (reached-kept k s self)).recovers_is ∙ awaits s (first_holds (is_awaiting s) _ (permitted s (Reached k) refl is))) (reached-kept k s self)
   changed_kept (Ended k) still is = paid-kept _ (gone-kept true k s self)
   changed_kept (Broke k) still is = paid-kept _ (gone-kept false k _ (event-kept s (broke_turns s k owed (permitted s (Broke k) refl is)) self))

@@ -146,7 +146,7 @@ behind-kept Handling s is h = in_phase-kept Evicting s refl refl (ap recovers is
 behind-kept Evicting s is h = give_up_asks-kept _ (in_phase-kept Keeping s refl refl (ap recovers is) h)
 behind-kept Keeping s is h = in_phase-kept Deciding s refl refl (ap recovers is) h
 behind-kept Deciding s is h = in_phase-kept Following s refl refl (ap recovers is) h
-behind-kept Following s is h = fill-kept _ (drop_unseen-kept _ (in_phase-kept Connecting s refl refl (ap recovers is) h))
+behind-kept Following s is h = fill-kept _ (give_up_asks-kept _ (drop_unseen-kept _ (in_phase-kept Connecting s refl refl (ap recovers is) h)))
 behind-kept Connecting s is h = placing-kept _ (in_phase-kept DecidingAgain s refl refl (ap recovers is) h)
 behind-kept DecidingAgain s is h = h
 

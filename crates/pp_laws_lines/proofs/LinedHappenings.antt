@@ -34,7 +34,7 @@ use Rattle.pp_laws_passed.proofs.Same.{Same, alike, itself}
 use Rattle.pp_laws_passed.proofs.SameRows.{begin_in_opening-same, begin_in_turn-same, close_name-same, configured-same, drop_chunk-same, end_op-same, forget-same, load-same, lose_in_opening-same, note_gone-same, note_kept-same, opened_to-same}
 use Rattle.pp_laws_lines.proofs.Cases.{each_of, each_so, when}
 use Rattle.pp_laws_lines.proofs.Lined.{FactsOf, IsPlain, Lined, conn_added, conns_fewer, exchanges_changed, facts_of, lined, still}
-use Rattle.pp_laws_lines.proofs.LinedAsks.{Settles, close_client-lined, end_exchange-lined, lose_attempt-lined, on_client-lined, on_conn-lined, placing-lined, put_on-lined}
+use Rattle.pp_laws_lines.proofs.LinedAsks.{Settles, close_client-lined, end_exchange-lined, fill-lined, lose_attempt-lined, on_client-lined, on_conn-lined, placing-lined, put_on-lined}
 use Rattle.pp_laws_lines.proofs.LinedHeads.{ended-lined}
 use Rattle.pp_laws_lines.proofs.LinedReplies.{begin_replies-lined, decided-lined, end_replies-lined}
 use Rattle.pp_laws_lines.proofs.LinedTurns.{come_to-lined, come_to_decide-lined, deciding-lined, in_phase-lined, regained-lined, rest_with-lined, tick-lined, touch-lined, use_said-lined}
@@ -87,9 +87,9 @@ unread-lined : {b : Since} (name : Bytes) (s : State) → Lined b s → Lined b 
 unfolding unread
 unread-lined name s h = paid-lined _ (still (lose_in_opening-same name _ (close_name-same name s (itself s))) h)
 
-undialled-lined : {b : Since} (q : Placement) → Settles b q → Lined b (undialled q)
+undialled-lined : {b : Since} (q : Placement) → b.kept ≡ None → Settles b q → Lined b (undialled q)
 unfolding undialled refused_dial
-undialled-lined {b} q w = by q.pause refl
+undialled-lined {b} q none w = by q.pause refl
   where
     lost : (e : Exchange) → Lined b (lose_attempt e (record q.state { failures = q.state.failures + 1 }))
     lost e = lose_attempt-lined e _ (lined (facts_of w.state))
@@ -99,7 +99,7 @@ undialled-lined {b} q w = by q.pause refl
     by (WaitsDrop k e) is = w.state
     by (WaitsDial e) is =
         when (may_ask_again (lose_attempt e (record q.state { failures = q.state.failures + 1 })) e.number) (lost e)
-        (end_exchange-lined e.number _ (λ k i l. absurd (no_line_shrunk e.number (record q.state { failures = q.state.failures + 1 }) _ (lose_attempt-shrinks e (record q.state { failures = q.state.failures + 1 })) (w.dial e is).no_line k i l)) (lined (facts_of (lost e))))
+        (fill-lined _ none (end_exchange-lined e.number _ (λ k i l. absurd (no_line_shrunk e.number (record q.state { failures = q.state.failures + 1 }) _ (lose_attempt-shrinks e (record q.state { failures = q.state.failures + 1 })) (w.dial e is).no_line k i l)) (lost e)))
 
 out-lined : {b : Since} (n : ℕ) (s : State) → Lined b s → Lined b (out n s)
 unfolding out
@@ -274,7 +274,7 @@ changed-lined s (Shut c) nothing p low silent is h = shut-lined c _ (come_to-lin
 changed-lined s (Dialled m host port) nothing p low silent is h =
     let above : s.top < m = dialled_above s m host port is in
     dialled-lined m host port (placing (come_to Connecting s)) p (subst (λ n. n < m) (sym (placing-top (come_to Connecting s) ∙ come_to-top Connecting s)) above) (silent m above) (placing-lined _ p.kept (come_to-lined Connecting s p h))
-changed-lined s (Undialled host port) nothing p low silent is h = undialled-lined (placing (come_to Connecting s)) (placing-lined _ p.kept (come_to-lined Connecting s p h))
+changed-lined s (Undialled host port) nothing p low silent is h = undialled-lined (placing (come_to Connecting s)) p.kept (placing-lined _ p.kept (come_to-lined Connecting s p h))
 changed-lined s (Reached k) nothing p low silent is h = event-lined _ (reached-lined k s h)
 changed-lined s (Ended k) nothing p low silent is h = paid-lined _ (gone-lined true k s p h)
 changed-lined s (Broke k) nothing p low silent is h = paid-lined _ (gone-lined false k _ p (event-lined s h))

@@ -70,7 +70,7 @@ behind-lined Handling s p h = in_phase-lined Evicting s h
 behind-lined Evicting s p h = give_up_asks-lined _ (in_phase-lined Keeping s h)
 behind-lined Keeping s p h = in_phase-lined Deciding s h
 behind-lined Deciding s p h = in_phase-lined Following s h
-behind-lined Following s p h = fill-lined _ p.kept (drop_unseen-lined _ p (in_phase-lined Connecting s h))
+behind-lined Following s p h = fill-lined _ p.kept (give_up_asks-lined _ (drop_unseen-lined _ p (in_phase-lined Connecting s h)))
 behind-lined Connecting s p h = (placing-lined _ p.kept (in_phase-lined DecidingAgain s h)).state
 behind-lined DecidingAgain s p h = h
 

@@ -47,7 +47,7 @@ use Rattle.pp_laws_passed.specs.Passed.{IsShown, all_spelled, is_in_passed, IsFe
 use Rattle.pp_laws_passed.proofs.Delivered.{in_pipe, payload_grown}
 use Rattle.pp_laws_passed.proofs.Cases.{by_pause, each_of, each_so, when}
 use Rattle.pp_laws_passed.proofs.Fed.{AreAnswered, Fed, Feeds, Grows, Keeps, FactsOf, FromClient, Relays, SameClient, SameExchange, Tale, clients_changed, conn_added, conns_from, exchanges_changed, facts_across, facts_from, facts_of, fed, is_in_other, itself_client, itself_conn, itself_answer, itself_exchange, parts_across, parts_same, still}
-use Rattle.pp_laws_passed.proofs.FedAsks.{IsUnheaded, close_client-fed, end_exchange-fed, lose_attempt-fed, on_client-fed, on_client_of-fed, on_conn-fed, on_exchange-fed, placing-fed, put_on-fed, unplaced_unheaded}
+use Rattle.pp_laws_passed.proofs.FedAsks.{IsUnheaded, close_client-fed, end_exchange-fed, fill-fed, lose_attempt-fed, on_client-fed, on_client_of-fed, on_conn-fed, on_exchange-fed, placing-fed, put_on-fed, unplaced_unheaded}
 use Rattle.pp_laws_passed.proofs.FedHeads.{EndsWell, ended-fed, got-fed}
 use Rattle.pp_laws_passed.proofs.FedReplies.{IsFree, begin_replies-fed, decided-fed, end_replies-fed, heard_same, said_same}
 use Rattle.pp_laws_passed.proofs.FedTurns.{come_to-fed, come_to_decide-fed, deciding-fed, in_phase-fed, regained-fed, rest_with-fed, tick-fed, touch-fed, use_said-fed, use_said-same}
@@ -113,7 +113,7 @@ module _ {tale : Tale} where
 
   refused_dial-fed : (e : Exchange) (s : State) → Fed tale s → Fed tale (refused_dial e s)
   unfolding refused_dial
-  refused_dial-fed e s h = when (may_ask_again s e.number) h (end_exchange-fed e.number _ (in_phase-fed Following s h))
+  refused_dial-fed e s h = when (may_ask_again s e.number) h (fill-fed _ (end_exchange-fed e.number s h))
 
   undialled-fed : (p : Placement) → Fed tale p.state → Fed tale (undialled p)
   unfolding undialled

@@ -72,7 +72,7 @@ module _ {tale : Tale} where
   behind-fed Evicting s h = give_up_asks-fed _ (in_phase-fed Keeping s h)
   behind-fed Keeping s h = in_phase-fed Deciding s h
   behind-fed Deciding s h = in_phase-fed Following s h
-  behind-fed Following s h = fill-fed _ (drop_unseen-fed _ (in_phase-fed Connecting s h))
+  behind-fed Following s h = fill-fed _ (give_up_asks-fed _ (drop_unseen-fed _ (in_phase-fed Connecting s h)))
   behind-fed Connecting s h = placing-fed _ (in_phase-fed DecidingAgain s h)
   behind-fed DecidingAgain s h = h
 

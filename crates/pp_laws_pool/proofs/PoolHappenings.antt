@@ -28,6 +28,7 @@ use Rattle.pp_law.specs.Opening.{are_texts, begun, configured, is_at, is_opening
 use Rattle.pp_law.specs.Entries.{entries_in}
 use Rattle.pp_law.specs.Repairs.{begin_in_opening, may_begin_in_opening}
 use Rattle.pp_law.specs.Permits.{has_conn, is_new_number, is_permitted, IsPermitted, may_cut, may_dial, may_drop, may_evict, may_open, may_shut, may_take, may_wait, permits, permits_dial, permits_noted, permits_taken}
+use Rattle.pp_law.specs.Followers.{fill}
 use Rattle.pp_law.specs.Phases.{phases, in_phase, is_awaiting, is_done, is_done_with, is_free, next, passed, come, come_to, come_to_decide, decides, deciding, due_victim, ending, may_decide, may_end, may_in}
 use Rattle.pp_law.specs.Replies.{begin_replies, said_by, end_replies}
 use Rattle.pp_law.specs.Responses.{got}
@@ -50,7 +51,7 @@ use Rattle.pp_laws_pool.proofs.PoolLoads.{loaded_inv}
 use Rattle.pp_laws_pool.proofs.PoolTurns.{Inv, Keeps, Loaded, Quiet, Went, Where, as_phase, at_phase, come_to-went, come_to_decide-went, free_at, handled, in_owed, is_busy, moved_to, rephased, rests, stays, works}
 use Rattle.pp_laws_pool.proofs.View.{View, Walk, Holds, holds, facts_of, view}
 use Rattle.pp_laws_pool.proofs.WalkCases.{by_pause, each_of, each_so, when}
-use Rattle.pp_laws_pool.proofs.WalkClients.{ask-keeps, begin_replies-keeps, close_client-keeps, decided-keeps, end_replies-keeps, hang_up-keeps, hear-keeps, regained-keeps, use_said-keeps}
+use Rattle.pp_laws_pool.proofs.WalkClients.{ask-keeps, begin_replies-keeps, close_client-keeps, decided-keeps, end_replies-keeps, fill-keeps, hang_up-keeps, hear-keeps, regained-keeps, use_said-keeps}
 use Rattle.pp_laws_pool.proofs.WalkDisk.{begin_in_opening-keeps, begin_in_turn-keeps, close_name-keeps, end_op-keeps, lose_in_opening-keeps, note_gone-keeps, note_kept-keeps}
 use Rattle.pp_laws_pool.proofs.WalkExchanges.{clients_changed-keeps, end_exchange-keeps, lose_attempt-keeps, on_client-keeps, on_conn-keeps, same_conn}
 use Rattle.pp_laws_pool.proofs.WalkPieces.{ended-keeps}
@@ -289,9 +290,9 @@ undialled-late s l = pausing (placing s).pause
     lost_held : (e : Exchange) → Holds (Pool a) (lost e)
     lost_held e = lose_attempt-keeps (pool_walk a) e _ (holds (facts_of put))
 
-    refused : (e : Exchange) (t : Bool) → Quiet (elim t as (λ c. State) [ true ↦ lost e | false ↦ end_exchange e.number (in_phase Following (lost e)) ])
+    refused : (e : Exchange) (t : Bool) → Quiet (elim t as (λ c. State) [ true ↦ lost e | false ↦ fill (end_exchange e.number (lost e)) ])
     refused e true = rests l.settings Connecting l.most _ l.marked l.few (λ is. absurd (cc is)) (lost_held e)
-    refused e false = rests l.settings Following l.most _ l.marked l.few (λ is. absurd (cc is)) (end_exchange-keeps (pool_walk (Where l.settings Following Free l.most)) e.number _ (moved_to l.settings Connecting Following Free l.most (lost e) (lost_held e)))
+    refused e false = rests l.settings Connecting l.most _ l.marked l.few (λ is. absurd (cc is)) (fill-keeps (pool_walk a) (pool_begins a) _ (end_exchange-keeps (pool_walk a) e.number _ (lost_held e)))
 
     pausing : (p : Pause) → Quiet (elim p as (λ c. State) [ AllPlaced ↦ (placing s).state | WaitsDrop k e ↦ (placing s).state | WaitsDial e ↦ refused_dial e (lost e) ])
     pausing AllPlaced = put_quiet

@@ -251,7 +251,8 @@ next_went s done w = by s.phase refl done
     by Following is d =
         let a : As = Where i.settings Connecting Free i.most in
         settled i.settings Connecting i.most _ refl refl i.marked (few Following is refl)
-        (fill-keeps (pool_walk a) (pool_begins a) _ (drop_unseen-keeps (pool_walk a) _ (moved_to i.settings Following Connecting Free i.most s (known_free Following is (λ e. absurd (cc e))))))
+        (fill-keeps (pool_walk a) (pool_begins a) _
+        (give_up_asks-keeps (pool_walk a) _ (drop_unseen-keeps (pool_walk a) _ (moved_to i.settings Following Connecting Free i.most s (known_free Following is (λ e. absurd (cc e)))))))
     by Connecting is d =
         settled i.settings DecidingAgain i.most _ refl refl i.marked (few Connecting is refl)
         (placing-keeps (pool_places (Where i.settings DecidingAgain Free i.most) refl) _ (moved_to i.settings Connecting DecidingAgain Free i.most s (known_free Connecting is (λ e. absurd (cc e)))))

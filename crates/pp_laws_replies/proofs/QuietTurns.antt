@@ -47,7 +47,7 @@ behind-quiet Handling s h = in_phase-quiet Evicting s h
 behind-quiet Evicting s h = give_up_asks-quiet _ (in_phase-quiet Keeping s h)
 behind-quiet Keeping s h = in_phase-quiet Deciding s h
 behind-quiet Deciding s h = in_phase-quiet Following s h
-behind-quiet Following s h = fill-quiet _ (drop_unseen-quiet _ (in_phase-quiet Connecting s h))
+behind-quiet Following s h = fill-quiet _ (give_up_asks-quiet _ (drop_unseen-quiet _ (in_phase-quiet Connecting s h)))
 behind-quiet Connecting s h = placing-quiet _ (in_phase-quiet DecidingAgain s h)
 behind-quiet DecidingAgain s h = h
 

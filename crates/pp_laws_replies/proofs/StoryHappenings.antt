@@ -48,7 +48,7 @@ use Rattle.pp_laws.proofs.Tops.{come_to-top}
 use Rattle.pp_laws_replies.specs.Replies.{before, RepliesInOrder}
 use Rattle.pp_laws_replies.proofs.Cases.{by_pause, each_of, when}
 use Rattle.pp_laws_replies.proofs.Quiet.{clients_changed_in, Quiet, Quietly, clients_changed, facts_of, old_row, quiet_same, quietly}
-use Rattle.pp_laws_replies.proofs.QuietAsks.{close_client-quiet, end_exchange-quiet, lose_attempt-quiet, on_client-quiet, on_conn-quiet, on_exchange-quiet, parts_same, placing-quiet, put_on-quiet}
+use Rattle.pp_laws_replies.proofs.QuietAsks.{close_client-quiet, end_exchange-quiet, fill-quiet, lose_attempt-quiet, on_client-quiet, on_conn-quiet, on_exchange-quiet, parts_same, placing-quiet, put_on-quiet}
 use Rattle.pp_laws_replies.proofs.QuietHeads.{ended-quiet, got-quiet}
 use Rattle.pp_laws_replies.proofs.QuietRows.{begin_in_opening-quiet, begin_in_turn-quiet, close_name-quiet, configured-quiet, drop_chunk-quiet, end_op-quiet, forget-quiet, load-quiet, lose_in_opening-quiet, note_gone-quiet, note_kept-quiet, opened_to-quiet}
 use Rattle.pp_laws_replies.proofs.QuietTurns.{come_to-quiet, come_to_decide-quiet, deciding-quiet, in_phase-quiet, regained-quiet, rest_with-quiet, tick-quiet, touch-quiet, use_said-quiet}
@@ -111,7 +111,7 @@ unread-quiet name s h = paid-quiet _ (lose_in_opening-quiet name _ (close_name-q
 
 refused_dial-quiet : {o : State} (e : Exchange) (s : State) → Quietly o s → Quietly o (refused_dial e s)
 unfolding refused_dial
-refused_dial-quiet e s h = when (may_ask_again s e.number) h (end_exchange-quiet e.number _ (in_phase-quiet Following s h))
+refused_dial-quiet e s h = when (may_ask_again s e.number) h (fill-quiet _ (end_exchange-quiet e.number s h))
 
 undialled-quiet : {o : State} (p : Placement) → Quietly o p.state → Quietly o (undialled p)
 unfolding undialled

@@ -64,7 +64,7 @@ module _ (total : ℕ → Bytes) (asked : ℕ → Exchange → Type 0) (firsts :
   behind-rests Evicting s h = give_up_asks-keeps steps _ (holds (facts_of h))
   behind-rests Keeping s h = holds (facts_of h)
   behind-rests Deciding s h = holds (facts_of h)
-  behind-rests Following s h = fill-keeps steps (rests_begin total asked firsts) _ (drop_unseen-keeps steps _ (holds (facts_of h)))
+  behind-rests Following s h = fill-keeps steps (rests_begin total asked firsts) _ (give_up_asks-keeps steps _ (drop_unseen-keeps steps _ (holds (facts_of h))))
   behind-rests Connecting s h = placing-keeps (rests_place total asked firsts) _ (holds (facts_of h))
   behind-rests DecidingAgain s h = h
 
@@ -203,7 +203,7 @@ module _ (total : ℕ → Bytes) (asked : ℕ → Exchange → Type 0) (firsts :
       lost e = lose_attempt-keeps steps e _ (holds (facts_of h))
 
       refused : (e : Exchange) → Holds P (lose_attempt e (record p.state { failures = p.state.failures + 1 })) → Holds P (refused_dial e (lose_attempt e (record p.state { failures = p.state.failures + 1 })))
-      refused e g = when (may_ask_again (lose_attempt e (record p.state { failures = p.state.failures + 1 })) e.number) g (end_exchange-keeps steps e.number _ (holds (facts_of g)))
+      refused e g = when (may_ask_again (lose_attempt e (record p.state { failures = p.state.failures + 1 })) e.number) g (fill-keeps steps (rests_begin total asked firsts) _ (end_exchange-keeps steps e.number _ g))
 
   -- ---- all
 

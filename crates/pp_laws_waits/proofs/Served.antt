@@ -9,20 +9,17 @@ use Rattle.pp_text.specs.Bytes.{is_empty}
 use Rattle.pp_world.specs.Log.{Log}
 use Rattle.pp_world.specs.declared.event.Wants.{Wants}
 use Rattle.pp_world.specs.declared.happening.Happening.TheVariants.{Waits}
-use Rattle.pp_world.specs.declared.note.Decision.{Decision}
-use Rattle.pp_world.specs.declared.note.Decision.TheVariants.{Refuse}
 use Rattle.pp_law.specs.After.{after}
 use Rattle.pp_law.specs.Asking.{body_heard, left_to_ask}
 use Rattle.pp_law.specs.Connections.{exchange, front_of_line, is_for, is_outstanding, place_for}
-use Rattle.pp_law.specs.Decisions.{decide, decide_head}
 use Rattle.pp_law.specs.Lawful.{LawfulFrom}
 use Rattle.pp_law.specs.Lists.{Bytes, is_some_with}
 use Rattle.pp_law.specs.Offers.{has_to_say}
 use Rattle.pp_law.specs.Permits.{is_permitted, IsPermitted, permits, may_wait}
 use Rattle.pp_law.specs.Phases.{ending}
-use Rattle.pp_law.specs.Requests.{Front, NoHeadYet, NoHead, IsRequest, has_request, key_in}
+use Rattle.pp_law.specs.Requests.{has_request, key_in}
 use Rattle.pp_law.specs.Served.{duties, has_full_pipe, has_to_ask, is_client_served, is_conn_served, is_exchange_served, is_furthest, is_held_back, is_nowhere, is_served, is_stopped, is_waiting, reads_first, reads_rightly, same, waits_for_body, wants_no_more, wants_read, wants_write}
-use Rattle.pp_law.specs.Sharing.{due_first, due_undecided, is_awaited, is_patient, is_shared, is_sharing, may_share, shared_ask}
+use Rattle.pp_law.specs.Sharing.{has_shared_ask, is_awaited, is_patient, is_shared, is_sharing, shared_ask}
 use Rattle.pp_law.specs.Stages.{is_headed, is_own, is_undecided}
 use Rattle.pp_law.specs.State.{State, Aim, Through, Own, Filling, Shared, Client, Conn, Exchange, Stage, Undecided, Waiting, Passing, Answering}
 use Rattle.pp_law.specs.Table.{Next, brings, next_of}
@@ -96,15 +93,6 @@ own_or_next s c e is = by (next_of s c) refl is
     by None none at = its_own at
     by (Some n) some at = its_next (record { next = n; follows = some; comes = at })
 
--- who has a request is decided for
-decided_for : (s : State) (c : Client) → has_request c.front ≡ true → decide s c ≡ None → ⊥
-decided_for s c has none = by c.front has none
-  where
-    by : (f : Front) → has_request f ≡ true → (elim f as (λ x. Option Decision) [ NoHeadYet ↦ None | NoHead status ↦ Some (Refuse status) | IsRequest r ↦ Some (decide_head s c r) ]) ≡ None → ⊥
-    by NoHeadYet at is = cc at
-    by (NoHead status) at is = cc is
-    by (IsRequest r) at is = cc is
-
 first_of_three : (a b c : Bool) → (not a && b && c) ≡ true → a ≡ false
 first_of_three true b c is = absurd (cc is)
 first_of_three false b c is = refl
@@ -126,45 +114,18 @@ shared_by_key s c (Some key) some is = by (find (is_shared (text_of key)) s.exch
     by None found at = absurd (cc at)
     by (Some e) found at = let w = in_find (is_shared (text_of key)) e s.exchanges found in (e, w.0, (not_headed (text_of key) e w.1, inr (key, some, w.1)))
 
-shared_first : (s : State) (c : Client) (d : Decision) → due_first s c d ≡ None → IsSharedThere s c
-shared_first s c d is = shared_by_key s c (key_in c.front) refl (by (s.settings.shares_fetches && may_share d && is_some (shared_ask s c)) refl is)
-  where
-    by : (t : Bool) → (s.settings.shares_fetches && may_share d && is_some (shared_ask s c)) ≡ t → (elim t as (λ x. Option Decision) [ true ↦ None | false ↦ Some d ]) ≡ None → is_some (shared_ask s c) ≡ true
-    by true holds at = grind arith
-    by false isnt at = absurd (cc at)
-
 shared_awaited : (s : State) (c : Client) (w : Shared) → c.waits_on ≡ Some w → is_awaited s w.exchange ≡ true → IsSharedThere s c
 unfolding IsSharedThere
 shared_awaited s c w waits_on is =
     let r = any_in (λ e. (e.number == w.exchange) && not (is_headed e)) s.exchanges is in
     (r.0, r.1, (not_true (is_headed r.0) (second_holds (r.0.number == w.exchange) (not (is_headed r.0)) r.2), inl (w, waits_on, same_number r.0.number w.exchange (first_holds (r.0.number == w.exchange) (not (is_headed r.0)) r.2))))
 
-shared_undecided : (s : State) (c : Client) → has_request c.front ≡ true → due_undecided s c ≡ None → IsSharedThere s c
-shared_undecided s c has none = by c.waits_on refl none
-  where
-    decided : (o : Option Decision) → decide s c ≡ o → (elim o as (λ x. Option Decision) [ None ↦ None | Some d ↦ due_first s c d ]) ≡ None → IsSharedThere s c
-    decided None is at = absurd (decided_for s c has is)
-    decided (Some d) is at = shared_first s c d at
-
-    patient : (w : Shared) → c.waits_on ≡ Some w → (t : Bool) → is_patient s w ≡ t → (elim t as (λ x. Option Decision) [ true ↦ None | false ↦ decide s c ]) ≡ None → IsSharedThere s c
-    patient w waits_on true is at = shared_awaited s c w waits_on (first_holds (is_awaited s w.exchange) _ is)
-    patient w waits_on false is at = absurd (decided_for s c has at)
-
-    by : (o : Option Shared) → c.waits_on ≡ o → (elim o as (λ x. Option Decision) [
-      | Some w ↦ elim (is_patient s w) as (λ x. Option Decision) [ true ↦ None | false ↦ decide s c ]
-      | None ↦ elim (decide s c) as (λ x. Option Decision) [ None ↦ None | Some d ↦ due_first s c d ]
-    ]) ≡ None → IsSharedThere s c
-    by None is at = decided (decide s c) refl at
-    by (Some w) is at = patient w is (is_patient s w) refl at
-
-nothing_due : (o : Option Decision) → not (is_some o) ≡ true → o ≡ None
-nothing_due None is = refl
-nothing_due (Some d) is = absurd (cc is)
-
 shared_there : (s : State) (c : Client) → is_sharing s c ≡ true → IsSharedThere s c
-shared_there s c is =
-    let both = (chosen (is_undecided c.stage) _ is).1 in
-    shared_undecided s c (first_holds (has_request c.front) (not (is_some (due_undecided s c))) both) (nothing_due (due_undecided s c) (second_holds (has_request c.front) (not (is_some (due_undecided s c))) both))
+shared_there s c is = by c.waits_on refl (second_holds (has_request c.front) (has_shared_ask s c) (chosen (is_undecided c.stage) _ is).1)
+  where
+    by : (o : Option Shared) → c.waits_on ≡ o → (elim o as (λ x. Bool) [ Some w ↦ is_patient s w | None ↦ is_some (shared_ask s c) ]) ≡ true → IsSharedThere s c
+    by None none at = shared_by_key s c (key_in c.front) refl at
+    by (Some w) some at = shared_awaited s c w some (first_holds (is_awaited s w.exchange) _ at)
 
 for_exchange : (s : State) (w : Wants) (c : Client) → waits_for_exchange s c ≡ true → IsServed s w c
 unfolding IsSharedThere

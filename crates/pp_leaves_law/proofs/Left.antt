@@ -31,11 +31,11 @@ use Rattle.pp_states_law.proofs.Asked.{all_as, frames, itself}
 use Rattle.pp_states_law.proofs.Framed.{states}
 use Rattle.pp_states_law.specs.Asks.{IsAskedAs}
 use Rattle.pp_steps.proofs.EvictingLemmas.{still_there}
-use Rattle.pp_steps.specs.Bodies.{IsButForCells}
-use Rattle.pp_steps.specs.Ends.{AreInOrder, Parts, numbers_of, parts}
+use Rattle.pp_state.specs.Bodies.{IsButForCells}
+use Rattle.pp_state.specs.Ends.{AreInOrder, Parts, numbers_of, parts}
 use Rattle.pp_steps.specs.Evicting.{all_victims, evicted_note, evicted_notes, forgotten_notes, leaving_chunks, leaving_notes, left_memory, without_all}
-use Rattle.pp_steps.specs.Pins.{pins}
-use Rattle.pp_steps.specs.declared.state.State.{State as Steps}
+use Rattle.pp_state.specs.Pins.{pins}
+use Rattle.pp_state.specs.declared.state.State.{State as Steps}
 use Rattle.pp_steps_law.proofs.Told.{are_told_on}
 use Rattle.pp_steps_law.specs.Steps.{ShowsSteps, whole}
 use Rattle.pp_steps_law.specs.Told.{AreTold}

@@ -33,8 +33,8 @@ use Rattle.pp_seats_law.specs.Clients.{AreShown}
 use Rattle.pp_seats_law.specs.Exchanges.{ShowsBound, ShowsExchange}
 use Rattle.pp_seats_law.specs.Seats.{ShowsSeat}
 use Rattle.pp_seats_law.specs.Words.{HasSource, ShowsNext}
-use Rattle.pp_steps.specs.Ends.{Parts, parts}
-use Rattle.pp_steps.specs.Pins.{busy_row, chunk_at, exchanges_of, pin_of_entry, pin_of_next, pin_of_seat, pin_of_span}
+use Rattle.pp_state.specs.Ends.{Parts, parts}
+use Rattle.pp_state.specs.Pins.{busy_row, chunk_at, exchanges_of, pin_of_entry, pin_of_next, pin_of_seat, pin_of_span}
 use Rattle.pp_steps_law.proofs.Told.{told_of}
 use Rattle.pp_steps_law.specs.Steps.{ShowsSteps}
 use Rattle.pp_steps_law.specs.Told.{IsTold, IsToldBy}

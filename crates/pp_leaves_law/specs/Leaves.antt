@@ -9,11 +9,11 @@ use Rattle.pp_law.specs.State.{State, Evicting}
 use Rattle.pp_law.specs.Table.{pins as pins_by}
 use Rattle.pp_obeys.specs.Obeys.{Keeps}
 use Rattle.pp_peers.specs.declared.peers.Peer.{Peer}
-use Rattle.pp_steps.specs.Bodies.{IsButForCells}
-use Rattle.pp_steps.specs.Ends.{parts}
+use Rattle.pp_state.specs.Bodies.{IsButForCells}
+use Rattle.pp_state.specs.Ends.{parts}
 use Rattle.pp_steps.specs.Evicting.{leaving_notes, left_memory}
-use Rattle.pp_steps.specs.Pins.{pins}
-use Rattle.pp_steps.specs.declared.state.State.{State as Steps}
+use Rattle.pp_state.specs.Pins.{pins}
+use Rattle.pp_state.specs.declared.state.State.{State as Steps}
 use Rattle.pp_steps_law.specs.Steps.{ShowsSteps}
 use Rattle.pp_world.specs.Log.{AppendsAll, Log}
 

@@ -9,9 +9,9 @@ use Rattle.pp_law.specs.State.{State}
 use Rattle.pp_law.specs.Table.{pins as pins_by}
 use Rattle.pp_seats.specs.Follows.{next_of}
 use Rattle.pp_seats.specs.declared.seat.Seat.{Seat}
-use Rattle.pp_steps.specs.Ends.{parts}
-use Rattle.pp_steps.specs.Pins.{busy_row, busy_rows, exchanges_of, pin_of_entry, pin_of_seat, pins}
-use Rattle.pp_steps.specs.declared.state.State.{State as Steps}
+use Rattle.pp_state.specs.Ends.{parts}
+use Rattle.pp_state.specs.Pins.{busy_row, busy_rows, exchanges_of, pin_of_entry, pin_of_seat, pins}
+use Rattle.pp_state.specs.declared.state.State.{State as Steps}
 use Rattle.pp_steps_law.specs.Steps.{OfSteps}
 
 -- the next byte of each client is in a chunk that the pool can number

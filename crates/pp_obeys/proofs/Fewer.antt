@@ -218,7 +218,7 @@ behind-fewer Handling s h = in_phase-fewer Evicting s h
 behind-fewer Evicting s h = give_up_asks-fewer _ (in_phase-fewer Keeping s h)
 behind-fewer Keeping s h = in_phase-fewer Deciding s h
 behind-fewer Deciding s h = in_phase-fewer Following s h
-behind-fewer Following s h = fill-fewer _ (drop_unseen-fewer _ (in_phase-fewer Connecting s h))
+behind-fewer Following s h = fill-fewer _ (give_up_asks-fewer _ (drop_unseen-fewer _ (in_phase-fewer Connecting s h)))
 behind-fewer Connecting s h = placing-fewer _ (in_phase-fewer DecidingAgain s h)
 behind-fewer DecidingAgain s h = h
 

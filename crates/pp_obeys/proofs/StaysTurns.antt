@@ -130,8 +130,8 @@ unphased o = record o { phase = Before }
 pub give_up_asks-frame : (all : Bool) (s : State) → frame all (give_up_asks s) ≡ frame all s
 give_up_asks-frame all s = frame_of (give_up_asks-stays s (stays refl))
 
-pub followed-frame : (all : Bool) (s : State) → frame all (fill (drop_unseen s)) ≡ frame all s
-followed-frame all s = frame_of (fill-stays _ (drop_unseen-stays s (stays refl)))
+pub followed-frame : (all : Bool) (s : State) → frame all (fill (give_up_asks (drop_unseen s))) ≡ frame all s
+followed-frame all s = frame_of (fill-stays _ (give_up_asks-stays _ (drop_unseen-stays s (stays refl))))
 
 pub placing-frame : (all : Bool) (s : State) → frame all (placing s).state ≡ frame all s
 placing-frame all s = frame_of (placing-stays s (stays refl))

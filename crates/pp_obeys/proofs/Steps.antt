@@ -17,6 +17,7 @@ use Rattle.pp_world.specs.declared.op.DiskOp.{DiskOp}
 use Rattle.pp_law.specs.After.{after, begun_op, changed, dialled, dropped, ended_op, event, forgotten_by, leave_memory, new_conn, noted, opened, out, owing, paid, refused_dial, take_decision, undialled, unread}
 use Rattle.pp_law.specs.Asking.{is_reading, is_writing, is_read, read_limit}
 use Rattle.pp_law.specs.Chunks.{note_use}
+use Rattle.pp_law.specs.Followers.{fill}
 use Rattle.pp_law.specs.Connections.{client, conn, end_exchange, lose_attempt, may_ask_again, on_client, on_conn, on_exchange, placing, put_on, Placement, Pause, AllPlaced, WaitsDial, WaitsDrop}
 use Rattle.pp_law.specs.Deciding.{decided}
 use Rattle.pp_law.specs.Leaving.{Leaving, ForAnother, ForMemory, BeforeDecision, leaving_as}
@@ -37,9 +38,9 @@ use Rattle.pp_obeys.proofs.Come.{skip}
 use Rattle.pp_obeys.proofs.Frames.{Frame, frame, Stays, frame_of, stays}
 use Rattle.pp_obeys.proofs.Settled.{AtRest, Settled, at_phase, come_at, come_to-settled, come_to_decide-settled, owed_owes, quiet_as, quiet_at, quiet_by, quiet_decides, quiet_in, reading_owes, rest_as, rest_owing, rest_so, settled_as, settled_quiet, settled_working, working, works, writing_owes}
 use Rattle.pp_obeys.proofs.Silent.{IsQuiet}
-use Rattle.pp_obeys.proofs.StaysAsks.{decided-stays}
+use Rattle.pp_obeys.proofs.StaysAsks.{decided-stays, fill-stays}
 use Rattle.pp_obeys.proofs.StaysResponses.{got-stays}
-use Rattle.pp_obeys.proofs.StaysTable.{close_client-stays, forget-stays, lose_attempt-stays}
+use Rattle.pp_obeys.proofs.StaysTable.{close_client-stays, end_exchange-stays, forget-stays, lose_attempt-stays}
 use Rattle.pp_obeys.proofs.StaysTurns.{ask-stays, come_to-frame, come_to_decide-frame, deciding-frame, end_replies-stays, ending-frame, evicted-stays, gone-stays, hang_up-stays, hear-stays, out-stays, placing-frame, reached-stays, refused_row-stays, said-stays, shut-stays, tick-frame, unphased, untimed}
 
 -- ---- the same life
@@ -334,13 +335,16 @@ dialled_step s n host port may h =
     then_step (connecting_life s) (then_step (placed_life (come_to Connecting s)) (dial_step n host port (placing (come_to Connecting s)) (placed_quiet (come_to Connecting s) q)))
 
 refused_step : (e : Exchange) (s : State) → IsQuiet s → Step s (refused_dial e s) false
-unfolding refused_dial end_exchange
+unfolding refused_dial
 refused_step e s q = by (may_ask_again s e.number)
   where
-    over : Step s (end_exchange e.number (in_phase Following s)) false
-    over = quiet_step (record { free = q.free; idle = q.idle; nothing = q.nothing }) (record { failures = refl; term = refl })
+    is : frame false (fill (end_exchange e.number s)) ≡ frame false s
+    is = same s _ (fill-stays _ (end_exchange-stays e.number s (stays refl)))
 
-    by : (again : Bool) → Step s (elim again as (λ c. State) [ true ↦ s | false ↦ end_exchange e.number (in_phase Following s) ]) false
+    over : Step s (fill (end_exchange e.number s)) false
+    over = quiet_step (quiet_as is q) (life_as is)
+
+    by : (again : Bool) → Step s (elim again as (λ c. State) [ true ↦ s | false ↦ fill (end_exchange e.number s) ]) false
     by true = quiet_step q (same_life s)
     by false = over
 

@@ -1,15 +1,2 @@
-pub mod AccessLemmas
-pub mod AwaitedLemmas
-pub mod ClosingLemmas
-pub mod DiskLemmas
-pub mod HeadLimits
-pub mod OriginLemmas
-pub mod PeersLemmas
-pub mod PlaceLemmas
-pub mod PlacingLemmas
-pub mod ReplyLemmas
-pub mod RestLemmas
-pub mod ShuttingLemmas
 pub mod TakingLemmas
-pub mod TalkingLemmas
 pub mod TickLemmas

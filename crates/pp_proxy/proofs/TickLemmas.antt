@@ -2,16 +2,17 @@
 use Rattle.std.proofs.Common.{◌≡◌, ◌≤◌, ℕ, Bool, true, false, List, length, map, vec_capacity, refl, sym, ◌∙◌, ap, subst, arith}
 use Rattle.std.proofs.lemmas.List.{length-map}
 use Rattle.pp_peers.specs.declared.peers.Peer.{Peer}
-use Rattle.pp_proxy.specs.Closings.{KeepsDesk, Sides, sides}
-use Rattle.pp_proxy.specs.Marks.{marked_peers, marked_seat, marked_seats, ticked}
-use Rattle.pp_proxy.specs.Origins.{without_idle}
-use Rattle.pp_proxy.specs.declared.desk.Desk.{Desk}
+use Rattle.pp_desk.specs.Closings.{KeepsDesk, Sides, sides}
+use Rattle.pp_desk.specs.Marks.{marked_peers, marked_seat, marked_seats, ticked}
+use Rattle.pp_desk.specs.Origins.{without_idle}
+use Rattle.pp_desk.specs.declared.desk.Desk.{Desk}
 use Rattle.pp_seats.specs.declared.seat.Seat.{Seat}
-use Rattle.pp_steps.specs.Ends.{AreInOrder, AreSeated, Parts, numbers_of, parts}
-use Rattle.pp_steps.specs.Patience.{is_leap}
-use Rattle.pp_steps.specs.Waits.{is_waiting, places, woken_by, woken_seat}
-use Rattle.pp_steps.specs.declared.state.State.{State}
-use Rattle.pp_steps.proofs.SeatsLemmas.{mapped_numbers}
+use Rattle.pp_state.specs.Ends.{AreInOrder, AreSeated, Parts, numbers_of, parts}
+use Rattle.pp_decide.specs.Patience.{is_leap}
+use Rattle.pp_due.specs.Waits.{is_waiting, woken_by, woken_seat}
+use Rattle.pp_state.specs.Numbers.{places}
+use Rattle.pp_state.specs.declared.state.State.{State}
+use Rattle.pp_state.proofs.SeatsLemmas.{mapped_numbers}
 
 -- ---- clients keep their numbers, and are as many
 

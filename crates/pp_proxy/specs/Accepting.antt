@@ -1,13 +1,13 @@
 -- A client has come: it has a seat, the last, or is turned away (ours).
 use Rattle.std.specs.Prelude.{◌≡◌, ◌<◌, ◌⊎◌, ℕ, Bool, cond, [], ◌∷◌, ◌++◌, length, vec_capacity, Some}
 use Rattle.pp_client.specs.Clients.{new_client}
-use Rattle.pp_proxy.specs.declared.desk.Desk.{Desk}
+use Rattle.pp_desk.specs.declared.desk.Desk.{Desk}
 use Rattle.pp_seats.specs.Seats.{new_seat}
 use Rattle.pp_seats.specs.declared.account.Account.{Account}
 use Rattle.pp_seats.specs.declared.account.Account.TheVariants.{Unkept, Due}
 use Rattle.pp_seats.specs.declared.seat.Seat.{Seat}
-use Rattle.pp_steps.specs.Ends.{AreInOrder}
-use Rattle.pp_steps.specs.Waits.{with_number}
+use Rattle.pp_state.specs.Ends.{AreInOrder}
+use Rattle.pp_state.specs.Numbers.{with_number}
 use Rattle.pp_world.specs.declared.access.Source.TheVariants.{Hit}
 
 -- an account is kept of its replies where the operator keeps a log of them

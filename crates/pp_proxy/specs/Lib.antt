@@ -1,17 +1,3 @@
 pub mod Accepting
-pub mod Anything
-pub mod Around
-pub mod Asked
-pub mod Awaited
-pub mod Closings
-pub mod Kept
-pub mod Marks
-pub mod Origins
-pub mod Placing
-pub mod Replies
-pub mod Responses
-pub mod Rests
-pub mod Shutting
 pub mod Taking
-pub mod Talking
 pub mod Turns

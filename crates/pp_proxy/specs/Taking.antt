@@ -1,13 +1,13 @@
 -- What is due to a client is taken: a decision, or a cut (RFC 2616, section 8.1; the order is ours).
 use Rattle.std.specs.Prelude.{◌≡◌, ℕ, List, [], ◌∷◌, ◌++◌, slice_get, Option, Some, None, option_map}
-use Rattle.pp_proxy.specs.Closings.{closed_client, sides}
-use Rattle.pp_proxy.specs.declared.desk.Desk.{Desk}
+use Rattle.pp_desk.specs.Closings.{closed_client, sides}
+use Rattle.pp_desk.specs.declared.desk.Desk.{Desk}
 use Rattle.pp_seats.specs.declared.due.Due.{Due}
 use Rattle.pp_seats.specs.declared.due.Due.TheVariants.{Decide, CutOff}
-use Rattle.pp_steps.specs.Deciding.{Takes, afforded}
-use Rattle.pp_steps.specs.Ends.{Parts, all_regained, parts}
+use Rattle.pp_take.specs.Deciding.{Takes, afforded}
+use Rattle.pp_state.specs.Ends.{Parts, all_regained, parts}
 use Rattle.pp_steps.specs.Evicting.{given_way, row_in_way, row_notes}
-use Rattle.pp_steps.specs.declared.state.State.{State}
+use Rattle.pp_state.specs.declared.state.State.{State}
 use Rattle.pp_world.specs.Log.{Log}
 use Rattle.pp_world.specs.declared.happening.Happening.TheVariants.{Noted}
 use Rattle.pp_world.specs.declared.note.Decision.{Decision}

@@ -10,7 +10,7 @@ use Rattle.pp_world.proofs.CallLemmas.{rises_earlier, rises_later}
 use Rattle.pp_gate.proofs.Views.{view_of-append}
 use Rattle.pp_links.specs.Quiet.{GrowsBy}
 use Rattle.pp_shelf.specs.Steady.{IsOnDisk}
-use Rattle.pp_proxy.specs.Anything.{anything}
+use Rattle.pp_desk.specs.Anything.{anything}
 use Rattle.pp_recover.specs.Opening.{IsFresh}
 use Rattle.pp_shelf.specs.Opening.{MayBeListed}
 use Rattle.pp_store.specs.Held.{Holds}

@@ -2,7 +2,7 @@
 ghost use Rattle.std.specs.Prelude.{◌≡◌, [], string_bytes};
 ghost use Rattle.pp_conf.specs.Logs.{log_place, shown_place};
 ghost use Rattle.pp_links.specs.Quiet.{GrowsBy};
-ghost use Rattle.pp_proxy.specs.Anything.{anything};
+ghost use Rattle.pp_desk.specs.Anything.{anything};
 ghost use Rattle.pp_recover.specs.Opening.{IsFresh};
 ghost use Rattle.pp_run.specs.Exits.{ListensAs, OpensOn};
 ghost use Rattle.pp_run.specs.Serving.{GoesUpTo};

@@ -8,7 +8,7 @@
 //! call; where a call was made, the map changes as the store says by its answer, and the log gains nothing but operations and
 //! a file that could not be read (`GrowsOnDisk` of `specs/Steady.antt`).
 //!
-//! Which response is kept, and when, is for `pp_proxy`; the order of writes is for `pp_gate`.
+//! Which response is kept, and when, is for `pp_keeping`; the order of writes is for `pp_gate`.
 #![tactic(auto)]
 
 mod drafting; // a new entry

@@ -12,7 +12,7 @@ use Rattle.pp_objects.specs.declared.id.ObjectId.{ObjectId}
 use Rattle.pp_objects.specs.Views.{ShowsRow}
 use Rattle.pp_objects.specs.declared.objects.RowView.{RowView}
 use Rattle.pp_seats.specs.declared.seat.Seat.{Seat}
-use Rattle.pp_steps.specs.declared.state.State.{State}
+use Rattle.pp_state.specs.declared.state.State.{State}
 use Rattle.pp_steps.specs.Begins.{BeginsBy, BeginsIn, BeginsOf, BeginsReplies, BeginsReply, kept_by, kept_in, kept_of, with_left}
 
 pub left_is : (id : ObjectId) (old new : Memory)

@@ -8,7 +8,7 @@ use Rattle.pp_holes.specs.Adding.{added}
 use Rattle.pp_objects.specs.Changes.{faces}
 use Rattle.pp_objects.specs.Instances.{is_there, total_at}
 use Rattle.pp_objects.specs.declared.id.ObjectId.{ObjectId}
-use Rattle.pp_steps.specs.Bodies.{HasJoined, with_bytes}
+use Rattle.pp_state.specs.Bodies.{HasJoined, with_bytes}
 
 pub joins : (id : ObjectId) (at : ℕ) (bytes : List ℕ) (old new : Memory)
     → (is_there id old.instances ≡ true → at + length bytes ≤ total_at id.slot old.instances → new ≡ record old { instances = new.instances; chunks = (added old.size id.slot at bytes old.chunks).chunks; grown = grown_by id old.grown })

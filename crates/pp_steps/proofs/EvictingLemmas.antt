@@ -13,13 +13,12 @@ use Rattle.pp_objects.specs.declared.id.ObjectId.{ObjectId}
 use Rattle.pp_world.proofs.CallLemmas.{appends_none, appends_then}
 use Rattle.pp_world.specs.Log.{AppendsAll, Log}
 use Rattle.pp_world.specs.declared.happening.Happening.{Happening}
-use Rattle.pp_steps.specs.Bodies.{HasJoined}
+use Rattle.pp_state.specs.Bodies.{HasJoined}
 use Rattle.pp_world.specs.declared.note.Decision.{Decision}
-use Rattle.pp_steps.specs.Decide.{is_for_memory}
+use Rattle.pp_state.specs.Pins.{is_for_memory, busy_rows, idle_row, without_instance}
 use Rattle.pp_steps.specs.Evicting.{all_victims, evicted_note, evicted_notes, forgotten_note, forgotten_notes, given_way, is_key_at, next_victim, row_in_way, unless_own, victims, without_all, without_row}
-use Rattle.pp_steps.specs.Pins.{busy_rows, idle_row, without_instance}
-use Rattle.pp_steps.specs.declared.state.State.{State}
-use Rattle.pp_steps.proofs.PinLemmas.{idle_unfollowed}
+use Rattle.pp_state.specs.declared.state.State.{State}
+use Rattle.pp_state.proofs.PinLemmas.{idle_unfollowed}
 
 -- ---- calls one after another, that append what does not depend on the log
 

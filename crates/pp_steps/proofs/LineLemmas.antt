@@ -1,6 +1,6 @@
 -- The line of a connection, step by step.
 use Rattle.std.proofs.Common.{◌≡◌, ◌<◌, ◌-◌, ◌+◌, ◌∙◌, refl, ap, ℕ, zero, suc, Bool, Option, Some, None, arith}
-use Rattle.pp_steps.specs.Ends.{Parts, lost_place}
+use Rattle.pp_state.specs.Ends.{Parts, lost_place}
 use Rattle.pp_steps.specs.Lines.{first_on, lost_line}
 
 abbrev step_by : ℕ → ℕ → Bool → Parts → Option ℕ → Parts

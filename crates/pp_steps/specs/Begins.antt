@@ -39,12 +39,12 @@ use Rattle.pp_text.specs.Lines.{lines_of}
 use Rattle.pp_valid.specs.declared.version.Version.{Version}
 use Rattle.pp_world.specs.declared.note.Decision.{Decision}
 use Rattle.pp_world.specs.declared.note.Decision.TheVariants.{Head as HeadOf, NotModified as Unchanged, Unsatisfiable as NoneOf, Relay, Pass}
-use Rattle.pp_steps.specs.Accounts.{status_of}
-use Rattle.pp_steps.specs.Bringing.{is_held}
-use Rattle.pp_steps.specs.Passing.{may_answer}
-use Rattle.pp_steps.specs.Places.{IsChangedAt}
+use Rattle.pp_state.specs.Accounts.{status_of}
+use Rattle.pp_state.specs.Bringing.{is_held}
+use Rattle.pp_state.specs.Passing.{may_answer}
+use Rattle.pp_state.specs.Places.{IsChangedAt}
 use Rattle.pp_steps.specs.declared.begin.Written.{Written}
-use Rattle.pp_steps.specs.declared.state.State.{State}
+use Rattle.pp_state.specs.declared.state.State.{State}
 
 -- ---- a reply begins
 

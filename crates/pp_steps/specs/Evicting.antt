@@ -12,9 +12,8 @@ use Rattle.pp_world.specs.declared.happening.Happening.{Happening}
 use Rattle.pp_world.specs.declared.happening.Happening.TheVariants.{Noted}
 use Rattle.pp_world.specs.declared.note.Decision.{Decision}
 use Rattle.pp_world.specs.declared.note.Remark.TheVariants.{Forgotten, Evicted}
-use Rattle.pp_steps.specs.Decide.{is_for_memory}
-use Rattle.pp_steps.specs.Pins.{idle_row, pins, without_instance}
-use Rattle.pp_steps.specs.declared.state.State.{State}
+use Rattle.pp_state.specs.Pins.{is_for_memory, idle_row, pins, without_instance}
+use Rattle.pp_state.specs.declared.state.State.{State}
 
 -- ---- rows
 

@@ -1,7 +1,7 @@
 -- What becomes of the line of a connection that is closed (RFC 2616, section 8.1.4).
 use Rattle.std.specs.Prelude.{ℕ, zero, suc, Bool, Option, Some, None, slice_get}
 use Rattle.pp_flow.specs.Changes.{line_of}
-use Rattle.pp_steps.specs.Ends.{Parts, lost_place}
+use Rattle.pp_state.specs.Ends.{Parts, lost_place}
 
 -- the first of the line of a connection
 abbrev pub first_on : ℕ → Parts → Option ℕ

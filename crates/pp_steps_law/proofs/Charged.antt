@@ -36,8 +36,8 @@ use Rattle.pp_states_law.proofs.Cleared.{clears}
 use Rattle.pp_states_law.proofs.Ended.{leaves}
 use Rattle.pp_states_law.specs.Clients.{FollowsOn}
 use Rattle.pp_steps_law.specs.Charges.{GoesOn, IsFor, IsThere, RowsAreTheLaws, FailuresAreTheLaws, LossesAreTheLaws}
-use Rattle.pp_steps.specs.Ends.{AreInOrder, Parts, cleared_key, cleared_of, dropped_row, given_up_row, left, is_unfilled_at, is_unfilled_by, numbers_of, on_seat, place_of, version_at, charged, charged_at, seat_for, with_course}
-use Rattle.pp_steps.specs.Heads.{key_of}
+use Rattle.pp_state.specs.Ends.{AreInOrder, Parts, cleared_key, cleared_of, dropped_row, given_up_row, left, is_unfilled_at, is_unfilled_by, numbers_of, on_seat, place_of, version_at, charged, charged_at, seat_for, with_course}
+use Rattle.pp_state.specs.Keys.{key_of}
 use Rattle.pp_steps_law.specs.Steps.{ShowsSteps, whole}
 use Rattle.pp_steps_law.proofs.Places.{HasPlace, HasSeat, at_place, has_place, has_seat, numbers_set, one_asks, HasNone, has_none}
 use Rattle.pp_steps_law.proofs.Told.{asker_next, clear_next, exchange_next, told_cleared, told_left, told_next}

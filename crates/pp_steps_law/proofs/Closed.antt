@@ -26,7 +26,7 @@ use Rattle.pp_steps_law.proofs.Kept.{Kept, all_go, lost_kept}
 use Rattle.pp_steps_law.proofs.Lost.{places_lost}
 use Rattle.pp_steps_law.proofs.Told.{conn_next, told_next}
 use Rattle.pp_steps_law.specs.Charges.{IsThere}
-use Rattle.pp_steps.specs.Ends.{Parts, lost_place}
+use Rattle.pp_state.specs.Ends.{Parts, lost_place}
 use Rattle.pp_steps.specs.Lines.{first_on, lost_line}
 use Rattle.pp_steps_law.specs.Lines.{AllGo, LinesAreTheLaws}
 use Rattle.pp_steps_law.specs.Losses.{HasLost}

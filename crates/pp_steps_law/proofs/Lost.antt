@@ -30,7 +30,7 @@ use Rattle.pp_seats_law.specs.Replies.{course_of}
 use Rattle.pp_states_law.proofs.Ended.{ends, unplaces}
 use Rattle.pp_states_law.specs.Exchanges.{StandsNowhere}
 use Rattle.pp_steps_law.specs.Charges.{GoesOn, IsFor, IsThere}
-use Rattle.pp_steps.specs.Ends.{Parts, asked_elsewhere, cut_short, ended, left_place, left_place_at, lost_attempt, may_ask_again as may_ask_again_in, may_go_elsewhere, numbers_of, on_seat_where, place_of, seat_for}
+use Rattle.pp_state.specs.Ends.{Parts, asked_elsewhere, cut_short, ended, left_place, left_place_at, lost_attempt, may_ask_again as may_ask_again_in, may_go_elsewhere, numbers_of, on_seat_where, place_of, seat_for}
 use Rattle.pp_steps_law.specs.Losses.{HasLost, IsComing, LossesAreTheLaws}
 use Rattle.pp_steps_law.specs.Steps.{ShowsSteps, whole}
 use Rattle.pp_steps_law.proofs.Charged.{course_shown, losses, number_is, on_asker, same_entry, lost_given}

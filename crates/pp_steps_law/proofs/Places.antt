@@ -11,7 +11,7 @@ use Rattle.pp_law.specs.State.{Client}
 use Rattle.pp_seats.specs.declared.seat.Seat.{Seat}
 use Rattle.pp_seats_law.specs.Clients.{AreShown, IsAt, IsNowhere}
 use Rattle.pp_states_law.proofs.Changed.{asker_is}
-use Rattle.pp_steps.specs.Ends.{AreInOrder, numbers_of, place_of}
+use Rattle.pp_state.specs.Ends.{AreInOrder, numbers_of, place_of}
 
 -- ---- order
 

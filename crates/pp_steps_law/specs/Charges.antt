@@ -5,7 +5,7 @@ use Rattle.pp_flow.specs.declared.entry.Entry.{Entry}
 use Rattle.pp_law.specs.Connections.{exchange, fail, give_up_row, is_client, lose_attempt}
 use Rattle.pp_law.specs.State.{State, Client, Exchange}
 use Rattle.pp_seats_law.specs.Fates.{is_refused}
-use Rattle.pp_steps.specs.Ends.{Parts, failed, given_up_row, lost_attempt, seat_for}
+use Rattle.pp_state.specs.Ends.{Parts, failed, given_up_row, lost_attempt, seat_for}
 use Rattle.pp_steps_law.specs.Steps.{OfSteps, ShowsSteps}
 
 -- an exchange that is there, and that of the law

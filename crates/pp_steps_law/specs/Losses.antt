@@ -9,7 +9,7 @@ use Rattle.pp_law.specs.Stages.{passed_of}
 use Rattle.pp_law.specs.State.{State, Client, Exchange}
 use Rattle.pp_states_law.specs.Exchanges.{StandsNowhere}
 use Rattle.pp_steps_law.specs.Charges.{GoesOn, IsFor, IsThere}
-use Rattle.pp_steps.specs.Ends.{Parts, lost_place}
+use Rattle.pp_state.specs.Ends.{Parts, lost_place}
 use Rattle.pp_steps_law.specs.Steps.{OfSteps, ShowsSteps}
 
 -- it has a place, and stands in no line of the law any more

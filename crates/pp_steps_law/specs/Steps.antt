@@ -5,7 +5,7 @@ use Rattle.pp_law.specs.Lists.{Bytes}
 use Rattle.pp_law.specs.State.{State}
 use Rattle.pp_peers.specs.declared.peers.Peer.{Peer}
 use Rattle.pp_states_law.specs.States.{Parts as Whole, ShowsState}
-use Rattle.pp_steps.specs.Ends.{AreInOrder, Parts, numbers_of}
+use Rattle.pp_state.specs.Ends.{AreInOrder, Parts, numbers_of}
 use Rattle.pp_steps_law.specs.Told.{AreTold}
 
 -- with the connections

@@ -5,7 +5,7 @@
 //! asked elsewhere, as the law has it.
 //!
 //! To the layer above: each equation is the clause of a function that does nothing. It is one part of the proof that the program
-//! obeys the law: nothing is said here of a turn in which memory was refused for a row. The words of the program stand in `pp_steps`,
+//! obeys the law: nothing is said here of a turn in which memory was refused for a row. The words of the program stand in `pp_state` and `pp_steps`,
 //! which says of each function which it computes.
 //!
 //! Takes no memory, and does nothing when the program runs.

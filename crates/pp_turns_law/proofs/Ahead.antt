@@ -32,9 +32,9 @@ use Rattle.pp_seats_law.proofs.Entries.{exchanges}
 use Rattle.pp_seats_law.proofs.Nexts.{nexts}
 use Rattle.pp_seats_law.specs.Exchanges.{Binding, IsBoundAs, IsTheLaws, ShowsBound}
 use Rattle.pp_seats_law.specs.Words.{ShowsNext}
-use Rattle.pp_steps.specs.Bringing.{is_held}
-use Rattle.pp_steps.specs.Readers.{furthest_read, is_far_ahead, is_past_read, next_at, read_at}
-use Rattle.pp_steps.specs.declared.state.State.{State as Turn}
+use Rattle.pp_state.specs.Bringing.{is_held}
+use Rattle.pp_state.specs.Readers.{furthest_read, is_far_ahead, is_past_read, next_at, read_at}
+use Rattle.pp_state.specs.declared.state.State.{State as Turn}
 use Rattle.pp_steps_law.proofs.Told.{told_of}
 use Rattle.pp_steps_law.specs.Told.{IsTold, IsToldBy}
 use Rattle.pp_turns_law.proofs.Asleep.{silent_first}

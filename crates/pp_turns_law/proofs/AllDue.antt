@@ -14,10 +14,10 @@ use Rattle.pp_seats.specs.Seats.{is_told_in}
 use Rattle.pp_seats_law.proofs.Dues.{dues, lost, sharing}
 use Rattle.pp_seats_law.specs.Dues.{cut_of as cut_by_law, due_as, has_lost_its_row, waits_on_still}
 use Rattle.pp_seats_law.specs.Seats.{ShowsOpen, ShowsSeat}
-use Rattle.pp_steps.specs.Decide.{decide}
-use Rattle.pp_steps.specs.Due.{cut_of, decision_of, due_of, due_undecided, has_source_standing, is_dry, is_superseded}
-use Rattle.pp_steps.specs.Sharing.{shared_ask}
-use Rattle.pp_steps.specs.declared.state.State.{State as Turn}
+use Rattle.pp_decide.specs.Decide.{decide}
+use Rattle.pp_due.specs.Due.{cut_of, decision_of, due_of, has_source_standing, is_dry, is_superseded}
+use Rattle.pp_decide.specs.Sharing.{due_undecided, shared_ask}
+use Rattle.pp_state.specs.declared.state.State.{State as Turn}
 use Rattle.pp_world.specs.declared.note.Cause.{Cause}
 use Rattle.pp_world.specs.declared.note.Decision.{Decision}
 use Rattle.pp_world.specs.declared.note.Decision.TheVariants.{Refuse}

@@ -17,10 +17,10 @@ use Rattle.pp_peers.specs.declared.peers.Peer.{Peer}
 use Rattle.pp_seats.specs.declared.due.Due.{Due as SeatDue}
 use Rattle.pp_seats.specs.declared.seat.Seat.{Seat}
 use Rattle.pp_seats_law.specs.Dues.{due_as}
-use Rattle.pp_steps.specs.Due.{due_at}
-use Rattle.pp_steps.specs.Entering.{Comes, key_at, key_to_decide}
-use Rattle.pp_steps.specs.OnDisk.{IsBrought, kept_alone as kept_in_turn}
-use Rattle.pp_steps.specs.declared.state.State.{State as Turn}
+use Rattle.pp_due.specs.Due.{due_at}
+use Rattle.pp_due.specs.Entering.{Comes, key_at, key_to_decide}
+use Rattle.pp_due.specs.OnDisk.{IsBrought, kept_alone as kept_in_turn}
+use Rattle.pp_state.specs.declared.state.State.{State as Turn}
 use Rattle.pp_store.specs.Kept.{Kept, KeptMap, kept_of as kept_in_store}
 use Rattle.pp_target.specs.Name.{name_of}
 use Rattle.pp_turns_law.proofs.Entered.{come_in}

@@ -28,9 +28,9 @@ use Rattle.pp_seats_law.proofs.Entries.{exchanges}
 use Rattle.pp_seats_law.proofs.Nexts.{found_number}
 use Rattle.pp_seats_law.specs.Exchanges.{Binding, IsBoundAs, ShowsBound, ShowsExchange}
 use Rattle.pp_seats_law.specs.Fates.{aim_of}
-use Rattle.pp_steps.specs.Bringing.{asks_by, asks_for, asks_for_in, brings, brings_by, filled, instance_of, is_to_come, serves_by}
-use Rattle.pp_steps.specs.Deciding.{serves_next}
-use Rattle.pp_steps.specs.Ends.{Parts}
+use Rattle.pp_state.specs.Bringing.{asks_by, asks_for, asks_for_in, brings, brings_by, filled, instance_of, is_to_come, serves_by}
+use Rattle.pp_take.specs.Deciding.{serves_next}
+use Rattle.pp_state.specs.Ends.{Parts}
 use Rattle.pp_steps_law.proofs.Told.{told_of}
 use Rattle.pp_steps_law.specs.Steps.{ShowsSteps}
 use Rattle.pp_steps_law.specs.Told.{IsToldBy}

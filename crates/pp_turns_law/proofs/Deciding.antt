@@ -44,9 +44,9 @@ use Rattle.pp_text.specs.Fields.{Field}
 use Rattle.pp_valid.specs.declared.version.Version.{Version}
 use Rattle.pp_world.specs.declared.note.Decision.{Decision}
 use Rattle.pp_world.specs.declared.note.Decision.TheVariants.{Refuse, Hit, Part, Head, NotModified, Unsatisfiable, Relay, Validate, Fetch, Pass}
-use Rattle.pp_steps.specs.Bringing.{is_span_held as held_in_turn}
-use Rattle.pp_steps.specs.Decide.{decide_for, decide_front, decide_request, if_fits, kind_of, row_seen, shown_span}
-use Rattle.pp_steps.specs.declared.state.State.{State as Turn}
+use Rattle.pp_state.specs.Bringing.{is_span_held as held_in_turn}
+use Rattle.pp_decide.specs.Decide.{decide_for, decide_front, decide_request, if_fits, kind_of, row_seen, shown_span}
+use Rattle.pp_state.specs.declared.state.State.{State as Turn}
 use Rattle.pp_turns_law.proofs.Held.{held_same, shown_within}
 use Rattle.pp_turns_law.specs.Dues.{DecidesAsTheLaw}
 use Rattle.pp_turns_law.specs.Turns.{IsDecidable, ShowsTurn}

@@ -17,7 +17,7 @@ use Rattle.pp_seats.specs.declared.seat.Next.{Next as SeatNext}
 use Rattle.pp_seats.specs.Follows.{next_at}
 use Rattle.pp_seats_law.specs.Replies.{ShowsSaid}
 use Rattle.pp_seats_law.specs.Seats.{head_left}
-use Rattle.pp_steps.specs.Due.{is_next_there}
+use Rattle.pp_due.specs.Due.{is_next_there}
 use Rattle.pp_text.specs.Bytes.{is_empty}
 use Rattle.pp_turns_law.proofs.Following.{none_some}
 

@@ -30,9 +30,9 @@ use Rattle.pp_seats_law.proofs.Uses.{interim_by}
 use Rattle.pp_seats_law.specs.Replies.{ShowsInterim, ShowsStage}
 use Rattle.pp_seats_law.specs.Seats.{ShowsOpen, ShowsSeat}
 use Rattle.pp_seats_law.specs.Words.{ShowsNext, ShowsReply}
-use Rattle.pp_steps.specs.Due.{is_next_there}
-use Rattle.pp_steps.specs.OnDisk.{if_on_disk}
-use Rattle.pp_steps.specs.declared.state.State.{State as Turn}
+use Rattle.pp_due.specs.Due.{is_next_there}
+use Rattle.pp_due.specs.OnDisk.{if_on_disk}
+use Rattle.pp_state.specs.declared.state.State.{State as Turn}
 use Rattle.pp_text.specs.Bytes.{is_empty}
 use Rattle.pp_turns_law.proofs.Dry.{and_false, at_body, dry_none, dry_some, empty_length, not_in_memory, said_there}
 use Rattle.pp_turns_law.proofs.Following.{going_seat, has_source, is_next, none_some}

@@ -20,9 +20,9 @@ use Rattle.pp_seats_law.specs.Clients.{AreShown}
 use Rattle.pp_seats_law.specs.Dues.{due_as}
 use Rattle.pp_seats_law.specs.Seats.{ShowsSeat}
 use Rattle.pp_seats_law.specs.Words.{HasSource}
-use Rattle.pp_steps.specs.Due.{due_at, due_of}
-use Rattle.pp_steps.specs.Entering.{key_at, key_to_decide}
-use Rattle.pp_steps.specs.declared.state.State.{State as Turn}
+use Rattle.pp_due.specs.Due.{due_at, due_of}
+use Rattle.pp_due.specs.Entering.{key_at, key_to_decide}
+use Rattle.pp_state.specs.declared.state.State.{State as Turn}
 use Rattle.pp_store.specs.Kept.{KeptMap}
 use Rattle.pp_turns_law.proofs.Asleep.{asleep_due}
 use Rattle.pp_turns_law.proofs.Brought.{dues_stay}

@@ -23,9 +23,9 @@ use Rattle.pp_seats_law.specs.Replies.{source_number}
 use Rattle.pp_seats_law.specs.Seats.{ShowsSeat}
 use Rattle.pp_seats_law.specs.Words.{HasSource, IsSameNext, ShowsNext, ShowsReply}
 use Rattle.pp_seats_law.proofs.Stages.{replies}
-use Rattle.pp_steps.specs.Due.{is_left_behind}
-use Rattle.pp_steps.specs.Ends.{parts}
-use Rattle.pp_steps.specs.declared.state.State.{State as Turn}
+use Rattle.pp_due.specs.Due.{is_left_behind}
+use Rattle.pp_state.specs.Ends.{parts}
+use Rattle.pp_state.specs.declared.state.State.{State as Turn}
 use Rattle.pp_turns_law.specs.Dues.{SupersededIsTheLaws}
 use Rattle.pp_turns_law.specs.Turns.{IsFollowing, ShowsTurn}
 

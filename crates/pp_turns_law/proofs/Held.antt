@@ -17,7 +17,7 @@ use Rattle.pp_ranges.specs.declared.range.Resolved.TheVariants.{Whole, Part, Uns
 use Rattle.pp_text.specs.Fields.{Field}
 use Rattle.pp_valid.specs.Conditions.{if_range_holds}
 use Rattle.pp_valid.specs.declared.version.Version.{Version}
-use Rattle.pp_steps.specs.Bringing.{is_span_held}
+use Rattle.pp_state.specs.Bringing.{is_span_held}
 
 -- ---- what a reply would show lies within the body
 

@@ -12,7 +12,7 @@ use Rattle.pp_law.specs.State.{State, Instance as Known}
 use Rattle.pp_law.specs.Table.{instance, is_span_held as is_span_held_by}
 use Rattle.pp_objects.specs.Instances.{Instance, is_there, total_at, total_of}
 use Rattle.pp_objects.specs.declared.id.ObjectId.{ObjectId}
-use Rattle.pp_steps.specs.Bringing.{is_span_held}
+use Rattle.pp_state.specs.Bringing.{is_span_held}
 use Rattle.pp_turns_law.proofs.Holes.{is_hole}
 use Rattle.pp_turns_law.specs.Spans.{HeldSpansAreTheLaws}
 

@@ -8,8 +8,9 @@ use Rattle.pp_flow_law.specs.Tables.{AreGiven}
 use Rattle.pp_law.specs.Lists.{has_number}
 use Rattle.pp_seats.specs.Seats.{is_silent}
 use Rattle.pp_seats.specs.declared.seat.Seat.{Seat}
-use Rattle.pp_steps.specs.Waits.{is_loud, is_loud_in, places, with_number}
-use Rattle.pp_steps.specs.declared.state.State.{State as Turn}
+use Rattle.pp_due.specs.Waits.{is_loud, is_loud_in}
+use Rattle.pp_state.specs.Numbers.{places, with_number}
+use Rattle.pp_state.specs.declared.state.State.{State as Turn}
 use Rattle.pp_turns_law.specs.Looks.{AllAreAwake, AwakeAreLoud, LoudAreAwake, LoudStayAwake, RousedIsAwake}
 
 -- ---- places that rise

@@ -24,8 +24,8 @@ use Rattle.pp_peers.specs.declared.peers.Peer.{Peer}
 use Rattle.pp_plan.specs.Need.{need}
 use Rattle.pp_seats.specs.declared.seat.Next.{Next as SeatNext}
 use Rattle.pp_seats_law.proofs.Nexts.{found_number}
-use Rattle.pp_steps.specs.Bringing.{is_brought, is_held as is_held_in, need_of}
-use Rattle.pp_steps.specs.Ends.{Parts}
+use Rattle.pp_state.specs.Bringing.{is_brought, is_held as is_held_in, need_of}
+use Rattle.pp_state.specs.Ends.{Parts}
 use Rattle.pp_steps_law.specs.Steps.{ShowsSteps}
 use Rattle.pp_turns_law.proofs.Comes.{brought_of}
 use Rattle.pp_turns_law.proofs.Holes.{held_past, is_gap, is_hole}

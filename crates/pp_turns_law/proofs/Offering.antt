@@ -37,7 +37,7 @@ use Rattle.pp_seats_law.proofs.Uses.{not_empty}
 use Rattle.pp_seats_law.specs.Replies.{IsPipedFor, ShowsBegin, ShowsInterim, ShowsSaid, ShowsStage, source_number}
 use Rattle.pp_seats_law.specs.Seats.{ShowsOpen}
 use Rattle.pp_seats_law.specs.Words.{ShowsMaybePassed}
-use Rattle.pp_steps.specs.declared.state.State.{State as Turn}
+use Rattle.pp_state.specs.declared.state.State.{State as Turn}
 use Rattle.pp_text.specs.Bytes.{is_empty}
 use Rattle.pp_turns_law.specs.Dues.{OffersAreTheLaws}
 

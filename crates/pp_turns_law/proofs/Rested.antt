@@ -7,13 +7,14 @@ use Rattle.pp_cache_law.proofs.Numbers.{is_same, some_is}
 use Rattle.pp_cache_law.proofs.PairLemmas.{count_mapped_same}
 use Rattle.pp_turns_law.proofs.Following.{none_some}
 use Rattle.pp_turns_law.proofs.Shares.{shared_same}
-use Rattle.pp_turns_law.specs.Turns.{IsDecidable, ShowsTurn}
+use Rattle.pp_turns_law.specs.Rows.{AreReady, IsReady}
+use Rattle.pp_turns_law.specs.Turns.{ShowsTurn}
 use Rattle.pp_flow_law.proofs.Framed.{frames as flow_frames}
 use Rattle.pp_flow_law.specs.Tables.{AreGiven, Leaving}
 use Rattle.pp_law.specs.Connections.{exchange}
 use Rattle.pp_law.specs.Lists.{Bytes, has_number}
 use Rattle.pp_law.specs.Requests.{has_request}
-use Rattle.pp_law.specs.Sharing.{due_undecided as undecided_by_law, shared_ask as shared_by_law}
+use Rattle.pp_law.specs.Sharing.{has_shared_ask as has_by_law, shared_ask as shared_by_law}
 use Rattle.pp_law.specs.Stages.{is_undecided}
 use Rattle.pp_law.specs.State.{State, Client, Shared}
 use Rattle.pp_law.specs.Table.{follows}
@@ -32,18 +33,17 @@ use Rattle.pp_seats_law.specs.Replies.{ShowsFate, shared_of}
 use Rattle.pp_seats_law.specs.Seats.{ShowsOpen, ShowsSeat}
 use Rattle.pp_states_law.proofs.Asked.{all_as, frames, itself}
 use Rattle.pp_states_law.specs.States.{ShowsState}
-use Rattle.pp_steps.specs.Due.{due_undecided, is_sharing}
-use Rattle.pp_steps.specs.Ends.{AreInOrder, changed_at, numbers_of}
-use Rattle.pp_steps.specs.Sharing.{shared_ask}
-use Rattle.pp_steps.specs.Waits.{awaited_by, awaited_in, rested_seat, shared_from, shared_with, waiting_on}
-use Rattle.pp_steps.specs.declared.state.State.{State as Turn}
+use Rattle.pp_decide.specs.Sharing.{is_sharing, shared_ask}
+use Rattle.pp_state.specs.Ends.{AreInOrder, changed_at, numbers_of}
+use Rattle.pp_due.specs.Waits.{awaited_by, awaited_in, rested_seat, shared_from, shared_with, waiting_on}
+use Rattle.pp_state.specs.declared.state.State.{State as Turn}
 use Rattle.pp_steps_law.proofs.Places.{numbers_set}
 use Rattle.pp_steps_law.specs.Steps.{ShowsSteps, whole}
 use Rattle.pp_turns_law.proofs.First.{IsShownAt, above, client_shown}
 use Rattle.pp_turns_law.proofs.Wanted.{same_length}
 use Rattle.pp_turns_law.proofs.Waiting.{shares, there_same}
 use Rattle.pp_turns_law.proofs.Woken.{turn_with, with_seats}
-use Rattle.pp_turns_law.specs.Marks.{AllMayWait, AreLoud, MayWait, RestingIsTheLaws, all_rested, with_rested}
+use Rattle.pp_turns_law.specs.Marks.{AreLoud, RestingIsTheLaws, all_rested, with_rested}
 
 -- ---- what it waits for
 
@@ -61,29 +61,17 @@ shared_by : (now : ℕ) (b : Bool) (o : Option ℕ) → shared_if now b o ≡ sh
 shared_by now true o = from_now now o
 shared_by now false o = refl
 
--- one that shares sent a request whose head is whole, and no decision was taken for it
-first_of_three : (a b c : Bool) → (a && b && c) ≡ true → a ≡ true
-first_of_three true b c is = refl
-first_of_three false b c is = absurd (cc is)
-
-second_of_three : (a b c : Bool) → (a && b && c) ≡ true → b ≡ true
-second_of_three true true c is = refl
-second_of_three true false c is = absurd (cc is)
-second_of_three false b c is = absurd (cc is)
-
-shared_same_by : (number : ℕ → ℕ) (l : Leaving) (peers : List Peer) (p : Turn) (s : State) (name : Bytes) (seat : Seat) (c : Client) (b : Bool) → is_sharing p seat ≡ b → ShowsTurn number l peers p s → ShowsSeat number name [] seat c → c.is_closing ≡ false → MayWait number p s seat c
+shared_same_by : (number : ℕ → ℕ) (l : Leaving) (peers : List Peer) (p : Turn) (s : State) (name : Bytes) (seat : Seat) (c : Client) (b : Bool) → ShowsTurn number l peers p s → ShowsSeat number name [] seat c → c.is_closing ≡ false → IsReady number p.cache s.next_instance seat
     → shared_if p.now b (shared_ask seat p.flow) ≡ shared_law s.clock b (shared_by_law s c)
-shared_same_by number l peers p s name seat c false is shows seen going may = refl
-shared_same_by number l peers p s name seat c true is shows seen going may =
-    let may_decide : IsDecidable number p s seat c = may.decidable (first_of_three (is_undecided_in seat.stage) (is_there_in seat.front) (not (is_some (due_undecided p seat))) is) (second_of_three (is_undecided_in seat.stage) (is_there_in seat.front) (not (is_some (due_undecided p seat))) is) in
-    shared_by p.now true (shared_ask seat p.flow)
-    ∙ ap₂ (λ (now : ℕ) (o : Option ℕ). shared_law now true o) shows.clock (shared_same number l peers p s name seat c shows (seen.going going).front may_decide.key)
+shared_same_by number l peers p s name seat c b shows seen going ready =
+    shared_by p.now b (shared_ask seat p.flow)
+    ∙ ap₂ (λ (now : ℕ) (o : Option ℕ). shared_law now b o) shows.clock (shared_same number l peers p s name seat c shows (seen.going going).front ready.key)
 
-shared_with_same : (number : ℕ → ℕ) (l : Leaving) (peers : List Peer) (p : Turn) (s : State) (name : Bytes) (seat : Seat) (c : Client) → ShowsTurn number l peers p s → ShowsSeat number name [] seat c → c.is_closing ≡ false → MayWait number p s seat c
+shared_with_same : (number : ℕ → ℕ) (l : Leaving) (peers : List Peer) (p : Turn) (s : State) (name : Bytes) (seat : Seat) (c : Client) → ShowsTurn number l peers p s → ShowsSeat number name [] seat c → c.is_closing ≡ false → IsReady number p.cache s.next_instance seat
     → option_map shared_of (shared_with p seat) ≡ shared_with_law s c
-shared_with_same number l peers p s name seat c shows seen going may =
-    shared_same_by number l peers p s name seat c (is_sharing p seat) refl shows seen going may
-    ∙ ap (λ (b : Bool). shared_law s.clock b (shared_by_law s c)) (shares number l peers p s name seat c shows seen going may)
+shared_with_same number l peers p s name seat c shows seen going ready =
+    shared_same_by number l peers p s name seat c (is_sharing p seat) shows seen going ready
+    ∙ ap (λ (b : Bool). shared_law s.clock b (shared_by_law s c)) (shares number l peers p s name seat c shows seen going ready)
 
 abbrev awaited_law : State → Client → Option Shared → Option Shared
 awaited_law s c o = elim o as (λ t. Option Shared) [ Some w ↦ Some w | None ↦ shared_with_law s c ]
@@ -92,10 +80,10 @@ awaited_same_by : (p : Turn) (s : State) (seat : Seat) (c : Client) (o : Option 
 awaited_same_by p s seat c None same = same
 awaited_same_by p s seat c (Some w) same = refl
 
-awaited_same : (number : ℕ → ℕ) (l : Leaving) (peers : List Peer) (p : Turn) (s : State) (name : Bytes) (seat : Seat) (c : Client) → ShowsTurn number l peers p s → ShowsSeat number name [] seat c → c.is_closing ≡ false → MayWait number p s seat c
+awaited_same : (number : ℕ → ℕ) (l : Leaving) (peers : List Peer) (p : Turn) (s : State) (name : Bytes) (seat : Seat) (c : Client) → ShowsTurn number l peers p s → ShowsSeat number name [] seat c → c.is_closing ≡ false → IsReady number p.cache s.next_instance seat
     → option_map shared_of (awaited_by p seat) ≡ awaited_by_law s c
-awaited_same number l peers p s name seat c shows seen going may =
-    awaited_same_by p s seat c seat.waits_on (shared_with_same number l peers p s name seat c shows seen going may) ∙ ap (λ (o : Option Shared). awaited_law s c o) (seen.going going).waits_on
+awaited_same number l peers p s name seat c shows seen going ready =
+    awaited_same_by p s seat c seat.waits_on (shared_with_same number l peers p s name seat c shows seen going ready) ∙ ap (λ (o : Option Shared). awaited_law s c o) (seen.going going).waits_on
 
 -- ---- one client
 
@@ -130,12 +118,12 @@ open_rested number name seat c awaited known live same = record {
   closes = live.closes;
 }
 
-seat_rested : (number : ℕ → ℕ) (l : Leaving) (peers : List Peer) (p : Turn) (s : State) (seat : Seat) (c : Client) → ShowsTurn number l peers p s → ShowsSeat number p.name.items [] seat c → (c.is_closing ≡ false → MayWait number p s seat c)
+seat_rested : (number : ℕ → ℕ) (l : Leaving) (peers : List Peer) (p : Turn) (s : State) (seat : Seat) (c : Client) → ShowsTurn number l peers p s → ShowsSeat number p.name.items [] seat c → (c.is_closing ≡ false → IsReady number p.cache s.next_instance seat)
     → ShowsSeat number p.name.items [] (rested_seat p seat) (rested_client s c)
-seat_rested number l peers p s seat c shows seen may = record {
+seat_rested number l peers p s seat c shows seen ready = record {
   number = seen.number;
   closing = seen.closing;
-  going = λ going. open_rested number p.name.items seat c (awaited_by p seat) (awaited_by_law s c) (seen.going going) (awaited_same number l peers p s p.name.items seat c shows seen going (may going));
+  going = λ going. open_rested number p.name.items seat c (awaited_by p seat) (awaited_by_law s c) (seen.going going) (awaited_same number l peers p s p.name.items seat c shows seen going (ready going));
 }
 
 -- one that is silent waits as it did
@@ -148,9 +136,9 @@ silent_second true true c d is = refl
 silent_second true false c d is = absurd (cc is)
 silent_second false b c d is = absurd (cc is)
 
-none_shared : (undecided there due : Bool) → there ≡ false → (elim undecided as (λ t. Bool) [ true ↦ there && not due | false ↦ false ]) ≡ false
-none_shared true there due isnt = ap (λ (b : Bool). b && not due) isnt
-none_shared false there due isnt = refl
+none_shared : (undecided there shared : Bool) → there ≡ false → (elim undecided as (λ t. Bool) [ true ↦ there && shared | false ↦ false ]) ≡ false
+none_shared true there shared isnt = ap (λ (b : Bool). b && shared) isnt
+none_shared false there shared isnt = refl
 
 silent_rested : (number : ℕ → ℕ) (name : Bytes) (s : State) (seat : Seat) (c : Client) → ShowsSeat number name [] seat c → is_silent seat ≡ true → ShowsSeat number name [] seat (rested_client s c)
 silent_rested number name s seat c seen silent = record {
@@ -164,7 +152,7 @@ silent_rested number name s seat c seen silent = record {
         let none : has_request c.front ≡ false =
         sym (there_same seat.front c.front live.front) ∙ not_so (is_there_in seat.front) (silent_second (is_undecided_in seat.stage) (not (is_there_in seat.front)) (not seat.has_hung_up) (not seat.is_closing) silent) in
         let alone : shared_with_law s c ≡ None =
-        ap (λ (b : Bool). shared_law s.clock b (shared_by_law s c)) (none_shared (is_undecided c.stage) (has_request c.front) (is_some (undecided_by_law s c)) none) in
+        ap (λ (b : Bool). shared_law s.clock b (shared_by_law s c)) (none_shared (is_undecided c.stage) (has_request c.front) (has_by_law s c) none) in
         live.waits_on ∙ by c.waits_on alone
       where
         by : (o : Option Shared) → shared_with_law s c ≡ None → o ≡ awaited_law s c o
@@ -244,11 +232,11 @@ shown_by number name f [] (c ∷ cs) same each = absurd (omega (arith, same))
 shown_by number name f (new ∷ news) [] same each = absurd (omega (arith, same))
 shown_by number name f (new ∷ news) (c ∷ cs) same each = (each 0 new c refl refl, shown_by number name f news cs (omega (arith, same)) (λ j other d here there. each (suc j) other d here there))
 
-module _ (number : ℕ → ℕ) (l : Leaving) (peers : List Peer) (p : Turn) (s : State) (shows : ShowsTurn number l peers p s) (loud : AreLoud p) (may : AllMayWait number p s) where
+module _ (number : ℕ → ℕ) (l : Leaving) (peers : List Peer) (p : Turn) (s : State) (shows : ShowsTurn number l peers p s) (loud : AreLoud p) (ready : AreReady number p.cache s.next_instance p.seats.items) where
   as_rested : (j : ℕ) (b : Bool) (one : IsShownAt number p.name.items p.seats.items s.clients j) (new : Seat) → has_number j p.awake.items ≡ b → rested_at (rested_seat p) b (Some one.seat) ≡ Some new → ShowsSeat number p.name.items [] new (rested_client s one.client)
   as_rested j true one new is its =
       subst (λ (x : Seat). ShowsSeat number p.name.items [] x (rested_client s one.client)) (some_is (rested_seat p one.seat) new its)
-      (seat_rested number l peers p s one.seat one.client shows one.shows (λ going. may j one.seat one.client one.here one.there going))
+      (seat_rested number l peers p s one.seat one.client shows one.shows (λ going. ready j one.seat one.here (one.shows.closing ∙ going)))
   as_rested j false one new is its =
       subst (λ (x : Seat). ShowsSeat number p.name.items [] x (rested_client s one.client)) (some_is one.seat new its)
       (silent_rested number p.name.items s one.seat one.client one.shows (loud.others j one.seat one.here is))
@@ -283,5 +271,5 @@ module _ (number : ℕ → ℕ) (l : Leaving) (peers : List Peer) (p : Turn) (s 
   }
 
 pub rests_all : RestingIsTheLaws
-rests_all number l peers p q s shows loud may has =
-    turn_with number l peers p q s (with_rested s) (all_rested p p.awake.items p.seats.items) shows has (record { settings = refl; clock = refl; ticked = refl; stopped = refl }) (steps_rested number l peers p s shows loud may)
+rests_all number l peers p q s shows loud ready has =
+    turn_with number l peers p q s (with_rested s) (all_rested p p.awake.items p.seats.items) shows has (record { settings = refl; clock = refl; ticked = refl; stopped = refl }) (steps_rested number l peers p s shows loud ready)

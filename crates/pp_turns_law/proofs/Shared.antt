@@ -25,7 +25,7 @@ use Rattle.pp_law.specs.State.{State, Exchange, Aim as ItsAim, Through, Own, Fil
 use Rattle.pp_seats_law.proofs.Entries.{exchanges}
 use Rattle.pp_seats_law.specs.Exchanges.{ShowsExchange, is_ranged_in}
 use Rattle.pp_seats_law.specs.Fates.{aim_of}
-use Rattle.pp_steps.specs.Sharing.{asks_part, is_own, is_shared, is_unanswered, shared_number}
+use Rattle.pp_decide.specs.Sharing.{asks_part, is_own, is_shared, is_unanswered, shared_number}
 use Rattle.pp_target.specs.Key.{text_of}
 use Rattle.pp_turns_law.proofs.AllCome.{IsKept, any_alike, any_by, entry_among, found_itself, is_kept, known_itself, none_of_them}
 use Rattle.pp_turns_law.specs.Sharing.{AwaitedIsTheLaws, SharedAsksAreTheLaws}

@@ -18,9 +18,9 @@ use Rattle.pp_seats.specs.Heads.{asked_in, owned_in}
 use Rattle.pp_seats_law.specs.Fronts.{ShowsFront, ShowsKey}
 use Rattle.pp_target.specs.Key.{Key, text_of}
 use Rattle.pp_target.specs.declared.target.TargetFault.{TargetFault}
-use Rattle.pp_steps.specs.Sharing.{shared_ask, shared_for, shared_number}
-use Rattle.pp_steps.specs.Ends.{parts}
-use Rattle.pp_steps.specs.declared.state.State.{State as Turn}
+use Rattle.pp_decide.specs.Sharing.{shared_ask, shared_for, shared_number}
+use Rattle.pp_state.specs.Ends.{parts}
+use Rattle.pp_state.specs.declared.state.State.{State as Turn}
 use Rattle.pp_turns_law.specs.Turns.{ShowsTurn}
 
 -- ---- the text of its key

@@ -2,9 +2,9 @@
 use Rattle.std.proofs.Common.{◌≡◌, ◌⊎◌, inl, inr, refl, sym, subst, ap, ℕ, List, [], ◌∷◌, Option, Some, None}
 use Rattle.pp_law.specs.Lists.{Bytes}
 use Rattle.pp_seats.specs.declared.due.Due.{Due as SeatDue}
-use Rattle.pp_steps.specs.Due.{due_at}
-use Rattle.pp_steps.specs.Entering.{FirstDue, HasRowOf, key_at}
-use Rattle.pp_steps.specs.declared.state.State.{State as Turn}
+use Rattle.pp_due.specs.Due.{due_at}
+use Rattle.pp_due.specs.Entering.{FirstDue, HasRowOf, key_at}
+use Rattle.pp_state.specs.declared.state.State.{State as Turn}
 use Rattle.pp_store.specs.Kept.{KeptMap}
 use Rattle.pp_turns_law.specs.Firsts.{FirstDueInMemory, HasRowInMemory, IsRefusedFirst, MemoryIsGivenOrRefused}
 

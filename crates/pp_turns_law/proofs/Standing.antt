@@ -16,7 +16,7 @@ use Rattle.pp_seats.specs.Follows.{answer_in}
 use Rattle.pp_seats_law.proofs.Stages.{replies}
 use Rattle.pp_seats_law.specs.Replies.{source_number}
 use Rattle.pp_seats_law.specs.Words.{ShowsReply}
-use Rattle.pp_steps.specs.Due.{is_source_standing}
+use Rattle.pp_due.specs.Due.{is_source_standing}
 use Rattle.pp_turns_law.specs.Dues.{StandingIsTheLaws}
 
 not_twice : (a b : Bool) → not a ≡ b → a ≡ not b

@@ -5,10 +5,10 @@ use Rattle.pp_law.specs.Sharing.{is_awaited}
 use Rattle.pp_law.specs.State.{State}
 use Rattle.pp_seats.specs.declared.seat.Shared.{Shared}
 use Rattle.pp_seats_law.specs.Dues.{waits_on_still}
-use Rattle.pp_steps.specs.Patience.{is_patient}
-use Rattle.pp_steps.specs.Sharing.{is_awaited as awaited_in_turn, may_wait_on}
-use Rattle.pp_steps.specs.Ends.{parts}
-use Rattle.pp_steps.specs.declared.state.State.{State as Turn}
+use Rattle.pp_decide.specs.Patience.{is_patient}
+use Rattle.pp_decide.specs.Sharing.{is_awaited as awaited_in_turn, may_wait_on}
+use Rattle.pp_state.specs.Ends.{parts}
+use Rattle.pp_state.specs.declared.state.State.{State as Turn}
 use Rattle.pp_turns_law.specs.Dues.{PatienceIsTheLaws}
 
 waits_by : (p : Turn) (s : State) (waits : Option Shared) → p.now ≡ s.clock → ((n : ℕ) → awaited_in_turn n p.flow ≡ is_awaited s n) → may_wait_on waits p.now p.flow ≡ waits_on_still s waits

@@ -25,10 +25,10 @@ use Rattle.pp_seats.specs.declared.seat.Stage.TheVariants.{Undecided as IsUndeci
 use Rattle.pp_seats_law.specs.Clients.{AreShown, IsAt, IsNowhere}
 use Rattle.pp_seats_law.specs.Replies.{ShowsInterim, ShowsStage}
 use Rattle.pp_seats_law.specs.Seats.{ShowsOpen}
-use Rattle.pp_steps.proofs.SeatsLemmas.{found-at}
-use Rattle.pp_steps.specs.Due.{is_dry}
-use Rattle.pp_steps.specs.Ends.{AreInOrder, numbers_of}
-use Rattle.pp_steps.specs.declared.state.State.{State as Turn}
+use Rattle.pp_state.proofs.SeatsLemmas.{found-at}
+use Rattle.pp_due.specs.Due.{is_dry}
+use Rattle.pp_state.specs.Ends.{AreInOrder, numbers_of}
+use Rattle.pp_state.specs.declared.state.State.{State as Turn}
 use Rattle.pp_steps_law.proofs.Places.{at_place}
 use Rattle.pp_text.specs.Bytes.{is_empty}
 use Rattle.pp_turns_law.proofs.Asleep.{silent_first}

@@ -9,9 +9,9 @@ use Rattle.pp_law.specs.Turn.{renew_marks}
 use Rattle.pp_peers.specs.declared.peers.Peer.{Peer}
 use Rattle.pp_seats.specs.declared.seat.Seat.{Seat}
 use Rattle.pp_states_law.proofs.Waited.{renewals}
-use Rattle.pp_steps.specs.Ends.{AreInOrder, Parts, numbers_of, parts}
-use Rattle.pp_steps.specs.Waits.{is_waiting, woken_by, woken_seat}
-use Rattle.pp_steps.specs.declared.state.State.{State as Turn}
+use Rattle.pp_state.specs.Ends.{AreInOrder, Parts, numbers_of, parts}
+use Rattle.pp_due.specs.Waits.{is_waiting, woken_by, woken_seat}
+use Rattle.pp_state.specs.declared.state.State.{State as Turn}
 use Rattle.pp_steps_law.proofs.Told.{told_next}
 use Rattle.pp_steps_law.specs.Steps.{ShowsSteps, whole}
 use Rattle.pp_turns_law.proofs.Waiting.{waits_on}
@@ -67,10 +67,10 @@ unfolding renew_marks
 next_renewed now s = refl
 
 pub wakes_all : TicksAreTheLaws
-wakes_all number l peers p q s now shows may has =
+wakes_all number l peers p q s now shows ready has =
     turn_with number l peers p q s (renew_marks now s) (map (woken_seat now p) p.seats.items) shows has (renewed now s) (record {
       shows = renewals number p.name.items [] l (whole (parts p) peers) s shows.steps.shows now (is_waiting p)
-          (λ i seat c here there seen going. waits_on number l peers p s p.name.items seat c shows seen going (may i seat c here there going));
+          (λ i seat c here there seen going. waits_on number l peers p s p.name.items seat c shows seen going (ready i seat here (seen.closing ∙ going)));
       order = subst (λ (ns : List ℕ). AreInOrder ns) (sym (numbers_woken now p p.seats.items)) shows.steps.order;
       told = told_next number p.cache s.next_instance (renew_marks now s).next_instance p.flow (next_renewed now s) shows.steps.told;
       refused = shows.steps.refused;

@@ -7,8 +7,8 @@ use Rattle.pp_law.specs.Deciding.{serves as serves_reply}
 use Rattle.pp_law.specs.State.{Exchange, Reply}
 use Rattle.pp_law.specs.Table.{asks_for as asks_for_it, brings as brings_it, is_brought as is_being_brought, is_provided as is_being_provided}
 use Rattle.pp_seats.specs.Follows.{next_at}
-use Rattle.pp_steps.specs.Bringing.{asks_for, brings, is_brought, is_provided}
-use Rattle.pp_steps.specs.Deciding.{serves_next}
+use Rattle.pp_state.specs.Bringing.{asks_for, brings, is_brought, is_provided}
+use Rattle.pp_take.specs.Deciding.{serves_next}
 use Rattle.pp_turns_law.specs.Nexts.{OfNexts}
 
 -- of the exchange with a number

@@ -12,10 +12,10 @@ use Rattle.pp_seats.specs.declared.seat.Seat.{Seat}
 use Rattle.pp_seats.specs.Dues.{is_refused_in}
 use Rattle.pp_seats_law.specs.Dues.{due_as, has_source_standing, waits_on_still}
 use Rattle.pp_seats_law.specs.Seats.{ShowsSeat}
-use Rattle.pp_steps.specs.Decide.{decide}
-use Rattle.pp_steps.specs.Due.{due_of, has_source_standing as stands_in_turn, is_dry, is_superseded as superseded_in_turn}
-use Rattle.pp_steps.specs.Sharing.{may_wait_on}
-use Rattle.pp_steps.specs.declared.state.State.{State as Turn}
+use Rattle.pp_decide.specs.Decide.{decide}
+use Rattle.pp_due.specs.Due.{due_of, has_source_standing as stands_in_turn, is_dry, is_superseded as superseded_in_turn}
+use Rattle.pp_decide.specs.Sharing.{may_wait_on}
+use Rattle.pp_state.specs.declared.state.State.{State as Turn}
 use Rattle.pp_turns_law.specs.Turns.{IsDecidable, IsFollowing, OfTurns, ShowsTurn}
 
 -- the instance that it follows still stands as the row of its key

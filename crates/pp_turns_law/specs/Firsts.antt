@@ -10,9 +10,9 @@ use Rattle.pp_seats.specs.Seats.{is_silent}
 use Rattle.pp_seats.specs.declared.due.Due.{Due as SeatDue}
 use Rattle.pp_seats.specs.declared.seat.Seat.{Seat}
 use Rattle.pp_seats_law.specs.Dues.{due_as}
-use Rattle.pp_steps.specs.Due.{due_at}
-use Rattle.pp_steps.specs.Entering.{Comes, FirstDue, IsRefused, key_at}
-use Rattle.pp_steps.specs.declared.state.State.{State as Turn}
+use Rattle.pp_due.specs.Due.{due_at}
+use Rattle.pp_due.specs.Entering.{Comes, FirstDue, IsRefused, key_at}
+use Rattle.pp_state.specs.declared.state.State.{State as Turn}
 use Rattle.pp_store.specs.Kept.{KeptMap}
 use Rattle.pp_turns_law.specs.Rows.{ShowsDisk, kept_alone, with_row_of, with_rows_of}
 

@@ -1,7 +1,8 @@
 -- Who is looked at, and that the others are silent (ours).
 use Rattle.std.specs.Prelude.{◌≡◌, ◌<◌, ℕ, false, length, filter}
-use Rattle.pp_steps.specs.Waits.{is_loud, places, with_number}
-use Rattle.pp_steps.specs.declared.state.State.{State as Turn}
+use Rattle.pp_due.specs.Waits.{is_loud}
+use Rattle.pp_state.specs.Numbers.{places, with_number}
+use Rattle.pp_state.specs.declared.state.State.{State as Turn}
 use Rattle.pp_turns_law.specs.Firsts.{AreAwake}
 use Rattle.pp_turns_law.specs.Marks.{AreLoud}
 

@@ -1,6 +1,7 @@
 -- What a tick and a wait change of the clients is what the law changes of them (ours).
 use Rattle.std.specs.Prelude.{◌≡◌, ℕ, true, false, ◌&&◌, not, map, length, List, [], ◌∷◌, slice_get, Some}
-use Rattle.pp_turns_law.specs.Turns.{IsDecidable, IsFollowing, ShowsTurn}
+use Rattle.pp_turns_law.specs.Rows.{AreReady, IsReady}
+use Rattle.pp_turns_law.specs.Turns.{ShowsTurn}
 use Rattle.pp_flow_law.specs.Tables.{AreGiven, Leaving}
 use Rattle.pp_law.specs.Lists.{Bytes, has_number}
 use Rattle.pp_law.specs.Offers.{has_to_say}
@@ -8,25 +9,19 @@ use Rattle.pp_law.specs.Sharing.{is_sharing as shares_by_law}
 use Rattle.pp_law.specs.State.{State, Client}
 use Rattle.pp_law.specs.Turn.{renew_marks, rested_client, waits_for_exchange as waits_by_law}
 use Rattle.pp_peers.specs.declared.peers.Peer.{Peer}
-use Rattle.pp_seats.specs.Heads.{is_there_in}
-use Rattle.pp_seats.specs.Seats.{is_silent, is_undecided_in}
+use Rattle.pp_seats.specs.Seats.{is_silent}
 use Rattle.pp_seats.specs.declared.seat.Seat.{Seat}
 use Rattle.pp_seats_law.specs.Seats.{ShowsSeat}
-use Rattle.pp_steps.specs.Due.{is_sharing}
-use Rattle.pp_steps.specs.Ends.{changed_at}
-use Rattle.pp_steps.specs.Waits.{is_waiting, rested_seat, waits_for_exchange, woken_seat}
-use Rattle.pp_steps.specs.declared.state.State.{State as Turn}
+use Rattle.pp_decide.specs.Sharing.{is_sharing}
+use Rattle.pp_state.specs.Ends.{changed_at}
+use Rattle.pp_due.specs.Waits.{is_waiting, rested_seat, waits_for_exchange, woken_seat}
+use Rattle.pp_state.specs.declared.state.State.{State as Turn}
 
 -- ---- who waits
 
--- what it follows is there; and while no decision was taken for its request, that can be decided
-pub record MayWait (number : ℕ → ℕ) (p : Turn) (s : State) (seat : Seat) (c : Client) : Type 0 where
-  pub follows : IsFollowing p.cache seat
-  pub decidable : is_undecided_in seat.stage ≡ true → is_there_in seat.front ≡ true → IsDecidable number p s seat c
-
--- of all seats that show a client, and are not closing, amid a turn that shows the law's state
+-- of all seats that show a client, and go on, amid a turn that shows the law's state
 abbrev pub OfWaiting : (Turn → State → Seat → Client → Type 0) → Type 0
-OfWaiting P = (number : ℕ → ℕ) (l : Leaving) (peers : List Peer) (p : Turn) (s : State) (name : Bytes) (seat : Seat) (c : Client) → ShowsTurn number l peers p s → ShowsSeat number name [] seat c → c.is_closing ≡ false → MayWait number p s seat c → P p s seat c
+OfWaiting P = (number : ℕ → ℕ) (l : Leaving) (peers : List Peer) (p : Turn) (s : State) (name : Bytes) (seat : Seat) (c : Client) → ShowsTurn number l peers p s → ShowsSeat number name [] seat c → c.is_closing ≡ false → IsReady number p.cache s.next_instance seat → P p s seat c
 
 -- it shares what another one asks
 abbrev pub SharingIsTheLaws : Type 0
@@ -42,10 +37,6 @@ WaitingIsTheLaws = OfWaiting (λ p s seat c. is_waiting p seat ≡ (waits_by_law
 
 -- ---- of all clients
 
--- each that is not closing may
-abbrev pub AllMayWait : (ℕ → ℕ) → Turn → State → Type 0
-AllMayWait number p s = (i : ℕ) (seat : Seat) (c : Client) → slice_get p.seats.items i ≡ Some seat → slice_get s.clients i ≡ Some c → c.is_closing ≡ false → MayWait number p s seat c
-
 -- the clients alone are changed
 pub record HasSeats (seats : List Seat) (p q : Turn) : Type 0 where
   pub are : q.seats.items ≡ seats
@@ -53,7 +44,7 @@ pub record HasSeats (seats : List Seat) (p q : Turn) : Type 0 where
 
 -- at a tick, before the clock is set
 abbrev pub TicksAreTheLaws : Type 0
-TicksAreTheLaws = (number : ℕ → ℕ) (l : Leaving) (peers : List Peer) (p q : Turn) (s : State) (now : ℕ) → ShowsTurn number l peers p s → AllMayWait number p s → HasSeats (map (woken_seat now p) p.seats.items) p q
+TicksAreTheLaws = (number : ℕ → ℕ) (l : Leaving) (peers : List Peer) (p q : Turn) (s : State) (now : ℕ) → ShowsTurn number l peers p s → AreReady number p.cache s.next_instance p.seats.items → HasSeats (map (woken_seat now p) p.seats.items) p q
     → ShowsTurn number l peers q (renew_marks now s)
 
 -- at a wait those at these places, one behind the other
@@ -70,5 +61,5 @@ abbrev pub with_rested : State → State
 with_rested s = record s { clients = map (rested_client s) s.clients }
 
 abbrev pub RestingIsTheLaws : Type 0
-RestingIsTheLaws = (number : ℕ → ℕ) (l : Leaving) (peers : List Peer) (p q : Turn) (s : State) → ShowsTurn number l peers p s → AreLoud p → AllMayWait number p s → HasSeats (all_rested p p.awake.items p.seats.items) p q
+RestingIsTheLaws = (number : ℕ → ℕ) (l : Leaving) (peers : List Peer) (p q : Turn) (s : State) → ShowsTurn number l peers p s → AreLoud p → AreReady number p.cache s.next_instance p.seats.items → HasSeats (all_rested p p.awake.items p.seats.items) p q
     → ShowsTurn number l peers q (with_rested s)

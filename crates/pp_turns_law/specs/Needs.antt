@@ -5,7 +5,7 @@ use Rattle.pp_cache_law.specs.Joins.{EndsWhole}
 use Rattle.pp_law.specs.Followers.{need_of as need_by}
 use Rattle.pp_law.specs.State.{State}
 use Rattle.pp_law.specs.Table.{Next, extent_of}
-use Rattle.pp_steps.specs.Bringing.{need_of}
+use Rattle.pp_state.specs.Bringing.{need_of}
 use Rattle.pp_turns_law.specs.Nexts.{OfNexts}
 
 -- the next byte is one of the body; what is kept on the disk ends with a chunk, or with the body

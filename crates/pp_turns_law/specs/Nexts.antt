@@ -5,7 +5,7 @@ use Rattle.pp_law.specs.State.{State}
 use Rattle.pp_law.specs.Table.{Next, instance}
 use Rattle.pp_objects.specs.Instances.{is_there}
 use Rattle.pp_seats.specs.declared.seat.Next.{Next as SeatNext}
-use Rattle.pp_steps.specs.Ends.{Parts}
+use Rattle.pp_state.specs.Ends.{Parts}
 use Rattle.pp_steps_law.specs.Steps.{OfSteps}
 
 -- of an instance that is there

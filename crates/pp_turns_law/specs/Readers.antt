@@ -5,7 +5,7 @@ use Rattle.pp_flow.specs.declared.entry.Entry.{Entry}
 use Rattle.pp_law.specs.Connections.{exchange}
 use Rattle.pp_law.specs.Served.{is_far_ahead as is_far_by_law}
 use Rattle.pp_law.specs.State.{Exchange}
-use Rattle.pp_steps.specs.Readers.{is_far_ahead}
+use Rattle.pp_state.specs.Readers.{is_far_ahead}
 use Rattle.pp_turns_law.specs.Firsts.{AreAwake}
 use Rattle.pp_turns_law.specs.Wants.{OfEnds}
 

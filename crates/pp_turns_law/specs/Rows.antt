@@ -16,9 +16,9 @@ use Rattle.pp_seats.specs.Dues.{refused_in}
 use Rattle.pp_seats.specs.declared.seat.Brought.TheVariants.{Joins as JoinsRow}
 use Rattle.pp_seats.specs.declared.seat.Seat.{Seat}
 use Rattle.pp_seats_law.specs.Words.{HasSource}
-use Rattle.pp_steps.specs.Entering.{Comes}
-use Rattle.pp_steps.specs.OnDisk.{kept_alone as kept_in_turn}
-use Rattle.pp_steps.specs.declared.state.State.{State as Turn}
+use Rattle.pp_due.specs.Entering.{Comes}
+use Rattle.pp_due.specs.OnDisk.{kept_alone as kept_in_turn}
+use Rattle.pp_state.specs.declared.state.State.{State as Turn}
 use Rattle.pp_steps_law.specs.Told.{IsTold}
 use Rattle.pp_store.specs.Kept.{Kept, KeptMap}
 

@@ -12,7 +12,7 @@ use Rattle.pp_objects.specs.Instances.{is_there}
 use Rattle.pp_seats.specs.Follows.{next_of}
 use Rattle.pp_seats.specs.declared.seat.Seat.{Seat}
 use Rattle.pp_seats_law.specs.Words.{HasSource}
-use Rattle.pp_steps.specs.Unseen.{is_nobodys}
+use Rattle.pp_state.specs.Unseen.{is_nobodys}
 use Rattle.pp_steps_law.specs.Steps.{OfSteps}
 
 -- what each of the clients follows is there

@@ -12,9 +12,9 @@ use Rattle.pp_law.specs.State.{State, Client}
 use Rattle.pp_peers.specs.declared.peers.Peer.{Peer}
 use Rattle.pp_seats.specs.Seats.{is_silent}
 use Rattle.pp_seats.specs.declared.seat.Seat.{Seat}
-use Rattle.pp_steps.specs.Due.{is_dry}
-use Rattle.pp_steps.specs.Ends.{numbers_of}
-use Rattle.pp_steps.specs.declared.state.State.{State as Turn}
+use Rattle.pp_due.specs.Due.{is_dry}
+use Rattle.pp_state.specs.Ends.{numbers_of}
+use Rattle.pp_state.specs.declared.state.State.{State as Turn}
 
 -- ---- as it is written down
 

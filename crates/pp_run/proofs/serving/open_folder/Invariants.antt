@@ -1,4 +1,4 @@
-use Rattle.pp_proxy.specs.Anything.{anything}
+use Rattle.pp_desk.specs.Anything.{anything}
 use Rattle.pp_run.proofs.serving.open_folder.Given as goal
 
 -- nobody asks what was sent

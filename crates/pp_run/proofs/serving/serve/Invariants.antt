@@ -3,7 +3,7 @@ use Rattle.pp_world.specs.Log.{Told}
 use Rattle.pp_links.specs.Links.{IsLinked}
 use Rattle.pp_links.specs.Quiet.{GrowsBy}
 use Rattle.pp_store.specs.Held.{Holds}
-use Rattle.pp_proxy.specs.Anything.{anything}
+use Rattle.pp_desk.specs.Anything.{anything}
 use Rattle.pp_run.specs.Serving.{GoesOn}
 use Rattle.pp_run.proofs.serving.serve.Given as goal
 

@@ -1,5 +1,5 @@
 use Rattle.std.proofs.Common.{◌<◌, ◌≤◌, length, arith}
-use Rattle.pp_steps.proofs.PinLemmas.{full, nothing, pushed}
+use Rattle.pp_state.proofs.PinLemmas.{full, nothing, pushed}
 use Rattle.pp_steps.proofs.evict.pin.Goals as goal
 
 pub returns-in-None : goal.returns-in-None

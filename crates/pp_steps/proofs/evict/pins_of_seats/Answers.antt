@@ -1,8 +1,8 @@
 use Rattle.std.proofs.Common.{[], refl, sym, ◌∙◌, ap}
 use Rattle.std.proofs.lemmas.Option.{slice_get_read}
 use Rattle.std.specs.Prelude.{length, option_and_then}
-use Rattle.pp_steps.specs.Pins.{pin_of_seat}
-use Rattle.pp_steps.proofs.PinLemmas.{gathered}
+use Rattle.pp_state.specs.Pins.{pin_of_seat}
+use Rattle.pp_state.proofs.PinLemmas.{gathered}
 use Rattle.pp_steps.proofs.evict.pins_of_seats.Goals as goal
 
 pub loop-index-preserved : goal.loop-index-preserved

@@ -1,0 +1,3 @@
+pub mod Decide
+pub mod Patience
+pub mod Sharing

@@ -1,0 +1,9 @@
+pub mod AccessLemmas
+pub mod CallLemmas
+pub mod ClosingLemmas
+pub mod DiskLemmas
+pub mod OriginLemmas
+pub mod PeersLemmas
+pub mod PlaceLemmas
+pub mod ReplyLemmas
+pub mod ShuttingLemmas

@@ -1,0 +1,12 @@
+use Rattle.std.proofs.Common.{arith}
+use Rattle.pp_desk.specs.Marks.{marked_peer}
+use Rattle.pp_desk.proofs.PeersLemmas.{fronted_next, fronted_whole}
+use Rattle.pp_desk.proofs.marks.mark_peers.Goals as goal
+
+pub loop-place-preserved : goal.loop-place-preserved
+loop-place-preserved c =
+    fronted_next (marked_peer c.args.now) c.loop-place.place c.args.peers.now c.loop-place.peers c.mark_peer.new.peers c.loop-place.invariant (omega (arith, c.loop-place-test.true, c.len-place-end.ensures.count)) c.mark_peer.ensures
+
+pub returns : goal.returns
+returns c =
+    fronted_whole (marked_peer c.args.now) c.loop-place.place c.args.peers.now c.loop-place.peers (omega (arith, c.loop-place-test.false, c.len-place-end.ensures.count)) (omega (arith, c.loop-place.auto.place-end, c.len-place-end.ensures.count)) c.loop-place.invariant

@@ -1,0 +1,65 @@
+// The memory of the proxy, which is taken once.
+use crate::desk::{Desk, MAX_CLIENTS, READ_LEN};
+use arrayvec::ArrayVec;
+use pp_cache::{Cache, Noted};
+use pp_client::Room;
+use pp_conf::Conf;
+use pp_flow::Flow;
+use pp_peers::{Limits, Peers};
+use pp_state::State;
+use pp_text::OutOfMemory;
+use pp_world::AccessLog;
+use std::alloc::{AllocError, Global};
+
+/// The file of an entry with 64 chunks of its body: the head block and the gates of the longest body, and the chunks.
+const FILE_LEN: usize = 24_576 + 262_144;
+
+/// Ours: a run has at most so small a part of the pool, so that many bodies at once keep the fronts of their runs.
+const RUNS_OF_POOL: u32 = 128;
+
+impl Desk {
+    /// A desk with these settings and without a client, with the memory for all that is not a client's own.
+    pub fn open(alloc: Global, conf: &Conf) -> Result<Desk, OutOfMemory> {
+        let state = state_of(alloc, conf)?;
+        Ok(Desk {
+            state,
+            peers: Peers::new(alloc)?,
+            buffer: vec![in alloc; 0; READ_LEN]?,
+            data: Vec::with_capacity(alloc, READ_LEN)?,
+            room: Box::new(alloc, Room::new()).map_err(AllocError::from)?,
+            file: vec![in alloc; 0; FILE_LEN]?,
+            turned_away: None,
+            logs_replies: !matches!(conf.log_place(), AccessLog::Nowhere),
+        })
+    }
+}
+
+/// Nobody is there, nothing is under way, and nothing is in memory.
+fn state_of(alloc: Global, conf: &Conf) -> Result<State, OutOfMemory> {
+    let mut name = ArrayVec::new();
+    let _ = name.try_extend_from_slice(conf.name.as_slice());
+    Ok(State {
+        alloc,
+        name,
+        trigger: conf.high.min(conf.critical.saturating_sub(31)),
+        floor: conf.low.min(conf.critical.saturating_sub(32)),
+        shares_fetches: conf.share_fetches,
+        limits: Limits {
+            host_connections: conf.host_connections,
+            pipelines_asks: conf.pipeline_asks,
+        },
+        seats: Vec::with_capacity(alloc, MAX_CLIENTS)?,
+        awake: Vec::with_capacity(alloc, MAX_CLIENTS)?,
+        flow: Flow::new(alloc)?,
+        cache: Cache::new(alloc, conf.critical)?,
+        run: conf.disk_run.min(conf.critical / RUNS_OF_POOL).max(1),
+        has_lost_draft: false,
+        now: 0,
+        has_ticked: false,
+        is_ticked: false,
+        is_stopped: false,
+        is_evicting: false,
+        forgotten: Noted::new(alloc)?,
+        refused: Noted::new(alloc)?,
+    })
+}

@@ -1,0 +1,3 @@
+pub mod EnteringLemmas
+pub mod RoomLemmas
+pub mod WaitsLemmas

@@ -1,0 +1,4 @@
+pub mod Due
+pub mod Entering
+pub mod OnDisk
+pub mod Waits

@@ -1,0 +1,11 @@
+use Rattle.std.proofs.Common.{◌≡◌}
+use Rattle.pp_desk.specs.Closings.{peer_numbers}
+use Rattle.pp_desk.specs.Origins.{without_idle_on}
+use Rattle.pp_desk.proofs.OriginLemmas.{AreDone}
+use Rattle.pp_origins.proofs.idle.close_idle.Given as goal
+
+abbrev pub invariant-loop-place : goal.invariant-loop-place
+invariant-loop-place l = record {
+  done : AreDone (without_idle_on l.fn.desk.state.now) (peer_numbers l.fn.desk.peers) l.place l.fn.desk l.desk;
+  connections : peer_numbers l.desk.peers ≡ peer_numbers l.fn.desk.peers;
+}

@@ -1,6 +1,0 @@
-use Rattle.std.proofs.Common.{ap}
-use Rattle.pp_proxy.proofs.ShuttingLemmas.{closed_one}
-use Rattle.pp_proxy.proofs.desk.Desk.give_way.Goals as goal
-
-pub returns-clause-told : goal.returns-clause-told
-returns-clause-told g c = closed_one c.args.links.now c.args.k c.requires c.close.ensures.told (λ none. ap g.W.Logged.log (c.close.ensures.none none))

@@ -1,5 +1,0 @@
-use Rattle.pp_links.proofs.QuietLemmas.{quiet_then}
-use Rattle.pp_proxy.proofs.desk.Desk.hear.Goals as goal
-
-pub returns-clause-quiet : goal.returns-clause-quiet
-returns-clause-quiet g c = quiet_then c.take_in.ensures.quiet c.end_replies.ensures.quiet

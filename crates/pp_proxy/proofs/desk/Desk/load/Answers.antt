@@ -1,8 +1,0 @@
-use Rattle.pp_shelf.proofs.SteadyLemmas.{steady_then_quiet}
-use Rattle.pp_proxy.proofs.desk.Desk.load.Goals as goal
-
-pub returns-in-Some-Ok-clause-steady : goal.returns-in-Some-Ok-clause-steady
-returns-in-Some-Ok-clause-steady g c = steady_then_quiet c.load.ensures.steady c.note.ensures.quiet
-
-pub returns-in-Some-Err-clause-steady : goal.returns-in-Some-Err-clause-steady
-returns-in-Some-Err-clause-steady g c = steady_then_quiet c.load.ensures.steady c.note-in-Some-Err.ensures.quiet

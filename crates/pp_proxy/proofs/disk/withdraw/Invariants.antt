@@ -1,6 +1,0 @@
-use Rattle.pp_proxy.specs.Anything.{anything}
-use Rattle.pp_proxy.proofs.disk.withdraw.Given as goal
-
--- nobody asks what was sent
-abbrev pub ghost-withdraw : goal.ghost-withdraw
-ghost-withdraw g a = anything

@@ -1,7 +1,0 @@
-use Rattle.std.proofs.Common.{◌≡◌}
-use Rattle.pp_proxy.specs.Marks.{marked_seat}
-use Rattle.pp_steps.proofs.SeatsLemmas.{front-mapped}
-use Rattle.pp_proxy.proofs.marks.mark_seats.Given as goal
-
-abbrev pub invariant-loop-seat : goal.invariant-loop-seat
-invariant-loop-seat l = l.seats ≡ front-mapped (marked_seat l.now) l.seat-index l.fn.seats

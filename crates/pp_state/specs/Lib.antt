@@ -1,0 +1,14 @@
+pub mod Accounts
+pub mod Asking
+pub mod Bodies
+pub mod Bringing
+pub mod Ends
+pub mod Hearing
+pub mod Keys
+pub mod Known
+pub mod Numbers
+pub mod Passing
+pub mod Pins
+pub mod Places
+pub mod Readers
+pub mod Unseen

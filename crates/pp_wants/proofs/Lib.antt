@@ -1,0 +1,2 @@
+pub mod AwaitedLemmas
+pub mod RestLemmas
