@@ -123,7 +123,7 @@ mark_row_of-keeps : {P : View → Type 0} (w : KeepsRows P) (key : Bytes) (s : S
 unfolding mark_row_of
 mark_row_of-keeps w key s h = each_of (row s key) h (λ x. mark_row-keeps w x.id s h)
 
-enter_row-keeps : {P : View → Type 0} (w : KeepsRows P) (c : Client) (d : Decision) (s : State) → Holds P s → Holds P (enter_row c d s)
+pub enter_row-keeps : {P : View → Type 0} (w : KeepsRows P) (c : Client) (d : Decision) (s : State) → Holds P s → Holds P (enter_row c d s)
 unfolding enter_row
 enter_row-keeps w c d s h = when (is_for_memory d) h (each_of (key_in c.front) h (λ key. mark_row_of-keeps w (text_of key) _ (enter-keeps w (text_of key) false s h)))
 

@@ -84,7 +84,7 @@ answer_for-turn k e head s h = when (is_wrong_head e head) (bad_head-keeps turn_
     by_rule (Ok rule) = begin_answer-turn k e head rule s h
     by_rule (Err fault) = bad_head-keeps turn_walk k s h
 
-head_came-turn : (k : Conn) (head : Response) (s : State) → Holds Turn s → Holds Turn (head_came k head s)
+pub head_came-turn : (k : Conn) (head : Response) (s : State) → Holds Turn s → Holds Turn (head_came k head s)
 unfolding head_came
 head_came-turn k head s h = each_so (front_of_line s k) (λ none. close_conn-keeps turn_walk false k s h) (λ e first. answer_for-turn k e head s h)
 
@@ -139,7 +139,7 @@ join_bound-turn : (e : Exchange) (bytes : Bytes) (s : State) → Holds Turn s �
 unfolding join_bound
 join_bound-turn e bytes s h = each_of (bound_of e) h (λ b. on_exchange-keeps turn_walk e.number (moved_on (length bytes)) _ (moved_same (length bytes)) (join-turn b bytes s h))
 
-deliver-turn : (e : Exchange) (a : Answer) (at : ℕ) (bytes : Bytes) (s : State) → Holds Turn s → Holds Turn (deliver e a at bytes s)
+pub deliver-turn : (e : Exchange) (a : Answer) (at : ℕ) (bytes : Bytes) (s : State) → Holds Turn s → Holds Turn (deliver e a at bytes s)
 unfolding deliver
 deliver-turn e a at bytes s h = pour-keeps turn_walk e (poured bytes) _ (join_bound-turn e bytes _ (note_sent-turn e a at bytes s h))
 
@@ -164,7 +164,7 @@ body_piece-turn k a bytes s h = by (front_of_line s k)
         let fresh : Bytes = drop at (body_of a.rule (a.raw ++ bytes)).payload in
         body_piece_by k a e bytes (deliver e a at fresh s) (body_of a.rule (a.raw ++ bytes)).outcome (deliver-turn e a at fresh s h)
 
-next_piece-turn : (k : Conn) (bytes : Bytes) (s : State) → Holds Turn s → Holds Turn (next_piece k bytes s).state
+pub next_piece-turn : (k : Conn) (bytes : Bytes) (s : State) → Holds Turn s → Holds Turn (next_piece k bytes s).state
 next_piece-turn k bytes s h = by k.answer
   where
     by : (answer : Option Answer) → Holds Turn (elim answer as (λ c. Piece) [ Some a ↦ body_piece k a bytes s | None ↦ head_piece k bytes s ]).state
@@ -173,7 +173,7 @@ next_piece-turn k bytes s h = by k.answer
 
 -- ---- the read
 
-got-turn : (more n : ℕ) (bytes : Bytes) (s : State) → Holds Turn s → Holds Turn (got more n bytes s)
+pub got-turn : (more n : ℕ) (bytes : Bytes) (s : State) → Holds Turn s → Holds Turn (got more n bytes s)
 unfolding got
 got-turn zero n bytes s h = h
 got-turn (suc more) n bytes s h = each_of (conn s n) h (λ k. when (k.is_closing || is_empty bytes) h (got-turn more n (next_piece k bytes s).rest (next_piece k bytes s).state (next_piece-turn k bytes s h)))
@@ -222,7 +222,7 @@ behind-turn Handling s is free h = in_phase-turn Evicting s free (λ off. ap is_
 behind-turn Evicting s is free h = give_up_asks-keeps turn_walk _ (in_phase-turn Keeping s free (λ off. absurd (cc off)) h)
 behind-turn Keeping s is free h = in_phase-turn Deciding s free (λ off. absurd (cc off)) h
 behind-turn Deciding s is free h = in_phase-turn Following s free (λ off. absurd (cc off)) h
-behind-turn Following s is free h = fill-keeps turn_walk turn_begins _ (drop_unseen-keeps turn_walk _ (in_phase-turn Connecting s free (λ off. absurd (cc off)) h))
+behind-turn Following s is free h = fill-keeps turn_walk turn_begins _ (give_up_asks-keeps turn_walk _ (drop_unseen-keeps turn_walk _ (in_phase-turn Connecting s free (λ off. absurd (cc off)) h)))
 behind-turn Connecting s is free h = placing-keeps turn_places _ (in_phase-turn DecidingAgain s free (λ off. absurd (cc off)) h)
 behind-turn DecidingAgain s is free h = h
 
@@ -304,7 +304,7 @@ decides_late s is = by (is_at Deciding s) refl is
 
 -- ---- decisions
 
-deciding-turn : (s : State) → decides (come_to_decide s) ≡ true → Holds Turn s → Holds Turn (deciding s)
+pub deciding-turn : (s : State) → decides (come_to_decide s) ≡ true → Holds Turn s → Holds Turn (deciding s)
 unfolding deciding
 deciding-turn s on h =
     let t = come_to_decide-turn s h in
@@ -312,11 +312,11 @@ deciding-turn s on h =
 
 -- ---- events
 
-event-turn : (s : State) → is_late s.phase ≡ false → Holds Turn s → Holds Turn (event s)
+pub event-turn : (s : State) → is_late s.phase ≡ false → Holds Turn s → Holds Turn (event s)
 unfolding event
 event-turn s early h = regained-keeps turn_walk _ (phased Handling s.owed s (λ isnt. refl) (λ off. early) h)
 
-paid-turn : (s : State) → Holds Turn s → Holds Turn (paid s)
+pub paid-turn : (s : State) → Holds Turn s → Holds Turn (paid s)
 unfolding paid
 paid-turn s h = regained-keeps turn_walk _ (phased s.phase Free s (λ isnt. absurd (cc isnt)) (λ off. off) h)
 
@@ -367,13 +367,13 @@ said-turn : (c n : ℕ) (s : State) → Holds Turn s → Holds Turn (said c n s)
 unfolding said
 said-turn c n s h = each_of (client s c) h (λ x. end_replies-keeps turn_walk _ (on_client-keeps turn_walk c (said_by n) _ (said_by-same n) (use_said-keeps n x s h)))
 
-gone-turn : (is_clean : Bool) (n : ℕ) (s : State) → Holds Turn s → Holds Turn (gone is_clean n s)
+pub gone-turn : (is_clean : Bool) (n : ℕ) (s : State) → Holds Turn s → Holds Turn (gone is_clean n s)
 unfolding gone
 gone-turn is_clean n s h = each_of (conn s n) h (λ k. end_replies-keeps turn_walk _ (ended-keeps turn_walk is_clean k s h))
 
 -- ---- notes
 
-take_decision-turn : (n : ℕ) (d : Decision) (s : State) → is_late s.phase ≡ true → ((c : Client) → client s n ≡ Some c → c.is_closing ≡ false) → Holds Turn s → Holds Turn (take_decision n d s)
+pub take_decision-turn : (n : ℕ) (d : Decision) (s : State) → is_late s.phase ≡ true → ((c : Client) → client s n ≡ Some c → c.is_closing ≡ false) → Holds Turn s → Holds Turn (take_decision n d s)
 unfolding take_decision
 take_decision-turn n d s late going h =
     each_so (client s n) (λ none. h)
@@ -430,7 +430,7 @@ evicted-turn : (s : State) → Holds Turn s → Holds Turn (evicted s)
 unfolding evicted
 evicted-turn s h = each_of (due_victim s) h (λ place. drop_chunk-keeps place.0 place.1 s h)
 
-refused_row-turn : (x : Instance) (s : State) → is_followed s x.id ≡ false → Holds Turn s → Holds Turn (refused_row x s)
+pub refused_row-turn : (x : Instance) (s : State) → is_followed s x.id ≡ false → Holds Turn s → Holds Turn (refused_row x s)
 unfolding refused_row
 refused_row-turn x s none h =
     let told : State = record (forget x.id s) { clients = change (waits_for_row x.id) (λ c. record c { course = RowRefused }) (forget x.id s).clients } in
@@ -654,7 +654,7 @@ configured-turn (Some text) s e h = with_settings-turn (settings_in (reading_of 
 
 -- ---- a client is shut
 
-shut-turn : (n : ℕ) (s : State) → Holds Turn s → Holds Turn (shut n s)
+pub shut-turn : (n : ℕ) (s : State) → Holds Turn s → Holds Turn (shut n s)
 unfolding shut
 shut-turn n s h = holds (record {
   owes = closed.owes;
@@ -679,21 +679,17 @@ shut-turn n s h = holds (record {
 
 -- ---- places
 
-dialled-turn : (n : ℕ) (host : Bytes) (port : ℕ) (p : Placement) → Holds Turn p.state → Holds Turn (dialled n host port p)
+pub dialled-turn : (n : ℕ) (host : Bytes) (port : ℕ) (p : Placement) → Holds Turn p.state → Holds Turn (dialled n host port p)
 unfolding dialled
 dialled-turn n host port p h = by_pause p.pause h (λ k e. h) (λ e. holds (turn_places e.number n _ (facts_of h)))
 
-lose_attempt-owed : (e : Exchange) (s : State) → is_free s.owed ≡ true → is_free (lose_attempt e s).owed ≡ true
-lose_attempt-owed e s free = let was : Holds (AreStill s.phase s.owed) s = holds (refl, refl) in ap is_free (facts_of (lose_attempt-keeps (still_walk s.phase s.owed) e s was)).1 ∙ free
-
--- where nothing is owed an exchange that is refused a dial is over
-refused_dial-turn : (e : Exchange) (s : State) → is_free s.owed ≡ true → Holds Turn s → Holds Turn (refused_dial e s)
+pub refused_dial-turn : (e : Exchange) (s : State) → Holds Turn s → Holds Turn (refused_dial e s)
 unfolding refused_dial
-refused_dial-turn e s free h = when (may_ask_again s e.number) h (end_exchange-keeps turn_walk e.number _ (in_phase-turn Following s free (λ off. absurd (cc off)) h))
+refused_dial-turn e s h = when (may_ask_again s e.number) h (fill-keeps turn_walk turn_begins _ (end_exchange-keeps turn_walk e.number _ h))
 
-undialled-turn : (p : Placement) → is_free p.state.owed ≡ true → Holds Turn p.state → Holds Turn (undialled p)
+undialled-turn : (p : Placement) → Holds Turn p.state → Holds Turn (undialled p)
 unfolding undialled
-undialled-turn p free h = by_pause p.pause h (λ k e. h) (λ e. refused_dial-turn e _ (lose_attempt-owed e (record p.state { failures = p.state.failures + 1 }) free) (lose_attempt-keeps turn_walk e _ (holds (facts_of h))))
+undialled-turn p h = by_pause p.pause h (λ k e. h) (λ e. refused_dial-turn e _ (lose_attempt-keeps turn_walk e _ (holds (facts_of h))))
 
 dropped-turn : (n : ℕ) (s : State) → Holds Turn s → Holds Turn (dropped n s)
 unfolding dropped out
@@ -701,7 +697,7 @@ dropped-turn n s h = each_of (conn s n) h (λ k. when k.is_closing (holds (facts
 
 -- ---- all
 
-rest_with-turn : (w : Wants) (s : State) → Holds Turn s → Holds Turn (rest_with w s)
+pub rest_with-turn : (w : Wants) (s : State) → Holds Turn s → Holds Turn (rest_with w s)
 unfolding rest_with
 rest_with-turn w s h = holds (record {
   owes = λ isnt. absurd (cc isnt);
@@ -719,7 +715,7 @@ rest_with-turn w s h = holds (record {
     f : Turn (record v { instances = map rested_instance s.instances; next_instance = s.next_instance })
     f = turn_walk.rows (map rested_instance s.instances) s.next_instance v (rows_mapped v rested_instance (λ x. record { id = refl; key = refl; is_new = λ is. absurd (cc is); retired = λ is. is })) (rested-keeps turn_walk w s h)
 
-ending-turn : (s : State) → Holds Turn s → Holds Turn (ending s)
+pub ending-turn : (s : State) → Holds Turn s → Holds Turn (ending s)
 unfolding ending
 ending-turn s h = begin_replies-keeps turn_walk _ (come_to-turn DecidingAgain s h)
 
@@ -862,16 +858,6 @@ noted-turn (Forgotten key) s so is h = forgotten_by-turn key s h
 noted-turn (Evicted key tag n i) s so is h = evicted-turn _ (come_to-turn Evicting s h)
 noted-turn (Loaded key tag n i) s so is h = load-turn key i s h
 
-put_free : (n k : ℕ) (u : State) → is_free u.owed ≡ true → is_free (put_on n k u).owed ≡ true
-unfolding put_on on_conn on_exchange
-put_free n k u free = free
-
-undialled_free : (s : State) (host : Bytes) (port : ℕ) → permits_dial s host port ≡ true → Holds Turn s → is_free (placing (come_to Connecting s)).state.owed ≡ true
-undialled_free s host port is h =
-    let t : State = come_to Connecting s in
-    let at : is_late t.phase ≡ true = ap is_late (at_phase Connecting t (gate (is_at Connecting t) (may_dial t host port) is).0) in
-    placing-any (λ u. is_free u.owed ≡ true) put_free t (late_owes t at (come_to-turn Connecting s h))
-
 changed-turn : {b : Since} (s : State) (h : Happening) → Sound b s → IsPermitted s h → Holds Turn s → Holds Turn (changed s h)
 unfolding changed
 changed-turn s (Woke image) so is h = woken-turn image s
@@ -885,7 +871,7 @@ changed-turn s (HungUp c) so is h = paid-turn _ (hang_up-keeps turn_walk c s h)
 changed-turn s (Said c offered bytes) so is h = paid-turn _ (said-turn c (length bytes) s h)
 changed-turn s (Shut c) so is h = shut-turn c _ (come_to-turn Connecting s h)
 changed-turn s (Dialled n host port) so is h = dialled-turn n host port (placing (come_to Connecting s)) (placing-keeps turn_places _ (come_to-turn Connecting s h))
-changed-turn s (Undialled host port) so is h = undialled-turn (placing (come_to Connecting s)) (undialled_free s host port (undialled_may s host port is) h) (placing-keeps turn_places _ (come_to-turn Connecting s h))
+changed-turn s (Undialled host port) so is h = undialled-turn (placing (come_to Connecting s)) (placing-keeps turn_places _ (come_to-turn Connecting s h))
 changed-turn s (Reached n) so is h = event-turn _ (reached_early n s (awaiting_early s (reached_awaits s n is))) (reached-turn n s h)
 changed-turn s (Ended n) so is h = paid-turn _ (gone-turn true n s h)
 changed-turn s (Broke n) so is h = paid-turn _ (gone-turn false n _ (event-turn s (broke_early s n (broke_may s n is) h) h))

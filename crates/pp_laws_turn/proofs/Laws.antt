@@ -1,23 +1,27 @@
 -- The law: each state that a lawful log may go on as from is sound.
-use Rattle.std.proofs.Common.{◌≡◌, refl, ℕ, Bool, true, false, ◌==◌, ◌≤◌, List, [], count_by, map, find, Option, Some, None, sym, subst, ap, ◌∙◌}
+use Rattle.std.proofs.Common.{◌≡◌, ◌⊎◌, refl, ℕ, Bool, true, false, ◌==◌, ◌≤◌, List, [], count_by, map, find, Option, Some, None, inl, inr, sym, subst, ap, ◌∙◌}
 use Rattle.pp_world.specs.Log.{Log}
 use Rattle.pp_law.specs.Closing.{is_of}
 use Rattle.pp_law.specs.Connections.{is_client}
 use Rattle.pp_law.specs.Lists.{is_this}
+use Rattle.pp_law.specs.Opening.{is_same_phase}
 use Rattle.pp_law.specs.Stages.{reply_of}
-use Rattle.pp_law.specs.State.{State, Term, Client, Exchange, Instance, Reply, Stage, Undecided, Waiting, Passing, Answering}
+use Rattle.pp_law.specs.State.{State, Term, Awaiting, Client, Exchange, Instance, Reply, Stage, Undecided, Waiting, Passing, Answering}
 use Rattle.pp_law.specs.Table.{instance}
+use Rattle.pp_laws.specs.Numbers.{AreRising}
 use Rattle.pp_laws.specs.Runs.{IsIn}
 use Rattle.pp_laws.proofs.Lists.{in_map, one_of}
 use Rattle.pp_laws.proofs.Sound.{FactsOf, Sound, client_number, conn_number, exchange_number, facts_of as sound_facts, instance_id, source_in}
 use Rattle.pp_laws.proofs.Tests.{number_same, same_number}
 use Rattle.pp_laws_bounds.proofs.Happenings.{from_now}
 use Rattle.pp_laws_asks.proofs.AsksFacts.{Asks}
-use Rattle.pp_laws_bounds.proofs.Kept.{FactsOf as KeptFacts, facts_of as kept_facts}
+use Rattle.pp_laws_bounds.proofs.Kept.{FactsOf as KeptFacts, Stands, facts_of as kept_facts}
+use Rattle.pp_laws_bounds.proofs.Small.{facts_of as small_facts}
+use Rattle.pp_laws_bounds.proofs.SmallHappenings.{IsSmall}
 use Rattle.pp_laws_bounds.proofs.Pigeons.{rise_differ}
 use Rattle.pp_laws_pool.proofs.View.{facts_of as pool_facts, view as pool_view}
 use Rattle.pp_obeys.specs.Obeys.{Obeys}
-use Rattle.pp_laws_turn.specs.SoundTurn.{AreToldApart, HasAsker, HasSource, IsBounded, IsSoundTurn, TurnsAreSound}
+use Rattle.pp_laws_turn.specs.SoundTurn.{AreToldApart, HasAsker, HasSource, IsAtRest, IsBounded, IsInLine, IsSoundTurn, TurnsAreSound}
 use Rattle.pp_laws_turn.proofs.Counts.{count_number, count_one, find_in, find_nothing, find_number}
 use Rattle.pp_laws_turn.proofs.Kept.{Turn}
 use Rattle.pp_laws_turn.proofs.Lifts.{asks_on, few_bodies_on, few_exchanges_on, few_pins_on, few_rows_on, kept_on, small_on, sound_on, turn_on}
@@ -48,12 +52,12 @@ has_source s h c i going r id is source =
     let w = in_map instance_id id s.instances (h.source c id i going (reply_source c.stage r id is source)) in
     find_in instance_id id w.was s.instances w.there (sym w.is)
 
-pub has_asker : (s : State) → Sound from_now s → Turn (view s) → (e : Exchange) (n : ℕ) → IsIn e s.exchanges → e.asker ≡ Some n → HasAsker s e n
-has_asker s sound_it h e n i is =
+pub has_asker : (s : State) → AreRising (map client_number s.clients) → Turn (view s) → (e : Exchange) (n : ℕ) → IsIn e s.exchanges → e.asker ≡ Some n → HasAsker s e n
+has_asker s rise h e n i is =
     let g = h.goes e n i is (λ none. cc none) in
     record {
       asker = g.client;
-      there = find_number client_number n g.client s.clients (sound_facts sound_it).callers.rise g.there g.number;
+      there = find_number client_number n g.client s.clients rise g.there g.number;
       going = g.at.going;
       request = g.at.request;
       front = g.at.front;
@@ -64,19 +68,26 @@ is_its : (n : ℕ) (o : Option ℕ) → is_this n o ≡ true → o ≡ Some n
 is_its n None is = absurd (cc is)
 is_its n (Some m) is = ap (λ k. Some k) (same_number m n is)
 
-pub asks_once : (s : State) → Sound from_now s → Turn (view s) → (n : ℕ) → count_by (is_of n) s.exchanges ≤ 1
-asks_once s sound_it h n = count_one exchange_number (is_of n) s.exchanges (rise_differ (map exchange_number s.exchanges) (sound_facts sound_it).asks.rise) (λ d e i j a b. h.one d e n i j (is_its n d.asker a) (is_its n e.asker b))
+pub asks_once : (s : State) → AreRising (map exchange_number s.exchanges) → Turn (view s) → (n : ℕ) → count_by (is_of n) s.exchanges ≤ 1
+asks_once s rise h n = count_one exchange_number (is_of n) s.exchanges (rise_differ (map exchange_number s.exchanges) rise) (λ d e i j a b. h.one d e n i j (is_its n d.asker a) (is_its n e.asker b))
 
 -- who is closing is nobody's asker: that one goes on
-pub asks_nothing : (s : State) → Sound from_now s → Turn (view s) → (c : Client) → IsIn c s.clients → c.is_closing ≡ true → find (is_of c.number) s.exchanges ≡ None
-asks_nothing s sound_it h c i closing = find_nothing (is_of c.number) s.exchanges (λ e j its. none e j (is_its c.number e.asker its))
+pub asks_nothing : (s : State) → AreRising (map client_number s.clients) → Turn (view s) → (c : Client) → IsIn c s.clients → c.is_closing ≡ true → find (is_of c.number) s.exchanges ≡ None
+asks_nothing s rise h c i closing = find_nothing (is_of c.number) s.exchanges (λ e j its. none e j (is_its c.number e.asker its))
   where
     none : (e : Exchange) → IsIn e s.exchanges → e.asker ≡ Some c.number → ⊥
     none e j is =
         let g = h.goes e c.number j is (λ off. cc off) in
-        let one : g.client ≡ c = one_of client_number s.clients g.client c (sound_facts sound_it).callers.rise g.there i g.number in
+        let one : g.client ≡ c = one_of client_number s.clients g.client c rise g.there i g.number in
         let both : true ≡ false = sym closing ∙ ap (λ (x : Client). x.is_closing) (sym one) ∙ g.at.going in
         cc both
+
+at_rest : (s : State) → IsSmall s → s.phase ≡ Awaiting → IsAtRest s
+at_rest s h at = let w = (small_facts h.1).awaits (ap (is_same_phase Awaiting) at) in record { free = w.0; going = (small_facts h.1).said ∙ w.1 }
+
+in_line : (s : State) (e : Exchange) (n : ℕ) → Stands e n s.conns ⊎ IsIn e.number [] → IsInLine s e n
+in_line s e n (inl w) = record { place = w.0; there = w.1; number = w.2; here = w.3 }
+in_line s e n (inr none) = absurd none
 
 pub sound_turns : TurnsAreSound
 sound_turns terms s log obeys = record {
@@ -104,12 +115,17 @@ sound_turns terms s log obeys = record {
     bodies = few_bodies_on s (small_on terms s log obeys);
     pins = few_pins_on s k.few_clients (few_bodies_on s (small_on terms s log obeys));
   };
+  rows = f.rows.own_keys;
+  owes = t.owes;
+  awaits = λ at. at_rest s (small_on terms s log obeys) at;
   closed = k.lines.closed;
-  once = asks_once s so t;
+  placed = f.placed;
+  lined = λ e n going i is. in_line s e n (k.lined going e n i is);
+  once = asks_once s f.asks.rise t;
   sources = has_source s t;
-  alone = asks_nothing s so t;
+  alone = asks_nothing s f.callers.rise t;
   rests = λ e i none. ap (λ n. n == 0) (t.fresh e i none);
-  askers = has_asker s so t;
+  askers = has_asker s f.callers.rise t;
 }
   where
     so : Sound from_now s

@@ -14,3 +14,4 @@ pub mod Happenings
 pub mod Counts
 pub mod Lifts
 pub mod Laws
+pub mod Amid

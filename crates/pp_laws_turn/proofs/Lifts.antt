@@ -111,7 +111,7 @@ behind-asks Handling s h = pool_holds (pool_facts h)
 behind-asks Evicting s h = give_up_asks-keeps asks_walk _ (pool_holds (pool_facts h))
 behind-asks Keeping s h = pool_holds (pool_facts h)
 behind-asks Deciding s h = pool_holds (pool_facts h)
-behind-asks Following s h = fill-keeps asks_walk asks_begins _ (drop_unseen-keeps asks_walk _ (pool_holds (pool_facts h)))
+behind-asks Following s h = fill-keeps asks_walk asks_begins _ (give_up_asks-keeps asks_walk _ (drop_unseen-keeps asks_walk _ (pool_holds (pool_facts h))))
 behind-asks Connecting s h = placing-keeps asks_places _ (pool_holds (pool_facts h))
 behind-asks DecidingAgain s h = h
 
@@ -197,7 +197,7 @@ stands_in s h going e i is = by e.place refl is
 few_placed_on : (s : State) → Sound from_now s → Kept [] s → s.is_stopped ≡ false → length (filter has_place s.exchanges) ≤ 512
 few_placed_on s sound_it h going =
     let le : length (filter has_place s.exchanges) ≤ length (flat_map (λ (k : Conn). k.line) s.conns) = pigeons exchange_number (λ (n : ℕ). Some n) has_place s.exchanges (flat_map (λ (k : Conn). k.line) s.conns)
-        (rise_differ (map exchange_number s.exchanges) (sound_facts sound_it).asks.rise) (λ e i is. (e.number, stands_in s h going e i is, refl)) in
+    (rise_differ (map exchange_number s.exchanges) (sound_facts sound_it).asks.rise) (λ e i is. (e.number, stands_in s h going e i is, refl)) in
     let long : length (flat_map (λ (k : Conn). k.line) s.conns) ≤ 8 * length s.conns = all_lines s.conns (kept_facts h).lines.short in
     let few : length s.conns ≤ 64 = (kept_facts h).lines.few in
     omega arith

@@ -74,9 +74,9 @@ pub on_passed-same : (f : Passed → Passed) (c : Client) → SameClient (on_pas
 on_passed-same f c = both_of _ c (on_passed-source f c) (passed_stays f c (passed_of c))
 
 body_stays : (n : ℕ) (r : Reply) (c : Client) (passing : Bool) → Stays (elim passing as (λ x. Client) [
-      | true ↦ on_passed (λ p. record p { pipe = without_first n p.pipe }) (record c { stage = Answering r })
-      | false ↦ record c { stage = Answering (record r { at = r.at + n }) }
-    ]) c
+  | true ↦ on_passed (λ p. record p { pipe = without_first n p.pipe }) (record c { stage = Answering r })
+  | false ↦ record c { stage = Answering (record r { at = r.at + n }) }
+]) c
 body_stays n r c true =
     let d : Client = record c { stage = Answering r } in
     let s = passed_stays (λ p. record p { pipe = without_first n p.pipe }) d (passed_of d) in
@@ -84,9 +84,9 @@ body_stays n r c true =
 body_stays n r c false = record { closing = refl; front = refl }
 
 of_stays : (n : ℕ) (r : Reply) (c : Client) (of_head : Bool) → Stays (elim of_head as (λ x. Client) [
-      | true ↦ record c { stage = Answering (record r { head_left = drop n r.head_left }) }
-      | false ↦ said_of_body (n - length r.head_left) (record r { head_left = [] }) c
-    ]) c
+  | true ↦ record c { stage = Answering (record r { head_left = drop n r.head_left }) }
+  | false ↦ said_of_body (n - length r.head_left) (record r { head_left = [] }) c
+]) c
 of_stays n r c true = record { closing = refl; front = refl }
 of_stays n r c false = body_stays (n - length r.head_left) (record r { head_left = [] }) c (is_passing r.decision)
 

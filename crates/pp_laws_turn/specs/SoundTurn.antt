@@ -3,10 +3,12 @@
 use Rattle.std.specs.Prelude.{◌≡◌, ℕ, ◌≤◌, ◌==◌, true, false, [], count_by, find, List, Some, None}
 use Rattle.pp_law.specs.Closing.{is_of}
 use Rattle.pp_law.specs.Connections.{client, is_client, is_conn, is_exchange}
+use Rattle.pp_law.specs.Lists.{Bytes}
+use Rattle.pp_law.specs.Phases.{is_free}
 use Rattle.pp_law.specs.Requests.{Parsed, IsRequest}
 use Rattle.pp_law.specs.Stages.{reply_of}
-use Rattle.pp_law.specs.State.{State, Term, Client, Conn, Exchange, Instance, Reply}
-use Rattle.pp_law.specs.Table.{instance, is_instance}
+use Rattle.pp_law.specs.State.{State, Term, Client, Conn, Exchange, Instance, Reply, Awaiting, Handling, Free}
+use Rattle.pp_law.specs.Table.{instance, is_instance, is_row_of}
 use Rattle.pp_world.specs.Log.{Log}
 use Rattle.pp_laws.specs.Numbers.{HasOwnNumbers}
 use Rattle.pp_laws.specs.Runs.{IsIn}
@@ -56,6 +58,18 @@ pub record HasAsker (s : State) (e : Exchange) (n : ℕ) : Type 0 where
   pub front : asker.front ≡ IsRequest request
   pub head : request.head ≡ e.head
 
+-- it stands in the line of its place
+pub record IsInLine (s : State) (e : Exchange) (n : ℕ) : Type 0 where
+  pub place : Conn
+  pub there : IsIn place s.conns
+  pub number : place.number ≡ n
+  pub here : IsIn e.number place.line
+
+-- where an event is awaited nothing is owed, and nobody said Stop
+pub record IsAtRest (s : State) : Type 0 where
+  pub free : s.owed ≡ Free
+  pub going : s.is_stopped ≡ false
+
 -- ---- all
 
 pub record IsSoundTurn (s : State) : Type 0 where
@@ -64,8 +78,16 @@ pub record IsSoundTurn (s : State) : Type 0 where
   pub apart : AreToldApart s
   -- there is no more of anything than so many
   pub bounded : IsBounded s
+  -- a key has one row at most
+  pub rows : (key : Bytes) (x y : Instance) → IsIn x s.instances → IsIn y s.instances → is_row_of key x ≡ true → is_row_of key y ≡ true → x.id ≡ y.id
+  -- what an event is owed is owed while that is handled
+  pub owes : is_free s.owed ≡ false → s.phase ≡ Handling
+  pub awaits : s.phase ≡ Awaiting → IsAtRest s
   -- one that is closing has no line
   pub closed : (k : Conn) → IsIn k s.conns → k.is_closing ≡ true → k.line ≡ []
+  -- an exchange stands in the line of its place alone, and until Stop in that
+  pub placed : (k : Conn) (e : Exchange) → IsIn k s.conns → IsIn e s.exchanges → IsIn e.number k.line → e.place ≡ Some k.number
+  pub lined : (e : Exchange) (n : ℕ) → s.is_stopped ≡ false → IsIn e s.exchanges → e.place ≡ Some n → IsInLine s e n
   -- a request has one exchange at most
   pub once : (n : ℕ) → count_by (is_of n) s.exchanges ≤ 1
   -- what a client is answered from is there, as long as it goes on
