@@ -33,12 +33,12 @@ use Rattle.pp_law.specs.Due.{Due, Decide, CutOff, due_by_stage, due_cut, due_dec
 use Rattle.pp_law.specs.Leaving.{Leaving, ForAnother, ForMemory, BeforeDecision, before_decision, forgets_next, if_so, is_first, leaving_as, makes_room}
 use Rattle.pp_law.specs.Lists.{Bytes, change, first_some, is_some_with, is_this}
 use Rattle.pp_law.specs.Opening.{terms_behind, are_texts, begun, configured, is_at, is_opening, is_recovered, lose_in_opening, may_fail, names_file, opened_to, permits_configured, permits_listens, permits_rooted, settings_in, stuck, with_settings, woken}
-use Rattle.pp_law.specs.OwnHeads.{is_wrong_head, join, join_bound, moved_on, note_own, note_sent}
+use Rattle.pp_law.specs.OwnHeads.{is_wrong_head, key_of, join, join_bound, moved_on, note_own, note_sent}
 use Rattle.pp_law.specs.Passing.{poured}
 use Rattle.pp_law.specs.Permits.{has_conn, has_room_for, is_due_decision, is_owed, is_permitted, is_same_decision, IsPermitted, may_cut, may_dial, may_open, may_take, may_want_memory, permits, permits_broke, permits_dial, permits_taken}
 use Rattle.pp_law.specs.Phases.{phases, in_phase, is_awaiting, is_done, is_done_with, is_free, behind, next, come, come_to, come_to_decide, decides, deciding, due_victim, ending, may_decide, may_in}
 use Rattle.pp_law.specs.Replies.{end_replies, said_by}
-use Rattle.pp_law.specs.Responses.{bad_head, bad_response, finish, asks_head, answer_with, end_if_empty, begin_answer, answer_for, head_came, Piece, is_early, with_unread, head_piece, deliver, payload_of, body_piece_of, body_piece, next_piece, got}
+use Rattle.pp_law.specs.Responses.{bad_head, bad_response, finish, asks_head, answer_with, end_if_empty, begin_answer, answer_for, bring_row, head_came, is_readable, Piece, is_early, with_unread, head_piece, deliver, payload_of, body_piece_of, body_piece, next_piece, got}
 use Rattle.pp_law.specs.Stages.{bound_of, reply_of}
 use Rattle.pp_law.specs.State.{State, Term, start, RowRefused, Phase, Before, IsWoken, IsConfigured, IsRooted, IsListed, IsListening, IsStuck, Awaiting, Handling, Evicting, Keeping, Deciding, Following, Connecting, DecidingAgain, Owed, Free, ReadOf, WriteTo, Joining, Answer, Bound, Client, Conn, Exchange, Instance, Reply, Stage, Undecided, Waiting, Passing, Answering}
 use Rattle.pp_law.specs.Table.{follows, forget, idle_row, instance, is_followed, is_row_of, kept_row, row, swept}
@@ -64,7 +64,7 @@ use Rattle.pp_laws_turn.proofs.Exchanges.{clients_changed-keeps, end_exchange-ke
 use Rattle.pp_laws_turn.proofs.Heads.{by_aim-keeps}
 use Rattle.pp_laws_turn.proofs.Kept.{Turn, closed_alone, differs, turn_begins, turn_follows, turn_places, turn_walk}
 use Rattle.pp_laws_turn.proofs.Pieces.{bad_head-keeps, bad_response-keeps, ended-keeps, finish-keeps}
-use Rattle.pp_laws_turn.proofs.Rows.{drop_chunk-keeps, forget-keeps, idle_alone, rows_mapped}
+use Rattle.pp_laws_turn.proofs.Rows.{drop_chunk-keeps, enter-keeps, forget-keeps, idle_alone, rows_mapped}
 use Rattle.pp_laws_turn.proofs.Same.{said_by-same}
 use Rattle.pp_laws_turn.proofs.Steps.{drop_unseen-keeps, placing-keeps, rested-keeps, tick-keeps, touch-keeps}
 
@@ -84,9 +84,14 @@ answer_for-turn k e head s h = when (is_wrong_head e head) (bad_head-keeps turn_
     by_rule (Ok rule) = begin_answer-turn k e head rule s h
     by_rule (Err fault) = bad_head-keeps turn_walk k s h
 
+-- the kept row of its key comes into memory for it
+bring_row-turn : (e : Exchange) (head : Response) (s : State) → Holds Turn s → Holds Turn (bring_row e head s)
+unfolding bring_row
+bring_row-turn e head s h = when (is_readable e head) (enter-keeps turn_walk.rows (key_of e) true s h) h
+
 pub head_came-turn : (k : Conn) (head : Response) (s : State) → Holds Turn s → Holds Turn (head_came k head s)
 unfolding head_came
-head_came-turn k head s h = each_so (front_of_line s k) (λ none. close_conn-keeps turn_walk false k s h) (λ e first. answer_for-turn k e head s h)
+head_came-turn k head s h = each_so (front_of_line s k) (λ none. close_conn-keeps turn_walk false k s h) (λ e first. answer_for-turn k e head _ (bring_row-turn e head s h))
 
 piece_when : (t : Bool) (p q : Piece) → Holds Turn p.state → Holds Turn q.state → Holds Turn (elim t as (λ c. Piece) [ true ↦ p | false ↦ q ]).state
 piece_when true p q hp hq = hp

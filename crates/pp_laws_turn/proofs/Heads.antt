@@ -10,17 +10,17 @@ use Rattle.pp_text.specs.Fields.{has_field}
 use Rattle.pp_valid.specs.declared.version.Version.{Version}
 use Rattle.pp_law.specs.Connections.{exchange, is_for, attempts_of, lost_one, without_shared_row, anew}
 use Rattle.pp_law.specs.Lists.{Bytes, is_some_with}
-use Rattle.pp_law.specs.OwnHeads.{key_of, span_to_come, is_asked_by, tell, use_body, drop_answer, useless, times_for, renewed, renew, settle_on, renew_row, refresh, may_refresh, settle_known, known_version, settle, names_version, nothing_to_come, settle_unchanged, unchanged, not_shared, not_modified, clears_row, cleared_by, is_widened, relayed, relay_head, other_head, other_part, own_head, is_bound, lacks_next, count_elsewhere, part_head, filling_head, version_in, forbids_sharing, is_private_part, is_of_another, may_join}
+use Rattle.pp_law.specs.OwnHeads.{key_of, span_to_come, is_asked_by, tell, use_body, drop_answer, useless, times_for, renewed, renew, settle_on, renew_row, may_refresh, settle_known, known_version, settle, names_version, nothing_to_come, settle_unchanged, unchanged, not_shared, not_modified, clears_row, cleared_by, is_widened, relayed, relay_head, other_head, other_part, own_head, is_bound, lacks_next, count_elsewhere, part_head, filling_head, version_in, forbids_sharing, is_private_part, is_of_another, may_join}
 use Rattle.pp_law.specs.Passing.{passed_by}
 use Rattle.pp_law.specs.Responses.{by_aim}
 use Rattle.pp_law.specs.Stages.{is_begun}
 use Rattle.pp_law.specs.State.{State, Client, Body, Joining, Dropping, Brought, Useless, Joins, Passes, TooWide, Exchange, Instance}
-use Rattle.pp_law.specs.Table.{row, enter}
+use Rattle.pp_law.specs.Table.{row}
 use Rattle.pp_law.specs.ThroughHeads.{invalidates, key_named, is_same_host, clear_named, clear_each, places_named, invalidated, disproves, reads, disproved, through_head}
 use Rattle.pp_laws_turn.proofs.Cases.{by_aim_of, each_of, when}
 use Rattle.pp_laws_turn.proofs.Exchanges.{client_same, clients_changed-keeps, same_parts, on_client_of-keeps, lose_attempt-keeps, on_exchange-keeps, same_ask}
 use Rattle.pp_laws_turn.proofs.View.{View, Walk, Holds, holds, facts_of, view, SameClient}
-use Rattle.pp_laws_turn.proofs.Rows.{clear-keeps, enter-keeps, make_row-keeps, mark_row-keeps, on_instance-keeps}
+use Rattle.pp_laws_turn.proofs.Rows.{clear-keeps, make_row-keeps, mark_row-keeps, on_instance-keeps}
 
 tell-keeps : {P : View → Type 0} (w : Walk P) (e : Exchange) (brought : Brought) (s : State) → Holds P s → Holds P (tell e brought s)
 unfolding tell
@@ -48,17 +48,13 @@ renew_row-keeps : {P : View → Type 0} (w : Walk P) (e : Exchange) (head : Resp
 unfolding renew_row
 renew_row-keeps w e head s h = each_of (row s (key_of e)) h (λ x. renew-keeps w x head (times_for e head s) s h)
 
-refresh-keeps : {P : View → Type 0} (w : Walk P) (e : Exchange) (head : Response) (s : State) → Holds P s → Holds P (refresh e head s)
-unfolding refresh
-refresh-keeps w e head s h = renew_row-keeps w e head (enter (key_of e) true s) (enter-keeps w.rows (key_of e) true s h)
-
 settle_on-keeps : {P : View → Type 0} (w : Walk P) (e : Exchange) (head : Response) (v : Version) (s : State) → Holds P s → Holds P (settle_on e head v s)
 unfolding settle_on
 settle_on-keeps w e head v s h = each_of (row s (key_of e)) h (λ x. tell-keeps w e (Joins x.id (not (has_field (codes "age") head.fields))) _ (use_body-keeps w e (Joining (span_to_come e head v x.id)) s h))
 
 settle_known-keeps : {P : View → Type 0} (w : Walk P) (e : Exchange) (head : Response) (v : Version) (s : State) → Holds P s → Holds P (settle_known e head v s)
 unfolding settle_known
-settle_known-keeps w e head v s h = when (may_refresh e head s) (settle_on-keeps w e head v _ (refresh-keeps w e head s h)) (useless-keeps w e s h)
+settle_known-keeps w e head v s h = when (may_refresh e head s) (settle_on-keeps w e head v _ (renew_row-keeps w e head s h)) (useless-keeps w e s h)
 
 settle-keeps : {P : View → Type 0} (w : Walk P) (e : Exchange) (head : Response) (v : Version) (s : State) → Holds P s → Holds P (settle e head v s)
 unfolding settle
@@ -75,7 +71,7 @@ settle_unchanged-keeps w e s h = each_of (row s (key_of e)) h (λ x. tell-keeps 
 
 unchanged-keeps : {P : View → Type 0} (w : Walk P) (e : Exchange) (head : Response) (s : State) → Holds P s → Holds P (unchanged e head s)
 unfolding unchanged
-unchanged-keeps w e head s h = when (is_some_with (names_version e) (known_version s (key_of e)) && may_refresh e head s) (settle_unchanged-keeps w e _ (refresh-keeps w e head s h)) (useless-keeps w e s h)
+unchanged-keeps w e head s h = when (is_some_with (names_version e) (known_version s (key_of e)) && may_refresh e head s) (settle_unchanged-keeps w e _ (renew_row-keeps w e head s h)) (useless-keeps w e s h)
 
 without_shared_row-same : (most : ℕ) (c : Client) → SameClient (without_shared_row most c) c
 without_shared_row-same most c = by (c.has_given_up && not (is_begun c)) (is_begun c || c.has_given_up)
