@@ -14,6 +14,7 @@ use Rattle.pp_law.specs.Opening.{is_recovered}
 use Rattle.pp_law.specs.Repairs.{gates_of, has_stray_gates, is_open_gate}
 use Rattle.pp_law.specs.State.{State, Entry, Todo}
 use Rattle.pp_law.specs.Store.{file_under, is_idle_disk}
+use Rattle.pp_laws.proofs.Tests.{same_number}
 use Rattle.pp_laws.specs.Runs.{IsIn}
 use Rattle.pp_laws_crash.proofs.Waking.{in_image}
 use Rattle.pp_obeys.proofs.Silent.{both_hold}
@@ -51,7 +52,7 @@ not_one : (x : ℕ) → x ≢ 1 → (x == 1) ≡ false
 not_one x differs = by (x == 1) refl
   where
     by : (b : Bool) → (x == 1) ≡ b → b ≡ false
-    by true is = absurd (differs (grind (arith, nat_tests, is)))
+    by true is = absurd (differs (same_number x 1 is))
     by false is = refl
 
 some_place : (i : ℕ) → nat_lt 0 (suc i) ≡ true
@@ -59,7 +60,9 @@ some_place i = grind (arith, nat_tests)
 
 -- behind the first that is not open none is
 shut_from : (gs : Bytes) → ((i : ℕ) → i < length gs → begins gs i ≡ false) → (k : ℕ) → leading_open gs + k < length gs → get_or gs (leading_open gs + k) 0 ≢ 1
-shut_from gs none zero lt is = stops_shut gs (omega (arith, lt)) (subst (λ (i : ℕ). get_or gs i 0 ≡ 1) (omega arith) is)
+shut_from gs none zero lt is =
+    let same : leading_open gs + 0 ≡ leading_open gs = omega arith in
+    stops_shut gs (omega (arith, lt)) (subst (λ (i : ℕ). get_or gs i 0 ≡ 1) same is)
 shut_from gs none (suc k) lt is =
     let before : get_or gs (leading_open gs + k) 0 ≢ 1 = shut_from gs none k (omega (arith, lt)) in
     let place : leading_open gs + suc k ≡ suc (leading_open gs + k) = omega arith in
@@ -74,7 +77,9 @@ each_none : (gs : Bytes) → has_strays gs ≡ false → (i : ℕ) → i < lengt
 unfolding has_strays
 each_none gs none i lt =
     let passes = none_pass (begins gs) (range_with_len 0 (length gs)) (any_none (begins gs) (range_with_len 0 (length gs)) none) i 0 (omega (arith, lt, length-range_with_len 0 (length gs))) in
-    subst (λ (j : ℕ). begins gs j ≡ false) (get_or-range_with_len 0 (length gs) i 0 lt ∙ omega arith) passes
+    let from_none : 0 + i ≡ i = omega arith in
+    let place : get_or (range_with_len 0 (length gs)) i 0 ≡ i = get_or-range_with_len 0 (length gs) i 0 lt ∙ from_none in
+    subst (λ (j : ℕ). begins gs j ≡ false) place passes
 
 clean_gates : (gs : Bytes) → has_strays gs ≡ false → list_any is_open_gate (drop (leading_open gs) gs) ≡ false
 clean_gates gs none = list_any_none is_open_gate (drop (leading_open gs) gs) (λ k d lt. by k d (omega (arith, lt, length-drop (leading_open gs) gs)))
