@@ -1,11 +1,10 @@
 -- A repair in the opening, operation by operation.
-use Rattle.std.proofs.Common.{◌≡◌, refl, sym, subst, ap, ◌∙◌, ℕ, Bool, true, false, ◌&&◌, is_some, List, [], ◌∷◌, ◌++◌, append_assoc, Option, Some, None}
+use Rattle.std.proofs.Common.{◌≡◌, refl, sym, subst, ap, ◌∙◌, ℕ, Bool, true, false, is_some, List, [], ◌∷◌, ◌++◌, append_assoc, Option, Some, None}
 use Rattle.std.specs.List.{list_any}
-use Rattle.std.specs.Prelude.{bytes_eq}
 use Rattle.pp_law.specs.After.{ended_op}
 use Rattle.pp_law.specs.Lists.{Bytes}
 use Rattle.pp_law.specs.Opening.{is_opening, is_same_phase, lose_in_opening}
-use Rattle.pp_law.specs.Repairs.{agenda_in_opening, begin_in_opening, closes_strays, has_strays_under, may_begin_in_opening, may_repair}
+use Rattle.pp_law.specs.Repairs.{agenda_in_opening, begin_in_opening, closes_strays, has_strays_under, may_repair}
 use Rattle.pp_law.specs.State.{State, Agenda, no_agenda, Todo, Do, Phase, IsWoken, IsConfigured, IsRooted, IsListed, IsListening, IsStuck}
 use Rattle.pp_law.specs.Store.{begin_op, close_name, end_op, enter_next, fail_op, going_on, is_idle_disk, is_of_draft, lose_entry}
 use Rattle.pp_obeys.proofs.Calls.{moves_to}
@@ -35,10 +34,10 @@ lost_with Q s op a i plain holds =
     let goes : Goes (begun_to a op s) (Did op false) (ended_op op false (begun_to a op s)) = goes_did (begun_to a op s) op false i.none (op_same op) in
     let ended : State = record s { disk = (s.disk ++ Began op ∷ []) ++ Did op false ∷ []; under_way = None; agenda = a } in
     let lost : lose_in_opening a.name (fail_op op ended) ≡ lose_entry a.name (fail_op op ended) =
-        ap (λ (b : Bool). elim b as (λ c. State) [ true ↦ lose_entry a.name (fail_op op ended) | false ↦ fail_op op ended ]) (opens (fail_op op ended) (fail_phase op ended ∙ i.at)) in
+    ap (λ (b : Bool). elim b as (λ c. State) [ true ↦ lose_entry a.name (fail_op op ended) | false ↦ fail_op op ended ]) (opens (fail_op op ended) (fail_phase op ended ∙ i.at)) in
     let closed : fail_op op ended ≡ close_name a.name (ran (Began op ∷ Did op false ∷ []) no_agenda s) =
-        ap (λ (d : Log). fail_op op (record s { disk = d; under_way = None; agenda = a })) (append_assoc s.disk (Began op ∷ []) (Did op false ∷ []))
-        ∙ plain_fails op (ran (Began op ∷ Did op false ∷ []) a s) plain ∙ close_any a.name (Began op ∷ Did op false ∷ []) a s in
+    ap (λ (d : Log). fail_op op (record s { disk = d; under_way = None; agenda = a })) (append_assoc s.disk (Began op ∷ []) (Did op false ∷ []))
+    ∙ plain_fails op (ran (Began op ∷ Did op false ∷ []) a s) plain ∙ close_any a.name (Began op ∷ Did op false ∷ []) a s in
     moves_to refl goes (subst Q (sym (lost ∙ ap (λ (t : State). lose_entry a.name t) closed)) holds)
 
 -- done, and failed
@@ -56,9 +55,9 @@ both_ways : (s : State) (name : Bytes) (op : DiskOp) (todo : List Todo) → IsId
     → Leads (passed op) s (ran (passed op) (record { name = name; todo = todo }) s) × Leads (refused op) s (lost name op s)
 both_ways s name op todo i plain plan stays = (
   opens_with (MovesAll (λ u. u ≡ ran (passed op) (record { name = name; todo = todo }) s) (Did op true ∷ [])) s name op todo i plan
-  (ends (λ u. u ≡ ran (passed op) (record { name = name; todo = todo }) s) s op (record { name = name; todo = todo }) i.none stays),
+      (ends (λ u. u ≡ ran (passed op) (record { name = name; todo = todo }) s) s op (record { name = name; todo = todo }) i.none stays),
   opens_with (MovesAll (λ u. u ≡ lost name op s) (Did op false ∷ [])) s name op todo i plan
-  (lost_with (λ u. u ≡ lost name op s) s op (record { name = name; todo = todo }) i plain refl),
+      (lost_with (λ u. u ≡ lost name op s) s op (record { name = name; todo = todo }) i plain refl),
 )
 
 repair_plan : (s : State) (name : Bytes) (at : ℕ) (bytes : Bytes) → may_repair s name ≡ true → list_any (closes_strays s name at bytes) s.entries ≡ true
