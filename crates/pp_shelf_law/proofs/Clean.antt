@@ -1,5 +1,5 @@
 -- Where no gates are to be closed, none are left.
-use Rattle.std.proofs.Common.{◌≡◌, ◌≢◌, refl, sym, subst, ap, ◌∙◌, inl, inr, ℕ, zero, suc, ◌+◌, ◌-◌, ◌<◌, ◌≤◌, ◌==◌, Bool, true, false, not, ◌&&◌, ◌||◌, cond, List, [], ◌∷◌, ◌++◌, length, map, take, drop, get_or, length-drop, Option, Some, None, arith}
+use Rattle.std.proofs.Common.{◌≡◌, ◌≢◌, refl, sym, subst, ap, ◌∙◌, inl, inr, ℕ, zero, suc, ◌+◌, ◌-◌, ◌<◌, ◌==◌, Bool, true, false, not, ◌&&◌, ◌||◌, cond, List, [], ◌∷◌, ◌++◌, length, map, take, drop, get_or, length-drop, Option, Some, arith}
 use Rattle.std.proofs.lemmas.Bool.Decides.{nat_tests}
 use Rattle.std.proofs.lemmas.List.{get_or-drop, get_or_default}
 use Rattle.std.proofs.lemmas.List.Folds.{list_any_none}
@@ -10,10 +10,10 @@ use Rattle.pp_entry.specs.Gates.{leading_open}
 use Rattle.pp_entry.specs.Texts.{chunks_of}
 use Rattle.pp_law.specs.Entries.{entries_in, entry_in as law_entry}
 use Rattle.pp_law.specs.Lists.{Bytes, without}
-use Rattle.pp_law.specs.Opening.{is_recovered}
 use Rattle.pp_law.specs.Repairs.{gates_of, has_stray_gates, is_open_gate}
 use Rattle.pp_law.specs.State.{State, Entry, Todo}
 use Rattle.pp_law.specs.Store.{file_under, is_idle_disk}
+use Rattle.pp_laws.proofs.Tests.{same_number}
 use Rattle.pp_laws.specs.Runs.{IsIn}
 use Rattle.pp_laws_crash.proofs.Waking.{in_image}
 use Rattle.pp_obeys.proofs.Silent.{both_hold}
@@ -25,13 +25,13 @@ use Rattle.pp_store.proofs.Lists.{any_none, none_pass}
 use Rattle.pp_store.specs.Kept.{Kept}
 use Rattle.pp_text.specs.Bytes.{is_empty}
 use Rattle.pp_valid.specs.declared.version.Version.{Version}
-use Rattle.pp_world.specs.Disk.{Stored, at_rest, bytes_in, is_rising, settled, view_of}
+use Rattle.pp_world.specs.Disk.{at_rest, bytes_in, settled, view_of}
 use Rattle.pp_world.specs.Files.{Files, file_of}
 use Rattle.pp_world.specs.Log.{Log}
 use Rattle.pp_world.specs.declared.happening.Happening.TheVariants.{Woke}
 use Rattle.pp_world.specs.declared.op.DiskOp.{DiskOp}
 use Rattle.pp_world.specs.declared.op.DiskOp.TheVariants.{Sync}
-use Rattle.pp_shelf_law.specs.Opening.{HaveNoStrays, IsOpened, IsRecovering, RecoveredOnesAreClosed}
+use Rattle.pp_shelf_law.specs.Opening.{HaveNoStrays, RecoveredOnesAreClosed}
 use Rattle.pp_shelf_law.proofs.Lists.{true_false}
 use Rattle.pp_shelf_law.proofs.Opened.{PairOf, both, failed, neither, pair_of}
 use Rattle.pp_shelf_law.proofs.Runs.{idle_is}
@@ -40,7 +40,7 @@ use Rattle.pp_shelf_law.proofs.Runs.{idle_is}
 
 begins_so : (a b c : Bool) → a ≡ true → b ≡ true → c ≡ false → (a && b && not c) ≡ true
 begins_so true true false ia ib ic = refl
-begins_so true true true ia ib ic = true_false (sym ic ∙ refl)
+begins_so true true true ia ib ic = true_false ic
 begins_so true false c ia ib ic = true_false (sym ib)
 begins_so false b c ia ib ic = true_false (sym ia)
 
@@ -51,7 +51,7 @@ not_one : (x : ℕ) → x ≢ 1 → (x == 1) ≡ false
 not_one x differs = by (x == 1) refl
   where
     by : (b : Bool) → (x == 1) ≡ b → b ≡ false
-    by true is = absurd (differs (grind (arith, nat_tests, is)))
+    by true is = absurd (differs (same_number x 1 is))
     by false is = refl
 
 some_place : (i : ℕ) → nat_lt 0 (suc i) ≡ true
@@ -59,22 +59,26 @@ some_place i = grind (arith, nat_tests)
 
 -- behind the first that is not open none is
 shut_from : (gs : Bytes) → ((i : ℕ) → i < length gs → begins gs i ≡ false) → (k : ℕ) → leading_open gs + k < length gs → get_or gs (leading_open gs + k) 0 ≢ 1
-shut_from gs none zero lt is = stops_shut gs (omega (arith, lt)) (subst (λ (i : ℕ). get_or gs i 0 ≡ 1) (omega arith) is)
+shut_from gs none zero lt is =
+    let same : leading_open gs + 0 ≡ leading_open gs = omega arith in
+    stops_shut gs (omega (arith, lt)) (subst (λ (i : ℕ). get_or gs i 0 ≡ 1) same is)
 shut_from gs none (suc k) lt is =
     let before : get_or gs (leading_open gs + k) 0 ≢ 1 = shut_from gs none k (omega (arith, lt)) in
     let place : leading_open gs + suc k ≡ suc (leading_open gs + k) = omega arith in
     let back : suc (leading_open gs + k) - 1 ≡ leading_open gs + k = omega arith in
     let here : get_or gs (suc (leading_open gs + k)) 0 ≡ 1 = subst (λ (i : ℕ). get_or gs i 0 ≡ 1) place is in
     let begun : begins gs (suc (leading_open gs + k)) ≡ true =
-        begins_so (nat_lt 0 (suc (leading_open gs + k))) (get_or gs (suc (leading_open gs + k)) 0 == 1) (get_or gs (suc (leading_open gs + k) - 1) 0 == 1) (some_place (leading_open gs + k)) (one_test (get_or gs (suc (leading_open gs + k)) 0) here)
-        (ap (λ (i : ℕ). get_or gs i 0 == 1) back ∙ not_one (get_or gs (leading_open gs + k) 0) before) in
+    begins_so (nat_lt 0 (suc (leading_open gs + k))) (get_or gs (suc (leading_open gs + k)) 0 == 1) (get_or gs (suc (leading_open gs + k) - 1) 0 == 1) (some_place (leading_open gs + k)) (one_test (get_or gs (suc (leading_open gs + k)) 0) here)
+    (ap (λ (i : ℕ). get_or gs i 0 == 1) back ∙ not_one (get_or gs (leading_open gs + k) 0) before) in
     true_false (sym begun ∙ none (suc (leading_open gs + k)) (omega (arith, lt)))
 
 each_none : (gs : Bytes) → has_strays gs ≡ false → (i : ℕ) → i < length gs → begins gs i ≡ false
 unfolding has_strays
 each_none gs none i lt =
     let passes = none_pass (begins gs) (range_with_len 0 (length gs)) (any_none (begins gs) (range_with_len 0 (length gs)) none) i 0 (omega (arith, lt, length-range_with_len 0 (length gs))) in
-    subst (λ (j : ℕ). begins gs j ≡ false) (get_or-range_with_len 0 (length gs) i 0 lt ∙ omega arith) passes
+    let from_none : 0 + i ≡ i = omega arith in
+    let place : get_or (range_with_len 0 (length gs)) i 0 ≡ i = get_or-range_with_len 0 (length gs) i 0 lt ∙ from_none in
+    subst (λ (j : ℕ). begins gs j ≡ false) place passes
 
 clean_gates : (gs : Bytes) → has_strays gs ≡ false → list_any is_open_gate (drop (leading_open gs) gs) ≡ false
 clean_gates gs none = list_any_none is_open_gate (drop (leading_open gs) gs) (λ k d lt. by k d (omega (arith, lt, length-drop (leading_open gs) gs)))
@@ -107,9 +111,9 @@ module _ (files : Files) (log : Log) (s : State) (strays : HaveNoStrays files) (
   entry_clean p kept e there is version name =
       let file : file_under s e.name ≡ p.1 = ap (λ (n : Bytes). file_under s n) name ∙ stands p.0 p.1 there in
       let gates : gates_of s e ≡ gates_in kept.entry.version.length p.1 =
-          ap (λ (bytes : Bytes). take (chunks_of e.version.length) (drop 8192 bytes)) file ∙ ap (λ (v : Version). take (chunks_of v.length) (drop 8192 p.1)) (sym version) in
+      ap (λ (bytes : Bytes). take (chunks_of e.version.length) (drop 8192 bytes)) file ∙ ap (λ (v : Version). take (chunks_of v.length) (drop 8192 p.1)) (sym version) in
       let none : closing p.0 (gates_in kept.entry.version.length p.1) ≡ [] =
-          sym (ap (closing_of p.0) there ∙ ap (closing_if p.0 p.1) is) ∙ strays p.0 in
+      sym (ap (closing_of p.0) there ∙ ap (closing_if p.0 p.1) is) ∙ strays p.0 in
       ap (λ (gs : Bytes). list_any is_open_gate (drop (leading_open gs) gs)) gates ∙ clean_gates (gates_in kept.entry.version.length p.1) (strays_off p.0 (gates_in kept.entry.version.length p.1) none)
 
   one_clean : (p : Bytes × Bytes) (o : Option Entry) (es : List Entry) → file_of p.0 files ≡ Some p.1 → PairOf p.0 (entry_in p.0 p.1) o → list_any (has_stray_gates s) (without (failed files log) es) ≡ false

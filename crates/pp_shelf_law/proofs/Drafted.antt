@@ -4,6 +4,7 @@ use Rattle.std.proofs.Math.Seq.{take-append_seam}
 use Rattle.std.proofs.lemmas.List.{append-nil}
 use Rattle.std.specs.List.{list_any}
 use Rattle.std.specs.Prelude.{bytes_eq, count_by, nat_le, nat_lt}
+use Rattle.pp_cache_law.specs.Outdated.{AreNamed}
 use Rattle.pp_entry.specs.Entries.{Row, is_sized, row_at}
 use Rattle.pp_entry.specs.Texts.{body_at, chunks_of, fits, padded}
 use Rattle.pp_gate.specs.Files.{whole_file}
@@ -35,7 +36,7 @@ use Rattle.pp_world.specs.declared.op.DiskOp.TheVariants.{Draft, SyncDraft, Publ
 use Rattle.pp_shelf_law.specs.Drafts.{DraftsAreTheLaws, IsToDraft, RanKeep, draft_notes, drafted, with_draft, with_draft_noted}
 use Rattle.pp_shelf_law.specs.Kept.{HasOneRow}
 use Rattle.pp_shelf_law.specs.Runs.{IsWorking, Leads, MovesAll, ran}
-use Rattle.pp_shelf_law.specs.Shelf.{AreKept, AreNamed, IsResting, ShowEntries, ShowsEntry, is_shut}
+use Rattle.pp_shelf_law.specs.Shelf.{AreKept, IsResting, ShowEntries, ShowsEntry, is_shut}
 use Rattle.pp_shelf_law.specs.Takings.{LeadsTo}
 use Rattle.pp_shelf_law.proofs.Lists.{Agree, agree_filter, agree_without, true_false}
 use Rattle.pp_shelf_law.proofs.Runs.{all_done, all_failed, draft_failed, moves_append, ran_twice}

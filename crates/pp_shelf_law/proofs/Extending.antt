@@ -1,6 +1,7 @@
 -- How an entry that is kept further, or that is new, is shown.
 use Rattle.std.proofs.Common.{◌≡◌, refl, sym, subst, ap, ap₂, ◌∙◌, inl, inr, ℕ, Bool, true, false, not, ◌&&◌, cond, find, map, List, [], ◌∷◌, Some, arith}
 use Rattle.std.specs.Prelude.{bytes_eq, count_by}
+use Rattle.pp_cache_law.specs.Outdated.{AreNamed}
 use Rattle.pp_law.specs.Lists.{Bytes, change, without}
 use Rattle.pp_law.specs.State.{Entry}
 use Rattle.pp_law.specs.Store.{extended, is_named}
@@ -11,7 +12,7 @@ use Rattle.pp_store.proofs.Lists.{count-cons, one}
 use Rattle.pp_store.specs.Changes.{extended as extended_in, extended_to}
 use Rattle.pp_store.specs.Kept.{IsExtent, Kept, KeptMap, is_of}
 use Rattle.pp_target.specs.Name.{name_of}
-use Rattle.pp_shelf_law.specs.Shelf.{AreKept, AreNamed, ShowEntries, ShowsEntry, is_shut}
+use Rattle.pp_shelf_law.specs.Shelf.{AreKept, ShowEntries, ShowsEntry, is_shut}
 use Rattle.pp_shelf_law.proofs.Finding.{named_in, one_named}
 use Rattle.pp_shelf_law.proofs.Lists.{Agree, true_false}
 use Rattle.pp_shelf_law.proofs.Shelves.{bytes_by, key_agrees, same_bytes}

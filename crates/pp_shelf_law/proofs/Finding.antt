@@ -1,6 +1,7 @@
 -- What is found of a key, on the shelf and among the entries of the law.
 use Rattle.std.proofs.Common.{◌≡◌, refl, sym, subst, ap, ◌∙◌, inl, inr, ◌≤◌, Bool, true, false, not, cond, find, filter, List, [], ◌∷◌, Some, None, arith}
 use Rattle.std.specs.Prelude.{bytes_eq, count_by}
+use Rattle.pp_cache_law.specs.Outdated.{AreNamed}
 use Rattle.pp_law.specs.Lists.{Bytes, has_text, without}
 use Rattle.pp_law.specs.State.{Entry}
 use Rattle.pp_law.specs.Store.{is_closed, is_named}
@@ -14,7 +15,7 @@ use Rattle.pp_store.specs.Changes.{lost}
 use Rattle.pp_store.specs.Kept.{Kept, KeptMap, is_of}
 use Rattle.pp_target.specs.Name.{name_of}
 use Rattle.pp_shelf_law.specs.Kept.{KeptOnesAreTheLaws, OthersAreClosed, RowsStandAlone}
-use Rattle.pp_shelf_law.specs.Shelf.{AreKept, AreNamed, ShowEntries, ShowsEntry, is_shut}
+use Rattle.pp_shelf_law.specs.Shelf.{AreKept, ShowEntries, ShowsEntry, is_shut}
 use Rattle.pp_shelf_law.proofs.Lists.{Agree, true_false}
 use Rattle.pp_shelf_law.proofs.Shelves.{bytes_by, key_agrees, lost_name, same_bytes}
 

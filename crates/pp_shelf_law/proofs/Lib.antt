@@ -17,3 +17,4 @@ pub mod Free
 pub mod Joined
 pub mod Recovered
 pub mod Clean
+pub mod Repaired

@@ -4,6 +4,7 @@ use Rattle.std.proofs.lemmas.List.{take_all}
 use Rattle.std.specs.List.{cons_option, filter_map, list_any}
 use Rattle.std.specs.Option.{option_and_then}
 use Rattle.std.specs.Prelude.{bytes_eq, count_by, if◌then◌else◌, min, option_map}
+use Rattle.pp_cache_law.specs.Outdated.{AreNamed}
 use Rattle.pp_entry.specs.Entries.{Row, row_at}
 use Rattle.pp_entry.specs.Gates.{has_extent}
 use Rattle.pp_gate.specs.Files.{extent_in, open_gates}
@@ -24,7 +25,7 @@ use Rattle.pp_world.specs.Disk.{is_name, names_in}
 use Rattle.pp_world.specs.Files.{Files, file_of}
 use Rattle.pp_world.specs.Log.{Log}
 use Rattle.pp_shelf_law.specs.Opening.{IsOpened, OpenedOnesAreTheLaws}
-use Rattle.pp_shelf_law.specs.Shelf.{AreKept, AreNamed, ShowEntries, ShowsEntry, is_shut}
+use Rattle.pp_shelf_law.specs.Shelf.{AreKept, ShowEntries, ShowsEntry, is_shut}
 use Rattle.pp_shelf_law.proofs.Lists.{Agree, agree_without, true_false}
 use Rattle.pp_shelf_law.proofs.Names.{name_formed}
 use Rattle.pp_shelf_law.proofs.Shelves.{named_filter, once_filter, same_bytes}

@@ -1,30 +1,28 @@
 -- Recovery of a folder without stray gates, name by name.
-use Rattle.std.proofs.Common.{◌≡◌, refl, sym, subst, ap, ◌∙◌, inl, inr, ℕ, ◌≤◌, Bool, true, false, ◌||◌, List, [], ◌∷◌, ◌++◌, append_assoc, length, map, take, arith}
+use Rattle.std.proofs.Common.{◌≡◌, refl, sym, subst, ap, ◌∙◌, inl, inr, Bool, true, false, ◌||◌, List, [], ◌∷◌, ◌++◌, append_assoc, length, map, arith}
 use Rattle.std.proofs.lemmas.List.{append-nil, take_all}
 use Rattle.std.specs.List.{list_any}
 use Rattle.std.specs.Prelude.{bytes_eq}
 use Rattle.pp_gate.specs.Runs.{Ran}
-use Rattle.pp_law.specs.After.{after, unread}
+use Rattle.pp_law.specs.After.{unread}
 use Rattle.pp_law.specs.Lists.{Bytes}
 use Rattle.pp_law.specs.Opening.{opened_to}
-use Rattle.pp_law.specs.State.{State, IsConfigured, IsListed, IsRooted}
+use Rattle.pp_law.specs.State.{State, IsListed, IsRooted}
 use Rattle.pp_laws.specs.Runs.{IsIn}
 use Rattle.pp_obeys.proofs.Calls.{moves_to}
 use Rattle.pp_obeys.proofs.Happenings.{goes_listed, goes_rooted}
 use Rattle.pp_obeys.proofs.Silent.{or_second}
-use Rattle.pp_obeys.specs.Moves.{Goes, Moves}
+use Rattle.pp_obeys.specs.Moves.{Goes}
 use Rattle.pp_recover.proofs.NameLemmas.{Distinct, NotIn, distinct}
-use Rattle.pp_recover.specs.Closing.{Tends, closing_of}
-use Rattle.pp_recover.specs.Image.{HasFewNames}
-use Rattle.pp_recover.specs.Opening.{IsFresh, Tended, TendsEach, TendsFirst, failed_on, name_in, store_in}
+use Rattle.pp_recover.specs.Closing.{Tends}
+use Rattle.pp_recover.specs.Opening.{IsFresh, Tended, TendsEach, failed_on, name_in}
 use Rattle.pp_store.specs.Kept.{is_name}
 use Rattle.pp_world.specs.Disk.{is_rising, names_in}
 use Rattle.pp_world.specs.Files.{Files, file_of}
 use Rattle.pp_world.specs.Log.{Log}
 use Rattle.pp_world.specs.declared.happening.Happening.TheVariants.{Listed, Rooted, Unread}
 use Rattle.pp_shelf_law.specs.Opening.{FoldersAreTheLaws, HasRecovered, HaveNoStrays, IsOpened, IsRecovering, RecoveriesAreTheLaws}
-use Rattle.pp_shelf_law.specs.Runs.{Leads, MovesAll}
-use Rattle.pp_shelf_law.proofs.Lists.{true_false}
+use Rattle.pp_shelf_law.specs.Runs.{MovesAll}
 use Rattle.pp_shelf_law.proofs.Opened.{opened_ones}
 use Rattle.pp_shelf_law.proofs.Recovering.{failed_more, none_failed, unread_names}
 use Rattle.pp_shelf_law.proofs.Runs.{leads_then, moves_map}
@@ -79,8 +77,8 @@ module _ (files : Files) (rising : is_rising (names_in files) ≡ true) (strays 
   one_tended t ts log one rest hs s left whole (inl lost) opens then =
       let law = unread_names files log s t.name rising opens.is opens.rests left.0 left.1 in
       let behind : MovesAll (Opens files ((log ++ Unread t.name ∷ []) ++ rest)) rest (unread t.name s) =
-          subst (λ (k : Log). AreLeft files (log ++ k) ts → Opens files (log ++ k) (unread t.name s) → MovesAll (Opens files ((log ++ k) ++ rest)) rest (unread t.name s)) lost.1 (then (unread t.name s))
-          (left_on files log t.name ts left.2 left.3) (record { is = law.1; rests = law.2 }) in
+      subst (λ (k : Log). AreLeft files (log ++ k) ts → Opens files (log ++ k) (unread t.name s) → MovesAll (Opens files ((log ++ k) ++ rest)) rest (unread t.name s)) lost.1 (then (unread t.name s))
+      (left_on files log t.name ts left.2 left.3) (record { is = law.1; rests = law.2 }) in
       let whole_log : hs ≡ (Unread t.name ∷ []) ++ rest = whole ∙ ap (λ (k : Log). k ++ rest) lost.1 in
       subst (λ (k : Log). MovesAll (Opens files (log ++ hs)) k s) (sym whole_log)
       (leads_then (Opens files (log ++ hs)) (Unread t.name ∷ []) rest s (unread t.name s) law.0

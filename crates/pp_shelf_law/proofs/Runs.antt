@@ -83,7 +83,7 @@ ends Q s op a none holds =
 not_opening : (s : State) → s.phase ≡ Keeping → is_opening s ≡ false
 not_opening s at = ap (λ (q : Phase). list_any (λ p. is_same_phase p q) (IsWoken ∷ IsConfigured ∷ IsRooted ∷ IsListed ∷ IsListening ∷ IsStuck ∷ [])) at
 
-fail_phase : (op : DiskOp) (s : State) → (fail_op op s).phase ≡ s.phase
+pub fail_phase : (op : DiskOp) (s : State) → (fail_op op s).phase ≡ s.phase
 unfolding fail_op close_name lose_draft
 fail_phase op s = by (is_of_draft op)
   where
@@ -127,7 +127,7 @@ all_done Q s name op (next ∷ ops) todo hs w (inr r) holds =
     (subst (λ (t : State). Q (enter_next t)) (sym (ran_twice (Began op ∷ Did op true ∷ []) r.0 (record { name = name; todo = todo }) (record { name = name; todo = map Do (next ∷ ops) ++ todo }) s))
     (subst (λ (k : Log). Q (enter_next (ran k (record { name = name; todo = todo }) s))) r.1 holds)))))
 
-plain_fails : (op : DiskOp) (s : State) → is_of_draft op ≡ false → fail_op op s ≡ close_name s.agenda.name s
+pub plain_fails : (op : DiskOp) (s : State) → is_of_draft op ≡ false → fail_op op s ≡ close_name s.agenda.name s
 unfolding fail_op
 plain_fails op s plain = ap (λ (b : Bool). elim b as (λ c. State) [ true ↦ lose_draft s | false ↦ close_name s.agenda.name s ]) plain
 
@@ -135,7 +135,7 @@ draft_fails : (op : DiskOp) (s : State) → is_of_draft op ≡ true → fail_op 
 unfolding fail_op
 draft_fails op s is = ap (λ (b : Bool). elim b as (λ c. State) [ true ↦ lose_draft s | false ↦ close_name s.agenda.name s ]) is
 
-close_any : (name : Bytes) (hs : Log) (a : Agenda) (s : State) → close_name name (ran hs a s) ≡ close_name name (ran hs no_agenda s)
+pub close_any : (name : Bytes) (hs : Log) (a : Agenda) (s : State) → close_name name (ran hs a s) ≡ close_name name (ran hs no_agenda s)
 unfolding close_name
 close_any name hs a s = refl
 

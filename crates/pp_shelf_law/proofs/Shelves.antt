@@ -4,6 +4,7 @@ use Rattle.std.specs.List.{list_any}
 use Rattle.std.specs.Prelude.{bytes_eq, count_by}
 use Rattle.std.proofs.lemmas.List.Folds.{list_any-append}
 use Rattle.std.proofs.lemmas.Slice.Eq.{bytes_eq-Decides}
+use Rattle.pp_cache_law.specs.Outdated.{AreNamed}
 use Rattle.pp_law.specs.Lists.{Bytes, has_text, without}
 use Rattle.pp_law.specs.State.{Entry}
 use Rattle.pp_law.specs.Store.{is_named}
@@ -12,7 +13,7 @@ use Rattle.pp_store.proofs.Lists.{count-cons, count-filter, one}
 use Rattle.pp_store.specs.Changes.{is_other, lost, without as without_key}
 use Rattle.pp_store.specs.Kept.{Kept, KeptMap, is_closed, is_name}
 use Rattle.pp_target.specs.Name.{name_of}
-use Rattle.pp_shelf_law.specs.Shelf.{AreKept, AreNamed, ShowEntries, ShowsEntry, is_shut}
+use Rattle.pp_shelf_law.specs.Shelf.{AreKept, ShowEntries, ShowsEntry, is_shut}
 use Rattle.pp_shelf_law.proofs.Lists.{Agree, agree_filter, agree_without, true_false, without_swap}
 
 -- ---- bytes

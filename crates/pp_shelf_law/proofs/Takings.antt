@@ -1,6 +1,7 @@
 -- An entry that stands no more is noted as gone, and taken away.
 use Rattle.std.proofs.Common.{◌≡◌, refl, sym, subst, ap, ◌∙◌, Bool, true, false, not, cond, ◌&&◌, ◌||◌, find, is_ok, List, [], ◌∷◌, ◌++◌, map, Option, Some, None, Result, Ok, Err}
 use Rattle.std.specs.Prelude.{bytes_eq}
+use Rattle.pp_cache_law.specs.Outdated.{AreNamed}
 use Rattle.pp_gate.specs.Runs.{Ran}
 use Rattle.pp_law.specs.Lists.{Bytes, has_text, without}
 use Rattle.pp_law.specs.State.{State, Entry, Todo, Do}
@@ -21,7 +22,7 @@ use Rattle.pp_world.specs.declared.happening.Happening.TheVariants.{Noted}
 use Rattle.pp_world.specs.declared.note.Remark.TheVariants.{Gone}
 use Rattle.pp_world.specs.declared.op.DiskOp.TheVariants.{Remove}
 use Rattle.pp_shelf_law.specs.Runs.{IsWorking, MovesAll}
-use Rattle.pp_shelf_law.specs.Shelf.{AreKept, AreNamed, IsResting, ShowEntries, is_shut}
+use Rattle.pp_shelf_law.specs.Shelf.{AreKept, IsResting, ShowEntries, is_shut}
 use Rattle.pp_shelf_law.specs.Takings.{LeadsTo, LossesAreTheLaws, WithdrawalsAreTheLaws, taken_away}
 use Rattle.pp_shelf_law.proofs.Lists.{Agree, Covers, agree_filter, any_found, without_covered, without_swap, without_twice}
 use Rattle.pp_shelf_law.proofs.Runs.{all_done, all_failed, idle_is}

@@ -9,3 +9,4 @@ pub mod Folder
 pub mod Loads
 pub mod Opening
 pub mod Joined
+pub mod Repairs

@@ -1,12 +1,13 @@
 -- How the shelf of the program stands for the disk of the law (ours): the entries that are kept, and the names that are closed. Between
 -- a failed operation and the note that its entry is gone, the law has the entry still, under a closed name.
-use Rattle.std.specs.Prelude.{◌≡◌, ◌≤◌, Bool, false, List, [], ◌∷◌, length, count_by, None, ⊤}
+use Rattle.std.specs.Prelude.{◌≡◌, ◌≤◌, Bool, false, List, [], length, count_by, None}
+use Rattle.pp_cache_law.specs.Outdated.{AreNamed}
+use Rattle.pp_cache_law.specs.Pairs.{AreAll}
 use Rattle.pp_law.specs.Lists.{Bytes, has_text, without}
 use Rattle.pp_law.specs.State.{State, Entry, Keeping}
 use Rattle.pp_law.specs.Store.{is_named}
 use Rattle.pp_objects.specs.Kept.{kept_of}
 use Rattle.pp_store.specs.Kept.{IsExtent, Kept, KeptMap, is_closed, name_at}
-use Rattle.pp_target.specs.Name.{name_of}
 
 -- the same of the law: it has the fields that are kept of those that stand there
 pub record ShowsEntry (kept : Kept) (e : Entry) : Type 0 where
@@ -20,14 +21,7 @@ pub record ShowsEntry (kept : Kept) (e : Entry) : Type 0 where
 
 -- one each, in their order
 abbrev pub ShowEntries : List Kept → List Entry → Type 0
-ShowEntries [] [] = ⊤
-ShowEntries (kept ∷ rows) (e ∷ es) = ShowsEntry kept e × ShowEntries rows es
-ShowEntries rows es = ⊥
-
--- each has the name of its key
-abbrev pub AreNamed : List Entry → Type 0
-AreNamed [] = ⊤
-AreNamed (e ∷ es) = (e.name ≡ name_of e.key) × AreNamed es
+ShowEntries rows es = AreAll ShowsEntry rows es
 
 abbrev pub is_shut : List Bytes → Entry → Bool
 is_shut closed e = has_text e.name closed

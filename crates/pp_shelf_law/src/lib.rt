@@ -27,7 +27,7 @@ pub use drafting::what_is_drafted_is_the_laws;
 pub use folder::the_disk_is_the_logs;
 pub use keeping::what_is_kept_is_the_laws;
 pub use loading::what_is_loaded_is_the_laws;
-pub use opening::{recovery_is_permitted, what_is_found_is_the_laws};
+pub use opening::{recovery_is_permitted, repairs_are_permitted, what_is_found_is_the_laws};
 pub use sealing::what_is_sealed_is_the_laws;
 pub use taking::what_is_taken_away_is_the_laws;
 pub use working::operations_are_permitted;
