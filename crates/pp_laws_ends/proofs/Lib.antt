@@ -1,3 +1,4 @@
 pub mod Wanted
 pub mod Stays
 pub mod Nowhere
+pub mod Ahead

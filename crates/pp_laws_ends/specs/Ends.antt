@@ -10,7 +10,7 @@ use Rattle.pp_law.specs.Offers.{has_to_say}
 use Rattle.pp_law.specs.Opening.{is_at}
 use Rattle.pp_law.specs.Phases.{ending, may_end}
 use Rattle.pp_law.specs.Requests.{has_request}
-use Rattle.pp_law.specs.Served.{accepts, accepts_rightly, has_to_ask, is_stopped, waits_for_body, wants_no_more}
+use Rattle.pp_law.specs.Served.{accepts, accepts_rightly, has_to_ask, is_far_ahead, is_furthest, is_stopped, waits_for_body, wants_no_more}
 use Rattle.pp_law.specs.State.{State, DecidingAgain, Term, Client, Conn, Exchange}
 use Rattle.pp_laws.specs.Runs.{IsIn}
 use Rattle.pp_obeys.specs.Obeys.{Obeys}
@@ -49,3 +49,14 @@ NothingMoreIsWanted = (s : State) → (accepts_rightly s (wants_of s) ≡ true) 
 abbrev pub AsksHaveNoPlace : Type 0
 AsksHaveNoPlace = (terms : List Term) (s : State) (log : Log) → Obeys terms s log → is_at DecidingAgain s ≡ false → may_end s ≡ true
     → (e : Exchange) → IsIn e (ending s).exchanges → e.place ≡ None → place_for (ending s) e ≡ Wait
+
+-- somebody is there who has something to say, and of whose reading the exchange stops: the furthest of those that read its body
+pub record IsHeldBackBy (s : State) (e : Exchange) : Type 0 where
+  pub client : Client
+  pub there : IsIn client s.clients
+  pub says : has_to_say s client ≡ true
+  pub furthest : is_furthest s e client ≡ true
+
+-- a body that is read no further, since it is far ahead of its readers, stops for one who is to be written to
+abbrev pub FarAheadIsHeldBack : Type 0
+FarAheadIsHeldBack = (terms : List Term) (s : State) (log : Log) → Obeys terms s log → (e : Exchange) → is_far_ahead (ending s) e ≡ true → IsHeldBackBy (ending s) e

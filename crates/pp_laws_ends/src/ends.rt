@@ -1,5 +1,5 @@
 // What is permitted at the end of a turn.
-ghost use Rattle.pp_laws_ends.specs.Ends.{AsksHaveNoPlace, NothingMoreIsWanted};
+ghost use Rattle.pp_laws_ends.specs.Ends.{AsksHaveNoPlace, FarAheadIsHeldBack, NothingMoreIsWanted};
 
 /// Nothing stands in the wants but what may, and a client is accepted exactly where one may come.
 pub fn nothing_more_is_wanted()
@@ -10,4 +10,10 @@ pub fn nothing_more_is_wanted()
 /// to go to.
 pub fn asks_without_a_place_have_none()
     ensures nowhere { AsksHaveNoPlace }
+{}
+
+/// What is read no further, since it is far ahead of its readers, stops for one of them that has
+/// something to say: the furthest.
+pub fn far_ahead_is_held_back()
+    ensures held { FarAheadIsHeldBack }
 {}
