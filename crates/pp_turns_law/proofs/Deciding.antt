@@ -112,7 +112,7 @@ versions_seen m head (Some i) = refl
 
 -- ---- by the row
 
-pub decide_with : State → Request → Key → Option Row → Begun → ℕ → Decision
+unfoldable pub decide_with : State → Request → Key → Option Row → Begun → ℕ → Decision
 decide_with s head key seen begun now = let d = decision head seen begun now in if_fits_law s head key (kind_of_law head seen d) d
 
 by_row : (number : ℕ → ℕ) (p : Turn) (s : State) (name : Bytes) (seat : Seat) (c : Client) (head : Request) (key : OwnedKey) → p.name.items ≡ s.settings.name → p.now ≡ s.clock → ShowsTable number p.cache s → ((slot : ℕ) → AreFronts slot p.cache.chunks)

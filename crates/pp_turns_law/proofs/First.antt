@@ -40,6 +40,12 @@ none_some e = absurd (cc e)
 same_some : {A : Type 0} {x y : A} → Some x ≡ Some y → x ≡ y
 same_some e = cc e
 
+abbrev found_at : ℕ → SeatDue → Option (ℕ × SeatDue)
+found_at i d = Some (i, d)
+
+same_found : (i k : ℕ) (d e : SeatDue) → found_at i d ≡ found_at k e → (i ≡ k) × (d ≡ e)
+same_found i k d e same = let pair : ◌≡◌ {A = ℕ × SeatDue} (i, d) (k, e) = same_some same in (ap (λ (x : ℕ × SeatDue). x.0) pair, ap (λ (x : ℕ × SeatDue). x.1) pair)
+
 -- ---- places that rise
 
 apart : (n j : ℕ) → j < n → (n == j) ≡ false
@@ -133,7 +139,7 @@ module _ (l : Leaving) (peers : List Peer) (shelf : KeptMap) where
   abbrev NoneBut : List ℕ → State → Type 0
   NoneBut places s = (j : ℕ) (c : Client) → slice_get s.clients j ≡ Some c → has_number j places ≡ false → due_by_law s c ≡ None
 
-  module _ (number : ℕ → ℕ) (p : Turn) (s : State) (shows : ShowsDisk number l peers shelf p s) (as : AreAsKept shelf) where
+  module _ (number : ℕ → ℕ) (p : Turn) (s : State) (shows : ShowsDisk number l peers shelf p s) (entries : AreAsKept shelf) where
     abbrev At : ℕ → Type 0
     At i = IsShownAt number p.name.items p.seats.items s.clients i
 
@@ -141,7 +147,7 @@ module _ (l : Leaving) (peers : List Peer) (shelf : KeptMap) where
     due_at_place : (i : ℕ) (one : At i) → is_due_at shelf i p ≡ is_some (due_by_law s one.client)
     due_at_place i one =
         ap (λ (o : Option Seat). elim o as (λ t. Bool) [ None ↦ false | Some seat ↦ is_due_to shelf p seat ]) one.here
-        ∙ is_due number l peers shelf p s i one.seat one.client shows one.here one.shows as
+        ∙ is_due number l peers shelf p s i one.seat one.client shows one.here one.shows entries
 
     no_due : (o : Option Due) → is_some o ≡ false → o ≡ None
     no_due None is = refl
@@ -185,8 +191,8 @@ module _ (l : Leaving) (peers : List Peer) (shelf : KeptMap) where
           by_number = number;
           shown = shows;
           seats = refl;
-          is = ap (λ (o : Option SeatDue). option_map (due_as one.seat.client.id one.seat.index) o) (due_is i one) ∙ due_unentered number l peers shelf p s i one.seat one.client shows one.here one.shows as is;
-          has = λ d key due more its lost. absurd (none_unentered number l peers shelf p s i one.seat one.client shows one.here one.shows as is d (sym (due_is i one) ∙ due) more);
+          is = ap (λ (o : Option SeatDue). option_map (due_as one.seat.client.id one.seat.index) o) (due_is i one) ∙ due_unentered number l peers shelf p s i one.seat one.client shows one.here one.shows entries is;
+          has = λ d key due more its lost. absurd (none_unentered number l peers shelf p s i one.seat one.client shows one.here one.shows entries is d (sym (due_is i one) ∙ due) more);
         }
         by true is None own = record {
           by_number = number;
@@ -249,12 +255,9 @@ module _ (l : Leaving) (peers : List Peer) (shelf : KeptMap) where
               ap (λ (o : Option Seat). option_map (λ (x : Seat). due_as x.client.id x.index d) o) (ap (λ (is : List Seat). slice_get is i) its.seats ∙ one.here)
               ∙ sym (first_at (due_by_law s) s.clients i one.client (due_as one.seat.client.id one.seat.index d) one.there (sym its.is) (λ j c less at. none j c at (before low next i j places given less)));
           still = first_with number p s (key_at i p) shows;
-          has = λ k e seat key is more at own. let due : Some d ≡ Some (IsDecided e) = cc is in
-              its.has e key due more (ap (λ (x : Seat). owned_in (asked_in x.front)) (same_some (sym one.here ∙ ap (λ (is : List Seat). slice_get is i) (sym its.seats) ∙ ap (λ (n : ℕ). slice_get now.seats.items n) (place is) ∙ at)) ∙ own);
+          has = λ k e seat key is more at own. let both : (i ≡ k) × (d ≡ IsDecided e) = same_found i k d (IsDecided e) is in
+              its.has e key (ap (λ (x : SeatDue). Some x) both.1) more (ap (λ (x : Seat). owned_in (asked_in x.front)) (same_some (sym one.here ∙ ap (λ (is : List Seat). slice_get is i) (sym its.seats) ∙ ap (λ (n : ℕ). slice_get now.seats.items n) both.0 ∙ at)) ∙ own);
         }))
-      where
-        place : {k : ℕ} {e : Decision} → Some (i, d) ≡ Some (k, IsDecided e) → i ≡ k
-        place same = cc same
 
     no_seat : (i : ℕ) → slice_get p.seats.items i ≡ None → is_due_at shelf i p ≡ false
     no_seat i at = ap (λ (o : Option Seat). elim o as (λ t. Bool) [ None ↦ false | Some seat ↦ is_due_to shelf p seat ]) at
@@ -303,7 +306,7 @@ module _ (l : Leaving) (peers : List Peer) (shelf : KeptMap) where
     first_from (i ∷ places) q found low next given none (now, due, its, rest) = from_place i places low next now q due found (first_from places q found) given none (is_due_at shelf i p) refl its rest
 
 pub first_dues : FirstDueIsTheLaws
-first_dues number l peers shelf p q s found shows as awake first = first_from l peers shelf number p s shows as p.awake.items q found 0 (length p.seats.items) awake.order asleep first
+first_dues number l peers shelf p q s found shows entries awake first = first_from l peers shelf number p s shows entries p.awake.items q found 0 (length p.seats.items) awake.order asleep first
   where
     asleep : (j : ℕ) (c : Client) → slice_get s.clients j ≡ Some c → has_number j p.awake.items ≡ false → due_by_law s c ≡ None
     asleep j c at isnt =

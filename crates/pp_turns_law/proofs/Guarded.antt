@@ -35,7 +35,8 @@ use Rattle.pp_seats.specs.Dues.{by_stage_in, begun_in, decision_in, due_in, give
 use Rattle.pp_seats.specs.Follows.{answer_in}
 use Rattle.pp_seats.specs.Heads.{asked_in, owned_in}
 use Rattle.pp_seats.specs.Seats.{is_told_in, is_undecided_in}
-use Rattle.pp_seats.specs.declared.course.Course.{Course}
+use Rattle.pp_seats.specs.declared.seat.Course.{Course}
+use Rattle.pp_seats.specs.declared.seat.Course.TheVariants.{Trying, OutOfTries, AskTooLong}
 use Rattle.pp_seats.specs.declared.due.Due.{Due as SeatDue}
 use Rattle.pp_seats.specs.declared.due.Due.TheVariants.{Decide as IsDecided}
 use Rattle.pp_seats.specs.declared.front.Asked.{Asked}
@@ -80,8 +81,8 @@ row_of_entry v fields times n head = record { version = v; fields = fields; time
 
 kept_row_same : (head : Request) (kept : Kept) (e : Entry) → IsKeptAs kept e → AreKept kept.entry.fields kept.entry.times → kept_row head kept ≡ of_entry head e
 unfolding row_of_entry
-kept_row_same head kept e like as =
-    let fields : kept.entry.fields ≡ e.fields = sym as ∙ ap (λ (times : Times). kept_of kept.entry.fields times) like.times ∙ sym like.fields in
+kept_row_same head kept e like whole =
+    let fields : kept.entry.fields ≡ e.fields = sym whole ∙ ap (λ (times : Times). kept_of kept.entry.fields times) like.times ∙ sym like.fields in
     ap₂ (λ (v : Version) (times : Times). row_of_entry v kept.entry.fields times kept.extent head) like.version like.times
     ∙ ap₂ (λ (fs : List Field) (n : ℕ). row_of_entry e.version fs e.times n head) fields like.extent
 
@@ -111,7 +112,7 @@ record IsByKept (p : Turn) (s : State) (seat : Seat) (c : Client) (key : OwnedKe
 asks_kept : (number : ℕ → ℕ) (l : Leaving) (peers : List Peer) (p : Turn) (s : State) (name : Bytes) (seat : Seat) (c : Client) (key : OwnedKey) (kept : Kept) (e : Entry) → ShowsTurn number l peers p s → ShowsOpen number name [] seat c → is_refused_in seat.brought ≡ false
     → refused_in seat.front ≡ None → owned_in (asked_in seat.front) ≡ Some key → row s key.text.items ≡ None → row_on_disk s key.text.items ≡ Some e → IsKeptAs kept e → AreKept kept.entry.fields kept.entry.times → IsByKept p s seat c key kept
 unfolding decide_with
-asks_kept number l peers p s name seat c key kept e shows live given isnt own alone is like as =
+asks_kept number l peers p s name seat c key kept e shows live given isnt own alone is like whole =
     let one : IsByRow s c (key_in key.text.items key.place) = rows_decide s key number name [] seat c live isnt own in
     let asked : IsAskedAs (current_of seat.client.heard) one.request.head = heard_as seat.client.heard c.front c.heard one.request live.heard one.front in
     let begun : begun_in seat.brought None ≡ begun_now s c key.text.items =
@@ -121,7 +122,7 @@ asks_kept number l peers p s name seat c key kept e shows live given isnt own al
       decides = one.decides;
       asks =
           ap (λ (h : Heading). asks_by_kept p seat key kept h) asked.is
-          ∙ ap may_share (by_kept p s seat c one.request.head key kept e shows.name shows.clock alone is (kept_row_same one.request.head kept e like as) begun
+          ∙ ap may_share (by_kept p s seat c one.request.head key kept e shows.name shows.clock alone is (kept_row_same one.request.head kept e like whole) begun
           ∙ ap (λ (text : Bytes). decide_with s one.request.head (key_in key.text.items key.place) (row_for s one.request.head text) (begun_now s c text) s.clock) key.within.spelled);
     }
 
@@ -255,13 +256,13 @@ refused_is (IsThere a) key plain own = refused_asked a key a.refusal refl plain 
 
 -- ---- whether it may wait for what is asked already
 
-record MayShare (undecided given waits shares asked : Bool) : Type 0 where
-  pub undecided : undecided ≡ true
-  pub waits : waits ≡ false
-  pub shares : shares ≡ true
-  pub asked : asked ≡ true
+record MayShare (u v w x : Bool) : Type 0 where
+  pub undecided : u ≡ true
+  pub waits : v ≡ false
+  pub shares : w ≡ true
+  pub asked : x ≡ true
 
-may_by : (refused undecided waits shares asked : Bool) → (not refused && (undecided && not waits) && shares && asked) ≡ true → MayShare undecided refused waits shares asked
+may_by : (refused undecided waits shares asked : Bool) → (not refused && (undecided && not waits) && shares && asked) ≡ true → MayShare undecided waits shares asked
 may_by false true false true true is = record { undecided = refl; waits = refl; shares = refl; asked = refl }
 may_by true undecided waits shares asked is = absurd (by undecided waits shares asked is)
   where
@@ -314,7 +315,7 @@ undecided_stage (IsAnswering a) course told lost u d is = absurd (cc is)
 -- ---- of a seat
 
 module _ (number : ℕ → ℕ) (l : Leaving) (peers : List Peer) (shelf : KeptMap) (p : Turn) (s : State) (i : ℕ) (seat : Seat) (c : Client) (shows : ShowsDisk number l peers shelf p s) (at : slice_get p.seats.items i ≡ Some seat) (seen : ShowsSeat number p.name.items [] seat c)
-    (as : AreAsKept shelf) where
+    (entries : AreAsKept shelf) where
   table : ShowsTable number p.cache s
   table = shows.turn.steps.shows.table.table
 
@@ -432,10 +433,10 @@ module _ (number : ℕ → ℕ) (l : Leaving) (peers : List Peer) (shelf : KeptM
       -- it may wait for what is asked already
       shared_too : in_share ≡ true → plain_key (asked_in seat.front) ≡ Some key → is_to_decide shelf p seat ≡ is_some (its s)
       shared_too is plain =
-          let may : MayShare (is_undecided_in seat.stage) (is_refused_in seat.brought) (is_some seat.waits_on) p.shares_fetches (is_some (shared_ask seat p.flow)) =
+          let may : MayShare (is_undecided_in seat.stage) (is_some seat.waits_on) p.shares_fetches (is_some (shared_ask seat p.flow)) =
           may_by (is_refused_in seat.brought) (is_undecided_in seat.stage) (is_some seat.waits_on) p.shares_fetches (is_some (shared_ask seat p.flow)) is in
           let front : IsPlain seat.front key = plain_is seat.front key plain in
-          let one : IsByKept p s seat c key kept = asks_kept number l peers p s p.name.items seat c key kept e shows.turn live given front.unrefused own alone disk like (as key.text.items kept here_kept) in
+          let one : IsByKept p s seat c key kept = asks_kept number l peers p s p.name.items seat c key kept e shows.turn live given front.unrefused own alone disk like (entries key.text.items kept here_kept) in
           by_key is ∙ ap (λ (o : Option OwnedKey). decides_by_key shelf p seat o) plain ∙ ap (λ (o : Option Kept). decides_by_row p seat key o) here ∙ ap not one.asks
           ∙ sym (undecided_last seat.waits_on (waits_on_still s seat.waits_on) s.settings.shares_fetches (is_some (shared_by_law s c)) one.d (none_waits seat.waits_on may.waits) (sym shows.turn.shares ∙ may.shares) (sym (ap (λ (o : Option ℕ). is_some o) shared) ∙ may.asked))
           ∙ ap (λ (d : Option Decision). is_some (undecided_in seat.waits_on (waits_on_still s seat.waits_on) s.settings.shares_fetches (is_some (shared_by_law s c)) d)) (sym one.decides)
@@ -475,8 +476,8 @@ module _ (number : ℕ → ℕ) (l : Leaving) (peers : List Peer) (shelf : KeptM
     of_key : (key : OwnedKey) → owned_in (asked_in seat.front) ≡ Some key → is_to_decide shelf p seat ≡ is_some (its s)
     of_key key own = by (row s key.text.items) (row_on_disk s key.text.items) refl refl
       where
-        same_key : {P : OwnedKey → Type 0} → P key → (other : OwnedKey) → owned_in (asked_in seat.front) ≡ Some other → P other
-        same_key {P = P} its other is = subst P (same_some (sym own ∙ is)) its
+        same_key : (P : OwnedKey → Type 0) → P key → (other : OwnedKey) → owned_in (asked_in seat.front) ≡ Some other → P other
+        same_key P one other is = subst P (same_some (sym own ∙ is)) one
 
         by_memory : (kept : Option Kept) (e : Entry) → kept_in_turn key.text.items shelf p.cache ≡ kept → AreBoth IsKeptAs kept (Some e) → row s key.text.items ≡ None → row_on_disk s key.text.items ≡ Some e → is_to_decide shelf p seat ≡ is_some (its s)
         by_memory None e here both alone disk = absurd both
@@ -485,12 +486,12 @@ module _ (number : ℕ → ℕ) (l : Leaving) (peers : List Peer) (shelf : KeptM
         by : (q : Option Known) (f : Option Entry) → row s key.text.items ≡ q → row_on_disk s key.text.items ≡ f → is_to_decide shelf p seat ≡ is_some (its s)
         by (Some x) f there disk =
             known_too
-            (same_key {P = λ k. kept_in_turn k.text.items shelf p.cache ≡ None} (known_kept key (row_of key.text.items p.cache.instances) (Some x) refl there (subst (λ (q : Option Known). AreBoth (ShowsInstance number p.cache s) (row_of key.text.items p.cache.instances) q) there (rows_of number p.cache s table key.text.items)) refl))
-            (same_key {P = λ k. row s k.text.items ≡ None → row_on_disk s k.text.items ≡ None} (λ none. absurd (none_some (sym none ∙ there))))
+            (same_key (λ k. kept_in_turn k.text.items shelf p.cache ≡ None) (known_kept key (row_of key.text.items p.cache.instances) (Some x) refl there (subst (λ (q : Option Known). AreBoth (ShowsInstance number p.cache s) (row_of key.text.items p.cache.instances) q) there (rows_of number p.cache s table key.text.items)) refl))
+            (same_key (λ k. row s k.text.items ≡ None → row_on_disk s k.text.items ≡ None) (λ none. absurd (none_some (sym none ∙ there))))
         by None None there disk =
             known_too
-            (same_key {P = λ k. kept_in_turn k.text.items shelf p.cache ≡ None} (unkept_by (kept_in_turn key.text.items shelf p.cache) (subst (λ (f : Option Entry). AreBoth IsKeptAs (kept_in_turn key.text.items shelf p.cache) f) disk (shows.kept key.text.items there))))
-            (same_key {P = λ k. row s k.text.items ≡ None → row_on_disk s k.text.items ≡ None} (λ none. disk))
+            (same_key (λ k. kept_in_turn k.text.items shelf p.cache ≡ None) (unkept_by (kept_in_turn key.text.items shelf p.cache) (subst (λ (f : Option Entry). AreBoth IsKeptAs (kept_in_turn key.text.items shelf p.cache) f) disk (shows.kept key.text.items there))))
+            (same_key (λ k. row s k.text.items ≡ None → row_on_disk s k.text.items ≡ None) (λ none. disk))
         by None (Some e) there disk =
             by_memory (kept_in_turn key.text.items shelf p.cache) e refl (subst (λ (f : Option Entry). AreBoth IsKeptAs (kept_in_turn key.text.items shelf p.cache) f) disk (shows.kept key.text.items there)) there disk
 

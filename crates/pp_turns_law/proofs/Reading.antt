@@ -86,7 +86,7 @@ decidable number p s t seat c table ready isnt kept = record {
 
 -- ---- as if nothing were kept of a key
 
-pub hidden : Bytes → State → State
+unfoldable pub hidden : Bytes → State → State
 hidden key s = record s { displaced = key ∷ s.displaced }
 
 pub none_hidden : (key : Bytes) (s : State) → row_on_disk (hidden key s) key ≡ None

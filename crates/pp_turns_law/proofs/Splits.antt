@@ -62,15 +62,18 @@ module _ (shelf : KeptMap) where
       by (inl has) = inl (subst (λ (b : Bool). elim b as (λ c. Type 0) [ true ↦ HasRowInMemory shelf (key_at i old) old now × (due ≡ due_at i now) | false ↦ (now ≡ old) × (due ≡ None) ]) (sym is) (has, its.1))
       by (inr refused) = inr (is, refused)
 
+  at_first : (i : ℕ) (places : List ℕ) (old now new : Turn) (due : Option SeatDue) (found : Option (ℕ × SeatDue)) → (FirstDue shelf places now new found → Given places now new found)
+      → IsDueInMemory shelf i old now due ⊎ ((is_due_at shelf i old ≡ true) × ((key : Bytes) × (key_at i old ≡ Some key) × IsRefused i old now))
+      → (elim due as (λ c. Type 0) [ Some d ↦ (new ≡ now) × (found ≡ Some (i, d)) | None ↦ FirstDue shelf places now new found ]) → Given (i ∷ places) old new found
+  at_first i places old now new due found more (inl one) rest = go_on i places old now new due found more one rest
+  at_first i places old now new due found more (inr (is, its)) rest =
+      inr (record { before = []; place = i; behind = places; parts = refl; then = old; passed = none_passed old; due = is; key = its.0; names = its.1; now = now; refused = its.2 })
+
   split : (places : List ℕ) (old new : Turn) (found : Option (ℕ × SeatDue)) → FirstDue shelf places old new found → Given places old new found
   unfolding FirstDue FirstDueInMemory
   split [] old new found first = inl first
-  split (i ∷ places) old new found (now, due, its, rest) = by (here i old now due (is_due_at shelf i old) refl its)
-    where
-      by : IsDueInMemory shelf i old now due ⊎ ((is_due_at shelf i old ≡ true) × ((key : Bytes) × (key_at i old ≡ Some key) × IsRefused i old now)) → Given (i ∷ places) old new found
-      by (inl one) = go_on i places old now new due found (λ first. split places now new found first) one rest
-      by (inr (is, key, names, refused)) =
-          inr (record { before = []; place = i; behind = places; parts = refl; then = old; passed = none_passed old; due = is; key = key; names = names; now = now; refused = refused })
+  split (i ∷ places) old new found (now, due, its, rest) =
+      at_first i places old now new due found (λ first. split places now new found first) (here i old now due (is_due_at shelf i old) refl its) rest
 
 pub splits : MemoryIsGivenOrRefused
 splits shelf places old new found first = split shelf places old new found first
