@@ -6,7 +6,6 @@ use Rattle.pp_head.specs.Request.{Request}
 use Rattle.pp_objects.specs.Instances.{is_row}
 use Rattle.pp_plan.specs.Decision.{decision}
 use Rattle.pp_plan.specs.Row.{Row}
-use Rattle.pp_plan.specs.declared.table.Begun.TheVariants.{Nothing}
 use Rattle.pp_seats.specs.Dues.{begun_in, is_refused_in, may_share}
 use Rattle.pp_seats.specs.Heads.{asked_in, owned_in}
 use Rattle.pp_seats.specs.Seats.{is_undecided_in}

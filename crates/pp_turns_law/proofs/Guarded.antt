@@ -2,7 +2,6 @@
 use Rattle.std.proofs.Common.{◌≡◌, ◌⊎◌, inl, inr, refl, sym, subst, ap, ap₂, ◌∙◌, ℕ, Bool, true, false, not, ◌&&◌, ◌||◌, is_some, [], List, Option, Some, None, option_map}
 use Rattle.std.specs.Prelude.{bytes_eq, slice_get}
 use Rattle.std.specs.List.{list_any}
-use Rattle.pp_cache.specs.Memory.{Memory}
 use Rattle.pp_cache_law.proofs.Alike.{rows_of}
 use Rattle.pp_cache_law.specs.Kept.{AreKept}
 use Rattle.pp_cache_law.specs.Pairs.{AreBoth}
@@ -53,7 +52,7 @@ use Rattle.pp_seats_law.specs.Dues.{IsByRow, cut_of as cut_by_law, due_as, has_l
 use Rattle.pp_seats_law.specs.Seats.{ShowsOpen, ShowsSeat}
 use Rattle.pp_state.specs.declared.state.State.{State as Turn}
 use Rattle.pp_store.specs.Kept.{Kept, KeptMap, kept_of as kept_in_store}
-use Rattle.pp_target.specs.Key.{key_in, text_of}
+use Rattle.pp_target.specs.Key.{key_in}
 use Rattle.pp_target.specs.Name.{name_of}
 use Rattle.pp_text.specs.Fields.{Field}
 use Rattle.pp_valid.specs.declared.version.Version.{Version}
@@ -66,7 +65,7 @@ use Rattle.pp_turns_law.proofs.Deciding.{IsAskedAs, decide_with, fits_same, hear
 use Rattle.pp_turns_law.proofs.Reading.{decidable, hidden, none_hidden, turn_hidden}
 use Rattle.pp_turns_law.proofs.Shares.{shared_same}
 use Rattle.pp_turns_law.specs.Rows.{AreAsKept, IsKeptAs, IsReady, ShowsDisk}
-use Rattle.pp_turns_law.specs.Turns.{IsDecidable, IsFollowing, ShowsTurn}
+use Rattle.pp_turns_law.specs.Turns.{IsFollowing, ShowsTurn}
 
 none_some : {A : Type 0} {x : A} → None ≡ Some x → ⊥
 none_some e = absurd (cc e)

@@ -1,5 +1,5 @@
 -- What is due of a seat whose row is in memory, if it has one, is what is due of its client.
-use Rattle.std.proofs.Common.{◌≡◌, refl, sym, subst, ap, ap₂, ◌∙◌, ℕ, Bool, true, false, not, ◌&&◌, ◌||◌, ◌==◌, List, [], ◌∷◌, Option, Some, None, option_map}
+use Rattle.std.proofs.Common.{◌≡◌, refl, sym, subst, ap, ap₂, ◌∙◌, ℕ, Bool, true, false, ◌&&◌, ◌||◌, ◌==◌, List, [], ◌∷◌, Option, Some, None, option_map}
 use Rattle.std.specs.Prelude.{bytes_eq, slice_get}
 use Rattle.std.specs.List.{list_any}
 use Rattle.std.proofs.lemmas.Slice.Eq.{bytes_eq-Decides}
@@ -8,33 +8,27 @@ use Rattle.pp_cache_law.proofs.Alike.{rows_of}
 use Rattle.pp_cache_law.proofs.Numbers.{is_same, same_test}
 use Rattle.pp_cache_law.specs.Pairs.{AreBoth}
 use Rattle.pp_cache_law.specs.Tables.{ShowsInstance, ShowsTable}
-use Rattle.pp_client.specs.Replies.{Reply as Said}
 use Rattle.pp_turns_law.proofs.AllDue.{all_dues}
 use Rattle.pp_turns_law.specs.Turns.{IsDecidable, IsFollowing, ShowsTurn}
 use Rattle.pp_flow_law.specs.Tables.{Leaving}
 use Rattle.pp_law.specs.Decisions.{decide, decide_head}
-use Rattle.pp_law.specs.Due.{due_of as due_by_law, give_up, is_told}
+use Rattle.pp_law.specs.Due.{due_of as due_by_law}
 use Rattle.pp_law.specs.Lists.{Bytes}
 use Rattle.pp_law.specs.Requests.{Front, NoHeadYet, NoHead, IsRequest}
-use Rattle.pp_law.specs.State.{State, Client, Entry, Instance as Known, Reply, Stage, Undecided, Waiting, Passing, Answering}
-use Rattle.pp_law.specs.Table.{kept_row, next_of, row, row_on_disk}
+use Rattle.pp_law.specs.State.{State, Client, Entry, Instance as Known}
+use Rattle.pp_law.specs.Table.{kept_row, row, row_on_disk}
 use Rattle.pp_objects.specs.Instances.{Instance, id_of, is_life, is_same_id, is_there, row_of}
 use Rattle.pp_objects.specs.declared.id.ObjectId.{ObjectId}
 use Rattle.pp_peers.specs.declared.peers.Peer.{Peer}
 use Rattle.pp_seats.specs.Dues.{is_refused_in}
 use Rattle.pp_seats.specs.Heads.{asked_in, is_there_in, owned_in}
-use Rattle.pp_seats.specs.Seats.{is_open_in, is_to_be_decided, is_told_in}
 use Rattle.pp_seats.specs.declared.front.Front.{Front as SeatFront}
 use Rattle.pp_seats.specs.declared.front.Front.TheVariants.{NoHeadYet as NoneYet, NoHead as NoneThere, Request as IsThere}
 use Rattle.pp_seats.specs.declared.key.Key.{Key as OwnedKey}
 use Rattle.pp_seats.specs.declared.seat.Seat.{Seat}
-use Rattle.pp_seats.specs.declared.seat.Stage.{Stage as SeatStage}
-use Rattle.pp_seats.specs.declared.seat.Stage.TheVariants.{Undecided as IsUndecided, Waiting as IsWaiting, Passing as IsPassing, Answering as IsAnswering}
-use Rattle.pp_seats_law.proofs.Stages.{told}
 use Rattle.pp_seats_law.specs.Dues.{AreApart, due_as}
 use Rattle.pp_seats_law.specs.Fronts.{ShowsFront}
-use Rattle.pp_seats_law.specs.Replies.{ShowsStage}
-use Rattle.pp_seats_law.specs.Seats.{ShowsOpen, ShowsSeat}
+use Rattle.pp_seats_law.specs.Seats.{ShowsSeat}
 use Rattle.pp_states_law.proofs.Framed.{states}
 use Rattle.pp_due.specs.Due.{due_of}
 use Rattle.pp_state.specs.declared.state.State.{State as Turn}
@@ -42,7 +36,6 @@ use Rattle.pp_steps_law.specs.Told.{IsTold}
 use Rattle.pp_store.specs.Kept.{KeptMap}
 use Rattle.pp_world.specs.declared.note.Decision.{Decision}
 use Rattle.pp_world.specs.declared.note.Decision.TheVariants.{Refuse}
-use Rattle.pp_turns_law.proofs.Brought.{again_by, closed, cut_by, due_by, due_read, first_by, source_by, stage_by}
 use Rattle.pp_turns_law.specs.Rows.{IsReady, ShowsDisk}
 
 none_some : {A : Type 0} {x : A} → None ≡ Some x → ⊥
