@@ -6,25 +6,24 @@ use Rattle.pp_head.specs.Request.{Request}
 use Rattle.pp_objects.specs.Instances.{is_row}
 use Rattle.pp_plan.specs.Decision.{decision}
 use Rattle.pp_plan.specs.Row.{Row}
-use Rattle.pp_plan.specs.declared.table.Begun.TheVariants.{Nothing}
-use Rattle.pp_seats.specs.Dues.{may_share}
+use Rattle.pp_seats.specs.Dues.{begun_in, is_refused_in, may_share}
 use Rattle.pp_seats.specs.Heads.{asked_in, owned_in}
-use Rattle.pp_seats.specs.Seats.{is_to_be_decided, is_undecided_in}
+use Rattle.pp_seats.specs.Seats.{is_undecided_in}
 use Rattle.pp_seats.specs.declared.due.Due.{Due}
 use Rattle.pp_seats.specs.declared.front.Asked.{Asked}
 use Rattle.pp_seats.specs.declared.key.Key.{Key}
 use Rattle.pp_seats.specs.declared.seat.Brought.TheVariants.{Refused}
 use Rattle.pp_seats.specs.declared.seat.Seat.{Seat}
-use Rattle.pp_store.specs.Kept.{Kept, KeptMap, kept_of}
+use Rattle.pp_store.specs.Kept.{Kept, KeptMap}
 use Rattle.pp_world.specs.declared.note.Decision.{Decision}
 use Rattle.pp_decide.specs.Decide.{if_fits, kind_of, shown_span}
-use Rattle.pp_due.specs.Due.{decision_of, due_at}
+use Rattle.pp_due.specs.Due.{cut_of, decision_of, due_at}
 use Rattle.pp_due.specs.OnDisk.{IsBrought, kept_alone}
 use Rattle.pp_state.specs.Pins.{with_room}
 use Rattle.pp_decide.specs.Sharing.{shared_ask}
 use Rattle.pp_state.specs.declared.state.State.{State}
 
--- ---- what is due by the kept row, where memory is refused for it
+-- ---- what is due by the row of its key, in memory or kept
 
 abbrev pub is_below : ℕ → ℕ × ℕ → Bool
 is_below extent span = nat_le span.1 span.0 || nat_le span.1 extent
@@ -32,51 +31,62 @@ is_below extent span = nat_le span.1 span.0 || nat_le span.1 extent
 abbrev pub kept_row : Request → Kept → Row
 kept_row head row = record { version = row.entry.version; fields = row.entry.fields; times = row.entry.times; held = is_below row.extent (shown_span head row.entry.version) }
 
-abbrev pub decide_by_kept : State → Key → Kept → Request → Decision
-decide_by_kept s key row head =
-    let d = decision head (Some (kept_row head row)) Nothing s.now in
+abbrev pub decide_by_kept : State → Seat → Key → Kept → Request → Decision
+decide_by_kept s seat key row head =
+    let d = decision head (Some (kept_row head row)) (begun_in seat.brought None) s.now in
     if_fits s head key (kind_of head (Some row.entry.version) d) d
 
-abbrev pub asks_by_front : State → Key → Kept → Front → Bool
-asks_by_front s key row NoRequest = false
-asks_by_front s key row More = false
-asks_by_front s key row (IsAsked head fault) = may_share (decide_by_kept s key row head)
-asks_by_front s key row (NoHead status) = false
-
-abbrev pub asks_by_row : State → Seat → Key → Option Kept → Bool
-asks_by_row s seat key None = false
-asks_by_row s seat key (Some row) = asks_by_front s key row (current_of seat.client.heard)
+-- by this kept row it is to ask what another may have asked already
+abbrev pub asks_by_kept : State → Seat → Key → Kept → Front → Bool
+asks_by_kept s seat key row NoRequest = false
+asks_by_kept s seat key row More = false
+asks_by_kept s seat key row (IsAsked head fault) = may_share (decide_by_kept s seat key row head)
+asks_by_kept s seat key row (NoHead status) = false
 
 -- the key of a request that is not refused for itself
 abbrev pub plain_key : Option Asked → Option Key
 plain_key None = None
 plain_key (Some a) = elim a.refusal [ Some status ↦ None | None ↦ a.key ]
 
--- it is to ask what another may have asked already
-abbrev pub asks_by_kept : KeptMap → State → Seat → Bool
-asks_by_kept shelf s seat = elim (plain_key (asked_in seat.front)) [ None ↦ false | Some key ↦ asks_by_row s seat key (kept_of key.text.items shelf) ]
-
 -- it may wait for what is asked already
 abbrev pub may_share_first : State → Seat → Bool
-may_share_first s seat = is_undecided_in seat.stage && not (is_some seat.waits_on) && s.shares_fetches && is_some (shared_ask seat s.flow)
+may_share_first s seat = not (is_refused_in seat.brought) && (is_undecided_in seat.stage && not (is_some seat.waits_on)) && s.shares_fetches && is_some (shared_ask seat s.flow)
 
-abbrev pub is_due_by_kept : KeptMap → State → Seat → Bool
-is_due_by_kept shelf s seat = elim (may_share_first s seat) [ true ↦ not (asks_by_kept shelf s seat) | false ↦ is_some (decision_of s seat) ]
+-- by what is in memory of its key
+abbrev pub has_decision : State → Seat → Bool
+has_decision s seat = is_some (decision_of s seat)
 
--- ---- memory is refused for it: where a decision is due, the request is refused
+abbrev pub decides_by_row : State → Seat → Key → Option Kept → Bool
+decides_by_row s seat key None = has_decision s seat
+decides_by_row s seat key (Some row) = not (asks_by_kept s seat key row (current_of seat.client.heard))
 
+abbrev pub decides_by_key : KeptMap → State → Seat → Option Key → Bool
+decides_by_key shelf s seat None = has_decision s seat
+decides_by_key shelf s seat (Some key) = decides_by_row s seat key (kept_alone key.text.items shelf s.cache)
+
+-- a decision is due: one that waits for the answer to another's ask has none
+abbrev pub is_to_decide : KeptMap → State → Seat → Bool
+is_to_decide shelf s seat = elim (may_share_first s seat) [ true ↦ decides_by_key shelf s seat (plain_key (asked_in seat.front)) | false ↦ has_decision s seat ]
+
+-- a cut, or a decision
+abbrev pub is_due_to : KeptMap → State → Seat → Bool
+is_due_to shelf s seat = elim seat.is_closing [
+  | true ↦ false
+  | false ↦ elim (is_some (cut_of s seat) || s.is_stopped) [ true ↦ is_some (cut_of s seat) | false ↦ is_to_decide shelf s seat ]
+]
+
+-- of the client at this place
 abbrev pub is_due_at : KeptMap → ℕ → State → Bool
-is_due_at shelf i s = elim (slice_get s.seats.items i) [ None ↦ false | Some seat ↦ is_due_by_kept shelf s seat ]
+is_due_at shelf i s = elim (slice_get s.seats.items i) [ None ↦ false | Some seat ↦ is_due_to shelf s seat ]
+
+-- ---- memory is refused for the kept row: the request is refused
 
 abbrev pub refused_at : ℕ → List Seat → List Seat
 refused_at i seats = elim (slice_get seats i) [ None ↦ seats | Some seat ↦ slice_set seats i (record seat { brought = Refused }) ]
 
-abbrev pub refused_kept : KeptMap → ℕ → State → List Seat
-refused_kept shelf i s = elim (is_due_at shelf i s) [ true ↦ refused_at i s.seats.items | false ↦ s.seats.items ]
-
 -- all but the clients stays
-pub record IsRefused (shelf : KeptMap) (i : ℕ) (old new : State) : Type 0 where
-  pub seats : new.seats.items ≡ refused_kept shelf i old
+pub record IsRefused (i : ℕ) (old new : State) : Type 0 where
+  pub seats : new.seats.items ≡ refused_at i old.seats.items
   pub rest : record new { seats = old.seats } ≡ old
 
 -- ---- it comes into memory
@@ -87,20 +97,27 @@ pub record Comes (shelf : KeptMap) (key : List ℕ) (old new : State) : Type 0 w
   pub rest : record new { cache = old.cache } ≡ old
 
 abbrev pub ComesOrIsRefused : KeptMap → ℕ → List ℕ → State → State → Type 0
-ComesOrIsRefused shelf i key old new = Comes shelf key old new ⊎ IsRefused shelf i old new
+ComesOrIsRefused shelf i key old new = Comes shelf key old new ⊎ IsRefused i old new
 
--- the key of a request that may be decided now
-abbrev pub key_to_decide : Seat → Option (List ℕ)
-key_to_decide seat = elim (is_to_be_decided seat) [ true ↦ option_map (λ key. key.text.items) (owned_in (asked_in seat.front)) | false ↦ None ]
+-- where something is due to it: that is a decision, and not one for want of memory
+abbrev pub is_to_enter : State → Seat → Bool
+is_to_enter s seat = not (is_some (cut_of s seat)) && not (is_refused_in seat.brought)
+
+abbrev pub enters_at : ℕ → State → Bool
+enters_at i s = elim (slice_get s.seats.items i) [ None ↦ false | Some seat ↦ is_to_enter s seat ]
+
+-- the key whose row comes in with it
+abbrev pub key_due : State → Seat → Option (List ℕ)
+key_due s seat = elim (is_to_enter s seat) [ true ↦ option_map (λ key. key.text.items) (owned_in (asked_in seat.front)) | false ↦ None ]
 
 abbrev pub key_at : ℕ → State → Option (List ℕ)
-key_at i s = option_and_then key_to_decide (slice_get s.seats.items i)
+key_at i s = option_and_then (key_due s) (slice_get s.seats.items i)
 
 abbrev pub HasRowOf : KeptMap → ℕ → Option (List ℕ) → State → State → Type 0
 HasRowOf shelf i None old new = new ≡ old
 HasRowOf shelf i (Some key) old new = ComesOrIsRefused shelf i key old new
 
--- the row that the request of the client at this place names
+-- the row that the request of the client at this place names, to whom something is due
 abbrev pub HasRow : KeptMap → ℕ → State → State → Type 0
 HasRow shelf i old new = HasRowOf shelf i (key_at i old) old new
 
@@ -123,9 +140,13 @@ abbrev pub HasRowFor : KeptMap → Option (List ℕ) → State → State → Typ
 HasRowFor shelf None old new = new ≡ old
 HasRowFor shelf (Some key) old new = ComesWithRoom shelf key old new
 
--- ---- what is due first, among the clients at these places: each has its row before
+-- ---- what is due first, among the clients at these places
+
+-- nothing; or what is due, with its row in memory where that is a decision
+abbrev pub IsDueWithRow : KeptMap → ℕ → State → State → Option Due → Type 0
+IsDueWithRow shelf i old new due = elim (is_due_at shelf i old) [ true ↦ HasRow shelf i old new × (due ≡ due_at i new) | false ↦ (new ≡ old) × (due ≡ None) ]
 
 unfoldable pub FirstDue : KeptMap → List ℕ → State → State → Option (ℕ × Due) → Type 0
 FirstDue shelf [] old new found = (new ≡ old) × (found ≡ None)
 FirstDue shelf (i ∷ places) old new found =
-    (now : State) × HasRow shelf i old now × (elim (due_at i now) [ Some due ↦ (new ≡ now) × (found ≡ Some (i, due)) | None ↦ FirstDue shelf places now new found ])
+    (now : State) × (due : Option Due) × IsDueWithRow shelf i old now due × (elim due [ Some d ↦ (new ≡ now) × (found ≡ Some (i, d)) | None ↦ FirstDue shelf places now new found ])

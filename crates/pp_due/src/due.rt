@@ -1,10 +1,10 @@
 // Which decision or cut is due, and which comes first (RFC 2616, section 8.1; the order is ours).
 ghost use Rattle.std.specs.Prelude.{◌≡◌, is_some};
-ghost use Rattle.pp_due.specs.Entering.{FirstDue};
+ghost use Rattle.pp_due.specs.Entering.{FirstDue, IsDueWithRow};
 ghost use Rattle.pp_due.specs.Due.{cut_of, decision_of, due_at, due_of, has_source_standing, is_dry, is_superseded};
 ghost use Rattle.pp_seats.specs.Dues.{cause_in, decision_in, due_in, follows, give_up_in, is_idle_in, is_read_in, is_short_in, lost_in};
 
-use crate::kept::{bring_row_of, next_on_disk};
+use crate::kept::{bring_row_of, is_due_at, next_on_disk};
 use pp_decide::{decide, due_undecided};
 use pp_seats::{Answer, Brought, Course, Due, PassedEnd, Seat, Stage};
 use pp_shelf::Shelf;
@@ -14,8 +14,8 @@ use pp_world::{Cause, Decision};
 /// Ours: a client that is idle for so many seconds is cut.
 const IDLE_SECONDS: u64 = 120;
 
-/// The first client, in the order of their numbers, for whom something is due. Where its request may be decided, the
-/// kept row that it names comes into memory before.
+/// The first client, in the order of their numbers, for whom something is due. Where that is a decision, the kept row that
+/// its request names comes into memory before.
 pub fn first_due(state: &mut State, shelf: &Shelf) -> Option<(usize, Due)>
     ensures { FirstDue shelf.now state.old.awake.items state.old state.new result }
 {
@@ -23,16 +23,26 @@ pub fn first_due(state: &mut State, shelf: &Shelf) -> Option<(usize, Due)>
         let Some(i) = state.awake_at(turn) else {
             break;
         };
-        bring_row_of(state, shelf, i);
-        if let Some(due) = due_at(state, i) {
+        if let Some(due) = due_with_row(state, shelf, i) {
             return Some((i, due));
         }
     }
     None
 }
 
+/// What is due to the client at this place.
+fn due_with_row(state: &mut State, shelf: &Shelf, i: usize) -> Option<Due>
+    ensures { IsDueWithRow shelf.now i state.old state.new result }
+{
+    if !is_due_at(state, shelf, i) {
+        return None;
+    }
+    bring_row_of(state, shelf, i);
+    due_at(state, i)
+}
+
 /// A decision is due to it, by what is in memory of its key.
-pub(crate) fn is_to_decide(state: &State, seat: &Seat) -> bool
+pub(crate) fn has_decision(state: &State, seat: &Seat) -> bool
     ensures { result ≡ is_some (decision_of state.entry.now seat.now) }
 {
     decision_of(state, seat).is_some()
@@ -62,7 +72,7 @@ fn due_of(state: &State, seat: &Seat) -> Option<Due>
 }
 
 /// What came is said before a reply is cut for its origin.
-fn cut_of(state: &State, seat: &Seat) -> Option<Cause>
+pub(crate) fn cut_of(state: &State, seat: &Seat) -> Option<Cause>
     ensures { result ≡ cut_of state.entry.now seat.now }
 {
     let has_begun = seat.has_begun();

@@ -1,13 +1,16 @@
 // Rows that come from the disk, and bytes that stand there alone.
-ghost use Rattle.std.specs.Prelude.{◌≡◌, true, is_none, is_ok, slice_get, OnErr, OnOk};
-ghost use Rattle.pp_due.specs.Entering.{HasRow, HasRowFor, asks_by_kept, decide_by_kept, is_below, is_due_at, is_due_by_kept, refused_kept, with_room_if_over};
+ghost use Rattle.std.specs.Prelude.{◌≡◌, None, true, is_none, is_ok, option_map, slice_get, OnErr, OnOk};
+ghost use Rattle.pp_client.specs.Requests.{current_of};
+ghost use Rattle.pp_due.specs.Entering.{HasRow, HasRowFor, asks_by_kept, decide_by_kept, is_below, is_due_at, is_due_to, is_to_decide, enters_at, may_share_first, plain_key, refused_at, with_room_if_over};
+ghost use Rattle.pp_seats.specs.Dues.{begun_in};
+ghost use Rattle.pp_seats.specs.Heads.{asked_in};
 ghost use Rattle.std.specs.Option.{option_and_then};
 ghost use Rattle.pp_state.specs.Keys.{key_of};
 ghost use Rattle.pp_head.specs.Shown.{shown_request};
 ghost use Rattle.pp_store.specs.Views.{shown};
 ghost use Rattle.pp_due.specs.OnDisk.{IsBrought, kept_alone, next_on_disk};
 
-use crate::due::is_to_decide;
+use crate::due::{cut_of, has_decision};
 use pp_cache::Cache;
 use pp_client::Current;
 use pp_decide::{if_fits, may_share, shared_ask};
@@ -22,23 +25,34 @@ use pp_text::OutOfMemory;
 use pp_world::Decision;
 use std::alloc::Global;
 
-/// Where the request of the client at this place may be decided now, the kept row that it names comes into memory. Where
-/// memory is refused for it, and a decision is due, the request is refused.
+/// Where a decision is due to the client at this place, the kept row that its request names comes into memory: with each but one
+/// for want of memory. Where memory is refused for it, the request is refused.
 pub(crate) fn bring_row_of(state: &mut State, shelf: &Shelf, i: usize)
     ensures { HasRow shelf.now i state.old state.new }
 {
+    if !is_to_enter(state, i) {
+        return;
+    }
     let Some(seat) = state.seats.get(i) else {
         return;
     };
-    if !seat.is_to_be_decided() {
-        return;
-    }
     let Some(key) = seat.front.key() else {
         return;
     };
     if bring(state.alloc, &mut state.cache, shelf, key.text()).is_err() {
-        refuse_kept(state, shelf, i);
+        refuse_row(state, i);
     }
+}
+
+/// What is due to it is a decision, and not one for want of memory.
+fn is_to_enter(state: &State, i: usize) -> bool
+    ensures { result ≡ enters_at i state.entry.now }
+{
+    let Some(seat) = state.seats.get(i) else {
+        return false;
+    };
+    let is_refused = matches!(seat.brought, Brought::Refused);
+    cut_of(state, seat).is_none() && !is_refused
 }
 
 /// The same of the key of an exchange whose response came, with room for it.
@@ -62,67 +76,93 @@ fn make_room_if_over(state: &mut State)
 }
 
 /// Memory was refused for the kept row of its key.
-fn refuse_kept(state: &mut State, shelf: &Shelf, i: usize)
-    ensures seats { state.new.seats.items ≡ refused_kept shelf.now i state.old }
+fn refuse_row(state: &mut State, i: usize)
+    ensures seats { state.new.seats.items ≡ refused_at i state.old.seats.items }
     ensures rest { record state.new { seats = state.old.seats } ≡ state.old }
 {
-    if !is_due_at(state, shelf, i) {
-        return;
-    }
     if let Some(seat) = state.seats.get_mut(i) {
         seat.brought = Brought::Refused;
     }
 }
 
-/// A decision is due by the kept row of its key: one that waits for the answer to another's ask has none.
-fn is_due_by_kept(state: &State, shelf: &Shelf, seat: &Seat) -> bool
-    ensures { result ≡ is_due_by_kept shelf.now state.entry.now seat.now }
-{
-    let is_first = matches!(seat.stage, Stage::Undecided) && seat.waits_on.is_none();
-    if is_first && state.shares_fetches && shared_ask(state, seat).is_some() {
-        !asks_by_kept(state, shelf, seat)
-    } else {
-        is_to_decide(state, seat)
-    }
-}
-
-/// The same of the client at this place.
-fn is_due_at(state: &State, shelf: &Shelf, i: usize) -> bool
+/// A cut or a decision is due to the client at this place, by the kept row of its key where none is in memory.
+pub(crate) fn is_due_at(state: &State, shelf: &Shelf, i: usize) -> bool
     ensures { result ≡ is_due_at shelf.now i state.entry.now }
 {
     match state.seats.get(i) {
         None => false,
-        Some(seat) => is_due_by_kept(state, shelf, seat),
+        Some(seat) => is_due_to(state, shelf, seat),
+    }
+}
+
+fn is_due_to(state: &State, shelf: &Shelf, seat: &Seat) -> bool
+    ensures { result ≡ is_due_to shelf.now state.entry.now seat.now }
+{
+    if seat.is_closing {
+        return false;
+    }
+    let is_cut = cut_of(state, seat).is_some();
+    if is_cut || state.is_stopped {
+        return is_cut;
+    }
+    is_to_decide(state, shelf, seat)
+}
+
+/// A decision is due: one that waits for the answer to another's ask has none.
+fn is_to_decide(state: &State, shelf: &Shelf, seat: &Seat) -> bool
+    ensures { result ≡ is_to_decide shelf.now state.entry.now seat.now }
+{
+    if !may_share_first(state, seat) {
+        return has_decision(state, seat);
+    }
+    let Some(key) = plain_key(seat) else {
+        return has_decision(state, seat);
+    };
+    match kept_alone(&state.cache, shelf, key.text()) {
+        None => has_decision(state, seat),
+        Some(view) => !asks_by_kept(state, seat, key, view),
+    }
+}
+
+/// It may wait for what is asked already.
+fn may_share_first(state: &State, seat: &Seat) -> bool
+    ensures { result ≡ may_share_first state.entry.now seat.now }
+{
+    let is_refused = matches!(seat.brought, Brought::Refused);
+    let is_first = matches!(seat.stage, Stage::Undecided) && seat.waits_on.is_none();
+    !is_refused && is_first && state.shares_fetches && shared_ask(state, seat).is_some()
+}
+
+/// The key of a request that is not refused for itself.
+fn plain_key(seat: &Seat) -> Option<&Key>
+    ensures { option_map (λ key. key.now) result ≡ plain_key (asked_in seat.now.front) }
+{
+    let asked = seat.front.asked()?;
+    match asked.refusal {
+        Some(_) => None,
+        None => asked.key.as_ref(),
     }
 }
 
 /// By the kept row of its key it is to ask what another may have asked already.
-fn asks_by_kept(state: &State, shelf: &Shelf, seat: &Seat) -> bool
-    ensures { result ≡ asks_by_kept shelf.now state.entry.now seat.now }
+fn asks_by_kept(state: &State, seat: &Seat, key: &Key, view: KeptView<'_>) -> bool
+    ensures { result ≡ asks_by_kept state.entry.now seat.now key.now (shown view.entry) (current_of seat.now.client.heard) }
 {
-    let Some(asked) = seat.front.asked() else {
-        return false;
-    };
-    let (None, Some(key)) = (asked.refusal, &asked.key) else {
-        return false;
-    };
-    let Some(view) = shelf.kept(key.text()) else {
-        return false;
-    };
     let Current::Request(head, _) = seat.client.current() else {
         return false;
     };
-    may_share(decide_by_kept(state, &head, key, view))
+    may_share(decide_by_kept(state, seat, &head, key, view))
 }
 
 /// What is decided by this kept row.
 fn decide_by_kept(
     state: &State,
+    seat: &Seat,
     head: &RequestHead<'_, '_>,
     key: &Key,
     view: KeptView<'_>,
 ) -> Decision
-    ensures { result ≡ decide_by_kept state.entry.now key.now (shown view.entry) (shown_request head.now) }
+    ensures { result ≡ decide_by_kept state.entry.now seat.now key.now (shown view.entry) (shown_request head.now) }
 {
     let plan = PlanRow {
         version: view.version,
@@ -130,8 +170,21 @@ fn decide_by_kept(
         times: view.times,
         held: is_below(view.extent, span(head, view.version)),
     };
-    let decision = decide(head, Some(&plan), Begun::Nothing, state.now);
+    let decision = decide(head, Some(&plan), begun_without_row(seat), state.now);
     if_fits(state, head, key, Some(*view.version), decision)
+}
+
+/// What its exchange brought, where its key has no row in memory.
+fn begun_without_row(seat: &Seat) -> Begun
+    ensures { result ≡ begun_in seat.now.brought None }
+{
+    match seat.brought {
+        Brought::Awaited | Brought::Useless | Brought::Joins(_, _) | Brought::Refused => {
+            Begun::Nothing
+        }
+        Brought::Passes(_) => Begun::Other,
+        Brought::TooWide => Begun::Widened,
+    }
 }
 
 /// The next byte of the client at this place, where it is on the disk alone and is said next.
@@ -169,15 +222,9 @@ fn bring(alloc: Global, cache: &mut Cache, shelf: &Shelf, key: &[u8]) -> Result<
     ensures refused { OnErr result (cache.new ≡ cache.old) }
     ensures none { is_none (kept_alone key.now shelf.now cache.old) ≡ true → is_ok result ≡ true }
 {
-    if cache.current(key).is_some() {
-        return Ok(());
-    }
-    let Some(view) = shelf.kept(key) else {
+    let Some(view) = kept_alone(cache, shelf, key) else {
         return Ok(());
     };
-    if cache.is_outdated(&file_name(key)) {
-        return Ok(());
-    }
     cache.enter(
         alloc,
         key,
@@ -188,4 +235,14 @@ fn bring(alloc: Global, cache: &mut Cache, shelf: &Shelf, key: &[u8]) -> Result<
     )?;
     cache.bounds();
     Ok(())
+}
+
+/// What is kept of a key that has no row in memory, as long as it stands for its row.
+fn kept_alone<'a>(cache: &Cache, shelf: &'a Shelf, key: &[u8]) -> Option<KeptView<'a>>
+    ensures { option_map shown result ≡ kept_alone key.now shelf.now cache.now }
+{
+    if cache.current(key).is_some() || cache.is_outdated(&file_name(key)) {
+        return None;
+    }
+    shelf.kept(key)
 }

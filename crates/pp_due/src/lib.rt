@@ -1,7 +1,7 @@
 //! What is due to a client, and what is waited for.
 //!
-//! `first_due` finds the first client to whom a decision or a cut is due, where the kept rows that requests name come into memory
-//! before. At a wait stands who is read and who is written to, who rests on the answer to another's ask, and what comes too far ahead.
+//! `first_due` finds the first client to whom a decision or a cut is due: with a decision the kept row that its request names comes
+//! into memory. At a wait stands who is read and who is written to, who rests on the answer to another's ask, and what comes too far ahead.
 //!
 //! To the layer above: what is due first is that of `specs/Entering.antt`, by the causes of `specs/Due.antt` (RFC 2616, section
 //! 8.1.4), and what a wait and a tick change that of `specs/Waits.antt`.

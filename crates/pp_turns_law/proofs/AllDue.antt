@@ -32,7 +32,7 @@ use Rattle.pp_turns_law.specs.Turns.{IsDecidable, IsFollowing, ShowsTurn}
 
 -- ---- cuts
 
-cut_same : (number : ℕ → ℕ) (l : Leaving) (peers : List Peer) (p : Turn) (s : State) (name : Bytes) (seat : Seat) (c : Client) → ShowsTurn number l peers p s → ShowsSeat number name [] seat c → c.is_closing ≡ false → IsFollowing p.cache seat → cut_of p seat ≡ cut_by_law s seat c
+pub cut_same : (number : ℕ → ℕ) (l : Leaving) (peers : List Peer) (p : Turn) (s : State) (name : Bytes) (seat : Seat) (c : Client) → ShowsTurn number l peers p s → ShowsSeat number name [] seat c → c.is_closing ≡ false → IsFollowing p.cache seat → cut_of p seat ≡ cut_by_law s seat c
 cut_same number l peers p s name seat c shows seen going there =
     ap (λ (stopped : Bool). cause_in stopped (is_idle_in p.is_ticked p.now seat) seat (is_dry p seat) (is_superseded p seat)) shows.stopped
     ∙ ap₂ (λ (ticked : Bool) (now : ℕ). cause_in s.is_stopped (is_idle_in ticked now seat) seat (is_dry p seat) (is_superseded p seat)) shows.ticked shows.clock
@@ -49,12 +49,12 @@ undecided_same number l peers p s name seat c shows seen going there may =
     (shared_same number l peers p s name seat c shows live.front may.key) (decided number l peers p s name seat c shows seen going may)
     ∙ sharing s number name [] seat c live
 
-refused_any : (seat : Seat) (a b : Bool) (u v d e : Option Decision) → is_refused_in seat.brought ≡ true → decision_in seat a u d ≡ decision_in seat b v e
+pub refused_any : (seat : Seat) (a b : Bool) (u v d e : Option Decision) → is_refused_in seat.brought ≡ true → decision_in seat a u d ≡ decision_in seat b v e
 refused_any seat a b u v d e is =
     ap (λ (t : Bool). elim t as (λ c. Option Decision) [ true ↦ Some (Refuse 500) | false ↦ by_stage_in seat.stage seat.course (is_told_in seat.brought) a u d ]) is
     ∙ sym (ap (λ (t : Bool). elim t as (λ c. Option Decision) [ true ↦ Some (Refuse 500) | false ↦ by_stage_in seat.stage seat.course (is_told_in seat.brought) b v e ]) is)
 
-decision_same : (number : ℕ → ℕ) (l : Leaving) (peers : List Peer) (p : Turn) (s : State) (name : Bytes) (seat : Seat) (c : Client) (b : Bool) → is_refused_in seat.brought ≡ b → ShowsTurn number l peers p s → ShowsSeat number name [] seat c → c.is_closing ≡ false → IsFollowing p.cache seat
+pub decision_same : (number : ℕ → ℕ) (l : Leaving) (peers : List Peer) (p : Turn) (s : State) (name : Bytes) (seat : Seat) (c : Client) (b : Bool) → is_refused_in seat.brought ≡ b → ShowsTurn number l peers p s → ShowsSeat number name [] seat c → c.is_closing ≡ false → IsFollowing p.cache seat
     → (is_refused_in seat.brought ≡ false → IsDecidable number p s seat c) → decision_of p seat ≡ decision_in seat (has_lost_its_row s c) (undecided_by_law s c) (decide_by_law s c)
 decision_same number l peers p s name seat c true is shows seen going there may =
     refused_any seat (lost_in (answer_in seat.stage) (has_source_standing p seat)) (has_lost_its_row s c) (due_undecided p seat) (undecided_by_law s c) (decide p seat) (decide_by_law s c) is

@@ -61,7 +61,7 @@ check_same : (row : Option Row) → option_map asked_as (option_map (λ (v : Ver
 check_same None = refl
 check_same (Some r) = refl
 
-kinds : (head : Request) (row : Option Row) (d : Decision) → option_map asked_as (kind_of head (option_map (λ (r : Row). r.version) row) d) ≡ kind_of_law head row d
+pub kinds : (head : Request) (row : Option Row) (d : Decision) → option_map asked_as (kind_of head (option_map (λ (r : Row). r.version) row) d) ≡ kind_of_law head row d
 kinds head row Fetch = ap (λ (k : AskKind). Some k) (fetch_same (fetch_range head.fields))
 kinds head row Validate = check_same row
 kinds head row Pass = refl
@@ -73,7 +73,7 @@ kinds head row NotModified = refl
 kinds head row Unsatisfiable = refl
 kinds head row Relay = refl
 
-fits_same : (p : Turn) (s : State) (head : Request) (key : OwnedKey) (kind : Option Kind) (d : Decision) → p.name.items ≡ s.settings.name → if_fits p head key kind d ≡ if_fits_law s head (key_in key.text.items key.place) (option_map asked_as kind) d
+pub fits_same : (p : Turn) (s : State) (head : Request) (key : OwnedKey) (kind : Option Kind) (d : Decision) → p.name.items ≡ s.settings.name → if_fits p head key kind d ≡ if_fits_law s head (key_in key.text.items key.place) (option_map asked_as kind) d
 fits_same p s head key None d name = refl
 fits_same p s head key (Some kind) d name =
     ap (λ (n : Bytes). elim (nat_le (length (ask_text (asked_as kind) head (key_in key.text.items key.place) n)) 16384) as (λ c. Decision) [ true ↦ d | false ↦ Refuse 431 ]) name
@@ -112,7 +112,7 @@ versions_seen m head (Some i) = refl
 
 -- ---- by the row
 
-decide_with : State → Request → Key → Option Row → Begun → ℕ → Decision
+unfoldable pub decide_with : State → Request → Key → Option Row → Begun → ℕ → Decision
 decide_with s head key seen begun now = let d = decision head seen begun now in if_fits_law s head key (kind_of_law head seen d) d
 
 by_row : (number : ℕ → ℕ) (p : Turn) (s : State) (name : Bytes) (seat : Seat) (c : Client) (head : Request) (key : OwnedKey) → p.name.items ≡ s.settings.name → p.now ≡ s.clock → ShowsTable number p.cache s → ((slot : ℕ) → AreFronts slot p.cache.chunks)
@@ -132,7 +132,7 @@ by_row number p s name seat c head key names clock table fronts kept begun =
 
 -- ---- the request at the front
 
-record IsAskedAs (heading : Heading) (head : Request) : Type 0 where
+pub record IsAskedAs (heading : Heading) (head : Request) : Type 0 where
   pub fault : Option ℕ
   pub is : heading ≡ Asked head fault
 
@@ -147,7 +147,7 @@ unfolding front_of
 front_as [] rest r taken is = absurd taken
 front_as (b ∷ head) rest r taken is = read_as (request_at ((b ∷ head) ++ rest)) r is
 
-heard_as : (h : Heard) (front : Front) (heard : Bytes) (r : Parsed) → ShowsHeard h front heard → front ≡ IsRequest r → IsAskedAs (current_of h) r.head
+pub heard_as : (h : Heard) (front : Front) (heard : Bytes) (r : Parsed) → ShowsHeard h front heard → front ≡ IsRequest r → IsAskedAs (current_of h) r.head
 heard_as h front heard r shows is =
     let same : ShowsHeard h (IsRequest r) heard = subst (λ (f : Front). ShowsHeard h f heard) is shows in
     front_as h.head h.rest r same.head same.is_front

@@ -1,41 +1,50 @@
 -- Of all clients for whom something is due, the first is the law's.
-use Rattle.std.proofs.Common.{arith, ◌≡◌, ◌<◌, refl, sym, subst, ap, ◌∙◌, ℕ, zero, suc, ◌+◌, Bool, true, false, ◌||◌, ◌==◌, List, [], ◌∷◌, length, Option, Some, None, option_map}
+use Rattle.std.proofs.Common.{arith, ◌≡◌, ◌<◌, refl, sym, subst, ap, ap₂, ◌∙◌, is_some, ℕ, zero, suc, ◌+◌, Bool, true, false, ◌||◌, ◌==◌, List, [], ◌∷◌, length, Option, Some, None, option_map}
 use Rattle.std.specs.Prelude.{slice_get}
 use Rattle.std.specs.Option.{option_and_then}
 use Rattle.std.proofs.lemmas.Bool.Decides.{nat_tests}
 use Rattle.pp_cache_law.proofs.Numbers.{is_same}
 use Rattle.pp_turns_law.proofs.Following.{has_source}
 use Rattle.pp_flow_law.specs.Tables.{AreGiven, Leaving}
-use Rattle.pp_law.specs.Due.{due_of as due_by_law, first_due}
+use Rattle.pp_law.specs.Deciding.{is_for_memory}
+use Rattle.pp_law.specs.Due.{Due, due_of as due_by_law, first_due}
 use Rattle.pp_law.specs.Lists.{Bytes, first_some, has_number}
 use Rattle.pp_law.specs.State.{State, Client, Entry}
 use Rattle.pp_law.specs.Table.{add_row, row, row_on_disk}
 use Rattle.pp_peers.specs.declared.peers.Peer.{Peer}
 use Rattle.pp_seats.specs.Heads.{asked_in, owned_in}
-use Rattle.pp_seats.specs.Seats.{is_to_be_decided}
 use Rattle.pp_seats.specs.declared.key.Key.{Key as OwnedKey}
 use Rattle.pp_seats.specs.declared.due.Due.{Due as SeatDue}
+use Rattle.pp_seats.specs.declared.due.Due.TheVariants.{Decide as IsDecided}
 use Rattle.pp_seats.specs.declared.seat.Seat.{Seat}
 use Rattle.pp_seats_law.specs.Clients.{AreShown}
 use Rattle.pp_seats_law.specs.Dues.{due_as}
 use Rattle.pp_seats_law.specs.Seats.{ShowsSeat}
 use Rattle.pp_seats_law.specs.Words.{HasSource}
 use Rattle.pp_due.specs.Due.{due_at, due_of}
-use Rattle.pp_due.specs.Entering.{key_at, key_to_decide}
+use Rattle.pp_due.specs.Entering.{Comes, is_due_at, is_due_to, is_to_enter, key_at, key_due}
 use Rattle.pp_state.specs.declared.state.State.{State as Turn}
 use Rattle.pp_store.specs.Kept.{KeptMap}
 use Rattle.pp_turns_law.proofs.Asleep.{asleep_due}
 use Rattle.pp_turns_law.proofs.Brought.{dues_stay}
 use Rattle.pp_turns_law.proofs.Entered.{come_in}
-use Rattle.pp_turns_law.proofs.Reading.{HasItsRow, seat_due}
-use Rattle.pp_turns_law.specs.Firsts.{FirstDueInMemory, FirstDueIsTheLaws, HasRowInMemory, IsAsleep, IsFirst, first_as}
-use Rattle.pp_turns_law.specs.Rows.{HasComeIn, IsMadeBefore, IsReady, ShowsDisk, kept_alone, with_entry, with_row_of}
+use Rattle.pp_turns_law.proofs.Guarded.{due_unentered, is_due, none_unentered}
+use Rattle.pp_turns_law.proofs.Reading.{seat_due}
+use Rattle.pp_turns_law.specs.Firsts.{FirstDueInMemory, FirstDueIsTheLaws, HasRowInMemory, IsAsleep, IsFirst, with_row_if}
+use Rattle.pp_turns_law.specs.Rows.{AreAsKept, HasComeIn, IsMadeBefore, IsReady, ShowsDisk, kept_alone, with_entry, with_row_of}
+use Rattle.pp_world.specs.declared.note.Decision.{Decision}
 
 none_some : {A : Type 0} {x : A} → None ≡ Some x → ⊥
 none_some e = absurd (cc e)
 
 same_some : {A : Type 0} {x y : A} → Some x ≡ Some y → x ≡ y
 same_some e = cc e
+
+abbrev found_at : ℕ → SeatDue → Option (ℕ × SeatDue)
+found_at i d = Some (i, d)
+
+same_found : (i k : ℕ) (d e : SeatDue) → found_at i d ≡ found_at k e → (i ≡ k) × (d ≡ e)
+same_found i k d e same = let pair : ◌≡◌ {A = ℕ × SeatDue} (i, d) (k, e) = same_some same in (ap (λ (x : ℕ × SeatDue). x.0) pair, ap (λ (x : ℕ × SeatDue). x.1) pair)
 
 -- ---- places that rise
 
@@ -121,125 +130,183 @@ module _ (l : Leaving) (peers : List Peer) (shelf : KeptMap) where
       ap (λ (cs : List Client). first_some (due_by_law (with_row_of key s)) cs) (clients_same key (kept_alone s key) s)
       ∙ first_same (due_by_law (with_row_of key s)) (due_by_law s) s.clients (λ i c at. dues_same number p s key i c shows at)
 
+  first_with : (number : ℕ → ℕ) (p : Turn) (s : State) (o : Option Bytes) → ShowsDisk number l peers shelf p s → first_due (with_row_if o s) ≡ first_due s
+  first_with number p s None shows = refl
+  first_with number p s (Some key) shows = first_still number p s key shows
+
   -- ---- of all but those at these places nothing is due
 
   abbrev NoneBut : List ℕ → State → Type 0
   NoneBut places s = (j : ℕ) (c : Client) → slice_get s.clients j ≡ Some c → has_number j places ≡ false → due_by_law s c ≡ None
 
-  none_but_still : (number : ℕ → ℕ) (p : Turn) (s : State) (key : Bytes) (places : List ℕ) → ShowsDisk number l peers shelf p s → NoneBut places s → NoneBut places (with_row_of key s)
-  none_but_still number p s key places shows none j c at isnt =
-      let there : slice_get s.clients j ≡ Some c = ap (λ (cs : List Client). slice_get cs j) (sym (clients_same key (kept_alone s key) s)) ∙ at in
-      dues_same number p s key j c shows there ∙ none j c there isnt
+  module _ (number : ℕ → ℕ) (p : Turn) (s : State) (shows : ShowsDisk number l peers shelf p s) (entries : AreAsKept shelf) where
+    abbrev At : ℕ → Type 0
+    At i = IsShownAt number p.name.items p.seats.items s.clients i
 
-  -- ---- the client at one place
+    -- something is due of it by the row of its key, where something is by the law
+    due_at_place : (i : ℕ) (one : At i) → is_due_at shelf i p ≡ is_some (due_by_law s one.client)
+    due_at_place i one =
+        ap (λ (o : Option Seat). elim o as (λ t. Bool) [ None ↦ false | Some seat ↦ is_due_to shelf p seat ]) one.here
+        ∙ is_due number l peers shelf p s i one.seat one.client shows one.here one.shows entries
 
-  pub HasItsRowAt : ℕ → Turn → State → Type 0
-  HasItsRowAt i p s = (seat : Seat) → slice_get p.seats.items i ≡ Some seat → HasItsRow s seat
+    no_due : (o : Option Due) → is_some o ≡ false → o ≡ None
+    no_due None is = refl
+    no_due (Some d) is = absurd (cc is)
 
-  -- what is due at a place is what is due of the client there
-  pub due_there : (number : ℕ → ℕ) (p : Turn) (s : State) (i : ℕ) (one : IsShownAt number p.name.items p.seats.items s.clients i) → ShowsDisk number l peers shelf p s → HasItsRowAt i p s
-      → option_map (due_as one.seat.client.id one.seat.index) (due_at i p) ≡ due_by_law s one.client
-  unfolding HasItsRowAt
-  due_there number p s i one shows has =
-      ap (λ (o : Option Seat). option_map (due_as one.seat.client.id one.seat.index) (option_and_then (due_of p) o)) one.here
-      ∙ seat_due number l peers shelf p s i one.seat one.client shows one.here one.shows (has one.seat one.here)
+    none_now : (i : ℕ) (places : List ℕ) → is_due_at shelf i p ≡ false → NoneBut (i ∷ places) s → NoneBut places s
+    none_now i places isnt none j c at apart = by (i == j) refl
+      where
+        here : i ≡ j → due_by_law s c ≡ None
+        here same =
+            let there : slice_get s.clients i ≡ Some c = ap (λ (k : ℕ). slice_get s.clients k) same ∙ at in
+            let one : At i = client_shown number p.name.items p.seats.items s.clients i c (shown_clients number p s shows) there in
+            ap (λ (d : Client). due_by_law s d) (sym (same_some (sym one.there ∙ there))) ∙ no_due (due_by_law s one.client) (sym (due_at_place i one) ∙ isnt)
 
-  none_now : (number : ℕ → ℕ) (p : Turn) (s : State) (i : ℕ) (places : List ℕ) → ShowsDisk number l peers shelf p s → HasItsRowAt i p s → due_at i p ≡ None → NoneBut (i ∷ places) s → NoneBut places s
-  none_now number p s i places shows has due none j c at isnt = by (i == j) refl
-    where
-      here : i ≡ j → due_by_law s c ≡ None
-      here same =
-          let there : slice_get s.clients i ≡ Some c = ap (λ (k : ℕ). slice_get s.clients k) same ∙ at in
-          let one : IsShownAt number p.name.items p.seats.items s.clients i = client_shown number p.name.items p.seats.items s.clients i c (shown_clients number p s shows) there in
-          ap (λ (d : Client). due_by_law s d) (sym (same_some (sym one.there ∙ there))) ∙ sym (due_there number p s i one shows has)
-          ∙ ap (λ (o : Option SeatDue). option_map (due_as one.seat.client.id one.seat.index) o) due
+        by : (b : Bool) → (i == j) ≡ b → due_by_law s c ≡ None
+        by true is = here (is_same i j is)
+        by false is = none j c at (ap (λ (b : Bool). b || has_number j places) is ∙ apart)
 
-      by : (b : Bool) → (i == j) ≡ b → due_by_law s c ≡ None
-      by true is = here (is_same i j is)
-      by false is = none j c at (ap (λ (b : Bool). b || has_number j places) is ∙ isnt)
+    -- ---- its row came in
 
-  found_now : (number : ℕ → ℕ) (p : Turn) (s : State) (low next i : ℕ) (places : List ℕ) (d : SeatDue) → ShowsDisk number l peers shelf p s → HasItsRowAt i p s → due_at i p ≡ Some d → AreGiven low next (i ∷ places) → NoneBut (i ∷ places) s
-      → first_as p.seats.items (Some (i, d)) ≡ first_due s
-  found_now number p s low next i places d shows has due given none = by (slice_get p.seats.items i) refl
-    where
-      before : (j : ℕ) → j < i → has_number j (i ∷ places) ≡ false
-      before j less = ap (λ (b : Bool). b || has_number j places) (apart i j less) ∙ above (i + 1) next j places given.1 (omega (arith, less))
+    key_is : (i : ℕ) (one : At i) → key_at i p ≡ key_due p one.seat
+    key_is i one = ap (λ (o : Option Seat). option_and_then (key_due p) o) one.here
 
-      by : (o : Option Seat) → slice_get p.seats.items i ≡ o → first_as p.seats.items (Some (i, d)) ≡ first_due s
-      by None at = absurd (none_some (sym (ap (λ (o : Option Seat). option_and_then (due_of p) o) at) ∙ due))
-      by (Some seat) at =
-          let one : IsShownAt number p.name.items p.seats.items s.clients i = seat_shown number p.name.items p.seats.items s.clients i seat (shown_clients number p s shows) at in
-          let its : due_by_law s one.client ≡ Some (due_as one.seat.client.id one.seat.index d) =
-          sym (due_there number p s i one shows has) ∙ ap (λ (o : Option SeatDue). option_map (due_as one.seat.client.id one.seat.index) o) due in
-          ap (λ (o : Option Seat). option_map (λ (x : Seat). due_as x.client.id x.index d) o) one.here
-          ∙ sym (first_at (due_by_law s) s.clients i one.client (due_as one.seat.client.id one.seat.index d) one.there its (λ j c less at_j. none j c at_j (before j less)))
+    -- what is due of it in memory is what is due by the law, with that row; and it has its row, if one is kept
+    record IsDueHere (i : ℕ) (one : At i) (now : Turn) (t : State) (due : Option SeatDue) : Type 0 where
+      pub by_number : ℕ → ℕ
+      pub shown : ShowsDisk by_number l peers shelf now t
+      pub seats : now.seats.items ≡ p.seats.items
+      pub is : option_map (due_as one.seat.client.id one.seat.index) due ≡ due_by_law s one.client
+      pub has : (d : Decision) (key : OwnedKey) → due ≡ Some (IsDecided d) → is_for_memory d ≡ false → owned_in (asked_in one.seat.front) ≡ Some key → row t key.text.items ≡ None → row_on_disk t key.text.items ≡ None
 
-  -- ---- its row came in
+    due_is : (i : ℕ) (one : At i) → due_at i p ≡ due_of p one.seat
+    due_is i one = ap (λ (o : Option Seat). option_and_then (due_of p) o) one.here
 
-  key_is : (p : Turn) (i : ℕ) (seat : Seat) (key : OwnedKey) → slice_get p.seats.items i ≡ Some seat → is_to_be_decided seat ≡ true → owned_in (asked_in seat.front) ≡ Some key → key_at i p ≡ Some key.text.items
-  key_is p i seat key at is own =
-      ap (λ (o : Option Seat). option_and_then key_to_decide o) at
-      ∙ ap (λ (b : Bool). elim b as (λ c. Option Bytes) [ true ↦ option_map (λ (k : OwnedKey). k.text.items) (owned_in (asked_in seat.front)) | false ↦ None ]) is
-      ∙ ap (λ (o : Option OwnedKey). option_map (λ (k : OwnedKey). k.text.items) o) own
+    -- none came in
+    unentered : (i : ℕ) (one : At i) → key_at i p ≡ None → IsDueHere i one p s (due_at i p)
+    unentered i one none = by (is_to_enter p one.seat) refl (owned_in (asked_in one.seat.front)) refl
+      where
+        by : (b : Bool) → is_to_enter p one.seat ≡ b → (o : Option OwnedKey) → owned_in (asked_in one.seat.front) ≡ o → IsDueHere i one p s (due_at i p)
+        by false is o own = record {
+          by_number = number;
+          shown = shows;
+          seats = refl;
+          is = ap (λ (o : Option SeatDue). option_map (due_as one.seat.client.id one.seat.index) o) (due_is i one) ∙ due_unentered number l peers shelf p s i one.seat one.client shows one.here one.shows entries is;
+          has = λ d key due more its lost. absurd (none_unentered number l peers shelf p s i one.seat one.client shows one.here one.shows entries is d (sym (due_is i one) ∙ due) more);
+        }
+        by true is None own = record {
+          by_number = number;
+          shown = shows;
+          seats = refl;
+          is =
+              ap (λ (o : Option SeatDue). option_map (due_as one.seat.client.id one.seat.index) o) (due_is i one)
+              ∙ seat_due number l peers shelf p s i one.seat one.client shows one.here one.shows (λ key its. absurd (none_some (sym own ∙ its)));
+          has = λ d key due more its lost. absurd (none_some (sym own ∙ its));
+        }
+        by true is (Some key) own =
+            absurd (none_some (sym none ∙ key_is i one ∙ ap₂ (λ (b : Bool) (o : Option OwnedKey). elim b as (λ t. Option Bytes) [ true ↦ option_map (λ (k : OwnedKey). k.text.items) o | false ↦ None ]) is own))
 
-  none_names : (p : Turn) (s : State) (i : ℕ) → key_at i p ≡ None → HasItsRowAt i p s
-  unfolding HasItsRowAt
-  none_names p s i none seat at key is own = absurd (none_some (sym none ∙ key_is p i seat key at is own))
+    its_key : (i : ℕ) (one : At i) (text : Bytes) (b : Bool) → is_to_enter p one.seat ≡ b → key_at i p ≡ Some text → (key : OwnedKey) → owned_in (asked_in one.seat.front) ≡ Some key → text ≡ key.text.items
+    its_key i one text true is names key own =
+        same_some (sym names ∙ key_is i one ∙ ap₂ (λ (b : Bool) (o : Option OwnedKey). elim b as (λ t. Option Bytes) [ true ↦ option_map (λ (k : OwnedKey). k.text.items) o | false ↦ None ]) is own)
+    its_key i one text false is names key own =
+        absurd (none_some (sym (key_is i one ∙ ap (λ (b : Bool). elim b as (λ t. Option Bytes) [ true ↦ option_map (λ (k : OwnedKey). k.text.items) (owned_in (asked_in one.seat.front)) | false ↦ None ]) is) ∙ names))
 
-  pub its_row_there : (p q : Turn) (s : State) (i : ℕ) (key : Bytes) → key_at i p ≡ Some key → q.seats.items ≡ p.seats.items → (row s key ≡ None → row_on_disk s key ≡ None) → HasItsRowAt i q s
-  unfolding HasItsRowAt
-  its_row_there p q s i key names seats there seat at own is its =
-      let at_p : slice_get p.seats.items i ≡ Some seat = ap (λ (is : List Seat). slice_get is i) (sym seats) ∙ at in
-      let same : key ≡ own.text.items = same_some (sym names ∙ key_is p i seat own at_p is its) in
-      subst (λ (k : Bytes). row s k ≡ None → row_on_disk s k ≡ None) same there
+    entered : (i : ℕ) (one : At i) (text : Bytes) (now : Turn) → key_at i p ≡ Some text → Comes shelf text p now → IsDueHere i one now (with_row_of text s) (due_at i now)
+    entered i one text now names comes =
+        let come : HasComeIn l peers shelf text now s = come_in number l peers shelf text p now s shows comes in
+        let seats : now.seats.items ≡ p.seats.items = ap (λ (r : Turn). r.seats.items) comes.rest in
+        let here : slice_get now.seats.items i ≡ Some one.seat = ap (λ (is : List Seat). slice_get is i) seats ∙ one.here in
+        let other : IsShownAt come.number now.name.items now.seats.items (with_row_of text s).clients i =
+        seat_shown come.number now.name.items now.seats.items (with_row_of text s).clients i one.seat come.shows.turn.steps.shows.clients here in
+        let seat : other.seat ≡ one.seat = same_some (sym other.here ∙ here) in
+        let client : other.client ≡ one.client = same_some (sym other.there ∙ ap (λ (cs : List Client). slice_get cs i) (clients_same text (kept_alone s text) s) ∙ one.there) in
+        let shown : ShowsSeat come.number now.name.items [] one.seat one.client =
+        subst (λ (x : Seat). ShowsSeat come.number now.name.items [] x one.client) seat (subst (λ (d : Client). ShowsSeat come.number now.name.items [] other.seat d) client other.shows) in
+        let has : (key : OwnedKey) → owned_in (asked_in one.seat.front) ≡ Some key → row (with_row_of text s) key.text.items ≡ None → row_on_disk (with_row_of text s) key.text.items ≡ None =
+        λ key own. subst (λ (k : Bytes). row (with_row_of text s) k ≡ None → row_on_disk (with_row_of text s) k ≡ None) (its_key i one text (is_to_enter p one.seat) refl names key own) come.there in
+        record {
+          by_number = come.number;
+          shown = come.shows;
+          seats = seats;
+          is =
+              ap (λ (o : Option Seat). option_map (due_as one.seat.client.id one.seat.index) (option_and_then (due_of now) o)) here
+              ∙ seat_due come.number l peers shelf now (with_row_of text s) i one.seat one.client come.shows here shown has
+              ∙ dues_same number p s text i one.client shows one.there;
+          has = λ d key due more own. has key own;
+        }
 
-  -- ---- one behind the other
+    with_row : (i : ℕ) (one : At i) (now : Turn) (o : Option Bytes) → key_at i p ≡ o → HasRowInMemory shelf o p now → IsDueHere i one now (with_row_if o s) (due_at i now)
+    with_row i one now None names same = subst (λ (r : Turn). IsDueHere i one r s (due_at i r)) (sym same) (unentered i one names)
+    with_row i one now (Some text) names comes = entered i one text now names comes
 
-  abbrev From : List ℕ → Turn → Option (ℕ × SeatDue) → Type 0
-  From places q found = (number : ℕ → ℕ) (low next : ℕ) (p : Turn) (s : State) → ShowsDisk number l peers shelf p s → AreGiven low next places → NoneBut places s → FirstDueInMemory shelf places p q found → IsFirst l peers shelf q s found
+    -- ---- one behind the other
 
-  abbrev Then : ℕ → List ℕ → Turn → Turn → Option (ℕ × SeatDue) → Option SeatDue → Type 0
-  Then i places p q found due = elim due as (λ c. Type 0) [ Some d ↦ (q ≡ p) × (found ≡ Some (i, d)) | None ↦ FirstDueInMemory shelf places p q found ]
+    before : (low next i j : ℕ) (places : List ℕ) → AreGiven low next (i ∷ places) → j < i → has_number j (i ∷ places) ≡ false
+    before low next i j places given less = ap (λ (b : Bool). b || has_number j places) (apart i j less) ∙ above (i + 1) next j places given.1 (omega (arith, less))
 
-  -- its row is there: it is due something, or those behind it are looked at
-  from_row : (i : ℕ) (places : List ℕ) (number : ℕ → ℕ) (low next : ℕ) (p q : Turn) (s : State) (found : Option (ℕ × SeatDue)) → From places q found → ShowsDisk number l peers shelf p s → HasItsRowAt i p s → AreGiven low next (i ∷ places)
-      → NoneBut (i ∷ places) s → (o : Option SeatDue) → due_at i p ≡ o → Then i places p q found o → IsFirst l peers shelf q s found
-  from_row i places number low next p q s found more shows has given none (Some d) due here = record {
-    number = number;
-    keys = [];
-    shows = subst (λ (r : Turn). ShowsDisk number l peers shelf r s) (sym here.0) shows;
-    due =
-        ap (λ (o : Option (ℕ × SeatDue)). first_as q.seats.items o) here.1 ∙ ap (λ (r : Turn). first_as r.seats.items (Some (i, d))) here.0
-        ∙ found_now number p s low next i places d shows has due given none;
-    still = refl;
-  }
-  from_row i places number low next p q s found more shows has given none None due rest = more number (i + 1) next p s shows given.1 (none_now number p s i places shows has due none) rest
+    found_here : (low next i : ℕ) (places : List ℕ) (one : At i) (now q : Turn) (d : SeatDue) (found : Option (ℕ × SeatDue)) → IsDueHere i one now (with_row_if (key_at i p) s) (Some d) → AreGiven low next (i ∷ places) → NoneBut (i ∷ places) s → q ≡ now → found ≡ Some (i, d)
+        → IsFirst l peers shelf p q s found
+    found_here low next i places one now q d found its given none same is =
+        subst (λ (o : Option (ℕ × SeatDue)). IsFirst l peers shelf p q s o) (sym is) (subst (λ (r : Turn). IsFirst l peers shelf p r s (Some (i, d))) (sym same) (record {
+          number = its.by_number;
+          shows = its.shown;
+          due =
+              ap (λ (o : Option Seat). option_map (λ (x : Seat). due_as x.client.id x.index d) o) (ap (λ (is : List Seat). slice_get is i) its.seats ∙ one.here)
+              ∙ sym (first_at (due_by_law s) s.clients i one.client (due_as one.seat.client.id one.seat.index d) one.there (sym its.is) (λ j c less at. none j c at (before low next i j places given less)));
+          still = first_with number p s (key_at i p) shows;
+          has = λ k e seat key is more at own. let both : (i ≡ k) × (d ≡ IsDecided e) = same_found i k d (IsDecided e) is in
+              its.has e key (ap (λ (x : SeatDue). Some x) both.1) more (ap (λ (x : Seat). owned_in (asked_in x.front)) (same_some (sym one.here ∙ ap (λ (is : List Seat). slice_get is i) (sym its.seats) ∙ ap (λ (n : ℕ). slice_get now.seats.items n) both.0 ∙ at)) ∙ own);
+        }))
 
-  from_key : (i : ℕ) (places : List ℕ) (number : ℕ → ℕ) (low next : ℕ) (p now q : Turn) (s : State) (found : Option (ℕ × SeatDue)) → From places q found → ShowsDisk number l peers shelf p s → AreGiven low next (i ∷ places) → NoneBut (i ∷ places) s
-      → (o : Option Bytes) → key_at i p ≡ o → HasRowInMemory shelf o p now → Then i places now q found (due_at i now) → IsFirst l peers shelf q s found
-  from_key i places number low next p now q s found more shows given none None names same rest =
-      from_row i places number low next now q s found more (subst (λ (r : Turn). ShowsDisk number l peers shelf r s) (sym same) shows) (subst (λ (r : Turn). HasItsRowAt i r s) (sym same) (none_names p s i names)) given none (due_at i now) refl rest
-  from_key i places number low next p now q s found more shows given none (Some key) names comes rest =
-      let come : HasComeIn l peers shelf key now s = come_in number l peers shelf key p now s shows comes in
-      let first : IsFirst l peers shelf q (with_row_of key s) found =
-      from_row i places come.number low next now q (with_row_of key s) found more come.shows (its_row_there p now (with_row_of key s) i key names (ap (λ (r : Turn). r.seats.items) comes.rest) come.there) given
-      (none_but_still number p s key (i ∷ places) shows none) (due_at i now) refl rest in
-      record { number = first.number; keys = key ∷ first.keys; shows = first.shows; due = first.due ∙ first_still number p s key shows; still = first.still ∙ first_still number p s key shows }
+    no_seat : (i : ℕ) → slice_get p.seats.items i ≡ None → is_due_at shelf i p ≡ false
+    no_seat i at = ap (λ (o : Option Seat). elim o as (λ t. Bool) [ None ↦ false | Some seat ↦ is_due_to shelf p seat ]) at
 
-  first_from : (places : List ℕ) (q : Turn) (found : Option (ℕ × SeatDue)) → From places q found
-  unfolding FirstDueInMemory
-  first_from [] q found number low next p s shows given none first = record {
-    number = number;
-    keys = [];
-    shows = subst (λ (r : Turn). ShowsDisk number l peers shelf r s) (sym first.0) shows;
-    due = ap (λ (o : Option (ℕ × SeatDue)). first_as q.seats.items o) first.1 ∙ sym (first_none (due_by_law s) s.clients (λ j c at. none j c at refl));
-    still = refl;
-  }
-  first_from (i ∷ places) q found number low next p s shows given none first =
-      from_key i places number low next p first.0 q s found (first_from places q found) shows given none (key_at i p) refl first.1 first.2
+    true_false : true ≡ false → ⊥
+    true_false e = cc e
+
+    none_is : {A B : Type 0} (f : A → B) (o : Option A) (u : Option B) → option_map f o ≡ u → is_some u ≡ true → o ≡ None → ⊥
+    none_is f o (Some y) is some none = none_some (sym (ap (λ x. option_map f x) none) ∙ is)
+    none_is f o None is some none = cc some
+
+    abbrev From : List ℕ → Turn → Option (ℕ × SeatDue) → Type 0
+    From places q found = (low next : ℕ) → AreGiven low next places → NoneBut places s → FirstDueInMemory shelf places p q found → IsFirst l peers shelf p q s found
+
+    abbrev Then : ℕ → List ℕ → Turn → Turn → Option (ℕ × SeatDue) → Option SeatDue → Type 0
+    Then i places now q found due = elim due as (λ c. Type 0) [ Some d ↦ (q ≡ now) × (found ≡ Some (i, d)) | None ↦ FirstDueInMemory shelf places now q found ]
+
+    by_due : (i : ℕ) (places : List ℕ) (low next : ℕ) (now q : Turn) (due : Option SeatDue) (found : Option (ℕ × SeatDue)) (one : At i) → is_due_at shelf i p ≡ true → IsDueHere i one now (with_row_if (key_at i p) s) due → AreGiven low next (i ∷ places) → NoneBut (i ∷ places) s
+        → Then i places now q found due → IsFirst l peers shelf p q s found
+    by_due i places low next now q (Some d) found one so its given none here = found_here low next i places one now q d found its given none here.0 here.1
+    by_due i places low next now q None found one so its given none rest =
+        absurd (none_is (due_as one.seat.client.id one.seat.index) None (due_by_law s one.client) its.is (sym (due_at_place i one) ∙ so) refl)
+
+    from_place : (i : ℕ) (places : List ℕ) (low next : ℕ) (now q : Turn) (due : Option SeatDue) (found : Option (ℕ × SeatDue)) → From places q found → AreGiven low next (i ∷ places) → NoneBut (i ∷ places) s → (b : Bool) → is_due_at shelf i p ≡ b
+        → (elim b as (λ c. Type 0) [ true ↦ HasRowInMemory shelf (key_at i p) p now × (due ≡ due_at i now) | false ↦ (now ≡ p) × (due ≡ None) ]) → Then i places now q found due → IsFirst l peers shelf p q s found
+    from_place i places low next now q due found more given none false is its rest =
+        more (i + 1) next given.1 (none_now i places is none)
+        (subst (λ (r : Turn). FirstDueInMemory shelf places r q found) its.0 (subst (λ (o : Option SeatDue). Then i places now q found o) its.1 rest))
+    from_place i places low next now q due found more given none true is its rest = by (slice_get p.seats.items i) refl
+      where
+        by : (o : Option Seat) → slice_get p.seats.items i ≡ o → IsFirst l peers shelf p q s found
+        by None at = absurd (true_false (sym is ∙ no_seat i at))
+        by (Some seat) at =
+            let one : At i = seat_shown number p.name.items p.seats.items s.clients i seat (shown_clients number p s shows) at in
+            by_due i places low next now q due found one is (subst (λ (o : Option SeatDue). IsDueHere i one now (with_row_if (key_at i p) s) o) (sym its.1) (with_row i one now (key_at i p) refl its.0)) given none rest
+
+    first_from : (places : List ℕ) (q : Turn) (found : Option (ℕ × SeatDue)) → From places q found
+    unfolding FirstDueInMemory
+    first_from [] q found low next given none first = subst (λ (o : Option (ℕ × SeatDue)). IsFirst l peers shelf p q s o) (sym first.1) (record {
+      number = number;
+      shows = subst (λ (r : Turn). ShowsDisk number l peers shelf r s) (sym first.0) shows;
+      due = sym (first_none (due_by_law s) s.clients (λ j c at. none j c at refl));
+      still = refl;
+      has = λ i d seat key is more at own. absurd (none_some is);
+    })
+    first_from (i ∷ places) q found low next given none (now, due, its, rest) = from_place i places low next now q due found (first_from places q found) given none (is_due_at shelf i p) refl its rest
 
 pub first_dues : FirstDueIsTheLaws
-first_dues number l peers shelf p q s found shows awake first = first_from l peers shelf p.awake.items q found number 0 (length p.seats.items) p s shows awake.order asleep first
+first_dues number l peers shelf p q s found shows entries awake first = first_from l peers shelf number p s shows entries p.awake.items q found 0 (length p.seats.items) awake.order asleep first
   where
     asleep : (j : ℕ) (c : Client) → slice_get s.clients j ≡ Some c → has_number j p.awake.items ≡ false → due_by_law s c ≡ None
     asleep j c at isnt =

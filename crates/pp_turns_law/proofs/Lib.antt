@@ -1,7 +1,6 @@
 pub mod Ahead
 pub mod AllCome
 pub mod AllDue
-pub mod Alone
 pub mod Asleep
 pub mod Brought
 pub mod Comes
@@ -12,6 +11,7 @@ pub mod Drying
 pub mod Entered
 pub mod First
 pub mod Following
+pub mod Guarded
 pub mod Held
 pub mod HeldSpans
 pub mod Holes

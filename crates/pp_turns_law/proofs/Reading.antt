@@ -1,5 +1,5 @@
--- What is due of a seat whose row came in, or whose request is not to be decided, is what is due of its client.
-use Rattle.std.proofs.Common.{◌≡◌, refl, sym, subst, ap, ap₂, ◌∙◌, ℕ, Bool, true, false, not, ◌&&◌, ◌||◌, ◌==◌, List, [], ◌∷◌, Option, Some, None, option_map}
+-- What is due of a seat whose row is in memory, if it has one, is what is due of its client.
+use Rattle.std.proofs.Common.{◌≡◌, refl, sym, subst, ap, ap₂, ◌∙◌, ℕ, Bool, true, false, ◌&&◌, ◌||◌, ◌==◌, List, [], ◌∷◌, Option, Some, None, option_map}
 use Rattle.std.specs.Prelude.{bytes_eq, slice_get}
 use Rattle.std.specs.List.{list_any}
 use Rattle.std.proofs.lemmas.Slice.Eq.{bytes_eq-Decides}
@@ -8,33 +8,27 @@ use Rattle.pp_cache_law.proofs.Alike.{rows_of}
 use Rattle.pp_cache_law.proofs.Numbers.{is_same, same_test}
 use Rattle.pp_cache_law.specs.Pairs.{AreBoth}
 use Rattle.pp_cache_law.specs.Tables.{ShowsInstance, ShowsTable}
-use Rattle.pp_client.specs.Replies.{Reply as Said}
 use Rattle.pp_turns_law.proofs.AllDue.{all_dues}
 use Rattle.pp_turns_law.specs.Turns.{IsDecidable, IsFollowing, ShowsTurn}
 use Rattle.pp_flow_law.specs.Tables.{Leaving}
 use Rattle.pp_law.specs.Decisions.{decide, decide_head}
-use Rattle.pp_law.specs.Due.{due_of as due_by_law, give_up, is_told}
+use Rattle.pp_law.specs.Due.{due_of as due_by_law}
 use Rattle.pp_law.specs.Lists.{Bytes}
 use Rattle.pp_law.specs.Requests.{Front, NoHeadYet, NoHead, IsRequest}
-use Rattle.pp_law.specs.State.{State, Client, Entry, Instance as Known, Reply, Stage, Undecided, Waiting, Passing, Answering}
-use Rattle.pp_law.specs.Table.{kept_row, next_of, row, row_on_disk}
+use Rattle.pp_law.specs.State.{State, Client, Entry, Instance as Known}
+use Rattle.pp_law.specs.Table.{kept_row, row, row_on_disk}
 use Rattle.pp_objects.specs.Instances.{Instance, id_of, is_life, is_same_id, is_there, row_of}
 use Rattle.pp_objects.specs.declared.id.ObjectId.{ObjectId}
 use Rattle.pp_peers.specs.declared.peers.Peer.{Peer}
 use Rattle.pp_seats.specs.Dues.{is_refused_in}
 use Rattle.pp_seats.specs.Heads.{asked_in, is_there_in, owned_in}
-use Rattle.pp_seats.specs.Seats.{is_open_in, is_to_be_decided, is_told_in}
 use Rattle.pp_seats.specs.declared.front.Front.{Front as SeatFront}
 use Rattle.pp_seats.specs.declared.front.Front.TheVariants.{NoHeadYet as NoneYet, NoHead as NoneThere, Request as IsThere}
 use Rattle.pp_seats.specs.declared.key.Key.{Key as OwnedKey}
 use Rattle.pp_seats.specs.declared.seat.Seat.{Seat}
-use Rattle.pp_seats.specs.declared.seat.Stage.{Stage as SeatStage}
-use Rattle.pp_seats.specs.declared.seat.Stage.TheVariants.{Undecided as IsUndecided, Waiting as IsWaiting, Passing as IsPassing, Answering as IsAnswering}
-use Rattle.pp_seats_law.proofs.Stages.{told}
 use Rattle.pp_seats_law.specs.Dues.{AreApart, due_as}
 use Rattle.pp_seats_law.specs.Fronts.{ShowsFront}
-use Rattle.pp_seats_law.specs.Replies.{ShowsStage}
-use Rattle.pp_seats_law.specs.Seats.{ShowsOpen, ShowsSeat}
+use Rattle.pp_seats_law.specs.Seats.{ShowsSeat}
 use Rattle.pp_states_law.proofs.Framed.{states}
 use Rattle.pp_due.specs.Due.{due_of}
 use Rattle.pp_state.specs.declared.state.State.{State as Turn}
@@ -42,15 +36,14 @@ use Rattle.pp_steps_law.specs.Told.{IsTold}
 use Rattle.pp_store.specs.Kept.{KeptMap}
 use Rattle.pp_world.specs.declared.note.Decision.{Decision}
 use Rattle.pp_world.specs.declared.note.Decision.TheVariants.{Refuse}
-use Rattle.pp_turns_law.proofs.Brought.{again_by, closed, cut_by, due_by, due_read, first_by, source_by, stage_by}
 use Rattle.pp_turns_law.specs.Rows.{IsReady, ShowsDisk}
 
 none_some : {A : Type 0} {x : A} → None ≡ Some x → ⊥
 none_some e = absurd (cc e)
 
--- where its request is to be decided, its row is in memory, if it has one
+-- its row is in memory, if it has one
 abbrev pub HasItsRow : State → Seat → Type 0
-HasItsRow s seat = (key : OwnedKey) → is_to_be_decided seat ≡ true → owned_in (asked_in seat.front) ≡ Some key → row s key.text.items ≡ None → row_on_disk s key.text.items ≡ None
+HasItsRow s seat = (key : OwnedKey) → owned_in (asked_in seat.front) ≡ Some key → row s key.text.items ≡ None → row_on_disk s key.text.items ≡ None
 
 -- ---- what its exchange joins is told apart from the row of its key
 
@@ -75,7 +68,7 @@ apart_from number m s key seat table ready id joined plain at brought same =
     let there : is_there id m.instances ≡ true = row_id number m s key id (row_of key m.instances) (row s key) at (rows_of number m s table key) in
     sym (same_id joined id (one.apart id there ∙ same_test (number joined.life) (number id.life) (sym same)))
 
-decidable : (number : ℕ → ℕ) (p : Turn) (s t : State) (seat : Seat) (c : Client) → ShowsTable number p.cache s → IsReady number p.cache s.next_instance seat → is_refused_in seat.brought ≡ false
+pub decidable : (number : ℕ → ℕ) (p : Turn) (s t : State) (seat : Seat) (c : Client) → ShowsTable number p.cache s → IsReady number p.cache s.next_instance seat → is_refused_in seat.brought ≡ false
     → ((key : OwnedKey) → owned_in (asked_in seat.front) ≡ Some key → row t key.text.items ≡ None → row_on_disk t key.text.items ≡ None) → IsDecidable number p t seat c
 decidable number p s t seat c table ready isnt kept = record {
   key = ready.key;
@@ -84,16 +77,16 @@ decidable number p s t seat c table ready isnt kept = record {
   apart = λ key is. apart_from number p.cache s key.text.items seat table ready;
 }
 
--- ---- where its request is not to be decided, the row is not read
+-- ---- as if nothing were kept of a key
 
-hidden : Bytes → State → State
+unfoldable pub hidden : Bytes → State → State
 hidden key s = record s { displaced = key ∷ s.displaced }
 
-none_hidden : (key : Bytes) (s : State) → row_on_disk (hidden key s) key ≡ None
+pub none_hidden : (key : Bytes) (s : State) → row_on_disk (hidden key s) key ≡ None
 unfolding hidden
 none_hidden key s = ap (λ (b : Bool). elim (b || list_any (λ t. bytes_eq t key) s.displaced) as (λ c. Option Entry) [ true ↦ None | false ↦ kept_row s key ]) ((bytes_eq-Decides key key).1 refl)
 
-turn_hidden : (number : ℕ → ℕ) (l : Leaving) (peers : List Peer) (p : Turn) (s : State) (key : Bytes) → ShowsTurn number l peers p s → ShowsTurn number l peers p (hidden key s)
+pub turn_hidden : (number : ℕ → ℕ) (l : Leaving) (peers : List Peer) (p : Turn) (s : State) (key : Bytes) → ShowsTurn number l peers p s → ShowsTurn number l peers p (hidden key s)
 unfolding hidden
 turn_hidden number l peers p s key shows = record {
   steps = record {
@@ -110,6 +103,8 @@ turn_hidden number l peers p s key shows = record {
   bounded = shows.bounded;
 }
 
+-- ---- no request is there
+
 pub front_none : (front : SeatFront) (f : Front) → is_there_in front ≡ false → ShowsFront front f → f ≡ NoHeadYet
 front_none NoneYet NoHeadYet is shows = refl
 front_none NoneYet f is shows = absurd shows
@@ -119,45 +114,11 @@ front_none (IsThere a) f is shows = absurd (cc is)
 pub decide_none : (s : State) (c : Client) → c.front ≡ NoHeadYet → decide s c ≡ None
 decide_none s c is = ap (λ (f : Front). elim f as (λ x. Option Decision) [ NoHeadYet ↦ None | NoHead status ↦ Some (Refuse status) | IsRequest r ↦ Some (decide_head s c r) ]) is
 
-not_so : (b : Bool) → not b ≡ false → b ≡ true
-not_so true is = refl
-not_so false is = absurd (cc is)
-
-stage_unread : (number : ℕ → ℕ) (said : Said) (key : Bytes) (s : State) (c : Client) (there was_told : Bool) (stage : SeatStage) (known : Stage) → ShowsStage number said stage known → is_open_in stage there was_told ≡ false
-    → (there ≡ false → c.front ≡ NoHeadYet) → was_told ≡ is_told c.brought → stage_by (hidden key s) c known ≡ stage_by s c known
-unfolding hidden
-stage_unread number said key s c there was_told IsUndecided Undecided shows is none same =
-    ap (λ (d : Option Decision). first_by s c c.waits_on d) (decide_none (hidden key s) c (none is) ∙ sym (decide_none s c (none is)))
-stage_unread number said key s c there was_told IsWaiting Waiting shows is none same =
-    ap (λ (b : Bool). give_up c.course (elim b as (λ x. Option Decision) [ true ↦ decide (hidden key s) c | false ↦ None ])) (sym same ∙ is)
-    ∙ sym (ap (λ (b : Bool). give_up c.course (elim b as (λ x. Option Decision) [ true ↦ decide s c | false ↦ None ])) (sym same ∙ is))
-stage_unread number said key s c there was_told IsPassing Passing shows is none same = refl
-stage_unread number said key s c there was_told (IsAnswering a) (Answering r) shows is none same =
-    begun_none (hidden key s) (sym shows.begun ∙ not_so a.has_begun is) ∙ sym (begun_none s (sym shows.begun ∙ not_so a.has_begun is))
-  where
-    begun_by : (c : Client) (r : Reply) (o : Option Known) (d : Option Decision) → r.has_begun ≡ true → again_by c r o d ≡ None
-    begun_by c r o d begun = cc begun
-
-    begun_none : (t : State) → r.has_begun ≡ true → again_by c r (source_by t r.source) (decide t c) ≡ None
-    begun_none t begun = begun_by c r (source_by t r.source) (decide t c) begun
-stage_unread number said key s c there was_told stage known shows is none same = absurd shows
-
-unread : (number : ℕ → ℕ) (name : Bytes) (key : Bytes) (s : State) (seat : Seat) (c : Client) → ShowsSeat number name [] seat c → c.is_closing ≡ false → is_to_be_decided seat ≡ false → due_by_law (hidden key s) c ≡ due_by_law s c
-unfolding hidden
-unread number name key s seat c seen going isnt =
-    let live : ShowsOpen number name [] seat c = seen.going going in
-    due_read (hidden key s) c
-    ∙ ap (λ (d : Option Decision). due_by s c (cut_by s c (next_of s c)) d)
-    (stage_unread number seat.client.reply key s c (is_there_in seat.front) (is_told_in seat.brought) seat.stage c.stage live.stage
-    (sym (ap (λ (b : Bool). not b && is_open_in seat.stage (is_there_in seat.front) (is_told_in seat.brought)) (seen.closing ∙ going)) ∙ isnt)
-    (λ none. front_none seat.front c.front none live.front) (told number name [] seat c live))
-    ∙ sym (due_read s c)
-
 -- ---- all
 
 pub seat_due : (number : ℕ → ℕ) (l : Leaving) (peers : List Peer) (shelf : KeptMap) (p : Turn) (s : State) (i : ℕ) (seat : Seat) (c : Client) → ShowsDisk number l peers shelf p s → slice_get p.seats.items i ≡ Some seat → ShowsSeat number p.name.items [] seat c
     → HasItsRow s seat → option_map (due_as seat.client.id seat.index) (due_of p seat) ≡ due_by_law s c
-seat_due number l peers shelf p s i seat c shows at seen has = by (is_to_be_decided seat) (owned_in (asked_in seat.front)) refl refl
+seat_due number l peers shelf p s i seat c shows at seen has = all_dues number l peers p s p.name.items seat c shows.turn seen follows (λ going isnt. decidable number p s s seat c table (ready going) isnt has)
   where
     ready : c.is_closing ≡ false → IsReady number p.cache s.next_instance seat
     ready going = shows.ready i seat at (seen.closing ∙ going)
@@ -167,23 +128,3 @@ seat_due number l peers shelf p s i seat c shows at seen has = by (is_to_be_deci
 
     follows : c.is_closing ≡ false → IsFollowing p.cache seat
     follows going = let one : IsReady number p.cache s.next_instance seat = ready going in one.follows
-
-    later : (b : Bool) (key : Bytes) → c.is_closing ≡ b → is_to_be_decided seat ≡ false → due_by_law (hidden key s) c ≡ due_by_law s c
-    later true key closing isnt = closed (hidden key s) c closing ∙ sym (closed s c closing)
-    later false key closing isnt = unread number p.name.items key s seat c seen closing isnt
-
-    by : (b : Bool) (o : Option OwnedKey) → is_to_be_decided seat ≡ b → owned_in (asked_in seat.front) ≡ o → option_map (due_as seat.client.id seat.index) (due_of p seat) ≡ due_by_law s c
-    by true o is own = all_dues number l peers p s p.name.items seat c shows.turn seen follows (λ going isnt. decidable number p s s seat c table (ready going) isnt (λ key its. has key is its))
-    by false None is own = all_dues number l peers p s p.name.items seat c shows.turn seen follows (λ going isnt. decidable number p s s seat c table (ready going) isnt (λ key its. absurd (none_some (sym own ∙ its))))
-    by false (Some key) is own =
-        all_dues number l peers p (hidden key.text.items s) p.name.items seat c (turn_hidden number l peers p s key.text.items shows.turn) seen follows
-        (λ going isnt. decidable number p s (hidden key.text.items s) seat c table (ready going) isnt (λ other its alone. nothing other its))
-        ∙ later c.is_closing key.text.items refl is
-      where
-        same_key : {a b : OwnedKey} → Some a ≡ Some b → a ≡ b
-        same_key e = cc e
-
-        nothing : (other : OwnedKey) → owned_in (asked_in seat.front) ≡ Some other → row_on_disk (hidden key.text.items s) other.text.items ≡ None
-        nothing other its =
-            let same : key ≡ other = same_key (sym own ∙ its) in
-            subst (λ (k : OwnedKey). row_on_disk (hidden key.text.items s) k.text.items ≡ None) same (none_hidden key.text.items s)

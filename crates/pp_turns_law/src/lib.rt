@@ -5,7 +5,7 @@
 //! - `specs/Nexts.antt`, `Brings`, `Needs`, `Spans`, `Unseen`, `Sharing`: whether a follower's next byte is there or comes, what it asks
 //!   for, what nobody will see, and whether an ask is another's. What is not on the disk is in memory.
 //! - `specs/Turns.antt`, `Dues`: of one client, whether what it follows stands, what is at hand for it, what is decided of its request,
-//!   and what is due of it. A decision counts the row of its key, which a kept one is before.
+//!   and what is due of it. A decision counts the row of its key.
 //! - `specs/Rows.antt`, `Firsts`, `Wants`, `Readers`: a kept row that comes into memory leaves what is due as it was; whose due comes
 //!   first of all who are looked at, and that its row alone comes in; what is waited for of the clients, and what is read no further.
 //! - `specs/Looks.antt`, `Marks`: who is looked at, and that the others are silent; who waits, and what a tick and a wait change with that.
@@ -33,7 +33,7 @@ pub use dues::{
     decisions_are_the_laws, dues_are_the_laws, offers_are_the_laws, standing_is_the_laws,
     superseded_is_the_laws,
 };
-pub use firsts::{first_due_is_the_laws, its_row_alone_comes_in, memory_is_given_or_refused};
+pub use firsts::{first_due_is_the_laws, memory_is_given_or_refused};
 pub use looking::others_are_silent;
 pub use marking::{marks_are_the_laws, waiting_is_the_laws};
 pub use needing::{needs_are_the_laws, spans_are_the_laws};

@@ -1,26 +1,27 @@
 use Rattle.std.proofs.Common.{arith, ◌≡◌, ◌≤◌, ◌∙◌, subst, length, slice_get, Some, None}
 use Rattle.std.proofs.lemmas.Grind.{common_steps}
-use Rattle.pp_due.specs.Due.{due_at}
+use Rattle.pp_due.specs.Entering.{IsDueWithRow}
 use Rattle.pp_due.proofs.EnteringLemmas.{awake_kept, due_here, due_later, due_never, past_end}
 use Rattle.pp_due.proofs.due.first_due.Goals as goal
 
-pub returns-in-Some-due_at : goal.returns-in-Some-due_at
-returns-in-Some-due_at c =
+pub returns-in-Some-due_with_row : goal.returns-in-Some-due_with_row
+returns-in-Some-due_with_row c =
     let here : slice_get c.loop-turn.state.awake.items c.loop-turn.turn ≡ Some c.in-Some.i = grind (arith, common_steps) in
     let at : slice_get c.args.state.now.awake.items c.loop-turn.turn ≡ Some c.in-Some.i = subst (λ v. slice_get v.items c.loop-turn.turn ≡ Some c.in-Some.i) c.loop-turn.invariant.awake here in
-    let some : due_at c.in-Some.i c.bring_row_of.new.state ≡ Some c.in-Some-due_at.due = grind (arith, common_steps) in
-    c.loop-turn.invariant.later c.bring_row_of.new.state (Some (c.in-Some.i, c.in-Some-due_at.due))
-    (due_here c.args.shelf.now c.args.state.now.awake.items c.loop-turn.turn c.in-Some.i c.loop-turn.state c.bring_row_of.new.state c.in-Some-due_at.due at c.bring_row_of.ensures some)
+    let some : c.due_with_row.result ≡ Some c.in-Some-due_with_row.due = grind (arith, common_steps) in
+    c.loop-turn.invariant.later c.due_with_row.new.state (Some (c.in-Some.i, c.in-Some-due_with_row.due))
+    (due_here c.args.shelf.now c.args.state.now.awake.items c.loop-turn.turn c.in-Some.i c.loop-turn.state c.due_with_row.new.state c.in-Some-due_with_row.due at
+    (subst (λ o. IsDueWithRow c.args.shelf.now c.in-Some.i c.loop-turn.state c.due_with_row.new.state o) some c.due_with_row.ensures))
 
 pub loop-turn-preserved : goal.loop-turn-preserved
 loop-turn-preserved c =
     let here : slice_get c.loop-turn.state.awake.items c.loop-turn.turn ≡ Some c.in-Some.i = grind (arith, common_steps) in
     let at : slice_get c.args.state.now.awake.items c.loop-turn.turn ≡ Some c.in-Some.i = subst (λ v. slice_get v.items c.loop-turn.turn ≡ Some c.in-Some.i) c.loop-turn.invariant.awake here in
-    let none : due_at c.in-Some.i c.bring_row_of.new.state ≡ None = grind (arith, common_steps) in
+    let none : c.due_with_row.result ≡ None = grind (arith, common_steps) in
     record {
-      awake = awake_kept c.args.shelf.now c.in-Some.i c.loop-turn.state c.bring_row_of.new.state c.bring_row_of.ensures ∙ c.loop-turn.invariant.awake;
+      awake = awake_kept c.args.shelf.now c.in-Some.i c.loop-turn.state c.due_with_row.new.state c.due_with_row.result c.due_with_row.ensures ∙ c.loop-turn.invariant.awake;
       later = λ new found first. c.loop-turn.invariant.later new found
-          (due_later c.args.shelf.now c.args.state.now.awake.items c.loop-turn.turn c.in-Some.i c.loop-turn.state c.bring_row_of.new.state new found at c.bring_row_of.ensures none first);
+          (due_later c.args.shelf.now c.args.state.now.awake.items c.loop-turn.turn c.in-Some.i c.loop-turn.state c.due_with_row.new.state new c.due_with_row.result found at c.due_with_row.ensures none first);
     }
 
 pub returns-after-loop-turn : goal.returns-after-loop-turn
