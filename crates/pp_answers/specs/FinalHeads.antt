@@ -174,6 +174,11 @@ abbrev pub answer_to : Response → Option Entry → Option (Entry × BodyRule)
 answer_to head None = None
 answer_to head (Some x) = option_map (λ rule. (x, rule)) (rule_for x.exchange x.errand head)
 
+-- all else is as where its key got room; and where it answers none, as it was
+abbrev pub roomed_by : Response → Option (Entry × BodyRule) → State → State
+roomed_by head None s = s
+roomed_by head (Some a) s = roomed_for a.0.exchange.aim a.0.errand head a.0.exchange.number s
+
 abbrev pub AnswersAsk : ℕ → Response → Option (Entry × BodyRule) → State → Parts → Type 0
 AnswersAsk number head None s new = new ≡ parts s
 AnswersAsk number head (Some a) s new = TakesHead number a.0.exchange a.0.errand head a.1 s new

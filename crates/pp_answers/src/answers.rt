@@ -9,7 +9,7 @@ ghost use Rattle.pp_answers.specs.Answers.{not_shared, on_its};
 ghost use Rattle.pp_state.specs.Ends.{made_useless, numbers_of, parts, told, told_to, unusable, AreSeated, KeepsRest};
 ghost use Rattle.pp_client.specs.Requests.{current_of};
 ghost use Rattle.pp_flow.specs.Changes.{entry_of};
-ghost use Rattle.pp_answers.specs.FinalHeads.{AnswersAsk, FillsHead, PassesHead, TakesAim, TakesHead, TakesOwn, TakesPart, answer_to, cleared_by, counted, first_of, first_shown, is_lacked, is_widened, lacks_next, lacks_row, other_head, other_part, part_without_version, relayed, roomed, roomed_for, rule_for, shared_part, version_in, widened, without_version};
+ghost use Rattle.pp_answers.specs.FinalHeads.{AnswersAsk, FillsHead, PassesHead, TakesAim, TakesHead, TakesOwn, TakesPart, answer_to, cleared_by, counted, first_of, first_shown, is_lacked, is_widened, lacks_next, lacks_row, other_head, other_part, part_without_version, relayed, roomed, roomed_by, roomed_for, rule_for, shared_part, version_in, widened, without_version};
 ghost use Rattle.pp_state.specs.Keys.{cleared, key_of};
 ghost use Rattle.pp_answers.specs.Rows.{is_bound};
 ghost use Rattle.pp_answers.specs.OwnHeads.{clears_row, is_multipart_type, is_private_part, is_wrong, is_wrong_for, is_wrong_part};
@@ -38,6 +38,7 @@ pub fn take_head(state: &mut State, number: u64, head: &ResponseHead<'_, '_>) ->
     ensures answers { result ≡ is_some (answer_to (shown_response head.now) (entry_of number state.old.flow)) }
     ensures is { AreSeated state.old → AnswersAsk number (shown_response head.now) (answer_to (shown_response head.now) (entry_of number state.old.flow)) state.old (parts state.new) }
     ensures numbers { numbers_of state.new.seats.items ≡ numbers_of state.old.seats.items }
+    ensures rest { KeepsRest (roomed_by (shown_response head.now) (answer_to (shown_response head.now) (entry_of number state.old.flow)) state.old) state.new }
 {
     let Some(entry) = state.flow.entry(number) else {
         return false;

@@ -28,12 +28,14 @@ use Rattle.pp_states_law.specs.Decisions.{AreApart}
 use Rattle.pp_states_law.specs.Exchanges.{StandsNowhere}
 use Rattle.pp_states_law.specs.States.{ShowsState}
 use Rattle.pp_state.specs.Asking.{is_useless}
+use Rattle.pp_state.proofs.NumbersLemmas.{Above, in_order}
 use Rattle.pp_state.specs.Ends.{Parts, ended}
 use Rattle.pp_steps_law.proofs.Told.{told_over}
 use Rattle.pp_steps_law.specs.Steps.{ShowsSteps, whole}
 use Rattle.pp_turns_law.proofs.First.{above}
 use Rattle.pp_decides_law.proofs.Wanted.{useless}
-use Rattle.pp_decides_law.specs.Useless.{AllFollow, GivenUpAsTheLaws, all_given_up}
+use Rattle.pp_decides_law.specs.Useless.{AllFollow, GivenUpAsTheLaws, WaitingAreInOrder}
+use Rattle.pp_take.specs.GivingUp.{all_given_up}
 
 -- ---- one without a place is over
 
@@ -305,13 +307,25 @@ waits_unplaced number l f s shows m e there = by (is_useless_ask s e) refl
         none_and true = refl
         none_and false = refl
 
+-- they stand in the order of their numbers
+above_given : (low next : ℕ) (ns : List ℕ) → AreGiven low next ns → Above low ns
+above_given low next [] given = tt
+above_given low next (n ∷ ns) given = (given.0, above_given (n + 1) next ns given.1)
+
+waiting_given : (number : ℕ → ℕ) (l : Leaving) (f : Exchanges) (s : State) → ShowsFlow number l f s → AreGiven 0 s.next_exchange (numbers f.waiting)
+waiting_given number l f s shows =
+    subst (λ (ns : List ℕ). AreGiven 0 s.next_exchange ns) (same_numbers number f.waiting (filter has_none s.exchanges) shows.waiting) (given_some has_none s.next_exchange s.exchanges 0 shows.given)
+
+pub waiting_in_order : WaitingAreInOrder
+waiting_in_order number name l peers p s shows = in_order 0 (numbers p.flow.waiting) (above_given 0 s.next_exchange (numbers p.flow.waiting) (waiting_given number l p.flow s shows.shows.exchanges))
+
 pub gives_up : GivenUpAsTheLaws
 unfolding give_up_asks
 gives_up number name l peers p s shows follow apart none =
     let flow : ShowsFlow number l p.flow s = shows.shows.exchanges in
     let left : IsLeft number name l peers s [] (numbers p.flow.waiting) (all_given_up (numbers p.flow.waiting) p) = walks number name l peers s apart none s.next_exchange (numbers p.flow.waiting) 0 [] p (record {
       shows = subst (λ (es : List Exchange). ShowsSteps number name l peers p (record s { exchanges = es })) (sym (all_kept s.exchanges)) shows;
-      given = subst (λ (ns : List ℕ). AreGiven 0 s.next_exchange ns) (same_numbers number p.flow.waiting (filter has_none s.exchanges) flow.waiting) (given_some has_none s.next_exchange s.exchanges 0 flow.given);
+      given = waiting_given number l p.flow s flow;
       before = λ m less. refl;
       waits = λ m has. sym (is_found p.flow.waiting m) ∙ has;
       follow = λ i seat c place going. follow i seat c (record { here = place.here; there = place.there }) going;

@@ -1,5 +1,5 @@
 -- Which asks of followers are of no use any more is what the law gives up (ours).
-use Rattle.std.specs.Prelude.{◌≡◌, ℕ, true, false, List, [], ◌∷◌, find, Some}
+use Rattle.std.specs.Prelude.{◌≡◌, ℕ, false, [], find, Some}
 use Rattle.pp_decides_law.specs.Decides.{IsAtPlace}
 use Rattle.pp_turns_law.specs.Turns.{IsFollowing}
 use Rattle.pp_flow.specs.Changes.{entry_of, numbers}
@@ -11,8 +11,9 @@ use Rattle.pp_law.specs.State.{State, Client, Exchange}
 use Rattle.pp_seats.specs.declared.seat.Seat.{Seat}
 use Rattle.pp_states_law.specs.Decisions.{AreApart}
 use Rattle.pp_state.specs.Asking.{is_useless}
-use Rattle.pp_state.specs.Ends.{Parts, ended}
+use Rattle.pp_state.specs.Ends.{AreInOrder, Parts}
 use Rattle.pp_steps_law.specs.Steps.{OfSteps, ShowsSteps}
+use Rattle.pp_take.specs.GivingUp.{all_given_up}
 
 -- what each that is not closing follows is there
 abbrev pub AllFollow : Parts → State → Type 0
@@ -22,16 +23,9 @@ AllFollow p s = (i : ℕ) (seat : Seat) (c : Client) → IsAtPlace i p s seat c 
 abbrev pub UselessIsTheLaws : Type 0
 UselessIsTheLaws = OfSteps (λ number name l peers p s. (n : ℕ) (x : Entry) (e : Exchange) → AllFollow p s → find (is_number n) p.flow.waiting ≡ Some x → exchange s n ≡ Some e → is_useless p.cache p.seats (entry_of n p.flow) ≡ is_useless_ask s e)
 
--- ---- all of them
-
--- one that is of no use is over
-abbrev pub given_up_if : ℕ → Parts → Parts
-given_up_if n p = elim (is_useless p.cache p.seats (entry_of n p.flow)) [ true ↦ ended n p | false ↦ p ]
-
--- one behind the other
-unfoldable pub all_given_up : List ℕ → Parts → Parts
-all_given_up [] p = p
-all_given_up (n ∷ ns) p = all_given_up ns (given_up_if n p)
+-- all without a place stand in the order of their beginnings
+abbrev pub WaitingAreInOrder : Type 0
+WaitingAreInOrder = OfSteps (λ number name l peers p s. AreInOrder (numbers p.flow.waiting))
 
 -- of all without a place, in the order of their beginnings, where none has to leave a line any more, and no two connections have one number
 abbrev pub GivenUpAsTheLaws : Type 0

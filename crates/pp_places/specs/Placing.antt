@@ -1,6 +1,6 @@
 -- Each exchange without a place gets one where there is one, in the order of their beginnings, behind all closings (RFC 2616, sections
 -- 8.1 and 8.1.2.2).
-use Rattle.std.specs.Prelude.{◌≡◌, ℕ, zero, suc, ◌≤◌, Bool, true, false, ◌==◌, ◌&&◌, ◌||◌, not, cond, nat_le, nat_lt, IfOk, IsErr, List, [], ◌∷◌, ◌++◌, length, map, slice_get, slice_range, is_some, Option, Some, None, option_and_then, option_map, Result, Ok, Err}
+use Rattle.std.specs.Prelude.{◌≡◌, ℕ, zero, suc, ◌≤◌, Bool, true, false, ◌==◌, ◌&&◌, ◌||◌, not, cond, nat_le, nat_lt, IfOk, IsErr, List, [], ◌∷◌, ◌++◌, length, map, slice_range, is_some, Option, Some, None, option_map, Result, Ok, Err}
 use Rattle.std.specs.List.{find, list_any}
 use Rattle.std.specs.Result.{result_unwrap_or}
 use Rattle.pp_flow.specs.Changes.{Exchanges, entry_of, is_after, placed_on}
@@ -19,10 +19,8 @@ use Rattle.pp_pipe.specs.Line.{Line, pushed_where, room_of}
 use Rattle.pp_places.specs.Around.{Around, Moment, with_sides}
 use Rattle.pp_desk.specs.Closings.{Sides, with_parts}
 use Rattle.pp_desk.specs.Shutting.{closings}
-use Rattle.pp_seats.specs.Courses.{is_trying_in}
-use Rattle.pp_seats.specs.declared.seat.Seat.{Seat}
-use Rattle.pp_state.specs.Ends.{Parts, asked_anew, ended, lost_attempt, may_ask_again, numbers_of, place_of as seat_place}
-use Rattle.pp_take.specs.Filling.{filled}
+use Rattle.pp_state.specs.Ends.{asked_anew, ended}
+use Rattle.pp_take.specs.Unplaced.{refused_dial}
 use Rattle.pp_world.specs.Log.{Log}
 use Rattle.pp_world.specs.Wire.{IsNewNumber, dial_happening}
 use Rattle.pp_world.specs.declared.wire.WireFault.{WireFault}
@@ -88,24 +86,6 @@ put_on number k x = record {
   peers = put_text number k (entry_of number x.parts.flow) x.parts.flow x.peers;
 }
 
--- ---- a dial that was refused costs an attempt
-
--- the client with this number may ask once more
-abbrev pub is_trying_at : Option Seat → Bool
-is_trying_at None = false
-is_trying_at (Some seat) = is_trying_in seat.course
-
-abbrev pub may_ask : Option ℕ → List Seat → Bool
-may_ask asker seats = is_trying_at (option_and_then (slice_get seats) (option_and_then (λ client. seat_place client (numbers_of seats)) asker))
-
--- it is asked elsewhere; or it is over, and whoever waited for what it brings asks for himself
-abbrev pub asked_again_where : Bool → Moment → ℕ → Parts → Parts
-asked_again_where true m number p = p
-asked_again_where false m number p = filled m.is_stopped m.name m.awake (ended number p)
-
-abbrev pub refused_dial : Moment → Exchange → Parts → Parts
-refused_dial m e p = asked_again_where (may_ask_again e.number (lost_attempt e p)) m e.number (lost_attempt e p)
-
 -- ---- it needs a new connection
 
 -- the name of its host is not too long, and there is room for one connection more
@@ -131,7 +111,7 @@ with_new (Some k) host port now peers = peers ++ unused k host port now ∷ []
 
 -- it is the first of the line there; or its dial was refused
 abbrev pub met_by : Moment → ℕ → Exchange → Option ℕ → Sides → Sides
-met_by m number e None x = with_parts (refused_dial m e) x
+met_by m number e None x = with_parts (refused_dial m.is_stopped m.name m.awake e) x
 met_by m number e (Some k) x = put_on number k x
 
 abbrev pub met_at : Moment → ℕ → Entry → List ℕ → Option ℕ → Sides → Sides

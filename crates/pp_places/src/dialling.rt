@@ -5,16 +5,15 @@ ghost use Rattle.pp_links.specs.Links.{IsLinked};
 ghost use Rattle.pp_links.specs.Quiet.{GrowsQuietly};
 ghost use Rattle.pp_places.specs.Around.{Leads, around, moment_of};
 ghost use Rattle.pp_desk.specs.Closings.{KeepsDesk, sides};
-ghost use Rattle.pp_places.specs.Placing.{IsDialledFor, asked_again_where, dials_to, host_of, may_ask, met_by, new_one, refused_dial, with_new};
-ghost use Rattle.pp_state.specs.Ends.{may_ask_again, numbers_of, parts, AreSeated, KeepsRest};
+ghost use Rattle.pp_places.specs.Placing.{IsDialledFor, dials_to, host_of, met_by, new_one, with_new};
+ghost use Rattle.pp_state.specs.Ends.{numbers_of, AreSeated};
 
 use crate::placing::{host_of, put_on};
 use pp_desk::Desk;
 use pp_flow::{Entry, Exchange};
 use pp_links::Links;
 use pp_peers::{HOST_ROOM, PEERS, Peers};
-use pp_state::State;
-use pp_take::fill;
+use pp_take::refuse_dial;
 use pp_world::{Wire, WireFault};
 
 /// A connection is dialled for the exchange.
@@ -84,49 +83,5 @@ fn join(
             Some(*k)
         }
         Ok(_) | Err(_) => None,
-    }
-}
-
-/// An attempt is lost: it is asked elsewhere; or it is over, and whoever waited for what it brings asks for itself.
-fn refuse_dial(state: &mut State, e: &Exchange)
-    ensures is { AreSeated state.old → parts state.new ≡ refused_dial (moment_of state.old) e.now (parts state.old) }
-    ensures numbers { numbers_of state.new.seats.items ≡ numbers_of state.old.seats.items }
-    ensures rest { KeepsRest state.old state.new }
-{
-    state.lose_attempt(e);
-    let may = may_ask_again(state, e.number);
-    ask_again(state, may, e.number);
-}
-
-fn ask_again(state: &mut State, may: bool, number: u64)
-    ensures is { parts state.new ≡ asked_again_where may (moment_of state.old) number (parts state.old) }
-    ensures numbers { numbers_of state.new.seats.items ≡ numbers_of state.old.seats.items }
-    ensures rest { KeepsRest state.old state.new }
-{
-    if !may {
-        state.end(number);
-        fill(state);
-    }
-}
-
-/// The request of the exchange did not leave it, and may ask once more.
-fn may_ask_again(state: &State, number: u64) -> bool
-    ensures { AreSeated state.entry.now → result ≡ may_ask_again number (parts state.entry.now) }
-{
-    match state.exchange(number) {
-        None => false,
-        Some(e) => may_ask(state, e.asker),
-    }
-}
-
-fn may_ask(state: &State, asker: Option<u64>) -> bool
-    ensures { AreSeated state.entry.now → result ≡ may_ask asker state.entry.now.seats.items }
-{
-    match asker {
-        None => false,
-        Some(client) => match state.seat_of(client) {
-            None => false,
-            Some(i) => state.seats[i].is_trying(),
-        }
     }
 }

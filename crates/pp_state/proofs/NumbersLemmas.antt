@@ -72,7 +72,7 @@ removed n (m ∷ ms) (suc i) rises within is =
 
 -- ---- they rise still
 
-abbrev Above : ℕ → List ℕ → Type 0
+abbrev pub Above : ℕ → List ℕ → Type 0
 Above low [] = ⊤
 Above low (m ∷ ms) = (low ≤ m) × Above (m + 1) ms
 
@@ -86,16 +86,16 @@ at_least low [] up k less = absurd (omega (arith, less))
 at_least low (m ∷ ms) up zero less = up.0
 at_least low (m ∷ ms) up (suc k) less = let more : m + 1 ≤ get_or ms k 0 = at_least (m + 1) ms up.1 k (omega (arith, less)) in omega (arith, more, up.0)
 
-in_order : (low : ℕ) (ms : List ℕ) → Above low ms → AreInOrder ms
+pub in_order : (low : ℕ) (ms : List ℕ) → Above low ms → AreInOrder ms
 in_order low [] up i j before within = absurd (omega (arith, within))
 in_order low (m ∷ ms) up i zero before within = absurd (omega (arith, before))
 in_order low (m ∷ ms) up zero (suc j) before within = let more : m + 1 ≤ get_or ms j 0 = at_least (m + 1) ms up.1 j (omega (arith, within)) in omega (arith, more)
 in_order low (m ∷ ms) up (suc i) (suc j) before within = in_order (m + 1) ms up.1 i j (omega (arith, before)) (omega (arith, within))
 
-above_none : (ms : List ℕ) → AreInOrder ms → Above 0 ms
+pub above_none : (ms : List ℕ) → AreInOrder ms → Above 0 ms
 above_none ms rises = above 0 ms rises (λ k less. omega arith)
 
-lower : (low high : ℕ) (ms : List ℕ) → low ≤ high → Above high ms → Above low ms
+pub lower : (low high : ℕ) (ms : List ℕ) → low ≤ high → Above high ms → Above low ms
 lower low high [] less up = tt
 lower low high (m ∷ ms) less up = (omega (arith, less, up.0), up.1)
 

@@ -12,9 +12,10 @@ use Rattle.pp_seats.specs.declared.seat.Seat.{Seat}
 use Rattle.pp_cache.specs.Memory.{Memory}
 use Rattle.pp_cache.specs.Notes.{has_noted}
 use Rattle.pp_seats.specs.Courses.{has_begun, without_row}
+use Rattle.pp_seats.specs.Follows.{next_of}
 use Rattle.pp_seats.specs.Seats.{has_key}
 use Rattle.pp_seats.specs.declared.seat.Course.TheVariants.{Trying}
-use Rattle.pp_state.specs.Ends.{AreInOrder, all_decided_anew, all_regained, changed_at, decided_anew, numbers_of, place_of, regained, useless_if_refused}
+use Rattle.pp_state.specs.Ends.{AreInOrder, all_decided_anew, all_regained, changed_at, decided_anew, is_held_next, numbers_of, place_of, regained, useless_if_refused}
 
 -- ---- a number that is there is found at its place, and one that is not is not found
 
@@ -181,3 +182,15 @@ all_regained-append m (i ∷ is) js seats = all_regained-append m is js (changed
 -- the next of these places
 pub all_regained-next : (m : Memory) (is : List ℕ) (n : ℕ) (seats : List Seat) → n < length is → all_regained m (take (n + 1) is) seats ≡ changed_at (get_or is n 0) (regained m) (all_regained m (take n is) seats)
 all_regained-next m is n seats within = ap (λ xs. all_regained m xs seats) (take_more is n 0 within) ∙ all_regained-append m (take n is) (get_or is n 0 ∷ []) seats
+
+-- each keeps its number
+regained_number : (m : Memory) (seat : Seat) → (regained m seat).client.id ≡ seat.client.id
+regained_number m seat = by (is_held_next (next_of seat) m)
+  where
+    by : (b : Bool) → (cond b (record seat { course = Trying 0 }) seat).client.id ≡ seat.client.id
+    by true = refl
+    by false = refl
+
+pub regained_numbers : (m : Memory) (is : List ℕ) (seats : List Seat) → numbers_of (all_regained m is seats) ≡ numbers_of seats
+regained_numbers m [] seats = refl
+regained_numbers m (i ∷ is) seats = regained_numbers m is (changed_at i (regained m) seats) ∙ changed_numbers i (regained m) seats (regained_number m)

@@ -286,6 +286,7 @@ impl State {
     /// Attempts count anew for those whose next byte is held.
     pub fn regain(&mut self)
         ensures is { self.new.seats.items ≡ all_regained self.old.cache self.old.awake.items self.old.seats.items }
+        ensures numbers { numbers_of self.new.seats.items ≡ numbers_of self.old.seats.items }
         ensures rest { record self.new { seats = self.old.seats } ≡ self.old }
     {
         regain_all(&mut self.seats, &self.awake, &self.cache);

@@ -1,2 +1,4 @@
 pub mod Deciding
 pub mod Filling
+pub mod GivingUp
+pub mod Unplaced

@@ -1,11 +1,12 @@
 // Step 5: what followers ask for: bytes that are not there and do not come (RFC 7233, sections 3.2 and
 // 4.3; ours: chunk by chunk).
 ghost use Rattle.std.specs.Prelude.{◌≡◌, option_map, slice_get};
-ghost use Rattle.pp_flow.specs.Changes.{entry_of};
+ghost use Rattle.pp_flow.specs.Changes.{entry_of, numbers};
 ghost use Rattle.pp_state.specs.Asking.{brings_next, is_useless, is_wanted};
 ghost use Rattle.pp_state.specs.Bringing.{need_of};
-ghost use Rattle.pp_state.specs.Ends.{AreSeated, KeepsRest, numbers_of, on_seat, parts};
+ghost use Rattle.pp_state.specs.Ends.{AreInOrder, AreSeated, KeepsRest, numbers_of, on_seat, parts};
 ghost use Rattle.pp_take.specs.Filling.{filled, filled_for, filled_in, hole_ask_at, hole_asked, instance_of, span_asked};
+ghost use Rattle.pp_take.specs.GivingUp.{all_given_up, given_up_if};
 ghost use Rattle.pp_state.specs.Readers.{next_at};
 ghost use Rattle.pp_seats.specs.declared.seat.Course.TheVariants.{AskTooLong};
 
@@ -14,7 +15,7 @@ use arrayvec::ArrayVec;
 use pp_ask::ASK_LEN;
 use pp_cache::CHUNK_LEN;
 use pp_client::Current;
-use pp_flow::{Aim, EXCHANGES, Entry, Errand, Kind};
+use pp_flow::{Aim, Entry, Errand, Kind};
 use pp_objects::ObjectId;
 use pp_plan::need;
 use pp_seats::{Course, Next};
@@ -155,17 +156,29 @@ fn hole_errand(
     errand_of(state, asked, key, &head, kind, text)
 }
 
-/// Behind step 2: an ask without a place that no longer brings what its own client wants is given up.
-pub fn give_up_asks(state: &mut State) {
+/// An ask without a place that no longer brings what its own client wants is given up.
+pub fn give_up_asks(state: &mut State)
+    ensures is { AreSeated state.old → AreInOrder (numbers state.old.flow.waiting) → parts state.new ≡ all_given_up (numbers state.old.flow.waiting) (parts state.old) }
+    ensures numbers { numbers_of state.new.seats.items ≡ numbers_of state.old.seats.items }
+    ensures rest { KeepsRest state.old state.new }
+{
     let mut after: Option<u64> = None;
-    for _ask in 0..EXCHANGES {
+    for _ask in 0..state.flow.len() {
         let Some(number) = state.flow.waiting(after) else {
             break;
         };
-        if is_useless(state, number) {
-            state.end(number);
-        }
+        give_up_ask(state, number);
         after = Some(number);
+    }
+}
+
+fn give_up_ask(state: &mut State, number: u64)
+    ensures is { AreSeated state.old → parts state.new ≡ given_up_if number (parts state.old) }
+    ensures numbers { numbers_of state.new.seats.items ≡ numbers_of state.old.seats.items }
+    ensures rest { KeepsRest state.old state.new }
+{
+    if is_useless(state, number) {
+        state.end(number);
     }
 }
 

@@ -4,7 +4,8 @@
 //! that are not there and do not come, and begins an exchange for them.
 //!
 //! To the layer above: what is left of clients, exchanges and the cache is that of `specs/Deciding.antt` (RFC 2616, sections 13 and
-//! 14), and what followers ask for that of `specs/Filling.antt` (RFC 7233, sections 3.2 and 4.3).
+//! 14), what followers ask for that of `specs/Filling.antt` (RFC 7233, sections 3.2 and 4.3), which asks are given up that of
+//! `specs/GivingUp.antt`, and what becomes of a refused dial that of `specs/Unplaced.antt`.
 //!
 //! What is decided is for `pp_decide`, what is written for `pp_ask` and `pp_reply`, and on which connection an exchange goes for
 //! `pp_peers`.
@@ -16,4 +17,4 @@ mod place; // what becomes of an exchange that gets no place
 
 pub use deciding::{afforded, take};
 pub use filling::{fill, give_up_asks};
-pub use place::dial_refused;
+pub use place::refuse_dial;
