@@ -1,6 +1,6 @@
 use Rattle.std.proofs.Common.{◌≡◌, ◌∙◌, ap, subst, List, ◌∷◌, []}
 use Rattle.pp_places.proofs.PlacingLemmas.{told_then}
-use Rattle.pp_proxy.proofs.TakingLemmas.{given_numbers, given_rest}
+use Rattle.pp_proxy.proofs.TakingLemmas.{given_numbers, given_rest, regained_numbers}
 use Rattle.pp_seats.specs.declared.seat.Seat.{Seat}
 use Rattle.pp_take.specs.Deciding.{Takes}
 use Rattle.pp_state.specs.Ends.{Parts, all_regained, numbers_of, parts}
@@ -37,7 +37,8 @@ returns-clause-is g c =
 
 pub returns-clause-numbers : goal.returns-clause-numbers
 returns-clause-numbers g c =
-    c.regain.ensures.numbers ∙ c.take.ensures.numbers ∙ ap (λ (s : State). numbers_of s.seats.items) c.give_way.ensures.is ∙ given_numbers c.args.decision c.args.i c.args.state.now
+    ap numbers_of c.regain.ensures.is ∙ regained_numbers c.take.new.state.cache c.take.new.state.awake.items c.take.new.state.seats.items
+    ∙ c.take.ensures.numbers ∙ ap (λ (s : State). numbers_of s.seats.items) c.give_way.ensures.is ∙ given_numbers c.args.decision c.args.i c.args.state.now
 
 pub returns-clause-rest : goal.returns-clause-rest
 returns-clause-rest g c =
