@@ -9,14 +9,15 @@ use Rattle.pp_law.specs.Chunks.{note_use}
 use Rattle.pp_law.specs.Connections.{client, conn, end_exchange, lose_attempt, may_ask_again, on_client, on_conn, on_exchange, placing, put_on, Placement, Pause, AllPlaced, WaitsDial, WaitsDrop}
 use Rattle.pp_law.specs.Deciding.{decided}
 use Rattle.pp_law.specs.Lawful.{LawfulFrom}
+use Rattle.pp_law.specs.Followers.{fill}
 use Rattle.pp_law.specs.Leaving.{Leaving, ForAnother, ForMemory, BeforeDecision, leaving_as}
 use Rattle.pp_law.specs.Lists.{Bytes}
 use Rattle.pp_law.specs.Opening.{are_texts, begun, configured, is_at, is_opening, lose_in_opening, names_file, opened_to, settings_in, stuck, with_settings, woken}
 use Rattle.pp_law.specs.Permits.{IsPermitted, permits, permits_began}
-use Rattle.pp_law.specs.Phases.{come_to, come_to_decide, deciding, ending, in_phase, may_in, next}
+use Rattle.pp_law.specs.Phases.{come_to, come_to_decide, deciding, ending, may_in, next}
 use Rattle.pp_law.specs.Replies.{regained}
 use Rattle.pp_law.specs.Repairs.{agenda_in_opening, begin_in_opening, may_begin_in_opening}
-use Rattle.pp_law.specs.State.{State, Agenda, Client, Conn, Entry, Exchange, Instance, Phase, IsListed, IsListening, IsRooted, IsWoken, Evicting, Keeping, Connecting, Following, Owed, ReadOf, WriteTo, Todo, Do, Enter, Acknowledge, start}
+use Rattle.pp_law.specs.State.{State, Agenda, Client, Conn, Entry, Exchange, Instance, Phase, IsListed, IsListening, IsRooted, IsWoken, Evicting, Keeping, Connecting, Owed, ReadOf, WriteTo, Todo, Do, Enter, Acknowledge, start}
 use Rattle.pp_law.specs.Store.{agenda_in_turn, begin_in_turn, begin_op, close_name, end_op, enter_next, fail_op, is_idle_disk, is_of_draft, left_todo, load, load_from, lose_draft, lose_entry, may_begin_in_turn, note_gone, note_kept, remove_entry}
 use Rattle.pp_law.specs.Table.{is_entry_of, kept_row, row}
 use Rattle.pp_law.specs.Turn.{rest_with, touch}
@@ -27,9 +28,9 @@ use Rattle.pp_laws_crash.proofs.Standing.{at_IsListed, opening_still}
 use Rattle.pp_laws_crash.proofs.Views.{began_failed, done_failed, view_more}
 use Rattle.pp_obeys.proofs.Frames.{Frame, Stays, frame, frame_of, stays}
 use Rattle.pp_obeys.proofs.Settled.{come_at}
-use Rattle.pp_obeys.proofs.StaysAsks.{decided-stays}
+use Rattle.pp_obeys.proofs.StaysAsks.{decided-stays, fill-stays}
 use Rattle.pp_obeys.proofs.StaysResponses.{got-stays}
-use Rattle.pp_obeys.proofs.StaysTable.{close_client-stays, forget-stays, lose_attempt-stays}
+use Rattle.pp_obeys.proofs.StaysTable.{close_client-stays, end_exchange-stays, forget-stays, lose_attempt-stays}
 use Rattle.pp_obeys.proofs.StaysTurns.{ask-stays, come_to-frame, come_to_decide-frame, deciding-frame, end_replies-stays, ending-frame, evicted-stays, gone-stays, hang_up-stays, hear-stays, next-frame, out-stays, placing-frame, reached-stays, refused_row-stays, said-stays, shut-stays, tick-frame}
 use Rattle.pp_obeys.specs.Obeys.{AreDone, phases_on}
 use Rattle.pp_world.specs.Disk.{View, began, done, view_after, view_of}
@@ -146,12 +147,12 @@ dialled_disk n host port p = by p.pause
     by (WaitsDial e) = refl
 
 refused_disk : (e : Exchange) (s : State) → (refused_dial e s).disk ≡ s.disk
-unfolding refused_dial end_exchange
+unfolding refused_dial
 refused_disk e s = by (may_ask_again s e.number)
   where
-    by : (again : Bool) → (elim again as (λ c. State) [ true ↦ s | false ↦ end_exchange e.number (in_phase Following s) ]).disk ≡ s.disk
+    by : (again : Bool) → (elim again as (λ c. State) [ true ↦ s | false ↦ fill (end_exchange e.number s) ]).disk ≡ s.disk
     by true = refl
-    by false = refl
+    by false = same s _ (fill-stays _ (end_exchange-stays e.number s (stays refl)))
 
 undialled_disk : (p : Placement) → (undialled p).disk ≡ p.state.disk
 unfolding undialled
