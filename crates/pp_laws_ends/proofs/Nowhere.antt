@@ -35,7 +35,7 @@ found_by : {A : Type 0} (p : A → Bool) (f : A → A) (x : A) (ys zs : Option A
 found_by p f x ys zs true is = refl
 found_by p f x ys zs false is = is
 
-find_mapped : {A : Type 0} (p : A → Bool) (f : A → A) → ((x : A) → p (f x) ≡ p x) → (xs : List A) → find p (map f xs) ≡ option_map f (find p xs)
+pub find_mapped : {A : Type 0} (p : A → Bool) (f : A → A) → ((x : A) → p (f x) ≡ p x) → (xs : List A) → find p (map f xs) ≡ option_map f (find p xs)
 find_mapped p f alike [] = refl
 find_mapped p f alike (x ∷ xs) = ap (λ t. cond t (Some (f x)) (find p (map f xs))) (alike x) ∙ found_by p f x (find p xs) (find p (map f xs)) (p x) (find_mapped p f alike xs)
 
@@ -43,7 +43,7 @@ same_head : (f : Exchange → Exchange) → ((e : Exchange) → (f e).head ≡ e
 same_head f alike None = refl
 same_head f alike (Some e) = ap goes_alone (alike e)
 
-chosen : {A B : Type 0} (g : A → B) (t : Bool) (x y : A) (b : B) → g x ≡ b → g y ≡ b → g (elim t as (λ c. A) [ true ↦ x | false ↦ y ]) ≡ b
+pub chosen : {A B : Type 0} (g : A → B) (t : Bool) (x y : A) (b : B) → g x ≡ b → g y ≡ b → g (elim t as (λ c. A) [ true ↦ x | false ↦ y ]) ≡ b
 chosen g true x y b hx hy = hx
 chosen g false x y b hx hy = hy
 
