@@ -313,7 +313,7 @@ abbrev pub since : Since
 since = record { old = []; counts_loads = false; excepts = None }
 
 -- whose next byte is held has begun
-held_begun : (t : State) → Sound since t → (c : Client) (n : Next) → IsIn c (begin_replies t).clients → next_of (begin_replies t) c ≡ Some n → is_next_held (begin_replies t) n ≡ true → has_to_say (begin_replies t) c ≡ true
+pub held_begun : (t : State) → Sound since t → (c : Client) (n : Next) → IsIn c (begin_replies t).clients → next_of (begin_replies t) c ≡ Some n → is_next_held (begin_replies t) n ≡ true → has_to_say (begin_replies t) c ≡ true
 held_begun t h c n i is held = by p.reply.has_begun refl
   where
     p : Parts (begin_replies t) c n

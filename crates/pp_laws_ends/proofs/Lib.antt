@@ -6,3 +6,5 @@ pub mod Apart
 pub mod Standing
 pub mod Served
 pub mod Undecided
+pub mod Waiting
+pub mod Passing

@@ -72,21 +72,22 @@ askers_served terms s log obeys c i none on room = asks_next (ending s) (all_sta
 
 -- ---- a pipe without room
 
-record Full (c : Client) : Type 0 where
-  passed : Passed
-  is : passed_of c ≡ Some passed
-  full : (room_of passed.pipe == 0) ≡ true
+pub record Full (e : Exchange) (c : Client) : Type 0 where
+  pub its : is_for e c ≡ true
+  pub passed : Passed
+  pub is : passed_of c ≡ Some passed
+  pub full : (room_of passed.pipe == 0) ≡ true
 
-full_of : (e : Exchange) (c : Client) → has_full_pipe e c ≡ true → Full c
-full_of e c is = by (is_for e c) is
+pub full_of : (e : Exchange) (c : Client) → has_full_pipe e c ≡ true → Full e c
+full_of e c is = by (is_for e c) refl is
   where
-    has : (o : Option Passed) → passed_of c ≡ o → is_some_with (λ n. n == 0) (option_map (λ (p : Passed). room_of p.pipe) o) ≡ true → Full c
-    has None none at = absurd (cc at)
-    has (Some p) some at = record { passed = p; is = some; full = at }
+    has : is_for e c ≡ true → (o : Option Passed) → passed_of c ≡ o → is_some_with (λ n. n == 0) (option_map (λ (p : Passed). room_of p.pipe) o) ≡ true → Full e c
+    has its None none at = absurd (cc at)
+    has its (Some p) some at = record { its = its; passed = p; is = some; full = at }
 
-    by : (t : Bool) → is_some_with (λ n. n == 0) (elim t as (λ x. Option ℕ) [ false ↦ None | true ↦ option_map (λ (p : Passed). room_of p.pipe) (passed_of c) ]) ≡ true → Full c
-    by false at = absurd (cc at)
-    by true at = has (passed_of c) refl at
+    by : (t : Bool) → is_for e c ≡ t → is_some_with (λ n. n == 0) (elim t as (λ x. Option ℕ) [ false ↦ None | true ↦ option_map (λ (p : Passed). room_of p.pipe) (passed_of c) ]) ≡ true → Full e c
+    by false isnt at = absurd (cc at)
+    by true its at = has its (passed_of c) refl at
 
 -- so it has bytes
 some_bytes : (p : Pipe) → (room_of p == 0) ≡ true → is_empty p.bytes ≡ false
@@ -110,8 +111,8 @@ amid_of c amid = by (reply_of c) refl amid
     by None none at = absurd (cc at)
     by (Some r) some at = record { reply = r; is = some; begun = first_holds r.has_begun (is_passing r.decision) at; passes = second_holds r.has_begun (is_passing r.decision) at }
 
-part_says : (u : State) (c : Client) (a : Amid c) (f : Full c) → is_empty (reply_part u c) ≡ false
-part_says u c a f =
+part_says : (u : State) (e : Exchange) (c : Client) (a : Amid c) (f : Full e c) → is_empty (reply_part u c) ≡ false
+part_says u e c a f =
     ap (λ o. is_empty (elim o as (λ y. Bytes) [ None ↦ [] | Some x ↦ elim x.has_begun as (λ y. Bytes) [ false ↦ [] | true ↦ x.head_left ++ body_part u c x ] ])) a.is
     ∙ ap (λ b. is_empty (elim b as (λ y. Bytes) [ false ↦ [] | true ↦ a.reply.head_left ++ body_part u c a.reply ])) a.begun
     ∙ some_back a.reply.head_left (body_part u c a.reply) body
@@ -127,7 +128,7 @@ says_full u e c amid full = or_first (not (is_empty (offer u c))) (is_at_body c 
   where
     by : (t : Bool) → is_empty c.interim_left ≡ t → not (is_empty (elim t as (λ y. Bytes) [ false ↦ c.interim_left | true ↦ reply_part u c ])) ≡ true
     by false some = ap not some
-    by true none = ap not (part_says u c (amid_of c amid) (full_of e c full))
+    by true none = ap not (part_says u e c (amid_of c amid) (full_of e c full))
 
 -- ---- connections
 
@@ -201,7 +202,7 @@ unplaced_served terms s log obeys isnt may e i none =
     ap (λ o. elim o as (λ x. Bool) [ None ↦ is_nowhere (place_for (ending s) e) | Some k ↦ not (waits_for_body (ending s) e) || is_some_with (wants_read (wants_of (ending s))) e.asker ]) none
     ∙ ap is_nowhere (no_place terms s log obeys isnt may e i none)
 
-asks_it : (e : Exchange) (c : Client) → is_for e c ≡ true → e.asker ≡ Some c.number
+pub asks_it : (e : Exchange) (c : Client) → is_for e c ≡ true → e.asker ≡ Some c.number
 asks_it e c is = by e.asker is
   where
     by : (o : Option ℕ) → is_this c.number o ≡ true → o ≡ Some c.number

@@ -135,7 +135,7 @@ none_by_stage t c runs going none =
 
 -- ---- so it shares
 
-decides_some : (s : State) (c : Client) → has_request c.front ≡ true → decide s c ≡ None → ⊥
+pub decides_some : (s : State) (c : Client) → has_request c.front ≡ true → decide s c ≡ None → ⊥
 decides_some s c has none = by c.front has none
   where
     by : (f : Front) → has_request f ≡ true → (elim f as (λ x. Option Decision) [ NoHeadYet ↦ None | NoHead status ↦ Some (Refuse status) | IsRequest r ↦ Some (decide_head s c r) ]) ≡ None → ⊥
@@ -282,7 +282,7 @@ undecided_shares : (s : State) → Ends (come_to DecidingAgain s) → (c : Clien
 unfolding ending
 undecided_shares s h c i undecided has = shares_begun (come_to DecidingAgain s) h c i undecided has
 
-waits_so : (u : State) → AllStand u → (c : Client) → IsIn c u.clients → waits_for_exchange u c ≡ true → IsClientServed u c
+pub waits_so : (u : State) → AllStand u → (c : Client) → IsIn c u.clients → waits_for_exchange u c ≡ true → IsClientServed u c
 waits_so u h c i waits = by (has_to_say u c) refl
   where
     silent : has_to_say u c ≡ false → (not (wants_write (wants_of u) c.number) && is_waiting u (wants_of u) c) ≡ true

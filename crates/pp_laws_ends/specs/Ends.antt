@@ -13,7 +13,8 @@ use Rattle.pp_law.specs.Phases.{ending, may_end}
 use Rattle.pp_law.specs.Requests.{has_request}
 use Rattle.pp_law.specs.Served.{accepts, accepts_rightly, has_full_pipe, has_to_ask, is_client_served, is_conn_served, is_exchange_served, is_far_ahead, is_furthest, is_stopped, waits_for_body, wants_no_more, wants_read, wants_write}
 use Rattle.pp_law.specs.Stages.{is_passing, is_undecided, reply_of}
-use Rattle.pp_law.specs.State.{State, DecidingAgain, Term, Client, Conn, Exchange}
+use Rattle.pp_law.specs.State.{State, DecidingAgain, Term, Client, Conn, Exchange, Stage, Undecided, Waiting, Passing, Answering}
+use Rattle.pp_law.specs.Table.{Next, is_provided, next_of}
 use Rattle.pp_laws.specs.Runs.{IsIn}
 use Rattle.pp_obeys.specs.Obeys.{Obeys}
 
@@ -110,6 +111,13 @@ abbrev pub UndecidedAreServed : Type 0
 UndecidedAreServed = (terms : List Term) (s : State) (log : Log) → Obeys terms s log → is_at DecidingAgain s ≡ false → may_end s ≡ true → s.is_stopped ≡ false
     → (c : Client) → IsIn c (ending s).clients → is_undecided c.stage ≡ true → has_request c.front ≡ true → IsClientServed (ending s) c
 
+-- who follows is served where its next byte is there or comes; and who follows nothing, where the exchange of its request is there
+abbrev pub FollowersAreServed : Type 0
+FollowersAreServed = (terms : List Term) (s : State) (log : Log) → Obeys terms s log → (c : Client) (n : Next) → IsIn c (ending s).clients → next_of (ending s) c ≡ Some n → is_provided (ending s) n ≡ true → IsClientServed (ending s) c
+
+abbrev pub OwnersAreServed : Type 0
+OwnersAreServed = (terms : List Term) (s : State) (log : Log) → Obeys terms s log → (c : Client) (e : Exchange) → IsIn c (ending s).clients → IsIn e (ending s).exchanges → next_of (ending s) c ≡ None → is_for e c ≡ true → IsClientServed (ending s) c
+
 -- in the midst of a reply that is passed
 abbrev pub is_amid_passed : Client → Bool
 is_amid_passed c = is_some_with (λ r. r.has_begun && is_passing r.decision) (reply_of c)
@@ -120,6 +128,21 @@ AreAmid s = (e : Exchange) (c : Client) → IsIn e s.exchanges → IsIn c s.clie
 
 abbrev pub ConnectionsAreServed : Type 0
 ConnectionsAreServed = (terms : List Term) (s : State) (log : Log) → Obeys terms s log → AreAmid (ending s) → (k : Conn) → IsIn k (ending s).conns → IsConnServed (ending s) k
+
+-- its request may be answered by what is passed to it
+abbrev pub may_pass : Stage → Bool
+may_pass Undecided = false
+may_pass Waiting = true
+may_pass Passing = true
+may_pass (Answering r) = is_passing r.decision
+
+-- so may that of each whose pipe has no room
+abbrev pub AreToPass : State → Type 0
+AreToPass s = (e : Exchange) (c : Client) → IsIn e s.exchanges → IsIn c s.clients → has_full_pipe e c ≡ true → may_pass c.stage ≡ true
+
+-- where a turn may end that was not at its end before, and Stop was not said
+abbrev pub PassedConnectionsAreServed : Type 0
+PassedConnectionsAreServed = (terms : List Term) (s : State) (log : Log) → Obeys terms s log → is_at DecidingAgain s ≡ false → may_end s ≡ true → s.is_stopped ≡ false → AreToPass (ending s) → (k : Conn) → IsIn k (ending s).conns → IsConnServed (ending s) k
 
 -- an exchange without a place, where a turn may end that was not at its end before; and one that waits for a body that its client may send
 abbrev pub UnplacedAreServed : Type 0

@@ -1,5 +1,5 @@
 // What is permitted at the end of a turn.
-ghost use Rattle.pp_laws_ends.specs.Ends.{AskersAreServed, AsksHaveNoPlace, ConnectionsAreServed, EachStandsAsItIs, FarAheadIsHeldBack, NothingMoreIsWanted, NumbersAreApart, PlacedAreServed, SpeakersAreServed, UndecidedAreServed, UnplacedAreServed};
+ghost use Rattle.pp_laws_ends.specs.Ends.{AskersAreServed, AsksHaveNoPlace, ConnectionsAreServed, EachStandsAsItIs, FarAheadIsHeldBack, FollowersAreServed, NothingMoreIsWanted, NumbersAreApart, OwnersAreServed, PassedConnectionsAreServed, PlacedAreServed, SpeakersAreServed, UndecidedAreServed, UnplacedAreServed};
 
 /// Nothing stands in the wants but what may, and a client is accepted exactly where one may come.
 pub fn nothing_more_is_wanted()
@@ -38,10 +38,18 @@ pub fn clients_are_served()
     ensures undecided { UndecidedAreServed }
 {}
 
+/// Who follows is served where its next byte is there or comes, and who follows nothing where the
+/// exchange of its request is there.
+pub fn waiting_ones_are_served()
+    ensures followers { FollowersAreServed }
+    ensures owners { OwnersAreServed }
+{}
+
 /// Each connection is served where whoever has no room in its pipe is in the midst of the reply that
-/// is passed.
+/// is passed; and where a turn may end it is enough that its request may be answered by that.
 pub fn connections_are_served()
     ensures served { ConnectionsAreServed }
+    ensures passed { PassedConnectionsAreServed }
 {}
 
 /// An exchange without a place is served, and one that has its place where its client may send more.

@@ -13,4 +13,4 @@
 
 mod ends; // what is permitted at the end of a turn
 
-pub use ends::{asks_without_a_place_have_none, clients_are_served, connections_are_served, each_stands_as_it_is, exchanges_are_served, far_ahead_is_held_back, nothing_more_is_wanted, numbers_are_apart};
+pub use ends::{asks_without_a_place_have_none, clients_are_served, connections_are_served, each_stands_as_it_is, exchanges_are_served, far_ahead_is_held_back, nothing_more_is_wanted, numbers_are_apart, waiting_ones_are_served};
