@@ -14,7 +14,7 @@ use Rattle.pp_law.specs.Requests.{goes_alone}
 use Rattle.pp_law.specs.State.{State, Phase, Before, IsWoken, IsConfigured, IsRooted, IsListed, IsListening, IsStuck, Awaiting, Handling, Evicting, Keeping, Deciding, Following, Connecting, DecidingAgain, Term, Conn, Exchange}
 use Rattle.pp_law.specs.Table.{swept}
 use Rattle.pp_laws.specs.Numbers.{AreRising}
-use Rattle.pp_laws.specs.Runs.{IsIn}
+use Rattle.pp_laws.specs.Runs.{IsIn, state_after}
 use Rattle.pp_laws.proofs.Lists.{Changed, changed_at, in_change, in_find, one_of, other, rise_change, same}
 use Rattle.pp_laws.proofs.Sound.{exchange_number, facts_of}
 use Rattle.pp_laws.proofs.Tests.{number_same, same_number, second_holds}
@@ -23,6 +23,7 @@ use Rattle.pp_obeys.specs.Obeys.{Obeys}
 use Rattle.pp_obeys.proofs.Come.{next-phase, onward}
 use Rattle.pp_obeys.proofs.Obeying.{obeys_good, obeys_silently}
 use Rattle.pp_obeys.proofs.Settled.{at_phase}
+use Rattle.pp_laws_turn.proofs.Lifts.{obeying}
 use Rattle.pp_laws_ends.specs.Ends.{AsksHaveNoPlace}
 use Rattle.pp_laws_ends.proofs.Stays.{IsFuller, alone_in, wait_stays}
 
@@ -370,8 +371,14 @@ at_end s h = begun_waits (come_to DecidingAgain s) h
 pub no_place : AsksHaveNoPlace
 no_place terms s log obeys isnt may e i none = at_end s none_there e i none
   where
+    first : Comes terms log (state_after terms log)
+    first = record {
+      obeys = record { lawful = obeys.lawful; goes = record { phases = 0; done = tt; there = refl } };
+      waits = λ at. let both : true ≡ false = sym (ap (is_same_phase DecidingAgain) at) ∙ isnt in absurd (cc both);
+    }
+
     start : Comes terms log s
-    start = record { obeys = obeys; waits = λ at. let both : true ≡ false = sym (ap (is_same_phase DecidingAgain) at) ∙ isnt in absurd (cc both) }
+    start = obeying (Comes terms log) (λ t done h. next_comes t done h) terms s log obeys first
 
     none_there : NoneHasPlace (come_to DecidingAgain s)
     none_there = (come_to_comes DecidingAgain s start).waits (at_phase DecidingAgain (come_to DecidingAgain s) (at_so (is_at DecidingAgain (come_to DecidingAgain s)) (is_done (come_to DecidingAgain s)) may))

@@ -147,4 +147,4 @@ passed_served terms s log obeys isnt may runs passes k i = conns_served terms s 
         record { request = a.request; front = ap (λ (d : Client). d.front) it ∙ a.front; passed = f.passed; is = f.is }
 
     amid : (e : Exchange) (c : Client) → IsIn e (ending s).exchanges → IsIn c (ending s).clients → has_full_pipe e c ≡ true → is_amid_passed c ≡ true
-    amid e c i j full = let f = full_of e c full in amid_ends s (ends_at s isnt may runs) c j (to_it e c i j f) (passes e c i j full)
+    amid e c i j full = let f = full_of e c full in amid_ends s (ends_at terms s log obeys isnt may runs) c j (to_it e c i j f) (passes e c i j full)

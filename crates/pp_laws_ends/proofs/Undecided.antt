@@ -2,6 +2,7 @@
 use Rattle.std.proofs.Common.{◌≡◌, ◌⊎◌, refl, ℕ, ◌-◌, Bool, true, false, not, ◌==◌, ◌&&◌, ◌||◌, nat_lt, List, [], ◌∷◌, map, find, is_some, Option, Some, None, option_map, inl, inr, sym, subst, ap, ap₂, ◌∙◌}
 use Rattle.std.specs.List.{list_any}
 use Rattle.pp_target.specs.Key.{Key, text_of}
+use Rattle.pp_world.specs.Log.{Log}
 use Rattle.pp_world.specs.declared.note.Cause.{Cause}
 use Rattle.pp_world.specs.declared.note.Decision.{Decision}
 use Rattle.pp_world.specs.declared.note.Decision.TheVariants.{Refuse}
@@ -18,19 +19,21 @@ use Rattle.pp_law.specs.Requests.{Front, NoHeadYet, NoHead, IsRequest, has_reque
 use Rattle.pp_law.specs.Served.{is_waiting, wants_read, wants_write}
 use Rattle.pp_law.specs.Sharing.{due_first, due_undecided, has_shared_ask, is_awaited, is_patient, is_shared, is_sharing, may_share, shared_ask}
 use Rattle.pp_law.specs.Stages.{is_begun, is_headed, is_undecided}
-use Rattle.pp_law.specs.State.{State, Shared, Phase, Before, IsWoken, IsConfigured, IsRooted, IsListed, IsListening, IsStuck, Awaiting, Handling, Evicting, Keeping, Deciding, Following, Connecting, DecidingAgain, Client, Exchange, Stage, Undecided, Waiting, Passing, Answering}
+use Rattle.pp_law.specs.State.{State, Term, Shared, Phase, Before, IsWoken, IsConfigured, IsRooted, IsListed, IsListening, IsStuck, Awaiting, Handling, Evicting, Keeping, Deciding, Following, Connecting, DecidingAgain, Client, Exchange, Stage, Undecided, Waiting, Passing, Answering}
 use Rattle.pp_law.specs.Table.{swept}
 use Rattle.pp_law.specs.Turn.{waits_for, waits_for_exchange}
-use Rattle.pp_laws.specs.Runs.{IsIn}
+use Rattle.pp_laws.specs.Runs.{IsIn, state_after}
 use Rattle.pp_laws.proofs.Lists.{From, changed_at}
 use Rattle.pp_laws.proofs.Tests.{first_holds, second_holds}
 use Rattle.pp_laws_bounds.proofs.Places.{placing-any}
+use Rattle.pp_obeys.specs.Obeys.{Obeys}
 use Rattle.pp_obeys.proofs.Come.{next-phase, onward}
 use Rattle.pp_obeys.proofs.Settled.{at_phase}
 use Rattle.pp_obeys.proofs.Frames.{Frame}
 use Rattle.pp_obeys.proofs.Silent.{both_hold}
 use Rattle.pp_obeys.proofs.StaysTurns.{next-frame}
-use Rattle.pp_laws_ends.specs.Ends.{AllStand, IsClientServed, UndecidedAreServed, wants_of}
+use Rattle.pp_laws_turn.proofs.Lifts.{obeying}
+use Rattle.pp_laws_ends.specs.Ends.{AllStand, HasNotEnded, IsClientServed, UndecidedAreServed, wants_of}
 use Rattle.pp_laws_ends.proofs.Ahead.{begun_clients, begun_or, or_first, or_second}
 use Rattle.pp_laws_ends.proofs.Nowhere.{chosen, find_mapped}
 use Rattle.pp_laws_ends.proofs.Served.{speaks}
@@ -262,10 +265,10 @@ come_to_runs : (phase : Phase) (s : State) → (come_to phase s).is_stopped ≡ 
 unfolding come_to
 come_to_runs phase s = come_runs (is_at phase) phases s
 
-pub ends_at : (s : State) → is_at DecidingAgain s ≡ false → may_end s ≡ true → s.is_stopped ≡ false → Ends (come_to DecidingAgain s)
-ends_at s isnt may runs = record {
+pub ends_at : (terms : List Term) (s : State) (log : Log) → Obeys terms s log → HasNotEnded terms log → may_end s ≡ true → s.is_stopped ≡ false → Ends (come_to DecidingAgain s)
+ends_at terms s log obeys isnt may runs = record {
   none = λ c i. none_first t t.clients (nothing (first_due t) (sym (ap (λ (q : Phase). is_done_with q t) at) ∙ w.1)) c i;
-  going = λ c i. none_in t.clients c (come_to_open DecidingAgain s (start_open s isnt) at) i;
+  going = λ c i. none_in t.clients c (come_to_open DecidingAgain s (obeying EndsOpen next_open terms s log obeys (start_open (state_after terms log) isnt)) at) i;
   runs = come_to_runs DecidingAgain s ∙ runs;
 }
   where
@@ -299,4 +302,4 @@ waits_so u h c i waits = by (has_to_say u c) refl
 pub undecided_served : UndecidedAreServed
 undecided_served terms s log obeys isnt may runs c i undecided has =
     waits_so (ending s) (all_stand terms s log obeys) c i
-    (or_second (list_any (waits_for (ending s) c) (ending s).exchanges) (is_sharing (ending s) c) (undecided_shares s (ends_at s isnt may runs) c i undecided has))
+    (or_second (list_any (waits_for (ending s) c) (ending s).exchanges) (is_sharing (ending s) c) (undecided_shares s (ends_at terms s log obeys isnt may runs) c i undecided has))

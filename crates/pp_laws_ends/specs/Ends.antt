@@ -15,7 +15,7 @@ use Rattle.pp_law.specs.Served.{accepts, accepts_rightly, has_full_pipe, has_to_
 use Rattle.pp_law.specs.Stages.{is_passing, is_undecided, reply_of}
 use Rattle.pp_law.specs.State.{State, DecidingAgain, Term, Client, Conn, Exchange, Stage, Undecided, Waiting, Passing, Answering}
 use Rattle.pp_law.specs.Table.{Next, is_provided, next_of}
-use Rattle.pp_laws.specs.Runs.{IsIn}
+use Rattle.pp_laws.specs.Runs.{IsIn, state_after}
 use Rattle.pp_obeys.specs.Obeys.{Obeys}
 
 -- more of the body of its request is to be asked, and was not heard
@@ -48,9 +48,13 @@ wants_of s = record {
 abbrev pub NothingMoreIsWanted : Type 0
 NothingMoreIsWanted = (s : State) → (accepts_rightly s (wants_of s) ≡ true) × (wants_no_more s (wants_of s) ≡ true)
 
--- where a turn may end that was not at its end before, each exchange that has no place then has none to go to
+-- the last happening of the log left the turn before its end
+abbrev pub HasNotEnded : List Term → Log → Type 0
+HasNotEnded terms log = is_at DecidingAgain (state_after terms log) ≡ false
+
+-- where a turn may end then, each exchange that has no place has none to go to
 abbrev pub AsksHaveNoPlace : Type 0
-AsksHaveNoPlace = (terms : List Term) (s : State) (log : Log) → Obeys terms s log → is_at DecidingAgain s ≡ false → may_end s ≡ true
+AsksHaveNoPlace = (terms : List Term) (s : State) (log : Log) → Obeys terms s log → HasNotEnded terms log → may_end s ≡ true
     → (e : Exchange) → IsIn e (ending s).exchanges → e.place ≡ None → place_for (ending s) e ≡ Wait
 
 -- somebody is there who has something to say, and of whose reading the exchange stops: the furthest of those that read its body
@@ -105,10 +109,9 @@ SpeakersAreServed = (terms : List Term) (s : State) (log : Log) → Obeys terms 
 abbrev pub AskersAreServed : Type 0
 AskersAreServed = (terms : List Term) (s : State) (log : Log) → Obeys terms s log → (c : Client) → IsIn c (ending s).clients → has_request c.front ≡ false → c.has_hung_up ≡ false → has_room c ≡ true → IsClientServed (ending s) c
 
--- where a turn may end that was not at its end before, and Stop was not said, who has a request that is not decided waits for what another
--- asked for
+-- where a turn may end then, and Stop was not said, who has a request that is not decided waits for what another asked for
 abbrev pub UndecidedAreServed : Type 0
-UndecidedAreServed = (terms : List Term) (s : State) (log : Log) → Obeys terms s log → is_at DecidingAgain s ≡ false → may_end s ≡ true → s.is_stopped ≡ false
+UndecidedAreServed = (terms : List Term) (s : State) (log : Log) → Obeys terms s log → HasNotEnded terms log → may_end s ≡ true → s.is_stopped ≡ false
     → (c : Client) → IsIn c (ending s).clients → is_undecided c.stage ≡ true → has_request c.front ≡ true → IsClientServed (ending s) c
 
 -- who follows is served where its next byte is there or comes; and who follows nothing, where the exchange of its request is there
@@ -140,13 +143,13 @@ may_pass (Answering r) = is_passing r.decision
 abbrev pub AreToPass : State → Type 0
 AreToPass s = (e : Exchange) (c : Client) → IsIn e s.exchanges → IsIn c s.clients → has_full_pipe e c ≡ true → may_pass c.stage ≡ true
 
--- where a turn may end that was not at its end before, and Stop was not said
+-- where a turn may end then, and Stop was not said
 abbrev pub PassedConnectionsAreServed : Type 0
-PassedConnectionsAreServed = (terms : List Term) (s : State) (log : Log) → Obeys terms s log → is_at DecidingAgain s ≡ false → may_end s ≡ true → s.is_stopped ≡ false → AreToPass (ending s) → (k : Conn) → IsIn k (ending s).conns → IsConnServed (ending s) k
+PassedConnectionsAreServed = (terms : List Term) (s : State) (log : Log) → Obeys terms s log → HasNotEnded terms log → may_end s ≡ true → s.is_stopped ≡ false → AreToPass (ending s) → (k : Conn) → IsIn k (ending s).conns → IsConnServed (ending s) k
 
--- an exchange without a place, where a turn may end that was not at its end before; and one that waits for a body that its client may send
+-- an exchange without a place, where a turn may end then; and one that waits for a body that its client may send
 abbrev pub UnplacedAreServed : Type 0
-UnplacedAreServed = (terms : List Term) (s : State) (log : Log) → Obeys terms s log → is_at DecidingAgain s ≡ false → may_end s ≡ true → (e : Exchange) → IsIn e (ending s).exchanges → e.place ≡ None → IsExchangeServed (ending s) e
+UnplacedAreServed = (terms : List Term) (s : State) (log : Log) → Obeys terms s log → HasNotEnded terms log → may_end s ≡ true → (e : Exchange) → IsIn e (ending s).exchanges → e.place ≡ None → IsExchangeServed (ending s) e
 
 abbrev pub PlacedAreServed : Type 0
 PlacedAreServed = (terms : List Term) (s : State) (log : Log) → Obeys terms s log → (e : Exchange) (c : Client) → IsIn e (ending s).exchanges → IsIn c (ending s).clients → is_some e.place ≡ true → is_for e c ≡ true → c.has_hung_up ≡ false → has_room c ≡ true

@@ -6,8 +6,8 @@ pub fn nothing_more_is_wanted()
     ensures wanted { NothingMoreIsWanted }
 {}
 
-/// Where a turn may end that was not at its end before, each exchange that has no place then has none
-/// to go to.
+/// Where a turn may end that its last happening left before its end, each exchange that has no place
+/// then has none to go to.
 pub fn asks_without_a_place_have_none()
     ensures nowhere { AsksHaveNoPlace }
 {}
