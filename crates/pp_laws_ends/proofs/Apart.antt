@@ -1,5 +1,5 @@
 -- No number is both a client's and a connection's: each new one is above all that were given.
-use Rattle.std.proofs.Common.{◌≡◌, ◌⊎◌, refl, ℕ, zero, suc, ◌+◌, ◌<◌, ◌≤◌, Bool, true, false, not, ◌==◌, ◌&&◌, ◌||◌, List, [], ◌∷◌, ◌++◌, map, filter, drop, length, is_some, Option, Some, None, Result, Ok, Err, inl, inr, sym, subst, ap, ◌∙◌, arith}
+use Rattle.std.proofs.Common.{◌≡◌, ◌⊎◌, refl, ℕ, zero, suc, ◌+◌, ◌<◌, ◌≤◌, Bool, true, false, not, ◌==◌, ◌&&◌, ◌||◌, List, [], ◌∷◌, ◌++◌, map, drop, length, Option, Some, None, Result, Ok, Err, inl, inr, sym, subst, ap, ◌∙◌, arith}
 use Rattle.std.proofs.lemmas.List.{append-nil}
 use Rattle.pp_conf.specs.Conf.{Settings}
 use Rattle.pp_conf.specs.Words.{reading_of}
@@ -22,30 +22,30 @@ use Rattle.pp_world.specs.declared.note.Remark.TheVariants.{Taken, Cut, Kept, Go
 use Rattle.pp_world.specs.declared.note.Remark.{Remark}
 use Rattle.pp_world.specs.declared.op.DiskOp.{DiskOp}
 use Rattle.pp_law.proofs.Prefixes.{front_from}
-use Rattle.pp_law.specs.After.{waits_for_row, new_client, new_conn, event, opened, owing, reached, paid, said, gone, take_decision, evicted, brings_to, dropping_body, refused_row, leave_memory, forgotten_by, noted, begun_op, ended_op, unread, shut, dialled, refused_dial, undialled, out, dropped, changed, after}
+use Rattle.pp_law.specs.After.{waits_for_row, new_client, new_conn, event, opened, owing, reached, paid, said, gone, take_decision, evicted, refused_row, leave_memory, forgotten_by, noted, begun_op, ended_op, unread, shut, dialled, refused_dial, undialled, out, dropped, changed, after}
 use Rattle.pp_law.specs.Chunks.{note_use}
 use Rattle.pp_law.specs.Closing.{close_client, exchanges_of, leave_one, left_alone}
 use Rattle.pp_law.specs.Connections.{client, conn, each_exchange, end_exchange, exchange, front_of_line, is_client, is_conn, may_ask_again, on_client, on_conn, on_exchange, placing, Placement, put_on, without_ask}
 use Rattle.pp_law.specs.Deciding.{begin_exchange, add_exchange}
-use Rattle.pp_law.specs.Closing.{forsake, is_of, leave}
+use Rattle.pp_law.specs.Closing.{forsake, leave}
 use Rattle.pp_law.specs.Lawful.{Lawful}
 use Rattle.pp_law.specs.Leaving.{Leaving, ForAnother, ForMemory, BeforeDecision, leaving_as}
-use Rattle.pp_law.specs.Lists.{Bytes, change}
-use Rattle.pp_law.specs.Opening.{are_texts, begun, configured, is_at, is_opening, lose_in_opening, names_file, opened_to, settings_in, stuck, with_settings, woken}
+use Rattle.pp_law.specs.Lists.{Bytes}
+use Rattle.pp_law.specs.Opening.{are_texts, begun, configured, is_at, is_opening, names_file, opened_to, settings_in, stuck, with_settings, woken}
 use Rattle.pp_law.specs.OwnHeads.{is_wrong_head, key_of, join, join_bound, moved_on, note_own, note_sent}
 use Rattle.pp_law.specs.Passing.{poured}
-use Rattle.pp_law.specs.Permits.{is_new_number, is_permitted, IsPermitted, may_open, may_take, permits, permits_dial}
+use Rattle.pp_law.specs.Permits.{is_new_number, is_permitted, IsPermitted, may_open, permits, permits_dial}
 use Rattle.pp_law.specs.Phases.{phases, in_phase, is_awaiting, is_done, behind, next, come, come_to, come_to_decide, decides, deciding, due_victim, ending}
 use Rattle.pp_law.specs.Replies.{said_by}
 use Rattle.pp_law.specs.Responses.{asks_head, answer_with, end_if_empty, begin_answer, answer_for, bring_row, head_came, is_readable, Piece, is_early, with_unread, bad_head, bad_response, finish, head_piece, deliver, payload_of, body_piece_of, body_piece, next_piece, got}
 use Rattle.pp_law.specs.Connections.{close_conn}
 use Rattle.pp_law.specs.Stages.{bound_of}
-use Rattle.pp_law.specs.State.{State, Term, start, RowRefused, Phase, Before, IsWoken, IsConfigured, IsRooted, IsListed, IsListening, IsStuck, Awaiting, Handling, Evicting, Keeping, Deciding, Following, Connecting, DecidingAgain, Owed, Free, ReadOf, WriteTo, Joining, Answer, Bound, Client, Conn, Exchange, Instance}
+use Rattle.pp_law.specs.State.{State, Term, start, RowRefused, Phase, Before, IsWoken, IsConfigured, IsRooted, IsListed, IsListening, IsStuck, Awaiting, Handling, Evicting, Keeping, Deciding, Following, Connecting, DecidingAgain, Owed, ReadOf, WriteTo, Joining, Answer, Bound, Client, Conn, Exchange, Instance}
 use Rattle.pp_law.specs.Table.{forget, instance, kept_row, row}
 use Rattle.pp_law.specs.Store.{load, load_from}
-use Rattle.pp_law.specs.Turn.{rest_with, tick, touch}
+use Rattle.pp_law.specs.Turn.{rest_with}
 use Rattle.pp_laws.specs.Runs.{state_after, IsIn}
-use Rattle.pp_laws.proofs.Lists.{Changed, changed_at, in_change, in_filter, in_find, in_map, in_push, other, same}
+use Rattle.pp_laws.proofs.Lists.{changed_at, in_filter, in_find, in_map, in_push}
 use Rattle.pp_laws.proofs.Places.{placing-sound}
 use Rattle.pp_laws.proofs.Sound.{Since, Sound, client_number, conn_number, facts_of as sound_facts}
 use Rattle.pp_laws.proofs.Steps.{come_to-sound}
@@ -54,13 +54,13 @@ use Rattle.pp_laws.proofs.Tops.{come_to-top, placing-top}
 use Rattle.pp_laws_pool.proofs.Along.{Steps, along}
 use Rattle.pp_obeys.specs.Obeys.{Obeys}
 use Rattle.pp_obeys.proofs.Obeying.{log-good}
-use Rattle.pp_laws_turn.proofs.View.{View, Walk, Begins, Follows, Holds, MovesOn, Places, SameAsk, SameClient, Lesser, SameRequest, facts_of, holds, is_late, view}
+use Rattle.pp_laws_turn.proofs.View.{View, Walk, Begins, Follows, Holds, Places, SameAsk, facts_of, holds, is_late, view}
 use Rattle.pp_laws_turn.proofs.Cases.{by_aim_of, by_outcome, by_pause, each_of, each_so, when}
 use Rattle.pp_laws_turn.proofs.Clients.{ask-keeps, begin_replies-keeps, close_client-keeps, decided-keeps, end_replies-keeps, fill-keeps, give_up_asks-keeps, hang_up-keeps, hear-keeps, pour-keeps, regained-keeps, use_said-keeps}
 use Rattle.pp_laws_turn.proofs.Closings.{close_conn-keeps}
 use Rattle.pp_laws_turn.proofs.Disk.{begin_in_opening-keeps, begin_in_turn-keeps, close_name-keeps, end_op-keeps, lose_in_opening-keeps, note_gone-keeps, note_kept-keeps}
-use Rattle.pp_laws_turn.proofs.Exchanges.{clients_changed-keeps, end_exchange-keeps, exchanges_changed-keeps, lose_attempt-keeps, on_client-keeps, on_conn-keeps, on_exchange-keeps, same_ask, same_conn, same_parts}
-use Rattle.pp_laws_turn.proofs.Happenings.{asked_placed, gate, taken_going, taken_so}
+use Rattle.pp_laws_turn.proofs.Exchanges.{end_exchange-keeps, lose_attempt-keeps, on_client-keeps, on_conn-keeps, on_exchange-keeps, same_ask, same_conn}
+use Rattle.pp_laws_turn.proofs.Happenings.{asked_placed, taken_going, taken_so}
 use Rattle.pp_laws_turn.proofs.Heads.{by_aim-keeps}
 use Rattle.pp_laws_turn.proofs.Lifts.{Stays, obeying}
 use Rattle.pp_laws_turn.proofs.Pieces.{bad_head-keeps, bad_response-keeps, ended-keeps, finish-keeps}

@@ -3,15 +3,15 @@ use Rattle.std.proofs.Common.{◌≡◌, ◌⊎◌, refl, Bool, true, false, not
 use Rattle.pp_world.specs.declared.note.Decision.{Decision}
 use Rattle.pp_world.specs.declared.note.Decision.TheVariants.{Pass}
 use Rattle.pp_reply.specs.Keeping.{is_end_known}
-use Rattle.pp_law.specs.Connections.{is_client, is_for}
+use Rattle.pp_law.specs.Connections.{is_client}
 use Rattle.pp_law.specs.Decisions.{decide}
 use Rattle.pp_law.specs.Due.{due_by_stage, due_reply, give_up, is_told}
 use Rattle.pp_law.specs.Phases.{come_to, ending}
-use Rattle.pp_law.specs.Replies.{begin_replies, begun_at_end, begun_by, begun_decided, begun_instance, begun_passed, passed_reply}
+use Rattle.pp_law.specs.Replies.{begun_at_end, begun_by, begun_decided, begun_instance, begun_passed, passed_reply}
 use Rattle.pp_law.specs.Requests.{Parsed, NoHeadYet, NoHead, IsRequest, has_request, keeps_open}
 use Rattle.pp_law.specs.Served.{has_full_pipe}
 use Rattle.pp_law.specs.Sharing.{due_undecided}
-use Rattle.pp_law.specs.Stages.{is_begun, is_passing, passed_of, reply_of}
+use Rattle.pp_law.specs.Stages.{is_begun, is_passing, passed_of}
 use Rattle.pp_law.specs.State.{State, Awaited, Useless, Joins, Passes, TooWide, Brought, Course, Trying, OutOfTries, AskTooLong, RowRefused, DecidingAgain, Client, Exchange, Passed, Reply, Stage, Undecided, Waiting, Passing, Answering}
 use Rattle.pp_laws.specs.Runs.{IsIn}
 use Rattle.pp_laws.proofs.Lists.{From, in_find, one_of}
@@ -23,8 +23,8 @@ use Rattle.pp_laws_turn.proofs.Laws.{has_asker}
 use Rattle.pp_laws_turn.proofs.Lifts.{turn_on}
 use Rattle.pp_laws_turn.proofs.View.{facts_of as turn_facts}
 use Rattle.pp_obeys.proofs.Obeying.{obeys_good}
-use Rattle.pp_laws_ends.specs.Ends.{AreToPass, PassedConnectionsAreServed, is_amid_passed, may_pass}
-use Rattle.pp_laws_ends.proofs.Ahead.{begun_clients, begun_or, since}
+use Rattle.pp_laws_ends.specs.Ends.{PassedConnectionsAreServed, is_amid_passed, may_pass}
+use Rattle.pp_laws_ends.proofs.Ahead.{begun_clients, begun_or}
 use Rattle.pp_laws_ends.proofs.Served.{Full, asks_it, conns_served, full_of}
 use Rattle.pp_laws_ends.proofs.Undecided.{Ends, decides_some, ends_at, none_by_stage}
 

@@ -1,15 +1,15 @@
 -- Who has something to say and who may send a request is served, and each connection whose full pipe is that of a reply that is passed.
-use Rattle.std.proofs.Common.{◌≡◌, ◌⊎◌, refl, ℕ, ◌-◌, Bool, true, false, not, ◌==◌, ◌&&◌, ◌||◌, List, [], ◌∷◌, ◌++◌, length, is_some, Option, Some, None, option_map, inl, inr, sym, subst, ap, ap₂, ◌∙◌}
+use Rattle.std.proofs.Common.{◌≡◌, refl, ℕ, ◌-◌, Bool, true, false, not, ◌==◌, ◌&&◌, ◌||◌, List, [], ◌∷◌, ◌++◌, length, is_some, Option, Some, None, option_map, inl, inr, ap, ◌∙◌}
 use Rattle.std.specs.List.{list_any}
 use Rattle.pp_pass.specs.Pipe.{Pipe, coding_len, pipe_len, room_of}
 use Rattle.pp_text.specs.Bytes.{is_empty}
-use Rattle.pp_law.specs.Asking.{has_room, left_to_ask, pipe_room}
+use Rattle.pp_law.specs.Asking.{has_room}
 use Rattle.pp_law.specs.Connections.{exchange, front_of_line, is_exchange, is_for, is_outstanding, place_for}
 use Rattle.pp_law.specs.Lists.{Bytes, is_some_with, is_this}
 use Rattle.pp_law.specs.Offers.{body_part, has_to_say, is_at_body, offer, passed_part, piece, reply_part}
 use Rattle.pp_law.specs.Phases.{ending}
 use Rattle.pp_law.specs.Requests.{has_request}
-use Rattle.pp_law.specs.Served.{has_full_pipe, has_to_ask, is_conn_served, is_far_ahead, is_furthest, is_held_back, is_nowhere, is_stopped, is_waiting, reads_first, reads_rightly, same, waits_for_body, wants_read, wants_write}
+use Rattle.pp_law.specs.Served.{has_full_pipe, has_to_ask, is_far_ahead, is_furthest, is_held_back, is_nowhere, is_stopped, is_waiting, reads_first, reads_rightly, same, waits_for_body, wants_read, wants_write}
 use Rattle.pp_law.specs.Stages.{is_passing, passed_of, reply_of}
 use Rattle.pp_law.specs.State.{State, Client, Conn, Exchange, Passed, Reply}
 use Rattle.pp_law.specs.Table.{is_next_held, next_of}
@@ -18,7 +18,7 @@ use Rattle.pp_laws.specs.Runs.{IsIn}
 use Rattle.pp_laws.proofs.Lists.{in_find}
 use Rattle.pp_laws.proofs.Tests.{first_holds, same_number, second_holds}
 use Rattle.pp_obeys.proofs.Silent.{both_hold}
-use Rattle.pp_laws_ends.specs.Ends.{AllStand, AreAmid, AskersAreServed, ConnectionsAreServed, IsClientServed, IsConnServed, IsExchangeServed, IsHeldBackBy, PlacedAreServed, SpeakersAreServed, UnplacedAreServed, is_amid_passed, owes_body, reads_client, reads_conn, wants_of, writes_conn}
+use Rattle.pp_laws_ends.specs.Ends.{AllStand, AreAmid, AskersAreServed, ConnectionsAreServed, IsClientServed, IsConnServed, IsExchangeServed, IsHeldBackBy, PlacedAreServed, SpeakersAreServed, UnplacedAreServed, is_amid_passed, owes_body, reads_conn, wants_of}
 use Rattle.pp_laws_ends.proofs.Ahead.{far_ahead, or_first, or_second}
 use Rattle.pp_laws_ends.proofs.Nowhere.{no_place}
 use Rattle.pp_laws_ends.proofs.Standing.{all_stand}

@@ -7,7 +7,7 @@ use Rattle.pp_world.specs.declared.note.Cause.{Cause}
 use Rattle.pp_world.specs.declared.note.Decision.{Decision}
 use Rattle.pp_world.specs.declared.note.Decision.TheVariants.{Refuse}
 use Rattle.pp_law.specs.Closing.{forsake, left_alone}
-use Rattle.pp_law.specs.Connections.{is_for, on_conn, on_exchange, placing, put_on}
+use Rattle.pp_law.specs.Connections.{on_conn, on_exchange, placing, put_on}
 use Rattle.pp_law.specs.Decisions.{decide, decide_head}
 use Rattle.pp_law.specs.Due.{Due, CutOff, Decide, due_by_stage, due_cut, due_decision, due_of, first_due, give_up, is_told, due_reply}
 use Rattle.pp_law.specs.Lists.{Bytes, first_some}
@@ -17,14 +17,14 @@ use Rattle.pp_law.specs.Phases.{behind, come, come_to, ending, in_phase, is_done
 use Rattle.pp_law.specs.Replies.{begin_replies, begun_at_end, is_outrun}
 use Rattle.pp_law.specs.Requests.{Front, NoHeadYet, NoHead, IsRequest, has_request, key_in}
 use Rattle.pp_law.specs.Served.{is_waiting, wants_read, wants_write}
-use Rattle.pp_law.specs.Sharing.{due_first, due_undecided, has_shared_ask, is_awaited, is_patient, is_shared, is_sharing, may_share, shared_ask}
+use Rattle.pp_law.specs.Sharing.{due_first, due_undecided, has_shared_ask, is_patient, is_shared, is_sharing, may_share, shared_ask}
 use Rattle.pp_law.specs.Stages.{is_begun, is_headed, is_undecided}
 use Rattle.pp_law.specs.State.{State, Term, Shared, Phase, Before, IsWoken, IsConfigured, IsRooted, IsListed, IsListening, IsStuck, Awaiting, Handling, Evicting, Keeping, Deciding, Following, Connecting, DecidingAgain, Client, Exchange, Stage, Undecided, Waiting, Passing, Answering}
 use Rattle.pp_law.specs.Table.{swept}
 use Rattle.pp_law.specs.Turn.{waits_for, waits_for_exchange}
 use Rattle.pp_laws.specs.Runs.{IsIn, state_after}
 use Rattle.pp_laws.proofs.Lists.{From, changed_at}
-use Rattle.pp_laws.proofs.Tests.{first_holds, second_holds}
+use Rattle.pp_laws.proofs.Tests.{second_holds}
 use Rattle.pp_laws_bounds.proofs.Places.{placing-any}
 use Rattle.pp_obeys.specs.Obeys.{Obeys}
 use Rattle.pp_obeys.proofs.Come.{next-phase, onward}
@@ -34,7 +34,7 @@ use Rattle.pp_obeys.proofs.Silent.{both_hold}
 use Rattle.pp_obeys.proofs.StaysTurns.{next-frame}
 use Rattle.pp_laws_turn.proofs.Lifts.{obeying}
 use Rattle.pp_laws_ends.specs.Ends.{AllStand, HasNotEnded, IsClientServed, UndecidedAreServed, wants_of}
-use Rattle.pp_laws_ends.proofs.Ahead.{begun_clients, begun_or, or_first, or_second}
+use Rattle.pp_laws_ends.proofs.Ahead.{begun_clients, begun_or, or_second}
 use Rattle.pp_laws_ends.proofs.Nowhere.{chosen, find_mapped}
 use Rattle.pp_laws_ends.proofs.Served.{speaks}
 use Rattle.pp_laws_ends.proofs.Standing.{all_stand}

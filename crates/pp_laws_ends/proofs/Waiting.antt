@@ -1,5 +1,5 @@
 -- Who follows is served where its next byte is there or comes, and who follows nothing while the exchange of its request is there.
-use Rattle.std.proofs.Common.{◌≡◌, refl, Bool, true, false, ◌||◌, Option, Some, None, sym, ap, ◌∙◌}
+use Rattle.std.proofs.Common.{◌≡◌, refl, Bool, true, false, ◌||◌, Some, None, ap, ◌∙◌}
 use Rattle.std.specs.List.{list_any}
 use Rattle.pp_law.specs.Connections.{is_for}
 use Rattle.pp_law.specs.Offers.{has_to_say}
