@@ -123,11 +123,11 @@ parts_of u c n is = by c.is_closing refl is
 
 -- ---- a reply that has begun
 
-or_first : (a b : Bool) → a ≡ true → (a || b) ≡ true
+pub or_first : (a b : Bool) → a ≡ true → (a || b) ≡ true
 or_first true b is = refl
 or_first false b is = absurd (cc is)
 
-or_second : (a b : Bool) → b ≡ true → (a || b) ≡ true
+pub or_second : (a b : Bool) → b ≡ true → (a || b) ≡ true
 or_second true b is = refl
 or_second false b is = is
 
@@ -200,7 +200,7 @@ by_or s q c = by c.stage
     by Passing = passed_or s q Pass c
     by (Answering r) = answered r r.has_begun
 
-begun_or : (s : State) (c : Client) → (begun_at_end s c ≡ c) ⊎ (is_begun (begun_at_end s c) ≡ true)
+pub begun_or : (s : State) (c : Client) → (begun_at_end s c ≡ c) ⊎ (is_begun (begun_at_end s c) ≡ true)
 begun_or s c = by c.is_closing
   where
     asked : (f : Front) → ((elim f as (λ y. Client) [ NoHeadYet ↦ c | NoHead status ↦ c | IsRequest q ↦ begun_by s q c ]) ≡ c) ⊎ (is_begun (elim f as (λ y. Client) [ NoHeadYet ↦ c | NoHead status ↦ c | IsRequest q ↦ begun_by s q c ]) ≡ true)
@@ -305,15 +305,15 @@ front_asks NoHeadYet key is = absurd (cc is)
 front_asks (NoHead status) key is = absurd (cc is)
 front_asks (IsRequest q) key is = (q, refl)
 
-begun_clients : (t : State) (c : Client) → IsIn c (begin_replies t).clients → From (begun_at_end t) t.clients c
+pub begun_clients : (t : State) (c : Client) → IsIn c (begin_replies t).clients → From (begun_at_end t) t.clients c
 unfolding begin_replies swept forsake
 begun_clients t c i = in_map (begun_at_end t) c t.clients i
 
-abbrev since : Since
+abbrev pub since : Since
 since = record { old = []; counts_loads = false; excepts = None }
 
 -- whose next byte is held has begun
-held_begun : (t : State) → Sound since t → (c : Client) (n : Next) → IsIn c (begin_replies t).clients → next_of (begin_replies t) c ≡ Some n → is_next_held (begin_replies t) n ≡ true → has_to_say (begin_replies t) c ≡ true
+pub held_begun : (t : State) → Sound since t → (c : Client) (n : Next) → IsIn c (begin_replies t).clients → next_of (begin_replies t) c ≡ Some n → is_next_held (begin_replies t) n ≡ true → has_to_say (begin_replies t) c ≡ true
 held_begun t h c n i is held = by p.reply.has_begun refl
   where
     p : Parts (begin_replies t) c n

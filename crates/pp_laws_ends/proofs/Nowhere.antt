@@ -14,7 +14,7 @@ use Rattle.pp_law.specs.Requests.{goes_alone}
 use Rattle.pp_law.specs.State.{State, Phase, Before, IsWoken, IsConfigured, IsRooted, IsListed, IsListening, IsStuck, Awaiting, Handling, Evicting, Keeping, Deciding, Following, Connecting, DecidingAgain, Term, Conn, Exchange}
 use Rattle.pp_law.specs.Table.{swept}
 use Rattle.pp_laws.specs.Numbers.{AreRising}
-use Rattle.pp_laws.specs.Runs.{IsIn}
+use Rattle.pp_laws.specs.Runs.{IsIn, state_after}
 use Rattle.pp_laws.proofs.Lists.{Changed, changed_at, in_change, in_find, one_of, other, rise_change, same}
 use Rattle.pp_laws.proofs.Sound.{exchange_number, facts_of}
 use Rattle.pp_laws.proofs.Tests.{number_same, same_number, second_holds}
@@ -23,6 +23,7 @@ use Rattle.pp_obeys.specs.Obeys.{Obeys}
 use Rattle.pp_obeys.proofs.Come.{next-phase, onward}
 use Rattle.pp_obeys.proofs.Obeying.{obeys_good, obeys_silently}
 use Rattle.pp_obeys.proofs.Settled.{at_phase}
+use Rattle.pp_laws_turn.proofs.Lifts.{obeying}
 use Rattle.pp_laws_ends.specs.Ends.{AsksHaveNoPlace}
 use Rattle.pp_laws_ends.proofs.Stays.{IsFuller, alone_in, wait_stays}
 
@@ -35,7 +36,7 @@ found_by : {A : Type 0} (p : A → Bool) (f : A → A) (x : A) (ys zs : Option A
 found_by p f x ys zs true is = refl
 found_by p f x ys zs false is = is
 
-find_mapped : {A : Type 0} (p : A → Bool) (f : A → A) → ((x : A) → p (f x) ≡ p x) → (xs : List A) → find p (map f xs) ≡ option_map f (find p xs)
+pub find_mapped : {A : Type 0} (p : A → Bool) (f : A → A) → ((x : A) → p (f x) ≡ p x) → (xs : List A) → find p (map f xs) ≡ option_map f (find p xs)
 find_mapped p f alike [] = refl
 find_mapped p f alike (x ∷ xs) = ap (λ t. cond t (Some (f x)) (find p (map f xs))) (alike x) ∙ found_by p f x (find p xs) (find p (map f xs)) (p x) (find_mapped p f alike xs)
 
@@ -43,7 +44,7 @@ same_head : (f : Exchange → Exchange) → ((e : Exchange) → (f e).head ≡ e
 same_head f alike None = refl
 same_head f alike (Some e) = ap goes_alone (alike e)
 
-chosen : {A B : Type 0} (g : A → B) (t : Bool) (x y : A) (b : B) → g x ≡ b → g y ≡ b → g (elim t as (λ c. A) [ true ↦ x | false ↦ y ]) ≡ b
+pub chosen : {A B : Type 0} (g : A → B) (t : Bool) (x y : A) (b : B) → g x ≡ b → g y ≡ b → g (elim t as (λ c. A) [ true ↦ x | false ↦ y ]) ≡ b
 chosen g true x y b hx hy = hx
 chosen g false x y b hx hy = hy
 
@@ -370,8 +371,14 @@ at_end s h = begun_waits (come_to DecidingAgain s) h
 pub no_place : AsksHaveNoPlace
 no_place terms s log obeys isnt may e i none = at_end s none_there e i none
   where
+    first : Comes terms log (state_after terms log)
+    first = record {
+      obeys = record { lawful = obeys.lawful; goes = record { phases = 0; done = tt; there = refl } };
+      waits = λ at. let both : true ≡ false = sym (ap (is_same_phase DecidingAgain) at) ∙ isnt in absurd (cc both);
+    }
+
     start : Comes terms log s
-    start = record { obeys = obeys; waits = λ at. let both : true ≡ false = sym (ap (is_same_phase DecidingAgain) at) ∙ isnt in absurd (cc both) }
+    start = obeying (Comes terms log) (λ t done h. next_comes t done h) terms s log obeys first
 
     none_there : NoneHasPlace (come_to DecidingAgain s)
     none_there = (come_to_comes DecidingAgain s start).waits (at_phase DecidingAgain (come_to DecidingAgain s) (at_so (is_at DecidingAgain (come_to DecidingAgain s)) (is_done (come_to DecidingAgain s)) may))

@@ -22,7 +22,7 @@ all_of p (x ∷ xs) each = both (p x) (list_all p xs) (each x (inl refl)) (all_o
     both true b is rest = rest
     both false b is rest = absurd (cc is)
 
-or_true : (a b : Bool) → (a ≡ true) ⊎ (b ≡ true) → (a || b) ≡ true
+pub or_true : (a b : Bool) → (a ≡ true) ⊎ (b ≡ true) → (a || b) ≡ true
 or_true true b o = refl
 or_true false b (inl is) = absurd (cc is)
 or_true false b (inr is) = is
@@ -32,12 +32,12 @@ any_of p x [] i is = absurd i
 any_of p x (y ∷ ys) (inl e) is = or_true (p y) (list_any p ys) (inl (ap p (sym e) ∙ is))
 any_of p x (y ∷ ys) (inr i) is = or_true (p y) (list_any p ys) (inr (any_of p x ys i is))
 
-and_true : (a b : Bool) → a ≡ true → b ≡ true → (a && b) ≡ true
+pub and_true : (a b : Bool) → a ≡ true → b ≡ true → (a && b) ≡ true
 and_true true b is more = more
 and_true false b is more = absurd (cc is)
 
 -- a number of theirs is that of a client or of a connection
-of_one : (p : Client → Bool) (q : Conn → Bool) (s : State) (n : ℕ) → IsIn n (numbers_of p q s)
+pub of_one : (p : Client → Bool) (q : Conn → Bool) (s : State) (n : ℕ) → IsIn n (numbers_of p q s)
     → ((c : Client) × IsIn c s.clients × (p c ≡ true) × (n ≡ c.number)) ⊎ ((k : Conn) × IsIn k s.conns × (q k ≡ true) × (n ≡ k.number))
 of_one p q s n i = by (in_append n (map (λ (c : Client). c.number) (filter p s.clients)) (map (λ (k : Conn). k.number) (filter q s.conns)) i)
   where
@@ -85,7 +85,7 @@ writes s n i = by (of_one (has_to_say s) (writes_conn s) s n i)
     by (inr w) = or_true (list_any (λ c. is_client n c && has_to_say s c) s.clients) (list_any (λ k. is_conn n k && k.is_reached && has_to_ask s k) s.conns)
         (inr (any_of (λ k. is_conn n k && k.is_reached && has_to_ask s k) w.0 s.conns w.1 (conn_writes w.0 w.3 w.2)))
 
-same_self : (t : Bool) → same t t ≡ true
+pub same_self : (t : Bool) → same t t ≡ true
 same_self true = refl
 same_self false = refl
 

@@ -421,7 +421,7 @@ due_going s n i d is = by (first_due s) refl is
         let v = decided_going s w.0 m j x w.2 in
         (w.0, w.1, v.0 ∙ same_number m n (first_holds (m == n) (j == i) (first_holds ((m == n) && (j == i)) (is_same_decision x d || (is_same_decision d (Refuse 500) && may_want_memory s n)) at)), v.1)
 
-taken_going : {b : Since} (s : State) (n i : ℕ) (d : Decision) → Sound b s → permits_taken s n i d ≡ true → (c : Client) → client (deciding s) n ≡ Some c → c.is_closing ≡ false
+pub taken_going : {b : Since} (s : State) (n i : ℕ) (d : Decision) → Sound b s → permits_taken s n i d ≡ true → (c : Client) → client (deciding s) n ≡ Some c → c.is_closing ≡ false
 unfolding deciding
 taken_going s n i d so may c found =
     let t : State = come_to_decide s in
@@ -748,7 +748,7 @@ awaiting_early : (s : State) → is_awaiting s ≡ true → is_late s.phase ≡ 
 awaiting_early s at = ap is_late (at_phase Awaiting s at)
 
 -- what is asked of stands in the line of its connection
-asked_placed : {b : Since} (s : State) (n : ℕ) → Sound b s → (e : Exchange) → asking s n ≡ Some e → HasPlace e.number s.exchanges
+pub asked_placed : {b : Since} (s : State) (n : ℕ) → Sound b s → (e : Exchange) → asking s n ≡ Some e → HasPlace e.number s.exchanges
 asked_placed {b} s n so e is = by (conn s n) refl is
   where
     f : FactsOf b s
@@ -768,7 +768,7 @@ asked_placed {b} s n so e is = by (conn s n) refl is
         let both : None ≡ Some k.number = sym none ∙ f.placed k x (in_find (is_conn n) k s.conns some).0 i lined in
         cc both
 
-taken_so : (s : State) (n i : ℕ) (d : Decision) → IsPermitted s (Noted (Taken n i d)) → permits_taken s n i d ≡ true
+pub taken_so : (s : State) (n i : ℕ) (d : Decision) → IsPermitted s (Noted (Taken n i d)) → permits_taken s n i d ≡ true
 unfolding is_permitted permits
 taken_so s n i d is = by s.has_made_room is
   where
