@@ -7,9 +7,10 @@ use Rattle.pp_flow_law.proofs.Entries.{none_some}
 use Rattle.pp_flow_law.specs.Frames.{emptied}
 use Rattle.pp_law.specs.Connections.{close_conn, conn, each_exchange, end_exchange, exchange, is_conn, is_for, leave_place, lose_place, may_ask_again, on_client_of, on_conn, on_exchange, unplaced, without_ask}
 use Rattle.pp_law.specs.Lists.{has_number}
-use Rattle.pp_law.specs.Stages.{is_headed, on_passed, passed_of, reply_of}
+use Rattle.pp_law.specs.Stages.{is_headed, on_passed, passed_of}
 use Rattle.pp_law.specs.State.{State, Client, Conn, Exchange, Passed, Passes, Reply}
 use Rattle.pp_law.specs.Unseen.{came_of}
+use Rattle.pp_closings_law.proofs.Following.{replying}
 
 -- ---- each connection that is there was there, and no exchange comes to its line
 
@@ -20,7 +21,7 @@ pub record HadConn (s : State) (n : ℕ) (k : Conn) : Type 0 where
 
 pub record Stays (s t : State) : Type 0 where
   pub instances : t.instances ≡ s.instances
-  pub replies : map (λ c. reply_of c) t.clients ≡ map (λ c. reply_of c) s.clients
+  pub replies : map replying t.clients ≡ map replying s.clients
   pub conns : (n : ℕ) (k : Conn) → conn t n ≡ Some k → HadConn s n k
 
 same_conn : (s : State) (n : ℕ) (k : Conn) → conn s n ≡ Some k → HadConn s n k
@@ -83,21 +84,21 @@ over n s = record {
 abbrev cut_off : Passed → Passed
 cut_off p = record p { is_short = true }
 
-reply_cut : (c : Client) → reply_of (on_passed cut_off c) ≡ reply_of c
+reply_cut : (c : Client) → replying (on_passed cut_off c) ≡ replying c
 reply_cut c = by (passed_of c)
   where
-    by : (o : Option Passed) → reply_of (elim o as (λ t. Client) [ None ↦ c | Some p ↦ record c { brought = Passes (cut_off p) } ]) ≡ reply_of c
+    by : (o : Option Passed) → replying (elim o as (λ t. Client) [ None ↦ c | Some p ↦ record c { brought = Passes (cut_off p) } ]) ≡ replying c
     by None = refl
     by (Some p) = refl
 
 abbrev cut_if : Exchange → Client → Client
 cut_if e c = elim (is_for e c) as (λ t. Client) [ true ↦ on_passed cut_off c | false ↦ c ]
 
-replies_cut : (e : Exchange) (cs : List Client) → map (λ (c : Client). reply_of c) (map (cut_if e) cs) ≡ map (λ (c : Client). reply_of c) cs
+replies_cut : (e : Exchange) (cs : List Client) → map replying (map (cut_if e) cs) ≡ map replying cs
 replies_cut e [] = refl
-replies_cut e (c ∷ cs) = ap₂ (λ (o : Option Reply) (os : List (Option Reply)). o ∷ os) (by (is_for e c)) (replies_cut e cs)
+replies_cut e (c ∷ cs) = ap₂ (λ (r : Bool × Option Reply) (rs : List (Bool × Option Reply)). r ∷ rs) (by (is_for e c)) (replies_cut e cs)
   where
-    by : (b : Bool) → reply_of (elim b as (λ t. Client) [ true ↦ on_passed cut_off c | false ↦ c ]) ≡ reply_of c
+    by : (b : Bool) → replying (elim b as (λ t. Client) [ true ↦ on_passed cut_off c | false ↦ c ]) ≡ replying c
     by true = reply_cut c
     by false = refl
 

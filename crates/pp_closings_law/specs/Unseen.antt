@@ -15,7 +15,7 @@ use Rattle.pp_closings_law.specs.Sides.{OfSides, ShowsSides}
 abbrev pub IsCountedOn : Exchanges → Conn → Type 0
 IsCountedOn f k = (m : ℕ) (e : Entry) → has_number m k.line ≡ true → entry_of m f ≡ Some e → IsCounted e.errand.body k
 
--- and what each client follows is there
+-- and what each client that goes on follows is there
 pub record Tells (x : Sides) (s : State) : Type 0 where
   pub following : AreFollowing x.parts.cache s x.parts.seats s.clients
   pub counted : (n : ℕ) (k : Conn) → conn s n ≡ Some k → IsCountedOn x.parts.flow k

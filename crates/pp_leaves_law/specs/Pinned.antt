@@ -19,8 +19,8 @@ abbrev pub AreNear : List Seat → Type 0
 AreNear [] = ⊤
 AreNear (seat ∷ seats) = IfSome (next_of seat) (λ x. x.at / 4096 < 2 ^ 32) × AreNear seats
 
--- what each of the clients follows is there. No more chunks are pinned than there is room for; and each has a number that the pool can
--- give, which is so of each version that is held: it has no more than 1 GiB
+-- what each of the clients that go on follows is there. No more chunks are pinned than there is room for; and each has a number that
+-- the pool can give, which is so of each version that is held: it has no more than 1 GiB
 pub record ArePinnable (st : Steps) (s : State) : Type 0 where
   pub following : AreFollowing st.cache s st.seats.items s.clients
   pub clients : AreNear st.seats.items

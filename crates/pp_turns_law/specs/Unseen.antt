@@ -1,5 +1,5 @@
 -- What nobody will see is what nobody will see by the law (RFC 2616, section 8.1.4).
-use Rattle.std.specs.Prelude.{◌≡◌, ℕ, true, List, [], ◌∷◌, Some, IfSome, ⊤}
+use Rattle.std.specs.Prelude.{◌≡◌, ℕ, true, false, List, [], ◌∷◌, Some, IfSome, ⊤}
 use Rattle.pp_cache.specs.Memory.{Memory}
 use Rattle.pp_flow.specs.Changes.{entry_of}
 use Rattle.pp_flow.specs.declared.entry.Entry.{Entry}
@@ -15,10 +15,10 @@ use Rattle.pp_seats_law.specs.Words.{HasSource}
 use Rattle.pp_state.specs.Unseen.{is_nobodys}
 use Rattle.pp_steps_law.specs.Steps.{OfSteps}
 
--- what each of the clients follows is there
+-- what each of the clients that go on follows is there
 abbrev pub AreFollowing : Memory → State → List Seat → List Client → Type 0
 AreFollowing m s [] [] = ⊤
-AreFollowing m s (seat ∷ seats) (c ∷ cs) = IfSome (next_of seat) (λ x. is_there x.source m.instances ≡ true) × HasSource s c × AreFollowing m s seats cs
+AreFollowing m s (seat ∷ seats) (c ∷ cs) = IfSome (next_of seat) (λ x. is_there x.source m.instances ≡ true) × (c.is_closing ≡ false → HasSource s c) × AreFollowing m s seats cs
 AreFollowing m s seats cs = ⊥
 
 -- as much is counted of what is dropped as came behind the head of the response
