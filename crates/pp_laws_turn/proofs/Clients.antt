@@ -61,7 +61,7 @@ refuse-keeps : {P : View → Type 0} (w : Walk P) (c : Client) (status : ℕ) (s
 unfolding refuse
 refuse-keeps w c status s h = swept-keeps w.rows _ (leave-keeps w (is_of c.number) _ (on_client-keeps w c.number (refused_with status) s (refused_with-same status) h))
 
-pub begin_exchange-keeps : {P : View → Type 0} (b : Begins P) (e : Exchange) (s : State) → IsNew e s.clients → Holds P s → Holds P (begin_exchange e s)
+pub begin_exchange-keeps : {P : View → Type 0} (b : Begins P) (e : Exchange) (s : State) → IsNew e s.clients s.next_exchange → Holds P s → Holds P (begin_exchange e s)
 begin_exchange-keeps b e s is_new h = holds (b e s is_new (facts_of h))
 
 -- the client is there, and goes on
@@ -78,6 +78,7 @@ ask_for-keeps w b c d r key kind s front there h =
     swept-keeps w.rows _
     (begin_exchange-keeps b (new_exchange s c r.head key d kind) _
     (record {
+      number = refl;
       place = refl;
       asked = refl;
       asker = c.number;
@@ -201,7 +202,7 @@ regained-keeps w s h = holds (w.clients (regained_by s) (regained_by-same s) (vi
 
 -- ---- what followers ask for
 
-fill_with-keeps : {P : View → Type 0} (w : Walk P) (b : Begins P) (e : Exchange) (c : Client) (s : State) → IsNew e s.clients → Holds P s → Holds P (fill_with e c s)
+fill_with-keeps : {P : View → Type 0} (w : Walk P) (b : Begins P) (e : Exchange) (c : Client) (s : State) → IsNew e s.clients s.next_exchange → Holds P s → Holds P (fill_with e c s)
 unfolding fill_with
 fill_with-keeps w b e c s is_new h = when (fits e.text) (begin_exchange-keeps b e s is_new h) (on_client-keeps w c.number (λ x. record x { course = AskTooLong }) s (λ x. same_parts _ x refl refl refl refl) h)
 
@@ -209,8 +210,8 @@ fill_span-keeps : {P : View → Type 0} (w : Walk P) (b : Begins P) (c : Client)
 unfolding fill_span
 fill_span-keeps {P} w b c n span s there h = by c.front refl
   where
-    is_new : (r : Parsed) (key : Key) → c.front ≡ IsRequest r → IsNew (filling_exchange s c r.head key n span) s.clients
-    is_new r key is = record { place = refl; asked = refl; asker = c.number; is = refl; goes = record { client = c; there = there.there; number = refl; at = record { going = there.going; request = r; front = is; head = refl } } }
+    is_new : (r : Parsed) (key : Key) → c.front ≡ IsRequest r → IsNew (filling_exchange s c r.head key n span) s.clients s.next_exchange
+    is_new r key is = record { number = refl; place = refl; asked = refl; asker = c.number; is = refl; goes = record { client = c; there = there.there; number = refl; at = record { going = there.going; request = r; front = is; head = refl } } }
 
     by : (front : Front) → c.front ≡ front → Holds P (elim front as (λ x. State) [
       | NoHeadYet ↦ s

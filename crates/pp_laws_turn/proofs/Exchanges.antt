@@ -1,5 +1,5 @@
 -- Changes of one connection, exchange or client, and an exchange that is over, keep what is kept by each change.
-use Rattle.std.proofs.Common.{◌≡◌, ◌⊎◌, refl, ℕ, Bool, true, false, not, ◌==◌, ◌||◌, List, [], ◌∷◌, map, filter, Some, None, inl, inr, subst, sym, ap, ◌∙◌}
+use Rattle.std.proofs.Common.{◌≡◌, ◌⊎◌, refl, ℕ, ◌≤◌, Bool, true, false, not, ◌==◌, ◌||◌, List, [], ◌∷◌, map, filter, length, Some, None, inl, inr, subst, sym, ap, ◌∙◌, le_refl}
 use Rattle.pp_target.specs.Key.{text_of}
 use Rattle.pp_law.specs.Closing.{left_alone}
 use Rattle.pp_law.specs.Connections.{client, conn, exchange, is_client, is_conn, is_exchange, is_for, each_client, each_conn, each_exchange, on_conn, on_exchange, on_client, on_client_of, attempts_of, lost_one, without_row, is_unfilled, give_up_row, charge, lose_attempt, fail, without_ask, end_exchange, anew, out_of_tries, unplaced}
@@ -8,6 +8,7 @@ use Rattle.pp_law.specs.State.{State, Course, Client, Conn, Exchange}
 use Rattle.pp_laws.specs.Runs.{IsIn}
 use Rattle.pp_laws.proofs.Lists.{changed_at, in_filter, in_find}
 use Rattle.pp_laws.proofs.Sound.{source_in}
+use Rattle.pp_laws_bounds.proofs.Counts.{length-filter}
 use Rattle.pp_laws_turn.proofs.View.{View, Walk, Holds, holds, facts_of, view, SameAsk, SameClient, Lesser}
 use Rattle.pp_laws_turn.proofs.Cases.{each_so, when}
 use Rattle.pp_laws_turn.proofs.Rows.{clear-keeps}
@@ -33,14 +34,14 @@ pub put_ask : (k : ℕ) (e : Exchange) → SameAsk (record e { place = Some k; a
 put_ask k e = record { number = refl; asker = refl; key = refl; head = refl; asked = λ none. inl refl }
 
 conn_same : (k : Conn) → Lesser k k
-conn_same k = record { number = refl; within = λ n i. i }
+conn_same k = record { number = refl; within = λ n i. i; shorter = le_refl (length k.line); pipelines = λ is. is }
 
 conn_changed : (f : Conn → Conn) (k : Conn) (t : Bool) → Lesser (f k) k → Lesser (elim t as (λ c. Conn) [ true ↦ f k | false ↦ k ]) k
 conn_changed f k true kept = kept
 conn_changed f k false kept = conn_same k
 
-pub same_conn : (j k : Conn) → j.number ≡ k.number → j.line ≡ k.line → Lesser j k
-same_conn j k number line = record { number = number; within = λ n i. subst (λ ns. IsIn n ns) line i }
+pub same_conn : (j k : Conn) → j.number ≡ k.number → j.line ≡ k.line → j.may_pipeline ≡ k.may_pipeline → Lesser j k
+same_conn j k number line pipelines = record { number = number; within = λ n i. subst (λ ns. IsIn n ns) line i; shorter = subst (λ (ns : List ℕ). length j.line ≤ length ns) line (le_refl (length j.line)); pipelines = λ is. sym pipelines ∙ is }
 
 pub client_same : (c : Client) → SameClient c c
 client_same c = record { number = refl; closing = refl; source = λ id is. is; request = λ r is. is }
@@ -133,8 +134,8 @@ fail-keeps w e s h = charge-keeps w out_of_tries e s h
 
 -- ---- an exchange is over
 
-shorter : (n : ℕ) (k : Conn) → Lesser (without_ask n k) k
-shorter n k = record { number = refl; within = λ m i. (in_filter (λ x. not (x == n)) m k.line i).0 }
+pub shorter : (n : ℕ) (k : Conn) → Lesser (without_ask n k) k
+shorter n k = record { number = refl; within = λ m i. (in_filter (λ x. not (x == n)) m k.line i).0; shorter = length-filter (λ x. not (x == n)) k.line; pipelines = λ is. is }
 
 pub end_exchange-keeps : {P : View → Type 0} (w : Walk P) (n : ℕ) (s : State) → Holds P s → Holds P (end_exchange n s)
 unfolding end_exchange

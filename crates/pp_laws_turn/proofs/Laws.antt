@@ -1,5 +1,5 @@
 -- The law: each state that a lawful log may go on as from is sound.
-use Rattle.std.proofs.Common.{◌≡◌, ◌⊎◌, refl, ℕ, Bool, true, false, ◌==◌, ◌≤◌, List, [], count_by, map, find, Option, Some, None, inl, inr, sym, subst, ap, ◌∙◌}
+use Rattle.std.proofs.Common.{◌≡◌, ◌⊎◌, refl, ℕ, Bool, true, false, ◌==◌, ◌≤◌, List, [], ◌∷◌, count_by, map, find, length, Option, Some, None, inl, inr, sym, subst, ap, ◌∙◌, arith}
 use Rattle.pp_world.specs.Log.{Log}
 use Rattle.pp_law.specs.Closing.{is_of}
 use Rattle.pp_law.specs.Connections.{is_client}
@@ -89,6 +89,13 @@ in_line : (s : State) (e : Exchange) (n : ℕ) → Stands e n s.conns ⊎ IsIn e
 in_line s e n (inl w) = record { place = w.0; there = w.1; number = w.2; here = w.3 }
 in_line s e n (inr none) = absurd none
 
+-- one that stands in a line of one is that
+one_line : (n : ℕ) (line : List ℕ) → length line ≤ 1 → IsIn n line → line ≡ n ∷ []
+one_line n [] short i = absurd i
+one_line n (m ∷ []) short (inl eq) = ap (λ k. k ∷ []) (sym eq)
+one_line n (m ∷ []) short (inr i) = absurd i
+one_line n (m ∷ k ∷ line) short i = absurd (omega arith)
+
 pub sound_turns : TurnsAreSound
 sound_turns terms s log obeys = record {
   numbers = record {
@@ -121,6 +128,8 @@ sound_turns terms s log obeys = record {
   closed = k.lines.closed;
   placed = f.placed;
   lined = λ e n going i is. in_line s e n (k.lined going e n i is);
+  by_itself = λ k e i j at is. one_line e.number k.line (t.lined.alone k e i j at is) at;
+  pipelines = t.lined.few;
   once = asks_once s f.asks.rise t;
   sources = has_source s t;
   alone = asks_nothing s f.callers.rise t;
