@@ -91,7 +91,7 @@ conn_ends is_clean k s h = ended-keeps turn_walk is_clean k s h
 
 -- where it is taken for a client that goes on, in a phase in which decisions are
 pub is_decided : (c : Client) (d : Decision) (s : State) → IsThere c s.clients → is_late s.phase ≡ true → Holds Turn s → Holds Turn (decided c d s)
-is_decided c d s there late h = decided-keeps turn_walk turn_begins turn_follows c d s there late h
+is_decided c d s there late h = decided-keeps turn_walk turn_begins turn_follows c d s ((facts_of h).bodied c there.there) there late h
 
 pub row_enters_for : (c : Client) (d : Decision) (s : State) → Holds Turn s → Holds Turn (enter_row c d s)
 row_enters_for c d s h = enter_row-keeps turn_walk.rows c d s h

@@ -56,7 +56,7 @@ use Rattle.pp_laws_asks.proofs.InOrder.{found_in}
 use Rattle.pp_laws_bounds.proofs.Counts.{in_filter_of}
 use Rattle.pp_obeys.proofs.Come.{next-phase, onward, same_phase}
 use Rattle.pp_obeys.proofs.Forgetting.{leaving_with}
-use Rattle.pp_laws_turn.proofs.View.{View, Walk, Goes, Holds, IsFollowed, SameAsk, facts_of, holds, is_late, view}
+use Rattle.pp_laws_turn.proofs.View.{View, Walk, Goes, Holds, IsBodied, IsFollowed, SameAsk, facts_of, holds, is_late, view}
 use Rattle.pp_laws_turn.proofs.Cases.{by_aim_of, by_outcome, by_pause, each_of, each_so, when, when_so}
 use Rattle.pp_laws_turn.proofs.Clients.{HasPlace, ask-keeps, begin_replies-keeps, close_client-keeps, decided-keeps, end_replies-keeps, fill-keeps, give_up_asks-keeps, hang_up-keeps, hear-keeps, pour-keeps, regained-keeps, use_said-keeps}
 use Rattle.pp_laws_turn.proofs.Closings.{close_conn-keeps}
@@ -139,8 +139,8 @@ moved_same : (m : ℕ) (e : Exchange) → SameAsk (moved_on m e) e
 moved_same m e = by (bound_of e)
   where
     by : (o : Option Bound) → SameAsk (elim o as (λ c. Exchange) [ None ↦ e | Some b ↦ record e { body = Joining (record b { next = b.next + m }) } ]) e
-    by None = same_ask e e refl refl refl refl refl refl
-    by (Some b) = same_ask _ e refl refl refl refl refl refl
+    by None = same_ask e e refl refl refl refl refl refl (λ is. is)
+    by (Some b) = same_ask _ e refl refl refl refl refl refl (λ is. is)
 
 join_bound-turn : (e : Exchange) (bytes : Bytes) (s : State) → Holds Turn s → Holds Turn (join_bound e bytes s)
 unfolding join_bound
@@ -200,6 +200,8 @@ phased p o s owes early h = let f = facts_of h in holds (record {
   goes = f.goes;
   fresh = f.fresh;
   lined = f.lined;
+  bodied = f.bodied;
+  once = f.once;
 })
 
 free_so : (o : Owed) → is_free o ≡ true → is_free o ≡ false → ⊥
@@ -278,7 +280,7 @@ still_walk p o = record {
   conns = λ f lesser v h. h;
   rows = λ xs next v from h. h;
   leaves = λ n f moves v h. h;
-  closes = λ n f number closing s h. still_left p o (exchanges_of n s) (on_client n f s) h;
+  closes = λ n f number closing body s h. still_left p o (exchanges_of n s) (on_client n f s) h;
 }
 
 -- ---- what is permitted
@@ -338,6 +340,8 @@ opened-turn n s h = holds (record {
   goes = λ e m i is off. longer e m (f.goes e m i is off);
   fresh = f.fresh;
   lined = f.lined;
+  bodied = λ c i. bodied_by c (in_push c s.clients new i);
+  once = f.once;
 })
   where
     new : Client
@@ -356,6 +360,10 @@ opened-turn n s h = holds (record {
     news_by : (c : Client) (x : Instance) → is_late s.phase ≡ false → IsIn c s.clients ⊎ (c ≡ new) → c.is_closing ≡ false → IsIn x s.instances → x.is_new ≡ true → source_in c.stage ≡ Some x.id → ⊥
     news_by c x early (inl i) going j new_one is = f.news c x early i going j new_one is
     news_by c x early (inr eq) going j new_one is = none c x.id eq is
+
+    bodied_by : (c : Client) → IsIn c s.clients ⊎ (c ≡ new) → IsBodied c
+    bodied_by c (inl i) = f.bodied c i
+    bodied_by c (inr eq) = subst IsBodied (sym eq) (λ r is. absurd (cc is))
 
     longer : (e : Exchange) (m : ℕ) → Goes e m s.clients → Goes e m (s.clients ++ new ∷ [])
     longer e m g = record { client = g.client; there = in_front g.client s.clients (new ∷ []) g.there; number = g.number; at = g.at }
@@ -385,7 +393,7 @@ pub take_decision-turn : (n : ℕ) (d : Decision) (s : State) → is_late s.phas
 unfolding take_decision
 take_decision-turn n d s late going h =
     each_so (client s n) (λ none. h)
-    (λ c found. regained-keeps turn_walk _ (holds (facts_of (decided-keeps turn_walk turn_begins turn_follows c d s (record { there = (in_find (is_client n) c s.clients found).0; going = going c found }) late h))))
+    (λ c found. regained-keeps turn_walk _ (holds (facts_of (decided-keeps turn_walk turn_begins turn_follows c d s ((facts_of h).bodied c (in_find (is_client n) c s.clients found).0) (record { there = (in_find (is_client n) c s.clients found).0; going = going c found }) late h))))
 
 -- one of the clients has what is due first
 first_in : (s : State) (cs : List Client) (due : Due) → first_some (due_of s) cs ≡ Some due → (c : Client) × IsIn c cs × (due_of s c ≡ Some due)
@@ -442,8 +450,8 @@ pub refused_row-turn : (x : Instance) (s : State) → is_followed s x.id ≡ fal
 unfolding refused_row
 refused_row-turn x s none h =
     let told : State = record (forget x.id s) { clients = change (waits_for_row x.id) (λ c. record c { course = RowRefused }) (forget x.id s).clients } in
-    holds (exchanges_changed-keeps turn_walk (brings_to x.id) dropping_body (view told) (λ e. same_ask _ e refl refl refl refl refl refl)
-    (clients_changed-keeps turn_walk (waits_for_row x.id) (λ c. record c { course = RowRefused }) (view (forget x.id s)) (λ c. same_parts _ c refl refl refl refl) (facts_of (forget-keeps turn_walk.rows x.id s none h))))
+    holds (exchanges_changed-keeps turn_walk (brings_to x.id) dropping_body (view told) (λ e. same_ask _ e refl refl refl refl refl refl (λ is. is))
+    (clients_changed-keeps turn_walk (waits_for_row x.id) (λ c. record c { course = RowRefused }) (view (forget x.id s)) (λ c. same_parts _ c refl refl refl refl (λ is. is)) (facts_of (forget-keeps turn_walk.rows x.id s none h))))
 
 -- ---- a row that came in this turn is followed by nobody yet
 
@@ -645,6 +653,8 @@ start-turn terms = holds (record {
     few = λ k i. absurd i;
     alone = λ k e i. absurd i;
   };
+  bodied = λ c i. absurd i;
+  once = λ e i. absurd i;
 })
 
 woken-turn : (image : Files) (s : State) → Holds Turn (woken image s)
@@ -681,6 +691,8 @@ shut-turn n s h = holds (record {
   goes = λ e m i is off. stays e m i is (closed.goes e m i is off);
   fresh = closed.fresh;
   lined = closed.lined;
+  bodied = λ c i. closed.bodied c (in_filter (λ x. not (is_client n x)) c (close_client n false s).clients i).0;
+  once = closed.once;
 })
   where
     closed : Turn (view (close_client n false s))
@@ -755,6 +767,8 @@ rest_with-turn w s h = holds (record {
   goes = f.goes;
   fresh = f.fresh;
   lined = f.lined;
+  bodied = f.bodied;
+  once = f.once;
 })
   where
     v : View

@@ -6,6 +6,7 @@ use Rattle.pp_law.specs.Connections.{each_exchange, end_exchange, exchange, is_c
 use Rattle.pp_law.specs.Deciding.{add_exchange, begin_exchange}
 use Rattle.pp_law.specs.Lists.{change, is_some_with, is_this}
 use Rattle.pp_law.specs.Phases.{is_free}
+use Rattle.pp_law.specs.Requests.{is_asked_once}
 use Rattle.pp_law.specs.Table.{swept}
 use Rattle.pp_law.specs.State.{State, Client, Conn, Exchange, Instance, Owed, Phase, Handling}
 use Rattle.pp_laws.specs.Runs.{IsIn}
@@ -15,7 +16,7 @@ use Rattle.pp_laws.proofs.Tests.{number_same, same_number}
 use Rattle.pp_laws_bounds.proofs.Counts.{in_filter_of, in_map_of}
 use Rattle.pp_laws_turn.proofs.Exchanges.{shorter}
 use Rattle.pp_laws_turn.proofs.Lined.{AreLined, begun_lined, fewer_lined, lesser_lined, longer, put_lined}
-use Rattle.pp_laws_turn.proofs.View.{View, Walk, Begins, Follows, Holds, Places, FromRow, Goes, IsAt, IsNew, Lesser, MovesOn, RowsFrom, SameAsk, SameClient, SameRequest, WasRow, facts_of, holds, is_late, view}
+use Rattle.pp_laws_turn.proofs.View.{View, Walk, Begins, Follows, Holds, Places, FromRow, Goes, IsAt, IsBodied, IsNew, Lesser, MovesOn, RowsFrom, SameAsk, SameClient, SameRequest, WasRow, facts_of, holds, is_late, view}
 
 -- a client that goes on is answered from an instance that is there; where new ones may still leave memory, from none of these
 pub record Facts (but : Option ℕ) (phase : Phase) (owed : Owed) (clients : List Client) (conns : List Conn) (exchanges : List Exchange) (next_exchange : ℕ) (instances : List Instance) (next_instance : ℕ) : Type 0 where
@@ -27,6 +28,8 @@ pub record Facts (but : Option ℕ) (phase : Phase) (owed : Owed) (clients : Lis
   pub goes : (e : Exchange) (n : ℕ) → IsIn e exchanges → e.asker ≡ Some n → (but ≡ Some n → ⊥) → Goes e n clients
   pub fresh : (e : Exchange) → IsIn e exchanges → e.place ≡ None → e.asked ≡ 0
   pub lined : AreLined conns exchanges next_exchange
+  pub bodied : (c : Client) → IsIn c clients → IsBodied c
+  pub once : (e : Exchange) → IsIn e exchanges → (e.body_left ≡ 0) ⊎ (is_asked_once e.head ≡ true)
 
 -- but those of this client
 abbrev pub TurnBut : Option ℕ → View → Type 0
@@ -59,9 +62,19 @@ clients_turn f same_one v h = record {
   goes = λ e n i is off. goes_over f same_one e n v.clients (h.goes e n i is off);
   fresh = h.fresh;
   lined = h.lined;
+  bodied = λ c i. let r = in_map f c v.clients i in subst IsBodied (sym r.is) ((same_one r.was).body (h.bodied r.was r.there));
+  once = h.once;
 }
 
 -- ---- exchanges
+
+-- nothing of a body is left, or it is asked once
+abbrev IsOnce : Exchange → Type 0
+IsOnce e = (e.body_left ≡ 0) ⊎ (is_asked_once e.head ≡ true)
+
+once_as : (d e : Exchange) → d.head ≡ e.head → (e.body_left ≡ 0 → d.body_left ≡ 0) → IsOnce e → IsOnce d
+once_as d e head left (inl none) = inl (left none)
+once_as d e head left (inr is) = inr (ap is_asked_once head ∙ is)
 
 goes_as : (d e : Exchange) (n : ℕ) (cs : List Client) → d.head ≡ e.head → Goes e n cs → Goes d n cs
 goes_as d e n cs head g = record { client = g.client; there = g.there; number = g.number; at = record { going = g.at.going; request = g.at.request; front = g.at.front; head = g.at.head ∙ sym head } }
@@ -96,13 +109,18 @@ asks_turn f v same_one h = record {
       let r = in_map f e v.exchanges i in
       let s = same_one r.was r.there in
       record { was = r.was; there = r.there; number = ap exchange_number r.is ∙ s.number; head = ap (λ (x : Exchange). x.head) r.is ∙ s.head }) h.lined;
+  bodied = h.bodied;
+  once = λ e i.
+      let r = in_map f e v.exchanges i in
+      let s = same_one r.was r.there in
+      subst IsOnce (sym r.is) (once_as (f r.was) r.was s.head s.body (h.once r.was r.there));
 }
 
 -- ---- connections
 
 -- where their lines are as they have to be
 pub with_conns : (but : Option ℕ) (conns : List Conn) (v : View) → AreLined conns v.exchanges v.next_exchange → TurnBut but v → TurnBut but (record v { conns = conns })
-with_conns but conns v lined h = record { owes = h.owes; given = h.given; source = h.source; news = h.news; one = h.one; goes = h.goes; fresh = h.fresh; lined = lined }
+with_conns but conns v lined h = record { owes = h.owes; given = h.given; source = h.source; news = h.news; one = h.one; goes = h.goes; fresh = h.fresh; lined = lined; bodied = h.bodied; once = h.once }
 
 conns_turn : (but : Option ℕ) (f : Conn → Conn) → ((k : Conn) → Lesser (f k) k) → (v : View) → TurnBut but v → TurnBut but (record v { conns = map f v.conns })
 conns_turn but f lesser v h = with_conns but (map f v.conns) v (lesser_lined f v.conns v.exchanges v.next_exchange lesser h.lined) h
@@ -118,6 +136,7 @@ record FromAsk (xs : List Exchange) (e : Exchange) : Type 0 where
   head : e.head ≡ was.head
   place : e.place ≡ was.place
   asked : e.asked ≡ was.asked
+  body : was.body_left ≡ 0 → e.body_left ≡ 0
 
 fewer_turn : (but : Option ℕ) (v : View) (ys : List Exchange) → ((e : Exchange) → IsIn e ys → FromAsk v.exchanges e) → TurnBut but v → TurnBut but (record v { exchanges = ys })
 fewer_turn but v ys from h = record {
@@ -129,10 +148,12 @@ fewer_turn but v ys from h = record {
   goes = λ e n i is off. let r = from e i in goes_as e r.was n v.clients r.head (h.goes r.was n r.there (r.asker n is) off);
   fresh = λ e i none. let r = from e i in r.asked ∙ h.fresh r.was r.there (sym r.place ∙ none);
   lined = fewer_lined v.conns v.exchanges ys v.next_exchange (λ e i. let r = from e i in record { was = r.was; there = r.there; number = r.number; head = r.head }) h.lined;
+  bodied = h.bodied;
+  once = λ e i. let r = from e i in once_as e r.was r.head r.body (h.once r.was r.there);
 }
 
 ask_kept : (xs : List Exchange) (e : Exchange) → IsIn e xs → FromAsk xs e
-ask_kept xs e i = record { was = e; there = i; number = refl; asker = λ n is. is; head = refl; place = refl; asked = refl }
+ask_kept xs e i = record { was = e; there = i; number = refl; asker = λ n is. is; head = refl; place = refl; asked = refl; body = λ is. is }
 
 left_from : (test : Exchange → Bool) (xs : List Exchange) (e : Exchange) → IsIn e (change test left_alone xs) → FromAsk xs e
 left_from test xs e i = by (in_change test left_alone e xs i)
@@ -147,6 +168,7 @@ left_from test xs e i = by (in_change test left_alone e xs i)
       head = ap (λ (y : Exchange). y.head) eq;
       place = ap (λ (y : Exchange). y.place) eq;
       asked = ap (λ (y : Exchange). y.asked) eq;
+      body = λ is. ap (λ (y : Exchange). y.body_left) eq ∙ is;
     }
 
 over_from : (test : Exchange → Bool) (xs : List Exchange) (e : Exchange) → IsIn e (filter test xs) → FromAsk xs e
@@ -170,6 +192,8 @@ rows_turn xs next v from h = record {
   goes = h.goes;
   fresh = h.fresh;
   lined = h.lined;
+  bodied = h.bodied;
+  once = h.once;
 }
   where
     given_by : (x : Instance) → FromRow v.instances x ⊎ ((x.id ≡ v.next_instance) × (x.id < next)) → x.id < next
@@ -213,7 +237,12 @@ in_changed_other n f c cs i isnt = subst (λ (d : Client). IsIn d (change (is_cl
 -- one client is changed, and its exchanges do not count
 record OneClient (n : ℕ) (f : Client → Client) : Type 0 where
   number : (c : Client) → (f c).number ≡ c.number
+  body : (c : Client) → IsBodied c → IsBodied (f c)
   source : (c : Client) (id : ℕ) → (f c).is_closing ≡ false → source_in (f c).stage ≡ Some id → (c.is_closing ≡ false) × (source_in c.stage ≡ Some id)
+
+bodied_by : (n : ℕ) (f : Client → Client) → ((c : Client) → IsBodied c → IsBodied (f c)) → (c : Client) (cs : List Client) → ((d : Client) → IsIn d cs → IsBodied d) → Changed (is_client n) f cs c → IsBodied c
+bodied_by n f body c cs bodied (same i isnt) = bodied c i
+bodied_by n f body c cs bodied (other d i hit eq) = subst IsBodied (sym eq) (body d (bodied d i))
 
 client_turn : (n : ℕ) (f : Client → Client) → OneClient n f → (v : View) → Turn v → TurnBut (Some n) (record v { clients = change (is_client n) f v.clients })
 client_turn n f o v h = record {
@@ -230,6 +259,8 @@ client_turn n f o v h = record {
   };
   fresh = h.fresh;
   lined = h.lined;
+  bodied = λ c i. bodied_by n f o.body c v.clients h.bodied (in_change (is_client n) f c v.clients i);
+  once = h.once;
 }
   where
     was : (c : Client) (id : ℕ) → Changed (is_client n) f v.clients c → c.is_closing ≡ false → source_in c.stage ≡ Some id → (d : Client) × IsIn d v.clients × (d.is_closing ≡ false) × (source_in d.stage ≡ Some id)
@@ -247,6 +278,8 @@ all_count n v none h = record {
   goes = λ e m i is off. h.goes e m i is (λ eq. none e i (is ∙ sym eq));
   fresh = h.fresh;
   lined = h.lined;
+  bodied = h.bodied;
+  once = h.once;
 }
 
 leaves_turn : (n : ℕ) (f : Client → Client) → ((c : Client) → MovesOn (f c) c) → (v : View) → Turn v → Turn (record v { clients = change (is_client n) f v.clients; exchanges = change (is_of n) left_alone v.exchanges })
@@ -255,7 +288,7 @@ leaves_turn n f moves v h =
     (left_turn (Some n) (is_of n) (record v { clients = change (is_client n) f v.clients }) (client_turn n f one v h))
   where
     one : OneClient n f
-    one = record { number = λ c. (moves c).number; source = λ c id going is. let both : None ≡ Some id = sym (moves c).source ∙ is in absurd (cc both) }
+    one = record { number = λ c. (moves c).number; body = λ c b. (moves c).body; source = λ c id going is. let both : None ≡ Some id = sym (moves c).source ∙ is in absurd (cc both) }
 
 -- ---- a client is closed
 
@@ -326,14 +359,14 @@ all_left n (m ∷ ns) s h = all_left n ns _ (by (exchange s m))
     by None = h
     by (Some e) = left_one n e s h
 
-closes_turn : (n : ℕ) (f : Client → Client) → ((c : Client) → (f c).number ≡ c.number) → ((c : Client) → (f c).is_closing ≡ true) → (s : State) → Turn (view s) → Turn (view (each_exchange leave_one (exchanges_of n s) (on_client n f s)))
+closes_turn : (n : ℕ) (f : Client → Client) → ((c : Client) → (f c).number ≡ c.number) → ((c : Client) → (f c).is_closing ≡ true) → ((c : Client) → IsBodied c → IsBodied (f c)) → (s : State) → Turn (view s) → Turn (view (each_exchange leave_one (exchanges_of n s) (on_client n f s)))
 unfolding on_client
-closes_turn n f number closing s h =
+closes_turn n f number closing body s h =
     all_count n (view (each_exchange leave_one (exchanges_of n s) (on_client n f s))) (λ e i is. each_left n (exchanges_of n s) (on_client n f s) (λ d j its. numbered n s.exchanges d j its) e i is)
     (all_left n (exchanges_of n s) (on_client n f s) (client_turn n f one (view s) h))
   where
     one : OneClient n f
-    one = record { number = number; source = λ c id going is. let both : true ≡ false = sym (closing c) ∙ going in absurd (cc both) }
+    one = record { number = number; body = body; source = λ c id going is. let both : true ≡ false = sym (closing c) ∙ going in absurd (cc both) }
 
 all_numbered : (n : ℕ) (is_cut : Bool) (s : State) → AreOf n (exchanges_of n s) (on_client n (λ c. record c { is_closing = true; is_cut = c.is_cut || is_cut }) s)
 unfolding on_client
@@ -373,8 +406,8 @@ turn_places n k s takes h =
     put = map (changed_at (is_conn k) (longer n)) s.conns
 
     by : (e : Exchange) (t : Bool) → SameAsk (elim t as (λ c. Exchange) [ true ↦ record e { place = Some k; asked = 0 } | false ↦ e ]) e
-    by e true = record { number = refl; asker = refl; key = refl; head = refl; asked = λ none. inl refl }
-    by e false = record { number = refl; asker = refl; key = refl; head = refl; asked = λ none. inr (none, refl) }
+    by e true = record { number = refl; asker = refl; key = refl; head = refl; asked = λ none. inl refl; body = λ is. is }
+    by e false = record { number = refl; asker = refl; key = refl; head = refl; asked = λ none. inr (none, refl); body = λ is. is }
 
 -- ---- one begins
 
@@ -389,6 +422,8 @@ turn_begins e s is_new h = record {
   goes = λ d n i is off. goes_by d n (in_push d rest e i) is;
   fresh = λ d i none. fresh_by d (in_push d rest e i) none;
   lined = begun_lined e s.conns rest s.next_exchange is_new.number less.lined;
+  bodied = h.bodied;
+  once = λ d i. once_by d (in_push d rest e i);
 }
   where
     test : Exchange → Bool
@@ -427,6 +462,10 @@ turn_begins e s is_new h = record {
     goes_by d n (inl i) is = less.goes d n i is (λ none. cc none)
     goes_by d n (inr eq) is = subst (λ m. Goes d m s.clients) (sym (its_asker d n eq is)) (goes_as d e is_new.asker s.clients (ap (λ (x : Exchange). x.head) eq) is_new.goes)
 
+    once_by : (d : Exchange) → IsIn d rest ⊎ (d ≡ e) → IsOnce d
+    once_by d (inl i) = less.once d i
+    once_by d (inr eq) = subst IsOnce (sym eq) is_new.body
+
     fresh_by : (d : Exchange) → IsIn d rest ⊎ (d ≡ e) → d.place ≡ None → d.asked ≡ 0
     fresh_by d (inl i) none = less.fresh d i none
     fresh_by d (inr eq) none = ap (λ (x : Exchange). x.asked) eq ∙ is_new.asked
@@ -443,6 +482,8 @@ turn_follows n id f request source v late there h = record {
   goes = λ e m i is off. goes_on e m (h.goes e m i is off);
   fresh = h.fresh;
   lined = h.lined;
+  bodied = λ c i. bodied_by n f (λ d. (request d).body) c v.clients h.bodied (in_change (is_client n) f c v.clients i);
+  once = h.once;
 }
   where
     source_by : (c : Client) (k : ℕ) → Changed (is_client n) f v.clients c → c.is_closing ≡ false → source_in c.stage ≡ Some k → IsIn k (map instance_id v.instances)

@@ -1,5 +1,6 @@
 pub mod View
 pub mod Cases
+pub mod Bodies
 pub mod Counts
 pub mod Lined
 pub mod Same

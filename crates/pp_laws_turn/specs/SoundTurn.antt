@@ -1,5 +1,5 @@
--- What holds in each state that a lawful log may go on as from, also amid a turn, where phases are done that no happening shows. All of it
--- is ours.
+-- What holds in each state that a lawful log may go on as from, also amid a turn, where phases are done that no happening shows. What is
+-- not marked is ours.
 use Rattle.std.specs.Prelude.{◌≡◌, ℕ, ◌≤◌, ◌==◌, true, false, [], ◌∷◌, count_by, find, length, List, Some, None}
 use Rattle.pp_law.specs.Closing.{is_of}
 use Rattle.pp_law.specs.Connections.{client, is_client, is_conn, is_exchange}
@@ -90,6 +90,8 @@ pub record IsSoundTurn (s : State) : Type 0 where
   pub lined : (e : Exchange) (n : ℕ) → s.is_stopped ≡ false → IsIn e s.exchanges → e.place ≡ Some n → IsInLine s e n
   -- one that goes alone has no other in its line (RFC 2616, section 8.1.2.2)
   pub by_itself : (k : Conn) (e : Exchange) → IsIn k s.conns → IsIn e s.exchanges → IsIn e.number k.line → goes_alone e.head ≡ true → k.line ≡ e.number ∷ []
+  -- and so goes one that has a body, as long as any of it is left to be asked
+  pub bodies : (e : Exchange) → IsIn e s.exchanges → (e.body_left == 0) ≡ false → goes_alone e.head ≡ true
   -- a line has several only behind a response that shows that it may
   pub pipelines : (k : Conn) → IsIn k s.conns → k.may_pipeline ≡ false → length k.line ≤ 1
   -- a request has one exchange at most
