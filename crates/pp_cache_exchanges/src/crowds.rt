@@ -70,6 +70,7 @@ fn played(alloc: Global, pace: Pace, crowd: &Crowd) -> Result<Played, OutOfMemor
     let anew = request_of(alloc, first_left(crowd))?;
     let beyond = FIRST.saturating_add(crowd.followers);
     let origin = beyond.saturating_add(1);
+    let before_last = crowd.more.saturating_sub(1);
     let mut acts = Vec::new(alloc);
     acts.extend_from_slice(&[
         Act::Tick(T),
@@ -78,17 +79,54 @@ fn played(alloc: Global, pace: Pace, crowd: &Crowd) -> Result<Played, OutOfMemor
         Act::Reach(2),
         Act::Answer(2, LONGEST),
     ])?;
-    put_chunks(pace, 2, b'a', crowd.chunks, ALONE, &mut acts)?;
-    put_followers(pace, requests.as_slice(), &mut acts)?;
+    if pace == Pace::Whole {
+        acts.push(Act::FillWhole(2, b'a', crowd.chunks.saturating_mul(CHUNK_LEN)))
+            .map_err(AllocError::from)?;
+    }
+    for _chunk in 0..cut_in(pace, crowd.chunks) {
+        acts.extend_from_slice(&[
+            Act::Fill(2, b'a', ALONE),
+            Act::FillWhole(2, b'a', CHUNK_LEN - ALONE - 1),
+            Act::Fill(2, b'a', 1),
+        ])?;
+    }
+    for _request in requests.iter() {
+        acts.extend_from_slice(&[Act::Connect, Act::Window(0, 0)])?;
+    }
+    for (place, request) in requests.iter().enumerate() {
+        let (front, _) = parts_of(pace, request.as_str());
+        acts.push(Act::Say(number_at(place), front))
+            .map_err(AllocError::from)?;
+    }
+    for (place, request) in requests.iter().enumerate() {
+        let (_, last) = parts_of(pace, request.as_str());
+        if !last.is_empty() {
+            acts.push(Act::Say(number_at(place), last))
+                .map_err(AllocError::from)?;
+        }
+    }
     acts.extend_from_slice(&[
         Act::Connect,
         Act::Say(0, GET_B),
         Act::Reach(origin),
         Act::Answer(origin, LONGEST),
     ])?;
-    let before_last = crowd.more.saturating_sub(1);
-    put_chunks(pace, origin, b'b', before_last, ALONE, &mut acts)?;
-    put_chunks(pace, origin, b'b', 1, LAST_ALONE, &mut acts)?;
+    if pace == Pace::Whole {
+        acts.push(Act::FillWhole(origin, b'b', before_last.saturating_mul(CHUNK_LEN)))
+            .map_err(AllocError::from)?;
+    }
+    for _chunk in 0..cut_in(pace, before_last) {
+        acts.extend_from_slice(&[
+            Act::Fill(origin, b'b', ALONE),
+            Act::FillWhole(origin, b'b', CHUNK_LEN - ALONE - 1),
+            Act::Fill(origin, b'b', 1),
+        ])?;
+    }
+    acts.extend_from_slice(&[
+        Act::Fill(origin, b'b', LAST_ALONE),
+        Act::FillWhole(origin, b'b', CHUNK_LEN - LAST_ALONE - 1),
+        Act::Fill(origin, b'b', 1),
+    ])?;
     for follower in FIRST..beyond {
         acts.push(Act::Window(follower, u64::MAX))
             .map_err(AllocError::from)?;
@@ -104,72 +142,28 @@ fn played(alloc: Global, pace: Pace, crowd: &Crowd) -> Result<Played, OutOfMemor
     play_with(alloc, crowd.words, pace, acts.as_slice(), &[])
 }
 
-/// Adds what brings a client for each of these requests, which takes no byte. Where each byte comes alone, the last byte of all comes
-/// behind the others of all: who has said no whole request costs a turn nothing.
-fn put_followers<'a>(
-    pace: Pace,
-    requests: &'a [String],
-    acts: &mut Vec<Act<'a>>,
-) -> Result<(), OutOfMemory> {
-    for _request in requests {
-        acts.extend_from_slice(&[Act::Connect, Act::Window(0, 0)])?;
-    }
-    if pace == Pace::Whole {
-        for (place, request) in requests.iter().enumerate() {
-            acts.push(Act::Say(number_at(place), request.as_bytes()))
-                .map_err(AllocError::from)?;
-        }
-        return Ok(());
-    }
-    for (place, request) in requests.iter().enumerate() {
-        let (front, _) = parts_of(request.as_str());
-        acts.push(Act::Say(number_at(place), front))
-            .map_err(AllocError::from)?;
-    }
-    for (place, request) in requests.iter().enumerate() {
-        let (_, last) = parts_of(request.as_str());
-        acts.push(Act::Say(number_at(place), last))
-            .map_err(AllocError::from)?;
-    }
-    Ok(())
-}
-
 /// The number of the follower at this place.
 fn number_at(place: usize) -> u64 {
     FIRST.saturating_add(place as u64)
 }
 
-/// A request without its last byte, and that byte.
-fn parts_of(request: &str) -> (&[u8], &[u8]) {
+/// What a follower says at first of its request, and what behind the others: where each byte comes alone that is the last one, since
+/// who has said no whole request costs a turn nothing.
+fn parts_of(pace: Pace, request: &str) -> (&[u8], &[u8]) {
     let bytes = request.as_bytes();
-    let front = bytes.len().saturating_sub(1);
-    bytes.split_at(front.min(bytes.len()))
+    let last = match pace {
+        Pace::Whole => 0,
+        Pace::Bytewise => 1,
+    };
+    bytes.split_at(bytes.len().saturating_sub(last))
 }
 
-/// Adds what brings so many chunks of this byte from an origin: whole, or each with so many bytes at its front alone, and its last.
-fn put_chunks(
-    pace: Pace,
-    origin: u64,
-    byte: u8,
-    chunks: usize,
-    alone: usize,
-    acts: &mut Vec<Act<'_>>,
-) -> Result<(), OutOfMemory> {
-    if pace == Pace::Whole {
-        let count = chunks.saturating_mul(CHUNK_LEN);
-        acts.push(Act::FillWhole(origin, byte, count))
-            .map_err(AllocError::from)?;
-        return Ok(());
+/// So many chunks come cut, where each byte comes alone.
+fn cut_in(pace: Pace, chunks: usize) -> usize {
+    match pace {
+        Pace::Whole => 0,
+        Pace::Bytewise => chunks,
     }
-    let between = CHUNK_LEN.saturating_sub(alone).saturating_sub(1);
-    for _chunk in 0..chunks {
-        acts.extend_from_slice(&[
-            Act::Fill(origin, byte, alone),
-            Act::FillWhole(origin, byte, between),
-            Act::Fill(origin, byte, 1),
-        ])?;
-    }
-    Ok(())
 }
 
 /// The chunk that this follower asks for.
