@@ -1,10 +1,10 @@
 -- A connection that is closed, and its exchanges that are asked again, keep what is kept by each change.
-use Rattle.std.proofs.Common.{refl, ℕ, Bool, true, false, not, ◌&&◌, [], None, zero-le}
-use Rattle.pp_law.specs.Connections.{unplaced, may_ask_again, leave_place, lose_place, on_conn, close_conn, on_exchange}
+use Rattle.std.proofs.Common.{refl, ℕ, Bool, true, not, ◌&&◌, [], None, zero-le}
+use Rattle.pp_law.specs.Connections.{unplaced, may_ask_again, leave_place, lose_place, close_conn, on_exchange}
 use Rattle.pp_law.specs.Stages.{on_passed, is_headed}
-use Rattle.pp_law.specs.State.{State, Client, Conn, Exchange, Passed}
+use Rattle.pp_law.specs.State.{State, Conn, Exchange, Passed}
 use Rattle.pp_laws_turn.proofs.Same.{on_passed-same}
-use Rattle.pp_laws_turn.proofs.View.{View, Walk, Holds, holds, facts_of, view, Lesser}
+use Rattle.pp_laws_turn.proofs.View.{View, Walk, Holds, Lesser}
 use Rattle.pp_laws_turn.proofs.Cases.{when}
 use Rattle.pp_laws_turn.proofs.Exchanges.{again_ask, each_exchange-keeps, end_exchange-keeps, lose_attempt-keeps, on_client_of-keeps, on_conn-keeps, on_exchange-keeps}
 

@@ -1,5 +1,5 @@
 -- Changes of one connection, exchange or client, and an exchange that is over, keep what is kept by each change.
-use Rattle.std.proofs.Common.{◌≡◌, ◌⊎◌, refl, ℕ, ◌≤◌, Bool, true, false, not, ◌==◌, ◌||◌, List, [], ◌∷◌, map, filter, length, Some, None, inl, inr, subst, sym, ap, ◌∙◌, le_refl}
+use Rattle.std.proofs.Common.{◌≡◌, refl, ℕ, ◌≤◌, Bool, true, false, not, ◌==◌, ◌||◌, List, [], ◌∷◌, map, filter, length, Some, inl, inr, subst, sym, ap, ◌∙◌, le_refl}
 use Rattle.pp_target.specs.Key.{text_of}
 use Rattle.pp_law.specs.Closing.{left_alone}
 use Rattle.pp_law.specs.Connections.{client, conn, exchange, is_client, is_conn, is_exchange, is_for, each_client, each_conn, each_exchange, on_conn, on_exchange, on_client, on_client_of, attempts_of, lost_one, without_row, is_unfilled, give_up_row, charge, lose_attempt, fail, without_ask, end_exchange, anew, out_of_tries, unplaced}

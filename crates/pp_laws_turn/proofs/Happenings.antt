@@ -1,5 +1,5 @@
 -- What one read brings, response by response, each phase and each happening keep what is kept of clients, exchanges and rows.
-use Rattle.std.proofs.Common.{◌≡◌, ◌⊎◌, refl, ℕ, zero, suc, ◌+◌, ◌<◌, ◌≤◌, Bool, true, false, not, ◌==◌, ◌&&◌, ◌||◌, List, [], ◌∷◌, ◌++◌, map, filter, find, drop, length, bytes_eq, is_some, Option, Some, None, option_and_then, option_map, Result, Ok, Err, inl, inr, sym, subst, ap, ◌∙◌, arith}
+use Rattle.std.proofs.Common.{◌≡◌, ◌⊎◌, refl, ℕ, zero, suc, ◌+◌, ◌<◌, ◌≤◌, Bool, true, false, not, ◌==◌, ◌&&◌, ◌||◌, List, [], ◌∷◌, ◌++◌, map, filter, drop, length, bytes_eq, is_some, Option, Some, None, option_and_then, option_map, Result, Ok, Err, inl, inr, sym, subst, ap, ◌∙◌, arith}
 use Rattle.std.specs.List.{list_any}
 use Rattle.pp_conf.specs.Conf.{Settings}
 use Rattle.pp_conf.specs.Words.{file_of, reading_of}
@@ -11,7 +11,6 @@ use Rattle.pp_framing.specs.declared.framing.ResponseFault.{ResponseFault}
 use Rattle.pp_head.specs.Read.{Read, Whole, TooLong, Bad as NoHead, More}
 use Rattle.pp_head.specs.Response.{Response, response_at}
 use Rattle.pp_pipe.specs.Front.{is_interim}
-use Rattle.pp_target.specs.Key.{text_of}
 use Rattle.pp_text.specs.Bytes.{is_empty}
 use Rattle.pp_world.specs.Files.{Files}
 use Rattle.pp_world.specs.declared.event.Wants.{Wants}
@@ -27,21 +26,21 @@ use Rattle.pp_law.specs.After.{waits_for_row, new_client, event, opened, new_con
 use Rattle.pp_law.specs.Asking.{asking, is_reading, is_writing, left_in}
 use Rattle.pp_law.specs.Chunks.{note_use}
 use Rattle.pp_law.specs.Closing.{close_client, exchanges_of, leave_one, left_alone}
-use Rattle.pp_law.specs.Connections.{client, conn, each_exchange, end_exchange, exchange, front_of_line, is_client, is_conn, is_exchange, lose_attempt, may_ask_again, on_client, on_conn, on_exchange, close_conn, placing, Pause, AllPlaced, Placement, WaitsDial, WaitsDrop, put_on}
+use Rattle.pp_law.specs.Connections.{client, conn, each_exchange, end_exchange, exchange, front_of_line, is_client, is_conn, is_exchange, may_ask_again, on_client, on_conn, on_exchange, close_conn, placing, Pause, AllPlaced, Placement, WaitsDial, WaitsDrop, put_on}
 use Rattle.pp_law.specs.Deciding.{is_for_memory}
 use Rattle.pp_law.specs.Due.{Due, Decide, CutOff, due_by_stage, due_cut, due_decision, due_of, first_due}
 use Rattle.pp_law.specs.Leaving.{Leaving, ForAnother, ForMemory, BeforeDecision, before_decision, forgets_next, if_so, is_first, leaving_as, makes_room}
 use Rattle.pp_law.specs.Lists.{Bytes, change, first_some, is_some_with, is_this}
-use Rattle.pp_law.specs.Opening.{terms_behind, are_texts, begun, configured, is_at, is_opening, is_recovered, lose_in_opening, may_fail, names_file, opened_to, permits_configured, permits_listens, permits_rooted, settings_in, stuck, with_settings, woken}
+use Rattle.pp_law.specs.Opening.{terms_behind, are_texts, begun, configured, is_at, is_opening, is_recovered, may_fail, names_file, opened_to, permits_configured, permits_listens, permits_rooted, settings_in, stuck, with_settings, woken}
 use Rattle.pp_law.specs.OwnHeads.{is_wrong_head, key_of, join, join_bound, moved_on, note_own, note_sent}
 use Rattle.pp_law.specs.Passing.{poured}
-use Rattle.pp_law.specs.Permits.{has_conn, has_room_for, is_due_decision, is_new_number, is_owed, is_permitted, is_same_decision, IsPermitted, may_cut, may_dial, may_open, may_take, may_want_memory, permits, permits_broke, permits_dial, permits_taken}
+use Rattle.pp_law.specs.Permits.{has_conn, has_room_for, is_due_decision, is_new_number, is_owed, is_permitted, is_same_decision, IsPermitted, may_cut, may_open, may_take, may_want_memory, permits, permits_broke, permits_dial, permits_taken}
 use Rattle.pp_law.specs.Phases.{phases, in_phase, is_awaiting, is_done, is_done_with, is_free, behind, next, come, come_to, come_to_decide, decides, deciding, due_victim, ending, may_decide, may_in}
-use Rattle.pp_law.specs.Replies.{end_replies, said_by}
+use Rattle.pp_law.specs.Replies.{said_by}
 use Rattle.pp_law.specs.Responses.{bad_head, bad_response, finish, asks_head, answer_with, answered_by, end_if_empty, begin_answer, answer_for, bring_row, head_came, is_readable, Piece, is_early, with_unread, head_piece, deliver, payload_of, body_piece_of, body_piece, next_piece, got}
 use Rattle.pp_law.specs.Stages.{bound_of, reply_of}
 use Rattle.pp_law.specs.State.{State, Term, start, RowRefused, Phase, Before, IsWoken, IsConfigured, IsRooted, IsListed, IsListening, IsStuck, Awaiting, Handling, Evicting, Keeping, Deciding, Following, Connecting, DecidingAgain, Owed, Free, ReadOf, WriteTo, Joining, Answer, Bound, Client, Conn, Exchange, Instance, Reply, Stage, Undecided, Waiting, Passing, Answering}
-use Rattle.pp_law.specs.Table.{follows, forget, idle_row, instance, is_followed, is_row_of, kept_row, row, swept}
+use Rattle.pp_law.specs.Table.{follows, forget, idle_row, instance, is_followed, is_row_of, kept_row, row}
 use Rattle.pp_law.specs.Store.{load, load_from}
 use Rattle.pp_law.specs.Turn.{rest_with, rested_client, rested_conn, rested_instance, tick, touch}
 use Rattle.pp_law.specs.Unseen.{rested_exchange}

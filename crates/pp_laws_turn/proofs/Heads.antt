@@ -1,5 +1,5 @@
 -- What the head of a response does to rows, requests and its exchange keeps what is kept by each change.
-use Rattle.std.proofs.Common.{refl, ℕ, Bool, true, false, not, ◌==◌, ◌&&◌, List, [], ◌∷◌, codes, Option, Some, None, ◌≡◌, ◌||◌}
+use Rattle.std.proofs.Common.{refl, ℕ, Bool, true, false, not, ◌==◌, ◌&&◌, List, [], ◌∷◌, codes, Option, Some, None, ◌||◌}
 use Rattle.std.specs.List.{list_any}
 use Rattle.pp_framing.specs.declared.body.BodyRule.{BodyRule}
 use Rattle.pp_fresh.specs.declared.aging.Times.{Times}

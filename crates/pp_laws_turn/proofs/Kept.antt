@@ -1,6 +1,6 @@
 -- What is kept of clients, exchanges and rows: what a client follows is there, an exchange is for a client that goes on, at that very
 -- request, and of one without a place nothing was asked.
-use Rattle.std.proofs.Common.{◌≡◌, ◌⊎◌, refl, ℕ, ◌+◌, ◌<◌, ◌≤◌, Bool, true, false, not, ◌==◌, ◌||◌, List, [], ◌∷◌, ◌++◌, map, filter, find, cond, is_some, Option, Some, None, inl, inr, sym, subst, ap, ◌∙◌, le_trans, lt_irrefl, arith}
+use Rattle.std.proofs.Common.{◌≡◌, ◌⊎◌, refl, ℕ, ◌<◌, ◌≤◌, Bool, true, false, not, ◌==◌, ◌||◌, List, [], ◌∷◌, map, filter, find, cond, Option, Some, None, inl, inr, sym, subst, ap, ◌∙◌, lt_irrefl, arith}
 use Rattle.pp_law.specs.Closing.{close_client, exchanges_of, forsake, is_of, is_over, leave, leave_one, left_alone}
 use Rattle.pp_law.specs.Connections.{each_exchange, end_exchange, exchange, is_client, is_conn, is_exchange, on_client, on_conn, on_exchange, put_on, without_ask}
 use Rattle.pp_law.specs.Deciding.{add_exchange, begin_exchange}
@@ -10,13 +10,13 @@ use Rattle.pp_law.specs.Requests.{is_asked_once}
 use Rattle.pp_law.specs.Table.{swept}
 use Rattle.pp_law.specs.State.{State, Client, Conn, Exchange, Instance, Owed, Phase, Handling}
 use Rattle.pp_laws.specs.Runs.{IsIn}
-use Rattle.pp_laws.proofs.Lists.{Changed, From, changed_at, in_change, in_filter, in_find, in_map, in_push, other, same}
+use Rattle.pp_laws.proofs.Lists.{Changed, changed_at, in_change, in_filter, in_find, in_map, in_push, other, same}
 use Rattle.pp_laws.proofs.Sound.{exchange_number, instance_id, source_in}
 use Rattle.pp_laws.proofs.Tests.{number_same, same_number}
 use Rattle.pp_laws_bounds.proofs.Counts.{in_filter_of, in_map_of}
 use Rattle.pp_laws_turn.proofs.Exchanges.{shorter}
 use Rattle.pp_laws_turn.proofs.Lined.{AreLined, begun_lined, fewer_lined, lesser_lined, longer, put_lined}
-use Rattle.pp_laws_turn.proofs.View.{View, Walk, Begins, Follows, Holds, Places, FromRow, Goes, IsAt, IsBodied, IsNew, Lesser, MovesOn, RowsFrom, SameAsk, SameClient, SameRequest, WasRow, facts_of, holds, is_late, view}
+use Rattle.pp_laws_turn.proofs.View.{View, Walk, Begins, Follows, Holds, Places, FromRow, Goes, IsAt, IsBodied, Lesser, MovesOn, RowsFrom, SameAsk, SameClient, facts_of, is_late, view}
 
 -- a client that goes on is answered from an instance that is there; where new ones may still leave memory, from none of these
 pub record Facts (but : Option ℕ) (phase : Phase) (owed : Owed) (clients : List Client) (conns : List Conn) (exchanges : List Exchange) (next_exchange : ℕ) (instances : List Instance) (next_instance : ℕ) : Type 0 where

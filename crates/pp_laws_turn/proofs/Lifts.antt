@@ -6,37 +6,36 @@ use Rattle.pp_world.specs.Log.{Log}
 use Rattle.pp_law.proofs.Prefixes.{front_from}
 use Rattle.pp_law.specs.Lawful.{Lawful}
 use Rattle.pp_law.specs.Opening.{is_at, is_same_phase}
-use Rattle.pp_law.specs.Phases.{behind, come_to, in_phase, is_done, next, phases}
+use Rattle.pp_law.specs.Phases.{behind, come_to, is_done, next, phases}
 use Rattle.pp_law.specs.Stages.{bound_of}
 use Rattle.pp_law.specs.State.{State, Term, Phase, Before, IsWoken, IsConfigured, IsRooted, IsListed, IsListening, IsStuck, Awaiting, Handling, Evicting, Keeping, Deciding, Following, Connecting, DecidingAgain, Bound, Client, Conn, Exchange, start}
 use Rattle.pp_law.specs.Table.{pin_of_client, pin_of_exchange}
 use Rattle.pp_laws.specs.Runs.{state_after, IsIn}
 use Rattle.pp_laws.proofs.Laws.{start-sound}
 use Rattle.pp_laws.proofs.Lists.{in_front}
-use Rattle.pp_laws.proofs.Sound.{Since, Sound, exchange_number, facts_of as sound_facts}
+use Rattle.pp_laws.proofs.Sound.{Sound, exchange_number, facts_of as sound_facts}
 use Rattle.pp_laws_asks.specs.Asks.{HasFewExchanges, HasFewWaiting, is_waiting}
 use Rattle.pp_laws_asks.proofs.AsksFacts.{Asks, asks_begins, asks_places, asks_walk}
 use Rattle.pp_laws_asks.proofs.AsksHappenings.{after-asks, start-asks}
 use Rattle.pp_laws_bounds.specs.Bounds.{HasFewBodies, HasFewPins, HasFewRows, belongs_to_row, has_place}
 use Rattle.pp_laws_bounds.proofs.Counts.{length-filter}
-use Rattle.pp_laws_bounds.proofs.Happenings.{after_all-kept, from_now}
+use Rattle.pp_laws_bounds.proofs.Happenings.{from_now}
 use Rattle.pp_laws_bounds.proofs.Kept.{Kept, Stands, facts_of as kept_facts}
 use Rattle.pp_laws_bounds.proofs.Laws.{start-kept, whole_kept}
 use Rattle.pp_laws_bounds.proofs.Pigeons.{count-more, length-made, pigeons, rise_differ}
 use Rattle.pp_laws_bounds.proofs.Small.{counts_as_bound, facts_of as small_facts, is_row}
 use Rattle.pp_laws_bounds.proofs.SmallDisk.{start-small}
 use Rattle.pp_laws_bounds.proofs.SmallHappenings.{IsSmall, after_all-small}
-use Rattle.pp_laws_bounds.proofs.SmallPieces.{plain}
 use Rattle.pp_laws_bounds.proofs.SmallSteps.{come_to-small}
 use Rattle.pp_laws_bounds.proofs.Steps.{come_to-kept}
-use Rattle.pp_laws_pool.proofs.Along.{Next, Steps, along}
+use Rattle.pp_laws_pool.proofs.Along.{Steps, along}
 use Rattle.pp_laws_pool.proofs.View.{Holds as PoolHolds, facts_of as pool_facts, holds as pool_holds}
 use Rattle.pp_laws_pool.proofs.WalkClients.{fill-keeps, give_up_asks-keeps}
 use Rattle.pp_laws_pool.proofs.WalkSteps.{drop_unseen-keeps, placing-keeps}
 use Rattle.pp_obeys.specs.Obeys.{AreDone, Obeys, phases_on}
 use Rattle.pp_obeys.proofs.Come.{IsDone, come-stopped, come_to-next, next-phase, onward}
 use Rattle.pp_obeys.proofs.Obeying.{log-good, obeys_good}
-use Rattle.pp_laws_turn.proofs.View.{Holds, facts_of}
+use Rattle.pp_laws_turn.proofs.View.{Holds}
 use Rattle.pp_laws_turn.proofs.Happenings.{after-turn, next-turn, start-turn}
 use Rattle.pp_laws_turn.proofs.Kept.{Turn}
 
@@ -59,7 +58,7 @@ unfolding come_to
 comes_next p s d is same isnt = come_to-next p s d isnt ∙ come-stopped (is_at p) phases (next s) (ap (is_same_phase p) (next-phase s ∙ is) ∙ same)
 
 -- what is kept on the way to a phase is kept by each
-by_coming : (P : State → Type 0) → ((p : Phase) (s : State) → P s → P (come_to p s)) → Stays P
+pub by_coming : (P : State → Type 0) → ((p : Phase) (s : State) → P s → P (come_to p s)) → Stays P
 unfolding next
 by_coming P comes s done h = by s.phase refl
   where
@@ -88,7 +87,7 @@ by_coming P comes s done h = by s.phase refl
 
 -- ---- what holds at each moment
 
-whole : (terms : List Term) (log : Log) → Lawful terms log → Lawful terms (log ++ [])
+pub whole : (terms : List Term) (log : Log) → Lawful terms log → Lawful terms (log ++ [])
 whole terms log lawful = subst (λ (l : Log). Lawful terms l) (sym (append-nil log)) lawful
 
 pub kept_on : (terms : List Term) (s : State) (log : Log) → Obeys terms s log → Kept [] s

@@ -1,5 +1,5 @@
 -- The ends of responses and of connections keep what is kept by each change.
-use Rattle.std.proofs.Common.{◌≡◌, refl, ℕ, Bool, true, false, not, ◌&&◌, ◌||◌, le_refl, length, List, Option, Some, None}
+use Rattle.std.proofs.Common.{◌≡◌, refl, ℕ, Bool, true, false, not, ◌&&◌, ◌||◌, le_refl, length, Some, None}
 use Rattle.pp_head.specs.Response.{Response}
 use Rattle.pp_pass.specs.Pipe.{finished}
 use Rattle.pp_reply.specs.Keeping.{is_old}
@@ -7,7 +7,7 @@ use Rattle.pp_law.specs.Connections.{conn, on_conn, front_of_line, close_conn, e
 use Rattle.pp_law.specs.Passing.{pour}
 use Rattle.pp_law.specs.Responses.{skipping, skip_body, rested, close_this, may_go_on, finish, bad_response, bad_head, is_whole_at_end, finish_first, ended}
 use Rattle.pp_law.specs.State.{State, Answer, Conn, Exchange}
-use Rattle.pp_laws_turn.proofs.View.{View, Walk, Holds, holds, facts_of, view, Lesser}
+use Rattle.pp_laws_turn.proofs.View.{View, Walk, Holds, Lesser}
 use Rattle.pp_laws_turn.proofs.Cases.{by_aim_of, each_of, when}
 use Rattle.pp_laws_turn.proofs.Clients.{pour-keeps}
 use Rattle.pp_laws_turn.proofs.Closings.{close_conn-keeps}

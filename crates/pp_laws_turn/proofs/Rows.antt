@@ -1,5 +1,5 @@
 -- What is done to rows and chunks keeps what is kept by each change.
-use Rattle.std.proofs.Common.{◌≡◌, ◌⊎◌, refl, ℕ, ◌+◌, ◌<◌, ◌≤◌, nat_lt, Bool, true, false, not, ◌==◌, ◌&&◌, ◌||◌, List, [], ◌∷◌, ◌++◌, map, filter, find, Option, Some, None, inl, inr, sym, subst, ap, ◌∙◌, le_refl, arith}
+use Rattle.std.proofs.Common.{◌≡◌, ◌⊎◌, refl, ℕ, ◌+◌, ◌<◌, nat_lt, Bool, true, false, not, ◌&&◌, ◌||◌, List, [], ◌∷◌, ◌++◌, map, filter, find, Option, Some, None, inl, inr, sym, subst, ap, ◌∙◌, le_refl, arith}
 use Rattle.std.proofs.lemmas.List.{map-append}
 use Rattle.std.specs.List.{list_any}
 use Rattle.pp_fresh.specs.declared.aging.Times.{Times}
@@ -8,12 +8,12 @@ use Rattle.pp_valid.specs.declared.version.Version.{Version}
 use Rattle.pp_law.specs.Chunks.{is_chunk, use_chunk, drop_chunk}
 use Rattle.pp_law.specs.Lists.{Bytes, is_some_with, is_this}
 use Rattle.pp_law.specs.Stages.{reply_of}
-use Rattle.pp_law.specs.State.{State, Client, Exchange, Instance, Reply, Stage, Undecided, Waiting, Passing, Answering}
+use Rattle.pp_law.specs.State.{State, Client, Instance, Reply, Stage, Undecided, Waiting, Passing, Answering}
 use Rattle.pp_law.specs.Table.{follows, is_bound_to, is_followed, is_idle_row, is_instance, is_left_over, is_row_of, row_on_disk, row, rows, idle_row, on_instance, forget, swept, clear, mark_row, forget_row, with_room, add_row, make_row, enter}
 use Rattle.pp_laws.specs.Runs.{IsIn}
 use Rattle.pp_laws.proofs.Lists.{changed_at, in_filter, in_find, in_front, in_map, in_moved, in_push, map_kept, moved}
 use Rattle.pp_laws.proofs.Sound.{instance_id, source_in}
-use Rattle.pp_laws.proofs.Tests.{first_holds, number_same, same_number, second_holds}
+use Rattle.pp_laws.proofs.Tests.{number_same, same_number}
 use Rattle.pp_laws_bounds.proofs.Counts.{in_filter_of, in_map_of}
 use Rattle.pp_laws_turn.proofs.View.{View, KeepsRows, Holds, holds, facts_of, view, FromRow, IsFollowed, RowsFrom, WasRow}
 use Rattle.pp_laws_turn.proofs.Cases.{each_of, each_so, when}

@@ -1,7 +1,7 @@
 -- What is not seen, places, marks, the clock and the end of a turn keep what is kept by each change.
-use Rattle.std.proofs.Common.{◌≡◌, refl, ℕ, max, Bool, true, false, ◌&&◌, not, List, map, Option, Some, None}
+use Rattle.std.proofs.Common.{refl, ℕ, max, Bool, true, false, ◌&&◌, not, map, Option, Some, None}
 use Rattle.pp_world.specs.declared.event.Wants.{Wants}
-use Rattle.pp_law.specs.Connections.{front_of_line, put_on, placing}
+use Rattle.pp_law.specs.Connections.{front_of_line, placing}
 use Rattle.pp_law.specs.Offers.{has_to_say}
 use Rattle.pp_law.specs.Stages.{bound_of}
 use Rattle.pp_law.specs.State.{State, Bound, Joining, Client, Conn, Exchange}
