@@ -68,6 +68,7 @@ use Rattle.pp_laws_turn.proofs.Rows.{drop_chunk-keeps, enter-keeps}
 use Rattle.pp_laws_turn.proofs.Same.{said_by-same}
 use Rattle.pp_laws_turn.proofs.Steps.{drop_unseen-keeps, placing-keeps, rested-keeps, tick-keeps, touch-keeps}
 use Rattle.pp_laws_ends.specs.Ends.{AreApart, NumbersAreApart}
+use Rattle.pp_laws_ends.proofs.Moves.{gone-keeps, got-keeps, said-keeps, take_decision-keeps, undialled-keeps}
 
 -- ---- what changes
 
@@ -134,121 +135,6 @@ apart_places n k s h = conns_apart (changed_at (is_conn k) (λ j. record j { lin
     by : (j : Conn) (t : Bool) → (elim t as (λ c. Conn) [ true ↦ record j { line = j.line ++ n ∷ [] } | false ↦ j ]).number ≡ j.number
     by j true = refl
     by j false = refl
-
--- ---- one read
-
-end_if_empty-apart : (k : Conn) (e : Exchange) (a : Answer) (s : State) → Holds Apart s → Holds Apart (end_if_empty k e a s)
-unfolding end_if_empty
-end_if_empty-apart k e a s h = by_outcome (body_of a.rule []).outcome (λ rest. finish-keeps apart_walk k e a s h) h h
-
-begin_answer-apart : (k : Conn) (e : Exchange) (head : Response) (rule : BodyRule) (s : State) → Holds Apart s → Holds Apart (begin_answer k e head rule s)
-unfolding begin_answer
-begin_answer-apart k e head rule s h = end_if_empty-apart k e (answer_with e head rule) _ (by_aim-keeps apart_walk e head rule _ (on_conn-keeps apart_walk k.number _ s (λ j. same_conn _ j refl refl) h))
-
-answer_for-apart : (k : Conn) (e : Exchange) (head : Response) (s : State) → Holds Apart s → Holds Apart (answer_for k e head s)
-unfolding answer_for
-answer_for-apart k e head s h = when (is_wrong_head e head) (bad_head-keeps apart_walk k s h) (by_rule (rule_of (asks_head e) head.status head.fields))
-  where
-    by_rule : (read : Result BodyRule ResponseFault) → Holds Apart (elim read as (λ c. State) [ Ok rule ↦ begin_answer k e head rule s | Err fault ↦ bad_head k s ])
-    by_rule (Ok rule) = begin_answer-apart k e head rule s h
-    by_rule (Err fault) = bad_head-keeps apart_walk k s h
-
--- the kept row of its key comes into memory for it
-bring_row-apart : (e : Exchange) (head : Response) (s : State) → Holds Apart s → Holds Apart (bring_row e head s)
-unfolding bring_row
-bring_row-apart e head s h = when (is_readable e head) (enter-keeps apart_walk.rows (key_of e) true s h) h
-
-head_came-apart : (k : Conn) (head : Response) (s : State) → Holds Apart s → Holds Apart (head_came k head s)
-unfolding head_came
-head_came-apart k head s h = each_so (front_of_line s k) (λ none. close_conn-keeps apart_walk false k s h) (λ e first. answer_for-apart k e head _ (bring_row-apart e head s h))
-
-piece_when : (t : Bool) (p q : Piece) → Holds Apart p.state → Holds Apart q.state → Holds Apart (elim t as (λ c. Piece) [ true ↦ p | false ↦ q ]).state
-piece_when true p q hp hq = hp
-piece_when false p q hp hq = hq
-
-with_unread-apart : (k : Conn) (bytes : Bytes) (s : State) → Holds Apart s → Holds Apart (on_conn k.number (with_unread bytes) s)
-with_unread-apart k bytes s h = on_conn-keeps apart_walk k.number (with_unread bytes) s (λ j. same_conn _ j refl refl) h
-
-head_piece_by : (k : Conn) (bytes : Bytes) (s : State) (read : Read Response) → Holds Apart s
-    → Holds Apart (elim read as (λ c. Piece) [
-      | More ↦ record { state = on_conn k.number (with_unread bytes) s; rest = [] }
-      | TooLong ↦ record { state = bad_head k s; rest = [] }
-      | NoHead ↦ record { state = bad_head k s; rest = [] }
-      | Whole head ↦ elim (is_interim head.status) as (λ c. Piece) [
-        | true ↦ record { state = on_conn k.number (with_unread []) s; rest = drop head.length bytes }
-        | false ↦ record { state = head_came k head s; rest = drop head.length bytes }
-      ]
-    ]).state
-head_piece_by k bytes s More h = with_unread-apart k bytes s h
-head_piece_by k bytes s TooLong h = bad_head-keeps apart_walk k s h
-head_piece_by k bytes s NoHead h = bad_head-keeps apart_walk k s h
-head_piece_by k bytes s (Whole head) h = piece_when (is_interim head.status) _ _ (with_unread-apart k [] s h) (head_came-apart k head s h)
-
-head_piece-apart : (k : Conn) (bytes : Bytes) (s : State) → Holds Apart s → Holds Apart (head_piece k bytes s).state
-head_piece-apart k bytes s h = piece_when (is_early s k) _ _ (close_conn-keeps apart_walk true k s h) (head_piece_by k (k.unread ++ bytes) s (response_at (k.unread ++ bytes)) h)
-
--- ---- bodies
-
-note_own-apart : (e : Exchange) (a : Answer) (at : ℕ) (bytes : Bytes) (s : State) → Holds Apart s → Holds Apart (note_own e a at bytes s)
-unfolding note_own
-note_own-apart e a at bytes s h = when (is_empty bytes) h (holds (facts_of h))
-
-note_sent-apart : (e : Exchange) (a : Answer) (at : ℕ) (bytes : Bytes) (s : State) → Holds Apart s → Holds Apart (note_sent e a at bytes s)
-unfolding note_sent
-note_sent-apart e a at bytes s h = by_aim_of e.aim h (note_own-apart e a at bytes s h) (λ v from to. note_own-apart e a at bytes s h)
-
-join-apart : (b : Bound) (bytes : Bytes) (s : State) → Holds Apart s → Holds Apart (join b bytes s)
-unfolding join note_use
-join-apart b bytes s h = each_of (instance s b.instance) h (λ x. holds (facts_of h))
-
-moved_same : (m : ℕ) (e : Exchange) → SameAsk (moved_on m e) e
-moved_same m e = by (bound_of e)
-  where
-    by : (o : Option Bound) → SameAsk (elim o as (λ c. Exchange) [ None ↦ e | Some b ↦ record e { body = Joining (record b { next = b.next + m }) } ]) e
-    by None = same_ask e e refl refl refl refl refl refl
-    by (Some b) = same_ask _ e refl refl refl refl refl refl
-
-join_bound-apart : (e : Exchange) (bytes : Bytes) (s : State) → Holds Apart s → Holds Apart (join_bound e bytes s)
-unfolding join_bound
-join_bound-apart e bytes s h = each_of (bound_of e) h (λ b. on_exchange-keeps apart_walk e.number (moved_on (length bytes)) _ (moved_same (length bytes)) (join-apart b bytes s h))
-
-deliver-apart : (e : Exchange) (a : Answer) (at : ℕ) (bytes : Bytes) (s : State) → Holds Apart s → Holds Apart (deliver e a at bytes s)
-unfolding deliver
-deliver-apart e a at bytes s h = pour-keeps apart_walk e (poured bytes) _ (join_bound-apart e bytes _ (note_sent-apart e a at bytes s h))
-
-body_piece_by : (k : Conn) (a : Answer) (e : Exchange) (bytes : Bytes) (t : State) (outcome : Outcome) → Holds Apart t
-    → Holds Apart (elim outcome as (λ c. Piece) [
-      | Going ↦ record { state = on_conn k.number (λ i. record i { answer = Some (record a { raw = a.raw ++ bytes }) }) t; rest = [] }
-      | Bad ↦ record { state = bad_response k t; rest = [] }
-      | Done rest ↦ record { state = finish k e a t; rest = rest }
-    ]).state
-body_piece_by k a e bytes t Going h = on_conn-keeps apart_walk k.number _ t (λ j. same_conn _ j refl refl) h
-body_piece_by k a e bytes t Bad h = bad_response-keeps apart_walk k t h
-body_piece_by k a e bytes t (Done rest) h = finish-keeps apart_walk k e a t h
-
-body_piece-apart : (k : Conn) (a : Answer) (bytes : Bytes) (s : State) → Holds Apart s → Holds Apart (body_piece k a bytes s).state
-body_piece-apart k a bytes s h = by (front_of_line s k)
-  where
-    by : (front : Option Exchange) → Holds Apart (elim front as (λ c. Piece) [ None ↦ record { state = close_conn false k s; rest = [] } | Some e ↦ body_piece_of k a e bytes s ]).state
-    by None = close_conn-keeps apart_walk false k s h
-    by (Some e) =
-        let at : ℕ = length (payload_of a) in
-        let fresh : Bytes = drop at (body_of a.rule (a.raw ++ bytes)).payload in
-        body_piece_by k a e bytes (deliver e a at fresh s) (body_of a.rule (a.raw ++ bytes)).outcome (deliver-apart e a at fresh s h)
-
-next_piece-apart : (k : Conn) (bytes : Bytes) (s : State) → Holds Apart s → Holds Apart (next_piece k bytes s).state
-next_piece-apart k bytes s h = by k.answer
-  where
-    by : (answer : Option Answer) → Holds Apart (elim answer as (λ c. Piece) [ Some a ↦ body_piece k a bytes s | None ↦ head_piece k bytes s ]).state
-    by None = head_piece-apart k bytes s h
-    by (Some a) = body_piece-apart k a bytes s h
-
--- ---- the read
-
-got-apart : (more n : ℕ) (bytes : Bytes) (s : State) → Holds Apart s → Holds Apart (got more n bytes s)
-unfolding got
-got-apart zero n bytes s h = h
-got-apart (suc more) n bytes s h = each_of (conn s n) h (λ k. when (k.is_closing || is_empty bytes) h (got-apart more n (next_piece k bytes s).rest (next_piece k bytes s).state (next_piece-apart k bytes s h)))
 
 -- ---- phases
 
@@ -331,21 +217,7 @@ owing-apart : (owed : Owed) (n : ℕ) (s : State) → Holds Apart s → Holds Ap
 unfolding owing
 owing-apart owed n s h = event-apart _ (holds (facts_of (touch-keeps apart_walk n s h)))
 
-said-apart : (c n : ℕ) (s : State) → Holds Apart s → Holds Apart (said c n s)
-unfolding said
-said-apart c n s h = each_of (client s c) h (λ x. end_replies-keeps apart_walk _ (on_client-keeps apart_walk c (said_by n) _ (said_by-same n) (use_said-keeps n x s h)))
-
-gone-apart : (is_clean : Bool) (n : ℕ) (s : State) → Holds Apart s → Holds Apart (gone is_clean n s)
-unfolding gone
-gone-apart is_clean n s h = each_of (conn s n) h (λ k. end_replies-keeps apart_walk _ (ended-keeps apart_walk is_clean k s h))
-
 -- ---- notes
-
-take_decision-apart : (n : ℕ) (d : Decision) (s : State) → is_late s.phase ≡ true → ((c : Client) → client s n ≡ Some c → c.is_closing ≡ false) → Holds Apart s → Holds Apart (take_decision n d s)
-unfolding take_decision
-take_decision-apart n d s late going h =
-    each_so (client s n) (λ none. h)
-    (λ c found. regained-keeps apart_walk _ (holds (facts_of (decided-keeps apart_walk apart_begins apart_follows c d s (record { there = (in_find (is_client n) c s.clients found).0; going = going c found }) late h))))
 
 evicted-apart : (s : State) → Holds Apart s → Holds Apart (evicted s)
 unfolding evicted
@@ -435,14 +307,6 @@ dialled-apart n host port p below h = by_pause p.pause h (λ k e. h) (λ e. hold
     added : Apart (view (record p.state { conns = p.state.conns ++ new_conn n host port p.state.clock ∷ []; top = n }))
     added c k i j is = by c k i (in_push k p.state.conns (new_conn n host port p.state.clock) j) is
 
-refused_dial-apart : (e : Exchange) (s : State) → Holds Apart s → Holds Apart (refused_dial e s)
-unfolding refused_dial
-refused_dial-apart e s h = when (may_ask_again s e.number) h (fill-keeps apart_walk apart_begins _ (end_exchange-keeps apart_walk e.number _ h))
-
-undialled-apart : (p : Placement) → Holds Apart p.state → Holds Apart (undialled p)
-unfolding undialled
-undialled-apart p h = by_pause p.pause h (λ k e. h) (λ e. refused_dial-apart e _ (lose_attempt-keeps apart_walk e _ (holds (facts_of h))))
-
 out-apart : (n : ℕ) (s : State) → Holds Apart s → Holds Apart (out n s)
 unfolding out
 out-apart n s h = holds (λ c k i j is. facts_of h c k i (in_filter (λ x. not (is_conn n x)) k s.conns j).0 is)
@@ -483,7 +347,7 @@ dial_above s n so lt c i =
 
 noted-apart : {b : Since} (remark : Remark) (s : State) → Sound b s → IsPermitted s (Noted remark) → Holds Apart s → Holds Apart (noted remark s)
 unfolding noted
-noted-apart (Taken c i d) s so is h = take_decision-apart c d _ (deciding_late s) (taken_going s c i d so (taken_so s c i d is)) (deciding-apart s h)
+noted-apart (Taken c i d) s so is h = take_decision-keeps apart_walk apart_begins apart_follows c d _ (deciding_late s) (taken_going s c i d so (taken_so s c i d is)) (deciding-apart s h)
 noted-apart (Cut c cause) s so is h = close_client-keeps apart_walk c true _ (deciding-apart s h)
 noted-apart (Kept key tag n extent) s so is h = note_kept-keeps key extent s h
 noted-apart (Gone key) s so is h = note_gone-keeps key _ (come_to-apart Keeping s h)
@@ -501,16 +365,16 @@ after-apart s (CanRead n) so is h = owing-apart (ReadOf n) n s h
 after-apart s (CanWrite n) so is h = owing-apart (WriteTo n) n s h
 after-apart s (Heard c bytes) so is h = paid-apart _ (hear-keeps apart_walk c bytes s h)
 after-apart s (HungUp c) so is h = paid-apart _ (hang_up-keeps apart_walk c s h)
-after-apart s (Said c offered bytes) so is h = paid-apart _ (said-apart c (length bytes) s h)
+after-apart s (Said c offered bytes) so is h = paid-apart _ (said-keeps apart_walk c (length bytes) s h)
 after-apart s (Shut c) so is h = shut-apart c _ (come_to-apart Connecting s h)
 after-apart s (Dialled n host port) so is h =
     dialled-apart n host port (placing (come_to Connecting s)) (dial_above s n so (new_above s n (dialled_new s n host port is))) (placing-keeps apart_places _ (come_to-apart Connecting s h))
-after-apart s (Undialled host port) so is h = undialled-apart (placing (come_to Connecting s)) (placing-keeps apart_places _ (come_to-apart Connecting s h))
+after-apart s (Undialled host port) so is h = undialled-keeps apart_walk apart_begins (placing (come_to Connecting s)) (placing-keeps apart_places _ (come_to-apart Connecting s h))
 after-apart s (Reached n) so is h = event-apart _ (reached-apart n s h)
-after-apart s (Ended n) so is h = paid-apart _ (gone-apart true n s h)
-after-apart s (Broke n) so is h = paid-apart _ (gone-apart false n _ (event-apart s h))
+after-apart s (Ended n) so is h = paid-apart _ (gone-keeps apart_walk true n s h)
+after-apart s (Broke n) so is h = paid-apart _ (gone-keeps apart_walk false n _ (event-apart s h))
 after-apart s (Asked n bytes) so is h = paid-apart _ (ask-keeps apart_walk n (length bytes) s (asked_placed s n so) h)
-after-apart s (Got n bytes) so is h = paid-apart _ (end_replies-keeps apart_walk _ (got-apart (length bytes) n bytes s h))
+after-apart s (Got n bytes) so is h = paid-apart _ (end_replies-keeps apart_walk _ (got-keeps apart_walk (length bytes) n bytes s h))
 after-apart s (Dropped n) so is h = dropped-apart n _ (come_to-apart Connecting s h)
 after-apart s (NoneYet n) so is h = paid-apart s h
 after-apart s (Began op) so is h = begun_op-apart op s h

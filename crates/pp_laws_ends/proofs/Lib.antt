@@ -2,6 +2,8 @@ pub mod Wanted
 pub mod Stays
 pub mod Nowhere
 pub mod Ahead
+pub mod Moves
+pub mod Phases
 pub mod Apart
 pub mod Standing
 pub mod Served

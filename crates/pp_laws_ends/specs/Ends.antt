@@ -7,6 +7,7 @@ use Rattle.pp_world.specs.declared.event.Wants.{Wants}
 use Rattle.pp_law.specs.Asking.{has_room}
 use Rattle.pp_law.specs.Connections.{front_of_line, is_for, is_outstanding, place_for}
 use Rattle.pp_law.specs.Offers.{has_to_say}
+use Rattle.pp_law.specs.Lawful.{Lawful}
 use Rattle.pp_law.specs.Lists.{is_some_with}
 use Rattle.pp_law.specs.Opening.{is_at}
 use Rattle.pp_law.specs.Phases.{ending, may_end}
@@ -51,6 +52,10 @@ NothingMoreIsWanted = (s : State) → (accepts_rightly s (wants_of s) ≡ true) 
 -- the last happening of the log left the turn before its end
 abbrev pub HasNotEnded : List Term → Log → Type 0
 HasNotEnded terms log = is_at DecidingAgain (state_after terms log) ≡ false
+
+-- it does, but where it made room for the decision that is due there: a wait is permitted behind no such happening
+abbrev pub TurnsAreLeft : Type 0
+TurnsAreLeft = (terms : List Term) (log : Log) → Lawful terms log → (state_after terms log).has_made_room ≡ false → HasNotEnded terms log
 
 -- where a turn may end then, each exchange that has no place has none to go to
 abbrev pub AsksHaveNoPlace : Type 0

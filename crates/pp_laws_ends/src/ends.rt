@@ -1,9 +1,15 @@
 // What is permitted at the end of a turn.
-ghost use Rattle.pp_laws_ends.specs.Ends.{AskersAreServed, AsksHaveNoPlace, ConnectionsAreServed, EachStandsAsItIs, FarAheadIsHeldBack, FollowersAreServed, NothingMoreIsWanted, NumbersAreApart, OwnersAreServed, PassedConnectionsAreServed, PlacedAreServed, SpeakersAreServed, UndecidedAreServed, UnplacedAreServed};
+ghost use Rattle.pp_laws_ends.specs.Ends.{AskersAreServed, AsksHaveNoPlace, ConnectionsAreServed, EachStandsAsItIs, FarAheadIsHeldBack, FollowersAreServed, NothingMoreIsWanted, NumbersAreApart, OwnersAreServed, PassedConnectionsAreServed, PlacedAreServed, SpeakersAreServed, TurnsAreLeft, UndecidedAreServed, UnplacedAreServed};
 
 /// Nothing stands in the wants but what may, and a client is accepted exactly where one may come.
 pub fn nothing_more_is_wanted()
     ensures wanted { NothingMoreIsWanted }
+{}
+
+/// Each happening leaves a turn before its end, but one that makes room for the decision that is due
+/// there, behind which no wait is permitted.
+pub fn turns_are_left_before_their_end()
+    ensures left { TurnsAreLeft }
 {}
 
 /// Where a turn may end that its last happening left before its end, each exchange that has no place

@@ -17,5 +17,5 @@ mod ends; // what is permitted at the end of a turn
 pub use ends::{
     asks_without_a_place_have_none, clients_are_served, connections_are_served,
     each_stands_as_it_is, exchanges_are_served, far_ahead_is_held_back, nothing_more_is_wanted,
-    numbers_are_apart, waiting_ones_are_served,
+    numbers_are_apart, turns_are_left_before_their_end, waiting_ones_are_served,
 };
