@@ -56,21 +56,16 @@ pub(crate) fn unlike(alloc: Global, crowds: &[Crowd]) -> Result<String, OutOfMem
 /// The clients of page /a have the numbers from this one on.
 const FIRST: u64 = 3;
 
-/// So many bytes at the front of the last chunk of page /b, with whose first byte the memory is as full as it gets, come alone where
-/// each byte does; of any other chunk the first two.
-const LAST_ALONE: usize = 256;
+/// So many bytes of the last chunk come alone, where each byte does.
+const ALONE: usize = 256;
 
-const ALONE: usize = 2;
-
-/// Byte by byte come all requests, the heads, and of each chunk of both pages the bytes at its front and the last one. What is between
-/// comes in one piece, which begins no chunk and ends none: a byte that comes and is said is six happenings, of some 5 KB each in the
-/// log of the world, so that all bytes alone would take some 60 GB, in the smallest memory that is.
+/// Byte by byte come the requests for both pages and their heads, the front of the last chunk of page /b, with whose first byte
+/// the memory is as full as it gets, and what is asked behind it. The followers' requests and the rest of both pages, millions
+/// of bytes, come whole at either pace.
 fn played(alloc: Global, pace: Pace, crowd: &Crowd) -> Result<Played, OutOfMemory> {
     let requests = requests_of(alloc, crowd)?;
     let anew = request_of(alloc, first_left(crowd))?;
     let beyond = FIRST.saturating_add(crowd.followers);
-    let origin = beyond.saturating_add(1);
-    let before_last = crowd.more.saturating_sub(1);
     let mut acts = Vec::new(alloc);
     acts.extend_from_slice(&[
         Act::Tick(T),
@@ -78,54 +73,25 @@ fn played(alloc: Global, pace: Pace, crowd: &Crowd) -> Result<Played, OutOfMemor
         Act::Say(1, GET),
         Act::Reach(2),
         Act::Answer(2, LONGEST),
+        Act::FillWhole(2, b'a', crowd.chunks.saturating_mul(CHUNK_LEN)),
     ])?;
-    if pace == Pace::Whole {
-        acts.push(Act::FillWhole(2, b'a', crowd.chunks.saturating_mul(CHUNK_LEN)))
-            .map_err(AllocError::from)?;
-    }
-    for _chunk in 0..cut_in(pace, crowd.chunks) {
+    for request in requests.iter() {
         acts.extend_from_slice(&[
-            Act::Fill(2, b'a', ALONE),
-            Act::FillWhole(2, b'a', CHUNK_LEN - ALONE - 1),
-            Act::Fill(2, b'a', 1),
+            Act::Connect,
+            Act::Window(0, 0),
+            Act::SayWhole(0, request.as_bytes()),
         ])?;
     }
-    for _request in requests.iter() {
-        acts.extend_from_slice(&[Act::Connect, Act::Window(0, 0)])?;
-    }
-    for (place, request) in requests.iter().enumerate() {
-        let (front, _) = parts_of(pace, request.as_str());
-        acts.push(Act::Say(number_at(place), front))
-            .map_err(AllocError::from)?;
-    }
-    for (place, request) in requests.iter().enumerate() {
-        let (_, last) = parts_of(pace, request.as_str());
-        if !last.is_empty() {
-            acts.push(Act::Say(number_at(place), last))
-                .map_err(AllocError::from)?;
-        }
-    }
+    let origin = beyond.saturating_add(1);
+    let before_last = crowd.more.saturating_sub(1).saturating_mul(CHUNK_LEN);
     acts.extend_from_slice(&[
         Act::Connect,
         Act::Say(0, GET_B),
         Act::Reach(origin),
         Act::Answer(origin, LONGEST),
-    ])?;
-    if pace == Pace::Whole {
-        acts.push(Act::FillWhole(origin, b'b', before_last.saturating_mul(CHUNK_LEN)))
-            .map_err(AllocError::from)?;
-    }
-    for _chunk in 0..cut_in(pace, before_last) {
-        acts.extend_from_slice(&[
-            Act::Fill(origin, b'b', ALONE),
-            Act::FillWhole(origin, b'b', CHUNK_LEN - ALONE - 1),
-            Act::Fill(origin, b'b', 1),
-        ])?;
-    }
-    acts.extend_from_slice(&[
-        Act::Fill(origin, b'b', LAST_ALONE),
-        Act::FillWhole(origin, b'b', CHUNK_LEN - LAST_ALONE - 1),
-        Act::Fill(origin, b'b', 1),
+        Act::FillWhole(origin, b'b', before_last),
+        Act::Fill(origin, b'b', ALONE),
+        Act::FillWhole(origin, b'b', CHUNK_LEN - ALONE),
     ])?;
     for follower in FIRST..beyond {
         acts.push(Act::Window(follower, u64::MAX))
@@ -140,30 +106,6 @@ fn played(alloc: Global, pace: Pace, crowd: &Crowd) -> Result<Played, OutOfMemor
         Act::Reach(beyond.saturating_add(2)),
     ])?;
     play_with(alloc, crowd.words, pace, acts.as_slice(), &[])
-}
-
-/// The number of the follower at this place.
-fn number_at(place: usize) -> u64 {
-    FIRST.saturating_add(place as u64)
-}
-
-/// What a follower says at first of its request, and what behind the others: where each byte comes alone that is the last one, since
-/// who has said no whole request costs a turn nothing.
-fn parts_of(pace: Pace, request: &str) -> (&[u8], &[u8]) {
-    let bytes = request.as_bytes();
-    let last = match pace {
-        Pace::Whole => 0,
-        Pace::Bytewise => 1,
-    };
-    bytes.split_at(bytes.len().saturating_sub(last))
-}
-
-/// So many chunks come cut, where each byte comes alone.
-fn cut_in(pace: Pace, chunks: usize) -> usize {
-    match pace {
-        Pace::Whole => 0,
-        Pace::Bytewise => chunks,
-    }
 }
 
 /// The chunk that this follower asks for.
@@ -220,38 +162,12 @@ fn first_unlike(
     if asked_in(alloc, played.log())?.as_slice() != asks_of(alloc, crowd)?.as_slice() {
         return Ok("what is asked");
     }
-    let log = behind_opening(FIRST, played.log());
     for follower in 0..crowd.followers {
-        if !is_replied(alloc, crowd, log, follower)? {
+        if !is_replied(alloc, crowd, played, follower)? {
             return Ok("a reply");
         }
     }
     Ok("")
-}
-
-/// What happened from the opening of this client on.
-fn behind_opening(client: u64, log: &[Happening]) -> &[Happening] {
-    for (at, happening) in log.iter().enumerate() {
-        if let Happening::Opened(opened) = happening {
-            if *opened == client {
-                return log.get(at..).unwrap_or(&[]);
-            }
-        }
-    }
-    &[]
-}
-
-/// All that this client is said there.
-fn said_in(alloc: Global, client: u64, log: &[Happening]) -> Result<Vec<u8>, OutOfMemory> {
-    let mut text = Vec::new(alloc);
-    for happening in log {
-        if let Happening::Said(to, _, bytes) = happening {
-            if *to == client {
-                text.extend_from_slice(bytes.as_slice())?;
-            }
-        }
-    }
-    Ok(text)
 }
 
 /// The chunks that are to leave memory.
@@ -298,10 +214,10 @@ fn asks_of(alloc: Global, crowd: &Crowd) -> Result<Vec<u8>, OutOfMemory> {
 fn is_replied(
     alloc: Global,
     crowd: &Crowd,
-    log: &[Happening],
+    played: &Played,
     follower: u64,
 ) -> Result<bool, OutOfMemory> {
-    let said = said_in(alloc, FIRST.saturating_add(follower), log)?;
+    let said = played.said(FIRST.saturating_add(follower))?;
     let head = reply_head(alloc, chunk_of(crowd, follower))?;
     let head = Part::Text(head.as_bytes());
     let body = Part::Fill(b'a', CHUNK_LEN);

@@ -31,7 +31,8 @@ pub enum Act<'a> {
     Answer(u64, &'a [u8]),
     /// An origin sends so many of this byte.
     Fill(u64, u8, usize),
-    /// The same in one piece at either pace.
+    /// A client sends this text, and an origin so many of this byte, in one piece at either pace.
+    SayWhole(u64, &'a [u8]),
     FillWhole(u64, u8, usize),
     /// An origin will send no more.
     End(u64),
@@ -326,6 +327,7 @@ fn put_cues(
             let text = vec![in alloc; byte; count]?;
             put_answers(alloc, pace, k, text.as_slice(), cues)
         }
+        Act::SayWhole(c, text) => put(Cue::Say(c, Octets::copy(alloc, text)?), cues),
         Act::FillWhole(k, byte, count) => {
             let text = vec![in alloc; byte; count]?;
             put_answers(alloc, Pace::Whole, k, text.as_slice(), cues)
