@@ -67,6 +67,7 @@ const ALONE: usize = 2;
 /// log of the world, so that all bytes alone would take some 60 GB, in the smallest memory that is.
 fn played(alloc: Global, pace: Pace, crowd: &Crowd) -> Result<Played, OutOfMemory> {
     let requests = requests_of(alloc, crowd)?;
+    let fronts = fronts_of(alloc, pace, crowd)?;
     let anew = request_of(alloc, first_left(crowd))?;
     let beyond = FIRST.saturating_add(crowd.followers);
     let origin = beyond.saturating_add(1);
@@ -93,17 +94,19 @@ fn played(alloc: Global, pace: Pace, crowd: &Crowd) -> Result<Played, OutOfMemor
     for _request in requests.iter() {
         acts.extend_from_slice(&[Act::Connect, Act::Window(0, 0)])?;
     }
-    for (place, request) in requests.iter().enumerate() {
-        let (front, _) = parts_of(pace, request.as_str());
-        acts.push(Act::Say(number_at(place), front))
-            .map_err(AllocError::from)?;
-    }
-    for (place, request) in requests.iter().enumerate() {
-        let (_, last) = parts_of(pace, request.as_str());
-        if !last.is_empty() {
-            acts.push(Act::Say(number_at(place), last))
+    if pace == Pace::Whole {
+        for (place, request) in requests.iter().enumerate() {
+            acts.push(Act::Say(number_at(place), request.as_bytes()))
                 .map_err(AllocError::from)?;
         }
+    }
+    for (place, front) in fronts.iter().enumerate() {
+        acts.push(Act::Say(number_at(place), front.as_bytes()))
+            .map_err(AllocError::from)?;
+    }
+    for place in 0..fronts.len() {
+        acts.push(Act::Say(number_at(place), b"\n"))
+            .map_err(AllocError::from)?;
     }
     acts.extend_from_slice(&[
         Act::Connect,
@@ -147,17 +150,6 @@ fn number_at(place: usize) -> u64 {
     FIRST.saturating_add(place as u64)
 }
 
-/// What a follower says at first of its request, and what behind the others: where each byte comes alone that is the last one, since
-/// who has said no whole request costs a turn nothing.
-fn parts_of(pace: Pace, request: &str) -> (&[u8], &[u8]) {
-    let bytes = request.as_bytes();
-    let last = match pace {
-        Pace::Whole => 0,
-        Pace::Bytewise => 1,
-    };
-    bytes.split_at(bytes.len().saturating_sub(last))
-}
-
 /// So many chunks come cut, where each byte comes alone.
 fn cut_in(pace: Pace, chunks: usize) -> usize {
     match pace {
@@ -186,6 +178,22 @@ fn requests_of(alloc: Global, crowd: &Crowd) -> Result<Vec<String>, OutOfMemory>
         requests.push(request).map_err(AllocError::from)?;
     }
     Ok(requests)
+}
+
+/// The requests without their last byte, which comes behind all others where each byte comes alone: who has said no whole request
+/// costs a turn nothing.
+fn fronts_of(alloc: Global, pace: Pace, crowd: &Crowd) -> Result<Vec<String>, OutOfMemory> {
+    let mut fronts = Vec::new(alloc);
+    if pace == Pace::Bytewise {
+        for follower in 0..crowd.followers {
+            let (first, last) = ends_of(chunk_of(crowd, follower));
+            let front = format!(in alloc;
+                "GET http://h/a HTTP/1.1\r\nHost: h\r\nRange: bytes={first}-{last}\r\n\r"
+            )?;
+            fronts.push(front).map_err(AllocError::from)?;
+        }
+    }
+    Ok(fronts)
 }
 
 /// The offsets of the first and the last byte of a chunk.
