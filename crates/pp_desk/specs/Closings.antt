@@ -55,6 +55,10 @@ closed_conn k counts x = record { parts = closed_line k counts (find (is_number 
 abbrev pub peer_numbers : List Peer → List ℕ
 peer_numbers peers = map (λ peer. peer.number) peers
 
+-- with an exchange of its line, which is over
+abbrev pub dropped_with : ℕ → ℕ → Sides → Sides
+dropped_with number k x = closed_conn k false (with_parts (ended number) x)
+
 -- ---- an exchange of which nothing was asked leaves its line
 
 -- the ask that stands there is taken out, where no byte of it was written
@@ -86,14 +90,9 @@ withdrawn number k x = record { parts = ended number x.parts; peers = unasked_at
 abbrev pub closing_at : ℕ → Parts → Parts
 closing_at i p = on_seat i (λ seat. record seat { is_closing = true }) (left_source i p)
 
--- a body cannot be asked any more: the connection is dropped
-abbrev pub dropped_with : ℕ → ℕ → Sides → Sides
-dropped_with number k x = closed_conn k false (with_parts (ended number) x)
-
--- of its exchange a response that was asked for is read to its end
+-- an exchange of which something was asked is nobody's
 abbrev pub left_on : ℕ → ℕ → Errand → ℕ → Sides → Sides
-left_on i number errand k x =
-    if errand.asked == 0 then withdrawn number k x else if errand.body_left == 0 then with_parts (forsaken i) x else dropped_with number k x
+left_on i number errand k x = if errand.asked == 0 then withdrawn number k x else with_parts (forsaken i) x
 
 abbrev pub left_at : ℕ → ℕ → Errand → Option ℕ → Sides → Sides
 left_at i number errand None x = with_parts (ended number) x

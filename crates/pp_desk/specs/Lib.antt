@@ -2,6 +2,7 @@ pub mod Anything
 pub mod Calls
 pub mod Closings
 pub mod Marks
+pub mod Opening
 pub mod Origins
 pub mod Replies
 pub mod Shutting

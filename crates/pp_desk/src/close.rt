@@ -1,12 +1,12 @@
 // Step 6: connections that are over, and what is taken out of their lines (RFC 2616, section 8.1.4).
-ghost use Rattle.std.specs.Prelude.{◌≡◌, ◌&&◌, not, true, false, Some};
+ghost use Rattle.std.specs.Prelude.{◌≡◌, ◌≤◌, ◌&&◌, not, true, false, Some, length, vec_capacity};
 ghost use Rattle.std.specs.List.{filter, find};
 ghost use Rattle.std.specs.Option.{option_to_list};
 ghost use Rattle.pp_links.specs.Links.{IsLinked};
 ghost use Rattle.pp_links.specs.Quiet.{GrowsQuietly};
 ghost use Rattle.pp_peers.specs.Peers.{goes_on, is_number};
 ghost use Rattle.pp_desk.specs.Closings.{KeepsDesk, closed_client, closed_line, closing, closing_at, dropped_with, has_closing, left_ask, peer_numbers, place_on, sides, unasked, unasked_of, with_parts, withdrawn};
-ghost use Rattle.pp_desk.specs.Shutting.{all_over, closings, over_at, over_client, over_clients, over_peer, over_peers, without_all};
+ghost use Rattle.pp_desk.specs.Shutting.{all_over, awake_left, closings, over_at, over_client, over_clients, over_peer, over_peers, seats_left, stays, without_all};
 ghost use Rattle.pp_state.specs.Ends.{changed_at, numbers_of, parts, AreSeated};
 ghost use Rattle.pp_world.specs.Log.{AppendsAll};
 
@@ -21,8 +21,8 @@ use pp_state::{is_any_over, lose_line};
 use pp_world::Wire;
 
 impl Desk {
-    /// The client's cause to be closed has come. Of its exchange a response that was asked for is read to its
-    /// end; where a body cannot be asked any more, the connection is dropped.
+    /// The client's cause to be closed has come. Its exchange is over where nothing of it was asked, and is nobody's
+    /// where something was: what comes of that is read to its end, or dropped where nobody will see it.
     pub fn close_client(&mut self, i: usize)
         ensures is { AreSeated self.old.state → sides self.new ≡ closed_client i (sides self.old) }
         ensures numbers { numbers_of self.new.state.seats.items ≡ numbers_of self.old.state.seats.items }
@@ -64,15 +64,14 @@ impl Desk {
         ensures connections { peer_numbers self.new.peers ≡ peer_numbers self.old.peers }
         ensures rest { KeepsDesk self.old self.new }
     {
-        let (asked, body_left) = match self.state.flow.entry(e.number) {
+        let asked = match self.state.flow.entry(e.number) {
             None => return,
-            Some(entry) => (entry.errand.asked, entry.errand.body_left),
+            Some(entry) => entry.errand.asked,
         };
         match e.place {
             None => self.state.end(e.number),
             Some(k) if asked == 0 => self.withdraw(e.number, k),
-            Some(_) if body_left == 0 => self.state.forsake(i),
-            Some(k) => self.drop_with(e.number, k),
+            Some(_) => self.state.forsake(i),
         }
     }
 
@@ -143,8 +142,14 @@ impl Desk {
         ensures told { AppendsAll (W.log world.old) (W.log world.new) (λ l. closings (all_over self.old) links.old) }
         ensures links { links.new ≡ without_all (all_over self.old) links.old }
         ensures top { W.top world.new ≡ W.top world.old }
+        ensures faults { W.faults world.old ≤ W.faults world.new }
         ensures closed { has_closing self.new.peers ≡ false }
         ensures peers { self.new.peers ≡ filter (goes_on self.old.state.is_stopped) self.old.peers }
+        ensures seats { self.new.state.seats.items ≡ seats_left self.old.state }
+        ensures awake { length (seats_left self.old.state) ≤ vec_capacity self.old.state.awake → self.new.state.awake.items ≡ awake_left self.old.state }
+        ensures room { vec_capacity self.old.state.awake ≤ vec_capacity self.new.state.awake }
+        ensures capacity { vec_capacity self.new.state.seats ≡ vec_capacity self.old.state.seats }
+        ensures rest { record self.new { state = record self.new.state { seats = self.old.state.seats; awake = self.old.state.awake }; peers = self.old.peers } ≡ self.old }
     {
         self.shut_clients(links, world);
         self.drop_origins(links, world);
@@ -156,13 +161,14 @@ impl Desk {
     fn drop_over(&mut self)
         ensures closed { has_closing self.new.peers ≡ false }
         ensures peers { self.new.peers ≡ filter (goes_on self.old.state.is_stopped) self.old.peers }
+        ensures seats { self.new.state.seats.items ≡ seats_left self.old.state }
+        ensures awake { length (seats_left self.old.state) ≤ vec_capacity self.old.state.awake → self.new.state.awake.items ≡ awake_left self.old.state }
+        ensures room { vec_capacity self.old.state.awake ≤ vec_capacity self.new.state.awake }
+        ensures capacity { vec_capacity self.new.state.seats ≡ vec_capacity self.old.state.seats }
+        ensures rest { record self.new { state = record self.new.state { seats = self.old.state.seats; awake = self.old.state.awake }; peers = self.old.peers } ≡ self.old }
     {
-        let is_end = self.state.is_stopped;
-        if is_any_over(&self.state) {
-            self.state.seats.retain(|seat| !(is_end || seat.is_closing));
-            self.state.wake();
-        }
-        self.peers.drop_closing(is_end);
+        self.peers.drop_closing(self.state.is_stopped);
+        drop_seats(&mut self.state);
     }
 
     #[tactic(auto, using(pp_links::proofs::QuietLemmas::quiet_then, pp_links::proofs::QuietLemmas::quiet_none))]
@@ -173,6 +179,7 @@ impl Desk {
         ensures told { AppendsAll (W.log world.old) (W.log world.new) (λ l. closings (over_clients self.entry.now.state) links.old) }
         ensures links { links.new ≡ without_all (over_clients self.entry.now.state) links.old }
         ensures top { W.top world.new ≡ W.top world.old }
+        ensures faults { W.faults world.old ≤ W.faults world.new }
     {
         for i in self.state.awake.iter() {
             self.shut(links, world, *i);
@@ -187,6 +194,7 @@ impl Desk {
         ensures told { AppendsAll (W.log world.old) (W.log world.new) (λ l. closings (over_peers self.entry.now.state.is_stopped self.entry.now.peers) links.old) }
         ensures links { links.new ≡ without_all (over_peers self.entry.now.state.is_stopped self.entry.now.peers) links.old }
         ensures top { W.top world.new ≡ W.top world.old }
+        ensures faults { W.faults world.old ≤ W.faults world.new }
     {
         for peer in self.peers.as_slice() {
             drop_if_over(links, world, peer, self.state.is_stopped);
@@ -201,6 +209,7 @@ impl Desk {
         ensures told { AppendsAll (W.log world.old) (W.log world.new) (λ l. closings (option_to_list (over_at self.entry.now.state i)) links.old) }
         ensures links { links.new ≡ without_all (option_to_list (over_at self.entry.now.state i)) links.old }
         ensures top { W.top world.new ≡ W.top world.old }
+        ensures faults { W.faults world.old ≤ W.faults world.new }
     {
         self.log_cut(links, world, i);
         close_if(links, world, self.over_at(i));
@@ -214,6 +223,7 @@ impl Desk {
         ensures quiet { GrowsQuietly (W.log world.old) (W.log world.new) }
         ensures told { W.log world.new ≡ W.log world.old }
         ensures top { W.top world.new ≡ W.top world.old }
+        ensures faults { W.faults world.old ≤ W.faults world.new }
     {
         if let Some(seat) = self.state.seats.get(i) {
             if self.state.is_stopped || seat.is_closing {
@@ -231,6 +241,34 @@ impl Desk {
             Some(seat) => over_client(seat, self.state.is_stopped),
         }
     }
+}
+
+/// Where one of those that are looked at is over, all that are go, and the others are looked at: they have other places.
+fn drop_seats(state: &mut State)
+    ensures seats { state.new.seats.items ≡ seats_left state.old }
+    ensures awake { length (seats_left state.old) ≤ vec_capacity state.old.awake → state.new.awake.items ≡ awake_left state.old }
+    ensures room { vec_capacity state.old.awake ≤ vec_capacity state.new.awake }
+    ensures capacity { vec_capacity state.new.seats ≡ vec_capacity state.old.seats }
+    ensures rest { record state.new { seats = state.old.seats; awake = state.old.awake } ≡ state.old }
+{
+    if is_any_over(state) {
+        keep_seats(&mut state.seats, state.is_stopped);
+        state.wake();
+    }
+}
+
+/// Those stay that go on.
+fn keep_seats(seats: &mut Vec<Seat>, is_end: bool)
+    ensures items { seats.new.items ≡ filter (stays is_end) seats.old.items }
+    ensures capacity { vec_capacity seats.new ≡ vec_capacity seats.old }
+{
+    seats.retain(|seat| stays(seat, is_end));
+}
+
+fn stays(seat: &Seat, is_end: bool) -> bool
+    ensures { result ≡ stays is_end seat.now }
+{
+    !(is_end || seat.is_closing)
 }
 
 fn over_client(seat: &Seat, is_end: bool) -> Option<u64>
@@ -251,6 +289,7 @@ fn drop_if_over<W: Wire>(links: &mut Links, world: &mut W, peer: &Peer, is_end: 
     ensures told { AppendsAll (W.log world.old) (W.log world.new) (λ l. closings (option_to_list (over_peer is_end peer.now)) links.old) }
     ensures links { links.new ≡ without_all (option_to_list (over_peer is_end peer.now)) links.old }
     ensures top { W.top world.new ≡ W.top world.old }
+    ensures faults { W.faults world.old ≤ W.faults world.new }
 {
     close_if(links, world, over_peer(peer, is_end));
 }
@@ -300,6 +339,7 @@ fn close_if<W: Wire>(links: &mut Links, world: &mut W, over: Option<u64>)
     ensures told { AppendsAll (W.log world.old) (W.log world.new) (λ l. closings (option_to_list over) links.old) }
     ensures links { links.new ≡ without_all (option_to_list over) links.old }
     ensures top { W.top world.new ≡ W.top world.old }
+    ensures faults { W.faults world.old ≤ W.faults world.new }
 {
     if let Some(id) = over {
         links.close(world, id);

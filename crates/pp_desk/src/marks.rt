@@ -4,7 +4,7 @@ ghost use Rattle.std.specs.List.{find};
 ghost use Rattle.pp_peers.specs.Peers.{is_number};
 ghost use Rattle.pp_desk.specs.Closings.{KeepsDesk, sides};
 ghost use Rattle.pp_desk.specs.Marks.{marked_on, marked_peer, marked_peers, marked_seat, marked_seats, on_peer_at, touched};
-ghost use Rattle.pp_state.specs.Ends.{changed_at, AreSeated};
+ghost use Rattle.pp_state.specs.Ends.{changed_at, numbers_of, AreSeated};
 
 use crate::desk::Desk;
 use pp_peers::Peers;
@@ -14,6 +14,7 @@ impl Desk {
     /// The connection is not idle.
     pub fn touch(&mut self, id: u64)
         ensures is { AreSeated self.old.state → sides self.new ≡ touched self.old.state.now id (sides self.old) }
+        ensures numbers { numbers_of self.new.state.seats.items ≡ numbers_of self.old.state.seats.items }
         ensures rest { KeepsDesk self.old self.new }
     {
         let now = self.state.now;
@@ -44,9 +45,10 @@ fn mark_seats(seats: &mut [Seat], now: u64)
     }
 }
 
-#[tactic(auto, using(pp_state::proofs::PlacesLemmas::changed_here, crate::proofs::ClosingLemmas::none_changed))]
+#[tactic(auto, using(pp_state::proofs::PlacesLemmas::changed_here, pp_state::proofs::PlacesLemmas::same_numbers, crate::proofs::ClosingLemmas::none_changed))]
 fn mark_at(seats: &mut [Seat], i: usize, now: u64)
-    ensures { seats.new ≡ changed_at i (marked_seat now) seats.old }
+    ensures is { seats.new ≡ changed_at i (marked_seat now) seats.old }
+    ensures numbers { numbers_of seats.new ≡ numbers_of seats.old }
 {
     if i < seats.len() {
         seats[i].client.set_mark(now);

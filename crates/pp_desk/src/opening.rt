@@ -1,4 +1,8 @@
 // The memory of the proxy, which is taken once.
+ghost use Rattle.std.specs.Prelude.{◌≡◌, ◌-◌, ◌/◌, [], None, IfOk, max, min, string_bytes};
+ghost use Rattle.pp_conf.specs.Logs.{log_place, shown_place};
+ghost use Rattle.pp_desk.specs.Opening.{HasBuffers, HasRoom, IsNew, IsSet, is_logged};
+
 use crate::desk::{Desk, MAX_CLIENTS, READ_LEN};
 use arrayvec::ArrayVec;
 use pp_cache::{Cache, Noted};
@@ -19,7 +23,15 @@ const RUNS_OF_POOL: u32 = 128;
 
 impl Desk {
     /// A desk with these settings and without a client, with the memory for all that is not a client's own.
-    pub fn open(alloc: Global, conf: &Conf) -> Result<Desk, OutOfMemory> {
+    pub fn open(alloc: Global, conf: &Conf) -> Result<Desk, OutOfMemory>
+        ensures set { IfOk result (λ d. IsSet conf.now d.state) }
+        ensures new { IfOk result (λ d. IsNew conf.now d.state) }
+        ensures room { IfOk result (λ d. HasRoom d.state) }
+        ensures buffers { IfOk result HasBuffers }
+        ensures peers { IfOk result (λ d. d.peers ≡ []) }
+        ensures nobody { IfOk result (λ d. d.turned_away ≡ None) }
+        ensures logs { IfOk result (λ d. d.logs_replies ≡ is_logged (log_place (string_bytes conf.now.access_log))) }
+    {
         let state = state_of(alloc, conf)?;
         Ok(Desk {
             state,
@@ -29,13 +41,17 @@ impl Desk {
             room: Box::new(alloc, Room::new()).map_err(AllocError::from)?,
             file: vec![in alloc; 0; FILE_LEN]?,
             turned_away: None,
-            logs_replies: !matches!(conf.log_place(), AccessLog::Nowhere),
+            logs_replies: is_logged(&conf.log_place()),
         })
     }
 }
 
 /// Nobody is there, nothing is under way, and nothing is in memory.
-fn state_of(alloc: Global, conf: &Conf) -> Result<State, OutOfMemory> {
+fn state_of(alloc: Global, conf: &Conf) -> Result<State, OutOfMemory>
+    ensures set { IfOk result (IsSet conf.now) }
+    ensures new { IfOk result (IsNew conf.now) }
+    ensures room { IfOk result HasRoom }
+{
     let mut name = ArrayVec::new();
     let _ = name.try_extend_from_slice(conf.name.as_slice());
     Ok(State {
@@ -62,4 +78,14 @@ fn state_of(alloc: Global, conf: &Conf) -> Result<State, OutOfMemory> {
         forgotten: Noted::new(alloc)?,
         refused: Noted::new(alloc)?,
     })
+}
+
+/// The operator keeps a log of replies.
+fn is_logged(place: &AccessLog<'_>) -> bool
+    ensures { result ≡ is_logged (shown_place place.now) }
+{
+    match place {
+        AccessLog::Nowhere => false,
+        AccessLog::Console | AccessLog::File(_) => true,
+    }
 }

@@ -18,6 +18,7 @@ loop-peer-preserved g c =
       told = closed_next (over_peer d.state.is_stopped) d.peers c.loop-peer.peer-index x c.args.links.now c.loop-peer.links at before.told before.links step.told;
       links = left_next (over_peer d.state.is_stopped) d.peers c.loop-peer.peer-index x c.args.links.now c.loop-peer.links c.drop_if_over.new.links at before.links step.links;
       top = step.top ∙ before.top;
+      faults = omega (arith, before.faults, step.faults);
     }
 
 pub returns-clause-told : goal.returns-clause-told

@@ -17,6 +17,7 @@ loop-i-preserved g c =
       told = closed_next (over_at s) s.awake.items c.loop-i.i-index (get_or ys c.loop-i.i-index 0) c.args.links.now c.loop-i.links at before.told before.links step.told;
       links = left_next (over_at s) s.awake.items c.loop-i.i-index (get_or ys c.loop-i.i-index 0) c.args.links.now c.loop-i.links c.shut.new.links at before.links step.links;
       top = step.top ∙ before.top;
+      faults = omega (arith, before.faults, step.faults);
     }
 
 pub returns-clause-told : goal.returns-clause-told

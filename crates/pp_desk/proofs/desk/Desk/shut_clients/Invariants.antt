@@ -1,4 +1,4 @@
-use Rattle.std.proofs.Common.{◌≡◌, take}
+use Rattle.std.proofs.Common.{◌≡◌, ◌≤◌, take}
 use Rattle.std.specs.List.{filter_map}
 use Rattle.pp_links.specs.Links.{IsLinked}
 use Rattle.pp_links.specs.Quiet.{GrowsQuietly}
@@ -13,4 +13,5 @@ invariant-loop-i g l = record {
   told : AppendsAll (g.W.Logged.log l.fn.world) (g.W.Logged.log l.world) (λ log. closings (filter_map (over_at l.self.state) (take l.i-index l.self.state.awake.items)) l.fn.links);
   links : l.links ≡ without_all (filter_map (over_at l.self.state) (take l.i-index l.self.state.awake.items)) l.fn.links;
   top : g.W.Logged.top l.world ≡ g.W.Logged.top l.fn.world;
+  faults : g.W.Logged.faults l.fn.world ≤ g.W.Logged.faults l.world;
 }
