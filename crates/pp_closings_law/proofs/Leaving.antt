@@ -1,30 +1,26 @@
 -- A client that is closed leaves its exchange.
-use Rattle.std.proofs.Common.{◌≡◌, ◌≤◌, refl, sym, subst, ap, ap₂, ◌∙◌, ℕ, ◌||◌, Bool, true, false, ◌==◌, cond, find, List, [], ◌∷◌, Some, None, Option}
-use Rattle.std.specs.Prelude.{count_by, option_map}
-use Rattle.pp_flow.specs.declared.errand.Errand.{Errand}
+use Rattle.std.proofs.Common.{◌≡◌, ◌≤◌, refl, sym, subst, ap, ◌∙◌, ℕ, Bool, true, false, ◌==◌, cond, find, List, Some, None, Option}
+use Rattle.std.specs.Prelude.{count_by}
 use Rattle.pp_flow.specs.declared.entry.Exchange.{Exchange as Asked}
-use Rattle.pp_flow_law.specs.Tables.{line_in, none_leaves}
-use Rattle.pp_cache_law.proofs.Numbers.{some_is}
+use Rattle.pp_flow_law.specs.Tables.{none_leaves}
 use Rattle.pp_law.specs.Closing.{close_client, is_of, left_alone}
-use Rattle.pp_law.specs.Connections.{close_conn, conn, end_exchange, exchange, front_of_line, is_conn, is_exchange, on_exchange}
-use Rattle.pp_law.specs.Lists.{Bytes, has_number}
+use Rattle.pp_law.specs.Connections.{end_exchange, exchange, is_conn, is_exchange, on_exchange}
+use Rattle.pp_law.specs.Lists.{Bytes}
 use Rattle.pp_law.specs.State.{State, Client, Conn, Exchange}
-use Rattle.pp_law.specs.Unseen.{drop_on, is_unseen}
-use Rattle.pp_desk.specs.Closings.{Sides, closed_client, closing_at, dropped_with, left_at, with_parts, withdrawn}
+use Rattle.pp_desk.specs.Closings.{Sides, closed_client, closing_at, left_at, with_parts, withdrawn}
 use Rattle.pp_seats.specs.declared.seat.Seat.{Seat}
-use Rattle.pp_states_law.proofs.Lines.{IsPlaced, all_found, in_line, same_itself}
+use Rattle.pp_states_law.proofs.Lines.{all_found}
 use Rattle.pp_states_law.specs.Decisions.{AreApart}
 use Rattle.pp_state.specs.Ends.{Parts, ended, forsaken, left}
 use Rattle.pp_steps_law.specs.Lines.{AllGo}
-use Rattle.pp_closings_law.proofs.Dropped.{drops_by}
 use Rattle.pp_closings_law.proofs.Gone.{alone_left, go_on, none_left, over_left, quit_clients, quit_conns, quit_exchanges, quitting}
 use Rattle.pp_closings_law.proofs.Orderly.{ended_apart, ended_orderly, same_clients}
-use Rattle.pp_closings_law.proofs.Over.{alone, drops_first, end_left, left_clients, left_conns, left_it, over_conns, over_with, withdraws}
+use Rattle.pp_closings_law.proofs.Over.{alone, left_clients, left_conns, over_conns, over_with, withdraws}
 use Rattle.pp_closings_law.proofs.Own.{HasEntry, asks_one, has_entry, its_number, law_none, law_one, left_if, own_none, own_one}
 use Rattle.pp_closings_law.proofs.Quit.{quits, same_client}
 use Rattle.pp_closings_law.proofs.Shut.{Steps}
 use Rattle.pp_closings_law.proofs.Standing.{StandsOn, nowhere, stands_on}
-use Rattle.pp_closings_law.specs.Clients.{ClientsDropAsTheLaws, ClientsLeaveAsTheLaws, IsAskOf, MayBeClosed}
+use Rattle.pp_closings_law.specs.Clients.{ClientsLeaveAsTheLaws, IsAskOf, MayBeClosed}
 use Rattle.pp_closings_law.specs.Sides.{AreOrderly, MayClose, ShowsSides}
 
 -- ---- in all
@@ -113,73 +109,32 @@ module _ (number : ℕ → ℕ) (name : Bytes) (x : Sides) (s : State) (shows : 
         ap (λ (o : Option Asked). elim o as (λ t. Parts) [ None ↦ closing_at i x.parts | Some y ↦ left y.number (closing_at i x.parts) ]) (asks_one number none_leaves s i c.number x seat shows.steps.shows.exchanges may.place.here same may.once e it its)
         ∙ ap (λ (m : ℕ). left m (closing_at i x.parts)) it.shows.number
 
-    -- all of it was
-    asked_whole : ShowsSides number name (with_parts (forsaken i) (with_parts (closing_at i) x)) (left_if e (quitting c.number is_cut s) false)
-    asked_whole =
+    -- something of it was
+    asked_some : ShowsSides number name (with_parts (forsaken i) (with_parts (closing_at i) x)) (left_if e (quitting c.number is_cut s) false)
+    asked_some =
         subst (λ (p : Parts). ShowsSides number name (record { parts = p; peers = x.peers }) (on_exchange e.number left_alone (quitting c.number is_cut s))) (sym forsaken_is)
         (record { steps = alone number name e.number (with_parts (closing_at i) x) (quitting c.number is_cut s) steps; may = alone_may })
 
-    abbrev placed_as : ℕ → Errand → Bool → Bool → Sides
-    placed_as k errand a b =
-        cond a (withdrawn e.number k (with_parts (closing_at i) x)) (cond b (with_parts (forsaken i) (with_parts (closing_at i) x)) (dropped_with e.number k (with_parts (closing_at i) x)))
+    abbrev placed_as : ℕ → Bool → Sides
+    placed_as k a = cond a (withdrawn e.number k (with_parts (closing_at i) x)) (with_parts (forsaken i) (with_parts (closing_at i) x))
 
-    by_asked : (k : ℕ) → e.place ≡ Some k → (a : Bool) → (e.asked == 0) ≡ a → (a ≡ false → (e.body_left == 0) ≡ true) → ShowsSides number name (placed_as k it.entry.errand a (e.body_left == 0)) (left_if e (quitting c.number is_cut s) a)
-    by_asked k on true is all = unasked_yet k on is
-    by_asked k on false is all = subst (λ (b : Bool). ShowsSides number name (placed_as k it.entry.errand false b) (left_if e (quitting c.number is_cut s) false)) (sym (all refl)) asked_whole
+    by_asked : (k : ℕ) → e.place ≡ Some k → (a : Bool) → (e.asked == 0) ≡ a → ShowsSides number name (placed_as k a) (left_if e (quitting c.number is_cut s) a)
+    by_asked k on true is = unasked_yet k on is
+    by_asked k on false is = asked_some
 
-    by_place : (o : Option ℕ) → e.place ≡ o → ((e.asked == 0) ≡ false → (e.body_left == 0) ≡ true) → ShowsSides number name (left_at i e.number it.entry.errand o (with_parts (closing_at i) x)) (left_if e (quitting c.number is_cut s) (e.asked == 0))
-    by_place None is all = unplaced is
-    by_place (Some k) is all =
-        subst (λ (a : ℕ). ShowsSides number name (placed_as k it.entry.errand (a == 0) (it.entry.errand.body_left == 0)) (left_if e (quitting c.number is_cut s) (e.asked == 0))) (sym it.shows.asked)
-        (subst (λ (b : ℕ). ShowsSides number name (placed_as k it.entry.errand (e.asked == 0) (b == 0)) (left_if e (quitting c.number is_cut s) (e.asked == 0))) (sym it.shows.body_left) (by_asked k is (e.asked == 0) refl all))
+    by_place : (o : Option ℕ) → e.place ≡ o → ShowsSides number name (left_at i e.number it.entry.errand o (with_parts (closing_at i) x)) (left_if e (quitting c.number is_cut s) (e.asked == 0))
+    by_place None is = unplaced is
+    by_place (Some k) is =
+        subst (λ (a : ℕ). ShowsSides number name (placed_as k (a == 0)) (left_if e (quitting c.number is_cut s) (e.asked == 0))) (sym it.shows.asked) (by_asked k is (e.asked == 0) refl)
 
-    pub one_its : ((e.asked == 0) ≡ false → (e.body_left == 0) ≡ true) → ShowsSides number name (closed_client i x) (close_client c.number is_cut s)
-    one_its all =
+    pub one_its : ShowsSides number name (closed_client i x) (close_client c.number is_cut s)
+    one_its =
         subst (λ (y : Sides). ShowsSides number name y (close_client c.number is_cut s)) (sym own)
-        (subst (λ (t : State). ShowsSides number name (left_at i e.number it.entry.errand e.place (with_parts (closing_at i) x)) t) (sym law) (by_place e.place refl all))
-
-    -- not all of its body was: its connection is dropped
-    abbrev dropped_as : Bool → Bool → ℕ → Sides
-    dropped_as a b k = cond a (withdrawn e.number k (with_parts (closing_at i) x)) (cond b (with_parts (forsaken i) (with_parts (closing_at i) x)) (dropped_with e.number k (with_parts (closing_at i) x)))
-
-    program_drops : (k : ℕ) → e.place ≡ Some k → (e.asked == 0) ≡ false → (e.body_left == 0) ≡ false → closed_client i x ≡ dropped_with e.number k (with_parts (closing_at i) x)
-    program_drops k on asked body =
-        own
-        ∙ ap (λ (o : Option ℕ). left_at i e.number it.entry.errand o (with_parts (closing_at i) x)) on
-        ∙ ap₂ (λ (a b : ℕ). dropped_as (a == 0) (b == 0) k) it.shows.asked it.shows.body_left
-        ∙ ap₂ (λ (a b : Bool). dropped_as a b k) asked body
-
-    closed_as : (e.asked == 0) ≡ false → close_client c.number is_cut s ≡ on_exchange e.number left_alone (quitting c.number is_cut s)
-    closed_as asked = law ∙ ap (λ (b : Bool). left_if e (quitting c.number is_cut s) b) asked
-
-    left_known : exchange (on_exchange e.number left_alone (quitting c.number is_cut s)) e.number ≡ Some (left_alone e)
-    left_known = left_it (quitting c.number is_cut s) e.number ∙ ap (λ (o : Option Exchange). option_map left_alone o) known
-
-    first_as : (k : Conn) (behind : List ℕ) → k.line ≡ e.number ∷ behind → (e.asked == 0) ≡ false → front_of_line (close_client c.number is_cut s) k ≡ Some (left_alone e)
-    first_as k behind line asked =
-        ap (λ (ns : List ℕ). elim ns as (λ t. Option Exchange) [ [] ↦ None | m ∷ rest ↦ exchange (close_client c.number is_cut s) m ]) line
-        ∙ ap (λ (t : State). exchange t e.number) (closed_as asked)
-        ∙ left_known
-
-    pub drops_its : (m : ℕ) (k : Conn) (behind : List ℕ) → (e.asked == 0) ≡ false → (e.body_left == 0) ≡ false → conn s m ≡ Some k → k.line ≡ e.number ∷ behind → is_unseen (close_client c.number is_cut s) k (left_alone e) ≡ true
-        → ShowsSides number name (closed_client i x) (drop_on k (close_client c.number is_cut s))
-    drops_its m k behind asked body there line unseen =
-        let u : State = quitting c.number is_cut s in
-        let has : has_number e.number k.line ≡ true = ap (λ (ns : List ℕ). has_number e.number ns) line ∙ ap (λ (b : Bool). b || has_number e.number behind) (same_itself e.number) in
-        let here : conn u m ≡ Some k = ap (λ (ks : List Conn). find (is_conn m) ks) (quit_conns c.number is_cut s) ∙ there in
-        let on : IsPlaced m e.number u = in_line number none_leaves (closing_at i x.parts).flow u steps.shows.exchanges m e.number (ap (λ (o : Option Conn). has_number e.number (line_in o)) here ∙ has) in
-        let place : e.place ≡ Some m = ap (λ (d : Exchange). d.place) (some_is e on.known (sym known ∙ on.there)) ∙ on.place in
-        subst (λ (y : Sides). ShowsSides number name y (drop_on k (close_client c.number is_cut s))) (sym (program_drops m place asked body))
-        (subst (λ (t : State). ShowsSides number name (dropped_with e.number m (with_parts (closing_at i) x)) t)
-        (sym (drops_first k (close_client c.number is_cut s) (left_alone e) (first_as k behind line asked) unseen ∙ ap (λ (t : State). close_conn false k (end_exchange e.number t)) (closed_as asked) ∙ ap (close_conn false k) (end_left e.number u)))
-        (drops_by number name (with_parts (closing_at i) x) u steps apart orderly e.number m k here has over_go))
+        (subst (λ (t : State). ShowsSides number name (left_at i e.number it.entry.errand e.place (with_parts (closing_at i) x)) t) (sym law) (by_place e.place refl))
 
 pub leaves_client : ClientsLeaveAsTheLaws
-leaves_client number name x s shows i is_cut seat c may all = by (find (is_of c.number) s.exchanges) refl
+leaves_client number name x s shows i is_cut seat c may = by (find (is_of c.number) s.exchanges) refl
   where
     by : (o : Option Exchange) → find (is_of c.number) s.exchanges ≡ o → ShowsSides number name (closed_client i x) (close_client c.number is_cut s)
     by None none = none_its number name x s shows i is_cut seat c may none
-    by (Some e) its = one_its number name x s shows i is_cut seat c may e its (all e its)
-
-pub drops_client : ClientsDropAsTheLaws
-drops_client number name x s shows i n is_cut seat c e k others may its asked body there line unseen = drops_its number name x s shows i is_cut seat c may e its n k others asked body there line unseen
+    by (Some e) its = one_its number name x s shows i is_cut seat c may e its

@@ -1,5 +1,5 @@
 -- An exchange is over, is taken out of its line, or is nobody's.
-use Rattle.std.proofs.Common.{◌≡◌, refl, sym, subst, ap, ap₂, ◌∙◌, ℕ, suc, ◌||◌, Bool, true, false, not, ◌==◌, cond, find, map, List, [], ◌∷◌, Some, None, Option}
+use Rattle.std.proofs.Common.{◌≡◌, refl, sym, subst, ap, ap₂, ◌∙◌, ℕ, suc, ◌||◌, Bool, true, false, ◌==◌, cond, find, map, List, [], ◌∷◌, Some, Option}
 use Rattle.std.specs.Prelude.{option_map}
 use Rattle.pp_flow_law.proofs.Ended.{ends as flow_ends}
 use Rattle.pp_flow_law.proofs.Framed.{frames as flow_frames}
@@ -9,12 +9,10 @@ use Rattle.pp_cache_law.proofs.Finds.{find_passes}
 use Rattle.pp_cache_law.proofs.Numbers.{some_is}
 use Rattle.pp_flow.specs.Changes.{Exchanges, line_of}
 use Rattle.pp_flow_law.proofs.Entries.{same_number}
-use Rattle.pp_flow_law.proofs.Exchanges.{find_change}
 use Rattle.pp_law.specs.Closing.{left_alone}
-use Rattle.pp_law.specs.Connections.{close_conn, conn, end_exchange, exchange, front_of_line, is_conn, is_exchange, on_exchange, without_ask}
+use Rattle.pp_law.specs.Connections.{conn, end_exchange, exchange, is_conn, on_exchange, without_ask}
 use Rattle.pp_law.specs.Lists.{Bytes, change, has_number, without}
 use Rattle.pp_law.specs.State.{State, Conn, Exchange}
-use Rattle.pp_law.specs.Unseen.{drop_on, is_unseen}
 use Rattle.pp_peers.specs.Peers.{is_number, with_pipe}
 use Rattle.pp_peers.specs.declared.peers.Peer.{Peer}
 use Rattle.pp_peers_law.specs.Peers.{ShowConns}
@@ -137,32 +135,3 @@ alone number name m x s steps = record {
   told = told_next number x.parts.cache s.next_instance (on_exchange m left_alone s).next_instance (left m x.parts).flow (exchange_next m left_alone s) (told_left number x.parts.cache s.next_instance m x.parts.flow steps.told);
   refused = steps.refused;
 }
-
--- ---- and then it is over
-
-out_left : (m : ℕ) (es : List Exchange) → without (is_exchange m) (change (is_exchange m) left_alone es) ≡ without (is_exchange m) es
-out_left m [] = refl
-out_left m (e ∷ es) = by (is_exchange m e) refl (out_left m es)
-  where
-    by : (b : Bool) → is_exchange m e ≡ b → without (is_exchange m) (change (is_exchange m) left_alone es) ≡ without (is_exchange m) es
-        → without (is_exchange m) ((elim b as (λ t. Exchange) [ true ↦ left_alone e | false ↦ e ]) ∷ change (is_exchange m) left_alone es) ≡ without (is_exchange m) (e ∷ es)
-    by true is rest =
-        ap (λ (c : Bool). cond (not c) (left_alone e ∷ without (is_exchange m) (change (is_exchange m) left_alone es)) (without (is_exchange m) (change (is_exchange m) left_alone es))) is
-        ∙ rest
-        ∙ sym (ap (λ (c : Bool). cond (not c) (e ∷ without (is_exchange m) es) (without (is_exchange m) es)) is)
-    by false is rest = ap (λ (ds : List Exchange). cond (not (is_exchange m e)) (e ∷ ds) ds) rest
-
-pub end_left : (m : ℕ) (s : State) → end_exchange m (on_exchange m left_alone s) ≡ end_exchange m s
-unfolding end_exchange on_exchange
-end_left m s = ap (λ (es : List Exchange). let t : State = record (end_exchange m s) { exchanges = es } in t) (out_left m s.exchanges)
-
-pub left_it : (s : State) (k : ℕ) → exchange (on_exchange k left_alone s) k ≡ option_map left_alone (exchange s k)
-unfolding on_exchange
-left_it s k = find_change k left_alone (λ e. refl) s.exchanges
-
--- with its connection, where it is the first of that and nobody sees it
-pub drops_first : (k : Conn) (s : State) (e : Exchange) → front_of_line s k ≡ Some e → is_unseen s k e ≡ true → drop_on k s ≡ close_conn false k (end_exchange e.number s)
-unfolding drop_on
-drops_first k s e first unseen =
-    ap (λ (o : Option Exchange). elim o as (λ t. State) [ None ↦ s | Some d ↦ elim (is_unseen s k d) as (λ t. State) [ true ↦ close_conn false k (end_exchange d.number s) | false ↦ s ] ]) first
-    ∙ ap (λ (b : Bool). elim b as (λ t. State) [ true ↦ close_conn false k (end_exchange e.number s) | false ↦ s ]) unseen

@@ -1,10 +1,8 @@
 -- A client is closed, and leaves its exchange (RFC 2616, section 8.1.4).
-use Rattle.std.specs.Prelude.{◌≡◌, ◌≤◌, ◌==◌, ℕ, Bool, true, false, count_by, find, ◌∷◌, List, Some, None}
+use Rattle.std.specs.Prelude.{◌≡◌, ◌≤◌, ◌==◌, ℕ, Bool, true, false, count_by, find, Some, None}
 use Rattle.pp_decides_law.specs.Decides.{FollowsWhatIsThere, IsAtPlace}
-use Rattle.pp_law.specs.Closing.{close_client, is_of, left_alone}
-use Rattle.pp_law.specs.Connections.{conn}
-use Rattle.pp_law.specs.State.{State, Client, Conn, Exchange}
-use Rattle.pp_law.specs.Unseen.{drop_on, is_unseen}
+use Rattle.pp_law.specs.Closing.{close_client, is_of}
+use Rattle.pp_law.specs.State.{State, Client, Exchange}
 use Rattle.pp_desk.specs.Closings.{Sides, closed_client}
 use Rattle.pp_seats.specs.declared.seat.Seat.{Seat}
 use Rattle.pp_closings_law.specs.Sides.{OfSides, ShowsSides}
@@ -22,13 +20,6 @@ pub record MayBeClosed (i : ℕ) (x : Sides) (s : State) (seat : Seat) (c : Clie
   pub once : count_by (is_of c.number) s.exchanges ≤ 1
   pub rests : (e : Exchange) → IsAskOf s c e → e.place ≡ None → (e.asked == 0) ≡ true
 
--- where of its exchange nothing was asked, that is over; where all was, the request's body among it, its response is read to its end
+-- where of its exchange nothing was asked, that is over; where something was, it is nobody's
 abbrev pub ClientsLeaveAsTheLaws : Type 0
-ClientsLeaveAsTheLaws = OfSides (λ number name x s. (i : ℕ) (is_cut : Bool) (seat : Seat) (c : Client) → MayBeClosed i x s seat c → ((e : Exchange) → IsAskOf s c e → (e.asked == 0) ≡ false → (e.body_left == 0) ≡ true)
-    → ShowsSides number name (closed_client i x) (close_client c.number is_cut s))
-
--- and where not all of the body was, its connection is dropped at once: by the law with all that nobody will see, before any connection
--- is closed. It is the first of its line there
-abbrev pub ClientsDropAsTheLaws : Type 0
-ClientsDropAsTheLaws = OfSides (λ number name x s. (i n : ℕ) (is_cut : Bool) (seat : Seat) (c : Client) (e : Exchange) (k : Conn) (others : List ℕ) → MayBeClosed i x s seat c → IsAskOf s c e → (e.asked == 0) ≡ false → (e.body_left == 0) ≡ false
-    → conn s n ≡ Some k → k.line ≡ e.number ∷ others → is_unseen (close_client c.number is_cut s) k (left_alone e) ≡ true → ShowsSides number name (closed_client i x) (drop_on k (close_client c.number is_cut s)))
+ClientsLeaveAsTheLaws = OfSides (λ number name x s. (i : ℕ) (is_cut : Bool) (seat : Seat) (c : Client) → MayBeClosed i x s seat c → ShowsSides number name (closed_client i x) (close_client c.number is_cut s))

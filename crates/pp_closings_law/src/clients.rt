@@ -1,11 +1,10 @@
 // A client is closed, and shut.
-ghost use Rattle.pp_closings_law.specs.Clients.{ClientsDropAsTheLaws, ClientsLeaveAsTheLaws};
+ghost use Rattle.pp_closings_law.specs.Clients.{ClientsLeaveAsTheLaws};
 ghost use Rattle.pp_closings_law.specs.Shuts.{ShutsAreTheLaws};
 
-/// Its exchange is over, or is read to its end; or its connection is dropped.
+/// Its exchange is over, or nobody's.
 pub fn clients_are_the_laws()
     ensures leaves { ClientsLeaveAsTheLaws }
-    ensures drops { ClientsDropAsTheLaws }
 {}
 
 /// One that is closing leaves the log's connections.

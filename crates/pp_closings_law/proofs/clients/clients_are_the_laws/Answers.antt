@@ -1,5 +1,5 @@
-use Rattle.pp_closings_law.proofs.Leaving.{drops_client, leaves_client}
+use Rattle.pp_closings_law.proofs.Leaving.{leaves_client}
 use Rattle.pp_closings_law.proofs.clients.clients_are_the_laws.Goals as goal
 
 pub returns : goal.returns
-returns c = record { leaves = leaves_client; drops = drops_client }
+returns c = record { leaves = leaves_client }
