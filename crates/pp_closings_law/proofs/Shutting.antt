@@ -1,7 +1,7 @@
 -- A client that is closing is shut.
-use Rattle.std.proofs.Common.{◌≡◌, ◌<◌, ◌≤◌, refl, sym, subst, ap, ◌∙◌, ℕ, zero, suc, ◌+◌, Bool, true, false, not, ◌==◌, ◌&&◌, ◌||◌, cond, filter, find, length, map, List, [], ◌∷◌, Some, None, arith}
+use Rattle.std.proofs.Common.{◌≡◌, ◌≤◌, refl, sym, subst, ap, ◌∙◌, ℕ, zero, suc, ◌+◌, Bool, true, false, not, ◌==◌, ◌&&◌, ◌||◌, cond, filter, find, map, List, [], ◌∷◌, Some, None, arith}
 use Rattle.std.specs.List.{list_any}
-use Rattle.std.specs.Prelude.{count_by, slice_get, slice_index, slice_set, ⊤}
+use Rattle.std.specs.Prelude.{count_by, slice_get, slice_set}
 use Rattle.pp_cache_law.proofs.Finds.{find_kept, find_out}
 use Rattle.pp_cache_law.proofs.Framing.{frames_of, the_same}
 use Rattle.pp_cache_law.proofs.Numbers.{some_is}
@@ -22,13 +22,13 @@ use Rattle.pp_law.specs.Phases.{may_in}
 use Rattle.pp_law.specs.Stages.{reply_of}
 use Rattle.pp_law.specs.State.{State, Client, Conn, Connecting}
 use Rattle.pp_law.specs.Table.{follows}
+use Rattle.pp_desk.proofs.ClosingLemmas.{order_kept}
 use Rattle.pp_desk.specs.Closings.{with_parts}
 use Rattle.pp_seats.specs.declared.seat.Seat.{Seat}
 use Rattle.pp_seats_law.proofs.AllSeats.{places}
 use Rattle.pp_seats_law.specs.Clients.{AreShown, IsAt, IsFound}
 use Rattle.pp_states_law.proofs.Asked.{all_as, frames, itself}
 use Rattle.pp_states_law.specs.States.{ShowsState}
-use Rattle.pp_state.specs.Ends.{AreInOrder, numbers_of}
 use Rattle.pp_steps_law.proofs.Told.{told_next}
 use Rattle.pp_steps_law.specs.Lines.{AllGo}
 use Rattle.pp_steps_law.specs.Steps.{whole}
@@ -105,55 +105,6 @@ same_counts n id (c ∷ cs) = by (is_client n c) refl (same_counts n id cs)
         ∙ count_first (follows id) c (without (is_client n) (map (closing_if n false) cs))
         ∙ ap (λ (i : ℕ). cond (follows id c) 1 0 + i) rest
         ∙ sym (count_first (follows id) c (map (closing_if n false) cs))
-
--- ---- the others stand in the order of their numbers
-
-abbrev AllAbove : ℕ → List ℕ → Type 0
-AllAbove m [] = ⊤
-AllAbove m (n ∷ ns) = (m < n) × AllAbove m ns
-
-abbrev AreSorted : List ℕ → Type 0
-AreSorted [] = ⊤
-AreSorted (n ∷ ns) = AllAbove n ns × AreSorted ns
-
-above : (m : ℕ) (ns : List ℕ) → ((j : ℕ) → j < length ns → m < slice_index ns j) → AllAbove m ns
-above m [] each = tt
-above m (n ∷ ns) each = (each 0 (omega arith), above m ns (λ j less. each (suc j) (omega (arith, less))))
-
-sorted : (ns : List ℕ) → AreInOrder ns → AreSorted ns
-sorted [] order = tt
-sorted (n ∷ ns) order = (above n ns (λ j less. order 0 (suc j) (omega arith) (omega (arith, less))), sorted ns (λ i j less within. order (suc i) (suc j) (omega (arith, less)) (omega (arith, within))))
-
-at_each : (m : ℕ) (ns : List ℕ) → AllAbove m ns → (j : ℕ) → j < length ns → m < slice_index ns j
-at_each m [] all j within = absurd (omega (arith, within))
-at_each m (n ∷ ns) all zero within = all.0
-at_each m (n ∷ ns) all (suc j) within = at_each m ns all.1 j (omega (arith, within))
-
-in_order : (ns : List ℕ) → AreSorted ns → AreInOrder ns
-in_order [] all i j less within = absurd (omega (arith, within))
-in_order (n ∷ ns) all zero zero less within = absurd (omega (arith, less))
-in_order (n ∷ ns) all (suc i) zero less within = absurd (omega (arith, less))
-in_order (n ∷ ns) all zero (suc j) less within = at_each n ns all.0 j (omega (arith, within))
-in_order (n ∷ ns) all (suc i) (suc j) less within = in_order ns all.1 i j (omega (arith, less)) (omega (arith, within))
-
-above_kept : (q : Seat → Bool) (m : ℕ) (seats : List Seat) → AllAbove m (numbers_of seats) → AllAbove m (numbers_of (filter q seats))
-above_kept q m [] all = tt
-above_kept q m (seat ∷ seats) all = by (q seat) (above_kept q m seats all.1)
-  where
-    by : (b : Bool) → AllAbove m (numbers_of (filter q seats)) → AllAbove m (numbers_of (cond b (seat ∷ filter q seats) (filter q seats)))
-    by true rest = (all.0, rest)
-    by false rest = rest
-
-sorted_kept : (q : Seat → Bool) (seats : List Seat) → AreSorted (numbers_of seats) → AreSorted (numbers_of (filter q seats))
-sorted_kept q [] all = tt
-sorted_kept q (seat ∷ seats) all = by (q seat) (sorted_kept q seats all.1)
-  where
-    by : (b : Bool) → AreSorted (numbers_of (filter q seats)) → AreSorted (numbers_of (cond b (seat ∷ filter q seats) (filter q seats)))
-    by true rest = (above_kept q seat.client.id seats all.0, rest)
-    by false rest = rest
-
-order_kept : (q : Seat → Bool) (seats : List Seat) → AreInOrder (numbers_of seats) → AreInOrder (numbers_of (filter q seats))
-order_kept q seats order = in_order (numbers_of (filter q seats)) (sorted_kept q seats (sorted (numbers_of seats) order))
 
 -- ---- in all
 

@@ -1,5 +1,5 @@
--- What closings leave: of those that go on none is closing, and numbers stay.
-use Rattle.std.proofs.Common.{◌≡◌, ◌≤◌, Bool, true, false, cond, List, [], ◌∷◌, ◌||◌, not, filter, find, length, refl, sym, ◌∙◌, ap, ◌&&◌, if◌then◌else◌, ℕ, Option, Some, None, slice_set}
+-- What closings leave: of those that go on none is closing, and numbers stay, or stand in their order.
+use Rattle.std.proofs.Common.{◌≡◌, ◌≤◌, ◌+◌, Bool, true, false, cond, List, [], ◌∷◌, ◌||◌, not, filter, find, length, refl, sym, ◌∙◌, ap, ◌&&◌, if◌then◌else◌, ℕ, Option, Some, None, slice_set, arith}
 use Rattle.std.proofs.lemmas.Option.{slice_get_past}
 use Rattle.pp_objects.specs.declared.id.ObjectId.{ObjectId}
 use Rattle.pp_peers.specs.Peers.{goes_on, is_number, with_peer, with_pipe}
@@ -7,10 +7,13 @@ use Rattle.pp_peers.specs.declared.peers.Peer.{Peer}
 use Rattle.pp_pipe.specs.Line.{Line}
 use Rattle.pp_pipe.specs.declared.asks.Ask.{Ask}
 use Rattle.pp_desk.specs.Closings.{KeepsDesk, closed_line, closing, has_closing, peer_numbers, unasked, unasked_in, unasked_of}
+use Rattle.pp_desk.specs.Shutting.{is_any_over, seats_left, stays}
 use Rattle.pp_desk.specs.declared.desk.Desk.{Desk}
 use Rattle.pp_seats.specs.declared.seat.Seat.{Seat}
-use Rattle.pp_state.specs.Ends.{Parts, changed_at, left_source, numbers_of, source_at, unfollowed, without_source}
+use Rattle.pp_state.specs.Ends.{AreInOrder, AreSeated, Parts, changed_at, left_source, numbers_of, source_at, unfollowed, without_source}
 use Rattle.pp_state.specs.Lines.{lost_line}
+use Rattle.pp_state.specs.declared.state.State.{State}
+use Rattle.pp_state.proofs.NumbersLemmas.{Above, above_none, in_order, lower}
 use Rattle.pp_state.proofs.SeatsLemmas.{changed_numbers as seats_changed_numbers}
 
 pub none_closing : (is_end : Bool) (ps : List Peer) → has_closing (filter (goes_on is_end) ps) ≡ false
@@ -91,6 +94,27 @@ left_numbers i p = by (source_at i p)
 
 pub none_changed : (i : ℕ) (f : Seat → Seat) (seats : List Seat) → length seats ≤ i → changed_at i f seats ≡ seats
 none_changed i f seats past = ap (λ (x : Option Seat). elim x [ None ↦ seats | Some s ↦ slice_set seats i (f s) ]) (slice_get_past seats i past)
+
+-- ---- clients that stay
+
+above_kept : (test : Seat → Bool) (low : ℕ) (seats : List Seat) → Above low (numbers_of seats) → Above low (numbers_of (filter test seats))
+above_kept test low [] up = tt
+above_kept test low (seat ∷ seats) up = by (test seat) (above_kept test (seat.client.id + 1) seats up.1)
+  where
+    by : (b : Bool) → Above (seat.client.id + 1) (numbers_of (filter test seats)) → Above low (numbers_of (cond b (seat ∷ filter test seats) (filter test seats)))
+    by true rest = (up.0, rest)
+    by false rest = lower low (seat.client.id + 1) (numbers_of (filter test seats)) (omega (arith, up.0)) rest
+
+-- those of some clients stand in the order in which those of all did
+pub order_kept : (test : Seat → Bool) (seats : List Seat) → AreInOrder (numbers_of seats) → AreInOrder (numbers_of (filter test seats))
+order_kept test seats order = in_order 0 (numbers_of (filter test seats)) (above_kept test 0 seats (above_none (numbers_of seats) order))
+
+pub left_in_order : (s : State) → AreSeated s → AreInOrder (numbers_of (seats_left s))
+left_in_order s seated = by (is_any_over s)
+  where
+    by : (b : Bool) → AreInOrder (numbers_of (cond b (filter (stays s.is_stopped) s.seats.items) s.seats.items))
+    by true = order_kept (stays s.is_stopped) s.seats.items seated
+    by false = seated
 
 -- ---- all else stays, one step behind the other
 

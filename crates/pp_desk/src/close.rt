@@ -146,6 +146,7 @@ impl Desk {
         ensures closed { has_closing self.new.peers ≡ false }
         ensures peers { self.new.peers ≡ filter (goes_on self.old.state.is_stopped) self.old.peers }
         ensures seats { self.new.state.seats.items ≡ seats_left self.old.state }
+        ensures seated { AreSeated self.old.state → AreSeated self.new.state }
         ensures awake { length (seats_left self.old.state) ≤ vec_capacity self.old.state.awake → self.new.state.awake.items ≡ awake_left self.old.state }
         ensures room { vec_capacity self.old.state.awake ≤ vec_capacity self.new.state.awake }
         ensures capacity { vec_capacity self.new.state.seats ≡ vec_capacity self.old.state.seats }
@@ -162,6 +163,7 @@ impl Desk {
         ensures closed { has_closing self.new.peers ≡ false }
         ensures peers { self.new.peers ≡ filter (goes_on self.old.state.is_stopped) self.old.peers }
         ensures seats { self.new.state.seats.items ≡ seats_left self.old.state }
+        ensures seated { AreSeated self.old.state → AreSeated self.new.state }
         ensures awake { length (seats_left self.old.state) ≤ vec_capacity self.old.state.awake → self.new.state.awake.items ≡ awake_left self.old.state }
         ensures room { vec_capacity self.old.state.awake ≤ vec_capacity self.new.state.awake }
         ensures capacity { vec_capacity self.new.state.seats ≡ vec_capacity self.old.state.seats }
