@@ -14,6 +14,7 @@
 
 mod calling; // calls of the disk, in a log that goes on
 mod drafting; // the entry of a row is drafted
+mod fields; // the fields of entries
 mod folder; // the disk of the law
 mod keeping; // what is kept of a key
 mod loading; // a chunk is read back
@@ -24,6 +25,7 @@ mod working; // operations that a call runs
 
 pub use calling::{calls_of_the_disk_are_counted, turns_of_the_disk_lead_on};
 pub use drafting::what_is_drafted_is_the_laws;
+pub use fields::{entries_stay_as_kept, fields_that_are_read_are_kept};
 pub use folder::the_disk_is_the_logs;
 pub use keeping::what_is_kept_is_the_laws;
 pub use loading::what_is_loaded_is_the_laws;
