@@ -40,7 +40,8 @@ def there(folder, number):
 def head(number, length, fields="", body_at=12288):
     """The text of an entry's head."""
     return (
-        f'HTTP/1.1 200 OK\r\netag: "x"\r\n{fields}X-Polipo-Location: http://h/{number}\r\nX-Polipo-Date: 0\r\nX-Polipo-Age: 0\r\n'
+        f'HTTP/1.1 200 OK\r\netag: "x"\r\n{fields}date: Thu, 01 Jan 1970 00:00:00 GMT\r\n'
+        f"X-Polipo-Location: http://h/{number}\r\nX-Polipo-Date: 0\r\nX-Polipo-Age: 0\r\n"
         f"X-Polipo-Length: {length}\r\nX-Polipo-Body-Offset: {body_at}\r\n\r\n"
     ).encode()
 

@@ -22,7 +22,7 @@ use Rattle.pp_cache_law.proofs.Numbers.{some_is}
 
 -- ---- lists of which a test holds
 
-abbrev AllOf : (Field → Bool) → List Field → Type 0
+abbrev pub AllOf : (Field → Bool) → List Field → Type 0
 AllOf p [] = ⊤
 AllOf p (f ∷ fs) = (p f ≡ true) × AllOf p fs
 
@@ -34,7 +34,7 @@ all_chosen p (f ∷ fs) = by (p f) refl (all_chosen p fs)
     by true is all = (is, all)
     by false isnt all = all
 
-all_too : (p q : Field → Bool) (fs : List Field) → ((f : Field) → p f ≡ true → q f ≡ true) → AllOf p fs → AllOf q fs
+pub all_too : (p q : Field → Bool) (fs : List Field) → ((f : Field) → p f ≡ true → q f ≡ true) → AllOf p fs → AllOf q fs
 all_too p q [] to all = tt
 all_too p q (f ∷ fs) to all = (to f all.0, all_too p q fs to all.1)
 
@@ -52,31 +52,31 @@ all_go p q (f ∷ fs) to all = ap (λ (b : Bool). cond b (f ∷ filter q fs) (fi
 
 -- ---- a name tells what a field is
 
-abbrev Test : Type 0
+abbrev pub Test : Type 0
 Test = List ℕ → Bool
 
-by_name : (test : Test) (name : List ℕ) (f : Field) → is_named name f ≡ true → test (lower f.0) ≡ test (lower name)
+pub by_name : (test : Test) (name : List ℕ) (f : Field) → is_named name f ≡ true → test (lower f.0) ≡ test (lower name)
 by_name test name f is = ap test (sym ((bytes_eq-Decides (lower name) (lower f.0)).0 is))
 
-abbrev is_hop : Test
+abbrev pub is_hop : Test
 is_hop t = list_any (λ name. bytes_eq (lower name) t) hop_names || false || starts_with nat_eq t (codes "x-polipo-")
 
 abbrev renews : Test
 renews t = bytes_eq (lower (codes "expires")) t || bytes_eq (lower (codes "cache-control")) t
 
-abbrev is_anew : Test
+abbrev pub is_anew : Test
 is_anew t =
     bytes_eq (lower (codes "content-length")) t || bytes_eq (lower (codes "content-range")) t || bytes_eq (lower (codes "age")) t
     || bytes_eq (lower (codes "date")) t
 
 -- of a field alone
-abbrev lasts : Field → Bool
+abbrev pub lasts : Field → Bool
 lasts f = is_lasting_of [] f
 
 abbrev is_new : Field → Bool
 is_new f = is_renewed_of [] f
 
-lasts_by : (name : List ℕ) (f : Field) → is_named name f ≡ true → lasts f ≡ (not (is_hop (lower name)) && not (is_anew (lower name) || renews (lower name)))
+pub lasts_by : (name : List ℕ) (f : Field) → is_named name f ≡ true → lasts f ≡ (not (is_hop (lower name)) && not (is_anew (lower name) || renews (lower name)))
 lasts_by name f is = by_name (λ t. not (is_hop t) && not (is_anew t || renews t)) name f is
 
 is_new_by : (name : List ℕ) (f : Field) → is_named name f ≡ true → is_new f ≡ (not (is_hop (lower name)) && renews (lower name))
@@ -122,7 +122,7 @@ read_date value = if is_some (parse_secs value) then Some value else None
 abbrev date_by : List (List ℕ) → List Field → Option (List ℕ)
 date_by items fields = option_and_then read_date (slice_get (if list_any (is_same (codes "date")) items then [] else map (λ f. f.1) fields) 0)
 
-date_was : (o : Option (List ℕ)) (v : List ℕ) → option_and_then read_date o ≡ Some v → is_some (parse_secs v) ≡ true
+pub date_was : (o : Option (List ℕ)) (v : List ℕ) → option_and_then read_date o ≡ Some v → is_some (parse_secs v) ≡ true
 date_was None v is = absurd cc
 date_was (Some w) v is = by (is_some (parse_secs w)) refl is
   where
@@ -152,10 +152,10 @@ all_dates None came = by (nat_lt came 253402300800)
 
 -- ---- a row's fields: what lasts, and what is renewed
 
-abbrev joined : List Field → List Field → List Field → List Field → List Field
+abbrev pub joined : List Field → List Field → List Field → List Field → List Field
 joined lasting dates expires controls = lasting ++ ((dates ++ expires) ++ controls)
 
-record AreOfRow (came : ℕ) (lasting dates expires controls : List Field) : Type 0 where
+pub record AreOfRow (came : ℕ) (lasting dates expires controls : List Field) : Type 0 where
   pub lasts : AllOf (λ f. is_lasting_of [] f) lasting
   pub dates_are : AllOf (is_named (codes "date")) dates
   pub expires_are : AllOf (is_named (codes "expires")) expires
@@ -189,7 +189,7 @@ module _ (times : Times) (l d e c : List Field) (row : AreOfRow times.response l
       (all_go (is_named (codes "expires")) (is_named (codes "connection")) e (λ f is. named_by (codes "expires") (codes "connection") f is) row.expires_are)
       (all_go (is_named (codes "cache-control")) (is_named (codes "connection")) c (λ f is. named_by (codes "cache-control") (codes "connection") f is) row.controls_are))
 
-  same_hop : (f : Field) → is_hop_by_hop all f ≡ is_hop_by_hop [] f
+  pub same_hop : (f : Field) → is_hop_by_hop all f ≡ is_hop_by_hop [] f
   same_hop f = ap (λ (items : List (List ℕ)). list_any (λ name. is_named name f) hop_names || list_any (is_same f.0) items || is_private f) no_items
 
   lasting_is : lasting_fields all ≡ l
@@ -231,7 +231,7 @@ module _ (times : Times) (l d e c : List Field) (row : AreOfRow times.response l
   dates_stay : filter (is_named (codes "date")) d ≡ d
   dates_stay = all_stay (is_named (codes "date")) (is_named (codes "date")) d (λ f is. is) row.dates_are
 
-  dates_are_all : filter (is_named (codes "date")) all ≡ d
+  pub dates_are_all : filter (is_named (codes "date")) all ≡ d
   dates_are_all =
       chosen (is_named (codes "date")) l d e c [] d [] [] (all_go lasts (is_named (codes "date")) l not_date row.lasts) dates_stay
       (all_go (is_named (codes "expires")) (is_named (codes "date")) e (λ f is. named_by (codes "expires") (codes "date") f is) row.expires_are)
@@ -243,7 +243,7 @@ module _ (times : Times) (l d e c : List Field) (row : AreOfRow times.response l
       ap (λ (items : List (List ℕ)). date_by items (filter (is_named (codes "date")) all)) no_items ∙ ap (λ (fs : List Field). date_by [] fs) (dates_are_all ∙ sym dates_stay)
       ∙ sym (ap (λ (items : List (List ℕ)). date_by items (filter (is_named (codes "date")) d)) no_items_in_dates)
 
-  all_kept : kept_of all times ≡ all
+  pub all_kept : kept_of all times ≡ all
   all_kept =
       ap (λ (xs : List Field). xs ++ renewal_of [] all times) lasting_is
       ∙ ap (λ (o : Option (List ℕ)). l ++ ((date_field o times.response ++ latest (codes "expires") [] all) ++ latest (codes "cache-control") [] all)) date_is
@@ -256,10 +256,10 @@ module _ (times : Times) (l d e c : List Field) (row : AreOfRow times.response l
 all_latest : (name : List ℕ) (kept fields : List Field) → AllOf (is_named name) (latest name kept fields)
 all_latest name kept fields = all_else (is_named name) (filter (is_named name) (renewed_fields fields)) (filter (is_named name) kept) (all_chosen (is_named name) (renewed_fields fields)) (all_chosen (is_named name) kept)
 
-all_last : (fields : List Field) → AllOf lasts (lasting_fields fields)
+pub all_last : (fields : List Field) → AllOf lasts (lasting_fields fields)
 all_last fields = all_too (is_lasting_of fields) lasts (lasting_fields fields) (lasts_alone fields) (all_chosen (is_lasting_of fields) fields)
 
-of_row : (lasting kept fields : List Field) (times : Times) → AllOf lasts lasting
+pub of_row : (lasting kept fields : List Field) (times : Times) → AllOf lasts lasting
     → AreOfRow times.response lasting (date_field (date_value fields) times.response) (latest (codes "expires") kept fields) (latest (codes "cache-control") kept fields)
 of_row lasting kept fields times all = record {
   lasts = all;

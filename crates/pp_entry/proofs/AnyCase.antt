@@ -1,6 +1,6 @@
 -- What an entry says of a row whose names are in any case: the same row, with its names in lower case.
 use Rattle.std.proofs.Common.{◌≡◌, ◌<◌, ◌+◌, ℕ, Bool, true, false, cond, ◌&&◌, ◌||◌, not, if◌then◌else◌, List, [], ◌∷◌, length, map, filter, flat_map, codes, refl, sym, ◌∙◌, ap, arith}
-use Rattle.std.specs.Prelude.{nat_lt, nat_le, nat_eq, bytes_eq, All}
+use Rattle.std.specs.Prelude.{nat_lt, nat_le, nat_eq, bytes_eq, slice_get, is_some, All, Some, None}
 use Rattle.std.specs.Char.{to_ascii_lowercase, is_ascii_alphanumeric}
 use Rattle.std.specs.List.{list_all, list_any, starts_with}
 use Rattle.std.proofs.lemmas.Bool.Decides.{nat_tests}
@@ -8,6 +8,7 @@ use Rattle.std.proofs.lemmas.List.{length-map}
 use Rattle.std.proofs.lemmas.List.Elements.{All-nil, All-cons, All-head, All-tail, All-weaker}
 use Rattle.std.proofs.lemmas.List.Sums.{AllPass-from_list_all}
 use Rattle.std.proofs.lemmas.Str.Ascii.{lowercase-lowercase}
+use Rattle.httpdate.specs.Date.{parse_secs}
 use Rattle.httparse.specs.Grammar.{AllPass, is_token_byte, is_uri_byte, is_value_byte}
 use Rattle.pp_text.specs.Bytes.{lower, trim}
 use Rattle.pp_text.specs.Fields.{Field, is_named, list_items, values_of}
@@ -15,12 +16,13 @@ use Rattle.pp_text.specs.Forwarding.{hop_names, is_connection_token, is_hop_by_h
 use Rattle.pp_text.specs.Lines.{lines_of}
 use Rattle.pp_text.specs.Lists.{items_of}
 use Rattle.pp_head.specs.Agreement.{IsFieldText}
+use Rattle.pp_valid.proofs.OnLiterals.{pp_valid_on_literals}
 use Rattle.pp_valid.specs.EndToEnd.{is_dropped}
 use Rattle.pp_valid.specs.Kept.{is_written_anew}
 use Rattle.pp_valid.specs.TagStates.{state_in, tag_of}
 use Rattle.pp_valid.specs.Versions.{strong_part}
 use Rattle.pp_entry.specs.Entries.{Row, row_at}
-use Rattle.pp_entry.specs.Fields.{are_allowed, is_passing, lowered, may_be_kept}
+use Rattle.pp_entry.specs.Fields.{are_allowed, are_in_order, is_dated, is_passing, lowered, may_be_kept, may_follow, place_of}
 use Rattle.pp_entry.specs.Spelling.{CanBeWritten, IsReadBack, as_read}
 use Rattle.pp_entry.specs.Texts.{fits, head_text, own_lines, padded}
 use Rattle.pp_entry.proofs.LineLemmas.{lines-lowered}
@@ -134,10 +136,26 @@ lines-same fs = ap lines_of (filtered fs) ∙ lines-lowered (filter is_passing f
         ap (λ (b : Bool). if b then lowered f ∷ filter is_passing (map lowered fs) else filter is_passing (map lowered fs)) (passing-lower f)
         ∙ by f fs (is_passing f) (filtered fs)
 
-allowed-lower : (fs : List Field) → are_allowed (map lowered fs) ≡ are_allowed fs
-allowed-lower fs =
-    ap (λ (b : Bool). b && nat_le (length (lines_of (filter is_passing (map lowered fs)))) 2048) (all-lower fs fs)
-    ∙ ap (λ (t : List ℕ). list_all (may_be_kept fs) fs && nat_le (length t) 2048) (lines-same fs)
+place-lower : (f : Field) → place_of (lowered f) ≡ place_of f
+place-lower f =
+    ap (λ (t : List ℕ). cond (bytes_eq (lower (codes "date")) t) 1 (cond (bytes_eq (lower (codes "expires")) t) 2 (cond (bytes_eq (lower (codes "cache-control")) t) 3 0))) (lower-lower f.0)
+
+order-lower : (before : ℕ) (fs : List Field) → are_in_order before (map lowered fs) ≡ are_in_order before fs
+order-lower before [] = refl
+order-lower before (f ∷ fs) =
+    ap (λ (place : ℕ). may_follow before place && are_in_order place (map lowered fs)) (place-lower f)
+    ∙ ap (λ (b : Bool). may_follow before (place_of f) && b) (order-lower (place_of f) fs)
+
+dated-lower : (fs : List Field) (came : ℕ) → is_dated (map lowered fs) came ≡ is_dated fs came
+dated-lower fs came =
+    ap (λ (values : List (List ℕ)). elim (slice_get values 0) as (λ o. Bool) [ Some value ↦ is_some (parse_secs value) | None ↦ nat_le 253402300800 came ]) (values-lower (codes "date") fs)
+
+allowed-lower : (fs : List Field) (came : ℕ) → are_allowed (map lowered fs) came ≡ are_allowed fs came
+allowed-lower fs came =
+    ap (λ (b : Bool). (b && nat_le (length (lines_of (filter is_passing (map lowered fs)))) 2048) && (are_in_order 0 (map lowered fs) && is_dated (map lowered fs) came)) (all-lower fs fs)
+    ∙ ap (λ (t : List ℕ). (list_all (may_be_kept fs) fs && nat_le (length t) 2048) && (are_in_order 0 (map lowered fs) && is_dated (map lowered fs) came)) (lines-same fs)
+    ∙ ap (λ (b : Bool). (list_all (may_be_kept fs) fs && nat_le (length (lines_of (filter is_passing fs))) 2048) && (b && is_dated (map lowered fs) came)) (order-lower 0 fs)
+    ∙ ap (λ (b : Bool). (list_all (may_be_kept fs) fs && nat_le (length (lines_of (filter is_passing fs))) 2048) && (are_in_order 0 fs && b)) (dated-lower fs came)
 
 tag-lower : (fs : List Field) → tag_of (map lowered fs) ≡ tag_of fs
 tag-lower fs =
@@ -157,7 +175,7 @@ can-stand : (row : Row) → CanBeWritten row → CanStand (as_read row)
 can-stand row can = record {
   fields = texts-lower row.fields can.fields;
   in_lower_case = lowered-lowered row.fields;
-  allowed = allowed-lower row.fields ∙ can.allowed;
+  allowed = allowed-lower row.fields row.times.response ∙ can.allowed;
   tag = ap strong_part (tag-lower row.fields) ∙ can.tag;
   key = All-weaker (λ b. is_uri_byte b ≡ true) (λ b. is_value_byte b ≡ true) uri-value row.key can.key;
   key_ends = solid-trimmed row.key (All-weaker (λ b. is_uri_byte b ≡ true) (λ b. is_solid b ≡ true) uri-solid row.key can.key);
@@ -186,6 +204,9 @@ read-back row can fit =
 an_etag : Field
 an_etag = (codes "ETag", codes "\"x\"")
 
+a_date : Field
+a_date = (codes "Date", codes "Sun, 06 Nov 1994 08:49:37 GMT")
+
 a_lifetime : Field
 a_lifetime = (codes "Cache-Control", codes "max-age=60")
 
@@ -193,7 +214,7 @@ pub a_row : Row
 a_row = record {
   key = codes "http://h/a";
   version = record { tag = codes "\"x\""; length = 5 };
-  fields = an_etag ∷ a_lifetime ∷ [];
+  fields = an_etag ∷ a_date ∷ a_lifetime ∷ [];
   times = record { request = 784111776; response = 784111777; initial = 0; may_guess = true };
 }
 
@@ -205,11 +226,12 @@ literal-text f some name value ends = record {
 }
 
 pub a_row-can : CanBeWritten a_row
-unfolding a_row an_etag a_lifetime is_token_byte
+unfolding a_row an_etag a_date a_lifetime is_token_byte pp_valid_on_literals
 a_row-can = record {
   fields =
-      All-cons IsFieldText an_etag (a_lifetime ∷ []) (literal-text an_etag (omega arith) refl refl refl)
-      (All-cons IsFieldText a_lifetime [] (literal-text a_lifetime (omega arith) refl refl refl) (All-nil IsFieldText));
+      All-cons IsFieldText an_etag (a_date ∷ a_lifetime ∷ []) (literal-text an_etag (omega arith) refl refl refl)
+      (All-cons IsFieldText a_date (a_lifetime ∷ []) (literal-text a_date (omega arith) refl refl refl)
+      (All-cons IsFieldText a_lifetime [] (literal-text a_lifetime (omega arith) refl refl refl) (All-nil IsFieldText)));
   allowed = refl;
   tag = refl;
   key = AllPass-from_list_all is_uri_byte (codes "http://h/a") refl;

@@ -47,7 +47,7 @@ in-plain fields own found = by (nat_lt (length fields) 5) found
     by false found = at-plain fields (length fields - 5) own found
 
 row-alike : (own : Own) (kept : List Field) (row : Row) → IsPlain own.times → map lowered kept ≡ kept → row_of own kept ≡ Some row → as_read row ≡ row
-row-alike own kept row plain low found = by (are_allowed kept) (strong_part (tag_of kept)) found
+row-alike own kept row plain low found = by (are_allowed kept own.times.response) (strong_part (tag_of kept)) found
   where
     alike : (tag : List ℕ) → as_read (row_with own kept tag) ≡ row_with own kept tag
     alike tag =

@@ -429,7 +429,7 @@ pub record CanStand (row : Row) : Type 0 where
   -- of a row whose names are in any case, the row that is read back (AnyCase)
   pub in_lower_case : map lowered row.fields ≡ row.fields
   -- pp_valid gives no version to a response whose fields exceed the room, and keeps only what is end-to-end
-  pub allowed : are_allowed row.fields ≡ true
+  pub allowed : are_allowed row.fields row.times.response ≡ true
   -- the tag of a version is that of its fields, in pp_valid
   pub tag : strong_part (tag_of row.fields) ≡ Some row.version.tag
   -- a key of pp_target has the bytes of a target, none of which is a control byte or a blank
@@ -533,7 +533,7 @@ spelled-row : (block : List ℕ) (own : Own) (kept : List Field) (row : Row) →
 spelled-row block own kept row is found =
     let text = head_text own.key own.length kept own.times in
     let same : padded text ≡ block = (bytes_eq-Decides (padded text) block).0 (second (fits kept text) (bytes_eq (padded text) block) is) in
-    by (are_allowed kept) (strong_part (tag_of kept)) found (sym same)
+    by (are_allowed kept own.times.response) (strong_part (tag_of kept)) found (sym same)
   where
     second : (a b : Bool) → (a && b) ≡ true → b ≡ true
     second true b is = is

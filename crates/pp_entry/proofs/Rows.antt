@@ -4,13 +4,14 @@ use Rattle.std.specs.Prelude.{⊤, is_some}
 use Rattle.std.specs.Fmt.{digits}
 use Rattle.pp_text.specs.Fields.{Field}
 use Rattle.pp_head.proofs.OnLiterals.{pp_head_on_literals}
+use Rattle.pp_valid.proofs.OnLiterals.{pp_valid_on_literals}
 use Rattle.pp_entry.specs.Entries.{Row, row_at}
 use Rattle.pp_entry.specs.Gates.{extent_of, has_extent}
 use Rattle.pp_entry.specs.Spelling.{as_read, text_of}
 use Rattle.pp_entry.specs.Texts.{body_at, fits, head_text, own_lines, padded}
 
 unfoldable on_literals : ⊤
-unfolding pp_head_on_literals digits row_at body_at own_lines head_text
+unfolding pp_head_on_literals pp_valid_on_literals digits row_at body_at own_lines head_text
 on_literals = tt
 
 field : List ℕ → List ℕ → Field
@@ -43,8 +44,11 @@ is_entry kept own = is_some (row_at (padded (codes "HTTP/1.1 200 OK\r\n" ++ kept
 its_own : List ℕ
 its_own = codes "X-Polipo-Location: http://h/a\r\nX-Polipo-Date: 784111777\r\nX-Polipo-Age: 0\r\nX-Polipo-Length: 5\r\nX-Polipo-Body-Offset: 12288\r\n\r\n"
 
+dated : List ℕ → List ℕ
+dated kept = kept ++ codes "date: Sun, 06 Nov 1994 08:49:37 GMT\r\n"
+
 -- kept fields have one strong tag and one spelling, and none is of one connection or written anew into each reply
-kept_fields : map (λ kept. is_entry kept its_own) (
+kept_fields : map (λ kept. is_entry (dated kept) its_own) (
     codes "etag: \"x\"\r\n"
     ∷ codes "a: 1\r\netag: \"x\"\r\na: \r\n"
     ∷ codes ""
@@ -60,14 +64,35 @@ kept_fields : map (λ kept. is_entry kept its_own) (
     ∷ codes "etag: \"x\"\r\ncontent-length: 5\r\n"
     ∷ codes "etag: \"x\"\r\ncontent-range: bytes 0-4/5\r\n"
     ∷ codes "age: 1\r\netag: \"x\"\r\n"
-    ∷ codes "etag: \"x\"\r\ndate: Sun, 06 Nov 1994 08:49:37 GMT\r\n"
     ∷ [])
-    ≡ true ∷ true ∷ false ∷ false ∷ false ∷ false ∷ false ∷ false ∷ false ∷ false ∷ false ∷ false ∷ false ∷ false ∷ false ∷ true ∷ []
-unfolding is_entry its_own on_literals
+    ≡ true ∷ true ∷ false ∷ false ∷ false ∷ false ∷ false ∷ false ∷ false ∷ false ∷ false ∷ false ∷ false ∷ false ∷ false ∷ []
+unfolding is_entry dated its_own on_literals
 kept_fields = refl
 
+-- they stand in the order in which they are kept of a response, with the date that it has or was assigned
+orders : map (λ kept. is_entry kept its_own) (
+    codes "a: 1\r\netag: \"x\"\r\ndate: Sun, 06 Nov 1994 08:49:37 GMT\r\nexpires: 0\r\ncache-control: max-age=60\r\ncache-control: public\r\n"
+    ∷ codes "etag: \"x\"\r\ndate: Sunday, 06-Nov-94 08:49:37 GMT\r\nexpires: 0\r\nexpires: 0\r\n"
+    ∷ codes "etag: \"x\"\r\ndate: Sun, 06 Nov 1994 08:49:37 GMT\r\ncache-control: max-age=60\r\nexpires: 0\r\n"
+    ∷ codes "etag: \"x\"\r\ncache-control: max-age=60\r\ndate: Sun, 06 Nov 1994 08:49:37 GMT\r\n"
+    ∷ codes "etag: \"x\"\r\nexpires: 0\r\ndate: Sun, 06 Nov 1994 08:49:37 GMT\r\n"
+    ∷ codes "date: Sun, 06 Nov 1994 08:49:37 GMT\r\netag: \"x\"\r\n"
+    ∷ codes "etag: \"x\"\r\ndate: Sun, 06 Nov 1994 08:49:37 GMT\r\ndate: Sun, 06 Nov 1994 08:49:37 GMT\r\n"
+    ∷ codes "etag: \"x\"\r\ndate: yesterday\r\n"
+    ∷ codes "etag: \"x\"\r\n"
+    ∷ [])
+    ≡ true ∷ true ∷ false ∷ false ∷ false ∷ false ∷ false ∷ false ∷ false ∷ []
+unfolding is_entry its_own on_literals
+orders = refl
+
+-- a response that came after the year 9999 is assigned none
+late : map (λ came. is_entry (codes "etag: \"x\"\r\n") (codes "X-Polipo-Location: http://h/a\r\nX-Polipo-Date: " ++ came ++ codes "\r\nX-Polipo-Age: 0\r\nX-Polipo-Length: 5\r\nX-Polipo-Body-Offset: 12288\r\n\r\n")) (
+    codes "253402300799" ∷ codes "253402300800" ∷ []) ≡ false ∷ true ∷ []
+unfolding is_entry on_literals
+late = refl
+
 -- the lines of this proxy's own have one spelling: a number that fits, a length of 1 to 2^26, and where its body stands
-own_lines_of : map (is_entry (codes "etag: \"x\"\r\n")) (
+own_lines_of : map (is_entry (dated (codes "etag: \"x\"\r\n"))) (
     its_own
     ∷ codes "X-Polipo-Location: http://h/a\r\nX-Polipo-Date: 1\r\nX-Polipo-Age: 18446744073709551615\r\nX-Polipo-Length: 67108864\r\nX-Polipo-Body-Offset: 24576\r\n\r\n"
     ∷ codes "X-Polipo-Location: http://h/a\r\nX-Polipo-Date: 1\r\nX-Polipo-Age: 18446744073709551616\r\nX-Polipo-Length: 5\r\nX-Polipo-Body-Offset: 12288\r\n\r\n"
@@ -84,7 +109,7 @@ own_lines_of : map (is_entry (codes "etag: \"x\"\r\n")) (
     ∷ codes ""
     ∷ [])
     ≡ true ∷ true ∷ false ∷ false ∷ false ∷ false ∷ false ∷ false ∷ false ∷ false ∷ false ∷ false ∷ false ∷ false ∷ []
-unfolding is_entry its_own on_literals
+unfolding is_entry dated its_own on_literals
 own_lines_of = refl
 
 -- a head has 95 kept fields and 8,192 bytes at most

@@ -67,7 +67,7 @@ row_with own kept tag = record { key = own.key; version = record { tag = tag; le
 
 -- the tag of the version is that of the kept fields, which have just one, a strong one of at most 1,024 bytes
 abbrev pub row_of : Own → List Field → Option Row
-row_of own kept = if are_allowed kept then option_map (row_with own kept) (strong_part (tag_of kept)) else None
+row_of own kept = if are_allowed kept own.times.response then option_map (row_with own kept) (strong_part (tag_of kept)) else None
 
 abbrev pub row_if_spelled : List ℕ → Own → List Field → Option Row
 row_if_spelled block own kept = if is_spelled block own kept then row_of own kept else None

@@ -12,8 +12,8 @@ use Rattle.pp_entry.specs.Texts.{fits, head_text, padded}
 pub record CanBeWritten (row : Row) : Type 0 where
   -- tokens, and values without blanks at their ends: no head has others
   pub fields : All IsFieldText row.fields
-  -- ours: they are end-to-end, and those that are renewed have at most 2,048 bytes
-  pub allowed : are_allowed row.fields ≡ true
+  -- ours: they are as they are kept of a response that came then, and those that are renewed have at most 2,048 bytes
+  pub allowed : are_allowed row.fields row.times.response ≡ true
   -- the tag of the version is that of the fields, a strong one
   pub tag : strong_part (tag_of row.fields) ≡ Some row.version.tag
   -- a key has the bytes of a target

@@ -94,7 +94,7 @@ fn show<'a, 's>(
     ensures body { IfSome result (λ entry. entry.body_at ≡ body_at entry.version.length) }
 {
     let fields = Fields::new(block, spans);
-    if !are_allowed(&fields) {
+    if !are_allowed(&fields, own.times.response) {
         return None;
     }
     let TagState::Strong(tag) = tag_of(&fields) else {

@@ -13,6 +13,7 @@ use Rattle.pp_head.proofs.OnLiterals.{pp_head_on_literals}
 use Rattle.pp_head.specs.Agreement.{IsFieldText}
 use Rattle.pp_head.specs.Read.{Whole}
 use Rattle.pp_head.specs.Response.{Response, response_at}
+use Rattle.pp_valid.proofs.OnLiterals.{pp_valid_on_literals}
 use Rattle.pp_valid.specs.TagStates.{tag_of}
 use Rattle.pp_valid.specs.Versions.{strong_part}
 use Rattle.pp_entry.specs.Entries.{Row, is_sized}
@@ -25,15 +26,18 @@ use Rattle.pp_keeper.specs.Anything.{anything}
 a_tag : Field
 a_tag = (codes "etag", codes "\"x\"")
 
+a_date : Field
+a_date = (codes "date", codes "Thu, 01 Jan 1970 00:00:00 GMT")
+
 -- the response that each entry keeps
-response_is : response_at (codes "HTTP/1.1 200 OK\r\netag: \"x\"\r\n\r\n") ≡ Whole (record { minor = 1; status = 200; reason = codes "OK"; fields = a_tag ∷ []; length = 30 })
-unfolding pp_head_on_literals a_tag
+response_is : response_at (codes "HTTP/1.1 200 OK\r\netag: \"x\"\r\ndate: Thu, 01 Jan 1970 00:00:00 GMT\r\n\r\n") ≡ Whole (record { minor = 1; status = 200; reason = codes "OK"; fields = a_tag ∷ a_date ∷ []; length = 67 })
+unfolding pp_head_on_literals a_tag a_date
 response_is = refl
 
-fields_of : (response : Response) → response_at (codes "HTTP/1.1 200 OK\r\netag: \"x\"\r\n\r\n") ≡ Whole response → response.fields ≡ a_tag ∷ []
+fields_of : (response : Response) → response_at (codes "HTTP/1.1 200 OK\r\netag: \"x\"\r\ndate: Thu, 01 Jan 1970 00:00:00 GMT\r\n\r\n") ≡ Whole response → response.fields ≡ a_tag ∷ a_date ∷ []
 fields_of response is = by (sym is ∙ response_is)
   where
-    by : Whole response ≡ Whole (record { minor = 1; status = 200; reason = codes "OK"; fields = a_tag ∷ []; length = 30 }) → response.fields ≡ a_tag ∷ []
+    by : Whole response ≡ Whole (record { minor = 1; status = 200; reason = codes "OK"; fields = a_tag ∷ a_date ∷ []; length = 67 }) → response.fields ≡ a_tag ∷ a_date ∷ []
     by same = cc same
 
 tag-text : IsFieldText a_tag
@@ -44,9 +48,17 @@ tag-text = record {
   trimmed = refl;
 }
 
-tag-allowed : are_allowed (a_tag ∷ []) ≡ true
-unfolding a_tag
-tag-allowed = refl
+date-text : IsFieldText a_date
+unfolding a_date is_token_byte
+date-text = record {
+  name = (omega arith, AllPass-from_list_all is_token_byte (codes "date") refl);
+  value = AllPass-from_list_all is_value_byte (codes "Thu, 01 Jan 1970 00:00:00 GMT") refl;
+  trimmed = refl;
+}
+
+fields-allowed : (came : ℕ) → are_allowed (a_tag ∷ a_date ∷ []) came ≡ true
+unfolding a_tag a_date pp_valid_on_literals
+fields-allowed came = refl
 
 digit-passes : (c : ℕ) → digit_value c < 10 → is_uri_byte c ≡ true
 digit-passes c small = grind (arith, nat_tests)
@@ -64,17 +76,17 @@ length-sized : (n : ℕ) → 1 ≤ n → n ≤ 2 ^ 26 → is_sized n ≡ true
 length-sized n some few = grind (arith, nat_tests)
 
 pub can : (row : Row) (response : Response) (number : ℕ)
-    → response_at (codes "HTTP/1.1 200 OK\r\netag: \"x\"\r\n\r\n") ≡ Whole response → row.fields ≡ response.fields
+    → response_at (codes "HTTP/1.1 200 OK\r\netag: \"x\"\r\ndate: Thu, 01 Jan 1970 00:00:00 GMT\r\n\r\n") ≡ Whole response → row.fields ≡ response.fields
     → number < 2 ^ 64 → row.key ≡ codes "http://h/" ++ decimal number
     → strong_part (tag_of row.fields) ≡ Some row.version.tag
     → 1 ≤ row.version.length → row.version.length ≤ 2 ^ 26
     → row.times.response ≡ 0 → row.times.initial ≡ 0
     → CanBeWritten row
 can row response number is fields less key tag some few response_time initial =
-    let fields : row.fields ≡ a_tag ∷ [] = fields ∙ fields_of response is in
+    let fields : row.fields ≡ a_tag ∷ a_date ∷ [] = fields ∙ fields_of response is in
     record {
-      fields = subst (λ (fs : List Field). All IsFieldText fs) (sym fields) (All-cons IsFieldText a_tag [] tag-text (All-nil IsFieldText));
-      allowed = ap are_allowed fields ∙ tag-allowed;
+      fields = subst (λ (fs : List Field). All IsFieldText fs) (sym fields) (All-cons IsFieldText a_tag (a_date ∷ []) tag-text (All-cons IsFieldText a_date [] date-text (All-nil IsFieldText)));
+      allowed = ap (λ (fs : List Field). are_allowed fs row.times.response) fields ∙ fields-allowed row.times.response;
       tag = tag;
       key = subst (λ (k : List ℕ). AllPass is_uri_byte k) (sym key) (key-passes number less);
       sized = length-sized row.version.length some few;

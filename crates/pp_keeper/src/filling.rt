@@ -22,7 +22,8 @@ pub(crate) const RUN_CHUNKS: u64 = 64;
 pub(crate) const ROOM_LEN: usize = 274_432;
 
 /// The response that each entry keeps.
-const RESPONSE: &[u8] = b"HTTP/1.1 200 OK\r\netag: \"x\"\r\n\r\n";
+const RESPONSE: &[u8] =
+    b"HTTP/1.1 200 OK\r\netag: \"x\"\r\ndate: Thu, 01 Jan 1970 00:00:00 GMT\r\n\r\n";
 
 /// How much of a body is published with its entry: all of it, where it is no longer than a seal of more chunks than one, or
 /// none.

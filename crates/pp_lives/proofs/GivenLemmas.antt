@@ -15,6 +15,7 @@ use Rattle.pp_entry.specs.Spelling.{CanBeWritten}
 use Rattle.pp_entry.specs.Texts.{body_at}
 use Rattle.pp_gate.specs.Seal.{IsFront}
 use Rattle.pp_store.specs.Changes.{entry_with}
+use Rattle.pp_valid.proofs.OnLiterals.{pp_valid_on_literals}
 use Rattle.pp_valid.specs.declared.version.Version.{Version}
 use Rattle.pp_lives.specs.Lives.{IsAnyFront, any_byte, given_fields, given_row, given_version, is_front_of}
 
@@ -42,6 +43,7 @@ field-texts =
     (All-cons IsFieldText a_lifetime [] (literal-text a_lifetime (omega arith) refl refl refl) (All-nil IsFieldText)))
 
 pub row_written : (key : List ℕ) (n : ℕ) → list_all is_uri_byte key ≡ true → is_sized n ≡ true → CanBeWritten (given_row key n)
+unfolding pp_valid_on_literals
 row_written key n solid sized = record {
   fields = field-texts;
   allowed = refl;

@@ -38,6 +38,40 @@ const UNENDED: &Entry = &Entry {
     body: Body::Noise,
 };
 
+/// Its fields are not those that are kept of a response: one is of one connection, there is no date, they stand in another
+/// order, or there are two dates.
+const OF_A_CONNECTION: &Entry = &Entry {
+    name: A_NAME,
+    key: A,
+    head: b"HTTP/1.1 200 OK\r\netag: \"x\"\r\nte: trailers\r\ndate: Sun, 06 Nov 1994 08:49:37 GMT\r\ncache-control: max-age=60\r\nX-Polipo-Location: http://h/a\r\nX-Polipo-Date: 784111777\r\nX-Polipo-Age: 0\r\nX-Polipo-Length: 8192\r\nX-Polipo-Body-Offset: 12288\r\n\r\n",
+    length: 8192,
+    body: Body::Noise,
+};
+
+const UNDATED: &Entry = &Entry {
+    name: A_NAME,
+    key: A,
+    head: b"HTTP/1.1 200 OK\r\netag: \"x\"\r\ncache-control: max-age=60\r\nX-Polipo-Location: http://h/a\r\nX-Polipo-Date: 784111777\r\nX-Polipo-Age: 0\r\nX-Polipo-Length: 8192\r\nX-Polipo-Body-Offset: 12288\r\n\r\n",
+    length: 8192,
+    body: Body::Noise,
+};
+
+const MISPLACED: &Entry = &Entry {
+    name: A_NAME,
+    key: A,
+    head: b"HTTP/1.1 200 OK\r\netag: \"x\"\r\ncache-control: max-age=60\r\ndate: Sun, 06 Nov 1994 08:49:37 GMT\r\nX-Polipo-Location: http://h/a\r\nX-Polipo-Date: 784111777\r\nX-Polipo-Age: 0\r\nX-Polipo-Length: 8192\r\nX-Polipo-Body-Offset: 12288\r\n\r\n",
+    length: 8192,
+    body: Body::Noise,
+};
+
+const TWICE_DATED: &Entry = &Entry {
+    name: A_NAME,
+    key: A,
+    head: b"HTTP/1.1 200 OK\r\netag: \"x\"\r\ndate: Sun, 06 Nov 1994 08:49:37 GMT\r\ndate: Sun, 06 Nov 1994 08:49:37 GMT\r\ncache-control: max-age=60\r\nX-Polipo-Location: http://h/a\r\nX-Polipo-Date: 784111777\r\nX-Polipo-Age: 0\r\nX-Polipo-Length: 8192\r\nX-Polipo-Body-Offset: 12288\r\n\r\n",
+    length: 8192,
+    body: Body::Noise,
+};
+
 /// The whole entry of another key.
 const OTHER_FILE: File = File {
     name: B_NAME,
@@ -63,12 +97,17 @@ const FOREIGN: Course<'static> = Course {
     ..QUIET
 };
 
-const FILES: [Bytes; 15] = [
+const FILES: [Bytes; 19] = [
     // Nothing but zeros, with open gates and a body or without; another text in the place of the head.
     Bytes::Run(0, 12_288),
     Bytes::Entry(HEADLESS, &[1, 1]),
     Bytes::Entry(NOTES, &[1, 1]),
     Bytes::Entry(UNENDED, &[1, 1]),
+    // Fields that no entry has.
+    Bytes::Entry(OF_A_CONNECTION, &[1, 1]),
+    Bytes::Entry(UNDATED, &[1, 1]),
+    Bytes::Entry(MISPLACED, &[1, 1]),
+    Bytes::Entry(TWICE_DATED, &[1, 1]),
     // The entry of another key, where the names may be the same or not.
     Bytes::Entry(BESIDE, &[1, 1]),
     Bytes::Text(b""),

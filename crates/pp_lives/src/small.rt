@@ -14,11 +14,11 @@ use std::test::Fail;
 
 /// The text of an entry of three chunks, of the key `http://h/b`.
 const SECOND: &[u8] =
-    b"HTTP/1.1 200 OK\r\netag: \"x\"\r\nX-Polipo-Location: http://h/b\r\nX-Polipo-Date: 784111777\r\nX-Polipo-Age: 0\r\nX-Polipo-Length: 12288\r\nX-Polipo-Body-Offset: 12288\r\n\r\n";
+    b"HTTP/1.1 200 OK\r\netag: \"x\"\r\ndate: Sun, 06 Nov 1994 08:49:37 GMT\r\nX-Polipo-Location: http://h/b\r\nX-Polipo-Date: 784111777\r\nX-Polipo-Age: 0\r\nX-Polipo-Length: 12288\r\nX-Polipo-Body-Offset: 12288\r\n\r\n";
 
 /// The same of `http://h/a`.
 const FIRST: &[u8] =
-    b"HTTP/1.1 200 OK\r\netag: \"x\"\r\nX-Polipo-Location: http://h/a\r\nX-Polipo-Date: 784111777\r\nX-Polipo-Age: 0\r\nX-Polipo-Length: 12288\r\nX-Polipo-Body-Offset: 12288\r\n\r\n";
+    b"HTTP/1.1 200 OK\r\netag: \"x\"\r\ndate: Sun, 06 Nov 1994 08:49:37 GMT\r\nX-Polipo-Location: http://h/a\r\nX-Polipo-Date: 784111777\r\nX-Polipo-Age: 0\r\nX-Polipo-Length: 12288\r\nX-Polipo-Body-Offset: 12288\r\n\r\n";
 
 /// A file of so many bytes: a head block with this text, three gates, and a body of `b` alone.
 fn file(alloc: Global, text: &[u8], gates: [u8; 3], length: usize) -> Vec<u8> {
@@ -199,7 +199,7 @@ const FOREIGN: &[Row<'static>] = &[
     Row::Foreign(b"notes of my own", None),
     // The entry of another key, a byte of the head changed, and one behind its text.
     Row::Foreign(FIRST, None),
-    Row::Foreign(SECOND, Some((40, b'H'))),
+    Row::Foreign(SECOND, Some((77, b'H'))),
     Row::Foreign(SECOND, Some((8191, 1))),
 ];
 

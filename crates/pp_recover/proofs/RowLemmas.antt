@@ -67,7 +67,7 @@ length-padded text le = omega (arith, le, length-append text (replicate {A = ℕ
 spelt_own : (block : List ℕ) (own : Own) (kept : List Field) (row : Row) → own.length ≤ 2 ^ 26 → row_if_spelled block own kept ≡ Some row → IsSpelt block row
 spelt_own block own kept row small is =
     let spelled = if_some (is_spelled block own kept) (row_of own kept) row is in
-    let allowed = if_some (are_allowed kept) (option_map (row_with own kept) (strong_part (tag_of kept))) row spelled.1 in
+    let allowed = if_some (are_allowed kept own.times.response) (option_map (row_with own kept) (strong_part (tag_of kept))) row spelled.1 in
     let tag = map_some (row_with own kept) (strong_part (tag_of kept)) row allowed.1 in
     let text = head_text own.key own.length kept own.times in
     let parts = both_true (fits kept text) (bytes_eq (padded text) block) spelled.0 in

@@ -49,7 +49,7 @@ tag_is tag (Some other) is = ap Some ((bytes_eq-Decides other tag).0 is)
 tag_of_part : (tag : List ℕ) (part : Option (List ℕ)) → part ≡ Some tag → is_tag tag part ≡ true
 tag_of_part tag part is = ap (is_tag tag) is ∙ (bytes_eq-Decides tag tag).1 refl
 
-can : (row : Row) → row.times.response < 2 ^ 64 → row.times.initial < 2 ^ 64 → is_writable row.key row.version row.fields ≡ true → CanBeWritten row
+can : (row : Row) → row.times.response < 2 ^ 64 → row.times.initial < 2 ^ 64 → is_writable row.key row.version row.fields row.times ≡ true → CanBeWritten row
 can row response initial is =
     let tagged = and_parts _ _ is in
     let parts = and_parts _ _ tagged.0 in
@@ -65,7 +65,7 @@ can row response initial is =
       initial = initial;
     }
 
-must : (row : Row) → CanBeWritten row → is_writable row.key row.version row.fields ≡ true
+must : (row : Row) → CanBeWritten row → is_writable row.key row.version row.fields row.times ≡ true
 must row held =
     both_true _ _
     (both_true _ _
@@ -73,5 +73,5 @@ must row held =
     (both_true _ _ (list_all-from_AllPass is_text row.fields (All-weaker IsFieldText (λ f. is_text f ≡ true) text_of row.fields held.fields)) held.allowed))
     (tag_of_part row.version.tag (strong_part (tag_of row.fields)) held.tag)
 
-pub writable : (row : Row) → row.times.response < 2 ^ 64 → row.times.initial < 2 ^ 64 → (is_writable row.key row.version row.fields ≡ true) ↔ CanBeWritten row
+pub writable : (row : Row) → row.times.response < 2 ^ 64 → row.times.initial < 2 ^ 64 → (is_writable row.key row.version row.fields row.times ≡ true) ↔ CanBeWritten row
 writable row response initial = (can row response initial, must row)

@@ -2,6 +2,7 @@
 use Rattle.std.specs.Prelude.{ℕ, Bool, false, ◌&&◌, List, bytes_eq, Option, Some, None}
 use Rattle.std.specs.List.{list_all}
 use Rattle.httparse.specs.Grammar.{is_token, is_uri_byte, is_value_byte}
+use Rattle.pp_fresh.specs.declared.aging.Times.{Times}
 use Rattle.pp_text.specs.Bytes.{trim}
 use Rattle.pp_text.specs.Fields.{Field}
 use Rattle.pp_valid.specs.TagStates.{tag_of}
@@ -26,6 +27,6 @@ abbrev pub has_tag : Version → List Field → Bool
 has_tag version fields = is_tag version.tag (strong_part (tag_of fields))
 
 -- `CanBeWritten` of pp_entry
-abbrev pub is_writable : List ℕ → Version → List Field → Bool
-is_writable key version fields =
-    (list_all is_uri_byte key && is_sized version.length) && (list_all is_text fields && are_allowed fields) && has_tag version fields
+abbrev pub is_writable : List ℕ → Version → List Field → Times → Bool
+is_writable key version fields times =
+    (list_all is_uri_byte key && is_sized version.length) && (list_all is_text fields && are_allowed fields times.response) && has_tag version fields

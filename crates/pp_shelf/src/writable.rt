@@ -16,21 +16,21 @@ use pp_valid::{TagState, Version, tag_of};
 /// The longest body of an entry.
 const BODY_LEN: u64 = 1 << 26;
 
-/// Whether an entry can be written of this row. What comes of heads mostly can: it may have more fields that are renewed
+/// Whether an entry can be written of this row. What is kept of heads mostly can: it may have more fields that are renewed
 /// than there is room for, or a longer body.
 pub fn can_be_written(key: &[u8], version: &Version, fields: &Fields<'_, '_>, times: &Times) -> bool
     ensures { (result ≡ true) ↔ CanBeWritten (entry_with key.now version.now fields.now times.now) }
 {
     let _response = times.response;
     let _initial = times.initial;
-    is_writable(key, version, fields)
+    is_writable(key, version, fields, times)
 }
 
-fn is_writable(key: &[u8], version: &Version, fields: &Fields<'_, '_>) -> bool
-    ensures { result ≡ is_writable key.now version.now fields.now }
+fn is_writable(key: &[u8], version: &Version, fields: &Fields<'_, '_>, times: &Times) -> bool
+    ensures { result ≡ is_writable key.now version.now fields.now times.now }
 {
     let is_placed = is_target(key) && is_sized(version.length);
-    let is_kept = are_texts(fields) && are_allowed(fields);
+    let is_kept = are_texts(fields) && are_allowed(fields, times.response);
     is_placed && is_kept && has_tag(version, fields)
 }
 

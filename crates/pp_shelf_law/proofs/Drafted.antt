@@ -20,7 +20,8 @@ use Rattle.pp_laws_crash.proofs.Begins.{IsFirst, MayDraft, block_full, draft_is,
 use Rattle.pp_obeys.proofs.Calls.{moves_to}
 use Rattle.pp_obeys.proofs.Silent.{both_hold}
 use Rattle.pp_obeys.proofs.TurnHappenings.{goes_kept}
-use Rattle.pp_obeys.specs.Moves.{Goes}
+use Rattle.pp_obeys.specs.Moves.{Goes, Leads, MovesAll}
+use Rattle.pp_obeys.proofs.Moving.{moves_append}
 use Rattle.pp_store.proofs.Lists.{any_none, count-push, one}
 use Rattle.pp_store.specs.Answers.{file_with}
 use Rattle.pp_store.specs.Changes.{entry_with, kept_after, with_closed, with_row}
@@ -35,11 +36,11 @@ use Rattle.pp_world.specs.declared.op.DiskOp.{DiskOp}
 use Rattle.pp_world.specs.declared.op.DiskOp.TheVariants.{Draft, SyncDraft, Publish}
 use Rattle.pp_shelf_law.specs.Drafts.{DraftsAreTheLaws, IsToDraft, RanKeep, draft_notes, drafted, with_draft, with_draft_noted}
 use Rattle.pp_shelf_law.specs.Kept.{HasOneRow}
-use Rattle.pp_shelf_law.specs.Runs.{IsWorking, Leads, MovesAll, ran}
+use Rattle.pp_shelf_law.specs.Runs.{IsWorking, ran}
 use Rattle.pp_shelf_law.specs.Shelf.{AreKept, IsResting, ShowEntries, ShowsEntry, is_shut}
 use Rattle.pp_shelf_law.specs.Takings.{LeadsTo}
 use Rattle.pp_shelf_law.proofs.Lists.{Agree, agree_filter, agree_without, true_false}
-use Rattle.pp_shelf_law.proofs.Runs.{all_done, all_failed, draft_failed, moves_append, ran_twice}
+use Rattle.pp_shelf_law.proofs.Runs.{all_done, all_failed, draft_failed, ran_twice}
 use Rattle.pp_shelf_law.proofs.Sealed.{acknowledged_so}
 use Rattle.pp_shelf_law.proofs.Shelves.{both_push, bytes_by, bytes_same, closed_count, closed_shown, same_bytes, shut_more}
 use Rattle.pp_shelf_law.proofs.Starting.{given, planned, starts}
@@ -257,12 +258,12 @@ module _ (shelf : KeptMap) (s : State) (x : Instance) (kept : Bytes) (rests : Is
       goes_kept (entered hs false) x.key x.version.tag x.version.length extent rests.none refl (acknowledged_so x.key x.version.tag x.version.length extent extent [] refl) in
       moves_to refl goes refl
 
-  published : (hs : Log) → Ran (publish_ops name file) true hs → Leads (hs ++ draft_notes x extent (Ok tt)) s (with_draft_noted x extent hs s)
+  published : (hs : Log) → Ran (publish_ops name file) true hs → Leads (hs ++ draft_notes x.key x.version extent (Ok tt)) s (with_draft_noted x extent hs s)
   unfolding enter_next
   published hs are =
-      moves_append (λ u. u ≡ last hs (extent == 0)) hs (draft_notes x extent (Ok tt)) s
-      (begin_draft (MovesAll (λ u. u ≡ last hs (extent == 0)) (draft_notes x extent (Ok tt))) (SyncDraft ∷ Publish name ∷ []) true hs are
-      (all_done (MovesAll (λ u. u ≡ last hs (extent == 0)) (draft_notes x extent (Ok tt))) (given agenda s) name (Draft file) (SyncDraft ∷ Publish name ∷ []) (Enter new ∷ notes) hs works are
+      moves_append (λ u. u ≡ last hs (extent == 0)) hs (draft_notes x.key x.version extent (Ok tt)) s
+      (begin_draft (MovesAll (λ u. u ≡ last hs (extent == 0)) (draft_notes x.key x.version extent (Ok tt))) (SyncDraft ∷ Publish name ∷ []) true hs are
+      (all_done (MovesAll (λ u. u ≡ last hs (extent == 0)) (draft_notes x.key x.version extent (Ok tt))) (given agenda s) name (Draft file) (SyncDraft ∷ Publish name ∷ []) (Enter new ∷ notes) hs works are
       (finishes hs (extent == 0))))
 
   new_shows : ShowsEntry (record { entry = entry_with x.key x.version x.fields x.times; extent = extent }) new
@@ -336,7 +337,7 @@ module _ (shelf : KeptMap) (s : State) (x : Instance) (kept : Bytes) (rests : Is
   nothing_leads hs is = record { leads = subst (λ (k : Log). Leads (k ++ []) s s) (sym is) refl; rests = rests }
 
   pub draft_leads : (result : Result (Unit {0}) KeepFault) (hs : Log) → RanKeep name file result hs
-      → LeadsTo (hs ++ draft_notes x extent result) s (drafted x extent result hs s) (kept_after result (entry_with x.key x.version x.fields x.times) extent shelf)
+      → LeadsTo (hs ++ draft_notes x.key x.version extent result) s (drafted x extent result hs s) (kept_after result (entry_with x.key x.version x.fields x.times) extent shelf)
   draft_leads (Ok done) hs are = record { leads = published hs are; rests = last_rests hs (extent == 0) }
   draft_leads (Err Closed) hs are = nothing_leads hs are
   draft_leads (Err Full) hs are = nothing_leads hs are

@@ -1,64 +1,91 @@
 -- The calls of the disk in a turn, each with its note.
-use Rattle.std.proofs.Common.{◌≡◌, sym, subst, ap, ◌∙◌, ℕ, is_ok, [], ◌∷◌, ◌++◌}
+use Rattle.std.proofs.Common.{◌≡◌, refl, sym, subst, ap, ◌∙◌, ℕ, ◌+◌, IfOk, is_ok, [], ◌∷◌, ◌++◌, length, Result, Some}
+use Rattle.pp_entry.specs.Entries.{Row}
 use Rattle.pp_gate.specs.Runs.{Ran}
-use Rattle.pp_law.specs.State.{State}
+use Rattle.pp_law.specs.Lists.{Bytes}
+use Rattle.pp_law.specs.State.{State, Entry, Instance}
 use Rattle.pp_law.specs.Store.{drafted_with}
+use Rattle.pp_obeys.proofs.Adding.{adds_as, adds_then}
+use Rattle.pp_obeys.specs.Moves.{Both, Is}
 use Rattle.pp_store.specs.Answers.{extend_ops, file_with}
 use Rattle.pp_store.specs.Changes.{entry_with, extended_after, kept_after, withdrawn_after}
-use Rattle.pp_store.specs.Kept.{KeptMap}
+use Rattle.pp_store.specs.Kept.{Kept, KeptMap, kept_of}
+use Rattle.pp_store.specs.declared.faults.KeepFault.{KeepFault}
 use Rattle.pp_target.specs.Name.{name_of}
+use Rattle.pp_valid.specs.declared.version.Version.{Version}
 use Rattle.pp_world.specs.Log.{Log}
+use Rattle.pp_world.specs.declared.disk.DiskFault.{DiskFault}
 use Rattle.pp_world.specs.declared.happening.Happening.TheVariants.{Noted}
 use Rattle.pp_world.specs.declared.note.Remark.TheVariants.{Gone}
 use Rattle.pp_world.specs.declared.op.DiskOp.TheVariants.{Remove}
-use Rattle.pp_shelf_law.specs.Calls.{Both, Is}
-use Rattle.pp_shelf_law.specs.Drafts.{RanKeep, draft_notes}
-use Rattle.pp_shelf_law.specs.Joined.{DraftsKeep, MayDraftRow, MaySealRun, MayTake, SealsKeep, TakingsKeep}
-use Rattle.pp_shelf_law.specs.Runs.{MovesAll}
-use Rattle.pp_shelf_law.specs.Seals.{seal_note}
+use Rattle.pp_shelf_law.specs.Drafts.{IsToDraft, RanKeep, draft_notes, drafted}
+use Rattle.pp_shelf_law.specs.Joined.{DraftsLead, DraftsRow, SealsLead, SealsRun, TakesAway, TakingsLead}
+use Rattle.pp_shelf_law.specs.Kept.{HasOneRow}
+use Rattle.pp_shelf_law.specs.Seals.{IsToSeal, seal_note, sealed}
 use Rattle.pp_shelf_law.specs.Shelf.{IsResting}
-use Rattle.pp_shelf_law.specs.Takings.{LeadsTo}
-use Rattle.pp_shelf_law.proofs.Calls.{adds_then, keeps_added}
+use Rattle.pp_shelf_law.specs.Takings.{LeadsTo, taken_away}
 use Rattle.pp_shelf_law.proofs.Drafted.{drafts}
-use Rattle.pp_shelf_law.proofs.Runs.{moves_map}
 use Rattle.pp_shelf_law.proofs.Sealed.{seals}
 use Rattle.pp_shelf_law.proofs.Takings.{withdrawals}
 
--- where they lead there, the shelf shows it
-rests_behind : (hs : Log) (s t : State) (shelf : KeptMap) → LeadsTo hs s t shelf → MovesAll (IsResting shelf) hs s
-rests_behind hs s t shelf leads = moves_map (λ u. u ≡ t) (IsResting shelf) (λ u is. subst (IsResting shelf) (sym is) leads.rests) hs s leads.leads
+leads_as : {hs ks : Log} {s t : State} {shelf : KeptMap} → ks ≡ hs → LeadsTo hs s t shelf → LeadsTo ks s t shelf
+leads_as {hs} {ks} {s} {t} {shelf} is leads = subst (λ (k : Log). LeadsTo k s t shelf) (sym is) leads
 
-pub takings_keep : TakingsKeep
-takings_keep old mid new before between now shelf key result note runs =
-    keeps_added before now (MayTake shelf key) (IsResting (withdrawn_after result key shelf)) (Both (Is (Noted (Gone key) ∷ [])) (Ran (Remove (name_of key) ∷ []) (is_ok result)))
-    (adds_then before between now (Is (Noted (Gone key) ∷ [])) (Ran (Remove (name_of key) ∷ []) (is_ok result)) note runs) step
-  where
-    step : (hs : Log) (s : State) → Both (Is (Noted (Gone key) ∷ [])) (Ran (Remove (name_of key) ∷ []) (is_ok result)) hs → MayTake shelf key s → MovesAll (IsResting (withdrawn_after result key shelf)) hs s
-    step hs s are may =
-        subst (λ (k : Log). MovesAll (IsResting (withdrawn_after result key shelf)) k s) (sym (are.is ∙ ap (λ (k : Log). k ++ are.two) are.first))
-        (rests_behind (Noted (Gone key) ∷ are.two) s _ (withdrawn_after result key shelf) (withdrawals shelf s key may.entry result are.two may.rests may.goes are.then))
+-- ---- an entry that is taken away
 
-pub seals_keep : SealsKeep
-seals_keep old mid new before between now shelf x kept bytes result runs extent note =
-    keeps_added before now (MaySealRun shelf x kept bytes) (IsResting (extended_after result x.key shelf)) (Both (Ran (extend_ops kept bytes) (is_ok result)) (Is (seal_note x result ∷ [])))
-    (adds_then before between now (Ran (extend_ops kept bytes) (is_ok result)) (Is (seal_note x result ∷ [])) runs note) step
-  where
-    step : (hs : Log) (s : State) → Both (Ran (extend_ops kept bytes) (is_ok result)) (Is (seal_note x result ∷ [])) hs → MaySealRun shelf x kept bytes s → MovesAll (IsResting (extended_after result x.key shelf)) hs s
-    step hs s are may =
-        subst (λ (k : Log). MovesAll (IsResting (extended_after result x.key shelf)) k s) (sym (are.is ∙ ap (λ (k : Log). are.one ++ k) are.then))
-        (rests_behind (are.one ++ seal_note x result ∷ []) s _ (extended_after result x.key shelf) (seals shelf s x may.entry kept bytes result are.one may.rests may.alone may.due may.kept_is are.first extent))
+away : (shelf : KeptMap) (key : Bytes) (result : Result (Unit {0}) DiskFault) (hs : Log) → Both (Is (Noted (Gone key) ∷ [])) (Ran (Remove (name_of key) ∷ []) (is_ok result)) hs → TakesAway shelf key result hs
+away shelf key result hs are =
+    let whole : hs ≡ Noted (Gone key) ∷ are.two = are.is ∙ ap (λ (k : Log). k ++ are.two) are.first in
+    record { ops = are.two; ran = are.then; is = whole; leads = λ s e rests goes. leads_as whole (withdrawals shelf s key e result are.two rests goes are.then) }
 
-pub drafts_keep : DraftsKeep
-drafts_keep old mid new before between now shelf x extent kept result runs notes =
-    keeps_added before now (MayDraftRow shelf x extent kept) (IsResting (kept_after result (entry_with x.key x.version x.fields x.times) extent shelf))
-    (Both (RanKeep (name_of x.key) (file_with (entry_with x.key x.version x.fields x.times) kept) result) (Is (draft_notes x extent result)))
-    (adds_then before between now (RanKeep (name_of x.key) (file_with (entry_with x.key x.version x.fields x.times) kept) result) (Is (draft_notes x extent result)) runs notes) step
-  where
-    step : (hs : Log) (s : State) → Both (RanKeep (name_of x.key) (file_with (entry_with x.key x.version x.fields x.times) kept) result) (Is (draft_notes x extent result)) hs → MayDraftRow shelf x extent kept s
-        → MovesAll (IsResting (kept_after result (entry_with x.key x.version x.fields x.times) extent shelf)) hs s
-    step hs s are may =
-        let law = drafts shelf s x kept result are.one may.rests may.alone may.due are.first in
-        subst (λ (k : Log). MovesAll (IsResting (kept_after result (entry_with x.key x.version x.fields x.times) extent shelf)) k s)
-        (sym (are.is ∙ ap (λ (k : Log). are.one ++ k) (are.then ∙ ap (λ (n : ℕ). draft_notes x n result) (sym may.extent_is))))
-        (subst (λ (n : ℕ). MovesAll (IsResting (kept_after result (entry_with x.key x.version x.fields x.times) n shelf)) (are.one ++ draft_notes x (drafted_with s x) result) s) may.extent_is
-        (rests_behind (are.one ++ draft_notes x (drafted_with s x) result) s _ (kept_after result (entry_with x.key x.version x.fields x.times) (drafted_with s x) shelf) law))
+pub takings_lead : TakingsLead
+takings_lead old mid new before between now shelf key result note runs =
+    adds_as before now (Both (Is (Noted (Gone key) ∷ [])) (Ran (Remove (name_of key) ∷ []) (is_ok result))) (TakesAway shelf key result) (away shelf key result)
+    (adds_then before between now (Is (Noted (Gone key) ∷ [])) (Ran (Remove (name_of key) ∷ []) (is_ok result)) note runs)
+
+-- ---- a run that is sealed
+
+-- of a row with that key and version
+sealed_so : (shelf : KeptMap) (s : State) (x : Instance) (e : Entry) (kept : Kept) (key : Bytes) (version : Version) (bytes : Bytes) (result : Result ℕ DiskFault) (hs : Log) → x.key ≡ key → x.version ≡ version → kept_of key shelf ≡ Some kept
+    → IfOk result (λ extent. extent ≡ kept.extent + length bytes) → Ran (extend_ops kept bytes) (is_ok result) hs → IsResting shelf s → HasOneRow s → IsToSeal s x e bytes
+    → LeadsTo (hs ++ seal_note key version result ∷ []) s (sealed x e result hs s) (extended_after result key shelf)
+sealed_so shelf s x e kept key version bytes result hs refl refl there extent are rests alone due = seals shelf s x e kept bytes result hs rests alone due there are extent
+
+run : (shelf : KeptMap) (kept : Kept) (key : Bytes) (version : Version) (bytes : Bytes) (result : Result ℕ DiskFault) → kept_of key shelf ≡ Some kept → IfOk result (λ extent. extent ≡ kept.extent + length bytes) → (hs : Log)
+    → Both (Ran (extend_ops kept bytes) (is_ok result)) (Is (seal_note key version result ∷ [])) hs → SealsRun shelf kept key version bytes result hs
+run shelf kept key version bytes result there extent hs are =
+    let whole : hs ≡ are.one ++ seal_note key version result ∷ [] = are.is ∙ ap (λ (k : Log). are.one ++ k) are.then in
+    record {
+      ops = are.one;
+      ran = are.first;
+      is = whole;
+      leads = λ s x e of_key of_version rests alone due. leads_as whole (sealed_so shelf s x e kept key version bytes result are.one of_key of_version there extent are.first rests alone due);
+    }
+
+pub seals_lead : SealsLead
+seals_lead old mid new before between now shelf kept key version bytes result there extent runs note =
+    adds_as before now (Both (Ran (extend_ops kept bytes) (is_ok result)) (Is (seal_note key version result ∷ []))) (SealsRun shelf kept key version bytes result) (run shelf kept key version bytes result there extent)
+    (adds_then before between now (Ran (extend_ops kept bytes) (is_ok result)) (Is (seal_note key version result ∷ [])) runs note)
+
+-- ---- a row that is drafted
+
+-- of a row whose entry that is
+drafted_so : (shelf : KeptMap) (s : State) (x : Instance) (entry : Row) (extent : ℕ) (kept : Bytes) (result : Result (Unit {0}) KeepFault) (hs : Log) → entry_with x.key x.version x.fields x.times ≡ entry → drafted_with s x ≡ extent
+    → RanKeep (name_of entry.key) (file_with entry kept) result hs → IsResting shelf s → HasOneRow s → IsToDraft s x kept
+    → LeadsTo (hs ++ draft_notes entry.key entry.version extent result) s (drafted x extent result hs s) (kept_after result entry extent shelf)
+drafted_so shelf s x entry extent kept result hs refl refl are rests alone due = drafts shelf s x kept result hs rests alone due are
+
+row : (shelf : KeptMap) (entry : Row) (extent : ℕ) (kept : Bytes) (result : Result (Unit {0}) KeepFault) (hs : Log) → Both (RanKeep (name_of entry.key) (file_with entry kept) result) (Is (draft_notes entry.key entry.version extent result)) hs → DraftsRow shelf entry extent kept result hs
+row shelf entry extent kept result hs are =
+    let whole : hs ≡ are.one ++ draft_notes entry.key entry.version extent result = are.is ∙ ap (λ (k : Log). are.one ++ k) are.then in
+    record {
+      ops = are.one;
+      ran = are.first;
+      is = whole;
+      leads = λ s x of_entry of_extent rests alone due. leads_as whole (drafted_so shelf s x entry extent kept result are.one of_entry of_extent are.first rests alone due);
+    }
+
+pub drafts_lead_on : DraftsLead
+drafts_lead_on old mid new before between now shelf entry extent kept result runs notes =
+    adds_as before now (Both (RanKeep (name_of entry.key) (file_with entry kept) result) (Is (draft_notes entry.key entry.version extent result))) (DraftsRow shelf entry extent kept result) (row shelf entry extent kept result)
+    (adds_then before between now (RanKeep (name_of entry.key) (file_with entry kept) result) (Is (draft_notes entry.key entry.version extent result)) runs notes)

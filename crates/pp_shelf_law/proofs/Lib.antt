@@ -18,3 +18,7 @@ pub mod Joined
 pub mod Recovered
 pub mod Clean
 pub mod Repaired
+pub mod KeptFields
+pub mod Assigned
+pub mod KeptStand
+pub mod KeptEntries

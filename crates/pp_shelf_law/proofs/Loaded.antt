@@ -22,7 +22,7 @@ use Rattle.pp_obeys.proofs.Calls.{moves_to}
 use Rattle.pp_obeys.proofs.Happenings.{goes_unread}
 use Rattle.pp_obeys.proofs.Silent.{both_hold, or_second}
 use Rattle.pp_obeys.proofs.TurnHappenings.{goes_loaded}
-use Rattle.pp_obeys.specs.Moves.{Goes}
+use Rattle.pp_obeys.specs.Moves.{Goes, Leads}
 use Rattle.pp_shelf.specs.Given.{keeps_byte}
 use Rattle.pp_store.proofs.Lists.{All-found}
 use Rattle.pp_store.specs.Changes.{lost}
@@ -36,7 +36,6 @@ use Rattle.pp_world.specs.declared.happening.Happening.TheVariants.{Noted, Unrea
 use Rattle.pp_world.specs.declared.note.Remark.TheVariants.{Loaded}
 use Rattle.pp_shelf_law.specs.Kept.{IsOf}
 use Rattle.pp_shelf_law.specs.Loads.{IsToLoad, LoadedBytesAreTheLaws, LoadsAreTheLaws, UnreadsAreTheLaws}
-use Rattle.pp_shelf_law.specs.Runs.{Leads}
 use Rattle.pp_shelf_law.specs.Shelf.{ShowsEntry, ShowsShelf}
 use Rattle.pp_shelf_law.proofs.Disks.{files}
 use Rattle.pp_shelf_law.proofs.Finding.{found_is, kept_ones, lost_one, named_in}

@@ -12,7 +12,8 @@ use Rattle.pp_laws.specs.Runs.{IsIn}
 use Rattle.pp_obeys.proofs.Calls.{moves_to}
 use Rattle.pp_obeys.proofs.Happenings.{goes_listed, goes_rooted}
 use Rattle.pp_obeys.proofs.Silent.{or_second}
-use Rattle.pp_obeys.specs.Moves.{Goes}
+use Rattle.pp_obeys.specs.Moves.{Goes, MovesAll}
+use Rattle.pp_obeys.proofs.Moving.{leads_then, moves_map}
 use Rattle.pp_recover.proofs.NameLemmas.{Distinct, NotIn, distinct}
 use Rattle.pp_recover.specs.Closing.{Tends}
 use Rattle.pp_recover.specs.Opening.{IsFresh, Tended, TendsEach, failed_on, name_in}
@@ -22,10 +23,8 @@ use Rattle.pp_world.specs.Files.{Files, file_of}
 use Rattle.pp_world.specs.Log.{Log}
 use Rattle.pp_world.specs.declared.happening.Happening.TheVariants.{Listed, Rooted, Unread}
 use Rattle.pp_shelf_law.specs.Opening.{FoldersAreTheLaws, HasRecovered, HaveNoStrays, IsOpened, IsRecovering, RecoveriesAreTheLaws}
-use Rattle.pp_shelf_law.specs.Runs.{MovesAll}
 use Rattle.pp_shelf_law.proofs.Opened.{opened_ones}
 use Rattle.pp_shelf_law.proofs.Recovering.{failed_more, none_failed, unread_names}
-use Rattle.pp_shelf_law.proofs.Runs.{leads_then, moves_map}
 use Rattle.pp_shelf_law.proofs.Shelves.{bytes_same, same_bytes}
 
 -- ---- it is used and listed

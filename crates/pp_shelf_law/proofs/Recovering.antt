@@ -14,7 +14,7 @@ use Rattle.pp_laws_crash.proofs.Views.{view_more}
 use Rattle.pp_obeys.proofs.Calls.{moves_to}
 use Rattle.pp_obeys.proofs.Happenings.{goes_unread}
 use Rattle.pp_obeys.proofs.Silent.{both_hold}
-use Rattle.pp_obeys.specs.Moves.{Goes}
+use Rattle.pp_obeys.specs.Moves.{Goes, Leads}
 use Rattle.pp_text.specs.Bytes.{is_empty}
 use Rattle.pp_recover.proofs.NameLemmas.{Distinct, NotIn, distinct}
 use Rattle.pp_recover.specs.Opening.{IsFresh, failed_on}
@@ -24,7 +24,6 @@ use Rattle.pp_world.specs.Files.{Files}
 use Rattle.pp_world.specs.Log.{Log}
 use Rattle.pp_world.specs.declared.happening.Happening.TheVariants.{Unread}
 use Rattle.pp_shelf_law.specs.Opening.{FreshOnesAreTheLaws, IsOpened, IsRecovering, UnreadNamesAreTheLaws}
-use Rattle.pp_shelf_law.specs.Runs.{Leads}
 use Rattle.pp_shelf_law.proofs.Lists.{true_false}
 use Rattle.pp_shelf_law.proofs.Runs.{idle_is}
 use Rattle.pp_shelf_law.proofs.Shelves.{bytes_by, bytes_swap, closed_more, same_bytes, same_names}

@@ -10,13 +10,13 @@ use Rattle.pp_law.specs.Store.{begin_op, close_name, end_op, enter_next, fail_op
 use Rattle.pp_obeys.proofs.Calls.{moves_to}
 use Rattle.pp_obeys.proofs.Happenings.{goes_did, goes_repairing}
 use Rattle.pp_obeys.proofs.Silent.{both_hold}
-use Rattle.pp_obeys.specs.Moves.{Goes, Moves}
+use Rattle.pp_obeys.specs.Moves.{Goes, Leads, Moves, MovesAll}
 use Rattle.pp_world.specs.Log.{Log}
 use Rattle.pp_world.specs.declared.happening.Happening.TheVariants.{Began, Did}
 use Rattle.pp_world.specs.declared.op.DiskOp.{DiskOp}
 use Rattle.pp_world.specs.declared.op.DiskOp.TheVariants.{Sync, Write}
 use Rattle.pp_shelf_law.specs.Repairs.{IsIdle, RepairsLead, SyncsLead}
-use Rattle.pp_shelf_law.specs.Runs.{Leads, MovesAll, ran}
+use Rattle.pp_shelf_law.specs.Runs.{ran}
 use Rattle.pp_shelf_law.proofs.Runs.{begun_to, close_any, ends, fail_phase, going_is, idle_is, op_same, plain_fails}
 
 opens_with : (Q : State → Type 0) (s : State) (name : Bytes) (op : DiskOp) (todo : List Todo) → IsIdle s → agenda_in_opening op s ≡ Some (record { name = name; todo = Do op ∷ todo }) → Q (begun_to (record { name = name; todo = todo }) op s) → Moves Q (Began op) s

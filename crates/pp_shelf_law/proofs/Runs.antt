@@ -13,27 +13,13 @@ use Rattle.pp_obeys.proofs.Calls.{moves_to}
 use Rattle.pp_obeys.proofs.Happenings.{goes_did}
 use Rattle.pp_obeys.proofs.Silent.{both_hold}
 use Rattle.pp_obeys.proofs.TurnHappenings.{goes_began}
-use Rattle.pp_obeys.specs.Moves.{Goes, Moves}
+use Rattle.pp_obeys.specs.Moves.{Goes, Leads, Moves, MovesAll}
 use Rattle.pp_text.specs.Bytes.{is_empty}
 use Rattle.pp_world.specs.Log.{Log}
 use Rattle.pp_world.specs.declared.happening.Happening.TheVariants.{Began, Did}
 use Rattle.pp_world.specs.declared.op.DiskOp.{DiskOp}
 use Rattle.pp_world.specs.declared.op.DiskOp.TheVariants.{Draft, SyncDraft, Publish, Write, Sync, Remove}
-use Rattle.pp_shelf_law.specs.Runs.{AreOfDraft, ArePlain, DoneOnesLead, FailedDraftsLead, FailedOnesLead, IsWorking, Leads, MovesAll, ran}
-
--- ---- several happenings
-
-pub moves_map : (P Q : State → Type 0) → ((t : State) → P t → Q t) → (hs : Log) (s : State) → MovesAll P hs s → MovesAll Q hs s
-moves_map P Q words [] s holds = words s holds
-moves_map P Q words (h ∷ hs) s moves = record { awake = moves.awake; may = moves.may; holds = moves_map P Q words hs (after s h) moves.holds }
-
-pub moves_append : (Q : State → Type 0) (one two : Log) (s : State) → MovesAll (λ t. MovesAll Q two t) one s → MovesAll Q (one ++ two) s
-moves_append Q [] two s moves = moves
-moves_append Q (h ∷ one) two s moves = record { awake = moves.awake; may = moves.may; holds = moves_append Q one two (after s h) moves.holds }
-
--- they lead to a state, and others on from there
-pub leads_then : (Q : State → Type 0) (one two : Log) (s t : State) → Leads one s t → MovesAll Q two t → MovesAll Q (one ++ two) s
-leads_then Q one two s t leads moves = moves_append Q one two s (moves_map (λ u. u ≡ t) (λ u. MovesAll Q two u) (λ u is. subst (λ (v : State). MovesAll Q two v) (sym is) moves) one s leads)
+use Rattle.pp_shelf_law.specs.Runs.{AreOfDraft, ArePlain, DoneOnesLead, FailedDraftsLead, FailedOnesLead, IsWorking, ran}
 
 -- ---- one operation
 

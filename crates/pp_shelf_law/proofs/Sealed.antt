@@ -17,7 +17,8 @@ use Rattle.pp_laws_crash.proofs.RunBytes.{AreWhole, run_inside, run_length, run_
 use Rattle.pp_obeys.proofs.Calls.{moves_to}
 use Rattle.pp_obeys.proofs.Silent.{both_hold}
 use Rattle.pp_obeys.proofs.TurnHappenings.{goes_kept}
-use Rattle.pp_obeys.specs.Moves.{Goes, Moves}
+use Rattle.pp_obeys.specs.Moves.{Goes, Moves, MovesAll}
+use Rattle.pp_obeys.proofs.Moving.{moves_append}
 use Rattle.pp_store.specs.Answers.{extend_ops}
 use Rattle.pp_store.specs.Changes.{extended_after, lost}
 use Rattle.pp_store.specs.Kept.{IsExtent, Kept, KeptMap, kept_of}
@@ -30,13 +31,13 @@ use Rattle.pp_world.specs.declared.note.Remark.TheVariants.{Kept as KeptNote}
 use Rattle.pp_world.specs.declared.op.DiskOp.{DiskOp}
 use Rattle.pp_world.specs.declared.op.DiskOp.TheVariants.{Sync, Write}
 use Rattle.pp_shelf_law.specs.Kept.{HasOneRow}
-use Rattle.pp_shelf_law.specs.Runs.{IsWorking, MovesAll, ran}
+use Rattle.pp_shelf_law.specs.Runs.{IsWorking, ran}
 use Rattle.pp_shelf_law.specs.Seals.{IsToSeal, SealsAreTheLaws, seal_note, sealed}
 use Rattle.pp_shelf_law.specs.Shelf.{IsResting, ShowsEntry}
 use Rattle.pp_shelf_law.specs.Takings.{LeadsTo}
 use Rattle.pp_shelf_law.proofs.Extending.{kept_further}
 use Rattle.pp_shelf_law.proofs.Finding.{found_is, kept_ones, lost_one, named_in, one_named}
-use Rattle.pp_shelf_law.proofs.Runs.{all_done, all_failed, moves_append}
+use Rattle.pp_shelf_law.proofs.Runs.{all_done, all_failed}
 use Rattle.pp_shelf_law.proofs.Shelves.{bytes_same, same_bytes}
 use Rattle.pp_shelf_law.proofs.Starting.{given, planned, starts}
 use Rattle.pp_shelf_law.proofs.Takings.{loss_leads}
@@ -242,17 +243,17 @@ module _ (shelf : KeptMap) (s : State) (x : Instance) (e : Entry) (kept : Kept) 
   }
 
   pub run_leads : (result : Result ℕ DiskFault) (hs : Log) → Ran (extend_ops kept bytes) (is_ok result) hs → IfOk result (λ extent. extent ≡ kept.extent + length bytes)
-      → LeadsTo (hs ++ seal_note x result ∷ []) s (sealed x e result hs s) (extended_after result x.key shelf)
+      → LeadsTo (hs ++ seal_note x.key x.version result ∷ []) s (sealed x e result hs s) (extended_after result x.key shelf)
   run_leads (Ok extent) hs are is = record {
-    leads = moves_append (λ u. u ≡ sealed x e (Ok extent) hs s) hs (seal_note x (Ok extent) ∷ []) s
-        (done_moves (MovesAll (λ u. u ≡ sealed x e (Ok extent) hs s) (seal_note x (Ok extent) ∷ [])) hs (subst (λ (os : List DiskOp). Ran os true hs) ops_same are)
+    leads = moves_append (λ u. u ≡ sealed x e (Ok extent) hs s) hs (seal_note x.key x.version (Ok extent) ∷ []) s
+        (done_moves (MovesAll (λ u. u ≡ sealed x e (Ok extent) hs s) (seal_note x.key x.version (Ok extent) ∷ [])) hs (subst (λ (os : List DiskOp). Ran os true hs) ops_same are)
         (note_moves (λ u. u ≡ sealed x e (Ok extent) hs s) hs extent is refl));
     rests = sealed_rests hs extent is;
   }
   run_leads (Err fault) hs are is =
       let loss = loss_leads (lost x.key shelf) (failed hs) x.key e (failed_rests hs) (failed_found hs) (failed_closed hs) in record {
-        leads = moves_append (λ u. u ≡ sealed x e (Err fault) hs s) hs (seal_note x (Err fault) ∷ []) s
-            (failed_moves (MovesAll (λ u. u ≡ sealed x e (Err fault) hs s) (seal_note x (Err fault) ∷ [])) hs (subst (λ (os : List DiskOp). Ran os false hs) ops_same are) loss.leads);
+        leads = moves_append (λ u. u ≡ sealed x e (Err fault) hs s) hs (seal_note x.key x.version (Err fault) ∷ []) s
+            (failed_moves (MovesAll (λ u. u ≡ sealed x e (Err fault) hs s) (seal_note x.key x.version (Err fault) ∷ [])) hs (subst (λ (os : List DiskOp). Ran os false hs) ops_same are) loss.leads);
         rests = loss.rests;
       }
 

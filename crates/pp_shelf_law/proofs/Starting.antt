@@ -9,12 +9,12 @@ use Rattle.pp_laws.specs.Runs.{IsIn}
 use Rattle.pp_laws_crash.proofs.Begins.{Begun, IsFirst, begins as begun_anew, begun_is, goes_on as begun_goes}
 use Rattle.pp_obeys.proofs.Silent.{both_hold}
 use Rattle.pp_obeys.proofs.TurnHappenings.{goes_began}
-use Rattle.pp_obeys.specs.Moves.{Goes}
+use Rattle.pp_obeys.specs.Moves.{Goes, MovesAll}
 use Rattle.pp_text.specs.Bytes.{is_empty}
 use Rattle.pp_world.specs.Log.{Log}
 use Rattle.pp_world.specs.declared.happening.Happening.TheVariants.{Began, Did}
 use Rattle.pp_world.specs.declared.op.DiskOp.{DiskOp}
-use Rattle.pp_shelf_law.specs.Runs.{IsWorking, MovesAll}
+use Rattle.pp_shelf_law.specs.Runs.{IsWorking}
 use Rattle.pp_shelf_law.proofs.Runs.{begins_with, begun_to, idle_is, op_same, plan_is}
 
 first_by : {A B : Type 0} (f : A → Option B) (ys : List A) (o : Option B) → ((c : B) × (first_some f ys ≡ Some c)) → (c : B) × ((elim o as (λ d. Option B) [ Some z ↦ Some z | None ↦ first_some f ys ]) ≡ Some c)

@@ -10,7 +10,7 @@ use Rattle.pp_law.specs.Table.{is_entry_of}
 use Rattle.pp_obeys.proofs.Calls.{moves_to}
 use Rattle.pp_obeys.proofs.Silent.{both_hold}
 use Rattle.pp_obeys.proofs.TurnHappenings.{goes_gone}
-use Rattle.pp_obeys.specs.Moves.{Goes, Moves}
+use Rattle.pp_obeys.specs.Moves.{Goes, Moves, MovesAll}
 use Rattle.pp_store.proofs.Lists.{found_passes}
 use Rattle.pp_store.specs.Changes.{lost, withdrawn_after, without as without_key}
 use Rattle.pp_store.specs.Kept.{KeptMap}
@@ -21,7 +21,7 @@ use Rattle.pp_world.specs.declared.disk.DiskFault.{DiskFault}
 use Rattle.pp_world.specs.declared.happening.Happening.TheVariants.{Noted}
 use Rattle.pp_world.specs.declared.note.Remark.TheVariants.{Gone}
 use Rattle.pp_world.specs.declared.op.DiskOp.TheVariants.{Remove}
-use Rattle.pp_shelf_law.specs.Runs.{IsWorking, MovesAll}
+use Rattle.pp_shelf_law.specs.Runs.{IsWorking}
 use Rattle.pp_shelf_law.specs.Shelf.{AreKept, IsResting, ShowEntries, is_shut}
 use Rattle.pp_shelf_law.specs.Takings.{LeadsTo, LossesAreTheLaws, WithdrawalsAreTheLaws, taken_away}
 use Rattle.pp_shelf_law.proofs.Lists.{Agree, Covers, agree_filter, any_found, without_covered, without_swap, without_twice}

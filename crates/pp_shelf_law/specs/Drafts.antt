@@ -14,6 +14,7 @@ use Rattle.pp_store.specs.Kept.{KeptMap}
 use Rattle.pp_store.specs.declared.faults.KeepFault.{KeepFault}
 use Rattle.pp_store.specs.declared.faults.KeepFault.TheVariants.{Closed, Full, TooLong, NoDraft, DiskFault, OutOfMemory}
 use Rattle.pp_target.specs.Name.{name_of}
+use Rattle.pp_valid.specs.declared.version.Version.{Version}
 use Rattle.pp_world.specs.Log.{Log}
 use Rattle.pp_world.specs.declared.happening.Happening.TheVariants.{Began, Did, Noted}
 use Rattle.pp_world.specs.declared.note.Remark.TheVariants.{Kept as KeptNote}
@@ -42,9 +43,9 @@ RanKeep name file (Err DiskFault) hs =
 RanKeep name file (Err OutOfMemory) hs = hs ≡ []
 
 -- what is noted behind it
-abbrev pub draft_notes : Instance → ℕ → Result (Unit {0}) KeepFault → Log
-draft_notes x extent (Ok done) = elim (extent == 0) [ true ↦ [] | false ↦ Noted (KeptNote x.key x.version.tag x.version.length extent) ∷ [] ]
-draft_notes x extent (Err fault) = []
+abbrev pub draft_notes : Bytes → Version → ℕ → Result (Unit {0}) KeepFault → Log
+draft_notes key version extent (Ok done) = elim (extent == 0) [ true ↦ [] | false ↦ Noted (KeptNote key version.tag version.length extent) ∷ [] ]
+draft_notes key version extent (Err fault) = []
 
 -- it is an entry
 abbrev pub with_draft : Instance → ℕ → Log → State → State
@@ -65,4 +66,4 @@ drafted x extent (Err OutOfMemory) hs s = s
 abbrev pub DraftsAreTheLaws : Type 0
 DraftsAreTheLaws = (shelf : KeptMap) (s : State) (x : Instance) (kept : Bytes) (result : Result (Unit {0}) KeepFault) (hs : Log) → IsResting shelf s → HasOneRow s → IsToDraft s x kept
     → RanKeep (name_of x.key) (file_with (entry_with x.key x.version x.fields x.times) kept) result hs
-    → LeadsTo (hs ++ draft_notes x (drafted_with s x) result) s (drafted x (drafted_with s x) result hs s) (kept_after result (entry_with x.key x.version x.fields x.times) (drafted_with s x) shelf)
+    → LeadsTo (hs ++ draft_notes x.key x.version (drafted_with s x) result) s (drafted x (drafted_with s x) result hs s) (kept_after result (entry_with x.key x.version x.fields x.times) (drafted_with s x) shelf)

@@ -6,6 +6,7 @@ pub mod Seals
 pub mod Drafts
 pub mod Calls
 pub mod Folder
+pub mod AsKept
 pub mod Loads
 pub mod Opening
 pub mod Joined

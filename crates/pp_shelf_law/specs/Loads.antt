@@ -10,6 +10,7 @@ use Rattle.pp_law.specs.Store.{chunk_in_file, is_at_rest, load}
 use Rattle.pp_law.specs.Table.{Next, kept_row, next_of}
 use Rattle.pp_laws.specs.Runs.{IsIn}
 use Rattle.pp_gate.specs.Files.{Sent}
+use Rattle.pp_obeys.specs.Moves.{Leads}
 use Rattle.pp_shelf.specs.Given.{keeps_byte}
 use Rattle.pp_store.specs.Changes.{lost}
 use Rattle.pp_store.specs.Held.{Holds}
@@ -19,7 +20,6 @@ use Rattle.pp_world.specs.Log.{Log}
 use Rattle.pp_world.specs.declared.happening.Happening.TheVariants.{Noted, Unread}
 use Rattle.pp_world.specs.declared.note.Remark.TheVariants.{Loaded}
 use Rattle.pp_shelf_law.specs.Folder.{disk_of}
-use Rattle.pp_shelf_law.specs.Runs.{Leads}
 use Rattle.pp_shelf_law.specs.Shelf.{ShowsEntry, ShowsShelf}
 
 -- a client that is written to has its next byte in this chunk of the row, whose entry is kept; and it is not in memory

@@ -6,6 +6,7 @@ use Rattle.pp_law.specs.Entries.{entries_in}
 use Rattle.pp_law.specs.Lists.{Bytes, has_text, without}
 use Rattle.pp_law.specs.Opening.{is_recovered}
 use Rattle.pp_law.specs.State.{State, IsConfigured, IsListed}
+use Rattle.pp_obeys.specs.Moves.{Leads, MovesAll}
 use Rattle.pp_recover.specs.Closing.{closing_of}
 use Rattle.pp_recover.specs.Image.{HasFewNames}
 use Rattle.pp_recover.specs.Opening.{IsFresh, TendsFirst, failed_on, store_in}
@@ -14,7 +15,6 @@ use Rattle.pp_world.specs.Disk.{is_rising, names_in}
 use Rattle.pp_world.specs.Files.{Files, file_of}
 use Rattle.pp_world.specs.Log.{Log}
 use Rattle.pp_world.specs.declared.happening.Happening.TheVariants.{Listed, Rooted, Unread, Woke}
-use Rattle.pp_shelf_law.specs.Runs.{Leads, MovesAll}
 use Rattle.pp_shelf_law.specs.Shelf.{ShowsShelf}
 
 -- the law has the entries of the folder, but for those under names on which something failed in this life, and these are closed

@@ -5,9 +5,10 @@ use Rattle.pp_law.specs.Lists.{Bytes}
 use Rattle.pp_law.specs.Repairs.{closes_strays, has_strays_under, may_repair}
 use Rattle.pp_law.specs.State.{State, Do, IsListed, no_agenda}
 use Rattle.pp_law.specs.Store.{close_name, lose_entry}
+use Rattle.pp_obeys.specs.Moves.{Leads}
 use Rattle.pp_world.specs.declared.happening.Happening.TheVariants.{Began, Did}
 use Rattle.pp_world.specs.declared.op.DiskOp.TheVariants.{Sync, Write}
-use Rattle.pp_shelf_law.specs.Runs.{Leads, ran}
+use Rattle.pp_shelf_law.specs.Runs.{ran}
 
 -- a life that recovers, where nothing is under way
 pub record IsIdle (s : State) : Type 0 where

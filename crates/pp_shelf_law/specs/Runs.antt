@@ -1,21 +1,12 @@
--- Several happenings, one behind the other, and what the operations of a call make of the law's state (ours).
+-- What the operations of a call make of the law's state (ours).
 use Rattle.std.specs.Prelude.{◌≡◌, true, false, List, [], ◌∷◌, ◌++◌, map, None}
 use Rattle.pp_gate.specs.Runs.{Ran}
 use Rattle.pp_law.specs.Lists.{Bytes}
 use Rattle.pp_law.specs.State.{State, Agenda, no_agenda, Todo, Do, Keeping}
 use Rattle.pp_law.specs.Store.{close_name, enter_next, is_of_draft, lose_draft}
-use Rattle.pp_obeys.specs.Moves.{Moves}
+use Rattle.pp_obeys.specs.Moves.{Leads}
 use Rattle.pp_world.specs.Log.{Log}
 use Rattle.pp_world.specs.declared.op.DiskOp.{DiskOp}
-
--- each may come where it comes, and this holds behind the last
-abbrev pub MovesAll : (State → Type 0) → Log → State → Type 0
-MovesAll Q [] s = Q s
-MovesAll Q (h ∷ hs) s = Moves (MovesAll Q hs) h s
-
--- they lead there
-abbrev pub Leads : Log → State → State → Type 0
-Leads hs s t = MovesAll (λ u. u ≡ t) hs s
 
 -- in a turn, with so much left to do on a name
 pub record IsWorking (name : Bytes) (todo : List Todo) (s : State) : Type 0 where

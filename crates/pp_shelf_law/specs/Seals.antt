@@ -10,6 +10,7 @@ use Rattle.pp_laws.specs.Runs.{IsIn}
 use Rattle.pp_store.specs.Answers.{extend_ops}
 use Rattle.pp_store.specs.Changes.{extended_after}
 use Rattle.pp_store.specs.Kept.{Kept, KeptMap, kept_of}
+use Rattle.pp_valid.specs.declared.version.Version.{Version}
 use Rattle.pp_world.specs.Log.{Log}
 use Rattle.pp_world.specs.declared.disk.DiskFault.{DiskFault}
 use Rattle.pp_world.specs.declared.happening.Happening.{Happening}
@@ -28,9 +29,9 @@ pub record IsToSeal (s : State) (x : Instance) (e : Entry) (bytes : Bytes) : Typ
   pub bytes_are : bytes ≡ run_bytes (run_from s x e) x.id s.chunks (e.extent / chunk_len)
 
 -- what is noted behind it: how far it is kept, or that its entry is gone
-abbrev pub seal_note : Instance → Result ℕ DiskFault → Happening
-seal_note x (Ok extent) = Noted (KeptNote x.key x.version.tag x.version.length extent)
-seal_note x (Err fault) = Noted (Gone x.key)
+abbrev pub seal_note : Bytes → Version → Result ℕ DiskFault → Happening
+seal_note key version (Ok extent) = Noted (KeptNote key version.tag version.length extent)
+seal_note key version (Err fault) = Noted (Gone key)
 
 abbrev pub sealed : Instance → Entry → Result ℕ DiskFault → Log → State → State
 sealed x e (Ok extent) hs s = note_kept x.key extent (ran hs (record { name = e.name; todo = [] }) s)
@@ -39,4 +40,4 @@ sealed x e (Err fault) hs s = remove_entry e (close_name e.name (ran hs no_agend
 abbrev pub SealsAreTheLaws : Type 0
 SealsAreTheLaws = (shelf : KeptMap) (s : State) (x : Instance) (e : Entry) (kept : Kept) (bytes : Bytes) (result : Result ℕ DiskFault) (hs : Log) → IsResting shelf s → HasOneRow s → IsToSeal s x e bytes → kept_of x.key shelf ≡ Some kept
     → Ran (extend_ops kept bytes) (is_ok result) hs → IfOk result (λ extent. extent ≡ kept.extent + length bytes)
-    → LeadsTo (hs ++ seal_note x result ∷ []) s (sealed x e result hs s) (extended_after result x.key shelf)
+    → LeadsTo (hs ++ seal_note x.key x.version result ∷ []) s (sealed x e result hs s) (extended_after result x.key shelf)

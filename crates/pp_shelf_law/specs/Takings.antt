@@ -5,6 +5,7 @@ use Rattle.pp_law.specs.Lists.{Bytes}
 use Rattle.pp_law.specs.State.{State, Entry, no_agenda}
 use Rattle.pp_law.specs.Store.{close_name, is_closed, is_gone, remove_entry}
 use Rattle.pp_law.specs.Table.{is_entry_of}
+use Rattle.pp_obeys.specs.Moves.{Leads}
 use Rattle.pp_store.specs.Changes.{withdrawn_after}
 use Rattle.pp_store.specs.Kept.{KeptMap}
 use Rattle.pp_target.specs.Name.{name_of}
@@ -13,7 +14,7 @@ use Rattle.pp_world.specs.declared.disk.DiskFault.{DiskFault}
 use Rattle.pp_world.specs.declared.happening.Happening.TheVariants.{Noted}
 use Rattle.pp_world.specs.declared.note.Remark.TheVariants.{Gone}
 use Rattle.pp_world.specs.declared.op.DiskOp.TheVariants.{Remove}
-use Rattle.pp_shelf_law.specs.Runs.{Leads, ran}
+use Rattle.pp_shelf_law.specs.Runs.{ran}
 use Rattle.pp_shelf_law.specs.Shelf.{IsResting}
 
 -- each may come where it comes, they lead there, and the shelf shows it

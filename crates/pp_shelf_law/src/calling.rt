@@ -1,18 +1,16 @@
 // Calls of the disk, in a log that goes on.
-ghost use Rattle.pp_shelf_law.specs.Calls.{AddedOnesKeep, KeepsAdd, NotesAdd, RunsAdd};
-ghost use Rattle.pp_shelf_law.specs.Joined.{DraftsKeep, SealsKeep, TakingsKeep};
+ghost use Rattle.pp_shelf_law.specs.Calls.{KeepsAdd, RunsAdd};
+ghost use Rattle.pp_shelf_law.specs.Joined.{DraftsLead, SealsLead, TakingsLead};
 
-/// What the calls of the store add, with the failures that the outside counts; and where it may come, what stands is kept.
-pub fn calls_of_the_disk_keep_the_law()
+/// What the calls of the store add, with the failures that the outside counts.
+pub fn calls_of_the_disk_are_counted()
     ensures runs { RunsAdd }
     ensures drafts { KeepsAdd }
-    ensures notes { NotesAdd }
-    ensures added { AddedOnesKeep }
 {}
 
-/// The calls of a turn, each with its note, keep what the shelf shows.
-pub fn turns_of_the_disk_keep_the_law()
-    ensures taken { TakingsKeep }
-    ensures sealed { SealsKeep }
-    ensures drafted { DraftsKeep }
+/// The calls of a turn, each with its note, lead where the law leads, and the shelf shows it.
+pub fn turns_of_the_disk_lead_on()
+    ensures taken { TakingsLead }
+    ensures sealed { SealsLead }
+    ensures drafted { DraftsLead }
 {}

@@ -5,15 +5,16 @@
 //! that the store has behind the call shows the law's state: an entry is taken away, a run is sealed, an entry is drafted, a chunk is
 //! read back. The law's disk is what the log tells of the folder (`specs/Folder.antt`).
 //!
-//! To the layer above: each is the clause of a function that does nothing. `MovesAll` is of happenings one behind the other; the state
-//! that they lead to is written out, so that what stands beside the disk is seen to stay. `proofs/Calls.antt` has what makes a `Keeps` of
-//! `pp_obeys` of a call that adds them. The operations of each call stand in the contracts of `pp_store`.
+//! To the layer above: each is the clause of a function that does nothing. What `Leads` of `pp_obeys` names is written out, so that
+//! what stands beside the disk is seen to stay. `specs/Joined.antt` has what the calls of a turn add to the log, each with its note, and
+//! where that leads. The operations of each call stand in the contracts of `pp_store`.
 //!
 //! Takes no memory, and does nothing when the program runs.
 #![tactic(auto)]
 
 mod calling; // calls of the disk, in a log that goes on
 mod drafting; // the entry of a row is drafted
+mod fields; // the fields of entries
 mod folder; // the disk of the law
 mod keeping; // what is kept of a key
 mod loading; // a chunk is read back
@@ -22,8 +23,9 @@ mod sealing; // a run of a row is sealed
 mod taking; // an entry that is taken away
 mod working; // operations that a call runs
 
-pub use calling::{calls_of_the_disk_keep_the_law, turns_of_the_disk_keep_the_law};
+pub use calling::{calls_of_the_disk_are_counted, turns_of_the_disk_lead_on};
 pub use drafting::what_is_drafted_is_the_laws;
+pub use fields::{entries_stay_as_kept, fields_that_are_read_are_kept};
 pub use folder::the_disk_is_the_logs;
 pub use keeping::what_is_kept_is_the_laws;
 pub use loading::what_is_loaded_is_the_laws;

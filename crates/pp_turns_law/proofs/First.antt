@@ -4,6 +4,7 @@ use Rattle.std.specs.Prelude.{slice_get}
 use Rattle.std.specs.Option.{option_and_then}
 use Rattle.std.proofs.lemmas.Bool.Decides.{nat_tests}
 use Rattle.pp_cache_law.proofs.Numbers.{is_same}
+use Rattle.pp_cache_law.specs.Kept.{AreAsKept}
 use Rattle.pp_turns_law.proofs.Following.{has_source}
 use Rattle.pp_flow_law.specs.Tables.{AreGiven, Leaving}
 use Rattle.pp_law.specs.Deciding.{is_for_memory}
@@ -31,7 +32,7 @@ use Rattle.pp_turns_law.proofs.Entered.{come_in}
 use Rattle.pp_turns_law.proofs.Guarded.{due_unentered, is_due, none_unentered}
 use Rattle.pp_turns_law.proofs.Reading.{seat_due}
 use Rattle.pp_turns_law.specs.Firsts.{FirstDueInMemory, FirstDueIsTheLaws, HasRowInMemory, IsAsleep, IsFirst, with_row_if}
-use Rattle.pp_turns_law.specs.Rows.{AreAsKept, HasComeIn, IsMadeBefore, IsReady, ShowsDisk, kept_alone, with_entry, with_row_of}
+use Rattle.pp_turns_law.specs.Rows.{HasComeIn, IsMadeBefore, IsReady, ShowsDisk, kept_alone, with_entry, with_row_of}
 use Rattle.pp_world.specs.declared.note.Decision.{Decision}
 
 none_some : {A : Type 0} {x : A} → None ≡ Some x → ⊥

@@ -3,7 +3,7 @@ use Rattle.std.proofs.Common.{◌≡◌, ◌⊎◌, inl, inr, refl, sym, subst, 
 use Rattle.std.specs.Prelude.{bytes_eq, slice_get}
 use Rattle.std.specs.List.{list_any}
 use Rattle.pp_cache_law.proofs.Alike.{rows_of}
-use Rattle.pp_cache_law.specs.Kept.{AreKept}
+use Rattle.pp_cache_law.specs.Kept.{AreAsKept, AreKept}
 use Rattle.pp_cache_law.specs.Pairs.{AreBoth}
 use Rattle.pp_cache_law.specs.Tables.{ShowsInstance, ShowsTable}
 use Rattle.pp_client.specs.Requests.{Front as Heading, current_of}
@@ -64,7 +64,7 @@ use Rattle.pp_turns_law.proofs.Brought.{closed}
 use Rattle.pp_turns_law.proofs.Deciding.{IsAskedAs, decide_with, fits_same, heard_as, kinds}
 use Rattle.pp_turns_law.proofs.Reading.{decidable, hidden, none_hidden, turn_hidden}
 use Rattle.pp_turns_law.proofs.Shares.{shared_same}
-use Rattle.pp_turns_law.specs.Rows.{AreAsKept, IsKeptAs, IsReady, ShowsDisk}
+use Rattle.pp_turns_law.specs.Rows.{IsKeptAs, IsReady, ShowsDisk}
 use Rattle.pp_turns_law.specs.Turns.{IsFollowing, ShowsTurn}
 
 none_some : {A : Type 0} {x : A} → None ≡ Some x → ⊥

@@ -1,6 +1,7 @@
 -- Of all clients for whom something is due, the one that comes first (ours: in the order of their numbers).
 use Rattle.std.specs.Prelude.{◌≡◌, ◌⊎◌, ℕ, false, true, List, [], ◌∷◌, ◌++◌, length, slice_get, Option, Some, None, option_map}
 use Rattle.std.specs.Option.{option_and_then}
+use Rattle.pp_cache_law.specs.Kept.{AreAsKept}
 use Rattle.pp_flow_law.specs.Tables.{AreGiven, Leaving}
 use Rattle.pp_law.specs.Deciding.{is_for_memory}
 use Rattle.pp_law.specs.Due.{Due, first_due}
@@ -19,7 +20,7 @@ use Rattle.pp_due.specs.Due.{due_at}
 use Rattle.pp_due.specs.Entering.{Comes, FirstDue, IsRefused, is_due_at, key_at}
 use Rattle.pp_state.specs.declared.state.State.{State as Turn}
 use Rattle.pp_store.specs.Kept.{KeptMap}
-use Rattle.pp_turns_law.specs.Rows.{AreAsKept, ShowsDisk, with_row_of}
+use Rattle.pp_turns_law.specs.Rows.{ShowsDisk, with_row_of}
 use Rattle.pp_world.specs.declared.note.Decision.{Decision}
 
 -- ---- who is looked at
