@@ -37,8 +37,10 @@ pub mod Silent
 pub mod Sitting
 pub mod StandingOn
 pub mod StandingRow
+pub mod Stays
 pub mod Taken
 pub mod Turned
+pub mod Twice
 pub mod Unentered
 pub mod Useless
 pub mod Walk
