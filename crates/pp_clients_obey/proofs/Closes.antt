@@ -113,7 +113,7 @@ pub cuts_lead : CutsLead
 cuts_lead number n i cause owed seats seat after s at there closed due = (
   leads_on refl (goes_cut s n cause due.none due.taking (cuts_due s n cause due.due)) (close_client n true (in_phase Deciding s)) refl,
   record {
-    none = ap (λ (o : Frame). o.has_made_room) (cut_frame n s) ∙ due.none;
+    none = ap (λ (o : Frame). o.made_room_for) (cut_frame n s) ∙ due.none;
     at = ap (λ (o : Frame). o.phase) (cut_frame n s);
     shown = closed_all number owed n i seats seat after true (in_phase Deciding s) due.shown at there closed;
   },
@@ -169,7 +169,7 @@ shuts_lead number n i owed seats seat s at there to =
     let found : IsFound number s.settings.name owed seat n s.clients = places number s.settings.name owed seats s.clients n i seat to.down.shown at there in (
       leads_on refl (goes_shut s n to.down.none to.down.at (over_in s n s.clients found.client found.there (ap (λ (b : Bool). b || s.is_stopped) (sym found.shows.closing) ∙ to.over))) (shut n s) refl,
       record {
-        none = ap (λ (o : Frame). o.has_made_room) (shut_frame n s) ∙ to.down.none;
+        none = ap (λ (o : Frame). o.made_room_for) (shut_frame n s) ∙ to.down.none;
         at = ap (λ (o : Frame). o.phase) (shut_frame n s) ∙ to.down.at;
         shown = subst (λ (p : Bytes × List Client). AreShown number p.0 owed (without_client n seats) p.1) (sym (seen_shut n s)) (gone number s.settings.name owed n (closing_by false) (λ x. refl) seats s.clients to.down.shown);
       },

@@ -233,11 +233,11 @@ may_decide number name owed seat c shows open_seat expects = record {
 
 -- ---- the decision is taken
 
-taken_is : (n : ℕ) (d : Decision) (c : Client) (s : State) → client s n ≡ Some c → take_decision n d s ≡ regained (record (decided c d s) { forgotten = []; has_made_room = None })
+taken_is : (n : ℕ) (d : Decision) (c : Client) (s : State) → client s n ≡ Some c → take_decision n d s ≡ regained (record (decided c d s) { forgotten = []; made_room_for = None })
 unfolding take_decision
-taken_is n d c s found = ap (λ (o : Option Client). elim o as (λ x. State) [ None ↦ s | Some y ↦ regained (record (decided y d s) { forgotten = []; has_made_room = None }) ]) found
+taken_is n d c s found = ap (λ (o : Option Client). elim o as (λ x. State) [ None ↦ s | Some y ↦ regained (record (decided y d s) { forgotten = []; made_room_for = None }) ]) found
 
-goes_by_room : (number : ℕ → ℕ) (s : State) (n index : ℕ) (d : Decision) (owed : List Bytes) (seat : Seat) (seats : List Seat) (room : Option ℕ) → s.has_made_room ≡ room → IsToTake number owed n index d seat seats s → Goes s (Noted (Taken n index d)) (take_decision n d (in_phase Deciding s))
+goes_by_room : (number : ℕ → ℕ) (s : State) (n index : ℕ) (d : Decision) (owed : List Bytes) (seat : Seat) (seats : List Seat) (room : Option ℕ) → s.made_room_for ≡ room → IsToTake number owed n index d seat seats s → Goes s (Noted (Taken n index d)) (take_decision n d (in_phase Deciding s))
 goes_by_room number s n index d owed seat seats (Some who) made to = goes_taken_behind s n index d who made to.taking to.may (to.behind (ap is_some made))
 goes_by_room number s n index d owed seat seats None none to = goes_taken s n index d none to.taking to.may
 
@@ -245,7 +245,7 @@ taken_leads : (number : ℕ → ℕ) (owed : List Bytes) (n i index : ℕ) (d : 
     → IsChangedBy c.number f (in_phase Deciding s) (decided c d (in_phase Deciding s)) → (ShowsSeat number s.settings.name owed seat c → ShowsSeat number s.settings.name owed new (f c)) → IsTaken number owed n index d (slice_set seats i new) c s
 taken_leads number owed n i index d seats seat new f c s there sits to leads shows =
     let led : seen (decided c d (in_phase Deciding s)) ≡ (s.settings.name, change (is_client n) f s.clients) = leads ∙ ap (λ (m : ℕ). (s.settings.name, change (is_client m) f s.clients)) (number_found n s.clients c there) in (
-      leads_on refl (goes_by_room number s n index d owed seat seats s.has_made_room refl to) (regained (taken c d s)) (taken_is n d c (in_phase Deciding s) there),
+      leads_on refl (goes_by_room number s n index d owed seat seats s.made_room_for refl to) (regained (taken c d s)) (taken_is n d c (in_phase Deciding s) there),
       subst (λ (p : Bytes × List Client). AreShown number p.0 owed (slice_set seats i new) p.1) (sym led) (changes_there number s.settings.name owed seats s.clients n i new f to.shown sits.at (λ other x at found here. its x other at found here)),
     )
   where

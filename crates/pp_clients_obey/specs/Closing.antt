@@ -23,7 +23,7 @@ pub record IsClosed (old new : Seat) : Type 0 where
 
 -- a write to that client is owed, and the seats show the clients
 pub record MayWrite (number : ℕ → ℕ) (owed : List Bytes) (n : ℕ) (seats : List Seat) (s : State) : Type 0 where
-  pub none : s.has_made_room ≡ None
+  pub none : s.made_room_for ≡ None
   pub writes : s.owed ≡ WriteTo n
   pub shown : AreShown number s.settings.name owed seats s.clients
 
@@ -35,14 +35,14 @@ LossesLead = (number : ℕ → ℕ) (n i : ℕ) (owed : List Bytes) (seats : Lis
 
 -- decisions are taken, this cut is the first that is due, and the seats show the clients
 pub record IsDueToCut (number : ℕ → ℕ) (owed : List Bytes) (n : ℕ) (cause : Cause) (seats : List Seat) (s : State) : Type 0 where
-  pub none : s.has_made_room ≡ None
+  pub none : s.made_room_for ≡ None
   pub taking : decides s ≡ true
   pub due : first_due s ≡ Some (CutOff n cause)
   pub shown : AreShown number s.settings.name owed seats s.clients
 
 -- decisions are taken, and the seats show the clients
 pub record IsDeciding (number : ℕ → ℕ) (owed : List Bytes) (seats : List Seat) (s : State) : Type 0 where
-  pub none : s.has_made_room ≡ None
+  pub none : s.made_room_for ≡ None
   pub at : s.phase ≡ Deciding
   pub shown : AreShown number s.settings.name owed seats s.clients
 
@@ -55,7 +55,7 @@ CutsLead = (number : ℕ → ℕ) (n i : ℕ) (cause : Cause) (owed : List Bytes
 
 -- connections are closed, and the seats show the clients
 pub record IsClosingDown (number : ℕ → ℕ) (owed : List Bytes) (seats : List Seat) (s : State) : Type 0 where
-  pub none : s.has_made_room ≡ None
+  pub none : s.made_room_for ≡ None
   pub at : s.phase ≡ Connecting
   pub shown : AreShown number s.settings.name owed seats s.clients
 

@@ -32,7 +32,7 @@ use Rattle.pp_clients_obey.specs.Hearing.{AreSeen, Sits}
 -- decisions are taken, this one may be, and the seats show the clients; its interim answer is expected as the law has it, which is so
 -- unless memory was refused for a target that has no key
 pub record IsToTake (number : ℕ → ℕ) (owed : List Bytes) (n index : ℕ) (d : Decision) (seat : Seat) (seats : List Seat) (s : State) : Type 0 where
-  pub behind : is_some s.has_made_room ≡ true → is_for_memory d ≡ false
+  pub behind : is_some s.made_room_for ≡ true → is_for_memory d ≡ false
   pub taking : decides s ≡ true
   pub may : may_take s n index d ≡ true
   pub shown : AreShown number s.settings.name owed seats s.clients
@@ -40,7 +40,7 @@ pub record IsToTake (number : ℕ → ℕ) (owed : List Bytes) (n index : ℕ) (
 
 -- as the law has it, before attempts count anew
 abbrev pub taken : Client → Decision → State → State
-taken c d s = record (decided c d (in_phase Deciding s)) { forgotten = []; has_made_room = None }
+taken c d s = record (decided c d (in_phase Deciding s)) { forgotten = []; made_room_for = None }
 
 -- it leads there, and the seats show the clients
 abbrev pub IsTaken : (ℕ → ℕ) → List Bytes → ℕ → ℕ → Decision → List Seat → Client → State → Type 0

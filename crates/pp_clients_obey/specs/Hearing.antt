@@ -16,7 +16,7 @@ use Rattle.pp_seats_law.specs.Reads.{heard_on}
 
 -- a read of that client is owed, and the seats show the clients
 pub record OwesRead (number : ℕ → ℕ) (owed : List Bytes) (n : ℕ) (seats : List Seat) (s : State) : Type 0 where
-  pub none : s.has_made_room ≡ None
+  pub none : s.made_room_for ≡ None
   pub reads : s.owed ≡ ReadOf n
   pub shown : AreShown number s.settings.name owed seats s.clients
 

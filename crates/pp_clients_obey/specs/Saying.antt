@@ -18,7 +18,7 @@ use Rattle.pp_clients_obey.specs.Hearing.{AreSeen, Sits}
 -- a write to that client is owed, the seats show the clients, and of what is there to be said these are the first, of so many that
 -- were offered
 pub record OwesWrite (number : ℕ → ℕ) (owed : List Bytes) (n offered : ℕ) (bytes : Bytes) (seats : List Seat) (s : State) : Type 0 where
-  pub none : s.has_made_room ≡ None
+  pub none : s.made_room_for ≡ None
   pub writes : s.owed ≡ WriteTo n
   pub shown : AreShown number s.settings.name owed seats s.clients
   pub first : (c : Client) → client s n ≡ Some c → is_said_of offered bytes (offer s c) ≡ true

@@ -17,7 +17,7 @@ use Rattle.pp_closings_law.specs.Sides.{OfSides, ShowsSides}
 -- connections are closed, and no row left memory for a decision that is next
 pub record IsConnecting (s : State) : Type 0 where
   pub at : s.phase ≡ Connecting
-  pub none : s.has_made_room ≡ None
+  pub none : s.made_room_for ≡ None
 
 -- each may happen where it comes
 abbrev pub MayCome : Log → State → Type 0

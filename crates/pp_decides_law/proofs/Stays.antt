@@ -98,7 +98,7 @@ its_due s (e ∷ es) n i d c first found few = by (due_of s e) (is_client n e) r
 
 -- as it is when that row is out, whoever it left for
 abbrev without_known : Known → Option ℕ → State → State
-without_known x room s = record s { instances = without (is_instance x.id) s.instances; chunks = without (λ (c : Chunk). c.instance == x.id) s.chunks; has_made_room = room }
+without_known x room s = record s { instances = without (is_instance x.id) s.instances; chunks = without (λ (c : Chunk). c.instance == x.id) s.chunks; made_room_for = room }
 
 isnt_so : (b : Bool) → b ≡ false → not b ≡ true
 isnt_so true is = absurd (cc is)

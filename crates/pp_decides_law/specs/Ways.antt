@@ -64,7 +64,7 @@ ItsNoteIsPermitted = (s : State) (n index : ℕ) (due : Decision) (c : Client) (
 
 -- behind it, for that client
 abbrev pub left_for : Known → State → State
-left_for x s = record (forget x.id s) { has_made_room = decides_for (first_due s) }
+left_for x s = record (forget x.id s) { made_room_for = decides_for (first_due s) }
 
 -- decisions go on, it comes next, and there is room for the row of its key
 pub record IsStillDue (s : State) (n index : ℕ) (d : Decision) : Type 0 where

@@ -106,7 +106,7 @@ due_to s n = elim (client s n) [ None ↦ None | Some c ↦ due_of s c ]
 -- what comes next: what is due first; and behind a row that left memory for a client's decision, what is due to that client, though
 -- without the row something may be due to one who comes before
 abbrev pub next_due : State → Option Due
-next_due s = elim s.has_made_room [ None ↦ first_due s | Some n ↦ due_to s n ]
+next_due s = elim s.made_room_for [ None ↦ first_due s | Some n ↦ due_to s n ]
 
 abbrev pub decides_for : Option Due → Option ℕ
 decides_for (Some (Decide n i d)) = Some n

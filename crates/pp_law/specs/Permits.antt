@@ -242,7 +242,7 @@ permits_behind_forgotten s (Noted (Taken c i d)) = permits_taken s c i d && not 
 permits_behind_forgotten s h = false
 
 unfoldable pub is_permitted : State → Happening → Bool
-is_permitted s h = elim s.has_made_room [ Some who ↦ permits_behind_forgotten s h | None ↦ permits s h ]
+is_permitted s h = elim s.made_room_for [ Some who ↦ permits_behind_forgotten s h | None ↦ permits s h ]
 
 abbrev pub IsPermitted : State → Happening → Type 0
 IsPermitted s h = is_permitted s h ≡ true

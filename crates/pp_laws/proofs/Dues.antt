@@ -24,7 +24,7 @@ due_there s n due is = by (client s n) refl is
     by (Some c) found at = (c, (in_find (is_client n) c s.clients found).0, at)
 
 pub next_in : (s : State) (due : Due) → next_due s ≡ Some due → (c : Client) × IsIn c s.clients × (due_of s c ≡ Some due)
-next_in s due is = by s.has_made_room is
+next_in s due is = by s.made_room_for is
   where
     by : (room : Option ℕ) → (elim room as (λ x. Option Due) [ None ↦ first_due s | Some n ↦ due_to s n ]) ≡ Some due → (c : Client) × IsIn c s.clients × (due_of s c ≡ Some due)
     by None at = first_in s s.clients due at

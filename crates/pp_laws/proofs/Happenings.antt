@@ -177,7 +177,7 @@ opened_by s n None is = below s.top n (first_holds (is_new_number s n) (accepts 
 
 opened_above : (s : State) (n : ℕ) → IsPermitted s (Opened n) → s.top < n
 unfolding is_permitted permits
-opened_above s n is = opened_by s n s.has_made_room is
+opened_above s n is = opened_by s n s.made_room_for is
 
 dialled_by : (s : State) (n : ℕ) (host : Bytes) (port : ℕ) (room : Option ℕ) → (elim room as (λ c. Bool) [ Some who ↦ false | None ↦ is_new_number s n && permits_dial s host port ]) ≡ true → s.top < n
 dialled_by s n host port (Some who) is = absurd (cc is)
@@ -185,7 +185,7 @@ dialled_by s n host port None is = below s.top n (first_holds (is_new_number s n
 
 dialled_above : (s : State) (n : ℕ) (host : Bytes) (port : ℕ) → IsPermitted s (Dialled n host port) → s.top < n
 unfolding is_permitted permits
-dialled_above s n host port is = dialled_by s n host port s.has_made_room is
+dialled_above s n host port is = dialled_by s n host port s.made_room_for is
 
 -- ---- all
 

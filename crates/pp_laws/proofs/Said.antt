@@ -149,7 +149,7 @@ permitted_by s n offered bytes None is = is
 
 permitted : (s : State) (n offered : ℕ) (bytes : Bytes) → IsPermitted s (Said n offered bytes) → permits_said s n offered bytes ≡ true
 unfolding is_permitted permits
-permitted s n offered bytes is = permitted_by s n offered bytes s.has_made_room is
+permitted s n offered bytes is = permitted_by s n offered bytes s.made_room_for is
 
 -- what is said is a front of what is offered
 said_front : (s : State) (n offered : ℕ) (bytes : Bytes) (c : Client) → client s n ≡ Some c → IsPermitted s (Said n offered bytes) → bytes ≡ take (length bytes) (offer s c)

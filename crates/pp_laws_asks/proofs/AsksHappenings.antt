@@ -458,7 +458,7 @@ unhampered None t is = is
 
 room_for : (s : State) (n : ℕ) → IsPermitted s (Opened n) → length s.clients < 256
 unfolding is_permitted permits
-room_for s n is = below (length s.clients) 256 (second_holds (is_new_number s n) (accepts s) (second_holds (is_awaiting s) (may_open s n) (unhampered s.has_made_room (is_awaiting s && may_open s n) is)))
+room_for s n is = below (length s.clients) 256 (second_holds (is_new_number s n) (accepts s) (second_holds (is_awaiting s) (may_open s n) (unhampered s.made_room_for (is_awaiting s && may_open s n) is)))
 
 changed-asks : (s : State) (h : Happening) → IsPermitted s h → Holds Asks s → Holds Asks (changed s h)
 unfolding changed

@@ -94,7 +94,7 @@ unhampered None t is = is
 
 pub asked_so : (s : State) (n : ℕ) (bytes : Bytes) → IsPermitted s (Asked n bytes) → permits_asked s n bytes ≡ true
 unfolding is_permitted permits
-asked_so s n bytes is = unhampered s.has_made_room (permits_asked s n bytes) is
+asked_so s n bytes is = unhampered s.made_room_for (permits_asked s n bytes) is
 
 next_ask : (s : State) (n : ℕ) (bytes : Bytes) (k : Conn) → permits_asked s n bytes ≡ true → conn s n ≡ Some k → IsNextAsk s k bytes
 next_ask s n bytes k is found = by (asking s n) refl (second_holds (is_writing s.owed n) (is_some_with (λ e. is_front bytes (left_to_ask s e)) (asking s n)) is)

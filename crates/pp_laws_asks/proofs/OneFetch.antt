@@ -135,7 +135,7 @@ taken_due s n i d shared is = by (next_due s) refl is
 
 taken_so : (s : State) (n i : ℕ) (d : Decision) → IsPermitted s (Noted (Taken n i d)) → permits_taken s n i d ≡ true
 unfolding is_permitted permits
-taken_so s n i d is = by s.has_made_room is
+taken_so s n i d is = by s.made_room_for is
   where
     by : (room : Option ℕ) → (elim room as (λ x. Bool) [ Some who ↦ permits_taken s n i d && not (is_for_memory d) | None ↦ permits_taken s n i d ]) ≡ true → permits_taken s n i d ≡ true
     by (Some who) at = first_holds (permits_taken s n i d) (not (is_for_memory d)) at

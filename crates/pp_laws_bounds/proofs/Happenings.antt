@@ -214,7 +214,7 @@ unhampered None t is = is
 dialled_so : (s : State) (n : ℕ) (host : Bytes) (port : ℕ) → IsPermitted s (Dialled n host port) → (s.top < n) × Dials s host port
 unfolding is_permitted permits
 dialled_so s n host port is =
-    let w : (is_new_number s n && permits_dial s host port) ≡ true = unhampered s.has_made_room _ is in
+    let w : (is_new_number s n && permits_dial s host port) ≡ true = unhampered s.made_room_for _ is in
     (below s.top n (first_holds (is_new_number s n) (permits_dial s host port) w), dials_by s host port (second_holds (is_new_number s n) (permits_dial s host port) w))
 
 -- at one phase it is not at another
@@ -369,14 +369,14 @@ dropped-kept n s is h = each_so (conn s n) (λ none. h) (λ k found. by k found 
 
 dropped_so : (s : State) (n : ℕ) → IsPermitted s (Dropped n) → may_drop (come_to Connecting s) n ≡ true
 unfolding is_permitted permits
-dropped_so s n is = (chosen (is_at Connecting (come_to Connecting s)) (may_drop (come_to Connecting s) n) (unhampered s.has_made_room _ is)).1
+dropped_so s n is = (chosen (is_at Connecting (come_to Connecting s)) (may_drop (come_to Connecting s) n) (unhampered s.made_room_for _ is)).1
 
 -- ---- what is permitted
 
 pub opened_so : (s : State) (n : ℕ) → IsPermitted s (Opened n) → (s.top < n) × (length s.clients < 256)
 unfolding is_permitted permits
 opened_so s n is =
-    let w : (is_awaiting s && may_open s n) ≡ true = unhampered s.has_made_room _ is in
+    let w : (is_awaiting s && may_open s n) ≡ true = unhampered s.made_room_for _ is in
     let v : may_open s n ≡ true = second_holds (is_awaiting s) (may_open s n) w in
     (below s.top n (first_holds (is_new_number s n) (accepts s) v), below (length s.clients) 256 (second_holds (is_new_number s n) (accepts s) v))
 
@@ -404,30 +404,30 @@ at_awaiting phase is = grind arith
 configured_so : (s : State) (file : Bytes) (text : Option Bytes) → IsPermitted s (Configured file text) → is_early s.phase ≡ true
 unfolding is_permitted permits
 configured_so s file text is =
-    let w : (permits_configured s file && may_fail s (is_some text)) ≡ true = unhampered s.has_made_room _ is in
+    let w : (permits_configured s file && may_fail s (is_some text)) ≡ true = unhampered s.made_room_for _ is in
     at_woken s.phase (first_holds (is_at IsWoken s) _ (first_holds (permits_configured s file) _ w))
 
 rooted_so : (s : State) (folder : Bytes) → IsPermitted s (Rooted folder) → is_early s.phase ≡ true
 unfolding is_permitted permits
-rooted_so s folder is = at_configured s.phase (first_holds (is_at IsConfigured s) _ (unhampered s.has_made_room _ is))
+rooted_so s folder is = at_configured s.phase (first_holds (is_at IsConfigured s) _ (unhampered s.made_room_for _ is))
 
 listed_so : (s : State) (ok : Bool) → IsPermitted s (Listed ok) → is_early s.phase ≡ true
 unfolding is_permitted permits
-listed_so s ok is = at_rooted s.phase (first_holds (is_at IsRooted s) (may_fail s ok) (unhampered s.has_made_room _ is))
+listed_so s ok is = at_rooted s.phase (first_holds (is_at IsRooted s) (may_fail s ok) (unhampered s.made_room_for _ is))
 
 listens_so : (s : State) (port : ℕ) (ok : Bool) → IsPermitted s (Listens port ok) → is_early s.phase ≡ true
 unfolding is_permitted permits
 listens_so s port ok is =
-    let w : (permits_listens s port && may_fail s ok) ≡ true = unhampered s.has_made_room _ is in
+    let w : (permits_listens s port && may_fail s ok) ≡ true = unhampered s.made_room_for _ is in
     at_listed s.phase (first_of_three (is_at IsListed s) (port == s.settings.port) (is_recovered s) (first_holds (permits_listens s port) (may_fail s ok) w))
 
 awaiting_so : (s : State) → IsPermitted s Stopped → is_early s.phase ≡ false
 unfolding is_permitted permits
-awaiting_so s is = at_awaiting s.phase (unhampered s.has_made_room (is_awaiting s) is)
+awaiting_so s is = at_awaiting s.phase (unhampered s.made_room_for (is_awaiting s) is)
 
 asked_so : (s : State) (k : ℕ) (bytes : Bytes) → IsPermitted s (Asked k bytes) → permits_asked s k bytes ≡ true
 unfolding is_permitted permits
-asked_so s k bytes is = unhampered s.has_made_room _ is
+asked_so s k bytes is = unhampered s.made_room_for _ is
 
 -- ---- all
 

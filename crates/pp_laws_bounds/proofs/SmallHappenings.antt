@@ -192,23 +192,23 @@ unhampered None t is = is
 
 can_read_so : (s : State) (n : ℕ) → IsPermitted s (CanRead n) → is_awaiting s ≡ true
 unfolding is_permitted permits
-can_read_so s n is = unhampered s.has_made_room (is_awaiting s) is
+can_read_so s n is = unhampered s.made_room_for (is_awaiting s) is
 
 can_write_so : (s : State) (n : ℕ) → IsPermitted s (CanWrite n) → is_awaiting s ≡ true
 unfolding is_permitted permits
-can_write_so s n is = unhampered s.has_made_room (is_awaiting s) is
+can_write_so s n is = unhampered s.made_room_for (is_awaiting s) is
 
 stopped_so : (s : State) → IsPermitted s Stopped → is_awaiting s ≡ true
 unfolding is_permitted permits
-stopped_so s is = unhampered s.has_made_room (is_awaiting s) is
+stopped_so s is = unhampered s.made_room_for (is_awaiting s) is
 
 got_so : (s : State) (n : ℕ) (bytes : Bytes) → IsPermitted s (Got n bytes) → is_reading s.owed n ≡ true
 unfolding is_permitted permits
-got_so s n bytes is = first_holds (is_reading s.owed n) (is_read (read_room s n) bytes) (unhampered s.has_made_room (permits_got s n bytes) is)
+got_so s n bytes is = first_holds (is_reading s.owed n) (is_read (read_room s n) bytes) (unhampered s.made_room_for (permits_got s n bytes) is)
 
 waits_so : (s : State) (w : Wants) → IsPermitted s (Waits w) → may_wait s ≡ true
 unfolding is_permitted permits
-waits_so s w is = of (may_wait s) (unhampered s.has_made_room _ is)
+waits_so s w is = of (may_wait s) (unhampered s.made_room_for _ is)
   where
     of : (t : Bool) → (elim t as (λ c. Bool) [ true ↦ is_served (ending s) w | false ↦ false ]) ≡ true → t ≡ true
     of true holds = refl

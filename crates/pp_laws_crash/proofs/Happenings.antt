@@ -125,7 +125,7 @@ permitted_by None plain behind none is = is
 -- but for those that may come behind a row that left memory for a decision
 pub permitted : (s : State) (h : Happening) → permits_behind_forgotten s h ≡ false → IsPermitted s h → permits s h ≡ true
 unfolding is_permitted
-permitted s h none is = permitted_by s.has_made_room (permits s h) (permits_behind_forgotten s h) none is
+permitted s h none is = permitted_by s.made_room_for (permits s h) (permits_behind_forgotten s h) none is
 
 -- ---- notes
 
@@ -331,7 +331,7 @@ taken_by s c i d None is = is
 
 taken_so : (s : State) (c i : ℕ) (d : Decision) → IsPermitted s (Noted (Taken c i d)) → permits_taken s c i d ≡ true
 unfolding is_permitted permits
-taken_so s c i d is = taken_by s c i d s.has_made_room is
+taken_so s c i d is = taken_by s c i d s.made_room_for is
 
 woke_by : (s : State) (image : Files) (room : Option ℕ) → (elim room as (λ x. Bool) [ Some who ↦ permits_woke s image | None ↦ permits_woke s image ]) ≡ true → permits_woke s image ≡ true
 woke_by s image (Some who) is = is
@@ -339,7 +339,7 @@ woke_by s image None is = is
 
 pub woke_so : (s : State) (image : Files) → IsPermitted s (Woke image) → permits_woke s image ≡ true
 unfolding is_permitted permits
-woke_so s image is = woke_by s image s.has_made_room is
+woke_so s image is = woke_by s image s.made_room_for is
 
 did_inv_so : (s : State) (op : DiskOp) (ok : Bool) → may_end_op s op ≡ true → Inv s → Inv (ended_op op ok s)
 did_inv_so s op true may h = done_step s op h (under_is op s.under_way may)

@@ -472,11 +472,11 @@ new_above s n is = below s.top n is
 
 opened_new : (s : State) (n : ℕ) → IsPermitted s (Opened n) → is_new_number s n ≡ true
 unfolding is_permitted permits
-opened_new s n is = first_holds (is_new_number s n) _ (second_holds (is_awaiting s) (may_open s n) (unhampered s.has_made_room (is_awaiting s && may_open s n) is))
+opened_new s n is = first_holds (is_new_number s n) _ (second_holds (is_awaiting s) (may_open s n) (unhampered s.made_room_for (is_awaiting s && may_open s n) is))
 
 dialled_new : (s : State) (n : ℕ) (host : Bytes) (port : ℕ) → IsPermitted s (Dialled n host port) → is_new_number s n ≡ true
 unfolding is_permitted permits
-dialled_new s n host port is = first_holds (is_new_number s n) (permits_dial s host port) (unhampered s.has_made_room (is_new_number s n && permits_dial s host port) is)
+dialled_new s n host port is = first_holds (is_new_number s n) (permits_dial s host port) (unhampered s.made_room_for (is_new_number s n && permits_dial s host port) is)
 
 le_lt : (a b c : ℕ) → a ≤ b → b < c → a < c
 le_lt a b c le lt = omega arith

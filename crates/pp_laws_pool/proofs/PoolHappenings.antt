@@ -598,49 +598,49 @@ unhampered None t is = is
 -- what is permitted is permitted where no row has to leave before a decision
 permitted_so : (s : State) (h : Happening) → IsPermitted s h → permits s h ≡ true
 unfolding is_permitted permits
-permitted_so s (Woke image) is = by s.has_made_room is
+permitted_so s (Woke image) is = by s.made_room_for is
   where
     by : (room : Option ℕ) → (elim room as (λ x. Bool) [ Some who ↦ permits_woke s image | None ↦ permits_woke s image ]) ≡ true → permits_woke s image ≡ true
     by (Some who) at = at
     by None at = at
-permitted_so s (Noted (Taken c i d)) is = by s.has_made_room is
+permitted_so s (Noted (Taken c i d)) is = by s.made_room_for is
   where
     by : (room : Option ℕ) → (elim room as (λ x. Bool) [ Some who ↦ permits_taken s c i d && not (is_for_memory d) | None ↦ permits_taken s c i d ]) ≡ true → permits_taken s c i d ≡ true
     by (Some who) at = first_holds (permits_taken s c i d) (not (is_for_memory d)) at
     by None at = at
-permitted_so s (Noted (Cut c cause)) is = unhampered s.has_made_room _ is
-permitted_so s (Noted (Kept key tag n extent)) is = unhampered s.has_made_room _ is
-permitted_so s (Noted (Gone key)) is = unhampered s.has_made_room _ is
-permitted_so s (Noted (Forgotten key)) is = unhampered s.has_made_room _ is
-permitted_so s (Noted (Evicted key tag n i)) is = unhampered s.has_made_room _ is
-permitted_so s (Noted (WasLoaded key tag n i)) is = unhampered s.has_made_room _ is
-permitted_so s (Waits w) is = unhampered s.has_made_room _ is
-permitted_so s (Clock seconds) is = unhampered s.has_made_room _ is
-permitted_so s (Opened n) is = unhampered s.has_made_room _ is
-permitted_so s (CanRead n) is = unhampered s.has_made_room _ is
-permitted_so s (CanWrite n) is = unhampered s.has_made_room _ is
-permitted_so s (Heard c bytes) is = unhampered s.has_made_room _ is
-permitted_so s (HungUp c) is = unhampered s.has_made_room _ is
-permitted_so s (Said c offered bytes) is = unhampered s.has_made_room _ is
-permitted_so s (Shut c) is = unhampered s.has_made_room _ is
-permitted_so s (Dialled n host port) is = unhampered s.has_made_room _ is
-permitted_so s (Undialled host port) is = unhampered s.has_made_room _ is
-permitted_so s (Reached n) is = unhampered s.has_made_room _ is
-permitted_so s (Ended n) is = unhampered s.has_made_room _ is
-permitted_so s (Broke n) is = unhampered s.has_made_room _ is
-permitted_so s (Asked n bytes) is = unhampered s.has_made_room _ is
-permitted_so s (Got n bytes) is = unhampered s.has_made_room _ is
-permitted_so s (Dropped n) is = unhampered s.has_made_room _ is
-permitted_so s (NoneYet n) is = unhampered s.has_made_room _ is
-permitted_so s (Began op) is = unhampered s.has_made_room _ is
-permitted_so s (Did op ok) is = unhampered s.has_made_room _ is
-permitted_so s (Unread name) is = unhampered s.has_made_room _ is
-permitted_so s (Rooted folder) is = unhampered s.has_made_room _ is
-permitted_so s (Listed ok) is = unhampered s.has_made_room _ is
-permitted_so s (Listens port ok) is = unhampered s.has_made_room _ is
-permitted_so s (Configured file text) is = unhampered s.has_made_room _ is
-permitted_so s (Printed text) is = unhampered s.has_made_room _ is
-permitted_so s Stopped is = unhampered s.has_made_room _ is
+permitted_so s (Noted (Cut c cause)) is = unhampered s.made_room_for _ is
+permitted_so s (Noted (Kept key tag n extent)) is = unhampered s.made_room_for _ is
+permitted_so s (Noted (Gone key)) is = unhampered s.made_room_for _ is
+permitted_so s (Noted (Forgotten key)) is = unhampered s.made_room_for _ is
+permitted_so s (Noted (Evicted key tag n i)) is = unhampered s.made_room_for _ is
+permitted_so s (Noted (WasLoaded key tag n i)) is = unhampered s.made_room_for _ is
+permitted_so s (Waits w) is = unhampered s.made_room_for _ is
+permitted_so s (Clock seconds) is = unhampered s.made_room_for _ is
+permitted_so s (Opened n) is = unhampered s.made_room_for _ is
+permitted_so s (CanRead n) is = unhampered s.made_room_for _ is
+permitted_so s (CanWrite n) is = unhampered s.made_room_for _ is
+permitted_so s (Heard c bytes) is = unhampered s.made_room_for _ is
+permitted_so s (HungUp c) is = unhampered s.made_room_for _ is
+permitted_so s (Said c offered bytes) is = unhampered s.made_room_for _ is
+permitted_so s (Shut c) is = unhampered s.made_room_for _ is
+permitted_so s (Dialled n host port) is = unhampered s.made_room_for _ is
+permitted_so s (Undialled host port) is = unhampered s.made_room_for _ is
+permitted_so s (Reached n) is = unhampered s.made_room_for _ is
+permitted_so s (Ended n) is = unhampered s.made_room_for _ is
+permitted_so s (Broke n) is = unhampered s.made_room_for _ is
+permitted_so s (Asked n bytes) is = unhampered s.made_room_for _ is
+permitted_so s (Got n bytes) is = unhampered s.made_room_for _ is
+permitted_so s (Dropped n) is = unhampered s.made_room_for _ is
+permitted_so s (NoneYet n) is = unhampered s.made_room_for _ is
+permitted_so s (Began op) is = unhampered s.made_room_for _ is
+permitted_so s (Did op ok) is = unhampered s.made_room_for _ is
+permitted_so s (Unread name) is = unhampered s.made_room_for _ is
+permitted_so s (Rooted folder) is = unhampered s.made_room_for _ is
+permitted_so s (Listed ok) is = unhampered s.made_room_for _ is
+permitted_so s (Listens port ok) is = unhampered s.made_room_for _ is
+permitted_so s (Configured file text) is = unhampered s.made_room_for _ is
+permitted_so s (Printed text) is = unhampered s.made_room_for _ is
+permitted_so s Stopped is = unhampered s.made_room_for _ is
 
 -- ---- where it awaits, or is in the opening
 

@@ -168,7 +168,7 @@ asked_by s k bytes None is = is
 
 asked_permitted : (s : State) (k : ℕ) (bytes : Bytes) → IsPermitted s (Asked k bytes) → permits_asked s k bytes ≡ true
 unfolding is_permitted permits
-asked_permitted s k bytes is = asked_by s k bytes s.has_made_room is
+asked_permitted s k bytes is = asked_by s k bytes s.made_room_for is
 
 -- it is a front of what is left
 asked_front : (s : State) (k : ℕ) (bytes : Bytes) (e : Exchange) → IsPermitted s (Asked k bytes) → asking s k ≡ Some e → bytes ≡ take (length bytes) (left_to_ask s e)
@@ -291,7 +291,7 @@ heard_by_room s m bytes None is = is
 
 heard_permitted : (s : State) (m : ℕ) (bytes : Bytes) → IsPermitted s (Heard m bytes) → permits_heard s m bytes ≡ true
 unfolding is_permitted permits
-heard_permitted s m bytes is = heard_by_room s m bytes s.has_made_room is
+heard_permitted s m bytes is = heard_by_room s m bytes s.made_room_for is
 
 third_holds : (a b c : Bool) → (a && b && c) ≡ true → c ≡ true
 third_holds true true c is = is
@@ -492,7 +492,7 @@ taken-orderly {n} {told} {b} m i d s is hs h = by (client (deciding s) m) refl
     t : TakenFor u m i d
     t = taken_for s m i d is
 
-    by : (o : Option Client) → client (in_phase Deciding u) m ≡ o → Orderly n told (elim o as (λ x. State) [ None ↦ in_phase Deciding u | Some c ↦ regained (record (decided c d (in_phase Deciding u)) { forgotten = []; has_made_room = None }) ])
+    by : (o : Option Client) → client (in_phase Deciding u) m ≡ o → Orderly n told (elim o as (λ x. State) [ None ↦ in_phase Deciding u | Some c ↦ regained (record (decided c d (in_phase Deciding u)) { forgotten = []; made_room_for = None }) ])
     by None none = hu
     by (Some c) found =
         let there = in_find (is_client m) c u.clients found in
@@ -521,7 +521,7 @@ opened_by s n None is = below s.top n (first_holds (is_new_number s n) (accepts 
 
 pub opened_above : (s : State) (n : ℕ) → IsPermitted s (Opened n) → s.top < n
 unfolding is_permitted permits
-opened_above s n is = opened_by s n s.has_made_room is
+opened_above s n is = opened_by s n s.made_room_for is
 
 dialled_by : (s : State) (n : ℕ) (host : Bytes) (port : ℕ) (room : Option ℕ) → (elim room as (λ c. Bool) [ Some who ↦ false | None ↦ is_new_number s n && permits_dial s host port ]) ≡ true → s.top < n
 dialled_by s n host port (Some who) is = absurd (cc is)
@@ -529,7 +529,7 @@ dialled_by s n host port None is = below s.top n (first_holds (is_new_number s n
 
 dialled_above : (s : State) (n : ℕ) (host : Bytes) (port : ℕ) → IsPermitted s (Dialled n host port) → s.top < n
 unfolding is_permitted permits
-dialled_above s n host port is = dialled_by s n host port s.has_made_room is
+dialled_above s n host port is = dialled_by s n host port s.made_room_for is
 
 -- ---- all
 

@@ -385,7 +385,7 @@ permitted_by s m offered bytes None is = is
 
 permitted : (s : State) (m offered : ℕ) (bytes : Bytes) → IsPermitted s (Said m offered bytes) → permits_said s m offered bytes ≡ true
 unfolding is_permitted permits
-permitted s m offered bytes is = permitted_by s m offered bytes s.has_made_room is
+permitted s m offered bytes is = permitted_by s m offered bytes s.made_room_for is
 
 said_fits : (s : State) (m offered : ℕ) (bytes : Bytes) (c : Client) → client s m ≡ Some c → IsPermitted s (Said m offered bytes) → is_said_of offered bytes (offer s c) ≡ true
 said_fits s m offered bytes c found is =

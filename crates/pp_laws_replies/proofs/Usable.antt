@@ -322,7 +322,7 @@ permitted_by s n i d None is = is
 
 pub permitted_taken : (s : State) (n i : ℕ) (d : Decision) → IsPermitted s (Noted (Taken n i d)) → permits_taken s n i d ≡ true
 unfolding is_permitted permits
-permitted_taken s n i d is = permitted_by s n i d s.has_made_room is
+permitted_taken s n i d is = permitted_by s n i d s.made_room_for is
 
 -- ---- who may be decided
 

@@ -835,7 +835,7 @@ asked_placed {b} s n so e is = by (conn s n) refl is
 
 pub taken_so : (s : State) (n i : ℕ) (d : Decision) → IsPermitted s (Noted (Taken n i d)) → permits_taken s n i d ≡ true
 unfolding is_permitted permits
-taken_so s n i d is = by s.has_made_room is
+taken_so s n i d is = by s.made_room_for is
   where
     by : (room : Option ℕ) → (elim room as (λ x. Bool) [ Some who ↦ permits_taken s n i d && not (is_for_memory d) | None ↦ permits_taken s n i d ]) ≡ true → permits_taken s n i d ≡ true
     by (Some who) at = first_holds (permits_taken s n i d) (not (is_for_memory d)) at
@@ -843,51 +843,51 @@ taken_so s n i d is = by s.has_made_room is
 
 clock_awaits : (s : State) (seconds : ℕ) → IsPermitted s (Clock seconds) → is_awaiting s ≡ true
 unfolding is_permitted permits
-clock_awaits s seconds is = unhampered s.has_made_room (is_awaiting s) is
+clock_awaits s seconds is = unhampered s.made_room_for (is_awaiting s) is
 
 opened_awaits : (s : State) (n : ℕ) → IsPermitted s (Opened n) → is_awaiting s ≡ true
 unfolding is_permitted permits
-opened_awaits s n is = first_holds (is_awaiting s) (may_open s n) (unhampered s.has_made_room (is_awaiting s && may_open s n) is)
+opened_awaits s n is = first_holds (is_awaiting s) (may_open s n) (unhampered s.made_room_for (is_awaiting s && may_open s n) is)
 
 read_awaits : (s : State) (n : ℕ) → IsPermitted s (CanRead n) → is_awaiting s ≡ true
 unfolding is_permitted permits
-read_awaits s n is = unhampered s.has_made_room (is_awaiting s) is
+read_awaits s n is = unhampered s.made_room_for (is_awaiting s) is
 
 write_awaits : (s : State) (n : ℕ) → IsPermitted s (CanWrite n) → is_awaiting s ≡ true
 unfolding is_permitted permits
-write_awaits s n is = unhampered s.has_made_room (is_awaiting s) is
+write_awaits s n is = unhampered s.made_room_for (is_awaiting s) is
 
 reached_awaits : (s : State) (n : ℕ) → IsPermitted s (Reached n) → is_awaiting s ≡ true
 unfolding is_permitted permits
-reached_awaits s n is = first_holds (is_awaiting s) (has_conn s n) (unhampered s.has_made_room (is_awaiting s && has_conn s n) is)
+reached_awaits s n is = first_holds (is_awaiting s) (has_conn s n) (unhampered s.made_room_for (is_awaiting s && has_conn s n) is)
 
 stopped_awaits : (s : State) → IsPermitted s Stopped → is_awaiting s ≡ true
 unfolding is_permitted permits
-stopped_awaits s is = unhampered s.has_made_room (is_awaiting s) is
+stopped_awaits s is = unhampered s.made_room_for (is_awaiting s) is
 
 broke_may : (s : State) (n : ℕ) → IsPermitted s (Broke n) → permits_broke s n ≡ true
 unfolding is_permitted permits
-broke_may s n is = unhampered s.has_made_room (permits_broke s n) is
+broke_may s n is = unhampered s.made_room_for (permits_broke s n) is
 
 dialled_above : (s : State) (n : ℕ) (host : Bytes) (port : ℕ) → IsPermitted s (Dialled n host port) → s.top < n
 unfolding is_permitted permits
-dialled_above s n host port is = below s.top n (first_holds (is_new_number s n) (permits_dial s host port) (unhampered s.has_made_room (is_new_number s n && permits_dial s host port) is))
+dialled_above s n host port is = below s.top n (first_holds (is_new_number s n) (permits_dial s host port) (unhampered s.made_room_for (is_new_number s n && permits_dial s host port) is))
 
 undialled_may : (s : State) (host : Bytes) (port : ℕ) → IsPermitted s (Undialled host port) → permits_dial s host port ≡ true
 unfolding is_permitted permits
-undialled_may s host port is = second_holds (may_fail s false) (permits_dial s host port) (unhampered s.has_made_room (may_fail s false && permits_dial s host port) is)
+undialled_may s host port is = second_holds (may_fail s false) (permits_dial s host port) (unhampered s.made_room_for (may_fail s false && permits_dial s host port) is)
 
 rooted_at : (s : State) (folder : Bytes) → IsPermitted s (Rooted folder) → is_at IsConfigured s ≡ true
 unfolding is_permitted permits
-rooted_at s folder is = first_holds (is_at IsConfigured s) (bytes_eq folder s.settings.root) (unhampered s.has_made_room (permits_rooted s folder) is)
+rooted_at s folder is = first_holds (is_at IsConfigured s) (bytes_eq folder s.settings.root) (unhampered s.made_room_for (permits_rooted s folder) is)
 
 listed_at : (s : State) (ok : Bool) → IsPermitted s (Listed ok) → is_at IsRooted s ≡ true
 unfolding is_permitted permits
-listed_at s ok is = first_holds (is_at IsRooted s) (may_fail s ok) (unhampered s.has_made_room (is_at IsRooted s && may_fail s ok) is)
+listed_at s ok is = first_holds (is_at IsRooted s) (may_fail s ok) (unhampered s.made_room_for (is_at IsRooted s && may_fail s ok) is)
 
 listens_at : (s : State) (port : ℕ) (ok : Bool) → IsPermitted s (Listens port ok) → is_at IsListed s ≡ true
 unfolding is_permitted permits
-listens_at s port ok is = of (is_at IsListed s) (port == s.settings.port) (is_recovered s) (may_fail s ok) (unhampered s.has_made_room (permits_listens s port && may_fail s ok) is)
+listens_at s port ok is = of (is_at IsListed s) (port == s.settings.port) (is_recovered s) (may_fail s ok) (unhampered s.made_room_for (permits_listens s port && may_fail s ok) is)
   where
     of : (a b c d : Bool) → ((a && b && c) && d) ≡ true → a ≡ true
     of true b c d at = refl
@@ -895,7 +895,7 @@ listens_at s port ok is = of (is_at IsListed s) (port == s.settings.port) (is_re
 
 configured_at : (s : State) (file : Bytes) (text : Option Bytes) → IsPermitted s (Configured file text) → is_at IsWoken s ≡ true
 unfolding is_permitted permits
-configured_at s file text is = of (is_at IsWoken s) (is_some_with (λ named. bytes_eq named file) (file_of s.term.words)) (may_fail s (is_some text)) (unhampered s.has_made_room (permits_configured s file && may_fail s (is_some text)) is)
+configured_at s file text is = of (is_at IsWoken s) (is_some_with (λ named. bytes_eq named file) (file_of s.term.words)) (may_fail s (is_some text)) (unhampered s.made_room_for (permits_configured s file && may_fail s (is_some text)) is)
   where
     of : (a b d : Bool) → ((a && b) && d) ≡ true → a ≡ true
     of true b d at = refl
@@ -924,7 +924,7 @@ noted-turn (Taken c i d) s so is h =
     let on = (gate (decides (come_to_decide s)) (may_take (come_to_decide s) c i d) may).0 in
     take_decision-turn c d _ (deciding_late s) (taken_going s c i d so may) (deciding-turn s on h)
 noted-turn (Cut c cause) s so is h =
-    let on = (gate (decides (come_to_decide s)) (may_cut (come_to_decide s) c cause) (unhampered s.has_made_room (may_decide (λ t. may_cut t c cause) s) is)).0 in
+    let on = (gate (decides (come_to_decide s)) (may_cut (come_to_decide s) c cause) (unhampered s.made_room_for (may_decide (λ t. may_cut t c cause) s) is)).0 in
     close_client-keeps turn_walk c true _ (deciding-turn s on h)
 noted-turn (Kept key tag n extent) s so is h = note_kept-keeps key extent s h
 noted-turn (Gone key) s so is h = note_gone-keeps key _ (come_to-turn Keeping s h)

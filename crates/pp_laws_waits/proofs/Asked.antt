@@ -121,7 +121,7 @@ regained-same s = refl
 
 pub taken-none_new : (s : State) (n i : ℕ) (d : Decision) → asks_nothing d ≡ true → NoneNew (deciding s) (after s (Noted (Taken n i d)))
 unfolding changed noted take_decision
-taken-none_new s n i d is = none_each (deciding s) (client (deciding s) n) (λ c. regained (record (decided c d (deciding s)) { forgotten = []; has_made_room = None })) by
+taken-none_new s n i d is = none_each (deciding s) (client (deciding s) n) (λ c. regained (record (decided c d (deciding s)) { forgotten = []; made_room_for = None })) by
   where
-    by : (c : Client) → NoneNew (deciding s) (regained (record (decided c d (deciding s)) { forgotten = []; has_made_room = None }))
-    by c = new_by (deciding s) (decided c d (deciding s)) (regained (record (decided c d (deciding s)) { forgotten = []; has_made_room = None })) (regained-same (record (decided c d (deciding s)) { forgotten = []; has_made_room = None })) (decided-none_new c d (deciding s) is)
+    by : (c : Client) → NoneNew (deciding s) (regained (record (decided c d (deciding s)) { forgotten = []; made_room_for = None }))
+    by c = new_by (deciding s) (decided c d (deciding s)) (regained (record (decided c d (deciding s)) { forgotten = []; made_room_for = None })) (regained-same (record (decided c d (deciding s)) { forgotten = []; made_room_for = None })) (decided-none_new c d (deciding s) is)

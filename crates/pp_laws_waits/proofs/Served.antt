@@ -51,7 +51,7 @@ chosen false u is = absurd (cc is)
 -- a wait is served
 pub served_so : (s : State) (w : Wants) → IsPermitted s (Waits w) → (may_wait s ≡ true) × (is_served (ending s) w ≡ true)
 unfolding is_permitted permits
-served_so s w is = chosen (may_wait s) (is_served (ending s) w) (unhampered s.has_made_room _ is)
+served_so s w is = chosen (may_wait s) (is_served (ending s) w) (unhampered s.made_room_for _ is)
 
 pub record Parts (s : State) (w : Wants) : Type 0 where
   pub clients : list_all (is_client_served s w) s.clients ≡ true

@@ -107,7 +107,7 @@ evicted_none (suc k) s none = ap (evicted_on k) (ap (λ (o : Option (ℕ × ℕ)
 
 -- these of the chunks are left, and all else is as it was
 pub record Stands (number : ℕ → ℕ) (m : Memory) (places : List (ℕ × ℕ)) (low : ℕ) (R : State → Type 0) (cs : List Chunk) (s : State) : Type 0 where
-  pub none : s.has_made_room ≡ None
+  pub none : s.made_room_for ≡ None
   pub at : s.phase ≡ Evicting
   pub nobody : is_empty s.forgotten ≡ true
   pub evicting : s.is_evicting ≡ true

@@ -19,7 +19,7 @@ use Rattle.pp_steps_law.specs.Steps.{ShowsSteps}
 
 -- rows and chunks leave memory: the same rows are to be noted, the marks are the law's, and the same chunks are pinned
 pub record AreLeaving (number : ℕ → ℕ) (name : Bytes) (l : Leaving) (peers : List Peer) (st : Steps) (s : State) : Type 0 where
-  pub none : s.has_made_room ≡ None
+  pub none : s.made_room_for ≡ None
   pub at : s.phase ≡ Evicting
   pub shows : ShowsSteps number name l peers (parts st) s
   pub forgotten : st.forgotten ≡ s.forgotten
@@ -29,7 +29,7 @@ pub record AreLeaving (number : ℕ → ℕ) (name : Bytes) (l : Leaving) (peers
 
 -- they have left, and no more has to be noted, nor to go
 pub record HaveLeft (number : ℕ → ℕ) (name : Bytes) (l : Leaving) (peers : List Peer) (st : Steps) (s : State) : Type 0 where
-  pub none : s.has_made_room ≡ None
+  pub none : s.made_room_for ≡ None
   pub at : s.phase ≡ Evicting
   pub shows : ShowsSteps number name l peers (parts st) s
   pub done : is_done s ≡ true

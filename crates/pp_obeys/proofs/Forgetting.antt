@@ -53,7 +53,7 @@ unfolding next
 handled_next s is = ap (λ (p : Phase). behind p s) is
 
 left_for : Instance → State → State
-left_for x t = record (forget x.id t) { has_made_room = decides_for (first_due t) }
+left_for x t = record (forget x.id t) { made_room_for = decides_for (first_due t) }
 
 leads_by : (s : State) (how : Leaving) → IsDone s → is_at Evicting s ≡ false → leave_memory how s ≡ leave_memory how (next s)
 unfolding leave_memory

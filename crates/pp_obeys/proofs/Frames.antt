@@ -27,7 +27,7 @@ pub record Frame : Type 0 where
   pub is_ticked : Bool
   pub is_stopped : Bool
   pub owed : Owed
-  pub has_made_room : Option ℕ
+  pub made_room_for : Option ℕ
   pub agenda : Agenda
 
 -- with what was sent, or without
@@ -50,7 +50,7 @@ frame all s = record {
   is_ticked = s.is_ticked;
   is_stopped = s.is_stopped;
   owed = s.owed;
-  has_made_room = s.has_made_room;
+  made_room_for = s.made_room_for;
   agenda = s.agenda;
 }
 

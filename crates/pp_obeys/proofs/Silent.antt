@@ -341,7 +341,7 @@ pub record Comes (s t : State) (h : Happening) : Type 0 where
   pub may : IsPermitted s h
   pub leads : GoesAs (after s h) (after t h)
 
-comes_by : (s t : State) (h : Happening) (room : Option ℕ) → t.has_made_room ≡ room → s.has_made_room ≡ room → (permits t h ≡ true → Follows s t h) → IsPermitted t h → Comes s t h
+comes_by : (s t : State) (h : Happening) (room : Option ℕ) → t.made_room_for ≡ room → s.made_room_for ≡ room → (permits t h ≡ true → Follows s t h) → IsPermitted t h → Comes s t h
 unfolding is_permitted
 comes_by s t h (Some who) in_t in_s step may =
     let narrow : permits_behind_forgotten t h ≡ true = sym (ap (λ (o : Option ℕ). elim o as (λ c. Bool) [ Some who ↦ permits_behind_forgotten t h | None ↦ permits t h ]) in_t) ∙ may in
@@ -354,11 +354,11 @@ comes_by s t h None in_t in_s step may =
     record { may = ap (λ (o : Option ℕ). elim o as (λ c. Bool) [ Some who ↦ permits_behind_forgotten s h | None ↦ permits s h ]) in_s ∙ f.may; leads = f.leads }
 
 pub comes : (s : State) (h : Happening) → IsLeft s → RowsFollow s → IsPermitted (next s) h → Comes s (next s) h
-comes s h l rows may = comes_by s (next s) h s.has_made_room (same_of (λ o. o.has_made_room) s) refl (λ is. permits_follows s h l rows is) may
+comes s h l rows may = comes_by s (next s) h s.made_room_for (same_of (λ o. o.made_room_for) s) refl (λ is. permits_follows s h l rows is) may
 
 pub permitted_wide : (s : State) (h : Happening) → IsPermitted s h → permits s h ≡ true
 unfolding is_permitted
-permitted_wide s h may = by s.has_made_room may
+permitted_wide s h may = by s.made_room_for may
   where
     by : (room : Option ℕ) → (elim room as (λ c. Bool) [ Some who ↦ permits_behind_forgotten s h | None ↦ permits s h ]) ≡ true → permits s h ≡ true
     by (Some who) is = (narrows s s h is).wide

@@ -24,7 +24,7 @@ use Rattle.pp_shelf_law.specs.Shelf.{ShowsEntry, ShowsShelf}
 
 -- a client that is written to has its next byte in this chunk of the row, whose entry is kept; and it is not in memory
 pub record IsToLoad (s : State) (x : Instance) (e : Entry) (index : ℕ) : Type 0 where
-  pub none : s.has_made_room ≡ None
+  pub none : s.made_room_for ≡ None
   pub at : s.phase ≡ Handling
   pub rests : is_at_rest s ≡ true
   pub client : Client

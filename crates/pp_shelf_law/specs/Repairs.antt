@@ -12,7 +12,7 @@ use Rattle.pp_shelf_law.specs.Runs.{ran}
 
 -- a life that recovers, where nothing is under way
 pub record IsIdle (s : State) : Type 0 where
-  pub none : s.has_made_room ≡ None
+  pub none : s.made_room_for ≡ None
   pub at : s.phase ≡ IsListed
   pub idle : s.under_way ≡ None
 

@@ -10,7 +10,7 @@ use Rattle.pp_world.specs.declared.op.DiskOp.{DiskOp}
 
 -- in a turn, with so much left to do on a name
 pub record IsWorking (name : Bytes) (todo : List Todo) (s : State) : Type 0 where
-  pub none : s.has_made_room ≡ None
+  pub none : s.made_room_for ≡ None
   pub at : s.phase ≡ Keeping
   pub idle : s.under_way ≡ None
   pub agenda : s.agenda ≡ record { name = name; todo = todo }
