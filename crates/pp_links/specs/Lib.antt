@@ -1,4 +1,5 @@
 pub mod Failures
+pub mod Leading
 pub mod Links
 pub mod Quiet
 pub mod Waits

@@ -5,9 +5,10 @@ use Rattle.std.proofs.lemmas.Bool.Decides.{nat_tests}
 use Rattle.std.specs.List.{find}
 use Rattle.std.proofs.lemmas.List.{append-nil}
 use Rattle.pp_links.specs.Failures.{fails}
+use Rattle.pp_links.specs.Leading.{LeadsOn}
 use Rattle.pp_links.specs.Links.{Link, is_link, max_links, without}
 use Rattle.pp_links.proofs.FailureLemmas.{counted_none, counted_one, counted_then, none_in_both}
-use Rattle.pp_places.specs.Around.{Around, Leads, Moment}
+use Rattle.pp_places.specs.Around.{Around, Moment}
 use Rattle.pp_flow.specs.Changes.{entry_of}
 use Rattle.pp_flow.specs.declared.entry.Entry.{Entry}
 use Rattle.pp_peers.specs.declared.placing.Placed.{Placed}
@@ -45,7 +46,7 @@ told_then one two first second = record {
 }
 
 -- without a word
-pub leads_silently : {Step : Around → Log → Around → Type 0} {x y : Around} {old new : Option Log} {before now : ℕ} → new ≡ old → before ≤ now → Step x [] y → Leads Step x y old new before now
+pub leads_silently : {Step : Around → Log → Around → Type 0} {x y : Around} {old new : Option Log} {before now : ℕ} → new ≡ old → before ≤ now → Step x [] y → LeadsOn Step x y old new before now
 leads_silently same more is = record { added = []; is = is; told = none_added [] same refl; counted = counted_none [] refl more }
 
 -- ---- a dial
@@ -119,7 +120,7 @@ unfolding ArePlaced
 placed_next more m number after x next y first rest waits is others = subst (λ (o : Option ℕ). next_by more m x (first ++ rest) y o) (sym waits) (next, first, rest, refl, is, others)
 
 pub one_more_placed : (most i : ℕ) (m : Moment) (number : ℕ) (after behind : Option ℕ) (x mid new : Around) (old log log' : Option Log) (first counts now : ℕ) → i < most → AreSoFar most i m after x mid old log first counts → next_waiting after mid.sides ≡ Some number
-    → Leads (IsPlaced m number) mid new log log' counts now → behind ≡ goes_on_behind (place_for m.limits number mid.sides) number → AreSoFar most (i + 1) m behind x new old log' first now
+    → LeadsOn (IsPlaced m number) mid new log log' counts now → behind ≡ goes_on_behind (place_for m.limits number mid.sides) number → AreSoFar most (i + 1) m behind x new old log' first now
 one_more_placed most i m number after behind x mid new old log log' first counts now less before waits led goes = record {
   added = before.added ++ led.added;
   told = told_then before.added led.added before.told led.told;
@@ -136,7 +137,7 @@ placed_over zero m after x none = (refl, refl)
 placed_over (suc more) m after x none = subst (λ (o : Option ℕ). next_by more m x [] x o) (sym none) (refl, refl)
 
 -- none waits any more
-pub all_placed : (most i : ℕ) (m : Moment) (after : Option ℕ) (x mid : Around) (old log : Option Log) (first counts : ℕ) → AreSoFar most i m after x mid old log first counts → next_waiting after mid.sides ≡ None → Leads (ArePlaced most m None) x mid old log first counts
+pub all_placed : (most i : ℕ) (m : Moment) (after : Option ℕ) (x mid : Around) (old log : Option Log) (first counts : ℕ) → AreSoFar most i m after x mid old log first counts → next_waiting after mid.sides ≡ None → LeadsOn (ArePlaced most m None) x mid old log first counts
 all_placed most i m after x mid old log first counts before none = record {
   added = before.added;
   is = subst (λ (l : Log). ArePlaced most m None x l mid) (append-nil before.added) (before.on [] mid (placed_over (most - i) m after mid none));
@@ -152,7 +153,7 @@ unfolding ArePlaced
 none_more m after x = (refl, refl)
 
 -- or there were as many as may be
-pub most_placed : (most i : ℕ) (m : Moment) (after : Option ℕ) (x mid : Around) (old log : Option Log) (first counts : ℕ) → most ≤ i → AreSoFar most i m after x mid old log first counts → Leads (ArePlaced most m None) x mid old log first counts
+pub most_placed : (most i : ℕ) (m : Moment) (after : Option ℕ) (x mid : Around) (old log : Option Log) (first counts : ℕ) → most ≤ i → AreSoFar most i m after x mid old log first counts → LeadsOn (ArePlaced most m None) x mid old log first counts
 most_placed most i m after x mid old log first counts all before = record {
   added = before.added;
   is = subst (λ (l : Log). ArePlaced most m None x l mid) (append-nil before.added) (before.on [] mid (subst (λ (n : ℕ). ArePlaced n m after mid [] mid) (sym (none_left most i all)) (none_more m after mid)));

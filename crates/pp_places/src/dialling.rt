@@ -1,9 +1,10 @@
 // Step 6: an exchange that needs a new connection (RFC 2616, section 8.1).
 ghost use Rattle.std.specs.Prelude.{◌≡◌, ◌≤◌, ◌<◌, IfSome, length, option_copied};
 ghost use Rattle.pp_flow.specs.Changes.{entry_of};
+ghost use Rattle.pp_links.specs.Leading.{LeadsOn};
 ghost use Rattle.pp_links.specs.Links.{IsLinked};
 ghost use Rattle.pp_links.specs.Quiet.{GrowsQuietly};
-ghost use Rattle.pp_places.specs.Around.{Leads, around, moment_of};
+ghost use Rattle.pp_places.specs.Around.{around, moment_of};
 ghost use Rattle.pp_desk.specs.Closings.{KeepsDesk, sides};
 ghost use Rattle.pp_places.specs.Placing.{IsDialledFor, dials_to, host_of, met_by, new_one, with_new};
 ghost use Rattle.pp_state.specs.Ends.{numbers_of, AreSeated};
@@ -22,7 +23,7 @@ pub(crate) fn dial<W: Wire>(desk: &mut Desk, links: &mut Links, world: &mut W, n
     requires { IsLinked (W.log world.old) (W.top world.old) links.old }
     ensures linked { IsLinked (W.log world.new) (W.top world.new) links.new }
     ensures quiet { GrowsQuietly (W.log world.old) (W.log world.new) }
-    ensures is { AreSeated desk.old.state → Leads (IsDialledFor (moment_of desk.old.state) number (entry_of number desk.old.state.flow)) (around desk.old links.old (W.top world.old)) (around desk.new links.new (W.top world.new)) (W.log world.old) (W.log world.new) (W.faults world.old) (W.faults world.new) }
+    ensures is { AreSeated desk.old.state → LeadsOn (IsDialledFor (moment_of desk.old.state) number (entry_of number desk.old.state.flow)) (around desk.old links.old (W.top world.old)) (around desk.new links.new (W.top world.new)) (W.log world.old) (W.log world.new) (W.faults world.old) (W.faults world.new) }
     ensures numbers { numbers_of desk.new.state.seats.items ≡ numbers_of desk.old.state.seats.items }
     ensures rest { KeepsDesk desk.old desk.new }
     ensures faults { W.faults world.old ≤ W.faults world.new }

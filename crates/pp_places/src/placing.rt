@@ -3,11 +3,12 @@ ghost use Rattle.std.specs.Prelude.{◌≡◌, ◌≤◌, [], ◌∷◌, false, 
 ghost use Rattle.std.specs.List.{find};
 ghost use Rattle.pp_flow.specs.Changes.{entry_of};
 ghost use Rattle.pp_flow.specs.Entries.{is_number as is_exchange};
+ghost use Rattle.pp_links.specs.Leading.{LeadsOn};
 ghost use Rattle.pp_links.specs.Links.{IsLinked, without};
 ghost use Rattle.pp_links.specs.Quiet.{GrowsQuietly};
 ghost use Rattle.pp_peers.specs.Peers.{is_number, without as without_peer};
 ghost use Rattle.pp_pipe.specs.Line.{pushed_where};
-ghost use Rattle.pp_places.specs.Around.{Leads, around, moment_of};
+ghost use Rattle.pp_places.specs.Around.{around, moment_of};
 ghost use Rattle.pp_desk.specs.Closings.{KeepsDesk, has_closing, sides};
 ghost use Rattle.pp_places.specs.Placing.{ArePlaced, IsPlaced, goes_on_behind, host_of, is_put, place_for, put_last, put_on, put_text, put_text_where, takes, takes_on, text_on};
 ghost use Rattle.pp_desk.specs.Shutting.{closings};
@@ -33,7 +34,7 @@ pub fn place<W: Wire>(desk: &mut Desk, links: &mut Links, world: &mut W)
     requires closed { has_closing desk.old.peers ≡ false }
     ensures linked { IsLinked (W.log world.new) (W.top world.new) links.new }
     ensures quiet { GrowsQuietly (W.log world.old) (W.log world.new) }
-    ensures is { AreSeated desk.old.state → Leads (ArePlaced PLACES (moment_of desk.old.state) None) (around desk.old links.old (W.top world.old)) (around desk.new links.new (W.top world.new)) (W.log world.old) (W.log world.new) (W.faults world.old) (W.faults world.new) }
+    ensures is { AreSeated desk.old.state → LeadsOn (ArePlaced PLACES (moment_of desk.old.state) None) (around desk.old links.old (W.top world.old)) (around desk.new links.new (W.top world.new)) (W.log world.old) (W.log world.new) (W.faults world.old) (W.faults world.new) }
     ensures numbers { numbers_of desk.new.state.seats.items ≡ numbers_of desk.old.state.seats.items }
     ensures rest { KeepsDesk desk.old desk.new }
     ensures faults { W.faults world.old ≤ W.faults world.new }
@@ -54,7 +55,7 @@ fn place_one<W: Wire>(desk: &mut Desk, links: &mut Links, world: &mut W, number:
     ensures after { result ≡ goes_on_behind (place_for desk.old.state.limits number (sides desk.old)) number }
     ensures linked { IsLinked (W.log world.new) (W.top world.new) links.new }
     ensures quiet { GrowsQuietly (W.log world.old) (W.log world.new) }
-    ensures is { AreSeated desk.old.state → Leads (IsPlaced (moment_of desk.old.state) number) (around desk.old links.old (W.top world.old)) (around desk.new links.new (W.top world.new)) (W.log world.old) (W.log world.new) (W.faults world.old) (W.faults world.new) }
+    ensures is { AreSeated desk.old.state → LeadsOn (IsPlaced (moment_of desk.old.state) number) (around desk.old links.old (W.top world.old)) (around desk.new links.new (W.top world.new)) (W.log world.old) (W.log world.new) (W.faults world.old) (W.faults world.new) }
     ensures numbers { numbers_of desk.new.state.seats.items ≡ numbers_of desk.old.state.seats.items }
     ensures rest { KeepsDesk desk.old desk.new }
     ensures faults { W.faults world.old ≤ W.faults world.new }

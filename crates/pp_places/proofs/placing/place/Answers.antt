@@ -1,7 +1,8 @@
 use Rattle.std.proofs.Common.{◌≡◌, ◌∙◌, ap, sym, subst, List, ℕ, None, Some, le_trans, arith}
 use Rattle.std.proofs.lemmas.Grind.{common_steps}
 use Rattle.pp_links.proofs.QuietLemmas.{quiet_then}
-use Rattle.pp_places.specs.Around.{Leads, around, moment_of}
+use Rattle.pp_links.specs.Leading.{LeadsOn}
+use Rattle.pp_places.specs.Around.{around, moment_of}
 use Rattle.pp_desk.specs.Closings.{sides}
 use Rattle.pp_places.specs.Placing.{IsPlaced, goes_on_behind, next_waiting, place_for}
 use Rattle.pp_desk.specs.declared.desk.Desk.{Desk}
@@ -30,7 +31,7 @@ loop-place-preserved g c =
       is = λ seated.
           one_more_placed 65536 c.loop-place._place (moment_of old.state) number c.loop-place.after c.place_one-after.result (around old c.args.links.now (top c.args.world.now)) here there
           (log c.args.world.now) (log c.loop-place.world) (log c.place_one-after.new.world) (faults c.args.world.now) (faults c.loop-place.world) (faults c.place_one-after.new.world) c.loop-place-test.true (before.is seated) waits
-          (subst (λ (d : Desk). Leads (IsPlaced (moment_of d.state) number) here there (log c.loop-place.world) (log c.place_one-after.new.world) (faults c.loop-place.world) (faults c.place_one-after.new.world)) before.rest (step.is (subst (λ (ns : List ℕ). AreInOrder ns) (sym before.numbers) seated)))
+          (subst (λ (d : Desk). LeadsOn (IsPlaced (moment_of d.state) number) here there (log c.loop-place.world) (log c.place_one-after.new.world) (faults c.loop-place.world) (faults c.place_one-after.new.world)) before.rest (step.is (subst (λ (ns : List ℕ). AreInOrder ns) (sym before.numbers) seated)))
           (step.after ∙ ap (λ (d : Desk). goes_on_behind (place_for d.state.limits number (sides mid)) number) before.rest);
       numbers = step.numbers ∙ before.numbers;
       rest = kept_then old mid new before.rest step.rest;
