@@ -17,7 +17,7 @@ use pp_links::Links;
 use pp_peers::{Peer, Peers};
 use pp_pipe::Pipe;
 use pp_seats::Seat;
-use pp_state::{is_any_over, lose_line};
+use pp_state::{State, is_any_over, lose_line};
 use pp_world::Wire;
 
 impl Desk {

@@ -1,5 +1,5 @@
 // The memory of the proxy, which is taken once.
-ghost use Rattle.std.specs.Prelude.{◌≡◌, ◌-◌, ◌/◌, [], None, IfOk, max, min, string_bytes};
+ghost use Rattle.std.specs.Prelude.{◌≡◌, [], None, IfOk, string_bytes};
 ghost use Rattle.pp_conf.specs.Logs.{log_place, shown_place};
 ghost use Rattle.pp_desk.specs.Opening.{HasBuffers, HasRoom, IsNew, IsSet, is_logged};
 
