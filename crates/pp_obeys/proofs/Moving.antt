@@ -1,5 +1,5 @@
 -- Several happenings, one behind the other: what holds behind the last, and where they lead.
-use Rattle.std.proofs.Common.{◌≡◌, refl, sym, subst, [], ◌∷◌, ◌++◌}
+use Rattle.std.proofs.Common.{◌≡◌, sym, subst, [], ◌∷◌, ◌++◌}
 use Rattle.pp_law.specs.After.{after}
 use Rattle.pp_law.specs.State.{State}
 use Rattle.pp_obeys.specs.Calls.{LeadsJoin}

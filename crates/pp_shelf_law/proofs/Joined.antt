@@ -1,5 +1,5 @@
 -- The calls of the disk in a turn, each with its note.
-use Rattle.std.proofs.Common.{◌≡◌, refl, sym, subst, ap, ◌∙◌, ℕ, ◌+◌, IfOk, is_ok, [], ◌∷◌, ◌++◌, length, Result, Some}
+use Rattle.std.proofs.Common.{◌≡◌, sym, subst, ap, ◌∙◌, ℕ, ◌+◌, IfOk, is_ok, [], ◌∷◌, ◌++◌, length, Result, Some}
 use Rattle.pp_entry.specs.Entries.{Row}
 use Rattle.pp_gate.specs.Runs.{Ran}
 use Rattle.pp_law.specs.Lists.{Bytes}
@@ -49,7 +49,10 @@ takings_lead old mid new before between now shelf key result note runs =
 sealed_so : (shelf : KeptMap) (s : State) (x : Instance) (e : Entry) (kept : Kept) (key : Bytes) (version : Version) (bytes : Bytes) (result : Result ℕ DiskFault) (hs : Log) → x.key ≡ key → x.version ≡ version → kept_of key shelf ≡ Some kept
     → IfOk result (λ extent. extent ≡ kept.extent + length bytes) → Ran (extend_ops kept bytes) (is_ok result) hs → IsResting shelf s → HasOneRow s → IsToSeal s x e bytes
     → LeadsTo (hs ++ seal_note key version result ∷ []) s (sealed x e result hs s) (extended_after result key shelf)
-sealed_so shelf s x e kept key version bytes result hs refl refl there extent are rests alone due = seals shelf s x e kept bytes result hs rests alone due there are extent
+sealed_so shelf s x e kept key version bytes result hs is_key is_version there extent are rests alone due =
+    subst (λ (k : Bytes). LeadsTo (hs ++ seal_note k version result ∷ []) s (sealed x e result hs s) (extended_after result k shelf)) is_key
+    (subst (λ (v : Version). LeadsTo (hs ++ seal_note x.key v result ∷ []) s (sealed x e result hs s) (extended_after result x.key shelf)) is_version
+    (seals shelf s x e kept bytes result hs rests alone due (ap (λ (k : Bytes). kept_of k shelf) is_key ∙ there) are extent))
 
 run : (shelf : KeptMap) (kept : Kept) (key : Bytes) (version : Version) (bytes : Bytes) (result : Result ℕ DiskFault) → kept_of key shelf ≡ Some kept → IfOk result (λ extent. extent ≡ kept.extent + length bytes) → (hs : Log)
     → Both (Ran (extend_ops kept bytes) (is_ok result)) (Is (seal_note key version result ∷ [])) hs → SealsRun shelf kept key version bytes result hs
@@ -73,7 +76,11 @@ seals_lead old mid new before between now shelf kept key version bytes result th
 drafted_so : (shelf : KeptMap) (s : State) (x : Instance) (entry : Row) (extent : ℕ) (kept : Bytes) (result : Result (Unit {0}) KeepFault) (hs : Log) → entry_with x.key x.version x.fields x.times ≡ entry → drafted_with s x ≡ extent
     → RanKeep (name_of entry.key) (file_with entry kept) result hs → IsResting shelf s → HasOneRow s → IsToDraft s x kept
     → LeadsTo (hs ++ draft_notes entry.key entry.version extent result) s (drafted x extent result hs s) (kept_after result entry extent shelf)
-drafted_so shelf s x entry extent kept result hs refl refl are rests alone due = drafts shelf s x kept result hs rests alone due are
+drafted_so shelf s x entry extent kept result hs is_entry is_extent are rests alone due =
+    let own : Row = entry_with x.key x.version x.fields x.times in
+    subst (λ (en : Row). LeadsTo (hs ++ draft_notes en.key en.version extent result) s (drafted x extent result hs s) (kept_after result en extent shelf)) is_entry
+    (subst (λ (n : ℕ). LeadsTo (hs ++ draft_notes own.key own.version n result) s (drafted x n result hs s) (kept_after result own n shelf)) is_extent
+    (drafts shelf s x kept result hs rests alone due (subst (λ (en : Row). RanKeep (name_of en.key) (file_with en kept) result hs) (sym is_entry) are)))
 
 row : (shelf : KeptMap) (entry : Row) (extent : ℕ) (kept : Bytes) (result : Result (Unit {0}) KeepFault) (hs : Log) → Both (RanKeep (name_of entry.key) (file_with entry kept) result) (Is (draft_notes entry.key entry.version extent result)) hs → DraftsRow shelf entry extent kept result hs
 row shelf entry extent kept result hs are =
