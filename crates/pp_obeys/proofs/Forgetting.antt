@@ -52,7 +52,7 @@ handled_next : (s : State) → s.phase ≡ Handling → next s ≡ in_phase Evic
 unfolding next
 handled_next s is = ap (λ (p : Phase). behind p s) is
 
-left_for : Instance → State → State
+abbrev left_for : Instance → State → State
 left_for x t = record (forget x.id t) { has_made_room = decides_for (first_due t) }
 
 leads_by : (s : State) (how : Leaving) → IsDone s → is_at Evicting s ≡ false → leave_memory how s ≡ leave_memory how (next s)
