@@ -32,14 +32,13 @@ impl Desk {
         ensures nobody { IfOk result (λ d. d.turned_away ≡ None) }
         ensures logs { IfOk result (λ d. d.logs_replies ≡ is_logged (log_place (string_bytes conf.now.access_log))) }
     {
-        let state = state_of(alloc, conf)?;
         Ok(Desk {
-            state,
             peers: Peers::new(alloc)?,
             buffer: vec![in alloc; 0; READ_LEN]?,
             data: Vec::with_capacity(alloc, READ_LEN)?,
             room: Box::new(alloc, Room::new()).map_err(AllocError::from)?,
             file: vec![in alloc; 0; FILE_LEN]?,
+            state: state_of(alloc, conf)?,
             turned_away: None,
             logs_replies: is_logged(&conf.log_place()),
         })
@@ -64,10 +63,6 @@ fn state_of(alloc: Global, conf: &Conf) -> Result<State, OutOfMemory>
             host_connections: conf.host_connections,
             pipelines_asks: conf.pipeline_asks,
         },
-        seats: Vec::with_capacity(alloc, MAX_CLIENTS)?,
-        awake: Vec::with_capacity(alloc, MAX_CLIENTS)?,
-        flow: Flow::new(alloc)?,
-        cache: Cache::new(alloc, conf.critical)?,
         run: conf.disk_run.min(conf.critical / RUNS_OF_POOL).max(1),
         has_lost_draft: false,
         now: 0,
@@ -75,8 +70,12 @@ fn state_of(alloc: Global, conf: &Conf) -> Result<State, OutOfMemory>
         is_ticked: false,
         is_stopped: false,
         is_evicting: false,
+        awake: Vec::with_capacity(alloc, MAX_CLIENTS)?,
         forgotten: Noted::new(alloc)?,
         refused: Noted::new(alloc)?,
+        seats: Vec::with_capacity(alloc, MAX_CLIENTS)?,
+        flow: Flow::new(alloc)?,
+        cache: Cache::new(alloc, conf.critical)?,
     })
 }
 

@@ -25,7 +25,7 @@ pub(crate) fn open<W: World>(alloc: Global, conf: &Conf, world: &mut W) -> Exit
     ensures told { OpensOn [] conf.now.root conf.now.port conf.now.max_turns result (W.log world.old) (W.log world.new) (W.faults world.old) (W.faults world.new) }
 {
     match Proxy::open(alloc, conf) {
-        Ok(proxy) => open_folder(alloc, proxy, conf, world),
+        Ok(mut proxy) => open_folder(alloc, &mut proxy, conf, world),
         Err(_) => {
             world.print(NO_MEMORY_LINE.as_bytes());
             Exit::NoMemory
@@ -34,13 +34,13 @@ pub(crate) fn open<W: World>(alloc: Global, conf: &Conf, world: &mut W) -> Exit
 }
 
 /// Opens the folder, listens, and serves where it may.
-fn open_folder<W: World>(alloc: Global, proxy: Proxy, conf: &Conf, world: &mut W) -> Exit
-    requires links { proxy.links ≡ [] }
+fn open_folder<W: World>(alloc: Global, proxy: &mut Proxy, conf: &Conf, world: &mut W) -> Exit
+    requires links { proxy.old.links ≡ [] }
     requires fresh { Told (W.log world.old) (λ l. (files : Files) × IsFresh files l) }
     ensures told { OpensOn [] conf.now.root conf.now.port conf.now.max_turns result (W.log world.old) (W.log world.new) (W.faults world.old) (W.faults world.new) }
 {
     match Shelf::open(alloc, world, conf.root.as_slice()) {
-        Ok(shelf) => listen(proxy, shelf, &door_of(conf), conf.max_turns, world),
+        Ok(mut shelf) => listen(proxy, &mut shelf, &door_of(conf), conf.max_turns, world),
         Err(RecoverFault::DiskFault) => {
             world.print(NO_DISK_LINE.as_bytes());
             Exit::NoDisk
@@ -69,14 +69,14 @@ fn door_of(conf: &Conf) -> Door<'_>
 
 /// Listens, and serves where it may.
 fn listen<W: World>(
-    proxy: Proxy,
-    shelf: Shelf,
+    proxy: &mut Proxy,
+    shelf: &mut Shelf,
     door: &Door<'_>,
     most_turns: u64,
     world: &mut W,
 ) -> Exit
-    requires links { proxy.links ≡ [] }
-    requires holds { Told (W.log world.old) (Holds anything shelf) }
+    requires links { proxy.old.links ≡ [] }
+    requires holds { Told (W.log world.old) (Holds anything shelf.old) }
     ensures told { ListensAs door.now.port most_turns result (W.log world.old) (W.log world.new) (W.faults world.old) (W.faults world.new) }
 {
     match world.listen(door) {
@@ -92,13 +92,13 @@ fn listen<W: World>(
 }
 
 /// Makes turns until the world stops it, or for the most turns that there may be.
-fn serve<W: World>(mut proxy: Proxy, mut shelf: Shelf, most_turns: u64, world: &mut W)
-    requires links { proxy.links ≡ [] }
-    requires holds { Told (W.log world.old) (Holds anything shelf) }
+fn serve<W: World>(proxy: &mut Proxy, shelf: &mut Shelf, most_turns: u64, world: &mut W)
+    requires links { proxy.old.links ≡ [] }
+    requires holds { Told (W.log world.old) (Holds anything shelf.old) }
     ensures { GrowsBy [] (GoesUpTo most_turns) (W.log world.old) (W.log world.new) }
 {
     for _turn in 0..most_turns {
-        if let Turn::Stopped = proxy.turn(&mut shelf, world) {
+        if let Turn::Stopped = proxy.turn(shelf, world) {
             return;
         }
     }

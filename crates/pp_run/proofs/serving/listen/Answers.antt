@@ -3,7 +3,7 @@ use Rattle.pp_run.proofs.Folders.{holds_listened, listens_and_goes, may_not}
 use Rattle.pp_run.proofs.serving.listen.Goals as goal
 
 pub serve-requires-clause-holds : goal.serve-requires-clause-holds
-serve-requires-clause-holds g c = holds_listened c.args.door.now.port c.args.shelf c.in-Ok.ensures.told c.requires.holds
+serve-requires-clause-holds g c = holds_listened c.args.door.now.port c.args.shelf.now c.in-Ok.ensures.told c.requires.holds
 
 pub returns-in-Ok : goal.returns-in-Ok
 returns-in-Ok g c = record { told = listens_and_goes c.args.door.now.port c.args.most_turns c.in-Ok.ensures.told c.serve.ensures }

@@ -16,8 +16,8 @@ returns-in-Err-DiskFault g c =
           (rw c.as_bytes.ensures.value at (c.print.ensures.told)) c.print.ensures.faults;
     }
 
-pub returns : goal.returns
-returns g c =
+pub returns-in-Err-OutOfMemory : goal.returns-in-Err-OutOfMemory
+returns-in-Err-OutOfMemory g c =
     let refused = c.in-Err-OutOfMemory in
     record {
       told = wants_memory c.args.conf.now.root
