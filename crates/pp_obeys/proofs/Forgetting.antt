@@ -52,13 +52,8 @@ handled_next : (s : State) → s.phase ≡ Handling → next s ≡ in_phase Evic
 unfolding next
 handled_next s is = ap (λ (p : Phase). behind p s) is
 
-<<<<<<< HEAD
-left_for : Instance → State → State
-left_for x t = record (forget x.id t) { made_room_for = decides_for (first_due t) }
-=======
 abbrev left_for : Instance → State → State
 left_for x t = record (forget x.id t) { made_room_for = decides_for (first_due t) }
->>>>>>> l-2
 
 leads_by : (s : State) (how : Leaving) → IsDone s → is_at Evicting s ≡ false → leave_memory how s ≡ leave_memory how (next s)
 unfolding leave_memory
