@@ -20,7 +20,7 @@ use Rattle.pp_valid.specs.EndToEnd.{end_to_end_values}
 use Rattle.pp_valid.specs.Kept.{date_value, is_renewed, is_written_anew, lasting_fields}
 use Rattle.pp_shelf_law.specs.AsKept.{KeptOnesAreAllowed}
 use Rattle.pp_shelf_law.proofs.Assigned.{assigned_read}
-use Rattle.pp_shelf_law.proofs.KeptFields.{PlaceOf, dated_by, placed}
+use Rattle.pp_shelf_law.proofs.KeptFields.{PlaceOf, control, date, dated_by, expires, lasting, placed}
 
 -- ---- their order
 
