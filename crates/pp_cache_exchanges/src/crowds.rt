@@ -1,4 +1,9 @@
 // Followers of a body, each stopped before a chunk of it, and the chunks that leave memory where more comes than fits.
+//
+// Byte by byte come all requests, the heads, and of each chunk of both pages the first byte and the last; of the last chunk of page
+// /b, with whose first byte the memory is as full as it gets, the first 256. What is between comes in one piece at either pace: a
+// byte that comes and is said is six happenings, of some 5 KB each in the log of the world, so that all bytes alone would take
+// some 60 GB, in the smallest memory that is.
 use crate::folders::asked_in;
 use crate::lengths::LONGEST;
 use pp_play::{
@@ -56,16 +61,14 @@ pub(crate) fn unlike(alloc: Global, crowds: &[Crowd]) -> Result<String, OutOfMem
 /// The clients of page /a have the numbers from this one on.
 const FIRST: u64 = 3;
 
-/// So many bytes of the last chunk come alone, where each byte does.
+/// So many bytes of the last chunk of page /b come alone, where each byte does.
 const ALONE: usize = 256;
 
-/// Byte by byte come the requests for both pages and their heads, the front of the last chunk of page /b, with whose first byte
-/// the memory is as full as it gets, and what is asked behind it. The followers' requests and the rest of both pages, millions
-/// of bytes, come whole at either pace.
 fn played(alloc: Global, pace: Pace, crowd: &Crowd) -> Result<Played, OutOfMemory> {
     let requests = requests_of(alloc, crowd)?;
     let anew = request_of(alloc, first_left(crowd))?;
     let beyond = FIRST.saturating_add(crowd.followers);
+    let origin = beyond.saturating_add(1);
     let mut acts = Vec::new(alloc);
     acts.extend_from_slice(&[
         Act::Tick(T),
@@ -73,25 +76,24 @@ fn played(alloc: Global, pace: Pace, crowd: &Crowd) -> Result<Played, OutOfMemor
         Act::Say(1, GET),
         Act::Reach(2),
         Act::Answer(2, LONGEST),
-        Act::FillWhole(2, b'a', crowd.chunks.saturating_mul(CHUNK_LEN)),
+        Act::FillChunks(2, b'a', crowd.chunks),
     ])?;
     for request in requests.iter() {
         acts.extend_from_slice(&[
             Act::Connect,
             Act::Window(0, 0),
-            Act::SayWhole(0, request.as_bytes()),
+            Act::Say(0, request.as_bytes()),
         ])?;
     }
-    let origin = beyond.saturating_add(1);
-    let before_last = crowd.more.saturating_sub(1).saturating_mul(CHUNK_LEN);
     acts.extend_from_slice(&[
         Act::Connect,
         Act::Say(0, GET_B),
         Act::Reach(origin),
         Act::Answer(origin, LONGEST),
-        Act::FillWhole(origin, b'b', before_last),
+        Act::FillChunks(origin, b'b', crowd.more.saturating_sub(1)),
         Act::Fill(origin, b'b', ALONE),
-        Act::FillWhole(origin, b'b', CHUNK_LEN - ALONE),
+        Act::FillWhole(origin, b'b', CHUNK_LEN - ALONE - 1),
+        Act::Fill(origin, b'b', 1),
     ])?;
     for follower in FIRST..beyond {
         acts.push(Act::Window(follower, u64::MAX))

@@ -58,13 +58,19 @@ mod on_disk; // what is kept on the disk, and when
 #[cfg(test)]
 mod lines; // a log as it is written down, line by line
 #[cfg(test)]
-mod whole_chunks; // of pages of several chunks
+mod whole_asks; // of asks that lose their place
+#[cfg(test)]
+mod whole_chunks; // of a page whose chunks are kept each alone
 #[cfg(test)]
 mod whole_foreign; // over an entry of another key
 #[cfg(test)]
 mod whole_lives; // through a crash
 #[cfg(test)]
 mod whole_log; // of a page that is fetched
+#[cfg(test)]
+mod whole_runs; // of a page whose chunks are kept in runs
+#[cfg(test)]
+mod whole_versions; // of a page that another version replaces
 
 // More than fits.
 #[cfg(test)]

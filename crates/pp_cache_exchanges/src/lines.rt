@@ -22,6 +22,8 @@ pub(crate) enum Line<'a> {
     /// A client was offered so many bytes, and took these.
     Said(u64, u64, &'a [u8]),
     Dialled(u64, &'a [u8], u16),
+    /// A dial of this host and port failed.
+    Undialled(&'a [u8], u16),
     Asked(u64, &'a [u8]),
     Got(u64, &'a [u8]),
     /// So many of this byte, behind the text of the line before.
@@ -47,7 +49,7 @@ pub(crate) enum Line<'a> {
 /// What is done at this pace, with these words, and the log of it through all lives: parts of each, one behind the other.
 ///
 /// Where every byte comes alone, a text that is heard or got stands for its bytes, each but the first behind a wait as the one
-/// before.
+/// before; what fills a text without a byte came in one piece.
 pub(crate) struct Told {
     pub(crate) name: &'static str,
     pub(crate) words: &'static [&'static str],
@@ -118,7 +120,9 @@ fn put<'a>(line: Line<'a>, lines: &mut Vec<Line<'a>>) -> Result<(), OutOfMemory>
 /// Adds a line, or those of each byte that it stands for.
 fn put_bytewise<'a>(line: Line<'a>, lines: &mut Vec<Line<'a>>) -> Result<(), OutOfMemory> {
     match line {
-        Line::Heard(id, text) | Line::Got(id, text) => put_read(line, id, text, lines),
+        Line::Heard(id, text) | Line::Got(id, text) if !text.is_empty() => {
+            put_read(line, id, text, lines)
+        }
         Line::Streamed(k, c, text, times) => put_streamed(k, c, text, times, lines),
         other => put(other, lines),
     }
@@ -263,6 +267,7 @@ fn text_line_of(happening: &Happening) -> Line<'_> {
         Happening::Heard(c, bytes) => Line::Heard(*c, bytes.as_slice()),
         Happening::Said(c, offered, bytes) => Line::Said(*c, *offered, bytes.as_slice()),
         Happening::Dialled(k, host, port) => Line::Dialled(*k, host.as_slice(), *port),
+        Happening::Undialled(host, port) => Line::Undialled(host.as_slice(), *port),
         Happening::Asked(k, bytes) => Line::Asked(*k, bytes.as_slice()),
         Happening::Got(k, bytes) => Line::Got(*k, bytes.as_slice()),
         other => disk_line_of(other),

@@ -31,9 +31,10 @@ pub enum Act<'a> {
     Answer(u64, &'a [u8]),
     /// An origin sends so many of this byte.
     Fill(u64, u8, usize),
-    /// A client sends this text, and an origin so many of this byte, in one piece at either pace.
-    SayWhole(u64, &'a [u8]),
+    /// The same in one piece, at either pace.
     FillWhole(u64, u8, usize),
+    /// So many chunks of this byte: where every byte comes alone, the first and the last one of each chunk do.
+    FillChunks(u64, u8, usize),
     /// An origin will send no more.
     End(u64),
     /// The next read or write of this connection fails.
@@ -46,6 +47,9 @@ pub enum Act<'a> {
     /// begins over what the crash leaves by this choice.
     Crash(Option<Op>, u64),
 }
+
+/// How long a chunk is.
+const CHUNK_LEN: usize = 4_096;
 
 /// How texts come.
 #[derive(Clone, Copy, Debug, PartialEq, Eq)]
@@ -323,15 +327,9 @@ fn put_cues(
             Ok(())
         }
         Act::Answer(k, text) => put_answers(alloc, pace, k, text, cues),
-        Act::Fill(k, byte, count) => {
-            let text = vec![in alloc; byte; count]?;
-            put_answers(alloc, pace, k, text.as_slice(), cues)
-        }
-        Act::SayWhole(c, text) => put(Cue::Say(c, Octets::copy(alloc, text)?), cues),
-        Act::FillWhole(k, byte, count) => {
-            let text = vec![in alloc; byte; count]?;
-            put_answers(alloc, Pace::Whole, k, text.as_slice(), cues)
-        }
+        Act::Fill(k, byte, count) => put_fill(alloc, pace, k, byte, count, cues),
+        Act::FillWhole(k, byte, count) => put_fill(alloc, Pace::Whole, k, byte, count, cues),
+        Act::FillChunks(k, byte, count) => put_chunks(alloc, pace, k, byte, count, cues),
         Act::Tick(seconds) => put(Cue::Tick(seconds), cues),
         Act::Connect => put(Cue::Connect, cues),
         Act::HangUp(c) => put(Cue::HangUp(c), cues),
@@ -343,6 +341,39 @@ fn put_cues(
         Act::Stop => put(Cue::Stop, cues),
         Act::Failing(_) | Act::Crash(_, _) => Ok(()),
     }
+}
+
+/// Adds the cues of so many chunks of this byte.
+fn put_chunks(
+    alloc: Global,
+    pace: Pace,
+    k: u64,
+    byte: u8,
+    count: usize,
+    cues: &mut Vec<Cue>,
+) -> Result<(), OutOfMemory> {
+    if pace == Pace::Whole {
+        return put_fill(alloc, pace, k, byte, count.saturating_mul(CHUNK_LEN), cues);
+    }
+    for _chunk in 0..count {
+        put_fill(alloc, pace, k, byte, 1, cues)?;
+        put_fill(alloc, Pace::Whole, k, byte, CHUNK_LEN - 2, cues)?;
+        put_fill(alloc, pace, k, byte, 1, cues)?;
+    }
+    Ok(())
+}
+
+/// Adds the cues of so many of this byte.
+fn put_fill(
+    alloc: Global,
+    pace: Pace,
+    k: u64,
+    byte: u8,
+    count: usize,
+    cues: &mut Vec<Cue>,
+) -> Result<(), OutOfMemory> {
+    let text = vec![in alloc; byte; count]?;
+    put_answers(alloc, pace, k, text.as_slice(), cues)
 }
 
 /// Adds the cues of a text that an origin sends.
