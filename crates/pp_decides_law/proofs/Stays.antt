@@ -77,7 +77,7 @@ count_one s (c ∷ cs) n i d is = by (due_of s c) (is_client n c) refl refl is (
         → (first_some (due_of s) cs ≡ Some (Decide n i d) → 1 ≤ count_by (is_client n) cs) → 1 ≤ count_by (is_client n) (c ∷ cs)
     by o true due here at rest = subst (λ (k : ℕ). 1 ≤ k) (sym (count_first (is_client n) c cs ∙ ap (λ (b : Bool). cond b 1 0 + count_by (is_client n) cs) here)) (omega arith)
     by (Some y) false due here at rest = absurd (cc (sym here ∙ its_number c n (names_of s c n i d (due ∙ at))))
-    by None false due here at rest = subst (λ (k : ℕ). 1 ≤ k) (sym (count_first (is_client n) c cs ∙ ap (λ (b : Bool). cond b 1 0 + count_by (is_client n) cs) here)) (rest at)
+    by None false due here at rest = subst (λ (k : ℕ). 1 ≤ k) (sym (count_first (is_client n) c cs ∙ ap (λ (b : Bool). cond b 1 0 + count_by (is_client n) cs) here)) (omega (arith, rest at))
 
 -- where numbers are distinct, the client of that number has what is due first
 its_due : (s : State) (cs : List Client) (n i : ℕ) (d : Decision) (c : Client) → first_some (due_of s) cs ≡ Some (Decide n i d) → find (is_client n) cs ≡ Some c → count_by (is_client n) cs ≤ 1 → due_of s c ≡ Some (Decide n i d)
@@ -92,7 +92,7 @@ its_due s (e ∷ es) n i d c first found few = by (due_of s e) (is_client n e) r
     by (Some y) true due here at there rest = ap (due_of s) (sym (some_is e c there)) ∙ due ∙ at
     by (Some y) false due here at there rest = absurd (cc (sym here ∙ its_number e n (names_of s e n i d (due ∙ at))))
     by None true due here at there rest = absurd (omega (arith, counted true here, count_one s es n i d at))
-    by None false due here at there rest = rest at there (counted false here)
+    by None false due here at there rest = rest at there (omega (arith, counted false here))
 
 -- ---- without the row
 

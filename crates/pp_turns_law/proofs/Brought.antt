@@ -34,7 +34,7 @@ source_same s key e None there = refl
 source_same s key e (Some id) there =
     find_joined (is_instance id) s.instances (known_of s key e ∷ []) ∙ ap (λ (o : Option Instance). first_of_two o (find (is_instance id) (known_of s key e ∷ []))) (there id refl).1 ∙ sym (there id refl).1
 
-abbrev next_by : State → Option Reply → Option Next
+abbrev pub next_by : State → Option Reply → Option Next
 next_by s o = elim o [ None ↦ None | Some r ↦ next_in s r ]
 
 reply_same : (s : State) (key : Bytes) (e : Entry) (o : Option Reply) → ((r : Reply) (id : ℕ) → o ≡ Some r → r.source ≡ Some id → (x : Instance) × (instance s id ≡ Some x)) → next_by (grown s key e) o ≡ next_by s o

@@ -1,12 +1,13 @@
-use Rattle.std.proofs.Common.{◌≡◌, ◌∙◌, ap, sym, List, ℕ, length, Option, Some, option_copied, option_map, refl}
+use Rattle.std.proofs.Common.{◌≡◌, ◌∙◌, ap, sym, List, [], ℕ, length, le_refl, Option, None, Some, option_copied, option_map, refl}
 use Rattle.pp_flow.specs.Changes.{entry_of}
 use Rattle.pp_flow.specs.declared.entry.Entry.{Entry}
 use Rattle.pp_peers.specs.declared.peers.Peer.{Peer}
-use Rattle.pp_places.specs.Around.{around, moment_of}
-use Rattle.pp_desk.specs.Closings.{Sides, sides}
+use Rattle.pp_places.specs.Around.{around, moment_of, with_sides}
+use Rattle.pp_desk.specs.Closings.{Sides, sides, with_parts}
 use Rattle.pp_places.specs.Placing.{dial_log, dials_to, host_of, met_by, with_new}
 use Rattle.pp_desk.specs.declared.desk.Desk.{Desk}
-use Rattle.pp_places.proofs.PlacingLemmas.{dial_counted, dial_told, dialled_for, dialled_to}
+use Rattle.pp_places.proofs.PlacingLemmas.{dial_counted, dial_told, dialled_for, dialled_to, leads_silently}
+use Rattle.pp_state.specs.Ends.{Parts, ended}
 use Rattle.pp_places.proofs.dialling.dial.Goals as goal
 
 pub returns-clause-is : goal.returns-clause-is
@@ -45,3 +46,17 @@ returns-clause-is g c = λ seated.
       told = dial_told (length c.args.links.now) host port answer step.told (λ many. (step.full many).0) (λ many. ap g.W.Logged.log (step.full many).1) step.refused;
       counted = dial_counted (length c.args.links.now) host port answer step.cause step.faults;
     }
+
+-- where none may be dialled, the exchange is over
+pub returns-in_default-dials_to-clause-is : goal.returns-in_default-dials_to-clause-is
+returns-in_default-dials_to-clause-is g c = λ seated.
+    let old : Desk = c.args.desk.now in
+    let m = moment_of old.state in
+    let number = c.args.number in
+    let e : Entry = c.in-Some.entry.now in
+    let x = around old c.args.links.now (g.W.Logged.top c.args.world.now) in
+    let y = around (record old { state = c.end.new.self }) c.args.links.now (g.W.Logged.top c.args.world.now) in
+    let there : Some e ≡ entry_of number old.state.flow = sym (ap (option_map (λ entry. entry.now)) c.in-Some.is) ∙ c.entry.ensures in
+    let none : None ≡ dials_to (host_of e) old.peers = sym (ap option_copied c.in_default-dials_to.is) ∙ c.dials_to.ensures.is in
+    let over : y ≡ with_sides (with_parts (ended number)) x = ap (λ (p : Parts). record x { sides = record x.sides { parts = p } }) c.end.ensures.is in
+    leads_silently refl (le_refl _) (dialled_for m number x [] y (Some e) there (dialled_to m number e x [] y None none (refl, over)))
