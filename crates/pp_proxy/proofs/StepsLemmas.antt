@@ -7,7 +7,7 @@ use Rattle.pp_desk.specs.declared.desk.Desk.{Desk}
 use Rattle.pp_flow.specs.Changes.{numbers as flow_numbers}
 use Rattle.pp_links.proofs.FailureLemmas.{counted_none, counted_then}
 use Rattle.pp_places.proofs.PlacingLemmas.{told_then}
-use Rattle.pp_places.specs.Around.{Leads, around, moment_of}
+use Rattle.pp_places.specs.Around.{around, moment_of}
 use Rattle.pp_places.specs.Placing.{ArePlaced}
 use Rattle.pp_proxy.proofs.LeadingLemmas.{closings_fail}
 use Rattle.pp_proxy.specs.Closing.{ClosesOver}
@@ -40,7 +40,7 @@ pub closes_on : (x y : Moving) (old new : Option Log) (before now : ℕ) → Clo
 closes_on x y old new before now is told more =
     record { added = closings (all_over x.desk) x.links; is = is; told = told; counted = counted_none (closings (all_over x.desk) x.links) (closings_fail (all_over x.desk) x.links) more }
 
-pub places_on : (x y : Moving) (old new : Option Log) (before now : ℕ) → Leads (ArePlaced 65536 (moment_of x.desk.state) None) (around x.desk x.links x.top) (around y.desk y.links y.top) old new before now
+pub places_on : (x y : Moving) (old new : Option Log) (before now : ℕ) → LeadsOn (ArePlaced 65536 (moment_of x.desk.state) None) (around x.desk x.links x.top) (around y.desk y.links y.top) old new before now
     → numbers_of y.desk.state.seats.items ≡ numbers_of x.desk.state.seats.items → KeepsDesk x.desk y.desk → LeadsOn Places x y old new before now
 places_on x y old new before now led numbers rest = record { added = led.added; is = record { is = led.is; numbers = numbers; rest = rest }; told = led.told; counted = led.counted }
 

@@ -93,7 +93,6 @@ pub record HearsAt (i : ℕ) (x y : Turning) : Type 0 where
   pub hears : Hears (length roused.buffer.items) i roused.state.awake.items x.moving.links (sides roused) (sides y.moving.desk) x.log y.log
   pub numbers : numbers_of y.moving.desk.state.seats.items ≡ numbers_of x.moving.desk.state.seats.items
   pub rest : KeepsDesk roused (record y.moving.desk { buffer = roused.buffer })
-  pub long : length y.moving.desk.buffer.items ≡ length roused.buffer.items
   pub one : IsOfOne x y
 
 -- an origin is offered what is left to ask

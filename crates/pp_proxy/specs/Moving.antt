@@ -1,12 +1,12 @@
 -- What a turn changes together, and what the log gets of it (ours).
-use Rattle.std.specs.Prelude.{ℕ, ◌+◌, ◌≤◌, count_by, List, Option}
+use Rattle.std.specs.Prelude.{ℕ, ◌≤◌, List, Option}
 use Rattle.pp_desk.specs.declared.desk.Desk.{Desk}
-use Rattle.pp_links.specs.Failures.{fails}
+pub use Rattle.pp_links.specs.Leading.{LeadsOn}
 use Rattle.pp_links.specs.Links.{IsLinked, Link}
 use Rattle.pp_shelf.specs.Steady.{GrowsSteadily}
 use Rattle.pp_state.specs.declared.state.State.{State}
 use Rattle.pp_store.specs.Kept.{KeptMap}
-use Rattle.pp_world.specs.Log.{AppendsAll, Log, Told}
+use Rattle.pp_world.specs.Log.{Log}
 
 -- ---- the desk, the connections that are open, and the greatest number that was given
 
@@ -23,13 +23,6 @@ with_desk d x = record x { desk = d }
 
 abbrev pub with_state : State → Moving → Moving
 with_state s x = record x { desk = record x.desk { state = s } }
-
--- one leads to the other, the log gets what belongs to that, and of the failures in it, where it is told, the outside counted each
-pub record LeadsOn (Step : Moving → Log → Moving → Type 0) (x y : Moving) (old new : Option Log) (before now : ℕ) : Type 0 where
-  pub added : Log
-  pub is : Step x added y
-  pub told : AppendsAll old new (λ l. added)
-  pub counted : Told new (λ l. before + count_by fails added ≤ now)
 
 -- ---- the same with what is kept on the disk, and what the outside tells and counts
 
