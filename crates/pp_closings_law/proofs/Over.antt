@@ -11,7 +11,7 @@ use Rattle.pp_flow.specs.Changes.{Exchanges, line_of}
 use Rattle.pp_flow_law.proofs.Entries.{same_number}
 use Rattle.pp_law.specs.Closing.{left_alone}
 use Rattle.pp_law.specs.Connections.{conn, end_exchange, exchange, is_conn, on_exchange, without_ask}
-use Rattle.pp_law.specs.Lists.{Bytes, change, has_number, without}
+use Rattle.pp_law.specs.Lists.{Bytes, change, has_number}
 use Rattle.pp_law.specs.State.{State, Conn, Exchange}
 use Rattle.pp_peers.specs.Peers.{is_number, with_pipe}
 use Rattle.pp_peers.specs.declared.peers.Peer.{Peer}
