@@ -1,5 +1,5 @@
 // What is waited for of the clients, and what a wait changes. It is ours.
-ghost use Rattle.std.specs.Prelude.{◌≡◌, filter, map};
+ghost use Rattle.std.specs.Prelude.{◌≡◌, filter, map, vec_capacity};
 ghost use Rattle.std.specs.List.{fold};
 ghost use Rattle.pp_state.specs.Ends.{AreInOrder, changed_at, numbers_of};
 ghost use Rattle.pp_state.specs.Readers.{furthest_read, is_brought_to, is_far_ahead, is_past, next_at, read_at};
@@ -31,6 +31,7 @@ pub fn note_clients(state: &mut State, wants: &mut Wants)
     ensures read { AreInOrder wants.old.read.items → wants.new.read.items ≡ all_read state.old wants.old.read.items }
     ensures write { wants.new.write.items ≡ all_written state.old wants.old.write.items }
     ensures accept { wants.new.accept ≡ wants.old.accept }
+    ensures capacity { vec_capacity state.new.awake ≡ vec_capacity state.old.awake }
     ensures rest { record state.new { awake = state.old.awake } ≡ state.old }
 {
     if state.awake.len() == state.seats.len() {
@@ -75,6 +76,7 @@ fn is_written(state: &State, seat: &Seat) -> bool
 pub fn rest_client(state: &mut State, i: usize)
     ensures is { state.new.seats.items ≡ changed_at i (rested_seat state.old) state.old.seats.items }
     ensures numbers { numbers_of state.new.seats.items ≡ numbers_of state.old.seats.items }
+    ensures capacity { vec_capacity state.new.seats ≡ vec_capacity state.old.seats }
     ensures rest { record state.new { seats = state.old.seats } ≡ state.old }
 {
     if i < state.seats.len() {
@@ -223,7 +225,8 @@ fn note_written(written: &mut ArrayVec<u64, MOST>, id: u64, is_written: bool)
 
 /// Whoever is silent is not looked at.
 fn keep_loud(seats: &[Seat], awake: &mut Vec<usize>)
-    ensures { awake.new.items ≡ filter (is_loud seats.now) awake.old.items }
+    ensures items { awake.new.items ≡ filter (is_loud seats.now) awake.old.items }
+    ensures capacity { vec_capacity awake.new ≡ vec_capacity awake.old }
 {
     awake.retain(|i| is_loud(seats, *i));
 }

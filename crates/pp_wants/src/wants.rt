@@ -1,5 +1,5 @@
 // What is waited for, so that nobody waits on nothing, and what a wait changes. It is ours.
-ghost use Rattle.std.specs.Prelude.{◌≡◌, [], drop, false, filter, length, map, nat_lt, slice_get};
+ghost use Rattle.std.specs.Prelude.{◌≡◌, [], drop, false, filter, length, map, nat_lt, slice_get, vec_capacity};
 ghost use Rattle.pp_wants.specs.Awaited.{all_asked, all_got, has_room_on, with_asked, with_got};
 ghost use Rattle.pp_desk.specs.Closings.{where_there};
 ghost use Rattle.pp_desk.specs.Marks.{on_peer_at};
@@ -28,6 +28,8 @@ pub fn note_wants(desk: &mut Desk, wants: &mut Wants) -> usize
     ensures write { AreSeated desk.old.state → wants.new.write.items ≡ all_asked (parts desk.old.state) desk.old.peers (all_written desk.old.state []) }
     ensures awake { desk.new.state.awake.items ≡ filter (is_loud desk.old.state.seats.items) desk.old.state.awake.items }
     ensures seats { desk.new.state.seats.items ≡ desk.old.state.seats.items }
+    ensures places { vec_capacity desk.new.state.awake ≡ vec_capacity desk.old.state.awake }
+    ensures capacity { vec_capacity desk.new.state.seats ≡ vec_capacity desk.old.state.seats }
     ensures rest { record desk.new { state = record desk.new.state { seats = desk.old.state.seats; awake = desk.old.state.awake } } ≡ desk.old }
 {
     wants.accept = desk.state.seats.len() < MAX_CLIENTS;
@@ -43,6 +45,7 @@ pub fn rest(desk: &mut Desk, wants: &Wants, clients: usize)
     ensures seats { desk.new.state.seats.items ≡ all_waiting desk.old.state }
     ensures flow { desk.new.state.flow ≡ all_rested desk.old.state.awake.items (all_waiting desk.old.state) desk.old.state.flow }
     ensures peers { desk.new.peers ≡ map (rested_peer clients wants.now desk.old.state.now) desk.old.peers }
+    ensures capacity { vec_capacity desk.new.state.seats ≡ vec_capacity desk.old.state.seats }
     ensures rest { record desk.new { state = record desk.new.state { seats = desk.old.state.seats; flow = desk.old.state.flow }; peers = desk.old.peers } ≡ record desk.old { state = record desk.old.state { is_ticked = false; is_evicting = false } } }
 {
     rest_origins(&mut desk.peers, wants, clients, desk.state.now);
@@ -54,6 +57,7 @@ pub fn rest(desk: &mut Desk, wants: &Wants, clients: usize)
 
 fn rest_clients(state: &mut State)
     ensures is { state.new.seats.items ≡ all_waiting state.old }
+    ensures capacity { vec_capacity state.new.seats ≡ vec_capacity state.old.seats }
     ensures rest { record state.new { seats = state.old.seats } ≡ state.old }
 {
     for turn in 0..state.awake.len() {
@@ -63,6 +67,7 @@ fn rest_clients(state: &mut State)
 
 fn rest_in_turn(state: &mut State, turn: usize)
     ensures is { state.new.seats.items ≡ where_there (rested_at state.old) state.old.seats.items (slice_get state.old.awake.items turn) }
+    ensures capacity { vec_capacity state.new.seats ≡ vec_capacity state.old.seats }
     ensures rest { record state.new { seats = state.old.seats } ≡ state.old }
 {
     if let Some(i) = state.awake_at(turn) {
@@ -121,6 +126,7 @@ fn note_origins(state: &mut State, wants: &mut Wants, peers: &[Peer])
     ensures write { AreSeated state.old → wants.new.write.items ≡ all_asked (parts state.old) peers.now wants.old.write.items }
     ensures accept { wants.new.accept ≡ wants.old.accept }
     ensures seats { state.new.seats.items ≡ state.old.seats.items }
+    ensures capacity { vec_capacity state.new.seats ≡ vec_capacity state.old.seats }
     ensures rest { record state.new { seats = state.old.seats } ≡ state.old }
 {
     for peer in peers {
@@ -133,6 +139,7 @@ fn note_origin(state: &mut State, wants: &mut Wants, peer: &Peer)
     ensures write { AreSeated state.old → wants.new.write.items ≡ with_asked (parts state.old) wants.old.write.items peer.now }
     ensures accept { wants.new.accept ≡ wants.old.accept }
     ensures seats { state.new.seats.items ≡ state.old.seats.items }
+    ensures capacity { vec_capacity state.new.seats ≡ vec_capacity state.old.seats }
     ensures rest { record state.new { seats = state.old.seats } ≡ state.old }
 {
     let is_asked = peer.is_reached && state.has_to_ask(peer.number);
@@ -153,6 +160,7 @@ fn note_number(numbers: &mut ArrayVec<u64, 320>, k: u64, is_noted: bool)
 fn has_room_on(state: &mut State, k: u64) -> bool
     ensures room { AreSeated state.old → result ≡ has_room_on state.old.awake.items (parts state.old) (first_on k (parts state.old)) }
     ensures seats { state.new.seats.items ≡ state.old.seats.items }
+    ensures capacity { vec_capacity state.new.seats ≡ vec_capacity state.old.seats }
     ensures rest { record state.new { seats = state.old.seats } ≡ state.old }
 {
     let Some(number) = state.flow.line(k, 0) else {

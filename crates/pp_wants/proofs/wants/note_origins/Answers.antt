@@ -34,5 +34,6 @@ loop-peer-preserved c =
           ∙ sym (folded_more (with_asked (parts s)) c.args.wants.now.write.items c.args.peers.now i x at);
       accept = step.accept ∙ before.accept;
       seats = step.seats ∙ before.seats;
+      capacity = step.capacity ∙ before.capacity;
       rest = ap (λ (u : State). record u { seats = s.seats }) step.rest ∙ before.rest;
     }

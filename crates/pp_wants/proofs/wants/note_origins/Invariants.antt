@@ -1,4 +1,4 @@
-use Rattle.std.proofs.Common.{◌≡◌, take}
+use Rattle.std.proofs.Common.{◌≡◌, take, vec_capacity}
 use Rattle.pp_wants.specs.Awaited.{all_asked, all_got}
 use Rattle.pp_state.specs.Ends.{AreSeated, parts}
 use Rattle.pp_wants.proofs.wants.note_origins.Given as goal
@@ -10,5 +10,6 @@ invariant-loop-peer l = record {
   write : AreSeated l.fn.state → l.wants.write.items ≡ all_asked (parts l.fn.state) (take l.peer-index l.peers) l.fn.wants.write.items;
   accept : l.wants.accept ≡ l.fn.wants.accept;
   seats : l.state.seats.items ≡ l.fn.state.seats.items;
+  capacity : vec_capacity l.state.seats ≡ vec_capacity l.fn.state.seats;
   rest : record l.state { seats = l.fn.state.seats } ≡ l.fn.state;
 }

@@ -9,6 +9,7 @@ loop-turn-preserved c =
     let mid : State = c.loop-turn.state in
     record {
       rested = one_more_rested c.loop-turn.turn old mid c.rest_in_turn.new.state.seats.items c.loop-turn.invariant.rested c.loop-turn.invariant.rest c.rest_in_turn.ensures.is;
+      capacity = c.rest_in_turn.ensures.capacity ∙ c.loop-turn.invariant.capacity;
       rest = ap (λ (s : State). record s { seats = old.seats }) c.rest_in_turn.ensures.rest ∙ c.loop-turn.invariant.rest;
     }
 
