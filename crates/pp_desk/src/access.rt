@@ -1,5 +1,5 @@
 // The operator's log: a line for each reply that is over (ours). It is beside the log of happenings.
-ghost use Rattle.std.specs.Prelude.{◌≡◌};
+ghost use Rattle.std.specs.Prelude.{◌≡◌, ◌≤◌};
 ghost use Rattle.pp_links.specs.Links.{IsLinked};
 ghost use Rattle.pp_links.specs.Quiet.{GrowsQuietly};
 
@@ -16,6 +16,7 @@ pub(crate) fn log_reply<W: Wire>(links: &Links, world: &mut W, seat: &Seat, is_c
     ensures quiet { GrowsQuietly (W.log world.old) (W.log world.new) }
     ensures told { W.log world.new ≡ W.log world.old }
     ensures top { W.top world.new ≡ W.top world.old }
+    ensures faults { W.faults world.old ≤ W.faults world.new }
 {
     match &seat.account {
         Account::Unkept | Account::Due(_) => {}

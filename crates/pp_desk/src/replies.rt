@@ -1,5 +1,5 @@
 // Replies that were said whole are over, and clients that send no more are closed (RFC 2616, section 8.1).
-ghost use Rattle.std.specs.Prelude.{◌≡◌, slice_get};
+ghost use Rattle.std.specs.Prelude.{◌≡◌, ◌≤◌, slice_get};
 ghost use Rattle.pp_links.specs.Links.{IsLinked};
 ghost use Rattle.pp_links.specs.Quiet.{GrowsQuietly};
 ghost use Rattle.pp_desk.specs.Closings.{KeepsDesk, sides, where_there};
@@ -21,6 +21,8 @@ impl Desk {
         ensures linked { IsLinked (W.log world.new) (W.top world.new) links.now }
         ensures quiet { GrowsQuietly (W.log world.old) (W.log world.new) }
         ensures told { W.log world.new ≡ W.log world.old }
+        ensures top { W.top world.new ≡ W.top world.old }
+        ensures faults { W.faults world.old ≤ W.faults world.new }
         ensures is { AreSeated self.old.state → EndsReplies self.old.state.awake.items (sides self.old) (sides self.new) }
         ensures numbers { numbers_of self.new.state.seats.items ≡ numbers_of self.old.state.seats.items }
         ensures rest { KeepsDesk self.old self.new }
@@ -35,6 +37,8 @@ impl Desk {
         ensures linked { IsLinked (W.log world.new) (W.top world.new) links.now }
         ensures quiet { GrowsQuietly (W.log world.old) (W.log world.new) }
         ensures told { W.log world.new ≡ W.log world.old }
+        ensures top { W.top world.new ≡ W.top world.old }
+        ensures faults { W.faults world.old ≤ W.faults world.new }
         ensures is { AreSeated self.old.state → EndsSaid self.old.state.awake.items (sides self.old) (sides self.new) }
         ensures numbers { numbers_of self.new.state.seats.items ≡ numbers_of self.old.state.seats.items }
         ensures rest { KeepsDesk self.old self.new }
@@ -48,6 +52,8 @@ impl Desk {
         requires { IsLinked (W.log world.old) (W.top world.old) links.now }
         ensures linked { IsLinked (W.log world.new) (W.top world.new) links.now }
         ensures told { W.log world.new ≡ W.log world.old }
+        ensures top { W.top world.new ≡ W.top world.old }
+        ensures faults { W.faults world.old ≤ W.faults world.new }
         ensures is { AreSeated self.old.state → EndsSaidIn (slice_get self.old.state.awake.items turn) (sides self.old) (sides self.new) }
         ensures numbers { numbers_of self.new.state.seats.items ≡ numbers_of self.old.state.seats.items }
         ensures rest { KeepsDesk self.old self.new }
@@ -63,6 +69,8 @@ impl Desk {
         requires { IsLinked (W.log world.old) (W.top world.old) links.now }
         ensures linked { IsLinked (W.log world.new) (W.top world.new) links.now }
         ensures told { W.log world.new ≡ W.log world.old }
+        ensures top { W.top world.new ≡ W.top world.old }
+        ensures faults { W.faults world.old ≤ W.faults world.new }
         ensures is { AreSeated self.old.state → EndsSaidOf i (sides self.old) (sides self.new) }
         ensures numbers { numbers_of self.new.state.seats.items ≡ numbers_of self.old.state.seats.items }
         ensures rest { KeepsDesk self.old self.new }
@@ -107,6 +115,8 @@ impl Desk {
         requires { IsLinked (W.log world.old) (W.top world.old) links.now }
         ensures linked { IsLinked (W.log world.new) (W.top world.new) links.now }
         ensures told { W.log world.new ≡ W.log world.old }
+        ensures top { W.top world.new ≡ W.top world.old }
+        ensures faults { W.faults world.old ≤ W.faults world.new }
         ensures is { AreSeated self.old.state → EndsReply i (sides self.old) (sides self.new) }
         ensures numbers { numbers_of self.new.state.seats.items ≡ numbers_of self.old.state.seats.items }
         ensures rest { KeepsDesk self.old self.new }
@@ -120,6 +130,8 @@ impl Desk {
         requires { IsLinked (W.log world.old) (W.top world.old) links.now }
         ensures linked { IsLinked (W.log world.new) (W.top world.new) links.now }
         ensures told { W.log world.new ≡ W.log world.old }
+        ensures top { W.top world.new ≡ W.top world.old }
+        ensures faults { W.faults world.old ≤ W.faults world.new }
     {
         if let Some(seat) = self.state.seats.get(i) {
             log_reply(links, world, seat, false);

@@ -18,6 +18,8 @@ loop-turn-preserved g c =
     record {
       linked = step.linked;
       told = step.told ∙ before.told;
+      top = step.top ∙ before.top;
+      faults = omega (arith, before.faults, step.faults);
       is = λ seated.
           one_more c.loop-turn.turn old.state.awake.items (sides old) (sides mid) (sides new) (before.is seated)
           (subst In (ap (λ (d : Desk). slice_get d.state.awake.items c.loop-turn.turn) before.rest) (step.is (subst (λ (ns : List ℕ). AreInOrder ns) (sym before.numbers) seated)));
