@@ -1,5 +1,5 @@
 -- What the log gains where a folder is opened.
-use Rattle.std.proofs.Common.{◌≡◌, ◌⊎◌, inl, inr, Bool, true, ◌&&◌, List, [], ◌∷◌, ◌++◌, ℕ, Option, Some, Result, Ok, Err, sym, ◌∙◌, ap, subst, append_assoc}
+use Rattle.std.proofs.Common.{◌≡◌, refl, ◌⊎◌, inl, inr, Bool, true, ◌&&◌, List, [], ◌∷◌, ◌++◌, ℕ, Option, Some, Result, Ok, Err, sym, ◌∙◌, ap, subst, append_assoc}
 use Rattle.std.specs.List.{list_all}
 use Rattle.std.proofs.lemmas.List.Sums.{fold-append}
 use Rattle.std.proofs.lemmas.List.Folds.{list_all-append}
@@ -17,7 +17,7 @@ use Rattle.pp_recover.specs.Looks.{Extends}
 use Rattle.pp_recover.specs.Opening.{AllSent, IsFresh, Opens, Tended, TendsEach, TendsFirst}
 use Rattle.pp_store.specs.Held.{Holds}
 use Rattle.pp_store.specs.Kept.{KeptMap}
-use Rattle.pp_shelf.specs.Opening.{MayBeListed, OpensAs}
+use Rattle.pp_shelf.specs.Opening.{MayBeListed, OpensAs, Recovers}
 use Rattle.pp_shelf.proofs.GrowthLemmas.{ran_on_disk}
 
 both_true : (a b : Bool) → a ≡ true → b ≡ true → (a && b) ≡ true
@@ -108,6 +108,21 @@ holds_behind folder sent store told all call opened = record {
       let fresh = told.at earlier.0 earlier.1 in
       let later = subst (IsFresh fresh.0) (sym earlier.2) (fresh_rooted fresh.0 earlier.0 folder fresh.1) in
       subst (Holds sent store) (sym w.3) (w.4 fresh.0 later sent (all.at earlier.0 earlier.1 fresh.0 fresh.1));
+}
+
+-- and the shelf is the store that recovery makes
+pub recovers_behind : {old mid new : Option Log} (folder : Bytes) (result : Result KeptMap RecoverFault) → Appends old mid (λ l. Rooted folder) → Extends mid new (λ before hs. (files : Files) → IsFresh files before → Opens result files before hs)
+    → Extends old new (λ before hs. (files : Files) → IsFresh files before → Recovers folder result files before hs)
+recovers_behind folder result call opened = record {
+  was = λ l is.
+      let w = opened.was l is in
+      let earlier = call.was w.0 w.2 in (
+        earlier.0,
+        Rooted folder ∷ w.1,
+        earlier.1,
+        w.3 ∙ ap (λ (b : Log). b ++ w.1) earlier.2 ∙ append_assoc earlier.0 (Rooted folder ∷ []) w.1,
+        λ files fresh. (w.1, refl, subst (λ (b : Log). Opens result files b w.1) earlier.2 (w.4 files (subst (IsFresh files) (sym earlier.2) (fresh_rooted files earlier.0 folder fresh)))),
+      );
 }
 
 -- ---- a life that has begun

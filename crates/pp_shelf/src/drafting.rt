@@ -5,6 +5,7 @@ ghost use Rattle.pp_shelf.specs.Steady.{GrowsOnDisk};
 ghost use Rattle.pp_entry.specs.Texts.{body_at};
 ghost use Rattle.pp_gate.specs.Files.{Sent};
 ghost use Rattle.pp_gate.specs.Runs.{EachMoment};
+ghost use Rattle.pp_store.specs.Answers.{Answers, KeepCause, RunsKeep, refusal_of};
 ghost use Rattle.pp_store.specs.Changes.{entry_with, kept_after};
 ghost use Rattle.pp_store.specs.Held.{Covers, Holds, StaysBacked};
 ghost use Rattle.pp_store.specs.Kept.{block_of};
@@ -41,12 +42,16 @@ impl Shelf {
         requires holds { Told (D.log disk.old) (Holds sent self.old) }
         ensures answered { IsSome result ↔ MayBeDrafted self.old (entry_with key.now version.now fields.now times.now) (length room.old) }
         ensures none { IfNone result (self.new ≡ self.old) }
+        ensures still { IfNone result (D.log disk.new ≡ D.log disk.old) }
+        ensures answer { IfSome result (λ r. Answers (refusal_of (entry_with key.now version.now fields.now times.now) self.old) r) }
         ensures map { IfSome result (λ r. self.new ≡ kept_after r (entry_with key.now version.now fields.now times.now) (length room.old - body_at version.now.length) self.old) }
+        ensures ops { IfSome result (λ r. RunsKeep (D.log disk.old) (D.log disk.new) (entry_with key.now version.now fields.now times.now) (drop (body_at version.now.length) room.old) r) }
         ensures holds { Told (D.log disk.new) (Holds sent self.new) }
         ensures covers { Told (D.log disk.old) (Covers self.old) → Told (D.log disk.new) (Covers self.new) }
         ensures backed { EachMoment (D.log disk.old) (D.log disk.new) (StaysBacked sent) }
         ensures grows { GrowsOnDisk (D.log disk.old) (D.log disk.new) }
         ensures faults { D.faults disk.old ≤ D.faults disk.new }
+        ensures cause { IfSome result (λ r. KeepCause (D.log disk.new) (D.faults disk.old) (D.faults disk.new) r) }
         ensures top { D.top disk.new ≡ D.top disk.old }
     {
         if self.store.under(&file_name(key)).is_some() {

@@ -1,9 +1,10 @@
 // More of a body.
-ghost use Rattle.std.specs.Prelude.{◌≡◌, ◌≤◌, ◌^◌, ◌+◌, IfNone, IfSome, is_some, length};
-ghost use Rattle.pp_world.specs.Log.{Told};
+ghost use Rattle.std.specs.Prelude.{◌≡◌, ◌≤◌, ◌^◌, ◌+◌, IfNone, IfOk, IfSome, OnErr, is_ok, is_some, length};
+ghost use Rattle.pp_world.specs.Log.{Rises, Told};
 ghost use Rattle.pp_shelf.specs.Steady.{GrowsOnDisk};
 ghost use Rattle.pp_gate.specs.Files.{Sent};
-ghost use Rattle.pp_gate.specs.Runs.{EachMoment};
+ghost use Rattle.pp_gate.specs.Runs.{EachMoment, RunsOps};
+ghost use Rattle.pp_store.specs.Answers.{extend_ops};
 ghost use Rattle.pp_store.specs.Changes.{extended_after};
 ghost use Rattle.pp_store.specs.Held.{Covers, Holds, StaysBacked};
 ghost use Rattle.pp_store.specs.Kept.{IsExtent, block_of, kept_of, row_of};
@@ -34,12 +35,16 @@ impl Shelf {
         requires holds { Told (D.log disk.old) (Holds sent self.old) }
         ensures answered { is_some result ≡ is_more_of (length bytes.now) (kept_of key.now self.old) }
         ensures none { IfNone result (self.new ≡ self.old) }
+        ensures still { IfNone result (D.log disk.new ≡ D.log disk.old) }
+        ensures extent { IfSome result (λ r. IfOk r (λ extent. extent ≡ (row_of key.now self.old).extent + length bytes.now)) }
         ensures map { IfSome result (λ r. self.new ≡ extended_after r key.now self.old) }
+        ensures ops { IfSome result (λ r. RunsOps (D.log disk.old) (D.log disk.new) (extend_ops (row_of key.now self.old) bytes.now) (is_ok r)) }
         ensures holds { Told (D.log disk.new) (Holds sent self.new) }
         ensures covers { Told (D.log disk.old) (Covers self.old) → Told (D.log disk.new) (Covers self.new) }
         ensures backed { EachMoment (D.log disk.old) (D.log disk.new) (StaysBacked sent) }
         ensures grows { GrowsOnDisk (D.log disk.old) (D.log disk.new) }
         ensures faults { D.faults disk.old ≤ D.faults disk.new }
+        ensures cause { IfSome result (λ r. OnErr r (Rises (D.log disk.new) (D.faults disk.old) (D.faults disk.new))) }
         ensures top { D.top disk.new ≡ D.top disk.old }
     {
         let Some(view) = self.store.kept(key) else {

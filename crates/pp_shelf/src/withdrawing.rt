@@ -1,9 +1,11 @@
 // An entry is taken away.
-ghost use Rattle.std.specs.Prelude.{◌≡◌, ◌≤◌, IfNone, IfSome, is_some};
-ghost use Rattle.pp_world.specs.Log.{Told};
+ghost use Rattle.std.specs.Prelude.{◌≡◌, ◌≤◌, [], ◌∷◌, IfNone, IfSome, OnErr, is_ok, is_some};
+ghost use Rattle.pp_world.specs.declared.op.DiskOp.TheVariants.{Remove};
+ghost use Rattle.pp_world.specs.Log.{Rises, Told};
+ghost use Rattle.pp_target.specs.Name.{name_of};
 ghost use Rattle.pp_shelf.specs.Steady.{GrowsOnDisk};
 ghost use Rattle.pp_gate.specs.Files.{Sent};
-ghost use Rattle.pp_gate.specs.Runs.{EachMoment};
+ghost use Rattle.pp_gate.specs.Runs.{EachMoment, RunsOps};
 ghost use Rattle.pp_store.specs.Changes.{withdrawn_after};
 ghost use Rattle.pp_store.specs.Kept.{kept_of};
 ghost use Rattle.pp_store.specs.Held.{Covers, Holds, StaysBacked};
@@ -20,12 +22,15 @@ impl Shelf {
         requires { Told (D.log disk.old) (Holds sent self.old) }
         ensures answered { is_some result ≡ is_some (kept_of key.now self.old) }
         ensures none { IfNone result (self.new ≡ self.old) }
+        ensures still { IfNone result (D.log disk.new ≡ D.log disk.old) }
         ensures map { IfSome result (λ r. self.new ≡ withdrawn_after r key.now self.old) }
+        ensures ops { IfSome result (λ r. RunsOps (D.log disk.old) (D.log disk.new) (Remove (name_of key.now) ∷ []) (is_ok r)) }
         ensures holds { Told (D.log disk.new) (Holds sent self.new) }
         ensures covers { Told (D.log disk.old) (Covers self.old) → Told (D.log disk.new) (Covers self.new) }
         ensures backed { EachMoment (D.log disk.old) (D.log disk.new) (StaysBacked sent) }
         ensures grows { GrowsOnDisk (D.log disk.old) (D.log disk.new) }
         ensures faults { D.faults disk.old ≤ D.faults disk.new }
+        ensures cause { IfSome result (λ r. OnErr r (Rises (D.log disk.new) (D.faults disk.old) (D.faults disk.new))) }
         ensures top { D.top disk.new ≡ D.top disk.old }
     {
         if self.store.kept(key).is_none() {

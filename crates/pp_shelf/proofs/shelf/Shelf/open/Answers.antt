@@ -1,5 +1,5 @@
 use Rattle.std.proofs.Common.{Ok, Err}
-use Rattle.pp_shelf.proofs.OpeningLemmas.{fresh_behind, holds_behind, opens_as}
+use Rattle.pp_shelf.proofs.OpeningLemmas.{fresh_behind, holds_behind, opens_as, recovers_behind}
 use Rattle.pp_shelf.proofs.shelf.Shelf.open.Goals as goal
 
 pub open-requires : goal.open-requires
@@ -13,3 +13,9 @@ returns-in-Ok-clause-holds g c = rw c.new.ensures (holds_behind c.args.folder.no
 
 pub returns-in-Err-clause-opens : goal.returns-in-Err-clause-opens
 returns-in-Err-clause-opens g c = opens_as c.args.folder.now (Err c.in-Err.fault) c.requires.1.0 c.root.ensures.told c.in-Err.ensures.opens
+
+pub returns-in-Ok-clause-recovers : goal.returns-in-Ok-clause-recovers
+returns-in-Ok-clause-recovers g c = rw c.new.ensures (recovers_behind c.args.folder.now (Ok c.in-Ok.store) c.root.ensures.told c.in-Ok.ensures.opens)
+
+pub returns-in-Err-clause-recovers : goal.returns-in-Err-clause-recovers
+returns-in-Err-clause-recovers g c = recovers_behind c.args.folder.now (Err c.in-Err.fault) c.root.ensures.told c.in-Err.ensures.opens
