@@ -1,5 +1,5 @@
 // Calls of the disk in a turn: they open and close no connection.
-ghost use Rattle.std.specs.Prelude.{◌≡◌, ◌↔◌, IfNone, IfSome, IsSome, is_some, length, None};
+ghost use Rattle.std.specs.Prelude.{◌≡◌, ◌≤◌, ◌↔◌, IfNone, IfSome, IsSome, is_some, length, None};
 ghost use Rattle.pp_links.specs.Links.{IsLinked};
 ghost use Rattle.pp_desk.specs.Anything.{anything};
 ghost use Rattle.pp_keeping.specs.Kept.{IsWithdrawn};
@@ -34,6 +34,7 @@ pub(crate) fn draft<W: World>(
     ensures linked { IsLinked (W.log world.new) (W.top world.new) _links.now }
     ensures holds { Told (W.log world.new) (Holds anything shelf.new) }
     ensures steady { GrowsSteadily (W.log world.old) (W.log world.new) }
+    ensures faults { W.faults world.old ≤ W.faults world.new }
 {
     shelf.draft(
         alloc,
@@ -62,6 +63,7 @@ pub(crate) fn seal<W: World>(
     ensures linked { IsLinked (W.log world.new) (W.top world.new) _links.now }
     ensures holds { Told (W.log world.new) (Holds anything shelf.new) }
     ensures steady { GrowsSteadily (W.log world.old) (W.log world.new) }
+    ensures faults { W.faults world.old ≤ W.faults world.new }
 {
     shelf.seal(world, row.key, bytes)
 }
@@ -76,6 +78,7 @@ pub(crate) fn withdraw<W: World>(_links: &Links, shelf: &mut Shelf, world: &mut 
     ensures linked { IsLinked (W.log world.new) (W.top world.new) _links.now }
     ensures holds { Told (W.log world.new) (Holds anything shelf.new) }
     ensures steady { GrowsSteadily (W.log world.old) (W.log world.new) }
+    ensures faults { W.faults world.old ≤ W.faults world.new }
 {
     let _ = shelf.withdraw(world, key);
 }

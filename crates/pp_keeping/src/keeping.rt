@@ -1,5 +1,5 @@
 // Step 3: what stands no more is taken off the disk, and what is whole is kept there.
-ghost use Rattle.std.specs.Prelude.{◌≡◌, option_map, Some};
+ghost use Rattle.std.specs.Prelude.{◌≡◌, ◌≤◌, option_map, Some};
 ghost use Rattle.pp_links.specs.Links.{IsLinked};
 ghost use Rattle.pp_links.specs.Quiet.{GrowsBy};
 ghost use Rattle.pp_shelf.specs.Steady.{GrowsSteadily, IsOnDisk};
@@ -33,6 +33,7 @@ pub fn keep<W: World>(desk: &mut Desk, links: &mut Links, shelf: &mut Shelf, wor
     ensures linked { IsLinked (W.log world.new) (W.top world.new) links.new }
     ensures holds { Told (W.log world.new) (Holds anything shelf.new) }
     ensures steady { GrowsSteadily (W.log world.old) (W.log world.new) }
+    ensures faults { W.faults world.old ≤ W.faults world.new }
 {
     for _name in 0..desk.state.cache.outdated() {
         let Some(name) = desk.state.cache.next_outdated() else {
@@ -66,6 +67,7 @@ fn take_away<W: World>(
     ensures shelf { IsTakenAway (key_under name.now shelf.old) shelf.old shelf.new }
     ensures memory { desk.new.state.cache ≡ unkept_of (key_under name.now shelf.old) desk.old.state.cache }
     ensures rest { record desk.new { state = record desk.new.state { cache = desk.old.state.cache } } ≡ desk.old }
+    ensures faults { W.faults world.old ≤ W.faults world.new }
 {
     if let Some(key) = key_under(shelf, name) {
         take_key_away(links, shelf, world, key.as_slice());
@@ -87,6 +89,7 @@ fn keep_row<W: World>(
     ensures linked { IsLinked (W.log world.new) (W.top world.new) links.new }
     ensures holds { Told (W.log world.new) (Holds anything shelf.new) }
     ensures steady { GrowsSteadily (W.log world.old) (W.log world.new) }
+    ensures faults { W.faults world.old ≤ W.faults world.new }
 {
     for _run in 0..RUNS {
         let Some(extent) = keep_run(desk, links, shelf, world, id) else {
@@ -109,6 +112,7 @@ fn keep_run<W: World>(
     ensures linked { IsLinked (W.log world.new) (W.top world.new) links.new }
     ensures holds { Told (W.log world.new) (Holds anything shelf.new) }
     ensures steady { GrowsSteadily (W.log world.old) (W.log world.new) }
+    ensures faults { W.faults world.old ≤ W.faults world.new }
 {
     match Run::of(&desk.state, id).keep(links, shelf, world, &mut desk.file)? {
         Kept::To(extent) => Some(extent),
@@ -145,6 +149,7 @@ fn take_key_away<W: World>(links: &Links, shelf: &mut Shelf, world: &mut W, key:
     ensures told { GrowsBy (gone_of (Some key.now)) IsOnDisk (W.log world.old) (W.log world.new) }
     ensures steady { GrowsSteadily (W.log world.old) (W.log world.new) }
     ensures map { IsWithdrawn key.now shelf.old shelf.new }
+    ensures faults { W.faults world.old ≤ W.faults world.new }
 {
     links.note(world, &Note::Gone(key));
     withdraw(links, shelf, world, key);

@@ -61,6 +61,7 @@ impl<'a> Run<'a> {
         ensures linked { IsLinked (W.log world.new) (W.top world.new) links.new }
         ensures holds { Told (W.log world.new) (Holds anything shelf.new) }
         ensures steady { GrowsSteadily (W.log world.old) (W.log world.new) }
+        ensures faults { W.faults world.old ≤ W.faults world.new }
     {
         let row = self.state.cache.row(self.id)?;
         if row.retired || row.version.length > BODY_LEN {
@@ -92,6 +93,7 @@ impl<'a> Run<'a> {
         ensures linked { IsLinked (W.log world.new) (W.top world.new) links.new }
         ensures holds { Told (W.log world.new) (Holds anything shelf.new) }
         ensures steady { GrowsSteadily (W.log world.old) (W.log world.new) }
+        ensures faults { W.faults world.old ≤ W.faults world.new }
     {
         let n = row.version.length;
         if self.state.has_lost_draft || (self.state.run > 1 && self.full_run(n, 0).is_none()) {
@@ -145,6 +147,7 @@ impl<'a> Run<'a> {
         ensures linked { IsLinked (W.log world.new) (W.top world.new) links.new }
         ensures holds { Told (W.log world.new) (Holds anything shelf.new) }
         ensures steady { GrowsSteadily (W.log world.old) (W.log world.new) }
+        ensures faults { W.faults world.old ≤ W.faults world.new }
     {
         let len = self.full_run(row.version.length, extent)?;
         let bytes = file.get_mut(..usize::try_from(len).ok()?)?;
@@ -241,6 +244,7 @@ fn note_kept<W: World>(links: &mut Links, world: &mut W, row: &RowView<'_>, exte
     requires { IsLinked (W.log world.old) (W.top world.old) links.old }
     ensures linked { IsLinked (W.log world.new) (W.top world.new) links.new }
     ensures quiet { GrowsQuietly (W.log world.old) (W.log world.new) }
+    ensures faults { W.faults world.old ≤ W.faults world.new }
 {
     let version = row.version;
     links.note(

@@ -1,4 +1,5 @@
 pub mod Closing
+pub mod FailureLemmas
 pub mod Keeping
 pub mod Opening
 pub mod QuietLemmas

@@ -1,3 +1,4 @@
+pub mod Failures
 pub mod Links
 pub mod Quiet
 pub mod Waits

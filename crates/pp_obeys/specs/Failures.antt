@@ -1,18 +1,10 @@
 -- The failures of the outside that a life counts.
-use Rattle.std.specs.Prelude.{◌≡◌, ℕ, ◌+◌, ◌<◌, ◌≤◌, Bool, true, false, not, is_some}
+use Rattle.std.specs.Prelude.{◌≡◌, ℕ, ◌+◌, ◌<◌, ◌≤◌, Bool, true, false}
 use Rattle.pp_world.specs.declared.happening.Happening.{Happening}
-use Rattle.pp_world.specs.declared.happening.Happening.TheVariants.{Woke, Undialled, Did, Unread, Listed, Listens, Configured}
+use Rattle.pp_world.specs.declared.happening.Happening.TheVariants.{Woke}
 use Rattle.pp_law.specs.State.{State}
-
--- the outside failed in it
-abbrev pub fails : Happening → Bool
-fails (Undialled host port) = true
-fails (Did op ok) = not ok
-fails (Unread name) = true
-fails (Listed ok) = not ok
-fails (Listens port ok) = not ok
-fails (Configured file text) = not (is_some text)
-fails h = false
+-- in which happenings the outside failed
+pub use Rattle.pp_links.specs.Failures.{fails}
 
 abbrev pub counted : Bool → ℕ → ℕ
 counted false n = n

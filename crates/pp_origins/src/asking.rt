@@ -1,5 +1,5 @@
 // Step 1: what an origin is asked (RFC 2616, sections 5 and 8.2).
-ghost use Rattle.std.specs.Prelude.{◌≡◌, ◌≤◌, IfOk, IfSome, length, slice_get, take};
+ghost use Rattle.std.specs.Prelude.{◌≡◌, ◌≤◌, IfOk, IfSome, length, slice_get, take, vec_capacity};
 ghost use Rattle.std.specs.List.{find};
 ghost use Rattle.pp_client.specs.Requests.{body_in};
 ghost use Rattle.pp_links.specs.Links.{IsLinked};
@@ -27,6 +27,9 @@ pub fn ask<W: Wire>(desk: &mut Desk, links: &Links, world: &mut W, k: u64)
     ensures is { AreSeated desk.old.state → Asks k desk.old.state.now desk.old.state.awake.items links.now (sides desk.old) (sides desk.new) (W.log world.old) (W.log world.new) }
     ensures numbers { numbers_of desk.new.state.seats.items ≡ numbers_of desk.old.state.seats.items }
     ensures rest { KeepsDesk desk.old (record desk.new { «data» = desk.old.«data» }) }
+    ensures room { vec_capacity desk.old.«data» ≤ vec_capacity desk.new.«data» }
+    ensures top { W.top world.new ≡ W.top world.old }
+    ensures faults { W.faults world.old ≤ W.faults world.new }
 {
     match desk.state.asking(k) {
         None => {}
@@ -52,6 +55,9 @@ fn ask_text<W: Wire>(
     ensures is { AreSeated desk.old.state → TextIsAsked (find (is_number k) desk.old.peers) k number left desk.old.state.now desk.old.state.awake.items links.now (sides desk.old) (sides desk.new) (W.log world.old) (W.log world.new) }
     ensures numbers { numbers_of desk.new.state.seats.items ≡ numbers_of desk.old.state.seats.items }
     ensures rest { KeepsDesk desk.old (record desk.new { «data» = desk.old.«data» }) }
+    ensures room { vec_capacity desk.old.«data» ≤ vec_capacity desk.new.«data» }
+    ensures top { W.top world.new ≡ W.top world.old }
+    ensures faults { W.faults world.old ≤ W.faults world.new }
 {
     let Some(peer) = desk.peers.get(k) else {
         return;
@@ -76,6 +82,9 @@ fn note_text<W: Wire>(
     ensures is { AreSeated desk.old.state → TakenAs took.now k desk.old.state.awake.items (text_asked k number desk.old.state.now) (sides desk.old) (sides desk.new) }
     ensures numbers { numbers_of desk.new.state.seats.items ≡ numbers_of desk.old.state.seats.items }
     ensures rest { KeepsDesk desk.old (record desk.new { «data» = desk.old.«data» }) }
+    ensures room { vec_capacity desk.old.«data» ≤ vec_capacity desk.new.«data» }
+    ensures top { W.top world.new ≡ W.top world.old }
+    ensures faults { W.faults world.old ≤ W.faults world.new }
 {
     match took {
         Some(Ok(n)) => {
@@ -103,6 +112,9 @@ fn ask_body<W: Wire>(
     ensures is { AreSeated desk.old.state → BodyIsAsked (slice_get desk.old.state.seats.items i) k number left i desk.old.state.awake.items links.now (sides desk.old) (sides desk.new) (W.log world.old) (W.log world.new) }
     ensures numbers { numbers_of desk.new.state.seats.items ≡ numbers_of desk.old.state.seats.items }
     ensures rest { KeepsDesk desk.old (record desk.new { «data» = desk.old.«data» }) }
+    ensures room { vec_capacity desk.old.«data» ≤ vec_capacity desk.new.«data» }
+    ensures top { W.top world.new ≡ W.top world.old }
+    ensures faults { W.faults world.old ≤ W.faults world.new }
 {
     let Some(seat) = desk.state.seats.get(i) else {
         return;
@@ -128,6 +140,9 @@ fn note_body<W: Wire>(
     ensures is { AreSeated desk.old.state → TakenAs took.now k desk.old.state.awake.items (body_asked number i) (sides desk.old) (sides desk.new) }
     ensures numbers { numbers_of desk.new.state.seats.items ≡ numbers_of desk.old.state.seats.items }
     ensures rest { KeepsDesk desk.old (record desk.new { «data» = desk.old.«data» }) }
+    ensures room { vec_capacity desk.old.«data» ≤ vec_capacity desk.new.«data» }
+    ensures top { W.top world.new ≡ W.top world.old }
+    ensures faults { W.faults world.old ≤ W.faults world.new }
 {
     match took {
         Some(Ok(n)) => {

@@ -1,5 +1,5 @@
 // Step 1: a connection to an origin that ended or broke (RFC 2616, sections 4.4 and 8.1.4).
-ghost use Rattle.std.specs.Prelude.{◌≡◌};
+ghost use Rattle.std.specs.Prelude.{◌≡◌, ◌≤◌, vec_capacity};
 ghost use Rattle.std.specs.List.{find};
 ghost use Rattle.pp_links.specs.Links.{IsLinked};
 ghost use Rattle.pp_links.specs.Quiet.{GrowsQuietly};
@@ -25,6 +25,9 @@ pub fn gone<W: Wire>(desk: &mut Desk, links: &Links, world: &mut W, k: u64, is_c
     ensures is { AreSeated desk.old.state → EndsReplies desk.old.state.awake.items (origin_gone is_clean k (sides desk.old)) (sides desk.new) }
     ensures numbers { numbers_of desk.new.state.seats.items ≡ numbers_of desk.old.state.seats.items }
     ensures rest { KeepsDesk desk.old (record desk.new { «data» = desk.old.«data» }) }
+    ensures room { vec_capacity desk.old.«data» ≤ vec_capacity desk.new.«data» }
+    ensures top { W.top world.new ≡ W.top world.old }
+    ensures faults { W.faults world.old ≤ W.faults world.new }
 {
     desk.data.clear();
     lose_origin(desk, k, is_clean);

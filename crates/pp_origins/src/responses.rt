@@ -1,6 +1,6 @@
 // Step 1: what an origin sent: responses, in the order of its line (RFC 2616, sections 4.4, 6, 8.1 and
 // 10.1).
-ghost use Rattle.std.specs.Prelude.{◌≡◌};
+ghost use Rattle.std.specs.Prelude.{◌≡◌, ◌≤◌, length, vec_capacity};
 ghost use Rattle.std.specs.List.{find};
 ghost use Rattle.pp_links.specs.Links.{IsLinked};
 ghost use Rattle.pp_links.specs.Quiet.{GrowsQuietly};
@@ -33,6 +33,10 @@ pub fn receive<W: Wire>(desk: &mut Desk, links: &mut Links, shelf: &Shelf, world
     requires { IsLinked (W.log world.old) (W.top world.old) links.old }
     ensures linked { IsLinked (W.log world.new) (W.top world.new) links.new }
     ensures quiet { GrowsQuietly (W.log world.old) (W.log world.new) }
+    ensures long { length desk.new.buffer.items ≡ length desk.old.buffer.items }
+    ensures room { vec_capacity desk.old.«data» ≤ vec_capacity desk.new.«data» }
+    ensures top { W.top world.new ≡ W.top world.old }
+    ensures faults { W.faults world.old ≤ W.faults world.new }
 {
     let room = read_room(desk, k).min(desk.buffer.len());
     match links.read(world, k, &mut desk.buffer[..room]) {
@@ -62,7 +66,10 @@ fn read_room(desk: &mut Desk, k: u64) -> usize
 }
 
 /// What one read brought, one step behind the other, up to a cause to close the connection.
-fn bytes_came(desk: &mut Desk, shelf: &Shelf, k: u64, n: usize) {
+fn bytes_came(desk: &mut Desk, shelf: &Shelf, k: u64, n: usize)
+    ensures room { vec_capacity desk.old.«data» ≤ vec_capacity desk.new.«data» }
+    ensures rest { record desk.new { state = desk.old.state; peers = desk.old.peers; «data» = desk.old.«data» } ≡ desk.old }
+{
     desk.data.clear();
     let mut at: usize = 0;
     for _step in 0..STEPS {
@@ -95,7 +102,10 @@ fn bytes_came(desk: &mut Desk, shelf: &Shelf, k: u64, n: usize) {
 }
 
 /// The data of one read go where they belong at once.
-fn data_came(desk: &mut Desk, k: u64) {
+fn data_came(desk: &mut Desk, k: u64)
+    ensures room { vec_capacity desk.new.«data» ≡ vec_capacity desk.old.«data» }
+    ensures rest { record desk.new { state = desk.old.state; «data» = desk.old.«data» } ≡ desk.old }
+{
     if desk.data.is_empty() {
         return;
     }
@@ -106,7 +116,9 @@ fn data_came(desk: &mut Desk, k: u64) {
 }
 
 /// A final head came: it belongs to the first exchange of the line. It is read beside what is kept of its key.
-fn head_came(desk: &mut Desk, shelf: &Shelf, k: u64) {
+fn head_came(desk: &mut Desk, shelf: &Shelf, k: u64)
+    ensures { record desk.new { state = desk.old.state; peers = desk.old.peers } ≡ desk.old }
+{
     let Some(number) = desk.state.flow.line(k, 0) else {
         return bad_response(desk, k);
     };
@@ -132,7 +144,10 @@ fn head_came(desk: &mut Desk, shelf: &Shelf, k: u64) {
 }
 
 /// The data of a response that is whole go where they belong, and it is over.
-fn response_came(desk: &mut Desk, k: u64) {
+fn response_came(desk: &mut Desk, k: u64)
+    ensures room { vec_capacity desk.new.«data» ≡ vec_capacity desk.old.«data» }
+    ensures rest { record desk.new { state = desk.old.state; peers = desk.old.peers; «data» = desk.old.«data» } ≡ desk.old }
+{
     data_came(desk, k);
     end_response(desk, k);
 }

@@ -1,11 +1,12 @@
 -- What a turn changes together, and what the log gets (RFC 2616, section 8.1).
-use Rattle.std.specs.Prelude.{ℕ, Bool, List, Option}
+use Rattle.std.specs.Prelude.{ℕ, ◌+◌, ◌≤◌, Bool, List, Option, count_by}
+use Rattle.pp_links.specs.Failures.{fails}
 use Rattle.pp_links.specs.Links.{Link}
 use Rattle.pp_peers.specs.declared.placing.Limits.{Limits}
 use Rattle.pp_desk.specs.Closings.{Sides, sides}
 use Rattle.pp_desk.specs.declared.desk.Desk.{Desk}
 use Rattle.pp_state.specs.declared.state.State.{State}
-use Rattle.pp_world.specs.Log.{AppendsAll, Log}
+use Rattle.pp_world.specs.Log.{AppendsAll, Log, Told}
 
 -- both sides, the connections that are open, and the greatest number that was given
 pub record Around : Type 0 where
@@ -30,8 +31,9 @@ pub record Moment : Type 0 where
 abbrev pub moment_of : State → Moment
 moment_of s = record { limits = s.limits; name = s.name.items; now = s.now; awake = s.awake.items; is_stopped = s.is_stopped }
 
--- one leads to the other, and the log gets what belongs to that
-pub record Leads (Step : Around → Log → Around → Type 0) (x y : Around) (old new : Option Log) : Type 0 where
+-- one leads to the other, the log gets what belongs to that, and of the failures in it, where it is told, the outside counted each
+pub record Leads (Step : Around → Log → Around → Type 0) (x y : Around) (old new : Option Log) (before now : ℕ) : Type 0 where
   pub added : Log
   pub is : Step x added y
   pub told : AppendsAll old new (λ l. added)
+  pub counted : Told new (λ l. before + count_by fails added ≤ now)

@@ -22,9 +22,10 @@ pub(crate) fn dial<W: Wire>(desk: &mut Desk, links: &mut Links, world: &mut W, n
     requires { IsLinked (W.log world.old) (W.top world.old) links.old }
     ensures linked { IsLinked (W.log world.new) (W.top world.new) links.new }
     ensures quiet { GrowsQuietly (W.log world.old) (W.log world.new) }
-    ensures is { AreSeated desk.old.state → Leads (IsDialledFor (moment_of desk.old.state) number (entry_of number desk.old.state.flow)) (around desk.old links.old (W.top world.old)) (around desk.new links.new (W.top world.new)) (W.log world.old) (W.log world.new) }
+    ensures is { AreSeated desk.old.state → Leads (IsDialledFor (moment_of desk.old.state) number (entry_of number desk.old.state.flow)) (around desk.old links.old (W.top world.old)) (around desk.new links.new (W.top world.new)) (W.log world.old) (W.log world.new) (W.faults world.old) (W.faults world.new) }
     ensures numbers { numbers_of desk.new.state.seats.items ≡ numbers_of desk.old.state.seats.items }
     ensures rest { KeepsDesk desk.old desk.new }
+    ensures faults { W.faults world.old ≤ W.faults world.new }
 {
     let Some(entry) = desk.state.flow.entry(number) else {
         return;

@@ -1,5 +1,5 @@
 // Step 6: places of exchanges (RFC 2616, section 8.1).
-ghost use Rattle.std.specs.Prelude.{◌≡◌, [], ◌∷◌, false, true, is_some, length, option_copied, None};
+ghost use Rattle.std.specs.Prelude.{◌≡◌, ◌≤◌, [], ◌∷◌, false, true, is_some, length, option_copied, None};
 ghost use Rattle.std.specs.List.{find};
 ghost use Rattle.pp_flow.specs.Changes.{entry_of};
 ghost use Rattle.pp_flow.specs.Entries.{is_number as is_exchange};
@@ -33,9 +33,10 @@ pub fn place<W: Wire>(desk: &mut Desk, links: &mut Links, world: &mut W)
     requires closed { has_closing desk.old.peers ≡ false }
     ensures linked { IsLinked (W.log world.new) (W.top world.new) links.new }
     ensures quiet { GrowsQuietly (W.log world.old) (W.log world.new) }
-    ensures is { AreSeated desk.old.state → Leads (ArePlaced PLACES (moment_of desk.old.state) None) (around desk.old links.old (W.top world.old)) (around desk.new links.new (W.top world.new)) (W.log world.old) (W.log world.new) }
+    ensures is { AreSeated desk.old.state → Leads (ArePlaced PLACES (moment_of desk.old.state) None) (around desk.old links.old (W.top world.old)) (around desk.new links.new (W.top world.new)) (W.log world.old) (W.log world.new) (W.faults world.old) (W.faults world.new) }
     ensures numbers { numbers_of desk.new.state.seats.items ≡ numbers_of desk.old.state.seats.items }
     ensures rest { KeepsDesk desk.old desk.new }
+    ensures faults { W.faults world.old ≤ W.faults world.new }
 {
     let mut after: Option<u64> = None;
     for _place in 0..PLACES {
@@ -53,9 +54,10 @@ fn place_one<W: Wire>(desk: &mut Desk, links: &mut Links, world: &mut W, number:
     ensures after { result ≡ goes_on_behind (place_for desk.old.state.limits number (sides desk.old)) number }
     ensures linked { IsLinked (W.log world.new) (W.top world.new) links.new }
     ensures quiet { GrowsQuietly (W.log world.old) (W.log world.new) }
-    ensures is { AreSeated desk.old.state → Leads (IsPlaced (moment_of desk.old.state) number) (around desk.old links.old (W.top world.old)) (around desk.new links.new (W.top world.new)) (W.log world.old) (W.log world.new) }
+    ensures is { AreSeated desk.old.state → Leads (IsPlaced (moment_of desk.old.state) number) (around desk.old links.old (W.top world.old)) (around desk.new links.new (W.top world.new)) (W.log world.old) (W.log world.new) (W.faults world.old) (W.faults world.new) }
     ensures numbers { numbers_of desk.new.state.seats.items ≡ numbers_of desk.old.state.seats.items }
     ensures rest { KeepsDesk desk.old desk.new }
+    ensures faults { W.faults world.old ≤ W.faults world.new }
 {
     match place_of(desk, number) {
         Placed::On(k) => {
@@ -111,6 +113,7 @@ fn give_way<W: Wire>(desk: &mut Desk, links: &mut Links, world: &mut W, k: u64)
     ensures links { links.new ≡ without k links.old }
     ensures top { W.top world.new ≡ W.top world.old }
     ensures rest { desk.new ≡ record desk.old { peers = without_peer k desk.old.peers } }
+    ensures faults { W.faults world.old ≤ W.faults world.new }
 {
     links.close(world, k);
     desk.peers.gone(k);

@@ -29,6 +29,9 @@ pub fn hear<W: Wire>(desk: &mut Desk, links: &Links, world: &mut W, i: usize)
     ensures is { AreSeated desk.old.state → Hears (length desk.old.buffer.items) i desk.old.state.awake.items links.now (sides desk.old) (sides desk.new) (W.log world.old) (W.log world.new) }
     ensures numbers { numbers_of desk.new.state.seats.items ≡ numbers_of desk.old.state.seats.items }
     ensures rest { KeepsDesk desk.old (record desk.new { buffer = desk.old.buffer }) }
+    ensures long { length desk.new.buffer.items ≡ length desk.old.buffer.items }
+    ensures top { W.top world.new ≡ W.top world.old }
+    ensures faults { W.faults world.old ≤ W.faults world.new }
 {
     take_in(desk, links, world, i);
     desk.end_replies(links, world);
@@ -42,6 +45,9 @@ fn take_in<W: Wire>(desk: &mut Desk, links: &Links, world: &mut W, i: usize)
     ensures is { IsReadAt (slice_get desk.old.state.seats.items i) (length desk.old.buffer.items) i links.now (sides desk.old) (sides desk.new) (W.log world.old) (W.log world.new) }
     ensures numbers { numbers_of desk.new.state.seats.items ≡ numbers_of desk.old.state.seats.items }
     ensures rest { record desk.new { state = record desk.new.state { seats = desk.old.state.seats }; buffer = desk.old.buffer } ≡ desk.old }
+    ensures long { length desk.new.buffer.items ≡ length desk.old.buffer.items }
+    ensures top { W.top world.new ≡ W.top world.old }
+    ensures faults { W.faults world.old ≤ W.faults world.new }
 {
     let Some(seat) = desk.state.seats.get(i) else {
         return;
@@ -61,6 +67,8 @@ pub(crate) fn say<W: Wire>(desk: &mut Desk, links: &Links, world: &mut W, i: usi
     ensures is { AreSeated desk.old.state → Says i desk.old.state.awake.items links.now (sides desk.old) (sides desk.new) (W.log world.old) (W.log world.new) }
     ensures numbers { numbers_of desk.new.state.seats.items ≡ numbers_of desk.old.state.seats.items }
     ensures rest { KeepsDesk desk.old (record desk.new { room = desk.old.room }) }
+    ensures top { W.top world.new ≡ W.top world.old }
+    ensures faults { W.faults world.old ≤ W.faults world.new }
 {
     write_to(desk, links, world, i);
     desk.end_replies(links, world);
@@ -74,6 +82,8 @@ fn write_to<W: Wire>(desk: &mut Desk, links: &Links, world: &mut W, i: usize)
     ensures is { AreSeated desk.old.state → IsWrittenAt (slice_get desk.old.state.seats.items i) i links.now (sides desk.old) (sides desk.new) (W.log world.old) (W.log world.new) }
     ensures numbers { numbers_of desk.new.state.seats.items ≡ numbers_of desk.old.state.seats.items }
     ensures rest { KeepsDesk desk.old (record desk.new { room = desk.old.room }) }
+    ensures top { W.top world.new ≡ W.top world.old }
+    ensures faults { W.faults world.old ≤ W.faults world.new }
 {
     let Some(seat) = desk.state.seats.get(i) else {
         return;

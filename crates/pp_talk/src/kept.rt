@@ -35,6 +35,8 @@ pub fn load_and_say<W: World>(
     ensures linked { IsLinked (W.log world.new) (W.top world.new) links.new }
     ensures holds { Told (W.log world.new) (Holds anything shelf.new) }
     ensures steady { GrowsSteadily (W.log world.old) (W.log world.new) }
+    ensures top { W.top world.new ≡ W.top world.old }
+    ensures faults { W.faults world.old ≤ W.faults world.new }
 {
     load_next(desk, links, shelf, world, i);
     say(desk, links, world, i);
@@ -53,6 +55,8 @@ fn load_next<W: World>(
     ensures linked { IsLinked (W.log world.new) (W.top world.new) links.new }
     ensures holds { Told (W.log world.new) (Holds anything shelf.new) }
     ensures steady { GrowsSteadily (W.log world.old) (W.log world.new) }
+    ensures top { W.top world.new ≡ W.top world.old }
+    ensures faults { W.faults world.old ≤ W.faults world.new }
 {
     if let Some(next) = next_to_load(&desk.state, i) {
         load(desk, links, shelf, world, next);
@@ -67,6 +71,8 @@ fn load<W: World>(desk: &mut Desk, links: &mut Links, shelf: &mut Shelf, world: 
     ensures linked { IsLinked (W.log world.new) (W.top world.new) links.new }
     ensures holds { Told (W.log world.new) (Holds anything shelf.new) }
     ensures steady { GrowsSteadily (W.log world.old) (W.log world.new) }
+    ensures top { W.top world.new ≡ W.top world.old }
+    ensures faults { W.faults world.old ≤ W.faults world.new }
 {
     let Some(row) = desk.state.cache.row(next.source) else {
         return;
@@ -114,6 +120,8 @@ fn load_chunk<W: World>(
     ensures linked { IsLinked (W.log world.new) (W.top world.new) _links.now }
     ensures holds { Told (W.log world.new) (Holds anything shelf.new) }
     ensures steady { GrowsSteadily (W.log world.old) (W.log world.new) }
+    ensures top { W.top world.new ≡ W.top world.old }
+    ensures faults { W.faults world.old ≤ W.faults world.new }
 {
     shelf.load(world, row.key, index, out)
 }

@@ -1,3 +1,4 @@
+use Rattle.std.proofs.Common.{◌≤◌}
 use Rattle.pp_links.specs.Links.{IsLinked}
 use Rattle.pp_shelf.specs.Steady.{GrowsSteadily}
 use Rattle.pp_store.specs.Held.{Holds}
@@ -10,6 +11,7 @@ invariant-loop-name g l = record {
   linked : IsLinked (g.W.Logged.log l.world) (g.W.Logged.top l.world) l.links;
   holds : Told (g.W.Logged.log l.world) (Holds anything l.shelf);
   steady : GrowsSteadily (g.W.Logged.log l.fn.world) (g.W.Logged.log l.world);
+  faults : g.W.Logged.faults l.fn.world ≤ g.W.Logged.faults l.world;
 }
 
 abbrev pub invariant-loop-row : goal.invariant-loop-row
@@ -17,4 +19,5 @@ invariant-loop-row g l = record {
   linked : IsLinked (g.W.Logged.log l.world) (g.W.Logged.top l.world) l.links;
   holds : Told (g.W.Logged.log l.world) (Holds anything l.shelf);
   steady : GrowsSteadily (g.W.Logged.log l.fn.world) (g.W.Logged.log l.world);
+  faults : g.W.Logged.faults l.fn.world ≤ g.W.Logged.faults l.world;
 }

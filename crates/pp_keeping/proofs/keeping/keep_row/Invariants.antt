@@ -1,3 +1,4 @@
+use Rattle.std.proofs.Common.{◌≤◌}
 use Rattle.pp_links.specs.Links.{IsLinked}
 use Rattle.pp_shelf.specs.Steady.{GrowsSteadily}
 use Rattle.pp_store.specs.Held.{Holds}
@@ -10,4 +11,5 @@ invariant-loop-run g l = record {
   linked : IsLinked (g.W.Logged.log l.world) (g.W.Logged.top l.world) l.links;
   holds : Told (g.W.Logged.log l.world) (Holds anything l.shelf);
   steady : GrowsSteadily (g.W.Logged.log l.fn.world) (g.W.Logged.log l.world);
+  faults : g.W.Logged.faults l.fn.world ≤ g.W.Logged.faults l.world;
 }

@@ -6,7 +6,7 @@ use Rattle.pp_places.specs.Around.{around, moment_of}
 use Rattle.pp_desk.specs.Closings.{Sides, sides}
 use Rattle.pp_places.specs.Placing.{dial_log, dials_to, host_of, met_by, with_new}
 use Rattle.pp_desk.specs.declared.desk.Desk.{Desk}
-use Rattle.pp_places.proofs.PlacingLemmas.{dial_told, dialled_for, dialled_to}
+use Rattle.pp_places.proofs.PlacingLemmas.{dial_counted, dial_told, dialled_for, dialled_to}
 use Rattle.pp_places.proofs.dialling.dial.Goals as goal
 
 pub returns-clause-is : goal.returns-clause-is
@@ -43,4 +43,5 @@ returns-clause-is g c = λ seated.
         top = step.top;
       }));
       told = dial_told (length c.args.links.now) host port answer step.told (λ many. (step.full many).0) (λ many. ap g.W.Logged.log (step.full many).1) step.refused;
+      counted = dial_counted (length c.args.links.now) host port answer step.cause step.faults;
     }

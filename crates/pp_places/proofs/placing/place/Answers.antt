@@ -1,4 +1,4 @@
-use Rattle.std.proofs.Common.{◌≡◌, ◌∙◌, ap, sym, subst, List, ℕ, None, Some, arith}
+use Rattle.std.proofs.Common.{◌≡◌, ◌∙◌, ap, sym, subst, List, ℕ, None, Some, le_trans, arith}
 use Rattle.std.proofs.lemmas.Grind.{common_steps}
 use Rattle.pp_links.proofs.QuietLemmas.{quiet_then}
 use Rattle.pp_places.specs.Around.{Leads, around, moment_of}
@@ -17,6 +17,7 @@ loop-place-preserved g c =
     let new : Desk = c.place_one-after.new.desk in
     let top = g.W.Logged.top in
     let log = g.W.Logged.log in
+    let faults = g.W.Logged.faults in
     let step = c.place_one-after.ensures in
     let before = c.loop-place.invariant in
     let number = c.in-Some.number in
@@ -28,11 +29,12 @@ loop-place-preserved g c =
       quiet = quiet_then before.quiet step.quiet;
       is = λ seated.
           one_more_placed 65536 c.loop-place._place (moment_of old.state) number c.loop-place.after c.place_one-after.result (around old c.args.links.now (top c.args.world.now)) here there
-          (log c.args.world.now) (log c.loop-place.world) (log c.place_one-after.new.world) c.loop-place-test.true (before.is seated) waits
-          (subst (λ (d : Desk). Leads (IsPlaced (moment_of d.state) number) here there (log c.loop-place.world) (log c.place_one-after.new.world)) before.rest (step.is (subst (λ (ns : List ℕ). AreInOrder ns) (sym before.numbers) seated)))
+          (log c.args.world.now) (log c.loop-place.world) (log c.place_one-after.new.world) (faults c.args.world.now) (faults c.loop-place.world) (faults c.place_one-after.new.world) c.loop-place-test.true (before.is seated) waits
+          (subst (λ (d : Desk). Leads (IsPlaced (moment_of d.state) number) here there (log c.loop-place.world) (log c.place_one-after.new.world) (faults c.loop-place.world) (faults c.place_one-after.new.world)) before.rest (step.is (subst (λ (ns : List ℕ). AreInOrder ns) (sym before.numbers) seated)))
           (step.after ∙ ap (λ (d : Desk). goes_on_behind (place_for d.state.limits number (sides mid)) number) before.rest);
       numbers = step.numbers ∙ before.numbers;
       rest = kept_then old mid new before.rest step.rest;
+      faults = le_trans before.faults step.faults;
     }
 
 pub returns-after-loop-place-clause-is : goal.returns-after-loop-place-clause-is
@@ -40,7 +42,8 @@ returns-after-loop-place-clause-is g c = λ seated.
     let old : Desk = c.args.desk.now in
     let top = g.W.Logged.top in
     let log = g.W.Logged.log in
-    most_placed 65536 c.loop-place._place (moment_of old.state) c.loop-place.after (around old c.args.links.now (top c.args.world.now)) (around c.loop-place.desk c.loop-place.links (top c.loop-place.world)) (log c.args.world.now) (log c.loop-place.world)
+    let faults = g.W.Logged.faults in
+    most_placed 65536 c.loop-place._place (moment_of old.state) c.loop-place.after (around old c.args.links.now (top c.args.world.now)) (around c.loop-place.desk c.loop-place.links (top c.loop-place.world)) (log c.args.world.now) (log c.loop-place.world) (faults c.args.world.now) (faults c.loop-place.world)
     (omega (arith, c.loop-place-test.false)) (c.loop-place.invariant.is seated)
 
 pub returns-in_default-clause-is : goal.returns-in_default-clause-is
@@ -48,6 +51,7 @@ returns-in_default-clause-is g c = λ seated.
     let old : Desk = c.args.desk.now in
     let top = g.W.Logged.top in
     let log = g.W.Logged.log in
+    let faults = g.W.Logged.faults in
     let none : next_waiting c.loop-place.after (sides c.loop-place.desk) ≡ None = grind (arith, common_steps) in
-    all_placed 65536 c.loop-place._place (moment_of old.state) c.loop-place.after (around old c.args.links.now (top c.args.world.now)) (around c.loop-place.desk c.loop-place.links (top c.loop-place.world)) (log c.args.world.now) (log c.loop-place.world)
+    all_placed 65536 c.loop-place._place (moment_of old.state) c.loop-place.after (around old c.args.links.now (top c.args.world.now)) (around c.loop-place.desk c.loop-place.links (top c.loop-place.world)) (log c.args.world.now) (log c.loop-place.world) (faults c.args.world.now) (faults c.loop-place.world)
     (c.loop-place.invariant.is seated) none

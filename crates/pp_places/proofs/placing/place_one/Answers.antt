@@ -5,7 +5,8 @@ use Rattle.pp_places.specs.Around.{around, moment_of}
 use Rattle.pp_places.specs.Placing.{given_way}
 use Rattle.pp_desk.specs.Shutting.{closings}
 use Rattle.pp_desk.specs.declared.desk.Desk.{Desk}
-use Rattle.pp_places.proofs.PlacingLemmas.{as_placed}
+use Rattle.pp_links.proofs.FailureLemmas.{counted_none}
+use Rattle.pp_places.proofs.PlacingLemmas.{as_placed, closings_fail_not}
 use Rattle.pp_places.proofs.placing.place_one.Goals as goal
 
 pub returns-in-CloseThenDial-clause-is : goal.returns-in-CloseThenDial-clause-is
@@ -25,4 +26,5 @@ returns-in-CloseThenDial-clause-is g c = λ seated.
       added = closings (k ∷ []) c.args.links.now;
       is = as_placed (moment_of old.state) c.args.number x (closings (k ∷ []) c.args.links.now) y (CloseThenDial k) (sym c.in-CloseThenDial.is ∙ c.place_of.ensures) (refl, same);
       told = step.told;
+      counted = counted_none (closings (k ∷ []) c.args.links.now) (closings_fail_not (k ∷ []) c.args.links.now) step.faults;
     }
