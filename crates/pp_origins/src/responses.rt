@@ -73,31 +73,55 @@ fn bytes_came(desk: &mut Desk, shelf: &Shelf, k: u64, n: usize)
     desk.data.clear();
     let mut at: usize = 0;
     for _step in 0..STEPS {
-        let Some(bytes) = desk.buffer.get(at..n) else {
+        let Some(used) = step_came(desk, shelf, k, at, n) else {
             break;
         };
-        let Some(peer) = desk.peers.get_mut(k) else {
-            break;
-        };
-        if peer.is_closing {
-            break;
-        }
-        let (used, step) = peer.pipe.feed(bytes);
-        match step {
-            Step::Head => head_came(desk, shelf, k),
-            Step::Body(from, to) => {
-                if let Some(data) = bytes.get(from..to) {
-                    let _ = desk.data.extend_from_slice(data);
-                }
-            }
-            Step::End => response_came(desk, k),
-            Step::Bad => {
-                data_came(desk, k);
-                return bad_response(desk, k);
-            }
-            Step::Idle => return data_came(desk, k),
-        }
         at = at.saturating_add(used);
+    }
+}
+
+/// One step of what was read, from one place up to another, and how many bytes it took. None where it is the last.
+fn step_came(desk: &mut Desk, shelf: &Shelf, k: u64, at: usize, n: usize) -> Option<usize>
+    ensures room { vec_capacity desk.old.«data» ≤ vec_capacity desk.new.«data» }
+    ensures rest { record desk.new { state = desk.old.state; peers = desk.old.peers; «data» = desk.old.«data» } ≡ desk.old }
+{
+    let bytes = desk.buffer.get(at..n)?;
+    let peer = desk.peers.get_mut(k)?;
+    if peer.is_closing {
+        return None;
+    }
+    let (used, step) = peer.pipe.feed(bytes);
+    match step {
+        Step::Head => {
+            head_came(desk, shelf, k);
+            Some(used)
+        }
+        Step::Body(from, to) => {
+            join_data(&mut desk.data, bytes, from, to);
+            Some(used)
+        }
+        Step::End => {
+            response_came(desk, k);
+            Some(used)
+        }
+        Step::Bad => {
+            data_came(desk, k);
+            bad_response(desk, k);
+            None
+        }
+        Step::Idle => {
+            data_came(desk, k);
+            None
+        }
+    }
+}
+
+/// The bytes of this span are data.
+fn join_data(joined: &mut Vec<u8>, bytes: &[u8], from: usize, to: usize)
+    ensures { vec_capacity joined.old ≤ vec_capacity joined.new }
+{
+    if let Some(span) = bytes.get(from..to) {
+        let _ = joined.extend_from_slice(span);
     }
 }
 

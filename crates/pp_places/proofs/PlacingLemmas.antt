@@ -1,5 +1,5 @@
 -- Exchanges get their places, one behind the other.
-use Rattle.std.proofs.Common.{◌≡◌, ◌<◌, ◌≤◌, ◌-◌, ◌+◌, ◌↔◌, ◌==◌, not, ℕ, zero, suc, Bool, true, false, cond, nat_lt, is_ok, IfOk, IsErr, OnErr, List, [], ◌∷◌, ◌++◌, Option, Some, None, Result, Ok, Err, append_assoc, refl, sym, ap, subst, ◌∙◌, arith}
+use Rattle.std.proofs.Common.{◌≡◌, ◌<◌, ◌≤◌, ◌-◌, ◌+◌, ◌↔◌, ◌==◌, not, ℕ, zero, suc, Bool, true, false, cond, nat_lt, is_ok, IfOk, IsErr, OnErr, List, [], ◌∷◌, ◌++◌, Option, Some, None, Result, Ok, Err, append_assoc, le_refl, refl, sym, ap, subst, ◌∙◌, arith}
 use Rattle.std.specs.Prelude.{count_by}
 use Rattle.std.proofs.lemmas.Bool.Decides.{nat_tests}
 use Rattle.std.specs.List.{find}
@@ -99,7 +99,7 @@ pub record AreSoFar (most i : ℕ) (m : Moment) (after : Option ℕ) (x mid : Ar
   pub on : (rest : Log) (y : Around) → ArePlaced (most - i) m after mid rest y → ArePlaced most m None x (added ++ rest) y
 
 pub none_so_far : (most : ℕ) (m : Moment) (x : Around) (log : Option Log) (count : ℕ) → AreSoFar most 0 m None x x log log count count
-none_so_far most m x log count = record { added = []; told = none_added [] refl refl; counted = counted_none [] refl (omega arith); on = λ rest y all. subst (λ (n : ℕ). ArePlaced n m None x rest y) (none_less most) all }
+none_so_far most m x log count = record { added = []; told = none_added [] refl refl; counted = counted_none [] refl (le_refl count); on = λ rest y all. subst (λ (n : ℕ). ArePlaced n m None x rest y) (none_less most) all }
   where
     none_less : (most : ℕ) → most - 0 ≡ most
     none_less most = grind (arith)
