@@ -12,10 +12,10 @@ pub failures-append : (one two : Log) → count_by fails (one ++ two) ≡ count_
 failures-append one two = sum_by-append (λ h. cond (fails h) 1 0) one two
 
 neither : (n m : ℕ) → n ≡ 0 → m ≡ 0 → n + m ≡ 0
-neither n m no none = omega (arith, no, none)
+neither n m first second = omega (arith, first, second)
 
 pub none_in_both : (one two : Log) → count_by fails one ≡ 0 → count_by fails two ≡ 0 → count_by fails (one ++ two) ≡ 0
-none_in_both one two no none = failures-append one two ∙ neither (count_by fails one) (count_by fails two) no none
+none_in_both one two first second = failures-append one two ∙ neither (count_by fails one) (count_by fails two) first second
 
 -- ---- each was counted, where the log is told
 
