@@ -67,7 +67,7 @@ pub record LoadsChunk (id : ObjectId) (index : ℕ) (key : List ℕ) (version : 
   pub told : AppendsAll old new (λ l. load_log answer key version index)
   pub cause : IfSome answer (LoadCause new before now (chunk_len (row_of key shelf).entry.version.length index))
   pub counted : Told new (λ l. before + count_by fails (load_log answer key version index) ≤ now)
-  pub shelf : behind ≡ shelf_after answer key shelf
+  pub map : behind ≡ shelf_after answer key shelf
   pub is : TakesChunk answer out index id s t
 
 -- ---- the chunk of a byte

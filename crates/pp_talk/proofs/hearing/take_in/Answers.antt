@@ -1,4 +1,5 @@
-use Rattle.std.proofs.Common.{take, ◌≡◌, ◌∙◌, ◌&&◌, is_some, ap, sym, subst, min, nat_lt, length, slice_get, List, ℕ, Option, Some, rules}
+use Rattle.std.proofs.Common.{take, ◌≡◌, ◌∙◌, ◌&&◌, is_some, ap, sym, subst, min, nat_lt, length, length-append, length-drop, length-take, slice_get, List, ℕ, Option, Some, rules}
+use Rattle.std.proofs.lemmas.Grind.{common_steps}
 use Rattle.std.proofs.lemmas.Option.{slice_get_read}
 use Rattle.pp_client.specs.Requests.{room_of}
 use Rattle.pp_links.specs.Links.{has_link}
@@ -44,3 +45,6 @@ returns-clause-is g c =
       within = call.within;
       is = record { seats = c.take_found_at.ensures.is; rest = ap (λ (t : State). record { parts = parts t; peers = old.peers }) c.take_found_at.ensures.rest };
     })
+
+pub returns-clause-long : goal.returns-clause-long
+returns-clause-long g c = grind (arith, common_steps, length-append, length-take, length-drop, c.read-found.auto.buf, ap length c.deref_mut.ensures.value, c.deref_mut.ensures.len, c.min-room.ensures, c.len.ensures)

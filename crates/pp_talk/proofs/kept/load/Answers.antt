@@ -35,6 +35,6 @@ returns-clause-is g c =
       told = load_told answer key version index call.still call.told note.told;
       cause = cause;
       counted = load_counted len answer key version index cause (le_trans call.faults note.faults);
-      shelf = shelf_so answer key c.args.shelf.now c.load_chunk-answer.new.shelf call.none call.map;
+      map = shelf_so answer key c.args.shelf.now c.load_chunk-answer.new.shelf call.none call.map;
       is = c.take_chunk.ensures;
     })
