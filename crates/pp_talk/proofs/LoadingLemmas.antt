@@ -71,7 +71,7 @@ pub chunk_there : (next : Next) (index : ℕ) (view : RowView) (shelf behind : K
 chunk_there next index view shelf behind s t old new before now there shows at loads = by (is_there next.source s.cache.instances) refl (in_slot next.source.slot s.cache.instances) shows
   where
     by : (b : Bool) → is_there next.source s.cache.instances ≡ b → (o : Option Instance) → IsSomeAnd o (ShowsRow view) → LoadsOf next.source (cond b o None) (chunk_at next.at) shelf s behind t old new before now
-    by false gone o shows = absurd (there.1 gone)
+    by false gone o shows = absurd (let bad : true ≡ false = there.1 gone in cc)
     by true is None shows = absurd shows
     by true is (Some i) shows =
         subst (λ (n : Option ℕ). LoadsOf next.source (Some i) n shelf s behind t old new before now) (sym at)

@@ -1,4 +1,4 @@
-use Rattle.std.proofs.Common.{take, ◌≡◌, ◌∙◌, ◌&&◌, is_some, ap, sym, subst, min, nat_lt, length, length-append, length-drop, length-take, slice_get, List, ℕ, Option, Some, rules}
+use Rattle.std.proofs.Common.{take, ◌≡◌, ◌∙◌, ◌&&◌, is_some, ap, sym, subst, min, nat_lt, length, length-append, length-drop, length-take, slice_get, List, ℕ, Option, Some, arith, rules}
 use Rattle.std.proofs.lemmas.Grind.{common_steps}
 use Rattle.std.proofs.lemmas.Option.{slice_get_read}
 use Rattle.pp_client.specs.Requests.{room_of}
