@@ -1,0 +1,11 @@
+pub mod Closes
+pub mod Desks
+pub mod Ended
+pub mod IdleOnes
+pub mod Kept
+pub mod Law
+pub mod Left
+pub mod Next
+pub mod Nothing
+pub mod Rests
+pub mod Walk
