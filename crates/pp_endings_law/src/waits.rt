@@ -1,0 +1,17 @@
+// What is waited for at the end of a turn, and what a wait changes.
+ghost use Rattle.pp_endings_law.specs.Waits.{InstancesRestAsTheLaws, OriginsAreAskedAsTheLaws, OriginsAreReadAsTheLaws};
+
+/// Which connections to origins are read.
+pub fn origins_are_read_as_the_laws()
+    ensures reads { OriginsAreReadAsTheLaws }
+{}
+
+/// And which are written to.
+pub fn origins_are_asked_as_the_laws()
+    ensures asks { OriginsAreAskedAsTheLaws }
+{}
+
+/// Behind a wait no instance is new.
+pub fn instances_rest_as_the_laws()
+    ensures rests { InstancesRestAsTheLaws }
+{}
