@@ -1,5 +1,5 @@
 -- How what a turn places, with the connections that are open, stands for the state of the law (RFC 2616, sections 8.1 and 8.1.2.2).
-use Rattle.std.specs.Prelude.{◌≡◌, ◌≤◌, ◌+◌, ℕ, Bool, true, false, List, [], ◌∷◌, length, Some, None, ⊤}
+use Rattle.std.specs.Prelude.{◌≡◌, ◌≤◌, ◌+◌, ℕ, Bool, true, false, List, [], ◌∷◌, length, Some, ⊤}
 use Rattle.std.specs.List.{All}
 use Rattle.pp_closings_law.specs.Log.{AreLinked, IsConnecting}
 use Rattle.pp_desk.specs.Closings.{peer_numbers}

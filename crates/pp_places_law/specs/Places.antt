@@ -6,7 +6,7 @@ use Rattle.pp_flow.specs.Changes.{entry_of}
 use Rattle.pp_law.specs.Connections.{WaitsDial, WaitsDrop, exchange, place_for, placing, put_on}
 use Rattle.pp_law.specs.Phases.{is_placed}
 use Rattle.pp_law.specs.State.{State, Exchange}
-use Rattle.pp_obeys.specs.Moves.{Leads}
+use Rattle.pp_obeys.specs.Moves.{AreCalm, Leads}
 use Rattle.pp_peers.specs.declared.placing.Placed.TheVariants.{On}
 use Rattle.pp_places.specs.Around.{Around, Moment, moment_of, with_sides}
 use Rattle.pp_places.specs.Placing.{ArePlaced, IsDialledFor, IsPlaced, given_way, goes_on_behind, next_waiting, place_for as place_in_turn, put_on as put_in_turn}
@@ -49,3 +49,31 @@ OfPlacing P = (number : ℕ → ℕ) (p : Turn) (x : Around) (s : State) → Sho
 -- an idle connection gives way
 abbrev pub WaysAreTheLaws : Type 0
 WaysAreTheLaws = OfPlacing (λ number p x s. (k : ℕ) (e : Exchange) → (placing s).pause ≡ WaitsDrop k e → IsLed number p (closings (k ∷ []) x.links) (given_way k x) s)
+
+-- one is dialled, where that is not refused
+abbrev pub DialsAreTheLaws : Type 0
+DialsAreTheLaws = OfPlacing (λ number p x s. (e : Exchange) (log : Log) (y : Around) → IsUnplaced (placing s).state e → (placing s).pause ≡ WaitsDial e → AreCalm log → IsDialledFor (moment_of p) e.number (entry_of e.number x.sides.parts.flow) x log y → IsLed number p log y s)
+
+-- ---- all of them
+
+-- so many got a place or found none, one behind the other, or a connection gave way
+unfoldable pub Reaches : ℕ → Moment → Option ℕ → Around → Log → Around → Type 0
+Reaches zero m after x log y = (log ≡ []) × (y ≡ x)
+Reaches (suc more) m after x log y =
+    (number : ℕ) × (next : Around) × (first : Log) × (rest : Log) × (next_waiting after x.sides ≡ Some number) × (log ≡ first ++ rest) × IsPlaced m number x first next × Reaches more m (goes_on_behind (place_in_turn m.limits number x.sides) number) next rest y
+
+-- each has its place, or none to go to: the law goes on where the program does
+pub record HavePlaces (number : ℕ → ℕ) (p : Turn) (y : Around) (s : State) : Type 0 where
+  pub placed : is_placed (placing s).pause ≡ true
+  pub shows : ShowsAround number p y (placing s).state
+  pub may : MayPlace s
+
+-- the happenings may come, one behind the other, and lead there, unless so many did not do
+pub record AreLed (number : ℕ → ℕ) (p : Turn) (more : ℕ) (x : Around) (log : Log) (y : Around) (s : State) : Type 0 where
+  pub state : State
+  pub leads : Leads log s state
+  pub ends : HavePlaces number p y state ⊎ Reaches more (moment_of p) None x log y
+
+-- where no dial is refused
+abbrev pub AllPlacesAreTheLaws : Type 0
+AllPlacesAreTheLaws = OfPlaces (λ number p x s. (more : ℕ) (log : Log) (y : Around) → AreCalm log → ArePlaced more (moment_of p) None x log y → AreLed number p more x log y s)
