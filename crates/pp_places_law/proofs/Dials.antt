@@ -148,7 +148,7 @@ goes s e n may waits =
 
 -- ---- what is shown then
 
-with_peer_new : ℕ → Bytes → ℕ → ℕ → Around → Around
+abbrev with_peer_new : ℕ → Bytes → ℕ → ℕ → Around → Around
 with_peer_new n host port now x = record {
   sides = record x.sides { peers = x.sides.peers ++ unused n host port now ∷ [] };
   links = x.links ++ (n, Origin) ∷ [];

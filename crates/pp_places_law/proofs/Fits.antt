@@ -9,7 +9,7 @@ use Rattle.pp_flow_law.proofs.Entries.{none_some, same_number}
 use Rattle.pp_law.specs.After.{new_conn, out}
 use Rattle.pp_law.specs.Connections.{conn, is_conn, on_conn, on_exchange, placing, put_on}
 use Rattle.pp_law.specs.Lists.{Bytes}
-use Rattle.pp_law.specs.State.{State, Conn}
+use Rattle.pp_law.specs.State.{State, Client, Conn}
 use Rattle.pp_laws_bounds.proofs.Places.{placing-any}
 use Rattle.pp_places_law.specs.Around.{MayPlace}
 
@@ -83,8 +83,8 @@ put_may n k s may = record {
   connecting = put_connecting n k s may.connecting;
   going = (put_same n k s).0 ∙ may.going;
   closed =
-      ap₂ (λ cs ks. list_any (λ c. c.is_closing) cs || list_any (λ j. j.is_closing) ks) (put_same n k s).1 (put_conns n k s)
-      ∙ ap (λ (b : Bool). list_any (λ c. c.is_closing) s.clients || b) (any_mapped (λ j. j.is_closing) (longer_if n k) s.conns (same_closing n k))
+      ap₂ (λ (cs : List Client) (ks : List Conn). list_any (λ c. c.is_closing) cs || list_any (λ j. j.is_closing) ks) (put_same n k s).1 (put_conns n k s)
+      ∙ ap (λ (b : Bool). list_any (λ c. c.is_closing) s.clients || b) (any_mapped (λ (j : Conn). j.is_closing) (longer_if n k) s.conns (same_closing n k))
       ∙ may.closed;
   apart = λ m. subst (λ (c : ℕ). c ≤ 1) (sym (ap (λ (ks : List Conn). count_by (is_conn m) ks) (put_conns n k s) ∙ count_mapped_same (is_conn m) (longer_if n k) s.conns (same_numbered n k m))) (may.apart m);
   given = λ m j there.
@@ -115,9 +115,9 @@ out_may n s may = record {
   connecting = out_connecting n s may.connecting;
   going = (out_same n s).0 ∙ may.going;
   closed =
-      ap₂ (λ cs ks. list_any (λ c. c.is_closing) cs || list_any (λ j. j.is_closing) ks) (out_same n s).1 (out_same n s).3
+      ap₂ (λ (cs : List Client) (ks : List Conn). list_any (λ c. c.is_closing) cs || list_any (λ j. j.is_closing) ks) (out_same n s).1 (out_same n s).3
       ∙ none_of_both (list_any (λ c. c.is_closing) s.clients) (list_any (λ j. j.is_closing) s.conns) (list_any (λ c. c.is_closing) s.clients) (list_any (λ j. j.is_closing) (filter (λ k. not (is_conn n k)) s.conns)) may.closed refl
-      (λ none. any_kept (λ j. j.is_closing) (λ k. not (is_conn n k)) s.conns none);
+      (λ none. any_kept (λ (j : Conn). j.is_closing) (λ k. not (is_conn n k)) s.conns none);
   apart = λ m.
       subst (λ (ks : List Conn). count_by (is_conn m) ks ≤ 1) (sym (out_same n s).3)
       (few_of (count_by (is_conn m) (filter (λ k. not (is_conn n k)) s.conns)) (count_by (is_conn m) s.conns) (count_kept (is_conn m) (λ k. not (is_conn n k)) s.conns) (may.apart m));
@@ -160,7 +160,7 @@ new_may n host port s may above = record {
   going = may.going;
   closed =
       none_of_both (list_any (λ c. c.is_closing) s.clients) (list_any (λ j. j.is_closing) s.conns) (list_any (λ c. c.is_closing) s.clients) (list_any (λ j. j.is_closing) (s.conns ++ new_conn n host port s.clock ∷ [])) may.closed refl
-      (λ none. any_last (λ j. j.is_closing) s.conns (new_conn n host port s.clock) none refl);
+      (λ none. any_last (λ (j : Conn). j.is_closing) s.conns (new_conn n host port s.clock) none refl);
   apart = λ m.
       subst (λ (c : ℕ). c ≤ 1)
       (sym (count_joined (is_conn m) s.conns (new_conn n host port s.clock ∷ []) ∙ ap (λ (c : ℕ). count_by (is_conn m) s.conns + c) (one_counted (is_conn m) (new_conn n host port s.clock))))

@@ -6,3 +6,4 @@ pub mod Ways
 pub mod Puts
 pub mod Dials
 pub mod All
+pub mod Shuts

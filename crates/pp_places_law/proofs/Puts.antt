@@ -74,17 +74,18 @@ new_isnt true true u v k is = absurd (cc is)
 new_isnt true false u v k is = way_isnt u k is
 new_isnt false c u v k is = way_isnt v k is
 
+abbrev peers_of : State → List Loaded
+peers_of s = map (with_load s) (open_conns s)
+
 not_alone : (s : State) (e : Exchange) (k : ℕ) → place_for s e ≡ On k → goes_alone e.head ≡ false
 not_alone s e k is = by (goes_alone e.head) refl
   where
-    peers : List Loaded
-    peers = map (with_load s) (open_conns s)
-
     by : (b : Bool) → goes_alone e.head ≡ b → b ≡ false
     by false so = refl
     by true so =
-        absurd (new_isnt (nat_lt (count_of (is_of e.key.host e.key.port) peers) s.settings.host_connections) (nat_lt (length peers) 64) (lowest_idle is_any peers) (lowest_idle (is_of e.key.host e.key.port) peers) k
-        (sym (ap (λ (b : Bool). place (limits s) e.key.host e.key.port b peers) so) ∙ is))
+        absurd
+        (new_isnt (nat_lt (count_of (is_of e.key.host e.key.port) (peers_of s)) s.settings.host_connections) (nat_lt (length (peers_of s)) 64) (lowest_idle is_any (peers_of s)) (lowest_idle (is_of e.key.host e.key.port) (peers_of s)) k
+        (sym (ap (λ (b : Bool). place (limits s) e.key.host e.key.port b (peers_of s)) so) ∙ is))
 
 -- ---- there is room for it
 
@@ -144,18 +145,18 @@ put_sides n k y peer x = record {
   peers = with_pipe k (pushed y.text.items y.errand.asks_head peer.pipe) x.peers;
 }
 
+abbrev by_sides : Sides → Exchanges → List Peer → Sides
+by_sides x f peers = record { parts = record x.parts { flow = f }; peers = peers }
+
 -- what the program makes of both sides
 same_put : (number : ℕ → ℕ) (x : Sides) (s : State) (n k : ℕ) (y : Entry) (peer : Peer) → ShowsFlow number none_leaves x.parts.flow s → find (is_entry n) x.parts.flow.waiting ≡ Some y → entry_of n x.parts.flow ≡ Some y
     → find (is_number k) x.peers ≡ Some peer → takes (length y.text.items) peer.pipe ≡ true → put_in_turn n k x ≡ put_sides n k y peer x
 same_put number x s n k y peer shows here known there room =
-    ap (λ (o : Option Entry). by_sides (put_last (is_put n k o x.parts.flow x.peers) n k x.parts.flow) (put_text n k o x.parts.flow x.peers)) known
-    ∙ ap (λ (o : Option Entry). by_sides (put_last (is_some o && takes_on (length y.text.items) (find (is_number k) x.peers)) n k x.parts.flow) (put_text_where (is_some o) k y x.peers)) here
-    ∙ ap (λ (o : Option Peer). by_sides (put_last (takes_on (length y.text.items) o) n k x.parts.flow) (text_on k y.text.items y.errand.asks_head o x.peers)) there
-    ∙ ap (λ (b : Bool). by_sides (put_last b n k x.parts.flow) (with_pipe k (pushed_where b y.text.items y.errand.asks_head peer.pipe) x.peers)) room
-    ∙ ap (λ (f : Exchanges). by_sides f (with_pipe k (pushed y.text.items y.errand.asks_head peer.pipe) x.peers)) (put_last_is number none_leaves x.parts.flow s shows n k y here)
-  where
-    by_sides : Exchanges → List Peer → Sides
-    by_sides f peers = record { parts = record x.parts { flow = f }; peers = peers }
+    ap (λ (o : Option Entry). by_sides x (put_last (is_put n k o x.parts.flow x.peers) n k x.parts.flow) (put_text n k o x.parts.flow x.peers)) known
+    ∙ ap (λ (o : Option Entry). by_sides x (put_last (is_some o && takes_on (length y.text.items) (find (is_number k) x.peers)) n k x.parts.flow) (put_text_where (is_some o) k y x.peers)) here
+    ∙ ap (λ (o : Option Peer). by_sides x (put_last (takes_on (length y.text.items) o) n k x.parts.flow) (text_on k y.text.items y.errand.asks_head o x.peers)) there
+    ∙ ap (λ (b : Bool). by_sides x (put_last b n k x.parts.flow) (with_pipe k (pushed_where b y.text.items y.errand.asks_head peer.pipe) x.peers)) room
+    ∙ ap (λ (f : Exchanges). by_sides x f (with_pipe k (pushed y.text.items y.errand.asks_head peer.pipe) x.peers)) (put_last_is number none_leaves x.parts.flow s shows n k y here)
 
 -- where it stands, in the turn and in the law
 record Stands (number : ℕ → ℕ) (x : Sides) (s : State) (e : Exchange) (y : Entry) (peer : Peer) (c : Conn) : Type 0 where
@@ -164,13 +165,19 @@ record Stands (number : ℕ → ℕ) (x : Sides) (s : State) (e : Exchange) (y :
   shows : ShowsExchange number y e
   ask : IsAskable y
 
+abbrev asked_by : Sides → ℕ → ℕ → Entry → Peer → Bytes → Bool → Whole
+asked_by x n k y peer text head = record (whole x.parts x.peers) {
+  flow = with_errand n (record y.errand { asked = 0 }) (placed_on k n x.parts.flow);
+  peers = with_pipe k (pushed text head peer.pipe) x.peers;
+}
+
 put_steps : (number : ℕ → ℕ) (name : Bytes) (x : Sides) (s : State) (e : Exchange) (y : Entry) (peer : Peer) (c : Conn) → ShowsSteps number name none_leaves x.peers x.parts s → AreApart s → Stands number x s e y peer c
     → ShowsSteps number name none_leaves (put_sides e.number c.number y peer x).peers (put_sides e.number c.number y peer x).parts (put_on e.number c.number s)
 unfolding put_on on_conn on_exchange
 put_steps number name x s e y peer c steps apart stands = record {
   shows =
-      subst (λ (b : Bool). ShowsState number name [] none_leaves (asked_by y.text.items b) (put_on e.number c.number s)) (sym (asks_same number y e stands.shows stands.ask))
-      (subst (λ (text : Bytes). ShowsState number name [] none_leaves (asked_by text (asks_head e)) (put_on e.number c.number s)) (sym stands.shows.text)
+      subst (λ (b : Bool). ShowsState number name [] none_leaves (asked_by x e.number c.number y peer y.text.items b) (put_on e.number c.number s)) (sym (asks_same number y e stands.shows stands.ask))
+      (subst (λ (text : Bytes). ShowsState number name [] none_leaves (asked_by x e.number c.number y peer text (asks_head e)) (put_on e.number c.number s)) (sym stands.shows.text)
       (state_puts number name [] none_leaves (whole x.parts x.peers) s steps.shows y e peer c apart stands.put));
   order = steps.order;
   told =
@@ -178,12 +185,6 @@ put_steps number name x s e y peer c steps apart stands = record {
       (told_put number x.parts.cache s.next_instance e.number c.number x.parts.flow y steps.told stands.known);
   refused = steps.refused;
 }
-  where
-    asked_by : Bytes → Bool → Whole
-    asked_by text head = record (whole x.parts x.peers) {
-      flow = with_errand e.number (record y.errand { asked = 0 }) (placed_on c.number e.number x.parts.flow);
-      peers = with_pipe c.number (pushed text head peer.pipe) x.peers;
-    }
 
 put_around : (number : ℕ → ℕ) (p : Turn) (x : Around) (s : State) (e : Exchange) (y : Entry) (peer : Peer) (c : Conn) → ShowsAround number p x s → AreApart s → Stands number x.sides s e y peer c
     → ShowsAround number p (record x { sides = put_sides e.number c.number y peer x.sides }) (put_on e.number c.number s)
@@ -235,6 +236,6 @@ puts number p x s shows may e k un is =
     let room : HasRoom s k = on_room s e k is in
     let there : conn s k ≡ Some room.conn = in_found k s.conns room.conn room.there (same_as room.conn.number k room.number) (may.apart k) in (
       subst (λ (m : ℕ). ShowsAround number p (with_sides (put_in_turn e.number m) x) (put_on e.number m s)) room.number
-      (put_there number p x s e room.conn shows may.apart un (same_at room.conn k s room.number there) room.is_open room.room (λ may_pipeline. not_alone s e k is)),
+          (put_there number p x s e room.conn shows may.apart un (same_at room.conn k s room.number there) room.is_open room.room (λ may_pipeline. not_alone s e k is)),
       put_may e.number k s may,
     )

@@ -1,2 +1,3 @@
 pub mod Around
+pub mod Closings
 pub mod Places
