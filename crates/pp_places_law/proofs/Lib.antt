@@ -5,5 +5,5 @@ pub mod Walks
 pub mod Ways
 pub mod Puts
 pub mod Dials
-pub mod All
+pub mod Loops
 pub mod Shuts
