@@ -34,12 +34,10 @@ use Rattle.pp_peers.specs.declared.peers.Peer.{Peer}
 use Rattle.pp_peers.specs.declared.placing.Placed.TheVariants.{Dial}
 use Rattle.pp_places.specs.Around.{Around, moment_of, with_sides}
 use Rattle.pp_places.specs.Placing.{IsDialled, IsDialledFor, IsDialledTo, dial_log, dials_to, met_at, new_one, put_on as put_in_turn}
-use Rattle.pp_state.specs.Ends.{parts}
 use Rattle.pp_state.specs.declared.state.State.{State as Turn}
 use Rattle.pp_states_law.proofs.Dialled.{dials as state_dials}
 use Rattle.pp_steps_law.specs.Steps.{whole}
 use Rattle.pp_target.specs.Key.{Key}
-use Rattle.pp_turns_law.specs.Turns.{ShowsTurn}
 use Rattle.pp_world.specs.Log.{Log}
 use Rattle.pp_world.specs.Wire.{IsNewNumber, dial_happening}
 use Rattle.pp_world.specs.declared.event.Side.TheVariants.{Origin}
@@ -50,19 +48,19 @@ use Rattle.pp_places_law.proofs.Fits.{new_may, none_new, placing_may, put_may, w
 use Rattle.pp_places_law.proofs.Links.{as_many, counted, linked_more, numbers_more, one_longer}
 use Rattle.pp_places_law.proofs.Puts.{put_there}
 use Rattle.pp_places_law.proofs.Ways.{none_closes}
-use Rattle.pp_places_law.specs.Around.{IsAskable, MayPlace, ShowsAround, turn_of}
+use Rattle.pp_places_law.specs.Around.{IsAskable, MayPlace, ShowsAround, ShowsTurnWith}
 use Rattle.pp_places_law.specs.Places.{DialsAreTheLaws, IsLed, IsUnplaced}
 
 -- ---- there is room for one connection more
 
 none_in : (ks : List Conn) → list_any (λ j. j.is_closing) ks ≡ false → (k : Conn) → IsIn k ks → k.is_closing ≡ false
 none_in [] none k within = absurd within
-none_in (j ∷ ks) none k within = by j.is_closing refl none within
+none_in (j ∷ ks) none k within = by j.is_closing refl none within (λ less later. none_in ks less k later)
   where
-    by : (b : Bool) → j.is_closing ≡ b → (b || list_any (λ i. i.is_closing) ks) ≡ false → IsIn k (j ∷ ks) → k.is_closing ≡ false
-    by true is both there = absurd (let bad : true ≡ false = both in cc bad)
-    by false is both (inl same) = ap (λ (i : Conn). i.is_closing) same ∙ is
-    by false is both (inr later) = none_in ks both k later
+    by : (b : Bool) → j.is_closing ≡ b → (b || list_any (λ i. i.is_closing) ks) ≡ false → IsIn k (j ∷ ks) → (list_any (λ i. i.is_closing) ks ≡ false → IsIn k ks → k.is_closing ≡ false) → k.is_closing ≡ false
+    by true is both there rest = absurd (let bad : true ≡ false = both in cc bad)
+    by false is both (inl same) rest = ap (λ (i : Conn). i.is_closing) same ∙ is
+    by false is both (inr later) rest = rest both later
 
 few_peers : (number : ℕ → ℕ) (p : Turn) (x : Around) (t : State) (e : Exchange) → ShowsAround number p x t → MayPlace t → place_for t e ≡ Dial → length x.sides.peers < 64
 few_peers number p x t e shows may is = below (length x.sides.peers) (length t.conns) (as_many t x.sides.peers t.conns shows.turn.steps.shows.conns) (dial_room t e (none_in t.conns (none_closes t may)) is).0
@@ -155,10 +153,10 @@ with_peer_new n host port now x = record {
   top = n;
 }
 
-new_turn : (number : ℕ → ℕ) (peers : List Peer) (q : Turn) (t : State) (n port : ℕ) (host : Bytes) → ShowsTurn number none_leaves peers q t → conn t n ≡ None → ShowsTurn number none_leaves (peers ++ unused n host port t.clock ∷ []) q (with_new n host port t)
-new_turn number peers q t n port host shows none = record {
+new_turn : (number : ℕ → ℕ) (p : Turn) (x : Sides) (t : State) (n port : ℕ) (host : Bytes) → ShowsTurnWith number p x t → conn t n ≡ None → ShowsTurnWith number p (record x { peers = x.peers ++ unused n host port t.clock ∷ [] }) (with_new n host port t)
+new_turn number p x t n port host shows none = record {
   steps = record {
-    shows = state_dials number q.name.items [] none_leaves (whole (parts q) peers) t shows.steps.shows n port host none;
+    shows = state_dials number p.name.items [] none_leaves (whole x.parts x.peers) t shows.steps.shows n port host none;
     order = shows.steps.order;
     told = shows.steps.told;
     refused = shows.steps.refused;
@@ -188,7 +186,7 @@ few_more a b c d few one two = omega (arith, few, one, two)
 
 new_around : (number : ℕ → ℕ) (p : Turn) (x : Around) (t : State) (n port : ℕ) (host : Bytes) → ShowsAround number p x t → MayPlace t → x.top < n → t.top + 1 ≤ n → ShowsAround number p (with_peer_new n host port t.clock x) (with_new n host port t)
 new_around number p x t n port host shows may above given = record {
-  turn = new_turn number x.sides.peers (turn_of x.sides.parts p) t n port host shows.turn (none_new t n may given);
+  turn = new_turn number p x.sides t n port host shows.turn (none_new t n may given);
   limits = shows.limits;
   waiting = shows.waiting;
   placed = shows.placed;

@@ -39,19 +39,19 @@ one_linked k n links off there = find_kept (is_link n) (is_other k) links (λ li
 
 none_linked : (k : ℕ) (ps : List Peer) (links : List Link) → count_by (is_number k) ps ≡ 0 → AreLinked (peer_numbers ps) links → AreLinked (peer_numbers ps) (without_link k links)
 none_linked k [] links none linked = tt
-none_linked k (p ∷ ps) links none linked = by (is_number k p) refl (sym (count_first (is_number k) p ps) ∙ none)
+none_linked k (p ∷ ps) links none linked = by (is_number k p) refl (sym (count_first (is_number k) p ps) ∙ none) (λ few. none_linked k ps links few linked.1)
   where
-    by : (b : Bool) → is_number k p ≡ b → cond b 1 0 + count_by (is_number k) ps ≡ 0 → AreLinked (peer_numbers (p ∷ ps)) (without_link k links)
-    by true is few = absurd (omega (arith, few))
-    by false is few = (one_linked k p.number links is linked.0, none_linked k ps links (omega (arith, few)) linked.1)
+    by : (b : Bool) → is_number k p ≡ b → cond b 1 0 + count_by (is_number k) ps ≡ 0 → (count_by (is_number k) ps ≡ 0 → AreLinked (peer_numbers ps) (without_link k links)) → AreLinked (peer_numbers (p ∷ ps)) (without_link k links)
+    by true is few rest = absurd (omega (arith, few))
+    by false is few rest = (one_linked k p.number links is linked.0, rest (omega (arith, few)))
 
 pub linked_without : (k : ℕ) (ps : List Peer) (links : List Link) → count_by (is_number k) ps ≤ 1 → AreLinked (peer_numbers ps) links → AreLinked (peer_numbers (without_peer k ps)) (without_link k links)
 linked_without k [] links few linked = tt
-linked_without k (p ∷ ps) links few linked = by (is_number k p) refl (let e : cond (is_number k p) 1 0 + count_by (is_number k) ps ≤ 1 = omega (arith, few, count_first (is_number k) p ps) in e)
+linked_without k (p ∷ ps) links few linked = by (is_number k p) refl (let e : cond (is_number k p) 1 0 + count_by (is_number k) ps ≤ 1 = omega (arith, few, count_first (is_number k) p ps) in e) (λ less. linked_without k ps links less linked.1)
   where
-    by : (b : Bool) → is_number k p ≡ b → cond b 1 0 + count_by (is_number k) ps ≤ 1 → AreLinked (peer_numbers (cond b ps (p ∷ without_peer k ps))) (without_link k links)
-    by true is less = none_linked k ps links (omega (arith, less)) linked.1
-    by false is less = (one_linked k p.number links is linked.0, linked_without k ps links (omega (arith, less)) linked.1)
+    by : (b : Bool) → is_number k p ≡ b → cond b 1 0 + count_by (is_number k) ps ≤ 1 → (count_by (is_number k) ps ≤ 1 → AreLinked (peer_numbers (without_peer k ps)) (without_link k links)) → AreLinked (peer_numbers (cond b ps (p ∷ without_peer k ps))) (without_link k links)
+    by true is less rest = none_linked k ps links (omega (arith, less)) linked.1
+    by false is less rest = (one_linked k p.number links is linked.0, rest (omega (arith, less)))
 
 pub fewer_peers : (k : ℕ) (ps : List Peer) (peer : Peer) → find (is_number k) ps ≡ Some peer → length (without_peer k ps) + 1 ≡ length ps
 fewer_peers k [] peer there = absurd (none_some peer there)

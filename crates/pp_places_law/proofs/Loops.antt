@@ -133,13 +133,13 @@ Steps p more after x log y o = elim o [
 loop : (number : ℕ → ℕ) (p : Turn) (more : ℕ) (after : Option ℕ) (x y : Around) (s t : State) (log : Log) → Stands number p after x s t → AreCalm log → ArePlaced more (moment_of p) after x log y → Ends number p more after x log y s
 unfolding ArePlaced Reaches
 loop number p zero after x y s t log stands calm run = record { state = s; leads = still s log run.0; ends = inr run }
-loop number p (suc more) after x y s t log stands calm run = by (find (is_after after) x.sides.parts.flow.waiting) refl (next_of number p after x t stands.shows)
+loop number p (suc more) after x y s t log stands calm run = by (find (is_after after) x.sides.parts.flow.waiting) refl (next_of number p after x t stands.shows) (λ after z u v hs now ok go. loop number p more after z y u v hs now ok go)
   where
-    by : (o : Option Entry) → find (is_after after) x.sides.parts.flow.waiting ≡ o → IsNext number t after 0 t.exchanges o → Ends number p (suc more) after x log y s
-    by None is next =
+    by : (o : Option Entry) → find (is_after after) x.sides.parts.flow.waiting ≡ o → IsNext number t after 0 t.exchanges o → ((behind_it : Option ℕ) (z : Around) (u v : State) (hs : Log) → Stands number p behind_it z u v → AreCalm hs → ArePlaced more (moment_of p) behind_it z hs y → Ends number p more behind_it z hs y u) → Ends number p (suc more) after x log y s
+    by None is next again =
         let end : (log ≡ []) × (y ≡ x) = subst (λ (o : Option Entry). Steps p more after x log y (option_map (λ e. e.exchange.number) o)) is run in
         record { state = s; leads = still s log end.0; ends = inl (nothing number p after x log y s t stands (stands.walks ∙ next) end.1) }
-    by (Some w) is next =
+    by (Some w) is next again =
         let place : place_in_turn p.limits next.known.number x.sides ≡ place_for t next.known = places number p x t stands.shows stands.late next.known next.un in
         let at : GoesOn number p (goes_on_behind (place_for t next.known) next.known.number) step.1 step.0 s =
         one number p x step.0 s t next.known (behind (Some next.known.number) t.exchanges) step.1 (place_for t next.known) stands.shows stands.may stands.late next.un refl
@@ -148,7 +148,7 @@ loop number p (suc more) after x y s t log stands calm run = by (find (is_after 
         let more_run : ArePlaced more (moment_of p) (goes_on_behind (place_for t next.known) next.known.number) step.0 step.2 y =
         subst (λ (v : Placed). ArePlaced more (moment_of p) (goes_on_behind v next.known.number) step.0 step.2 y) place step.5 in
         let rest : Ends number p more (goes_on_behind (place_for t next.known) next.known.number) step.0 step.2 y at.behind_it =
-        loop number p more (goes_on_behind (place_for t next.known) next.known.number) step.0 y at.behind_it at.now step.2 at.stands (calm_rest step.1 step.2 log step.3 calm) more_run in
+        again (goes_on_behind (place_for t next.known) next.known.number) step.0 at.behind_it at.now step.2 at.stands (calm_rest step.1 step.2 log step.3 calm) more_run in
         record {
           state = rest.state;
           leads = subst (λ (hs : Log). Leads hs s rest.state) (sym step.3) (leads_then (λ v. v ≡ rest.state) step.1 step.2 s at.behind_it at.leads rest.leads);

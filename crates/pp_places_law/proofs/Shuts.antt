@@ -218,16 +218,15 @@ abbrev OthersGoOn : List Seat → List ℕ → Type 0
 OthersGoOn all is = (i : ℕ) (seat : Seat) → slice_get all i ≡ Some seat → has_number i is ≡ false → seat.is_closing ≡ false
 
 -- the places from this one on
-ones_are : (pre seats : List Seat) (is : List ℕ) (next : ℕ) → next ≡ length pre + length seats → AreGiven (length pre) next is → ((i : ℕ) (seat : Seat) → length pre ≤ i → slice_get (pre ++ seats) i ≡ Some seat → has_number i is ≡ false → seat.is_closing ≡ false)
-    → ones (pre ++ seats) is ≡ closers seats
-ones_are pre [] [] next long_as given others = refl
-ones_are pre [] (i ∷ is) next long_as given others = absurd (omega (arith, long_as, given.0, given_from (i + 1) next is given.1))
-ones_are pre (seat ∷ seats) is next long_as given others = by is given others
+ones_more : (pre : List Seat) (seat : Seat) (seats : List Seat) (is : List ℕ) (next : ℕ) → next ≡ length pre + length (seat ∷ seats)
+    → ((ms : List ℕ) → AreGiven (length (pre ++ seat ∷ [])) next ms → ((i : ℕ) (other : Seat) → length (pre ++ seat ∷ []) ≤ i → slice_get ((pre ++ seat ∷ []) ++ seats) i ≡ Some other → has_number i ms ≡ false → other.is_closing ≡ false) → ones ((pre ++ seat ∷ []) ++ seats) ms ≡ closers seats)
+    → AreGiven (length pre) next is → ((i : ℕ) (other : Seat) → length pre ≤ i → slice_get (pre ++ seat ∷ seats) i ≡ Some other → has_number i is ≡ false → other.is_closing ≡ false) → ones (pre ++ seat ∷ seats) is ≡ closers (seat ∷ seats)
+ones_more pre seat seats is next long_as again given others = by is given others
   where
     further : (ms : List ℕ) → AreGiven (length pre + 1) next ms → ((i : ℕ) (other : Seat) → length pre + 1 ≤ i → slice_get (pre ++ seat ∷ seats) i ≡ Some other → has_number i ms ≡ false → other.is_closing ≡ false) → ones (pre ++ seat ∷ seats) ms ≡ closers seats
     further ms later rest =
         subst (λ (all : List Seat). ones all ms ≡ closers seats) (append_assoc pre (seat ∷ []) seats)
-        (ones_are (pre ++ seat ∷ []) seats ms next (omega (arith, long_as, long pre seat)) (subst (λ (low : ℕ). AreGiven low next ms) (sym (long pre seat)) later)
+        (again ms (subst (λ (low : ℕ). AreGiven low next ms) (sym (long pre seat)) later)
         (λ i other less here none. rest i other (omega (arith, less, long pre seat)) (subst (λ (all : List Seat). slice_get all i ≡ Some other) (append_assoc pre (seat ∷ []) seats) here) none))
 
     skips : seat.is_closing ≡ false → closers seats ≡ closers (seat ∷ seats)
@@ -267,6 +266,13 @@ ones_are pre (seat ∷ seats) is next long_as given others = by is given others
     by : (ms : List ℕ) → AreGiven (length pre) next ms → ((i : ℕ) (other : Seat) → length pre ≤ i → slice_get (pre ++ seat ∷ seats) i ≡ Some other → has_number i ms ≡ false → other.is_closing ≡ false) → ones (pre ++ seat ∷ seats) ms ≡ closers (seat ∷ seats)
     by [] none rest = passed [] (omega (arith, long_as)) rest
     by (i ∷ ms) all rest = at i ms all.0 all.1 rest (length pre == i) refl
+
+ones_are : (pre seats : List Seat) (is : List ℕ) (next : ℕ) → next ≡ length pre + length seats → AreGiven (length pre) next is → ((i : ℕ) (seat : Seat) → length pre ≤ i → slice_get (pre ++ seats) i ≡ Some seat → has_number i is ≡ false → seat.is_closing ≡ false)
+    → ones (pre ++ seats) is ≡ closers seats
+ones_are pre [] [] next long_as given others = refl
+ones_are pre [] (i ∷ is) next long_as given others = absurd (omega (arith, long_as, given.0, given_from (i + 1) next is given.1))
+ones_are pre (seat ∷ seats) is next long_as given others =
+    ones_more pre seat seats is next long_as (λ ms later rest. ones_are (pre ++ seat ∷ []) seats ms next (omega (arith, long_as, long pre seat)) later rest) given others
 
 -- one that is closing is not silent
 awake_so : (seat : Seat) (b : Bool) → seat.is_closing ≡ b → is_silent seat ≡ true → b ≡ false
@@ -365,7 +371,7 @@ still_linked n links (m ∷ ms) there all = (find_kept (is_link m) (is_other n) 
   where
     off : (b : Bool) → (m == n) ≡ b → (m == n) ≡ false
     off false is = is
-    off true is = absurd (let bad : Some (m, Origin) ≡ Some (n, OfClient) = sym all.0 ∙ ap (λ (i : ℕ). find (is_link i) links) (same_number m n is) ∙ there in cc bad)
+    off true is = absurd (let bad : Origin ≡ OfClient = ap (λ (l : Link). l.1) (some_is (m, Origin) (n, OfClient) (sym all.0 ∙ ap (λ (i : ℕ). find (is_link i) links) (same_number m n is) ∙ there)) in cc bad)
 
 record IsLogged (ns ms : List ℕ) (links : List Link) : Type 0 where
   left : List Link

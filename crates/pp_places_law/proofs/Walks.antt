@@ -171,7 +171,7 @@ pub walks : (number : ℕ → ℕ) (t : State) (after : Option ℕ) (low next : 
     → IsNext number t after low es (find (is_after after) ws)
 walks number t after low next [] [] given there all = refl
 walks number t after low next [] (w ∷ ws) given there all = absurd all
-walks number t after low next (e ∷ es) ws given there all = by (has_none e) refl all
+walks number t after low next (e ∷ es) ws given there all = by (has_none e) refl all (λ vs rest. walks number t after (e.number + 1) next es vs given.1 there.1 rest)
   where
     behind_all : is_behind after e ≡ true → behind after es ≡ behind (Some e.number) (e ∷ es)
     behind_all is =
@@ -204,19 +204,19 @@ walks number t after low next (e ∷ es) ws given there all = by (has_none e) re
           ∙ ap (λ (ns : List ℕ). place_each (e.number ∷ ns) t) (behind_all is);
     }
 
-    first : (w : Entry) (vs : List Entry) → ShowsExchange number w e → AreAll (ShowsExchange number) vs (filter has_none es) → has_none e ≡ true → (b : Bool) → is_behind after e ≡ b
+    first : (w : Entry) (vs : List Entry) → ShowsExchange number w e → AreAll (ShowsExchange number) vs (filter has_none es) → has_none e ≡ true → (b : Bool) → is_behind after e ≡ b → ((vs : List Entry) → AreAll (ShowsExchange number) vs (filter has_none es) → IsNext number t after (e.number + 1) es (find (is_after after) vs))
         → IsNext number t after low (e ∷ es) (cond b (Some w) (find (is_after after) vs))
-    first w vs shows rest none true is = here w shows none is
-    first w vs shows rest none false is = one_more number t after low e es (find (is_after after) vs) given.0 (not_yet is) (walks number t after (e.number + 1) next es vs given.1 there.1 rest)
+    first w vs shows rest none true is again = here w shows none is
+    first w vs shows rest none false is again = one_more number t after low e es (find (is_after after) vs) given.0 (not_yet is) (again vs rest)
 
-    waiting : (vs : List Entry) → AreAll (ShowsExchange number) vs (e ∷ filter has_none es) → has_none e ≡ true → IsNext number t after low (e ∷ es) (find (is_after after) vs)
-    waiting [] both none = absurd both
-    waiting (w ∷ vs) both none =
-        subst (λ (b : Bool). IsNext number t after low (e ∷ es) (cond b (Some w) (find (is_after after) vs))) (sym (same_after after w e both.0.number)) (first w vs both.0 both.1 none (is_behind after e) refl)
+    waiting : (vs : List Entry) → AreAll (ShowsExchange number) vs (e ∷ filter has_none es) → has_none e ≡ true → ((vs : List Entry) → AreAll (ShowsExchange number) vs (filter has_none es) → IsNext number t after (e.number + 1) es (find (is_after after) vs)) → IsNext number t after low (e ∷ es) (find (is_after after) vs)
+    waiting [] both none again = absurd both
+    waiting (w ∷ vs) both none again =
+        subst (λ (b : Bool). IsNext number t after low (e ∷ es) (cond b (Some w) (find (is_after after) vs))) (sym (same_after after w e both.0.number)) (first w vs both.0 both.1 none (is_behind after e) refl again)
 
-    by : (b : Bool) → has_none e ≡ b → AreAll (ShowsExchange number) ws (cond b (e ∷ filter has_none es) (filter has_none es)) → IsNext number t after low (e ∷ es) (find (is_after after) ws)
-    by true none both = waiting ws both none
-    by false has rest = one_more number t after low e es (find (is_after after) ws) given.0 (passed (is_behind after e) refl has) (walks number t after (e.number + 1) next es ws given.1 there.1 rest)
+    by : (b : Bool) → has_none e ≡ b → AreAll (ShowsExchange number) ws (cond b (e ∷ filter has_none es) (filter has_none es)) → ((vs : List Entry) → AreAll (ShowsExchange number) vs (filter has_none es) → IsNext number t after (e.number + 1) es (find (is_after after) vs)) → IsNext number t after low (e ∷ es) (find (is_after after) ws)
+    by true none both again = waiting ws both none again
+    by false has rest again = one_more number t after low e es (find (is_after after) ws) given.0 (passed (is_behind after e) refl has) (again ws rest)
 
 there_of : (t : State) (es : List Exchange) → AreIn t.exchanges es → AllThere t es
 there_of t [] all = tt

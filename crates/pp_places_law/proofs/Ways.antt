@@ -8,6 +8,7 @@ use Rattle.pp_cache_law.proofs.Numbers.{some_is}
 use Rattle.pp_cache_law.proofs.PairLemmas.{count_first}
 use Rattle.pp_closings_law.proofs.Noted.{at_it, stays}
 use Rattle.pp_closings_law.proofs.Peers.{HasPeer, linked}
+use Rattle.pp_desk.specs.Closings.{Sides}
 use Rattle.pp_desk.specs.Shutting.{closings}
 use Rattle.pp_flow_law.proofs.Entries.{none_some, same_as}
 use Rattle.pp_flow_law.specs.Tables.{line_at, line_in, none_leaves}
@@ -25,18 +26,16 @@ use Rattle.pp_peers.specs.Peers.{is_number, without as without_peer}
 use Rattle.pp_peers.specs.declared.peers.Peer.{Peer}
 use Rattle.pp_places.specs.Around.{Around}
 use Rattle.pp_places.specs.Placing.{given_way}
-use Rattle.pp_state.specs.Ends.{parts}
 use Rattle.pp_state.specs.declared.state.State.{State as Turn}
 use Rattle.pp_states_law.proofs.Dialled.{empty_drops}
 use Rattle.pp_states_law.specs.Decisions.{AreApart}
 use Rattle.pp_steps_law.specs.Steps.{whole}
-use Rattle.pp_turns_law.specs.Turns.{ShowsTurn}
 use Rattle.pp_world.specs.Log.{Log}
 use Rattle.pp_world.specs.declared.event.Side.TheVariants.{Origin}
 use Rattle.pp_world.specs.declared.happening.Happening.TheVariants.{Dropped}
 use Rattle.pp_places_law.proofs.Fits.{longer_if, out_may, placing_may, same_numbered}
 use Rattle.pp_places_law.proofs.Links.{closing_is, counted, fewer_links, fewer_peers, link_of, linked_without}
-use Rattle.pp_places_law.specs.Around.{MayPlace, ShowsAround, turn_of}
+use Rattle.pp_places_law.specs.Around.{MayPlace, ShowsAround, ShowsTurnWith}
 use Rattle.pp_places_law.specs.Places.{WaysAreTheLaws}
 
 -- ---- it is there
@@ -54,11 +53,11 @@ pub in_found : (n : ℕ) (ks : List Conn) (c : Conn) → IsIn c ks → is_conn n
 in_found n [] c within is few = absurd within
 in_found n (k ∷ ks) c (inl same) is few =
     ap (λ (b : Bool). cond b (Some k) (find (is_conn n) ks)) (ap (λ (j : Conn). is_conn n j) (sym same) ∙ is) ∙ ap (λ (j : Conn). Some j) (sym same)
-in_found n (k ∷ ks) c (inr within) is few = by (is_conn n k) (let e : cond (is_conn n k) 1 0 + count_by (is_conn n) ks ≤ 1 = omega (arith, few, count_first (is_conn n) k ks) in e)
+in_found n (k ∷ ks) c (inr within) is few = by (is_conn n k) (let e : cond (is_conn n k) 1 0 + count_by (is_conn n) ks ≤ 1 = omega (arith, few, count_first (is_conn n) k ks) in e) (λ less. in_found n ks c within is less)
   where
-    by : (b : Bool) → cond b 1 0 + count_by (is_conn n) ks ≤ 1 → cond b (Some k) (find (is_conn n) ks) ≡ Some c
-    by true less = absurd (omega (arith, less, in_counted n ks c within is))
-    by false less = in_found n ks c within is (omega (arith, less))
+    by : (b : Bool) → cond b 1 0 + count_by (is_conn n) ks ≤ 1 → (count_by (is_conn n) ks ≤ 1 → find (is_conn n) ks ≡ Some c) → cond b (Some k) (find (is_conn n) ks) ≡ Some c
+    by true less rest = absurd (omega (arith, less, in_counted n ks c within is))
+    by false less rest = rest (omega (arith, less))
 
 some_kept : (f : Conn → Conn) (o : Option Conn) → is_some (option_map f o) ≡ is_some o
 some_kept f None = refl
@@ -122,11 +121,11 @@ goes s k may there = ap (λ (t : State). dropped k t) (stays s may.connecting) �
 
 -- ---- what is shown then
 
-way_turn : (number : ℕ → ℕ) (peers : List Peer) (q : Turn) (t : State) (k : ℕ) → ShowsTurn number none_leaves peers q t → AreApart t → line_at t k ≡ [] → ShowsTurn number none_leaves (without_peer k peers) q (out k t)
+way_turn : (number : ℕ → ℕ) (p : Turn) (x : Sides) (t : State) (k : ℕ) → ShowsTurnWith number p x t → AreApart t → line_at t k ≡ [] → ShowsTurnWith number p (record x { peers = without_peer k x.peers }) (out k t)
 unfolding out
-way_turn number peers q t k shows apart empty = record {
+way_turn number p x t k shows apart empty = record {
   steps = record {
-    shows = empty_drops number q.name.items [] none_leaves (whole (parts q) peers) t shows.steps.shows k (apart k) empty;
+    shows = empty_drops number p.name.items [] none_leaves (whole x.parts x.peers) t shows.steps.shows k (apart k) empty;
     order = shows.steps.order;
     told = shows.steps.told;
     refused = shows.steps.refused;
@@ -150,7 +149,7 @@ unfolding out
 way_shown number p x t k c shows may there empty =
     let one : HasPeer t k x.sides.peers c = linked t k x.sides.peers t.conns c there shows.turn.steps.shows.conns in
     record {
-      turn = way_turn number x.sides.peers (turn_of x.sides.parts p) t k shows.turn may.apart (ap (λ (o : Option Conn). line_in o) there ∙ empty);
+      turn = way_turn number p x.sides t k shows.turn may.apart (ap (λ (o : Option Conn). line_in o) there ∙ empty);
       limits = shows.limits;
       waiting = shows.waiting;
       placed = shows.placed;
