@@ -1,4 +1,12 @@
 pub mod Accepting
+pub mod Closing
+pub mod Deciding
+pub mod Events
+pub mod Handling
+pub mod Leaving
+pub mod Moving
+pub mod Rounds
+pub mod Settling
 pub mod Taking
-pub mod Turns
 pub mod Ticks
+pub mod Turns

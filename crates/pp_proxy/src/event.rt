@@ -1,10 +1,15 @@
 // Step 1: the event, with at most one read or one write.
 ghost use Rattle.std.specs.Prelude.{◌≡◌, ◌≤◌, ◌⊎◌, true, false, length, map, max, vec_capacity, IfSome, Some};
+ghost use Rattle.std.specs.List.{find};
 ghost use Rattle.pp_proxy.specs.Accepting.{newcomer, IsAccepted, IsSeated, IsTurnedAway};
+ghost use Rattle.pp_proxy.specs.Handling.{reached_in, Breaks, Handles, Reaches, ReadsAt, Stops, Wakes, WritesAt};
+ghost use Rattle.pp_proxy.specs.Moving.{turning, Grows};
 ghost use Rattle.pp_links.specs.Links.{IsLinked};
+ghost use Rattle.pp_links.specs.Quiet.{GrowsQuietly};
+ghost use Rattle.pp_peers.specs.Peers.{is_number};
 ghost use Rattle.pp_desk.specs.Closings.{sides};
 ghost use Rattle.pp_proxy.specs.Ticks.{ticked};
-ghost use Rattle.pp_state.specs.Ends.{AreSeated};
+ghost use Rattle.pp_state.specs.Ends.{numbers_of, AreSeated};
 ghost use Rattle.pp_decide.specs.Patience.{is_leap};
 ghost use Rattle.pp_state.specs.Numbers.{places};
 ghost use Rattle.pp_due.specs.Waits.{woken_seat};
@@ -18,11 +23,12 @@ use pp_desk::Desk;
 use pp_due::renew_marks;
 use pp_links::Links;
 use pp_origins::{ask, close_idle, gone, receive};
+use pp_peers::Peers;
 use pp_seats::{Account, Seat};
 use pp_shelf::Shelf;
 use pp_state::State;
 use pp_talk::{hear, load_and_say};
-use pp_world::{Event, Source, World};
+use pp_world::{Event, Source, Wire, World};
 
 /// Ours: a tick that comes so many seconds behind the last one, as long as a client may be idle, tells of a computer
 /// that was asleep.
@@ -42,47 +48,106 @@ pub(crate) fn handle<W: World>(
     ensures linked { IsLinked (W.log world.new) (W.top world.new) links.new }
     ensures holds { Told (W.log world.new) (Holds anything shelf.new) }
     ensures steady { GrowsSteadily (W.log world.old) (W.log world.new) }
+    ensures is { AreSeated desk.old.state → Handles (λ k. Grows) (λ i. Grows) event (turning shelf.old desk.old links.old (W.top world.old) (W.log world.old) (W.faults world.old)) (turning shelf.new desk.new links.new (W.top world.new) (W.log world.new) (W.faults world.new)) }
+    ensures faults { W.faults world.old ≤ W.faults world.new }
 {
     match event {
-        Event::Stop => {
-            desk.state.is_stopped = true;
-            desk.state.wake();
-        }
+        Event::Stop => stop(desk),
         Event::Tick(seconds) => tick(desk, seconds),
         Event::Accepted(c) => accept(desk, c),
-        Event::Readable(id) => {
-            desk.state.regain();
-            desk.touch(id);
-            match desk.state.seat_of(id) {
-                Some(i) => {
-                    desk.state.rouse(i);
-                    hear(desk, links, world, i);
-                }
-                None => receive(desk, links, shelf, world, id),
-            }
-        }
-        Event::Writable(id) => {
-            desk.state.regain();
-            desk.touch(id);
-            match desk.state.seat_of(id) {
-                Some(i) => {
-                    desk.state.rouse(i);
-                    load_and_say(desk, links, shelf, world, i);
-                }
-                None => ask(desk, links, world, id),
-            }
-        }
-        Event::Reached(k) => {
-            desk.touch(k);
-            if let Some(peer) = desk.peers.get_mut(k) {
-                peer.is_reached = true;
-            }
-        }
-        Event::Broken(k) => {
-            desk.state.regain();
-            gone(desk, links, world, k, false);
-        }
+        Event::Readable(id) => read(desk, links, shelf, world, id),
+        Event::Writable(id) => write(desk, links, shelf, world, id),
+        Event::Reached(k) => reach(desk, k),
+        Event::Broken(k) => lose(desk, links, world, k),
     }
+}
+
+/// All is to be closed, and all are looked at.
+fn stop(desk: &mut Desk)
+    ensures { Stops desk.old desk.new }
+{
+    desk.state.is_stopped = true;
+    desk.state.wake();
+}
+
+/// A client, or an origin, is read once.
+#[tactic(auto, using(pp_desk::proofs::DiskLemmas::holds_quietly, pp_shelf::proofs::SteadyLemmas::steady_then, pp_shelf::proofs::SteadyLemmas::steady_none, pp_shelf::proofs::SteadyLemmas::quiet_is_steady))]
+fn read<W: World>(desk: &mut Desk, links: &mut Links, shelf: &Shelf, world: &mut W, id: u64)
+    requires linked { IsLinked (W.log world.old) (W.top world.old) links.old }
+    ensures linked { IsLinked (W.log world.new) (W.top world.new) links.new }
+    ensures quiet { GrowsQuietly (W.log world.old) (W.log world.new) }
+    ensures is { AreSeated desk.old.state → ReadsAt (λ k. Grows) id (turning shelf.now desk.old links.old (W.top world.old) (W.log world.old) (W.faults world.old)) (turning shelf.now desk.new links.new (W.top world.new) (W.log world.new) (W.faults world.new)) }
+    ensures faults { W.faults world.old ≤ W.faults world.new }
+{
+    wake(desk, id);
+    match desk.state.seat_of(id) {
+        Some(i) => {
+            desk.state.rouse(i);
+            hear(desk, links, world, i);
+        }
+        None => receive(desk, links, shelf, world, id),
+    }
+}
+
+/// A client is said what is at hand for it, or an origin is asked what is left to ask.
+#[tactic(auto, using(pp_desk::proofs::DiskLemmas::holds_quietly, pp_shelf::proofs::SteadyLemmas::steady_then, pp_shelf::proofs::SteadyLemmas::steady_none, pp_shelf::proofs::SteadyLemmas::quiet_is_steady))]
+fn write<W: World>(desk: &mut Desk, links: &mut Links, shelf: &mut Shelf, world: &mut W, id: u64)
+    requires linked { IsLinked (W.log world.old) (W.top world.old) links.old }
+    requires holds { Told (W.log world.old) (Holds anything shelf.old) }
+    ensures linked { IsLinked (W.log world.new) (W.top world.new) links.new }
+    ensures holds { Told (W.log world.new) (Holds anything shelf.new) }
+    ensures steady { GrowsSteadily (W.log world.old) (W.log world.new) }
+    ensures is { AreSeated desk.old.state → WritesAt (λ i. Grows) id (turning shelf.old desk.old links.old (W.top world.old) (W.log world.old) (W.faults world.old)) (turning shelf.new desk.new links.new (W.top world.new) (W.log world.new) (W.faults world.new)) }
+    ensures faults { W.faults world.old ≤ W.faults world.new }
+{
+    wake(desk, id);
+    match desk.state.seat_of(id) {
+        Some(i) => {
+            desk.state.rouse(i);
+            load_and_say(desk, links, shelf, world, i);
+        }
+        None => ask(desk, links, world, id),
+    }
+}
+
+/// Attempts count anew for those whose next byte is held, and the connection is not idle.
+fn wake(desk: &mut Desk, id: u64)
+    ensures is { AreSeated desk.old.state → Wakes id desk.old desk.new }
+    ensures numbers { numbers_of desk.new.state.seats.items ≡ numbers_of desk.old.state.seats.items }
+{
+    desk.state.regain();
+    desk.touch(id);
+}
+
+/// The connection to an origin was reached.
+fn reach(desk: &mut Desk, k: u64)
+    ensures { AreSeated desk.old.state → Reaches k desk.old desk.new }
+{
+    desk.touch(k);
+    note_reached(&mut desk.peers, k);
+}
+
+fn note_reached(peers: &mut Peers, k: u64)
+    ensures { peers.new ≡ reached_in (find (is_number k) peers.old) k peers.old }
+{
+    if let Some(peer) = peers.get_mut(k) {
+        peer.is_reached = true;
+    }
+}
+
+/// The connection to an origin broke, or could not be made.
+#[tactic(auto, using(pp_links::proofs::QuietLemmas::quiet_none))]
+fn lose<W: Wire>(desk: &mut Desk, links: &Links, world: &mut W, k: u64)
+    requires { IsLinked (W.log world.old) (W.top world.old) links.now }
+    ensures linked { IsLinked (W.log world.new) (W.top world.new) links.now }
+    ensures quiet { GrowsQuietly (W.log world.old) (W.log world.new) }
+    ensures told { W.log world.new ≡ W.log world.old }
+    ensures is { AreSeated desk.old.state → Breaks k desk.old desk.new }
+    ensures faults { W.faults world.old ≤ W.faults world.new }
+    ensures top { W.top world.new ≡ W.top world.old }
+{
+    desk.state.regain();
+    gone(desk, links, world, k, false);
 }
 
 /// A client has come. Where there is no memory for it, it is turned away.

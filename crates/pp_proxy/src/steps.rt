@@ -1,10 +1,16 @@
 // The steps of a turn.
-ghost use Rattle.std.specs.Prelude.{◌≡◌, [], ◌∷◌, ◌++◌};
+ghost use Rattle.std.specs.Prelude.{◌≡◌, ◌≤◌, true, [], ◌∷◌, ◌++◌, is_some};
 ghost use Rattle.pp_links.specs.Links.{IsLinked};
 ghost use Rattle.pp_links.specs.Quiet.{GrowsQuietly};
 ghost use Rattle.pp_shelf.specs.Steady.{GrowsSteadily};
 ghost use Rattle.pp_desk.specs.Anything.{anything};
 ghost use Rattle.pp_desk.specs.Closings.{KeepsDesk};
+ghost use Rattle.pp_proxy.specs.Deciding.{DecidesAll, TurnsAway};
+ghost use Rattle.pp_proxy.specs.Events.{TakesEvent};
+ghost use Rattle.pp_proxy.specs.Handling.{Handles};
+ghost use Rattle.pp_proxy.specs.Moving.{moving, turning, Grows, LeadsOn};
+ghost use Rattle.pp_proxy.specs.Rounds.{GoRounds, GoesRound, Serves};
+ghost use Rattle.pp_proxy.specs.Settling.{GoesOn, Settles};
 ghost use Rattle.pp_proxy.specs.Taking.{IsTaken, TakesDue, due_log, who_at};
 ghost use Rattle.pp_state.specs.Ends.{numbers_of, parts, AreSeated, KeepsRest};
 ghost use Rattle.pp_steps.specs.Evicting.{row_in_way, row_notes};
@@ -43,6 +49,8 @@ pub(crate) fn take_event<W: World>(
     ensures linked { IsLinked (W.log world.new) (W.top world.new) links.new }
     ensures holds { Told (W.log world.new) (Holds anything shelf.new) }
     ensures steady { GrowsSteadily (W.log world.old) (W.log world.new) }
+    ensures is { TakesEvent (Handles (λ k. Grows) (λ i. Grows) event) Grows (turning shelf.old desk.old links.old (W.top world.old) (W.log world.old) (W.faults world.old)) (turning shelf.new desk.new links.new (W.top world.new) (W.log world.new) (W.faults world.new)) }
+    ensures faults { W.faults world.old ≤ W.faults world.new }
 {
     handle(desk, links, shelf, world, event);
     desk.state.regain();
@@ -58,6 +66,9 @@ fn settle<W: Wire>(desk: &mut Desk, links: &mut Links, shelf: &Shelf, world: &mu
     requires { IsLinked (W.log world.old) (W.top world.old) links.old }
     ensures linked { IsLinked (W.log world.new) (W.top world.new) links.new }
     ensures quiet { GrowsQuietly (W.log world.old) (W.log world.new) }
+    ensures is { AreSeated desk.old.state → LeadsOn (Settles shelf.now) (moving desk.old links.old (W.top world.old)) (moving desk.new links.new (W.top world.new)) (W.log world.old) (W.log world.new) (W.faults world.old) (W.faults world.new) }
+    ensures seated { AreSeated desk.old.state → AreSeated desk.new.state }
+    ensures faults { W.faults world.old ≤ W.faults world.new }
 {
     let _ = decide(desk, links, shelf, world);
     go_on(desk, links, shelf, world);
@@ -67,6 +78,9 @@ fn go_on<W: Wire>(desk: &mut Desk, links: &mut Links, shelf: &Shelf, world: &mut
     requires { IsLinked (W.log world.old) (W.top world.old) links.old }
     ensures linked { IsLinked (W.log world.new) (W.top world.new) links.new }
     ensures quiet { GrowsQuietly (W.log world.old) (W.log world.new) }
+    ensures is { AreSeated desk.old.state → LeadsOn (GoesOn desk.old.state.is_stopped shelf.now) (moving desk.old links.old (W.top world.old)) (moving desk.new links.new (W.top world.new)) (W.log world.old) (W.log world.new) (W.faults world.old) (W.faults world.new) }
+    ensures seated { AreSeated desk.old.state → AreSeated desk.new.state }
+    ensures faults { W.faults world.old ≤ W.faults world.new }
 {
     if desk.state.is_stopped {
         desk.close_over(links, world);
@@ -75,13 +89,28 @@ fn go_on<W: Wire>(desk: &mut Desk, links: &mut Links, shelf: &Shelf, world: &mut
     }
 }
 
-/// What nobody will see is not read on, followers ask, connections that are over are closed, and exchanges
-/// get their places; where that brings decisions, once more. Then replies begin.
-#[tactic(auto, using(pp_links::proofs::QuietLemmas::quiet_then, pp_links::proofs::QuietLemmas::quiet_none))]
+/// The steps behind the decisions, and then replies begin.
 fn serve<W: Wire>(desk: &mut Desk, links: &mut Links, shelf: &Shelf, world: &mut W)
     requires { IsLinked (W.log world.old) (W.top world.old) links.old }
     ensures linked { IsLinked (W.log world.new) (W.top world.new) links.new }
     ensures quiet { GrowsQuietly (W.log world.old) (W.log world.new) }
+    ensures is { AreSeated desk.old.state → LeadsOn (Serves shelf.now) (moving desk.old links.old (W.top world.old)) (moving desk.new links.new (W.top world.new)) (W.log world.old) (W.log world.new) (W.faults world.old) (W.faults world.new) }
+    ensures seated { AreSeated desk.old.state → AreSeated desk.new.state }
+    ensures faults { W.faults world.old ≤ W.faults world.new }
+{
+    go_rounds(desk, links, shelf, world);
+    begin_replies(&mut desk.state);
+}
+
+/// As long as one decided anything.
+#[tactic(auto, using(pp_links::proofs::QuietLemmas::quiet_then, pp_links::proofs::QuietLemmas::quiet_none))]
+fn go_rounds<W: Wire>(desk: &mut Desk, links: &mut Links, shelf: &Shelf, world: &mut W)
+    requires { IsLinked (W.log world.old) (W.top world.old) links.old }
+    ensures linked { IsLinked (W.log world.new) (W.top world.new) links.new }
+    ensures quiet { GrowsQuietly (W.log world.old) (W.log world.new) }
+    ensures is { AreSeated desk.old.state → LeadsOn (GoRounds ROUNDS shelf.now true) (moving desk.old links.old (W.top world.old)) (moving desk.new links.new (W.top world.new)) (W.log world.old) (W.log world.new) (W.faults world.old) (W.faults world.new) }
+    ensures seated { AreSeated desk.old.state → AreSeated desk.new.state }
+    ensures faults { W.faults world.old ≤ W.faults world.new }
 {
     let mut is_decided = true;
     for _round in 0..ROUNDS {
@@ -90,15 +119,18 @@ fn serve<W: Wire>(desk: &mut Desk, links: &mut Links, shelf: &Shelf, world: &mut
         }
         is_decided = go_round(desk, links, shelf, world);
     }
-    begin_replies(&mut desk.state);
 }
 
-/// Whether anything was decided.
+/// What nobody will see is not read on, asks that bring nothing are given up, followers ask, connections that are
+/// over are closed, exchanges get their places, and what that brings is decided. Whether anything was.
 #[tactic(auto, using(pp_links::proofs::QuietLemmas::quiet_then, pp_links::proofs::QuietLemmas::quiet_none))]
 fn go_round<W: Wire>(desk: &mut Desk, links: &mut Links, shelf: &Shelf, world: &mut W) -> bool
     requires { IsLinked (W.log world.old) (W.top world.old) links.old }
     ensures linked { IsLinked (W.log world.new) (W.top world.new) links.new }
     ensures quiet { GrowsQuietly (W.log world.old) (W.log world.new) }
+    ensures is { AreSeated desk.old.state → LeadsOn (λ x log y. GoesRound shelf.now x log y result) (moving desk.old links.old (W.top world.old)) (moving desk.new links.new (W.top world.new)) (W.log world.old) (W.log world.new) (W.faults world.old) (W.faults world.new) }
+    ensures seated { AreSeated desk.old.state → AreSeated desk.new.state }
+    ensures faults { W.faults world.old ≤ W.faults world.new }
 {
     drop_unseen(desk);
     give_up_asks(&mut desk.state);
@@ -114,6 +146,11 @@ fn decide<W: Wire>(desk: &mut Desk, links: &mut Links, shelf: &Shelf, world: &mu
     requires { IsLinked (W.log world.old) (W.top world.old) links.old }
     ensures linked { IsLinked (W.log world.new) (W.top world.new) links.new }
     ensures quiet { GrowsQuietly (W.log world.old) (W.log world.new) }
+    ensures is { AreSeated desk.old.state → LeadsOn (λ x log y. DecidesAll shelf.now x log y result) (moving desk.old links.old (W.top world.old)) (moving desk.new links.new (W.top world.new)) (W.log world.old) (W.log world.new) (W.faults world.old) (W.faults world.new) }
+    ensures numbers { numbers_of desk.new.state.seats.items ≡ numbers_of desk.old.state.seats.items }
+    ensures rest { KeepsDesk desk.old (record desk.new { turned_away = desk.old.turned_away }) }
+    ensures faults { W.faults world.old ≤ W.faults world.new }
+    ensures top { W.top world.new ≡ W.top world.old }
 {
     let mut is_any = turn_away(desk, links, world);
     for _due in 0..ROUNDS {
@@ -136,6 +173,8 @@ fn take_due<W: Wire>(desk: &mut Desk, links: &Links, world: &mut W, i: usize, du
     ensures is { AreSeated desk.old.state → TakesDue i due desk.old desk.new }
     ensures numbers { numbers_of desk.new.state.seats.items ≡ numbers_of desk.old.state.seats.items }
     ensures rest { KeepsDesk desk.old desk.new }
+    ensures faults { W.faults world.old ≤ W.faults world.new }
+    ensures top { W.top world.new ≡ W.top world.old }
 {
     let Some((client, index)) = who_at(&desk.state, i) else {
         return;
@@ -158,6 +197,10 @@ fn turn_away<W: Wire>(desk: &mut Desk, links: &mut Links, world: &mut W) -> bool
     requires { IsLinked (W.log world.old) (W.top world.old) links.old }
     ensures linked { IsLinked (W.log world.new) (W.top world.new) links.new }
     ensures quiet { GrowsQuietly (W.log world.old) (W.log world.new) }
+    ensures answer { result ≡ is_some desk.old.turned_away }
+    ensures is { LeadsOn TurnsAway (moving desk.old links.old (W.top world.old)) (moving desk.new links.new (W.top world.new)) (W.log world.old) (W.log world.new) (W.faults world.old) (W.faults world.new) }
+    ensures faults { W.faults world.old ≤ W.faults world.new }
+    ensures top { W.top world.new ≡ W.top world.old }
 {
     match desk.turned_away {
         None => false,
@@ -196,6 +239,8 @@ fn take_decision<W: Wire>(
     ensures is { IsTaken i decision state.old (parts state.new) }
     ensures numbers { numbers_of state.new.seats.items ≡ numbers_of state.old.seats.items }
     ensures rest { KeepsRest state.old state.new }
+    ensures faults { W.faults world.old ≤ W.faults world.new }
+    ensures top { W.top world.new ≡ W.top world.old }
 {
     give_way(state, links, world, i, decision);
     links.note(world, &Note::Taken(client, index, decision));

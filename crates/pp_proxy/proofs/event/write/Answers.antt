@@ -1,0 +1,50 @@
+use Rattle.std.proofs.Common.{◌≡◌, ◌∙◌, refl, sym, subst, ℕ, List, Option, Some, None}
+use Rattle.pp_desk.specs.declared.desk.Desk.{Desk}
+use Rattle.pp_proxy.specs.Handling.{WritesBy}
+use Rattle.pp_proxy.specs.Moving.{Grows, turning}
+use Rattle.pp_state.specs.Ends.{AreInOrder, AreSeated, numbers_of, place_of}
+use Rattle.pp_proxy.proofs.event.write.Goals as goal
+
+pub returns-in-Some-clause-is : goal.returns-in-Some-clause-is
+returns-in-Some-clause-is g c = λ seated.
+    let top = g.W.Logged.top in
+    let log = g.W.Logged.log in
+    let faults = g.W.Logged.faults in
+    let woken : Desk = c.wake.new.desk in
+    let new = c.load_and_say.new in
+    let id = c.args.id in
+    let x = turning c.args.shelf.now woken c.args.links.now (top c.args.world.now) (log c.args.world.now) (faults c.args.world.now) in
+    let y = turning new.shelf new.desk new.links (top new.world) (log new.world) (faults new.world) in
+    let woken_seated : AreSeated woken.state = subst (λ (ns : List ℕ). AreInOrder ns) (sym c.wake.ensures.numbers) seated in
+    let at : place_of id (numbers_of woken.state.seats.items) ≡ Some c.in-Some.i = sym (c.seat_of.ensures.place woken_seated) ∙ c.in-Some.is in
+    record {
+      woken = woken;
+      wakes = c.wake.ensures.is seated;
+      writes = subst (λ (o : Option ℕ). WritesBy (λ i. Grows) o id x y) (sym at) (record { grows = c.load_and_say.ensures.steady; linked = c.load_and_say.ensures.linked; count = c.load_and_say.ensures.faults });
+    }
+
+pub returns-in-None-clause-is : goal.returns-in-None-clause-is
+returns-in-None-clause-is g c = λ seated.
+    let top = g.W.Logged.top in
+    let log = g.W.Logged.log in
+    let faults = g.W.Logged.faults in
+    let woken : Desk = c.wake.new.desk in
+    let new = c.ask.new in
+    let links = c.args.links.now in
+    let shelf = c.args.shelf.now in
+    let id = c.args.id in
+    let x = turning shelf woken links (top c.args.world.now) (log c.args.world.now) (faults c.args.world.now) in
+    let y = turning shelf new.desk links (top new.world) (log new.world) (faults new.world) in
+    let woken_seated : AreSeated woken.state = subst (λ (ns : List ℕ). AreInOrder ns) (sym c.wake.ensures.numbers) seated in
+    let at : place_of id (numbers_of woken.state.seats.items) ≡ None = sym (c.seat_of.ensures.place woken_seated) ∙ c.in-None.is in
+    record {
+      woken = woken;
+      wakes = c.wake.ensures.is seated;
+      writes = subst (λ (o : Option ℕ). WritesBy (λ i. Grows) o id x y) (sym at) (record {
+        asks = c.ask.ensures.is woken_seated;
+        numbers = c.ask.ensures.numbers;
+        rest = c.ask.ensures.rest;
+        room = c.ask.ensures.room;
+        one = record { shelf = refl; links = refl; top = c.ask.ensures.top; count = c.ask.ensures.faults };
+      });
+    }
