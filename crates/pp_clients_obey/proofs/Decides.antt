@@ -236,9 +236,9 @@ may_decide number name owed seat c shows open_seat expects = record {
 
 -- ---- the decision is taken
 
-taken_is : (n : ℕ) (d : Decision) (c : Client) (s : State) → client s n ≡ Some c → take_decision n d s ≡ regained (record (decided c d s) { forgotten = []; has_made_room = false })
+taken_is : (n : ℕ) (d : Decision) (c : Client) (s : State) → client s n ≡ Some c → take_decision n d s ≡ regained (record (decided c d s) { forgotten = []; has_made_room = None })
 unfolding take_decision
-taken_is n d c s found = ap (λ (o : Option Client). elim o as (λ x. State) [ None ↦ s | Some y ↦ regained (record (decided y d s) { forgotten = []; has_made_room = false }) ]) found
+taken_is n d c s found = ap (λ (o : Option Client). elim o as (λ x. State) [ None ↦ s | Some y ↦ regained (record (decided y d s) { forgotten = []; has_made_room = None }) ]) found
 
 regained_room : (s : State) → (regained s).has_made_room ≡ s.has_made_room
 unfolding regained
@@ -251,9 +251,9 @@ regained_phase s = refl
 decided_phase : (c : Client) (d : Decision) (s : State) → (decided c d s).phase ≡ s.phase
 decided_phase c d s = let same : frame true (decided c d s) ≡ frame true s = frame_of {all = true} (decided-stays c d s (stays refl)) in ap (λ (o : Frame). o.phase) same
 
-goes_by_room : (number : ℕ → ℕ) (s : State) (n index : ℕ) (d : Decision) (owed : List Bytes) (seat : Seat) (seats : List Seat) (b : Bool) → s.has_made_room ≡ b → IsToTake number owed n index d seat seats s → Goes s (Noted (Taken n index d)) (take_decision n d (in_phase Deciding s))
-goes_by_room number s n index d owed seat seats true made to = goes_taken_behind s n index d made to.taking to.may (to.behind made)
-goes_by_room number s n index d owed seat seats false none to = goes_taken s n index d none to.taking to.may
+goes_by_room : (number : ℕ → ℕ) (s : State) (n index : ℕ) (d : Decision) (owed : List Bytes) (seat : Seat) (seats : List Seat) (room : Option ℕ) → s.has_made_room ≡ room → IsToTake number owed n index d seat seats s → Goes s (Noted (Taken n index d)) (take_decision n d (in_phase Deciding s))
+goes_by_room number s n index d owed seat seats (Some who) made to = goes_taken_behind s n index d who made to.taking to.may (to.behind (ap is_some made))
+goes_by_room number s n index d owed seat seats None none to = goes_taken s n index d none to.taking to.may
 
 taken_moves : (number : ℕ → ℕ) (owed : List Bytes) (n i index : ℕ) (d : Decision) (seats : List Seat) (seat new : Seat) (f : Client → Client) → Sits n i seats seat → (s : State) → IsToTake number owed n index d seat seats s
     → ((c : Client) → client s n ≡ Some c → ShowsSeat number s.settings.name owed seat c → IsChangedBy c.number f (in_phase Deciding s) (decided c d (in_phase Deciding s)))
@@ -262,13 +262,13 @@ taken_moves number owed n i index d seats seat new f sits s to leads shows =
     let found : IsFound number s.settings.name owed seat n s.clients = places number s.settings.name owed seats s.clients n i seat to.shown sits.at sits.there in
     let led : seen (decided found.client d (in_phase Deciding s)) ≡ (s.settings.name, change (is_client n) f s.clients)
     = leads found.client found.there found.shows ∙ ap (λ (m : ℕ). (s.settings.name, change (is_client m) f s.clients)) (number_found n s.clients found.client found.there) in
-    let is : take_decision n d (in_phase Deciding s) ≡ regained (record (decided found.client d (in_phase Deciding s)) { forgotten = []; has_made_room = false })
+    let is : take_decision n d (in_phase Deciding s) ≡ regained (record (decided found.client d (in_phase Deciding s)) { forgotten = []; has_made_room = None })
     = taken_is n d found.client (in_phase Deciding s) found.there in
     moves_to refl (goes_by_room number s n index d owed seat seats s.has_made_room refl to)
     (record {
-      none = ap (λ (t : State). t.has_made_room) is ∙ regained_room (record (decided found.client d (in_phase Deciding s)) { forgotten = []; has_made_room = false });
-      at = ap (λ (t : State). t.phase) is ∙ regained_phase (record (decided found.client d (in_phase Deciding s)) { forgotten = []; has_made_room = false }) ∙ decided_phase found.client d (in_phase Deciding s);
-      before = record (decided found.client d (in_phase Deciding s)) { forgotten = []; has_made_room = false };
+      none = ap (λ (t : State). t.has_made_room) is ∙ regained_room (record (decided found.client d (in_phase Deciding s)) { forgotten = []; has_made_room = None });
+      at = ap (λ (t : State). t.phase) is ∙ regained_phase (record (decided found.client d (in_phase Deciding s)) { forgotten = []; has_made_room = None }) ∙ decided_phase found.client d (in_phase Deciding s);
+      before = record (decided found.client d (in_phase Deciding s)) { forgotten = []; has_made_room = None };
       shown = subst (λ (p : Bytes × List Client). AreShown number p.0 owed (slice_set seats i new) p.1) (sym led)
           (changes_there number s.settings.name owed seats s.clients n i new f to.shown sits.at
           (λ other c at there here. shows c there (subst (λ (x : Seat). ShowsSeat number s.settings.name owed x c) (same_seat seat other (sym sits.there ∙ at)) here)));

@@ -1,5 +1,5 @@
 -- The closing of a client is what the law permits, and leads where the law leads (RFC 2616, section 8.1).
-use Rattle.std.specs.Prelude.{◌≡◌, ℕ, ◌≤◌, true, false, not, ◌==◌, ◌||◌, List, filter, Option, Some, slice_get, slice_set}
+use Rattle.std.specs.Prelude.{◌≡◌, ℕ, ◌≤◌, true, false, not, ◌==◌, ◌||◌, List, filter, Option, Some, None, slice_get, slice_set}
 use Rattle.pp_world.specs.Log.{Appends, Log}
 use Rattle.pp_world.specs.declared.happening.Happening.TheVariants.{HungUp, Noted, Shut}
 use Rattle.pp_world.specs.declared.note.Cause.{Cause}
@@ -22,7 +22,7 @@ pub record IsClosed (old new : Seat) : Type 0 where
 
 -- a write to that client is owed, and the seats show the clients
 pub record MayWrite (number : ℕ → ℕ) (owed : List Bytes) (n : ℕ) (seats : List Seat) (s : State) : Type 0 where
-  pub none : s.has_made_room ≡ false
+  pub none : s.has_made_room ≡ None
   pub writes : s.owed ≡ WriteTo n
   pub shown : AreShown number s.settings.name owed seats s.clients
 
@@ -34,14 +34,14 @@ LossesKeep = (number : ℕ → ℕ) (old new : Option Log) (before now n i : ℕ
 
 -- decisions are taken, this cut is the first that is due, and the seats show the clients
 pub record IsDueToCut (number : ℕ → ℕ) (owed : List Bytes) (n : ℕ) (cause : Cause) (seats : List Seat) (s : State) : Type 0 where
-  pub none : s.has_made_room ≡ false
+  pub none : s.has_made_room ≡ None
   pub taking : decides s ≡ true
   pub due : first_due s ≡ Some (CutOff n cause)
   pub shown : AreShown number s.settings.name owed seats s.clients
 
 -- decisions are taken, and the seats show the clients
 pub record IsDeciding (number : ℕ → ℕ) (owed : List Bytes) (seats : List Seat) (s : State) : Type 0 where
-  pub none : s.has_made_room ≡ false
+  pub none : s.has_made_room ≡ None
   pub at : s.phase ≡ Deciding
   pub shown : AreShown number s.settings.name owed seats s.clients
 
@@ -54,7 +54,7 @@ CutsKeep = (number : ℕ → ℕ) (old new : Option Log) (before now n i : ℕ) 
 
 -- connections are closed, and the seats show the clients
 pub record IsClosingDown (number : ℕ → ℕ) (owed : List Bytes) (seats : List Seat) (s : State) : Type 0 where
-  pub none : s.has_made_room ≡ false
+  pub none : s.has_made_room ≡ None
   pub at : s.phase ≡ Connecting
   pub shown : AreShown number s.settings.name owed seats s.clients
 

@@ -33,7 +33,7 @@ use Rattle.pp_clients_obey.specs.Hearing.{Sits}
 -- decisions are taken, this one may be, and the seats show the clients; its interim answer is expected as the law has it, which is so
 -- unless memory was refused for a target that has no key
 pub record IsToTake (number : ℕ → ℕ) (owed : List Bytes) (n index : ℕ) (d : Decision) (seat : Seat) (seats : List Seat) (s : State) : Type 0 where
-  pub behind : s.has_made_room ≡ true → is_for_memory d ≡ false
+  pub behind : is_some s.has_made_room ≡ true → is_for_memory d ≡ false
   pub taking : decides s ≡ true
   pub may : may_take s n index d ≡ true
   pub shown : AreShown number s.settings.name owed seats s.clients
@@ -41,7 +41,7 @@ pub record IsToTake (number : ℕ → ℕ) (owed : List Bytes) (n index : ℕ) (
 
 -- it was taken, and the seats show the clients as they are before attempts count anew
 pub record WasTaken (number : ℕ → ℕ) (owed : List Bytes) (seats : List Seat) (s : State) : Type 0 where
-  pub none : s.has_made_room ≡ false
+  pub none : s.has_made_room ≡ None
   pub at : s.phase ≡ Deciding
   pub before : State
   pub shown : AreShown number before.settings.name owed seats before.clients

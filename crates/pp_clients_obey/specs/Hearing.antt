@@ -1,5 +1,5 @@
 -- A read of a client is what the law permits, and leads where the law leads (RFC 2616, section 5).
-use Rattle.std.specs.Prelude.{◌≡◌, ℕ, ◌≤◌, true, false, List, length, Option, Some, slice_get, slice_set}
+use Rattle.std.specs.Prelude.{◌≡◌, ℕ, ◌≤◌, true, false, List, length, Option, Some, None, slice_get, slice_set}
 use Rattle.pp_client.specs.Requests.{room_of}
 use Rattle.pp_world.specs.Log.{Appends, Log}
 use Rattle.pp_world.specs.declared.happening.Happening.TheVariants.{Heard, HungUp, NoneYet}
@@ -15,7 +15,7 @@ use Rattle.pp_seats_law.specs.Reads.{heard_on}
 
 -- a read of that client is owed, and the seats show the clients
 pub record OwesRead (number : ℕ → ℕ) (owed : List Bytes) (n : ℕ) (seats : List Seat) (s : State) : Type 0 where
-  pub none : s.has_made_room ≡ false
+  pub none : s.has_made_room ≡ None
   pub reads : s.owed ≡ ReadOf n
   pub shown : AreShown number s.settings.name owed seats s.clients
 

@@ -1,5 +1,5 @@
 -- Bytes that are said to a client are what the law permits, and lead where the law leads (RFC 2616, section 6).
-use Rattle.std.specs.Prelude.{◌≡◌, ℕ, ◌≤◌, true, false, List, length, Option, Some, slice_set}
+use Rattle.std.specs.Prelude.{◌≡◌, ℕ, ◌≤◌, true, false, List, length, Option, Some, None, slice_set}
 use Rattle.pp_client.specs.Replies.{is_said, left_next, said}
 use Rattle.pp_world.specs.Log.{Appends, Log}
 use Rattle.pp_world.specs.declared.happening.Happening.TheVariants.{Said}
@@ -17,7 +17,7 @@ use Rattle.pp_clients_obey.specs.Hearing.{Sits, WasRead}
 -- a write to that client is owed, the seats show the clients, and of what is there to be said these are the first, of so many that
 -- were offered
 pub record OwesWrite (number : ℕ → ℕ) (owed : List Bytes) (n offered : ℕ) (bytes : Bytes) (seats : List Seat) (s : State) : Type 0 where
-  pub none : s.has_made_room ≡ false
+  pub none : s.has_made_room ≡ None
   pub writes : s.owed ≡ WriteTo n
   pub shown : AreShown number s.settings.name owed seats s.clients
   pub first : (c : Client) → client s n ≡ Some c → is_said_of offered bytes (offer s c) ≡ true

@@ -72,7 +72,7 @@ any_over b n (j ∷ ks) k there closing = by (is_conn n j) there (λ rest. any_o
 permitted : (s : State) (n : ℕ) (k : Conn) → IsConnecting s → conn s n ≡ Some k → k.is_closing ≡ true → IsPermitted s (Dropped n)
 unfolding is_permitted permits
 permitted s n k is there closing =
-    ap (λ (b : Bool). elim b as (λ t. Bool) [ true ↦ permits_behind_forgotten s (Dropped n) | false ↦ may_in Connecting (λ t. may_drop t n) s ]) is.none
+    ap (λ (o : Option ℕ). elim o as (λ t. Bool) [ Some who ↦ permits_behind_forgotten s (Dropped n) | None ↦ may_in Connecting (λ t. may_drop t n) s ]) is.none
     ∙ ap (λ (t : State). elim (is_at Connecting t) as (λ u. Bool) [ true ↦ may_drop t n | false ↦ false ]) (stays s is)
     ∙ ap (λ (b : Bool). elim b as (λ u. Bool) [ true ↦ may_drop s n | false ↦ false ]) (at_it s is)
     ∙ ap (λ (b : Bool). b || gives_way s n) (any_over s.is_stopped n s.conns k there closing)

@@ -1,5 +1,5 @@
 -- A client that is closing is shut.
-use Rattle.std.proofs.Common.{◌≡◌, ◌<◌, ◌≤◌, refl, sym, subst, ap, ◌∙◌, ℕ, zero, suc, ◌+◌, Bool, true, false, not, ◌==◌, ◌&&◌, ◌||◌, cond, filter, find, length, map, List, [], ◌∷◌, Some, None, arith}
+use Rattle.std.proofs.Common.{◌≡◌, ◌<◌, ◌≤◌, refl, sym, subst, ap, ◌∙◌, ℕ, zero, suc, ◌+◌, Bool, true, false, not, ◌==◌, ◌&&◌, ◌||◌, cond, filter, find, length, map, List, [], ◌∷◌, Option, Some, None, arith}
 use Rattle.std.specs.List.{list_any}
 use Rattle.std.specs.Prelude.{count_by, slice_get, slice_index, slice_set, ⊤}
 use Rattle.pp_cache_law.proofs.Finds.{find_kept, find_out}
@@ -58,7 +58,7 @@ any_client b n (d ∷ cs) c there closing = by (is_client n d) there (λ rest. a
 permitted : (s : State) (n : ℕ) (c : Client) → IsConnecting s → find (is_client n) s.clients ≡ Some c → c.is_closing ≡ true → IsPermitted s (Shut n)
 unfolding is_permitted permits
 permitted s n c is there closing =
-    ap (λ (b : Bool). elim b as (λ t. Bool) [ true ↦ permits_behind_forgotten s (Shut n) | false ↦ may_in Connecting (λ t. list_any (may_shut t n) t.clients) s ]) is.none
+    ap (λ (o : Option ℕ). elim o as (λ t. Bool) [ Some who ↦ permits_behind_forgotten s (Shut n) | None ↦ may_in Connecting (λ t. list_any (may_shut t n) t.clients) s ]) is.none
     ∙ ap (λ (t : State). elim (is_in Connecting t) as (λ u. Bool) [ true ↦ list_any (may_shut t n) t.clients | false ↦ false ]) (stays s is)
     ∙ ap (λ (b : Bool). elim b as (λ u. Bool) [ true ↦ list_any (may_shut s n) s.clients | false ↦ false ]) (at_it s is)
     ∙ any_client s.is_stopped n s.clients c there closing

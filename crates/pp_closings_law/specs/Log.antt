@@ -1,6 +1,6 @@
 -- Connections to origins that are closing are dropped, one behind the other: each may be, and the state behind them is shown
 -- (RFC 2616, section 8.1).
-use Rattle.std.specs.Prelude.{◌≡◌, ℕ, false, List, [], ◌∷◌, filter, find, Some, ⊤}
+use Rattle.std.specs.Prelude.{◌≡◌, ℕ, false, List, [], ◌∷◌, filter, find, Some, None, ⊤}
 use Rattle.std.specs.List.{fold}
 use Rattle.pp_law.specs.After.{after}
 use Rattle.pp_law.specs.Lists.{Bytes}
@@ -17,7 +17,7 @@ use Rattle.pp_closings_law.specs.Sides.{OfSides, ShowsSides}
 -- connections are closed, and no row left memory for a decision that is next
 pub record IsConnecting (s : State) : Type 0 where
   pub at : s.phase ≡ Connecting
-  pub none : s.has_made_room ≡ false
+  pub none : s.has_made_room ≡ None
 
 -- each may happen where it comes
 abbrev pub MayCome : Log → State → Type 0

@@ -37,6 +37,7 @@ pub mod Silent
 pub mod Sitting
 pub mod StandingOn
 pub mod StandingRow
+pub mod Stays
 pub mod Taken
 pub mod Turned
 pub mod Unentered

@@ -219,4 +219,4 @@ takes number name l peers p s steps turn i due seat c new same ready has may it 
 
 pub regains : TakingsRegain
 unfolding take_decision
-regains s n d c there = ap (λ (o : Option Client). elim o as (λ t. State) [ None ↦ s | Some x ↦ regained (record (decided x d s) { forgotten = []; has_made_room = false }) ]) there
+regains s n d c there = ap (λ (o : Option Client). elim o as (λ t. State) [ None ↦ s | Some x ↦ regained (record (decided x d s) { forgotten = []; has_made_room = None }) ]) there

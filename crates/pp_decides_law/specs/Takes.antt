@@ -57,7 +57,7 @@ pub record HasItsRow (d : Decision) (s : State) (seat : Seat) : Type 0 where
 
 -- as the law has it before attempts count anew
 abbrev pub taken : Client → Decision → State → State
-taken c d s = record (decided c d s) { forgotten = []; has_made_room = false }
+taken c d s = record (decided c d s) { forgotten = []; has_made_room = None }
 
 -- of a decision that is due, where there is no memory to ask a refusal
 abbrev pub TakesAreTheLaws : Type 0

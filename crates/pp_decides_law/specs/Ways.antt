@@ -1,12 +1,14 @@
 -- The row that gives way to one that a decision brings in (ours: at most 1,024 rows).
-use Rattle.std.specs.Prelude.{◌≡◌, ◌≤◌, ℕ, true, false, List, slice_get, Option, Some, None, option_map}
+use Rattle.std.specs.Prelude.{◌≡◌, ◌≤◌, ℕ, true, false, List, count_by, slice_get, Option, Some, None, option_map}
 use Rattle.pp_cache_law.specs.Reads.{AreBusy}
 use Rattle.pp_flow_law.specs.Tables.{Leaving}
-use Rattle.pp_law.specs.Connections.{client}
+use Rattle.pp_law.specs.Connections.{client, is_client}
 use Rattle.pp_law.specs.Deciding.{decided, is_for_memory}
-use Rattle.pp_law.specs.Due.{Decide, first_due}
+use Rattle.pp_law.specs.Due.{Decide, decides_for, first_due, next_due}
 use Rattle.pp_law.specs.Leaving.{makes_room}
 use Rattle.pp_law.specs.Lists.{Bytes}
+use Rattle.pp_law.specs.Permits.{has_room_for}
+use Rattle.pp_law.specs.Phases.{decides}
 use Rattle.pp_law.specs.Requests.{key_in}
 use Rattle.pp_law.specs.State.{State, Client, Instance as Known}
 use Rattle.pp_law.specs.Table.{forget, idle_row, must_forget, rows}
@@ -59,6 +61,21 @@ WaysAreTheLaws = (number : ℕ → ℕ) (name : Bytes) (l : Leaving) (peers : Li
 abbrev pub ItsNoteIsPermitted : Type 0
 ItsNoteIsPermitted = (s : State) (n index : ℕ) (due : Decision) (c : Client) (key : Bytes) (x : Known) → first_due s ≡ Some (Decide n index due) → client s n ≡ Some c → option_map text_of (key_in c.front) ≡ Some key → must_forget s key ≡ true → idle_row s ≡ Some x
     → x.is_new ≡ false → makes_room s x.key ≡ Some x
+
+-- behind it, for that client
+abbrev pub left_for : Known → State → State
+left_for x s = record (forget x.id s) { has_made_room = decides_for (first_due s) }
+
+-- decisions go on, it comes next, and there is room for the row of its key
+pub record IsStillDue (s : State) (n index : ℕ) (d : Decision) : Type 0 where
+  pub taking : decides s ≡ true
+  pub next : next_due s ≡ Some (Decide n index d)
+  pub room : has_room_for s n d ≡ true
+
+-- behind the note that decision is due, whatever is due to others without the row
+abbrev pub ItsDecisionIsStillDue : Type 0
+ItsDecisionIsStillDue = (s : State) (n index : ℕ) (due : Decision) (c : Client) (key : Bytes) (x : Known) → first_due s ≡ Some (Decide n index due) → client s n ≡ Some c → count_by (is_client n) s.clients ≤ 1 → option_map text_of (key_in c.front) ≡ Some key → must_forget s key ≡ true
+    → idle_row s ≡ Some x → decides s ≡ true → must_forget (forget x.id s) key ≡ false → IsStillDue (left_for x s) n index due
 
 -- where none has to leave, a decision is the same with the row of its key in memory before it
 abbrev pub RowsComeInWithDecisions : Type 0

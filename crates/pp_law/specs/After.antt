@@ -10,7 +10,7 @@ use Rattle.pp_law.specs.Asking.{hear, ask, hang_up}
 use Rattle.pp_law.specs.Chunks.{drop_chunk}
 use Rattle.pp_law.specs.Closing.{close_client}
 use Rattle.pp_law.specs.Deciding.{decided}
-use Rattle.pp_law.specs.Due.{still_waits}
+use Rattle.pp_law.specs.Due.{decides_for, first_due, still_waits}
 use Rattle.pp_law.specs.Followers.{fill}
 use Rattle.pp_law.specs.Connections.{client, conn, on_client, on_conn, is_client, is_conn, put_on, lose_attempt, may_ask_again, end_exchange, placing, Placement, AllPlaced, WaitsDial, WaitsDrop}
 use Rattle.pp_law.specs.Leaving.{Leaving, ForAnother, ForMemory, BeforeDecision, leaving_as}
@@ -93,7 +93,7 @@ gone is_clean n s = elim (conn s n) [ None ↦ s | Some k ↦ end_replies (ended
 -- ---- notes
 
 unfoldable pub take_decision : ℕ → Decision → State → State
-take_decision n d s = elim (client s n) [ None ↦ s | Some c ↦ regained (record (decided c d s) { forgotten = []; has_made_room = false }) ]
+take_decision n d s = elim (client s n) [ None ↦ s | Some c ↦ regained (record (decided c d s) { forgotten = []; has_made_room = None }) ]
 
 -- the chunk that has to go next goes
 unfoldable pub evicted : State → State
@@ -125,7 +125,7 @@ refused_row x s =
 unfoldable pub leave_memory : Leaving → State → State
 leave_memory ForAnother s = let t : State = come_to Evicting s in record t { forgotten = drop 1 t.forgotten }
 leave_memory (ForMemory x) s = refused_row x (come_to Evicting s)
-leave_memory (BeforeDecision x) s = record (forget x.id (come_to_decide s)) { has_made_room = true }
+leave_memory (BeforeDecision x) s = let t : State = come_to_decide s in record (forget x.id t) { has_made_room = decides_for (first_due t) }
 
 unfoldable pub forgotten_by : Bytes → State → State
 forgotten_by key s = elim (leaving_as s key) [ None ↦ s | Some how ↦ leave_memory how s ]

@@ -4,7 +4,7 @@ use Rattle.pp_world.specs.declared.note.Cause.{Cause}
 use Rattle.pp_world.specs.declared.note.Cause.TheVariants.{Superseded, Origin, Short, Idle, Stop}
 use Rattle.pp_world.specs.declared.note.Decision.{Decision}
 use Rattle.pp_world.specs.declared.note.Decision.TheVariants.{Refuse}
-use Rattle.pp_law.specs.Connections.{is_trying}
+use Rattle.pp_law.specs.Connections.{client, is_trying}
 use Rattle.pp_law.specs.Lists.{first_some, is_some_with}
 use Rattle.pp_law.specs.Offers.{has_to_say}
 use Rattle.pp_law.specs.Stages.{is_begun, is_followed_by, is_page, passed_of}
@@ -99,3 +99,15 @@ due_of s c = elim (due_cut s c) [
 -- clients stand in the order of their numbers
 abbrev pub first_due : State → Option Due
 first_due s = first_some (due_of s) s.clients
+
+abbrev pub due_to : State → ℕ → Option Due
+due_to s n = elim (client s n) [ None ↦ None | Some c ↦ due_of s c ]
+
+-- what comes next: what is due first; and behind a row that left memory for a client's decision, what is due to that client, though
+-- without the row something may be due to one who comes before
+abbrev pub next_due : State → Option Due
+next_due s = elim s.has_made_room [ None ↦ first_due s | Some n ↦ due_to s n ]
+
+abbrev pub decides_for : Option Due → Option ℕ
+decides_for (Some (Decide n i d)) = Some n
+decides_for due = None

@@ -1,5 +1,5 @@
 -- What may happen next: a test for each happening.
-use Rattle.std.specs.Prelude.{◌≡◌, ℕ, Bool, true, false, ◌==◌, ◌&&◌, ◌||◌, not, nat_lt, nat_le, nat_eq, ◌/◌, length, bytes_eq, is_some, Option, Some}
+use Rattle.std.specs.Prelude.{◌≡◌, ℕ, Bool, true, false, ◌==◌, ◌&&◌, ◌||◌, not, nat_lt, nat_le, nat_eq, ◌/◌, length, bytes_eq, is_some, Option, Some, None}
 use Rattle.std.specs.List.{list_any, starts_with}
 use Rattle.pp_text.specs.Bytes.{is_empty}
 use Rattle.pp_world.specs.declared.event.Wants.{Wants}
@@ -15,7 +15,7 @@ use Rattle.pp_world.specs.declared.op.DiskOp.{DiskOp}
 use Rattle.pp_law.specs.Asking.{is_reading, is_writing, permits_heard, permits_got, permits_asked}
 use Rattle.pp_law.specs.Chunks.{chunk_len, is_in_memory}
 use Rattle.pp_law.specs.Deciding.{is_for_memory, has_to_forget}
-use Rattle.pp_law.specs.Due.{Due, Decide, CutOff, first_due}
+use Rattle.pp_law.specs.Due.{Due, Decide, CutOff, first_due, next_due}
 use Rattle.pp_law.specs.Connections.{client, conn, is_client, is_conn, placing, Pause, WaitsDial, WaitsDrop}
 use Rattle.pp_law.specs.Lists.{Bytes, is_some_with}
 use Rattle.pp_law.specs.Opening.{permits_woke, permits_configured, permits_rooted, permits_listens, is_at, is_opening, may_fail}
@@ -72,7 +72,7 @@ abbrev pub has_room_for : State → ℕ → Decision → Bool
 has_room_for s c d = is_for_memory d || not (is_some_with (has_to_forget s) (client s c))
 
 abbrev pub may_take : State → ℕ → ℕ → Decision → Bool
-may_take s c i d = is_due_decision s (first_due s) c i d && has_room_for s c d
+may_take s c i d = is_due_decision s (next_due s) c i d && has_room_for s c d
 
 abbrev pub permits_taken : State → ℕ → ℕ → Decision → Bool
 permits_taken s c i d = may_decide (λ t. may_take t c i d) s
@@ -242,7 +242,7 @@ permits_behind_forgotten s (Noted (Taken c i d)) = permits_taken s c i d && not 
 permits_behind_forgotten s h = false
 
 unfoldable pub is_permitted : State → Happening → Bool
-is_permitted s h = elim s.has_made_room [ true ↦ permits_behind_forgotten s h | false ↦ permits s h ]
+is_permitted s h = elim s.has_made_room [ Some who ↦ permits_behind_forgotten s h | None ↦ permits s h ]
 
 abbrev pub IsPermitted : State → Happening → Type 0
 IsPermitted s h = is_permitted s h ≡ true

@@ -249,7 +249,7 @@ pub record State : Type 0 where
   pub owed : Owed
   pub is_evicting : Bool  -- the trigger was reached
   pub forgotten : List Bytes  -- rows that left memory and are not noted yet
-  pub has_made_room : Bool  -- a row left memory for the decision that is next
+  pub has_made_room : Option ℕ  -- the client for whose decision, which is next, a row left memory
   pub agenda : Agenda
 
 abbrev pub no_term : Term
@@ -285,6 +285,6 @@ start terms = record {
   owed = Free;
   is_evicting = false;
   forgotten = [];
-  has_made_room = false;
+  has_made_room = None;
   agenda = no_agenda;
 }

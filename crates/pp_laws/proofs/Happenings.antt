@@ -1,5 +1,5 @@
 -- Each permitted happening keeps what is sound, and so does a lawful log.
-use Rattle.std.proofs.Common.{◌≡◌, ◌⊎◌, refl, ℕ, ◌<◌, Bool, true, false, not, ◌&&◌, [], ◌∷◌, ◌++◌, length, None, inl, inr, sym, subst, ap, ◌∙◌, le_of_lt, lt_of_le_of_lt}
+use Rattle.std.proofs.Common.{◌≡◌, ◌⊎◌, refl, ℕ, ◌<◌, Bool, true, false, not, ◌&&◌, [], ◌∷◌, ◌++◌, length, Option, Some, None, inl, inr, sym, subst, ap, ◌∙◌, le_of_lt, lt_of_le_of_lt}
 use Rattle.pp_world.specs.Log.{Log}
 use Rattle.pp_world.specs.declared.happening.Happening.TheVariants.{Woke, Waits, Clock, Opened, CanRead, CanWrite, Heard, HungUp, Said, Shut, Dialled, Undialled, Reached, Ended, Broke, Asked, Got, Dropped, NoneYet, Began, Did, Unread, Noted, Rooted, Listed, Listens, Configured, Printed, Stopped}
 use Rattle.pp_world.specs.declared.happening.Happening.{Happening}
@@ -171,17 +171,17 @@ dropped-sound n s h = each_of (conn s n) h (λ k. when k.is_closing (out-sound n
 
 -- ---- what is permitted
 
-opened_by : (s : State) (n : ℕ) (room : Bool) → (elim room as (λ c. Bool) [ true ↦ false | false ↦ is_awaiting s && may_open s n ]) ≡ true → s.top < n
-opened_by s n true is = absurd (cc is)
-opened_by s n false is = below s.top n (first_holds (is_new_number s n) (accepts s) (second_holds (is_awaiting s) (may_open s n) is))
+opened_by : (s : State) (n : ℕ) (room : Option ℕ) → (elim room as (λ c. Bool) [ Some who ↦ false | None ↦ is_awaiting s && may_open s n ]) ≡ true → s.top < n
+opened_by s n (Some who) is = absurd (cc is)
+opened_by s n None is = below s.top n (first_holds (is_new_number s n) (accepts s) (second_holds (is_awaiting s) (may_open s n) is))
 
 opened_above : (s : State) (n : ℕ) → IsPermitted s (Opened n) → s.top < n
 unfolding is_permitted permits
 opened_above s n is = opened_by s n s.has_made_room is
 
-dialled_by : (s : State) (n : ℕ) (host : Bytes) (port : ℕ) (room : Bool) → (elim room as (λ c. Bool) [ true ↦ false | false ↦ is_new_number s n && permits_dial s host port ]) ≡ true → s.top < n
-dialled_by s n host port true is = absurd (cc is)
-dialled_by s n host port false is = below s.top n (first_holds (is_new_number s n) (permits_dial s host port) is)
+dialled_by : (s : State) (n : ℕ) (host : Bytes) (port : ℕ) (room : Option ℕ) → (elim room as (λ c. Bool) [ Some who ↦ false | None ↦ is_new_number s n && permits_dial s host port ]) ≡ true → s.top < n
+dialled_by s n host port (Some who) is = absurd (cc is)
+dialled_by s n host port None is = below s.top n (first_holds (is_new_number s n) (permits_dial s host port) is)
 
 dialled_above : (s : State) (n : ℕ) (host : Bytes) (port : ℕ) → IsPermitted s (Dialled n host port) → s.top < n
 unfolding is_permitted permits

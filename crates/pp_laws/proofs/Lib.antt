@@ -27,6 +27,7 @@ pub mod Apart
 pub mod Bodies
 pub mod Deliveries
 pub mod Pieces
+pub mod Dues
 pub mod Happenings
 pub mod Said
 pub mod Laws

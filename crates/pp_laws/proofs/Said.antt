@@ -143,9 +143,9 @@ offer_is : (s : State) (c : Client) (r : Reply) → c.stage ≡ Answering r → 
 unfolding offered_of body_of
 offer_is s c r has = ap (λ (stage : Stage). offer s (record c { stage = stage })) has
 
-permitted_by : (s : State) (n offered : ℕ) (bytes : Bytes) (room : Bool) → (elim room as (λ c. Bool) [ true ↦ false | false ↦ permits_said s n offered bytes ]) ≡ true → permits_said s n offered bytes ≡ true
-permitted_by s n offered bytes true is = absurd (cc is)
-permitted_by s n offered bytes false is = is
+permitted_by : (s : State) (n offered : ℕ) (bytes : Bytes) (room : Option ℕ) → (elim room as (λ c. Bool) [ Some who ↦ false | None ↦ permits_said s n offered bytes ]) ≡ true → permits_said s n offered bytes ≡ true
+permitted_by s n offered bytes (Some who) is = absurd (cc is)
+permitted_by s n offered bytes None is = is
 
 permitted : (s : State) (n offered : ℕ) (bytes : Bytes) → IsPermitted s (Said n offered bytes) → permits_said s n offered bytes ≡ true
 unfolding is_permitted permits

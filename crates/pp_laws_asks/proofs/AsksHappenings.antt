@@ -452,9 +452,9 @@ ending-asks : (s : State) → Holds Asks s → Holds Asks (ending s)
 unfolding ending
 ending-asks s h = begin_replies-keeps asks_walk _ (come_to-asks DecidingAgain s h)
 
-unhampered : (made : Bool) (t : Bool) → (elim made as (λ c. Bool) [ true ↦ false | false ↦ t ]) ≡ true → t ≡ true
-unhampered true t is = absurd (cc is)
-unhampered false t is = is
+unhampered : (made : Option ℕ) (t : Bool) → (elim made as (λ c. Bool) [ Some who ↦ false | None ↦ t ]) ≡ true → t ≡ true
+unhampered (Some who) t is = absurd (cc is)
+unhampered None t is = is
 
 room_for : (s : State) (n : ℕ) → IsPermitted s (Opened n) → length s.clients < 256
 unfolding is_permitted permits

@@ -88,9 +88,9 @@ front_of (b ∷ bytes) (x ∷ left) is = by (nat_eq b x) refl is (front_of bytes
 
 -- ---- the law
 
-unhampered : (made : Bool) (t : Bool) → (elim made as (λ c. Bool) [ true ↦ false | false ↦ t ]) ≡ true → t ≡ true
-unhampered true t is = absurd (cc is)
-unhampered false t is = is
+unhampered : (made : Option ℕ) (t : Bool) → (elim made as (λ c. Bool) [ Some who ↦ false | None ↦ t ]) ≡ true → t ≡ true
+unhampered (Some who) t is = absurd (cc is)
+unhampered None t is = is
 
 pub asked_so : (s : State) (n : ℕ) (bytes : Bytes) → IsPermitted s (Asked n bytes) → permits_asked s n bytes ≡ true
 unfolding is_permitted permits

@@ -9,8 +9,8 @@ use Rattle.pp_world.specs.declared.note.Remark.TheVariants.{Taken}
 use Rattle.pp_law.specs.Connections.{client, is_client}
 use Rattle.pp_law.specs.Deciding.{is_for_memory}
 use Rattle.pp_law.specs.Decisions.{decide}
-use Rattle.pp_law.specs.Due.{Due, Decide, CutOff, due_by_stage, due_cut, due_decision, due_of, due_reply, first_due, give_up, is_told}
-use Rattle.pp_law.specs.Lists.{first_some, is_some_with}
+use Rattle.pp_law.specs.Due.{Due, Decide, CutOff, due_by_stage, due_cut, due_decision, due_of, due_reply, give_up, is_told, next_due}
+use Rattle.pp_law.specs.Lists.{is_some_with}
 use Rattle.pp_law.specs.Permits.{has_room_for, is_due_decision, is_permitted, IsPermitted, is_same_decision, may_take, may_want_memory, permits, permits_taken}
 use Rattle.pp_law.specs.Phases.{come_to_decide, decides}
 use Rattle.pp_law.specs.Requests.{key_in}
@@ -21,6 +21,7 @@ use Rattle.pp_law.specs.State.{start}
 use Rattle.pp_laws.specs.Runs.{state_after, IsIn}
 use Rattle.pp_laws.proofs.Happenings.{after_all-sound}
 use Rattle.pp_laws.proofs.Laws.{start-sound}
+use Rattle.pp_laws.proofs.Dues.{next_in}
 use Rattle.pp_laws.proofs.Lists.{in_find, one_of}
 use Rattle.pp_laws.proofs.Sound.{Sound, client_number, facts_of}
 use Rattle.pp_laws.proofs.Steps.{come_to_decide-sound}
@@ -29,16 +30,7 @@ use Rattle.pp_laws_bounds.proofs.Happenings.{from_now}
 use Rattle.pp_laws_pool.proofs.Along.{last_of}
 use Rattle.pp_laws_asks.specs.Orders.{AsksAlone, IsFirst, OneFetchForMany}
 
--- ---- what is due first
-
--- one of the clients has it
-first_in : (s : State) (cs : List Client) (due : Due) → first_some (due_of s) cs ≡ Some due → (c : Client) × IsIn c cs × (due_of s c ≡ Some due)
-first_in s [] due is = absurd (cc is)
-first_in s (c ∷ cs) due is = by (due_of s c) refl is (first_in s cs due)
-  where
-    by : (o : Option Due) → due_of s c ≡ o → (elim o as (λ x. Option Due) [ Some y ↦ Some y | None ↦ first_some (due_of s) cs ]) ≡ Some due → (first_some (due_of s) cs ≡ Some due → (d : Client) × IsIn d cs × (due_of s d ≡ Some due)) → (d : Client) × IsIn d (c ∷ cs) × (due_of s d ≡ Some due)
-    by None none at rest = let w = rest at in (w.0, inr w.1, w.2)
-    by (Some y) some at rest = (c, inl refl, some ∙ at)
+-- ---- what is due next
 
 same_in : {A : Type 0} {x y : A} → Some x ≡ Some y → x ≡ y
 same_in e = cc e
@@ -115,8 +107,8 @@ same_share Fetch Fetch shared is = refl
 same_share Validate Validate shared is = refl
 same_share a d shared is = grind (arith)
 
-taken_due : (s : State) (n i : ℕ) (d : Decision) → may_share d ≡ true → is_due_decision s (first_due s) n i d ≡ true → (c : Client) × IsIn c s.clients × (c.number ≡ n) × (due_decision s c ≡ Some d)
-taken_due s n i d shared is = by (first_due s) refl is
+taken_due : (s : State) (n i : ℕ) (d : Decision) → may_share d ≡ true → is_due_decision s (next_due s) n i d ≡ true → (c : Client) × IsIn c s.clients × (c.number ≡ n) × (due_decision s c ≡ Some d)
+taken_due s n i d shared is = by (next_due s) refl is
   where
     not_page : may_share d ≡ true → is_same_decision d (Refuse 500) ≡ false
     not_page at = of d at
@@ -133,10 +125,10 @@ taken_due s n i d shared is = by (first_due s) refl is
     split true false c e f at isnt = absurd (cc at)
     split false b c e f at isnt = absurd (cc at)
 
-    found : (m j : ℕ) (x : Decision) → first_due s ≡ Some (Decide m j x) → m ≡ n → x ≡ d → (c : Client) × IsIn c s.clients × (c.number ≡ n) × (due_decision s c ≡ Some d)
-    found m j x due number same = let w = first_in s s.clients (Decide m j x) due in let v = decided_of s w.0 m j x w.2 in (w.0, w.1, v.0 ∙ number, v.1 ∙ ap (λ y. Some y) same)
+    found : (m j : ℕ) (x : Decision) → next_due s ≡ Some (Decide m j x) → m ≡ n → x ≡ d → (c : Client) × IsIn c s.clients × (c.number ≡ n) × (due_decision s c ≡ Some d)
+    found m j x due number same = let w = next_in s (Decide m j x) due in let v = decided_of s w.0 m j x w.2 in (w.0, w.1, v.0 ∙ number, v.1 ∙ ap (λ y. Some y) same)
 
-    by : (o : Option Due) → first_due s ≡ o → is_due_decision s o n i d ≡ true → (c : Client) × IsIn c s.clients × (c.number ≡ n) × (due_decision s c ≡ Some d)
+    by : (o : Option Due) → next_due s ≡ o → is_due_decision s o n i d ≡ true → (c : Client) × IsIn c s.clients × (c.number ≡ n) × (due_decision s c ≡ Some d)
     by None none at = absurd (cc at)
     by (Some (CutOff m cause)) some at = absurd (cc at)
     by (Some (Decide m j x)) some at = let w = split (m == n) (j == i) (is_same_decision x d) (is_same_decision d (Refuse 500)) (may_want_memory s n) at (not_page shared) in found m j x some (same_number m n w.0) (same_share x d shared w.1)
@@ -145,9 +137,9 @@ taken_so : (s : State) (n i : ℕ) (d : Decision) → IsPermitted s (Noted (Take
 unfolding is_permitted permits
 taken_so s n i d is = by s.has_made_room is
   where
-    by : (t : Bool) → (elim t as (λ x. Bool) [ true ↦ permits_taken s n i d && not (is_for_memory d) | false ↦ permits_taken s n i d ]) ≡ true → permits_taken s n i d ≡ true
-    by true at = first_holds (permits_taken s n i d) (not (is_for_memory d)) at
-    by false at = at
+    by : (room : Option ℕ) → (elim room as (λ x. Bool) [ Some who ↦ permits_taken s n i d && not (is_for_memory d) | None ↦ permits_taken s n i d ]) ≡ true → permits_taken s n i d ≡ true
+    by (Some who) at = first_holds (permits_taken s n i d) (not (is_for_memory d)) at
+    by None at = at
 
 may_so : (s : State) (n i : ℕ) (d : Decision) → permits_taken s n i d ≡ true → may_take (come_to_decide s) n i d ≡ true
 may_so s n i d is = by (decides (come_to_decide s)) is
@@ -158,7 +150,7 @@ may_so s n i d is = by (decides (come_to_decide s)) is
 
 alone : (t : State) (n i : ℕ) (d : Decision) → Sound from_now t → may_take t n i d ≡ true → AsksAlone t n d
 alone t n i d known may c key e found first shares shared names there =
-    let w = taken_due t n i d shared (first_holds (is_due_decision t (first_due t) n i d) (has_room_for t n d) may) in
+    let w = taken_due t n i d shared (first_holds (is_due_decision t (next_due t) n i d) (has_room_for t n d) may) in
     let at = in_find (is_client n) c t.clients found in
     let same : w.0 ≡ c = one_of client_number t.clients w.0 c (facts_of known).callers.rise w.1 at.0 (w.2 ∙ sym (same_number c.number n at.1)) in
     let due : due_decision t c ≡ Some d = subst (λ (x : Client). due_decision t x ≡ Some d) same w.3 in

@@ -207,9 +207,9 @@ dials_by s host port is =
     let v = three_hold (come_to Connecting s).is_stopped (has_closings (come_to Connecting s)) (is_dial_of (placing (come_to Connecting s)).pause host port) w.1 in
     record { phase = w.0; closes = v.1; stops = v.0; dial = v.2 }
 
-unhampered : (made : Bool) (t : Bool) → (elim made as (λ c. Bool) [ true ↦ false | false ↦ t ]) ≡ true → t ≡ true
-unhampered true t is = absurd (cc is)
-unhampered false t is = is
+unhampered : (made : Option ℕ) (t : Bool) → (elim made as (λ c. Bool) [ Some who ↦ false | None ↦ t ]) ≡ true → t ≡ true
+unhampered (Some who) t is = absurd (cc is)
+unhampered None t is = is
 
 dialled_so : (s : State) (n : ℕ) (host : Bytes) (port : ℕ) → IsPermitted s (Dialled n host port) → (s.top < n) × Dials s host port
 unfolding is_permitted permits

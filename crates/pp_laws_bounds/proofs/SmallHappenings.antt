@@ -1,5 +1,5 @@
 -- Each permitted happening keeps rows few, and exchanges whose bodies belong to one; and so does a lawful log.
-use Rattle.std.proofs.Common.{◌≡◌, refl, ℕ, ◌<◌, Bool, true, false, not, ◌&&◌, ◌||◌, [], ◌∷◌, length, is_some, sym, ap, ◌∙◌, arith}
+use Rattle.std.proofs.Common.{◌≡◌, refl, ℕ, ◌<◌, Bool, true, false, not, ◌&&◌, ◌||◌, [], ◌∷◌, length, is_some, Option, Some, None, sym, ap, ◌∙◌, arith}
 use Rattle.pp_world.specs.Log.{Log}
 use Rattle.pp_world.specs.declared.event.Wants.{Wants}
 use Rattle.pp_world.specs.declared.happening.Happening.TheVariants.{Woke, Waits, Clock, Opened, CanRead, CanWrite, Heard, HungUp, Said, Shut, Dialled, Undialled, Reached, Ended, Broke, Asked, Got, Dropped, NoneYet, Began, Did, Unread, Noted, Rooted, Listed, Listens, Configured, Printed, Stopped}
@@ -186,9 +186,9 @@ dropped-small n s h = each_of (conn s n) h (λ k. when k.is_closing (out-small n
 
 -- ---- what is permitted
 
-unhampered : (made : Bool) (t : Bool) → (elim made as (λ c. Bool) [ true ↦ false | false ↦ t ]) ≡ true → t ≡ true
-unhampered true t is = absurd (cc is)
-unhampered false t is = is
+unhampered : (made : Option ℕ) (t : Bool) → (elim made as (λ c. Bool) [ Some who ↦ false | None ↦ t ]) ≡ true → t ≡ true
+unhampered (Some who) t is = absurd (cc is)
+unhampered None t is = is
 
 can_read_so : (s : State) (n : ℕ) → IsPermitted s (CanRead n) → is_awaiting s ≡ true
 unfolding is_permitted permits

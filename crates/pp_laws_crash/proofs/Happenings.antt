@@ -118,9 +118,9 @@ deciding_at s test is = decides_at (come_to_decide s) (is_at Deciding (come_to_d
 
 -- ---- what is permitted
 
-permitted_by : (room plain behind : Bool) → behind ≡ false → (elim room as (λ c. Bool) [ true ↦ behind | false ↦ plain ]) ≡ true → plain ≡ true
-permitted_by true plain behind none is = let both : false ≡ true = sym none ∙ is in absurd (cc both)
-permitted_by false plain behind none is = is
+permitted_by : (room : Option ℕ) (plain behind : Bool) → behind ≡ false → (elim room as (λ c. Bool) [ Some who ↦ behind | None ↦ plain ]) ≡ true → plain ≡ true
+permitted_by (Some who) plain behind none is = let both : false ≡ true = sym none ∙ is in absurd (cc both)
+permitted_by None plain behind none is = is
 
 -- but for those that may come behind a row that left memory for a decision
 pub permitted : (s : State) (h : Happening) → permits_behind_forgotten s h ≡ false → IsPermitted s h → permits s h ≡ true
@@ -325,17 +325,17 @@ ends_turns s owed may = ⊎_elim
     (λ (is : (not s.is_stopped && may_end s) ≡ true). come_from DecidingAgain s owed (ap recovers (at_DecidingAgain (come_to DecidingAgain s).phase (in_so s DecidingAgain (is_at DecidingAgain (come_to DecidingAgain s)) _ (second_holds (not s.is_stopped) _ is)))))
     (either_is (is_at IsListening s) _ may)
 
-taken_by : (s : State) (c i : ℕ) (d : Decision) (room : Bool) → (elim room as (λ x. Bool) [ true ↦ permits_taken s c i d && not (is_for_memory d) | false ↦ permits_taken s c i d ]) ≡ true → permits_taken s c i d ≡ true
-taken_by s c i d true is = first_holds (permits_taken s c i d) _ is
-taken_by s c i d false is = is
+taken_by : (s : State) (c i : ℕ) (d : Decision) (room : Option ℕ) → (elim room as (λ x. Bool) [ Some who ↦ permits_taken s c i d && not (is_for_memory d) | None ↦ permits_taken s c i d ]) ≡ true → permits_taken s c i d ≡ true
+taken_by s c i d (Some who) is = first_holds (permits_taken s c i d) _ is
+taken_by s c i d None is = is
 
 taken_so : (s : State) (c i : ℕ) (d : Decision) → IsPermitted s (Noted (Taken c i d)) → permits_taken s c i d ≡ true
 unfolding is_permitted permits
 taken_so s c i d is = taken_by s c i d s.has_made_room is
 
-woke_by : (s : State) (image : Files) (room : Bool) → (elim room as (λ x. Bool) [ true ↦ permits_woke s image | false ↦ permits_woke s image ]) ≡ true → permits_woke s image ≡ true
-woke_by s image true is = is
-woke_by s image false is = is
+woke_by : (s : State) (image : Files) (room : Option ℕ) → (elim room as (λ x. Bool) [ Some who ↦ permits_woke s image | None ↦ permits_woke s image ]) ≡ true → permits_woke s image ≡ true
+woke_by s image (Some who) is = is
+woke_by s image None is = is
 
 pub woke_so : (s : State) (image : Files) → IsPermitted s (Woke image) → permits_woke s image ≡ true
 unfolding is_permitted permits

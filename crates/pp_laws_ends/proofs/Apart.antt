@@ -457,9 +457,9 @@ rest_with-apart w s h = holds (rested-keeps apart_walk w s h)
 
 -- ---- what is permitted
 
-unhampered : (made : Bool) (t : Bool) → (elim made as (λ c. Bool) [ true ↦ false | false ↦ t ]) ≡ true → t ≡ true
-unhampered true t is = absurd (cc is)
-unhampered false t is = is
+unhampered : (made : Option ℕ) (t : Bool) → (elim made as (λ c. Bool) [ Some who ↦ false | None ↦ t ]) ≡ true → t ≡ true
+unhampered (Some who) t is = absurd (cc is)
+unhampered None t is = is
 
 new_above : (s : State) (n : ℕ) → is_new_number s n ≡ true → s.top < n
 new_above s n is = below s.top n is

@@ -239,9 +239,9 @@ noted-lined (Loaded key tag k i) s p h = still (load-same key i s (itself s)) h
 
 -- ---- what is permitted
 
-unhampered : (made : Bool) (t : Bool) → (elim made as (λ c. Bool) [ true ↦ false | false ↦ t ]) ≡ true → t ≡ true
-unhampered true t is = absurd (cc is)
-unhampered false t is = is
+unhampered : (made : Option ℕ) (t : Bool) → (elim made as (λ c. Bool) [ Some who ↦ false | None ↦ t ]) ≡ true → t ≡ true
+unhampered (Some who) t is = absurd (cc is)
+unhampered None t is = is
 
 opened_above : (s : State) (n : ℕ) → IsPermitted s (Opened n) → s.top < n
 unfolding is_permitted permits

@@ -591,23 +591,23 @@ not_leaving {s} l key is =
 
 -- ---- what is permitted
 
-unhampered : (made : Bool) (t : Bool) → (elim made as (λ c. Bool) [ true ↦ false | false ↦ t ]) ≡ true → t ≡ true
-unhampered true t is = absurd (cc is)
-unhampered false t is = is
+unhampered : (made : Option ℕ) (t : Bool) → (elim made as (λ c. Bool) [ Some who ↦ false | None ↦ t ]) ≡ true → t ≡ true
+unhampered (Some who) t is = absurd (cc is)
+unhampered None t is = is
 
 -- what is permitted is permitted where no row has to leave before a decision
 permitted_so : (s : State) (h : Happening) → IsPermitted s h → permits s h ≡ true
 unfolding is_permitted permits
 permitted_so s (Woke image) is = by s.has_made_room is
   where
-    by : (t : Bool) → (elim t as (λ x. Bool) [ true ↦ permits_woke s image | false ↦ permits_woke s image ]) ≡ true → permits_woke s image ≡ true
-    by true at = at
-    by false at = at
+    by : (room : Option ℕ) → (elim room as (λ x. Bool) [ Some who ↦ permits_woke s image | None ↦ permits_woke s image ]) ≡ true → permits_woke s image ≡ true
+    by (Some who) at = at
+    by None at = at
 permitted_so s (Noted (Taken c i d)) is = by s.has_made_room is
   where
-    by : (t : Bool) → (elim t as (λ x. Bool) [ true ↦ permits_taken s c i d && not (is_for_memory d) | false ↦ permits_taken s c i d ]) ≡ true → permits_taken s c i d ≡ true
-    by true at = first_holds (permits_taken s c i d) (not (is_for_memory d)) at
-    by false at = at
+    by : (room : Option ℕ) → (elim room as (λ x. Bool) [ Some who ↦ permits_taken s c i d && not (is_for_memory d) | None ↦ permits_taken s c i d ]) ≡ true → permits_taken s c i d ≡ true
+    by (Some who) at = first_holds (permits_taken s c i d) (not (is_for_memory d)) at
+    by None at = at
 permitted_so s (Noted (Cut c cause)) is = unhampered s.has_made_room _ is
 permitted_so s (Noted (Kept key tag n extent)) is = unhampered s.has_made_room _ is
 permitted_so s (Noted (Gone key)) is = unhampered s.has_made_room _ is

@@ -162,9 +162,9 @@ ask-quiet {o} k n s short h = by (asking s k) refl
     by None is = h
     by (Some e) is = at e (is_outstanding e) is refl
 
-asked_by : (s : State) (k : ℕ) (bytes : Bytes) (room : Bool) → (elim room as (λ c. Bool) [ true ↦ false | false ↦ permits_asked s k bytes ]) ≡ true → permits_asked s k bytes ≡ true
-asked_by s k bytes true is = absurd (cc is)
-asked_by s k bytes false is = is
+asked_by : (s : State) (k : ℕ) (bytes : Bytes) (room : Option ℕ) → (elim room as (λ c. Bool) [ Some who ↦ false | None ↦ permits_asked s k bytes ]) ≡ true → permits_asked s k bytes ≡ true
+asked_by s k bytes (Some who) is = absurd (cc is)
+asked_by s k bytes None is = is
 
 asked_permitted : (s : State) (k : ℕ) (bytes : Bytes) → IsPermitted s (Asked k bytes) → permits_asked s k bytes ≡ true
 unfolding is_permitted permits
@@ -285,9 +285,9 @@ heard_here {n} {told} m bytes x s there number true is_n h =
     (in_order (record told { heard = told.heard ++ bytes }) (heard_by bytes x) (story_heard bytes s x ((order_of h).present x there (number ∙ same_number m n is_n))))
     h
 
-heard_by_room : (s : State) (m : ℕ) (bytes : Bytes) (room : Bool) → (elim room as (λ c. Bool) [ true ↦ false | false ↦ permits_heard s m bytes ]) ≡ true → permits_heard s m bytes ≡ true
-heard_by_room s m bytes true is = absurd (cc is)
-heard_by_room s m bytes false is = is
+heard_by_room : (s : State) (m : ℕ) (bytes : Bytes) (room : Option ℕ) → (elim room as (λ c. Bool) [ Some who ↦ false | None ↦ permits_heard s m bytes ]) ≡ true → permits_heard s m bytes ≡ true
+heard_by_room s m bytes (Some who) is = absurd (cc is)
+heard_by_room s m bytes None is = is
 
 heard_permitted : (s : State) (m : ℕ) (bytes : Bytes) → IsPermitted s (Heard m bytes) → permits_heard s m bytes ≡ true
 unfolding is_permitted permits
@@ -492,7 +492,7 @@ taken-orderly {n} {told} {b} m i d s is hs h = by (client (deciding s) m) refl
     t : TakenFor u m i d
     t = taken_for s m i d is
 
-    by : (o : Option Client) → client (in_phase Deciding u) m ≡ o → Orderly n told (elim o as (λ x. State) [ None ↦ in_phase Deciding u | Some c ↦ regained (record (decided c d (in_phase Deciding u)) { forgotten = []; has_made_room = false }) ])
+    by : (o : Option Client) → client (in_phase Deciding u) m ≡ o → Orderly n told (elim o as (λ x. State) [ None ↦ in_phase Deciding u | Some c ↦ regained (record (decided c d (in_phase Deciding u)) { forgotten = []; has_made_room = None }) ])
     by None none = hu
     by (Some c) found =
         let there = in_find (is_client m) c u.clients found in
@@ -515,17 +515,17 @@ noted-orderly (Loaded key tag k i) s is hs h = quiet_orderly s _ (load-quiet key
 
 -- ---- what is permitted
 
-opened_by : (s : State) (n : ℕ) (room : Bool) → (elim room as (λ c. Bool) [ true ↦ false | false ↦ is_awaiting s && may_open s n ]) ≡ true → s.top < n
-opened_by s n true is = absurd (cc is)
-opened_by s n false is = below s.top n (first_holds (is_new_number s n) (accepts s) (second_holds (is_awaiting s) (may_open s n) is))
+opened_by : (s : State) (n : ℕ) (room : Option ℕ) → (elim room as (λ c. Bool) [ Some who ↦ false | None ↦ is_awaiting s && may_open s n ]) ≡ true → s.top < n
+opened_by s n (Some who) is = absurd (cc is)
+opened_by s n None is = below s.top n (first_holds (is_new_number s n) (accepts s) (second_holds (is_awaiting s) (may_open s n) is))
 
 pub opened_above : (s : State) (n : ℕ) → IsPermitted s (Opened n) → s.top < n
 unfolding is_permitted permits
 opened_above s n is = opened_by s n s.has_made_room is
 
-dialled_by : (s : State) (n : ℕ) (host : Bytes) (port : ℕ) (room : Bool) → (elim room as (λ c. Bool) [ true ↦ false | false ↦ is_new_number s n && permits_dial s host port ]) ≡ true → s.top < n
-dialled_by s n host port true is = absurd (cc is)
-dialled_by s n host port false is = below s.top n (first_holds (is_new_number s n) (permits_dial s host port) is)
+dialled_by : (s : State) (n : ℕ) (host : Bytes) (port : ℕ) (room : Option ℕ) → (elim room as (λ c. Bool) [ Some who ↦ false | None ↦ is_new_number s n && permits_dial s host port ]) ≡ true → s.top < n
+dialled_by s n host port (Some who) is = absurd (cc is)
+dialled_by s n host port None is = below s.top n (first_holds (is_new_number s n) (permits_dial s host port) is)
 
 dialled_above : (s : State) (n : ℕ) (host : Bytes) (port : ℕ) → IsPermitted s (Dialled n host port) → s.top < n
 unfolding is_permitted permits

@@ -379,9 +379,9 @@ story_said {instances} {next_instance} told c bytes step story = record {
 
 -- ---- what is permitted
 
-permitted_by : (s : State) (m offered : ℕ) (bytes : Bytes) (room : Bool) → (elim room as (λ c. Bool) [ true ↦ false | false ↦ permits_said s m offered bytes ]) ≡ true → permits_said s m offered bytes ≡ true
-permitted_by s m offered bytes true is = absurd (cc is)
-permitted_by s m offered bytes false is = is
+permitted_by : (s : State) (m offered : ℕ) (bytes : Bytes) (room : Option ℕ) → (elim room as (λ c. Bool) [ Some who ↦ false | None ↦ permits_said s m offered bytes ]) ≡ true → permits_said s m offered bytes ≡ true
+permitted_by s m offered bytes (Some who) is = absurd (cc is)
+permitted_by s m offered bytes None is = is
 
 permitted : (s : State) (m offered : ℕ) (bytes : Bytes) → IsPermitted s (Said m offered bytes) → permits_said s m offered bytes ≡ true
 unfolding is_permitted permits

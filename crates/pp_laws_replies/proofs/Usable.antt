@@ -18,9 +18,9 @@ use Rattle.pp_world.specs.declared.note.Remark.TheVariants.{Taken}
 use Rattle.pp_law.specs.After.{after}
 use Rattle.pp_law.specs.Deciding.{is_for_memory}
 use Rattle.pp_law.specs.Decisions.{kind_of, begun_now, decide_for, decide_head, decide}
-use Rattle.pp_law.specs.Due.{give_up, is_told, has_lost_row, due_reply, due_by_stage, due_decision, due_cut, Due, Decide, CutOff, due_of, first_due}
+use Rattle.pp_law.specs.Due.{give_up, is_told, has_lost_row, due_reply, due_by_stage, due_decision, due_cut, Due, Decide, CutOff, due_of, next_due}
 use Rattle.pp_law.specs.Lawful.{Lawful, LawfulFrom}
-use Rattle.pp_law.specs.Lists.{Bytes, first_some, has_text, is_some_with}
+use Rattle.pp_law.specs.Lists.{Bytes, has_text, is_some_with}
 use Rattle.pp_law.specs.Permits.{is_permitted, IsPermitted, permits, is_same_decision, is_due_decision, may_want_memory, may_take, permits_taken}
 use Rattle.pp_law.specs.Phases.{decides, come_to_decide}
 use Rattle.pp_law.specs.Requests.{Front, Parsed, NoHeadYet, NoHead as NoFront, IsRequest, has_request, refusal_of}
@@ -31,6 +31,7 @@ use Rattle.pp_law.specs.Table.{is_row_of, is_entry_of, is_kept_row_of, row, kept
 use Rattle.pp_laws.specs.Runs.{IsIn, after_all, state_after}
 use Rattle.pp_laws.proofs.Happenings.{after_all-sound}
 use Rattle.pp_laws.proofs.Laws.{start-sound}
+use Rattle.pp_laws.proofs.Dues.{next_in}
 use Rattle.pp_laws.proofs.Lists.{in_find}
 use Rattle.pp_laws.proofs.Sound.{Follows, Since, Sound, facts_of, source_in}
 use Rattle.pp_laws.proofs.Tests.{first_holds, second_holds, same_bytes, same_number}
@@ -263,20 +264,6 @@ due_by : (s : State) (c : Client) (cut : Option Cause) (n i : ℕ) (d : Decision
 due_by s c (Some cause) n i d is = absurd (cc is)
 due_by s c None n i d is = due_there s c (due_decision s c) n i d refl is
 
-pub record FoundIn {A B : Type 0} (f : A → Option B) (xs : List A) (y : B) : Type 0 where
-  pub one : A
-  pub there : IsIn one xs
-  pub is : f one ≡ Some y
-
-first_by : {A B : Type 0} (f : A → Option B) (x : A) (xs : List A) (y : B) (o : Option B) → f x ≡ o → (first_some f xs ≡ Some y → FoundIn f xs y)
-    → (elim o as (λ c. Option B) [ Some z ↦ Some z | None ↦ first_some f xs ]) ≡ Some y → FoundIn f (x ∷ xs) y
-first_by f x xs y None has rest is = let r = rest is in record { one = r.one; there = inr r.there; is = r.is }
-first_by f x xs y (Some z) has rest is = let same : z ≡ y = cc in record { one = x; there = inl refl; is = has ∙ ap (λ w. Some w) same }
-
-pub first_found : {A B : Type 0} (f : A → Option B) (xs : List A) (y : B) → first_some f xs ≡ Some y → FoundIn f xs y
-first_found f [] y is = absurd (cc is)
-first_found f (x ∷ xs) y is = first_by f x xs y (f x) refl (first_found f xs y) is
-
 -- ---- a decision that is taken
 
 three : (a b c : Bool) → (a && b && c) ≡ true → (a ≡ true) × (b ≡ true) × (c ≡ true)
@@ -295,16 +282,16 @@ pub record TakenFor (s : State) (n i : ℕ) (d : Decision) : Type 0 where
   pub is : due_decision s one ≡ Some due
   pub same : is_by_row d ≡ true → due ≡ d
 
-due_for : (s : State) (due : Option Due) (n i : ℕ) (d : Decision) → first_due s ≡ due → is_due_decision s due n i d ≡ true → TakenFor s n i d
+due_for : (s : State) (due : Option Due) (n i : ℕ) (d : Decision) → next_due s ≡ due → is_due_decision s due n i d ≡ true → TakenFor s n i d
 due_for s None n i d has is = absurd (cc is)
 due_for s (Some (CutOff m cause)) n i d has is = absurd (cc is)
 due_for s (Some (Decide m j due)) n i d has is =
-    let f = first_found (due_of s) s.clients (Decide m j due) has in
-    let w = due_by s f.one (due_cut s f.one) m j due f.is in
+    let f = next_in s (Decide m j due) has in
+    let w = due_by s f.0 (due_cut s f.0) m j due f.2 in
     let h = three (m == n) (j == i) (is_same_decision due d || (is_same_decision d (Refuse 500) && may_want_memory s n)) is in
     record {
-      one = f.one;
-      there = f.there;
+      one = f.0;
+      there = f.1;
       number = w.number ∙ same_number m n h.0;
       index = w.index ∙ same_number j i h.1;
       due = due;
@@ -313,7 +300,7 @@ due_for s (Some (Decide m j due)) n i d has is =
     }
 
 taken_by : (s : State) (n i : ℕ) (d : Decision) (may : Bool) → (elim may as (λ c. Bool) [ true ↦ may_take (come_to_decide s) n i d | false ↦ false ]) ≡ true → TakenFor (come_to_decide s) n i d
-taken_by s n i d true is = due_for (come_to_decide s) (first_due (come_to_decide s)) n i d refl (first_holds (is_due_decision (come_to_decide s) (first_due (come_to_decide s)) n i d) _ is)
+taken_by s n i d true is = due_for (come_to_decide s) (next_due (come_to_decide s)) n i d refl (first_holds (is_due_decision (come_to_decide s) (next_due (come_to_decide s)) n i d) _ is)
 taken_by s n i d false is = absurd (cc is)
 
 pub taken_for : (s : State) (n i : ℕ) (d : Decision) → permits_taken s n i d ≡ true → TakenFor (come_to_decide s) n i d
@@ -328,10 +315,10 @@ asker_of s n i d by t = record {
   usable = usable_row s t.one d (due_used s t.one d by (t.is ∙ ap (λ e. Some e) (t.same by)));
 }
 
-permitted_by : (s : State) (n i : ℕ) (d : Decision) (room : Bool)
-    → (elim room as (λ c. Bool) [ true ↦ permits_taken s n i d && not (is_for_memory d) | false ↦ permits_taken s n i d ]) ≡ true → permits_taken s n i d ≡ true
-permitted_by s n i d true is = first_holds (permits_taken s n i d) (not (is_for_memory d)) is
-permitted_by s n i d false is = is
+permitted_by : (s : State) (n i : ℕ) (d : Decision) (room : Option ℕ)
+    → (elim room as (λ c. Bool) [ Some who ↦ permits_taken s n i d && not (is_for_memory d) | None ↦ permits_taken s n i d ]) ≡ true → permits_taken s n i d ≡ true
+permitted_by s n i d (Some who) is = first_holds (permits_taken s n i d) (not (is_for_memory d)) is
+permitted_by s n i d None is = is
 
 pub permitted_taken : (s : State) (n i : ℕ) (d : Decision) → IsPermitted s (Noted (Taken n i d)) → permits_taken s n i d ≡ true
 unfolding is_permitted permits

@@ -29,7 +29,7 @@ use Rattle.pp_law.specs.Chunks.{note_use}
 use Rattle.pp_law.specs.Closing.{close_client, exchanges_of, leave_one, left_alone}
 use Rattle.pp_law.specs.Connections.{client, conn, each_exchange, end_exchange, exchange, front_of_line, is_client, is_conn, is_exchange, lose_attempt, may_ask_again, on_client, on_conn, on_exchange, close_conn, placing, Placement, put_on}
 use Rattle.pp_law.specs.Deciding.{is_for_memory}
-use Rattle.pp_law.specs.Due.{Due, Decide, CutOff, due_by_stage, due_cut, due_decision, due_of, first_due}
+use Rattle.pp_law.specs.Due.{Due, Decide, CutOff, due_by_stage, due_cut, due_decision, due_of, first_due, next_due}
 use Rattle.pp_law.specs.Leaving.{Leaving, ForAnother, ForMemory, BeforeDecision, before_decision, forgets_next, if_so, is_first, leaving_as, makes_room}
 use Rattle.pp_law.specs.Lists.{Bytes, change, first_some, is_some_with, is_this}
 use Rattle.pp_law.specs.Opening.{terms_behind, are_texts, begun, configured, is_at, is_opening, is_recovered, lose_in_opening, may_fail, names_file, opened_to, permits_configured, permits_listens, permits_rooted, settings_in, stuck, with_settings, woken}
@@ -46,6 +46,7 @@ use Rattle.pp_law.specs.Store.{load, load_from}
 use Rattle.pp_law.specs.Turn.{rest_with, rested_client, rested_conn, rested_instance, tick, touch}
 use Rattle.pp_law.specs.Unseen.{rested_exchange}
 use Rattle.pp_laws.specs.Runs.{IsIn}
+use Rattle.pp_laws.proofs.Dues.{next_in}
 use Rattle.pp_laws.proofs.Lists.{in_filter, in_find, in_front, in_map, in_push, one_of}
 use Rattle.pp_laws.proofs.Sound.{FactsOf, Since, Sound, client_number, facts_of as sound_facts, instance_id, source_in}
 use Rattle.pp_laws.proofs.Steps.{come_to_decide-sound}
@@ -285,9 +286,9 @@ pub gate : (a b : Bool) → (elim a as (λ c. Bool) [ true ↦ b | false ↦ fal
 gate true b is = (refl, is)
 gate false b is = absurd (cc is)
 
-unhampered : (made : Bool) (t : Bool) → (elim made as (λ c. Bool) [ true ↦ false | false ↦ t ]) ≡ true → t ≡ true
-unhampered true t is = absurd (cc is)
-unhampered false t is = is
+unhampered : (made : Option ℕ) (t : Bool) → (elim made as (λ c. Bool) [ Some who ↦ false | None ↦ t ]) ≡ true → t ≡ true
+unhampered (Some who) t is = absurd (cc is)
+unhampered None t is = is
 
 at_phase : (p : Phase) (s : State) → is_at p s ≡ true → s.phase ≡ p
 at_phase p s at = sym (same_phase p s.phase at)
@@ -384,15 +385,6 @@ take_decision-turn n d s late going h =
     each_so (client s n) (λ none. h)
     (λ c found. regained-keeps turn_walk _ (holds (facts_of (decided-keeps turn_walk turn_begins turn_follows c d s (record { there = (in_find (is_client n) c s.clients found).0; going = going c found }) late h))))
 
--- one of the clients has what is due first
-first_in : (s : State) (cs : List Client) (due : Due) → first_some (due_of s) cs ≡ Some due → (c : Client) × IsIn c cs × (due_of s c ≡ Some due)
-first_in s [] due is = absurd (cc is)
-first_in s (c ∷ cs) due is = by (due_of s c) refl is (first_in s cs due)
-  where
-    by : (o : Option Due) → due_of s c ≡ o → (elim o as (λ x. Option Due) [ Some y ↦ Some y | None ↦ first_some (due_of s) cs ]) ≡ Some due → (first_some (due_of s) cs ≡ Some due → (d : Client) × IsIn d cs × (due_of s d ≡ Some due)) → (d : Client) × IsIn d (c ∷ cs) × (due_of s d ≡ Some due)
-    by None none at rest = let w = rest at in (w.0, inr w.1, w.2)
-    by (Some y) some at rest = (c, inl refl, some ∙ at)
-
 -- who is decided for goes on
 decided_going : (s : State) (c : Client) (n i : ℕ) (d : Decision) → due_of s c ≡ Some (Decide n i d) → (c.number ≡ n) × (c.is_closing ≡ false)
 decided_going s c n i d is = by (due_cut s c) (due_decision s c) refl is
@@ -410,14 +402,14 @@ decided_going s c n i d is = by (due_cut s c) (due_decision s c) refl is
     by None None due at = absurd (cc at)
     by None (Some x) due at = (number c.number c.index x at, going x c.is_closing s.is_stopped (due_by_stage s c) due)
 
-due_going : (s : State) (n i : ℕ) (d : Decision) → is_due_decision s (first_due s) n i d ≡ true → (c : Client) × IsIn c s.clients × (c.number ≡ n) × (c.is_closing ≡ false)
-due_going s n i d is = by (first_due s) refl is
+due_going : (s : State) (n i : ℕ) (d : Decision) → is_due_decision s (next_due s) n i d ≡ true → (c : Client) × IsIn c s.clients × (c.number ≡ n) × (c.is_closing ≡ false)
+due_going s n i d is = by (next_due s) refl is
   where
-    by : (o : Option Due) → first_due s ≡ o → is_due_decision s o n i d ≡ true → (c : Client) × IsIn c s.clients × (c.number ≡ n) × (c.is_closing ≡ false)
+    by : (o : Option Due) → next_due s ≡ o → is_due_decision s o n i d ≡ true → (c : Client) × IsIn c s.clients × (c.number ≡ n) × (c.is_closing ≡ false)
     by None none at = absurd (cc at)
     by (Some (CutOff m cause)) some at = absurd (cc at)
     by (Some (Decide m j x)) some at =
-        let w = first_in s s.clients (Decide m j x) some in
+        let w = next_in s (Decide m j x) some in
         let v = decided_going s w.0 m j x w.2 in
         (w.0, w.1, v.0 ∙ same_number m n (first_holds (m == n) (j == i) (first_holds ((m == n) && (j == i)) (is_same_decision x d || (is_same_decision d (Refuse 500) && may_want_memory s n)) at)), v.1)
 
@@ -426,7 +418,7 @@ unfolding deciding
 taken_going s n i d so may c found =
     let t : State = come_to_decide s in
     let open_it = gate (decides t) (may_take t n i d) may in
-    let w = due_going t n i d (first_holds (is_due_decision t (first_due t) n i d) (has_room_for t n d) open_it.1) in
+    let w = due_going t n i d (first_holds (is_due_decision t (next_due t) n i d) (has_room_for t n d) open_it.1) in
     let r = in_find (is_client n) c t.clients found in
     let one : w.0 ≡ c = one_of client_number t.clients w.0 c (sound_facts (come_to_decide-sound s so)).callers.rise w.1 r.0 (w.2 ∙ sym (same_number c.number n r.1)) in
     subst (λ (x : Client). x.is_closing ≡ false) one w.3
@@ -772,9 +764,9 @@ pub taken_so : (s : State) (n i : ℕ) (d : Decision) → IsPermitted s (Noted (
 unfolding is_permitted permits
 taken_so s n i d is = by s.has_made_room is
   where
-    by : (t : Bool) → (elim t as (λ x. Bool) [ true ↦ permits_taken s n i d && not (is_for_memory d) | false ↦ permits_taken s n i d ]) ≡ true → permits_taken s n i d ≡ true
-    by true at = first_holds (permits_taken s n i d) (not (is_for_memory d)) at
-    by false at = at
+    by : (room : Option ℕ) → (elim room as (λ x. Bool) [ Some who ↦ permits_taken s n i d && not (is_for_memory d) | None ↦ permits_taken s n i d ]) ≡ true → permits_taken s n i d ≡ true
+    by (Some who) at = first_holds (permits_taken s n i d) (not (is_for_memory d)) at
+    by None at = at
 
 clock_awaits : (s : State) (seconds : ℕ) → IsPermitted s (Clock seconds) → is_awaiting s ≡ true
 unfolding is_permitted permits

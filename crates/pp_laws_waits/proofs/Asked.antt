@@ -121,7 +121,7 @@ regained-same s = refl
 
 pub taken-none_new : (s : State) (n i : ℕ) (d : Decision) → asks_nothing d ≡ true → NoneNew (deciding s) (after s (Noted (Taken n i d)))
 unfolding changed noted take_decision
-taken-none_new s n i d is = none_each (deciding s) (client (deciding s) n) (λ c. regained (record (decided c d (deciding s)) { forgotten = []; has_made_room = false })) by
+taken-none_new s n i d is = none_each (deciding s) (client (deciding s) n) (λ c. regained (record (decided c d (deciding s)) { forgotten = []; has_made_room = None })) by
   where
-    by : (c : Client) → NoneNew (deciding s) (regained (record (decided c d (deciding s)) { forgotten = []; has_made_room = false }))
-    by c = new_by (deciding s) (decided c d (deciding s)) (regained (record (decided c d (deciding s)) { forgotten = []; has_made_room = false })) (regained-same (record (decided c d (deciding s)) { forgotten = []; has_made_room = false })) (decided-none_new c d (deciding s) is)
+    by : (c : Client) → NoneNew (deciding s) (regained (record (decided c d (deciding s)) { forgotten = []; has_made_room = None }))
+    by c = new_by (deciding s) (decided c d (deciding s)) (regained (record (decided c d (deciding s)) { forgotten = []; has_made_room = None })) (regained-same (record (decided c d (deciding s)) { forgotten = []; has_made_room = None })) (decided-none_new c d (deciding s) is)

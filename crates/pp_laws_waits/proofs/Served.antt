@@ -40,9 +40,9 @@ pub behind_front : (s : State) (front rest : Log) → LawfulFrom s (front ++ res
 behind_front s [] rest lawful = lawful
 behind_front s (h ∷ front) rest lawful = behind_front (after s h) front rest lawful.1
 
-pub unhampered : (made : Bool) (t : Bool) → (elim made as (λ c. Bool) [ true ↦ false | false ↦ t ]) ≡ true → t ≡ true
-unhampered true t is = absurd (cc is)
-unhampered false t is = is
+pub unhampered : (made : Option ℕ) (t : Bool) → (elim made as (λ c. Bool) [ Some who ↦ false | None ↦ t ]) ≡ true → t ≡ true
+unhampered (Some who) t is = absurd (cc is)
+unhampered None t is = is
 
 chosen : (t u : Bool) → (elim t as (λ c. Bool) [ true ↦ u | false ↦ false ]) ≡ true → (t ≡ true) × (u ≡ true)
 chosen true u is = (refl, is)

@@ -95,7 +95,7 @@ same_text xs ys is = (bytes_eq-Decides xs ys).1 is
 
 -- these of the chunks are left, and all else is as it was
 pub record Stands (number : ℕ → ℕ) (m : Memory) (places : List (ℕ × ℕ)) (low : ℕ) (R : State → Type 0) (cs : List Chunk) (s : State) : Type 0 where
-  pub none : s.has_made_room ≡ false
+  pub none : s.has_made_room ≡ None
   pub at : s.phase ≡ Evicting
   pub nobody : is_empty s.forgotten ≡ true
   pub evicting : s.is_evicting ≡ true

@@ -97,7 +97,7 @@ module _ (number : ℕ → ℕ) (name : Bytes) (l : Leaving) (peers : List Peer)
   -- ---- rows that are still to be noted
 
   record Noting (keys : List Bytes) (s : State) : Type 0 where
-    none : s.has_made_room ≡ false
+    none : s.has_made_room ≡ None
     at : s.phase ≡ Evicting
     shows : ShowsSteps number name l peers (parts st) s
     forgotten : s.forgotten ≡ keys
@@ -167,7 +167,7 @@ module _ (number : ℕ → ℕ) (name : Bytes) (l : Leaving) (peers : List Peer)
           refused = refl;
         })
 
-    have_left : (s : State) → s.has_made_room ≡ false → s.phase ≡ Evicting → is_empty s.forgotten ≡ true → due_victim s ≡ None → ShowsCache number (record st.cache { chunks = left }) s → Others number name l peers st s
+    have_left : (s : State) → s.has_made_room ≡ None → s.phase ≡ Evicting → is_empty s.forgotten ≡ true → due_victim s ≡ None → ShowsCache number (record st.cache { chunks = left }) s → Others number name l peers st s
         → HaveLeft number name l peers after s
     have_left s none at nobody due shows others = record {
       none = none;

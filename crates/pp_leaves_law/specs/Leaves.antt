@@ -1,5 +1,5 @@
 -- What is noted of rows and chunks that leave memory is what the law permits, and leads where the law leads (ours).
-use Rattle.std.specs.Prelude.{◌≡◌, ◌≤◌, ℕ, true, false, List, Option}
+use Rattle.std.specs.Prelude.{◌≡◌, ◌≤◌, ℕ, true, false, List, Option, None}
 use Rattle.pp_cache_law.specs.Reads.{ArePinned}
 use Rattle.pp_flow_law.specs.Tables.{Leaving}
 use Rattle.pp_law.specs.Chunks.{floor}
@@ -19,7 +19,7 @@ use Rattle.pp_world.specs.Log.{AppendsAll, Log}
 
 -- rows and chunks leave memory: the same rows are to be noted, the marks are the law's, and the same chunks are pinned
 pub record AreLeaving (number : ℕ → ℕ) (name : Bytes) (l : Leaving) (peers : List Peer) (st : Steps) (s : State) : Type 0 where
-  pub none : s.has_made_room ≡ false
+  pub none : s.has_made_room ≡ None
   pub at : s.phase ≡ Evicting
   pub shows : ShowsSteps number name l peers (parts st) s
   pub forgotten : st.forgotten ≡ s.forgotten
@@ -29,7 +29,7 @@ pub record AreLeaving (number : ℕ → ℕ) (name : Bytes) (l : Leaving) (peers
 
 -- they have left, and no more has to be noted, nor to go
 pub record HaveLeft (number : ℕ → ℕ) (name : Bytes) (l : Leaving) (peers : List Peer) (st : Steps) (s : State) : Type 0 where
-  pub none : s.has_made_room ≡ false
+  pub none : s.has_made_room ≡ None
   pub at : s.phase ≡ Evicting
   pub shows : ShowsSteps number name l peers (parts st) s
   pub done : is_done s ≡ true

@@ -4,7 +4,7 @@ use Rattle.pp_text.specs.Bytes.{is_empty}
 use Rattle.pp_world.specs.declared.happening.Happening.TheVariants.{Noted}
 use Rattle.pp_world.specs.declared.note.Remark.TheVariants.{Forgotten}
 use Rattle.pp_law.specs.After.{after, changed, forgotten_by, leave_memory, noted, refused_row}
-use Rattle.pp_law.specs.Due.{first_due}
+use Rattle.pp_law.specs.Due.{decides_for, first_due}
 use Rattle.pp_law.specs.Leaving.{Leaving, ForAnother, ForMemory, BeforeDecision, before_decision, forgets_next, if_so, is_first, leaving_as, makes_room}
 use Rattle.pp_law.specs.Lists.{Bytes}
 use Rattle.pp_law.specs.Opening.{is_at, is_same_phase}
@@ -52,11 +52,14 @@ handled_next : (s : State) → s.phase ≡ Handling → next s ≡ in_phase Evic
 unfolding next
 handled_next s is = ap (λ (p : Phase). behind p s) is
 
+abbrev left_for : Instance → State → State
+left_for x t = record (forget x.id t) { has_made_room = decides_for (first_due t) }
+
 leads_by : (s : State) (how : Leaving) → IsDone s → is_at Evicting s ≡ false → leave_memory how s ≡ leave_memory how (next s)
 unfolding leave_memory
 leads_by s ForAnother d isnt = ap (λ (t : State). record t { forgotten = drop 1 t.forgotten }) (come_to-next Evicting s d isnt)
 leads_by s (ForMemory x) d isnt = ap (refused_row x) (come_to-next Evicting s d isnt)
-leads_by s (BeforeDecision x) d isnt = ap (λ (t : State). record (forget x.id t) { has_made_room = true }) (come_to_decide-next s d)
+leads_by s (BeforeDecision x) d isnt = ap (left_for x) (come_to_decide-next s d)
 
 may_same : (s : State) (test : State → Bool) → IsDone s → is_at Evicting s ≡ false → may_in Evicting test s ≡ may_in Evicting test (next s)
 may_same s test d isnt = ap (λ (t : State). elim (is_at Evicting t) as (λ c. Bool) [ true ↦ test t | false ↦ false ]) (come_to-next Evicting s d isnt)
@@ -102,7 +105,7 @@ decided s key l past before may =
     follows
     (ap (λ (o : Option Leaving). is_some o) here)
     (after_by s key (BeforeDecision c.row_is) here
-    ∙ ap (λ (t : State). record (forget c.row_is.id t) { has_made_room = true }) (come_to_decide-next s l.done)
+    ∙ ap (left_for c.row_is) (come_to_decide-next s l.done)
     ∙ sym (after_by (next s) key (BeforeDecision c.row_is) there))
 
 -- past the phase in which rows leave

@@ -27,7 +27,7 @@ pub record Frame : Type 0 where
   pub is_ticked : Bool
   pub is_stopped : Bool
   pub owed : Owed
-  pub has_made_room : Bool
+  pub has_made_room : Option ℕ
   pub agenda : Agenda
 
 -- with what was sent, or without

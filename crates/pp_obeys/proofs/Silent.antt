@@ -1,5 +1,5 @@
 -- What may come behind a phase that is done may come before it is left, and leads to the same.
-use Rattle.std.proofs.Common.{◌≡◌, refl, ℕ, Bool, true, false, not, ◌&&◌, ◌||◌, List, [], ◌∷◌, Option, None, is_some, sym, ap, ap₂, ◌∙◌}
+use Rattle.std.proofs.Common.{◌≡◌, refl, ℕ, Bool, true, false, not, ◌&&◌, ◌||◌, List, [], ◌∷◌, Option, Some, None, is_some, sym, ap, ap₂, ◌∙◌}
 use Rattle.std.specs.List.{list_any}
 use Rattle.std.specs.Prelude.{nat_lt, map, bytes_eq, ◌==◌}
 use Rattle.pp_world.specs.Files.{Files}
@@ -341,17 +341,17 @@ pub record Comes (s t : State) (h : Happening) : Type 0 where
   pub may : IsPermitted s h
   pub leads : GoesAs (after s h) (after t h)
 
-comes_by : (s t : State) (h : Happening) (room : Bool) → t.has_made_room ≡ room → s.has_made_room ≡ room → (permits t h ≡ true → Follows s t h) → IsPermitted t h → Comes s t h
+comes_by : (s t : State) (h : Happening) (room : Option ℕ) → t.has_made_room ≡ room → s.has_made_room ≡ room → (permits t h ≡ true → Follows s t h) → IsPermitted t h → Comes s t h
 unfolding is_permitted
-comes_by s t h true in_t in_s step may =
-    let narrow : permits_behind_forgotten t h ≡ true = sym (ap (λ (b : Bool). elim b as (λ c. Bool) [ true ↦ permits_behind_forgotten t h | false ↦ permits t h ]) in_t) ∙ may in
+comes_by s t h (Some who) in_t in_s step may =
+    let narrow : permits_behind_forgotten t h ≡ true = sym (ap (λ (o : Option ℕ). elim o as (λ c. Bool) [ Some who ↦ permits_behind_forgotten t h | None ↦ permits t h ]) in_t) ∙ may in
     let n = narrows t s h narrow in
     let f = step n.wide in
-    record { may = ap (λ (b : Bool). elim b as (λ c. Bool) [ true ↦ permits_behind_forgotten s h | false ↦ permits s h ]) in_s ∙ n.narrow f.may; leads = f.leads }
-comes_by s t h false in_t in_s step may =
-    let wide : permits t h ≡ true = sym (ap (λ (b : Bool). elim b as (λ c. Bool) [ true ↦ permits_behind_forgotten t h | false ↦ permits t h ]) in_t) ∙ may in
+    record { may = ap (λ (o : Option ℕ). elim o as (λ c. Bool) [ Some who ↦ permits_behind_forgotten s h | None ↦ permits s h ]) in_s ∙ n.narrow f.may; leads = f.leads }
+comes_by s t h None in_t in_s step may =
+    let wide : permits t h ≡ true = sym (ap (λ (o : Option ℕ). elim o as (λ c. Bool) [ Some who ↦ permits_behind_forgotten t h | None ↦ permits t h ]) in_t) ∙ may in
     let f = step wide in
-    record { may = ap (λ (b : Bool). elim b as (λ c. Bool) [ true ↦ permits_behind_forgotten s h | false ↦ permits s h ]) in_s ∙ f.may; leads = f.leads }
+    record { may = ap (λ (o : Option ℕ). elim o as (λ c. Bool) [ Some who ↦ permits_behind_forgotten s h | None ↦ permits s h ]) in_s ∙ f.may; leads = f.leads }
 
 pub comes : (s : State) (h : Happening) → IsLeft s → RowsFollow s → IsPermitted (next s) h → Comes s (next s) h
 comes s h l rows may = comes_by s (next s) h s.has_made_room (same_of (λ o. o.has_made_room) s) refl (λ is. permits_follows s h l rows is) may
@@ -360,6 +360,6 @@ pub permitted_wide : (s : State) (h : Happening) → IsPermitted s h → permits
 unfolding is_permitted
 permitted_wide s h may = by s.has_made_room may
   where
-    by : (room : Bool) → (elim room as (λ c. Bool) [ true ↦ permits_behind_forgotten s h | false ↦ permits s h ]) ≡ true → permits s h ≡ true
-    by true is = (narrows s s h is).wide
-    by false is = is
+    by : (room : Option ℕ) → (elim room as (λ c. Bool) [ Some who ↦ permits_behind_forgotten s h | None ↦ permits s h ]) ≡ true → permits s h ≡ true
+    by (Some who) is = (narrows s s h is).wide
+    by None is = is

@@ -20,6 +20,7 @@ use Rattle.pp_law.specs.Chunks.{note_use}
 use Rattle.pp_law.specs.Followers.{fill}
 use Rattle.pp_law.specs.Connections.{client, conn, end_exchange, lose_attempt, may_ask_again, on_client, on_conn, on_exchange, placing, put_on, Placement, Pause, AllPlaced, WaitsDial, WaitsDrop}
 use Rattle.pp_law.specs.Deciding.{decided}
+use Rattle.pp_law.specs.Due.{decides_for, first_due}
 use Rattle.pp_law.specs.Leaving.{Leaving, ForAnother, ForMemory, BeforeDecision, leaving_as}
 use Rattle.pp_law.specs.Lists.{Bytes, is_some_with}
 use Rattle.pp_law.specs.Opening.{are_texts, begun, configured, is_at, is_opening, is_recovered, is_same_phase, lose_in_opening, may_fail, names_file, opened_to, settings_in, stuck, with_settings, woken}
@@ -231,14 +232,14 @@ take_step : (n : ℕ) (d : Decision) (s : State) → IsQuiet s → Step s (take_
 unfolding take_decision regained
 take_step n d s q = by (client s n)
   where
-    each : (c : Client) → Step s (regained (record (decided c d s) { forgotten = []; has_made_room = false })) false
+    each : (c : Client) → Step s (regained (record (decided c d s) { forgotten = []; has_made_room = None })) false
     each c =
         let is : frame false (decided c d s) ≡ frame false s = same s (decided c d s) (decided-stays c d s (stays refl)) in
         let r : IsQuiet (decided c d s) = quiet_as is q in
         let l : SameLife s (decided c d s) = life_as is in
         quiet_step (record { free = r.free; idle = r.idle; nothing = r.nothing }) (record { failures = l.failures; term = l.term })
 
-    by : (o : Option Client) → Step s (elim o as (λ x. State) [ None ↦ s | Some c ↦ regained (record (decided c d s) { forgotten = []; has_made_room = false }) ]) false
+    by : (o : Option Client) → Step s (elim o as (λ x. State) [ None ↦ s | Some c ↦ regained (record (decided c d s) { forgotten = []; has_made_room = None }) ]) false
     by None = quiet_step q (same_life s)
     by (Some c) = each c
 
@@ -276,7 +277,7 @@ leave_step s ForAnother h = left_step s (come_to Evicting s) (come_to-frame fals
 leave_step s (ForMemory x) h = moved_step (come_to-frame false Evicting s) (same (come_to Evicting s) _ (refused_row-stays x (come_to Evicting s) (stays refl))) (come_to-settled Evicting s h)
 leave_step s (BeforeDecision x) h = made_room (come_to_decide s) (come_to_decide-frame false s) (come_to_decide-settled s h)
   where
-    made_room : (u : State) → unphased (frame false u) ≡ unphased (frame false s) → Settled u → Step s (record (forget x.id u) { has_made_room = true }) false
+    made_room : (u : State) → unphased (frame false u) ≡ unphased (frame false s) → Settled u → Step s (record (forget x.id u) { has_made_room = decides_for (first_due u) }) false
     made_room u on hu =
         let is : frame false (forget x.id u) ≡ frame false u = same u (forget x.id u) (forget-stays x.id u (stays refl)) in
         let settled : Settled (forget x.id u) = settled_as is hu in

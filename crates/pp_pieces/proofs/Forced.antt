@@ -236,7 +236,7 @@ unfoldable pub forced_Agenda : Agenda → (Agenda → Out) → Out
 forced_Agenda x k = (forced_list forced_nat) x.name (λ name'. (forced_list forced_Todo) x.todo (λ todo'. k (record { name = name'; todo = todo' })))
 
 unfoldable pub forced_State : State → (State → Out) → Out
-forced_State x k = (forced_list forced_Sent) x.sent (λ sent'. (forced_list forced_Entry) x.acknowledged (λ acknowledged'. (forced_list forced_Happening) x.disk (λ disk'. forced_nat x.top (λ top'. (forced_list forced_Term) x.terms (λ terms'. forced_Term x.term (λ term'. forced_Settings x.settings (λ settings'. forced_Phase x.phase (λ phase'. forced_nat x.clock (λ clock'. forced_Bool x.has_ticked (λ has_ticked'. forced_nat x.failures (λ failures'. (forced_list forced_Client) x.clients (λ clients'. (forced_list forced_Conn) x.conns (λ conns'. (forced_list forced_Exchange) x.exchanges (λ exchanges'. forced_nat x.next_exchange (λ next_exchange'. (forced_list forced_Instance) x.instances (λ instances'. forced_nat x.next_instance (λ next_instance'. (forced_list forced_Chunk) x.chunks (λ chunks'. (forced_list forced_Entry) x.entries (λ entries'. (forced_list (forced_list forced_nat)) x.closed_names (λ closed_names'. (forced_option forced_DiskOp) x.under_way (λ under_way'. (forced_list (forced_list forced_nat)) x.displaced (λ displaced'. forced_Bool x.has_lost_draft (λ has_lost_draft'. forced_Bool x.is_ticked (λ is_ticked'. forced_Bool x.is_stopped (λ is_stopped'. forced_Owed x.owed (λ owed'. forced_Bool x.is_evicting (λ is_evicting'. (forced_list (forced_list forced_nat)) x.forgotten (λ forgotten'. forced_Bool x.has_made_room (λ has_made_room'. forced_Agenda x.agenda (λ agenda'. k (record { sent = sent'; acknowledged = acknowledged'; disk = disk'; top = top'; terms = terms'; term = term'; settings = settings'; phase = phase'; clock = clock'; has_ticked = has_ticked'; failures = failures'; clients = clients'; conns = conns'; exchanges = exchanges'; next_exchange = next_exchange'; instances = instances'; next_instance = next_instance'; chunks = chunks'; entries = entries'; closed_names = closed_names'; under_way = under_way'; displaced = displaced'; has_lost_draft = has_lost_draft'; is_ticked = is_ticked'; is_stopped = is_stopped'; owed = owed'; is_evicting = is_evicting'; forgotten = forgotten'; has_made_room = has_made_room'; agenda = agenda' })))))))))))))))))))))))))))))))
+forced_State x k = (forced_list forced_Sent) x.sent (λ sent'. (forced_list forced_Entry) x.acknowledged (λ acknowledged'. (forced_list forced_Happening) x.disk (λ disk'. forced_nat x.top (λ top'. (forced_list forced_Term) x.terms (λ terms'. forced_Term x.term (λ term'. forced_Settings x.settings (λ settings'. forced_Phase x.phase (λ phase'. forced_nat x.clock (λ clock'. forced_Bool x.has_ticked (λ has_ticked'. forced_nat x.failures (λ failures'. (forced_list forced_Client) x.clients (λ clients'. (forced_list forced_Conn) x.conns (λ conns'. (forced_list forced_Exchange) x.exchanges (λ exchanges'. forced_nat x.next_exchange (λ next_exchange'. (forced_list forced_Instance) x.instances (λ instances'. forced_nat x.next_instance (λ next_instance'. (forced_list forced_Chunk) x.chunks (λ chunks'. (forced_list forced_Entry) x.entries (λ entries'. (forced_list (forced_list forced_nat)) x.closed_names (λ closed_names'. (forced_option forced_DiskOp) x.under_way (λ under_way'. (forced_list (forced_list forced_nat)) x.displaced (λ displaced'. forced_Bool x.has_lost_draft (λ has_lost_draft'. forced_Bool x.is_ticked (λ is_ticked'. forced_Bool x.is_stopped (λ is_stopped'. forced_Owed x.owed (λ owed'. forced_Bool x.is_evicting (λ is_evicting'. (forced_list (forced_list forced_nat)) x.forgotten (λ forgotten'. (forced_option forced_nat) x.has_made_room (λ has_made_room'. forced_Agenda x.agenda (λ agenda'. k (record { sent = sent'; acknowledged = acknowledged'; disk = disk'; top = top'; terms = terms'; term = term'; settings = settings'; phase = phase'; clock = clock'; has_ticked = has_ticked'; failures = failures'; clients = clients'; conns = conns'; exchanges = exchanges'; next_exchange = next_exchange'; instances = instances'; next_instance = next_instance'; chunks = chunks'; entries = entries'; closed_names = closed_names'; under_way = under_way'; displaced = displaced'; has_lost_draft = has_lost_draft'; is_ticked = is_ticked'; is_stopped = is_stopped'; owed = owed'; is_evicting = is_evicting'; forgotten = forgotten'; has_made_room = has_made_room'; agenda = agenda' })))))))))))))))))))))))))))))))
 
 -- what a piece of a log leaves, or the first of it that may not be
 unfoldable pub judge : ℕ → State → Log → Out

@@ -81,7 +81,7 @@ decided_disk : (n : ℕ) (d : Decision) (s : State) → (take_decision n d s).di
 unfolding take_decision regained
 decided_disk n d s = by (client s n)
   where
-    by : (o : Option Client) → (elim o as (λ x. State) [ None ↦ s | Some c ↦ regained (record (decided c d s) { forgotten = []; has_made_room = false }) ]).disk ≡ s.disk
+    by : (o : Option Client) → (elim o as (λ x. State) [ None ↦ s | Some c ↦ regained (record (decided c d s) { forgotten = []; has_made_room = None }) ]).disk ≡ s.disk
     by None = refl
     by (Some c) = same s (decided c d s) (decided-stays c d s (stays refl))
 

@@ -55,7 +55,7 @@ idle_is s idle = ap (λ (o : Option DiskOp). not (is_some o)) idle
 abbrev pub begun_to : Agenda → DiskOp → State → State
 begun_to agenda op s = record s { agenda = agenda; under_way = Some op; disk = s.disk ++ Began op ∷ [] }
 
-pub begins_with : (Q : State → Type 0) (s : State) (name : Bytes) (op : DiskOp) (todo : List Todo) → s.has_made_room ≡ false → s.phase ≡ Keeping → s.under_way ≡ None → agenda_in_turn op s ≡ Some (record { name = name; todo = Do op ∷ todo })
+pub begins_with : (Q : State → Type 0) (s : State) (name : Bytes) (op : DiskOp) (todo : List Todo) → s.has_made_room ≡ None → s.phase ≡ Keeping → s.under_way ≡ None → agenda_in_turn op s ≡ Some (record { name = name; todo = Do op ∷ todo })
     → Q (begun_to (record { name = name; todo = todo }) op s) → Moves Q (Began op) s
 unfolding begin_in_turn begin_op
 begins_with Q s name op todo none at idle plan holds =
@@ -74,7 +74,7 @@ pub begins : (Q : State → Type 0) (s : State) (name : Bytes) (op : DiskOp) (to
 begins Q s name op todo w holds = begins_with Q s name op todo w.none w.at w.idle (plan_is s name op todo w.agenda) holds
 
 -- it was done
-pub ends : (Q : State → Type 0) (s : State) (op : DiskOp) (a : Agenda) → s.has_made_room ≡ false → Q (enter_next (ran (Began op ∷ Did op true ∷ []) a s)) → Moves Q (Did op true) (begun_to a op s)
+pub ends : (Q : State → Type 0) (s : State) (op : DiskOp) (a : Agenda) → s.has_made_room ≡ None → Q (enter_next (ran (Began op ∷ Did op true ∷ []) a s)) → Moves Q (Did op true) (begun_to a op s)
 unfolding ended_op end_op
 ends Q s op a none holds =
     let goes : Goes (begun_to a op s) (Did op true) (ended_op op true (begun_to a op s)) = goes_did (begun_to a op s) op true none (op_same op) in
@@ -92,7 +92,7 @@ fail_phase op s = by (is_of_draft op)
     by false = refl
 
 -- it failed
-pub fails_with : (Q : State → Type 0) (s : State) (op : DiskOp) (a : Agenda) → s.has_made_room ≡ false → s.phase ≡ Keeping → Q (fail_op op (ran (Began op ∷ Did op false ∷ []) a s)) → Moves Q (Did op false) (begun_to a op s)
+pub fails_with : (Q : State → Type 0) (s : State) (op : DiskOp) (a : Agenda) → s.has_made_room ≡ None → s.phase ≡ Keeping → Q (fail_op op (ran (Began op ∷ Did op false ∷ []) a s)) → Moves Q (Did op false) (begun_to a op s)
 unfolding ended_op end_op lose_in_opening
 fails_with Q s op a none at holds =
     let goes : Goes (begun_to a op s) (Did op false) (ended_op op false (begun_to a op s)) = goes_did (begun_to a op s) op false none (op_same op) in
@@ -106,7 +106,7 @@ pub ran_twice : (one two : Log) (a b : Agenda) (s : State) → ran two a (ran on
 ran_twice one two a b s = ap (λ (d : Log). record s { disk = d; under_way = None; agenda = a }) (append_assoc s.disk one two)
 
 -- one was done, and more are to be done
-next_works : (s : State) (name : Bytes) (hs : Log) (todo : List Todo) → s.has_made_room ≡ false → s.phase ≡ Keeping → IsWorking name todo (ran hs (record { name = name; todo = todo }) s)
+next_works : (s : State) (name : Bytes) (hs : Log) (todo : List Todo) → s.has_made_room ≡ None → s.phase ≡ Keeping → IsWorking name todo (ran hs (record { name = name; todo = todo }) s)
 next_works s name hs todo none at = record { none = none; at = at; idle = refl; agenda = refl }
 
 pub all_done : (Q : State → Type 0) (s : State) (name : Bytes) (op : DiskOp) (ops : List DiskOp) (todo : List Todo) (hs : Log) → IsWorking name (map Do (op ∷ ops) ++ todo) s → Ran (op ∷ ops) true hs

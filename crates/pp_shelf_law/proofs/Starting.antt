@@ -67,7 +67,7 @@ began_leads s name op todo w =
 abbrev pub given : Agenda → State → State
 given a s = record s { agenda = a }
 
-pub starts : (Q : State → Type 0) (s : State) (name : Bytes) (op : DiskOp) (ops : List DiskOp) (ok : Bool) (todo : List Todo) (hs : Log) → s.has_made_room ≡ false → s.phase ≡ Keeping → s.under_way ≡ None
+pub starts : (Q : State → Type 0) (s : State) (name : Bytes) (op : DiskOp) (ops : List DiskOp) (ok : Bool) (todo : List Todo) (hs : Log) → s.has_made_room ≡ None → s.phase ≡ Keeping → s.under_way ≡ None
     → agenda_in_turn op s ≡ Some (record { name = name; todo = Do op ∷ todo }) → Ran (op ∷ ops) ok hs → MovesAll Q hs (given (record { name = name; todo = Do op ∷ todo }) s) → MovesAll Q hs s
 starts Q s name op ops ok todo hs none at idle plan are moves =
     let first = ran_first op ops ok hs are in

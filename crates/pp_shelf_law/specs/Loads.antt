@@ -1,5 +1,5 @@
 -- A chunk is read back, or it cannot be read and its entry is lost (ours).
-use Rattle.std.specs.Prelude.{◌≡◌, ◌<◌, ℕ, ◌*◌, ◌/◌, true, false, [], ◌∷◌, take, Some, Ok}
+use Rattle.std.specs.Prelude.{◌≡◌, ◌<◌, ℕ, ◌*◌, ◌/◌, true, false, [], ◌∷◌, take, Some, None, Ok}
 use Rattle.pp_law.specs.After.{unread}
 use Rattle.pp_law.specs.Asking.{is_writing}
 use Rattle.pp_law.specs.Chunks.{chunk_len, is_in_memory}
@@ -24,7 +24,7 @@ use Rattle.pp_shelf_law.specs.Shelf.{ShowsEntry, ShowsShelf}
 
 -- a client that is written to has its next byte in this chunk of the row, whose entry is kept; and it is not in memory
 pub record IsToLoad (s : State) (x : Instance) (e : Entry) (index : ℕ) : Type 0 where
-  pub none : s.has_made_room ≡ false
+  pub none : s.has_made_room ≡ None
   pub at : s.phase ≡ Handling
   pub rests : is_at_rest s ≡ true
   pub client : Client

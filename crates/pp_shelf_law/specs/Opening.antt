@@ -33,7 +33,7 @@ FreshOnesAreTheLaws = (files : Files) (log : Log) (s : State) → IsFresh files 
 
 -- a life that recovers, with nothing left to do
 pub record IsRecovering (s : State) : Type 0 where
-  pub none : s.has_made_room ≡ false
+  pub none : s.has_made_room ≡ None
   pub at : s.phase ≡ IsListed
   pub idle : s.under_way ≡ None
   pub done : s.agenda.todo ≡ []
@@ -49,7 +49,7 @@ HaveNoStrays files = (name : Bytes) → closing_of name (file_of name files) ≡
 
 -- the folder is used and listed
 abbrev pub FoldersAreTheLaws : Type 0
-FoldersAreTheLaws = (s : State) (folder : Bytes) → s.has_made_room ≡ false → s.phase ≡ IsConfigured → s.under_way ≡ None → s.agenda.todo ≡ [] → bytes_eq folder s.settings.root ≡ true
+FoldersAreTheLaws = (s : State) (folder : Bytes) → s.has_made_room ≡ None → s.phase ≡ IsConfigured → s.under_way ≡ None → s.agenda.todo ≡ [] → bytes_eq folder s.settings.root ≡ true
     → Leads (Rooted folder ∷ Listed true ∷ []) s (record s { phase = IsListed }) × IsRecovering (record s { phase = IsListed })
 
 -- and each name is looked at; behind the last of them the store shows the law's entries

@@ -11,7 +11,7 @@ use Rattle.pp_shelf_law.specs.Runs.{Leads, ran}
 
 -- a life that recovers, where nothing is under way
 pub record IsIdle (s : State) : Type 0 where
-  pub none : s.has_made_room ≡ false
+  pub none : s.has_made_room ≡ None
   pub at : s.phase ≡ IsListed
   pub idle : s.under_way ≡ None
 

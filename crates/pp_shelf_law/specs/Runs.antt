@@ -19,7 +19,7 @@ Leads hs s t = MovesAll (λ u. u ≡ t) hs s
 
 -- in a turn, with so much left to do on a name
 pub record IsWorking (name : Bytes) (todo : List Todo) (s : State) : Type 0 where
-  pub none : s.has_made_room ≡ false
+  pub none : s.has_made_room ≡ None
   pub at : s.phase ≡ Keeping
   pub idle : s.under_way ≡ None
   pub agenda : s.agenda ≡ record { name = name; todo = todo }

@@ -39,7 +39,7 @@ ShowsShelf shelf s = AreKept shelf s.entries s.closed_names
 
 -- in a turn, where nothing is left to do of what was begun
 pub record IsResting (shelf : KeptMap) (s : State) : Type 0 where
-  pub none : s.has_made_room ≡ false
+  pub none : s.has_made_room ≡ None
   pub at : s.phase ≡ Keeping
   pub idle : s.under_way ≡ None
   pub done : s.agenda.todo ≡ []
