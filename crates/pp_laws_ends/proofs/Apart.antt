@@ -54,19 +54,21 @@ use Rattle.pp_laws.proofs.Tops.{come_to-top, placing-top}
 use Rattle.pp_laws_pool.proofs.Along.{Steps, along}
 use Rattle.pp_obeys.specs.Obeys.{Obeys}
 use Rattle.pp_obeys.proofs.Obeying.{log-good}
-use Rattle.pp_laws_turn.proofs.View.{View, Walk, Begins, Follows, Holds, Places, SameAsk, facts_of, holds, is_late, view}
+use Rattle.pp_laws_turn.proofs.View.{View, Walk, Begins, Follows, Holds, IsBodied, SameAsk, facts_of, holds, is_late, view}
 use Rattle.pp_laws_turn.proofs.Cases.{by_aim_of, by_outcome, by_pause, each_of, each_so, when}
 use Rattle.pp_laws_turn.proofs.Clients.{ask-keeps, begin_replies-keeps, close_client-keeps, decided-keeps, end_replies-keeps, fill-keeps, give_up_asks-keeps, hang_up-keeps, hear-keeps, pour-keeps, regained-keeps, use_said-keeps}
 use Rattle.pp_laws_turn.proofs.Closings.{close_conn-keeps}
 use Rattle.pp_laws_turn.proofs.Disk.{begin_in_opening-keeps, begin_in_turn-keeps, close_name-keeps, end_op-keeps, lose_in_opening-keeps, note_gone-keeps, note_kept-keeps}
 use Rattle.pp_laws_turn.proofs.Exchanges.{end_exchange-keeps, lose_attempt-keeps, on_client-keeps, on_conn-keeps, on_exchange-keeps, same_ask, same_conn}
-use Rattle.pp_laws_turn.proofs.Happenings.{asked_placed, taken_going, taken_so}
+use Rattle.pp_laws_turn.proofs.Happenings.{asked_placed, taken_bodied, taken_going, taken_so}
 use Rattle.pp_laws_turn.proofs.Heads.{by_aim-keeps}
-use Rattle.pp_laws_turn.proofs.Lifts.{Stays, obeying}
+use Rattle.pp_laws_turn.proofs.Kept.{Turn}
+use Rattle.pp_laws_turn.proofs.Lifts.{Stays, obeying, turn_at}
+use Rattle.pp_laws_turn.proofs.Lined.{placing_puts}
 use Rattle.pp_laws_turn.proofs.Pieces.{bad_head-keeps, bad_response-keeps, ended-keeps, finish-keeps}
 use Rattle.pp_laws_turn.proofs.Rows.{drop_chunk-keeps, enter-keeps}
 use Rattle.pp_laws_turn.proofs.Same.{said_by-same}
-use Rattle.pp_laws_turn.proofs.Steps.{drop_unseen-keeps, placing-keeps, rested-keeps, tick-keeps, touch-keeps}
+use Rattle.pp_laws_turn.proofs.Steps.{drop_unseen-keeps, rested-keeps, tick-keeps, touch-keeps}
 use Rattle.pp_laws_ends.specs.Ends.{AreApart, NumbersAreApart}
 
 -- ---- what changes
@@ -117,7 +119,7 @@ apart_walk = record {
   conns = λ f lesser v h. conns_apart f (λ k. (lesser k).number) v h;
   rows = λ xs next v from h. h;
   leaves = λ n f moves v h. clients_apart (changed_at (is_client n) f) (number_at (is_client n) f (λ c. (moves c).number)) v h;
-  closes = closed_apart;
+  closes = λ n f number closing body s h. closed_apart n f number closing s h;
 }
 
 apart_begins : Begins Apart
@@ -127,13 +129,16 @@ apart_begins e s is_new h = h
 apart_follows : Follows Apart
 apart_follows n id f request source v late there h = clients_apart (changed_at (is_client n) f) (number_at (is_client n) f (λ c. (request c).number)) v h
 
-apart_places : Places Apart
+put_apart : (n k : ℕ) (s : State) → Apart (view s) → Apart (view (put_on n k s))
 unfolding put_on on_conn on_exchange
-apart_places n k s h = conns_apart (changed_at (is_conn k) (λ j. record j { line = j.line ++ n ∷ [] })) (λ j. by j (is_conn k j)) (view s) h
+put_apart n k s h = conns_apart (changed_at (is_conn k) (λ j. record j { line = j.line ++ n ∷ [] })) (λ j. by j (is_conn k j)) (view s) h
   where
     by : (j : Conn) (t : Bool) → (elim t as (λ c. Conn) [ true ↦ record j { line = j.line ++ n ∷ [] } | false ↦ j ]).number ≡ j.number
     by j true = refl
     by j false = refl
+
+placing-apart : (s : State) → Holds Apart s → Holds Apart (placing s).state
+placing-apart s h = placing_puts (Holds Apart) (λ n k e t found is ht. holds (put_apart n k t (facts_of ht))) s h
 
 -- ---- one read
 
@@ -143,7 +148,7 @@ end_if_empty-apart k e a s h = by_outcome (body_of a.rule []).outcome (λ rest. 
 
 begin_answer-apart : (k : Conn) (e : Exchange) (head : Response) (rule : BodyRule) (s : State) → Holds Apart s → Holds Apart (begin_answer k e head rule s)
 unfolding begin_answer
-begin_answer-apart k e head rule s h = end_if_empty-apart k e (answer_with e head rule) _ (by_aim-keeps apart_walk e head rule _ (on_conn-keeps apart_walk k.number _ s (λ j. same_conn _ j refl refl) h))
+begin_answer-apart k e head rule s h = end_if_empty-apart k e (answer_with e head rule) _ (by_aim-keeps apart_walk e head rule _ (on_conn-keeps apart_walk k.number _ s (λ j. same_conn _ j refl refl refl) h))
 
 answer_for-apart : (k : Conn) (e : Exchange) (head : Response) (s : State) → Holds Apart s → Holds Apart (answer_for k e head s)
 unfolding answer_for
@@ -167,7 +172,7 @@ piece_when true p q hp hq = hp
 piece_when false p q hp hq = hq
 
 with_unread-apart : (k : Conn) (bytes : Bytes) (s : State) → Holds Apart s → Holds Apart (on_conn k.number (with_unread bytes) s)
-with_unread-apart k bytes s h = on_conn-keeps apart_walk k.number (with_unread bytes) s (λ j. same_conn _ j refl refl) h
+with_unread-apart k bytes s h = on_conn-keeps apart_walk k.number (with_unread bytes) s (λ j. same_conn _ j refl refl refl) h
 
 head_piece_by : (k : Conn) (bytes : Bytes) (s : State) (read : Read Response) → Holds Apart s
     → Holds Apart (elim read as (λ c. Piece) [
@@ -205,8 +210,8 @@ moved_same : (m : ℕ) (e : Exchange) → SameAsk (moved_on m e) e
 moved_same m e = by (bound_of e)
   where
     by : (o : Option Bound) → SameAsk (elim o as (λ c. Exchange) [ None ↦ e | Some b ↦ record e { body = Joining (record b { next = b.next + m }) } ]) e
-    by None = same_ask e e refl refl refl refl refl refl
-    by (Some b) = same_ask _ e refl refl refl refl refl refl
+    by None = same_ask e e refl refl refl refl refl refl (λ is. is)
+    by (Some b) = same_ask _ e refl refl refl refl refl refl (λ is. is)
 
 join_bound-apart : (e : Exchange) (bytes : Bytes) (s : State) → Holds Apart s → Holds Apart (join_bound e bytes s)
 unfolding join_bound
@@ -222,7 +227,7 @@ body_piece_by : (k : Conn) (a : Answer) (e : Exchange) (bytes : Bytes) (t : Stat
       | Bad ↦ record { state = bad_response k t; rest = [] }
       | Done rest ↦ record { state = finish k e a t; rest = rest }
     ]).state
-body_piece_by k a e bytes t Going h = on_conn-keeps apart_walk k.number _ t (λ j. same_conn _ j refl refl) h
+body_piece_by k a e bytes t Going h = on_conn-keeps apart_walk k.number _ t (λ j. same_conn _ j refl refl refl) h
 body_piece_by k a e bytes t Bad h = bad_response-keeps apart_walk k t h
 body_piece_by k a e bytes t (Done rest) h = finish-keeps apart_walk k e a t h
 
@@ -266,7 +271,7 @@ behind-apart Evicting s h = give_up_asks-keeps apart_walk _ (holds (facts_of h))
 behind-apart Keeping s h = holds (facts_of h)
 behind-apart Deciding s h = holds (facts_of h)
 behind-apart Following s h = fill-keeps apart_walk apart_begins _ (give_up_asks-keeps apart_walk _ (drop_unseen-keeps apart_walk _ (holds (facts_of h))))
-behind-apart Connecting s h = placing-keeps apart_places (in_phase DecidingAgain s) (holds (facts_of h))
+behind-apart Connecting s h = placing-apart (in_phase DecidingAgain s) (holds (facts_of h))
 behind-apart DecidingAgain s h = h
 
 next-apart : Stays (Holds Apart)
@@ -325,7 +330,7 @@ opened-apart n s below h = holds (λ c k i j is. by c k (in_push c s.clients (ne
 
 reached-apart : (n : ℕ) (s : State) → Holds Apart s → Holds Apart (reached n s)
 unfolding reached
-reached-apart n s h = touch-keeps apart_walk n _ (on_conn-keeps apart_walk n _ s (λ k. same_conn _ k refl refl) h)
+reached-apart n s h = touch-keeps apart_walk n _ (on_conn-keeps apart_walk n _ s (λ k. same_conn _ k refl refl refl) h)
 
 owing-apart : (owed : Owed) (n : ℕ) (s : State) → Holds Apart s → Holds Apart (event (owing owed n s))
 unfolding owing
@@ -341,11 +346,11 @@ gone-apart is_clean n s h = each_of (conn s n) h (λ k. end_replies-keeps apart_
 
 -- ---- notes
 
-take_decision-apart : (n : ℕ) (d : Decision) (s : State) → is_late s.phase ≡ true → ((c : Client) → client s n ≡ Some c → c.is_closing ≡ false) → Holds Apart s → Holds Apart (take_decision n d s)
+take_decision-apart : (n : ℕ) (d : Decision) (s : State) → is_late s.phase ≡ true → ((c : Client) → client s n ≡ Some c → c.is_closing ≡ false) → ((c : Client) → client s n ≡ Some c → IsBodied c) → Holds Apart s → Holds Apart (take_decision n d s)
 unfolding take_decision
-take_decision-apart n d s late going h =
+take_decision-apart n d s late going bodied h =
     each_so (client s n) (λ none. h)
-    (λ c found. regained-keeps apart_walk _ (holds (facts_of (decided-keeps apart_walk apart_begins apart_follows c d s (record { there = (in_find (is_client n) c s.clients found).0; going = going c found }) late h))))
+    (λ c found. regained-keeps apart_walk _ (holds (facts_of (decided-keeps apart_walk apart_begins apart_follows c d s (bodied c found) (record { there = (in_find (is_client n) c s.clients found).0; going = going c found }) late h))))
 
 evicted-apart : (s : State) → Holds Apart s → Holds Apart (evicted s)
 unfolding evicted
@@ -426,7 +431,7 @@ shut-apart n s h = holds (λ c k i j is. facts_of (close_client-keeps apart_walk
 
 dialled-apart : (n : ℕ) (host : Bytes) (port : ℕ) (p : Placement) → ((c : Client) → IsIn c p.state.clients → c.number < n) → Holds Apart p.state → Holds Apart (dialled n host port p)
 unfolding dialled
-dialled-apart n host port p below h = by_pause p.pause h (λ k e. h) (λ e. holds (apart_places e.number n _ added))
+dialled-apart n host port p below h = by_pause p.pause h (λ k e. h) (λ e. holds (put_apart e.number n _ added))
   where
     by : (c : Client) (k : Conn) → IsIn c p.state.clients → IsIn k p.state.conns ⊎ (k ≡ new_conn n host port p.state.clock) → c.number ≡ k.number → ⊥
     by c k i (inl j) is = facts_of h c k i j is
@@ -449,7 +454,7 @@ out-apart n s h = holds (λ c k i j is. facts_of h c k i (in_filter (λ x. not (
 
 dropped-apart : (n : ℕ) (s : State) → Holds Apart s → Holds Apart (dropped n s)
 unfolding dropped
-dropped-apart n s h = each_of (conn s n) h (λ k. when k.is_closing (out-apart n s h) (out-apart n _ (placing-keeps apart_places s h)))
+dropped-apart n s h = each_of (conn s n) h (λ k. when k.is_closing (out-apart n s h) (out-apart n _ (placing-apart s h)))
 
 rest_with-apart : (w : Wants) (s : State) → Holds Apart s → Holds Apart (rest_with w s)
 unfolding rest_with
@@ -481,48 +486,49 @@ dial_above s n so lt c i =
     let given : c.number ≤ (placing t).state.top = (sound_facts (placing-sound t (come_to-sound Connecting s so))).callers.given c i in
     le_lt c.number s.top n (subst (λ m. c.number ≤ m) (placing-top t ∙ come_to-top Connecting s) given) lt
 
-noted-apart : {b : Since} (remark : Remark) (s : State) → Sound b s → IsPermitted s (Noted remark) → Holds Apart s → Holds Apart (noted remark s)
+noted-apart : {b : Since} (remark : Remark) (s : State) → Sound b s → Holds Turn s → IsPermitted s (Noted remark) → Holds Apart s → Holds Apart (noted remark s)
 unfolding noted
-noted-apart (Taken c i d) s so is h = take_decision-apart c d _ (deciding_late s) (taken_going s c i d so (taken_so s c i d is)) (deciding-apart s h)
-noted-apart (Cut c cause) s so is h = close_client-keeps apart_walk c true _ (deciding-apart s h)
-noted-apart (Kept key tag n extent) s so is h = note_kept-keeps key extent s h
-noted-apart (Gone key) s so is h = note_gone-keeps key _ (come_to-apart Keeping s h)
-noted-apart (Forgotten key) s so is h = forgotten_by-apart key s h
-noted-apart (Evicted key tag n i) s so is h = evicted-apart _ (come_to-apart Evicting s h)
-noted-apart (Loaded key tag n i) s so is h = load-apart key i s h
+noted-apart (Taken c i d) s so turn is h =
+    let may = taken_so s c i d is in take_decision-apart c d _ (deciding_late s) (taken_going s c i d so may) (taken_bodied s c i d may turn) (deciding-apart s h)
+noted-apart (Cut c cause) s so turn is h = close_client-keeps apart_walk c true _ (deciding-apart s h)
+noted-apart (Kept key tag n extent) s so turn is h = note_kept-keeps key extent s h
+noted-apart (Gone key) s so turn is h = note_gone-keeps key _ (come_to-apart Keeping s h)
+noted-apart (Forgotten key) s so turn is h = forgotten_by-apart key s h
+noted-apart (Evicted key tag n i) s so turn is h = evicted-apart _ (come_to-apart Evicting s h)
+noted-apart (Loaded key tag n i) s so turn is h = load-apart key i s h
 
-after-apart : {b : Since} (s : State) (h : Happening) → Sound b s → IsPermitted s h → Holds Apart s → Holds Apart (after s h)
+after-apart : {b : Since} (s : State) (h : Happening) → Sound b s → Holds Turn s → IsPermitted s h → Holds Apart s → Holds Apart (after s h)
 unfolding changed
-after-apart s (Woke image) so is h = woken-apart image s
-after-apart s (Waits w) so is h = rest_with-apart w _ (ending-apart s h)
-after-apart s (Clock seconds) so is h = event-apart _ (tick-keeps apart_walk seconds s h)
-after-apart s (Opened n) so is h = event-apart _ (opened-apart n s (λ k i. le_lt k.number s.top n ((sound_facts so).lines.given k i) (new_above s n (opened_new s n is))) h)
-after-apart s (CanRead n) so is h = owing-apart (ReadOf n) n s h
-after-apart s (CanWrite n) so is h = owing-apart (WriteTo n) n s h
-after-apart s (Heard c bytes) so is h = paid-apart _ (hear-keeps apart_walk c bytes s h)
-after-apart s (HungUp c) so is h = paid-apart _ (hang_up-keeps apart_walk c s h)
-after-apart s (Said c offered bytes) so is h = paid-apart _ (said-apart c (length bytes) s h)
-after-apart s (Shut c) so is h = shut-apart c _ (come_to-apart Connecting s h)
-after-apart s (Dialled n host port) so is h =
-    dialled-apart n host port (placing (come_to Connecting s)) (dial_above s n so (new_above s n (dialled_new s n host port is))) (placing-keeps apart_places _ (come_to-apart Connecting s h))
-after-apart s (Undialled host port) so is h = undialled-apart (placing (come_to Connecting s)) (placing-keeps apart_places _ (come_to-apart Connecting s h))
-after-apart s (Reached n) so is h = event-apart _ (reached-apart n s h)
-after-apart s (Ended n) so is h = paid-apart _ (gone-apart true n s h)
-after-apart s (Broke n) so is h = paid-apart _ (gone-apart false n _ (event-apart s h))
-after-apart s (Asked n bytes) so is h = paid-apart _ (ask-keeps apart_walk n (length bytes) s (asked_placed s n so) h)
-after-apart s (Got n bytes) so is h = paid-apart _ (end_replies-keeps apart_walk _ (got-apart (length bytes) n bytes s h))
-after-apart s (Dropped n) so is h = dropped-apart n _ (come_to-apart Connecting s h)
-after-apart s (NoneYet n) so is h = paid-apart s h
-after-apart s (Began op) so is h = begun_op-apart op s h
-after-apart s (Did op ok) so is h = ended_op-apart op ok s h
-after-apart s (Unread name) so is h = unread-apart name s h
-after-apart s (Noted remark) so is h = noted-apart remark s so is h
-after-apart s (Rooted folder) so is h = opened_to-apart IsRooted true s h
-after-apart s (Listed ok) so is h = opened_to-apart IsListed ok s h
-after-apart s (Listens port ok) so is h = opened_to-apart IsListening ok s h
-after-apart s (Configured file text) so is h = configured-apart text s h
-after-apart s (Printed text) so is h = h
-after-apart s Stopped so is h = event-apart _ (holds (facts_of h))
+after-apart s (Woke image) so turn is h = woken-apart image s
+after-apart s (Waits w) so turn is h = rest_with-apart w _ (ending-apart s h)
+after-apart s (Clock seconds) so turn is h = event-apart _ (tick-keeps apart_walk seconds s h)
+after-apart s (Opened n) so turn is h = event-apart _ (opened-apart n s (λ k i. le_lt k.number s.top n ((sound_facts so).lines.given k i) (new_above s n (opened_new s n is))) h)
+after-apart s (CanRead n) so turn is h = owing-apart (ReadOf n) n s h
+after-apart s (CanWrite n) so turn is h = owing-apart (WriteTo n) n s h
+after-apart s (Heard c bytes) so turn is h = paid-apart _ (hear-keeps apart_walk c bytes s h)
+after-apart s (HungUp c) so turn is h = paid-apart _ (hang_up-keeps apart_walk c s h)
+after-apart s (Said c offered bytes) so turn is h = paid-apart _ (said-apart c (length bytes) s h)
+after-apart s (Shut c) so turn is h = shut-apart c _ (come_to-apart Connecting s h)
+after-apart s (Dialled n host port) so turn is h =
+    dialled-apart n host port (placing (come_to Connecting s)) (dial_above s n so (new_above s n (dialled_new s n host port is))) (placing-apart _ (come_to-apart Connecting s h))
+after-apart s (Undialled host port) so turn is h = undialled-apart (placing (come_to Connecting s)) (placing-apart _ (come_to-apart Connecting s h))
+after-apart s (Reached n) so turn is h = event-apart _ (reached-apart n s h)
+after-apart s (Ended n) so turn is h = paid-apart _ (gone-apart true n s h)
+after-apart s (Broke n) so turn is h = paid-apart _ (gone-apart false n _ (event-apart s h))
+after-apart s (Asked n bytes) so turn is h = paid-apart _ (ask-keeps apart_walk n (length bytes) s (asked_placed s n so) h)
+after-apart s (Got n bytes) so turn is h = paid-apart _ (end_replies-keeps apart_walk _ (got-apart (length bytes) n bytes s h))
+after-apart s (Dropped n) so turn is h = dropped-apart n _ (come_to-apart Connecting s h)
+after-apart s (NoneYet n) so turn is h = paid-apart s h
+after-apart s (Began op) so turn is h = begun_op-apart op s h
+after-apart s (Did op ok) so turn is h = ended_op-apart op ok s h
+after-apart s (Unread name) so turn is h = unread-apart name s h
+after-apart s (Noted remark) so turn is h = noted-apart remark s so turn is h
+after-apart s (Rooted folder) so turn is h = opened_to-apart IsRooted true s h
+after-apart s (Listed ok) so turn is h = opened_to-apart IsListed ok s h
+after-apart s (Listens port ok) so turn is h = opened_to-apart IsListening ok s h
+after-apart s (Configured file text) so turn is h = configured-apart text s h
+after-apart s (Printed text) so turn is h = h
+after-apart s Stopped so turn is h = event-apart _ (holds (facts_of h))
 
 -- ---- at each moment
 
@@ -533,7 +539,8 @@ log_sound : (terms : List Term) (log : Log) → Lawful terms log → Sound (reco
 log_sound terms log lawful = (log-good terms log lawful).sound
 
 apart_steps : Steps (Holds Apart)
-apart_steps terms front h one apart = after-apart (state_after terms front) h (log_sound terms front (front_from (start terms) front (h ∷ []) one.lawful)) one.permitted apart
+apart_steps terms front h one apart =
+    let lawful : Lawful terms front = front_from (start terms) front (h ∷ []) one.lawful in after-apart (state_after terms front) h (log_sound terms front lawful) (turn_at terms front lawful) one.permitted apart
 
 whole : (terms : List Term) (log : Log) → Lawful terms log → Lawful terms (log ++ [])
 whole terms log lawful = subst (λ (l : Log). Lawful terms l) (sym (append-nil log)) lawful

@@ -12,11 +12,11 @@ use Rattle.pp_law.specs.State.{State, Answer, Client, Conn, Exchange}
 use Rattle.pp_law.specs.Table.{clear, enter, swept}
 use Rattle.pp_law.specs.Turn.{tick}
 use Rattle.pp_law.specs.Unseen.{drop_unseen}
-use Rattle.pp_laws_turn.proofs.View.{Holds, IsNew, facts_of, holds, is_late}
+use Rattle.pp_laws_turn.proofs.View.{Holds, IsNew, Takes, facts_of, holds, is_late}
 use Rattle.pp_laws_turn.proofs.Clients.{IsThere, begin_exchange-keeps, begin_replies-keeps, close_client-keeps, decided-keeps, end_replies-keeps, enter_row-keeps, fill-keeps, forsake-keeps, give_up_asks-keeps, leave-keeps, regained-keeps}
 use Rattle.pp_laws_turn.proofs.Closings.{close_conn-keeps}
 use Rattle.pp_laws_turn.proofs.Exchanges.{end_exchange-keeps, fail-keeps, lose_attempt-keeps}
-use Rattle.pp_laws_turn.proofs.Kept.{Turn, turn_begins, turn_follows, turn_places, turn_walk}
+use Rattle.pp_laws_turn.proofs.Kept.{Turn, turn_begins, turn_follows, turn_lined, turn_places, turn_walk}
 use Rattle.pp_laws_turn.proofs.Pieces.{bad_response-keeps, ended-keeps, finish-keeps}
 use Rattle.pp_laws_turn.proofs.Rows.{clear-keeps, enter-keeps, swept-keeps}
 use Rattle.pp_laws_turn.proofs.Steps.{drop_unseen-keeps, placing-keeps, tick-keeps}
@@ -49,7 +49,7 @@ clock_ticks now s h = tick-keeps turn_walk now s h
 pub exchange_ends : (n : ℕ) (s : State) → Holds Turn s → Holds Turn (end_exchange n s)
 exchange_ends n s h = end_exchange-keeps turn_walk n s h
 
-pub exchange_begins : (e : Exchange) (s : State) → IsNew e s.clients → Holds Turn s → Holds Turn (begin_exchange e s)
+pub exchange_begins : (e : Exchange) (s : State) → IsNew e s.clients s.next_exchange → Holds Turn s → Holds Turn (begin_exchange e s)
 exchange_begins e s is_new h = begin_exchange-keeps turn_begins e s is_new h
 
 pub attempt_is_lost : (e : Exchange) (s : State) → Holds Turn s → Holds Turn (lose_attempt e s)
@@ -71,10 +71,10 @@ pub followers_ask : (s : State) → Holds Turn s → Holds Turn (fill s)
 followers_ask s h = fill-keeps turn_walk turn_begins s h
 
 pub places_are_given : (s : State) → Holds Turn s → Holds Turn (placing s).state
-places_are_given s h = placing-keeps turn_places s h
+places_are_given s h = placing-keeps turn_places turn_lined s h
 
-pub place_is_given : (n k : ℕ) (s : State) → Holds Turn s → Holds Turn (put_on n k s)
-place_is_given n k s h = holds (turn_places n k s (facts_of h))
+pub place_is_given : (n k : ℕ) (s : State) → Takes n k s.conns s.exchanges s.next_exchange → Holds Turn s → Holds Turn (put_on n k s)
+place_is_given n k s takes h = holds (turn_places n k s takes (facts_of h))
 
 -- ---- responses
 
@@ -91,7 +91,7 @@ conn_ends is_clean k s h = ended-keeps turn_walk is_clean k s h
 
 -- where it is taken for a client that goes on, in a phase in which decisions are
 pub is_decided : (c : Client) (d : Decision) (s : State) → IsThere c s.clients → is_late s.phase ≡ true → Holds Turn s → Holds Turn (decided c d s)
-is_decided c d s there late h = decided-keeps turn_walk turn_begins turn_follows c d s there late h
+is_decided c d s there late h = decided-keeps turn_walk turn_begins turn_follows c d s ((facts_of h).bodied c there.there) there late h
 
 pub row_enters_for : (c : Client) (d : Decision) (s : State) → Holds Turn s → Holds Turn (enter_row c d s)
 row_enters_for c d s h = enter_row-keeps turn_walk.rows c d s h

@@ -1,5 +1,5 @@
 -- What is done for clients keeps what is kept by each change: decisions, replies, asks and closings.
-use Rattle.std.proofs.Common.{◌≡◌, refl, ℕ, zero, suc, ◌+◌, ◌-◌, ◌/◌, nat_lt, Bool, true, false, not, ◌==◌, ◌&&◌, ◌||◌, List, map, Option, Some, None, Ok, Err, sym, subst, ap, ◌∙◌}
+use Rattle.std.proofs.Common.{◌≡◌, ◌⊎◌, refl, ℕ, zero, suc, ◌+◌, ◌-◌, ◌/◌, nat_lt, Bool, true, false, not, ◌==◌, ◌&&◌, ◌||◌, List, [], drop, length, map, Option, Some, None, Ok, Err, inl, inr, sym, subst, ap, ◌∙◌, arith}
 use Rattle.pp_ask.specs.declared.kind.AskKind.{AskKind}
 use Rattle.pp_head.specs.Request.{Request}
 use Rattle.pp_pass.specs.Pipe.{Pipe}
@@ -10,16 +10,16 @@ use Rattle.pp_law.specs.Asking.{asking, is_writing, hear, ask_body, ask_next, as
 use Rattle.pp_law.specs.Chunks.{chunk_len, use_chunk}
 use Rattle.pp_law.specs.Closing.{is_of, left_alone, forsake, is_over, leave, leave_one, exchanges_of, close_client}
 use Rattle.pp_law.specs.Connections.{is_client, is_outstanding, is_trying, on_client, on_exchange}
-use Rattle.pp_law.specs.Deciding.{refused_with, refuse, begin_exchange, new_exchange, asking_with, ask_for, ask_as, ask_origin, reply_by, answering_with, serves, follow_with, follow_row, follow, relay, is_for_memory, mark_row_of, enter_row, decided_by, decided}
+use Rattle.pp_law.specs.Deciding.{refused_with, refuse, begin_exchange, new_exchange, asking_with, ask_for, ask_as, ask_origin, reply_by, answering_with, is_pass, serves, follow_with, follow_row, follow, relay, is_for_memory, mark_row_of, enter_row, decided_by, decided}
 use Rattle.pp_law.specs.Decisions.{kind_of, fits}
 use Rattle.pp_law.specs.Followers.{need_of, filling_exchange, fill_with, fill_span, fill_next, fill_for, fill, is_useless_ask, give_up_asks}
 use Rattle.pp_law.specs.Hearing.{fronted, heard_by}
 use Rattle.pp_law.specs.Lists.{Bytes, change, is_some_with}
 use Rattle.pp_law.specs.Passing.{pour}
 use Rattle.pp_law.specs.Replies.{begun_at_end, is_outrun, begin_replies, use_chunks, use_from, use_said, of_body, is_said, next_request, end_reply, end_said, is_finished, close_finished, end_replies, regained_by, regained}
-use Rattle.pp_law.specs.Requests.{Front, Parsed, NoHeadYet, NoHead, IsRequest, key_in}
+use Rattle.pp_law.specs.Requests.{Front, Parsed, NoHeadYet, NoHead, IsRequest, is_asked_once, key_in}
 use Rattle.pp_law.specs.Stages.{on_passed, reply_of}
-use Rattle.pp_law.specs.State.{State, AskTooLong, Client, Exchange, Passed, Phase}
+use Rattle.pp_law.specs.State.{State, AskTooLong, Awaited, Client, Exchange, Passed, Phase, Trying, Undecided}
 use Rattle.pp_law.specs.Table.{Next, is_row_of, next_in, next_of, row, row_for}
 use Rattle.pp_laws.specs.Runs.{IsIn}
 use Rattle.pp_laws_turn.proofs.Same.{asking_with-same, begun_at_end-same, heard_by-same, on_passed-same, refused_with-same, regained_by-same, relayed-same}
@@ -27,7 +27,8 @@ use Rattle.pp_laws.proofs.Lists.{changed_at, in_find}
 use Rattle.pp_laws.proofs.Sound.{instance_id}
 use Rattle.pp_laws.proofs.Tests.{number_same, same_number}
 use Rattle.pp_laws_bounds.proofs.Counts.{in_map_of}
-use Rattle.pp_laws_turn.proofs.View.{View, Walk, Begins, Follows, Holds, holds, facts_of, view, IsNew, KeepsRows, MovesOn, is_late}
+use Rattle.pp_laws_turn.proofs.View.{View, Walk, Begins, Follows, Holds, holds, facts_of, view, IsBodied, IsNew, KeepsRows, MovesOn, is_late}
+use Rattle.pp_laws_turn.proofs.Bodies.{fronted_bodied}
 use Rattle.pp_laws_turn.proofs.Cases.{by_result, each_of, each_so, when}
 use Rattle.pp_laws_turn.proofs.Exchanges.{each_client-keeps, on_client-keeps, on_client_of-keeps, on_exchange-keeps, on_exchange_of-keeps, same_ask, same_parts}
 use Rattle.pp_laws_turn.proofs.Rows.{enter-keeps, mark_row-keeps, swept-keeps, use_chunk-keeps}
@@ -53,7 +54,7 @@ leave-keeps w test s h = holds (w.over (λ e. not (is_over e)) (view (forsake te
 
 pub close_client-keeps : {P : View → Type 0} (w : Walk P) (n : ℕ) (is_cut : Bool) (s : State) → Holds P s → Holds P (close_client n is_cut s)
 unfolding close_client
-close_client-keeps w n is_cut s h = swept-keeps w.rows _ (holds (w.closes n (λ c. record c { is_closing = true; is_cut = c.is_cut || is_cut }) (λ c. refl) (λ c. refl) s (facts_of h)))
+close_client-keeps w n is_cut s h = swept-keeps w.rows _ (holds (w.closes n (λ c. record c { is_closing = true; is_cut = c.is_cut || is_cut }) (λ c. refl) (λ c. refl) (λ c b. b) s (facts_of h)))
 
 -- ---- decisions
 
@@ -61,7 +62,7 @@ refuse-keeps : {P : View → Type 0} (w : Walk P) (c : Client) (status : ℕ) (s
 unfolding refuse
 refuse-keeps w c status s h = swept-keeps w.rows _ (leave-keeps w (is_of c.number) _ (on_client-keeps w c.number (refused_with status) s (refused_with-same status) h))
 
-pub begin_exchange-keeps : {P : View → Type 0} (b : Begins P) (e : Exchange) (s : State) → IsNew e s.clients → Holds P s → Holds P (begin_exchange e s)
+pub begin_exchange-keeps : {P : View → Type 0} (b : Begins P) (e : Exchange) (s : State) → IsNew e s.clients s.next_exchange → Holds P s → Holds P (begin_exchange e s)
 begin_exchange-keeps b e s is_new h = holds (b e s is_new (facts_of h))
 
 -- the client is there, and goes on
@@ -72,27 +73,33 @@ pub record IsThere (c : Client) (clients : List Client) : Type 0 where
 in_changed : (f : Client → Client) (c : Client) (cs : List Client) → IsIn c cs → IsIn (f c) (change (is_client c.number) f cs)
 in_changed f c cs i = subst (λ (d : Client). IsIn d (change (is_client c.number) f cs)) (ap (λ b. elim b as (λ x. Client) [ true ↦ f c | false ↦ c ]) (number_same c.number)) (in_map_of (changed_at (is_client c.number) f) c cs i)
 
-ask_for-keeps : {P : View → Type 0} (w : Walk P) (b : Begins P) (c : Client) (d : Decision) (r : Parsed) (key : Key) (kind : AskKind) (s : State) → c.front ≡ IsRequest r → IsThere c s.clients → Holds P s → Holds P (ask_for c d r.head key kind s)
+ask_for-keeps : {P : View → Type 0} (w : Walk P) (b : Begins P) (c : Client) (d : Decision) (r : Parsed) (key : Key) (kind : AskKind) (s : State) → c.front ≡ IsRequest r → IsBodied c → IsThere c s.clients → Holds P s → Holds P (ask_for c d r.head key kind s)
 unfolding ask_for leave forsake on_client
-ask_for-keeps w b c d r key kind s front there h =
+ask_for-keeps w b c d r key kind s front bodied there h =
     swept-keeps w.rows _
     (begin_exchange-keeps b (new_exchange s c r.head key d kind) _
     (record {
+      number = refl;
       place = refl;
       asked = refl;
+      body = body_of (is_pass d) (bodied r front);
       asker = c.number;
       is = refl;
       goes = record { client = asking_with d c; there = in_changed (asking_with d) c s.clients there.there; number = refl; at = record { going = there.going; request = r; front = front; head = refl } };
     })
     (leave-keeps w (is_of c.number) _ (on_client-keeps w c.number (asking_with d) s (asking_with-same d) h)))
+  where
+    body_of : (pass : Bool) → (c.body_left ≡ 0) ⊎ (is_asked_once r.head ≡ true) → ((elim pass as (λ x. ℕ) [ true ↦ c.body_left | false ↦ 0 ]) ≡ 0) ⊎ (is_asked_once r.head ≡ true)
+    body_of true once = once
+    body_of false once = inl refl
 
-ask_as-keeps : {P : View → Type 0} (w : Walk P) (b : Begins P) (c : Client) (d : Decision) (r : Parsed) (key : Key) (s : State) → c.front ≡ IsRequest r → IsThere c s.clients → Holds P s → Holds P (ask_as c d r.head key s)
+ask_as-keeps : {P : View → Type 0} (w : Walk P) (b : Begins P) (c : Client) (d : Decision) (r : Parsed) (key : Key) (s : State) → c.front ≡ IsRequest r → IsBodied c → IsThere c s.clients → Holds P s → Holds P (ask_as c d r.head key s)
 unfolding ask_as
-ask_as-keeps w b c d r key s front there h = each_of (kind_of r.head (row_for s r.head (text_of key)) d) h (λ kind. ask_for-keeps w b c d r key kind s front there h)
+ask_as-keeps w b c d r key s front bodied there h = each_of (kind_of r.head (row_for s r.head (text_of key)) d) h (λ kind. ask_for-keeps w b c d r key kind s front bodied there h)
 
-ask_origin-keeps : {P : View → Type 0} (w : Walk P) (b : Begins P) (c : Client) (d : Decision) (s : State) → IsThere c s.clients → Holds P s → Holds P (ask_origin c d s)
+ask_origin-keeps : {P : View → Type 0} (w : Walk P) (b : Begins P) (c : Client) (d : Decision) (s : State) → IsBodied c → IsThere c s.clients → Holds P s → Holds P (ask_origin c d s)
 unfolding ask_origin
-ask_origin-keeps {P} w b c d s there h = by c.front refl
+ask_origin-keeps {P} w b c d s bodied there h = by c.front refl
   where
     by : (front : Front) → c.front ≡ front → Holds P (elim front as (λ x. State) [
       | NoHeadYet ↦ s
@@ -101,14 +108,14 @@ ask_origin-keeps {P} w b c d s there h = by c.front refl
     ])
     by NoHeadYet is = h
     by (NoHead status) is = h
-    by (IsRequest r) is = by_result r.key (λ key. ask_as-keeps w b c d r key s is there h) (λ fault. h)
+    by (IsRequest r) is = by_result r.key (λ key. ask_as-keeps w b c d r key s is bodied there h) (λ fault. h)
 
 follow_row-keeps : {P : View → Type 0} (w : Walk P) (f : Follows P) (c : Client) (d : Decision) (key : Bytes) (s : State) → is_late s.phase ≡ true → Holds P s → Holds P (follow_row c d key s)
 unfolding follow_row follow_with on_client
 follow_row-keeps w f c d key s late h =
     each_so (row s key) (λ none. h)
     (λ x found. swept-keeps w.rows _ (leave-keeps w (λ e. is_of c.number e && not (serves x (reply_by d (Some x.id)) e)) _
-    (holds (f c.number x.id (answering_with (reply_by d (Some x.id))) (λ y. record { number = refl; closing = refl; request = λ r is. is }) (λ y k is. cc) (view s) late
+    (holds (f c.number x.id (answering_with (reply_by d (Some x.id))) (λ y. record { number = refl; closing = refl; request = λ r is. is; body = λ b. b }) (λ y k is. cc) (view s) late
     (in_map_of instance_id x s.instances (in_find (is_row_of key) x s.instances found).0) (facts_of h)))))
 
 follow-keeps : {P : View → Type 0} (w : Walk P) (f : Follows P) (c : Client) (d : Decision) (s : State) → is_late s.phase ≡ true → Holds P s → Holds P (follow c d s)
@@ -127,18 +134,18 @@ pub enter_row-keeps : {P : View → Type 0} (w : KeepsRows P) (c : Client) (d : 
 unfolding enter_row
 enter_row-keeps w c d s h = when (is_for_memory d) h (each_of (key_in c.front) h (λ key. mark_row_of-keeps w (text_of key) _ (enter-keeps w (text_of key) false s h)))
 
-decided_by-keeps : {P : View → Type 0} (w : Walk P) (b : Begins P) (f : Follows P) (c : Client) (d : Decision) (s : State) → IsThere c s.clients → is_late s.phase ≡ true → Holds P s → Holds P (decided_by c d s)
+decided_by-keeps : {P : View → Type 0} (w : Walk P) (b : Begins P) (f : Follows P) (c : Client) (d : Decision) (s : State) → IsBodied c → IsThere c s.clients → is_late s.phase ≡ true → Holds P s → Holds P (decided_by c d s)
 unfolding decided_by
-decided_by-keeps w b f c (Refuse status) s there late h = refuse-keeps w c status s h
-decided_by-keeps w b f c Pass s there late h = ask_origin-keeps w b c Pass s there h
-decided_by-keeps w b f c Fetch s there late h = ask_origin-keeps w b c Fetch s there h
-decided_by-keeps w b f c Validate s there late h = ask_origin-keeps w b c Validate s there h
-decided_by-keeps w b f c Relay s there late h = relay-keeps w c s h
-decided_by-keeps w b f c (Hit from to) s there late h = follow-keeps w f c (Hit from to) s late h
-decided_by-keeps w b f c (Part from to) s there late h = follow-keeps w f c (Part from to) s late h
-decided_by-keeps w b f c Head s there late h = follow-keeps w f c Head s late h
-decided_by-keeps w b f c NotModified s there late h = follow-keeps w f c NotModified s late h
-decided_by-keeps w b f c Unsatisfiable s there late h = follow-keeps w f c Unsatisfiable s late h
+decided_by-keeps w b f c (Refuse status) s bodied there late h = refuse-keeps w c status s h
+decided_by-keeps w b f c Pass s bodied there late h = ask_origin-keeps w b c Pass s bodied there h
+decided_by-keeps w b f c Fetch s bodied there late h = ask_origin-keeps w b c Fetch s bodied there h
+decided_by-keeps w b f c Validate s bodied there late h = ask_origin-keeps w b c Validate s bodied there h
+decided_by-keeps w b f c Relay s bodied there late h = relay-keeps w c s h
+decided_by-keeps w b f c (Hit from to) s bodied there late h = follow-keeps w f c (Hit from to) s late h
+decided_by-keeps w b f c (Part from to) s bodied there late h = follow-keeps w f c (Part from to) s late h
+decided_by-keeps w b f c Head s bodied there late h = follow-keeps w f c Head s late h
+decided_by-keeps w b f c NotModified s bodied there late h = follow-keeps w f c NotModified s late h
+decided_by-keeps w b f c Unsatisfiable s bodied there late h = follow-keeps w f c Unsatisfiable s late h
 
 -- the clients that are there stay, and the phase, while nothing but rows is changed
 abbrev AreThose : List Client → Phase → View → Type 0
@@ -147,11 +154,11 @@ AreThose cs p v = (v.clients ≡ cs) × (v.phase ≡ p)
 entered_same : (c : Client) (d : Decision) (s : State) → AreThose s.clients s.phase (view (enter_row c d s))
 entered_same c d s = facts_of (enter_row-keeps {P = AreThose s.clients s.phase} (λ xs next v from h. h) c d s (holds (refl, refl)))
 
-pub decided-keeps : {P : View → Type 0} (w : Walk P) (b : Begins P) (f : Follows P) (c : Client) (d : Decision) (s : State) → IsThere c s.clients → is_late s.phase ≡ true → Holds P s → Holds P (decided c d s)
+pub decided-keeps : {P : View → Type 0} (w : Walk P) (b : Begins P) (f : Follows P) (c : Client) (d : Decision) (s : State) → IsBodied c → IsThere c s.clients → is_late s.phase ≡ true → Holds P s → Holds P (decided c d s)
 unfolding decided
-decided-keeps w b f c d s there late h =
+decided-keeps w b f c d s bodied there late h =
     let e = entered_same c d s in
-    decided_by-keeps w b f c d _ (record { there = subst (λ (cs : List Client). IsIn c cs) (sym e.0) there.there; going = there.going }) (ap is_late e.1 ∙ late) (enter_row-keeps w.rows c d s h)
+    decided_by-keeps w b f c d _ bodied (record { there = subst (λ (cs : List Client). IsIn c cs) (sym e.0) there.there; going = there.going }) (ap is_late e.1 ∙ late) (enter_row-keeps w.rows c d s h)
 
 -- ---- replies
 
@@ -173,7 +180,25 @@ unfolding use_said
 use_said-keeps n c s h = when (nat_lt 0 (of_body n c)) (each_of (next_of s c) h (λ x. use_from-keeps (of_body n c) x s h)) h
 
 next_moves : (c : Client) → MovesOn (next_request c) c
-next_moves c = record { number = refl; closing = refl; source = refl }
+next_moves c = record {
+  number = refl;
+  closing = refl;
+  source = refl;
+  body = fronted_bodied (record c {
+    front = NoHeadYet;
+    heard = drop c.body_left c.heard;
+    skip = c.skip + (c.body_left - length c.heard);
+    body_left = 0;
+    index = c.index + 1;
+    stage = Undecided;
+    waits_on = None;
+    brought = Awaited;
+    course = Trying 0;
+    has_given_up = false;
+    interim_left = [];
+    closes = false;
+  });
+}
 
 moved_on : {P : View → Type 0} (w : Walk P) (n : ℕ) (s : State) → Holds P s → Holds P (forsake (is_of n) (on_client n next_request s))
 unfolding forsake on_client
@@ -201,16 +226,16 @@ regained-keeps w s h = holds (w.clients (regained_by s) (regained_by-same s) (vi
 
 -- ---- what followers ask for
 
-fill_with-keeps : {P : View → Type 0} (w : Walk P) (b : Begins P) (e : Exchange) (c : Client) (s : State) → IsNew e s.clients → Holds P s → Holds P (fill_with e c s)
+fill_with-keeps : {P : View → Type 0} (w : Walk P) (b : Begins P) (e : Exchange) (c : Client) (s : State) → IsNew e s.clients s.next_exchange → Holds P s → Holds P (fill_with e c s)
 unfolding fill_with
-fill_with-keeps w b e c s is_new h = when (fits e.text) (begin_exchange-keeps b e s is_new h) (on_client-keeps w c.number (λ x. record x { course = AskTooLong }) s (λ x. same_parts _ x refl refl refl refl) h)
+fill_with-keeps w b e c s is_new h = when (fits e.text) (begin_exchange-keeps b e s is_new h) (on_client-keeps w c.number (λ x. record x { course = AskTooLong }) s (λ x. same_parts _ x refl refl refl refl (λ is. is)) h)
 
 fill_span-keeps : {P : View → Type 0} (w : Walk P) (b : Begins P) (c : Client) (n : Next) (span : ℕ × ℕ) (s : State) → IsThere c s.clients → Holds P s → Holds P (fill_span c n span s)
 unfolding fill_span
 fill_span-keeps {P} w b c n span s there h = by c.front refl
   where
-    is_new : (r : Parsed) (key : Key) → c.front ≡ IsRequest r → IsNew (filling_exchange s c r.head key n span) s.clients
-    is_new r key is = record { place = refl; asked = refl; asker = c.number; is = refl; goes = record { client = c; there = there.there; number = refl; at = record { going = there.going; request = r; front = is; head = refl } } }
+    is_new : (r : Parsed) (key : Key) → c.front ≡ IsRequest r → IsNew (filling_exchange s c r.head key n span) s.clients s.next_exchange
+    is_new r key is = record { number = refl; place = refl; asked = refl; body = inl refl; asker = c.number; is = refl; goes = record { client = c; there = there.there; number = refl; at = record { going = there.going; request = r; front = is; head = refl } } }
 
     by : (front : Front) → c.front ≡ front → Holds P (elim front as (λ x. State) [
       | NoHeadYet ↦ s
@@ -251,11 +276,14 @@ hear-keeps w n bytes s h = end_replies-keeps w _ (on_client-keeps w n (heard_by 
 
 pub hang_up-keeps : {P : View → Type 0} (w : Walk P) (n : ℕ) (s : State) → Holds P s → Holds P (hang_up n s)
 unfolding hang_up
-hang_up-keeps w n s h = when (is_writing s.owed n) (close_client-keeps w n false s h) (end_replies-keeps w _ (on_client-keeps w n (λ c. record c { has_hung_up = true }) s (λ c. same_parts _ c refl refl refl refl) h))
+hang_up-keeps w n s h = when (is_writing s.owed n) (close_client-keeps w n false s h) (end_replies-keeps w _ (on_client-keeps w n (λ c. record c { has_hung_up = true }) s (λ c. same_parts _ c refl refl refl refl (λ is. is)) h))
+
+none_less : (m n : ℕ) → m ≡ 0 → m - n ≡ 0
+none_less m n is = omega arith
 
 ask_body-keeps : {P : View → Type 0} (w : Walk P) (e : Exchange) (n : ℕ) (s : State) → Holds P s → Holds P (ask_body e n s)
 unfolding ask_body
-ask_body-keeps w e n s h = on_client_of-keeps w e (asked_body n) _ (λ c. same_parts _ c refl refl refl refl) (on_exchange-keeps w e.number (λ x. record x { body_left = x.body_left - n }) s (λ x. same_ask _ x refl refl refl refl refl refl) h)
+ask_body-keeps w e n s h = on_client_of-keeps w e (asked_body n) _ (λ c. same_parts _ c refl refl refl refl (none_less c.body_left n)) (on_exchange-keeps w e.number (λ x. record x { body_left = x.body_left - n }) s (λ x. same_ask _ x refl refl refl refl refl refl (none_less x.body_left n)) h)
 
 -- what is asked of stands in a line
 abbrev pub HasPlace : ℕ → List Exchange → Type 0
@@ -266,7 +294,7 @@ unfolding ask_next
 ask_next-keeps {P} w e n s placed h = by (is_outstanding e)
   where
     by : (t : Bool) → Holds P (elim t as (λ c. State) [ false ↦ on_exchange e.number (asked_text n s.clock) s | true ↦ ask_body e n s ])
-    by false = on_exchange_of-keeps w e.number (asked_text n s.clock) s (λ x i is. record { number = refl; asker = refl; key = refl; head = refl; asked = λ none. absurd (placed x i (same_number x.number e.number is) none) }) h
+    by false = on_exchange_of-keeps w e.number (asked_text n s.clock) s (λ x i is. record { number = refl; asker = refl; key = refl; head = refl; asked = λ none. absurd (placed x i (same_number x.number e.number is) none); body = λ is0. is0 }) h
     by true = ask_body-keeps w e n s h
 
 pub ask-keeps : {P : View → Type 0} (w : Walk P) (k n : ℕ) (s : State) → ((e : Exchange) → asking s k ≡ Some e → HasPlace e.number s.exchanges) → Holds P s → Holds P (ask k n s)

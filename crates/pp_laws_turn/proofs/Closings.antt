@@ -1,5 +1,5 @@
 -- A connection that is closed, and its exchanges that are asked again, keep what is kept by each change.
-use Rattle.std.proofs.Common.{refl, ℕ, Bool, true, false, not, ◌&&◌, [], None}
+use Rattle.std.proofs.Common.{refl, ℕ, Bool, true, false, not, ◌&&◌, [], None, zero-le}
 use Rattle.pp_law.specs.Connections.{unplaced, may_ask_again, leave_place, lose_place, on_conn, close_conn, on_exchange}
 use Rattle.pp_law.specs.Stages.{on_passed, is_headed}
 use Rattle.pp_law.specs.State.{State, Client, Conn, Exchange, Passed}
@@ -30,7 +30,7 @@ abbrev pub off : Conn → Conn
 off k = record k { is_closing = true; line = []; answer = None; unread = [] }
 
 lesser_off : (k : Conn) → Lesser (off k) k
-lesser_off k = record { number = refl; within = λ n i. absurd i }
+lesser_off k = record { number = refl; within = λ n i. absurd i; shorter = zero-le; pipelines = λ is. is }
 
 pub close_conn-keeps : {P : View → Type 0} (w : Walk P) (counts : Bool) (k : Conn) (s : State) → Holds P s → Holds P (close_conn counts k s)
 unfolding close_conn

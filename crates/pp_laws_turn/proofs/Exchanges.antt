@@ -1,5 +1,5 @@
 -- Changes of one connection, exchange or client, and an exchange that is over, keep what is kept by each change.
-use Rattle.std.proofs.Common.{◌≡◌, ◌⊎◌, refl, ℕ, Bool, true, false, not, ◌==◌, ◌||◌, List, [], ◌∷◌, map, filter, Some, None, inl, inr, subst, sym, ap, ◌∙◌}
+use Rattle.std.proofs.Common.{◌≡◌, ◌⊎◌, refl, ℕ, ◌≤◌, Bool, true, false, not, ◌==◌, ◌||◌, List, [], ◌∷◌, map, filter, length, Some, None, inl, inr, subst, sym, ap, ◌∙◌, le_refl}
 use Rattle.pp_target.specs.Key.{text_of}
 use Rattle.pp_law.specs.Closing.{left_alone}
 use Rattle.pp_law.specs.Connections.{client, conn, exchange, is_client, is_conn, is_exchange, is_for, each_client, each_conn, each_exchange, on_conn, on_exchange, on_client, on_client_of, attempts_of, lost_one, without_row, is_unfilled, give_up_row, charge, lose_attempt, fail, without_ask, end_exchange, anew, out_of_tries, unplaced}
@@ -8,45 +8,47 @@ use Rattle.pp_law.specs.State.{State, Course, Client, Conn, Exchange}
 use Rattle.pp_laws.specs.Runs.{IsIn}
 use Rattle.pp_laws.proofs.Lists.{changed_at, in_filter, in_find}
 use Rattle.pp_laws.proofs.Sound.{source_in}
+use Rattle.pp_laws_bounds.proofs.Counts.{length-filter}
 use Rattle.pp_laws_turn.proofs.View.{View, Walk, Holds, holds, facts_of, view, SameAsk, SameClient, Lesser}
+use Rattle.pp_laws_turn.proofs.Bodies.{still_bodied}
 use Rattle.pp_laws_turn.proofs.Cases.{each_so, when}
 use Rattle.pp_laws_turn.proofs.Rows.{clear-keeps}
 
 -- ---- what is changed as it is, and what is not
 
 ask_same : (e : Exchange) → SameAsk e e
-ask_same e = record { number = refl; asker = refl; key = refl; head = refl; asked = λ none. inr (none, refl) }
+ask_same e = record { number = refl; asker = refl; key = refl; head = refl; asked = λ none. inr (none, refl); body = λ is. is }
 
 ask_changed : (f : Exchange → Exchange) (e : Exchange) (t : Bool) → SameAsk (f e) e → SameAsk (elim t as (λ c. Exchange) [ true ↦ f e | false ↦ e ]) e
 ask_changed f e true kept = kept
 ask_changed f e false kept = ask_same e
 
-pub same_ask : (d e : Exchange) → d.number ≡ e.number → d.asker ≡ e.asker → d.place ≡ e.place → d.key ≡ e.key → d.head ≡ e.head → d.asked ≡ e.asked → SameAsk d e
-same_ask d e number asker place key head asked = record { number = number; asker = asker; key = key; head = head; asked = λ none. inr (sym place ∙ none, asked) }
+pub same_ask : (d e : Exchange) → d.number ≡ e.number → d.asker ≡ e.asker → d.place ≡ e.place → d.key ≡ e.key → d.head ≡ e.head → d.asked ≡ e.asked → (e.body_left ≡ 0 → d.body_left ≡ 0) → SameAsk d e
+same_ask d e number asker place key head asked body = record { number = number; asker = asker; key = key; head = head; asked = λ none. inr (sym place ∙ none, asked); body = body }
 
 -- it has its place no more
 pub again_ask : (e : Exchange) → SameAsk (unplaced e) e
-again_ask e = record { number = refl; asker = refl; key = refl; head = refl; asked = λ none. inl refl }
+again_ask e = record { number = refl; asker = refl; key = refl; head = refl; asked = λ none. inl refl; body = λ is. is }
 
 -- it has one
 pub put_ask : (k : ℕ) (e : Exchange) → SameAsk (record e { place = Some k; asked = 0 }) e
-put_ask k e = record { number = refl; asker = refl; key = refl; head = refl; asked = λ none. inl refl }
+put_ask k e = record { number = refl; asker = refl; key = refl; head = refl; asked = λ none. inl refl; body = λ is. is }
 
 conn_same : (k : Conn) → Lesser k k
-conn_same k = record { number = refl; within = λ n i. i }
+conn_same k = record { number = refl; within = λ n i. i; shorter = le_refl (length k.line); pipelines = λ is. is }
 
 conn_changed : (f : Conn → Conn) (k : Conn) (t : Bool) → Lesser (f k) k → Lesser (elim t as (λ c. Conn) [ true ↦ f k | false ↦ k ]) k
 conn_changed f k true kept = kept
 conn_changed f k false kept = conn_same k
 
-pub same_conn : (j k : Conn) → j.number ≡ k.number → j.line ≡ k.line → Lesser j k
-same_conn j k number line = record { number = number; within = λ n i. subst (λ ns. IsIn n ns) line i }
+pub same_conn : (j k : Conn) → j.number ≡ k.number → j.line ≡ k.line → j.may_pipeline ≡ k.may_pipeline → Lesser j k
+same_conn j k number line pipelines = record { number = number; within = λ n i. subst (λ ns. IsIn n ns) line i; shorter = subst (λ (ns : List ℕ). length j.line ≤ length ns) line (le_refl (length j.line)); pipelines = λ is. sym pipelines ∙ is }
 
 pub client_same : (c : Client) → SameClient c c
-client_same c = record { number = refl; closing = refl; source = λ id is. is; request = λ r is. is }
+client_same c = record { number = refl; closing = refl; source = λ id is. is; request = λ r is. is; body = λ b. b }
 
-pub same_parts : (d c : Client) → d.number ≡ c.number → d.is_closing ≡ c.is_closing → d.stage ≡ c.stage → d.front ≡ c.front → SameClient d c
-same_parts d c number closing stage front = record { number = number; closing = closing; source = λ id is. sym (ap source_in stage) ∙ is; request = λ r is. front ∙ is }
+pub same_parts : (d c : Client) → d.number ≡ c.number → d.is_closing ≡ c.is_closing → d.stage ≡ c.stage → d.front ≡ c.front → (c.body_left ≡ 0 → d.body_left ≡ 0) → SameClient d c
+same_parts d c number closing stage front left = record { number = number; closing = closing; source = λ id is. sym (ap source_in stage) ∙ is; request = λ r is. front ∙ is; body = still_bodied d c front left }
 
 pub client_changed : (f : Client → Client) (c : Client) (t : Bool) → SameClient (f c) c → SameClient (elim t as (λ d. Client) [ true ↦ f c | false ↦ c ]) c
 client_changed f c true kept = kept
@@ -57,7 +59,7 @@ without_row-same c = by (is_begun c || c.has_given_up)
   where
     by : (t : Bool) → SameClient (elim t as (λ d. Client) [ true ↦ c | false ↦ record c { course = anew c.course; has_given_up = true } ]) c
     by true = client_same c
-    by false = same_parts _ c refl refl refl refl
+    by false = same_parts _ c refl refl refl refl (λ is. is)
 
 -- ---- by number
 
@@ -121,7 +123,7 @@ give_up_row-keeps w e s h = when (is_unfilled s e) (left_by_number w e.number _ 
 
 pub charge-keeps : {P : View → Type 0} (w : Walk P) (cost : Course → Course) (e : Exchange) (s : State) → Holds P s → Holds P (charge cost e s)
 unfolding charge
-charge-keeps w cost e s h = give_up_row-keeps w e _ (on_client_of-keeps w e (λ c. record c { course = cost c.course }) s (λ c. same_parts _ c refl refl refl refl) h)
+charge-keeps w cost e s h = give_up_row-keeps w e _ (on_client_of-keeps w e (λ c. record c { course = cost c.course }) s (λ c. same_parts _ c refl refl refl refl (λ is. is)) h)
 
 pub lose_attempt-keeps : {P : View → Type 0} (w : Walk P) (e : Exchange) (s : State) → Holds P s → Holds P (lose_attempt e s)
 unfolding lose_attempt
@@ -133,8 +135,8 @@ fail-keeps w e s h = charge-keeps w out_of_tries e s h
 
 -- ---- an exchange is over
 
-shorter : (n : ℕ) (k : Conn) → Lesser (without_ask n k) k
-shorter n k = record { number = refl; within = λ m i. (in_filter (λ x. not (x == n)) m k.line i).0 }
+pub shorter : (n : ℕ) (k : Conn) → Lesser (without_ask n k) k
+shorter n k = record { number = refl; within = λ m i. (in_filter (λ x. not (x == n)) m k.line i).0; shorter = length-filter (λ x. not (x == n)) k.line; pipelines = λ is. is }
 
 pub end_exchange-keeps : {P : View → Type 0} (w : Walk P) (n : ℕ) (s : State) → Holds P s → Holds P (end_exchange n s)
 unfolding end_exchange

@@ -1,5 +1,5 @@
 -- What one read brings, response by response, each phase and each happening keep what is kept of clients, exchanges and rows.
-use Rattle.std.proofs.Common.{◌≡◌, ◌⊎◌, refl, ℕ, zero, suc, ◌+◌, Bool, true, false, not, ◌==◌, ◌&&◌, ◌||◌, List, [], ◌∷◌, ◌++◌, map, filter, find, drop, length, bytes_eq, is_some, Option, Some, None, option_and_then, option_map, Result, Ok, Err, inl, inr, sym, subst, ap, ◌∙◌}
+use Rattle.std.proofs.Common.{◌≡◌, ◌⊎◌, refl, ℕ, zero, suc, ◌+◌, ◌<◌, ◌≤◌, Bool, true, false, not, ◌==◌, ◌&&◌, ◌||◌, List, [], ◌∷◌, ◌++◌, map, filter, find, drop, length, bytes_eq, is_some, Option, Some, None, option_and_then, option_map, Result, Ok, Err, inl, inr, sym, subst, ap, ◌∙◌, arith}
 use Rattle.std.specs.List.{list_any}
 use Rattle.pp_conf.specs.Conf.{Settings}
 use Rattle.pp_conf.specs.Words.{file_of, reading_of}
@@ -23,11 +23,11 @@ use Rattle.pp_world.specs.declared.note.Decision.{Decision}
 use Rattle.pp_world.specs.declared.note.Remark.TheVariants.{Taken, Cut, Kept, Gone, Forgotten, Evicted, Loaded}
 use Rattle.pp_world.specs.declared.note.Remark.{Remark}
 use Rattle.pp_world.specs.declared.op.DiskOp.{DiskOp}
-use Rattle.pp_law.specs.After.{waits_for_row, new_client, event, opened, owing, reached, paid, said, gone, take_decision, evicted, brings_to, dropping_body, refused_row, leave_memory, forgotten_by, noted, begun_op, ended_op, unread, shut, dialled, refused_dial, undialled, out, dropped, changed, after}
+use Rattle.pp_law.specs.After.{waits_for_row, new_client, event, opened, new_conn, owing, reached, paid, said, gone, take_decision, evicted, brings_to, dropping_body, refused_row, leave_memory, forgotten_by, noted, begun_op, ended_op, unread, shut, dialled, refused_dial, undialled, out, dropped, changed, after}
 use Rattle.pp_law.specs.Asking.{asking, is_reading, is_writing, left_in}
 use Rattle.pp_law.specs.Chunks.{note_use}
 use Rattle.pp_law.specs.Closing.{close_client, exchanges_of, leave_one, left_alone}
-use Rattle.pp_law.specs.Connections.{client, conn, each_exchange, end_exchange, exchange, front_of_line, is_client, is_conn, is_exchange, lose_attempt, may_ask_again, on_client, on_conn, on_exchange, close_conn, placing, Placement, put_on}
+use Rattle.pp_law.specs.Connections.{client, conn, each_exchange, end_exchange, exchange, front_of_line, is_client, is_conn, is_exchange, lose_attempt, may_ask_again, on_client, on_conn, on_exchange, close_conn, placing, Pause, AllPlaced, Placement, WaitsDial, WaitsDrop, put_on}
 use Rattle.pp_law.specs.Deciding.{is_for_memory}
 use Rattle.pp_law.specs.Due.{Due, Decide, CutOff, due_by_stage, due_cut, due_decision, due_of, first_due, next_due}
 use Rattle.pp_law.specs.Leaving.{Leaving, ForAnother, ForMemory, BeforeDecision, before_decision, forgets_next, if_so, is_first, leaving_as, makes_room}
@@ -35,10 +35,10 @@ use Rattle.pp_law.specs.Lists.{Bytes, change, first_some, is_some_with, is_this}
 use Rattle.pp_law.specs.Opening.{terms_behind, are_texts, begun, configured, is_at, is_opening, is_recovered, lose_in_opening, may_fail, names_file, opened_to, permits_configured, permits_listens, permits_rooted, settings_in, stuck, with_settings, woken}
 use Rattle.pp_law.specs.OwnHeads.{is_wrong_head, key_of, join, join_bound, moved_on, note_own, note_sent}
 use Rattle.pp_law.specs.Passing.{poured}
-use Rattle.pp_law.specs.Permits.{has_conn, has_room_for, is_due_decision, is_owed, is_permitted, is_same_decision, IsPermitted, may_cut, may_dial, may_open, may_take, may_want_memory, permits, permits_broke, permits_dial, permits_taken}
+use Rattle.pp_law.specs.Permits.{has_conn, has_room_for, is_due_decision, is_new_number, is_owed, is_permitted, is_same_decision, IsPermitted, may_cut, may_dial, may_open, may_take, may_want_memory, permits, permits_broke, permits_dial, permits_taken}
 use Rattle.pp_law.specs.Phases.{phases, in_phase, is_awaiting, is_done, is_done_with, is_free, behind, next, come, come_to, come_to_decide, decides, deciding, due_victim, ending, may_decide, may_in}
 use Rattle.pp_law.specs.Replies.{end_replies, said_by}
-use Rattle.pp_law.specs.Responses.{bad_head, bad_response, finish, asks_head, answer_with, end_if_empty, begin_answer, answer_for, bring_row, head_came, is_readable, Piece, is_early, with_unread, head_piece, deliver, payload_of, body_piece_of, body_piece, next_piece, got}
+use Rattle.pp_law.specs.Responses.{bad_head, bad_response, finish, asks_head, answer_with, answered_by, end_if_empty, begin_answer, answer_for, bring_row, head_came, is_readable, Piece, is_early, with_unread, head_piece, deliver, payload_of, body_piece_of, body_piece, next_piece, got}
 use Rattle.pp_law.specs.Stages.{bound_of, reply_of}
 use Rattle.pp_law.specs.State.{State, Term, start, RowRefused, Phase, Before, IsWoken, IsConfigured, IsRooted, IsListed, IsListening, IsStuck, Awaiting, Handling, Evicting, Keeping, Deciding, Following, Connecting, DecidingAgain, Owed, Free, ReadOf, WriteTo, Joining, Answer, Bound, Client, Conn, Exchange, Instance, Reply, Stage, Undecided, Waiting, Passing, Answering}
 use Rattle.pp_law.specs.Table.{follows, forget, idle_row, instance, is_followed, is_row_of, kept_row, row, swept}
@@ -49,21 +49,23 @@ use Rattle.pp_laws.specs.Runs.{IsIn}
 use Rattle.pp_laws.proofs.Dues.{next_in}
 use Rattle.pp_laws.proofs.Lists.{in_filter, in_find, in_front, in_map, in_push, one_of}
 use Rattle.pp_laws.proofs.Sound.{FactsOf, Since, Sound, client_number, facts_of as sound_facts, instance_id, source_in}
-use Rattle.pp_laws.proofs.Steps.{come_to_decide-sound}
-use Rattle.pp_laws.proofs.Tests.{first_holds, same_number, second_holds}
+use Rattle.pp_laws.proofs.Places.{placing-dial, placing-sound}
+use Rattle.pp_laws.proofs.Steps.{come_to-sound, come_to_decide-sound}
+use Rattle.pp_laws.proofs.Tops.{come_to-top, placing-top}
+use Rattle.pp_laws.proofs.Tests.{below, first_holds, same_number, second_holds}
 use Rattle.pp_laws_asks.proofs.InOrder.{found_in}
 use Rattle.pp_laws_bounds.proofs.Counts.{in_filter_of}
-use Rattle.pp_laws_bounds.proofs.Places.{placing-any}
 use Rattle.pp_obeys.proofs.Come.{next-phase, onward, same_phase}
 use Rattle.pp_obeys.proofs.Forgetting.{leaving_with}
-use Rattle.pp_laws_turn.proofs.View.{View, Walk, Goes, Holds, IsFollowed, SameAsk, facts_of, holds, is_late, view}
+use Rattle.pp_laws_turn.proofs.View.{View, Walk, Goes, Holds, IsBodied, IsFollowed, SameAsk, facts_of, holds, is_late, view}
 use Rattle.pp_laws_turn.proofs.Cases.{by_aim_of, by_outcome, by_pause, each_of, each_so, when, when_so}
 use Rattle.pp_laws_turn.proofs.Clients.{HasPlace, ask-keeps, begin_replies-keeps, close_client-keeps, decided-keeps, end_replies-keeps, fill-keeps, give_up_asks-keeps, hang_up-keeps, hear-keeps, pour-keeps, regained-keeps, use_said-keeps}
 use Rattle.pp_laws_turn.proofs.Closings.{close_conn-keeps}
 use Rattle.pp_laws_turn.proofs.Disk.{begin_in_opening-keeps, begin_in_turn-keeps, close_name-keeps, end_op-keeps, lose_in_opening-keeps, note_gone-keeps, note_kept-keeps}
-use Rattle.pp_laws_turn.proofs.Exchanges.{clients_changed-keeps, end_exchange-keeps, exchanges_changed-keeps, lose_attempt-keeps, on_client-keeps, on_exchange-keeps, same_ask, same_parts}
+use Rattle.pp_laws_turn.proofs.Exchanges.{clients_changed-keeps, end_exchange-keeps, exchanges_changed-keeps, lose_attempt-keeps, on_client-keeps, on_conn-keeps, on_exchange-keeps, same_ask, same_conn, same_parts}
 use Rattle.pp_laws_turn.proofs.Heads.{by_aim-keeps}
-use Rattle.pp_laws_turn.proofs.Kept.{Turn, closed_alone, differs, turn_begins, turn_follows, turn_places, turn_walk}
+use Rattle.pp_laws_turn.proofs.Kept.{Turn, closed_alone, differs, turn_begins, turn_follows, turn_lined, turn_places, turn_walk, with_conns}
+use Rattle.pp_laws_turn.proofs.Lined.{fewer_conns, more_conns}
 use Rattle.pp_laws_turn.proofs.Pieces.{bad_head-keeps, bad_response-keeps, ended-keeps, finish-keeps}
 use Rattle.pp_laws_turn.proofs.Rows.{drop_chunk-keeps, enter-keeps, forget-keeps, idle_alone, rows_mapped}
 use Rattle.pp_laws_turn.proofs.Same.{said_by-same}
@@ -74,8 +76,9 @@ unfolding end_if_empty
 end_if_empty-turn k e a s h = by_outcome (body_of a.rule []).outcome (λ rest. finish-keeps turn_walk k e a s h) h h
 
 begin_answer-turn : (k : Conn) (e : Exchange) (head : Response) (rule : BodyRule) (s : State) → Holds Turn s → Holds Turn (begin_answer k e head rule s)
-unfolding begin_answer on_conn
-begin_answer-turn k e head rule s h = end_if_empty-turn k e (answer_with e head rule) _ (by_aim-keeps turn_walk e head rule _ (holds (facts_of h)))
+unfolding begin_answer
+begin_answer-turn k e head rule s h =
+    end_if_empty-turn k e (answer_with e head rule) _ (by_aim-keeps turn_walk e head rule _ (on_conn-keeps turn_walk k.number (answered_by (answer_with e head rule)) s (λ j. same_conn _ j refl refl refl) h))
 
 answer_for-turn : (k : Conn) (e : Exchange) (head : Response) (s : State) → Holds Turn s → Holds Turn (answer_for k e head s)
 unfolding answer_for
@@ -99,8 +102,7 @@ piece_when true p q hp hq = hp
 piece_when false p q hp hq = hq
 
 with_unread-turn : (k : Conn) (bytes : Bytes) (s : State) → Holds Turn s → Holds Turn (on_conn k.number (with_unread bytes) s)
-unfolding on_conn
-with_unread-turn k bytes s h = holds (facts_of h)
+with_unread-turn k bytes s h = on_conn-keeps turn_walk k.number (with_unread bytes) s (λ j. same_conn _ j refl refl refl) h
 
 head_piece_by : (k : Conn) (bytes : Bytes) (s : State) (read : Read Response) → Holds Turn s
     → Holds Turn (elim read as (λ c. Piece) [
@@ -138,8 +140,8 @@ moved_same : (m : ℕ) (e : Exchange) → SameAsk (moved_on m e) e
 moved_same m e = by (bound_of e)
   where
     by : (o : Option Bound) → SameAsk (elim o as (λ c. Exchange) [ None ↦ e | Some b ↦ record e { body = Joining (record b { next = b.next + m }) } ]) e
-    by None = same_ask e e refl refl refl refl refl refl
-    by (Some b) = same_ask _ e refl refl refl refl refl refl
+    by None = same_ask e e refl refl refl refl refl refl (λ is. is)
+    by (Some b) = same_ask _ e refl refl refl refl refl refl (λ is. is)
 
 join_bound-turn : (e : Exchange) (bytes : Bytes) (s : State) → Holds Turn s → Holds Turn (join_bound e bytes s)
 unfolding join_bound
@@ -155,8 +157,7 @@ body_piece_by : (k : Conn) (a : Answer) (e : Exchange) (bytes : Bytes) (t : Stat
       | Bad ↦ record { state = bad_response k t; rest = [] }
       | Done rest ↦ record { state = finish k e a t; rest = rest }
     ]).state
-unfolding on_conn
-body_piece_by k a e bytes t Going h = holds (facts_of h)
+body_piece_by k a e bytes t Going h = on_conn-keeps turn_walk k.number (λ i. record i { answer = Some (record a { raw = a.raw ++ bytes }) }) t (λ j. same_conn _ j refl refl refl) h
 body_piece_by k a e bytes t Bad h = bad_response-keeps turn_walk k t h
 body_piece_by k a e bytes t (Done rest) h = finish-keeps turn_walk k e a t h
 
@@ -199,6 +200,9 @@ phased p o s owes early h = let f = facts_of h in holds (record {
   one = f.one;
   goes = f.goes;
   fresh = f.fresh;
+  lined = f.lined;
+  bodied = f.bodied;
+  once = f.once;
 })
 
 free_so : (o : Owed) → is_free o ≡ true → is_free o ≡ false → ⊥
@@ -229,7 +233,7 @@ behind-turn Evicting s is free h = give_up_asks-keeps turn_walk _ (in_phase-turn
 behind-turn Keeping s is free h = in_phase-turn Deciding s free (λ off. absurd (cc off)) h
 behind-turn Deciding s is free h = in_phase-turn Following s free (λ off. absurd (cc off)) h
 behind-turn Following s is free h = fill-keeps turn_walk turn_begins _ (give_up_asks-keeps turn_walk _ (drop_unseen-keeps turn_walk _ (in_phase-turn Connecting s free (λ off. absurd (cc off)) h)))
-behind-turn Connecting s is free h = placing-keeps turn_places _ (in_phase-turn DecidingAgain s free (λ off. absurd (cc off)) h)
+behind-turn Connecting s is free h = placing-keeps turn_places turn_lined _ (in_phase-turn DecidingAgain s free (λ off. absurd (cc off)) h)
 behind-turn DecidingAgain s is free h = h
 
 pub next-turn : (s : State) → is_done s ≡ true → Holds Turn s → Holds Turn (next s)
@@ -277,7 +281,7 @@ still_walk p o = record {
   conns = λ f lesser v h. h;
   rows = λ xs next v from h. h;
   leaves = λ n f moves v h. h;
-  closes = λ n f number closing s h. still_left p o (exchanges_of n s) (on_client n f s) h;
+  closes = λ n f number closing body s h. still_left p o (exchanges_of n s) (on_client n f s) h;
 }
 
 -- ---- what is permitted
@@ -336,6 +340,9 @@ opened-turn n s h = holds (record {
   one = f.one;
   goes = λ e m i is off. longer e m (f.goes e m i is off);
   fresh = f.fresh;
+  lined = f.lined;
+  bodied = λ c i. bodied_by c (in_push c s.clients new i);
+  once = f.once;
 })
   where
     new : Client
@@ -355,12 +362,16 @@ opened-turn n s h = holds (record {
     news_by c x early (inl i) going j new_one is = f.news c x early i going j new_one is
     news_by c x early (inr eq) going j new_one is = none c x.id eq is
 
+    bodied_by : (c : Client) → IsIn c s.clients ⊎ (c ≡ new) → IsBodied c
+    bodied_by c (inl i) = f.bodied c i
+    bodied_by c (inr eq) = subst IsBodied (sym eq) (λ r is. absurd (cc is))
+
     longer : (e : Exchange) (m : ℕ) → Goes e m s.clients → Goes e m (s.clients ++ new ∷ [])
     longer e m g = record { client = g.client; there = in_front g.client s.clients (new ∷ []) g.there; number = g.number; at = g.at }
 
 reached-turn : (n : ℕ) (s : State) → Holds Turn s → Holds Turn (reached n s)
-unfolding reached on_conn
-reached-turn n s h = touch-keeps turn_walk n _ (holds (facts_of h))
+unfolding reached
+reached-turn n s h = touch-keeps turn_walk n _ (on_conn-keeps turn_walk n (λ k. record k { is_reached = true }) s (λ k. same_conn _ k refl refl refl) h)
 
 owing-turn : (owed : Owed) (n : ℕ) (s : State) → is_late s.phase ≡ false → Holds Turn s → Holds Turn (event (owing owed n s))
 unfolding owing event touch on_client on_conn
@@ -383,7 +394,7 @@ pub take_decision-turn : (n : ℕ) (d : Decision) (s : State) → is_late s.phas
 unfolding take_decision
 take_decision-turn n d s late going h =
     each_so (client s n) (λ none. h)
-    (λ c found. regained-keeps turn_walk _ (holds (facts_of (decided-keeps turn_walk turn_begins turn_follows c d s (record { there = (in_find (is_client n) c s.clients found).0; going = going c found }) late h))))
+    (λ c found. regained-keeps turn_walk _ (holds (facts_of (decided-keeps turn_walk turn_begins turn_follows c d s ((facts_of h).bodied c (in_find (is_client n) c s.clients found).0) (record { there = (in_find (is_client n) c s.clients found).0; going = going c found }) late h))))
 
 -- who is decided for goes on
 decided_going : (s : State) (c : Client) (n i : ℕ) (d : Decision) → due_of s c ≡ Some (Decide n i d) → (c.number ≡ n) × (c.is_closing ≡ false)
@@ -423,6 +434,12 @@ taken_going s n i d so may c found =
     let one : w.0 ≡ c = one_of client_number t.clients w.0 c (sound_facts (come_to_decide-sound s so)).callers.rise w.1 r.0 (w.2 ∙ sym (same_number c.number n r.1)) in
     subst (λ (x : Client). x.is_closing ≡ false) one w.3
 
+-- and a body is left of its request where that is asked once
+pub taken_bodied : (s : State) (n i : ℕ) (d : Decision) → permits_taken s n i d ≡ true → Holds Turn s → (c : Client) → client (deciding s) n ≡ Some c → IsBodied c
+taken_bodied s n i d may h c found =
+    let on = (gate (decides (come_to_decide s)) (may_take (come_to_decide s) n i d) may).0 in
+    (facts_of (deciding-turn s on h)).bodied c (in_find (is_client n) c (deciding s).clients found).0
+
 evicted-turn : (s : State) → Holds Turn s → Holds Turn (evicted s)
 unfolding evicted
 evicted-turn s h = each_of (due_victim s) h (λ place. drop_chunk-keeps place.0 place.1 s h)
@@ -431,8 +448,8 @@ pub refused_row-turn : (x : Instance) (s : State) → is_followed s x.id ≡ fal
 unfolding refused_row
 refused_row-turn x s none h =
     let told : State = record (forget x.id s) { clients = change (waits_for_row x.id) (λ c. record c { course = RowRefused }) (forget x.id s).clients } in
-    holds (exchanges_changed-keeps turn_walk (brings_to x.id) dropping_body (view told) (λ e. same_ask _ e refl refl refl refl refl refl)
-    (clients_changed-keeps turn_walk (waits_for_row x.id) (λ c. record c { course = RowRefused }) (view (forget x.id s)) (λ c. same_parts _ c refl refl refl refl) (facts_of (forget-keeps turn_walk.rows x.id s none h))))
+    holds (exchanges_changed-keeps turn_walk (brings_to x.id) dropping_body (view told) (λ e. same_ask _ e refl refl refl refl refl refl (λ is. is))
+    (clients_changed-keeps turn_walk (waits_for_row x.id) (λ c. record c { course = RowRefused }) (view (forget x.id s)) (λ c. same_parts _ c refl refl refl refl (λ is. is)) (facts_of (forget-keeps turn_walk.rows x.id s none h))))
 
 -- ---- a row that came in this turn is followed by nobody yet
 
@@ -626,6 +643,16 @@ start-turn terms = holds (record {
   one = λ d e c i. absurd i;
   goes = λ e n i. absurd i;
   fresh = λ e i. absurd i;
+  lined = record {
+    apart = λ j k i. absurd i;
+    heads = λ d e i. absurd i;
+    given = λ e i. absurd i;
+    asked = λ k n i. absurd i;
+    few = λ k i. absurd i;
+    alone = λ k e i. absurd i;
+  };
+  bodied = λ c i. absurd i;
+  once = λ e i. absurd i;
 })
 
 woken-turn : (image : Files) (s : State) → Holds Turn (woken image s)
@@ -661,6 +688,9 @@ shut-turn n s h = holds (record {
   one = closed.one;
   goes = λ e m i is off. stays e m i is (closed.goes e m i is off);
   fresh = closed.fresh;
+  lined = closed.lined;
+  bodied = λ c i. closed.bodied c (in_filter (λ x. not (is_client n x)) c (close_client n false s).clients i).0;
+  once = closed.once;
 })
   where
     closed : Turn (view (close_client n false s))
@@ -676,9 +706,35 @@ shut-turn n s h = holds (record {
 
 -- ---- places
 
-pub dialled-turn : (n : ℕ) (host : Bytes) (port : ℕ) (p : Placement) → Holds Turn p.state → Holds Turn (dialled n host port p)
+dialled_by : (n : ℕ) (host : Bytes) (port : ℕ) (s : State) (pause : Pause) → ((j : Conn) → IsIn j s.conns → j.number ≡ n → ⊥) → ((e : Exchange) → pause ≡ WaitsDial e → e.number < s.next_exchange) → Holds Turn s
+    → Holds Turn (elim pause as (λ c. State) [
+      | AllPlaced ↦ s
+      | WaitsDrop k e ↦ s
+      | WaitsDial e ↦ put_on e.number n (record s { conns = s.conns ++ new_conn n host port s.clock ∷ []; top = n })
+    ])
+dialled_by n host port s AllPlaced new given h = h
+dialled_by n host port s (WaitsDrop k e) new given h = h
+dialled_by n host port s (WaitsDial e) new given h =
+    holds (turn_places e.number n (record s { conns = s.conns ++ k ∷ []; top = n }) (record { given = given e refl; each = λ j i is. inl (empty j (in_push j s.conns k i) is) })
+    (with_conns None (s.conns ++ k ∷ []) (view s) (more_conns k s.conns s.exchanges s.next_exchange refl new (facts_of h).lined) (facts_of h)))
+  where
+    k : Conn
+    k = new_conn n host port s.clock
+
+    empty : (j : Conn) → IsIn j s.conns ⊎ (j ≡ k) → j.number ≡ n → j.line ≡ []
+    empty j (inl i) is = absurd (new j i is)
+    empty j (inr eq) is = ap (λ (x : Conn). x.line) eq
+
+-- its number is new
+pub dialled-turn : {b : Since} (n : ℕ) (host : Bytes) (port : ℕ) (s : State) → Sound b s → (placing s).state.top < n → Holds Turn s → Holds Turn (dialled n host port (placing s))
 unfolding dialled
-dialled-turn n host port p h = by_pause p.pause h (λ k e. h) (λ e. holds (turn_places e.number n _ (facts_of h)))
+dialled-turn {b} n host port s so above h = dialled_by n host port (placing s).state (placing s).pause new (λ e is. (placing-dial s so e is).given) (placing-keeps turn_places turn_lined s h)
+  where
+    f : FactsOf b (placing s).state
+    f = sound_facts (placing-sound s so)
+
+    new : (j : Conn) → IsIn j (placing s).state.conns → j.number ≡ n → ⊥
+    new j i is = let le : j.number ≤ (placing s).state.top = f.lines.given j i in omega arith
 
 pub refused_dial-turn : (e : Exchange) (s : State) → Holds Turn s → Holds Turn (refused_dial e s)
 unfolding refused_dial
@@ -688,9 +744,13 @@ undialled-turn : (p : Placement) → Holds Turn p.state → Holds Turn (undialle
 unfolding undialled
 undialled-turn p h = by_pause p.pause h (λ k e. h) (λ e. refused_dial-turn e _ (lose_attempt-keeps turn_walk e _ (holds (facts_of h))))
 
+out-turn : (n : ℕ) (s : State) → Holds Turn s → Holds Turn (out n s)
+unfolding out
+out-turn n s h = holds (with_conns None (filter (λ k. not (is_conn n k)) s.conns) (view s) (fewer_conns (λ k. not (is_conn n k)) s.conns s.exchanges s.next_exchange (facts_of h).lined) (facts_of h))
+
 dropped-turn : (n : ℕ) (s : State) → Holds Turn s → Holds Turn (dropped n s)
-unfolding dropped out
-dropped-turn n s h = each_of (conn s n) h (λ k. when k.is_closing (holds (facts_of h)) (holds (facts_of (placing-keeps turn_places s h))))
+unfolding dropped
+dropped-turn n s h = each_of (conn s n) h (λ k. when k.is_closing (out-turn n s h) (out-turn n _ (placing-keeps turn_places turn_lined s h)))
 
 -- ---- all
 
@@ -704,6 +764,9 @@ rest_with-turn w s h = holds (record {
   one = f.one;
   goes = f.goes;
   fresh = f.fresh;
+  lined = f.lined;
+  bodied = f.bodied;
+  once = f.once;
 })
   where
     v : View
@@ -796,6 +859,10 @@ broke_may : (s : State) (n : ℕ) → IsPermitted s (Broke n) → permits_broke 
 unfolding is_permitted permits
 broke_may s n is = unhampered s.has_made_room (permits_broke s n) is
 
+dialled_above : (s : State) (n : ℕ) (host : Bytes) (port : ℕ) → IsPermitted s (Dialled n host port) → s.top < n
+unfolding is_permitted permits
+dialled_above s n host port is = below s.top n (first_holds (is_new_number s n) (permits_dial s host port) (unhampered s.has_made_room (is_new_number s n && permits_dial s host port) is))
+
 undialled_may : (s : State) (host : Bytes) (port : ℕ) → IsPermitted s (Undialled host port) → permits_dial s host port ≡ true
 unfolding is_permitted permits
 undialled_may s host port is = second_holds (may_fail s false) (permits_dial s host port) (unhampered s.has_made_room (may_fail s false && permits_dial s host port) is)
@@ -867,8 +934,9 @@ changed-turn s (Heard c bytes) so is h = paid-turn _ (hear-keeps turn_walk c byt
 changed-turn s (HungUp c) so is h = paid-turn _ (hang_up-keeps turn_walk c s h)
 changed-turn s (Said c offered bytes) so is h = paid-turn _ (said-turn c (length bytes) s h)
 changed-turn s (Shut c) so is h = shut-turn c _ (come_to-turn Connecting s h)
-changed-turn s (Dialled n host port) so is h = dialled-turn n host port (placing (come_to Connecting s)) (placing-keeps turn_places _ (come_to-turn Connecting s h))
-changed-turn s (Undialled host port) so is h = undialled-turn (placing (come_to Connecting s)) (placing-keeps turn_places _ (come_to-turn Connecting s h))
+changed-turn s (Dialled n host port) so is h =
+    dialled-turn n host port (come_to Connecting s) (come_to-sound Connecting s so) (subst (λ m. m < n) (sym (placing-top (come_to Connecting s) ∙ come_to-top Connecting s)) (dialled_above s n host port is)) (come_to-turn Connecting s h)
+changed-turn s (Undialled host port) so is h = undialled-turn (placing (come_to Connecting s)) (placing-keeps turn_places turn_lined _ (come_to-turn Connecting s h))
 changed-turn s (Reached n) so is h = event-turn _ (reached_early n s (awaiting_early s (reached_awaits s n is))) (reached-turn n s h)
 changed-turn s (Ended n) so is h = paid-turn _ (gone-turn true n s h)
 changed-turn s (Broke n) so is h = paid-turn _ (gone-turn false n _ (event-turn s (broke_early s n (broke_may s n is) h) h))

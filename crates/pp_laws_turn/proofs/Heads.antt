@@ -24,11 +24,11 @@ use Rattle.pp_laws_turn.proofs.Rows.{clear-keeps, make_row-keeps, mark_row-keeps
 
 tell-keeps : {P : View → Type 0} (w : Walk P) (e : Exchange) (brought : Brought) (s : State) → Holds P s → Holds P (tell e brought s)
 unfolding tell
-tell-keeps w e brought s h = holds (clients_changed-keeps w (is_asked_by e) (λ c. record c { brought = brought }) (view s) (λ c. same_parts _ c refl refl refl refl) (facts_of h))
+tell-keeps w e brought s h = holds (clients_changed-keeps w (is_asked_by e) (λ c. record c { brought = brought }) (view s) (λ c. same_parts _ c refl refl refl refl (λ is. is)) (facts_of h))
 
 use_body-keeps : {P : View → Type 0} (w : Walk P) (e : Exchange) (body : Body) (s : State) → Holds P s → Holds P (use_body e body s)
 unfolding use_body
-use_body-keeps w e body s h = on_exchange-keeps w e.number (λ x. record x { body = body }) s (λ x. same_ask _ x refl refl refl refl refl refl) h
+use_body-keeps w e body s h = on_exchange-keeps w e.number (λ x. record x { body = body }) s (λ x. same_ask _ x refl refl refl refl refl refl (λ is. is)) h
 
 drop_answer-keeps : {P : View → Type 0} (w : Walk P) (e : Exchange) (s : State) → Holds P s → Holds P (drop_answer e s)
 unfolding drop_answer
@@ -78,9 +78,9 @@ without_shared_row-same most c = by (c.has_given_up && not (is_begun c)) (is_beg
   where
     by : (again begun : Bool)
         → SameClient (elim again as (λ x. Client) [ true ↦ record c { course = lost_one most c.course } | false ↦ elim begun as (λ x. Client) [ true ↦ c | false ↦ record c { course = anew c.course; has_given_up = true } ] ]) c
-    by true begun = same_parts _ c refl refl refl refl
+    by true begun = same_parts _ c refl refl refl refl (λ is. is)
     by false true = client_same c
-    by false false = same_parts _ c refl refl refl refl
+    by false false = same_parts _ c refl refl refl refl (λ is. is)
 
 not_shared-keeps : {P : View → Type 0} (w : Walk P) (e : Exchange) (s : State) → Holds P s → Holds P (not_shared e s)
 unfolding not_shared

@@ -2,21 +2,24 @@
 -- request, and of one without a place nothing was asked.
 use Rattle.std.proofs.Common.{◌≡◌, ◌⊎◌, refl, ℕ, ◌+◌, ◌<◌, ◌≤◌, Bool, true, false, not, ◌==◌, ◌||◌, List, [], ◌∷◌, ◌++◌, map, filter, find, cond, is_some, Option, Some, None, inl, inr, sym, subst, ap, ◌∙◌, le_trans, lt_irrefl, arith}
 use Rattle.pp_law.specs.Closing.{close_client, exchanges_of, forsake, is_of, is_over, leave, leave_one, left_alone}
-use Rattle.pp_law.specs.Connections.{each_exchange, end_exchange, exchange, is_client, is_exchange, on_client, on_conn, on_exchange, put_on}
+use Rattle.pp_law.specs.Connections.{each_exchange, end_exchange, exchange, is_client, is_conn, is_exchange, on_client, on_conn, on_exchange, put_on, without_ask}
 use Rattle.pp_law.specs.Deciding.{add_exchange, begin_exchange}
 use Rattle.pp_law.specs.Lists.{change, is_some_with, is_this}
 use Rattle.pp_law.specs.Phases.{is_free}
+use Rattle.pp_law.specs.Requests.{is_asked_once}
 use Rattle.pp_law.specs.Table.{swept}
-use Rattle.pp_law.specs.State.{State, Client, Exchange, Instance, Owed, Phase, Handling}
+use Rattle.pp_law.specs.State.{State, Client, Conn, Exchange, Instance, Owed, Phase, Handling}
 use Rattle.pp_laws.specs.Runs.{IsIn}
 use Rattle.pp_laws.proofs.Lists.{Changed, From, changed_at, in_change, in_filter, in_find, in_map, in_push, other, same}
 use Rattle.pp_laws.proofs.Sound.{exchange_number, instance_id, source_in}
 use Rattle.pp_laws.proofs.Tests.{number_same, same_number}
 use Rattle.pp_laws_bounds.proofs.Counts.{in_filter_of, in_map_of}
-use Rattle.pp_laws_turn.proofs.View.{View, Walk, Begins, Follows, Holds, Places, FromRow, Goes, IsAt, IsNew, MovesOn, RowsFrom, SameAsk, SameClient, SameRequest, WasRow, facts_of, holds, is_late, view}
+use Rattle.pp_laws_turn.proofs.Exchanges.{shorter}
+use Rattle.pp_laws_turn.proofs.Lined.{AreLined, begun_lined, fewer_lined, lesser_lined, longer, put_lined}
+use Rattle.pp_laws_turn.proofs.View.{View, Walk, Begins, Follows, Holds, Places, FromRow, Goes, IsAt, IsBodied, IsNew, Lesser, MovesOn, RowsFrom, SameAsk, SameClient, SameRequest, WasRow, facts_of, holds, is_late, view}
 
 -- a client that goes on is answered from an instance that is there; where new ones may still leave memory, from none of these
-pub record Facts (but : Option ℕ) (phase : Phase) (owed : Owed) (clients : List Client) (exchanges : List Exchange) (instances : List Instance) (next_instance : ℕ) : Type 0 where
+pub record Facts (but : Option ℕ) (phase : Phase) (owed : Owed) (clients : List Client) (conns : List Conn) (exchanges : List Exchange) (next_exchange : ℕ) (instances : List Instance) (next_instance : ℕ) : Type 0 where
   pub owes : is_free owed ≡ false → phase ≡ Handling
   pub given : (x : Instance) → IsIn x instances → x.id < next_instance
   pub source : (c : Client) (id : ℕ) → IsIn c clients → c.is_closing ≡ false → source_in c.stage ≡ Some id → IsIn id (map instance_id instances)
@@ -24,10 +27,13 @@ pub record Facts (but : Option ℕ) (phase : Phase) (owed : Owed) (clients : Lis
   pub one : (d e : Exchange) (c : ℕ) → IsIn d exchanges → IsIn e exchanges → d.asker ≡ Some c → e.asker ≡ Some c → d.number ≡ e.number
   pub goes : (e : Exchange) (n : ℕ) → IsIn e exchanges → e.asker ≡ Some n → (but ≡ Some n → ⊥) → Goes e n clients
   pub fresh : (e : Exchange) → IsIn e exchanges → e.place ≡ None → e.asked ≡ 0
+  pub lined : AreLined conns exchanges next_exchange
+  pub bodied : (c : Client) → IsIn c clients → IsBodied c
+  pub once : (e : Exchange) → IsIn e exchanges → (e.body_left ≡ 0) ⊎ (is_asked_once e.head ≡ true)
 
 -- but those of this client
 abbrev pub TurnBut : Option ℕ → View → Type 0
-TurnBut but v = Facts but v.phase v.owed v.clients v.exchanges v.instances v.next_instance
+TurnBut but v = Facts but v.phase v.owed v.clients v.conns v.exchanges v.next_exchange v.instances v.next_instance
 
 abbrev pub Turn : View → Type 0
 Turn v = TurnBut None v
@@ -55,9 +61,20 @@ clients_turn f same_one v h = record {
   one = h.one;
   goes = λ e n i is off. goes_over f same_one e n v.clients (h.goes e n i is off);
   fresh = h.fresh;
+  lined = h.lined;
+  bodied = λ c i. let r = in_map f c v.clients i in subst IsBodied (sym r.is) ((same_one r.was).body (h.bodied r.was r.there));
+  once = h.once;
 }
 
 -- ---- exchanges
+
+-- nothing of a body is left, or it is asked once
+abbrev IsOnce : Exchange → Type 0
+IsOnce e = (e.body_left ≡ 0) ⊎ (is_asked_once e.head ≡ true)
+
+once_as : (d e : Exchange) → d.head ≡ e.head → (e.body_left ≡ 0 → d.body_left ≡ 0) → IsOnce e → IsOnce d
+once_as d e head left (inl none) = inl (left none)
+once_as d e head left (inr is) = inr (ap is_asked_once head ∙ is)
 
 goes_as : (d e : Exchange) (n : ℕ) (cs : List Client) → d.head ≡ e.head → Goes e n cs → Goes d n cs
 goes_as d e n cs head g = record { client = g.client; there = g.there; number = g.number; at = record { going = g.at.going; request = g.at.request; front = g.at.front; head = g.at.head ∙ sym head } }
@@ -88,7 +105,27 @@ asks_turn f v same_one h = record {
   fresh = λ e i none.
       let r = in_map f e v.exchanges i in
       ap (λ (x : Exchange). x.asked) r.is ∙ fresh_as (f r.was) r.was (same_one r.was r.there) (h.fresh r.was r.there) (ap (λ (x : Exchange). x.place) (sym r.is) ∙ none);
+  lined = fewer_lined v.conns v.exchanges (map f v.exchanges) v.next_exchange (λ e i.
+      let r = in_map f e v.exchanges i in
+      let s = same_one r.was r.there in
+      record { was = r.was; there = r.there; number = ap exchange_number r.is ∙ s.number; head = ap (λ (x : Exchange). x.head) r.is ∙ s.head }) h.lined;
+  bodied = h.bodied;
+  once = λ e i.
+      let r = in_map f e v.exchanges i in
+      let s = same_one r.was r.there in
+      subst IsOnce (sym r.is) (once_as (f r.was) r.was s.head s.body (h.once r.was r.there));
 }
+
+-- ---- connections
+
+-- where their lines are as they have to be
+pub with_conns : (but : Option ℕ) (conns : List Conn) (v : View) → AreLined conns v.exchanges v.next_exchange → TurnBut but v → TurnBut but (record v { conns = conns })
+with_conns but conns v lined h = record { owes = h.owes; given = h.given; source = h.source; news = h.news; one = h.one; goes = h.goes; fresh = h.fresh; lined = lined; bodied = h.bodied; once = h.once }
+
+conns_turn : (but : Option ℕ) (f : Conn → Conn) → ((k : Conn) → Lesser (f k) k) → (v : View) → TurnBut but v → TurnBut but (record v { conns = map f v.conns })
+conns_turn but f lesser v h = with_conns but (map f v.conns) v (lesser_lined f v.conns v.exchanges v.next_exchange lesser h.lined) h
+
+-- ---- fewer exchanges
 
 -- fewer, or those that are nobody's
 record FromAsk (xs : List Exchange) (e : Exchange) : Type 0 where
@@ -99,6 +136,7 @@ record FromAsk (xs : List Exchange) (e : Exchange) : Type 0 where
   head : e.head ≡ was.head
   place : e.place ≡ was.place
   asked : e.asked ≡ was.asked
+  body : was.body_left ≡ 0 → e.body_left ≡ 0
 
 fewer_turn : (but : Option ℕ) (v : View) (ys : List Exchange) → ((e : Exchange) → IsIn e ys → FromAsk v.exchanges e) → TurnBut but v → TurnBut but (record v { exchanges = ys })
 fewer_turn but v ys from h = record {
@@ -109,10 +147,13 @@ fewer_turn but v ys from h = record {
   one = λ d e c i j di ei. let p = from d i in let r = from e j in p.number ∙ h.one p.was r.was c p.there r.there (p.asker c di) (r.asker c ei) ∙ sym r.number;
   goes = λ e n i is off. let r = from e i in goes_as e r.was n v.clients r.head (h.goes r.was n r.there (r.asker n is) off);
   fresh = λ e i none. let r = from e i in r.asked ∙ h.fresh r.was r.there (sym r.place ∙ none);
+  lined = fewer_lined v.conns v.exchanges ys v.next_exchange (λ e i. let r = from e i in record { was = r.was; there = r.there; number = r.number; head = r.head }) h.lined;
+  bodied = h.bodied;
+  once = λ e i. let r = from e i in once_as e r.was r.head r.body (h.once r.was r.there);
 }
 
 ask_kept : (xs : List Exchange) (e : Exchange) → IsIn e xs → FromAsk xs e
-ask_kept xs e i = record { was = e; there = i; number = refl; asker = λ n is. is; head = refl; place = refl; asked = refl }
+ask_kept xs e i = record { was = e; there = i; number = refl; asker = λ n is. is; head = refl; place = refl; asked = refl; body = λ is. is }
 
 left_from : (test : Exchange → Bool) (xs : List Exchange) (e : Exchange) → IsIn e (change test left_alone xs) → FromAsk xs e
 left_from test xs e i = by (in_change test left_alone e xs i)
@@ -127,6 +168,7 @@ left_from test xs e i = by (in_change test left_alone e xs i)
       head = ap (λ (y : Exchange). y.head) eq;
       place = ap (λ (y : Exchange). y.place) eq;
       asked = ap (λ (y : Exchange). y.asked) eq;
+      body = λ is. ap (λ (y : Exchange). y.body_left) eq ∙ is;
     }
 
 over_from : (test : Exchange → Bool) (xs : List Exchange) (e : Exchange) → IsIn e (filter test xs) → FromAsk xs e
@@ -149,6 +191,9 @@ rows_turn xs next v from h = record {
   one = h.one;
   goes = h.goes;
   fresh = h.fresh;
+  lined = h.lined;
+  bodied = h.bodied;
+  once = h.once;
 }
   where
     given_by : (x : Instance) → FromRow v.instances x ⊎ ((x.id ≡ v.next_instance) × (x.id < next)) → x.id < next
@@ -192,7 +237,12 @@ in_changed_other n f c cs i isnt = subst (λ (d : Client). IsIn d (change (is_cl
 -- one client is changed, and its exchanges do not count
 record OneClient (n : ℕ) (f : Client → Client) : Type 0 where
   number : (c : Client) → (f c).number ≡ c.number
+  body : (c : Client) → IsBodied c → IsBodied (f c)
   source : (c : Client) (id : ℕ) → (f c).is_closing ≡ false → source_in (f c).stage ≡ Some id → (c.is_closing ≡ false) × (source_in c.stage ≡ Some id)
+
+bodied_by : (n : ℕ) (f : Client → Client) → ((c : Client) → IsBodied c → IsBodied (f c)) → (c : Client) (cs : List Client) → ((d : Client) → IsIn d cs → IsBodied d) → Changed (is_client n) f cs c → IsBodied c
+bodied_by n f body c cs bodied (same i isnt) = bodied c i
+bodied_by n f body c cs bodied (other d i hit eq) = subst IsBodied (sym eq) (body d (bodied d i))
 
 client_turn : (n : ℕ) (f : Client → Client) → OneClient n f → (v : View) → Turn v → TurnBut (Some n) (record v { clients = change (is_client n) f v.clients })
 client_turn n f o v h = record {
@@ -208,6 +258,9 @@ client_turn n f o v h = record {
     at = g.at;
   };
   fresh = h.fresh;
+  lined = h.lined;
+  bodied = λ c i. bodied_by n f o.body c v.clients h.bodied (in_change (is_client n) f c v.clients i);
+  once = h.once;
 }
   where
     was : (c : Client) (id : ℕ) → Changed (is_client n) f v.clients c → c.is_closing ≡ false → source_in c.stage ≡ Some id → (d : Client) × IsIn d v.clients × (d.is_closing ≡ false) × (source_in d.stage ≡ Some id)
@@ -224,6 +277,9 @@ all_count n v none h = record {
   one = h.one;
   goes = λ e m i is off. h.goes e m i is (λ eq. none e i (is ∙ sym eq));
   fresh = h.fresh;
+  lined = h.lined;
+  bodied = h.bodied;
+  once = h.once;
 }
 
 leaves_turn : (n : ℕ) (f : Client → Client) → ((c : Client) → MovesOn (f c) c) → (v : View) → Turn v → Turn (record v { clients = change (is_client n) f v.clients; exchanges = change (is_of n) left_alone v.exchanges })
@@ -232,7 +288,7 @@ leaves_turn n f moves v h =
     (left_turn (Some n) (is_of n) (record v { clients = change (is_client n) f v.clients }) (client_turn n f one v h))
   where
     one : OneClient n f
-    one = record { number = λ c. (moves c).number; source = λ c id going is. let both : None ≡ Some id = sym (moves c).source ∙ is in absurd (cc both) }
+    one = record { number = λ c. (moves c).number; body = λ c b. (moves c).body; source = λ c id going is. let both : None ≡ Some id = sym (moves c).source ∙ is in absurd (cc both) }
 
 -- ---- a client is closed
 
@@ -289,7 +345,9 @@ unfolding leave_one end_exchange on_exchange
 left_one n e s h = by (e.asked == 0)
   where
     by : (t : Bool) → TurnBut (Some n) (view (elim t as (λ c. State) [ true ↦ end_exchange e.number s | false ↦ on_exchange e.number left_alone s ]))
-    by true = over_turn (Some n) (λ d. not (is_exchange e.number d)) (view s) h
+    by true =
+        conns_turn (Some n) (without_ask e.number) (shorter e.number) (record (view s) { exchanges = filter (λ d. not (is_exchange e.number d)) s.exchanges })
+        (over_turn (Some n) (λ d. not (is_exchange e.number d)) (view s) h)
     by false = left_turn (Some n) (is_exchange e.number) (view s) h
 
 all_left : (n : ℕ) (ns : List ℕ) (s : State) → TurnBut (Some n) (view s) → TurnBut (Some n) (view (each_exchange leave_one ns s))
@@ -301,14 +359,14 @@ all_left n (m ∷ ns) s h = all_left n ns _ (by (exchange s m))
     by None = h
     by (Some e) = left_one n e s h
 
-closes_turn : (n : ℕ) (f : Client → Client) → ((c : Client) → (f c).number ≡ c.number) → ((c : Client) → (f c).is_closing ≡ true) → (s : State) → Turn (view s) → Turn (view (each_exchange leave_one (exchanges_of n s) (on_client n f s)))
+closes_turn : (n : ℕ) (f : Client → Client) → ((c : Client) → (f c).number ≡ c.number) → ((c : Client) → (f c).is_closing ≡ true) → ((c : Client) → IsBodied c → IsBodied (f c)) → (s : State) → Turn (view s) → Turn (view (each_exchange leave_one (exchanges_of n s) (on_client n f s)))
 unfolding on_client
-closes_turn n f number closing s h =
+closes_turn n f number closing body s h =
     all_count n (view (each_exchange leave_one (exchanges_of n s) (on_client n f s))) (λ e i is. each_left n (exchanges_of n s) (on_client n f s) (λ d j its. numbered n s.exchanges d j its) e i is)
     (all_left n (exchanges_of n s) (on_client n f s) (client_turn n f one (view s) h))
   where
     one : OneClient n f
-    one = record { number = number; source = λ c id going is. let both : true ≡ false = sym (closing c) ∙ going in absurd (cc both) }
+    one = record { number = number; body = body; source = λ c id going is. let both : true ≡ false = sym (closing c) ∙ going in absurd (cc both) }
 
 all_numbered : (n : ℕ) (is_cut : Bool) (s : State) → AreOf n (exchanges_of n s) (on_client n (λ c. record c { is_closing = true; is_cut = c.is_cut || is_cut }) s)
 unfolding on_client
@@ -327,7 +385,7 @@ turn_walk = record {
   asks = asks_turn;
   left = left_turn None;
   over = over_turn None;
-  conns = λ f lesser v h. h;
+  conns = conns_turn None;
   rows = rows_turn;
   leaves = leaves_turn;
   closes = closes_turn;
@@ -335,13 +393,21 @@ turn_walk = record {
 
 -- ---- an exchange gets a place
 
+pub turn_lined : (s : State) → Holds Turn s → AreLined s.conns s.exchanges s.next_exchange
+turn_lined s h = (facts_of h).lined
+
 pub turn_places : Places Turn
 unfolding put_on on_conn on_exchange
-turn_places n k s h = asks_turn (changed_at (is_exchange n) (λ e. record e { place = Some k; asked = 0 })) (view s) (λ e i. by e (is_exchange n e)) h
+turn_places n k s takes h =
+    asks_turn (changed_at (is_exchange n) (λ e. record e { place = Some k; asked = 0 })) (record (view s) { conns = put }) (λ e i. by e (is_exchange n e))
+    (with_conns None put (view s) (put_lined n k s.conns s.exchanges s.next_exchange takes h.lined) h)
   where
+    put : List Conn
+    put = map (changed_at (is_conn k) (longer n)) s.conns
+
     by : (e : Exchange) (t : Bool) → SameAsk (elim t as (λ c. Exchange) [ true ↦ record e { place = Some k; asked = 0 } | false ↦ e ]) e
-    by e true = record { number = refl; asker = refl; key = refl; head = refl; asked = λ none. inl refl }
-    by e false = record { number = refl; asker = refl; key = refl; head = refl; asked = λ none. inr (none, refl) }
+    by e true = record { number = refl; asker = refl; key = refl; head = refl; asked = λ none. inl refl; body = λ is. is }
+    by e false = record { number = refl; asker = refl; key = refl; head = refl; asked = λ none. inr (none, refl); body = λ is. is }
 
 -- ---- one begins
 
@@ -355,6 +421,9 @@ turn_begins e s is_new h = record {
   one = λ d f c i j di fi. one_by d f c (in_push d rest e i) (in_push f rest e j) di fi;
   goes = λ d n i is off. goes_by d n (in_push d rest e i) is;
   fresh = λ d i none. fresh_by d (in_push d rest e i) none;
+  lined = begun_lined e s.conns rest s.next_exchange is_new.number less.lined;
+  bodied = h.bodied;
+  once = λ d i. once_by d (in_push d rest e i);
 }
   where
     test : Exchange → Bool
@@ -393,6 +462,10 @@ turn_begins e s is_new h = record {
     goes_by d n (inl i) is = less.goes d n i is (λ none. cc none)
     goes_by d n (inr eq) is = subst (λ m. Goes d m s.clients) (sym (its_asker d n eq is)) (goes_as d e is_new.asker s.clients (ap (λ (x : Exchange). x.head) eq) is_new.goes)
 
+    once_by : (d : Exchange) → IsIn d rest ⊎ (d ≡ e) → IsOnce d
+    once_by d (inl i) = less.once d i
+    once_by d (inr eq) = subst IsOnce (sym eq) is_new.body
+
     fresh_by : (d : Exchange) → IsIn d rest ⊎ (d ≡ e) → d.place ≡ None → d.asked ≡ 0
     fresh_by d (inl i) none = less.fresh d i none
     fresh_by d (inr eq) none = ap (λ (x : Exchange). x.asked) eq ∙ is_new.asked
@@ -408,6 +481,9 @@ turn_follows n id f request source v late there h = record {
   one = h.one;
   goes = λ e m i is off. goes_on e m (h.goes e m i is off);
   fresh = h.fresh;
+  lined = h.lined;
+  bodied = λ c i. bodied_by n f (λ d. (request d).body) c v.clients h.bodied (in_change (is_client n) f c v.clients i);
+  once = h.once;
 }
   where
     source_by : (c : Client) (k : ℕ) → Changed (is_client n) f v.clients c → c.is_closing ≡ false → source_in c.stage ≡ Some k → IsIn k (map instance_id v.instances)

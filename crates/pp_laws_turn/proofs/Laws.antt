@@ -1,10 +1,12 @@
 -- The law: each state that a lawful log may go on as from is sound.
-use Rattle.std.proofs.Common.{◌≡◌, ◌⊎◌, refl, ℕ, Bool, true, false, ◌==◌, ◌≤◌, List, [], count_by, map, find, Option, Some, None, inl, inr, sym, subst, ap, ◌∙◌}
+use Rattle.std.proofs.Common.{◌≡◌, ◌⊎◌, refl, ℕ, Bool, true, false, ◌==◌, ◌||◌, ◌≤◌, List, [], ◌∷◌, count_by, map, find, length, Option, Some, None, inl, inr, sym, subst, ap, ◌∙◌, arith}
 use Rattle.pp_world.specs.Log.{Log}
+use Rattle.pp_pipe.specs.Authentication.{binds_connection}
 use Rattle.pp_law.specs.Closing.{is_of}
 use Rattle.pp_law.specs.Connections.{is_client}
 use Rattle.pp_law.specs.Lists.{is_this}
 use Rattle.pp_law.specs.Opening.{is_same_phase}
+use Rattle.pp_law.specs.Requests.{goes_alone, is_asked_once}
 use Rattle.pp_law.specs.Stages.{reply_of}
 use Rattle.pp_law.specs.State.{State, Term, Awaiting, Client, Exchange, Instance, Reply, Stage, Undecided, Waiting, Passing, Answering}
 use Rattle.pp_law.specs.Table.{instance}
@@ -89,6 +91,18 @@ in_line : (s : State) (e : Exchange) (n : ℕ) → Stands e n s.conns ⊎ IsIn e
 in_line s e n (inl w) = record { place = w.0; there = w.1; number = w.2; here = w.3 }
 in_line s e n (inr none) = absurd none
 
+-- one that stands in a line of one is that
+one_line : (n : ℕ) (line : List ℕ) → length line ≤ 1 → IsIn n line → line ≡ n ∷ []
+one_line n [] short i = absurd i
+one_line n (m ∷ []) short (inl eq) = ap (λ k. k ∷ []) (sym eq)
+one_line n (m ∷ []) short (inr i) = absurd i
+one_line n (m ∷ k ∷ line) short i = absurd (omega arith)
+
+-- one that is asked once goes alone
+alone_with : (e : Exchange) → (e.body_left ≡ 0) ⊎ (is_asked_once e.head ≡ true) → (e.body_left == 0) ≡ false → goes_alone e.head ≡ true
+alone_with e (inl none) left = let both : true ≡ false = sym (ap (λ n. n == 0) none) ∙ left in absurd (cc both)
+alone_with e (inr once) left = ap (λ b. b || binds_connection e.head.fields) once
+
 pub sound_turns : TurnsAreSound
 sound_turns terms s log obeys = record {
   numbers = record {
@@ -121,6 +135,9 @@ sound_turns terms s log obeys = record {
   closed = k.lines.closed;
   placed = f.placed;
   lined = λ e n going i is. in_line s e n (k.lined going e n i is);
+  by_itself = λ k e i j at is. one_line e.number k.line (t.lined.alone k e i j at is) at;
+  pipelines = t.lined.few;
+  bodies = λ e i left. alone_with e (t.once e i) left;
   once = asks_once s f.asks.rise t;
   sources = has_source s t;
   alone = asks_nothing s f.callers.rise t;

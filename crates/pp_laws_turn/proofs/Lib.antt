@@ -1,5 +1,8 @@
 pub mod View
 pub mod Cases
+pub mod Bodies
+pub mod Counts
+pub mod Lined
 pub mod Same
 pub mod Rows
 pub mod Exchanges
@@ -11,7 +14,6 @@ pub mod Pieces
 pub mod Steps
 pub mod Kept
 pub mod Happenings
-pub mod Counts
 pub mod Lifts
 pub mod Laws
 pub mod Amid

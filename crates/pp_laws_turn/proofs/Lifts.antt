@@ -131,8 +131,11 @@ log_sound terms log lawful = (log-good terms log lawful).sound
 turn_steps : Steps (Holds Turn)
 turn_steps terms front h one turn = after-turn (state_after terms front) h (log_sound terms front (front_from (start terms) front (h ∷ []) one.lawful)) one.permitted turn
 
+pub turn_at : (terms : List Term) (log : Log) → Lawful terms log → Holds Turn (state_after terms log)
+turn_at terms log lawful = along (Holds Turn) start-turn turn_steps terms log [] (whole terms log lawful)
+
 pub turn_on : (terms : List Term) (s : State) (log : Log) → Obeys terms s log → Holds Turn s
-turn_on terms s log obeys = obeying (Holds Turn) next-turn terms s log obeys (along (Holds Turn) start-turn turn_steps terms log [] (whole terms log obeys.lawful))
+turn_on terms s log obeys = obeying (Holds Turn) next-turn terms s log obeys (turn_at terms log obeys.lawful)
 
 pub sound_on : (terms : List Term) (s : State) (log : Log) → Obeys terms s log → Sound from_now s
 sound_on terms s log obeys = (obeys_good obeys).sound

@@ -1,7 +1,8 @@
 -- The ends of responses and of connections keep what is kept by each change.
-use Rattle.std.proofs.Common.{◌≡◌, refl, ℕ, Bool, true, false, ◌&&◌, inl, inr, le_refl, length, List, Option, Some, None}
+use Rattle.std.proofs.Common.{◌≡◌, refl, ℕ, Bool, true, false, not, ◌&&◌, ◌||◌, le_refl, length, List, Option, Some, None}
 use Rattle.pp_head.specs.Response.{Response}
 use Rattle.pp_pass.specs.Pipe.{finished}
+use Rattle.pp_reply.specs.Keeping.{is_old}
 use Rattle.pp_law.specs.Connections.{conn, on_conn, front_of_line, close_conn, end_exchange, lose_attempt}
 use Rattle.pp_law.specs.Passing.{pour}
 use Rattle.pp_law.specs.Responses.{skipping, skip_body, rested, close_this, may_go_on, finish, bad_response, bad_head, is_whole_at_end, finish_first, ended}
@@ -14,14 +15,18 @@ use Rattle.pp_laws_turn.proofs.Exchanges.{end_exchange-keeps, fail-keeps, lose_a
 
 pub skip_body-keeps : {P : View → Type 0} (w : Walk P) (e : Exchange) (s : State) → Holds P s → Holds P (skip_body e s)
 unfolding skip_body
-skip_body-keeps w e s h = by_aim_of e.aim (on_client_of-keeps w e skipping s (λ c. same_parts _ c refl refl refl refl) h) h (λ v from to. h)
+skip_body-keeps w e s h = by_aim_of e.aim (on_client_of-keeps w e skipping s (λ c. same_parts _ c refl refl refl refl (λ is. refl)) h) h (λ v from to. h)
 
 pub close_this-keeps : {P : View → Type 0} (w : Walk P) (n : ℕ) (s : State) → Holds P s → Holds P (close_this n s)
 unfolding close_this
 close_this-keeps w n s h = each_of (conn s n) h (λ k. close_conn-keeps w true k s h)
 
 pub lesser_rested : (head : Response) (k : Conn) → Lesser (rested head k) k
-lesser_rested head k = record { number = refl; within = λ n i. i }
+lesser_rested head k = record { number = refl; within = λ n i. i; shorter = le_refl (length k.line); pipelines = λ is. neither k.may_pipeline (not (is_old head.minor)) is }
+  where
+    neither : (a b : Bool) → (a || b) ≡ false → a ≡ false
+    neither true b is = absurd (cc is)
+    neither false b is = refl
 
 -- the exchange is over, and its answer is
 pub done-keeps : {P : View → Type 0} (w : Walk P) (k : Conn) (e : Exchange) (a : Answer) (s : State) → Holds P s

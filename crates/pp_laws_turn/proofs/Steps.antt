@@ -7,14 +7,15 @@ use Rattle.pp_law.specs.Stages.{bound_of}
 use Rattle.pp_law.specs.State.{State, Bound, Joining, Client, Conn, Exchange}
 use Rattle.pp_law.specs.Turn.{marked_client, marked_conn, touch, is_leap, marks_anew, is_idle_conn, owes_answer, end_patience, close_idle_conn, waits_for_exchange, woken_client, renew_marks, tick_to, tick, rested_client, rested_conn}
 use Rattle.pp_law.specs.Unseen.{wanted_to, rested_exchange, is_unseen, drop_on, drop_unseen}
-use Rattle.pp_laws_bounds.proofs.Places.{placing-any}
 use Rattle.pp_laws_turn.proofs.View.{View, Walk, Places, Holds, holds, facts_of, view, SameAsk, SameClient}
 use Rattle.pp_laws_turn.proofs.Cases.{each_of, when}
+use Rattle.pp_laws_turn.proofs.Lined.{AreLined, on_takes, placing_puts}
 use Rattle.pp_laws_turn.proofs.Closings.{close_conn-keeps}
 use Rattle.pp_laws_turn.proofs.Exchanges.{each_conn-keeps, end_exchange-keeps, fail-keeps, on_client-keeps, on_conn-keeps, client_same, same_ask, same_conn, same_parts}
 
-pub placing-keeps : {P : View → Type 0} (p : Places P) (s : State) → Holds P s → Holds P (placing s).state
-placing-keeps {P} p s h = placing-any (Holds P) (λ n k t ht. holds (p n k t (facts_of ht))) s h
+-- where lines are as they have to be
+pub placing-keeps : {P : View → Type 0} (p : Places P) → ((t : State) → Holds P t → AreLined t.conns t.exchanges t.next_exchange) → (s : State) → Holds P s → Holds P (placing s).state
+placing-keeps {P} p lined s h = placing_puts (Holds P) (λ n k e t found is ht. holds (p n k t (on_takes t n k e (lined t ht) found is) (facts_of ht))) s h
 
 drop_on-keeps : {P : View → Type 0} (w : Walk P) (k : Conn) (s : State) → Holds P s → Holds P (drop_on k s)
 unfolding drop_on
@@ -30,14 +31,14 @@ drop_unseen-keeps w s h = each_conn-keeps w drop_on (drop_on-keeps w) _ s h
 
 pub touch-keeps : {P : View → Type 0} (w : Walk P) (n : ℕ) (s : State) → Holds P s → Holds P (touch n s)
 unfolding touch
-touch-keeps w n s h = on_conn-keeps w n (marked_conn s.clock) _ (λ k. same_conn _ k refl refl) (on_client-keeps w n (marked_client s.clock) s (λ c. same_parts _ c refl refl refl refl) h)
+touch-keeps w n s h = on_conn-keeps w n (marked_conn s.clock) _ (λ k. same_conn _ k refl refl refl) (on_client-keeps w n (marked_client s.clock) s (λ c. same_parts _ c refl refl refl refl (λ is. is)) h)
 
 marks_anew-keeps : {P : View → Type 0} (w : Walk P) (now : ℕ) (s : State) → Holds P s → Holds P (marks_anew now s)
 unfolding marks_anew
 marks_anew-keeps {P} w now s h = when (is_leap now s) marked h
   where
     marked : Holds P (record s { has_ticked = true; clients = map (marked_client now) s.clients; conns = map (marked_conn now) s.conns })
-    marked = holds (w.conns (marked_conn now) (λ k. same_conn _ k refl refl) (record (view s) { clients = map (marked_client now) s.clients }) (w.clients (marked_client now) (λ c. same_parts _ c refl refl refl refl) (view s) (facts_of h)))
+    marked = holds (w.conns (marked_conn now) (λ k. same_conn _ k refl refl refl) (record (view s) { clients = map (marked_client now) s.clients }) (w.clients (marked_client now) (λ c. same_parts _ c refl refl refl refl (λ is. is)) (view s) (facts_of h)))
 
 end_patience-keeps : {P : View → Type 0} (w : Walk P) (k : Conn) (s : State) → Holds P s → Holds P (end_patience k s)
 unfolding end_patience
@@ -55,7 +56,7 @@ woken-same : (now : ℕ) (s : State) (c : Client) → SameClient (woken_client n
 woken-same now s c = by (waits_for_exchange s c && not (has_to_say s c))
   where
     by : (t : Bool) → SameClient (elim t as (λ d. Client) [ true ↦ marked_client now c | false ↦ c ]) c
-    by true = same_parts _ c refl refl refl refl
+    by true = same_parts _ c refl refl refl refl (λ is. is)
     by false = client_same c
 
 renew_marks-keeps : {P : View → Type 0} (w : Walk P) (now : ℕ) (s : State) → Holds P s → Holds P (renew_marks now s)
@@ -79,12 +80,12 @@ rested_ask : (s : State) (e : Exchange) → SameAsk (rested_exchange s e) e
 rested_ask s e = by (bound_of e)
   where
     by : (o : Option Bound) → SameAsk (elim o as (λ c. Exchange) [ None ↦ e | Some b ↦ record e { body = Joining (wanted_to s b) } ]) e
-    by None = same_ask e e refl refl refl refl refl refl
-    by (Some b) = same_ask _ e refl refl refl refl refl refl
+    by None = same_ask e e refl refl refl refl refl refl (λ is. is)
+    by (Some b) = same_ask _ e refl refl refl refl refl refl (λ is. is)
 
 -- clients, connections and exchanges as they rest
 pub rested-keeps : {P : View → Type 0} (w : Walk P) (wants : Wants) (s : State) → Holds P s → P (record (view s) { clients = map (rested_client s) s.clients; conns = map (rested_conn s wants) s.conns; exchanges = map (rested_exchange s) s.exchanges })
 rested-keeps w wants s h =
     w.asks (rested_exchange s) (record (view s) { clients = map (rested_client s) s.clients; conns = map (rested_conn s wants) s.conns }) (λ e i. rested_ask s e)
-    (w.conns (rested_conn s wants) (λ k. same_conn _ k refl refl) (record (view s) { clients = map (rested_client s) s.clients })
-    (w.clients (rested_client s) (λ c. same_parts _ c refl refl refl refl) (view s) (facts_of h)))
+    (w.conns (rested_conn s wants) (λ k. same_conn _ k refl refl refl) (record (view s) { clients = map (rested_client s) s.clients })
+    (w.clients (rested_client s) (λ c. same_parts _ c refl refl refl refl (λ is. is)) (view s) (facts_of h)))

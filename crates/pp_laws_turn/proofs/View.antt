@@ -1,10 +1,10 @@
 -- What the laws of a turn speak of, and which changes of it have to keep such a law, so that each step of the law keeps it.
-use Rattle.std.proofs.Common.{◌≡◌, ◌⊎◌, ℕ, ◌<◌, ◌≤◌, Bool, true, false, List, map, filter, Some, None}
+use Rattle.std.proofs.Common.{◌≡◌, ◌⊎◌, ℕ, ◌<◌, ◌≤◌, Bool, true, false, List, [], ◌∷◌, ◌++◌, map, filter, length, Some, None}
 use Rattle.pp_law.specs.Closing.{exchanges_of, is_of, leave_one, left_alone}
 use Rattle.pp_law.specs.Connections.{each_exchange, is_client, on_client, put_on}
 use Rattle.pp_law.specs.Deciding.{begin_exchange}
 use Rattle.pp_law.specs.Lists.{change}
-use Rattle.pp_law.specs.Requests.{Parsed, IsRequest}
+use Rattle.pp_law.specs.Requests.{Parsed, IsRequest, goes_alone, is_asked_once}
 use Rattle.pp_law.specs.State.{State, Client, Conn, Exchange, Instance, Owed, Phase, Keeping, Deciding, Following, Connecting, DecidingAgain}
 use Rattle.pp_laws.specs.Runs.{IsIn}
 use Rattle.pp_laws.proofs.Sound.{instance_id, source_in}
@@ -39,24 +39,31 @@ facts_of (holds facts) = facts
 
 -- ---- clients
 
+-- a request of which a body is left is asked once
+abbrev pub IsBodied : Client → Type 0
+IsBodied c = (r : Parsed) → c.front ≡ IsRequest r → (c.body_left ≡ 0) ⊎ (is_asked_once r.head ≡ true)
+
 -- it goes on as it did, at the same request, and follows nothing else
 pub record SameClient (d c : Client) : Type 0 where
   pub number : d.number ≡ c.number
   pub closing : d.is_closing ≡ c.is_closing
   pub source : (id : ℕ) → source_in d.stage ≡ Some id → source_in c.stage ≡ Some id
   pub request : (r : Parsed) → c.front ≡ IsRequest r → d.front ≡ IsRequest r
+  pub body : IsBodied c → IsBodied d
 
 -- its request leaves its exchange, and it follows nothing
 pub record MovesOn (d c : Client) : Type 0 where
   pub number : d.number ≡ c.number
   pub closing : d.is_closing ≡ c.is_closing
   pub source : source_in d.stage ≡ None
+  pub body : IsBodied d
 
 -- it goes on at the same request
 pub record SameRequest (d c : Client) : Type 0 where
   pub number : d.number ≡ c.number
   pub closing : d.is_closing ≡ c.is_closing
   pub request : (r : Parsed) → c.front ≡ IsRequest r → d.front ≡ IsRequest r
+  pub body : IsBodied c → IsBodied d
 
 -- ---- exchanges
 
@@ -67,6 +74,7 @@ pub record SameAsk (d e : Exchange) : Type 0 where
   pub key : d.key ≡ e.key
   pub head : d.head ≡ e.head
   pub asked : d.place ≡ None → (d.asked ≡ 0) ⊎ ((e.place ≡ None) × (d.asked ≡ e.asked))
+  pub body : e.body_left ≡ 0 → d.body_left ≡ 0
 
 -- the request for which it was begun
 pub record IsAt (e : Exchange) (c : Client) : Type 0 where
@@ -82,20 +90,24 @@ pub record Goes (e : Exchange) (n : ℕ) (clients : List Client) : Type 0 where
   pub number : client.number ≡ n
   pub at : IsAt e client
 
--- it has no place, nothing of it was asked, and its client stands at its request
-pub record IsNew (e : Exchange) (clients : List Client) : Type 0 where
+-- its number is the next, it has no place, nothing of it was asked, and its client stands at its request
+pub record IsNew (e : Exchange) (clients : List Client) (next : ℕ) : Type 0 where
+  pub number : e.number ≡ next
   pub place : e.place ≡ None
   pub asked : e.asked ≡ 0
+  pub body : (e.body_left ≡ 0) ⊎ (is_asked_once e.head ≡ true)
   pub asker : ℕ
   pub is : e.asker ≡ Some asker
   pub goes : Goes e asker clients
 
 -- ---- connections
 
--- its line is no longer than it was, and has no other exchange
+-- its line is no longer than it was, and has no other exchange; it may have several where it might
 pub record Lesser (j k : Conn) : Type 0 where
   pub number : j.number ≡ k.number
   pub within : (n : ℕ) → IsIn n j.line → IsIn n k.line
+  pub shorter : length j.line ≤ length k.line
+  pub pipelines : j.may_pipeline ≡ false → k.may_pipeline ≡ false
 
 -- ---- rows
 
@@ -143,15 +155,26 @@ pub record Walk (P : View → Type 0) : Type 0 where
   pub conns : (f : Conn → Conn) → ((k : Conn) → Lesser (f k) k) → (v : View) → P v → P (record v { conns = map f v.conns })
   pub rows : KeepsRows P
   pub leaves : (n : ℕ) (f : Client → Client) → ((c : Client) → MovesOn (f c) c) → (v : View) → P v → P (record v { clients = change (is_client n) f v.clients; exchanges = change (is_of n) left_alone v.exchanges })
-  pub closes : (n : ℕ) (f : Client → Client) → ((c : Client) → (f c).number ≡ c.number) → ((c : Client) → (f c).is_closing ≡ true) → (s : State) → P (view s) → P (view (each_exchange leave_one (exchanges_of n s) (on_client n f s)))
+  pub closes : (n : ℕ) (f : Client → Client) → ((c : Client) → (f c).number ≡ c.number) → ((c : Client) → (f c).is_closing ≡ true) → ((c : Client) → IsBodied c → IsBodied (f c)) → (s : State) → P (view s) → P (view (each_exchange leave_one (exchanges_of n s) (on_client n f s)))
 
 -- an exchange begins, and a client follows a row, in a phase in which nothing new leaves
 abbrev pub Begins : (View → Type 0) → Type 0
-Begins P = (e : Exchange) (s : State) → IsNew e s.clients → P (view s) → P (view (begin_exchange e s))
+Begins P = (e : Exchange) (s : State) → IsNew e s.clients s.next_exchange → P (view s) → P (view (begin_exchange e s))
 
 abbrev pub Follows : (View → Type 0) → Type 0
 Follows P = (n id : ℕ) (f : Client → Client) → ((c : Client) → SameRequest (f c) c) → ((c : Client) (k : ℕ) → source_in (f c).stage ≡ Some k → k ≡ id) → (v : View) → is_late v.phase ≡ true → IsIn id (map instance_id v.instances) → P v → P (record v { clients = change (is_client n) f v.clients })
 
--- an exchange gets a place
+-- ---- places
+
+-- the line is empty, or may have several, none of which goes alone
+abbrev pub TakesOne : ℕ → Conn → List Exchange → Type 0
+TakesOne n k exchanges = (k.line ≡ []) ⊎ ((k.may_pipeline ≡ true) × ((e : Exchange) → IsIn e exchanges → IsIn e.number (k.line ++ n ∷ []) → goes_alone e.head ≡ true → ⊥))
+
+-- it was begun, and the connection of that number takes one more
+pub record Takes (n k : ℕ) (conns : List Conn) (exchanges : List Exchange) (next : ℕ) : Type 0 where
+  pub given : n < next
+  pub each : (j : Conn) → IsIn j conns → j.number ≡ k → TakesOne n j exchanges
+
+-- an exchange gets a place on a connection that takes it
 abbrev pub Places : (View → Type 0) → Type 0
-Places P = (n k : ℕ) (s : State) → P (view s) → P (view (put_on n k s))
+Places P = (n k : ℕ) (s : State) → Takes n k s.conns s.exchanges s.next_exchange → P (view s) → P (view (put_on n k s))

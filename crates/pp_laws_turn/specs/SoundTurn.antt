@@ -1,11 +1,11 @@
--- What holds in each state that a lawful log may go on as from, also amid a turn, where phases are done that no happening shows. All of it
--- is ours.
-use Rattle.std.specs.Prelude.{◌≡◌, ℕ, ◌≤◌, ◌==◌, true, false, [], count_by, find, List, Some, None}
+-- What holds in each state that a lawful log may go on as from, also amid a turn, where phases are done that no happening shows. What is
+-- not marked is ours.
+use Rattle.std.specs.Prelude.{◌≡◌, ℕ, ◌≤◌, ◌==◌, true, false, [], ◌∷◌, count_by, find, length, List, Some, None}
 use Rattle.pp_law.specs.Closing.{is_of}
 use Rattle.pp_law.specs.Connections.{client, is_client, is_conn, is_exchange}
 use Rattle.pp_law.specs.Lists.{Bytes}
 use Rattle.pp_law.specs.Phases.{is_free}
-use Rattle.pp_law.specs.Requests.{Parsed, IsRequest}
+use Rattle.pp_law.specs.Requests.{Parsed, IsRequest, goes_alone}
 use Rattle.pp_law.specs.Stages.{reply_of}
 use Rattle.pp_law.specs.State.{State, Term, Client, Conn, Exchange, Instance, Reply, Awaiting, Handling, Free}
 use Rattle.pp_law.specs.Table.{instance, is_instance, is_row_of}
@@ -88,6 +88,12 @@ pub record IsSoundTurn (s : State) : Type 0 where
   -- an exchange stands in the line of its place alone, and until Stop in that
   pub placed : (k : Conn) (e : Exchange) → IsIn k s.conns → IsIn e s.exchanges → IsIn e.number k.line → e.place ≡ Some k.number
   pub lined : (e : Exchange) (n : ℕ) → s.is_stopped ≡ false → IsIn e s.exchanges → e.place ≡ Some n → IsInLine s e n
+  -- one that goes alone has no other in its line (RFC 2616, section 8.1.2.2)
+  pub by_itself : (k : Conn) (e : Exchange) → IsIn k s.conns → IsIn e s.exchanges → IsIn e.number k.line → goes_alone e.head ≡ true → k.line ≡ e.number ∷ []
+  -- and so goes one that has a body, as long as any of it is left to be asked
+  pub bodies : (e : Exchange) → IsIn e s.exchanges → (e.body_left == 0) ≡ false → goes_alone e.head ≡ true
+  -- a line has several only behind a response that shows that it may
+  pub pipelines : (k : Conn) → IsIn k s.conns → k.may_pipeline ≡ false → length k.line ≤ 1
   -- a request has one exchange at most
   pub once : (n : ℕ) → count_by (is_of n) s.exchanges ≤ 1
   -- what a client is answered from is there, as long as it goes on
