@@ -12,6 +12,8 @@ pub mod Settled
 pub mod Steps
 pub mod Obeying
 pub mod Calls
+pub mod Moving
+pub mod Adding
 pub mod Laws
 pub mod Happenings
 pub mod TurnHappenings
