@@ -22,7 +22,7 @@ use Rattle.pp_law.specs.State.{State, Instance as Known, Chunk as Front, Evictin
 use Rattle.pp_law.specs.Table.{instance, pins as pins_by}
 use Rattle.pp_objects.specs.Instances.{Instance, in_slot, is_life, is_there}
 use Rattle.pp_objects.specs.declared.id.ObjectId.{ObjectId}
-use Rattle.pp_obeys.specs.Moves.{Moves}
+use Rattle.pp_obeys.specs.Moves.{Moves, MovesAll}
 use Rattle.pp_obeys.proofs.Calls.{moves_to}
 use Rattle.pp_obeys.proofs.Silent.{both_hold}
 use Rattle.pp_obeys.proofs.TurnHappenings.{goes_evicted}
@@ -33,7 +33,7 @@ use Rattle.pp_valid.specs.declared.version.Version.{Version}
 use Rattle.pp_world.specs.Log.{Log}
 use Rattle.pp_world.specs.declared.happening.Happening.TheVariants.{Noted}
 use Rattle.pp_world.specs.declared.note.Remark.TheVariants.{Evicted}
-use Rattle.pp_leaves_law.specs.Notes.{MovesAll}
+use Rattle.pp_leaves_law.specs.Leaves.{evicted_on}
 
 -- ---- the chunk that goes is there, so that there are fewer behind it
 
@@ -90,6 +90,18 @@ no_victim (suc k) places low cs few = by (next_victim places low cs) refl (λ at
 
 pub same_text : (xs ys : List ℕ) → xs ≡ ys → bytes_eq xs ys ≡ true
 same_text xs ys is = (bytes_eq-Decides xs ys).1 is
+
+-- ---- where they lead
+
+evicted_one : (s : State) (at : ℕ × ℕ) → due_victim s ≡ Some at → evicted s ≡ drop_chunk at.0 at.1 s
+unfolding evicted
+evicted_one s at due = ap (λ (o : Option (ℕ × ℕ)). elim o as (λ t. State) [ None ↦ s | Some place ↦ drop_chunk place.0 place.1 s ]) due
+
+-- nowhere, where none has to go
+pub evicted_none : (k : ℕ) (s : State) → due_victim s ≡ None → evicted_on k s ≡ s
+unfolding evicted
+evicted_none zero s none = refl
+evicted_none (suc k) s none = ap (evicted_on k) (ap (λ (o : Option (ℕ × ℕ)). elim o as (λ t. State) [ None ↦ s | Some place ↦ drop_chunk place.0 place.1 s ]) none) ∙ evicted_none k s none
 
 -- ---- what stands while they go
 
@@ -162,9 +174,8 @@ module _ (number : ℕ → ℕ) (m : Memory) (places : List (ℕ × ℕ)) (low :
 
   goes : (cs : List Chunk) (s : State) (at other : ℕ × ℕ) (i : Instance) (Q : State → Type 0) → IsGoing cs s at other → in_slot at.0 m.instances ≡ Some i → Q (drop_chunk other.0 other.1 s)
       → Moves Q (Noted (Evicted i.key i.version.tag i.version.length at.1)) s
-  unfolding evicted
   goes cs s at other i Q it here holds =
-      let is : evicted s ≡ drop_chunk other.0 other.1 s = ap (λ (o : Option (ℕ × ℕ)). elim o as (λ t. State) [ None ↦ s | Some place ↦ drop_chunk place.0 place.1 s ]) it.due in
+      let is : evicted s ≡ drop_chunk other.0 other.1 s = evicted_one s other it.due in
       moves_to refl (goes_evicted s i.key i.version.tag i.version.length at.1 it.going.none it.going.at (may_go cs s at other i it here)) (subst Q (sym is) holds)
 
   -- ---- all of them
@@ -172,8 +183,8 @@ module _ (number : ℕ → ℕ) (m : Memory) (places : List (ℕ × ℕ)) (low :
   abbrev going_of : ℕ → List Chunk → Option (ℕ × ℕ) → List (ℕ × ℕ)
   going_of k cs o = elim o as (λ t. List (ℕ × ℕ)) [ None ↦ [] | Some at ↦ at ∷ victims k places low (without at cs) ]
 
-  pub all_go : (Q : State → Type 0) (k : ℕ) (cs : List Chunk) (s : State) → Going cs s → ((t : State) → Going (without_all (victims k places low cs) cs) t → Q t) → MovesAll Q (evicted_notes m.instances (victims k places low cs)) s
-  all_go Q zero cs s going end = end s going
+  pub all_go : (Q : State → Type 0) (k : ℕ) (cs : List Chunk) (s : State) → Going cs s → (Going (without_all (victims k places low cs) cs) (evicted_on k s) → Q (evicted_on k s)) → MovesAll Q (evicted_notes m.instances (victims k places low cs)) s
+  all_go Q zero cs s going end = end going
   all_go Q (suc k) cs s going end = by (next_victim places low cs) (due_victim s) refl (both cs s going) end (λ at other. all_go Q k (without at cs) (drop_chunk other.0 other.1 s))
     where
       noted : (at other : ℕ × ℕ) (o : Option Instance) → in_slot at.0 m.instances ≡ o → IsGoing cs s at other → (hs : Log) → MovesAll Q hs (drop_chunk other.0 other.1 s)
@@ -181,15 +192,21 @@ module _ (number : ℕ → ℕ) (m : Memory) (places : List (ℕ × ℕ)) (low :
       noted at other None here it hs rest = absurd (let h : None ≡ Some other.0 = sym (ap (option_map (λ (j : Instance). number j.life)) here) ∙ it.same.0 in cc)
       noted at other (Some i) here it hs rest = goes cs s at other i (MovesAll Q hs) it here rest
 
-      by : (o v : Option (ℕ × ℕ)) → due_victim s ≡ v → AreBoth (IsSamePlace number (record m { chunks = cs })) o v → ((t : State) → Going (without_all (going_of k cs o) cs) t → Q t)
-          → ((at other : ℕ × ℕ) → Going (without at cs) (drop_chunk other.0 other.1 s) → ((t : State) → Going (without_all (victims k places low (without at cs)) (without at cs)) t → Q t)
+      by : (o v : Option (ℕ × ℕ)) → due_victim s ≡ v → AreBoth (IsSamePlace number (record m { chunks = cs })) o v → (Going (without_all (going_of k cs o) cs) (evicted_on k (evicted s)) → Q (evicted_on k (evicted s)))
+          → ((at other : ℕ × ℕ) → Going (without at cs) (drop_chunk other.0 other.1 s)
+          → (Going (without_all (victims k places low (without at cs)) (without at cs)) (evicted_on k (drop_chunk other.0 other.1 s)) → Q (evicted_on k (drop_chunk other.0 other.1 s)))
           → MovesAll Q (evicted_notes m.instances (victims k places low (without at cs))) (drop_chunk other.0 other.1 s))
           → MovesAll Q (evicted_notes m.instances (going_of k cs o)) s
-      by None v due same end rest = end s going
+      by None None due same end rest =
+          let is : evicted_on k (evicted s) ≡ s = evicted_none (suc k) s due in
+          subst Q is (end (subst (λ (t : State). Going cs t) (sym is) going))
+      by None (Some other) due same end rest = absurd same
       by (Some at) None due same end rest = absurd same
       by (Some at) (Some other) due same end rest =
+          let is : evicted s ≡ drop_chunk other.0 other.1 s = evicted_one s other due in
           noted at other (in_slot at.0 m.instances) refl (record { going = going; due = due; same = same }) (evicted_notes m.instances (victims k places low (without at cs)))
-          (rest at other (dropped cs s at other going same) end)
+          (rest at other (dropped cs s at other going same)
+          (λ there. subst (λ (t : State). Q (evicted_on k t)) is (end (subst (λ (t : State). Going (without_all (victims k places low (without at cs)) (without at cs)) (evicted_on k t)) (sym is) there))))
 
   -- none has to go where the program finds none
   pub none_due : (cs : List Chunk) (s : State) → Going cs s → next_victim places low cs ≡ None → due_victim s ≡ None

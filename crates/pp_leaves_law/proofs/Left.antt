@@ -8,7 +8,8 @@ use Rattle.pp_cache.specs.Memory.{Memory}
 use Rattle.pp_cache_law.proofs.Faces.{followed-faced, table-faced}
 use Rattle.pp_cache_law.specs.Pairs.{AreBoth}
 use Rattle.pp_cache_law.specs.Reads.{ArePinned}
-use Rattle.pp_cache_law.specs.Tables.{ShowsCache}
+use Rattle.pp_cache_law.proofs.PairLemmas.{lengths_same}
+use Rattle.pp_cache_law.specs.Tables.{ShowsCache, ShowsChunk}
 use Rattle.pp_flow_law.proofs.Framed.{frames as flow_frames}
 use Rattle.pp_flow_law.specs.Tables.{Leaving, ShowsFlow}
 use Rattle.pp_holes.specs.Places.{Chunk}
@@ -21,6 +22,7 @@ use Rattle.pp_law.specs.State.{State, Phase, Evicting}
 use Rattle.pp_law.specs.Table.{pins as pins_by}
 use Rattle.pp_objects.specs.Instances.{Instance, in_slot}
 use Rattle.pp_obeys.specs.Failures.{fails}
+use Rattle.pp_obeys.specs.Moves.{AreCalm, Leads, MovesAll}
 use Rattle.pp_obeys.proofs.Calls.{moves_to}
 use Rattle.pp_obeys.proofs.Silent.{both_hold}
 use Rattle.pp_obeys.proofs.TurnHappenings.{goes_forgotten_for_another}
@@ -44,10 +46,13 @@ use Rattle.pp_world.specs.Log.{Log}
 use Rattle.pp_world.specs.declared.happening.Happening.{Happening}
 use Rattle.pp_world.specs.declared.happening.Happening.TheVariants.{Noted}
 use Rattle.pp_world.specs.declared.note.Remark.TheVariants.{Evicted}
-use Rattle.pp_leaves_law.specs.Leaves.{AreLeaving, HaveLeft, LeavingsKeep}
-use Rattle.pp_leaves_law.specs.Notes.{AreCalm, MovesAll}
-use Rattle.pp_leaves_law.proofs.Evicted.{all_go, no_victim, none_due, same_text}
-use Rattle.pp_leaves_law.proofs.Kept.{keeps_all}
+use Rattle.pp_leaves_law.specs.Leaves.{AreLeaving, HaveLeft, LeavingsAreCalm, LeavingsLead, evicted_on, left_by}
+use Rattle.pp_leaves_law.proofs.Evicted.{all_go, evicted_none, no_victim, none_due, same_text}
+
+-- what holds behind them holds where they lead
+holds_there : (Q : State → Type 0) (hs : Log) (s t : State) → Leads hs s t → MovesAll Q hs s → Q t
+holds_there Q [] s t is holds = subst Q is holds
+holds_there Q (h ∷ hs) s t leads moves = holds_there Q hs _ t leads.holds moves.holds
 
 -- ---- in none of these notes the outside failed
 
@@ -66,7 +71,7 @@ calm_chunks : (is : List Instance) (places : List (ℕ × ℕ)) → AreCalm (evi
 calm_chunks is [] = refl
 calm_chunks is (at ∷ places) = calm_next is at (in_slot at.0 is) (evicted_notes is places) refl (calm_chunks is places)
 
-calm : (st : Steps) → AreCalm (leaving_notes st)
+pub calm : LeavingsAreCalm
 calm st =
     calm_both (forgotten_notes st.forgotten ++ forgotten_notes st.refused) (evicted_notes st.cache.instances (leaving_chunks st)) (calm_both (forgotten_notes st.forgotten) (forgotten_notes st.refused) (calm_keys st.forgotten) (calm_keys st.refused))
     (calm_chunks st.cache.instances (leaving_chunks st))
@@ -123,8 +128,10 @@ module _ (number : ℕ → ℕ) (name : Bytes) (l : Leaving) (peers : List Peer)
     pinned = noting.pinned;
   }
 
-  all_noted : (Q : State → Type 0) (hs : Log) (keys : List Bytes) (s : State) → Noting keys s → ((t : State) → Noting [] t → MovesAll Q hs t) → MovesAll Q (forgotten_notes keys ++ hs) s
-  all_noted Q hs [] s noting end = end s noting
+  all_noted : (Q : State → Type 0) (hs : Log) (keys : List Bytes) (s : State) → Noting keys s → (Noting [] (record s { forgotten = [] }) → MovesAll Q hs (record s { forgotten = [] })) → MovesAll Q (forgotten_notes keys ++ hs) s
+  all_noted Q hs [] s noting end =
+      let is : s ≡ record s { forgotten = [] } = ap (λ (keys : List Bytes). record s { forgotten = keys }) noting.forgotten in
+      subst (λ (t : State). MovesAll Q hs t) (sym is) (end (subst (λ (t : State). Noting [] t) is noting))
   all_noted Q hs (key ∷ keys) s noting end =
       let first : is_first key s.forgotten ≡ true = ap (is_first key) noting.forgotten ∙ same_text key key refl in
       moves_to refl (goes_forgotten_for_another s key noting.none noting.at first) (all_noted Q hs keys (record s { forgotten = drop 1 s.forgotten }) (noted_next key keys s noting) end)
@@ -184,12 +191,19 @@ module _ (number : ℕ → ℕ) (name : Bytes) (l : Leaving) (peers : List Peer)
     chunks_by : (b : Bool) → st.is_evicting ≡ b → leaving_chunks st ≡ (elim b as (λ c. List (ℕ × ℕ)) [ true ↦ all_victims (pins st) st.floor st.cache.chunks | false ↦ [] ])
     chunks_by b is_so = ap (λ (c : Bool). elim c as (λ d. List (ℕ × ℕ)) [ true ↦ all_victims (pins st) st.floor st.cache.chunks | false ↦ [] ]) is_so
 
-    all_evicted : (b : Bool) → st.is_evicting ≡ b → (s : State) → Noting [] s → MovesAll (HaveLeft number name l peers after) (evicted_notes st.cache.instances (leaving_chunks st)) s
-    all_evicted true is_so s noting =
+    -- the law has as many chunks
+    as_many : (s : State) → Noting [] s → length st.cache.chunks ≡ length s.chunks
+    as_many s noting = lengths_same (ShowsChunk number st.cache) st.cache.chunks s.chunks noting.shows.shows.table.table.chunks
+
+    abbrev evicted_by : State → State
+    evicted_by s = evicted_on (length st.cache.chunks) s
+
+    all_evicted : (Q : State → Type 0) (b : Bool) → st.is_evicting ≡ b → (s : State) → Noting [] s → (HaveLeft number name l peers after (evicted_by s) → Q (evicted_by s)) → MovesAll Q (evicted_notes st.cache.instances (leaving_chunks st)) s
+    all_evicted Q true is_so s noting end =
         let chunks : leaving_chunks st ≡ all_victims (pins st) st.floor st.cache.chunks = chunks_by true is_so in
         let final : left ≡ without_all (all_victims (pins st) st.floor st.cache.chunks) st.cache.chunks = ap (λ (places : List (ℕ × ℕ)). without_all places st.cache.chunks) chunks in
-        subst (λ (places : List (ℕ × ℕ)). MovesAll (HaveLeft number name l peers after) (evicted_notes st.cache.instances places) s) (sym chunks)
-        (all_go number st.cache (pins st) st.floor (Others number name l peers st) others_stay (HaveLeft number name l peers after) (length st.cache.chunks) st.cache.chunks s
+        subst (λ (places : List (ℕ × ℕ)). MovesAll Q (evicted_notes st.cache.instances places) s) (sym chunks)
+        (all_go number st.cache (pins st) st.floor (Others number name l peers st) others_stay Q (length st.cache.chunks) st.cache.chunks s
         (record {
           none = noting.none;
           at = noting.at;
@@ -200,18 +214,21 @@ module _ (number : ℕ → ℕ) (name : Bytes) (l : Leaving) (peers : List Peer)
           cache = noting.shows.shows.table;
           rest = others_of s noting;
         })
-        (λ t going.
-        have_left t going.none going.at going.nobody
-        (none_due number st.cache (pins st) st.floor (Others number name l peers st) others_stay (without_all (all_victims (pins st) st.floor st.cache.chunks) st.cache.chunks) t going
+        (λ going.
+        end
+        (have_left (evicted_by s) going.none going.at going.nobody
+        (none_due number st.cache (pins st) st.floor (Others number name l peers st) others_stay (without_all (all_victims (pins st) st.floor st.cache.chunks) st.cache.chunks) (evicted_by s) going
         (no_victim (length st.cache.chunks) (pins st) st.floor st.cache.chunks (omega arith)))
-        (subst (λ (cs : List Chunk). ShowsCache number (record st.cache { chunks = cs }) t) (sym final) going.cache) going.rest))
-    all_evicted false is_so s noting =
+        (subst (λ (cs : List Chunk). ShowsCache number (record st.cache { chunks = cs }) (evicted_by s)) (sym final) going.cache) going.rest)))
+    all_evicted Q false is_so s noting end =
         let chunks : leaving_chunks st ≡ [] = chunks_by false is_so in
         let final : left ≡ st.cache.chunks = ap (λ (places : List (ℕ × ℕ)). without_all places st.cache.chunks) chunks in
         let due : due_victim s ≡ None = ap (λ (b : Bool). elim b as (λ c. Option (ℕ × ℕ)) [ true ↦ victim (pins_by s) s | false ↦ None ]) (sym noting.evicting ∙ is_so) in
-        subst (λ (places : List (ℕ × ℕ)). MovesAll (HaveLeft number name l peers after) (evicted_notes st.cache.instances places) s) (sym chunks)
-        (have_left s noting.none noting.at (ap (λ (ks : List Bytes). is_empty ks) noting.forgotten) due
-        (subst (λ (cs : List Chunk). ShowsCache number (record st.cache { chunks = cs }) s) (sym final) noting.shows.shows.table) (others_of s noting))
+        let stays : evicted_by s ≡ s = evicted_none (length st.cache.chunks) s due in
+        let here : HaveLeft number name l peers after s = have_left s noting.none noting.at (ap (λ (ks : List Bytes). is_empty ks) noting.forgotten) due
+        (subst (λ (cs : List Chunk). ShowsCache number (record st.cache { chunks = cs }) s) (sym final) noting.shows.shows.table) (others_of s noting) in
+        subst (λ (places : List (ℕ × ℕ)). MovesAll Q (evicted_notes st.cache.instances places) s) (sym chunks)
+        (subst Q stays (end (subst (λ (t : State). HaveLeft number name l peers after t) (sym stays) here)))
 
     -- memory was refused for no row
     notes_are : st.refused ≡ [] → leaving_notes st ≡ forgotten_notes st.forgotten ++ evicted_notes st.cache.instances (leaving_chunks st)
@@ -219,13 +236,19 @@ module _ (number : ℕ → ℕ) (name : Bytes) (l : Leaving) (peers : List Peer)
         ap (λ (keys : List Bytes). (forgotten_notes st.forgotten ++ forgotten_notes keys) ++ evicted_notes st.cache.instances (leaving_chunks st)) none
         ∙ ap (λ (hs : Log). hs ++ evicted_notes st.cache.instances (leaving_chunks st)) (append-nil (forgotten_notes st.forgotten))
 
-    pub all_leave : (s : State) → AreLeaving number name l peers st s → MovesAll (HaveLeft number name l peers after) (leaving_notes st) s
-    all_leave s leaving =
-        subst (λ (hs : Log). MovesAll (HaveLeft number name l peers after) hs s) (sym (notes_are leaving.shows.refused))
-        (all_noted (HaveLeft number name l peers after) (evicted_notes st.cache.instances (leaving_chunks st)) st.forgotten s
+    all_leave : (Q : State → Type 0) (s : State) → AreLeaving number name l peers st s → (HaveLeft number name l peers after (left_by s) → Q (left_by s)) → MovesAll Q (leaving_notes st) s
+    all_leave Q s leaving end =
+        subst (λ (hs : Log). MovesAll Q hs s) (sym (notes_are leaving.shows.refused))
+        (all_noted Q (evicted_notes st.cache.instances (leaving_chunks st)) st.forgotten s
         (record { none = leaving.none; at = leaving.at; shows = leaving.shows; forgotten = sym leaving.forgotten; evicting = leaving.evicting; floor_is = leaving.floor_is; pinned = leaving.pinned })
-        (all_evicted st.is_evicting refl))
+        (λ noting.
+        let many : evicted_by (record s { forgotten = [] }) ≡ left_by s = ap (λ (n : ℕ). evicted_on n (record s { forgotten = [] })) (as_many (record s { forgotten = [] }) noting) in
+        all_evicted Q st.is_evicting refl (record s { forgotten = [] }) noting (λ left_all. subst Q (sym many) (end (subst (λ (t : State). HaveLeft number name l peers after t) many left_all)))))
 
-pub leavings : LeavingsKeep
-leavings number name l peers old new before now st after call less is =
-    keeps_all before now (AreLeaving number name l peers st) (HaveLeft number name l peers after) (leaving_notes st) call less (calm st) (all_leave number name l peers st after is)
+    pub all_lead : (s : State) → AreLeaving number name l peers st s → Leads (leaving_notes st) s (left_by s) × HaveLeft number name l peers after (left_by s)
+    all_lead s leaving =
+        let lead : Leads (leaving_notes st) s (left_by s) = all_leave (λ t. t ≡ left_by s) s leaving (λ left_all. refl) in
+        (lead, holds_there (HaveLeft number name l peers after) (leaving_notes st) s (left_by s) lead (all_leave (HaveLeft number name l peers after) s leaving (λ left_all. left_all)))
+
+pub leavings : LeavingsLead
+leavings number name l peers st after s is leaving = all_lead number name l peers st after is s leaving

@@ -1,4 +1,3 @@
-pub mod Kept
 pub mod Pins
 pub mod Left
 pub mod Evicted

@@ -2,12 +2,12 @@
 //!
 //! Where the state of the program shows that of the law (`pp_steps_law`), the rows that exchanges are bound to and the chunks in which
 //! a next byte lies are the same in both (`specs/Pinned.antt`). From it follows that the notes of rows that left for others, and of
-//! chunks that go down to the low mark, are permitted one behind the other, that the state behind them shows the law's, and that no
-//! more has to go.
+//! chunks that go down to the low mark, are permitted one behind the other, where they lead, that the state there is shown by the
+//! program's, and that no more has to go.
 //!
-//! To the layer above: each is the clause of a function that does nothing, in the words of `pp_obeys`: `Keeps` is the contract of the
-//! call that notes them. Nothing is said here of a turn in which memory was refused for a row. The words of the program stand in
-//! `pp_steps`, which says of each function which it computes.
+//! To the layer above: each is the clause of a function that does nothing, in the words of `pp_obeys`: `Leads` names the state that
+//! they lead to. Nothing is said here of a turn in which memory was refused for a row. The words of the program stand in `pp_steps`,
+//! which says of each function which it computes.
 //!
 //! Takes no memory, and does nothing when the program runs.
 #![tactic(auto)]
@@ -15,5 +15,5 @@
 mod leaving; // rows and chunks that leave memory
 mod pinning; // what may not leave it
 
-pub use leaving::{notes_keep_the_law, what_leaves_is_permitted};
+pub use leaving::what_leaves_is_permitted;
 pub use pinning::pins_are_the_laws;
