@@ -119,7 +119,8 @@ apart_walk = record {
   conns = λ f lesser v h. conns_apart f (λ k. (lesser k).number) v h;
   rows = λ xs next v from h. h;
   leaves = λ n f moves v h. clients_apart (changed_at (is_client n) f) (number_at (is_client n) f (λ c. (moves c).number)) v h;
-  closes = λ n f number closing body s h. closed_apart n f number closing s h;
+  closes = λ n f number closing body brought s h. closed_apart n f number closing s h;
+  tells = λ test b v there h. clients_apart (changed_at test (λ c. record c { brought = b })) (number_at test (λ c. record c { brought = b }) (λ c. refl)) v h;
 }
 
 apart_begins : Begins Apart

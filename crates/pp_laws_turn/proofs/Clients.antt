@@ -54,7 +54,7 @@ leave-keeps w test s h = holds (w.over (λ e. not (is_over e)) (view (forsake te
 
 pub close_client-keeps : {P : View → Type 0} (w : Walk P) (n : ℕ) (is_cut : Bool) (s : State) → Holds P s → Holds P (close_client n is_cut s)
 unfolding close_client
-close_client-keeps w n is_cut s h = swept-keeps w.rows _ (holds (w.closes n (λ c. record c { is_closing = true; is_cut = c.is_cut || is_cut }) (λ c. refl) (λ c. refl) (λ c b. b) s (facts_of h)))
+close_client-keeps w n is_cut s h = swept-keeps w.rows _ (holds (w.closes n (λ c. record c { is_closing = true; is_cut = c.is_cut || is_cut }) (λ c. refl) (λ c. refl) (λ c b. b) (λ c. refl) s (facts_of h)))
 
 -- ---- decisions
 
@@ -115,7 +115,7 @@ unfolding follow_row follow_with on_client
 follow_row-keeps w f c d key s late h =
     each_so (row s key) (λ none. h)
     (λ x found. swept-keeps w.rows _ (leave-keeps w (λ e. is_of c.number e && not (serves x (reply_by d (Some x.id)) e)) _
-    (holds (f c.number x.id (answering_with (reply_by d (Some x.id))) (λ y. record { number = refl; closing = refl; request = λ r is. is; body = λ b. b }) (λ y k is. cc) (view s) late
+    (holds (f c.number x.id (answering_with (reply_by d (Some x.id))) (λ y. record { number = refl; closing = refl; request = λ r is. is; body = λ b. b; joins = λ k is. is }) (λ y k is. cc) (view s) late
     (in_map_of instance_id x s.instances (in_find (is_row_of key) x s.instances found).0) (facts_of h)))))
 
 follow-keeps : {P : View → Type 0} (w : Walk P) (f : Follows P) (c : Client) (d : Decision) (s : State) → is_late s.phase ≡ true → Holds P s → Holds P (follow c d s)
@@ -198,6 +198,7 @@ next_moves c = record {
     interim_left = [];
     closes = false;
   });
+  joins = refl;
 }
 
 moved_on : {P : View → Type 0} (w : Walk P) (n : ℕ) (s : State) → Holds P s → Holds P (forsake (is_of n) (on_client n next_request s))
@@ -228,7 +229,7 @@ regained-keeps w s h = holds (w.clients (regained_by s) (regained_by-same s) (vi
 
 fill_with-keeps : {P : View → Type 0} (w : Walk P) (b : Begins P) (e : Exchange) (c : Client) (s : State) → IsNew e s.clients s.next_exchange → Holds P s → Holds P (fill_with e c s)
 unfolding fill_with
-fill_with-keeps w b e c s is_new h = when (fits e.text) (begin_exchange-keeps b e s is_new h) (on_client-keeps w c.number (λ x. record x { course = AskTooLong }) s (λ x. same_parts _ x refl refl refl refl (λ is. is)) h)
+fill_with-keeps w b e c s is_new h = when (fits e.text) (begin_exchange-keeps b e s is_new h) (on_client-keeps w c.number (λ x. record x { course = AskTooLong }) s (λ x. same_parts _ x refl refl refl refl refl (λ is. is)) h)
 
 fill_span-keeps : {P : View → Type 0} (w : Walk P) (b : Begins P) (c : Client) (n : Next) (span : ℕ × ℕ) (s : State) → IsThere c s.clients → Holds P s → Holds P (fill_span c n span s)
 unfolding fill_span
@@ -276,14 +277,14 @@ hear-keeps w n bytes s h = end_replies-keeps w _ (on_client-keeps w n (heard_by 
 
 pub hang_up-keeps : {P : View → Type 0} (w : Walk P) (n : ℕ) (s : State) → Holds P s → Holds P (hang_up n s)
 unfolding hang_up
-hang_up-keeps w n s h = when (is_writing s.owed n) (close_client-keeps w n false s h) (end_replies-keeps w _ (on_client-keeps w n (λ c. record c { has_hung_up = true }) s (λ c. same_parts _ c refl refl refl refl (λ is. is)) h))
+hang_up-keeps w n s h = when (is_writing s.owed n) (close_client-keeps w n false s h) (end_replies-keeps w _ (on_client-keeps w n (λ c. record c { has_hung_up = true }) s (λ c. same_parts _ c refl refl refl refl refl (λ is. is)) h))
 
 none_less : (m n : ℕ) → m ≡ 0 → m - n ≡ 0
 none_less m n is = omega arith
 
 ask_body-keeps : {P : View → Type 0} (w : Walk P) (e : Exchange) (n : ℕ) (s : State) → Holds P s → Holds P (ask_body e n s)
 unfolding ask_body
-ask_body-keeps w e n s h = on_client_of-keeps w e (asked_body n) _ (λ c. same_parts _ c refl refl refl refl (none_less c.body_left n)) (on_exchange-keeps w e.number (λ x. record x { body_left = x.body_left - n }) s (λ x. same_ask _ x refl refl refl refl refl refl (none_less x.body_left n)) h)
+ask_body-keeps w e n s h = on_client_of-keeps w e (asked_body n) _ (λ c. same_parts _ c refl refl refl refl refl (none_less c.body_left n)) (on_exchange-keeps w e.number (λ x. record x { body_left = x.body_left - n }) s (λ x. same_ask _ x refl refl refl refl refl refl (none_less x.body_left n)) h)
 
 -- what is asked of stands in a line
 abbrev pub HasPlace : ℕ → List Exchange → Type 0

@@ -9,7 +9,7 @@ use Rattle.pp_laws.specs.Runs.{IsIn}
 use Rattle.pp_laws.proofs.Lists.{changed_at, in_filter, in_find}
 use Rattle.pp_laws.proofs.Sound.{source_in}
 use Rattle.pp_laws_bounds.proofs.Counts.{length-filter}
-use Rattle.pp_laws_turn.proofs.View.{View, Walk, Holds, holds, facts_of, view, SameAsk, SameClient, Lesser}
+use Rattle.pp_laws_turn.proofs.View.{View, Walk, Holds, holds, facts_of, view, SameAsk, SameClient, Lesser, joined_in}
 use Rattle.pp_laws_turn.proofs.Bodies.{still_bodied}
 use Rattle.pp_laws_turn.proofs.Cases.{each_so, when}
 use Rattle.pp_laws_turn.proofs.Rows.{clear-keeps}
@@ -45,10 +45,10 @@ pub same_conn : (j k : Conn) → j.number ≡ k.number → j.line ≡ k.line →
 same_conn j k number line pipelines = record { number = number; within = λ n i. subst (λ ns. IsIn n ns) line i; shorter = subst (λ (ns : List ℕ). length j.line ≤ length ns) line (le_refl (length j.line)); pipelines = λ is. sym pipelines ∙ is }
 
 pub client_same : (c : Client) → SameClient c c
-client_same c = record { number = refl; closing = refl; source = λ id is. is; request = λ r is. is; body = λ b. b }
+client_same c = record { number = refl; closing = refl; source = λ id is. is; request = λ r is. is; body = λ b. b; joins = λ id is. is }
 
-pub same_parts : (d c : Client) → d.number ≡ c.number → d.is_closing ≡ c.is_closing → d.stage ≡ c.stage → d.front ≡ c.front → (c.body_left ≡ 0 → d.body_left ≡ 0) → SameClient d c
-same_parts d c number closing stage front left = record { number = number; closing = closing; source = λ id is. sym (ap source_in stage) ∙ is; request = λ r is. front ∙ is; body = still_bodied d c front left }
+pub same_parts : (d c : Client) → d.number ≡ c.number → d.is_closing ≡ c.is_closing → d.stage ≡ c.stage → d.front ≡ c.front → d.brought ≡ c.brought → (c.body_left ≡ 0 → d.body_left ≡ 0) → SameClient d c
+same_parts d c number closing stage front brought left = record { number = number; closing = closing; source = λ id is. sym (ap source_in stage) ∙ is; request = λ r is. front ∙ is; body = still_bodied d c front left; joins = λ id is. sym (ap joined_in brought) ∙ is }
 
 pub client_changed : (f : Client → Client) (c : Client) (t : Bool) → SameClient (f c) c → SameClient (elim t as (λ d. Client) [ true ↦ f c | false ↦ c ]) c
 client_changed f c true kept = kept
@@ -59,7 +59,7 @@ without_row-same c = by (is_begun c || c.has_given_up)
   where
     by : (t : Bool) → SameClient (elim t as (λ d. Client) [ true ↦ c | false ↦ record c { course = anew c.course; has_given_up = true } ]) c
     by true = client_same c
-    by false = same_parts _ c refl refl refl refl (λ is. is)
+    by false = same_parts _ c refl refl refl refl refl (λ is. is)
 
 -- ---- by number
 
@@ -123,7 +123,7 @@ give_up_row-keeps w e s h = when (is_unfilled s e) (left_by_number w e.number _ 
 
 pub charge-keeps : {P : View → Type 0} (w : Walk P) (cost : Course → Course) (e : Exchange) (s : State) → Holds P s → Holds P (charge cost e s)
 unfolding charge
-charge-keeps w cost e s h = give_up_row-keeps w e _ (on_client_of-keeps w e (λ c. record c { course = cost c.course }) s (λ c. same_parts _ c refl refl refl refl (λ is. is)) h)
+charge-keeps w cost e s h = give_up_row-keeps w e _ (on_client_of-keeps w e (λ c. record c { course = cost c.course }) s (λ c. same_parts _ c refl refl refl refl refl (λ is. is)) h)
 
 pub lose_attempt-keeps : {P : View → Type 0} (w : Walk P) (e : Exchange) (s : State) → Holds P s → Holds P (lose_attempt e s)
 unfolding lose_attempt

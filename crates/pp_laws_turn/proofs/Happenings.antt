@@ -57,7 +57,7 @@ use Rattle.pp_laws_asks.proofs.InOrder.{found_in}
 use Rattle.pp_laws_bounds.proofs.Counts.{in_filter_of}
 use Rattle.pp_obeys.proofs.Come.{next-phase, onward, same_phase}
 use Rattle.pp_obeys.proofs.Forgetting.{leaving_with}
-use Rattle.pp_laws_turn.proofs.View.{View, Walk, Goes, Holds, IsBodied, IsFollowed, SameAsk, facts_of, holds, is_late, view}
+use Rattle.pp_laws_turn.proofs.View.{View, Walk, Goes, Holds, IsBodied, IsFollowed, SameAsk, facts_of, holds, is_late, joined_in, view}
 use Rattle.pp_laws_turn.proofs.Cases.{by_aim_of, by_outcome, by_pause, each_of, each_so, when, when_so}
 use Rattle.pp_laws_turn.proofs.Clients.{HasPlace, ask-keeps, begin_replies-keeps, close_client-keeps, decided-keeps, end_replies-keeps, fill-keeps, give_up_asks-keeps, hang_up-keeps, hear-keeps, pour-keeps, regained-keeps, use_said-keeps}
 use Rattle.pp_laws_turn.proofs.Closings.{close_conn-keeps}
@@ -203,6 +203,7 @@ phased p o s owes early h = let f = facts_of h in holds (record {
   lined = f.lined;
   bodied = f.bodied;
   once = f.once;
+  made = f.made;
 })
 
 free_so : (o : Owed) → is_free o ≡ true → is_free o ≡ false → ⊥
@@ -281,7 +282,8 @@ still_walk p o = record {
   conns = λ f lesser v h. h;
   rows = λ xs next v from h. h;
   leaves = λ n f moves v h. h;
-  closes = λ n f number closing body s h. still_left p o (exchanges_of n s) (on_client n f s) h;
+  closes = λ n f number closing body brought s h. still_left p o (exchanges_of n s) (on_client n f s) h;
+  tells = λ test b v there h. h;
 }
 
 -- ---- what is permitted
@@ -343,6 +345,7 @@ opened-turn n s h = holds (record {
   lined = f.lined;
   bodied = λ c i. bodied_by c (in_push c s.clients new i);
   once = f.once;
+  made = λ c id i is. made_by c id (in_push c s.clients new i) is;
 })
   where
     new : Client
@@ -365,6 +368,10 @@ opened-turn n s h = holds (record {
     bodied_by : (c : Client) → IsIn c s.clients ⊎ (c ≡ new) → IsBodied c
     bodied_by c (inl i) = f.bodied c i
     bodied_by c (inr eq) = subst IsBodied (sym eq) (λ r is. absurd (cc is))
+
+    made_by : (c : Client) (id : ℕ) → IsIn c s.clients ⊎ (c ≡ new) → joined_in c.brought ≡ Some id → id < s.next_instance
+    made_by c id (inl i) is = f.made c id i is
+    made_by c id (inr eq) is = let both : None ≡ Some id = sym (ap (λ (x : Client). joined_in x.brought) eq) ∙ is in absurd (cc both)
 
     longer : (e : Exchange) (m : ℕ) → Goes e m s.clients → Goes e m (s.clients ++ new ∷ [])
     longer e m g = record { client = g.client; there = in_front g.client s.clients (new ∷ []) g.there; number = g.number; at = g.at }
@@ -449,7 +456,7 @@ unfolding refused_row
 refused_row-turn x s none h =
     let told : State = record (forget x.id s) { clients = change (waits_for_row x.id) (λ c. record c { course = RowRefused }) (forget x.id s).clients } in
     holds (exchanges_changed-keeps turn_walk (brings_to x.id) dropping_body (view told) (λ e. same_ask _ e refl refl refl refl refl refl (λ is. is))
-    (clients_changed-keeps turn_walk (waits_for_row x.id) (λ c. record c { course = RowRefused }) (view (forget x.id s)) (λ c. same_parts _ c refl refl refl refl (λ is. is)) (facts_of (forget-keeps turn_walk.rows x.id s none h))))
+    (clients_changed-keeps turn_walk (waits_for_row x.id) (λ c. record c { course = RowRefused }) (view (forget x.id s)) (λ c. same_parts _ c refl refl refl refl refl (λ is. is)) (facts_of (forget-keeps turn_walk.rows x.id s none h))))
 
 -- ---- a row that came in this turn is followed by nobody yet
 
@@ -653,6 +660,7 @@ start-turn terms = holds (record {
   };
   bodied = λ c i. absurd i;
   once = λ e i. absurd i;
+  made = λ c id i. absurd i;
 })
 
 woken-turn : (image : Files) (s : State) → Holds Turn (woken image s)
@@ -691,6 +699,7 @@ shut-turn n s h = holds (record {
   lined = closed.lined;
   bodied = λ c i. closed.bodied c (in_filter (λ x. not (is_client n x)) c (close_client n false s).clients i).0;
   once = closed.once;
+  made = λ c id i is. closed.made c id (in_filter (λ x. not (is_client n x)) c (close_client n false s).clients i).0 is;
 })
   where
     closed : Turn (view (close_client n false s))
@@ -767,6 +776,7 @@ rest_with-turn w s h = holds (record {
   lined = f.lined;
   bodied = f.bodied;
   once = f.once;
+  made = f.made;
 })
   where
     v : View

@@ -1,5 +1,5 @@
 -- What the head of a response does to rows, requests and its exchange keeps what is kept by each change.
-use Rattle.std.proofs.Common.{refl, ℕ, Bool, true, false, not, ◌==◌, ◌&&◌, List, [], ◌∷◌, codes, Option, Some, None, ◌≡◌, ◌||◌}
+use Rattle.std.proofs.Common.{refl, ℕ, Bool, true, false, not, ◌==◌, ◌&&◌, List, [], ◌∷◌, codes, Option, Some, None, ◌≡◌, ◌||◌, map, subst}
 use Rattle.std.specs.List.{list_any}
 use Rattle.pp_framing.specs.declared.body.BodyRule.{BodyRule}
 use Rattle.pp_fresh.specs.declared.aging.Times.{Times}
@@ -8,31 +8,42 @@ use Rattle.pp_objects.specs.Kept.{kept_of}
 use Rattle.pp_target.specs.Key.{Key, text_of}
 use Rattle.pp_text.specs.Fields.{has_field}
 use Rattle.pp_valid.specs.declared.version.Version.{Version}
-use Rattle.pp_law.specs.Connections.{exchange, is_for, attempts_of, lost_one, without_shared_row, anew}
+use Rattle.pp_law.specs.Connections.{exchange, is_for, on_exchange, attempts_of, lost_one, without_shared_row, anew}
 use Rattle.pp_law.specs.Lists.{Bytes, is_some_with}
 use Rattle.pp_law.specs.OwnHeads.{key_of, span_to_come, is_asked_by, tell, use_body, drop_answer, useless, times_for, renewed, renew, settle_on, renew_row, may_refresh, settle_known, known_version, settle, names_version, nothing_to_come, settle_unchanged, unchanged, not_shared, not_modified, clears_row, cleared_by, is_widened, relayed, relay_head, other_head, other_part, own_head, is_bound, lacks_next, count_elsewhere, part_head, filling_head, version_in, forbids_sharing, is_private_part, is_of_another, may_join}
 use Rattle.pp_law.specs.Passing.{passed_by}
 use Rattle.pp_law.specs.Responses.{by_aim}
 use Rattle.pp_law.specs.Stages.{is_begun}
 use Rattle.pp_law.specs.State.{State, Client, Body, Joining, Dropping, Brought, Useless, Joins, Passes, TooWide, Exchange, Instance}
-use Rattle.pp_law.specs.Table.{row}
+use Rattle.pp_law.specs.Table.{is_row_of, row}
 use Rattle.pp_law.specs.ThroughHeads.{invalidates, key_named, is_same_host, clear_named, clear_each, places_named, invalidated, disproves, reads, disproved, through_head}
-use Rattle.pp_laws_turn.proofs.Cases.{by_aim_of, each_of, when}
+use Rattle.pp_laws.specs.Runs.{IsIn}
+use Rattle.pp_laws.proofs.Lists.{in_find}
+use Rattle.pp_laws.proofs.Sound.{instance_id}
+use Rattle.pp_laws_bounds.proofs.Counts.{in_map_of}
+use Rattle.pp_laws_turn.proofs.Cases.{by_aim_of, each_of, each_so, when}
 use Rattle.pp_laws_turn.proofs.Exchanges.{client_same, clients_changed-keeps, same_parts, on_client_of-keeps, lose_attempt-keeps, on_exchange-keeps, same_ask}
-use Rattle.pp_laws_turn.proofs.View.{View, Walk, Holds, holds, facts_of, view, SameClient}
+use Rattle.pp_laws_turn.proofs.View.{View, Walk, Holds, holds, facts_of, view, SameClient, joined_in}
 use Rattle.pp_laws_turn.proofs.Rows.{clear-keeps, make_row-keeps, mark_row-keeps, on_instance-keeps}
 
-tell-keeps : {P : View → Type 0} (w : Walk P) (e : Exchange) (brought : Brought) (s : State) → Holds P s → Holds P (tell e brought s)
+tell-keeps : {P : View → Type 0} (w : Walk P) (e : Exchange) (brought : Brought) (s : State) → ((id : ℕ) → joined_in brought ≡ Some id → IsIn id (map instance_id s.instances)) → Holds P s → Holds P (tell e brought s)
 unfolding tell
-tell-keeps w e brought s h = holds (clients_changed-keeps w (is_asked_by e) (λ c. record c { brought = brought }) (view s) (λ c. same_parts _ c refl refl refl refl (λ is. is)) (facts_of h))
+tell-keeps w e brought s joins h = holds (w.tells (is_asked_by e) brought (view s) joins (facts_of h))
 
 use_body-keeps : {P : View → Type 0} (w : Walk P) (e : Exchange) (body : Body) (s : State) → Holds P s → Holds P (use_body e body s)
 unfolding use_body
 use_body-keeps w e body s h = on_exchange-keeps w e.number (λ x. record x { body = body }) s (λ x. same_ask _ x refl refl refl refl refl refl (λ is. is)) h
 
+-- the row of its key is there
+row_there : (e : Exchange) (body : Body) (s : State) (x : Instance) → row s (key_of e) ≡ Some x → (id : ℕ) → Some x.id ≡ Some id → IsIn id (map instance_id (use_body e body s).instances)
+unfolding use_body on_exchange
+row_there e body s x found id is =
+    let same_id : x.id ≡ id = cc is in
+    subst (λ n. IsIn n (map instance_id s.instances)) same_id (in_map_of instance_id x s.instances (in_find (is_row_of (key_of e)) x s.instances found).0)
+
 drop_answer-keeps : {P : View → Type 0} (w : Walk P) (e : Exchange) (s : State) → Holds P s → Holds P (drop_answer e s)
 unfolding drop_answer
-drop_answer-keeps w e s h = tell-keeps w e Useless _ (use_body-keeps w e Dropping s h)
+drop_answer-keeps w e s h = tell-keeps w e Useless _ (λ id is. absurd (cc is)) (use_body-keeps w e Dropping s h)
 
 useless-keeps : {P : View → Type 0} (w : Walk P) (e : Exchange) (s : State) → Holds P s → Holds P (useless e s)
 unfolding useless
@@ -50,7 +61,9 @@ renew_row-keeps w e head s h = each_of (row s (key_of e)) h (λ x. renew-keeps w
 
 settle_on-keeps : {P : View → Type 0} (w : Walk P) (e : Exchange) (head : Response) (v : Version) (s : State) → Holds P s → Holds P (settle_on e head v s)
 unfolding settle_on
-settle_on-keeps w e head v s h = each_of (row s (key_of e)) h (λ x. tell-keeps w e (Joins x.id (not (has_field (codes "age") head.fields))) _ (use_body-keeps w e (Joining (span_to_come e head v x.id)) s h))
+settle_on-keeps w e head v s h =
+    each_so (row s (key_of e)) (λ none. h)
+    (λ x found. tell-keeps w e (Joins x.id (not (has_field (codes "age") head.fields))) _ (row_there e (Joining (span_to_come e head v x.id)) s x found) (use_body-keeps w e (Joining (span_to_come e head v x.id)) s h))
 
 settle_known-keeps : {P : View → Type 0} (w : Walk P) (e : Exchange) (head : Response) (v : Version) (s : State) → Holds P s → Holds P (settle_known e head v s)
 unfolding settle_known
@@ -67,7 +80,8 @@ settle-keeps w e head v s h =
 
 settle_unchanged-keeps : {P : View → Type 0} (w : Walk P) (e : Exchange) (s : State) → Holds P s → Holds P (settle_unchanged e s)
 unfolding settle_unchanged
-settle_unchanged-keeps w e s h = each_of (row s (key_of e)) h (λ x. tell-keeps w e (Joins x.id false) _ (use_body-keeps w e (Joining (nothing_to_come x)) s h))
+settle_unchanged-keeps w e s h =
+    each_so (row s (key_of e)) (λ none. h) (λ x found. tell-keeps w e (Joins x.id false) _ (row_there e (Joining (nothing_to_come x)) s x found) (use_body-keeps w e (Joining (nothing_to_come x)) s h))
 
 unchanged-keeps : {P : View → Type 0} (w : Walk P) (e : Exchange) (head : Response) (s : State) → Holds P s → Holds P (unchanged e head s)
 unfolding unchanged
@@ -78,9 +92,9 @@ without_shared_row-same most c = by (c.has_given_up && not (is_begun c)) (is_beg
   where
     by : (again begun : Bool)
         → SameClient (elim again as (λ x. Client) [ true ↦ record c { course = lost_one most c.course } | false ↦ elim begun as (λ x. Client) [ true ↦ c | false ↦ record c { course = anew c.course; has_given_up = true } ] ]) c
-    by true begun = same_parts _ c refl refl refl refl (λ is. is)
+    by true begun = same_parts _ c refl refl refl refl refl (λ is. is)
     by false true = client_same c
-    by false false = same_parts _ c refl refl refl refl (λ is. is)
+    by false false = same_parts _ c refl refl refl refl refl (λ is. is)
 
 not_shared-keeps : {P : View → Type 0} (w : Walk P) (e : Exchange) (s : State) → Holds P s → Holds P (not_shared e s)
 unfolding not_shared
@@ -101,13 +115,13 @@ cleared_by-keeps w head e s h = when (clears_row head) (clear-keeps w.rows (key_
 
 relay_head-keeps : {P : View → Type 0} (w : Walk P) (e : Exchange) (head : Response) (rule : BodyRule) (s : State) → Holds P s → Holds P (relay_head e head rule s)
 unfolding relay_head
-relay_head-keeps w e head rule s h = tell-keeps w e (Passes (passed_by e head rule)) _ (use_body-keeps w e (relayed e s) s h)
+relay_head-keeps w e head rule s h = tell-keeps w e (Passes (passed_by e head rule)) _ (λ id is. absurd (cc is)) (use_body-keeps w e (relayed e s) s h)
 
 other_head-keeps : {P : View → Type 0} (w : Walk P) (e : Exchange) (head : Response) (rule : BodyRule) (s : State) → Holds P s → Holds P (other_head e head rule s)
 unfolding other_head
 other_head-keeps w e head rule s h =
     when (is_widened e head)
-    (tell-keeps w e TooWide _ (use_body-keeps w e Dropping _ (cleared_by-keeps w head e s h)))
+    (tell-keeps w e TooWide _ (λ id is. absurd (cc is)) (use_body-keeps w e Dropping _ (cleared_by-keeps w head e s h)))
     (relay_head-keeps w e head rule _ (cleared_by-keeps w head e s h))
 
 other_part-keeps : {P : View → Type 0} (w : Walk P) (e : Exchange) (head : Response) (rule : BodyRule) (s : State) → Holds P s → Holds P (other_part e head rule s)

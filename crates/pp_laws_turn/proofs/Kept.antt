@@ -6,9 +6,9 @@ use Rattle.pp_law.specs.Connections.{each_exchange, end_exchange, exchange, is_c
 use Rattle.pp_law.specs.Deciding.{add_exchange, begin_exchange}
 use Rattle.pp_law.specs.Lists.{change, is_some_with, is_this}
 use Rattle.pp_law.specs.Phases.{is_free}
-use Rattle.pp_law.specs.Requests.{is_asked_once}
+use Rattle.pp_law.specs.Requests.{Parsed, IsRequest, is_asked_once}
 use Rattle.pp_law.specs.Table.{swept}
-use Rattle.pp_law.specs.State.{State, Client, Conn, Exchange, Instance, Owed, Phase, Handling}
+use Rattle.pp_law.specs.State.{State, Brought, Client, Conn, Exchange, Instance, Owed, Phase, Handling}
 use Rattle.pp_laws.specs.Runs.{IsIn}
 use Rattle.pp_laws.proofs.Lists.{Changed, From, changed_at, in_change, in_filter, in_find, in_map, in_push, other, same}
 use Rattle.pp_laws.proofs.Sound.{exchange_number, instance_id, source_in}
@@ -16,7 +16,7 @@ use Rattle.pp_laws.proofs.Tests.{number_same, same_number}
 use Rattle.pp_laws_bounds.proofs.Counts.{in_filter_of, in_map_of}
 use Rattle.pp_laws_turn.proofs.Exchanges.{shorter}
 use Rattle.pp_laws_turn.proofs.Lined.{AreLined, begun_lined, fewer_lined, lesser_lined, longer, put_lined}
-use Rattle.pp_laws_turn.proofs.View.{View, Walk, Begins, Follows, Holds, Places, FromRow, Goes, IsAt, IsBodied, IsNew, Lesser, MovesOn, RowsFrom, SameAsk, SameClient, SameRequest, WasRow, facts_of, holds, is_late, view}
+use Rattle.pp_laws_turn.proofs.View.{View, Walk, Begins, Follows, Holds, Places, FromRow, Goes, IsAt, IsBodied, IsNew, Lesser, MovesOn, RowsFrom, SameAsk, SameClient, SameRequest, WasRow, facts_of, holds, is_late, joined_in, view}
 
 -- a client that goes on is answered from an instance that is there; where new ones may still leave memory, from none of these
 pub record Facts (but : Option ℕ) (phase : Phase) (owed : Owed) (clients : List Client) (conns : List Conn) (exchanges : List Exchange) (next_exchange : ℕ) (instances : List Instance) (next_instance : ℕ) : Type 0 where
@@ -30,6 +30,7 @@ pub record Facts (but : Option ℕ) (phase : Phase) (owed : Owed) (clients : Lis
   pub lined : AreLined conns exchanges next_exchange
   pub bodied : (c : Client) → IsIn c clients → IsBodied c
   pub once : (e : Exchange) → IsIn e exchanges → (e.body_left ≡ 0) ⊎ (is_asked_once e.head ≡ true)
+  pub made : (c : Client) (id : ℕ) → IsIn c clients → joined_in c.brought ≡ Some id → id < next_instance
 
 -- but those of this client
 abbrev pub TurnBut : Option ℕ → View → Type 0
@@ -40,7 +41,15 @@ Turn v = TurnBut None v
 
 -- ---- clients
 
-goes_over : (f : Client → Client) → ((c : Client) → SameClient (f c) c) → (e : Exchange) (n : ℕ) (cs : List Client) → Goes e n cs → Goes e n (map f cs)
+-- it goes on as it did, whatever its exchange brought
+record Still (d c : Client) : Type 0 where
+  number : d.number ≡ c.number
+  closing : d.is_closing ≡ c.is_closing
+  source : (id : ℕ) → source_in d.stage ≡ Some id → source_in c.stage ≡ Some id
+  request : (r : Parsed) → c.front ≡ IsRequest r → d.front ≡ IsRequest r
+  body : IsBodied c → IsBodied d
+
+goes_over : (f : Client → Client) → ((c : Client) → Still (f c) c) → (e : Exchange) (n : ℕ) (cs : List Client) → Goes e n cs → Goes e n (map f cs)
 goes_over f same_one e n cs g =
     let s = same_one g.client in
     record {
@@ -50,8 +59,8 @@ goes_over f same_one e n cs g =
       at = record { going = s.closing ∙ g.at.going; request = g.at.request; front = s.request g.at.request g.at.front; head = g.at.head };
     }
 
-clients_turn : (f : Client → Client) → ((c : Client) → SameClient (f c) c) → (v : View) → Turn v → Turn (record v { clients = map f v.clients })
-clients_turn f same_one v h = record {
+clients_still : (f : Client → Client) → ((c : Client) → Still (f c) c) → (v : View) → ((c : Client) (id : ℕ) → IsIn c v.clients → joined_in (f c).brought ≡ Some id → id < v.next_instance) → Turn v → Turn (record v { clients = map f v.clients })
+clients_still f same_one v made h = record {
   owes = h.owes;
   given = h.given;
   source = λ c id i going is. let r = in_map f c v.clients i in let s = same_one r.was in
@@ -64,7 +73,29 @@ clients_turn f same_one v h = record {
   lined = h.lined;
   bodied = λ c i. let r = in_map f c v.clients i in subst IsBodied (sym r.is) ((same_one r.was).body (h.bodied r.was r.there));
   once = h.once;
+  made = λ c id i is. let r = in_map f c v.clients i in made r.was id r.there (ap (λ (x : Client). joined_in x.brought) (sym r.is) ∙ is);
 }
+
+still_so : (d c : Client) → SameClient d c → Still d c
+still_so d c s = record { number = s.number; closing = s.closing; source = s.source; request = s.request; body = s.body }
+
+clients_turn : (f : Client → Client) → ((c : Client) → SameClient (f c) c) → (v : View) → Turn v → Turn (record v { clients = map f v.clients })
+clients_turn f same_one v h = clients_still f (λ c. still_so (f c) c (same_one c)) v (λ c id i is. h.made c id i ((same_one c).joins id is)) h
+
+-- what the exchange of a request brought is told, into a row that is there
+tells_turn : (test : Client → Bool) (b : Brought) (v : View) → ((id : ℕ) → joined_in b ≡ Some id → IsIn id (map instance_id v.instances)) → Turn v → Turn (record v { clients = change test (λ c. record c { brought = b }) v.clients })
+tells_turn test b v there h = clients_still (changed_at test told) (λ c. still c (test c)) v (λ c id i is. made c id i (test c) is) h
+  where
+    told : Client → Client
+    told c = record c { brought = b }
+
+    still : (c : Client) (t : Bool) → Still (elim t as (λ d. Client) [ true ↦ told c | false ↦ c ]) c
+    still c true = record { number = refl; closing = refl; source = λ id is. is; request = λ r is. is; body = λ b. b }
+    still c false = record { number = refl; closing = refl; source = λ id is. is; request = λ r is. is; body = λ b. b }
+
+    made : (c : Client) (id : ℕ) → IsIn c v.clients → (t : Bool) → joined_in (elim t as (λ d. Client) [ true ↦ told c | false ↦ c ]).brought ≡ Some id → id < v.next_instance
+    made c id i true is = let r = in_map instance_id id v.instances (there id is) in subst (λ n. n < v.next_instance) (sym r.is) (h.given r.was r.there)
+    made c id i false is = h.made c id i is
 
 -- ---- exchanges
 
@@ -114,13 +145,14 @@ asks_turn f v same_one h = record {
       let r = in_map f e v.exchanges i in
       let s = same_one r.was r.there in
       subst IsOnce (sym r.is) (once_as (f r.was) r.was s.head s.body (h.once r.was r.there));
+  made = h.made;
 }
 
 -- ---- connections
 
 -- where their lines are as they have to be
 pub with_conns : (but : Option ℕ) (conns : List Conn) (v : View) → AreLined conns v.exchanges v.next_exchange → TurnBut but v → TurnBut but (record v { conns = conns })
-with_conns but conns v lined h = record { owes = h.owes; given = h.given; source = h.source; news = h.news; one = h.one; goes = h.goes; fresh = h.fresh; lined = lined; bodied = h.bodied; once = h.once }
+with_conns but conns v lined h = record { owes = h.owes; given = h.given; source = h.source; news = h.news; one = h.one; goes = h.goes; fresh = h.fresh; lined = lined; bodied = h.bodied; once = h.once; made = h.made }
 
 conns_turn : (but : Option ℕ) (f : Conn → Conn) → ((k : Conn) → Lesser (f k) k) → (v : View) → TurnBut but v → TurnBut but (record v { conns = map f v.conns })
 conns_turn but f lesser v h = with_conns but (map f v.conns) v (lesser_lined f v.conns v.exchanges v.next_exchange lesser h.lined) h
@@ -150,6 +182,7 @@ fewer_turn but v ys from h = record {
   lined = fewer_lined v.conns v.exchanges ys v.next_exchange (λ e i. let r = from e i in record { was = r.was; there = r.there; number = r.number; head = r.head }) h.lined;
   bodied = h.bodied;
   once = λ e i. let r = from e i in once_as e r.was r.head r.body (h.once r.was r.there);
+  made = h.made;
 }
 
 ask_kept : (xs : List Exchange) (e : Exchange) → IsIn e xs → FromAsk xs e
@@ -194,6 +227,7 @@ rows_turn xs next v from h = record {
   lined = h.lined;
   bodied = h.bodied;
   once = h.once;
+  made = λ c id i is. let lt : id < v.next_instance = h.made c id i is in let le : v.next_instance ≤ next = from.grows in omega arith;
 }
   where
     given_by : (x : Instance) → FromRow v.instances x ⊎ ((x.id ≡ v.next_instance) × (x.id < next)) → x.id < next
@@ -239,10 +273,16 @@ record OneClient (n : ℕ) (f : Client → Client) : Type 0 where
   number : (c : Client) → (f c).number ≡ c.number
   body : (c : Client) → IsBodied c → IsBodied (f c)
   source : (c : Client) (id : ℕ) → (f c).is_closing ≡ false → source_in (f c).stage ≡ Some id → (c.is_closing ≡ false) × (source_in c.stage ≡ Some id)
+  joins : (c : Client) (id : ℕ) → joined_in (f c).brought ≡ Some id → joined_in c.brought ≡ Some id
 
 bodied_by : (n : ℕ) (f : Client → Client) → ((c : Client) → IsBodied c → IsBodied (f c)) → (c : Client) (cs : List Client) → ((d : Client) → IsIn d cs → IsBodied d) → Changed (is_client n) f cs c → IsBodied c
 bodied_by n f body c cs bodied (same i isnt) = bodied c i
 bodied_by n f body c cs bodied (other d i hit eq) = subst IsBodied (sym eq) (body d (bodied d i))
+
+made_by : (n : ℕ) (f : Client → Client) → ((c : Client) (id : ℕ) → joined_in (f c).brought ≡ Some id → joined_in c.brought ≡ Some id) → (c : Client) (id : ℕ) (cs : List Client) (next : ℕ) → ((d : Client) (k : ℕ) → IsIn d cs → joined_in d.brought ≡ Some k → k < next)
+    → Changed (is_client n) f cs c → joined_in c.brought ≡ Some id → id < next
+made_by n f joins c id cs next made (same i isnt) is = made c id i is
+made_by n f joins c id cs next made (other d i hit eq) is = made d id i (joins d id (ap (λ (x : Client). joined_in x.brought) (sym eq) ∙ is))
 
 client_turn : (n : ℕ) (f : Client → Client) → OneClient n f → (v : View) → Turn v → TurnBut (Some n) (record v { clients = change (is_client n) f v.clients })
 client_turn n f o v h = record {
@@ -261,6 +301,7 @@ client_turn n f o v h = record {
   lined = h.lined;
   bodied = λ c i. bodied_by n f o.body c v.clients h.bodied (in_change (is_client n) f c v.clients i);
   once = h.once;
+  made = λ c id i is. made_by n f o.joins c id v.clients v.next_instance h.made (in_change (is_client n) f c v.clients i) is;
 }
   where
     was : (c : Client) (id : ℕ) → Changed (is_client n) f v.clients c → c.is_closing ≡ false → source_in c.stage ≡ Some id → (d : Client) × IsIn d v.clients × (d.is_closing ≡ false) × (source_in d.stage ≡ Some id)
@@ -280,6 +321,7 @@ all_count n v none h = record {
   lined = h.lined;
   bodied = h.bodied;
   once = h.once;
+  made = h.made;
 }
 
 leaves_turn : (n : ℕ) (f : Client → Client) → ((c : Client) → MovesOn (f c) c) → (v : View) → Turn v → Turn (record v { clients = change (is_client n) f v.clients; exchanges = change (is_of n) left_alone v.exchanges })
@@ -288,7 +330,7 @@ leaves_turn n f moves v h =
     (left_turn (Some n) (is_of n) (record v { clients = change (is_client n) f v.clients }) (client_turn n f one v h))
   where
     one : OneClient n f
-    one = record { number = λ c. (moves c).number; body = λ c b. (moves c).body; source = λ c id going is. let both : None ≡ Some id = sym (moves c).source ∙ is in absurd (cc both) }
+    one = record { number = λ c. (moves c).number; body = λ c b. (moves c).body; joins = λ c id is. let both : None ≡ Some id = sym (moves c).joins ∙ is in absurd (cc both); source = λ c id going is. let both : None ≡ Some id = sym (moves c).source ∙ is in absurd (cc both) }
 
 -- ---- a client is closed
 
@@ -359,14 +401,14 @@ all_left n (m ∷ ns) s h = all_left n ns _ (by (exchange s m))
     by None = h
     by (Some e) = left_one n e s h
 
-closes_turn : (n : ℕ) (f : Client → Client) → ((c : Client) → (f c).number ≡ c.number) → ((c : Client) → (f c).is_closing ≡ true) → ((c : Client) → IsBodied c → IsBodied (f c)) → (s : State) → Turn (view s) → Turn (view (each_exchange leave_one (exchanges_of n s) (on_client n f s)))
+closes_turn : (n : ℕ) (f : Client → Client) → ((c : Client) → (f c).number ≡ c.number) → ((c : Client) → (f c).is_closing ≡ true) → ((c : Client) → IsBodied c → IsBodied (f c)) → ((c : Client) → (f c).brought ≡ c.brought) → (s : State) → Turn (view s) → Turn (view (each_exchange leave_one (exchanges_of n s) (on_client n f s)))
 unfolding on_client
-closes_turn n f number closing body s h =
+closes_turn n f number closing body brought s h =
     all_count n (view (each_exchange leave_one (exchanges_of n s) (on_client n f s))) (λ e i is. each_left n (exchanges_of n s) (on_client n f s) (λ d j its. numbered n s.exchanges d j its) e i is)
     (all_left n (exchanges_of n s) (on_client n f s) (client_turn n f one (view s) h))
   where
     one : OneClient n f
-    one = record { number = number; body = body; source = λ c id going is. let both : true ≡ false = sym (closing c) ∙ going in absurd (cc both) }
+    one = record { number = number; body = body; joins = λ c id is. sym (ap joined_in (brought c)) ∙ is; source = λ c id going is. let both : true ≡ false = sym (closing c) ∙ going in absurd (cc both) }
 
 all_numbered : (n : ℕ) (is_cut : Bool) (s : State) → AreOf n (exchanges_of n s) (on_client n (λ c. record c { is_closing = true; is_cut = c.is_cut || is_cut }) s)
 unfolding on_client
@@ -389,6 +431,7 @@ turn_walk = record {
   rows = rows_turn;
   leaves = leaves_turn;
   closes = closes_turn;
+  tells = tells_turn;
 }
 
 -- ---- an exchange gets a place
@@ -424,6 +467,7 @@ turn_begins e s is_new h = record {
   lined = begun_lined e s.conns rest s.next_exchange is_new.number less.lined;
   bodied = h.bodied;
   once = λ d i. once_by d (in_push d rest e i);
+  made = h.made;
 }
   where
     test : Exchange → Bool
@@ -484,6 +528,7 @@ turn_follows n id f request source v late there h = record {
   lined = h.lined;
   bodied = λ c i. bodied_by n f (λ d. (request d).body) c v.clients h.bodied (in_change (is_client n) f c v.clients i);
   once = h.once;
+  made = λ c k i is. made_by n f (λ d. (request d).joins) c k v.clients v.next_instance h.made (in_change (is_client n) f c v.clients i) is;
 }
   where
     source_by : (c : Client) (k : ℕ) → Changed (is_client n) f v.clients c → c.is_closing ≡ false → source_in c.stage ≡ Some k → IsIn k (map instance_id v.instances)

@@ -27,7 +27,7 @@ use Rattle.pp_laws_turn.specs.SoundTurn.{AreToldApart, HasAsker, HasSource, IsAt
 use Rattle.pp_laws_turn.proofs.Counts.{count_number, count_one, find_in, find_nothing, find_number}
 use Rattle.pp_laws_turn.proofs.Kept.{Turn}
 use Rattle.pp_laws_turn.proofs.Lifts.{asks_on, few_bodies_on, few_exchanges_on, few_pins_on, few_rows_on, kept_on, small_on, sound_on, turn_on}
-use Rattle.pp_laws_turn.proofs.View.{Goes, Holds, facts_of, view}
+use Rattle.pp_laws_turn.proofs.View.{Goes, Holds, facts_of, joined_in, view}
 
 -- ---- numbers
 
@@ -138,6 +138,7 @@ sound_turns terms s log obeys = record {
   by_itself = λ k e i j at is. one_line e.number k.line (t.lined.alone k e i j at is) at;
   pipelines = t.lined.few;
   bodies = λ e i left. alone_with e (t.once e i) left;
+  made = λ c id plain i is. t.made c id i (ap joined_in is);
   once = asks_once s f.asks.rise t;
   sources = has_source s t;
   alone = asks_nothing s f.callers.rise t;

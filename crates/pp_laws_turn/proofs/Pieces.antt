@@ -15,7 +15,7 @@ use Rattle.pp_laws_turn.proofs.Exchanges.{end_exchange-keeps, fail-keeps, lose_a
 
 pub skip_body-keeps : {P : View → Type 0} (w : Walk P) (e : Exchange) (s : State) → Holds P s → Holds P (skip_body e s)
 unfolding skip_body
-skip_body-keeps w e s h = by_aim_of e.aim (on_client_of-keeps w e skipping s (λ c. same_parts _ c refl refl refl refl (λ is. refl)) h) h (λ v from to. h)
+skip_body-keeps w e s h = by_aim_of e.aim (on_client_of-keeps w e skipping s (λ c. same_parts _ c refl refl refl refl refl (λ is. refl)) h) h (λ v from to. h)
 
 pub close_this-keeps : {P : View → Type 0} (w : Walk P) (n : ℕ) (s : State) → Holds P s → Holds P (close_this n s)
 unfolding close_this

@@ -18,19 +18,20 @@ use Rattle.pp_world.specs.declared.note.Decision.TheVariants.{Relay}
 use Rattle.pp_laws.proofs.Callers.{asking_with-same as asking_with-source, begun_at_end-same as begun_at_end-source, heard_by-same as heard_by-source, on_passed-same as on_passed-source, refused_with-same as refused_with-source, regained_by-same as regained_by-source, relayed-same as relayed-source, said_by-same as said_by-source}
 use Rattle.pp_laws.proofs.KeptClients.{SameClient as SameSource}
 use Rattle.pp_laws_turn.proofs.Bodies.{still_bodied, with_front_bodied}
-use Rattle.pp_laws_turn.proofs.View.{SameClient}
+use Rattle.pp_laws_turn.proofs.View.{SameClient, joined_in}
 
--- it is closing where it was, and at the request at which it was; and no more of its body is left
+-- it is closing where it was, and at the request at which it was; no more of its body is left, and its exchange joined no other row
 record Stays (d c : Client) : Type 0 where
   closing : d.is_closing ≡ c.is_closing
   front : d.front ≡ c.front
   left : c.body_left ≡ 0 → d.body_left ≡ 0
+  joins : (id : ℕ) → joined_in d.brought ≡ Some id → joined_in c.brought ≡ Some id
 
 stays : (c : Client) → Stays c c
-stays c = record { closing = refl; front = refl; left = λ is. is }
+stays c = record { closing = refl; front = refl; left = λ is. is; joins = λ id is. is }
 
 both_of : (d c : Client) → SameSource d c → Stays d c → SameClient d c
-both_of d c s t = record { number = s.number; closing = t.closing; source = λ id is. (s.source id is).source; request = λ r is. t.front ∙ is; body = still_bodied d c t.front t.left }
+both_of d c s t = record { number = s.number; closing = t.closing; source = λ id is. (s.source id is).source; request = λ r is. t.front ∙ is; body = still_bodied d c t.front t.left; joins = t.joins }
 
 -- ---- what is heard
 
@@ -44,6 +45,11 @@ with_front_closing c NoHeadYet = refl
 with_front_closing c (NoHead status) = refl
 with_front_closing c (IsRequest q) = refl
 
+with_front_brought : (c : Client) (front : Front) → (elim front as (λ x. Client) [ NoHeadYet ↦ fronted c | NoHead status ↦ c | IsRequest q ↦ c ]).brought ≡ c.brought
+with_front_brought c NoHeadYet = refl
+with_front_brought c (NoHead status) = refl
+with_front_brought c (IsRequest q) = refl
+
 pub heard_by-same : (bytes : Bytes) (c : Client) → SameClient (heard_by bytes c) c
 heard_by-same bytes c = record {
   number = (heard_by-source bytes c).number;
@@ -51,6 +57,7 @@ heard_by-same bytes c = record {
   source = λ id is. ((heard_by-source bytes c).source id is).source;
   request = λ r is. with_front_by was c.front r is ∙ is;
   body = λ b. with_front_bodied was c.front b;
+  joins = λ id is. sym (ap joined_in (with_front_brought was c.front)) ∙ is;
 }
   where
     was : Client
@@ -59,19 +66,19 @@ heard_by-same bytes c = record {
 -- ---- what is decided
 
 pub asking_with-same : (d : Decision) (c : Client) → SameClient (asking_with d c) c
-asking_with-same d c = both_of _ c (asking_with-source d c) (record { closing = refl; front = refl; left = λ is. is })
+asking_with-same d c = both_of _ c (asking_with-source d c) (record { closing = refl; front = refl; left = λ is. is; joins = λ id is. absurd (cc is) })
 
 pub refused_with-same : (status : ℕ) (c : Client) → SameClient (refused_with status c) c
-refused_with-same status c = both_of _ c (refused_with-source status c) (record { closing = refl; front = refl; left = λ is. refl })
+refused_with-same status c = both_of _ c (refused_with-source status c) (record { closing = refl; front = refl; left = λ is. refl; joins = λ id is. absurd (cc is) })
 
 pub relayed-same : (c : Client) → SameClient (answering_with (reply_by Relay None) c) c
-relayed-same c = both_of _ c (relayed-source c) (record { closing = refl; front = refl; left = λ is. is })
+relayed-same c = both_of _ c (relayed-source c) (record { closing = refl; front = refl; left = λ is. is; joins = λ id is. is })
 
 -- ---- what is said
 
 passed_stays : (f : Passed → Passed) (c : Client) (passed : Option Passed) → Stays (elim passed as (λ x. Client) [ None ↦ c | Some p ↦ record c { brought = Passes (f p) } ]) c
 passed_stays f c None = stays c
-passed_stays f c (Some p) = record { closing = refl; front = refl; left = λ is. is }
+passed_stays f c (Some p) = record { closing = refl; front = refl; left = λ is. is; joins = λ id is. absurd (cc is) }
 
 pub on_passed-same : (f : Passed → Passed) (c : Client) → SameClient (on_passed f c) c
 on_passed-same f c = both_of _ c (on_passed-source f c) (passed_stays f c (passed_of c))
@@ -83,14 +90,14 @@ body_stays : (n : ℕ) (r : Reply) (c : Client) (passing : Bool) → Stays (elim
 body_stays n r c true =
     let d : Client = record c { stage = Answering r } in
     let s = passed_stays (λ p. record p { pipe = without_first n p.pipe }) d (passed_of d) in
-    record { closing = s.closing; front = s.front; left = s.left }
-body_stays n r c false = record { closing = refl; front = refl; left = λ is. is }
+    record { closing = s.closing; front = s.front; left = s.left; joins = s.joins }
+body_stays n r c false = record { closing = refl; front = refl; left = λ is. is; joins = λ id is. is }
 
 of_stays : (n : ℕ) (r : Reply) (c : Client) (of_head : Bool) → Stays (elim of_head as (λ x. Client) [
   | true ↦ record c { stage = Answering (record r { head_left = drop n r.head_left }) }
   | false ↦ said_of_body (n - length r.head_left) (record r { head_left = [] }) c
 ]) c
-of_stays n r c true = record { closing = refl; front = refl; left = λ is. is }
+of_stays n r c true = record { closing = refl; front = refl; left = λ is. is; joins = λ id is. is }
 of_stays n r c false = body_stays (n - length r.head_left) (record r { head_left = [] }) c (is_passing r.decision)
 
 reply_stays : (n : ℕ) (c : Client) (reply : Option Reply) → Stays (elim reply as (λ x. Client) [ None ↦ c | Some r ↦ said_of n r c ]) c
@@ -99,7 +106,7 @@ reply_stays n c (Some r) = of_stays n r c (nat_le n (length r.head_left))
 
 said_stays : (n : ℕ) (c : Client) (empty : Bool)
     → Stays (elim empty as (λ x. Client) [ false ↦ record c { interim_left = drop n c.interim_left } | true ↦ elim (reply_of c) as (λ x. Client) [ None ↦ c | Some r ↦ said_of n r c ] ]) c
-said_stays n c false = record { closing = refl; front = refl; left = λ is. is }
+said_stays n c false = record { closing = refl; front = refl; left = λ is. is; joins = λ id is. is }
 said_stays n c true = reply_stays n c (reply_of c)
 
 pub said_by-same : (n : ℕ) (c : Client) → SameClient (said_by n c) c
@@ -113,12 +120,12 @@ begun_passed-stays : (s : State) (r : Parsed) (d : Decision) (c : Client) (passe
       | Some p ↦ record c { stage = Answering (passed_reply s r p d); closes = not (keeps_open r && is_end_known p.rule r.head.minor) }
     ]) c
 begun_passed-stays s r d c None = stays c
-begun_passed-stays s r d c (Some p) = record { closing = refl; front = refl; left = λ is. is }
+begun_passed-stays s r d c (Some p) = record { closing = refl; front = refl; left = λ is. is; joins = λ id is. is }
 
 from_stays : (s : State) (r : Parsed) (reply : Reply) (c : Client) (x : Instance) (may : Bool)
     → Stays (elim may as (λ y. Client) [ true ↦ record c { stage = Answering (begun_reply s r c reply x) } | false ↦ c ]) c
 from_stays s r reply c x false = stays c
-from_stays s r reply c x true = record { closing = refl; front = refl; left = λ is. is }
+from_stays s r reply c x true = record { closing = refl; front = refl; left = λ is. is; joins = λ id is. is }
 
 source_stays : (s : State) (r : Parsed) (reply : Reply) (c : Client) (source : Option Instance)
     → Stays (elim source as (λ y. Client) [
@@ -164,7 +171,7 @@ pub begun_at_end-same : (s : State) (c : Client) → SameClient (begun_at_end s 
 begun_at_end-same s c = both_of _ c (begun_at_end-source s c) (closing_stays s c c.is_closing)
 
 held_stays : (c : Client) (held : Bool) → Stays (elim held as (λ y. Client) [ true ↦ record c { course = anew c.course } | false ↦ c ]) c
-held_stays c true = record { closing = refl; front = refl; left = λ is. is }
+held_stays c true = record { closing = refl; front = refl; left = λ is. is; joins = λ id is. is }
 held_stays c false = stays c
 
 pub regained_by-same : (s : State) (c : Client) → SameClient (regained_by s c) c

@@ -31,14 +31,14 @@ drop_unseen-keeps w s h = each_conn-keeps w drop_on (drop_on-keeps w) _ s h
 
 pub touch-keeps : {P : View → Type 0} (w : Walk P) (n : ℕ) (s : State) → Holds P s → Holds P (touch n s)
 unfolding touch
-touch-keeps w n s h = on_conn-keeps w n (marked_conn s.clock) _ (λ k. same_conn _ k refl refl refl) (on_client-keeps w n (marked_client s.clock) s (λ c. same_parts _ c refl refl refl refl (λ is. is)) h)
+touch-keeps w n s h = on_conn-keeps w n (marked_conn s.clock) _ (λ k. same_conn _ k refl refl refl) (on_client-keeps w n (marked_client s.clock) s (λ c. same_parts _ c refl refl refl refl refl (λ is. is)) h)
 
 marks_anew-keeps : {P : View → Type 0} (w : Walk P) (now : ℕ) (s : State) → Holds P s → Holds P (marks_anew now s)
 unfolding marks_anew
 marks_anew-keeps {P} w now s h = when (is_leap now s) marked h
   where
     marked : Holds P (record s { has_ticked = true; clients = map (marked_client now) s.clients; conns = map (marked_conn now) s.conns })
-    marked = holds (w.conns (marked_conn now) (λ k. same_conn _ k refl refl refl) (record (view s) { clients = map (marked_client now) s.clients }) (w.clients (marked_client now) (λ c. same_parts _ c refl refl refl refl (λ is. is)) (view s) (facts_of h)))
+    marked = holds (w.conns (marked_conn now) (λ k. same_conn _ k refl refl refl) (record (view s) { clients = map (marked_client now) s.clients }) (w.clients (marked_client now) (λ c. same_parts _ c refl refl refl refl refl (λ is. is)) (view s) (facts_of h)))
 
 end_patience-keeps : {P : View → Type 0} (w : Walk P) (k : Conn) (s : State) → Holds P s → Holds P (end_patience k s)
 unfolding end_patience
@@ -56,7 +56,7 @@ woken-same : (now : ℕ) (s : State) (c : Client) → SameClient (woken_client n
 woken-same now s c = by (waits_for_exchange s c && not (has_to_say s c))
   where
     by : (t : Bool) → SameClient (elim t as (λ d. Client) [ true ↦ marked_client now c | false ↦ c ]) c
-    by true = same_parts _ c refl refl refl refl (λ is. is)
+    by true = same_parts _ c refl refl refl refl refl (λ is. is)
     by false = client_same c
 
 renew_marks-keeps : {P : View → Type 0} (w : Walk P) (now : ℕ) (s : State) → Holds P s → Holds P (renew_marks now s)
@@ -88,4 +88,4 @@ pub rested-keeps : {P : View → Type 0} (w : Walk P) (wants : Wants) (s : State
 rested-keeps w wants s h =
     w.asks (rested_exchange s) (record (view s) { clients = map (rested_client s) s.clients; conns = map (rested_conn s wants) s.conns }) (λ e i. rested_ask s e)
     (w.conns (rested_conn s wants) (λ k. same_conn _ k refl refl refl) (record (view s) { clients = map (rested_client s) s.clients })
-    (w.clients (rested_client s) (λ c. same_parts _ c refl refl refl refl (λ is. is)) (view s) (facts_of h)))
+    (w.clients (rested_client s) (λ c. same_parts _ c refl refl refl refl refl (λ is. is)) (view s) (facts_of h)))

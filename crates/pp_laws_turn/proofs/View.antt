@@ -1,11 +1,11 @@
 -- What the laws of a turn speak of, and which changes of it have to keep such a law, so that each step of the law keeps it.
-use Rattle.std.proofs.Common.{◌≡◌, ◌⊎◌, ℕ, ◌<◌, ◌≤◌, Bool, true, false, List, [], ◌∷◌, ◌++◌, map, filter, length, Some, None}
+use Rattle.std.proofs.Common.{◌≡◌, ◌⊎◌, ℕ, ◌<◌, ◌≤◌, Bool, true, false, List, [], ◌∷◌, ◌++◌, map, filter, length, Option, Some, None}
 use Rattle.pp_law.specs.Closing.{exchanges_of, is_of, leave_one, left_alone}
 use Rattle.pp_law.specs.Connections.{each_exchange, is_client, on_client, put_on}
 use Rattle.pp_law.specs.Deciding.{begin_exchange}
 use Rattle.pp_law.specs.Lists.{change}
 use Rattle.pp_law.specs.Requests.{Parsed, IsRequest, goes_alone, is_asked_once}
-use Rattle.pp_law.specs.State.{State, Client, Conn, Exchange, Instance, Owed, Phase, Keeping, Deciding, Following, Connecting, DecidingAgain}
+use Rattle.pp_law.specs.State.{State, Brought, Joins, Client, Conn, Exchange, Instance, Owed, Phase, Keeping, Deciding, Following, Connecting, DecidingAgain}
 use Rattle.pp_laws.specs.Runs.{IsIn}
 use Rattle.pp_laws.proofs.Sound.{instance_id, source_in}
 
@@ -43,13 +43,19 @@ facts_of (holds facts) = facts
 abbrev pub IsBodied : Client → Type 0
 IsBodied c = (r : Parsed) → c.front ≡ IsRequest r → (c.body_left ≡ 0) ⊎ (is_asked_once r.head ≡ true)
 
--- it goes on as it did, at the same request, and follows nothing else
+-- the row that its exchange joined
+abbrev pub joined_in : Brought → Option ℕ
+joined_in (Joins id plain) = Some id
+joined_in brought = None
+
+-- it goes on as it did, at the same request, and follows nothing else; nor did its exchange join another row
 pub record SameClient (d c : Client) : Type 0 where
   pub number : d.number ≡ c.number
   pub closing : d.is_closing ≡ c.is_closing
   pub source : (id : ℕ) → source_in d.stage ≡ Some id → source_in c.stage ≡ Some id
   pub request : (r : Parsed) → c.front ≡ IsRequest r → d.front ≡ IsRequest r
   pub body : IsBodied c → IsBodied d
+  pub joins : (id : ℕ) → joined_in d.brought ≡ Some id → joined_in c.brought ≡ Some id
 
 -- its request leaves its exchange, and it follows nothing
 pub record MovesOn (d c : Client) : Type 0 where
@@ -57,6 +63,7 @@ pub record MovesOn (d c : Client) : Type 0 where
   pub closing : d.is_closing ≡ c.is_closing
   pub source : source_in d.stage ≡ None
   pub body : IsBodied d
+  pub joins : joined_in d.brought ≡ None
 
 -- it goes on at the same request
 pub record SameRequest (d c : Client) : Type 0 where
@@ -64,6 +71,7 @@ pub record SameRequest (d c : Client) : Type 0 where
   pub closing : d.is_closing ≡ c.is_closing
   pub request : (r : Parsed) → c.front ≡ IsRequest r → d.front ≡ IsRequest r
   pub body : IsBodied c → IsBodied d
+  pub joins : (id : ℕ) → joined_in d.brought ≡ Some id → joined_in c.brought ≡ Some id
 
 -- ---- exchanges
 
@@ -155,7 +163,9 @@ pub record Walk (P : View → Type 0) : Type 0 where
   pub conns : (f : Conn → Conn) → ((k : Conn) → Lesser (f k) k) → (v : View) → P v → P (record v { conns = map f v.conns })
   pub rows : KeepsRows P
   pub leaves : (n : ℕ) (f : Client → Client) → ((c : Client) → MovesOn (f c) c) → (v : View) → P v → P (record v { clients = change (is_client n) f v.clients; exchanges = change (is_of n) left_alone v.exchanges })
-  pub closes : (n : ℕ) (f : Client → Client) → ((c : Client) → (f c).number ≡ c.number) → ((c : Client) → (f c).is_closing ≡ true) → ((c : Client) → IsBodied c → IsBodied (f c)) → (s : State) → P (view s) → P (view (each_exchange leave_one (exchanges_of n s) (on_client n f s)))
+  pub closes : (n : ℕ) (f : Client → Client) → ((c : Client) → (f c).number ≡ c.number) → ((c : Client) → (f c).is_closing ≡ true) → ((c : Client) → IsBodied c → IsBodied (f c)) → ((c : Client) → (f c).brought ≡ c.brought) → (s : State) → P (view s) → P (view (each_exchange leave_one (exchanges_of n s) (on_client n f s)))
+  -- what the exchange of a request brought, into a row that is there
+  pub tells : (test : Client → Bool) (b : Brought) (v : View) → ((id : ℕ) → joined_in b ≡ Some id → IsIn id (map instance_id v.instances)) → P v → P (record v { clients = change test (λ c. record c { brought = b }) v.clients })
 
 -- an exchange begins, and a client follows a row, in a phase in which nothing new leaves
 abbrev pub Begins : (View → Type 0) → Type 0

@@ -1,13 +1,13 @@
 -- What holds in each state that a lawful log may go on as from, also amid a turn, where phases are done that no happening shows. What is
 -- not marked is ours.
-use Rattle.std.specs.Prelude.{◌≡◌, ℕ, ◌≤◌, ◌==◌, true, false, [], ◌∷◌, count_by, find, length, List, Some, None}
+use Rattle.std.specs.Prelude.{◌≡◌, ℕ, ◌+◌, ◌<◌, ◌≤◌, ◌==◌, Bool, true, false, [], ◌∷◌, count_by, find, length, List, Some, None}
 use Rattle.pp_law.specs.Closing.{is_of}
 use Rattle.pp_law.specs.Connections.{client, is_client, is_conn, is_exchange}
 use Rattle.pp_law.specs.Lists.{Bytes}
 use Rattle.pp_law.specs.Phases.{is_free}
 use Rattle.pp_law.specs.Requests.{Parsed, IsRequest, goes_alone}
 use Rattle.pp_law.specs.Stages.{reply_of}
-use Rattle.pp_law.specs.State.{State, Term, Client, Conn, Exchange, Instance, Reply, Awaiting, Handling, Free}
+use Rattle.pp_law.specs.State.{State, Term, Joins, Client, Conn, Exchange, Instance, Reply, Awaiting, Handling, Free}
 use Rattle.pp_law.specs.Table.{instance, is_instance, is_row_of}
 use Rattle.pp_world.specs.Log.{Log}
 use Rattle.pp_laws.specs.Numbers.{HasOwnNumbers}
@@ -98,6 +98,8 @@ pub record IsSoundTurn (s : State) : Type 0 where
   pub once : (n : ℕ) → count_by (is_of n) s.exchanges ≤ 1
   -- what a client is answered from is there, as long as it goes on
   pub sources : (c : Client) → IsIn c s.clients → c.is_closing ≡ false → HasSource s c
+  -- a row that the response to its exchange belongs to was made before
+  pub made : (c : Client) (id : ℕ) (plain : Bool) → IsIn c s.clients → c.brought ≡ Joins id plain → id < s.next_instance
   -- a client that is closing asks nothing
   pub alone : (c : Client) → IsIn c s.clients → c.is_closing ≡ true → find (is_of c.number) s.exchanges ≡ None
   -- of an exchange without a place nothing was asked
