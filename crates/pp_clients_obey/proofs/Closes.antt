@@ -2,9 +2,6 @@
 use Rattle.std.proofs.Common.{◌≡◌, refl, sym, subst, ap, ◌∙◌, ℕ, Bool, true, false, not, cond, ◌==◌, ◌&&◌, ◌||◌, find, List, [], ◌∷◌, Option, Some, None, is_some}
 use Rattle.std.specs.List.{list_any}
 use Rattle.std.specs.Prelude.{slice_get, slice_set}
-use Rattle.pp_world.specs.declared.happening.Happening.TheVariants.{HungUp, Noted, Shut}
-use Rattle.pp_world.specs.declared.note.Cause.{Cause}
-use Rattle.pp_world.specs.declared.note.Remark.TheVariants.{Cut}
 use Rattle.pp_law.specs.After.{paid, shut}
 use Rattle.pp_law.specs.Asking.{hang_up, is_reading, is_writing}
 use Rattle.pp_law.specs.Closing.{close_client, exchanges_of, forsake, leave_one, left_alone}
@@ -16,8 +13,6 @@ use Rattle.pp_law.specs.Replies.{end_replies}
 use Rattle.pp_law.specs.State.{State, Client, Exchange, Owed, WriteTo, Deciding}
 use Rattle.pp_law.specs.Table.{swept}
 use Rattle.pp_laws.proofs.Tests.{number_same}
-use Rattle.pp_obeys.specs.Moves.{Moves}
-use Rattle.pp_obeys.proofs.Calls.{keeps_more, moves_to}
 use Rattle.pp_obeys.proofs.Frames.{Frame, frame, frame_of, stays}
 use Rattle.pp_obeys.proofs.Happenings.{goes_hung_up}
 use Rattle.pp_obeys.proofs.StaysTable.{close_client-stays}
@@ -27,9 +22,8 @@ use Rattle.pp_seats.specs.declared.seat.Seat.{Seat}
 use Rattle.pp_seats_law.specs.Clients.{AreShown, IsAt, IsFound}
 use Rattle.pp_seats_law.specs.Seats.{ShowsSeat}
 use Rattle.pp_seats_law.proofs.AllSeats.{changes, places}
-use Rattle.pp_clients_obey.specs.Closing.{CutsKeep, IsClosed, IsClosingDown, IsDeciding, IsDueToCut, IsToShut, LossesKeep, MayWrite, ShutsKeep, without_client}
-use Rattle.pp_clients_obey.specs.Hearing.{WasOwed}
-use Rattle.pp_clients_obey.proofs.Hears.{same_seat}
+use Rattle.pp_clients_obey.specs.Closing.{CutsLead, IsClosed, LossesLead, ShutsLead, without_client}
+use Rattle.pp_clients_obey.proofs.Hears.{leads_on, same_seat}
 use Rattle.pp_clients_obey.proofs.Says.{seen}
 
 -- ---- exchanges that are left, and what is swept, leave the clients as they are
@@ -103,33 +97,27 @@ lost_is n s is =
     ap (λ (o : Owed). elim (is_writing o n) as (λ b. State) [ true ↦ close_client n false s | false ↦ end_replies (on_client n (λ c. record c { has_hung_up = true }) s) ]) is
     ∙ ap (λ (b : Bool). elim b as (λ x. State) [ true ↦ close_client n false s | false ↦ end_replies (on_client n (λ c. record c { has_hung_up = true }) s) ]) (number_same n)
 
-lost_moves : (number : ℕ → ℕ) (owed : List Bytes) (n i : ℕ) (seats : List Seat) (seat after : Seat) → IsAt n i seats → slice_get seats i ≡ Some seat → IsClosed seat after → (s : State) → MayWrite number owed n seats s
-    → Moves (WasOwed number owed (slice_set seats i after)) (HungUp n) s
-lost_moves number owed n i seats seat after at there closed s may =
-    let found : IsFound number s.settings.name owed seat n s.clients = places number s.settings.name owed seats s.clients n i seat may.shown at there in
-    moves_to refl (goes_hung_up s n may.none (owes_write s n may.writes) (ap (λ (o : Option Client). is_some o) found.there))
-    (record { before = close_client n false s; shown = closed_all number owed n i seats seat after false s may.shown at there closed; ended = ap paid (lost_is n s may.writes) })
-
-pub losses_keep : LossesKeep
-losses_keep number old new before now n i owed seats seat after call rose at there closed = keeps_more (λ l. HungUp n) call (λ l. rose) (λ l. lost_moves number owed n i seats seat after at there closed)
+pub losses_lead : LossesLead
+losses_lead number n i owed seats seat after s at there closed may =
+    let found : IsFound number s.settings.name owed seat n s.clients = places number s.settings.name owed seats s.clients n i seat may.shown at there in (
+      leads_on refl (goes_hung_up s n may.none (owes_write s n may.writes) (ap (λ (o : Option Client). is_some o) found.there)) (paid (close_client n false s)) (ap paid (lost_is n s may.writes)),
+      closed_all number owed n i seats seat after false s may.shown at there closed,
+    )
 
 -- ---- a cut
 
 cut_frame : (n : ℕ) (s : State) → frame true (close_client n true (in_phase Deciding s)) ≡ frame true (in_phase Deciding s)
 cut_frame n s = frame_of {all = true} (close_client-stays n true (in_phase Deciding s) (stays refl))
 
-cut_moves : (number : ℕ → ℕ) (owed : List Bytes) (n i : ℕ) (cause : Cause) (seats : List Seat) (seat after : Seat) → IsAt n i seats → slice_get seats i ≡ Some seat → IsClosed seat after → (s : State) → IsDueToCut number owed n cause seats s
-    → Moves (IsDeciding number owed (slice_set seats i after)) (Noted (Cut n cause)) s
-cut_moves number owed n i cause seats seat after at there closed s due =
-    moves_to refl (goes_cut s n cause due.none due.taking (cuts_due s n cause due.due))
-    (record {
-      none = ap (λ (o : Frame). o.has_made_room) (cut_frame n s) ∙ due.none;
-      at = ap (λ (o : Frame). o.phase) (cut_frame n s);
-      shown = closed_all number owed n i seats seat after true (in_phase Deciding s) due.shown at there closed;
-    })
-
-pub cuts_keep : CutsKeep
-cuts_keep number old new before now n i cause owed seats seat after call rose at there closed = keeps_more (λ l. Noted (Cut n cause)) call (λ l. rose) (λ l. cut_moves number owed n i cause seats seat after at there closed)
+pub cuts_lead : CutsLead
+cuts_lead number n i cause owed seats seat after s at there closed due = (
+  leads_on refl (goes_cut s n cause due.none due.taking (cuts_due s n cause due.due)) (close_client n true (in_phase Deciding s)) refl,
+  record {
+    none = ap (λ (o : Frame). o.has_made_room) (cut_frame n s) ∙ due.none;
+    at = ap (λ (o : Frame). o.phase) (cut_frame n s);
+    shown = closed_all number owed n i seats seat after true (in_phase Deciding s) due.shown at there closed;
+  },
+)
 
 -- ---- its connection is closed
 
@@ -176,15 +164,13 @@ over_in s n (x ∷ cs) c found over = by (λ isnt. over_in s n cs c (sym (ap (λ
         ∙ ap (λ (b : Bool). b || list_any (may_shut s n) cs) over
     by more false isnt = ap (λ (b : Bool). b && (x.is_closing || s.is_stopped) || list_any (may_shut s n) cs) isnt ∙ more isnt
 
-shut_moves : (number : ℕ → ℕ) (owed : List Bytes) (n i : ℕ) (seats : List Seat) (seat : Seat) → IsAt n i seats → slice_get seats i ≡ Some seat → (s : State) → IsToShut number owed seat seats s → Moves (IsClosingDown number owed (without_client n seats)) (Shut n) s
-shut_moves number owed n i seats seat at there s to =
-    let found : IsFound number s.settings.name owed seat n s.clients = places number s.settings.name owed seats s.clients n i seat to.down.shown at there in
-    moves_to refl (goes_shut s n to.down.none to.down.at (over_in s n s.clients found.client found.there (ap (λ (b : Bool). b || s.is_stopped) (sym found.shows.closing) ∙ to.over)))
-    (record {
-      none = ap (λ (o : Frame). o.has_made_room) (shut_frame n s) ∙ to.down.none;
-      at = ap (λ (o : Frame). o.phase) (shut_frame n s) ∙ to.down.at;
-      shown = subst (λ (p : Bytes × List Client). AreShown number p.0 owed (without_client n seats) p.1) (sym (seen_shut n s)) (gone number s.settings.name owed n (closing_by false) (λ x. refl) seats s.clients to.down.shown);
-    })
-
-pub shuts_keep : ShutsKeep
-shuts_keep number old new before now n i owed seats seat call rose at there = keeps_more (λ l. Shut n) call (λ l. rose) (λ l. shut_moves number owed n i seats seat at there)
+pub shuts_lead : ShutsLead
+shuts_lead number n i owed seats seat s at there to =
+    let found : IsFound number s.settings.name owed seat n s.clients = places number s.settings.name owed seats s.clients n i seat to.down.shown at there in (
+      leads_on refl (goes_shut s n to.down.none to.down.at (over_in s n s.clients found.client found.there (ap (λ (b : Bool). b || s.is_stopped) (sym found.shows.closing) ∙ to.over))) (shut n s) refl,
+      record {
+        none = ap (λ (o : Frame). o.has_made_room) (shut_frame n s) ∙ to.down.none;
+        at = ap (λ (o : Frame). o.phase) (shut_frame n s) ∙ to.down.at;
+        shown = subst (λ (p : Bytes × List Client). AreShown number p.0 owed (without_client n seats) p.1) (sym (seen_shut n s)) (gone number s.settings.name owed n (closing_by false) (λ x. refl) seats s.clients to.down.shown);
+      },
+    )

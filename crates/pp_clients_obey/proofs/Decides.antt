@@ -1,6 +1,6 @@
 -- A decision is what the law permits, and leads where the law leads.
 use Rattle.std.proofs.Common.{◌≡◌, refl, sym, subst, ap, ap₂, ◌∙◌, ℕ, nat_lt, Bool, true, false, not, ◌&&◌, ◌||◌, is_some, List, [], Option, Some, None, option_map, Result, Ok, Err}
-use Rattle.std.specs.Prelude.{slice_set}
+use Rattle.std.specs.Prelude.{slice_get, slice_set}
 use Rattle.pp_ask.specs.declared.kind.AskKind.{AskKind}
 use Rattle.pp_fresh.specs.declared.aging.Times.{Times}
 use Rattle.pp_head.specs.Request.{Request}
@@ -23,28 +23,25 @@ use Rattle.pp_law.specs.Replies.{regained}
 use Rattle.pp_law.specs.Requests.{Front, Parsed, NoHeadYet, NoHead, IsRequest, key_in, parsed_in}
 use Rattle.pp_law.specs.State.{State, Client, Deciding, Entry, Exchange, Instance, Reply}
 use Rattle.pp_law.specs.Table.{add_row, enter, forget, forget_row, idle_row, row_on_disk, mark_row, row, row_for, rows, swept, with_room}
-use Rattle.pp_obeys.specs.Moves.{Goes, Moves}
-use Rattle.pp_obeys.proofs.Calls.{keeps_more, moves_to}
-use Rattle.pp_obeys.proofs.Frames.{Frame, frame, frame_of, stays}
-use Rattle.pp_obeys.proofs.StaysAsks.{decided-stays}
+use Rattle.pp_obeys.specs.Moves.{Goes}
 use Rattle.pp_obeys.proofs.TurnHappenings.{goes_taken, goes_taken_behind}
 use Rattle.pp_seats.specs.declared.front.Front.{Front as SeatFront}
 use Rattle.pp_seats.specs.declared.front.Front.TheVariants.{NoHeadYet as NoneYet, NoHead as NoneThere, Request as IsThere}
 use Rattle.pp_seats.specs.declared.seat.Seat.{Seat}
 use Rattle.pp_seats.specs.Decided.{answering, asking, expects_in, paged, with_interim}
 use Rattle.pp_seats.specs.Heads.{asked_in}
-use Rattle.pp_seats_law.specs.Clients.{AreShown, IsFound}
+use Rattle.pp_seats_law.specs.Clients.{AreShown}
 use Rattle.pp_seats_law.specs.Decided.{MayBeDecided, expects_of}
 use Rattle.pp_seats_law.specs.Fronts.{ShowsFront}
 use Rattle.pp_seats_law.specs.Seats.{ShowsOpen, ShowsSeat}
-use Rattle.pp_seats_law.proofs.AllSeats.{changes_there, places}
+use Rattle.pp_seats_law.proofs.AllSeats.{changes_there}
 use Rattle.pp_seats_law.proofs.Decided.{answers, asks, pages}
 use Rattle.pp_seats_law.proofs.Stages.{begun, undecided}
-use Rattle.pp_clients_obey.specs.Deciding.{AsksKeep, FollowsKeep, IsOpen, IsToTake, PagesKeep, RelaysKeep, WasTaken, has_ask, is_ask, is_by_row, row_of_key}
+use Rattle.pp_clients_obey.specs.Deciding.{AsksLead, FollowsLead, IsOpen, IsTaken, IsToTake, PagesLead, RelaysLead, taken, has_ask, is_ask, is_by_row, row_of_key}
 use Rattle.pp_clients_obey.specs.Hearing.{Sits}
 use Rattle.pp_clients_obey.proofs.Closes.{seen_on, seen_swept}
 use Rattle.pp_clients_obey.proofs.Ends.{number_found}
-use Rattle.pp_clients_obey.proofs.Hears.{same_seat}
+use Rattle.pp_clients_obey.proofs.Hears.{leads_on, same_seat}
 use Rattle.pp_clients_obey.proofs.Says.{seen}
 
 -- ---- what of the table changes leaves the clients as they are
@@ -240,83 +237,55 @@ taken_is : (n : ℕ) (d : Decision) (c : Client) (s : State) → client s n ≡ 
 unfolding take_decision
 taken_is n d c s found = ap (λ (o : Option Client). elim o as (λ x. State) [ None ↦ s | Some y ↦ regained (record (decided y d s) { forgotten = []; has_made_room = None }) ]) found
 
-regained_room : (s : State) → (regained s).has_made_room ≡ s.has_made_room
-unfolding regained
-regained_room s = refl
-
-regained_phase : (s : State) → (regained s).phase ≡ s.phase
-unfolding regained
-regained_phase s = refl
-
-decided_phase : (c : Client) (d : Decision) (s : State) → (decided c d s).phase ≡ s.phase
-decided_phase c d s = let same : frame true (decided c d s) ≡ frame true s = frame_of {all = true} (decided-stays c d s (stays refl)) in ap (λ (o : Frame). o.phase) same
-
 goes_by_room : (number : ℕ → ℕ) (s : State) (n index : ℕ) (d : Decision) (owed : List Bytes) (seat : Seat) (seats : List Seat) (room : Option ℕ) → s.has_made_room ≡ room → IsToTake number owed n index d seat seats s → Goes s (Noted (Taken n index d)) (take_decision n d (in_phase Deciding s))
 goes_by_room number s n index d owed seat seats (Some who) made to = goes_taken_behind s n index d who made to.taking to.may (to.behind (ap is_some made))
 goes_by_room number s n index d owed seat seats None none to = goes_taken s n index d none to.taking to.may
 
-taken_moves : (number : ℕ → ℕ) (owed : List Bytes) (n i index : ℕ) (d : Decision) (seats : List Seat) (seat new : Seat) (f : Client → Client) → Sits n i seats seat → (s : State) → IsToTake number owed n index d seat seats s
-    → ((c : Client) → client s n ≡ Some c → ShowsSeat number s.settings.name owed seat c → IsChangedBy c.number f (in_phase Deciding s) (decided c d (in_phase Deciding s)))
-    → ((c : Client) → client s n ≡ Some c → ShowsSeat number s.settings.name owed seat c → ShowsSeat number s.settings.name owed new (f c)) → Moves (WasTaken number owed (slice_set seats i new)) (Noted (Taken n index d)) s
-taken_moves number owed n i index d seats seat new f sits s to leads shows =
-    let found : IsFound number s.settings.name owed seat n s.clients = places number s.settings.name owed seats s.clients n i seat to.shown sits.at sits.there in
-    let led : seen (decided found.client d (in_phase Deciding s)) ≡ (s.settings.name, change (is_client n) f s.clients)
-    = leads found.client found.there found.shows ∙ ap (λ (m : ℕ). (s.settings.name, change (is_client m) f s.clients)) (number_found n s.clients found.client found.there) in
-    let is : take_decision n d (in_phase Deciding s) ≡ regained (record (decided found.client d (in_phase Deciding s)) { forgotten = []; has_made_room = None })
-    = taken_is n d found.client (in_phase Deciding s) found.there in
-    moves_to refl (goes_by_room number s n index d owed seat seats s.has_made_room refl to)
-    (record {
-      none = ap (λ (t : State). t.has_made_room) is ∙ regained_room (record (decided found.client d (in_phase Deciding s)) { forgotten = []; has_made_room = None });
-      at = ap (λ (t : State). t.phase) is ∙ regained_phase (record (decided found.client d (in_phase Deciding s)) { forgotten = []; has_made_room = None }) ∙ decided_phase found.client d (in_phase Deciding s);
-      before = record (decided found.client d (in_phase Deciding s)) { forgotten = []; has_made_room = None };
-      shown = subst (λ (p : Bytes × List Client). AreShown number p.0 owed (slice_set seats i new) p.1) (sym led)
-          (changes_there number s.settings.name owed seats s.clients n i new f to.shown sits.at
-          (λ other c at there here. shows c there (subst (λ (x : Seat). ShowsSeat number s.settings.name owed x c) (same_seat seat other (sym sits.there ∙ at)) here)));
-      ended = is;
-    })
+taken_leads : (number : ℕ → ℕ) (owed : List Bytes) (n i index : ℕ) (d : Decision) (seats : List Seat) (seat new : Seat) (f : Client → Client) (c : Client) (s : State) → client s n ≡ Some c → Sits n i seats seat → IsToTake number owed n index d seat seats s
+    → IsChangedBy c.number f (in_phase Deciding s) (decided c d (in_phase Deciding s)) → (ShowsSeat number s.settings.name owed seat c → ShowsSeat number s.settings.name owed new (f c)) → IsTaken number owed n index d (slice_set seats i new) c s
+taken_leads number owed n i index d seats seat new f c s there sits to leads shows =
+    let led : seen (decided c d (in_phase Deciding s)) ≡ (s.settings.name, change (is_client n) f s.clients) = leads ∙ ap (λ (m : ℕ). (s.settings.name, change (is_client m) f s.clients)) (number_found n s.clients c there) in (
+      leads_on refl (goes_by_room number s n index d owed seat seats s.has_made_room refl to) (regained (taken c d s)) (taken_is n d c (in_phase Deciding s) there),
+      subst (λ (p : Bytes × List Client). AreShown number p.0 owed (slice_set seats i new) p.1) (sym led) (changes_there number s.settings.name owed seats s.clients n i new f to.shown sits.at (λ other x at found here. its x other at found here)),
+    )
+  where
+    its : (x : Client) (other : Seat) → slice_get seats i ≡ Some other → client s n ≡ Some x → ShowsSeat number s.settings.name owed other x → ShowsSeat number s.settings.name owed new (f x)
+    its x other at found here =
+        let same : x ≡ c = let e : Some x ≡ Some c = sym found ∙ there in cc e in
+        let own : ShowsSeat number s.settings.name owed seat c = subst (λ (y : Client). ShowsSeat number s.settings.name owed seat y) same (subst (λ (y : Seat). ShowsSeat number s.settings.name owed y x) (same_seat seat other (sym sits.there ∙ at)) here) in
+        subst (λ (y : Client). ShowsSeat number s.settings.name owed new (f y)) (sym same) (shows own)
 
 -- ---- a page
 
-pub pages_keep : PagesKeep
-pages_keep number old new before now n i index status account owed seats seat call rose sits open_seat has fits =
-    keeps_more (λ l. Noted (Taken n index (Refuse status))) call (λ l. rose)
-    (λ l s to.
-    taken_moves number owed n i index (Refuse status) seats seat (record (paged status (with_interim seat)) { account = account }) (refused_with status) sits s to
-    (λ c found shows. page_decided c status (in_phase Deciding s))
-    (λ c found shows.
+pub pages_lead : PagesLead
+pages_lead number n i index status account owed seats seat c s there sits open_seat has fits to =
+    taken_leads number owed n i index (Refuse status) seats seat (record (paged status (with_interim seat)) { account = account }) (refused_with status) c s there sits to (page_decided c status (in_phase Deciding s))
+    (λ shows.
     let going : c.is_closing ≡ false = sym shows.closing ∙ sits.going in
-    pages number status account s.settings.name owed seat c shows going (may_decide number s.settings.name owed seat c (shows.going going) open_seat (to.expects c found)) has fits))
+    pages number status account s.settings.name owed seat c shows going (may_decide number s.settings.name owed seat c (shows.going going) open_seat (to.expects c there)) has fits)
 
 -- ---- an ask
 
-pub asks_keep : AsksKeep
-asks_keep number old new before now n i index d owed seats seat call rose sits open_seat is isnt =
-    keeps_more (λ l. Noted (Taken n index d)) call (λ l. rose)
-    (λ l s to.
-    taken_moves number owed n i index d seats seat (asking (is_pass d) (with_interim seat)) (asking_with d) sits s to.take
-    (λ c found shows. ask_decided c d (in_phase Deciding s) is (to.asks c found))
-    (λ c found shows.
+pub asks_lead : AsksLead
+asks_lead number n i index d owed seats seat c s there sits open_seat is isnt to =
+    taken_leads number owed n i index d seats seat (asking (is_pass d) (with_interim seat)) (asking_with d) c s there sits to.take (ask_decided c d (in_phase Deciding s) is (to.asks c there))
+    (λ shows.
     let going : c.is_closing ≡ false = sym shows.closing ∙ sits.going in
-    asks number d s.settings.name owed seat c shows going (may_decide number s.settings.name owed seat c (shows.going going) open_seat (to.take.expects c found)) isnt))
+    asks number d s.settings.name owed seat c shows going (may_decide number s.settings.name owed seat c (shows.going going) open_seat (to.take.expects c there)) isnt)
 
 -- ---- a reply by the row
 
-pub follows_keep : FollowsKeep
-follows_keep number old new before now n i index d id owed seats seat call rose sits open_seat is isnt =
-    keeps_more (λ l. Noted (Taken n index d)) call (λ l. rose)
-    (λ l s to.
-    taken_moves number owed n i index d seats seat (answering d (Some id) (span_of d) (with_interim seat)) (answering_with (reply_by d (Some (number id.life)))) sits s to.take
-    (λ c found shows. follow_decided c d (number id.life) (in_phase Deciding s) is (to.known c found))
-    (λ c found shows.
+pub follows_lead : FollowsLead
+follows_lead number n i index d id owed seats seat c s there sits open_seat is isnt to =
+    taken_leads number owed n i index d seats seat (answering d (Some id) (span_of d) (with_interim seat)) (answering_with (reply_by d (Some (number id.life)))) c s there sits to.take
+    (follow_decided c d (number id.life) (in_phase Deciding s) is (to.known c there))
+    (λ shows.
     let going : c.is_closing ≡ false = sym shows.closing ∙ sits.going in
-    answers number d (Some id) s.settings.name owed seat c shows going (may_decide number s.settings.name owed seat c (shows.going going) open_seat (to.take.expects c found)) isnt))
+    answers number d (Some id) s.settings.name owed seat c shows going (may_decide number s.settings.name owed seat c (shows.going going) open_seat (to.take.expects c there)) isnt)
 
-pub relays_keep : RelaysKeep
-relays_keep number old new before now n i index owed seats seat call rose sits open_seat isnt =
-    keeps_more (λ l. Noted (Taken n index Relay)) call (λ l. rose)
-    (λ l s to.
-    taken_moves number owed n i index Relay seats seat (answering Relay None (0, 0) (with_interim seat)) (answering_with (reply_by Relay None)) sits s to
-    (λ c found shows. relay_decided c (in_phase Deciding s))
-    (λ c found shows.
+pub relays_lead : RelaysLead
+relays_lead number n i index owed seats seat c s there sits open_seat isnt to =
+    taken_leads number owed n i index Relay seats seat (answering Relay None (0, 0) (with_interim seat)) (answering_with (reply_by Relay None)) c s there sits to (relay_decided c (in_phase Deciding s))
+    (λ shows.
     let going : c.is_closing ≡ false = sym shows.closing ∙ sits.going in
-    answers number Relay None s.settings.name owed seat c shows going (may_decide number s.settings.name owed seat c (shows.going going) open_seat (to.expects c found)) isnt))
+    answers number Relay None s.settings.name owed seat c shows going (may_decide number s.settings.name owed seat c (shows.going going) open_seat (to.expects c there)) isnt)

@@ -10,14 +10,13 @@ use Rattle.pp_law.specs.After.{paid}
 use Rattle.pp_law.specs.Closing.{close_client, forsake, is_of}
 use Rattle.pp_law.specs.Connections.{client, is_client, on_client}
 use Rattle.pp_law.specs.Lists.{Bytes, change}
-use Rattle.pp_law.specs.Replies.{close_finished, end_reply, end_said, is_finished, is_said as is_over, next_request, said_by, use_said}
+use Rattle.pp_law.specs.Replies.{close_finished, end_replies, end_reply, end_said, is_finished, is_said as is_over, next_request, said_by, use_said}
 use Rattle.pp_law.specs.Requests.{Front, IsRequest, NoHead, NoHeadYet, Parsed, has_request}
 use Rattle.pp_law.specs.State.{State, Client}
 use Rattle.pp_law.specs.Table.{swept}
 use Rattle.pp_laws.proofs.Callers.{next_request-same, said_by-same}
 use Rattle.pp_laws.proofs.Tests.{same_number, second_holds}
-use Rattle.pp_obeys.specs.Moves.{Moves}
-use Rattle.pp_obeys.proofs.Calls.{keeps_as, keeps_more, moves_to}
+use Rattle.pp_obeys.specs.Moves.{Leads}
 use Rattle.pp_obeys.proofs.Happenings.{goes_said}
 use Rattle.pp_seats.specs.Accounts.{said as said_account}
 use Rattle.pp_seats.specs.declared.front.Front.{Front as SeatFront}
@@ -35,11 +34,11 @@ use Rattle.pp_seats_law.proofs.Nexts.{found_holds}
 use Rattle.pp_seats_law.proofs.SaidOn.{IsToldBy, open_told, told_with}
 use Rattle.pp_seats_law.proofs.SaidWhole.{endings, ends_same}
 use Rattle.pp_clients_obey.specs.Closing.{IsClosed}
-use Rattle.pp_clients_obey.specs.Ending.{AreSettledBut, EndsKeep, GoesOn, IsLeftAs, LastsKeep, LeavesNone, RestsKeep, keeps_open_in}
-use Rattle.pp_clients_obey.specs.Hearing.{Sits, WasOwed, WasRead}
-use Rattle.pp_clients_obey.specs.Saying.{OwesWrite}
+use Rattle.pp_clients_obey.specs.Ending.{AreSettledBut, EndsLead, GoesOn, IsLeftAs, LastsLead, LeavesNone, RestsAreTheLaws, keeps_open_in}
+use Rattle.pp_clients_obey.specs.Hearing.{AreSeen, Sits}
+use Rattle.pp_clients_obey.specs.Saying.{OwesWrite, told_to}
 use Rattle.pp_clients_obey.proofs.Closes.{closed_all, closed_shows, closing_by, seen_closed, seen_forsaken, seen_on, seen_swept}
-use Rattle.pp_clients_obey.proofs.Hears.{same_seat}
+use Rattle.pp_clients_obey.proofs.Hears.{leads_on, same_seat}
 use Rattle.pp_clients_obey.proofs.Says.{said_is, seen, seen_said}
 use Rattle.pp_clients_obey.proofs.Walks.{AllRestBut, Changes, all_rest, change_rest, change_twice, close_none, close_one, end_none, end_one, ends_by, found_in, found_rests, not_over}
 
@@ -165,20 +164,13 @@ none_end n t c found all isnt = record {
   others_then = λ m x other there. end_none x t (found_rests n m t.clients x all there other).said;
 }
 
-rested : (number : ℕ → ℕ) (owed : List Bytes) (n i : ℕ) (seats : List Seat) (seat new : Seat) → IsAt n i seats → slice_get seats i ≡ Some seat → AreSettledBut n seats → (seat.is_closing ≡ false → is_said seat.client.reply ≡ false)
-    → IsLeftAs (finished_in seat) seat new → (s : State) → WasRead number owed seats s → WasOwed number owed (slice_set seats i new) s
-rested number owed n i seats seat new at there settled unsaid left s was =
-    let t : State = was.before in
-    let here : IsFound number t.settings.name owed seat n t.clients = places number t.settings.name owed seats t.clients n i seat was.shown at there in
-    let all : AllRestBut n t.clients = all_rest number t.settings.name owed seats t.clients n was.shown settled in
-    let f : Finishes number owed (slice_set seats i new) n t = finishes number owed n i seats seat new t (finished_in seat) was.shown at there all refl left in record {
-      before = f.last;
-      shown = f.shown;
-      ended = was.ended ∙ ap paid (ends_by n t t f.last (none_end n t here.client here.there all (not_over number t.settings.name owed seat here.client here.shows unsaid here.client.is_closing refl)) f.closes);
-    }
-
-pub rests_keep : RestsKeep
-rests_keep number log m n i owed seats seat new at there settled unsaid left = keeps_as log m (λ s was. rested number owed n i seats seat new at there settled unsaid left s was)
+pub rests : RestsAreTheLaws
+rests number n i owed seats seat new t at there settled unsaid left shown =
+    let here : IsFound number t.settings.name owed seat n t.clients = places number t.settings.name owed seats t.clients n i seat shown at there in
+    let all : AllRestBut n t.clients = all_rest number t.settings.name owed seats t.clients n shown settled in
+    let f : Finishes number owed (slice_set seats i new) n t = finishes number owed n i seats seat new t (finished_in seat) shown at there all refl left in
+    subst (λ (s : State). AreSeen number owed (slice_set seats i new) s)
+    (sym (ends_by n t t f.last (none_end n t here.client here.there all (not_over number t.settings.name owed seat here.client here.shows unsaid here.client.is_closing refl)) f.closes)) f.shown
 
 -- ---- the last bytes of a reply
 
@@ -194,13 +186,10 @@ record Writes (number : ℕ → ℕ) (owed : List Bytes) (n i k : ℕ) (seats : 
   found : client s n ≡ Some c
   shows : ShowsSeat number s.settings.name owed seat c
 
-abbrev said_state : ℕ → ℕ → Client → State → State
-said_state k n c s = on_client n (said_by k) (use_said k c s)
-
 said_number : (k : ℕ) (x : Client) → (said_by k x).number ≡ x.number
 said_number k x = (said_by-same k x).number
 
-said_has : (k n : ℕ) (c : Client) (s : State) → Has s.settings.name (change (is_client n) (said_by k) s.clients) (said_state k n c s)
+said_has : (k n : ℕ) (c : Client) (s : State) → Has s.settings.name (change (is_client n) (said_by k) s.clients) (told_to k n c s)
 said_has k n c s = record { same = seen_on n (said_by k) (use_said k c s) ∙ ap (λ (p : Bytes × List Client). (p.0, change (is_client n) (said_by k) p.1)) (seen_said k c s) }
 
 told_so : (number : ℕ → ℕ) (name : Bytes) (owed : List Bytes) (seat : Seat) (c : Client) (k : ℕ) → ShowsSeat number name owed seat c → seat.is_closing ≡ false → k ≤ left_next seat.client.reply → IsToldBy number k name owed seat c (said_account k seat.account) (said_in k seat.client.reply)
@@ -227,20 +216,20 @@ said_rest number owed n i k seats seat s c w = change_rest (said_by k) (said_num
 
 -- how the reply ends: what becomes of its client
 ending_with : (number : ℕ → ℕ) (owed : List Bytes) (n i k : ℕ) (seats : List Seat) (seat : Seat) (s : State) (c : Client) (g : Client → Client) (t : State) → Writes number owed n i k seats seat s c → ((x : Client) → (g x).number ≡ x.number)
-    → Has s.settings.name (change (is_client n) g (change (is_client n) (said_by k) s.clients)) t → end_reply (said_by k c) (said_state k n c s) ≡ t → (is_over (g (said_by k c)) && not (g (said_by k c)).is_closing) ≡ false
-    → Changes end_said n (said_state k n c s) t
+    → Has s.settings.name (change (is_client n) g (change (is_client n) (said_by k) s.clients)) t → end_reply (said_by k c) (told_to k n c s) ≡ t → (is_over (g (said_by k c)) && not (g (said_by k c)).is_closing) ≡ false
+    → Changes end_said n (told_to k n c s) t
 ending_with number owed n i k seats seat s c g t w kept has leads isnt =
     let here : find (is_client n) (change (is_client n) (said_by k) s.clients) ≡ Some (said_by k c) = found_in (said_by k) (said_number k) n s.clients c w.found in
-    let rest : AllRestBut n (said_state k n c s).clients = rest_in s.settings.name (change (is_client n) (said_by k) s.clients) n (said_state k n c s) (said_has k n c s) (said_rest number owed n i k seats seat s c w) in
+    let rest : AllRestBut n (told_to k n c s).clients = rest_in s.settings.name (change (is_client n) (said_by k) s.clients) n (told_to k n c s) (said_has k n c s) (said_rest number owed n i k seats seat s c w) in
     let then : AllRestBut n t.clients
     = rest_in s.settings.name (change (is_client n) g (change (is_client n) (said_by k) s.clients)) n t has (change_rest g kept n (change (is_client n) (said_by k) s.clients) (said_rest number owed n i k seats seat s c w)) in record {
       here = said_by k c;
-      found = client_in s.settings.name (change (is_client n) (said_by k) s.clients) n (said_by k c) (said_state k n c s) (said_has k n c s) here;
-      leads = end_one (said_by k c) (said_state k n c s) (is_over_now number owed n i k seats seat s c w) ∙ leads;
+      found = client_in s.settings.name (change (is_client n) (said_by k) s.clients) n (said_by k c) (told_to k n c s) (said_has k n c s) here;
+      leads = end_one (said_by k c) (told_to k n c s) (is_over_now number owed n i k seats seat s c w) ∙ leads;
       now = g (said_by k c);
       again = client_in s.settings.name (change (is_client n) g (change (is_client n) (said_by k) s.clients)) n (g (said_by k c)) t has (found_in g kept n (change (is_client n) (said_by k) s.clients) (said_by k c) here);
       stays = end_none (g (said_by k c)) t isnt;
-      others = λ m x other there. end_none x (said_state k n c s) (found_rests n m (said_state k n c s).clients x rest there other).said;
+      others = λ m x other there. end_none x (told_to k n c s) (found_rests n m (told_to k n c s).clients x rest there other).said;
       others_then = λ m x other there. end_none x t (found_rests n m t.clients x then there other).said;
     }
 
@@ -309,35 +298,47 @@ next_number k seat next all read = ap (λ (y : Seat). y.client.id) read.1 ∙ to
 next_silent : (x : Client) → (is_over (next_request x) && not (next_request x).is_closing) ≡ false
 next_silent x = refl
 
-ended_next : (number : ℕ → ℕ) (owed : List Bytes) (n i offered : ℕ) (seats : List Seat) (seat next after : Seat) (bytes : Bytes) → Sits n i seats seat → AreSettledBut n seats → LeavesNone seat bytes → GoesOn seat → IsRead (at_next_request (told_by (length bytes) seat)) next
-    → IsLeftAs (finished_in next) next after → (s : State) → OwesWrite number owed n offered bytes seats s → Moves (WasOwed number owed (slice_set seats i after)) (Said n offered bytes) s
-ended_next number owed n i offered seats seat next after bytes sits settled leaves goes read left s owes =
-    let found : IsFound number s.settings.name owed seat n s.clients = places number s.settings.name owed seats s.clients n i seat owes.shown sits.at sits.there in
-    let w : Writes number owed n i (length bytes) seats seat s found.client
-    = record { shown = owes.shown; at = sits.at; there = sits.there; going = sits.going; settled = settled; few = leaves.few; all = leaves.all; found = found.there; shows = found.shows } in
-    let has : Has s.settings.name (change (is_client n) next_request (change (is_client n) (said_by (length bytes)) s.clients)) (swept (forsake (is_of n) (on_client n next_request (said_state (length bytes) n found.client s))))
-    = next_has s.settings.name (change (is_client n) (said_by (length bytes)) s.clients) n (said_state (length bytes) n found.client s) (said_has (length bytes) n found.client s) in
-    let leads : end_reply (said_by (length bytes) found.client) (said_state (length bytes) n found.client s) ≡ swept (forsake (is_of n) (on_client n next_request (said_state (length bytes) n found.client s)))
-    = next_leads (said_by (length bytes) found.client) n (said_state (length bytes) n found.client s) (sym (closes_so number owed n i (length bytes) seats seat s found.client w) ∙ goes.stays) (said_number (length bytes) found.client ∙ number_found n s.clients found.client found.there) in
-    let over : Changes end_said n (said_state (length bytes) n found.client s) (swept (forsake (is_of n) (on_client n next_request (said_state (length bytes) n found.client s))))
-    = ending_with number owed n i (length bytes) seats seat s found.client next_request (swept (forsake (is_of n) (on_client n next_request (said_state (length bytes) n found.client s)))) w (λ x. (next_request-same x).number) has leads (next_silent (said_by (length bytes) found.client)) in
-    let f : Finishes number owed (slice_set (slice_set seats i next) i after) n (swept (forsake (is_of n) (on_client n next_request (said_state (length bytes) n found.client s))))
-    = finishes number owed n i (slice_set seats i next) next after (swept (forsake (is_of n) (on_client n next_request (said_state (length bytes) n found.client s)))) (finished_in next)
-    (then_shown number owed n i (length bytes) seats seat next s found.client next_request (swept (forsake (is_of n) (on_client n next_request (said_state (length bytes) n found.client s)))) w has
+-- it leads there
+said_leads : (number : ℕ → ℕ) (owed : List Bytes) (n offered : ℕ) (seats : List Seat) (bytes : Bytes) (c : Client) (s : State) → client s n ≡ Some c → OwesWrite number owed n offered bytes seats s → Leads (Said n offered bytes ∷ []) s (paid (end_replies (told_to (length bytes) n c s)))
+said_leads number owed n offered seats bytes c s there owes =
+    leads_on refl (goes_said s n offered bytes c owes.none owes.writes there (owes.first c there)) (paid (end_replies (told_to (length bytes) n c s))) (said_is n (length bytes) c s there)
+
+writes : (number : ℕ → ℕ) (owed : List Bytes) (n i offered : ℕ) (seats : List Seat) (seat : Seat) (bytes : Bytes) (c : Client) (s : State) → client s n ≡ Some c → Sits n i seats seat → AreSettledBut n seats → LeavesNone seat bytes → OwesWrite number owed n offered bytes seats s
+    → Writes number owed n i (length bytes) seats seat s c
+writes number owed n i offered seats seat bytes c s there sits settled leaves owes =
+    let here : IsFound number s.settings.name owed seat n s.clients = places number s.settings.name owed seats s.clients n i seat owes.shown sits.at sits.there in
+    let same : here.client ≡ c = let e : Some here.client ≡ Some c = sym here.there ∙ there in cc e in record {
+      shown = owes.shown;
+      at = sits.at;
+      there = sits.there;
+      going = sits.going;
+      settled = settled;
+      few = leaves.few;
+      all = leaves.all;
+      found = there;
+      shows = subst (λ (x : Client). ShowsSeat number s.settings.name owed seat x) same here.shows;
+    }
+
+pub ends_lead : EndsLead
+ends_lead number n i offered owed seats seat next after bytes c s there sits settled leaves goes read left owes =
+    let w : Writes number owed n i (length bytes) seats seat s c = writes number owed n i offered seats seat bytes c s there sits settled leaves owes in
+    let has : Has s.settings.name (change (is_client n) next_request (change (is_client n) (said_by (length bytes)) s.clients)) (swept (forsake (is_of n) (on_client n next_request (told_to (length bytes) n c s))))
+    = next_has s.settings.name (change (is_client n) (said_by (length bytes)) s.clients) n (told_to (length bytes) n c s) (said_has (length bytes) n c s) in
+    let leads : end_reply (said_by (length bytes) c) (told_to (length bytes) n c s) ≡ swept (forsake (is_of n) (on_client n next_request (told_to (length bytes) n c s)))
+    = next_leads (said_by (length bytes) c) n (told_to (length bytes) n c s) (sym (closes_so number owed n i (length bytes) seats seat s c w) ∙ goes.stays) (said_number (length bytes) c ∙ number_found n s.clients c there) in
+    let over : Changes end_said n (told_to (length bytes) n c s) (swept (forsake (is_of n) (on_client n next_request (told_to (length bytes) n c s))))
+    = ending_with number owed n i (length bytes) seats seat s c next_request (swept (forsake (is_of n) (on_client n next_request (told_to (length bytes) n c s)))) w (λ x. (next_request-same x).number) has leads (next_silent (said_by (length bytes) c)) in
+    let f : Finishes number owed (slice_set (slice_set seats i next) i after) n (swept (forsake (is_of n) (on_client n next_request (told_to (length bytes) n c s))))
+    = finishes number owed n i (slice_set seats i next) next after (swept (forsake (is_of n) (on_client n next_request (told_to (length bytes) n c s)))) (finished_in next)
+    (then_shown number owed n i (length bytes) seats seat next s c next_request (swept (forsake (is_of n) (on_client n next_request (told_to (length bytes) n c s)))) w has
     (λ x shows. next_shows number s.settings.name owed (length bytes) seat next x shows sits.going leaves.few leaves.all goes read))
     (at_set n i seats seat next sits.at sits.there (next_number (length bytes) seat next leaves.all read)) (get_set n i seats next sits.at)
-    (then_rest number owed n i (length bytes) seats seat s found.client next_request (swept (forsake (is_of n) (on_client n next_request (said_state (length bytes) n found.client s)))) w (λ x. (next_request-same x).number) has) refl left in
-    moves_to refl (goes_said s n offered bytes found.client owes.none owes.writes found.there (owes.first found.client found.there))
-    (record {
-      before = f.last;
-      shown = subst (λ (rest : List Seat). AreShown number f.last.settings.name owed rest f.last.clients) (set_set n i seats next after sits.at) f.shown;
-      ended = said_is n (length bytes) found.client s found.there
-          ∙ ap paid (ends_by n (said_state (length bytes) n found.client s) (swept (forsake (is_of n) (on_client n next_request (said_state (length bytes) n found.client s)))) f.last over f.closes);
-    })
-
-pub ends_keep : EndsKeep
-ends_keep number old new before now n i offered owed seats seat next after bytes call rose sits settled leaves goes read left =
-    keeps_more (λ l. Said n offered bytes) call (λ l. rose) (λ l. ended_next number owed n i offered seats seat next after bytes sits settled leaves goes read left)
+    (then_rest number owed n i (length bytes) seats seat s c next_request (swept (forsake (is_of n) (on_client n next_request (told_to (length bytes) n c s)))) w (λ x. (next_request-same x).number) has) refl left in (
+      said_leads number owed n offered seats bytes c s there owes,
+      subst (λ (t : State). AreSeen number owed (slice_set seats i after) t)
+          (sym (ends_by n (told_to (length bytes) n c s) (swept (forsake (is_of n) (on_client n next_request (told_to (length bytes) n c s)))) f.last over f.closes))
+          (subst (λ (rest : List Seat). AreShown number f.last.settings.name owed rest f.last.clients) (set_set n i seats next after sits.at) f.shown),
+    )
 
 -- ---- behind the last reply
 
@@ -350,31 +351,22 @@ last_leads x n s closes number =
 closed_silent : (x : Client) → (is_over (closing_by false x) && not (closing_by false x).is_closing) ≡ false
 closed_silent x = and_false (is_over (closing_by false x))
 
-ended_last : (number : ℕ → ℕ) (owed : List Bytes) (n i offered : ℕ) (seats : List Seat) (seat after : Seat) (bytes : Bytes) → Sits n i seats seat → AreSettledBut n seats → LeavesNone seat bytes → seat.closes ≡ true → IsClosed seat after → (s : State)
-    → OwesWrite number owed n offered bytes seats s → Moves (WasOwed number owed (slice_set seats i after)) (Said n offered bytes) s
-ended_last number owed n i offered seats seat after bytes sits settled leaves closes closed s owes =
-    let found : IsFound number s.settings.name owed seat n s.clients = places number s.settings.name owed seats s.clients n i seat owes.shown sits.at sits.there in
-    let w : Writes number owed n i (length bytes) seats seat s found.client
-    = record { shown = owes.shown; at = sits.at; there = sits.there; going = sits.going; settled = settled; few = leaves.few; all = leaves.all; found = found.there; shows = found.shows } in
-    let has : Has s.settings.name (change (is_client n) (closing_by false) (change (is_client n) (said_by (length bytes)) s.clients)) (close_client n false (said_state (length bytes) n found.client s))
-    = closed_has s.settings.name (change (is_client n) (said_by (length bytes)) s.clients) n (said_state (length bytes) n found.client s) (said_has (length bytes) n found.client s) in
-    let leads : end_reply (said_by (length bytes) found.client) (said_state (length bytes) n found.client s) ≡ close_client n false (said_state (length bytes) n found.client s)
-    = last_leads (said_by (length bytes) found.client) n (said_state (length bytes) n found.client s) (sym (closes_so number owed n i (length bytes) seats seat s found.client w) ∙ closes) (said_number (length bytes) found.client ∙ number_found n s.clients found.client found.there) in
-    let over : Changes end_said n (said_state (length bytes) n found.client s) (close_client n false (said_state (length bytes) n found.client s))
-    = ending_with number owed n i (length bytes) seats seat s found.client (closing_by false) (close_client n false (said_state (length bytes) n found.client s)) w (λ x. refl) has leads (closed_silent (said_by (length bytes) found.client)) in
-    let none : Changes close_finished n (close_client n false (said_state (length bytes) n found.client s)) (close_client n false (said_state (length bytes) n found.client s))
-    = stays_then n (close_client n false (said_state (length bytes) n found.client s)) (closing_by false (said_by (length bytes) found.client))
-    (again_so number owed n i (length bytes) seats seat s found.client (closing_by false) (close_client n false (said_state (length bytes) n found.client s)) w (λ x. refl) has)
-    (then_rest number owed n i (length bytes) seats seat s found.client (closing_by false) (close_client n false (said_state (length bytes) n found.client s)) w (λ x. refl) has) (not_finished (closing_by false (said_by (length bytes) found.client)) refl) in
-    moves_to refl (goes_said s n offered bytes found.client owes.none owes.writes found.there (owes.first found.client found.there))
-    (record {
-      before = close_client n false (said_state (length bytes) n found.client s);
-      shown = then_shown number owed n i (length bytes) seats seat after s found.client (closing_by false) (close_client n false (said_state (length bytes) n found.client s)) w has
-          (λ x shows. closed_shows number s.settings.name owed seat after x (closing_by false (said_by (length bytes) x)) shows closed (said_number (length bytes) x) refl);
-      ended = said_is n (length bytes) found.client s found.there
-          ∙ ap paid (ends_by n (said_state (length bytes) n found.client s) (close_client n false (said_state (length bytes) n found.client s)) (close_client n false (said_state (length bytes) n found.client s)) over none);
-    })
-
-pub lasts_keep : LastsKeep
-lasts_keep number old new before now n i offered owed seats seat after bytes call rose sits settled leaves closes closed =
-    keeps_more (λ l. Said n offered bytes) call (λ l. rose) (λ l. ended_last number owed n i offered seats seat after bytes sits settled leaves closes closed)
+pub lasts_lead : LastsLead
+lasts_lead number n i offered owed seats seat after bytes c s there sits settled leaves closes closed owes =
+    let w : Writes number owed n i (length bytes) seats seat s c = writes number owed n i offered seats seat bytes c s there sits settled leaves owes in
+    let has : Has s.settings.name (change (is_client n) (closing_by false) (change (is_client n) (said_by (length bytes)) s.clients)) (close_client n false (told_to (length bytes) n c s))
+    = closed_has s.settings.name (change (is_client n) (said_by (length bytes)) s.clients) n (told_to (length bytes) n c s) (said_has (length bytes) n c s) in
+    let leads : end_reply (said_by (length bytes) c) (told_to (length bytes) n c s) ≡ close_client n false (told_to (length bytes) n c s)
+    = last_leads (said_by (length bytes) c) n (told_to (length bytes) n c s) (sym (closes_so number owed n i (length bytes) seats seat s c w) ∙ closes) (said_number (length bytes) c ∙ number_found n s.clients c there) in
+    let over : Changes end_said n (told_to (length bytes) n c s) (close_client n false (told_to (length bytes) n c s))
+    = ending_with number owed n i (length bytes) seats seat s c (closing_by false) (close_client n false (told_to (length bytes) n c s)) w (λ x. refl) has leads (closed_silent (said_by (length bytes) c)) in
+    let none : Changes close_finished n (close_client n false (told_to (length bytes) n c s)) (close_client n false (told_to (length bytes) n c s))
+    = stays_then n (close_client n false (told_to (length bytes) n c s)) (closing_by false (said_by (length bytes) c))
+    (again_so number owed n i (length bytes) seats seat s c (closing_by false) (close_client n false (told_to (length bytes) n c s)) w (λ x. refl) has)
+    (then_rest number owed n i (length bytes) seats seat s c (closing_by false) (close_client n false (told_to (length bytes) n c s)) w (λ x. refl) has) (not_finished (closing_by false (said_by (length bytes) c)) refl) in (
+      said_leads number owed n offered seats bytes c s there owes,
+      subst (λ (t : State). AreSeen number owed (slice_set seats i after) t)
+          (sym (ends_by n (told_to (length bytes) n c s) (close_client n false (told_to (length bytes) n c s)) (close_client n false (told_to (length bytes) n c s)) over none))
+          (then_shown number owed n i (length bytes) seats seat after s c (closing_by false) (close_client n false (told_to (length bytes) n c s)) w has
+          (λ x shows. closed_shows number s.settings.name owed seat after x (closing_by false (said_by (length bytes) x)) shows closed (said_number (length bytes) x) refl)),
+    )

@@ -1,10 +1,10 @@
 -- A read of a client is what the law permits, and leads where the law leads.
-use Rattle.std.proofs.Common.{◌≡◌, ◌≤◌, ◌+◌, ◌-◌, ℕ, Bool, true, false, ◌==◌, ◌&&◌, ◌||◌, List, [], length, length-drop, drop, refl, sym, ◌∙◌, ap, subst, arith, Option, Some, Result, Ok, Err}
+use Rattle.std.proofs.Common.{◌≡◌, ◌≤◌, ◌+◌, ◌-◌, ℕ, Bool, true, false, ◌==◌, ◌&&◌, ◌||◌, List, [], ◌∷◌, length, length-drop, drop, refl, sym, ◌∙◌, ap, subst, arith, Option, Some, Result, Ok, Err}
 use Rattle.std.proofs.lemmas.Bool.Decides.{nat_tests}
 use Rattle.std.specs.Prelude.{is_some, min, nat_le, slice_get, slice_set}
 use Rattle.pp_framing.specs.declared.body.BodyRule.{BodyRule}
 use Rattle.pp_framing.specs.declared.framing.FramingFault.{FramingFault}
-use Rattle.pp_world.specs.declared.happening.Happening.TheVariants.{Heard, HungUp, NoneYet}
+use Rattle.pp_world.specs.declared.happening.Happening.{Happening}
 use Rattle.pp_law.specs.After.{paid}
 use Rattle.pp_law.specs.Asking.{fits_heard, hang_up, hear, is_read, is_reading, is_writing, read_limit}
 use Rattle.pp_law.specs.Closing.{close_client}
@@ -15,8 +15,8 @@ use Rattle.pp_law.specs.Permits.{is_owed}
 use Rattle.pp_law.specs.Replies.{end_replies}
 use Rattle.pp_law.specs.Requests.{Front, NoHeadYet, NoHead, IsRequest}
 use Rattle.pp_law.specs.State.{State, Client, Owed, ReadOf}
-use Rattle.pp_obeys.specs.Moves.{Moves}
-use Rattle.pp_obeys.proofs.Calls.{keeps_more, moves_to}
+use Rattle.pp_obeys.specs.Failures.{wakes}
+use Rattle.pp_obeys.specs.Moves.{Goes, Leads}
 use Rattle.pp_obeys.proofs.Happenings.{goes_heard, goes_hung_up, goes_none_yet}
 use Rattle.pp_seats.specs.declared.seat.Seat.{Seat}
 use Rattle.pp_seats.specs.Seats.{IsRead}
@@ -25,7 +25,7 @@ use Rattle.pp_seats_law.specs.Reads.{heard_on}
 use Rattle.pp_seats_law.specs.Seats.{ShowsOpen, ShowsSeat}
 use Rattle.pp_seats_law.proofs.AllSeats.{changes, places}
 use Rattle.pp_seats_law.proofs.Hears.{hang_ups, reads}
-use Rattle.pp_clients_obey.specs.Hearing.{HangUpsKeep, HasCome, NonesKeep, OwesRead, ReadsKeep, Sits, WasOwed, WasRead}
+use Rattle.pp_clients_obey.specs.Hearing.{HangUpsLead, HasCome, NonesLead, OwesRead, ReadsLead, Sits, hung_up}
 
 -- ---- what came has room
 
@@ -106,17 +106,19 @@ hear_is : (n : ℕ) (bytes : Bytes) (s : State) → paid (hear n bytes s) ≡ pa
 unfolding hear
 hear_is n bytes s = refl
 
-heard_moves : (number : ℕ → ℕ) (owed : List Bytes) (n i : ℕ) (seats : List Seat) (seat after : Seat) (bytes : Bytes) → Sits n i seats seat → HasCome seat bytes → IsRead (heard_on bytes seat) after → (s : State) → OwesRead number owed n seats s
-    → Moves (WasRead number owed (slice_set seats i after)) (Heard n bytes) s
-heard_moves number owed n i seats seat after bytes sits come is s owes =
-    let who : IsThere number s.settings.name owed seat n s = there number owed n i seats seat s owes sits in
-    moves_to refl
-    (goes_heard s n bytes owes.none owes.reads (is_read_now seat bytes come)
-    (ap (λ (o : Option Client). is_some_with (fits_heard bytes) o) who.found ∙ fits number s.settings.name owed seat who.here bytes (who.shows.going who.going) come))
-    (record { before = on_client n (heard_by bytes) s; shown = heard_all number owed n i seats seat after bytes s owes sits is; ended = hear_is n bytes s })
+-- it may come, and leads there
+pub leads_on : {s t : State} {h : Happening} → wakes h ≡ false → Goes s h t → (u : State) → t ≡ u → Leads (h ∷ []) s u
+leads_on quiet goes u is = record { awake = quiet; may = goes.may; holds = goes.leads ∙ is }
 
-pub reads_keep : ReadsKeep
-reads_keep number old new before now n i owed seats seat after bytes call rose sits come is = keeps_more (λ l. Heard n bytes) call (λ l. rose) (λ l. heard_moves number owed n i seats seat after bytes sits come is)
+pub reads_lead : ReadsLead
+reads_lead number n i owed seats seat after bytes s sits come is owes =
+    let who : IsThere number s.settings.name owed seat n s = there number owed n i seats seat s owes sits in (
+      leads_on refl
+          (goes_heard s n bytes owes.none owes.reads (is_read_now seat bytes come)
+          (ap (λ (o : Option Client). is_some_with (fits_heard bytes) o) who.found ∙ fits number s.settings.name owed seat who.here bytes (who.shows.going who.going) come))
+          (paid (end_replies (on_client n (heard_by bytes) s))) (hear_is n bytes s),
+      heard_all number owed n i seats seat after bytes s owes sits is,
+    )
 
 -- ---- no more comes
 
@@ -126,16 +128,16 @@ hung_one number name owed n i seats seat sits other c at shows =
     hang_ups number name owed seat c (subst (λ (x : Seat). ShowsSeat number name owed x c) same shows)
 
 hung_all : (number : ℕ → ℕ) (owed : List Bytes) (n i : ℕ) (seats : List Seat) (seat : Seat) (s : State) → OwesRead number owed n seats s → Sits n i seats seat
-    → AreShown number (on_client n (λ c. record c { has_hung_up = true }) s).settings.name owed (slice_set seats i (record seat { has_hung_up = true })) (on_client n (λ c. record c { has_hung_up = true }) s).clients
+    → AreShown number (on_client n hung_up s).settings.name owed (slice_set seats i (record seat { has_hung_up = true })) (on_client n hung_up s).clients
 unfolding on_client
 hung_all number owed n i seats seat s owes sits =
-    changes number s.settings.name owed seats s.clients n i (record seat { has_hung_up = true }) (λ c. record c { has_hung_up = true }) owes.shown sits.at (hung_one number s.settings.name owed n i seats seat sits)
+    changes number s.settings.name owed seats s.clients n i (record seat { has_hung_up = true }) hung_up owes.shown sits.at (hung_one number s.settings.name owed n i seats seat sits)
 
 hang_up_by : (n : ℕ) (s : State) (o : Owed) → o ≡ ReadOf n
-    → (elim (is_writing o n) as (λ b. State) [ true ↦ close_client n false s | false ↦ end_replies (on_client n (λ c. record c { has_hung_up = true }) s) ]) ≡ end_replies (on_client n (λ c. record c { has_hung_up = true }) s)
-hang_up_by n s o is = ap (λ (x : Owed). elim (is_writing x n) as (λ b. State) [ true ↦ close_client n false s | false ↦ end_replies (on_client n (λ c. record c { has_hung_up = true }) s) ]) is
+    → (elim (is_writing o n) as (λ b. State) [ true ↦ close_client n false s | false ↦ end_replies (on_client n hung_up s) ]) ≡ end_replies (on_client n hung_up s)
+hang_up_by n s o is = ap (λ (x : Owed). elim (is_writing x n) as (λ b. State) [ true ↦ close_client n false s | false ↦ end_replies (on_client n hung_up s) ]) is
 
-hang_up_is : (n : ℕ) (s : State) → s.owed ≡ ReadOf n → hang_up n s ≡ end_replies (on_client n (λ c. record c { has_hung_up = true }) s)
+hang_up_is : (n : ℕ) (s : State) → s.owed ≡ ReadOf n → hang_up n s ≡ end_replies (on_client n hung_up s)
 unfolding hang_up
 hang_up_is n s is = hang_up_by n s s.owed is
 
@@ -149,23 +151,14 @@ or_false false is = absurd (cc is)
 owes_it : (s : State) (n : ℕ) → s.owed ≡ ReadOf n → is_owed s n ≡ true
 owes_it s n is = ap (λ (o : Owed). is_reading o n || is_writing o n) is ∙ or_false (n == n) (number_same n)
 
-hung_moves : (number : ℕ → ℕ) (owed : List Bytes) (n i : ℕ) (seats : List Seat) (seat : Seat) → Sits n i seats seat → (s : State) → OwesRead number owed n seats s → Moves (WasRead number owed (slice_set seats i (record seat { has_hung_up = true }))) (HungUp n) s
-hung_moves number owed n i seats seat sits s owes =
-    let who : IsThere number s.settings.name owed seat n s = there number owed n i seats seat s owes sits in
-    moves_to refl (goes_hung_up s n owes.none (owes_it s n owes.reads) (ap (λ (o : Option Client). is_some o) who.found))
-    (record {
-      before = on_client n (λ c. record c { has_hung_up = true }) s;
-      shown = hung_all number owed n i seats seat s owes sits;
-      ended = ap paid (hang_up_is n s owes.reads);
-    })
-
-pub hang_ups_keep : HangUpsKeep
-hang_ups_keep number old new before now n i owed seats seat call rose sits = keeps_more (λ l. HungUp n) call (λ l. rose) (λ l. hung_moves number owed n i seats seat sits)
+pub hang_ups_lead : HangUpsLead
+hang_ups_lead number n i owed seats seat s sits owes =
+    let who : IsThere number s.settings.name owed seat n s = there number owed n i seats seat s owes sits in (
+      leads_on refl (goes_hung_up s n owes.none (owes_it s n owes.reads) (ap (λ (o : Option Client). is_some o) who.found)) (paid (end_replies (on_client n hung_up s))) (ap paid (hang_up_is n s owes.reads)),
+      hung_all number owed n i seats seat s owes sits,
+    )
 
 -- ---- nothing came yet
 
-none_moves : (number : ℕ → ℕ) (owed : List Bytes) (n : ℕ) (seats : List Seat) (s : State) → OwesRead number owed n seats s → Moves (WasOwed number owed seats) (NoneYet n) s
-none_moves number owed n seats s owes = moves_to refl (goes_none_yet s n owes.none owes.reads) (record { before = s; shown = owes.shown; ended = refl })
-
-pub nones_keep : NonesKeep
-nones_keep number old new before now n owed seats call rose = keeps_more (λ l. NoneYet n) call (λ l. rose) (λ l. none_moves number owed n seats)
+pub nones_lead : NonesLead
+nones_lead number n owed seats s owes = leads_on refl (goes_none_yet s n owes.none owes.reads) (paid s) refl

@@ -1,7 +1,6 @@
 -- Bytes that are said to a client are what the law permits, and lead where the law leads.
 use Rattle.std.proofs.Common.{◌≡◌, ◌+◌, ℕ, zero, suc, Bool, true, false, List, length, refl, sym, ◌∙◌, ap, subst, Option, Some, None}
 use Rattle.std.specs.Prelude.{find, nat_lt, slice_get, slice_set}
-use Rattle.pp_world.specs.declared.happening.Happening.TheVariants.{Said}
 use Rattle.pp_law.specs.After.{paid, said}
 use Rattle.pp_law.specs.Chunks.{is_chunk, put_chunk, use_chunk}
 use Rattle.pp_law.specs.Connections.{client, on_client}
@@ -9,18 +8,16 @@ use Rattle.pp_law.specs.Lists.{Bytes}
 use Rattle.pp_law.specs.Replies.{end_replies, of_body, said_by, use_chunks, use_from, use_said}
 use Rattle.pp_law.specs.State.{State, Chunk, Client}
 use Rattle.pp_law.specs.Table.{Next, next_of}
-use Rattle.pp_obeys.specs.Moves.{Moves}
-use Rattle.pp_obeys.proofs.Calls.{keeps_more, moves_to}
 use Rattle.pp_obeys.proofs.Happenings.{goes_said}
 use Rattle.pp_seats.specs.declared.seat.Seat.{Seat}
 use Rattle.pp_seats.specs.Seats.{told_by}
-use Rattle.pp_seats_law.specs.Clients.{AreShown, IsFound}
+use Rattle.pp_seats_law.specs.Clients.{AreShown}
 use Rattle.pp_seats_law.specs.Seats.{ShowsSeat}
-use Rattle.pp_seats_law.proofs.AllSeats.{changes, places}
+use Rattle.pp_seats_law.proofs.AllSeats.{changes}
 use Rattle.pp_seats_law.proofs.SaidOn.{sayings}
-use Rattle.pp_clients_obey.specs.Hearing.{Sits, WasRead}
-use Rattle.pp_clients_obey.specs.Saying.{LeavesSome, OwesWrite, WritesKeep}
-use Rattle.pp_clients_obey.proofs.Hears.{same_seat}
+use Rattle.pp_clients_obey.specs.Hearing.{Sits}
+use Rattle.pp_clients_obey.specs.Saying.{LeavesSome, WritesLead, told_to}
+use Rattle.pp_clients_obey.proofs.Hears.{leads_on, same_seat}
 
 -- ---- chunks that are used leave the clients as they are
 
@@ -72,18 +69,9 @@ pub said_is : (n k : ℕ) (x : Client) (s : State) → client s n ≡ Some x →
 unfolding said
 said_is n k x s found = ap (λ (o : Option Client). paid (elim o as (λ y. State) [ None ↦ s | Some y ↦ end_replies (on_client n (said_by k) (use_said k y s)) ])) found
 
-said_moves : (number : ℕ → ℕ) (owed : List Bytes) (n i offered : ℕ) (seats : List Seat) (seat : Seat) (bytes : Bytes) → Sits n i seats seat → LeavesSome seat bytes → (s : State) → OwesWrite number owed n offered bytes seats s
-    → Moves (WasRead number owed (slice_set seats i (told_by (length bytes) seat))) (Said n offered bytes) s
-said_moves number owed n i offered seats seat bytes sits leaves s owes =
-    let found : IsFound number s.settings.name owed seat n s.clients = places number s.settings.name owed seats s.clients n i seat owes.shown sits.at sits.there in
-    let used : State = use_said (length bytes) found.client s in
-    moves_to refl (goes_said s n offered bytes found.client owes.none owes.writes found.there (owes.first found.client found.there))
-    (record {
-      before = on_client n (said_by (length bytes)) used;
-      shown = shown_on number s.settings.name owed n i seats seat bytes used sits leaves
-          (subst (λ (p : Bytes × List Client). AreShown number p.0 owed seats p.1) (sym (seen_said (length bytes) found.client s)) owes.shown);
-      ended = said_is n (length bytes) found.client s found.there;
-    })
-
-pub writes_keep : WritesKeep
-writes_keep number old new before now n i offered owed seats seat bytes call rose sits leaves = keeps_more (λ l. Said n offered bytes) call (λ l. rose) (λ l. said_moves number owed n i offered seats seat bytes sits leaves)
+pub writes_lead : WritesLead
+writes_lead number n i offered owed seats seat bytes c s there sits leaves owes = (
+  leads_on refl (goes_said s n offered bytes c owes.none owes.writes there (owes.first c there)) (paid (end_replies (told_to (length bytes) n c s))) (said_is n (length bytes) c s there),
+  shown_on number s.settings.name owed n i seats seat bytes (use_said (length bytes) c s) sits leaves
+      (subst (λ (p : Bytes × List Client). AreShown number p.0 owed seats p.1) (sym (seen_said (length bytes) c s)) owes.shown),
+)

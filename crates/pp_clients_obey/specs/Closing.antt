@@ -1,17 +1,18 @@
 -- The closing of a client is what the law permits, and leads where the law leads (RFC 2616, section 8.1).
-use Rattle.std.specs.Prelude.{◌≡◌, ℕ, ◌≤◌, true, false, not, ◌==◌, ◌||◌, List, filter, Option, Some, None, slice_get, slice_set}
-use Rattle.pp_world.specs.Log.{Appends, Log}
+use Rattle.std.specs.Prelude.{◌≡◌, ℕ, true, not, ◌==◌, ◌||◌, List, [], ◌∷◌, false, filter, Some, None, slice_get, slice_set}
 use Rattle.pp_world.specs.declared.happening.Happening.TheVariants.{HungUp, Noted, Shut}
 use Rattle.pp_world.specs.declared.note.Cause.{Cause}
 use Rattle.pp_world.specs.declared.note.Remark.TheVariants.{Cut}
+use Rattle.pp_law.specs.After.{paid, shut}
+use Rattle.pp_law.specs.Closing.{close_client}
 use Rattle.pp_law.specs.Due.{CutOff, first_due}
 use Rattle.pp_law.specs.Lists.{Bytes}
-use Rattle.pp_law.specs.Phases.{decides}
+use Rattle.pp_law.specs.Phases.{decides, in_phase}
 use Rattle.pp_law.specs.State.{State, Connecting, Deciding, WriteTo}
-use Rattle.pp_obeys.specs.Obeys.{Keeps}
+use Rattle.pp_obeys.specs.Moves.{Leads}
 use Rattle.pp_seats.specs.declared.seat.Seat.{Seat}
 use Rattle.pp_seats_law.specs.Clients.{AreShown, IsAt}
-use Rattle.pp_clients_obey.specs.Hearing.{WasOwed}
+use Rattle.pp_clients_obey.specs.Hearing.{AreSeen}
 
 -- its cause to be closed has come: of its seat nothing else is read any more
 pub record IsClosed (old new : Seat) : Type 0 where
@@ -26,9 +27,9 @@ pub record MayWrite (number : ℕ → ℕ) (owed : List Bytes) (n : ℕ) (seats 
   pub writes : s.owed ≡ WriteTo n
   pub shown : AreShown number s.settings.name owed seats s.clients
 
-abbrev pub LossesKeep : Type 0
-LossesKeep = (number : ℕ → ℕ) (old new : Option Log) (before now n i : ℕ) (owed : List Bytes) (seats : List Seat) (seat after : Seat) → Appends old new (λ l. HungUp n) → before ≤ now → IsAt n i seats → slice_get seats i ≡ Some seat → IsClosed seat after
-    → Keeps old new before now (MayWrite number owed n seats) (WasOwed number owed (slice_set seats i after))
+abbrev pub LossesLead : Type 0
+LossesLead = (number : ℕ → ℕ) (n i : ℕ) (owed : List Bytes) (seats : List Seat) (seat after : Seat) (s : State) → IsAt n i seats → slice_get seats i ≡ Some seat → IsClosed seat after → MayWrite number owed n seats s
+    → Leads (HungUp n ∷ []) s (paid (close_client n false s)) × AreSeen number owed (slice_set seats i after) (close_client n false s)
 
 -- ---- a cut
 
@@ -46,9 +47,9 @@ pub record IsDeciding (number : ℕ → ℕ) (owed : List Bytes) (seats : List S
   pub shown : AreShown number s.settings.name owed seats s.clients
 
 -- for whichever cause is due
-abbrev pub CutsKeep : Type 0
-CutsKeep = (number : ℕ → ℕ) (old new : Option Log) (before now n i : ℕ) (cause : Cause) (owed : List Bytes) (seats : List Seat) (seat after : Seat) → Appends old new (λ l. Noted (Cut n cause)) → before ≤ now → IsAt n i seats → slice_get seats i ≡ Some seat → IsClosed seat after
-    → Keeps old new before now (IsDueToCut number owed n cause seats) (IsDeciding number owed (slice_set seats i after))
+abbrev pub CutsLead : Type 0
+CutsLead = (number : ℕ → ℕ) (n i : ℕ) (cause : Cause) (owed : List Bytes) (seats : List Seat) (seat after : Seat) (s : State) → IsAt n i seats → slice_get seats i ≡ Some seat → IsClosed seat after → IsDueToCut number owed n cause seats s
+    → Leads (Noted (Cut n cause) ∷ []) s (close_client n true (in_phase Deciding s)) × IsDeciding number owed (slice_set seats i after) (close_client n true (in_phase Deciding s))
 
 -- ---- its connection is closed
 
@@ -66,6 +67,5 @@ pub record IsToShut (number : ℕ → ℕ) (owed : List Bytes) (seat : Seat) (se
 abbrev pub without_client : ℕ → List Seat → List Seat
 without_client n seats = filter (λ seat. not (seat.client.id == n)) seats
 
-abbrev pub ShutsKeep : Type 0
-ShutsKeep = (number : ℕ → ℕ) (old new : Option Log) (before now n i : ℕ) (owed : List Bytes) (seats : List Seat) (seat : Seat) → Appends old new (λ l. Shut n) → before ≤ now → IsAt n i seats → slice_get seats i ≡ Some seat
-    → Keeps old new before now (IsToShut number owed seat seats) (IsClosingDown number owed (without_client n seats))
+abbrev pub ShutsLead : Type 0
+ShutsLead = (number : ℕ → ℕ) (n i : ℕ) (owed : List Bytes) (seats : List Seat) (seat : Seat) (s : State) → IsAt n i seats → slice_get seats i ≡ Some seat → IsToShut number owed seat seats s → Leads (Shut n ∷ []) s (shut n s) × IsClosingDown number owed (without_client n seats) (shut n s)

@@ -1,15 +1,14 @@
 -- A decision is what the law permits, and leads where the law leads, as far as its client alone goes (RFC 2616, sections 6 and 13).
-use Rattle.std.specs.Prelude.{◌≡◌, ◌≤◌, ℕ, Bool, true, false, ◌||◌, is_some, length, List, Option, Some, None, option_map, Ok, Err, slice_set}
+use Rattle.std.specs.Prelude.{◌≡◌, ◌≤◌, ℕ, Bool, true, false, ◌||◌, is_some, length, List, [], ◌∷◌, Option, Some, None, option_map, Ok, Err, slice_set}
 use Rattle.pp_objects.specs.declared.id.ObjectId.{ObjectId}
 use Rattle.pp_reply.specs.Texts.{has_page}
 use Rattle.pp_target.specs.Key.{text_of}
-use Rattle.pp_world.specs.Log.{Appends, Log}
 use Rattle.pp_world.specs.declared.happening.Happening.TheVariants.{Noted}
 use Rattle.pp_world.specs.declared.note.Decision.{Decision}
 use Rattle.pp_world.specs.declared.note.Decision.TheVariants.{Refuse, Hit, Part, Head, NotModified, Unsatisfiable, Relay, Validate, Fetch, Pass}
 use Rattle.pp_world.specs.declared.note.Remark.TheVariants.{Taken}
 use Rattle.pp_law.specs.Connections.{client}
-use Rattle.pp_law.specs.Deciding.{enter_row, is_for_memory, is_pass, span_of}
+use Rattle.pp_law.specs.Deciding.{decided, enter_row, is_for_memory, is_pass, span_of}
 use Rattle.pp_law.specs.Decisions.{kind_of}
 use Rattle.pp_law.specs.Lists.{Bytes, is_some_with}
 use Rattle.pp_law.specs.Permits.{may_take}
@@ -18,7 +17,7 @@ use Rattle.pp_law.specs.Replies.{regained}
 use Rattle.pp_law.specs.Requests.{key_in, parsed_in}
 use Rattle.pp_law.specs.State.{State, Client, Deciding}
 use Rattle.pp_law.specs.Table.{row, row_for}
-use Rattle.pp_obeys.specs.Obeys.{Keeps}
+use Rattle.pp_obeys.specs.Moves.{Leads}
 use Rattle.pp_seats.specs.declared.account.Account.{Account}
 use Rattle.pp_seats.specs.declared.seat.Seat.{Seat}
 use Rattle.pp_seats.specs.Courses.{has_begun}
@@ -28,7 +27,7 @@ use Rattle.pp_seats.specs.Heads.{asked_in}
 use Rattle.pp_seats.specs.Seats.{is_undecided_in}
 use Rattle.pp_seats_law.specs.Clients.{AreShown}
 use Rattle.pp_seats_law.specs.Decided.{expects_of}
-use Rattle.pp_clients_obey.specs.Hearing.{Sits}
+use Rattle.pp_clients_obey.specs.Hearing.{AreSeen, Sits}
 
 -- decisions are taken, this one may be, and the seats show the clients; its interim answer is expected as the law has it, which is so
 -- unless memory was refused for a target that has no key
@@ -39,13 +38,13 @@ pub record IsToTake (number : ℕ → ℕ) (owed : List Bytes) (n index : ℕ) (
   pub shown : AreShown number s.settings.name owed seats s.clients
   pub expects : (c : Client) → client s n ≡ Some c → expects_in (asked_in seat.front) ≡ expects_of c.front
 
--- it was taken, and the seats show the clients as they are before attempts count anew
-pub record WasTaken (number : ℕ → ℕ) (owed : List Bytes) (seats : List Seat) (s : State) : Type 0 where
-  pub none : s.has_made_room ≡ None
-  pub at : s.phase ≡ Deciding
-  pub before : State
-  pub shown : AreShown number before.settings.name owed seats before.clients
-  pub ended : s ≡ regained before
+-- as the law has it, before attempts count anew
+abbrev pub taken : Client → Decision → State → State
+taken c d s = record (decided c d (in_phase Deciding s)) { forgotten = []; has_made_room = None }
+
+-- it leads there, and the seats show the clients
+abbrev pub IsTaken : (ℕ → ℕ) → List Bytes → ℕ → ℕ → Decision → List Seat → Client → State → Type 0
+IsTaken number owed n index d seats c s = Leads (Noted (Taken n index d) ∷ []) s (regained (taken c d s)) × AreSeen number owed seats (taken c d s)
 
 -- no reply has begun, and what is no head was not decided before
 pub record IsOpen (seat : Seat) : Type 0 where
@@ -54,10 +53,9 @@ pub record IsOpen (seat : Seat) : Type 0 where
 
 -- ---- a page
 
-abbrev pub PagesKeep : Type 0
-PagesKeep = (number : ℕ → ℕ) (old new : Option Log) (before now n i index status : ℕ) (account : Account) (owed : List Bytes) (seats : List Seat) (seat : Seat) → Appends old new (λ l. Noted (Taken n index (Refuse status))) → before ≤ now → Sits n i seats seat → IsOpen seat
-    → has_page status ≡ true → length (page_for status seat.front) ≤ 20480
-    → Keeps old new before now (IsToTake number owed n index (Refuse status) seat seats) (WasTaken number owed (slice_set seats i (record (paged status (with_interim seat)) { account = account })))
+abbrev pub PagesLead : Type 0
+PagesLead = (number : ℕ → ℕ) (n i index status : ℕ) (account : Account) (owed : List Bytes) (seats : List Seat) (seat : Seat) (c : Client) (s : State) → client s n ≡ Some c → Sits n i seats seat → IsOpen seat → has_page status ≡ true → length (page_for status seat.front) ≤ 20480
+    → IsToTake number owed n index (Refuse status) seat seats s → IsTaken number owed n index (Refuse status) (slice_set seats i (record (paged status (with_interim seat)) { account = account })) c s
 
 -- ---- an ask
 
@@ -81,9 +79,9 @@ pub record IsToAsk (number : ℕ → ℕ) (owed : List Bytes) (n index : ℕ) (d
   pub take : IsToTake number owed n index d seat seats s
   pub asks : (c : Client) → client s n ≡ Some c → has_ask (enter_row c d (in_phase Deciding s)) c d ≡ true
 
-abbrev pub AsksKeep : Type 0
-AsksKeep = (number : ℕ → ℕ) (old new : Option Log) (before now n i index : ℕ) (d : Decision) (owed : List Bytes) (seats : List Seat) (seat : Seat) → Appends old new (λ l. Noted (Taken n index d)) → before ≤ now → Sits n i seats seat → IsOpen seat
-    → is_ask d ≡ true → is_refused_in seat.brought ≡ false → Keeps old new before now (IsToAsk number owed n index d seat seats) (WasTaken number owed (slice_set seats i (asking (is_pass d) (with_interim seat))))
+abbrev pub AsksLead : Type 0
+AsksLead = (number : ℕ → ℕ) (n i index : ℕ) (d : Decision) (owed : List Bytes) (seats : List Seat) (seat : Seat) (c : Client) (s : State) → client s n ≡ Some c → Sits n i seats seat → IsOpen seat → is_ask d ≡ true → is_refused_in seat.brought ≡ false
+    → IsToAsk number owed n index d seat seats s → IsTaken number owed n index d (slice_set seats i (asking (is_pass d) (with_interim seat))) c s
 
 -- ---- a reply by the row, or by the response that is passed
 
@@ -107,10 +105,10 @@ pub record IsToFollow (number : ℕ → ℕ) (owed : List Bytes) (n index : ℕ)
   pub take : IsToTake number owed n index d seat seats s
   pub known : (c : Client) → client s n ≡ Some c → row_of_key (enter_row c d (in_phase Deciding s)) c ≡ Some (number id.life)
 
-abbrev pub FollowsKeep : Type 0
-FollowsKeep = (number : ℕ → ℕ) (old new : Option Log) (before now n i index : ℕ) (d : Decision) (id : ObjectId) (owed : List Bytes) (seats : List Seat) (seat : Seat) → Appends old new (λ l. Noted (Taken n index d)) → before ≤ now → Sits n i seats seat → IsOpen seat
-    → is_by_row d ≡ true → is_refused_in seat.brought ≡ false → Keeps old new before now (IsToFollow number owed n index d id seat seats) (WasTaken number owed (slice_set seats i (answering d (Some id) (span_of d) (with_interim seat))))
+abbrev pub FollowsLead : Type 0
+FollowsLead = (number : ℕ → ℕ) (n i index : ℕ) (d : Decision) (id : ObjectId) (owed : List Bytes) (seats : List Seat) (seat : Seat) (c : Client) (s : State) → client s n ≡ Some c → Sits n i seats seat → IsOpen seat → is_by_row d ≡ true → is_refused_in seat.brought ≡ false
+    → IsToFollow number owed n index d id seat seats s → IsTaken number owed n index d (slice_set seats i (answering d (Some id) (span_of d) (with_interim seat))) c s
 
-abbrev pub RelaysKeep : Type 0
-RelaysKeep = (number : ℕ → ℕ) (old new : Option Log) (before now n i index : ℕ) (owed : List Bytes) (seats : List Seat) (seat : Seat) → Appends old new (λ l. Noted (Taken n index Relay)) → before ≤ now → Sits n i seats seat → IsOpen seat
-    → is_refused_in seat.brought ≡ false → Keeps old new before now (IsToTake number owed n index Relay seat seats) (WasTaken number owed (slice_set seats i (answering Relay None (0, 0) (with_interim seat))))
+abbrev pub RelaysLead : Type 0
+RelaysLead = (number : ℕ → ℕ) (n i index : ℕ) (owed : List Bytes) (seats : List Seat) (seat : Seat) (c : Client) (s : State) → client s n ≡ Some c → Sits n i seats seat → IsOpen seat → is_refused_in seat.brought ≡ false → IsToTake number owed n index Relay seat seats s
+    → IsTaken number owed n index Relay (slice_set seats i (answering Relay None (0, 0) (with_interim seat))) c s

@@ -6,9 +6,9 @@
 //! clients of the state that the log may go on as from, the happening is permitted, and the seats that the program makes of it
 //! show the clients of the state behind it: behind the last bytes of a reply the next request stands, or the client is closed.
 //!
-//! To the layer above: each is the clause of a function that does nothing, in the words of `pp_obeys`: `Keeps` is the contract of
-//! the call that reads, writes, notes or closes. What is there to be said, and which cut is due, are the law's own words here:
-//! how the chunks in memory stand for the law's is not said, and of the rest of the turn nothing is.
+//! To the layer above: each is the clause of a function that does nothing, in the words of `pp_obeys`: `Leads` names the state
+//! that the happening leads to, by the law's own functions. What is there to be said, and which cut is due, are the law's own
+//! words here: how the chunks in memory stand for the law's is not said, and of the rest of the turn nothing is.
 //!
 //! Takes no memory, and does nothing when the program runs.
 #![tactic(auto)]

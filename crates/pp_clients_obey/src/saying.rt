@@ -1,7 +1,7 @@
 // A write to a client.
-ghost use Rattle.pp_clients_obey.specs.Saying.{WritesKeep};
+ghost use Rattle.pp_clients_obey.specs.Saying.{WritesLead};
 
 /// The bytes are said, and some of the reply are left.
 pub fn writes_go_on()
-    ensures said { WritesKeep }
+    ensures said { WritesLead }
 {}

@@ -1,24 +1,23 @@
 -- A row that leaves memory for a decision leaves that decision due.
 use Rattle.std.proofs.Common.{◌≡◌, ◌≤◌, refl, sym, subst, ap, ap₂, ◌∙◌, ℕ, zero, suc, ◌+◌, ◌*◌, ◌/◌, ◌%◌, Bool, true, false, ◌==◌, ◌&&◌, ◌||◌, not, cond, nat_lt, nat_le, min, find, List, [], ◌∷◌, ◌++◌, length, drop, take, Option, Some, None, option_map, Ok, Err, Result, arith}
 use Rattle.std.specs.List.{list_any}
-use Rattle.std.specs.Prelude.{◌-◌, bytes_eq, count_by, is_some}
+use Rattle.std.specs.Prelude.{◌-◌, count_by, is_some}
 use Rattle.pp_cache_law.proofs.Finds.{find_kept, find_passes, none_within}
-use Rattle.pp_cache_law.proofs.Numbers.{is_same, some_is}
+use Rattle.pp_cache_law.proofs.Numbers.{is_same, same_test, some_is}
 use Rattle.pp_cache_law.proofs.PairLemmas.{count_first}
 use Rattle.pp_head.specs.Request.{Request}
 use Rattle.pp_law.specs.Chunks.{chunk_bytes, filled, is_chunk}
 use Rattle.pp_law.specs.Connections.{client, is_client, is_trying}
 use Rattle.pp_law.specs.Deciding.{has_to_forget, is_for_memory}
-use Rattle.pp_law.specs.Decisions.{decide, decide_head, if_fits, kind_of}
-use Rattle.pp_law.specs.Due.{Due, Decide, CutOff, decides_for, due_cut, due_decision, due_of, due_to, first_due, give_up, is_idle, is_short, is_told, next_due}
+use Rattle.pp_law.specs.Decisions.{decide, if_fits, kind_of}
+use Rattle.pp_law.specs.Due.{Due, Decide, CutOff, decides_for, due_cut, due_decision, due_of, due_to, first_due, give_up, is_idle, is_short, is_told}
 use Rattle.pp_law.specs.Lists.{Bytes, first_some, is_some_with, is_this, without}
 use Rattle.pp_law.specs.Offers.{is_at_body, passed_part, piece, run_at}
 use Rattle.pp_law.specs.Opening.{is_same_phase}
-use Rattle.pp_law.specs.Permits.{has_room_for}
 use Rattle.pp_law.specs.Phases.{decides, is_done_with}
 use Rattle.pp_law.specs.Requests.{Front, NoHeadYet, NoHead, IsRequest, Parsed, key_in, refusal_of}
 use Rattle.pp_law.specs.Stages.{bound_of, is_begun, is_passing, reply_of}
-use Rattle.pp_law.specs.State.{State, Chunk, Client, Entry, Exchange, Instance as Known, Phase, Deciding as IsDeciding, DecidingAgain, Reply, Stage, Undecided, Waiting, Passing, Answering, Brought, Awaited, Useless, Joins, Passes, TooWide}
+use Rattle.pp_law.specs.State.{State, Chunk, Client, Entry, Exchange, Instance as Known, Phase, Deciding as IsDeciding, DecidingAgain, Reply, Stage, Undecided, Waiting, Passing, Answering, Awaited, Useless, Joins, Passes, TooWide}
 use Rattle.pp_law.specs.Table.{Next, asks_for, extent_of, follows, forget, idle_row, instance, is_bound_to, is_followed, is_idle_row, is_instance, is_next_held, is_provided, is_row_of, is_soon, must_forget, next_from, next_of, of_entry, of_instance, row, row_on_disk, rows}
 use Rattle.pp_plan.specs.Decision.{decision}
 use Rattle.pp_plan.specs.Row.{Row}
@@ -65,13 +64,10 @@ names_of s c n i d = by (due_cut s c) (due_decision s c)
         → (elim o as (λ x. Option Due) [ Some cause ↦ Some (CutOff c.number cause) | None ↦ elim p as (λ x. Option Due) [ Some e ↦ Some (Decide c.number c.index e) | None ↦ None ] ]) ≡ Some (Decide n i d) → c.number ≡ n
     by (Some cause) p at = absurd (cc at)
     by None None at = absurd (cc at)
-    by None (Some e) at = let due : Decide c.number c.index e ≡ Decide n i d = some_is (Decide c.number c.index e) (Decide n i d) at in cc due
+    by None (Some e) at = let same : Decide c.number c.index e ≡ Decide n i d = some_is (Decide c.number c.index e) (Decide n i d) at in cc same
 
 its_number : (c : Client) (n : ℕ) → c.number ≡ n → is_client n c ≡ true
-its_number c n is = (λ (m : ℕ). subst (λ (k : ℕ). (c.number == k) ≡ true) is (itself c.number)) n
-  where
-    itself : (m : ℕ) → (m == m) ≡ true
-    itself m = grind arith
+its_number c n is = same_test c.number n is
 
 count_one : (s : State) (cs : List Client) (n i : ℕ) (d : Decision) → first_some (due_of s) cs ≡ Some (Decide n i d) → 1 ≤ count_by (is_client n) cs
 count_one s [] n i d is = absurd (cc is)

@@ -1,5 +1,5 @@
-use Rattle.pp_clients_obey.proofs.Says.{writes_keep}
+use Rattle.pp_clients_obey.proofs.Says.{writes_lead}
 use Rattle.pp_clients_obey.proofs.saying.writes_go_on.Goals as goal
 
 pub returns : goal.returns
-returns c = record { said = writes_keep }
+returns c = record { said = writes_lead }
