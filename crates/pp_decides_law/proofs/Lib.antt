@@ -40,6 +40,7 @@ pub mod StandingRow
 pub mod Stays
 pub mod Taken
 pub mod Turned
+pub mod Twice
 pub mod Unentered
 pub mod Useless
 pub mod Walk

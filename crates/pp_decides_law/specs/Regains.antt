@@ -21,3 +21,7 @@ pub record HasRegained (old new : Turn) : Type 0 where
 
 abbrev pub RegainsAreTheLaws : Type 0
 RegainsAreTheLaws = (number : ℕ → ℕ) (l : Leaving) (peers : List Peer) (p q : Turn) (s : State) → ShowsTurn number l peers p s → AreAwake p → AllFollow p → HasRegained p q → ShowsTurn number l peers q (regained s)
+
+-- of the law: they do once, however often they are counted
+abbrev pub RegainsOnce : Type 0
+RegainsOnce = (s : State) → regained (regained s) ≡ regained s

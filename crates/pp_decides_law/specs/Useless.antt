@@ -7,7 +7,9 @@ use Rattle.pp_flow.specs.Entries.{is_number}
 use Rattle.pp_flow.specs.declared.entry.Entry.{Entry}
 use Rattle.pp_law.specs.Connections.{exchange}
 use Rattle.pp_law.specs.Followers.{give_up_asks, is_useless_ask}
+use Rattle.pp_law.specs.Lists.{Bytes}
 use Rattle.pp_law.specs.State.{State, Client, Exchange}
+use Rattle.pp_law.specs.Store.{note_gone}
 use Rattle.pp_seats.specs.declared.seat.Seat.{Seat}
 use Rattle.pp_states_law.specs.Decisions.{AreApart}
 use Rattle.pp_state.specs.Asking.{is_useless}
@@ -30,3 +32,7 @@ WaitingAreInOrder = OfSteps (λ number name l peers p s. AreInOrder (numbers p.f
 -- of all without a place, in the order of their beginnings, where none has to leave a line any more, and no two connections have one number
 abbrev pub GivenUpAsTheLaws : Type 0
 GivenUpAsTheLaws = OfSteps (λ number name l peers p s. AllFollow p s → AreApart s → ((j : ℕ) → l j ≡ []) → ShowsSteps number name l peers (all_given_up (numbers p.flow.waiting) p) (give_up_asks s))
+
+-- of the law: before the note that an entry is gone they are those behind it
+abbrev pub GivenUpBesideGone : Type 0
+GivenUpBesideGone = (key : Bytes) (s : State) → give_up_asks (note_gone key s) ≡ note_gone key (give_up_asks s)
