@@ -194,7 +194,7 @@ module _ (number : ℕ → ℕ) (name : Bytes) (l : Leaving) (peers : List Peer)
       (subst (λ (o : Option Next). Done (asked_if (is_trying_in seat.course) None) (filled_if (is_trying c.course) o)) (sym (closed_in_law s c closing)) (follows_none (is_trying_in seat.course) (is_trying c.course)))
   by_closing false going =
       let follow : MayFollow p.cache s seat c = may.follows going in
-      going_done (next_in_turn seat) (next_of s c) refl refl (nexts number s name [] seat c seen (has_source number p.cache s name seat c shows.steps.shows.table.table seen going follow.there)) follow going
+      going_done (next_in_turn seat) (next_of s c) refl refl (nexts number s name [] seat c seen (λ on. has_source number p.cache s name seat c shows.steps.shows.table.table seen going follow.there)) follow going
 
   pub is_done : Done (filled_for name i p) (fill_for c s)
   is_done = subst (λ (t : State). Done (filled_for name i p) t) (sym law_is) (subst (λ (q : Parts). Done q (filled_if (is_trying c.course) (next_of s c))) (sym program_is) (by_closing c.is_closing refl))

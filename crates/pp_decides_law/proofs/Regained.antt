@@ -148,9 +148,9 @@ module _ (number : ℕ → ℕ) (l : Leaving) (peers : List Peer) (p : Turn) (s 
           ap (λ (b : Bool). is_held_next (elim b as (λ t. Option SeatNext) [ true ↦ None | false ↦ next_by (answer_in seat.stage) seat.client.reply ]) p.cache) (seen.closing ∙ closing)
           ∙ sym (ap (λ (b : Bool). is_some_with (is_next_held s) (elim b as (λ t. Option Next) [ true ↦ None | false ↦ elim (reply_of c) as (λ t. Option Next) [ None ↦ None | Some r ↦ next_in s r ] ])) closing)
       by false going =
-          at (next_of seat) (next_of_law s c) (nexts number s name [] seat c seen (has_source number l peers p s name seat c shows seen going (there going)))
+          at (next_of seat) (next_of_law s c) (nexts number s name [] seat c seen (λ on. has_source number l peers p s name seat c shows seen going (there going)))
           (λ n j own law. is_next number l peers p s name seat c n j shows seen going (there going) own law
-          (subst (λ (y : Option Next). ShowsNext number (Some n) y) law (subst (λ (x : Option SeatNext). ShowsNext number x (next_of_law s c)) own (nexts number s name [] seat c seen (has_source number l peers p s name seat c shows seen going (there going))))))
+          (subst (λ (y : Option Next). ShowsNext number (Some n) y) law (subst (λ (x : Option SeatNext). ShowsNext number x (next_of_law s c)) own (nexts number s name [] seat c seen (λ on. has_source number l peers p s name seat c shows seen going (there going))))))
 
   one_regains : (name : Bytes) (seat : Seat) (c : Client) → ShowsSeat number name [] seat c → (c.is_closing ≡ false → IsFollowing p.cache seat) → ShowsSeat number name [] (regained p.cache seat) (regained_by s c)
   one_regains name seat c seen there = by (is_held_next (next_of seat) p.cache) (is_some_with (is_next_held s) (next_of_law s c)) (held_as name seat c seen there)

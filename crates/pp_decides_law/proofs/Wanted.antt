@@ -72,7 +72,7 @@ module _ (number : ℕ → ℕ) (name : Bytes) (l : Leaving) (peers : List Peer)
       ap (λ (o : Option SeatNext). brings_next p.cache x o) (closed_in_turn seat (seen.closing ∙ closing)) ∙ sym (ap (λ (o : Option Next). is_some_with (λ (k : Next). brings_by_law s k.source k.at e) o) (closed_in_law s c closing))
   by_closing false i seat c going seen place =
       let its : IsFollowing p.cache seat = follow i seat c place going in
-      by_next seat c (next_in_turn seat) (next_of s c) seen going its refl refl (nexts number s name [] seat c seen (has_source number p.cache s name seat c shows.shows.table.table seen going its))
+      by_next seat c (next_in_turn seat) (next_of s c) seen going its refl refl (nexts number s name [] seat c seen (λ on. has_source number p.cache s name seat c shows.shows.table.table seen going its))
 
   wanted_at : (o : Option ℕ) → seat_for x.exchange p.seats ≡ o → is_wanted_at p.cache p.seats x o ≡ list_any (is_wanted_by s e) s.clients
   wanted_at None none =

@@ -6,7 +6,6 @@ use Rattle.std.proofs.lemmas.List.{length-append, take_all}
 use Rattle.std.proofs.lemmas.Bool.Decides.{nat_tests}
 use Rattle.pp_turns_law.specs.Unseen.{AreFollowing}
 use Rattle.pp_turns_law.proofs.AllCome.{any_alike}
-use Rattle.pp_turns_law.proofs.Unseen.{next_shown}
 use Rattle.pp_cache.specs.Memory.{Memory, used_of as as_used}
 use Rattle.pp_cache_law.proofs.Finds.{find_passes}
 use Rattle.pp_cache_law.proofs.Numbers.{chunks_alike, is_same, number_of_there, same_test}
@@ -29,6 +28,7 @@ use Rattle.pp_seats.specs.Follows.{next_of}
 use Rattle.pp_seats.specs.declared.seat.Next.{Next as SeatNext}
 use Rattle.pp_seats.specs.declared.seat.Seat.{Seat}
 use Rattle.pp_seats_law.proofs.Entries.{exchanges}
+use Rattle.pp_seats_law.proofs.Nexts.{nexts}
 use Rattle.pp_seats_law.specs.Clients.{AreShown}
 use Rattle.pp_seats_law.specs.Exchanges.{ShowsBound, ShowsExchange}
 use Rattle.pp_seats_law.specs.Seats.{ShowsSeat}
@@ -120,7 +120,7 @@ module _ (number : ℕ → ℕ) (m : Memory) (s : State) (table : ShowsTable num
 
   client_same : (name : Bytes) (owed : List Bytes) (seat : Seat) (x : Client) → ShowsSeat number name owed seat x → (x.is_closing ≡ false → HasSource s x) → IfSome (next_of seat) (λ y. is_there y.source m.instances ≡ true) → IfSome (next_of seat) (λ y. y.at / 4096 < 2 ^ 32)
       → holds lies_here (pin_of_seat seat) ≡ holds lies_there (pin_of_client s x)
-  client_same name owed seat x shows has there near = next_same (next_of seat) (next_by s x) (next_shown number s name owed seat x shows has) there near
+  client_same name owed seat x shows has there near = next_same (next_of seat) (next_by s x) (nexts number s name owed seat x shows has) there near
 
   clients_same : (name : Bytes) (owed : List Bytes) (seats : List Seat) (cs : List Client) → AreShown number name owed seats cs → AreFollowing m s seats cs → AreNear seats
       → list_any (λ seat. holds lies_here (pin_of_seat seat)) seats ≡ list_any (λ x. holds lies_there (pin_of_client s x)) cs

@@ -125,4 +125,4 @@ going_next number x n false true same going = absurd (cc same)
 pub nexts : NextsAreTheLaws
 nexts number s name owed seat c shows there =
     going_next number (next_by (answer_in seat.stage) seat.client.reply) (next_in_stage s c.stage) seat.is_closing c.is_closing shows.closing
-    (λ going. stage_next number s seat.client.reply seat.stage c.stage (shows.going going).stage there)
+    (λ going. stage_next number s seat.client.reply seat.stage c.stage (shows.going going).stage (there going))

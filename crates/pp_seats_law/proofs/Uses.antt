@@ -185,4 +185,4 @@ within number n s name owed seat c shows going few = by (interim_by seat.client.
 pub uses : UsesAreTheLaws
 uses number n s name owed seat c shows going there few =
     let w = within number n s name owed seat c (shows.going going) going few in
-    used_by_facts number n (of_body n c) s seat c (nexts number s name owed seat c shows there) w.facts w.fits
+    used_by_facts number n (of_body n c) s seat c (nexts number s name owed seat c shows (λ on. there)) w.facts w.fits

@@ -40,7 +40,7 @@ ShowsNext number (Some x) (Some n) = IsSameNext number x n
 ShowsNext number x n = ⊥
 
 abbrev pub NextsAreTheLaws : Type 0
-NextsAreTheLaws = (number : ℕ → ℕ) (s : State) (name : Bytes) (owed : List Bytes) (seat : Seat) (c : Client) → ShowsSeat number name owed seat c → HasSource s c → ShowsNext number (seat_next seat) (next_of s c)
+NextsAreTheLaws = (number : ℕ → ℕ) (s : State) (name : Bytes) (owed : List Bytes) (seat : Seat) (c : Client) → ShowsSeat number name owed seat c → (c.is_closing ≡ false → HasSource s c) → ShowsNext number (seat_next seat) (next_of s c)
 
 abbrev pub ShowsReply : (ℕ → ℕ) → Said → Option Answer → Option Reply → Type 0
 ShowsReply number said None None = ⊤

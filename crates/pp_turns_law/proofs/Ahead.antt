@@ -198,7 +198,7 @@ module _ (number : ℕ → ℕ) (l : Leaving) (peers : List Peer) (p : Turn) (s 
   next_shown : (i : ℕ) (one : IsShownAt number p.name.items p.seats.items s.clients i) → ShowsNext number (next_of one.seat) (next_by_law s one.client)
   next_shown i one =
       nexts number s p.name.items [] one.seat one.client one.shows
-      (has_source number l peers p s p.name.items one.seat one.client end.turn one.shows (end.going i one.client one.there) (end.follows i one.seat one.here))
+      (λ on. has_source number l peers p s p.name.items one.seat one.client end.turn one.shows (end.going i one.client one.there) (end.follows i one.seat one.here))
 
   next_there : (i : ℕ) (one : IsShownAt number p.name.items p.seats.items s.clients i) (y : SeatNext) (n : Next) → next_of one.seat ≡ Some y → next_by_law s one.client ≡ Some n → IsNext number p.cache s y n
   next_there i one y n its law =

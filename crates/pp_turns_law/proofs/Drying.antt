@@ -117,7 +117,7 @@ dry_by number l peers p s e b (Some n) None shows same one out = absurd same
 pub dry : DryIsTheLaws
 dry number l peers p s name seat c shows seen going there =
     let live : ShowsOpen number name [] seat c = seen.going going in
-    let same : ShowsNext number (next_of seat) (next_of_law s c) = nexts number s name [] seat c seen (has_source number l peers p s name seat c shows seen going there) in
+    let same : ShowsNext number (next_of seat) (next_of_law s c) = nexts number s name [] seat c seen (λ on. has_source number l peers p s name seat c shows seen going there) in
     let at : seat_at_body seat ≡ is_at_body c = at_body c.interim_left (reply_of c) (has_begun seat) seat.before_body (begun number name [] seat c live) live.before_body in
     ap₂ (λ (b : Bool) (bytes : Bytes). (not b || is_empty bytes) && not (is_some (elim (seat_at_body seat) as (λ c. Option SeatNext) [ true ↦ option_and_then (if_on_disk p.cache) (next_of seat) | false ↦ None ])))
     (stage_there number seat.client.reply seat.stage c.stage p.cache.instances live.stage there) (offers number l peers p s name seat c shows seen going there)

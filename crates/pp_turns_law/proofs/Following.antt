@@ -131,6 +131,6 @@ behind_by number l peers p s (Some n) None shows same one = absurd same
 
 pub superseded : SupersededIsTheLaws
 superseded number l peers p s name seat c shows seen going there =
-    behind_by number l peers p s (next_of seat) (next_of_law s c) shows (nexts number s name [] seat c seen (has_source number l peers p s name seat c shows seen going there))
+    behind_by number l peers p s (next_of seat) (next_of_law s c) shows (nexts number s name [] seat c seen (λ on. has_source number l peers p s name seat c shows seen going there))
     (λ n k its law. is_next number l peers p s name seat c n k shows seen going there its law
-    (subst (λ (y : Option Next). ShowsNext number (Some n) y) law (subst (λ (x : Option SeatNext). ShowsNext number x (next_of_law s c)) its (nexts number s name [] seat c seen (has_source number l peers p s name seat c shows seen going there)))))
+    (subst (λ (y : Option Next). ShowsNext number (Some n) y) law (subst (λ (x : Option SeatNext). ShowsNext number x (next_of_law s c)) its (nexts number s name [] seat c seen (λ on. has_source number l peers p s name seat c shows seen going there)))))

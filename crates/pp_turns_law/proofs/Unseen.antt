@@ -1,5 +1,5 @@
 -- What is read of the body of an exchange is what the law reads of it.
-use Rattle.std.proofs.Common.{◌≡◌, refl, sym, subst, ap, ap₂, ◌∙◌, ℕ, Bool, true, false, not, ◌==◌, ◌&&◌, ◌||◌, nat_lt, List, [], ◌∷◌, Option, Some, None, arith}
+use Rattle.std.proofs.Common.{◌≡◌, refl, ap, ap₂, ◌∙◌, ℕ, Bool, true, false, not, ◌==◌, ◌&&◌, ◌||◌, nat_lt, List, [], ◌∷◌, Option, Some, None, arith}
 use Rattle.std.specs.Prelude.{is_some, IfSome}
 use Rattle.std.specs.List.{list_any}
 use Rattle.std.proofs.lemmas.Bool.Decides.{nat_tests}
@@ -9,40 +9,26 @@ use Rattle.pp_flow.specs.declared.entry.Aim.TheVariants.{Own as OfItself, Hole, 
 use Rattle.pp_flow.specs.declared.errand.Body.{Body as ErrandBody}
 use Rattle.pp_flow.specs.declared.errand.Body.TheVariants.{Pending as IsPending, Joining as IsJoining, Relaying as IsRelaying, Dropping as IsDropping}
 use Rattle.pp_law.specs.Lists.{Bytes, is_some_with}
-use Rattle.pp_law.specs.Stages.{is_through as is_through_by, reply_of}
+use Rattle.pp_law.specs.Stages.{is_through as is_through_by}
 use Rattle.pp_law.specs.State.{State, Body, Pending, Joining, Relaying, Dropping, Bound, Client, Conn, Aim as ItsAim, Through, Own, Filling}
-use Rattle.pp_law.specs.Table.{Next, is_soon as is_soon_by, next_in, next_of as next_by}
+use Rattle.pp_law.specs.Table.{Next, is_soon as is_soon_by, next_of as next_by}
 use Rattle.pp_law.specs.Unseen.{at_of, came_of, has_reader_near as has_reader_by, is_worth_keeping as is_worth_by}
 use Rattle.pp_objects.specs.Instances.{is_same_id, is_there}
 use Rattle.pp_objects.specs.declared.id.ObjectId.{ObjectId}
 use Rattle.pp_plan.specs.Need.{is_near}
-use Rattle.pp_seats.specs.Follows.{answer_in, next_by as next_by_seat, next_of}
+use Rattle.pp_seats.specs.Follows.{next_of}
 use Rattle.pp_seats.specs.declared.seat.Next.{Next as SeatNext}
 use Rattle.pp_seats.specs.declared.seat.Seat.{Seat}
 use Rattle.pp_seats_law.proofs.Nexts.{nexts}
 use Rattle.pp_seats_law.specs.Clients.{AreShown}
 use Rattle.pp_seats_law.specs.Exchanges.{Binding, IsBoundAs, ShowsBody, ShowsExchange}
 use Rattle.pp_seats_law.specs.Fates.{aim_of}
-use Rattle.pp_seats_law.specs.Seats.{ShowsSeat}
-use Rattle.pp_seats_law.specs.Words.{HasSource, ShowsNext}
+use Rattle.pp_seats_law.specs.Words.{ShowsNext}
 use Rattle.pp_state.specs.Unseen.{has_reader_near, is_kept, is_next_near, is_through, is_unseen, is_worth_keeping}
 use Rattle.pp_turns_law.proofs.Comes.{shown_as}
 use Rattle.pp_steps_law.proofs.Told.{told_of}
 use Rattle.pp_steps_law.specs.Told.{IsToldBy}
 use Rattle.pp_turns_law.specs.Unseen.{AreFollowing, IsCounted, UnseenIsTheLaws}
-
--- ---- what comes next
-
--- of one that is closing nothing does, whether what it followed is there or not
-pub next_shown : (number : ℕ → ℕ) (s : State) (name : Bytes) (owed : List Bytes) (seat : Seat) (c : Client) → ShowsSeat number name owed seat c → (c.is_closing ≡ false → HasSource s c) → ShowsNext number (next_of seat) (next_by s c)
-next_shown number s name owed seat c shows has = by c.is_closing refl
-  where
-    by : (closing : Bool) → c.is_closing ≡ closing → ShowsNext number (next_of seat) (next_by s c)
-    by false going = nexts number s name owed seat c shows (has going)
-    by true closing =
-        let own : next_of seat ≡ None = ap (λ (b : Bool). elim b as (λ o. Option SeatNext) [ true ↦ None | false ↦ next_by_seat (answer_in seat.stage) seat.client.reply ]) (shows.closing ∙ closing) in
-        let law : next_by s c ≡ None = ap (λ (b : Bool). elim b as (λ o. Option Next) [ true ↦ None | false ↦ elim (reply_of c) as (λ o. Option Next) [ None ↦ None | Some r ↦ next_in s r ] ]) closing in
-        subst (λ (x : Option SeatNext). ShowsNext number x (next_by s c)) (sym own) (subst (λ (n : Option Next). ShowsNext number None n) (sym law) tt)
 
 -- ---- a reader
 
@@ -75,7 +61,7 @@ readers_same number m s name owed x far b bound told [] (c ∷ cs) shown followi
 readers_same number m s name owed x far b bound told (seat ∷ seats) [] shown following = absurd shown
 readers_same number m s name owed x far b bound told (seat ∷ seats) (c ∷ cs) shown following =
     ap₂ (λ (t u : Bool). t || u)
-    (reader_same number m s.next_instance x far b (next_of seat) (next_by s c) bound told (next_shown number s name owed seat c shown.0 following.1) following.0)
+    (reader_same number m s.next_instance x far b (next_of seat) (next_by s c) bound told (nexts number s name owed seat c shown.0 following.1) following.0)
     (readers_same number m s name owed x far b bound told seats cs shown.1 following.2)
 
 -- ---- what is worth keeping

@@ -166,7 +166,7 @@ by_next number l peers p s name seat c None (Some n) shows seen going ready here
 
 pub waits_alike : WaitsAreTheLaws
 waits_alike number l peers p s name seat c shows seen going ready =
-    by_next number l peers p s name seat c (next_of seat) (next_of_law s c) shows seen going ready refl refl (nexts number s name [] seat c seen (has_source number l peers p s name seat c shows seen going ready.follows))
+    by_next number l peers p s name seat c (next_of seat) (next_of_law s c) shows seen going ready refl refl (nexts number s name [] seat c seen (λ on. has_source number l peers p s name seat c shows seen going ready.follows))
 
 pub waits_on : WaitingIsTheLaws
 waits_on number l peers p s name seat c shows seen going ready =
