@@ -5,6 +5,7 @@ build.py stamp    puts on record that what stands in out/ was built of the sourc
 """
 
 import collections
+import contextlib
 import hashlib
 import os
 import pathlib
@@ -119,20 +120,35 @@ def follow(rt, progress):
     return "".join(told)
 
 
+def take(rt, built):
+    """Ends the run once the program is linked. What would come is the gate's: the program by the second compiler, and what both of them print."""
+    last = None
+    while rt.poll() is None:
+        with contextlib.suppress(FileNotFoundError):
+            found = built.stat()
+            if found == last and os.access(built, os.X_OK):
+                return os.killpg(rt.pid, signal.SIGTERM)
+            last = found
+        time.sleep(0.5)
+
+
 def build(names):
     """Proves and builds as the gate does, in a copy that has the crates of the program alone, without wrong bodies; gives the last lines
     of what went wrong, or none. rt keeps what it proved, and takes it where that is asked for again."""
     PROGRAM.unlink(missing_ok=True)
     copied(names, ROOM, without=("must-fail", "wrong"))
     built = ROOM / "crates/polipo/out/polipo"
+    built.unlink(missing_ok=True)
     with Progress(len(names)) as progress:
         rt = subprocess.Popen(["rt", "ci"], cwd=ROOM, stdout=subprocess.PIPE, stderr=subprocess.STDOUT, text=True, errors="replace", start_new_session=True)
+        threading.Thread(target=take, args=(rt, built), daemon=True).start()
         try:
             told = follow(rt, progress)
         finally:
             if rt.poll() is None:
                 os.killpg(rt.pid, signal.SIGTERM)
-    if rt.wait() or not built.exists():
+    rt.wait()
+    if not built.exists():
         return told
     PROGRAM.parent.mkdir(exist_ok=True)
     shutil.copy(built, PROGRAM)

@@ -1,9 +1,11 @@
 -- A turn behind its wait: the event, what leaves memory, what is kept on the disk, and what follows (the order is ours).
 use Rattle.std.specs.Prelude.{◌≡◌}
+use Rattle.pp_proxy.specs.Handling.{Handles}
 use Rattle.pp_proxy.specs.Leaving.{Leaves}
-use Rattle.pp_proxy.specs.Moving.{LeadsOn, Turning}
+use Rattle.pp_proxy.specs.Moving.{Grows, LeadsOn, Turning}
 use Rattle.pp_proxy.specs.Settling.{Settles}
 use Rattle.pp_state.specs.Ends.{AreSeated}
+use Rattle.pp_world.specs.declared.event.Event.{Event}
 
 -- `H` is what the event does, and `K` what is done on the disk
 pub record TakesEvent (H K : Turning → Turning → Type 0) (x y : Turning) : Type 0 where
@@ -16,3 +18,7 @@ pub record TakesEvent (H K : Turning → Turning → Type 0) (x y : Turning) : T
   pub keeps : AreSeated left.moving.desk.state → K left kept
   pub settles : AreSeated kept.moving.desk.state → LeadsOn (Settles kept.shelf) kept.moving y.moving kept.log y.log kept.faults y.faults
   pub settles_shelf : y.shelf ≡ kept.shelf
+
+-- of what is read of an origin, what a client is said of a body that is loaded, and what is kept on the disk no more is said yet than that it grows
+abbrev pub Takes : Event → Turning → Turning → Type 0
+Takes event = TakesEvent (Handles (λ k. Grows) (λ i. Grows) event) Grows

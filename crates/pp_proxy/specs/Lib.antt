@@ -1,4 +1,5 @@
 pub mod Accepting
+pub mod Awaiting
 pub mod Closing
 pub mod Deciding
 pub mod Events

@@ -1,5 +1,5 @@
 -- Turns, one after the other.
-use Rattle.std.proofs.Common.{◌≡◌, ◌≢◌, ◌<◌, ◌+◌, ◌∙◌, inr, inl, ℕ, Bool, true, ◌&&◌, List, [], ◌∷◌, ◌++◌, Option, ap, append_assoc, refl, sym, subst}
+use Rattle.std.proofs.Common.{◌≡◌, ◌≢◌, ◌<◌, ◌≤◌, ◌+◌, ◌-◌, ◌∙◌, inr, inl, ℕ, zero, suc, Bool, true, ◌&&◌, List, [], ◌∷◌, ◌++◌, Option, ap, append_assoc, refl, sym, subst, absurd, arith}
 use Rattle.std.proofs.lemmas.List.{append-nil, flat_map_more, length-append}
 use Rattle.std.proofs.lemmas.List.Folds.{list_all-append}
 use Rattle.pp_world.specs.declared.event.Event.{Event}
@@ -9,10 +9,11 @@ use Rattle.pp_links.specs.Links.{IsLinked, Link}
 use Rattle.pp_links.specs.Quiet.{GrowsBy}
 use Rattle.pp_shelf.specs.Steady.{IsSteady}
 use Rattle.pp_links.proofs.Keeping.{none_linked}
+use Rattle.pp_proxy.specs.Awaiting.{Standing, TurnsOn}
 use Rattle.pp_proxy.specs.Turns.{TakesTurn, turn_by}
 use Rattle.pp_proxy.specs.declared.proxy.Turn.{Turn}
 use Rattle.pp_proxy.specs.declared.proxy.Turn.TheVariants.{Went, Stopped}
-use Rattle.pp_run.specs.Serving.{GoesOn, GoesUpTo, LoggedTurn, is_going, turn_happenings, went_on}
+use Rattle.pp_run.specs.Serving.{GoesOn, GoesUpTo, LoggedTurn, TurnsUpTo, is_going, turn_happenings, went_on}
 
 -- before the first
 pub linked_none : (log : Option Log) (top : ℕ) (links : List Link) → links ≡ [] → IsLinked log top links
@@ -84,3 +85,46 @@ pub goes_whole : {old new : Option Log} (count most : ℕ) → count ≡ most �
 goes_whole count most all goes = record {
   was = λ l is. let w = goes.was l is in (w.0, w.1, (w.2.0, w.2.1, inl (subst (λ (n : ℕ). GoesOn n w.2.0) all w.2.2)));
 }
+
+-- ---- what the proxy has between them
+
+-- so far i of so many were made
+pub record AreTurnsSoFar (i most : ℕ) (x mid : Standing) : Type 0 where
+  pub on : (y : Standing) → TurnsUpTo (most - i) mid y → TurnsUpTo most x y
+
+pub no_turn : (most : ℕ) (x : Standing) → AreTurnsSoFar 0 most x x
+no_turn most x = record { on = λ y all. all }
+
+one_less : (most i : ℕ) → i < most → most - i ≡ suc (most - (i + 1))
+one_less most i less = omega (arith, less)
+
+went_on_to : (more : ℕ) (x next y : Standing) → TurnsOn Went x next → TurnsUpTo more next y → TurnsUpTo (suc more) x y
+unfolding TurnsUpTo
+went_on_to more x next y turn others = inl (next, turn, others)
+
+stopped_at : (more : ℕ) (x y : Standing) → TurnsOn Stopped x y → TurnsUpTo (suc more) x y
+unfolding TurnsUpTo
+stopped_at more x y turn = inr turn
+
+none_more : (x : Standing) → TurnsUpTo zero x x
+unfolding TurnsUpTo
+none_more x = refl
+
+pub one_more_turn : (i most : ℕ) (x mid next : Standing) (result : Turn) → i < most → result ≢ Stopped → AreTurnsSoFar i most x mid → TurnsOn result mid next → AreTurnsSoFar (i + 1) most x next
+one_more_turn i most x mid next result less other so turn = record {
+  on = λ y others. so.on y (subst (λ (n : ℕ). TurnsUpTo n mid y) (sym (one_less most i less)) (went_on_to (most - (i + 1)) mid next y (subst (λ (t : Turn). TurnsOn t mid next) (unless_stopped_went result other) turn) others));
+}
+  where
+    unless_stopped_went : (t : Turn) → t ≢ Stopped → t ≡ Went
+    unless_stopped_went Went other = refl
+    unless_stopped_went Stopped other = absurd (other refl)
+
+pub last_turn : (i most : ℕ) (x mid next : Standing) (result : Turn) → i < most → result ≡ Stopped → AreTurnsSoFar i most x mid → TurnsOn result mid next → TurnsUpTo most x next
+last_turn i most x mid next result less stopped so turn =
+    so.on next (subst (λ (n : ℕ). TurnsUpTo n mid next) (sym (one_less most i less)) (stopped_at (most - (i + 1)) mid next (subst (λ (t : Turn). TurnsOn t mid next) stopped turn)))
+
+pub all_turns : (i most : ℕ) (x mid : Standing) → most ≤ i → AreTurnsSoFar i most x mid → TurnsUpTo most x mid
+all_turns i most x mid done so = so.on mid (subst (λ (n : ℕ). TurnsUpTo n mid mid) (sym none_left) (none_more mid))
+  where
+    none_left : most - i ≡ zero
+    none_left = omega (arith, done)

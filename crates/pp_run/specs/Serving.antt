@@ -1,5 +1,5 @@
 -- Turns, one after the other, as they stand in a log.
-use Rattle.std.specs.Prelude.{◌≡◌, ◌<◌, ◌⊎◌, ℕ, Bool, true, false, ◌&&◌, List, ◌++◌, length}
+use Rattle.std.specs.Prelude.{◌≡◌, ◌<◌, ◌⊎◌, ℕ, zero, suc, Bool, true, false, ◌&&◌, List, ◌++◌, length}
 use Rattle.std.specs.List.{flat_map, list_all}
 use Rattle.pp_world.specs.declared.event.Event.{Event}
 use Rattle.pp_world.specs.declared.event.Event.TheVariants.{Stop}
@@ -7,6 +7,7 @@ use Rattle.pp_world.specs.declared.event.Wants.{Wants}
 use Rattle.pp_world.specs.Log.{Log}
 use Rattle.pp_world.specs.Wire.{wait_happenings}
 use Rattle.pp_shelf.specs.Steady.{IsSteady, is_steady}
+use Rattle.pp_proxy.specs.Awaiting.{Standing, TurnsOn}
 use Rattle.pp_proxy.specs.Turns.{turn_by}
 use Rattle.pp_proxy.specs.declared.proxy.Turn.{Turn}
 use Rattle.pp_proxy.specs.declared.proxy.Turn.TheVariants.{Went, Stopped}
@@ -48,3 +49,10 @@ pub record IsStoppedWithin (most : ℕ) (log : Log) : Type 0 where
 -- turns until the world stops one, or so many: each waits once, and behind a stop there is none
 abbrev pub GoesUpTo : ℕ → Log → Type 0
 GoesUpTo most log = GoesOn most log ⊎ IsStoppedWithin most log
+
+-- ---- the same of what the proxy has between them
+
+-- each goes on from where the one before it led, until the world stops one; so many at most
+unfoldable pub TurnsUpTo : ℕ → Standing → Standing → Type 0
+TurnsUpTo zero x y = y ≡ x
+TurnsUpTo (suc more) x y = ((next : Standing) × TurnsOn Went x next × TurnsUpTo more next y) ⊎ TurnsOn Stopped x y

@@ -1,11 +1,12 @@
 // From settings to the end of serving.
-ghost use Rattle.std.specs.Prelude.{◌≡◌, [], string_bytes};
+ghost use Rattle.std.specs.Prelude.{◌≡◌, ◌≤◌, [], string_bytes};
 ghost use Rattle.pp_conf.specs.Logs.{log_place, shown_place};
 ghost use Rattle.pp_links.specs.Quiet.{GrowsBy};
 ghost use Rattle.pp_desk.specs.Anything.{anything};
 ghost use Rattle.pp_recover.specs.Opening.{IsFresh};
 ghost use Rattle.pp_run.specs.Exits.{ListensAs, OpensOn};
-ghost use Rattle.pp_run.specs.Serving.{GoesUpTo};
+ghost use Rattle.pp_proxy.specs.Awaiting.{standing};
+ghost use Rattle.pp_run.specs.Serving.{GoesUpTo, TurnsUpTo};
 ghost use Rattle.pp_store.specs.Held.{Holds};
 ghost use Rattle.pp_world.specs.Files.{Files};
 ghost use Rattle.pp_world.specs.Log.{Told};
@@ -95,7 +96,9 @@ fn listen<W: World>(
 fn serve<W: World>(proxy: &mut Proxy, shelf: &mut Shelf, most_turns: u64, world: &mut W)
     requires links { proxy.old.links ≡ [] }
     requires holds { Told (W.log world.old) (Holds anything shelf.old) }
-    ensures { GrowsBy [] (GoesUpTo most_turns) (W.log world.old) (W.log world.new) }
+    ensures goes { GrowsBy [] (GoesUpTo most_turns) (W.log world.old) (W.log world.new) }
+    ensures turns { TurnsUpTo most_turns (standing shelf.old proxy.old (W.top world.old) (W.log world.old) (W.faults world.old)) (standing shelf.new proxy.new (W.top world.new) (W.log world.new) (W.faults world.new)) }
+    ensures faults { W.faults world.old ≤ W.faults world.new }
 {
     for _turn in 0..most_turns {
         if let Turn::Stopped = proxy.turn(shelf, world) {
