@@ -1,5 +1,5 @@
 -- A turn from one wait to the next: what is waited for, what the wait changes, and the event, if one came (ours).
-use Rattle.std.specs.Prelude.{◌≡◌, ◌≤◌, ℕ, IsTrue, nat_lt, map, length, take, List, [], Option, Some, None}
+use Rattle.std.specs.Prelude.{◌≡◌, ◌≤◌, ℕ, IsTrue, nat_lt, false, map, length, take, List, [], Option, Some, None}
 use Rattle.std.specs.List.{filter}
 use Rattle.pp_desk.specs.declared.desk.Desk.{Desk}
 use Rattle.pp_due.specs.Waits.{all_read, all_written, is_loud}
@@ -36,11 +36,11 @@ standing shelf p top log faults = record { turning = turning shelf p.desk p.link
 abbrev pub loud_of : Desk → List ℕ
 loud_of d = filter (is_loud d.state.seats.items) d.state.awake.items
 
--- of those that are read, so many are clients: they stand first
-pub record Awaits (read : List ℕ) (wants : Wants) (clients : ℕ) (old new : Desk) : Type 0 where
+-- behind a wait at which these clients were read. Of those that are read now, so many are clients: they stand first
+pub record Awaits (before : List ℕ) (wants : Wants) (clients : ℕ) (old new : Desk) : Type 0 where
   pub accept : wants.accept ≡ nat_lt (length old.state.seats.items) max_clients
-  pub clients : AreInOrder read → clients ≡ length (all_read old.state read)
-  pub read : AreSeated old.state → AreInOrder read → wants.read.items ≡ all_got (loud_of old) (parts old.state) old.peers (all_read old.state read)
+  pub first : AreInOrder before → clients ≡ length (all_read old.state before)
+  pub read : AreSeated old.state → AreInOrder before → wants.read.items ≡ all_got (loud_of old) (parts old.state) old.peers (all_read old.state before)
   pub write : AreSeated old.state → wants.write.items ≡ all_asked (parts old.state) old.peers (all_written old.state [])
   pub awake : new.state.awake.items ≡ loud_of old
   pub seats : new.state.seats.items ≡ old.state.seats.items
