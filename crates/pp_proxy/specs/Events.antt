@@ -19,6 +19,6 @@ pub record TakesEvent (H K : Turning → Turning → Type 0) (x y : Turning) : T
   pub settles : AreSeated kept.moving.desk.state → LeadsOn (Settles kept.shelf) kept.moving y.moving kept.log y.log kept.faults y.faults
   pub settles_shelf : y.shelf ≡ kept.shelf
 
--- of what is read of an origin, what a client is said of a body that is loaded, and what is kept on the disk no more is said yet than that it grows
+-- of what is read of an origin, and of what is kept on the disk, no more is said yet than that it grows
 abbrev pub Takes : Event → Turning → Turning → Type 0
-Takes event = TakesEvent (Handles (λ k. Grows) (λ i. Grows) event) Grows
+Takes event = TakesEvent (Handles (λ k. Grows) event) Grows
