@@ -1,5 +1,5 @@
 -- Turns, one after the other.
-use Rattle.std.proofs.Common.{◌≡◌, ◌≢◌, ◌<◌, ◌≤◌, ◌+◌, ◌-◌, ◌∙◌, inr, inl, ℕ, zero, suc, Bool, true, ◌&&◌, List, [], ◌∷◌, ◌++◌, Option, ap, append_assoc, refl, sym, subst, absurd, arith}
+use Rattle.std.proofs.Common.{◌≡◌, ◌≢◌, ◌<◌, ◌≤◌, ◌+◌, ◌-◌, ◌∙◌, inr, inl, ℕ, zero, suc, Bool, true, ◌&&◌, List, [], ◌∷◌, ◌++◌, Option, ap, append_assoc, refl, sym, subst, arith}
 use Rattle.std.proofs.lemmas.List.{append-nil, flat_map_more, length-append}
 use Rattle.std.proofs.lemmas.List.Folds.{list_all-append}
 use Rattle.pp_world.specs.declared.event.Event.{Event}
@@ -93,7 +93,10 @@ pub record AreTurnsSoFar (i most : ℕ) (x mid : Standing) : Type 0 where
   pub on : (y : Standing) → TurnsUpTo (most - i) mid y → TurnsUpTo most x y
 
 pub no_turn : (most : ℕ) (x : Standing) → AreTurnsSoFar 0 most x x
-no_turn most x = record { on = λ y all. all }
+no_turn most x = record { on = λ y all. subst (λ (n : ℕ). TurnsUpTo n x y) whole all }
+  where
+    whole : most - 0 ≡ most
+    whole = omega arith
 
 one_less : (most i : ℕ) → i < most → most - i ≡ suc (most - (i + 1))
 one_less most i less = omega (arith, less)

@@ -6,7 +6,7 @@ pub serve-requires-clause-holds : goal.serve-requires-clause-holds
 serve-requires-clause-holds g c = holds_listened c.args.door.now.port c.args.shelf.now c.in-Ok.ensures.told c.requires.holds
 
 pub returns-in-Ok : goal.returns-in-Ok
-returns-in-Ok g c = record { told = listens_and_goes c.args.door.now.port c.args.most_turns c.in-Ok.ensures.told c.serve.ensures }
+returns-in-Ok g c = record { told = listens_and_goes c.args.door.now.port c.args.most_turns c.in-Ok.ensures.told c.serve.ensures.goes }
 
 pub returns-in-Err : goal.returns-in-Err
 returns-in-Err g c =
