@@ -1,1 +1,2 @@
+pub mod GotLemmas
 pub mod HeadLimits

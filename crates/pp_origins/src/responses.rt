@@ -1,53 +1,125 @@
 // Step 1: what an origin sent: responses, in the order of its line (RFC 2616, sections 4.4, 6, 8.1 and
 // 10.1).
-ghost use Rattle.std.specs.Prelude.{◌≡◌, ◌≤◌, length, vec_capacity};
+ghost use Rattle.std.specs.Prelude.{◌≡◌, ◌≤◌, ◌&&◌, is_some, length, nat_lt, take, vec_capacity, IfOk, IfSome};
 ghost use Rattle.std.specs.List.{find};
-ghost use Rattle.pp_links.specs.Links.{IsLinked};
+ghost use Rattle.pp_links.specs.Links.{IsLinked, has_link};
 ghost use Rattle.pp_links.specs.Quiet.{GrowsQuietly};
 ghost use Rattle.pp_peers.specs.Peers.{is_number};
+ghost use Rattle.pp_desk.specs.Calls.{read_log};
 ghost use Rattle.pp_desk.specs.Closings.{KeepsDesk, sides};
+ghost use Rattle.pp_origins.specs.Gots.{IsReceived, Receives, both};
 ghost use Rattle.pp_origins.specs.Responses.{bad_answer, bad_response, brought_by, charged_by, finished, gone_on, goes_on_by, has_brought_in, read_room, response_whole};
 ghost use Rattle.pp_state.specs.Ends.{numbers_of, parts, AreSeated, KeepsRest};
 ghost use Rattle.pp_decide.specs.Patience.{may_go_on};
+ghost use Rattle.pp_world.specs.Log.{AppendsAll};
+ghost use Rattle.pp_world.specs.Wire.{IsWithin};
 
 use crate::ended::gone;
-use pp_answers::take_head;
+use crate::got::bytes_came;
 use pp_desk::{Desk, READ_LEN};
-use pp_due::bring_row_for;
 use pp_flow::Exchange;
-use pp_head::Scratch;
 use pp_links::Links;
 use pp_peers::Peers;
-use pp_pipe::{Step, stays_open};
 use pp_shelf::Shelf;
 use pp_state::State;
-use pp_steps::{deliver, room_for};
-use pp_world::{Got, Wire};
+use pp_steps::room_for;
+use pp_world::{Got, Wire, WireFault};
 
-/// More steps than one read can tell.
-const STEPS: usize = 2 * READ_LEN + 64;
-
-/// Reads from an origin.
-#[tactic(auto, using(pp_links::proofs::QuietLemmas::quiet_then, pp_links::proofs::QuietLemmas::quiet_none))]
-pub fn receive<W: Wire>(desk: &mut Desk, links: &mut Links, shelf: &Shelf, world: &mut W, k: u64)
-    requires { IsLinked (W.log world.old) (W.top world.old) links.old }
-    ensures linked { IsLinked (W.log world.new) (W.top world.new) links.new }
+/// Reads from an origin; and replies that are over end.
+#[tactic(auto, using(pp_links::proofs::QuietLemmas::quiet_then))]
+pub fn receive<W: Wire>(desk: &mut Desk, links: &Links, shelf: &Shelf, world: &mut W, k: u64)
+    requires { IsLinked (W.log world.old) (W.top world.old) links.now }
+    ensures linked { IsLinked (W.log world.new) (W.top world.new) links.now }
     ensures quiet { GrowsQuietly (W.log world.old) (W.log world.new) }
+    ensures is { AreSeated desk.old.state → length desk.old.buffer.items ≤ vec_capacity desk.old.«data» → Receives (length desk.old.buffer.items) shelf.now k links.now (both desk.old) (both desk.new) (W.log world.old) (W.log world.new) }
+    ensures numbers { numbers_of desk.new.state.seats.items ≡ numbers_of desk.old.state.seats.items }
     ensures long { length desk.new.buffer.items ≡ length desk.old.buffer.items }
     ensures room { vec_capacity desk.old.«data» ≤ vec_capacity desk.new.«data» }
+    ensures rest { record desk.new { state = desk.old.state; peers = desk.old.peers; buffer = desk.old.buffer; «data» = desk.old.«data» } ≡ desk.old }
     ensures top { W.top world.new ≡ W.top world.old }
     ensures faults { W.faults world.old ≤ W.faults world.new }
 {
     let room = read_room(desk, k).min(desk.buffer.len());
-    match links.read(world, k, &mut desk.buffer[..room]) {
-        Some(Ok(Got::Bytes(n))) => {
-            bytes_came(desk, shelf, k, n);
-            desk.end_replies(links, world);
-        }
+    let found = read_front(links, world, k, &mut desk.buffer, room);
+    take_received(desk, links, shelf, world, k, &found);
+}
+
+/// Reads into the front of the buffer, of which so much is lent.
+fn read_front<W: Wire>(
+    links: &Links,
+    world: &mut W,
+    k: u64,
+    buffer: &mut [u8],
+    room: usize,
+) -> Option<Result<Got, WireFault>>
+    requires linked { IsLinked (W.log world.old) (W.top world.old) links.now }
+    requires there { room ≤ length buffer.old }
+    ensures linked { IsLinked (W.log world.new) (W.top world.new) links.now }
+    ensures quiet { GrowsQuietly (W.log world.old) (W.log world.new) }
+    ensures called { is_some result ≡ (has_link k links.now && nat_lt 0 room) }
+    ensures told { AppendsAll (W.log world.old) (W.log world.new) (read_log k result (take room buffer.new)) }
+    ensures within { IfSome result (λ r. IfOk r (IsWithin room)) }
+    ensures top { W.top world.new ≡ W.top world.old }
+    ensures faults { W.faults world.old ≤ W.faults world.new }
+{
+    let front = &mut buffer[..room];
+    links.read(world, k, front)
+}
+
+/// What was found stands at the front of the buffer.
+#[tactic(auto, using(pp_links::proofs::QuietLemmas::quiet_none))]
+fn take_received<W: Wire>(
+    desk: &mut Desk,
+    links: &Links,
+    shelf: &Shelf,
+    world: &mut W,
+    k: u64,
+    found: &Option<Result<Got, WireFault>>,
+)
+    requires linked { IsLinked (W.log world.old) (W.top world.old) links.now }
+    requires there { IfSome found.now (λ r. IfOk r (IsWithin (length desk.old.buffer.items))) }
+    ensures linked { IsLinked (W.log world.new) (W.top world.new) links.now }
+    ensures quiet { GrowsQuietly (W.log world.old) (W.log world.new) }
+    ensures told { W.log world.new ≡ W.log world.old }
+    ensures is { AreSeated desk.old.state → length desk.old.buffer.items ≤ vec_capacity desk.old.«data» → IsReceived found.now shelf.now k desk.old.buffer.items (both desk.old) (both desk.new) }
+    ensures numbers { numbers_of desk.new.state.seats.items ≡ numbers_of desk.old.state.seats.items }
+    ensures room { vec_capacity desk.old.«data» ≤ vec_capacity desk.new.«data» }
+    ensures rest { record desk.new { state = desk.old.state; peers = desk.old.peers; «data» = desk.old.«data» } ≡ desk.old }
+    ensures top { W.top world.new ≡ W.top world.old }
+    ensures faults { W.faults world.old ≤ W.faults world.new }
+{
+    match found {
+        Some(Ok(Got::Bytes(n))) => take_bytes(desk, links, shelf, world, k, *n),
         Some(Ok(Got::End)) => gone(desk, links, world, k, true),
         Some(Err(_)) => gone(desk, links, world, k, false),
         Some(Ok(Got::NotYet)) | None => {}
     }
+}
+
+/// So many bytes came; and replies that are over end.
+#[tactic(auto, using(pp_links::proofs::QuietLemmas::quiet_none))]
+fn take_bytes<W: Wire>(
+    desk: &mut Desk,
+    links: &Links,
+    shelf: &Shelf,
+    world: &mut W,
+    k: u64,
+    n: usize,
+)
+    requires linked { IsLinked (W.log world.old) (W.top world.old) links.now }
+    requires there { n ≤ length desk.old.buffer.items }
+    ensures linked { IsLinked (W.log world.new) (W.top world.new) links.now }
+    ensures quiet { GrowsQuietly (W.log world.old) (W.log world.new) }
+    ensures told { W.log world.new ≡ W.log world.old }
+    ensures is { AreSeated desk.old.state → n ≤ vec_capacity desk.old.«data» → IsReceived (Some (Ok (Got.Bytes n))) shelf.now k desk.old.buffer.items (both desk.old) (both desk.new) }
+    ensures numbers { numbers_of desk.new.state.seats.items ≡ numbers_of desk.old.state.seats.items }
+    ensures room { vec_capacity desk.old.«data» ≤ vec_capacity desk.new.«data» }
+    ensures rest { record desk.new { state = desk.old.state; peers = desk.old.peers; «data» = desk.old.«data» } ≡ desk.old }
+    ensures top { W.top world.new ≡ W.top world.old }
+    ensures faults { W.faults world.old ≤ W.faults world.new }
+{
+    bytes_came(desk, shelf, k, n);
+    desk.end_replies(links, world);
 }
 
 /// Ours: a read takes no more than the pipe of the first exchange's client has room for.
@@ -63,117 +135,6 @@ fn read_room(desk: &mut Desk, k: u64) -> usize
         None => READ_LEN,
         Some(e) => room_for(&mut desk.state, &e, READ_LEN),
     }
-}
-
-/// What one read brought, one step behind the other, up to a cause to close the connection.
-fn bytes_came(desk: &mut Desk, shelf: &Shelf, k: u64, n: usize)
-    ensures room { vec_capacity desk.old.«data» ≤ vec_capacity desk.new.«data» }
-    ensures rest { record desk.new { state = desk.old.state; peers = desk.old.peers; «data» = desk.old.«data» } ≡ desk.old }
-{
-    desk.data.clear();
-    let mut at: usize = 0;
-    for _step in 0..STEPS {
-        let Some(used) = step_came(desk, shelf, k, at, n) else {
-            break;
-        };
-        at = at.saturating_add(used);
-    }
-}
-
-/// One step of what was read, from one place up to another, and how many bytes it took. None where it is the last.
-fn step_came(desk: &mut Desk, shelf: &Shelf, k: u64, at: usize, n: usize) -> Option<usize>
-    ensures room { vec_capacity desk.old.«data» ≤ vec_capacity desk.new.«data» }
-    ensures rest { record desk.new { state = desk.old.state; peers = desk.old.peers; «data» = desk.old.«data» } ≡ desk.old }
-{
-    let bytes = desk.buffer.get(at..n)?;
-    let peer = desk.peers.get_mut(k)?;
-    if peer.is_closing {
-        return None;
-    }
-    let (used, step) = peer.pipe.feed(bytes);
-    match step {
-        Step::Head => {
-            head_came(desk, shelf, k);
-            Some(used)
-        }
-        Step::Body(from, to) => {
-            join_data(&mut desk.data, bytes, from, to);
-            Some(used)
-        }
-        Step::End => {
-            response_came(desk, k);
-            Some(used)
-        }
-        Step::Bad => {
-            data_came(desk, k);
-            bad_response(desk, k);
-            None
-        }
-        Step::Idle => {
-            data_came(desk, k);
-            None
-        }
-    }
-}
-
-/// The bytes of this span are data.
-fn join_data(joined: &mut Vec<u8>, bytes: &[u8], from: usize, to: usize)
-    ensures { vec_capacity joined.old ≤ vec_capacity joined.new }
-{
-    if let Some(span) = bytes.get(from..to) {
-        let _ = joined.extend_from_slice(span);
-    }
-}
-
-/// The data of one read go where they belong at once.
-fn data_came(desk: &mut Desk, k: u64)
-    ensures room { vec_capacity desk.new.«data» ≡ vec_capacity desk.old.«data» }
-    ensures rest { record desk.new { state = desk.old.state; «data» = desk.old.«data» } ≡ desk.old }
-{
-    if desk.data.is_empty() {
-        return;
-    }
-    if let Some(number) = desk.state.flow.line(k, 0) {
-        deliver(&mut desk.state, number, desk.data.as_slice());
-    }
-    desk.data.clear();
-}
-
-/// A final head came: it belongs to the first exchange of the line. It is read beside what is kept of its key.
-fn head_came(desk: &mut Desk, shelf: &Shelf, k: u64)
-    ensures { record desk.new { state = desk.old.state; peers = desk.old.peers } ≡ desk.old }
-{
-    let Some(number) = desk.state.flow.line(k, 0) else {
-        return bad_response(desk, k);
-    };
-    bring_row_for(&mut desk.state, shelf, number);
-    let mut scratch = Scratch::new();
-    let mut stays = false;
-    let is_fine = match desk.peers.pipe(k) {
-        None => return,
-        Some(pipe) => match pipe.head(&mut scratch) {
-            None => false,
-            Some(head) => {
-                stays = stays_open(&head);
-                take_head(&mut desk.state, number, &head)
-            }
-        },
-    };
-    if !is_fine {
-        return bad_response(desk, k);
-    }
-    if let Some(peer) = desk.peers.get_mut(k) {
-        peer.stays = stays;
-    }
-}
-
-/// The data of a response that is whole go where they belong, and it is over.
-fn response_came(desk: &mut Desk, k: u64)
-    ensures room { vec_capacity desk.new.«data» ≡ vec_capacity desk.old.«data» }
-    ensures rest { record desk.new { state = desk.old.state; peers = desk.old.peers; «data» = desk.old.«data» } ≡ desk.old }
-{
-    data_came(desk, k);
-    end_response(desk, k);
 }
 
 /// A response is whole, and the connection goes on or is closed.
@@ -219,7 +180,7 @@ fn goes_on(desk: &Desk, k: u64, body_left: u64, binds_connection: bool) -> bool
 /// connection is closed. A head on a connection that brought a whole response before may be the rest of
 /// that, and is a lost attempt. What comes before the first ask of the line was asked whole answers nobody: the
 /// connection is closed as one that ended.
-fn bad_response(desk: &mut Desk, k: u64)
+pub(crate) fn bad_response(desk: &mut Desk, k: u64)
     ensures is { AreSeated desk.old.state → sides desk.new ≡ bad_response k (sides desk.old) }
     ensures numbers { numbers_of desk.new.state.seats.items ≡ numbers_of desk.old.state.seats.items }
     ensures rest { KeepsDesk desk.old desk.new }

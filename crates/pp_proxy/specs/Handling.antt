@@ -6,6 +6,7 @@ use Rattle.pp_desk.specs.Marks.{touched}
 use Rattle.pp_desk.specs.Replies.{EndsReplies}
 use Rattle.pp_desk.specs.declared.desk.Desk.{Desk}
 use Rattle.pp_origins.specs.Asked.{Asks}
+use Rattle.pp_origins.specs.Gots.{Receives, both}
 use Rattle.pp_origins.specs.Responses.{origin_gone}
 use Rattle.pp_peers.specs.Peers.{is_number, with_peer}
 use Rattle.pp_peers.specs.declared.peers.Peer.{Peer}
@@ -113,19 +114,27 @@ pub record AsksOn (k : ℕ) (x y : Turning) : Type 0 where
   pub room : vec_capacity x.moving.desk.«data» ≤ vec_capacity y.moving.desk.«data»
   pub one : IsOfOne x y
 
--- `R` is what one read of an origin leaves
-abbrev pub ReadsBy : (ℕ → Turning → Turning → Type 0) → Option ℕ → ℕ → Turning → Turning → Type 0
-ReadsBy R (Some i) id x y = HearsAt i x y
-ReadsBy R None id x y = R id x y
+-- an origin is read, where there is room for the data of all that one read may bring
+pub record ReceivesOn (k : ℕ) (x y : Turning) : Type 0 where
+  pub receives : length x.moving.desk.buffer.items ≤ vec_capacity x.moving.desk.«data» → Receives (length x.moving.desk.buffer.items) x.shelf k x.moving.links (both x.moving.desk) (both y.moving.desk) x.log y.log
+  pub numbers : numbers_of y.moving.desk.state.seats.items ≡ numbers_of x.moving.desk.state.seats.items
+  pub long : length y.moving.desk.buffer.items ≡ length x.moving.desk.buffer.items
+  pub room : vec_capacity x.moving.desk.«data» ≤ vec_capacity y.moving.desk.«data»
+  pub rest : record y.moving.desk { state = x.moving.desk.state; peers = x.moving.desk.peers; buffer = x.moving.desk.buffer; «data» = x.moving.desk.«data» } ≡ x.moving.desk
+  pub one : IsOfOne x y
+
+abbrev pub ReadsBy : Option ℕ → ℕ → Turning → Turning → Type 0
+ReadsBy (Some i) id x y = HearsAt i x y
+ReadsBy None id x y = ReceivesOn id x y
 
 abbrev pub WritesBy : Option ℕ → ℕ → Turning → Turning → Type 0
 WritesBy (Some i) id x y = SaysAt i x y
 WritesBy None id x y = AsksOn id x y
 
-pub record ReadsAt (R : ℕ → Turning → Turning → Type 0) (id : ℕ) (x y : Turning) : Type 0 where
+pub record ReadsAt (id : ℕ) (x y : Turning) : Type 0 where
   pub woken : Desk
   pub wakes : Wakes id x.moving.desk woken
-  pub reads : ReadsBy R (place_of id (numbers_of woken.state.seats.items)) id (at_desk woken x) y
+  pub reads : ReadsBy (place_of id (numbers_of woken.state.seats.items)) id (at_desk woken x) y
 
 pub record WritesAt (id : ℕ) (x y : Turning) : Type 0 where
   pub woken : Desk
@@ -134,11 +143,11 @@ pub record WritesAt (id : ℕ) (x y : Turning) : Type 0 where
 
 -- ---- each
 
-abbrev pub Handles : (ℕ → Turning → Turning → Type 0) → Event → Turning → Turning → Type 0
-Handles R Stop x y = Stops x.moving.desk y.moving.desk × IsSilent x y
-Handles R (Tick seconds) x y = TicksOn seconds x.moving.desk y.moving.desk × IsSilent x y
-Handles R (Accepted c) x y = IsAccepted c x.moving.desk y.moving.desk × IsSilent x y
-Handles R (Readable id) x y = ReadsAt R id x y
-Handles R (Writable id) x y = WritesAt id x y
-Handles R (Reached k) x y = Reaches k x.moving.desk y.moving.desk × IsSilent x y
-Handles R (Broken k) x y = Breaks k x.moving.desk y.moving.desk × IsSilent x y
+abbrev pub Handles : Event → Turning → Turning → Type 0
+Handles Stop x y = Stops x.moving.desk y.moving.desk × IsSilent x y
+Handles (Tick seconds) x y = TicksOn seconds x.moving.desk y.moving.desk × IsSilent x y
+Handles (Accepted c) x y = IsAccepted c x.moving.desk y.moving.desk × IsSilent x y
+Handles (Readable id) x y = ReadsAt id x y
+Handles (Writable id) x y = WritesAt id x y
+Handles (Reached k) x y = Reaches k x.moving.desk y.moving.desk × IsSilent x y
+Handles (Broken k) x y = Breaks k x.moving.desk y.moving.desk × IsSilent x y

@@ -1,8 +1,7 @@
 use Rattle.std.proofs.Common.{◌≡◌, ◌∙◌, ap, refl, sym, subst, ℕ, List, Option, Some, None}
 use Rattle.pp_desk.specs.declared.desk.Desk.{Desk}
 use Rattle.pp_proxy.specs.Handling.{ReadsBy}
-use Rattle.pp_proxy.specs.Moving.{Grows, turning}
-use Rattle.pp_shelf.proofs.SteadyLemmas.{quiet_is_steady}
+use Rattle.pp_proxy.specs.Moving.{turning}
 use Rattle.pp_state.specs.Ends.{AreInOrder, AreSeated, numbers_of, place_of}
 use Rattle.pp_state.specs.declared.state.State.{State}
 use Rattle.pp_proxy.proofs.event.read.Goals as goal
@@ -27,7 +26,7 @@ returns-in-Some-clause-is g c = λ seated.
     record {
       woken = woken;
       wakes = c.wake.ensures.is seated;
-      reads = subst (λ (o : Option ℕ). ReadsBy (λ k. Grows) o id x y) (sym at) (record {
+      reads = subst (λ (o : Option ℕ). ReadsBy o id x y) (sym at) (record {
         roused = roused;
         rouses = record { awake = c.rouse.ensures.too; room = c.rouse.ensures.room; rest = ap (λ (s : State). record woken { state = s }) c.rouse.ensures.rest };
         hears = c.hear.ensures.is roused_seated;
@@ -47,11 +46,18 @@ returns-in-None-clause-is g c = λ seated.
     let shelf = c.args.shelf.now in
     let id = c.args.id in
     let x = turning shelf woken c.args.links.now (top c.args.world.now) (log c.args.world.now) (faults c.args.world.now) in
-    let y = turning shelf new.desk new.links (top new.world) (log new.world) (faults new.world) in
+    let y = turning shelf new.desk c.args.links.now (top new.world) (log new.world) (faults new.world) in
     let woken_seated : AreSeated woken.state = subst (λ (ns : List ℕ). AreInOrder ns) (sym c.wake.ensures.numbers) seated in
     let at : place_of id (numbers_of woken.state.seats.items) ≡ None = sym (c.seat_of.ensures.place woken_seated) ∙ c.in-None.is in
     record {
       woken = woken;
       wakes = c.wake.ensures.is seated;
-      reads = subst (λ (o : Option ℕ). ReadsBy (λ k. Grows) o id x y) (sym at) (record { grows = quiet_is_steady c.receive.ensures.quiet; linked = c.receive.ensures.linked; count = c.receive.ensures.faults });
+      reads = subst (λ (o : Option ℕ). ReadsBy o id x y) (sym at) (record {
+        receives = c.receive.ensures.is woken_seated;
+        numbers = c.receive.ensures.numbers;
+        long = c.receive.ensures.long;
+        room = c.receive.ensures.room;
+        rest = c.receive.ensures.rest;
+        one = record { shelf = refl; links = refl; top = c.receive.ensures.top; count = c.receive.ensures.faults };
+      });
     }
