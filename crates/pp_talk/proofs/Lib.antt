@@ -1,1 +1,2 @@
+pub mod LoadingLemmas
 pub mod TalkingLemmas
