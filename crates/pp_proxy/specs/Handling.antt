@@ -16,6 +16,7 @@ use Rattle.pp_proxy.specs.Rounds.{Becomes}
 use Rattle.pp_proxy.specs.Ticks.{ticked}
 use Rattle.pp_state.specs.Ends.{AreInOrder, numbers_of, place_of}
 use Rattle.pp_state.specs.Numbers.{places, with_number}
+use Rattle.pp_talk.specs.Loading.{LoadsAndSays}
 use Rattle.pp_talk.specs.Talking.{Hears}
 use Rattle.pp_world.specs.declared.event.Event.{Event}
 use Rattle.pp_world.specs.declared.event.Event.TheVariants.{Stop, Tick, Accepted, Readable, Writable, Reached, Broken}
@@ -95,6 +96,15 @@ pub record HearsAt (i : ℕ) (x y : Turning) : Type 0 where
   pub rest : KeepsDesk roused (record y.moving.desk { buffer = roused.buffer })
   pub one : IsOfOne x y
 
+-- a client is said what is there for it, behind the read of its next chunk where that is on the disk alone
+pub record SaysAt (i : ℕ) (x y : Turning) : Type 0 where
+  pub roused : Desk
+  pub rouses : Rouses i x.moving.desk roused
+  pub says : LoadsAndSays i x.moving.links x.shelf roused y.shelf y.moving.desk x.log y.log x.faults y.faults
+  pub numbers : numbers_of y.moving.desk.state.seats.items ≡ numbers_of x.moving.desk.state.seats.items
+  pub links : y.moving.links ≡ x.moving.links
+  pub top : y.moving.top ≡ x.moving.top
+
 -- an origin is offered what is left to ask
 pub record AsksOn (k : ℕ) (x y : Turning) : Type 0 where
   pub asks : Asks k x.moving.desk.state.now x.moving.desk.state.awake.items x.moving.links (sides x.moving.desk) (sides y.moving.desk) x.log y.log
@@ -103,32 +113,32 @@ pub record AsksOn (k : ℕ) (x y : Turning) : Type 0 where
   pub room : vec_capacity x.moving.desk.«data» ≤ vec_capacity y.moving.desk.«data»
   pub one : IsOfOne x y
 
--- `R` is what one read of an origin leaves, and `S` what a client is said
+-- `R` is what one read of an origin leaves
 abbrev pub ReadsBy : (ℕ → Turning → Turning → Type 0) → Option ℕ → ℕ → Turning → Turning → Type 0
 ReadsBy R (Some i) id x y = HearsAt i x y
 ReadsBy R None id x y = R id x y
 
-abbrev pub WritesBy : (ℕ → Turning → Turning → Type 0) → Option ℕ → ℕ → Turning → Turning → Type 0
-WritesBy S (Some i) id x y = S i x y
-WritesBy S None id x y = AsksOn id x y
+abbrev pub WritesBy : Option ℕ → ℕ → Turning → Turning → Type 0
+WritesBy (Some i) id x y = SaysAt i x y
+WritesBy None id x y = AsksOn id x y
 
 pub record ReadsAt (R : ℕ → Turning → Turning → Type 0) (id : ℕ) (x y : Turning) : Type 0 where
   pub woken : Desk
   pub wakes : Wakes id x.moving.desk woken
   pub reads : ReadsBy R (place_of id (numbers_of woken.state.seats.items)) id (at_desk woken x) y
 
-pub record WritesAt (S : ℕ → Turning → Turning → Type 0) (id : ℕ) (x y : Turning) : Type 0 where
+pub record WritesAt (id : ℕ) (x y : Turning) : Type 0 where
   pub woken : Desk
   pub wakes : Wakes id x.moving.desk woken
-  pub writes : WritesBy S (place_of id (numbers_of woken.state.seats.items)) id (at_desk woken x) y
+  pub writes : WritesBy (place_of id (numbers_of woken.state.seats.items)) id (at_desk woken x) y
 
 -- ---- each
 
-abbrev pub Handles : (ℕ → Turning → Turning → Type 0) → (ℕ → Turning → Turning → Type 0) → Event → Turning → Turning → Type 0
-Handles R S Stop x y = Stops x.moving.desk y.moving.desk × IsSilent x y
-Handles R S (Tick seconds) x y = TicksOn seconds x.moving.desk y.moving.desk × IsSilent x y
-Handles R S (Accepted c) x y = IsAccepted c x.moving.desk y.moving.desk × IsSilent x y
-Handles R S (Readable id) x y = ReadsAt R id x y
-Handles R S (Writable id) x y = WritesAt S id x y
-Handles R S (Reached k) x y = Reaches k x.moving.desk y.moving.desk × IsSilent x y
-Handles R S (Broken k) x y = Breaks k x.moving.desk y.moving.desk × IsSilent x y
+abbrev pub Handles : (ℕ → Turning → Turning → Type 0) → Event → Turning → Turning → Type 0
+Handles R Stop x y = Stops x.moving.desk y.moving.desk × IsSilent x y
+Handles R (Tick seconds) x y = TicksOn seconds x.moving.desk y.moving.desk × IsSilent x y
+Handles R (Accepted c) x y = IsAccepted c x.moving.desk y.moving.desk × IsSilent x y
+Handles R (Readable id) x y = ReadsAt R id x y
+Handles R (Writable id) x y = WritesAt id x y
+Handles R (Reached k) x y = Reaches k x.moving.desk y.moving.desk × IsSilent x y
+Handles R (Broken k) x y = Breaks k x.moving.desk y.moving.desk × IsSilent x y

@@ -48,7 +48,7 @@ pub(crate) fn handle<W: World>(
     ensures linked { IsLinked (W.log world.new) (W.top world.new) links.new }
     ensures holds { Told (W.log world.new) (Holds anything shelf.new) }
     ensures steady { GrowsSteadily (W.log world.old) (W.log world.new) }
-    ensures is { AreSeated desk.old.state → Handles (λ k. Grows) (λ i. Grows) event (turning shelf.old desk.old links.old (W.top world.old) (W.log world.old) (W.faults world.old)) (turning shelf.new desk.new links.new (W.top world.new) (W.log world.new) (W.faults world.new)) }
+    ensures is { AreSeated desk.old.state → Handles (λ k. Grows) event (turning shelf.old desk.old links.old (W.top world.old) (W.log world.old) (W.faults world.old)) (turning shelf.new desk.new links.new (W.top world.new) (W.log world.new) (W.faults world.new)) }
     ensures faults { W.faults world.old ≤ W.faults world.new }
 {
     match event {
@@ -97,7 +97,7 @@ fn write<W: World>(desk: &mut Desk, links: &mut Links, shelf: &mut Shelf, world:
     ensures linked { IsLinked (W.log world.new) (W.top world.new) links.new }
     ensures holds { Told (W.log world.new) (Holds anything shelf.new) }
     ensures steady { GrowsSteadily (W.log world.old) (W.log world.new) }
-    ensures is { AreSeated desk.old.state → WritesAt (λ i. Grows) id (turning shelf.old desk.old links.old (W.top world.old) (W.log world.old) (W.faults world.old)) (turning shelf.new desk.new links.new (W.top world.new) (W.log world.new) (W.faults world.new)) }
+    ensures is { AreSeated desk.old.state → WritesAt id (turning shelf.old desk.old links.old (W.top world.old) (W.log world.old) (W.faults world.old)) (turning shelf.new desk.new links.new (W.top world.new) (W.log world.new) (W.faults world.new)) }
     ensures faults { W.faults world.old ≤ W.faults world.new }
 {
     wake(desk, id);

@@ -1,8 +1,9 @@
-use Rattle.std.proofs.Common.{◌≡◌, ◌∙◌, refl, sym, subst, ℕ, List, Option, Some, None}
+use Rattle.std.proofs.Common.{◌≡◌, ◌∙◌, ap, refl, sym, subst, ℕ, List, Option, Some, None}
 use Rattle.pp_desk.specs.declared.desk.Desk.{Desk}
 use Rattle.pp_proxy.specs.Handling.{WritesBy}
-use Rattle.pp_proxy.specs.Moving.{Grows, turning}
+use Rattle.pp_proxy.specs.Moving.{turning}
 use Rattle.pp_state.specs.Ends.{AreInOrder, AreSeated, numbers_of, place_of}
+use Rattle.pp_state.specs.declared.state.State.{State}
 use Rattle.pp_proxy.proofs.event.write.Goals as goal
 
 pub returns-in-Some-clause-is : goal.returns-in-Some-clause-is
@@ -14,13 +15,23 @@ returns-in-Some-clause-is g c = λ seated.
     let new = c.load_and_say.new in
     let id = c.args.id in
     let x = turning c.args.shelf.now woken c.args.links.now (top c.args.world.now) (log c.args.world.now) (faults c.args.world.now) in
-    let y = turning new.shelf new.desk new.links (top new.world) (log new.world) (faults new.world) in
+    let y = turning new.shelf new.desk c.args.links.now (top new.world) (log new.world) (faults new.world) in
+    let roused : Desk = record woken { state = c.rouse.new.self } in
     let woken_seated : AreSeated woken.state = subst (λ (ns : List ℕ). AreInOrder ns) (sym c.wake.ensures.numbers) seated in
+    let same : numbers_of roused.state.seats.items ≡ numbers_of woken.state.seats.items = ap (λ (s : State). numbers_of s.seats.items) c.rouse.ensures.rest in
+    let roused_seated : AreSeated roused.state = subst (λ (ns : List ℕ). AreInOrder ns) (sym same) woken_seated in
     let at : place_of id (numbers_of woken.state.seats.items) ≡ Some c.in-Some.i = sym (c.seat_of.ensures.place woken_seated) ∙ c.in-Some.is in
     record {
       woken = woken;
       wakes = c.wake.ensures.is seated;
-      writes = subst (λ (o : Option ℕ). WritesBy (λ i. Grows) o id x y) (sym at) (record { grows = c.load_and_say.ensures.steady; linked = c.load_and_say.ensures.linked; count = c.load_and_say.ensures.faults });
+      writes = subst (λ (o : Option ℕ). WritesBy o id x y) (sym at) (record {
+        roused = roused;
+        rouses = record { awake = c.rouse.ensures.too; room = c.rouse.ensures.room; rest = ap (λ (s : State). record woken { state = s }) c.rouse.ensures.rest };
+        says = c.load_and_say.ensures.is roused_seated;
+        numbers = c.load_and_say.ensures.numbers ∙ same;
+        links = refl;
+        top = c.load_and_say.ensures.top;
+      });
     }
 
 pub returns-in-None-clause-is : goal.returns-in-None-clause-is
@@ -40,7 +51,7 @@ returns-in-None-clause-is g c = λ seated.
     record {
       woken = woken;
       wakes = c.wake.ensures.is seated;
-      writes = subst (λ (o : Option ℕ). WritesBy (λ i. Grows) o id x y) (sym at) (record {
+      writes = subst (λ (o : Option ℕ). WritesBy o id x y) (sym at) (record {
         asks = c.ask.ensures.is woken_seated;
         numbers = c.ask.ensures.numbers;
         rest = c.ask.ensures.rest;
