@@ -49,7 +49,7 @@ pub(crate) fn take_event<W: World>(
     ensures linked { IsLinked (W.log world.new) (W.top world.new) links.new }
     ensures holds { Told (W.log world.new) (Holds anything shelf.new) }
     ensures steady { GrowsSteadily (W.log world.old) (W.log world.new) }
-    ensures is { TakesEvent (Handles (λ k. Grows) event) Grows (turning shelf.old desk.old links.old (W.top world.old) (W.log world.old) (W.faults world.old)) (turning shelf.new desk.new links.new (W.top world.new) (W.log world.new) (W.faults world.new)) }
+    ensures is { TakesEvent (Handles (λ k. Grows) event) (turning shelf.old desk.old links.old (W.top world.old) (W.log world.old) (W.faults world.old)) (turning shelf.new desk.new links.new (W.top world.new) (W.log world.new) (W.faults world.new)) }
     ensures faults { W.faults world.old ≤ W.faults world.new }
 {
     handle(desk, links, shelf, world, event);
