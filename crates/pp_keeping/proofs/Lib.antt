@@ -1,1 +1,3 @@
-pub mod GoneLemmas
+pub mod CallLemmas
+pub mod CopyLemmas
+pub mod RepeatLemmas

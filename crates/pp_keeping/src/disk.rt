@@ -1,13 +1,12 @@
 // Calls of the disk in a turn: they open and close no connection.
-ghost use Rattle.std.specs.Prelude.{◌≡◌, ◌≤◌, ◌↔◌, IfNone, IfSome, IsSome, is_some, length, None};
-ghost use Rattle.pp_links.specs.Links.{IsLinked};
+ghost use Rattle.std.specs.Prelude.{◌≡◌, ◌≤◌, drop, length};
 ghost use Rattle.pp_desk.specs.Anything.{anything};
-ghost use Rattle.pp_keeping.specs.Kept.{IsWithdrawn};
-ghost use Rattle.pp_shelf.specs.Given.{MayBeDrafted, is_more_of};
-ghost use Rattle.pp_shelf.specs.Steady.{GrowsOnDisk, GrowsSteadily};
-ghost use Rattle.pp_store.specs.Changes.{entry_with, extended_after};
+ghost use Rattle.pp_entry.specs.Texts.{body_at};
+ghost use Rattle.pp_keeping.specs.Kept.{outside, Withdraws};
+ghost use Rattle.pp_keeping.specs.Runs.{entry_in, Drafts, Seals};
+ghost use Rattle.pp_links.specs.Links.{IsLinked};
+ghost use Rattle.pp_shelf.specs.Steady.{GrowsSteadily};
 ghost use Rattle.pp_store.specs.Held.{Holds};
-ghost use Rattle.pp_store.specs.Kept.{kept_of};
 ghost use Rattle.pp_world.specs.Log.{Told};
 
 use pp_links::Links;
@@ -27,14 +26,14 @@ pub(crate) fn draft<W: World>(
     row: &RowView<'_>,
     room: &mut [u8],
 ) -> Option<Result<(), KeepFault>>
+    requires long { body_at row.now.version.now.length ≤ length room.old }
     requires linked { IsLinked (W.log world.old) (W.top world.old) _links.now }
     requires holds { Told (W.log world.old) (Holds anything shelf.old) }
-    ensures answered { IsSome result ↔ MayBeDrafted shelf.old (entry_with row.now.key.now row.now.version.now row.now.fields row.now.times) (length room.old) }
-    ensures none { IfNone result (shelf.new ≡ shelf.old) }
     ensures linked { IsLinked (W.log world.new) (W.top world.new) _links.now }
     ensures holds { Told (W.log world.new) (Holds anything shelf.new) }
     ensures steady { GrowsSteadily (W.log world.old) (W.log world.new) }
-    ensures faults { W.faults world.old ≤ W.faults world.new }
+    ensures is { Drafts (entry_in row.now) (drop (body_at row.now.version.now.length) room.old) result (outside shelf.old (W.log world.old) (W.faults world.old)) (outside shelf.new (W.log world.new) (W.faults world.new)) }
+    ensures top { W.top world.new ≡ W.top world.old }
 {
     shelf.draft(
         alloc,
@@ -57,28 +56,29 @@ pub(crate) fn seal<W: World>(
 ) -> Option<Result<u64, DiskFault>>
     requires linked { IsLinked (W.log world.old) (W.top world.old) _links.now }
     requires holds { Told (W.log world.old) (Holds anything shelf.old) }
-    ensures answered { is_some result ≡ is_more_of (length bytes.now) (kept_of row.now.key.now shelf.old) }
-    ensures none { IfNone result (shelf.new ≡ shelf.old) }
-    ensures map { IfSome result (λ r. shelf.new ≡ extended_after r row.now.key.now shelf.old) }
     ensures linked { IsLinked (W.log world.new) (W.top world.new) _links.now }
     ensures holds { Told (W.log world.new) (Holds anything shelf.new) }
     ensures steady { GrowsSteadily (W.log world.old) (W.log world.new) }
-    ensures faults { W.faults world.old ≤ W.faults world.new }
+    ensures is { Seals row.now.key.now bytes.now result (outside shelf.old (W.log world.old) (W.faults world.old)) (outside shelf.new (W.log world.new) (W.faults world.new)) }
+    ensures top { W.top world.new ≡ W.top world.old }
 {
     shelf.seal(world, row.key, bytes)
 }
 
-/// Takes the entry of a key away.
-pub(crate) fn withdraw<W: World>(_links: &Links, shelf: &mut Shelf, world: &mut W, key: &[u8])
+/// Takes the entry of a key away. None exactly where the key is not kept.
+pub(crate) fn withdraw<W: World>(
+    _links: &Links,
+    shelf: &mut Shelf,
+    world: &mut W,
+    key: &[u8],
+) -> Option<Result<(), DiskFault>>
     requires linked { IsLinked (W.log world.old) (W.top world.old) _links.now }
     requires holds { Told (W.log world.old) (Holds anything shelf.old) }
-    ensures map { IsWithdrawn key.now shelf.old shelf.new }
-    ensures gone { kept_of key.now shelf.new ≡ None }
-    ensures grows { GrowsOnDisk (W.log world.old) (W.log world.new) }
     ensures linked { IsLinked (W.log world.new) (W.top world.new) _links.now }
     ensures holds { Told (W.log world.new) (Holds anything shelf.new) }
     ensures steady { GrowsSteadily (W.log world.old) (W.log world.new) }
-    ensures faults { W.faults world.old ≤ W.faults world.new }
+    ensures is { Withdraws key.now result (outside shelf.old (W.log world.old) (W.faults world.old)) (outside shelf.new (W.log world.new) (W.faults world.new)) }
+    ensures top { W.top world.new ≡ W.top world.old }
 {
-    let _ = shelf.withdraw(world, key);
+    shelf.withdraw(world, key)
 }

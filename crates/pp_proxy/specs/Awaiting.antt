@@ -4,7 +4,7 @@ use Rattle.std.specs.List.{filter}
 use Rattle.pp_desk.specs.declared.desk.Desk.{Desk}
 use Rattle.pp_due.specs.Waits.{all_read, all_written, is_loud}
 use Rattle.pp_links.specs.Waits.{TurnsAway, links_after}
-use Rattle.pp_proxy.specs.Events.{Takes}
+use Rattle.pp_proxy.specs.Events.{TakesEvent}
 use Rattle.pp_proxy.specs.Moving.{Turning, at_desk, turning}
 use Rattle.pp_proxy.specs.Turns.{max_clients, turn_by}
 use Rattle.pp_proxy.specs.declared.proxy.Proxy.{Proxy}
@@ -75,7 +75,7 @@ pub record HasCome (wants : Wants) (event : Event) (x y : Turning) : Type 0 wher
   pub faults : ℕ
   pub told : AppendsAll x.log log (λ l. wait_happenings wants event)
   pub count : x.faults ≤ faults
-  pub takes : Takes event (behind event log faults x) y
+  pub takes : TakesEvent event (behind event log faults x) y
 
 abbrev pub ComesTo : Wants → Option Event → Turning → Turning → Type 0
 ComesTo wants None x y = HasNoRoom wants x y

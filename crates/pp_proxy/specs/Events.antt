@@ -1,24 +1,29 @@
 -- A turn behind its wait: the event, what leaves memory, what is kept on the disk, and what follows (the order is ours).
-use Rattle.std.specs.Prelude.{◌≡◌}
+use Rattle.std.specs.Prelude.{◌≡◌, ◌≤◌, length}
+use Rattle.pp_keeping.specs.Keeping.{KeepsAll, keeping}
 use Rattle.pp_proxy.specs.Handling.{Handles}
 use Rattle.pp_proxy.specs.Leaving.{Leaves}
-use Rattle.pp_proxy.specs.Moving.{Grows, LeadsOn, Turning}
+use Rattle.pp_proxy.specs.Moving.{LeadsOn, Turning}
 use Rattle.pp_proxy.specs.Settling.{Settles}
 use Rattle.pp_state.specs.Ends.{AreSeated}
 use Rattle.pp_world.specs.declared.event.Event.{Event}
 
--- `H` is what the event does, and `K` what is done on the disk
-pub record TakesEvent (H K : Turning → Turning → Type 0) (x y : Turning) : Type 0 where
+-- what stands no more is taken off the disk, and what is whole is kept there; the desk has its file to lay entries out in
+pub record Keeps (x y : Turning) : Type 0 where
+  pub is : KeepsAll (length x.moving.desk.file.items) (keeping x.moving.desk.state x.shelf x.log x.faults) (keeping y.moving.desk.state y.shelf y.log y.faults)
+  pub rest : record y.moving.desk { state = record y.moving.desk.state { cache = x.moving.desk.state.cache; has_lost_draft = x.moving.desk.state.has_lost_draft }; file = x.moving.desk.file } ≡ x.moving.desk
+  pub long : length y.moving.desk.file.items ≡ length x.moving.desk.file.items
+  pub links : y.moving.links ≡ x.moving.links
+  pub top : y.moving.top ≡ x.moving.top
+  pub count : x.faults ≤ y.faults
+
+pub record TakesEvent (event : Event) (x y : Turning) : Type 0 where
   pub handled : Turning
   pub left : Turning
   pub kept : Turning
-  pub handles : AreSeated x.moving.desk.state → H x handled
+  pub handles : AreSeated x.moving.desk.state → Handles event x handled
   pub leaves : AreSeated handled.moving.desk.state → LeadsOn Leaves handled.moving left.moving handled.log left.log handled.faults left.faults
   pub leaves_shelf : left.shelf ≡ handled.shelf
-  pub keeps : AreSeated left.moving.desk.state → K left kept
+  pub keeps : Keeps left kept
   pub settles : AreSeated kept.moving.desk.state → LeadsOn (Settles kept.shelf) kept.moving y.moving kept.log y.log kept.faults y.faults
   pub settles_shelf : y.shelf ≡ kept.shelf
-
--- of what is read of an origin, and of what is kept on the disk, no more is said yet than that it grows
-abbrev pub Takes : Event → Turning → Turning → Type 0
-Takes event = TakesEvent (Handles (λ k. Grows) event) Grows

@@ -6,7 +6,7 @@ ghost use Rattle.pp_shelf.specs.Steady.{GrowsSteadily};
 ghost use Rattle.pp_desk.specs.Anything.{anything};
 ghost use Rattle.pp_desk.specs.Closings.{KeepsDesk};
 ghost use Rattle.pp_proxy.specs.Deciding.{DecidesAll, TurnsAway};
-ghost use Rattle.pp_proxy.specs.Events.{Takes};
+ghost use Rattle.pp_proxy.specs.Events.{TakesEvent};
 ghost use Rattle.pp_proxy.specs.Moving.{moving, turning, Grows, LeadsOn};
 ghost use Rattle.pp_proxy.specs.Rounds.{GoRounds, GoesRound, Serves};
 ghost use Rattle.pp_proxy.specs.Settling.{GoesOn, Settles};
@@ -48,7 +48,7 @@ pub(crate) fn take_event<W: World>(
     ensures linked { IsLinked (W.log world.new) (W.top world.new) links.new }
     ensures holds { Told (W.log world.new) (Holds anything shelf.new) }
     ensures steady { GrowsSteadily (W.log world.old) (W.log world.new) }
-    ensures is { Takes event (turning shelf.old desk.old links.old (W.top world.old) (W.log world.old) (W.faults world.old)) (turning shelf.new desk.new links.new (W.top world.new) (W.log world.new) (W.faults world.new)) }
+    ensures is { TakesEvent event (turning shelf.old desk.old links.old (W.top world.old) (W.log world.old) (W.faults world.old)) (turning shelf.new desk.new links.new (W.top world.new) (W.log world.new) (W.faults world.new)) }
     ensures faults { W.faults world.old ≤ W.faults world.new }
 {
     handle(desk, links, shelf, world, event);

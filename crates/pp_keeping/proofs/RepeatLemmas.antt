@@ -1,0 +1,92 @@
+-- Steps, one behind the other, as long as it goes on; and what of the state a step leaves.
+use Rattle.std.proofs.Common.{◌≡◌, ◌<◌, ◌≤◌, ◌-◌, ◌+◌, ℕ, zero, suc, min, Bool, true, false, List, [], ◌∷◌, ◌++◌, length, take, refl, sym, subst, ap, ◌∙◌, arith, append-nil, length-take}
+use Rattle.std.proofs.lemmas.List.{nil_from_length}
+use Rattle.pp_cache.specs.Memory.{Memory}
+use Rattle.pp_keeping.specs.Keeping.{Keeping, Repeats, TakesName, TakesNext, KeepsGrown, KeepsRun, GrownNext, all_but_last, with_memory, without_grown, without_name}
+use Rattle.pp_keeping.specs.Kept.{Outside, TakesAway, key_under, unkept_of}
+use Rattle.pp_objects.specs.declared.id.ObjectId.{ObjectId}
+use Rattle.pp_state.specs.declared.state.State.{State}
+
+-- so far i of so many were made
+pub record AreSoFar (Step : Keeping → Keeping → Bool → Type 0) (n i : ℕ) (x mid : Keeping) (goes : Bool) : Type 0 where
+  pub on : (y : Keeping) → Repeats Step (n - i) goes mid y → Repeats Step n true x y
+
+all_left : (n : ℕ) → n - 0 ≡ n
+all_left n = omega arith
+
+one_less : (n i : ℕ) → i < n → n - i ≡ suc (n - (i + 1))
+one_less n i less = omega (arith, less)
+
+none_left : (n i : ℕ) → n ≤ i → n - i ≡ 0
+none_left n i all = omega (arith, all)
+
+pub none_yet : (Step : Keeping → Keeping → Bool → Type 0) (n : ℕ) (x : Keeping) → AreSoFar Step n 0 x x true
+none_yet Step n x = record { on = λ y all. subst (λ (k : ℕ). Repeats Step k true x y) (all_left n) all }
+
+step_then : (Step : Keeping → Keeping → Bool → Type 0) (more : ℕ) (x next y : Keeping) (again : Bool) → Step x next again → Repeats Step more again next y → Repeats Step (suc more) true x y
+unfolding Repeats
+step_then Step more x next y again step others = (next, again, step, others)
+
+pub one_more : (Step : Keeping → Keeping → Bool → Type 0) (n i : ℕ) (x mid next : Keeping) (goes again : Bool) → i < n → goes ≡ true → AreSoFar Step n i x mid goes → Step mid next again → AreSoFar Step n (i + 1) x next again
+one_more Step n i x mid next goes again less goes_on so step = record {
+  on = λ y others.
+      let here : Repeats Step (suc (n - (i + 1))) true mid y = step_then Step (n - (i + 1)) mid next y again step others in
+      let left : Repeats Step (n - i) true mid y = subst (λ (k : ℕ). Repeats Step k true mid y) (sym (one_less n i less)) here in
+      so.on y (subst (λ (b : Bool). Repeats Step (n - i) b mid y) (sym goes_on) left);
+}
+
+over : (Step : Keeping → Keeping → Bool → Type 0) (more : ℕ) (x : Keeping) → Repeats Step more false x x
+unfolding Repeats
+over Step zero x = refl
+over Step (suc more) x = refl
+
+-- it goes on no more
+pub ends_early : (Step : Keeping → Keeping → Bool → Type 0) (n i : ℕ) (x mid : Keeping) (goes : Bool) → goes ≡ false → AreSoFar Step n i x mid goes → Repeats Step n true x mid
+ends_early Step n i x mid goes none so = so.on mid (subst (λ (b : Bool). Repeats Step (n - i) b mid mid) (sym none) (over Step (n - i) mid))
+
+none_more : (Step : Keeping → Keeping → Bool → Type 0) (goes : Bool) (x : Keeping) → Repeats Step 0 goes x x
+unfolding Repeats
+none_more Step goes x = refl
+
+-- or there were as many as may be
+pub ends_late : (Step : Keeping → Keeping → Bool → Type 0) (n i : ℕ) (x mid : Keeping) (goes : Bool) → n ≤ i → AreSoFar Step n i x mid goes → Repeats Step n true x mid
+ends_late Step n i x mid goes all so = so.on mid (subst (λ (k : ℕ). Repeats Step k goes mid mid) (sym (none_left n i all)) (none_more Step goes mid))
+
+-- ---- the last of a list is forgotten
+
+-- where there is none, there was none
+none_before : {A : Type 0} (old new : List A) → old ≡ new ++ [] → new ≡ all_but_last old → old ≡ []
+none_before old new last rest =
+    let same : old ≡ all_but_last old = last ∙ append-nil new ∙ rest in
+    let len : length old ≡ min (length old - 1) (length old) = ap length same ∙ length-take (length old - 1) old in
+    nil_from_length old (omega (arith, len))
+
+pub no_name : (x : Keeping) (m : Memory) → x.state.cache.outdated ≡ m.outdated ++ [] → m ≡ without_name x.state.cache → TakesNext x (record x { state = with_memory m x.state }) false
+no_name x m last rest =
+    let before : List (List ℕ) = x.state.cache.outdated in
+    let none : before ≡ [] = none_before before m.outdated last (ap (λ (n : Memory). n.outdated) rest) in
+    let same : without_name x.state.cache ≡ x.state.cache = ap (λ (o : List (List ℕ)). record x.state.cache { outdated = o }) (sym (last ∙ append-nil m.outdated ∙ ap (λ (n : Memory). n.outdated) rest)) in
+    (none, ap (λ (n : Memory). record x { state = with_memory n x.state }) (rest ∙ same))
+
+pub name_taken : (x : Keeping) (y : Outside) (s : State) (m : Memory) (name : List ℕ) → x.state.cache.outdated ≡ m.outdated ++ name ∷ [] → m ≡ without_name x.state.cache → TakesAway (key_under name x.outside.shelf) x.outside y
+    → s ≡ with_memory (unkept_of (key_under name x.outside.shelf) m) x.state → TakesName x (record { state = s; outside = y })
+name_taken x y s m name last rest takes state = record {
+  name = name;
+  last = last ∙ ap (λ (n : Memory). n.outdated ++ name ∷ []) rest;
+  takes = takes;
+  state = state ∙ ap (λ (n : Memory). with_memory (unkept_of (key_under name x.outside.shelf) n) x.state) rest;
+}
+
+pub no_grown : (room : ℕ) (x : Keeping) (m : Memory) → x.state.cache.grown ≡ m.grown ++ [] → m ≡ without_grown x.state.cache → GrownNext room x (record x { state = with_memory m x.state }) false
+no_grown room x m last rest =
+    let before : List ObjectId = x.state.cache.grown in
+    let none : before ≡ [] = none_before before m.grown last (ap (λ (n : Memory). n.grown) rest) in
+    let same : without_grown x.state.cache ≡ x.state.cache = ap (λ (o : List ObjectId). record x.state.cache { grown = o }) (sym (last ∙ append-nil m.grown ∙ ap (λ (n : Memory). n.grown) rest)) in
+    (none, ap (λ (n : Memory). record x { state = with_memory n x.state }) (rest ∙ same))
+
+pub grown_kept : (room : ℕ) (x y : Keeping) (m : Memory) (id : ObjectId) → x.state.cache.grown ≡ m.grown ++ id ∷ [] → m ≡ without_grown x.state.cache → Repeats (KeepsRun id room) 16384 true (record x { state = with_memory m x.state }) y → KeepsGrown room x y
+grown_kept room x y m id last rest runs = record {
+  id = id;
+  last = last ∙ ap (λ (n : Memory). n.grown ++ id ∷ []) rest;
+  runs = subst (λ (n : Memory). Repeats (KeepsRun id room) 16384 true (record x { state = with_memory n x.state }) y) rest runs;
+}
