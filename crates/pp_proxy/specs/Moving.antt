@@ -1,9 +1,8 @@
 -- What a turn changes together, and what the log gets of it (ours).
-use Rattle.std.specs.Prelude.{ℕ, ◌≤◌, List, Option}
+use Rattle.std.specs.Prelude.{ℕ, List, Option}
 use Rattle.pp_desk.specs.declared.desk.Desk.{Desk}
 pub use Rattle.pp_links.specs.Leading.{LeadsOn}
-use Rattle.pp_links.specs.Links.{IsLinked, Link}
-use Rattle.pp_shelf.specs.Steady.{GrowsSteadily}
+use Rattle.pp_links.specs.Links.{Link}
 use Rattle.pp_state.specs.declared.state.State.{State}
 use Rattle.pp_store.specs.Kept.{KeptMap}
 use Rattle.pp_world.specs.Log.{Log}
@@ -37,9 +36,3 @@ turning shelf d links top log faults = record { shelf = shelf; moving = moving d
 
 abbrev pub at_desk : Desk → Turning → Turning
 at_desk d x = record x { moving = with_desk d x.moving }
-
--- of which no more is said yet: the log gets what a step of a turn may add, and connections that are open are linked
-pub record Grows (x y : Turning) : Type 0 where
-  pub grows : GrowsSteadily x.log y.log
-  pub linked : IsLinked y.log y.moving.top y.moving.links
-  pub count : x.faults ≤ y.faults

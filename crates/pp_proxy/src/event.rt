@@ -3,7 +3,7 @@ ghost use Rattle.std.specs.Prelude.{◌≡◌, ◌≤◌, ◌⊎◌, true, false
 ghost use Rattle.std.specs.List.{find};
 ghost use Rattle.pp_proxy.specs.Accepting.{newcomer, IsAccepted, IsSeated, IsTurnedAway};
 ghost use Rattle.pp_proxy.specs.Handling.{reached_in, Breaks, Handles, Reaches, ReadsAt, Stops, Wakes, WritesAt};
-ghost use Rattle.pp_proxy.specs.Moving.{turning, Grows};
+ghost use Rattle.pp_proxy.specs.Moving.{turning};
 ghost use Rattle.pp_links.specs.Links.{IsLinked};
 ghost use Rattle.pp_links.specs.Quiet.{GrowsQuietly};
 ghost use Rattle.pp_peers.specs.Peers.{is_number};

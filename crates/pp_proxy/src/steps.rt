@@ -7,7 +7,7 @@ ghost use Rattle.pp_desk.specs.Anything.{anything};
 ghost use Rattle.pp_desk.specs.Closings.{KeepsDesk};
 ghost use Rattle.pp_proxy.specs.Deciding.{DecidesAll, TurnsAway};
 ghost use Rattle.pp_proxy.specs.Events.{TakesEvent};
-ghost use Rattle.pp_proxy.specs.Moving.{moving, turning, Grows, LeadsOn};
+ghost use Rattle.pp_proxy.specs.Moving.{moving, turning, LeadsOn};
 ghost use Rattle.pp_proxy.specs.Rounds.{GoRounds, GoesRound, Serves};
 ghost use Rattle.pp_proxy.specs.Settling.{GoesOn, Settles};
 ghost use Rattle.pp_proxy.specs.Taking.{IsTaken, TakesDue, due_log, who_at};

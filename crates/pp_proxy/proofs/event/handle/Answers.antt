@@ -1,6 +1,6 @@
 use Rattle.std.proofs.Common.{refl, sym, subst, arith}
 use Rattle.pp_proxy.specs.Handling.{Handles}
-use Rattle.pp_proxy.specs.Moving.{Grows, turning}
+use Rattle.pp_proxy.specs.Moving.{turning}
 use Rattle.pp_world.specs.declared.event.Event.{Event}
 use Rattle.pp_proxy.proofs.event.handle.Goals as goal
 
