@@ -20,3 +20,6 @@ loop-turn-preserved g c = record {
   turns = one_more_turn c.loop-turn._turn c.args.most_turns _ _ _ c.turn.result c.loop-turn-test.true c.in_default.not-Stopped c.loop-turn.invariant.turns c.turn.ensures.on;
   faults = omega (arith, c.loop-turn.invariant.faults, c.turn.ensures.faults);
 }
+
+pub returns-clause-turns : goal.returns-clause-turns
+returns-clause-turns g c = all_turns c.loop-turn._turn c.args.most_turns _ _ (omega (arith, c.loop-turn-test.false)) c.loop-turn.invariant.turns
