@@ -5,7 +5,8 @@ use Rattle.std.specs.List.{list_any}
 use Rattle.std.specs.Prelude.{option_and_then, slice_get}
 use Rattle.pp_cache_law.proofs.Numbers.{some_is, true_false}
 use Rattle.pp_cache_law.specs.Pairs.{AreBoth}
-use Rattle.pp_client.specs.Requests.{body_in, unread}
+use Rattle.pp_client.specs.Bodies.{unread}
+use Rattle.pp_client.specs.Requests.{body_in}
 use Rattle.pp_client.specs.declared.body.Body.{Body}
 use Rattle.pp_client.specs.declared.body.Body.TheVariants.{Unread, Dropped, Over}
 use Rattle.pp_flow.specs.Changes.{entry_of, line_of}
@@ -151,7 +152,7 @@ module _ (number : ℕ → ℕ) (peers : List Peer) (p : Turn) (s : State) (show
       ∙ by e.asker refl
       ∙ sym (ap (λ (b : Bool). not (is_empty (left_by s e b))) out)
     where
-      abbrev at_seat : Option ℕ → Bool
+      at_seat : Option ℕ → Bool
       at_seat asker = is_there_to_ask p.seats.items (body_from n x.errand.body_left (option_and_then (λ client. place_of client (numbers_of p.seats.items)) asker))
 
       at : (m : ℕ) → e.asker ≡ Some m → (o : Option ℕ) → place_of m (numbers_of p.seats.items) ≡ o → is_there_to_ask p.seats.items (body_from n x.errand.body_left o) ≡ not (is_empty (heard_by e (find (is_for e) s.clients)))
@@ -276,10 +277,10 @@ origins_asked number peers p s i peer k shows apart here there may =
     ∙ ap (λ (ns : List ℕ). k.is_reached && asks_at ns) (take_short 16 k.line may.short)
     ∙ ap (λ (b : Bool). k.is_reached && b) (line_asks number peers p s shows k.line peer.pipe.asks (seen.pipe may.goes_on).line may.alone)
   where
-    abbrev asks_at : List ℕ → Bool
+    asks_at : List ℕ → Bool
     asks_at ns = is_there_to_ask p.seats.items (asking_of p.seats.items p.flow (find (λ n. is_left (entry_of n p.flow)) ns))
 
-    abbrev asks_by : ℕ → Bool
+    asks_by : ℕ → Bool
     asks_by m = asks_at (take 16 (line_of m p.flow.placed))
 
     seen : ShowsConn s peer k

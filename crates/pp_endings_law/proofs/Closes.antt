@@ -85,13 +85,13 @@ module _ (number : ℕ → ℕ) (name : Bytes) (i : ℕ) (is_cut : Bool) (x : Si
     one = record { here = place.here; seats = refl; number = quit_number (source_of seat) y ∙ beside.number; cache = shut.cache }
 
     closing : (d : Client) → find (is_client seat.client.id) t.clients ≡ Some d → d.is_closing ≡ false → IsFollowing z.parts.cache (quit (source_of seat) y) × (is_said (quit (source_of seat) y).client.reply ≡ false)
-    closing d there open =
+    closing d there opens =
         absurd
         (true_false
         (sym
         (none_said (closing_client is_cut) (find (is_client seat.client.id) s.clients) d (λ b. refl)
         (sym (find_self seat.client.id (closing_client is_cut) (λ b. refl) s.clients) ∙ sym (ap (λ (cs : List Client). find (is_client seat.client.id) cs) steps.clients) ∙ there))
-        ∙ open))
+        ∙ opens))
 
     pub closes_beside : IsStepped number name i x (closed_client i (with_seats (slice_set x.parts.seats i y) x)) s t
     closes_beside =

@@ -142,7 +142,7 @@ module _ (number : ℕ → ℕ) (name : Bytes) where
       subst (λ (w : Sides). IsStepped number name i x w s (close_finished c s)) (sym (is ∙ ap (λ (o : Option Seat). finished_if (is_finished_in o)) place.here ∙ ap finished_if (finished number name [] seat c (shown i x s seat c good place))))
       (by (is_finished c) refl)
     where
-      abbrev finished_if : Bool → Sides
+      finished_if : Bool → Sides
       finished_if b = cond b (closed_client i x) x
 
       by : (b : Bool) → is_finished c ≡ b → IsStepped number name i x (finished_if b) s (close_finished c s)
@@ -188,7 +188,7 @@ module _ (number : ℕ → ℕ) (name : Bytes) where
           shown = record {
             number = ap (λ (a : Seat). a.client.id) read.1 ∙ sym its_number;
             closing = ap (λ (a : Seat). a.is_closing) read.1 ∙ (shown i x s seat c good place).closing;
-            going = λ open. next_requests number name [] seat y c has.request live has.front has.known has.counted as_law;
+            going = λ opens. next_requests number name [] seat y c has.request live has.front has.known has.counted as_law;
           };
           unsaid = ap (λ (a : Seat). is_said a.client.reply) read.1;
           rests = undecided_follows y (at_next_request (ended seat)).stage (ap (λ (a : Seat). a.stage) read.1) refl;
@@ -250,10 +250,10 @@ module _ (number : ℕ → ℕ) (name : Bytes) where
           at true closing =
               ap (λ (b : Bool). end_as (may_by b)) (seen.closing ∙ closing)
             where
-              abbrev may_by : Bool → Bool
+              may_by : Bool → Bool
               may_by b = (not b && has_begun seat) && is_passed_whole (passed_in seat.brought) && is_said_to seat.client.reply.stage
 
-              abbrev end_as : Bool → Seat
+              end_as : Bool → Seat
               end_as b = elim b [ true ↦ record seat { client = side_said 0 seat.client } | false ↦ seat ]
           at false going = said_at going (is_said seat.client.reply) refl
 

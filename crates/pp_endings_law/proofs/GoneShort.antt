@@ -230,11 +230,11 @@ closing_shown s p j shows = record {
   port = shows.port;
   is_reached = shows.is_reached;
   has_brought = shows.has_brought;
-  may_pipeline = λ open. absurd (cc open);
+  may_pipeline = λ opens. absurd (cc opens);
   is_closing = shows.is_closing;
   mark = shows.mark;
   has_waited = shows.has_waited;
-  pipe = λ open. absurd (cc open);
+  pipe = λ opens. absurd (cc opens);
 }
 
 pub all_closing : (s : State) (n : ℕ) (ps : List Peer) (ks : List Conn) → ShowConns s ps (change (is_conn n) emptied ks) → ShowConns s ps (change (is_conn n) closing_alone ks)

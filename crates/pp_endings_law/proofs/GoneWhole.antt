@@ -152,6 +152,7 @@ module _ (number : ℕ → ℕ) (name : Bytes) (x : Sides) (s : State) (shows : 
           ∙ sym (ap₂ (λ (left line : List ℕ). left ++ line) (ap (λ (b : Bool). cond b an.others []) off) (line_else n j emptied done (λ i. refl) off))
 
   star_shows : ShowsSteps number name none_leaves last_peers over star
+  unfolding on_conn
   star_shows =
       record {
         shows = stands emptied_shows.shows;
@@ -161,7 +162,6 @@ module _ (number : ℕ → ℕ) (name : Bytes) (x : Sides) (s : State) (shows : 
       }
     where
       stands : ShowsState number name [] (still n an.others none_leaves) (whole over last_peers) (on_conn n emptied done) → ShowsState number name [] none_leaves (whole over last_peers) star
-      unfolding on_conn
       stands before = record {
         clients = before.clients;
         exchanges = flow_frames number (still n an.others none_leaves) over.flow (on_conn n emptied done) before.exchanges none_leaves star (record { exchanges = refl; next = refl; lines = lines_same });

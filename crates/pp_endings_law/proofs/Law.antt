@@ -138,7 +138,7 @@ on_one k u = refl
 pub forsaken_is : (number : ℕ → ℕ) (l : Leaving) (f : Exchanges) (s u : State) → ShowsFlow number l f s → u.exchanges ≡ s.exchanges → (n : ℕ) → count_by (is_of n) s.exchanges ≤ 1 → forsake (is_of n) u ≡ forsaken_in (find (is_of n) s.exchanges) u
 forsaken_is number l f s u shows same n once = with_exchanges (is_of n) u ∙ by (find (is_of n) s.exchanges) refl
   where
-    abbrev with_them : List Exchange → State
+    with_them : List Exchange → State
     with_them es = record u { exchanges = es }
 
     changed_as : (es : List Exchange) → change (is_of n) left_alone s.exchanges ≡ es → record u { exchanges = change (is_of n) left_alone u.exchanges } ≡ with_them es

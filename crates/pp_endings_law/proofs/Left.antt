@@ -145,12 +145,14 @@ shown_closing : (number : ℕ → ℕ) (name : Bytes) (i : ℕ) (a b : Seat) →
 shown_closing number name i a b same one two [] cs shown = shown
 shown_closing number name zero a b same one two (seat ∷ seats) [] shown = shown
 shown_closing number name (suc i) a b same one two (seat ∷ seats) [] shown = shown
-shown_closing number name zero a b same one two (seat ∷ seats) (c ∷ cs) shown =
-    (record {
-      number = same ∙ shown.0.number;
-      closing = two ∙ sym one ∙ shown.0.closing;
-      going = λ going. absurd (let bad : true ≡ false = sym one ∙ shown.0.closing ∙ going in cc bad);
-    }, shown.1)
+shown_closing number name zero a b same one two (seat ∷ seats) (c ∷ cs) shown = (
+  record {
+    number = same ∙ shown.0.number;
+    closing = two ∙ sym one ∙ shown.0.closing;
+    going = λ going. absurd (let bad : true ≡ false = sym one ∙ shown.0.closing ∙ going in cc bad);
+  },
+  shown.1,
+)
 shown_closing number name (suc i) a b same one two (seat ∷ seats) (c ∷ cs) shown = (shown.0, shown_closing number name i a b same one two seats cs shown.1)
 
 pub shows_beside : (number : ℕ → ℕ) (name : Bytes) (i : ℕ) (x z : Sides) (s : State) (seat y : Seat) → slice_get x.parts.seats i ≡ Some seat → IsBeside seat y → IsShut i x seat z → ShowsSides number name z s
@@ -188,7 +190,7 @@ module _ (number : ℕ → ℕ) (l : Leaving) (s : State) (n : ℕ) (once : coun
   forsaken_is : (i : ℕ) (p : Parts) (a : Seat) → ShowsFlow number l p.flow s → slice_get p.seats i ≡ Some a → a.client.id ≡ n → forsaken i p ≡ forsaken_by (find (is_of n) s.exchanges) p
   forsaken_is i p a shows here same = ap (λ (o : Option Asked). forsaken_if o p) asked ∙ by (find (is_of n) s.exchanges) refl
     where
-      abbrev asked_in : Option ℕ → Option Asked
+      asked_in : Option ℕ → Option Asked
       asked_in o = option_and_then (λ number. exchange_at number p.flow) o
 
       asked : exchange_of i p ≡ asked_in (option_map (λ e. e.number) (find (is_of n) s.exchanges))

@@ -140,7 +140,7 @@ module _ (number : ℕ → ℕ) (name : Bytes) (i : ℕ) (x : Sides) (s : State)
     one = record { here = place.here; seats = refl; number = numbered; cache = refl }
 
     fresh : (d : Client) → find (is_client n) t.clients ≡ Some d → d.is_closing ≡ false → IsFollowing z.parts.cache y × (is_said y.client.reply ≡ false)
-    fresh d there open = (rests z.parts.cache, unsaid)
+    fresh d there opens = (rests z.parts.cache, unsaid)
 
     pub next_stepped : IsStepped number name i x z s t
     next_stepped = record {

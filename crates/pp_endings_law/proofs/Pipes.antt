@@ -46,11 +46,11 @@ conn_beside s p k line closing shows = record {
   port = shows.port;
   is_reached = shows.is_reached;
   has_brought = shows.has_brought;
-  may_pipeline = λ open. absurd (let bad : true ≡ false = sym closing ∙ shows.is_closing ∙ open in cc bad);
+  may_pipeline = λ opens. absurd (let bad : true ≡ false = sym closing ∙ shows.is_closing ∙ opens in cc bad);
   is_closing = shows.is_closing;
   mark = shows.mark;
   has_waited = shows.has_waited;
-  pipe = λ open. absurd (let bad : true ≡ false = sym closing ∙ shows.is_closing ∙ open in cc bad);
+  pipe = λ opens. absurd (let bad : true ≡ false = sym closing ∙ shows.is_closing ∙ opens in cc bad);
 }
 
 pub conns_beside : (s : State) (n : ℕ) (p : Peer) (line : Line) → p.is_closing ≡ true → (ps : List Peer) (ks : List Conn) → ShowConns s (with_peer n p ps) ks → ShowConns s (with_peer n (with_line line p) ps) ks
@@ -78,9 +78,9 @@ closed_by n counts peers p o = record { parts = closed_line n counts o p; peers 
 -- one that goes on
 pub closed_is : (n : ℕ) (counts : Bool) (p : Parts) (peers : List Peer) (peer : Peer) → find (is_number n) peers ≡ Some peer → peer.is_closing ≡ false
     → closed_conn n counts (record { parts = p; peers = peers }) ≡ record { parts = lost_line 1024 n (counts && not peer.has_brought) p; peers = with_peer n (closing_as peer) peers }
-closed_is n counts p peers peer there open =
+closed_is n counts p peers peer there opens =
     ap (λ (o : Option Peer). closed_by n counts peers p o) there
-    ∙ ap (λ (b : Bool). let y : Sides = record { parts = cond b p (lost_line 1024 n (counts && not peer.has_brought) p); peers = cond b peers (with_peer n (closing_as peer) peers) } in y) open
+    ∙ ap (λ (b : Bool). let y : Sides = record { parts = cond b p (lost_line 1024 n (counts && not peer.has_brought) p); peers = cond b peers (with_peer n (closing_as peer) peers) } in y) opens
 
 -- one that is closing already
 pub closed_again : (n : ℕ) (counts : Bool) (x : Sides) (peer : Peer) → find (is_number n) x.peers ≡ Some peer → peer.is_closing ≡ true → closed_conn n counts x ≡ x

@@ -152,7 +152,7 @@ room_same : (number : ℕ → ℕ) (l : Leaving) (peers : List Peer) (p : Turn) 
     → nat_lt 0 (room_for x.exchange 1 p.seats.items) ≡ not (list_any (has_full_pipe e) s.clients)
 room_same number l peers p s shows x e same = by e.asker refl
   where
-    abbrev room_at : Option ℕ → Bool
+    room_at : Option ℕ → Bool
     room_at asker = nat_lt 0 (room_of_seat 1 (seat_in (option_and_then (λ client. place_of client (numbers_of p.seats.items)) asker) p.seats.items))
 
     at : (n : ℕ) → e.asker ≡ Some n → (o : Option ℕ) → place_of n (numbers_of p.seats.items) ≡ o → nat_lt 0 (room_of_seat 1 (seat_in o p.seats.items)) ≡ not (list_any (has_full_pipe e) s.clients)
@@ -224,7 +224,7 @@ or_right false b is = is
 pub reads_right : ReadsAreRight
 reads_right s w k = by (front_of_line s k)
   where
-    abbrev rightly : Option Exchange → Bool
+    rightly : Option Exchange → Bool
     rightly o = elim o as (λ t. Bool) [ None ↦ wants_read w k.number | Some e ↦ not (is_outstanding e) || first_by s w k e (is_stopped s e) ]
 
     by : (o : Option Exchange) → wants_read w k.number ≡ not (is_some_with (is_stopped s) o) → ((e : Exchange) → o ≡ Some e → is_stopped s e ≡ true → is_held_back s w e ≡ true) → rightly o ≡ true

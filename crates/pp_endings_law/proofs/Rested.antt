@@ -256,7 +256,7 @@ module _ (number : ℕ → ℕ) (peers : List Peer) (p : Turn) (s : State) (end 
             told = told_asked number p.cache s.next_instance n (record x.errand { body = IsJoining at }) f goes.told;
           })
         where
-          abbrev noted_by : Option Entry → ℕ → ℕ → Exchanges → Exchanges
+          noted_by : Option Entry → ℕ → ℕ → Exchanges → Exchanges
           noted_by o n at f = elim o as (λ t. Exchanges) [ None ↦ f | Some y ↦ with_errand n (record y.errand { body = IsJoining at }) f ]
 
       by : (u : Option Binding) (v : Option Bound) → x.exchange.bound ≡ u → bound_of e ≡ v → ShowsBound number u v → Goes (rests_to (Some x) n f) (on_exchange n g t)

@@ -1,5 +1,9 @@
 -- The connection of an origin ended, or broke: a clean end may end the body of the response that was begun there, and the rest of its
 -- line is asked elsewhere (RFC 2616, sections 4.4, 8.1 and 8.1.4).
+--
+-- Where the premises come from: that the first of the line is there, and that it was asked whole where an answer was begun, is of
+-- `IsSoundTurn` of pp_laws_turn (`lined`, `placed`; `apart.conns`) with what a response is permitted for (`is_outstanding`); `once` is its own.
+-- That the connection goes on is what the program looks for before (`goes_on`).
 use Rattle.std.specs.Prelude.{◌≡◌, ◌≤◌, ℕ, Bool, true, false, count_by, List, ◌∷◌, Some}
 use Rattle.pp_closings_law.specs.Sides.{OfSides, ShowsSides}
 use Rattle.pp_desk.specs.Closings.{Sides}

@@ -1,23 +1,28 @@
 -- Replies that were said whole are over, and clients of whom nothing is left are closed, as the law says (RFC 2616, section 8.1).
+--
+-- Where the premises come from: `passed` is of the step before. No reply is over when a turn begins (`StandsInTurn.rests` of pp_law), so
+-- one that is over now, with no byte said, became so by the end of a response of its origin, and the clause of pp_origins for that end
+-- makes the pipe whole with it. `front` and `known` are of what the program knows of a client that it keeps (`keeps_open` of
+-- pp_client: it does not close), `counted` of the bound of turns (`bounded` of pp_laws_turn). `once` and `rests` are those of `IsSoundTurn`,
+-- `follow` its `sources` with the numbers that tables were told.
 use Rattle.std.specs.Prelude.{◌≡◌, ◌≤◌, ◌+◌, ◌-◌, ◌^◌, ◌==◌, ℕ, true, false, count_by, is_ok, length, slice_get, List, Some, None}
 use Rattle.pp_cache.specs.Bounds.{IsBounded}
-use Rattle.pp_client.specs.Replies.{is_said, left_next, said}
+use Rattle.pp_client.specs.Replies.{is_said}
 use Rattle.pp_closings_law.specs.Sides.{MayClose, OfSides, ShowsSides}
 use Rattle.pp_decides_law.specs.Decides.{IsAtPlace}
 use Rattle.pp_decides_law.specs.Useless.{AllFollow}
-use Rattle.pp_desk.specs.Closings.{KeepsDesk, Sides, sides, with_parts}
+use Rattle.pp_desk.specs.Closings.{KeepsDesk, Sides, sides}
 use Rattle.pp_desk.specs.Replies.{EndsReplies}
 use Rattle.pp_desk.specs.declared.desk.Desk.{Desk}
 use Rattle.pp_flow_law.specs.Tables.{AreGiven, none_leaves}
 use Rattle.pp_law.specs.Closing.{is_of}
-use Rattle.pp_law.specs.Connections.{exchange, on_client}
+use Rattle.pp_law.specs.Connections.{exchange}
 use Rattle.pp_law.specs.Lists.{Bytes, has_number}
-use Rattle.pp_law.specs.Replies.{end_replies, said_by}
+use Rattle.pp_law.specs.Replies.{end_replies}
 use Rattle.pp_law.specs.Requests.{Parsed, IsRequest}
 use Rattle.pp_law.specs.State.{State, Client, Exchange}
-use Rattle.pp_seats.specs.Seats.{is_silent, told_by}
+use Rattle.pp_seats.specs.Seats.{is_silent}
 use Rattle.pp_seats.specs.declared.seat.Seat.{Seat}
-use Rattle.pp_state.specs.Ends.{on_seat}
 use Rattle.pp_state.specs.Hearing.{may_end}
 use Rattle.pp_turns_law.specs.Marks.{AreLoud}
 use Rattle.pp_turns_law.specs.Turns.{ShowsTurn}
@@ -76,17 +81,3 @@ pub record ShowsDesk (number : ℕ → ℕ) (d : Desk) (s : State) : Type 0 wher
 abbrev pub DesksEndAsTheLaws : Type 0
 DesksEndAsTheLaws = (number : ℕ → ℕ) (d e : Desk) (s : State) → ShowsDesk number d s → AreLoud d.state → MayLeave (sides d) s → AllMayEnd (sides d) s → EndsReplies d.state.awake.items (sides d) (sides e) → KeepsDesk d e → IsBounded e.state.cache
     → ShowsDesk number e (end_replies s)
-
--- ---- a write: so many bytes were said to the client at a place
-
--- of those that stood next. Where they are the last, the next request can stand behind its own
-pub record IsTold (i n : ℕ) (x : Sides) (s : State) (seat : Seat) (c : Client) : Type 0 where
-  pub place : IsAtPlace i x.parts s seat c
-  pub going : c.is_closing ≡ false
-  pub few : n ≤ left_next seat.client.reply
-  pub next : is_said (said n seat.client.reply) ≡ true → MayGoOn seat c
-
--- the chunks that they stand in are used already
-abbrev pub ToldRepliesEndAsTheLaws : Type 0
-ToldRepliesEndAsTheLaws = OfSides (λ number name x s. (awake : List ℕ) (y : Sides) (i n : ℕ) (seat : Seat) (c : Client) → AreLookedAt awake x.parts.seats → MayLeave x s → AllMayEnd x s → IsTold i n x s seat c
-    → EndsReplies awake (with_parts (on_seat i (told_by n)) x) y → HasEnded number name y s (end_replies (on_client c.number (said_by n) s)))

@@ -1,5 +1,9 @@
 -- What is waited for of connections to origins at the end of a turn is what the law has to be waited for, and what a wait changes of the
 -- table is what the law changes of it (ours).
+--
+-- Where the premises come from: `AreApart` is `apart` of `IsSoundTurn` (pp_laws_turn), `short` its `bounded`, `alone` its `bodies` with its
+-- `by_itself`. Of connections that are closing none is left when a turn ends (`goes_on`: they are dropped before). `AreLoud` is the clause
+-- of pp_turns_law; `going` and `follows` of `ShowsEnd` are of `close_over` and of `sources`.
 use Rattle.std.specs.Prelude.{◌≡◌, ◌≤◌, ◌==◌, ℕ, ◌&&◌, not, true, false, length, map, slice_get, List, [], ◌∷◌, Some}
 use Rattle.pp_flow_law.specs.Tables.{none_leaves}
 use Rattle.pp_law.specs.Connections.{exchange, front_of_line}

@@ -19,4 +19,7 @@ mod waits; // what is waited for, and what a wait changes
 pub use gone::ended_ones_are_gone_as_the_laws;
 pub use idle::idle_ones_are_closed_as_the_laws;
 pub use replies::replies_end_as_the_laws;
-pub use waits::{exchanges_rest_as_the_laws, instances_rest_as_the_laws, origins_are_asked_as_the_laws, origins_are_read_as_the_laws};
+pub use waits::{
+    exchanges_rest_as_the_laws, instances_rest_as_the_laws, origins_are_asked_as_the_laws,
+    origins_are_read_as_the_laws,
+};
