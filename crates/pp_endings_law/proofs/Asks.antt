@@ -1,5 +1,5 @@
 -- Which connections to origins are written to at the end of a turn.
-use Rattle.std.proofs.Common.{◌≡◌, ◌≤◌, ◌<◌, refl, sym, subst, ap, ap₂, ◌∙◌, ℕ, zero, suc, ◌+◌, ◌-◌, Bool, true, false, not, ◌==◌, ◌&&◌, ◌||◌, cond, drop, find, length, min, nat_lt, take, List, [], ◌∷◌, Some, None, Option, arith}
+use Rattle.std.proofs.Common.{◌≡◌, ◌≤◌, refl, sym, subst, ap, ap₂, ◌∙◌, ℕ, zero, suc, ◌-◌, Bool, true, false, not, ◌==◌, ◌&&◌, ◌||◌, cond, drop, find, length, min, nat_lt, take, List, [], ◌∷◌, Some, None, Option, arith}
 use Rattle.std.proofs.lemmas.Bool.Decides.{nat_tests}
 use Rattle.std.specs.List.{list_any}
 use Rattle.std.specs.Prelude.{option_and_then, slice_get}
@@ -11,10 +11,10 @@ use Rattle.pp_client.specs.declared.body.Body.{Body}
 use Rattle.pp_client.specs.declared.body.Body.TheVariants.{Unread, Dropped, Over}
 use Rattle.pp_flow.specs.Changes.{entry_of, line_of}
 use Rattle.pp_flow.specs.declared.entry.Entry.{Entry}
-use Rattle.pp_flow_law.proofs.Entries.{none_some, other_way}
+use Rattle.pp_flow_law.proofs.Entries.{other_way}
 use Rattle.pp_flow_law.specs.Tables.{line_in, none_leaves}
 use Rattle.pp_law.specs.Asking.{body_heard, left_to_ask}
-use Rattle.pp_law.specs.Connections.{conn, exchange, is_for, is_outstanding}
+use Rattle.pp_law.specs.Connections.{exchange, is_for, is_outstanding}
 use Rattle.pp_law.specs.Lists.{Bytes, has_number, is_some_with, is_this}
 use Rattle.pp_law.specs.State.{State, Client, Conn, Exchange}
 use Rattle.pp_peers.specs.declared.peers.Peer.{Peer}
@@ -28,8 +28,7 @@ use Rattle.pp_seats_law.specs.Fronts.{ShowsBody}
 use Rattle.pp_seats_law.specs.Seats.{ShowsOpen, ShowsSeat}
 use Rattle.pp_state.specs.Asking.{asking_of, body_from, has_heard_body, is_left, is_there_to_ask, what_is_left}
 use Rattle.pp_state.specs.Ends.{numbers_of, place_of, seat_for}
-use Rattle.pp_state.specs.declared.asking.Asking.{Asking}
-use Rattle.pp_state.specs.declared.asking.Asking.TheVariants.{Text, Body as OfBody}
+use Rattle.pp_state.specs.declared.asking.Asking.TheVariants.{Text}
 use Rattle.pp_state.specs.declared.state.State.{State as Turn}
 use Rattle.pp_states_law.proofs.Lines.{all_found, same_itself}
 use Rattle.pp_steps_law.proofs.Places.{at_place, no_place}
@@ -37,7 +36,7 @@ use Rattle.pp_text.specs.Bytes.{is_empty}
 use Rattle.pp_turns_law.specs.Wants.{ShowsEnd}
 use Rattle.pp_endings_law.proofs.IdleOnes.{owes, owing}
 use Rattle.pp_endings_law.proofs.Read.{conn_found, conn_shown}
-use Rattle.pp_endings_law.specs.Waits.{MayBeAsked, OriginsAreAskedAsTheLaws}
+use Rattle.pp_endings_law.specs.Waits.{OriginsAreAskedAsTheLaws}
 
 -- ---- lists
 

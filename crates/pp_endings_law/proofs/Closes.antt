@@ -1,34 +1,33 @@
 -- A client is closed, whatever of its seat nobody reads any more.
-use Rattle.std.proofs.Common.{◌≡◌, ◌≤◌, refl, sym, subst, ap, ◌∙◌, ℕ, zero, suc, Bool, true, false, ◌||◌, ◌==◌, find, List, [], ◌∷◌, Some, None, Option}
-use Rattle.std.specs.Prelude.{count_by, option_and_then, option_map, slice_get, slice_set}
+use Rattle.std.proofs.Common.{◌≡◌, refl, sym, subst, ap, ◌∙◌, ℕ, zero, suc, Bool, true, false, find, List, [], ◌∷◌, Some, None, Option}
+use Rattle.std.specs.Prelude.{option_and_then, option_map, slice_get, slice_set}
 use Rattle.pp_cache_law.proofs.Numbers.{some_is, true_false}
 use Rattle.pp_client.specs.Replies.{is_said}
 use Rattle.pp_closings_law.proofs.Leaving.{leaves_client}
 use Rattle.pp_closings_law.proofs.Own.{its_number}
 use Rattle.pp_closings_law.proofs.Quit.{closing_client, quit, same_client}
-use Rattle.pp_closings_law.specs.Clients.{IsAskOf, MayBeClosed}
+use Rattle.pp_closings_law.specs.Clients.{MayBeClosed}
 use Rattle.pp_closings_law.specs.Sides.{ShowsSides}
 use Rattle.pp_decides_law.specs.Decides.{FollowsWhatIsThere, IsAtPlace}
 use Rattle.pp_desk.specs.Closings.{Sides, closed_client}
 use Rattle.pp_flow_law.proofs.Entries.{none_some}
 use Rattle.pp_flow_law.specs.Tables.{none_leaves}
-use Rattle.pp_law.specs.Closing.{close_client, is_of}
-use Rattle.pp_law.specs.Connections.{exchange, is_client}
-use Rattle.pp_law.specs.Lists.{Bytes, change}
-use Rattle.pp_law.specs.State.{State, Client, Exchange}
+use Rattle.pp_law.specs.Closing.{close_client}
+use Rattle.pp_law.specs.Connections.{is_client}
+use Rattle.pp_law.specs.Lists.{Bytes}
+use Rattle.pp_law.specs.State.{State, Client}
 use Rattle.pp_objects.specs.Instances.{is_there}
 use Rattle.pp_objects.specs.declared.id.ObjectId.{ObjectId}
 use Rattle.pp_seats.specs.Follows.{answer_in}
 use Rattle.pp_seats.specs.declared.seat.Answer.{Answer}
 use Rattle.pp_seats.specs.declared.seat.Seat.{Seat}
-use Rattle.pp_state.specs.Ends.{numbers_of, source_at, source_of}
+use Rattle.pp_state.specs.Ends.{source_of}
 use Rattle.pp_steps_law.proofs.Places.{numbers_set}
 use Rattle.pp_turns_law.specs.Turns.{IsFollowing}
 use Rattle.pp_endings_law.proofs.Kept.{IsOne, ends_still, find_self, leaves_still, other_here}
 use Rattle.pp_endings_law.proofs.Law.{Steps, close_steps}
 use Rattle.pp_endings_law.proofs.Left.{IsBeside, IsShut, is_shut, shows_beside, shut_beside, with_seats}
 use Rattle.pp_endings_law.proofs.Walk.{IsGood, IsStepped}
-use Rattle.pp_endings_law.specs.Replies.{MayLeave}
 
 quit_number : (o : Option ObjectId) (seat : Seat) → (quit o seat).client.id ≡ seat.client.id
 quit_number None seat = refl

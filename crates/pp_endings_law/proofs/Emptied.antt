@@ -1,16 +1,16 @@
 -- A connection that is closed once more stays as it is.
 use Rattle.std.proofs.Common.{◌≡◌, refl, sym, subst, ap, ap₂, ◌∙◌, ℕ, Bool, true, false, not, ◌==◌, ◌&&◌, cond, filter, find, map, List, [], ◌∷◌, Some, None, Option}
-use Rattle.std.specs.Prelude.{option_map, ⊤}
-use Rattle.pp_cache_law.proofs.Finds.{find_mapped, find_passes}
+use Rattle.std.specs.Prelude.{⊤}
+use Rattle.pp_cache_law.proofs.Finds.{find_passes}
 use Rattle.pp_cache_law.proofs.Numbers.{some_is}
 use Rattle.pp_flow_law.proofs.Entries.{none_some, same_number}
 use Rattle.pp_flow_law.specs.Frames.{emptied}
 use Rattle.pp_law.specs.Closing.{left_alone}
 use Rattle.pp_law.specs.Connections.{attempts_of, charge, close_conn, conn, each_exchange, end_exchange, exchange, give_up_row, is_conn, is_unfilled, leave_place, lose_attempt, lose_place, lost_one, may_ask_again, on_client_of, on_conn, on_exchange, unplaced, without_ask, without_row}
-use Rattle.pp_law.specs.Lists.{Bytes, change}
+use Rattle.pp_law.specs.Lists.{change}
 use Rattle.pp_law.specs.Responses.{close_this}
 use Rattle.pp_law.specs.Stages.{is_headed, on_passed}
-use Rattle.pp_law.specs.State.{State, Conn, Course, Exchange, Client}
+use Rattle.pp_law.specs.State.{State, Conn, Exchange, Client}
 use Rattle.pp_law.specs.Table.{clear, swept}
 use Rattle.pp_target.specs.Key.{text_of}
 

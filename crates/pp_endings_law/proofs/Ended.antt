@@ -1,5 +1,5 @@
 -- Replies that were said whole are over, and clients of whom nothing is left are closed, as the law says.
-use Rattle.std.proofs.Common.{◌≡◌, ◌≤◌, refl, sym, subst, ap, ap₂, ◌∙◌, ℕ, Bool, true, false, not, ◌&&◌, ◌||◌, cond, nat_lt, find, length, map, List, [], ◌∷◌, Some, None, Option}
+use Rattle.std.proofs.Common.{◌≡◌, refl, sym, subst, ap, ap₂, ◌∙◌, ℕ, Bool, true, false, not, ◌&&◌, ◌||◌, cond, nat_lt, length, map, List, [], ◌∷◌, Some, None, Option}
 use Rattle.std.specs.List.{fold}
 use Rattle.std.specs.Prelude.{slice_get, slice_set}
 use Rattle.pp_cache.specs.Memory.{Memory}
@@ -30,7 +30,6 @@ use Rattle.pp_seats.specs.Courses.{has_begun}
 use Rattle.pp_seats.specs.Seats.{IsRead, at_next_request, is_silent, is_undecided_in, passed_in}
 use Rattle.pp_seats.specs.declared.account.Account.{Account}
 use Rattle.pp_seats.specs.declared.account.Account.TheVariants.{Unkept, Due, Begun}
-use Rattle.pp_seats.specs.declared.seat.Answer.{Answer}
 use Rattle.pp_seats.specs.declared.seat.Seat.{Seat}
 use Rattle.pp_seats.specs.declared.seat.Stage.{Stage as SeatStage}
 use Rattle.pp_seats_law.proofs.Answered.{next_requests}

@@ -1,5 +1,5 @@
 -- The connection of an origin ended, or broke: its line is over, or asked elsewhere, and then replies end.
-use Rattle.std.proofs.Common.{◌≡◌, refl, sym, subst, ap, ◌∙◌, ℕ, Bool, true, false, ◌&&◌, find, List, Some, None, Option}
+use Rattle.std.proofs.Common.{◌≡◌, refl, sym, subst, ap, ◌∙◌, ℕ, Bool, true, false, ◌&&◌, Some, None, Option}
 use Rattle.pp_closings_law.proofs.Peers.{HasPeer}
 use Rattle.pp_closings_law.specs.Sides.{ShowsSides}
 use Rattle.pp_desk.specs.Closings.{Sides, closed_conn}
@@ -12,7 +12,6 @@ use Rattle.pp_law.specs.Replies.{end_replies}
 use Rattle.pp_law.specs.Responses.{close_this, ended, finish_first, is_whole_at_end}
 use Rattle.pp_law.specs.State.{State, Answer, Conn}
 use Rattle.pp_origins.specs.Responses.{ended_by, ending_by, origin_gone, whole_where}
-use Rattle.pp_peers.specs.Peers.{is_number}
 use Rattle.pp_peers.specs.declared.peers.Peer.{Peer}
 use Rattle.pp_peers_law.proofs.Endings.{endings}
 use Rattle.pp_peers_law.specs.Comes.{ending_of}

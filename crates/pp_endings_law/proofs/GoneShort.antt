@@ -1,6 +1,6 @@
 -- The connection of an origin ended, or broke.
-use Rattle.std.proofs.Common.{◌≡◌, ◌≤◌, refl, sym, subst, ap, ap₂, ◌∙◌, ℕ, Bool, true, false, not, ◌==◌, ◌&&◌, ◌||◌, cond, filter, find, length, map, List, [], ◌∷◌, ◌++◌, Some, None, Option, arith}
-use Rattle.std.specs.Prelude.{count_by, option_and_then, option_map, slice_get}
+use Rattle.std.proofs.Common.{◌≡◌, ◌≤◌, refl, sym, subst, ap, ap₂, ◌∙◌, ℕ, Bool, true, false, not, ◌==◌, ◌&&◌, cond, find, map, List, [], ◌∷◌, Some, None, Option}
+use Rattle.std.specs.Prelude.{count_by, option_map}
 use Rattle.pp_bodies_law.specs.Ends.{finished_by_law}
 use Rattle.pp_cache_law.proofs.Finds.{find_mapped, find_passes}
 use Rattle.pp_cache_law.proofs.Numbers.{some_is, true_false}
@@ -20,13 +20,13 @@ use Rattle.pp_law.specs.Lists.{Bytes, change, is_this}
 use Rattle.pp_law.specs.Passing.{pour}
 use Rattle.pp_law.specs.Responses.{skip_body, skipping}
 use Rattle.pp_law.specs.Stages.{on_passed, passed_of}
-use Rattle.pp_law.specs.State.{State, Aim, Own, Through, Filling, Answer, Client, Conn, Exchange, Passed, Passes}
+use Rattle.pp_law.specs.State.{State, Aim, Own, Through, Filling, Client, Conn, Exchange, Passed, Passes}
 use Rattle.pp_pass.specs.Pipe.{finished}
 use Rattle.pp_peers.specs.Peers.{is_number, with_peer, with_pipe}
 use Rattle.pp_peers.specs.declared.peers.Peer.{Peer}
 use Rattle.pp_peers_law.specs.Peers.{ShowConns, ShowsConn}
 use Rattle.pp_pipe.specs.Line.{Line}
-use Rattle.pp_states_law.proofs.Ended.{gone, none_out}
+use Rattle.pp_states_law.proofs.Ended.{gone}
 use Rattle.pp_states_law.proofs.Lines.{same_itself}
 use Rattle.pp_states_law.specs.Decisions.{AreApart}
 use Rattle.pp_state.specs.Lines.{lost_line}

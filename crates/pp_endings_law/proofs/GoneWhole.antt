@@ -1,50 +1,46 @@
 -- The connection of an origin ended, and with it the body of the response that was begun there.
-use Rattle.std.proofs.Common.{◌≡◌, ◌≤◌, refl, sym, subst, ap, ap₂, ◌∙◌, ℕ, Bool, true, false, not, ◌==◌, ◌&&◌, ◌||◌, cond, filter, find, length, map, List, [], ◌∷◌, ◌++◌, Some, None, Option, arith}
+use Rattle.std.proofs.Common.{◌≡◌, ◌≤◌, refl, sym, subst, ap, ap₂, ◌∙◌, ℕ, Bool, true, false, not, ◌==◌, ◌&&◌, cond, filter, find, length, map, List, [], ◌∷◌, ◌++◌, Some, None, Option, arith}
 use Rattle.std.specs.Prelude.{count_by, option_and_then, option_map, slice_get}
 use Rattle.pp_bodies_law.proofs.Ended.{closes as closes_behind}
-use Rattle.pp_bodies_law.specs.Ends.{IsEnding, finished_by_law, over_in}
+use Rattle.pp_bodies_law.specs.Ends.{finished_by_law, over_in}
 use Rattle.pp_cache_law.proofs.Finds.{find_mapped, find_passes}
 use Rattle.pp_cache_law.proofs.Framing.{frames_of, the_same}
 use Rattle.pp_cache_law.proofs.PairLemmas.{count_mapped_same, joined_none}
 use Rattle.pp_closings_law.proofs.Orderly.{closed as closed_may, ended_orderly, found, mapped, shorter}
 use Rattle.pp_closings_law.proofs.Own.{HasEntry, has_entry}
 use Rattle.pp_closings_law.proofs.Peers.{HasPeer, find_set, set_twice}
-use Rattle.pp_closings_law.specs.Sides.{AreOrderly, IsOrderly, MayClose, ShowsSides}
-use Rattle.pp_desk.specs.Closings.{Sides, closed_conn, with_parts}
+use Rattle.pp_closings_law.specs.Sides.{AreOrderly, IsOrderly, ShowsSides}
+use Rattle.pp_desk.specs.Closings.{Sides, closed_conn}
 use Rattle.pp_flow.specs.Changes.{entry_of, line_of}
 use Rattle.pp_flow.specs.declared.entry.Entry.{Entry}
 use Rattle.pp_flow_law.proofs.Entries.{same_number}
 use Rattle.pp_flow_law.proofs.Framed.{frames as flow_frames}
 use Rattle.pp_flow_law.specs.Frames.{emptied, still}
-use Rattle.pp_flow_law.specs.Tables.{Leaving, line_at, line_in, none_leaves}
-use Rattle.pp_framing.specs.declared.body.Ending.{Ending}
-use Rattle.pp_framing.specs.declared.body.Ending.TheVariants.{Whole}
+use Rattle.pp_flow_law.specs.Tables.{line_at, line_in, none_leaves}
 use Rattle.pp_law.specs.Connections.{close_conn, conn, each_exchange, end_exchange, exchange, front_of_line, is_conn, lose_place, on_conn, without_ask}
-use Rattle.pp_law.specs.Lists.{Bytes, change, has_number}
+use Rattle.pp_law.specs.Lists.{Bytes}
 use Rattle.pp_law.specs.Responses.{close_this, finish, finish_first, may_go_on, rested}
 use Rattle.pp_law.specs.State.{State, Answer, Conn, Exchange}
-use Rattle.pp_origins.specs.Responses.{closed_unless, finished as finished_in_turn, gone_on, goes_on_by, response_whole, whole_for}
+use Rattle.pp_origins.specs.Responses.{closed_unless, finished as finished_in_turn, goes_on_by, response_whole, whole_for}
 use Rattle.pp_peers.specs.Peers.{is_number, with_peer, with_pipe}
 use Rattle.pp_peers.specs.declared.peers.Peer.{Peer}
 use Rattle.pp_peers_law.specs.Asked.{AreDistinct}
-use Rattle.pp_peers_law.specs.Peers.{ShowConns}
 use Rattle.pp_pipe.specs.Line.{Line}
 use Rattle.pp_states_law.proofs.Alone.{line_distinct}
 use Rattle.pp_states_law.proofs.Asked.{all_as, frames, itself}
 use Rattle.pp_states_law.proofs.Ended.{none_out}
 use Rattle.pp_states_law.proofs.Lines.{same_itself}
 use Rattle.pp_states_law.specs.Decisions.{AreApart}
-use Rattle.pp_states_law.specs.Endings.{IsFirst}
 use Rattle.pp_states_law.specs.States.{ShowsState}
 use Rattle.pp_state.specs.Ends.{Parts}
-use Rattle.pp_state.specs.Lines.{first_on, lost_line}
+use Rattle.pp_state.specs.Lines.{lost_line}
 use Rattle.pp_steps_law.proofs.Closed.{closes as closes_line}
 use Rattle.pp_steps_law.proofs.Told.{conn_next, told_next}
 use Rattle.pp_steps_law.specs.Lines.{AllGo}
 use Rattle.pp_steps_law.specs.Steps.{ShowsSteps, whole}
 use Rattle.pp_endings_law.proofs.Emptied.{close_again, closed_this}
 use Rattle.pp_endings_law.proofs.GoneShort.{all_closing, apart_set, closing_alone, emptied_same, ended_conns, finished_conns, found_set, go_as, go_behind, line_else, open_peer, peer, piped, piped_there, set_conns}
-use Rattle.pp_endings_law.proofs.Pipes.{closed_again, closed_is, closing_as, numbered, peer_over, with_line}
+use Rattle.pp_endings_law.proofs.Pipes.{closed_again, closed_is, numbered, peer_over, with_line}
 use Rattle.pp_endings_law.specs.Gone.{IsAnswering, MayBeGone}
 
 -- ---- a line is closed while it still has to be left

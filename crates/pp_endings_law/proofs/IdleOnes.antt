@@ -9,7 +9,7 @@ use Rattle.pp_cache_law.specs.Pairs.{AreBoth}
 use Rattle.pp_closings_law.proofs.Peers.{HasPeer, linked}
 use Rattle.pp_closings_law.proofs.Shut.{shuts}
 use Rattle.pp_closings_law.specs.Sides.{ShowsSides}
-use Rattle.pp_desk.specs.Closings.{Sides, closed_conn, peer_numbers, with_parts}
+use Rattle.pp_desk.specs.Closings.{Sides, peer_numbers, with_parts}
 use Rattle.pp_desk.specs.Origins.{given_up, is_idle_in, patience, patience_ended, unanswered, without_idle_on}
 use Rattle.pp_flow.specs.Changes.{entry_of, line_of}
 use Rattle.pp_flow.specs.declared.entry.Entry.{Entry}
@@ -18,7 +18,7 @@ use Rattle.pp_flow_law.specs.Tables.{line_in, none_leaves}
 use Rattle.pp_law.specs.Connections.{close_conn, conn, each_conn, exchange, fail, is_outstanding}
 use Rattle.pp_law.specs.Lists.{Bytes, is_some_with}
 use Rattle.pp_law.specs.State.{State, Conn, Exchange}
-use Rattle.pp_law.specs.Turn.{close_idle_conn, end_patience, is_idle_conn, owes_answer}
+use Rattle.pp_law.specs.Turn.{close_idle_conn, end_patience, is_idle_conn}
 use Rattle.pp_peers.specs.Peers.{is_number}
 use Rattle.pp_peers.specs.declared.peers.Peer.{Peer}
 use Rattle.pp_peers_law.specs.Peers.{ShowConns}
@@ -27,7 +27,7 @@ use Rattle.pp_seats_law.specs.Exchanges.{ShowsExchange}
 use Rattle.pp_state.specs.Asking.{is_being_asked, owed_answer, owed_by, owed_to}
 use Rattle.pp_steps_law.proofs.Charged.{failures}
 use Rattle.pp_endings_law.proofs.Rests.{IsBut, but_then, closed, failed, failed_conns, failed_may}
-use Rattle.pp_endings_law.specs.Idle.{HasNoIdle, IdleOneIsClosedAsTheLaws, IdleOnesAreClosedAsTheLaws, without_idle_conns}
+use Rattle.pp_endings_law.specs.Idle.{IdleOneIsClosedAsTheLaws, IdleOnesAreClosedAsTheLaws, without_idle_conns}
 
 -- ---- whose answer is due
 

@@ -1,5 +1,5 @@
 -- Behind a wait no instance is new.
-use Rattle.std.proofs.Common.{◌≡◌, refl, ℕ, map, List, [], ◌∷◌}
+use Rattle.std.proofs.Common.{refl, ℕ, map, List, [], ◌∷◌}
 use Rattle.pp_cache.specs.Memory.{Memory}
 use Rattle.pp_cache_law.specs.Pairs.{AreAll}
 use Rattle.pp_cache_law.specs.Tables.{ShowsInstance}

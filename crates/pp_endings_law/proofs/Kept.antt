@@ -1,7 +1,7 @@
 -- What is told of the others stays told, where one client is closed or goes on to its next request.
-use Rattle.std.proofs.Common.{◌≡◌, ◌≤◌, refl, sym, subst, ap, ap₂, ◌∙◌, ℕ, zero, suc, Bool, true, false, not, ◌==◌, ◌&&◌, ◌||◌, cond, find, List, [], ◌∷◌, Some, None, Option, arith}
+use Rattle.std.proofs.Common.{◌≡◌, refl, sym, subst, ap, ◌∙◌, ℕ, zero, suc, Bool, true, false, not, ◌==◌, ◌&&◌, ◌||◌, cond, find, List, [], ◌∷◌, Some, Option, arith}
 use Rattle.std.specs.List.{list_any}
-use Rattle.std.specs.Prelude.{count_by, option_and_then, option_map, slice_get, slice_set}
+use Rattle.std.specs.Prelude.{option_and_then, option_map, slice_get, slice_set}
 use Rattle.pp_cache.specs.Memory.{Memory}
 use Rattle.pp_cache_law.proofs.Alike.{instances_of}
 use Rattle.pp_cache_law.proofs.Finds.{find_kept}
@@ -18,21 +18,17 @@ use Rattle.pp_decides_law.proofs.StandingOn.{there_by}
 use Rattle.pp_decides_law.specs.Decides.{IsAtPlace}
 use Rattle.pp_desk.specs.Closings.{Sides}
 use Rattle.pp_flow_law.proofs.Entries.{none_some, same_as, same_number}
-use Rattle.pp_law.specs.Closing.{is_of}
 use Rattle.pp_law.specs.Connections.{exchange, is_client, on_client}
-use Rattle.pp_law.specs.Lists.{Bytes, change, is_some_with, is_this, without}
+use Rattle.pp_law.specs.Lists.{Bytes, change, is_some_with, is_this}
 use Rattle.pp_law.specs.Stages.{reply_of}
-use Rattle.pp_law.specs.State.{State, Client, Exchange, Instance as Known, Reply}
+use Rattle.pp_law.specs.State.{State, Client, Instance as Known, Reply}
 use Rattle.pp_law.specs.Table.{follows, instance, is_followed, is_instance, is_left_over}
 use Rattle.pp_objects.specs.Instances.{is_there}
-use Rattle.pp_objects.specs.declared.id.ObjectId.{ObjectId}
-use Rattle.pp_seats.specs.Follows.{answer_in}
 use Rattle.pp_seats.specs.declared.seat.Answer.{Answer}
 use Rattle.pp_seats.specs.declared.seat.Seat.{Seat}
 use Rattle.pp_seats_law.specs.Clients.{IsAt, IsNowhere}
 use Rattle.pp_seats_law.specs.Seats.{ShowsSeat}
 use Rattle.pp_state.specs.Ends.{source_of}
-use Rattle.pp_steps_law.specs.Charges.{GoesOn}
 use Rattle.pp_steps_law.specs.Lines.{AllGo}
 use Rattle.pp_turns_law.specs.Turns.{IsFollowing}
 use Rattle.pp_endings_law.proofs.Law.{Steps, WasAsk}

@@ -1,27 +1,24 @@
 -- What a client that is closed, or that goes on to its next request, leaves in the law.
-use Rattle.std.proofs.Common.{◌≡◌, ◌≤◌, refl, sym, subst, ap, ap₂, ◌∙◌, ℕ, Bool, true, false, not, ◌==◌, ◌&&◌, ◌||◌, cond, filter, find, map, List, [], ◌∷◌, Some, None, Option, arith}
-use Rattle.std.specs.List.{list_any}
+use Rattle.std.proofs.Common.{◌≡◌, ◌≤◌, refl, sym, subst, ap, ap₂, ◌∙◌, ℕ, Bool, true, false, not, ◌==◌, cond, find, map, List, [], ◌∷◌, Some, None, Option, arith}
 use Rattle.std.specs.Prelude.{count_by, option_map}
 use Rattle.pp_cache_law.proofs.Finds.{find_kept, find_mapped, find_passes, none_changed, one_only}
-use Rattle.pp_cache_law.proofs.Numbers.{is_same, some_is, true_false}
+use Rattle.pp_cache_law.proofs.Numbers.{some_is, true_false}
 use Rattle.pp_cache_law.proofs.PairLemmas.{AreOnly, count_kept, count_mapped}
-use Rattle.pp_closings_law.proofs.Gone.{quitting, quit_clients, quit_conns, quit_exchanges}
+use Rattle.pp_closings_law.proofs.Gone.{quitting, quit_clients, quit_exchanges}
 use Rattle.pp_closings_law.proofs.Own.{its_number, law_none, law_one, left_if}
 use Rattle.pp_closings_law.proofs.Quit.{closing_client}
 use Rattle.pp_decides_law.proofs.Outrun.{with_exchanges}
 use Rattle.pp_flow.specs.Changes.{Exchanges}
-use Rattle.pp_flow_law.proofs.Ended.{not_so}
 use Rattle.pp_flow_law.proofs.Entries.{none_some, same_as, same_number}
 use Rattle.pp_flow_law.proofs.Exchanges.{find_change, find_change_else}
 use Rattle.pp_flow_law.proofs.Standing.{few_given}
 use Rattle.pp_flow_law.specs.Tables.{Leaving, ShowsFlow}
 use Rattle.pp_law.specs.Closing.{close_client, forsake, is_of, left_alone}
-use Rattle.pp_law.specs.Connections.{client, each_client, end_exchange, exchange, is_client, is_exchange, on_client, on_exchange}
-use Rattle.pp_law.specs.Lists.{Bytes, change, is_this, without}
-use Rattle.pp_law.specs.Replies.{close_finished, end_reply, end_said, is_finished, is_said as is_over, next_request}
-use Rattle.pp_law.specs.State.{State, Client, Conn, Exchange, Instance}
-use Rattle.pp_law.specs.Table.{follows, instance, is_followed, is_instance, is_left_over, swept}
-use Rattle.pp_seats_law.proofs.Nexts.{found_number}
+use Rattle.pp_law.specs.Connections.{end_exchange, exchange, is_client, is_exchange, on_client, on_exchange}
+use Rattle.pp_law.specs.Lists.{change, is_this, without}
+use Rattle.pp_law.specs.Replies.{next_request}
+use Rattle.pp_law.specs.State.{State, Client, Exchange}
+use Rattle.pp_law.specs.Table.{is_left_over, swept}
 use Rattle.pp_states_law.proofs.Lines.{same_itself}
 
 -- ---- an exchange that is there was there, and is asked by whoever asked it, but not by that client

@@ -1,12 +1,12 @@
 -- The next request of a client stands behind its reply.
-use Rattle.std.proofs.Common.{◌≡◌, ◌≤◌, refl, sym, subst, ap, ap₂, ◌∙◌, ℕ, Bool, true, false, not, ◌&&◌, ◌==◌, find, List, [], Some, None, Option}
+use Rattle.std.proofs.Common.{◌≡◌, ◌≤◌, refl, sym, subst, ap, ap₂, ◌∙◌, ℕ, Bool, false, not, ◌&&◌, find, List, [], Some, None, Option}
 use Rattle.std.specs.Prelude.{count_by, option_map, slice_get, slice_set}
 use Rattle.pp_cache.specs.Memory.{Memory}
 use Rattle.pp_cache_law.proofs.Numbers.{some_is}
 use Rattle.pp_client.specs.Replies.{is_said}
 use Rattle.pp_closings_law.proofs.Over.{alone}
-use Rattle.pp_closings_law.proofs.Quit.{next_swept, same_client}
-use Rattle.pp_closings_law.specs.Sides.{AreOrderly, MayClose, ShowsSides}
+use Rattle.pp_closings_law.proofs.Quit.{next_swept}
+use Rattle.pp_closings_law.specs.Sides.{AreOrderly, ShowsSides}
 use Rattle.pp_decides_law.proofs.Changed.{get_set, set_set}
 use Rattle.pp_decides_law.proofs.Quitting.{client_left, left_memory}
 use Rattle.pp_decides_law.proofs.Refused.{followed_as, left_stands}
@@ -29,14 +29,13 @@ use Rattle.pp_seats_law.specs.Clients.{IsAt}
 use Rattle.pp_seats_law.specs.Seats.{ShowsOpen, ShowsSeat}
 use Rattle.pp_state.specs.Ends.{AreInOrder, Parts, source_of}
 use Rattle.pp_state.specs.Places.{IsChangedIn}
-use Rattle.pp_states_law.specs.Decisions.{AreApart}
 use Rattle.pp_steps_law.proofs.Places.{numbers_set}
 use Rattle.pp_steps_law.proofs.Told.{are_told_on}
 use Rattle.pp_steps_law.specs.Steps.{ShowsSteps, whole}
 use Rattle.pp_steps_law.specs.Told.{AreTold}
 use Rattle.pp_turns_law.specs.Turns.{IsFollowing}
 use Rattle.pp_endings_law.proofs.Closes.{follows_there}
-use Rattle.pp_endings_law.proofs.Kept.{IsOne, all_go, ends_still, find_self, leaves_still, other_here}
+use Rattle.pp_endings_law.proofs.Kept.{IsOne, all_go, ends_still, leaves_still, other_here}
 use Rattle.pp_endings_law.proofs.Law.{Steps, forsaken_in, forsaken_is, next_conns, next_state, next_steps}
 use Rattle.pp_endings_law.proofs.Left.{IsBeside, flow_left, next_is, with_seats}
 use Rattle.pp_endings_law.proofs.Walk.{IsGood, IsStepped}

@@ -1,5 +1,5 @@
 -- Where no byte is said nothing changes; and of whom the reply is over, in the program as in the law.
-use Rattle.std.proofs.Common.{◌≡◌, refl, sym, subst, ap, ap₂, ◌∙◌, ℕ, ◌+◌, ◌-◌, Bool, true, false, not, ◌&&◌, cond, nat_lt, drop, length, List, [], Option, Some, None, arith}
+use Rattle.std.proofs.Common.{◌≡◌, refl, sym, ap, ap₂, ◌∙◌, ℕ, ◌+◌, ◌-◌, Bool, true, false, not, ◌&&◌, cond, nat_lt, drop, length, [], arith}
 use Rattle.pp_client.specs.Clients.{Client as Side, said_by as side_said}
 use Rattle.pp_client.specs.Replies.{Reply as Said, body_said, ended, has_begun as is_said_to, interim_left, is_said, said, stage_said}
 use Rattle.pp_client.specs.Requests.{answered}
@@ -11,7 +11,7 @@ use Rattle.pp_client.specs.declared.reply.Stage.{Stage as SaidStage}
 use Rattle.pp_client.specs.declared.reply.Stage.TheVariants.{Due, Begun}
 use Rattle.pp_law.specs.Lists.{Bytes}
 use Rattle.pp_law.specs.Replies.{is_said as is_over}
-use Rattle.pp_law.specs.State.{Client, Stage, Undecided, Waiting, Passing, Answering}
+use Rattle.pp_law.specs.State.{Client, Stage, Answering}
 use Rattle.pp_pass.specs.Pipe.{Pipe}
 use Rattle.pp_seats.specs.Courses.{has_begun, has_begun_in}
 use Rattle.pp_seats.specs.Follows.{answer_in}

@@ -1,13 +1,9 @@
 -- The pipe of a connection that is closing is not read any more.
-use Rattle.std.proofs.Common.{◌≡◌, refl, sym, subst, ap, ap₂, ◌∙◌, ℕ, Bool, true, false, not, ◌==◌, ◌&&◌, cond, find, List, [], ◌∷◌, Some, None, Option}
+use Rattle.std.proofs.Common.{◌≡◌, refl, sym, ap, ◌∙◌, ℕ, Bool, true, false, not, ◌&&◌, cond, find, List, [], ◌∷◌, Some, Option}
 use Rattle.std.specs.Prelude.{option_map}
 use Rattle.pp_cache_law.proofs.Finds.{find_passes}
-use Rattle.pp_closings_law.proofs.Peers.{find_set, set_twice}
-use Rattle.pp_closings_law.specs.Sides.{ShowsSides}
 use Rattle.pp_desk.specs.Closings.{Sides, closed_conn, closed_line, closing}
-use Rattle.pp_flow_law.proofs.Entries.{none_some}
 use Rattle.pp_law.specs.State.{State, Conn}
-use Rattle.pp_law.specs.Lists.{Bytes}
 use Rattle.pp_peers.specs.Peers.{is_number, with_peer, with_pipe}
 use Rattle.pp_peers.specs.declared.peers.Peer.{Peer}
 use Rattle.pp_peers_law.specs.Peers.{ShowConns, ShowsConn}

@@ -1,5 +1,5 @@
 -- Which connections to origins are read at the end of a turn.
-use Rattle.std.proofs.Common.{◌≡◌, refl, sym, subst, ap, ap₂, ◌∙◌, ℕ, zero, suc, Bool, true, false, not, ◌==◌, ◌&&◌, ◌||◌, cond, min, nat_lt, List, [], ◌∷◌, Some, None, Option, arith}
+use Rattle.std.proofs.Common.{◌≡◌, refl, sym, subst, ap, ap₂, ◌∙◌, ℕ, zero, suc, Bool, true, false, not, ◌==◌, ◌&&◌, ◌||◌, min, nat_lt, List, [], ◌∷◌, Some, None, Option, arith}
 use Rattle.std.proofs.lemmas.Bool.Decides.{nat_tests}
 use Rattle.std.specs.List.{list_any}
 use Rattle.std.specs.Prelude.{option_and_then, option_map, slice_get}
@@ -12,7 +12,7 @@ use Rattle.pp_flow.specs.declared.entry.Entry.{Entry}
 use Rattle.pp_flow_law.proofs.Entries.{none_some, other_way}
 use Rattle.pp_flow_law.proofs.Framed.{frames as flow_frames}
 use Rattle.pp_flow_law.specs.Tables.{Leaving, line_in, none_leaves}
-use Rattle.pp_law.specs.Connections.{conn, exchange, front_of_line, is_for, is_outstanding}
+use Rattle.pp_law.specs.Connections.{conn, exchange, front_of_line, is_outstanding}
 use Rattle.pp_law.specs.Lists.{Bytes, is_some_with, is_this}
 use Rattle.pp_law.specs.Requests.{Front}
 use Rattle.pp_law.specs.Served.{has_full_pipe, is_far_ahead as is_far_by_law, is_held_back, is_stopped, wants_read}
@@ -35,7 +35,6 @@ use Rattle.pp_state.specs.Readers.{is_far_ahead as is_far_in_turn}
 use Rattle.pp_state.specs.declared.state.State.{State as Turn}
 use Rattle.pp_states_law.proofs.Asked.{all_as, frames, itself}
 use Rattle.pp_states_law.proofs.Lines.{AllFound, all_found}
-use Rattle.pp_states_law.specs.Decisions.{AreApart}
 use Rattle.pp_states_law.specs.States.{ShowsState}
 use Rattle.pp_steps_law.proofs.Places.{at_place, no_place}
 use Rattle.pp_steps_law.specs.Steps.{whole}

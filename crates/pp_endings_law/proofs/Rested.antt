@@ -1,10 +1,10 @@
 -- At a wait it is noted of each body how far it is wanted, one exchange behind the other; the law notes it of all at once.
-use Rattle.std.proofs.Common.{◌≡◌, ◌≤◌, refl, sym, subst, ap, ap₂, ◌∙◌, ℕ, Bool, true, false, ◌==◌, ◌||◌, cond, find, map, List, [], ◌∷◌, ◌++◌, Some, None, Option}
+use Rattle.std.proofs.Common.{◌≡◌, refl, sym, subst, ap, ap₂, ◌∙◌, ℕ, Bool, true, false, ◌==◌, ◌||◌, cond, find, map, List, [], ◌∷◌, ◌++◌, Some, None, Option}
 use Rattle.std.specs.List.{cons_option, filter_map, fold, reduce}
 use Rattle.std.specs.Prelude.{max, option_map}
 use Rattle.pp_cache_law.proofs.Finds.{find_mapped, none_changed, one_only}
 use Rattle.pp_cache_law.proofs.Framing.{frames_of, the_same}
-use Rattle.pp_cache_law.proofs.Numbers.{some_is, true_false}
+use Rattle.pp_cache_law.proofs.Numbers.{some_is}
 use Rattle.pp_cache_law.proofs.PairLemmas.{AreOnly}
 use Rattle.pp_cache_law.specs.Pairs.{AreBoth}
 use Rattle.pp_flow.specs.Changes.{Exchanges, entry_of, first_of, numbers, with_errand}
@@ -15,9 +15,9 @@ use Rattle.pp_flow_law.proofs.Entries.{none_some, other_way}
 use Rattle.pp_flow_law.proofs.Noted.{wants}
 use Rattle.pp_flow_law.proofs.Standing.{few_given}
 use Rattle.pp_flow_law.specs.Changes.{wanting}
-use Rattle.pp_flow_law.specs.Tables.{Leaving, ShowsFlow, none_leaves}
+use Rattle.pp_flow_law.specs.Tables.{ShowsFlow, none_leaves}
 use Rattle.pp_law.specs.Connections.{exchange, is_exchange, on_exchange}
-use Rattle.pp_law.specs.Lists.{change, has_number}
+use Rattle.pp_law.specs.Lists.{has_number}
 use Rattle.pp_law.specs.Stages.{bound_in, bound_of}
 use Rattle.pp_law.specs.State.{State, Body, Pending, Joining, Relaying, Dropping, Bound, Client, Exchange}
 use Rattle.pp_law.specs.Turn.{rested_client}

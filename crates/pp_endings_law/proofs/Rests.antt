@@ -1,5 +1,5 @@
 -- What the closing of a connection leaves as it was in the law, and what an exchange does whose attempts end.
-use Rattle.std.proofs.Common.{◌≡◌, ◌≤◌, refl, sym, subst, ap, ◌∙◌, ℕ, Bool, true, false, not, ◌==◌, ◌&&◌, find, List, [], ◌∷◌, Some, None, Option}
+use Rattle.std.proofs.Common.{◌≡◌, refl, sym, subst, ap, ◌∙◌, ℕ, Bool, true, false, not, ◌==◌, ◌&&◌, find, List, [], ◌∷◌, Some, None, Option}
 use Rattle.std.specs.Prelude.{option_map}
 use Rattle.pp_cache_law.proofs.Finds.{find_mapped}
 use Rattle.pp_cache_law.proofs.Numbers.{some_is}
@@ -8,9 +8,9 @@ use Rattle.pp_flow_law.proofs.Entries.{none_some, same_number}
 use Rattle.pp_flow_law.proofs.Exchanges.{find_change, find_change_else}
 use Rattle.pp_flow_law.specs.Frames.{emptied}
 use Rattle.pp_law.specs.Closing.{left_alone}
-use Rattle.pp_law.specs.Connections.{attempts_of, charge, close_conn, conn, each_exchange, end_exchange, exchange, fail, give_up_row, is_client, is_exchange, is_for, is_unfilled, leave_place, lose_attempt, lose_place, lost_one, may_ask_again, on_client_of, on_conn, on_exchange, out_of_tries, unplaced, without_row}
+use Rattle.pp_law.specs.Connections.{attempts_of, charge, close_conn, each_exchange, end_exchange, exchange, fail, give_up_row, is_client, is_exchange, is_for, is_unfilled, leave_place, lose_attempt, lose_place, lost_one, may_ask_again, on_client_of, on_conn, on_exchange, out_of_tries, unplaced, without_row}
 use Rattle.pp_law.specs.Lists.{Bytes, change, is_some_with}
-use Rattle.pp_law.specs.Stages.{is_headed, on_passed, passed_of}
+use Rattle.pp_law.specs.Stages.{is_headed, on_passed}
 use Rattle.pp_law.specs.State.{State, Client, Conn, Course, Trying, OutOfTries, AskTooLong, RowRefused, Exchange, Passed}
 use Rattle.pp_law.specs.Table.{clear, swept}
 use Rattle.pp_seats_law.specs.Fates.{is_refused}

@@ -5,7 +5,6 @@ use Rattle.std.specs.List.{cons_option, filter_map, reduce}
 use Rattle.std.proofs.lemmas.Bool.Decides.{nat_tests}
 use Rattle.pp_cache.specs.Memory.{Memory}
 use Rattle.pp_cache_law.proofs.Numbers.{some_is}
-use Rattle.pp_flow_law.proofs.Entries.{none_some}
 use Rattle.pp_flow_law.specs.Tables.{AreGiven, Leaving}
 use Rattle.pp_law.specs.Lists.{has_number}
 use Rattle.pp_law.specs.State.{State, Bound, Client}
