@@ -9,6 +9,7 @@ use Rattle.pp_client.specs.Bodies.{unread}
 use Rattle.pp_client.specs.Requests.{body_in}
 use Rattle.pp_client.specs.declared.body.Body.{Body}
 use Rattle.pp_client.specs.declared.body.Body.TheVariants.{Unread, Dropped, Over}
+use Rattle.pp_decides_law.proofs.Regained.{next_suc}
 use Rattle.pp_flow.specs.Changes.{entry_of, line_of}
 use Rattle.pp_flow.specs.declared.entry.Entry.{Entry}
 use Rattle.pp_flow_law.proofs.Entries.{other_way}
@@ -50,7 +51,7 @@ some_left : (n : ℕ) (xs : Bytes) → n ≤ length xs → (n == length xs) ≡ 
 some_left zero [] less isnt = absurd (true_false isnt)
 some_left zero (x ∷ xs) less isnt = refl
 some_left (suc n) [] less isnt = absurd (omega (arith, less))
-some_left (suc n) (x ∷ xs) less isnt = some_left n xs (omega (arith, less)) isnt
+some_left (suc n) (x ∷ xs) less isnt = some_left n xs (omega (arith, less)) (sym (next_suc n (length xs)) ∙ isnt)
 
 both_more : (b a : ℕ) → min (suc b) (suc a) ≡ suc (min b a)
 both_more b a = omega arith
@@ -61,11 +62,14 @@ none_less b = omega arith
 nothing_less : (a : ℕ) → min 0 a ≡ 0
 nothing_less a = omega arith
 
+is_some_length : (n : ℕ) → nat_lt 0 (suc n) ≡ true
+is_some_length n = grind (arith, nat_tests)
+
 heard_same : (b a : ℕ) (xs : Bytes) → (b == 0) ≡ false → nat_lt 0 (length (take a xs)) ≡ not (is_empty (take (min b a) xs))
 heard_same zero a xs some = absurd (true_false some)
 heard_same (suc b) zero xs some = sym (ap (λ (n : ℕ). not (is_empty (take n xs))) (none_less (suc b)))
-heard_same (suc b) (suc a) [] some = sym (ap (λ (n : ℕ). not (is_empty (take n []))) (both_more b a))
-heard_same (suc b) (suc a) (x ∷ xs) some = sym (ap (λ (n : ℕ). not (is_empty (take n (x ∷ xs)))) (both_more b a))
+heard_same (suc b) (suc a) [] some = sym (ap (λ (n : ℕ). let none : Bytes = [] in not (is_empty (take n none))) (both_more b a))
+heard_same (suc b) (suc a) (x ∷ xs) some = is_some_length (length (take a xs)) ∙ sym (ap (λ (n : ℕ). not (is_empty (take n (x ∷ xs)))) (both_more b a))
 
 unread_is : (body : Body) (left skip : ℕ) → ShowsBody body left skip → unread body ≡ left
 unread_is (Unread n) left skip shows = sym shows.0
@@ -180,7 +184,7 @@ module _ (number : ℕ → ℕ) (peers : List Peer) (p : Turn) (s : State) (show
     where
       by : (o : Option Entry) → entry_of n p.flow ≡ o → AreBoth (ShowsExchange number) o (Some e) → (x : Entry) × (entry_of n p.flow ≡ Some x) × ShowsExchange number x e
       by None none both = absurd both
-      by (Some x) is both = (x, (is, both))
+      by (Some x) is both = (x, is, both)
 
   -- the first is left to ask
   asked_first : (n : ℕ) (ns : List ℕ) (x : Entry) (e : Exchange) → entry_of n p.flow ≡ Some x → ShowsExchange number x e → owes e ≡ false → asks_in (first_left (n ∷ ns)) ≡ is_there_to_ask p.seats.items (what_is_left n p.seats.items (Some x))
@@ -192,7 +196,7 @@ module _ (number : ℕ → ℕ) (peers : List Peer) (p : Turn) (s : State) (show
   texts : (ns : List ℕ) (asks : List Ask) → ShowsLine s ns asks → ((m : ℕ) (e : Exchange) → has_number m ns ≡ true → exchange s m ≡ Some e → (e.body_left == 0) ≡ true) → asks_in (first_left ns) ≡ any_left ns
   texts [] asks shown none = refl
   texts (n ∷ ns) [] shown none = absurd shown
-  texts (n ∷ ns) (ask ∷ asks) shown none = by (is_outstanding shown.0.0) refl
+  texts (n ∷ ns) (ask ∷ asks) shown none = by (is_outstanding shown.0.0) refl (texts ns asks shown.1 (λ m d has there. none m d (or_later (n == m) (has_number m ns) has) there))
     where
       e : Exchange
       e = shown.0.0
@@ -210,13 +214,13 @@ module _ (number : ℕ → ℕ) (peers : List Peer) (p : Turn) (s : State) (show
       law : any_left (n ∷ ns) ≡ (asks_one s (Some e) || any_left ns)
       law = ap (λ (o : Option Exchange). asks_one s o || any_left ns) shown.0.1
 
-      by : (b : Bool) → is_outstanding e ≡ b → asks_in (first_left (n ∷ ns)) ≡ any_left (n ∷ ns)
-      by true out =
+      by : (b : Bool) → is_outstanding e ≡ b → asks_in (first_left ns) ≡ any_left ns → asks_in (first_left (n ∷ ns)) ≡ any_left (n ∷ ns)
+      by true out rest =
           let all : owes e ≡ true = ap₂ (λ (a b : Bool). a && b) out body in
           ap (λ (b : Bool). asks_in (cond b (Some n) (first_left ns))) (ap is_left it.1 ∙ owing number it.0 e it.2 ∙ ap not all)
-          ∙ texts ns asks shown.1 (λ m d has there. none m d (or_later (n == m) (has_number m ns) has) there)
+          ∙ rest
           ∙ sym (law ∙ ap (λ (b : Bool). b || any_left ns) (nothing_left e out body))
-      by false out =
+      by false out rest =
           asked_first n ns it.0 e it.1 it.2 (ap (λ (b : Bool). b && (e.body_left == 0)) out)
           ∙ text_there n it.0 e it.2 out
           ∙ sym (law ∙ ap (λ (b : Bool). b || any_left ns) (text_left e ask shown.0.2 out))

@@ -95,7 +95,7 @@ left_stays e s = by (is_headed e)
     by true n all =
         let t : State = on_client_of e (on_passed (λ p. record p { is_short = true })) s in
         ended_stays e.number t n (as_before s t (client_conns e (on_passed (λ p. record p { is_short = true })) s) n all)
-    by false = at (may_ask_again s e.number)
+    by false n all = at (may_ask_again s e.number) n all
 
 lost_stays : (counts : Bool) (e : Exchange) (s : State) → Stays s (lose_place counts e s)
 unfolding lose_place

@@ -268,11 +268,11 @@ module _ (number : ℕ → ℕ) (name : Bytes) where
 
 said_all : (is : List ℕ) (x y : Sides) → EndsSaid is x y → AllStep EndsSaidOf is x y
 said_all [] x y ends = ends
-said_all (i ∷ is) x y ends = (ends.0, (ends.1, said_all is ends.0 y ends.2))
+said_all (i ∷ is) x y ends = (ends.0, ends.1, said_all is ends.0 y ends.2)
 
 finished_all : (is : List ℕ) (x : Sides) → AllStep (λ i v w. w ≡ without_finished_at v i) is x (fold without_finished_at x is)
 finished_all [] x = refl
-finished_all (i ∷ is) x = (without_finished_at x i, (refl, finished_all is (without_finished_at x i)))
+finished_all (i ∷ is) x = (without_finished_at x i, refl, finished_all is (without_finished_at x i))
 
 law_ends : (s : State) (ns : List ℕ) → ns ≡ map (λ (c : Client). c.number) s.clients → end_replies s ≡ each_client close_finished ns (each_client end_said ns s)
 unfolding end_replies

@@ -55,7 +55,7 @@ find_other n m f keeps off (c ∷ cs) = by (is_client n c) refl (find_other n m 
     isnt is = at (c.number == m) refl
       where
         at : (b : Bool) → (c.number == m) ≡ b → b ≡ false
-        at false no = refl
+        at false isno = refl
         at true same = absurd (true_false (sym (same_as m n (sym (same_number c.number m same) ∙ same_number c.number n is)) ∙ off))
 
     by : (b : Bool) → is_client n c ≡ b → find (is_client m) (change (is_client n) f cs) ≡ find (is_client m) cs
@@ -64,7 +64,7 @@ find_other n m f keeps off (c ∷ cs) = by (is_client n c) refl (find_other n m 
         ap (λ (b : Bool). cond b (Some (f c)) (find (is_client m) (change (is_client n) f cs))) (ap (λ (k : ℕ). k == m) (keeps c) ∙ isnt is)
         ∙ rest
         ∙ sym (ap (λ (b : Bool). cond b (Some c) (find (is_client m) cs)) (isnt is))
-    by false no rest = ap (λ (o : Option Client). cond (is_client m c) (Some c) o) rest
+    by false isno rest = ap (λ (o : Option Client). cond (is_client m c) (Some c) o) rest
 
 pub find_self : (n : ℕ) (f : Client → Client) → KeepsNumber f → (cs : List Client) → find (is_client n) (change (is_client n) f cs) ≡ option_map f (find (is_client n) cs)
 find_self n f keeps [] = refl
@@ -73,7 +73,7 @@ find_self n f keeps (c ∷ cs) = by (is_client n c) refl (find_self n f keeps cs
     by : (b : Bool) → is_client n c ≡ b → find (is_client n) (change (is_client n) f cs) ≡ option_map f (find (is_client n) cs)
         → find (is_client n) ((elim b as (λ t. Client) [ true ↦ f c | false ↦ c ]) ∷ change (is_client n) f cs) ≡ option_map f (cond b (Some c) (find (is_client n) cs))
     by true is rest = ap (λ (b : Bool). cond b (Some (f c)) (find (is_client n) (change (is_client n) f cs))) (ap (λ (k : ℕ). k == n) (keeps c) ∙ is)
-    by false no rest = ap (λ (b : Bool). cond b (Some c) (find (is_client n) (change (is_client n) f cs))) no ∙ rest
+    by false isno rest = ap (λ (b : Bool). cond b (Some c) (find (is_client n) (change (is_client n) f cs))) isno ∙ rest
 
 any_of : (p q : Client → Bool) (cs : List Client) (c : Client) → find p cs ≡ Some c → q c ≡ true → list_any q cs ≡ true
 any_of p q [] c found is = absurd (none_some c found)

@@ -88,7 +88,10 @@ far_same number l peers p s shows loud n x e here there =
 
 room_is : (n : ℕ) → nat_lt 0 (min n 1) ≡ not (n == 0)
 room_is zero = refl
-room_is (suc n) = refl
+room_is (suc n) =
+    let one : min (suc n) 1 ≡ 1 = omega arith in
+    let some : (suc n == 0) ≡ false = grind (arith, nat_tests) in
+    ap (λ (m : ℕ). nat_lt 0 m) one ∙ sym (ap not some)
 
 abbrev is_full : Option Passed → Bool
 is_full o = is_some_with (λ n. n == 0) (option_map (λ p. room_of p.pipe) o)

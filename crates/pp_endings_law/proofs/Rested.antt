@@ -26,7 +26,7 @@ use Rattle.pp_peers.specs.declared.peers.Peer.{Peer}
 use Rattle.pp_seats_law.proofs.Entries.{exchanges}
 use Rattle.pp_seats_law.specs.Exchanges.{Binding, ShowsBound, ShowsExchange}
 use Rattle.pp_state.specs.Ends.{parts}
-use Rattle.pp_state.specs.Unseen.{all_rested, bound_of as bound_in_turn, rested, rested_to, wanted_of}
+use Rattle.pp_state.specs.Unseen.{all_rested, body_noted, bound_of as bound_in_turn, rested, rested_to, wanted_of}
 use Rattle.pp_state.specs.declared.state.State.{State as Turn}
 use Rattle.pp_states_law.proofs.Asked.{all_as, frames}
 use Rattle.pp_states_law.proofs.Lines.{same_itself}
@@ -137,22 +137,22 @@ law_is g (n ∷ ns) t =
 module _ (g : Exchange → Exchange) (again : (e : Exchange) → g (g e) ≡ g e) where
   each_same : (ns : List ℕ) (e : Exchange) → each_at g ns (g e) ≡ g e
   each_same [] e = refl
-  each_same (n ∷ ns) e = by (is_exchange n (g e))
+  each_same (n ∷ ns) e = by (is_exchange n (g e)) (each_same ns e)
     where
-      by : (b : Bool) → each_at g ns (elim b as (λ t. Exchange) [ true ↦ g (g e) | false ↦ g e ]) ≡ g e
-      by true = ap (each_at g ns) (again e) ∙ each_same ns e
-      by false = each_same ns e
+      by : (b : Bool) → each_at g ns (g e) ≡ g e → each_at g ns (elim b as (λ t. Exchange) [ true ↦ g (g e) | false ↦ g e ]) ≡ g e
+      by true rest = ap (λ (d : Exchange). each_at g ns d) (again e) ∙ rest
+      by false rest = rest
 
   each_once : (ns : List ℕ) (e : Exchange) → has_number e.number ns ≡ true → each_at g ns e ≡ g e
   each_once [] e has = absurd (cc has)
-  each_once (n ∷ ns) e has = by (is_exchange n e) refl
+  each_once (n ∷ ns) e has = by (is_exchange n e) refl (λ later_has. each_once ns e later_has)
     where
       later : (e.number == n) ≡ false → has_number e.number ns ≡ true
       later off = ap (λ (b : Bool). b || has_number e.number ns) (sym (other_way e.number n off)) ∙ has
 
-      by : (b : Bool) → (e.number == n) ≡ b → each_at g ns (elim b as (λ t. Exchange) [ true ↦ g e | false ↦ e ]) ≡ g e
-      by true is = each_same ns e
-      by false off = each_once ns e (later off)
+      by : (b : Bool) → (e.number == n) ≡ b → (has_number e.number ns ≡ true → each_at g ns e ≡ g e) → each_at g ns (elim b as (λ t. Exchange) [ true ↦ g e | false ↦ e ]) ≡ g e
+      by true is rest = each_same ns e
+      by false off rest = rest (later off)
 
   all_once : (ns : List ℕ) (es : List Exchange) → ((n : ℕ) → has_number n ns ≡ false → find (is_exchange n) es ≡ None) → map (each_at g ns) es ≡ map g es
   all_once ns [] none = refl
@@ -249,15 +249,12 @@ module _ (number : ℕ → ℕ) (peers : List Peer) (p : Turn) (s : State) (end 
       noted u b (Some at) bound bound_by some =
           let own : rests_to (Some x) n f ≡ with_errand n (record x.errand { body = IsJoining at }) f =
           ap (λ (w : Option ℕ). rested_to w n f) (wanted ∙ ap (wanted_by number none_leaves peers p s end loud) bound_by ∙ some)
-          ∙ ap (λ (o : Option Entry). noted_by o n at f) here in
+          ∙ ap (λ (o : Option Entry). body_noted o n (IsJoining at) f) here in
           subst (λ (h : Exchanges). Goes h (on_exchange n g t)) (sym own) (record {
             shows = subst (λ (u : State). ShowsFlow number none_leaves (with_errand n (record x.errand { body = IsJoining at }) f) u) (changes_as n f t e (wanting at) goes.shows there (one_wants s e b at bound_by some))
                 (wants number none_leaves f t goes.shows n at x u here bound);
             told = told_asked number p.cache s.next_instance n (record x.errand { body = IsJoining at }) f goes.told;
           })
-        where
-          noted_by : Option Entry → ℕ → ℕ → Exchanges → Exchanges
-          noted_by o n at f = elim o as (λ t. Exchanges) [ None ↦ f | Some y ↦ with_errand n (record y.errand { body = IsJoining at }) f ]
 
       by : (u : Option Binding) (v : Option Bound) → x.exchange.bound ≡ u → bound_of e ≡ v → ShowsBound number u v → Goes (rests_to (Some x) n f) (on_exchange n g t)
       by None None own law shown = same (rests_is s e None law) (ap (λ (u : Option Binding). rested_to (wanted_of p.awake.items p.seats.items u) n f) own)

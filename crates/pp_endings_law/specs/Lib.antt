@@ -1,4 +1,3 @@
-pub mod Gone
 pub mod Idle
 pub mod Replies
 pub mod Waits
