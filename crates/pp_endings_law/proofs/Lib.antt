@@ -3,6 +3,9 @@ pub mod Closes
 pub mod Desks
 pub mod Emptied
 pub mod Ended
+pub mod GoneEnds
+pub mod GoneShort
+pub mod GoneWhole
 pub mod IdleOnes
 pub mod Instances
 pub mod Kept

@@ -11,10 +11,12 @@
 //! Takes no memory, and does nothing when the program runs.
 #![tactic(auto)]
 
+mod gone; // connections that ended, or broke
 mod idle; // connections that are idle
 mod replies; // replies that were said whole
 mod waits; // what is waited for, and what a wait changes
 
+pub use gone::ended_ones_are_gone_as_the_laws;
 pub use idle::idle_ones_are_closed_as_the_laws;
 pub use replies::replies_end_as_the_laws;
 pub use waits::{
