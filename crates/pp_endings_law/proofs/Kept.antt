@@ -18,7 +18,7 @@ use Rattle.pp_decides_law.proofs.StandingOn.{there_by}
 use Rattle.pp_decides_law.specs.Decides.{IsAtPlace}
 use Rattle.pp_desk.specs.Closings.{Sides}
 use Rattle.pp_flow_law.proofs.Entries.{none_some, same_as, same_number}
-use Rattle.pp_law.specs.Connections.{exchange, is_client, on_client}
+use Rattle.pp_law.specs.Connections.{is_client, on_client}
 use Rattle.pp_law.specs.Lists.{Bytes, change, is_some_with, is_this}
 use Rattle.pp_law.specs.Stages.{reply_of}
 use Rattle.pp_law.specs.State.{State, Client, Instance as Known, Reply}
