@@ -1,0 +1,5 @@
+pub mod Attempts
+pub mod Clients
+pub mod Facts
+pub mod Heads
+pub mod Pieces
